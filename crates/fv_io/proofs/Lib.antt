@@ -1,0 +1,4 @@
+pub mod Chained
+pub mod Counts
+pub mod Told
+mod Progress

@@ -1,0 +1,15 @@
+-- What the loops of `read_all` and `write_all` keep.
+use Rattle.std.proofs.Common.{ℕ, ◌≤◌, List, length, take, Option}
+use Rattle.fv_io.specs.Streams.{Takes, Gives}
+
+-- these bytes were taken so far, and they are within the limit
+pub record Reads (before now : Option (List ℕ)) (bytes : List ℕ) (limit faults_before faults_now : ℕ) : Type 0 where
+  pub taken : Takes before bytes now
+  pub within : length bytes ≤ limit
+  pub later : faults_before ≤ faults_now
+
+-- so many bytes of the text were given so far
+pub record Writes (before now : Option (List ℕ)) (text : List ℕ) (given faults_before faults_now : ℕ) : Type 0 where
+  pub front : Gives before (take given text) now
+  pub within : given ≤ length text
+  pub later : faults_before ≤ faults_now
