@@ -1,0 +1,137 @@
+//! Expressions and references (ANSI X3.9-1978, sections 5 and 6).
+ghost use Rattle.std.specs.Prelude.{◌≡◌, IfOk, map};
+ghost use Rattle.fv_tree.specs.View.{expression_of, subscript_of, reference_of};
+
+use crate::{Fun, Memory, Name, Op, Seq};
+use std::alloc::Global;
+
+/// An expression. A literal isn't negative.
+#[derive(Debug, Drop)]
+#[cycle(expr)]
+pub enum Expr {
+    Int(i128),
+    Truth(bool),
+    Item(Ref),
+    Un(Op, Box<Expr>),
+    Bin(Op, Box<Expr>, Box<Expr>),
+    Call(Fun, Seq<Expr>),
+}
+
+/// A scalar or a whole array, which have no subscripts, or an element.
+#[derive(Debug, Drop)]
+#[cycle(expr)]
+pub struct Ref {
+    pub name: Name,
+    pub subs: Seq<Sub>,
+}
+
+/// A subscript.
+#[derive(Debug, Drop)]
+#[cycle(expr)]
+pub enum Sub {
+    One(Expr),
+}
+
+impl Expr {
+    /// An equal expression.
+    #[cycle(expr_copy)]
+    #[tactic(auto, using(crate::proofs::Equations::expression_equations))]
+    pub fn copy(&self, alloc: Global) -> Result<Expr, Memory>
+        ensures { IfOk result (λ copy. expression_of copy ≡ expression_of self.now) }
+    {
+        match self {
+            Expr::Int(number) => Ok(Expr::Int(*number)),
+            Expr::Truth(truth) => Ok(Expr::Truth(*truth)),
+            Expr::Item(item) => Ok(Expr::Item(item.copy(alloc)?)),
+            Expr::Un(op, a) => Ok(Expr::Un(*op, copy_box(a, alloc)?)),
+            Expr::Bin(op, a, b) => Ok(Expr::Bin(*op, copy_box(a, alloc)?, copy_box(b, alloc)?)),
+            Expr::Call(function, arguments) => {
+                Ok(Expr::Call(*function, copy_all(arguments, alloc)?))
+            }
+        }
+    }
+}
+
+#[cycle(expr_copy)]
+fn copy_box(expr: &Expr, alloc: Global) -> Result<Box<Expr>, Memory>
+    ensures { IfOk result (λ copy. expression_of copy.value ≡ expression_of expr.now) }
+{
+    let copy = expr.copy(alloc)?;
+    Ok(Box::new(alloc, copy)?)
+}
+
+#[cycle(expr_copy)]
+fn copy_all(exprs: &Seq<Expr>, alloc: Global) -> Result<Seq<Expr>, Memory>
+    ensures { IfOk result (λ copies. map expression_of copies ≡ map expression_of exprs.now) }
+{
+    let mut copies = Seq::new(alloc);
+    for expr in exprs.as_slice() {
+        copies.push(expr.copy(alloc)?)?;
+    }
+    Ok(copies)
+}
+
+impl Ref {
+    #[cycle(expr_copy)]
+    #[tactic(auto, using(crate::proofs::Equations::expression_equations))]
+    pub(crate) fn copy(&self, alloc: Global) -> Result<Ref, Memory>
+        ensures { IfOk result (λ copy. reference_of copy ≡ reference_of self.now) }
+    {
+        let mut subs = Seq::new(alloc);
+        for sub in self.subs.as_slice() {
+            subs.push(sub.copy(alloc)?)?;
+        }
+        Ok(Ref {
+            name: self.name,
+            subs,
+        })
+    }
+}
+
+impl Sub {
+    #[cycle(expr_copy)]
+    #[tactic(auto, using(crate::proofs::Equations::expression_equations))]
+    fn copy(&self, alloc: Global) -> Result<Sub, Memory>
+        ensures { IfOk result (λ copy. subscript_of copy ≡ subscript_of self.now) }
+    {
+        match self {
+            Sub::One(expr) => Ok(Sub::One(expr.copy(alloc)?)),
+        }
+    }
+}
+
+#[cfg(test)]
+mod tests {
+    use super::*;
+    use std::test::Fail;
+
+    // A(-I) ** MAX(2, .TRUE.), whose kinds don't matter here.
+    fn sample(alloc: Global) -> Result<Expr, Fail> {
+        let i = Ref {
+            name: Name::read(b"I").ok_or("I")?,
+            subs: Seq::new(alloc),
+        };
+        let mut subs = Seq::new(alloc);
+        let sign = Expr::Un(Op::Neg, Box::new(alloc, Expr::Item(i))?);
+        subs.push(Sub::One(sign))?;
+        let element = Ref {
+            name: Name::read(b"A").ok_or("A")?,
+            subs,
+        };
+        let mut arguments = Seq::new(alloc);
+        arguments.push(Expr::Int(2))?;
+        arguments.push(Expr::Truth(true))?;
+        let call = Expr::Call(Fun::Max, arguments);
+        let left = Box::new(alloc, Expr::Item(element))?;
+        Ok(Expr::Bin(Op::Pow, left, Box::new(alloc, call)?))
+    }
+
+    #[test]
+    fn copies(rt: HostRuntime) -> Result<(), Fail> {
+        let expr = sample(rt.alloc())?;
+        let copy = expr.copy(rt.alloc())?;
+        let text = format!(in rt.alloc(); "{copy:?}")?;
+        assert_eq!(rt; text, format!(in rt.alloc(); "{expr:?}")?);
+        Ok(())
+    }
+}

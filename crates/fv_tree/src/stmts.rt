@@ -1,0 +1,304 @@
+//! Statements, and the items of input and output lists (ANSI X3.9-1978, sections 10 to 12).
+ghost use Rattle.std.specs.Prelude.{◌≡◌, IfOk, map};
+ghost use Rattle.fv_tree.specs.View.{item_of, statement_of, tested_of, block_of};
+
+use crate::{Expr, Memory, Name, Ref, Seq};
+use std::alloc::Global;
+
+/// The place of an assignment in the listing: its nest, its number in the nest and its level.
+#[derive(Clone, Copy, Debug, PartialEq, Eq)]
+pub struct Mark {
+    pub nest: u32,
+    pub stmt: u32,
+    pub level: u32,
+}
+
+/// An item of an input or output list: a value or a variable, a text, or an implied DO list with its
+/// variable and its three bounds.
+#[derive(Debug, Drop)]
+pub enum Item {
+    One(Expr),
+    Text(Seq<u8>),
+    Turns(Seq<Item>, Name, Expr, Expr, Expr),
+}
+
+/// A condition of a block IF, and the statements under it.
+#[derive(Debug, Drop)]
+#[cycle(stmt)]
+pub struct Arm {
+    pub test: Expr,
+    pub body: Block,
+}
+
+#[derive(Debug, Drop)]
+#[cycle(stmt)]
+pub struct Block {
+    pub stmts: Seq<Stmt>,
+}
+
+/// A statement, with the number of its line. A label stands before its statement.
+#[derive(Debug, Drop)]
+#[cycle(stmt)]
+pub enum Stmt {
+    Assign {
+        line: u32,
+        mark: Option<Mark>,
+        left: Ref,
+        right: Expr,
+    },
+    If {
+        line: u32,
+        arms: Seq<Arm>,
+        other: Block,
+    },
+    Do {
+        line: u32,
+        var: Name,
+        first: Expr,
+        last: Expr,
+        step: Expr,
+        body: Block,
+    },
+    Label {
+        number: u32,
+    },
+    Go {
+        line: u32,
+        number: u32,
+    },
+    Stop {
+        line: u32,
+    },
+    Read {
+        line: u32,
+        items: Seq<Item>,
+    },
+    Print {
+        line: u32,
+        items: Seq<Item>,
+    },
+}
+
+impl Item {
+    #[cycle(item_copy)]
+    #[tactic(auto, using(crate::proofs::Equations::item_equations))]
+    fn copy(&self, alloc: Global) -> Result<Item, Memory>
+        ensures { IfOk result (λ copy. item_of copy ≡ item_of self.now) }
+    {
+        match self {
+            Item::One(expr) => Ok(Item::One(expr.copy(alloc)?)),
+            Item::Text(text) => Ok(Item::Text(copy_text(text, alloc)?)),
+            Item::Turns(items, var, first, last, step) => Ok(Item::Turns(
+                copy_items(items, alloc)?,
+                *var,
+                first.copy(alloc)?,
+                last.copy(alloc)?,
+                step.copy(alloc)?,
+            )),
+        }
+    }
+}
+
+fn copy_text(text: &Seq<u8>, alloc: Global) -> Result<Seq<u8>, Memory>
+    ensures { IfOk result (λ copy. copy ≡ text.now) }
+{
+    Ok(Seq::from_vec(Vec::from_slice(alloc, text.as_slice())?))
+}
+
+#[cycle(item_copy)]
+fn copy_items(items: &Seq<Item>, alloc: Global) -> Result<Seq<Item>, Memory>
+    ensures { IfOk result (λ copies. map item_of copies ≡ map item_of items.now) }
+{
+    let mut copies = Seq::new(alloc);
+    for item in items.as_slice() {
+        copies.push(item.copy(alloc)?)?;
+    }
+    Ok(copies)
+}
+
+impl Block {
+    /// An equal block.
+    #[cycle(stmt_copy)]
+    #[tactic(auto, using(crate::proofs::Equations::statement_equations))]
+    pub fn copy(&self, alloc: Global) -> Result<Block, Memory>
+        ensures { IfOk result (λ copy. block_of copy ≡ block_of self.now) }
+    {
+        let mut stmts = Seq::new(alloc);
+        for stmt in self.stmts.as_slice() {
+            stmts.push(stmt.copy(alloc)?)?;
+        }
+        Ok(Block { stmts })
+    }
+}
+
+impl Arm {
+    #[cycle(stmt_copy)]
+    #[tactic(auto, using(crate::proofs::Equations::statement_equations))]
+    fn copy(&self, alloc: Global) -> Result<Arm, Memory>
+        ensures { IfOk result (λ copy. tested_of copy ≡ tested_of self.now) }
+    {
+        Ok(Arm {
+            test: self.test.copy(alloc)?,
+            body: self.body.copy(alloc)?,
+        })
+    }
+}
+
+#[cycle(stmt_copy)]
+fn copy_arms(arms: &Seq<Arm>, alloc: Global) -> Result<Seq<Arm>, Memory>
+    ensures { IfOk result (λ copies. map tested_of copies ≡ map tested_of arms.now) }
+{
+    let mut copies = Seq::new(alloc);
+    for arm in arms.as_slice() {
+        copies.push(arm.copy(alloc)?)?;
+    }
+    Ok(copies)
+}
+
+impl Stmt {
+    #[cycle(stmt_copy)]
+    #[tactic(auto, using(crate::proofs::Equations::statement_equations))]
+    fn copy(&self, alloc: Global) -> Result<Stmt, Memory>
+        ensures { IfOk result (λ copy. statement_of copy ≡ statement_of self.now) }
+    {
+        match self {
+            Stmt::Assign {
+                line,
+                mark,
+                left,
+                right,
+            } => Ok(Stmt::Assign {
+                line: *line,
+                mark: *mark,
+                left: left.copy(alloc)?,
+                right: right.copy(alloc)?,
+            }),
+            Stmt::If { line, arms, other } => Ok(Stmt::If {
+                line: *line,
+                arms: copy_arms(arms, alloc)?,
+                other: other.copy(alloc)?,
+            }),
+            Stmt::Do {
+                line,
+                var,
+                first,
+                last,
+                step,
+                body,
+            } => Ok(Stmt::Do {
+                line: *line,
+                var: *var,
+                first: first.copy(alloc)?,
+                last: last.copy(alloc)?,
+                step: step.copy(alloc)?,
+                body: body.copy(alloc)?,
+            }),
+            Stmt::Label { number } => Ok(Stmt::Label { number: *number }),
+            Stmt::Go { line, number } => Ok(Stmt::Go {
+                line: *line,
+                number: *number,
+            }),
+            Stmt::Stop { line } => Ok(Stmt::Stop { line: *line }),
+            Stmt::Read { line, items } => Ok(Stmt::Read {
+                line: *line,
+                items: copy_items(items, alloc)?,
+            }),
+            Stmt::Print { line, items } => Ok(Stmt::Print {
+                line: *line,
+                items: copy_items(items, alloc)?,
+            }),
+        }
+    }
+}
+
+#[cfg(test)]
+mod tests {
+    use super::*;
+    use std::test::Fail;
+
+    fn name() -> Result<Name, Fail> {
+        Ok(Name::read(b"K").ok_or("K")?)
+    }
+
+    // PRINT and READ with a text and an implied DO list.
+    fn lists(alloc: Global) -> Result<Seq<Item>, Fail> {
+        let mut inner = Seq::new(alloc);
+        inner.push(Item::One(Expr::Int(7)))?;
+        let mut items = Seq::new(alloc);
+        let (first, last, step) = (Expr::Int(1), Expr::Int(9), Expr::Int(2));
+        items.push(Item::Turns(inner, name()?, first, last, step))?;
+        let text = Vec::from_slice(alloc, b"HI")?;
+        items.push(Item::Text(Seq::from_vec(text)))?;
+        Ok(items)
+    }
+
+    // IF (.TRUE.) THEN; STOP; ELSE; label 10; GO TO 10; END IF.
+    fn branch(alloc: Global) -> Result<Stmt, Fail> {
+        let mut stmts = Seq::new(alloc);
+        stmts.push(Stmt::Stop { line: 2 })?;
+        let mut arms = Seq::new(alloc);
+        arms.push(Arm {
+            test: Expr::Truth(true),
+            body: Block { stmts },
+        })?;
+        let mut stmts = Seq::new(alloc);
+        stmts.push(Stmt::Label { number: 10 })?;
+        stmts.push(Stmt::Go {
+            line: 4,
+            number: 10,
+        })?;
+        Ok(Stmt::If {
+            line: 1,
+            arms,
+            other: Block { stmts },
+        })
+    }
+
+    // A loop round the branch, an assignment with a mark, and input and output.
+    fn sample(alloc: Global) -> Result<Block, Fail> {
+        let mut body = Seq::new(alloc);
+        body.push(branch(alloc)?)?;
+        let left = Ref {
+            name: name()?,
+            subs: Seq::new(alloc),
+        };
+        body.push(Stmt::Assign {
+            line: 7,
+            mark: Some(Mark {
+                nest: 1,
+                stmt: 2,
+                level: 3,
+            }),
+            left,
+            right: Expr::Int(5),
+        })?;
+        let mut stmts = Seq::new(alloc);
+        stmts.push(Stmt::Do {
+            line: 8,
+            var: name()?,
+            first: Expr::Int(1),
+            last: Expr::Int(2),
+            step: Expr::Int(3),
+            body: Block { stmts: body },
+        })?;
+        stmts.push(Stmt::Read {
+            line: 9,
+            items: lists(alloc)?,
+        })?;
+        stmts.push(Stmt::Print {
+            line: 10,
+            items: lists(alloc)?,
+        })?;
+        Ok(Block { stmts })
+    }
+
+    #[test]
+    fn copies(rt: HostRuntime) -> Result<(), Fail> {
+        let block = sample(rt.alloc())?;
+        let copy = block.copy(rt.alloc())?;
+        let text = format!(in rt.alloc(); "{copy:?}")?;
+        assert_eq!(rt; text, format!(in rt.alloc(); "{block:?}")?);
+        assert!(rt; copy.stmts.len() == 3);
+        Ok(())
+    }
+}
