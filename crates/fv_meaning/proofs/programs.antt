@@ -1,0 +1,9 @@
+pub mod Words
+pub mod Least
+mod LabelDecks
+mod NestingDecks
+mod NameDecks
+mod KindDecks
+mod JumpDecks
+mod LimitDecks
+mod TreeDecks

@@ -1,0 +1,15 @@
+pub mod Names
+pub mod Typed
+pub mod Profile
+pub mod Text
+pub mod Uses
+pub mod Labels
+pub mod Nesting
+pub mod Order
+pub mod Declarations
+pub mod Kinds
+pub mod Jumps
+pub mod DoVariables
+pub mod Limits
+pub mod Tree
+pub mod Program77
