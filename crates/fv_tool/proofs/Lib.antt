@@ -1,0 +1,11 @@
+pub mod FirstLines
+pub mod Gathered
+pub mod Headline
+pub mod Noted
+pub mod Operands
+pub mod Pieces
+pub mod Printed
+pub mod Shape
+pub mod Spelled
+pub mod Sums
+pub mod Top

@@ -1,0 +1,9 @@
+pub mod Answers
+pub mod Command
+pub mod Endings
+pub mod FirstLine
+pub mod Forms
+pub mod Headline
+pub mod Notes
+pub mod Progress
+pub mod Shape

@@ -1,0 +1,46 @@
+//! The program `fvec`: the real words, stdin for the deck, stdout for the text and stderr for the notes.
+#![tactic(auto)]
+
+ghost use Rattle.std.specs.Prelude.{◌≡◌, ◌⊎◌, IfErr};
+
+use fv_io::{StdSink, StdSource};
+use fv_tool::run_tool;
+use std::env;
+use std::io::ErrorKind;
+use std::process::ExitCode;
+
+/// There was no memory for the words.
+const NO_MEMORY: u8 = 7;
+
+/// The system refused the words for another cause.
+const NO_WORDS: u8 = 8;
+
+// The words after the program's name, or the status that says why there are none.
+fn words(rt: &HostRuntime) -> Result<Vec<String>, u8>
+    ensures { IfErr result (λ status. (status ≡ 7) ⊎ (status ≡ 8)) }
+{
+    let mut words = Vec::new(rt.alloc());
+    let args = match env::args(rt) {
+        Ok(args) => args,
+        Err(error) if error.kind() == ErrorKind::OutOfMemory => return Err(NO_MEMORY),
+        Err(_) => return Err(NO_WORDS),
+    };
+    for word in args.skip(1) {
+        if words.push(word).is_err() {
+            return Err(NO_MEMORY);
+        }
+    }
+    Ok(words)
+}
+
+fn main(rt: HostRuntime) -> ExitCode {
+    match words(&rt) {
+        Ok(words) => {
+            let mut deck = StdSource::new(rt.stdin());
+            let mut out = StdSink::new(rt.stdout());
+            let mut notes = StdSink::new(rt.stderr());
+            ExitCode::from(run_tool(rt.alloc(), &words, &mut deck, &mut out, &mut notes))
+        }
+        Err(status) => ExitCode::from(status),
+    }
+}

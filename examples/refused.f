@@ -1,0 +1,4 @@
+      I = 1
+      X = I + 1
+      PRINT *, X
+      END

@@ -1,0 +1,4 @@
+      I = 2
+      J = I + 3
+      PRINT *, I + J
+      END
