@@ -1,0 +1,16 @@
+use Rattle.std.proofs.Common.{◌++◌, ◌∙◌, ap, map}
+use Rattle.fv_meaning.specs.Cards.{card_in}
+use Rattle.fv_meaning.proofs.CardLaws.{unrefused_short, unrefused_front}
+use Rattle.fv_meaning.proofs.Grouping.{leading, grouped}
+use Rattle.fixed_form.specs.Card.{card_of}
+use Rattle.fixed_form.specs.Left.{lines_left}
+use Rattle.fixed_form.proofs.cards.read_cards.Goals as goal
+
+pub new-lines-requires : goal.new-lines-requires
+new-lines-requires c = unrefused_short c.args.text.now c.requires
+
+pub loop-initial-init : goal.loop-initial-init
+loop-initial-init c = (
+  ap (λ cards. map card_of cards ++ map card_in (grouped (lines_left c.new-lines.result))) c.new-cards.ensures ∙ ap (λ ls. map card_in (grouped ls)) c.new-lines.ensures,
+  ap leading c.new-lines.ensures ∙ unrefused_front c.args.text.now c.requires,
+)

@@ -1,0 +1,15 @@
+use Rattle.std.proofs.Common.{◌≡◌, ◌++◌, [], length}
+use Rattle.std.specs.Prelude.{map}
+use Rattle.fv_meaning.specs.Cards.{card_in, statement_lines}
+use Rattle.fv_meaning.proofs.Grouping.{leading, grouped}
+use Rattle.fixed_form.specs.Card.{card_of}
+use Rattle.fixed_form.specs.Left.{lines_left}
+use Rattle.fixed_form.proofs.cards.read_cards.Given as goal
+
+abbrev pub invariant-loop-initial : goal.invariant-loop-initial
+invariant-loop-initial l =
+    let left = lines_left l.lines in
+    (map card_of l.cards ++ map card_in (grouped left) ≡ map card_in (grouped (statement_lines l.text))) × (leading left ≡ [])
+
+abbrev pub decreases-loop-initial : goal.decreases-loop-initial
+decreases-loop-initial l = length (lines_left l.lines)

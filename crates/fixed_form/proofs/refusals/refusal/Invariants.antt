@@ -1,0 +1,10 @@
+use Rattle.std.proofs.Common.{◌≡◌, drop}
+use Rattle.std.specs.Prelude.{map}
+use Rattle.fv_meaning.specs.Cards.{statement_lines}
+use Rattle.fv_meaning.proofs.CardCauses.{first_cause, causes}
+use Rattle.fixed_form.specs.Source.{cause_of}
+use Rattle.fixed_form.proofs.refusals.refusal.Given as goal
+
+abbrev pub invariant-loop-cause : goal.invariant-loop-cause
+invariant-loop-cause l =
+    first_cause (map cause_of (drop l.cause-index l.cause-items)) (statement_lines l.text) ≡ first_cause causes (statement_lines l.text)
