@@ -1,0 +1,13 @@
+pub mod ByForm
+pub mod Closers
+pub mod Equations
+pub mod FactLaws
+pub mod ItemUseLaws
+pub mod LabelLaws
+pub mod LeftOpen
+pub mod OpenIfs
+pub mod OpenLoops
+pub mod Sooner
+pub mod StatementUseLaws
+pub mod UseLaws
+pub mod Walks
