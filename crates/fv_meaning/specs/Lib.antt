@@ -25,3 +25,4 @@ pub mod ThinLaws
 pub mod Value
 pub mod Cards
 pub mod expressions
+pub mod statements

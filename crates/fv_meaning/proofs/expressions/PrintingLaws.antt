@@ -8,11 +8,11 @@ use Rattle.std.proofs.lemmas.Fmt.{decimal_is_IsNumeral_wide}
 use Rattle.std.proofs.lemmas.List.{map-append}
 use Rattle.std.proofs.lemmas.Str.Parse.{IsNumeralModel, numerals_by_fold}
 use Rattle.fv_tree.specs.declared.ops.Op.{Op}
-use Rattle.fv_tree.specs.declared.ops.Op.TheVariants.{Pow, Mul, Neg, Not}
+use Rattle.fv_tree.specs.declared.ops.Op.TheVariants.{Pow, Mul, Neg, Sub, Not}
 use Rattle.fv_tree.specs.Plain.{Expression, Number, Logic, Named, Unary, Binary, Apply, Subscript, Only, Subscripts, no_subscripts, subscript, subscripts}
-use Rattle.fv_meaning.specs.expressions.Levels.{Sign, Plus, Minus, Negation, left_least, right_least, joins}
-use Rattle.fv_meaning.specs.expressions.Phrases.{Phrase, Literal, WideLiteral, Truth, Name, Listed, Paren, Signed, Joined, Phrases, One, Then, level, written, written_list, tree, trees, sign_word, IsExpression, AreExpressions}
-use Rattle.fv_meaning.specs.expressions.Printing.{IsLiteral, is_negating, IsSource, IsSourceSubscript, AreSource, fit, listed, unary_phrase, phrase_of, subscript_phrase, phrases_of, with_more, digits_of, spelling_of, printed}
+use Rattle.fv_meaning.specs.expressions.Levels.{Sign, Plus, Minus, Negation, left_least, right_least, joins, may_follow}
+use Rattle.fv_meaning.specs.expressions.Phrases.{Phrase, Literal, WideLiteral, Truth, Name, Listed, Paren, Signed, Joined, Phrases, One, Then, level, begins_with_sign, written, written_list, tree, trees, sign_word, IsExpression, AreExpressions}
+use Rattle.fv_meaning.specs.expressions.Printing.{IsLiteral, is_negating, IsSource, IsSourceSubscript, AreSource, fit, behind, listed, unary_phrase, phrase_of, subscript_phrase, phrases_of, with_more, digits_of, spelling_of, printed}
 use Rattle.fv_meaning.specs.expressions.Reading.{Spells, IsWide, is_wide}
 use Rattle.fv_meaning.specs.expressions.Spelling.{is_digit, is_letter, is_letter_or_digit, Pass, IsDigits, value, IsName, spelling, Spelled, chars, SpelledBy, Stops, goes_on, Whole, Words}
 use Rattle.fv_meaning.specs.expressions.Squeezing.{Symbol, Char, Squeezed, nothing, character, upper}
@@ -28,9 +28,12 @@ digits_from n ds = fold (λ n c. 10 * n + (c - 48)) n ds
 fit_tree : (n : ℕ) (p : Phrase) → tree (fit n p) ≡ tree p
 fit_tree n p = cond_both (nat_le n (level p)) p (Paren p) (λ q. tree q ≡ tree p) (λ e. refl) (λ e. refl)
 
+behind_tree : (o : Op) (p : Phrase) → tree (behind o p) ≡ tree p
+behind_tree o p = cond_both (may_follow o (begins_with_sign p)) p (Paren p) (λ q. tree q ≡ tree p) (λ e. refl) (λ e. refl)
+
 unary_tree : (o : Op) (p : Phrase) → IsTrue (is_negating o) → tree (unary_phrase o p) ≡ Unary o (tree p)
 unary_tree Neg p h = ap (Unary Neg) (fit_tree 8 p)
-unary_tree Not p h = ap (Unary Not) (fit_tree 6 p)
+unary_tree Not p h = ap (Unary Not) (fit_tree 6 (behind Not p) ∙ behind_tree Not p)
 unary_tree o p h = cc
 
 -- some subscripts, and then others
@@ -53,8 +56,8 @@ mutual
   back (Named x ss) h = back_named x ss h.1
   back (Unary o a) h = unary_tree o (phrase_of a) h.0 ∙ ap (Unary o) (back a h.1)
   back (Binary o a b) h =
-      ap (λ (t : Expression). Binary o t (tree (fit (right_least o) (phrase_of b)))) (fit_tree (left_least o) (phrase_of a) ∙ back a h.1)
-      ∙ ap (Binary o a) (fit_tree (right_least o) (phrase_of b) ∙ back b h.2)
+      ap (λ (t : Expression). Binary o t (tree (fit (right_least o) (behind o (phrase_of b))))) (fit_tree (left_least o) (phrase_of a) ∙ back a h.1)
+      ∙ ap (Binary o a) (fit_tree (right_least o) (behind o (phrase_of b)) ∙ (behind_tree o (phrase_of b) ∙ back b h.2))
   back (Apply f es) h = absurd h
 
   back_subscript : (s : Subscript) → IsSourceSubscript s → Only (tree (subscript_phrase s)) ≡ s
@@ -83,9 +86,22 @@ fits n p h = cond_both (nat_le n (level p)) p (Paren p) (λ q. n ≤ level q) (�
 fit_good : (n : ℕ) (p : Phrase) → IsExpression p → IsExpression (fit n p)
 fit_good n p h = cond_both (nat_le n (level p)) p (Paren p) IsExpression (λ e. h) (λ e. h)
 
+behind_good : (o : Op) (p : Phrase) → IsExpression p → IsExpression (behind o p)
+behind_good o p h = cond_both (may_follow o (begins_with_sign p)) p (Paren p) IsExpression (λ e. h) (λ e. h)
+
+behind_follows : (o : Op) (p : Phrase) → IsTrue (may_follow o (begins_with_sign (behind o p)))
+behind_follows o p = cond_both (may_follow o (begins_with_sign p)) p (Paren p) (λ q. IsTrue (may_follow o (begins_with_sign q))) (λ e. e) (λ e. refl)
+
+fit_follows : (o : Op) (n : ℕ) (p : Phrase) → IsTrue (may_follow o (begins_with_sign p)) → IsTrue (may_follow o (begins_with_sign (fit n p)))
+fit_follows o n p h = cond_both (nat_le n (level p)) p (Paren p) (λ q. IsTrue (may_follow o (begins_with_sign q))) (λ e. h) (λ e. refl)
+
+sub_followed : (b : Bool) → IsTrue (may_follow Sub b)
+sub_followed true = refl
+sub_followed false = refl
+
 unary_good : (o : Op) (p : Phrase) → IsExpression p → IsExpression (unary_phrase o p)
-unary_good Not p h = (fits 6 p (omega arith), fit_good 6 p h)
-unary_good o p h = (fits 8 p (omega arith), fit_good 8 p h)
+unary_good Not p h = (fits 6 (behind Not p) (omega arith), fit_follows Not 6 (behind Not p) (behind_follows Not p), fit_good 6 (behind Not p) (behind_good Not p h))
+unary_good o p h = (fits 8 p (omega arith), sub_followed _, fit_good 8 p h)
 
 mutual
   pub good : (e : Expression) → IsSource e → IsExpression (phrase_of e)
@@ -96,9 +112,10 @@ mutual
   good (Binary o a b) h = (
     h.0,
     fits (left_least o) (phrase_of a) (ten o).0,
-    fits (right_least o) (phrase_of b) (ten o).1,
+    fits (right_least o) (behind o (phrase_of b)) (ten o).1,
+    fit_follows o (right_least o) (behind o (phrase_of b)) (behind_follows o (phrase_of b)),
     fit_good (left_least o) (phrase_of a) (good a h.1),
-    fit_good (right_least o) (phrase_of b) (good b h.2),
+    fit_good (right_least o) (behind o (phrase_of b)) (behind_good o (phrase_of b) (good b h.2)),
   )
   good (Apply f es) h = absurd h
 
@@ -161,8 +178,13 @@ fit_spelled n p h =
     cond_both (nat_le n (level p)) p (Paren p) (λ q. AreSpelled (written q)) (λ e. h)
     (λ e. (refl, refl, spelled_append (written p) (words.Close ∷ []) h (refl, refl, tt)))
 
+behind_spelled : (o : Op) (p : Phrase) → AreSpelled (written p) → AreSpelled (written (behind o p))
+behind_spelled o p h =
+    cond_both (may_follow o (begins_with_sign p)) p (Paren p) (λ q. AreSpelled (written q)) (λ e. h)
+    (λ e. (refl, refl, spelled_append (written p) (words.Close ∷ []) h (refl, refl, tt)))
+
 unary_spelled : (o : Op) (p : Phrase) → AreSpelled (written p) → AreSpelled (written (unary_phrase o p))
-unary_spelled Not p h = (refl, refl, fit_spelled 6 p h)
+unary_spelled Not p h = (refl, refl, fit_spelled 6 (behind Not p) (behind_spelled Not p h))
 unary_spelled o p h = (refl, refl, fit_spelled 8 p h)
 
 mutual
@@ -172,9 +194,9 @@ mutual
   source_spelled (Named x ss) h = spelled_named x ss h.0 h.1
   source_spelled (Unary o a) h = unary_spelled o (phrase_of a) (source_spelled a h.1)
   source_spelled (Binary o a b) h =
-      spelled_append (written (fit (left_least o) (phrase_of a))) (words.Operator o ∷ written (fit (right_least o) (phrase_of b)))
+      spelled_append (written (fit (left_least o) (phrase_of a))) (words.Operator o ∷ written (fit (right_least o) (behind o (phrase_of b))))
       (fit_spelled (left_least o) (phrase_of a) (source_spelled a h.1))
-      (joins_spelled o h.0, refl, fit_spelled (right_least o) (phrase_of b) (source_spelled b h.2))
+      (joins_spelled o h.0, refl, fit_spelled (right_least o) (behind o (phrase_of b)) (behind_spelled o (phrase_of b) (source_spelled b h.2)))
   source_spelled (Apply f es) h = absurd h
 
   spelled_subscript : (s : Subscript) → IsSourceSubscript s → AreSpelled (written (subscript_phrase s))

@@ -45,6 +45,30 @@ joins Neg = false
 joins Not = false
 joins o = true
 
+-- whether the operator compares its operands
+abbrev pub compares : Op → Bool
+compares Lt = true
+compares Le = true
+compares Eq = true
+compares Ne = true
+compares Gt = true
+compares Ge = true
+compares o = false
+
+-- whether an operand that begins with a plus or minus sign may stand behind the operator
+abbrev pub takes_sign : Op → Bool
+takes_sign Not = false
+takes_sign And = false
+takes_sign Or = false
+takes_sign Eqv = false
+takes_sign Neqv = false
+takes_sign o = true
+
+-- whether an operand may stand behind the operator, by whether it begins with such a sign
+abbrev pub may_follow : Op → Bool → Bool
+may_follow o true = takes_sign o
+may_follow o false = true
+
 -- what may stand before an operand
 pub data Sign : Type 0 where
   Plus : Sign

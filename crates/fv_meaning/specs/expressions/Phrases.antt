@@ -1,11 +1,11 @@
 -- An expression as it is written, with its parentheses and signs, and what it stands for.
-use Rattle.std.specs.Prelude.{ℕ, ◌+◌, ◌≤◌, max, ℤ, pos, Bool, IsTrue, List, [], ◌∷◌, ◌++◌}
+use Rattle.std.specs.Prelude.{ℕ, ◌+◌, ◌≤◌, max, ℤ, pos, Bool, true, false, IsTrue, List, [], ◌∷◌, ◌++◌, if◌then◌else◌}
 use Rattle.fv_tree.specs.declared.ops.Op.{Op}
 use Rattle.fv_tree.specs.declared.ops.Op.TheVariants.{Neg, Not, Add, Sub}
 use Rattle.fv_tree.specs.Plain.{Expression, Number, Logic, Named, Unary, Binary, Subscript, Only, subscripts, no_subscripts}
 use Rattle.fv_meaning.specs.expressions.Words as words
 use Rattle.fv_meaning.specs.expressions.Words.{Word}
-use Rattle.fv_meaning.specs.expressions.Levels.{Sign, Plus, Minus, Negation, level_of, left_least, right_least, joins, sign_level}
+use Rattle.fv_meaning.specs.expressions.Levels.{Sign, Plus, Minus, Negation, level_of, left_least, right_least, joins, compares, may_follow, sign_level}
 
 -- A list has one expression at least.
 mutual
@@ -29,7 +29,20 @@ level (Signed s p) = sign_level s
 level (Joined o a b) = level_of o
 level p = 10
 
--- Each operand binds tightly enough for its operator or sign.
+abbrev pub sign_word : Sign → Op
+sign_word Plus = Add
+sign_word Minus = Sub
+sign_word Negation = Not
+
+-- whether it begins with a plus or minus sign that isn't a relation's
+abbrev pub begins_with_sign : Phrase → Bool
+begins_with_sign (Signed Plus p) = true
+begins_with_sign (Signed Minus p) = true
+begins_with_sign (Joined o a b) = if compares o then false else begins_with_sign a
+begins_with_sign p = false
+
+-- Each operand binds tightly enough for its operator or sign. A plus or minus sign stands at the front alone: of the
+-- whole, of what is in parentheses, of a subscript or an argument, and of an operand of a relation.
 abbrev mutual
   pub IsExpression : Phrase → Type 0
   IsExpression (Literal n) = Unit {0}
@@ -38,19 +51,15 @@ abbrev mutual
   IsExpression (Name x) = Unit {0}
   IsExpression (Listed x ps) = AreExpressions ps
   IsExpression (Paren p) = IsExpression p
-  IsExpression (Signed s p) = (sign_level s + 1 ≤ level p) × IsExpression p
-  IsExpression (Joined o a b) = IsTrue (joins o) × (left_least o ≤ level a) × (right_least o ≤ level b) × IsExpression a × IsExpression b
+  IsExpression (Signed s p) = (sign_level s + 1 ≤ level p) × IsTrue (may_follow (sign_word s) (begins_with_sign p)) × IsExpression p
+  IsExpression (Joined o a b) =
+      IsTrue (joins o) × (left_least o ≤ level a) × (right_least o ≤ level b) × IsTrue (may_follow o (begins_with_sign b)) × IsExpression a × IsExpression b
 
   pub AreExpressions : Phrases → Type 0
   AreExpressions (One p) = IsExpression p
   AreExpressions (Then ps p) = AreExpressions ps × IsExpression p
 
 -- ---- how it is written
-
-abbrev pub sign_word : Sign → Op
-sign_word Plus = Add
-sign_word Minus = Sub
-sign_word Negation = Not
 
 abbrev mutual
   pub written : Phrase → List Word

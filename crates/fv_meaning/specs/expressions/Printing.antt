@@ -4,8 +4,8 @@ use Rattle.std.specs.List.{flat_map}
 use Rattle.fv_tree.specs.declared.ops.Op.{Op}
 use Rattle.fv_tree.specs.declared.ops.Op.TheVariants.{Neg, Not}
 use Rattle.fv_tree.specs.Plain.{Expression, Number, Logic, Named, Unary, Binary, Apply, Subscript, Only, Subscripts, no_subscripts, subscript}
-use Rattle.fv_meaning.specs.expressions.Levels.{Minus, Negation, left_least, right_least, joins}
-use Rattle.fv_meaning.specs.expressions.Phrases.{Phrase, Literal, WideLiteral, Truth, Name, Listed, Paren, Signed, Joined, Phrases, One, Then, level, written}
+use Rattle.fv_meaning.specs.expressions.Levels.{Minus, Negation, left_least, right_least, joins, may_follow}
+use Rattle.fv_meaning.specs.expressions.Phrases.{Phrase, Literal, WideLiteral, Truth, Name, Listed, Paren, Signed, Joined, Phrases, One, Then, level, begins_with_sign, written}
 use Rattle.fv_meaning.specs.expressions.Spelling.{IsName, spelling}
 use Rattle.fv_meaning.specs.expressions.Words as words
 use Rattle.fv_meaning.specs.expressions.Words.{Word}
@@ -41,12 +41,16 @@ abbrev mutual
 abbrev pub fit : ℕ → Phrase → Phrase
 fit n p = if nat_le n (level p) then p else Paren p
 
+-- in parentheses where it begins with a sign that can't stand behind the operator
+abbrev pub behind : Op → Phrase → Phrase
+behind o p = if may_follow o (begins_with_sign p) then p else Paren p
+
 abbrev pub listed : List ℕ → Option Phrases → Phrase
 listed x None = Name x
 listed x (Some ps) = Listed x ps
 
 abbrev pub unary_phrase : Op → Phrase → Phrase
-unary_phrase Not p = Signed Negation (fit 6 p)
+unary_phrase Not p = Signed Negation (fit 6 (behind Not p))
 unary_phrase o p = Signed Minus (fit 8 p)
 
 -- how it is written
@@ -56,7 +60,7 @@ abbrev mutual
   phrase_of (Logic b) = Truth b
   phrase_of (Named x ss) = listed x (phrases_of ss)
   phrase_of (Unary o a) = unary_phrase o (phrase_of a)
-  phrase_of (Binary o a b) = Joined o (fit (left_least o) (phrase_of a)) (fit (right_least o) (phrase_of b))
+  phrase_of (Binary o a b) = Joined o (fit (left_least o) (phrase_of a)) (fit (right_least o) (behind o (phrase_of b)))
   phrase_of (Apply f es) = WideLiteral
 
   pub subscript_phrase : Subscript → Phrase
