@@ -1,11 +1,16 @@
-//! One statement of FORTRAN 77.
+//! One statement of FORTRAN 77 (ANSI X3.9-1978, sections 7 to 12).
 #![tactic(auto)]
 
-mod expressions;
-mod lexer;
-mod operands;
-mod reader;
-mod symbols;
-mod tokens;
+mod actions;
+mod assignments;
+mod cards;
+mod declarations;
+mod formed;
+mod forms;
+mod fronts;
+mod keywords;
+mod statements;
+#[cfg(test)]
+mod tests;
 
-pub use expressions::{Unread, expression};
+pub use cards::parse;

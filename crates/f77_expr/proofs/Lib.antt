@@ -1,0 +1,11 @@
+pub mod Complete
+pub mod ReadingLaws
+pub mod LexingLaws
+pub mod LiteralLaws
+pub mod NameLaws
+pub mod Placing
+pub mod ScanningLaws
+pub mod Sound
+pub mod Stacks
+pub mod Trees
+pub mod WordsLaws

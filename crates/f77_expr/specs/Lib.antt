@@ -1,0 +1,9 @@
+pub mod Fronts
+pub mod Lexing
+pub mod Literals
+pub mod Reader
+pub mod Reading
+pub mod Scanning
+pub mod Symbols
+pub mod Tokens
+pub mod Views

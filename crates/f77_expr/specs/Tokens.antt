@@ -1,0 +1,32 @@
+-- The words that the code holds, as words of the grammar.
+use Rattle.std.specs.Prelude.{Option, Some, None}
+use Rattle.fv_meaning.specs.expressions.Levels as levels
+use Rattle.fv_meaning.specs.expressions.Words as words
+use Rattle.fv_meaning.specs.expressions.Words.{Word}
+use Rattle.f77_expr.specs.declared.tokens.Sign.{Sign}
+use Rattle.f77_expr.specs.declared.tokens.Sign.TheVariants.{Plus, Minus, Negation}
+use Rattle.f77_expr.specs.declared.tokens.Token.{Token}
+use Rattle.f77_expr.specs.declared.tokens.Token.TheVariants.{Number, Wide, Truth, Name, Head, Operator, Open, Close, Comma, Equals, Colon, Constant}
+
+abbrev pub sign_view : Sign → levels.Sign
+sign_view Plus = levels.Plus
+sign_view Minus = levels.Minus
+sign_view Negation = levels.Negation
+
+abbrev pub sign_view_option : Option Sign → Option levels.Sign
+sign_view_option None = None
+sign_view_option (Some s) = Some (sign_view s)
+
+abbrev pub word_of : Token → Word
+word_of (Number n) = words.Number n
+word_of Wide = words.Wide
+word_of (Truth b) = words.Truth b
+word_of (Name x) = words.Name x
+word_of (Head x) = words.Head x
+word_of (Operator o) = words.Operator o
+word_of Open = words.Open
+word_of Close = words.Close
+word_of Comma = words.Comma
+word_of Equals = words.Equals
+word_of Colon = words.Colon
+word_of (Constant t) = words.Constant t

@@ -1,0 +1,248 @@
+//! An expression by itself.
+ghost use Rattle.std.specs.Prelude.{◌≡◌, ◌<◌, ◌↔◌, IfOk, IsTrue, IsErrOf};
+ghost use Rattle.std.specs.List.{list_any};
+ghost use Rattle.fv_tree.specs.View.{expression_of};
+ghost use Rattle.fv_meaning.specs.expressions.Phrases.{Phrase, IsExpression, written};
+ghost use Rattle.fv_tree.specs.Plain.{Expression};
+ghost use Rattle.fv_meaning.specs.expressions.Printing.{IsSource, printed};
+ghost use Rattle.fv_meaning.specs.expressions.Reading.{ReadsAs, Spells, IsSpelled, IsWide, IsDeep, is_wide};
+ghost use Rattle.fv_meaning.specs.expressions.Words as words;
+ghost use Rattle.f77_expr.specs.Reading as reading;
+ghost use Rattle.f77_expr.specs.Reading.{GivesWhole, Answers, ReadsBack};
+ghost use Rattle.f77_expr.specs.Views.{words_of};
+
+use crate::lexer::words;
+use crate::operands::Operand;
+use crate::reader::read;
+use crate::symbols::squeeze;
+use crate::tokens::{Stop, Token};
+use fv_tree::{Expr, Memory};
+use std::alloc::Global;
+
+/// Why characters aren't read as an expression: the first of these that holds.
+#[derive(Clone, Copy, Debug, PartialEq, Eq)]
+pub enum Unread {
+    NoExpression,
+    WideLiteral,
+    Deep,
+    OutOfMemory,
+}
+
+impl From<Stop> for Unread {
+    ghost use Rattle.std.specs.Prelude.{◌≡◌};
+    ghost use Rattle.f77_expr.specs.Reading.{unread_of};
+
+    ghost from_gives = { λ stop unread. unread ≡ unread_of stop };
+
+    fn from(stop: Stop) -> Unread {
+        match stop {
+            Stop::Syntax => Unread::NoExpression,
+            Stop::Memory => Unread::OutOfMemory,
+        }
+    }
+}
+
+impl From<Memory> for Unread {
+    ghost use Rattle.std.specs.Prelude.{◌≡◌};
+    ghost use Rattle.f77_expr.specs.declared.expressions.Unread.TheVariants as Unread;
+
+    ghost from_gives = { λ _ unread. unread ≡ Unread.OutOfMemory };
+
+    fn from(_: Memory) -> Unread {
+        Unread::OutOfMemory
+    }
+}
+
+/// Whether a literal is above 2^127-1.
+pub fn has_wide(tokens: &[Token]) -> bool
+    ensures { result ≡ list_any is_wide (words_of tokens.now) }
+{
+    for token in tokens {
+        if token.is_wide() {
+            return true;
+        }
+    }
+    false
+}
+
+/// All words as one expression.
+pub fn whole(alloc: Global, tokens: &[Token]) -> Result<Operand, Stop>
+    ensures found { IfOk result (reading.Is (words_of tokens.now)) }
+    ensures only { (p : Phrase) → IsExpression p → words_of tokens.now ≡ written p → GivesWhole result p }
+{
+    match read(alloc, tokens) {
+        Ok((operand, rest)) => {
+            if rest.is_empty() {
+                Ok(operand)
+            } else {
+                Err(Stop::Syntax)
+            }
+        }
+        Err(stop) => Err(stop),
+    }
+}
+
+// The characters as one expression.
+fn read_chars(alloc: Global, chars: &[u8]) -> Result<Expr, Unread>
+    ensures read { IfOk result (λ e. ReadsAs chars.now (expression_of e)) }
+    ensures only { (p : Phrase) → Spells chars.now p → Answers result p }
+    ensures wide { IsErrOf result Unread.WideLiteral → IsSpelled chars.now }
+    ensures deep { IsErrOf result Unread.Deep → IsSpelled chars.now }
+{
+    let symbols = squeeze(alloc, chars)?;
+    let tokens = words(alloc, symbols.as_slice())?;
+    let operand = whole(alloc, tokens.as_slice())?;
+    if has_wide(tokens.as_slice()) {
+        return Err(Unread::WideLiteral);
+    }
+    if operand.depth > 400 {
+        return Err(Unread::Deep);
+    }
+    Ok(operand.tree)
+}
+
+/// Reads the characters of a statement, or of a part of it, as one expression (ANSI X3.9-1978, section 6).
+///
+/// A name with a list is an element, since a call looks alike.
+#[tactic(auto, using(crate::proofs::ReadingLaws::printing))]
+pub fn expression(alloc: Global, chars: &[u8]) -> Result<Expr, Unread>
+    // What is read is so written.
+    ensures read { IfOk result (λ e. ReadsAs chars.now (expression_of e)) }
+    ensures source { IfOk result (λ e. IsSource (expression_of e)) }
+    ensures wide { IsErrOf result Unread.WideLiteral → IsSpelled chars.now }
+    ensures deep { IsErrOf result Unread.Deep → IsSpelled chars.now }
+
+    // What is so written is read, in one way alone, or is refused by the first cause that holds.
+    ensures only { (p : Phrase) → Spells chars.now p → Answers result p }
+
+    // A tree's own text is read as that tree, unless it is too deep.
+    ensures printed { (e : Expression) → IsSource e → chars.now ≡ printed e → ReadsBack result e }
+{
+    read_chars(alloc, chars)
+}
+
+#[cfg(test)]
+mod tests {
+    use super::*;
+    use fv_tree::Op;
+    use std::alloc::AllocError;
+    use std::test::Fail;
+
+    fn cause(alloc: Global, text: &[u8]) -> Option<Unread> {
+        match expression(alloc, text) {
+            Ok(_) => None,
+            Err(unread) => Some(unread),
+        }
+    }
+
+    #[test]
+    fn refuses_by_the_first_cause(rt: HostRuntime) {
+        for (text, want) in [
+            ("1", None),
+            ("I .EQ. -J", None),
+            ("-(-1)", None),
+            ("i . e q . j", None),
+            ("F(1,2,3,4,5,6,7,8)", None),
+            ("170141183460469231731687303715884105727", None),
+            (
+                "170141183460469231731687303715884105728",
+                Some(Unread::WideLiteral),
+            ),
+            (
+                "170141183460469231731687303715884105728 +",
+                Some(Unread::NoExpression),
+            ),
+            ("2*-1", Some(Unread::NoExpression)),
+            ("2**-1", Some(Unread::NoExpression)),
+            ("- - 1", Some(Unread::NoExpression)),
+            (".NOT. .NOT. L", Some(Unread::NoExpression)),
+            ("-I .AND. L", None),
+            ("L .AND. -I .EQ. J", None),
+            (".NOT. -I .LT. J", None),
+            ("L .AND. (-I)", None),
+            ("L .AND. .NOT. M", None),
+            ("L .AND. -I", Some(Unread::NoExpression)),
+            (".NOT. -I", Some(Unread::NoExpression)),
+            ("L .OR. -I + J", Some(Unread::NoExpression)),
+            ("L .OR. -I .AND. M", Some(Unread::NoExpression)),
+            ("A(1, L .EQV. +I)", Some(Unread::NoExpression)),
+            ("I .LT. .NOT. J", Some(Unread::NoExpression)),
+            ("I .LT. J .LT. K", Some(Unread::NoExpression)),
+            ("ABCDEFG", Some(Unread::NoExpression)),
+            ("A()", Some(Unread::NoExpression)),
+            ("'A'", Some(Unread::NoExpression)),
+            ("1,2", Some(Unread::NoExpression)),
+            ("", Some(Unread::NoExpression)),
+        ] {
+            assert_eq!(rt; cause(rt.alloc(), text.as_bytes()), want, "at {text}");
+        }
+    }
+
+    fn in_parentheses(alloc: Global, count: u16) -> Result<Vec<u8>, AllocError> {
+        let mut text = Vec::new(alloc);
+        for _ in 0..count {
+            text.push(b'(')?;
+        }
+        text.push(b'1')?;
+        for _ in 0..count {
+            text.push(b')')?;
+        }
+        Ok(text)
+    }
+
+    #[test]
+    fn counts_parentheses(rt: HostRuntime) -> Result<(), Fail> {
+        for (count, want) in [
+            (400, None),
+            (401, Some(Unread::Deep)),
+            (659, Some(Unread::Deep)),
+        ] {
+            let text = in_parentheses(rt.alloc(), count)?;
+            assert_eq!(rt; cause(rt.alloc(), text.as_slice()), want, "at {count}");
+        }
+        Ok(())
+    }
+
+    fn shown(alloc: Global, text: &str) -> Result<String, AllocError> {
+        let tree = expression(alloc, text.as_bytes());
+        format!(in alloc; "{tree:?}")
+    }
+
+    #[test]
+    fn groups_as_with_parentheses(rt: HostRuntime) -> Result<(), Fail> {
+        for (text, same, other) in [
+            ("-A*B", "-(A*B)", "(-A)*B"),
+            ("A**B**C", "A**(B**C)", "(A**B)**C"),
+            ("A-B-C", "(A-B)-C", "A-(B-C)"),
+            ("-A+B", "(-A)+B", "-(A+B)"),
+            ("A/B*C", "(A/B)*C", "A/(B*C)"),
+            (".NOT.A.LT.B", ".NOT.(A.LT.B)", "(.NOT.A).LT.B"),
+            (".NOT.A.AND.B", "(.NOT.A).AND.B", ".NOT.(A.AND.B)"),
+            ("A.OR.B.AND.C", "A.OR.(B.AND.C)", "(A.OR.B).AND.C"),
+            ("A.EQV.B.NEQV.C", "(A.EQV.B).NEQV.C", "A.EQV.(B.NEQV.C)"),
+            ("+A", "A", "-A"),
+        ] {
+            let tree = shown(rt.alloc(), text)?;
+            assert_eq!(rt;
+                tree.as_str(),
+                shown(rt.alloc(), same)?.as_str(),
+                "at {text}"
+            );
+            assert_ne!(rt;
+                tree.as_str(),
+                shown(rt.alloc(), other)?.as_str(),
+                "at {text}"
+            );
+        }
+        Ok(())
+    }
+
+    #[test]
+    fn negates_a_product(rt: HostRuntime) {
+        let is_negative = match expression(rt.alloc(), b"- A * B") {
+            Ok(Expr::Un(Op::Neg, product)) => matches!(*product, Expr::Bin(Op::Mul, _, _)),
+            _ => false,
+        };
+        assert!(rt; is_negative);
+    }
+}

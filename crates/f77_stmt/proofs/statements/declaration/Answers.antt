@@ -1,0 +1,13 @@
+use Rattle.std.proofs.Common.{ap, sym, ◌∙◌, subst}
+use Rattle.fv_meaning.specs.statements.Forms.{Form, separated, written_entity}
+use Rattle.f77_expr.specs.Views.{words_of}
+use Rattle.statements77.specs.declared.statements.Stmt77.TheVariants as stmts
+use Rattle.f77_stmt.specs.Parts.{IsFormedOf}
+use Rattle.f77_stmt.proofs.StatementLaws.{declared}
+use Rattle.f77_stmt.proofs.statements.declaration.Goals as goal
+
+pub returns-clause-only : goal.returns-clause-only
+returns-clause-only c f h =
+    let w = c.in_ok-tokens.ensures.only (separated written_entity h.0) h.2 in
+    subst (λ (g : Form). IsFormedOf (record { statement = stmts.Declare c.args.kind c.in_ok-entities.entities; wide = c.has_wide.result; depth = c.in_ok-entities.depth }) g) (sym h.1)
+    (declared c.args.kind h.0 _ c.in_ok-entities.entities _ _ (c.in_ok-entities.ensures.only h.0 h.3 (ap words_of c.as_slice.ensures.value ∙ w)) (ap words_of c.as_slice-2.ensures.value ∙ w) c.has_wide.ensures)

@@ -1,0 +1,13 @@
+-- The front of a DO statement.
+use Rattle.std.specs.Prelude.{ℕ, ◌≡◌, Bool, List, ◌++◌, codes}
+use Rattle.fv_meaning.specs.expressions.Spelling.{value, chars}
+use Rattle.fv_meaning.specs.expressions.Squeezing.{Symbol}
+use Rattle.fv_meaning.specs.statements.Forms.{IsLabel, optional_comma}
+
+-- The text begins with DO, a label with this number, and maybe a comma; what follows is the rest.
+pub record IsLoopFront (text : List Symbol) (number : ℕ) (rest : List Symbol) : Type 0 where
+  pub label : List ℕ
+  pub comma : Bool
+  pub is_label : IsLabel label
+  pub number_is : value label ≡ number
+  pub same : text ≡ chars (codes "DO" ++ (label ++ optional_comma comma)) ++ rest

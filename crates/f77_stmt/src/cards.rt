@@ -1,0 +1,80 @@
+//! From a card to its statement.
+ghost use Rattle.std.specs.Prelude.{◌≡◌, ◌⊎◌, ℕ, IfOk, IsOkAnd};
+ghost use Rattle.fv_tree.specs.declared.refusals.Refusal as refusals;
+ghost use Rattle.fv_meaning.specs.Statement77.{Statement77};
+ghost use Rattle.fv_meaning.specs.statements.Reading.{ReadsStatement, IsRefusedBy};
+ghost use Rattle.statements77.specs.Views as view;
+ghost use Rattle.f77_expr.specs.Symbols.{symbols_of};
+ghost use Rattle.f77_stmt.specs.Refusing.{IsFormless, limited};
+
+use crate::formed::Formed;
+use crate::forms::form;
+use f77_expr::{Stop, Symbol, squeeze};
+use f77_recognition::word_left_out;
+use fixed_form::Card;
+use fv_tree::{Refusal, Refused};
+use statements77::Stmt77;
+use std::alloc::Global;
+
+const MOST_DEPTH: u16 = 400;
+
+// The statement, where its literals and its depth are within the limits.
+fn limited(made: Formed, line: u32) -> Result<Stmt77, Refused>
+    ensures { result ≡ limited made line }
+{
+    if made.wide {
+        return Err(Refused::Refusal(Refusal {
+            number: 8,
+            line,
+            word: 0,
+        }));
+    }
+    if made.depth > MOST_DEPTH {
+        return Err(Refused::Refusal(Refusal {
+            number: 9,
+            line,
+            word: 0,
+        }));
+    }
+    Ok(made.statement)
+}
+
+// Why a text that has no form is refused.
+fn formless(text: &[Symbol], line: u32) -> Refusal
+    ensures line { result.line ≡ line }
+    ensures found { IsFormless (symbols_of text.now) result.number result.word }
+    ensures only { (number word : ℕ) → IsFormless (symbols_of text.now) number word → (result.number ≡ number) × (result.word ≡ word) }
+{
+    match word_left_out(text) {
+        Some(word) => Refusal {
+            number: 7,
+            line,
+            word,
+        },
+        None => Refusal {
+            number: 6,
+            line,
+            word: 0,
+        },
+    }
+}
+
+/// The statement of a card. The first cause that holds refuses it: no form, of which a word that is left out of the profile is told by its number; a literal
+/// above 2^127-1; an expression or a list more than 400 deep.
+pub fn parse(alloc: Global, card: &Card) -> Result<Stmt77, Refused>
+    ensures read { IfOk result (λ s. ReadsStatement card.now.chars (view.statement_of s)) }
+    ensures refused { (r : refusals.Refusal) → result ≡ Err (Refused.Refusal r) → (r.line ≡ card.now.line) × IsRefusedBy card.now.chars r.number r.word }
+
+    // A card that is read, or refused, has no other answer, unless memory runs out.
+    ensures only_read { (s : Statement77) → ReadsStatement card.now.chars s
+        → IsOkAnd result (λ read. view.statement_of read ≡ s) ⊎ (result ≡ Err Refused.Memory) }
+    ensures only_refused { (number word : ℕ) → IsRefusedBy card.now.chars number word
+        → (result ≡ Err (Refused.Refusal (record { number = number; line = card.now.line; word = word }))) ⊎ (result ≡ Err Refused.Memory) }
+{
+    let symbols = squeeze(alloc, card.chars.as_slice())?;
+    match form(alloc, symbols.as_slice()) {
+        Ok(made) => limited(made, card.line),
+        Err(Stop::Syntax) => Err(Refused::Refusal(formless(symbols.as_slice(), card.line))),
+        Err(Stop::Memory) => Err(Refused::Memory),
+    }
+}

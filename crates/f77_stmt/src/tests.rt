@@ -1,0 +1,129 @@
+//! What no clause says: with ample memory cards are read or refused as the rules have it.
+use crate::parse;
+use fixed_form::Card;
+use fv_tree::{Refused, Seq};
+use statements77::Stmt77;
+use std::alloc::{AllocError, Global};
+use std::test::Fail;
+
+fn card(alloc: Global, text: &str) -> Result<Card, AllocError> {
+    Ok(Card {
+        label: None,
+        line: 7,
+        chars: Seq::from_vec(Vec::from_slice(alloc, text.as_bytes())?),
+    })
+}
+
+// The number and the word of a refusal; 0 and 0 for a statement.
+fn refusal(alloc: Global, text: &str) -> Result<(u8, u8), Fail> {
+    match parse(alloc, &card(alloc, text)?) {
+        Ok(_) => Ok((0, 0)),
+        Err(Refused::Refusal(refusal)) => Ok((refusal.number, refusal.word)),
+        Err(Refused::Memory) => Err(Fail::from("memory")),
+    }
+}
+
+#[test]
+fn left_out_by_their_words(rt: HostRuntime) -> Result<(), Fail> {
+    for (text, word) in [
+        ("REAL X", 1),
+        ("DOUBLE PRECISION X", 2),
+        ("COMPLEX X", 3),
+        ("CHARACTER*8 C", 4),
+        ("EQUIVALENCE (I, J)", 5),
+        ("COMMON I", 6),
+        ("DATA I /1/", 7),
+        ("SAVE", 8),
+        ("IMPLICIT INTEGER (A-Z)", 9),
+        ("ENTRY E", 10),
+        ("BLOCK DATA", 11),
+        ("FORMAT (I5)", 12),
+        ("FUNCTION F(X)", 13),
+        ("INTEGER FUNCTION F(X)", 14),
+        ("LOGICAL FUNCTION F(X)", 15),
+        ("SUBROUTINE S", 16),
+        ("IF (L) CALL S", 17),
+        ("RETURN", 18),
+        ("ASSIGN 10 TO I", 19),
+        ("PAUSE", 20),
+        ("EXTERNAL F", 21),
+        ("INTRINSIC F", 22),
+        ("OPEN (1)", 23),
+        ("CLOSE (1)", 24),
+        ("INQUIRE (1)", 25),
+        ("REWIND 1", 26),
+        ("BACKSPACE 1", 27),
+        ("END FILE 1", 28),
+        ("INCLUDE 'A'", 29),
+        ("DO WHILE (L)", 30),
+        ("END DO", 31),
+        ("IF (I) 10, 20, 30", 32),
+        ("GO TO (10, 20), I", 33),
+        ("GO TO I, (10, 20)", 34),
+    ] {
+        assert_eq!(rt; refusal(rt.alloc(), text)?, (7, word), "at {text}");
+    }
+    Ok(())
+}
+
+#[test]
+fn read_or_refused(rt: HostRuntime) -> Result<(), Fail> {
+    for (text, number) in [
+        ("DO10I=1", 0),
+        ("DO 10 I = 1, 3", 0),
+        ("DO 10, I = 1, 3, -1", 0),
+        ("IF(1)=2", 0),
+        ("IF (L) THEN = 3", 0),
+        ("REAL X = 4", 0),
+        ("READ(*,*)I", 0),
+        ("READ *, (A(I), I = 1, 3)", 0),
+        ("PRINT *, 'IT''S, (1', ('A', I = 1, 2)", 0),
+        ("INTEGER A(1,2,3,4,5,6,7)", 0),
+        ("INTEGER A(1,2,3,4,5,6,7,8)", 6),
+        ("INTEGER A()", 6),
+        ("DIMENSION A", 6),
+        ("PRINT *,", 6),
+        ("READ (*,*), I", 6),
+        ("READ *, (I)", 6),
+        ("READ *, I + 1", 6),
+        ("PRINT *, 'A' 'B'", 6),
+        ("PRINT *, ''", 6),
+        ("CHARACTER*8 C = 'X'", 6),
+        ("DO 123456 I = 1, 2", 6),
+        ("GO TO (10),", 6),
+        ("IF (L) IF (M) I = 1", 6),
+        ("STOP 1", 6),
+        ("I = 170141183460469231731687303715884105727", 0),
+        ("I = 170141183460469231731687303715884105728", 8),
+    ] {
+        assert_eq!(rt; refusal(rt.alloc(), text)?.0, number, "at {text}");
+    }
+    Ok(())
+}
+
+#[test]
+fn depth_of_parentheses(rt: HostRuntime) -> Result<(), Fail> {
+    for (count, number) in [(400, 0), (401, 9)] {
+        let mut text = String::new(rt.alloc());
+        text.push_str("I=")?;
+        for _ in 0..count {
+            text.push('(')?;
+        }
+        text.push('1')?;
+        for _ in 0..count {
+            text.push(')')?;
+        }
+        assert_eq!(rt; refusal(rt.alloc(), text.as_str())?.0, number, "at {count}");
+    }
+    Ok(())
+}
+
+#[test]
+fn an_assignment_and_a_loop(rt: HostRuntime) -> Result<(), Fail> {
+    let alloc = rt.alloc();
+    let assigned = parse(alloc, &card(alloc, "DO10I=1")?);
+    let looped = parse(alloc, &card(alloc, "DO 10 I = 1, 3")?);
+    assert!(rt; matches!(&assigned, Ok(Stmt77::Assign(_, _))));
+    assert!(rt; matches!(&looped, Ok(Stmt77::Do(10, _, _, _, _))));
+    Ok(())
+}
