@@ -1,0 +1,6 @@
+pub mod Complete
+pub mod ListLaws
+pub mod Neutral
+pub mod Paths
+pub mod Sound
+pub mod Stacks
