@@ -1,0 +1,13 @@
+pub mod Cutting
+pub mod FormLaws
+pub mod FrontLaws
+pub mod LabelLists
+pub mod ListedLaws
+pub mod Marks
+pub mod Neutral
+pub mod PlainFronts
+pub mod Recognised
+pub mod Scanning
+pub mod Searching
+pub mod Stripping
+pub mod WordLaws
