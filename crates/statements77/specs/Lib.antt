@@ -1,0 +1,3 @@
+pub mod First
+pub mod Views
+pub mod Walk
