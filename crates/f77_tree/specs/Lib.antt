@@ -1,9 +1,2 @@
-pub mod LabelPlaces
-pub mod Labels
-pub mod First
-pub mod Forms
-pub mod NameFacts
-pub mod Openings
-pub mod UsesView
-pub mod Views
-pub mod Walk
+pub mod Resolved
+pub mod Rests

@@ -1,0 +1,7 @@
+pub mod ByForm
+pub mod Closers
+pub mod LabelLaws
+pub mod LeftOpen
+pub mod OpenIfs
+pub mod OpenLoops
+pub mod Sooner

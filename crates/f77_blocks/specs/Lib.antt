@@ -1,0 +1,4 @@
+pub mod Forms
+pub mod LabelPlaces
+pub mod Labels
+pub mod Openings

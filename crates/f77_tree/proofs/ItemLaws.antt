@@ -1,0 +1,81 @@
+-- What each kind of item is resolved to.
+use Rattle.std.proofs.Common.{◌≡◌, ◌∙◌, ap, sym, refl, ℕ, ℤ, Bool, List, [], ◌∷◌, map}
+use Rattle.std.specs.declared.boxed.Box.{Box}
+use Rattle.std.specs.declared.alloc.Global.{Global}
+use Rattle.fv_tree.specs.Plain.{items, item, Single, Constant, ImpliedDo, Named}
+use Rattle.fv_tree.specs.View.{expression_of, reference_of, item_of}
+use Rattle.fv_tree.specs.declared.ops.Op.{Op}
+use Rattle.fv_tree.specs.declared.ops.Fun.{Fun}
+use Rattle.fv_tree.specs.declared.lists.Seq.{Seq}
+use Rattle.fv_tree.specs.declared.exprs.Expr.{Expr}
+use Rattle.fv_tree.specs.declared.exprs.Expr.TheVariants as exprs
+use Rattle.fv_tree.specs.declared.exprs.Ref.{Ref}
+use Rattle.fv_tree.specs.declared.stmts.Item.{Item}
+use Rattle.fv_tree.specs.declared.stmts.Item.TheVariants as variants
+use Rattle.fv_tree.proofs.Equations.{expression_of-int, expression_of-truth, expression_of-item, expression_of-un, expression_of-bin, expression_of-call, item_of-one, item_of-text, item_of-turns}
+use Rattle.fv_meaning.specs.Store.{Store}
+use Rattle.fv_meaning.specs.program.Uses.{Use}
+use Rattle.fv_meaning.specs.program.Tree as tree
+
+-- ---- what is read into
+
+pub read-item : (us : List Use) (s : Store) (r : Ref)
+    → tree.resolved_input us s (expression_of (exprs.Item r)) ≡ Named (tree.resolved_reference us s (reference_of r)).name (tree.resolved_reference us s (reference_of r)).subscripts
+read-item us s r = ap (tree.resolved_input us s) (expression_of-item r)
+
+pub read-int : (us : List Use) (s : Store) (n : ℤ) → tree.resolved_input us s (expression_of (exprs.Int n)) ≡ tree.resolved us s (expression_of (exprs.Int n))
+read-int us s n = ap (tree.resolved_input us s) (expression_of-int n) ∙ sym (ap (tree.resolved us s) (expression_of-int n))
+
+pub read-truth : (us : List Use) (s : Store) (b : Bool) → tree.resolved_input us s (expression_of (exprs.Truth b)) ≡ tree.resolved us s (expression_of (exprs.Truth b))
+read-truth us s b = ap (tree.resolved_input us s) (expression_of-truth b) ∙ sym (ap (tree.resolved us s) (expression_of-truth b))
+
+pub read-un : (us : List Use) (s : Store) (o : Op) (a : Box Expr Global) → tree.resolved_input us s (expression_of (exprs.Un o a)) ≡ tree.resolved us s (expression_of (exprs.Un o a))
+read-un us s o a = ap (tree.resolved_input us s) (expression_of-un o a) ∙ sym (ap (tree.resolved us s) (expression_of-un o a))
+
+pub read-bin : (us : List Use) (s : Store) (o : Op) (a b : Box Expr Global) → tree.resolved_input us s (expression_of (exprs.Bin o a b)) ≡ tree.resolved us s (expression_of (exprs.Bin o a b))
+read-bin us s o a b = ap (tree.resolved_input us s) (expression_of-bin o a b) ∙ sym (ap (tree.resolved us s) (expression_of-bin o a b))
+
+pub read-call : (us : List Use) (s : Store) (f : Fun) (es : Seq Expr) → tree.resolved_input us s (expression_of (exprs.Call f es)) ≡ tree.resolved us s (expression_of (exprs.Call f es))
+read-call us s f es = ap (tree.resolved_input us s) (expression_of-call f es) ∙ sym (ap (tree.resolved us s) (expression_of-call f es))
+
+pub ruleset read_laws = (expression_of-item, read-item, read-int, read-truth, read-un, read-bin, read-call)
+
+-- ---- lists
+
+pub outputs_resolved : (us : List Use) (s : Store) (is : List Item)
+    → tree.resolved_outputs us s (items (map item_of is)) ≡ items (map (λ i. tree.resolved_output_item us s (item_of i)) is)
+outputs_resolved us s [] = refl
+outputs_resolved us s (i ∷ is) = ap (λ rest. item (tree.resolved_output_item us s (item_of i)) rest) (outputs_resolved us s is)
+
+pub inputs_resolved : (us : List Use) (s : Store) (is : List Item)
+    → tree.resolved_inputs us s (items (map item_of is)) ≡ items (map (λ i. tree.resolved_input_item us s (item_of i)) is)
+inputs_resolved us s [] = refl
+inputs_resolved us s (i ∷ is) = ap (λ rest. item (tree.resolved_input_item us s (item_of i)) rest) (inputs_resolved us s is)
+
+-- ---- items
+
+pub output-one : (us : List Use) (s : Store) (e : Expr) → tree.resolved_output_item us s (item_of (variants.One e)) ≡ Single (tree.resolved us s (expression_of e))
+output-one us s e = ap (tree.resolved_output_item us s) (item_of-one e)
+
+pub output-text : (us : List Use) (s : Store) (t : Seq ℕ) → tree.resolved_output_item us s (item_of (variants.Text t)) ≡ Constant t
+output-text us s t = ap (tree.resolved_output_item us s) (item_of-text t)
+
+pub output-turns : (us : List Use) (s : Store) (is : Seq Item) (x : List ℕ) (a b c : Expr) → tree.resolved_output_item us s (item_of (variants.Turns is x a b c))
+    ≡ ImpliedDo (items (map (λ i. tree.resolved_output_item us s (item_of i)) is)) x (tree.resolved us s (expression_of a)) (tree.resolved us s (expression_of b)) (tree.resolved us s (expression_of c))
+output-turns us s is x a b c =
+    ap (tree.resolved_output_item us s) (item_of-turns is x a b c)
+    ∙ ap (λ list. ImpliedDo list x (tree.resolved us s (expression_of a)) (tree.resolved us s (expression_of b)) (tree.resolved us s (expression_of c))) (outputs_resolved us s is)
+
+pub input-one : (us : List Use) (s : Store) (e : Expr) → tree.resolved_input_item us s (item_of (variants.One e)) ≡ Single (tree.resolved_input us s (expression_of e))
+input-one us s e = ap (tree.resolved_input_item us s) (item_of-one e)
+
+pub input-text : (us : List Use) (s : Store) (t : Seq ℕ) → tree.resolved_input_item us s (item_of (variants.Text t)) ≡ Constant t
+input-text us s t = ap (tree.resolved_input_item us s) (item_of-text t)
+
+pub input-turns : (us : List Use) (s : Store) (is : Seq Item) (x : List ℕ) (a b c : Expr) → tree.resolved_input_item us s (item_of (variants.Turns is x a b c))
+    ≡ ImpliedDo (items (map (λ i. tree.resolved_input_item us s (item_of i)) is)) x (tree.resolved us s (expression_of a)) (tree.resolved us s (expression_of b)) (tree.resolved us s (expression_of c))
+input-turns us s is x a b c =
+    ap (tree.resolved_input_item us s) (item_of-turns is x a b c)
+    ∙ ap (λ list. ImpliedDo list x (tree.resolved us s (expression_of a)) (tree.resolved us s (expression_of b)) (tree.resolved us s (expression_of c))) (inputs_resolved us s is)
+
+pub ruleset item_laws = (item_of-one, item_of-text, item_of-turns, output-one, output-text, output-turns, input-one, input-text, input-turns)

@@ -1,0 +1,15 @@
+use Rattle.std.proofs.Common.{[], ◌∷◌, ◌++◌, ap, ◌∙◌}
+use Rattle.fv_tree.specs.Plain as plain
+use Rattle.fv_tree.specs.View.{expression_of, block_of}
+use Rattle.fv_tree.specs.declared.stmts.Arm.{roll-Arm}
+use Rattle.fv_meaning.specs.program.Tree as tree
+use Rattle.f77_constants.specs.Constants.{store_of}
+use Rattle.f77_names.specs.UsesView.{listed}
+use Rattle.f77_tree.proofs.SimpleLaws.{branch-is}
+use Rattle.f77_tree.proofs.resolver.Resolver.branch.Goals as goal
+
+pub returns : goal.returns
+returns c =
+    branch-is c.args.line c.push.new.self c.in_ok-test.test c.in_ok-body.body c.new.result (c.in_ok-push.ensures.ok ∙ ap (λ ts. ts ++ roll-Arm (record { test = c.in_ok-test.test; body = c.in_ok-body.body }) ∷ []) c.new-arms.ensures) c.new.ensures
+    ∙ ap (λ e. plain.If c.args.line (plain.arm e (block_of c.in_ok-body.body) plain.no_arms) plain.no_statements) c.in_ok-test.ensures
+    ∙ ap (λ b. plain.If c.args.line (plain.arm (tree.resolved (listed c.args.self.now.uses) (store_of c.args.self.now.constants) (expression_of c.args.condition.now)) b plain.no_arms) plain.no_statements) c.in_ok-body.ensures

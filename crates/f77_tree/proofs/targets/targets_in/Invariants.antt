@@ -1,0 +1,7 @@
+use Rattle.std.proofs.Common.{◌≡◌, ◌++◌, drop}
+use Rattle.fv_meaning.specs.program.Tree as tree
+use Rattle.statements77.specs.Views.{text_of}
+use Rattle.f77_tree.proofs.targets.targets_in.Given as goal
+
+abbrev pub invariant-loop-statement : goal.invariant-loop-statement
+invariant-loop-statement l = tree.targets (text_of l.text) ≡ l.list.items ++ tree.targets (drop l.statement-index (text_of l.text))

@@ -1,0 +1,40 @@
+-- Pieces of blocks, as the plain ones.
+use Rattle.std.specs.Prelude.{ℕ, List, [], ◌∷◌, ◌++◌, map, reverse}
+use Rattle.std.specs.List.{flat_map}
+use Rattle.fv_tree.specs.Plain as plain
+use Rattle.fv_tree.specs.View.{expression_of, statement_of, tested_of, block_of, arms}
+use Rattle.fv_meaning.specs.Statement77.{Labelled}
+use Rattle.fv_meaning.specs.Store.{Store}
+use Rattle.fv_meaning.specs.program.Uses.{Use}
+use Rattle.fv_meaning.specs.program.Tree as tree
+use Rattle.f77_tree.specs.declared.rests.Piece.{Piece}
+use Rattle.f77_tree.specs.declared.rests.OpenIf.{OpenIf}
+use Rattle.f77_tree.specs.declared.rests.Rest.{Rest}
+use Rattle.f77_tree.specs.declared.rests.Heading.{Heading}
+
+abbrev pub piece_of : Piece → tree.Piece
+piece_of p = record { ends = p.ends; made = map statement_of p.made.items }
+
+-- pieces of which the last one stands first
+abbrev pub pieces_in : List Piece → List tree.Piece
+pieces_in ps = reverse (map piece_of ps)
+
+-- what pieces have become
+abbrev pub made_by : List tree.Piece → List plain.Statement
+made_by ps = flat_map (λ (p : tree.Piece). p.made) ps
+
+-- the pieces of a block, and the block IFs round it, the innermost first
+abbrev pub rest_with : List tree.Piece → List OpenIf → tree.Rest
+rest_with ps [] = tree.Outermost ps
+rest_with ps (f ∷ fs) = tree.InArm ps (arms (reverse (map tested_of f.later.items))) (block_of f.other) (rest_with (pieces_in f.after.items) fs)
+
+abbrev pub rest_of : Rest → tree.Rest
+rest_of r = rest_with (pieces_in r.pieces.items) (reverse r.ifs.items)
+
+-- the loop of a block
+abbrev pub heading_of : Heading → plain.Block → plain.Statement
+heading_of h body = plain.Do h.line h.var (expression_of h.first) (expression_of h.last) (expression_of h.step) body
+
+-- what a statement that opens and closes nothing becomes
+abbrev pub ordinary : List Use → Store → List ℕ → Labelled → tree.Piece
+ordinary us s named x = record { ends = x.label; made = tree.mark_of named x.label ++ tree.simple us s x.line x.statement }

@@ -1,0 +1,124 @@
+//! The statements of a program, from the last one back.
+ghost use Rattle.std.specs.Prelude.{◌≡◌, ◌++◌, map, IfOk, OnOk};
+ghost use Rattle.fv_tree.specs.View.{expression_of, statement_of as tree_statement_of};
+ghost use Rattle.fv_tree.specs.Plain as plain;
+ghost use Rattle.fv_meaning.specs.program.Tree as tree;
+ghost use Rattle.f77_constants.specs.Constants.{store_of};
+ghost use Rattle.f77_names.specs.UsesView.{listed};
+ghost use Rattle.f77_tree.specs.Resolved.{made};
+ghost use Rattle.f77_tree.specs.Rests.{piece_of, rest_of, heading_of, ordinary};
+ghost use Rattle.statements77.specs.Views.{labelled_of, statement_of, text_of};
+
+use crate::resolver::Resolver;
+use crate::rests::{Heading, Piece, Rest};
+use crate::targets::Targets;
+use fv_tree::{Expr, Memory, Name, Stmt};
+use statements77::{Labelled, Stmt77};
+use std::alloc::Global;
+
+fn add(list: &mut Vec<Stmt>, statement: Option<Stmt>) -> Result<(), Memory>
+    ensures { OnOk result (map tree_statement_of list.new.items ≡ map tree_statement_of list.old.items ++ made statement) }
+{
+    if let Some(statement) = statement {
+        list.push(statement)?;
+    }
+    Ok(())
+}
+
+impl Resolver {
+    fn heading(
+        &self,
+        alloc: Global,
+        line: u32,
+        var: Name,
+        first: &Expr,
+        last: &Expr,
+        step: &Expr,
+    ) -> Result<Heading, Memory>
+        ensures { IfOk result (λ heading. heading_of heading ≡ plain.Do line var (tree.resolved (listed self.now.uses) (store_of self.now.constants) (expression_of first.now)) (tree.resolved (listed self.now.uses) (store_of self.now.constants) (expression_of last.now)) (tree.resolved (listed self.now.uses) (store_of self.now.constants) (expression_of step.now))) }
+    {
+        Ok(Heading {
+            line,
+            var,
+            first: self.resolve(alloc, first)?,
+            last: self.resolve(alloc, last)?,
+            step: self.resolve(alloc, step)?,
+        })
+    }
+
+    // What a statement that opens and closes nothing has become.
+    fn piece(&self, alloc: Global, targets: &Targets, statement: &Labelled) -> Result<Piece, Memory>
+        ensures { IfOk result (λ piece. piece_of piece ≡ ordinary (listed self.now.uses) (store_of self.now.constants) targets.now.list.items (labelled_of statement.now)) }
+    {
+        let mut made = targets.mark(alloc, statement.label)?;
+        let simple = self.simple(alloc, statement.line, &statement.statement)?;
+        add(&mut made, simple)?;
+        Ok(Piece {
+            ends: statement.label,
+            made,
+        })
+    }
+}
+
+impl Rest {
+    // With a statement before all that.
+    #[tactic(auto, using(crate::proofs::BegunLaws::begun_laws))]
+    fn begin(
+        self,
+        alloc: Global,
+        resolver: &Resolver,
+        targets: &Targets,
+        statement: &Labelled,
+    ) -> Result<Rest, Memory>
+        ensures { IfOk result (λ rest. rest_of rest ≡ tree.begun (listed resolver.now.uses) (store_of resolver.now.constants) targets.now.list.items (labelled_of statement.now) (statement_of statement.now.statement) (rest_of self)) }
+    {
+        match &statement.statement {
+            Stmt77::EndIf => self.end_arm(alloc),
+            Stmt77::Else => self.begin_else(alloc),
+            Stmt77::ElseIf(condition) => {
+                let test = resolver.resolve(alloc, condition)?;
+                self.begin_arm(alloc, test)
+            }
+            Stmt77::If(condition) => {
+                let mark = targets.mark(alloc, statement.label)?;
+                let test = resolver.resolve(alloc, condition)?;
+                self.begin_if(alloc, statement.line, mark, test)
+            }
+            Stmt77::Do(label, var, first, last, step) => {
+                let mark = targets.mark(alloc, statement.label)?;
+                let heading = resolver.heading(alloc, statement.line, *var, first, last, step)?;
+                self.begin_loop(alloc, *label, mark, heading)
+            }
+            Stmt77::Program(_) => self.precede(resolver.piece(alloc, targets, statement)?),
+            Stmt77::Declare(..) => self.precede(resolver.piece(alloc, targets, statement)?),
+            Stmt77::Dimension(_) => self.precede(resolver.piece(alloc, targets, statement)?),
+            Stmt77::Constants(_) => self.precede(resolver.piece(alloc, targets, statement)?),
+            Stmt77::Assign(..) => self.precede(resolver.piece(alloc, targets, statement)?),
+            Stmt77::Go(_) => self.precede(resolver.piece(alloc, targets, statement)?),
+            Stmt77::Test(..) => self.precede(resolver.piece(alloc, targets, statement)?),
+            Stmt77::Continue => self.precede(resolver.piece(alloc, targets, statement)?),
+            Stmt77::Stop => self.precede(resolver.piece(alloc, targets, statement)?),
+            Stmt77::Read(_) => self.precede(resolver.piece(alloc, targets, statement)?),
+            Stmt77::Print(_) => self.precede(resolver.piece(alloc, targets, statement)?),
+            Stmt77::End => self.precede(resolver.piece(alloc, targets, statement)?),
+        }
+    }
+}
+
+/// What all statements of a program have become.
+pub fn rest_of_text(
+    alloc: Global,
+    resolver: &Resolver,
+    targets: &Targets,
+    text: &[Labelled],
+) -> Result<Rest, Memory>
+    ensures { IfOk result (λ rest. rest_of rest ≡ tree.rest_from (listed resolver.now.uses) (store_of resolver.now.constants) targets.now.list.items (text_of text.now)) }
+{
+    let mut rest = Rest::new(alloc);
+    let mut i = text.len();
+    while i > 0 {
+        i -= 1;
+        rest = rest.begin(alloc, resolver, targets, &text[i])?;
+    }
+    Ok(rest)
+}

@@ -1,0 +1,93 @@
+//! Input and output lists in which each name stands for what it is.
+ghost use Rattle.std.specs.Prelude.{◌≡◌, map, IfOk};
+ghost use Rattle.fv_tree.specs.View.{expression_of, item_of};
+ghost use Rattle.fv_meaning.specs.program.Tree as tree;
+ghost use Rattle.f77_constants.specs.Constants.{store_of};
+ghost use Rattle.f77_names.specs.UsesView.{listed};
+
+use crate::resolver::Resolver;
+use fv_tree::{Expr, Item, Memory, Seq};
+use std::alloc::Global;
+
+fn copy_text(alloc: Global, text: &Seq<u8>) -> Result<Seq<u8>, Memory>
+    ensures { IfOk result (λ copy. copy ≡ text.now) }
+{
+    Ok(Seq::from_vec(Vec::from_slice(alloc, text.as_slice())?))
+}
+
+impl Resolver {
+    #[cycle(outputs)]
+    #[tactic(auto, using(crate::proofs::ItemLaws::item_laws))]
+    fn resolve_output(&self, alloc: Global, item: &Item) -> Result<Item, Memory>
+        ensures { IfOk result (λ resolved. item_of resolved ≡ tree.resolved_output_item (listed self.now.uses) (store_of self.now.constants) (item_of item.now)) }
+    {
+        match item {
+            Item::One(expr) => Ok(Item::One(self.resolve(alloc, expr)?)),
+            Item::Text(text) => Ok(Item::Text(copy_text(alloc, text)?)),
+            Item::Turns(list, variable, first, last, step) => Ok(Item::Turns(
+                self.resolve_outputs(alloc, list)?,
+                *variable,
+                self.resolve(alloc, first)?,
+                self.resolve(alloc, last)?,
+                self.resolve(alloc, step)?,
+            )),
+        }
+    }
+
+    /// The items of an output list.
+    #[cycle(outputs)]
+    pub fn resolve_outputs(&self, alloc: Global, list: &Seq<Item>) -> Result<Seq<Item>, Memory>
+        ensures { IfOk result (λ resolved. map item_of resolved ≡ map (λ i. tree.resolved_output_item (listed self.now.uses) (store_of self.now.constants) (item_of i)) list.now) }
+    {
+        let mut resolved = Seq::new(alloc);
+        for item in list.as_slice() {
+            resolved.push(self.resolve_output(alloc, item)?)?;
+        }
+        Ok(resolved)
+    }
+
+    // What is read into keeps its name.
+    #[tactic(auto, using(crate::proofs::ItemLaws::read_laws))]
+    fn resolve_read(&self, alloc: Global, expr: &Expr) -> Result<Expr, Memory>
+        ensures { IfOk result (λ resolved. expression_of resolved ≡ tree.resolved_input (listed self.now.uses) (store_of self.now.constants) (expression_of expr.now)) }
+    {
+        match expr {
+            Expr::Item(item) => Ok(Expr::Item(self.resolve_reference(alloc, item)?)),
+            Expr::Int(_) => self.resolve(alloc, expr),
+            Expr::Truth(_) => self.resolve(alloc, expr),
+            Expr::Un(..) => self.resolve(alloc, expr),
+            Expr::Bin(..) => self.resolve(alloc, expr),
+            Expr::Call(..) => self.resolve(alloc, expr),
+        }
+    }
+
+    #[cycle(inputs)]
+    #[tactic(auto, using(crate::proofs::ItemLaws::item_laws))]
+    fn resolve_input(&self, alloc: Global, item: &Item) -> Result<Item, Memory>
+        ensures { IfOk result (λ resolved. item_of resolved ≡ tree.resolved_input_item (listed self.now.uses) (store_of self.now.constants) (item_of item.now)) }
+    {
+        match item {
+            Item::One(expr) => Ok(Item::One(self.resolve_read(alloc, expr)?)),
+            Item::Text(text) => Ok(Item::Text(copy_text(alloc, text)?)),
+            Item::Turns(list, variable, first, last, step) => Ok(Item::Turns(
+                self.resolve_inputs(alloc, list)?,
+                *variable,
+                self.resolve(alloc, first)?,
+                self.resolve(alloc, last)?,
+                self.resolve(alloc, step)?,
+            )),
+        }
+    }
+
+    /// The items of an input list.
+    #[cycle(inputs)]
+    pub fn resolve_inputs(&self, alloc: Global, list: &Seq<Item>) -> Result<Seq<Item>, Memory>
+        ensures { IfOk result (λ resolved. map item_of resolved ≡ map (λ i. tree.resolved_input_item (listed self.now.uses) (store_of self.now.constants) (item_of i)) list.now) }
+    {
+        let mut resolved = Seq::new(alloc);
+        for item in list.as_slice() {
+            resolved.push(self.resolve_input(alloc, item)?)?;
+        }
+        Ok(resolved)
+    }
+}

@@ -1,0 +1,53 @@
+//! The tree of a whole program.
+ghost use Rattle.std.specs.Prelude.{◌≡◌, None, map, IfOk};
+ghost use Rattle.fv_tree.specs.View.{program_of};
+ghost use Rattle.fv_meaning.specs.program.Limits.{constants_of, has_bad_constant};
+ghost use Rattle.fv_meaning.specs.program.Tree.{tree_of, first_of_names};
+ghost use Rattle.fv_meaning.specs.program.Uses.{is_title, names_that};
+ghost use Rattle.f77_names.specs.UsesView.{plain_use};
+ghost use Rattle.statements77.specs.First.{first_index};
+ghost use Rattle.statements77.specs.Views.{text_of};
+
+use crate::begin::rest_of_text;
+use crate::resolver::Resolver;
+use crate::targets::Targets;
+use f77_constants::declarations_of;
+use f77_names::{Role, Use};
+use fv_tree::{Memory, Name, Program77};
+use statements77::Labelled;
+use std::alloc::Global;
+
+fn is_title(used: &Use) -> bool
+    ensures { result ≡ is_title (plain_use used.now).role }
+{
+    match used.role {
+        Role::Title => true,
+        Role::Typed(_) | Role::Bounded(_) | Role::Defined => false,
+        Role::Valued(_) | Role::Target(_) | Role::Counter => false,
+    }
+}
+
+// The program's name.
+fn title(uses: &[Use]) -> Option<Name>
+    ensures { result ≡ first_of_names (names_that is_title (map plain_use uses.now)) }
+{
+    for used in uses {
+        if is_title(used) {
+            return Some(used.name);
+        }
+    }
+    None
+}
+
+/// The tree that the statements form of a program in which no symbolic constant and no bound faults or leaves the range of INTEGER.
+pub fn tree(alloc: Global, text: &[Labelled]) -> Result<Program77, Memory>
+    ensures { first_index (has_bad_constant (constants_of (text_of text.now))) (text_of text.now) ≡ None → IfOk result (λ program. program_of program ≡ tree_of (text_of text.now)) }
+{
+    let resolver = Resolver::of_text(alloc, text)?;
+    let targets = Targets::of_text(alloc, text)?;
+    let rest = rest_of_text(alloc, &resolver, &targets, text)?;
+    let body = rest.finish(alloc)?;
+    let decls = declarations_of(alloc, text, &resolver.constants)?;
+    let name = title(resolver.uses.as_slice());
+    Ok(Program77 { name, decls, body })
+}

@@ -1,0 +1,106 @@
+//! Statements that open and close nothing.
+ghost use Rattle.std.specs.Prelude.{◌≡◌, None, IfOk};
+ghost use Rattle.fv_tree.specs.View.{expression_of, reference_of, statement_of as tree_statement_of, block_of};
+ghost use Rattle.fv_tree.specs.Plain as plain;
+ghost use Rattle.fv_meaning.specs.program.Tree as tree;
+ghost use Rattle.f77_constants.specs.Constants.{store_of};
+ghost use Rattle.f77_names.specs.UsesView.{listed};
+ghost use Rattle.f77_tree.specs.Resolved.{made};
+ghost use Rattle.statements77.specs.Views.{statement_of};
+
+use crate::resolver::Resolver;
+use fv_tree::{Arm, Block, Expr, Memory, Ref, Seq, Stmt};
+use statements77::Stmt77;
+use std::alloc::Global;
+
+#[tactic(auto, using(crate::proofs::SimpleLaws::block_laws))]
+fn block(alloc: Global, statement: Option<Stmt>) -> Result<Block, Memory>
+    ensures { IfOk result (λ whole. block_of whole ≡ plain.block (made statement)) }
+{
+    let mut stmts = Seq::new(alloc);
+    if let Some(statement) = statement {
+        stmts.push(statement)?;
+    }
+    Ok(Block { stmts })
+}
+
+impl Resolver {
+    #[tactic(auto, using(crate::proofs::SimpleLaws::simple_laws))]
+    fn assignment(&self, alloc: Global, line: u32, left: &Ref, right: &Expr) -> Result<Stmt, Memory>
+        ensures { IfOk result (λ assignment. tree_statement_of assignment ≡ plain.Assignment line None (tree.resolved_reference (listed self.now.uses) (store_of self.now.constants) (reference_of left.now)) (tree.resolved (listed self.now.uses) (store_of self.now.constants) (expression_of right.now))) }
+    {
+        Ok(Stmt::Assign {
+            line,
+            mark: None,
+            left: self.resolve_reference(alloc, left)?,
+            right: self.resolve(alloc, right)?,
+        })
+    }
+
+    // A block IF of one arm, in place of a logical IF.
+    #[tactic(auto, using(crate::proofs::SimpleLaws::simple_laws))]
+    fn branch(
+        &self,
+        alloc: Global,
+        line: u32,
+        condition: &Expr,
+        inner: Option<Stmt>,
+    ) -> Result<Stmt, Memory>
+        ensures { IfOk result (λ branch. tree_statement_of branch ≡ plain.If line (plain.arm (tree.resolved (listed self.now.uses) (store_of self.now.constants) (expression_of condition.now)) (plain.block (made inner)) plain.no_arms) plain.no_statements) }
+    {
+        let test = self.resolve(alloc, condition)?;
+        let body = block(alloc, inner)?;
+        let mut arms = Seq::new(alloc);
+        arms.push(Arm { test, body })?;
+        Ok(Stmt::If {
+            line,
+            arms,
+            other: Block {
+                stmts: Seq::new(alloc),
+            },
+        })
+    }
+
+    /// What a statement of the text becomes that opens and closes nothing; none, for one that does nothing.
+    #[tactic(auto, using(crate::proofs::SimpleLaws::simple_laws))]
+    pub fn simple(
+        &self,
+        alloc: Global,
+        line: u32,
+        statement: &Stmt77,
+    ) -> Result<Option<Stmt>, Memory>
+        ensures { IfOk result (λ became. made became ≡ tree.simple (listed self.now.uses) (store_of self.now.constants) line (statement_of statement.now)) }
+    {
+        match statement {
+            Stmt77::Assign(left, right) => Ok(Some(self.assignment(alloc, line, left, right)?)),
+            Stmt77::Go(number) => Ok(Some(Stmt::Go {
+                line,
+                number: *number,
+            })),
+            Stmt77::Stop => Ok(Some(Stmt::Stop { line })),
+            Stmt77::Read(list) => {
+                let items = self.resolve_inputs(alloc, list)?;
+                Ok(Some(Stmt::Read { line, items }))
+            }
+            Stmt77::Print(list) => {
+                let items = self.resolve_outputs(alloc, list)?;
+                Ok(Some(Stmt::Print { line, items }))
+            }
+            Stmt77::Test(condition, inner) => {
+                let inner = self.simple(alloc, line, inner)?;
+                Ok(Some(self.branch(alloc, line, condition, inner)?))
+            }
+            Stmt77::Program(_) => Ok(None),
+            Stmt77::Declare(..) => Ok(None),
+            Stmt77::Dimension(_) => Ok(None),
+            Stmt77::Constants(_) => Ok(None),
+            Stmt77::If(_) => Ok(None),
+            Stmt77::ElseIf(_) => Ok(None),
+            Stmt77::Else => Ok(None),
+            Stmt77::EndIf => Ok(None),
+            Stmt77::Do(..) => Ok(None),
+            Stmt77::Continue => Ok(None),
+            Stmt77::End => Ok(None),
+        }
+    }
+}
