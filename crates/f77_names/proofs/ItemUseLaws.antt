@@ -1,0 +1,94 @@
+-- The uses of names in targets and in items of lists.
+use Rattle.std.proofs.Common.{◌≡◌, ℕ, ℤ, Bool, suc, ◌+◌, ◌<◌, List, [], ◌∷◌, ◌++◌, map, take, length, get_or, refl, sym, ap, ◌∙◌, append_assoc, add-one, arith}
+use Rattle.std.specs.declared.boxed.Box.{Box}
+use Rattle.std.specs.declared.alloc.Global.{Global}
+use Rattle.std.proofs.lemmas.List.{map-append, length-map, append-nil}
+use Rattle.fv_tree.specs.Plain.{Reference, Item, items, subscripts}
+use Rattle.fv_tree.specs.View.{expression_of, subscript_of, reference_of, item_of}
+use Rattle.fv_tree.specs.declared.names.Name.{Name}
+use Rattle.fv_tree.specs.declared.ops.Op.{Op}
+use Rattle.fv_tree.specs.declared.ops.Fun.{Fun}
+use Rattle.fv_tree.specs.declared.lists.Seq.{Seq}
+use Rattle.fv_tree.specs.declared.exprs.Expr.{Expr}
+use Rattle.fv_tree.specs.declared.exprs.Expr.TheVariants as exprs
+use Rattle.fv_tree.specs.declared.exprs.Ref.{Ref, out-Ref}
+use Rattle.fv_tree.specs.declared.stmts.Item.{Item as Item'}
+use Rattle.fv_tree.specs.declared.stmts.Item.TheVariants as variants
+use Rattle.fv_tree.proofs.Equations.{expression_of-int, expression_of-truth, expression_of-item, expression_of-un, expression_of-bin, expression_of-call, reference_of-is, item_of-one, item_of-text, item_of-turns}
+use Rattle.fv_meaning.specs.program.Uses as plain
+use Rattle.f77_names.proofs.UseLaws.{number_is, one_more}
+
+pub target-is : (r : Ref) → plain.target_uses (reference_of r).name (reference_of r).subscripts
+    ≡ plain.use_of (out-Ref r).name (plain.Target (length (out-Ref r).subs)) ∷ plain.uses_in_subscripts (subscripts (map subscript_of (out-Ref r).subs))
+target-is r =
+    ap (λ (q : Reference). plain.target_uses q.name q.subscripts) (reference_of-is r)
+    ∙ ap (λ n. plain.use_of (out-Ref r).name (plain.Target n) ∷ plain.uses_in_subscripts (subscripts (map subscript_of (out-Ref r).subs)))
+    (number_is (map subscript_of (out-Ref r).subs) ∙ length-map (out-Ref r).subs subscript_of)
+
+pub input-item : (r : Ref) → plain.input_uses (expression_of (exprs.Item r)) ≡ plain.target_uses (reference_of r).name (reference_of r).subscripts
+input-item r = ap plain.input_uses (expression_of-item r)
+
+pub input-int : (n : ℤ) → plain.input_uses (expression_of (exprs.Int n)) ≡ plain.uses_in (expression_of (exprs.Int n))
+input-int n = ap plain.input_uses (expression_of-int n) ∙ sym (ap plain.uses_in (expression_of-int n))
+
+pub input-truth : (b : Bool) → plain.input_uses (expression_of (exprs.Truth b)) ≡ plain.uses_in (expression_of (exprs.Truth b))
+input-truth b = ap plain.input_uses (expression_of-truth b) ∙ sym (ap plain.uses_in (expression_of-truth b))
+
+pub input-un : (o : Op) (a : Box Expr Global) → plain.input_uses (expression_of (exprs.Un o a)) ≡ plain.uses_in (expression_of (exprs.Un o a))
+input-un o a = ap plain.input_uses (expression_of-un o a) ∙ sym (ap plain.uses_in (expression_of-un o a))
+
+pub input-bin : (o : Op) (a b : Box Expr Global) → plain.input_uses (expression_of (exprs.Bin o a b)) ≡ plain.uses_in (expression_of (exprs.Bin o a b))
+input-bin o a b = ap plain.input_uses (expression_of-bin o a b) ∙ sym (ap plain.uses_in (expression_of-bin o a b))
+
+pub input-call : (f : Fun) (es : Seq Expr) → plain.input_uses (expression_of (exprs.Call f es)) ≡ plain.uses_in (expression_of (exprs.Call f es))
+input-call f es = ap plain.input_uses (expression_of-call f es) ∙ sym (ap plain.uses_in (expression_of-call f es))
+
+-- ---- output lists
+
+pub output-one : (e : Expr) → plain.uses_in_output (item_of (variants.One e)) ≡ plain.uses_in (expression_of e)
+output-one e = ap plain.uses_in_output (item_of-one e)
+
+pub output-text : (t : Seq ℕ) → plain.uses_in_output (item_of (variants.Text t)) ≡ []
+output-text t = ap plain.uses_in_output (item_of-text t)
+
+pub output-turns : (is : Seq Item') (x : Name) (a b c : Expr) → plain.uses_in_output (item_of (variants.Turns is x a b c))
+    ≡ plain.uses_in_outputs (items (map item_of is)) ++ plain.control_uses x (expression_of a) (expression_of b) (expression_of c)
+output-turns is x a b c = ap plain.uses_in_output (item_of-turns is x a b c)
+
+outputs_append : (xs ys : List Item) → plain.uses_in_outputs (items (xs ++ ys)) ≡ plain.uses_in_outputs (items xs) ++ plain.uses_in_outputs (items ys)
+outputs_append [] ys = refl
+outputs_append (x ∷ xs) ys = ap (λ us. plain.uses_in_output x ++ us) (outputs_append xs ys) ∙ sym (append_assoc (plain.uses_in_output x) (plain.uses_in_outputs (items xs)) (plain.uses_in_outputs (items ys)))
+
+pub outputs_more : (list : List Item') (i : ℕ) (x : Item') → i < length list → x ≡ get_or list i x
+    → plain.uses_in_outputs (items (map item_of (take (i + 1) list))) ≡ plain.uses_in_outputs (items (map item_of (take i list))) ++ plain.uses_in_output (item_of x)
+outputs_more list i x h e =
+    ap (λ xs. plain.uses_in_outputs (items (map item_of xs))) (one_more list i x h e)
+    ∙ ap (λ xs. plain.uses_in_outputs (items xs)) (map-append item_of (take i list) (x ∷ []))
+    ∙ outputs_append (map item_of (take i list)) (item_of x ∷ [])
+    ∙ ap (λ us. plain.uses_in_outputs (items (map item_of (take i list))) ++ us) (append-nil (plain.uses_in_output (item_of x)))
+
+-- ---- input lists
+
+pub input-one : (e : Expr) → plain.uses_in_input (item_of (variants.One e)) ≡ plain.input_uses (expression_of e)
+input-one e = ap plain.uses_in_input (item_of-one e)
+
+pub input-text : (t : Seq ℕ) → plain.uses_in_input (item_of (variants.Text t)) ≡ []
+input-text t = ap plain.uses_in_input (item_of-text t)
+
+pub input-turns : (is : Seq Item') (x : Name) (a b c : Expr) → plain.uses_in_input (item_of (variants.Turns is x a b c))
+    ≡ plain.uses_in_inputs (items (map item_of is)) ++ plain.control_uses x (expression_of a) (expression_of b) (expression_of c)
+input-turns is x a b c = ap plain.uses_in_input (item_of-turns is x a b c)
+
+inputs_append : (xs ys : List Item) → plain.uses_in_inputs (items (xs ++ ys)) ≡ plain.uses_in_inputs (items xs) ++ plain.uses_in_inputs (items ys)
+inputs_append [] ys = refl
+inputs_append (x ∷ xs) ys = ap (λ us. plain.uses_in_input x ++ us) (inputs_append xs ys) ∙ sym (append_assoc (plain.uses_in_input x) (plain.uses_in_inputs (items xs)) (plain.uses_in_inputs (items ys)))
+
+pub inputs_more : (list : List Item') (i : ℕ) (x : Item') → i < length list → x ≡ get_or list i x
+    → plain.uses_in_inputs (items (map item_of (take (i + 1) list))) ≡ plain.uses_in_inputs (items (map item_of (take i list))) ++ plain.uses_in_input (item_of x)
+inputs_more list i x h e =
+    ap (λ xs. plain.uses_in_inputs (items (map item_of xs))) (one_more list i x h e)
+    ∙ ap (λ xs. plain.uses_in_inputs (items xs)) (map-append item_of (take i list) (x ∷ []))
+    ∙ inputs_append (map item_of (take i list)) (item_of x ∷ [])
+    ∙ ap (λ us. plain.uses_in_inputs (items (map item_of (take i list))) ++ us) (append-nil (plain.uses_in_input (item_of x)))
+
+pub ruleset item_use_laws = (target-is, input-item, input-int, input-truth, input-un, input-bin, input-call, output-one, output-text, output-turns, input-one, input-text, input-turns, append_assoc, append-nil)

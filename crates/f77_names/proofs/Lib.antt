@@ -1,0 +1,7 @@
+pub mod CountLaws
+pub mod DeclarationLaws
+pub mod FactLaws
+pub mod ItemUseLaws
+pub mod SeenLaws
+pub mod StatementUseLaws
+pub mod UseLaws

@@ -1,0 +1,88 @@
+-- The uses of names in parts of expressions.
+use Rattle.std.proofs.Common.{◌≡◌, ℕ, ℤ, Bool, suc, ◌+◌, ◌<◌, List, [], ◌∷◌, ◌++◌, map, take, length, get_or, refl, sym, ap, ◌∙◌, append_assoc, add-one, arith}
+use Rattle.std.specs.declared.boxed.Box.{Box}
+use Rattle.std.specs.declared.alloc.Global.{Global}
+use Rattle.std.proofs.Math.Seq.{take-suc}
+use Rattle.std.proofs.lemmas.List.{map-append, length-map, append-nil}
+use Rattle.fv_tree.specs.Plain.{Expression, Subscript, Reference, subscripts, expressions}
+use Rattle.fv_tree.specs.View.{expression_of, subscript_of}
+use Rattle.fv_tree.specs.declared.ops.Op.{Op}
+use Rattle.fv_tree.specs.declared.ops.Fun.{Fun}
+use Rattle.fv_tree.specs.declared.lists.Seq.{Seq}
+use Rattle.fv_tree.specs.declared.exprs.Expr.{Expr}
+use Rattle.fv_tree.specs.declared.exprs.Expr.TheVariants as exprs
+use Rattle.fv_tree.specs.declared.exprs.Ref.{Ref, out-Ref}
+use Rattle.fv_tree.specs.declared.exprs.Sub.{Sub}
+use Rattle.fv_tree.specs.declared.exprs.Sub.TheVariants as subs
+use Rattle.fv_tree.proofs.Equations.{expression_of-int, expression_of-truth, expression_of-item, expression_of-un, expression_of-bin, expression_of-call, subscript_of-one, reference_of-is}
+use Rattle.fv_meaning.specs.program.Uses as plain
+use Rattle.fv_meaning.specs.program.Typed.{number_of_subscripts}
+
+pub uses-int : (n : ℤ) → plain.uses_in (expression_of (exprs.Int n)) ≡ []
+uses-int n = ap plain.uses_in (expression_of-int n)
+
+pub uses-truth : (b : Bool) → plain.uses_in (expression_of (exprs.Truth b)) ≡ []
+uses-truth b = ap plain.uses_in (expression_of-truth b)
+
+pub uses-un : (o : Op) (a : Box Expr Global) → plain.uses_in (expression_of (exprs.Un o a)) ≡ plain.uses_in (expression_of a.value)
+uses-un o a = ap plain.uses_in (expression_of-un o a)
+
+pub uses-bin : (o : Op) (a b : Box Expr Global) → plain.uses_in (expression_of (exprs.Bin o a b)) ≡ plain.uses_in (expression_of a.value) ++ plain.uses_in (expression_of b.value)
+uses-bin o a b = ap plain.uses_in (expression_of-bin o a b)
+
+pub uses-call : (f : Fun) (es : Seq Expr) → plain.uses_in (expression_of (exprs.Call f es)) ≡ plain.uses_in_arguments (expressions (map expression_of es))
+uses-call f es = ap plain.uses_in (expression_of-call f es)
+
+pub uses-one : (e : Expr) → plain.uses_in_subscript (subscript_of (subs.One e)) ≡ plain.uses_in (expression_of e)
+uses-one e = ap plain.uses_in_subscript (subscript_of-one e)
+
+pub number_is : (ss : List Subscript) → number_of_subscripts (subscripts ss) ≡ length ss
+number_is [] = refl
+number_is (s ∷ ss) = ap (λ n. 1 + n) (number_is ss) ∙ one (length ss)
+  where
+    one : (n : ℕ) → 1 + n ≡ suc n
+    one n = omega arith
+
+pub uses-item : (r : Ref) → plain.uses_in (expression_of (exprs.Item r))
+    ≡ plain.use_of (out-Ref r).name (plain.Valued (length (out-Ref r).subs)) ∷ plain.uses_in_subscripts (subscripts (map subscript_of (out-Ref r).subs))
+uses-item r =
+    ap plain.uses_in (expression_of-item r)
+    ∙ ap (λ (q : Reference). plain.use_of q.name (plain.Valued (number_of_subscripts q.subscripts)) ∷ plain.uses_in_subscripts q.subscripts) (reference_of-is r)
+    ∙ ap (λ n. plain.use_of (out-Ref r).name (plain.Valued n) ∷ plain.uses_in_subscripts (subscripts (map subscript_of (out-Ref r).subs)))
+    (number_is (map subscript_of (out-Ref r).subs) ∙ length-map (out-Ref r).subs subscript_of)
+
+pub arguments_append : (xs ys : List Expression) → plain.uses_in_arguments (expressions (xs ++ ys)) ≡ plain.uses_in_arguments (expressions xs) ++ plain.uses_in_arguments (expressions ys)
+arguments_append [] ys = refl
+arguments_append (x ∷ xs) ys = ap (λ us. plain.uses_in x ++ us) (arguments_append xs ys) ∙ sym (append_assoc (plain.uses_in x) (plain.uses_in_arguments (expressions xs)) (plain.uses_in_arguments (expressions ys)))
+
+pub subscripts_append : (xs ys : List Subscript) → plain.uses_in_subscripts (subscripts (xs ++ ys)) ≡ plain.uses_in_subscripts (subscripts xs) ++ plain.uses_in_subscripts (subscripts ys)
+subscripts_append [] ys = refl
+subscripts_append (x ∷ xs) ys = ap (λ us. plain.uses_in_subscript x ++ us) (subscripts_append xs ys) ∙ sym (append_assoc (plain.uses_in_subscript x) (plain.uses_in_subscripts (subscripts xs)) (plain.uses_in_subscripts (subscripts ys)))
+
+pub one_more : {A : Type 0} (xs : List A) (i : ℕ) (x : A) → i < length xs → x ≡ get_or xs i x → take (i + 1) xs ≡ take i xs ++ x ∷ []
+one_more xs i x h e = ap (λ n. take n xs) (add-one i) ∙ take-suc xs i x h ∙ ap (λ y. take i xs ++ y ∷ []) (sym e)
+
+pub arguments_more : (items : List Expr) (i : ℕ) (x : Expr) → i < length items → x ≡ get_or items i x
+    → plain.uses_in_arguments (expressions (map expression_of (take (i + 1) items))) ≡ plain.uses_in_arguments (expressions (map expression_of (take i items))) ++ plain.uses_in (expression_of x)
+arguments_more items i x h e =
+    ap (λ xs. plain.uses_in_arguments (expressions (map expression_of xs))) (one_more items i x h e)
+    ∙ ap (λ xs. plain.uses_in_arguments (expressions xs)) (map-append expression_of (take i items) (x ∷ []))
+    ∙ arguments_append (map expression_of (take i items)) (expression_of x ∷ [])
+    ∙ ap (λ us. plain.uses_in_arguments (expressions (map expression_of (take i items))) ++ us) (append-nil (plain.uses_in (expression_of x)))
+
+pub subscripts_more : (items : List Sub) (i : ℕ) (x : Sub) → i < length items → x ≡ get_or items i x
+    → plain.uses_in_subscripts (subscripts (map subscript_of (take (i + 1) items))) ≡ plain.uses_in_subscripts (subscripts (map subscript_of (take i items))) ++ plain.uses_in_subscript (subscript_of x)
+subscripts_more items i x h e =
+    ap (λ xs. plain.uses_in_subscripts (subscripts (map subscript_of xs))) (one_more items i x h e)
+    ∙ ap (λ xs. plain.uses_in_subscripts (subscripts xs)) (map-append subscript_of (take i items) (x ∷ []))
+    ∙ subscripts_append (map subscript_of (take i items)) (subscript_of x ∷ [])
+    ∙ ap (λ us. plain.uses_in_subscripts (subscripts (map subscript_of (take i items))) ++ us) (append-nil (plain.uses_in_subscript (subscript_of x)))
+
+pub nothing_added : (us vs : List plain.Use) → vs ≡ [] → us ≡ us ++ vs
+nothing_added us vs e = sym (ap (λ t. us ++ t) e ∙ append-nil us)
+
+-- what was added before, and what is added now
+pub added : (first old new before now all : List plain.Use) → old ≡ first ++ before → new ≡ old ++ now → all ≡ before ++ now → new ≡ first ++ all
+added first old new before now all e f g = f ∙ ap (λ t. t ++ now) e ∙ append_assoc first before now ∙ ap (λ t. first ++ t) (sym g)
+
+pub ruleset use_laws = (uses-int, uses-truth, uses-un, uses-bin, uses-call, uses-one, uses-item, append_assoc)

@@ -1,0 +1,12 @@
+use Rattle.fv_meaning.specs.program.Uses as plain
+use Rattle.fv_meaning.specs.program.Limits.{has_many_names}
+use Rattle.statements77.specs.Views.{text_of}
+use Rattle.statements77.specs.Walk.{passed, IsSearched}
+use Rattle.f77_names.specs.Counted.{counted_in, Holds}
+use Rattle.f77_names.proofs.counts.many_names.Given as goal
+
+abbrev pub invariant-loop-i : goal.invariant-loop-i
+invariant-loop-i l = record {
+  searched : IsSearched (has_many_names (plain.uses_in_text (text_of l.text))) (text_of l.text) l.i;
+  holds : Holds l.counted (counted_in (plain.uses_in_text (text_of l.text)) (plain.uses_in_text (passed (text_of l.text) l.i)));
+}

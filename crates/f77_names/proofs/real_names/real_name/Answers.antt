@@ -1,0 +1,29 @@
+use Rattle.std.proofs.Common.{map, ◌++◌, sym, ap, ◌∙◌, arith}
+use Rattle.fv_meaning.specs.program.Uses as plain
+use Rattle.fv_meaning.specs.program.Declarations.{has_real_name}
+use Rattle.f77_names.specs.UsesView.{listed, plain_use}
+use Rattle.statements77.specs.Views.{text_of, statement_of}
+use Rattle.f77_names.proofs.FactLaws.{real_at}
+use Rattle.statements77.proofs.Walks.{search_goes_on, search_stops_at, search_ends}
+use Rattle.f77_names.proofs.real_names.real_name.Goals as goal
+
+pub returns-then-has_real : goal.returns-then-has_real
+returns-then-has_real c =
+    search_stops_at (has_real_name (plain.uses_in_text (text_of c.args.text.now))) c.args.text.now c.loop-i.i c.index-text-i.result (omega arith) c.index-text-i.is
+    (sym (real_at c.args.text.now c.loop-i.i c.index-text-i.result c.in_ok-names.names (listed c.add_statement.new.self) (listed c.in_ok-uses.uses) c.as_slice.result.now c.as_slice-in-loop-i.result.now
+    c.in_ok-names.ensures (ap (map plain_use) c.as_slice.ensures) c.in_ok-uses.ensures (ap (map plain_use) c.as_slice-in-loop-i.ensures)
+    (c.in_ok-add_statement.ensures ∙ ap (λ us. us ++ plain.uses_of (statement_of c.index-text-i.result.statement)) c.new-here.ensures))
+    ∙ sym c.has_real.ensures ∙ c.if-has_real.true)
+    c.loop-i.invariant
+
+pub loop-i-preserved : goal.loop-i-preserved
+loop-i-preserved c =
+    search_goes_on (has_real_name (plain.uses_in_text (text_of c.args.text.now))) c.args.text.now c.loop-i.i c.index-text-i.result (omega arith) c.index-text-i.is
+    (sym (real_at c.args.text.now c.loop-i.i c.index-text-i.result c.in_ok-names.names (listed c.add_statement.new.self) (listed c.in_ok-uses.uses) c.as_slice.result.now c.as_slice-in-loop-i.result.now
+    c.in_ok-names.ensures (ap (map plain_use) c.as_slice.ensures) c.in_ok-uses.ensures (ap (map plain_use) c.as_slice-in-loop-i.ensures)
+    (c.in_ok-add_statement.ensures ∙ ap (λ us. us ++ plain.uses_of (statement_of c.index-text-i.result.statement)) c.new-here.ensures))
+    ∙ sym c.has_real.ensures ∙ c.if-has_real.false)
+    c.loop-i.invariant
+
+pub returns : goal.returns
+returns c = search_ends (has_real_name (plain.uses_in_text (text_of c.args.text.now))) c.args.text.now c.loop-i.i (omega arith) c.loop-i.invariant

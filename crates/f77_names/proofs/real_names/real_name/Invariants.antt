@@ -1,0 +1,8 @@
+use Rattle.fv_meaning.specs.program.Uses as plain
+use Rattle.fv_meaning.specs.program.Declarations.{has_real_name}
+use Rattle.statements77.specs.Views.{text_of}
+use Rattle.statements77.specs.Walk.{IsSearched}
+use Rattle.f77_names.proofs.real_names.real_name.Given as goal
+
+abbrev pub invariant-loop-i : goal.invariant-loop-i
+invariant-loop-i l = IsSearched (has_real_name (plain.uses_in_text (text_of l.text))) (text_of l.text) l.i

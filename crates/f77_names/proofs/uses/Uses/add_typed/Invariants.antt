@@ -1,0 +1,9 @@
+use Rattle.std.proofs.Common.{◌≡◌, ◌++◌, map, take}
+use Rattle.std.specs.List.{flat_map}
+use Rattle.fv_meaning.specs.program.Uses as plain
+use Rattle.f77_names.specs.UsesView.{listed}
+use Rattle.statements77.specs.Views.{entity_of}
+use Rattle.f77_names.proofs.uses.Uses.add_typed.Given as goal
+
+abbrev pub invariant-loop-entity : goal.invariant-loop-entity
+invariant-loop-entity l = listed l.self ≡ listed l.initial.self ++ flat_map (plain.typed_uses l.kind) (map entity_of (take l.entity-index l.entity-items))

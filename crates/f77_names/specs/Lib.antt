@@ -1,0 +1,4 @@
+pub mod Counted
+pub mod NameFacts
+pub mod Seen
+pub mod UsesView

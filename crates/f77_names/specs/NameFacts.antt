@@ -1,0 +1,77 @@
+-- What the uses of a name say of it.
+use Rattle.std.specs.Prelude.{◌≡◌, ℕ, zero, suc, Bool, true, false, not, ◌&&◌, ◌||◌, Option, None, Some, is_some, is_none, if◌then◌else◌, List, [], ◌∷◌}
+use Rattle.std.specs.Option.{unwrap_or}
+use Rattle.std.specs.Str.{bytes_eq}
+use Rattle.indexmap.specs.IndexMap.{get}
+use Rattle.fv_tree.specs.declared.ops.Kind.{Kind}
+use Rattle.fv_tree.specs.declared.ops.Fun.{Fun}
+use Rattle.fv_meaning.specs.program.Uses.{Role, Title, Typed, Bounded, Defined, Valued, Target, Counter, Use, is_title, is_function, or_integer}
+use Rattle.fv_meaning.specs.program.Names.{is_implicit_integer, function_named}
+use Rattle.f77_names.specs.declared.names.Facts.{Facts}
+use Rattle.f77_names.specs.declared.names.Names.{Names}
+
+abbrev pub nothing_known : Facts
+nothing_known = record { kind = None; dimensions = None; bare = false; constant = false; title = false }
+
+abbrev pub first_given : {A : Type 0} → Option A → A → Option A
+first_given None x = Some x
+first_given (Some y) x = Some y
+
+-- with one use more
+abbrev pub facts_with : Facts → Role → Facts
+facts_with f Title = record f { title = true }
+facts_with f (Typed k) = record f { kind = first_given f.kind k }
+facts_with f (Bounded n) = record f { dimensions = first_given f.dimensions n }
+facts_with f Defined = record f { constant = true }
+facts_with f (Valued zero) = record f { bare = true }
+facts_with f (Valued (suc n)) = f
+facts_with f (Target zero) = record f { bare = true }
+facts_with f (Target (suc n)) = f
+facts_with f Counter = record f { bare = true }
+
+-- what uses say of the name x, after what is known
+abbrev pub facts_of : Facts → List Use → List ℕ → Facts
+facts_of f [] x = f
+facts_of f (u ∷ us) x = facts_of (if bytes_eq u.name x then facts_with f u.role else f) us x
+
+abbrev pub known : Option Facts → Facts
+known None = nothing_known
+known (Some f) = f
+
+abbrev pub facts_in : Names → List ℕ → Facts
+facts_in names x = known (get bytes_eq names.table x)
+
+-- the names say of each name what these uses of names say
+abbrev pub AreNamesOf : Names → List Use → Type 0
+AreNamesOf names us = (x : List ℕ) → facts_in names x ≡ facts_of nothing_known us x
+
+-- ---- what a name is by these
+
+abbrev pub is_variable_by : Facts → Bool
+is_variable_by f = (is_some f.kind || is_some f.dimensions || f.bare) && not f.constant
+
+abbrev pub is_array_by : Facts → Bool
+is_array_by f = is_some f.dimensions && not f.constant
+
+abbrev pub is_function_by : Facts → List ℕ → Bool
+is_function_by f x = is_some (function_named x) && not (is_variable_by f) && not f.constant
+
+abbrev pub kind_by : Facts → Kind
+kind_by f = or_integer f.kind
+
+abbrev pub dimensions_by : Facts → ℕ
+dimensions_by f = unwrap_or f.dimensions 0
+
+-- the function that a name names, if it isn't hidden
+abbrev pub function_of : List Use → List ℕ → Option Fun
+function_of us x = if is_function us x then function_named x else None
+
+abbrev pub function_by : Facts → List ℕ → Option Fun
+function_by f x = if is_function_by f x then function_named x else None
+
+-- a variable or symbolic constant without type that doesn't begin with I to N
+abbrev pub is_real_by : Facts → List ℕ → Bool
+is_real_by f x = (is_variable_by f || f.constant) && is_none f.kind && not (is_implicit_integer x)
+
+abbrev pub is_real_use : Names → Use → Bool
+is_real_use names u = not (is_title u.role) && is_real_by (facts_in names u.name) u.name

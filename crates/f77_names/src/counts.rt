@@ -1,0 +1,83 @@
+//! How many variables and symbolic constants a program has.
+ghost use Rattle.std.specs.Prelude.{◌≡◌, ◌∷◌, [], IfOk, OnOk, nat_lt, map, length};
+ghost use Rattle.fv_meaning.specs.program.Uses as plain;
+ghost use Rattle.fv_meaning.specs.program.Limits.{has_many_names};
+ghost use Rattle.statements77.specs.First.{first_index};
+ghost use Rattle.statements77.specs.Views.{text_of};
+ghost use Rattle.f77_names.specs.Counted.{Holds, Counts, is_counted_by};
+ghost use Rattle.f77_names.specs.UsesView.{plain_use};
+
+use crate::names::{Facts, Names, names_of_text};
+use crate::uses::{Use, Uses};
+use fv_tree::{Memory, Name};
+use indexmap::IndexSet;
+use statements77::Labelled;
+use std::alloc::Global;
+
+// A program may have so many variables and symbolic constants.
+const MOST_NAMES: usize = 1000;
+
+// The variables and symbolic constants so far.
+#[derive(Drop)]
+struct Counted {
+    names: IndexSet<Name>,
+}
+
+impl Facts {
+    fn is_counted(self) -> bool
+        ensures { result ≡ is_counted_by self }
+    {
+        self.is_variable() || self.constant
+    }
+}
+
+impl Counted {
+    fn new(alloc: Global) -> Counted
+        ensures { Holds result [] }
+    {
+        Counted {
+            names: IndexSet::new(alloc),
+        }
+    }
+
+    fn note(&mut self, names: &Names, used: &Use) -> Result<(), Memory>
+        ensures { OnOk result (Counts names.now self.old self.new (plain_use used.now ∷ [])) }
+    {
+        if names.facts(used.name).is_counted() {
+            self.names.insert(used.name)?;
+        }
+        Ok(())
+    }
+
+    fn note_all(&mut self, names: &Names, uses: &[Use]) -> Result<(), Memory>
+        ensures { OnOk result (Counts names.now self.old self.new (map plain_use uses.now)) }
+    {
+        for i in (0..uses.len()).rev() {
+            self.note(names, &uses[i])?;
+        }
+        Ok(())
+    }
+
+    fn are_many(&self) -> bool
+        ensures { result ≡ nat_lt 1000 (length self.now.names.keys) }
+    {
+        self.names.len() > MOST_NAMES
+    }
+}
+
+/// The place of the first statement up to which a program has more than 1,000 variables and symbolic constants.
+pub fn many_names(alloc: Global, text: &[Labelled]) -> Result<Option<usize>, Memory>
+    ensures { IfOk result (λ place. place ≡ first_index (has_many_names (plain.uses_in_text (text_of text.now))) (text_of text.now)) }
+{
+    let names = names_of_text(alloc, text)?;
+    let mut counted = Counted::new(alloc);
+    for (i, statement) in text.iter().enumerate() {
+        let mut here = Uses::new(alloc);
+        here.add_statement(&statement.statement)?;
+        counted.note_all(&names, here.as_slice())?;
+        if counted.are_many() {
+            return Ok(Some(i));
+        }
+    }
+    Ok(None)
+}

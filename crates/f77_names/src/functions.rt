@@ -1,0 +1,18 @@
+//! The names of functions (ANSI X3.9-1978, section 15.10).
+ghost use Rattle.std.specs.Prelude.{◌≡◌};
+ghost use Rattle.fv_meaning.specs.program.Names.{function_named};
+
+use fv_tree::{Fun, Name};
+
+/// The function that the name names where nothing hides it.
+pub fn function_named(name: Name) -> Option<Fun>
+    ensures { result ≡ function_named name }
+{
+    match name.text() {
+        b"ABS" | b"IABS" => Some(Fun::Abs),
+        b"MOD" => Some(Fun::Mod),
+        b"MAX" | b"MAX0" => Some(Fun::Max),
+        b"MIN" | b"MIN0" => Some(Fun::Min),
+        _ => None,
+    }
+}

@@ -1,0 +1,102 @@
+//! How names stand in what is assigned to, and in input and output lists.
+ghost use Rattle.std.specs.Prelude.{◌≡◌, ◌++◌, map, OnOk};
+ghost use Rattle.fv_tree.specs.Plain.{items};
+ghost use Rattle.fv_tree.specs.View.{expression_of, reference_of, item_of};
+ghost use Rattle.fv_meaning.specs.program.Uses as plain;
+ghost use Rattle.f77_names.specs.UsesView.{listed};
+
+use crate::uses::{Role, Uses};
+use fv_tree::{Expr, Item, Memory, Name, Ref, Seq};
+
+impl Uses {
+    /// What is assigned or read into.
+    #[tactic(auto, using(crate::proofs::ItemUseLaws::item_use_laws))]
+    pub fn add_target(&mut self, target: &Ref) -> Result<(), Memory>
+        ensures { OnOk result (listed self.new ≡ listed self.old ++ plain.target_uses (reference_of target.now).name (reference_of target.now).subscripts) }
+    {
+        self.note(target.name, Role::Target(target.subs.len()))?;
+        self.add_subs(&target.subs)
+    }
+
+    #[tactic(auto, using(crate::proofs::ItemUseLaws::item_use_laws))]
+    fn add_read(&mut self, expr: &Expr) -> Result<(), Memory>
+        ensures { OnOk result (listed self.new ≡ listed self.old ++ plain.input_uses (expression_of expr.now)) }
+    {
+        match expr {
+            Expr::Item(target) => self.add_target(target),
+            Expr::Int(_) => self.add_expr(expr),
+            Expr::Truth(_) => self.add_expr(expr),
+            Expr::Un(..) => self.add_expr(expr),
+            Expr::Bin(..) => self.add_expr(expr),
+            Expr::Call(..) => self.add_expr(expr),
+        }
+    }
+
+    // A DO variable and its three parameters.
+    pub fn add_control(
+        &mut self,
+        variable: Name,
+        first: &Expr,
+        last: &Expr,
+        step: &Expr,
+    ) -> Result<(), Memory>
+        ensures { OnOk result (listed self.new ≡ listed self.old ++ plain.control_uses variable (expression_of first.now) (expression_of last.now) (expression_of step.now)) }
+    {
+        self.note(variable, Role::Counter)?;
+        self.add_expr(first)?;
+        self.add_expr(last)?;
+        self.add_expr(step)
+    }
+
+    #[cycle(outputs)]
+    #[tactic(auto, using(crate::proofs::ItemUseLaws::item_use_laws))]
+    fn add_output(&mut self, item: &Item) -> Result<(), Memory>
+        ensures { OnOk result (listed self.new ≡ listed self.old ++ plain.uses_in_output (item_of item.now)) }
+    {
+        match item {
+            Item::One(expr) => self.add_expr(expr),
+            Item::Text(_) => Ok(()),
+            Item::Turns(list, variable, first, last, step) => {
+                self.add_outputs(list)?;
+                self.add_control(*variable, first, last, step)
+            }
+        }
+    }
+
+    /// The items of an output list.
+    #[cycle(outputs)]
+    pub fn add_outputs(&mut self, list: &Seq<Item>) -> Result<(), Memory>
+        ensures { OnOk result (listed self.new ≡ listed self.old ++ plain.uses_in_outputs (items (map item_of list.now))) }
+    {
+        for item in list.as_slice() {
+            self.add_output(item)?;
+        }
+        Ok(())
+    }
+
+    #[cycle(inputs)]
+    #[tactic(auto, using(crate::proofs::ItemUseLaws::item_use_laws))]
+    fn add_input(&mut self, item: &Item) -> Result<(), Memory>
+        ensures { OnOk result (listed self.new ≡ listed self.old ++ plain.uses_in_input (item_of item.now)) }
+    {
+        match item {
+            Item::One(expr) => self.add_read(expr),
+            Item::Text(_) => Ok(()),
+            Item::Turns(list, variable, first, last, step) => {
+                self.add_inputs(list)?;
+                self.add_control(*variable, first, last, step)
+            }
+        }
+    }
+
+    /// The items of an input list.
+    #[cycle(inputs)]
+    pub fn add_inputs(&mut self, list: &Seq<Item>) -> Result<(), Memory>
+        ensures { OnOk result (listed self.new ≡ listed self.old ++ plain.uses_in_inputs (items (map item_of list.now))) }
+    {
+        for item in list.as_slice() {
+            self.add_input(item)?;
+        }
+        Ok(())
+    }
+}

@@ -1,0 +1,25 @@
+//! The names of a FORTRAN 77 program: how they stand in it, what they are, and checks of both (ANSI X3.9-1978, sections 2.2, 4.1.2, 8 and 18).
+//!
+//! Each check gives the first statement at which its cause of refusal holds, or none where it holds nowhere.
+#![tactic(auto)]
+
+mod constant_expressions;
+mod counts;
+mod declarations;
+mod functions;
+mod item_uses;
+mod names;
+mod real_names;
+mod statement_parts;
+mod statement_uses;
+#[cfg(test)]
+mod tests;
+mod uses;
+
+pub use counts::many_names;
+pub use declarations::wrong_declaration;
+pub use functions::function_named;
+pub use names::{Facts, Names, names_of, names_of_text};
+pub use real_names::real_name;
+pub use statement_uses::uses_in_text;
+pub use uses::{Role, Use, Uses};
