@@ -1,0 +1,100 @@
+-- What suits in lists, for each kind of item.
+use Rattle.std.proofs.Common.{◌≡◌, ◌≢◌, ℕ, ℤ, Bool, true, false, ◌&&◌, List, [], ◌∷◌, map, refl, sym, ap, ◌∙◌}
+use Rattle.std.specs.declared.boxed.Box.{Box}
+use Rattle.std.specs.declared.alloc.Global.{Global}
+use Rattle.fv_tree.specs.Plain.{Named, Reference, items, subscripts}
+use Rattle.fv_tree.specs.View.{expression_of, subscript_of, item_of}
+use Rattle.fv_tree.specs.declared.names.Name.{Name}
+use Rattle.fv_tree.specs.declared.ops.Op.{Op}
+use Rattle.fv_tree.specs.declared.ops.Fun.{Fun}
+use Rattle.fv_tree.specs.declared.lists.Seq.{Seq}
+use Rattle.fv_tree.specs.declared.exprs.Expr.{Expr}
+use Rattle.fv_tree.specs.declared.exprs.Expr.TheVariants as exprs
+use Rattle.fv_tree.specs.declared.exprs.Ref.{Ref, out-Ref}
+use Rattle.fv_tree.specs.declared.exprs.Sub.{Sub}
+use Rattle.fv_tree.specs.declared.stmts.Item.{Item}
+use Rattle.fv_tree.specs.declared.stmts.Item.TheVariants as variants
+use Rattle.fv_tree.proofs.Equations.{expression_of-int, expression_of-truth, expression_of-item, expression_of-un, expression_of-bin, expression_of-call, reference_of-is, item_of-one, item_of-text, item_of-turns}
+use Rattle.fv_meaning.specs.program.Uses.{Use, is_array}
+use Rattle.fv_meaning.specs.program.Kinds.{has_some_kind, are_numbers, are_subscripts, suits_output, suits_input, suits_output_item, suits_output_items, suits_input_item, suits_input_items}
+
+-- a reference as an expression
+item-is : (r : Ref) → expression_of (exprs.Item r) ≡ Named (out-Ref r).name (subscripts (map subscript_of (out-Ref r).subs))
+item-is r = expression_of-item r ∙ ap (λ (q : Reference). Named q.name q.subscripts) (reference_of-is r)
+
+-- ---- output lists
+
+pub output-alone : (us : List Use) (r : Ref) → (out-Ref r).subs ≡ [] → suits_output us (expression_of (exprs.Item r)) ≡ true
+output-alone us r h = ap (suits_output us) (item-is r) ∙ ap (λ (ss : List Sub). suits_output us (Named (out-Ref r).name (subscripts (map subscript_of ss)))) h
+
+pub output-listed : (us : List Use) (r : Ref) → (out-Ref r).subs ≢ [] → suits_output us (expression_of (exprs.Item r)) ≡ has_some_kind us (expression_of (exprs.Item r))
+output-listed us r h = ap (suits_output us) (item-is r) ∙ cases (out-Ref r).subs h ∙ ap (has_some_kind us) (sym (item-is r))
+  where
+    cases : (ss : List Sub) → ss ≢ [] → suits_output us (Named (out-Ref r).name (subscripts (map subscript_of ss))) ≡ has_some_kind us (Named (out-Ref r).name (subscripts (map subscript_of ss)))
+    cases [] some = absurd (some refl)
+    cases (s ∷ ss) some = refl
+
+pub output-int : (us : List Use) (n : ℤ) → suits_output us (expression_of (exprs.Int n)) ≡ has_some_kind us (expression_of (exprs.Int n))
+output-int us n = ap (suits_output us) (expression_of-int n) ∙ ap (has_some_kind us) (sym (expression_of-int n))
+
+pub output-truth : (us : List Use) (b : Bool) → suits_output us (expression_of (exprs.Truth b)) ≡ has_some_kind us (expression_of (exprs.Truth b))
+output-truth us b = ap (suits_output us) (expression_of-truth b) ∙ ap (has_some_kind us) (sym (expression_of-truth b))
+
+pub output-un : (us : List Use) (o : Op) (a : Box Expr Global) → suits_output us (expression_of (exprs.Un o a)) ≡ has_some_kind us (expression_of (exprs.Un o a))
+output-un us o a = ap (suits_output us) (expression_of-un o a) ∙ ap (has_some_kind us) (sym (expression_of-un o a))
+
+pub output-bin : (us : List Use) (o : Op) (a b : Box Expr Global) → suits_output us (expression_of (exprs.Bin o a b)) ≡ has_some_kind us (expression_of (exprs.Bin o a b))
+output-bin us o a b = ap (suits_output us) (expression_of-bin o a b) ∙ ap (has_some_kind us) (sym (expression_of-bin o a b))
+
+pub output-call : (us : List Use) (f : Fun) (es : Seq Expr) → suits_output us (expression_of (exprs.Call f es)) ≡ has_some_kind us (expression_of (exprs.Call f es))
+output-call us f es = ap (suits_output us) (expression_of-call f es) ∙ ap (has_some_kind us) (sym (expression_of-call f es))
+
+pub output-one : (us : List Use) (e : Expr) → suits_output_item us (item_of (variants.One e)) ≡ suits_output us (expression_of e)
+output-one us e = ap (suits_output_item us) (item_of-one e)
+
+pub output-text : (us : List Use) (t : Seq ℕ) → suits_output_item us (item_of (variants.Text t)) ≡ true
+output-text us t = ap (suits_output_item us) (item_of-text t)
+
+pub output-turns : (us : List Use) (is : Seq Item) (x : Name) (a b c : Expr) → suits_output_item us (item_of (variants.Turns is x a b c))
+    ≡ (suits_output_items us (items (map item_of is)) && are_numbers us (expression_of a) (expression_of b) (expression_of c))
+output-turns us is x a b c = ap (suits_output_item us) (item_of-turns is x a b c)
+
+-- ---- input lists
+
+pub input-alone : (us : List Use) (r : Ref) → (out-Ref r).subs ≡ [] → suits_input us (expression_of (exprs.Item r)) ≡ true
+input-alone us r h = ap (suits_input us) (item-is r) ∙ ap (λ (ss : List Sub). suits_input us (Named (out-Ref r).name (subscripts (map subscript_of ss)))) h
+
+pub input-listed : (us : List Use) (r : Ref) → (out-Ref r).subs ≢ []
+    → suits_input us (expression_of (exprs.Item r)) ≡ (is_array us (out-Ref r).name && are_subscripts us (subscripts (map subscript_of (out-Ref r).subs)))
+input-listed us r h = ap (suits_input us) (item-is r) ∙ cases (out-Ref r).subs h
+  where
+    cases : (ss : List Sub) → ss ≢ [] → suits_input us (Named (out-Ref r).name (subscripts (map subscript_of ss))) ≡ (is_array us (out-Ref r).name && are_subscripts us (subscripts (map subscript_of ss)))
+    cases [] some = absurd (some refl)
+    cases (s ∷ ss) some = refl
+
+pub input-int : (us : List Use) (n : ℤ) → suits_input us (expression_of (exprs.Int n)) ≡ false
+input-int us n = ap (suits_input us) (expression_of-int n)
+
+pub input-truth : (us : List Use) (b : Bool) → suits_input us (expression_of (exprs.Truth b)) ≡ false
+input-truth us b = ap (suits_input us) (expression_of-truth b)
+
+pub input-un : (us : List Use) (o : Op) (a : Box Expr Global) → suits_input us (expression_of (exprs.Un o a)) ≡ false
+input-un us o a = ap (suits_input us) (expression_of-un o a)
+
+pub input-bin : (us : List Use) (o : Op) (a b : Box Expr Global) → suits_input us (expression_of (exprs.Bin o a b)) ≡ false
+input-bin us o a b = ap (suits_input us) (expression_of-bin o a b)
+
+pub input-call : (us : List Use) (f : Fun) (es : Seq Expr) → suits_input us (expression_of (exprs.Call f es)) ≡ false
+input-call us f es = ap (suits_input us) (expression_of-call f es)
+
+pub input-one : (us : List Use) (e : Expr) → suits_input_item us (item_of (variants.One e)) ≡ suits_input us (expression_of e)
+input-one us e = ap (suits_input_item us) (item_of-one e)
+
+pub input-text : (us : List Use) (t : Seq ℕ) → suits_input_item us (item_of (variants.Text t)) ≡ false
+input-text us t = ap (suits_input_item us) (item_of-text t)
+
+pub input-turns : (us : List Use) (is : Seq Item) (x : Name) (a b c : Expr) → suits_input_item us (item_of (variants.Turns is x a b c))
+    ≡ (suits_input_items us (items (map item_of is)) && are_numbers us (expression_of a) (expression_of b) (expression_of c))
+input-turns us is x a b c = ap (suits_input_item us) (item_of-turns is x a b c)
+
+pub ruleset item_laws = (output-alone, output-listed, output-int, output-truth, output-un, output-bin, output-call, output-one, output-text, output-turns, input-alone, input-listed, input-int, input-truth, input-un, input-bin, input-call, input-one, input-text, input-turns)

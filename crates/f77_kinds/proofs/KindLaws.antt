@@ -1,0 +1,63 @@
+-- The kind of each kind of expression.
+use Rattle.std.proofs.Common.{◌≡◌, ℕ, suc, ◌+◌, ℤ, Bool, not, ◌&&◌, List, [], ◌∷◌, map, length, refl, ap, ◌∙◌, arith}
+use Rattle.std.specs.declared.boxed.Box.{Box}
+use Rattle.std.specs.declared.alloc.Global.{Global}
+use Rattle.std.proofs.lemmas.List.{length-map}
+use Rattle.fv_tree.specs.Plain.{Expression, Reference, subscripts, expressions}
+use Rattle.fv_tree.specs.View.{expression_of, subscript_of}
+use Rattle.fv_tree.specs.declared.ops.Op.{Op}
+use Rattle.fv_tree.specs.declared.ops.Fun.{Fun}
+use Rattle.fv_tree.specs.declared.ops.Kind.{Kind}
+use Rattle.fv_tree.specs.declared.ops.Kind.TheVariants.{Integer, Logical}
+use Rattle.fv_tree.specs.declared.lists.Seq.{Seq}
+use Rattle.fv_tree.specs.declared.exprs.Expr.{Expr}
+use Rattle.fv_tree.specs.declared.exprs.Expr.TheVariants as exprs
+use Rattle.fv_tree.specs.declared.exprs.Ref.{Ref, out-Ref}
+use Rattle.fv_tree.specs.declared.exprs.Sub.TheVariants as subs
+use Rattle.fv_tree.proofs.Equations.{expression_of-int, expression_of-truth, expression_of-item, expression_of-un, expression_of-bin, expression_of-call, subscript_of-one, reference_of-is}
+use Rattle.fv_meaning.specs.program.Names.{suits_number}
+use Rattle.fv_meaning.specs.program.Typed.{number_of_arguments, number_of_subscripts, is_unary, kind_of_result, operand_kind}
+use Rattle.fv_meaning.specs.program.Uses.{Use}
+use Rattle.fv_meaning.specs.program.Kinds.{same_kind, name_has_kind, has_kind, are_arguments, are_subscripts, is_subscript}
+use Rattle.f77_names.proofs.UseLaws.{number_is}
+
+pub arguments_counted : (es : List Expression) → number_of_arguments (expressions es) ≡ length es
+arguments_counted [] = refl
+arguments_counted (e ∷ es) = ap (λ n. 1 + n) (arguments_counted es) ∙ one (length es)
+  where
+    one : (n : ℕ) → 1 + n ≡ suc n
+    one n = omega arith
+
+pub kind-int : (us : List Use) (n : ℤ) (k : Kind) → has_kind us (expression_of (exprs.Int n)) k ≡ same_kind Integer k
+kind-int us n k = ap (λ e. has_kind us e k) (expression_of-int n)
+
+pub kind-truth : (us : List Use) (b : Bool) (k : Kind) → has_kind us (expression_of (exprs.Truth b)) k ≡ same_kind Logical k
+kind-truth us b k = ap (λ e. has_kind us e k) (expression_of-truth b)
+
+pub kind-item : (us : List Use) (r : Ref) (k : Kind) → has_kind us (expression_of (exprs.Item r)) k
+    ≡ (name_has_kind us (out-Ref r).name (length (out-Ref r).subs) k && are_subscripts us (subscripts (map subscript_of (out-Ref r).subs)))
+kind-item us r k =
+    ap (λ e. has_kind us e k) (expression_of-item r)
+    ∙ ap (λ (q : Reference). name_has_kind us q.name (number_of_subscripts q.subscripts) k && are_subscripts us q.subscripts) (reference_of-is r)
+    ∙ ap (λ n. name_has_kind us (out-Ref r).name n k && are_subscripts us (subscripts (map subscript_of (out-Ref r).subs)))
+    (number_is (map subscript_of (out-Ref r).subs) ∙ length-map (out-Ref r).subs subscript_of)
+
+pub kind-un : (us : List Use) (o : Op) (a : Box Expr Global) (k : Kind)
+    → has_kind us (expression_of (exprs.Un o a)) k ≡ (is_unary o && same_kind (kind_of_result o) k && has_kind us (expression_of a.value) (operand_kind o))
+kind-un us o a k = ap (λ e. has_kind us e k) (expression_of-un o a)
+
+pub kind-bin : (us : List Use) (o : Op) (a b : Box Expr Global) (k : Kind)
+    → has_kind us (expression_of (exprs.Bin o a b)) k
+    ≡ (not (is_unary o) && same_kind (kind_of_result o) k && has_kind us (expression_of a.value) (operand_kind o) && has_kind us (expression_of b.value) (operand_kind o))
+kind-bin us o a b k = ap (λ e. has_kind us e k) (expression_of-bin o a b)
+
+pub kind-call : (us : List Use) (f : Fun) (es : Seq Expr) (k : Kind)
+    → has_kind us (expression_of (exprs.Call f es)) k ≡ (suits_number f (length es) && same_kind Integer k && are_arguments us (expressions (map expression_of es)))
+kind-call us f es k =
+    ap (λ e. has_kind us e k) (expression_of-call f es)
+    ∙ ap (λ n. suits_number f n && same_kind Integer k && are_arguments us (expressions (map expression_of es))) (arguments_counted (map expression_of es) ∙ length-map es expression_of)
+
+pub subscript-one : (us : List Use) (e : Expr) → is_subscript us (subscript_of (subs.One e)) ≡ has_kind us (expression_of e) Integer
+subscript-one us e = ap (is_subscript us) (subscript_of-one e)
+
+pub ruleset kind_laws = (kind-int, kind-truth, kind-item, kind-un, kind-bin, kind-call, subscript-one)

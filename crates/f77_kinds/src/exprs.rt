@@ -1,0 +1,112 @@
+//! The kinds of expressions.
+ghost use Rattle.std.specs.Prelude.{◌≡◌, ◌&&◌, map};
+ghost use Rattle.fv_tree.specs.Plain.{subscripts, expressions};
+ghost use Rattle.fv_tree.specs.View.{expression_of, subscript_of};
+ghost use Rattle.fv_tree.specs.declared.exprs.Expr.TheVariants as exprs;
+ghost use Rattle.fv_meaning.specs.program.Names.{function_named};
+ghost use Rattle.fv_meaning.specs.program.Uses as plain;
+ghost use Rattle.fv_meaning.specs.program.Kinds as kinds;
+ghost use Rattle.f77_names.specs.UsesView.{listed};
+
+use crate::kind_check::KindCheck;
+use crate::operators::{
+    binary_gives, operand_kind, same_kind, suits_number, takes_so_many, unary_gives,
+};
+use fv_tree::{Expr, Kind, Name, Ref, Seq, Sub};
+
+impl KindCheck {
+    // An element of an array of this kind.
+    fn is_element(&self, name: Name, kind: Kind) -> bool
+        ensures { result ≡ (plain.is_array (listed self.now.uses) name && kinds.same_kind (plain.kind_of_name (listed self.now.uses) name) kind) }
+    {
+        self.is_array(name) && same_kind(self.kind(name), kind)
+    }
+
+    // A call with so many arguments: it is INTEGER.
+    #[tactic(auto, using(crate::proofs::NameLaws::name_laws))]
+    fn is_call(&self, name: Name, count: usize, kind: Kind) -> bool
+        ensures { result ≡ (plain.is_function (listed self.now.uses) name && kinds.takes_so_many (function_named name) count && kinds.same_kind Kind.Integer kind) }
+    {
+        takes_so_many(self.function(name), count) && same_kind(Kind::Integer, kind)
+    }
+
+    // A name with so many subscripts or arguments in parentheses; 0: it stands alone, and is no whole array.
+    #[tactic(auto, using(crate::proofs::NameLaws::name_laws))]
+    fn name_has_kind(&self, name: Name, count: usize, kind: Kind) -> bool
+        ensures { result ≡ kinds.name_has_kind (listed self.now.uses) name count kind }
+    {
+        if count == 0 {
+            return !self.is_array(name) && same_kind(self.kind(name), kind);
+        }
+        self.is_element(name, kind) || self.is_call(name, count, kind)
+    }
+
+    /// Whether the expression has the kind, and all in it suits.
+    #[cycle(kinds)]
+    #[tactic(auto, using(crate::proofs::KindLaws::kind_laws))]
+    pub fn has_kind(&self, expr: &Expr, kind: Kind) -> bool
+        ensures { result ≡ kinds.has_kind (listed self.now.uses) (expression_of expr.now) kind }
+    {
+        match expr {
+            Expr::Int(_) => same_kind(Kind::Integer, kind),
+            Expr::Truth(_) => same_kind(Kind::Logical, kind),
+            Expr::Item(item) => self.item_has_kind(item, kind),
+            Expr::Un(op, a) => unary_gives(*op, kind) && self.has_kind(a, operand_kind(*op)),
+            Expr::Bin(op, a, b) => {
+                binary_gives(*op, kind)
+                    && self.has_kind(a, operand_kind(*op))
+                    && self.has_kind(b, operand_kind(*op))
+            }
+            Expr::Call(function, arguments) => {
+                suits_number(*function, arguments.len())
+                    && same_kind(Kind::Integer, kind)
+                    && self.are_arguments(arguments)
+            }
+        }
+    }
+
+    // A scalar, a symbolic constant, an element or a call.
+    #[cycle(kinds)]
+    #[tactic(auto, using(crate::proofs::KindLaws::kind_laws))]
+    fn item_has_kind(&self, item: &Ref, kind: Kind) -> bool
+        ensures { result ≡ kinds.has_kind (listed self.now.uses) (expression_of (exprs.Item item.now)) kind }
+    {
+        self.name_has_kind(item.name, item.subs.len(), kind) && self.are_subscripts(&item.subs)
+    }
+
+    // The arguments are INTEGER values.
+    #[cycle(kinds)]
+    fn are_arguments(&self, arguments: &Seq<Expr>) -> bool
+        ensures { result ≡ kinds.are_arguments (listed self.now.uses) (expressions (map expression_of arguments.now)) }
+    {
+        for argument in arguments.as_slice() {
+            if !self.has_kind(argument, Kind::Integer) {
+                return false;
+            }
+        }
+        true
+    }
+
+    #[cycle(kinds)]
+    #[tactic(auto, using(crate::proofs::KindLaws::kind_laws))]
+    fn is_subscript(&self, sub: &Sub) -> bool
+        ensures { result ≡ kinds.is_subscript (listed self.now.uses) (subscript_of sub.now) }
+    {
+        match sub {
+            Sub::One(expr) => self.has_kind(expr, Kind::Integer),
+        }
+    }
+
+    /// Whether the subscripts are INTEGER values.
+    #[cycle(kinds)]
+    pub fn are_subscripts(&self, subs: &Seq<Sub>) -> bool
+        ensures { result ≡ kinds.are_subscripts (listed self.now.uses) (subscripts (map subscript_of subs.now)) }
+    {
+        for sub in subs.as_slice() {
+            if !self.is_subscript(sub) {
+                return false;
+            }
+        }
+        true
+    }
+}

@@ -1,0 +1,68 @@
+//! Calls that a variable of the function's Fortran 90 name would hide.
+ghost use Rattle.std.specs.Prelude.{◌≡◌, map};
+ghost use Rattle.std.specs.List.{list_any};
+ghost use Rattle.fv_tree.specs.Names.{IsName};
+ghost use Rattle.fv_meaning.specs.program.Names.{name_of_function};
+ghost use Rattle.fv_meaning.specs.program.Uses as plain;
+ghost use Rattle.fv_meaning.specs.program.Kinds as kinds;
+ghost use Rattle.f77_names.specs.UsesView.{listed, plain_use};
+
+use crate::kind_check::KindCheck;
+use f77_names::Use;
+use fv_tree::{Fun, Name};
+
+// The name that Fortran 90 has for a function.
+fn name_of_function(function: Fun) -> &'static [u8]
+    ensures { result.now ≡ name_of_function function }
+{
+    match function {
+        Fun::Abs => b"ABS",
+        Fun::Mod => b"MOD",
+        Fun::Max => b"MAX",
+        Fun::Min => b"MIN",
+    }
+}
+
+impl KindCheck {
+    // A variable has the name that is so spelled.
+    fn has_variable(&self, text: &[u8]) -> bool
+        ensures { IsName text.now → result ≡ plain.is_variable (listed self.now.uses) text.now }
+    {
+        match Name::read(text) {
+            Some(name) => self.is_variable(name),
+            None => false,
+        }
+    }
+
+    // The function is called by another name than Fortran 90 has for it, and that one is a variable's.
+    #[tactic(auto, using(crate::proofs::HiddenLaws::hidden_laws))]
+    fn is_hidden(&self, name: Name, function: Fun) -> bool
+        ensures { result ≡ kinds.is_hidden_name (listed self.now.uses) name (Some function) }
+    {
+        let spelled = name_of_function(function);
+        name.text() != spelled && self.has_variable(spelled)
+    }
+
+    // The name is a function's that is hidden.
+    #[tactic(auto, using(crate::proofs::HiddenLaws::call_laws))]
+    fn calls_hidden(&self, used: &Use) -> bool
+        ensures { result ≡ kinds.calls_hidden (listed self.now.uses) (plain_use used.now) }
+    {
+        match self.function(used.name) {
+            Some(function) => self.is_hidden(used.name, function),
+            None => false,
+        }
+    }
+
+    /// Whether one of the uses calls a hidden function.
+    pub fn call_hidden(&self, uses: &[Use]) -> bool
+        ensures { result ≡ list_any (kinds.calls_hidden (listed self.now.uses)) (map plain_use uses.now) }
+    {
+        for used in uses {
+            if self.calls_hidden(used) {
+                return true;
+            }
+        }
+        false
+    }
+}

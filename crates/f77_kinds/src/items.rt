@@ -1,0 +1,121 @@
+//! The kinds of what stands in input and output lists, and of the parameters of DO loops.
+ghost use Rattle.std.specs.Prelude.{◌≡◌, map};
+ghost use Rattle.fv_tree.specs.Plain.{items};
+ghost use Rattle.fv_tree.specs.View.{expression_of, item_of};
+ghost use Rattle.fv_tree.specs.declared.exprs.Expr.TheVariants as exprs;
+ghost use Rattle.fv_meaning.specs.program.Kinds as kinds;
+ghost use Rattle.f77_names.specs.UsesView.{listed};
+
+use crate::kind_check::KindCheck;
+use fv_tree::{Expr, Item, Kind, Ref, Seq};
+
+impl KindCheck {
+    fn has_some_kind(&self, expr: &Expr) -> bool
+        ensures { result ≡ kinds.has_some_kind (listed self.now.uses) (expression_of expr.now) }
+    {
+        self.has_kind(expr, Kind::Integer) || self.has_kind(expr, Kind::Logical)
+    }
+
+    /// Whether three parameters of a DO loop are INTEGER values.
+    pub fn are_numbers(&self, first: &Expr, last: &Expr, step: &Expr) -> bool
+        ensures { result ≡ kinds.are_numbers (listed self.now.uses) (expression_of first.now) (expression_of last.now) (expression_of step.now) }
+    {
+        self.has_kind(first, Kind::Integer)
+            && self.has_kind(last, Kind::Integer)
+            && self.has_kind(step, Kind::Integer)
+    }
+
+    // A name alone may be a whole array.
+    #[tactic(auto, using(crate::proofs::ItemLaws::item_laws))]
+    fn suits_output(&self, expr: &Expr) -> bool
+        ensures { result ≡ kinds.suits_output (listed self.now.uses) (expression_of expr.now) }
+    {
+        match expr {
+            Expr::Item(item) => item.subs.is_empty() || self.has_some_kind(expr),
+            Expr::Int(_) => self.has_some_kind(expr),
+            Expr::Truth(_) => self.has_some_kind(expr),
+            Expr::Un(..) => self.has_some_kind(expr),
+            Expr::Bin(..) => self.has_some_kind(expr),
+            Expr::Call(..) => self.has_some_kind(expr),
+        }
+    }
+
+    // A scalar, a whole array or an element.
+    #[tactic(auto, using(crate::proofs::ItemLaws::item_laws))]
+    fn is_read_into(&self, item: &Ref) -> bool
+        ensures { result ≡ kinds.suits_input (listed self.now.uses) (expression_of (exprs.Item item.now)) }
+    {
+        if item.subs.is_empty() {
+            return true;
+        }
+        self.is_array(item.name) && self.are_subscripts(&item.subs)
+    }
+
+    #[tactic(auto, using(crate::proofs::ItemLaws::item_laws))]
+    fn suits_input(&self, expr: &Expr) -> bool
+        ensures { result ≡ kinds.suits_input (listed self.now.uses) (expression_of expr.now) }
+    {
+        match expr {
+            Expr::Item(item) => self.is_read_into(item),
+            Expr::Int(_) => false,
+            Expr::Truth(_) => false,
+            Expr::Un(..) => false,
+            Expr::Bin(..) => false,
+            Expr::Call(..) => false,
+        }
+    }
+
+    #[cycle(outputs)]
+    #[tactic(auto, using(crate::proofs::ItemLaws::item_laws))]
+    fn suits_output_item(&self, item: &Item) -> bool
+        ensures { result ≡ kinds.suits_output_item (listed self.now.uses) (item_of item.now) }
+    {
+        match item {
+            Item::One(expr) => self.suits_output(expr),
+            Item::Text(_) => true,
+            Item::Turns(list, _, first, last, step) => {
+                self.suits_outputs(list) && self.are_numbers(first, last, step)
+            }
+        }
+    }
+
+    /// Whether an output list suits.
+    #[cycle(outputs)]
+    pub fn suits_outputs(&self, list: &Seq<Item>) -> bool
+        ensures { result ≡ kinds.suits_output_items (listed self.now.uses) (items (map item_of list.now)) }
+    {
+        for item in list.as_slice() {
+            if !self.suits_output_item(item) {
+                return false;
+            }
+        }
+        true
+    }
+
+    #[cycle(inputs)]
+    #[tactic(auto, using(crate::proofs::ItemLaws::item_laws))]
+    fn suits_input_item(&self, item: &Item) -> bool
+        ensures { result ≡ kinds.suits_input_item (listed self.now.uses) (item_of item.now) }
+    {
+        match item {
+            Item::One(expr) => self.suits_input(expr),
+            Item::Text(_) => false,
+            Item::Turns(list, _, first, last, step) => {
+                self.suits_inputs(list) && self.are_numbers(first, last, step)
+            }
+        }
+    }
+
+    /// Whether an input list suits.
+    #[cycle(inputs)]
+    pub fn suits_inputs(&self, list: &Seq<Item>) -> bool
+        ensures { result ≡ kinds.suits_input_items (listed self.now.uses) (items (map item_of list.now)) }
+    {
+        for item in list.as_slice() {
+            if !self.suits_input_item(item) {
+                return false;
+            }
+        }
+        true
+    }
+}

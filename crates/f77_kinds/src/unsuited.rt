@@ -1,0 +1,48 @@
+//! The check of a program's kinds.
+ghost use Rattle.std.specs.Prelude.{◌≡◌, ◌||◌, IfOk, not};
+ghost use Rattle.std.specs.List.{list_any};
+ghost use Rattle.fv_meaning.specs.program.Uses as plain;
+ghost use Rattle.fv_meaning.specs.program.Kinds as kinds;
+ghost use Rattle.statements77.specs.First.{first_index};
+ghost use Rattle.statements77.specs.Views.{statement_of, text_of};
+ghost use Rattle.f77_names.specs.UsesView.{listed};
+
+use crate::kind_check::KindCheck;
+use f77_names::Uses;
+use fv_tree::Memory;
+use statements77::{Labelled, Stmt77};
+use std::alloc::Global;
+
+impl KindCheck {
+    // The statement calls a function that is hidden.
+    fn calls_hidden_in(&self, alloc: Global, statement: &Stmt77) -> Result<bool, Memory>
+        ensures { IfOk result (λ hidden. hidden ≡ list_any (kinds.calls_hidden (listed self.now.uses)) (plain.uses_of (statement_of statement.now))) }
+    {
+        let mut uses = Uses::new(alloc);
+        uses.add_statement(statement)?;
+        Ok(self.call_hidden(uses.as_slice()))
+    }
+
+    // A kind in the statement doesn't suit, or it calls a function that is hidden.
+    fn is_unsuited(&self, alloc: Global, statement: &Stmt77) -> Result<bool, Memory>
+        ensures { IfOk result (λ unsuited. unsuited ≡ (not (kinds.suits (listed self.now.uses) (statement_of statement.now)) || list_any (kinds.calls_hidden (listed self.now.uses)) (plain.uses_of (statement_of statement.now)))) }
+    {
+        if !self.suits(statement) {
+            return Ok(true);
+        }
+        self.calls_hidden_in(alloc, statement)
+    }
+}
+
+/// The place of the first statement in which a kind doesn't suit, or a function is called whose Fortran 90 name a variable hides.
+pub fn unsuited_kind(alloc: Global, text: &[Labelled]) -> Result<Option<usize>, Memory>
+    ensures { IfOk result (λ place. place ≡ first_index (kinds.has_unsuited_kind (plain.uses_in_text (text_of text.now))) (text_of text.now)) }
+{
+    let check = KindCheck::of_text(alloc, text)?;
+    for (i, statement) in text.iter().enumerate() {
+        if check.is_unsuited(alloc, &statement.statement)? {
+            return Ok(Some(i));
+        }
+    }
+    Ok(None)
+}
