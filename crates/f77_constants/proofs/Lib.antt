@@ -1,0 +1,8 @@
+pub mod DeclarationLaws
+pub mod NameOrder
+pub mod NarrowLaws
+pub mod PartLaws
+pub mod SizeLaws
+pub mod StoreLaws
+pub mod Unsuited
+pub mod ValueLaws

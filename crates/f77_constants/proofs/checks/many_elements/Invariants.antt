@@ -1,0 +1,13 @@
+use Rattle.std.proofs.Common.{◌≡◌}
+use Rattle.fv_meaning.specs.program.Limits.{all_elements, has_many_elements}
+use Rattle.statements77.specs.Views.{text_of}
+use Rattle.statements77.specs.Walk.{passed, IsSearched}
+use Rattle.f77_constants.specs.Constants.{store_of}
+use Rattle.f77_constants.specs.Bounds.{capped}
+use Rattle.f77_constants.proofs.checks.many_elements.Given as goal
+
+abbrev pub invariant-loop-i : goal.invariant-loop-i
+invariant-loop-i l = record {
+  searched : IsSearched (has_many_elements (store_of l.constants)) (text_of l.text) l.i;
+  count : l.count ≡ capped (all_elements (store_of l.constants) (passed (text_of l.text) l.i));
+}

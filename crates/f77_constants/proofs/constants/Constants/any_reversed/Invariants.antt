@@ -1,0 +1,11 @@
+use Rattle.std.proofs.Common.{◌≡◌, map, drop}
+use Rattle.std.specs.List.{list_any}
+use Rattle.statements77.specs.Views.{entity_of}
+use Rattle.f77_constants.specs.Constants.{store_of}
+use Rattle.f77_constants.specs.Bounds.{has_reversed, bounds_in}
+use Rattle.f77_constants.proofs.constants.Constants.any_reversed.Given as goal
+
+abbrev pub invariant-loop-entity : goal.invariant-loop-entity
+invariant-loop-entity l =
+    list_any (has_reversed (store_of l.self)) (bounds_in (map entity_of l.entities))
+    ≡ list_any (has_reversed (store_of l.self)) (bounds_in (map entity_of (drop l.entity-index l.entities)))

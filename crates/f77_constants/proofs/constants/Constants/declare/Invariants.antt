@@ -1,0 +1,14 @@
+use Rattle.std.proofs.Common.{◌≡◌, List, ◌++◌, map, drop}
+use Rattle.fv_tree.specs.View as view
+use Rattle.fv_meaning.specs.program.Uses.{Use}
+use Rattle.statements77.specs.Views.{text_of}
+use Rattle.f77_constants.specs.Constants.{store_of}
+use Rattle.f77_constants.specs.Declarations.{AreFacts, narrow_declarations}
+use Rattle.f77_constants.proofs.constants.Constants.declare.Given as goal
+
+abbrev pub invariant-loop-name : goal.invariant-loop-name
+invariant-loop-name l = record {
+  declared : (us : List Use) → AreFacts l.names us
+      → narrow_declarations us (store_of l.self) (text_of l.text) l.variables
+      ≡ map view.declaration_of l.declarations ++ narrow_declarations us (store_of l.self) (text_of l.text) (drop l.name-index l.variables);
+}

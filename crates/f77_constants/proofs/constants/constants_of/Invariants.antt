@@ -1,0 +1,12 @@
+use Rattle.std.proofs.Common.{◌≡◌, drop}
+use Rattle.std.specs.List.{flat_map}
+use Rattle.fv_meaning.specs.Statement77.{Labelled}
+use Rattle.fv_meaning.specs.program.Limits as plain
+use Rattle.statements77.specs.Views.{text_of}
+use Rattle.f77_constants.specs.Constants.{store_of}
+use Rattle.f77_constants.proofs.constants.constants_of.Given as goal
+
+abbrev pub invariant-loop-statement : goal.invariant-loop-statement
+invariant-loop-statement l =
+    plain.constants_of (text_of l.text)
+    ≡ plain.with_constants (flat_map (λ (x : Labelled). plain.definitions_of x.statement) (drop l.statement-index (text_of l.text))) (store_of l.constants)

@@ -1,0 +1,7 @@
+use Rattle.std.proofs.Common.{◌≡◌, map, drop}
+use Rattle.fv_meaning.specs.program.Limits.{bounds_among}
+use Rattle.statements77.specs.Views.{entity_of}
+use Rattle.f77_constants.proofs.declarations.bounds_among.Given as goal
+
+abbrev pub invariant-loop-entity : goal.invariant-loop-entity
+invariant-loop-entity l = bounds_among (map entity_of l.entities) l.name ≡ bounds_among (map entity_of (drop l.entity-index l.entities)) l.name

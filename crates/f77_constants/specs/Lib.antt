@@ -1,0 +1,4 @@
+pub mod Bounds
+pub mod Constants
+pub mod Declarations
+pub mod Steps

@@ -1,0 +1,92 @@
+//! Checks of the values of symbolic constants and bounds.
+ghost use Rattle.std.specs.Prelude.{◌≡◌, IfOk, map, is_none};
+ghost use Rattle.std.specs.List.{list_any};
+ghost use Rattle.fv_meaning.specs.Store.{Store};
+ghost use Rattle.fv_meaning.specs.program.Limits.{has_reversed_bounds, has_many_elements, has_bad_constant};
+ghost use Rattle.statements77.specs.First.{first_index};
+ghost use Rattle.statements77.specs.Views.{text_of, constant_of};
+ghost use Rattle.f77_constants.specs.Constants.{AreValues, store_of};
+ghost use Rattle.f77_constants.specs.Bounds.{lacks_value};
+
+use crate::bounds::{MOST, sum_of};
+use crate::constants::Constants;
+use crate::parts::{definitions, entities};
+use fv_tree::{Expr, Memory, Name};
+use statements77::Labelled;
+use std::alloc::Global;
+
+/// The place of the first statement with an upper bound below its lower bound.
+pub fn reversed_bounds(
+    alloc: Global,
+    text: &[Labelled],
+    constants: &Constants,
+) -> Result<Option<usize>, Memory>
+    ensures { (s : Store) → AreValues constants.now s → IfOk result (λ place. place ≡ first_index (has_reversed_bounds s) (text_of text.now)) }
+{
+    for (i, statement) in text.iter().enumerate() {
+        if constants.any_reversed(alloc, entities(&statement.statement))? {
+            return Ok(Some(i));
+        }
+    }
+    Ok(None)
+}
+
+/// The place of the statement at which the arrays declared so far first have more than 2^22 elements.
+pub fn many_elements(
+    alloc: Global,
+    text: &[Labelled],
+    constants: &Constants,
+) -> Result<Option<usize>, Memory>
+    ensures { (s : Store) → AreValues constants.now s → IfOk result (λ place. place ≡ first_index (has_many_elements s) (text_of text.now)) }
+{
+    let mut count = 0;
+    for (i, statement) in text.iter().enumerate() {
+        let here = constants.all_elements(alloc, entities(&statement.statement))?;
+        count = sum_of(count, here);
+        if count > MOST {
+            return Ok(Some(i));
+        }
+    }
+    Ok(None)
+}
+
+impl Constants {
+    fn is_without_value(&self, name: Name) -> bool
+        ensures { result ≡ is_none ((store_of self.now).bounds name) }
+    {
+        match self.value(name) {
+            None => true,
+            Some(_) => false,
+        }
+    }
+
+    fn lacks_value(&self, constants: &[(Name, Expr)]) -> bool
+        ensures { result ≡ lacks_value (store_of self.now) (map constant_of constants.now) }
+    {
+        for constant in constants {
+            if self.is_without_value(constant.0) {
+                return true;
+            }
+        }
+        false
+    }
+}
+
+/// The place of the first statement with a symbolic constant or a bound that faults, or leaves the range of INTEGER.
+pub fn bad_constant(
+    alloc: Global,
+    text: &[Labelled],
+    constants: &Constants,
+) -> Result<Option<usize>, Memory>
+    ensures { (s : Store) → AreValues constants.now s → IfOk result (λ place. place ≡ first_index (has_bad_constant s) (text_of text.now)) }
+{
+    for (i, statement) in text.iter().enumerate() {
+        if constants.lacks_value(definitions(&statement.statement)) {
+            return Ok(Some(i));
+        }
+        if constants.any_bad(alloc, entities(&statement.statement))? {
+            return Ok(Some(i));
+        }
+    }
+    Ok(None)
+}
