@@ -1,0 +1,6 @@
+pub mod Depth
+pub mod Lasts
+pub mod Leads
+pub mod Misuses
+pub mod OpenArms
+pub mod Rounds

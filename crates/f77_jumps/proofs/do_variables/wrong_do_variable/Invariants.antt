@@ -1,0 +1,16 @@
+use Rattle.std.proofs.Common.{◌≡◌, ℕ, List}
+use Rattle.fv_meaning.specs.program.Uses as plain
+use Rattle.fv_meaning.specs.program.DoVariables.{has_wrong_do_variable}
+use Rattle.statements77.specs.Views.{text_of}
+use Rattle.statements77.specs.Walk.{passed, IsSearched}
+use Rattle.f77_blocks.specs.LabelPlaces.{place_of}
+use Rattle.f77_names.specs.NameFacts.{nothing_known, facts_of, facts_in}
+use Rattle.f77_jumps.specs.LoopVariables.{last_in, last_of}
+use Rattle.f77_jumps.proofs.do_variables.wrong_do_variable.Given as goal
+
+abbrev pub invariant-loop-i : goal.invariant-loop-i
+invariant-loop-i l = record {
+  searched : IsSearched (has_wrong_do_variable (plain.uses_in_text (text_of l.text))) (text_of l.text) l.i;
+  known : (y : List ℕ) → facts_in l.variables.names y ≡ facts_of nothing_known (plain.uses_in_text (text_of l.text)) y;
+  lasts : (y : List ℕ) → last_in l.variables y ≡ last_of (place_of l.ends) (passed (text_of l.text) l.i) y;
+}

@@ -1,0 +1,5 @@
+pub mod Blocks
+pub mod LabelTargets
+pub mod LoopVariables
+pub mod Misuses
+pub mod Targets

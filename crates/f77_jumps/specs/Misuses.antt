@@ -1,0 +1,60 @@
+-- DO variables that are wrong, or that something in their range sets; `round` says of a name whether it is the DO variable of a loop round the place.
+use Rattle.std.specs.Prelude.{ℕ, Bool, false, not, ◌&&◌, ◌||◌, is_some, List, [], ◌∷◌, ◌++◌}
+use Rattle.fv_tree.specs.Plain.{Expression, Named, Subscripts, no_subscripts, subscript, Item, Single, Constant, ImpliedDo, Items, no_items, item}
+use Rattle.fv_tree.specs.declared.ops.Kind.TheVariants.{Integer}
+use Rattle.fv_meaning.specs.Statement77.{Statement77, Assign, Do, Read, Print}
+use Rattle.fv_meaning.specs.program.Names.{is_among}
+use Rattle.fv_meaning.specs.program.Kinds.{same_kind}
+use Rattle.fv_meaning.specs.program.Uses.{or_integer}
+use Rattle.f77_names.specs.declared.names.Facts.{Facts}
+use Rattle.f77_names.specs.NameFacts.{is_variable_by}
+
+-- an INTEGER scalar variable, by what is known of the name
+abbrev pub is_scalar_by : Facts → Bool
+is_scalar_by f = is_variable_by f && not (is_some f.dimensions && not f.constant) && same_kind (or_integer f.kind) Integer
+
+-- ---- the DO variables round an item are those of these implied DO lists, and those of loops
+
+abbrev pub is_round : (List ℕ → Bool) → List (List ℕ) → List ℕ → Bool
+is_round round lists x = is_among lists x || round x
+
+-- one of them is set
+abbrev pub sets_round : (List ℕ → Bool) → List (List ℕ) → List ℕ → Subscripts → Bool
+sets_round round lists x no_subscripts = is_round round lists x
+sets_round round lists x (subscript p ps) = false
+
+abbrev pub reads_round : (List ℕ → Bool) → List (List ℕ) → Expression → Bool
+reads_round round lists (Named x ps) = sets_round round lists x ps
+reads_round round lists e = false
+
+-- `scalar` says which names are INTEGER scalar variables
+module _ (scalar round : List ℕ → Bool) where
+  abbrev pub is_wrong_round : List ℕ → List (List ℕ) → Bool
+  is_wrong_round x lists = not (scalar x) || is_round round lists x
+
+  abbrev mutual
+    pub misuses_output : Item → List (List ℕ) → Bool
+    misuses_output (Single e) lists = false
+    misuses_output (Constant t) lists = false
+    misuses_output (ImpliedDo is x a b c) lists = is_wrong_round x lists || misuses_outputs is (lists ++ x ∷ [])
+
+    pub misuses_outputs : Items → List (List ℕ) → Bool
+    misuses_outputs no_items lists = false
+    misuses_outputs (item i is) lists = misuses_output i lists || misuses_outputs is lists
+
+  abbrev mutual
+    pub misuses_input : Item → List (List ℕ) → Bool
+    misuses_input (Single e) lists = reads_round round lists e
+    misuses_input (Constant t) lists = false
+    misuses_input (ImpliedDo is x a b c) lists = is_wrong_round x lists || misuses_inputs is (lists ++ x ∷ [])
+
+    pub misuses_inputs : Items → List (List ℕ) → Bool
+    misuses_inputs no_items lists = false
+    misuses_inputs (item i is) lists = misuses_input i lists || misuses_inputs is lists
+
+  abbrev pub misuses_statement : Statement77 → Bool
+  misuses_statement (Assign left e) = sets_round round [] left.name left.subscripts
+  misuses_statement (Do n x a b c) = is_wrong_round x []
+  misuses_statement (Read is) = misuses_inputs is []
+  misuses_statement (Print is) = misuses_outputs is []
+  misuses_statement _ = false

@@ -1,0 +1,55 @@
+//! GO TO: forwards, and never into a block or loop (ANSI X3.9-1978, sections 11.1 and 11.6 to 11.10).
+ghost use Rattle.std.specs.Prelude.{◌≡◌, Some, IfOk, if◌then◌else◌};
+ghost use Rattle.fv_meaning.specs.program.Jumps.{has_wrong_jump};
+ghost use Rattle.statements77.specs.First.{first_index};
+ghost use Rattle.statements77.specs.Views.{text_of};
+ghost use Rattle.f77_jumps.specs.LabelTargets.{target_in};
+ghost use Rattle.f77_jumps.specs.Targets.{jumps_wrongly_to};
+
+use crate::targets::{LabelTargets, targets_of};
+use f77_blocks::{Form, label_ends};
+use fv_tree::Memory;
+use statements77::Labelled;
+use std::alloc::Global;
+
+impl LabelTargets {
+    // A statement of this form is a GO TO that leads wrongly to the statement with its label, or to none.
+    fn refuse(&self, form: Form, at: usize) -> bool
+        ensures { result ≡ jumps_wrongly_to form (target_in self.now) at }
+    {
+        match form {
+            Form::Go(label) => match self.get(label) {
+                Some(target) => target.refuses(at),
+                None => true,
+            },
+            Form::Title | Form::Declaration | Form::Action | Form::Stop | Form::LogicalIf => false,
+            Form::If | Form::ElseIf | Form::Else | Form::EndIf => false,
+            Form::Do(_) | Form::End => false,
+        }
+    }
+}
+
+fn here_if(here: bool, place: usize, later: Option<usize>) -> Option<usize>
+    ensures { result ≡ (if here then Some place else later) }
+{
+    if here { Some(place) } else { later }
+}
+
+/// The place of the first statement with a GO TO that goes backwards, into a block or loop, or to a statement that no GO TO leads to.
+pub fn wrong_jump(alloc: Global, text: &[Labelled]) -> Result<Option<usize>, Memory>
+    ensures { IfOk result (λ place. place ≡ first_index has_wrong_jump (text_of text.now)) }
+{
+    let ends = label_ends(alloc, text)?;
+    let targets = targets_of(alloc, text, &ends)?;
+    let mut behind = LabelTargets::new(alloc);
+    let mut found = None;
+    let mut i = text.len();
+    while i > 0 {
+        i -= 1;
+        let statement = &text[i];
+        let form = Form::of(statement.statement.action());
+        found = here_if(behind.refuse(form, i), i, found);
+        behind.put(statement.label, targets[i])?;
+    }
+    Ok(found)
+}
