@@ -1,0 +1,222 @@
+-- The first place at which one of several causes holds, and the first of them that holds there.
+use Rattle.std.proofs.Common.{◌≡◌, ℕ, suc, ◌<◌, ◌≤◌, nat_lt, Bool, true, false, ◌||◌, cond, is_some, Option, None, Some, Result, Ok, Err, IfOk, List, [], ◌∷◌, length, get_or, find, refl, sym, ap, ap₂, subst, ◌∙◌, arith}
+use Rattle.std.specs.Option.{option_map}
+use Rattle.std.specs.List.{list_any, AllByRecursion}
+use Rattle.std.proofs.lemmas.Bool.Decides.{nat_tests}
+use Rattle.fv_tree.specs.declared.refusals.Refused.TheVariants as refused
+use Rattle.fv_meaning.specs.Statement77.{Labelled}
+use Rattle.fv_meaning.specs.program.Text.{Place, places, places_from}
+use Rattle.fv_meaning.specs.program.Program77.{Cause, ManyNames, ManyBlocks, ReversedBounds, ManyElements, BadConstant, number_of_cause, word_of_cause}
+use Rattle.statements77.specs.declared.statements.Labelled.{Labelled as Labelled'}
+use Rattle.statements77.specs.Views.{labelled_of, text_of}
+use Rattle.statements77.specs.First.{first_index, index_from}
+use Rattle.f77_checks.specs.declared.limits.Limit.{Limit}
+use Rattle.f77_checks.specs.declared.limits.Limit.TheVariants.{Names, Blocks, Bounds, Elements, Constants}
+use Rattle.f77_checks.specs.declared.limits.Breach.{Breach}
+use Rattle.f77_checks.specs.First.{holds_in}
+use Rattle.f77_checks.specs.Limits.{Found, limit_of, limits, found_of, here_or, found_from, sooner_found}
+use Rattle.f77_checks.specs.Outcomes.{Passes}
+use Rattle.f77_checks.proofs.Passing.{same_parts}
+use Rattle.f77_checks.proofs.Indices.{index_of, index_within, statement_at}
+
+-- ---- one cause
+
+abbrev at : Cause → ℕ → Found
+at c i = record { index = i; cause = c }
+
+one_step : (c : Cause) (b : Bool) (i : ℕ) (later : Option Found) (o : Option ℕ) → later ≡ option_map (at c) o
+    → here_or (cond b (Some c) None) i later ≡ option_map (at c) (cond b (Some i) o)
+one_step c true i later o h = refl
+one_step c false i later o h = h
+
+pub found_one : (holds : Cause → Place → Bool) (c : Cause) (i : ℕ) (ps : List Place) → found_from holds (c ∷ []) i ps ≡ option_map (at c) (index_from (holds c) i ps)
+found_one holds c i [] = refl
+found_one holds c i (p ∷ ps) = one_step c (holds c p) i (found_from holds (c ∷ []) (suc i) ps) (index_from (holds c) (suc i) ps) (found_one holds c (suc i) ps)
+
+pub found_none : (text : List Labelled) (c : Cause) → None ≡ first_index (holds_in text c) text → None ≡ found_from (holds_in text) (c ∷ []) 0 (places text)
+found_none text c h = ap (option_map (at c)) h ∙ sym (found_one (holds_in text) c 0 (places text))
+
+pub found_some : (text : List Labelled) (c : Cause) (i : ℕ) → Some i ≡ first_index (holds_in text c) text → Some (record { index = i; cause = c }) ≡ found_from (holds_in text) (c ∷ []) 0 (places text)
+found_some text c i h = ap (option_map (at c)) h ∙ sym (found_one (holds_in text) c 0 (places text))
+
+-- ---- one cause more
+
+above_step : (f : Option Cause) (i : ℕ) (later : Option Found) (x : Found) → here_or f i later ≡ Some x → (later ≡ Some x → suc i ≤ x.index) → i ≤ x.index
+above_step (Some c) i later x h ih = let same : at c i ≡ x = cc in omega (arith, ap (λ (y : Found). y.index) same)
+above_step None i later x h ih = let lt : suc i ≤ x.index = ih h in omega arith
+
+pub found_above : (holds : Cause → Place → Bool) (cs : List Cause) (i : ℕ) (ps : List Place) (x : Found) → found_from holds cs i ps ≡ Some x → i ≤ x.index
+found_above holds cs i [] x h = absurd (let no : None ≡ Some x = h in cc)
+found_above holds cs i (p ∷ ps) x h = above_step (find (λ c. holds c p) cs) i (found_from holds cs (suc i) ps) x h (found_above holds cs (suc i) ps x)
+
+keeps_here : (c : Cause) (i : ℕ) (b : Option Found) → ((x : Found) → b ≡ Some x → suc i ≤ x.index) → Some (at c i) ≡ sooner_found (Some (at c i)) b
+keeps_here c i None h = refl
+keeps_here c i (Some x) h = ap (λ t. cond t (Some x) (Some (at c i))) (later i x.index (h x refl))
+  where
+    later : (i k : ℕ) → suc i ≤ k → false ≡ nat_lt k i
+    later i k h = grind (arith, nat_tests)
+
+both_here : (c d : Cause) (i : ℕ) → Some (at c i) ≡ sooner_found (Some (at c i)) (Some (at d i))
+both_here c d i = ap (λ t. cond t (Some (at d i)) (Some (at c i))) (itself i)
+  where
+    itself : (i : ℕ) → false ≡ nat_lt i i
+    itself i = grind (arith, nat_tests)
+
+takes_here : (d : Cause) (i : ℕ) (a : Option Found) → ((x : Found) → a ≡ Some x → suc i ≤ x.index) → Some (at d i) ≡ sooner_found a (Some (at d i))
+takes_here d i None h = refl
+takes_here d i (Some x) h = ap (λ t. cond t (Some (at d i)) (Some x)) (sooner i x.index (h x refl))
+  where
+    sooner : (i k : ℕ) → suc i ≤ k → true ≡ nat_lt i k
+    sooner i k h = grind (arith, nat_tests)
+
+more_step : (c : Cause) (t : Bool) (f : Option Cause) (i : ℕ) (all a b : Option Found) → all ≡ sooner_found a b
+    → ((x : Found) → a ≡ Some x → suc i ≤ x.index) → ((x : Found) → b ≡ Some x → suc i ≤ x.index)
+    → here_or (cond t (Some c) f) i all ≡ sooner_found (here_or (cond t (Some c) None) i a) (here_or f i b)
+more_step c true None i all a b ih above below = keeps_here c i b below
+more_step c true (Some d) i all a b ih above below = both_here c d i
+more_step c false None i all a b ih above below = ih
+more_step c false (Some d) i all a b ih above below = takes_here d i a above
+
+pub found_more : (holds : Cause → Place → Bool) (c : Cause) (cs : List Cause) (i : ℕ) (ps : List Place)
+    → found_from holds (c ∷ cs) i ps ≡ sooner_found (found_from holds (c ∷ []) i ps) (found_from holds cs i ps)
+found_more holds c cs i [] = refl
+found_more holds c cs i (p ∷ ps) =
+    more_step c (holds c p) (find (λ d. holds d p) cs) i (found_from holds (c ∷ cs) (suc i) ps) (found_from holds (c ∷ []) (suc i) ps) (found_from holds cs (suc i) ps)
+    (found_more holds c cs (suc i) ps) (found_above holds (c ∷ []) (suc i) ps) (found_above holds cs (suc i) ps)
+
+-- ---- the limits
+
+abbrev one : (Cause → Place → Bool) → List Place → Cause → Option Found
+one holds ps c = found_from holds (c ∷ []) 0 ps
+
+limits_found : (holds : Cause → Place → Bool) (ps : List Place)
+    → sooner_found (one holds ps ManyNames) (sooner_found (one holds ps ManyBlocks) (sooner_found (one holds ps ReversedBounds) (sooner_found (one holds ps ManyElements) (one holds ps BadConstant))))
+    ≡ found_from holds limits 0 ps
+limits_found holds ps =
+    sym (found_more holds ManyNames (ManyBlocks ∷ ReversedBounds ∷ ManyElements ∷ BadConstant ∷ []) 0 ps
+    ∙ ap (sooner_found (one holds ps ManyNames)) (found_more holds ManyBlocks (ReversedBounds ∷ ManyElements ∷ BadConstant ∷ []) 0 ps
+    ∙ ap (sooner_found (one holds ps ManyBlocks)) (found_more holds ReversedBounds (ManyElements ∷ BadConstant ∷ []) 0 ps
+    ∙ ap (sooner_found (one holds ps ReversedBounds)) (found_more holds ManyElements (BadConstant ∷ []) 0 ps))))
+
+pub first_of_limits : (text : List Labelled) (n b r e v last later late all : Option Breach)
+    → option_map found_of n ≡ found_from (holds_in text) (ManyNames ∷ []) 0 (places text)
+    → option_map found_of b ≡ found_from (holds_in text) (ManyBlocks ∷ []) 0 (places text)
+    → option_map found_of r ≡ found_from (holds_in text) (ReversedBounds ∷ []) 0 (places text)
+    → option_map found_of e ≡ found_from (holds_in text) (ManyElements ∷ []) 0 (places text)
+    → option_map found_of v ≡ found_from (holds_in text) (BadConstant ∷ []) 0 (places text)
+    → option_map found_of last ≡ sooner_found (option_map found_of e) (option_map found_of v)
+    → option_map found_of later ≡ sooner_found (option_map found_of r) (option_map found_of last)
+    → option_map found_of late ≡ sooner_found (option_map found_of b) (option_map found_of later)
+    → option_map found_of all ≡ sooner_found (option_map found_of n) (option_map found_of late)
+    → option_map found_of all ≡ found_from (holds_in text) limits 0 (places text)
+first_of_limits text n b r e v last later late all hn hb hr he hv h4 h3 h2 h1 =
+    h1 ∙ ap₂ sooner_found hn (h2 ∙ ap₂ sooner_found hb (h3 ∙ ap₂ sooner_found hr (h4 ∙ ap₂ sooner_found he hv)))
+    ∙ limits_found (holds_in text) (places text)
+
+pub by_limit : {E : Type 0} (text : List Labelled) (l m : Limit) (o : Result (Option ℕ) E) → l ≡ m → IfOk o (λ place. place ≡ first_index (holds_in text (limit_of m)) text)
+    → IfOk o (λ place. place ≡ first_index (holds_in text (limit_of l)) text)
+by_limit text l m o e h = subst (λ k. IfOk o (λ place. place ≡ first_index (holds_in text (limit_of k)) text)) (sym e) h
+
+-- ---- what the first breach says of the text
+
+any_found : (test : Cause → Bool) (cs : List Cause) → list_any test cs ≡ is_some (find test cs)
+any_found test [] = refl
+any_found test (c ∷ cs) = step (test c) (any_found test cs)
+  where
+    step : (b : Bool) → list_any test cs ≡ is_some (find test cs) → (b || list_any test cs) ≡ is_some (cond b (Some c) (find test cs))
+    step true h = refl
+    step false h = h
+
+record FoundAt (holds : Cause → Place → Bool) (cs : List Cause) (ps : List Place) (x : Found) : Type 0 where
+  place : Place
+  first_place : find (λ p. list_any (λ c. holds c p) cs) ps ≡ Some place
+  first_cause : find (λ c. holds c place) cs ≡ Some x.cause
+  index : x.index ≡ index_of place
+
+place_step : (holds : Cause → Place → Bool) (cs : List Cause) (p : Place) (ps : List Place) (later : Option Found) (x : Found) (f : Option Cause) → find (λ c. holds c p) cs ≡ f
+    → here_or f (index_of p) later ≡ Some x → (later ≡ Some x → FoundAt holds cs ps x) → FoundAt holds cs (p ∷ ps) x
+place_step holds cs p ps later x (Some c) e h ih =
+    let same : at c (index_of p) ≡ x = cc in
+    record {
+      place = p;
+      first_place = (ap (λ b. cond b (Some p) (find (λ q. list_any (λ d. holds d q) cs) ps)) (any_found (λ d. holds d p) cs ∙ ap is_some e));
+      first_cause = (e ∙ ap (λ (y : Found). Some y.cause) same);
+      index = (ap (λ (y : Found). y.index) (sym same));
+    }
+place_step holds cs p ps later x None e h ih =
+    let rest : FoundAt holds cs ps x = ih h in
+    record {
+      place = rest.place;
+      first_place = (ap (λ b. cond b (Some p) (find (λ q. list_any (λ d. holds d q) cs) ps)) (any_found (λ d. holds d p) cs ∙ ap is_some e) ∙ rest.first_place);
+      first_cause = rest.first_cause;
+      index = rest.index;
+    }
+
+found_place : (holds : Cause → Place → Bool) (cs : List Cause) (before xs : List Labelled) (x : Found) → found_from holds cs (length before) (places_from before xs) ≡ Some x
+    → FoundAt holds cs (places_from before xs) x
+found_place holds cs before [] x h = absurd (let no : None ≡ Some x = h in cc)
+found_place holds cs before (y ∷ ys) x h =
+    let p : Place = record { before = before; here = y; after = ys } in
+    place_step holds cs p (places_from (y ∷ before) ys) (found_from holds cs (suc (length before)) (places_from (y ∷ before) ys)) x (find (λ c. holds c p) cs) refl h
+    (found_place holds cs (y ∷ before) ys x)
+
+pub breach_within : (xs : List Labelled') (b : Breach) → Some (found_of b) ≡ found_from (holds_in (text_of xs)) limits 0 (places (text_of xs)) → b.place < length xs
+breach_within xs b h =
+    let found : FoundAt (holds_in (text_of xs)) limits (places (text_of xs)) (found_of b) = found_place (holds_in (text_of xs)) limits [] (text_of xs) (found_of b) (sym h) in
+    omega (arith, index_within (λ p. list_any (λ c. holds_in (text_of xs) c p) limits) xs found.place found.first_place, found.index)
+
+limit_number : (l : Limit) → 18 ≡ number_of_cause (limit_of l)
+limit_number Names = refl
+limit_number Blocks = refl
+limit_number Bounds = refl
+limit_number Elements = refl
+limit_number Constants = refl
+
+pub breach_is_first : (xs : List Labelled') (b : Breach) (x : Labelled') (w : ℕ) → Some (found_of b) ≡ found_from (holds_in (text_of xs)) limits 0 (places (text_of xs))
+    → x ≡ get_or xs b.place x → w ≡ word_of_cause (limit_of b.limit)
+    → Passes limits (text_of xs) (Err (refused.Refusal (record { number = 18; line = x.line; word = w })))
+breach_is_first xs b x w h e k =
+    let found : FoundAt (holds_in (text_of xs)) limits (places (text_of xs)) (found_of b) = found_place (holds_in (text_of xs)) limits [] (text_of xs) (found_of b) (sym h) in
+    let stands : labelled_of x ≡ found.place.here = statement_at (λ p. list_any (λ c. holds_in (text_of xs) c p) limits) xs found.place x found.first_place (e ∙ ap (λ i. get_or xs i x) found.index) in
+    let line : x.line ≡ found.place.here.line = ap (λ (y : Labelled). y.line) stands in
+    record {
+      cause = limit_of b.limit;
+      place = found.place;
+      first_place = found.first_place;
+      first_cause = found.first_cause;
+      is = (same_parts 18 (number_of_cause (limit_of b.limit)) x.line found.place.here.line w (word_of_cause (limit_of b.limit)) (limit_number b.limit) line k);
+    }
+
+-- ---- no breach
+
+sooner_none : (a b : Option Found) → sooner_found a b ≡ None → (a ≡ None) × (b ≡ None)
+sooner_none None b h = (refl, h)
+sooner_none (Some a) None h = absurd (let no : Some a ≡ None = h in cc)
+sooner_none (Some a) (Some b) h = absurd (neither (nat_lt b.index a.index) h)
+  where
+    neither : (t : Bool) → cond t (Some b) (Some a) ≡ None → ⊥
+    neither true h = let no : Some b ≡ None = h in cc
+    neither false h = let no : Some a ≡ None = h in cc
+
+index_none_step : (b : Bool) (i : ℕ) (p : Place) (o : Option ℕ) (f : Option Place) → cond b (Some i) o ≡ None → (o ≡ None → f ≡ None) → cond b (Some p) f ≡ None
+index_none_step true i p o f h ih = absurd (let no : Some i ≡ None = h in cc)
+index_none_step false i p o f h ih = ih h
+
+index_none : (test : Place → Bool) (i : ℕ) (ps : List Place) → index_from test i ps ≡ None → find test ps ≡ None
+index_none test i [] h = refl
+index_none test i (p ∷ ps) h = index_none_step (test p) i p (index_from test (suc i) ps) (find test ps) h (index_none test (suc i) ps)
+
+unmapped : (c : Cause) (o : Option ℕ) → option_map (at c) o ≡ None → o ≡ None
+unmapped c None h = refl
+unmapped c (Some i) h = absurd (let no : Some (at c i) ≡ None = h in cc)
+
+nowhere : (holds : Cause → Place → Bool) (cs : List Cause) (ps : List Place) → found_from holds cs 0 ps ≡ None → AllByRecursion (λ c. find (holds c) ps ≡ None) cs
+nowhere holds [] ps h = tt
+nowhere holds (c ∷ cs) ps h =
+    let two : (found_from holds (c ∷ []) 0 ps ≡ None) × (found_from holds cs 0 ps ≡ None) = sooner_none (found_from holds (c ∷ []) 0 ps) (found_from holds cs 0 ps) (sym (found_more holds c cs 0 ps) ∙ h) in
+    (index_none (holds c) 0 ps (unmapped c (index_from (holds c) 0 ps) (sym (found_one holds c 0 ps) ∙ two.0)), nowhere holds cs ps two.1)
+
+pub no_breach : (text : List Labelled) → None ≡ found_from (holds_in text) limits 0 (places text) → Passes limits text (Ok tt)
+no_breach text h = nowhere (holds_in text) limits (places text) (sym h)
+
+pub ruleset outcome_laws = (breach_within, breach_is_first, no_breach)

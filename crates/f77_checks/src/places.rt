@@ -1,0 +1,21 @@
+//! Lines of statements.
+ghost use Rattle.std.specs.Prelude.{◌≡◌, Bool};
+ghost use Rattle.fv_meaning.specs.program.Text.{Place};
+ghost use Rattle.statements77.specs.First.{first_index, first_line};
+ghost use Rattle.statements77.specs.Views.{text_of};
+
+use statements77::Labelled;
+
+/// The line of the statement at a place.
+#[tactic(auto, using(crate::proofs::Indices::line_of_none, crate::proofs::Indices::line_of_index, crate::proofs::Indices::no_line_beyond))]
+pub fn line_at(text: &[Labelled], place: Option<usize>) -> Option<u32>
+    ensures { (test : Place → Bool) → place ≡ first_index test (text_of text.now) → result ≡ first_line test (text_of text.now) }
+{
+    match place {
+        None => None,
+        Some(place) => match text.get(place) {
+            None => None,
+            Some(statement) => Some(statement.line),
+        },
+    }
+}
