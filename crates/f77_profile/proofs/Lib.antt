@@ -1,0 +1,26 @@
+pub mod Lists
+pub mod Places
+pub mod Sound
+pub mod Variables
+pub mod Dimensions
+pub mod Counting
+pub mod ConstantValues
+pub mod NameKinds
+pub mod Actions
+pub mod Frames
+pub mod Moves
+pub mod Shapes
+pub mod Arrivals
+pub mod Blocks
+pub mod Statements
+pub mod Measures
+pub mod LabelCounts
+pub mod Known
+pub mod SymbolicNames
+pub mod Declared
+pub mod Titles
+pub mod Programs
+pub mod FirstFindings
+pub mod SourceExpressions
+pub mod RisingLines
+mod WorkedProgram

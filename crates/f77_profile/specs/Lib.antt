@@ -1,0 +1,3 @@
+pub mod FirstFinding
+pub mod Reading
+pub mod Source
