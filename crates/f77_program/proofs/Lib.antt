@@ -1,0 +1,4 @@
+pub mod CardLaws
+pub mod TextLaws
+pub mod Answers
+pub mod SourceLaws

@@ -1,0 +1,3 @@
+pub mod Source77
+pub mod Cards
+pub mod Outcomes

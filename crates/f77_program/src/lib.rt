@@ -1,0 +1,14 @@
+//! A FORTRAN 77 program, from its source or from the cards of it.
+#![tactic(auto)]
+
+mod cards;
+mod laws;
+mod programs;
+mod refusals;
+mod sources;
+#[cfg(test)]
+mod tests;
+
+pub use laws::{one_refusal, read_source_is_program};
+pub use programs::build;
+pub use sources::read77;
