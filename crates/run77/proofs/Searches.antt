@@ -1,0 +1,61 @@
+-- The search for a name among the variables.
+use Rattle.std.proofs.Common.{◌≡◌, refl, sym, ap, ◌∙◌, ℕ, ℤ, ◌+◌, true, false, cond, List, [], ◌∷◌, Option, Some, None, arith}
+use Rattle.std.specs.Option.{option_map}
+use Rattle.std.specs.Str.{bytes_eq}
+use Rattle.fv_tree.specs.Plain.{Extent, Given}
+use Rattle.fv_tree.specs.View.{declaration_of}
+use Rattle.fv_meaning.specs.Store.{opening_bounds}
+use Rattle.fv_meaning.specs.program.Typed.{dimensions}
+use Rattle.run77.specs.declared.variables.Variable.{Variable}
+use Rattle.run77.specs.Storage.{declared, starts_in, starts_of, place, offset, total, values_of, AreArrays}
+use Rattle.run77.specs.Stored.{IsOf, bounds_here}
+
+-- the name x stands nowhere before the rest, whose values start at n
+pub record IsSearched (x : List ℕ) (whole rest : List Variable) (n : ℕ) : Type 0 where
+  pub bounds : opening_bounds (declared whole) x ≡ opening_bounds (declared rest) x
+  pub place : (is : List ℤ) → place (declared whole) x is ≡ option_map (λ k. n + k) (place (declared rest) x is)
+  pub starts : starts_in rest ≡ starts_of n (declared rest)
+  pub total : n + total (declared rest) ≡ total (declared whole)
+  pub sound : AreArrays (declared rest)
+
+shifted_none : (o : Option ℕ) → o ≡ option_map (λ k. 0 + k) o
+shifted_none None = refl
+shifted_none (Some k) = ap (λ n. let o : Option ℕ = Some n in o) (let e : k ≡ 0 + k = omega arith in e)
+
+shifted_twice : (n m : ℕ) (o : Option ℕ) → option_map (λ k. n + k) (option_map (λ k. m + k) o) ≡ option_map (λ k. n + m + k) o
+shifted_twice n m None = refl
+shifted_twice n m (Some k) = ap (λ n. let o : Option ℕ = Some n in o) (let e : n + (m + k) ≡ n + m + k = omega arith in e)
+
+pub begun : (x : List ℕ) (whole : List Variable) → starts_in whole ≡ starts_of 0 (declared whole) → AreArrays (declared whole) → IsSearched x whole whole 0
+begun x whole e h = record { bounds = refl; place = λ is. shifted_none (place (declared whole) x is); starts = e; total = omega arith; sound = h }
+
+given : (e : Extent) → elim e as (λ _. Option (List (ℤ × ℤ))) [ Given bs ↦ Some bs ] ≡ Some (dimensions e)
+given (Given bs) = refl
+
+module _ (x : List ℕ) (whole : List Variable) (v : Variable) (rest : List Variable) (n : ℕ) (h : IsSearched x whole (v ∷ rest) n) where
+  pub passed : bytes_eq v.decl.name x ≡ false → IsSearched x whole rest (n + values_of (declaration_of v.decl))
+  passed e = record {
+    bounds = h.bounds ∙ ap (λ t. cond t (elim (declaration_of v.decl).extent as (λ _. Option (List (ℤ × ℤ))) [ Given bs ↦ Some bs ]) (opening_bounds (declared rest) x)) e;
+    place = λ is. h.place is
+        ∙ ap (λ t. option_map (λ k. n + k) (cond t (offset (bounds_here v) is) (option_map (λ k. values_of (declaration_of v.decl) + k) (place (declared rest) x is)))) e
+        ∙ shifted_twice n (values_of (declaration_of v.decl)) (place (declared rest) x is);
+    starts = cc (h.starts);
+    total = omega (arith, h.total);
+    sound = h.sound.1;
+  }
+
+  pub hit : bytes_eq v.decl.name x ≡ true → IsOf (declared whole) x v
+  hit e =
+      let start : v.start ≡ n = cc (h.starts) in
+      record {
+        bounds = h.bounds ∙ ap (λ t. cond t (elim (declaration_of v.decl).extent as (λ _. Option (List (ℤ × ℤ))) [ Given bs ↦ Some bs ]) (opening_bounds (declared rest) x)) e
+            ∙ given (declaration_of v.decl).extent;
+        place = λ is. h.place is
+            ∙ ap (λ t. option_map (λ k. n + k) (cond t (offset (bounds_here v) is) (option_map (λ k. values_of (declaration_of v.decl) + k) (place (declared rest) x is)))) e
+            ∙ ap (λ m. option_map (λ k. m + k) (offset (bounds_here v) is)) (sym start);
+        sound = h.sound.0;
+        fits = omega (arith, h.total);
+      }
+
+pub missed : (x : List ℕ) (whole : List Variable) (n : ℕ) → IsSearched x whole [] n → opening_bounds (declared whole) x ≡ None
+missed x whole n h = h.bounds

@@ -1,0 +1,66 @@
+use Rattle.std.proofs.Common.{sym, ap, ◌∙◌, [], ◌∷◌, Ok, Err}
+use Rattle.fv_tree.specs.View.{expression_of}
+use Rattle.fv_meaning.specs.Sequential.{integer_bits}
+use Rattle.fv_meaning.specs.Value.{value_of}
+use Rattle.run77.specs.Moments.{located}
+use Rattle.run77.specs.Stored.{store_in}
+use Rattle.run77.specs.Printing.{all_values, IsOneValue, AreAllValues}
+use Rattle.run77.proofs.Residuals.{residual}
+use Rattle.run77.proofs.WriteLaws.{prints_values, prints_fault, one_written, all_fault, all_ok, one_fault, one_ok}
+use Rattle.run77.proofs.moment.Moment.print_value.Goals as goal
+
+pub returns-in_err-values-in-Some-clause-run : goal.returns-in_err-values-in-Some-clause-run
+unfolding AreAllValues
+returns-in_err-values-in-Some-clause-run g c = λ input.
+    let s = store_in c.args.self.now.storage in
+    rw (residual c.from_residual.ensures.1)
+    (prints_fault c.args.line (expression_of c.args.expr.now) input c.args.self.now (g.K.Sink.taken c.args.out.now) (g.K.Sink.taken c.args.out.now) c.in_err-values-in-Some.field-0.0
+    (all_fault c.args.line (all_values c.in-Some.name s) c.all.result c.in_err-values-in-Some.field-0.0 c.all.ensures (sym c.in_err-values-in-Some.was ∙ c.at.ensures)
+    ∙ sym (ap (located c.args.line) (c.in-Some.ensures s))))
+
+pub returns-in_err-write_outputs-in-Some-clause-run : goal.returns-in_err-write_outputs-in-Some-clause-run
+unfolding AreAllValues
+returns-in_err-write_outputs-in-Some-clause-run g c = λ input.
+    let s = store_in c.args.self.now.storage in
+    rw (residual c.from_residual-in_err-write_outputs-in-Some.ensures.1)
+    (prints_values c.args.line (expression_of c.args.expr.now) input c.args.self.now (g.K.Sink.taken c.args.out.now) (g.K.Sink.taken c.write_outputs.new.out) c.in_ok-values-in-Some.values.now (Err c.in_err-write_outputs-in-Some.field-0.0)
+    (all_ok c.args.line (all_values c.in-Some.name s) c.all.result c.in_ok-values-in-Some.values c.all.ensures (sym c.in_ok-values-in-Some.was ∙ c.at.ensures)
+    ∙ sym (ap (located c.args.line) (c.in-Some.ensures s)))
+    c.in_err-write_outputs-in-Some.ensures.text)
+
+pub returns-in_ok-write_outputs-in-Some-clause-run : goal.returns-in_ok-write_outputs-in-Some-clause-run
+unfolding AreAllValues
+returns-in_ok-write_outputs-in-Some-clause-run g c = λ input.
+    let s = store_in c.args.self.now.storage in
+    prints_values c.args.line (expression_of c.args.expr.now) input c.args.self.now (g.K.Sink.taken c.args.out.now) (g.K.Sink.taken c.write_outputs.new.out) c.in_ok-values-in-Some.values.now (Ok tt)
+    (all_ok c.args.line (all_values c.in-Some.name s) c.all.result c.in_ok-values-in-Some.values c.all.ensures (sym c.in_ok-values-in-Some.was ∙ c.at.ensures)
+    ∙ sym (ap (located c.args.line) (c.in-Some.ensures s)))
+    c.in_ok-write_outputs-in-Some.ensures.text
+
+pub returns-in_err-value-in-None-clause-run : goal.returns-in_err-value-in-None-clause-run
+unfolding IsOneValue
+returns-in_err-value-in-None-clause-run g c = λ input.
+    let s = store_in c.args.self.now.storage in
+    rw (residual c.from_residual-in_err-value-in-None.ensures.1)
+    (prints_fault c.args.line (expression_of c.args.expr.now) input c.args.self.now (g.K.Sink.taken c.args.out.now) (g.K.Sink.taken c.args.out.now) c.in_err-value-in-None.field-0.0
+    (one_fault c.args.line (value_of integer_bits (expression_of c.args.expr.now) s) c.in_err-value-in-None.field-0.0 (sym c.in_err-value-in-None.was ∙ c.at-in-None.ensures ∙ ap (located c.args.line) c.value.ensures)
+    ∙ sym (ap (located c.args.line) (c.in-None.ensures s))))
+
+pub returns-in_err-write_output-in-None-clause-run : goal.returns-in_err-write_output-in-None-clause-run
+unfolding IsOneValue
+returns-in_err-write_output-in-None-clause-run g c = λ input.
+    let s = store_in c.args.self.now.storage in
+    rw (residual c.from_residual-in_err-write_output-in-None.ensures.1)
+    (prints_values c.args.line (expression_of c.args.expr.now) input c.args.self.now (g.K.Sink.taken c.args.out.now) (g.K.Sink.taken c.write_output.new.out) (c.in_ok-value-in-None.value ∷ []) (Err c.in_err-write_output-in-None.field-0.0)
+    (one_ok c.args.line (value_of integer_bits (expression_of c.args.expr.now) s) c.in_ok-value-in-None.value (sym c.in_ok-value-in-None.was ∙ c.at-in-None.ensures ∙ ap (located c.args.line) c.value.ensures)
+    ∙ sym (ap (located c.args.line) (c.in-None.ensures s)))
+    (one_written c.in_ok-value-in-None.value (g.K.Sink.taken c.args.out.now) (g.K.Sink.taken c.write_output.new.out) (Err c.in_err-write_output-in-None.field-0.0) c.in_err-write_output-in-None.ensures.text))
+
+pub returns-in_ok-write_output-in-None-clause-run : goal.returns-in_ok-write_output-in-None-clause-run
+unfolding IsOneValue
+returns-in_ok-write_output-in-None-clause-run g c = λ input.
+    let s = store_in c.args.self.now.storage in
+    prints_values c.args.line (expression_of c.args.expr.now) input c.args.self.now (g.K.Sink.taken c.args.out.now) (g.K.Sink.taken c.write_output.new.out) (c.in_ok-value-in-None.value ∷ []) (Ok tt)
+    (one_ok c.args.line (value_of integer_bits (expression_of c.args.expr.now) s) c.in_ok-value-in-None.value (sym c.in_ok-value-in-None.was ∙ c.at-in-None.ensures ∙ ap (located c.args.line) c.value.ensures)
+    ∙ sym (ap (located c.args.line) (c.in-None.ensures s)))
+    (one_written c.in_ok-value-in-None.value (g.K.Sink.taken c.args.out.now) (g.K.Sink.taken c.write_output.new.out) (Ok tt) c.in_ok-write_output-in-None.ensures.text)

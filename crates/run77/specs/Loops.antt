@@ -1,0 +1,42 @@
+-- How a loop begins.
+use Rattle.std.specs.Prelude.{Result, Ok, Err, Option, ℕ, ℤ, pos, ◌+ℤ◌, if◌then◌else◌, List}
+use Rattle.std.specs.Ordering.{int_eq}
+use Rattle.fv_tree.specs.Steps.{◌>>=◌}
+use Rattle.fv_tree.specs.Operators.{as_number}
+use Rattle.fv_tree.specs.Plain.{Expression}
+use Rattle.fv_tree.specs.declared.ops.Value.{Value}
+use Rattle.fv_tree.specs.declared.ops.Fault.{Fault}
+use Rattle.fv_tree.specs.declared.ops.Fault.TheVariants.{ZeroStep}
+use Rattle.fv_meaning.specs.Sequential.{integer_bits}
+use Rattle.fv_meaning.specs.Value.{exact}
+use Rattle.fv_meaning.specs.Run.{loops, repeated, turn}
+use Rattle.run77.specs.declared.loops.Turns.{Turns}
+use Rattle.run77.specs.declared.moment.Moment.{Moment}
+use Rattle.run77.specs.declared.moment.Halt.{Halt}
+use Rattle.run77.specs.declared.moment.Left.{Left}
+use Rattle.run77.specs.declared.moment.Left.TheVariants.{Halted}
+use Rattle.run77.specs.Acts.{LimitedAct, Runs}
+
+abbrev pub increased : Value → ℤ → Result ℤ Fault
+increased v m3 = do
+  z ← as_number v
+  exact (z +ℤ m3)
+
+abbrev pub nonzero : ℤ → Result ℤ Fault
+nonzero z = if int_eq z (pos 0) then Err ZeroStep else Ok z
+
+module _ (line : ℕ) (x : List ℕ) (first last step : Expression) (old new : Moment) where
+  -- what its turns do then is what the loop does
+  abbrev pub GoesOn : Turns → Type 0
+  GoesOn t = (body : LimitedAct) (input : List ℕ) (before now : Option (List ℕ)) (end : Moment) (r : Result (Unit {0}) Left)
+      → Runs (λ limit. repeated t.count (turn integer_bits limit line x t.step (body limit))) input new before end now r
+      → Runs (λ limit. loops integer_bits limit line x first last step (body limit)) input old before end now r
+
+  -- its parameters, its variable or its number of turns have a fault
+  abbrev pub HasFault : Halt → Type 0
+  HasFault h = (body : LimitedAct) (input : List ℕ) (bytes : Option (List ℕ))
+      → Runs (λ limit. loops integer_bits limit line x first last step (body limit)) input old bytes new bytes (Err (Halted h))
+
+  unfoldable pub BeginsLoop : Result Turns Halt → Type 0
+  BeginsLoop (Ok t) = GoesOn t
+  BeginsLoop (Err h) = HasFault h

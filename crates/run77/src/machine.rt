@@ -1,0 +1,117 @@
+//! A program that can be run, and its final store.
+ghost use Rattle.std.specs.Prelude.{◌≡◌, ◌≤◌, IfOk, OnErr, map};
+ghost use Rattle.fv_io.specs.Causes.{Rose};
+ghost use Rattle.fv_tree.specs.Plain.{Program};
+ghost use Rattle.fv_tree.specs.View.{program_of, declaration_of, block_of};
+ghost use Rattle.fv_meaning.specs.Store.{opening_store};
+ghost use Rattle.fv_meaning.specs.program.Profile.{IsProgram77};
+ghost use Rattle.fv_meaning.specs.Sequential.{integer_bits};
+ghost use Rattle.fv_meaning.specs.Run.{run};
+ghost use Rattle.fv_meaning.specs.Steps.{final_lines};
+ghost use Rattle.run77.specs.Machine.{IsOpening, IsMachineOf, Ends, end_at, ended, opening_of, store_left};
+ghost use Rattle.run77.specs.Storage.{AreArrays};
+ghost use Rattle.run77.specs.Stored.{names_in};
+ghost use Rattle.run77.specs.Texts.{WritesText};
+
+use crate::moment::{Halt, Left, Moment};
+use crate::storage::Storage;
+use fv_io::{Sink, WriteFault};
+use fv_meaning::End;
+use fv_tree::{Block, Decl, Memory, Program77, Seq};
+use std::alloc::Global;
+
+/// A FORTRAN 77 program with the storage of its names.
+#[derive(Drop)]
+pub struct Machine77 {
+    body: Block,
+    moment: Moment,
+}
+
+fn end_at(halt: Halt) -> End
+    ensures { result ≡ end_at halt }
+{
+    match halt {
+        Halt::Jump(_) => End::Done,
+        Halt::Stop => End::Done,
+        Halt::Fault(fault, line) => End::Fault(fault, line),
+        Halt::Limit => End::StepLimit,
+    }
+}
+
+fn ended(answer: Result<(), Left>) -> End
+    ensures { result ≡ ended answer }
+{
+    match answer {
+        Ok(()) => End::Done,
+        Err(Left::Halted(halt)) => end_at(halt),
+        Err(Left::Unwritten) => End::WriteFault,
+    }
+}
+
+impl Moment {
+    // The first moment of a run.
+    fn begin(&mut self, limit: Option<u64>)
+        ensures opening { IsOpening limit self.new }
+        ensures names { self.new.storage.variables ≡ self.old.storage.variables }
+    {
+        self.storage.reset();
+        self.at = 0;
+        self.had_value = false;
+        self.left = limit;
+    }
+}
+
+impl Machine77 {
+    /// Takes all the memory that runs need.
+    #[tactic(auto, using(crate::proofs::ProgramLaws::are_arrays))]
+    pub fn new(alloc: Global, program: Program77) -> Result<Machine77, Memory>
+        requires { IsProgram77 (program_of program) }
+        ensures machine { IfOk result (IsMachineOf (program_of program)) }
+        ensures opened { IfOk result (λ m. store_left m ≡ opening_store (program_of program)) }
+    {
+        let Program77 { decls, body, .. } = program;
+        Machine77::of_parts(alloc, decls, body)
+    }
+
+    /// The machine of a program with these declarations and statements.
+    pub(crate) fn of_parts(
+        alloc: Global,
+        decls: Seq<Decl>,
+        body: Block,
+    ) -> Result<Machine77, Memory>
+        requires { AreArrays (map declaration_of decls) }
+        ensures names { IfOk result (λ m. names_in m.moment.storage ≡ map declaration_of decls) }
+        ensures opened { IfOk result (λ m. store_left m ≡ opening_of (map declaration_of decls)) }
+        ensures body { IfOk result (λ m. block_of m.body ≡ block_of body) }
+    {
+        Ok(Machine77 {
+            body,
+            moment: Moment {
+                storage: Storage::new(alloc, decls)?,
+                at: 0,
+                had_value: false,
+                left: None,
+            },
+        })
+    }
+
+    /// Runs the program over the input, from its opening store on. The output goes out as it comes.
+    pub fn run<K: Sink>(&mut self, input: &[u8], out: &mut K, limit: Option<u64>) -> End
+        ensures run { (p : Program) → IsProgram77 p → IsMachineOf p self.old → Ends p.declarations (run integer_bits limit p input.now) self.new.moment (K.taken out.old) (K.taken out.new) result }
+        ensures machine { (p : Program) → IsProgram77 p → IsMachineOf p self.old → IsMachineOf p self.new }
+        ensures fault { result ≡ End.WriteFault → Rose (K.faults out.old) (K.faults out.new) }
+        ensures later { K.faults out.old ≤ K.faults out.new }
+    {
+        self.moment.begin(limit);
+        ended(self.moment.block(&self.body, input, out))
+    }
+
+    /// Writes a line for each variable and array element, in byte order of names, and column-major order.
+    pub fn show<K: Sink>(&self, out: &mut K) -> Result<(), WriteFault>
+        ensures text { (p : Program) → IsMachineOf p self.now → WritesText (K.taken out.old) (final_lines p (store_left self.now)) (K.taken out.new) result }
+        ensures fault { OnErr result (Rose (K.faults out.old) (K.faults out.new)) }
+        ensures later { K.faults out.old ≤ K.faults out.new }
+    {
+        self.moment.storage.show(out)
+    }
+}

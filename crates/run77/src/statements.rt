@@ -1,0 +1,224 @@
+//! Statements, block IFs, loops and jumps (ANSI X3.9-1978, sections 10 and 11).
+ghost use Rattle.std.specs.Prelude.{◌≡◌, ◌≤◌, Err, map, IsTrue, Option, List, ℕ};
+ghost use Rattle.fv_io.specs.Causes.{Rose};
+ghost use Rattle.fv_tree.specs.Operators.{as_truth};
+ghost use Rattle.fv_tree.specs.View.{expression_of, reference_of, statement_of, block_of};
+ghost use Rattle.fv_meaning.specs.Sequential.{integer_bits};
+ghost use Rattle.fv_meaning.specs.Value.{truth_of};
+ghost use Rattle.fv_meaning.specs.Run.{does, does_all, counts_step, assigns, goes, loops, Jumping, Stopped};
+ghost use Rattle.run77.specs.Acts.{Does, Runs, left_of};
+ghost use Rattle.run77.specs.Stored.{store_in};
+ghost use Rattle.run77.specs.Printing.{plain_items, prints};
+ghost use Rattle.run77.specs.Statements.{HasArms, ArmsHaveArms, BlockHasArms, plain_arms, Chooses, DoesOver, reads};
+ghost use Rattle.run77.specs.Jumps.{arrived, passed, caught, landed};
+
+use crate::moment::{Halt, Left, Moment};
+use crate::steps::at;
+use fv_io::Sink;
+use fv_tree::{Arm, Block, Expr, Fault, Item, Name, Ref, Seq, Stmt, Value};
+
+fn as_truth(value: Value) -> Result<bool, Fault>
+    ensures { result ≡ as_truth value }
+{
+    match value {
+        Value::Truth(truth) => Ok(truth),
+        Value::Int(_) => Err(Fault::Shape),
+    }
+}
+
+fn left(answer: Result<(), Halt>) -> Result<(), Left>
+    ensures { result ≡ left_of answer }
+{
+    match answer {
+        Ok(()) => Ok(()),
+        Err(halt) => Err(Left::Halted(halt)),
+    }
+}
+
+// A jump goes on to its label.
+fn caught(halt: Halt) -> Result<Option<u32>, Left>
+    ensures { result ≡ caught halt }
+{
+    match halt {
+        Halt::Jump(label) => Ok(Some(label)),
+        Halt::Stop => Err(Left::Halted(Halt::Stop)),
+        Halt::Fault(fault, line) => Err(Left::Halted(Halt::Fault(fault, line))),
+        Halt::Limit => Err(Left::Halted(Halt::Limit)),
+    }
+}
+
+// The label that has to be reached before statements are done again, or why no more are.
+fn landed(answer: Result<(), Left>) -> Result<Option<u32>, Left>
+    ensures { result ≡ landed answer }
+{
+    match answer {
+        Ok(()) => Ok(None),
+        Err(Left::Halted(halt)) => caught(halt),
+        Err(Left::Unwritten) => Err(Left::Unwritten),
+    }
+}
+
+fn arrived(number: u32, label: u32) -> Option<u32>
+    ensures { result ≡ arrived number label }
+{
+    if label == number {
+        return None;
+    }
+    Some(label)
+}
+
+// What is left of a jump to the label behind the statement.
+#[tactic(auto, using(fv_tree::proofs::Equations::statement_equations))]
+fn passed(stmt: &Stmt, label: u32) -> Option<u32>
+    ensures { result ≡ passed (statement_of stmt.now) label }
+{
+    match stmt {
+        Stmt::Label { number } => arrived(*number, label),
+        Stmt::Assign { .. } => Some(label),
+        Stmt::If { .. } => Some(label),
+        Stmt::Do { .. } => Some(label),
+        Stmt::Go { .. } => Some(label),
+        Stmt::Stop { .. } => Some(label),
+        Stmt::Read { .. } => Some(label),
+        Stmt::Print { .. } => Some(label),
+    }
+}
+
+impl Moment {
+    fn truth(&self, test: &Expr) -> Result<bool, Fault>
+        ensures { result ≡ truth_of integer_bits (expression_of test.now) (store_in self.now.storage) }
+    {
+        as_truth(self.storage.value(test)?)
+    }
+
+    fn assignment(&mut self, line: u32, left: &Ref, right: &Expr) -> Result<(), Halt>
+        ensures { Does (λ limit. counts_step integer_bits limit (assigns integer_bits limit line (reference_of left.now) (expression_of right.now))) self.old self.new result }
+    {
+        self.count_step()?;
+        self.assign(line, left, right)
+    }
+
+    fn go(&mut self, label: u32) -> Result<(), Halt>
+        ensures { Does (λ limit. counts_step integer_bits limit (goes (Jumping label))) self.old self.new result }
+    {
+        self.count_step()?;
+        Err(Halt::Jump(label))
+    }
+
+    fn stop(&mut self) -> Result<(), Halt>
+        ensures { Does (λ limit. counts_step integer_bits limit (goes Stopped)) self.old self.new result }
+    {
+        self.count_step()?;
+        Err(Halt::Stop)
+    }
+
+    fn read_statement(&mut self, line: u32, items: &Seq<Item>, input: &[u8]) -> Result<(), Halt>
+        ensures { DoesOver input.now (λ limit. counts_step integer_bits limit (reads limit line (plain_items items.now))) self.old self.new result }
+    {
+        self.count_step()?;
+        self.read(line, items, input)
+    }
+
+    fn print_statement<K: Sink>(
+        &mut self,
+        line: u32,
+        items: &Seq<Item>,
+        out: &mut K,
+    ) -> Result<(), Left>
+        ensures run { (input : List ℕ) → Runs (λ limit. counts_step integer_bits limit (prints limit line (plain_items items.now))) input self.old (K.taken out.old) self.new (K.taken out.new) result }
+        ensures fault { result ≡ Err Left.Unwritten → Rose (K.faults out.old) (K.faults out.new) }
+        ensures later { K.faults out.old ≤ K.faults out.new }
+    {
+        self.count_step()?;
+        self.print(line, items, out)
+    }
+
+    #[cycle(statements)]
+    fn statement<K: Sink>(&mut self, stmt: &Stmt, input: &[u8], out: &mut K) -> Result<(), Left>
+        ensures run { HasArms (statement_of stmt.now) → Runs (λ limit. does integer_bits limit (statement_of stmt.now)) input.now self.old (K.taken out.old) self.new (K.taken out.new) result }
+        ensures fault { result ≡ Err Left.Unwritten → Rose (K.faults out.old) (K.faults out.new) }
+        ensures later { K.faults out.old ≤ K.faults out.new }
+    {
+        match stmt {
+            Stmt::Assign {
+                line,
+                left: target,
+                right,
+                ..
+            } => left(self.assignment(*line, target, right)),
+            Stmt::If { line, arms, other } => {
+                let done = self.branch(*line, arms, input, out)?;
+                if done {
+                    return Ok(());
+                }
+                self.block(other, input, out)
+            }
+            Stmt::Do {
+                line,
+                var,
+                first,
+                last,
+                step,
+                body,
+            } => {
+                let turns = self.begin_loop(*line, *var, first, last, step)?;
+                for _ in 0..turns.count {
+                    self.count_step()?;
+                    self.block(body, input, out)?;
+                    self.increase(*line, *var, turns.step)?;
+                }
+                Ok(())
+            }
+            Stmt::Label { .. } => Ok(()),
+            Stmt::Go { number, .. } => left(self.go(*number)),
+            Stmt::Stop { .. } => left(self.stop()),
+            Stmt::Read { line, items } => left(self.read_statement(*line, items, input)),
+            Stmt::Print { line, items } => self.print_statement(*line, items, out),
+        }
+    }
+
+    // Does the first arm whose condition is true, and says whether there is one.
+    #[cycle(statements)]
+    fn branch<K: Sink>(
+        &mut self,
+        line: u32,
+        arms: &Seq<Arm>,
+        input: &[u8],
+        out: &mut K,
+    ) -> Result<bool, Left>
+        ensures run { ArmsHaveArms (plain_arms arms.now) → Chooses line (plain_arms arms.now) input.now self.old (K.taken out.old) self.new (K.taken out.new) result }
+        ensures fault { result ≡ Err Left.Unwritten → Rose (K.faults out.old) (K.faults out.new) }
+        ensures later { K.faults out.old ≤ K.faults out.new }
+    {
+        for arm in arms.as_slice() {
+            self.count_step()?;
+            let holds = at(line, self.truth(&arm.test))?;
+            if holds {
+                self.block(&arm.body, input, out)?;
+                return Ok(true);
+            }
+        }
+        Ok(false)
+    }
+
+    /// One statement after the other. A jump passes over those up to its label, and leaves a block that hasn't it.
+    #[cycle(statements)]
+    pub fn block<K: Sink>(&mut self, block: &Block, input: &[u8], out: &mut K) -> Result<(), Left>
+        ensures run { BlockHasArms (block_of block.now) → Runs (λ limit. does_all integer_bits limit (block_of block.now)) input.now self.old (K.taken out.old) self.new (K.taken out.new) result }
+        ensures fault { result ≡ Err Left.Unwritten → Rose (K.faults out.old) (K.faults out.new) }
+        ensures later { K.faults out.old ≤ K.faults out.new }
+    {
+        let mut jump = None;
+        for stmt in block.stmts.as_slice() {
+            if let Some(label) = jump {
+                jump = passed(stmt, label);
+                continue;
+            }
+            jump = landed(self.statement(stmt, input, out))?;
+        }
+        match jump {
+            None => Ok(()),
+            Some(label) => Err(Left::Halted(Halt::Jump(label))),
+        }
+    }
+}
