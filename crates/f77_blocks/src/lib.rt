@@ -16,6 +16,6 @@ mod tests;
 pub use forms::Form;
 pub use label_places::LabelPlaces;
 pub use labels_check::wrong_label;
-pub use nesting::{label_ends, place_under, wrong_nesting};
+pub use nesting::{here_if, label_ends, place_under, wrong_nesting};
 pub use openings::Openings;
 pub use order::wrong_end;

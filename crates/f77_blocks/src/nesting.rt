@@ -108,7 +108,8 @@ impl Form {
     }
 }
 
-fn here_if(here: bool, place: usize, later: Option<usize>) -> Option<usize>
+/// The place of a statement that is looked for, in front of a later one. A walk from the last statement to the first finds the first place so.
+pub fn here_if(here: bool, place: usize, later: Option<usize>) -> Option<usize>
     ensures { result ≡ (if here then Some place else later) }
 {
     if here { Some(place) } else { later }

@@ -9,7 +9,8 @@ use Rattle.fv_meaning.specs.Statement77.{Labelled}
 use Rattle.fv_meaning.specs.program.Text.{Place, places}
 use Rattle.fv_meaning.specs.program.Program77.{Cause, NoEnd, all_causes, number_of_cause, word_of_cause, comes_before, IsFirst, finding, findings, Refused77}
 use Rattle.fv_meaning.proofs.programs.Least.{one_first, none_is_not_first}
-use Rattle.f77_checks.specs.First.{holds_in, has_number, IsFoundAtPlace, IsFoundFirst, IsRising}
+use Rattle.f77_profile.specs.Source.{AreRising}
+use Rattle.f77_checks.specs.First.{holds_in, has_number, IsFoundAtPlace, IsFoundFirst}
 use Rattle.f77_checks.specs.Outcomes.{IsChecked}
 use Rattle.f77_checks.proofs.Found.{every_cause, any_true, every, both, each, here, all_by, first_is_least}
 
@@ -33,7 +34,7 @@ by_place text r f c q e h (inl same) =
     inr (ap (λ (x : Refusal). x.line) f.is ∙ ap (λ (p : Place). p.here.line) same, f.least_word c e (ap (holds_in text c) same ∙ h))
 by_place text r f c q e h (inr lt) = inl (let line : r.line ≡ f.place.here.line = ap (λ (x : Refusal). x.line) f.is in omega (arith, line, lt))
 
-follow : (y : Labelled) (ys : List Labelled) (r : Refusal) → IsRising (y ∷ ys) → IsFoundAtPlace (y ∷ ys) r → AllByRecursion (FollowsIn r) (findings (y ∷ ys))
+follow : (y : Labelled) (ys : List Labelled) (r : Refusal) → AreRising (y ∷ ys) → IsFoundAtPlace (y ∷ ys) r → AllByRecursion (FollowsIn r) (findings (y ∷ ys))
 follow y ys r rising f =
     let text = y ∷ ys in
     all_by (holds_in text) (FollowsIn r) (places text) all_causes
@@ -45,12 +46,12 @@ follow y ys r rising f =
 not_before : (n l w m k v : ℕ) → n ≤ m → (m ≡ n → (l < k) ⊎ ((l ≡ k) × (w ≤ v))) → (nat_lt m n || (m == n && (nat_lt k l || (k == l && nat_lt v w)))) ≡ false
 not_before n l w m k v h g = by (m == n) refl
   where
+    less : (m n : ℕ) → n ≤ m → nat_lt m n ≡ false
+    less m n h = grind (arith, nat_tests)
+
     other : (t : Bool) → (m == n) ≡ t → t ≡ false → (nat_lt m n || (t && (nat_lt k l || (k == l && nat_lt v w)))) ≡ false
     other true e f = absurd (let no : true ≡ false = f in cc)
-    other false e f = ap (λ b. b || false) (not_less m n h)
-      where
-        not_less : (m n : ℕ) → n ≤ m → nat_lt m n ≡ false
-        not_less m n h = grind (arith, nat_tests)
+    other false e f = ap (λ b. b || false) (less m n h)
 
     later : (l w k v : ℕ) → (l < k) ⊎ ((l ≡ k) × (w ≤ v)) → (nat_lt k l || (k == l && nat_lt v w)) ≡ false
     later l w k v (inl lt) = grind (arith, nat_tests)
@@ -58,9 +59,6 @@ not_before n l w m k v h g = by (m == n) refl
 
     equal : (m n : ℕ) → (m == n) ≡ true → m ≡ n
     equal m n e = grind (arith, nat_tests)
-
-    less : (m n : ℕ) → n ≤ m → nat_lt m n ≡ false
-    less m n h = grind (arith, nat_tests)
 
     by : (t : Bool) → (m == n) ≡ t → (nat_lt m n || (m == n && (nat_lt k l || (k == l && nat_lt v w)))) ≡ false
     by true e = ap (λ b. b || (m == n && (nat_lt k l || (k == l && nat_lt v w)))) (less m n h) ∙ ap (λ b. m == n && b) (later l w k v (g (equal m n e))) ∙ ap (λ b. b && false) e
@@ -72,7 +70,7 @@ comes_after r other h g = not_before r.number r.line r.word other.number other.l
 itself : (n l w : ℕ) → (nat_lt n n || (n == n && (nat_lt l l || (l == l && nat_lt w w)))) ≡ false
 itself n l w = grind (arith, nat_tests)
 
-pub is_first : (text : List Labelled) (r : Refusal) → IsRising text → IsFoundFirst text r → Refused77 text r
+pub is_first : (text : List Labelled) (r : Refusal) → AreRising text → IsFoundFirst text r → Refused77 text r
 is_first [] r rising f = subst (IsFirst (finding NoEnd 0 ∷ [])) (sym f) (record {
   found_it = (here (finding NoEnd 0) []);
   first = (itself 12 0 0, tt);
@@ -103,7 +101,7 @@ sound_if_ok text (Err e) h = tt
 pub found_if_refused : (text : List Labelled) (o : Result (Unit {0}) Refused) (r : Refusal) → IsChecked text o → o ≡ Err (refused.Refusal r) → IsFoundFirst text r
 found_if_refused text o r h e = subst (IsChecked text) e h
 
-pub first_if_refused : (text : List Labelled) (o : Result (Unit {0}) Refused) (r : Refusal) → IsChecked text o → o ≡ Err (refused.Refusal r) → IsRising text → Refused77 text r
+pub first_if_refused : (text : List Labelled) (o : Result (Unit {0}) Refused) (r : Refusal) → IsChecked text o → o ≡ Err (refused.Refusal r) → AreRising text → Refused77 text r
 first_if_refused text o r h e rising = is_first text r rising (found_if_refused text o r h e)
 
 pub memory_if_sound : (text : List Labelled) (o : Result (Unit {0}) Refused) → IsChecked text o → findings text ≡ [] → OnErr o (o ≡ Err refused.Memory)
@@ -111,7 +109,7 @@ memory_if_sound text (Ok u) h e = tt
 memory_if_sound text (Err (refused.Refusal r)) h e = absurd (sound_is_not_refused text r e h)
 memory_if_sound text (Err refused.Memory) h e = refl
 
-pub only_that_refusal : (text : List Labelled) (o : Result (Unit {0}) Refused) → IsChecked text o → (r : Refusal) → Refused77 text r → IsRising text
+pub only_that_refusal : (text : List Labelled) (o : Result (Unit {0}) Refused) → IsChecked text o → (r : Refusal) → Refused77 text r → AreRising text
     → (o ≡ Err (refused.Refusal r)) ⊎ (o ≡ Err refused.Memory)
 only_that_refusal text (Ok u) h r f rising = absurd (none_is_not_first (findings text) r h f)
 only_that_refusal text (Err (refused.Refusal s)) h r f rising = inl (ap (λ x. Err (refused.Refusal x)) (one_first (findings text) s r (is_first text s rising h) f))

@@ -7,7 +7,8 @@ use Rattle.fv_tree.specs.declared.refusals.Refusal.{Refusal}
 use Rattle.fv_meaning.specs.Statement77.{Labelled}
 use Rattle.fv_meaning.specs.program.Text.{Place, places_from}
 use Rattle.fv_meaning.specs.program.Program77.{Cause, Label, Nesting, NoEnd, Declared, RealName, TypeClash, Jump, DoVariable, ManyNames, ManyBlocks, ReversedBounds, ManyElements, BadConstant, all_causes, number_of_cause, finding}
-use Rattle.f77_checks.specs.First.{IsRising}
+use Rattle.f77_profile.specs.Source.{AreRising}
+use Rattle.f77_checks.proofs.Indices.{placed}
 
 -- ---- lists
 
@@ -193,9 +194,6 @@ lines_of_places n before (x ∷ xs) a = (a.0, lines_of_places n (x ∷ before) x
 abbrev IsNoLater : (Place → Bool) → Place → Place → Type 0
 IsNoLater test p q = test q ≡ true → (p ≡ q) ⊎ (p.here.line < q.here.line)
 
-abbrev placed : List Labelled → Labelled → List Labelled → Place
-placed before x xs = record { before = before; here = x; after = xs }
-
 rising_step : (test : Place → Bool) (b : Bool) (p q : Place) (rest : List Place) (f : Option Place) → test q ≡ b → cond b (Some q) f ≡ Some p
     → AllByRecursion (λ (x : Place). q.here.line < x.here.line) rest → (f ≡ Some p → AllByRecursion (IsNoLater test p) rest) → AllByRecursion (IsNoLater test p) (q ∷ rest)
 rising_step test true p q rest f e h a ih =
@@ -203,7 +201,7 @@ rising_step test true p q rest f e h a ih =
     (λ t. inl (sym same), every (λ (x : Place). q.here.line < x.here.line) (IsNoLater test p) (λ x lt t. inr (subst (λ (y : Place). y.here.line < x.here.line) same lt)) rest a)
 rising_step test false p q rest f e h a ih = (λ t. absurd (let no : false ≡ true = sym e ∙ t in cc), ih h)
 
-pub first_is_least : (test : Place → Bool) (before xs : List Labelled) (p : Place) → IsRising xs → find test (places_from before xs) ≡ Some p → AllByRecursion (IsNoLater test p) (places_from before xs)
+pub first_is_least : (test : Place → Bool) (before xs : List Labelled) (p : Place) → AreRising xs → find test (places_from before xs) ≡ Some p → AllByRecursion (IsNoLater test p) (places_from before xs)
 first_is_least test before [] p r h = tt
 first_is_least test before (x ∷ xs) p r h =
     rising_step test (test (placed before x xs)) p (placed before x xs) (places_from (x ∷ before) xs) (find test (places_from (x ∷ before) xs)) refl h

@@ -36,7 +36,7 @@ first_index-place test text = index_is test [] text
 abbrev pub whole : Place → List Labelled
 whole p = reverse p.before ++ p.here ∷ p.after
 
-abbrev placed : List Labelled → Labelled → List Labelled → Place
+abbrev pub placed : List Labelled → Labelled → List Labelled → Place
 placed before x xs = record { before = before; here = x; after = xs }
 
 some_same : (p q : Place) → Some p ≡ Some q → p ≡ q

@@ -1,5 +1,5 @@
 -- Which finding in a program's text is the first, said of its statements.
-use Rattle.std.specs.Prelude.{◌≡◌, ℕ, ◌≤◌, ◌<◌, ◌==◌, Bool, true, ◌&&◌, Some, List, [], ◌∷◌, Contains}
+use Rattle.std.specs.Prelude.{◌≡◌, ℕ, ◌≤◌, ◌==◌, Bool, true, ◌&&◌, Some, List, [], ◌∷◌, Contains}
 use Rattle.std.specs.List.{list_any, find, AllByRecursion}
 use Rattle.fv_tree.specs.declared.refusals.Refusal.{Refusal}
 use Rattle.fv_meaning.specs.Statement77.{Labelled}
@@ -32,8 +32,3 @@ pub record IsFoundAtPlace (text : List Labelled) (r : Refusal) : Type 0 where
 abbrev pub IsFoundFirst : List Labelled → Refusal → Type 0
 IsFoundFirst [] r = r ≡ finding NoEnd 0
 IsFoundFirst (x ∷ xs) r = IsFoundAtPlace (x ∷ xs) r
-
--- each statement has a line beyond those of the statements before it
-abbrev pub IsRising : List Labelled → Type 0
-IsRising [] = Unit {0}
-IsRising (x ∷ xs) = AllByRecursion (λ (y : Labelled). x.line < y.line) xs × IsRising xs

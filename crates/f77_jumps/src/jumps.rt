@@ -1,5 +1,5 @@
 //! GO TO: forwards, and never into a block or loop (ANSI X3.9-1978, sections 11.1 and 11.6 to 11.10).
-ghost use Rattle.std.specs.Prelude.{◌≡◌, Some, IfOk, if◌then◌else◌};
+ghost use Rattle.std.specs.Prelude.{◌≡◌, IfOk};
 ghost use Rattle.fv_meaning.specs.program.Jumps.{has_wrong_jump};
 ghost use Rattle.statements77.specs.First.{first_index};
 ghost use Rattle.statements77.specs.Views.{text_of};
@@ -7,7 +7,7 @@ ghost use Rattle.f77_jumps.specs.LabelTargets.{target_in};
 ghost use Rattle.f77_jumps.specs.Targets.{jumps_wrongly_to};
 
 use crate::targets::{LabelTargets, targets_of};
-use f77_blocks::{Form, label_ends};
+use f77_blocks::{Form, here_if, label_ends};
 use fv_tree::Memory;
 use statements77::Labelled;
 use std::alloc::Global;
@@ -27,12 +27,6 @@ impl LabelTargets {
             Form::Do(_) | Form::End => false,
         }
     }
-}
-
-fn here_if(here: bool, place: usize, later: Option<usize>) -> Option<usize>
-    ensures { result ≡ (if here then Some place else later) }
-{
-    if here { Some(place) } else { later }
 }
 
 /// The place of the first statement with a GO TO that goes backwards, into a block or loop, or to a statement that no GO TO leads to.

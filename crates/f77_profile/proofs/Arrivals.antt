@@ -12,7 +12,7 @@ use Rattle.fv_meaning.specs.program.Jumps.{place_of_label, opens_arm, enters_blo
 use Rattle.fv_meaning.specs.program.Uses.{Use}
 use Rattle.fv_meaning.specs.program.Profile.{labels_of}
 use Rattle.fv_meaning.specs.program.Tree.{Piece, Rest, Outermost, InArm, block_of, up_to, beyond, preceded, loop_begun, mark_of, resolved, simple, begun, rest_from}
-use Rattle.f77_profile.proofs.Lists.{left_false, right_false, affirmed, here, not_both}
+use Rattle.f77_profile.proofs.Lists.{left_false, right_false, both_false, affirmed, here, not_both}
 use Rattle.f77_profile.proofs.Sound.{IsRight}
 use Rattle.f77_profile.proofs.Frames.{Loop, Frames, Base, Inner, pushed, closed, frames}
 use Rattle.f77_profile.proofs.Moves.{Moves, moves, AllEnd, all_end}
@@ -210,10 +210,6 @@ module _ (us : List Use) (s : Store) (named : List ℕ) where
       by : (b : Bool) → ends_loop m (beyond k ps) ≡ false → ends_loop m (cond b ps (beyond k ps)) ≡ false
       by true more = right_false (ends_with m p) (ends_loop m ps) h
       by false more = more
-
-  both_false : (a b : Bool) → a ≡ false → b ≡ false → (a || b) ≡ false
-  both_false true b h g = absurd cc
-  both_false false b h g = g
 
   abbrev AreEndless : ℕ → Rest → Type 0
   AreEndless m r = (d : ℕ) → ends_loop m (level d r) ≡ false

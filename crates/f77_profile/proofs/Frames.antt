@@ -7,7 +7,7 @@ use Rattle.fv_meaning.specs.Statement77.{Labelled, Statement77, If, Else, EndIf,
 use Rattle.fv_meaning.specs.program.Text.{is_label, bears, stands_in, is_block_if, is_last_else, ends_in, loop_ends_in, left_over, without_ended}
 use Rattle.fv_meaning.specs.program.Nesting.{up_to_if, since, until_if, is_do_of, begins_loop, since_do}
 use Rattle.fv_meaning.specs.program.DoVariables.{loop_variable}
-use Rattle.f77_profile.proofs.Lists.{left_false, right_false, here, cases_of}
+use Rattle.f77_profile.proofs.Lists.{left_false, right_false, or_right, here, cases_of}
 
 -- a loop by the label of its last statement and its variable
 pub record Loop : Type 0 where
@@ -278,10 +278,6 @@ shown_here : (y : Labelled) (ys : List Labelled) → is_block_if y.statement ≡
 shown_here y ys h g =
     ap (λ b. list_any (λ (z : Labelled). is_last_else z.statement) (cond b [] (y ∷ until_if ys))) h ∙ ap (λ b. b || shows_else ys) g
 
-or_right : (a b : Bool) → b ≡ true → (a || b) ≡ true
-or_right true b h = refl
-or_right false b h = h
-
 shown_later : (y : Labelled) (ys : List Labelled) → is_block_if y.statement ≡ false → shows_else ys ≡ true → shows_else (y ∷ ys) ≡ true
 shown_later y ys h g =
     ap (λ b. list_any (λ (z : Labelled). is_last_else z.statement) (cond b [] (y ∷ until_if ys))) h ∙ or_right (is_last_else y.statement) (shows_else ys) g
@@ -355,7 +351,7 @@ variables_are_open rest (y ∷ ys) n x h = variables_step y.statement y rest ys 
 
 -- ---- their depth
 
-depth_pushed : (l : Loop) (f : Frames) → depth (pushed l f) ≡ 1 + depth f
+pub depth_pushed : (l : Loop) (f : Frames) → depth (pushed l f) ≡ 1 + depth f
 depth_pushed l (Base ls) = omega arith
 depth_pushed l (Inner ls had f) = omega arith
 

@@ -21,6 +21,14 @@ pub right_false : (a b : Bool) → (a || b) ≡ false → b ≡ false
 right_false true b h = absurd cc
 right_false false b h = h
 
+pub or_right : (a b : Bool) → b ≡ true → (a || b) ≡ true
+or_right true b h = refl
+or_right false b h = h
+
+pub both_false : (a b : Bool) → a ≡ false → b ≡ false → (a || b) ≡ false
+both_false true b h g = absurd cc
+both_false false b h g = g
+
 pub not_both : (b : Bool) → b ≡ true → b ≡ false → ⊥
 not_both b h g = cc
 

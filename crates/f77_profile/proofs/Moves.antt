@@ -7,7 +7,7 @@ use Rattle.fv_meaning.specs.Statement77.{Labelled, Statement77, If, ElseIf, Else
 use Rattle.fv_meaning.specs.program.Text.{Place, places_from, is_label, bears, stands_in, is_last_else, action}
 use Rattle.fv_meaning.specs.program.Labels.{is_wrong_label, is_unknown, label_named}
 use Rattle.fv_meaning.specs.program.Nesting.{since_if, own_since_if, has_open_if, ends_here, has_end_if, begins_loop, since_do, is_loop_open, is_anything_open, suits_else, is_no_loop_end, ends_loops_wrongly, stays_open, nests_wrongly, is_left_open, is_closed_wrongly}
-use Rattle.f77_profile.proofs.Lists.{left_true, right_true, left_false, right_false, negated, affirmed, not_both}
+use Rattle.f77_profile.proofs.Lists.{left_true, right_true, left_false, right_false, or_right, both_false, negated, affirmed, not_both}
 use Rattle.f77_profile.proofs.Sound.{IsRight}
 use Rattle.f77_profile.proofs.Frames.{Loop, Frames, Base, Inner, pushed, marked, top_closed, next_frames, pushed_if, frames, open_ifs_in, had_else, EndsNone, same_frames, closes_nothing, top_kept, ended_frames, IsEmptyTop, empty_top, else_shown}
 
@@ -22,14 +22,6 @@ label_free before m (Some k) h g = by (k == m) refl
         let s : k ≡ m = grind (arith, nat_tests) in
         absurd (not_both (stands_in before k) (ap (stands_in before) s ∙ h) (right_false (k == 0) (stands_in before k) g))
     by false e = e
-
-or_right : (a b : Bool) → b ≡ true → (a || b) ≡ true
-or_right true b h = refl
-or_right false b h = h
-
-both_false : (a b : Bool) → a ≡ false → b ≡ false → (a || b) ≡ false
-both_false true b h g = absurd cc
-both_false false b h g = g
 
 pub stands_no_more : (text before xs : List Labelled) (m : ℕ) → AllByRecursion (IsRight text) (places_from before xs) → stands_in before m ≡ true → stands_in xs m ≡ false
 stands_no_more text before [] m h g = refl

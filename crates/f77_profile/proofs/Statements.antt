@@ -20,7 +20,7 @@ use Rattle.fv_meaning.specs.program.Tree.{Rest, Outermost, InArm, preceded, mark
 use Rattle.f77_profile.specs.Source.{IsShallow, IsSourceLabel, IsSourceAction, IsSourceStatement, IsSourceCard}
 use Rattle.f77_profile.proofs.Lists.{left_true, right_true, left_false, right_false, affirmed, all_at, all_of, all_both, all_left, all_right, none_any, any_true, in_flat, here}
 use Rattle.f77_profile.proofs.Sound.{IsRight}
-use Rattle.f77_profile.proofs.Frames.{Loop, Frames, Base, Inner, pushed, closed, top_closed, frames, variables, depth, variables_are_open, depth_within}
+use Rattle.f77_profile.proofs.Frames.{Loop, Frames, Base, Inner, closed, top_closed, frames, variables, depth, variables_are_open, depth_pushed, depth_within}
 use Rattle.f77_profile.proofs.Moves.{Moves, moves, AllEnd, all_end}
 use Rattle.f77_profile.proofs.Shapes.{no_frames}
 use Rattle.f77_profile.proofs.NameKinds.{Knows, IsGood, AreGood}
@@ -53,10 +53,6 @@ opened_depth before xs x o h =
     by true o h = h
     by false o h = absurd cc
 
-pushed_depth : (l : Loop) (f : Frames) → depth (pushed l f) ≡ 1 + depth f
-pushed_depth l (Base ls) = omega arith
-pushed_depth l (Inner ls had f) = omega arith
-
 closed_length : (end : Option ℕ) (ls : List Loop) → length (closed end ls) ≤ length ls
 closed_length end [] = omega arith
 closed_length end (l ∷ ls) = by (is_label l.label end) (closed_length end ls)
@@ -74,7 +70,7 @@ depth_after (If c) end f g m o h = let e = ap depth m in let k = o refl in omega
 depth_after EndIf end f g m o h = let e = ap depth m.is in omega (arith, e, h)
 depth_after Else end f g m o h = let e = ap depth m.before in let d = ap depth m.after in omega (arith, e, d, h)
 depth_after (ElseIf c) end f g m o h = let e = ap depth m.same in omega (arith, e, h)
-depth_after (Do n v a b c) end f g m o h = let e = ap depth m in let k = o refl in let d = pushed_depth (record { label = n; variable = v }) f in omega (arith, e, k, d)
+depth_after (Do n v a b c) end f g m o h = let e = ap depth m in let k = o refl in let d = depth_pushed (record { label = n; variable = v }) f in omega (arith, e, k, d)
 depth_after c end f g m o h = let e = ap depth m in let d = closed_depth end f in omega (arith, e, d, h)
 
 -- ---- where no names are misused

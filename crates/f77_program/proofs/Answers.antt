@@ -15,7 +15,7 @@ use Rattle.fv_meaning.specs.statements.Reading.{IsRefusedBy}
 use Rattle.fv_meaning.specs.program.Program77.{comes_before, IsFirst, findings, Refused77}
 use Rattle.fv_meaning.specs.program.Tree.{tree_of}
 use Rattle.fv_meaning.proofs.programs.Least.{one_first}
-use Rattle.f77_checks.specs.First.{IsRising}
+use Rattle.f77_profile.specs.Source.{AreRising}
 use Rattle.f77_source.specs.SourceCards.{IsReadFrom, AreReadFrom, AreRisingCards}
 use Rattle.f77_program.specs.Source77.{ReadsProgram, HasCause, IsAnswered, RefusedProgram}
 use Rattle.f77_program.specs.Source77.HasCause.{AtCard, InText}
@@ -56,7 +56,7 @@ later n m [] (x ∷ xs) e f a = absurd f
 later n m (c ∷ cs) [] e f a = absurd f
 later n m (c ∷ cs) (x ∷ xs) e f a = (let l : x.line ≡ c.line = f.0.line in let lt : n < c.line = a.0 in omega (arith, e, l, lt), later n m cs xs e f.1 a.1)
 
-pub rising_text : (cards : List PlainCard) (text : List Labelled) → AreReadFrom cards text → AreRisingCards cards → IsRising text
+pub rising_text : (cards : List PlainCard) (text : List Labelled) → AreReadFrom cards text → AreRisingCards cards → AreRising text
 rising_text [] [] f a = tt
 rising_text [] (x ∷ xs) f a = absurd f
 rising_text (c ∷ cs) [] f a = absurd f

@@ -7,14 +7,14 @@ use Rattle.fv_tree.specs.View.{program_of}
 use Rattle.fv_meaning.specs.Cards.{PlainCard}
 use Rattle.fv_meaning.specs.Statement77.{Labelled}
 use Rattle.fv_meaning.specs.program.Program77.{findings, Reads77, Refused77}
-use Rattle.f77_checks.specs.First.{IsRising}
+use Rattle.f77_profile.specs.Source.{AreRising}
 use Rattle.f77_program.specs.Cards.{AreReadAlone, IsRefusedFirst, IfRefusal}
 
 -- something is found in the statements, and this refusal is the first where lines rise
 pub record IsRefusedText (text : List Labelled) (r : Refusal) : Type 0 where
   pub number : 10 ≤ r.number
   pub unsound : findings text ≡ [] → ⊥
-  pub first : IsRising text → Refused77 text r
+  pub first : AreRising text → Refused77 text r
 
 abbrev pub IsTextBuilt : List Labelled → Result Program77 Refused → Type 0
 IsTextBuilt text (Ok p) = Reads77 text (program_of p)

@@ -1,6 +1,6 @@
 -- Statements behind their keywords: jumps, conditions, reading and printing.
 use Rattle.std.proofs.Common.{◌≡◌, ℕ, zero, suc, List, [], ◌∷◌, ◌++◌, map, ap, sym, ◌∙◌, refl, append-nil, Bool, true, false, subst, codes}
-use Rattle.std.specs.Prelude.{Option, Some, None, ◌==◌, Err}
+use Rattle.std.specs.Prelude.{Option, Some, None, ◌==◌}
 use Rattle.std.specs.List.{list_any}
 use Rattle.std.proofs.lemmas.Bool.{eqb-true}
 use Rattle.fv_tree.specs.Plain as tree
@@ -24,8 +24,6 @@ use Rattle.fv_meaning.specs.statements.Recognition.{Halves, Bracket, Opening, Cl
 use Rattle.statements77.specs.Views as view
 use Rattle.statements77.specs.declared.statements.Stmt77.TheVariants as stmts
 use Rattle.statements77.proofs.Equations.{statement_of-go, statement_of-else_if, statement_of-read, statement_of-print}
-use Rattle.f77_expr.specs.declared.tokens.Stop.{Stop}
-use Rattle.f77_expr.specs.declared.tokens.Stop.TheVariants.{Syntax, Memory}
 use Rattle.f77_expr.proofs.WordsLaws.{has_none, has_only}
 use Rattle.f77_items.specs.declared.lists.ItemList.{ItemList}
 use Rattle.f77_items.specs.Reading as reading
@@ -35,7 +33,7 @@ use Rattle.f77_stmt.specs.declared.formed.Formed.{Formed}
 use Rattle.f77_stmt.specs.Actions.{IsCondition, IsConditionOf}
 use Rattle.f77_stmt.specs.Formed.{IsFound}
 use Rattle.f77_stmt.specs.Keywords.{IsGoToAfter, IsElseIfAfter, IsReadAfter, IsPrintAfter}
-use Rattle.f77_stmt.specs.Parts.{Given, IsFormedOf}
+use Rattle.f77_stmt.specs.Parts.{IsFormedOf}
 
 -- what is made of a statement without expressions
 abbrev pub IsBare : Statement77 → Formed → Type 0
@@ -58,10 +56,6 @@ go_found text rest number made h e b =
     }
 
 -- ---- ELSE IF
-
-pub given_err : {A B : Type 0} (e : Stop) (P : A → Type 0) (Q : B → Type 0) → Given (Err e) P → Given (Err e) Q
-given_err Syntax P Q h = absurd h
-given_err Memory P Q h = tt
 
 -- what is cut at a closing parenthesis is what stands on its two sides
 abbrev pub IsCut : List Symbol → Halves → Type 0

@@ -1,5 +1,5 @@
 -- Assignments.
-use Rattle.std.proofs.Common.{◌≡◌, ℕ, List, [], ◌∷◌, ◌++◌, ap, sym, ◌∙◌, refl, max, arith, append-nil, Bool, true, false, ◌||◌}
+use Rattle.std.proofs.Common.{◌≡◌, ℕ, List, [], ◌∷◌, ◌++◌, ap, sym, ◌∙◌, refl, max, append-nil, Bool, true, false, ◌||◌}
 use Rattle.std.specs.List.{list_any}
 use Rattle.fv_tree.specs.View.{expression_of}
 use Rattle.fv_tree.specs.declared.exprs.Ref.{Ref}
@@ -15,6 +15,7 @@ use Rattle.f77_expr.specs.Reading.{IsMadeOf, Is}
 use Rattle.statements77.specs.declared.statements.Stmt77.TheVariants as stmts
 use Rattle.statements77.proofs.Equations.{statement_of-assign}
 use Rattle.f77_stmt.specs.Parts.{capped, IsReferenceOf, BeginsWithReference, IsFormedOf, IsAssignment}
+use Rattle.f77_stmt.proofs.CappedLaws.{capped_max}
 
 or_assoc : (a b c : Bool) → (a || b) || c ≡ a || (b || c)
 or_assoc true b c = refl
@@ -27,9 +28,6 @@ any_append p (x ∷ xs) ys = ap (λ (b : Bool). p x || b) (any_append p xs ys) �
 -- an equals sign is no literal
 wide_sides : (l r : Phrase) → list_any is_wide (written l ++ (words.Equals ∷ written r)) ≡ has_wide_literal (Assign l r)
 wide_sides l r = any_append is_wide (written l) (words.Equals ∷ written r) ∙ sym (any_append is_wide (written l) (written r))
-
-capped_max : (a b : ℕ) → max (capped a) (capped b) ≡ capped (max a b)
-capped_max a b = omega arith
 
 pub formed : (l r : Phrase) (ws : List Word) (left : Ref) (d : ℕ) (right : Operand) (wide : Bool) (most : ℕ) → ws ≡ written l ++ (words.Equals ∷ written r) → wide ≡ list_any is_wide ws → most ≡ max d right.depth
     → IsReferenceOf left d l → IsMadeOf right r → IsFormedOf (record { statement = stmts.Assign left right.tree; wide = wide; depth = most }) (Assign l r)

@@ -18,7 +18,7 @@ use Rattle.f77_expr.specs.Reading.{Ends, IsMadeOf, Gives}
 use Rattle.f77_stmt.specs.Parts.{Given, capped}
 use Rattle.f77_stmt.specs.Declarations.{IsBoundOf, BeginsWithBound, EndsBound}
 use Rattle.f77_stmt.specs.Separated.{EndsPart}
-use Rattle.f77_stmt.proofs.SeparatedLaws.{capped_max}
+use Rattle.f77_stmt.proofs.CappedLaws.{capped_max}
 
 pub if_ok : {A E : Type 0} {P Q : A → Type 0} → ((a : A) → P a → Q a) → (x : Result A E) → IfOk x P → IfOk x Q
 if_ok f (Ok a) h = f a h

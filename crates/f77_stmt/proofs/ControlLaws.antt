@@ -1,5 +1,5 @@
 -- DO variables with their parameters.
-use Rattle.std.proofs.Common.{◌≡◌, ℕ, List, [], ◌∷◌, ap, ◌∙◌, refl, max, arith, pos, ◌<◌, length, append-nil}
+use Rattle.std.proofs.Common.{◌≡◌, ℕ, List, [], ◌∷◌, ap, ◌∙◌, refl, arith, pos, ◌<◌, length, append-nil}
 use Rattle.std.specs.Prelude.{Option, Some, None}
 use Rattle.fv_tree.specs.View.{expression_of}
 use Rattle.fv_tree.specs.declared.exprs.Expr.TheVariants as exprs
@@ -12,7 +12,7 @@ use Rattle.fv_meaning.specs.expressions.Words.{Word}
 use Rattle.fv_meaning.specs.statements.Items.{written_step}
 use Rattle.f77_expr.specs.declared.operands.Operand.{Operand}
 use Rattle.f77_expr.specs.Reading.{IsMadeOf, Is}
-use Rattle.f77_stmt.specs.Parts.{capped, IsStepOf, HasStep}
+use Rattle.f77_stmt.specs.Parts.{IsStepOf, HasStep}
 
 -- a step that is read
 pub step_found : (ws more : List Word) (m : Operand) → ws ≡ words.Comma ∷ more → Is more m → HasStep ws (expression_of m.tree) m.depth
@@ -35,8 +35,3 @@ no_step_only [] (Some p) h e = cc
 no_step_only (t ∷ ts) c h e = absurd (too_many t ts h)
 
 pub ruleset steps = (step_found, step_made)
-
-pub capped_max : (a b : ℕ) → max (capped a) (capped b) ≡ capped (max a b)
-capped_max a b = omega arith
-
-pub ruleset controls = (capped_max)

@@ -1,6 +1,7 @@
 pub mod ActionLaws
 pub mod AssignmentLaws
 pub mod BoundLaws
+pub mod CappedLaws
 pub mod CardLaws
 pub mod ControlLaws
 pub mod EntityLaws

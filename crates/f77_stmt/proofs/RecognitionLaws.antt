@@ -34,7 +34,7 @@ use Rattle.f77_stmt.specs.Kinds.{is_inner, IsUnconditional, Assignment, Loop, Of
 use Rattle.f77_stmt.specs.Parts.{Given, capped, IsFormedOf}
 use Rattle.f77_stmt.proofs.ActionLaws.{cut_is}
 use Rattle.f77_stmt.proofs.AssignmentLaws.{any_append}
-use Rattle.f77_stmt.proofs.ControlLaws.{capped_max}
+use Rattle.f77_stmt.proofs.CappedLaws.{capped_max}
 use Rattle.f77_stmt.proofs.GivenLaws.{given_err}
 use Rattle.f77_stmt.proofs.KeywordLaws.{behind_keyword, keyword_written}
 

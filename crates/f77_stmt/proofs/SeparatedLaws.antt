@@ -11,10 +11,8 @@ use Rattle.f77_expr.specs.declared.tokens.Token.{Token}
 use Rattle.f77_expr.specs.Tokens.{word_of}
 use Rattle.f77_expr.specs.Views.{words_of}
 use Rattle.f77_stmt.specs.Parts.{Given, capped}
+use Rattle.f77_stmt.proofs.CappedLaws.{capped_max}
 use Rattle.f77_stmt.specs.Separated.{EndsPart, EndsList, BeginsWithList, StillToRead, Reads, IsRead}
-
-pub capped_max : (a b : ℕ) → max (capped a) (capped b) ≡ capped (max a b)
-capped_max a b = omega arith
 
 max_assoc : (a b c : ℕ) → max a (max b c) ≡ max (max a b) c
 max_assoc a b c = omega arith
@@ -169,5 +167,3 @@ shorter rest more behind front c s =
     let a : length (words_of rest) ≡ length (words.Comma ∷ words_of more) = ap length c in
     let b : length (words_of more) ≡ length (front ++ words_of behind) = ap length s in
     omega (arith, length-map rest word_of, length-map more word_of, length-map behind word_of, length-append front (words_of behind))
-
-pub ruleset lists = (capped_max)

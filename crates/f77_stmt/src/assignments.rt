@@ -90,7 +90,7 @@ fn step(alloc: Global, tokens: &[Token]) -> Result<(Expr, u16), Stop>
 }
 
 /// All words as a DO variable with its parameters (section 11.10).
-#[tactic(auto, using(crate::proofs::ControlLaws::controls))]
+#[tactic(auto, using(crate::proofs::CappedLaws::capped_max))]
 pub(crate) fn read_control(alloc: Global, tokens: &[Token]) -> Result<Control, Stop>
     ensures found { IfOk result (λ k. IsControl (words_of tokens.now) k) }
     ensures only { (x : List ℕ) (a b : Phrase) (c : Option Phrase) → AreParameters a b c → words_of tokens.now ≡ written_control x a b c → Given result (λ k. IsControlOf k x a b c) }

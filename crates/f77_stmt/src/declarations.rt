@@ -70,7 +70,7 @@ fn read_bound(alloc: Global, tokens: &[Token]) -> Result<((Expr, Expr), u16, &[T
 }
 
 // The bounds at the front of the words, with their depth, and what follows them.
-#[tactic(auto, using(crate::proofs::SeparatedLaws::lists))]
+#[tactic(auto, using(crate::proofs::CappedLaws::capped_max))]
 fn read_bounds(alloc: Global, tokens: &[Token]) -> Result<(Seq<(Expr, Expr)>, u16, &[Token]), Stop>
     ensures found { IfOk result (λ r. AreBoundsRead (words_of tokens.now) r.0 r.1 (words_of r.2.now)) }
     ensures only { (bs : List Bound) (last : List words.Word) → IsList IsBound bs → EndsList last → words_of tokens.now ≡ separated written_bound bs ++ last

@@ -5,7 +5,8 @@ use Rattle.fv_meaning.specs.expressions.Squeezing.{Symbol}
 use Rattle.fv_meaning.specs.expressions.Spelling.{Words}
 use Rattle.std.specs.Prelude.{List}
 use Rattle.f77_stmt.specs.Parts.{IsFormedOf}
-use Rattle.f77_stmt.proofs.ActionLaws.{given_err, no_cut, the_halves, else_if_made, else_if_found}
+use Rattle.f77_stmt.proofs.GivenLaws.{given_err}
+use Rattle.f77_stmt.proofs.ActionLaws.{no_cut, the_halves, else_if_made, else_if_found}
 use Rattle.f77_stmt.proofs.actions.else_if.Goals as goal
 
 pub returns-in_default-clause-only : goal.returns-in_default-clause-only
