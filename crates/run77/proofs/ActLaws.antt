@@ -20,8 +20,8 @@ use Rattle.run77.specs.Stored.{names_in, store_in, Finds}
 use Rattle.run77.specs.Moments.{Stands, way_of, CountsStep, located, chosen, checked}
 use Rattle.run77.specs.Acts.{LimitedAct, Ended, Outcome, Runs}
 use Rattle.run77.specs.declared.variables.Variable.{Variable}
-use Rattle.std.specs.declared.vec.Vec.{Vec}
-use Rattle.std.specs.declared.alloc.Global.{Global}
+use Rattle.std.specs.Map.{values_of}
+use Rattle.indexmap.specs.IndexMap.{IndexMap}
 use Rattle.std.specs.Prelude.{IfOk, get_or}
 use Rattle.std.proofs.lemmas.List.{get_or_default}
 use Rattle.fv_meaning.specs.Store.{opening_value}
@@ -33,6 +33,10 @@ use Rattle.run77.proofs.Places.{put_is}
 pub at_same : (names : List Declaration) (limit : Option ℕ) (input : List ℕ) (base : Option (List ℕ)) (m : Moment) (now : Option (List ℕ)) (r : Result (Unit {0}) Left) {s t : State}
     → t ≡ s → Outcome names limit input base m now r s → Outcome names limit input base m now r t
 at_same names limit input base m now r e h = subst (Outcome names limit input base m now r) (sym e) h
+
+-- an equal table has the same names
+pub same_names : {S : Type 0} {new old : IndexMap (List ℕ) Variable S} → new ≡ old → declared (values_of new.entries) ≡ declared (values_of old.entries)
+same_names {S} e = ap (λ (table : IndexMap (List ℕ) Variable S). declared (values_of table.entries)) e
 
 -- an act that is begun on the way that goes on
 pub begun : (k : Act) (s : State) → s.way ≡ Going → while_going k s ≡ k s
@@ -146,7 +150,7 @@ Runs-stores c v k input old new now e l a b f g h names limit base s d t =
     at_same names limit input base new now (Ok tt) (begun (λ s. record s { store = put c v s.store }) s d.way_is)
     (record {
       stands = record {
-        names_are = ap (λ (vs : Vec Variable Global). declared vs.items) a ∙ d.names_are;
+        names_are = same_names a ∙ d.names_are;
         store = ap (put c v) d.store
             ∙ sym (put_is names old.storage.values.items c k v (ap (λ ds. place ds c.name c.subscripts) (sym d.names_are) ∙ e) l)
             ∙ ap (store_of names) (sym b);

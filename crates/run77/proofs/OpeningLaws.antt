@@ -1,7 +1,10 @@
 -- The values that a run begins with, as they are filled in.
-use Rattle.std.proofs.Common.{◌≡◌, refl, sym, ap, ◌∙◌, subst, ℕ, ◌+◌, ◌<◌, ◌≤◌, List, [], ◌∷◌, ◌++◌, take, drop, length, map, get_or, replicate, append_assoc, length-append, length-drop, ◌-◌, ℤ, arith}
+use Rattle.std.proofs.Common.{◌≡◌, refl, sym, ap, ◌∙◌, subst, ℕ, ◌+◌, ◌<◌, ◌≤◌, List, [], ◌∷◌, ◌++◌, take, drop, length, map, get_or, replicate, Some, None, false, cond, append_assoc, length-append, length-drop, ◌-◌, ℤ, arith}
 use Rattle.std.proofs.lemmas.List.{map-append, append-nil, take_all, at_drop_more, length-replicate, length-take-le}
 use Rattle.std.proofs.lemmas.Slice.{take-put_mid}
+use Rattle.std.specs.Map.{keys_of, values_of as variables_of, lookup}
+use Rattle.std.specs.Str.{bytes_eq}
+use Rattle.std.specs.Cmp.Lexicographic.{nat_list_eq_equiv}
 use borrow.Rule.Slice.PartMut.{put_mid}
 use Rattle.fv_tree.specs.declared.ops.Value.{Value}
 use Rattle.fv_tree.specs.Plain.{Declaration}
@@ -14,7 +17,7 @@ use Rattle.std.specs.Prelude.{◌^◌}
 use Rattle.fv_meaning.specs.program.Profile.{elements_of}
 use Rattle.fv_meaning.specs.Store.{nought}
 use Rattle.run77.specs.declared.variables.Variable.{Variable}
-use Rattle.run77.specs.Storage.{declared, total, noughts_of, values_of, starts_in, starts_of, AreArrays, AreBounds}
+use Rattle.run77.specs.Storage.{declared, own_names, AreDistinct, total, noughts_of, values_of, starts_in, starts_of, AreArrays, AreBounds}
 
 -- the values before `start` are filled in, those of the names before the place i
 pub record IsFilled (names : List Variable) (values : List Value) (start i : ℕ) : Type 0 where
@@ -88,6 +91,36 @@ place_more ds names values v more n x h s e f = record {
 -- where all names have their places
 pub all_placed : (ds : List Declaration) (names : List Variable) (values : List Value) → ArePlaced ds names values [] → declared names ≡ ds
 all_placed ds names values h = sym (h.all ∙ append-nil (declared names))
+
+-- ---- the names with their places, in a table
+
+pub record AreKept (ds : List Declaration) (table : List (List ℕ × Variable)) (values : List Value) (left : List Decl) : Type 0 where
+  pub placed : ArePlaced ds (variables_of table) values left
+  pub named : keys_of table ≡ own_names (variables_of table)
+
+-- a name that is declared later isn't there
+not_yet : (table : List (List ℕ × Variable)) (d : Declaration) (more : List Declaration) → keys_of table ≡ own_names (variables_of table) → AreDistinct (declared (variables_of table) ++ d ∷ more) → lookup (bytes_eq d.name) table ≡ None
+not_yet [] d more k h = refl
+not_yet (e ∷ es) d more k h =
+    let apart : bytes_eq e.1.decl.name d.name ≡ false = (second_part (λ (c : Declaration). bytes_eq e.1.decl.name c.name ≡ false) (declared (variables_of es)) (d ∷ more) h.0).0 in
+    let key : e.0 ≡ e.1.decl.name = cc k in
+    let other : bytes_eq d.name e.0 ≡ false = ap (bytes_eq d.name) key ∙ nat_list_eq_equiv.symm d.name e.1.decl.name ∙ apart in
+    ap (λ b. cond b (Some e.1) (lookup (bytes_eq d.name) es)) other ∙ not_yet es d more (cc k) h.1
+
+-- nor is the first one that is left
+pub absent : (ds : List Declaration) (table : List (List ℕ × Variable)) (values : List Value) (d : Decl) (more : List Decl) → AreDistinct ds → AreKept ds table values (d ∷ more) → lookup (bytes_eq d.name) table ≡ None
+absent ds table values d more a h = not_yet table (declaration_of d) (map declaration_of more) h.named (subst AreDistinct h.placed.all a)
+
+-- the same with one more name
+pub keep_more : (ds : List Declaration) (table new : List (List ℕ × Variable)) (values : List Value) (v : Variable) (more : List Decl) (n : ℕ) (x : Value) → AreKept ds table values (v.decl ∷ more)
+    → v.start ≡ length values → n ≡ values_of (declaration_of v.decl) → x ≡ nought v.decl.kind → new ≡ table ++ (v.decl.name, v) ∷ [] → AreKept ds new (values ++ replicate n x) more
+keep_more ds table new values v more n x h s e f w =
+    let added : variables_of new ≡ variables_of table ++ v ∷ [] = ap variables_of w ∙ map-append (λ (e : List ℕ × Variable). e.1) table ((v.decl.name, v) ∷ []) in
+    record {
+      placed = subst (λ vs. ArePlaced ds vs (values ++ replicate n x) more) (sym added) (place_more ds (variables_of table) values v more n x h.placed s e f);
+      named = ap keys_of w ∙ map-append (λ (e : List ℕ × Variable). e.0) table ((v.decl.name, v) ∷ []) ∙ ap (λ ks. ks ++ v.decl.name ∷ []) h.named
+          ∙ sym (ap own_names added ∙ map-append (λ (v : Variable). v.decl.name) (variables_of table) (v ∷ []));
+    }
 
 -- what is left of nothing
 pub nothing : {X : Type 0} (xs : List X) → length xs ≡ 0 → xs ≡ []

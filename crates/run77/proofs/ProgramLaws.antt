@@ -1,17 +1,22 @@
 -- What a machine relies on in a program of the profile, and the values that a run begins with.
-use Rattle.std.proofs.Common.{◌≡◌, refl, ap, ◌∙◌, subst, zero, suc, ℕ, ℤ, ◌+◌, ◌<◌, Bool, true, false, cond, List, [], ◌∷◌, ◌++◌, get_or, Option, Some, None, arith, replicate, ◌≤◌}
+use Rattle.std.proofs.Common.{◌≡◌, refl, sym, map, ap, ◌∙◌, subst, zero, suc, ℕ, ℤ, ◌+◌, ◌<◌, Bool, true, false, cond, List, [], ◌∷◌, ◌++◌, get_or, Option, Some, None, arith, replicate, ◌≤◌}
 use Rattle.std.specs.Option.{option_map}
 use Rattle.std.specs.List.{AllByRecursion}
 use Rattle.std.specs.Prelude.{sum_by, ◌^◌}
 use Rattle.std.specs.Str.{bytes_eq}
+use Rattle.std.specs.Ordering.{nat_cmp, is_eq}
+use Rattle.std.specs.Cmp.Lexicographic.{slice_cmp}
+use Rattle.std.specs.declared.cmp.Ordering.TheVariants.{Less}
+use Rattle.std.proofs.lemmas.Map.Text.{is_eq-slice_cmp}
 use Rattle.std.proofs.lemmas.List.Sums.{sum_by-cons, sum-map}
 use Rattle.fv_tree.specs.Plain.{Declaration, Program, Statement, Assignment, If, Do, Label, GoTo, Stop, Read, Print, Arms, no_arms, arm, Block, no_statements, statement}
 use Rattle.fv_tree.specs.declared.ops.Value.{Value}
 use Rattle.fv_meaning.specs.Store.{Store, Cell, opening_bounds, opening_value, nought}
+use Rattle.fv_meaning.specs.program.Names.{IsInByteOrder}
 use Rattle.fv_meaning.specs.program.Typed.{dimensions}
 use Rattle.fv_meaning.specs.program.Profile.{IsProgram77, IsDeclaration, array_elements, elements_of, Surroundings, IsStatement, AreArms, IsBlock, before_labels, labels_of, within_loop}
 use Rattle.run77.specs.Statements.{HasArms, ArmsHaveArms, BlockHasArms}
-use Rattle.run77.specs.Storage.{store_of, place, offset, values_of, value_at, noughts_of, AreArrays}
+use Rattle.run77.specs.Storage.{store_of, place, offset, values_of, value_at, noughts_of, AreArrays, AreDistinct}
 use Rattle.run77.specs.Machine.{opening_of}
 use Rattle.run77.proofs.ValueLaws.{offset_below}
 use Rattle.std.proofs.Math.Path.{fun_ext}
@@ -91,3 +96,15 @@ arrays (d ∷ ds) h l =
 
 pub are_arrays : (p : Program) → IsProgram77 p → AreArrays p.declarations
 are_arrays p h = arrays p.declarations h.declarations.each (subst (λ n. n ≤ 2 ^ 22) (sum-map counted p.declarations) h.declarations.elements)
+
+-- a name is none of those after it in byte order
+apart : (x : List ℕ) (ds : List Declaration) → AllByRecursion (λ y. slice_cmp nat_cmp x y ≡ Less) (map (λ (d : Declaration). d.name) ds) → AllByRecursion (λ (d : Declaration). bytes_eq x d.name ≡ false) ds
+apart x [] h = tt
+apart x (d ∷ ds) h = (sym (is_eq-slice_cmp x d.name) ∙ ap is_eq h.0, apart x ds h.1)
+
+distinct : (ds : List Declaration) → IsInByteOrder (map (λ (d : Declaration). d.name) ds) → AreDistinct ds
+distinct [] h = tt
+distinct (d ∷ ds) h = (apart d.name ds h.0, distinct ds h.1)
+
+pub are_distinct : (p : Program) → IsProgram77 p → AreDistinct p.declarations
+are_distinct p h = distinct p.declarations h.declarations.ordered

@@ -1,13 +1,15 @@
--- The search for a name among the variables.
-use Rattle.std.proofs.Common.{◌≡◌, refl, sym, ap, ◌∙◌, ℕ, ℤ, ◌+◌, true, false, cond, List, [], ◌∷◌, Option, Some, None, arith}
-use Rattle.std.specs.Option.{option_map}
+-- The search for a name in the table of variables.
+use Rattle.std.proofs.Common.{◌≡◌, refl, sym, ap, ◌∙◌, subst, Bool, Bor, MatchOption, ℕ, ℤ, ◌+◌, true, false, cond, List, [], ◌∷◌, Option, Some, None, arith}
+use Rattle.std.specs.Option.{option_map, option_copied}
+use Rattle.std.specs.Map.{keys_of, values_of as variables_of, lookup}
+use Rattle.std.specs.Cmp.Lexicographic.{nat_list_eq_equiv}
 use Rattle.std.specs.Str.{bytes_eq}
 use Rattle.fv_tree.specs.Plain.{Extent, Given}
 use Rattle.fv_tree.specs.View.{declaration_of}
 use Rattle.fv_meaning.specs.Store.{opening_bounds}
 use Rattle.fv_meaning.specs.program.Typed.{dimensions}
 use Rattle.run77.specs.declared.variables.Variable.{Variable}
-use Rattle.run77.specs.Storage.{declared, starts_in, starts_of, place, offset, total, values_of, AreArrays}
+use Rattle.run77.specs.Storage.{declared, own_names, starts_in, starts_of, place, offset, total, values_of, AreArrays}
 use Rattle.run77.specs.Stored.{IsOf, bounds_here}
 
 -- the name x stands nowhere before the rest, whose values start at n
@@ -59,3 +61,22 @@ module _ (x : List ℕ) (whole : List Variable) (v : Variable) (rest : List Vari
 
 pub missed : (x : List ℕ) (whole : List Variable) (n : ℕ) → IsSearched x whole [] n → opening_bounds (declared whole) x ≡ None
 missed x whole n h = h.bounds
+
+-- what the table has for the name x
+pub looked_up : (x : List ℕ) (whole : List Variable) (es : List (List ℕ × Variable)) (n : ℕ) → keys_of es ≡ own_names (variables_of es) → IsSearched x whole (variables_of es) n
+    → MatchOption (lookup (bytes_eq x) es) (opening_bounds (declared whole) x ≡ None) (IsOf (declared whole) x)
+looked_up x whole [] n k h = missed x whole n h
+looked_up x whole (e ∷ es) n k h = by (bytes_eq x e.0) refl (λ m. looked_up x whole es m (cc k))
+  where
+    same : bytes_eq e.1.decl.name x ≡ bytes_eq x e.0
+    same = nat_list_eq_equiv.symm e.1.decl.name x ∙ ap (bytes_eq x) (let key : e.1.decl.name ≡ e.0 = cc k in key)
+
+    by : (b : Bool) → bytes_eq x e.0 ≡ b → ((m : ℕ) → IsSearched x whole (variables_of es) m → MatchOption (lookup (bytes_eq x) es) (opening_bounds (declared whole) x ≡ None) (IsOf (declared whole) x))
+        → MatchOption (cond b (Some e.1) (lookup (bytes_eq x) es)) (opening_bounds (declared whole) x ≡ None) (IsOf (declared whole) x)
+    by true t rest = hit x whole e.1 (variables_of es) n h (same ∙ t)
+    by false t rest = rest (n + values_of (declaration_of e.1.decl)) (passed x whole e.1 (variables_of es) n h (same ∙ t))
+
+-- the same of a reference to what the table has
+pub referred : {A : Type 0} (P : Type 0) (Q : A → Type 0) (r : Option (Bor A)) (o : Option A) → option_copied r ≡ o → MatchOption o P Q → MatchOption r P (λ x. Q x.now)
+referred P Q None o e h = subst (λ o. MatchOption o P Q) (sym e) h
+referred P Q (Some x) o e h = subst (λ o. MatchOption o P Q) (sym e) h

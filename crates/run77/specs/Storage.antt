@@ -1,6 +1,6 @@
 -- Where the cells of a program's names lie: in one list of values, the names in the order of their declarations, and the
 -- elements of an array in column-major order (ANSI X3.9-1978, section 5.2.5).
-use Rattle.std.specs.Prelude.{Option, Some, None, ℕ, ◌+◌, ◌*◌, ◌^◌, ◌≤◌, ℤ, ◌-ℤ◌, nat_abs, int_le, ◌&&◌, if◌then◌else◌, List, [], ◌∷◌, map, get_or, nat_lt, length, ◌++◌, replicate}
+use Rattle.std.specs.Prelude.{◌≡◌, false, Option, Some, None, ℕ, ◌+◌, ◌*◌, ◌^◌, ◌≤◌, ℤ, ◌-ℤ◌, nat_abs, int_le, ◌&&◌, if◌then◌else◌, List, [], ◌∷◌, map, get_or, nat_lt, length, ◌++◌, replicate}
 use Rattle.std.specs.Option.{option_map}
 use Rattle.std.specs.Str.{bytes_eq}
 use Rattle.std.specs.List.{AllByRecursion}
@@ -54,6 +54,14 @@ store_of ds vs = record { bounds = opening_bounds ds; held = λ c. value_at vs (
 
 abbrev pub declared : List Variable → List Declaration
 declared vs = map (λ (v : Variable). declaration_of v.decl) vs
+
+abbrev pub own_names : List Variable → List (List ℕ)
+own_names vs = map (λ (v : Variable). v.decl.name) vs
+
+-- no name is declared twice
+abbrev pub AreDistinct : List Declaration → Type 0
+AreDistinct [] = Unit {0}
+AreDistinct (d ∷ ds) = AllByRecursion (λ (e : Declaration). bytes_eq d.name e.name ≡ false) ds × AreDistinct ds
 
 -- where each name's values start: where those of the name before it end
 abbrev pub starts_of : ℕ → List Declaration → List ℕ

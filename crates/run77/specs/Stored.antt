@@ -1,6 +1,7 @@
 -- The store that a machine's values stand for, and where its cells are.
 use Rattle.std.specs.Prelude.{◌≡◌, Result, Ok, Err, Option, Some, ℕ, ◌+◌, ◌≤◌, ℤ, List}
 use Rattle.std.specs.Option.{option_map}
+use Rattle.std.specs.Map.{values_of as variables_of}
 use Rattle.fv_tree.specs.Steps.{◌>>=◌}
 use Rattle.fv_tree.specs.Operators.{call}
 use Rattle.fv_tree.specs.Plain.{Declaration, Expressions, Subscripts}
@@ -17,7 +18,7 @@ use Rattle.run77.specs.declared.storage.Storage.{Storage}
 use Rattle.run77.specs.Storage.{store_of, declared, offset, place, total, values_of, AreBounds}
 
 abbrev pub names_in : Storage → List Declaration
-names_in s = declared s.variables.items
+names_in s = declared (variables_of s.variables.entries)
 
 abbrev pub store_in : Storage → Store
 store_in s = store_of (names_in s) s.values.items

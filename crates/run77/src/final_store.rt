@@ -27,8 +27,8 @@ impl Storage {
         ensures fault { OnErr result (Rose (K.faults out.old) (K.faults out.new)) }
         ensures later { K.faults out.old ≤ K.faults out.new }
     {
-        for variable in &self.variables {
-            self.show_name(variable.decl.name, out)?;
+        for name in self.variables.keys() {
+            self.show_name(*name, out)?;
         }
         Ok(())
     }

@@ -9,7 +9,7 @@ ghost use Rattle.fv_meaning.specs.Sequential.{integer_bits};
 ghost use Rattle.fv_meaning.specs.Run.{run};
 ghost use Rattle.fv_meaning.specs.Steps.{final_lines};
 ghost use Rattle.run77.specs.Machine.{IsOpening, IsMachineOf, Ends, end_at, ended, opening_of, store_left};
-ghost use Rattle.run77.specs.Storage.{AreArrays};
+ghost use Rattle.run77.specs.Storage.{AreArrays, AreDistinct};
 ghost use Rattle.run77.specs.Stored.{names_in};
 ghost use Rattle.run77.specs.Texts.{WritesText};
 
@@ -63,7 +63,7 @@ impl Moment {
 
 impl Machine77 {
     /// Takes all the memory that runs need.
-    #[tactic(auto, using(crate::proofs::ProgramLaws::are_arrays))]
+    #[tactic(auto, using(crate::proofs::ProgramLaws::are_arrays, crate::proofs::ProgramLaws::are_distinct))]
     pub fn new(alloc: Global, program: Program77) -> Result<Machine77, Memory>
         requires { IsProgram77 (program_of program) }
         ensures machine { IfOk result (IsMachineOf (program_of program)) }
@@ -79,7 +79,8 @@ impl Machine77 {
         decls: Seq<Decl>,
         body: Block,
     ) -> Result<Machine77, Memory>
-        requires { AreArrays (map declaration_of decls) }
+        requires sound { AreArrays (map declaration_of decls) }
+        requires distinct { AreDistinct (map declaration_of decls) }
         ensures names { IfOk result (λ m. names_in m.moment.storage ≡ map declaration_of decls) }
         ensures opened { IfOk result (λ m. store_left m ≡ opening_of (map declaration_of decls)) }
         ensures body { IfOk result (λ m. block_of m.body ≡ block_of body) }

@@ -1,14 +1,17 @@
 //! The values that a run begins with.
-ghost use Rattle.std.specs.Prelude.{◌≡◌, IfOk, length, map};
+ghost use Rattle.std.specs.Prelude.{◌≡◌, ◌++◌, [], ◌∷◌, None, IfOk, OnOk, length, map};
+ghost use Rattle.std.specs.Str.{bytes_eq};
+ghost use Rattle.indexmap.specs.IndexMap.{get};
 ghost use Rattle.fv_tree.specs.View.{declaration_of};
 ghost use Rattle.fv_meaning.specs.Store.{nought};
-ghost use Rattle.run77.specs.Storage.{declared, total, noughts_of, AreArrays};
+ghost use Rattle.run77.specs.Storage.{declared, total, noughts_of, AreArrays, AreDistinct};
 ghost use Rattle.run77.specs.Stored.{names_in, store_in};
 ghost use Rattle.run77.specs.Machine.{opening_of};
 
 use crate::storage::Storage;
 use crate::variables::{Variable, dims_of, elements};
-use fv_tree::{Decl, Kind, Memory, Seq, Value};
+use fv_tree::{Decl, Kind, Memory, Name, Seq, Value};
+use indexmap::IndexMap;
 use std::alloc::Global;
 
 fn nought(kind: Kind) -> Value
@@ -34,19 +37,29 @@ fn clear(variables: &[Variable], values: &mut [Value])
     }
 }
 
+// Puts a name behind those that are there.
+fn declare(variables: &mut IndexMap<Name, Variable>, decl: Decl, start: usize) -> Result<(), Memory>
+    requires { get bytes_eq variables.old decl.name ≡ None }
+    ensures { OnOk result (variables.new.entries ≡ variables.old.entries ++ (decl.name, record { decl = decl; start = start }) ∷ []) }
+{
+    variables.insert(decl.name, Variable { decl, start })?;
+    Ok(())
+}
+
 impl Storage {
     /// The storage of the names that are declared.
     pub fn new(alloc: Global, decls: Seq<Decl>) -> Result<Storage, Memory>
-        requires { AreArrays (map declaration_of decls) }
+        requires sound { AreArrays (map declaration_of decls) }
+        requires distinct { AreDistinct (map declaration_of decls) }
         ensures names { IfOk result (λ s. names_in s ≡ map declaration_of decls) }
         ensures opened { IfOk result (λ s. store_in s ≡ opening_of (names_in s)) }
     {
-        let mut variables = Vec::new(alloc);
+        let mut variables = IndexMap::new(alloc);
         let mut values = Vec::new(alloc);
         for decl in decls.into_vec() {
             let start = values.len();
             values.resize(start + elements(dims_of(&decl.form)), nought(decl.kind))?;
-            variables.push(Variable { decl, start })?;
+            declare(&mut variables, decl, start)?;
         }
         Ok(Storage { variables, values })
     }
@@ -56,6 +69,6 @@ impl Storage {
         ensures names { self.new.variables ≡ self.old.variables }
         ensures opened { store_in self.new ≡ opening_of (names_in self.new) }
     {
-        clear(&self.variables, &mut self.values);
+        clear(self.variables.values().as_slice(), &mut self.values);
     }
 }

@@ -1,6 +1,6 @@
 ghost use Rattle.std.specs.Prelude.{IfOk, map};
 ghost use Rattle.fv_tree.specs.View.{declaration_of};
-ghost use Rattle.run77.specs.Storage.{AreArrays};
+ghost use Rattle.run77.specs.Storage.{AreArrays, AreDistinct};
 
 use crate::Machine77;
 use fv_io::MemSink;
@@ -27,7 +27,8 @@ fn element(alloc: Global, text: &[u8], number: Expr) -> Result<Ref, Fail> {
 
 // INTEGER A(3), I
 fn declarations(alloc: Global) -> Result<Seq<Decl>, Fail>
-    ensures { IfOk result (λ ds. AreArrays (map declaration_of ds)) }
+    ensures sound { IfOk result (λ ds. AreArrays (map declaration_of ds)) }
+    ensures distinct { IfOk result (λ ds. AreDistinct (map declaration_of ds)) }
 {
     let mut dims = Seq::new(alloc);
     dims.push(Dim { lower: 1, upper: 3 })?;

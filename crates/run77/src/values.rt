@@ -6,8 +6,8 @@ ghost use Rattle.fv_tree.specs.View.{expression_of, subscript_of, reference_of};
 ghost use Rattle.fv_meaning.specs.Store.{opening_bounds};
 ghost use Rattle.fv_meaning.specs.Sequential.{integer_bits};
 ghost use Rattle.fv_meaning.specs.Value.{value_of, subscript_value, cell_named};
-ghost use Rattle.run77.specs.Storage.{declared, AreBounds, bounds_list};
-ghost use Rattle.run77.specs.Stored.{store_in, IsOf, Finds, call_of, offset_of};
+ghost use Rattle.run77.specs.Storage.{AreBounds, bounds_list};
+ghost use Rattle.run77.specs.Stored.{names_in, store_in, IsOf, Finds, call_of, offset_of};
 
 use crate::operations::{Arguments, apply};
 use crate::storage::Storage;
@@ -18,14 +18,9 @@ use fv_tree::{Dim, Expr, Fault, Fun, Name, Ref, Seq, Sub, Value};
 impl Storage {
     // The name's declaration.
     pub fn find(&self, name: Name) -> Option<&Variable>
-        ensures { MatchOption result (opening_bounds (declared self.now.variables.items) name ≡ None) (λ v. IsOf (declared self.now.variables.items) name v.now) }
+        ensures { MatchOption result (opening_bounds (names_in self.now) name ≡ None) (λ v. IsOf (names_in self.now) name v.now) }
     {
-        for variable in &self.variables {
-            if variable.decl.name == name {
-                return Some(variable);
-            }
-        }
-        None
+        self.variables.get(&name)
     }
 
     /// The value of an expression. The left operand of two is evaluated first, and the first fault wins.
@@ -68,7 +63,7 @@ impl Storage {
     #[cycle(value)]
     #[tactic(auto, using(crate::proofs::ValueLaws::place_laws))]
     pub fn place(&self, item: &Ref) -> Result<usize, Fault>
-        ensures found { Finds (declared self.now.variables.items) (cell_named integer_bits (reference_of item.now) (store_in self.now)) result }
+        ensures found { Finds (names_in self.now) (cell_named integer_bits (reference_of item.now) (store_in self.now)) result }
         ensures within { IfOk result (λ k. k < vec_len self.now.values) }
     {
         let Some(variable) = self.find(item.name) else {

@@ -1,14 +1,11 @@
-use Rattle.std.proofs.Common.{ap, sym, ◌∙◌, subst}
-use Rattle.std.specs.declared.vec.Vec.{Vec}
-use Rattle.std.specs.declared.alloc.Global.{Global}
+use Rattle.std.proofs.Common.{sym, ◌∙◌, subst}
 use Rattle.fv_tree.specs.Plain.{Program}
 use Rattle.fv_tree.specs.View.{block_of}
 use Rattle.fv_meaning.specs.program.Profile.{IsProgram77, outermost}
-use Rattle.run77.specs.declared.variables.Variable.{Variable}
 use Rattle.run77.specs.declared.machine.Machine77.{Machine77}
-use Rattle.run77.specs.Storage.{declared}
 use Rattle.run77.specs.Statements.{BlockHasArms}
 use Rattle.run77.specs.Machine.{IsMachineOf}
+use Rattle.run77.proofs.ActLaws.{same_names}
 use Rattle.run77.proofs.JumpLaws.{jumps_forward}
 use Rattle.run77.proofs.ProgramLaws.{block_has_arms}
 use Rattle.run77.proofs.MachineLaws.{runs_to_end, keeps_names}
@@ -21,13 +18,13 @@ pub returns-clause-run : goal.returns-clause-run
 returns-clause-run g c = λ p h is.
     rw c.ended.ensures
     (runs_to_end p c.args.limit c.args.input.now c.begin.new.self c.block.new.self (block_of c.args.self.now.body) (g.K.Sink.taken c.args.out.now) (g.K.Sink.taken c.block.new.out) c.block.result
-    (ap (λ (vs : Vec Variable Global). declared vs.items) c.begin.ensures.names ∙ is.names) is.body (jumps_forward p h) c.begin.ensures.opening
+    (same_names c.begin.ensures.names ∙ is.names) is.body (jumps_forward p h) c.begin.ensures.opening
     (c.block.ensures.run (has_arms p c.args.self.now h is)))
 
 pub returns-clause-machine : goal.returns-clause-machine
 returns-clause-machine g c = λ p h is. record {
   names = keeps_names p c.args.limit c.args.input.now c.begin.new.self c.block.new.self (block_of c.args.self.now.body) (g.K.Sink.taken c.args.out.now) (g.K.Sink.taken c.block.new.out) c.block.result
-      (ap (λ (vs : Vec Variable Global). declared vs.items) c.begin.ensures.names ∙ is.names) c.begin.ensures.opening
+      (same_names c.begin.ensures.names ∙ is.names) c.begin.ensures.opening
       (c.block.ensures.run (has_arms p c.args.self.now h is));
   body = is.body;
 }

@@ -1,17 +1,14 @@
 use Rattle.std.proofs.Common.{◌≡◌, ap, sym, ◌∙◌, ℕ, ◌<◌, [], length, get_or, Ok, Err, arith}
-use Rattle.std.specs.declared.vec.Vec.{Vec}
-use Rattle.std.specs.declared.alloc.Global.{Global}
 use Rattle.fv_meaning.specs.Store.{Cell, cells_of}
 use Rattle.fv_meaning.specs.program.Profile.{elements_of}
 use Rattle.fv_meaning.specs.Sequential.{integer_bits}
 use Rattle.fv_meaning.specs.Run.{for_each, reads_into}
-use Rattle.run77.specs.declared.variables.Variable.{Variable}
 use Rattle.run77.specs.declared.moment.Left.TheVariants.{Halted}
-use Rattle.run77.specs.Storage.{place, declared}
+use Rattle.run77.specs.Storage.{place}
 use Rattle.run77.specs.Stored.{names_in, bounds_here}
 use Rattle.run77.specs.Reading.{all_cells}
 use Rattle.run77.proofs.Residuals.{residual}
-use Rattle.run77.proofs.ActLaws.{Runs-fault, Runs-evaluates}
+use Rattle.run77.proofs.ActLaws.{Runs-fault, Runs-evaluates, same_names}
 use Rattle.run77.proofs.ReadLaws.{all_missing, all_here, none_found, cells_count, cell_place, cells_left, cells_more, cells_done}
 use Rattle.run77.proofs.moment.Moment.read_all.Goals as goal
 
@@ -39,7 +36,7 @@ returns-in_err-read_into c = λ bytes.
     rw (residual c.from_residual.ensures.1)
     (Runs-evaluates c.args.line (all_cells c.args.name) cs (λ cs limit. for_each cs (reads_into integer_bits limit c.args.line)) c.args.input.now c.args.self.now c.read_into.new.self bytes bytes (Err (Halted c.in_err-read_into.field-0.0)) (all_here c.args.line ds c.args.self.now.storage.values.items c.args.name v c.in-Some.ensures)
     (c.loop-k.invariant.2 cs (all ∙ sym count) at bytes c.read_into.new.self (Err (Halted c.in_err-read_into.field-0.0))
-    (cells_left c.args.line cs c.loop-k.k d (omega (arith, all, count, c.loop-k-test.true)) c.args.input.now c.loop-k.self c.read_into.new.self bytes c.in_err-read_into.field-0.0 (c.in_err-read_into.ensures.read cell (ap (λ (vs : Vec Variable Global). place (declared vs.items) cell.name cell.subscripts) c.loop-k.invariant.1 ∙ at c.loop-k.k d (omega (arith, all, count, c.loop-k-test.true))) bytes))))
+    (cells_left c.args.line cs c.loop-k.k d (omega (arith, all, count, c.loop-k-test.true)) c.args.input.now c.loop-k.self c.read_into.new.self bytes c.in_err-read_into.field-0.0 (c.in_err-read_into.ensures.read cell (ap (λ ds. place ds cell.name cell.subscripts) (same_names c.loop-k.invariant.1) ∙ at c.loop-k.k d (omega (arith, all, count, c.loop-k-test.true))) bytes))))
 
 pub loop-k-preserved : goal.loop-k-preserved
 loop-k-preserved c = (
@@ -49,7 +46,7 @@ loop-k-preserved c = (
       let d : Cell = record { name = c.args.name; subscripts = [] } in
       let cell = get_or cs c.loop-k.k d in
       c.loop-k.invariant.2 cs n at bytes last r
-      (cells_more c.args.line cs c.loop-k.k d (omega (arith, n, c.loop-k-test.true)) c.args.input.now c.loop-k.self c.read_into.new.self bytes last r (c.in_ok-read_into.ensures.read cell (ap (λ (vs : Vec Variable Global). place (declared vs.items) cell.name cell.subscripts) c.loop-k.invariant.1 ∙ at c.loop-k.k d (omega (arith, n, c.loop-k-test.true))) bytes) h),
+      (cells_more c.args.line cs c.loop-k.k d (omega (arith, n, c.loop-k-test.true)) c.args.input.now c.loop-k.self c.read_into.new.self bytes last r (c.in_ok-read_into.ensures.read cell (ap (λ ds. place ds cell.name cell.subscripts) (same_names c.loop-k.invariant.1) ∙ at c.loop-k.k d (omega (arith, n, c.loop-k-test.true))) bytes) h),
 )
 
 pub returns : goal.returns
