@@ -1,0 +1,76 @@
+-- The source and the input of a deck, found line by line.
+use Rattle.std.proofs.Common.{◌≡◌, ◌≤◌, ◌+◌, ◌-◌, ℕ, List, [], ◌∷◌, ◌++◌, length, take, refl, ap, sym, ◌∙◌, arith, Bool, true, false, cond, append-nil, append_assoc, length-append}
+use Rattle.std.specs.Prelude.{◌==◌}
+use Rattle.std.specs.Str.{bytes_eq}
+use Rattle.std.proofs.lemmas.Bool.{cond-true, cond-false, eqb-true}
+use Rattle.std.proofs.Math.Seq.{take-append_seam}
+use Rattle.fv_meaning.specs.Deck.{whole_lines, onto_first, is_line, joined, lines_before, lines_after, source_of, input_of, data_line77}
+use Rattle.fv_deck.specs.FirstLine.{IsFirstLine}
+
+joined_first : (b : ℕ) (ls : List (List ℕ)) → joined (onto_first b ls) ≡ b ∷ joined ls
+joined_first b [] = refl
+joined_first b (l ∷ ls) = refl
+
+joined_one : (b : ℕ) (text : List ℕ) (e : Bool) → (b == 10) ≡ e → joined (whole_lines text) ≡ text
+    → joined (cond e ((10 ∷ []) ∷ whole_lines text) (onto_first b (whole_lines text))) ≡ b ∷ text
+joined_one b text true e rest = ap (λ t. 10 ∷ t) rest ∙ ap (λ c. c ∷ text) (sym (eqb-true b 10 e))
+joined_one b text false e rest = joined_first b (whole_lines text) ∙ ap (λ t. b ∷ t) rest
+
+-- the lines with their ends are the whole text
+joined_lines : (text : List ℕ) → joined (whole_lines text) ≡ text
+joined_lines [] = refl
+joined_lines (b ∷ text) = joined_one b text (b == 10) refl (joined_lines text)
+
+-- what stands before the rest belongs to the source
+pub record IsPassed (deck rest : List ℕ) : Type 0 where
+  pub front : List ℕ
+  pub text_is : deck ≡ front ++ rest
+  pub source : source_of data_line77 deck ≡ front ++ source_of data_line77 rest
+  pub input : input_of data_line77 deck ≡ input_of data_line77 rest
+
+pub none_passed : (deck : List ℕ) → IsPassed deck deck
+none_passed deck = record { front = []; text_is = refl; source = refl; input = refl }
+
+-- the first line of the rest is no data line
+pub line_passed : (deck rest line after : List ℕ) → IsPassed deck rest → IsFirstLine rest line after → bytes_eq line data_line77 ≡ false → IsPassed deck after
+line_passed deck rest line after p l e = record {
+  front = p.front ++ l.whole;
+  text_is = p.text_is ∙ ap (λ t. p.front ++ t) l.text_is ∙ sym (append_assoc p.front l.whole after);
+  source =
+      p.source ∙ ap (λ t. p.front ++ t)
+      (ap (λ ls. joined (lines_before data_line77 ls)) l.whole_lines_are
+      ∙ ap joined (cond-false (is_line data_line77 l.whole) [] (l.whole ∷ lines_before data_line77 (whole_lines after)) (l.is_data ∙ e)))
+      ∙ sym (append_assoc p.front l.whole (source_of data_line77 after));
+  input =
+      p.input ∙ ap (λ ls. joined (lines_after data_line77 ls)) l.whole_lines_are
+      ∙ ap joined (cond-false (is_line data_line77 l.whole) (whole_lines after) (lines_after data_line77 (whole_lines after)) (l.is_data ∙ e));
+}
+
+pub rest_is_shorter : (deck rest : List ℕ) → IsPassed deck rest → length rest ≤ length deck
+rest_is_shorter deck rest p = omega (arith, ap length p.text_is, length-append p.front rest)
+
+-- it is a data line: the source stands before it, and the input after it
+pub source_at_data : (deck rest line after : List ℕ) → IsPassed deck rest → IsFirstLine rest line after → bytes_eq line data_line77 ≡ true
+    → take (length deck - length rest) deck ≡ source_of data_line77 deck
+source_at_data deck rest line after p l e =
+    let sizes : length deck ≡ length p.front + length rest = ap length p.text_is ∙ length-append p.front rest in
+    let cut : length deck - length rest ≡ length p.front = omega (arith, sizes) in
+    let none : source_of data_line77 rest ≡ [] =
+    ap (λ ls. joined (lines_before data_line77 ls)) l.whole_lines_are
+    ∙ ap joined (cond-true (is_line data_line77 l.whole) [] (l.whole ∷ lines_before data_line77 (whole_lines after)) (l.is_data ∙ e)) in
+    ap (λ n. take n deck) cut ∙ ap (take (length p.front)) p.text_is ∙ take-append_seam p.front rest
+    ∙ sym (p.source ∙ ap (λ t. p.front ++ t) none ∙ append-nil p.front)
+
+pub input_at_data : (deck rest line after : List ℕ) → IsPassed deck rest → IsFirstLine rest line after → bytes_eq line data_line77 ≡ true
+    → after ≡ input_of data_line77 deck
+input_at_data deck rest line after p l e = sym (
+    p.input ∙ ap (λ ls. joined (lines_after data_line77 ls)) l.whole_lines_are
+    ∙ ap joined (cond-true (is_line data_line77 l.whole) (whole_lines after) (lines_after data_line77 (whole_lines after)) (l.is_data ∙ e))
+    ∙ joined_lines after)
+
+-- all lines are passed
+pub source_at_end : (deck rest : List ℕ) → IsPassed deck rest → rest ≡ [] → deck ≡ source_of data_line77 deck
+source_at_end deck rest p e = p.text_is ∙ ap (λ t. p.front ++ t) e ∙ sym (p.source ∙ ap (λ t. p.front ++ source_of data_line77 t) e)
+
+pub input_at_end : (deck rest : List ℕ) → IsPassed deck rest → rest ≡ [] → [] ≡ input_of data_line77 deck
+input_at_end deck rest p e = sym (p.input ∙ ap (input_of data_line77) e)

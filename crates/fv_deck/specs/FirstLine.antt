@@ -1,0 +1,18 @@
+-- The first line of a text.
+use Rattle.std.specs.Prelude.{ℕ, ◌≡◌, ◌<◌, List, ◌∷◌, ◌++◌, length, Option, None, Some}
+use Rattle.std.specs.Str.{bytes_eq}
+use Rattle.fv_meaning.specs.Deck.{lines_of, whole_lines, is_line, data_line77}
+
+-- a text is this line, without its end, and then the lines of the rest
+pub record IsFirstLine (text line rest : List ℕ) : Type 0 where
+  pub lines : lines_of text ≡ line ∷ lines_of rest
+  pub whole : List ℕ
+  pub text_is : text ≡ whole ++ rest
+  pub whole_lines_are : whole_lines text ≡ whole ∷ whole_lines rest
+  pub is_data : is_line data_line77 whole ≡ bytes_eq line data_line77
+  pub shorter : length rest < length text
+
+-- what stands before a byte, the byte, and what stands after it
+abbrev pub joined_at : ℕ → List ℕ → Option (List ℕ) → List ℕ
+joined_at c front None = front
+joined_at c front (Some rest) = front ++ c ∷ rest

@@ -1,0 +1,6 @@
+//! A deck as bytes: its lines, its source and its input.
+#![tactic(auto)]
+
+mod lines;
+
+pub use lines::{cut, next_line, source_and_input};

@@ -1,0 +1,77 @@
+//! The lines of a deck, the pieces of a line, and the two parts of a deck.
+ghost use Rattle.std.specs.Prelude.{◌≡◌, ◌==◌, ◌<◌, ◌≢◌, ◌∷◌, length, position, IfSome, MatchOption, [], ◌+◌};
+ghost use Rattle.std.specs.List.{AllByRecursion};
+ghost use Rattle.std.specs.Option.{option_copied};
+ghost use Rattle.std.specs.Str.{bytes_eq};
+ghost use Rattle.std.specs.Str.Lines.{strip_carriage_return};
+ghost use Rattle.fv_meaning.specs.Deck.{source_of, input_of, data_line77};
+ghost use Rattle.fv_meaning.specs.ThinReader.{pieces, pieces_after};
+ghost use Rattle.fv_deck.specs.FirstLine.{IsFirstLine, joined_at};
+
+// The place of the first such byte.
+fn first(text: &[u8], byte: u8) -> Option<usize>
+    ensures { result ≡ position (λ b. b == byte) text.now }
+{
+    text.iter().position(|b| *b == byte)
+}
+
+/// What stands before the first such byte, and what stands after it, if there is one.
+#[tactic(auto, using(crate::proofs::Pieces::pieces_uncut, crate::proofs::Pieces::pieces_cut, crate::proofs::Pieces::whole_cut, crate::proofs::Pieces::none_uncut, crate::proofs::Pieces::none_cut))]
+pub fn cut(text: &[u8], byte: u8) -> (&[u8], Option<&[u8]>)
+    ensures pieces { pieces byte text.now ≡ result.0.now ∷ pieces_after byte (option_copied result.1) }
+    ensures whole { text.now ≡ joined_at byte result.0.now (option_copied result.1) }
+    ensures none_before { AllByRecursion (λ b. b ≢ byte) result.0.now }
+    ensures shorter { IfSome (option_copied result.1) (λ rest. length rest < length text.now) }
+{
+    match first(text, byte) {
+        None => (text, None),
+        Some(at) => (&text[..at], Some(&text[at + 1..])),
+    }
+}
+
+// The line without a carriage return at its end.
+fn without_return(line: &[u8]) -> &[u8]
+    ensures { result.now ≡ strip_carriage_return line.now }
+{
+    match line.split_last() {
+        Some((b'\r', front)) => front,
+        _ => line,
+    }
+}
+
+/// The first line, without its end, and what follows it.
+#[tactic(auto, using(crate::proofs::FirstLines::lone_line, crate::proofs::FirstLines::cut_line))]
+pub fn next_line(text: &[u8]) -> Option<(&[u8], &[u8])>
+    ensures { MatchOption result (text.now ≡ []) (λ r. IsFirstLine text.now r.0.now r.1.now) }
+{
+    if text.is_empty() {
+        return None;
+    }
+    let (line, rest) = cut(text, b'\n');
+    match rest {
+        None => Some((line, &[])),
+        Some(rest) => Some((without_return(line), rest)),
+    }
+}
+
+fn is_data_line(line: &[u8]) -> bool
+    ensures { result ≡ bytes_eq line.now data_line77 }
+{
+    line == b"*DATA".as_slice()
+}
+
+/// What stands before the first line that is `*DATA`, and what stands after it. Without such a line the input is empty.
+#[tactic(auto, using(crate::proofs::Parts::none_passed, crate::proofs::Parts::source_at_end, crate::proofs::Parts::input_at_end))]
+pub fn source_and_input(deck: &[u8]) -> (&[u8], &[u8])
+    ensures source { result.0.now ≡ source_of data_line77 deck.now }
+    ensures input { result.1.now ≡ input_of data_line77 deck.now }
+{
+    let mut rest = deck;
+    while let Some((line, after)) = next_line(rest) {
+        if is_data_line(line) {
+            return (&deck[..deck.len() - rest.len()], after);
+        }
+        rest = after;
+    }
+    (deck, &[])
+}
