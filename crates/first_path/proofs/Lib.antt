@@ -1,0 +1,7 @@
+pub mod Gathered
+pub mod Noted
+pub mod Operands
+pub mod Printed
+pub mod Shape
+pub mod Spelled
+pub mod Sums
