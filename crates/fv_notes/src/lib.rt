@@ -1,0 +1,11 @@
+//! How a command ended, the status that tells of it, and the line that goes to the notes.
+#![tactic(auto)]
+
+mod line;
+mod names;
+mod outcome;
+
+pub use outcome::{Outcome, note, status};
+
+#[cfg(test)]
+mod tests;
