@@ -1,11 +1,7 @@
-pub mod FirstLines
-pub mod Gathered
 pub mod Headline
-pub mod Noted
-pub mod Operands
-pub mod Pieces
-pub mod Printed
-pub mod Shape
-pub mod Spelled
-pub mod Sums
+pub mod Limits
+pub mod Readings
+pub mod Runs
+pub mod Statuses
 pub mod Top
+pub mod Worked

@@ -1,202 +1,302 @@
 -- What a status says of the call, by how the call ended.
-use Rattle.std.proofs.Common.{◌≡◌, ℕ, List, [], ◌∷◌, Option, None, Some, Result, Ok, Err, ◌^◌, append-nil, refl, ap, sym, ◌∙◌, arith, inl, inr}
-use Rattle.std.specs.Prelude.{IfSome, OnOk, OnErr}
+use Rattle.std.proofs.Common.{◌≡◌, ℕ, List, [], ◌∷◌, Option, None, Some, Result, Ok, Err, append-nil, refl, ap, sym, ◌∙◌, subst, arith, inl, inr}
+use Rattle.std.specs.Prelude.{String, IfSome, OnOk, OnErr}
+use Rattle.std.specs.declared.alloc.Global.{Global}
 use Rattle.std.specs.Io.KnownBytes.{IsAtEnd}
+use Rattle.fv_tree.specs.declared.ops.Fault.{Fault as Kind}
 use Rattle.fv_tree.specs.declared.refusals.Refusal.{Refusal}
 use Rattle.fv_tree.specs.Plain.{Program}
 use Rattle.fv_io.specs.Causes.{Rose}
-use Rattle.fv_io.specs.Streams.{Gives, GivesPart, TakesMoreThan}
-use Rattle.fv_io.proofs.Told.{had_more_than}
-use Rattle.fv_meaning.specs.Reading77.{ReadsThin, RefusedThin, refusal}
-use Rattle.fv_meaning.specs.Reading77.RefusedThin.{TooLong}
-use Rattle.fv_meaning.proofs.ThinLaws.{none_is_both}
-use Rattle.fv_tool.specs.declared.outcome.Outcome.{Outcome}
-use Rattle.fv_tool.specs.declared.outcome.Outcome.TheVariants.{Done, Usage, Refused, ReadFault, WriteFault, OutOfMemory}
-use Rattle.fv_tool.specs.Answers.{IsOneOf, IsRefused, IsTrueOf, NoteFor}
-use Rattle.fv_tool.specs.Command.{Command}
-use Rattle.fv_tool.specs.Command.Command.{Vectorise}
-use Rattle.fv_tool.specs.Endings.{Call, Ends, IsReadOrPassed, IsReadFor}
+use Rattle.fv_io.specs.Streams.{Gives, GivesPart}
+use Rattle.fv_meaning.specs.Deck.{input_of, data_line77}
+use Rattle.fv_meaning.specs.Sequential.{ending}
+use Rattle.fv_meaning.specs.declared.End.{End}
+use Rattle.fv_meaning.specs.declared.End.TheVariants as end
+use Rattle.fv_words.specs.Command.{texts, command_of}
+use Rattle.fv_words.specs.declared.commands.Options.{Options}
+use Rattle.fv_words.specs.declared.commands.Command.{Command}
+use Rattle.fv_words.specs.declared.commands.Command.TheVariants.{Vectorise, Run77}
+use Rattle.fv_notes.specs.declared.outcome.Outcome.{Outcome}
+use Rattle.fv_notes.specs.declared.outcome.Outcome.TheVariants.{Done, Usage, Refused, Faulted, StepLimit, ReadFault, WriteFault, OutOfMemory}
+use Rattle.fv_notes.specs.Notes.{status_of, note_of}
+use Rattle.fv_tool.specs.Answers.{IsOneOf, IsTrueOf, NoteFor, HasFault}
+use Rattle.fv_tool.specs.Decks.{Reads, IsRefused, ReadsDeck77}
+use Rattle.fv_tool.specs.Endings.{Call, Ends, Ended, EndsAt, IsRun, IsReadOrPassed, IsReadFor, IsRefusedFor, GivesAll, GivesFront, ending_of}
 use Rattle.fv_tool.specs.Headline.{GivesTranslation, GivesTranslationPart}
-use Rattle.fv_tool.specs.Notes.{status_of, note_of}
+use Rattle.fv_tool.specs.Running.{GivesRun, GivesRunPart, IsExceeded, run_of}
+use Rattle.fv_tool.proofs.Headline.{holds}
+use Rattle.fv_tool.proofs.Limits.{exceeded, limited}
+use Rattle.fv_tool.proofs.Statuses as tells
 
-pub answers : (o : Outcome) (s : ℕ) → s ≡ status_of o → IsOneOf (0 ∷ 1 ∷ 2 ∷ 5 ∷ 6 ∷ 7 ∷ []) s
-answers Done s e = inl e
-answers Usage s e = inr (inl e)
-answers (Refused r) s e = inr (inr (inl e))
-answers ReadFault s e = inr (inr (inr (inl e)))
-answers WriteFault s e = inr (inr (inr (inr (inl e))))
-answers OutOfMemory s e = inr (inr (inr (inr (inr e))))
+-- ---- words
 
-pub usage : (o : Outcome) (s : ℕ) → s ≡ status_of o → s ≡ 1 → o ≡ Usage
-usage Done s e q = absurd (omega (arith, e, q))
-usage Usage s e q = refl
-usage (Refused r) s e q = absurd (omega (arith, e, q))
-usage ReadFault s e q = absurd (omega (arith, e, q))
-usage WriteFault s e q = absurd (omega (arith, e, q))
-usage OutOfMemory s e q = absurd (omega (arith, e, q))
+map_some : {P Q : List ℕ → Type 0} (o : Option (List ℕ)) → ((x : List ℕ) → P x → Q x) → IfSome o P → IfSome o Q
+map_some None f h = tt
+map_some (Some x) f h = f x h
 
-pub usage_only : (o : Outcome) (s : ℕ) → s ≡ status_of o → o ≡ Usage → s ≡ 1
-usage_only o s e q = e ∙ ap status_of q
+always : {P : List ℕ → Type 0} (o : Option (List ℕ)) → ((x : List ℕ) → P x) → IfSome o P
+always None f = tt
+always (Some x) f = f x
 
-at_two : (s n a b : ℕ) → s ≡ n → (n ≡ a → ⊥) → (n ≡ b → ⊥) → IsOneOf (a ∷ b ∷ []) s → ⊥
-at_two s n a b e p q (inl h) = p (sym e ∙ h)
-at_two s n a b e p q (inr h) = q (sym e ∙ h)
+-- of words that are the command
+pub for_command : (k : Option Command) (a : Command) (c : Call) (o : Outcome) → k ≡ Some a → Ended k c o → Ends a c o
+for_command k a c o e h = subst (λ (k : Option Command). Ended k c o) e h
 
-at_four : (s n a b c d : ℕ) → s ≡ n → (n ≡ a → ⊥) → (n ≡ b → ⊥) → (n ≡ c → ⊥) → (n ≡ d → ⊥) → IsOneOf (a ∷ b ∷ c ∷ d ∷ []) s → ⊥
-at_four s n a b c d e p q r t (inl h) = p (sym e ∙ h)
-at_four s n a b c d e p q r t (inr (inl h)) = q (sym e ∙ h)
-at_four s n a b c d e p q r t (inr (inr (inl h))) = r (sym e ∙ h)
-at_four s n a b c d e p q r t (inr (inr (inr h))) = t (sym e ∙ h)
+-- the same of equal words
+pub for_words : (ws ws' : List (String Global)) (c : Call) (o : Outcome) → ws ≡ ws' → Ended (command_of (texts ws)) c o → Ended (command_of (texts ws')) c o
+for_words ws ws' c o e h = subst (λ (ws : List (String Global)). Ended (command_of (texts ws)) c o) e h
 
-pub whole : (c : Call) (o : Outcome) (s : ℕ) → s ≡ status_of o → Ends c o → IsOneOf (0 ∷ 6 ∷ []) s → IsAtEnd c.left_now
-whole c Done s e h m = h.0
-whole c Usage s e h m = absurd (at_two s 1 0 6 e (λ q. omega (arith, q)) (λ q. omega (arith, q)) m)
-whole c (Refused r) s e h m = absurd (at_two s 2 0 6 e (λ q. omega (arith, q)) (λ q. omega (arith, q)) m)
-whole c ReadFault s e h m = absurd (at_two s 5 0 6 e (λ q. omega (arith, q)) (λ q. omega (arith, q)) m)
-whole c WriteFault s e h m = h.1
-whole c OutOfMemory s e h m = absurd (at_two s 7 0 6 e (λ q. omega (arith, q)) (λ q. omega (arith, q)) m)
+at_outcome : (a : Command) (c : Call) (o o' : Outcome) → o ≡ o' → Ends a c o → Ends a c o'
+at_outcome a c o o' e h = subst (Ends a c) e h
 
-pub whole_refused : (c : Call) (o : Outcome) (s : ℕ) → s ≡ status_of o → Ends c o → s ≡ 2 → IsReadOrPassed c.left_before c.left_now
-whole_refused c Done s e h q = absurd (omega (arith, e, q))
-whole_refused c Usage s e h q = absurd (omega (arith, e, q))
-whole_refused c (Refused r) s e h q = h.1.0
-whole_refused c ReadFault s e h q = absurd (omega (arith, e, q))
-whole_refused c WriteFault s e h q = absurd (omega (arith, e, q))
-whole_refused c OutOfMemory s e h q = absurd (omega (arith, e, q))
+-- ---- usage
 
-with_reading : (left now : Option (List ℕ)) (r : Refusal) → IfSome left (λ deck. RefusedThin deck r) → IsReadFor left now r
-    → IfSome left (λ deck. (r : Refusal) × RefusedThin deck r × IsReadFor left now r)
-with_reading None now r h k = tt
-with_reading (Some deck) now r h k = (r, h, k)
+pub usage : (k : Option Command) (c : Call) (o : Outcome) (s : ℕ) → s ≡ status_of o → Ended k c o → s ≡ 1 → k ≡ None
+usage None c o s e h q = refl
+usage (Some a) c o s e h q = absurd (at_outcome a c o Usage (tells.is_usage o s e q) h)
 
-pub refused : (c : Call) (o : Outcome) (s : ℕ) → s ≡ status_of o → Ends c o → s ≡ 2
-    → IfSome c.left_before (λ deck. (r : Refusal) × RefusedThin deck r × IsReadFor c.left_before c.left_now r)
-refused c Done s e h q = absurd (omega (arith, e, q))
-refused c Usage s e h q = absurd (omega (arith, e, q))
-refused c (Refused r) s e h q = with_reading c.left_before c.left_now r h.0 h.1
-refused c ReadFault s e h q = absurd (omega (arith, e, q))
-refused c WriteFault s e h q = absurd (omega (arith, e, q))
-refused c OutOfMemory s e h q = absurd (omega (arith, e, q))
+pub usage_only : (k : Option Command) (c : Call) (o : Outcome) (s : ℕ) → s ≡ status_of o → Ended k c o → k ≡ None → s ≡ 1
+usage_only None c o s e h q = e ∙ ap status_of h.0
+usage_only (Some a) c o s e h q = absurd (cc)
 
-pub read_fault : (c : Call) (o : Outcome) (s : ℕ) → s ≡ status_of o → Ends c o → s ≡ 5 → Rose c.deck_faults_before c.deck_faults_now
-read_fault c Done s e h q = absurd (omega (arith, e, q))
-read_fault c Usage s e h q = absurd (omega (arith, e, q))
-read_fault c (Refused r) s e h q = absurd (omega (arith, e, q))
-read_fault c ReadFault s e h q = h.0
-read_fault c WriteFault s e h q = absurd (omega (arith, e, q))
-read_fault c OutOfMemory s e h q = absurd (omega (arith, e, q))
+-- ---- reading
 
-pub write_fault : (c : Call) (o : Outcome) (s : ℕ) → s ≡ status_of o → Ends c o → s ≡ 6 → Rose c.out_faults_before c.out_faults_now
-write_fault c Done s e h q = absurd (omega (arith, e, q))
-write_fault c Usage s e h q = absurd (omega (arith, e, q))
-write_fault c (Refused r) s e h q = absurd (omega (arith, e, q))
-write_fault c ReadFault s e h q = absurd (omega (arith, e, q))
-write_fault c WriteFault s e h q = h.0
-write_fault c OutOfMemory s e h q = absurd (omega (arith, e, q))
+-- the status is none of these
+none_of : (s n : ℕ) → s ≡ n → (n ≡ 0 → ⊥) → (n ≡ 3 → ⊥) → (n ≡ 4 → ⊥) → (n ≡ 6 → ⊥) → IsOneOf (0 ∷ 3 ∷ 4 ∷ 6 ∷ []) s → ⊥
+none_of s n e a b c d (inl q) = a (sym e ∙ q)
+none_of s n e a b c d (inr (inl q)) = b (sym e ∙ q)
+none_of s n e a b c d (inr (inr (inl q))) = c (sym e ∙ q)
+none_of s n e a b c d (inr (inr (inr q))) = d (sym e ∙ q)
 
-pub translated : (c : Call) (o : Outcome) (s : ℕ) → s ≡ status_of o → Ends c o → s ≡ 0 → IfSome c.left_before (GivesTranslation c.taken_before c.taken_now)
-translated c Done s e h q = h.1
-translated c Usage s e h q = absurd (omega (arith, e, q))
-translated c (Refused r) s e h q = absurd (omega (arith, e, q))
-translated c ReadFault s e h q = absurd (omega (arith, e, q))
-translated c WriteFault s e h q = absurd (omega (arith, e, q))
-translated c OutOfMemory s e h q = absurd (omega (arith, e, q))
+whole_for : (k : Command) (c : Call) (o : Outcome) (s : ℕ) → s ≡ status_of o → Ends k c o → IsOneOf (0 ∷ 3 ∷ 4 ∷ 6 ∷ []) s → IsAtEnd c.left_now
+whole_for k c Done s e h m = h.0
+whole_for k c Usage s e h m = absurd h
+whole_for k c (Refused r) s e h m = absurd (none_of s 2 e (λ q. omega (arith, q)) (λ q. omega (arith, q)) (λ q. omega (arith, q)) (λ q. omega (arith, q)) m)
+whole_for k c (Faulted fault line) s e h m = h.1.0
+whole_for k c StepLimit s e h m = h.1.0
+whole_for k c ReadFault s e h m = absurd (none_of s 5 e (λ q. omega (arith, q)) (λ q. omega (arith, q)) (λ q. omega (arith, q)) (λ q. omega (arith, q)) m)
+whole_for k c WriteFault s e h m = h.1
+whole_for k c OutOfMemory s e h m = absurd (none_of s 7 e (λ q. omega (arith, q)) (λ q. omega (arith, q)) (λ q. omega (arith, q)) (λ q. omega (arith, q)) m)
 
-pub part : (c : Call) (o : Outcome) (s : ℕ) → s ≡ status_of o → Ends c o → s ≡ 6 → IfSome c.left_before (GivesTranslationPart c.taken_before c.taken_now)
-part c Done s e h q = absurd (omega (arith, e, q))
-part c Usage s e h q = absurd (omega (arith, e, q))
-part c (Refused r) s e h q = absurd (omega (arith, e, q))
-part c ReadFault s e h q = absurd (omega (arith, e, q))
-part c WriteFault s e h q = h.2
-part c OutOfMemory s e h q = absurd (omega (arith, e, q))
+pub whole : (k : Option Command) (c : Call) (o : Outcome) (s : ℕ) → s ≡ status_of o → Ended k c o → IsOneOf (0 ∷ 3 ∷ 4 ∷ 6 ∷ []) s → IsAtEnd c.left_now
+whole None c o s e h m = absurd (none_of s 1 (e ∙ ap status_of h.0) (λ q. omega (arith, q)) (λ q. omega (arith, q)) (λ q. omega (arith, q)) (λ q. omega (arith, q)) m)
+whole (Some a) c o s e h m = whole_for a c o s e h m
 
-pub nothing : (c : Call) (o : Outcome) (s : ℕ) → s ≡ status_of o → Ends c o → IsOneOf (1 ∷ 2 ∷ 5 ∷ 7 ∷ []) s → c.taken_now ≡ c.taken_before
-nothing c Done s e h m = absurd (at_four s 0 1 2 5 7 e (λ q. omega (arith, q)) (λ q. omega (arith, q)) (λ q. omega (arith, q)) (λ q. omega (arith, q)) m)
-nothing c Usage s e h m = h
-nothing c (Refused r) s e h m = h.2
-nothing c ReadFault s e h m = h.1
-nothing c WriteFault s e h m = absurd (at_four s 6 1 2 5 7 e (λ q. omega (arith, q)) (λ q. omega (arith, q)) (λ q. omega (arith, q)) (λ q. omega (arith, q)) m)
-nothing c OutOfMemory s e h m = h
+-- a status that tells of another outcome than usage comes with a command
+asked : (k : Option Command) (c : Call) (o o' : Outcome) → Ended k c o → o ≡ o' → (status_of o' ≡ 1 → ⊥) → (a : Command) × (k ≡ Some a) × Ends a c o'
+asked None c o o' h e n = absurd (n (ap status_of (sym e ∙ h.0)))
+asked (Some a) c o o' h e n = (a, refl, at_outcome a c o o' e h)
+
+pub whole_refused : (k : Option Command) (c : Call) (o : Outcome) (s : ℕ) → s ≡ status_of o → Ended k c o → s ≡ 2 → IsReadOrPassed c.left_before c.left_now
+whole_refused k c o s e h q =
+    let r = tells.is_refused o s e q in
+    let g = asked k c o (Refused r.0) h r.1 (λ z. omega (arith, z)) in
+    g.2.1.0
+
+pub read_fault : (k : Option Command) (c : Call) (o : Outcome) (s : ℕ) → s ≡ status_of o → Ended k c o → s ≡ 5 → Rose c.deck_faults_before c.deck_faults_now
+read_fault k c o s e h q = (asked k c o ReadFault h (tells.is_read_fault o s e q) (λ z. omega (arith, z))).2.0
+
+pub write_fault : (k : Option Command) (c : Call) (o : Outcome) (s : ℕ) → s ≡ status_of o → Ended k c o → s ≡ 6 → Rose c.out_faults_before c.out_faults_now
+write_fault k c o s e h q = (asked k c o WriteFault h (tells.is_write_fault o s e q) (λ z. omega (arith, z))).2.0
+
+-- ---- refusals
+
+with_reading : (k : Command) (c : Call) (r : Refusal) → IfSome c.left_before (IsRefusedFor k r) → IsReadFor c.left_before c.left_now r
+    → IfSome c.left_before (λ deck. (r : Refusal) × IsRefused k deck r × IsReadFor c.left_before c.left_now r)
+with_reading k c r h reading = map_some c.left_before (λ deck for. (r, for.refused, reading)) h
+
+pub refused : (k : Command) (c : Call) (o : Outcome) (s : ℕ) → s ≡ status_of o → Ends k c o → s ≡ 2
+    → IfSome c.left_before (λ deck. (r : Refusal) × IsRefused k deck r × IsReadFor c.left_before c.left_now r)
+refused k c o s e h q =
+    let r = tells.is_refused o s e q in
+    let g : Ends k c (Refused r.0) = at_outcome k c o (Refused r.0) r.1 h in
+    with_reading k c r.0 g.0 g.1
+
+pub accepted : (k : Command) (c : Call) (o : Outcome) (s : ℕ) → s ≡ status_of o → Ends k c o → IfSome c.left_before (λ deck. (p : Program) → Reads k deck p → s ≡ 2 → ⊥)
+accepted k c Done s e h = always c.left_before (λ deck p reads q. omega (arith, e, q))
+accepted k c Usage s e h = absurd h
+accepted k c (Refused r) s e h = map_some c.left_before (λ deck for p reads q. for.unread p reads) h.0
+accepted k c (Faulted fault line) s e h = always c.left_before (λ deck p reads q. omega (arith, e, q))
+accepted k c StepLimit s e h = always c.left_before (λ deck p reads q. omega (arith, e, q))
+accepted k c ReadFault s e h = always c.left_before (λ deck p reads q. omega (arith, e, q))
+accepted k c WriteFault s e h = always c.left_before (λ deck p reads q. omega (arith, e, q))
+accepted k c OutOfMemory s e h = always c.left_before (λ deck p reads q. omega (arith, e, q))
+
+abbrev IsNeverDone : Command → Call → ℕ → List ℕ → Type 0
+IsNeverDone k c s deck = (r : Refusal) → IsRefused k deck r → (Rose c.deck_faults_before c.deck_faults_now → ⊥) → IsOneOf (2 ∷ 7 ∷ []) s
+
+pub never_done : (k : Command) (c : Call) (o : Outcome) (s : ℕ) → s ≡ status_of o → Ends k c o → IfSome c.left_before (IsNeverDone k c s)
+never_done k c Done s e h = map_some c.left_before (λ deck (g : GivesAll k end.Done c.taken_before c.taken_now deck) r refused still. absurd (g.read.accepted r refused)) h.1
+never_done k c Usage s e h = absurd h
+never_done k c (Refused r) s e h = always c.left_before (λ deck r refused still. inl e)
+never_done k c (Faulted fault line) s e h =
+    map_some c.left_before (λ deck (g : GivesAll k (end.Fault fault line) c.taken_before c.taken_now deck) r refused still. absurd (g.read.accepted r refused)) h.1.1
+never_done k c StepLimit s e h = map_some c.left_before (λ deck (g : GivesAll k end.StepLimit c.taken_before c.taken_now deck) r refused still. absurd (g.read.accepted r refused)) h.1.1
+never_done k c ReadFault s e h = always c.left_before (λ deck r refused still. absurd (still h.0))
+never_done k c WriteFault s e h = map_some c.left_before (λ deck (g : GivesFront k c.taken_before c.taken_now deck) r refused still. absurd (g.read.accepted r refused)) h.2
+never_done k c OutOfMemory s e h = always c.left_before (λ deck r refused still. inr e)
+
+-- ---- what was given
+
+translation : (before now : Option (List ℕ)) (deck : List ℕ) → GivesAll Vectorise end.Done before now deck → GivesTranslation before now deck
+translation before now deck g = (_, holds deck g.program g.read.reads, g.text)
+
+translation_part : (before now : Option (List ℕ)) (deck : List ℕ) → GivesFront Vectorise before now deck → GivesTranslationPart before now deck
+translation_part before now deck g = (_, holds deck g.program g.read.reads, g.text)
+
+run_given : (options : Options) (e : End) (before now : Option (List ℕ)) (deck : List ℕ) → GivesAll (Run77 options) e before now deck → GivesRun options e before now deck
+run_given options e before now deck g = record { program = g.program; reads = g.read.reads; ending = g.ending; text = g.text }
+
+run_part_given : (options : Options) (before now : Option (List ℕ)) (deck : List ℕ) → GivesFront (Run77 options) before now deck → GivesRunPart options before now deck
+run_part_given options before now deck g = record { program = g.program; reads = g.read.reads; text = g.text }
+
+pub translated : (c : Call) (o : Outcome) (s : ℕ) → s ≡ status_of o → Ends Vectorise c o → s ≡ 0 → IfSome c.left_before (GivesTranslation c.taken_before c.taken_now)
+translated c o s e h q = map_some c.left_before (translation c.taken_before c.taken_now) (at_outcome Vectorise c o Done (tells.is_done o s e q) h).1
+
+pub part : (c : Call) (o : Outcome) (s : ℕ) → s ≡ status_of o → Ends Vectorise c o → s ≡ 6 → IfSome c.left_before (GivesTranslationPart c.taken_before c.taken_now)
+part c o s e h q = map_some c.left_before (translation_part c.taken_before c.taken_now) (at_outcome Vectorise c o WriteFault (tells.is_write_fault o s e q) h).2
+
+pub ran : (options : Options) (c : Call) (o : Outcome) (s : ℕ) → s ≡ status_of o → Ends (Run77 options) c o → s ≡ 0 → IfSome c.left_before (GivesRun options end.Done c.taken_before c.taken_now)
+ran options c o s e h q = map_some c.left_before (run_given options end.Done c.taken_before c.taken_now) (at_outcome (Run77 options) c o Done (tells.is_done o s e q) h).1
+
+pub run_part : (options : Options) (c : Call) (o : Outcome) (s : ℕ) → s ≡ status_of o → Ends (Run77 options) c o → s ≡ 6 → IfSome c.left_before (GivesRunPart options c.taken_before c.taken_now)
+run_part options c o s e h q = map_some c.left_before (run_part_given options c.taken_before c.taken_now) (at_outcome (Run77 options) c o WriteFault (tells.is_write_fault o s e q) h).2
+
+-- the command of a run that ended so
+run_for : (k : Option Command) (c : Call) (a : Command) (e : End) → k ≡ Some a → IsRun a → EndsAt a c e
+    → (options : Options) × (k ≡ Some (Run77 options)) × IfSome c.left_before (GivesRun options e c.taken_before c.taken_now)
+run_for k c Vectorise e q run at = absurd run
+run_for k c (Run77 options) e q run at = (options, q, map_some c.left_before (run_given options e c.taken_before c.taken_now) at.1)
+
+pub faulted : (k : Option Command) (c : Call) (o : Outcome) (s : ℕ) → s ≡ status_of o → Ended k c o → s ≡ 3
+    → (options : Options) × (k ≡ Some (Run77 options)) × IfSome c.left_before (λ deck. (fault : Kind) × (line : ℕ) × GivesRun options (end.Fault fault line) c.taken_before c.taken_now deck)
+faulted k c o s e h q =
+    let f = tells.is_faulted o s e q in
+    let g = asked k c o (Faulted f.0 f.1) h f.2 (λ z. omega (arith, z)) in
+    let r = run_for k c g.0 (end.Fault f.0 f.1) g.1 g.2.0 g.2.1 in
+    (r.0, r.1, map_some c.left_before (λ deck given. (f.0, f.1, given)) r.2)
+
+pub at_limit : (k : Option Command) (c : Call) (o : Outcome) (s : ℕ) → s ≡ status_of o → Ended k c o → s ≡ 4
+    → (options : Options) × (k ≡ Some (Run77 options)) × IfSome c.left_before (GivesRun options end.StepLimit c.taken_before c.taken_now)
+at_limit k c o s e h q =
+    let g = asked k c o StepLimit h (tells.is_limited o s e q) (λ z. omega (arith, z)) in
+    run_for k c g.0 end.StepLimit g.1 g.2.0 g.2.1
+
+-- ---- nothing was given
+
+none_silent : (s n : ℕ) → s ≡ n → (n ≡ 1 → ⊥) → (n ≡ 2 → ⊥) → (n ≡ 5 → ⊥) → (n ≡ 7 → ⊥) → IsOneOf (1 ∷ 2 ∷ 5 ∷ 7 ∷ []) s → ⊥
+none_silent s n e a b c d (inl q) = a (sym e ∙ q)
+none_silent s n e a b c d (inr (inl q)) = b (sym e ∙ q)
+none_silent s n e a b c d (inr (inr (inl q))) = c (sym e ∙ q)
+none_silent s n e a b c d (inr (inr (inr q))) = d (sym e ∙ q)
+
+nothing_for : (k : Command) (c : Call) (o : Outcome) (s : ℕ) → s ≡ status_of o → Ends k c o → IsOneOf (1 ∷ 2 ∷ 5 ∷ 7 ∷ []) s → c.taken_now ≡ c.taken_before
+nothing_for k c Done s e h m = absurd (none_silent s 0 e (λ q. omega (arith, q)) (λ q. omega (arith, q)) (λ q. omega (arith, q)) (λ q. omega (arith, q)) m)
+nothing_for k c Usage s e h m = absurd h
+nothing_for k c (Refused r) s e h m = h.2
+nothing_for k c (Faulted fault line) s e h m = absurd (none_silent s 3 e (λ q. omega (arith, q)) (λ q. omega (arith, q)) (λ q. omega (arith, q)) (λ q. omega (arith, q)) m)
+nothing_for k c StepLimit s e h m = absurd (none_silent s 4 e (λ q. omega (arith, q)) (λ q. omega (arith, q)) (λ q. omega (arith, q)) (λ q. omega (arith, q)) m)
+nothing_for k c ReadFault s e h m = h.1
+nothing_for k c WriteFault s e h m = absurd (none_silent s 6 e (λ q. omega (arith, q)) (λ q. omega (arith, q)) (λ q. omega (arith, q)) (λ q. omega (arith, q)) m)
+nothing_for k c OutOfMemory s e h m = h
+
+pub nothing : (k : Option Command) (c : Call) (o : Outcome) (s : ℕ) → s ≡ status_of o → Ended k c o → IsOneOf (1 ∷ 2 ∷ 5 ∷ 7 ∷ []) s → c.taken_now ≡ c.taken_before
+nothing None c o s e h m = h.1
+nothing (Some a) c o s e h m = nothing_for a c o s e h m
+
+-- ---- a deck that is read
+
+some_inj : {A : Type 0} (x y : A) → ◌≡◌ {A = Option A} (Some x) (Some y) → x ≡ y
+some_inj x y e = cc
+
+-- the status of a call in which nothing failed
+abbrev status_at : End → ℕ
+status_at end.Done = 0
+status_at (end.Fault fault line) = 3
+status_at end.StepLimit = 4
+status_at end.WriteFault = 6
+
+-- the deck's program comes to one end
+one_end : (k : Command) (e e' : End) (before now : Option (List ℕ)) (deck : List ℕ) (p : Program) → GivesAll k e before now deck → Reads k deck p → ending_of k deck p ≡ Some e' → e ≡ e'
+one_end k e e' before now deck p g reads q = some_inj e e' (sym g.ending ∙ ap (ending_of k deck) (sym (g.read.only p reads)) ∙ q)
+
+abbrev IsComplete : Command → Call → ℕ → End → List ℕ → Type 0
+IsComplete k c s e deck = (p : Program) → Reads k deck p → ending_of k deck p ≡ Some e
+    → (Rose c.deck_faults_before c.deck_faults_now → ⊥) → (Rose c.out_faults_before c.out_faults_now → ⊥) → IsOneOf (status_at e ∷ 7 ∷ []) s
+
+all_given : (k : Command) (c : Call) (s : ℕ) (e e' : End) → s ≡ status_at e → IfSome c.left_before (GivesAll k e c.taken_before c.taken_now) → IfSome c.left_before (IsComplete k c s e')
+all_given k c s e e' q h =
+    map_some c.left_before (λ deck (g : GivesAll k e c.taken_before c.taken_now deck) p reads r _ _. inl (q ∙ ap status_at (one_end k e e' c.taken_before c.taken_now deck p g reads r))) h
+
+complete : (k : Command) (c : Call) (o : Outcome) (s : ℕ) (e : End) → s ≡ status_of o → Ends k c o → IfSome c.left_before (IsComplete k c s e)
+complete k c Done s e q h = all_given k c s end.Done e q h.1
+complete k c Usage s e q h = absurd h
+complete k c (Refused r) s e q h = map_some c.left_before (λ deck (for : IsRefusedFor k r deck) p reads _ _ _. absurd (for.unread p reads)) h.0
+complete k c (Faulted fault line) s e q h = all_given k c s (end.Fault fault line) e q h.1.1
+complete k c StepLimit s e q h = all_given k c s end.StepLimit e q h.1.1
+complete k c ReadFault s e q h = always c.left_before (λ deck p reads _ still _. absurd (still h.0))
+complete k c WriteFault s e q h = always c.left_before (λ deck p reads _ _ still. absurd (still h.0))
+complete k c OutOfMemory s e q h = always c.left_before (λ deck p reads _ _ _. inr q)
+
+pub done : (k : Command) (c : Call) (o : Outcome) (s : ℕ) → s ≡ status_of o → Ends k c o
+    → IfSome c.left_before (λ deck. (p : Program) → Reads k deck p → ending_of k deck p ≡ Some end.Done
+    → (Rose c.deck_faults_before c.deck_faults_now → ⊥) → (Rose c.out_faults_before c.out_faults_now → ⊥) → IsOneOf (0 ∷ 7 ∷ []) s)
+done k c o s q h = complete k c o s end.Done q h
+
+pub faults : (options : Options) (c : Call) (o : Outcome) (s : ℕ) → s ≡ status_of o → Ends (Run77 options) c o
+    → IfSome c.left_before (λ deck. (p : Program) → ReadsDeck77 deck p → (fault : Kind) (line : ℕ) → ending (run_of options deck p) ≡ Some (end.Fault fault line)
+    → (Rose c.deck_faults_before c.deck_faults_now → ⊥) → (Rose c.out_faults_before c.out_faults_now → ⊥) → IsOneOf (3 ∷ 7 ∷ []) s)
+faults options c o s q h = by c.left_before (λ fault line. complete (Run77 options) c o s (end.Fault fault line) q h)
+  where
+    by : (left : Option (List ℕ)) → ((fault : Kind) (line : ℕ) → IfSome left (IsComplete (Run77 options) c s (end.Fault fault line)))
+        → IfSome left (λ deck. (p : Program) → ReadsDeck77 deck p → (fault : Kind) (line : ℕ) → ending (run_of options deck p) ≡ Some (end.Fault fault line)
+        → (Rose c.deck_faults_before c.deck_faults_now → ⊥) → (Rose c.out_faults_before c.out_faults_now → ⊥) → IsOneOf (3 ∷ 7 ∷ []) s)
+    by None f = tt
+    by (Some deck) f = λ p reads fault line e. f fault line p reads e
+
+pub limits : (options : Options) (c : Call) (o : Outcome) (s : ℕ) → s ≡ status_of o → Ends (Run77 options) c o
+    → IfSome c.left_before (λ deck. (p : Program) → ReadsDeck77 deck p → IsExceeded options.steps p (input_of data_line77 deck)
+    → (Rose c.deck_faults_before c.deck_faults_now → ⊥) → (Rose c.out_faults_before c.out_faults_now → ⊥) → IsOneOf (4 ∷ 7 ∷ []) s)
+limits options c o s q h =
+    map_some c.left_before (λ deck (f : IsComplete (Run77 options) c s end.StepLimit deck) p reads over. f p reads (limited options.steps p (input_of data_line77 deck) over))
+    (complete (Run77 options) c o s end.StepLimit q h)
+
+pub over_limit : (options : Options) (c : Call) (o : Outcome) (s : ℕ) → s ≡ status_of o → Ends (Run77 options) c o → s ≡ 4
+    → IfSome c.left_before (λ deck. (p : Program) → ReadsDeck77 deck p → IsExceeded options.steps p (input_of data_line77 deck))
+over_limit options c o s q h e =
+    map_some c.left_before (λ deck (g : GivesAll (Run77 options) end.StepLimit c.taken_before c.taken_now deck) p reads.
+    exceeded options.steps p (input_of data_line77 deck) (ap (ending_of (Run77 options) deck) (g.read.only p reads) ∙ g.ending))
+    (at_outcome (Run77 options) c o StepLimit (tells.is_limited o s q e) h).1.1
 
 -- ---- the notes
 
-is_true : (c : Call) (o : Outcome) → Ends c o → IsTrueOf c.left_before o
-is_true c Done h = tt
-is_true c Usage h = tt
-is_true c (Refused r) h = h.0
-is_true c ReadFault h = tt
-is_true c WriteFault h = tt
-is_true c OutOfMemory h = tt
+has_fault : (k : Command) (c : Call) (fault : Kind) (line : ℕ) → IsRun k → IfSome c.left_before (GivesAll k (end.Fault fault line) c.taken_before c.taken_now) → IfSome c.left_before (HasFault k fault line)
+has_fault Vectorise c fault line run h = absurd run
+has_fault (Run77 options) c fault line run h =
+    map_some c.left_before (λ deck (g : GivesAll (Run77 options) (end.Fault fault line) c.taken_before c.taken_now deck). (g.program, g.read.reads, g.ending)) h
 
-pub noted : (c : Call) (o : Outcome) (s : ℕ) → s ≡ status_of o → Ends c o → NoteFor c.left_before s (note_of o)
-noted c o s e h = record { outcome = o; status_is = e; line_is = refl; is_true = is_true c o h }
+true_for : (k : Command) (c : Call) (o : Outcome) → Ends k c o → IsTrueOf (Some k) c.left_before o
+true_for k c Done h = tt
+true_for k c Usage h = tt
+true_for k c (Refused r) h = map_some c.left_before (λ deck (for : IsRefusedFor k r deck). for.refused) h.0
+true_for k c (Faulted fault line) h = has_fault k c fault line h.0 h.1.1
+true_for k c StepLimit h = tt
+true_for k c ReadFault h = tt
+true_for k c WriteFault h = tt
+true_for k c OutOfMemory h = tt
 
--- ---- decks that are read or refused
+is_true : (k : Option Command) (c : Call) (o : Outcome) → Ended k c o → IsTrueOf k c.left_before o
+is_true None c o h = tt
+is_true (Some a) c o h = true_for a c o h
 
-not_both : (left : Option (List ℕ)) (r : Refusal) → IfSome left (λ deck. RefusedThin deck r) → IfSome left (λ deck. (p : Program) → ReadsThin deck p → ⊥)
-not_both None r h = tt
-not_both (Some deck) r h = λ p reads. none_is_both deck p r reads h
-
-if_read : (left : Option (List ℕ)) (P : Type 0) → IfSome left (λ deck. (p : Program) → ReadsThin deck p → ⊥) → IfSome left (λ deck. (p : Program) → ReadsThin deck p → P)
-if_read None P h = tt
-if_read (Some deck) P h = λ p reads. absurd (h p reads)
-
-whatever_is_read : (left : Option (List ℕ)) (P : Type 0) → P → IfSome left (λ deck. (p : Program) → ReadsThin deck p → P)
-whatever_is_read None P h = tt
-whatever_is_read (Some deck) P h = λ p reads. h
-
-whatever_is_refused : (left : Option (List ℕ)) (P : Type 0) → P → IfSome left (λ deck. IsRefused deck → P)
-whatever_is_refused None P h = tt
-whatever_is_refused (Some deck) P h = λ refused. h
-
-given_not_refused : (left before now : Option (List ℕ)) (P : Type 0) → IfSome left (GivesTranslation before now) → IfSome left (λ deck. IsRefused deck → P)
-given_not_refused None before now P h = tt
-given_not_refused (Some deck) before now P h = λ refused. absurd (none_is_both deck h.1.program refused.0 h.1.reads refused.1)
-
-part_not_refused : (left before now : Option (List ℕ)) (P : Type 0) → IfSome left (GivesTranslationPart before now) → IfSome left (λ deck. IsRefused deck → P)
-part_not_refused None before now P h = tt
-part_not_refused (Some deck) before now P h = λ refused. absurd (none_is_both deck h.1.program refused.0 h.1.reads refused.1)
-
-pub accepted : (c : Call) (o : Outcome) (s : ℕ) → s ≡ status_of o → Ends c o → IfSome c.left_before (λ deck. (p : Program) → ReadsThin deck p → s ≡ 2 → ⊥)
-accepted c Done s e h = whatever_is_read c.left_before (s ≡ 2 → ⊥) (λ q. omega (arith, e, q))
-accepted c Usage s e h = whatever_is_read c.left_before (s ≡ 2 → ⊥) (λ q. omega (arith, e, q))
-accepted c (Refused r) s e h = if_read c.left_before (s ≡ 2 → ⊥) (not_both c.left_before r h.0)
-accepted c ReadFault s e h = whatever_is_read c.left_before (s ≡ 2 → ⊥) (λ q. omega (arith, e, q))
-accepted c WriteFault s e h = whatever_is_read c.left_before (s ≡ 2 → ⊥) (λ q. omega (arith, e, q))
-accepted c OutOfMemory s e h = whatever_is_read c.left_before (s ≡ 2 → ⊥) (λ q. omega (arith, e, q))
-
--- these words aren't a command
-not_usage : (words : Option Command) (o : Outcome) → (o ≡ Usage → words ≡ None) → o ≡ Usage → words ≡ Some Vectorise → ⊥
-not_usage words o h e q = let f : words ≡ None = h e in cc
-
-pub never_done : (c : Call) (words : Option Command) (o : Outcome) (s : ℕ) → s ≡ status_of o → (o ≡ Usage → words ≡ None) → Ends c o
-    → IfSome c.left_before (λ deck. IsRefused deck → words ≡ Some Vectorise → (Rose c.deck_faults_before c.deck_faults_now → ⊥) → IsOneOf (2 ∷ 7 ∷ []) s)
-never_done c words Done s e u h = given_not_refused c.left_before c.taken_before c.taken_now (words ≡ Some Vectorise → (Rose c.deck_faults_before c.deck_faults_now → ⊥) → IsOneOf (2 ∷ 7 ∷ []) s) h.1
-never_done c words Usage s e u h = whatever_is_refused c.left_before (words ≡ Some Vectorise → (Rose c.deck_faults_before c.deck_faults_now → ⊥) → IsOneOf (2 ∷ 7 ∷ []) s) (λ q _. absurd (not_usage words Usage u refl q))
-never_done c words (Refused r) s e u h = whatever_is_refused c.left_before (words ≡ Some Vectorise → (Rose c.deck_faults_before c.deck_faults_now → ⊥) → IsOneOf (2 ∷ 7 ∷ []) s) (λ _ _. inl e)
-never_done c words ReadFault s e u h = whatever_is_refused c.left_before (words ≡ Some Vectorise → (Rose c.deck_faults_before c.deck_faults_now → ⊥) → IsOneOf (2 ∷ 7 ∷ []) s) (λ _ still. absurd (still h.0))
-never_done c words WriteFault s e u h = part_not_refused c.left_before c.taken_before c.taken_now (words ≡ Some Vectorise → (Rose c.deck_faults_before c.deck_faults_now → ⊥) → IsOneOf (2 ∷ 7 ∷ []) s) h.2
-never_done c words OutOfMemory s e u h = whatever_is_refused c.left_before (words ≡ Some Vectorise → (Rose c.deck_faults_before c.deck_faults_now → ⊥) → IsOneOf (2 ∷ 7 ∷ []) s) (λ _ _. inr e)
-
--- what completeness says of the status
-abbrev IsDone : Call → Option Command → ℕ → Type 0
-IsDone c words s = words ≡ Some Vectorise → (Rose c.deck_faults_before c.deck_faults_now → ⊥) → (Rose c.out_faults_before c.out_faults_now → ⊥) → IsOneOf (0 ∷ 7 ∷ []) s
-
-pub done : (c : Call) (words : Option Command) (o : Outcome) (s : ℕ) → s ≡ status_of o → (o ≡ Usage → words ≡ None) → Ends c o
-    → IfSome c.left_before (λ deck. (p : Program) → ReadsThin deck p → IsDone c words s)
-done c words Done s e u h = whatever_is_read c.left_before (IsDone c words s) (λ _ _ _. inl e)
-done c words Usage s e u h = whatever_is_read c.left_before (IsDone c words s) (λ q _ _. absurd (not_usage words Usage u refl q))
-done c words (Refused r) s e u h = if_read c.left_before (IsDone c words s) (not_both c.left_before r h.0)
-done c words ReadFault s e u h = whatever_is_read c.left_before (IsDone c words s) (λ _ still _. absurd (still h.0))
-done c words WriteFault s e u h = whatever_is_read c.left_before (IsDone c words s) (λ _ _ still. absurd (still h.0))
-done c words OutOfMemory s e u h = whatever_is_read c.left_before (IsDone c words s) (λ _ _ _. inr e)
-
--- ---- limits and parts
-
-pub too_long : (left now : Option (List ℕ)) → TakesMoreThan (2 ^ 24) left now → IfSome left (λ deck. RefusedThin deck (refusal 1 0))
-too_long None now h = tt
-too_long (Some deck) now h = TooLong (inl (had_more_than deck (2 ^ 24) now h))
+pub noted : (k : Option Command) (c : Call) (o : Outcome) (s : ℕ) → s ≡ status_of o → Ended k c o → NoteFor k c.left_before s (note_of o)
+noted k c o s e h = record { outcome = o; status_is = e; line_is = refl; is_true = is_true k c o h }
 
 pub part_or_whole : {E : Type 0} (r : Result (Unit {0}) E) (before : Option (List ℕ)) (text : List ℕ) (now : Option (List ℕ)) → OnOk r (Gives before text now) → OnErr r (GivesPart before text now) → GivesPart before text now
 part_or_whole (Ok u) before text now h k = (text, [], sym (append-nil text), h)
 part_or_whole (Err e) before text now h k = k
+
+-- where the notes didn't fail, they have the whole line
+pub note_given : {E : Type 0} (r : Result (Unit {0}) E) (before : Option (List ℕ)) (text : List ℕ) (now : Option (List ℕ)) (f f' : ℕ) → OnOk r (Gives before text now) → OnErr r (Rose f f') → (Rose f f' → ⊥) → Gives before text now
+note_given (Ok u) before text now f f' h k still = h
+note_given (Err e) before text now f f' h k still = absurd (still k)

@@ -1,10 +1,16 @@
 -- Words of the top call's clauses.
-use Rattle.std.specs.Prelude.{ℕ, ◌≡◌, ◌⊎◌, List, [], ◌∷◌, Option, IfSome}
-use Rattle.fv_tree.specs.declared.refusals.Refusal.{Refusal}
-use Rattle.fv_meaning.specs.Reading77.{RefusedThin}
-use Rattle.fv_tool.specs.declared.outcome.Outcome.{Outcome}
-use Rattle.fv_tool.specs.declared.outcome.Outcome.TheVariants.{Refused}
-use Rattle.fv_tool.specs.Notes.{status_of, note_of}
+use Rattle.std.specs.Prelude.{ℕ, ◌≡◌, ◌⊎◌, List, [], ◌∷◌, Option, Some, IfSome}
+use Rattle.fv_tree.specs.declared.ops.Fault.{Fault as Kind}
+use Rattle.fv_tree.specs.Plain.{Program}
+use Rattle.fv_meaning.specs.Sequential.{ending}
+use Rattle.fv_meaning.specs.declared.End.TheVariants.{Fault}
+use Rattle.fv_words.specs.declared.commands.Command.{Command}
+use Rattle.fv_words.specs.declared.commands.Command.TheVariants.{Vectorise, Run77}
+use Rattle.fv_notes.specs.declared.outcome.Outcome.{Outcome}
+use Rattle.fv_notes.specs.declared.outcome.Outcome.TheVariants.{Refused, Faulted}
+use Rattle.fv_notes.specs.Notes.{status_of, note_of}
+use Rattle.fv_tool.specs.Decks.{IsRefused, ReadsDeck77}
+use Rattle.fv_tool.specs.Running.{run_of}
 
 -- the status is one of these
 abbrev pub IsOneOf : List ℕ → ℕ → Type 0
@@ -12,17 +18,20 @@ IsOneOf [] status = ⊥
 IsOneOf (n ∷ []) status = status ≡ n
 IsOneOf (n ∷ m ∷ ns) status = (status ≡ n) ⊎ IsOneOf (m ∷ ns) status
 
-abbrev pub IsRefused : List ℕ → Type 0
-IsRefused deck = (r : Refusal) × RefusedThin deck r
+-- the deck's run ends in this fault at this line
+abbrev pub HasFault : Command → Kind → ℕ → List ℕ → Type 0
+HasFault Vectorise fault line deck = ⊥
+HasFault (Run77 options) fault line deck = (p : Program) × ReadsDeck77 deck p × (ending (run_of options deck p) ≡ Some (Fault fault line))
 
--- this refusal is one of the deck's, where the deck is told
-abbrev pub IsTrueOf : Option (List ℕ) → Outcome → Type 0
-IsTrueOf deck (Refused r) = IfSome deck (λ bytes. RefusedThin bytes r)
-IsTrueOf deck _ = Unit {0}
+-- a refusal is one of the deck's, and a fault is that of its run, where the deck is told
+abbrev pub IsTrueOf : Option Command → Option (List ℕ) → Outcome → Type 0
+IsTrueOf (Some c) deck (Refused r) = IfSome deck (λ bytes. IsRefused c bytes r)
+IsTrueOf (Some c) deck (Faulted fault line) = IfSome deck (HasFault c fault line)
+IsTrueOf c deck _ = Unit {0}
 
--- The line is that of an outcome with this status; where the outcome is a refusal, it is one of the deck's.
-pub record NoteFor (deck : Option (List ℕ)) (status : ℕ) (line : List ℕ) : Type 0 where
+-- The line is that of an outcome with this status, and what it tells of the deck is true.
+pub record NoteFor (command : Option Command) (deck : Option (List ℕ)) (status : ℕ) (line : List ℕ) : Type 0 where
   pub outcome : Outcome
   pub status_is : status ≡ status_of outcome
   pub line_is : line ≡ note_of outcome
-  pub is_true : IsTrueOf deck outcome
+  pub is_true : IsTrueOf command deck outcome

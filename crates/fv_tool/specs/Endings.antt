@@ -1,13 +1,20 @@
--- What a call of the tool did with its deck and its sink, by how it ended.
-use Rattle.std.specs.Prelude.{ℕ, ◌^◌, ◌≡◌, ◌⊎◌, List, Option, IfSome}
+-- What a call of the tool did with its deck and its sink, by the command and by how it ended.
+use Rattle.std.specs.Prelude.{ℕ, ◌^◌, ◌≡◌, ◌⊎◌, List, Option, None, Some, IfSome}
 use Rattle.std.specs.Io.KnownBytes.{IsAtEnd}
 use Rattle.fv_tree.specs.declared.refusals.Refusal.{Refusal}
-use Rattle.fv_meaning.specs.Reading77.{RefusedThin}
+use Rattle.fv_tree.specs.Plain.{Program}
+use Rattle.fv_meaning.specs.Printing90.{printed90}
+use Rattle.fv_meaning.specs.Sequential.{ending}
+use Rattle.fv_meaning.specs.declared.End.{End}
+use Rattle.fv_meaning.specs.declared.End.TheVariants as end
 use Rattle.fv_io.specs.Causes.{Rose}
-use Rattle.fv_io.specs.Streams.{TakesMoreThan}
-use Rattle.fv_tool.specs.declared.outcome.Outcome.{Outcome}
-use Rattle.fv_tool.specs.declared.outcome.Outcome.TheVariants.{Done, Usage, Refused, ReadFault, WriteFault, OutOfMemory}
-use Rattle.fv_tool.specs.Headline.{GivesTranslation, GivesTranslationPart}
+use Rattle.fv_io.specs.Streams.{TakesMoreThan, Gives, GivesPart}
+use Rattle.fv_words.specs.declared.commands.Command.{Command}
+use Rattle.fv_words.specs.declared.commands.Command.TheVariants.{Vectorise, Run77}
+use Rattle.fv_notes.specs.declared.outcome.Outcome.{Outcome}
+use Rattle.fv_notes.specs.declared.outcome.Outcome.TheVariants.{Done, Usage, Refused, Faulted, StepLimit, ReadFault, WriteFault, OutOfMemory}
+use Rattle.fv_tool.specs.Decks.{Reads, IsRefused}
+use Rattle.fv_tool.specs.Running.{run_of, run_text}
 
 -- the bytes left in the deck, the bytes in the sink, and both counts of faults, before the call and after it
 pub record Call : Type 0 where
@@ -28,10 +35,62 @@ IsReadOrPassed before now = IsAtEnd now ⊎ TakesMoreThan (2 ^ 24) before now
 abbrev pub IsReadFor : Option (List ℕ) → Option (List ℕ) → Refusal → Type 0
 IsReadFor before now r = IsReadOrPassed before now × ((r.number ≡ 1 → ⊥) → IsAtEnd now)
 
-abbrev pub Ends : Call → Outcome → Type 0
-Ends c Done = IsAtEnd c.left_now × IfSome c.left_before (GivesTranslation c.taken_before c.taken_now)
-Ends c Usage = c.taken_now ≡ c.taken_before
-Ends c (Refused r) = IfSome c.left_before (λ deck. RefusedThin deck r) × IsReadFor c.left_before c.left_now r × (c.taken_now ≡ c.taken_before)
-Ends c ReadFault = Rose c.deck_faults_before c.deck_faults_now × (c.taken_now ≡ c.taken_before)
-Ends c WriteFault = Rose c.out_faults_before c.out_faults_now × IsAtEnd c.left_now × IfSome c.left_before (GivesTranslationPart c.taken_before c.taken_now)
-Ends c OutOfMemory = c.taken_now ≡ c.taken_before
+-- ---- what a command comes to with a deck and its program
+
+-- a translation needs no run
+abbrev pub ending_of : Command → List ℕ → Program → Option End
+ending_of Vectorise deck p = Some end.Done
+ending_of (Run77 options) deck p = ending (run_of options deck p)
+
+abbrev pub text_of : Command → List ℕ → Program → List ℕ
+text_of Vectorise deck p = printed90 p
+text_of (Run77 options) deck p = run_text options p (run_of options deck p)
+
+-- the deck is read as this program and as no other, and it isn't refused
+pub record IsReadAs (c : Command) (deck : List ℕ) (p : Program) : Type 0 where
+  pub reads : Reads c deck p
+  pub only : (q : Program) → Reads c deck q → q ≡ p
+  pub accepted : (r : Refusal) → IsRefused c deck r → ⊥
+
+-- the deck is refused so, and isn't read
+pub record IsRefusedFor (c : Command) (r : Refusal) (deck : List ℕ) : Type 0 where
+  pub refused : IsRefused c deck r
+  pub unread : (p : Program) → Reads c deck p → ⊥
+
+-- the command has come to this end, and has given all of its text
+pub record GivesAll (c : Command) (e : End) (before now : Option (List ℕ)) (deck : List ℕ) : Type 0 where
+  pub program : Program
+  pub read : IsReadAs c deck program
+  pub ending : ending_of c deck program ≡ Some e
+  pub text : Gives before (text_of c deck program) now
+
+-- the command has given a front of its text
+pub record GivesFront (c : Command) (before now : Option (List ℕ)) (deck : List ℕ) : Type 0 where
+  pub program : Program
+  pub read : IsReadAs c deck program
+  pub text : GivesPart before (text_of c deck program) now
+
+-- ---- how a call ends
+
+-- a run alone ends by a fault or at a limit of steps
+abbrev pub IsRun : Command → Type 0
+IsRun Vectorise = ⊥
+IsRun (Run77 options) = Unit {0}
+
+abbrev pub EndsAt : Command → Call → End → Type 0
+EndsAt k c e = IsAtEnd c.left_now × IfSome c.left_before (GivesAll k e c.taken_before c.taken_now)
+
+abbrev pub Ends : Command → Call → Outcome → Type 0
+Ends k c Done = EndsAt k c end.Done
+Ends k c Usage = ⊥
+Ends k c (Refused r) = IfSome c.left_before (IsRefusedFor k r) × IsReadFor c.left_before c.left_now r × (c.taken_now ≡ c.taken_before)
+Ends k c (Faulted fault line) = IsRun k × EndsAt k c (end.Fault fault line)
+Ends k c StepLimit = IsRun k × EndsAt k c end.StepLimit
+Ends k c ReadFault = Rose c.deck_faults_before c.deck_faults_now × (c.taken_now ≡ c.taken_before)
+Ends k c WriteFault = Rose c.out_faults_before c.out_faults_now × IsAtEnd c.left_now × IfSome c.left_before (GivesFront k c.taken_before c.taken_now)
+Ends k c OutOfMemory = c.taken_now ≡ c.taken_before
+
+-- words that are no command do nothing
+abbrev pub Ended : Option Command → Call → Outcome → Type 0
+Ended None c o = (o ≡ Usage) × (c.taken_now ≡ c.taken_before)
+Ended (Some k) c o = Ends k c o

@@ -1,9 +1,7 @@
 pub mod Answers
-pub mod Command
+pub mod Decks
 pub mod Endings
-pub mod FirstLine
-pub mod Forms
 pub mod Headline
-pub mod Notes
-pub mod Progress
-pub mod Shape
+pub mod Running
+pub mod Works
+pub mod Unread

@@ -4,7 +4,7 @@ use std::alloc::AllocError;
 use std::process::Abort;
 use std::test::Fail;
 
-const SEVEN: &[u8] = b"      PRINT *, 7\n      END\n";
+pub(super) const SEVEN: &[u8] = b"      PRINT *, 7\n      END\n";
 
 const SEVEN90: &[u8] = b"PROGRAM FV_PROGRAM\nIMPLICIT NONE\nPRINT *, 7\nEND\n";
 
@@ -75,29 +75,29 @@ const ROWS: &[Row] = &[
 
 // A call over memory, and what it did.
 #[derive(Drop)]
-struct Done {
-    status: u8,
-    out: Vec<u8>,
-    notes: Vec<u8>,
+pub(super) struct Done {
+    pub(super) status: u8,
+    pub(super) out: Vec<u8>,
+    pub(super) notes: Vec<u8>,
 }
 
 // How the objects of a call behave: the size of their pieces, and the numbers of the calls that fail; no call has number 0.
 #[derive(Clone, Copy)]
-struct Objects {
-    piece: usize,
-    deck_fails: u64,
-    out_fails: u64,
-    notes_fails: u64,
+pub(super) struct Objects {
+    pub(super) piece: usize,
+    pub(super) deck_fails: u64,
+    pub(super) out_fails: u64,
+    pub(super) notes_fails: u64,
 }
 
-const WILLING: Objects = Objects {
+pub(super) const WILLING: Objects = Objects {
     piece: 4096,
     deck_fails: 0,
     out_fails: 0,
     notes_fails: 0,
 };
 
-fn call(
+pub(super) fn call(
     alloc: Global,
     words: &[&str],
     deck: Vec<u8>,
@@ -213,7 +213,7 @@ fn add_line(deck: &mut Vec<u8>, text: &[u8]) -> Result<(), AllocError> {
 }
 
 // A source of 2^20 bytes with this many names.
-fn great_deck(alloc: Global, names: u32) -> Result<Vec<u8>, AllocError> {
+pub(super) fn great_deck(alloc: Global, names: u32) -> Result<Vec<u8>, AllocError> {
     let mut deck = Vec::new(alloc);
     for line in 0..16_383 {
         if line < names {

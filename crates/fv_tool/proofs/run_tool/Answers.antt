@@ -1,21 +1,72 @@
-use Rattle.std.proofs.Common.{ap, sym, ◌∙◌}
-use Rattle.fv_tool.specs.Command.{texts, command_of}
-use Rattle.fv_tool.specs.Notes.{note_of}
-use Rattle.fv_tool.proofs.Top.{accepted, never_done, noted, part_or_whole, done}
+use Rattle.fv_notes.specs.Notes.{note_of}
+use Rattle.fv_tool.proofs.Top.{for_words, for_command, part_or_whole, note_given}
+use Rattle.fv_tool.proofs.Top as top
 use Rattle.fv_tool.proofs.run_tool.Goals as goal
 
+pub returns-clause-whole : goal.returns-clause-whole
+returns-clause-whole g c = top.whole _ _ c.work-outcome.result c.status.result c.status.ensures c.work-outcome.ensures.ended
+
+pub returns-clause-whole_refused : goal.returns-clause-whole_refused
+returns-clause-whole_refused g c = top.whole_refused _ _ c.work-outcome.result c.status.result c.status.ensures c.work-outcome.ensures.ended
+
+pub returns-clause-refused : goal.returns-clause-refused
+returns-clause-refused g c a k = top.refused a _ c.work-outcome.result c.status.result c.status.ensures (for_command _ a _ _ k (for_words _ _ _ _ c.as_slice.ensures.value c.work-outcome.ensures.ended))
+
 pub returns-clause-accepted : goal.returns-clause-accepted
-returns-clause-accepted g c = accepted _ c.work-outcome.result c.status.result c.status.ensures c.work-outcome.ensures.ends
+returns-clause-accepted g c a k = top.accepted a _ c.work-outcome.result c.status.result c.status.ensures (for_command _ a _ _ k (for_words _ _ _ _ c.as_slice.ensures.value c.work-outcome.ensures.ended))
 
 pub returns-clause-never_done : goal.returns-clause-never_done
-returns-clause-never_done g c = never_done _ (command_of (texts c.args.words.now.items)) c.work-outcome.result c.status.result c.status.ensures (λ q. ap (λ words. command_of (texts words)) (sym c.as_slice.ensures.value) ∙ c.work-outcome.ensures.usage.0 q) c.work-outcome.ensures.ends
+returns-clause-never_done g c a k = top.never_done a _ c.work-outcome.result c.status.result c.status.ensures (for_command _ a _ _ k (for_words _ _ _ _ c.as_slice.ensures.value c.work-outcome.ensures.ended))
+
+pub returns-clause-read_fault : goal.returns-clause-read_fault
+returns-clause-read_fault g c = top.read_fault _ _ c.work-outcome.result c.status.result c.status.ensures c.work-outcome.ensures.ended
+
+pub returns-clause-write_fault : goal.returns-clause-write_fault
+returns-clause-write_fault g c = top.write_fault _ _ c.work-outcome.result c.status.result c.status.ensures c.work-outcome.ensures.ended
+
+pub returns-clause-translated : goal.returns-clause-translated
+returns-clause-translated g c k = top.translated _ c.work-outcome.result c.status.result c.status.ensures (for_command _ _ _ _ k (for_words _ _ _ _ c.as_slice.ensures.value c.work-outcome.ensures.ended))
+
+pub returns-clause-part : goal.returns-clause-part
+returns-clause-part g c k = top.part _ c.work-outcome.result c.status.result c.status.ensures (for_command _ _ _ _ k (for_words _ _ _ _ c.as_slice.ensures.value c.work-outcome.ensures.ended))
+
+pub returns-clause-ran : goal.returns-clause-ran
+returns-clause-ran g c o k = top.ran o _ c.work-outcome.result c.status.result c.status.ensures (for_command _ _ _ _ k (for_words _ _ _ _ c.as_slice.ensures.value c.work-outcome.ensures.ended))
+
+pub returns-clause-faulted : goal.returns-clause-faulted
+returns-clause-faulted g c = top.faulted _ _ c.work-outcome.result c.status.result c.status.ensures (for_words _ _ _ _ c.as_slice.ensures.value c.work-outcome.ensures.ended)
+
+pub returns-clause-limited : goal.returns-clause-limited
+returns-clause-limited g c = top.at_limit _ _ c.work-outcome.result c.status.result c.status.ensures (for_words _ _ _ _ c.as_slice.ensures.value c.work-outcome.ensures.ended)
+
+pub returns-clause-run_part : goal.returns-clause-run_part
+returns-clause-run_part g c o k = top.run_part o _ c.work-outcome.result c.status.result c.status.ensures (for_command _ _ _ _ k (for_words _ _ _ _ c.as_slice.ensures.value c.work-outcome.ensures.ended))
+
+pub returns-clause-nothing : goal.returns-clause-nothing
+returns-clause-nothing g c = top.nothing _ _ c.work-outcome.result c.status.result c.status.ensures c.work-outcome.ensures.ended
+
+pub returns-clause-faults : goal.returns-clause-faults
+returns-clause-faults g c o k = top.faults o _ c.work-outcome.result c.status.result c.status.ensures (for_command _ _ _ _ k (for_words _ _ _ _ c.as_slice.ensures.value c.work-outcome.ensures.ended))
+
+pub returns-clause-limits : goal.returns-clause-limits
+returns-clause-limits g c o k = top.limits o _ c.work-outcome.result c.status.result c.status.ensures (for_command _ _ _ _ k (for_words _ _ _ _ c.as_slice.ensures.value c.work-outcome.ensures.ended))
+
+pub returns-clause-exceeded : goal.returns-clause-exceeded
+returns-clause-exceeded g c o k = top.over_limit o _ c.work-outcome.result c.status.result c.status.ensures (for_command _ _ _ _ k (for_words _ _ _ _ c.as_slice.ensures.value c.work-outcome.ensures.ended))
+
+pub returns-clause-done : goal.returns-clause-done
+returns-clause-done g c a k = top.done a _ c.work-outcome.result c.status.result c.status.ensures (for_command _ a _ _ k (for_words _ _ _ _ c.as_slice.ensures.value c.work-outcome.ensures.ended))
+
+pub returns-clause-note : goal.returns-clause-note
+returns-clause-note g c still = (
+  note_of c.work-outcome.result,
+  top.noted _ _ c.work-outcome.result c.status.result c.status.ensures (for_words _ _ _ _ c.as_slice.ensures.value c.work-outcome.ensures.ended),
+  note_given c.note.result _ _ _ _ _ c.note.ensures.ok c.note.ensures.fault still,
+)
 
 pub returns-clause-note_part : goal.returns-clause-note_part
 returns-clause-note_part g c = (
   note_of c.work-outcome.result,
-  noted _ c.work-outcome.result c.status.result c.status.ensures c.work-outcome.ensures.ends,
+  top.noted _ _ c.work-outcome.result c.status.result c.status.ensures (for_words _ _ _ _ c.as_slice.ensures.value c.work-outcome.ensures.ended),
   part_or_whole c.note.result _ _ _ c.note.ensures.ok c.note.ensures.part,
 )
-
-pub returns-clause-done : goal.returns-clause-done
-returns-clause-done g c = done _ (command_of (texts c.args.words.now.items)) c.work-outcome.result c.status.result c.status.ensures (λ q. ap (λ words. command_of (texts words)) (sym c.as_slice.ensures.value) ∙ c.work-outcome.ensures.usage.0 q) c.work-outcome.ensures.ends

@@ -1,0 +1,71 @@
+-- What a machine's run, and the showing of its store, have given of the run's text.
+use Rattle.std.proofs.Common.{◌≡◌, ◌≤◌, ◌++◌, ℕ, List, [], Bool, true, false, Option, Some, refl, ap, sym, ◌∙◌, subst, append_assoc}
+use Rattle.std.specs.Prelude.{not, cond}
+use Rattle.fv_io.proofs.Chained.{gives_more}
+use Rattle.fv_io.proofs.Counts.{later_then_rose}
+use Rattle.fv_io.specs.Causes.{Rose}
+use Rattle.fv_io.specs.Streams.{Gives, GivesPart}
+use Rattle.fv_tree.specs.Plain.{Declaration, Program}
+use Rattle.fv_meaning.specs.Run.{State}
+use Rattle.fv_meaning.specs.Sequential.{ending}
+use Rattle.fv_meaning.specs.Steps.{final_lines}
+use Rattle.fv_meaning.specs.Store.{Store}
+use Rattle.fv_meaning.specs.declared.End.TheVariants as end
+use Rattle.run77.specs.declared.moment.Moment.{Moment}
+use Rattle.run77.specs.Acts.{HasFront}
+use Rattle.run77.specs.Machine.{EndsWith}
+use Rattle.run77.specs.Stored.{store_in}
+use Rattle.fv_words.specs.declared.commands.Options.{Options}
+use Rattle.fv_tool.specs.Running.{run_text, final_part}
+use Rattle.fv_tool.specs.Works.{Writing, GaveAll, GaveFront}
+
+-- a write failed in the run
+pub run_cut : (options : Options) (p : Program) (s : State) (names : List Declaration) (m : Moment) (w : Writing) → HasFront names w.before m w.now s → Rose w.faults_before w.faults_now
+    → GaveFront (run_text options p s) w
+run_cut options p s names m w h fault = record {
+  fault = fault;
+  front = (
+    h.front,
+    h.rest ++ final_part options p s (ending s),
+    ap (λ t. t ++ final_part options p s (ending s)) h.whole ∙ append_assoc h.front h.rest (final_part options p s (ending s)),
+    h.taken,
+  );
+}
+
+asked : (options : Options) → not options.final_store ≡ false → options.final_store ≡ true
+asked options e = by options.final_store e
+  where
+    by : (b : Bool) → not b ≡ false → b ≡ true
+    by true e = refl
+    by false e = absurd (cc)
+
+-- the run's text, where the final store is asked for
+shown_text : (options : Options) (p : Program) (s : State) (store : Store) → not options.final_store ≡ false → ending s ≡ Some end.Done → store ≡ s.store
+    → run_text options p s ≡ s.written ++ final_lines p store
+shown_text options p s store e ended same =
+    ap (λ o. s.written ++ final_part options p s o) ended
+    ∙ ap (λ b. s.written ++ cond b (final_lines p s.store) []) (asked options e)
+    ∙ ap (λ t. s.written ++ final_lines p t) (sym same)
+
+-- the store was shown behind the run's output
+pub store_shown : (options : Options) (p : Program) (s : State) (m : Moment) (between : Option (List ℕ)) (w : Writing) → not options.final_store ≡ false
+    → EndsWith s m w.before between end.Done → Gives between (final_lines p (store_in m.storage)) w.now → GaveAll (ending s) (run_text options p s) w end.Done
+store_shown options p s m between w e h shown = record {
+  ending_is = h.ending;
+  all = subst (λ (t : List ℕ). Gives w.before t w.now) (sym (shown_text options p s (store_in m.storage) e h.ending h.store))
+      (gives_more w.before between w.now s.written (final_lines p (store_in m.storage)) h.taken shown);
+}
+
+-- a write failed as the store was shown
+pub store_cut : (options : Options) (p : Program) (s : State) (m : Moment) (between : Option (List ℕ)) (w : Writing) (faults : ℕ) → not options.final_store ≡ false
+    → EndsWith s m w.before between end.Done → GivesPart between (final_lines p (store_in m.storage)) w.now → w.faults_before ≤ faults → Rose faults w.faults_now
+    → GaveFront (run_text options p s) w
+store_cut options p s m between w faults e h shown later fault = record {
+  fault = later_then_rose w.faults_before faults w.faults_now later fault;
+  front = (
+    s.written ++ shown.0,
+    shown.1,
+    shown_text options p s (store_in m.storage) e h.ending h.store ∙ ap (λ t. s.written ++ t) shown.2 ∙ sym (append_assoc s.written shown.0 shown.1),
+    gives_more w.before between w.now s.written shown.0 h.taken shown.3,
+  );
+}

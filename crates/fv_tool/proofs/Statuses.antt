@@ -1,0 +1,88 @@
+-- Which outcome a status tells of.
+use Rattle.std.proofs.Common.{◌≡◌, ℕ, [], ◌∷◌, refl, arith, inl, inr}
+use Rattle.fv_tree.specs.declared.ops.Fault.{Fault}
+use Rattle.fv_tree.specs.declared.refusals.Refusal.{Refusal}
+use Rattle.fv_notes.specs.declared.outcome.Outcome.{Outcome}
+use Rattle.fv_notes.specs.declared.outcome.Outcome.TheVariants.{Done, Usage, Refused, Faulted, StepLimit, ReadFault, WriteFault, OutOfMemory}
+use Rattle.fv_notes.specs.Notes.{status_of}
+use Rattle.fv_tool.specs.Answers.{IsOneOf}
+
+pub is_done : (o : Outcome) (s : ℕ) → s ≡ status_of o → s ≡ 0 → o ≡ Done
+is_done Done s e q = refl
+is_done Usage s e q = absurd (omega (arith, e, q))
+is_done (Refused r) s e q = absurd (omega (arith, e, q))
+is_done (Faulted f l) s e q = absurd (omega (arith, e, q))
+is_done StepLimit s e q = absurd (omega (arith, e, q))
+is_done ReadFault s e q = absurd (omega (arith, e, q))
+is_done WriteFault s e q = absurd (omega (arith, e, q))
+is_done OutOfMemory s e q = absurd (omega (arith, e, q))
+
+pub is_usage : (o : Outcome) (s : ℕ) → s ≡ status_of o → s ≡ 1 → o ≡ Usage
+is_usage Done s e q = absurd (omega (arith, e, q))
+is_usage Usage s e q = refl
+is_usage (Refused r) s e q = absurd (omega (arith, e, q))
+is_usage (Faulted f l) s e q = absurd (omega (arith, e, q))
+is_usage StepLimit s e q = absurd (omega (arith, e, q))
+is_usage ReadFault s e q = absurd (omega (arith, e, q))
+is_usage WriteFault s e q = absurd (omega (arith, e, q))
+is_usage OutOfMemory s e q = absurd (omega (arith, e, q))
+
+pub is_refused : (o : Outcome) (s : ℕ) → s ≡ status_of o → s ≡ 2 → (r : Refusal) × (o ≡ Refused r)
+is_refused Done s e q = absurd (omega (arith, e, q))
+is_refused Usage s e q = absurd (omega (arith, e, q))
+is_refused (Refused r) s e q = (r, refl)
+is_refused (Faulted f l) s e q = absurd (omega (arith, e, q))
+is_refused StepLimit s e q = absurd (omega (arith, e, q))
+is_refused ReadFault s e q = absurd (omega (arith, e, q))
+is_refused WriteFault s e q = absurd (omega (arith, e, q))
+is_refused OutOfMemory s e q = absurd (omega (arith, e, q))
+
+pub is_faulted : (o : Outcome) (s : ℕ) → s ≡ status_of o → s ≡ 3 → (f : Fault) × (l : ℕ) × (o ≡ Faulted f l)
+is_faulted Done s e q = absurd (omega (arith, e, q))
+is_faulted Usage s e q = absurd (omega (arith, e, q))
+is_faulted (Refused r) s e q = absurd (omega (arith, e, q))
+is_faulted (Faulted f l) s e q = (f, l, refl)
+is_faulted StepLimit s e q = absurd (omega (arith, e, q))
+is_faulted ReadFault s e q = absurd (omega (arith, e, q))
+is_faulted WriteFault s e q = absurd (omega (arith, e, q))
+is_faulted OutOfMemory s e q = absurd (omega (arith, e, q))
+
+pub is_limited : (o : Outcome) (s : ℕ) → s ≡ status_of o → s ≡ 4 → o ≡ StepLimit
+is_limited Done s e q = absurd (omega (arith, e, q))
+is_limited Usage s e q = absurd (omega (arith, e, q))
+is_limited (Refused r) s e q = absurd (omega (arith, e, q))
+is_limited (Faulted f l) s e q = absurd (omega (arith, e, q))
+is_limited StepLimit s e q = refl
+is_limited ReadFault s e q = absurd (omega (arith, e, q))
+is_limited WriteFault s e q = absurd (omega (arith, e, q))
+is_limited OutOfMemory s e q = absurd (omega (arith, e, q))
+
+pub is_read_fault : (o : Outcome) (s : ℕ) → s ≡ status_of o → s ≡ 5 → o ≡ ReadFault
+is_read_fault Done s e q = absurd (omega (arith, e, q))
+is_read_fault Usage s e q = absurd (omega (arith, e, q))
+is_read_fault (Refused r) s e q = absurd (omega (arith, e, q))
+is_read_fault (Faulted f l) s e q = absurd (omega (arith, e, q))
+is_read_fault StepLimit s e q = absurd (omega (arith, e, q))
+is_read_fault ReadFault s e q = refl
+is_read_fault WriteFault s e q = absurd (omega (arith, e, q))
+is_read_fault OutOfMemory s e q = absurd (omega (arith, e, q))
+
+pub is_write_fault : (o : Outcome) (s : ℕ) → s ≡ status_of o → s ≡ 6 → o ≡ WriteFault
+is_write_fault Done s e q = absurd (omega (arith, e, q))
+is_write_fault Usage s e q = absurd (omega (arith, e, q))
+is_write_fault (Refused r) s e q = absurd (omega (arith, e, q))
+is_write_fault (Faulted f l) s e q = absurd (omega (arith, e, q))
+is_write_fault StepLimit s e q = absurd (omega (arith, e, q))
+is_write_fault ReadFault s e q = absurd (omega (arith, e, q))
+is_write_fault WriteFault s e q = refl
+is_write_fault OutOfMemory s e q = absurd (omega (arith, e, q))
+
+pub answers : (o : Outcome) (s : ℕ) → s ≡ status_of o → IsOneOf (0 ∷ 1 ∷ 2 ∷ 3 ∷ 4 ∷ 5 ∷ 6 ∷ 7 ∷ []) s
+answers Done s e = inl e
+answers Usage s e = inr (inl e)
+answers (Refused r) s e = inr (inr (inl e))
+answers (Faulted f l) s e = inr (inr (inr (inl e)))
+answers StepLimit s e = inr (inr (inr (inr (inl e))))
+answers ReadFault s e = inr (inr (inr (inr (inr (inl e)))))
+answers WriteFault s e = inr (inr (inr (inr (inr (inr (inl e))))))
+answers OutOfMemory s e = inr (inr (inr (inr (inr (inr (inr (e)))))))

@@ -1,0 +1,11 @@
+use Rattle.fv_words.specs.declared.commands.Command.TheVariants.{Run77}
+use Rattle.fv_tool.proofs.Worked.{unread, worked_for}
+use Rattle.fv_tool.proofs.perform.Goals as goal
+
+pub returns-in-Err-clause-ends : goal.returns-in-Err-clause-ends
+returns-in-Err-clause-ends g c = unread c.args.command _ _ _ _ _ _ _ c.in-Err.outcome c.in-Err.ensures.unread
+
+pub returns-clause-ends : goal.returns-clause-ends
+returns-clause-ends g c =
+    worked_for (Run77 c.in-Run77.options) c.args.command _ _ _ _ _ c.as_slice-in-Run77.result.now c.in-Ok.bytes.items c.run.result c.in-Run77.is c.as_slice-in-Run77.ensures.value
+    c.in-Ok.ensures.whole c.in-Ok.ensures.end c.run.ensures.works

@@ -1,0 +1,21 @@
+-- Why a deck wasn't read.
+use Rattle.std.specs.Prelude.{ℕ, ◌^◌, ◌≡◌, List, Option}
+use Rattle.fv_tree.specs.declared.refusals.Refused.{Refused as Unreadable}
+use Rattle.fv_tree.specs.declared.refusals.Refused.TheVariants as refused
+use Rattle.fv_meaning.specs.Reading77.{refusal}
+use Rattle.fv_io.specs.Causes.{Rose}
+use Rattle.fv_io.specs.Streams.{TakesMoreThan}
+use Rattle.fv_notes.specs.declared.outcome.Outcome.{Outcome}
+use Rattle.fv_notes.specs.declared.outcome.Outcome.TheVariants.{Refused, ReadFault, OutOfMemory}
+
+-- The source failed, the deck is too long, or there was no memory.
+abbrev pub IsUnread : Option (List ℕ) → Option (List ℕ) → ℕ → ℕ → Outcome → Type 0
+IsUnread before now faults_before faults_now ReadFault = Rose faults_before faults_now
+IsUnread before now faults_before faults_now (Refused r) = (r ≡ refusal 1 0) × TakesMoreThan (2 ^ 24) before now
+IsUnread before now faults_before faults_now OutOfMemory = Unit {0}
+IsUnread before now faults_before faults_now _ = ⊥
+
+-- how a call ends on whose deck this was answered
+abbrev pub outcome_for : Unreadable → Outcome
+outcome_for (refused.Refusal r) = Refused r
+outcome_for refused.Memory = OutOfMemory

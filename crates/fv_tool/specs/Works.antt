@@ -1,0 +1,51 @@
+-- What a command does with the bytes of a deck.
+use Rattle.std.specs.Prelude.{ℕ, ◌≡◌, List, Option, Some}
+use Rattle.fv_tree.specs.Plain.{Program}
+use Rattle.fv_meaning.specs.declared.End.{End}
+use Rattle.fv_meaning.specs.declared.End.TheVariants as end
+use Rattle.fv_io.specs.Causes.{Rose}
+use Rattle.fv_io.specs.Streams.{Gives, GivesPart}
+use Rattle.fv_words.specs.declared.commands.Command.{Command}
+use Rattle.fv_notes.specs.declared.outcome.Outcome.{Outcome}
+use Rattle.fv_notes.specs.declared.outcome.Outcome.TheVariants.{Done, Usage, Refused, Faulted, StepLimit, ReadFault, WriteFault, OutOfMemory}
+use Rattle.fv_tool.specs.Endings.{IsReadAs, IsRefusedFor, ending_of, text_of}
+
+-- the bytes in the sink and its count of faults, before and after
+pub record Writing : Type 0 where
+  pub before : Option (List ℕ)
+  pub now : Option (List ℕ)
+  pub faults_before : ℕ
+  pub faults_now : ℕ
+
+-- the work came to this end, and all of its text was given
+pub record GaveAll (ending : Option End) (text : List ℕ) (w : Writing) (e : End) : Type 0 where
+  pub ending_is : ending ≡ Some e
+  pub all : Gives w.before text w.now
+
+-- the sink failed, and a front of the text was given
+pub record GaveFront (text : List ℕ) (w : Writing) : Type 0 where
+  pub fault : Rose w.faults_before w.faults_now
+  pub front : GivesPart w.before text w.now
+
+abbrev pub Comes : Option End → List ℕ → Writing → Outcome → Type 0
+Comes ending text w Done = GaveAll ending text w end.Done
+Comes ending text w (Faulted fault line) = GaveAll ending text w (end.Fault fault line)
+Comes ending text w StepLimit = GaveAll ending text w end.StepLimit
+Comes ending text w WriteFault = GaveFront text w
+Comes ending text w _ = ⊥
+
+-- with the program that the deck is read as
+pub record ComesFor (c : Command) (deck : List ℕ) (w : Writing) (o : Outcome) : Type 0 where
+  pub program : Program
+  pub read : IsReadAs c deck program
+  pub comes : Comes (ending_of c deck program) (text_of c deck program) w o
+
+abbrev pub Works : Command → List ℕ → Writing → Outcome → Type 0
+Works c deck w Done = ComesFor c deck w Done
+Works c deck w Usage = ⊥
+Works c deck w (Refused r) = IsRefusedFor c r deck × (w.now ≡ w.before)
+Works c deck w (Faulted fault line) = ComesFor c deck w (Faulted fault line)
+Works c deck w StepLimit = ComesFor c deck w StepLimit
+Works c deck w ReadFault = ⊥
+Works c deck w WriteFault = ComesFor c deck w WriteFault
+Works c deck w OutOfMemory = w.now ≡ w.before

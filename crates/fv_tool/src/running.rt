@@ -1,0 +1,63 @@
+//! `run77`: the sequential run of a deck.
+ghost use Rattle.std.specs.Prelude.{◌^◌, ◌≤◌, length};
+ghost use Rattle.fv_tree.specs.Plain.{Program};
+ghost use Rattle.fv_meaning.specs.Run.{run as run_at};
+ghost use Rattle.fv_meaning.specs.Sequential.{integer_bits, ending};
+ghost use Rattle.fv_meaning.specs.program.Profile.{IsProgram77};
+ghost use Rattle.fv_words.specs.declared.commands.Command.TheVariants.{Run77};
+ghost use Rattle.run77.specs.Machine.{IsMachineOf};
+ghost use Rattle.fv_tool.specs.Running.{run_text};
+ghost use Rattle.fv_tool.specs.Works.{Comes, Works};
+
+use crate::deck::unread;
+use f77_program::read77;
+use fv_deck::source_and_input;
+use fv_io::Sink;
+use fv_meaning::End;
+use fv_notes::Outcome;
+use fv_words::Options;
+use run77::Machine77;
+use std::alloc::Global;
+
+// Runs the machine's program over the input, and writes its final store where that is asked for.
+fn run_machine<K: Sink>(
+    machine: &mut Machine77,
+    options: Options,
+    input: &[u8],
+    out: &mut K,
+) -> Outcome
+    ensures comes { (p : Program) → IsProgram77 p → IsMachineOf p machine.old → Comes (ending (run_at integer_bits options.steps p input.now)) (run_text options p (run_at integer_bits options.steps p input.now))
+        (record { before = K.taken out.old; now = K.taken out.new; faults_before = K.faults out.old; faults_now = K.faults out.new }) result }
+    ensures later { K.faults out.old ≤ K.faults out.new }
+{
+    match machine.run(input, out, options.steps) {
+        End::Done => {}
+        End::Fault(fault, line) => return Outcome::Faulted(fault, line),
+        End::StepLimit => return Outcome::StepLimit,
+        End::WriteFault => return Outcome::WriteFault,
+    }
+    if !options.final_store {
+        return Outcome::Done;
+    }
+    match machine.show(out) {
+        Ok(()) => Outcome::Done,
+        Err(_) => Outcome::WriteFault,
+    }
+}
+
+/// Runs the deck, which has at most 2^24 bytes. The output goes out as it comes.
+pub(crate) fn run<K: Sink>(alloc: Global, options: Options, deck: &[u8], out: &mut K) -> Outcome
+    requires { length deck.now ≤ 2 ^ 24 }
+    ensures works { Works (Run77 options) deck.now (record { before = K.taken out.old; now = K.taken out.new; faults_before = K.faults out.old; faults_now = K.faults out.new }) result }
+    ensures later { K.faults out.old ≤ K.faults out.new }
+{
+    let (source, input) = source_and_input(deck);
+    let program = match read77(alloc, source) {
+        Ok(program) => program,
+        Err(refused) => return unread(refused),
+    };
+    match Machine77::new(alloc, program) {
+        Ok(mut machine) => run_machine(&mut machine, options, input, out),
+        Err(_) => Outcome::OutOfMemory,
+    }
+}
