@@ -1,0 +1,8 @@
+C     A LOOP THAT GOES ONE TOO FAR.  THE SUBSCRIPT 6 IS OUT OF BOUNDS.
+      PROGRAM FAULT
+      INTEGER A(5)
+      DO 10 I = 1, 6
+      A(I) = 10 * I
+      PRINT *, I, A(I)
+   10 CONTINUE
+      END

@@ -1,0 +1,26 @@
+C     GREATEST COMMON DIVISORS BY EUCLID'S ALGORITHM.  A DO LOOP THAT IS
+C     LONG ENOUGH IS LEFT WHEN NOTHING REMAINS.
+      PROGRAM EUCLID
+      READ *, NPAIRS
+      DO 30 K = 1, NPAIRS
+      READ *, M, N
+      I = M
+      J = N
+      DO 10 L = 1, 50
+      IF (J .EQ. 0) GO TO 20
+      LEFT = MOD(I, J)
+      I = J
+      J = LEFT
+   10 CONTINUE
+   20 PRINT *, 'GCD OF', M, ' AND', N, ' IS', I,
+     1         ' AFTER', L - 1, ' STEPS'
+   30 CONTINUE
+      END
+*DATA
+5
+12 18
+270, 192
+17 0
+1071
+462
+1836311903 1134903170
