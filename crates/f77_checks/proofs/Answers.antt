@@ -5,11 +5,11 @@ use Rattle.std.proofs.lemmas.Bool.Decides.{nat_tests}
 use Rattle.fv_tree.specs.declared.refusals.Refusal.{Refusal}
 use Rattle.fv_tree.specs.declared.refusals.Refused.{Refused}
 use Rattle.fv_tree.specs.declared.refusals.Refused.TheVariants as refused
-use Rattle.fv_meaning.specs.Statement77.{Labelled}
-use Rattle.fv_meaning.specs.program.Text.{Place, places}
-use Rattle.fv_meaning.specs.program.Program77.{Cause, NoEnd, all_causes, number_of_cause, word_of_cause, comes_before, IsFirst, finding, findings, Refused77}
-use Rattle.fv_meaning.proofs.programs.Least.{one_first, none_is_not_first}
-use Rattle.f77_profile.specs.Source.{AreRising}
+use Rattle.f77_grammar.specs.Statement77.{Labelled}
+use Rattle.f77_grammar.specs.program.Text.{Place, places}
+use Rattle.f77_grammar.specs.program.Program77.{Cause, NoEnd, all_causes, number_of_cause, word_of_cause, comes_before, IsFirst, finding, findings, RefusedStatements}
+use Rattle.f77_grammar.proofs.programs.Least.{one_first, none_is_not_first}
+use Rattle.f77_laws.specs.Source.{AreRising}
 use Rattle.f77_checks.specs.First.{holds_in, has_number, IsFoundAtPlace, IsFoundFirst}
 use Rattle.f77_checks.specs.Outcomes.{IsChecked}
 use Rattle.f77_checks.proofs.Found.{every_cause, any_true, every, both, each, here, all_by, first_is_least}
@@ -70,7 +70,7 @@ comes_after r other h g = not_before r.number r.line r.word other.number other.l
 itself : (n l w : ℕ) → (nat_lt n n || (n == n && (nat_lt l l || (l == l && nat_lt w w)))) ≡ false
 itself n l w = grind (arith, nat_tests)
 
-pub is_first : (text : List Labelled) (r : Refusal) → AreRising text → IsFoundFirst text r → Refused77 text r
+pub is_first : (text : List Labelled) (r : Refusal) → AreRising text → IsFoundFirst text r → RefusedStatements text r
 is_first [] r rising f = subst (IsFirst (finding NoEnd 0 ∷ [])) (sym f) (record {
   found_it = (here (finding NoEnd 0) []);
   first = (itself 12 0 0, tt);
@@ -101,7 +101,7 @@ sound_if_ok text (Err e) h = tt
 pub found_if_refused : (text : List Labelled) (o : Result (Unit {0}) Refused) (r : Refusal) → IsChecked text o → o ≡ Err (refused.Refusal r) → IsFoundFirst text r
 found_if_refused text o r h e = subst (IsChecked text) e h
 
-pub first_if_refused : (text : List Labelled) (o : Result (Unit {0}) Refused) (r : Refusal) → IsChecked text o → o ≡ Err (refused.Refusal r) → AreRising text → Refused77 text r
+pub first_if_refused : (text : List Labelled) (o : Result (Unit {0}) Refused) (r : Refusal) → IsChecked text o → o ≡ Err (refused.Refusal r) → AreRising text → RefusedStatements text r
 first_if_refused text o r h e rising = is_first text r rising (found_if_refused text o r h e)
 
 pub memory_if_sound : (text : List Labelled) (o : Result (Unit {0}) Refused) → IsChecked text o → findings text ≡ [] → OnErr o (o ≡ Err refused.Memory)
@@ -109,7 +109,7 @@ memory_if_sound text (Ok u) h e = tt
 memory_if_sound text (Err (refused.Refusal r)) h e = absurd (sound_is_not_refused text r e h)
 memory_if_sound text (Err refused.Memory) h e = refl
 
-pub only_that_refusal : (text : List Labelled) (o : Result (Unit {0}) Refused) → IsChecked text o → (r : Refusal) → Refused77 text r → AreRising text
+pub only_that_refusal : (text : List Labelled) (o : Result (Unit {0}) Refused) → IsChecked text o → (r : Refusal) → RefusedStatements text r → AreRising text
     → (o ≡ Err (refused.Refusal r)) ⊎ (o ≡ Err refused.Memory)
 only_that_refusal text (Ok u) h r f rising = absurd (none_is_not_first (findings text) r h f)
 only_that_refusal text (Err (refused.Refusal s)) h r f rising = inl (ap (λ x. Err (refused.Refusal x)) (one_first (findings text) s r (is_first text s rising h) f))

@@ -4,12 +4,12 @@ use Rattle.std.specs.Option.{option_map}
 use Rattle.std.specs.List.{list_any, AllByRecursion}
 use Rattle.std.proofs.lemmas.Bool.Decides.{nat_tests}
 use Rattle.fv_tree.specs.declared.refusals.Refused.TheVariants as refused
-use Rattle.fv_meaning.specs.Statement77.{Labelled}
-use Rattle.fv_meaning.specs.program.Text.{Place, places, places_from}
-use Rattle.fv_meaning.specs.program.Program77.{Cause, ManyNames, ManyBlocks, ReversedBounds, ManyElements, BadConstant, number_of_cause, word_of_cause}
-use Rattle.statements77.specs.declared.statements.Labelled.{Labelled as Labelled'}
-use Rattle.statements77.specs.Views.{labelled_of, text_of}
-use Rattle.statements77.specs.First.{first_index, index_from}
+use Rattle.f77_grammar.specs.Statement77.{Labelled}
+use Rattle.f77_grammar.specs.program.Text.{Place, places, places_from}
+use Rattle.f77_grammar.specs.program.Program77.{Cause, ManyNames, ManyBlocks, ReversedBounds, ManyElements, BadConstant, number_of_cause, word_of_cause}
+use Rattle.f77_syntax.specs.declared.statements.Labelled.{Labelled as Labelled'}
+use Rattle.f77_syntax.specs.Views.{labelled_of, text_of}
+use Rattle.f77_syntax.specs.First.{first_index, index_from}
 use Rattle.f77_checks.specs.declared.limits.Limit.{Limit}
 use Rattle.f77_checks.specs.declared.limits.Limit.TheVariants.{Names, Blocks, Bounds, Elements, Constants}
 use Rattle.f77_checks.specs.declared.limits.Breach.{Breach}

@@ -4,11 +4,11 @@ use Rattle.std.specs.Option.{option_map}
 use Rattle.std.specs.List.{find}
 use Rattle.std.proofs.Math.ListN.{get_or-map}
 use Rattle.std.proofs.lemmas.List.{reverse-append, length-map, length-reverse, get_or_at}
-use Rattle.fv_meaning.specs.Statement77.{Labelled}
-use Rattle.fv_meaning.specs.program.Text.{Place, places, places_from}
-use Rattle.statements77.specs.declared.statements.Labelled.{Labelled as Labelled'}
-use Rattle.statements77.specs.Views.{labelled_of, text_of}
-use Rattle.statements77.specs.First.{first_line, first_index, index_from}
+use Rattle.f77_grammar.specs.Statement77.{Labelled}
+use Rattle.f77_grammar.specs.program.Text.{Place, places, places_from}
+use Rattle.f77_syntax.specs.declared.statements.Labelled.{Labelled as Labelled'}
+use Rattle.f77_syntax.specs.Views.{labelled_of, text_of}
+use Rattle.f77_syntax.specs.First.{first_line, first_index, index_from}
 
 abbrev pub index_of : Place → ℕ
 index_of p = length p.before

@@ -3,10 +3,10 @@ use Rattle.std.proofs.Common.{◌≡◌, ℕ, Bool, true, false, ◌||◌, cond,
 use Rattle.std.specs.Option.{option_map}
 use Rattle.fv_tree.specs.declared.refusals.Refusal.{Refusal}
 use Rattle.fv_tree.specs.declared.refusals.Refused.TheVariants as refused
-use Rattle.fv_meaning.specs.Statement77.{Labelled}
-use Rattle.fv_meaning.specs.program.Text.{Place, places}
-use Rattle.fv_meaning.specs.program.Program77.{Cause, number_of_cause, word_of_cause, finding}
-use Rattle.statements77.specs.First.{first_line}
+use Rattle.f77_grammar.specs.Statement77.{Labelled}
+use Rattle.f77_grammar.specs.program.Text.{Place, places}
+use Rattle.f77_grammar.specs.program.Program77.{Cause, number_of_cause, word_of_cause, finding}
+use Rattle.f77_syntax.specs.First.{first_line}
 use Rattle.f77_checks.specs.declared.causes.Cause.{Cause as Cause'}
 use Rattle.f77_checks.specs.declared.causes.Cause.TheVariants.{Label as Label', Nesting as Nesting', NoEnd as NoEnd', Declared as Declared', RealName as RealName', TypeClash as TypeClash', Jump as Jump', DoVariable as DoVariable'}
 use Rattle.f77_checks.specs.First.{holds_in}

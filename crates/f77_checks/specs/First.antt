@@ -2,11 +2,11 @@
 use Rattle.std.specs.Prelude.{◌≡◌, ℕ, ◌≤◌, ◌==◌, Bool, true, ◌&&◌, Some, List, [], ◌∷◌, Contains}
 use Rattle.std.specs.List.{list_any, find, AllByRecursion}
 use Rattle.fv_tree.specs.declared.refusals.Refusal.{Refusal}
-use Rattle.fv_meaning.specs.Statement77.{Labelled}
-use Rattle.fv_meaning.specs.program.Text.{Place, places}
-use Rattle.fv_meaning.specs.program.Uses.{uses_in_text}
-use Rattle.fv_meaning.specs.program.Limits.{constants_of}
-use Rattle.fv_meaning.specs.program.Program77.{Cause, NoEnd, all_causes, number_of_cause, word_of_cause, holds_at, finding, findings}
+use Rattle.f77_grammar.specs.Statement77.{Labelled}
+use Rattle.f77_grammar.specs.program.Text.{Place, places}
+use Rattle.f77_grammar.specs.program.Uses.{uses_in_text}
+use Rattle.f77_grammar.specs.program.Limits.{constants_of}
+use Rattle.f77_grammar.specs.program.Program77.{Cause, NoEnd, all_causes, number_of_cause, word_of_cause, holds_at, finding, findings}
 
 -- the cause holds at a place of the text
 abbrev pub holds_in : List Labelled → Cause → Place → Bool

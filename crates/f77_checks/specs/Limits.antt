@@ -1,8 +1,8 @@
 -- The limits of which each has a word of the number 18, and the first place at which one is broken.
 use Rattle.std.specs.Prelude.{ℕ, suc, nat_lt, Bool, if◌then◌else◌, Option, None, Some, List, [], ◌∷◌}
 use Rattle.std.specs.List.{find}
-use Rattle.fv_meaning.specs.program.Text.{Place}
-use Rattle.fv_meaning.specs.program.Program77.{Cause, ManyNames, ManyBlocks, ReversedBounds, ManyElements, BadConstant}
+use Rattle.f77_grammar.specs.program.Text.{Place}
+use Rattle.f77_grammar.specs.program.Program77.{Cause, ManyNames, ManyBlocks, ReversedBounds, ManyElements, BadConstant}
 use Rattle.f77_checks.specs.declared.limits.Limit.{Limit}
 use Rattle.f77_checks.specs.declared.limits.Limit.TheVariants.{Names, Blocks, Bounds, Elements, Constants}
 use Rattle.f77_checks.specs.declared.limits.Breach.{Breach}

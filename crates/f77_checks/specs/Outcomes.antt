@@ -4,9 +4,9 @@ use Rattle.std.specs.List.{list_any, find, AllByRecursion}
 use Rattle.fv_tree.specs.declared.refusals.Refusal.{Refusal}
 use Rattle.fv_tree.specs.declared.refusals.Refused.{Refused}
 use Rattle.fv_tree.specs.declared.refusals.Refused.TheVariants as refused
-use Rattle.fv_meaning.specs.Statement77.{Labelled}
-use Rattle.fv_meaning.specs.program.Text.{Place, places}
-use Rattle.fv_meaning.specs.program.Program77.{Cause, Label, Nesting, NoEnd, Declared, RealName, TypeClash, Jump, DoVariable, finding, findings}
+use Rattle.f77_grammar.specs.Statement77.{Labelled}
+use Rattle.f77_grammar.specs.program.Text.{Place, places}
+use Rattle.f77_grammar.specs.program.Program77.{Cause, Label, Nesting, NoEnd, Declared, RealName, TypeClash, Jump, DoVariable, finding, findings}
 use Rattle.f77_checks.specs.declared.causes.Cause.{Cause as Cause'}
 use Rattle.f77_checks.specs.declared.causes.Cause.TheVariants.{Label as Label', Nesting as Nesting', NoEnd as NoEnd', Declared as Declared', RealName as RealName', TypeClash as TypeClash', Jump as Jump', DoVariable as DoVariable'}
 use Rattle.f77_checks.specs.First.{holds_in, IsFoundFirst}

@@ -1,18 +1,18 @@
 //! The causes of refusal that have a number of their own, each with its check.
 ghost use Rattle.std.specs.Prelude.{◌≡◌, IfOk, [], ◌∷◌};
-ghost use Rattle.fv_meaning.specs.program.Program77.{number_of_cause};
-ghost use Rattle.statements77.specs.First.{first_line};
-ghost use Rattle.statements77.specs.Views.{text_of};
+ghost use Rattle.f77_grammar.specs.program.Program77.{number_of_cause};
+ghost use Rattle.f77_syntax.specs.First.{first_line};
+ghost use Rattle.f77_syntax.specs.Views.{text_of};
 ghost use Rattle.f77_checks.specs.First.{holds_in};
 ghost use Rattle.f77_checks.specs.Outcomes.{cause_of, Passes};
 
 use crate::places::line_at;
-use f77_blocks::{wrong_end, wrong_label, wrong_nesting};
+use f77_structure::{wrong_end, wrong_label, wrong_nesting};
 use f77_jumps::{wrong_do_variable, wrong_jump};
 use f77_kinds::unsuited_kind;
 use f77_names::{real_name, wrong_declaration};
 use fv_tree::{Memory, Refusal, Refused};
-use statements77::Labelled;
+use f77_syntax::Labelled;
 use std::alloc::Global;
 
 #[derive(Clone, Copy)]

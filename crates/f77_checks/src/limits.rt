@@ -1,11 +1,11 @@
 //! The limits on a program's names, blocks, bounds, arrays and symbolic constants.
 ghost use Rattle.std.specs.Prelude.{◌≡◌, ◌<◌, length, [], ◌∷◌, IfOk, map};
 ghost use Rattle.std.specs.Option.{option_map};
-ghost use Rattle.fv_meaning.specs.program.Text.{places};
-ghost use Rattle.fv_meaning.specs.program.Limits as plain;
-ghost use Rattle.fv_meaning.specs.program.Program77.{word_of_cause, finding};
-ghost use Rattle.statements77.specs.First.{first_index};
-ghost use Rattle.statements77.specs.Views.{text_of};
+ghost use Rattle.f77_grammar.specs.program.Text.{places};
+ghost use Rattle.f77_grammar.specs.program.Limits as plain;
+ghost use Rattle.f77_grammar.specs.program.Program77.{word_of_cause, finding};
+ghost use Rattle.f77_syntax.specs.First.{first_index};
+ghost use Rattle.f77_syntax.specs.Views.{text_of};
 ghost use Rattle.f77_constants.specs.Constants.{AreValues};
 ghost use Rattle.f77_checks.specs.First.{holds_in};
 ghost use Rattle.f77_checks.specs.Limits.{limit_of, limits, found_of, found_from, sooner_found};
@@ -15,7 +15,7 @@ use f77_constants::{Constants, bad_constant, constants_of, many_elements, revers
 use f77_jumps::many_blocks;
 use f77_names::many_names;
 use fv_tree::{Memory, Refusal, Refused};
-use statements77::Labelled;
+use f77_syntax::Labelled;
 use std::alloc::Global;
 
 #[derive(Clone, Copy)]

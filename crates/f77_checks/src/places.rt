@@ -1,10 +1,10 @@
 //! Lines of statements.
 ghost use Rattle.std.specs.Prelude.{◌≡◌, Bool};
-ghost use Rattle.fv_meaning.specs.program.Text.{Place};
-ghost use Rattle.statements77.specs.First.{first_index, first_line};
-ghost use Rattle.statements77.specs.Views.{text_of};
+ghost use Rattle.f77_grammar.specs.program.Text.{Place};
+ghost use Rattle.f77_syntax.specs.First.{first_index, first_line};
+ghost use Rattle.f77_syntax.specs.Views.{text_of};
 
-use statements77::Labelled;
+use f77_syntax::Labelled;
 
 /// The line of the statement at a place.
 #[tactic(auto, using(crate::proofs::Indices::line_of_none, crate::proofs::Indices::line_of_index, crate::proofs::Indices::no_line_beyond))]

@@ -1,16 +1,16 @@
 //! The first thing that is found wrong in a program.
 ghost use Rattle.std.specs.Prelude.{◌≡◌, ◌⊎◌, ◌<◌, length, [], Err, OnOk, OnErr};
 ghost use Rattle.fv_tree.specs.declared.refusals.Refusal.{Refusal};
-ghost use Rattle.fv_meaning.specs.program.Program77.{findings, Refused77};
-ghost use Rattle.f77_profile.specs.Source.{AreRising};
-ghost use Rattle.statements77.specs.Views.{text_of};
+ghost use Rattle.f77_grammar.specs.program.Program77.{findings, RefusedStatements};
+ghost use Rattle.f77_laws.specs.Source.{AreRising};
+ghost use Rattle.f77_syntax.specs.Views.{text_of};
 ghost use Rattle.f77_checks.specs.First.{IsFoundFirst};
 ghost use Rattle.f77_checks.specs.Outcomes.{IsChecked};
 
 use crate::causes::Cause;
 use crate::limits::refuse_breach;
 use fv_tree::{Refusal, Refused};
-use statements77::Labelled;
+use f77_syntax::Labelled;
 use std::alloc::Global;
 
 // A program without statements has no END.
@@ -53,11 +53,11 @@ fn check_text(alloc: Global, text: &[Labelled]) -> Result<(), Refused>
 pub fn check(alloc: Global, text: &[Labelled]) -> Result<(), Refused>
     ensures ok { OnOk result (findings (text_of text.now) ≡ []) }
     ensures refused { (r : Refusal) → result ≡ Err (Refused.Refusal r) → IsFoundFirst (text_of text.now) r }
-    ensures rising { (r : Refusal) → result ≡ Err (Refused.Refusal r) → AreRising (text_of text.now) → Refused77 (text_of text.now) r }
+    ensures rising { (r : Refusal) → result ≡ Err (Refused.Refusal r) → AreRising (text_of text.now) → RefusedStatements (text_of text.now) r }
 
     // A text in which nothing is wrong, or that is refused, has no other answer, unless memory runs out.
     ensures only_sound { findings (text_of text.now) ≡ [] → OnErr result (result ≡ Err Refused.Memory) }
-    ensures only_refused { (r : Refusal) → Refused77 (text_of text.now) r → AreRising (text_of text.now)
+    ensures only_refused { (r : Refusal) → RefusedStatements (text_of text.now) r → AreRising (text_of text.now)
         → (result ≡ Err (Refused.Refusal r)) ⊎ (result ≡ Err Refused.Memory) }
 {
     check_text(alloc, text)

@@ -1,7 +1,7 @@
 //! What the rules say of small programs.
 use crate::check;
 use fv_tree::{Expr, Kind, Name, Ref, Refused, Seq, Sub};
-use statements77::{Entity, Labelled, Stmt77};
+use f77_syntax::{Entity, Labelled, Stmt77};
 use std::alloc::Global;
 use std::test::Fail;
 

@@ -7,13 +7,13 @@ use Rattle.std.proofs.lemmas.Bool.Decides.{nat_tests}
 use Rattle.fv_tree.specs.Plain.{Expression}
 use Rattle.fv_tree.specs.declared.ops.Kind.{Kind}
 use Rattle.fv_tree.specs.declared.exprs.Expr.{Expr}
-use Rattle.fv_meaning.specs.Statement77.{Entity, Labelled}
-use Rattle.fv_meaning.specs.program.Limits.{has_bounds, bounds_among, bounds_of_name, entities_of}
-use Rattle.fv_meaning.specs.program.Tree.{with_name}
-use Rattle.fv_meaning.specs.program.Uses.{Role, Title, Typed, Bounded, Defined, Valued, Target, Counter, Use, is_variable, kind_of_name, type_of, type_in, or_integer, stands, is_typed, is_bounded, is_bare, is_defined}
-use Rattle.statements77.specs.declared.statements.Labelled.{Labelled as Labelled'}
-use Rattle.statements77.specs.Views.{bounds_of, statement_of, text_of}
-use Rattle.statements77.proofs.Walks.{text_left}
+use Rattle.f77_grammar.specs.Statement77.{Entity, Labelled}
+use Rattle.f77_grammar.specs.program.Limits.{has_bounds, bounds_among, bounds_of_name, entities_of}
+use Rattle.f77_grammar.specs.program.Tree.{with_name}
+use Rattle.f77_grammar.specs.program.Uses.{Role, Title, Typed, Bounded, Defined, Valued, Target, Counter, Use, is_variable, kind_of_name, type_of, type_in, or_integer, stands, is_typed, is_bounded, is_bare, is_defined}
+use Rattle.f77_syntax.specs.declared.statements.Labelled.{Labelled as Labelled'}
+use Rattle.f77_syntax.specs.Views.{bounds_of, statement_of, text_of}
+use Rattle.f77_syntax.proofs.Walks.{text_left}
 use Rattle.f77_names.specs.declared.names.Facts.{Facts}
 use Rattle.f77_names.specs.declared.names.Names.{Names}
 use Rattle.f77_names.specs.declared.uses.Use.{Use as Use'}

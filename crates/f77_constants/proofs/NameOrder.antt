@@ -8,7 +8,7 @@ use Rattle.std.specs.List.{insert}
 use Rattle.std.specs.List.Sorted.{IsNonDecreasingBy, IsPartitionPoint}
 use Rattle.std.proofs.lemmas.List.Sorted.{searchable_from_sorted}
 use Rattle.std.proofs.lemmas.Cmp.{nat_list_cmp_total}
-use Rattle.fv_meaning.specs.program.Tree.{with_name}
+use Rattle.f77_grammar.specs.program.Tree.{with_name}
 use Rattle.f77_constants.specs.Declarations.{Follows, Ascends}
 
 turned : (x y : List ℕ) (o : Ordering) → slice_cmp nat_cmp y x ≡ o → slice_cmp nat_cmp x y ≡ ordering_reverse o

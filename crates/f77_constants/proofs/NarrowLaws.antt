@@ -11,14 +11,14 @@ use Rattle.fv_tree.specs.declared.ops.Value.TheVariants.{Int, Truth}
 use Rattle.fv_tree.specs.declared.ops.Fault.{Fault}
 use Rattle.fv_tree.specs.declared.ops.Fault.TheVariants.{Overflow}
 use Rattle.fv_meaning.specs.Store.{Store}
-use Rattle.fv_meaning.specs.Statement77.{Entity, Labelled}
+use Rattle.f77_grammar.specs.Statement77.{Entity, Labelled}
 use Rattle.fv_meaning.specs.Value.{value_of}
 use Rattle.fv_meaning.specs.Sequential.{integer_bits}
-use Rattle.fv_meaning.specs.program.Text.{places_from}
-use Rattle.fv_meaning.specs.program.Uses.{Use}
-use Rattle.fv_meaning.specs.program.Limits.{in_range, is_no_constant, has_bounds, bounds_among, bounds_of_name, definitions_of, entities_of, has_bad_constant}
-use Rattle.fv_meaning.specs.program.Tree as tree
-use Rattle.statements77.specs.First.{first_index, index_from}
+use Rattle.f77_grammar.specs.program.Text.{places_from}
+use Rattle.f77_grammar.specs.program.Uses.{Use}
+use Rattle.f77_grammar.specs.program.Limits.{in_range, is_no_constant, has_bounds, bounds_among, bounds_of_name, definitions_of, entities_of, has_bad_constant}
+use Rattle.f77_grammar.specs.program.Tree as tree
+use Rattle.f77_syntax.specs.First.{first_index, index_from}
 use Rattle.f77_constants.specs.Bounds.{paired, has_bad, bounds_in, lacks_value}
 use Rattle.f77_constants.specs.Steps.{numbered, kept}
 use Rattle.f77_constants.specs.Declarations.{narrowed, narrow, dimensions, narrow_declarations, variables_from, all_declarations}

@@ -8,12 +8,12 @@ use Rattle.fv_tree.specs.declared.lists.Seq.{Seq}
 use Rattle.fv_tree.specs.declared.exprs.Expr.{Expr}
 use Rattle.fv_tree.specs.declared.exprs.Ref.{Ref}
 use Rattle.fv_tree.specs.declared.stmts.Item.{Item}
-use Rattle.fv_meaning.specs.program.Limits.{definitions_of, entities_of}
-use Rattle.statements77.specs.declared.statements.Entity.{Entity}
-use Rattle.statements77.specs.declared.statements.Stmt77.{Stmt77}
-use Rattle.statements77.specs.declared.statements.Stmt77.TheVariants as stmts
-use Rattle.statements77.specs.Views.{statement_of, constant_of, entity_of}
-use Rattle.statements77.proofs.Equations.{statement_of-program, statement_of-declare, statement_of-dimension, statement_of-constants, statement_of-assign, statement_of-go, statement_of-test, statement_of-if, statement_of-else_if, statement_of-else, statement_of-end_if, statement_of-do, statement_of-continue, statement_of-stop, statement_of-read, statement_of-print, statement_of-end}
+use Rattle.f77_grammar.specs.program.Limits.{definitions_of, entities_of}
+use Rattle.f77_syntax.specs.declared.statements.Entity.{Entity}
+use Rattle.f77_syntax.specs.declared.statements.Stmt77.{Stmt77}
+use Rattle.f77_syntax.specs.declared.statements.Stmt77.TheVariants as stmts
+use Rattle.f77_syntax.specs.Views.{statement_of, constant_of, entity_of}
+use Rattle.f77_syntax.proofs.Equations.{statement_of-program, statement_of-declare, statement_of-dimension, statement_of-constants, statement_of-assign, statement_of-go, statement_of-test, statement_of-if, statement_of-else_if, statement_of-else, statement_of-end_if, statement_of-do, statement_of-continue, statement_of-stop, statement_of-read, statement_of-print, statement_of-end}
 
 -- ---- symbolic constants
 

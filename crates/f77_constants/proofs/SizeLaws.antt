@@ -9,12 +9,12 @@ use Rattle.fv_tree.specs.Plain.{Expression}
 use Rattle.fv_tree.specs.declared.ops.Fault.{Fault}
 use Rattle.fv_tree.specs.declared.exprs.Expr.{Expr}
 use Rattle.fv_meaning.specs.Store.{Store}
-use Rattle.fv_meaning.specs.Statement77.{Labelled}
-use Rattle.fv_meaning.specs.program.Limits.{dimension_of, size_in, product_of_sizes, elements, entities_of, bounds_declared, all_elements}
-use Rattle.statements77.specs.declared.statements.Entity.{Entity as Entity'}
-use Rattle.statements77.specs.Views.{bounds_of, entity_of, statement_of, labelled_of, text_of}
-use Rattle.statements77.specs.declared.statements.Labelled.{Labelled as Labelled'}
-use Rattle.statements77.specs.Walk.{passed}
+use Rattle.f77_grammar.specs.Statement77.{Labelled}
+use Rattle.f77_grammar.specs.program.Limits.{dimension_of, size_in, product_of_sizes, elements, entities_of, bounds_declared, all_elements}
+use Rattle.f77_syntax.specs.declared.statements.Entity.{Entity as Entity'}
+use Rattle.f77_syntax.specs.Views.{bounds_of, entity_of, statement_of, labelled_of, text_of}
+use Rattle.f77_syntax.specs.declared.statements.Labelled.{Labelled as Labelled'}
+use Rattle.f77_syntax.specs.Walk.{passed}
 use Rattle.f77_constants.specs.Bounds.{capped, bounds_in}
 
 left : {A : Type 0} (xs : List A) (i : ℕ) (x : A) → i < length xs → x ≡ get_or xs i x → drop i xs ≡ x ∷ drop (i + 1) xs

@@ -8,11 +8,11 @@ use Rattle.fv_tree.specs.Operators.{fits}
 use Rattle.fv_tree.specs.declared.ops.Value.{Value}
 use Rattle.fv_meaning.specs.Sequential.{integer_bits}
 use Rattle.fv_meaning.specs.Store.{Store}
-use Rattle.fv_meaning.specs.Statement77.{NamedConstant, Labelled}
-use Rattle.fv_meaning.specs.program.Limits.{with_constant, with_constants, definitions_of, constants_of}
-use Rattle.statements77.specs.declared.statements.Labelled.{Labelled as Labelled'}
-use Rattle.statements77.specs.Views.{statement_of, text_of}
-use Rattle.statements77.proofs.Walks.{text_left, text_through}
+use Rattle.f77_grammar.specs.Statement77.{NamedConstant, Labelled}
+use Rattle.f77_grammar.specs.program.Limits.{with_constant, with_constants, definitions_of, constants_of}
+use Rattle.f77_syntax.specs.declared.statements.Labelled.{Labelled as Labelled'}
+use Rattle.f77_syntax.specs.Views.{statement_of, text_of}
+use Rattle.f77_syntax.proofs.Walks.{text_left, text_through}
 use Rattle.f77_constants.specs.declared.constants.Constants.{Constants}
 use Rattle.f77_constants.specs.Constants.{value_in, value_or_nought, store_of, held_in, AreValues}
 

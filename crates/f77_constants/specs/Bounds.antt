@@ -5,8 +5,8 @@ use Rattle.fv_tree.specs.Steps.{◌>>=◌}
 use Rattle.fv_tree.specs.Plain.{Expression}
 use Rattle.fv_tree.specs.declared.ops.Fault.{Fault}
 use Rattle.fv_meaning.specs.Store.{Store}
-use Rattle.fv_meaning.specs.Statement77.{Entity, NamedConstant}
-use Rattle.fv_meaning.specs.program.Limits.{dimension_of, is_reversed, is_no_constant}
+use Rattle.f77_grammar.specs.Statement77.{Entity, NamedConstant}
+use Rattle.f77_grammar.specs.program.Limits.{dimension_of, is_reversed, is_no_constant}
 
 abbrev pub paired : Result ℤ Fault → Result ℤ Fault → Result (ℤ × ℤ) Fault
 paired a b = do

@@ -6,10 +6,10 @@ use Rattle.std.specs.Ordering.{nat_cmp, is_lt}
 use Rattle.fv_tree.specs.Operators.{fits}
 use Rattle.fv_tree.specs.Plain.{Expression, Extent, Given, Declaration}
 use Rattle.fv_meaning.specs.Store.{Store}
-use Rattle.fv_meaning.specs.Statement77.{Labelled}
-use Rattle.fv_meaning.specs.program.Limits.{dimension_of}
-use Rattle.fv_meaning.specs.program.Uses.{Use, is_variable}
-use Rattle.fv_meaning.specs.program.Tree.{with_name, variables_of, bounds_in, declaration_of}
+use Rattle.f77_grammar.specs.Statement77.{Labelled}
+use Rattle.f77_grammar.specs.program.Limits.{dimension_of}
+use Rattle.f77_grammar.specs.program.Uses.{Use, is_variable}
+use Rattle.f77_grammar.specs.program.Tree.{with_name, variables_of, bounds_in, declaration_of}
 use Rattle.f77_names.specs.declared.names.Names.{Names}
 use Rattle.f77_names.specs.NameFacts.{facts_in, facts_of, nothing_known}
 

@@ -2,7 +2,7 @@
 use Rattle.std.specs.Prelude.{Result, Ok, Err, Option, None, Some, Bool, true, false, ℤ, List, ◌++◌}
 use Rattle.fv_tree.specs.Steps.{◌>>=◌}
 use Rattle.fv_tree.specs.Operators.{apply, call, as_number}
-use Rattle.fv_meaning.specs.program.Limits.{in_range}
+use Rattle.f77_grammar.specs.program.Limits.{in_range}
 use Rattle.fv_tree.specs.declared.ops.Op.{Op}
 use Rattle.fv_tree.specs.declared.ops.Fun.{Fun}
 use Rattle.fv_tree.specs.declared.ops.Value.{Value}

@@ -2,14 +2,14 @@
 ghost use Rattle.std.specs.Prelude.{◌≡◌, ◌||◌, ◌+◌, ◌*◌, Ok, IfOk, map, sum};
 ghost use Rattle.std.specs.List.{list_any};
 ghost use Rattle.fv_tree.specs.View.{expression_of};
-ghost use Rattle.fv_meaning.specs.program.Limits as plain;
-ghost use Rattle.statements77.specs.Views.{bounds_of, entity_of};
+ghost use Rattle.f77_grammar.specs.program.Limits as plain;
+ghost use Rattle.f77_syntax.specs.Views.{bounds_of, entity_of};
 ghost use Rattle.f77_constants.specs.Constants.{store_of};
 ghost use Rattle.f77_constants.specs.Bounds.{paired, capped, has_reversed, has_bad, bounds_in};
 
 use crate::constants::Constants;
 use fv_tree::{Expr, Fault, Memory};
-use statements77::Entity;
+use f77_syntax::Entity;
 use std::alloc::Global;
 
 /// The most elements that the arrays of a program have.

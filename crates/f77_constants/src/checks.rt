@@ -2,9 +2,9 @@
 ghost use Rattle.std.specs.Prelude.{◌≡◌, IfOk, map, is_none};
 ghost use Rattle.std.specs.List.{list_any};
 ghost use Rattle.fv_meaning.specs.Store.{Store};
-ghost use Rattle.fv_meaning.specs.program.Limits.{has_reversed_bounds, has_many_elements, has_bad_constant};
-ghost use Rattle.statements77.specs.First.{first_index};
-ghost use Rattle.statements77.specs.Views.{text_of, constant_of};
+ghost use Rattle.f77_grammar.specs.program.Limits.{has_reversed_bounds, has_many_elements, has_bad_constant};
+ghost use Rattle.f77_syntax.specs.First.{first_index};
+ghost use Rattle.f77_syntax.specs.Views.{text_of, constant_of};
 ghost use Rattle.f77_constants.specs.Constants.{AreValues, store_of};
 ghost use Rattle.f77_constants.specs.Bounds.{lacks_value};
 
@@ -12,7 +12,7 @@ use crate::bounds::{MOST, sum_of};
 use crate::constants::Constants;
 use crate::parts::{definitions, entities};
 use fv_tree::{Expr, Memory, Name};
-use statements77::Labelled;
+use f77_syntax::Labelled;
 use std::alloc::Global;
 
 /// The place of the first statement with an upper bound below its lower bound.

@@ -4,15 +4,15 @@ ghost use Rattle.std.specs.Str.{bytes_eq};
 ghost use Rattle.fv_tree.specs.Operators.{fits};
 ghost use Rattle.fv_tree.specs.View.{expression_of};
 ghost use Rattle.fv_meaning.specs.Sequential.{integer_bits};
-ghost use Rattle.fv_meaning.specs.program.Limits as plain;
-ghost use Rattle.statements77.specs.Views.{constant_of, text_of};
+ghost use Rattle.f77_grammar.specs.program.Limits as plain;
+ghost use Rattle.f77_syntax.specs.Views.{constant_of, text_of};
 ghost use Rattle.f77_constants.specs.Constants.{value_in, store_of, AreValues};
 ghost use Rattle.f77_constants.specs.Steps.{kept};
 
 use crate::parts::definitions;
 use fv_tree::{Expr, Fault, Memory, Name, Value};
 use indexmap::IndexMap;
-use statements77::Labelled;
+use f77_syntax::Labelled;
 use std::alloc::Global;
 
 /// The symbolic constants of a program that have a value. One whose expression faults, or leaves the range of INTEGER, has none.

@@ -4,11 +4,11 @@ ghost use Rattle.std.specs.Str.{bytes_eq};
 ghost use Rattle.fv_tree.specs.View as view;
 ghost use Rattle.fv_tree.specs.Plain.{Given};
 ghost use Rattle.fv_meaning.specs.Store.{Store};
-ghost use Rattle.fv_meaning.specs.program.Limits as plain;
-ghost use Rattle.fv_meaning.specs.program.Tree as tree;
-ghost use Rattle.fv_meaning.specs.program.Uses.{Use as Use', uses_in_text, is_variable, kind_of_name, or_integer};
-ghost use Rattle.statements77.specs.First.{first_index};
-ghost use Rattle.statements77.specs.Views.{bounds_of, entity_of, text_of};
+ghost use Rattle.f77_grammar.specs.program.Limits as plain;
+ghost use Rattle.f77_grammar.specs.program.Tree as tree;
+ghost use Rattle.f77_grammar.specs.program.Uses.{Use as Use', uses_in_text, is_variable, kind_of_name, or_integer};
+ghost use Rattle.f77_syntax.specs.First.{first_index};
+ghost use Rattle.f77_syntax.specs.Views.{bounds_of, entity_of, text_of};
 ghost use Rattle.f77_names.specs.UsesView.{plain_use};
 ghost use Rattle.f77_names.specs.NameFacts.{is_variable_by};
 ghost use Rattle.f77_constants.specs.Constants.{AreValues, store_of};
@@ -18,7 +18,7 @@ use crate::constants::Constants;
 use crate::parts::entities;
 use f77_names::{Facts, Names, Use, names_of, uses_in_text};
 use fv_tree::{Decl, Dim, Expr, Fault, Form, Kind, Memory, Name, Seq};
-use statements77::{Entity, Labelled};
+use f77_syntax::{Entity, Labelled};
 use std::alloc::Global;
 
 // A number, and 0 for one that 64 bits don't hold.

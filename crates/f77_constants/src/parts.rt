@@ -1,10 +1,10 @@
 //! What a statement declares.
 ghost use Rattle.std.specs.Prelude.{◌≡◌, map};
-ghost use Rattle.fv_meaning.specs.program.Limits.{definitions_of, entities_of};
-ghost use Rattle.statements77.specs.Views.{statement_of, constant_of, entity_of};
+ghost use Rattle.f77_grammar.specs.program.Limits.{definitions_of, entities_of};
+ghost use Rattle.f77_syntax.specs.Views.{statement_of, constant_of, entity_of};
 
 use fv_tree::{Expr, Name};
-use statements77::{Entity, Stmt77};
+use f77_syntax::{Entity, Stmt77};
 
 /// The symbolic constants that a statement defines.
 #[tactic(auto, using(crate::proofs::PartLaws::definition_laws))]

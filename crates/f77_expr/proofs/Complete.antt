@@ -5,10 +5,10 @@ use Rattle.std.specs.Prelude.{Some, ◌&&◌}
 use Rattle.fv_tree.specs.declared.ops.Op.{Op}
 use Rattle.fv_tree.specs.declared.ops.Op.TheVariants.{Pow}
 use Rattle.fv_tree.specs.Plain.{Expression, Subscript, Only}
-use Rattle.fv_meaning.specs.expressions.Words.{Word}
-use Rattle.fv_meaning.specs.expressions.Words as words
-use Rattle.fv_meaning.specs.expressions.Levels.{Sign, Plus, Minus, Negation, level_of, left_least, right_least, joins, sign_level}
-use Rattle.fv_meaning.specs.expressions.Phrases.{Phrase, Phrases, level, depth, depths, tree, trees, begins_with_sign, written, written_list, IsExpression, sign_word, Literal, WideLiteral, Truth, Name, Listed, Paren, Signed, Joined, One, Then}
+use Rattle.f77_grammar.specs.expressions.Words.{Word}
+use Rattle.f77_grammar.specs.expressions.Words as words
+use Rattle.f77_grammar.specs.expressions.Levels.{Sign, Plus, Minus, Negation, level_of, left_least, right_least, joins, sign_level}
+use Rattle.f77_grammar.specs.expressions.Phrases.{Phrase, Phrases, level, depth, depths, tree, trees, begins_with_sign, written, written_list, IsExpression, sign_word, Literal, WideLiteral, Truth, Name, Listed, Paren, Signed, Joined, One, Then}
 use Rattle.f77_expr.proofs.Placing.{IsGrouped, AreGrouped, is_placed, are_placed, is_grouped, signs_placed}
 use Rattle.f77_expr.specs.Reading.{Ends}
 use Rattle.f77_expr.specs.Reader.{Operand, Frame, State, Wants, Has, Step, run, went, begin, go_on, close, least, frame_least, join, Before, After, Within, Among, joined_operand, signed_operand, into, Go, Held, listed_operand, paren_operand, checked, read}

@@ -5,9 +5,9 @@ use Rattle.std.proofs.lemmas.List.{map-append}
 use Rattle.std.proofs.lemmas.Bool.{cond_both, ltb-true, ltb-false, eqb-true, lt-ltb, le-ltb}
 use Rattle.std.proofs.lemmas.Bool.Decides.{nat_tests}
 use Rattle.fv_tree.specs.declared.ops.Op.TheVariants.{Pow, Mul, Neg}
-use Rattle.fv_meaning.specs.expressions.Squeezing.{Symbol, Char, Text, Broken}
-use Rattle.fv_meaning.specs.expressions.Words.{Word, Number, Wide, Truth, Name, Head, Operator, Constant}
-use Rattle.fv_meaning.specs.expressions.Spelling.{is_digit, is_letter, is_letter_or_digit, Pass, Stops, value, IsDigits, IsName, Spelled, chars, SpelledBy, goes_on, Whole, Begins}
+use Rattle.f77_grammar.specs.expressions.Squeezing.{Symbol, Char, Text, Broken}
+use Rattle.f77_grammar.specs.expressions.Words.{Word, Number, Wide, Truth, Name, Head, Operator, Constant}
+use Rattle.f77_grammar.specs.expressions.Spelling.{is_digit, is_letter, is_letter_or_digit, Pass, Stops, value, IsDigits, IsName, Spelled, chars, SpelledBy, goes_on, Whole, Begins}
 use Rattle.f77_expr.specs.Lexing.{Run, longer, run_of, Front, some, literal, named, named_by, word_by, name, strip, or_else, first_of, marks, dotted, either, word}
 
 whole_run : (p : ℕ → Bool) (a : List ℕ) (r : List Symbol) → Pass p a → Stops p r → run_of p (chars a ++ r) ≡ record { front = a; rest = r }

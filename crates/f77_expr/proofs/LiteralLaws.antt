@@ -2,9 +2,9 @@
 use Rattle.std.proofs.Common.{arith, ◌≡◌, ◌≤◌, ◌^◌, ℕ, ◌+◌, ◌-◌, ◌*◌, pos, Bool, true, false, IsTrue, List, [], ◌∷◌, refl, ap, ◌∙◌}
 use Rattle.std.specs.Prelude.{Option, Some, None, nat_lt}
 use Rattle.std.proofs.lemmas.Bool.{cond_both, ltb-true, ltb-false, lt-ltb, le-ltb}
-use Rattle.fv_meaning.specs.expressions.Squeezing.{Symbol, Char}
-use Rattle.fv_meaning.specs.expressions.Spelling.{is_digit, value, Stops}
-use Rattle.fv_meaning.specs.expressions.Words.{Number, Wide}
+use Rattle.f77_grammar.specs.expressions.Squeezing.{Symbol, Char}
+use Rattle.f77_grammar.specs.expressions.Spelling.{is_digit, value, Stops}
+use Rattle.f77_grammar.specs.expressions.Words.{Number, Wide}
 use Rattle.f77_expr.specs.Fronts.{narrow}
 use Rattle.f77_expr.specs.Literals.{value_after, IsSoFar, with_digit}
 use Rattle.f77_expr.specs.Lexing.{Run, run_of, longer, literal}

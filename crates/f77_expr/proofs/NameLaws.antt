@@ -6,8 +6,8 @@ use Rattle.std.specs.Char.{is_ascii_alphabetic}
 use Rattle.std.proofs.lemmas.Bool.{cond_both}
 use Rattle.std.proofs.lemmas.Bool.Decides.{nat_tests}
 use Rattle.fv_tree.specs.Names as names
-use Rattle.fv_meaning.specs.expressions.Squeezing.{Symbol, Char}
-use Rattle.fv_meaning.specs.expressions.Spelling.{is_letter, is_letter_or_digit, Pass, Stops}
+use Rattle.f77_grammar.specs.expressions.Squeezing.{Symbol, Char}
+use Rattle.f77_grammar.specs.expressions.Spelling.{is_letter, is_letter_or_digit, Pass, Stops}
 use Rattle.f77_expr.specs.Fronts.{BeginsWithLetter, IsOther}
 use Rattle.f77_expr.specs.Lexing.{Run, run_of, longer, strip}
 use Rattle.f77_expr.proofs.LiteralLaws.{run_step, run_stop}

@@ -2,8 +2,8 @@
 use Rattle.std.proofs.Common.{◌≤◌, ◌+◌, Bool, true, IsTrue, refl}
 use Rattle.std.specs.Prelude.{◌&&◌}
 use Rattle.std.proofs.lemmas.Bool.{and_parts, and_from}
-use Rattle.fv_meaning.specs.expressions.Levels.{left_least, right_least, joins, may_follow, sign_level}
-use Rattle.fv_meaning.specs.expressions.Phrases.{Phrase, Phrases, level, begins_with_sign, IsExpression, AreExpressions, sign_word, Literal, WideLiteral, Truth, Name, Listed, Paren, Signed, Joined, One, Then}
+use Rattle.f77_grammar.specs.expressions.Levels.{left_least, right_least, joins, may_follow, sign_level}
+use Rattle.f77_grammar.specs.expressions.Phrases.{Phrase, Phrases, level, begins_with_sign, IsExpression, AreExpressions, sign_word, Literal, WideLiteral, Truth, Name, Listed, Paren, Signed, Joined, One, Then}
 
 -- each operand binds tightly enough for its operator or sign
 abbrev mutual

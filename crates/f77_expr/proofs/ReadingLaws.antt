@@ -6,16 +6,16 @@ use Rattle.std.proofs.lemmas.List.{length-map}
 use Rattle.f77_expr.specs.Tokens.{word_of}
 use Rattle.fv_tree.specs.declared.exprs.Expr.{Expr}
 use Rattle.fv_tree.specs.Plain.{Expression}
-use Rattle.fv_meaning.specs.expressions.Phrases.{Phrase, IsExpression, written, tree, Literal, WideLiteral, Truth, Name, Listed, Paren, Signed, Joined}
-use Rattle.fv_meaning.specs.expressions.Printing.{IsSource, phrase_of, printed}
-use Rattle.fv_meaning.specs.expressions.Reading.{Spells, ReadsAs, IsWide}
-use Rattle.fv_meaning.proofs.expressions.PrintingLaws.{back, spells, narrow}
-use Rattle.fv_meaning.proofs.expressions.SourceLaws.{read_source}
+use Rattle.f77_grammar.specs.expressions.Phrases.{Phrase, IsExpression, written, tree, Literal, WideLiteral, Truth, Name, Listed, Paren, Signed, Joined}
+use Rattle.f77_grammar.specs.expressions.Printing.{IsSource, phrase_of, printed}
+use Rattle.f77_grammar.specs.expressions.Reading.{Spells, ReadsAs, IsWide}
+use Rattle.f77_grammar.proofs.expressions.PrintingLaws.{back, spells, narrow}
+use Rattle.f77_grammar.proofs.expressions.SourceLaws.{read_source}
 use Rattle.fv_tree.specs.View.{expression_of}
 use Rattle.f77_expr.specs.declared.expressions.Unread.{Unread}
 use Rattle.f77_expr.specs.declared.expressions.Unread.TheVariants.{NoExpression, WideLiteral, Deep, OutOfMemory}
-use Rattle.fv_meaning.specs.expressions.Words as words
-use Rattle.fv_meaning.specs.expressions.Words.{Word}
+use Rattle.f77_grammar.specs.expressions.Words as words
+use Rattle.f77_grammar.specs.expressions.Words.{Word}
 use Rattle.f77_expr.specs.declared.operands.Operand.{Operand}
 use Rattle.f77_expr.specs.declared.tokens.Stop.{Stop}
 use Rattle.f77_expr.specs.declared.tokens.Stop.TheVariants.{Syntax, Memory}

@@ -3,7 +3,7 @@ use Rattle.std.proofs.Common.{◌≡◌, ◌≤◌, ℕ, length, drop, Bool, tru
 use Rattle.std.specs.Prelude.{◌==◌}
 use Rattle.std.proofs.lemmas.Bool.{eqb-true}
 use Rattle.std.proofs.lemmas.List.{drop_all}
-use Rattle.fv_meaning.specs.expressions.Squeezing.{Symbol, Char, Text, Broken, upper, doubled_one, doubled, IsEnded, Squeezed, nothing, blank, character, constant, empty, endless}
+use Rattle.f77_grammar.specs.expressions.Squeezing.{Symbol, Char, Text, Broken, upper, doubled_one, doubled, IsEnded, Squeezed, nothing, blank, character, constant, empty, endless}
 use Rattle.f77_expr.specs.Scanning.{Mode, Out, In, Closing, closed, scan_out, scan_in, scan_closing, scan}
 
 -- in a constant, its doubled text is taken in

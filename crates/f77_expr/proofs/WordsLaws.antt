@@ -2,9 +2,9 @@
 use Rattle.std.proofs.Common.{arith, ◌≡◌, ℕ, List, [], ◌∷◌, ◌++◌, refl, ap, sym, ◌∙◌, subst, append_assoc, append-nil, ◌<◌, length, length-append, true, false}
 use Rattle.std.specs.Prelude.{Some, None, Err}
 use Rattle.std.proofs.lemmas.List.{map_push, length-map, nil_from_length}
-use Rattle.fv_meaning.specs.expressions.Squeezing.{Symbol, Char}
-use Rattle.fv_meaning.specs.expressions.Spelling.{Words, Spelled, SpelledBy, IsName}
-use Rattle.fv_meaning.specs.expressions.Words.{Word, Number, Wide, Truth, Name, Head, Operator, Open, Close, Comma, Equals, Colon, Constant}
+use Rattle.f77_grammar.specs.expressions.Squeezing.{Symbol, Char}
+use Rattle.f77_grammar.specs.expressions.Spelling.{Words, Spelled, SpelledBy, IsName}
+use Rattle.f77_grammar.specs.expressions.Words.{Word, Number, Wide, Truth, Name, Head, Operator, Open, Close, Comma, Equals, Colon, Constant}
 use Rattle.fv_tree.specs.declared.ops.Op.TheVariants.{Neg}
 use Rattle.f77_expr.specs.declared.tokens.Token.{Token}
 use Rattle.f77_expr.specs.Lexing.{Front, word}

@@ -3,10 +3,10 @@ use Rattle.std.specs.Prelude.{ℕ, ◌≡◌, ◌==◌, ◌^◌, ◌<◌, ◌≤
 use Rattle.std.specs.Borrow.{Bor}
 use Rattle.std.specs.declared.alloc.Global.{Global}
 use Rattle.std.specs.declared.vec.Vec.{Vec}
-use Rattle.fv_meaning.specs.expressions.Squeezing as squeezing
-use Rattle.fv_meaning.specs.expressions.Squeezing.{Char}
-use Rattle.fv_meaning.specs.expressions.Spelling.{Stops, is_letter}
-use Rattle.fv_meaning.specs.expressions.Words.{Word}
+use Rattle.f77_grammar.specs.expressions.Squeezing as squeezing
+use Rattle.f77_grammar.specs.expressions.Squeezing.{Char}
+use Rattle.f77_grammar.specs.expressions.Spelling.{Stops, is_letter}
+use Rattle.f77_grammar.specs.expressions.Words.{Word}
 use Rattle.f77_expr.specs.Lexing.{Front, Run}
 use Rattle.f77_expr.specs.Symbols.{symbols_of}
 use Rattle.f77_expr.specs.Tokens.{word_of}

@@ -1,7 +1,7 @@
 -- A literal's value while its digits are read.
 use Rattle.std.specs.Prelude.{ℕ, ◌+◌, ◌-◌, ◌*◌, ◌^◌, ◌≡◌, ◌<◌, ◌≤◌, List, fold, Option, Some, None, option_and_then}
-use Rattle.fv_meaning.specs.expressions.Squeezing.{Symbol}
-use Rattle.fv_meaning.specs.expressions.Spelling.{is_digit, value}
+use Rattle.f77_grammar.specs.expressions.Squeezing.{Symbol}
+use Rattle.f77_grammar.specs.expressions.Spelling.{is_digit, value}
 use Rattle.f77_expr.specs.Fronts.{narrow}
 use Rattle.f77_expr.specs.Lexing.{run_of}
 

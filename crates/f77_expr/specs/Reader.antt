@@ -3,10 +3,10 @@ use Rattle.std.specs.Prelude.{ℕ, ◌+◌, max, min, pos, Bool, true, false, �
 use Rattle.fv_tree.specs.declared.ops.Op.{Op}
 use Rattle.fv_tree.specs.declared.ops.Op.TheVariants.{Add, Sub, Not}
 use Rattle.fv_tree.specs.Plain.{Expression, Number, Logic, Named, Binary, Subscript, Only, subscripts, no_subscripts}
-use Rattle.fv_meaning.specs.expressions.Words as words
-use Rattle.fv_meaning.specs.expressions.Words.{Word}
-use Rattle.fv_meaning.specs.expressions.Levels.{Sign, Plus, Minus, Negation, level_of, left_least, right_least, joins, compares, may_follow, sign_level}
-use Rattle.fv_meaning.specs.expressions.Phrases.{signed, sign_word}
+use Rattle.f77_grammar.specs.expressions.Words as words
+use Rattle.f77_grammar.specs.expressions.Words.{Word}
+use Rattle.f77_grammar.specs.expressions.Levels.{Sign, Plus, Minus, Negation, level_of, left_least, right_least, joins, compares, may_follow, sign_level}
+use Rattle.f77_grammar.specs.expressions.Phrases.{signed, sign_word}
 
 -- what is kept of an operand; `placed` is that each plus or minus sign in it stands where one may
 pub record Operand : Type 0 where

@@ -2,12 +2,12 @@
 use Rattle.std.specs.Prelude.{◌≡◌, min, List, [], ◌∷◌, ◌++◌, Result, Ok, Err}
 use Rattle.std.specs.Borrow.{Bor}
 use Rattle.fv_tree.specs.View.{expression_of}
-use Rattle.fv_meaning.specs.expressions.Phrases.{Phrase, IsExpression, written, tree, depth}
+use Rattle.f77_grammar.specs.expressions.Phrases.{Phrase, IsExpression, written, tree, depth}
 use Rattle.fv_tree.specs.Plain.{Expression}
-use Rattle.fv_meaning.specs.expressions.Printing.{phrase_of}
-use Rattle.fv_meaning.specs.expressions.Reading.{IsWide, IsDeep}
-use Rattle.fv_meaning.specs.expressions.Words as words
-use Rattle.fv_meaning.specs.expressions.Words.{Word}
+use Rattle.f77_grammar.specs.expressions.Printing.{phrase_of}
+use Rattle.f77_grammar.specs.expressions.Reading.{IsWide, IsDeep}
+use Rattle.f77_grammar.specs.expressions.Words as words
+use Rattle.f77_grammar.specs.expressions.Words.{Word}
 use Rattle.fv_tree.specs.declared.exprs.Expr.{Expr}
 use Rattle.f77_expr.specs.declared.expressions.Unread.{Unread}
 use Rattle.f77_expr.specs.declared.expressions.Unread.TheVariants.{NoExpression, WideLiteral, Deep, OutOfMemory}

@@ -1,6 +1,6 @@
 -- The symbols of a statement, found character by character.
 use Rattle.std.specs.Prelude.{ℕ, Bool, true, false, ◌==◌, List, [], ◌∷◌, ◌++◌}
-use Rattle.fv_meaning.specs.expressions.Squeezing.{Symbol, Char, Text, Broken, upper}
+use Rattle.f77_grammar.specs.expressions.Squeezing.{Symbol, Char, Text, Broken, upper}
 
 -- outside constants, in a constant, or behind an apostrophe in it, which ends it or is doubled
 pub data Mode : Type 0 where

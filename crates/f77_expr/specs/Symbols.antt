@@ -1,6 +1,6 @@
 -- The symbols that the code holds, as symbols of the grammar.
 use Rattle.std.specs.Prelude.{List, map}
-use Rattle.fv_meaning.specs.expressions.Squeezing as squeezing
+use Rattle.f77_grammar.specs.expressions.Squeezing as squeezing
 use Rattle.f77_expr.specs.declared.symbols.Mode.{Mode}
 use Rattle.f77_expr.specs.declared.symbols.Mode.TheVariants.{Out, In, Closing}
 use Rattle.f77_expr.specs.declared.symbols.Symbol.{Symbol}

@@ -1,8 +1,8 @@
 -- The words that the code holds, as words of the grammar.
 use Rattle.std.specs.Prelude.{Option, Some, None}
-use Rattle.fv_meaning.specs.expressions.Levels as levels
-use Rattle.fv_meaning.specs.expressions.Words as words
-use Rattle.fv_meaning.specs.expressions.Words.{Word}
+use Rattle.f77_grammar.specs.expressions.Levels as levels
+use Rattle.f77_grammar.specs.expressions.Words as words
+use Rattle.f77_grammar.specs.expressions.Words.{Word}
 use Rattle.f77_expr.specs.declared.tokens.Sign.{Sign}
 use Rattle.f77_expr.specs.declared.tokens.Sign.TheVariants.{Plus, Minus, Negation}
 use Rattle.f77_expr.specs.declared.tokens.Token.{Token}

@@ -12,7 +12,7 @@ use Rattle.f77_expr.specs.declared.tokens.Stop.{Stop}
 use Rattle.f77_expr.specs.declared.tokens.Stop.TheVariants.{Syntax, Memory}
 use Rattle.f77_expr.specs.declared.tokens.Token.{Token}
 use Rattle.std.specs.Borrow.{Bor}
-use Rattle.fv_meaning.specs.expressions.Words.{Word}
+use Rattle.f77_grammar.specs.expressions.Words.{Word}
 use Rattle.f77_expr.specs.Reader as reader
 use Rattle.f77_expr.specs.Tokens.{sign_view, word_of}
 

@@ -2,11 +2,11 @@
 ghost use Rattle.std.specs.Prelude.{◌≡◌, ◌<◌, ◌↔◌, IfOk, IsTrue, IsErrOf};
 ghost use Rattle.std.specs.List.{list_any};
 ghost use Rattle.fv_tree.specs.View.{expression_of};
-ghost use Rattle.fv_meaning.specs.expressions.Phrases.{Phrase, IsExpression, written};
+ghost use Rattle.f77_grammar.specs.expressions.Phrases.{Phrase, IsExpression, written};
 ghost use Rattle.fv_tree.specs.Plain.{Expression};
-ghost use Rattle.fv_meaning.specs.expressions.Printing.{IsSource, printed};
-ghost use Rattle.fv_meaning.specs.expressions.Reading.{ReadsAs, Spells, IsSpelled, IsWide, IsDeep, is_wide};
-ghost use Rattle.fv_meaning.specs.expressions.Words as words;
+ghost use Rattle.f77_grammar.specs.expressions.Printing.{IsSource, printed};
+ghost use Rattle.f77_grammar.specs.expressions.Reading.{ReadsAs, Spells, IsSpelled, IsWide, IsDeep, is_wide};
+ghost use Rattle.f77_grammar.specs.expressions.Words as words;
 ghost use Rattle.f77_expr.specs.Reading as reading;
 ghost use Rattle.f77_expr.specs.Reading.{GivesWhole, Answers, ReadsBack};
 ghost use Rattle.f77_expr.specs.Views.{words_of};

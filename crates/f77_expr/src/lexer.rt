@@ -1,9 +1,9 @@
 //! The words of a text without blanks.
 ghost use Rattle.std.specs.Prelude.{◌≡◌, ◌^◌, ◌<◌, ◌+◌, ◌*◌, ◌-◌, ◌∷◌, List, pos, Some, None, IfSome, IfOk, IsNone, IsTrue};
-ghost use Rattle.fv_meaning.specs.expressions.Words as words;
-ghost use Rattle.fv_meaning.specs.expressions.Spelling as spelling;
-ghost use Rattle.fv_meaning.specs.expressions.Spelling.{Stops, Words};
-ghost use Rattle.fv_meaning.specs.expressions.Squeezing as squeezing;
+ghost use Rattle.f77_grammar.specs.expressions.Words as words;
+ghost use Rattle.f77_grammar.specs.expressions.Spelling as spelling;
+ghost use Rattle.f77_grammar.specs.expressions.Spelling.{Stops, Words};
+ghost use Rattle.f77_grammar.specs.expressions.Squeezing as squeezing;
 ghost use Rattle.f77_expr.specs.Lexing as lexing;
 ghost use Rattle.f77_expr.specs.Literals as literals;
 ghost use Rattle.f77_expr.specs.Symbols.{symbols_of};

@@ -2,8 +2,8 @@
 ghost use Rattle.std.specs.Prelude.{◌≡◌, ◌≤◌, ◌++◌, ◌∷◌, [], IfOk, IsTrue, max};
 ghost use Rattle.fv_tree.specs.View.{expression_of, subscript_of};
 ghost use Rattle.fv_tree.specs.Plain.{Only};
-ghost use Rattle.fv_meaning.specs.expressions.Levels as levels;
-ghost use Rattle.fv_meaning.specs.expressions.Levels.{level_of, left_least, right_least, joins};
+ghost use Rattle.f77_grammar.specs.expressions.Levels as levels;
+ghost use Rattle.f77_grammar.specs.expressions.Levels.{level_of, left_least, right_least, joins};
 ghost use Rattle.f77_expr.specs.Reader.{deeper, signed_operand, joined_operand, paren_operand, listed_operand, primary, frame_least};
 ghost use Rattle.f77_expr.specs.Reader as reader;
 ghost use Rattle.f77_expr.specs.Tokens.{sign_view};

@@ -1,9 +1,9 @@
 //! Expressions, read word by word.
 ghost use Rattle.std.specs.Prelude.{◌≡◌, ◌<◌, length, List, [], ◌∷◌, ◌++◌, IfOk};
-ghost use Rattle.fv_meaning.specs.expressions.Levels.{level_of};
+ghost use Rattle.f77_grammar.specs.expressions.Levels.{level_of};
 ghost use Rattle.f77_expr.specs.Reader as reader;
-ghost use Rattle.fv_meaning.specs.expressions.Words as words;
-ghost use Rattle.fv_meaning.specs.expressions.Phrases.{Phrase, IsExpression, written};
+ghost use Rattle.f77_grammar.specs.expressions.Words as words;
+ghost use Rattle.f77_grammar.specs.expressions.Phrases.{Phrase, IsExpression, written};
 ghost use Rattle.f77_expr.specs.Reading as reading;
 ghost use Rattle.f77_expr.specs.Reading.{Ends, Gives};
 ghost use Rattle.f77_expr.specs.Tokens.{word_of};

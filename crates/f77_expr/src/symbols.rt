@@ -1,8 +1,8 @@
 //! The symbols of a statement: blanks have no meaning, letters are upper case, and each character constant is one
 //! symbol (ANSI X3.9-1978, sections 3.1.6 and 4.8).
 ghost use Rattle.std.specs.Prelude.{◌≡◌, ℕ, List, ◌∷◌, [], ◌++◌, IfOk, OnOk};
-ghost use Rattle.fv_meaning.specs.expressions.Squeezing.{upper, Squeezed};
-ghost use Rattle.fv_meaning.specs.expressions.Squeezing as squeezing;
+ghost use Rattle.f77_grammar.specs.expressions.Squeezing.{upper, Squeezed};
+ghost use Rattle.f77_grammar.specs.expressions.Squeezing as squeezing;
 ghost use Rattle.f77_expr.specs.Scanning as scanning;
 ghost use Rattle.f77_expr.specs.Symbols.{symbol_of, symbols_of, mode_of};
 

@@ -1,7 +1,7 @@
 //! The words of expressions and lists.
 ghost use Rattle.std.specs.Prelude.{◌≡◌, Option, Some, None};
-ghost use Rattle.fv_meaning.specs.expressions.Levels.{sign_level};
-ghost use Rattle.fv_meaning.specs.expressions.Phrases.{sign_word};
+ghost use Rattle.f77_grammar.specs.expressions.Levels.{sign_level};
+ghost use Rattle.f77_grammar.specs.expressions.Phrases.{sign_word};
 ghost use Rattle.f77_expr.specs.Reader as reader;
 ghost use Rattle.f77_expr.specs.Tokens.{sign_view, sign_view_option};
 
@@ -27,7 +27,7 @@ pub enum Token {
 }
 
 impl Token {
-    ghost use Rattle.fv_meaning.specs.expressions.Reading.{is_wide};
+    ghost use Rattle.f77_grammar.specs.expressions.Reading.{is_wide};
     ghost use Rattle.f77_expr.specs.Tokens.{word_of};
 
     pub fn is_wide(&self) -> bool

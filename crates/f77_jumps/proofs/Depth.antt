@@ -3,19 +3,19 @@ use Rattle.std.proofs.Common.{◌≡◌, ℕ, zero, suc, pred, ◌+◌, ◌-◌,
 use Rattle.std.specs.List.{filter}
 use Rattle.std.proofs.lemmas.Bool.Decides.{nat_tests}
 use Rattle.std.proofs.lemmas.List.Elements.{filter-append}
-use Rattle.fv_meaning.specs.Statement77.{Labelled, Statement77, Test, If, EndIf, Do}
-use Rattle.fv_meaning.specs.program.Text.{stands_in, is_block_if, left_over, without_ended, ends_in, loop_ends_in}
-use Rattle.fv_meaning.specs.program.Limits.{opens_block, has_many_blocks}
-use Rattle.f77_blocks.specs.declared.forms.Form.{Form}
-use Rattle.f77_blocks.specs.declared.forms.Form.TheVariants as forms
-use Rattle.statements77.specs.declared.statements.Labelled.{Labelled as Labelled'}
-use Rattle.statements77.specs.Views.{labelled_of, text_of, statement_of}
-use Rattle.statements77.specs.Walk.{passed, place_at}
-use Rattle.statements77.proofs.Walks.{text_passed, text_left}
-use Rattle.f77_blocks.specs.Forms.{form_of, begun_in}
-use Rattle.f77_blocks.specs.Openings.{end_of, is_from, last_with, under}
-use Rattle.f77_blocks.proofs.OpenIfs.{opens_if}
-use Rattle.f77_blocks.proofs.Closers.{end_under, stands_after}
+use Rattle.f77_grammar.specs.Statement77.{Labelled, Statement77, Test, If, EndIf, Do}
+use Rattle.f77_grammar.specs.program.Text.{stands_in, is_block_if, left_over, without_ended, ends_in, loop_ends_in}
+use Rattle.f77_grammar.specs.program.Limits.{opens_block, has_many_blocks}
+use Rattle.f77_structure.specs.declared.forms.Form.{Form}
+use Rattle.f77_structure.specs.declared.forms.Form.TheVariants as forms
+use Rattle.f77_syntax.specs.declared.statements.Labelled.{Labelled as Labelled'}
+use Rattle.f77_syntax.specs.Views.{labelled_of, text_of, statement_of}
+use Rattle.f77_syntax.specs.Walk.{passed, place_at}
+use Rattle.f77_syntax.proofs.Walks.{text_passed, text_left}
+use Rattle.f77_structure.specs.Forms.{form_of, begun_in}
+use Rattle.f77_structure.specs.Openings.{end_of, is_from, last_with, under}
+use Rattle.f77_structure.proofs.OpenIfs.{opens_if}
+use Rattle.f77_structure.proofs.Closers.{end_under, stands_after}
 use Rattle.f77_jumps.specs.Blocks.{opens_form, depth, depth_with, lasts, lasting, with_end}
 
 -- ---- block IFs

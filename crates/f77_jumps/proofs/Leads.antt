@@ -4,19 +4,19 @@ use Rattle.std.specs.List.{list_any, find}
 use Rattle.std.proofs.lemmas.Grind.{reverse_onto}
 use Rattle.std.proofs.lemmas.List.{append-nil, drop-drop, length-map}
 use Rattle.std.proofs.lemmas.Bool.Decides.{nat_tests}
-use Rattle.fv_meaning.specs.Statement77.{Labelled, Statement77, Go, Declare, Dimension, Constants, ElseIf, Else, EndIf}
-use Rattle.fv_meaning.specs.program.Text.{Place, places_from, bears, is_label, stands_in, action, loop_ends_in, without_ended}
-use Rattle.fv_meaning.specs.program.Jumps.{place_of_label, is_no_target, leads_wrongly, jumps_wrongly, has_wrong_jump}
-use Rattle.f77_blocks.specs.declared.forms.Form.{Form}
-use Rattle.f77_blocks.specs.declared.openings.OpenLoop.{OpenLoop}
-use Rattle.statements77.specs.declared.statements.Labelled.{Labelled as Labelled'}
-use Rattle.statements77.specs.Views.{labelled_of, text_of, statement_of}
-use Rattle.statements77.specs.Walk.{passed, place_at}
-use Rattle.statements77.proofs.Walks.{text_passed, text_left, text_within, text_at, passed_length}
-use Rattle.f77_blocks.specs.Forms.{form_of}
-use Rattle.f77_blocks.specs.Openings.{is_from, last_with, first_of, nearest_at, trimmed, loops_of, is_behind}
-use Rattle.f77_blocks.proofs.OpenLoops.{open_since}
-use Rattle.f77_blocks.proofs.Closers.{stands_after}
+use Rattle.f77_grammar.specs.Statement77.{Labelled, Statement77, Go, Declare, Dimension, Constants, ElseIf, Else, EndIf}
+use Rattle.f77_grammar.specs.program.Text.{Place, places_from, bears, is_label, stands_in, action, loop_ends_in, without_ended}
+use Rattle.f77_grammar.specs.program.Jumps.{place_of_label, is_no_target, leads_wrongly, jumps_wrongly, has_wrong_jump}
+use Rattle.f77_structure.specs.declared.forms.Form.{Form}
+use Rattle.f77_structure.specs.declared.openings.OpenLoop.{OpenLoop}
+use Rattle.f77_syntax.specs.declared.statements.Labelled.{Labelled as Labelled'}
+use Rattle.f77_syntax.specs.Views.{labelled_of, text_of, statement_of}
+use Rattle.f77_syntax.specs.Walk.{passed, place_at}
+use Rattle.f77_syntax.proofs.Walks.{text_passed, text_left, text_within, text_at, passed_length}
+use Rattle.f77_structure.specs.Forms.{form_of}
+use Rattle.f77_structure.specs.Openings.{is_from, last_with, first_of, nearest_at, trimmed, loops_of, is_behind}
+use Rattle.f77_structure.proofs.OpenLoops.{open_since}
+use Rattle.f77_structure.proofs.Closers.{stands_after}
 use Rattle.f77_jumps.specs.declared.targets.Target.{Target}
 use Rattle.f77_jumps.specs.Targets.{next_arms, arms_of, later, is_no_target_form, target_of, targets_of, first_target, refuses, leads_wrongly_to, jumps_wrongly_to}
 use Rattle.f77_jumps.proofs.OpenArms.{is_arm, arm_since}

@@ -18,11 +18,11 @@ use Rattle.fv_tree.specs.declared.stmts.Item.{Item as Item'}
 use Rattle.fv_tree.specs.declared.stmts.Item.TheVariants as variants
 use Rattle.fv_tree.proofs.Equations.{expression_of-int, expression_of-truth, expression_of-item, expression_of-un, expression_of-bin, expression_of-call, reference_of-is, item_of-one, item_of-text, item_of-turns}
 use Rattle.fv_tree.specs.declared.ops.Kind.{Kind}
-use Rattle.statements77.specs.declared.statements.Entity.{Entity}
-use Rattle.statements77.specs.declared.statements.Stmt77.{Stmt77}
-use Rattle.statements77.specs.declared.statements.Stmt77.TheVariants as stmts
-use Rattle.statements77.specs.Views.{statement_of}
-use Rattle.statements77.proofs.Equations.{statement_of-program, statement_of-declare, statement_of-dimension, statement_of-constants, statement_of-assign, statement_of-go, statement_of-test, statement_of-if, statement_of-else_if, statement_of-else, statement_of-end_if, statement_of-do, statement_of-continue, statement_of-stop, statement_of-read, statement_of-print, statement_of-end}
+use Rattle.f77_syntax.specs.declared.statements.Entity.{Entity}
+use Rattle.f77_syntax.specs.declared.statements.Stmt77.{Stmt77}
+use Rattle.f77_syntax.specs.declared.statements.Stmt77.TheVariants as stmts
+use Rattle.f77_syntax.specs.Views.{statement_of}
+use Rattle.f77_syntax.proofs.Equations.{statement_of-program, statement_of-declare, statement_of-dimension, statement_of-constants, statement_of-assign, statement_of-go, statement_of-test, statement_of-if, statement_of-else_if, statement_of-else, statement_of-end_if, statement_of-do, statement_of-continue, statement_of-stop, statement_of-read, statement_of-print, statement_of-end}
 use Rattle.f77_jumps.specs.Misuses.{is_round, sets_round, reads_round, is_wrong_round, misuses_output, misuses_outputs, misuses_input, misuses_inputs, misuses_statement}
 
 -- ---- targets

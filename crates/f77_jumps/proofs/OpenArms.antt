@@ -1,13 +1,13 @@
 -- The arms of block IFs that are open, as the definitions find them and as a stack keeps them.
 use Rattle.std.proofs.Common.{◌≡◌, ℕ, zero, suc, ◌-◌, ◌<◌, Bool, true, ◌||◌, Some, List, [], ◌∷◌, length, take, refl, sym, ap, ◌∙◌, arith}
 use Rattle.std.specs.List.{list_any}
-use Rattle.fv_meaning.specs.Statement77.{Labelled, Statement77, If, ElseIf, Else, EndIf}
-use Rattle.fv_meaning.specs.program.Text.{left_over, without_ended}
-use Rattle.fv_meaning.specs.program.Jumps.{opens_arm}
-use Rattle.f77_blocks.specs.Forms.{form_of}
-use Rattle.f77_blocks.specs.Openings.{first_of, tail_of, is_behind}
-use Rattle.f77_blocks.proofs.OpenIfs.{is_within, within_more, within_none, here_within}
-use Rattle.f77_blocks.proofs.Closers.{within_behind}
+use Rattle.f77_grammar.specs.Statement77.{Labelled, Statement77, If, ElseIf, Else, EndIf}
+use Rattle.f77_grammar.specs.program.Text.{left_over, without_ended}
+use Rattle.f77_grammar.specs.program.Jumps.{opens_arm}
+use Rattle.f77_structure.specs.Forms.{form_of}
+use Rattle.f77_structure.specs.Openings.{first_of, tail_of, is_behind}
+use Rattle.f77_structure.proofs.OpenIfs.{is_within, within_more, within_none, here_within}
+use Rattle.f77_structure.proofs.Closers.{within_behind}
 use Rattle.f77_jumps.specs.Targets.{next_arms, arms_of, arm_at}
 
 abbrev pub is_arm : Labelled → Bool

@@ -7,18 +7,18 @@ use Rattle.std.proofs.lemmas.List.Folds.{list_any-append}
 use Rattle.fv_tree.specs.Plain.{Expression, Named, Subscripts, no_subscripts, subscript, Item, Single, Constant, ImpliedDo, Items, no_items, item}
 use Rattle.fv_tree.specs.declared.ops.Kind.{Kind}
 use Rattle.fv_tree.specs.declared.ops.Kind.TheVariants.{Integer}
-use Rattle.fv_meaning.specs.Statement77.{Labelled, Statement77, Assign, Do, Read, Print}
-use Rattle.fv_meaning.specs.program.Text.{action, stands_in, ends_in, loop_ends_in}
-use Rattle.fv_meaning.specs.program.Names.{is_among}
-use Rattle.fv_meaning.specs.program.Kinds.{same_kind}
-use Rattle.fv_meaning.specs.program.Uses.{Role, Title, Typed, Bounded, Defined, Valued, Target, Counter, Use, uses_in_text, stands, is_typed, is_bounded, is_defined, is_bare, type_of, type_in, or_integer}
-use Rattle.fv_meaning.specs.program.DoVariables.{loop_variable, loop_variables, sets_one_of, reads_one_of, is_integer_scalar, is_wrong_variable, misuses_in_output, misuses_in_outputs, misuses_in_input, misuses_in_inputs, misuses_variable, has_wrong_do_variable}
-use Rattle.statements77.specs.declared.statements.Labelled.{Labelled as Labelled'}
-use Rattle.statements77.specs.Views.{labelled_of, text_of, statement_of}
-use Rattle.statements77.specs.Walk.{passed, place_at}
-use Rattle.statements77.proofs.Walks.{text_passed, text_left}
-use Rattle.f77_blocks.specs.Openings.{is_from, last_with}
-use Rattle.f77_blocks.proofs.Closers.{stands_after}
+use Rattle.f77_grammar.specs.Statement77.{Labelled, Statement77, Assign, Do, Read, Print}
+use Rattle.f77_grammar.specs.program.Text.{action, stands_in, ends_in, loop_ends_in}
+use Rattle.fv_meaning.specs.Names.{is_among}
+use Rattle.f77_grammar.specs.program.Kinds.{same_kind}
+use Rattle.f77_grammar.specs.program.Uses.{Role, Title, Typed, Bounded, Defined, Valued, Target, Counter, Use, uses_in_text, stands, is_typed, is_bounded, is_defined, is_bare, type_of, type_in, or_integer}
+use Rattle.f77_grammar.specs.program.DoVariables.{loop_variable, loop_variables, sets_one_of, reads_one_of, is_integer_scalar, is_wrong_variable, misuses_in_output, misuses_in_outputs, misuses_in_input, misuses_in_inputs, misuses_variable, has_wrong_do_variable}
+use Rattle.f77_syntax.specs.declared.statements.Labelled.{Labelled as Labelled'}
+use Rattle.f77_syntax.specs.Views.{labelled_of, text_of, statement_of}
+use Rattle.f77_syntax.specs.Walk.{passed, place_at}
+use Rattle.f77_syntax.proofs.Walks.{text_passed, text_left}
+use Rattle.f77_structure.specs.Openings.{is_from, last_with}
+use Rattle.f77_structure.proofs.Closers.{stands_after}
 use Rattle.f77_names.specs.declared.names.Facts.{Facts}
 use Rattle.f77_names.specs.NameFacts.{nothing_known, first_given, facts_with, facts_of, facts_in}
 use Rattle.f77_names.proofs.FactLaws.{constant_is, bare_is, bounded_is, typed_is}

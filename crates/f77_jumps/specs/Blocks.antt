@@ -1,11 +1,11 @@
 -- How many blocks are open.
 use Rattle.std.specs.Prelude.{ℕ, suc, pred, nat_le, Bool, true, false, Option, None, Some, List, [], ◌∷◌, ◌++◌, length}
 use Rattle.std.specs.List.{filter}
-use Rattle.fv_meaning.specs.Statement77.{Labelled}
-use Rattle.f77_blocks.specs.declared.forms.Form.{Form}
-use Rattle.f77_blocks.specs.declared.forms.Form.TheVariants.{LogicalIf, If, EndIf, Do}
-use Rattle.f77_blocks.specs.Forms.{form_of}
-use Rattle.f77_blocks.specs.Openings.{end_of, is_from}
+use Rattle.f77_grammar.specs.Statement77.{Labelled}
+use Rattle.f77_structure.specs.declared.forms.Form.{Form}
+use Rattle.f77_structure.specs.declared.forms.Form.TheVariants.{LogicalIf, If, EndIf, Do}
+use Rattle.f77_structure.specs.Forms.{form_of}
+use Rattle.f77_structure.specs.Openings.{end_of, is_from}
 
 -- a block IF, a logical IF or a loop
 abbrev pub opens_form : Form → Bool

@@ -2,8 +2,8 @@
 use Rattle.std.specs.Prelude.{ℕ, Bool, Option, None, Some, if◌then◌else◌, List, [], ◌∷◌}
 use Rattle.std.specs.Str.{bytes_eq}
 use Rattle.indexmap.specs.IndexMap.{get}
-use Rattle.fv_meaning.specs.Statement77.{Labelled, Statement77, Do}
-use Rattle.f77_blocks.specs.Openings.{is_from}
+use Rattle.f77_grammar.specs.Statement77.{Labelled, Statement77, Do}
+use Rattle.f77_structure.specs.Openings.{is_from}
 use Rattle.f77_names.specs.NameFacts.{facts_in}
 use Rattle.f77_jumps.specs.declared.do_variables.LoopVariables.{LoopVariables}
 use Rattle.f77_jumps.specs.Misuses.{is_scalar_by}

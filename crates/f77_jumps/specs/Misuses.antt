@@ -2,10 +2,10 @@
 use Rattle.std.specs.Prelude.{ℕ, Bool, false, not, ◌&&◌, ◌||◌, is_some, List, [], ◌∷◌, ◌++◌}
 use Rattle.fv_tree.specs.Plain.{Expression, Named, Subscripts, no_subscripts, subscript, Item, Single, Constant, ImpliedDo, Items, no_items, item}
 use Rattle.fv_tree.specs.declared.ops.Kind.TheVariants.{Integer}
-use Rattle.fv_meaning.specs.Statement77.{Statement77, Assign, Do, Read, Print}
-use Rattle.fv_meaning.specs.program.Names.{is_among}
-use Rattle.fv_meaning.specs.program.Kinds.{same_kind}
-use Rattle.fv_meaning.specs.program.Uses.{or_integer}
+use Rattle.f77_grammar.specs.Statement77.{Statement77, Assign, Do, Read, Print}
+use Rattle.fv_meaning.specs.Names.{is_among}
+use Rattle.f77_grammar.specs.program.Kinds.{same_kind}
+use Rattle.f77_grammar.specs.program.Uses.{or_integer}
 use Rattle.f77_names.specs.declared.names.Facts.{Facts}
 use Rattle.f77_names.specs.NameFacts.{is_variable_by}
 

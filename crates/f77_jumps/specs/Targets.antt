@@ -1,11 +1,11 @@
 -- Statements as what a GO TO leads to: the block or loop round each, by where it was opened.
 use Rattle.std.specs.Prelude.{ℕ, zero, suc, max, Bool, true, false, ◌||◌, Option, None, Some, if◌then◌else◌, List, [], ◌∷◌, length, reverse}
-use Rattle.fv_meaning.specs.Statement77.{Labelled}
-use Rattle.fv_meaning.specs.program.Text.{bears}
-use Rattle.f77_blocks.specs.declared.forms.Form.{Form}
-use Rattle.f77_blocks.specs.declared.forms.Form.TheVariants.{Declaration, Go, If, ElseIf, Else, EndIf}
-use Rattle.f77_blocks.specs.Forms.{form_of}
-use Rattle.f77_blocks.specs.Openings.{first_of, tail_of, nearest_at, trimmed, loops_of, is_behind}
+use Rattle.f77_grammar.specs.Statement77.{Labelled}
+use Rattle.f77_grammar.specs.program.Text.{bears}
+use Rattle.f77_structure.specs.declared.forms.Form.{Form}
+use Rattle.f77_structure.specs.declared.forms.Form.TheVariants.{Declaration, Go, If, ElseIf, Else, EndIf}
+use Rattle.f77_structure.specs.Forms.{form_of}
+use Rattle.f77_structure.specs.Openings.{first_of, tail_of, nearest_at, trimmed, loops_of, is_behind}
 use Rattle.f77_jumps.specs.declared.targets.Arms.{Arms}
 use Rattle.f77_jumps.specs.declared.targets.Target.{Target}
 

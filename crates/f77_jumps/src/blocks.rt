@@ -1,14 +1,14 @@
 //! How deep blocks stand in one another: block IFs, logical IFs and loops.
 ghost use Rattle.std.specs.Prelude.{◌≡◌, ◌+◌, ◌<◌, ◌^◌, nat_le, ◌&&◌, [], length, OnOk, IfOk};
 ghost use Rattle.std.specs.List.{filter};
-ghost use Rattle.fv_meaning.specs.program.Limits.{has_many_blocks};
-ghost use Rattle.statements77.specs.First.{first_index};
-ghost use Rattle.statements77.specs.Views.{text_of};
+ghost use Rattle.f77_grammar.specs.program.Limits.{has_many_blocks};
+ghost use Rattle.f77_syntax.specs.First.{first_index};
+ghost use Rattle.f77_syntax.specs.Views.{text_of};
 ghost use Rattle.f77_jumps.specs.Blocks.{opens_form, depth_with, with_end};
 
-use f77_blocks::{Form, label_ends, place_under};
+use f77_structure::{Form, label_ends, place_under};
 use fv_tree::Memory;
-use statements77::Labelled;
+use f77_syntax::Labelled;
 use std::alloc::Global;
 
 // What opens a block stands in fewer blocks than these.

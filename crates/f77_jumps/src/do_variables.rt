@@ -1,26 +1,26 @@
 //! DO variables: INTEGER scalar variables, which nothing in the range of their loop or list sets (ANSI X3.9-1978, sections 11.10 and 12.8.2.3).
 ghost use Rattle.std.specs.Prelude.{◌≡◌, ℕ, Bool, List, [], None, Some, map, is_some, not, ◌&&◌, OnOk, IfOk, if◌then◌else◌};
 ghost use Rattle.fv_tree.specs.declared.ops.Kind.TheVariants.{Integer};
-ghost use Rattle.fv_meaning.specs.program.Kinds.{same_kind};
+ghost use Rattle.f77_grammar.specs.program.Kinds.{same_kind};
 ghost use Rattle.std.specs.Str.{bytes_eq};
 ghost use Rattle.fv_tree.specs.Plain.{items};
 ghost use Rattle.fv_tree.specs.View.{expression_of, reference_of, item_of};
-ghost use Rattle.fv_meaning.specs.program.Names.{is_among};
-ghost use Rattle.fv_meaning.specs.program.Uses as plain;
-ghost use Rattle.fv_meaning.specs.program.DoVariables.{has_wrong_do_variable};
-ghost use Rattle.statements77.specs.First.{first_index};
-ghost use Rattle.statements77.specs.Views.{statement_of, text_of};
-ghost use Rattle.f77_blocks.specs.LabelPlaces.{place_of};
+ghost use Rattle.fv_meaning.specs.Names.{is_among};
+ghost use Rattle.f77_grammar.specs.program.Uses as plain;
+ghost use Rattle.f77_grammar.specs.program.DoVariables.{has_wrong_do_variable};
+ghost use Rattle.f77_syntax.specs.First.{first_index};
+ghost use Rattle.f77_syntax.specs.Views.{statement_of, text_of};
+ghost use Rattle.f77_structure.specs.LabelPlaces.{place_of};
 ghost use Rattle.f77_jumps.specs.LoopVariables.{last_in, scalar_in, round_at, loop_begun, end_with};
 ghost use Rattle.f77_jumps.specs.Misuses.{is_scalar_by, is_round, sets_round, reads_round, is_wrong_round, misuses_output, misuses_outputs, misuses_input, misuses_inputs, misuses_statement};
 ghost use Rattle.f77_jumps.specs.Targets.{later};
 
 use crate::targets::later;
-use f77_blocks::{LabelPlaces, label_ends};
+use f77_structure::{LabelPlaces, label_ends};
 use f77_names::{Facts, Names, names_of, uses_in_text};
 use fv_tree::{Expr, Item, Kind, Memory, Name, Ref, Seq};
 use indexmap::IndexMap;
-use statements77::{Labelled, Stmt77};
+use f77_syntax::{Labelled, Stmt77};
 use std::alloc::Global;
 
 // An INTEGER scalar variable.
@@ -55,7 +55,7 @@ fn is_among(name: Name, names: &[Name]) -> bool
 }
 
 // The label and the variable of a DO.
-#[tactic(auto, using(statements77::proofs::Equations::statement_equations))]
+#[tactic(auto, using(f77_syntax::proofs::Equations::statement_equations))]
 fn loop_begun(statement: &Stmt77) -> Option<(u32, Name)>
     ensures { result ≡ loop_begun (statement_of statement.now) }
 {

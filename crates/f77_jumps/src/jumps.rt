@@ -1,15 +1,15 @@
 //! GO TO: forwards, and never into a block or loop (ANSI X3.9-1978, sections 11.1 and 11.6 to 11.10).
 ghost use Rattle.std.specs.Prelude.{◌≡◌, IfOk};
-ghost use Rattle.fv_meaning.specs.program.Jumps.{has_wrong_jump};
-ghost use Rattle.statements77.specs.First.{first_index};
-ghost use Rattle.statements77.specs.Views.{text_of};
+ghost use Rattle.f77_grammar.specs.program.Jumps.{has_wrong_jump};
+ghost use Rattle.f77_syntax.specs.First.{first_index};
+ghost use Rattle.f77_syntax.specs.Views.{text_of};
 ghost use Rattle.f77_jumps.specs.LabelTargets.{target_in};
 ghost use Rattle.f77_jumps.specs.Targets.{jumps_wrongly_to};
 
 use crate::targets::{LabelTargets, targets_of};
-use f77_blocks::{Form, here_if, label_ends};
+use f77_structure::{Form, here_if, label_ends};
 use fv_tree::Memory;
-use statements77::Labelled;
+use f77_syntax::Labelled;
 use std::alloc::Global;
 
 impl LabelTargets {

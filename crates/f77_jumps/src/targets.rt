@@ -1,15 +1,15 @@
 //! What a GO TO leads to, and what is round it.
 ghost use Rattle.std.specs.Prelude.{◌≡◌, ℕ, ◌+◌, ◌<◌, ◌^◌, None, Some, [], ◌∷◌, reverse, OnOk, IfOk, if◌then◌else◌};
-ghost use Rattle.fv_meaning.specs.program.Text.{is_label};
-ghost use Rattle.f77_blocks.specs.LabelPlaces.{place_of};
-ghost use Rattle.f77_blocks.specs.Openings.{first_of, tail_of, is_behind};
-ghost use Rattle.statements77.specs.Views.{text_of};
+ghost use Rattle.f77_grammar.specs.program.Text.{is_label};
+ghost use Rattle.f77_structure.specs.LabelPlaces.{place_of};
+ghost use Rattle.f77_structure.specs.Openings.{first_of, tail_of, is_behind};
+ghost use Rattle.f77_syntax.specs.Views.{text_of};
 ghost use Rattle.f77_jumps.specs.LabelTargets.{target_in};
 ghost use Rattle.f77_jumps.specs.Targets.{arms_in, next_arms, later, is_no_target_form, targets_of, refuses, leads_wrongly_to};
 
-use f77_blocks::{Form, LabelPlaces, Openings, place_under};
+use f77_structure::{Form, LabelPlaces, Openings, place_under};
 use fv_tree::Memory;
-use statements77::Labelled;
+use f77_syntax::Labelled;
 use std::alloc::Global;
 use std::collections::BTreeMap;
 

@@ -3,9 +3,9 @@ use Rattle.std.proofs.Common.{◌≡◌, Bool, true, false, ◌&&◌, cond, Opti
 use Rattle.fv_tree.specs.Names.{IsName}
 use Rattle.fv_tree.specs.declared.ops.Fun.{Fun}
 use Rattle.fv_tree.specs.declared.ops.Fun.TheVariants.{Abs, Mod, Max, Min}
-use Rattle.fv_meaning.specs.program.Names.{function_named, name_of_function}
-use Rattle.fv_meaning.specs.program.Uses.{Use, is_function}
-use Rattle.fv_meaning.specs.program.Kinds.{is_hidden_name, calls_hidden}
+use Rattle.fv_meaning.specs.Names.{function_named, name_of_function}
+use Rattle.f77_grammar.specs.program.Uses.{Use, is_function}
+use Rattle.f77_grammar.specs.program.Kinds.{is_hidden_name, calls_hidden}
 use Rattle.f77_names.specs.NameFacts.{function_of}
 
 pub is_name : (f : Fun) → IsName (name_of_function f)

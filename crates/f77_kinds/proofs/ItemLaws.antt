@@ -15,8 +15,8 @@ use Rattle.fv_tree.specs.declared.exprs.Sub.{Sub}
 use Rattle.fv_tree.specs.declared.stmts.Item.{Item}
 use Rattle.fv_tree.specs.declared.stmts.Item.TheVariants as variants
 use Rattle.fv_tree.proofs.Equations.{expression_of-int, expression_of-truth, expression_of-item, expression_of-un, expression_of-bin, expression_of-call, reference_of-is, item_of-one, item_of-text, item_of-turns}
-use Rattle.fv_meaning.specs.program.Uses.{Use, is_array}
-use Rattle.fv_meaning.specs.program.Kinds.{has_some_kind, are_numbers, are_subscripts, suits_output, suits_input, suits_output_item, suits_output_items, suits_input_item, suits_input_items}
+use Rattle.f77_grammar.specs.program.Uses.{Use, is_array}
+use Rattle.f77_grammar.specs.program.Kinds.{has_some_kind, are_numbers, are_subscripts, suits_output, suits_input, suits_output_item, suits_output_items, suits_input_item, suits_input_items}
 
 -- a reference as an expression
 item-is : (r : Ref) → expression_of (exprs.Item r) ≡ Named (out-Ref r).name (subscripts (map subscript_of (out-Ref r).subs))

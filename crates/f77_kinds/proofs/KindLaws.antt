@@ -15,10 +15,10 @@ use Rattle.fv_tree.specs.declared.exprs.Expr.TheVariants as exprs
 use Rattle.fv_tree.specs.declared.exprs.Ref.{Ref, out-Ref}
 use Rattle.fv_tree.specs.declared.exprs.Sub.TheVariants as subs
 use Rattle.fv_tree.proofs.Equations.{expression_of-int, expression_of-truth, expression_of-item, expression_of-un, expression_of-bin, expression_of-call, subscript_of-one, reference_of-is}
-use Rattle.fv_meaning.specs.program.Names.{suits_number}
-use Rattle.fv_meaning.specs.program.Typed.{number_of_arguments, number_of_subscripts, is_unary, kind_of_result, operand_kind}
-use Rattle.fv_meaning.specs.program.Uses.{Use}
-use Rattle.fv_meaning.specs.program.Kinds.{same_kind, name_has_kind, has_kind, are_arguments, are_subscripts, is_subscript}
+use Rattle.fv_meaning.specs.Names.{suits_number}
+use Rattle.fv_meaning.specs.Typed77.{number_of_arguments, number_of_subscripts, is_unary, kind_of_result, operand_kind}
+use Rattle.f77_grammar.specs.program.Uses.{Use}
+use Rattle.f77_grammar.specs.program.Kinds.{same_kind, name_has_kind, has_kind, are_arguments, are_subscripts, is_subscript}
 use Rattle.f77_names.proofs.UseLaws.{number_is}
 
 pub arguments_counted : (es : List Expression) → number_of_arguments (expressions es) ≡ length es

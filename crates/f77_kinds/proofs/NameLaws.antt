@@ -3,9 +3,9 @@ use Rattle.std.proofs.Common.{◌≡◌, ◌≢◌, ℕ, zero, suc, Bool, true, 
 use Rattle.fv_tree.specs.declared.ops.Kind.{Kind}
 use Rattle.fv_tree.specs.declared.ops.Kind.TheVariants.{Integer}
 use Rattle.fv_tree.specs.declared.ops.Fun.{Fun}
-use Rattle.fv_meaning.specs.program.Names.{function_named}
-use Rattle.fv_meaning.specs.program.Uses as plain
-use Rattle.fv_meaning.specs.program.Kinds as kinds
+use Rattle.fv_meaning.specs.Names.{function_named}
+use Rattle.f77_grammar.specs.program.Uses as plain
+use Rattle.f77_grammar.specs.program.Kinds as kinds
 use Rattle.f77_names.specs.NameFacts.{function_of}
 
 pub takes-function : (us : List plain.Use) (x : List ℕ) (n : ℕ) → kinds.takes_so_many (function_of us x) n ≡ (plain.is_function us x && kinds.takes_so_many (function_named x) n)

@@ -14,16 +14,16 @@ use Rattle.fv_tree.specs.declared.exprs.Expr.{Expr}
 use Rattle.fv_tree.specs.declared.exprs.Ref.{Ref, out-Ref}
 use Rattle.fv_tree.specs.declared.stmts.Item.{Item}
 use Rattle.fv_tree.proofs.Equations.{reference_of-is}
-use Rattle.fv_meaning.specs.Statement77 as plain
-use Rattle.fv_meaning.specs.program.Uses.{Use, uses_of, uses_in_text, is_array, kind_of_name}
-use Rattle.fv_meaning.specs.program.Kinds.{has_kind, are_subscripts, is_stored_into, are_numbers, has_integer_bounds, suits_output_items, suits_input_items, suits, calls_hidden, has_unsuited_kind}
-use Rattle.statements77.specs.declared.statements.Entity.{Entity}
-use Rattle.statements77.specs.declared.statements.Stmt77.{Stmt77}
-use Rattle.statements77.specs.declared.statements.Stmt77.TheVariants as stmts
-use Rattle.statements77.specs.Views.{statement_of, labelled_of, text_of, entity_of, constant_of}
-use Rattle.statements77.specs.declared.statements.Labelled.{Labelled as Labelled'}
-use Rattle.statements77.specs.Walk.{place_at}
-use Rattle.statements77.proofs.Equations.{statement_of-program, statement_of-declare, statement_of-dimension, statement_of-constants, statement_of-assign, statement_of-go, statement_of-test, statement_of-if, statement_of-else_if, statement_of-else, statement_of-end_if, statement_of-do, statement_of-continue, statement_of-stop, statement_of-read, statement_of-print, statement_of-end}
+use Rattle.f77_grammar.specs.Statement77 as plain
+use Rattle.f77_grammar.specs.program.Uses.{Use, uses_of, uses_in_text, is_array, kind_of_name}
+use Rattle.f77_grammar.specs.program.Kinds.{has_kind, are_subscripts, is_stored_into, are_numbers, has_integer_bounds, suits_output_items, suits_input_items, suits, calls_hidden, has_unsuited_kind}
+use Rattle.f77_syntax.specs.declared.statements.Entity.{Entity}
+use Rattle.f77_syntax.specs.declared.statements.Stmt77.{Stmt77}
+use Rattle.f77_syntax.specs.declared.statements.Stmt77.TheVariants as stmts
+use Rattle.f77_syntax.specs.Views.{statement_of, labelled_of, text_of, entity_of, constant_of}
+use Rattle.f77_syntax.specs.declared.statements.Labelled.{Labelled as Labelled'}
+use Rattle.f77_syntax.specs.Walk.{place_at}
+use Rattle.f77_syntax.proofs.Equations.{statement_of-program, statement_of-declare, statement_of-dimension, statement_of-constants, statement_of-assign, statement_of-go, statement_of-test, statement_of-if, statement_of-else_if, statement_of-else, statement_of-end_if, statement_of-do, statement_of-continue, statement_of-stop, statement_of-read, statement_of-print, statement_of-end}
 use Rattle.f77_names.proofs.UseLaws.{number_is}
 
 -- ---- assignments

@@ -3,7 +3,7 @@ ghost use Rattle.std.specs.Prelude.{◌≡◌, map};
 ghost use Rattle.fv_tree.specs.Plain.{items};
 ghost use Rattle.fv_tree.specs.View.{expression_of, item_of};
 ghost use Rattle.fv_tree.specs.declared.exprs.Expr.TheVariants as exprs;
-ghost use Rattle.fv_meaning.specs.program.Kinds as kinds;
+ghost use Rattle.f77_grammar.specs.program.Kinds as kinds;
 ghost use Rattle.f77_names.specs.UsesView.{listed};
 
 use crate::kind_check::KindCheck;

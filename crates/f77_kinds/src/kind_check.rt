@@ -1,13 +1,13 @@
 //! What the check of kinds knows of a program: its names.
 ghost use Rattle.std.specs.Prelude.{◌≡◌, IfOk};
-ghost use Rattle.fv_meaning.specs.program.Uses as plain;
+ghost use Rattle.f77_grammar.specs.program.Uses as plain;
 ghost use Rattle.f77_names.specs.NameFacts.{AreNamesOf, function_of};
 ghost use Rattle.f77_names.specs.UsesView.{listed};
-ghost use Rattle.statements77.specs.Views.{text_of};
+ghost use Rattle.f77_syntax.specs.Views.{text_of};
 
 use f77_names::{Names, Uses, names_of, uses_in_text};
 use fv_tree::{Fun, Kind, Memory, Name};
-use statements77::Labelled;
+use f77_syntax::Labelled;
 use std::alloc::Global;
 
 /// The check of a program's kinds.

@@ -1,8 +1,8 @@
 //! The kinds of operands and of results, and the numbers of arguments (ANSI X3.9-1978, sections 6.1, 6.3, 6.4 and 15.10).
 ghost use Rattle.std.specs.Prelude.{◌≡◌, ◌&&◌, not};
-ghost use Rattle.fv_meaning.specs.program.Names as names;
-ghost use Rattle.fv_meaning.specs.program.Typed as typed;
-ghost use Rattle.fv_meaning.specs.program.Kinds as kinds;
+ghost use Rattle.fv_meaning.specs.Names as names;
+ghost use Rattle.fv_meaning.specs.Typed77 as typed;
+ghost use Rattle.f77_grammar.specs.program.Kinds as kinds;
 
 use fv_tree::{Fun, Kind, Op};
 

@@ -1,14 +1,14 @@
 //! The kinds of what stands in statements.
 ghost use Rattle.std.specs.Prelude.{◌≡◌, [], ◌∷◌, map};
 ghost use Rattle.fv_tree.specs.View.{expression_of, reference_of};
-ghost use Rattle.fv_meaning.specs.Statement77 as plain;
-ghost use Rattle.fv_meaning.specs.program.Kinds as kinds;
-ghost use Rattle.statements77.specs.Views.{bounds_of, entity_of, constant_of, statement_of};
+ghost use Rattle.f77_grammar.specs.Statement77 as plain;
+ghost use Rattle.f77_grammar.specs.program.Kinds as kinds;
+ghost use Rattle.f77_syntax.specs.Views.{bounds_of, entity_of, constant_of, statement_of};
 ghost use Rattle.f77_names.specs.UsesView.{listed};
 
 use crate::kind_check::KindCheck;
 use fv_tree::{Expr, Kind, Name, Ref, Seq};
-use statements77::{Entity, Stmt77};
+use f77_syntax::{Entity, Stmt77};
 
 impl KindCheck {
     // The lower and the upper bound of a dimension are INTEGER values.

@@ -1,16 +1,16 @@
 //! The check of a program's kinds.
 ghost use Rattle.std.specs.Prelude.{◌≡◌, ◌||◌, IfOk, not};
 ghost use Rattle.std.specs.List.{list_any};
-ghost use Rattle.fv_meaning.specs.program.Uses as plain;
-ghost use Rattle.fv_meaning.specs.program.Kinds as kinds;
-ghost use Rattle.statements77.specs.First.{first_index};
-ghost use Rattle.statements77.specs.Views.{statement_of, text_of};
+ghost use Rattle.f77_grammar.specs.program.Uses as plain;
+ghost use Rattle.f77_grammar.specs.program.Kinds as kinds;
+ghost use Rattle.f77_syntax.specs.First.{first_index};
+ghost use Rattle.f77_syntax.specs.Views.{statement_of, text_of};
 ghost use Rattle.f77_names.specs.UsesView.{listed};
 
 use crate::kind_check::KindCheck;
 use f77_names::Uses;
 use fv_tree::Memory;
-use statements77::{Labelled, Stmt77};
+use f77_syntax::{Labelled, Stmt77};
 use std::alloc::Global;
 
 impl KindCheck {

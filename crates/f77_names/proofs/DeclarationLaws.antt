@@ -6,17 +6,17 @@ use Rattle.std.proofs.lemmas.List.{drop_all, map-append, append-nil}
 use Rattle.std.specs.Cmp.Lexicographic.{nat_list_eq_equiv}
 use Rattle.fv_tree.specs.View.{expression_of}
 use Rattle.fv_tree.specs.declared.exprs.Expr.{Expr}
-use Rattle.fv_meaning.specs.Statement77.{Statement77, Declare, Dimension, Constants, Entity}
-use Rattle.fv_meaning.specs.program.Names.{is_among, function_named}
-use Rattle.fv_meaning.specs.program.Text.{is_declaration}
-use Rattle.fv_meaning.specs.program.Uses.{Role, Title, Typed, Bounded, Defined, Valued, Target, Counter, Use, uses_of, uses_in, uses_in_bounds, uses_in_text, is_title, is_typed, is_defined, names_that, stands, is_array}
-use Rattle.fv_meaning.specs.program.Limits.{entities_of, definitions_of}
-use Rattle.fv_meaning.specs.program.Declarations.{has_repeat, is_array_or_constant, has_unknown, is_listed, bounds_of_entities, defines_from_unknown, has_unknown_constant, suits_list, is_misused, is_misused_as, has_misused_name}
-use Rattle.statements77.specs.declared.statements.Entity.{Entity as Entity'}
-use Rattle.statements77.specs.declared.statements.Labelled.{Labelled as Labelled'}
-use Rattle.statements77.specs.Views.{text_of, statement_of, constant_of, entity_of, bounds_of}
-use Rattle.statements77.specs.Walk.{passed}
-use Rattle.statements77.proofs.Walks.{text_passed}
+use Rattle.f77_grammar.specs.Statement77.{Statement77, Declare, Dimension, Constants, Entity}
+use Rattle.fv_meaning.specs.Names.{is_among, function_named}
+use Rattle.f77_grammar.specs.program.Text.{is_declaration}
+use Rattle.f77_grammar.specs.program.Uses.{Role, Title, Typed, Bounded, Defined, Valued, Target, Counter, Use, uses_of, uses_in, uses_in_bounds, uses_in_text, is_title, is_typed, is_defined, names_that, stands, is_array}
+use Rattle.f77_grammar.specs.program.Limits.{entities_of, definitions_of}
+use Rattle.f77_grammar.specs.program.Declarations.{has_repeat, is_array_or_constant, has_unknown, is_listed, bounds_of_entities, defines_from_unknown, has_unknown_constant, suits_list, is_misused, is_misused_as, has_misused_name}
+use Rattle.f77_syntax.specs.declared.statements.Entity.{Entity as Entity'}
+use Rattle.f77_syntax.specs.declared.statements.Labelled.{Labelled as Labelled'}
+use Rattle.f77_syntax.specs.Views.{text_of, statement_of, constant_of, entity_of, bounds_of}
+use Rattle.f77_syntax.specs.Walk.{passed}
+use Rattle.f77_syntax.proofs.Walks.{text_passed}
 use Rattle.f77_names.specs.declared.names.Facts.{Facts}
 use Rattle.f77_names.specs.declared.names.Names.{Names}
 use Rattle.f77_names.specs.NameFacts.{nothing_known, facts_with, facts_in, AreNamesOf, dimensions_by}

@@ -15,7 +15,7 @@ use Rattle.fv_tree.specs.declared.exprs.Ref.{Ref, out-Ref}
 use Rattle.fv_tree.specs.declared.stmts.Item.{Item as Item'}
 use Rattle.fv_tree.specs.declared.stmts.Item.TheVariants as variants
 use Rattle.fv_tree.proofs.Equations.{expression_of-int, expression_of-truth, expression_of-item, expression_of-un, expression_of-bin, expression_of-call, reference_of-is, item_of-one, item_of-text, item_of-turns}
-use Rattle.fv_meaning.specs.program.Uses as plain
+use Rattle.f77_grammar.specs.program.Uses as plain
 use Rattle.f77_names.proofs.UseLaws.{number_is, one_more}
 
 pub target-is : (r : Ref) → plain.target_uses (reference_of r).name (reference_of r).subscripts

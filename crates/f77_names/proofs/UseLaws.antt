@@ -15,8 +15,8 @@ use Rattle.fv_tree.specs.declared.exprs.Ref.{Ref, out-Ref}
 use Rattle.fv_tree.specs.declared.exprs.Sub.{Sub}
 use Rattle.fv_tree.specs.declared.exprs.Sub.TheVariants as subs
 use Rattle.fv_tree.proofs.Equations.{expression_of-int, expression_of-truth, expression_of-item, expression_of-un, expression_of-bin, expression_of-call, subscript_of-one, reference_of-is}
-use Rattle.fv_meaning.specs.program.Uses as plain
-use Rattle.fv_meaning.specs.program.Typed.{number_of_subscripts}
+use Rattle.f77_grammar.specs.program.Uses as plain
+use Rattle.fv_meaning.specs.Typed77.{number_of_subscripts}
 
 pub uses-int : (n : ℤ) → plain.uses_in (expression_of (exprs.Int n)) ≡ []
 uses-int n = ap plain.uses_in (expression_of-int n)

@@ -1,6 +1,6 @@
 -- Uses of names, as the plain uses.
 use Rattle.std.specs.Prelude.{List, map}
-use Rattle.fv_meaning.specs.program.Uses as plain
+use Rattle.f77_grammar.specs.program.Uses as plain
 use Rattle.f77_names.specs.declared.uses.Role.{Role}
 use Rattle.f77_names.specs.declared.uses.Role.TheVariants.{Title, Typed, Bounded, Defined, Valued, Target, Counter}
 use Rattle.f77_names.specs.declared.uses.Use.{Use}

@@ -1,8 +1,8 @@
 //! Constant expressions: their names are symbolic constants that are defined before (ANSI X3.9-1978, sections 5.1, 6.7 and 8.6).
 ghost use Rattle.std.specs.Prelude.{◌≡◌, ◌++◌, List, ℕ, IfOk, OnOk, map};
 ghost use Rattle.std.specs.List.{list_any};
-ghost use Rattle.fv_meaning.specs.program.Declarations.{is_listed, has_unknown, bounds_of_entities, defines_from_unknown, has_unknown_constant};
-ghost use Rattle.statements77.specs.Views.{statement_of, entity_of, constant_of};
+ghost use Rattle.f77_grammar.specs.program.Declarations.{is_listed, has_unknown, bounds_of_entities, defines_from_unknown, has_unknown_constant};
+ghost use Rattle.f77_syntax.specs.Views.{statement_of, entity_of, constant_of};
 ghost use Rattle.f77_names.specs.Seen.{is_unknown_use, AreDefined};
 ghost use Rattle.f77_names.specs.UsesView.{role_of, plain_use, listed};
 
@@ -11,7 +11,7 @@ use crate::names::Names;
 use crate::statement_parts::{definitions, entities};
 use crate::uses::{Role, Use, Uses};
 use fv_tree::{Expr, Memory, Name};
-use statements77::{Entity, Stmt77};
+use f77_syntax::{Entity, Stmt77};
 use std::alloc::Global;
 
 impl Role {

@@ -1,9 +1,9 @@
 //! How many variables and symbolic constants a program has.
 ghost use Rattle.std.specs.Prelude.{◌≡◌, ◌∷◌, [], IfOk, OnOk, nat_lt, map, length};
-ghost use Rattle.fv_meaning.specs.program.Uses as plain;
-ghost use Rattle.fv_meaning.specs.program.Limits.{has_many_names};
-ghost use Rattle.statements77.specs.First.{first_index};
-ghost use Rattle.statements77.specs.Views.{text_of};
+ghost use Rattle.f77_grammar.specs.program.Uses as plain;
+ghost use Rattle.f77_grammar.specs.program.Limits.{has_many_names};
+ghost use Rattle.f77_syntax.specs.First.{first_index};
+ghost use Rattle.f77_syntax.specs.Views.{text_of};
 ghost use Rattle.f77_names.specs.Counted.{Holds, Counts, is_counted_by};
 ghost use Rattle.f77_names.specs.UsesView.{plain_use};
 
@@ -11,7 +11,7 @@ use crate::names::{Facts, Names, names_of_text};
 use crate::uses::{Use, Uses};
 use fv_tree::{Memory, Name};
 use indexmap::IndexSet;
-use statements77::Labelled;
+use f77_syntax::Labelled;
 use std::alloc::Global;
 
 // A program may have so many variables and symbolic constants.

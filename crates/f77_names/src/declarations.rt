@@ -1,11 +1,11 @@
 //! Names declared twice or as two things, and names that stand where what they are can't (ANSI X3.9-1978, sections 4.1.2, 5.1, 6.7, 8.1, 8.4, 8.6 and 18.2).
 ghost use Rattle.std.specs.Prelude.{◌≡◌, ◌&&◌, not, IfOk, map};
 ghost use Rattle.std.specs.List.{list_any};
-ghost use Rattle.fv_meaning.specs.program.Text.{is_declaration};
-ghost use Rattle.fv_meaning.specs.program.Uses as plain;
-ghost use Rattle.fv_meaning.specs.program.Declarations.{is_declared_wrongly};
-ghost use Rattle.statements77.specs.First.{first_index};
-ghost use Rattle.statements77.specs.Views.{text_of, statement_of};
+ghost use Rattle.f77_grammar.specs.program.Text.{is_declaration};
+ghost use Rattle.f77_grammar.specs.program.Uses as plain;
+ghost use Rattle.f77_grammar.specs.program.Declarations.{is_declared_wrongly};
+ghost use Rattle.f77_syntax.specs.First.{first_index};
+ghost use Rattle.f77_syntax.specs.Views.{text_of, statement_of};
 ghost use Rattle.f77_names.specs.Seen.{is_again_by, is_title_use, suits_list_by, is_misused_by, is_misused_use, Declares, Passes};
 ghost use Rattle.f77_names.specs.UsesView.{role_of, plain_use};
 
@@ -14,7 +14,7 @@ use crate::names::{Facts, Names, names_of_text};
 use crate::statement_parts::is_declaration;
 use crate::uses::{Role, Use, Uses};
 use fv_tree::{Memory, Name};
-use statements77::{Labelled, Stmt77};
+use f77_syntax::{Labelled, Stmt77};
 use std::alloc::Global;
 
 // ---- a name, by what is known of it

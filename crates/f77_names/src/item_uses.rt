@@ -2,7 +2,7 @@
 ghost use Rattle.std.specs.Prelude.{◌≡◌, ◌++◌, map, OnOk};
 ghost use Rattle.fv_tree.specs.Plain.{items};
 ghost use Rattle.fv_tree.specs.View.{expression_of, reference_of, item_of};
-ghost use Rattle.fv_meaning.specs.program.Uses as plain;
+ghost use Rattle.f77_grammar.specs.program.Uses as plain;
 ghost use Rattle.f77_names.specs.UsesView.{listed};
 
 use crate::uses::{Role, Uses};

@@ -2,8 +2,8 @@
 ghost use Rattle.std.specs.Prelude.{◌≡◌, ℕ, List, OnOk, IfOk, if◌then◌else◌, map};
 ghost use Rattle.std.specs.Str.{bytes_eq};
 ghost use Rattle.f77_names.specs.UsesView.{role_of, plain_use};
-ghost use Rattle.fv_meaning.specs.program.Uses as plain;
-ghost use Rattle.statements77.specs.Views.{text_of};
+ghost use Rattle.f77_grammar.specs.program.Uses as plain;
+ghost use Rattle.f77_syntax.specs.Views.{text_of};
 ghost use Rattle.f77_names.specs.NameFacts.{nothing_known, facts_with, facts_in, AreNamesOf, is_variable_by, is_array_by, is_function_by, kind_by, dimensions_by, function_by, function_of};
 
 use crate::functions::function_named;
@@ -11,7 +11,7 @@ use crate::statement_uses::uses_in_text;
 use crate::uses::{Role, Use};
 use fv_tree::{Fun, Kind, Memory, Name};
 use indexmap::IndexMap;
-use statements77::Labelled;
+use f77_syntax::Labelled;
 use std::alloc::Global;
 
 /// What the uses of a name say of it.

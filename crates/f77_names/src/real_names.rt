@@ -1,19 +1,19 @@
 //! Names that would be REAL: variables and symbolic constants without type that don't begin with I to N (ANSI X3.9-1978, section 4.1.2).
 ghost use Rattle.std.specs.Prelude.{◌≡◌, IfOk, map};
 ghost use Rattle.std.specs.List.{list_any};
-ghost use Rattle.fv_meaning.specs.program.Names.{is_implicit_integer};
-ghost use Rattle.fv_meaning.specs.program.Uses as plain;
-ghost use Rattle.fv_meaning.specs.program.Declarations.{has_real_name};
-ghost use Rattle.statements77.specs.First.{first_index};
+ghost use Rattle.fv_meaning.specs.Names.{is_implicit_integer};
+ghost use Rattle.f77_grammar.specs.program.Uses as plain;
+ghost use Rattle.f77_grammar.specs.program.Declarations.{has_real_name};
+ghost use Rattle.f77_syntax.specs.First.{first_index};
 ghost use Rattle.f77_names.specs.NameFacts.{facts_in, is_real_by, is_real_use};
 ghost use Rattle.f77_names.specs.UsesView.{plain_use};
-ghost use Rattle.statements77.specs.Views.{text_of};
+ghost use Rattle.f77_syntax.specs.Views.{text_of};
 
 use crate::names::{Facts, Names, names_of};
 use crate::statement_uses::uses_in_text;
 use crate::uses::{Role, Use, Uses};
 use fv_tree::{Memory, Name};
-use statements77::Labelled;
+use f77_syntax::Labelled;
 use std::alloc::Global;
 
 // A name that is INTEGER without a type statement.

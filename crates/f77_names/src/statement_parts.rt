@@ -1,13 +1,13 @@
 //! Which statements are declarations, and what they declare.
 ghost use Rattle.std.specs.Prelude.{◌≡◌, map};
-ghost use Rattle.fv_meaning.specs.program.Text.{is_declaration};
-ghost use Rattle.fv_meaning.specs.program.Limits.{entities_of, definitions_of};
-ghost use Rattle.statements77.specs.Views.{statement_of, entity_of, constant_of};
+ghost use Rattle.f77_grammar.specs.program.Text.{is_declaration};
+ghost use Rattle.f77_grammar.specs.program.Limits.{entities_of, definitions_of};
+ghost use Rattle.f77_syntax.specs.Views.{statement_of, entity_of, constant_of};
 
 use fv_tree::{Expr, Name};
-use statements77::{Entity, Stmt77};
+use f77_syntax::{Entity, Stmt77};
 
-#[tactic(auto, using(statements77::proofs::Equations::statement_equations))]
+#[tactic(auto, using(f77_syntax::proofs::Equations::statement_equations))]
 pub(crate) fn is_declaration(statement: &Stmt77) -> bool
     ensures { result ≡ is_declaration (statement_of statement.now) }
 {
@@ -33,7 +33,7 @@ pub(crate) fn is_declaration(statement: &Stmt77) -> bool
 }
 
 // The names that a type statement or a DIMENSION has, with their bounds.
-#[tactic(auto, using(statements77::proofs::Equations::statement_equations))]
+#[tactic(auto, using(f77_syntax::proofs::Equations::statement_equations))]
 pub(crate) fn entities(statement: &Stmt77) -> &[Entity]
     ensures { map entity_of result.now ≡ entities_of (statement_of statement.now) }
 {
@@ -59,7 +59,7 @@ pub(crate) fn entities(statement: &Stmt77) -> &[Entity]
 }
 
 // The symbolic constants that a PARAMETER defines.
-#[tactic(auto, using(statements77::proofs::Equations::statement_equations))]
+#[tactic(auto, using(f77_syntax::proofs::Equations::statement_equations))]
 pub(crate) fn definitions(statement: &Stmt77) -> &[(Name, Expr)]
     ensures { map constant_of result.now ≡ definitions_of (statement_of statement.now) }
 {

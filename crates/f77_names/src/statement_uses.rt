@@ -2,13 +2,13 @@
 ghost use Rattle.std.specs.Prelude.{◌≡◌, ◌++◌, map, OnOk, IfOk};
 ghost use Rattle.std.specs.List.{flat_map};
 ghost use Rattle.fv_tree.specs.View.{expression_of, reference_of};
-ghost use Rattle.fv_meaning.specs.program.Uses as plain;
+ghost use Rattle.f77_grammar.specs.program.Uses as plain;
 ghost use Rattle.f77_names.specs.UsesView.{listed};
-ghost use Rattle.statements77.specs.Views.{statement_of, text_of, bounds_of, entity_of, constant_of};
+ghost use Rattle.f77_syntax.specs.Views.{statement_of, text_of, bounds_of, entity_of, constant_of};
 
 use crate::uses::{Role, Uses};
 use fv_tree::{Expr, Kind, Memory, Name, Ref, Seq};
-use statements77::{Entity, Labelled, Stmt77};
+use f77_syntax::{Entity, Labelled, Stmt77};
 use std::alloc::Global;
 
 impl Uses {

@@ -8,27 +8,27 @@ use Rattle.fv_tree.specs.View.{expression_of, item_of}
 use Rattle.fv_tree.specs.declared.exprs.Expr.{Expr}
 use Rattle.fv_tree.specs.declared.stmts.Item.{Item}
 use Rattle.fv_tree.specs.declared.lists.Seq.{Seq}
-use Rattle.fv_meaning.specs.Statement77 as statement
-use Rattle.fv_meaning.specs.Statement77.{Statement77}
-use Rattle.fv_meaning.specs.expressions.Phrases as phrases
-use Rattle.fv_meaning.specs.expressions.Phrases.{Phrase, IsExpression, written}
-use Rattle.fv_meaning.specs.expressions.Reading.{is_wide}
-use Rattle.fv_meaning.specs.expressions.Spelling.{Words, value, chars}
-use Rattle.fv_meaning.specs.expressions.Squeezing.{Symbol, Char}
-use Rattle.fv_meaning.specs.expressions.Words.{Word}
-use Rattle.fv_meaning.specs.statements.Items as items
-use Rattle.fv_meaning.specs.statements.Items.{ItemPhrases, Input, Output, written_items}
-use Rattle.fv_meaning.specs.statements.Forms as forms
-use Rattle.fv_meaning.specs.statements.Forms.{Form, IsLabel, statement_of, form_words, form_depth}
-use Rattle.fv_meaning.specs.statements.Recognition.{Halves, Bracket, Opening, Closing, Neither, bracket_in, bracket_of, with_symbol, cut_by, cut_from, cut_at_close}
-use Rattle.statements77.specs.Views as view
-use Rattle.statements77.specs.declared.statements.Stmt77.TheVariants as stmts
-use Rattle.statements77.proofs.Equations.{statement_of-go, statement_of-else_if, statement_of-read, statement_of-print}
+use Rattle.f77_grammar.specs.Statement77 as statement
+use Rattle.f77_grammar.specs.Statement77.{Statement77}
+use Rattle.f77_grammar.specs.expressions.Phrases as phrases
+use Rattle.f77_grammar.specs.expressions.Phrases.{Phrase, IsExpression, written}
+use Rattle.f77_grammar.specs.expressions.Reading.{is_wide}
+use Rattle.f77_grammar.specs.expressions.Spelling.{Words, value, chars}
+use Rattle.f77_grammar.specs.expressions.Squeezing.{Symbol, Char}
+use Rattle.f77_grammar.specs.expressions.Words.{Word}
+use Rattle.f77_grammar.specs.statements.Items as items
+use Rattle.f77_grammar.specs.statements.Items.{ItemPhrases, Input, Output, written_items}
+use Rattle.f77_grammar.specs.statements.Forms as forms
+use Rattle.f77_grammar.specs.statements.Forms.{Form, IsLabel, statement_of, form_words, form_depth}
+use Rattle.f77_grammar.specs.statements.Recognition.{Halves, Bracket, Opening, Closing, Neither, bracket_in, bracket_of, with_symbol, cut_by, cut_from, cut_at_close}
+use Rattle.f77_syntax.specs.Views as view
+use Rattle.f77_syntax.specs.declared.statements.Stmt77.TheVariants as stmts
+use Rattle.f77_syntax.proofs.Equations.{statement_of-go, statement_of-else_if, statement_of-read, statement_of-print}
 use Rattle.f77_expr.proofs.WordsLaws.{has_none, has_only}
-use Rattle.f77_items.specs.declared.lists.ItemList.{ItemList}
-use Rattle.f77_items.specs.Reading as reading
-use Rattle.f77_recognition.specs.Fronts.{IsLabelled}
-use Rattle.f77_recognition.proofs.Recognised.{recognised_if}
+use Rattle.f77_lists.specs.declared.lists.ItemList.{ItemList}
+use Rattle.f77_lists.specs.Reading as reading
+use Rattle.f77_keywords.specs.Fronts.{IsLabelled}
+use Rattle.f77_keywords.proofs.Recognised.{recognised_if}
 use Rattle.f77_stmt.specs.declared.formed.Formed.{Formed}
 use Rattle.f77_stmt.specs.Actions.{IsCondition, IsConditionOf}
 use Rattle.f77_stmt.specs.Formed.{IsFound}

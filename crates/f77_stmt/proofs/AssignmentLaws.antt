@@ -4,16 +4,16 @@ use Rattle.std.specs.List.{list_any}
 use Rattle.fv_tree.specs.View.{expression_of}
 use Rattle.fv_tree.specs.declared.exprs.Ref.{Ref}
 use Rattle.fv_tree.specs.Plain.{Expression, Reference}
-use Rattle.fv_meaning.specs.Statement77 as statement
-use Rattle.fv_meaning.specs.expressions.Phrases.{Phrase, written, tree, depth}
-use Rattle.fv_meaning.specs.expressions.Reading.{is_wide}
-use Rattle.fv_meaning.specs.expressions.Words as words
-use Rattle.fv_meaning.specs.expressions.Words.{Word}
-use Rattle.fv_meaning.specs.statements.Forms.{Assign, reference_in, has_wide_literal}
+use Rattle.f77_grammar.specs.Statement77 as statement
+use Rattle.f77_grammar.specs.expressions.Phrases.{Phrase, written, tree, depth}
+use Rattle.f77_grammar.specs.expressions.Reading.{is_wide}
+use Rattle.f77_grammar.specs.expressions.Words as words
+use Rattle.f77_grammar.specs.expressions.Words.{Word}
+use Rattle.f77_grammar.specs.statements.Forms.{Assign, reference_in, has_wide_literal}
 use Rattle.f77_expr.specs.declared.operands.Operand.{Operand}
 use Rattle.f77_expr.specs.Reading.{IsMadeOf, Is}
-use Rattle.statements77.specs.declared.statements.Stmt77.TheVariants as stmts
-use Rattle.statements77.proofs.Equations.{statement_of-assign}
+use Rattle.f77_syntax.specs.declared.statements.Stmt77.TheVariants as stmts
+use Rattle.f77_syntax.proofs.Equations.{statement_of-assign}
 use Rattle.f77_stmt.specs.Parts.{capped, IsReferenceOf, BeginsWithReference, IsFormedOf, IsAssignment}
 use Rattle.f77_stmt.proofs.CappedLaws.{capped_max}
 

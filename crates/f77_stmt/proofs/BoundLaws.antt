@@ -8,10 +8,10 @@ use Rattle.f77_expr.specs.declared.tokens.Stop.TheVariants.{Syntax, Memory}
 use Rattle.f77_expr.specs.declared.tokens.Token.{Token}
 use Rattle.f77_expr.specs.Views.{words_of}
 use Rattle.fv_tree.specs.View.{expression_of}
-use Rattle.fv_meaning.specs.expressions.Phrases.{Phrase, IsExpression, written, tree, depth}
-use Rattle.fv_meaning.specs.expressions.Words as words
-use Rattle.fv_meaning.specs.expressions.Words.{Word}
-use Rattle.fv_meaning.specs.statements.Forms.{Bound, Upper, Both, IsBound, written_bound, bound_tree}
+use Rattle.f77_grammar.specs.expressions.Phrases.{Phrase, IsExpression, written, tree, depth}
+use Rattle.f77_grammar.specs.expressions.Words as words
+use Rattle.f77_grammar.specs.expressions.Words.{Word}
+use Rattle.f77_grammar.specs.statements.Forms.{Bound, Upper, Both, IsBound, written_bound, bound_tree}
 use Rattle.f77_expr.specs.declared.operands.Operand.{Operand}
 use Rattle.f77_expr.specs.Reading as reading
 use Rattle.f77_expr.specs.Reading.{Ends, IsMadeOf, Gives}

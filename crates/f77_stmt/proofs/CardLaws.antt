@@ -4,12 +4,12 @@ use Rattle.std.specs.Prelude.{◌⊎◌, Some, None}
 use Rattle.std.proofs.lemmas.Bool.Decides.{nat_tests}
 use Rattle.fv_tree.specs.declared.refusals.Refusal.{Refusal}
 use Rattle.fv_tree.specs.declared.refusals.Refused.{Refused}
-use Rattle.fv_meaning.specs.expressions.Squeezing.{Symbol, Squeezed}
-use Rattle.fv_meaning.specs.statements.Forms.{Form, IsWritten, form_depth, has_wide_literal}
-use Rattle.fv_meaning.specs.statements.Reading as reading
-use Rattle.fv_meaning.specs.statements.Reading.{IsFormOf, ReadsStatement, HasNoForm, HasWordLeftOut, IsRefusedBy}
-use Rattle.fv_meaning.specs.statements.Recognition.{HasWord}
-use Rattle.statements77.specs.declared.statements.Stmt77.{Stmt77}
+use Rattle.f77_grammar.specs.expressions.Squeezing.{Symbol, Squeezed}
+use Rattle.f77_grammar.specs.statements.Forms.{Form, IsWritten, form_depth, has_wide_literal}
+use Rattle.f77_grammar.specs.statements.Reading as reading
+use Rattle.f77_grammar.specs.statements.Reading.{IsFormOf, ReadsStatement, HasNoForm, HasWordLeftOut, IsRefusedBy}
+use Rattle.f77_grammar.specs.statements.Recognition.{HasWord}
+use Rattle.f77_syntax.specs.declared.statements.Stmt77.{Stmt77}
 use Rattle.f77_expr.specs.declared.tokens.Stop.{Stop}
 use Rattle.f77_expr.specs.declared.tokens.Stop.TheVariants.{Syntax}
 use Rattle.f77_expr.specs.Symbols.{symbols_of}

@@ -6,10 +6,10 @@ use Rattle.fv_tree.specs.declared.exprs.Expr.TheVariants as exprs
 use Rattle.fv_tree.proofs.Equations.{expression_of-int}
 use Rattle.f77_expr.specs.declared.tokens.Token.{Token}
 use Rattle.f77_expr.specs.Views.{words_of}
-use Rattle.fv_meaning.specs.expressions.Phrases.{Phrase}
-use Rattle.fv_meaning.specs.expressions.Words as words
-use Rattle.fv_meaning.specs.expressions.Words.{Word}
-use Rattle.fv_meaning.specs.statements.Items.{written_step}
+use Rattle.f77_grammar.specs.expressions.Phrases.{Phrase}
+use Rattle.f77_grammar.specs.expressions.Words as words
+use Rattle.f77_grammar.specs.expressions.Words.{Word}
+use Rattle.f77_grammar.specs.statements.Items.{written_step}
 use Rattle.f77_expr.specs.declared.operands.Operand.{Operand}
 use Rattle.f77_expr.specs.Reading.{IsMadeOf, Is}
 use Rattle.f77_stmt.specs.Parts.{IsStepOf, HasStep}

@@ -4,13 +4,13 @@ use Rattle.std.proofs.lemmas.List.{length-map}
 use Rattle.fv_tree.specs.Plain.{Expression}
 use Rattle.fv_tree.specs.View.{expression_of}
 use Rattle.fv_tree.specs.declared.exprs.Expr.{Expr}
-use Rattle.fv_meaning.specs.Statement77 as statement
-use Rattle.fv_meaning.specs.expressions.Words as words
-use Rattle.fv_meaning.specs.expressions.Words.{Word}
-use Rattle.fv_meaning.specs.statements.Forms.{Bound, written_bound, bound_tree, separated, Bounded}
+use Rattle.f77_grammar.specs.Statement77 as statement
+use Rattle.f77_grammar.specs.expressions.Words as words
+use Rattle.f77_grammar.specs.expressions.Words.{Word}
+use Rattle.f77_grammar.specs.statements.Forms.{Bound, written_bound, bound_tree, separated, Bounded}
 use Rattle.f77_expr.specs.declared.operands.Operand.{Operand}
 use Rattle.f77_expr.specs.Reading as reading
-use Rattle.statements77.specs.Views.{bounds_of}
+use Rattle.f77_syntax.specs.Views.{bounds_of}
 use Rattle.f77_stmt.specs.Declarations.{AreBoundsRead, AreTheBounds, EndsEntity, BeginsWithEntity, BeginsWithDefinition}
 
 as_many : (dims : List (Expr × Expr)) (bs : List Bound) → map bounds_of dims ≡ map bound_tree bs → length dims ≡ length bs

@@ -4,14 +4,14 @@ use Rattle.std.specs.Prelude.{Option, Some, None, ◌⊎◌}
 use Rattle.std.specs.List.{AllByRecursion}
 use Rattle.fv_tree.specs.declared.ops.Kind.{Kind}
 use Rattle.fv_tree.specs.declared.ops.Kind.TheVariants as kinds
-use Rattle.fv_meaning.specs.expressions.Spelling.{chars}
-use Rattle.fv_meaning.specs.expressions.Squeezing.{Symbol, Char}
-use Rattle.fv_meaning.specs.statements.Items.{ItemPhrases, Input, Output, AreItems, written_items}
-use Rattle.fv_meaning.specs.statements.Forms as forms
-use Rattle.fv_meaning.specs.statements.Forms.{Form, IsWritten, IsFollowed, keyword_of, Entity, IsEntity, IsList, separated, written_entity}
+use Rattle.f77_grammar.specs.expressions.Spelling.{chars}
+use Rattle.f77_grammar.specs.expressions.Squeezing.{Symbol, Char}
+use Rattle.f77_grammar.specs.statements.Items.{ItemPhrases, Input, Output, AreItems, written_items}
+use Rattle.f77_grammar.specs.statements.Forms as forms
+use Rattle.f77_grammar.specs.statements.Forms.{Form, IsWritten, IsFollowed, keyword_of, Entity, IsEntity, IsList, separated, written_entity}
 use Rattle.f77_expr.specs.Lexing.{strip}
-use Rattle.f77_recognition.specs.Kinds.{HasKeyword}
-use Rattle.f77_recognition.proofs.Stripping.{strip_same}
+use Rattle.f77_keywords.specs.Kinds.{HasKeyword}
+use Rattle.f77_keywords.proofs.Stripping.{strip_same}
 use Rattle.f77_stmt.specs.declared.keywords.Keyword.{Keyword}
 use Rattle.f77_stmt.specs.declared.keywords.Keyword.TheVariants as keywords
 use Rattle.f77_stmt.specs.Keywords.{Front, or_else, either, first_of, first_keywords, last_keywords, keyword_at, IsAfter}

@@ -7,23 +7,23 @@ use Rattle.std.proofs.lemmas.Bool.Decides.{nat_tests}
 use Rattle.std.proofs.lemmas.List.{map-append}
 use Rattle.fv_tree.specs.View.{expression_of}
 use Rattle.fv_tree.specs.Plain.{Expression}
-use Rattle.fv_meaning.specs.Statement77 as statement
-use Rattle.fv_meaning.specs.expressions.Phrases.{Phrase, tree}
-use Rattle.fv_meaning.specs.expressions.Reading.{is_wide}
-use Rattle.fv_meaning.specs.expressions.Spelling.{is_digit, is_letter, IsName, Words, Begins, Stops, chars, value}
-use Rattle.fv_meaning.specs.expressions.Squeezing.{Symbol, Char, Text, Broken}
-use Rattle.fv_meaning.specs.expressions.Words as words
-use Rattle.fv_meaning.specs.expressions.Words.{Word}
-use Rattle.fv_meaning.specs.statements.Forms as forms
-use Rattle.fv_meaning.specs.statements.Forms.{IsWritten, IsLabel, optional_comma, written_control, AreParameters}
-use Rattle.fv_meaning.specs.statements.Items.{step_tree}
-use Rattle.fv_meaning.specs.statements.Recognition.{BeginsWithLetter}
+use Rattle.f77_grammar.specs.Statement77 as statement
+use Rattle.f77_grammar.specs.expressions.Phrases.{Phrase, tree}
+use Rattle.f77_grammar.specs.expressions.Reading.{is_wide}
+use Rattle.f77_grammar.specs.expressions.Spelling.{is_digit, is_letter, IsName, Words, Begins, Stops, chars, value}
+use Rattle.f77_grammar.specs.expressions.Squeezing.{Symbol, Char, Text, Broken}
+use Rattle.f77_grammar.specs.expressions.Words as words
+use Rattle.f77_grammar.specs.expressions.Words.{Word}
+use Rattle.f77_grammar.specs.statements.Forms as forms
+use Rattle.f77_grammar.specs.statements.Forms.{IsWritten, IsLabel, optional_comma, written_control, AreParameters}
+use Rattle.f77_grammar.specs.statements.Items.{step_tree}
+use Rattle.f77_grammar.specs.statements.Recognition.{BeginsWithLetter}
 use Rattle.f77_expr.specs.Lexing.{strip}
-use Rattle.f77_recognition.specs.Fronts.{IsLabelled}
-use Rattle.f77_recognition.specs.FormsLeftOut.{without_comma, without_comma_by}
-use Rattle.f77_recognition.proofs.Stripping.{strip_same, stripped}
-use Rattle.statements77.specs.declared.statements.Stmt77.TheVariants as stmts
-use Rattle.statements77.proofs.Equations.{statement_of-do}
+use Rattle.f77_keywords.specs.Fronts.{IsLabelled}
+use Rattle.f77_keywords.specs.FormsLeftOut.{without_comma, without_comma_by}
+use Rattle.f77_keywords.proofs.Stripping.{strip_same, stripped}
+use Rattle.f77_syntax.specs.declared.statements.Stmt77.TheVariants as stmts
+use Rattle.f77_syntax.proofs.Equations.{statement_of-do}
 use Rattle.f77_stmt.specs.declared.assignments.Control.{Control}
 use Rattle.f77_stmt.specs.declared.formed.Formed.{Formed}
 use Rattle.f77_stmt.specs.Formed.{IsFound}

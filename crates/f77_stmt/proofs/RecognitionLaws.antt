@@ -7,23 +7,23 @@ use Rattle.std.specs.declared.boxed.Box.{Box}
 use Rattle.fv_tree.specs.Plain.{Expression}
 use Rattle.fv_tree.specs.View.{expression_of}
 use Rattle.fv_tree.specs.declared.exprs.Expr.{Expr}
-use Rattle.fv_meaning.specs.Statement77 as statement
-use Rattle.fv_meaning.specs.Statement77.{Statement77}
-use Rattle.fv_meaning.specs.expressions.Phrases.{Phrase, IsExpression, written, tree, depth}
-use Rattle.fv_meaning.specs.expressions.Reading.{is_wide}
-use Rattle.fv_meaning.specs.expressions.Spelling.{Words, chars}
-use Rattle.fv_meaning.specs.expressions.Squeezing.{Symbol, Char}
-use Rattle.fv_meaning.specs.statements.Forms as forms
-use Rattle.fv_meaning.specs.statements.Forms.{Form, IsWritten, IsInner, statement_of, form_words, form_depth}
-use Rattle.fv_meaning.specs.statements.Recognition.{has_equals_outside, IsConditional}
+use Rattle.f77_grammar.specs.Statement77 as statement
+use Rattle.f77_grammar.specs.Statement77.{Statement77}
+use Rattle.f77_grammar.specs.expressions.Phrases.{Phrase, IsExpression, written, tree, depth}
+use Rattle.f77_grammar.specs.expressions.Reading.{is_wide}
+use Rattle.f77_grammar.specs.expressions.Spelling.{Words, chars}
+use Rattle.f77_grammar.specs.expressions.Squeezing.{Symbol, Char}
+use Rattle.f77_grammar.specs.statements.Forms as forms
+use Rattle.f77_grammar.specs.statements.Forms.{Form, IsWritten, IsInner, statement_of, form_words, form_depth}
+use Rattle.f77_grammar.specs.statements.Recognition.{has_equals_outside, IsConditional}
 use Rattle.f77_expr.specs.declared.tokens.Stop.{Stop}
-use Rattle.f77_recognition.specs.Kinds.{HasKeyword}
-use Rattle.f77_recognition.specs.Outside.{has_comma_outside}
-use Rattle.f77_recognition.proofs.Recognised.{recognised_if, recognised_test, recognised_assign, recognised_do, recognised_keyword}
-use Rattle.statements77.specs.Views as view
-use Rattle.statements77.specs.declared.statements.Stmt77.{Stmt77}
-use Rattle.statements77.specs.declared.statements.Stmt77.TheVariants as stmts
-use Rattle.statements77.proofs.Equations.{statement_of-if, statement_of-test}
+use Rattle.f77_keywords.specs.Kinds.{HasKeyword}
+use Rattle.f77_keywords.specs.Outside.{has_comma_outside}
+use Rattle.f77_keywords.proofs.Recognised.{recognised_if, recognised_test, recognised_assign, recognised_do, recognised_keyword}
+use Rattle.f77_syntax.specs.Views as view
+use Rattle.f77_syntax.specs.declared.statements.Stmt77.{Stmt77}
+use Rattle.f77_syntax.specs.declared.statements.Stmt77.TheVariants as stmts
+use Rattle.f77_syntax.proofs.Equations.{statement_of-if, statement_of-test}
 use Rattle.f77_stmt.specs.declared.formed.Formed.{Formed}
 use Rattle.f77_stmt.specs.declared.keywords.Keyword.{Keyword}
 use Rattle.f77_stmt.specs.Actions.{IsCondition, IsConditionOf}

@@ -4,10 +4,10 @@ use Rattle.fv_tree.specs.Plain.{Expression, Named, Reference}
 use Rattle.fv_tree.specs.View.{expression_of, reference_of}
 use Rattle.fv_tree.specs.declared.exprs.Ref.{Ref}
 use Rattle.fv_tree.proofs.Equations.{expression_of-int, expression_of-truth, expression_of-item, expression_of-un, expression_of-bin, expression_of-call}
-use Rattle.fv_meaning.specs.expressions.Phrases.{Phrase, Literal, WideLiteral, Truth, Name, Listed, Paren, Signed, Joined, written, tree}
-use Rattle.fv_meaning.specs.expressions.Words.{Word}
-use Rattle.fv_meaning.specs.statements.Items.{IsReference}
-use Rattle.fv_meaning.specs.statements.Forms.{reference_in}
+use Rattle.f77_grammar.specs.expressions.Phrases.{Phrase, Literal, WideLiteral, Truth, Name, Listed, Paren, Signed, Joined, written, tree}
+use Rattle.f77_grammar.specs.expressions.Words.{Word}
+use Rattle.f77_grammar.specs.statements.Items.{IsReference}
+use Rattle.f77_grammar.specs.statements.Forms.{reference_in}
 use Rattle.f77_expr.specs.declared.operands.Operand.{Operand}
 use Rattle.f77_expr.specs.Reading as reading
 use Rattle.f77_expr.specs.Reading.{Ends, IsMadeOf, Gives}

@@ -4,19 +4,19 @@ use Rattle.std.specs.List.{list_any, list_all, AllByRecursion}
 use Rattle.std.specs.Prelude.{true, false, not, IsTrue, ◌↔◌, ◌&&◌, ◌||◌}
 use Rattle.fv_tree.specs.declared.exprs.Expr.{Expr}
 use Rattle.fv_tree.specs.declared.ops.Kind.{Kind}
-use Rattle.fv_meaning.specs.Statement77 as statement
-use Rattle.fv_meaning.specs.expressions.Reading.{is_wide}
-use Rattle.fv_meaning.specs.expressions.Spelling.{Words}
-use Rattle.fv_meaning.specs.expressions.Squeezing as squeezing
-use Rattle.fv_meaning.specs.expressions.Words as words
-use Rattle.fv_meaning.specs.expressions.Words.{Word}
-use Rattle.fv_meaning.specs.statements.Forms as forms
-use Rattle.fv_meaning.specs.statements.Forms.{Form, statement_of, IsEntity, IsList, separated, written_entity, entity_tree, entity_depth, deepest, IsBounded, Definition, IsDefinition, written_definition, definition_tree, definition_depth}
+use Rattle.f77_grammar.specs.Statement77 as statement
+use Rattle.f77_grammar.specs.expressions.Reading.{is_wide}
+use Rattle.f77_grammar.specs.expressions.Spelling.{Words}
+use Rattle.f77_grammar.specs.expressions.Squeezing as squeezing
+use Rattle.f77_grammar.specs.expressions.Words as words
+use Rattle.f77_grammar.specs.expressions.Words.{Word}
+use Rattle.f77_grammar.specs.statements.Forms as forms
+use Rattle.f77_grammar.specs.statements.Forms.{Form, statement_of, IsEntity, IsList, separated, written_entity, entity_tree, entity_depth, deepest, IsBounded, Definition, IsDefinition, written_definition, definition_tree, definition_depth}
 use Rattle.f77_stmt.proofs.AssignmentLaws.{any_append}
-use Rattle.statements77.specs.declared.statements.Entity.{Entity}
-use Rattle.statements77.specs.declared.statements.Stmt77.TheVariants as stmts
-use Rattle.statements77.specs.Views.{bounds_of, entity_of, constant_of}
-use Rattle.statements77.proofs.Equations.{statement_of-declare, statement_of-dimension, statement_of-constants}
+use Rattle.f77_syntax.specs.declared.statements.Entity.{Entity}
+use Rattle.f77_syntax.specs.declared.statements.Stmt77.TheVariants as stmts
+use Rattle.f77_syntax.specs.Views.{bounds_of, entity_of, constant_of}
+use Rattle.f77_syntax.proofs.Equations.{statement_of-declare, statement_of-dimension, statement_of-constants}
 use Rattle.fv_tree.specs.declared.names.Name.{Name}
 use Rattle.fv_tree.specs.declared.lists.Seq.{Seq}
 use Rattle.f77_stmt.specs.declared.formed.Formed.{Formed}

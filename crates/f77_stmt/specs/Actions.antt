@@ -2,10 +2,10 @@
 use Rattle.std.specs.Prelude.{ℕ, ◌≡◌, Bool, List}
 use Rattle.std.specs.List.{list_any}
 use Rattle.fv_tree.specs.Plain.{Expression}
-use Rattle.fv_meaning.specs.expressions.Phrases.{Phrase, IsExpression, written, tree, depth}
-use Rattle.fv_meaning.specs.expressions.Reading.{is_wide}
-use Rattle.fv_meaning.specs.expressions.Spelling.{Words}
-use Rattle.fv_meaning.specs.expressions.Squeezing.{Symbol}
+use Rattle.f77_grammar.specs.expressions.Phrases.{Phrase, IsExpression, written, tree, depth}
+use Rattle.f77_grammar.specs.expressions.Reading.{is_wide}
+use Rattle.f77_grammar.specs.expressions.Spelling.{Words}
+use Rattle.f77_grammar.specs.expressions.Squeezing.{Symbol}
 use Rattle.f77_stmt.specs.Parts.{capped}
 
 -- what was made of an expression: its tree, its depth, and whether a literal of it is wide

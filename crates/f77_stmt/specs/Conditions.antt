@@ -1,9 +1,9 @@
 -- What stands behind the parenthesis of an IF.
 use Rattle.std.specs.Prelude.{◌≡◌, List, codes}
-use Rattle.fv_meaning.specs.expressions.Phrases.{Phrase, IsExpression, written}
-use Rattle.fv_meaning.specs.expressions.Spelling.{Words, chars}
-use Rattle.fv_meaning.specs.expressions.Squeezing.{Symbol}
-use Rattle.fv_meaning.specs.statements.Forms.{Form, Test, If, IsWritten, IsInner}
+use Rattle.f77_grammar.specs.expressions.Phrases.{Phrase, IsExpression, written}
+use Rattle.f77_grammar.specs.expressions.Spelling.{Words, chars}
+use Rattle.f77_grammar.specs.expressions.Squeezing.{Symbol}
+use Rattle.f77_grammar.specs.statements.Forms.{Form, Test, If, IsWritten, IsInner}
 
 -- The form has this condition, and this rest behind its parenthesis.
 pub data IsBehindIf (condition rest : List Symbol) : Form → Type 0 where

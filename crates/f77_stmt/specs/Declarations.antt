@@ -1,14 +1,14 @@
 -- What is read of declarations.
 use Rattle.std.specs.Prelude.{ℕ, ◌≡◌, ◌≤◌, max, List, ◌∷◌, ◌++◌, map, length}
-use Rattle.fv_meaning.specs.Statement77 as statement
-use Rattle.fv_meaning.specs.expressions.Words as words
+use Rattle.f77_grammar.specs.Statement77 as statement
+use Rattle.f77_grammar.specs.expressions.Words as words
 use Rattle.fv_tree.specs.Plain.{Expression}
 use Rattle.fv_tree.specs.View.{expression_of}
-use Rattle.fv_meaning.specs.expressions.Phrases.{Phrase, IsExpression, written, tree, depth}
-use Rattle.fv_meaning.specs.expressions.Words.{Word}
+use Rattle.f77_grammar.specs.expressions.Phrases.{Phrase, IsExpression, written, tree, depth}
+use Rattle.f77_grammar.specs.expressions.Words.{Word}
 use Rattle.f77_expr.specs.declared.operands.Operand.{Operand}
-use Rattle.fv_meaning.specs.statements.Forms.{IsList, separated, Entity, Bounded, IsEntity, written_entity, entity_tree, entity_depth, Definition, IsDefinition, written_definition, definition_tree, definition_depth, Bound, IsBound, written_bound, bound_tree, bound_depth}
-use Rattle.statements77.specs.Views.{bounds_of}
+use Rattle.f77_grammar.specs.statements.Forms.{IsList, separated, Entity, Bounded, IsEntity, written_entity, entity_tree, entity_depth, Definition, IsDefinition, written_definition, definition_tree, definition_depth, Bound, IsBound, written_bound, bound_tree, bound_depth}
+use Rattle.f77_syntax.specs.Views.{bounds_of}
 use Rattle.fv_tree.specs.declared.exprs.Expr.{Expr}
 use Rattle.f77_stmt.specs.Parts.{capped}
 use Rattle.f77_stmt.specs.Separated.{BeginsWithList, IsRead, Reads, BeginsWithPart, IsThePart}

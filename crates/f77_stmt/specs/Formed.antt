@@ -1,9 +1,9 @@
 -- Statements that were read, in the words of the grammar.
 use Rattle.std.specs.Prelude.{ℕ, ◌≡◌, Bool, true, false, Option, Some, None, List, [], ◌∷◌, ◌++◌, map}
-use Rattle.fv_meaning.specs.expressions.Words as words
-use Rattle.fv_meaning.specs.Statement77 as statement
-use Rattle.fv_meaning.specs.expressions.Words.{Word}
-use Rattle.fv_meaning.specs.statements.Forms.{Form, Entity, IsEntity, IsList, separated, deepest, written_entity, entity_tree, entity_depth, Definition, IsDefinition, written_definition, definition_tree, definition_depth}
+use Rattle.f77_grammar.specs.expressions.Words as words
+use Rattle.f77_grammar.specs.Statement77 as statement
+use Rattle.f77_grammar.specs.expressions.Words.{Word}
+use Rattle.f77_grammar.specs.statements.Forms.{Form, Entity, IsEntity, IsList, separated, deepest, written_entity, entity_tree, entity_depth, Definition, IsDefinition, written_definition, definition_tree, definition_depth}
 use Rattle.f77_stmt.specs.declared.formed.Formed.{Formed}
 use Rattle.f77_stmt.specs.Parts.{capped, IsFormedOf}
 

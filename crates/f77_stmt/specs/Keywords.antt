@@ -2,13 +2,13 @@
 use Rattle.std.specs.Prelude.{◌≡◌, ℕ, ◌⊎◌, Option, Some, None, List, [], ◌∷◌, ◌++◌, codes}
 use Rattle.fv_tree.specs.declared.ops.Kind.{Kind}
 use Rattle.fv_tree.specs.declared.ops.Kind.TheVariants as kinds
-use Rattle.fv_meaning.specs.expressions.Phrases.{Phrase, IsExpression, written}
-use Rattle.fv_meaning.specs.expressions.Spelling.{Words, chars}
-use Rattle.fv_meaning.specs.expressions.Squeezing.{Symbol}
-use Rattle.fv_meaning.specs.expressions.Words as words
-use Rattle.fv_meaning.specs.statements.Items.{ItemPhrases, Input, Output, AreItems, written_items}
-use Rattle.fv_meaning.specs.statements.Forms as forms
-use Rattle.fv_meaning.specs.statements.Forms.{Form, IsLabel, Entity, IsEntity, IsBounded, written_entity, Definition, IsDefinition, written_definition, separated, IsList}
+use Rattle.f77_grammar.specs.expressions.Phrases.{Phrase, IsExpression, written}
+use Rattle.f77_grammar.specs.expressions.Spelling.{Words, chars}
+use Rattle.f77_grammar.specs.expressions.Squeezing.{Symbol}
+use Rattle.f77_grammar.specs.expressions.Words as words
+use Rattle.f77_grammar.specs.statements.Items.{ItemPhrases, Input, Output, AreItems, written_items}
+use Rattle.f77_grammar.specs.statements.Forms as forms
+use Rattle.f77_grammar.specs.statements.Forms.{Form, IsLabel, Entity, IsEntity, IsBounded, written_entity, Definition, IsDefinition, written_definition, separated, IsList}
 use Rattle.f77_expr.specs.Lexing.{strip}
 use Rattle.f77_stmt.specs.declared.keywords.Keyword.{Keyword}
 use Rattle.f77_stmt.specs.declared.keywords.Keyword.TheVariants.{Program, Integer, Logical, Dimension, Parameter, GoTo, ElseIf, Else, EndIf, Continue, Stop, End, ReadUnit, ReadList, WriteUnit, PrintList}

@@ -1,11 +1,11 @@
 -- The kinds of statements by which they are recognised.
 use Rattle.std.specs.Prelude.{ℕ, Bool, true, false, List, Option}
-use Rattle.fv_meaning.specs.Statement77 as statement
-use Rattle.fv_meaning.specs.Statement77.{Statement77}
-use Rattle.fv_meaning.specs.expressions.Phrases.{Phrase}
-use Rattle.fv_meaning.specs.expressions.Squeezing.{Symbol}
-use Rattle.fv_meaning.specs.statements.Forms.{Form, Assign, Do, IsWritten}
-use Rattle.f77_recognition.specs.Kinds.{HasKeyword}
+use Rattle.f77_grammar.specs.Statement77 as statement
+use Rattle.f77_grammar.specs.Statement77.{Statement77}
+use Rattle.f77_grammar.specs.expressions.Phrases.{Phrase}
+use Rattle.f77_grammar.specs.expressions.Squeezing.{Symbol}
+use Rattle.f77_grammar.specs.statements.Forms.{Form, Assign, Do, IsWritten}
+use Rattle.f77_keywords.specs.Kinds.{HasKeyword}
 
 -- the statement may be the inner one of a logical IF
 abbrev pub is_inner : Statement77 → Bool

@@ -1,8 +1,8 @@
 -- The front of a DO statement.
 use Rattle.std.specs.Prelude.{ℕ, ◌≡◌, Bool, List, ◌++◌, codes}
-use Rattle.fv_meaning.specs.expressions.Spelling.{value, chars}
-use Rattle.fv_meaning.specs.expressions.Squeezing.{Symbol}
-use Rattle.fv_meaning.specs.statements.Forms.{IsLabel, optional_comma}
+use Rattle.f77_grammar.specs.expressions.Spelling.{value, chars}
+use Rattle.f77_grammar.specs.expressions.Squeezing.{Symbol}
+use Rattle.f77_grammar.specs.statements.Forms.{IsLabel, optional_comma}
 
 -- The text begins with DO, a label with this number, and maybe a comma; what follows is the rest.
 pub record IsLoopFront (text : List Symbol) (number : ℕ) (rest : List Symbol) : Type 0 where

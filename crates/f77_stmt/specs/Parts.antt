@@ -3,13 +3,13 @@ use Rattle.std.specs.Prelude.{ℕ, ◌≡◌, min, Bool, true, false, Option, Li
 use Rattle.fv_tree.specs.Plain.{Expression, Named, Reference}
 use Rattle.fv_tree.specs.View.{expression_of, reference_of}
 use Rattle.fv_tree.specs.declared.exprs.Ref.{Ref}
-use Rattle.fv_meaning.specs.expressions.Phrases.{Phrase, IsExpression, written, tree, depth}
-use Rattle.fv_meaning.specs.expressions.Words as words
-use Rattle.fv_meaning.specs.expressions.Words.{Word}
-use Rattle.fv_meaning.specs.statements.Items.{IsReference, IsStep, written_step, step_tree, step_depth}
-use Rattle.fv_meaning.specs.statements.Forms.{AreParameters, written_control, control_depth}
-use Rattle.fv_meaning.specs.statements.Forms.{Form, Assign, statement_of, form_depth, has_wide_literal, reference_in}
-use Rattle.statements77.specs.Views as view
+use Rattle.f77_grammar.specs.expressions.Phrases.{Phrase, IsExpression, written, tree, depth}
+use Rattle.f77_grammar.specs.expressions.Words as words
+use Rattle.f77_grammar.specs.expressions.Words.{Word}
+use Rattle.f77_grammar.specs.statements.Items.{IsReference, IsStep, written_step, step_tree, step_depth}
+use Rattle.f77_grammar.specs.statements.Forms.{AreParameters, written_control, control_depth}
+use Rattle.f77_grammar.specs.statements.Forms.{Form, Assign, statement_of, form_depth, has_wide_literal, reference_in}
+use Rattle.f77_syntax.specs.Views as view
 use Rattle.f77_expr.specs.declared.tokens.Stop.{Stop}
 use Rattle.f77_expr.specs.declared.tokens.Stop.TheVariants.{Syntax, Memory}
 use Rattle.f77_stmt.specs.declared.assignments.Control.{Control}

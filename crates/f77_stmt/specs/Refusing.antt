@@ -1,9 +1,9 @@
 -- Why a card is refused.
 use Rattle.std.specs.Prelude.{ℕ, Bool, true, false, nat_lt, List, Result, Ok, Err}
 use Rattle.fv_tree.specs.declared.refusals.Refused.{Refused}
-use Rattle.fv_meaning.specs.expressions.Squeezing.{Symbol}
-use Rattle.fv_meaning.specs.statements.Recognition.{HasWord}
-use Rattle.statements77.specs.declared.statements.Stmt77.{Stmt77}
+use Rattle.f77_grammar.specs.expressions.Squeezing.{Symbol}
+use Rattle.f77_grammar.specs.statements.Recognition.{HasWord}
+use Rattle.f77_syntax.specs.declared.statements.Stmt77.{Stmt77}
 use Rattle.f77_stmt.specs.declared.formed.Formed.{Formed}
 
 -- The number of the cause and that of the word, for a text that has no form.

@@ -1,9 +1,9 @@
 -- Reading a list with commas, part by part.
 use Rattle.std.specs.Prelude.{ℕ, ◌≡◌, List, [], ◌∷◌, ◌++◌, map}
 use Rattle.std.specs.List.{AllByRecursion}
-use Rattle.fv_meaning.specs.expressions.Words as words
-use Rattle.fv_meaning.specs.expressions.Words.{Word}
-use Rattle.fv_meaning.specs.statements.Forms.{separated, followed, IsList, deepest}
+use Rattle.f77_grammar.specs.expressions.Words as words
+use Rattle.f77_grammar.specs.expressions.Words.{Word}
+use Rattle.f77_grammar.specs.statements.Forms.{separated, followed, IsList, deepest}
 use Rattle.f77_stmt.specs.Parts.{capped}
 
 -- what may stand behind a part of a list: a comma or a closing parenthesis

@@ -1,11 +1,11 @@
 //! Jumps, conditions, reading and printing, and the statements that are nothing but their keyword, behind it.
 ghost use Rattle.std.specs.Prelude.{◌≡◌, ◌↔◌, IsTrue, [], IfOk, codes};
 ghost use Rattle.fv_tree.specs.View.{expression_of};
-ghost use Rattle.fv_meaning.specs.expressions.Phrases.{Phrase, IsExpression, written};
-ghost use Rattle.fv_meaning.specs.expressions.Spelling.{Words, chars};
-ghost use Rattle.fv_meaning.specs.statements.Forms as forms;
-ghost use Rattle.fv_meaning.specs.statements.Forms.{Form, statement_of, form_words, form_depth};
-ghost use Rattle.statements77.specs.Views as view;
+ghost use Rattle.f77_grammar.specs.expressions.Phrases.{Phrase, IsExpression, written};
+ghost use Rattle.f77_grammar.specs.expressions.Spelling.{Words, chars};
+ghost use Rattle.f77_grammar.specs.statements.Forms as forms;
+ghost use Rattle.f77_grammar.specs.statements.Forms.{Form, statement_of, form_words, form_depth};
+ghost use Rattle.f77_syntax.specs.Views as view;
 ghost use Rattle.f77_expr.specs.Symbols.{symbols_of};
 ghost use Rattle.f77_stmt.specs.declared.keywords.Keyword.TheVariants as keywords;
 ghost use Rattle.f77_stmt.specs.Actions.{IsCondition, IsConditionOf};
@@ -15,10 +15,10 @@ ghost use Rattle.f77_stmt.specs.Parts.{Given, IsFormedOf};
 
 use crate::formed::Formed;
 use f77_expr::{Stop, Symbol, has_wide, strip, whole, words};
-use f77_items::{read_inputs, read_items};
-use f77_recognition::{cut_at_close, label};
+use f77_lists::{read_inputs, read_items};
+use f77_keywords::{cut_at_close, label};
 use fv_tree::{Expr, Seq};
-use statements77::Stmt77;
+use f77_syntax::Stmt77;
 use std::alloc::Global;
 
 /// A label as that of a GO TO (section 11.1).

@@ -1,10 +1,10 @@
 //! Assignments, and the DO variable with its parameters.
 ghost use Rattle.std.specs.Prelude.{◌≡◌, List, Option, [], ◌∷◌, ◌++◌, IfOk};
-ghost use Rattle.fv_meaning.specs.expressions.Phrases.{Phrase, IsExpression, written};
-ghost use Rattle.fv_meaning.specs.expressions.Words as words;
-ghost use Rattle.fv_meaning.specs.statements.Items.{IsReference, IsStep, written_step};
-ghost use Rattle.fv_meaning.specs.statements.Forms.{AreParameters, written_control};
-ghost use Rattle.fv_meaning.specs.statements.Forms.{Assign};
+ghost use Rattle.f77_grammar.specs.expressions.Phrases.{Phrase, IsExpression, written};
+ghost use Rattle.f77_grammar.specs.expressions.Words as words;
+ghost use Rattle.f77_grammar.specs.statements.Items.{IsReference, IsStep, written_step};
+ghost use Rattle.f77_grammar.specs.statements.Forms.{AreParameters, written_control};
+ghost use Rattle.f77_grammar.specs.statements.Forms.{Assign};
 ghost use Rattle.f77_expr.specs.Reading.{Ends};
 ghost use Rattle.f77_expr.specs.Views.{words_of};
 ghost use Rattle.std.specs.Prelude.{ℕ};
@@ -16,7 +16,7 @@ use crate::formed::Formed;
 use crate::fronts::{after_comma, after_equals, after_name};
 use f77_expr::{Operand, Stop, Token, has_wide, read, whole};
 use fv_tree::{Expr, Name, Ref};
-use statements77::Stmt77;
+use f77_syntax::Stmt77;
 use std::alloc::Global;
 
 // Whether the words begin with a name.

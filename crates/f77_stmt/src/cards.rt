@@ -1,19 +1,19 @@
 //! From a card to its statement.
 ghost use Rattle.std.specs.Prelude.{◌≡◌, ◌⊎◌, ℕ, IfOk, IsOkAnd};
 ghost use Rattle.fv_tree.specs.declared.refusals.Refusal as refusals;
-ghost use Rattle.fv_meaning.specs.Statement77.{Statement77};
-ghost use Rattle.fv_meaning.specs.statements.Reading.{ReadsStatement, IsRefusedBy};
-ghost use Rattle.statements77.specs.Views as view;
+ghost use Rattle.f77_grammar.specs.Statement77.{Statement77};
+ghost use Rattle.f77_grammar.specs.statements.Reading.{ReadsStatement, IsRefusedBy};
+ghost use Rattle.f77_syntax.specs.Views as view;
 ghost use Rattle.f77_expr.specs.Symbols.{symbols_of};
 ghost use Rattle.f77_stmt.specs.Refusing.{IsFormless, limited};
 
 use crate::formed::Formed;
 use crate::forms::form;
 use f77_expr::{Stop, Symbol, squeeze};
-use f77_recognition::word_left_out;
+use f77_keywords::word_left_out;
 use fixed_form::Card;
 use fv_tree::{Refusal, Refused};
-use statements77::Stmt77;
+use f77_syntax::Stmt77;
 use std::alloc::Global;
 
 const MOST_DEPTH: u16 = 400;

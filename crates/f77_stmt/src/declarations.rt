@@ -2,13 +2,13 @@
 ghost use Rattle.std.specs.Prelude.{◌≡◌, pos, max, List, [], ◌∷◌, ◌++◌, map, IfOk, length, ◌≤◌};
 ghost use Rattle.fv_tree.specs.Plain.{Number};
 ghost use Rattle.fv_tree.specs.View.{expression_of};
-ghost use Rattle.fv_meaning.specs.expressions.Phrases.{Phrase, IsExpression, written, tree, depth};
+ghost use Rattle.f77_grammar.specs.expressions.Phrases.{Phrase, IsExpression, written, tree, depth};
 ghost use Rattle.f77_expr.specs.Reading.{Ends};
-ghost use Rattle.fv_meaning.specs.expressions.Words as words;
-ghost use Rattle.fv_meaning.specs.statements.Forms as Forms;
-ghost use Rattle.fv_meaning.specs.statements.Forms.{Bound, Plain, Bounded, IsEntity, Definition, IsDefinition, written_entity, entity_tree, entity_depth, written_definition, definition_tree, definition_depth, IsBound, written_bound, bound_tree, bound_depth, IsList, separated};
+ghost use Rattle.f77_grammar.specs.expressions.Words as words;
+ghost use Rattle.f77_grammar.specs.statements.Forms as Forms;
+ghost use Rattle.f77_grammar.specs.statements.Forms.{Bound, Plain, Bounded, IsEntity, Definition, IsDefinition, written_entity, entity_tree, entity_depth, written_definition, definition_tree, definition_depth, IsBound, written_bound, bound_tree, bound_depth, IsList, separated};
 ghost use Rattle.f77_expr.specs.Views.{words_of};
-ghost use Rattle.statements77.specs.Views.{bounds_of, entity_of, constant_of};
+ghost use Rattle.f77_syntax.specs.Views.{bounds_of, entity_of, constant_of};
 ghost use Rattle.f77_stmt.specs.Parts.{Given, capped};
 ghost use Rattle.f77_stmt.specs.Declarations.{BeginsWithEntity, EndsEntity, IsTheEntity, BeginsWithDefinition, IsTheDefinition, AreBoundsRead, AreTheBounds, BeginsWithBound, EndsBound, IsBoundOf};
 ghost use Rattle.f77_stmt.specs.Separated.{EndsPart, EndsList, BeginsWithList, IsRead};
@@ -16,7 +16,7 @@ ghost use Rattle.f77_stmt.specs.Separated.{EndsPart, EndsList, BeginsWithList, I
 use crate::fronts::{after_close, after_colon, after_comma, after_equals, after_head, after_name};
 use f77_expr::{Operand, Stop, Token, read};
 use fv_tree::{Expr, Name, Seq};
-use statements77::Entity;
+use f77_syntax::Entity;
 use std::alloc::Global;
 
 // An upper bound alone.

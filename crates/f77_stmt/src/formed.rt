@@ -1,10 +1,10 @@
 //! A statement that has a form.
 ghost use Rattle.std.specs.Prelude.{◌≡◌, []};
-ghost use Rattle.statements77.specs.Views as view;
-ghost use Rattle.fv_meaning.specs.statements.Forms.{Form, statement_of, form_words, form_depth};
+ghost use Rattle.f77_syntax.specs.Views as view;
+ghost use Rattle.f77_grammar.specs.statements.Forms.{Form, statement_of, form_words, form_depth};
 ghost use Rattle.f77_stmt.specs.Parts.{IsFormedOf};
 
-use statements77::Stmt77;
+use f77_syntax::Stmt77;
 
 /// A statement that has a form, before its literals and its depth are looked at: whether a literal of it is above
 /// 2^127-1, and its depth, which is counted up to 401.

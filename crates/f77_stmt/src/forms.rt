@@ -2,17 +2,17 @@
 ghost use Rattle.std.specs.Prelude.{◌≡◌, ℕ, ◌++◌, ◌||◌, max, Bool, List, Option, IfOk, IfSome, codes};
 ghost use Rattle.std.specs.List.{list_any};
 ghost use Rattle.fv_tree.specs.View.{expression_of};
-ghost use Rattle.fv_meaning.specs.expressions.Phrases.{Phrase};
-ghost use Rattle.fv_meaning.specs.expressions.Reading.{is_wide};
-ghost use Rattle.fv_meaning.specs.expressions.Spelling.{value, chars};
-ghost use Rattle.fv_meaning.specs.expressions.Squeezing as squeezing;
-ghost use Rattle.fv_meaning.specs.statements.Forms.{Form, Assign, Do, Test, IsWritten, IsInner, IsLabel, optional_comma, written_control};
-ghost use Rattle.fv_meaning.specs.statements.Recognition.{BeginsWithLetter};
+ghost use Rattle.f77_grammar.specs.expressions.Phrases.{Phrase};
+ghost use Rattle.f77_grammar.specs.expressions.Reading.{is_wide};
+ghost use Rattle.f77_grammar.specs.expressions.Spelling.{value, chars};
+ghost use Rattle.f77_grammar.specs.expressions.Squeezing as squeezing;
+ghost use Rattle.f77_grammar.specs.statements.Forms.{Form, Assign, Do, Test, IsWritten, IsInner, IsLabel, optional_comma, written_control};
+ghost use Rattle.f77_grammar.specs.statements.Recognition.{BeginsWithLetter};
 ghost use Rattle.f77_expr.specs.Symbols.{symbols_of};
-ghost use Rattle.f77_recognition.specs.FormsLeftOut.{without_comma};
-ghost use Rattle.f77_recognition.specs.Fronts.{GivesLabel};
-ghost use Rattle.f77_recognition.specs.Kinds.{HasKeyword};
-ghost use Rattle.statements77.specs.Views as view;
+ghost use Rattle.f77_keywords.specs.FormsLeftOut.{without_comma};
+ghost use Rattle.f77_keywords.specs.Fronts.{GivesLabel};
+ghost use Rattle.f77_keywords.specs.Kinds.{HasKeyword};
+ghost use Rattle.f77_syntax.specs.Views as view;
 ghost use Rattle.f77_stmt.specs.Actions.{IsConditionOf};
 ghost use Rattle.f77_stmt.specs.Conditions.{IsBehindIf};
 ghost use Rattle.f77_stmt.specs.Formed.{IsFound};
@@ -29,13 +29,13 @@ use crate::formed::Formed;
 use crate::keywords::Keyword;
 use crate::statements::{constants, declaration, dimension, program};
 use f77_expr::{Stop, Symbol, has_wide, strip, words};
-use f77_recognition::{Outside, conditional, label};
+use f77_keywords::{Outside, conditional, label};
 use fv_tree::{Expr, Kind};
-use statements77::Stmt77;
+use f77_syntax::Stmt77;
 use std::alloc::Global;
 
 // Whether the statement may be the inner one of a logical IF.
-#[tactic(auto, using(statements77::proofs::Equations::statement_equations))]
+#[tactic(auto, using(f77_syntax::proofs::Equations::statement_equations))]
 fn is_inner(statement: &Stmt77) -> bool
     ensures { result ≡ is_inner (view.statement_of statement.now) }
 {

@@ -1,5 +1,5 @@
 //! The word at the front of words.
-ghost use Rattle.fv_meaning.specs.expressions.Words as words;
+ghost use Rattle.f77_grammar.specs.expressions.Words as words;
 ghost use Rattle.f77_expr.specs.Views.{words_of};
 ghost use Rattle.f77_stmt.specs.Fronts.{After, NameFront, HeadFront};
 

@@ -1,13 +1,13 @@
 //! The statements of each keyword, behind the keyword.
 ghost use Rattle.std.specs.Prelude.{◌≡◌, [], ◌∷◌, ◌++◌, IfOk, List, map};
 ghost use Rattle.std.specs.List.{list_all};
-ghost use Rattle.fv_meaning.specs.expressions.Words as words;
-ghost use Rattle.statements77.specs.Views as view;
-ghost use Rattle.statements77.specs.Views.{entity_of, constant_of};
+ghost use Rattle.f77_grammar.specs.expressions.Words as words;
+ghost use Rattle.f77_syntax.specs.Views as view;
+ghost use Rattle.f77_syntax.specs.Views.{entity_of, constant_of};
 ghost use Rattle.f77_expr.specs.Views.{words_of};
 ghost use Rattle.fv_tree.specs.declared.ops.Kind.TheVariants as kinds;
-ghost use Rattle.fv_meaning.specs.statements.Forms as forms;
-ghost use Rattle.fv_meaning.specs.statements.Forms.{Form, Definition, IsDefinition, written_definition, IsEntity, IsList, separated, written_entity, statement_of, form_words, form_depth};
+ghost use Rattle.f77_grammar.specs.statements.Forms as forms;
+ghost use Rattle.f77_grammar.specs.statements.Forms.{Form, Definition, IsDefinition, written_definition, IsEntity, IsList, separated, written_entity, statement_of, form_words, form_depth};
 ghost use Rattle.f77_expr.specs.Symbols.{symbols_of};
 ghost use Rattle.f77_stmt.specs.Formed.{IsLoneName, IsFound, AreEntities, IsEntitiesOf, has_bounds, AreConstants, AreConstantsOf};
 ghost use Rattle.f77_stmt.specs.Keywords.{IsProgramAfter, IsDeclarationAfter, IsDimensionAfter, AreConstantsAfter};
@@ -18,7 +18,7 @@ use crate::formed::Formed;
 use crate::fronts::{after_close, after_open};
 use f77_expr::{Stop, Symbol, Token, has_wide, words};
 use fv_tree::{Expr, Kind, Name, Seq};
-use statements77::{Entity, Stmt77};
+use f77_syntax::{Entity, Stmt77};
 use std::alloc::Global;
 
 // The name that is the only word.
@@ -31,7 +31,7 @@ fn lone_name(tokens: &[Token]) -> Option<Name>
     }
 }
 
-#[tactic(auto, using(statements77::proofs::Equations::statement_equations))]
+#[tactic(auto, using(f77_syntax::proofs::Equations::statement_equations))]
 fn titled(name: Name) -> Formed
     ensures { IsFormedOf result (forms.Program name) }
 {

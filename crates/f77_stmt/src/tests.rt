@@ -2,7 +2,7 @@
 use crate::parse;
 use fixed_form::Card;
 use fv_tree::{Refused, Seq};
-use statements77::Stmt77;
+use f77_syntax::Stmt77;
 use std::alloc::{AllocError, Global};
 use std::test::Fail;
 

@@ -5,7 +5,7 @@ use Rattle.fv_tree.specs.Plain.{Number, Unary}
 use Rattle.fv_tree.specs.declared.ops.Op.TheVariants.{Neg}
 use Rattle.fv_tree.specs.declared.ops.Value.TheVariants.{Int}
 use Rattle.fv_tree.proofs.Equations.{expression_of-int, expression_of-truth, expression_of-un}
-use Rattle.fv_meaning.specs.program.Tree as tree
+use Rattle.f77_grammar.specs.program.Tree as tree
 
 pub literal-number : (z : ℤ) → pos 0 ≤ℤ z → tree.literal (Int z) ≡ Number z
 literal-number (pos n) h = refl

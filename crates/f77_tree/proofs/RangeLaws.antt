@@ -9,8 +9,8 @@ use Rattle.fv_tree.specs.declared.ops.Fault.TheVariants.{Overflow}
 use Rattle.fv_meaning.specs.Sequential.{integer_bits}
 use Rattle.fv_meaning.specs.Store.{Store, Cell}
 use Rattle.fv_meaning.specs.Value.{is_in_range, value_of}
-use Rattle.fv_meaning.specs.Statement77.{NamedConstant, Labelled}
-use Rattle.fv_meaning.specs.program.Limits.{in_range, no_values, with_value, with_constant, with_constants, definitions_of, constants_of}
+use Rattle.f77_grammar.specs.Statement77.{NamedConstant, Labelled}
+use Rattle.f77_grammar.specs.program.Limits.{in_range, no_values, with_value, with_constant, with_constants, definitions_of, constants_of}
 use Rattle.f77_constants.specs.declared.constants.Constants.{Constants}
 use Rattle.f77_constants.specs.Constants.{AreValues}
 use Rattle.f77_tree.specs.Resolved.{AreInRange}

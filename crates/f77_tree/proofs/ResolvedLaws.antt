@@ -14,9 +14,9 @@ use Rattle.fv_tree.specs.declared.exprs.Sub.{Sub}
 use Rattle.fv_tree.specs.declared.exprs.Sub.TheVariants as subs
 use Rattle.fv_tree.proofs.Equations.{expression_of-int, expression_of-truth, expression_of-item, expression_of-un, expression_of-bin, expression_of-call, subscript_of-one, reference_of-is, reference_of-made}
 use Rattle.fv_meaning.specs.Store.{Store}
-use Rattle.fv_meaning.specs.program.Names.{function_named}
-use Rattle.fv_meaning.specs.program.Uses.{Use, is_array, is_constant}
-use Rattle.fv_meaning.specs.program.Tree as tree
+use Rattle.fv_meaning.specs.Names.{function_named}
+use Rattle.f77_grammar.specs.program.Uses.{Use, is_array, is_constant}
+use Rattle.f77_grammar.specs.program.Tree as tree
 use Rattle.f77_tree.specs.Resolved.{only, called}
 
 -- a reference as an expression

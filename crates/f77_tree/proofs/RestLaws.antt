@@ -10,8 +10,8 @@ use Rattle.fv_tree.specs.declared.stmts.Arm.{Arm, roll-Arm}
 use Rattle.fv_tree.specs.declared.stmts.Block.{Block, roll-Block}
 use Rattle.fv_tree.specs.declared.lists.Seq.{Seq}
 use Rattle.fv_tree.proofs.Equations.{statement_of-if, statement_of-do, tested_of-made, block_of-made}
-use Rattle.fv_meaning.specs.program.Text.{is_label}
-use Rattle.fv_meaning.specs.program.Tree as tree
+use Rattle.f77_grammar.specs.program.Text.{is_label}
+use Rattle.f77_grammar.specs.program.Tree as tree
 use Rattle.f77_tree.specs.declared.rests.Piece.{Piece}
 use Rattle.f77_tree.specs.declared.rests.OpenIf.{OpenIf}
 use Rattle.f77_tree.specs.Rests.{piece_of, pieces_in, made_by, rest_with}

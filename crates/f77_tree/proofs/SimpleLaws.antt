@@ -16,13 +16,13 @@ use Rattle.fv_tree.specs.declared.stmts.Arm.{Arm, roll-Arm}
 use Rattle.fv_tree.specs.declared.stmts.Block.{Block, roll-Block}
 use Rattle.fv_tree.proofs.Equations.{statement_of-assign as tree-assign, statement_of-if as tree-if, statement_of-go as tree-go, statement_of-stop as tree-stop, statement_of-read as tree-read, statement_of-print as tree-print, tested_of-made, block_of-made}
 use Rattle.fv_meaning.specs.Store.{Store}
-use Rattle.fv_meaning.specs.program.Uses.{Use}
-use Rattle.fv_meaning.specs.program.Tree as tree
-use Rattle.statements77.specs.declared.statements.Entity.{Entity}
-use Rattle.statements77.specs.declared.statements.Stmt77.{Stmt77}
-use Rattle.statements77.specs.declared.statements.Stmt77.TheVariants as stmts
-use Rattle.statements77.specs.Views.{statement_of}
-use Rattle.statements77.proofs.Equations.{statement_of-program, statement_of-declare, statement_of-dimension, statement_of-constants, statement_of-assign, statement_of-go, statement_of-test, statement_of-if, statement_of-else_if, statement_of-else, statement_of-end_if, statement_of-do, statement_of-continue, statement_of-stop, statement_of-read, statement_of-print, statement_of-end}
+use Rattle.f77_grammar.specs.program.Uses.{Use}
+use Rattle.f77_grammar.specs.program.Tree as tree
+use Rattle.f77_syntax.specs.declared.statements.Entity.{Entity}
+use Rattle.f77_syntax.specs.declared.statements.Stmt77.{Stmt77}
+use Rattle.f77_syntax.specs.declared.statements.Stmt77.TheVariants as stmts
+use Rattle.f77_syntax.specs.Views.{statement_of}
+use Rattle.f77_syntax.proofs.Equations.{statement_of-program, statement_of-declare, statement_of-dimension, statement_of-constants, statement_of-assign, statement_of-go, statement_of-test, statement_of-if, statement_of-else_if, statement_of-else, statement_of-end_if, statement_of-do, statement_of-continue, statement_of-stop, statement_of-read, statement_of-print, statement_of-end}
 use Rattle.f77_tree.proofs.ItemLaws.{inputs_resolved, outputs_resolved}
 
 pub ruleset block_laws = (block_of-made)

@@ -2,18 +2,18 @@
 ghost use Rattle.std.specs.Prelude.{◌≡◌, ◌++◌, map, IfOk, OnOk};
 ghost use Rattle.fv_tree.specs.View.{expression_of, statement_of as tree_statement_of};
 ghost use Rattle.fv_tree.specs.Plain as plain;
-ghost use Rattle.fv_meaning.specs.program.Tree as tree;
+ghost use Rattle.f77_grammar.specs.program.Tree as tree;
 ghost use Rattle.f77_constants.specs.Constants.{store_of};
 ghost use Rattle.f77_names.specs.UsesView.{listed};
 ghost use Rattle.f77_tree.specs.Resolved.{made};
 ghost use Rattle.f77_tree.specs.Rests.{piece_of, rest_of, heading_of, ordinary};
-ghost use Rattle.statements77.specs.Views.{labelled_of, statement_of, text_of};
+ghost use Rattle.f77_syntax.specs.Views.{labelled_of, statement_of, text_of};
 
 use crate::resolver::Resolver;
 use crate::rests::{Heading, Piece, Rest};
 use crate::targets::Targets;
 use fv_tree::{Expr, Memory, Name, Stmt};
-use statements77::{Labelled, Stmt77};
+use f77_syntax::{Labelled, Stmt77};
 use std::alloc::Global;
 
 fn add(list: &mut Vec<Stmt>, statement: Option<Stmt>) -> Result<(), Memory>

@@ -6,7 +6,7 @@ ghost use Rattle.fv_tree.specs.declared.exprs.Expr.TheVariants as exprs;
 ghost use Rattle.fv_tree.specs.declared.ops.Value.TheVariants as values;
 ghost use Rattle.fv_meaning.specs.Sequential.{integer_bits};
 ghost use Rattle.fv_meaning.specs.Value.{is_in_range};
-ghost use Rattle.fv_meaning.specs.program.Tree as tree;
+ghost use Rattle.f77_grammar.specs.program.Tree as tree;
 ghost use Rattle.f77_constants.specs.Constants.{store_of};
 ghost use Rattle.f77_names.specs.UsesView.{listed};
 ghost use Rattle.f77_tree.specs.Resolved.{only, called};

@@ -1,7 +1,7 @@
 //! Input and output lists in which each name stands for what it is.
 ghost use Rattle.std.specs.Prelude.{◌≡◌, map, IfOk};
 ghost use Rattle.fv_tree.specs.View.{expression_of, item_of};
-ghost use Rattle.fv_meaning.specs.program.Tree as tree;
+ghost use Rattle.f77_grammar.specs.program.Tree as tree;
 ghost use Rattle.f77_constants.specs.Constants.{store_of};
 ghost use Rattle.f77_names.specs.UsesView.{listed};
 

@@ -1,12 +1,12 @@
 //! The tree of a whole program.
 ghost use Rattle.std.specs.Prelude.{◌≡◌, None, map, IfOk};
 ghost use Rattle.fv_tree.specs.View.{program_of};
-ghost use Rattle.fv_meaning.specs.program.Limits.{constants_of, has_bad_constant};
-ghost use Rattle.fv_meaning.specs.program.Tree.{tree_of, first_of_names};
-ghost use Rattle.fv_meaning.specs.program.Uses.{is_title, names_that};
+ghost use Rattle.f77_grammar.specs.program.Limits.{constants_of, has_bad_constant};
+ghost use Rattle.f77_grammar.specs.program.Tree.{tree_of, first_of_names};
+ghost use Rattle.f77_grammar.specs.program.Uses.{is_title, names_that};
 ghost use Rattle.f77_names.specs.UsesView.{plain_use};
-ghost use Rattle.statements77.specs.First.{first_index};
-ghost use Rattle.statements77.specs.Views.{text_of};
+ghost use Rattle.f77_syntax.specs.First.{first_index};
+ghost use Rattle.f77_syntax.specs.Views.{text_of};
 
 use crate::begin::rest_of_text;
 use crate::resolver::Resolver;
@@ -14,7 +14,7 @@ use crate::targets::Targets;
 use f77_constants::declarations_of;
 use f77_names::{Role, Use};
 use fv_tree::{Memory, Name, Program77};
-use statements77::Labelled;
+use f77_syntax::Labelled;
 use std::alloc::Global;
 
 fn is_title(used: &Use) -> bool

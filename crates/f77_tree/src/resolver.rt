@@ -1,17 +1,17 @@
 //! What names and symbolic constants of a program stand for.
 ghost use Rattle.std.specs.Prelude.{◌≡◌, IfOk};
-ghost use Rattle.fv_meaning.specs.program.Limits as plain;
-ghost use Rattle.fv_meaning.specs.program.Uses.{uses_in_text, is_array, is_constant};
+ghost use Rattle.f77_grammar.specs.program.Limits as plain;
+ghost use Rattle.f77_grammar.specs.program.Uses.{uses_in_text, is_array, is_constant};
 ghost use Rattle.f77_constants.specs.Constants.{AreValues, value_in, value_or_nought};
 ghost use Rattle.f77_names.specs.NameFacts.{AreNamesOf};
 ghost use Rattle.f77_names.specs.UsesView.{listed};
 ghost use Rattle.f77_tree.specs.Resolved.{AreInRange};
-ghost use Rattle.statements77.specs.Views.{text_of};
+ghost use Rattle.f77_syntax.specs.Views.{text_of};
 
 use f77_constants::{Constants, constants_of};
 use f77_names::{Names, Uses, names_of, uses_in_text};
 use fv_tree::{Memory, Name, Value};
-use statements77::Labelled;
+use f77_syntax::Labelled;
 use std::alloc::Global;
 
 /// What the names of a program stand for.

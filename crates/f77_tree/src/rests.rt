@@ -2,8 +2,8 @@
 ghost use Rattle.std.specs.Prelude.{◌≡◌, ℕ, [], ◌++◌, ◌∷◌, None, map, IfOk, OnOk};
 ghost use Rattle.fv_tree.specs.View.{expression_of, block_of, statement_of};
 ghost use Rattle.fv_tree.specs.Plain as plain;
-ghost use Rattle.fv_meaning.specs.program.Tree as tree;
-ghost use Rattle.fv_meaning.specs.program.Text.{is_label};
+ghost use Rattle.f77_grammar.specs.program.Tree as tree;
+ghost use Rattle.f77_grammar.specs.program.Text.{is_label};
 ghost use Rattle.f77_tree.specs.Rests.{piece_of, pieces_in, made_by, rest_of, heading_of};
 
 use fv_tree::{Arm, Block, Expr, Memory, Name, Seq, Stmt};

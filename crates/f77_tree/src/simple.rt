@@ -2,15 +2,15 @@
 ghost use Rattle.std.specs.Prelude.{◌≡◌, None, IfOk};
 ghost use Rattle.fv_tree.specs.View.{expression_of, reference_of, statement_of as tree_statement_of, block_of};
 ghost use Rattle.fv_tree.specs.Plain as plain;
-ghost use Rattle.fv_meaning.specs.program.Tree as tree;
+ghost use Rattle.f77_grammar.specs.program.Tree as tree;
 ghost use Rattle.f77_constants.specs.Constants.{store_of};
 ghost use Rattle.f77_names.specs.UsesView.{listed};
 ghost use Rattle.f77_tree.specs.Resolved.{made};
-ghost use Rattle.statements77.specs.Views.{statement_of};
+ghost use Rattle.f77_syntax.specs.Views.{statement_of};
 
 use crate::resolver::Resolver;
 use fv_tree::{Arm, Block, Expr, Memory, Ref, Seq, Stmt};
-use statements77::Stmt77;
+use f77_syntax::Stmt77;
 use std::alloc::Global;
 
 #[tactic(auto, using(crate::proofs::SimpleLaws::block_laws))]

@@ -5,12 +5,12 @@ ghost use Rattle.std.specs.List.{list_any};
 ghost use Rattle.std.specs.Option.{option_to_list};
 ghost use Rattle.std.specs.Ordering.{nat_cmp};
 ghost use Rattle.fv_tree.specs.View.{statement_of as tree_statement_of};
-ghost use Rattle.fv_meaning.specs.program.Tree as tree;
-ghost use Rattle.fv_meaning.specs.program.Text.{action};
-ghost use Rattle.statements77.specs.Views.{statement_of, text_of};
+ghost use Rattle.f77_grammar.specs.program.Tree as tree;
+ghost use Rattle.f77_grammar.specs.program.Text.{action};
+ghost use Rattle.f77_syntax.specs.Views.{statement_of, text_of};
 
 use fv_tree::{Memory, Stmt};
-use statements77::{Labelled, Stmt77};
+use f77_syntax::{Labelled, Stmt77};
 use std::alloc::Global;
 use std::collections::BTreeSet;
 

@@ -16,14 +16,14 @@ use Rattle.fv_tree.specs.declared.stmts.Stmt as stmt
 use Rattle.fv_tree.specs.declared.stmts.Block.{roll-Block}
 use Rattle.fv_tree.specs.Plain.{block}
 use Rattle.fv_tree.specs.View.{statement_of, block_of}
-use Rattle.fv_meaning.specs.ThinGrammar.{Form}
+use Rattle.first_path_grammar.specs.ThinGrammar.{Form}
 use Rattle.fv_tree.specs.declared.refusals.Refused.{Refused}
 use Rattle.fv_tree.specs.declared.refusals.Refused.TheVariants as refused
 use Rattle.fv_meaning.specs.Deck.{lines_of}
-use Rattle.fv_meaning.specs.Reading77.{IsInByteOrder, IsWithinLimits, RefusedThin, refusal}
-use Rattle.fv_meaning.specs.ThinReader.{Progress as PlainProgress, with_form, checked, formed, with_line, form_of, read_lines, nothing_read}
-use Rattle.fv_meaning.proofs.ThinLines.{end_line}
-use Rattle.fv_meaning.proofs.ThinLaws.{refused_unended, refused_unbuilt}
+use Rattle.first_path_grammar.specs.Reading77.{IsInByteOrder, IsWithinLimits, RefusedThin, refusal}
+use Rattle.first_path_grammar.specs.ThinReader.{Progress as PlainProgress, with_form, checked, formed, with_line, form_of, read_lines, nothing_read}
+use Rattle.first_path_grammar.proofs.ThinLines.{end_line}
+use Rattle.first_path_grammar.proofs.ThinLaws.{refused_unended, refused_unbuilt}
 use Rattle.first_path.specs.declared.reader.Unread.{Unread}
 use Rattle.first_path.specs.declared.reader.Unread.TheVariants as unread
 use Rattle.first_path.specs.Progress.{IsRefusedAs, StopsAt, refused_for}

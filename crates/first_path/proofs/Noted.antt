@@ -13,7 +13,7 @@ use Rattle.fv_tree.specs.declared.stmts.Mark.{Mark}
 use Rattle.fv_tree.specs.Plain.{Expression, Binary, Reference, Item, items, Statement}
 use Rattle.fv_tree.specs.View.{expression_of, item_of, statement_of}
 use Rattle.fv_tree.proofs.Equations.{expression_of-item, reference_of-is, statement_of-assign}
-use Rattle.fv_meaning.specs.Reading77.{with_name, expression_names, item_names, items_names, statement_names}
+use Rattle.first_path_grammar.specs.Reading77.{with_name, expression_names, item_names, items_names, statement_names}
 
 -- what has no names
 pub nothing_noted : (ns : List (List ℕ)) (e : Expr) (p : Expression) → expression_of e ≡ p → expression_names p ≡ [] → ns ≡ fold with_name ns (expression_names (expression_of e))

@@ -15,9 +15,9 @@ use Rattle.fv_tree.specs.View.{expression_of, reference_of}
 use Rattle.std.proofs.lemmas.Str.Parse.{numerals_by_value, tells_digits, parse_digits}
 use Rattle.fv_tree.specs.Names.{IsName}
 use Rattle.fv_tree.specs.Plain.{Named, no_subscripts}
-use Rattle.fv_meaning.specs.ThinReader.{is_capital, is_decimal, begins_integer, is_integer_name, is_numeral, literal_of}
-use Rattle.fv_meaning.proofs.ThinTests.{integer_name, numeral, decimal_from_value}
-use Rattle.fv_meaning.proofs.ThinReads.{a_name}
+use Rattle.first_path_grammar.specs.ThinReader.{is_capital, is_decimal, begins_integer, is_integer_name, is_numeral, literal_of}
+use Rattle.first_path_grammar.proofs.ThinTests.{integer_name, numeral, decimal_from_value}
+use Rattle.first_path_grammar.proofs.ThinReads.{a_name}
 
 pub numeral_by : (text : List ℕ) → (length text == 0) ≡ false → list_all is_decimal text ≡ is_numeral text
 numeral_by [] e = absurd (cc)

@@ -8,7 +8,7 @@ use Rattle.fv_tree.specs.declared.stmts.Block.{out-Block}
 use Rattle.fv_tree.specs.Plain.{Item, items, Statement, Block, block, Declaration}
 use Rattle.fv_tree.specs.View.{statement_of, declaration_of, program_of}
 use Rattle.fv_tree.proofs.Equations.{block_of-is}
-use Rattle.fv_meaning.specs.Printing90.{item_text, items_text, lines_of_block, declaration_line, with_line_feed, printed90}
+use Rattle.first_path_grammar.specs.Printing90.{item_text, items_text, lines_of_block, declaration_line, with_line_feed, printed90}
 use Rattle.first_path.specs.Forms.{further_item, statement_line, declared_line}
 
 -- what has no text

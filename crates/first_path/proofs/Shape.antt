@@ -6,9 +6,9 @@ use Rattle.std.proofs.Math.Seq.{take-length}
 use Rattle.fv_tree.specs.declared.ops.Kind.TheVariants.{Integer}
 use Rattle.fv_tree.specs.Plain.{Statement, Assignment, If, Do, Label, GoTo, Stop, Read, Print, block, Declaration, Given, Program, Items, no_items, item, Single, Constant, ImpliedDo, Expression, Number, Logic, Named, Unary, Binary, Apply}
 use Rattle.fv_meaning.specs.Deck.{lines_of}
-use Rattle.fv_meaning.specs.ThinGrammar.{SpellsSum, SpellsItems, SpellsStatement, spacing77, statement_text, HaveForms}
-use Rattle.fv_meaning.specs.ThinGrammar.Form.{End, Is}
-use Rattle.fv_meaning.specs.Reading77.{ReadsThin, integer_scalar}
+use Rattle.first_path_grammar.specs.ThinGrammar.{SpellsSum, SpellsItems, SpellsStatement, spacing77, statement_text, HaveForms}
+use Rattle.first_path_grammar.specs.ThinGrammar.Form.{End, Is}
+use Rattle.first_path_grammar.specs.Reading77.{ReadsThin, integer_scalar}
 use Rattle.first_path.specs.Shape.{IsThinExpression, AreThinItems, IsThinStatement, IsThinBlock, IsThinProgram}
 
 thin_sum : (text : List ℕ) (e : Expression) → SpellsSum (codes "+") text e → IsThinExpression e

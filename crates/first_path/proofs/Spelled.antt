@@ -13,10 +13,10 @@ use Rattle.fv_tree.specs.declared.stmts.Stmt.TheVariants as stmts
 use Rattle.fv_tree.specs.Plain.{Expression, Reference, no_subscripts, Single, items, Statement, Assignment, Print}
 use Rattle.fv_tree.specs.View.{expression_of, reference_of, item_of, statement_of}
 use Rattle.fv_tree.proofs.Equations.{item_of-one, statement_of-assign, statement_of-print}
-use Rattle.fv_meaning.specs.ThinGrammar.{statement_text}
-use Rattle.fv_meaning.specs.ThinGrammar.Form.{End, Is}
-use Rattle.fv_meaning.specs.ThinReader.{◌>>=◌, pieces, items_of, expression_at, print_at, is_integer_name, assigned_at, assignment_at, sides_of, is_print, statement_at, as_form, form_at, is_card, form_of}
-use Rattle.fv_meaning.proofs.ThinFound.{pieces_some, pieces_none, pieces-rejoined, rejoined, expression-found, sum_lacks}
+use Rattle.first_path_grammar.specs.ThinGrammar.{statement_text}
+use Rattle.first_path_grammar.specs.ThinGrammar.Form.{End, Is}
+use Rattle.first_path_grammar.specs.ThinReader.{◌>>=◌, pieces, items_of, expression_at, print_at, is_integer_name, assigned_at, assignment_at, sides_of, is_print, statement_at, as_form, form_at, is_card, form_of}
+use Rattle.first_path_grammar.proofs.ThinFound.{pieces_some, pieces_none, pieces-rejoined, rejoined, expression-found, sum_lacks}
 
 -- ---- answers
 

@@ -2,7 +2,7 @@
 use Rattle.std.proofs.Common.{◌≡◌, ℕ, List, [], ◌∷◌, ◌++◌, refl, ap, sym, ◌∙◌, Option, None, Some}
 use Rattle.fv_tree.specs.declared.ops.Op.TheVariants.{Add}
 use Rattle.fv_tree.specs.Plain.{Expression, Binary, Item, Items, item, items, Single, no_items}
-use Rattle.fv_meaning.specs.ThinReader.{◌>>=◌, operand_of, pieces, sum_of, sum_after, expression_at, items_of}
+use Rattle.first_path_grammar.specs.ThinReader.{◌>>=◌, operand_of, pieces, sum_of, sum_after, expression_at, items_of}
 
 -- the first operand isn't one
 pub none_at : (text t : List ℕ) (ts : List (List ℕ)) → pieces 43 text ≡ t ∷ ts → None ≡ operand_of t → None ≡ expression_at text

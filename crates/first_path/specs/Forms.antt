@@ -3,11 +3,11 @@ use Rattle.std.specs.Prelude.{ℕ, List, None, ◌++◌, codes}
 use Rattle.fv_tree.specs.View.{statement_of}
 use Rattle.fv_tree.specs.Plain.{Expression, no_subscripts, Item, Statement, Assignment}
 use Rattle.fv_tree.specs.declared.programs.Decl.{Decl}
-use Rattle.fv_meaning.specs.Printing90.{item_text, line_of, declaration_line, with_line_feed}
+use Rattle.first_path_grammar.specs.Printing90.{item_text, line_of, declaration_line, with_line_feed}
 use Rattle.first_path.specs.declared.statements.Form.{Form}
 use Rattle.first_path.specs.declared.statements.Form.TheVariants as form
-use Rattle.fv_meaning.specs.ThinGrammar.{Form as PlainForm}
-use Rattle.fv_meaning.specs.ThinGrammar.Form.{End, Is}
+use Rattle.first_path_grammar.specs.ThinGrammar.{Form as PlainForm}
+use Rattle.first_path_grammar.specs.ThinGrammar.Form.{End, Is}
 
 abbrev pub form_seen : Form → PlainForm
 form_seen form.End = End

@@ -4,8 +4,8 @@ use Rattle.fv_tree.specs.declared.refusals.Refused.{Refused}
 use Rattle.fv_tree.specs.declared.refusals.Refused.TheVariants as refused
 use Rattle.fv_tree.specs.View.{statement_of}
 use Rattle.fv_tree.specs.Plain.{Program, block}
-use Rattle.fv_meaning.specs.Reading77.{IsInByteOrder, has_name, integer_scalar, refusal, RefusedThin}
-use Rattle.fv_meaning.specs.ThinReader.{Progress as PlainProgress}
+use Rattle.first_path_grammar.specs.Reading77.{IsInByteOrder, has_name, integer_scalar, refusal, RefusedThin}
+use Rattle.first_path_grammar.specs.ThinReader.{Progress as PlainProgress}
 use Rattle.first_path.specs.declared.reader.Progress.{Progress}
 use Rattle.first_path.specs.declared.reader.Unread.{Unread}
 use Rattle.first_path.specs.declared.reader.Unread.TheVariants as unread

@@ -2,7 +2,7 @@
 ghost use Rattle.std.specs.Prelude.{◌≡◌, ◌++◌, ◌∷◌, [], codes, flat_map, map, IfOk, OnOk};
 ghost use Rattle.fv_tree.specs.Plain.{items};
 ghost use Rattle.fv_tree.specs.View.{expression_of, item_of, statement_of, program_of};
-ghost use Rattle.fv_meaning.specs.Printing90.{expression_text, item_text, items_text, line_of, printed90};
+ghost use Rattle.first_path_grammar.specs.Printing90.{expression_text, item_text, items_text, line_of, printed90};
 ghost use Rattle.first_path.specs.Forms.{further_item, statement_line, declared_line};
 ghost use Rattle.first_path.specs.Shape.{IsThinProgram};
 

@@ -4,7 +4,7 @@ use Rattle.std.specs.Prelude.{replicate, min}
 use Rattle.std.proofs.lemmas.Bool.{cases_lt}
 use Rattle.std.proofs.lemmas.List.{take_all, take-append-le, drop-replicate, take-replicate, append-nil}
 use Rattle.std.proofs.Math.Seq.{take-append-add}
-use Rattle.fv_meaning.specs.Cards.{columns_of}
+use Rattle.f77_grammar.specs.Cards.{columns_of}
 
 columns_of-short : (line : List ℕ) → length line ≤ 72 → columns_of line ≡ line ++ replicate (72 - length line) 32
 unfolding columns_of

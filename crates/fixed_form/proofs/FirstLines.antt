@@ -7,7 +7,7 @@ use Rattle.std.proofs.lemmas.Bool.{eqb-true, ltb-false, not-true}
 use Rattle.std.proofs.lemmas.List.{take-append-drop, drop_more, get_or-take, length-take-le}
 use Rattle.std.proofs.lemmas.List.Quantifiers.{position-Some}
 use Rattle.std.proofs.lemmas.List.Sums.{prefix_len_passes}
-use Rattle.fv_meaning.proofs.FirstLine.{is_feed, LacksFeed, lines-feed, lines-last, lines-none}
+use Rattle.f77_grammar.proofs.FirstLine.{is_feed, LacksFeed, lines-feed, lines-last, lines-none}
 
 LacksFeed-before : (text : List ℕ) (i : ℕ) → position is_feed text ≡ Some i → LacksFeed (take i text)
 LacksFeed-before text i e = λ k d h.

@@ -3,8 +3,8 @@ use Rattle.std.proofs.Common.{arith, ◌≡◌, ℕ, suc, ◌+◌, ◌≤◌, Li
 use Rattle.std.specs.Prelude.{not, filter}
 use Rattle.std.proofs.lemmas.Bool.{cond-true, cond-false, not_from_true, not_from_false}
 use Rattle.std.specs.Str.Lines.{lines}
-use Rattle.fv_meaning.specs.Cards.{Line, columns_of, is_comment, numbered, statement_lines_from}
-use Rattle.fv_meaning.proofs.FirstLine.{lines-none, lines-le}
+use Rattle.f77_grammar.specs.Cards.{Line, columns_of, is_comment, numbered, statement_lines_from}
+use Rattle.f77_grammar.proofs.FirstLine.{lines-none, lines-le}
 
 abbrev is_kept : Line → Bool
 is_kept line = not (is_comment line.columns)

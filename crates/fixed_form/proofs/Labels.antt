@@ -9,7 +9,7 @@ use Rattle.std.proofs.Math.Nat.{pow-suc}
 use Rattle.std.proofs.lemmas.List.Elements.{filter-append}
 use Rattle.std.proofs.lemmas.Int.Digits.{digits_value_push}
 use Rattle.std.proofs.lemmas.Str.{digit_value_digit}
-use Rattle.fv_meaning.specs.Cards.{number_in, label_in}
+use Rattle.f77_grammar.specs.Cards.{number_in, label_in}
 
 number_in-or : (digits : List ℕ) → unwrap_or (number_in digits) 0 ≡ digits_value 10 digits
 number_in-or [] = refl

@@ -4,8 +4,8 @@ use Rattle.std.specs.Prelude.{IfNone, map}
 use Rattle.std.specs.List.{flat_map}
 use Rattle.std.proofs.lemmas.List.{append-nil, append_assoc}
 use Rattle.std.proofs.lemmas.Bool.{cases_Bool, not_from_false}
-use Rattle.fv_meaning.specs.Cards.{Line, StatementLines, PlainCard, is_initial, statement_field, label_field, label_in, card_in}
-use Rattle.fv_meaning.proofs.Grouping.{leading, grouped, grouped-initial, leading-continuation}
+use Rattle.f77_grammar.specs.Cards.{Line, StatementLines, PlainCard, is_initial, statement_field, label_field, label_in, card_in}
+use Rattle.f77_grammar.proofs.Grouping.{leading, grouped, grouped-initial, leading-continuation}
 
 pub when_none : {X : Type 0} (o : Option X) (P : Type 0) → ((x : X) → o ≡ Some x → ⊥) → IfNone o P → P
 when_none None P n h = h

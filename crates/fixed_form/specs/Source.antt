@@ -2,8 +2,8 @@
 use Rattle.fixed_form.specs.declared.source.Line.{Line as SourceLine}
 use Rattle.fixed_form.specs.declared.refusals.Cause.{Cause as SourceCause}
 use Rattle.fixed_form.specs.declared.refusals.Cause.TheVariants as source
-use Rattle.fv_meaning.specs.Cards.{Line, Cause}
-use Rattle.fv_meaning.specs.Cards.Cause.{BadByte, Tab, LineForm, ManyLines}
+use Rattle.f77_grammar.specs.Cards.{Line, Cause}
+use Rattle.f77_grammar.specs.Cards.Cause.{BadByte, Tab, LineForm, ManyLines}
 
 abbrev pub line_of : SourceLine → Line
 line_of l = record { number = l.number; columns = l.columns }

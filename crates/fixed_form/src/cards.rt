@@ -1,9 +1,9 @@
 //! The statements of a source.
 ghost use Rattle.std.specs.Prelude.{◌≡◌, ◌⊎◌, ◌≤◌, List, [], length, map, None, IfOk, IsOkAnd, OnOk};
 ghost use Rattle.fv_tree.specs.declared.refusals.Refusal.{Refusal};
-ghost use Rattle.fv_meaning.specs.Cards.{PlainCard, ReadsCards, RefusedCards, card_in, label_in, statement_lines};
-ghost use Rattle.fv_meaning.proofs.Grouping.{leading, grouped};
-ghost use Rattle.fv_meaning.proofs.CardCauses.{refusal_of};
+ghost use Rattle.f77_grammar.specs.Cards.{PlainCard, ReadsCards, RefusedCards, card_in, label_in, statement_lines};
+ghost use Rattle.f77_grammar.proofs.Grouping.{leading, grouped};
+ghost use Rattle.f77_grammar.proofs.CardCauses.{refusal_of};
 ghost use Rattle.fixed_form.specs.Card.{card_of};
 ghost use Rattle.fixed_form.specs.Left.{lines_left};
 ghost use Rattle.fixed_form.specs.Source.{line_of};

@@ -1,9 +1,9 @@
 //! Why the lines of a source are refused.
 ghost use Rattle.std.specs.Prelude.{◌≡◌, ◌+◌, ◌^◌, ◌<◌, ◌≤◌, length, unwrap_or, None};
 ghost use Rattle.std.specs.List.{list_any, list_all};
-ghost use Rattle.fv_meaning.specs.Cards.Cause.{LineForm};
-ghost use Rattle.fv_meaning.specs.Cards.{statement_lines, is_bad_byte, is_tab, is_label_character};
-ghost use Rattle.fv_meaning.proofs.CardCauses.{after_line, is_wrong, first_wrong, refusal_of};
+ghost use Rattle.f77_grammar.specs.Cards.Cause.{LineForm};
+ghost use Rattle.f77_grammar.specs.Cards.{statement_lines, is_bad_byte, is_tab, is_label_character};
+ghost use Rattle.f77_grammar.proofs.CardCauses.{after_line, is_wrong, first_wrong, refusal_of};
 ghost use Rattle.fixed_form.specs.Source.{line_of, cause_of};
 
 use crate::source::{BLANK, Line, Lines, is_blank};
@@ -29,14 +29,14 @@ const CAUSES: [Cause; 4] = [
     Cause::ManyLines,
 ];
 
-#[tactic(auto, unfolding(fv_meaning::specs::Cards::is_bad_byte))]
+#[tactic(auto, unfolding(f77_grammar::specs::Cards::is_bad_byte))]
 fn is_bad_byte(byte: u8) -> bool
     ensures { result ≡ is_bad_byte byte }
 {
     !matches!(byte, b'\t' | b' '..=b'~')
 }
 
-#[tactic(auto, unfolding(fv_meaning::specs::Cards::is_label_character))]
+#[tactic(auto, unfolding(f77_grammar::specs::Cards::is_label_character))]
 fn is_label_character(byte: u8) -> bool
     ensures { result ≡ is_label_character byte }
 {
@@ -110,7 +110,7 @@ fn first_wrong(cause: Cause, text: &[u8]) -> Option<u32>
 }
 
 /// The refusal of a source, if it is refused: the least number, then the first line.
-#[tactic(auto, unfolding(fv_meaning::proofs::CardCauses::refusal_of))]
+#[tactic(auto, unfolding(f77_grammar::proofs::CardCauses::refusal_of))]
 pub(crate) fn refusal(text: &[u8]) -> Option<Refusal>
     ensures { result ≡ refusal_of text.now }
 {

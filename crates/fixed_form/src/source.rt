@@ -2,10 +2,10 @@
 ghost use Rattle.std.specs.Prelude.{◌≡◌, ◌+◌, ◌^◌, ◌<◌, ◌≤◌, [], ◌∷◌, length, position, IsTrue, IfSome, IfNone};
 ghost use Rattle.std.specs.List.{list_all};
 ghost use Rattle.std.specs.Str.Lines.{lines, strip_carriage_return};
-ghost use Rattle.fv_meaning.specs.Cards.{columns_of, is_blank, is_comment, is_initial, is_continuation, label_field, statement_field, statement_lines};
-ghost use Rattle.fv_meaning.proofs.Grouping.{leading};
+ghost use Rattle.f77_grammar.specs.Cards.{columns_of, is_blank, is_comment, is_initial, is_continuation, label_field, statement_field, statement_lines};
+ghost use Rattle.f77_grammar.proofs.Grouping.{leading};
 ghost use Rattle.fixed_form.specs.Source.{line_of};
-ghost use Rattle.fv_meaning.proofs.FirstLine.{is_feed};
+ghost use Rattle.f77_grammar.proofs.FirstLine.{is_feed};
 
 /// How many columns of a line count.
 const COLUMNS: usize = 72;
@@ -21,7 +21,7 @@ pub(crate) struct Line {
 
 impl Line {
     /// Whether a statement begins here: column 6 is a blank or a 0.
-    #[tactic(auto, unfolding(fv_meaning::specs::Cards::is_initial))]
+    #[tactic(auto, unfolding(f77_grammar::specs::Cards::is_initial))]
     pub fn is_initial(&self) -> bool
         ensures { result ≡ is_initial (line_of self.now) }
     {
@@ -115,7 +115,7 @@ pub(crate) fn is_blank(columns: &[u8]) -> bool
 }
 
 /// Whether these columns are those of a comment line: C, c or * stands in column 1, or all are blank.
-#[tactic(auto, unfolding(fv_meaning::specs::Cards::is_comment))]
+#[tactic(auto, unfolding(f77_grammar::specs::Cards::is_comment))]
 fn is_comment(columns: &[u8; COLUMNS]) -> bool
     ensures { result ≡ is_comment columns.now }
 {

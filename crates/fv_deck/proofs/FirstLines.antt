@@ -8,8 +8,8 @@ use Rattle.std.proofs.lemmas.Slice.Eq.{bytes_eq-Decides}
 use Rattle.fv_meaning.specs.Deck.{lines_of, whole_lines, is_line, data_line77}
 use Rattle.std.specs.List.{AllByRecursion}
 use Rattle.std.proofs.lemmas.List.{append_cancel_right, drop_more, drop_all, take-append-drop}
-use Rattle.fv_meaning.proofs.ThinFound.{Lacks, pieces_some, pieces_none, pieces_first}
-use Rattle.fv_meaning.proofs.ThinText.{ended, whole-ended, whole_first}
+use Rattle.first_path_grammar.proofs.ThinFound.{Lacks, pieces_some, pieces_none, pieces_first}
+use Rattle.first_path_grammar.proofs.ThinText.{ended, whole-ended, whole_first}
 use Rattle.fv_deck.specs.FirstLine.{IsFirstLine}
 
 -- ---- what is a data line

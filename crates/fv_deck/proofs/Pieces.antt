@@ -5,8 +5,8 @@ use Rattle.std.specs.List.{position_or_len, AllByRecursion}
 use Rattle.std.proofs.lemmas.Bool.{ltb-true, ltb-false, eqb-true, eqb-false}
 use Rattle.std.proofs.lemmas.List.Sums.{split_at_first, fails_before_first, passes_at_first}
 use Rattle.std.proofs.lemmas.List.{take_rest, get_or-take, length-take-le}
-use Rattle.fv_meaning.specs.ThinReader.{pieces}
-use Rattle.fv_meaning.proofs.ThinFound.{Lacks, pieces_none, pieces_first}
+use Rattle.first_path_grammar.specs.ThinReader.{pieces}
+use Rattle.first_path_grammar.proofs.ThinFound.{Lacks, pieces_none, pieces_first}
 
 some_inj : {A : Type 0} (x y : A) → ◌≡◌ {A = Option A} (Some x) (Some y) → x ≡ y
 some_inj x y e = cc

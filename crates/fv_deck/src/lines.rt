@@ -5,7 +5,7 @@ ghost use Rattle.std.specs.Option.{option_copied};
 ghost use Rattle.std.specs.Str.{bytes_eq};
 ghost use Rattle.std.specs.Str.Lines.{strip_carriage_return};
 ghost use Rattle.fv_meaning.specs.Deck.{source_of, input_of, data_line77};
-ghost use Rattle.fv_meaning.specs.ThinReader.{pieces, pieces_after};
+ghost use Rattle.first_path_grammar.specs.ThinReader.{pieces, pieces_after};
 ghost use Rattle.fv_deck.specs.FirstLine.{IsFirstLine, joined_at};
 
 // The place of the first such byte.

@@ -1,6 +1,5 @@
 pub mod Agreeing
 pub mod Arriving
-pub mod ByteOrder
 pub mod CellFrame
 pub mod Columns
 pub mod DeckWords
@@ -11,20 +10,5 @@ pub mod Kept
 pub mod Limit
 pub mod Numerals
 pub mod Relines
-pub mod ThinBack
-pub mod programs
-pub mod ThinForms
-pub mod ThinFound
-pub mod ThinLaws
-pub mod ThinLines
-pub mod ThinReads
-pub mod ThinTests
-pub mod ThinText
 pub mod ValueDecks
 pub mod WorkedDecks
-pub mod CardCauses
-pub mod CardLaws
-pub mod FirstLine
-pub mod Grouping
-mod WorkedCards
-pub mod expressions

@@ -1,19 +1,13 @@
-//! What decks and programs mean: cards, statements, stores, values and runs, in FORTRAN 77 and in Fortran 90.
+//! What decks and programs mean: stores, values and runs, in FORTRAN 77 and in Fortran 90; which trees are programs of the two profiles.
 #![tactic(auto)]
 
-mod cards;
-mod decks;
 mod laws;
-mod program;
 
-pub use cards::source_is_read_or_refused;
-pub use decks::decks_are_read_or_refused;
 use fv_tree::Fault;
 pub use laws::{
     cells_of_a_name, cut_run, exchanged_assignments, kept_agreement, numbers_in_range,
     numbers_in_texts, relined_run, run_ends, value_from_cells,
 };
-pub use program::text_is_read_or_refused;
 
 /// How a run ended: at END or STOP; by a fault, at a line; at the limit of steps; or because its output couldn't be written.
 #[derive(Clone, Copy, Debug, PartialEq, Eq)]

@@ -6,11 +6,11 @@ use Rattle.fv_meaning.specs.Deck.{input_of, data_line77}
 use Rattle.fv_meaning.specs.Sequential.{integer_bits, sequential_run}
 use Rattle.fv_meaning.specs.Array.{array_run}
 use Rattle.fv_meaning.specs.Relined.{SameButLines, AlikeButLine}
-use Rattle.fv_meaning.specs.Reading77.{ReadsThin}
-use Rattle.fv_meaning.specs.Reading90.{Reads90}
-use Rattle.fv_meaning.specs.Printing90.{printed90}
+use Rattle.first_path_grammar.specs.Reading77.{ReadsThin}
+use Rattle.first_path_grammar.specs.Reading90.{Reads90}
+use Rattle.first_path_grammar.specs.Printing90.{printed90}
 use Rattle.fv_meaning.proofs.Relines.{relined, relined_ends_well}
-use Rattle.fv_meaning.proofs.ThinReads.{translated, same_but_lines, source_back, input_back, reads_back, input_none_there}
+use Rattle.first_path_grammar.proofs.ThinReads.{translated, same_but_lines, source_back, input_back, reads_back, input_none_there}
 use Rattle.fv_tool.specs.Headline.{Preserves, TranslationHolds}
 
 preserved : (p q : Program) (input : List ℕ) → SameButLines p q → Preserves p q input

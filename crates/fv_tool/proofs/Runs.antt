@@ -15,7 +15,7 @@ use Rattle.run77.specs.declared.moment.Moment.{Moment}
 use Rattle.run77.specs.Acts.{HasFront}
 use Rattle.run77.specs.Machine.{EndsWith}
 use Rattle.run77.specs.Stored.{store_in}
-use Rattle.fv_words.specs.declared.commands.Options.{Options}
+use Rattle.fv_command.specs.declared.commands.Options.{Options}
 use Rattle.fv_tool.specs.Running.{run_text, final_part}
 use Rattle.fv_tool.specs.Works.{Writing, GaveAll, GaveFront}
 

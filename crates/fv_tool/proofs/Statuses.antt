@@ -2,9 +2,9 @@
 use Rattle.std.proofs.Common.{◌≡◌, ℕ, [], ◌∷◌, refl, arith, inl, inr}
 use Rattle.fv_tree.specs.declared.ops.Fault.{Fault}
 use Rattle.fv_tree.specs.declared.refusals.Refusal.{Refusal}
-use Rattle.fv_notes.specs.declared.outcome.Outcome.{Outcome}
-use Rattle.fv_notes.specs.declared.outcome.Outcome.TheVariants.{Done, Usage, Refused, Faulted, StepLimit, ReadFault, WriteFault, OutOfMemory}
-use Rattle.fv_notes.specs.Notes.{status_of}
+use Rattle.fv_report.specs.declared.outcome.Outcome.{Outcome}
+use Rattle.fv_report.specs.declared.outcome.Outcome.TheVariants.{Done, Usage, Refused, Faulted, StepLimit, ReadFault, WriteFault, OutOfMemory}
+use Rattle.fv_report.specs.Notes.{status_of}
 use Rattle.fv_tool.specs.Answers.{IsOneOf}
 
 pub is_done : (o : Outcome) (s : ℕ) → s ≡ status_of o → s ≡ 0 → o ≡ Done

@@ -12,13 +12,13 @@ use Rattle.fv_meaning.specs.Deck.{input_of, data_line77}
 use Rattle.fv_meaning.specs.Sequential.{ending}
 use Rattle.fv_meaning.specs.declared.End.{End}
 use Rattle.fv_meaning.specs.declared.End.TheVariants as end
-use Rattle.fv_words.specs.Command.{texts, command_of}
-use Rattle.fv_words.specs.declared.commands.Options.{Options}
-use Rattle.fv_words.specs.declared.commands.Command.{Command}
-use Rattle.fv_words.specs.declared.commands.Command.TheVariants.{Vectorise, Run77}
-use Rattle.fv_notes.specs.declared.outcome.Outcome.{Outcome}
-use Rattle.fv_notes.specs.declared.outcome.Outcome.TheVariants.{Done, Usage, Refused, Faulted, StepLimit, ReadFault, WriteFault, OutOfMemory}
-use Rattle.fv_notes.specs.Notes.{status_of, note_of}
+use Rattle.fv_command.specs.Command.{texts, command_of}
+use Rattle.fv_command.specs.declared.commands.Options.{Options}
+use Rattle.fv_command.specs.declared.commands.Command.{Command}
+use Rattle.fv_command.specs.declared.commands.Command.TheVariants.{Vectorise, Run77}
+use Rattle.fv_report.specs.declared.outcome.Outcome.{Outcome}
+use Rattle.fv_report.specs.declared.outcome.Outcome.TheVariants.{Done, Usage, Refused, Faulted, StepLimit, ReadFault, WriteFault, OutOfMemory}
+use Rattle.fv_report.specs.Notes.{status_of, note_of}
 use Rattle.fv_tool.specs.Answers.{IsOneOf, IsTrueOf, NoteFor, HasFault}
 use Rattle.fv_tool.specs.Decks.{Reads, IsRefused, ReadsDeck77}
 use Rattle.fv_tool.specs.Endings.{Call, Ends, Ended, EndsAt, IsRun, IsReadOrPassed, IsReadFor, IsRefusedFor, GivesAll, GivesFront, ending_of}

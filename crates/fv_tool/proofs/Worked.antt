@@ -8,12 +8,12 @@ use Rattle.fv_io.specs.Streams.{Takes, TakesMoreThan}
 use Rattle.fv_io.proofs.Told.{takes_all, had_more_than}
 use Rattle.fv_meaning.specs.declared.End.{End}
 use Rattle.fv_meaning.specs.declared.End.TheVariants as end
-use Rattle.fv_meaning.specs.Reading77.{refusal}
-use Rattle.fv_meaning.specs.Reading77.RefusedThin.{TooLong as thin_too_long}
-use Rattle.fv_words.specs.declared.commands.Command.{Command}
-use Rattle.fv_words.specs.declared.commands.Command.TheVariants.{Vectorise, Run77}
-use Rattle.fv_notes.specs.declared.outcome.Outcome.{Outcome}
-use Rattle.fv_notes.specs.declared.outcome.Outcome.TheVariants.{Done, Usage, Refused, Faulted, StepLimit, ReadFault, WriteFault, OutOfMemory}
+use Rattle.first_path_grammar.specs.Reading77.{refusal}
+use Rattle.first_path_grammar.specs.Reading77.RefusedThin.{TooLong as thin_too_long}
+use Rattle.fv_command.specs.declared.commands.Command.{Command}
+use Rattle.fv_command.specs.declared.commands.Command.TheVariants.{Vectorise, Run77}
+use Rattle.fv_report.specs.declared.outcome.Outcome.{Outcome}
+use Rattle.fv_report.specs.declared.outcome.Outcome.TheVariants.{Done, Usage, Refused, Faulted, StepLimit, ReadFault, WriteFault, OutOfMemory}
 use Rattle.fv_tool.specs.Decks.{Reads, IsRefused}
 use Rattle.fv_tool.specs.Decks.RefusedDeck77.{TooLong as deck_too_long}
 use Rattle.fv_tool.specs.Endings.{Ends, IsRun, IsReadFor, IsRefusedFor, GivesAll, GivesFront, ending_of}

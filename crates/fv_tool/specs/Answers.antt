@@ -4,11 +4,11 @@ use Rattle.fv_tree.specs.declared.ops.Fault.{Fault as Kind}
 use Rattle.fv_tree.specs.Plain.{Program}
 use Rattle.fv_meaning.specs.Sequential.{ending}
 use Rattle.fv_meaning.specs.declared.End.TheVariants.{Fault}
-use Rattle.fv_words.specs.declared.commands.Command.{Command}
-use Rattle.fv_words.specs.declared.commands.Command.TheVariants.{Vectorise, Run77}
-use Rattle.fv_notes.specs.declared.outcome.Outcome.{Outcome}
-use Rattle.fv_notes.specs.declared.outcome.Outcome.TheVariants.{Refused, Faulted}
-use Rattle.fv_notes.specs.Notes.{status_of, note_of}
+use Rattle.fv_command.specs.declared.commands.Command.{Command}
+use Rattle.fv_command.specs.declared.commands.Command.TheVariants.{Vectorise, Run77}
+use Rattle.fv_report.specs.declared.outcome.Outcome.{Outcome}
+use Rattle.fv_report.specs.declared.outcome.Outcome.TheVariants.{Refused, Faulted}
+use Rattle.fv_report.specs.Notes.{status_of, note_of}
 use Rattle.fv_tool.specs.Decks.{IsRefused, ReadsDeck77}
 use Rattle.fv_tool.specs.Running.{run_of}
 

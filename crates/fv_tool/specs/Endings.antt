@@ -3,16 +3,16 @@ use Rattle.std.specs.Prelude.{ℕ, ◌^◌, ◌≡◌, ◌⊎◌, List, Option, 
 use Rattle.std.specs.Io.KnownBytes.{IsAtEnd}
 use Rattle.fv_tree.specs.declared.refusals.Refusal.{Refusal}
 use Rattle.fv_tree.specs.Plain.{Program}
-use Rattle.fv_meaning.specs.Printing90.{printed90}
+use Rattle.first_path_grammar.specs.Printing90.{printed90}
 use Rattle.fv_meaning.specs.Sequential.{ending}
 use Rattle.fv_meaning.specs.declared.End.{End}
 use Rattle.fv_meaning.specs.declared.End.TheVariants as end
 use Rattle.fv_io.specs.Causes.{Rose}
 use Rattle.fv_io.specs.Streams.{TakesMoreThan, Gives, GivesPart}
-use Rattle.fv_words.specs.declared.commands.Command.{Command}
-use Rattle.fv_words.specs.declared.commands.Command.TheVariants.{Vectorise, Run77}
-use Rattle.fv_notes.specs.declared.outcome.Outcome.{Outcome}
-use Rattle.fv_notes.specs.declared.outcome.Outcome.TheVariants.{Done, Usage, Refused, Faulted, StepLimit, ReadFault, WriteFault, OutOfMemory}
+use Rattle.fv_command.specs.declared.commands.Command.{Command}
+use Rattle.fv_command.specs.declared.commands.Command.TheVariants.{Vectorise, Run77}
+use Rattle.fv_report.specs.declared.outcome.Outcome.{Outcome}
+use Rattle.fv_report.specs.declared.outcome.Outcome.TheVariants.{Done, Usage, Refused, Faulted, StepLimit, ReadFault, WriteFault, OutOfMemory}
 use Rattle.fv_tool.specs.Decks.{Reads, IsRefused}
 use Rattle.fv_tool.specs.Running.{run_of, run_text}
 

@@ -5,9 +5,9 @@ use Rattle.fv_meaning.specs.Deck.{source_of, input_of, data_line77, data_line90}
 use Rattle.fv_meaning.specs.Store.{Agree}
 use Rattle.fv_meaning.specs.Sequential.{sequential_run, EndsWell}
 use Rattle.fv_meaning.specs.Array.{array_run}
-use Rattle.fv_meaning.specs.Reading77.{ReadsThin}
-use Rattle.fv_meaning.specs.Reading90.{Reads90}
-use Rattle.fv_meaning.specs.Printing90.{printed90}
+use Rattle.first_path_grammar.specs.Reading77.{ReadsThin}
+use Rattle.first_path_grammar.specs.Reading90.{Reads90}
+use Rattle.first_path_grammar.specs.Printing90.{printed90}
 use Rattle.fv_io.specs.Streams.{Gives, GivesPart}
 
 -- Where the sequential run of p ends without fault, so does the array run of q, with the same output, and the stores agree on p.

@@ -8,7 +8,7 @@ use Rattle.fv_meaning.specs.Steps.{final_lines, steps_of}
 use Rattle.fv_meaning.specs.declared.End.{End}
 use Rattle.fv_meaning.specs.declared.End.TheVariants.{Done}
 use Rattle.fv_io.specs.Streams.{Gives, GivesPart}
-use Rattle.fv_words.specs.declared.commands.Options.{Options}
+use Rattle.fv_command.specs.declared.commands.Options.{Options}
 use Rattle.fv_tool.specs.Decks.{ReadsDeck77}
 
 -- the sequential run of the program on the deck's input, cut at the limit of steps where one is given

@@ -2,11 +2,11 @@
 use Rattle.std.specs.Prelude.{ℕ, ◌^◌, ◌≡◌, List, Option}
 use Rattle.fv_tree.specs.declared.refusals.Refused.{Refused as Unreadable}
 use Rattle.fv_tree.specs.declared.refusals.Refused.TheVariants as refused
-use Rattle.fv_meaning.specs.Reading77.{refusal}
+use Rattle.first_path_grammar.specs.Reading77.{refusal}
 use Rattle.fv_io.specs.Causes.{Rose}
 use Rattle.fv_io.specs.Streams.{TakesMoreThan}
-use Rattle.fv_notes.specs.declared.outcome.Outcome.{Outcome}
-use Rattle.fv_notes.specs.declared.outcome.Outcome.TheVariants.{Refused, ReadFault, OutOfMemory}
+use Rattle.fv_report.specs.declared.outcome.Outcome.{Outcome}
+use Rattle.fv_report.specs.declared.outcome.Outcome.TheVariants.{Refused, ReadFault, OutOfMemory}
 
 -- The source failed, the deck is too long, or there was no memory.
 abbrev pub IsUnread : Option (List ℕ) → Option (List ℕ) → ℕ → ℕ → Outcome → Type 0

@@ -5,7 +5,7 @@ ghost use Rattle.fv_io.specs.Streams.{Takes};
 ghost use Rattle.fv_tool.specs.Unread.{IsUnread, outcome_for};
 
 use fv_io::{ReadEnd, Source, read_all};
-use fv_notes::Outcome;
+use fv_report::Outcome;
 use fv_tree::{Refusal, Refused};
 use std::alloc::Global;
 

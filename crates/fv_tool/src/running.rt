@@ -3,19 +3,19 @@ ghost use Rattle.std.specs.Prelude.{◌^◌, ◌≤◌, length};
 ghost use Rattle.fv_tree.specs.Plain.{Program};
 ghost use Rattle.fv_meaning.specs.Run.{run as run_at};
 ghost use Rattle.fv_meaning.specs.Sequential.{integer_bits, ending};
-ghost use Rattle.fv_meaning.specs.program.Profile.{IsProgram77};
-ghost use Rattle.fv_words.specs.declared.commands.Command.TheVariants.{Run77};
+ghost use Rattle.fv_meaning.specs.Profile77.{IsProgram77};
+ghost use Rattle.fv_command.specs.declared.commands.Command.TheVariants.{Run77};
 ghost use Rattle.run77.specs.Machine.{IsMachineOf};
 ghost use Rattle.fv_tool.specs.Running.{run_text};
 ghost use Rattle.fv_tool.specs.Works.{Comes, Works};
 
 use crate::deck::unread;
-use f77_program::read77;
+use f77_read::read77;
 use fv_deck::source_and_input;
 use fv_io::Sink;
 use fv_meaning::End;
-use fv_notes::Outcome;
-use fv_words::Options;
+use fv_report::Outcome;
+use fv_command::Options;
 use run77::Machine77;
 use std::alloc::Global;
 

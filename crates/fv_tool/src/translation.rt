@@ -1,12 +1,12 @@
 //! `vectorise`: the translation of a deck.
 ghost use Rattle.std.specs.Prelude.{◌^◌, ◌≤◌, length};
-ghost use Rattle.fv_words.specs.declared.commands.Command.TheVariants.{Vectorise};
+ghost use Rattle.fv_command.specs.declared.commands.Command.TheVariants.{Vectorise};
 ghost use Rattle.fv_tool.specs.Works.{Works};
 
 use crate::deck::unread;
 use first_path::translate;
 use fv_io::{Sink, write_all};
-use fv_notes::Outcome;
+use fv_report::Outcome;
 use std::alloc::Global;
 
 /// Translates the deck, which has at most 2^24 bytes. Nothing is written before it is known that the deck is read.

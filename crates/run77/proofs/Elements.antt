@@ -10,7 +10,7 @@ use Rattle.std.proofs.lemmas.List.{map-append, drop_more}
 use Rattle.fv_tree.specs.Plain.{Declaration}
 use Rattle.fv_tree.specs.declared.ops.Value.{Value}
 use Rattle.fv_meaning.specs.Store.{Cell, numbers_from, size_of, column_major, cells_of, opening_value}
-use Rattle.fv_meaning.specs.program.Profile.{IsDimension, elements_of}
+use Rattle.fv_meaning.specs.Profile77.{IsDimension, elements_of}
 use Rattle.run77.specs.declared.variables.Variable.{Variable}
 use Rattle.run77.specs.Storage.{store_of, place, offset, joined, value_at}
 use Rattle.run77.specs.Stored.{IsOf, bounds_here}

@@ -13,7 +13,7 @@ use Rattle.fv_tree.specs.declared.ops.Value.{Value}
 use Rattle.fv_meaning.specs.Store.{Store, Cell, numbers_from, size_of, column_major, opening_value}
 use Rattle.fv_meaning.specs.Texts.{final_line}
 use Rattle.fv_meaning.specs.Steps.{lines_of_cells}
-use Rattle.fv_meaning.specs.program.Profile.{IsDimension, elements_of}
+use Rattle.fv_meaning.specs.Profile77.{IsDimension, elements_of}
 use Rattle.run77.specs.declared.variables.Variable.{Variable}
 use Rattle.run77.specs.Storage.{store_of, offset, joined, value_at}
 use Rattle.run77.specs.Stored.{IsOf, bounds_here}

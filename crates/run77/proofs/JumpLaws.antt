@@ -2,7 +2,7 @@
 use Rattle.std.proofs.Common.{◌≡◌, refl, subst, List, ◌++◌}
 use mathlib.Core.Path.{ap₂}
 use Rattle.fv_tree.specs.Plain.{Declaration, Statement, Assignment, If, Do, Label, GoTo, Stop, Read, Print, Arms, no_arms, arm, Block, no_statements, statement, Program}
-use Rattle.fv_meaning.specs.program.Profile.{Surroundings, IsStatement, AreArms, IsBlock, IsProgram77, before_labels, label_of, labels_of, within_loop, outermost}
+use Rattle.fv_meaning.specs.Profile77.{Surroundings, IsStatement, AreArms, IsBlock, IsProgram77, before_labels, label_of, labels_of, within_loop, outermost}
 use Rattle.fv_meaning.specs.Jumps.{JumpsForward, ArmsJumpForward, BlockJumpsForward, AllJumpsForward}
 use Rattle.fv_meaning.specs.Jumps as jumps
 

@@ -10,11 +10,11 @@ use Rattle.fv_tree.specs.declared.ops.Value.{Value}
 use Rattle.fv_tree.specs.Plain.{Declaration}
 use Rattle.fv_tree.specs.View.{declaration_of, extent_of}
 use Rattle.fv_tree.specs.declared.programs.Decl.{Decl}
-use Rattle.fv_meaning.specs.program.Typed.{dimensions}
+use Rattle.fv_meaning.specs.Typed77.{dimensions}
 use Rattle.fv_meaning.proofs.CellFrame.{second_part}
 use mathlib.Core.Path.{ap₂}
 use Rattle.std.specs.Prelude.{◌^◌}
-use Rattle.fv_meaning.specs.program.Profile.{elements_of}
+use Rattle.fv_meaning.specs.Profile77.{elements_of}
 use Rattle.fv_meaning.specs.Store.{nought}
 use Rattle.run77.specs.declared.variables.Variable.{Variable}
 use Rattle.run77.specs.Storage.{declared, own_names, AreDistinct, total, noughts_of, values_of, starts_in, starts_of, AreArrays, AreBounds}

@@ -6,7 +6,7 @@ use Rattle.fv_tree.specs.declared.ops.Value.{Value}
 use Rattle.fv_tree.specs.declared.ops.Fault.{Fault}
 use Rattle.fv_tree.specs.declared.ops.Fault.TheVariants.{Allocated}
 use Rattle.fv_meaning.specs.Store.{opening_bounds, bounds_in, cells_of}
-use Rattle.fv_meaning.specs.program.Profile.{elements_of}
+use Rattle.fv_meaning.specs.Profile77.{elements_of}
 use Rattle.run77.specs.declared.variables.Variable.{Variable}
 use Rattle.run77.specs.Storage.{store_of, total}
 use Rattle.run77.specs.Stored.{IsOf, bounds_here}

@@ -12,9 +12,9 @@ use Rattle.std.proofs.lemmas.List.Sums.{sum_by-cons, sum-map}
 use Rattle.fv_tree.specs.Plain.{Declaration, Program, Statement, Assignment, If, Do, Label, GoTo, Stop, Read, Print, Arms, no_arms, arm, Block, no_statements, statement}
 use Rattle.fv_tree.specs.declared.ops.Value.{Value}
 use Rattle.fv_meaning.specs.Store.{Store, Cell, opening_bounds, opening_value, nought}
-use Rattle.fv_meaning.specs.program.Names.{IsInByteOrder}
-use Rattle.fv_meaning.specs.program.Typed.{dimensions}
-use Rattle.fv_meaning.specs.program.Profile.{IsProgram77, IsDeclaration, array_elements, elements_of, Surroundings, IsStatement, AreArms, IsBlock, before_labels, labels_of, within_loop}
+use Rattle.fv_meaning.specs.Names.{IsInByteOrder}
+use Rattle.fv_meaning.specs.Typed77.{dimensions}
+use Rattle.fv_meaning.specs.Profile77.{IsProgram77, IsDeclaration, array_elements, elements_of, Surroundings, IsStatement, AreArms, IsBlock, before_labels, labels_of, within_loop}
 use Rattle.run77.specs.Statements.{HasArms, ArmsHaveArms, BlockHasArms}
 use Rattle.run77.specs.Storage.{store_of, place, offset, values_of, value_at, noughts_of, AreArrays, AreDistinct}
 use Rattle.run77.specs.Machine.{opening_of}

@@ -25,7 +25,7 @@ use Rattle.fv_meaning.specs.Sequential.{integer_bits}
 use Rattle.fv_meaning.specs.Store.{Store, Cell, bounds_in, cells_of, cell_at, opening_bounds}
 use Rattle.fv_meaning.specs.Texts.{without_cr, from_value, first_word, after_word, after_line, read_value}
 use Rattle.fv_meaning.specs.Value.{is_in_range, cells_named, cell_named, item_cells, subscript_values, number_of}
-use Rattle.fv_meaning.specs.program.Profile.{elements_of}
+use Rattle.fv_meaning.specs.Profile77.{elements_of}
 use Rattle.fv_meaning.specs.Run.{Failed, then, either, for_each, goes, while_going, answered, evaluates, stores, counts_step, checks_range, repeated, turn, increases, loops, is_empty, begins_line, takes_word, skips_line, reads_into, reads_item, reads_items}
 use Rattle.run77.specs.declared.variables.Variable.{Variable}
 use Rattle.run77.specs.declared.moment.Moment.{Moment}

@@ -7,7 +7,7 @@ use Rattle.std.specs.Str.{bytes_eq}
 use Rattle.fv_tree.specs.Plain.{Extent, Given}
 use Rattle.fv_tree.specs.View.{declaration_of}
 use Rattle.fv_meaning.specs.Store.{opening_bounds}
-use Rattle.fv_meaning.specs.program.Typed.{dimensions}
+use Rattle.fv_meaning.specs.Typed77.{dimensions}
 use Rattle.run77.specs.declared.variables.Variable.{Variable}
 use Rattle.run77.specs.Storage.{declared, own_names, starts_in, starts_of, place, offset, total, values_of, AreArrays}
 use Rattle.run77.specs.Stored.{IsOf, bounds_here}

@@ -32,7 +32,7 @@ use Rattle.fv_tree.proofs.Equations.{expression_of-int, expression_of-truth, exp
 use Rattle.fv_meaning.specs.Store.{Store, Cell, cell_at, cell_in, is_within, opening_bounds, opening_value, size_of}
 use Rattle.fv_meaning.specs.Sequential.{integer_bits}
 use Rattle.fv_meaning.specs.Value.{value_of, values_of, subscript_value, subscript_values, cell_named}
-use Rattle.fv_meaning.specs.program.Profile.{elements_of}
+use Rattle.fv_meaning.specs.Profile77.{elements_of}
 use Rattle.run77.specs.Storage.{store_of, place, offset, joined, value_at, total, AreBounds, with_more}
 use Rattle.run77.specs.Stored.{Finds, IsOf, bounds_here, call_of, offset_of}
 use Rattle.run77.specs.declared.variables.Variable.{Variable}

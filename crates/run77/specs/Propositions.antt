@@ -4,8 +4,8 @@ use Rattle.std.proofs.Math.Bridge.{le_prop}
 use Rattle.std.proofs.Math.Dec.{T_prop}
 use Rattle.std.specs.List.{AllByRecursion}
 use Rattle.fv_tree.specs.Plain.{Declaration}
-use Rattle.fv_meaning.specs.program.Typed.{dimensions}
-use Rattle.fv_meaning.specs.program.Profile.{IsDimension}
+use Rattle.fv_meaning.specs.Typed77.{dimensions}
+use Rattle.fv_meaning.specs.Profile77.{IsDimension}
 use Rattle.run77.specs.Storage.{AreArrays, AreBounds}
 
 AllByRecursion-prop : {X : Type 0} (P : X → Type 0) → ((x : X) → IsProp (P x)) → (xs : List X) → IsProp (AllByRecursion P xs)

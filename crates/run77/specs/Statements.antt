@@ -5,7 +5,7 @@ use Rattle.fv_tree.specs.View.{arms, tested_of}
 use Rattle.fv_tree.specs.declared.stmts.Arm.{Arm}
 use Rattle.fv_meaning.specs.Sequential.{integer_bits}
 use Rattle.fv_meaning.specs.Run.{Act, then, chooses, begins_line, reads_items, skips_line}
-use Rattle.fv_meaning.specs.program.Profile.{has_arm}
+use Rattle.fv_meaning.specs.Profile77.{has_arm}
 use Rattle.run77.specs.declared.moment.Moment.{Moment}
 use Rattle.run77.specs.declared.moment.Halt.{Halt}
 use Rattle.run77.specs.declared.moment.Left.{Left}

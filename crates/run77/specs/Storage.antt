@@ -9,8 +9,8 @@ use Rattle.fv_tree.specs.View.{declaration_of, bounds_of}
 use Rattle.fv_tree.specs.declared.ops.Value.{Value}
 use Rattle.fv_tree.specs.declared.programs.Dim.{Dim}
 use Rattle.fv_meaning.specs.Store.{Store, size_of, opening_bounds, opening_value, nought}
-use Rattle.fv_meaning.specs.program.Typed.{dimensions}
-use Rattle.fv_meaning.specs.program.Profile.{IsDimension, elements_of}
+use Rattle.fv_meaning.specs.Typed77.{dimensions}
+use Rattle.fv_meaning.specs.Profile77.{IsDimension, elements_of}
 use Rattle.run77.specs.declared.variables.Variable.{Variable}
 
 -- the place of one number in its dimension, and of the others in theirs

@@ -12,7 +12,7 @@ use Rattle.fv_tree.specs.declared.ops.Fault.{Fault}
 use Rattle.fv_meaning.specs.Store.{Store, Cell, opening_bounds}
 use Rattle.fv_meaning.specs.Value.{subscript_values}
 use Rattle.fv_meaning.specs.Value as meaning
-use Rattle.fv_meaning.specs.program.Typed.{dimensions}
+use Rattle.fv_meaning.specs.Typed77.{dimensions}
 use Rattle.run77.specs.declared.variables.Variable.{Variable}
 use Rattle.run77.specs.declared.storage.Storage.{Storage}
 use Rattle.run77.specs.Storage.{store_of, declared, offset, place, total, values_of, AreBounds}

@@ -8,7 +8,7 @@ ghost use Rattle.fv_tree.specs.View.{bounds_of};
 ghost use Rattle.fv_meaning.specs.Store.{size_of};
 ghost use Rattle.fv_meaning.specs.Texts.{subscripts_text};
 ghost use Rattle.fv_meaning.specs.Steps.{lines_of_cells, lines_of_name};
-ghost use Rattle.fv_meaning.specs.program.Profile.{IsDimension, elements_of};
+ghost use Rattle.fv_meaning.specs.Profile77.{IsDimension, elements_of};
 ghost use Rattle.run77.specs.Storage.{AreBounds, bounds_list};
 ghost use Rattle.run77.specs.Stored.{names_in, store_in, IsOf, bounds_here};
 ghost use Rattle.run77.specs.Texts.{WritesText};

@@ -4,7 +4,7 @@ ghost use Rattle.fv_io.specs.Causes.{Rose};
 ghost use Rattle.fv_tree.specs.Plain.{Program};
 ghost use Rattle.fv_tree.specs.View.{program_of, declaration_of, block_of};
 ghost use Rattle.fv_meaning.specs.Store.{opening_store};
-ghost use Rattle.fv_meaning.specs.program.Profile.{IsProgram77};
+ghost use Rattle.fv_meaning.specs.Profile77.{IsProgram77};
 ghost use Rattle.fv_meaning.specs.Sequential.{integer_bits};
 ghost use Rattle.fv_meaning.specs.Run.{run};
 ghost use Rattle.fv_meaning.specs.Steps.{final_lines};

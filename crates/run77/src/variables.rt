@@ -2,8 +2,8 @@
 ghost use Rattle.std.specs.Prelude.{◌≡◌, ◌≤◌, ◌^◌, ◌*◌, map, Option, Some, None, ℕ, int_le, ◌&&◌};
 ghost use Rattle.fv_tree.specs.View.{bounds_of, declaration_of, extent_of};
 ghost use Rattle.fv_meaning.specs.Store.{size_of};
-ghost use Rattle.fv_meaning.specs.program.Typed.{dimensions};
-ghost use Rattle.fv_meaning.specs.program.Profile.{IsDimension, elements_of};
+ghost use Rattle.fv_meaning.specs.Typed77.{dimensions};
+ghost use Rattle.fv_meaning.specs.Profile77.{IsDimension, elements_of};
 ghost use Rattle.run77.specs.Storage.{joined, bounds_list, AreBounds};
 
 use fv_tree::{Decl, Dim, Form};

@@ -1,4 +1,4 @@
-use Rattle.fv_words.specs.declared.commands.Command.TheVariants.{Run77}
+use Rattle.fv_command.specs.declared.commands.Command.TheVariants.{Run77}
 use Rattle.fv_tool.proofs.Worked.{unread, worked_for}
 use Rattle.fv_tool.proofs.perform.Goals as goal
 

@@ -1,4 +1,4 @@
-use Rattle.fv_notes.specs.Notes.{note_of}
+use Rattle.fv_report.specs.Notes.{note_of}
 use Rattle.fv_tool.proofs.Top.{for_words, for_command, part_or_whole, note_given}
 use Rattle.fv_tool.proofs.Top as top
 use Rattle.fv_tool.proofs.run_tool.Goals as goal

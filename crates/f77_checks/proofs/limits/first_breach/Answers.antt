@@ -1,4 +1,4 @@
-use Rattle.statements77.specs.Views.{text_of}
+use Rattle.f77_syntax.specs.Views.{text_of}
 use Rattle.f77_checks.proofs.Breaches.{first_of_limits}
 use Rattle.f77_checks.proofs.limits.first_breach.Goals as goal
 

@@ -1,6 +1,6 @@
 use Rattle.std.proofs.Common.{sym, ap, ◌∙◌}
 use Rattle.std.specs.Option.{option_map}
-use Rattle.statements77.specs.Views.{text_of}
+use Rattle.f77_syntax.specs.Views.{text_of}
 use Rattle.f77_checks.specs.Limits.{found_of}
 use Rattle.f77_checks.proofs.Breaches.{no_breach}
 use Rattle.f77_checks.proofs.limits.refuse_breach.Goals as goal

@@ -2,11 +2,11 @@ use Rattle.std.proofs.Common.{◌≡◌, ℕ, Bool, true, false, ◌||◌, List,
 use Rattle.std.specs.List.{list_any}
 use Rattle.fv_tree.specs.declared.exprs.Expr.{Expr}
 use Rattle.fv_meaning.specs.Store.{Store}
-use Rattle.fv_meaning.specs.program.Limits.{definitions_of, entities_of, has_bad_constant}
-use Rattle.statements77.specs.declared.statements.Labelled.{Labelled}
-use Rattle.statements77.specs.First.{first_index}
-use Rattle.statements77.specs.Views.{text_of, statement_of, constant_of}
-use Rattle.statements77.proofs.Walks.{search_goes_on, search_stops_at, search_ends}
+use Rattle.f77_grammar.specs.program.Limits.{definitions_of, entities_of, has_bad_constant}
+use Rattle.f77_syntax.specs.declared.statements.Labelled.{Labelled}
+use Rattle.f77_syntax.specs.First.{first_index}
+use Rattle.f77_syntax.specs.Views.{text_of, statement_of, constant_of}
+use Rattle.f77_syntax.proofs.Walks.{search_goes_on, search_stops_at, search_ends}
 use Rattle.f77_constants.specs.Constants.{store_of}
 use Rattle.f77_constants.specs.Bounds.{lacks_value, has_bad, bounds_in}
 use Rattle.f77_constants.proofs.checks.bad_constant.Goals as goal

@@ -1,6 +1,6 @@
-use Rattle.fv_meaning.specs.program.Limits.{has_bad_constant}
-use Rattle.statements77.specs.Views.{text_of}
-use Rattle.statements77.specs.Walk.{IsSearched}
+use Rattle.f77_grammar.specs.program.Limits.{has_bad_constant}
+use Rattle.f77_syntax.specs.Views.{text_of}
+use Rattle.f77_syntax.specs.Walk.{IsSearched}
 use Rattle.f77_constants.specs.Constants.{store_of}
 use Rattle.f77_constants.proofs.checks.bad_constant.Given as goal
 

@@ -1,9 +1,9 @@
 use Rattle.std.proofs.Common.{◌∷◌, sym, ap, ◌∙◌, arith}
-use Rattle.fv_meaning.specs.program.Limits.{all_elements, has_many_elements}
-use Rattle.statements77.specs.First.{first_index}
-use Rattle.statements77.specs.Views.{text_of, labelled_of}
-use Rattle.statements77.specs.Walk.{passed}
-use Rattle.statements77.proofs.Walks.{search_goes_on, search_stops_at, search_ends, text_passed}
+use Rattle.f77_grammar.specs.program.Limits.{all_elements, has_many_elements}
+use Rattle.f77_syntax.specs.First.{first_index}
+use Rattle.f77_syntax.specs.Views.{text_of, labelled_of}
+use Rattle.f77_syntax.specs.Walk.{passed}
+use Rattle.f77_syntax.proofs.Walks.{search_goes_on, search_stops_at, search_ends, text_passed}
 use Rattle.f77_constants.specs.Constants.{store_of}
 use Rattle.f77_constants.specs.Bounds.{capped}
 use Rattle.f77_constants.proofs.SizeLaws.{count_at, are_many, are_few}

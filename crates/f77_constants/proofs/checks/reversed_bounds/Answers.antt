@@ -1,9 +1,9 @@
 use Rattle.std.proofs.Common.{sym, ap, ◌∙◌, arith}
 use Rattle.std.specs.List.{list_any}
-use Rattle.fv_meaning.specs.program.Limits.{has_reversed_bounds}
-use Rattle.statements77.specs.First.{first_index}
-use Rattle.statements77.specs.Views.{text_of}
-use Rattle.statements77.proofs.Walks.{search_goes_on, search_stops_at, search_ends}
+use Rattle.f77_grammar.specs.program.Limits.{has_reversed_bounds}
+use Rattle.f77_syntax.specs.First.{first_index}
+use Rattle.f77_syntax.specs.Views.{text_of}
+use Rattle.f77_syntax.proofs.Walks.{search_goes_on, search_stops_at, search_ends}
 use Rattle.f77_constants.specs.Constants.{store_of}
 use Rattle.f77_constants.specs.Bounds.{has_reversed, bounds_in}
 use Rattle.f77_constants.proofs.checks.reversed_bounds.Goals as goal

@@ -1,6 +1,6 @@
-use Rattle.fv_meaning.specs.program.Limits.{has_reversed_bounds}
-use Rattle.statements77.specs.Views.{text_of}
-use Rattle.statements77.specs.Walk.{IsSearched}
+use Rattle.f77_grammar.specs.program.Limits.{has_reversed_bounds}
+use Rattle.f77_syntax.specs.Views.{text_of}
+use Rattle.f77_syntax.specs.Walk.{IsSearched}
 use Rattle.f77_constants.specs.Constants.{store_of}
 use Rattle.f77_constants.proofs.checks.reversed_bounds.Given as goal
 

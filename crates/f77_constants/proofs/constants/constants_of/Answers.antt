@@ -1,5 +1,5 @@
 use Rattle.std.proofs.Common.{map, arith}
-use Rattle.statements77.specs.Views.{constant_of}
+use Rattle.f77_syntax.specs.Views.{constant_of}
 use Rattle.f77_constants.specs.Constants.{store_of}
 use Rattle.f77_constants.proofs.StoreLaws.{text_more, text_end}
 use Rattle.f77_constants.proofs.constants.constants_of.Goals as goal

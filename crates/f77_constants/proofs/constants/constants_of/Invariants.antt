@@ -1,8 +1,8 @@
 use Rattle.std.proofs.Common.{◌≡◌, drop}
 use Rattle.std.specs.List.{flat_map}
-use Rattle.fv_meaning.specs.Statement77.{Labelled}
-use Rattle.fv_meaning.specs.program.Limits as plain
-use Rattle.statements77.specs.Views.{text_of}
+use Rattle.f77_grammar.specs.Statement77.{Labelled}
+use Rattle.f77_grammar.specs.program.Limits as plain
+use Rattle.f77_syntax.specs.Views.{text_of}
 use Rattle.f77_constants.specs.Constants.{store_of}
 use Rattle.f77_constants.proofs.constants.constants_of.Given as goal
 

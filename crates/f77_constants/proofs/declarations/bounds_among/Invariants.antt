@@ -1,6 +1,6 @@
 use Rattle.std.proofs.Common.{◌≡◌, map, drop}
-use Rattle.fv_meaning.specs.program.Limits.{bounds_among}
-use Rattle.statements77.specs.Views.{entity_of}
+use Rattle.f77_grammar.specs.program.Limits.{bounds_among}
+use Rattle.f77_syntax.specs.Views.{entity_of}
 use Rattle.f77_constants.proofs.declarations.bounds_among.Given as goal
 
 abbrev pub invariant-loop-entity : goal.invariant-loop-entity

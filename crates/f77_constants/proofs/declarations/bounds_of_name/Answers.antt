@@ -1,6 +1,6 @@
 use Rattle.std.proofs.Common.{◌+◌, drop, map, not, cond, sym, ap, ◌∙◌, arith}
-use Rattle.fv_meaning.specs.program.Limits.{bounds_of_name, bounds_among}
-use Rattle.statements77.specs.Views.{text_of, bounds_of}
+use Rattle.f77_grammar.specs.program.Limits.{bounds_of_name, bounds_among}
+use Rattle.f77_syntax.specs.Views.{text_of, bounds_of}
 use Rattle.f77_constants.proofs.DeclarationLaws.{bounds_at}
 use Rattle.f77_constants.proofs.declarations.bounds_of_name.Goals as goal
 

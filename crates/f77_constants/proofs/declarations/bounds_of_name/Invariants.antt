@@ -1,6 +1,6 @@
 use Rattle.std.proofs.Common.{◌≡◌, drop}
-use Rattle.fv_meaning.specs.program.Limits.{bounds_of_name}
-use Rattle.statements77.specs.Views.{text_of}
+use Rattle.f77_grammar.specs.program.Limits.{bounds_of_name}
+use Rattle.f77_syntax.specs.Views.{text_of}
 use Rattle.f77_constants.proofs.declarations.bounds_of_name.Given as goal
 
 abbrev pub invariant-loop-statement : goal.invariant-loop-statement

@@ -1,8 +1,8 @@
 use Rattle.std.proofs.Common.{◌≡◌, map, ap, ◌∙◌}
 use Rattle.std.proofs.lemmas.Result.{IfOk-weaker}
 use Rattle.fv_tree.specs.View as view
-use Rattle.fv_meaning.specs.program.Uses.{uses_in_text}
-use Rattle.statements77.specs.Views.{text_of}
+use Rattle.f77_grammar.specs.program.Uses.{uses_in_text}
+use Rattle.f77_syntax.specs.Views.{text_of}
 use Rattle.f77_names.specs.UsesView.{plain_use}
 use Rattle.f77_names.specs.NameFacts.{facts_of, nothing_known}
 use Rattle.f77_constants.specs.Constants.{store_of}

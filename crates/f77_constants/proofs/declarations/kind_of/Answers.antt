@@ -1,5 +1,5 @@
 use Rattle.std.proofs.Common.{ap, ◌∙◌}
-use Rattle.fv_meaning.specs.program.Uses.{or_integer}
+use Rattle.f77_grammar.specs.program.Uses.{or_integer}
 use Rattle.f77_names.specs.declared.names.Facts.{Facts}
 use Rattle.f77_constants.proofs.DeclarationLaws.{kind_is}
 use Rattle.f77_constants.proofs.declarations.kind_of.Goals as goal

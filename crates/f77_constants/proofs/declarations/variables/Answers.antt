@@ -1,5 +1,5 @@
 use Rattle.std.proofs.Common.{map, arith}
-use Rattle.fv_meaning.specs.program.Uses.{is_variable}
+use Rattle.f77_grammar.specs.program.Uses.{is_variable}
 use Rattle.f77_names.specs.UsesView.{plain_use}
 use Rattle.f77_constants.specs.Declarations.{variables_from}
 use Rattle.f77_constants.proofs.DeclarationLaws.{variables_more, ascends_more}

@@ -1,7 +1,7 @@
 use Rattle.std.proofs.Common.{◌≡◌, List, map, drop}
 use Rattle.std.specs.List.{filter, fold}
-use Rattle.fv_meaning.specs.program.Uses.{Use, is_variable}
-use Rattle.fv_meaning.specs.program.Tree.{with_name}
+use Rattle.f77_grammar.specs.program.Uses.{Use, is_variable}
+use Rattle.f77_grammar.specs.program.Tree.{with_name}
 use Rattle.f77_names.specs.UsesView.{plain_use}
 use Rattle.f77_constants.specs.Declarations.{Ascends, AreFacts, variables_from}
 use Rattle.f77_constants.proofs.declarations.variables.Given as goal

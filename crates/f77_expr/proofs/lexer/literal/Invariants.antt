@@ -1,5 +1,5 @@
 use Rattle.std.proofs.Common.{◌≡◌, length}
-use Rattle.fv_meaning.specs.expressions.Spelling.{is_digit}
+use Rattle.f77_grammar.specs.expressions.Spelling.{is_digit}
 use Rattle.f77_expr.specs.Lexing.{run_of}
 use Rattle.f77_expr.specs.Literals.{IsSoFar}
 use Rattle.f77_expr.specs.Symbols.{symbols_of}

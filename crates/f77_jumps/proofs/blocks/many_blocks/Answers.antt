@@ -1,8 +1,8 @@
 use Rattle.std.proofs.Common.{◌≤◌, ◌+◌, length, sym, ap, ◌∙◌, arith}
-use Rattle.fv_meaning.specs.program.Limits.{has_many_blocks}
-use Rattle.f77_blocks.specs.LabelPlaces.{place_of}
+use Rattle.f77_grammar.specs.program.Limits.{has_many_blocks}
+use Rattle.f77_structure.specs.LabelPlaces.{place_of}
 use Rattle.f77_jumps.proofs.Depth.{many_at, lasting_more, lasting_fits, with_end_fits, depth_on, depth_more}
-use Rattle.statements77.proofs.Walks.{search_goes_on, search_stops_at, search_ends}
+use Rattle.f77_syntax.proofs.Walks.{search_goes_on, search_stops_at, search_ends}
 use Rattle.f77_jumps.proofs.blocks.many_blocks.Goals as goal
 
 pub returns-then-refuses : goal.returns-then-refuses

@@ -1,10 +1,10 @@
 use Rattle.std.proofs.Common.{◌≡◌, ℕ, ◌≤◌, length}
 use Rattle.std.specs.List.{filter}
-use Rattle.fv_meaning.specs.program.Limits.{has_many_blocks}
-use Rattle.f77_blocks.specs.LabelPlaces.{place_of}
+use Rattle.f77_grammar.specs.program.Limits.{has_many_blocks}
+use Rattle.f77_structure.specs.LabelPlaces.{place_of}
 use Rattle.f77_jumps.specs.Blocks.{depth, lasts, lasting}
-use Rattle.statements77.specs.Views.{text_of}
-use Rattle.statements77.specs.Walk.{passed, IsSearched}
+use Rattle.f77_syntax.specs.Views.{text_of}
+use Rattle.f77_syntax.specs.Walk.{passed, IsSearched}
 use Rattle.f77_jumps.proofs.blocks.many_blocks.Given as goal
 
 abbrev pub invariant-loop-i : goal.invariant-loop-i

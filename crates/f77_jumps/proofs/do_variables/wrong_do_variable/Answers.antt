@@ -1,9 +1,9 @@
 use Rattle.std.proofs.Common.{sym, ap, ◌∙◌, arith}
-use Rattle.fv_meaning.specs.program.Uses as plain
-use Rattle.fv_meaning.specs.program.DoVariables.{has_wrong_do_variable}
-use Rattle.statements77.specs.Views.{text_of, statement_of}
-use Rattle.statements77.proofs.Walks.{search_goes_on, search_stops_at, search_ends}
-use Rattle.f77_blocks.specs.LabelPlaces.{place_of}
+use Rattle.f77_grammar.specs.program.Uses as plain
+use Rattle.f77_grammar.specs.program.DoVariables.{has_wrong_do_variable}
+use Rattle.f77_syntax.specs.Views.{text_of, statement_of}
+use Rattle.f77_syntax.proofs.Walks.{search_goes_on, search_stops_at, search_ends}
+use Rattle.f77_structure.specs.LabelPlaces.{place_of}
 use Rattle.f77_names.specs.declared.names.Names.{Names}
 use Rattle.f77_names.specs.NameFacts.{facts_in}
 use Rattle.f77_jumps.specs.LoopVariables.{last_in}

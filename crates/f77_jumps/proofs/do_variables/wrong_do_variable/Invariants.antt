@@ -1,9 +1,9 @@
 use Rattle.std.proofs.Common.{◌≡◌, ℕ, List}
-use Rattle.fv_meaning.specs.program.Uses as plain
-use Rattle.fv_meaning.specs.program.DoVariables.{has_wrong_do_variable}
-use Rattle.statements77.specs.Views.{text_of}
-use Rattle.statements77.specs.Walk.{passed, IsSearched}
-use Rattle.f77_blocks.specs.LabelPlaces.{place_of}
+use Rattle.f77_grammar.specs.program.Uses as plain
+use Rattle.f77_grammar.specs.program.DoVariables.{has_wrong_do_variable}
+use Rattle.f77_syntax.specs.Views.{text_of}
+use Rattle.f77_syntax.specs.Walk.{passed, IsSearched}
+use Rattle.f77_structure.specs.LabelPlaces.{place_of}
 use Rattle.f77_names.specs.NameFacts.{nothing_known, facts_of, facts_in}
 use Rattle.f77_jumps.specs.LoopVariables.{last_in, last_of}
 use Rattle.f77_jumps.proofs.do_variables.wrong_do_variable.Given as goal

@@ -1,13 +1,13 @@
 use Rattle.std.proofs.Common.{◌≡◌, ℕ, ◌+◌, ◌-◌, drop, cond, Some, sym, ap, ◌∙◌, arith}
-use Rattle.fv_meaning.specs.program.Text.{places_from}
-use Rattle.fv_meaning.specs.program.Jumps.{has_wrong_jump}
-use Rattle.statements77.specs.First.{index_from}
-use Rattle.statements77.specs.Views.{text_of, statement_of}
-use Rattle.statements77.specs.Walk.{passed}
-use Rattle.fv_meaning.specs.program.Text.{action}
-use Rattle.f77_blocks.specs.Forms.{form_of}
-use Rattle.f77_blocks.specs.LabelPlaces.{place_of}
-use Rattle.f77_blocks.proofs.LeftOpen.{found_back}
+use Rattle.f77_grammar.specs.program.Text.{places_from}
+use Rattle.f77_grammar.specs.program.Jumps.{has_wrong_jump}
+use Rattle.f77_syntax.specs.First.{index_from}
+use Rattle.f77_syntax.specs.Views.{text_of, statement_of}
+use Rattle.f77_syntax.specs.Walk.{passed}
+use Rattle.f77_grammar.specs.program.Text.{action}
+use Rattle.f77_structure.specs.Forms.{form_of}
+use Rattle.f77_structure.specs.LabelPlaces.{place_of}
+use Rattle.f77_structure.proofs.LeftOpen.{found_back}
 use Rattle.f77_jumps.specs.LabelTargets.{target_in}
 use Rattle.f77_jumps.specs.Targets.{first_target}
 use Rattle.f77_jumps.proofs.Leads.{targets_fit, behind_more, jump_at}

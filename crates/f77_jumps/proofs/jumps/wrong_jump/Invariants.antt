@@ -1,10 +1,10 @@
 use Rattle.std.proofs.Common.{◌≡◌, ℕ, ◌≤◌, length, drop}
-use Rattle.fv_meaning.specs.program.Text.{places_from}
-use Rattle.fv_meaning.specs.program.Jumps.{has_wrong_jump}
-use Rattle.statements77.specs.First.{index_from}
-use Rattle.statements77.specs.Views.{text_of}
-use Rattle.statements77.specs.Walk.{passed}
-use Rattle.f77_blocks.specs.LabelPlaces.{place_of}
+use Rattle.f77_grammar.specs.program.Text.{places_from}
+use Rattle.f77_grammar.specs.program.Jumps.{has_wrong_jump}
+use Rattle.f77_syntax.specs.First.{index_from}
+use Rattle.f77_syntax.specs.Views.{text_of}
+use Rattle.f77_syntax.specs.Walk.{passed}
+use Rattle.f77_structure.specs.LabelPlaces.{place_of}
 use Rattle.f77_jumps.specs.LabelTargets.{target_in}
 use Rattle.f77_jumps.specs.Targets.{first_target}
 use Rattle.f77_jumps.proofs.jumps.wrong_jump.Given as goal

@@ -1,7 +1,7 @@
 use Rattle.std.proofs.Common.{◌+◌, ap, ◌∙◌, arith}
-use Rattle.f77_blocks.specs.LabelPlaces.{place_of}
-use Rattle.f77_blocks.specs.Openings.{loops_in, trimmed}
-use Rattle.f77_blocks.proofs.Closers.{loops_named}
+use Rattle.f77_structure.specs.LabelPlaces.{place_of}
+use Rattle.f77_structure.specs.Openings.{loops_in, trimmed}
+use Rattle.f77_structure.proofs.Closers.{loops_named}
 use Rattle.f77_jumps.specs.Targets.{arms_in}
 use Rattle.f77_jumps.proofs.Leads.{targets_more, arms_more}
 use Rattle.f77_jumps.proofs.targets.targets_of.Goals as goal

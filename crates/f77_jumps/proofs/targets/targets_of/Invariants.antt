@@ -1,8 +1,8 @@
 use Rattle.std.proofs.Common.{◌≡◌, [], ◌++◌, drop}
-use Rattle.f77_blocks.specs.LabelPlaces.{place_of}
-use Rattle.f77_blocks.specs.Openings.{loops_in, loops_of}
-use Rattle.statements77.specs.Views.{text_of}
-use Rattle.statements77.specs.Walk.{passed}
+use Rattle.f77_structure.specs.LabelPlaces.{place_of}
+use Rattle.f77_structure.specs.Openings.{loops_in, loops_of}
+use Rattle.f77_syntax.specs.Views.{text_of}
+use Rattle.f77_syntax.specs.Walk.{passed}
 use Rattle.f77_jumps.specs.Targets.{arms_in, arms_of, targets_of}
 use Rattle.f77_jumps.proofs.targets.targets_of.Given as goal
 

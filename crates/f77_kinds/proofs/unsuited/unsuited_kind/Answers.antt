@@ -1,9 +1,9 @@
 use Rattle.std.proofs.Common.{sym, ◌∙◌, arith}
-use Rattle.fv_meaning.specs.program.Uses as plain
-use Rattle.fv_meaning.specs.program.Kinds.{has_unsuited_kind}
+use Rattle.f77_grammar.specs.program.Uses as plain
+use Rattle.f77_grammar.specs.program.Kinds.{has_unsuited_kind}
 use Rattle.f77_names.specs.UsesView.{listed}
-use Rattle.statements77.specs.Views.{text_of}
-use Rattle.statements77.proofs.Walks.{search_goes_on, search_stops_at, search_ends}
+use Rattle.f77_syntax.specs.Views.{text_of}
+use Rattle.f77_syntax.proofs.Walks.{search_goes_on, search_stops_at, search_ends}
 use Rattle.f77_kinds.proofs.StatementLaws.{unsuited_at}
 use Rattle.f77_kinds.proofs.unsuited.unsuited_kind.Goals as goal
 

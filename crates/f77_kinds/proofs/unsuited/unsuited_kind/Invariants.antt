@@ -1,7 +1,7 @@
-use Rattle.fv_meaning.specs.program.Uses as plain
-use Rattle.fv_meaning.specs.program.Kinds.{has_unsuited_kind}
-use Rattle.statements77.specs.Views.{text_of}
-use Rattle.statements77.specs.Walk.{IsSearched}
+use Rattle.f77_grammar.specs.program.Uses as plain
+use Rattle.f77_grammar.specs.program.Kinds.{has_unsuited_kind}
+use Rattle.f77_syntax.specs.Views.{text_of}
+use Rattle.f77_syntax.specs.Walk.{IsSearched}
 use Rattle.f77_kinds.proofs.unsuited.unsuited_kind.Given as goal
 
 abbrev pub invariant-loop-i : goal.invariant-loop-i

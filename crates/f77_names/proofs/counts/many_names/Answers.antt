@@ -1,9 +1,9 @@
 use Rattle.std.proofs.Common.{◌++◌, ◌+◌, map, sym, ap, ◌∙◌, arith}
-use Rattle.fv_meaning.specs.program.Uses as plain
-use Rattle.fv_meaning.specs.program.Limits.{has_many_names}
-use Rattle.statements77.specs.Views.{text_of, statement_of}
-use Rattle.statements77.specs.Walk.{passed}
-use Rattle.statements77.proofs.Walks.{search_goes_on, search_stops_at, search_ends}
+use Rattle.f77_grammar.specs.program.Uses as plain
+use Rattle.f77_grammar.specs.program.Limits.{has_many_names}
+use Rattle.f77_syntax.specs.Views.{text_of, statement_of}
+use Rattle.f77_syntax.specs.Walk.{passed}
+use Rattle.f77_syntax.proofs.Walks.{search_goes_on, search_stops_at, search_ends}
 use Rattle.f77_names.specs.UsesView.{plain_use}
 use Rattle.f77_names.specs.Counted.{counted_in}
 use Rattle.f77_names.proofs.CountLaws.{holds_same, counted_behind, many_at}

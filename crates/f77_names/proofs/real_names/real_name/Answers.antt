@@ -1,10 +1,10 @@
 use Rattle.std.proofs.Common.{map, ◌++◌, sym, ap, ◌∙◌, arith}
-use Rattle.fv_meaning.specs.program.Uses as plain
-use Rattle.fv_meaning.specs.program.Declarations.{has_real_name}
+use Rattle.f77_grammar.specs.program.Uses as plain
+use Rattle.f77_grammar.specs.program.Declarations.{has_real_name}
 use Rattle.f77_names.specs.UsesView.{listed, plain_use}
-use Rattle.statements77.specs.Views.{text_of, statement_of}
+use Rattle.f77_syntax.specs.Views.{text_of, statement_of}
 use Rattle.f77_names.proofs.FactLaws.{real_at}
-use Rattle.statements77.proofs.Walks.{search_goes_on, search_stops_at, search_ends}
+use Rattle.f77_syntax.proofs.Walks.{search_goes_on, search_stops_at, search_ends}
 use Rattle.f77_names.proofs.real_names.real_name.Goals as goal
 
 pub returns-then-has_real : goal.returns-then-has_real

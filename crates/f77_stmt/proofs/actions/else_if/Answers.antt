@@ -1,8 +1,8 @@
 use Rattle.std.proofs.Common.{◌≡◌, sym, subst, true}
 use Rattle.std.proofs.lemmas.Result.{err_from_is_err_and}
-use Rattle.fv_meaning.specs.expressions.Phrases.{written}
-use Rattle.fv_meaning.specs.expressions.Squeezing.{Symbol}
-use Rattle.fv_meaning.specs.expressions.Spelling.{Words}
+use Rattle.f77_grammar.specs.expressions.Phrases.{written}
+use Rattle.f77_grammar.specs.expressions.Squeezing.{Symbol}
+use Rattle.f77_grammar.specs.expressions.Spelling.{Words}
 use Rattle.std.specs.Prelude.{List}
 use Rattle.f77_stmt.specs.Parts.{IsFormedOf}
 use Rattle.f77_stmt.proofs.GivenLaws.{given_err}

@@ -1,6 +1,6 @@
 use Rattle.std.proofs.Common.{◌≡◌, [], sym, subst, true}
-use Rattle.fv_meaning.specs.expressions.Spelling.{value}
-use Rattle.f77_recognition.proofs.FormLaws.{empty_is, is_empty}
+use Rattle.f77_grammar.specs.expressions.Spelling.{value}
+use Rattle.f77_keywords.proofs.FormLaws.{empty_is, is_empty}
 use Rattle.f77_stmt.specs.Parts.{IsFormedOf}
 use Rattle.f77_stmt.proofs.ActionLaws.{go_label, go_made, go_found}
 use Rattle.f77_stmt.proofs.actions.go_to.Goals as goal

@@ -1,5 +1,5 @@
 use Rattle.std.proofs.Common.{refl}
-use Rattle.fv_meaning.specs.statements.Forms as forms
+use Rattle.f77_grammar.specs.statements.Forms as forms
 use Rattle.f77_stmt.proofs.ActionLaws.{read_nothing}
 use Rattle.f77_stmt.proofs.actions.no_inputs.Goals as goal
 

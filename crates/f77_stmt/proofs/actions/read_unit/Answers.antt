@@ -1,5 +1,5 @@
 use Rattle.std.proofs.Common.{sym, subst, inl, inr}
-use Rattle.f77_recognition.proofs.FormLaws.{empty_is, is_empty}
+use Rattle.f77_keywords.proofs.FormLaws.{empty_is, is_empty}
 use Rattle.f77_stmt.specs.Parts.{IsFormedOf}
 use Rattle.f77_stmt.proofs.ActionLaws.{no_list}
 use Rattle.f77_stmt.proofs.actions.read_unit.Goals as goal

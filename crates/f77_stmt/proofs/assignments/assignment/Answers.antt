@@ -1,7 +1,7 @@
 use Rattle.std.proofs.Common.{◌≡◌, ◌∷◌, sym, ◌∙◌}
-use Rattle.fv_meaning.specs.expressions.Phrases.{written}
-use Rattle.fv_meaning.specs.expressions.Words as words
-use Rattle.fv_meaning.specs.expressions.Words.{Word}
+use Rattle.f77_grammar.specs.expressions.Phrases.{written}
+use Rattle.f77_grammar.specs.expressions.Words as words
+use Rattle.f77_grammar.specs.expressions.Words.{Word}
 use Rattle.f77_expr.specs.Views.{words_of}
 use Rattle.f77_stmt.proofs.AssignmentLaws.{assignment_found, formed}
 use Rattle.f77_stmt.proofs.assignments.assignment.Goals as goal

@@ -1,4 +1,4 @@
-use Rattle.statements77.specs.Views.{bounds_of}
+use Rattle.f77_syntax.specs.Views.{bounds_of}
 use Rattle.f77_stmt.proofs.BoundLaws.{if_ok, upper_found, both_found}
 use Rattle.f77_stmt.proofs.declarations.read_bound.Goals as goal
 

@@ -2,9 +2,9 @@ use Rattle.std.proofs.Common.{◌≡◌, ◌∙◌, sym, ap, List, [], ◌∷◌
 use Rattle.std.proofs.lemmas.List.{map-append}
 use Rattle.std.proofs.lemmas.Result.{err_from_is_err_and}
 use Rattle.fv_tree.specs.declared.exprs.Expr.{Expr}
-use Rattle.fv_meaning.specs.statements.Forms.{IsBound, written_bound, bound_tree, bound_depth}
+use Rattle.f77_grammar.specs.statements.Forms.{IsBound, written_bound, bound_tree, bound_depth}
 use Rattle.f77_expr.specs.Views.{words_of}
-use Rattle.statements77.specs.Views.{bounds_of}
+use Rattle.f77_syntax.specs.Views.{bounds_of}
 use Rattle.f77_stmt.specs.Declarations.{AreBoundsRead, ReadsBounds}
 use Rattle.f77_stmt.proofs.SeparatedLaws.{list_begun, list_grown, reads_begun, reads_grown, reads_ended, list_err, grown_err, shorter}
 use Rattle.f77_stmt.proofs.declarations.read_bounds.Goals as goal

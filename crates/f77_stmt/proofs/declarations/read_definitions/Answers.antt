@@ -1,8 +1,8 @@
 use Rattle.std.proofs.Common.{◌≡◌, ◌∙◌, sym, ap, [], ◌∷◌, ◌++◌, map, rules}
 use Rattle.std.proofs.lemmas.List.{map-append}
 use Rattle.std.proofs.lemmas.Result.{err_from_is_err_and}
-use Rattle.fv_meaning.specs.statements.Forms.{IsDefinition, written_definition, definition_tree, definition_depth}
-use Rattle.statements77.specs.Views.{constant_of}
+use Rattle.f77_grammar.specs.statements.Forms.{IsDefinition, written_definition, definition_tree, definition_depth}
+use Rattle.f77_syntax.specs.Views.{constant_of}
 use Rattle.f77_stmt.proofs.SeparatedLaws.{list_begun, list_grown, reads_begun, reads_grown, reads_ended, list_err, grown_err, shorter}
 use Rattle.f77_stmt.proofs.declarations.read_definitions.Goals as goal
 

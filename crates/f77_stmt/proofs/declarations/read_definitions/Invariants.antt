@@ -1,7 +1,7 @@
 use Rattle.std.proofs.Common.{length, map}
-use Rattle.fv_meaning.specs.statements.Forms.{IsDefinition, written_definition, definition_tree, definition_depth}
+use Rattle.f77_grammar.specs.statements.Forms.{IsDefinition, written_definition, definition_tree, definition_depth}
 use Rattle.f77_expr.specs.Views.{words_of}
-use Rattle.statements77.specs.Views.{constant_of}
+use Rattle.f77_syntax.specs.Views.{constant_of}
 use Rattle.f77_stmt.specs.Separated.{IsBeingRead}
 use Rattle.f77_stmt.proofs.declarations.read_definitions.Given as goal
 

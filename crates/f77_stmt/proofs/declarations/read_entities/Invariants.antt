@@ -1,7 +1,7 @@
 use Rattle.std.proofs.Common.{length, map}
-use Rattle.fv_meaning.specs.statements.Forms.{IsEntity, written_entity, entity_tree, entity_depth}
+use Rattle.f77_grammar.specs.statements.Forms.{IsEntity, written_entity, entity_tree, entity_depth}
 use Rattle.f77_expr.specs.Views.{words_of}
-use Rattle.statements77.specs.Views.{entity_of}
+use Rattle.f77_syntax.specs.Views.{entity_of}
 use Rattle.f77_stmt.specs.Separated.{IsBeingRead}
 use Rattle.f77_stmt.proofs.declarations.read_entities.Given as goal
 

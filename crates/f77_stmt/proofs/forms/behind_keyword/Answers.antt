@@ -1,7 +1,7 @@
 use Rattle.std.proofs.Common.{refl, subst}
-use Rattle.fv_meaning.specs.statements.Forms as forms
+use Rattle.f77_grammar.specs.statements.Forms as forms
 use Rattle.f77_expr.specs.Symbols.{symbols_of}
-use Rattle.statements77.proofs.Equations.{statement_of-else, statement_of-end_if, statement_of-continue, statement_of-stop, statement_of-end}
+use Rattle.f77_syntax.proofs.Equations.{statement_of-else, statement_of-end_if, statement_of-continue, statement_of-stop, statement_of-end}
 use Rattle.f77_stmt.specs.declared.keywords.Keyword.{Keyword}
 use Rattle.f77_stmt.specs.Keywords.{IsAfter}
 use Rattle.f77_stmt.proofs.forms.behind_keyword.Goals as goal

@@ -1,10 +1,10 @@
 use Rattle.std.proofs.Common.{List, ap, sym, ◌∙◌, subst}
 use Rattle.std.specs.List.{list_any}
 use Rattle.std.proofs.lemmas.Result.{err_from_is_err_and}
-use Rattle.fv_meaning.specs.expressions.Reading.{is_wide}
-use Rattle.fv_meaning.specs.expressions.Spelling.{Words}
-use Rattle.fv_meaning.specs.expressions.Squeezing.{Symbol}
-use Rattle.fv_meaning.specs.statements.Forms.{written_control}
+use Rattle.f77_grammar.specs.expressions.Reading.{is_wide}
+use Rattle.f77_grammar.specs.expressions.Spelling.{Words}
+use Rattle.f77_grammar.specs.expressions.Squeezing.{Symbol}
+use Rattle.f77_grammar.specs.statements.Forms.{written_control}
 use Rattle.f77_expr.specs.Symbols.{symbols_of}
 use Rattle.f77_expr.specs.Views.{words_of}
 use Rattle.f77_stmt.proofs.GivenLaws.{words_err, given_err}

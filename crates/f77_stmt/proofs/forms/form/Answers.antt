@@ -1,4 +1,4 @@
-use Rattle.fv_meaning.specs.statements.Forms.{Form}
+use Rattle.f77_grammar.specs.statements.Forms.{Form}
 use Rattle.f77_expr.specs.Symbols.{symbols_of}
 use Rattle.f77_stmt.specs.Parts.{Given, IsFormedOf}
 use Rattle.f77_stmt.proofs.RecognitionLaws.{found_conditional, is_conditional, is_unconditional}

@@ -1,5 +1,5 @@
 use Rattle.f77_expr.specs.Symbols.{symbols_of}
-use Rattle.f77_recognition.proofs.WordLaws.{true_false}
+use Rattle.f77_keywords.proofs.WordLaws.{true_false}
 use Rattle.f77_stmt.proofs.RecognitionLaws.{block_found, block_only, test_found, test_only}
 use Rattle.f77_stmt.proofs.forms.if_statement.Goals as goal
 

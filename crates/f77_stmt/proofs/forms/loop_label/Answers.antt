@@ -1,8 +1,8 @@
 use Rattle.std.proofs.Common.{◌++◌, ap, ◌∙◌}
-use Rattle.fv_meaning.specs.expressions.Spelling.{value, chars}
-use Rattle.fv_meaning.specs.statements.Forms.{optional_comma}
+use Rattle.f77_grammar.specs.expressions.Spelling.{value, chars}
+use Rattle.f77_grammar.specs.statements.Forms.{optional_comma}
 use Rattle.f77_expr.specs.Symbols.{symbols_of}
-use Rattle.f77_recognition.specs.FormsLeftOut.{without_comma}
+use Rattle.f77_keywords.specs.FormsLeftOut.{without_comma}
 use Rattle.f77_stmt.proofs.LoopLaws.{front_found, front_label, comma_gone}
 use Rattle.f77_stmt.proofs.forms.loop_label.Goals as goal
 

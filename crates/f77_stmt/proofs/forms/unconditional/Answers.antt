@@ -1,5 +1,5 @@
 use Rattle.std.proofs.Common.{sym, ◌∙◌}
-use Rattle.fv_meaning.specs.statements.Forms.{Form}
+use Rattle.f77_grammar.specs.statements.Forms.{Form}
 use Rattle.f77_expr.specs.Symbols.{symbols_of}
 use Rattle.f77_stmt.specs.Parts.{Given, IsFormedOf}
 use Rattle.f77_stmt.proofs.RecognitionLaws.{negated, affirmed, of_keyword, of_loop, of_assignment}

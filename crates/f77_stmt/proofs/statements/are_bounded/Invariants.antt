@@ -1,6 +1,6 @@
 use Rattle.std.proofs.Common.{◌≡◌, map, drop}
 use Rattle.std.specs.List.{list_all}
-use Rattle.statements77.specs.Views.{entity_of}
+use Rattle.f77_syntax.specs.Views.{entity_of}
 use Rattle.f77_stmt.specs.Formed.{has_bounds}
 use Rattle.f77_stmt.proofs.statements.are_bounded.Given as goal
 

@@ -1,9 +1,9 @@
 use Rattle.std.proofs.Common.{[], ◌∷◌, ◌++◌, ap, sym, ◌∙◌, subst}
 use Rattle.std.proofs.lemmas.Result.{err_from_is_err_and}
-use Rattle.fv_meaning.specs.expressions.Words as words
-use Rattle.fv_meaning.specs.statements.Forms.{Form, separated, written_definition}
+use Rattle.f77_grammar.specs.expressions.Words as words
+use Rattle.f77_grammar.specs.statements.Forms.{Form, separated, written_definition}
 use Rattle.f77_expr.specs.Views.{words_of}
-use Rattle.statements77.specs.declared.statements.Stmt77.TheVariants as stmts
+use Rattle.f77_syntax.specs.declared.statements.Stmt77.TheVariants as stmts
 use Rattle.f77_stmt.specs.Parts.{IsFormedOf}
 use Rattle.f77_stmt.proofs.GivenLaws.{words_err, given_err}
 use Rattle.f77_stmt.proofs.StatementLaws.{parameter_made}

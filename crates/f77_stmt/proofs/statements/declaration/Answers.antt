@@ -1,7 +1,7 @@
 use Rattle.std.proofs.Common.{ap, sym, ◌∙◌, subst}
-use Rattle.fv_meaning.specs.statements.Forms.{Form, separated, written_entity}
+use Rattle.f77_grammar.specs.statements.Forms.{Form, separated, written_entity}
 use Rattle.f77_expr.specs.Views.{words_of}
-use Rattle.statements77.specs.declared.statements.Stmt77.TheVariants as stmts
+use Rattle.f77_syntax.specs.declared.statements.Stmt77.TheVariants as stmts
 use Rattle.f77_stmt.specs.Parts.{IsFormedOf}
 use Rattle.f77_stmt.proofs.StatementLaws.{declared}
 use Rattle.f77_stmt.proofs.statements.declaration.Goals as goal

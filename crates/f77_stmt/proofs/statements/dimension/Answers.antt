@@ -1,9 +1,9 @@
 use Rattle.std.proofs.Common.{◌≡◌, true, map, ap, sym, ◌∙◌, subst, rules}
 use Rattle.std.specs.List.{list_all}
-use Rattle.fv_meaning.specs.statements.Forms.{Form, separated, written_entity}
+use Rattle.f77_grammar.specs.statements.Forms.{Form, separated, written_entity}
 use Rattle.f77_expr.specs.Views.{words_of}
-use Rattle.statements77.specs.Views.{entity_of}
-use Rattle.statements77.specs.declared.statements.Stmt77.TheVariants as stmts
+use Rattle.f77_syntax.specs.Views.{entity_of}
+use Rattle.f77_syntax.specs.declared.statements.Stmt77.TheVariants as stmts
 use Rattle.f77_stmt.specs.Formed.{has_bounds}
 use Rattle.f77_stmt.specs.Parts.{IsFormedOf}
 use Rattle.f77_stmt.proofs.StatementLaws.{are_entities, have_bounds, dimensioned}

@@ -1,6 +1,6 @@
 use Rattle.std.proofs.Common.{[], ◌∷◌, ap, ◌∙◌}
 use Rattle.std.proofs.lemmas.Result.{err_from_is_err_and}
-use Rattle.fv_meaning.specs.expressions.Words as words
+use Rattle.f77_grammar.specs.expressions.Words as words
 use Rattle.f77_expr.specs.Views.{words_of}
 use Rattle.f77_stmt.proofs.GivenLaws.{words_err}
 use Rattle.f77_stmt.proofs.StatementLaws.{program_only}

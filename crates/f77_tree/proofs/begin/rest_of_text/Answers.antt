@@ -1,8 +1,8 @@
 use Rattle.std.proofs.Common.{◌≡◌, ◌+◌, ◌-◌, drop, ap, ◌∙◌, arith}
-use Rattle.fv_meaning.specs.program.Tree as tree
+use Rattle.f77_grammar.specs.program.Tree as tree
 use Rattle.f77_constants.specs.Constants.{store_of}
 use Rattle.f77_names.specs.UsesView.{listed}
-use Rattle.statements77.specs.Views.{text_of}
+use Rattle.f77_syntax.specs.Views.{text_of}
 use Rattle.f77_tree.specs.Rests.{rest_of}
 use Rattle.f77_tree.proofs.BegunLaws.{rest_more}
 use Rattle.f77_tree.proofs.begin.rest_of_text.Goals as goal

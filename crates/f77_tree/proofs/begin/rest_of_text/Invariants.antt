@@ -1,9 +1,9 @@
 use Rattle.std.proofs.Common.{◌≡◌, ◌≤◌, length, drop}
-use Rattle.fv_meaning.specs.program.Tree as tree
+use Rattle.f77_grammar.specs.program.Tree as tree
 use Rattle.f77_constants.specs.Constants.{store_of}
 use Rattle.f77_names.specs.UsesView.{listed}
 use Rattle.f77_tree.specs.Rests.{rest_of}
-use Rattle.statements77.specs.Views.{text_of}
+use Rattle.f77_syntax.specs.Views.{text_of}
 use Rattle.f77_tree.proofs.begin.rest_of_text.Given as goal
 
 abbrev pub invariant-loop-i : goal.invariant-loop-i

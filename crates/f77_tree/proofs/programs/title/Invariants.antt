@@ -1,6 +1,6 @@
 use Rattle.std.proofs.Common.{◌≡◌, map, drop}
-use Rattle.fv_meaning.specs.program.Tree.{first_of_names}
-use Rattle.fv_meaning.specs.program.Uses.{is_title, names_that}
+use Rattle.f77_grammar.specs.program.Tree.{first_of_names}
+use Rattle.f77_grammar.specs.program.Uses.{is_title, names_that}
 use Rattle.f77_names.specs.UsesView.{plain_use}
 use Rattle.f77_tree.proofs.programs.title.Given as goal
 

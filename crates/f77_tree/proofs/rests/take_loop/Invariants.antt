@@ -1,6 +1,6 @@
 use Rattle.std.proofs.Common.{◌≡◌, ◌++◌, map}
 use Rattle.fv_tree.specs.View.{statement_of}
-use Rattle.fv_meaning.specs.program.Tree as tree
+use Rattle.f77_grammar.specs.program.Tree as tree
 use Rattle.f77_tree.specs.Rests.{pieces_in, made_by}
 use Rattle.f77_tree.proofs.rests.take_loop.Given as goal
 

@@ -1,6 +1,6 @@
 use Rattle.std.proofs.Common.{ap, ◌∙◌, arith}
 use Rattle.std.specs.Option.{option_to_list}
-use Rattle.fv_meaning.specs.program.Tree as tree
+use Rattle.f77_grammar.specs.program.Tree as tree
 use Rattle.f77_tree.proofs.TargetLaws.{targets_more, targets_end}
 use Rattle.f77_tree.proofs.targets.targets_in.Goals as goal
 

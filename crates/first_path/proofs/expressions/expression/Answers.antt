@@ -2,7 +2,7 @@ use Rattle.std.proofs.Common.{ap, sym, ◌∙◌}
 use Rattle.std.specs.Option.{option_copied}
 use Rattle.fv_tree.specs.View.{expression_of}
 use Rattle.fv_tree.specs.Plain.{Expression}
-use Rattle.fv_meaning.specs.ThinReader.{pieces_after, sum_after}
+use Rattle.first_path_grammar.specs.ThinReader.{pieces_after, sum_after}
 use Rattle.first_path.proofs.Sums.{none_at, some_at, some_more}
 use Rattle.first_path.proofs.expressions.expression.Goals as goal
 

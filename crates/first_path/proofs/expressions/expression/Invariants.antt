@@ -1,7 +1,7 @@
 use Rattle.std.proofs.Common.{◌≡◌}
 use Rattle.std.specs.Option.{option_copied}
 use Rattle.fv_tree.specs.View.{expression_of}
-use Rattle.fv_meaning.specs.ThinReader.{sum_after, pieces_after, expression_at}
+use Rattle.first_path_grammar.specs.ThinReader.{sum_after, pieces_after, expression_at}
 use Rattle.fv_deck.proofs.Pieces.{left_of}
 use Rattle.first_path.proofs.expressions.expression.Given as goal
 

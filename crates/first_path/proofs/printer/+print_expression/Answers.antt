@@ -6,7 +6,7 @@ use Rattle.std.specs.Prelude.{codes}
 use Rattle.fv_tree.specs.Plain.{Reference}
 use Rattle.fv_tree.specs.View.{expression_of}
 use Rattle.fv_tree.proofs.Equations.{expression_of-int, expression_of-truth, expression_of-item, expression_of-un, expression_of-bin, expression_of-call, reference_of-is}
-use Rattle.fv_meaning.specs.Printing90.{expression_text}
+use Rattle.first_path_grammar.specs.Printing90.{expression_text}
 use Rattle.first_path.proofs.Printed.{nothing_printed, printed_as, printed_after, joined}
 use Rattle.first_path.proofs.printer.+print_expression.Goals as goal
 

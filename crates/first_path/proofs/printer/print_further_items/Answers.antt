@@ -2,7 +2,7 @@ use Rattle.std.proofs.Common.{◌+◌, ◌++◌, ◌∷◌, [], ap, sym, refl, �
 use Rattle.std.specs.Prelude.{codes}
 use Rattle.std.proofs.lemmas.List.{map_more}
 use Rattle.fv_tree.specs.View.{item_of}
-use Rattle.fv_meaning.specs.Printing90.{item_text}
+use Rattle.first_path_grammar.specs.Printing90.{item_text}
 use Rattle.first_path.specs.Forms.{further_item}
 use Rattle.first_path.proofs.Printed.{joined, one_more}
 use Rattle.first_path.proofs.printer.print_further_items.Goals as goal

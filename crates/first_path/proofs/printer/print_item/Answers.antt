@@ -1,7 +1,7 @@
 use Rattle.std.proofs.Common.{ap, sym, ◌∙◌}
 use Rattle.fv_tree.specs.View.{item_of, expression_of}
 use Rattle.fv_tree.proofs.Equations.{item_of-one, item_of-text, item_of-turns}
-use Rattle.fv_meaning.specs.Printing90.{item_text, expression_text}
+use Rattle.first_path_grammar.specs.Printing90.{item_text, expression_text}
 use Rattle.first_path.proofs.Printed.{nothing_printed, printed_as}
 use Rattle.first_path.proofs.printer.print_item.Goals as goal
 

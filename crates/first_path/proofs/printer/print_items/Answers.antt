@@ -2,7 +2,7 @@ use Rattle.std.proofs.Common.{◌≡◌, ◌∷◌, ap, ◌∙◌, map, rules}
 use Rattle.std.specs.Prelude.{flat_map}
 use Rattle.fv_tree.specs.Plain.{items}
 use Rattle.fv_tree.specs.View.{item_of}
-use Rattle.fv_meaning.specs.Printing90.{item_text, items_text}
+use Rattle.first_path_grammar.specs.Printing90.{item_text, items_text}
 use Rattle.first_path.specs.Forms.{further_item}
 use Rattle.first_path.proofs.Printed.{first_and_further, printed_after}
 use Rattle.first_path.proofs.printer.print_items.Goals as goal

@@ -4,7 +4,7 @@ use Rattle.fv_tree.specs.declared.exprs.Ref.{out-Ref}
 use Rattle.fv_tree.specs.Plain.{Reference, items}
 use Rattle.fv_tree.specs.View.{statement_of, item_of, expression_of}
 use Rattle.fv_tree.proofs.Equations.{reference_of-is, statement_of-assign, statement_of-if, statement_of-do, statement_of-label, statement_of-go, statement_of-stop, statement_of-read, statement_of-print}
-use Rattle.fv_meaning.specs.Printing90.{line_of, items_text, expression_text}
+use Rattle.first_path_grammar.specs.Printing90.{line_of, items_text, expression_text}
 use Rattle.first_path.proofs.Printed.{nothing_printed, printed_after, joined}
 use Rattle.first_path.proofs.printer.print_statement.Goals as goal
 

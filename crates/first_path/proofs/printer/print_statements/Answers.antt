@@ -2,7 +2,7 @@ use Rattle.std.proofs.Common.{◌+◌, ◌++◌, ◌∷◌, [], ap, sym, refl, �
 use Rattle.std.specs.Prelude.{codes}
 use Rattle.std.proofs.lemmas.List.{map_more}
 use Rattle.fv_tree.specs.View.{statement_of}
-use Rattle.fv_meaning.specs.Printing90.{line_of}
+use Rattle.first_path_grammar.specs.Printing90.{line_of}
 use Rattle.first_path.specs.Forms.{statement_line}
 use Rattle.first_path.proofs.Printed.{joined, one_more}
 use Rattle.first_path.proofs.printer.print_statements.Goals as goal

@@ -3,7 +3,7 @@ use Rattle.std.specs.Prelude.{fold}
 use Rattle.fv_tree.specs.declared.exprs.Expr.{Expr}
 use Rattle.fv_tree.specs.View.{expression_of}
 use Rattle.fv_tree.proofs.Equations.{expression_of-int, expression_of-truth, expression_of-un, expression_of-bin, expression_of-call}
-use Rattle.fv_meaning.specs.Reading77.{with_name, expression_names}
+use Rattle.first_path_grammar.specs.Reading77.{with_name, expression_names}
 use Rattle.first_path.proofs.Noted.{nothing_noted, name_noted, two_noted}
 use Rattle.first_path.proofs.reader.+note_expression.Goals as goal
 

@@ -1,5 +1,5 @@
 use Rattle.std.proofs.Common.{refl, arith}
-use Rattle.fv_meaning.specs.ThinReader.{form_of}
+use Rattle.first_path_grammar.specs.ThinReader.{form_of}
 use Rattle.first_path.specs.Forms.{form_seen}
 use Rattle.first_path.specs.Progress.{progress_of}
 use Rattle.first_path.proofs.Gathered.{line_none, line_full, line_added}

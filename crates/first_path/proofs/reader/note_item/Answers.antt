@@ -1,7 +1,7 @@
 use Rattle.std.proofs.Common.{ap, sym, refl, ◌∙◌}
 use Rattle.fv_tree.specs.View.{item_of, expression_of}
 use Rattle.fv_tree.proofs.Equations.{item_of-one, item_of-text, item_of-turns}
-use Rattle.fv_meaning.specs.Reading77.{item_names, expression_names}
+use Rattle.first_path_grammar.specs.Reading77.{item_names, expression_names}
 use Rattle.first_path.proofs.Noted.{noted_as, item_without}
 use Rattle.first_path.proofs.reader.note_item.Goals as goal
 

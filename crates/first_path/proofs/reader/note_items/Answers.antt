@@ -3,7 +3,7 @@ use Rattle.std.specs.Prelude.{fold}
 use Rattle.std.proofs.lemmas.List.{map_more}
 use Rattle.fv_tree.specs.Plain.{Item, items}
 use Rattle.fv_tree.specs.View.{item_of}
-use Rattle.fv_meaning.specs.Reading77.{with_name, item_names, items_names}
+use Rattle.first_path_grammar.specs.Reading77.{with_name, item_names, items_names}
 use Rattle.first_path.proofs.Noted.{item_noted}
 use Rattle.first_path.proofs.reader.note_items.Goals as goal
 

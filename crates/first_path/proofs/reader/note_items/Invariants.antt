@@ -2,7 +2,7 @@ use Rattle.std.proofs.Common.{◌≡◌, map, take}
 use Rattle.std.specs.Prelude.{fold}
 use Rattle.fv_tree.specs.Plain.{items}
 use Rattle.fv_tree.specs.View.{item_of}
-use Rattle.fv_meaning.specs.Reading77.{with_name, items_names}
+use Rattle.first_path_grammar.specs.Reading77.{with_name, items_names}
 use Rattle.first_path.proofs.reader.note_items.Given as goal
 
 -- the names of the items so far are noted

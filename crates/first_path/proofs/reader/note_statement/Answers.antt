@@ -2,7 +2,7 @@ use Rattle.std.proofs.Common.{ap, sym, refl, ◌∙◌, map}
 use Rattle.fv_tree.specs.Plain.{items}
 use Rattle.fv_tree.specs.View.{statement_of, item_of}
 use Rattle.fv_tree.proofs.Equations.{statement_of-if, statement_of-do, statement_of-label, statement_of-go, statement_of-stop, statement_of-read, statement_of-print}
-use Rattle.fv_meaning.specs.Reading77.{statement_names, items_names}
+use Rattle.first_path_grammar.specs.Reading77.{statement_names, items_names}
 use Rattle.first_path.proofs.Noted.{statement_without, noted_as, assigned_as}
 use Rattle.first_path.proofs.reader.note_statement.Goals as goal
 

@@ -2,7 +2,7 @@ use Rattle.std.proofs.Common.{ap, ◌∙◌, List, None, map}
 use Rattle.fv_tree.specs.declared.stmts.Stmt as stmt
 use Rattle.fv_tree.specs.declared.stmts.Block.{roll-Block}
 use Rattle.fv_tree.specs.View.{block_of}
-use Rattle.fv_meaning.specs.Reading77.{integer_scalar}
+use Rattle.first_path_grammar.specs.Reading77.{integer_scalar}
 use Rattle.first_path.proofs.Gathered.{in_byte_order, body_is}
 use Rattle.first_path.proofs.reader.program.Goals as goal
 

@@ -1,9 +1,9 @@
 use Rattle.std.proofs.Common.{◌≡◌, ap, sym, ◌∙◌, arith, length, Some, subst, inr}
 use Rattle.fv_tree.specs.Plain.{Program}
 use Rattle.fv_meaning.specs.Deck.{lines_of}
-use Rattle.fv_meaning.specs.Reading77.{ReadsThin}
-use Rattle.fv_meaning.specs.Reading77.RefusedThin.{TooLong}
-use Rattle.fv_meaning.proofs.ThinLaws.{reads_ended}
+use Rattle.first_path_grammar.specs.Reading77.{ReadsThin}
+use Rattle.first_path_grammar.specs.Reading77.RefusedThin.{TooLong}
+use Rattle.first_path_grammar.proofs.ThinLaws.{reads_ended}
 use Rattle.first_path.specs.Progress.{progress_of}
 use Rattle.first_path.proofs.Gathered.{refused_as, unread_refused, answered, end_early, end_missing}
 use Rattle.first_path.proofs.Shape.{reads_thin}

@@ -1,6 +1,6 @@
 use Rattle.std.proofs.Common.{◌≡◌, ◌≤◌, ◌+◌, length}
 use Rattle.fv_meaning.specs.Deck.{lines_of}
-use Rattle.fv_meaning.specs.ThinReader.{read_lines, nothing_read}
+use Rattle.first_path_grammar.specs.ThinReader.{read_lines, nothing_read}
 use Rattle.first_path.specs.Progress.{progress_of}
 use Rattle.first_path.proofs.reader.read_lines.Given as goal
 

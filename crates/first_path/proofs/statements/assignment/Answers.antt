@@ -1,7 +1,7 @@
 use Rattle.std.proofs.Common.{◌≡◌, ◌∷◌, ap, sym, ◌∙◌}
 use Rattle.std.specs.Option.{option_copied, option_map}
 use Rattle.fv_tree.specs.View.{statement_of}
-use Rattle.fv_meaning.specs.ThinReader.{pieces_after, assigned_at, assignment_at}
+use Rattle.first_path_grammar.specs.ThinReader.{pieces_after, assigned_at, assignment_at}
 use Rattle.first_path.proofs.Spelled.{lone_side, no_name, two_sides, if_ok}
 use Rattle.first_path.proofs.statements.assignment.Goals as goal
 

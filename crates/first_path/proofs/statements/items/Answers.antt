@@ -2,7 +2,7 @@ use Rattle.std.proofs.Common.{map, ap, Some, sym, ◌∙◌, List}
 use Rattle.std.specs.Option.{option_copied}
 use Rattle.fv_tree.specs.Plain.{Item}
 use Rattle.fv_tree.specs.View.{item_of, expression_of}
-use Rattle.fv_meaning.specs.ThinReader.{items_of, pieces_after, expression_at}
+use Rattle.first_path_grammar.specs.ThinReader.{items_of, pieces_after, expression_at}
 use Rattle.first_path.proofs.Sums.{items_after, some_item, all_joined}
 use Rattle.first_path.proofs.Spelled.{item_pushed, some_of}
 use Rattle.first_path.proofs.statements.items.Goals as goal

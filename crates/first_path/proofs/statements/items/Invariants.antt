@@ -1,7 +1,7 @@
 use Rattle.std.proofs.Common.{◌≡◌, map}
 use Rattle.std.specs.Option.{option_copied}
 use Rattle.fv_tree.specs.View.{item_of}
-use Rattle.fv_meaning.specs.ThinReader.{items_of, pieces, pieces_after}
+use Rattle.first_path_grammar.specs.ThinReader.{items_of, pieces, pieces_after}
 use Rattle.fv_deck.proofs.Pieces.{left_of}
 use Rattle.first_path.proofs.Sums.{items_after}
 use Rattle.first_path.proofs.statements.items.Given as goal

@@ -1,7 +1,7 @@
 use Rattle.std.proofs.Common.{map}
 use Rattle.fv_tree.specs.Plain.{items}
 use Rattle.fv_tree.specs.View.{item_of}
-use Rattle.fv_meaning.specs.ThinReader.{items_of, pieces}
+use Rattle.first_path_grammar.specs.ThinReader.{items_of, pieces}
 use Rattle.first_path.proofs.Spelled.{print_none, print_some, none_of, some_of}
 use Rattle.first_path.proofs.statements.print.Goals as goal
 

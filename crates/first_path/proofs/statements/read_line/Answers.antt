@@ -1,6 +1,6 @@
 use Rattle.std.proofs.Common.{◌≡◌, sym, ◌∙◌}
 use Rattle.std.specs.Option.{option_map}
-use Rattle.fv_meaning.specs.ThinReader.{form_at, form_of}
+use Rattle.first_path_grammar.specs.ThinReader.{form_at, form_of}
 use Rattle.first_path.specs.Forms.{form_seen}
 use Rattle.first_path.proofs.Spelled.{no_card, on_card, if_ok}
 use Rattle.first_path.proofs.statements.read_line.Goals as goal

@@ -1,6 +1,6 @@
 use Rattle.std.proofs.Common.{sym, ◌∙◌}
 use Rattle.fv_tree.specs.View.{statement_of}
-use Rattle.fv_meaning.specs.ThinReader.{statement_at}
+use Rattle.first_path_grammar.specs.ThinReader.{statement_at}
 use Rattle.first_path.proofs.Spelled.{form_end, form_none, form_some, none_of, some_of}
 use Rattle.first_path.proofs.statements.spelled.Goals as goal
 

@@ -1,7 +1,7 @@
 use Rattle.std.proofs.Common.{◌≡◌, ◌-◌, length, take, drop, sym, ◌∙◌}
 use Rattle.std.specs.Option.{option_map}
 use Rattle.fv_tree.specs.View.{statement_of}
-use Rattle.fv_meaning.specs.ThinReader.{print_at, assignment_at, statement_at}
+use Rattle.first_path_grammar.specs.ThinReader.{print_at, assignment_at, statement_at}
 use Rattle.first_path.proofs.Spelled.{statement_print, statement_assign, if_ok}
 use Rattle.first_path.proofs.statements.statement.Goals as goal
 

@@ -1,5 +1,5 @@
 use Rattle.std.proofs.Common.{◌≡◌, ◌^◌, ◌<◌, take, unwrap_or}
-use Rattle.fv_meaning.specs.Cards.{label_in}
+use Rattle.f77_grammar.specs.Cards.{label_in}
 use Rattle.fixed_form.proofs.cards.label.Given as goal
 
 abbrev pub invariant-loop-column : goal.invariant-loop-column

@@ -1,6 +1,6 @@
 use Rattle.std.proofs.Common.{◌∙◌, ap, refl}
-use Rattle.fv_meaning.specs.Cards.{label_in}
-use Rattle.fv_meaning.proofs.Grouping.{leading}
+use Rattle.f77_grammar.specs.Cards.{label_in}
+use Rattle.f77_grammar.proofs.Grouping.{leading}
 use Rattle.fixed_form.specs.Source.{line_of}
 use Rattle.fixed_form.specs.Left.{lines_left}
 use Rattle.fixed_form.proofs.ReadCards.{card_is, when_none}

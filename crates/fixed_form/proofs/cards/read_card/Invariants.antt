@@ -1,7 +1,7 @@
 use Rattle.std.proofs.Common.{◌≡◌, ◌≤◌, ◌++◌, ◌∷◌, length}
 use Rattle.std.specs.List.{flat_map}
-use Rattle.fv_meaning.specs.Cards.{statement_field}
-use Rattle.fv_meaning.proofs.Grouping.{leading, grouped}
+use Rattle.f77_grammar.specs.Cards.{statement_field}
+use Rattle.f77_grammar.proofs.Grouping.{leading, grouped}
 use Rattle.fixed_form.specs.Source.{line_of}
 use Rattle.fixed_form.specs.Left.{lines_left}
 use Rattle.fixed_form.proofs.cards.read_card.Given as goal

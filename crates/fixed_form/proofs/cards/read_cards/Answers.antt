@@ -1,7 +1,7 @@
 use Rattle.std.proofs.Common.{◌++◌, ◌∙◌, ap, map}
-use Rattle.fv_meaning.specs.Cards.{card_in}
-use Rattle.fv_meaning.proofs.CardLaws.{unrefused_short, unrefused_front}
-use Rattle.fv_meaning.proofs.Grouping.{leading, grouped}
+use Rattle.f77_grammar.specs.Cards.{card_in}
+use Rattle.f77_grammar.proofs.CardLaws.{unrefused_short, unrefused_front}
+use Rattle.f77_grammar.proofs.Grouping.{leading, grouped}
 use Rattle.fixed_form.specs.Card.{card_of}
 use Rattle.fixed_form.specs.Left.{lines_left}
 use Rattle.fixed_form.proofs.cards.read_cards.Goals as goal

@@ -1,7 +1,7 @@
 use Rattle.std.proofs.Common.{◌≡◌, ◌++◌, [], length}
 use Rattle.std.specs.Prelude.{map}
-use Rattle.fv_meaning.specs.Cards.{card_in, statement_lines}
-use Rattle.fv_meaning.proofs.Grouping.{leading, grouped}
+use Rattle.f77_grammar.specs.Cards.{card_in, statement_lines}
+use Rattle.f77_grammar.proofs.Grouping.{leading, grouped}
 use Rattle.fixed_form.specs.Card.{card_of}
 use Rattle.fixed_form.specs.Left.{lines_left}
 use Rattle.fixed_form.proofs.cards.read_cards.Given as goal

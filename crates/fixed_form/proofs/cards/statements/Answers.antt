@@ -1,6 +1,6 @@
 use Rattle.std.proofs.Common.{◌≡◌, None, Some, sym, ◌∙◌, inl}
-use Rattle.fv_meaning.proofs.CardCauses.{refusal_of, refusal_of-Some}
-use Rattle.fv_meaning.proofs.CardLaws.{ReadsCards-from_grouped, grouped_from_ReadsCards, unrefused, refused}
+use Rattle.f77_grammar.proofs.CardCauses.{refusal_of, refusal_of-Some}
+use Rattle.f77_grammar.proofs.CardLaws.{ReadsCards-from_grouped, grouped_from_ReadsCards, unrefused, refused}
 use Rattle.fixed_form.proofs.ReadCards.{none_left}
 use Rattle.fixed_form.proofs.cards.statements.Goals as goal
 

@@ -1,6 +1,6 @@
 use Rattle.std.proofs.Common.{arith, ◌≡◌, None, List, ap, length}
-use Rattle.fv_meaning.specs.Cards.{Line, statement_lines, statement_lines_from}
-use Rattle.fv_meaning.proofs.CardCauses.{first_wrong}
+use Rattle.f77_grammar.specs.Cards.{Line, statement_lines, statement_lines_from}
+use Rattle.f77_grammar.proofs.CardCauses.{first_wrong}
 use Rattle.fixed_form.specs.Source.{cause_of}
 use Rattle.fixed_form.proofs.Kept.{statement_lines-le}
 use Rattle.fixed_form.proofs.refusals.first_wrong.Goals as goal

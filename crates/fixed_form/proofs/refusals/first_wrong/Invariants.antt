@@ -1,6 +1,6 @@
 use Rattle.std.proofs.Common.{◌≡◌, ◌+◌, ◌^◌, ◌≤◌, length, unwrap_or, None}
-use Rattle.fv_meaning.specs.Cards.{statement_lines}
-use Rattle.fv_meaning.proofs.CardCauses.{first_wrong}
+use Rattle.f77_grammar.specs.Cards.{statement_lines}
+use Rattle.f77_grammar.proofs.CardCauses.{first_wrong}
 use Rattle.fixed_form.specs.Source.{cause_of}
 use Rattle.fixed_form.specs.Left.{lines_left}
 use Rattle.fixed_form.proofs.refusals.first_wrong.Given as goal

@@ -1,7 +1,7 @@
 use Rattle.std.proofs.Common.{◌≡◌, drop}
 use Rattle.std.specs.Prelude.{map}
-use Rattle.fv_meaning.specs.Cards.{statement_lines}
-use Rattle.fv_meaning.proofs.CardCauses.{first_cause, causes}
+use Rattle.f77_grammar.specs.Cards.{statement_lines}
+use Rattle.f77_grammar.proofs.CardCauses.{first_cause, causes}
 use Rattle.fixed_form.specs.Source.{cause_of}
 use Rattle.fixed_form.proofs.refusals.refusal.Given as goal
 

@@ -1,5 +1,5 @@
 use Rattle.std.proofs.Common.{sym}
-use Rattle.fv_meaning.proofs.FirstLine.{strip-return, strip-other}
+use Rattle.f77_grammar.proofs.FirstLine.{strip-return, strip-other}
 use Rattle.fixed_form.proofs.source.without_carriage_return.Goals as goal
 
 pub returns-in-Some : goal.returns-in-Some

@@ -1,6 +1,6 @@
 use Rattle.std.proofs.Common.{sym, subst, refl}
-use Rattle.fv_notes.specs.declared.outcome.Outcome.{Outcome}
-use Rattle.fv_words.specs.declared.commands.Command.TheVariants.{Run77}
+use Rattle.fv_report.specs.declared.outcome.Outcome.{Outcome}
+use Rattle.fv_command.specs.declared.commands.Command.TheVariants.{Run77}
 use Rattle.fv_tool.specs.Works.{Works}
 use Rattle.fv_tool.proofs.Readings.{run_unread, run_comes}
 use Rattle.fv_tool.proofs.running.run.Goals as goal

@@ -1,6 +1,6 @@
 use Rattle.std.proofs.Common.{sym, subst, refl}
-use Rattle.fv_notes.specs.declared.outcome.Outcome.{Outcome}
-use Rattle.fv_words.specs.declared.commands.Command.TheVariants.{Vectorise}
+use Rattle.fv_report.specs.declared.outcome.Outcome.{Outcome}
+use Rattle.fv_command.specs.declared.commands.Command.TheVariants.{Vectorise}
 use Rattle.fv_tool.specs.Works.{Works}
 use Rattle.fv_tool.proofs.Readings.{translation_unread, translation_given, translation_cut}
 use Rattle.fv_tool.proofs.translation.vectorise.Goals as goal

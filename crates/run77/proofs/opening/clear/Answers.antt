@@ -1,6 +1,6 @@
 use Rattle.std.proofs.Common.{◌∙◌, ap, ◌+◌, ◌-◌, arith}
 use Rattle.run77.proofs.OpeningLaws.{fill_more}
-use Rattle.fv_meaning.specs.program.Profile.{elements_of}
+use Rattle.fv_meaning.specs.Profile77.{elements_of}
 use Rattle.run77.proofs.opening.clear.Goals as goal
 
 pub loop-variable-preserved : goal.loop-variable-preserved

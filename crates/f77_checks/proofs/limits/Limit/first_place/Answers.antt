@@ -1,5 +1,5 @@
-use Rattle.fv_meaning.specs.program.Limits.{constants_of}
-use Rattle.statements77.specs.Views.{text_of}
+use Rattle.f77_grammar.specs.program.Limits.{constants_of}
+use Rattle.f77_syntax.specs.Views.{text_of}
 use Rattle.f77_checks.specs.declared.limits.Limit.TheVariants.{Bounds, Elements, Constants}
 use Rattle.f77_checks.proofs.Breaches.{by_limit}
 use Rattle.f77_checks.proofs.limits.Limit.first_place.Goals as goal

@@ -1,7 +1,7 @@
 use Rattle.std.proofs.Common.{◌≡◌, ◌+◌, map, drop}
 use Rattle.std.specs.Prelude.{sum}
-use Rattle.fv_meaning.specs.program.Limits.{elements}
-use Rattle.statements77.specs.Views.{entity_of}
+use Rattle.f77_grammar.specs.program.Limits.{elements}
+use Rattle.f77_syntax.specs.Views.{entity_of}
 use Rattle.f77_constants.specs.Constants.{store_of}
 use Rattle.f77_constants.specs.Bounds.{capped, bounds_in}
 use Rattle.f77_constants.proofs.constants.Constants.all_elements.Given as goal

@@ -1,6 +1,6 @@
 use Rattle.std.proofs.Common.{◌≡◌, map, drop}
 use Rattle.std.specs.List.{list_any}
-use Rattle.statements77.specs.Views.{entity_of}
+use Rattle.f77_syntax.specs.Views.{entity_of}
 use Rattle.f77_constants.specs.Constants.{store_of}
 use Rattle.f77_constants.specs.Bounds.{has_reversed, bounds_in}
 use Rattle.f77_constants.proofs.constants.Constants.any_reversed.Given as goal

@@ -1,7 +1,7 @@
 use Rattle.std.proofs.Common.{◌≡◌, List, ◌++◌, map, drop}
 use Rattle.fv_tree.specs.View as view
-use Rattle.fv_meaning.specs.program.Uses.{Use}
-use Rattle.statements77.specs.Views.{text_of}
+use Rattle.f77_grammar.specs.program.Uses.{Use}
+use Rattle.f77_syntax.specs.Views.{text_of}
 use Rattle.f77_constants.specs.Constants.{store_of}
 use Rattle.f77_constants.specs.Declarations.{AreFacts, narrow_declarations}
 use Rattle.f77_constants.proofs.constants.Constants.declare.Given as goal

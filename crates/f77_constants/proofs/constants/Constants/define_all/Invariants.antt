@@ -1,6 +1,6 @@
 use Rattle.std.proofs.Common.{◌≡◌, map, drop}
-use Rattle.fv_meaning.specs.program.Limits.{with_constants}
-use Rattle.statements77.specs.Views.{constant_of}
+use Rattle.f77_grammar.specs.program.Limits.{with_constants}
+use Rattle.f77_syntax.specs.Views.{constant_of}
 use Rattle.f77_constants.specs.Constants.{store_of}
 use Rattle.f77_constants.proofs.constants.Constants.define_all.Given as goal
 

@@ -1,6 +1,6 @@
 use Rattle.std.proofs.Common.{◌≡◌, ◌++◌, map, drop}
 use Rattle.fv_tree.specs.View as view
-use Rattle.statements77.specs.Views.{bounds_of}
+use Rattle.f77_syntax.specs.Views.{bounds_of}
 use Rattle.f77_constants.specs.Constants.{store_of}
 use Rattle.f77_constants.specs.Declarations.{narrow, dimensions}
 use Rattle.f77_constants.proofs.constants.Constants.dims.Given as goal

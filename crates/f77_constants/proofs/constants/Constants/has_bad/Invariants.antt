@@ -1,5 +1,5 @@
 use Rattle.std.proofs.Common.{◌≡◌, map, drop}
-use Rattle.statements77.specs.Views.{bounds_of}
+use Rattle.f77_syntax.specs.Views.{bounds_of}
 use Rattle.f77_constants.specs.Constants.{store_of}
 use Rattle.f77_constants.specs.Bounds.{has_bad}
 use Rattle.f77_constants.proofs.constants.Constants.has_bad.Given as goal

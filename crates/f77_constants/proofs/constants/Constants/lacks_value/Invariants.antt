@@ -1,5 +1,5 @@
 use Rattle.std.proofs.Common.{◌≡◌, map, drop}
-use Rattle.statements77.specs.Views.{constant_of}
+use Rattle.f77_syntax.specs.Views.{constant_of}
 use Rattle.f77_constants.specs.Constants.{store_of}
 use Rattle.f77_constants.specs.Bounds.{lacks_value}
 use Rattle.f77_constants.proofs.constants.Constants.lacks_value.Given as goal

@@ -1,6 +1,6 @@
 use Rattle.std.proofs.Common.{◌*◌, ap, sym, ◌∙◌, arith, map}
-use Rattle.fv_meaning.specs.program.Limits.{product_of_sizes}
-use Rattle.statements77.specs.Views.{bounds_of}
+use Rattle.f77_grammar.specs.program.Limits.{product_of_sizes}
+use Rattle.f77_syntax.specs.Views.{bounds_of}
 use Rattle.f77_constants.specs.Constants.{store_of}
 use Rattle.f77_constants.specs.Bounds.{capped}
 use Rattle.f77_constants.proofs.SizeLaws.{capped_once, product_more}

@@ -1,6 +1,6 @@
 use Rattle.std.proofs.Common.{◌≡◌, ◌*◌, map, drop}
-use Rattle.fv_meaning.specs.program.Limits.{product_of_sizes}
-use Rattle.statements77.specs.Views.{bounds_of}
+use Rattle.f77_grammar.specs.program.Limits.{product_of_sizes}
+use Rattle.f77_syntax.specs.Views.{bounds_of}
 use Rattle.f77_constants.specs.Constants.{store_of}
 use Rattle.f77_constants.specs.Bounds.{capped}
 use Rattle.f77_constants.proofs.constants.Constants.product.Given as goal

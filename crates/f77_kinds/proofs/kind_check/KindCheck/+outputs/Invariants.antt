@@ -1,7 +1,7 @@
 use Rattle.std.proofs.Common.{◌≡◌, map, drop}
 use Rattle.fv_tree.specs.Plain.{items}
 use Rattle.fv_tree.specs.View.{item_of}
-use Rattle.fv_meaning.specs.program.Kinds as kinds
+use Rattle.f77_grammar.specs.program.Kinds as kinds
 use Rattle.f77_names.specs.UsesView.{listed}
 use Rattle.f77_kinds.proofs.kind_check.KindCheck.+outputs.Given as goal
 

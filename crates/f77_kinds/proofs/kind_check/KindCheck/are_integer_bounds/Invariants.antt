@@ -1,6 +1,6 @@
 use Rattle.std.proofs.Common.{◌≡◌, map, drop}
-use Rattle.fv_meaning.specs.program.Kinds as kinds
-use Rattle.statements77.specs.Views.{bounds_of}
+use Rattle.f77_grammar.specs.program.Kinds as kinds
+use Rattle.f77_syntax.specs.Views.{bounds_of}
 use Rattle.f77_names.specs.UsesView.{listed}
 use Rattle.f77_kinds.proofs.kind_check.KindCheck.are_integer_bounds.Given as goal
 

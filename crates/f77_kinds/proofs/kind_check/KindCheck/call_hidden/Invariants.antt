@@ -1,6 +1,6 @@
 use Rattle.std.proofs.Common.{◌≡◌, map, drop}
 use Rattle.std.specs.List.{list_any}
-use Rattle.fv_meaning.specs.program.Kinds as kinds
+use Rattle.f77_grammar.specs.program.Kinds as kinds
 use Rattle.f77_names.specs.UsesView.{listed, plain_use}
 use Rattle.f77_kinds.proofs.kind_check.KindCheck.call_hidden.Given as goal
 

@@ -1,5 +1,5 @@
 use Rattle.std.proofs.Common.{sym, ap, ◌∙◌}
-use Rattle.fv_meaning.specs.program.Kinds as kinds
+use Rattle.f77_grammar.specs.program.Kinds as kinds
 use Rattle.f77_names.specs.UsesView.{listed, plain_use}
 use Rattle.f77_kinds.proofs.HiddenLaws.{call-is}
 use Rattle.f77_kinds.proofs.kind_check.KindCheck.calls_hidden.Goals as goal

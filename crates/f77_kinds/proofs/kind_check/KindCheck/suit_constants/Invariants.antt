@@ -1,7 +1,7 @@
 use Rattle.std.proofs.Common.{◌≡◌, map, drop}
-use Rattle.fv_meaning.specs.Statement77 as plain
-use Rattle.fv_meaning.specs.program.Kinds as kinds
-use Rattle.statements77.specs.Views.{constant_of}
+use Rattle.f77_grammar.specs.Statement77 as plain
+use Rattle.f77_grammar.specs.program.Kinds as kinds
+use Rattle.f77_syntax.specs.Views.{constant_of}
 use Rattle.f77_names.specs.UsesView.{listed}
 use Rattle.f77_kinds.proofs.kind_check.KindCheck.suit_constants.Given as goal
 

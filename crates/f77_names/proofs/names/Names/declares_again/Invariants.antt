@@ -1,5 +1,5 @@
 use Rattle.std.proofs.Common.{◌≡◌, List, map, drop}
-use Rattle.fv_meaning.specs.program.Uses.{Use}
+use Rattle.f77_grammar.specs.program.Uses.{Use}
 use Rattle.f77_names.specs.UsesView.{plain_use}
 use Rattle.f77_names.specs.Seen.{HaveSeen, seen_after, declares_again}
 use Rattle.f77_names.proofs.names.Names.declares_again.Given as goal

@@ -1,7 +1,7 @@
 use Rattle.std.proofs.Common.{map, take, ◌+◌, ap, ◌∙◌, arith}
 use Rattle.fv_tree.specs.Plain.{subscripts, expressions}
 use Rattle.fv_tree.specs.View.{expression_of, subscript_of}
-use Rattle.fv_meaning.specs.program.Uses as plain
+use Rattle.f77_grammar.specs.program.Uses as plain
 use Rattle.f77_names.specs.UsesView.{listed}
 use Rattle.f77_names.proofs.UseLaws.{uses-int, uses-truth, arguments_more, subscripts_more, nothing_added, added}
 use Rattle.f77_names.proofs.uses.Uses.+uses.Goals as goal

@@ -1,6 +1,6 @@
 use Rattle.std.proofs.Common.{◌≡◌, map, take}
 use Rattle.fv_tree.specs.View.{item_of}
-use Rattle.fv_meaning.specs.program.Tree as tree
+use Rattle.f77_grammar.specs.program.Tree as tree
 use Rattle.f77_constants.specs.Constants.{store_of}
 use Rattle.f77_names.specs.UsesView.{listed}
 use Rattle.f77_tree.proofs.resolver.Resolver.+inputs.Given as goal

@@ -2,7 +2,7 @@ use Rattle.std.proofs.Common.{[], ◌∷◌, ◌++◌, ap, ◌∙◌}
 use Rattle.fv_tree.specs.Plain as plain
 use Rattle.fv_tree.specs.View.{expression_of, block_of}
 use Rattle.fv_tree.specs.declared.stmts.Arm.{roll-Arm}
-use Rattle.fv_meaning.specs.program.Tree as tree
+use Rattle.f77_grammar.specs.program.Tree as tree
 use Rattle.f77_constants.specs.Constants.{store_of}
 use Rattle.f77_names.specs.UsesView.{listed}
 use Rattle.f77_tree.proofs.SimpleLaws.{branch-is}

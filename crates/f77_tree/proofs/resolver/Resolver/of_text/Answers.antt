@@ -1,5 +1,5 @@
 use Rattle.std.proofs.Common.{map, ap, ◌∙◌}
-use Rattle.statements77.specs.Views.{text_of}
+use Rattle.f77_syntax.specs.Views.{text_of}
 use Rattle.f77_names.specs.NameFacts.{nothing_known, facts_of}
 use Rattle.f77_names.specs.UsesView.{plain_use}
 use Rattle.f77_tree.proofs.RangeLaws.{table_in_range}

@@ -1,9 +1,9 @@
 use Rattle.std.proofs.Common.{◌≡◌, map}
 use Rattle.fv_tree.specs.View.{statement_of as tree_statement_of}
-use Rattle.fv_meaning.specs.program.Tree as tree
+use Rattle.f77_grammar.specs.program.Tree as tree
 use Rattle.f77_constants.specs.Constants.{store_of}
 use Rattle.f77_names.specs.UsesView.{listed}
-use Rattle.statements77.specs.Views.{labelled_of, statement_of}
+use Rattle.f77_syntax.specs.Views.{labelled_of, statement_of}
 use Rattle.f77_tree.specs.declared.rests.Rest.{Rest}
 use Rattle.f77_tree.specs.Rests.{rest_of, heading_of}
 use Rattle.f77_tree.proofs.BegunLaws.{do_is}

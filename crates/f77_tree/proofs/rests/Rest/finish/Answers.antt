@@ -1,7 +1,7 @@
 use Rattle.std.proofs.Common.{◌≡◌}
 use Rattle.fv_tree.specs.View.{block_of}
 use Rattle.fv_tree.specs.declared.stmts.Block.{Block}
-use Rattle.fv_meaning.specs.program.Tree as tree
+use Rattle.f77_grammar.specs.program.Tree as tree
 use Rattle.f77_tree.specs.Rests.{pieces_in, rest_of}
 use Rattle.f77_tree.proofs.RestLaws.{finish_is, ok_follows}
 use Rattle.f77_tree.proofs.rests.Rest.finish.Goals as goal

@@ -1,7 +1,7 @@
 use Rattle.std.proofs.Common.{arith, ◌≡◌, ◌+◌, ◌∷◌, length, sym, ap, ◌∙◌}
 use Rattle.std.proofs.lemmas.Bool.{eqb-true}
 use Rattle.std.proofs.lemmas.List.{nil_from_length}
-use Rattle.fv_meaning.specs.Cards.{statement_lines_from}
+use Rattle.f77_grammar.specs.Cards.{statement_lines_from}
 use Rattle.fixed_form.specs.Source.{line_of}
 use Rattle.fixed_form.proofs.Kept.{lines_from-comment, lines_from-kept, lines_from-none}
 use Rattle.fixed_form.proofs.source.LinesIterator.next.Goals as goal

@@ -1,7 +1,7 @@
 use Rattle.std.proofs.Common.{sym, ◌∙◌, subst}
 use Rattle.fv_tree.specs.Plain.{Program}
 use Rattle.fv_tree.specs.View.{block_of}
-use Rattle.fv_meaning.specs.program.Profile.{IsProgram77, outermost}
+use Rattle.fv_meaning.specs.Profile77.{IsProgram77, outermost}
 use Rattle.run77.specs.declared.machine.Machine77.{Machine77}
 use Rattle.run77.specs.Statements.{BlockHasArms}
 use Rattle.run77.specs.Machine.{IsMachineOf}

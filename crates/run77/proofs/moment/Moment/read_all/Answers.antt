@@ -1,6 +1,6 @@
 use Rattle.std.proofs.Common.{◌≡◌, ap, sym, ◌∙◌, ℕ, ◌<◌, [], length, get_or, Ok, Err, arith}
 use Rattle.fv_meaning.specs.Store.{Cell, cells_of}
-use Rattle.fv_meaning.specs.program.Profile.{elements_of}
+use Rattle.fv_meaning.specs.Profile77.{elements_of}
 use Rattle.fv_meaning.specs.Sequential.{integer_bits}
 use Rattle.fv_meaning.specs.Run.{for_each, reads_into}
 use Rattle.run77.specs.declared.moment.Left.TheVariants.{Halted}

@@ -2,7 +2,7 @@ use Rattle.std.proofs.Common.{◌≡◌, sym, ap, ◌∙◌, ◌+◌, ◌-◌, t
 use mathlib.Core.Path.{ap₂}
 use Rattle.fv_tree.specs.declared.ops.Value.{Value}
 use Rattle.fv_tree.specs.declared.ops.Fault.{Fault}
-use Rattle.fv_meaning.specs.program.Profile.{elements_of}
+use Rattle.fv_meaning.specs.Profile77.{elements_of}
 use Rattle.run77.specs.Stored.{names_in, bounds_here}
 use Rattle.run77.proofs.PrintLaws.{all_found}
 use Rattle.run77.proofs.storage.Storage.all.Goals as goal

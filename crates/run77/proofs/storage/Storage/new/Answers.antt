@@ -2,7 +2,7 @@ use Rattle.std.proofs.Common.{◌∙◌, sym, ap, subst, map, length, take, repl
 use Rattle.std.specs.Map.{values_of as variables_of}
 use Rattle.std.specs.Vec.Iter.{into_iter_items}
 use Rattle.fv_tree.specs.View.{declaration_of}
-use Rattle.fv_meaning.specs.program.Profile.{elements_of}
+use Rattle.fv_meaning.specs.Profile77.{elements_of}
 use Rattle.run77.specs.Storage.{declared, AreArrays, AreBounds, bounds_list}
 use Rattle.run77.proofs.ProgramLaws.{opens_with}
 use Rattle.run77.proofs.OpeningLaws.{AreKept, absent, bounds_placed, keep_more, all_placed, nothing, few_placed, resized, as_many}

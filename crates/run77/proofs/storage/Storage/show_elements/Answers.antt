@@ -2,7 +2,7 @@ use Rattle.std.proofs.Common.{sym, ap, ◌∙◌, subst, arith}
 use Rattle.std.specs.List.{flat_map, range_with_len}
 use Rattle.std.proofs.lemmas.List.FromFn.{length-range_with_len}
 use Rattle.fv_io.specs.Streams.{Gives, GivesPart}
-use Rattle.fv_meaning.specs.program.Profile.{elements_of}
+use Rattle.fv_meaning.specs.Profile77.{elements_of}
 use Rattle.run77.specs.Stored.{store_in, bounds_here}
 use Rattle.run77.specs.Showing.{element_line}
 use Rattle.run77.proofs.Residuals.{residual}

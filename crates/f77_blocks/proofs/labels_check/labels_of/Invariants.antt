@@ -1,9 +1,0 @@
-use Rattle.std.proofs.Common.{◌≡◌, ℕ}
-use Rattle.fv_meaning.specs.program.Text.{stands_in}
-use Rattle.f77_blocks.specs.Labels.{has}
-use Rattle.statements77.specs.Views.{text_of}
-use Rattle.statements77.specs.Walk.{passed}
-use Rattle.f77_blocks.proofs.labels_check.labels_of.Given as goal
-
-abbrev pub invariant-loop-statement : goal.invariant-loop-statement
-invariant-loop-statement l = record { labels : (n : ℕ) → has l.labels n ≡ stands_in (passed (text_of l.text) l.statement-index) n }

@@ -1,0 +1,64 @@
+-- The tree of what is read is one that texts have.
+use Rattle.std.proofs.Common.{arith, ◌≡◌, ◌<◌, ◌^◌, ℕ, ℤ, pos, List, [], ◌∷◌, ◌++◌, refl, sym, subst}
+use Rattle.fv_tree.specs.Plain.{Expression, Subscript, Only, subscripts}
+use Rattle.f77_grammar.specs.expressions.Levels.{Plus, Minus, Negation}
+use Rattle.f77_grammar.specs.expressions.Phrases.{Phrase, Literal, WideLiteral, Truth, Name, Listed, Paren, Signed, Joined, Phrases, One, Then, written, written_list, tree, trees, IsExpression, AreExpressions}
+use Rattle.f77_grammar.specs.expressions.Printing.{IsLiteral, IsSource, AreSource}
+use Rattle.f77_grammar.specs.expressions.Reading.{Spells, ReadsAs}
+use Rattle.f77_grammar.specs.expressions.Spelling.{IsName, SpelledBy, Words}
+use Rattle.f77_grammar.specs.expressions.Squeezing.{Symbol}
+use Rattle.f77_grammar.specs.expressions.Words as words
+use Rattle.f77_grammar.specs.expressions.Words.{Word}
+
+-- a literal is in range, and a name is one
+abbrev pub IsGood : Word → Type 0
+IsGood (words.Number n) = IsLiteral n
+IsGood (words.Name x) = IsName x
+IsGood (words.Head x) = IsName x
+IsGood w = Unit {0}
+
+abbrev pub AreGood : List Word → Type 0
+AreGood [] = Unit {0}
+AreGood (w ∷ ws) = IsGood w × AreGood ws
+
+pub good_parts : (a b : List Word) → AreGood (a ++ b) → AreGood a × AreGood b
+good_parts [] b h = (tt, h)
+good_parts (w ∷ a) b h = let k = good_parts a b h.1 in ((h.0, k.0), k.1)
+
+spelled_good : (w : Word) (text : List Symbol) → SpelledBy w text → IsGood w
+spelled_good (words.Number n) text h = subst IsLiteral (sym h.2.1) h.2.2
+spelled_good (words.Name x) text h = h.2.1
+spelled_good (words.Head x) text h = h.2.1
+spelled_good w text h = tt
+
+pub words_good : (text : List Symbol) (ws : List Word) → Words text ws → AreGood ws
+words_good text [] h = tt
+words_good text (w ∷ ws) h = (spelled_good w h.1.front h.1.spelled, words_good h.0 ws h.2)
+
+source_push : (ss : List Subscript) (e : Expression) → AreSource (subscripts ss) → IsSource e → AreSource (subscripts (ss ++ Only e ∷ []))
+source_push [] e h k = (k, tt)
+source_push (s ∷ ss) e h k = (h.0, source_push ss e h.1 k)
+
+mutual
+  pub source : (p : Phrase) → IsExpression p → AreGood (written p) → IsSource (tree p)
+  source (Literal n) h g = g.0
+  source WideLiteral h g = omega arith
+  source (Truth b) h g = tt
+  source (Name x) h g = (g.0, tt)
+  source (Listed x ps) h g = (g.0, sources ps h (good_parts (written_list ps) (words.Close ∷ []) g.1).0)
+  source (Paren p) h g = source p h (good_parts (written p) (words.Close ∷ []) g.1).0
+  source (Signed Plus p) h g = source p h.2 g.1
+  source (Signed Minus p) h g = (refl, source p h.2 g.1)
+  source (Signed Negation p) h g = (refl, source p h.2 g.1)
+  source (Joined o a b) h g = let k = good_parts (written a) (words.Operator o ∷ written b) g in (h.0, source a h.4 k.0, source b h.5 k.1.1)
+
+  sources : (ps : Phrases) → AreExpressions ps → AreGood (written_list ps) → AreSource (subscripts (trees ps))
+  sources (One p) h g = (source p h g, tt)
+  sources (Then ps p) h g =
+      let k = good_parts (written_list ps) (words.Comma ∷ written p) g in source_push (trees ps) (tree p) (sources ps h.0 k.0) (source p h.1 k.1.1)
+
+pub spelled_source : (chars : List ℕ) (p : Phrase) → Spells chars p → IsSource (tree p)
+spelled_source chars p s = source p s.good (words_good s.symbols (written p) s.words)
+
+pub read_source : (chars : List ℕ) (e : Expression) → ReadsAs chars e → IsSource e
+read_source chars e r = subst IsSource (sym r.same) (spelled_source chars r.phrase r.spells)

@@ -1,0 +1,123 @@
+-- Worked decks on labels. Above each text stands the deck that it is of.
+use Rattle.std.proofs.Common.{◌≡◌, refl, List, [], ◌∷◌, Some}
+use lib.Chars.{codes}
+use Rattle.fv_tree.specs.Plain.{Binary}
+use Rattle.fv_tree.specs.declared.ops.Op.TheVariants.{Eq}
+use Rattle.f77_grammar.specs.Statement77.{Labelled, Assign, Go, Test, Do, Continue, End}
+use Rattle.f77_grammar.specs.program.Program77.{findings}
+use Rattle.fv_meaning.proofs.DeckWords.{n, v, to}
+use Rattle.f77_grammar.proofs.programs.Words.{s, l, refusal}
+use Rattle.f77_grammar.proofs.programs.Least.{least}
+
+--     0 CONTINUE
+--       END
+abbrev label_zero : List Labelled
+label_zero =
+    l 0 1 (Continue)
+    ∷ s 2 (End)
+    ∷ []
+
+label_zero_refused : least (findings label_zero) ≡ Some (refusal 10 1 0)
+label_zero_refused = refl
+
+--     1 CONTINUE
+--       END
+abbrev label_one : List Labelled
+label_one =
+    l 1 1 (Continue)
+    ∷ s 2 (End)
+    ∷ []
+
+label_one_read : findings label_one ≡ []
+label_one_read = refl
+
+--    10 CONTINUE
+--       I = 1
+--    10 CONTINUE
+--       END
+abbrev label_twice : List Labelled
+label_twice =
+    l 10 1 (Continue)
+    ∷ s 2 (Assign (to "I") (n 1))
+    ∷ l 10 3 (Continue)
+    ∷ s 4 (End)
+    ∷ []
+
+label_twice_refused : least (findings label_twice) ≡ Some (refusal 10 3 0)
+label_twice_refused = refl
+
+--    10 CONTINUE
+--       I = 1
+--    20 CONTINUE
+--       END
+abbrev labels_differ : List Labelled
+labels_differ =
+    l 10 1 (Continue)
+    ∷ s 2 (Assign (to "I") (n 1))
+    ∷ l 20 3 (Continue)
+    ∷ s 4 (End)
+    ∷ []
+
+labels_differ_read : findings labels_differ ≡ []
+labels_differ_read = refl
+
+--       I = 1
+--       GO TO 10
+--       END
+abbrev go_to_nowhere : List Labelled
+go_to_nowhere =
+    s 1 (Assign (to "I") (n 1))
+    ∷ s 2 (Go 10)
+    ∷ s 3 (End)
+    ∷ []
+
+go_to_nowhere_refused : least (findings go_to_nowhere) ≡ Some (refusal 10 2 0)
+go_to_nowhere_refused = refl
+
+--       I = 1
+--       GO TO 10
+--    10 END
+abbrev go_to_end : List Labelled
+go_to_end =
+    s 1 (Assign (to "I") (n 1))
+    ∷ s 2 (Go 10)
+    ∷ l 10 3 (End)
+    ∷ []
+
+go_to_end_read : findings go_to_end ≡ []
+go_to_end_read = refl
+
+--       IF (I .EQ. 1) GO TO 10
+--    20 END
+abbrev inner_go_to_nowhere : List Labelled
+inner_go_to_nowhere =
+    s 1 (Test (Binary Eq (v "I") (n 1)) (Go 10))
+    ∷ l 20 2 (End)
+    ∷ []
+
+inner_go_to_nowhere_refused : least (findings inner_go_to_nowhere) ≡ Some (refusal 10 1 0)
+inner_go_to_nowhere_refused = refl
+
+--       GO TO 0
+--       END
+abbrev go_to_zero : List Labelled
+go_to_zero =
+    s 1 (Go 0)
+    ∷ s 2 (End)
+    ∷ []
+
+go_to_zero_refused : least (findings go_to_zero) ≡ Some (refusal 10 1 0)
+go_to_zero_refused = refl
+
+--       DO 10 I = 1, 3
+--    20 CONTINUE
+--       END
+abbrev do_label_nowhere : List Labelled
+do_label_nowhere =
+    s 1 (Do 10 (codes "I") (n 1) (n 3) (n 1))
+    ∷ l 20 2 (Continue)
+    ∷ s 3 (End)
+    ∷ []
+
+do_label_nowhere_refused : least (findings do_label_nowhere) ≡ Some (refusal 10 1 0)
+do_label_nowhere_refused = refl

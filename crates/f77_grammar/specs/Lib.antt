@@ -1,0 +1,6 @@
+pub mod Cards
+pub mod Statement77
+pub mod expressions
+pub mod program
+pub mod statements
+pub mod Reading77

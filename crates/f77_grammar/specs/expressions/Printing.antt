@@ -1,0 +1,101 @@
+-- An expression's text in FORTRAN 77, with the parentheses that it needs.
+use Rattle.std.specs.Prelude.{ℕ, ◌^◌, ◌<◌, ℤ, pos, negsuc, Bool, true, false, nat_le, IsTrue, List, [], ◌++◌, codes, decimal, Option, Some, None, if◌then◌else◌}
+use Rattle.std.specs.List.{flat_map}
+use Rattle.fv_tree.specs.declared.ops.Op.{Op}
+use Rattle.fv_tree.specs.declared.ops.Op.TheVariants.{Neg, Not}
+use Rattle.fv_tree.specs.Plain.{Expression, Number, Logic, Named, Unary, Binary, Apply, Subscript, Only, Subscripts, no_subscripts, subscript}
+use Rattle.f77_grammar.specs.expressions.Levels.{Minus, Negation, left_least, right_least, joins, may_follow}
+use Rattle.f77_grammar.specs.expressions.Phrases.{Phrase, Literal, WideLiteral, Truth, Name, Listed, Paren, Signed, Joined, Phrases, One, Then, level, begins_with_sign, written}
+use Rattle.f77_grammar.specs.expressions.Spelling.{IsName, spelling}
+use Rattle.f77_grammar.specs.expressions.Words as words
+use Rattle.f77_grammar.specs.expressions.Words.{Word}
+
+-- a literal isn't negative, and is within 2^127-1
+abbrev pub IsLiteral : ℤ → Type 0
+IsLiteral (pos n) = n < 2 ^ 127
+IsLiteral (negsuc n) = ⊥
+
+abbrev pub is_negating : Op → Bool
+is_negating Neg = true
+is_negating Not = true
+is_negating o = false
+
+-- The trees that texts of FORTRAN 77 have. A name with a list stands as a reference.
+abbrev mutual
+  pub IsSource : Expression → Type 0
+  IsSource (Number n) = IsLiteral n
+  IsSource (Logic b) = Unit {0}
+  IsSource (Named x ss) = IsName x × AreSource ss
+  IsSource (Unary o a) = IsTrue (is_negating o) × IsSource a
+  IsSource (Binary o a b) = IsTrue (joins o) × IsSource a × IsSource b
+  IsSource (Apply f es) = ⊥
+
+  pub IsSourceSubscript : Subscript → Type 0
+  IsSourceSubscript (Only e) = IsSource e
+
+  pub AreSource : Subscripts → Type 0
+  AreSource no_subscripts = Unit {0}
+  AreSource (subscript s ss) = IsSourceSubscript s × AreSource ss
+
+-- in parentheses where it doesn't bind tightly enough
+abbrev pub fit : ℕ → Phrase → Phrase
+fit n p = if nat_le n (level p) then p else Paren p
+
+-- in parentheses where it begins with a sign that can't stand behind the operator
+abbrev pub behind : Op → Phrase → Phrase
+behind o p = if may_follow o (begins_with_sign p) then p else Paren p
+
+abbrev pub listed : List ℕ → Option Phrases → Phrase
+listed x None = Name x
+listed x (Some ps) = Listed x ps
+
+abbrev pub unary_phrase : Op → Phrase → Phrase
+unary_phrase Not p = Signed Negation (fit 6 (behind Not p))
+unary_phrase o p = Signed Minus (fit 8 p)
+
+-- how it is written
+abbrev mutual
+  pub phrase_of : Expression → Phrase
+  phrase_of (Number n) = Literal n
+  phrase_of (Logic b) = Truth b
+  phrase_of (Named x ss) = listed x (phrases_of ss)
+  phrase_of (Unary o a) = unary_phrase o (phrase_of a)
+  phrase_of (Binary o a b) = Joined o (fit (left_least o) (phrase_of a)) (fit (right_least o) (behind o (phrase_of b)))
+  phrase_of (Apply f es) = WideLiteral
+
+  pub subscript_phrase : Subscript → Phrase
+  subscript_phrase (Only e) = phrase_of e
+
+  pub phrases_of : Subscripts → Option Phrases
+  phrases_of no_subscripts = None
+  phrases_of (subscript s ss) = Some (with_more (One (subscript_phrase s)) ss)
+
+  pub with_more : Phrases → Subscripts → Phrases
+  with_more ps no_subscripts = ps
+  with_more ps (subscript s ss) = with_more (Then ps (subscript_phrase s)) ss
+
+abbrev pub digits_of : ℤ → List ℕ
+digits_of (pos n) = decimal n
+digits_of (negsuc n) = []
+
+abbrev pub truth_text : Bool → List ℕ
+truth_text true = codes ".TRUE."
+truth_text false = codes ".FALSE."
+
+abbrev pub spelling_of : Word → List ℕ
+spelling_of (words.Number n) = digits_of n
+spelling_of words.Wide = decimal (2 ^ 127)
+spelling_of (words.Truth b) = truth_text b
+spelling_of (words.Name x) = x
+spelling_of (words.Head x) = x ++ codes "("
+spelling_of (words.Operator o) = spelling o
+spelling_of words.Open = codes "("
+spelling_of words.Close = codes ")"
+spelling_of words.Comma = codes ","
+spelling_of words.Equals = codes "="
+spelling_of words.Colon = codes ":"
+spelling_of (words.Constant t) = []
+
+-- the text
+abbrev pub printed : Expression → List ℕ
+printed e = flat_map spelling_of (written (phrase_of e))

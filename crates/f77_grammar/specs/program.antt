@@ -1,0 +1,12 @@
+pub mod Text
+pub mod Uses
+pub mod Labels
+pub mod Nesting
+pub mod Order
+pub mod Declarations
+pub mod Kinds
+pub mod Jumps
+pub mod DoVariables
+pub mod Limits
+pub mod Tree
+pub mod Program77

@@ -1,0 +1,95 @@
+-- What names are declared as (ANSI X3.9-1978, sections 4.1.2, 5.1, 8.1, 8.4, 8.6 and 18.2): each once, and as one thing.
+use Rattle.std.specs.Prelude.{ℕ, zero, suc, ◌==◌, Bool, true, false, not, ◌&&◌, ◌||◌, is_some, is_none, if◌then◌else◌, List, [], ◌∷◌, ◌++◌}
+use Rattle.std.specs.List.{list_any}
+use Rattle.f77_grammar.specs.Statement77.{Entity, NamedConstant, Statement77, Declare, Dimension, Constants}
+use Rattle.fv_meaning.specs.Names.{is_among, function_named, is_implicit_integer}
+use Rattle.f77_grammar.specs.program.Text.{Place}
+use Rattle.f77_grammar.specs.program.Uses.{Role, Valued, Target, Use, uses_in, uses_in_bounds, uses_of, uses_in_text, is_title, is_typed, is_bounded, is_defined, names_that, stands, is_constant, is_variable, is_array, type_of, dimensions_of_name}
+
+-- ---- declared twice, or as two things
+
+-- one of these names stands before it, among `earlier` or in the list
+abbrev pub has_repeat : List (List ℕ) → List (List ℕ) → Bool
+has_repeat earlier [] = false
+has_repeat earlier (x ∷ xs) = is_among earlier x || has_repeat (x ∷ earlier) xs
+
+-- a name is declared so here and before
+abbrev pub is_declared_again : (Role → Bool) → Place → Bool
+is_declared_again test p = has_repeat (names_that test (uses_in_text p.before)) (names_that test (uses_of p.here.statement))
+
+-- a symbolic constant has no bounds
+abbrev pub is_array_or_constant : Role → Bool
+is_array_or_constant r = is_bounded r || is_defined r
+
+-- the program's name is no other name
+abbrev pub uses_title : Place → Bool
+uses_title p = list_any (λ (u : Use). not (is_title u.role) && stands is_title (uses_in_text p.before) u.name) (uses_of p.here.statement)
+
+-- ---- constant expressions (section 6.7)
+
+-- A name in a constant expression isn't a symbolic constant that was defined before, or has a list in parentheses. Such a constant
+-- that bears a function's name and has a list is no name undeclared; its kind doesn't suit
+abbrev pub is_listed : Role → Bool
+is_listed (Valued (suc n)) = true
+is_listed (Target (suc n)) = true
+is_listed _ = false
+
+abbrev pub is_not_constant : List (List ℕ) → Use → Bool
+is_not_constant defined u = not (is_among defined u.name) || (is_listed u.role && is_none (function_named u.name))
+
+abbrev pub has_unknown : List (List ℕ) → List Use → Bool
+has_unknown defined us = list_any (is_not_constant defined) us
+
+abbrev pub bounds_of_entities : List Entity → List Use
+bounds_of_entities [] = []
+bounds_of_entities (e ∷ es) = uses_in_bounds e.bounds ++ bounds_of_entities es
+
+-- each constant of a PARAMETER statement counts as defined for those after it
+abbrev pub defines_from_unknown : List (List ℕ) → List NamedConstant → Bool
+defines_from_unknown defined [] = false
+defines_from_unknown defined (d ∷ ds) = has_unknown defined (uses_in d.value) || defines_from_unknown (d.name ∷ defined) ds
+
+abbrev pub has_unknown_constant : List (List ℕ) → Statement77 → Bool
+has_unknown_constant defined (Declare k es) = has_unknown defined (bounds_of_entities es)
+has_unknown_constant defined (Dimension es) = has_unknown defined (bounds_of_entities es)
+has_unknown_constant defined (Constants ds) = defines_from_unknown defined ds
+has_unknown_constant defined _ = false
+
+-- ---- executable statements
+
+-- a name with a list in parentheses is an array with as many dimensions, or bears a function's name
+abbrev pub suits_list : List Use → List ℕ → ℕ → Bool
+suits_list us x zero = true
+suits_list us x (suc n) = if is_array us x then suc n == dimensions_of_name us x else is_some (function_named x)
+
+abbrev pub is_misused_as : List Use → List ℕ → Role → Bool
+is_misused_as us x (Valued n) = not (suits_list us x n)
+is_misused_as us x (Target n) = not (suits_list us x n) || is_constant us x
+is_misused_as us x _ = false
+
+-- a list suits nothing, or a symbolic constant is assigned or read into
+abbrev pub is_misused : List Use → Use → Bool
+is_misused us u = is_misused_as us u.name u.role
+
+abbrev pub has_misused_name : List Use → Statement77 → Bool
+has_misused_name us (Declare k es) = false
+has_misused_name us (Dimension es) = false
+has_misused_name us (Constants ds) = false
+has_misused_name us s = list_any (is_misused us) (uses_of s)
+
+-- ---- both causes, by all uses `us` of names in the program
+
+abbrev pub is_declared_wrongly : List Use → Place → Bool
+is_declared_wrongly us p =
+    is_declared_again is_typed p
+    || is_declared_again is_array_or_constant p
+    || uses_title p
+    || has_unknown_constant (names_that is_defined (uses_in_text p.before)) p.here.statement
+    || has_misused_name us p.here.statement
+
+-- a variable or symbolic constant that stands here has no type, and doesn't begin with I to N
+abbrev pub is_real : List Use → List ℕ → Bool
+is_real us x = (is_variable us x || is_constant us x) && is_none (type_of us x) && not (is_implicit_integer x)
+
+abbrev pub has_real_name : List Use → Place → Bool
+has_real_name us p = list_any (λ (u : Use). not (is_title u.role) && is_real us u.name) (uses_of p.here.statement)

@@ -1,0 +1,203 @@
+-- How the names of a program stand in it, and what they are: variables, arrays, symbolic constants, functions (ANSI X3.9-1978,
+-- sections 2.2, 4.1.2, 8.1, 8.4, 8.6 and 18.2).
+use Rattle.std.specs.Prelude.{ℕ, zero, Bool, true, false, not, ◌&&◌, ◌||◌, Option, None, Some, is_some, List, [], ◌∷◌, ◌++◌, map, length}
+use Rattle.std.specs.Str.{bytes_eq}
+use Rattle.std.specs.List.{list_any, filter, flat_map}
+use Rattle.fv_tree.specs.Plain.{Expression, Number, Logic, Named, Unary, Binary, Apply, Expressions, no_expressions, expression, Subscript, Only, Subscripts, no_subscripts, subscript, Reference, Item, Single, Constant, ImpliedDo, Items, no_items, item}
+use Rattle.fv_tree.specs.declared.ops.Kind.{Kind}
+use Rattle.fv_tree.specs.declared.ops.Kind.TheVariants.{Integer}
+use Rattle.f77_grammar.specs.Statement77.{Entity, NamedConstant, Labelled, Statement77, Program, Declare, Dimension, Constants, Assign, Go, Test, If, ElseIf, Else, EndIf, Do, Continue, Stop, Read, Print, End}
+use Rattle.fv_meaning.specs.Names.{function_named}
+use Rattle.fv_meaning.specs.Typed77.{number_of_subscripts}
+
+-- How a name stands: as the program's name; in a type statement; with bounds for so many dimensions; in PARAMETER, before the `=`; in an expression, with as
+-- many subscripts or arguments in parentheses, 0 where it stands bare; so too as what is assigned or read into; as a DO variable
+pub data Role : Type 0 where
+  Title : Role
+  Typed : Kind → Role
+  Bounded : ℕ → Role
+  Defined : Role
+  Valued : ℕ → Role
+  Target : ℕ → Role
+  Counter : Role
+
+pub record Use : Type 0 where
+  pub name : List ℕ
+  pub role : Role
+
+abbrev pub use_of : List ℕ → Role → Use
+use_of x r = record { name = x; role = r }
+
+-- ---- the uses of names in a statement, in the order of the text
+
+abbrev mutual
+  pub uses_in : Expression → List Use
+  uses_in (Number n) = []
+  uses_in (Logic b) = []
+  uses_in (Named x ps) = use_of x (Valued (number_of_subscripts ps)) ∷ uses_in_subscripts ps
+  uses_in (Unary o a) = uses_in a
+  uses_in (Binary o a b) = uses_in a ++ uses_in b
+  uses_in (Apply f es) = uses_in_arguments es
+
+  pub uses_in_arguments : Expressions → List Use
+  uses_in_arguments no_expressions = []
+  uses_in_arguments (expression e es) = uses_in e ++ uses_in_arguments es
+
+  pub uses_in_subscripts : Subscripts → List Use
+  uses_in_subscripts no_subscripts = []
+  uses_in_subscripts (subscript p ps) = uses_in_subscript p ++ uses_in_subscripts ps
+
+  pub uses_in_subscript : Subscript → List Use
+  uses_in_subscript (Only e) = uses_in e
+
+abbrev pub target_uses : List ℕ → Subscripts → List Use
+target_uses x ps = use_of x (Target (number_of_subscripts ps)) ∷ uses_in_subscripts ps
+
+abbrev pub input_uses : Expression → List Use
+input_uses (Named x ps) = target_uses x ps
+input_uses e = uses_in e
+
+-- a DO variable with its three parameters
+abbrev pub control_uses : List ℕ → Expression → Expression → Expression → List Use
+control_uses x a b c = use_of x Counter ∷ uses_in a ++ uses_in b ++ uses_in c
+
+abbrev mutual
+  pub uses_in_output : Item → List Use
+  uses_in_output (Single e) = uses_in e
+  uses_in_output (Constant t) = []
+  uses_in_output (ImpliedDo is x a b c) = uses_in_outputs is ++ control_uses x a b c
+
+  pub uses_in_outputs : Items → List Use
+  uses_in_outputs no_items = []
+  uses_in_outputs (item i is) = uses_in_output i ++ uses_in_outputs is
+
+abbrev mutual
+  pub uses_in_input : Item → List Use
+  uses_in_input (Single e) = input_uses e
+  uses_in_input (Constant t) = []
+  uses_in_input (ImpliedDo is x a b c) = uses_in_inputs is ++ control_uses x a b c
+
+  pub uses_in_inputs : Items → List Use
+  uses_in_inputs no_items = []
+  uses_in_inputs (item i is) = uses_in_input i ++ uses_in_inputs is
+
+abbrev pub uses_in_bounds : List (Expression × Expression) → List Use
+uses_in_bounds [] = []
+uses_in_bounds (b ∷ bs) = uses_in b.0 ++ uses_in b.1 ++ uses_in_bounds bs
+
+-- a name without bounds has none in the list
+abbrev pub bounded_uses : List ℕ → List (Expression × Expression) → List Use
+bounded_uses x [] = []
+bounded_uses x (b ∷ bs) = use_of x (Bounded (length (b ∷ bs))) ∷ uses_in_bounds (b ∷ bs)
+
+abbrev pub dimensioned_uses : Entity → List Use
+dimensioned_uses e = bounded_uses e.name e.bounds
+
+abbrev pub typed_uses : Kind → Entity → List Use
+typed_uses k e = use_of e.name (Typed k) ∷ dimensioned_uses e
+
+abbrev pub defined_uses : NamedConstant → List Use
+defined_uses d = use_of d.name Defined ∷ uses_in d.value
+
+abbrev pub assignment_uses : Reference → Expression → List Use
+assignment_uses left e = target_uses left.name left.subscripts ++ uses_in e
+
+abbrev pub uses_of : Statement77 → List Use
+uses_of (Program x) = use_of x Title ∷ []
+uses_of (Declare k es) = flat_map (typed_uses k) es
+uses_of (Dimension es) = flat_map dimensioned_uses es
+uses_of (Constants ds) = flat_map defined_uses ds
+uses_of (Assign left e) = assignment_uses left e
+uses_of (Test c s) = uses_in c ++ uses_of s
+uses_of (If c) = uses_in c
+uses_of (ElseIf c) = uses_in c
+uses_of (Do n x a b c) = control_uses x a b c
+uses_of (Read is) = uses_in_inputs is
+uses_of (Print is) = uses_in_outputs is
+uses_of (Go n) = []
+uses_of Else = []
+uses_of EndIf = []
+uses_of Continue = []
+uses_of Stop = []
+uses_of End = []
+
+abbrev pub uses_in_text : List Labelled → List Use
+uses_in_text text = flat_map (λ (x : Labelled). uses_of x.statement) text
+
+-- ---- roles
+
+abbrev pub is_title : Role → Bool
+is_title Title = true
+is_title _ = false
+
+abbrev pub is_typed : Role → Bool
+is_typed (Typed k) = true
+is_typed _ = false
+
+abbrev pub is_bounded : Role → Bool
+is_bounded (Bounded n) = true
+is_bounded _ = false
+
+abbrev pub is_defined : Role → Bool
+is_defined Defined = true
+is_defined _ = false
+
+abbrev pub is_target : Role → Bool
+is_target (Target n) = true
+is_target _ = false
+
+-- a variable or a symbolic constant alone stands so
+abbrev pub is_bare : Role → Bool
+is_bare (Valued zero) = true
+is_bare (Target zero) = true
+is_bare Counter = true
+is_bare _ = false
+
+-- the names that stand so
+abbrev pub names_that : (Role → Bool) → List Use → List (List ℕ)
+names_that test us = map (λ (u : Use). u.name) (filter (λ (u : Use). test u.role) us)
+
+-- the name stands so
+abbrev pub stands : (Role → Bool) → List Use → List ℕ → Bool
+stands test us x = list_any (λ (u : Use). test u.role && bytes_eq u.name x) us
+
+-- ---- what a name is, by all its uses in the program
+
+abbrev pub is_constant : List Use → List ℕ → Bool
+is_constant us x = stands is_defined us x
+
+-- a name that has a type or bounds, or stands bare, and is no symbolic constant
+abbrev pub is_variable : List Use → List ℕ → Bool
+is_variable us x = (stands is_typed us x || stands is_bounded us x || stands is_bare us x) && not (is_constant us x)
+
+abbrev pub is_array : List Use → List ℕ → Bool
+is_array us x = stands is_bounded us x && not (is_constant us x)
+
+-- one of the seven names, where no variable or constant of the program hides it (section 18.2.3)
+abbrev pub is_function : List Use → List ℕ → Bool
+is_function us x = is_some (function_named x) && not (is_variable us x) && not (is_constant us x)
+
+abbrev pub type_in : Role → Bool → Option Kind → Option Kind
+type_in (Typed k) true other = Some k
+type_in _ _ other = other
+
+-- the type that a type statement gives the name
+abbrev pub type_of : List Use → List ℕ → Option Kind
+type_of [] x = None
+type_of (u ∷ us) x = type_in u.role (bytes_eq u.name x) (type_of us x)
+
+abbrev pub or_integer : Option Kind → Kind
+or_integer None = Integer
+or_integer (Some k) = k
+
+abbrev pub kind_of_name : List Use → List ℕ → Kind
+kind_of_name us x = or_integer (type_of us x)
+
+abbrev pub dimensions_in : Role → Bool → ℕ → ℕ
+dimensions_in (Bounded n) true other = n
+dimensions_in _ _ other = other
+
+-- how many dimensions a declaration gives the name, none for a scalar
+abbrev pub dimensions_of_name : List Use → List ℕ → ℕ
+dimensions_of_name [] x = 0
+dimensions_of_name (u ∷ us) x = dimensions_in u.role (bytes_eq u.name x) (dimensions_of_name us x)

@@ -1,0 +1,37 @@
+-- What it is for the characters of a card to be a statement, and how they are refused.
+use Rattle.std.specs.Prelude.{ℕ, ◌≡◌, ◌<◌, ◌≤◌, false, IsTrue, List}
+use Rattle.fv_tree.specs.declared.refusals.Refusal.{Refusal}
+use Rattle.f77_grammar.specs.Statement77.{Statement77}
+use Rattle.f77_grammar.specs.expressions.Squeezing.{Symbol, Squeezed}
+use Rattle.f77_grammar.specs.statements.Forms.{Form, IsWritten, statement_of, form_depth, has_wide_literal}
+use Rattle.f77_grammar.specs.statements.Recognition.{HasWord}
+
+-- The characters have a form.
+pub record IsFormOf (chars : List ℕ) (f : Form) : Type 0 where
+  pub symbols : List Symbol
+  pub squeezed : Squeezed chars symbols
+  pub written : IsWritten f symbols
+
+-- The characters are read as a statement: they have a form without a literal above 2^127-1 and without an expression or list more than 400 deep.
+pub record ReadsStatement (chars : List ℕ) (s : Statement77) : Type 0 where
+  pub form : Form
+  pub is_form : IsFormOf chars form
+  pub narrow : has_wide_literal form ≡ false
+  pub shallow : form_depth form ≤ 400
+  pub same : s ≡ statement_of form
+
+-- The characters have a word that is left out of the profile.
+pub record HasWordLeftOut (chars : List ℕ) (number : ℕ) : Type 0 where
+  pub symbols : List Symbol
+  pub squeezed : Squeezed chars symbols
+  pub has_word : HasWord symbols number
+
+abbrev pub HasNoForm : List ℕ → Type 0
+HasNoForm chars = (f : Form) → IsFormOf chars f → ⊥
+
+-- Why the characters are refused: they have no form, by their word or without one; a literal is above 2^127-1; something is more than 400 deep.
+pub data IsRefusedBy (chars : List ℕ) : (number word : ℕ) → Type 0 where
+  Syntax : HasNoForm chars → ((number : ℕ) → HasWordLeftOut chars number → ⊥) → IsRefusedBy chars 6 0
+  OutOfProfile : (word : ℕ) → HasNoForm chars → HasWordLeftOut chars word → IsRefusedBy chars 7 word
+  WideLiteral : (f : Form) → IsFormOf chars f → IsTrue (has_wide_literal f) → IsRefusedBy chars 8 0
+  Deep : (f : Form) → IsFormOf chars f → has_wide_literal f ≡ false → 400 < form_depth f → IsRefusedBy chars 9 0

@@ -1,0 +1,38 @@
+-- Forms that are left out: arithmetic IF, computed and assigned GO TO.
+use Rattle.std.specs.Prelude.{ℕ, ◌≡◌, Bool, true, false, ◌==◌, List, [], ◌∷◌, ◌++◌}
+use Rattle.f77_grammar.specs.expressions.Squeezing.{Symbol, Char}
+use Rattle.f77_grammar.specs.statements.Recognition.{AreLabels, IsNothing, IsArithmeticIf, IsComputedGoTo, IsAssignedGoTo}
+
+pub record AreThreeLabels (text : List Symbol) : Type 0 where
+  pub first : List ℕ
+  pub second : List ℕ
+  pub third : List ℕ
+  pub labels : AreLabels first (second ∷ third ∷ []) text
+
+-- without the comma at the front, if there is one
+abbrev pub without_comma_by : Bool → Symbol → List Symbol → List Symbol
+without_comma_by true s ss = ss
+without_comma_by false s ss = s ∷ ss
+
+abbrev pub without_comma : List Symbol → List Symbol
+without_comma [] = []
+without_comma (Char c ∷ ss) = without_comma_by (44 == c) (Char c) ss
+without_comma (s ∷ ss) = s ∷ ss
+
+-- something, that doesn't begin with a comma
+pub record IsIndex (text : List Symbol) : Type 0 where
+  pub something : ¬ IsNothing text
+  pub no_comma : (rest : List Symbol) → text ≡ Char 44 ∷ rest → ⊥
+
+-- labels in parentheses, and nothing behind them
+pub record AreEnclosed (text : List Symbol) : Type 0 where
+  pub first : List ℕ
+  pub later : List (List ℕ)
+  pub list : List Symbol
+  pub labels : AreLabels first later list
+  pub same : text ≡ Char 40 ∷ (list ++ Char 41 ∷ [])
+
+pub data IsFormLeftOut (text : List Symbol) : ℕ → Type 0 where
+  ArithmeticIf : IsArithmeticIf text → IsFormLeftOut text 32
+  ComputedGoTo : IsComputedGoTo text → IsFormLeftOut text 33
+  AssignedGoTo : IsAssignedGoTo text → IsFormLeftOut text 34

@@ -1,0 +1,224 @@
+-- The declarations of the tree.
+use Rattle.std.proofs.Common.{◌≡◌, ℕ, ◌<◌, ◌≤◌, Bool, true, false, not, ◌&&◌, ◌||◌, cond, is_err, ℤ, pos, negsuc, ◌≤ℤ◌, int_lt, is_none, T, le→leb, List, [], ◌∷◌, map, length, sum, refl, sym, ap, subst, ◌∙◌, arith, Contains, filter, flat_map, ltb-true, ltb-false}
+use lib.Signed.{lt_z_no}
+use Rattle.std.specs.Prelude.{Result, Ok, Err}
+use Rattle.std.specs.List.{AllByRecursion, list_any}
+use Rattle.std.specs.Str.{bytes_eq}
+use Rattle.std.proofs.lemmas.List.{length-map}
+use Rattle.fv_tree.specs.Steps.{◌>>=◌}
+use Rattle.fv_tree.specs.Operators.{fits, as_number}
+use Rattle.fv_tree.specs.declared.ops.Kind.TheVariants.{Integer}
+use Rattle.fv_tree.specs.declared.ops.Fault.{Fault}
+use Rattle.fv_tree.specs.declared.ops.Fault.TheVariants.{Overflow}
+use Rattle.fv_tree.specs.declared.ops.Value.{Value}
+use Rattle.fv_tree.specs.declared.ops.Value.TheVariants.{Int, Truth}
+use Rattle.fv_tree.specs.Plain.{Expression, Declaration}
+use Rattle.fv_meaning.specs.Store.{Store}
+use Rattle.fv_meaning.specs.Value.{value_of, number_of, is_in_range}
+use Rattle.fv_meaning.specs.Sequential.{integer_bits}
+use Rattle.f77_grammar.specs.Statement77.{Entity, NamedConstant, Labelled, Statement77, Declare, Dimension}
+use Rattle.f77_grammar.specs.program.Text.{places, places_from}
+use Rattle.fv_meaning.specs.Names.{IsSymbolicName, IsInByteOrder}
+use Rattle.fv_meaning.specs.Typed77.{dimensions}
+use Rattle.f77_grammar.specs.program.Uses.{Use, uses_of, uses_in_text, is_constant, is_variable}
+use Rattle.f77_grammar.specs.program.Kinds.{has_kind, are_integer_bounds, has_integer_bounds, suits, calls_hidden}
+use Rattle.f77_grammar.specs.program.Limits.{in_range, constants_of, dimension_of, definitions_of, entities_of, has_bounds, bounds_among, bounds_of_name, bounds_declared, elements, all_elements, counted_names, is_reversed, is_no_constant}
+use Rattle.fv_meaning.specs.Profile77.{IsDimension, IsDeclaration, AreDeclarations, array_elements}
+use Rattle.f77_grammar.specs.program.Tree.{bounds_in, variables_of, declaration_of}
+use Rattle.f77_laws.specs.Source.{IsSourceEntity, IsSourceStatement, IsSourceCard}
+use Rattle.f77_laws.proofs.Lists.{left_true, right_true, left_false, right_false, affirmed, all_both, all_at, all_of, from_flat, in_flat}
+use Rattle.f77_laws.proofs.Places.{onto, text_onto, LastPlace}
+use Rattle.f77_laws.proofs.Sound.{IsRight}
+use Rattle.f77_laws.proofs.Variables.{variables_in_order, variable_used, kept_by, named_by}
+use Rattle.f77_laws.proofs.Counting.{fewer, once_has, elements_are, turned_elements, names_of_text}
+use Rattle.f77_laws.proofs.ConstantValues.{KeepsKinds, value_kind}
+use Rattle.f77_laws.proofs.SymbolicNames.{IsSymbolic, names_in_text}
+use Rattle.f77_laws.proofs.Known.{keeps_kinds, declarations}
+
+-- ---- one dimension
+
+in_integers : (z : ℤ) → fits integer_bits z ≡ true → (negsuc 2147483647 ≤ℤ z) × (z ≤ℤ pos 2147483647)
+in_integers (pos n) h = let l : n < 2147483648 = ltb-true n 2147483648 h in (record { le = tt }, record { le = le→leb n 2147483647 (omega arith) })
+in_integers (negsuc n) h = let l : n < 2147483648 = ltb-true n 2147483648 h in (record { le = le→leb n 2147483647 (omega arith) }, record { le = tt })
+
+not_less : (a b : ℤ) → int_lt b a ≡ false → a ≤ℤ b
+not_less a b h = lt_z_no (by (int_lt b a) h)
+  where
+    by : (t : Bool) → t ≡ false → T (not t)
+    by true e = absurd cc
+    by false e = tt
+
+-- a bound has a number in the range of INTEGER
+record IsBound (s : Store) (e : Expression) : Type 0 where
+  number : ℤ
+  is : number_of integer_bits e s ≡ Ok number
+  fits' : fits integer_bits number ≡ true
+
+module _ (us : List Use) (s : Store) (keeps : KeepsKinds us s) where
+  bound : (e : Expression) → has_kind us e Integer ≡ true → is_no_constant s e ≡ false → IsBound s e
+  bound e k h = by (value_of integer_bits e s) refl h
+    where
+      tested : (v : Value) (b : Bool) → value_of integer_bits e s ≡ Ok v → is_in_range integer_bits v ≡ b → is_err (cond b (Ok v) (Err Overflow)) ≡ false → IsBound s e
+      tested v false f g h = absurd cc
+      tested (Int z) true f g h = record { number = z; is = ap (λ r. r >>= λ x. as_number x) f; fits' = g }
+      tested (Truth b) true f g h = absurd (let w = value_kind us s keeps e Integer (Truth b) k f in cc)
+
+      by : (r : Result Value Fault) → value_of integer_bits e s ≡ r → is_err (r >>= λ v. in_range v) ≡ false → IsBound s e
+      by (Err f) e h = absurd cc
+      by (Ok v) e h = tested v (is_in_range integer_bits v) e refl h
+
+  dimension : (b : Expression × Expression) → has_kind us b.0 Integer ≡ true → has_kind us b.1 Integer ≡ true → is_no_constant s b.0 ≡ false → is_no_constant s b.1 ≡ false → is_reversed (dimension_of s b) ≡ false
+      → IsDimension (bounds_in (dimension_of s b))
+  dimension b k l h g o =
+      let x = bound b.0 k h in
+      let y = bound b.1 l g in
+      let is : dimension_of s b ≡ Ok (x.number, y.number) = ap (λ r. r >>= λ lower. number_of integer_bits b.1 s >>= λ upper. Ok (lower, upper)) x.is ∙ ap (λ r. r >>= λ upper. Ok (x.number, upper)) y.is in
+      subst (λ (r : Result (ℤ × ℤ) Fault). IsDimension (bounds_in r)) (sym is)
+      (record {
+        above = (in_integers x.number x.fits').0;
+        ordered = not_less x.number y.number (sym (ap is_reversed is) ∙ o);
+        below = (in_integers y.number y.fits').1;
+      })
+
+  -- ---- the bounds of a statement
+
+  abbrev AreDimensions : List (Expression × Expression) → Type 0
+  AreDimensions bs = AllByRecursion IsDimension (map (λ b. bounds_in (dimension_of s b)) bs)
+
+  all_dimensions : (bs : List (Expression × Expression)) → are_integer_bounds us bs ≡ true → list_any (λ b. is_no_constant s b.0 || is_no_constant s b.1) bs ≡ false
+      → list_any (λ b. is_reversed (dimension_of s b)) bs ≡ false → AreDimensions bs
+  all_dimensions [] k h o = tt
+  all_dimensions (b ∷ bs) k h o =
+      let kinds = left_true (has_kind us b.0 Integer && has_kind us b.1 Integer) (are_integer_bounds us bs) k in
+      let here' = left_false (is_no_constant s b.0 || is_no_constant s b.1) (list_any (λ c. is_no_constant s c.0 || is_no_constant s c.1) bs) h in (
+        dimension b (left_true (has_kind us b.0 Integer) (has_kind us b.1 Integer) kinds) (right_true (has_kind us b.0 Integer) (has_kind us b.1 Integer) kinds)
+            (left_false (is_no_constant s b.0) (is_no_constant s b.1) here') (right_false (is_no_constant s b.0) (is_no_constant s b.1) here')
+            (left_false (is_reversed (dimension_of s b)) (list_any (λ c. is_reversed (dimension_of s c)) bs) o),
+        all_dimensions bs (right_true (has_kind us b.0 Integer && has_kind us b.1 Integer) (are_integer_bounds us bs) k)
+            (right_false (is_no_constant s b.0 || is_no_constant s b.1) (list_any (λ c. is_no_constant s c.0 || is_no_constant s c.1) bs) h)
+            (right_false (is_reversed (dimension_of s b)) (list_any (λ c. is_reversed (dimension_of s c)) bs) o),
+      )
+
+  record IsArray (bs : List (Expression × Expression)) : Type 0 where
+    few : length bs ≤ 7
+    all : AreDimensions bs
+
+  abbrev AreArrays : List Entity → Type 0
+  AreArrays es = AllByRecursion (λ (e : Entity). IsArray e.bounds) es
+
+  arrays : (es : List Entity) → AllByRecursion IsSourceEntity es → has_integer_bounds us es ≡ true
+      → list_any (λ bs. list_any (λ b. is_no_constant s b.0 || is_no_constant s b.1) bs) (map (λ (e : Entity). e.bounds) es) ≡ false
+      → list_any (λ bs. list_any (λ b. is_reversed (dimension_of s b)) bs) (map (λ (e : Entity). e.bounds) es) ≡ false → AreArrays es
+  arrays [] q k h o = tt
+  arrays (e ∷ es) q k h o = (
+    record {
+      few = q.0.few;
+      all = all_dimensions e.bounds (left_true (are_integer_bounds us e.bounds) (has_integer_bounds us es) k)
+          (left_false (list_any (λ b. is_no_constant s b.0 || is_no_constant s b.1) e.bounds) (list_any (λ bs. list_any (λ b. is_no_constant s b.0 || is_no_constant s b.1) bs) (map (λ (f : Entity). f.bounds) es)) h)
+          (left_false (list_any (λ b. is_reversed (dimension_of s b)) e.bounds) (list_any (λ bs. list_any (λ b. is_reversed (dimension_of s b)) bs) (map (λ (f : Entity). f.bounds) es)) o);
+    },
+    arrays es q.1 (right_true (are_integer_bounds us e.bounds) (has_integer_bounds us es) k)
+        (right_false (list_any (λ b. is_no_constant s b.0 || is_no_constant s b.1) e.bounds) (list_any (λ bs. list_any (λ b. is_no_constant s b.0 || is_no_constant s b.1) bs) (map (λ (f : Entity). f.bounds) es)) h)
+        (right_false (list_any (λ b. is_reversed (dimension_of s b)) e.bounds) (list_any (λ bs. list_any (λ b. is_reversed (dimension_of s b)) bs) (map (λ (f : Entity). f.bounds) es)) o),
+  )
+
+  statement_arrays : (c : Statement77) → IsSourceStatement c → suits us c ≡ true → list_any (λ bs. list_any (λ b. is_no_constant s b.0 || is_no_constant s b.1) bs) (bounds_declared c) ≡ false
+      → list_any (λ bs. list_any (λ b. is_reversed (dimension_of s b)) bs) (bounds_declared c) ≡ false → AreArrays (entities_of c)
+  statement_arrays (Declare k es) q g h o = arrays es q g h o
+  statement_arrays (Dimension es) q g h o = arrays es q g h o
+  statement_arrays c q g h o = tt
+
+  among_arrays : (es : List Entity) (x : List ℕ) → AreArrays es → IsArray (bounds_among es x)
+  among_arrays [] x h = record { few = (omega arith); all = tt }
+  among_arrays (e ∷ es) x h = by (has_bounds e.bounds && bytes_eq e.name x) (among_arrays es x h.1)
+    where
+      by : (b : Bool) → IsArray (bounds_among es x) → IsArray (cond b e.bounds (bounds_among es x))
+      by true more = h.0
+      by false more = more
+
+-- ---- the text
+
+module _ (text : List Labelled) (right : AllByRecursion (IsRight text) (places text)) (cards : AllByRecursion IsSourceCard text) where
+  abbrev us' : List Use
+  us' = uses_in_text text
+
+  abbrev s' : Store
+  s' = constants_of text
+
+  keeps' : KeepsKinds us' s'
+  keeps' = keeps_kinds text right
+
+  text_arrays : (before xs : List Labelled) → AllByRecursion (IsRight text) (places_from before xs) → AllByRecursion IsSourceCard xs → AreArrays us' s' keeps' (flat_map (λ (x : Labelled). entities_of x.statement) xs)
+  text_arrays before [] r h = tt
+  text_arrays before (x ∷ xs) r h =
+      all_both (λ (e : Entity). IsArray us' s' keeps' e.bounds) (entities_of x.statement) (flat_map (λ (y : Labelled). entities_of y.statement) xs)
+      (statement_arrays us' s' keeps' x.statement h.0.statement (affirmed (suits us' x.statement) (left_false (not (suits us' x.statement)) (list_any (calls_hidden us') (uses_of x.statement)) r.0.kinds))
+      (right_false (list_any (λ (d : NamedConstant). is_none (s'.bounds d.name)) (definitions_of x.statement)) (list_any (λ bs. list_any (λ b. is_no_constant s' b.0 || is_no_constant s' b.1) bs) (bounds_declared x.statement)) r.0.constants)
+      r.0.bounds)
+      (text_arrays (x ∷ before) xs r.1 h.1)
+
+  declaration : (x : List ℕ) → Contains (variables_of us') x → IsDeclaration (declaration_of us' s' text x)
+  declaration x c =
+      let u = (variable_used us' x c).used in
+      let a = among_arrays us' s' keeps' (flat_map (λ (y : Labelled). entities_of y.statement) text) x (text_arrays [] text right cards) in
+      record {
+        name = subst (λ (y : List ℕ). IsSymbolicName y) u.same (all_at IsSymbolic us' u.use' (names_in_text text cards) u.among);
+        few = (let l = length-map (bounds_of_name text x) (λ b. bounds_in (dimension_of s' b)) in let f = a.few in omega (arith, l, f));
+        dimension = a.all;
+      }
+
+  each : (names : List (List ℕ)) → AllByRecursion (λ x. IsDeclaration (declaration_of us' s' text x)) names → AllByRecursion IsDeclaration (map (declaration_of us' s' text) names)
+  each [] h = tt
+  each (x ∷ xs) h = (h.0, each xs h.1)
+
+  pub names_again : (names : List (List ℕ)) → map (λ (d : Declaration). d.name) (map (declaration_of us' s' text) names) ≡ names
+  names_again [] = refl
+  names_again (x ∷ xs) = ap (λ ys. x ∷ ys) (names_again xs)
+
+  sums_again : (names : List (List ℕ)) → map (λ (d : Declaration). array_elements (dimensions d.extent)) (map (declaration_of us' s' text) names) ≡ map (λ x. elements s' (bounds_of_name text x)) names
+  sums_again [] = refl
+  sums_again (x ∷ xs) =
+      ap (λ n. n ∷ map (λ (d : Declaration). array_elements (dimensions d.extent)) (map (declaration_of us' s' text) xs)) (elements_are s' (bounds_of_name text x))
+      ∙ ap (λ ns. elements s' (bounds_of_name text x) ∷ ns) (sums_again xs)
+
+  -- ---- at the last place
+
+  abbrev is_counted : Use → Bool
+  is_counted u = is_variable us' u.name || is_constant us' u.name
+
+  counted : (x : List ℕ) → Contains (variables_of us') x → Contains (counted_names us' (onto [] text)) x
+  counted x c =
+      let v = variable_used us' x c in
+      let u = v.used in
+      let f = from_flat (λ (y : Labelled). uses_of y.statement) text u.use' u.among in
+      let among : Contains (uses_in_text (onto [] text)) u.use' = in_flat (λ (y : Labelled). uses_of y.statement) (onto [] text) f.it u.use' (text_onto [] text f.it f.among) f.gives in
+      let passes : is_counted u.use' ≡ true = ap (λ b. b || is_constant us' u.use'.name) (ap (is_variable us') u.same ∙ v.variable) in
+      once_has (map (λ (w : Use). w.name) (filter is_counted (uses_in_text (onto [] text)))) x
+      (subst (λ (y : List ℕ). Contains (map (λ (w : Use). w.name) (filter is_counted (uses_in_text (onto [] text)))) y) u.same
+      (named_by (filter is_counted (uses_in_text (onto [] text))) u.use' (kept_by is_counted (uses_in_text (onto [] text)) u.use' among passes)))
+
+  few_names : LastPlace (IsRight text) (onto [] text) → length (variables_of us') ≤ 1000
+  few_names p =
+      let a = fewer (variables_of us') (counted_names us' (onto [] text)) (variables_in_order us') counted in
+      let b = ltb-false 1000 (length (counted_names us' (p.place.here ∷ p.place.before))) p.holds.names in
+      let c = ap (λ ys. length (counted_names us' ys)) p.whole in
+      omega (arith, a, b, c)
+
+  few_elements : LastPlace (IsRight text) (onto [] text) → all_elements s' text ≤ 4194304
+  few_elements p =
+      let a = turned_elements s' [] text in
+      let b = ltb-false 4194304 (all_elements s' (p.place.here ∷ p.place.before)) p.holds.elements in
+      let c = ap (all_elements s') p.whole in
+      omega (arith, a, b, c)
+
+  pub are_declarations : LastPlace (IsRight text) (onto [] text) → AreDeclarations (declarations text)
+  are_declarations p = record {
+    each = each (variables_of us') (all_of (λ x. IsDeclaration (declaration_of us' s' text x)) (variables_of us') declaration);
+    ordered = subst IsInByteOrder (sym (names_again (variables_of us'))) (variables_in_order us');
+    few = (let a = length-map (variables_of us') (declaration_of us' s' text) in let b = few_names p in omega (arith, a, b));
+    elements =
+        (let a = ap sum (sums_again (variables_of us')) in
+        let b = names_of_text s' text (variables_of us') (variables_in_order us') in
+        let c = few_elements p in
+        omega (arith, a, b, c));
+  }

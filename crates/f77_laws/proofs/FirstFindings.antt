@@ -1,0 +1,151 @@
+-- Where lines rise, the first place at which a cause holds has the least line.
+use Rattle.std.proofs.Common.{◌≡◌, ◌⊎◌, inl, inr, ℕ, ◌<◌, ◌≤◌, ◌==◌, nat_lt, Bool, true, false, ◌&&◌, ◌||◌, cond, Option, Some, None, List, [], ◌∷◌, map, refl, sym, ap, subst, ◌∙◌, arith, Contains, filter, find}
+use Rattle.std.specs.Option.{option_map}
+use Rattle.std.specs.List.{AllByRecursion}
+use Rattle.std.proofs.lemmas.Bool.Decides.{nat_tests}
+use Rattle.fv_tree.specs.declared.refusals.Refusal.{Refusal}
+use Rattle.f77_grammar.specs.Statement77.{Labelled}
+use Rattle.f77_grammar.specs.program.Text.{Place, places, places_from}
+use Rattle.f77_grammar.specs.program.Program77.{Cause, Label, Nesting, NoEnd, Declared, RealName, TypeClash, Jump, DoVariable, ManyNames, ManyBlocks, ReversedBounds, ManyElements, BadConstant, all_causes, number_of_cause, word_of_cause, finding, findings_of, findings, comes_before}
+use Rattle.f77_laws.specs.Source.{AreRising}
+use Rattle.f77_laws.specs.FirstFinding.{holds_in, HoldsFirst, RefusalIsFirst, FirstIsRefused}
+use Rattle.f77_laws.proofs.Lists.{here, there, nowhere, cases_of, not_both, all_at, all_of, in_flat, FromFlat, from_flat}
+use Rattle.f77_laws.proofs.Variables.{kept_by, Passed, passed_by}
+
+-- ---- lines of places
+
+later_lines : (line : ℕ) (before xs : List Labelled) → AllByRecursion (λ (y : Labelled). line < y.line) xs → AllByRecursion (λ (p : Place). line < p.here.line) (places_from before xs)
+later_lines line before [] h = tt
+later_lines line before (x ∷ xs) h = (h.0, later_lines line (x ∷ before) xs h.1)
+
+-- the first place that passes a test stands on no later line than another that does
+record IsFirstPlace (test : Place → Bool) (ps : List Place) (line : ℕ) : Type 0 where
+  place : Place
+  is : find test ps ≡ Some place
+  soon : place.here.line ≤ line
+
+first_step : (test : Place → Bool) (q : Place) (rest : List Place) (p : Place) (b : Bool) → test q ≡ b → test p ≡ true → AllByRecursion (λ (o : Place). q.here.line < o.here.line) rest
+    → (Contains rest p → IsFirstPlace test rest p.here.line) → (q ≡ p) ⊎ Contains rest p → IsFirstPlace test (q ∷ rest) p.here.line
+first_step test q rest p true e t h more (inl g) = record { place = q; is = ap (λ b. cond b (Some q) (find test rest)) e; soon = (let l = ap (λ (o : Place). o.here.line) g in omega (arith, l)) }
+first_step test q rest p true e t h more (inr d) =
+    record { place = q; is = ap (λ b. cond b (Some q) (find test rest)) e; soon = (let l = all_at (λ (o : Place). q.here.line < o.here.line) rest p h d in omega (arith, l)) }
+first_step test q rest p false e t h more (inl g) = absurd (not_both (test p) t (sym (ap test g) ∙ e))
+first_step test q rest p false e t h more (inr d) = let k = more d in record { place = k.place; is = ap (λ b. cond b (Some q) (find test rest)) e ∙ k.is; soon = k.soon }
+
+first_place : (test : Place → Bool) (before xs : List Labelled) (p : Place) → AreRising xs → Contains (places_from before xs) p → test p ≡ true → IsFirstPlace test (places_from before xs) p.here.line
+first_place test before [] p h c t = absurd (nowhere p c)
+first_place test before (x ∷ xs) p h c t =
+    let q : Place = record { before = before; here = x; after = xs } in
+    let rest = places_from (x ∷ before) xs in
+    first_step test q rest p (test q) refl t (later_lines x.line (x ∷ before) xs h.0) (λ d. first_place test (x ∷ before) xs p h.1 d t) (cases_of q rest p c)
+
+-- what is found is there and passes
+found_there : (test : Place → Bool) (ps : List Place) (q : Place) → find test ps ≡ Some q → Passed test ps q
+found_there test [] q h = absurd cc
+found_there test (p ∷ ps) q h = by (test p) refl (found_there test ps q) h
+  where
+    by : (b : Bool) → test p ≡ b → (find test ps ≡ Some q → Passed test ps q) → cond b (Some p) (find test ps) ≡ Some q → Passed test (p ∷ ps) q
+    by true e more h = let g : p ≡ q = cc in subst (λ (o : Place). Passed test (p ∷ ps) o) g (record { among = here p ps; passes = e })
+    by false e more h = let k = more h in record { among = there p ps q k.among; passes = k.passes }
+
+-- ---- findings
+
+any_cause : (c : Cause) → Contains all_causes c
+any_cause Label = (0, omega arith, refl)
+any_cause Nesting = (1, omega arith, refl)
+any_cause NoEnd = (2, omega arith, refl)
+any_cause Declared = (3, omega arith, refl)
+any_cause RealName = (4, omega arith, refl)
+any_cause TypeClash = (5, omega arith, refl)
+any_cause Jump = (6, omega arith, refl)
+any_cause DoVariable = (7, omega arith, refl)
+any_cause ManyNames = (8, omega arith, refl)
+any_cause ManyBlocks = (9, omega arith, refl)
+any_cause ReversedBounds = (10, omega arith, refl)
+any_cause ManyElements = (11, omega arith, refl)
+any_cause BadConstant = (12, omega arith, refl)
+
+mapped : (f : Place → Refusal) (ps : List Place) (p : Place) → Contains ps p → Contains (map f ps) (f p)
+mapped f [] p c = absurd (nowhere p c)
+mapped f (q ∷ qs) p c = by (mapped f qs p) (cases_of q qs p c)
+  where
+    by : (Contains qs p → Contains (map f qs) (f p)) → (q ≡ p) ⊎ Contains qs p → Contains (f q ∷ map f qs) (f p)
+    by more (inl e) = subst (λ (r : Refusal). Contains (f q ∷ map f qs) r) (ap f e) (here (f q) (map f qs))
+    by more (inr d) = there (f q) (map f qs) (f p) (more d)
+
+record IsMapped (f : Place → Refusal) (ps : List Place) (r : Refusal) : Type 0 where
+  place : Place
+  among : Contains ps place
+  is : f place ≡ r
+
+from_mapped : (f : Place → Refusal) (ps : List Place) (r : Refusal) → Contains (map f ps) r → IsMapped f ps r
+from_mapped f [] r c = absurd (nowhere r c)
+from_mapped f (q ∷ qs) r c = by (from_mapped f qs r) (cases_of (f q) (map f qs) r c)
+  where
+    by : (Contains (map f qs) r → IsMapped f qs r) → (f q ≡ r) ⊎ Contains (map f qs) r → IsMapped f (q ∷ qs) r
+    by more (inl e) = record { place = q; among = here q qs; is = e }
+    by more (inr d) = let k = more d in record { place = k.place; among = there q qs k.place k.among; is = k.is }
+
+-- a finding of a text, with the first place at which its cause holds
+record IsFinding (text : List Labelled) (r : Refusal) : Type 0 where
+  cause : Cause
+  is : r ≡ finding cause r.line
+  first : ℕ
+  holds : HoldsFirst text cause first
+  soon : first ≤ r.line
+
+finding_of : (x : Labelled) (xs : List Labelled) (r : Refusal) → AreRising (x ∷ xs) → Contains (findings (x ∷ xs)) r → IsFinding (x ∷ xs) r
+finding_of x xs r h c = by (from_flat (findings_of (x ∷ xs)) all_causes r c)
+  where
+    text : List Labelled
+    text = x ∷ xs
+
+    by : FromFlat (findings_of (x ∷ xs)) all_causes r → IsFinding (x ∷ xs) r
+    by f =
+        let m = from_mapped (λ (p : Place). finding f.it p.here.line) (filter (holds_in (x ∷ xs) f.it) (places (x ∷ xs))) r f.gives in
+        let p = passed_by (holds_in (x ∷ xs) f.it) (places (x ∷ xs)) m.place m.among in
+        let q = first_place (holds_in (x ∷ xs) f.it) [] (x ∷ xs) m.place h p.among p.passes in
+        let l = ap (λ (o : Refusal). o.line) m.is in
+        record {
+          cause = f.it;
+          is = sym m.is ∙ ap (finding f.it) l;
+          first = q.place.here.line;
+          holds = ap (option_map (λ (o : Place). o.here.line)) q.is;
+          soon = (let s = q.soon in omega (arith, s, l));
+        }
+
+-- where a cause holds first there is a finding
+first_found : (x : Labelled) (xs : List Labelled) (c : Cause) (line : ℕ) → HoldsFirst (x ∷ xs) c line → Contains (findings (x ∷ xs)) (finding c line)
+first_found x xs c line h = by (find (holds_in (x ∷ xs) c) (places (x ∷ xs))) refl h
+  where
+    by : (o : Option Place) → find (holds_in (x ∷ xs) c) (places (x ∷ xs)) ≡ o → option_map (λ (p : Place). p.here.line) o ≡ Some line → Contains (findings (x ∷ xs)) (finding c line)
+    by None e h = absurd cc
+    by (Some q) e h =
+        let l : q.here.line ≡ line = cc in
+        let k = found_there (holds_in (x ∷ xs) c) (places (x ∷ xs)) q e in
+        subst (λ (n : ℕ). Contains (findings (x ∷ xs)) (finding c n)) l
+        (in_flat (findings_of (x ∷ xs)) all_causes c (finding c q.here.line) (any_cause c)
+        (mapped (λ (p : Place). finding c p.here.line) (filter (holds_in (x ∷ xs) c) (places (x ∷ xs))) q (kept_by (holds_in (x ∷ xs) c) (places (x ∷ xs)) q k.among k.passes)))
+
+-- ---- the laws
+
+not_sooner : (n w l k : ℕ) → (nat_lt n n || (n == n && (nat_lt k l || (k == l && nat_lt w w)))) ≡ false → k ≤ l → k ≡ l
+not_sooner n w l k h g = grind (arith, nat_tests)
+
+pub refusal_is_first : RefusalIsFirst
+refusal_is_first x xs r h f =
+    let k = finding_of x xs r h f.found_it in
+    let m = all_at (λ o. comes_before o r ≡ false) (findings (x ∷ xs)) (finding k.cause k.first) f.first (first_found x xs k.cause k.first k.holds) in
+    let same = not_sooner (number_of_cause k.cause) (word_of_cause k.cause) r.line k.first (sym (ap (comes_before (finding k.cause k.first)) k.is) ∙ m) k.soon in
+    (k.cause, k.is, subst (λ (n : ℕ). HoldsFirst (x ∷ xs) k.cause n) same k.holds)
+
+later_too : (n l w m k v j : ℕ) → (nat_lt n m || (n == m && (nat_lt l k || (l == k && nat_lt w v)))) ≡ false → l ≤ j → (nat_lt n m || (n == m && (nat_lt j k || (j == k && nat_lt w v)))) ≡ false
+later_too n l w m k v j h g = grind (arith, nat_tests)
+
+pub first_is_refused : FirstIsRefused
+first_is_refused x xs c line h f o = record { found_it = first_found x xs c line f; first = all_of (λ r. comes_before r (finding c line) ≡ false) (findings (x ∷ xs)) (λ r d. at r (finding_of x xs r h d)) }
+  where
+    at : (r : Refusal) → IsFinding (x ∷ xs) r → comes_before r (finding c line) ≡ false
+    at r k =
+        ap (λ (q : Refusal). comes_before q (finding c line)) k.is
+        ∙ later_too (number_of_cause k.cause) k.first (word_of_cause k.cause) (number_of_cause c) line (word_of_cause c) r.line (o k.cause k.first k.holds) k.soon

@@ -1,0 +1,211 @@
+-- The name of the program is no other name.
+use Rattle.std.proofs.Common.{◌≡◌, ◌⊎◌, inl, inr, ℕ, Bool, true, false, not, ◌&&◌, ◌||◌, List, [], ◌∷◌, ◌++◌, refl, sym, ap, subst, Contains, filter, flat_map}
+use Rattle.std.specs.List.{AllByRecursion}
+use Rattle.std.specs.Str.{bytes_eq}
+use Rattle.std.proofs.lemmas.Bool.{or_cases}
+use Rattle.fv_tree.specs.declared.ops.Kind.{Kind}
+use Rattle.fv_tree.specs.Plain.{Expression}
+use Rattle.f77_grammar.specs.Statement77.{Entity, NamedConstant, Labelled, Statement77, Program, Declare, Dimension, Constants, Test}
+use Rattle.f77_grammar.specs.program.Text.{Place, places, places_from}
+use Rattle.fv_meaning.specs.Names.{IsSymbolicName}
+use Rattle.f77_grammar.specs.program.Uses.{Role, Title, Use, use_of, uses_in, uses_in_bounds, bounded_uses, dimensioned_uses, typed_uses, defined_uses, uses_of, uses_in_text, is_title, is_typed, is_bounded, is_defined, is_bare, names_that, stands, is_constant, is_variable}
+use Rattle.f77_grammar.specs.program.Order.{is_nothing, is_late}
+use Rattle.f77_grammar.specs.program.Declarations.{is_declared_again, is_array_or_constant, uses_title, has_unknown_constant, has_misused_name}
+use Rattle.f77_laws.proofs.Lists.{left_true, right_true, left_false, right_false, not_both, all_both, all_at, all_weaker, none_any, any_true, here, there, nowhere, cases_of, found, FromFlat, from_flat, in_flat}
+use Rattle.f77_laws.proofs.Places.{place_of}
+use Rattle.f77_laws.proofs.Sound.{IsRight}
+use Rattle.f77_laws.proofs.Variables.{same_name, equal_names, passed_by, use_named}
+use Rattle.f77_laws.proofs.Dimensions.{IsProper, AreProper, IsPlainRole, IsPlainUse, plain_of, plain_in, plain_in_bounds}
+use Rattle.f77_laws.proofs.SymbolicNames.{IsSymbolic}
+
+abbrev IsTitled : Statement77 → List ℕ → Type 0
+IsTitled (Program y) x = y ≡ x
+IsTitled c x = ⊥
+
+-- ---- the program's name stands in PROGRAM alone
+
+abbrev AreUntitled : List Use → Type 0
+AreUntitled us = AllByRecursion (λ (u : Use). is_title u.role ≡ false) us
+
+untitled_role : (r : Role) → IsPlainRole r → is_title r ≡ false
+untitled_role Title h = absurd h
+untitled_role r h = refl
+
+untitled : (us : List Use) → AllByRecursion IsPlainUse us → AreUntitled us
+untitled us h = all_weaker IsPlainUse (λ (u : Use). is_title u.role ≡ false) (λ u. untitled_role u.role) us h
+
+untitled_both : (us vs : List Use) → AreUntitled us → AreUntitled vs → AreUntitled (us ++ vs)
+untitled_both us vs h g = all_both (λ (u : Use). is_title u.role ≡ false) us vs h g
+
+untitled_bounds : (x : List ℕ) (bs : List (Expression × Expression)) → AreUntitled (bounded_uses x bs)
+untitled_bounds x [] = tt
+untitled_bounds x (b ∷ bs) = (refl, untitled (uses_in_bounds (b ∷ bs)) (plain_in_bounds (b ∷ bs)))
+
+untitled_typed : (k : Kind) (es : List Entity) → AreUntitled (flat_map (typed_uses k) es)
+untitled_typed k [] = tt
+untitled_typed k (e ∷ es) = (refl, untitled_both (dimensioned_uses e) (flat_map (typed_uses k) es) (untitled_bounds e.name e.bounds) (untitled_typed k es))
+
+untitled_dimensioned : (es : List Entity) → AreUntitled (flat_map dimensioned_uses es)
+untitled_dimensioned [] = tt
+untitled_dimensioned (e ∷ es) = untitled_both (dimensioned_uses e) (flat_map dimensioned_uses es) (untitled_bounds e.name e.bounds) (untitled_dimensioned es)
+
+untitled_defined : (ds : List NamedConstant) → AreUntitled (flat_map defined_uses ds)
+untitled_defined [] = tt
+untitled_defined (d ∷ ds) = (refl, untitled_both (uses_in d.value) (flat_map defined_uses ds) (untitled (uses_in d.value) (plain_in d.value)) (untitled_defined ds))
+
+no_title : {P : Type 0} (us : List Use) (u : Use) → AreUntitled us → Contains us u → is_title u.role ≡ true → P
+no_title us u h c e = absurd (not_both (is_title u.role) e (all_at (λ (v : Use). is_title v.role ≡ false) us u h c))
+
+name_of_use : (x : List ℕ) (u : Use) → Contains (use_of x Title ∷ []) u → use_of x Title ≡ u
+name_of_use x u c = by (cases_of (use_of x Title) [] u c)
+  where
+    by : (use_of x Title ≡ u) ⊎ Contains [] u → use_of x Title ≡ u
+    by (inl e) = e
+    by (inr g) = absurd (nowhere u g)
+
+titled : (c : Statement77) (u : Use) → IsProper c → Contains (uses_of c) u → is_title u.role ≡ true → IsTitled c u.name
+titled (Program y) u p c e = ap (λ (v : Use). v.name) (name_of_use y u c)
+titled (Declare k es) u p c e = no_title (flat_map (typed_uses k) es) u (untitled_typed k es) c e
+titled (Dimension es) u p c e = no_title (flat_map dimensioned_uses es) u (untitled_dimensioned es) c e
+titled (Constants ds) u p c e = no_title (flat_map defined_uses ds) u (untitled_defined ds) c e
+titled (Test d b) u p c e = no_title (uses_of (Test d b)) u (untitled (uses_of (Test d b)) (plain_of (Test d b) p)) c e
+titled s u p c e = no_title (uses_of s) u (untitled (uses_of s) (plain_of s tt)) c e
+
+title_alone : (c : Statement77) (x : List ℕ) (u : Use) → IsTitled c x → Contains (uses_of c) u → is_title u.role ≡ true
+title_alone (Program y) x u h c = ap (λ (v : Use). is_title v.role) (sym (name_of_use y u c))
+title_alone c x u h g = absurd h
+
+title_there : (c : Statement77) (x : List ℕ) → IsTitled c x → Contains (uses_of c) (use_of x Title)
+title_there (Program y) x h = subst (λ (z : List ℕ). Contains (use_of y Title ∷ []) (use_of z Title)) h (here (use_of y Title) [])
+title_there c x h = absurd h
+
+-- ---- PROGRAM is the first statement
+
+late_title : (c : Statement77) (p : Place) (x : List ℕ) → is_late c p ≡ false → is_nothing p.before ≡ false → IsTitled c x → ⊥
+late_title (Program y) p x h g t = let e : not (is_nothing p.before) ≡ true = ap not g in cc
+late_title c p x h g t = absurd t
+
+abbrev IsUntitled : Labelled → Type 0
+IsUntitled y = (x : List ℕ) → IsTitled y.statement x → ⊥
+
+no_later_title : (text : List Labelled) (b : Labelled) (before xs : List Labelled) → AllByRecursion (IsRight text) (places_from (b ∷ before) xs) → AllByRecursion IsUntitled xs
+no_later_title text b before [] r = tt
+no_later_title text b before (x ∷ xs) r =
+    (λ y t. late_title x.statement (record { before = b ∷ before; here = x; after = xs }) y r.0.order refl t, no_later_title text x (b ∷ before) xs r.1)
+
+-- ---- no variable has its name
+
+record IsBehind (text : List Labelled) (y : Labelled) (q : Place) : Type 0 where
+  right : IsRight text q
+  behind : Contains q.before y
+
+all_behind : (text : List Labelled) (y : Labelled) (before xs : List Labelled) → Contains before y → AllByRecursion (IsRight text) (places_from before xs) → AllByRecursion (IsBehind text y) (places_from before xs)
+all_behind text y before [] c r = tt
+all_behind text y before (x ∷ xs) c r = (record { right = r.0; behind = c }, all_behind text y (x ∷ before) xs (there x before y c) r.1)
+
+-- a use of a variable, that tells it so
+record IsTold (us : List Use) (x : List ℕ) : Type 0 where
+  it : Use
+  among : Contains us it
+  same : it.name ≡ x
+  no_title' : is_title it.role ≡ false
+
+told_by : (us : List Use) (x : List ℕ) (test : Role → Bool) → ((r : Role) → test r ≡ true → is_title r ≡ false) → stands test us x ≡ true → IsTold us x
+told_by us x test f h =
+    let g = found (λ (u : Use). test u.role && bytes_eq u.name x) us h in
+    record { it = g.it; among = g.among; same = same_name g.it.name x (right_true (test g.it.role) (bytes_eq g.it.name x) g.passes); no_title' = f g.it.role (left_true (test g.it.role) (bytes_eq g.it.name x) g.passes) }
+
+typed_other : (r : Role) → is_typed r ≡ true → is_title r ≡ false
+typed_other Title h = absurd cc
+typed_other r h = refl
+
+bounded_other : (r : Role) → is_bounded r ≡ true → is_title r ≡ false
+bounded_other Title h = absurd cc
+bounded_other r h = refl
+
+bare_other : (r : Role) → is_bare r ≡ true → is_title r ≡ false
+bare_other Title h = absurd cc
+bare_other r h = refl
+
+told : (us : List Use) (x : List ℕ) → is_variable us x ≡ true → IsTold us x
+told us x h = by (or_cases (stands is_typed us x || stands is_bounded us x) (stands is_bare us x) (left_true (stands is_typed us x || stands is_bounded us x || stands is_bare us x) (not (is_constant us x)) h))
+  where
+    first : (stands is_typed us x ≡ true) ⊎ (stands is_bounded us x ≡ true) → IsTold us x
+    first (inl e) = told_by us x is_typed typed_other e
+    first (inr e) = told_by us x is_bounded bounded_other e
+
+    by : ((stands is_typed us x || stands is_bounded us x) ≡ true) ⊎ (stands is_bare us x ≡ true) → IsTold us x
+    by (inl e) = first (or_cases (stands is_typed us x) (stands is_bounded us x) e)
+    by (inr e) = told_by us x is_bare bare_other e
+
+no_title_used : (text : List Labelled) (y : Labelled) (q : Place) (z : Labelled) (x : List ℕ) (v : Use) → IsBehind text y q → q.here ≡ z → IsTitled y.statement x → Contains (uses_of z.statement) v → v.name ≡ x → is_title v.role ≡ false → ⊥
+no_title_used text y q z x v b e t c n u =
+    let g = uses_title_here in
+    let k = all_at (λ (w : Use). (not (is_title w.role) && stands is_title (uses_in_text q.before) w.name) ≡ false) (uses_of q.here.statement) v
+    (none_any (λ (w : Use). not (is_title w.role) && stands is_title (uses_in_text q.before) w.name) (uses_of q.here.statement) g) (subst (λ (w : Labelled). Contains (uses_of w.statement) v) (sym e) c) in
+    not_both (stands is_title (uses_in_text q.before) v.name) stands_there (falls (is_title v.role) (stands is_title (uses_in_text q.before) v.name) u k)
+  where
+    uses_title_here : uses_title q ≡ false
+    uses_title_here =
+        right_false (is_declared_again is_typed q || is_declared_again is_array_or_constant q) (uses_title q)
+        (left_false (is_declared_again is_typed q || is_declared_again is_array_or_constant q || uses_title q) (has_unknown_constant (names_that is_defined (uses_in_text q.before)) q.here.statement)
+        (left_false (is_declared_again is_typed q || is_declared_again is_array_or_constant q || uses_title q || has_unknown_constant (names_that is_defined (uses_in_text q.before)) q.here.statement)
+        (has_misused_name (uses_in_text text) q.here.statement) b.right.declared))
+
+    falls : (a c : Bool) → a ≡ false → (not a && c) ≡ false → c ≡ false
+    falls true c h g = absurd cc
+    falls false c h g = g
+
+    stands_there : stands is_title (uses_in_text q.before) v.name ≡ true
+    stands_there =
+        any_true (λ (w : Use). is_title w.role && bytes_eq w.name v.name) (uses_in_text q.before) (use_of x Title) (in_flat (λ (w : Labelled). uses_of w.statement) q.before y (use_of x Title) b.behind (title_there y.statement x t))
+        (equal_names x v.name (sym n))
+
+-- the first statement has the title, if any has
+title_first : (y : Labelled) (ys : List Labelled) (u : Use) → AreProper (y ∷ ys) → AllByRecursion IsUntitled ys → Contains (uses_in_text (y ∷ ys)) u → is_title u.role ≡ true → IsTitled y.statement u.name
+title_first y ys u p n c e = by (from_flat (λ (w : Labelled). uses_of w.statement) (y ∷ ys) u c)
+  where
+    at : (f : FromFlat (λ (w : Labelled). uses_of w.statement) (y ∷ ys) u) → IsTitled f.it.statement u.name → (y ≡ f.it) ⊎ Contains ys f.it → IsTitled y.statement u.name
+    at f t (inl g) = subst (λ (w : Labelled). IsTitled w.statement u.name) (sym g) t
+    at f t (inr g) = absurd (all_at IsUntitled ys f.it n g u.name t)
+
+    by : FromFlat (λ (w : Labelled). uses_of w.statement) (y ∷ ys) u → IsTitled y.statement u.name
+    by f = at f (titled f.it.statement u (all_at (λ (w : Labelled). IsProper w.statement) (y ∷ ys) f.it p f.among) f.gives e) (cases_of y ys f.it f.among)
+
+title_is_no_variable : (text : List Labelled) (y : Labelled) (ys : List Labelled) (x : List ℕ) → AllByRecursion (IsRight text) (places_from (y ∷ []) ys) → IsTitled y.statement x → IsTold (uses_in_text (y ∷ ys)) x → ⊥
+title_is_no_variable text y ys x r t k = by (from_flat (λ (w : Labelled). uses_of w.statement) (y ∷ ys) k.it k.among)
+  where
+    later : (z : Labelled) → Contains (uses_of z.statement) k.it → Contains ys z → ⊥
+    later z c m =
+        let q = place_of (IsBehind text y) (y ∷ []) ys z (all_behind text y (y ∷ []) ys (here y []) r) m in
+        no_title_used text y q.place z x k.it q.holds q.stands t c k.same k.no_title'
+
+    at : (f : FromFlat (λ (w : Labelled). uses_of w.statement) (y ∷ ys) k.it) → (y ≡ f.it) ⊎ Contains ys f.it → ⊥
+    at f (inl g) = not_both (is_title k.it.role) (title_alone y.statement x k.it t (subst (λ (w : Labelled). Contains (uses_of w.statement) k.it) (sym g) f.gives)) k.no_title'
+    at f (inr g) = later f.it f.gives g
+
+    by : FromFlat (λ (w : Labelled). uses_of w.statement) (y ∷ ys) k.it → ⊥
+    by f = at f (cases_of y ys f.it f.among)
+
+-- a use as the program's name
+record IsTitleUse (us : List Use) (x : List ℕ) : Type 0 where
+  it : Use
+  among : Contains us it
+  same : it.name ≡ x
+  title : is_title it.role ≡ true
+
+title_use : (us : List Use) (x : List ℕ) → Contains (names_that is_title us) x → IsTitleUse us x
+title_use us x c =
+    let n = use_named (filter (λ (u : Use). is_title u.role) us) x c in
+    let p = passed_by (λ (u : Use). is_title u.role) us n.use' n.among in
+    record { it = n.use'; among = p.among; same = n.same; title = p.passes }
+
+pub no_variable : (text : List Labelled) (x : List ℕ) → AllByRecursion (IsRight text) (places text) → AreProper text → Contains (names_that is_title (uses_in_text text)) x → is_variable (uses_in_text text) x ≡ true → ⊥
+no_variable [] x r p c h = nowhere x c
+no_variable (y ∷ ys) x r p c h =
+    let u = title_use (uses_in_text (y ∷ ys)) x c in
+    let t = title_first y ys u.it p (no_later_title (y ∷ ys) y [] ys r.1) u.among u.title in
+    title_is_no_variable (y ∷ ys) y ys x r.1 (subst (λ (z : List ℕ). IsTitled y.statement z) u.same t) (told (uses_in_text (y ∷ ys)) x h)
+
+pub title_symbolic : (us : List Use) (x : List ℕ) → AllByRecursion IsSymbolic us → Contains (names_that is_title us) x → IsSymbolicName x
+title_symbolic us x h c = let u = title_use us x c in subst IsSymbolicName u.same (all_at IsSymbolic us u.it h u.among)

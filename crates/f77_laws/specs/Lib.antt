@@ -1,0 +1,4 @@
+pub mod FirstFinding
+pub mod Reading
+pub mod Source
+pub mod SourceCards

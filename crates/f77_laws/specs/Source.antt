@@ -1,0 +1,108 @@
+-- Statements as cards give them, each looked at alone (ANSI X3.9-1978, sections 2.2, 3.2 to 3.4, 4.4, 5.1, 6, 11 and 12).
+use Rattle.std.specs.Prelude.{ℕ, ◌<◌, ◌≤◌, IsTrue, IfSome, List, [], ◌∷◌, length}
+use Rattle.std.specs.List.{AllByRecursion}
+use Rattle.fv_tree.specs.Plain.{Expression, Named, Item, Single, Constant, ImpliedDo, Items, no_items, item}
+use Rattle.f77_grammar.specs.Statement77.{Entity, NamedConstant, Statement77, Labelled, Program, Declare, Dimension, Constants, Assign, Go, Test, If, ElseIf, Else, EndIf, Do, Continue, Stop, Read, Print, End}
+use Rattle.f77_grammar.specs.expressions.Printing.{IsSource}
+use Rattle.fv_meaning.specs.Names.{IsSymbolicName}
+use Rattle.fv_meaning.specs.Typed77.{depth_of, depth_of_items, has_item, IsText}
+use Rattle.fv_meaning.specs.Profile77.{IsLine}
+
+-- ---- expressions and lists
+
+abbrev pub IsShallow : Expression → Type 0
+IsShallow e = IsSource e × (depth_of e ≤ 400)
+
+-- what is read into: a name, with or without a list in parentheses
+abbrev pub IsSourceVariable : Expression → Type 0
+IsSourceVariable (Named x ps) = IsSource (Named x ps)
+IsSourceVariable e = ⊥
+
+abbrev mutual
+  pub IsSourceOutput : Item → Type 0
+  IsSourceOutput (Single e) = IsSource e
+  IsSourceOutput (Constant t) = IsText t
+  IsSourceOutput (ImpliedDo is x a b c) = IsTrue (has_item is) × IsSymbolicName x × IsSource a × IsSource b × IsSource c × AreSourceOutputs is
+
+  pub AreSourceOutputs : Items → Type 0
+  AreSourceOutputs no_items = Unit {0}
+  AreSourceOutputs (item i is) = IsSourceOutput i × AreSourceOutputs is
+
+abbrev mutual
+  pub IsSourceInput : Item → Type 0
+  IsSourceInput (Single e) = IsSourceVariable e
+  IsSourceInput (Constant t) = ⊥
+  IsSourceInput (ImpliedDo is x a b c) = IsTrue (has_item is) × IsSymbolicName x × IsSource a × IsSource b × IsSource c × AreSourceInputs is
+
+  pub AreSourceInputs : Items → Type 0
+  AreSourceInputs no_items = Unit {0}
+  AreSourceInputs (item i is) = IsSourceInput i × AreSourceInputs is
+
+-- ---- statements
+
+abbrev pub IsSourceLabel : ℕ → Type 0
+IsSourceLabel n = n < 100000
+
+pub record IsSourceEntity (e : Entity) : Type 0 where
+  pub name : IsSymbolicName e.name
+  pub few : length e.bounds ≤ 7
+  pub bounds : AllByRecursion (λ (b : Expression × Expression). IsShallow b.0 × IsShallow b.1) e.bounds
+
+pub record IsSourceConstant (d : NamedConstant) : Type 0 where
+  pub name : IsSymbolicName d.name
+  pub value : IsShallow d.value
+
+-- a statement that may stand in a logical IF
+abbrev pub IsSourceAction : Statement77 → Type 0
+IsSourceAction (Assign left e) = IsShallow (Named left.name left.subscripts) × IsShallow e
+IsSourceAction (Go n) = IsSourceLabel n
+IsSourceAction Continue = Unit {0}
+IsSourceAction Stop = Unit {0}
+IsSourceAction (Read is) = AreSourceInputs is × (depth_of_items is ≤ 400)
+IsSourceAction (Print is) = AreSourceOutputs is × (depth_of_items is ≤ 400)
+IsSourceAction (Program x) = ⊥
+IsSourceAction (Declare k es) = ⊥
+IsSourceAction (Dimension es) = ⊥
+IsSourceAction (Constants ds) = ⊥
+IsSourceAction (Test c s) = ⊥
+IsSourceAction (If c) = ⊥
+IsSourceAction (ElseIf c) = ⊥
+IsSourceAction Else = ⊥
+IsSourceAction EndIf = ⊥
+IsSourceAction (Do n x a b c) = ⊥
+IsSourceAction End = ⊥
+
+abbrev pub IsSourceStatement : Statement77 → Type 0
+IsSourceStatement (Program x) = IsSymbolicName x
+IsSourceStatement (Declare k es) = AllByRecursion IsSourceEntity es
+IsSourceStatement (Dimension es) = AllByRecursion IsSourceEntity es
+IsSourceStatement (Constants ds) = AllByRecursion IsSourceConstant ds
+IsSourceStatement (Test c s) = IsShallow c × IsSourceAction s
+IsSourceStatement (If c) = IsShallow c
+IsSourceStatement (ElseIf c) = IsShallow c
+IsSourceStatement Else = Unit {0}
+IsSourceStatement EndIf = Unit {0}
+IsSourceStatement (Do n x a b c) = IsSourceLabel n × IsSymbolicName x × IsShallow a × IsShallow b × IsShallow c
+IsSourceStatement End = Unit {0}
+IsSourceStatement (Assign left e) = IsSourceAction (Assign left e)
+IsSourceStatement (Go n) = IsSourceAction (Go n)
+IsSourceStatement Continue = IsSourceAction Continue
+IsSourceStatement Stop = IsSourceAction Stop
+IsSourceStatement (Read is) = IsSourceAction (Read is)
+IsSourceStatement (Print is) = IsSourceAction (Print is)
+
+-- ---- cards
+
+pub record IsSourceCard (x : Labelled) : Type 0 where
+  pub label : IfSome x.label IsSourceLabel
+  pub line : IsLine x.line
+  pub statement : IsSourceStatement x.statement
+
+-- each statement stands on a later line than those before it
+abbrev pub AreRising : List Labelled → Type 0
+AreRising [] = Unit {0}
+AreRising (x ∷ xs) = AllByRecursion (λ (y : Labelled). x.line < y.line) xs × AreRising xs
+
+pub record AreSourceStatements (text : List Labelled) : Type 0 where
+  pub each : AllByRecursion IsSourceCard text
+  pub rising : AreRising text

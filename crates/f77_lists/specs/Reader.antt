@@ -1,0 +1,179 @@
+-- Reading a list from left to right, an item or the end of an implied DO list at a time, with the lists that are open
+-- on a stack.
+use Rattle.std.specs.Prelude.{ℕ, ◌+◌, ◌-◌, ◌≡◌, max, pos, Bool, true, false, ◌&&◌, ◌==◌, List, [], ◌∷◌, ◌++◌, Option, Some, None, if◌then◌else◌}
+use Rattle.fv_tree.specs.Plain.{Expression, Number, Item, Single, Constant, ImpliedDo, items}
+use Rattle.f77_grammar.specs.expressions.Words as words
+use Rattle.f77_grammar.specs.expressions.Words.{Word}
+use Rattle.f77_grammar.specs.statements.Items.{Direction, Output, Input}
+use Rattle.f77_expr.specs.Reader as expressions
+use Rattle.f77_expr.specs.Reader.{Operand, Read, deeper}
+
+-- a list so far, and its depth
+pub record Frame : Type 0 where
+  pub items : List Item
+  pub depth : ℕ
+
+abbrev pub none : Frame
+none = record { items = []; depth = 0 }
+
+abbrev pub added : Item → ℕ → Frame → Frame
+added i d f = record { items = f.items ++ i ∷ []; depth = max f.depth d }
+
+-- the lists that are open, the innermost first, and the words that follow: an item is due, or has been read
+pub data State : Type 0 where
+  Wants : List Frame → List Word → State
+  Done : List Frame → List Word → State
+
+pub data Step : Type 0 where
+  Go : State → Step
+  Stop : Frame → Step
+  Fail : Step
+
+abbrev pub put : Item → ℕ → List Frame → List Word → Step
+put i d [] ws = Fail
+put i d (f ∷ fs) ws = Go (Done (added i d f ∷ fs) ws)
+
+-- ---- an item
+
+-- a comma stands in the parenthesis before the words, and in none within it; `n` more are open
+abbrev pub holds_comma : ℕ → List Word → Bool
+holds_comma n [] = false
+holds_comma n (words.Open ∷ ws) = holds_comma (n + 1) ws
+holds_comma n (words.Head x ∷ ws) = holds_comma (n + 1) ws
+holds_comma n (words.Close ∷ ws) = if n == 0 then false else holds_comma (n - 1) ws
+holds_comma n (words.Comma ∷ ws) = if n == 0 then true else holds_comma n ws
+holds_comma n (w ∷ ws) = holds_comma n ws
+
+-- a parenthesis that holds a comma begins an implied DO list
+abbrev pub opens : List Word → Bool
+opens (words.Open ∷ ws) = holds_comma 0 ws
+opens ws = false
+
+abbrev pub begins_with_name : List Word → Bool
+begins_with_name (words.Name x ∷ ws) = true
+begins_with_name (words.Head x ∷ ws) = true
+begins_with_name ws = false
+
+abbrev pub may_stand : Direction → List Word → Operand → Bool
+may_stand Output ws m = true
+may_stand Input ws m = begins_with_name ws && (m.level == 10)
+
+abbrev pub value : Direction → List Word → List Frame → Option Read → Step
+value d ws fs None = Fail
+value d ws fs (Some r) = if may_stand d ws r.operand then put (Single r.operand.tree) r.operand.depth fs r.rest else Fail
+
+abbrev pub text : Direction → List ℕ → List Frame → List Word → Step
+text Output t fs ws = put (Constant t) 0 fs ws
+text Input t fs ws = Fail
+
+-- an item that isn't an implied DO list
+abbrev pub simple : Direction → List Frame → List Word → Step
+simple d fs (words.Constant t ∷ ws) = text d t fs ws
+simple d fs ws = value d ws fs (expressions.read ws)
+
+abbrev pub open_list : List Frame → List Word → Step
+open_list fs [] = Fail
+open_list fs (w ∷ ws) = Go (Wants (none ∷ fs) ws)
+
+abbrev pub begin_by : Direction → Bool → List Frame → List Word → Step
+begin_by d true fs ws = open_list fs ws
+begin_by d false fs ws = simple d fs ws
+
+abbrev pub begin : Direction → List Frame → List Word → Step
+begin d fs ws = begin_by d (opens ws) fs ws
+
+-- ---- the bounds of an implied DO list, with its closing parenthesis
+
+pub record Bound : Type 0 where
+  pub tree : Expression
+  pub depth : ℕ
+  pub rest : List Word
+
+abbrev pub closed : Operand → List Word → Option Bound
+closed m (words.Close ∷ ws) = Some (record { tree = m.tree; depth = m.depth; rest = ws })
+closed m ws = None
+
+abbrev pub given : Option Read → Option Bound
+given None = None
+given (Some r) = closed r.operand r.rest
+
+-- the step, which may be left out
+abbrev pub last_part : List Word → Option Bound
+last_part (words.Close ∷ ws) = Some (record { tree = Number (pos 1); depth = 0; rest = ws })
+last_part (words.Comma ∷ ws) = given (expressions.read ws)
+last_part ws = None
+
+pub record Bounds : Type 0 where
+  pub first : Expression
+  pub last : Expression
+  pub step : Expression
+  pub depth : ℕ
+  pub rest : List Word
+
+abbrev pub with_step : Operand → Operand → Option Bound → Option Bounds
+with_step a b None = None
+with_step a b (Some c) = Some (record { first = a.tree; last = b.tree; step = c.tree; depth = max (max a.depth b.depth) c.depth; rest = c.rest })
+
+abbrev pub with_last : Operand → Option Read → Option Bounds
+with_last a None = None
+with_last a (Some r) = with_step a r.operand (last_part r.rest)
+
+abbrev pub behind_first : Operand → List Word → Option Bounds
+behind_first a (words.Comma ∷ ws) = with_last a (expressions.read ws)
+behind_first a ws = None
+
+abbrev pub with_first : Option Read → Option Bounds
+with_first None = None
+with_first (Some r) = behind_first r.operand r.rest
+
+abbrev pub bounds : List Word → Option Bounds
+bounds ws = with_first (expressions.read ws)
+
+-- ---- what follows an item
+
+-- the variable of an implied DO list, and what follows its equals sign
+pub record Control : Type 0 where
+  pub name : List ℕ
+  pub rest : List Word
+
+abbrev pub control : List Word → Option Control
+control (words.Name x ∷ (words.Equals ∷ ws)) = Some (record { name = x; rest = ws })
+control ws = None
+
+abbrev pub repeat : List ℕ → List Frame → Option Bounds → Step
+repeat x fs None = Fail
+repeat x [] (Some b) = Fail
+repeat x (f ∷ fs) (Some b) = put (ImpliedDo (items f.items) x b.first b.last b.step) (deeper (max f.depth b.depth)) fs b.rest
+
+abbrev pub behind_comma : List Frame → List Word → Option Control → Step
+behind_comma fs ws None = Go (Wants fs ws)
+behind_comma fs ws (Some c) = repeat c.name fs (bounds c.rest)
+
+abbrev pub whole : List Frame → Step
+whole (f ∷ []) = Stop f
+whole fs = Fail
+
+abbrev pub follow : List Frame → List Word → Step
+follow fs [] = whole fs
+follow fs (words.Comma ∷ ws) = behind_comma fs ws (control ws)
+follow fs ws = Fail
+
+-- ---- the whole list
+
+abbrev pub step : Direction → State → Step
+step d (Wants fs ws) = begin d fs ws
+step d (Done fs ws) = follow fs ws
+
+abbrev pub start : List Word → State
+start ws = Wants (none ∷ []) ws
+
+-- steps lead from a state to another
+pub data Path (d : Direction) : State → State → Type 0 where
+  here : (s : State) → Path d s s
+  onward : (s t u : State) → step d s ≡ Go t → Path d t u → Path d s u
+
+-- the items, where steps lead to the end of the words
+pub record Reaches (d : Direction) (ws : List Word) (end : Step) : Type 0 where
+  pub state : State
+  pub path : Path d (start ws) state
+  pub ends : step d state ≡ end

@@ -1,0 +1,288 @@
+//! Lists, read item by item.
+ghost use Rattle.std.specs.Prelude.{◌≡◌, ◌<◌, ◌+◌, length, List, IfOk, IfSome, OnOk, IsErrOf};
+ghost use Rattle.fv_tree.specs.View.{item_of, expression_of};
+ghost use Rattle.f77_grammar.specs.expressions.Words as words;
+ghost use Rattle.f77_expr.specs.Reader as expressions;
+ghost use Rattle.f77_expr.specs.Views.{words_of, operand_of};
+ghost use Rattle.f77_lists.specs.Reader as reader;
+ghost use Rattle.f77_lists.specs.Views.{direction_of, stack, state_of, frame_of, Leaves, Turns, Ends, Opens, IsShorter, Runs};
+
+use crate::bounds::{control, read_bounds};
+use crate::lists::{Direction, ItemList};
+use f77_expr::operands::Operand;
+use f77_expr::reader::read;
+use f77_expr::tokens::{Stop, Token};
+use fv_tree::{Item, Memory, Name, Seq};
+use std::alloc::Global;
+
+/// What comes next, with the words that follow: an item is due, or has been read, or the list is whole.
+#[derive(Debug, Drop)]
+pub(crate) enum Turn<'a> {
+    Due(&'a [Token]),
+    Done(&'a [Token]),
+    Whole(ItemList),
+}
+
+// Whether a comma stands in the parenthesis before the words, and in none within it.
+fn holds_comma(tokens: &[Token]) -> bool
+    ensures { result ≡ reader.holds_comma 0 (words_of tokens.now) }
+{
+    let mut open: usize = 0;
+    'scanning: for token in tokens {
+        match token {
+            Token::Open | Token::Head(_) => open += 1,
+            Token::Close => {
+                if open == 0 {
+                    return false;
+                }
+                open -= 1;
+            }
+            Token::Comma => {
+                if open == 0 {
+                    return true;
+                }
+            }
+            Token::Number(_)
+            | Token::Wide
+            | Token::Truth(_)
+            | Token::Name(_)
+            | Token::Operator(_)
+            | Token::Equals
+            | Token::Colon
+            | Token::Constant(_) => {}
+        }
+    }
+    false
+}
+
+// What follows the parenthesis of an implied DO list, where one begins: its parenthesis holds a comma.
+fn opened(tokens: &[Token]) -> Option<&[Token]>
+    ensures opens { Opens result (words_of tokens.now) }
+    ensures shorter { IfSome result (λ rest. length rest.now < length tokens.now) }
+{
+    match tokens {
+        [Token::Open, rest @ ..] if holds_comma(rest) => Some(rest),
+        _ => None,
+    }
+}
+
+fn begins_with_name(tokens: &[Token]) -> bool
+    ensures { result ≡ reader.begins_with_name (words_of tokens.now) }
+{
+    match tokens {
+        [Token::Name(_), ..] => true,
+        [Token::Head(_), ..] => true,
+        _ => false,
+    }
+}
+
+// Whether the expression may stand as an item: a reference is read.
+fn may_stand(direction: Direction, tokens: &[Token], operand: &Operand) -> bool
+    ensures { result ≡ reader.may_stand (direction_of direction) (words_of tokens.now) (operand_of operand.now) }
+{
+    match direction {
+        Direction::Output => true,
+        Direction::Input => begins_with_name(tokens) && operand.level == 10,
+    }
+}
+
+// Puts an item of some depth into the innermost list.
+#[tactic(auto, using(crate::proofs::Stacks::stacks))]
+fn put(lists: &mut Vec<ItemList>, item: Item, depth: u16) -> Result<(), Stop>
+    ensures ok { OnOk result ((ws : List words.Word) → reader.put (item_of item) depth (stack lists.old.items) ws ≡ reader.Go (reader.Done (stack lists.new.items) ws)) }
+    ensures syntax { IsErrOf result Stop.Syntax → (ws : List words.Word) → reader.put (item_of item) depth (stack lists.old.items) ws ≡ reader.Fail }
+{
+    let Some(list) = lists.pop() else {
+        return Err(Stop::Syntax);
+    };
+    lists.push(list.with(item, depth)?)?;
+    Ok(())
+}
+
+// An expression as an item.
+#[tactic(auto, using(fv_tree::proofs::Equations::item_equations))]
+fn value<'a>(
+    alloc: Global,
+    direction: Direction,
+    lists: &mut Vec<ItemList>,
+    tokens: &'a [Token],
+) -> Result<&'a [Token], Stop>
+    ensures value { Leaves result lists.new.items (reader.value (direction_of direction) (words_of tokens.now) (stack lists.old.items) (expressions.read (words_of tokens.now))) }
+    ensures shorter { IfOk result (λ rest. length rest.now < length tokens.now) }
+{
+    let (operand, rest) = read(alloc, tokens)?;
+    if !may_stand(direction, tokens, &operand) {
+        return Err(Stop::Syntax);
+    }
+    put(lists, Item::One(operand.tree), operand.depth)?;
+    Ok(rest)
+}
+
+fn copied(alloc: Global, text: &Seq<u8>) -> Result<Seq<u8>, Memory>
+    ensures { IfOk result (λ copy. copy ≡ text.now) }
+{
+    Ok(Seq::from_vec(Vec::from_slice(alloc, text.as_slice())?))
+}
+
+// A character constant as an item.
+#[tactic(auto, using(fv_tree::proofs::Equations::item_equations))]
+fn text(
+    alloc: Global,
+    direction: Direction,
+    lists: &mut Vec<ItemList>,
+    text: &Seq<u8>,
+) -> Result<(), Stop>
+    ensures ok { OnOk result ((ws : List words.Word) → reader.text (direction_of direction) text.now (stack lists.old.items) ws ≡ reader.Go (reader.Done (stack lists.new.items) ws)) }
+    ensures syntax { IsErrOf result Stop.Syntax → (ws : List words.Word) → reader.text (direction_of direction) text.now (stack lists.old.items) ws ≡ reader.Fail }
+{
+    match direction {
+        Direction::Output => put(lists, Item::Text(copied(alloc, text)?), 0),
+        Direction::Input => Err(Stop::Syntax),
+    }
+}
+
+// An item that isn't an implied DO list.
+fn simple<'a>(
+    alloc: Global,
+    direction: Direction,
+    lists: &mut Vec<ItemList>,
+    tokens: &'a [Token],
+) -> Result<&'a [Token], Stop>
+    ensures simple { Leaves result lists.new.items (reader.simple (direction_of direction) (stack lists.old.items) (words_of tokens.now)) }
+    ensures shorter { IfOk result (λ rest. length rest.now < length tokens.now) }
+{
+    match tokens {
+        [Token::Constant(constant), rest @ ..] => {
+            text(alloc, direction, lists, constant)?;
+            Ok(rest)
+        }
+        _ => value(alloc, direction, lists, tokens),
+    }
+}
+
+// Where an item is due.
+#[tactic(auto, using(crate::proofs::Stacks::stacks))]
+fn begin<'a>(
+    alloc: Global,
+    direction: Direction,
+    lists: &mut Vec<ItemList>,
+    tokens: &'a [Token],
+) -> Result<Turn<'a>, Stop>
+    ensures begin { Turns result lists.new.items (reader.begin (direction_of direction) (stack lists.old.items) (words_of tokens.now)) }
+    ensures shorter { IfOk result (λ turn. IsShorter turn (length tokens.now)) }
+{
+    match opened(tokens) {
+        Some(rest) => {
+            lists.push(ItemList::new(alloc))?;
+            Ok(Turn::Due(rest))
+        }
+        None => Ok(Turn::Done(simple(alloc, direction, lists, tokens)?)),
+    }
+}
+
+// The end of an implied DO list, behind the equals sign of its variable.
+#[tactic(auto, using(crate::proofs::Stacks::stacks, fv_tree::proofs::Equations::item_equations))]
+fn repeat<'a>(
+    alloc: Global,
+    lists: &mut Vec<ItemList>,
+    name: Name,
+    tokens: &'a [Token],
+) -> Result<&'a [Token], Stop>
+    ensures repeat { Leaves result lists.new.items (reader.repeat name (stack lists.old.items) (reader.bounds (words_of tokens.now))) }
+    ensures shorter { IfOk result (λ rest. length rest.now < length tokens.now) }
+{
+    let (bounds, rest) = read_bounds(alloc, tokens)?;
+    let Some(list) = lists.pop() else {
+        return Err(Stop::Syntax);
+    };
+    let depth = list.depth.max(bounds.depth).saturating_add(1).min(401);
+    let item = Item::Turns(list.items, name, bounds.first, bounds.last, bounds.step);
+    put(lists, item, depth)?;
+    Ok(rest)
+}
+
+// The one list that is open.
+#[tactic(auto, using(crate::proofs::Stacks::stacks))]
+fn whole(lists: &mut Vec<ItemList>) -> Result<ItemList, Stop>
+    ensures { Ends result (reader.whole (stack lists.old.items)) }
+{
+    let Some(list) = lists.pop() else {
+        return Err(Stop::Syntax);
+    };
+    if !lists.is_empty() {
+        return Err(Stop::Syntax);
+    }
+    Ok(list)
+}
+
+// What follows the comma behind an item.
+fn behind_comma<'a>(
+    alloc: Global,
+    lists: &mut Vec<ItemList>,
+    tokens: &'a [Token],
+) -> Result<Turn<'a>, Stop>
+    ensures comma { Turns result lists.new.items (reader.behind_comma (stack lists.old.items) (words_of tokens.now) (reader.control (words_of tokens.now))) }
+    ensures shorter { IfOk result (λ turn. IsShorter turn (length tokens.now + 1)) }
+{
+    match control(tokens) {
+        Some((name, rest)) => Ok(Turn::Done(repeat(alloc, lists, name, rest)?)),
+        None => Ok(Turn::Due(tokens)),
+    }
+}
+
+// What follows an item.
+fn follow<'a>(
+    alloc: Global,
+    lists: &mut Vec<ItemList>,
+    tokens: &'a [Token],
+) -> Result<Turn<'a>, Stop>
+    ensures follow { Turns result lists.new.items (reader.follow (stack lists.old.items) (words_of tokens.now)) }
+    ensures shorter { IfOk result (λ turn. IsShorter turn (length tokens.now)) }
+{
+    match tokens {
+        [] => Ok(Turn::Whole(whole(lists)?)),
+        [Token::Comma, rest @ ..] => behind_comma(alloc, lists, rest),
+        _ => Err(Stop::Syntax),
+    }
+}
+
+fn step<'a>(
+    alloc: Global,
+    direction: Direction,
+    lists: &mut Vec<ItemList>,
+    is_due: bool,
+    tokens: &'a [Token],
+) -> Result<Turn<'a>, Stop>
+    ensures step { Turns result lists.new.items (reader.step (direction_of direction) (state_of is_due lists.old.items (words_of tokens.now))) }
+    ensures shorter { IfOk result (λ turn. IsShorter turn (length tokens.now)) }
+{
+    if is_due {
+        begin(alloc, direction, lists, tokens)
+    } else {
+        follow(alloc, lists, tokens)
+    }
+}
+
+/// All words as one list, by steps.
+#[tactic(auto, using(crate::proofs::Paths::paths))]
+pub(crate) fn run(alloc: Global, direction: Direction, tokens: &[Token]) -> Result<ItemList, Stop>
+    ensures { Runs result (direction_of direction) (words_of tokens.now) }
+{
+    let mut lists = Vec::new(alloc);
+    lists.push(ItemList::new(alloc))?;
+    let mut is_due = true;
+    let mut rest = tokens;
+    'reading: loop {
+        match step(alloc, direction, &mut lists, is_due, rest)? {
+            Turn::Due(tail) => {
+                is_due = true;
+                rest = tail;
+            }
+            Turn::Done(tail) => {
+                is_due = false;
+                rest = tail;
+            }
+            Turn::Whole(list) => return Ok(list),
+        }
+    }
+}

@@ -1,3 +1,0 @@
-pub mod FirstFinding
-pub mod Reading
-pub mod Source

@@ -1,7 +1,0 @@
-use Rattle.std.proofs.Common.{map, take}
-use Rattle.fixed_form.specs.Card.{card_of}
-use Rattle.f77_program.specs.Cards.{IsTried}
-use Rattle.f77_program.proofs.cards.try_cards.Given as goal
-
-abbrev pub invariant-loop-card : goal.invariant-loop-card
-invariant-loop-card l = IsTried (map card_of (take l.card-index l.cards)) l.tried

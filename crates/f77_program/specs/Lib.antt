@@ -1,3 +1,0 @@
-pub mod Source77
-pub mod Cards
-pub mod Outcomes

@@ -1,0 +1,167 @@
+-- What the answer of a building says, clause by clause.
+use Rattle.std.proofs.Common.{◌≡◌, ◌⊎◌, inl, inr, ℕ, ◌<◌, ◌≤◌, false, Result, Ok, Err, IfOk, List, [], ◌∷◌, Contains, refl, sym, ap, subst, ◌∙◌, arith}
+use Rattle.std.specs.Prelude.{Option, IsOkAnd}
+use Rattle.std.specs.List.{AllByRecursion}
+use Rattle.std.proofs.lemmas.List.Elements.{All-from_recursion, All-contains, Contains-get_or}
+use Rattle.fv_tree.specs.Plain.{Program}
+use Rattle.fv_tree.specs.View.{program_of}
+use Rattle.fv_tree.specs.declared.programs.Program77.{Program77}
+use Rattle.fv_tree.specs.declared.refusals.Refusal.{Refusal}
+use Rattle.fv_tree.specs.declared.refusals.Refused.{Refused}
+use Rattle.fv_tree.specs.declared.refusals.Refused.TheVariants as refused
+use Rattle.f77_grammar.specs.Cards.{PlainCard}
+use Rattle.f77_grammar.specs.Statement77.{Statement77, Labelled}
+use Rattle.f77_grammar.specs.statements.Reading.{IsRefusedBy}
+use Rattle.f77_grammar.specs.program.Program77.{comes_before, IsFirst, findings, RefusedStatements}
+use Rattle.f77_grammar.specs.program.Tree.{tree_of}
+use Rattle.f77_grammar.proofs.programs.Least.{one_first}
+use Rattle.f77_laws.specs.Source.{AreRising}
+use Rattle.f77_laws.specs.SourceCards.{AreRisingCards}
+use Rattle.f77_grammar.specs.Reading77.{IsReadFrom, AreReadFrom}
+use Rattle.f77_grammar.specs.Reading77.{ReadsProgram, HasCause, IsAnswered, RefusedProgram}
+use Rattle.f77_grammar.specs.Reading77.HasCause.{AtCard, InText}
+use Rattle.f77_read.specs.Cards.{IfRefusal, IsReadAlone, AreReadAlone, IsNotBefore, IsRefusedFirst}
+use Rattle.f77_read.specs.Outcomes.{IsRefusedText, IsTextBuilt, IsRefusalOf, AreCardsBuilt}
+use Rattle.f77_read.specs.Outcomes.IsRefusalOf.{OfCard, OfText}
+use Rattle.f77_read.proofs.CardLaws.{IsUnrefused, unrefused, not_before_itself}
+use Rattle.f77_read.proofs.TextLaws.{number_of_finding}
+
+-- ---- the statements of cards
+
+pub are_read : (cards : List PlainCard) (text : List Labelled) → AreReadAlone cards text → AreReadFrom cards text
+are_read [] [] a = tt
+are_read [] (x ∷ xs) a = absurd a
+are_read (c ∷ cs) [] a = absurd a
+are_read (c ∷ cs) (x ∷ xs) a = (a.0.is_read, are_read cs xs a.1)
+
+abbrev labelled : Option ℕ → ℕ → Statement77 → Labelled
+labelled n l s = record { label = n; line = l; statement = s }
+
+one_statement : (c : PlainCard) (x y : Labelled) → IsReadAlone c x → IsReadFrom c y → y ≡ x
+one_statement c x y a f =
+    ap (λ n. labelled n y.line y.statement) (f.label ∙ sym a.is_read.label) ∙ ap (λ l. labelled x.label l y.statement) (f.line ∙ sym a.is_read.line)
+    ∙ ap (λ s. labelled x.label x.line s) (a.only y.statement f.reads)
+
+pub one_text : (cards : List PlainCard) (text other : List Labelled) → AreReadAlone cards text → AreReadFrom cards other → other ≡ text
+one_text [] [] [] a f = refl
+one_text [] [] (y ∷ ys) a f = absurd f
+one_text [] (x ∷ xs) other a f = absurd a
+one_text (c ∷ cs) [] other a f = absurd a
+one_text (c ∷ cs) (x ∷ xs) [] a f = absurd f
+one_text (c ∷ cs) (x ∷ xs) (y ∷ ys) a f = ap (λ z. z ∷ ys) (one_statement c x y a.0 f.0) ∙ ap (λ zs. x ∷ zs) (one_text cs xs ys a.1 f.1)
+
+later : (n m : ℕ) (cards : List PlainCard) (text : List Labelled) → m ≡ n → AreReadFrom cards text → AllByRecursion (λ (c : PlainCard). n < c.line) cards
+    → AllByRecursion (λ (y : Labelled). m < y.line) text
+later n m [] [] e f a = tt
+later n m [] (x ∷ xs) e f a = absurd f
+later n m (c ∷ cs) [] e f a = absurd f
+later n m (c ∷ cs) (x ∷ xs) e f a = (let l : x.line ≡ c.line = f.0.line in let lt : n < c.line = a.0 in omega (arith, e, l, lt), later n m cs xs e f.1 a.1)
+
+pub rising_text : (cards : List PlainCard) (text : List Labelled) → AreReadFrom cards text → AreRisingCards cards → AreRising text
+rising_text [] [] f a = tt
+rising_text [] (x ∷ xs) f a = absurd f
+rising_text (c ∷ cs) [] f a = absurd f
+rising_text (c ∷ cs) (x ∷ xs) f a = (later c.line x.line cs xs f.0.line f.1 a.0, rising_text cs xs f.1 a.1)
+
+-- ---- the refusal that is answered
+
+no_refusal_at : (cards : List PlainCard) (text : List Labelled) (card : PlainCard) (n w : ℕ) → AreReadAlone cards text → Contains cards card → IsRefusedBy card.chars n w → ⊥
+no_refusal_at cards text card n w a c h = All-contains IsUnrefused cards card (All-from_recursion IsUnrefused cards (unrefused cards text a)) c n w h
+
+refusal_of : ℕ → ℕ → ℕ → Refusal
+refusal_of n l w = record { number = n; line = l; word = w }
+
+pub answered_card : (cards : List PlainCard) (r : Refusal) → IsRefusedFirst cards r → RefusedProgram cards r
+answered_card cards r f = record {
+  holds = subst (λ l. HasCause cards (record { number = r.number; line = l; word = r.word })) (sym f.line) (AtCard f.card r.number r.word f.is_card f.refused);
+  first = follows;
+}
+  where
+    follows : (other : Refusal) → HasCause cards other → comes_before other r ≡ false
+    follows other (AtCard card n w c h) = All-contains (IsNotBefore r) cards card (All-from_recursion (IsNotBefore r) cards f.first) c n w h
+    follows other (InText text o a c) = absurd (f.unread text a)
+
+pub answered_text : (cards : List PlainCard) (text : List Labelled) (r : Refusal) → AreReadAlone cards text → RefusedStatements text r → RefusedProgram cards r
+answered_text cards text r a f = record {
+  holds = InText text r (are_read cards text a) f.found_it;
+  first = follows;
+}
+  where
+    follows : (other : Refusal) → HasCause cards other → comes_before other r ≡ false
+    follows other (AtCard card n w c h) = absurd (no_refusal_at cards text card n w a c h)
+    follows other (InText t o b c) =
+        let P : Refusal → Type 0 = λ (o : Refusal). comes_before o r ≡ false in
+        All-contains P (findings text) o (All-from_recursion P (findings text) f.first) (subst (λ ys. Contains (findings ys) o) (one_text cards text t a b) c)
+
+first_of_two : (r s : Refusal) → comes_before s r ≡ false → IsFirst (r ∷ s ∷ []) r
+first_of_two r s h = record { found_it = Contains-get_or (r ∷ s ∷ []) 0 r (omega arith); first = (not_before_itself r, (h, tt)) }
+
+second_of_two : (r s : Refusal) → comes_before r s ≡ false → IsFirst (r ∷ s ∷ []) s
+second_of_two r s h = record { found_it = Contains-get_or (r ∷ s ∷ []) 1 s (omega arith); first = (h, (not_before_itself s, tt)) }
+
+pub one_answer : (Holds : Refusal → Type 0) (r s : Refusal) → IsAnswered Holds r → IsAnswered Holds s → r ≡ s
+one_answer Holds r s f g = one_first (r ∷ s ∷ []) r s (first_of_two r s (f.first s g.holds)) (second_of_two r s (g.first r f.holds))
+
+-- ---- the text of cards that are read
+
+text_refused : (cards : List PlainCard) (text : List Labelled) (e : Refused) → AreReadAlone cards text → IfRefusal e (IsRefusedText text) → IfRefusal e (IsRefusalOf cards)
+text_refused cards text (refused.Refusal r) a h = OfText text a h
+text_refused cards text refused.Memory a h = tt
+
+pub text_built : (cards : List PlainCard) (text : List Labelled) (o : Result Program77 Refused) → AreReadAlone cards text → IsTextBuilt text o → AreCardsBuilt cards o
+text_built cards text (Ok p) a h = record { text = text; statements = a; reads = h }
+text_built cards text (Err e) a h = text_refused cards text e a h
+
+pub card_refused : (cards : List PlainCard) (e : Refused) → IfRefusal e (IsRefusedFirst cards) → IfRefusal e (IsRefusalOf cards)
+card_refused cards (refused.Refusal r) h = OfCard h
+card_refused cards refused.Memory h = tt
+
+-- ---- the clauses
+
+pub program_if_ok : (cards : List PlainCard) (o : Result Program77 Refused) → AreCardsBuilt cards o → IfOk o (λ p. ReadsProgram cards (program_of p))
+program_if_ok cards (Ok p) h = record { text = h.text; statements = are_read cards h.text h.statements; reads = h.reads }
+program_if_ok cards (Err e) h = tt
+
+answered_by : (cards : List PlainCard) (r : Refusal) → IsRefusalOf cards r → (10 ≤ r.number → AreRisingCards cards) → RefusedProgram cards r
+answered_by cards r (OfCard f) rising = answered_card cards r f
+answered_by cards r (OfText text a f) rising = answered_text cards text r a (f.first (rising_text cards text (are_read cards text a) (rising f.number)))
+
+pub answered_if_refused : (cards : List PlainCard) (o : Result Program77 Refused) (r : Refusal) → AreCardsBuilt cards o → o ≡ Err (refused.Refusal r)
+    → (10 ≤ r.number → AreRisingCards cards) → RefusedProgram cards r
+answered_if_refused cards o r h e rising = answered_by cards r (subst (AreCardsBuilt cards) e h) rising
+
+not_refused : (cards : List PlainCard) (r : Refusal) (p : Program) → IsRefusalOf cards r → ReadsProgram cards p → ⊥
+not_refused cards r p (OfCard f) g = f.unread g.text g.statements
+not_refused cards r p (OfText text a f) g = f.unsound (subst (λ ys. findings ys ≡ []) (one_text cards text g.text a g.statements) g.reads.sound)
+
+pub only_that_program : (cards : List PlainCard) (o : Result Program77 Refused) → AreCardsBuilt cards o → (p : Program) → ReadsProgram cards p
+    → IsOkAnd o (λ built. program_of built ≡ p) ⊎ (o ≡ Err refused.Memory)
+only_that_program cards (Ok q) h p g = inl (h.reads.formed ∙ ap tree_of (sym (one_text cards h.text g.text h.statements g.statements)) ∙ sym g.reads.formed)
+only_that_program cards (Err (refused.Refusal r)) h p g = absurd (not_refused cards r p h g)
+only_that_program cards (Err refused.Memory) h p g = inr refl
+
+nothing_in : (r : Refusal) → Contains [] r → ⊥
+nothing_in r h = let lt : h.0 < 0 = h.1 in omega arith
+
+no_cause : (cards : List PlainCard) (text : List Labelled) (r : Refusal) → AreReadAlone cards text → findings text ≡ [] → HasCause cards r → ⊥
+no_cause cards text r a e (AtCard card n w c h) = no_refusal_at cards text card n w a c h
+no_cause cards text r a e (InText t o b c) = nothing_in o (subst (λ xs. Contains xs o) e (subst (λ ys. Contains (findings ys) o) (one_text cards text t a b) c))
+
+-- what is answered of cards that are statements is a finding
+number_of_cause : (cards : List PlainCard) (text : List Labelled) (r : Refusal) → AreReadAlone cards text → HasCause cards r → 10 ≤ r.number
+number_of_cause cards text r a (AtCard card n w c h) = absurd (no_refusal_at cards text card n w a c h)
+number_of_cause cards text r a (InText t o b c) =
+    All-contains (λ (other : Refusal). 10 ≤ other.number) (findings t) o (All-from_recursion (λ (other : Refusal). 10 ≤ other.number) (findings t) (number_of_finding t)) c
+
+same_answer : (cards : List PlainCard) (s r : Refusal) → IsRefusalOf cards s → RefusedProgram cards r → (10 ≤ r.number → AreRisingCards cards) → s ≡ r
+same_answer cards s r (OfCard f) g rising = one_answer (HasCause cards) s r (answered_card cards s f) g
+same_answer cards s r (OfText text a f) g rising =
+    one_answer (HasCause cards) s r (answered_by cards s (OfText text a f) (λ n. rising (number_of_cause cards text r a g.holds))) g
+
+pub only_that_refusal : (cards : List PlainCard) (o : Result Program77 Refused) → AreCardsBuilt cards o → (r : Refusal) → RefusedProgram cards r
+    → (10 ≤ r.number → AreRisingCards cards) → (o ≡ Err (refused.Refusal r)) ⊎ (o ≡ Err refused.Memory)
+only_that_refusal cards (Ok p) h r g rising = absurd (no_cause cards h.text r h.statements h.reads.sound g.holds)
+only_that_refusal cards (Err (refused.Refusal s)) h r g rising = inl (ap (λ x. Err (refused.Refusal x)) (same_answer cards s r h g rising))
+only_that_refusal cards (Err refused.Memory) h r g rising = inr refl
+
+pub ruleset answer_laws = (program_if_ok, answered_if_refused, only_that_program, only_that_refusal)

@@ -1,0 +1,56 @@
+-- Findings of a text, by what a check says of it.
+use Rattle.std.proofs.Common.{◌≡◌, ℕ, suc, ◌≤◌, Bool, true, false, cond, Option, None, Some, Result, Err, List, [], ◌∷◌, refl, sym, ap, subst, arith}
+use Rattle.std.specs.List.{AllByRecursion}
+use Rattle.std.proofs.lemmas.List.Elements.{All-from_recursion, All-contains}
+use Rattle.fv_tree.specs.declared.refusals.Refusal.{Refusal}
+use Rattle.fv_tree.specs.declared.refusals.Refused.{Refused}
+use Rattle.fv_tree.specs.declared.refusals.Refused.TheVariants as refused
+use Rattle.f77_grammar.specs.Statement77.{Labelled}
+use Rattle.f77_grammar.specs.program.Text.{Place, places}
+use Rattle.f77_grammar.specs.program.Limits.{constants_of, has_bad_constant}
+use Rattle.f77_grammar.specs.program.Program77.{all_causes, findings}
+use Rattle.f77_syntax.specs.First.{index_from, first_index}
+use Rattle.f77_checks.specs.First.{holds_in, IsFoundFirst}
+use Rattle.f77_checks.proofs.Answers.{is_first, sound_is_not_refused}
+use Rattle.f77_checks.proofs.Found.{least_number}
+use Rattle.f77_laws.proofs.Sound.{sound}
+use Rattle.f77_read.specs.Cards.{IfRefusal}
+use Rattle.f77_read.specs.Outcomes.{IsRefusedText}
+
+-- ---- a text without findings has no bad constant
+
+none_step : (b : Bool) (i : ℕ) (o : Option ℕ) → b ≡ false → o ≡ None → cond b (Some i) o ≡ None
+none_step true i o h g = absurd (let no : true ≡ false = h in cc)
+none_step false i o h g = g
+
+none_from : (test : Place → Bool) (i : ℕ) (ps : List Place) → AllByRecursion (λ (p : Place). test p ≡ false) ps → index_from test i ps ≡ None
+none_from test i [] a = refl
+none_from test i (p ∷ ps) a = none_step (test p) i (index_from test (suc i) ps) a.0 (none_from test (suc i) ps a.1)
+
+pub no_bad_constant : (text : List Labelled) → findings text ≡ [] → first_index (has_bad_constant (constants_of text)) text ≡ None
+no_bad_constant text h = none_from (has_bad_constant (constants_of text)) 0 (places text) (sound text h).1.1.1.1.1.1.1.1.1.1.1.1.0
+
+-- ---- numbers of findings
+
+pub number_of_finding : (text : List Labelled) → AllByRecursion (λ (other : Refusal). 10 ≤ other.number) (findings text)
+number_of_finding [] = (omega arith, tt)
+number_of_finding (x ∷ xs) = least_number (holds_in (x ∷ xs)) (places (x ∷ xs)) 10 [] all_causes tt refl
+
+number_of_first : (text : List Labelled) (r : Refusal) → IsFoundFirst text r → 10 ≤ r.number
+number_of_first [] r f = subst (λ (n : ℕ). 10 ≤ n) (sym (ap (λ (o : Refusal). o.number) f)) (omega arith)
+number_of_first (x ∷ xs) r f =
+    All-contains (λ (other : Refusal). 10 ≤ other.number) (findings (x ∷ xs)) r (All-from_recursion (λ (other : Refusal). 10 ≤ other.number) (findings (x ∷ xs)) (number_of_finding (x ∷ xs))) f.found_it
+
+pub refused_text : (text : List Labelled) (r : Refusal) → IsFoundFirst text r → IsRefusedText text r
+refused_text text r f = record {
+  number = number_of_first text r f;
+  unsound = (λ e. sound_is_not_refused text r e f);
+  first = (λ rising. is_first text r rising f);
+}
+
+abbrev pub FindsFirst : List Labelled → Result (Unit {0}) Refused → Type 0
+FindsFirst text o = (r : Refusal) → o ≡ Err (refused.Refusal r) → IsFoundFirst text r
+
+pub check_refused : (text : List Labelled) (e : Refused) → FindsFirst text (Err e) → IfRefusal e (IsRefusedText text)
+check_refused text (refused.Refusal r) h = refused_text text r (h r refl)
+check_refused text refused.Memory h = tt

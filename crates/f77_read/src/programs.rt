@@ -1,0 +1,55 @@
+//! The program of cards.
+ghost use Rattle.std.specs.Prelude.{◌≡◌, ◌⊎◌, ◌≤◌, ℕ, List, map, IfOk, IsOkAnd};
+ghost use Rattle.fv_tree.specs.Plain.{Program};
+ghost use Rattle.fv_tree.specs.View.{program_of};
+ghost use Rattle.fv_tree.specs.declared.refusals.Refusal.{Refusal};
+ghost use Rattle.f77_grammar.specs.Cards.{ReadsCards};
+ghost use Rattle.fv_meaning.specs.Profile77.{IsProgram77};
+ghost use Rattle.fixed_form.specs.Card.{card_of};
+ghost use Rattle.f77_syntax.specs.Views.{text_of};
+ghost use Rattle.f77_laws.specs.SourceCards.{AreRisingCards};
+ghost use Rattle.f77_grammar.specs.Reading77.{ReadsProgram, RefusedProgram};
+ghost use Rattle.f77_read.specs.Outcomes.{IsTextBuilt, AreCardsBuilt};
+
+use crate::cards::read_cards;
+use f77_checks::check;
+use f77_tree::tree;
+use fixed_form::Card;
+use fv_tree::{Program77, Refused, Seq};
+use f77_syntax::Labelled;
+use std::alloc::Global;
+
+fn build_text(alloc: Global, text: &[Labelled]) -> Result<Program77, Refused>
+    ensures { IsTextBuilt (text_of text.now) result }
+{
+    check(alloc, text)?;
+    Ok(tree(alloc, text)?)
+}
+
+fn build_cards(alloc: Global, cards: &[Card]) -> Result<Program77, Refused>
+    ensures { AreCardsBuilt (map card_of cards.now) result }
+{
+    let text = read_cards(alloc, cards)?;
+    build_text(alloc, text.as_slice())
+}
+
+/// The program that the statements of the cards form.
+///
+/// The cards are those of a whole source, and each of them is tried before a refusal is answered.
+#[tactic(auto, using(crate::proofs::Answers::answer_laws))]
+pub fn build(alloc: Global, cards: &Seq<Card>) -> Result<Program77, Refused>
+    ensures ok { IfOk result (λ p. ReadsProgram (map card_of cards.now) (program_of p)) }
+    ensures program { (source : List ℕ) → ReadsCards source (map card_of cards.now) → IfOk result (λ p. IsProgram77 (program_of p)) }
+
+    // From 10 on the numbers are those of findings in the statements, whose order is that of lines.
+    ensures refused { (r : Refusal) → result ≡ Err (Refused.Refusal r) → (10 ≤ r.number → AreRisingCards (map card_of cards.now))
+        → RefusedProgram (map card_of cards.now) r }
+
+    // Cards that are read, or refused, have no other answer, unless memory runs out.
+    ensures only_read { (p : Program) → ReadsProgram (map card_of cards.now) p
+        → IsOkAnd result (λ built. program_of built ≡ p) ⊎ (result ≡ Err Refused.Memory) }
+    ensures only_refused { (r : Refusal) → RefusedProgram (map card_of cards.now) r → (10 ≤ r.number → AreRisingCards (map card_of cards.now))
+        → (result ≡ Err (Refused.Refusal r)) ⊎ (result ≡ Err Refused.Memory) }
+{
+    build_cards(alloc, cards.as_slice())
+}

@@ -1,5 +1,0 @@
-use Rattle.f77_source.proofs.CardStatements as statements
-use Rattle.f77_source.proofs.laws.read_cards_are_source.Goals as goal
-
-pub returns : goal.returns
-returns c = statements.read_cards_are_source

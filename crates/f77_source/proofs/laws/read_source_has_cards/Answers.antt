@@ -1,5 +1,0 @@
-use Rattle.f77_source.proofs.Cards as cards
-use Rattle.f77_source.proofs.laws.read_source_has_cards.Goals as goal
-
-pub returns : goal.returns
-returns c = cards.read_source_has_cards

@@ -1,5 +1,0 @@
-use Rattle.f77_source.proofs.Forms as forms
-use Rattle.f77_source.proofs.laws.read_statement_is_source.Goals as goal
-
-pub returns : goal.returns
-returns c = forms.read_statement_is_source

@@ -1,0 +1,48 @@
+use Rattle.std.proofs.Common.{◌≡◌, ℕ, ◌+◌, ◌<◌, ◌==◌, length, get_or, Bool, ◌||◌, List, sym, ap, ◌∙◌, arith}
+use Rattle.std.specs.List.{list_any}
+use Rattle.f77_grammar.specs.Statement77.{Labelled}
+use Rattle.f77_grammar.specs.program.Order.{is_out_of_order, is_executable, is_nothing}
+use Rattle.f77_syntax.specs.declared.statements.Labelled.{Labelled as Labelled'}
+use Rattle.f77_structure.specs.Forms.{form_of, is_late_form, is_executable_form}
+use Rattle.f77_syntax.specs.Views.{text_of, labelled_of, statement_of}
+use Rattle.f77_syntax.specs.Walk.{passed, place_at}
+use Rattle.f77_structure.proofs.ByForm.{is_late-form, is_executable-form}
+use Rattle.f77_syntax.proofs.Walks.{search_goes_on, search_stops_at, search_ends, first_at, text_passed}
+use Rattle.f77_structure.proofs.order.out_of_order.Goals as goal
+
+-- what is known of the statements passed says of a statement what its place says
+late_at : (xs : List Labelled') (i : ℕ) (x : Labelled') (executable : Bool) → i < length xs
+    → executable ≡ list_any (λ (y : Labelled). is_executable y.statement) (passed (text_of xs) i)
+    → is_late_form (form_of (statement_of x.statement)) (i == 0) executable ≡ is_out_of_order (place_at (text_of xs) i (labelled_of x))
+late_at xs i x executable h e =
+    ap (λ b. is_late_form (form_of (statement_of x.statement)) b executable) (first_at xs i h)
+    ∙ ap (is_late_form (form_of (statement_of x.statement)) (is_nothing (passed (text_of xs) i))) e
+    ∙ sym (is_late-form (statement_of x.statement) (place_at (text_of xs) i (labelled_of x)))
+
+executable_more : (xs : List Labelled') (i : ℕ) (x : Labelled') (executable : Bool) → i < length xs → x ≡ get_or xs i x
+    → executable ≡ list_any (λ (y : Labelled). is_executable y.statement) (passed (text_of xs) i)
+    → (is_executable_form (form_of (statement_of x.statement)) || executable) ≡ list_any (λ (y : Labelled). is_executable y.statement) (passed (text_of xs) (i + 1))
+executable_more xs i x executable h e old =
+    ap (λ b. b || executable) (sym (is_executable-form (statement_of x.statement)))
+    ∙ ap (λ b. is_executable (statement_of x.statement) || b) old
+    ∙ sym (ap (list_any (λ (y : Labelled). is_executable y.statement)) (text_passed xs i x h e))
+
+pub returns-then-is_late : goal.returns-then-is_late
+returns-then-is_late c =
+    search_stops_at is_out_of_order c.args.text.now c.loop-i.i c.index-text-i.result (omega arith) c.index-text-i.is
+    (sym (late_at c.args.text.now c.loop-i.i c.index-text-i.result c.loop-i.executable (omega arith) c.loop-i.invariant.executable)
+    ∙ sym (c.is_late.ensures ∙ ap (λ f. is_late_form f (c.loop-i.i == 0) c.loop-i.executable) c.of-form.ensures) ∙ c.if-is_late.true)
+    c.loop-i.invariant.searched
+
+pub loop-i-preserved : goal.loop-i-preserved
+loop-i-preserved c = record {
+  searched = search_goes_on is_out_of_order c.args.text.now c.loop-i.i c.index-text-i.result (omega arith) c.index-text-i.is
+      (sym (late_at c.args.text.now c.loop-i.i c.index-text-i.result c.loop-i.executable (omega arith) c.loop-i.invariant.executable)
+      ∙ sym (c.is_late.ensures ∙ ap (λ f. is_late_form f (c.loop-i.i == 0) c.loop-i.executable) c.of-form.ensures) ∙ c.if-is_late.false)
+      c.loop-i.invariant.searched;
+  executable = c.is_executable_or-executable.ensures ∙ ap (λ f. is_executable_form f || c.loop-i.executable) c.of-form.ensures
+      ∙ executable_more c.args.text.now c.loop-i.i c.index-text-i.result c.loop-i.executable (omega arith) c.index-text-i.is c.loop-i.invariant.executable;
+}
+
+pub returns : goal.returns
+returns c = search_ends is_out_of_order c.args.text.now c.loop-i.i (omega arith) c.loop-i.invariant.searched

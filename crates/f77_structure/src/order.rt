@@ -1,0 +1,74 @@
+//! The order of statements: PROGRAM, declarations, executable statements, END (ANSI X3.9-1978, section 3.5).
+ghost use Rattle.std.specs.Prelude.{◌≡◌, ◌||◌};
+ghost use Rattle.f77_grammar.specs.program.Order.{is_out_of_order, is_ended_wrongly};
+ghost use Rattle.f77_syntax.specs.First.{first_index};
+ghost use Rattle.f77_structure.specs.Forms.{is_executable_form, is_wrong_end_form, is_late_form};
+ghost use Rattle.f77_syntax.specs.Views.{text_of};
+
+use crate::forms::Form;
+use f77_syntax::Labelled;
+
+impl Form {
+    // A statement that a run executes, or one behind such statements.
+    fn is_executable_or(self, executable: bool) -> bool
+        ensures { result ≡ (is_executable_form self || executable) }
+    {
+        match self {
+            Form::Title | Form::Declaration | Form::End => executable,
+            Form::Action | Form::Go(_) | Form::Stop | Form::LogicalIf => true,
+            Form::If | Form::ElseIf | Form::Else | Form::EndIf | Form::Do(_) => true,
+        }
+    }
+
+    // END stands before the last statement, or another one is the last.
+    fn is_wrong_end(self, last: bool) -> bool
+        ensures { result ≡ is_wrong_end_form self last }
+    {
+        match self {
+            Form::End => !last,
+            Form::Title | Form::Declaration | Form::Action | Form::Go(_) | Form::Stop => last,
+            Form::LogicalIf | Form::If | Form::ElseIf | Form::Else => last,
+            Form::EndIf | Form::Do(_) => last,
+        }
+    }
+
+    // It comes too late behind other statements, or behind executable ones.
+    fn is_late(self, first: bool, executable: bool) -> bool
+        ensures { result ≡ is_late_form self first executable }
+    {
+        match self {
+            Form::Title => !first,
+            Form::Declaration => executable,
+            Form::Action | Form::Go(_) | Form::Stop | Form::LogicalIf | Form::If => false,
+            Form::ElseIf | Form::Else | Form::EndIf | Form::Do(_) | Form::End => false,
+        }
+    }
+}
+
+/// The place of the first statement that is out of order.
+pub fn out_of_order(text: &[Labelled]) -> Option<usize>
+    ensures { result ≡ first_index is_out_of_order (text_of text.now) }
+{
+    let mut executable = false;
+    for (i, statement) in text.iter().enumerate() {
+        let form = Form::of(&statement.statement);
+        if form.is_late(i == 0, executable) {
+            return Some(i);
+        }
+        executable = form.is_executable_or(executable);
+    }
+    None
+}
+
+/// The place at which END is missing, or stands early.
+pub fn wrong_end(text: &[Labelled]) -> Option<usize>
+    ensures { result ≡ first_index is_ended_wrongly (text_of text.now) }
+{
+    for (i, statement) in text.iter().enumerate() {
+        let last = i + 1 == text.len();
+        if Form::of(&statement.statement).is_wrong_end(last) {
+            return Some(i);
+        }
+    }
+    None
+}

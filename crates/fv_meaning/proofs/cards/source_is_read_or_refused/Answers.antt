@@ -1,6 +1,0 @@
-use Rattle.fv_meaning.proofs.CardLaws.{read_or_refused, not_both, one_refusal}
-use Rattle.fv_meaning.proofs.Grouping.{one_reading}
-use Rattle.fv_meaning.proofs.cards.source_is_read_or_refused.Goals as goal
-
-pub returns : goal.returns
-returns c = record { either = read_or_refused; not_both = not_both; one_list = one_reading; one_refusal = one_refusal }

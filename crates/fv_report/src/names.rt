@@ -1,0 +1,138 @@
+//! The names of faults, refusals and their words.
+ghost use Rattle.std.specs.Prelude.{◌≡◌, ◌<◌, ◌≤◌, length};
+ghost use Rattle.fv_report.specs.Names.{fault_number, fault_name, refusal_name, refusal_word, left_out, limits, name_at};
+
+use fv_tree::Fault;
+
+pub(crate) fn fault_number(fault: Fault) -> u8
+    ensures number { result ≡ fault_number fault }
+    ensures digit { result < 10 }
+{
+    match fault {
+        Fault::Overflow => 1,
+        Fault::ZeroDivide => 2,
+        Fault::Bounds => 3,
+        Fault::ZeroStep => 4,
+        Fault::TripCount => 5,
+        Fault::InputEnd => 6,
+        Fault::InputForm => 7,
+        Fault::Shape => 8,
+        Fault::Allocated => 9,
+    }
+}
+
+pub(crate) fn fault_name(fault: Fault) -> &'static str
+    ensures name { result.now ≡ fault_name fault }
+    ensures short { length result.now ≤ 10 }
+{
+    match fault {
+        Fault::Overflow => "Overflow",
+        Fault::ZeroDivide => "ZeroDivide",
+        Fault::Bounds => "Bounds",
+        Fault::ZeroStep => "ZeroStep",
+        Fault::TripCount => "TripCount",
+        Fault::InputEnd => "InputEnd",
+        Fault::InputForm => "InputForm",
+        Fault::Shape => "Shape",
+        Fault::Allocated => "Allocated",
+    }
+}
+
+pub(crate) fn refusal_name(number: u8) -> &'static str
+    ensures name { result.now ≡ refusal_name number }
+    ensures short { length result.now ≤ 12 }
+{
+    match number {
+        1 => "TooLong",
+        2 => "BadByte",
+        3 => "Tab",
+        4 => "LineForm",
+        5 => "ManyLines",
+        6 => "Syntax",
+        7 => "OutOfProfile",
+        8 => "WideLiteral",
+        9 => "Deep",
+        10 => "Label",
+        11 => "Nesting",
+        12 => "NoEnd",
+        13 => "Declared",
+        14 => "RealName",
+        15 => "TypeClash",
+        16 => "Jump",
+        17 => "DoVariable",
+        18 => "Limit",
+        60 => "NotBuilt",
+        _ => "",
+    }
+}
+
+// The word or form that the profile leaves out.
+fn left_out(word: u8) -> &'static str
+    ensures name { result.now ≡ name_at word left_out }
+    ensures short { length result.now ≤ 15 }
+{
+    match word {
+        1 => "REAL",
+        2 => "DOUBLEPRECISION",
+        3 => "COMPLEX",
+        4 => "CHARACTER",
+        5 => "EQUIVALENCE",
+        6 => "COMMON",
+        7 => "DATA",
+        8 => "SAVE",
+        9 => "IMPLICIT",
+        10 => "ENTRY",
+        11 => "BLOCKDATA",
+        12 => "FORMAT",
+        13 => "FUNCTION",
+        14 => "INTEGERFUNCTION",
+        15 => "LOGICALFUNCTION",
+        16 => "SUBROUTINE",
+        17 => "CALL",
+        18 => "RETURN",
+        19 => "ASSIGN",
+        20 => "PAUSE",
+        21 => "EXTERNAL",
+        22 => "INTRINSIC",
+        23 => "OPEN",
+        24 => "CLOSE",
+        25 => "INQUIRE",
+        26 => "REWIND",
+        27 => "BACKSPACE",
+        28 => "ENDFILE",
+        29 => "INCLUDE",
+        30 => "DOWHILE",
+        31 => "ENDDO",
+        32 => "ARITHMETICIF",
+        33 => "COMPUTEDGOTO",
+        34 => "ASSIGNEDGOTO",
+        _ => "",
+    }
+}
+
+// The limit that is passed.
+fn limit(word: u8) -> &'static str
+    ensures name { result.now ≡ name_at word limits }
+    ensures short { length result.now ≤ 15 }
+{
+    match word {
+        41 => "NAMES",
+        42 => "BLOCKS",
+        43 => "BOUNDS",
+        44 => "ARRAYS",
+        45 => "CONSTANT",
+        _ => "",
+    }
+}
+
+/// The word of a refusal; empty where it has none.
+pub(crate) fn refusal_word(number: u8, word: u8) -> &'static str
+    ensures name { result.now ≡ refusal_word number word }
+    ensures short { length result.now ≤ 15 }
+{
+    match number {
+        7 => left_out(word),
+        18 => limit(word),
+        _ => "",
+    }
+}
