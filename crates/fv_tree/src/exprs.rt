@@ -1,11 +1,11 @@
-//! Expressions and references (ANSI X3.9-1978, sections 5 and 6).
+//! Expressions and references (ANSI X3.9-1978, sections 5 and 6; of arrays ISO/IEC 1539:1991, sections 4.5, 6.2 and 13).
 ghost use Rattle.std.specs.Prelude.{◌≡◌, IfOk, map};
-ghost use Rattle.fv_tree.specs.View.{expression_of, subscript_of, reference_of};
+ghost use Rattle.fv_tree.specs.View.{expression_of, subscript_of, reference_of, loop_of};
 
-use crate::{Fun, Memory, Name, Op, Seq};
+use crate::{Fun, Memory, Name, Op, Red, Seq};
 use std::alloc::Global;
 
-/// An expression. A literal isn't negative.
+/// An expression. A literal isn't negative. The last five are forms of Fortran 90.
 #[derive(Debug, Drop)]
 #[cycle(expr)]
 pub enum Expr {
@@ -15,9 +15,26 @@ pub enum Expr {
     Un(Op, Box<Expr>),
     Bin(Op, Box<Expr>, Box<Expr>),
     Call(Fun, Seq<Expr>),
+    /// A constructor: its values, under its loops.
+    List(Seq<Expr>, Seq<Turn>),
+    /// The array, the new dimension and its extent.
+    Spread(Box<Expr>, usize, Box<Expr>),
+    Transpose(Box<Expr>),
+    /// The array and the new extents.
+    Reshape(Box<Expr>, Seq<Expr>),
+    Reduce(Red, Box<Expr>),
 }
 
-/// A scalar or a whole array, which have no subscripts, or an element.
+/// A loop of a constructor. The innermost one stands first.
+#[derive(Debug, Drop)]
+#[cycle(expr)]
+pub struct Turn {
+    pub var: Name,
+    pub first: Expr,
+    pub last: Expr,
+}
+
+/// A scalar or a whole array, which have no subscripts, an element or a section.
 #[derive(Debug, Drop)]
 #[cycle(expr)]
 pub struct Ref {
@@ -25,11 +42,12 @@ pub struct Ref {
     pub subs: Seq<Sub>,
 }
 
-/// A subscript.
+/// A subscript: a value, or the lower bound, the upper bound and the stride of a section.
 #[derive(Debug, Drop)]
 #[cycle(expr)]
 pub enum Sub {
     One(Expr),
+    Part(Expr, Expr, Expr),
 }
 
 impl Expr {
@@ -48,6 +66,23 @@ impl Expr {
             Expr::Call(function, arguments) => {
                 Ok(Expr::Call(*function, copy_all(arguments, alloc)?))
             }
+            Expr::List(values, loops) => Ok(Expr::List(
+                copy_all(values, alloc)?,
+                copy_loops(loops, alloc)?,
+            )),
+            Expr::Spread(array, dimension, extent) => Ok(Expr::Spread(
+                copy_box(array, alloc)?,
+                *dimension,
+                copy_box(extent, alloc)?,
+            )),
+            Expr::Transpose(array) => Ok(Expr::Transpose(copy_box(array, alloc)?)),
+            Expr::Reshape(array, extents) => Ok(Expr::Reshape(
+                copy_box(array, alloc)?,
+                copy_all(extents, alloc)?,
+            )),
+            Expr::Reduce(reduction, array) => {
+                Ok(Expr::Reduce(*reduction, copy_box(array, alloc)?))
+            }
         }
     }
 }
@@ -61,7 +96,7 @@ fn copy_box(expr: &Expr, alloc: Global) -> Result<Box<Expr>, Memory>
 }
 
 #[cycle(expr_copy)]
-fn copy_all(exprs: &Seq<Expr>, alloc: Global) -> Result<Seq<Expr>, Memory>
+pub(crate) fn copy_all(exprs: &Seq<Expr>, alloc: Global) -> Result<Seq<Expr>, Memory>
     ensures { IfOk result (λ copies. map expression_of copies ≡ map expression_of exprs.now) }
 {
     let mut copies = Seq::new(alloc);
@@ -69,6 +104,31 @@ fn copy_all(exprs: &Seq<Expr>, alloc: Global) -> Result<Seq<Expr>, Memory>
         copies.push(expr.copy(alloc)?)?;
     }
     Ok(copies)
+}
+
+#[cycle(expr_copy)]
+fn copy_loops(loops: &Seq<Turn>, alloc: Global) -> Result<Seq<Turn>, Memory>
+    ensures { IfOk result (λ copies. map loop_of copies ≡ map loop_of loops.now) }
+{
+    let mut copies = Seq::new(alloc);
+    for turn in loops.as_slice() {
+        copies.push(turn.copy(alloc)?)?;
+    }
+    Ok(copies)
+}
+
+impl Turn {
+    #[cycle(expr_copy)]
+    #[tactic(auto, using(crate::proofs::Equations::expression_equations))]
+    fn copy(&self, alloc: Global) -> Result<Turn, Memory>
+        ensures { IfOk result (λ copy. loop_of copy ≡ loop_of self.now) }
+    {
+        Ok(Turn {
+            var: self.var,
+            first: self.first.copy(alloc)?,
+            last: self.last.copy(alloc)?,
+        })
+    }
 }
 
 impl Ref {
@@ -96,6 +156,11 @@ impl Sub {
     {
         match self {
             Sub::One(expr) => Ok(Sub::One(expr.copy(alloc)?)),
+            Sub::Part(lower, upper, stride) => Ok(Sub::Part(
+                lower.copy(alloc)?,
+                upper.copy(alloc)?,
+                stride.copy(alloc)?,
+            )),
         }
     }
 }

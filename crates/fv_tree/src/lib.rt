@@ -1,4 +1,4 @@
-//! The trees of FORTRAN 77 programs, their names, lists and operators.
+//! The trees of programs of both dialects, their names, lists and operators.
 #![tactic(auto)]
 
 mod exprs;
@@ -9,10 +9,10 @@ mod programs;
 mod refusals;
 mod stmts;
 
-pub use exprs::{Expr, Ref, Sub};
+pub use exprs::{Expr, Ref, Sub, Turn};
 pub use lists::{Memory, Seq};
 pub use names::Name;
-pub use ops::{Fault, Fun, Kind, Op, Value};
-pub use programs::{Decl, Dim, Form, Line, Program77};
+pub use ops::{Fault, Fun, Kind, Op, Red, Value};
+pub use programs::{Decl, Dim, Form, Line, Program77, Program90};
 pub use refusals::{Refusal, Refused};
 pub use stmts::{Arm, Block, Item, Mark, Stmt};

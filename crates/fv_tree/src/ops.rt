@@ -32,6 +32,14 @@ pub enum Fault {
     Allocated,
 }
 
+/// What gathers the elements of an array into one number.
+#[derive(Clone, Copy, Debug, PartialEq, Eq)]
+pub enum Red {
+    Sum,
+    MaxVal,
+    MinVal,
+}
+
 /// The operators (ANSI X3.9-1978, sections 6.1, 6.3 and 6.4).
 #[derive(Clone, Copy, Debug, PartialEq, Eq)]
 pub enum Op {

@@ -8,11 +8,12 @@ pub struct Dim {
     pub upper: i64,
 }
 
-/// A scalar, or an array of fixed bounds.
+/// A scalar, an array of fixed bounds, or an allocatable array with its number of dimensions.
 #[derive(Debug, Drop)]
 pub enum Form {
     Scalar,
     Fixed(Seq<Dim>),
+    Later(usize),
 }
 
 #[derive(Debug, Drop)]
@@ -25,6 +26,14 @@ pub struct Decl {
 /// A FORTRAN 77 program. The declarations stand in byte order of their names.
 #[derive(Debug, Drop)]
 pub struct Program77 {
+    pub name: Option<Name>,
+    pub decls: Seq<Decl>,
+    pub body: Block,
+}
+
+/// A Fortran 90 program. The declarations stand in byte order of their names.
+#[derive(Debug, Drop)]
+pub struct Program90 {
     pub name: Option<Name>,
     pub decls: Seq<Decl>,
     pub body: Block,

@@ -2,6 +2,7 @@
 ghost use Rattle.std.specs.Prelude.{◌≡◌, IfOk, map};
 ghost use Rattle.fv_tree.specs.View.{item_of, statement_of, tested_of, block_of};
 
+use crate::exprs::copy_all;
 use crate::{Expr, Memory, Name, Ref, Seq};
 use std::alloc::Global;
 
@@ -46,6 +47,14 @@ pub enum Stmt {
         left: Ref,
         right: Expr,
     },
+    /// WHERE with its mask.
+    Masked {
+        line: u32,
+        mark: Option<Mark>,
+        mask: Expr,
+        left: Ref,
+        right: Expr,
+    },
     If {
         line: u32,
         arms: Seq<Arm>,
@@ -76,6 +85,15 @@ pub enum Stmt {
     Print {
         line: u32,
         items: Seq<Item>,
+    },
+    Allocate {
+        line: u32,
+        name: Name,
+        extents: Seq<Expr>,
+    },
+    Deallocate {
+        line: u32,
+        name: Name,
     },
 }
 
@@ -173,6 +191,19 @@ impl Stmt {
                 left: left.copy(alloc)?,
                 right: right.copy(alloc)?,
             }),
+            Stmt::Masked {
+                line,
+                mark,
+                mask,
+                left,
+                right,
+            } => Ok(Stmt::Masked {
+                line: *line,
+                mark: *mark,
+                mask: mask.copy(alloc)?,
+                left: left.copy(alloc)?,
+                right: right.copy(alloc)?,
+            }),
             Stmt::If { line, arms, other } => Ok(Stmt::If {
                 line: *line,
                 arms: copy_arms(arms, alloc)?,
@@ -206,6 +237,19 @@ impl Stmt {
             Stmt::Print { line, items } => Ok(Stmt::Print {
                 line: *line,
                 items: copy_items(items, alloc)?,
+            }),
+            Stmt::Allocate {
+                line,
+                name,
+                extents,
+            } => Ok(Stmt::Allocate {
+                line: *line,
+                name: *name,
+                extents: copy_all(extents, alloc)?,
+            }),
+            Stmt::Deallocate { line, name } => Ok(Stmt::Deallocate {
+                line: *line,
+                name: *name,
             }),
         }
     }
