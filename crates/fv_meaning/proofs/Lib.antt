@@ -12,3 +12,9 @@ pub mod Numerals
 pub mod Relines
 pub mod ValueDecks
 pub mod WorkedDecks
+pub mod AgreeingValues
+pub mod ArrayDecks
+pub mod ArrayLaws
+pub mod Dialects
+pub mod SameRuns
+pub mod Writes

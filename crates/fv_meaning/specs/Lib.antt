@@ -18,3 +18,7 @@ pub mod Value
 pub mod Names
 pub mod Profile77
 pub mod Typed77
+pub mod ArrayStatements
+pub mod ArrayValues
+pub mod Dialect
+pub mod Sections

@@ -2,7 +2,7 @@
 use Rattle.std.specs.Prelude.{◌≡◌, ℕ, ◌+◌, ◌*◌, ◌^◌, ◌<◌, ◌≤◌, max, ℤ, pos, negsuc, ◌≤ℤ◌, Bool, true, false, IsTrue, None, List, [], ◌∷◌, ◌++◌, length, map, sum, Contains}
 use Rattle.std.specs.Option.{IfSome, IsSomeAnd}
 use Rattle.std.specs.List.{AllByRecursion}
-use Rattle.fv_tree.specs.Plain.{Expression, Named, Reference, Statement, Assignment, If, Do, Label, GoTo, Stop, Read, Print, Arms, no_arms, arm, Block, no_statements, statement, Declaration, Program}
+use Rattle.fv_tree.specs.Plain.{Expression, Named, Reference, Statement, Assignment, If, Do, Label, GoTo, Stop, Read, Print, Arms, no_arms, arm, Block, no_statements, statement, Extent, Given, Later, Declaration, Program}
 use Rattle.fv_tree.specs.declared.ops.Kind.TheVariants.{Integer, Logical}
 use Rattle.fv_meaning.specs.Store.{names_of, size_of}
 use Rattle.fv_meaning.specs.Names.{IsSymbolicName, IsInByteOrder}
@@ -25,7 +25,12 @@ abbrev pub array_elements : List (ℤ × ℤ) → ℕ
 array_elements [] = 0
 array_elements (b ∷ bs) = elements_of (b ∷ bs)
 
+abbrev pub IsFixed : Extent → Type 0
+IsFixed (Given bs) = Unit {0}
+IsFixed (Later n) = ⊥
+
 pub record IsDeclaration (d : Declaration) : Type 0 where
+  pub fixed : IsFixed d.extent
   pub name : IsSymbolicName d.name
   pub few : length (dimensions d.extent) ≤ 7
   pub dimension : AllByRecursion IsDimension (dimensions d.extent)
@@ -59,6 +64,7 @@ abbrev mutual
   all_labels_of (Stop line) = []
   all_labels_of (Read line is) = []
   all_labels_of (Print line is) = []
+  all_labels_of _ = []
 
   pub all_labels_in_arms : Arms → List ℕ
   all_labels_in_arms no_arms = []
@@ -79,6 +85,7 @@ abbrev mutual
   targets_of (Stop line) = []
   targets_of (Read line is) = []
   targets_of (Print line is) = []
+  targets_of _ = []
 
   pub targets_in_arms : Arms → List ℕ
   targets_in_arms no_arms = []
@@ -103,6 +110,7 @@ abbrev mutual
   blocks_of (Stop line) = 0
   blocks_of (Read line is) = 0
   blocks_of (Print line is) = 0
+  blocks_of _ = 0
 
   pub blocks_in_arms : Arms → ℕ
   blocks_in_arms no_arms = 0
@@ -123,6 +131,7 @@ abbrev mutual
   statements_of (Stop line) = 1
   statements_of (Read line is) = 1
   statements_of (Print line is) = 1
+  statements_of _ = 1
 
   pub statements_in_arms : Arms → ℕ
   statements_in_arms no_arms = 0
@@ -174,6 +183,7 @@ module _ (ds : List Declaration) where
     IsStatement (Stop line) w = IsLine line
     IsStatement (Read line is) w = IsLine line × AreInputItems ds is w.variables × (depth_of_items is ≤ 400)
     IsStatement (Print line is) w = IsLine line × AreOutputItems ds is w.variables × (depth_of_items is ≤ 400)
+    IsStatement _ w = ⊥
 
     pub AreArms : Arms → Surroundings → Type 0
     AreArms no_arms w = Unit {0}

@@ -4,7 +4,7 @@ use Rattle.std.specs.Option.{IsSomeAnd}
 use Rattle.std.specs.Str.{bytes_eq}
 use Rattle.std.specs.List.{AllByRecursion}
 use Rattle.fv_tree.specs.Operators.{takes_truths, is_neg, is_not}
-use Rattle.fv_tree.specs.Plain.{Expression, Number, Logic, Named, Unary, Binary, Apply, Expressions, no_expressions, expression, Subscript, Only, Subscripts, no_subscripts, subscript, Item, Single, Constant, ImpliedDo, Items, no_items, item, Extent, Given, Declaration}
+use Rattle.fv_tree.specs.Plain.{Expression, Number, Logic, Named, Unary, Binary, Apply, Expressions, no_expressions, expression, Subscript, Only, Subscripts, no_subscripts, subscript, Item, Single, Constant, ImpliedDo, Items, no_items, item, Extent, Given, Later, Declaration}
 use Rattle.fv_tree.specs.declared.ops.Kind.{Kind}
 use Rattle.fv_tree.specs.declared.ops.Kind.TheVariants.{Integer, Logical}
 use Rattle.fv_tree.specs.declared.ops.Op.{Op}
@@ -46,6 +46,7 @@ number_of_subscripts (subscript p ps) = 1 + number_of_subscripts ps
 
 abbrev pub dimensions : Extent → List (ℤ × ℤ)
 dimensions (Given bs) = bs
+dimensions (Later n) = []
 
 abbrev pub declared : List Declaration → List ℕ → Option Declaration
 declared [] x = None
@@ -71,6 +72,7 @@ abbrev mutual
   depth_of (Unary o a) = if is_negative_literal o a then 0 else 1 + depth_of a
   depth_of (Binary o a b) = 1 + max (depth_of a) (depth_of b)
   depth_of (Apply f es) = 1 + depth_of_arguments es
+  depth_of _ = 0
 
   pub depth_of_arguments : Expressions → ℕ
   depth_of_arguments no_expressions = 0
@@ -82,6 +84,7 @@ abbrev mutual
 
   pub depth_of_subscript : Subscript → ℕ
   depth_of_subscript (Only e) = depth_of e
+  depth_of_subscript _ = 0
 
 -- the parenthesis of an implied DO list counts one for what stands in it
 abbrev mutual
@@ -116,6 +119,7 @@ module _ (ds : List Declaration) where
     HasKind (Unary o a) k = IsTrue (is_unary o) × (k ≡ kind_of_result o) × HasKind a (operand_kind o)
     HasKind (Binary o a b) k = IsTrue (not (is_unary o)) × (k ≡ kind_of_result o) × HasKind a (operand_kind o) × HasKind b (operand_kind o)
     HasKind (Apply f es) k = IsTrue (suits_number f (number_of_arguments es)) × (declared ds (name_of_function f) ≡ None) × (k ≡ Integer) × AreArguments es
+    HasKind _ k = ⊥
 
     -- arguments are INTEGER values
     pub AreArguments : Expressions → Type 0
@@ -128,6 +132,7 @@ module _ (ds : List Declaration) where
 
     pub IsSubscript : Subscript → Type 0
     IsSubscript (Only e) = HasKind e Integer
+    IsSubscript _ = ⊥
 
   -- an expression of this kind, at most 400 deep
   pub record IsWhole (e : Expression) (k : Kind) : Type 0 where

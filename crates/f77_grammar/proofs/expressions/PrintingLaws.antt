@@ -9,7 +9,7 @@ use Rattle.std.proofs.lemmas.List.{map-append}
 use Rattle.std.proofs.lemmas.Str.Parse.{IsNumeralModel, numerals_by_fold}
 use Rattle.fv_tree.specs.declared.ops.Op.{Op}
 use Rattle.fv_tree.specs.declared.ops.Op.TheVariants.{Pow, Mul, Neg, Sub, Not}
-use Rattle.fv_tree.specs.Plain.{Expression, Number, Logic, Named, Unary, Binary, Apply, Subscript, Only, Subscripts, no_subscripts, subscript, subscripts}
+use Rattle.fv_tree.specs.Plain.{Expression, Number, Logic, Named, Unary, Binary, Apply, Constructor, Spread, Transpose, Reshape, Reduce, Subscript, Only, Section, Subscripts, no_subscripts, subscript, subscripts}
 use Rattle.f77_grammar.specs.expressions.Levels.{Sign, Plus, Minus, Negation, left_least, right_least, joins, may_follow}
 use Rattle.f77_grammar.specs.expressions.Phrases.{Phrase, Literal, WideLiteral, Truth, Name, Listed, Paren, Signed, Joined, Phrases, One, Then, level, begins_with_sign, written, written_list, tree, trees, sign_word, IsExpression, AreExpressions}
 use Rattle.f77_grammar.specs.expressions.Printing.{IsLiteral, is_negating, IsSource, IsSourceSubscript, AreSource, fit, behind, listed, unary_phrase, phrase_of, subscript_phrase, phrases_of, with_more, digits_of, spelling_of, printed}
@@ -59,9 +59,15 @@ mutual
       ap (λ (t : Expression). Binary o t (tree (fit (right_least o) (behind o (phrase_of b))))) (fit_tree (left_least o) (phrase_of a) ∙ back a h.1)
       ∙ ap (Binary o a) (fit_tree (right_least o) (behind o (phrase_of b)) ∙ (behind_tree o (phrase_of b) ∙ back b h.2))
   back (Apply f es) h = absurd h
+  back (Constructor es ls) h = absurd h
+  back (Spread a k e) h = absurd h
+  back (Transpose a) h = absurd h
+  back (Reshape a es) h = absurd h
+  back (Reduce r a) h = absurd h
 
   back_subscript : (s : Subscript) → IsSourceSubscript s → Only (tree (subscript_phrase s)) ≡ s
   back_subscript (Only e) h = ap Only (back e h)
+  back_subscript (Section a b c) h = absurd h
 
   back_named : (x : List ℕ) (ss : Subscripts) → AreSource ss → tree (listed x (phrases_of ss)) ≡ Named x ss
   back_named x no_subscripts h = refl
@@ -118,9 +124,15 @@ mutual
     fit_good (right_least o) (behind o (phrase_of b)) (behind_good o (phrase_of b) (good b h.2)),
   )
   good (Apply f es) h = absurd h
+  good (Constructor es ls) h = absurd h
+  good (Spread a k e) h = absurd h
+  good (Transpose a) h = absurd h
+  good (Reshape a es) h = absurd h
+  good (Reduce r a) h = absurd h
 
   good_subscript : (s : Subscript) → IsSourceSubscript s → IsExpression (subscript_phrase s)
   good_subscript (Only e) h = good e h
+  good_subscript (Section a b c) h = absurd h
 
   good_named : (x : List ℕ) (ss : Subscripts) → AreSource ss → IsExpression (listed x (phrases_of ss))
   good_named x no_subscripts h = tt
@@ -198,9 +210,15 @@ mutual
       (fit_spelled (left_least o) (phrase_of a) (source_spelled a h.1))
       (joins_spelled o h.0, refl, fit_spelled (right_least o) (behind o (phrase_of b)) (behind_spelled o (phrase_of b) (source_spelled b h.2)))
   source_spelled (Apply f es) h = absurd h
+  source_spelled (Constructor es ls) h = absurd h
+  source_spelled (Spread a k e) h = absurd h
+  source_spelled (Transpose a) h = absurd h
+  source_spelled (Reshape a es) h = absurd h
+  source_spelled (Reduce r a) h = absurd h
 
   spelled_subscript : (s : Subscript) → IsSourceSubscript s → AreSpelled (written (subscript_phrase s))
   spelled_subscript (Only e) h = source_spelled e h
+  spelled_subscript (Section a b c) h = absurd h
 
   spelled_named : (x : List ℕ) (ss : Subscripts) → IsName x → AreSource ss → AreSpelled (written (listed x (phrases_of ss)))
   spelled_named x no_subscripts n h = ((refl, n), refl, tt)

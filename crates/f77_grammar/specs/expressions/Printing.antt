@@ -28,10 +28,11 @@ abbrev mutual
   IsSource (Named x ss) = IsName x × AreSource ss
   IsSource (Unary o a) = IsTrue (is_negating o) × IsSource a
   IsSource (Binary o a b) = IsTrue (joins o) × IsSource a × IsSource b
-  IsSource (Apply f es) = ⊥
+  IsSource _ = ⊥
 
   pub IsSourceSubscript : Subscript → Type 0
   IsSourceSubscript (Only e) = IsSource e
+  IsSourceSubscript _ = ⊥
 
   pub AreSource : Subscripts → Type 0
   AreSource no_subscripts = Unit {0}
@@ -61,10 +62,11 @@ abbrev mutual
   phrase_of (Named x ss) = listed x (phrases_of ss)
   phrase_of (Unary o a) = unary_phrase o (phrase_of a)
   phrase_of (Binary o a b) = Joined o (fit (left_least o) (phrase_of a)) (fit (right_least o) (behind o (phrase_of b)))
-  phrase_of (Apply f es) = WideLiteral
+  phrase_of _ = WideLiteral
 
   pub subscript_phrase : Subscript → Phrase
   subscript_phrase (Only e) = phrase_of e
+  subscript_phrase _ = WideLiteral
 
   pub phrases_of : Subscripts → Option Phrases
   phrases_of no_subscripts = None

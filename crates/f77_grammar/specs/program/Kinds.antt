@@ -41,6 +41,7 @@ module _ (us : List Use) where
     has_kind (Unary o a) k = is_unary o && same_kind (kind_of_result o) k && has_kind a (operand_kind o)
     has_kind (Binary o a b) k = not (is_unary o) && same_kind (kind_of_result o) k && has_kind a (operand_kind o) && has_kind b (operand_kind o)
     has_kind (Apply f es) k = suits_number f (number_of_arguments es) && same_kind Integer k && are_arguments es
+    has_kind _ k = false
 
     pub are_arguments : Expressions → Bool
     are_arguments no_expressions = true
@@ -52,6 +53,7 @@ module _ (us : List Use) where
 
     pub is_subscript : Subscript → Bool
     is_subscript (Only e) = has_kind e Integer
+    is_subscript _ = false
 
   abbrev pub has_some_kind : Expression → Bool
   has_some_kind e = has_kind e Integer || has_kind e Logical

@@ -10,7 +10,7 @@ use Rattle.fv_tree.specs.declared.ops.Fault.{Fault}
 use Rattle.fv_tree.specs.declared.ops.Fault.TheVariants.{Overflow}
 use Rattle.fv_meaning.specs.Store.{Store, size_of}
 use Rattle.fv_meaning.specs.Value.{value_of, number_of, is_in_range}
-use Rattle.fv_meaning.specs.Sequential.{integer_bits}
+use Rattle.fv_meaning.specs.Sequential.{fortran77}
 use Rattle.f77_grammar.specs.Statement77.{Entity, NamedConstant, Labelled, Statement77, Declare, Dimension, Constants, Test, If, Do}
 use Rattle.fv_meaning.specs.Names.{is_among}
 use Rattle.f77_grammar.specs.program.Text.{Place, open_loops, open_ifs}
@@ -19,11 +19,11 @@ use Rattle.f77_grammar.specs.program.Uses.{Use, uses_in_text, is_variable, is_co
 -- ---- symbolic constants: each has the value of its expression, where the constants before it have theirs
 
 abbrev pub in_range : Value → Result Value Fault
-in_range v = if is_in_range integer_bits v then Ok v else Err Overflow
+in_range v = if is_in_range fortran77.bits v then Ok v else Err Overflow
 
 abbrev pub constant_value : Expression → Store → Result Value Fault
 constant_value e s = do
-  v ← value_of integer_bits e s
+  v ← value_of fortran77 e s
   in_range v
 
 -- no name has a value
@@ -75,8 +75,8 @@ bounds_of_name text x = bounds_among (flat_map (λ (y : Labelled). entities_of y
 -- the numbers that two bounds have
 abbrev pub dimension_of : Store → Expression × Expression → Result (ℤ × ℤ) Fault
 dimension_of s b = do
-  lower ← number_of integer_bits b.0 s
-  upper ← number_of integer_bits b.1 s
+  lower ← number_of fortran77 b.0 s
+  upper ← number_of fortran77 b.1 s
   Ok (lower, upper)
 
 abbrev pub size_in : Result (ℤ × ℤ) Fault → ℕ

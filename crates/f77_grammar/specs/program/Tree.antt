@@ -29,6 +29,7 @@ literal (Truth b) = Logic b
 abbrev pub arguments_of : Subscripts → Expressions
 arguments_of no_subscripts = no_expressions
 arguments_of (subscript (Only e) ps) = expression e (arguments_of ps)
+arguments_of (subscript p ps) = arguments_of ps
 
 abbrev pub call_of : Option Fun → List ℕ → Subscripts → Expression
 call_of None x ps = Named x ps
@@ -56,6 +57,7 @@ module _ (us : List Use) (s : Store) where
     resolved (Unary o a) = Unary o (resolved a)
     resolved (Binary o a b) = Binary o (resolved a) (resolved b)
     resolved (Apply f es) = Apply f (resolved_arguments es)
+    resolved e = e
 
     pub resolved_arguments : Expressions → Expressions
     resolved_arguments no_expressions = no_expressions
@@ -67,6 +69,7 @@ module _ (us : List Use) (s : Store) where
 
     pub resolved_subscript : Subscript → Subscript
     resolved_subscript (Only e) = Only (resolved e)
+    resolved_subscript p = p
 
   abbrev pub resolved_reference : Reference → Reference
   resolved_reference r = record { name = r.name; subscripts = resolved_subscripts r.subscripts }

@@ -38,6 +38,7 @@ abbrev mutual
   uses_in (Unary o a) = uses_in a
   uses_in (Binary o a b) = uses_in a ++ uses_in b
   uses_in (Apply f es) = uses_in_arguments es
+  uses_in _ = []
 
   pub uses_in_arguments : Expressions → List Use
   uses_in_arguments no_expressions = []
@@ -49,6 +50,7 @@ abbrev mutual
 
   pub uses_in_subscript : Subscript → List Use
   uses_in_subscript (Only e) = uses_in e
+  uses_in_subscript _ = []
 
 abbrev pub target_uses : List ℕ → Subscripts → List Use
 target_uses x ps = use_of x (Target (number_of_subscripts ps)) ∷ uses_in_subscripts ps
