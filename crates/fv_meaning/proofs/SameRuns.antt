@@ -9,8 +9,8 @@ use Rattle.fv_tree.specs.declared.ops.Kind.TheVariants.{Integer, Logical}
 use Rattle.fv_meaning.specs.Store.{Store, opening_bounds, opening_store}
 use Rattle.fv_meaning.specs.Value.{is_scalar, are_scalar, are_indices, is_index, is_bare, named}
 use Rattle.fv_meaning.specs.Run.{run}
-use Rattle.fv_meaning.specs.Sequential.{fortran77}
-use Rattle.fv_meaning.specs.Array.{fortran90}
+use Rattle.fv_meaning.specs.Dialect.{fortran77}
+use Rattle.fv_meaning.specs.Dialect.{fortran90}
 use Rattle.fv_meaning.specs.Typed77 as typed
 use Rattle.fv_meaning.specs.Typed77.{dimensions, declared, number_of_subscripts, HasKind, AreArguments, AreSubscripts, IsSubscript}
 use Rattle.fv_meaning.specs.Profile77 as profile
