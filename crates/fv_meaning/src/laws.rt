@@ -21,7 +21,8 @@ pub fn numbers_in_texts()
     ensures printed { PrintedNumberIsRead }
 {}
 
-/// An expression's value, and an array's elements, depend on nothing but the cells that it reads and the bounds of its names.
+/// An expression's value, and an array's elements, depend on nothing but the cells that it reads and the bounds of its
+/// names.
 pub fn value_from_cells()
     ensures cells { ValueComesFromCellsRead }
     ensures arrays { ArrayComesFromCellsRead }
