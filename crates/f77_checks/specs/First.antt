@@ -6,7 +6,8 @@ use Rattle.f77_grammar.specs.Statement77.{Labelled}
 use Rattle.f77_grammar.specs.program.Text.{Place, places}
 use Rattle.f77_grammar.specs.program.Uses.{uses_in_text}
 use Rattle.f77_grammar.specs.program.Limits.{constants_of}
-use Rattle.f77_grammar.specs.program.Program77.{Cause, NoEnd, all_causes, number_of_cause, word_of_cause, holds_at, finding, findings}
+use Rattle.f77_grammar.specs.program.Program77.{Cause, NoEnd, all_causes, number_of_cause, word_of_cause, holds_at}
+use Rattle.f77_grammar.specs.program.Program77.{finding, findings}
 
 -- the cause holds at a place of the text
 abbrev pub holds_in : List Labelled → Cause → Place → Bool
@@ -16,7 +17,8 @@ holds_in text c p = holds_at c text (uses_in_text text) (constants_of text) p
 abbrev pub has_number : List Labelled → ℕ → Place → Bool
 has_number text n p = list_any (λ c. number_of_cause c == n && holds_in text c p) all_causes
 
--- The refusal is the finding of a cause at a place. No finding has a lesser number; the place is the first at which a cause with the
+-- The refusal is the finding of a cause at a place. No finding has a lesser number; the place is the first at which a
+-- cause with the
 -- refusal's number holds; and no such cause with a lesser word holds there.
 pub record IsFoundAtPlace (text : List Labelled) (r : Refusal) : Type 0 where
   pub cause : Cause

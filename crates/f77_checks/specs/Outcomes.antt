@@ -6,9 +6,13 @@ use Rattle.fv_tree.specs.declared.refusals.Refused.{Refused}
 use Rattle.fv_tree.specs.declared.refusals.Refused.TheVariants as refused
 use Rattle.f77_grammar.specs.Statement77.{Labelled}
 use Rattle.f77_grammar.specs.program.Text.{Place, places}
-use Rattle.f77_grammar.specs.program.Program77.{Cause, Label, Nesting, NoEnd, Declared, RealName, TypeClash, Jump, DoVariable, finding, findings}
+use Rattle.f77_grammar.specs.program.Program77.{Cause, Label, Nesting, NoEnd, Declared, RealName, TypeClash, Jump}
+use Rattle.f77_grammar.specs.program.Program77.{DoVariable, finding, findings}
 use Rattle.f77_checks.specs.declared.causes.Cause.{Cause as Cause'}
-use Rattle.f77_checks.specs.declared.causes.Cause.TheVariants.{Label as Label', Nesting as Nesting', NoEnd as NoEnd', Declared as Declared', RealName as RealName', TypeClash as TypeClash', Jump as Jump', DoVariable as DoVariable'}
+use Rattle.f77_checks.specs.declared.causes.Cause.TheVariants.{Label as Label', Nesting as Nesting', NoEnd as NoEnd'}
+use Rattle.f77_checks.specs.declared.causes.Cause.TheVariants.{Declared as Declared', RealName as RealName'}
+use Rattle.f77_checks.specs.declared.causes.Cause.TheVariants.{TypeClash as TypeClash', Jump as Jump'}
+use Rattle.f77_checks.specs.declared.causes.Cause.TheVariants.{DoVariable as DoVariable'}
 use Rattle.f77_checks.specs.First.{holds_in, IsFoundFirst}
 
 abbrev pub cause_of : Cause' → Cause

@@ -47,13 +47,15 @@ fn check_text(alloc: Global, text: &[Labelled]) -> Result<(), Refused>
     check_statements(alloc, text)
 }
 
-/// Finds nothing wrong in a program's statements, or refuses them for the cause with the least number, at the first statement at
+/// Finds nothing wrong in a program's statements, or refuses them for the cause with the least number, at the first
+/// statement at
 /// which it holds.
 #[tactic(auto, using(crate::proofs::Answers::answer_laws))]
 pub fn check(alloc: Global, text: &[Labelled]) -> Result<(), Refused>
     ensures ok { OnOk result (findings (text_of text.now) ≡ []) }
     ensures refused { (r : Refusal) → result ≡ Err (Refused.Refusal r) → IsFoundFirst (text_of text.now) r }
-    ensures rising { (r : Refusal) → result ≡ Err (Refused.Refusal r) → AreRising (text_of text.now) → RefusedStatements (text_of text.now) r }
+    ensures rising { (r : Refusal) → result ≡ Err (Refused.Refusal r) → AreRising (text_of text.now)
+        → RefusedStatements (text_of text.now) r }
 
     // A text in which nothing is wrong, or that is refused, has no other answer, unless memory runs out.
     ensures only_sound { findings (text_of text.now) ≡ [] → OnErr result (result ≡ Err Refused.Memory) }

@@ -21,7 +21,8 @@ pub fn reversed_bounds(
     text: &[Labelled],
     constants: &Constants,
 ) -> Result<Option<usize>, Memory>
-    ensures { (s : Store) → AreValues constants.now s → IfOk result (λ place. place ≡ first_index (has_reversed_bounds s) (text_of text.now)) }
+    ensures { (s : Store) → AreValues constants.now s
+        → IfOk result (λ place. place ≡ first_index (has_reversed_bounds s) (text_of text.now)) }
 {
     for (i, statement) in text.iter().enumerate() {
         if constants.any_reversed(alloc, entities(&statement.statement))? {
@@ -37,7 +38,8 @@ pub fn many_elements(
     text: &[Labelled],
     constants: &Constants,
 ) -> Result<Option<usize>, Memory>
-    ensures { (s : Store) → AreValues constants.now s → IfOk result (λ place. place ≡ first_index (has_many_elements s) (text_of text.now)) }
+    ensures { (s : Store) → AreValues constants.now s
+        → IfOk result (λ place. place ≡ first_index (has_many_elements s) (text_of text.now)) }
 {
     let mut count = 0;
     for (i, statement) in text.iter().enumerate() {
@@ -78,7 +80,8 @@ pub fn bad_constant(
     text: &[Labelled],
     constants: &Constants,
 ) -> Result<Option<usize>, Memory>
-    ensures { (s : Store) → AreValues constants.now s → IfOk result (λ place. place ≡ first_index (has_bad_constant s) (text_of text.now)) }
+    ensures { (s : Store) → AreValues constants.now s
+        → IfOk result (λ place. place ≡ first_index (has_bad_constant s) (text_of text.now)) }
 {
     for (i, statement) in text.iter().enumerate() {
         if constants.lacks_value(definitions(&statement.statement)) {

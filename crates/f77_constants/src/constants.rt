@@ -15,7 +15,8 @@ use indexmap::IndexMap;
 use f77_syntax::Labelled;
 use std::alloc::Global;
 
-/// The symbolic constants of a program that have a value. One whose expression faults, or leaves the range of INTEGER, has none.
+/// The symbolic constants of a program that have a value. One whose expression faults, or leaves the range of INTEGER,
+/// has none.
 #[derive(Drop)]
 pub struct Constants {
     table: IndexMap<Name, Value>,
@@ -60,7 +61,8 @@ impl Constants {
     }
 
     fn insert(&mut self, name: Name, value: Value) -> Result<(), Memory>
-        ensures { OnOk result ((x : List ℕ) → value_in self.new x ≡ (if bytes_eq name x then Some value else value_in self.old x)) }
+        ensures { OnOk result ((x : List ℕ)
+            → value_in self.new x ≡ (if bytes_eq name x then Some value else value_in self.old x)) }
     {
         self.table.insert(name, value)?;
         Ok(())

@@ -12,7 +12,8 @@ ghost use Rattle.f77_syntax.specs.Views.{bounds_of, entity_of, text_of};
 ghost use Rattle.f77_names.specs.UsesView.{plain_use};
 ghost use Rattle.f77_names.specs.NameFacts.{is_variable_by};
 ghost use Rattle.f77_constants.specs.Constants.{AreValues, store_of};
-ghost use Rattle.f77_constants.specs.Declarations.{Ascends, AreFacts, narrowed, narrow, narrow_declaration, narrow_declarations, dimensions, variables_from, all_declarations};
+ghost use Rattle.f77_constants.specs.Declarations.{Ascends, AreFacts, narrowed, narrow, narrow_declaration};
+ghost use Rattle.f77_constants.specs.Declarations.{narrow_declarations, dimensions, variables_from, all_declarations};
 
 use crate::constants::Constants;
 use crate::parts::entities;
@@ -123,7 +124,8 @@ fn add_variable(variables: &mut Vec<Name>, names: &Names, name: Name) -> Result<
 
 // The variables, in byte order.
 fn variables(alloc: Global, uses: &[Use], names: &Names) -> Result<Vec<Name>, Memory>
-    ensures { (us : List Use') → AreFacts names.now us → IfOk result (λ variables. variables.items ≡ variables_from us (map plain_use uses.now)) }
+    ensures { (us : List Use') → AreFacts names.now us
+        → IfOk result (λ variables. variables.items ≡ variables_from us (map plain_use uses.now)) }
 {
     let mut variables = Vec::new(alloc);
     for used in uses {

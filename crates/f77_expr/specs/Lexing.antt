@@ -1,8 +1,11 @@
 -- The word at the front of a text, found symbol by symbol.
-use Rattle.std.specs.Prelude.{ℕ, ◌^◌, pos, Bool, true, false, nat_lt, ◌==◌, List, [], ◌∷◌, length, codes, Option, Some, None, if◌then◌else◌}
-use Rattle.fv_tree.specs.declared.ops.Op.TheVariants.{Pow, Mul, Div, Add, Sub, Lt, Le, Eq, Ne, Gt, Ge, Not, And, Or, Eqv, Neqv}
+use Rattle.std.specs.Prelude.{ℕ, ◌^◌, pos, Bool, true, false, nat_lt, ◌==◌, List, [], ◌∷◌, length, codes, Option, Some}
+use Rattle.std.specs.Prelude.{None, if◌then◌else◌}
+use Rattle.fv_tree.specs.declared.ops.Op.TheVariants.{Pow, Mul, Div, Add, Sub, Lt, Le, Eq, Ne, Gt, Ge, Not, And, Or}
+use Rattle.fv_tree.specs.declared.ops.Op.TheVariants.{Eqv, Neqv}
 use Rattle.f77_grammar.specs.expressions.Squeezing.{Symbol, Char, Text, Broken}
-use Rattle.f77_grammar.specs.expressions.Words.{Word, Number, Wide, Truth, Name, Head, Operator, Open, Close, Comma, Equals, Colon, Constant}
+use Rattle.f77_grammar.specs.expressions.Words.{Word, Number, Wide, Truth, Name, Head, Operator, Open, Close, Comma}
+use Rattle.f77_grammar.specs.expressions.Words.{Equals, Colon, Constant}
 use Rattle.f77_grammar.specs.expressions.Spelling.{is_digit, is_letter, is_letter_or_digit, value}
 
 -- the characters at the front that pass a test, and what follows them

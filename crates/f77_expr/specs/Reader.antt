@@ -1,11 +1,13 @@
 -- Reading an expression from left to right, word by word, with what is open on a stack.
-use Rattle.std.specs.Prelude.{ℕ, ◌+◌, max, min, pos, Bool, true, false, ◌&&◌, nat_lt, nat_le, List, [], ◌∷◌, ◌++◌, Option, Some, None, if◌then◌else◌}
+use Rattle.std.specs.Prelude.{ℕ, ◌+◌, max, min, pos, Bool, true, false, ◌&&◌, nat_lt, nat_le, List, [], ◌∷◌, ◌++◌}
+use Rattle.std.specs.Prelude.{Option, Some, None, if◌then◌else◌}
 use Rattle.fv_tree.specs.declared.ops.Op.{Op}
 use Rattle.fv_tree.specs.declared.ops.Op.TheVariants.{Add, Sub, Not}
 use Rattle.fv_tree.specs.Plain.{Expression, Number, Logic, Named, Binary, Subscript, Only, subscripts, no_subscripts}
 use Rattle.f77_grammar.specs.expressions.Words as words
 use Rattle.f77_grammar.specs.expressions.Words.{Word}
-use Rattle.f77_grammar.specs.expressions.Levels.{Sign, Plus, Minus, Negation, level_of, left_least, right_least, joins, compares, may_follow, sign_level}
+use Rattle.f77_grammar.specs.expressions.Levels.{Sign, Plus, Minus, Negation, level_of, left_least, right_least, joins}
+use Rattle.f77_grammar.specs.expressions.Levels.{compares, may_follow, sign_level}
 use Rattle.f77_grammar.specs.expressions.Phrases.{signed, sign_word}
 
 -- what is kept of an operand; `placed` is that each plus or minus sign in it stands where one may

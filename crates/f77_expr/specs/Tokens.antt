@@ -6,7 +6,8 @@ use Rattle.f77_grammar.specs.expressions.Words.{Word}
 use Rattle.f77_expr.specs.declared.tokens.Sign.{Sign}
 use Rattle.f77_expr.specs.declared.tokens.Sign.TheVariants.{Plus, Minus, Negation}
 use Rattle.f77_expr.specs.declared.tokens.Token.{Token}
-use Rattle.f77_expr.specs.declared.tokens.Token.TheVariants.{Number, Wide, Truth, Name, Head, Operator, Open, Close, Comma, Equals, Colon, Constant}
+use Rattle.f77_expr.specs.declared.tokens.Token.TheVariants.{Number, Wide, Truth, Name, Head, Operator, Open, Close}
+use Rattle.f77_expr.specs.declared.tokens.Token.TheVariants.{Comma, Equals, Colon, Constant}
 
 abbrev pub sign_view : Sign → levels.Sign
 sign_view Plus = levels.Plus

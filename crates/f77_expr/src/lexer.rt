@@ -1,5 +1,6 @@
 //! The words of a text without blanks.
-ghost use Rattle.std.specs.Prelude.{◌≡◌, ◌^◌, ◌<◌, ◌+◌, ◌*◌, ◌-◌, ◌∷◌, List, pos, Some, None, IfSome, IfOk, IsNone, IsTrue};
+ghost use Rattle.std.specs.Prelude.{◌≡◌, ◌^◌, ◌<◌, ◌+◌, ◌*◌, ◌-◌, ◌∷◌, List, pos, Some, None, IfSome, IfOk, IsNone};
+ghost use Rattle.std.specs.Prelude.{IsTrue};
 ghost use Rattle.f77_grammar.specs.expressions.Words as words;
 ghost use Rattle.f77_grammar.specs.expressions.Spelling as spelling;
 ghost use Rattle.f77_grammar.specs.expressions.Spelling.{Stops, Words};
@@ -8,7 +9,8 @@ ghost use Rattle.f77_expr.specs.Lexing as lexing;
 ghost use Rattle.f77_expr.specs.Literals as literals;
 ghost use Rattle.f77_expr.specs.Symbols.{symbols_of};
 ghost use Rattle.f77_expr.specs.Tokens.{word_of};
-ghost use Rattle.f77_expr.specs.Fronts.{NextChar, narrow, BeginsWithLetter, BeginsWith, NameOption, Strips, FrontOption, FrontResult, AfterChar, GivesWords};
+ghost use Rattle.f77_expr.specs.Fronts.{NextChar, narrow, BeginsWithLetter, BeginsWith, NameOption, Strips};
+ghost use Rattle.f77_expr.specs.Fronts.{FrontOption, FrontResult, AfterChar, GivesWords};
 ghost use Rattle.f77_expr.specs.Views.{words_of};
 
 use crate::symbols::Symbol;

@@ -7,7 +7,8 @@ ghost use Rattle.f77_grammar.specs.expressions.Phrases.{Phrase, IsExpression, wr
 ghost use Rattle.f77_expr.specs.Reading as reading;
 ghost use Rattle.f77_expr.specs.Reading.{Ends, Gives};
 ghost use Rattle.f77_expr.specs.Tokens.{word_of};
-ghost use Rattle.f77_expr.specs.Views.{operand_of, frame_of, stack, held, state_of, words_of, Begins, Turns, Shuts, Parts, Halts, Finishes, Reads};
+ghost use Rattle.f77_expr.specs.Views.{operand_of, frame_of, stack, held, state_of, words_of, Begins, Turns, Shuts};
+ghost use Rattle.f77_expr.specs.Views.{Parts, Halts, Finishes, Reads};
 
 use crate::operands::{Frame, Operand, is_joining, least_left, level};
 use crate::tokens::{Sign, Stop, Token};
@@ -270,7 +271,8 @@ pub fn read(alloc: Global, tokens: &[Token]) -> Result<(Operand, &[Token]), Stop
     ensures reads { Reads result (reader.read (words_of tokens.now)) }
     ensures shorter { IfOk result (λ r. length r.1.now < length tokens.now) }
     // An expression is read, in one way alone.
-    ensures only { (p : Phrase) (rest : List words.Word) → IsExpression p → Ends rest → words_of tokens.now ≡ written p ++ rest → Gives result p rest }
+    ensures only { (p : Phrase) (rest : List words.Word) → IsExpression p → Ends rest
+        → words_of tokens.now ≡ written p ++ rest → Gives result p rest }
 {
     run_checked(alloc, tokens)
 }

@@ -58,7 +58,8 @@ fn scan_out(alloc: Global, c: u8, symbols: &mut Vec<Symbol>) -> Result<Mode, Mem
 
 // A character of a constant.
 fn scan_in(mut text: Seq<u8>, c: u8) -> Result<Mode, Memory>
-    ensures { IfOk result (λ mode. (cs : List ℕ) → scanning.scan (c ∷ cs) (scanning.In text) ≡ scanning.scan cs (mode_of mode)) }
+    ensures { IfOk result (λ mode. (cs : List ℕ)
+        → scanning.scan (c ∷ cs) (scanning.In text) ≡ scanning.scan cs (mode_of mode)) }
 {
     if c == b'\'' {
         return Ok(Mode::Closing(text));
@@ -116,7 +117,8 @@ fn end(mode: Mode, symbols: &mut Vec<Symbol>) -> Result<(), Memory>
 /// The symbols of a statement's characters.
 pub fn squeeze(alloc: Global, chars: &[u8]) -> Result<Vec<Symbol>, Memory>
     ensures found { IfOk result (λ symbols. Squeezed chars.now (symbols_of symbols.items)) }
-    ensures only { IfOk result (λ symbols. (ss : List squeezing.Symbol) → Squeezed chars.now ss → symbols_of symbols.items ≡ ss) }
+    ensures only { IfOk result (λ symbols. (ss : List squeezing.Symbol) → Squeezed chars.now ss
+        → symbols_of symbols.items ≡ ss) }
 {
     let mut symbols = Vec::new(alloc);
     let mut mode = Mode::Out;

@@ -1,6 +1,7 @@
 -- Fixed form (ANSI X3.9-1978, section 3): the statements that the lines of a source are, and the refusals of lines.
 -- Bytes are named by their codes: 9 is a tab, 32 a blank and 48 the digit 0.
-use Rattle.std.specs.Prelude.{◌≡◌, ℕ, ◌+◌, ◌^◌, ◌<◌, ◌≤◌, Bool, not, ◌&&◌, ◌||◌, ◌==◌, nat_lt, IsTrue, List, [], ◌∷◌, ◌++◌, length, take, drop, replicate, map, filter, slice_index, codes, Option, None, Some}
+use Rattle.std.specs.Prelude.{◌≡◌, ℕ, ◌+◌, ◌^◌, ◌<◌, ◌≤◌, Bool, not, ◌&&◌, ◌||◌, ◌==◌, nat_lt, IsTrue, List, [], ◌∷◌}
+use Rattle.std.specs.Prelude.{◌++◌, length, take, drop, replicate, map, filter, slice_index, codes, Option, None, Some}
 use Rattle.std.specs.Char.{is_ascii_digit}
 use Rattle.std.specs.List.{list_any, list_all, flat_map}
 use Rattle.std.specs.Str.Lines.{lines}
@@ -44,7 +45,8 @@ abbrev pub numbered : ℕ → List (List ℕ) → List Line
 numbered n [] = []
 numbered n (line ∷ more) = record { number = n; columns = columns_of line } ∷ numbered (n + 1) more
 
--- The lines of a text that are no comment lines, where its first line has the number n. A line is ended by LF or by the end of the bytes, and a CR
+-- The lines of a text that are no comment lines, where its first line has the number n. A line is ended by LF or by the
+-- end of the bytes, and a CR
 -- just before an LF is dropped; std's `lines` says so.
 unfoldable pub statement_lines_from : ℕ → List ℕ → List Line
 statement_lines_from n text = filter (λ line. not (is_comment line.columns)) (numbered n (lines text))
@@ -80,11 +82,13 @@ number_in (d ∷ digits) = Some (digits_value 10 (d ∷ digits))
 unfoldable pub label_in : List ℕ → Option ℕ
 label_in field = number_in (filter is_ascii_digit field)
 
--- its label is that of its initial line, its line the number of that, and its characters are the statement fields of its lines
+-- its label is that of its initial line, its line the number of that, and its characters are the statement fields of
+-- its lines
 unfoldable pub card_in : StatementLines → PlainCard
 card_in s = record { label = label_in (label_field s.initial); line = s.initial.number; chars = flat_map statement_field (all_lines s) }
 
--- The cards are the statements of the source: the lines that are no comment lines are those of statements, one after another.
+-- The cards are the statements of the source: the lines that are no comment lines are those of statements, one after
+-- another.
 pub record AreCards (text : List ℕ) (cards : List PlainCard) : Type 0 where
   pub statements : List StatementLines
   pub each : IsTrue (list_all is_statement statements)
@@ -118,16 +122,22 @@ pub data IsWrong (before : List Line) (line : Line) : Cause → Type 0 where
   HoldsBadByte : IsTrue (list_any is_bad_byte line.columns) → IsWrong before line BadByte
   HoldsTab : IsTrue (list_any is_tab line.columns) → IsWrong before line Tab
   -- a continuation line that no initial line comes before
-  HasNoInitialLine : IsTrue (is_continuation line) → IsTrue (list_all is_continuation before) → IsWrong before line LineForm
+  HasNoInitialLine : IsTrue (is_continuation line) → IsTrue (list_all is_continuation before)
+      → IsWrong before line LineForm
   -- a continuation line with something in its label field
-  HasLabelField : IsTrue (is_continuation line) → IsTrue (not (list_all is_blank (label_field line))) → IsWrong before line LineForm
+  HasLabelField : IsTrue (is_continuation line) → IsTrue (not (list_all is_blank (label_field line)))
+      → IsWrong before line LineForm
   -- an initial line whose label field holds something other than digits and blanks
-  HasNoLabel : IsTrue (is_initial line) → IsTrue (not (list_all is_label_character (label_field line))) → IsWrong before line LineForm
+  HasNoLabel : IsTrue (is_initial line) → IsTrue (not (list_all is_label_character (label_field line)))
+      → IsWrong before line LineForm
   -- an initial line without a statement
-  HasNoStatement : IsTrue (is_initial line) → IsTrue (list_all is_blank (statement_field line)) → IsWrong before line LineForm
+  HasNoStatement : IsTrue (is_initial line) → IsTrue (list_all is_blank (statement_field line))
+      → IsWrong before line LineForm
   -- the twentieth continuation line of a statement
-  IsTwentieth : (front : List Line) (initial : Line) (others : List Line) → before ≡ front ++ initial ∷ others → IsTrue (is_initial initial)
-      → IsTrue (list_all is_continuation others) → length others ≡ 19 → IsTrue (is_continuation line) → IsWrong before line ManyLines
+  IsTwentieth : (front : List Line) (initial : Line) (others : List Line) → before ≡ front ++ initial ∷ others
+      → IsTrue (is_initial initial)
+      → IsTrue (list_all is_continuation others) → length others ≡ 19 → IsTrue (is_continuation line)
+          → IsWrong before line ManyLines
 
 abbrev pub refusal : ℕ → ℕ → Refusal
 refusal number line = record { number = number; line = line; word = 0 }
@@ -135,7 +145,8 @@ refusal number line = record { number = number; line = line; word = 0 }
 -- A cause that holds, with its number and line: the source is too long, or something is wrong with a line.
 pub data HasCause (text : List ℕ) : Refusal → Type 0 where
   TooLong : 2 ^ 20 < length text → HasCause text (refusal 1 0)
-  AtLine : (cause : Cause) (before : List Line) (line : Line) (after : List Line) → statement_lines text ≡ before ++ line ∷ after
+  AtLine : (cause : Cause) (before : List Line) (line : Line) (after : List Line)
+      → statement_lines text ≡ before ++ line ∷ after
       → IsWrong before line cause → HasCause text (refusal (number_of cause) line.number)
 
 -- Of the causes that hold, the one that is answered: the least number, then the first line.

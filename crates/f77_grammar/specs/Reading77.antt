@@ -32,7 +32,8 @@ pub record ReadsProgram (cards : List PlainCard) (p : Program) : Type 0 where
 
 -- ---- what is refused
 
--- A cause that holds: the characters of a card are no statement, or the cards are statements in which something is found.
+-- A cause that holds: the characters of a card are no statement, or the cards are statements in which something is
+-- found.
 pub data HasCause (cards : List PlainCard) : Refusal → Type 0 where
   AtCard : (card : PlainCard) (number word : ℕ) → Contains cards card → IsRefusedBy card.chars number word
       → HasCause cards (record { number = number; line = card.line; word = word })

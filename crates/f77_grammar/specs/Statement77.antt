@@ -1,5 +1,6 @@
 -- A statement of FORTRAN 77 as it stands on its card, before the statements of a program are put together
--- (ANSI X3.9-1978, sections 7 to 12). A name with a list in parentheses stands as a reference, since an element and a call are
+-- (ANSI X3.9-1978, sections 7 to 12). A name with a list in parentheses stands as a reference, since an element and a
+-- call are
 -- written alike.
 use Rattle.std.specs.Prelude.{ℕ, List, Option}
 use Rattle.fv_tree.specs.declared.ops.Kind.{Kind}
@@ -15,7 +16,8 @@ pub record NamedConstant : Type 0 where
   pub name : List ℕ
   pub value : Expression
 
--- `Test` is the logical IF with its inner statement; `If`, `ElseIf`, `Else` and `EndIf` are the lines of a block IF. `Do` has the
+-- `Test` is the logical IF with its inner statement; `If`, `ElseIf`, `Else` and `EndIf` are the lines of a block IF.
+-- `Do` has the
 -- label of its last statement, its variable and its three parameters
 pub data Statement77 : Type 0 where
   Program : List ℕ → Statement77

@@ -7,8 +7,12 @@ ghost use Rattle.f77_grammar.specs.program.Program77.{ReadsStatements, RefusedSt
 
 /// The statements of a text are read as a program or refused, never both, and in one way alone.
 pub fn text_is_read_or_refused()
-    ensures either { (text : List Labelled) → ((p : Program) × ReadsStatements text p) ⊎ ((r : Refusal) × RefusedStatements text r) }
-    ensures not_both { (text : List Labelled) (p : Program) (r : Refusal) → ReadsStatements text p → RefusedStatements text r → ⊥ }
-    ensures one_program { (text : List Labelled) (p q : Program) → ReadsStatements text p → ReadsStatements text q → p ≡ q }
-    ensures one_refusal { (text : List Labelled) (r s : Refusal) → RefusedStatements text r → RefusedStatements text s → r ≡ s }
+    ensures either { (text : List Labelled) → ((p : Program) × ReadsStatements text p)
+        ⊎ ((r : Refusal) × RefusedStatements text r) }
+    ensures not_both { (text : List Labelled) (p : Program) (r : Refusal) → ReadsStatements text p
+        → RefusedStatements text r → ⊥ }
+    ensures one_program { (text : List Labelled) (p q : Program) → ReadsStatements text p → ReadsStatements text q
+        → p ≡ q }
+    ensures one_refusal { (text : List Labelled) (r s : Refusal) → RefusedStatements text r → RefusedStatements text s
+        → r ≡ s }
 {}

@@ -1,6 +1,8 @@
--- DO variables that are wrong, or that something in their range sets; `round` says of a name whether it is the DO variable of a loop round the place.
+-- DO variables that are wrong, or that something in their range sets; `round` says of a name whether it is the DO
+-- variable of a loop round the place.
 use Rattle.std.specs.Prelude.{ℕ, Bool, false, not, ◌&&◌, ◌||◌, is_some, List, [], ◌∷◌, ◌++◌}
-use Rattle.fv_tree.specs.Plain.{Expression, Named, Subscripts, no_subscripts, subscript, Item, Single, Constant, ImpliedDo, Items, no_items, item}
+use Rattle.fv_tree.specs.Plain.{Expression, Named, Subscripts, no_subscripts, subscript, Item, Single, Constant}
+use Rattle.fv_tree.specs.Plain.{ImpliedDo, Items, no_items, item}
 use Rattle.fv_tree.specs.declared.ops.Kind.TheVariants.{Integer}
 use Rattle.f77_grammar.specs.Statement77.{Statement77, Assign, Do, Read, Print}
 use Rattle.fv_meaning.specs.Names.{is_among}
@@ -11,7 +13,8 @@ use Rattle.f77_names.specs.NameFacts.{is_variable_by}
 
 -- an INTEGER scalar variable, by what is known of the name
 abbrev pub is_scalar_by : Facts → Bool
-is_scalar_by f = is_variable_by f && not (is_some f.dimensions && not f.constant) && same_kind (or_integer f.kind) Integer
+is_scalar_by f = is_variable_by f && not (is_some f.dimensions && not f.constant)
+    && same_kind (or_integer f.kind) Integer
 
 -- ---- the DO variables round an item are those of these implied DO lists, and those of loops
 

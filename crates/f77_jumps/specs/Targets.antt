@@ -1,5 +1,6 @@
 -- Statements as what a GO TO leads to: the block or loop round each, by where it was opened.
-use Rattle.std.specs.Prelude.{ℕ, zero, suc, max, Bool, true, false, ◌||◌, Option, None, Some, if◌then◌else◌, List, [], ◌∷◌, length, reverse}
+use Rattle.std.specs.Prelude.{ℕ, zero, suc, max, Bool, true, false, ◌||◌, Option, None, Some, if◌then◌else◌, List, []}
+use Rattle.std.specs.Prelude.{◌∷◌, length, reverse}
 use Rattle.f77_grammar.specs.Statement77.{Labelled}
 use Rattle.f77_grammar.specs.program.Text.{bears}
 use Rattle.f77_structure.specs.declared.forms.Form.{Form}

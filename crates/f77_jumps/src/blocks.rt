@@ -14,7 +14,8 @@ use std::alloc::Global;
 // What opens a block stands in fewer blocks than these.
 const MOST_BLOCKS: usize = 100;
 
-// The blocks that are open: the number of block IFs, and for each loop the place of its last statement. They are few, since
+// The blocks that are open: the number of block IFs, and for each loop the place of its last statement. They are few,
+// since
 // the search ends where too many would be open.
 #[derive(Drop)]
 struct OpenBlocks {

@@ -1,5 +1,7 @@
-//! DO variables: INTEGER scalar variables, which nothing in the range of their loop or list sets (ANSI X3.9-1978, sections 11.10 and 12.8.2.3).
-ghost use Rattle.std.specs.Prelude.{◌≡◌, ℕ, Bool, List, [], None, Some, map, is_some, not, ◌&&◌, OnOk, IfOk, if◌then◌else◌};
+//! DO variables: INTEGER scalar variables, which nothing in the range of their loop or list sets (ANSI X3.9-1978,
+//! sections 11.10 and 12.8.2.3).
+ghost use Rattle.std.specs.Prelude.{◌≡◌, ℕ, Bool, List, [], None, Some, map, is_some, not, ◌&&◌, OnOk, IfOk};
+ghost use Rattle.std.specs.Prelude.{if◌then◌else◌};
 ghost use Rattle.fv_tree.specs.declared.ops.Kind.TheVariants.{Integer};
 ghost use Rattle.f77_grammar.specs.program.Kinds.{same_kind};
 ghost use Rattle.std.specs.Str.{bytes_eq};
@@ -12,7 +14,9 @@ ghost use Rattle.f77_syntax.specs.First.{first_index};
 ghost use Rattle.f77_syntax.specs.Views.{statement_of, text_of};
 ghost use Rattle.f77_structure.specs.LabelPlaces.{place_of};
 ghost use Rattle.f77_jumps.specs.LoopVariables.{last_in, scalar_in, round_at, loop_begun, end_with};
-ghost use Rattle.f77_jumps.specs.Misuses.{is_scalar_by, is_round, sets_round, reads_round, is_wrong_round, misuses_output, misuses_outputs, misuses_input, misuses_inputs, misuses_statement};
+ghost use Rattle.f77_jumps.specs.Misuses.{is_scalar_by, is_round, sets_round, reads_round, is_wrong_round};
+ghost use Rattle.f77_jumps.specs.Misuses.{misuses_output, misuses_outputs, misuses_input, misuses_inputs};
+ghost use Rattle.f77_jumps.specs.Misuses.{misuses_statement};
 ghost use Rattle.f77_jumps.specs.Targets.{later};
 
 use crate::targets::later;
@@ -80,7 +84,8 @@ fn loop_begun(statement: &Stmt77) -> Option<(u32, Name)>
     }
 }
 
-// The names of a program, and the DO variables of the loops that have begun, each with the place at which the last of its
+// The names of a program, and the DO variables of the loops that have begun, each with the place at which the last of
+// its
 // loops ends: at a place that comes no later, it stands round it.
 #[derive(Drop)]
 struct LoopVariables {
@@ -107,7 +112,8 @@ impl LoopVariables {
 
     fn put(&mut self, name: Name, end: usize) -> Result<(), Memory>
         ensures names { OnOk result (self.new.names ≡ self.old.names) }
-        ensures lasts { OnOk result ((x : List ℕ) → last_in self.new x ≡ (if bytes_eq name x then Some end else last_in self.old x)) }
+        ensures lasts { OnOk result ((x : List ℕ)
+            → last_in self.new x ≡ (if bytes_eq name x then Some end else last_in self.old x)) }
     {
         self.lasts.insert(name, end)?;
         Ok(())
@@ -117,7 +123,8 @@ impl LoopVariables {
     #[tactic(auto, using(crate::proofs::Lasts::last_laws))]
     fn begin(&mut self, name: Name, end: Option<usize>) -> Result<(), Memory>
         ensures names { OnOk result (self.new.names ≡ self.old.names) }
-        ensures lasts { OnOk result ((x : List ℕ) → last_in self.new x ≡ later (last_in self.old x) (if bytes_eq x name then end else None)) }
+        ensures lasts { OnOk result ((x : List ℕ)
+            → last_in self.new x ≡ later (last_in self.old x) (if bytes_eq x name then end else None)) }
     {
         if let Some(end) = later(self.last(name), end) {
             self.put(name, end)?;

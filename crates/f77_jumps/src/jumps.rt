@@ -29,7 +29,8 @@ impl LabelTargets {
     }
 }
 
-/// The place of the first statement with a GO TO that goes backwards, into a block or loop, or to a statement that no GO TO leads to.
+/// The place of the first statement with a GO TO that goes backwards, into a block or loop, or to a statement that no
+/// GO TO leads to.
 pub fn wrong_jump(alloc: Global, text: &[Labelled]) -> Result<Option<usize>, Memory>
     ensures { IfOk result (λ place. place ≡ first_index has_wrong_jump (text_of text.now)) }
 {

@@ -5,7 +5,8 @@ ghost use Rattle.f77_structure.specs.LabelPlaces.{place_of};
 ghost use Rattle.f77_structure.specs.Openings.{first_of, tail_of, is_behind};
 ghost use Rattle.f77_syntax.specs.Views.{text_of};
 ghost use Rattle.f77_jumps.specs.LabelTargets.{target_in};
-ghost use Rattle.f77_jumps.specs.Targets.{arms_in, next_arms, later, is_no_target_form, targets_of, refuses, leads_wrongly_to};
+ghost use Rattle.f77_jumps.specs.Targets.{arms_in, next_arms, later, is_no_target_form, targets_of, refuses};
+ghost use Rattle.f77_jumps.specs.Targets.{leads_wrongly_to};
 
 use f77_structure::{Form, LabelPlaces, Openings, place_under};
 use fv_tree::Memory;
@@ -164,7 +165,8 @@ impl LabelTargets {
 
     /// Lets the label stand at this, and no more at what it stood at.
     pub fn put(&mut self, label: Option<u32>, target: Target) -> Result<(), Memory>
-        ensures { OnOk result ((n : ℕ) → target_in self.new n ≡ (if is_label n label then Some target else target_in self.old n)) }
+        ensures { OnOk result ((n : ℕ)
+            → target_in self.new n ≡ (if is_label n label then Some target else target_in self.old n)) }
     {
         if let Some(label) = label {
             self.targets.insert(label, target)?;

@@ -1,7 +1,8 @@
 -- Forms that are left out: arithmetic IF, computed and assigned GO TO.
 use Rattle.std.specs.Prelude.{ℕ, ◌≡◌, Bool, true, false, ◌==◌, List, [], ◌∷◌, ◌++◌}
 use Rattle.f77_grammar.specs.expressions.Squeezing.{Symbol, Char}
-use Rattle.f77_grammar.specs.statements.Recognition.{AreLabels, IsNothing, IsArithmeticIf, IsComputedGoTo, IsAssignedGoTo}
+use Rattle.f77_grammar.specs.statements.Recognition.{AreLabels, IsNothing, IsArithmeticIf, IsComputedGoTo}
+use Rattle.f77_grammar.specs.statements.Recognition.{IsAssignedGoTo}
 
 pub record AreThreeLabels (text : List Symbol) : Type 0 where
   pub first : List ℕ

@@ -23,7 +23,8 @@ has_comma_by Closing s more (suc opened) equals = more opened equals
 has_comma_by Neither s more zero equals = (equals && character_is 44 s) || more zero (equals_of equals s)
 has_comma_by Neither s more (suc opened) equals = more (suc opened) equals
 
--- a comma stands outside parentheses, behind an equals sign that does; a closing parenthesis without partner counts nothing
+-- a comma stands outside parentheses, behind an equals sign that does; a closing parenthesis without partner counts
+-- nothing
 abbrev pub has_comma_outside : List Symbol → ℕ → Bool → Bool
 has_comma_outside [] opened equals = false
 has_comma_outside (s ∷ ss) opened equals = has_comma_by (bracket_of s) s (has_comma_outside ss) opened equals

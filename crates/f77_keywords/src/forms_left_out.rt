@@ -1,4 +1,5 @@
-//! Forms that are left out of the profile: arithmetic IF, computed GO TO and assigned GO TO (ANSI X3.9-1978, sections 11.2 to 11.4).
+//! Forms that are left out of the profile: arithmetic IF, computed GO TO and assigned GO TO (ANSI X3.9-1978, sections
+//! 11.2 to 11.4).
 ghost use Rattle.std.specs.Prelude.{◌≡◌, ℕ, Some, IfSome, IsTrue, ◌↔◌};
 ghost use Rattle.f77_grammar.specs.statements.Recognition.{IsArithmeticIf, IsComputedGoTo, IsAssignedGoTo};
 ghost use Rattle.f77_expr.specs.Symbols.{symbols_of};

@@ -31,10 +31,12 @@ fn next_letter_or_digit(text: &[Symbol]) -> Option<(u8, &[Symbol])>
 
 const LABEL: usize = 5;
 
-/// The number of the label at the front, and what follows it. A label is 1 to 5 digits, as many as there are: none where six follow one another.
+/// The number of the label at the front, and what follows it. A label is 1 to 5 digits, as many as there are: none
+/// where six follow one another.
 pub fn label(text: &[Symbol]) -> Option<(u32, &[Symbol])>
     ensures found { IfSome result (λ r. IsLabelled (symbols_of text.now) r.0 (symbols_of r.1.now)) }
-    ensures only { (number : ℕ) (rest : List squeezing.Symbol) → IsLabelled (symbols_of text.now) number rest → GivesLabel result number rest }
+    ensures only { (number : ℕ) (rest : List squeezing.Symbol) → IsLabelled (symbols_of text.now) number rest
+        → GivesLabel result number rest }
 {
     let mut rest = text;
     let mut number: u32 = 0;
@@ -78,7 +80,8 @@ pub(crate) fn behind_name(text: &[Symbol]) -> Option<&[Symbol]>
 // How many labels follow the one at the front, with a comma before each, and what follows them all.
 pub(crate) fn labels(text: &[Symbol]) -> Option<(usize, &[Symbol])>
     ensures found { IfSome result (λ r. IsLabelList (symbols_of text.now) r.0 (symbols_of r.1.now)) }
-    ensures only { (others : ℕ) (rest : List squeezing.Symbol) → IsLabelList (symbols_of text.now) others rest → GivesLabels result others rest }
+    ensures only { (others : ℕ) (rest : List squeezing.Symbol) → IsLabelList (symbols_of text.now) others rest
+        → GivesLabels result others rest }
 {
     let (_, mut rest) = label(text)?;
     let mut others: usize = 0;

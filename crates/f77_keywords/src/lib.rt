@@ -1,7 +1,9 @@
 //! How a statement of FORTRAN 77 is recognised (ANSI X3.9-1978, sections 3 and 7 to 12).
 //!
-//! A statement that begins with IF( whose matching parenthesis is followed by a letter is a block IF or a logical IF. Any other with an
-//! equals sign outside parentheses is a DO, where a comma outside parentheses comes after the sign, or else an assignment. What is left begins with its keyword.
+//! A statement that begins with IF( whose matching parenthesis is followed by a letter is a block IF or a logical IF.
+//! Any other with an
+//! equals sign outside parentheses is a DO, where a comma outside parentheses comes after the sign, or else an
+//! assignment. What is left begins with its keyword.
 #![tactic(auto)]
 
 mod conditions;

@@ -7,7 +7,8 @@ ghost use Rattle.f77_keywords.specs.Outside.{has_comma_outside, character_is, eq
 use crate::parentheses::Bracket;
 use f77_expr::Symbol;
 
-/// Whether an equals sign stands outside parentheses, and whether a comma outside parentheses comes after one. A closing parenthesis
+/// Whether an equals sign stands outside parentheses, and whether a comma outside parentheses comes after one. A
+/// closing parenthesis
 /// without partner counts nothing.
 #[derive(Clone, Copy, Debug, PartialEq, Eq)]
 pub struct Outside {

@@ -117,7 +117,8 @@ fn is_then(text: &[Symbol]) -> bool
     }
 }
 
-/// The number of the word that is left out of the profile: the one with which the text begins, or that its form has. Of a logical IF it's that of its inner statement.
+/// The number of the word that is left out of the profile: the one with which the text begins, or that its form has. Of
+/// a logical IF it's that of its inner statement.
 pub fn word_left_out(text: &[Symbol]) -> Option<u8>
     ensures found { IfSome result (λ word. HasWord (symbols_of text.now) word) }
     ensures only { (word : ℕ) → HasWord (symbols_of text.now) word → result ≡ Some word }

@@ -12,7 +12,8 @@ use std::alloc::Global;
 
 /// The check of a program's kinds.
 ///
-/// What a name is comes from the table `names`. The contracts speak of `uses`, all uses of names in the program, from which the table was made.
+/// What a name is comes from the table `names`. The contracts speak of `uses`, all uses of names in the program, from
+/// which the table was made.
 #[derive(Drop)]
 pub struct KindCheck {
     pub names: Names,

@@ -1,4 +1,5 @@
-//! The kinds of operands and of results, and the numbers of arguments (ANSI X3.9-1978, sections 6.1, 6.3, 6.4 and 15.10).
+//! The kinds of operands and of results, and the numbers of arguments (ANSI X3.9-1978, sections 6.1, 6.3, 6.4 and
+//! 15.10).
 ghost use Rattle.std.specs.Prelude.{◌≡◌, ◌&&◌, not};
 ghost use Rattle.fv_meaning.specs.Names as names;
 ghost use Rattle.fv_meaning.specs.Typed77 as typed;

@@ -34,7 +34,8 @@ impl KindCheck {
     }
 }
 
-/// The place of the first statement in which a kind doesn't suit, or a function is called whose Fortran 90 name a variable hides.
+/// The place of the first statement in which a kind doesn't suit, or a function is called whose Fortran 90 name a
+/// variable hides.
 pub fn unsuited_kind(alloc: Global, text: &[Labelled]) -> Result<Option<usize>, Memory>
     ensures { IfOk result (λ place. place ≡ first_index (kinds.has_unsuited_kind (plain.uses_in_text (text_of text.now))) (text_of text.now)) }
 {

@@ -23,6 +23,7 @@ RefusalIsFirst = (x : Labelled) (xs : List Labelled) (r : Refusal) → AreRising
 
 -- A text is refused by the cause that comes first, each where it holds first
 abbrev pub FirstIsRefused : Type 0
-FirstIsRefused = (x : Labelled) (xs : List Labelled) (c : Cause) (line : ℕ) → AreRising (x ∷ xs) → HoldsFirst (x ∷ xs) c line
+FirstIsRefused = (x : Labelled) (xs : List Labelled) (c : Cause) (line : ℕ) → AreRising (x ∷ xs)
+    → HoldsFirst (x ∷ xs) c line
     → ((d : Cause) (k : ℕ) → HoldsFirst (x ∷ xs) d k → comes_before (finding d k) (finding c line) ≡ false)
     → RefusedStatements (x ∷ xs) (finding c line)

@@ -1,4 +1,5 @@
--- What is read of a text is a program of the profile, where its statements are such as cards give; and what is read as an expression is.
+-- What is read of a text is a program of the profile, where its statements are such as cards give; and what is read as
+-- an expression is.
 use Rattle.std.specs.Prelude.{ℕ, ◌*◌, ◌^◌, ◌<◌, ◌≤◌, List, length}
 use Rattle.std.specs.List.{AllByRecursion}
 use Rattle.fv_tree.specs.Plain.{Expression, Program}
@@ -14,10 +15,12 @@ HasFewStatements text = 3 * length text < 2 ^ 31
 
 -- Where lines rise there are no more statements than lines
 abbrev pub RisingLinesAreFew : Type 0
-RisingLinesAreFew = (text : List Labelled) (n : ℕ) → AreRising text → AllByRecursion (λ (x : Labelled). x.line < n) text → length text ≤ n
+RisingLinesAreFew = (text : List Labelled) (n : ℕ) → AreRising text → AllByRecursion (λ (x : Labelled). x.line < n) text
+    → length text ≤ n
 
 abbrev pub ReadTextIsProgram : Type 0
-ReadTextIsProgram = (text : List Labelled) (p : Program) → ReadsStatements text p → AreSourceStatements text → HasFewStatements text → IsProgram77 p
+ReadTextIsProgram = (text : List Labelled) (p : Program) → ReadsStatements text p → AreSourceStatements text
+    → HasFewStatements text → IsProgram77 p
 
 abbrev pub ReadExpressionIsSource : Type 0
 ReadExpressionIsSource = (chars : List ℕ) (e : Expression) → ReadsAs chars e → IsShallow e

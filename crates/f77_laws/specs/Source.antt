@@ -1,8 +1,11 @@
--- Statements as cards give them, each looked at alone (ANSI X3.9-1978, sections 2.2, 3.2 to 3.4, 4.4, 5.1, 6, 11 and 12).
+-- Statements as cards give them, each looked at alone (ANSI X3.9-1978, sections 2.2, 3.2 to 3.4, 4.4, 5.1, 6, 11 and
+-- 12).
 use Rattle.std.specs.Prelude.{ℕ, ◌<◌, ◌≤◌, IsTrue, IfSome, List, [], ◌∷◌, length}
 use Rattle.std.specs.List.{AllByRecursion}
 use Rattle.fv_tree.specs.Plain.{Expression, Named, Item, Single, Constant, ImpliedDo, Items, no_items, item}
-use Rattle.f77_grammar.specs.Statement77.{Entity, NamedConstant, Statement77, Labelled, Program, Declare, Dimension, Constants, Assign, Go, Test, If, ElseIf, Else, EndIf, Do, Continue, Stop, Read, Print, End}
+use Rattle.f77_grammar.specs.Statement77.{Entity, NamedConstant, Statement77, Labelled, Program, Declare, Dimension}
+use Rattle.f77_grammar.specs.Statement77.{Constants, Assign, Go, Test, If, ElseIf, Else, EndIf, Do, Continue, Stop}
+use Rattle.f77_grammar.specs.Statement77.{Read, Print, End}
 use Rattle.f77_grammar.specs.expressions.Printing.{IsSource}
 use Rattle.fv_meaning.specs.Names.{IsSymbolicName}
 use Rattle.fv_meaning.specs.Typed77.{depth_of, depth_of_items, has_item, IsText}
@@ -22,7 +25,8 @@ abbrev mutual
   pub IsSourceOutput : Item → Type 0
   IsSourceOutput (Single e) = IsSource e
   IsSourceOutput (Constant t) = IsText t
-  IsSourceOutput (ImpliedDo is x a b c) = IsTrue (has_item is) × IsSymbolicName x × IsSource a × IsSource b × IsSource c × AreSourceOutputs is
+  IsSourceOutput (ImpliedDo is x a b c) = IsTrue (has_item is) × IsSymbolicName x × IsSource a × IsSource b × IsSource c
+      × AreSourceOutputs is
 
   pub AreSourceOutputs : Items → Type 0
   AreSourceOutputs no_items = Unit {0}
@@ -32,7 +36,8 @@ abbrev mutual
   pub IsSourceInput : Item → Type 0
   IsSourceInput (Single e) = IsSourceVariable e
   IsSourceInput (Constant t) = ⊥
-  IsSourceInput (ImpliedDo is x a b c) = IsTrue (has_item is) × IsSymbolicName x × IsSource a × IsSource b × IsSource c × AreSourceInputs is
+  IsSourceInput (ImpliedDo is x a b c) = IsTrue (has_item is) × IsSymbolicName x × IsSource a × IsSource b × IsSource c
+      × AreSourceInputs is
 
   pub AreSourceInputs : Items → Type 0
   AreSourceInputs no_items = Unit {0}

@@ -14,7 +14,8 @@ abbrev pub AreCardCharacters : List ℕ → Type 0
 AreCardCharacters chars = AllByRecursion (λ c. (32 ≤ c) × (c ≤ 126)) chars
 
 abbrev pub ReadStatementIsSource : Type 0
-ReadStatementIsSource = (chars : List ℕ) (s : Statement77) → AreCardCharacters chars → ReadsStatement chars s → IsSourceStatement s
+ReadStatementIsSource = (chars : List ℕ) (s : Statement77) → AreCardCharacters chars → ReadsStatement chars s
+    → IsSourceStatement s
 
 -- ---- cards
 
@@ -44,4 +45,5 @@ pub record AreSource (text : List Labelled) : Type 0 where
   pub few : HasFewStatements text
 
 abbrev pub ReadCardsAreSource : Type 0
-ReadCardsAreSource = (text : List ℕ) (cards : List PlainCard) (ss : List Labelled) → ReadsCards text cards → AreReadFrom cards ss → AreSource ss
+ReadCardsAreSource = (text : List ℕ) (cards : List PlainCard) (ss : List Labelled) → ReadsCards text cards
+    → AreReadFrom cards ss → AreSource ss

@@ -1,4 +1,5 @@
-//! What is read of a text in FORTRAN 77 is a program of the profile, and a refusal has the line at which its cause holds first.
+//! What is read of a text in FORTRAN 77 is a program of the profile, and a refusal has the line at which its cause
+//! holds first.
 #![tactic(auto)]
 
 mod laws;

@@ -1,5 +1,6 @@
 -- What the code holds while it reads a list, as the reader's values.
-use Rattle.std.specs.Prelude.{ℕ, Bool, true, false, ◌≡◌, ◌<◌, length, List, ◌∷◌, map, reverse, Option, Some, None, Result, Ok, Err}
+use Rattle.std.specs.Prelude.{ℕ, Bool, true, false, ◌≡◌, ◌<◌, length, List, ◌∷◌, map, reverse, Option, Some, None}
+use Rattle.std.specs.Prelude.{Result, Ok, Err}
 use Rattle.std.specs.Borrow.{Bor}
 use Rattle.fv_tree.specs.View.{expression_of, item_of}
 use Rattle.f77_grammar.specs.expressions.Words as words

@@ -5,7 +5,8 @@ ghost use Rattle.f77_grammar.specs.expressions.Words as words;
 ghost use Rattle.f77_expr.specs.Reader as expressions;
 ghost use Rattle.f77_expr.specs.Views.{words_of, operand_of};
 ghost use Rattle.f77_lists.specs.Reader as reader;
-ghost use Rattle.f77_lists.specs.Views.{direction_of, stack, state_of, frame_of, Leaves, Turns, Ends, Opens, IsShorter, Runs};
+ghost use Rattle.f77_lists.specs.Views.{direction_of, stack, state_of, frame_of, Leaves, Turns, Ends, Opens, IsShorter};
+ghost use Rattle.f77_lists.specs.Views.{Runs};
 
 use crate::bounds::{control, read_bounds};
 use crate::lists::{Direction, ItemList};
@@ -90,7 +91,8 @@ fn may_stand(direction: Direction, tokens: &[Token], operand: &Operand) -> bool
 #[tactic(auto, using(crate::proofs::Stacks::stacks))]
 fn put(lists: &mut Vec<ItemList>, item: Item, depth: u16) -> Result<(), Stop>
     ensures ok { OnOk result ((ws : List words.Word) → reader.put (item_of item) depth (stack lists.old.items) ws ≡ reader.Go (reader.Done (stack lists.new.items) ws)) }
-    ensures syntax { IsErrOf result Stop.Syntax → (ws : List words.Word) → reader.put (item_of item) depth (stack lists.old.items) ws ≡ reader.Fail }
+    ensures syntax { IsErrOf result Stop.Syntax → (ws : List words.Word)
+        → reader.put (item_of item) depth (stack lists.old.items) ws ≡ reader.Fail }
 {
     let Some(list) = lists.pop() else {
         return Err(Stop::Syntax);
@@ -133,7 +135,8 @@ fn text(
     text: &Seq<u8>,
 ) -> Result<(), Stop>
     ensures ok { OnOk result ((ws : List words.Word) → reader.text (direction_of direction) text.now (stack lists.old.items) ws ≡ reader.Go (reader.Done (stack lists.new.items) ws)) }
-    ensures syntax { IsErrOf result Stop.Syntax → (ws : List words.Word) → reader.text (direction_of direction) text.now (stack lists.old.items) ws ≡ reader.Fail }
+    ensures syntax { IsErrOf result Stop.Syntax → (ws : List words.Word)
+        → reader.text (direction_of direction) text.now (stack lists.old.items) ws ≡ reader.Fail }
 {
     match direction {
         Direction::Output => put(lists, Item::Text(copied(alloc, text)?), 0),

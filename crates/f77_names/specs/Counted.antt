@@ -24,4 +24,5 @@ pub record Holds (counted : Counted) (xs : List (List ℕ)) : Type 0 where
 
 -- the variables and symbolic constants among these uses are counted too
 abbrev pub Counts : Names → Counted → Counted → List Use → Type 0
-Counts names old new vs = (us : List Use) (xs : List (List ℕ)) → AreNamesOf names us → Holds old xs → Holds new (counted_in us vs ++ xs)
+Counts names old new vs = (us : List Use) (xs : List (List ℕ)) → AreNamesOf names us → Holds old xs
+    → Holds new (counted_in us vs ++ xs)

@@ -1,11 +1,13 @@
 -- What the uses of a name say of it.
-use Rattle.std.specs.Prelude.{◌≡◌, ℕ, zero, suc, Bool, true, false, not, ◌&&◌, ◌||◌, Option, None, Some, is_some, is_none, if◌then◌else◌, List, [], ◌∷◌}
+use Rattle.std.specs.Prelude.{◌≡◌, ℕ, zero, suc, Bool, true, false, not, ◌&&◌, ◌||◌, Option, None, Some, is_some}
+use Rattle.std.specs.Prelude.{is_none, if◌then◌else◌, List, [], ◌∷◌}
 use Rattle.std.specs.Option.{unwrap_or}
 use Rattle.std.specs.Str.{bytes_eq}
 use Rattle.indexmap.specs.IndexMap.{get}
 use Rattle.fv_tree.specs.declared.ops.Kind.{Kind}
 use Rattle.fv_tree.specs.declared.ops.Fun.{Fun}
-use Rattle.f77_grammar.specs.program.Uses.{Role, Title, Typed, Bounded, Defined, Valued, Target, Counter, Use, is_title, is_function, or_integer}
+use Rattle.f77_grammar.specs.program.Uses.{Role, Title, Typed, Bounded, Defined, Valued, Target, Counter, Use, is_title}
+use Rattle.f77_grammar.specs.program.Uses.{is_function, or_integer}
 use Rattle.fv_meaning.specs.Names.{is_implicit_integer, function_named}
 use Rattle.f77_names.specs.declared.names.Facts.{Facts}
 use Rattle.f77_names.specs.declared.names.Names.{Names}

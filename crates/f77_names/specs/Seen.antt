@@ -1,11 +1,15 @@
--- Declarations, by what is known of the names: of all names of the program, and of those that the statements before have.
-use Rattle.std.specs.Prelude.{◌≡◌, ℕ, zero, suc, ◌==◌, Bool, true, false, not, ◌&&◌, ◌||◌, is_some, is_none, if◌then◌else◌, List, ◌++◌, map, reverse, take}
+-- Declarations, by what is known of the names: of all names of the program, and of those that the statements before
+-- have.
+use Rattle.std.specs.Prelude.{◌≡◌, ℕ, zero, suc, ◌==◌, Bool, true, false, not, ◌&&◌, ◌||◌, is_some, is_none}
+use Rattle.std.specs.Prelude.{if◌then◌else◌, List, ◌++◌, map, reverse, take}
 use Rattle.std.specs.List.{list_any}
 use Rattle.fv_tree.specs.declared.exprs.Expr.{Expr}
 use Rattle.f77_grammar.specs.Statement77.{Statement77}
 use Rattle.fv_meaning.specs.Names.{is_among, function_named}
-use Rattle.f77_grammar.specs.program.Uses.{Role, Title, Typed, Bounded, Defined, Valued, Target, Counter, Use, uses_of, is_title, is_typed, is_defined, names_that, stands}
-use Rattle.f77_grammar.specs.program.Declarations.{has_repeat, is_array_or_constant, is_listed, has_unknown_constant, has_misused_name}
+use Rattle.f77_grammar.specs.program.Uses.{Role, Title, Typed, Bounded, Defined, Valued, Target, Counter, Use, uses_of}
+use Rattle.f77_grammar.specs.program.Uses.{is_title, is_typed, is_defined, names_that, stands}
+use Rattle.f77_grammar.specs.program.Declarations.{has_repeat, is_array_or_constant, is_listed, has_unknown_constant}
+use Rattle.f77_grammar.specs.program.Declarations.{has_misused_name}
 use Rattle.f77_names.specs.declared.names.Facts.{Facts}
 use Rattle.f77_names.specs.declared.names.Names.{Names}
 use Rattle.f77_names.specs.declared.uses.Use.{Use as Use'}
@@ -42,7 +46,8 @@ defined_after constants i defined = reverse (map (λ (d : List ℕ × Expr). d.0
 -- one of these names is declared again, behind what stands before
 abbrev pub declares_again : List Use → List Use → Bool
 declares_again seen us =
-    has_repeat (names_that is_typed seen) (names_that is_typed us) || has_repeat (names_that is_array_or_constant seen) (names_that is_array_or_constant us)
+    has_repeat (names_that is_typed seen) (names_that is_typed us)
+        || has_repeat (names_that is_array_or_constant seen) (names_that is_array_or_constant us)
 
 abbrev pub is_again_by : Facts → Role → Bool
 is_again_by f (Typed k) = is_typed_by f
@@ -62,7 +67,8 @@ abbrev pub is_constant_in : Names → Names → List ℕ → Bool
 is_constant_in before own x = (facts_in own x).constant || (facts_in before x).constant
 
 abbrev pub is_unknown_use : Names → Names → Use → Bool
-is_unknown_use before own u = not (is_constant_in before own u.name) || (is_listed u.role && is_none (function_named u.name))
+is_unknown_use before own u = not (is_constant_in before own u.name)
+    || (is_listed u.role && is_none (function_named u.name))
 
 -- exactly these names are defined
 abbrev pub Define : Names → Names → List (List ℕ) → Type 0
@@ -100,9 +106,11 @@ is_wrong_after us seen s =
 
 -- what the check of a list of uses gives, with the names before and after it
 abbrev pub Declares : Names → Names → List Use → Bool → Type 0
-Declares old new us again = (seen : List Use) → HaveSeen old seen → (again ≡ declares_again seen us) × (again ≡ false → HaveSeen new (us ++ seen))
+Declares old new us again = (seen : List Use) → HaveSeen old seen → (again ≡ declares_again seen us)
+    × (again ≡ false → HaveSeen new (us ++ seen))
 
 -- what the check of a statement gives, with the names before and after it
 abbrev pub Passes : Names → Names → Names → Statement77 → Bool → Type 0
 Passes names old new s wrong =
-    (us seen : List Use) → AreNamesOf names us → HaveSeen old seen → (wrong ≡ is_wrong_after us seen s) × (wrong ≡ false → HaveSeen new (uses_of s ++ seen))
+    (us seen : List Use) → AreNamesOf names us → HaveSeen old seen → (wrong ≡ is_wrong_after us seen s)
+        × (wrong ≡ false → HaveSeen new (uses_of s ++ seen))

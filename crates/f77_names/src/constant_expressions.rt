@@ -1,7 +1,9 @@
-//! Constant expressions: their names are symbolic constants that are defined before (ANSI X3.9-1978, sections 5.1, 6.7 and 8.6).
+//! Constant expressions: their names are symbolic constants that are defined before (ANSI X3.9-1978, sections 5.1, 6.7
+//! and 8.6).
 ghost use Rattle.std.specs.Prelude.{◌≡◌, ◌++◌, List, ℕ, IfOk, OnOk, map};
 ghost use Rattle.std.specs.List.{list_any};
-ghost use Rattle.f77_grammar.specs.program.Declarations.{is_listed, has_unknown, bounds_of_entities, defines_from_unknown, has_unknown_constant};
+ghost use Rattle.f77_grammar.specs.program.Declarations.{is_listed, has_unknown, bounds_of_entities};
+ghost use Rattle.f77_grammar.specs.program.Declarations.{defines_from_unknown, has_unknown_constant};
 ghost use Rattle.f77_syntax.specs.Views.{statement_of, entity_of, constant_of};
 ghost use Rattle.f77_names.specs.Seen.{is_unknown_use, AreDefined};
 ghost use Rattle.f77_names.specs.UsesView.{role_of, plain_use, listed};
@@ -44,7 +46,8 @@ impl Uses {
 }
 
 impl Names {
-    // In a constant expression the name is no symbolic constant defined before or, by `own`, earlier in the same statement.
+    // In a constant expression the name is no symbolic constant defined before or, by `own`, earlier in the same
+    // statement.
     fn is_unknown(&self, own: &Names, used: &Use) -> bool
         ensures { result ≡ is_unknown_use self.now own.now (plain_use used.now) }
     {
@@ -69,7 +72,8 @@ impl Names {
         alloc: Global,
         constants: &[(Name, Expr)],
     ) -> Result<bool, Memory>
-        ensures { IfOk result (λ unknown. (defined : List (List ℕ)) → AreDefined self.now defined → unknown ≡ defines_from_unknown defined (map constant_of constants.now)) }
+        ensures { IfOk result (λ unknown. (defined : List (List ℕ)) → AreDefined self.now defined
+            → unknown ≡ defines_from_unknown defined (map constant_of constants.now)) }
     {
         let mut own = Names::new(alloc);
         for constant in constants {
@@ -85,7 +89,8 @@ impl Names {
 
     // A bound has a name that isn't defined before.
     fn bounds_from_unknown(&self, alloc: Global, entities: &[Entity]) -> Result<bool, Memory>
-        ensures { IfOk result (λ unknown. (defined : List (List ℕ)) → AreDefined self.now defined → unknown ≡ has_unknown defined (bounds_of_entities (map entity_of entities.now))) }
+        ensures { IfOk result (λ unknown. (defined : List (List ℕ)) → AreDefined self.now defined
+            → unknown ≡ has_unknown defined (bounds_of_entities (map entity_of entities.now))) }
     {
         let own = Names::new(alloc);
         let mut bounds = Uses::new(alloc);
@@ -99,7 +104,8 @@ impl Names {
         alloc: Global,
         statement: &Stmt77,
     ) -> Result<bool, Memory>
-        ensures { IfOk result (λ unknown. (defined : List (List ℕ)) → AreDefined self.now defined → unknown ≡ has_unknown_constant defined (statement_of statement.now)) }
+        ensures { IfOk result (λ unknown. (defined : List (List ℕ)) → AreDefined self.now defined
+            → unknown ≡ has_unknown_constant defined (statement_of statement.now)) }
     {
         let in_bounds = self.bounds_from_unknown(alloc, entities(statement))?;
         let in_values = self.defines_from_unknown(alloc, definitions(statement))?;

@@ -1,4 +1,5 @@
-//! Names declared twice or as two things, and names that stand where what they are can't (ANSI X3.9-1978, sections 4.1.2, 5.1, 6.7, 8.1, 8.4, 8.6 and 18.2).
+//! Names declared twice or as two things, and names that stand where what they are can't (ANSI X3.9-1978, sections
+//! 4.1.2, 5.1, 6.7, 8.1, 8.4, 8.6 and 18.2).
 ghost use Rattle.std.specs.Prelude.{◌≡◌, ◌&&◌, not, IfOk, map};
 ghost use Rattle.std.specs.List.{list_any};
 ghost use Rattle.f77_grammar.specs.program.Text.{is_declaration};
@@ -6,7 +7,8 @@ ghost use Rattle.f77_grammar.specs.program.Uses as plain;
 ghost use Rattle.f77_grammar.specs.program.Declarations.{is_declared_wrongly};
 ghost use Rattle.f77_syntax.specs.First.{first_index};
 ghost use Rattle.f77_syntax.specs.Views.{text_of, statement_of};
-ghost use Rattle.f77_names.specs.Seen.{is_again_by, is_title_use, suits_list_by, is_misused_by, is_misused_use, Declares, Passes};
+ghost use Rattle.f77_names.specs.Seen.{is_again_by, is_title_use, suits_list_by, is_misused_by, is_misused_use};
+ghost use Rattle.f77_names.specs.Seen.{Declares, Passes};
 ghost use Rattle.f77_names.specs.UsesView.{role_of, plain_use};
 
 use crate::functions::function_named;
@@ -137,7 +139,8 @@ impl Names {
         Ok(false)
     }
 
-    // The statement is wrong, where `self` has the names of the statements before it and `names` those of the whole program.
+    // The statement is wrong, where `self` has the names of the statements before it and `names` those of the whole
+    // program.
     // Where it isn't, its names are noted.
     fn is_wrong(&mut self, alloc: Global, names: &Names, statement: &Stmt77) -> Result<bool, Memory>
         ensures { IfOk result (Passes names.now self.old self.new (statement_of statement.now)) }
@@ -158,7 +161,8 @@ impl Names {
     }
 }
 
-/// The place of the first statement that declares a name again or as two things, has the program's name as another name, defines by a name that isn't defined
+/// The place of the first statement that declares a name again or as two things, has the program's name as another
+/// name, defines by a name that isn't defined
 /// before it, or has a name that doesn't suit what it is declared as.
 pub fn wrong_declaration(alloc: Global, text: &[Labelled]) -> Result<Option<usize>, Memory>
     ensures { IfOk result (λ place. place ≡ first_index (is_declared_wrongly (plain.uses_in_text (text_of text.now))) (text_of text.now)) }

@@ -1,4 +1,5 @@
-//! The names of a FORTRAN 77 program: how they stand in it, what they are, and checks of both (ANSI X3.9-1978, sections 2.2, 4.1.2, 8 and 18).
+//! The names of a FORTRAN 77 program: how they stand in it, what they are, and checks of both (ANSI X3.9-1978, sections
+//! 2.2, 4.1.2, 8 and 18).
 //!
 //! Each check gives the first statement at which its cause of refusal holds, or none where it holds nowhere.
 #![tactic(auto)]

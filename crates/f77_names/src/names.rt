@@ -4,7 +4,9 @@ ghost use Rattle.std.specs.Str.{bytes_eq};
 ghost use Rattle.f77_names.specs.UsesView.{role_of, plain_use};
 ghost use Rattle.f77_grammar.specs.program.Uses as plain;
 ghost use Rattle.f77_syntax.specs.Views.{text_of};
-ghost use Rattle.f77_names.specs.NameFacts.{nothing_known, facts_with, facts_in, AreNamesOf, is_variable_by, is_array_by, is_function_by, kind_by, dimensions_by, function_by, function_of};
+ghost use Rattle.f77_names.specs.NameFacts.{nothing_known, facts_with, facts_in, AreNamesOf, is_variable_by};
+ghost use Rattle.f77_names.specs.NameFacts.{is_array_by, is_function_by, kind_by, dimensions_by, function_by};
+ghost use Rattle.f77_names.specs.NameFacts.{function_of};
 
 use crate::functions::function_named;
 use crate::statement_uses::uses_in_text;
@@ -155,7 +157,8 @@ impl Names {
         }
     }
 
-    /// The name is a variable: it has a type or bounds, or stands without a list in parentheses, and is no symbolic constant.
+    /// The name is a variable: it has a type or bounds, or stands without a list in parentheses, and is no symbolic
+    /// constant.
     pub fn is_variable(&self, name: Name) -> bool
         ensures known { result ≡ is_variable_by (facts_in self.now name) }
         ensures exact { (us : List plain.Use) → AreNamesOf self.now us → result ≡ plain.is_variable us name }

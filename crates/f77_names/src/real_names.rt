@@ -1,4 +1,5 @@
-//! Names that would be REAL: variables and symbolic constants without type that don't begin with I to N (ANSI X3.9-1978, section 4.1.2).
+//! Names that would be REAL: variables and symbolic constants without type that don't begin with I to N (ANSI
+//! X3.9-1978, section 4.1.2).
 ghost use Rattle.std.specs.Prelude.{◌≡◌, IfOk, map};
 ghost use Rattle.std.specs.List.{list_any};
 ghost use Rattle.fv_meaning.specs.Names.{is_implicit_integer};

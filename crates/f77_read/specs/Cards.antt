@@ -50,7 +50,8 @@ AreReadAlone (card ∷ cards) [] = ⊥
 
 -- no refusal of the card comes before this one
 abbrev pub IsNotBefore : Refusal → PlainCard → Type 0
-IsNotBefore r card = (number word : ℕ) → IsRefusedBy card.chars number word → comes_before (refusal_at card number word) r ≡ false
+IsNotBefore r card = (number word : ℕ) → IsRefusedBy card.chars number word
+    → comes_before (refusal_at card number word) r ≡ false
 
 -- the first of the refusals of cards, which aren't all read
 pub record IsRefusedFirst (cards : List PlainCard) (r : Refusal) : Type 0 where

@@ -32,7 +32,8 @@ fn read_card(alloc: Global, card: &Card) -> Result<Labelled, Refused>
 
 impl Tried {
     fn try_card(&mut self, alloc: Global, card: &Card) -> Result<(), Memory>
-        ensures { (cards : List PlainCard) → IsTried cards self.old → OnOk result (IsTried (cards ++ card_of card.now ∷ []) self.new) }
+        ensures { (cards : List PlainCard) → IsTried cards self.old
+            → OnOk result (IsTried (cards ++ card_of card.now ∷ []) self.new) }
     {
         match read_card(alloc, card) {
             Ok(statement) => self.statements.push(statement)?,

@@ -39,16 +39,19 @@ fn build_cards(alloc: Global, cards: &[Card]) -> Result<Program77, Refused>
 #[tactic(auto, using(crate::proofs::Answers::answer_laws))]
 pub fn build(alloc: Global, cards: &Seq<Card>) -> Result<Program77, Refused>
     ensures ok { IfOk result (λ p. ReadsProgram (map card_of cards.now) (program_of p)) }
-    ensures program { (source : List ℕ) → ReadsCards source (map card_of cards.now) → IfOk result (λ p. IsProgram77 (program_of p)) }
+    ensures program { (source : List ℕ) → ReadsCards source (map card_of cards.now)
+        → IfOk result (λ p. IsProgram77 (program_of p)) }
 
     // From 10 on the numbers are those of findings in the statements, whose order is that of lines.
-    ensures refused { (r : Refusal) → result ≡ Err (Refused.Refusal r) → (10 ≤ r.number → AreRisingCards (map card_of cards.now))
+    ensures refused { (r : Refusal) → result ≡ Err (Refused.Refusal r)
+        → (10 ≤ r.number → AreRisingCards (map card_of cards.now))
         → RefusedProgram (map card_of cards.now) r }
 
     // Cards that are read, or refused, have no other answer, unless memory runs out.
     ensures only_read { (p : Program) → ReadsProgram (map card_of cards.now) p
         → IsOkAnd result (λ built. program_of built ≡ p) ⊎ (result ≡ Err Refused.Memory) }
-    ensures only_refused { (r : Refusal) → RefusedProgram (map card_of cards.now) r → (10 ≤ r.number → AreRisingCards (map card_of cards.now))
+    ensures only_refused { (r : Refusal) → RefusedProgram (map card_of cards.now) r
+        → (10 ≤ r.number → AreRisingCards (map card_of cards.now))
         → (result ≡ Err (Refused.Refusal r)) ⊎ (result ≡ Err Refused.Memory) }
 {
     build_cards(alloc, cards.as_slice())

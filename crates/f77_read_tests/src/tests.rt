@@ -1,4 +1,5 @@
-//! Decks that are read, and the first ones beyond, with the number, the line and the word of their refusal; 0 where a deck is read.
+//! Decks that are read, and the first ones beyond, with the number, the line and the word of their refusal; 0 where a
+//! deck is read.
 use f77_read::read77;
 use fv_tree::Refused;
 use std::alloc::{AllocError, Global};

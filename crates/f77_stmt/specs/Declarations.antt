@@ -7,7 +7,10 @@ use Rattle.fv_tree.specs.View.{expression_of}
 use Rattle.f77_grammar.specs.expressions.Phrases.{Phrase, IsExpression, written, tree, depth}
 use Rattle.f77_grammar.specs.expressions.Words.{Word}
 use Rattle.f77_expr.specs.declared.operands.Operand.{Operand}
-use Rattle.f77_grammar.specs.statements.Forms.{IsList, separated, Entity, Bounded, IsEntity, written_entity, entity_tree, entity_depth, Definition, IsDefinition, written_definition, definition_tree, definition_depth, Bound, IsBound, written_bound, bound_tree, bound_depth}
+use Rattle.f77_grammar.specs.statements.Forms.{IsList, separated, Entity, Bounded, IsEntity, written_entity}
+use Rattle.f77_grammar.specs.statements.Forms.{entity_tree, entity_depth, Definition, IsDefinition, written_definition}
+use Rattle.f77_grammar.specs.statements.Forms.{definition_tree, definition_depth, Bound, IsBound, written_bound}
+use Rattle.f77_grammar.specs.statements.Forms.{bound_tree, bound_depth}
 use Rattle.f77_syntax.specs.Views.{bounds_of}
 use Rattle.fv_tree.specs.declared.exprs.Expr.{Expr}
 use Rattle.f77_stmt.specs.Parts.{capped}

@@ -3,7 +3,9 @@ use Rattle.std.specs.Prelude.{ℕ, ◌≡◌, Bool, true, false, Option, Some, N
 use Rattle.f77_grammar.specs.expressions.Words as words
 use Rattle.f77_grammar.specs.Statement77 as statement
 use Rattle.f77_grammar.specs.expressions.Words.{Word}
-use Rattle.f77_grammar.specs.statements.Forms.{Form, Entity, IsEntity, IsList, separated, deepest, written_entity, entity_tree, entity_depth, Definition, IsDefinition, written_definition, definition_tree, definition_depth}
+use Rattle.f77_grammar.specs.statements.Forms.{Form, Entity, IsEntity, IsList, separated, deepest, written_entity}
+use Rattle.f77_grammar.specs.statements.Forms.{entity_tree, entity_depth, Definition, IsDefinition, written_definition}
+use Rattle.f77_grammar.specs.statements.Forms.{definition_tree, definition_depth}
 use Rattle.f77_stmt.specs.declared.formed.Formed.{Formed}
 use Rattle.f77_stmt.specs.Parts.{capped, IsFormedOf}
 

@@ -8,10 +8,13 @@ use Rattle.f77_grammar.specs.expressions.Squeezing.{Symbol}
 use Rattle.f77_grammar.specs.expressions.Words as words
 use Rattle.f77_grammar.specs.statements.Items.{ItemPhrases, Input, Output, AreItems, written_items}
 use Rattle.f77_grammar.specs.statements.Forms as forms
-use Rattle.f77_grammar.specs.statements.Forms.{Form, IsLabel, Entity, IsEntity, IsBounded, written_entity, Definition, IsDefinition, written_definition, separated, IsList}
+use Rattle.f77_grammar.specs.statements.Forms.{Form, IsLabel, Entity, IsEntity, IsBounded, written_entity, Definition}
+use Rattle.f77_grammar.specs.statements.Forms.{IsDefinition, written_definition, separated, IsList}
 use Rattle.f77_expr.specs.Lexing.{strip}
 use Rattle.f77_stmt.specs.declared.keywords.Keyword.{Keyword}
-use Rattle.f77_stmt.specs.declared.keywords.Keyword.TheVariants.{Program, Integer, Logical, Dimension, Parameter, GoTo, ElseIf, Else, EndIf, Continue, Stop, End, ReadUnit, ReadList, WriteUnit, PrintList}
+use Rattle.f77_stmt.specs.declared.keywords.Keyword.TheVariants.{Program, Integer, Logical, Dimension, Parameter, GoTo}
+use Rattle.f77_stmt.specs.declared.keywords.Keyword.TheVariants.{ElseIf, Else, EndIf, Continue, Stop, End, ReadUnit}
+use Rattle.f77_stmt.specs.declared.keywords.Keyword.TheVariants.{ReadList, WriteUnit, PrintList}
 
 pub record Front : Type 0 where
   pub keyword : Keyword
@@ -54,19 +57,23 @@ abbrev pub IsProgramAfter : List Symbol → Form → Type 0
 IsProgramAfter rest f = (x : List ℕ) × (f ≡ forms.Program x) × Words rest (words.Name x ∷ [])
 
 abbrev pub IsDeclarationAfter : Kind → List Symbol → Form → Type 0
-IsDeclarationAfter k rest f = (es : List Entity) × (f ≡ forms.Declare k es) × Words rest (separated written_entity es) × IsList IsEntity es
+IsDeclarationAfter k rest f = (es : List Entity) × (f ≡ forms.Declare k es) × Words rest (separated written_entity es)
+    × IsList IsEntity es
 
 abbrev pub IsDimensionAfter : List Symbol → Form → Type 0
-IsDimensionAfter rest f = (es : List Entity) × (f ≡ forms.Dimension es) × Words rest (separated written_entity es) × IsList IsBounded es
+IsDimensionAfter rest f = (es : List Entity) × (f ≡ forms.Dimension es) × Words rest (separated written_entity es)
+    × IsList IsBounded es
 
 abbrev pub AreConstantsAfter : List Symbol → Form → Type 0
-AreConstantsAfter rest f = (ds : List Definition) × (f ≡ forms.Constants ds) × Words rest (words.Open ∷ (separated written_definition ds ++ words.Close ∷ [])) × IsList IsDefinition ds
+AreConstantsAfter rest f = (ds : List Definition) × (f ≡ forms.Constants ds)
+    × Words rest (words.Open ∷ (separated written_definition ds ++ words.Close ∷ [])) × IsList IsDefinition ds
 
 abbrev pub IsGoToAfter : List Symbol → Form → Type 0
 IsGoToAfter rest f = (label : List ℕ) × (f ≡ forms.Go label) × (rest ≡ chars label) × IsLabel label
 
 abbrev pub IsElseIfAfter : List Symbol → Form → Type 0
-IsElseIfAfter rest f = (p : Phrase) × (e : List Symbol) × (f ≡ forms.ElseIf p) × (rest ≡ e ++ chars (codes ")THEN")) × Words e (written p) × IsExpression p
+IsElseIfAfter rest f = (p : Phrase) × (e : List Symbol) × (f ≡ forms.ElseIf p) × (rest ≡ e ++ chars (codes ")THEN"))
+    × Words e (written p) × IsExpression p
 
 abbrev pub IsNothingAfter : Form → List Symbol → Form → Type 0
 IsNothingAfter g rest f = (f ≡ g) × (rest ≡ [])

@@ -20,5 +20,6 @@ is_inner s = false
 -- The text is so written, and no condition stands before its statement.
 pub data IsUnconditional (text : List Symbol) : Form → Type 0 where
   Assignment : (l r : Phrase) → IsWritten (Assign l r) text → IsUnconditional text (Assign l r)
-  Loop : (label : List ℕ) (comma : Bool) (x : List ℕ) (a b : Phrase) (c : Option Phrase) → IsWritten (Do label comma x a b c) text → IsUnconditional text (Do label comma x a b c)
+  Loop : (label : List ℕ) (comma : Bool) (x : List ℕ) (a b : Phrase) (c : Option Phrase)
+      → IsWritten (Do label comma x a b c) text → IsUnconditional text (Do label comma x a b c)
   OfKeyword : (f : Form) → HasKeyword f → IsWritten f text → IsUnconditional text f

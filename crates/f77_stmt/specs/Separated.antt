@@ -39,7 +39,8 @@ module _ {A T : Type 0} (write : A → List Word) (good : A → Type 0) (tree : 
     pub same : rest ≡ followed write back ++ last
 
   abbrev pub Reads : List Word → List T → ℕ → List Word → Type 0
-  Reads ws made d rest = (parts : List A) (last : List Word) → IsList good parts → EndsList last → ws ≡ separated write parts ++ last → StillToRead parts last made d rest
+  Reads ws made d rest = (parts : List A) (last : List Word) → IsList good parts → EndsList last
+      → ws ≡ separated write parts ++ last → StillToRead parts last made d rest
 
   -- what was made is what the whole list gives, and the rest is what stands behind it
   abbrev pub IsRead : List A → List Word → List T → ℕ → List Word → Type 0

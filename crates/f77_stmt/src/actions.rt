@@ -10,7 +10,8 @@ ghost use Rattle.f77_expr.specs.Symbols.{symbols_of};
 ghost use Rattle.f77_stmt.specs.declared.keywords.Keyword.TheVariants as keywords;
 ghost use Rattle.f77_stmt.specs.Actions.{IsCondition, IsConditionOf};
 ghost use Rattle.f77_stmt.specs.Formed.{IsFound};
-ghost use Rattle.f77_stmt.specs.Keywords.{IsAfter, IsGoToAfter, IsElseIfAfter, IsNothingAfter, IsReadAfter, IsPrintAfter};
+ghost use Rattle.f77_stmt.specs.Keywords.{IsAfter, IsGoToAfter, IsElseIfAfter, IsNothingAfter, IsReadAfter};
+ghost use Rattle.f77_stmt.specs.Keywords.{IsPrintAfter};
 ghost use Rattle.f77_stmt.specs.Parts.{Given, IsFormedOf};
 
 use crate::formed::Formed;
@@ -35,10 +36,12 @@ pub(crate) fn go_to(text: &[Symbol]) -> Result<Formed, Stop>
     Ok(Formed::bare(Stmt77::Go(number)))
 }
 
-/// The whole text as one expression, with its depth, which is counted up to 401, and whether a literal of it is above 2^127-1.
+/// The whole text as one expression, with its depth, which is counted up to 401, and whether a literal of it is above
+/// 2^127-1.
 pub(crate) fn condition(alloc: Global, text: &[Symbol]) -> Result<(Expr, u16, bool), Stop>
     ensures found { IfOk result (λ r. IsCondition (symbols_of text.now) (expression_of r.0) r.1 r.2) }
-    ensures only { (p : Phrase) → IsExpression p → Words (symbols_of text.now) (written p) → Given result (λ r. IsConditionOf (expression_of r.0) r.1 r.2 p) }
+    ensures only { (p : Phrase) → IsExpression p → Words (symbols_of text.now) (written p)
+        → Given result (λ r. IsConditionOf (expression_of r.0) r.1 r.2 p) }
 {
     let tokens = words(alloc, text)?;
     let operand = whole(alloc, tokens.as_slice())?;
@@ -77,8 +80,10 @@ pub(crate) fn else_if(alloc: Global, text: &[Symbol]) -> Result<Formed, Stop>
 
 /// The statement, where nothing stands behind its keyword.
 pub(crate) fn nothing(statement: Stmt77, text: &[Symbol]) -> Result<Formed, Stop>
-    ensures found { (g : Form) → view.statement_of statement ≡ statement_of g → form_words g ≡ [] → form_depth g ≡ 0 → IfOk result (IsFound (IsNothingAfter g (symbols_of text.now))) }
-    ensures only { (g f : Form) → view.statement_of statement ≡ statement_of g → form_words g ≡ [] → form_depth g ≡ 0 → IsNothingAfter g (symbols_of text.now) f
+    ensures found { (g : Form) → view.statement_of statement ≡ statement_of g → form_words g ≡ [] → form_depth g ≡ 0
+        → IfOk result (IsFound (IsNothingAfter g (symbols_of text.now))) }
+    ensures only { (g f : Form) → view.statement_of statement ≡ statement_of g → form_words g ≡ [] → form_depth g ≡ 0
+        → IsNothingAfter g (symbols_of text.now) f
         → Given result (λ made. IsFormedOf made f) }
 {
     if !text.is_empty() {
@@ -134,7 +139,8 @@ fn items(alloc: Global, text: &[Symbol]) -> Result<Formed, Stop>
 /// What stands behind READ(*,*): a list or nothing (section 12.8).
 pub(crate) fn read_unit(alloc: Global, text: &[Symbol]) -> Result<Formed, Stop>
     ensures found { IfOk result (IsFound (IsAfter keywords.ReadUnit (symbols_of text.now))) }
-    ensures only { (f : Form) → IsAfter keywords.ReadUnit (symbols_of text.now) f → Given result (λ made. IsFormedOf made f) }
+    ensures only { (f : Form) → IsAfter keywords.ReadUnit (symbols_of text.now) f
+        → Given result (λ made. IsFormedOf made f) }
 {
     if text.is_empty() {
         return Ok(no_inputs(alloc));
@@ -145,7 +151,8 @@ pub(crate) fn read_unit(alloc: Global, text: &[Symbol]) -> Result<Formed, Stop>
 /// What stands behind READ*: a comma and a list, or nothing.
 pub(crate) fn read_list(alloc: Global, text: &[Symbol]) -> Result<Formed, Stop>
     ensures found { IfOk result (IsFound (IsAfter keywords.ReadList (symbols_of text.now))) }
-    ensures only { (f : Form) → IsAfter keywords.ReadList (symbols_of text.now) f → Given result (λ made. IsFormedOf made f) }
+    ensures only { (f : Form) → IsAfter keywords.ReadList (symbols_of text.now) f
+        → Given result (λ made. IsFormedOf made f) }
 {
     if text.is_empty() {
         return Ok(no_inputs(alloc));
@@ -159,7 +166,8 @@ pub(crate) fn read_list(alloc: Global, text: &[Symbol]) -> Result<Formed, Stop>
 /// What stands behind WRITE(*,*): a list or nothing.
 pub(crate) fn write_unit(alloc: Global, text: &[Symbol]) -> Result<Formed, Stop>
     ensures found { IfOk result (IsFound (IsAfter keywords.WriteUnit (symbols_of text.now))) }
-    ensures only { (f : Form) → IsAfter keywords.WriteUnit (symbols_of text.now) f → Given result (λ made. IsFormedOf made f) }
+    ensures only { (f : Form) → IsAfter keywords.WriteUnit (symbols_of text.now) f
+        → Given result (λ made. IsFormedOf made f) }
 {
     if text.is_empty() {
         return Ok(no_items(alloc));
@@ -170,7 +178,8 @@ pub(crate) fn write_unit(alloc: Global, text: &[Symbol]) -> Result<Formed, Stop>
 /// What stands behind PRINT*: a comma and a list, or nothing.
 pub(crate) fn print_list(alloc: Global, text: &[Symbol]) -> Result<Formed, Stop>
     ensures found { IfOk result (IsFound (IsAfter keywords.PrintList (symbols_of text.now))) }
-    ensures only { (f : Form) → IsAfter keywords.PrintList (symbols_of text.now) f → Given result (λ made. IsFormedOf made f) }
+    ensures only { (f : Form) → IsAfter keywords.PrintList (symbols_of text.now) f
+        → Given result (λ made. IsFormedOf made f) }
 {
     if text.is_empty() {
         return Ok(no_items(alloc));

@@ -10,7 +10,8 @@ ghost use Rattle.f77_expr.specs.Views.{words_of};
 ghost use Rattle.std.specs.Prelude.{ℕ};
 ghost use Rattle.fv_tree.specs.Plain.{Named, Subscripts};
 ghost use Rattle.fv_tree.specs.View.{expression_of, reference_of};
-ghost use Rattle.f77_stmt.specs.Parts.{begins_with_name, IsItem, Given, BeginsWithReference, IsReferenceOf, IsStepOf, HasStep, IsControl, IsControlOf, IsAssignment, IsFormedOf};
+ghost use Rattle.f77_stmt.specs.Parts.{begins_with_name, IsItem, Given, BeginsWithReference, IsReferenceOf, IsStepOf};
+ghost use Rattle.f77_stmt.specs.Parts.{HasStep, IsControl, IsControlOf, IsAssignment, IsFormedOf};
 
 use crate::formed::Formed;
 use crate::fronts::{after_comma, after_equals, after_name};
@@ -52,7 +53,8 @@ fn item(operand: Operand) -> Result<(Ref, u16), Stop>
 #[tactic(auto, using(crate::proofs::ReferenceLaws::references))]
 pub(crate) fn reference(alloc: Global, tokens: &[Token]) -> Result<(Ref, u16, &[Token]), Stop>
     ensures found { IfOk result (λ r. BeginsWithReference (words_of tokens.now) r.0 r.1 (words_of r.2.now)) }
-    ensures only { (l : Phrase) (rest : List words.Word) → IsReference l → IsExpression l → Ends rest → words_of tokens.now ≡ written l ++ rest
+    ensures only { (l : Phrase) (rest : List words.Word) → IsReference l → IsExpression l → Ends rest
+        → words_of tokens.now ≡ written l ++ rest
         → Given result (λ r. IsReferenceOf r.0 r.1 l × (words_of r.2.now ≡ rest)) }
 {
     if !begins_with_name(tokens) {
@@ -77,7 +79,8 @@ pub(crate) struct Control {
 #[tactic(auto, using(crate::proofs::ControlLaws::steps, fv_tree::proofs::Equations::expression_equations))]
 fn step(alloc: Global, tokens: &[Token]) -> Result<(Expr, u16), Stop>
     ensures found { IfOk result (λ r. HasStep (words_of tokens.now) (expression_of r.0) r.1) }
-    ensures only { (c : Option Phrase) → IsStep c → words_of tokens.now ≡ written_step c → Given result (λ r. IsStepOf (expression_of r.0) r.1 c) }
+    ensures only { (c : Option Phrase) → IsStep c → words_of tokens.now ≡ written_step c
+        → Given result (λ r. IsStepOf (expression_of r.0) r.1 c) }
 {
     if tokens.is_empty() {
         return Ok((Expr::Int(1), 0));
@@ -93,7 +96,8 @@ fn step(alloc: Global, tokens: &[Token]) -> Result<(Expr, u16), Stop>
 #[tactic(auto, using(crate::proofs::CappedLaws::capped_max))]
 pub(crate) fn read_control(alloc: Global, tokens: &[Token]) -> Result<Control, Stop>
     ensures found { IfOk result (λ k. IsControl (words_of tokens.now) k) }
-    ensures only { (x : List ℕ) (a b : Phrase) (c : Option Phrase) → AreParameters a b c → words_of tokens.now ≡ written_control x a b c → Given result (λ k. IsControlOf k x a b c) }
+    ensures only { (x : List ℕ) (a b : Phrase) (c : Option Phrase) → AreParameters a b c
+        → words_of tokens.now ≡ written_control x a b c → Given result (λ k. IsControlOf k x a b c) }
 {
     let Some((variable, rest)) = after_name(tokens) else {
         return Err(Stop::Syntax);
@@ -120,7 +124,8 @@ pub(crate) fn read_control(alloc: Global, tokens: &[Token]) -> Result<Control, S
 
 pub(crate) fn assignment(alloc: Global, tokens: &[Token]) -> Result<Formed, Stop>
     ensures found { IfOk result (λ made. IsAssignment (words_of tokens.now) made) }
-    ensures only { (l r : Phrase) → IsReference l → IsExpression l → IsExpression r → words_of tokens.now ≡ written l ++ (words.Equals ∷ written r)
+    ensures only { (l r : Phrase) → IsReference l → IsExpression l → IsExpression r
+        → words_of tokens.now ≡ written l ++ (words.Equals ∷ written r)
         → Given result (λ made. IsFormedOf made (Assign l r)) }
 {
     let (left, depth, rest) = reference(alloc, tokens)?;

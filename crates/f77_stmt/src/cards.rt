@@ -43,7 +43,8 @@ fn limited(made: Formed, line: u32) -> Result<Stmt77, Refused>
 fn formless(text: &[Symbol], line: u32) -> Refusal
     ensures line { result.line ≡ line }
     ensures found { IsFormless (symbols_of text.now) result.number result.word }
-    ensures only { (number word : ℕ) → IsFormless (symbols_of text.now) number word → (result.number ≡ number) × (result.word ≡ word) }
+    ensures only { (number word : ℕ) → IsFormless (symbols_of text.now) number word → (result.number ≡ number)
+        × (result.word ≡ word) }
 {
     match word_left_out(text) {
         Some(word) => Refusal {
@@ -59,11 +60,13 @@ fn formless(text: &[Symbol], line: u32) -> Refusal
     }
 }
 
-/// The statement of a card. The first cause that holds refuses it: no form, of which a word that is left out of the profile is told by its number; a literal
+/// The statement of a card. The first cause that holds refuses it: no form, of which a word that is left out of the
+/// profile is told by its number; a literal
 /// above 2^127-1; an expression or a list more than 400 deep.
 pub fn parse(alloc: Global, card: &Card) -> Result<Stmt77, Refused>
     ensures read { IfOk result (λ s. ReadsStatement card.now.chars (view.statement_of s)) }
-    ensures refused { (r : refusals.Refusal) → result ≡ Err (Refused.Refusal r) → (r.line ≡ card.now.line) × IsRefusedBy card.now.chars r.number r.word }
+    ensures refused { (r : refusals.Refusal) → result ≡ Err (Refused.Refusal r) → (r.line ≡ card.now.line)
+        × IsRefusedBy card.now.chars r.number r.word }
 
     // A card that is read, or refused, has no other answer, unless memory runs out.
     ensures only_read { (s : Statement77) → ReadsStatement card.now.chars s

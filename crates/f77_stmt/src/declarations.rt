@@ -6,11 +6,16 @@ ghost use Rattle.f77_grammar.specs.expressions.Phrases.{Phrase, IsExpression, wr
 ghost use Rattle.f77_expr.specs.Reading.{Ends};
 ghost use Rattle.f77_grammar.specs.expressions.Words as words;
 ghost use Rattle.f77_grammar.specs.statements.Forms as Forms;
-ghost use Rattle.f77_grammar.specs.statements.Forms.{Bound, Plain, Bounded, IsEntity, Definition, IsDefinition, written_entity, entity_tree, entity_depth, written_definition, definition_tree, definition_depth, IsBound, written_bound, bound_tree, bound_depth, IsList, separated};
+ghost use Rattle.f77_grammar.specs.statements.Forms.{Bound, Plain, Bounded, IsEntity, Definition, IsDefinition};
+ghost use Rattle.f77_grammar.specs.statements.Forms.{written_entity, entity_tree, entity_depth, written_definition};
+ghost use Rattle.f77_grammar.specs.statements.Forms.{definition_tree, definition_depth, IsBound, written_bound};
+ghost use Rattle.f77_grammar.specs.statements.Forms.{bound_tree, bound_depth, IsList, separated};
 ghost use Rattle.f77_expr.specs.Views.{words_of};
 ghost use Rattle.f77_syntax.specs.Views.{bounds_of, entity_of, constant_of};
 ghost use Rattle.f77_stmt.specs.Parts.{Given, capped};
-ghost use Rattle.f77_stmt.specs.Declarations.{BeginsWithEntity, EndsEntity, IsTheEntity, BeginsWithDefinition, IsTheDefinition, AreBoundsRead, AreTheBounds, BeginsWithBound, EndsBound, IsBoundOf};
+ghost use Rattle.f77_stmt.specs.Declarations.{BeginsWithEntity, EndsEntity, IsTheEntity, BeginsWithDefinition};
+ghost use Rattle.f77_stmt.specs.Declarations.{IsTheDefinition, AreBoundsRead, AreTheBounds, BeginsWithBound, EndsBound};
+ghost use Rattle.f77_stmt.specs.Declarations.{IsBoundOf};
 ghost use Rattle.f77_stmt.specs.Separated.{EndsPart, EndsList, BeginsWithList, IsRead};
 
 use crate::fronts::{after_close, after_colon, after_comma, after_equals, after_head, after_name};
@@ -43,7 +48,8 @@ fn read_upper(
     tokens: &[Token],
 ) -> Result<((Expr, Expr), u16, &[Token]), Stop>
     ensures found { IfOk result (λ r. EndsBound (words_of tokens.now) first (bounds_of r.0) r.1 (words_of r.2.now)) }
-    ensures only { (p : Phrase) (rest : List words.Word) → IsExpression p → Ends rest → words_of tokens.now ≡ written p ++ rest
+    ensures only { (p : Phrase) (rest : List words.Word) → IsExpression p → Ends rest
+        → words_of tokens.now ≡ written p ++ rest
         → Given result (λ r. (bounds_of r.0 ≡ (expression_of first.tree, tree p)) × (r.1 ≡ max first.depth (capped (depth p))) × (words_of r.2.now ≡ rest)) }
 {
     let (second, rest) = read(alloc, tokens)?;
@@ -54,7 +60,8 @@ fn read_upper(
 // The bounds of a dimension at the front of the words, with their depth, and what follows them.
 fn read_bound(alloc: Global, tokens: &[Token]) -> Result<((Expr, Expr), u16, &[Token]), Stop>
     ensures found { IfOk result (λ r. BeginsWithBound (words_of tokens.now) (bounds_of r.0) r.1 (words_of r.2.now)) }
-    ensures only { (b : Bound) (rest : List words.Word) → IsBound b → EndsPart rest → words_of tokens.now ≡ written_bound b ++ rest
+    ensures only { (b : Bound) (rest : List words.Word) → IsBound b → EndsPart rest
+        → words_of tokens.now ≡ written_bound b ++ rest
         → Given result (λ r. (bounds_of r.0 ≡ bound_tree b) × IsBoundOf r.1 b × (words_of r.2.now ≡ rest)) }
 {
     match read(alloc, tokens) {
@@ -73,7 +80,8 @@ fn read_bound(alloc: Global, tokens: &[Token]) -> Result<((Expr, Expr), u16, &[T
 #[tactic(auto, using(crate::proofs::CappedLaws::capped_max))]
 fn read_bounds(alloc: Global, tokens: &[Token]) -> Result<(Seq<(Expr, Expr)>, u16, &[Token]), Stop>
     ensures found { IfOk result (λ r. AreBoundsRead (words_of tokens.now) r.0 r.1 (words_of r.2.now)) }
-    ensures only { (bs : List Bound) (last : List words.Word) → IsList IsBound bs → EndsList last → words_of tokens.now ≡ separated written_bound bs ++ last
+    ensures only { (bs : List Bound) (last : List words.Word) → IsList IsBound bs → EndsList last
+        → words_of tokens.now ≡ separated written_bound bs ++ last
         → Given result (λ r. AreTheBounds bs last r.0 r.1 (words_of r.2.now)) }
 {
     let (first, depth, tail) = read_bound(alloc, tokens)?;
@@ -95,7 +103,8 @@ const MOST_DIMENSIONS: usize = 7;
 // A name with its bounds in parentheses, behind the opening one.
 fn bounded(alloc: Global, name: Name, tokens: &[Token]) -> Result<(Entity, u16, &[Token]), Stop>
     ensures found { IfOk result (λ r. EndsEntity (words_of tokens.now) name (entity_of r.0) r.1 (words_of r.2.now)) }
-    ensures only { (bs : List Bound) (last : List words.Word) → IsList IsBound bs → length bs ≤ 7 → words_of tokens.now ≡ separated written_bound bs ++ (words.Close ∷ last)
+    ensures only { (bs : List Bound) (last : List words.Word) → IsList IsBound bs → length bs ≤ 7
+        → words_of tokens.now ≡ separated written_bound bs ++ (words.Close ∷ last)
         → Given result (λ r. IsTheEntity (Bounded name bs) last (entity_of r.0) r.1 (words_of r.2.now)) }
 {
     let (dims, depth, rest) = read_bounds(alloc, tokens)?;
@@ -122,7 +131,8 @@ fn plain(alloc: Global, name: Name) -> Entity
 #[tactic(auto, using(crate::proofs::EntityLaws::entities))]
 fn read_entity(alloc: Global, tokens: &[Token]) -> Result<(Entity, u16, &[Token]), Stop>
     ensures found { IfOk result (λ r. BeginsWithEntity (words_of tokens.now) (entity_of r.0) r.1 (words_of r.2.now)) }
-    ensures only { (e : Forms.Entity) (last : List words.Word) → IsEntity e → EndsPart last → words_of tokens.now ≡ written_entity e ++ last
+    ensures only { (e : Forms.Entity) (last : List words.Word) → IsEntity e → EndsPart last
+        → words_of tokens.now ≡ written_entity e ++ last
         → Given result (λ r. IsTheEntity e last (entity_of r.0) r.1 (words_of r.2.now)) }
 {
     if let Some((name, rest)) = after_name(tokens) {
@@ -141,7 +151,8 @@ pub(crate) fn read_entities(
     tokens: &[Token],
 ) -> Result<(Seq<Entity>, u16, &[Token]), Stop>
     ensures found { IfOk result (λ r. BeginsWithList written_entity IsEntity entity_tree entity_depth (words_of tokens.now) (map entity_of r.0) r.1 (words_of r.2.now)) }
-    ensures only { (es : List Forms.Entity) (last : List words.Word) → IsList IsEntity es → EndsList last → words_of tokens.now ≡ separated written_entity es ++ last
+    ensures only { (es : List Forms.Entity) (last : List words.Word) → IsList IsEntity es → EndsList last
+        → words_of tokens.now ≡ separated written_entity es ++ last
         → Given result (λ r. IsRead written_entity IsEntity entity_tree entity_depth es last (map entity_of r.0) r.1 (words_of r.2.now)) }
 {
     let (first, depth, tail) = read_entity(alloc, tokens)?;
@@ -170,7 +181,8 @@ fn defined(name: Name, value: Operand) -> ((Name, Expr), u16)
 #[tactic(auto, using(crate::proofs::EntityLaws::entities))]
 fn read_definition(alloc: Global, tokens: &[Token]) -> Result<((Name, Expr), u16, &[Token]), Stop>
     ensures found { IfOk result (λ r. BeginsWithDefinition (words_of tokens.now) (constant_of r.0) r.1 (words_of r.2.now)) }
-    ensures only { (d : Definition) (last : List words.Word) → IsDefinition d → EndsPart last → words_of tokens.now ≡ written_definition d ++ last
+    ensures only { (d : Definition) (last : List words.Word) → IsDefinition d → EndsPart last
+        → words_of tokens.now ≡ written_definition d ++ last
         → Given result (λ r. IsTheDefinition d last (constant_of r.0) r.1 (words_of r.2.now)) }
 {
     let Some((name, rest)) = after_name(tokens) else {
@@ -190,7 +202,8 @@ pub(crate) fn read_definitions(
     tokens: &[Token],
 ) -> Result<(Seq<(Name, Expr)>, u16, &[Token]), Stop>
     ensures found { IfOk result (λ r. BeginsWithList written_definition IsDefinition definition_tree definition_depth (words_of tokens.now) (map constant_of r.0) r.1 (words_of r.2.now)) }
-    ensures only { (ds : List Definition) (last : List words.Word) → IsList IsDefinition ds → EndsList last → words_of tokens.now ≡ separated written_definition ds ++ last
+    ensures only { (ds : List Definition) (last : List words.Word) → IsList IsDefinition ds → EndsList last
+        → words_of tokens.now ≡ separated written_definition ds ++ last
         → Given result (λ r. IsRead written_definition IsDefinition definition_tree definition_depth ds last (map constant_of r.0) r.1 (words_of r.2.now)) }
 {
     let (first, depth, tail) = read_definition(alloc, tokens)?;

@@ -18,7 +18,8 @@ pub(crate) struct Formed {
 impl Formed {
     /// A statement without expressions.
     pub(crate) fn bare(statement: Stmt77) -> Formed
-        ensures { (f : Form) → view.statement_of statement ≡ statement_of f → form_words f ≡ [] → form_depth f ≡ 0 → IsFormedOf result f }
+        ensures { (f : Form) → view.statement_of statement ≡ statement_of f → form_words f ≡ [] → form_depth f ≡ 0
+            → IsFormedOf result f }
     {
         Formed {
             statement,

@@ -6,7 +6,8 @@ ghost use Rattle.f77_grammar.specs.expressions.Phrases.{Phrase};
 ghost use Rattle.f77_grammar.specs.expressions.Reading.{is_wide};
 ghost use Rattle.f77_grammar.specs.expressions.Spelling.{value, chars};
 ghost use Rattle.f77_grammar.specs.expressions.Squeezing as squeezing;
-ghost use Rattle.f77_grammar.specs.statements.Forms.{Form, Assign, Do, Test, IsWritten, IsInner, IsLabel, optional_comma, written_control};
+ghost use Rattle.f77_grammar.specs.statements.Forms.{Form, Assign, Do, Test, IsWritten, IsInner, IsLabel};
+ghost use Rattle.f77_grammar.specs.statements.Forms.{optional_comma, written_control};
 ghost use Rattle.f77_grammar.specs.statements.Recognition.{BeginsWithLetter};
 ghost use Rattle.f77_expr.specs.Symbols.{symbols_of};
 ghost use Rattle.f77_keywords.specs.FormsLeftOut.{without_comma};
@@ -63,7 +64,8 @@ fn is_inner(statement: &Stmt77) -> bool
 // A text with an equals sign outside parentheses, and no comma outside them behind it.
 fn assignment_statement(alloc: Global, text: &[Symbol]) -> Result<Formed, Stop>
     ensures found { IfOk result (IsFound (λ f. IsWritten f (symbols_of text.now))) }
-    ensures only { (l r : Phrase) → IsWritten (Assign l r) (symbols_of text.now) → Given result (λ made. IsFormedOf made (Assign l r)) }
+    ensures only { (l r : Phrase) → IsWritten (Assign l r) (symbols_of text.now)
+        → Given result (λ made. IsFormedOf made (Assign l r)) }
 {
     let tokens = words(alloc, text)?;
     assignment(alloc, tokens.as_slice())
@@ -82,7 +84,8 @@ fn behind_comma(text: &[Symbol]) -> &[Symbol]
 // The label of a DO, and what follows it and its comma.
 fn loop_label(text: &[Symbol]) -> Option<(u32, &[Symbol])>
     ensures found { IfSome result (λ r. IsLoopFront (symbols_of text.now) r.0 (symbols_of r.1.now)) }
-    ensures only { (digits : List ℕ) (comma : Bool) (rest : List squeezing.Symbol) → IsLabel digits → BeginsWithLetter rest
+    ensures only { (digits : List ℕ) (comma : Bool) (rest : List squeezing.Symbol) → IsLabel digits
+        → BeginsWithLetter rest
         → symbols_of text.now ≡ chars (codes "DO" ++ (digits ++ optional_comma comma)) ++ rest → GivesLabel result (value digits) rest }
 {
     let rest = strip(b"DO", text)?;
@@ -91,7 +94,8 @@ fn loop_label(text: &[Symbol]) -> Option<(u32, &[Symbol])>
 }
 
 fn loop_statement(label: u32, control: Control, wide: bool) -> Formed
-    ensures { (digits : List ℕ) (comma : Bool) (x : List ℕ) (a b : Phrase) (c : Option Phrase) → value digits ≡ label → IsControlOf control x a b c
+    ensures { (digits : List ℕ) (comma : Bool) (x : List ℕ) (a b : Phrase) (c : Option Phrase) → value digits ≡ label
+        → IsControlOf control x a b c
         → wide ≡ list_any is_wide (written_control x a b c) → IsFormedOf result (Do digits comma x a b c) }
 {
     let Control {
@@ -111,7 +115,8 @@ fn loop_statement(label: u32, control: Control, wide: bool) -> Formed
 // A text with an equals sign outside parentheses, and a comma outside them behind it.
 fn do_statement(alloc: Global, text: &[Symbol]) -> Result<Formed, Stop>
     ensures found { IfOk result (IsFound (λ f. IsWritten f (symbols_of text.now))) }
-    ensures only { (digits : List ℕ) (comma : Bool) (x : List ℕ) (a b : Phrase) (c : Option Phrase) → IsWritten (Do digits comma x a b c) (symbols_of text.now)
+    ensures only { (digits : List ℕ) (comma : Bool) (x : List ℕ) (a b : Phrase) (c : Option Phrase)
+        → IsWritten (Do digits comma x a b c) (symbols_of text.now)
         → Given result (λ made. IsFormedOf made (Do digits comma x a b c)) }
 {
     let Some((label, rest)) = loop_label(text) else {
@@ -150,7 +155,8 @@ fn behind_keyword(alloc: Global, keyword: Keyword, rest: &[Symbol]) -> Result<Fo
 // A text without an equals sign outside parentheses.
 fn keyword_statement(alloc: Global, text: &[Symbol]) -> Result<Formed, Stop>
     ensures found { IfOk result (IsFound (λ f. IsWritten f (symbols_of text.now))) }
-    ensures only { (f : Form) → HasKeyword f → IsWritten f (symbols_of text.now) → Given result (λ made. IsFormedOf made f) }
+    ensures only { (f : Form) → HasKeyword f → IsWritten f (symbols_of text.now)
+        → Given result (λ made. IsFormedOf made f) }
 {
     match Keyword::at(text) {
         Some((keyword, rest)) => behind_keyword(alloc, keyword, rest),
@@ -176,7 +182,8 @@ fn unconditional(alloc: Global, text: &[Symbol]) -> Result<Formed, Stop>
 // The inner statement of a logical IF (section 11.5).
 fn inner(alloc: Global, text: &[Symbol]) -> Result<Formed, Stop>
     ensures found { IfOk result (IsFound (λ f. IsWritten f (symbols_of text.now) × IsInner f)) }
-    ensures only { (f : Form) → IsWritten f (symbols_of text.now) → IsInner f → Given result (λ made. IsFormedOf made f) }
+    ensures only { (f : Form) → IsWritten f (symbols_of text.now) → IsInner f
+        → Given result (λ made. IsFormedOf made f) }
 {
     let made = unconditional(alloc, text)?;
     if !is_inner(&made.statement) {
@@ -193,7 +200,8 @@ fn test(
     wide: bool,
     inner: Formed,
 ) -> Result<Formed, Stop>
-    ensures { (p : Phrase) (f : Form) → IsConditionOf (expression_of condition) depth wide p → IsFormedOf inner f → Given result (λ made. IsFormedOf made (Test p f)) }
+    ensures { (p : Phrase) (f : Form) → IsConditionOf (expression_of condition) depth wide p → IsFormedOf inner f
+        → Given result (λ made. IsFormedOf made (Test p f)) }
 {
     let depth = depth.max(inner.depth);
     let wide = wide || inner.wide;
@@ -208,7 +216,8 @@ fn test(
 // A block IF or a logical IF, by its condition and what follows that.
 fn if_statement(alloc: Global, inside: &[Symbol], rest: &[Symbol]) -> Result<Formed, Stop>
     ensures found { IfOk result (IsFound (IsBehindIf (symbols_of inside.now) (symbols_of rest.now))) }
-    ensures only { (f : Form) → IsBehindIf (symbols_of inside.now) (symbols_of rest.now) f → Given result (λ made. IsFormedOf made f) }
+    ensures only { (f : Form) → IsBehindIf (symbols_of inside.now) (symbols_of rest.now) f
+        → Given result (λ made. IsFormedOf made f) }
 {
     let (tree, depth, wide) = condition(alloc, inside)?;
     if is_then(rest) {

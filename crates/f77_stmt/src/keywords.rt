@@ -6,7 +6,8 @@ ghost use Rattle.f77_stmt.specs.KeywordFronts.{KeywordOption};
 
 use f77_expr::{Symbol, strip};
 
-/// A keyword, with the parenthesis or the asterisk that always follows it: that of `ReadUnit` is READ(*,*), of `ReadList` READ*, of `WriteUnit`
+/// A keyword, with the parenthesis or the asterisk that always follows it: that of `ReadUnit` is READ(*,*), of
+/// `ReadList` READ*, of `WriteUnit`
 /// WRITE(*,*) and of `PrintList` PRINT*.
 #[derive(Clone, Copy, Debug, PartialEq, Eq)]
 pub(crate) enum Keyword {

@@ -7,9 +7,12 @@ ghost use Rattle.f77_syntax.specs.Views.{entity_of, constant_of};
 ghost use Rattle.f77_expr.specs.Views.{words_of};
 ghost use Rattle.fv_tree.specs.declared.ops.Kind.TheVariants as kinds;
 ghost use Rattle.f77_grammar.specs.statements.Forms as forms;
-ghost use Rattle.f77_grammar.specs.statements.Forms.{Form, Definition, IsDefinition, written_definition, IsEntity, IsList, separated, written_entity, statement_of, form_words, form_depth};
+ghost use Rattle.f77_grammar.specs.statements.Forms.{Form, Definition, IsDefinition, written_definition, IsEntity};
+ghost use Rattle.f77_grammar.specs.statements.Forms.{IsList, separated, written_entity, statement_of, form_words};
+ghost use Rattle.f77_grammar.specs.statements.Forms.{form_depth};
 ghost use Rattle.f77_expr.specs.Symbols.{symbols_of};
-ghost use Rattle.f77_stmt.specs.Formed.{IsLoneName, IsFound, AreEntities, IsEntitiesOf, has_bounds, AreConstants, AreConstantsOf};
+ghost use Rattle.f77_stmt.specs.Formed.{IsLoneName, IsFound, AreEntities, IsEntitiesOf, has_bounds, AreConstants};
+ghost use Rattle.f77_stmt.specs.Formed.{AreConstantsOf};
 ghost use Rattle.f77_stmt.specs.Keywords.{IsProgramAfter, IsDeclarationAfter, IsDimensionAfter, AreConstantsAfter};
 ghost use Rattle.f77_stmt.specs.Parts.{Given, IsFormedOf};
 
@@ -59,7 +62,8 @@ pub(crate) fn program(alloc: Global, text: &[Symbol]) -> Result<Formed, Stop>
 #[tactic(auto, using(crate::proofs::StatementLaws::entities))]
 fn entities(alloc: Global, tokens: &[Token]) -> Result<(Seq<Entity>, u16), Stop>
     ensures found { IfOk result (λ r. AreEntities (words_of tokens.now) (map entity_of r.0) r.1) }
-    ensures only { (es : List forms.Entity) → IsList IsEntity es → words_of tokens.now ≡ separated written_entity es → Given result (λ r. IsEntitiesOf (map entity_of r.0) r.1 es) }
+    ensures only { (es : List forms.Entity) → IsList IsEntity es → words_of tokens.now ≡ separated written_entity es
+        → Given result (λ r. IsEntitiesOf (map entity_of r.0) r.1 es) }
 {
     let (entities, depth, rest) = read_entities(alloc, tokens)?;
     if !rest.is_empty() {
@@ -72,7 +76,8 @@ fn entities(alloc: Global, tokens: &[Token]) -> Result<(Seq<Entity>, u16), Stop>
 #[tactic(auto, using(crate::proofs::StatementLaws::declarations))]
 pub(crate) fn declaration(alloc: Global, kind: Kind, text: &[Symbol]) -> Result<Formed, Stop>
     ensures found { IfOk result (IsFound (IsDeclarationAfter kind (symbols_of text.now))) }
-    ensures only { (f : Form) → IsDeclarationAfter kind (symbols_of text.now) f → Given result (λ made. IsFormedOf made f) }
+    ensures only { (f : Form) → IsDeclarationAfter kind (symbols_of text.now) f
+        → Given result (λ made. IsFormedOf made f) }
 {
     let tokens = words(alloc, text)?;
     let (entities, depth) = entities(alloc, tokens.as_slice())?;
@@ -123,7 +128,8 @@ pub(crate) fn dimension(alloc: Global, text: &[Symbol]) -> Result<Formed, Stop>
 #[tactic(auto, using(crate::proofs::StatementLaws::constants))]
 fn definitions(alloc: Global, tokens: &[Token]) -> Result<(Seq<(Name, Expr)>, u16), Stop>
     ensures found { IfOk result (λ r. AreConstants (words_of tokens.now) (map constant_of r.0) r.1) }
-    ensures only { (ds : List Definition) → IsList IsDefinition ds → words_of tokens.now ≡ words.Open ∷ (separated written_definition ds ++ words.Close ∷ [])
+    ensures only { (ds : List Definition) → IsList IsDefinition ds
+        → words_of tokens.now ≡ words.Open ∷ (separated written_definition ds ++ words.Close ∷ [])
         → Given result (λ r. AreConstantsOf (map constant_of r.0) r.1 ds) }
 {
     let Some(rest) = after_open(tokens) else {

@@ -3,7 +3,8 @@ use Rattle.std.specs.Prelude.{ℕ, pred, suc, ◌==◌, Bool, true, false, not, 
 use Rattle.f77_grammar.specs.Statement77 as S
 use Rattle.f77_grammar.specs.Statement77.{Labelled}
 use Rattle.f77_structure.specs.declared.forms.Form.{Form}
-use Rattle.f77_structure.specs.declared.forms.Form.TheVariants.{Title, Declaration, Action, Go, Stop, LogicalIf, If, ElseIf, Else, EndIf, Do, End}
+use Rattle.f77_structure.specs.declared.forms.Form.TheVariants.{Title, Declaration, Action, Go, Stop, LogicalIf, If}
+use Rattle.f77_structure.specs.declared.forms.Form.TheVariants.{ElseIf, Else, EndIf, Do, End}
 
 abbrev pub form_of : S.Statement77 → Form
 form_of (S.Program x) = Title

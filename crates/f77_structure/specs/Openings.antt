@@ -1,5 +1,6 @@
 -- What is open at a statement: block IFs and loops, the innermost first.
-use Rattle.std.specs.Prelude.{ℕ, zero, suc, ◌+◌, nat_lt, nat_le, Bool, true, false, not, ◌||◌, Option, None, Some, if◌then◌else◌, List, [], ◌∷◌, length, reverse}
+use Rattle.std.specs.Prelude.{ℕ, zero, suc, ◌+◌, nat_lt, nat_le, Bool, true, false, not, ◌||◌, Option, None, Some}
+use Rattle.std.specs.Prelude.{if◌then◌else◌, List, [], ◌∷◌, length, reverse}
 use Rattle.f77_grammar.specs.Statement77.{Labelled}
 use Rattle.f77_grammar.specs.program.Text.{bears}
 use Rattle.f77_grammar.specs.program.Nesting.{is_do_of}
@@ -146,4 +147,5 @@ under (Some n) firsts = firsts n
 abbrev pub has_wrong_closer : Form → ℕ → Option ℕ → Option ℕ → Option OpenIf → List OpenLoop → Bool
 has_wrong_closer form at end first f es =
     refuses_else form f (nearest_at (trimmed at es))
-    || (closes_wrongly form (is_from (at + 1) end) f (nearest_at (trimmed (at + 1) (trimmed at es))) || ends_wrongly first form f (nearest_at (trimmed (at + 1) (trimmed at es))))
+    || (closes_wrongly form (is_from (at + 1) end) f (nearest_at (trimmed (at + 1) (trimmed at es)))
+        || ends_wrongly first form f (nearest_at (trimmed (at + 1) (trimmed at es))))

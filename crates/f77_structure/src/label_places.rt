@@ -31,7 +31,8 @@ impl LabelPlaces {
 
     /// Gives the label this place, in place of an earlier one.
     pub fn put(&mut self, label: Option<u32>, place: usize) -> Result<(), Memory>
-        ensures { OnOk result ((n : ℕ) → place_of self.new n ≡ (if is_label n label then Some place else place_of self.old n)) }
+        ensures { OnOk result ((n : ℕ)
+            → place_of self.new n ≡ (if is_label n label then Some place else place_of self.old n)) }
     {
         if let Some(label) = label {
             self.places.insert(label, place)?;
@@ -50,7 +51,8 @@ impl LabelPlaces {
     }
 
     fn put_new(&mut self, label: u32, place: usize) -> Result<(), Memory>
-        ensures { OnOk result ((n : ℕ) → place_of self.new n ≡ or_here (place_of self.old n) (is_label n (Some label)) place) }
+        ensures { OnOk result ((n : ℕ)
+            → place_of self.new n ≡ or_here (place_of self.old n) (is_label n (Some label)) place) }
     {
         if self.get(label).is_none() {
             self.places.insert(label, place)?;

@@ -1,4 +1,5 @@
-//! Labels, blocks, loops and the order of statements in a FORTRAN 77 program, checked (ANSI X3.9-1978, sections 3.4, 3.5 and 11).
+//! Labels, blocks, loops and the order of statements in a FORTRAN 77 program, checked (ANSI X3.9-1978, sections 3.4,
+//! 3.5 and 11).
 //!
 //! Each check gives the first statement at which its cause of refusal holds, or none where it holds nowhere.
 #![tactic(auto)]

@@ -61,7 +61,8 @@ pub fn label_ends(alloc: Global, text: &[Labelled]) -> Result<LabelPlaces, Memor
     Ok(ends)
 }
 
-/// The place of the first statement that closes, or doesn't close, what it should: a DO, END IF, ELSE IF or ELSE, or the
+/// The place of the first statement that closes, or doesn't close, what it should: a DO, END IF, ELSE IF or ELSE, or
+/// the
 /// last statement of loops.
 pub fn wrong_closer(alloc: Global, text: &[Labelled]) -> Result<Option<usize>, Memory>
     ensures { IfOk result (λ place. place ≡ first_index is_closed_wrongly (text_of text.now)) }
@@ -108,7 +109,8 @@ impl Form {
     }
 }
 
-/// The place of a statement that is looked for, in front of a later one. A walk from the last statement to the first finds the first place so.
+/// The place of a statement that is looked for, in front of a later one. A walk from the last statement to the first
+/// finds the first place so.
 pub fn here_if(here: bool, place: usize, later: Option<usize>) -> Option<usize>
     ensures { result ≡ (if here then Some place else later) }
 {

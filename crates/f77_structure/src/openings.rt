@@ -1,6 +1,8 @@
 //! What is open at a statement: block IFs, and loops.
 ghost use Rattle.std.specs.Prelude.{◌≡◌, ℕ, ◌+◌, ◌<◌, ◌^◌, ◌||◌, ◌∷◌, [], true, false, OnOk};
-ghost use Rattle.f77_structure.specs.Openings.{frames, loops_in, tail_of, marked, trimmed, first_of, next_frames, opened, nearest_at, is_behind, begins_behind, lacks_if, refuses_else, is_unpaired, closes_wrongly, ends_wrongly, is_from, has_wrong_closer};
+ghost use Rattle.f77_structure.specs.Openings.{frames, loops_in, tail_of, marked, trimmed, first_of, next_frames};
+ghost use Rattle.f77_structure.specs.Openings.{opened, nearest_at, is_behind, begins_behind, lacks_if, refuses_else};
+ghost use Rattle.f77_structure.specs.Openings.{is_unpaired, closes_wrongly, ends_wrongly, is_from, has_wrong_closer};
 ghost use Rattle.f77_structure.specs.Forms.{is_no_end_form};
 
 use crate::forms::Form;
@@ -187,7 +189,8 @@ impl Openings {
         }
     }
 
-    /// Loops, of which the first begins at `first`, end on a statement that can't end one, or leave something open in them.
+    /// Loops, of which the first begins at `first`, end on a statement that can't end one, or leave something open in
+    /// them.
     pub fn ends_wrongly(&self, first: Option<usize>, form: Form) -> bool
         ensures { result ≡ ends_wrongly first form (first_of (frames self.now)) (nearest_at (loops_in self.now)) }
     {
@@ -212,7 +215,8 @@ fn is_later(place: Option<usize>, at: usize) -> bool
 }
 
 impl Openings {
-    /// Something is closed wrongly at a statement that stands behind `at` others; the loop that it begins ends at `end`, and
+    /// Something is closed wrongly at a statement that stands behind `at` others; the loop that it begins ends at
+    /// `end`, and
     /// the loops that it ends begin from `first` on. What has ended by then is taken out.
     pub fn has_wrong_closer(
         &mut self,

@@ -5,9 +5,16 @@ use Rattle.fv_tree.specs.View.{expression_of, reference_of, item_of}
 use Rattle.fv_tree.specs.declared.exprs.Expr.{Expr}
 use Rattle.f77_syntax.specs.declared.statements.Entity.{Entity as Entity'}
 use Rattle.f77_syntax.specs.declared.statements.Stmt77.{Stmt77, fold-Stmt77}
-use Rattle.f77_syntax.specs.declared.statements.Stmt77.TheOpen.{Stmt77-F, Program as Program', Declare as Declare', Dimension as Dimension', Constants as Constants', Assign as Assign', Go as Go', Test as Test', If as If', ElseIf as ElseIf', Else as Else', EndIf as EndIf', Do as Do', Continue as Continue', Stop as Stop', Read as Read', Print as Print', End as End'}
+use Rattle.f77_syntax.specs.declared.statements.Stmt77.TheOpen.{Stmt77-F, Program as Program', Declare as Declare'}
+use Rattle.f77_syntax.specs.declared.statements.Stmt77.TheOpen.{Dimension as Dimension', Constants as Constants'}
+use Rattle.f77_syntax.specs.declared.statements.Stmt77.TheOpen.{Assign as Assign', Go as Go', Test as Test', If as If'}
+use Rattle.f77_syntax.specs.declared.statements.Stmt77.TheOpen.{ElseIf as ElseIf', Else as Else', EndIf as EndIf'}
+use Rattle.f77_syntax.specs.declared.statements.Stmt77.TheOpen.{Do as Do', Continue as Continue', Stop as Stop'}
+use Rattle.f77_syntax.specs.declared.statements.Stmt77.TheOpen.{Read as Read', Print as Print', End as End'}
 use Rattle.f77_syntax.specs.declared.statements.Labelled.{Labelled as Labelled'}
-use Rattle.f77_grammar.specs.Statement77.{Entity, NamedConstant, Labelled, Statement77, Program, Declare, Dimension, Constants, Assign, Go, Test, If, ElseIf, Else, EndIf, Do, Continue, Stop, Read, Print, End}
+use Rattle.f77_grammar.specs.Statement77.{Entity, NamedConstant, Labelled, Statement77, Program, Declare, Dimension}
+use Rattle.f77_grammar.specs.Statement77.{Constants, Assign, Go, Test, If, ElseIf, Else, EndIf, Do, Continue, Stop}
+use Rattle.f77_grammar.specs.Statement77.{Read, Print, End}
 
 abbrev pub bounds_of : Expr × Expr → Expression × Expression
 bounds_of b = (expression_of b.0, expression_of b.1)

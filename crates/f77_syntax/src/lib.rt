@@ -1,4 +1,5 @@
-//! The statements of a FORTRAN 77 program as types (ANSI X3.9-1978, sections 7 to 12), each with the plain statement that it stands for.
+//! The statements of a FORTRAN 77 program as types (ANSI X3.9-1978, sections 7 to 12), each with the plain statement
+//! that it stands for.
 #![tactic(auto)]
 
 mod statements;

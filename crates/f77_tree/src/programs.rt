@@ -39,9 +39,11 @@ fn title(uses: &[Use]) -> Option<Name>
     None
 }
 
-/// The tree that the statements form of a program in which no symbolic constant and no bound faults or leaves the range of INTEGER.
+/// The tree that the statements form of a program in which no symbolic constant and no bound faults or leaves the range
+/// of INTEGER.
 pub fn tree(alloc: Global, text: &[Labelled]) -> Result<Program77, Memory>
-    ensures { first_index (has_bad_constant (constants_of (text_of text.now))) (text_of text.now) ≡ None → IfOk result (λ program. program_of program ≡ tree_of (text_of text.now)) }
+    ensures { first_index (has_bad_constant (constants_of (text_of text.now))) (text_of text.now) ≡ None
+        → IfOk result (λ program. program_of program ≡ tree_of (text_of text.now)) }
 {
     let resolver = Resolver::of_text(alloc, text)?;
     let targets = Targets::of_text(alloc, text)?;

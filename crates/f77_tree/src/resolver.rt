@@ -16,7 +16,8 @@ use std::alloc::Global;
 
 /// What the names of a program stand for.
 ///
-/// What a name is comes from the table `names`. The contracts speak of `uses`, all uses of names in the program, from which the table was made.
+/// What a name is comes from the table `names`. The contracts speak of `uses`, all uses of names in the program, from
+/// which the table was made.
 #[derive(Drop)]
 pub struct Resolver {
     pub names: Names,

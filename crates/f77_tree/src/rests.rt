@@ -16,7 +16,8 @@ pub struct Piece {
     pub made: Vec<Stmt>,
 }
 
-/// A block IF whose first line is still to come: its later arms, the last one first; its ELSE part; and the pieces after its
+/// A block IF whose first line is still to come: its later arms, the last one first; its ELSE part; and the pieces
+/// after its
 /// END IF, the last one first.
 #[derive(Drop)]
 pub struct OpenIf {
@@ -25,7 +26,8 @@ pub struct OpenIf {
     after: Vec<Piece>,
 }
 
-/// What the statements from one on have become: the pieces of the block in which it stands, the last one first, and the block IFs
+/// What the statements from one on have become: the pieces of the block in which it stands, the last one first, and the
+/// block IFs
 /// round it, the innermost last.
 #[derive(Drop)]
 pub struct Rest {
@@ -167,7 +169,8 @@ impl Rest {
         Ok(Rest { pieces, ifs })
     }
 
-    /// At the first line of a block IF, with what stands before it: the block behind it is the first arm, and the block IF is whole.
+    /// At the first line of a block IF, with what stands before it: the block behind it is the first arm, and the block
+    /// IF is whole.
     pub fn begin_if(
         self,
         alloc: Global,

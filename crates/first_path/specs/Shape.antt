@@ -3,7 +3,9 @@ use Rattle.std.specs.Prelude.{◌≡◌, [], None}
 use Rattle.std.specs.List.{AllByRecursion}
 use Rattle.fv_tree.specs.declared.ops.Op.TheVariants.{Add}
 use Rattle.fv_tree.specs.declared.ops.Kind.TheVariants.{Integer}
-use Rattle.fv_tree.specs.Plain.{Expression, Number, Named, Binary, no_subscripts, Item, Single, Items, no_items, item, Statement, Assignment, Print, Block, no_statements, statement, Declaration, Given, Program}
+use Rattle.fv_tree.specs.Plain.{Expression, Number, Named, Binary, no_subscripts, Item, Single, Items, no_items, item}
+use Rattle.fv_tree.specs.Plain.{Statement, Assignment, Print, Block, no_statements, statement, Declaration, Given}
+use Rattle.fv_tree.specs.Plain.{Program}
 
 abbrev pub IsThinExpression : Expression → Type 0
 IsThinExpression (Number n) = Unit {0}

@@ -5,7 +5,8 @@ ghost use Rattle.std.specs.Option.{option_map, SomeIff};
 ghost use Rattle.std.specs.Str.Parse.{digits_value};
 ghost use Rattle.fv_tree.specs.Plain.{Named, Binary, no_subscripts};
 ghost use Rattle.fv_tree.specs.View.{expression_of};
-ghost use Rattle.first_path_grammar.specs.ThinReader.{is_capital, is_decimal, is_integer_name, is_numeral, literal_of, operand_of, expression_at};
+ghost use Rattle.first_path_grammar.specs.ThinReader.{is_capital, is_decimal, is_integer_name, is_numeral, literal_of};
+ghost use Rattle.first_path_grammar.specs.ThinReader.{operand_of, expression_at};
 
 use fv_deck::cut;
 use fv_tree::{Expr, Memory, Name, Op, Ref, Seq};

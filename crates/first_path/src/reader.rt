@@ -3,7 +3,8 @@ ghost use Rattle.std.specs.Prelude.{◌≡◌, ◌^◌, ◌<◌, ◌≤◌, [], 
 ghost use Rattle.fv_tree.specs.Plain.{items};
 ghost use Rattle.fv_tree.specs.View.{expression_of, item_of, statement_of, program_of, declaration_of};
 ghost use Rattle.fv_meaning.specs.Deck.{lines_of, source_of, data_line77};
-ghost use Rattle.first_path_grammar.specs.Reading77.{with_name, expression_names, item_names, items_names, statement_names, integer_scalar, refusal, ReadsThin};
+ghost use Rattle.first_path_grammar.specs.Reading77.{with_name, expression_names, item_names, items_names};
+ghost use Rattle.first_path_grammar.specs.Reading77.{statement_names, integer_scalar, refusal, ReadsThin};
 ghost use Rattle.first_path_grammar.specs.ThinReader.{with_form, with_line, read_lines, nothing_read};
 ghost use Rattle.first_path.specs.Forms.{form_seen};
 ghost use Rattle.first_path.specs.Shape.{IsThinProgram};

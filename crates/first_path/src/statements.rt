@@ -6,7 +6,9 @@ ghost use Rattle.std.specs.Str.{bytes_eq};
 ghost use Rattle.fv_tree.specs.Plain.{items};
 ghost use Rattle.fv_tree.specs.View.{expression_of, item_of, statement_of};
 ghost use Rattle.first_path_grammar.specs.ThinGrammar.{statement_text};
-ghost use Rattle.first_path_grammar.specs.ThinReader.{pieces, items_of, print_at, assignment_at, statement_at, is_integer_name, assigned_at, is_print, is_printable, is_card, form_at, form_of};
+ghost use Rattle.first_path_grammar.specs.ThinReader.{pieces, items_of, print_at, assignment_at, statement_at};
+ghost use Rattle.first_path_grammar.specs.ThinReader.{is_integer_name, assigned_at, is_print, is_printable, is_card};
+ghost use Rattle.first_path_grammar.specs.ThinReader.{form_at, form_of};
 ghost use Rattle.first_path.specs.Forms.{form_seen, assignment_to};
 
 use crate::expressions::{expression, is_integer_name};

@@ -1,8 +1,10 @@
--- The Fortran 90 text of a program (ISO/IEC 1539:1991, section 3.3.1). So far these are the first path's forms, of which no line
+-- The Fortran 90 text of a program (ISO/IEC 1539:1991, section 3.3.1). So far these are the first path's forms, of
+-- which no line
 -- is too long, so that none is continued.
 use Rattle.std.specs.Prelude.{ℕ, List, [], ◌∷◌, ◌++◌, map, codes, flat_map}
 use Rattle.std.specs.Fmt.{signed_decimal}
-use Rattle.fv_tree.specs.Plain.{Expression, Number, Named, Binary, Item, Single, Items, no_items, item, Statement, Assignment, Print, Block, no_statements, statement, Declaration, Program}
+use Rattle.fv_tree.specs.Plain.{Expression, Number, Named, Binary, Item, Single, Items, no_items, item, Statement}
+use Rattle.fv_tree.specs.Plain.{Assignment, Print, Block, no_statements, statement, Declaration, Program}
 use Rattle.first_path_grammar.specs.ThinGrammar.{Spacing}
 
 abbrev pub spacing90 : Spacing

@@ -1,5 +1,6 @@
 -- What is read as a FORTRAN 77 program, and what is refused. So far these are the first path's forms.
-use Rattle.std.specs.Prelude.{ℕ, ◌+◌, ◌^◌, ◌<◌, ◌≤◌, ◌≡◌, ◌⊎◌, Bool, List, [], ◌∷◌, ◌++◌, length, take, map, Option, None, Some, fold, if◌then◌else◌}
+use Rattle.std.specs.Prelude.{ℕ, ◌+◌, ◌^◌, ◌<◌, ◌≤◌, ◌≡◌, ◌⊎◌, Bool, List, [], ◌∷◌, ◌++◌, length, take, map, Option}
+use Rattle.std.specs.Prelude.{None, Some, fold, if◌then◌else◌}
 use Rattle.std.specs.List.{list_any}
 use Rattle.std.specs.Cmp.Lexicographic.{slice_cmp}
 use Rattle.std.specs.Ordering.{nat_cmp}
@@ -7,7 +8,8 @@ use Rattle.std.specs.List.Sorted.{IsStrictlySortedBy}
 use Rattle.std.specs.Str.{bytes_eq}
 use Rattle.fv_tree.specs.declared.refusals.Refusal.{Refusal}
 use Rattle.fv_tree.specs.declared.ops.Kind.TheVariants.{Integer}
-use Rattle.fv_tree.specs.Plain.{Expression, Named, Binary, Item, Single, Items, no_items, item, Statement, Assignment, Print, block, Program, Declaration, Given}
+use Rattle.fv_tree.specs.Plain.{Expression, Named, Binary, Item, Single, Items, no_items, item, Statement, Assignment}
+use Rattle.fv_tree.specs.Plain.{Print, block, Program, Declaration, Given}
 use Rattle.fv_meaning.specs.Deck.{lines_of, source_of, data_line77}
 use Rattle.first_path_grammar.specs.ThinGrammar.{Form, HaveForms}
 use Rattle.first_path_grammar.specs.ThinGrammar.Form.{End, Is}
@@ -104,6 +106,8 @@ end_fault n (Is s ∷ f ∷ fs) = end_fault (n + 1) (f ∷ fs)
 pub data RefusedThin (bytes : List ℕ) : Refusal → Type 0 where
   TooLong : (2 ^ 24 < length bytes) ⊎ (2 ^ 20 < length (source_of data_line77 bytes)) → RefusedThin bytes (refusal 1 0)
   NotBuilt : (k : ℕ) (forms : List Form) → IsWithinLimits bytes → k < length (lines_of bytes)
-      → AreBuilt (lines_of bytes) k forms → ((more : List Form) → AreBuilt (lines_of bytes) (k + 1) more → ⊥) → RefusedThin bytes (refusal 60 (k + 1))
+      → AreBuilt (lines_of bytes) k forms → ((more : List Form) → AreBuilt (lines_of bytes) (k + 1) more → ⊥)
+          → RefusedThin bytes (refusal 60 (k + 1))
   NoEnd : (n : ℕ) (forms : List Form) → IsWithinLimits bytes
-      → AreBuilt (lines_of bytes) (length (lines_of bytes)) forms → end_fault 0 forms ≡ Some n → RefusedThin bytes (refusal 12 n)
+      → AreBuilt (lines_of bytes) (length (lines_of bytes)) forms → end_fault 0 forms ≡ Some n
+          → RefusedThin bytes (refusal 12 n)

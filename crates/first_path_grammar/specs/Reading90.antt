@@ -20,7 +20,8 @@ abbrev pub EachDeclaredOnce : List (List ℕ) → Type 0
 EachDeclaredOnce [] = Unit {0}
 EachDeclaredOnce (x ∷ xs) = (has_name xs x ≡ true → ⊥) × EachDeclaredOnce xs
 
--- The text spells the program q: PROGRAM and its name, IMPLICIT NONE, declarations of INTEGER scalars, statements, END. A line has
+-- The text spells the program q: PROGRAM and its name, IMPLICIT NONE, declarations of INTEGER scalars, statements, END.
+-- A line has
 -- at most 132 characters, and each name that occurs is declared.
 pub record Reads90 (text : List ℕ) (q : Program) : Type 0 where
   pub name : List ℕ

@@ -1,5 +1,6 @@
 -- The first path's grammar: the forms of a line, as a relation between its bytes and the tree that they spell.
-use Rattle.std.specs.Prelude.{ℕ, ◌+◌, ◌^◌, ◌<◌, ◌≤◌, ◌≡◌, ◌⊎◌, pos, not, List, [], ◌∷◌, ◌++◌, length, take, drop, filter, replicate, codes, ◌==◌, None}
+use Rattle.std.specs.Prelude.{ℕ, ◌+◌, ◌^◌, ◌<◌, ◌≤◌, ◌≡◌, ◌⊎◌, pos, not, List, [], ◌∷◌, ◌++◌, length, take, drop}
+use Rattle.std.specs.Prelude.{filter, replicate, codes, ◌==◌, None}
 use Rattle.std.specs.List.{AllByRecursion}
 use Rattle.std.specs.Str.Parse.{IsNumeral, digits_value}
 use Rattle.fv_tree.specs.declared.ops.Op.TheVariants.{Add}
@@ -17,7 +18,8 @@ IsDecimal c = (48 ≤ c) × (c ≤ 57)
 -- 1 to 6 capital letters and digits, the first a letter from I to N
 abbrev pub IsIntegerName : List ℕ → Type 0
 IsIntegerName [] = ⊥
-IsIntegerName (c ∷ more) = (73 ≤ c) × (c ≤ 78) × (length more ≤ 5) × AllByRecursion (λ d. IsCapital d ⊎ IsDecimal d) more
+IsIntegerName (c ∷ more) = (73 ≤ c) × (c ≤ 78) × (length more ≤ 5)
+    × AllByRecursion (λ d. IsCapital d ⊎ IsDecimal d) more
 
 -- digits, and a number that fits 128 bits
 abbrev pub IsLiteral : List ℕ → ℕ → Type 0
@@ -35,7 +37,8 @@ IsOperand _ = ⊥
 abbrev pub SpellsSum : List ℕ → List ℕ → Expression → Type 0
 SpellsSum plus text (Number n) = (k : ℕ) × (n ≡ pos k) × IsLiteral text k
 SpellsSum plus text (Named x ss) = (ss ≡ no_subscripts) × (text ≡ x) × IsIntegerName x
-SpellsSum plus text (Binary o a b) = (left right : List ℕ) × (text ≡ left ++ (plus ++ right)) × (o ≡ Add) × SpellsSum plus left a × SpellsSum plus right b × IsOperand b
+SpellsSum plus text (Binary o a b) = (left right : List ℕ) × (text ≡ left ++ (plus ++ right)) × (o ≡ Add)
+    × SpellsSum plus left a × SpellsSum plus right b × IsOperand b
 SpellsSum plus text _ = ⊥
 
 -- ---- statements
@@ -55,13 +58,16 @@ SpellsItem m text _ = ⊥
 abbrev pub SpellsItems : Spacing → List ℕ → Items → Type 0
 SpellsItems m text no_items = ⊥
 SpellsItems m text (item i no_items) = SpellsItem m text i
-SpellsItems m text (item i (item j is)) = (first more : List ℕ) × (text ≡ first ++ (m.comma ++ more)) × SpellsItem m first i × SpellsItems m more (item j is)
+SpellsItems m text (item i (item j is)) = (first more : List ℕ) × (text ≡ first ++ (m.comma ++ more))
+    × SpellsItem m first i × SpellsItems m more (item j is)
 
 -- the statement on the line with this number
 abbrev pub SpellsStatement : Spacing → ℕ → List ℕ → Statement → Type 0
 SpellsStatement m n text (Assignment line mark left e) = (right : List ℕ) × (text ≡ left.name ++ (m.becomes ++ right))
-    × (line ≡ n) × (mark ≡ None) × (left.subscripts ≡ no_subscripts) × IsIntegerName left.name × SpellsSum m.plus right e
-SpellsStatement m n text (Print line is) = (right : List ℕ) × (text ≡ m.print ++ right) × (line ≡ n) × SpellsItems m right is
+    × (line ≡ n) × (mark ≡ None) × (left.subscripts ≡ no_subscripts) × IsIntegerName left.name
+        × SpellsSum m.plus right e
+SpellsStatement m n text (Print line is) = (right : List ℕ) × (text ≡ m.print ++ right) × (line ≡ n)
+    × SpellsItems m right is
 SpellsStatement m n text _ = ⊥
 
 -- ---- lines of the deck

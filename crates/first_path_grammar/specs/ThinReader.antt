@@ -1,11 +1,14 @@
--- What the first path's reader gives, computed. `proofs/ThinFound` shows that it is what the grammar says: what is read is so
+-- What the first path's reader gives, computed. `proofs/ThinFound` shows that it is what the grammar says: what is read
+-- is so
 -- spelled, and what is so spelled is read.
-use Rattle.std.specs.Prelude.{ℕ, ◌+◌, ◌^◌, pos, nat_le, nat_lt, ◌==◌, Bool, false, ◌&&◌, ◌||◌, if◌then◌else◌, List, [], ◌∷◌, ◌++◌, length, take, drop, fold, codes, Option, None, Some, Result, Ok, Err}
+use Rattle.std.specs.Prelude.{ℕ, ◌+◌, ◌^◌, pos, nat_le, nat_lt, ◌==◌, Bool, false, ◌&&◌, ◌||◌, if◌then◌else◌, List, []}
+use Rattle.std.specs.Prelude.{◌∷◌, ◌++◌, length, take, drop, fold, codes, Option, None, Some, Result, Ok, Err}
 use Rattle.std.specs.List.{list_all, slice_split}
 use Rattle.std.specs.Str.{bytes_eq}
 use Rattle.std.specs.Str.Parse.{digits_value}
 use Rattle.fv_tree.specs.declared.ops.Op.TheVariants.{Add}
-use Rattle.fv_tree.specs.Plain.{Expression, Number, Named, Binary, no_subscripts, Single, Items, no_items, item, Statement, Assignment, Print}
+use Rattle.fv_tree.specs.Plain.{Expression, Number, Named, Binary, no_subscripts, Single, Items, no_items, item}
+use Rattle.fv_tree.specs.Plain.{Statement, Assignment, Print}
 use Rattle.first_path_grammar.specs.ThinGrammar.{Form, statement_text}
 use Rattle.first_path_grammar.specs.ThinGrammar.Form.{End, Is}
 use Rattle.first_path_grammar.specs.Reading77.{with_name, statement_names}
@@ -28,7 +31,8 @@ begins_integer c = nat_le 73 c && nat_le c 78
 
 abbrev pub is_integer_name : List ℕ → Bool
 is_integer_name [] = false
-is_integer_name (c ∷ more) = begins_integer c && (nat_le (length more) 5 && list_all (λ d. is_capital d || is_decimal d) more)
+is_integer_name (c ∷ more) = begins_integer c && (nat_le (length more) 5
+    && list_all (λ d. is_capital d || is_decimal d) more)
 
 abbrev pub is_numeral : List ℕ → Bool
 is_numeral [] = false
@@ -36,7 +40,8 @@ is_numeral (c ∷ more) = list_all is_decimal (c ∷ more)
 
 -- a literal's number
 abbrev pub literal_of : List ℕ → Option ℕ
-literal_of text = if is_numeral text && nat_lt (digits_value 10 text) (2 ^ 127) then Some (digits_value 10 text) else None
+literal_of text = if is_numeral text
+    && nat_lt (digits_value 10 text) (2 ^ 127) then Some (digits_value 10 text) else None
 
 -- ---- expressions
 
@@ -110,7 +115,8 @@ abbrev pub is_printable : ℕ → Bool
 is_printable c = nat_le 32 c && nat_le c 126
 
 abbrev pub is_card : List ℕ → Bool
-is_card line = nat_le (length line) 72 && (list_all is_printable line && bytes_eq (take 6 line) (32 ∷ 32 ∷ 32 ∷ 32 ∷ 32 ∷ 32 ∷ []))
+is_card line = nat_le (length line) 72 && (list_all is_printable line
+    && bytes_eq (take 6 line) (32 ∷ 32 ∷ 32 ∷ 32 ∷ 32 ∷ 32 ∷ []))
 
 abbrev pub as_form : Option Statement → Option Form
 as_form None = None

@@ -1,5 +1,6 @@
 -- What the words after the program's name ask for.
-use Rattle.std.specs.Prelude.{ℕ, ◌^◌, List, [], ◌∷◌, map, length, drop, codes, string_bytes, String, true, false, ◌&&◌, ◌==◌, nat_eq, nat_le, nat_lt, Option, None, Some, is_some, if◌then◌else◌}
+use Rattle.std.specs.Prelude.{ℕ, ◌^◌, List, [], ◌∷◌, map, length, drop, codes, string_bytes, String, true, false, ◌&&◌}
+use Rattle.std.specs.Prelude.{◌==◌, nat_eq, nat_le, nat_lt, Option, None, Some, is_some, if◌then◌else◌}
 use Rattle.std.specs.Char.{is_ascii_digit}
 use Rattle.std.specs.List.{list_all, starts_with}
 use Rattle.std.specs.Option.{option_map}
@@ -16,7 +17,8 @@ texts words = map (λ word. string_bytes word) words
 -- the number of 1 to 20 digits, which is at most 2 ^ 64 - 1
 abbrev pub number_of : List ℕ → Option ℕ
 number_of word =
-    if list_all is_ascii_digit word && nat_le 1 (length word) && nat_le (length word) 20 && nat_lt (digits_value 10 word) (2 ^ 64)
+    if list_all is_ascii_digit word && nat_le 1 (length word) && nat_le (length word) 20
+        && nat_lt (digits_value 10 word) (2 ^ 64)
     then Some (digits_value 10 word) else None
 
 abbrev pub no_options : Options

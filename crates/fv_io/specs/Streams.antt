@@ -1,5 +1,6 @@
 -- What a call does to the bytes that a source has left, and to those that a sink has taken.
--- `Some bytes` is told, and `None` isn't. Each equation also says that what is told stays told, and what isn't stays untold.
+-- `Some bytes` is told, and `None` isn't. Each equation also says that what is told stays told, and what isn't stays
+-- untold.
 use Rattle.std.specs.Prelude.{◌≡◌, ℕ, ◌<◌, ◌≤◌, List, ◌++◌, length, take, ⊤, Option}
 use Rattle.std.specs.Io.KnownBytes.{prepend_known, append_known, IsAtEnd}
 use Rattle.fv_io.specs.declared.source.Took.{Took}

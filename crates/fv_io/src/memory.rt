@@ -179,11 +179,13 @@ impl Sink for MemSink {
         ensures size { GivesExactly (min self.old.piece (min (self.old.room - length self.old.taken) (length piece.now))) result }
 
         // It fails at the listed calls and where no room is left, and at no other, and the count changes there alone.
-        ensures listed { result ≡ Gave.Failed ↔ (Contains self.old.fails self.new.calls ⊎ (self.old.room ≡ length self.old.taken)) }
+        ensures listed { result ≡ Gave.Failed ↔ (Contains self.old.fails self.new.calls
+            ⊎ (self.old.room ≡ length self.old.taken)) }
         ensures failed { result ≡ Gave.Failed → self.new.faults ≡ next_count self.old.faults }
         ensures not_failed { result ≢ Gave.Failed → self.new.faults ≡ self.old.faults }
         ensures calls { self.new.calls ≡ next_count self.old.calls }
-        ensures same { (self.new.room ≡ self.old.room) × (self.new.piece ≡ self.old.piece) × (self.new.fails ≡ self.old.fails) }
+        ensures same { (self.new.room ≡ self.old.room) × (self.new.piece ≡ self.old.piece)
+            × (self.new.fails ≡ self.old.fails) }
     {
         let listed = self.schedule.begin();
         let room_left = self.room - self.bytes.len();

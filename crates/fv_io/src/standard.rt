@@ -66,7 +66,8 @@ fn took(answer: io::Result<usize>) -> Took
     }
 }
 
-/// Gives to a writer, and never flushes it. A write of zero bytes and an error, also an interrupt, are counted failures.
+/// Gives to a writer, and never flushes it. A write of zero bytes and an error, also an interrupt, are counted
+/// failures.
 #[derive(Debug, Drop)]
 pub struct StdSink<W> {
     inner: W,

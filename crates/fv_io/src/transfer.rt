@@ -19,7 +19,8 @@ pub fn read_all<S: Source>(alloc: Global, from: &mut S, limit: usize) -> Result<
 
     // It is too long exactly where more than the limit was taken.
     ensures too_long { IsErrOf result ReadEnd.TooLong → TakesMoreThan limit (S.left from.old) (S.left from.new) }
-    ensures not_too_long { (IsErrOf result ReadEnd.TooLong → ⊥) → TakesAtMost limit (S.left from.old) (S.left from.new) }
+    ensures not_too_long { (IsErrOf result ReadEnd.TooLong → ⊥)
+        → TakesAtMost limit (S.left from.old) (S.left from.new) }
 
     // A fault was counted, and the count never falls.
     ensures fault { IsErrOf result ReadEnd.Fault → Rose (S.faults from.old) (S.faults from.new) }

@@ -5,7 +5,8 @@ use Rattle.fv_tree.specs.Operators.{fits}
 use Rattle.fv_tree.specs.declared.ops.Value.TheVariants.{Int}
 use Rattle.fv_meaning.specs.Texts.{signed_number, read_value, value_text}
 
--- a word of the input is a number exactly if it is a decimal numeral behind at most one sign, and then it is the number that this spells
+-- a word of the input is a number exactly if it is a decimal numeral behind at most one sign, and then it is the number
+-- that this spells
 abbrev pub InputNumberIsNumeral : Type 0
 InputNumberIsNumeral = (w : List ℕ) (z : ℤ)
     → (signed_number w ≡ Ok z) ↔ (IsNumeral 10 (without_leading_sign w) × (z ≡ signed_digits_value 10 w))

@@ -1,5 +1,7 @@
--- Input and output as bytes (ANSI X3.9-1978, sections 12 and 13.6). 10 ends a line, 9 is a tab, 32 a blank and 44 a comma.
-use Rattle.std.specs.Prelude.{Result, Ok, Err, ℕ, ◌+◌, ◌*◌, ◌-◌, ℤ, pos, neg_ℤ, Bool, true, false, ◌&&◌, ◌||◌, nat_le, ◌==◌, if◌then◌else◌, List, [], ◌∷◌, ◌++◌}
+-- Input and output as bytes (ANSI X3.9-1978, sections 12 and 13.6). 10 ends a line, 9 is a tab, 32 a blank and 44 a
+-- comma.
+use Rattle.std.specs.Prelude.{Result, Ok, Err, ℕ, ◌+◌, ◌*◌, ◌-◌, ℤ, pos, neg_ℤ, Bool, true, false, ◌&&◌, ◌||◌, nat_le}
+use Rattle.std.specs.Prelude.{◌==◌, if◌then◌else◌, List, [], ◌∷◌, ◌++◌}
 use lib.Chars.{codes}
 use Rattle.std.specs.Fmt.{signed_decimal}
 use Rattle.fv_tree.specs.Steps.{◌>>=◌}
@@ -61,7 +63,8 @@ abbrev pub after_word : List ℕ → List ℕ
 after_word [] = []
 after_word (c ∷ cs) = if is_separator c then c ∷ cs else after_word cs
 
--- The input from the next value on. Between two values stand blanks, tabs and line ends with at most one comma, and before
+-- The input from the next value on. Between two values stand blanks, tabs and line ends with at most one comma, and
+-- before
 -- the first value of a READ no comma: `comma` says whether one may still come
 abbrev pub from_value : Bool → List ℕ → Result (List ℕ) Fault
 from_value comma [] = Err InputEnd
@@ -97,7 +100,8 @@ has_slash (c ∷ cs) = c == 47 || has_slash cs
 -- T or F in either case, then anything without a slash
 abbrev pub truth_letter : List ℕ → Result Bool Fault
 truth_letter [] = Err InputForm
-truth_letter (c ∷ cs) = if has_slash cs then Err InputForm else (if c == 84 || c == 116 then Ok true else (if c == 70 || c == 102 then Ok false else Err InputForm))
+truth_letter (c ∷ cs) = if has_slash cs then Err InputForm else (if c == 84
+    || c == 116 then Ok true else (if c == 70 || c == 102 then Ok false else Err InputForm))
 
 -- an optional period before that
 abbrev pub truth_word : List ℕ → Result Bool Fault

@@ -6,7 +6,7 @@ ghost use Rattle.fv_meaning.specs.Exchange.{AssignmentsExchange};
 ghost use Rattle.fv_meaning.specs.Jumps.{EveryRunEnds};
 ghost use Rattle.fv_meaning.specs.Numerals.{InputNumberIsNumeral, PrintedNumberIsRead};
 ghost use Rattle.fv_meaning.specs.Ranges.{RunKeepsCells, RunKeepsRange, ValuesFit};
-ghost use Rattle.fv_meaning.specs.Reads.{ValueComesFromCellsRead, ValueComesFromNames};
+ghost use Rattle.fv_meaning.specs.Reads.{ArrayComesFromCellsRead, ValueComesFromCellsRead, ValueComesFromNames};
 ghost use Rattle.fv_meaning.specs.Relined.{Relined, RelinedEndsWell};
 
 /// The cells of a name are those within its bounds, and two cells are the same where they are equal.
@@ -21,9 +21,11 @@ pub fn numbers_in_texts()
     ensures printed { PrintedNumberIsRead }
 {}
 
-/// An expression's value depends on nothing but the cells that it reads and the bounds of its names.
+/// An expression's value, and an array's elements, depend on nothing but the cells that it reads and the bounds of its
+/// names.
 pub fn value_from_cells()
     ensures cells { ValueComesFromCellsRead }
+    ensures arrays { ArrayComesFromCellsRead }
     ensures names { ValueComesFromNames }
 {}
 

@@ -1,4 +1,5 @@
-//! What decks and programs mean: stores, values and runs, in FORTRAN 77 and in Fortran 90; which trees are programs of the two profiles.
+//! What decks and programs mean: stores, values and runs, in FORTRAN 77 and in Fortran 90; which trees are programs of
+//! the two profiles.
 #![tactic(auto)]
 
 mod laws;
@@ -9,7 +10,8 @@ pub use laws::{
     numbers_in_texts, relined_run, run_ends, value_from_cells,
 };
 
-/// How a run ended: at END or STOP; by a fault, at a line; at the limit of steps; or because its output couldn't be written.
+/// How a run ended: at END or STOP; by a fault, at a line; at the limit of steps; or because its output couldn't be
+/// written.
 #[derive(Clone, Copy, Debug, PartialEq, Eq)]
 pub enum End {
     Done,

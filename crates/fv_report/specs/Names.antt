@@ -1,7 +1,8 @@
 -- The names that a line of the notes has for faults, refusals and their words.
 use Rattle.std.specs.Prelude.{ℕ, List, [], ◌∷◌, ◌++◌, codes, if◌then◌else◌, ◌==◌}
 use Rattle.fv_tree.specs.declared.ops.Fault.{Fault}
-use Rattle.fv_tree.specs.declared.ops.Fault.TheVariants.{Overflow, ZeroDivide, Bounds, ZeroStep, TripCount, InputEnd, InputForm, Shape, Allocated}
+use Rattle.fv_tree.specs.declared.ops.Fault.TheVariants.{Overflow, ZeroDivide, Bounds, ZeroStep, TripCount, InputEnd}
+use Rattle.fv_tree.specs.declared.ops.Fault.TheVariants.{InputForm, Shape, Allocated}
 use Rattle.f77_grammar.specs.statements.Recognition.{words_left_out}
 
 -- the name that a table has for a number, and nothing for a number that it doesn't have

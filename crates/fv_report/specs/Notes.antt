@@ -3,7 +3,8 @@ use Rattle.std.specs.Prelude.{ℕ, List, [], ◌∷◌, ◌++◌, codes, decimal
 use Rattle.fv_tree.specs.declared.ops.Fault.{Fault}
 use Rattle.fv_tree.specs.declared.refusals.Refusal.{Refusal}
 use Rattle.fv_report.specs.declared.outcome.Outcome.{Outcome}
-use Rattle.fv_report.specs.declared.outcome.Outcome.TheVariants.{Done, Usage, Refused, Faulted, StepLimit, ReadFault, WriteFault, OutOfMemory}
+use Rattle.fv_report.specs.declared.outcome.Outcome.TheVariants.{Done, Usage, Refused, Faulted, StepLimit, ReadFault}
+use Rattle.fv_report.specs.declared.outcome.Outcome.TheVariants.{WriteFault, OutOfMemory}
 use Rattle.fv_report.specs.Names.{fault_number, fault_name, refusal_name, refusal_word}
 
 abbrev pub status_of : Outcome → ℕ

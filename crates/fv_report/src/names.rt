@@ -1,6 +1,7 @@
 //! The names of faults, refusals and their words.
 ghost use Rattle.std.specs.Prelude.{◌≡◌, ◌<◌, ◌≤◌, length};
-ghost use Rattle.fv_report.specs.Names.{fault_number, fault_name, refusal_name, refusal_word, left_out, limits, name_at};
+ghost use Rattle.fv_report.specs.Names.{fault_number, fault_name, refusal_name, refusal_word, left_out, limits};
+ghost use Rattle.fv_report.specs.Names.{name_at};
 
 use fv_tree::Fault;
 

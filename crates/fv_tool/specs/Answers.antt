@@ -21,7 +21,8 @@ IsOneOf (n ∷ m ∷ ns) status = (status ≡ n) ⊎ IsOneOf (m ∷ ns) status
 -- the deck's run ends in this fault at this line
 abbrev pub HasFault : Command → Kind → ℕ → List ℕ → Type 0
 HasFault Vectorise fault line deck = ⊥
-HasFault (Run77 options) fault line deck = (p : Program) × ReadsDeck77 deck p × (ending (run_of options deck p) ≡ Some (Fault fault line))
+HasFault (Run77 options) fault line deck = (p : Program) × ReadsDeck77 deck p
+    × (ending (run_of options deck p) ≡ Some (Fault fault line))
 
 -- a refusal is one of the deck's, and a fault is that of its run, where the deck is told
 abbrev pub IsTrueOf : Option Command → Option (List ℕ) → Outcome → Type 0

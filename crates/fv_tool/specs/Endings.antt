@@ -12,7 +12,8 @@ use Rattle.fv_io.specs.Streams.{TakesMoreThan, Gives, GivesPart}
 use Rattle.fv_command.specs.declared.commands.Command.{Command}
 use Rattle.fv_command.specs.declared.commands.Command.TheVariants.{Vectorise, Run77}
 use Rattle.fv_report.specs.declared.outcome.Outcome.{Outcome}
-use Rattle.fv_report.specs.declared.outcome.Outcome.TheVariants.{Done, Usage, Refused, Faulted, StepLimit, ReadFault, WriteFault, OutOfMemory}
+use Rattle.fv_report.specs.declared.outcome.Outcome.TheVariants.{Done, Usage, Refused, Faulted, StepLimit, ReadFault}
+use Rattle.fv_report.specs.declared.outcome.Outcome.TheVariants.{WriteFault, OutOfMemory}
 use Rattle.fv_tool.specs.Decks.{Reads, IsRefused}
 use Rattle.fv_tool.specs.Running.{run_of, run_text}
 
@@ -83,11 +84,13 @@ EndsAt k c e = IsAtEnd c.left_now × IfSome c.left_before (GivesAll k e c.taken_
 abbrev pub Ends : Command → Call → Outcome → Type 0
 Ends k c Done = EndsAt k c end.Done
 Ends k c Usage = ⊥
-Ends k c (Refused r) = IfSome c.left_before (IsRefusedFor k r) × IsReadFor c.left_before c.left_now r × (c.taken_now ≡ c.taken_before)
+Ends k c (Refused r) = IfSome c.left_before (IsRefusedFor k r) × IsReadFor c.left_before c.left_now r
+    × (c.taken_now ≡ c.taken_before)
 Ends k c (Faulted fault line) = IsRun k × EndsAt k c (end.Fault fault line)
 Ends k c StepLimit = IsRun k × EndsAt k c end.StepLimit
 Ends k c ReadFault = Rose c.deck_faults_before c.deck_faults_now × (c.taken_now ≡ c.taken_before)
-Ends k c WriteFault = Rose c.out_faults_before c.out_faults_now × IsAtEnd c.left_now × IfSome c.left_before (GivesFront k c.taken_before c.taken_now)
+Ends k c WriteFault = Rose c.out_faults_before c.out_faults_now × IsAtEnd c.left_now
+    × IfSome c.left_before (GivesFront k c.taken_before c.taken_now)
 Ends k c OutOfMemory = c.taken_now ≡ c.taken_before
 
 -- words that are no command do nothing

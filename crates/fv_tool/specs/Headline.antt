@@ -10,13 +10,15 @@ use Rattle.first_path_grammar.specs.Reading90.{Reads90}
 use Rattle.first_path_grammar.specs.Printing90.{printed90}
 use Rattle.fv_io.specs.Streams.{Gives, GivesPart}
 
--- Where the sequential run of p ends without fault, so does the array run of q, with the same output, and the stores agree on p.
+-- Where the sequential run of p ends without fault, so does the array run of q, with the same output, and the stores
+-- agree on p.
 pub record Preserves (p q : Program) (input : List ℕ) : Type 0 where
   pub ends : EndsWell (sequential_run p input) → EndsWell (array_run q input)
   pub output : EndsWell (sequential_run p input) → (sequential_run p input).written ≡ (array_run q input).written
   pub store : EndsWell (sequential_run p input) → Agree p (sequential_run p input).store (array_run q input).store
 
--- The text is a translation of the deck: the deck spells the program, the text is the program's printing, and as a Fortran 90
+-- The text is a translation of the deck: the deck spells the program, the text is the program's printing, and as a
+-- Fortran 90
 -- deck it spells a program that preserves what the first one does on the same input.
 pub record TranslationHolds (deck text : List ℕ) : Type 0 where
   pub program : Program

@@ -7,7 +7,8 @@ use Rattle.fv_io.specs.Causes.{Rose}
 use Rattle.fv_io.specs.Streams.{Gives, GivesPart}
 use Rattle.fv_command.specs.declared.commands.Command.{Command}
 use Rattle.fv_report.specs.declared.outcome.Outcome.{Outcome}
-use Rattle.fv_report.specs.declared.outcome.Outcome.TheVariants.{Done, Usage, Refused, Faulted, StepLimit, ReadFault, WriteFault, OutOfMemory}
+use Rattle.fv_report.specs.declared.outcome.Outcome.TheVariants.{Done, Usage, Refused, Faulted, StepLimit, ReadFault}
+use Rattle.fv_report.specs.declared.outcome.Outcome.TheVariants.{WriteFault, OutOfMemory}
 use Rattle.fv_tool.specs.Endings.{IsReadAs, IsRefusedFor, ending_of, text_of}
 
 -- the bytes in the sink and its count of faults, before and after

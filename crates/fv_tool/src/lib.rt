@@ -89,7 +89,8 @@ pub fn run_tool<S: Source, K: Sink, E: Sink>(
     ensures whole { IsOneOf (0 ∷ 3 ∷ 4 ∷ 6 ∷ []) result → IsAtEnd (S.left deck.new) }
     ensures whole_refused { result ≡ 2 → IsReadOrPassed (S.left deck.old) (S.left deck.new) }
 
-    // 2 comes only where the deck is refused for the command. Where it is and reading didn't fail, there is nothing but 2, or 7.
+    // 2 comes only where the deck is refused for the command. Where it is and reading didn't fail, there is nothing but
+    // 2, or 7.
     ensures refused { (c : Asked) → command_of (texts words.now.items) ≡ Some c → result ≡ 2
         → IfSome (S.left deck.old) (λ bytes. (r : Refusal) × IsRefused c bytes r × IsReadFor (S.left deck.old) (S.left deck.new) r) }
     ensures accepted { (c : Asked) → command_of (texts words.now.items) ≡ Some c
@@ -102,10 +103,13 @@ pub fn run_tool<S: Source, K: Sink, E: Sink>(
     ensures write_fault { result ≡ 6 → Rose (K.faults out.old) (K.faults out.new) }
 
     // `vectorise` gives the translation at 0, and a front of it at 6.
-    ensures translated { command_of (texts words.now.items) ≡ Some Vectorise → result ≡ 0 → IfSome (S.left deck.old) (GivesTranslation (K.taken out.old) (K.taken out.new)) }
-    ensures part { command_of (texts words.now.items) ≡ Some Vectorise → result ≡ 6 → IfSome (S.left deck.old) (GivesTranslationPart (K.taken out.old) (K.taken out.new)) }
+    ensures translated { command_of (texts words.now.items) ≡ Some Vectorise → result ≡ 0
+        → IfSome (S.left deck.old) (GivesTranslation (K.taken out.old) (K.taken out.new)) }
+    ensures part { command_of (texts words.now.items) ≡ Some Vectorise → result ≡ 6
+        → IfSome (S.left deck.old) (GivesTranslationPart (K.taken out.old) (K.taken out.new)) }
 
-    // `run77` gives all of the run's text: at 0 the run ended without fault, at 3 by a fault, at 4 since its steps exceed the limit. At 6 it gives a front.
+    // `run77` gives all of the run's text: at 0 the run ended without fault, at 3 by a fault, at 4 since its steps
+    // exceed the limit. At 6 it gives a front.
     ensures ran { (o : Options) → command_of (texts words.now.items) ≡ Some (Run77 o) → result ≡ 0
         → IfSome (S.left deck.old) (GivesRun o Done (K.taken out.old) (K.taken out.new)) }
     ensures faulted { result ≡ 3 → (o : Options) × (command_of (texts words.now.items) ≡ Some (Run77 o))
@@ -118,7 +122,8 @@ pub fn run_tool<S: Source, K: Sink, E: Sink>(
     // Otherwise nothing is given.
     ensures nothing { IsOneOf (1 ∷ 2 ∷ 5 ∷ 7 ∷ []) result → K.taken out.new ≡ K.taken out.old }
 
-    // Where no count of faults rose, a deck that is read gets 3 where its run faults within the limit, 4 where its steps exceed the limit, and 0 otherwise, unless memory runs out.
+    // Where no count of faults rose, a deck that is read gets 3 where its run faults within the limit, 4 where its
+    // steps exceed the limit, and 0 otherwise, unless memory runs out.
     ensures faults { (o : Options) → command_of (texts words.now.items) ≡ Some (Run77 o)
         → IfSome (S.left deck.old) (λ bytes. (p : Program) → ReadsDeck77 bytes p → (fault : Kind) (line : ℕ) → ending (run_of o bytes p) ≡ Some (Fault fault line)
         → (Rose (S.faults deck.old) (S.faults deck.new) → ⊥) → (Rose (K.faults out.old) (K.faults out.new) → ⊥) → IsOneOf (3 ∷ 7 ∷ []) result) }
@@ -134,7 +139,8 @@ pub fn run_tool<S: Source, K: Sink, E: Sink>(
     // The notes have the status's line, or a front of it where they failed.
     ensures note { (Rose (E.faults notes.old) (E.faults notes.new) → ⊥)
         → (line : List ℕ) × NoteFor (command_of (texts words.now.items)) (S.left deck.old) result line × Gives (E.taken notes.old) line (E.taken notes.new) }
-    ensures note_part { (line : List ℕ) × NoteFor (command_of (texts words.now.items)) (S.left deck.old) result line × GivesPart (E.taken notes.old) line (E.taken notes.new) }
+    ensures note_part { (line : List ℕ) × NoteFor (command_of (texts words.now.items)) (S.left deck.old) result line
+        × GivesPart (E.taken notes.old) line (E.taken notes.new) }
 
     ensures deck_later { S.faults deck.old ≤ S.faults deck.new }
     ensures out_later { K.faults out.old ≤ K.faults out.new }

@@ -81,7 +81,8 @@ pub(super) struct Done {
     pub(super) notes: Vec<u8>,
 }
 
-// How the objects of a call behave: the size of their pieces, and the numbers of the calls that fail; no call has number 0.
+// How the objects of a call behave: the size of their pieces, and the numbers of the calls that fail; no call has
+// number 0.
 #[derive(Clone, Copy)]
 pub(super) struct Objects {
     pub(super) piece: usize,

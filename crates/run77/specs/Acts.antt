@@ -31,15 +31,18 @@ pub record HasFront (names : List Declaration) (base : Option (List ℕ)) (m : M
   pub whole : s.written ≡ front ++ rest
   pub taken : now ≡ append_known base front
 
-abbrev pub Outcome : List Declaration → Option ℕ → List ℕ → Option (List ℕ) → Moment → Option (List ℕ) → Result (Unit {0}) Left → State → Type 0
+abbrev pub Outcome : List Declaration → Option ℕ → List ℕ → Option (List ℕ) → Moment → Option (List ℕ)
+    → Result (Unit {0}) Left → State → Type 0
 Outcome names limit input base m now (Ok x) s = Ended names limit input base m now Going s
 Outcome names limit input base m now (Err (Halted h)) s = Ended names limit input base m now (way_of h) s
 Outcome names limit input base m now (Err Unwritten) s = HasFront names base m now s
 
 -- What was done took the one moment to the other, as the act does, and what a sink had `before` to what it has `now`
-unfoldable pub Runs : LimitedAct → List ℕ → Moment → Option (List ℕ) → Moment → Option (List ℕ) → Result (Unit {0}) Left → Type 0
+unfoldable pub Runs : LimitedAct → List ℕ → Moment → Option (List ℕ) → Moment → Option (List ℕ) → Result (Unit {0}) Left
+    → Type 0
 Runs act input old before new now r = (names : List Declaration) (limit : Option ℕ) (base : Option (List ℕ)) (s : State)
-    → Stands names limit input old Going s → before ≡ append_known base s.written → Outcome names limit input base new now r (act limit s)
+    → Stands names limit input old Going s → before ≡ append_known base s.written
+        → Outcome names limit input base new now r (act limit s)
 
 abbrev pub left_of : {A : Type 0} → Result A Halt → Result A Left
 left_of (Ok x) = Ok x

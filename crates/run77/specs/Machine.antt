@@ -24,7 +24,8 @@ opening_of ds = record { bounds = opening_bounds ds; held = λ c. opening_value 
 
 -- the moment stands for the first one of a run of any program with the machine's names
 unfoldable pub IsOpening : Option ℕ → Moment → Type 0
-IsOpening limit m = (p : Program) (input : List ℕ) → names_in m.storage ≡ p.declarations → Stands p.declarations limit input m Going (opening_state p input)
+IsOpening limit m = (p : Program) (input : List ℕ) → names_in m.storage ≡ p.declarations
+    → Stands p.declarations limit input m Going (opening_state p input)
 
 abbrev pub end_at : Halt → End
 end_at (Jump n) = Done

@@ -26,7 +26,8 @@ way_of Stop = Stopped
 way_of (Fault' f line) = Failed f line
 way_of Limit = Cut
 
--- The machine's moment m stands for the moment s of the run of a program with these names, under this limit of steps, over
+-- The machine's moment m stands for the moment s of the run of a program with these names, under this limit of steps,
+-- over
 -- this input
 pub record Stands (names : List Declaration) (limit : Option ℕ) (input : List ℕ) (m : Moment) (way : Way) (s : State) : Type 0 where
   pub names_are : names_in m.storage ≡ names
@@ -38,9 +39,11 @@ pub record Stands (names : List Declaration) (limit : Option ℕ) (input : List 
 
 -- a step was counted, or none was left
 unfoldable pub CountsStep : Moment → Moment → Result (Unit {0}) Halt → Type 0
-CountsStep old new (Ok x) = (names : List Declaration) (limit : Option ℕ) (input : List ℕ) (s : State) → Stands names limit input old Going s
+CountsStep old new (Ok x) = (names : List Declaration) (limit : Option ℕ) (input : List ℕ) (s : State)
+    → Stands names limit input old Going s
     → (is_allowed limit s.steps ≡ true) × Stands names limit input new Going (record s { steps = s.steps + 1 })
-CountsStep old new (Err h) = (h ≡ Limit) × (new ≡ old) × ((names : List Declaration) (limit : Option ℕ) (input : List ℕ) (s : State) → Stands names limit input old Going s
+CountsStep old new (Err h) = (h ≡ Limit) × (new ≡ old)
+    × ((names : List Declaration) (limit : Option ℕ) (input : List ℕ) (s : State) → Stands names limit input old Going s
     → is_allowed limit s.steps ≡ false)
 
 -- an answer with its fault at the line

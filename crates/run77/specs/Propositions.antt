@@ -8,7 +8,8 @@ use Rattle.fv_meaning.specs.Typed77.{dimensions}
 use Rattle.fv_meaning.specs.Profile77.{IsDimension}
 use Rattle.run77.specs.Storage.{AreArrays, AreBounds}
 
-AllByRecursion-prop : {X : Type 0} (P : X → Type 0) → ((x : X) → IsProp (P x)) → (xs : List X) → IsProp (AllByRecursion P xs)
+AllByRecursion-prop : {X : Type 0} (P : X → Type 0) → ((x : X) → IsProp (P x)) → (xs : List X)
+    → IsProp (AllByRecursion P xs)
 AllByRecursion-prop P h [] = hlevel []
 AllByRecursion-prop P h (x ∷ xs) = let a = h x in let b = AllByRecursion-prop P h xs in hlevel (a, b)
 

@@ -23,11 +23,13 @@ module _ (input : List ℕ) (line : ℕ) (old new : Moment) where
   -- the next word of the input was taken, and is this one
   unfoldable pub TakesWord : List ℕ → Type 0
   TakesWord w = (k : List ℕ → LimitedAct) (before now : Option (List ℕ)) (end : Moment) (r : Result (Unit {0}) Left)
-      → Runs (k w) input new before end now r → Runs (λ limit. takes_word line (λ w. k w limit)) input old before end now r
+      → Runs (k w) input new before end now r
+          → Runs (λ limit. takes_word line (λ w. k w limit)) input old before end now r
 
   -- there was none
   unfoldable pub HasNoWord : Halt → Type 0
-  HasNoWord h = (k : List ℕ → LimitedAct) (bytes : Option (List ℕ)) → Runs (λ limit. takes_word line (λ w. k w limit)) input old bytes new bytes (Err (Halted h))
+  HasNoWord h = (k : List ℕ → LimitedAct) (bytes : Option (List ℕ))
+      → Runs (λ limit. takes_word line (λ w. k w limit)) input old bytes new bytes (Err (Halted h))
 
 -- a number that stands for the one that a word spells: both are the same, or both are outside the range of INTEGER
 pub record SpellsNumber (w : List ℕ) (z : ℤ) : Type 0 where
@@ -45,7 +47,8 @@ pub record Spells (old : Value) (w : List ℕ) (v : Value) : Type 0 where
 
 -- the next value of the input was stored at the place, which is that of a cell
 abbrev pub ReadsAt : List ℕ → ℕ → ℕ → Moment → Moment → Result (Unit {0}) Halt → Type 0
-ReadsAt input line k old new r = (c : Cell) → place (names_in old.storage) c.name c.subscripts ≡ Some k → DoesOver input (λ limit. reads_into integer_bits limit line c) old new r
+ReadsAt input line k old new r = (c : Cell) → place (names_in old.storage) c.name c.subscripts ≡ Some k
+    → DoesOver input (λ limit. reads_into integer_bits limit line c) old new r
 
 -- all cells of a name
 abbrev pub all_cells : List ℕ → Store → Result (List Cell) Fault

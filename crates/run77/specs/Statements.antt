@@ -1,6 +1,7 @@
 -- Statements, as a machine does them.
 use Rattle.std.specs.Prelude.{Result, Ok, Err, Option, ℕ, Bool, true, false, List, map, IsTrue}
-use Rattle.fv_tree.specs.Plain.{Statement, Assignment, If, Do, Label, GoTo, Stop, Read, Print, Arms, no_arms, arm, Block, no_statements, statement, Items}
+use Rattle.fv_tree.specs.Plain.{Statement, Assignment, If, Do, Label, GoTo, Stop, Read, Print, Arms, no_arms, arm}
+use Rattle.fv_tree.specs.Plain.{Block, no_statements, statement, Items}
 use Rattle.fv_tree.specs.View.{arms, tested_of}
 use Rattle.fv_tree.specs.declared.stmts.Arm.{Arm}
 use Rattle.fv_meaning.specs.Sequential.{integer_bits}
@@ -34,14 +35,18 @@ abbrev mutual
 abbrev pub plain_arms : List Arm → Arms
 plain_arms as' = arms (map tested_of as')
 
--- The arms were gone through, whatever the ELSE part does: one was done; none, so that the ELSE part goes on from here; or
+-- The arms were gone through, whatever the ELSE part does: one was done; none, so that the ELSE part goes on from here;
+-- or
 -- the run was left
 module _ (line : ℕ) (as' : Arms) (input : List ℕ) (old : Moment) (before : Option (List ℕ)) (new : Moment) (now : Option (List ℕ)) where
   unfoldable pub Chooses : Result Bool Left → Type 0
-  Chooses (Ok true) = (other : LimitedAct) → Runs (λ limit. chooses integer_bits limit line as' (other limit)) input old before new now (Ok tt)
+  Chooses (Ok true) = (other : LimitedAct)
+      → Runs (λ limit. chooses integer_bits limit line as' (other limit)) input old before new now (Ok tt)
   Chooses (Ok false) = (other : LimitedAct) (end : Moment) (after : Option (List ℕ)) (r : Result (Unit {0}) Left)
-      → Runs other input new now end after r → Runs (λ limit. chooses integer_bits limit line as' (other limit)) input old before end after r
-  Chooses (Err left) = (other : LimitedAct) → Runs (λ limit. chooses integer_bits limit line as' (other limit)) input old before new now (Err left)
+      → Runs other input new now end after r
+          → Runs (λ limit. chooses integer_bits limit line as' (other limit)) input old before end after r
+  Chooses (Err left) = (other : LimitedAct)
+      → Runs (λ limit. chooses integer_bits limit line as' (other limit)) input old before new now (Err left)
 
 -- the same as `Does`, over this input
 abbrev pub DoesOver : List ℕ → LimitedAct → Moment → Moment → Result (Unit {0}) Halt → Type 0

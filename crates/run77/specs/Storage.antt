@@ -1,6 +1,8 @@
--- Where the cells of a program's names lie: in one list of values, the names in the order of their declarations, and the
+-- Where the cells of a program's names lie: in one list of values, the names in the order of their declarations, and
+-- the
 -- elements of an array in column-major order (ANSI X3.9-1978, section 5.2.5).
-use Rattle.std.specs.Prelude.{◌≡◌, false, Option, Some, None, ℕ, ◌+◌, ◌*◌, ◌^◌, ◌≤◌, ℤ, ◌-ℤ◌, nat_abs, int_le, ◌&&◌, if◌then◌else◌, List, [], ◌∷◌, map, get_or, nat_lt, length, ◌++◌, replicate}
+use Rattle.std.specs.Prelude.{◌≡◌, false, Option, Some, None, ℕ, ◌+◌, ◌*◌, ◌^◌, ◌≤◌, ℤ, ◌-ℤ◌, nat_abs, int_le, ◌&&◌}
+use Rattle.std.specs.Prelude.{if◌then◌else◌, List, [], ◌∷◌, map, get_or, nat_lt, length, ◌++◌, replicate}
 use Rattle.std.specs.Option.{option_map}
 use Rattle.std.specs.Str.{bytes_eq}
 use Rattle.std.specs.List.{AllByRecursion}

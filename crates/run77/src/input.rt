@@ -1,6 +1,8 @@
 //! The input of READ: bytes, values and lines (ANSI X3.9-1978, sections 12.3 and 13.6).
-ghost use Rattle.std.specs.Prelude.{◌≡◌, ◌≢◌, ◌<◌, ◌≤◌, ◌+◌, ◌-◌, [], ◌∷◌, length, take, drop, get_or, ℕ, pos, min, IfSome, IfOk, MatchOption, MatchResult, Ok, Err};
-ghost use Rattle.fv_meaning.specs.Texts.{is_gap, without_cr, from_value, after_line, after_word, first_word, unsigned_number, signed_number, truth_letter, truth_word, read_value};
+ghost use Rattle.std.specs.Prelude.{◌≡◌, ◌≢◌, ◌<◌, ◌≤◌, ◌+◌, ◌-◌, [], ◌∷◌, length, take, drop, get_or, ℕ, pos, min};
+ghost use Rattle.std.specs.Prelude.{IfSome, IfOk, MatchOption, MatchResult, Ok, Err};
+ghost use Rattle.fv_meaning.specs.Texts.{is_gap, without_cr, from_value, after_line, after_word, first_word};
+ghost use Rattle.fv_meaning.specs.Texts.{unsigned_number, signed_number, truth_letter, truth_word, read_value};
 ghost use Rattle.run77.specs.Reading.{Spells, SpellsNumber};
 
 use fv_tree::{Fault, Value};
@@ -89,7 +91,8 @@ pub fn line_end(input: &[u8], start: usize) -> usize
 
 // The number that digits spell, or a number beyond the range of INTEGER.
 fn digits(word: &[u8]) -> Result<u32, Fault>
-    ensures { MatchResult result (λ number. (n : ℕ) × (unsigned_number word.now ≡ Ok (pos n)) × (number ≡ min n 2147483649)) (λ fault. unsigned_number word.now ≡ Err fault) }
+    ensures { MatchResult result (λ number. (n : ℕ) × (unsigned_number word.now ≡ Ok (pos n))
+        × (number ≡ min n 2147483649)) (λ fault. unsigned_number word.now ≡ Err fault) }
 {
     if word.is_empty() {
         return Err(Fault::InputForm);

@@ -109,7 +109,8 @@ impl Machine77 {
 
     /// Writes a line for each variable and array element, in byte order of names, and column-major order.
     pub fn show<K: Sink>(&self, out: &mut K) -> Result<(), WriteFault>
-        ensures text { (p : Program) → IsMachineOf p self.now → WritesText (K.taken out.old) (final_lines p (store_left self.now)) (K.taken out.new) result }
+        ensures text { (p : Program) → IsMachineOf p self.now
+            → WritesText (K.taken out.old) (final_lines p (store_left self.now)) (K.taken out.new) result }
         ensures fault { OnErr result (Rose (K.faults out.old) (K.faults out.new)) }
         ensures later { K.faults out.old ≤ K.faults out.new }
     {

@@ -13,7 +13,8 @@ pub struct Moment {
     pub(crate) left: Option<u64>,
 }
 
-/// Why the statements of a block aren't done one after the other to its end: a jump to a label, STOP, a fault at a line, or
+/// Why the statements of a block aren't done one after the other to its end: a jump to a label, STOP, a fault at a
+/// line, or
 /// the limit of steps.
 #[derive(Clone, Copy, Debug, PartialEq, Eq)]
 pub enum Halt {

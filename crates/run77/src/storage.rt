@@ -8,7 +8,8 @@ use crate::variables::Variable;
 use fv_tree::{Name, Value};
 use indexmap::IndexMap;
 
-/// The declared names, in a table that keeps their order, and the values of all. Those of an array stand in column-major order.
+/// The declared names, in a table that keeps their order, and the values of all. Those of an array stand in
+/// column-major order.
 #[derive(Drop)]
 pub struct Storage {
     pub(crate) variables: IndexMap<Name, Variable>,

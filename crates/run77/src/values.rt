@@ -1,5 +1,6 @@
 //! The values of expressions over the values of a program's names.
-ghost use Rattle.std.specs.Prelude.{◌≡◌, [], ◌<◌, ◌≤◌, ◌+◌, Ok, map, set, IfOk, IfSome, MatchOption, None, Option, vec_len};
+ghost use Rattle.std.specs.Prelude.{◌≡◌, [], ◌<◌, ◌≤◌, ◌+◌, Ok, map, set, IfOk, IfSome, MatchOption, None, Option};
+ghost use Rattle.std.specs.Prelude.{vec_len};
 ghost use Rattle.fv_tree.specs.Plain.{subscripts, expressions};
 ghost use Rattle.fv_tree.specs.Operators.{as_number};
 ghost use Rattle.fv_tree.specs.View.{expression_of, subscript_of, reference_of};
@@ -59,7 +60,8 @@ impl Storage {
         arguments.call(function)
     }
 
-    /// The place of a scalar's or an element's value. All subscripts are evaluated before any is held against its bounds.
+    /// The place of a scalar's or an element's value. All subscripts are evaluated before any is held against its
+    /// bounds.
     #[cycle(value)]
     #[tactic(auto, using(crate::proofs::ValueLaws::place_laws))]
     pub fn place(&self, item: &Ref) -> Result<usize, Fault>

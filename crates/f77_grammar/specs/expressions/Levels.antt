@@ -1,7 +1,8 @@
 -- How tightly operators bind, and to which side they group.
 use Rattle.std.specs.Prelude.{ℕ, ◌+◌, Bool, true, false}
 use Rattle.fv_tree.specs.declared.ops.Op.{Op}
-use Rattle.fv_tree.specs.declared.ops.Op.TheVariants.{Pow, Mul, Div, Neg, Add, Sub, Lt, Le, Eq, Ne, Gt, Ge, Not, And, Or, Eqv, Neqv}
+use Rattle.fv_tree.specs.declared.ops.Op.TheVariants.{Pow, Mul, Div, Neg, Add, Sub, Lt, Le, Eq, Ne, Gt, Ge, Not, And}
+use Rattle.fv_tree.specs.declared.ops.Op.TheVariants.{Or, Eqv, Neqv}
 
 abbrev pub level_of : Op → ℕ
 level_of Pow = 9

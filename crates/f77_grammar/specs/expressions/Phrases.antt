@@ -2,10 +2,12 @@
 use Rattle.std.specs.Prelude.{ℕ, ◌+◌, ◌≤◌, max, ℤ, pos, Bool, true, false, IsTrue, List, [], ◌∷◌, ◌++◌, if◌then◌else◌}
 use Rattle.fv_tree.specs.declared.ops.Op.{Op}
 use Rattle.fv_tree.specs.declared.ops.Op.TheVariants.{Neg, Not, Add, Sub}
-use Rattle.fv_tree.specs.Plain.{Expression, Number, Logic, Named, Unary, Binary, Subscript, Only, subscripts, no_subscripts}
+use Rattle.fv_tree.specs.Plain.{Expression, Number, Logic, Named, Unary, Binary, Subscript, Only, subscripts}
+use Rattle.fv_tree.specs.Plain.{no_subscripts}
 use Rattle.f77_grammar.specs.expressions.Words as words
 use Rattle.f77_grammar.specs.expressions.Words.{Word}
-use Rattle.f77_grammar.specs.expressions.Levels.{Sign, Plus, Minus, Negation, level_of, left_least, right_least, joins, compares, may_follow, sign_level}
+use Rattle.f77_grammar.specs.expressions.Levels.{Sign, Plus, Minus, Negation, level_of, left_least, right_least, joins}
+use Rattle.f77_grammar.specs.expressions.Levels.{compares, may_follow, sign_level}
 
 -- A list has one expression at least.
 mutual
@@ -51,9 +53,11 @@ abbrev mutual
   IsExpression (Name x) = Unit {0}
   IsExpression (Listed x ps) = AreExpressions ps
   IsExpression (Paren p) = IsExpression p
-  IsExpression (Signed s p) = (sign_level s + 1 ≤ level p) × IsTrue (may_follow (sign_word s) (begins_with_sign p)) × IsExpression p
+  IsExpression (Signed s p) = (sign_level s + 1 ≤ level p) × IsTrue (may_follow (sign_word s) (begins_with_sign p))
+      × IsExpression p
   IsExpression (Joined o a b) =
-      IsTrue (joins o) × (left_least o ≤ level a) × (right_least o ≤ level b) × IsTrue (may_follow o (begins_with_sign b)) × IsExpression a × IsExpression b
+      IsTrue (joins o) × (left_least o ≤ level a) × (right_least o ≤ level b)
+          × IsTrue (may_follow o (begins_with_sign b)) × IsExpression a × IsExpression b
 
   pub AreExpressions : Phrases → Type 0
   AreExpressions (One p) = IsExpression p

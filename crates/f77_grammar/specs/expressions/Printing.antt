@@ -1,11 +1,14 @@
 -- An expression's text in FORTRAN 77, with the parentheses that it needs.
-use Rattle.std.specs.Prelude.{ℕ, ◌^◌, ◌<◌, ℤ, pos, negsuc, Bool, true, false, nat_le, IsTrue, List, [], ◌++◌, codes, decimal, Option, Some, None, if◌then◌else◌}
+use Rattle.std.specs.Prelude.{ℕ, ◌^◌, ◌<◌, ℤ, pos, negsuc, Bool, true, false, nat_le, IsTrue, List, [], ◌++◌, codes}
+use Rattle.std.specs.Prelude.{decimal, Option, Some, None, if◌then◌else◌}
 use Rattle.std.specs.List.{flat_map}
 use Rattle.fv_tree.specs.declared.ops.Op.{Op}
 use Rattle.fv_tree.specs.declared.ops.Op.TheVariants.{Neg, Not}
-use Rattle.fv_tree.specs.Plain.{Expression, Number, Logic, Named, Unary, Binary, Apply, Subscript, Only, Subscripts, no_subscripts, subscript}
+use Rattle.fv_tree.specs.Plain.{Expression, Number, Logic, Named, Unary, Binary, Apply, Subscript, Only, Subscripts}
+use Rattle.fv_tree.specs.Plain.{no_subscripts, subscript}
 use Rattle.f77_grammar.specs.expressions.Levels.{Minus, Negation, left_least, right_least, joins, may_follow}
-use Rattle.f77_grammar.specs.expressions.Phrases.{Phrase, Literal, WideLiteral, Truth, Name, Listed, Paren, Signed, Joined, Phrases, One, Then, level, begins_with_sign, written}
+use Rattle.f77_grammar.specs.expressions.Phrases.{Phrase, Literal, WideLiteral, Truth, Name, Listed, Paren, Signed}
+use Rattle.f77_grammar.specs.expressions.Phrases.{Joined, Phrases, One, Then, level, begins_with_sign, written}
 use Rattle.f77_grammar.specs.expressions.Spelling.{IsName, spelling}
 use Rattle.f77_grammar.specs.expressions.Words as words
 use Rattle.f77_grammar.specs.expressions.Words.{Word}

@@ -1,9 +1,12 @@
 -- How words are spelled, and which words a text has.
-use Rattle.std.specs.Prelude.{ℕ, ◌+◌, ◌-◌, ◌*◌, ◌^◌, ◌<◌, ◌≤◌, ◌≡◌, pos, Bool, true, false, ◌&&◌, ◌||◌, nat_le, ◌==◌, List, [], ◌∷◌, ◌++◌, length, map, fold, codes, IsTrue}
+use Rattle.std.specs.Prelude.{ℕ, ◌+◌, ◌-◌, ◌*◌, ◌^◌, ◌<◌, ◌≤◌, ◌≡◌, pos, Bool, true, false, ◌&&◌, ◌||◌, nat_le, ◌==◌}
+use Rattle.std.specs.Prelude.{List, [], ◌∷◌, ◌++◌, length, map, fold, codes, IsTrue}
 use Rattle.fv_tree.specs.declared.ops.Op.{Op}
-use Rattle.fv_tree.specs.declared.ops.Op.TheVariants.{Pow, Mul, Div, Neg, Add, Sub, Lt, Le, Eq, Ne, Gt, Ge, Not, And, Or, Eqv, Neqv}
+use Rattle.fv_tree.specs.declared.ops.Op.TheVariants.{Pow, Mul, Div, Neg, Add, Sub, Lt, Le, Eq, Ne, Gt, Ge, Not, And}
+use Rattle.fv_tree.specs.declared.ops.Op.TheVariants.{Or, Eqv, Neqv}
 use Rattle.f77_grammar.specs.expressions.Squeezing.{Symbol, Char, Text}
-use Rattle.f77_grammar.specs.expressions.Words.{Word, Number, Wide, Truth, Name, Head, Operator, Open, Close, Comma, Equals, Colon, Constant}
+use Rattle.f77_grammar.specs.expressions.Words.{Word, Number, Wide, Truth, Name, Head, Operator, Open, Close, Comma}
+use Rattle.f77_grammar.specs.expressions.Words.{Equals, Colon, Constant}
 
 abbrev pub is_digit : ℕ → Bool
 is_digit c = nat_le 48 c && nat_le c 57

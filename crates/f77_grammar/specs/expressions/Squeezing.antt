@@ -2,7 +2,8 @@
 -- constant is one symbol.
 use Rattle.std.specs.Prelude.{ℕ, ◌-◌, ◌≡◌, Bool, true, false, ◌&&◌, nat_le, ◌==◌, List, [], ◌∷◌, ◌++◌, if◌then◌else◌}
 
--- `Broken` stands for a constant without characters, and for an apostrophe that begins no constant, with all that follows it.
+-- `Broken` stands for a constant without characters, and for an apostrophe that begins no constant, with all that
+-- follows it.
 pub data Symbol : Type 0 where
   Char : ℕ → Symbol
   Text : List ℕ → Symbol
@@ -28,7 +29,9 @@ IsEnded (c ∷ cs) = (c == 39) ≡ false
 pub data Squeezed : List ℕ → List Symbol → Type 0 where
   nothing : Squeezed [] []
   blank : {cs : List ℕ} {ss : List Symbol} → Squeezed cs ss → Squeezed (32 ∷ cs) ss
-  character : (c : ℕ) {cs : List ℕ} {ss : List Symbol} → (c == 32) ≡ false → (c == 39) ≡ false → Squeezed cs ss → Squeezed (c ∷ cs) (Char (upper c) ∷ ss)
-  constant : (c : ℕ) (t : List ℕ) {cs : List ℕ} {ss : List Symbol} → IsEnded cs → Squeezed cs ss → Squeezed (39 ∷ (doubled (c ∷ t) ++ 39 ∷ cs)) (Text (c ∷ t) ∷ ss)
+  character : (c : ℕ) {cs : List ℕ} {ss : List Symbol} → (c == 32) ≡ false → (c == 39) ≡ false → Squeezed cs ss
+      → Squeezed (c ∷ cs) (Char (upper c) ∷ ss)
+  constant : (c : ℕ) (t : List ℕ) {cs : List ℕ} {ss : List Symbol} → IsEnded cs → Squeezed cs ss
+      → Squeezed (39 ∷ (doubled (c ∷ t) ++ 39 ∷ cs)) (Text (c ∷ t) ∷ ss)
   empty : {cs : List ℕ} {ss : List Symbol} → IsEnded cs → Squeezed cs ss → Squeezed (39 ∷ 39 ∷ cs) (Broken ∷ ss)
   endless : (t : List ℕ) → Squeezed (39 ∷ doubled t) (Broken ∷ [])

@@ -1,10 +1,14 @@
--- What names are declared as (ANSI X3.9-1978, sections 4.1.2, 5.1, 8.1, 8.4, 8.6 and 18.2): each once, and as one thing.
-use Rattle.std.specs.Prelude.{ℕ, zero, suc, ◌==◌, Bool, true, false, not, ◌&&◌, ◌||◌, is_some, is_none, if◌then◌else◌, List, [], ◌∷◌, ◌++◌}
+-- What names are declared as (ANSI X3.9-1978, sections 4.1.2, 5.1, 8.1, 8.4, 8.6 and 18.2): each once, and as one
+-- thing.
+use Rattle.std.specs.Prelude.{ℕ, zero, suc, ◌==◌, Bool, true, false, not, ◌&&◌, ◌||◌, is_some, is_none, if◌then◌else◌}
+use Rattle.std.specs.Prelude.{List, [], ◌∷◌, ◌++◌}
 use Rattle.std.specs.List.{list_any}
 use Rattle.f77_grammar.specs.Statement77.{Entity, NamedConstant, Statement77, Declare, Dimension, Constants}
 use Rattle.fv_meaning.specs.Names.{is_among, function_named, is_implicit_integer}
 use Rattle.f77_grammar.specs.program.Text.{Place}
-use Rattle.f77_grammar.specs.program.Uses.{Role, Valued, Target, Use, uses_in, uses_in_bounds, uses_of, uses_in_text, is_title, is_typed, is_bounded, is_defined, names_that, stands, is_constant, is_variable, is_array, type_of, dimensions_of_name}
+use Rattle.f77_grammar.specs.program.Uses.{Role, Valued, Target, Use, uses_in, uses_in_bounds, uses_of, uses_in_text}
+use Rattle.f77_grammar.specs.program.Uses.{is_title, is_typed, is_bounded, is_defined, names_that, stands, is_constant}
+use Rattle.f77_grammar.specs.program.Uses.{is_variable, is_array, type_of, dimensions_of_name}
 
 -- ---- declared twice, or as two things
 
@@ -23,11 +27,13 @@ is_array_or_constant r = is_bounded r || is_defined r
 
 -- the program's name is no other name
 abbrev pub uses_title : Place → Bool
-uses_title p = list_any (λ (u : Use). not (is_title u.role) && stands is_title (uses_in_text p.before) u.name) (uses_of p.here.statement)
+uses_title p = list_any (λ (u : Use). not (is_title u.role)
+    && stands is_title (uses_in_text p.before) u.name) (uses_of p.here.statement)
 
 -- ---- constant expressions (section 6.7)
 
--- A name in a constant expression isn't a symbolic constant that was defined before, or has a list in parentheses. Such a constant
+-- A name in a constant expression isn't a symbolic constant that was defined before, or has a list in parentheses. Such
+-- a constant
 -- that bears a function's name and has a list is no name undeclared; its kind doesn't suit
 abbrev pub is_listed : Role → Bool
 is_listed (Valued (suc n)) = true
@@ -47,7 +53,8 @@ bounds_of_entities (e ∷ es) = uses_in_bounds e.bounds ++ bounds_of_entities es
 -- each constant of a PARAMETER statement counts as defined for those after it
 abbrev pub defines_from_unknown : List (List ℕ) → List NamedConstant → Bool
 defines_from_unknown defined [] = false
-defines_from_unknown defined (d ∷ ds) = has_unknown defined (uses_in d.value) || defines_from_unknown (d.name ∷ defined) ds
+defines_from_unknown defined (d ∷ ds) = has_unknown defined (uses_in d.value)
+    || defines_from_unknown (d.name ∷ defined) ds
 
 abbrev pub has_unknown_constant : List (List ℕ) → Statement77 → Bool
 has_unknown_constant defined (Declare k es) = has_unknown defined (bounds_of_entities es)

@@ -1,8 +1,10 @@
--- DO variables, those of implied DO lists too (ANSI X3.9-1978, sections 11.10 and 12.8.2.3): INTEGER scalar variables that nothing in the range
+-- DO variables, those of implied DO lists too (ANSI X3.9-1978, sections 11.10 and 12.8.2.3): INTEGER scalar variables
+-- that nothing in the range
 -- of their loop or list sets.
 use Rattle.std.specs.Prelude.{ℕ, Bool, false, not, ◌&&◌, ◌||◌, List, [], ◌∷◌}
 use Rattle.std.specs.List.{flat_map}
-use Rattle.fv_tree.specs.Plain.{Expression, Named, Subscripts, no_subscripts, subscript, Item, Single, Constant, ImpliedDo, Items, no_items, item}
+use Rattle.fv_tree.specs.Plain.{Expression, Named, Subscripts, no_subscripts, subscript, Item, Single, Constant}
+use Rattle.fv_tree.specs.Plain.{ImpliedDo, Items, no_items, item}
 use Rattle.fv_tree.specs.declared.ops.Kind.TheVariants.{Integer}
 use Rattle.f77_grammar.specs.Statement77.{Labelled, Statement77, Assign, Do, Read, Print}
 use Rattle.fv_meaning.specs.Names.{is_among}

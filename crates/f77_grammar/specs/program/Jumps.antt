@@ -2,7 +2,8 @@
 use Rattle.std.specs.Prelude.{ℕ, Bool, true, false, ◌||◌, Option, None, Some, List, ◌∷◌}
 use Rattle.std.specs.List.{list_any, find}
 use Rattle.f77_grammar.specs.Statement77.{Labelled, Statement77, Go}
-use Rattle.f77_grammar.specs.program.Text.{Place, places, action, bears, is_block_if, is_else, is_end_if, is_declaration, loop_ends_in, unended}
+use Rattle.f77_grammar.specs.program.Text.{Place, places, action, bears, is_block_if, is_else, is_end_if}
+use Rattle.f77_grammar.specs.program.Text.{is_declaration, loop_ends_in, unended}
 
 -- where the label stands among these statements; what stands before it there is what a jump passes over
 abbrev pub place_of_label : ℕ → List Labelled → Option Place
@@ -13,7 +14,8 @@ opens_arm s = is_block_if s || is_else s
 
 -- a block IF, one of its later arms, or a loop, was opened on the way and is still open at its end
 abbrev pub enters_block : Place → Bool
-enters_block way = list_any (λ (x : Labelled). opens_arm x.statement) (unended way.before) || list_any (loop_ends_in (way.here ∷ way.after)) way.before
+enters_block way = list_any (λ (x : Labelled). opens_arm x.statement) (unended way.before)
+    || list_any (loop_ends_in (way.here ∷ way.after)) way.before
 
 -- ELSE IF, ELSE, END IF or a declaration
 abbrev pub is_no_target : Statement77 → Bool

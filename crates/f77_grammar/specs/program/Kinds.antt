@@ -1,12 +1,17 @@
--- Kinds of operands, arguments, subscripts, conditions and sides (ANSI X3.9-1978, sections 5.4, 6.1 to 6.4, 8.6, 10, 11.4 to 11.7, 11.10.1, 12.8.2 and 15.10).
+-- Kinds of operands, arguments, subscripts, conditions and sides (ANSI X3.9-1978, sections 5.4, 6.1 to 6.4, 8.6, 10,
+-- 11.4 to 11.7, 11.10.1, 12.8.2 and 15.10).
 use Rattle.std.specs.Prelude.{ℕ, zero, suc, Bool, true, false, not, ◌&&◌, ◌||◌, Option, None, Some, List}
 use Rattle.std.specs.Str.{bytes_eq}
 use Rattle.std.specs.List.{list_any, list_all}
-use Rattle.fv_tree.specs.Plain.{Expression, Number, Logic, Named, Unary, Binary, Apply, Expressions, no_expressions, expression, Subscript, Only, Subscripts, no_subscripts, subscript, Item, Single, Constant, ImpliedDo, Items, no_items, item}
+use Rattle.fv_tree.specs.Plain.{Expression, Number, Logic, Named, Unary, Binary, Apply, Expressions, no_expressions}
+use Rattle.fv_tree.specs.Plain.{expression, Subscript, Only, Subscripts, no_subscripts, subscript, Item, Single}
+use Rattle.fv_tree.specs.Plain.{Constant, ImpliedDo, Items, no_items, item}
 use Rattle.fv_tree.specs.declared.ops.Kind.{Kind}
 use Rattle.fv_tree.specs.declared.ops.Kind.TheVariants.{Integer, Logical}
 use Rattle.fv_tree.specs.declared.ops.Fun.{Fun}
-use Rattle.f77_grammar.specs.Statement77.{Entity, NamedConstant, Statement77, Program, Declare, Dimension, Constants, Assign, Go, Test, If, ElseIf, Else, EndIf, Do, Continue, Stop, Read, Print, End}
+use Rattle.f77_grammar.specs.Statement77.{Entity, NamedConstant, Statement77, Program, Declare, Dimension, Constants}
+use Rattle.f77_grammar.specs.Statement77.{Assign, Go, Test, If, ElseIf, Else, EndIf, Do, Continue, Stop, Read, Print}
+use Rattle.f77_grammar.specs.Statement77.{End}
 use Rattle.fv_meaning.specs.Names.{function_named, name_of_function, suits_number}
 use Rattle.fv_meaning.specs.Typed77.{operand_kind, kind_of_result, is_unary, number_of_arguments, number_of_subscripts}
 use Rattle.f77_grammar.specs.program.Text.{Place}
@@ -25,7 +30,8 @@ takes_so_many (Some f) n = suits_number f n
 module _ (us : List Use) where
   -- a name with a list in parentheses: an element of this kind, or a call, which is INTEGER
   abbrev pub list_has_kind : List ℕ → ℕ → Kind → Bool
-  list_has_kind x n k = (is_array us x && same_kind (kind_of_name us x) k) || (is_function us x && takes_so_many (function_named x) n && same_kind Integer k)
+  list_has_kind x n k = (is_array us x && same_kind (kind_of_name us x) k)
+      || (is_function us x && takes_so_many (function_named x) n && same_kind Integer k)
 
   -- a scalar or a symbolic constant of this kind, not a whole array
   abbrev pub name_has_kind : List ℕ → ℕ → Kind → Bool
@@ -39,7 +45,8 @@ module _ (us : List Use) where
     has_kind (Logic b) k = same_kind Logical k
     has_kind (Named x ps) k = name_has_kind x (number_of_subscripts ps) k && are_subscripts ps
     has_kind (Unary o a) k = is_unary o && same_kind (kind_of_result o) k && has_kind a (operand_kind o)
-    has_kind (Binary o a b) k = not (is_unary o) && same_kind (kind_of_result o) k && has_kind a (operand_kind o) && has_kind b (operand_kind o)
+    has_kind (Binary o a b) k = not (is_unary o) && same_kind (kind_of_result o) k && has_kind a (operand_kind o)
+        && has_kind b (operand_kind o)
     has_kind (Apply f es) k = suits_number f (number_of_arguments es) && same_kind Integer k && are_arguments es
     has_kind _ k = false
 
@@ -110,7 +117,8 @@ module _ (us : List Use) where
   suits (Dimension es) = has_integer_bounds es
   suits (Constants ds) = list_all (λ (d : NamedConstant). has_kind d.value (kind_of_name us d.name)) ds
   suits (Assign left e) =
-      is_stored_into left.name (number_of_subscripts left.subscripts) && are_subscripts left.subscripts && has_kind e (kind_of_name us left.name)
+      is_stored_into left.name (number_of_subscripts left.subscripts) && are_subscripts left.subscripts
+          && has_kind e (kind_of_name us left.name)
   suits (Test c s) = has_kind c Logical && suits s
   suits (If c) = has_kind c Logical
   suits (ElseIf c) = has_kind c Logical

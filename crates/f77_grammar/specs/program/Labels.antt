@@ -1,4 +1,5 @@
--- Labels (ANSI X3.9-1978, section 3.4): each is from 1 to 99999 and stands on one statement alone, and a label that is named stands somewhere.
+-- Labels (ANSI X3.9-1978, section 3.4): each is from 1 to 99999 and stands on one statement alone, and a label that is
+-- named stands somewhere.
 use Rattle.std.specs.Prelude.{ℕ, ◌==◌, Bool, false, not, ◌||◌, Option, None, Some, List}
 use Rattle.f77_grammar.specs.Statement77.{Labelled, Statement77, Go, Do}
 use Rattle.f77_grammar.specs.program.Text.{Place, action, stands_in}

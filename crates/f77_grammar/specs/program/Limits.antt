@@ -1,5 +1,6 @@
 -- The values of symbolic constants and bounds (ANSI X3.9-1978, sections 5.1, 6.7 and 8.6), and the limits of a program.
-use Rattle.std.specs.Prelude.{Result, Ok, Err, ℕ, ◌+◌, ◌*◌, ◌^◌, nat_lt, nat_le, ℤ, pos, int_lt, Bool, true, false, ◌&&◌, ◌||◌, None, Some, is_none, is_err, if◌then◌else◌, List, [], ◌∷◌, map, length, sum}
+use Rattle.std.specs.Prelude.{Result, Ok, Err, ℕ, ◌+◌, ◌*◌, ◌^◌, nat_lt, nat_le, ℤ, pos, int_lt, Bool, true, false}
+use Rattle.std.specs.Prelude.{◌&&◌, ◌||◌, None, Some, is_none, is_err, if◌then◌else◌, List, [], ◌∷◌, map, length, sum}
 use Rattle.std.specs.Str.{bytes_eq}
 use Rattle.std.specs.List.{list_any, filter, flat_map}
 use Rattle.fv_tree.specs.Steps.{◌>>=◌}
@@ -11,7 +12,8 @@ use Rattle.fv_tree.specs.declared.ops.Fault.TheVariants.{Overflow}
 use Rattle.fv_meaning.specs.Store.{Store, size_of}
 use Rattle.fv_meaning.specs.Value.{value_of, number_of, is_in_range}
 use Rattle.fv_meaning.specs.Sequential.{fortran77}
-use Rattle.f77_grammar.specs.Statement77.{Entity, NamedConstant, Labelled, Statement77, Declare, Dimension, Constants, Test, If, Do}
+use Rattle.f77_grammar.specs.Statement77.{Entity, NamedConstant, Labelled, Statement77, Declare, Dimension, Constants}
+use Rattle.f77_grammar.specs.Statement77.{Test, If, Do}
 use Rattle.fv_meaning.specs.Names.{is_among}
 use Rattle.f77_grammar.specs.program.Text.{Place, open_loops, open_ifs}
 use Rattle.f77_grammar.specs.program.Uses.{Use, uses_in_text, is_variable, is_constant}
@@ -45,7 +47,8 @@ abbrev pub definitions_of : Statement77 → List NamedConstant
 definitions_of (Constants ds) = ds
 definitions_of _ = []
 
--- the values of all symbolic constants of a program; one whose expression faults, or leaves the range of INTEGER, has none
+-- the values of all symbolic constants of a program; one whose expression faults, or leaves the range of INTEGER, has
+-- none
 abbrev pub constants_of : List Labelled → Store
 constants_of text = with_constants (flat_map (λ (x : Labelled). definitions_of x.statement) text) no_values
 
@@ -106,7 +109,8 @@ once (x ∷ xs) = if is_among xs x then once xs else x ∷ once xs
 -- the variables and symbolic constants that stand in these statements
 abbrev pub counted_names : List Use → List Labelled → List (List ℕ)
 counted_names us text =
-    once (map (λ (u : Use). u.name) (filter (λ (u : Use). is_variable us u.name || is_constant us u.name) (uses_in_text text)))
+    once (map (λ (u : Use). u.name) (filter (λ (u : Use). is_variable us u.name
+        || is_constant us u.name) (uses_in_text text)))
 
 -- the 1,001st variable or symbolic constant stands here, or stood before
 abbrev pub has_many_names : List Use → Place → Bool
@@ -142,4 +146,5 @@ is_no_constant s e = is_err (constant_value e s)
 abbrev pub has_bad_constant : Store → Place → Bool
 has_bad_constant s p =
     list_any (λ (d : NamedConstant). is_none (s.bounds d.name)) (definitions_of p.here.statement)
-    || list_any (λ bs. list_any (λ b. is_no_constant s b.0 || is_no_constant s b.1) bs) (bounds_declared p.here.statement)
+    || list_any (λ bs. list_any (λ b. is_no_constant s b.0
+        || is_no_constant s b.1) bs) (bounds_declared p.here.statement)

@@ -1,7 +1,10 @@
--- Blocks and loops (ANSI X3.9-1978, sections 11.6 to 11.10). Each opener has its closer apart from all others: END IF ends the nearest block
--- IF that hasn't ended, and a statement with a label ends all loops of that label. Whatever is opened in a block IF or in a loop
+-- Blocks and loops (ANSI X3.9-1978, sections 11.6 to 11.10). Each opener has its closer apart from all others: END IF
+-- ends the nearest block
+-- IF that hasn't ended, and a statement with a label ends all loops of that label. Whatever is opened in a block IF or
+-- in a loop
 -- is closed in it.
-use Rattle.std.specs.Prelude.{ℕ, zero, suc, Bool, true, false, not, ◌&&◌, ◌||◌, Option, None, Some, if◌then◌else◌, List, [], ◌∷◌, nat_eq}
+use Rattle.std.specs.Prelude.{ℕ, zero, suc, Bool, true, false, not, ◌&&◌, ◌||◌, Option, None, Some, if◌then◌else◌, List}
+use Rattle.std.specs.Prelude.{[], ◌∷◌, nat_eq}
 use Rattle.std.specs.List.{list_any}
 use Rattle.f77_grammar.specs.Statement77.{Labelled, Statement77, Go, If, ElseIf, Else, EndIf, Do, Stop, End}
 use Rattle.f77_grammar.specs.program.Text.{Place, stands_in, is_block_if, is_last_else, loop_ends_in, unended}
@@ -90,7 +93,8 @@ is_no_loop_end _ = false
 abbrev pub ends_loops_wrongly : Place → Option ℕ → Bool
 ends_loops_wrongly p None = false
 ends_loops_wrongly p (Some n) =
-    list_any (begins_loop n) p.before && (is_no_loop_end p.here.statement || is_anything_open (since_do n p.before) p.after)
+    list_any (begins_loop n) p.before && (is_no_loop_end p.here.statement
+        || is_anything_open (since_do n p.before) p.after)
 
 -- a block IF has no END IF
 abbrev pub stays_open : Statement77 → Place → Bool

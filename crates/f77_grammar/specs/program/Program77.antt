@@ -14,7 +14,8 @@ use Rattle.f77_grammar.specs.program.Declarations.{is_declared_wrongly, has_real
 use Rattle.f77_grammar.specs.program.Kinds.{has_unsuited_kind}
 use Rattle.f77_grammar.specs.program.Jumps.{has_wrong_jump}
 use Rattle.f77_grammar.specs.program.DoVariables.{has_wrong_do_variable}
-use Rattle.f77_grammar.specs.program.Limits.{constants_of, has_many_names, has_many_blocks, has_reversed_bounds, has_many_elements, has_bad_constant}
+use Rattle.f77_grammar.specs.program.Limits.{constants_of, has_many_names, has_many_blocks, has_reversed_bounds}
+use Rattle.f77_grammar.specs.program.Limits.{has_many_elements, has_bad_constant}
 use Rattle.f77_grammar.specs.program.Tree.{tree_of}
 
 -- ---- which refusal a list of findings gives: the least number, then the first line, then the least word

@@ -1,8 +1,10 @@
--- The text of a program: its statements in order. What is asked of a statement is asked at its place: what stands before it, and what
+-- The text of a program: its statements in order. What is asked of a statement is asked at its place: what stands
+-- before it, and what
 -- stands after it.
 use Rattle.std.specs.Prelude.{ℕ, zero, suc, ◌==◌, Bool, true, false, Option, None, Some, List, [], ◌∷◌}
 use Rattle.std.specs.List.{list_any, filter}
-use Rattle.f77_grammar.specs.Statement77.{Labelled, Statement77, Declare, Dimension, Constants, Test, If, ElseIf, Else, EndIf, Do, End}
+use Rattle.f77_grammar.specs.Statement77.{Labelled, Statement77, Declare, Dimension, Constants, Test, If, ElseIf, Else}
+use Rattle.f77_grammar.specs.Statement77.{EndIf, Do, End}
 
 -- the statements before a place stand with the nearest first
 pub record Place : Type 0 where
@@ -88,7 +90,8 @@ left_over (If c) x more (suc n) = more n
 left_over s x more zero = x ∷ more zero
 left_over s x more (suc n) = more (suc n)
 
--- Statements, the nearest first, without the block IFs that end among them and all that stands in these; `n` END IF statements are
+-- Statements, the nearest first, without the block IFs that end among them and all that stands in these; `n` END IF
+-- statements are
 -- still without their block IF
 abbrev pub without_ended : List Labelled → ℕ → List Labelled
 without_ended [] n = []

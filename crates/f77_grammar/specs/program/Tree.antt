@@ -1,10 +1,14 @@
--- The tree that the statements of a program form: symbolic constants are replaced by their values, calls are told from elements, a logical
+-- The tree that the statements of a program form: symbolic constants are replaced by their values, calls are told from
+-- elements, a logical
 -- IF becomes a block IF of one arm, and labels stand only where a GO TO names them.
-use Rattle.std.specs.Prelude.{Result, Ok, Err, ℕ, suc, ◌==◌, ℤ, pos, negsuc, Bool, true, false, Option, None, Some, if◌then◌else◌, List, [], ◌∷◌, ◌++◌, map}
+use Rattle.std.specs.Prelude.{Result, Ok, Err, ℕ, suc, ◌==◌, ℤ, pos, negsuc, Bool, true, false, Option, None, Some}
+use Rattle.std.specs.Prelude.{if◌then◌else◌, List, [], ◌∷◌, ◌++◌, map}
 use Rattle.std.specs.List.{list_any, filter, flat_map, fold}
 use Rattle.std.specs.Cmp.Lexicographic.{slice_cmp}
 use Rattle.std.specs.Ordering.{nat_cmp, match_ordering}
-use Rattle.fv_tree.specs.Plain.{Expression, Number, Logic, Named, Unary, Binary, Apply, Expressions, no_expressions, expression, Subscript, Only, Subscripts, no_subscripts, subscript, Reference, Item, Single, Constant, ImpliedDo, Items, no_items, item}
+use Rattle.fv_tree.specs.Plain.{Expression, Number, Logic, Named, Unary, Binary, Apply, Expressions, no_expressions}
+use Rattle.fv_tree.specs.Plain.{expression, Subscript, Only, Subscripts, no_subscripts, subscript, Reference, Item}
+use Rattle.fv_tree.specs.Plain.{Single, Constant, ImpliedDo, Items, no_items, item}
 use Rattle.fv_tree.specs.Plain as tree
 use Rattle.fv_tree.specs.declared.ops.Op.TheVariants.{Neg}
 use Rattle.fv_tree.specs.declared.ops.Fun.{Fun}
@@ -12,10 +16,12 @@ use Rattle.fv_tree.specs.declared.ops.Fault.{Fault}
 use Rattle.fv_tree.specs.declared.ops.Value.{Value}
 use Rattle.fv_tree.specs.declared.ops.Value.TheVariants.{Int, Truth}
 use Rattle.fv_meaning.specs.Store.{Store}
-use Rattle.f77_grammar.specs.Statement77.{Labelled, Statement77, Assign, Go, Test, If, ElseIf, Else, EndIf, Do, Stop, Read, Print}
+use Rattle.f77_grammar.specs.Statement77.{Labelled, Statement77, Assign, Go, Test, If, ElseIf, Else, EndIf, Do, Stop}
+use Rattle.f77_grammar.specs.Statement77.{Read, Print}
 use Rattle.fv_meaning.specs.Names.{function_named}
 use Rattle.f77_grammar.specs.program.Text.{action, is_label}
-use Rattle.f77_grammar.specs.program.Uses.{Use, uses_in_text, is_title, names_that, is_variable, is_constant, is_array, kind_of_name}
+use Rattle.f77_grammar.specs.program.Uses.{Use, uses_in_text, is_title, names_that, is_variable, is_constant, is_array}
+use Rattle.f77_grammar.specs.program.Uses.{kind_of_name}
 use Rattle.f77_grammar.specs.program.Limits.{constants_of, dimension_of, bounds_of_name}
 
 -- ---- expressions
@@ -145,7 +151,8 @@ abbrev pub beyond : ℕ → List Piece → List Piece
 beyond n [] = []
 beyond n (p ∷ ps) = if is_label n p.ends then ps else beyond n ps
 
--- What the statements from one on have become: the pieces of the block in which it stands; and where that is an arm of a block IF, the
+-- What the statements from one on have become: the pieces of the block in which it stands; and where that is an arm of
+-- a block IF, the
 -- later arms and the ELSE part of that, and what comes after the END IF
 pub data Rest : Type 0 where
   Outermost : List Piece → Rest

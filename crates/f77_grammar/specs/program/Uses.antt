@@ -1,17 +1,25 @@
--- How the names of a program stand in it, and what they are: variables, arrays, symbolic constants, functions (ANSI X3.9-1978,
+-- How the names of a program stand in it, and what they are: variables, arrays, symbolic constants, functions (ANSI
+-- X3.9-1978,
 -- sections 2.2, 4.1.2, 8.1, 8.4, 8.6 and 18.2).
-use Rattle.std.specs.Prelude.{ℕ, zero, Bool, true, false, not, ◌&&◌, ◌||◌, Option, None, Some, is_some, List, [], ◌∷◌, ◌++◌, map, length}
+use Rattle.std.specs.Prelude.{ℕ, zero, Bool, true, false, not, ◌&&◌, ◌||◌, Option, None, Some, is_some, List, [], ◌∷◌}
+use Rattle.std.specs.Prelude.{◌++◌, map, length}
 use Rattle.std.specs.Str.{bytes_eq}
 use Rattle.std.specs.List.{list_any, filter, flat_map}
-use Rattle.fv_tree.specs.Plain.{Expression, Number, Logic, Named, Unary, Binary, Apply, Expressions, no_expressions, expression, Subscript, Only, Subscripts, no_subscripts, subscript, Reference, Item, Single, Constant, ImpliedDo, Items, no_items, item}
+use Rattle.fv_tree.specs.Plain.{Expression, Number, Logic, Named, Unary, Binary, Apply, Expressions, no_expressions}
+use Rattle.fv_tree.specs.Plain.{expression, Subscript, Only, Subscripts, no_subscripts, subscript, Reference, Item}
+use Rattle.fv_tree.specs.Plain.{Single, Constant, ImpliedDo, Items, no_items, item}
 use Rattle.fv_tree.specs.declared.ops.Kind.{Kind}
 use Rattle.fv_tree.specs.declared.ops.Kind.TheVariants.{Integer}
-use Rattle.f77_grammar.specs.Statement77.{Entity, NamedConstant, Labelled, Statement77, Program, Declare, Dimension, Constants, Assign, Go, Test, If, ElseIf, Else, EndIf, Do, Continue, Stop, Read, Print, End}
+use Rattle.f77_grammar.specs.Statement77.{Entity, NamedConstant, Labelled, Statement77, Program, Declare, Dimension}
+use Rattle.f77_grammar.specs.Statement77.{Constants, Assign, Go, Test, If, ElseIf, Else, EndIf, Do, Continue, Stop}
+use Rattle.f77_grammar.specs.Statement77.{Read, Print, End}
 use Rattle.fv_meaning.specs.Names.{function_named}
 use Rattle.fv_meaning.specs.Typed77.{number_of_subscripts}
 
--- How a name stands: as the program's name; in a type statement; with bounds for so many dimensions; in PARAMETER, before the `=`; in an expression, with as
--- many subscripts or arguments in parentheses, 0 where it stands bare; so too as what is assigned or read into; as a DO variable
+-- How a name stands: as the program's name; in a type statement; with bounds for so many dimensions; in PARAMETER,
+-- before the `=`; in an expression, with as
+-- many subscripts or arguments in parentheses, 0 where it stands bare; so too as what is assigned or read into; as a DO
+-- variable
 pub data Role : Type 0 where
   Title : Role
   Typed : Kind → Role

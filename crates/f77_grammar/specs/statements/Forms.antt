@@ -1,5 +1,6 @@
 -- The forms of statements, as they are written and what they stand for (ANSI X3.9-1978, sections 7 to 12).
-use Rattle.std.specs.Prelude.{ℕ, ◌+◌, ◌≤◌, ◌≡◌, max, pos, Bool, true, false, ◌⊎◌, Option, Some, None, List, [], ◌∷◌, ◌++◌, length, map, codes}
+use Rattle.std.specs.Prelude.{ℕ, ◌+◌, ◌≤◌, ◌≡◌, max, pos, Bool, true, false, ◌⊎◌, Option, Some, None, List, [], ◌∷◌}
+use Rattle.std.specs.Prelude.{◌++◌, length, map, codes}
 use Rattle.std.specs.List.{list_any, AllByRecursion}
 use Rattle.fv_tree.specs.declared.ops.Kind.{Kind}
 use Rattle.fv_tree.specs.declared.ops.Kind.TheVariants.{Integer, Logical}
@@ -13,7 +14,8 @@ use Rattle.f77_grammar.specs.expressions.Spelling.{Words, IsDigits, value, chars
 use Rattle.f77_grammar.specs.expressions.Squeezing.{Symbol}
 use Rattle.f77_grammar.specs.expressions.Words as words
 use Rattle.f77_grammar.specs.expressions.Words.{Word}
-use Rattle.f77_grammar.specs.statements.Items.{ItemPhrases, Input, Output, AreItems, IsReference, IsStep, written_items, written_bounds, item_trees, step_tree, items_depth, step_depth}
+use Rattle.f77_grammar.specs.statements.Items.{ItemPhrases, Input, Output, AreItems, IsReference, IsStep, written_items}
+use Rattle.f77_grammar.specs.statements.Items.{written_bounds, item_trees, step_tree, items_depth, step_depth}
 
 -- ---- lists with commas
 
@@ -115,7 +117,8 @@ control_depth a b c = max (max (phrases.depth a) (phrases.depth b)) (step_depth 
 
 -- ---- the forms
 
--- A label is its digits. A comma may follow the label of a DO. `Read` and `Print` without a list have forms of their own
+-- A label is its digits. A comma may follow the label of a DO. `Read` and `Print` without a list have forms of their
+-- own
 pub data Form : Type 0 where
   Program : List ℕ → Form
   Declare : Kind → List Entity → Form
@@ -171,21 +174,28 @@ IsWritten (Program x) text = IsFollowed (codes "PROGRAM") (words.Name x ∷ []) 
 IsWritten (Declare k es) text = IsFollowed (keyword_of k) (separated written_entity es) text × IsList IsEntity es
 IsWritten (Dimension es) text = IsFollowed (codes "DIMENSION") (separated written_entity es) text × IsList IsBounded es
 IsWritten (Constants ds) text = IsFollowed (codes "PARAMETER") (words.Open ∷ (separated written_definition ds ++ words.Close ∷ [])) text × IsList IsDefinition ds
-IsWritten (Assign l r) text = Words text (written l ++ (words.Equals ∷ written r)) × IsReference l × IsExpression l × IsExpression r
+IsWritten (Assign l r) text = Words text (written l ++ (words.Equals ∷ written r)) × IsReference l × IsExpression l
+    × IsExpression r
 IsWritten (Go label) text = (text ≡ chars (codes "GOTO" ++ label)) × IsLabel label
 IsWritten (Test p f) text =
-    (e rest : List Symbol) × (text ≡ chars (codes "IF(") ++ (e ++ (chars (codes ")") ++ rest))) × Words e (written p) × IsExpression p × IsWritten f rest × IsInner f
-IsWritten (If p) text = (e : List Symbol) × (text ≡ chars (codes "IF(") ++ (e ++ chars (codes ")THEN"))) × Words e (written p) × IsExpression p
-IsWritten (ElseIf p) text = (e : List Symbol) × (text ≡ chars (codes "ELSEIF(") ++ (e ++ chars (codes ")THEN"))) × Words e (written p) × IsExpression p
+    (e rest : List Symbol) × (text ≡ chars (codes "IF(") ++ (e ++ (chars (codes ")") ++ rest))) × Words e (written p)
+        × IsExpression p × IsWritten f rest × IsInner f
+IsWritten (If p) text = (e : List Symbol) × (text ≡ chars (codes "IF(") ++ (e ++ chars (codes ")THEN")))
+    × Words e (written p) × IsExpression p
+IsWritten (ElseIf p) text = (e : List Symbol) × (text ≡ chars (codes "ELSEIF(") ++ (e ++ chars (codes ")THEN")))
+    × Words e (written p) × IsExpression p
 IsWritten Else text = text ≡ chars (codes "ELSE")
 IsWritten EndIf text = text ≡ chars (codes "ENDIF")
 IsWritten (Do label comma x a b c) text =
-    IsFollowed (codes "DO" ++ (label ++ optional_comma comma)) (written_control x a b c) text × IsLabel label × AreParameters a b c
+    IsFollowed (codes "DO" ++ (label ++ optional_comma comma)) (written_control x a b c) text × IsLabel label
+        × AreParameters a b c
 IsWritten Continue text = text ≡ chars (codes "CONTINUE")
 IsWritten Stop text = text ≡ chars (codes "STOP")
-IsWritten (Read is) text = (IsFollowed (codes "READ*,") (written_items is) text ⊎ IsFollowed (codes "READ(*,*)") (written_items is) text) × AreItems Input is
+IsWritten (Read is) text = (IsFollowed (codes "READ*,") (written_items is) text
+    ⊎ IsFollowed (codes "READ(*,*)") (written_items is) text) × AreItems Input is
 IsWritten ReadNothing text = (text ≡ chars (codes "READ*")) ⊎ (text ≡ chars (codes "READ(*,*)"))
-IsWritten (Print is) text = (IsFollowed (codes "PRINT*,") (written_items is) text ⊎ IsFollowed (codes "WRITE(*,*)") (written_items is) text) × AreItems Output is
+IsWritten (Print is) text = (IsFollowed (codes "PRINT*,") (written_items is) text
+    ⊎ IsFollowed (codes "WRITE(*,*)") (written_items is) text) × AreItems Output is
 IsWritten PrintNothing text = (text ≡ chars (codes "PRINT*")) ⊎ (text ≡ chars (codes "WRITE(*,*)"))
 IsWritten End text = text ≡ chars (codes "END")
 
@@ -219,7 +229,8 @@ statement_of End = statement.End
 
 -- ---- limits
 
--- the depth of its deepest expression or list; the list of a left side counts too, but no parenthesis of IF or PARAMETER
+-- the depth of its deepest expression or list; the list of a left side counts too, but no parenthesis of IF or
+-- PARAMETER
 abbrev pub form_depth : Form → ℕ
 form_depth (Declare k es) = deepest entity_depth es
 form_depth (Dimension es) = deepest entity_depth es

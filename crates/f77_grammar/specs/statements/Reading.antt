@@ -12,7 +12,8 @@ pub record IsFormOf (chars : List ℕ) (f : Form) : Type 0 where
   pub squeezed : Squeezed chars symbols
   pub written : IsWritten f symbols
 
--- The characters are read as a statement: they have a form without a literal above 2^127-1 and without an expression or list more than 400 deep.
+-- The characters are read as a statement: they have a form without a literal above 2^127-1 and without an expression or
+-- list more than 400 deep.
 pub record ReadsStatement (chars : List ℕ) (s : Statement77) : Type 0 where
   pub form : Form
   pub is_form : IsFormOf chars form
@@ -29,7 +30,8 @@ pub record HasWordLeftOut (chars : List ℕ) (number : ℕ) : Type 0 where
 abbrev pub HasNoForm : List ℕ → Type 0
 HasNoForm chars = (f : Form) → IsFormOf chars f → ⊥
 
--- Why the characters are refused: they have no form, by their word or without one; a literal is above 2^127-1; something is more than 400 deep.
+-- Why the characters are refused: they have no form, by their word or without one; a literal is above 2^127-1;
+-- something is more than 400 deep.
 pub data IsRefusedBy (chars : List ℕ) : (number word : ℕ) → Type 0 where
   Syntax : HasNoForm chars → ((number : ℕ) → HasWordLeftOut chars number → ⊥) → IsRefusedBy chars 6 0
   OutOfProfile : (word : ℕ) → HasNoForm chars → HasWordLeftOut chars word → IsRefusedBy chars 7 word

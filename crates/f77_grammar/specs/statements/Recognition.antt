@@ -1,5 +1,7 @@
--- How a statement is recognised, and the words that are left out of the profile by name (ANSI X3.9-1978, section 3 and table 1).
-use Rattle.std.specs.Prelude.{ℕ, zero, suc, ◌≤◌, ◌≡◌, Bool, true, false, ◌==◌, IsTrue, Option, Some, None, List, [], ◌∷◌, ◌++◌, codes, Contains, if◌then◌else◌}
+-- How a statement is recognised, and the words that are left out of the profile by name (ANSI X3.9-1978, section 3 and
+-- table 1).
+use Rattle.std.specs.Prelude.{ℕ, zero, suc, ◌≤◌, ◌≡◌, Bool, true, false, ◌==◌, IsTrue, Option, Some, None, List, []}
+use Rattle.std.specs.Prelude.{◌∷◌, ◌++◌, codes, Contains, if◌then◌else◌}
 use Rattle.f77_grammar.specs.expressions.Spelling.{is_letter, IsName, chars}
 use Rattle.f77_grammar.specs.expressions.Squeezing.{Symbol, Char, Text, Broken}
 use Rattle.f77_grammar.specs.statements.Forms.{IsLabel, optional_comma}
@@ -74,7 +76,8 @@ pub record IsConditional (text condition rest : List Symbol) : Type 0 where
   pub cut : cut_at_close opened ≡ Some (record { inside = condition; behind = rest })
   pub letter : BeginsWithLetter rest
 
--- any other statement with an equals sign outside parentheses is an assignment or a DO, and what is left is the statement of a keyword
+-- any other statement with an equals sign outside parentheses is an assignment or a DO, and what is left is the
+-- statement of a keyword
 pub record IsOfKeyword (text : List Symbol) : Type 0 where
   pub unconditional : (condition rest : List Symbol) → IsConditional text condition rest → ⊥
   pub no_equals : has_equals_outside text 0 ≡ false
@@ -93,10 +96,12 @@ words_left_out =
 -- one label at least, separated by commas
 abbrev pub AreMoreLabels : List (List ℕ) → List Symbol → Type 0
 AreMoreLabels [] text = text ≡ []
-AreMoreLabels (label ∷ labels) text = (rest : List Symbol) × (text ≡ chars (codes "," ++ label) ++ rest) × IsLabel label × AreMoreLabels labels rest
+AreMoreLabels (label ∷ labels) text = (rest : List Symbol) × (text ≡ chars (codes "," ++ label) ++ rest) × IsLabel label
+    × AreMoreLabels labels rest
 
 abbrev pub AreLabels : List ℕ → List (List ℕ) → List Symbol → Type 0
-AreLabels label labels text = (rest : List Symbol) × (text ≡ chars label ++ rest) × IsLabel label × AreMoreLabels labels rest
+AreLabels label labels text = (rest : List Symbol) × (text ≡ chars label ++ rest) × IsLabel label
+    × AreMoreLabels labels rest
 
 abbrev pub IsNothing : List Symbol → Type 0
 IsNothing text = text ≡ []
@@ -129,13 +134,17 @@ pub record IsComputedGoTo (text : List Symbol) : Type 0 where
 -- GO TO x, and GO TO x [,] (l1, ..) (section 11.3)
 pub data IsAssignedGoTo (text : List Symbol) : Type 0 where
   Alone : (name : List ℕ) → IsName name → text ≡ chars (codes "GOTO" ++ name) → IsAssignedGoTo text
-  WithLabels : (name : List ℕ) (comma : Bool) (first : List ℕ) (others : List (List ℕ)) (list : List Symbol) → IsName name → AreLabels first others list
-      → text ≡ chars (codes "GOTO" ++ (name ++ (optional_comma comma ++ codes "("))) ++ (list ++ chars (codes ")")) → IsAssignedGoTo text
+  WithLabels : (name : List ℕ) (comma : Bool) (first : List ℕ) (others : List (List ℕ)) (list : List Symbol)
+      → IsName name → AreLabels first others list
+      → text ≡ chars (codes "GOTO" ++ (name ++ (optional_comma comma ++ codes "("))) ++ (list ++ chars (codes ")"))
+          → IsAssignedGoTo text
 
 -- The word with which the text begins, or that its form has; of a logical IF, the word of its inner statement
 pub data HasWord : List Symbol → ℕ → Type 0 where
-  BeginsWith : (word : List ℕ) (number : ℕ) (text rest : List Symbol) → IsOfKeyword text → Contains words_left_out (word, number) → text ≡ chars word ++ rest → HasWord text number
+  BeginsWith : (word : List ℕ) (number : ℕ) (text rest : List Symbol) → IsOfKeyword text
+      → Contains words_left_out (word, number) → text ≡ chars word ++ rest → HasWord text number
   ArithmeticIf : (text : List Symbol) → IsOfKeyword text → IsArithmeticIf text → HasWord text 32
   ComputedGoTo : (text : List Symbol) → IsOfKeyword text → IsComputedGoTo text → HasWord text 33
   AssignedGoTo : (text : List Symbol) → IsOfKeyword text → IsAssignedGoTo text → HasWord text 34
-  Inner : (text condition rest : List Symbol) (number : ℕ) → IsConditional text condition rest → (rest ≡ chars (codes "THEN") → ⊥) → HasWord rest number → HasWord text number
+  Inner : (text condition rest : List Symbol) (number : ℕ) → IsConditional text condition rest
+      → (rest ≡ chars (codes "THEN") → ⊥) → HasWord rest number → HasWord text number
