@@ -1,6 +1,7 @@
 -- What stands in the blocks of a program: labels and jumps to them, blocks in one another, the number of statements.
 use Rattle.std.specs.Prelude.{ℕ, ◌+◌, ◌^◌, ◌<◌, max, Bool, true, false, List, [], ◌∷◌, ◌++◌, Contains}
-use Rattle.fv_tree.specs.Plain.{Statement, Assignment, Where, If, Do, Label, GoTo, Stop, Read, Print, Allocate, Deallocate}
+use Rattle.fv_tree.specs.Plain.{Statement, Assignment, Where, If, Do, Label, GoTo, Stop, Read, Print, Allocate}
+use Rattle.fv_tree.specs.Plain.{Deallocate}
 use Rattle.fv_tree.specs.Plain.{Arms, no_arms, arm, Block, no_statements, statement}
 
 -- ---- labels
@@ -113,9 +114,9 @@ abbrev mutual
   statements_in no_statements = 0
   statements_in (statement c cs) = statements_of c + statements_in cs
 
--- ---- what stands round a statement: the DO variables of the loops round it, and the labels that stand later in its block or in a block
--- round that one
+-- ---- what stands round a statement
 
+-- the DO variables of the loops round it, and the labels that stand later in its block or in a block round that one
 pub record Surroundings : Type 0 where
   pub variables : List (List ℕ)
   pub ahead : List ℕ

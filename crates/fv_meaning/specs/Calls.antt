@@ -1,9 +1,13 @@
 -- The functions that a program calls, by the names that Fortran 90 has for them (ISO/IEC 1539:1991, section 13.13).
 use Rattle.std.specs.Prelude.{ℕ, List, [], ◌∷◌, ◌++◌}
-use Rattle.fv_tree.specs.Plain.{Expression, Number, Logic, Named, Unary, Binary, Apply, Constructor, Spread, Transpose, Reshape, Reduce}
-use Rattle.fv_tree.specs.Plain.{Expressions, no_expressions, expression, Subscript, Only, Section, Subscripts, no_subscripts, subscript}
-use Rattle.fv_tree.specs.Plain.{Loops, no_loops, loop, Item, Single, Constant, ImpliedDo, Items, no_items, item, Program}
-use Rattle.fv_tree.specs.Plain.{Statement, Assignment, Where, If, Do, Label, GoTo, Stop, Read, Print, Allocate, Deallocate}
+use Rattle.fv_tree.specs.Plain.{Expression, Number, Logic, Named, Unary, Binary, Apply, Constructor, Spread, Transpose}
+use Rattle.fv_tree.specs.Plain.{Reshape, Reduce}
+use Rattle.fv_tree.specs.Plain.{Expressions, no_expressions, expression, Subscript, Only, Section, Subscripts}
+use Rattle.fv_tree.specs.Plain.{no_subscripts, subscript}
+use Rattle.fv_tree.specs.Plain.{Loops, no_loops, loop, Item, Single, Constant, ImpliedDo, Items, no_items, item}
+use Rattle.fv_tree.specs.Plain.{Program}
+use Rattle.fv_tree.specs.Plain.{Statement, Assignment, Where, If, Do, Label, GoTo, Stop, Read, Print, Allocate}
+use Rattle.fv_tree.specs.Plain.{Deallocate}
 use Rattle.fv_tree.specs.Plain.{Arms, no_arms, arm, Block, no_statements, statement}
 use Rattle.fv_meaning.specs.Names.{name_of_function}
 
@@ -51,7 +55,8 @@ abbrev mutual
 abbrev mutual
   pub calls_in_statement : Statement → List (List ℕ)
   calls_in_statement (Assignment line mark left right) = calls_in_subscripts left.subscripts ++ calls_in right
-  calls_in_statement (Where line mark m left right) = calls_in m ++ calls_in_subscripts left.subscripts ++ calls_in right
+  calls_in_statement (Where line mark m left right) =
+      calls_in m ++ calls_in_subscripts left.subscripts ++ calls_in right
   calls_in_statement (If line arms other) = calls_in_arms arms ++ calls_in_block other
   calls_in_statement (Do line x a b c body) = calls_in a ++ calls_in b ++ calls_in c ++ calls_in_block body
   calls_in_statement (Label n) = []

@@ -1,16 +1,19 @@
--- How deep an expression is as it is printed: each operator, each list in parentheses and each parenthesis that it needs counts one for
--- what stands in it (own; the levels of operators are those of ISO/IEC 1539:1991, section 7.3).
+-- How deep an expression is as it is printed: each operator, each list in parentheses and each parenthesis that it
+-- needs counts one for what stands in it (own; the levels of operators are those of ISO/IEC 1539:1991, section 7.3).
 use Rattle.std.specs.Prelude.{ℕ, ◌+◌, max, nat_le, if◌then◌else◌}
 use Rattle.fv_tree.specs.Spelling.{level_of}
-use Rattle.fv_tree.specs.Plain.{Expression, Number, Logic, Named, Unary, Binary, Apply, Constructor, Spread, Transpose, Reshape, Reduce}
-use Rattle.fv_tree.specs.Plain.{Expressions, no_expressions, expression, Subscript, Only, Section, Subscripts, no_subscripts, subscript}
+use Rattle.fv_tree.specs.Plain.{Expression, Number, Logic, Named, Unary, Binary, Apply, Constructor, Spread, Transpose}
+use Rattle.fv_tree.specs.Plain.{Reshape, Reduce}
+use Rattle.fv_tree.specs.Plain.{Expressions, no_expressions, expression, Subscript, Only, Section, Subscripts}
+use Rattle.fv_tree.specs.Plain.{no_subscripts, subscript}
 use Rattle.fv_tree.specs.Plain.{Loops, no_loops, loop, Item, Single, Constant, ImpliedDo, Items, no_items, item}
 use Rattle.fv_tree.specs.declared.ops.Op.{Op}
 use Rattle.fv_tree.specs.declared.ops.Op.TheVariants.{Pow, Lt, Le, Eq, Ne, Gt, Ge}
 
 -- ---- which operands need parentheses
 
--- the least level of the operand to the left: an operator groups to the left, but a power to the right, and a relation not at all
+-- the least level of the operand to the left: an operator groups to the left, but a power to the right, and a relation
+-- not at all
 abbrev pub left_least : Op → ℕ
 left_least Pow = level_of Pow + 1
 left_least Lt = level_of Lt + 1
@@ -44,7 +47,8 @@ abbrev mutual
   depth_of (Logic b) = 0
   depth_of (Named x ps) = depth_of_subscripts ps
   depth_of (Unary o a) = 1 + enclosed (right_least o) (level a) (depth_of a)
-  depth_of (Binary o a b) = 1 + max (enclosed (left_least o) (level a) (depth_of a)) (enclosed (right_least o) (level b) (depth_of b))
+  depth_of (Binary o a b) =
+      1 + max (enclosed (left_least o) (level a) (depth_of a)) (enclosed (right_least o) (level b) (depth_of b))
   depth_of (Apply f es) = 1 + depth_of_each es
   depth_of (Constructor es ls) = 1 + depth_under ls (depth_of_each es)
   depth_of (Spread a d n) = 1 + max (depth_of a) (depth_of n)

@@ -1,4 +1,5 @@
--- Stores such as the run of a program has: what every promise on a part of a program may ask of the store that it begins in.
+-- Stores such as the run of a program has: what every promise on a part of a program may ask of the store that it
+-- begins in.
 use Rattle.std.specs.Prelude.{◌≡◌, ℕ, ℤ, IsTrue, Option, Some, None, IfSome, List, length}
 use Rattle.fv_tree.specs.Operators.{kind_of}
 use Rattle.fv_tree.specs.Plain.{Extent, Given, Later, Declaration, Program}
@@ -20,7 +21,10 @@ pub record IsStorable (lang : Dialect) (k : Kind) (v : Value) : Type 0 where
   pub kind : kind_of v ≡ k
   pub within : IsTrue (is_in_range lang.bits v)
 
--- Each declared name has its bounds, and each cell of the name, whether there is one now or not, holds a value of the name's kind
+-- Each declared name has its bounds, and each cell of the name, whether there is one now or not, holds a value of the
+-- name's kind
 pub record HoldsProgram (lang : Dialect) (p : Program) (s : Store) : Type 0 where
-  pub bounds : (x : List ℕ) → IfSome (declared p.declarations x) (λ (e : Declaration). HasBounds e.extent (s.bounds x))
-  pub kinds : (c : Cell) → IfSome (declared p.declarations c.name) (λ (e : Declaration). IsStorable lang e.kind (s.held c))
+  pub bounds : (x : List ℕ)
+      → IfSome (declared p.declarations x) (λ (e : Declaration). HasBounds e.extent (s.bounds x))
+  pub kinds : (c : Cell)
+      → IfSome (declared p.declarations c.name) (λ (e : Declaration). IsStorable lang e.kind (s.held c))

@@ -1,5 +1,7 @@
--- Symbolic names and the names of functions (ANSI X3.9-1978, sections 2.2, 4.1.2 and 15.10; ISO/IEC 1539:1991, sections 3.2.1 and 13.13).
-use Rattle.std.specs.Prelude.{◌≡◌, ℕ, ◌≤◌, nat_le, ◌==◌, Bool, false, ◌&&◌, ◌||◌, IsTrue, Option, None, Some, if◌then◌else◌, List, [], ◌∷◌, length, codes}
+-- Symbolic names and the names of functions (ANSI X3.9-1978, sections 2.2, 4.1.2 and 15.10; ISO/IEC 1539:1991, sections
+-- 3.2.1 and 13.13).
+use Rattle.std.specs.Prelude.{◌≡◌, ℕ, ◌≤◌, nat_le, ◌==◌, Bool, false, ◌&&◌, ◌||◌, IsTrue, Option, None, Some}
+use Rattle.std.specs.Prelude.{if◌then◌else◌, List, [], ◌∷◌, length, codes}
 use Rattle.std.specs.List.{list_all, list_any, AllByRecursion}
 use Rattle.std.specs.Cmp.Lexicographic.{slice_cmp}
 use Rattle.std.specs.Ordering.{nat_cmp}
@@ -26,7 +28,8 @@ pub record IsSymbolicName (x : List ℕ) : Type 0 where
   pub goes_on : IsTrue (list_all (λ c. is_letter c || is_digit c) x)
   pub within : length x ≤ 6
 
--- the same with underscores, at most 31 in all (ISO/IEC 1539:1991, section 3.2.1); in a tree all letters are in upper case
+-- the same with underscores, at most 31 in all (ISO/IEC 1539:1991, section 3.2.1); in a tree all letters are in upper
+-- case
 pub record IsLongName (x : List ℕ) : Type 0 where
   pub begins : IsTrue (begins_with is_letter x)
   pub goes_on : IsTrue (list_all (λ c. is_letter c || is_digit c || c == 95) x)

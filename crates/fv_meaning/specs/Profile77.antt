@@ -1,17 +1,24 @@
--- The trees of FORTRAN 77 programs: what a program has that is read from a source, and what whoever is given one may rely on.
-use Rattle.std.specs.Prelude.{◌≡◌, ℕ, ◌*◌, ◌^◌, ◌<◌, ◌≤◌, ℤ, pos, neg_ℤ, ◌≤ℤ◌, ◌<ℤ◌, IsTrue, None, List, [], ◌∷◌, length, map, sum, Contains}
+-- The trees of FORTRAN 77 programs: what a program has that is read from a source, and what whoever is given one may
+-- rely on.
+use Rattle.std.specs.Prelude.{◌≡◌, ℕ, ◌*◌, ◌^◌, ◌<◌, ◌≤◌, ℤ, pos, neg_ℤ, ◌≤ℤ◌, ◌<ℤ◌, IsTrue, None, List, [], ◌∷◌}
+use Rattle.std.specs.Prelude.{length, map, sum, Contains}
 use Rattle.std.specs.Option.{IfSome, IsSomeAnd}
 use Rattle.std.specs.List.{AllByRecursion}
-use Rattle.fv_tree.specs.Plain.{Expression, Named, Reference, Statement, Assignment, If, Do, Label, GoTo, Stop, Read, Print, Arms, no_arms, arm, Block, no_statements, statement, Extent, Given, Later, Declaration, Program}
+use Rattle.fv_tree.specs.Plain.{Expression, Named, Reference, Statement, Assignment, If, Do, Label, GoTo, Stop, Read}
+use Rattle.fv_tree.specs.Plain.{Print, Arms, no_arms, arm, Block, no_statements, statement, Extent, Given, Later}
+use Rattle.fv_tree.specs.Plain.{Declaration, Program}
 use Rattle.fv_tree.specs.declared.ops.Kind.TheVariants.{Integer, Logical}
 use Rattle.fv_meaning.specs.Dialect.{Dialect}
 use Rattle.fv_meaning.specs.Store.{names_of, size_of}
 use Rattle.fv_meaning.specs.Names.{IsSymbolicName, IsInByteOrder}
 use Rattle.fv_meaning.specs.Calls.{names_called}
 use Rattle.fv_meaning.specs.Depths.{depth_of_items}
-use Rattle.fv_meaning.specs.Typed77.{dimensions, declared, deepest, IsWhole, IsDoVariable, AreOutputItems, AreInputItems}
-pub use Rattle.fv_meaning.specs.Blocks.{label_of, labels_of, all_labels_of, all_labels_in_arms, all_labels_in, targets_of, targets_in_arms, targets_in, IsWithoutRepeats}
-pub use Rattle.fv_meaning.specs.Blocks.{blocks_of, blocks_in_arms, blocks_in, statements_of, statements_in_arms, statements_in}
+use Rattle.fv_meaning.specs.Typed77.{dimensions, declared, deepest, IsWhole, IsDoVariable, AreOutputItems}
+use Rattle.fv_meaning.specs.Typed77.{AreInputItems}
+pub use Rattle.fv_meaning.specs.Blocks.{label_of, labels_of, all_labels_of, all_labels_in_arms, all_labels_in}
+pub use Rattle.fv_meaning.specs.Blocks.{targets_of, targets_in_arms, targets_in, IsWithoutRepeats}
+pub use Rattle.fv_meaning.specs.Blocks.{blocks_of, blocks_in_arms, blocks_in, statements_of, statements_in_arms}
+pub use Rattle.fv_meaning.specs.Blocks.{statements_in}
 pub use Rattle.fv_meaning.specs.Blocks.{Surroundings, outermost, within_loop, before_labels, IsLine, IsLabel, has_arm}
 
 -- ---- declarations (sections 5.1 and 8)
@@ -51,18 +58,23 @@ pub record AreDeclarations (d : Dialect) (ds : List Declaration) : Type 0 where
 -- ---- statements (sections 10, 11 and 12)
 
 module _ (ds : List Declaration) where
-  -- The left side is a variable or an element, no DO variable of a loop round it, and the right side has its kind (section 10)
+  -- The left side is a variable or an element, no DO variable of a loop round it, and the right side has its kind
+  -- (section 10)
   abbrev pub IsAssignment : Reference → Expression → Surroundings → Type 0
-  IsAssignment left right w = IsSomeAnd (declared ds left.name) (λ d. IsWhole ds (Named left.name left.subscripts) d.kind × IsWhole ds right d.kind) × (Contains w.variables left.name → ⊥)
+  IsAssignment left right w =
+      IsSomeAnd (declared ds left.name) (λ d. IsWhole ds (Named left.name left.subscripts) d.kind × IsWhole ds right d.kind)
+      × (Contains w.variables left.name → ⊥)
 
   abbrev mutual
-    -- An IF has at least one arm, and its conditions are LOGICAL. A loop's parameters are INTEGER. A GO TO names a label that stands
-    -- later in its block or in a block round that one
+    -- An IF has at least one arm, and its conditions are LOGICAL. A loop's parameters are INTEGER. A GO TO names a
+    -- label that stands later in its block or in a block round that one
     pub IsStatement : Statement → Surroundings → Type 0
     IsStatement (Assignment line mark left right) w = IsLine line × (mark ≡ None) × IsAssignment left right w
     IsStatement (If line arms other) w = IsLine line × IsTrue (has_arm arms) × AreArms arms w × IsBlock other w
     IsStatement (Do line x a b c body) w =
-        IsLine line × IsDoVariable ds x w.variables × IsWhole ds a Integer × IsWhole ds b Integer × IsWhole ds c Integer × IsBlock body (within_loop x w)
+        IsLine line × IsDoVariable ds x w.variables
+        × IsWhole ds a Integer × IsWhole ds b Integer × IsWhole ds c Integer
+        × IsBlock body (within_loop x w)
     IsStatement (Label n) w = IsLabel n
     IsStatement (GoTo line n) w = IsLine line × Contains w.ahead n
     IsStatement (Stop line) w = IsLine line
@@ -80,8 +92,8 @@ module _ (ds : List Declaration) where
 
 -- ---- programs
 
--- A tree of FORTRAN 77 in which no cause of refusal holds, where INTEGER is that of `d`. The program's name is no other name and none that
--- Fortran 90 has for a function that is called. Labels are those alone that a GO TO names, each once
+-- A tree of FORTRAN 77 in which no cause of refusal holds, where INTEGER is that of `d`. The program's name is no other
+-- name and none that Fortran 90 has for a function that is called. Labels are those alone that a GO TO names, each once
 pub record IsProgram77 (d : Dialect) (p : Program) : Type 0 where
   pub name : IfSome p.name (λ x. IsSymbolicName x × (Contains (names_of p) x → ⊥) × (Contains (names_called p) x → ⊥))
   pub declarations : AreDeclarations d p.declarations

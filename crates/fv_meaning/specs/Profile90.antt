@@ -1,6 +1,7 @@
--- The trees of Fortran 90 programs: those that a text can be read as, but for the numbers of lines, and whose printed text is read as them. How many names there
--- are isn't limited here.
-use Rattle.std.specs.Prelude.{◌≡◌, ◌⊎◌, ℕ, ◌^◌, ◌<◌, ◌≤◌, ℤ, FitsSigned, IsTrue, Option, List, length, map, sum, Contains}
+-- The trees of Fortran 90 programs: those that a text can be read as, but for the numbers of lines, and whose printed
+-- text is read as them. How many names there are isn't limited here.
+use Rattle.std.specs.Prelude.{◌≡◌, ◌⊎◌, ℕ, ◌^◌, ◌<◌, ◌≤◌, ℤ, FitsSigned, IsTrue, Option, List, length, map, sum}
+use Rattle.std.specs.Prelude.{Contains}
 use Rattle.std.specs.Int.{w64}
 use Rattle.std.specs.Option.{IfSome, IsSomeAnd}
 use Rattle.std.specs.List.{AllByRecursion}
@@ -8,12 +9,14 @@ use Rattle.fv_tree.specs.declared.stmts.Mark.{Mark}
 use Rattle.fv_tree.specs.declared.ops.Kind.{Kind}
 use Rattle.fv_tree.specs.declared.ops.Kind.TheVariants.{Integer, Logical}
 use Rattle.fv_tree.specs.Plain.{Expression, Named, Reference, Expressions, Extent, Given, Later, Declaration, Program}
-use Rattle.fv_tree.specs.Plain.{Statement, Assignment, Where, If, Do, Label, GoTo, Stop, Read, Print, Allocate, Deallocate}
+use Rattle.fv_tree.specs.Plain.{Statement, Assignment, Where, If, Do, Label, GoTo, Stop, Read, Print, Allocate}
+use Rattle.fv_tree.specs.Plain.{Deallocate}
 use Rattle.fv_tree.specs.Plain.{Arms, no_arms, arm, Block, no_statements, statement}
 use Rattle.fv_meaning.specs.Names.{IsLongName, IsInByteOrder}
 use Rattle.fv_meaning.specs.Depths.{depth_of, depth_of_each, depth_of_items}
 use Rattle.fv_meaning.specs.Typed.{dimensions, declared, number_of_arguments}
-use Rattle.fv_meaning.specs.Typed90.{rank_of, HasKind, IsScalar, AreScalars, IsDoVariable, AreOutputItems, AreInputItems}
+use Rattle.fv_meaning.specs.Typed90.{rank_of, HasKind, IsScalar, AreScalars, IsDoVariable, AreOutputItems}
+use Rattle.fv_meaning.specs.Typed90.{AreInputItems}
 use Rattle.fv_meaning.specs.Profile77.{array_elements}
 use Rattle.fv_meaning.specs.Value.{named}
 use Rattle.fv_meaning.specs.Blocks.{labels_of, all_labels_in, targets_in, IsWithoutRepeats, blocks_in, statements_in}
@@ -70,8 +73,8 @@ module _ (ds : List Declaration) where
     pub suits : IsScalar ds e k
     pub depth : depth_of e ≤ deepest
 
-  -- The left side is a variable, an element, an array or a section, no DO variable of a loop round it. The right side has its kind, and
-  -- its rank or that of a scalar
+  -- The left side is a variable, an element, an array or a section, no DO variable of a loop round it. The right side
+  -- has its kind, and its rank or that of a scalar
   abbrev pub IsAssignment : Reference → Expression → Surroundings → Type 0
   IsAssignment left right w =
       IsSomeAnd (declared ds left.name) (λ d. IsWhole (named left) d.kind × IsWhole right d.kind)
@@ -80,21 +83,26 @@ module _ (ds : List Declaration) where
 
   -- the mask and the left side have one rank, and aren't scalars
   abbrev pub IsMasked : Expression → Reference → Type 0
-  IsMasked mask left = IsWhole mask Logical × (1 ≤ rank_of ds (named left)) × (rank_of ds mask ≡ rank_of ds (named left))
+  IsMasked mask left =
+      IsWhole mask Logical × (1 ≤ rank_of ds (named left)) × (rank_of ds mask ≡ rank_of ds (named left))
 
   -- an extent for each dimension of an allocatable array
   abbrev pub IsAllocation : List ℕ → Expressions → Type 0
-  IsAllocation x es = IsSomeAnd (declared ds x) (λ d. d.extent ≡ Later (number_of_arguments es)) × AreScalars ds es Integer × (depth_of_each es ≤ deepest)
+  IsAllocation x es =
+      IsSomeAnd (declared ds x) (λ d. d.extent ≡ Later (number_of_arguments es))
+      × AreScalars ds es Integer × (depth_of_each es ≤ deepest)
 
   abbrev mutual
-    -- An IF has at least one arm, and its conditions are scalars. So are a loop's parameters. A GO TO names a label that stands later in its
-    -- block or in a block round that one
+    -- An IF has at least one arm, and its conditions are scalars. So are a loop's parameters. A GO TO names a label
+    -- that stands later in its block or in a block round that one
     pub IsStatement : Statement → Surroundings → Type 0
     IsStatement (Assignment line mark left right) w = IsMarked line mark × IsAssignment left right w
-    IsStatement (Where line mark mask left right) w = IsMarked line mark × IsMasked mask left × IsAssignment left right w
+    IsStatement (Where line mark mask left right) w =
+        IsMarked line mark × IsMasked mask left × IsAssignment left right w
     IsStatement (If line arms other) w = IsLine line × IsTrue (has_arm arms) × AreArms arms w × IsBlock other w
     IsStatement (Do line x a b c body) w =
-        IsLine line × IsDoVariable ds x w.variables × IsWholeScalar a Integer × IsWholeScalar b Integer × IsWholeScalar c Integer × IsBlock body (within_loop x w)
+        IsLine line × IsDoVariable ds x w.variables
+        × IsWholeScalar a Integer × IsWholeScalar b Integer × IsWholeScalar c Integer × IsBlock body (within_loop x w)
     IsStatement (Label n) w = IsLabel n
     IsStatement (GoTo line n) w = IsLine line × Contains w.ahead n
     IsStatement (Stop line) w = IsLine line
@@ -113,7 +121,8 @@ module _ (ds : List Declaration) where
 
 -- ---- programs
 
--- A tree of Fortran 90 in which no cause of refusal holds. A variable may bear the program's name. Labels are those alone that a GO TO names, each once
+-- A tree of Fortran 90 in which no cause of refusal holds. A variable may bear the program's name. Labels are those
+-- alone that a GO TO names, each once
 pub record IsProgram90 (p : Program) : Type 0 where
   pub name : IfSome p.name IsLongName
   pub declarations : AreDeclarations p.declarations

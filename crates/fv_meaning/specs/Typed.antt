@@ -1,9 +1,11 @@
 -- Words for the kinds of what stands in a program's tree (ANSI X3.9-1978, sections 5.1, 6 and 12.8.2).
-use Rattle.std.specs.Prelude.{ℕ, ◌+◌, ◌^◌, ◌<◌, ◌≤◌, ℤ, pos, negsuc, Bool, true, false, Option, None, Some, if◌then◌else◌, List, [], ◌∷◌, length}
+use Rattle.std.specs.Prelude.{ℕ, ◌+◌, ◌^◌, ◌<◌, ◌≤◌, ℤ, pos, negsuc, Bool, true, false, Option, None, Some}
+use Rattle.std.specs.Prelude.{if◌then◌else◌, List, [], ◌∷◌, length}
 use Rattle.std.specs.Str.{bytes_eq}
 use Rattle.std.specs.List.{AllByRecursion}
 use Rattle.fv_tree.specs.Operators.{takes_truths, is_neg, is_not}
-use Rattle.fv_tree.specs.Plain.{Expressions, no_expressions, expression, Subscripts, no_subscripts, subscript, Items, no_items, item, Extent, Given, Later, Declaration}
+use Rattle.fv_tree.specs.Plain.{Expressions, no_expressions, expression, Subscripts, no_subscripts, subscript, Items}
+use Rattle.fv_tree.specs.Plain.{no_items, item, Extent, Given, Later, Declaration}
 use Rattle.fv_tree.specs.declared.ops.Kind.{Kind}
 use Rattle.fv_tree.specs.declared.ops.Kind.TheVariants.{Integer, Logical}
 use Rattle.fv_tree.specs.declared.ops.Op.{Op}

@@ -1,31 +1,40 @@
--- Expressions and lists of a FORTRAN 77 program's tree whose kinds suit, by the declarations (ANSI X3.9-1978, sections 5.4, 6, 11.10.1, 12.8.2 and 15.10).
+-- Expressions and lists of a FORTRAN 77 program's tree whose kinds suit, by the declarations (ANSI X3.9-1978, sections
+-- 5.4, 6, 11.10.1, 12.8.2 and 15.10).
 use Rattle.std.specs.Prelude.{◌≡◌, ◌⊎◌, ℕ, ◌≤◌, not, IsTrue, None, List, ◌∷◌, length, Contains}
 use Rattle.std.specs.Option.{IsSomeAnd}
-use Rattle.fv_tree.specs.Plain.{Expression, Number, Logic, Named, Unary, Binary, Apply, Expressions, no_expressions, expression, Subscript, Only, Subscripts, no_subscripts, subscript, Item, Single, Constant, ImpliedDo, Items, no_items, item, Declaration}
+use Rattle.fv_tree.specs.Plain.{Expression, Number, Logic, Named, Unary, Binary, Apply, Expressions, no_expressions}
+use Rattle.fv_tree.specs.Plain.{expression, Subscript, Only, Subscripts, no_subscripts, subscript, Item, Single}
+use Rattle.fv_tree.specs.Plain.{Constant, ImpliedDo, Items, no_items, item, Declaration}
 use Rattle.fv_tree.specs.declared.ops.Kind.{Kind}
 use Rattle.fv_tree.specs.declared.ops.Kind.TheVariants.{Integer, Logical}
 use Rattle.fv_meaning.specs.Names.{name_of_function, suits_number}
 use Rattle.fv_meaning.specs.Depths.{depth_of}
-pub use Rattle.fv_meaning.specs.Typed.{operand_kind, is_relation, kind_of_result, is_unary, number_of_arguments, number_of_subscripts}
+pub use Rattle.fv_meaning.specs.Typed.{operand_kind, is_relation, kind_of_result, is_unary, number_of_arguments}
+pub use Rattle.fv_meaning.specs.Typed.{number_of_subscripts}
 pub use Rattle.fv_meaning.specs.Typed.{dimensions, declared, IsLiteral, has_item, IsText}
 
--- The text of an expression is at most 400 deep in a source. A symbolic constant with a negative value stands in the tree as the negative of a
--- literal, which may add an operator and a parenthesis
+-- The text of an expression is at most 400 deep in a source. A symbolic constant with a negative value stands in the
+-- tree as the negative of a literal, which may add an operator and a parenthesis
 abbrev pub deepest : ℕ
 deepest = 402
 
 -- ---- kinds, by the declarations `ds`
 module _ (ds : List Declaration) where
   abbrev mutual
-    -- e has the kind k, and all in it suits. A name is declared, and has as many subscripts as dimensions. No variable hides the
-    -- name of a function that is called
+    -- e has the kind k, and all in it suits. A name is declared, and has as many subscripts as dimensions. No variable
+    -- hides the name of a function that is called
     pub HasKind : Expression → Kind → Type 0
     HasKind (Number n) k = IsLiteral n × (k ≡ Integer)
     HasKind (Logic b) k = k ≡ Logical
-    HasKind (Named x ps) k = IsSomeAnd (declared ds x) (λ d. (k ≡ d.kind) × (number_of_subscripts ps ≡ length (dimensions d.extent))) × AreSubscripts ps
+    HasKind (Named x ps) k =
+        IsSomeAnd (declared ds x) (λ d. (k ≡ d.kind) × (number_of_subscripts ps ≡ length (dimensions d.extent)))
+        × AreSubscripts ps
     HasKind (Unary o a) k = IsTrue (is_unary o) × (k ≡ kind_of_result o) × HasKind a (operand_kind o)
-    HasKind (Binary o a b) k = IsTrue (not (is_unary o)) × (k ≡ kind_of_result o) × HasKind a (operand_kind o) × HasKind b (operand_kind o)
-    HasKind (Apply f es) k = IsTrue (suits_number f (number_of_arguments es)) × (declared ds (name_of_function f) ≡ None) × (k ≡ Integer) × AreArguments es
+    HasKind (Binary o a b) k =
+        IsTrue (not (is_unary o)) × (k ≡ kind_of_result o) × HasKind a (operand_kind o) × HasKind b (operand_kind o)
+    HasKind (Apply f es) k =
+        IsTrue (suits_number f (number_of_arguments es)) × (declared ds (name_of_function f) ≡ None)
+        × (k ≡ Integer) × AreArguments es
     HasKind _ k = ⊥
 
     -- arguments are INTEGER values
@@ -57,7 +66,8 @@ module _ (ds : List Declaration) where
 
   abbrev pub IsElementOrWhole : List ℕ → Subscripts → Type 0
   IsElementOrWhole x no_subscripts = IsDeclared x
-  IsElementOrWhole x (subscript p ps) = HasKind (Named x (subscript p ps)) Integer ⊎ HasKind (Named x (subscript p ps)) Logical
+  IsElementOrWhole x (subscript p ps) =
+      HasKind (Named x (subscript p ps)) Integer ⊎ HasKind (Named x (subscript p ps)) Logical
 
   -- an expression of an output list: a whole array stands there by itself (section 12.8.2.2)
   abbrev pub IsOutput : Expression → Type 0
@@ -74,7 +84,8 @@ module _ (ds : List Declaration) where
     IsOutputItem (Single e) around = IsOutput e
     IsOutputItem (Constant t) around = IsText t
     IsOutputItem (ImpliedDo is x a b c) around =
-        IsTrue (has_item is) × IsDoVariable x around × HasKind a Integer × HasKind b Integer × HasKind c Integer × AreOutputItems is (x ∷ around)
+        IsTrue (has_item is) × IsDoVariable x around
+        × HasKind a Integer × HasKind b Integer × HasKind c Integer × AreOutputItems is (x ∷ around)
 
     pub AreOutputItems : Items → List (List ℕ) → Type 0
     AreOutputItems no_items around = Unit {0}
@@ -85,7 +96,8 @@ module _ (ds : List Declaration) where
     IsInputItem (Single e) around = IsInput e around
     IsInputItem (Constant t) around = ⊥
     IsInputItem (ImpliedDo is x a b c) around =
-        IsTrue (has_item is) × IsDoVariable x around × HasKind a Integer × HasKind b Integer × HasKind c Integer × AreInputItems is (x ∷ around)
+        IsTrue (has_item is) × IsDoVariable x around
+        × HasKind a Integer × HasKind b Integer × HasKind c Integer × AreInputItems is (x ∷ around)
 
     pub AreInputItems : Items → List (List ℕ) → Type 0
     AreInputItems no_items around = Unit {0}

@@ -1,13 +1,18 @@
--- Expressions and lists of a Fortran 90 program's tree whose kinds and ranks suit, by the declarations (ISO/IEC 1539:1991, sections 4.5, 6.2, 7.1, 9.4.2 and 13.13).
+-- Expressions and lists of a Fortran 90 program's tree whose kinds and ranks suit, by the declarations (ISO/IEC
+-- 1539:1991, sections 4.5, 6.2, 7.1, 9.4.2 and 13.13).
 use Rattle.std.specs.Prelude.{◌≡◌, ◌⊎◌, ℕ, ◌+◌, ◌≤◌, max, not, IsTrue, Some, None, List, ◌∷◌, codes, Contains}
 use Rattle.std.specs.Option.{IsSomeAnd}
-use Rattle.fv_tree.specs.Plain.{Expression, Number, Logic, Named, Unary, Binary, Apply, Constructor, Spread, Transpose, Reshape, Reduce}
-use Rattle.fv_tree.specs.Plain.{Expressions, no_expressions, expression, Subscript, Only, Section, Subscripts, no_subscripts, subscript}
-use Rattle.fv_tree.specs.Plain.{Loops, no_loops, loop, Item, Single, Constant, ImpliedDo, Items, no_items, item, Declaration}
+use Rattle.fv_tree.specs.Plain.{Expression, Number, Logic, Named, Unary, Binary, Apply, Constructor, Spread, Transpose}
+use Rattle.fv_tree.specs.Plain.{Reshape, Reduce}
+use Rattle.fv_tree.specs.Plain.{Expressions, no_expressions, expression, Subscript, Only, Section, Subscripts}
+use Rattle.fv_tree.specs.Plain.{no_subscripts, subscript}
+use Rattle.fv_tree.specs.Plain.{Loops, no_loops, loop, Item, Single, Constant, ImpliedDo, Items, no_items, item}
+use Rattle.fv_tree.specs.Plain.{Declaration}
 use Rattle.fv_tree.specs.declared.ops.Kind.{Kind}
 use Rattle.fv_tree.specs.declared.ops.Kind.TheVariants.{Integer, Logical}
 use Rattle.fv_meaning.specs.Names.{name_of_function, name_of_reduction, suits_number}
-use Rattle.fv_meaning.specs.Typed.{operand_kind, kind_of_result, is_unary, number_of_arguments, number_of_subscripts, rank_of_extent, declared, IsLiteral, has_item, IsText}
+use Rattle.fv_meaning.specs.Typed.{operand_kind, kind_of_result, is_unary, number_of_arguments, number_of_subscripts}
+use Rattle.fv_meaning.specs.Typed.{rank_of_extent, declared, IsLiteral, has_item, IsText}
 
 -- the ranks of two operands: they are equal, or one is that of a scalar
 abbrev pub Conform : ℕ → ℕ → Type 0
@@ -72,16 +77,22 @@ module _ (ds : List Declaration) where
     pub HasKind : Expression → Kind → Type 0
     HasKind (Number n) k = IsLiteral n × (k ≡ Integer)
     HasKind (Logic b) k = k ≡ Logical
-    HasKind (Named x ps) k = IsSomeAnd (declared ds x) (λ d. (k ≡ d.kind) × SuitsDimensions ps (rank_of_extent d.extent)) × AreSubscripts ps
+    HasKind (Named x ps) k =
+        IsSomeAnd (declared ds x) (λ d. (k ≡ d.kind) × SuitsDimensions ps (rank_of_extent d.extent)) × AreSubscripts ps
     HasKind (Unary o a) k = IsTrue (is_unary o) × (k ≡ kind_of_result o) × HasKind a (operand_kind o)
     HasKind (Binary o a b) k =
-        IsTrue (not (is_unary o)) × (k ≡ kind_of_result o) × HasKind a (operand_kind o) × HasKind b (operand_kind o) × Conform (rank_of a) (rank_of b)
-    HasKind (Apply f es) k = IsTrue (suits_number f (number_of_arguments es)) × IsFree (name_of_function f) × (k ≡ Integer) × AreArguments es
+        IsTrue (not (is_unary o)) × (k ≡ kind_of_result o)
+        × HasKind a (operand_kind o) × HasKind b (operand_kind o) × Conform (rank_of a) (rank_of b)
+    HasKind (Apply f es) k =
+        IsTrue (suits_number f (number_of_arguments es)) × IsFree (name_of_function f) × (k ≡ Integer) × AreArguments es
     HasKind (Constructor es ls) k = AreScalars es k × SuitsLoops ls (number_of_arguments es) × AreLoops ls
-    HasKind (Spread a d n) k = IsFree (codes "SPREAD") × (1 ≤ d) × (d ≤ rank_of a + 1) × (rank_of a ≤ 6) × HasKind a k × HasKind n Integer × (rank_of n ≡ 0)
+    HasKind (Spread a d n) k =
+        IsFree (codes "SPREAD") × (1 ≤ d) × (d ≤ rank_of a + 1) × (rank_of a ≤ 6)
+        × HasKind a k × HasKind n Integer × (rank_of n ≡ 0)
     HasKind (Transpose a) k = IsFree (codes "TRANSPOSE") × (rank_of a ≡ 2) × HasKind a k
     HasKind (Reshape a es) k =
-        IsFree (codes "RESHAPE") × (1 ≤ rank_of a) × (1 ≤ number_of_arguments es) × (number_of_arguments es ≤ 7) × HasKind a k × AreScalars es Integer
+        IsFree (codes "RESHAPE") × (1 ≤ rank_of a) × (1 ≤ number_of_arguments es) × (number_of_arguments es ≤ 7)
+        × HasKind a k × AreScalars es Integer
     HasKind (Reduce r a) k = IsFree (name_of_reduction r) × (1 ≤ rank_of a) × (k ≡ Integer) × HasKind a Integer
 
     -- arguments are INTEGER, and their ranks suit
@@ -100,7 +111,8 @@ module _ (ds : List Declaration) where
     pub IsSubscript : Subscript → Type 0
     IsSubscript (Only e) = HasKind e Integer × (rank_of e ≤ 1)
     IsSubscript (Section a b c) =
-        (HasKind a Integer × (rank_of a ≡ 0)) × (HasKind b Integer × (rank_of b ≡ 0)) × HasKind c Integer × (rank_of c ≡ 0)
+        (HasKind a Integer × (rank_of a ≡ 0)) × (HasKind b Integer × (rank_of b ≡ 0))
+        × HasKind c Integer × (rank_of c ≡ 0)
 
     -- a loop of a constructor has a variable of one INTEGER, which may be a DO variable
     pub AreLoops : Loops → Type 0
@@ -132,7 +144,8 @@ module _ (ds : List Declaration) where
     IsOutputItem (Single e) around = HasSomeKind e
     IsOutputItem (Constant t) around = IsText t
     IsOutputItem (ImpliedDo is x a b c) around =
-        IsTrue (has_item is) × IsDoVariable x around × IsScalar a Integer × IsScalar b Integer × IsScalar c Integer × AreOutputItems is (x ∷ around)
+        IsTrue (has_item is) × IsDoVariable x around
+        × IsScalar a Integer × IsScalar b Integer × IsScalar c Integer × AreOutputItems is (x ∷ around)
 
     pub AreOutputItems : Items → List (List ℕ) → Type 0
     AreOutputItems no_items around = Unit {0}
@@ -143,7 +156,8 @@ module _ (ds : List Declaration) where
     IsInputItem (Single e) around = IsInput e around
     IsInputItem (Constant t) around = ⊥
     IsInputItem (ImpliedDo is x a b c) around =
-        IsTrue (has_item is) × IsDoVariable x around × IsScalar a Integer × IsScalar b Integer × IsScalar c Integer × AreInputItems is (x ∷ around)
+        IsTrue (has_item is) × IsDoVariable x around
+        × IsScalar a Integer × IsScalar b Integer × IsScalar c Integer × AreInputItems is (x ∷ around)
 
     pub AreInputItems : Items → List (List ℕ) → Type 0
     AreInputItems no_items around = Unit {0}
