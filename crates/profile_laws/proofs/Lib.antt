@@ -2,3 +2,4 @@ pub mod Lists
 pub mod Names
 pub mod Targets
 pub mod Programs
+pub mod Forward

@@ -98,9 +98,11 @@ program lang p es h ext are = record {
   few = h.few;
 }
 
+pub as_it_stands : (lang : Dialect) (p : Program) → IsProgram77 lang p → Extends p.declarations p.declarations
+as_it_stands lang p h = record { found = λ x e f. f; fixed = fixed lang p.declarations h.declarations; free = λ f g. g }
+
 pub source_is_target : SourceIsTarget
-source_is_target lang p n h =
-    program lang p p.declarations h (record { found = λ x e f. f; fixed = fixed lang p.declarations h.declarations; free = λ f g. g }) (declarations lang n p.declarations h.declarations)
+source_is_target lang p n h = program lang p p.declarations h (as_it_stands lang p h) (declarations lang n p.declarations h.declarations)
 
 -- ---- with made names
 
