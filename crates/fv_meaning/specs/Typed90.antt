@@ -112,7 +112,7 @@ module _ (ds : List Declaration) where
     IsSubscript (Only e) = HasKind e Integer × (rank_of e ≤ 1)
     IsSubscript (Section a b c) =
         (HasKind a Integer × (rank_of a ≡ 0)) × (HasKind b Integer × (rank_of b ≡ 0))
-        × HasKind c Integer × (rank_of c ≡ 0)
+        × (HasKind c Integer × (rank_of c ≡ 0))
 
     -- a loop of a constructor has a variable of one INTEGER, which may be a DO variable
     pub AreLoops : Loops → Type 0

@@ -1,0 +1,5 @@
+pub mod Lists
+pub mod Names
+pub mod Targets
+pub mod Programs
+pub mod Forward

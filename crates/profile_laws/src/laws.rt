@@ -1,0 +1,15 @@
+//! Laws of programs. A law is a function without a body: its contract is what holds.
+ghost use Rattle.profile_laws.specs.Forward.{SourceJumpsForward, TargetJumpsForward};
+ghost use Rattle.profile_laws.specs.Profiles.{SourceIsTarget, SourceWithMadeNamesIsTarget};
+
+/// A program of FORTRAN 77 is one of Fortran 90, as it stands and with further declarations of names that no source has.
+pub fn source_is_target()
+    ensures plain { SourceIsTarget }
+    ensures made { SourceWithMadeNamesIsTarget }
+{}
+
+/// Each GO TO of a program leads forward.
+pub fn jumps_forward()
+    ensures source { SourceJumpsForward }
+    ensures target { TargetJumpsForward }
+{}

@@ -1,0 +1,7 @@
+//! Programs of the two profiles: those of FORTRAN 77 are programs of Fortran 90 too, their values have their kinds, and
+//! what holds of each store of a run.
+#![tactic(auto)]
+
+mod laws;
+
+pub use laws::{jumps_forward, source_is_target};
