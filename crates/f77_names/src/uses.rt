@@ -79,6 +79,11 @@ impl Uses {
                 self.add_expr(b)
             }
             Expr::Call(_, arguments) => self.add_exprs(arguments),
+            Expr::List(..) => Ok(()),
+            Expr::Spread(..) => Ok(()),
+            Expr::Transpose(_) => Ok(()),
+            Expr::Reshape(..) => Ok(()),
+            Expr::Reduce(..) => Ok(()),
         }
     }
 
@@ -108,6 +113,7 @@ impl Uses {
     {
         match sub {
             Sub::One(expr) => self.add_expr(expr),
+            Sub::Part(..) => Ok(()),
         }
     }
 

@@ -46,6 +46,11 @@ fn item(operand: Operand) -> Result<(Ref, u16), Stop>
         Expr::Un(_, _) => Err(Stop::Syntax),
         Expr::Bin(_, _, _) => Err(Stop::Syntax),
         Expr::Call(_, _) => Err(Stop::Syntax),
+        Expr::List(..) => Err(Stop::Syntax),
+        Expr::Spread(..) => Err(Stop::Syntax),
+        Expr::Transpose(_) => Err(Stop::Syntax),
+        Expr::Reshape(..) => Err(Stop::Syntax),
+        Expr::Reduce(..) => Err(Stop::Syntax),
     }
 }
 
