@@ -30,8 +30,8 @@ fn is_arithmetic_if(text: &[Symbol]) -> bool
     !condition.is_empty() && are_three_labels(rest)
 }
 
-// What follows the comma at the front, or the text where there is none.
-fn behind_comma(text: &[Symbol]) -> &[Symbol]
+/// What follows the comma at the front, or the text where there is none.
+pub fn behind_comma(text: &[Symbol]) -> &[Symbol]
     ensures { symbols_of result.now ≡ without_comma (symbols_of text.now) }
 {
     match strip(b",", text) {

@@ -12,7 +12,8 @@ use Rattle.f77_grammar.specs.statements.Forms.{reference_in}
 use Rattle.f77_expr.specs.declared.operands.Operand.{Operand}
 use Rattle.f77_expr.specs.Reading as reading
 use Rattle.f77_expr.specs.Reading.{Ends, IsMadeOf, Gives}
-use Rattle.f77_stmt.specs.Parts.{begins_with_name, IsItem, IsReferenceOf, BeginsWithReference}
+use Rattle.f77_expr.specs.TokenFronts.{begins_with_name}
+use Rattle.f77_stmt.specs.Parts.{IsItem, IsReferenceOf, BeginsWithReference}
 
 pub ruleset items = (expression_of-int, expression_of-truth, expression_of-item, expression_of-un, expression_of-bin, expression_of-call,
     expression_of-list, expression_of-spread, expression_of-transpose, expression_of-reshape, expression_of-reduce)
