@@ -1,5 +1,7 @@
--- Symbolic names and the names of functions (ANSI X3.9-1978, sections 2.2, 4.1.2 and 15.10).
-use Rattle.std.specs.Prelude.{◌≡◌, ℕ, ◌≤◌, nat_le, Bool, false, ◌&&◌, ◌||◌, IsTrue, Option, None, Some, if◌then◌else◌, List, [], ◌∷◌, length, codes}
+-- Symbolic names and the names of functions (ANSI X3.9-1978, sections 2.2, 4.1.2 and 15.10; ISO/IEC 1539:1991, sections
+-- 3.2.1 and 13.13).
+use Rattle.std.specs.Prelude.{◌≡◌, ℕ, ◌≤◌, nat_le, ◌==◌, Bool, false, ◌&&◌, ◌||◌, IsTrue, Option, None, Some}
+use Rattle.std.specs.Prelude.{if◌then◌else◌, List, [], ◌∷◌, length, codes}
 use Rattle.std.specs.List.{list_all, list_any, AllByRecursion}
 use Rattle.std.specs.Cmp.Lexicographic.{slice_cmp}
 use Rattle.std.specs.Ordering.{nat_cmp}
@@ -7,6 +9,8 @@ use Rattle.std.specs.declared.cmp.Ordering.TheVariants.{Less}
 use Rattle.std.specs.Str.{bytes_eq}
 use Rattle.fv_tree.specs.declared.ops.Fun.{Fun}
 use Rattle.fv_tree.specs.declared.ops.Fun.TheVariants.{Abs, Mod, Max, Min}
+use Rattle.fv_tree.specs.declared.ops.Red.{Red}
+use Rattle.fv_tree.specs.declared.ops.Red.TheVariants.{Sum, MaxVal, MinVal}
 
 abbrev pub is_letter : ℕ → Bool
 is_letter c = nat_le 65 c && nat_le c 90
@@ -23,6 +27,13 @@ pub record IsSymbolicName (x : List ℕ) : Type 0 where
   pub begins : IsTrue (begins_with is_letter x)
   pub goes_on : IsTrue (list_all (λ c. is_letter c || is_digit c) x)
   pub within : length x ≤ 6
+
+-- the same with underscores, at most 31 in all (ISO/IEC 1539:1991, section 3.2.1); in a tree all letters are in upper
+-- case
+pub record IsLongName (x : List ℕ) : Type 0 where
+  pub begins : IsTrue (begins_with is_letter x)
+  pub goes_on : IsTrue (list_all (λ c. is_letter c || is_digit c || c == 95) x)
+  pub within : length x ≤ 31
 
 -- a name that begins with one of I to N is an INTEGER without a type statement (section 4.1.2)
 abbrev pub is_implicit_integer : List ℕ → Bool
@@ -55,6 +66,11 @@ name_of_function Abs = codes "ABS"
 name_of_function Mod = codes "MOD"
 name_of_function Max = codes "MAX"
 name_of_function Min = codes "MIN"
+
+abbrev pub name_of_reduction : Red → List ℕ
+name_of_reduction Sum = codes "SUM"
+name_of_reduction MaxVal = codes "MAXVAL"
+name_of_reduction MinVal = codes "MINVAL"
 
 -- how many arguments it has: ABS one, MOD two, MAX and MIN two or more
 abbrev pub suits_number : Fun → ℕ → Bool
