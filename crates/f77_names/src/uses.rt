@@ -28,6 +28,23 @@ pub enum Role {
     Counter,
 }
 
+impl Role {
+    /// The name stands as the program's.
+    pub fn is_title(self) -> bool
+        ensures { result ≡ plain.is_title (role_of self) }
+    {
+        match self {
+            Role::Title => true,
+            Role::Typed(_) => false,
+            Role::Bounded(_) => false,
+            Role::Defined => false,
+            Role::Valued(_) => false,
+            Role::Target(_) => false,
+            Role::Counter => false,
+        }
+    }
+}
+
 /// A name, and how it stands.
 #[derive(Clone, Copy, Debug)]
 pub struct Use {
