@@ -82,4 +82,4 @@ subscript-one us e = ap (is_subscript us) (subscript_of-one e)
 pub subscript-part : (us : List Use) (a b c : Expr) → is_subscript us (subscript_of (subs.Part a b c)) ≡ false
 subscript-part us a b c = ap (is_subscript us) (subscript_of-part a b c)
 
-pub ruleset kind_laws = (kind-int, kind-truth, kind-item, kind-un, kind-bin, kind-call, kind-list, kind-spread, kind-transpose, kind-reshape, kind-reduce, subscript-one, subscript-part)
+pub ruleset kind_laws = (kind-int, kind-truth, kind-item, kind-un, kind-bin, kind-call, subscript-one)

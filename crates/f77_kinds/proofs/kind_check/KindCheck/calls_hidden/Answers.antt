@@ -9,3 +9,8 @@ returns-in-Some c =
     c.is_hidden.ensures
     ∙ ap (kinds.is_hidden_name (listed c.args.self.now.uses) c.args.used.now.name) (sym c.in-Some.is ∙ c.called.ensures.exact (listed c.args.self.now.uses) c.args.self.now.known)
     ∙ sym (call-is (listed c.args.self.now.uses) (plain_use c.args.used.now))
+
+pub returns-in-None : goal.returns-in-None
+returns-in-None c =
+    ap (kinds.is_hidden_name (listed c.args.self.now.uses) c.args.used.now.name) (sym c.in-None.is ∙ c.called.ensures.exact (listed c.args.self.now.uses) c.args.self.now.known)
+    ∙ sym (call-is (listed c.args.self.now.uses) (plain_use c.args.used.now))
