@@ -1,13 +1,14 @@
-//! The word at the front of words.
+//! The word at the front of words, where one is looked for.
+ghost use Rattle.std.specs.Prelude.{◌≡◌};
 ghost use Rattle.f77_grammar.specs.expressions.Words as words;
 ghost use Rattle.f77_expr.specs.Views.{words_of};
-ghost use Rattle.f77_stmt.specs.Fronts.{After, NameFront, HeadFront};
+ghost use Rattle.f77_expr.specs.TokenFronts.{After, NameFront, HeadFront, begins_with_name};
 
-use f77_expr::Token;
+use crate::tokens::Token;
 use fv_tree::Name;
 
 /// What follows a comma.
-pub(crate) fn after_comma(tokens: &[Token]) -> Option<&[Token]>
+pub fn after_comma(tokens: &[Token]) -> Option<&[Token]>
     ensures { After words.Comma result (words_of tokens.now) }
 {
     match tokens {
@@ -17,7 +18,7 @@ pub(crate) fn after_comma(tokens: &[Token]) -> Option<&[Token]>
 }
 
 /// What follows an equals sign.
-pub(crate) fn after_equals(tokens: &[Token]) -> Option<&[Token]>
+pub fn after_equals(tokens: &[Token]) -> Option<&[Token]>
     ensures { After words.Equals result (words_of tokens.now) }
 {
     match tokens {
@@ -27,7 +28,7 @@ pub(crate) fn after_equals(tokens: &[Token]) -> Option<&[Token]>
 }
 
 /// What follows a colon.
-pub(crate) fn after_colon(tokens: &[Token]) -> Option<&[Token]>
+pub fn after_colon(tokens: &[Token]) -> Option<&[Token]>
     ensures { After words.Colon result (words_of tokens.now) }
 {
     match tokens {
@@ -37,7 +38,7 @@ pub(crate) fn after_colon(tokens: &[Token]) -> Option<&[Token]>
 }
 
 /// What follows an opening parenthesis that stands behind no name.
-pub(crate) fn after_open(tokens: &[Token]) -> Option<&[Token]>
+pub fn after_open(tokens: &[Token]) -> Option<&[Token]>
     ensures { After words.Open result (words_of tokens.now) }
 {
     match tokens {
@@ -47,7 +48,7 @@ pub(crate) fn after_open(tokens: &[Token]) -> Option<&[Token]>
 }
 
 /// What follows a closing parenthesis.
-pub(crate) fn after_close(tokens: &[Token]) -> Option<&[Token]>
+pub fn after_close(tokens: &[Token]) -> Option<&[Token]>
     ensures { After words.Close result (words_of tokens.now) }
 {
     match tokens {
@@ -57,7 +58,7 @@ pub(crate) fn after_close(tokens: &[Token]) -> Option<&[Token]>
 }
 
 /// A name without a parenthesis behind it, and what follows it.
-pub(crate) fn after_name(tokens: &[Token]) -> Option<(Name, &[Token])>
+pub fn after_name(tokens: &[Token]) -> Option<(Name, &[Token])>
     ensures { NameFront result (words_of tokens.now) }
 {
     match tokens {
@@ -67,11 +68,22 @@ pub(crate) fn after_name(tokens: &[Token]) -> Option<(Name, &[Token])>
 }
 
 /// A name with the parenthesis behind it, and what follows that.
-pub(crate) fn after_head(tokens: &[Token]) -> Option<(Name, &[Token])>
+pub fn after_head(tokens: &[Token]) -> Option<(Name, &[Token])>
     ensures { HeadFront result (words_of tokens.now) }
 {
     match tokens {
         [Token::Head(name), rest @ ..] => Some((*name, rest)),
         _ => None,
+    }
+}
+
+/// Whether a name stands at the front, with a parenthesis behind it or without one.
+pub fn begins_with_name(tokens: &[Token]) -> bool
+    ensures { result ≡ begins_with_name (words_of tokens.now) }
+{
+    match tokens {
+        [Token::Name(_), ..] => true,
+        [Token::Head(_), ..] => true,
+        _ => false,
     }
 }

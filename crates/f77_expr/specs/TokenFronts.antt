@@ -1,5 +1,5 @@
 -- The word at the front of words, and what follows it.
-use Rattle.std.specs.Prelude.{ℕ, ◌≡◌, Option, Some, None, List, ◌∷◌}
+use Rattle.std.specs.Prelude.{ℕ, ◌≡◌, Bool, true, false, Option, Some, None, List, ◌∷◌}
 use Rattle.std.specs.Borrow.{Bor}
 use Rattle.f77_grammar.specs.expressions.Words as words
 use Rattle.f77_grammar.specs.expressions.Words.{Word}
@@ -17,3 +17,9 @@ NameFront None ws = (x : List ℕ) (rest : List Word) → ws ≡ words.Name x �
 abbrev pub HeadFront : Option (List ℕ × Bor (List Token)) → List Word → Type 0
 HeadFront (Some r) ws = ws ≡ words.Head r.0 ∷ words_of r.1.now
 HeadFront None ws = (x : List ℕ) (rest : List Word) → ws ≡ words.Head x ∷ rest → ⊥
+
+-- a name, with a parenthesis behind it or without one
+abbrev pub begins_with_name : List Word → Bool
+begins_with_name (words.Name x ∷ ws) = true
+begins_with_name (words.Head x ∷ ws) = true
+begins_with_name ws = false
