@@ -1,0 +1,4 @@
+pub mod ListLaws
+pub mod Walks
+pub mod Emits
+pub mod Emitting

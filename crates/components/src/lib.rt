@@ -1,0 +1,9 @@
+//! Dependence graphs of nests, and the strongly connected components of a relation in topological order.
+#![tactic(auto)]
+
+mod classes;
+mod graphs;
+mod reach;
+
+pub use classes::{Order, components};
+pub use graphs::{Cycle, Dep, Dropped, Edge, Graph, Hold, HoldReason, Place};
