@@ -1,4 +1,6 @@
-pub mod ListLaws
-pub mod Walks
+pub mod Closures
 pub mod Emits
 pub mod Emitting
+pub mod ListLaws
+pub mod Sources
+pub mod Walks

@@ -1,8 +1,8 @@
 -- Lemmas on lists.
-use Rattle.std.proofs.Common.{◌≡◌, refl, sym, ap, subst, ◌⊎◌, inl, inr, ℕ, ◌<◌, ◌≤◌, Bool, true, false, cond, ◌&&◌, Option, Some, None, List, [], ◌∷◌, ◌++◌, arith}
-use Rattle.std.proofs.lemmas.Bool.{and_parts, and_from, both_ways}
+use Rattle.std.proofs.Common.{◌≡◌, refl, sym, ap, subst, ◌⊎◌, inl, inr, ℕ, zero, suc, ◌+◌, ◌<◌, ◌≤◌, length, get_or, Bool, true, false, cond, ◌&&◌, Option, Some, None, List, [], ◌∷◌, ◌++◌, arith}
+use Rattle.std.proofs.lemmas.Bool.{and_parts, and_from, both_ways, cases_lt}
 use Rattle.std.specs.List.{filter, find, list_all}
-use Rattle.components.specs.Lists.{In, Each, Pairwise, Rises}
+use Rattle.components.specs.Lists.{In, Each, Pairwise, Rises, IsUpTo}
 
 pub Each-In : {X : Type 0} (P : X → Type 0) (xs : List X) → Each P xs → (x : X) → In x xs → P x
 Each-In P [] h x i = absurd i
@@ -116,3 +116,48 @@ find-Some test (y ∷ ys) x r h = by (find-Some test ys x r.1) (test y) refl h
         least : IsLeast test ys x → (z : ℕ) → (z ≡ y) ⊎ In z ys → test z ≡ true → x ≤ z
         least h z (inl g) k = absurd (both_ways (test z) (subst (λ w. test w ≡ false) (sym g) e) k)
         least h z (inr j) k = h.least z j k
+
+pub length-filter_le : {X : Type 0} (test : X → Bool) (xs : List X) → length (filter test xs) ≤ length xs
+length-filter_le test [] = omega arith
+length-filter_le test (y ∷ ys) = by (length-filter_le test ys) (test y)
+  where
+    by : length (filter test ys) ≤ length ys → (b : Bool) → length (cond b (y ∷ filter test ys) (filter test ys)) ≤ suc (length ys)
+    by k true = omega arith
+    by k false = omega arith
+
+pub length-filter_less : {X : Type 0} (test : X → Bool) (xs : List X) (x : X) → In x xs → test x ≡ false → length (filter test xs) < length xs
+length-filter_less test [] x i h = absurd i
+length-filter_less test (y ∷ ys) x i h = by (λ j. length-filter_less test ys x j h) (length-filter_le test ys) (test y) refl i
+  where
+    by : (In x ys → length (filter test ys) < length ys) → length (filter test ys) ≤ length ys → (b : Bool) → test y ≡ b → (x ≡ y) ⊎ In x ys
+        → length (cond b (y ∷ filter test ys) (filter test ys)) < suc (length ys)
+    by less le true e (inl f) = absurd (both_ways (test x) h (subst (λ z. test z ≡ true) (sym f) e))
+    by less le true e (inr j) = let k = less j in omega arith
+    by less le false e j = omega arith
+
+-- one more number
+pub IsUpTo-none : IsUpTo 0 []
+IsUpTo-none = record { members = λ a. (λ i. absurd i, λ h. absurd (omega arith)); rising = tt }
+
+pub IsUpTo-more : (n : ℕ) (xs : List ℕ) → IsUpTo n xs → IsUpTo (n + 1) (xs ++ n ∷ [])
+IsUpTo-more n xs up = record {
+    members = λ a. (λ i. below a (In-append a xs (n ∷ []) i), λ h. has a (cases_lt a n) h);
+    rising = Pairwise-append (λ x y. x < y) xs (n ∷ []) up.rising (tt, tt) (λ x y i j. after x y ((up.members x).0 i) j) }
+  where
+    below : (a : ℕ) → In a xs ⊎ In a (n ∷ []) → a < n + 1
+    below a (inl i) = let h : a < n = (up.members a).0 i in omega arith
+    below a (inr (inl e)) = omega arith
+    below a (inr (inr i)) = absurd i
+
+    has : (a : ℕ) → (a < n) ⊎ (n ≤ a) → a < n + 1 → In a (xs ++ n ∷ [])
+    has a (inl k) h = In-left a xs (n ∷ []) ((up.members a).1 k)
+    has a (inr k) h = In-right a xs (n ∷ []) (inl (omega arith))
+
+    after : (x y : ℕ) → x < n → In y (n ∷ []) → x < y
+    after x y h (inl e) = omega arith
+    after x y h (inr i) = absurd i
+
+pub Each-get : {X : Type 0} (P : X → Type 0) (xs : List X) → Each P xs → (i : ℕ) (d : X) → i < length xs → P (get_or xs i d)
+Each-get P [] h i d l = absurd (omega arith)
+Each-get P (x ∷ xs) h zero d l = h.0
+Each-get P (x ∷ xs) h (suc i) d l = Each-get P xs h.1 i d (omega arith)
