@@ -1,10 +1,7 @@
 -- Classes taken one after the other from what is left.
-use Rattle.std.proofs.Common.{◌≡◌, ℕ, Bool, not, Option, Some, List, [], ◌∷◌}
+use Rattle.std.proofs.Common.{◌≡◌, ℕ, Bool, Option, Some, List, [], ◌∷◌}
 use Rattle.std.specs.List.{filter, find}
-use Rattle.components.specs.Tables.{holds_both, is_source}
-
-abbrev pub rest_of : List (List Bool) → ℕ → List ℕ → List ℕ
-rest_of table first left = filter (λ b. not (holds_both table first b)) left
+use Rattle.components.specs.Tables.{holds_both, is_source, rest_of}
 
 abbrev pub Emits : List (List Bool) → List ℕ → List (List ℕ) → Type 0
 Emits table left [] = left ≡ []

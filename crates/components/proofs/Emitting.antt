@@ -5,10 +5,10 @@ use Rattle.std.specs.List.{concat, filter, find}
 use Rattle.components.specs.Lists.{In, Each, Pairwise, Distinct, Rises, IsUpTo}
 use Rattle.components.specs.Reachability.{AreBelow, Walk, Reaches, AreMutual}
 use Rattle.components.specs.Orders.{IsComponent, NoneBack, MayComeNext, HasLess, LeastFirst, IsOrder}
-use Rattle.components.specs.Tables.{holds, holds_both, is_source, IsClosure}
+use Rattle.components.specs.Tables.{holds, holds_both, is_source, rest_of, IsClosure}
 use Rattle.components.proofs.ListLaws.{Each-In, Each-from, In-left, In-right, In-append, Pairwise-append, Pairwise-weaker, filter-In, In-filter, Pairwise-filter, list_all-In, list_all-from, IsLeast, find-Some}
 use Rattle.components.proofs.Walks.{Reaches-itself, Reaches-pair, Reaches-trans, AreMutual-trans, AreMutual-sym, Reaches-In}
-use Rattle.components.proofs.Emits.{rest_of, Emits}
+use Rattle.components.proofs.Emits.{Emits}
 
 pub In-concat : (x : ℕ) (c : List ℕ) (cs : List (List ℕ)) → In c cs → In x c → In x (concat cs)
 In-concat x c [] i j = absurd i

@@ -93,6 +93,14 @@ module _ {X : Type 0} (test : X → Bool) where
       by later false e f (inl g) = both_ways (test x) (subst (λ z. test z ≡ false) (sym g) e) k
       by later false e f (inr j) = later f j
 
+  pub find-In : (xs : List X) (x : X) → find test xs ≡ Some x → In x xs
+  find-In [] x h = cc
+  find-In (y ∷ ys) x h = by (find-In ys x) (test y) h
+    where
+      by : (find test ys ≡ Some x → In x ys) → (b : Bool) → cond b (Some y) (find test ys) ≡ Some x → In x (y ∷ ys)
+      by later true f = inl (cc)
+      by later false f = inr (later f)
+
 -- of numbers that rise the first that passes is the least
 pub record IsLeast (test : ℕ → Bool) (xs : List ℕ) (x : ℕ) : Type 0 where
   pub inside : In x xs

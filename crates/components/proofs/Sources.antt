@@ -4,10 +4,9 @@ use Rattle.std.proofs.lemmas.Bool.{both_ways, not_from_false, not_from_true, cas
 use Rattle.std.specs.List.{find}
 use Rattle.components.specs.Lists.{In}
 use Rattle.components.specs.Reachability.{Reaches}
-use Rattle.components.specs.Tables.{holds, holds_both, is_source, IsClosure}
+use Rattle.components.specs.Tables.{holds, holds_both, is_source, rest_of, IsClosure}
 use Rattle.components.proofs.ListLaws.{IsLeast, find-None, list_all-from, length-filter_less}
 use Rattle.components.proofs.Walks.{Reaches-itself, Reaches-trans}
-use Rattle.components.proofs.Emits.{rest_of}
 
 module _ (n : ℕ) (pairs : List (ℕ × ℕ)) (table : List (List Bool)) (closed : IsClosure n pairs table) where
   decided : (a b : ℕ) → a < n → b < n → Reaches pairs a b ⊎ ¬ Reaches pairs a b

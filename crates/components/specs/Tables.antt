@@ -1,6 +1,6 @@
 -- A relation of numbers as a table of truth values.
 use Rattle.std.specs.Prelude.{◌≡◌, ◌<◌, ◌↔◌, ℕ, Bool, true, false, not, ◌&&◌, ◌||◌, List, [], ◌∷◌, length, slice_index_or, MatchBool}
-use Rattle.std.specs.List.{list_all}
+use Rattle.std.specs.List.{filter, list_all}
 use Rattle.components.specs.Reachability.{Reaches}
 
 -- what stands at row a and column b; beyond the table it is false
@@ -13,6 +13,10 @@ holds_both table a b = holds table a b && holds table b a
 -- what of these leads to a, a leads to
 abbrev pub is_source : List (List Bool) → List ℕ → ℕ → Bool
 is_source table left a = list_all (λ b. not (holds table b a) || holds table a b) left
+
+-- what is left without those that lead to the member and that it leads to
+abbrev pub rest_of : List (List Bool) → ℕ → List ℕ → List ℕ
+rest_of table member left = filter (λ b. not (holds_both table member b)) left
 
 -- the third row has what the first or the second has
 pub record IsUnion (old other new : List Bool) : Type 0 where

@@ -1,10 +1,10 @@
 //! The strongly connected components of a directed graph.
-ghost use Rattle.std.specs.Prelude.{◌≡◌, ◌<◌, ℕ, not, [], IfOk};
+ghost use Rattle.std.specs.Prelude.{◌≡◌, [], IfOk};
 ghost use Rattle.std.specs.List.{filter, find};
 ghost use Rattle.components.specs.Lists.{IsUpTo};
 ghost use Rattle.components.specs.Orders.{IsOrder};
 ghost use Rattle.components.specs.Reachability.{AreBelow};
-ghost use Rattle.components.specs.Tables.{holds_both, is_source};
+ghost use Rattle.components.specs.Tables.{holds_both, is_source, rest_of};
 
 use crate::reach::Reach;
 use fv_tree::{Memory, Seq};
@@ -42,6 +42,12 @@ fn class_of(alloc: Global, reach: &Reach, left: &[usize], member: usize) -> Resu
     Ok(Seq::from_vec(class))
 }
 
+fn take_class_out(reach: &Reach, left: &mut Vec<usize>, member: usize)
+    ensures { left.new.items ≡ rest_of reach.now member left.old.items }
+{
+    left.retain(|other| !reach.leads_both_ways(member, *other));
+}
+
 fn numbers_below(alloc: Global, n: usize) -> Result<Vec<usize>, Memory>
     ensures { IfOk result (λ numbers. IsUpTo n numbers.items) }
 {
@@ -65,7 +71,7 @@ pub fn components(alloc: Global, n: usize, pairs: &[(usize, usize)]) -> Result<O
     let mut members = Seq::new(alloc);
     while let Some(first) = next_member(&reach, left.as_slice()) {
         members.push(class_of(alloc, &reach, left.as_slice(), first)?)?;
-        left.retain(|number| !reach.leads_both_ways(first, *number));
+        take_class_out(&reach, &mut left, first);
     }
     Ok(Order {
         members,
