@@ -7,13 +7,9 @@ use Rattle.components.specs.Reachability.{AreBelow, Walk, Reaches, AreMutual}
 use Rattle.components.specs.Orders.{IsComponent, NoneBack, MayComeNext, HasLess, LeastFirst, IsOrder}
 use Rattle.components.specs.Tables.{holds, holds_both, is_source, rest_of, IsClosure}
 use Rattle.components.proofs.ListLaws.{Each-In, Each-from, In-left, In-right, In-append, Pairwise-append, Pairwise-weaker, filter-In, In-filter, Pairwise-filter, list_all-In, list_all-from, IsLeast, find-Some}
+use Rattle.components.proofs.ClassLaws.{In-concat}
 use Rattle.components.proofs.Walks.{Reaches-itself, Reaches-pair, Reaches-trans, AreMutual-trans, AreMutual-sym, Reaches-In}
 use Rattle.components.proofs.Emits.{Emits}
-
-pub In-concat : (x : ℕ) (c : List ℕ) (cs : List (List ℕ)) → In c cs → In x c → In x (concat cs)
-In-concat x c [] i j = absurd i
-In-concat x c (d ∷ cs) (inl e) j = In-left x d (concat cs) (subst (In x) e j)
-In-concat x c (d ∷ cs) (inr i) j = In-right x d (concat cs) (In-concat x c cs i j)
 
 module _ (n : ℕ) (pairs : List (ℕ × ℕ)) (table : List (List Bool)) (closed : IsClosure n pairs table) where
   -- what is left: it rises, and nothing that it leads to is gone
