@@ -3,6 +3,7 @@ pub mod Closures
 pub mod Emits
 pub mod Emitting
 pub mod ListLaws
+pub mod Places
 pub mod Sources
 pub mod Unique
 pub mod Walks

@@ -1,3 +1,5 @@
+pub mod Emission
+pub mod Laws
 pub mod Lists
 pub mod Orders
 pub mod Reachability
