@@ -13,8 +13,9 @@ use Rattle.components.proofs.ListLaws.{In-right}
 module _ (n : ℕ) (rows : List (List Bool)) (count : length rows ≡ n) (each : (a : ℕ) → a < n → get_or rows a [] ≡ set (replicate n false) a true) where
   pub closure_of_none : IsClosure n [] rows
   closure_of_none = record {
-      square = record { rows = count; columns = λ a h. ap length (each a h) ∙ (length-set (replicate n false) a true ∙ length-replicate n false) };
-      at = λ a b h k. (λ e. to a b h k (cases_eq b a) e, λ r. back a b h r.0 r.1) }
+    square = record { rows = count; columns = λ a h. ap length (each a h) ∙ (length-set (replicate n false) a true ∙ length-replicate n false) };
+    at = λ a b h k. (λ e. to a b h k (cases_eq b a) e, λ r. back a b h r.0 r.1);
+  }
     where
       here : (a b : ℕ) → a < n → holds rows a b ≡ get_or (set (replicate n false) a true) b false
       here a b h = ap (λ row. get_or row b false) (each a h)
@@ -87,13 +88,15 @@ module _ (n : ℕ) (pairs : List (ℕ × ℕ)) (old new : List (List Bool)) (fro
         by : ((holds old a from && not (holds old a to)) ≡ true) ⊎ ((holds old a from && not (holds old a to)) ≡ false)
             → (length (get_or new a []) ≡ n) × ((b : ℕ) → b < n → (holds new a b ≡ true) ↔ Reaches more a b)
         by (inl e) =
-            let u : IsUnion (get_or old a []) (get_or old to []) (get_or new a []) = MatchBool-at_true _ _ e adds in
-            (u.same_length ∙ closed.square.columns a h,
-             λ b k. united a b h k (and_parts (holds old a from) (not (holds old a to)) e).0 (u.at b (subst (λ z. b < z) (sym (closed.square.columns a h)) k)))
+            let u : IsUnion (get_or old a []) (get_or old to []) (get_or new a []) = MatchBool-at_true _ _ e adds in (
+              u.same_length ∙ closed.square.columns a h,
+              λ b k. united a b h k (and_parts (holds old a from) (not (holds old a to)) e).0 (u.at b (subst (λ z. b < z) (sym (closed.square.columns a h)) k)),
+            )
         by (inr e) =
-            let s : get_or new a [] ≡ get_or old a [] = MatchBool-at_false _ _ e adds in
-            (ap length s ∙ closed.square.columns a h,
-             λ b k. kept a b h k (and_cases (holds old a from) (not (holds old a to)) e) (ap (λ row. get_or row b false) s))
+            let s : get_or new a [] ≡ get_or old a [] = MatchBool-at_false _ _ e adds in (
+              ap length s ∙ closed.square.columns a h,
+              λ b k. kept a b h k (and_cases (holds old a from) (not (holds old a to)) e) (ap (λ row. get_or row b false) s),
+            )
 
     grown : IsClosure n more new
     grown = record { square = record { rows = count ∙ closed.square.rows; columns = λ a h. (row_at a h).0 }; at = λ a b h k. (row_at a h).1 b k }

@@ -88,9 +88,10 @@ module _ (n : ℕ) (pairs : List (ℕ × ℕ)) (table : List (List Bool)) (close
 
     rest_fits : Fits rest
     rest_fits = record {
-        below = λ a i. fits.below a (in_rest a i).0;
-        rising = Pairwise-filter (λ b. not (holds_both table first b)) (λ x y. x < y) left fits.rising;
-        onward = λ a b i p. by a b i p (class_or_rest b (fits.onward a b (in_rest a i).0 p)) }
+      below = λ a i. fits.below a (in_rest a i).0;
+      rising = Pairwise-filter (λ b. not (holds_both table first b)) (λ x y. x < y) left fits.rising;
+      onward = λ a b i p. by a b i p (class_or_rest b (fits.onward a b (in_rest a i).0 p));
+    }
       where
         by : (a b : ℕ) → In a rest → In (a, b) pairs → In b class ⊎ In b rest → In b rest
         by a b i p (inl j) = absurd (none_back a b i j p)
@@ -98,9 +99,10 @@ module _ (n : ℕ) (pairs : List (ℕ × ℕ)) (table : List (List Bool)) (close
 
     component : IsComponent pairs class
     component a b i =
-        let m = in_class a i in
-        (λ j. AreMutual-trans pairs a first b (AreMutual-sym pairs first a m.1) (in_class b j).1,
-         λ k. class_has b (Reaches-In pairs left fits.onward a b m.0 k.0) (AreMutual-trans pairs first a b m.1 k))
+        let m = in_class a i in (
+          λ j. AreMutual-trans pairs a first b (AreMutual-sym pairs first a m.1) (in_class b j).1,
+          λ k. class_has b (Reaches-In pairs left fits.onward a b m.0 k.0) (AreMutual-trans pairs first a b m.1 k),
+        )
 
     class_has_first : In first class
     class_has_first = class_has first least.inside (Reaches-itself pairs first, Reaches-itself pairs first)
@@ -130,15 +132,16 @@ module _ (n : ℕ) (pairs : List (ℕ × ℕ)) (table : List (List Bool)) (close
 
     pub with_class : (cs : List (List ℕ)) → Orders rest cs → Orders left (class ∷ cs)
     with_class cs o = record {
-        members = λ a. (λ i. left_has a (In-append a class (concat cs) i), λ i. has a (class_or_rest a i));
-        once = Pairwise-append (λ x y. ¬ (x ≡ y)) class (concat cs)
-            (Pairwise-weaker (λ x y. x < y) (λ x y. ¬ (x ≡ y)) (λ x y h e. omega arith) class (Pairwise-filter (holds_both table first) (λ x y. x < y) left fits.rising))
-            o.once apart;
-        filled = (λ e. subst (In first) e class_has_first, o.filled);
-        rising = (Pairwise-filter (holds_both table first) (λ x y. x < y) left fits.rising, o.rising);
-        components = (component, o.components);
-        forward = (Each-from (NoneBack pairs class) cs (λ d i a b j k. none_back a b ((o.members a).0 (In-concat a d cs i j)) k), o.forward);
-        least_first = (Each-from (λ d. MayComeNext pairs (class ∷ cs) d → HasLess class d) cs (λ d i. less_first cs o.members d i (Each-In (IsComponent pairs) cs o.components d i)), o.least_first) }
+      members = λ a. (λ i. left_has a (In-append a class (concat cs) i), λ i. has a (class_or_rest a i));
+      once = Pairwise-append (λ x y. ¬ (x ≡ y)) class (concat cs)
+          (Pairwise-weaker (λ x y. x < y) (λ x y. ¬ (x ≡ y)) (λ x y h e. omega arith) class (Pairwise-filter (holds_both table first) (λ x y. x < y) left fits.rising))
+          o.once apart;
+      filled = (λ e. subst (In first) e class_has_first, o.filled);
+      rising = (Pairwise-filter (holds_both table first) (λ x y. x < y) left fits.rising, o.rising);
+      components = (component, o.components);
+      forward = (Each-from (NoneBack pairs class) cs (λ d i a b j k. none_back a b ((o.members a).0 (In-concat a d cs i j)) k), o.forward);
+      least_first = (Each-from (λ d. MayComeNext pairs (class ∷ cs) d → HasLess class d) cs (λ d i. less_first cs o.members d i (Each-In (IsComponent pairs) cs o.components d i)), o.least_first);
+    }
       where
         left_has : (a : ℕ) → In a class ⊎ In a (concat cs) → In a left
         left_has a (inl i) = (in_class a i).0
@@ -155,21 +158,25 @@ module _ (n : ℕ) (pairs : List (ℕ × ℕ)) (table : List (List Bool)) (close
 
   emits_orders : (cs : List (List ℕ)) (left : List ℕ) → Fits left → Emits table left cs → Orders left cs
   emits_orders [] left fits e = record {
-      members = λ a. (λ i. absurd i, λ i. subst (In a) e i);
-      once = tt;
-      filled = tt;
-      rising = tt;
-      components = tt;
-      forward = tt;
-      least_first = tt }
+    members = λ a. (λ i. absurd i, λ i. subst (In a) e i);
+    once = tt;
+    filled = tt;
+    rising = tt;
+    components = tt;
+    forward = tt;
+    least_first = tt;
+  }
   emits_orders (c ∷ cs) left fits e =
       let least = find-Some (is_source table left) left e.0 fits.rising e.1 in
       subst (λ z. Orders left (z ∷ cs)) (sym e.2) (with_class left fits e.0 least cs (emits_orders cs (rest_of table e.0 left) (rest_fits left fits e.0 least) e.3))
 
   pub emits_order : AreBelow n pairs → (numbers : List ℕ) (cs : List (List ℕ)) → IsUpTo n numbers → Emits table numbers cs → IsOrder n pairs cs
   emits_order below numbers cs up e =
-      let o = emits_orders cs numbers (record { below = λ a. (up.members a).0; rising = up.rising;
-          onward = λ a b i p. (up.members b).1 (Each-In (λ p. (p.0 < n) × (p.1 < n)) pairs below (a, b) p).1 }) e in
+      let o = emits_orders cs numbers (record {
+        below = λ a. (up.members a).0;
+        rising = up.rising;
+        onward = λ a b i p. (up.members b).1 (Each-In (λ p. (p.0 < n) × (p.1 < n)) pairs below (a, b) p).1;
+      }) e in
       record {
         members = λ a. (λ i. (up.members a).0 ((o.members a).0 i), λ h. (o.members a).1 ((up.members a).1 h));
         once = o.once;
@@ -177,4 +184,5 @@ module _ (n : ℕ) (pairs : List (ℕ × ℕ)) (table : List (List Bool)) (close
         rising = o.rising;
         components = o.components;
         forward = o.forward;
-        least_first = o.least_first }
+        least_first = o.least_first;
+      }

@@ -149,8 +149,9 @@ IsUpTo-none = record { members = λ a. (λ i. absurd i, λ h. absurd (omega arit
 
 pub IsUpTo-more : (n : ℕ) (xs : List ℕ) → IsUpTo n xs → IsUpTo (n + 1) (xs ++ n ∷ [])
 IsUpTo-more n xs up = record {
-    members = λ a. (λ i. below a (In-append a xs (n ∷ []) i), λ h. has a (cases_lt a n) h);
-    rising = Pairwise-append (λ x y. x < y) xs (n ∷ []) up.rising (tt, tt) (λ x y i j. after x y ((up.members x).0 i) j) }
+  members = λ a. (λ i. below a (In-append a xs (n ∷ []) i), λ h. has a (cases_lt a n) h);
+  rising = Pairwise-append (λ x y. x < y) xs (n ∷ []) up.rising (tt, tt) (λ x y i j. after x y ((up.members x).0 i) j);
+}
   where
     below : (a : ℕ) → In a xs ⊎ In a (n ∷ []) → a < n + 1
     below a (inl i) = let h : a < n = (up.members a).0 i in omega arith

@@ -95,9 +95,10 @@ module _ (part : List ℕ) (leaps pairs : List (ℕ × ℕ)) (classes : List (Li
 
   pub order_has_components : Components part leaps (statements_of part classes)
   order_has_components = record {
-      same = same;
-      once = subst Distinct (sym (concat-map at classes)) (Pairwise-map at (λ x y. ¬ (x ≡ y)) (λ x y. ¬ (x ≡ y)) (concat classes)
-          (λ x y i j d e. d (Distinct-get_or part distinct x y ((order.members x).0 i) ((order.members y).0 j) e)) order.once);
-      reachable = Each-map (map at) (λ c. (s r : ℕ) → In s c → In r c → (over : List ℕ) × WalkWithin part leaps s over r) classes reachable;
-      filled = Each-map (map at) (λ c. ¬ (c ≡ [])) classes (λ c i e. Each-In (λ c. ¬ (c ≡ [])) classes order.filled c i (map-nil at c e));
-      forward = Pairwise-map (map at) (NoneBack pairs) (λ c later. (s r : ℕ) → In s later → In r c → ¬ In (s, r) leaps) classes forward order.forward }
+    same = same;
+    once = subst Distinct (sym (concat-map at classes)) (Pairwise-map at (λ x y. ¬ (x ≡ y)) (λ x y. ¬ (x ≡ y)) (concat classes)
+        (λ x y i j d e. d (Distinct-get_or part distinct x y ((order.members x).0 i) ((order.members y).0 j) e)) order.once);
+    reachable = Each-map (map at) (λ c. (s r : ℕ) → In s c → In r c → (over : List ℕ) × WalkWithin part leaps s over r) classes reachable;
+    filled = Each-map (map at) (λ c. ¬ (c ≡ [])) classes (λ c i e. Each-In (λ c. ¬ (c ≡ [])) classes order.filled c i (map-nil at c e));
+    forward = Pairwise-map (map at) (NoneBack pairs) (λ c later. (s r : ℕ) → In s later → In r c → ¬ In (s, r) leaps) classes forward order.forward;
+  }

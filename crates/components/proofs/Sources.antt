@@ -53,7 +53,7 @@ module _ (n : ℕ) (pairs : List (ℕ × ℕ)) (table : List (List Bool)) (close
   no_source (x ∷ xs) below h =
       let s = some_source x xs below in
       absurd (find-None (is_source table (x ∷ xs)) (x ∷ xs) h s.at s.inside
-        (list_all-from (λ b. not (holds table b s.at) || holds table s.at b) (x ∷ xs) (λ b i. by s b i (cases_Bool (holds table b s.at)))))
+      (list_all-from (λ b. not (holds table b s.at) || holds table s.at b) (x ∷ xs) (λ b i. by s b i (cases_Bool (holds table b s.at)))))
     where
       by : (s : Source (x ∷ xs)) (b : ℕ) → In b (x ∷ xs) → (holds table b s.at ≡ true) ⊎ (holds table b s.at ≡ false) → (not (holds table b s.at) || holds table s.at b) ≡ true
       by s b i (inl e) = or_right (not (holds table b s.at)) (holds table s.at b)
@@ -65,4 +65,4 @@ module _ (n : ℕ) (pairs : List (ℕ × ℕ)) (table : List (List Bool)) (close
   rest_shorter left first h i =
       let e : holds table first first ≡ true = (closed.at first first h h).1 (Reaches-itself pairs first) in
       length-filter_less (λ b. not (holds_both table first b)) left first i
-        (not_from_true (holds_both table first first) (and_from (holds table first first) (holds table first first) e e))
+      (not_from_true (holds_both table first first) (and_from (holds table first first) (holds table first first) e e))

@@ -20,12 +20,13 @@ module _ (pairs : List (ℕ × ℕ)) where
 
   later_ordered : (c : List ℕ) (cs : List (List ℕ)) → Ordered (c ∷ cs) → Ordered cs
   later_ordered c cs o = record {
-      once = Pairwise-right (λ x y. ¬ (x ≡ y)) c (concat cs) o.once;
-      filled = o.filled.1;
-      rising = o.rising.1;
-      components = o.components.1;
-      forward = o.forward.1;
-      least_first = o.least_first.1 }
+    once = Pairwise-right (λ x y. ¬ (x ≡ y)) c (concat cs) o.once;
+    filled = o.filled.1;
+    rising = o.rising.1;
+    components = o.components.1;
+    forward = o.forward.1;
+    least_first = o.least_first.1;
+  }
 
   same_class : (c d : List ℕ) → IsComponent pairs c → IsComponent pairs d → (x : ℕ) → In x c → In x d → (b : ℕ) → In b c → In b d
   same_class c d h k x i j b l = (k x b j).1 ((h x b i).0 l)
@@ -45,7 +46,7 @@ module _ (pairs : List (ℕ × ℕ)) where
       let to_e : (b : ℕ) → In b c → In b e = same_class c e o.components.0 comp x i k in
       let to_c : (b : ℕ) → In b e → In b c = same_class e c comp o.components.0 x k i in
       let h : HasLess d e = Each-In (λ e. MayComeNext pairs (d ∷ ds) e → HasLess d e) ds p.least_first.0 e j
-          (λ a b l m q. to_e a (first_may_come c cs o a b (members a l) (to_c b m) q)) in
+      (λ a b l m q. to_e a (first_may_come c cs o a b (members a l) (to_c b m) q)) in
       (h.0, h.1, Each-from (λ b. h.0 < b) c (λ b l. Each-In (λ b. h.0 < b) e h.2 b (to_e b l)))
 
   not_both_less : (c d : List ℕ) → HasLess c d → HasLess d c → ⊥
@@ -60,7 +61,7 @@ module _ (pairs : List (ℕ × ℕ)) where
       let x = some_member c o.filled.0 in
       let y = some_member d p.filled.0 in
       by x.0 x.1 y.0 y.1 (In-append x.0 d (concat ds) ((members x.0).0 (In-left x.0 c (concat cs) x.1)))
-        (In-append y.0 c (concat cs) ((members y.0).1 (In-left y.0 d (concat ds) y.1)))
+      (In-append y.0 c (concat cs) ((members y.0).1 (In-left y.0 d (concat ds) y.1)))
     where
       by : (x : ℕ) → In x c → (y : ℕ) → In y d → In x d ⊎ In x (concat ds) → In y c ⊎ In y (concat cs) → (x : ℕ) × In x c × In x d
       by x i y j (inl k) l = (x, i, k)
@@ -86,8 +87,10 @@ module _ (pairs : List (ℕ × ℕ)) where
       let x = shared c cs d ds o p members in
       let e : c ≡ d = Rises-same c d o.rising.0 p.rising.0 (same_class c d o.components.0 p.components.0 x.0 x.1 x.2) (same_class d c p.components.0 o.components.0 x.0 x.2 x.1) in
       let t : cs ≡ ds = unique cs ds (later_ordered c cs o) (later_ordered d ds p)
-          (λ a. (λ i. same_later c cs d ds o.once e a i ((members a).0 (In-right a c (concat cs) i)),
-                 λ i. same_later d ds c cs p.once (sym e) a i ((members a).1 (In-right a d (concat ds) i)))) in
+      (λ a. (
+        λ i. same_later c cs d ds o.once e a i ((members a).0 (In-right a c (concat cs) i)),
+        λ i. same_later d ds c cs p.once (sym e) a i ((members a).1 (In-right a d (concat ds) i)),
+      )) in
       cc
 
   ordered : (n : ℕ) (cs : List (List ℕ)) → IsOrder n pairs cs → Ordered cs

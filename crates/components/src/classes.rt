@@ -28,10 +28,17 @@ fn is_source(reach: &Reach, left: &[usize], number: usize) -> bool
 fn next_member(reach: &Reach, left: &[usize]) -> Option<usize>
     ensures { result ≡ find (is_source reach.now left.now) left.now }
 {
-    left.iter().copied().find(|number| is_source(reach, left, *number))
+    left.iter()
+        .copied()
+        .find(|number| is_source(reach, left, *number))
 }
 
-fn class_of(alloc: Global, reach: &Reach, left: &[usize], member: usize) -> Result<Seq<usize>, Memory>
+fn class_of(
+    alloc: Global,
+    reach: &Reach,
+    left: &[usize],
+    member: usize,
+) -> Result<Seq<usize>, Memory>
     ensures { IfOk result (λ class. class ≡ filter (holds_both reach.now member) left.now) }
 {
     let class: Vec<usize> = left

@@ -33,8 +33,8 @@ loop-first-preserved c =
           (filter-In (λ b. not (holds_both c.in_ok-reach.reach c.in-Some.first b)) c.loop-first.left.items a (subst (In a) c.take_class_out.ensures i)).0;
       emits = λ cs e. subst (λ z. Emits c.in_ok-reach.reach c.in_ok-left.left.items (z ++ cs)) (sym c.in_ok-push.ensures.ok)
           (subst (Emits c.in_ok-reach.reach c.in_ok-left.left.items) (sym (append_assoc c.loop-first.members (c.in_ok-class_of.field-0 ∷ []) cs))
-            (c.loop-first.invariant.emits (c.in_ok-class_of.field-0 ∷ cs)
-              (c.in-Some.first, found, class, subst (λ z. Emits c.in_ok-reach.reach z cs) c.take_class_out.ensures e)));
+          (c.loop-first.invariant.emits (c.in_ok-class_of.field-0 ∷ cs)
+          (c.in-Some.first, found, class, subst (λ z. Emits c.in_ok-reach.reach z cs) c.take_class_out.ensures e)));
     }
 
 pub returns-clause-classes : goal.returns-clause-classes

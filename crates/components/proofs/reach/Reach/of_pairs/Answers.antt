@@ -11,4 +11,4 @@ loop-from-preserved c =
     let pair : ℕ × ℕ = get_or c.args.pairs.now c.loop-from.from-index (0, 0) in
     let below : (pair.0 < c.args.n) × (pair.1 < c.args.n) = Each-get (λ p. (p.0 < c.args.n) × (p.1 < c.args.n)) c.args.pairs.now c.requires c.loop-from.from-index (0, 0) inside in
     subst (λ ps. IsClosure c.args.n ps c.add.new.self) (sym (take_more c.args.pairs.now c.loop-from.from-index (0, 0) inside))
-      (closure_of_more c.args.n (take c.loop-from.from-index c.args.pairs.now) c.loop-from.reach c.add.new.self pair.0 pair.1 below.0 below.1 c.loop-from.invariant c.in_ok-add.ensures)
+    (closure_of_more c.args.n (take c.loop-from.from-index c.args.pairs.now) c.loop-from.reach c.add.new.self pair.0 pair.1 below.0 below.1 c.loop-from.invariant c.in_ok-add.ensures)
