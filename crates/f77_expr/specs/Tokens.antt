@@ -1,6 +1,6 @@
 -- The words that the code holds, as words of the grammar.
 use Rattle.std.specs.Prelude.{Option, Some, None}
-use Rattle.f77_grammar.specs.expressions.Levels as levels
+use Rattle.fv_tree.specs.OperatorTable as levels
 use Rattle.f77_grammar.specs.expressions.Words as words
 use Rattle.f77_grammar.specs.expressions.Words.{Word}
 use Rattle.f77_expr.specs.declared.tokens.Sign.{Sign}

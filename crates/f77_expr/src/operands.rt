@@ -2,8 +2,8 @@
 ghost use Rattle.std.specs.Prelude.{◌≡◌, ◌≤◌, ◌++◌, ◌∷◌, [], IfOk, IsTrue, max};
 ghost use Rattle.fv_tree.specs.View.{expression_of, subscript_of};
 ghost use Rattle.fv_tree.specs.Plain.{Only};
-ghost use Rattle.f77_grammar.specs.expressions.Levels as levels;
-ghost use Rattle.f77_grammar.specs.expressions.Levels.{level_of, left_least, right_least, joins};
+ghost use Rattle.fv_tree.specs.OperatorTable as levels;
+ghost use Rattle.fv_tree.specs.OperatorTable.{level_of, left_least, right_least, stands_between};
 ghost use Rattle.f77_expr.specs.Reader.{deeper, signed_operand, joined_operand, paren_operand, listed_operand, primary, frame_least};
 ghost use Rattle.f77_expr.specs.Reader as reader;
 ghost use Rattle.f77_expr.specs.Tokens.{sign_view};
@@ -53,7 +53,7 @@ pub(crate) fn least_right(op: Op) -> u8
 
 /// Whether the operator stands between two operands.
 pub(crate) fn is_joining(op: Op) -> bool
-    ensures { result ≡ joins op }
+    ensures { result ≡ stands_between op }
 {
     match op {
         Op::Neg | Op::Not => false,
@@ -63,7 +63,7 @@ pub(crate) fn is_joining(op: Op) -> bool
 
 // Whether the operator compares its operands.
 fn is_comparing(op: Op) -> bool
-    ensures { result ≡ levels.compares op }
+    ensures { result ≡ levels.is_relation op }
 {
     match op {
         Op::Lt | Op::Le | Op::Eq | Op::Ne | Op::Gt | Op::Ge => true,

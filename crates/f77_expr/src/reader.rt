@@ -1,6 +1,6 @@
 //! Expressions, read word by word.
 ghost use Rattle.std.specs.Prelude.{◌≡◌, ◌<◌, length, List, [], ◌∷◌, ◌++◌, IfOk};
-ghost use Rattle.f77_grammar.specs.expressions.Levels.{level_of};
+ghost use Rattle.fv_tree.specs.OperatorTable.{level_of};
 ghost use Rattle.f77_expr.specs.Reader as reader;
 ghost use Rattle.f77_grammar.specs.expressions.Words as words;
 ghost use Rattle.f77_grammar.specs.expressions.Phrases.{Phrase, IsExpression, written};

@@ -2,7 +2,7 @@
 ghost use Rattle.std.specs.Prelude.{◌≡◌, map};
 ghost use Rattle.std.specs.List.{list_any};
 ghost use Rattle.fv_tree.specs.Names.{IsName};
-ghost use Rattle.fv_meaning.specs.Names.{name_of_function};
+ghost use Rattle.fv_tree.specs.Functions.{name_of_function};
 ghost use Rattle.f77_grammar.specs.program.Uses as plain;
 ghost use Rattle.f77_grammar.specs.program.Kinds as kinds;
 ghost use Rattle.f77_names.specs.UsesView.{listed, plain_use};

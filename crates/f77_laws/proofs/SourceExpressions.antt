@@ -2,7 +2,7 @@
 use Rattle.std.proofs.Common.{ℕ, ◌+◌, ◌<◌, ◌≤◌, max, Bool, true, false, cond, List, [], ◌∷◌, ◌++◌, sym, subst, arith}
 use Rattle.fv_tree.specs.declared.ops.Op.TheVariants.{Neg, Not}
 use Rattle.fv_tree.specs.Plain.{Expression, Subscript, Only, subscripts}
-use Rattle.f77_grammar.specs.expressions.Levels.{Plus, Minus, Negation}
+use Rattle.fv_tree.specs.OperatorTable.{Plus, Minus, Negation}
 use Rattle.f77_grammar.specs.expressions.Phrases.{Phrase, Literal, WideLiteral, Truth, Name, Listed, Paren, Signed, Joined, Phrases, One, Then, tree, trees, depth, depths}
 use Rattle.f77_grammar.proofs.expressions.SourceLaws.{read_source}
 use Rattle.fv_meaning.specs.Typed77.{depth_of, depth_of_subscripts, is_negative_literal}

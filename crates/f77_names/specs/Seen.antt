@@ -3,7 +3,7 @@ use Rattle.std.specs.Prelude.{◌≡◌, ℕ, zero, suc, ◌==◌, Bool, true, f
 use Rattle.std.specs.List.{list_any}
 use Rattle.fv_tree.specs.declared.exprs.Expr.{Expr}
 use Rattle.f77_grammar.specs.Statement77.{Statement77}
-use Rattle.fv_meaning.specs.Names.{is_among, function_named}
+use Rattle.fv_meaning.specs.Names.{is_among}
 use Rattle.f77_grammar.specs.program.Uses.{Role, Title, Typed, Bounded, Defined, Valued, Target, Counter, Use, uses_of, is_title, is_typed, is_defined, names_that, stands}
 use Rattle.f77_grammar.specs.program.Declarations.{has_repeat, is_array_or_constant, is_listed, has_unknown_constant, has_misused_name}
 use Rattle.f77_names.specs.declared.names.Facts.{Facts}
@@ -11,6 +11,7 @@ use Rattle.f77_names.specs.declared.names.Names.{Names}
 use Rattle.f77_names.specs.declared.uses.Use.{Use as Use'}
 use Rattle.f77_names.specs.UsesView.{plain_use}
 use Rattle.f77_names.specs.NameFacts.{facts_in, is_array_by, dimensions_by, AreNamesOf}
+use Rattle.fv_tree.specs.Functions.{function_named}
 
 -- ---- what stands before a statement
 

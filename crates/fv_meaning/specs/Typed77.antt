@@ -3,34 +3,13 @@ use Rattle.std.specs.Prelude.{◌≡◌, ◌⊎◌, ℕ, ◌+◌, ◌^◌, ◌<�
 use Rattle.std.specs.Option.{IsSomeAnd}
 use Rattle.std.specs.Str.{bytes_eq}
 use Rattle.std.specs.List.{AllByRecursion}
-use Rattle.fv_tree.specs.Operators.{takes_truths, is_neg, is_not}
+use Rattle.fv_tree.specs.Operators.{is_neg}
+use Rattle.fv_tree.specs.OperatorTable.{operand_kind, result_kind_of, is_unary}
+use Rattle.fv_tree.specs.Functions.{name_of_function, suits_number}
 use Rattle.fv_tree.specs.Plain.{Expression, Number, Logic, Named, Unary, Binary, Apply, Expressions, no_expressions, expression, Subscript, Only, Subscripts, no_subscripts, subscript, Item, Single, Constant, ImpliedDo, Items, no_items, item, Extent, Given, Later, Declaration}
 use Rattle.fv_tree.specs.declared.ops.Kind.{Kind}
 use Rattle.fv_tree.specs.declared.ops.Kind.TheVariants.{Integer, Logical}
 use Rattle.fv_tree.specs.declared.ops.Op.{Op}
-use Rattle.fv_tree.specs.declared.ops.Op.TheVariants.{Lt, Le, Eq, Ne, Gt, Ge}
-use Rattle.fv_meaning.specs.Names.{name_of_function, suits_number}
-
--- ---- operators (sections 6.1, 6.3 and 6.4)
-
-abbrev pub operand_kind : Op → Kind
-operand_kind o = if takes_truths o then Logical else Integer
-
-abbrev pub is_relation : Op → Bool
-is_relation Lt = true
-is_relation Le = true
-is_relation Eq = true
-is_relation Ne = true
-is_relation Gt = true
-is_relation Ge = true
-is_relation _ = false
-
-abbrev pub kind_of_result : Op → Kind
-kind_of_result o = if is_relation o then Logical else operand_kind o
-
--- `Neg` and `Not` have one operand
-abbrev pub is_unary : Op → Bool
-is_unary o = if is_neg o then true else is_not o
 
 -- ---- numbers of parts
 
@@ -116,8 +95,8 @@ module _ (ds : List Declaration) where
     HasKind (Number n) k = IsLiteral n × (k ≡ Integer)
     HasKind (Logic b) k = k ≡ Logical
     HasKind (Named x ps) k = IsSomeAnd (declared ds x) (λ d. (k ≡ d.kind) × (number_of_subscripts ps ≡ length (dimensions d.extent))) × AreSubscripts ps
-    HasKind (Unary o a) k = IsTrue (is_unary o) × (k ≡ kind_of_result o) × HasKind a (operand_kind o)
-    HasKind (Binary o a b) k = IsTrue (not (is_unary o)) × (k ≡ kind_of_result o) × HasKind a (operand_kind o) × HasKind b (operand_kind o)
+    HasKind (Unary o a) k = IsTrue (is_unary o) × (k ≡ result_kind_of o) × HasKind a (operand_kind o)
+    HasKind (Binary o a b) k = IsTrue (not (is_unary o)) × (k ≡ result_kind_of o) × HasKind a (operand_kind o) × HasKind b (operand_kind o)
     HasKind (Apply f es) k = IsTrue (suits_number f (number_of_arguments es)) × (declared ds (name_of_function f) ≡ None) × (k ≡ Integer) × AreArguments es
     HasKind _ k = ⊥
 

@@ -5,7 +5,7 @@ use Rattle.fv_tree.specs.declared.ops.Op.TheVariants.{Neg, Not, Add, Sub}
 use Rattle.fv_tree.specs.Plain.{Expression, Number, Logic, Named, Unary, Binary, Subscript, Only, subscripts, no_subscripts}
 use Rattle.f77_grammar.specs.expressions.Words as words
 use Rattle.f77_grammar.specs.expressions.Words.{Word}
-use Rattle.f77_grammar.specs.expressions.Levels.{Sign, Plus, Minus, Negation, level_of, left_least, right_least, joins, compares, may_follow, sign_level}
+use Rattle.fv_tree.specs.OperatorTable.{Sign, Plus, Minus, Negation, level_of, left_least, right_least, stands_between, is_relation, may_follow, sign_level}
 
 -- A list has one expression at least.
 mutual
@@ -38,7 +38,7 @@ sign_word Negation = Not
 abbrev pub begins_with_sign : Phrase → Bool
 begins_with_sign (Signed Plus p) = true
 begins_with_sign (Signed Minus p) = true
-begins_with_sign (Joined o a b) = if compares o then false else begins_with_sign a
+begins_with_sign (Joined o a b) = if is_relation o then false else begins_with_sign a
 begins_with_sign p = false
 
 -- Each operand binds tightly enough for its operator or sign. A plus or minus sign stands at the front alone: of the
@@ -53,7 +53,7 @@ abbrev mutual
   IsExpression (Paren p) = IsExpression p
   IsExpression (Signed s p) = (sign_level s + 1 ≤ level p) × IsTrue (may_follow (sign_word s) (begins_with_sign p)) × IsExpression p
   IsExpression (Joined o a b) =
-      IsTrue (joins o) × (left_least o ≤ level a) × (right_least o ≤ level b) × IsTrue (may_follow o (begins_with_sign b)) × IsExpression a × IsExpression b
+      IsTrue (stands_between o) × (left_least o ≤ level a) × (right_least o ≤ level b) × IsTrue (may_follow o (begins_with_sign b)) × IsExpression a × IsExpression b
 
   pub AreExpressions : Phrases → Type 0
   AreExpressions (One p) = IsExpression p

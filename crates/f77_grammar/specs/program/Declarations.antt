@@ -2,9 +2,10 @@
 use Rattle.std.specs.Prelude.{ℕ, zero, suc, ◌==◌, Bool, true, false, not, ◌&&◌, ◌||◌, is_some, is_none, if◌then◌else◌, List, [], ◌∷◌, ◌++◌}
 use Rattle.std.specs.List.{list_any}
 use Rattle.f77_grammar.specs.Statement77.{Entity, NamedConstant, Statement77, Declare, Dimension, Constants}
-use Rattle.fv_meaning.specs.Names.{is_among, function_named, is_implicit_integer}
+use Rattle.fv_meaning.specs.Names.{is_among, is_implicit_integer}
 use Rattle.f77_grammar.specs.program.Text.{Place}
 use Rattle.f77_grammar.specs.program.Uses.{Role, Valued, Target, Use, uses_in, uses_in_bounds, uses_of, uses_in_text, is_title, is_typed, is_bounded, is_defined, names_that, stands, is_constant, is_variable, is_array, type_of, dimensions_of_name}
+use Rattle.fv_tree.specs.Functions.{function_named}
 
 -- ---- declared twice, or as two things
 

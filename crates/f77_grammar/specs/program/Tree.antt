@@ -7,13 +7,13 @@ use Rattle.std.specs.Ordering.{nat_cmp, match_ordering}
 use Rattle.fv_tree.specs.Plain.{Expression, Number, Logic, Named, Unary, Binary, Apply, Expressions, no_expressions, expression, Subscript, Only, Subscripts, no_subscripts, subscript, Reference, Item, Single, Constant, ImpliedDo, Items, no_items, item}
 use Rattle.fv_tree.specs.Plain as tree
 use Rattle.fv_tree.specs.declared.ops.Op.TheVariants.{Neg}
-use Rattle.fv_tree.specs.declared.ops.Fun.{Fun}
+use Rattle.fv_tree.specs.declared.functions.Fun.{Fun}
 use Rattle.fv_tree.specs.declared.ops.Fault.{Fault}
 use Rattle.fv_tree.specs.declared.ops.Value.{Value}
 use Rattle.fv_tree.specs.declared.ops.Value.TheVariants.{Int, Truth}
 use Rattle.fv_meaning.specs.Store.{Store}
 use Rattle.f77_grammar.specs.Statement77.{Labelled, Statement77, Assign, Go, Test, If, ElseIf, Else, EndIf, Do, Stop, Read, Print}
-use Rattle.fv_meaning.specs.Names.{function_named}
+use Rattle.fv_tree.specs.Functions.{function_named}
 use Rattle.f77_grammar.specs.program.Text.{action, is_label}
 use Rattle.f77_grammar.specs.program.Uses.{Use, uses_in_text, is_title, names_that, is_variable, is_constant, is_array, kind_of_name}
 use Rattle.f77_grammar.specs.program.Limits.{constants_of, dimension_of, bounds_of_name}

@@ -7,7 +7,7 @@ use Rattle.fv_tree.specs.Plain.{Expression, Number, Logic, Named, Unary, Binary,
 use Rattle.fv_tree.specs.declared.ops.Kind.{Kind}
 use Rattle.fv_tree.specs.declared.ops.Kind.TheVariants.{Integer}
 use Rattle.f77_grammar.specs.Statement77.{Entity, NamedConstant, Labelled, Statement77, Program, Declare, Dimension, Constants, Assign, Go, Test, If, ElseIf, Else, EndIf, Do, Continue, Stop, Read, Print, End}
-use Rattle.fv_meaning.specs.Names.{function_named}
+use Rattle.fv_tree.specs.Functions.{function_named}
 use Rattle.fv_meaning.specs.Typed77.{number_of_subscripts}
 
 -- How a name stands: as the program's name; in a type statement; with bounds for so many dimensions; in PARAMETER, before the `=`; in an expression, with as
