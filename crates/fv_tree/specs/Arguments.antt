@@ -6,10 +6,10 @@ use Rattle.fv_tree.specs.declared.ops.Value.{Value}
 use Rattle.fv_tree.specs.declared.ops.Value.TheVariants.{Int, Truth}
 use Rattle.fv_tree.specs.declared.ops.Fault.{Fault}
 use Rattle.fv_tree.specs.declared.ops.Fault.TheVariants.{Shape}
-use Rattle.fv_tree.specs.declared.ops.Fun.{Fun}
-use Rattle.fv_tree.specs.declared.ops.Fun.TheVariants.{Abs, Mod, Max, Min}
-use Rattle.run77.specs.declared.operations.Arguments.{Arguments}
-use Rattle.run77.specs.declared.operations.Arguments.TheVariants.{Empty, One, Two, More, Unsuited}
+use Rattle.fv_tree.specs.declared.functions.Fun.{Fun}
+use Rattle.fv_tree.specs.declared.functions.Fun.TheVariants.{Abs, Mod, Max, Min}
+use Rattle.fv_tree.specs.declared.arguments.Arguments.{Arguments}
+use Rattle.fv_tree.specs.declared.arguments.Arguments.TheVariants.{Empty, One, Two, More, Unsuited}
 
 -- the one of two numbers that the function keeps
 abbrev pub kept : Fun → ℤ → ℤ → ℤ

@@ -1,0 +1,22 @@
+-- The number and the word of a refusal tell its cause.
+use Rattle.std.proofs.Common.{◌≡◌, ◌∙◌, ap, refl, sym, ℕ, ◌==◌, ◌&&◌, Option, Some, None, find, cond}
+use Rattle.fv_tree.specs.Causes.{number_of_cause, word_of_cause, has_code, all_causes}
+use Rattle.fv_tree.specs.declared.refusals.Cause.{Cause}
+use Rattle.fv_tree.specs.declared.refusals.Cause.TheVariants.{OutOfProfile}
+
+-- the cause that a number and a word tell
+abbrev told : ℕ → ℕ → Option Cause
+told number word = cond (number == 7) (Some (OutOfProfile word)) (find (has_code number word) all_causes)
+
+told_by : (c : Cause) → told (number_of_cause c) (word_of_cause c) ≡ Some c
+told_by (OutOfProfile word) = refl
+told_by _ = refl
+
+same : (c d : Cause) → Some d ≡ Some c → d ≡ c
+same c d e = cc
+
+pub told_alone : (c d : Cause) (n w : ℕ) → n ≡ number_of_cause c → w ≡ word_of_cause c → number_of_cause d ≡ n → word_of_cause d ≡ w → d ≡ c
+told_alone c d n w e f g h =
+    same c d (sym (told_by d) ∙ ap (λ k. told k (word_of_cause d)) (g ∙ e) ∙ ap (λ k. told (number_of_cause c) k) (h ∙ f) ∙ told_by c)
+
+pub ruleset causes = (told_alone)
