@@ -1,6 +1,7 @@
 -- The number and the word of a refusal tell its cause.
 use Rattle.std.proofs.Common.{◌≡◌, ◌∙◌, ap, refl, sym, ℕ, ◌==◌, ◌&&◌, Option, Some, None, find, cond}
-use Rattle.fv_tree.specs.Causes.{number_of_cause, word_of_cause, has_code, all_causes}
+use Rattle.fv_tree.specs.Causes.{number_of_cause, word_of_cause, has_code, all_causes, IsRefusedFor}
+use Rattle.fv_tree.specs.declared.refusals.Refusal.{Refusal}
 use Rattle.fv_tree.specs.declared.refusals.Cause.{Cause}
 use Rattle.fv_tree.specs.declared.refusals.Cause.TheVariants.{OutOfProfile}
 
@@ -15,8 +16,11 @@ told_by _ = refl
 same : (c d : Cause) → Some d ≡ Some c → d ≡ c
 same c d e = cc
 
-pub told_alone : (c d : Cause) (n w : ℕ) → n ≡ number_of_cause c → w ≡ word_of_cause c → number_of_cause d ≡ n → word_of_cause d ≡ w → d ≡ c
-told_alone c d n w e f g h =
-    same c d (sym (told_by d) ∙ ap (λ k. told k (word_of_cause d)) (g ∙ e) ∙ ap (λ k. told (number_of_cause c) k) (h ∙ f) ∙ told_by c)
+told_alone : (c d : Cause) → number_of_cause d ≡ number_of_cause c → word_of_cause d ≡ word_of_cause c → d ≡ c
+told_alone c d g h =
+    same c d (sym (told_by d) ∙ ap (λ k. told k (word_of_cause d)) g ∙ ap (λ k. told (number_of_cause c) k) h ∙ told_by c)
 
-pub ruleset causes = (told_alone)
+pub refused_alone : (r : Refusal) (c d : Cause) → r.number ≡ number_of_cause c → r.word ≡ word_of_cause c → IsRefusedFor r d → d ≡ c
+refused_alone r c d g h e = told_alone c d (e.number ∙ g) (e.word ∙ h)
+
+pub ruleset causes = (refused_alone)

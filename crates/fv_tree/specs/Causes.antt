@@ -1,12 +1,14 @@
 -- Why a source is refused: each cause has a number, a word where it has several parts, and a name.
-use Rattle.std.specs.Prelude.{ℕ, ◌==◌, ◌&&◌, ◌≤◌, ◌⊎◌, Bool, Option, None, Some, find, List, [], ◌∷◌, codes}
+use Rattle.std.specs.Prelude.{◌≡◌, ℕ, ◌==◌, ◌&&◌, ◌≤◌, ◌⊎◌, Bool, Option, None, Some, find, List, [], ◌∷◌, codes}
 use Rattle.fv_tree.specs.declared.refusals.Refusal.{Refusal}
 use Rattle.fv_tree.specs.declared.refusals.Cause.{Cause}
 use Rattle.fv_tree.specs.declared.refusals.Cause.TheVariants.{TooLong, BadByte, Tab, LineForm, ManyLines, Syntax}
 use Rattle.fv_tree.specs.declared.refusals.Cause.TheVariants.{OutOfProfile, WideLiteral, Deep, Label, Nesting, NoEnd}
 use Rattle.fv_tree.specs.declared.refusals.Cause.TheVariants.{Declared, RealName, TypeClash, Jump, DoVariable}
-use Rattle.fv_tree.specs.declared.refusals.Cause.TheVariants.{ManyNames, ManyBlocks, ReversedBounds, ManyElements, BadConstant}
-use Rattle.fv_tree.specs.declared.refusals.Cause.TheVariants.{BadByte90, LongLine, Continuation, Syntax90, WideLiteral90}
+use Rattle.fv_tree.specs.declared.refusals.Cause.TheVariants.{ManyNames, ManyBlocks, ReversedBounds, ManyElements}
+use Rattle.fv_tree.specs.declared.refusals.Cause.TheVariants.{BadConstant}
+use Rattle.fv_tree.specs.declared.refusals.Cause.TheVariants.{BadByte90, LongLine, Continuation, Syntax90}
+use Rattle.fv_tree.specs.declared.refusals.Cause.TheVariants.{WideLiteral90}
 use Rattle.fv_tree.specs.declared.refusals.Cause.TheVariants.{Deep90, Structure, Declared90, TypeClash90, Limit90}
 
 abbrev pub number_of_cause : Cause → ℕ
@@ -100,6 +102,11 @@ limit_of_cause _ = []
 abbrev pub refusal_at : Cause → ℕ → Refusal
 refusal_at cause line = record { number = number_of_cause cause; line = line; word = word_of_cause cause }
 
+-- the refusal has the number and the word of the cause
+pub record IsRefusedFor (r : Refusal) (cause : Cause) : Type 0 where
+  pub number : number_of_cause cause ≡ r.number
+  pub word : word_of_cause cause ≡ r.word
+
 -- FORTRAN 77 has the numbers 1 to 18, and Fortran 90 those from 31 to 40
 abbrev pub IsRefusalNumber : ℕ → Type 0
 IsRefusalNumber n = ((1 ≤ n) × (n ≤ 18)) ⊎ ((31 ≤ n) × (n ≤ 40))
@@ -109,8 +116,8 @@ IsRefusalNumber n = ((1 ≤ n) × (n ≤ 18)) ⊎ ((31 ≤ n) × (n ≤ 40))
 -- each cause once, of those that are left out of the profile one
 abbrev pub all_causes : List Cause
 all_causes =
-    TooLong ∷ BadByte ∷ Tab ∷ LineForm ∷ ManyLines ∷ Syntax ∷ OutOfProfile 0 ∷ WideLiteral ∷ Deep ∷ Label ∷ Nesting ∷ NoEnd
-    ∷ Declared ∷ RealName ∷ TypeClash ∷ Jump ∷ DoVariable
+    TooLong ∷ BadByte ∷ Tab ∷ LineForm ∷ ManyLines ∷ Syntax ∷ OutOfProfile 0 ∷ WideLiteral ∷ Deep ∷ Label ∷ Nesting
+    ∷ NoEnd ∷ Declared ∷ RealName ∷ TypeClash ∷ Jump ∷ DoVariable
     ∷ ManyNames ∷ ManyBlocks ∷ ReversedBounds ∷ ManyElements ∷ BadConstant
     ∷ BadByte90 ∷ LongLine ∷ Continuation ∷ Syntax90 ∷ WideLiteral90 ∷ Deep90 ∷ Structure ∷ Declared90 ∷ TypeClash90
     ∷ Limit90 ∷ []

@@ -1,5 +1,6 @@
--- The operator table: how each operator is spelled in FORTRAN 77 (ANSI X3.9-1978, 6.1.1, 6.3.1 and 6.4.1) and in Fortran 90
--- (ISO/IEC 1539:1991, 3.2.3), how tightly it binds and to which side it groups, and the kinds of its operands and its result.
+-- The operator table: how each operator is spelled in FORTRAN 77 (ANSI X3.9-1978, 6.1.1, 6.3.1 and 6.4.1) and in
+-- Fortran 90 (ISO/IEC 1539:1991, 3.2.3), how tightly it binds and to which side it groups (6.5), and the kinds of its
+-- operands and of its result.
 use Rattle.std.specs.Prelude.{◌≡◌, ℕ, ◌+◌, List, codes, Bool, true, false, not, ◌&&◌, if◌then◌else◌}
 use Rattle.std.specs.Str.{bytes_eq}
 use Rattle.fv_tree.specs.Operators.{same, takes_truths}

@@ -2,7 +2,8 @@
 -- integers, which then has to fit 128 bits.
 use Rattle.std.specs.Prelude.{◌≡◌, Result, Ok, Err, IsOkAnd, ⊤, List, [], ◌∷◌, length, if◌then◌else◌}
 use Rattle.std.specs.Prelude.{Bool, true, false, not, ◌&&◌, ◌||◌, IsTrue, ℕ, suc, ◌-◌, ◌^◌, ◌≤◌, nat_lt}
-use Rattle.std.specs.Prelude.{ℤ, pos, negsuc, ◌+ℤ◌, ◌-ℤ◌, ◌*ℤ◌, neg_ℤ, ◌<ℤ◌, nat_abs, int_lt, int_le, int_div, FitsSigned}
+use Rattle.std.specs.Prelude.{ℤ, pos, negsuc, ◌+ℤ◌, ◌-ℤ◌, ◌*ℤ◌, neg_ℤ, ◌<ℤ◌, nat_abs, int_lt, int_le, int_div}
+use Rattle.std.specs.Prelude.{FitsSigned}
 use Rattle.std.specs.Int.{int_max, int_min, int_pow, w128}
 use Rattle.std.specs.List.{All, fold}
 use Rattle.std.specs.Ordering.{int_eq}

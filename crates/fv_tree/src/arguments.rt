@@ -1,7 +1,7 @@
 //! The arguments of a function, taken one at a time.
-ghost use Rattle.std.specs.Prelude.{◌≡◌, Ok, List, ◌∷◌, [], fold};
+ghost use Rattle.std.specs.Prelude.{◌≡◌, List};
 ghost use Rattle.fv_tree.specs.Operators.{call};
-ghost use Rattle.fv_tree.specs.Arguments.{kept, added, finished, call_of_many};
+ghost use Rattle.fv_tree.specs.Arguments.{kept, added, taken, finished, call_of_many};
 
 use crate::{Fault, Fun, Value};
 
@@ -48,7 +48,7 @@ impl Arguments {
     #[tactic(auto, using(crate::proofs::Calls::taken))]
     pub fn call(self, function: Fun) -> Result<Value, Fault>
         ensures value { result ≡ finished function self }
-        ensures of_all { (values : List Value) → self ≡ fold (added function) Arguments.Empty values → result ≡ call function values }
+        ensures of_all { (values : List Value) → self ≡ taken function values → result ≡ call function values }
     {
         self.finish(function)
     }

@@ -1,5 +1,6 @@
 //! Functions: of numbers (ANSI X3.9-1978, section 15.10), and of arrays (ISO/IEC 1539:1991, section 13.10).
-ghost use Rattle.std.specs.Prelude.{◌≡◌, ◌≤◌, ◌↔◌, IsTrue, IsErrOf, IfErr, IfOk, IfSome, All, find, length, pos, nat_abs};
+ghost use Rattle.std.specs.Prelude.{◌≡◌, ◌≤◌, ◌↔◌, IsTrue, IsErrOf, IfErr, IfOk, IfSome, All, find, length, pos};
+ghost use Rattle.std.specs.Prelude.{nat_abs};
 ghost use Rattle.fv_tree.specs.Operators.{number, ranged, remainder, LeavesRange, IsOperationFault, kind_of, IsNumber};
 ghost use Rattle.fv_tree.specs.Operators.{call, exact_of_values, number_in, CallDividesByZero, SuitsCall};
 ghost use Rattle.fv_tree.specs.Functions.{function_named, name_of_function, suits_number, name_of_reduction};
@@ -162,8 +163,8 @@ impl Fun {
 
     /// The function at its arguments.
     ///
-    /// MOD of `a` and `b` is `a - (a / b) * b`, also where `a / b` alone is outside 128 bits. Truth values, and a number of
-    /// arguments that it doesn't take, fault as `Shape`.
+    /// MOD of `a` and `b` is `a - (a / b) * b`, also where `a / b` alone is outside 128 bits. Truth values, and a number
+    /// of arguments that it doesn't take, fault as `Shape`.
     #[tactic(auto, using(crate::proofs::Faults::call_laws))]
     pub fn apply(self, args: &[Value]) -> Result<Value, Fault>
         ensures value { result ≡ call self args.now }

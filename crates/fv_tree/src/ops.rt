@@ -1,6 +1,8 @@
 //! Kinds, values, faults, operators and functions.
-ghost use Rattle.std.specs.Prelude.{◌≡◌, ◌↔◌, IsTrue, IsErrOf, IfErr, IfOk, IfSome, MatchOption, find, pos, negsuc, ◌<ℤ◌};
-ghost use Rattle.fv_tree.specs.Operators.{suits, apply, on_numbers, exact, LeavesRange, DividesByZero, IsOperationFault};
+ghost use Rattle.std.specs.Prelude.{◌≡◌, ◌↔◌, IsTrue, IsErrOf, IfErr, IfOk, IfSome, MatchOption, find, pos, negsuc};
+ghost use Rattle.std.specs.Prelude.{◌<ℤ◌};
+ghost use Rattle.fv_tree.specs.Operators.{suits, apply, on_numbers, exact, LeavesRange, DividesByZero};
+ghost use Rattle.fv_tree.specs.Operators.{IsOperationFault};
 ghost use Rattle.fv_tree.specs.Operators.{kind_of, as_number, as_truth};
 ghost use Rattle.fv_tree.specs.OperatorTable.{spelling77_of, spelling90_of, is_spelled, IsSpelled};
 ghost use Rattle.fv_tree.specs.OperatorTable.{level_of, left_least, right_least, stands_between, takes_sign};
@@ -78,8 +80,8 @@ pub enum Op {
     Neqv,
 }
 
-// The operator table, one row an operator: its spelling in FORTRAN 77 and in Fortran 90, its level and the side to which
-// it groups, what it takes and the kind that it gives, and its value at its operands. Each column has a rule.
+// The operator table, one row an operator: its spelling in FORTRAN 77 and in Fortran 90, its level and the side to
+// which it groups, what it takes and the kind that it gives, and its value at its operands. Each column has a rule.
 macro_rules! operator_table {
     ($column:ident $($input:tt)*) => {
         operator_table! { @$column ($($input)*)
@@ -155,7 +157,7 @@ macro_rules! operator_table {
             $(Op::$op => operator_table!(@are_two $at),)*
         }
     };
-    (@value ($o:tt $a:tt $b:tt) $($op:ident $spelled:tt $groups:tt [$operands:ident $kind:ident] $at:tt $value:expr;)*) => {
+    (@value ($o:tt $a:tt $b:tt) $($op:ident $s:tt $groups:tt [$operands:ident $kind:ident] $at:tt $value:expr;)*) => {
         match $o {
             $(Op::$op => operator_table!(@$operands $a $b $at $value),)*
         }
@@ -304,7 +306,8 @@ fn find90(text: &[u8], between: bool) -> Option<Op>
 }
 
 impl Op {
-    /// The operator that is so spelled in FORTRAN 77, between two operands or before one: `-` is `Sub` there and `Neg` here.
+    /// The operator that is so spelled in FORTRAN 77, between two operands or before one: `-` is `Sub` there and `Neg`
+    /// here.
     pub fn read77(text: &[u8], between: bool) -> Option<Op>
         ensures spelled { IfSome result (IsSpelled spelling77_of text.now between) }
         ensures every { (op : Op) → IsSpelled spelling77_of text.now between op → result ≡ Some op }
@@ -312,7 +315,8 @@ impl Op {
         find77(text, between)
     }
 
-    /// The operator that is so spelled in Fortran 90, between two operands or before one: `-` is `Sub` there and `Neg` here.
+    /// The operator that is so spelled in Fortran 90, between two operands or before one: `-` is `Sub` there and `Neg`
+    /// here.
     pub fn read90(text: &[u8], between: bool) -> Option<Op>
         ensures spelled { IfSome result (IsSpelled spelling90_of text.now between) }
         ensures every { (op : Op) → IsSpelled spelling90_of text.now between op → result ≡ Some op }

@@ -1,7 +1,7 @@
 //! Why a source isn't read.
 ghost use Rattle.std.specs.Prelude.{◌≡◌, ◌≤◌, length, find};
 ghost use Rattle.fv_tree.specs.Causes.{number_of_cause, word_of_cause, name_of_cause, limit_of_cause, all_causes};
-ghost use Rattle.fv_tree.specs.Causes.{refusal_at, refusal_name, refusal_limit, IsRefusalNumber, has_number, has_code};
+ghost use Rattle.fv_tree.specs.Causes.{refusal_at, refusal_name, refusal_limit, IsRefusalNumber, IsRefusedFor, has_number, has_code};
 
 use crate::Memory;
 use std::alloc::{AllocError, AllocFailed};
@@ -178,7 +178,7 @@ impl Cause {
     pub fn at(self, line: u32) -> Refusal
         ensures refusal { result ≡ refusal_at self line }
         ensures number { IsRefusalNumber result.number }
-        ensures alone { (other : Cause) → number_of_cause other ≡ result.number → word_of_cause other ≡ result.word → other ≡ self }
+        ensures alone { (other : Cause) → IsRefusedFor result other → other ≡ self }
     {
         Refusal {
             number: self.number(),
