@@ -121,7 +121,7 @@ pub record IsArithmeticIf (text : List Symbol) : Type 0 where
   pub third : List ℕ
   pub labels : AreLabels first (second ∷ third ∷ []) rest
 
--- GO TO (l1, ..) [,] e (section 11.2)
+-- GO TO (l1, ..) [,] e (section 11.2): a comma behind the labels is taken, and what follows it is something
 pub record IsComputedGoTo (text : List Symbol) : Type 0 where
   pub list : List Symbol
   pub first : List ℕ
@@ -131,7 +131,7 @@ pub record IsComputedGoTo (text : List Symbol) : Type 0 where
   pub index : List Symbol
   pub written : text ≡ chars (codes "GOTO(") ++ (list ++ (chars (codes ")" ++ optional_comma comma) ++ index))
   pub something : ¬ IsNothing index
-  pub no_comma : (rest : List Symbol) → index ≡ Char 44 ∷ rest → ⊥
+  pub taken : comma ≡ false → (rest : List Symbol) → index ≡ Char 44 ∷ rest → ⊥
 
 -- GO TO x, and GO TO x [,] (l1, ..) (section 11.3)
 pub data IsAssignedGoTo (text : List Symbol) : Type 0 where
