@@ -196,6 +196,11 @@ impl LoopVariables {
             Expr::Un(..) => false,
             Expr::Bin(..) => false,
             Expr::Call(..) => false,
+            Expr::List(..) => false,
+            Expr::Spread(..) => false,
+            Expr::Transpose(_) => false,
+            Expr::Reshape(..) => false,
+            Expr::Reduce(..) => false,
         }
     }
 

@@ -62,6 +62,11 @@ impl KindCheck {
                     && same_kind(Kind::Integer, kind)
                     && self.are_arguments(arguments)
             }
+            Expr::List(..) => false,
+            Expr::Spread(..) => false,
+            Expr::Transpose(_) => false,
+            Expr::Reshape(..) => false,
+            Expr::Reduce(..) => false,
         }
     }
 
@@ -94,6 +99,7 @@ impl KindCheck {
     {
         match sub {
             Sub::One(expr) => self.has_kind(expr, Kind::Integer),
+            Sub::Part(..) => false,
         }
     }
 

@@ -37,6 +37,11 @@ impl KindCheck {
             Expr::Un(..) => self.has_some_kind(expr),
             Expr::Bin(..) => self.has_some_kind(expr),
             Expr::Call(..) => self.has_some_kind(expr),
+            Expr::List(..) => self.has_some_kind(expr),
+            Expr::Spread(..) => self.has_some_kind(expr),
+            Expr::Transpose(_) => self.has_some_kind(expr),
+            Expr::Reshape(..) => self.has_some_kind(expr),
+            Expr::Reduce(..) => self.has_some_kind(expr),
         }
     }
 
@@ -62,6 +67,11 @@ impl KindCheck {
             Expr::Un(..) => false,
             Expr::Bin(..) => false,
             Expr::Call(..) => false,
+            Expr::List(..) => false,
+            Expr::Spread(..) => false,
+            Expr::Transpose(_) => false,
+            Expr::Reshape(..) => false,
+            Expr::Reduce(..) => false,
         }
     }
 

@@ -10,7 +10,7 @@ use Rattle.f77_grammar.specs.program.Text.{Place, places, places_from}
 use Rattle.fv_meaning.specs.Names.{IsSymbolicName}
 use Rattle.f77_grammar.specs.program.Uses.{Role, Title, Use, use_of, uses_in, uses_in_bounds, bounded_uses, dimensioned_uses, typed_uses, defined_uses, uses_of, uses_in_text, is_title, is_typed, is_bounded, is_defined, is_bare, names_that, stands, is_constant, is_variable}
 use Rattle.f77_grammar.specs.program.Order.{is_nothing, is_late}
-use Rattle.f77_grammar.specs.program.Declarations.{is_declared_again, is_array_or_constant, uses_title, has_unknown_constant, has_misused_name}
+use Rattle.f77_grammar.specs.program.Declarations.{is_declared_again, is_array_or_constant, printed_name, bears_title, uses_title, has_unknown_constant, has_misused_name}
 use Rattle.f77_laws.proofs.Lists.{left_true, right_true, left_false, right_false, not_both, all_both, all_at, all_weaker, none_any, any_true, here, there, nowhere, cases_of, found, FromFlat, from_flat, in_flat}
 use Rattle.f77_laws.proofs.Places.{place_of}
 use Rattle.f77_laws.proofs.Sound.{IsRight}
@@ -141,15 +141,16 @@ told us x h = by (or_cases (stands is_typed us x || stands is_bounded us x) (sta
 no_title_used : (text : List Labelled) (y : Labelled) (q : Place) (z : Labelled) (x : List ℕ) (v : Use) → IsBehind text y q → q.here ≡ z → IsTitled y.statement x → Contains (uses_of z.statement) v → v.name ≡ x → is_title v.role ≡ false → ⊥
 no_title_used text y q z x v b e t c n u =
     let g = uses_title_here in
-    let k = all_at (λ (w : Use). (not (is_title w.role) && stands is_title (uses_in_text q.before) w.name) ≡ false) (uses_of q.here.statement) v
-    (none_any (λ (w : Use). not (is_title w.role) && stands is_title (uses_in_text q.before) w.name) (uses_of q.here.statement) g) (subst (λ (w : Labelled). Contains (uses_of w.statement) v) (sym e) c) in
-    not_both (stands is_title (uses_in_text q.before) v.name) stands_there (falls (is_title v.role) (stands is_title (uses_in_text q.before) v.name) u k)
+    let k = all_at (λ (w : Use). bears_title (uses_in_text text) (uses_in_text q.before) w ≡ false) (uses_of q.here.statement) v
+    (none_any (bears_title (uses_in_text text) (uses_in_text q.before)) (uses_of q.here.statement) g) (subst (λ (w : Labelled). Contains (uses_of w.statement) v) (sym e) c) in
+    not_both (stands is_title (uses_in_text q.before) v.name) stands_there
+    (left_false (stands is_title (uses_in_text q.before) v.name) (stands is_title (uses_in_text q.before) (printed_name (uses_in_text text) v)) (falls (is_title v.role) _ u k))
   where
-    uses_title_here : uses_title q ≡ false
+    uses_title_here : uses_title (uses_in_text text) q ≡ false
     uses_title_here =
-        right_false (is_declared_again is_typed q || is_declared_again is_array_or_constant q) (uses_title q)
-        (left_false (is_declared_again is_typed q || is_declared_again is_array_or_constant q || uses_title q) (has_unknown_constant (names_that is_defined (uses_in_text q.before)) q.here.statement)
-        (left_false (is_declared_again is_typed q || is_declared_again is_array_or_constant q || uses_title q || has_unknown_constant (names_that is_defined (uses_in_text q.before)) q.here.statement)
+        right_false (is_declared_again is_typed q || is_declared_again is_array_or_constant q) (uses_title (uses_in_text text) q)
+        (left_false (is_declared_again is_typed q || is_declared_again is_array_or_constant q || uses_title (uses_in_text text) q) (has_unknown_constant (names_that is_defined (uses_in_text q.before)) q.here.statement)
+        (left_false (is_declared_again is_typed q || is_declared_again is_array_or_constant q || uses_title (uses_in_text text) q || has_unknown_constant (names_that is_defined (uses_in_text q.before)) q.here.statement)
         (has_misused_name (uses_in_text text) q.here.statement) b.right.declared))
 
     falls : (a c : Bool) → a ≡ false → (not a && c) ≡ false → c ≡ false

@@ -6,6 +6,7 @@ use Rattle.fv_tree.specs.Plain.{Expression, Number, Item, Single, Constant, Impl
 use Rattle.f77_grammar.specs.expressions.Words as words
 use Rattle.f77_grammar.specs.expressions.Words.{Word}
 use Rattle.f77_grammar.specs.statements.Items.{Direction, Output, Input}
+use Rattle.f77_expr.specs.TokenFronts.{begins_with_name}
 use Rattle.f77_expr.specs.Reader as expressions
 use Rattle.f77_expr.specs.Reader.{Operand, Read, deeper}
 
@@ -49,11 +50,6 @@ holds_comma n (w ∷ ws) = holds_comma n ws
 abbrev pub opens : List Word → Bool
 opens (words.Open ∷ ws) = holds_comma 0 ws
 opens ws = false
-
-abbrev pub begins_with_name : List Word → Bool
-begins_with_name (words.Name x ∷ ws) = true
-begins_with_name (words.Head x ∷ ws) = true
-begins_with_name ws = false
 
 abbrev pub may_stand : Direction → List Word → Operand → Bool
 may_stand Output ws m = true

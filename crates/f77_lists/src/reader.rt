@@ -10,9 +10,7 @@ ghost use Rattle.f77_lists.specs.Views.{Runs};
 
 use crate::bounds::{control, read_bounds};
 use crate::lists::{Direction, ItemList};
-use f77_expr::operands::Operand;
-use f77_expr::reader::read;
-use f77_expr::tokens::{Stop, Token};
+use f77_expr::{DEPTH_COUNTED, Operand, Stop, Token, begins_with_name, copied, read};
 use fv_tree::{Item, Memory, Name, Seq};
 use std::alloc::Global;
 
@@ -67,16 +65,6 @@ fn opened(tokens: &[Token]) -> Option<&[Token]>
     }
 }
 
-fn begins_with_name(tokens: &[Token]) -> bool
-    ensures { result ≡ reader.begins_with_name (words_of tokens.now) }
-{
-    match tokens {
-        [Token::Name(_), ..] => true,
-        [Token::Head(_), ..] => true,
-        _ => false,
-    }
-}
-
 // Whether the expression may stand as an item: a reference is read.
 fn may_stand(direction: Direction, tokens: &[Token], operand: &Operand) -> bool
     ensures { result ≡ reader.may_stand (direction_of direction) (words_of tokens.now) (operand_of operand.now) }
@@ -118,12 +106,6 @@ fn value<'a>(
     }
     put(lists, Item::One(operand.tree), operand.depth)?;
     Ok(rest)
-}
-
-fn copied(alloc: Global, text: &Seq<u8>) -> Result<Seq<u8>, Memory>
-    ensures { IfOk result (λ copy. copy ≡ text.now) }
-{
-    Ok(Seq::from_vec(Vec::from_slice(alloc, text.as_slice())?))
 }
 
 // A character constant as an item.
@@ -198,7 +180,7 @@ fn repeat<'a>(
     let Some(list) = lists.pop() else {
         return Err(Stop::Syntax);
     };
-    let depth = list.depth.max(bounds.depth).saturating_add(1).min(401);
+    let depth = list.depth.max(bounds.depth).saturating_add(1).min(DEPTH_COUNTED);
     let item = Item::Turns(list.items, name, bounds.first, bounds.last, bounds.step);
     put(lists, item, depth)?;
     Ok(rest)

@@ -29,6 +29,11 @@ impl Uses {
             Expr::Un(..) => self.add_expr(expr),
             Expr::Bin(..) => self.add_expr(expr),
             Expr::Call(..) => self.add_expr(expr),
+            Expr::List(..) => self.add_expr(expr),
+            Expr::Spread(..) => self.add_expr(expr),
+            Expr::Transpose(_) => self.add_expr(expr),
+            Expr::Reshape(..) => self.add_expr(expr),
+            Expr::Reduce(..) => self.add_expr(expr),
         }
     }
 

@@ -6,7 +6,7 @@ ghost use Rattle.f77_grammar.specs.program.Uses as plain;
 ghost use Rattle.f77_syntax.specs.Views.{text_of};
 ghost use Rattle.f77_names.specs.NameFacts.{nothing_known, facts_with, facts_in, AreNamesOf, is_variable_by};
 ghost use Rattle.f77_names.specs.NameFacts.{is_array_by, is_function_by, kind_by, dimensions_by, function_by};
-ghost use Rattle.f77_names.specs.NameFacts.{function_of};
+ghost use Rattle.f77_names.specs.NameFacts.{function_of, called_by, called_of};
 
 use crate::functions::function_named;
 use crate::statement_uses::uses_in_text;
@@ -196,6 +196,18 @@ impl Names {
         ensures exact { (us : List plain.Use) → AreNamesOf self.now us → result ≡ function_of us name }
     {
         self.facts(name).function(name)
+    }
+
+    /// The function that is called where the name stands so. A program's name by itself calls nothing.
+    #[tactic(auto, using(crate::proofs::TitleLaws::call_laws))]
+    pub fn called(&self, used: &Use) -> Option<Fun>
+        ensures known { result ≡ called_by (facts_in self.now used.now.name) (plain_use used.now) }
+        ensures exact { (us : List plain.Use) → AreNamesOf self.now us → result ≡ called_of us (plain_use used.now) }
+    {
+        if used.role.is_title() {
+            return None;
+        }
+        self.function(used.name)
     }
 
     /// The kind of a variable or symbolic constant, INTEGER where no type is given.

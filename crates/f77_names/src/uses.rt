@@ -28,6 +28,23 @@ pub enum Role {
     Counter,
 }
 
+impl Role {
+    /// The name stands as the program's.
+    pub fn is_title(self) -> bool
+        ensures { result ≡ plain.is_title (role_of self) }
+    {
+        match self {
+            Role::Title => true,
+            Role::Typed(_) => false,
+            Role::Bounded(_) => false,
+            Role::Defined => false,
+            Role::Valued(_) => false,
+            Role::Target(_) => false,
+            Role::Counter => false,
+        }
+    }
+}
+
 /// A name, and how it stands.
 #[derive(Clone, Copy, Debug)]
 pub struct Use {
@@ -79,6 +96,11 @@ impl Uses {
                 self.add_expr(b)
             }
             Expr::Call(_, arguments) => self.add_exprs(arguments),
+            Expr::List(..) => Ok(()),
+            Expr::Spread(..) => Ok(()),
+            Expr::Transpose(_) => Ok(()),
+            Expr::Reshape(..) => Ok(()),
+            Expr::Reduce(..) => Ok(()),
         }
     }
 
@@ -108,6 +130,7 @@ impl Uses {
     {
         match sub {
             Sub::One(expr) => self.add_expr(expr),
+            Sub::Part(..) => Ok(()),
         }
     }
 

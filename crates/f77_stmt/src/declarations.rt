@@ -18,8 +18,8 @@ ghost use Rattle.f77_stmt.specs.Declarations.{IsTheDefinition, AreBoundsRead, Ar
 ghost use Rattle.f77_stmt.specs.Declarations.{IsBoundOf};
 ghost use Rattle.f77_stmt.specs.Separated.{EndsPart, EndsList, BeginsWithList, IsRead};
 
-use crate::fronts::{after_close, after_colon, after_comma, after_equals, after_head, after_name};
 use f77_expr::{Operand, Stop, Token, read};
+use f77_expr::{after_close, after_colon, after_comma, after_equals, after_head, after_name};
 use fv_tree::{Expr, Name, Seq};
 use f77_syntax::Entity;
 use std::alloc::Global;

@@ -15,7 +15,7 @@ use Rattle.f77_grammar.specs.Statement77.{End}
 use Rattle.fv_meaning.specs.Names.{function_named, name_of_function, suits_number}
 use Rattle.fv_meaning.specs.Typed77.{operand_kind, kind_of_result, is_unary, number_of_arguments, number_of_subscripts}
 use Rattle.f77_grammar.specs.program.Text.{Place}
-use Rattle.f77_grammar.specs.program.Uses.{Use, uses_of, is_variable, is_array, is_function, kind_of_name}
+use Rattle.f77_grammar.specs.program.Uses.{Use, uses_of, is_variable, is_array, is_function, calls, kind_of_name}
 
 abbrev pub same_kind : Kind → Kind → Bool
 same_kind Integer Integer = true
@@ -133,14 +133,15 @@ module _ (us : List Use) where
   suits Stop = true
   suits End = true
 
-  -- ---- Fortran 90 spells a call of IABS, MAX0 or MIN0 with the name ABS, MAX or MIN, which a variable of that name would hide
+  -- ---- Fortran 90 spells a call of IABS, MAX0 or MIN0 with the name ABS, MAX or MIN, which a variable of that name
+  -- would hide
 
   abbrev pub is_hidden_name : List ℕ → Option Fun → Bool
   is_hidden_name x None = false
   is_hidden_name x (Some f) = not (bytes_eq x (name_of_function f)) && is_variable us (name_of_function f)
 
   abbrev pub calls_hidden : Use → Bool
-  calls_hidden u = is_function us u.name && is_hidden_name u.name (function_named u.name)
+  calls_hidden u = calls us u && is_hidden_name u.name (function_named u.name)
 
   abbrev pub has_unsuited_kind : Place → Bool
   has_unsuited_kind p = not (suits p.here.statement) || list_any calls_hidden (uses_of p.here.statement)
