@@ -1,2 +1,3 @@
 pub mod Profiles
 pub mod Forward
+pub mod Values

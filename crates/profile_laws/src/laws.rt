@@ -1,6 +1,7 @@
 //! Laws of programs. A law is a function without a body: its contract is what holds.
 ghost use Rattle.profile_laws.specs.Forward.{SourceJumpsForward, TargetJumpsForward};
 ghost use Rattle.profile_laws.specs.Profiles.{SourceIsTarget, SourceWithMadeNamesIsTarget};
+ghost use Rattle.profile_laws.specs.Values.{ElementsHaveKind, ValueHasKind};
 
 /// A program of FORTRAN 77 is one of Fortran 90, as it stands and with further declarations of names that no source has.
 pub fn source_is_target()
@@ -12,4 +13,10 @@ pub fn source_is_target()
 pub fn jumps_forward()
     ensures source { SourceJumpsForward }
     ensures target { TargetJumpsForward }
+{}
+
+/// The value of an expression has its kind, and so have the elements of an array.
+pub fn values_have_kinds()
+    ensures value { ValueHasKind }
+    ensures elements { ElementsHaveKind }
 {}
