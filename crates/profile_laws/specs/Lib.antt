@@ -1,3 +1,4 @@
 pub mod Profiles
 pub mod Forward
 pub mod Values
+pub mod Stores
