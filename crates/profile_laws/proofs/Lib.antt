@@ -9,3 +9,5 @@ pub mod ValueKinds
 pub mod Parts
 pub mod Walks
 pub mod TargetRuns
+pub mod SourceValues
+pub mod SourceRuns

@@ -2,3 +2,4 @@ pub mod Profiles
 pub mod Forward
 pub mod Values
 pub mod Stores
+pub mod Faults

@@ -1,4 +1,5 @@
 //! Laws of programs. A law is a function without a body: its contract is what holds.
+ghost use Rattle.profile_laws.specs.Faults.{SourceRunFaultIsPlain, SourceValueFaultIsPlain, SourceValueHasKind};
 ghost use Rattle.profile_laws.specs.Forward.{SourceJumpsForward, TargetJumpsForward};
 ghost use Rattle.profile_laws.specs.Profiles.{SourceIsTarget, SourceWithMadeNamesIsTarget};
 ghost use Rattle.profile_laws.specs.Stores.{OpeningStoreHolds, RunHolds, SourceRunHolds, StatementsKeepStores};
@@ -29,4 +30,12 @@ pub fn stores_hold_program()
     ensures statements { StatementsKeepStores }
     ensures run { RunHolds }
     ensures source { SourceRunHolds }
+{}
+
+/// The value of an expression of FORTRAN 77 has its kind, and neither it nor a run meets the faults Shape and
+/// Allocated.
+pub fn source_faults_are_plain()
+    ensures value { SourceValueHasKind }
+    ensures value_fault { SourceValueFaultIsPlain }
+    ensures run { SourceRunFaultIsPlain }
 {}
