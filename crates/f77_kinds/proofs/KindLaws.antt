@@ -6,8 +6,8 @@ use Rattle.std.proofs.lemmas.List.{length-map}
 use Rattle.fv_tree.specs.Plain.{Expression, Reference, subscripts, expressions}
 use Rattle.fv_tree.specs.View.{expression_of, subscript_of}
 use Rattle.fv_tree.specs.declared.ops.Op.{Op}
-use Rattle.fv_tree.specs.declared.ops.Fun.{Fun}
-use Rattle.fv_tree.specs.declared.ops.Red.{Red}
+use Rattle.fv_tree.specs.declared.functions.Fun.{Fun}
+use Rattle.fv_tree.specs.declared.functions.Red.{Red}
 use Rattle.fv_tree.specs.declared.ops.Kind.{Kind}
 use Rattle.fv_tree.specs.declared.ops.Kind.TheVariants.{Integer, Logical}
 use Rattle.fv_tree.specs.declared.lists.Seq.{Seq}
@@ -18,8 +18,9 @@ use Rattle.fv_tree.specs.declared.exprs.Ref.{Ref, out-Ref}
 use Rattle.fv_tree.specs.declared.exprs.Sub.TheVariants as subs
 use Rattle.fv_tree.proofs.Equations.{expression_of-int, expression_of-truth, expression_of-item, expression_of-un, expression_of-bin, expression_of-call, subscript_of-one, reference_of-is}
 use Rattle.fv_tree.proofs.Equations.{expression_of-list, expression_of-spread, expression_of-transpose, expression_of-reshape, expression_of-reduce, subscript_of-part}
-use Rattle.fv_meaning.specs.Names.{suits_number}
-use Rattle.fv_meaning.specs.Typed77.{number_of_arguments, number_of_subscripts, is_unary, kind_of_result, operand_kind}
+use Rattle.fv_tree.specs.Functions.{suits_number}
+use Rattle.fv_meaning.specs.Typed77.{number_of_arguments, number_of_subscripts}
+use Rattle.fv_tree.specs.OperatorTable.{is_unary, result_kind_of, operand_kind}
 use Rattle.f77_grammar.specs.program.Uses.{Use}
 use Rattle.f77_grammar.specs.program.Kinds.{same_kind, name_has_kind, has_kind, are_arguments, are_subscripts, is_subscript}
 use Rattle.f77_names.proofs.UseLaws.{number_is}
@@ -46,12 +47,12 @@ kind-item us r k =
     (number_is (map subscript_of (out-Ref r).subs) ∙ length-map (out-Ref r).subs subscript_of)
 
 pub kind-un : (us : List Use) (o : Op) (a : Box Expr Global) (k : Kind)
-    → has_kind us (expression_of (exprs.Un o a)) k ≡ (is_unary o && same_kind (kind_of_result o) k && has_kind us (expression_of a.value) (operand_kind o))
+    → has_kind us (expression_of (exprs.Un o a)) k ≡ (is_unary o && same_kind (result_kind_of o) k && has_kind us (expression_of a.value) (operand_kind o))
 kind-un us o a k = ap (λ e. has_kind us e k) (expression_of-un o a)
 
 pub kind-bin : (us : List Use) (o : Op) (a b : Box Expr Global) (k : Kind)
     → has_kind us (expression_of (exprs.Bin o a b)) k
-    ≡ (not (is_unary o) && same_kind (kind_of_result o) k && has_kind us (expression_of a.value) (operand_kind o) && has_kind us (expression_of b.value) (operand_kind o))
+    ≡ (not (is_unary o) && same_kind (result_kind_of o) k && has_kind us (expression_of a.value) (operand_kind o) && has_kind us (expression_of b.value) (operand_kind o))
 kind-bin us o a b k = ap (λ e. has_kind us e k) (expression_of-bin o a b)
 
 pub kind-call : (us : List Use) (f : Fun) (es : Seq Expr) (k : Kind)

@@ -2,10 +2,9 @@
 use Rattle.std.proofs.Common.{◌≡◌, not, refl}
 use Rattle.fv_tree.specs.declared.ops.Op.{Op}
 use Rattle.fv_tree.specs.declared.ops.Op.TheVariants.{Pow, Mul, Div, Neg, Add, Sub, Lt, Le, Eq, Ne, Gt, Ge, Not, And, Or, Eqv, Neqv}
-use Rattle.fv_tree.specs.Spelling.{result_kind_of, stands_between}
-use Rattle.fv_meaning.specs.Typed77.{kind_of_result, is_unary}
+use Rattle.fv_tree.specs.OperatorTable.{result_kind_of, stands_between, is_unary}
 
-pub result_kind-is : (o : Op) → result_kind_of o ≡ kind_of_result o
+pub result_kind-is : (o : Op) → result_kind_of o ≡ result_kind_of o
 result_kind-is Pow = refl
 result_kind-is Mul = refl
 result_kind-is Div = refl

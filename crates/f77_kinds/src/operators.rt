@@ -1,8 +1,8 @@
 //! The kinds of operands and of results, and the numbers of arguments (ANSI X3.9-1978, sections 6.1, 6.3, 6.4 and
 //! 15.10).
 ghost use Rattle.std.specs.Prelude.{◌≡◌, ◌&&◌, not};
-ghost use Rattle.fv_meaning.specs.Names as names;
-ghost use Rattle.fv_meaning.specs.Typed77 as typed;
+ghost use Rattle.fv_tree.specs.Functions as names;
+ghost use Rattle.fv_tree.specs.OperatorTable as typed;
 ghost use Rattle.f77_grammar.specs.program.Kinds as kinds;
 
 use fv_tree::{Fun, Kind, Op};
@@ -28,7 +28,7 @@ pub fn operand_kind(op: Op) -> Kind
 /// The operator stands before one operand and gives values of this kind.
 #[tactic(auto, using(crate::proofs::OperatorLaws::operator_laws))]
 pub fn unary_gives(op: Op, kind: Kind) -> bool
-    ensures { result ≡ (typed.is_unary op && kinds.same_kind (typed.kind_of_result op) kind) }
+    ensures { result ≡ (typed.is_unary op && kinds.same_kind (typed.result_kind_of op) kind) }
 {
     !op.stands_between() && same_kind(op.result_kind(), kind)
 }
@@ -36,7 +36,7 @@ pub fn unary_gives(op: Op, kind: Kind) -> bool
 /// The operator stands between two operands and gives values of this kind.
 #[tactic(auto, using(crate::proofs::OperatorLaws::operator_laws))]
 pub fn binary_gives(op: Op, kind: Kind) -> bool
-    ensures { result ≡ (not (typed.is_unary op) && kinds.same_kind (typed.kind_of_result op) kind) }
+    ensures { result ≡ (not (typed.is_unary op) && kinds.same_kind (typed.result_kind_of op) kind) }
 {
     op.stands_between() && same_kind(op.result_kind(), kind)
 }

@@ -18,10 +18,11 @@ use Rattle.fv_meaning.specs.Store.{Store, Cell, cell_at, cell_in, is_within}
 use Rattle.fv_meaning.specs.Value.{value_of, values_of, subscript_values, subscript_value, is_in_range}
 use Rattle.fv_meaning.specs.Dialect.{Dialect}
 use Rattle.f77_grammar.specs.Statement77.{NamedConstant, Labelled}
-use Rattle.fv_meaning.specs.Typed77.{kind_of_result, operand_kind, number_of_arguments, is_unary}
+use Rattle.fv_meaning.specs.Typed77.{number_of_arguments}
 use Rattle.f77_grammar.specs.program.Uses.{Use, is_array, kind_of_name}
 use Rattle.f77_grammar.specs.program.Kinds.{same_kind, has_kind, name_has_kind, are_arguments}
-use Rattle.fv_meaning.specs.Names.{suits_number}
+use Rattle.fv_tree.specs.OperatorTable.{result_kind_of, operand_kind, is_unary}
+use Rattle.fv_tree.specs.Functions.{suits_number}
 use Rattle.f77_grammar.specs.program.Limits.{in_range, constant_value, no_values, with_value, with_constant, with_constants, definitions_of, constants_of}
 use Rattle.f77_laws.proofs.Lists.{left_true, right_true}
 use Rattle.f77_laws.proofs.Variables.{same_name}
@@ -45,7 +46,7 @@ ranged_kind (Ok z) v h = by (fits 127 z) h
 truth_kind : (b : Bool) (v : Value) → ◌≡◌ {A = Result Value Fault} (Ok (Truth b)) (Ok v) → kind_of v ≡ Logical
 truth_kind b v h = let e : Truth b ≡ v = cc in ap kind_of (sym e)
 
-numbers_kind : (o : Op) (a b : ℤ) (v : Value) → on_numbers o a b ≡ Ok v → kind_of v ≡ kind_of_result o
+numbers_kind : (o : Op) (a b : ℤ) (v : Value) → on_numbers o a b ≡ Ok v → kind_of v ≡ result_kind_of o
 numbers_kind Pow a b v h = ranged_kind (exact_value Pow a b) v h
 numbers_kind Mul a b v h = ranged_kind (exact_value Mul a b) v h
 numbers_kind Div a b v h = ranged_kind (exact_value Div a b) v h
@@ -64,7 +65,7 @@ numbers_kind Or a b v h = absurd cc
 numbers_kind Eqv a b v h = absurd cc
 numbers_kind Neqv a b v h = absurd cc
 
-truths_kind : (o : Op) (a b : Bool) (v : Value) → on_truths o a b ≡ Ok v → kind_of v ≡ kind_of_result o
+truths_kind : (o : Op) (a b : Bool) (v : Value) → on_truths o a b ≡ Ok v → kind_of v ≡ result_kind_of o
 truths_kind Not a b v h = truth_kind _ v h
 truths_kind And a b v h = truth_kind _ v h
 truths_kind Or a b v h = truth_kind _ v h
@@ -72,25 +73,25 @@ truths_kind Eqv a b v h = truth_kind _ v h
 truths_kind Neqv a b v h = truth_kind _ v h
 truths_kind o a b v h = absurd cc
 
-number_alone : (o : Op) (a : ℤ) (v : Value) → cond (is_neg o) (on_numbers Neg a a) (Err Shape) ≡ Ok v → kind_of v ≡ kind_of_result o
+number_alone : (o : Op) (a : ℤ) (v : Value) → cond (is_neg o) (on_numbers Neg a a) (Err Shape) ≡ Ok v → kind_of v ≡ result_kind_of o
 number_alone Neg a v h = numbers_kind Neg a a v h
 number_alone o a v h = absurd cc
 
-truth_alone : (o : Op) (a : Bool) (v : Value) → cond (is_not o) (on_truths Not a a) (Err Shape) ≡ Ok v → kind_of v ≡ kind_of_result o
+truth_alone : (o : Op) (a : Bool) (v : Value) → cond (is_not o) (on_truths Not a a) (Err Shape) ≡ Ok v → kind_of v ≡ result_kind_of o
 truth_alone Not a v h = truths_kind Not a a v h
 truth_alone o a v h = absurd cc
 
-apply_kind : (o : Op) (x y v : Value) → apply o x y ≡ Ok v → kind_of v ≡ kind_of_result o
+apply_kind : (o : Op) (x y v : Value) → apply o x y ≡ Ok v → kind_of v ≡ result_kind_of o
 apply_kind o (Int a) (Int b) v h = numbers_kind o a b v h
 apply_kind o (Truth a) (Truth b) v h = truths_kind o a b v h
 apply_kind o (Int a) (Truth b) v h = number_alone o a v h
 apply_kind o (Truth a) (Int b) v h = truth_alone o a v h
 
-unary_kind : (o : Op) (r : Result Value Fault) (v : Value) → (r >>= λ x. apply o x x) ≡ Ok v → kind_of v ≡ kind_of_result o
+unary_kind : (o : Op) (r : Result Value Fault) (v : Value) → (r >>= λ x. apply o x x) ≡ Ok v → kind_of v ≡ result_kind_of o
 unary_kind o (Ok x) v h = apply_kind o x x v h
 unary_kind o (Err f) v h = absurd cc
 
-binary_kind : (o : Op) (r t : Result Value Fault) (v : Value) → (r >>= λ x. t >>= λ y. apply o x y) ≡ Ok v → kind_of v ≡ kind_of_result o
+binary_kind : (o : Op) (r t : Result Value Fault) (v : Value) → (r >>= λ x. t >>= λ y. apply o x y) ≡ Ok v → kind_of v ≡ result_kind_of o
 binary_kind o (Ok x) (Ok y) v h = apply_kind o x y v h
 binary_kind o (Ok x) (Err f) v h = absurd cc
 binary_kind o (Err f) t v h = absurd cc

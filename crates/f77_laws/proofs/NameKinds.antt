@@ -8,15 +8,17 @@ use Rattle.fv_tree.specs.declared.ops.Kind.{Kind}
 use Rattle.fv_tree.specs.declared.ops.Kind.TheVariants.{Integer, Logical}
 use Rattle.fv_tree.specs.declared.ops.Value.{Value}
 use Rattle.fv_tree.specs.declared.ops.Value.TheVariants.{Int, Truth}
-use Rattle.fv_tree.specs.declared.ops.Fun.{Fun}
+use Rattle.fv_tree.specs.declared.functions.Fun.{Fun}
 use Rattle.fv_tree.specs.declared.ops.Op.{Op}
 use Rattle.fv_tree.specs.Plain.{Expression, Number, Logic, Named, Unary, Binary, Apply, Expressions, no_expressions, expression, Subscript, Only, Subscripts, no_subscripts, subscript, Declaration}
 use Rattle.fv_meaning.specs.Store.{Store}
 use Rattle.fv_meaning.specs.Value.{is_in_range}
 use Rattle.fv_meaning.specs.Depths.{level, enclosed, left_least, right_least, depth_of, depth_of_each, depth_of_subscripts, depth_of_subscript}
 use Rattle.f77_grammar.specs.expressions.Printing.{IsSource, IsSourceSubscript, AreSource}
-use Rattle.fv_meaning.specs.Names.{function_named, name_of_function, suits_number}
-use Rattle.fv_meaning.specs.Typed77.{operand_kind, kind_of_result, is_unary, number_of_arguments, number_of_subscripts, dimensions, declared, HasKind, AreArguments, AreSubscripts, IsSubscript, IsDeclared}
+use Rattle.fv_tree.specs.Functions.{function_named, name_of_function, suits_number}
+use Rattle.fv_meaning.specs.Typed77.{number_of_arguments, number_of_subscripts, dimensions, declared, HasKind}
+use Rattle.fv_meaning.specs.Typed77.{AreArguments, AreSubscripts, IsSubscript, IsDeclared}
+use Rattle.fv_tree.specs.OperatorTable.{operand_kind, result_kind_of, is_unary}
 use Rattle.f77_grammar.specs.program.Uses.{Role, Valued, Use, use_of, uses_in, uses_in_subscripts, uses_in_subscript, is_typed, is_bare, is_bounded, stands, is_constant, is_variable, is_array, is_function, calls, kind_of_name, dimensions_of_name}
 use Rattle.f77_grammar.specs.program.Declarations.{is_misused, suits_list}
 use Rattle.f77_grammar.specs.program.Kinds.{same_kind, takes_so_many, has_kind, name_has_kind, list_has_kind, are_subscripts, is_subscript, is_hidden_name, calls_hidden}
@@ -225,18 +227,18 @@ module _ (us : List Use) (s : Store) (ds : List Declaration) (knows : Knows us s
         (as_many (subscript p ps) ∙ one-add (number_of_subscripts ps))
         (subscript_kinds (subscript p ps) h.1 u.1 (right_true (name_has_kind us x (1 + number_of_subscripts ps) k) (are_subscripts us (subscript p ps)) g))
     kinds (Unary o a) k h u g =
-        let front = left_true (is_unary o && same_kind (kind_of_result o) k) (has_kind us a (operand_kind o)) g in (
-          left_true (is_unary o) (same_kind (kind_of_result o) k) front,
-          sym (kinds_same (kind_of_result o) k (right_true (is_unary o) (same_kind (kind_of_result o) k) front)),
-          kinds a (operand_kind o) h.1 u (right_true (is_unary o && same_kind (kind_of_result o) k) (has_kind us a (operand_kind o)) g),
+        let front = left_true (is_unary o && same_kind (result_kind_of o) k) (has_kind us a (operand_kind o)) g in (
+          left_true (is_unary o) (same_kind (result_kind_of o) k) front,
+          sym (kinds_same (result_kind_of o) k (right_true (is_unary o) (same_kind (result_kind_of o) k) front)),
+          kinds a (operand_kind o) h.1 u (right_true (is_unary o && same_kind (result_kind_of o) k) (has_kind us a (operand_kind o)) g),
         )
     kinds (Binary o a b) k h u g =
-        let front = left_true (not (is_unary o) && same_kind (kind_of_result o) k && has_kind us a (operand_kind o)) (has_kind us b (operand_kind o)) g in
-        let first = left_true (not (is_unary o) && same_kind (kind_of_result o) k) (has_kind us a (operand_kind o)) front in (
-          left_true (not (is_unary o)) (same_kind (kind_of_result o) k) first,
-          sym (kinds_same (kind_of_result o) k (right_true (not (is_unary o)) (same_kind (kind_of_result o) k) first)),
-          kinds a (operand_kind o) h.1 (all_left (IsGood us) (uses_in a) (uses_in b) u) (right_true (not (is_unary o) && same_kind (kind_of_result o) k) (has_kind us a (operand_kind o)) front),
-          kinds b (operand_kind o) h.2 (all_right (IsGood us) (uses_in a) (uses_in b) u) (right_true (not (is_unary o) && same_kind (kind_of_result o) k && has_kind us a (operand_kind o)) (has_kind us b (operand_kind o)) g),
+        let front = left_true (not (is_unary o) && same_kind (result_kind_of o) k && has_kind us a (operand_kind o)) (has_kind us b (operand_kind o)) g in
+        let first = left_true (not (is_unary o) && same_kind (result_kind_of o) k) (has_kind us a (operand_kind o)) front in (
+          left_true (not (is_unary o)) (same_kind (result_kind_of o) k) first,
+          sym (kinds_same (result_kind_of o) k (right_true (not (is_unary o)) (same_kind (result_kind_of o) k) first)),
+          kinds a (operand_kind o) h.1 (all_left (IsGood us) (uses_in a) (uses_in b) u) (right_true (not (is_unary o) && same_kind (result_kind_of o) k) (has_kind us a (operand_kind o)) front),
+          kinds b (operand_kind o) h.2 (all_right (IsGood us) (uses_in a) (uses_in b) u) (right_true (not (is_unary o) && same_kind (result_kind_of o) k && has_kind us a (operand_kind o)) (has_kind us b (operand_kind o)) g),
         )
     kinds e k h u g = absurd h
 

@@ -28,7 +28,7 @@ use Rattle.f77_laws.proofs.LabelCounts.{each_label_once, each_label_named, few_s
 use Rattle.f77_laws.proofs.Known.{proper_text, knows, declarations}
 use Rattle.f77_laws.proofs.SymbolicNames.{names_in_text}
 use Rattle.f77_laws.proofs.Declared.{are_declarations, names_again}
-use Rattle.f77_laws.proofs.Titles.{no_variable, title_symbolic}
+use Rattle.f77_laws.proofs.Titles.{no_variable, no_call, title_symbolic}
 
 whole_program : (ds : List Declaration) (r : Rest) → AreFine ds (Base []) r → IsFine ds (outermost_block r) (around [] []) 0
 whole_program ds (Outermost ps) h = whole_block ds [] [] 0 ps (omega arith) h
@@ -78,7 +78,7 @@ module _ (d : Dialect) (x : Labelled) (xs : List Labelled) (small : d.bits ≤ 1
       (variable_used us y (subst (λ (ys : List (List ℕ)). Contains ys y) (names_again d text rights valued source.each (variables_of us)) m)).variable
 
   not_called : (y : List ℕ) → Contains (names_that is_title us) y → Contains (names_called p) y → ⊥
-  not_called y c m = ?
+  not_called y c m = no_call s (targets text) text y rights source.each (proper_text text source.each) c m
 
   is_program : HasFewStatements text → IsProgram77 d p
   is_program few = record {

@@ -7,7 +7,7 @@ use Rattle.fv_tree.specs.declared.ops.Op.TheVariants.{Pow, Mul, Div, Add, Sub, L
 use Rattle.fv_tree.specs.Plain.{Expression, Subscript, Only, subscripts}
 use Rattle.fv_meaning.specs.Depths as printing
 use Rattle.fv_meaning.specs.Depths.{enclosed, depth_of, depth_of_subscripts}
-use Rattle.f77_grammar.specs.expressions.Levels.{Plus, Minus, Negation, level_of, left_least, right_least, joins}
+use Rattle.fv_tree.specs.OperatorTable.{Plus, Minus, Negation, level_of, left_least, right_least, stands_between}
 use Rattle.f77_grammar.specs.expressions.Phrases.{Phrase, Literal, WideLiteral, Truth, Name, Listed, Paren, Signed, Joined, Phrases, One, Then, IsExpression, AreExpressions, level, tree, trees, depth, depths}
 use Rattle.f77_grammar.proofs.expressions.SourceLaws.{read_source}
 use Rattle.f77_laws.specs.Reading.{ReadExpressionIsSource}
@@ -20,7 +20,7 @@ one_more (s ∷ ss) e = let h = one_more ss e in omega (arith, h)
 
 -- ---- the levels of operators are those by which expressions are printed
 
-same_left : (o : Op) → IsTrue (joins o) → printing.left_least o ≡ left_least o
+same_left : (o : Op) → IsTrue (stands_between o) → printing.left_least o ≡ left_least o
 same_left Pow h = refl
 same_left Mul h = refl
 same_left Div h = refl
@@ -38,7 +38,7 @@ same_left Eqv h = refl
 same_left Neqv h = refl
 same_left o h = absurd cc
 
-same_right : (o : Op) → IsTrue (joins o) → printing.right_least o ≡ right_least o
+same_right : (o : Op) → IsTrue (stands_between o) → printing.right_least o ≡ right_least o
 same_right Pow h = refl
 same_right Mul h = refl
 same_right Div h = refl
@@ -56,7 +56,7 @@ same_right Eqv h = refl
 same_right Neqv h = refl
 same_right o h = absurd cc
 
-same_level : (o : Op) → IsTrue (joins o) → spelling.level_of o ≡ level_of o
+same_level : (o : Op) → IsTrue (stands_between o) → spelling.level_of o ≡ level_of o
 same_level Pow h = refl
 same_level Mul h = refl
 same_level Div h = refl

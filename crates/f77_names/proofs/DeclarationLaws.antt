@@ -7,7 +7,7 @@ use Rattle.std.specs.Cmp.Lexicographic.{nat_list_eq_equiv}
 use Rattle.fv_tree.specs.View.{expression_of}
 use Rattle.fv_tree.specs.declared.exprs.Expr.{Expr}
 use Rattle.f77_grammar.specs.Statement77.{Statement77, Declare, Dimension, Constants, Entity}
-use Rattle.fv_meaning.specs.Names.{is_among, function_named}
+use Rattle.fv_meaning.specs.Names.{is_among}
 use Rattle.f77_grammar.specs.program.Text.{is_declaration}
 use Rattle.f77_grammar.specs.program.Uses.{Role, Title, Typed, Bounded, Defined, Valued, Target, Counter, Use, uses_of, uses_in, uses_in_bounds, uses_in_text, is_title, is_typed, is_defined, names_that, stands, is_array}
 use Rattle.f77_grammar.specs.program.Limits.{entities_of, definitions_of}
@@ -27,6 +27,7 @@ use Rattle.f77_names.proofs.TitleLaws.{bears_same}
 use Rattle.f77_names.proofs.UseLaws.{one_more}
 use Rattle.f77_names.proofs.SeenLaws.{ahead_at, behind_more, again_step, seen_turned, seen_same}
 use Rattle.f77_names.proofs.FactLaws.{constant_by_names, array_by_names, dimensions_by_names, or_false}
+use Rattle.fv_tree.specs.Functions.{function_named}
 
 -- ---- names declared again
 

@@ -1,6 +1,6 @@
 //! The names of functions (ANSI X3.9-1978, section 15.10).
 ghost use Rattle.std.specs.Prelude.{◌≡◌};
-ghost use Rattle.fv_meaning.specs.Names.{function_named, name_of_function};
+ghost use Rattle.fv_tree.specs.Functions.{function_named, name_of_function};
 
 use fv_tree::{Fun, Name};
 

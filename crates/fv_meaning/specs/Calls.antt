@@ -9,7 +9,7 @@ use Rattle.fv_tree.specs.Plain.{Program}
 use Rattle.fv_tree.specs.Plain.{Statement, Assignment, Where, If, Do, Label, GoTo, Stop, Read, Print, Allocate}
 use Rattle.fv_tree.specs.Plain.{Deallocate}
 use Rattle.fv_tree.specs.Plain.{Arms, no_arms, arm, Block, no_statements, statement}
-use Rattle.fv_meaning.specs.Names.{name_of_function}
+use Rattle.fv_tree.specs.Functions.{name_of_function}
 
 abbrev mutual
   -- ABS, MOD, MAX and MIN; the array functions aren't among them

@@ -1,7 +1,7 @@
 -- How deep an expression is as it is printed: each operator, each list in parentheses and each parenthesis that it
 -- needs counts one for what stands in it (own; the levels of operators are those of ISO/IEC 1539:1991, section 7.3).
 use Rattle.std.specs.Prelude.{ℕ, ◌+◌, max, nat_le, if◌then◌else◌}
-use Rattle.fv_tree.specs.Spelling.{level_of}
+use Rattle.fv_tree.specs.OperatorTable.{level_of}
 use Rattle.fv_tree.specs.Plain.{Expression, Number, Logic, Named, Unary, Binary, Apply, Constructor, Spread, Transpose}
 use Rattle.fv_tree.specs.Plain.{Reshape, Reduce}
 use Rattle.fv_tree.specs.Plain.{Expressions, no_expressions, expression, Subscript, Only, Section, Subscripts}

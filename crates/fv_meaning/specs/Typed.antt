@@ -3,34 +3,8 @@ use Rattle.std.specs.Prelude.{ℕ, ◌+◌, ◌^◌, ◌<◌, ◌≤◌, ℤ, po
 use Rattle.std.specs.Prelude.{if◌then◌else◌, List, [], ◌∷◌, length}
 use Rattle.std.specs.Str.{bytes_eq}
 use Rattle.std.specs.List.{AllByRecursion}
-use Rattle.fv_tree.specs.Operators.{takes_truths, is_neg, is_not}
 use Rattle.fv_tree.specs.Plain.{Expressions, no_expressions, expression, Subscripts, no_subscripts, subscript, Items}
 use Rattle.fv_tree.specs.Plain.{no_items, item, Extent, Given, Later, Declaration}
-use Rattle.fv_tree.specs.declared.ops.Kind.{Kind}
-use Rattle.fv_tree.specs.declared.ops.Kind.TheVariants.{Integer, Logical}
-use Rattle.fv_tree.specs.declared.ops.Op.{Op}
-use Rattle.fv_tree.specs.declared.ops.Op.TheVariants.{Lt, Le, Eq, Ne, Gt, Ge}
-
--- ---- operators (sections 6.1, 6.3 and 6.4)
-
-abbrev pub operand_kind : Op → Kind
-operand_kind o = if takes_truths o then Logical else Integer
-
-abbrev pub is_relation : Op → Bool
-is_relation Lt = true
-is_relation Le = true
-is_relation Eq = true
-is_relation Ne = true
-is_relation Gt = true
-is_relation Ge = true
-is_relation _ = false
-
-abbrev pub kind_of_result : Op → Kind
-kind_of_result o = if is_relation o then Logical else operand_kind o
-
--- `Neg` and `Not` have one operand
-abbrev pub is_unary : Op → Bool
-is_unary o = if is_neg o then true else is_not o
 
 -- ---- numbers of parts
 

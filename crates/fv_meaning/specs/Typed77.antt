@@ -7,9 +7,10 @@ use Rattle.fv_tree.specs.Plain.{expression, Subscript, Only, Subscripts, no_subs
 use Rattle.fv_tree.specs.Plain.{Constant, ImpliedDo, Items, no_items, item, Declaration}
 use Rattle.fv_tree.specs.declared.ops.Kind.{Kind}
 use Rattle.fv_tree.specs.declared.ops.Kind.TheVariants.{Integer, Logical}
-use Rattle.fv_meaning.specs.Names.{name_of_function, suits_number}
+use Rattle.fv_tree.specs.Functions.{name_of_function, suits_number}
 use Rattle.fv_meaning.specs.Depths.{depth_of}
-pub use Rattle.fv_meaning.specs.Typed.{operand_kind, is_relation, kind_of_result, is_unary, number_of_arguments}
+pub use Rattle.fv_meaning.specs.Typed.{number_of_arguments}
+pub use Rattle.fv_tree.specs.OperatorTable.{operand_kind, is_relation, result_kind_of, is_unary}
 pub use Rattle.fv_meaning.specs.Typed.{number_of_subscripts}
 pub use Rattle.fv_meaning.specs.Typed.{dimensions, declared, IsLiteral, has_item, IsText}
 
@@ -29,9 +30,9 @@ module _ (ds : List Declaration) where
     HasKind (Named x ps) k =
         IsSomeAnd (declared ds x) (λ d. (k ≡ d.kind) × (number_of_subscripts ps ≡ length (dimensions d.extent)))
         × AreSubscripts ps
-    HasKind (Unary o a) k = IsTrue (is_unary o) × (k ≡ kind_of_result o) × HasKind a (operand_kind o)
+    HasKind (Unary o a) k = IsTrue (is_unary o) × (k ≡ result_kind_of o) × HasKind a (operand_kind o)
     HasKind (Binary o a b) k =
-        IsTrue (not (is_unary o)) × (k ≡ kind_of_result o) × HasKind a (operand_kind o) × HasKind b (operand_kind o)
+        IsTrue (not (is_unary o)) × (k ≡ result_kind_of o) × HasKind a (operand_kind o) × HasKind b (operand_kind o)
     HasKind (Apply f es) k =
         IsTrue (suits_number f (number_of_arguments es)) × (declared ds (name_of_function f) ≡ None)
         × (k ≡ Integer) × AreArguments es

@@ -10,8 +10,9 @@ use Rattle.fv_tree.specs.Plain.{Loops, no_loops, loop, Item, Single, Constant, I
 use Rattle.fv_tree.specs.Plain.{Declaration}
 use Rattle.fv_tree.specs.declared.ops.Kind.{Kind}
 use Rattle.fv_tree.specs.declared.ops.Kind.TheVariants.{Integer, Logical}
-use Rattle.fv_meaning.specs.Names.{name_of_function, name_of_reduction, suits_number}
-use Rattle.fv_meaning.specs.Typed.{operand_kind, kind_of_result, is_unary, number_of_arguments, number_of_subscripts}
+use Rattle.fv_tree.specs.Functions.{name_of_function, name_of_reduction, suits_number}
+use Rattle.fv_meaning.specs.Typed.{number_of_arguments, number_of_subscripts}
+use Rattle.fv_tree.specs.OperatorTable.{operand_kind, result_kind_of, is_unary}
 use Rattle.fv_meaning.specs.Typed.{rank_of_extent, declared, IsLiteral, has_item, IsText}
 
 -- the ranks of two operands: they are equal, or one is that of a scalar
@@ -79,9 +80,9 @@ module _ (ds : List Declaration) where
     HasKind (Logic b) k = k ≡ Logical
     HasKind (Named x ps) k =
         IsSomeAnd (declared ds x) (λ d. (k ≡ d.kind) × SuitsDimensions ps (rank_of_extent d.extent)) × AreSubscripts ps
-    HasKind (Unary o a) k = IsTrue (is_unary o) × (k ≡ kind_of_result o) × HasKind a (operand_kind o)
+    HasKind (Unary o a) k = IsTrue (is_unary o) × (k ≡ result_kind_of o) × HasKind a (operand_kind o)
     HasKind (Binary o a b) k =
-        IsTrue (not (is_unary o)) × (k ≡ kind_of_result o)
+        IsTrue (not (is_unary o)) × (k ≡ result_kind_of o)
         × HasKind a (operand_kind o) × HasKind b (operand_kind o) × Conform (rank_of a) (rank_of b)
     HasKind (Apply f es) k =
         IsTrue (suits_number f (number_of_arguments es)) × IsFree (name_of_function f) × (k ≡ Integer) × AreArguments es

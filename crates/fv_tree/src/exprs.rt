@@ -1,4 +1,4 @@
-//! Expressions and references (ANSI X3.9-1978, sections 5 and 6; of arrays ISO/IEC 1539:1991, sections 4.5, 6.2 and 13).
+//! Expressions and references (ANSI X3.9-1978, sections 5 and 6; of arrays ISO/IEC 1539:1991, 4.5, 6.2 and 13).
 ghost use Rattle.std.specs.Prelude.{◌≡◌, IfOk, map};
 ghost use Rattle.fv_tree.specs.View.{expression_of, subscript_of, reference_of, loop_of};
 

@@ -69,7 +69,7 @@ pub record ArePlaced (ds : List Declaration) (names : List Variable) (values : L
   pub starts : starts_in names ≡ starts_of 0 (declared names)
   pub noughts : values ≡ noughts_of (declared names)
 
-pub bounds_placed : (ds : List Declaration) (names : List Variable) (values : List Value) (d : Decl) (more : List Decl) → AreArrays ds → ArePlaced ds names values (d ∷ more) → AreBounds (dimensions (extent_of d.form))
+pub bounds_placed : (ds : List Declaration) (names : List Variable) (values : List Value) (d : Decl) (more : List Decl) → AreArrays ds → ArePlaced ds names values (d ∷ more) → AreBounds (dimensions (extent_of d.extent))
 bounds_placed ds names values d more a h = (second_part (λ (d : Declaration). AreBounds (dimensions d.extent)) (declared names) (map declaration_of (d ∷ more)) (subst AreArrays h.all a)).0
 
 pub place_more : (ds : List Declaration) (names : List Variable) (values : List Value) (v : Variable) (more : List Decl) (n : ℕ) (x : Value) → ArePlaced ds names values (v.decl ∷ more)

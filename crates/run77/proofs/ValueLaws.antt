@@ -17,7 +17,7 @@ use Rattle.fv_tree.specs.Operators.{apply, call, as_number}
 use Rattle.fv_tree.specs.Plain as P
 use Rattle.fv_tree.specs.View.{expression_of, subscript_of, reference_of}
 use Rattle.fv_tree.specs.declared.ops.Op.{Op}
-use Rattle.fv_tree.specs.declared.ops.Fun.{Fun}
+use Rattle.fv_tree.specs.declared.functions.Fun.{Fun}
 use Rattle.fv_tree.specs.declared.ops.Value.{Value}
 use Rattle.fv_tree.specs.declared.ops.Value.TheVariants.{Int, Truth}
 use Rattle.fv_tree.specs.declared.ops.Fault.{Fault}
@@ -36,10 +36,10 @@ use Rattle.fv_meaning.specs.Profile77.{elements_of}
 use Rattle.run77.specs.Storage.{store_of, place, offset, joined, value_at, total, AreBounds, with_more}
 use Rattle.run77.specs.Stored.{Finds, IsOf, bounds_here, call_of, offset_of}
 use Rattle.run77.specs.declared.variables.Variable.{Variable}
-use Rattle.run77.specs.declared.operations.Arguments.{Arguments}
-use Rattle.run77.specs.declared.operations.Arguments.TheVariants.{Empty}
-use Rattle.run77.specs.Arguments.{added, finished}
-use Rattle.run77.proofs.Calls.{finished_is}
+use Rattle.fv_tree.specs.declared.arguments.Arguments.{Arguments}
+use Rattle.fv_tree.specs.declared.arguments.Arguments.TheVariants.{Empty}
+use Rattle.fv_tree.specs.Arguments.{added, finished}
+use Rattle.fv_tree.proofs.Calls.{finished_is}
 
 -- ---- expressions
 

@@ -6,7 +6,7 @@ use Rattle.fv_tree.specs.Steps.{◌>>=◌}
 use Rattle.fv_tree.specs.Operators.{call}
 use Rattle.fv_tree.specs.Plain.{Declaration, Expressions, Subscripts}
 use Rattle.fv_tree.specs.View.{declaration_of}
-use Rattle.fv_tree.specs.declared.ops.Fun.{Fun}
+use Rattle.fv_tree.specs.declared.functions.Fun.{Fun}
 use Rattle.fv_tree.specs.declared.ops.Value.{Value}
 use Rattle.fv_tree.specs.declared.ops.Fault.{Fault}
 use Rattle.fv_meaning.specs.Store.{Store, Cell, opening_bounds}

@@ -60,7 +60,7 @@ impl Storage {
         ensures fault { OnErr result (Rose (K.faults out.old) (K.faults out.new)) }
         ensures later { K.faults out.old ≤ K.faults out.new }
     {
-        let count = elements(dims_of(&variable.decl.form));
+        let count = elements(dims_of(&variable.decl.extent));
         for place in 0..count {
             self.show_element(name, variable, place, out)?;
         }
@@ -82,7 +82,7 @@ impl Storage {
         ensures later { K.faults out.old ≤ K.faults out.new }
     {
         write_all(out, name.text())?;
-        write_subscripts(dims_of(&variable.decl.form), place, out)?;
+        write_subscripts(dims_of(&variable.decl.extent), place, out)?;
         write_held(self.values[variable.start + place], out)
     }
 }

@@ -7,7 +7,6 @@ mod loops;
 mod machine;
 mod moment;
 mod opening;
-mod operations;
 mod printing;
 mod reading;
 mod statements;

@@ -34,7 +34,7 @@ impl Storage {
         let Some(variable) = self.find(name) else {
             return Err(Fault::Allocated);
         };
-        let Some(offset) = offset(&[], dims_of(&variable.decl.form)) else {
+        let Some(offset) = offset(&[], dims_of(&variable.decl.extent)) else {
             return Err(Fault::Bounds);
         };
         Ok(variable.start + offset)

@@ -56,7 +56,7 @@ impl Storage {
         let Some(variable) = self.find(name) else {
             return Err(Fault::Allocated);
         };
-        let end = variable.start + elements(dims_of(&variable.decl.form));
+        let end = variable.start + elements(dims_of(&variable.decl.extent));
         Ok(&self.values[variable.start..end])
     }
 }

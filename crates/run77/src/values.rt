@@ -10,11 +10,10 @@ ghost use Rattle.fv_meaning.specs.Value.{value_of, subscript_value, cell_named};
 ghost use Rattle.run77.specs.Storage.{AreBounds, bounds_list};
 ghost use Rattle.run77.specs.Stored.{names_in, store_in, IsOf, Finds, call_of, offset_of};
 
-use crate::operations::{Arguments, apply};
 use crate::storage::Storage;
 use crate::subscripts::{Subscripts, offset};
 use crate::variables::{Variable, dims_of};
-use fv_tree::{Dim, Expr, Fault, Fun, Name, Ref, Seq, Sub, Value};
+use fv_tree::{Arguments, Dim, Expr, Fault, Fun, Name, Ref, Seq, Sub, Value};
 
 impl Storage {
     // The name's declaration.
@@ -36,12 +35,12 @@ impl Storage {
             Expr::Item(item) => Ok(self.values[self.place(item)?]),
             Expr::Un(op, a) => {
                 let x = self.value(a)?;
-                apply(*op, x, x)
+                op.apply(x, x)
             }
             Expr::Bin(op, a, b) => {
                 let x = self.value(a)?;
                 let y = self.value(b)?;
-                apply(*op, x, y)
+                op.apply(x, y)
             }
             Expr::Call(function, arguments) => self.call(*function, arguments),
         }
@@ -72,7 +71,7 @@ impl Storage {
             self.offset(&item.subs, &[])?;
             return Err(Fault::Allocated);
         };
-        let Some(offset) = self.offset(&item.subs, dims_of(&variable.decl.form))? else {
+        let Some(offset) = self.offset(&item.subs, dims_of(&variable.decl.extent))? else {
             return Err(Fault::Bounds);
         };
         Ok(variable.start + offset)

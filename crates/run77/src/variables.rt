@@ -6,7 +6,7 @@ ghost use Rattle.fv_meaning.specs.Typed77.{dimensions};
 ghost use Rattle.fv_meaning.specs.Profile77.{IsDimension, elements_of};
 ghost use Rattle.run77.specs.Storage.{joined, bounds_list, AreBounds};
 
-use fv_tree::{Decl, Dim, Form};
+use fv_tree::{Decl, Dim, Extent};
 
 /// A declared name, and the place of its first value among the values of all names.
 #[derive(Drop)]
@@ -16,12 +16,12 @@ pub struct Variable {
 }
 
 // The bounds of the name's dimensions: none for a scalar.
-pub fn dims_of(form: &Form) -> &[Dim]
-    ensures { bounds_list result.now ≡ dimensions (extent_of form.now) }
+pub fn dims_of(extent: &Extent) -> &[Dim]
+    ensures { bounds_list result.now ≡ dimensions (extent_of extent.now) }
 {
-    match form {
-        Form::Scalar => &[],
-        Form::Fixed(dims) => dims.as_slice(),
+    match extent {
+        Extent::Scalar => &[],
+        Extent::Fixed(dims) => dims.as_slice(),
     }
 }
 

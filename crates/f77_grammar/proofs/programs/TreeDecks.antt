@@ -4,7 +4,7 @@ use lib.Chars.{codes}
 use Rattle.fv_tree.specs.Plain.{Unary, Binary, Apply, Single, Constant, ImpliedDo, items, expressions, Assignment, GoTo, no_arms, arm, block, no_statements, Given, Program}
 use Rattle.fv_tree.specs.Plain as tree
 use Rattle.fv_tree.specs.declared.ops.Op.TheVariants.{Div, Neg, Add, Sub, Eq, Gt, Not}
-use Rattle.fv_tree.specs.declared.ops.Fun.TheVariants.{Abs, Mod, Max, Min}
+use Rattle.fv_tree.specs.declared.functions.Fun.TheVariants.{Abs, Mod, Max, Min}
 use Rattle.fv_tree.specs.declared.ops.Kind.TheVariants.{Integer, Logical}
 use Rattle.fv_meaning.specs.Dialect.{fortran77}
 use Rattle.f77_grammar.specs.Statement77.{Labelled, Declare, Constants, Assign, Go, Test, If, ElseIf, Else, EndIf, Do, Continue, Stop, Read, Print, End}

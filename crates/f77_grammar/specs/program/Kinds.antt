@@ -8,12 +8,13 @@ use Rattle.fv_tree.specs.Plain.{expression, Subscript, Only, Subscripts, no_subs
 use Rattle.fv_tree.specs.Plain.{Constant, ImpliedDo, Items, no_items, item}
 use Rattle.fv_tree.specs.declared.ops.Kind.{Kind}
 use Rattle.fv_tree.specs.declared.ops.Kind.TheVariants.{Integer, Logical}
-use Rattle.fv_tree.specs.declared.ops.Fun.{Fun}
+use Rattle.fv_tree.specs.declared.functions.Fun.{Fun}
 use Rattle.f77_grammar.specs.Statement77.{Entity, NamedConstant, Statement77, Program, Declare, Dimension, Constants}
 use Rattle.f77_grammar.specs.Statement77.{Assign, Go, Test, If, ElseIf, Else, EndIf, Do, Continue, Stop, Read, Print}
 use Rattle.f77_grammar.specs.Statement77.{End}
-use Rattle.fv_meaning.specs.Names.{function_named, name_of_function, suits_number}
-use Rattle.fv_meaning.specs.Typed77.{operand_kind, kind_of_result, is_unary, number_of_arguments, number_of_subscripts}
+use Rattle.fv_tree.specs.Functions.{function_named, name_of_function, suits_number}
+use Rattle.fv_meaning.specs.Typed77.{number_of_arguments, number_of_subscripts}
+use Rattle.fv_tree.specs.OperatorTable.{operand_kind, result_kind_of, is_unary}
 use Rattle.f77_grammar.specs.program.Text.{Place}
 use Rattle.f77_grammar.specs.program.Uses.{Use, uses_of, is_variable, is_array, is_function, calls, kind_of_name}
 
@@ -44,8 +45,8 @@ module _ (us : List Use) where
     has_kind (Number n) k = same_kind Integer k
     has_kind (Logic b) k = same_kind Logical k
     has_kind (Named x ps) k = name_has_kind x (number_of_subscripts ps) k && are_subscripts ps
-    has_kind (Unary o a) k = is_unary o && same_kind (kind_of_result o) k && has_kind a (operand_kind o)
-    has_kind (Binary o a b) k = not (is_unary o) && same_kind (kind_of_result o) k && has_kind a (operand_kind o)
+    has_kind (Unary o a) k = is_unary o && same_kind (result_kind_of o) k && has_kind a (operand_kind o)
+    has_kind (Binary o a b) k = not (is_unary o) && same_kind (result_kind_of o) k && has_kind a (operand_kind o)
         && has_kind b (operand_kind o)
     has_kind (Apply f es) k = suits_number f (number_of_arguments es) && same_kind Integer k && are_arguments es
     has_kind _ k = false

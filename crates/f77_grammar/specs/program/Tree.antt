@@ -11,7 +11,7 @@ use Rattle.fv_tree.specs.Plain.{expression, Subscript, Only, Subscripts, no_subs
 use Rattle.fv_tree.specs.Plain.{Single, Constant, ImpliedDo, Items, no_items, item}
 use Rattle.fv_tree.specs.Plain as tree
 use Rattle.fv_tree.specs.declared.ops.Op.TheVariants.{Neg}
-use Rattle.fv_tree.specs.declared.ops.Fun.{Fun}
+use Rattle.fv_tree.specs.declared.functions.Fun.{Fun}
 use Rattle.fv_tree.specs.declared.ops.Fault.{Fault}
 use Rattle.fv_tree.specs.declared.ops.Value.{Value}
 use Rattle.fv_tree.specs.declared.ops.Value.TheVariants.{Int, Truth}
@@ -19,7 +19,7 @@ use Rattle.fv_meaning.specs.Dialect.{Dialect}
 use Rattle.fv_meaning.specs.Store.{Store}
 use Rattle.f77_grammar.specs.Statement77.{Labelled, Statement77, Assign, Go, Test, If, ElseIf, Else, EndIf, Do, Stop}
 use Rattle.f77_grammar.specs.Statement77.{Read, Print}
-use Rattle.fv_meaning.specs.Names.{function_named}
+use Rattle.fv_tree.specs.Functions.{function_named}
 use Rattle.f77_grammar.specs.program.Text.{action, is_label}
 use Rattle.f77_grammar.specs.program.Uses.{Use, uses_in_text, is_title, names_that, is_variable, is_constant, is_array}
 use Rattle.f77_grammar.specs.program.Uses.{kind_of_name}

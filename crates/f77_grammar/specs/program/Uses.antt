@@ -12,7 +12,7 @@ use Rattle.fv_tree.specs.declared.ops.Kind.TheVariants.{Integer}
 use Rattle.f77_grammar.specs.Statement77.{Entity, NamedConstant, Labelled, Statement77, Program, Declare, Dimension}
 use Rattle.f77_grammar.specs.Statement77.{Constants, Assign, Go, Test, If, ElseIf, Else, EndIf, Do, Continue, Stop}
 use Rattle.f77_grammar.specs.Statement77.{Read, Print, End}
-use Rattle.fv_meaning.specs.Names.{function_named}
+use Rattle.fv_tree.specs.Functions.{function_named}
 use Rattle.fv_meaning.specs.Typed77.{number_of_subscripts}
 
 -- How a name stands: as the program's name; in a type statement; with bounds for so many dimensions; in PARAMETER,

@@ -8,8 +8,8 @@ use Rattle.fv_tree.specs.Operators.{number_in}
 use Rattle.fv_tree.specs.declared.ops.Value.{Value}
 use Rattle.fv_tree.specs.declared.ops.Value.TheVariants.{Int}
 use Rattle.fv_tree.specs.declared.ops.Fault.{Fault}
-use Rattle.fv_tree.proofs.Functions.{call-Min}
-use Rattle.fv_tree.proofs.ops.least.Goals as goal
+use Rattle.fv_tree.proofs.CallValues.{call-Min}
+use Rattle.fv_tree.proofs.functions.least.Goals as goal
 
 pub returns : goal.returns
 returns c =

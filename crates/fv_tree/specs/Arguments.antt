@@ -1,15 +1,16 @@
 -- The arguments of a function, taken one at a time.
-use Rattle.std.specs.Prelude.{Result, Err, ℤ, [], ◌∷◌}
+use Rattle.std.specs.Prelude.{Result, Err, ℤ, List, [], ◌∷◌}
 use Rattle.std.specs.Int.{int_max, int_min}
+use Rattle.std.specs.List.{fold}
 use Rattle.fv_tree.specs.Operators.{number, call}
 use Rattle.fv_tree.specs.declared.ops.Value.{Value}
 use Rattle.fv_tree.specs.declared.ops.Value.TheVariants.{Int, Truth}
 use Rattle.fv_tree.specs.declared.ops.Fault.{Fault}
 use Rattle.fv_tree.specs.declared.ops.Fault.TheVariants.{Shape}
-use Rattle.fv_tree.specs.declared.ops.Fun.{Fun}
-use Rattle.fv_tree.specs.declared.ops.Fun.TheVariants.{Abs, Mod, Max, Min}
-use Rattle.run77.specs.declared.operations.Arguments.{Arguments}
-use Rattle.run77.specs.declared.operations.Arguments.TheVariants.{Empty, One, Two, More, Unsuited}
+use Rattle.fv_tree.specs.declared.functions.Fun.{Fun}
+use Rattle.fv_tree.specs.declared.functions.Fun.TheVariants.{Abs, Mod, Max, Min}
+use Rattle.fv_tree.specs.declared.arguments.Arguments.{Arguments}
+use Rattle.fv_tree.specs.declared.arguments.Arguments.TheVariants.{Empty, One, Two, More, Unsuited}
 
 -- the one of two numbers that the function keeps
 abbrev pub kept : Fun → ℤ → ℤ → ℤ
@@ -29,6 +30,10 @@ added_number f Unsuited c = Unsuited
 abbrev pub added : Fun → Arguments → Value → Arguments
 added f given (Int c) = added_number f given c
 added f given (Truth b) = Unsuited
+
+-- the arguments that were taken, one after the other
+abbrev pub taken : Fun → List Value → Arguments
+taken f vs = fold (added f) Empty vs
 
 -- the value at three or more arguments
 abbrev pub call_of_many : Fun → ℤ → Result Value Fault

@@ -8,8 +8,8 @@ use Rattle.fv_tree.specs.Operators.{number_in}
 use Rattle.fv_tree.specs.declared.ops.Value.{Value}
 use Rattle.fv_tree.specs.declared.ops.Value.TheVariants.{Int}
 use Rattle.fv_tree.specs.declared.ops.Fault.{Fault}
-use Rattle.fv_tree.proofs.Functions.{call-Max}
-use Rattle.fv_tree.proofs.ops.greatest.Goals as goal
+use Rattle.fv_tree.proofs.CallValues.{call-Max}
+use Rattle.fv_tree.proofs.functions.greatest.Goals as goal
 
 pub returns : goal.returns
 returns c =

@@ -1,51 +1,18 @@
--- Operators at values that don't suit them, and functions at all their arguments.
-use Rattle.std.proofs.Common.{◌≡◌, refl, ap, ◌∙◌, ℤ, Bool, false, List, [], ◌∷◌, Result, Ok, Err}
+-- Arguments that are taken one at a time.
+use Rattle.std.proofs.Common.{◌≡◌, refl, ap, ◌∙◌, ℤ, Bool, List, [], ◌∷◌, Result, Ok, Err}
 use Rattle.std.specs.Int.{int_max, int_min}
 use Rattle.std.specs.List.{fold}
 use Rattle.fv_tree.specs.Steps.{◌>>=◌}
-use Rattle.fv_tree.specs.Operators.{suits, apply, call, exact_call, as_numbers, ranged}
-use Rattle.fv_tree.specs.declared.ops.Op.{Op}
-use Rattle.fv_tree.specs.declared.ops.Op.TheVariants.{Neg, Not, And, Or, Eqv, Neqv}
-use Rattle.fv_tree.specs.declared.ops.Fun.{Fun}
-use Rattle.fv_tree.specs.declared.ops.Fun.TheVariants.{Abs, Mod, Max, Min}
+use Rattle.fv_tree.specs.Operators.{call, exact_call, as_numbers, ranged}
+use Rattle.fv_tree.specs.declared.functions.Fun.{Fun}
+use Rattle.fv_tree.specs.declared.functions.Fun.TheVariants.{Abs, Mod, Max, Min}
 use Rattle.fv_tree.specs.declared.ops.Value.{Value}
 use Rattle.fv_tree.specs.declared.ops.Value.TheVariants.{Int, Truth}
 use Rattle.fv_tree.specs.declared.ops.Fault.{Fault}
 use Rattle.fv_tree.specs.declared.ops.Fault.TheVariants.{Shape}
-use Rattle.run77.specs.declared.operations.Arguments.TheVariants.{Empty, More, Unsuited}
-use Rattle.run77.specs.Arguments.{kept, added, finished, call_of_many}
-
-unsuited-numbers : (o : Op) (a b : ℤ) → suits o (Int a) (Int b) ≡ false → apply o (Int a) (Int b) ≡ Err Shape
-unsuited-numbers Not a b e = refl
-unsuited-numbers And a b e = refl
-unsuited-numbers Or a b e = refl
-unsuited-numbers Eqv a b e = refl
-unsuited-numbers Neqv a b e = refl
-unsuited-numbers _ a b e = cc
-
-unsuited-truths : (o : Op) (a b : Bool) → suits o (Truth a) (Truth b) ≡ false → apply o (Truth a) (Truth b) ≡ Err Shape
-unsuited-truths Not a b e = cc
-unsuited-truths And a b e = cc
-unsuited-truths Or a b e = cc
-unsuited-truths Eqv a b e = cc
-unsuited-truths Neqv a b e = cc
-unsuited-truths _ a b e = refl
-
-unsuited-first : (o : Op) (a : ℤ) (b : Bool) → suits o (Int a) (Truth b) ≡ false → apply o (Int a) (Truth b) ≡ Err Shape
-unsuited-first Neg a b e = cc
-unsuited-first _ a b e = refl
-
-unsuited-second : (o : Op) (a : Bool) (b : ℤ) → suits o (Truth a) (Int b) ≡ false → apply o (Truth a) (Int b) ≡ Err Shape
-unsuited-second Not a b e = cc
-unsuited-second _ a b e = refl
-
-pub unsuited : (o : Op) (x y : Value) → suits o x y ≡ false → apply o x y ≡ Err Shape
-unsuited o (Int a) (Int b) e = unsuited-numbers o a b e
-unsuited o (Truth a) (Truth b) e = unsuited-truths o a b e
-unsuited o (Int a) (Truth b) e = unsuited-first o a b e
-unsuited o (Truth a) (Int b) e = unsuited-second o a b e
-
--- ---- calls
+use Rattle.fv_tree.specs.declared.arguments.Arguments.{Arguments}
+use Rattle.fv_tree.specs.declared.arguments.Arguments.TheVariants.{Empty, More, Unsuited}
+use Rattle.fv_tree.specs.Arguments.{kept, added, finished, call_of_many}
 
 stays_unsuited : (f : Fun) (vs : List Value) → fold (added f) Unsuited vs ≡ Unsuited
 stays_unsuited f [] = refl
@@ -100,3 +67,9 @@ finished_is f (Int a ∷ Truth p ∷ vs) = ap (finished f) (stays_unsuited f vs)
 finished_is f (Int a ∷ Int b ∷ []) = refl
 finished_is f (Int a ∷ Int b ∷ Truth p ∷ vs) = ap (finished f) (stays_unsuited f vs)
 finished_is f (Int a ∷ Int b ∷ Int c ∷ vs) = many f (kept f (kept f a b) c) vs ∙ first_three f a b c (as_numbers vs)
+
+-- the same of arguments that are told to be those
+pub finished_of : (f : Fun) (given : Arguments) (vs : List Value) → given ≡ fold (added f) Empty vs → finished f given ≡ call f vs
+finished_of f given vs e = ap (finished f) e ∙ finished_is f vs
+
+pub ruleset taken = (finished_of)

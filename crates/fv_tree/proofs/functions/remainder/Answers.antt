@@ -5,8 +5,8 @@ use Rattle.std.proofs.lemmas.Int.{to_z-of_z}
 use Rattle.fv_tree.specs.declared.ops.Value.{Value}
 use Rattle.fv_tree.specs.declared.ops.Value.TheVariants.{Int}
 use Rattle.fv_tree.specs.declared.ops.Fault.{Fault}
-use Rattle.fv_tree.proofs.Functions.{remainder-other}
-use Rattle.fv_tree.proofs.ops.remainder.Goals as goal
+use Rattle.fv_tree.proofs.CallValues.{remainder-other}
+use Rattle.fv_tree.proofs.functions.remainder.Goals as goal
 
 pub returns : goal.returns
 returns c =
