@@ -16,6 +16,10 @@ AnyFault f = Unit {0}
 abbrev pub AnyValue : {A : Type 0} → A → Type 0
 AnyValue x = Unit {0}
 
+pub all_any : {A : Type 0} → (xs : List A) → AllByRecursion AnyValue xs
+all_any [] = tt
+all_any (x ∷ xs) = (tt, all_any xs)
+
 module _ (F : Fault → Type 0) where
   pub behind : {A B : Type 0} (P : A → Type 0) (Q : B → Type 0) (r : Result A Fault) (f : A → Result B Fault) → Answers F P r → ((x : A) → P x → Answers F Q (f x)) → Answers F Q (r >>= f)
   behind P Q (Ok x) f h k = k x h

@@ -6,3 +6,8 @@ pub mod Forward
 pub mod Answering
 pub mod Stores
 pub mod ValueKinds
+pub mod Parts
+pub mod Walks
+pub mod TargetRuns
+pub mod SourceValues
+pub mod SourceRuns

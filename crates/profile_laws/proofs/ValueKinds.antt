@@ -36,11 +36,11 @@ abbrev pub Gives : {A : Type 0} → (A → Type 0) → Result A Fault → Type 0
 Gives {A} P r = Answers AnyFault P r
 
 -- any answer at all
-any : {A : Type 0} (r : Result A Fault) → Gives AnyValue r
+pub any : {A : Type 0} (r : Result A Fault) → Gives AnyValue r
 any (Ok x) = tt
 any (Err f) = tt
 
-abbrev after : {A B : Type 0} (Q : B → Type 0) (r : Result A Fault) (f : A → Result B Fault) → ((x : A) → Gives Q (f x)) → Gives Q (r >>= f)
+abbrev pub after : {A B : Type 0} (Q : B → Type 0) (r : Result A Fault) (f : A → Result B Fault) → ((x : A) → Gives Q (f x)) → Gives Q (r >>= f)
 after Q r f h = behind AnyFault AnyValue Q r f (any r) (λ x q. h x)
 
 -- ---- operators and functions
@@ -171,7 +171,7 @@ module _ (lang : Dialect) (p : Program) where
   abbrev ds : List Declaration
   ds = p.declarations
 
-  cell_is : (b : Option (List (ℤ × ℤ))) (x : List ℕ) (is : List ℤ) → Gives (λ (c : Cell). c.name ≡ x) (cell_in b x is)
+  pub cell_is : (b : Option (List (ℤ × ℤ))) (x : List ℕ) (is : List ℤ) → Gives (λ (c : Cell). c.name ≡ x) (cell_in b x is)
   cell_is None x is = tt
   cell_is (Some bs) x is = by _
     where
@@ -190,7 +190,7 @@ module _ (lang : Dialect) (p : Program) where
 
   -- ---- under the loops of a constructor
 
-  integer_fits : (x : List ℕ) (z : ℤ) → IsIntegerScalar ds x → fits lang.bits z ≡ true → Fits lang p x (Int z)
+  pub integer_fits : (x : List ℕ) (z : ℤ) → IsIntegerScalar ds x → fits lang.bits z ≡ true → Fits lang p x (Int z)
   integer_fits x z i e = by (declared ds x) i
     where
       by : (o : Option Declaration) → IsSomeAnd o (λ d. (d.kind ≡ Integer) × (rank_of_extent d.extent ≡ 0)) → IfSome o (λ (d : Declaration). IsStorable lang d.kind (Int z))

@@ -1,6 +1,8 @@
 //! Laws of programs. A law is a function without a body: its contract is what holds.
+ghost use Rattle.profile_laws.specs.Faults.{SourceRunFaultIsPlain, SourceValueFaultIsPlain, SourceValueHasKind};
 ghost use Rattle.profile_laws.specs.Forward.{SourceJumpsForward, TargetJumpsForward};
 ghost use Rattle.profile_laws.specs.Profiles.{SourceIsTarget, SourceWithMadeNamesIsTarget};
+ghost use Rattle.profile_laws.specs.Stores.{OpeningStoreHolds, RunHolds, SourceRunHolds, StatementsKeepStores};
 ghost use Rattle.profile_laws.specs.Values.{ElementsHaveKind, ValueHasKind};
 
 /// A program of FORTRAN 77 is one of Fortran 90, as it stands and with further declarations of names that no source has.
@@ -19,4 +21,21 @@ pub fn jumps_forward()
 pub fn values_have_kinds()
     ensures value { ValueHasKind }
     ensures elements { ElementsHaveKind }
+{}
+
+/// Each store of a run has the bounds of the declared names, and in their cells values of their kinds within the range
+/// of INTEGER; statements keep such stores.
+pub fn stores_hold_program()
+    ensures opening { OpeningStoreHolds }
+    ensures statements { StatementsKeepStores }
+    ensures run { RunHolds }
+    ensures source { SourceRunHolds }
+{}
+
+/// The value of an expression of FORTRAN 77 has its kind, and neither it nor a run meets the faults Shape and
+/// Allocated.
+pub fn source_faults_are_plain()
+    ensures value { SourceValueHasKind }
+    ensures value_fault { SourceValueFaultIsPlain }
+    ensures run { SourceRunFaultIsPlain }
 {}

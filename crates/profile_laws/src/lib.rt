@@ -4,4 +4,6 @@
 
 mod laws;
 
-pub use laws::{jumps_forward, source_is_target, values_have_kinds};
+pub use laws::{
+    jumps_forward, source_faults_are_plain, source_is_target, stores_hold_program, values_have_kinds,
+};
