@@ -7,10 +7,22 @@ use Rattle.std.proofs.lemmas.Bool.{and_parts, and_from, not-true, not_from_false
 use Rattle.std.proofs.lemmas.List.Sums.{fold-append}
 use Rattle.fv_tree.specs.declared.refusals.Refusal.{Refusal}
 use Rattle.f77_grammar.proofs.Answered.{answered_by}
-use Rattle.f77_grammar.specs.Cards.{Line, Cause, IsWrong, HasCause, RefusedCards, is_blank, is_comment, is_initial, is_continuation, is_bad_byte, is_tab, is_label_character, label_field, statement_field, number_of, numbered, refusal, statement_lines, statement_lines_from}
-use Rattle.f77_grammar.specs.Cards.Cause.{BadByte, Tab, LineForm, ManyLines}
+use Rattle.fv_tree.specs.Causes.{number_of_cause, word_of_cause, refusal_at}
+use Rattle.fv_tree.specs.Limits.{source_bytes}
+use Rattle.fv_tree.specs.declared.refusals.Cause.TheVariants as causes'
+use Rattle.f77_grammar.specs.Cards.{Line, LineCause, cause_of_line, IsWrong, HasCause, RefusedCards, is_blank, is_comment, is_initial, is_continuation, is_bad_byte, is_tab, is_label_character, label_field, statement_field, numbered, statement_lines, statement_lines_from}
+use Rattle.f77_grammar.specs.Cards.LineCause.{BadByte, Tab, LineForm, ManyLines}
 use Rattle.f77_grammar.specs.Cards.IsWrong.{HoldsBadByte, HoldsTab, HasNoInitialLine, HasLabelField, HasNoLabel, HasNoStatement, IsTwentieth}
 use Rattle.f77_grammar.specs.Cards.HasCause.{TooLong, AtLine}
+
+abbrev number_of : LineCause → ℕ
+number_of c = number_of_cause (cause_of_line c)
+
+no_word : (c : LineCause) → word_of_cause (cause_of_line c) ≡ 0
+no_word BadByte = refl
+no_word Tab = refl
+no_word LineForm = refl
+no_word ManyLines = refl
 
 -- ---- how many continuation lines a statement has so far; None before the first initial line
 
@@ -128,7 +140,7 @@ is_wrong_initial line = not (list_all is_label_character (label_field line)) || 
 abbrev pub is_wrong_continuation : Option ℕ → Line → Bool
 is_wrong_continuation place line = is_none place || not (list_all is_blank (label_field line))
 
-abbrev pub is_wrong : Cause → Option ℕ → Line → Bool
+abbrev pub is_wrong : LineCause → Option ℕ → Line → Bool
 is_wrong BadByte place line = list_any is_bad_byte line.columns
 is_wrong Tab place line = list_any is_tab line.columns
 is_wrong LineForm place line = if is_initial line then is_wrong_initial line else is_wrong_continuation place line
@@ -164,7 +176,7 @@ IsWrong-many before line e =
     let s = place_of-Some before 19 (full_from_is_full (place_after None before) p.1) in
     IsTwentieth s.front s.initial s.others s.split s.begins s.goes_on s.count p.0
 
-pub IsWrong-from_test : (c : Cause) (before : List Line) (line : Line) → is_wrong c (place_after None before) line ≡ true → IsWrong before line c
+pub IsWrong-from_test : (c : LineCause) (before : List Line) (line : Line) → is_wrong c (place_after None before) line ≡ true → IsWrong before line c
 IsWrong-from_test BadByte before line e = HoldsBadByte e
 IsWrong-from_test Tab before line e = HoldsTab e
 IsWrong-from_test LineForm before line e = IsWrong-form_by (is_initial line) before line refl e
@@ -176,7 +188,7 @@ form_initial place line i e = cond-true (is_initial line) _ _ i ∙ e
 form_continuation : (place : Option ℕ) (line : Line) → IsTrue (is_continuation line) → is_wrong_continuation place line ≡ true → is_wrong LineForm place line ≡ true
 form_continuation place line i e = cond-false (is_initial line) _ _ (not-true (is_initial line) i) ∙ e
 
-pub test_from_IsWrong : (c : Cause) (before : List Line) (line : Line) → IsWrong before line c → is_wrong c (place_after None before) line ≡ true
+pub test_from_IsWrong : (c : LineCause) (before : List Line) (line : Line) → IsWrong before line c → is_wrong c (place_after None before) line ≡ true
 test_from_IsWrong _ before line (HoldsBadByte h) = h
 test_from_IsWrong _ before line (HoldsTab h) = h
 test_from_IsWrong _ before line (HasNoInitialLine i h) =
@@ -191,12 +203,12 @@ test_from_IsWrong _ before line (IsTwentieth front initial others split begins g
 
 -- ---- the first line at which a cause holds
 
-abbrev pub first_wrong : Cause → Option ℕ → List Line → Option ℕ
+abbrev pub first_wrong : LineCause → Option ℕ → List Line → Option ℕ
 first_wrong c place [] = None
 first_wrong c place (l ∷ ls) = if is_wrong c place l then Some l.number else first_wrong c (after_line place l) ls
 
 -- the cause holds at a line with the number k
-record IsFound (c : Cause) (place : Option ℕ) (ls : List Line) (k : ℕ) : Type 0 where
+record IsFound (c : LineCause) (place : Option ℕ) (ls : List Line) (k : ℕ) : Type 0 where
   before : List Line
   line : Line
   after : List Line
@@ -204,13 +216,13 @@ record IsFound (c : Cause) (place : Option ℕ) (ls : List Line) (k : ℕ) : Typ
   wrong : is_wrong c (place_after place before) line ≡ true
   number : line.number ≡ k
 
-IsFound-cons : (c : Cause) (place : Option ℕ) (l : Line) (ls : List Line) (k : ℕ) → IsFound c (after_line place l) ls k → IsFound c place (l ∷ ls) k
+IsFound-cons : (c : LineCause) (place : Option ℕ) (l : Line) (ls : List Line) (k : ℕ) → IsFound c (after_line place l) ls k → IsFound c place (l ∷ ls) k
 IsFound-cons c place l ls k f = record { before = l ∷ f.before; line = f.line; after = f.after; split = ap (λ xs. l ∷ xs) f.split; wrong = f.wrong; number = f.number }
 
-IsFound-here : (c : Cause) (place : Option ℕ) (l : Line) (ls : List Line) → is_wrong c place l ≡ true → IsFound c place (l ∷ ls) l.number
+IsFound-here : (c : LineCause) (place : Option ℕ) (l : Line) (ls : List Line) → is_wrong c place l ≡ true → IsFound c place (l ∷ ls) l.number
 IsFound-here c place l ls e = record { before = []; line = l; after = ls; split = refl; wrong = e; number = refl }
 
-IsFound-cases_by : (c : Cause) (place : Option ℕ) (l : Line) (ls before : List Line) (line : Line) (after : List Line) (k : ℕ) → l ∷ ls ≡ before ++ line ∷ after
+IsFound-cases_by : (c : LineCause) (place : Option ℕ) (l : Line) (ls before : List Line) (line : Line) (after : List Line) (k : ℕ) → l ∷ ls ≡ before ++ line ∷ after
     → is_wrong c (place_after place before) line ≡ true → line.number ≡ k → (is_wrong c place l ≡ true × (l.number ≡ k)) ⊎ IsFound c (after_line place l) ls k
 IsFound-cases_by c place l ls [] line after k e w n =
     let same : line ≡ l = cc in
@@ -220,11 +232,11 @@ IsFound-cases_by c place l ls (b ∷ bs) line after k e w n =
     let rest : ls ≡ bs ++ line ∷ after = cc in
     inr (record { before = bs; line = line; after = after; split = rest; wrong = subst (λ (x : Line). is_wrong c (place_after (after_line place x) bs) line ≡ true) same w; number = n })
 
-IsFound-cases : (c : Cause) (place : Option ℕ) (l : Line) (ls : List Line) (k : ℕ) → IsFound c place (l ∷ ls) k
+IsFound-cases : (c : LineCause) (place : Option ℕ) (l : Line) (ls : List Line) (k : ℕ) → IsFound c place (l ∷ ls) k
     → (is_wrong c place l ≡ true × (l.number ≡ k)) ⊎ IsFound c (after_line place l) ls k
 IsFound-cases c place l ls k f = IsFound-cases_by c place l ls f.before f.line f.after k f.split f.wrong f.number
 
-IsFound-none : (c : Cause) (place : Option ℕ) (k : ℕ) (before : List Line) (line : Line) (after : List Line) → [] ≡ before ++ line ∷ after → ⊥
+IsFound-none : (c : LineCause) (place : Option ℕ) (k : ℕ) (before : List Line) (line : Line) (after : List Line) → [] ≡ before ++ line ∷ after → ⊥
 IsFound-none c place k [] line after e = cc
 IsFound-none c place k (b ∷ bs) line after e = cc
 
@@ -254,14 +266,14 @@ RiseFrom-statement_lines : (n : ℕ) (text : List ℕ) → RiseFrom n (statement
 unfolding statement_lines_from
 RiseFrom-statement_lines n text = RiseFrom-filter (λ line. not (is_comment line.columns)) n (numbered n (lines text)) (RiseFrom-numbered n (lines text))
 
-RiseFrom-IsFound : (c : Cause) (place : Option ℕ) (n k : ℕ) (ls : List Line) → RiseFrom n ls → IsFound c place ls k → n ≤ k
+RiseFrom-IsFound : (c : LineCause) (place : Option ℕ) (n k : ℕ) (ls : List Line) → RiseFrom n ls → IsFound c place ls k → n ≤ k
 RiseFrom-IsFound c place n k [] r f = absurd (IsFound-none c place k f.before f.line f.after f.split)
 RiseFrom-IsFound c place n k (l ∷ ls) r f =
     elim (IsFound-cases c place l ls k f) [ inl h ↦ omega (arith, r.0, h.1) | inr g ↦ omega (arith, r.0, RiseFrom-IsFound c (after_line place l) (l.number + 1) k ls r.1 g) ]
 
 -- ---- what the first line says
 
-first_wrong-Some_by : (b : Bool) (c : Cause) (place : Option ℕ) (l : Line) (ls : List Line) (k : ℕ) → is_wrong c place l ≡ b
+first_wrong-Some_by : (b : Bool) (c : LineCause) (place : Option ℕ) (l : Line) (ls : List Line) (k : ℕ) → is_wrong c place l ≡ b
     → (first_wrong c (after_line place l) ls ≡ Some k → IsFound c (after_line place l) ls k)
     → cond b (Some l.number) (first_wrong c (after_line place l) ls) ≡ Some k → IsFound c place (l ∷ ls) k
 first_wrong-Some_by true c place l ls k w h e =
@@ -269,23 +281,23 @@ first_wrong-Some_by true c place l ls k w h e =
     subst (IsFound c place (l ∷ ls)) same (IsFound-here c place l ls w)
 first_wrong-Some_by false c place l ls k w h e = IsFound-cons c place l ls k (h e)
 
-first_wrong-Some : (c : Cause) (place : Option ℕ) (ls : List Line) (k : ℕ) → first_wrong c place ls ≡ Some k → IsFound c place ls k
+first_wrong-Some : (c : LineCause) (place : Option ℕ) (ls : List Line) (k : ℕ) → first_wrong c place ls ≡ Some k → IsFound c place ls k
 first_wrong-Some c place [] k e = cc
 first_wrong-Some c place (l ∷ ls) k e = first_wrong-Some_by (is_wrong c place l) c place l ls k refl (first_wrong-Some c (after_line place l) ls k) e
 
-first_wrong-None_by : (b : Bool) (c : Cause) (place : Option ℕ) (l : Line) (ls : List Line) (j : ℕ) → is_wrong c place l ≡ b
+first_wrong-None_by : (b : Bool) (c : LineCause) (place : Option ℕ) (l : Line) (ls : List Line) (j : ℕ) → is_wrong c place l ≡ b
     → (first_wrong c (after_line place l) ls ≡ None → IsFound c (after_line place l) ls j → ⊥)
     → cond b (Some l.number) (first_wrong c (after_line place l) ls) ≡ None → (is_wrong c place l ≡ true × (l.number ≡ j)) ⊎ IsFound c (after_line place l) ls j → ⊥
 first_wrong-None_by true c place l ls j w h e f = cc
 first_wrong-None_by false c place l ls j w h e (inl f) = both_ways (is_wrong c place l) w f.0
 first_wrong-None_by false c place l ls j w h e (inr f) = h e f
 
-first_wrong-None : (c : Cause) (place : Option ℕ) (ls : List Line) (j : ℕ) → first_wrong c place ls ≡ None → IsFound c place ls j → ⊥
+first_wrong-None : (c : LineCause) (place : Option ℕ) (ls : List Line) (j : ℕ) → first_wrong c place ls ≡ None → IsFound c place ls j → ⊥
 first_wrong-None c place [] j e f = IsFound-none c place j f.before f.line f.after f.split
 first_wrong-None c place (l ∷ ls) j e f =
     first_wrong-None_by (is_wrong c place l) c place l ls j refl (first_wrong-None c (after_line place l) ls j) e (IsFound-cases c place l ls j f)
 
-first_wrong-least_by : (b : Bool) (c : Cause) (place : Option ℕ) (l : Line) (ls : List Line) (j k : ℕ) → is_wrong c place l ≡ b → RiseFrom (l.number + 1) ls
+first_wrong-least_by : (b : Bool) (c : LineCause) (place : Option ℕ) (l : Line) (ls : List Line) (j k : ℕ) → is_wrong c place l ≡ b → RiseFrom (l.number + 1) ls
     → (first_wrong c (after_line place l) ls ≡ Some k → IsFound c (after_line place l) ls j → k ≤ j)
     → cond b (Some l.number) (first_wrong c (after_line place l) ls) ≡ Some k → (is_wrong c place l ≡ true × (l.number ≡ j)) ⊎ IsFound c (after_line place l) ls j → k ≤ j
 first_wrong-least_by true c place l ls j k w r h e (inl f) =
@@ -295,64 +307,64 @@ first_wrong-least_by true c place l ls j k w r h e (inr f) =
 first_wrong-least_by false c place l ls j k w r h e (inl f) = absurd (both_ways (is_wrong c place l) w f.0)
 first_wrong-least_by false c place l ls j k w r h e (inr f) = h e f
 
-first_wrong-least : (c : Cause) (place : Option ℕ) (n : ℕ) (ls : List Line) (j k : ℕ) → RiseFrom n ls → first_wrong c place ls ≡ Some k → IsFound c place ls j → k ≤ j
+first_wrong-least : (c : LineCause) (place : Option ℕ) (n : ℕ) (ls : List Line) (j k : ℕ) → RiseFrom n ls → first_wrong c place ls ≡ Some k → IsFound c place ls j → k ≤ j
 first_wrong-least c place n [] j k r e f = cc
 first_wrong-least c place n (l ∷ ls) j k r e f =
     first_wrong-least_by (is_wrong c place l) c place l ls j k refl r.1 (first_wrong-least c (after_line place l) (l.number + 1) ls j k r.1) e (IsFound-cases c place l ls j f)
 
 -- ---- the refusal that is answered
 
-abbrev pub found_or : Cause → Option ℕ → Option Refusal → Option Refusal
+abbrev pub found_or : LineCause → Option ℕ → Option Refusal → Option Refusal
 found_or c None more = more
-found_or c (Some k) more = Some (refusal (number_of c) k)
+found_or c (Some k) more = Some (refusal_at (cause_of_line c) k)
 
 -- the first line of the first of these causes that holds
-abbrev pub first_cause : List Cause → List Line → Option Refusal
+abbrev pub first_cause : List LineCause → List Line → Option Refusal
 first_cause [] ls = None
 first_cause (c ∷ cs) ls = found_or c (first_wrong c None ls) (first_cause cs ls)
 
-abbrev pub causes : List Cause
+abbrev pub causes : List LineCause
 causes = BadByte ∷ Tab ∷ LineForm ∷ ManyLines ∷ []
 
 unfoldable pub refusal_of : List ℕ → Option Refusal
-refusal_of text = if nat_lt (2 ^ 20) (length text) then Some (refusal 1 0) else first_cause causes (statement_lines text)
+refusal_of text = if nat_lt (2 ^ 20) (length text) then Some (refusal_at causes'.TooLong 0) else first_cause causes (statement_lines text)
 
 -- of the answers to each cause, the first
-record IsFirst (answer : Cause → Option ℕ) (r : Refusal) : Type 0 where
-  cause : Cause
+record IsFirst (answer : LineCause → Option ℕ) (r : Refusal) : Type 0 where
+  cause : LineCause
   line : ℕ
   found : answer cause ≡ Some line
-  is : r ≡ refusal (number_of cause) line
-  earlier : (d : Cause) → number_of d < number_of cause → answer d ≡ None
+  is : r ≡ refusal_at (cause_of_line cause) line
+  earlier : (d : LineCause) → number_of d < number_of cause → answer d ≡ None
 
-abbrev first_of : (Cause → Option ℕ) → List Cause → Option Refusal
+abbrev first_of : (LineCause → Option ℕ) → List LineCause → Option Refusal
 first_of answer [] = None
 first_of answer (c ∷ cs) = found_or c (answer c) (first_of answer cs)
 
-first_cause_is : (cs : List Cause) (ls : List Line) → first_cause cs ls ≡ first_of (λ c. first_wrong c None ls) cs
+first_cause_is : (cs : List LineCause) (ls : List Line) → first_cause cs ls ≡ first_of (λ c. first_wrong c None ls) cs
 first_cause_is [] ls = refl
 first_cause_is (c ∷ cs) ls = ap (found_or c (first_wrong c None ls)) (first_cause_is cs ls)
 
-module _ (answer : Cause → Option ℕ) (r : Refusal) where
-  before_many : (d : Cause) → answer BadByte ≡ None → answer Tab ≡ None → answer LineForm ≡ None → number_of d < 5 → answer d ≡ None
+module _ (answer : LineCause → Option ℕ) (r : Refusal) where
+  before_many : (d : LineCause) → answer BadByte ≡ None → answer Tab ≡ None → answer LineForm ≡ None → number_of d < 5 → answer d ≡ None
   before_many BadByte p q s h = p
   before_many Tab p q s h = q
   before_many LineForm p q s h = s
   before_many ManyLines p q s h = absurd (omega (arith, h))
 
-  before_form : (d : Cause) → answer BadByte ≡ None → answer Tab ≡ None → number_of d < 4 → answer d ≡ None
+  before_form : (d : LineCause) → answer BadByte ≡ None → answer Tab ≡ None → number_of d < 4 → answer d ≡ None
   before_form BadByte p q h = p
   before_form Tab p q h = q
   before_form LineForm p q h = absurd (omega (arith, h))
   before_form ManyLines p q h = absurd (omega (arith, h))
 
-  before_tab : (d : Cause) → answer BadByte ≡ None → number_of d < 3 → answer d ≡ None
+  before_tab : (d : LineCause) → answer BadByte ≡ None → number_of d < 3 → answer d ≡ None
   before_tab BadByte p h = p
   before_tab Tab p h = absurd (omega (arith, h))
   before_tab LineForm p h = absurd (omega (arith, h))
   before_tab ManyLines p h = absurd (omega (arith, h))
 
-  before_bad : (d : Cause) → number_of d < 2 → answer d ≡ None
+  before_bad : (d : LineCause) → number_of d < 2 → answer d ≡ None
   before_bad BadByte h = absurd (omega (arith, h))
   before_bad Tab h = absurd (omega (arith, h))
   before_bad LineForm h = absurd (omega (arith, h))
@@ -374,14 +386,14 @@ module _ (answer : Cause → Option ℕ) (r : Refusal) where
   at_bad None e h = at_tab (answer Tab) refl e h
   at_bad (Some k) e h = record { cause = BadByte; line = k; found = e; is = cc; earlier = λ d g. before_bad d g }
 
-first_of-Some : (answer : Cause → Option ℕ) (r : Refusal) → first_of answer causes ≡ Some r → IsFirst answer r
+first_of-Some : (answer : LineCause → Option ℕ) (r : Refusal) → first_of answer causes ≡ Some r → IsFirst answer r
 first_of-Some answer r h = at_bad answer r (answer BadByte) refl h
 
-found_or-None : (c : Cause) (a : Option ℕ) (more : Option Refusal) → found_or c a more ≡ None → (a ≡ None) × (more ≡ None)
+found_or-None : (c : LineCause) (a : Option ℕ) (more : Option Refusal) → found_or c a more ≡ None → (a ≡ None) × (more ≡ None)
 found_or-None c None more e = (refl, e)
 found_or-None c (Some k) more e = cc
 
-first_of-None : (answer : Cause → Option ℕ) → first_of answer causes ≡ None → (c : Cause) → answer c ≡ None
+first_of-None : (answer : LineCause → Option ℕ) → first_of answer causes ≡ None → (c : LineCause) → answer c ≡ None
 first_of-None answer e BadByte = (found_or-None BadByte (answer BadByte) _ e).0
 first_of-None answer e Tab = (found_or-None Tab (answer Tab) _ (found_or-None BadByte (answer BadByte) _ e).1).0
 first_of-None answer e LineForm =
@@ -393,18 +405,18 @@ first_of-None answer e ManyLines =
 
 -- what a cause that holds is
 abbrev HoldsAs : List ℕ → Refusal → Type 0
-HoldsAs text s = ((2 ^ 20 < length text) × (s ≡ refusal 1 0)) ⊎ ((c : Cause) × (k : ℕ) × IsFound c None (statement_lines text) k × (s ≡ refusal (number_of c) k))
+HoldsAs text s = ((2 ^ 20 < length text) × (s ≡ refusal_at causes'.TooLong 0)) ⊎ ((c : LineCause) × (k : ℕ) × IsFound c None (statement_lines text) k × (s ≡ refusal_at (cause_of_line c) k))
 
 HasCause-cases : (text : List ℕ) (s : Refusal) → HasCause text s → HoldsAs text s
 HasCause-cases text _ (TooLong h) = inl (h, refl)
 HasCause-cases text _ (AtLine c before line after e w) =
     inr (c, line.number, record { before = before; line = line; after = after; split = e; wrong = test_from_IsWrong c before line w; number = refl }, refl)
 
-HasCause-IsFound : (text : List ℕ) (c : Cause) (k : ℕ) → IsFound c None (statement_lines text) k → HasCause text (refusal (number_of c) k)
+HasCause-IsFound : (text : List ℕ) (c : LineCause) (k : ℕ) → IsFound c None (statement_lines text) k → HasCause text (refusal_at (cause_of_line c) k)
 HasCause-IsFound text c k f =
-    subst (λ n. HasCause text (refusal (number_of c) n)) f.number (AtLine c f.before f.line f.after f.split (IsWrong-from_test c f.before f.line f.wrong))
+    subst (λ n. HasCause text (refusal_at (cause_of_line c) n)) f.number (AtLine c f.before f.line f.after f.split (IsWrong-from_test c f.before f.line f.wrong))
 
-same_cause : (c d : Cause) → number_of c ≡ number_of d → c ≡ d
+same_cause : (c d : LineCause) → number_of c ≡ number_of d → c ≡ d
 same_cause BadByte BadByte e = refl
 same_cause BadByte Tab e = absurd (omega (arith, e))
 same_cause BadByte LineForm e = absurd (omega (arith, e))
@@ -422,7 +434,7 @@ same_cause ManyLines Tab e = absurd (omega (arith, e))
 same_cause ManyLines LineForm e = absurd (omega (arith, e))
 same_cause ManyLines ManyLines e = refl
 
-line_number_least : (c : Cause) → 2 ≤ number_of c
+line_number_least : (c : LineCause) → 2 ≤ number_of c
 line_number_least BadByte = omega arith
 line_number_least Tab = omega arith
 line_number_least LineForm = omega arith
@@ -432,8 +444,8 @@ line_number_least ManyLines = omega arith
 follows : (r s : Refusal) → r.line ≤ s.line → r.word ≤ s.word → (r.line < s.line) ⊎ ((r.line ≡ s.line) × (r.word ≤ s.word))
 follows r s h g = elim (cases_lt r.line s.line) [ inl lt ↦ inl lt | inr le ↦ inr (omega arith, g) ]
 
-too_long_first : (text : List ℕ) → 2 ^ 20 < length text → RefusedCards text (refusal 1 0)
-too_long_first text h = answered_by (HasCause text) (refusal 1 0) (TooLong h) (λ s g. least s (HasCause-cases text s g)) (λ s g e. follows (refusal 1 0) s (omega arith) (omega arith))
+too_long_first : (text : List ℕ) → 2 ^ 20 < length text → RefusedCards text (refusal_at causes'.TooLong 0)
+too_long_first text h = answered_by (HasCause text) (refusal_at causes'.TooLong 0) (TooLong h) (λ s g. least s (HasCause-cases text s g)) (λ s g e. follows (refusal_at causes'.TooLong 0) s (omega arith) (omega arith))
   where
     least : (s : Refusal) → HoldsAs text s → 1 ≤ s.number
     least s (inl g) = omega (arith, ap (λ (x : Refusal). x.number) g.1)
@@ -452,21 +464,21 @@ module _ (text : List ℕ) (short : length text ≤ 2 ^ 20) (r : Refusal) (f : I
   first_number s (inl g) e = absurd (omega (arith, g.0, short))
   first_number s (inr g) e =
       let same : g.0 ≡ f.cause = same_cause g.0 f.cause (omega (arith, e, ap (λ (x : Refusal). x.number) g.3)) in
-      let found : IsFound f.cause None (statement_lines text) g.1 = subst (λ (c : Cause). IsFound c None (statement_lines text) g.1) same g.2 in
+      let found : IsFound f.cause None (statement_lines text) g.1 = subst (λ (c : LineCause). IsFound c None (statement_lines text) g.1) same g.2 in
       omega (arith, first_wrong-least f.cause None 1 (statement_lines text) g.1 f.line (RiseFrom-statement_lines 1 text) f.found found, ap (λ (x : Refusal). x.line) g.3)
 
-  first_answered : RefusedCards text (refusal (number_of f.cause) f.line)
+  first_answered : RefusedCards text (refusal_at (cause_of_line f.cause) f.line)
   first_answered =
-      answered_by (HasCause text) (refusal (number_of f.cause) f.line)
+      answered_by (HasCause text) (refusal_at (cause_of_line f.cause) f.line)
       (HasCause-IsFound text f.cause f.line (first_wrong-Some f.cause None (statement_lines text) f.line f.found))
       (λ s g. least_number s (HasCause-cases text s g))
-      (λ s g e. follows (refusal (number_of f.cause) f.line) s (first_number s (HasCause-cases text s g) e) (omega arith))
+      (λ s g e. follows (refusal_at (cause_of_line f.cause) f.line) s (first_number s (HasCause-cases text s g) e) (let w = no_word f.cause in omega (arith, w)))
 
 -- ---- the answer to a text
 
-refusal_of-Some_by : (b : Bool) (text : List ℕ) (r : Refusal) → nat_lt (2 ^ 20) (length text) ≡ b → cond b (Some (refusal 1 0)) (first_cause causes (statement_lines text)) ≡ Some r → RefusedCards text r
+refusal_of-Some_by : (b : Bool) (text : List ℕ) (r : Refusal) → nat_lt (2 ^ 20) (length text) ≡ b → cond b (Some (refusal_at causes'.TooLong 0)) (first_cause causes (statement_lines text)) ≡ Some r → RefusedCards text r
 refusal_of-Some_by true text r long e =
-    let same : refusal 1 0 ≡ r = cc in
+    let same : refusal_at causes'.TooLong 0 ≡ r = cc in
     subst (RefusedCards text) same (too_long_first text (ltb-true (2 ^ 20) (length text) long))
 refusal_of-Some_by false text r short e =
     let f : IsFirst (λ c. first_wrong c None (statement_lines text)) r = first_of-Some (λ c. first_wrong c None (statement_lines text)) r (sym (first_cause_is causes (statement_lines text)) ∙ e) in
@@ -476,11 +488,11 @@ pub refusal_of-Some : (text : List ℕ) (r : Refusal) → refusal_of text ≡ So
 unfolding refusal_of
 refusal_of-Some text r e = refusal_of-Some_by (nat_lt (2 ^ 20) (length text)) text r refl e
 
-none_holds : (text : List ℕ) → length text ≤ 2 ^ 20 → ((c : Cause) → first_wrong c None (statement_lines text) ≡ None) → (s : Refusal) → HoldsAs text s → ⊥
+none_holds : (text : List ℕ) → length text ≤ 2 ^ 20 → ((c : LineCause) → first_wrong c None (statement_lines text) ≡ None) → (s : Refusal) → HoldsAs text s → ⊥
 none_holds text short none s (inl g) = omega (arith, g.0, short)
 none_holds text short none s (inr g) = first_wrong-None g.0 None (statement_lines text) g.1 (none g.0) g.2
 
-refusal_of-None_by : (b : Bool) (text : List ℕ) → nat_lt (2 ^ 20) (length text) ≡ b → cond b (Some (refusal 1 0)) (first_cause causes (statement_lines text)) ≡ None → (s : Refusal) → HasCause text s → ⊥
+refusal_of-None_by : (b : Bool) (text : List ℕ) → nat_lt (2 ^ 20) (length text) ≡ b → cond b (Some (refusal_at causes'.TooLong 0)) (first_cause causes (statement_lines text)) ≡ None → (s : Refusal) → HasCause text s → ⊥
 refusal_of-None_by true text long e s h = cc
 refusal_of-None_by false text short e s h =
     none_holds text (ltb-false (2 ^ 20) (length text) short)

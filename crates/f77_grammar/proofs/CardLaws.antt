@@ -2,9 +2,11 @@
 use Rattle.std.proofs.Common.{arith, ◌≡◌, ℕ, ◌^◌, ◌≤◌, List, [], ◌∷◌, length, refl, ap, sym, ◌∙◌, subst, inl, inr, ◌⊎◌, Option, None, Some}
 use Rattle.std.specs.Prelude.{map}
 use Rattle.std.proofs.lemmas.Bool.{cases_Bool, cases_lt, not_from_false}
+use Rattle.fv_tree.specs.Causes.{refusal_at}
+use Rattle.fv_tree.specs.declared.refusals.Cause.TheVariants as causes'
 use Rattle.fv_tree.specs.declared.refusals.Refusal.{Refusal}
-use Rattle.f77_grammar.specs.Cards.{Line, PlainCard, HasCause, RefusedCards, ReadsCards, is_initial, card_in, number_of, refusal, statement_lines}
-use Rattle.f77_grammar.specs.Cards.Cause.{LineForm}
+use Rattle.f77_grammar.specs.Cards.{Line, PlainCard, HasCause, RefusedCards, ReadsCards, is_initial, card_in, cause_of_line, statement_lines}
+use Rattle.f77_grammar.specs.Cards.LineCause.{LineForm}
 use Rattle.f77_grammar.specs.Cards.IsWrong.{HasNoInitialLine}
 use Rattle.f77_grammar.specs.Cards.HasCause.{TooLong, AtLine}
 use Rattle.f77_grammar.proofs.Answered.{one_answer}
@@ -17,7 +19,7 @@ no_orphan_by text [] e none = refl
 no_orphan_by text (l ∷ ls) e none =
     elim (cases_Bool (is_initial l)) [
       | inl i ↦ leading-initial l ls i
-      | inr i ↦ absurd (none (refusal (number_of LineForm) l.number) (AtLine LineForm [] l ls e (HasNoInitialLine (not_from_false (is_initial l) i) refl)))
+      | inr i ↦ absurd (none (refusal_at (cause_of_line LineForm) l.number) (AtLine LineForm [] l ls e (HasNoInitialLine (not_from_false (is_initial l) i) refl)))
     ]
 
 pub no_orphan : (text : List ℕ) → ((r : Refusal) → HasCause text r → ⊥) → leading (statement_lines text) ≡ []
@@ -29,7 +31,7 @@ ReadsCards-from_none text none = record { are_cards = AreCards-grouped text (no_
 -- what a source keeps that isn't refused
 pub unrefused_short : (text : List ℕ) → refusal_of text ≡ None → length text ≤ 2 ^ 20
 unrefused_short text e =
-    elim (cases_lt (2 ^ 20) (length text)) [ inl long ↦ absurd (refusal_of-None text e (refusal 1 0) (TooLong long)) | inr short ↦ short ]
+    elim (cases_lt (2 ^ 20) (length text)) [ inl long ↦ absurd (refusal_of-None text e (refusal_at causes'.TooLong 0) (TooLong long)) | inr short ↦ short ]
 
 pub unrefused_front : (text : List ℕ) → refusal_of text ≡ None → leading (statement_lines text) ≡ []
 unrefused_front text e = no_orphan text (refusal_of-None text e)

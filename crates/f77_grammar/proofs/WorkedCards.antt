@@ -1,8 +1,10 @@
 -- Decks in fixed form with their statements and refusals, worked out.
 use Rattle.std.proofs.Common.{ℕ, List, [], ◌∷◌, ◌++◌, refl, None, Some}
 use Rattle.std.specs.Prelude.{codes, replicate}
-use Rattle.f77_grammar.specs.Cards.{AreCards, HasCause, columns_of, is_comment, is_initial, is_label_character, statement_lines_from, label_in, card_in, refusal}
-use Rattle.f77_grammar.specs.Cards.Cause.{Tab, LineForm}
+use Rattle.fv_tree.specs.Causes.{refusal_at}
+use Rattle.fv_tree.specs.declared.refusals.Cause.TheVariants as causes
+use Rattle.f77_grammar.specs.Cards.{AreCards, HasCause, columns_of, is_comment, is_initial, is_label_character, statement_lines_from, label_in, card_in}
+use Rattle.f77_grammar.specs.Cards.LineCause.{Tab, LineForm}
 use Rattle.f77_grammar.specs.Cards.IsWrong.{HoldsTab, HasNoLabel}
 use Rattle.f77_grammar.specs.Cards.HasCause.{AtLine}
 
@@ -36,11 +38,11 @@ unfolding statement_lines_from
 nothing = record { statements = []; each = refl; in_order = refl; cards_are = refl }
 
 -- a tab among blanks makes no comment line, and is refused at its line
-tab_alone : HasCause (line [] (line (32 ∷ 9 ∷ []) [])) (refusal 3 2)
+tab_alone : HasCause (line [] (line (32 ∷ 9 ∷ []) [])) (refusal_at causes.Tab 2)
 unfolding statement_lines_from columns_of is_comment
 tab_alone = AtLine Tab [] (record { number = 2; columns = 32 ∷ 9 ∷ replicate 70 32 }) [] refl (HoldsTab refl)
 
 -- an exclamation mark in column 1 begins no comment
-exclamation_mark : HasCause (codes "! END") (refusal 4 1)
+exclamation_mark : HasCause (codes "! END") (refusal_at causes.LineForm 1)
 unfolding statement_lines_from columns_of is_comment is_initial is_label_character
 exclamation_mark = AtLine LineForm [] (record { number = 1; columns = codes "! END" ++ replicate 67 32 }) [] refl (HasNoLabel refl refl)

@@ -1,11 +1,15 @@
 -- Fixed form (ANSI X3.9-1978, section 3): the statements that the lines of a source are, and the refusals of lines.
 -- Bytes are named by their codes: 9 is a tab, 32 a blank and 48 the digit 0.
-use Rattle.std.specs.Prelude.{◌≡◌, ℕ, ◌+◌, ◌^◌, ◌<◌, Bool, not, ◌&&◌, ◌||◌, ◌==◌, nat_lt, IsTrue, List, [], ◌∷◌}
+use Rattle.std.specs.Prelude.{◌≡◌, ℕ, ◌+◌, ◌<◌, Bool, not, ◌&&◌, ◌||◌, ◌==◌, nat_lt, IsTrue, List, [], ◌∷◌}
 use Rattle.std.specs.Prelude.{◌++◌, length, take, drop, replicate, map, filter, slice_index, codes, Option, None, Some}
 use Rattle.std.specs.Char.{is_ascii_digit}
 use Rattle.std.specs.List.{list_any, list_all, flat_map}
 use Rattle.std.specs.Str.Lines.{lines}
 use Rattle.std.specs.Str.Parse.{digits_value}
+use Rattle.fv_tree.specs.Causes.{refusal_at}
+use Rattle.fv_tree.specs.Limits.{source_bytes, continuation_lines}
+use Rattle.fv_tree.specs.declared.refusals.Cause.{Cause}
+use Rattle.fv_tree.specs.declared.refusals.Cause.TheVariants as causes
 use Rattle.fv_tree.specs.declared.refusals.Refusal.{Refusal}
 use Rattle.f77_grammar.specs.Answered.{IsAnswered}
 
@@ -113,17 +117,17 @@ unfoldable pub is_label_character : ℕ → Bool
 is_label_character c = is_blank c || is_ascii_digit c
 
 -- What may be wrong with a line.
-pub data Cause : Type 0 where
-  BadByte Tab LineForm ManyLines : Cause
+pub data LineCause : Type 0 where
+  BadByte Tab LineForm ManyLines : LineCause
 
-abbrev pub number_of : Cause → ℕ
-number_of BadByte = 2
-number_of Tab = 3
-number_of LineForm = 4
-number_of ManyLines = 5
+abbrev pub cause_of_line : LineCause → Cause
+cause_of_line BadByte = causes.BadByte
+cause_of_line Tab = causes.Tab
+cause_of_line LineForm = causes.LineForm
+cause_of_line ManyLines = causes.ManyLines
 
 -- What is wrong with a line, where `before` are the lines before it that are no comment lines.
-pub data IsWrong (before : List Line) (line : Line) : Cause → Type 0 where
+pub data IsWrong (before : List Line) (line : Line) : LineCause → Type 0 where
   HoldsBadByte : IsTrue (list_any is_bad_byte line.columns) → IsWrong before line BadByte
   HoldsTab : IsTrue (list_any is_tab line.columns) → IsWrong before line Tab
   -- a continuation line that no initial line comes before
@@ -141,18 +145,15 @@ pub data IsWrong (before : List Line) (line : Line) : Cause → Type 0 where
   -- the twentieth continuation line of a statement
   IsTwentieth : (front : List Line) (initial : Line) (others : List Line) → before ≡ front ++ initial ∷ others
       → IsTrue (is_initial initial)
-      → IsTrue (list_all is_continuation others) → length others ≡ 19 → IsTrue (is_continuation line)
+      → IsTrue (list_all is_continuation others) → length others ≡ continuation_lines → IsTrue (is_continuation line)
           → IsWrong before line ManyLines
 
-abbrev pub refusal : ℕ → ℕ → Refusal
-refusal number line = record { number = number; line = line; word = 0 }
-
--- A cause that holds, with its number and line: the source is too long, or something is wrong with a line.
+-- A cause that holds, with its line: the source is too long, or something is wrong with a line.
 pub data HasCause (text : List ℕ) : Refusal → Type 0 where
-  TooLong : 2 ^ 20 < length text → HasCause text (refusal 1 0)
-  AtLine : (cause : Cause) (before : List Line) (line : Line) (after : List Line)
+  TooLong : source_bytes < length text → HasCause text (refusal_at causes.TooLong 0)
+  AtLine : (cause : LineCause) (before : List Line) (line : Line) (after : List Line)
       → statement_lines text ≡ before ++ line ∷ after
-      → IsWrong before line cause → HasCause text (refusal (number_of cause) line.number)
+      → IsWrong before line cause → HasCause text (refusal_at (cause_of_line cause) line.number)
 
 abbrev pub RefusedCards : List ℕ → Refusal → Type 0
 RefusedCards text = IsAnswered (HasCause text)

@@ -6,12 +6,13 @@ use Rattle.fv_tree.specs.declared.ops.Kind.{Kind}
 use Rattle.fv_tree.specs.declared.ops.Kind.TheVariants.{Integer, Logical}
 use Rattle.fv_tree.specs.declared.ops.Value.{Value}
 use Rattle.fv_tree.specs.declared.ops.Value.TheVariants.{Int, Truth}
-use Rattle.fv_tree.specs.declared.ops.Fun.{Fun}
+use Rattle.fv_tree.specs.declared.functions.Fun.{Fun}
 use Rattle.fv_tree.specs.Plain as tree
 use Rattle.fv_tree.specs.Plain.{Expression, Number, Logic, Named, Unary, Binary, Subscript, Only, Subscripts, no_subscripts, subscript, Item, Single, Constant, ImpliedDo, Items, no_items, item}
 use Rattle.fv_meaning.specs.Store.{Store}
-use Rattle.fv_meaning.specs.Names.{function_named, name_of_function}
-use Rattle.fv_meaning.specs.Typed77.{operand_kind, kind_of_result, is_unary, number_of_subscripts}
+use Rattle.fv_tree.specs.Functions.{function_named, name_of_function}
+use Rattle.fv_tree.specs.OperatorTable.{operand_kind, result_kind_of, is_unary}
+use Rattle.fv_meaning.specs.Typed77.{number_of_subscripts}
 use Rattle.fv_meaning.specs.Calls.{calls_in, calls_in_each, calls_in_subscripts, calls_in_subscript, calls_in_item, calls_in_items, calls_in_statement, calls_in_arms, calls_in_block}
 use Rattle.f77_grammar.specs.expressions.Printing.{IsSource, IsSourceSubscript, AreSource}
 use Rattle.f77_grammar.specs.Statement77.{Labelled, Statement77, Program, Declare, Dimension, Constants, Assign, Go, Test, If, ElseIf, Else, EndIf, Do, Continue, Stop, Read, Print, End}
@@ -85,12 +86,12 @@ module _ (us : List Use) (s : Store) (P : List ℕ → Type 0) where
         let f : list_has_kind us x (suc (number_of_subscripts ps)) k ≡ true = sym (ap (λ m. name_has_kind us x m k) (one-add (number_of_subscripts ps))) ∙ front in
         list_called x (is_array us x) (resolved_subscripts us s (subscript p ps)) refl (listed x (suc (number_of_subscripts ps)) k f) u.0.heard
         (subscripts_called (subscript p ps) h.1 u.1 (right_true (name_has_kind us x (1 + number_of_subscripts ps) k) (are_subscripts us (subscript p ps)) g))
-    called (Unary o a) k h u g = called a (operand_kind o) h.1 u (right_true (is_unary o && same_kind (kind_of_result o) k) (has_kind us a (operand_kind o)) g)
+    called (Unary o a) k h u g = called a (operand_kind o) h.1 u (right_true (is_unary o && same_kind (result_kind_of o) k) (has_kind us a (operand_kind o)) g)
     called (Binary o a b) k h u g =
-        let front = left_true (not (is_unary o) && same_kind (kind_of_result o) k && has_kind us a (operand_kind o)) (has_kind us b (operand_kind o)) g in
+        let front = left_true (not (is_unary o) && same_kind (result_kind_of o) k && has_kind us a (operand_kind o)) (has_kind us b (operand_kind o)) g in
         both (calls_in (resolved us s a)) (calls_in (resolved us s b))
-        (called a (operand_kind o) h.1 (all_left IsHeard (uses_in a) (uses_in b) u) (right_true (not (is_unary o) && same_kind (kind_of_result o) k) (has_kind us a (operand_kind o)) front))
-        (called b (operand_kind o) h.2 (all_right IsHeard (uses_in a) (uses_in b) u) (right_true (not (is_unary o) && same_kind (kind_of_result o) k && has_kind us a (operand_kind o)) (has_kind us b (operand_kind o)) g))
+        (called a (operand_kind o) h.1 (all_left IsHeard (uses_in a) (uses_in b) u) (right_true (not (is_unary o) && same_kind (result_kind_of o) k) (has_kind us a (operand_kind o)) front))
+        (called b (operand_kind o) h.2 (all_right IsHeard (uses_in a) (uses_in b) u) (right_true (not (is_unary o) && same_kind (result_kind_of o) k && has_kind us a (operand_kind o)) (has_kind us b (operand_kind o)) g))
     called e k h u g = absurd h
 
     subscripts_called : (ps : Subscripts) → AreSource ps → AreHeard (uses_in_subscripts ps) → are_subscripts us ps ≡ true → All (calls_in_subscripts (resolved_subscripts us s ps))

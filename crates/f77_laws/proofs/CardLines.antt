@@ -5,9 +5,10 @@ use Rattle.std.specs.List.{AllByRecursion, list_any}
 use Rattle.std.specs.Str.Lines.{lines}
 use Rattle.std.proofs.lemmas.Bool.{ltb-false}
 use Rattle.std.proofs.lemmas.List.{append_assoc, take-append-drop}
+use Rattle.fv_tree.specs.Causes.{refusal_at}
 use Rattle.fv_tree.specs.declared.refusals.Refusal.{Refusal}
-use Rattle.f77_grammar.specs.Cards.{Line, HasCause, columns_of, is_bad_byte, is_tab, is_comment, number_of, numbered, refusal, statement_field, statement_lines, statement_lines_from}
-use Rattle.f77_grammar.specs.Cards.Cause.{BadByte, Tab}
+use Rattle.f77_grammar.specs.Cards.{Line, HasCause, columns_of, is_bad_byte, is_tab, is_comment, cause_of_line, numbered, statement_field, statement_lines, statement_lines_from}
+use Rattle.f77_grammar.specs.Cards.LineCause.{BadByte, Tab}
 use Rattle.f77_grammar.specs.Cards.IsWrong.{HoldsBadByte, HoldsTab}
 use Rattle.f77_grammar.specs.Cards.HasCause.{AtLine}
 use Rattle.f77_laws.proofs.Lists.{left_false, right_false, all_right, all_both, all_weaker, none_any}
@@ -39,8 +40,8 @@ column_characters : (text : List ℕ) (before ls : List Line) → statement_line
 column_characters text before [] e none = tt
 column_characters text before (l ∷ ls) e none = (
   characters l.columns
-      (none_any is_bad_byte l.columns (denied (list_any is_bad_byte l.columns) (λ h. none (refusal (number_of BadByte) l.number) (AtLine BadByte before l ls e (HoldsBadByte h)))))
-      (none_any is_tab l.columns (denied (list_any is_tab l.columns) (λ h. none (refusal (number_of Tab) l.number) (AtLine Tab before l ls e (HoldsTab h))))),
+      (none_any is_bad_byte l.columns (denied (list_any is_bad_byte l.columns) (λ h. none (refusal_at (cause_of_line BadByte) l.number) (AtLine BadByte before l ls e (HoldsBadByte h)))))
+      (none_any is_tab l.columns (denied (list_any is_tab l.columns) (λ h. none (refusal_at (cause_of_line Tab) l.number) (AtLine Tab before l ls e (HoldsTab h))))),
   column_characters text (before ++ l ∷ []) ls (e ∙ sym (append_assoc before (l ∷ []) ls)) none,
 )
 

@@ -156,11 +156,11 @@ module _ (d : Dialect) (us : List Use) where
     value_kind (Named x (subscript p ps)) k v h g = absurd (no_element x p ps v g)
     value_kind (Unary o a) k v h g =
         unary_kind o (value_of d a s) v g
-        ∙ kinds_same (kind_of_result o) k (right_true (is_unary o) (same_kind (kind_of_result o) k) (left_true (is_unary o && same_kind (kind_of_result o) k) (has_kind us a (operand_kind o)) h))
+        ∙ kinds_same (result_kind_of o) k (right_true (is_unary o) (same_kind (result_kind_of o) k) (left_true (is_unary o && same_kind (result_kind_of o) k) (has_kind us a (operand_kind o)) h))
     value_kind (Binary o a b) k v h g =
         binary_kind o (value_of d a s) (value_of d b s) v g
-        ∙ kinds_same (kind_of_result o) k (right_true (not (is_unary o)) (same_kind (kind_of_result o) k) (left_true (not (is_unary o) && same_kind (kind_of_result o) k) (has_kind us a (operand_kind o))
-        (left_true (not (is_unary o) && same_kind (kind_of_result o) k && has_kind us a (operand_kind o)) (has_kind us b (operand_kind o)) h)))
+        ∙ kinds_same (result_kind_of o) k (right_true (not (is_unary o)) (same_kind (result_kind_of o) k) (left_true (not (is_unary o) && same_kind (result_kind_of o) k) (has_kind us a (operand_kind o))
+        (left_true (not (is_unary o) && same_kind (result_kind_of o) k && has_kind us a (operand_kind o)) (has_kind us b (operand_kind o)) h)))
     value_kind (Apply f es) k v h g = call_kind (values_of d es s) f v g ∙ kinds_same Integer k (right_true (suits_number f (number_of_arguments es)) (same_kind Integer k) (left_true (suits_number f (number_of_arguments es) && same_kind Integer k) (are_arguments us es) h))
     value_kind e k v h g = absurd cc
 

@@ -7,7 +7,10 @@ use Rattle.fv_tree.specs.declared.refusals.Refusal.{Refusal}
 use Rattle.fv_meaning.specs.Dialect.{Dialect}
 use Rattle.f77_grammar.specs.Statement77.{Labelled}
 use Rattle.f77_grammar.specs.program.Text.{Place, places, places_from}
-use Rattle.f77_grammar.specs.program.Program77.{Cause, Label, Nesting, NoEnd, Declared, RealName, TypeClash, Jump, DoVariable, ManyNames, ManyBlocks, ReversedBounds, ManyElements, BadConstant, all_causes, number_of_cause, word_of_cause, finding, findings_of, findings}
+use Rattle.fv_tree.specs.Causes.{number_of_cause, word_of_cause, refusal_at}
+use Rattle.fv_tree.specs.declared.refusals.Cause.{Cause}
+use Rattle.fv_tree.specs.declared.refusals.Cause.TheVariants.{Label, Nesting, NoEnd, Declared, RealName, TypeClash, Jump, DoVariable, ManyNames, ManyBlocks, ReversedBounds, ManyElements, BadConstant}
+use Rattle.f77_grammar.specs.program.Program77.{program_causes, findings_of, findings}
 use Rattle.f77_grammar.specs.Answered.{comes_before}
 use Rattle.f77_laws.specs.Source.{AreRising}
 use Rattle.f77_laws.specs.FirstFinding.{holds_in, HoldsFirst, RefusalIsFirst, FirstIsRefused}
@@ -52,20 +55,22 @@ found_there test (p ∷ ps) q h = by (test p) refl (found_there test ps q) h
 
 -- ---- findings
 
-any_cause : (c : Cause) → Contains all_causes c
-any_cause Label = (0, omega arith, refl)
-any_cause Nesting = (1, omega arith, refl)
-any_cause NoEnd = (2, omega arith, refl)
-any_cause Declared = (3, omega arith, refl)
-any_cause RealName = (4, omega arith, refl)
-any_cause TypeClash = (5, omega arith, refl)
-any_cause Jump = (6, omega arith, refl)
-any_cause DoVariable = (7, omega arith, refl)
-any_cause ManyNames = (8, omega arith, refl)
-any_cause ManyBlocks = (9, omega arith, refl)
-any_cause ReversedBounds = (10, omega arith, refl)
-any_cause ManyElements = (11, omega arith, refl)
-any_cause BadConstant = (12, omega arith, refl)
+-- what holds anywhere is a cause of a program's statements
+any_cause : (d : Dialect) (text : List Labelled) (p : Place) (c : Cause) → holds_in d text c p ≡ true → Contains program_causes c
+any_cause d text p Label h = (0, omega arith, refl)
+any_cause d text p Nesting h = (1, omega arith, refl)
+any_cause d text p NoEnd h = (2, omega arith, refl)
+any_cause d text p Declared h = (3, omega arith, refl)
+any_cause d text p RealName h = (4, omega arith, refl)
+any_cause d text p TypeClash h = (5, omega arith, refl)
+any_cause d text p Jump h = (6, omega arith, refl)
+any_cause d text p DoVariable h = (7, omega arith, refl)
+any_cause d text p ManyNames h = (8, omega arith, refl)
+any_cause d text p ManyBlocks h = (9, omega arith, refl)
+any_cause d text p ReversedBounds h = (10, omega arith, refl)
+any_cause d text p ManyElements h = (11, omega arith, refl)
+any_cause d text p BadConstant h = (12, omega arith, refl)
+any_cause d text p c h = absurd cc
 
 mapped : (f : Place → Refusal) (ps : List Place) (p : Place) → Contains ps p → Contains (map f ps) (f p)
 mapped f [] p c = absurd (nowhere p c)
@@ -91,43 +96,43 @@ from_mapped f (q ∷ qs) r c = by (from_mapped f qs r) (cases_of (f q) (map f qs
 -- a finding of a text, with the first place at which its cause holds
 record IsFinding (d : Dialect) (text : List Labelled) (r : Refusal) : Type 0 where
   cause : Cause
-  is : r ≡ finding cause r.line
+  is : r ≡ refusal_at cause r.line
   first : ℕ
   holds : HoldsFirst d text cause first
   soon : first ≤ r.line
 
 finding_of : (d : Dialect) (x : Labelled) (xs : List Labelled) (r : Refusal) → AreRising (x ∷ xs) → Contains (findings d (x ∷ xs)) r → IsFinding d (x ∷ xs) r
-finding_of d x xs r h c = by (from_flat (findings_of d (x ∷ xs)) all_causes r c)
+finding_of d x xs r h c = by (from_flat (findings_of d (x ∷ xs)) program_causes r c)
   where
     text : List Labelled
     text = x ∷ xs
 
-    by : FromFlat (findings_of d (x ∷ xs)) all_causes r → IsFinding d (x ∷ xs) r
+    by : FromFlat (findings_of d (x ∷ xs)) program_causes r → IsFinding d (x ∷ xs) r
     by f =
-        let m = from_mapped (λ (p : Place). finding f.it p.here.line) (filter (holds_in d (x ∷ xs) f.it) (places (x ∷ xs))) r f.gives in
+        let m = from_mapped (λ (p : Place). refusal_at f.it p.here.line) (filter (holds_in d (x ∷ xs) f.it) (places (x ∷ xs))) r f.gives in
         let p = passed_by (holds_in d (x ∷ xs) f.it) (places (x ∷ xs)) m.place m.among in
         let q = first_place (holds_in d (x ∷ xs) f.it) [] (x ∷ xs) m.place h p.among p.passes in
         let l = ap (λ (o : Refusal). o.line) m.is in
         record {
           cause = f.it;
-          is = sym m.is ∙ ap (finding f.it) l;
+          is = sym m.is ∙ ap (refusal_at f.it) l;
           first = q.place.here.line;
           holds = ap (option_map (λ (o : Place). o.here.line)) q.is;
           soon = (let s = q.soon in omega (arith, s, l));
         }
 
 -- where a cause holds first there is a finding
-first_found : (d : Dialect) (x : Labelled) (xs : List Labelled) (c : Cause) (line : ℕ) → HoldsFirst d (x ∷ xs) c line → Contains (findings d (x ∷ xs)) (finding c line)
+first_found : (d : Dialect) (x : Labelled) (xs : List Labelled) (c : Cause) (line : ℕ) → HoldsFirst d (x ∷ xs) c line → Contains (findings d (x ∷ xs)) (refusal_at c line)
 first_found d x xs c line h = by (find (holds_in d (x ∷ xs) c) (places (x ∷ xs))) refl h
   where
-    by : (o : Option Place) → find (holds_in d (x ∷ xs) c) (places (x ∷ xs)) ≡ o → option_map (λ (p : Place). p.here.line) o ≡ Some line → Contains (findings d (x ∷ xs)) (finding c line)
+    by : (o : Option Place) → find (holds_in d (x ∷ xs) c) (places (x ∷ xs)) ≡ o → option_map (λ (p : Place). p.here.line) o ≡ Some line → Contains (findings d (x ∷ xs)) (refusal_at c line)
     by None e h = absurd cc
     by (Some q) e h =
         let l : q.here.line ≡ line = cc in
         let k = found_there (holds_in d (x ∷ xs) c) (places (x ∷ xs)) q e in
-        subst (λ (n : ℕ). Contains (findings d (x ∷ xs)) (finding c n)) l
-        (in_flat (findings_of d (x ∷ xs)) all_causes c (finding c q.here.line) (any_cause c)
-        (mapped (λ (p : Place). finding c p.here.line) (filter (holds_in d (x ∷ xs) c) (places (x ∷ xs))) q (kept_by (holds_in d (x ∷ xs) c) (places (x ∷ xs)) q k.among k.passes)))
+        subst (λ (n : ℕ). Contains (findings d (x ∷ xs)) (refusal_at c n)) l
+        (in_flat (findings_of d (x ∷ xs)) program_causes c (refusal_at c q.here.line) (any_cause d (x ∷ xs) q c k.passes)
+        (mapped (λ (p : Place). refusal_at c p.here.line) (filter (holds_in d (x ∷ xs) c) (places (x ∷ xs))) q (kept_by (holds_in d (x ∷ xs) c) (places (x ∷ xs)) q k.among k.passes)))
 
 -- ---- the laws
 
@@ -137,8 +142,8 @@ not_sooner n w l k h g = grind (arith, nat_tests)
 pub refusal_is_first : RefusalIsFirst
 refusal_is_first d x xs r h f =
     let k = finding_of d x xs r h f.holds in
-    let m = f.first (finding k.cause k.first) (first_found d x xs k.cause k.first k.holds) in
-    let same = not_sooner (number_of_cause k.cause) (word_of_cause k.cause) r.line k.first (sym (ap (comes_before (finding k.cause k.first)) k.is) ∙ m) k.soon in
+    let m = f.first (refusal_at k.cause k.first) (first_found d x xs k.cause k.first k.holds) in
+    let same = not_sooner (number_of_cause k.cause) (word_of_cause k.cause) r.line k.first (sym (ap (comes_before (refusal_at k.cause k.first)) k.is) ∙ m) k.soon in
     (k.cause, k.is, subst (λ (n : ℕ). HoldsFirst d (x ∷ xs) k.cause n) same k.holds)
 
 later_too : (n l w m k v j : ℕ) → (nat_lt n m || (n == m && (nat_lt l k || (l == k && nat_lt w v)))) ≡ false → l ≤ j → (nat_lt n m || (n == m && (nat_lt j k || (j == k && nat_lt w v)))) ≡ false
@@ -147,7 +152,7 @@ later_too n l w m k v j h g = grind (arith, nat_tests)
 pub first_is_refused : FirstIsRefused
 first_is_refused d x xs c line h f o = record { holds = first_found d x xs c line f; first = λ r m. at r (finding_of d x xs r h m) }
   where
-    at : (r : Refusal) → IsFinding d (x ∷ xs) r → comes_before r (finding c line) ≡ false
+    at : (r : Refusal) → IsFinding d (x ∷ xs) r → comes_before r (refusal_at c line) ≡ false
     at r k =
-        ap (λ (q : Refusal). comes_before q (finding c line)) k.is
+        ap (λ (q : Refusal). comes_before q (refusal_at c line)) k.is
         ∙ later_too (number_of_cause k.cause) k.first (word_of_cause k.cause) (number_of_cause c) line (word_of_cause c) r.line (o k.cause k.first k.holds) k.soon

@@ -13,7 +13,10 @@ use Rattle.f77_grammar.specs.program.Kinds.{has_unsuited_kind}
 use Rattle.f77_grammar.specs.program.Jumps.{has_wrong_jump}
 use Rattle.f77_grammar.specs.program.DoVariables.{has_wrong_do_variable}
 use Rattle.f77_grammar.specs.program.Limits.{constants_of, has_many_names, has_many_blocks, has_reversed_bounds, has_many_elements, has_bad_constant}
-use Rattle.f77_grammar.specs.program.Program77.{Cause, Label, Nesting, NoEnd, Declared, TypeClash, Jump, DoVariable, ManyNames, ManyBlocks, ReversedBounds, ManyElements, BadConstant, all_causes, holds_at, finding, findings_of, findings}
+use Rattle.fv_tree.specs.Causes.{refusal_at}
+use Rattle.fv_tree.specs.declared.refusals.Cause.{Cause}
+use Rattle.fv_tree.specs.declared.refusals.Cause.TheVariants.{Label, Nesting, NoEnd, Declared, TypeClash, Jump, DoVariable, ManyNames, ManyBlocks, ReversedBounds, ManyElements, BadConstant}
+use Rattle.f77_grammar.specs.program.Program77.{program_causes, holds_at, findings_of, findings}
 use Rattle.f77_laws.proofs.Lists.{none_left, left_false, right_false, all_at, all_of}
 
 -- the cause holds nowhere
@@ -31,13 +34,13 @@ nothing_right (x ∷ xs) ys h = absurd (let e = ap length h in omega arith)
 free_of : (d : Dialect) (text : List Labelled) (cs : List Cause) → flat_map (findings_of d text) cs ≡ [] → AllByRecursion (IsFree d text) cs
 free_of d text [] h = tt
 free_of d text (c ∷ cs) h = (
-  none_left (λ (p : Place). finding c p.here.line) (holds_at d c text (uses_in_text text) (constants_of d text)) (places text) (nothing_left (findings_of d text c) (flat_map (findings_of d text) cs) h),
+  none_left (λ (p : Place). refusal_at c p.here.line) (holds_at d c text (uses_in_text text) (constants_of d text)) (places text) (nothing_left (findings_of d text c) (flat_map (findings_of d text) cs) h),
   free_of d text cs (nothing_right (findings_of d text c) (flat_map (findings_of d text) cs) h),
 )
 
-pub sound : (d : Dialect) (text : List Labelled) → findings d text ≡ [] → AllByRecursion (IsFree d text) all_causes
+pub sound : (d : Dialect) (text : List Labelled) → findings d text ≡ [] → AllByRecursion (IsFree d text) program_causes
 sound d [] h = absurd (let e = ap length h in omega arith)
-sound d (x ∷ xs) h = free_of d (x ∷ xs) all_causes h
+sound d (x ∷ xs) h = free_of d (x ∷ xs) program_causes h
 
 -- nothing is wrong at a place, its values aside
 pub record IsRight (text : List Labelled) (p : Place) : Type 0 where
@@ -62,7 +65,7 @@ module _ (d : Dialect) (text : List Labelled) (e : findings d text ≡ []) where
   free_at : (c : Cause) (p : Place) → IsFree d text c → Contains (places text) p → holds_at d c text (uses_in_text text) (constants_of d text) p ≡ false
   free_at c p h m = all_at (λ (q : Place). holds_at d c text (uses_in_text text) (constants_of d text) q ≡ false) (places text) p h m
 
-  right_at : (p : Place) → Contains (places text) p → AllByRecursion (IsFree d text) all_causes → IsRight text p
+  right_at : (p : Place) → Contains (places text) p → AllByRecursion (IsFree d text) program_causes → IsRight text p
   right_at p m h =
       let nesting = free_at Nesting p h.1.0 m in
       record {
@@ -81,7 +84,7 @@ module _ (d : Dialect) (text : List Labelled) (e : findings d text ≡ []) where
   pub right : AllByRecursion (IsRight text) (places text)
   right = all_of (IsRight text) (places text) (λ p c. right_at p c (sound d text e))
 
-  values_at : (p : Place) → Contains (places text) p → AllByRecursion (IsFree d text) all_causes → HasValues d text p
+  values_at : (p : Place) → Contains (places text) p → AllByRecursion (IsFree d text) program_causes → HasValues d text p
   values_at p m h = record {
     bounds = free_at ReversedBounds p h.1.1.1.1.1.1.1.1.1.1.0 m;
     elements = free_at ManyElements p h.1.1.1.1.1.1.1.1.1.1.1.0 m;

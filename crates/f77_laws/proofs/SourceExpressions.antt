@@ -1,7 +1,6 @@
 -- What is read as an expression is such as cards give: its names are symbolic names, its literals are within range, and it isn't deep.
 use Rattle.std.proofs.Common.{◌≡◌, ℕ, ◌+◌, ◌<◌, ◌≤◌, max, nat_le, Bool, true, false, cond, IsTrue, List, [], ◌∷◌, ◌++◌, refl, sym, ap, subst, le-leb, arith}
 use Rattle.std.proofs.lemmas.Bool.{cond-true}
-use Rattle.fv_tree.specs.Spelling as spelling
 use Rattle.fv_tree.specs.declared.ops.Op.{Op}
 use Rattle.fv_tree.specs.declared.ops.Op.TheVariants.{Pow, Mul, Div, Add, Sub, Lt, Le, Eq, Ne, Gt, Ge, And, Or, Eqv, Neqv}
 use Rattle.fv_tree.specs.Plain.{Expression, Subscript, Only, subscripts}
@@ -56,24 +55,6 @@ same_right Eqv h = refl
 same_right Neqv h = refl
 same_right o h = absurd cc
 
-same_level : (o : Op) → IsTrue (stands_between o) → spelling.level_of o ≡ level_of o
-same_level Pow h = refl
-same_level Mul h = refl
-same_level Div h = refl
-same_level Add h = refl
-same_level Sub h = refl
-same_level Lt h = refl
-same_level Le h = refl
-same_level Eq h = refl
-same_level Ne h = refl
-same_level Gt h = refl
-same_level Ge h = refl
-same_level And h = refl
-same_level Or h = refl
-same_level Eqv h = refl
-same_level Neqv h = refl
-same_level o h = absurd cc
-
 -- ---- parentheses are needed where they are written, or nowhere
 
 bare : (least own n : ℕ) → least ≤ own → enclosed least own n ≡ n
@@ -115,7 +96,7 @@ mutual
       let k = (within_of b g.5).operand (right_least o) g.2 in
       let e = ap (λ l. enclosed l (printing.level (tree a)) (depth_of (tree a))) (same_left o g.0) in
       let f = ap (λ l. enclosed l (printing.level (tree b)) (depth_of (tree b))) (same_right o g.0) in
-      at_level (Joined o a b) (let l = same_level o g.0 in omega (arith, l)) (omega (arith, h, k, e, f))
+      at_level (Joined o a b) (omega arith) (omega (arith, h, k, e, f))
 
   lists_within : (ps : Phrases) → AreExpressions ps → depth_of_subscripts (subscripts (trees ps)) ≤ depths ps + 1
   lists_within (One p) g = let h = (within_of p g).whole in omega (arith, h)

@@ -2,6 +2,7 @@
 -- 12).
 use Rattle.std.specs.Prelude.{ℕ, ◌<◌, ◌≤◌, IsTrue, IfSome, List, [], ◌∷◌, length}
 use Rattle.std.specs.List.{AllByRecursion}
+use Rattle.fv_tree.specs.Limits.{expression_depth77, array_dimensions}
 use Rattle.fv_tree.specs.Plain.{Expression, Named, Item, Single, Constant, ImpliedDo, Items, no_items, item}
 use Rattle.f77_grammar.specs.Statement77.{Entity, NamedConstant, Statement77, Labelled, Program, Declare, Dimension}
 use Rattle.f77_grammar.specs.Statement77.{Constants, Assign, Go, Test, If, ElseIf, Else, EndIf, Do, Continue, Stop}
@@ -15,7 +16,7 @@ use Rattle.fv_meaning.specs.Profile77.{IsLine}
 -- ---- expressions and lists
 
 abbrev pub IsShallow : Expression → Type 0
-IsShallow e = IsSource e × (depth_of e ≤ 400)
+IsShallow e = IsSource e × (depth_of e ≤ expression_depth77)
 
 -- what is read into: a name, with or without a list in parentheses
 abbrev pub IsSourceVariable : Expression → Type 0
@@ -51,7 +52,7 @@ IsSourceLabel n = n < 100000
 
 pub record IsSourceEntity (e : Entity) : Type 0 where
   pub name : IsSymbolicName e.name
-  pub few : length e.bounds ≤ 7
+  pub few : length e.bounds ≤ array_dimensions
   pub bounds : AllByRecursion (λ (b : Expression × Expression). IsShallow b.0 × IsShallow b.1) e.bounds
 
 pub record IsSourceConstant (d : NamedConstant) : Type 0 where
@@ -64,8 +65,8 @@ IsSourceAction (Assign left e) = IsShallow (Named left.name left.subscripts) × 
 IsSourceAction (Go n) = IsSourceLabel n
 IsSourceAction Continue = Unit {0}
 IsSourceAction Stop = Unit {0}
-IsSourceAction (Read is) = AreSourceInputs is × (depth_of_items is ≤ 400)
-IsSourceAction (Print is) = AreSourceOutputs is × (depth_of_items is ≤ 400)
+IsSourceAction (Read is) = AreSourceInputs is × (depth_of_items is ≤ expression_depth77)
+IsSourceAction (Print is) = AreSourceOutputs is × (depth_of_items is ≤ expression_depth77)
 IsSourceAction (Program x) = ⊥
 IsSourceAction (Declare k es) = ⊥
 IsSourceAction (Dimension es) = ⊥

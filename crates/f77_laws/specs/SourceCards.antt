@@ -1,7 +1,8 @@
 -- Cards of a source (ANSI X3.9-1978, section 3), and that what they are read as is such as cards give.
-use Rattle.std.specs.Prelude.{◌≡◌, ℕ, ◌^◌, ◌<◌, ◌≤◌, List, [], ◌∷◌}
+use Rattle.std.specs.Prelude.{◌≡◌, ℕ, ◌<◌, ◌≤◌, List, [], ◌∷◌}
 use Rattle.std.specs.Option.{IfSome}
 use Rattle.std.specs.List.{AllByRecursion}
+use Rattle.fv_tree.specs.Limits.{source_bytes}
 use Rattle.f77_grammar.specs.Cards.{PlainCard, ReadsCards}
 use Rattle.f77_grammar.specs.Statement77.{Statement77, Labelled}
 use Rattle.f77_grammar.specs.statements.Reading.{ReadsStatement}
@@ -19,12 +20,12 @@ ReadStatementIsSource = (chars : List ℕ) (s : Statement77) → AreCardCharacte
 
 -- ---- cards
 
--- its line is one of those that a source of at most 2^20 bytes has
+-- its line is one of those that a source within the limit of bytes has
 pub record IsCard (card : PlainCard) : Type 0 where
   pub characters : AreCardCharacters card.chars
   pub label : IfSome card.label IsSourceLabel
   pub first : 1 ≤ card.line
-  pub last : card.line ≤ 2 ^ 20
+  pub last : card.line ≤ source_bytes
 
 -- each card stands on a later line than those before it
 abbrev pub AreRisingCards : List PlainCard → Type 0

@@ -1,8 +1,9 @@
 //! Why the lines of a source are refused.
 ghost use Rattle.std.specs.Prelude.{◌≡◌, ◌+◌, ◌^◌, ◌<◌, ◌≤◌, length, unwrap_or, None};
 ghost use Rattle.std.specs.List.{list_any, list_all};
-ghost use Rattle.f77_grammar.specs.Cards.Cause.{LineForm};
-ghost use Rattle.f77_grammar.specs.Cards.{statement_lines, refusal, number_of, is_bad_byte, is_tab, is_label_character};
+ghost use Rattle.fv_tree.specs.Causes.{refusal_at};
+ghost use Rattle.f77_grammar.specs.Cards.LineCause.{LineForm};
+ghost use Rattle.f77_grammar.specs.Cards.{statement_lines, cause_of_line, is_bad_byte, is_tab, is_label_character};
 ghost use Rattle.f77_grammar.proofs.CardCauses.{after_line, is_wrong, first_wrong, refusal_of};
 ghost use Rattle.fixed_form.specs.Source.{line_of, cause_of};
 
@@ -21,7 +22,7 @@ pub(crate) enum LineCause {
 impl LineCause {
     // The refusal of a source for it, at this line.
     fn at(self, line: u32) -> Refusal
-        ensures { result ≡ refusal (number_of (cause_of self)) line }
+        ensures { result ≡ refusal_at (cause_of_line (cause_of self)) line }
     {
         match self {
             LineCause::BadByte => Cause::BadByte.at(line),

@@ -5,10 +5,12 @@ use Rattle.fv_tree.specs.Plain.{Binary, Single, ImpliedDo, items}
 use Rattle.fv_tree.specs.declared.ops.Op.TheVariants.{Add, Eq}
 use Rattle.fv_tree.specs.declared.ops.Kind.TheVariants.{Integer, Logical}
 use Rattle.fv_meaning.specs.Dialect.{fortran77}
+use Rattle.fv_tree.specs.Causes.{refusal_at}
+use Rattle.fv_tree.specs.declared.refusals.Cause.TheVariants as causes
 use Rattle.f77_grammar.specs.Statement77.{Labelled, Declare, Constants, Assign, Go, Test, If, Else, EndIf, Do, Continue, Read, Print, End}
 use Rattle.f77_grammar.specs.program.Program77.{findings}
 use Rattle.fv_meaning.proofs.DeckWords.{n, v, to}
-use Rattle.f77_grammar.proofs.programs.Words.{s, l, scalar, array, constant, refusal}
+use Rattle.f77_grammar.proofs.programs.Words.{s, l, scalar, array, constant}
 use Rattle.f77_grammar.proofs.programs.Least.{least}
 
 --    10 CONTINUE
@@ -21,7 +23,7 @@ jump_back =
     ∷ s 3 (End)
     ∷ []
 
-jump_back_refused : least (findings fortran77 jump_back) ≡ Some (refusal 16 2 0)
+jump_back_refused : least (findings fortran77 jump_back) ≡ Some (refusal_at causes.Jump 2)
 jump_back_refused = refl
 
 --       I = 1
@@ -34,7 +36,7 @@ jump_to_itself =
     ∷ s 3 (End)
     ∷ []
 
-jump_to_itself_refused : least (findings fortran77 jump_to_itself) ≡ Some (refusal 16 2 0)
+jump_to_itself_refused : least (findings fortran77 jump_to_itself) ≡ Some (refusal_at causes.Jump 2)
 jump_to_itself_refused = refl
 
 --       GO TO 10
@@ -64,7 +66,7 @@ jump_into_loop =
     ∷ s 5 (End)
     ∷ []
 
-jump_into_loop_refused : least (findings fortran77 jump_into_loop) ≡ Some (refusal 16 1 0)
+jump_into_loop_refused : least (findings fortran77 jump_into_loop) ≡ Some (refusal_at causes.Jump 1)
 jump_into_loop_refused = refl
 
 --       GO TO 10
@@ -147,7 +149,7 @@ jump_to_shared_end =
     ∷ s 5 (End)
     ∷ []
 
-jump_to_shared_end_refused : least (findings fortran77 jump_to_shared_end) ≡ Some (refusal 16 2 0)
+jump_to_shared_end_refused : least (findings fortran77 jump_to_shared_end) ≡ Some (refusal_at causes.Jump 2)
 jump_to_shared_end_refused = refl
 
 --       GO TO 10
@@ -164,7 +166,7 @@ jump_into_arm =
     ∷ s 5 (End)
     ∷ []
 
-jump_into_arm_refused : least (findings fortran77 jump_into_arm) ≡ Some (refusal 16 1 0)
+jump_into_arm_refused : least (findings fortran77 jump_into_arm) ≡ Some (refusal_at causes.Jump 1)
 jump_into_arm_refused = refl
 
 --       IF (I .EQ. 2) THEN
@@ -183,7 +185,7 @@ jump_into_other_arm =
     ∷ s 6 (End)
     ∷ []
 
-jump_into_other_arm_refused : least (findings fortran77 jump_into_other_arm) ≡ Some (refusal 16 2 0)
+jump_into_other_arm_refused : least (findings fortran77 jump_into_other_arm) ≡ Some (refusal_at causes.Jump 2)
 jump_into_other_arm_refused = refl
 
 --       IF (I .EQ. 2) THEN
@@ -246,7 +248,7 @@ jump_to_end_if =
     ∷ s 4 (End)
     ∷ []
 
-jump_to_end_if_refused : least (findings fortran77 jump_to_end_if) ≡ Some (refusal 16 2 0)
+jump_to_end_if_refused : least (findings fortran77 jump_to_end_if) ≡ Some (refusal_at causes.Jump 2)
 jump_to_end_if_refused = refl
 
 --       DO 10 I = 1, 3
@@ -261,7 +263,7 @@ do_variable_assigned =
     ∷ s 4 (End)
     ∷ []
 
-do_variable_assigned_refused : least (findings fortran77 do_variable_assigned) ≡ Some (refusal 17 2 0)
+do_variable_assigned_refused : least (findings fortran77 do_variable_assigned) ≡ Some (refusal_at causes.DoVariable 2)
 do_variable_assigned_refused = refl
 
 --       DO 10 I = 1, 3
@@ -274,7 +276,7 @@ do_variable_assigned_last =
     ∷ s 3 (End)
     ∷ []
 
-do_variable_assigned_last_refused : least (findings fortran77 do_variable_assigned_last) ≡ Some (refusal 17 2 0)
+do_variable_assigned_last_refused : least (findings fortran77 do_variable_assigned_last) ≡ Some (refusal_at causes.DoVariable 2)
 do_variable_assigned_last_refused = refl
 
 --       DO 10 I = 1, 3
@@ -302,7 +304,7 @@ do_variable_read =
     ∷ s 3 (End)
     ∷ []
 
-do_variable_read_refused : least (findings fortran77 do_variable_read) ≡ Some (refusal 17 2 0)
+do_variable_read_refused : least (findings fortran77 do_variable_read) ≡ Some (refusal_at causes.DoVariable 2)
 do_variable_read_refused = refl
 
 --       DO 10 I = 1, 3
@@ -317,7 +319,7 @@ do_variable_twice =
     ∷ s 4 (End)
     ∷ []
 
-do_variable_twice_refused : least (findings fortran77 do_variable_twice) ≡ Some (refusal 17 2 0)
+do_variable_twice_refused : least (findings fortran77 do_variable_twice) ≡ Some (refusal_at causes.DoVariable 2)
 do_variable_twice_refused = refl
 
 --       LOGICAL L
@@ -332,7 +334,7 @@ do_variable_logical =
     ∷ s 4 (End)
     ∷ []
 
-do_variable_logical_refused : least (findings fortran77 do_variable_logical) ≡ Some (refusal 17 2 0)
+do_variable_logical_refused : least (findings fortran77 do_variable_logical) ≡ Some (refusal_at causes.DoVariable 2)
 do_variable_logical_refused = refl
 
 --       INTEGER L(3)
@@ -347,7 +349,7 @@ do_variable_array =
     ∷ s 4 (End)
     ∷ []
 
-do_variable_array_refused : least (findings fortran77 do_variable_array) ≡ Some (refusal 17 2 0)
+do_variable_array_refused : least (findings fortran77 do_variable_array) ≡ Some (refusal_at causes.DoVariable 2)
 do_variable_array_refused = refl
 
 --       PARAMETER (L = 1)
@@ -362,7 +364,7 @@ do_variable_constant =
     ∷ s 4 (End)
     ∷ []
 
-do_variable_constant_refused : least (findings fortran77 do_variable_constant) ≡ Some (refusal 17 2 0)
+do_variable_constant_refused : least (findings fortran77 do_variable_constant) ≡ Some (refusal_at causes.DoVariable 2)
 do_variable_constant_refused = refl
 
 --       DO 10 I = 1, 3
@@ -375,7 +377,7 @@ implied_do_variable_of_loop =
     ∷ s 3 (End)
     ∷ []
 
-implied_do_variable_of_loop_refused : least (findings fortran77 implied_do_variable_of_loop) ≡ Some (refusal 17 2 0)
+implied_do_variable_of_loop_refused : least (findings fortran77 implied_do_variable_of_loop) ≡ Some (refusal_at causes.DoVariable 2)
 implied_do_variable_of_loop_refused = refl
 
 --       DO 10 I = 1, 3
@@ -399,7 +401,7 @@ implied_do_variable_read_in_list =
     ∷ s 2 (End)
     ∷ []
 
-implied_do_variable_read_in_list_refused : least (findings fortran77 implied_do_variable_read_in_list) ≡ Some (refusal 17 1 0)
+implied_do_variable_read_in_list_refused : least (findings fortran77 implied_do_variable_read_in_list) ≡ Some (refusal_at causes.DoVariable 1)
 implied_do_variable_read_in_list_refused = refl
 
 --       PRINT *, (J, I = 1, I)

@@ -5,10 +5,12 @@ use Rattle.fv_tree.specs.Plain.{Logic, Binary, Single, items}
 use Rattle.fv_tree.specs.declared.ops.Op.TheVariants.{Add, Lt}
 use Rattle.fv_tree.specs.declared.ops.Kind.TheVariants.{Integer, Logical}
 use Rattle.fv_meaning.specs.Dialect.{fortran77}
+use Rattle.fv_tree.specs.Causes.{refusal_at}
+use Rattle.fv_tree.specs.declared.refusals.Cause.TheVariants as causes
 use Rattle.f77_grammar.specs.Statement77.{Labelled, Declare, Constants, Assign, Test, Do, Continue, Read, Print, End}
 use Rattle.f77_grammar.specs.program.Program77.{findings}
 use Rattle.fv_meaning.proofs.DeckWords.{n, v, at, to, to_element}
-use Rattle.f77_grammar.proofs.programs.Words.{s, l, scalar, array, constant, refusal}
+use Rattle.f77_grammar.proofs.programs.Words.{s, l, scalar, array, constant}
 use Rattle.f77_grammar.proofs.programs.Least.{least}
 
 --       LOGICAL L
@@ -21,7 +23,7 @@ sum_with_logical =
     ∷ s 3 (End)
     ∷ []
 
-sum_with_logical_refused : least (findings fortran77 sum_with_logical) ≡ Some (refusal 15 2 0)
+sum_with_logical_refused : least (findings fortran77 sum_with_logical) ≡ Some (refusal_at causes.TypeClash 2)
 sum_with_logical_refused = refl
 
 --       INTEGER L
@@ -45,7 +47,7 @@ relation_assigned =
     ∷ s 2 (End)
     ∷ []
 
-relation_assigned_refused : least (findings fortran77 relation_assigned) ≡ Some (refusal 15 1 0)
+relation_assigned_refused : least (findings fortran77 relation_assigned) ≡ Some (refusal_at causes.TypeClash 1)
 relation_assigned_refused = refl
 
 --       LOGICAL L
@@ -69,7 +71,7 @@ max_of_one =
     ∷ s 2 (End)
     ∷ []
 
-max_of_one_refused : least (findings fortran77 max_of_one) ≡ Some (refusal 15 1 0)
+max_of_one_refused : least (findings fortran77 max_of_one) ≡ Some (refusal_at causes.TypeClash 1)
 max_of_one_refused = refl
 
 --       I = MAX(1, 2)
@@ -91,7 +93,7 @@ abs_of_two =
     ∷ s 2 (End)
     ∷ []
 
-abs_of_two_refused : least (findings fortran77 abs_of_two) ≡ Some (refusal 15 1 0)
+abs_of_two_refused : least (findings fortran77 abs_of_two) ≡ Some (refusal_at causes.TypeClash 1)
 abs_of_two_refused = refl
 
 --       INTEGER K(3)
@@ -104,7 +106,7 @@ logical_subscript =
     ∷ s 3 (End)
     ∷ []
 
-logical_subscript_refused : least (findings fortran77 logical_subscript) ≡ Some (refusal 15 2 0)
+logical_subscript_refused : least (findings fortran77 logical_subscript) ≡ Some (refusal_at causes.TypeClash 2)
 logical_subscript_refused = refl
 
 --       IF (1) I = 2
@@ -115,7 +117,7 @@ integer_condition =
     ∷ s 2 (End)
     ∷ []
 
-integer_condition_refused : least (findings fortran77 integer_condition) ≡ Some (refusal 15 1 0)
+integer_condition_refused : least (findings fortran77 integer_condition) ≡ Some (refusal_at causes.TypeClash 1)
 integer_condition_refused = refl
 
 --       IF (.TRUE.) I = 2
@@ -139,7 +141,7 @@ whole_array_in_sum =
     ∷ s 3 (End)
     ∷ []
 
-whole_array_in_sum_refused : least (findings fortran77 whole_array_in_sum) ≡ Some (refusal 15 2 0)
+whole_array_in_sum_refused : least (findings fortran77 whole_array_in_sum) ≡ Some (refusal_at causes.TypeClash 2)
 whole_array_in_sum_refused = refl
 
 --       INTEGER K(3)
@@ -152,7 +154,7 @@ whole_array_assigned =
     ∷ s 3 (End)
     ∷ []
 
-whole_array_assigned_refused : least (findings fortran77 whole_array_assigned) ≡ Some (refusal 15 2 0)
+whole_array_assigned_refused : least (findings fortran77 whole_array_assigned) ≡ Some (refusal_at causes.TypeClash 2)
 whole_array_assigned_refused = refl
 
 --       INTEGER K(3)
@@ -176,7 +178,7 @@ call_assigned =
     ∷ s 2 (End)
     ∷ []
 
-call_assigned_refused : least (findings fortran77 call_assigned) ≡ Some (refusal 15 1 0)
+call_assigned_refused : least (findings fortran77 call_assigned) ≡ Some (refusal_at causes.TypeClash 1)
 call_assigned_refused = refl
 
 --       DO 10 I = 1, .TRUE.
@@ -189,7 +191,7 @@ logical_loop_bound =
     ∷ s 3 (End)
     ∷ []
 
-logical_loop_bound_refused : least (findings fortran77 logical_loop_bound) ≡ Some (refusal 15 1 0)
+logical_loop_bound_refused : least (findings fortran77 logical_loop_bound) ≡ Some (refusal_at causes.TypeClash 1)
 logical_loop_bound_refused = refl
 
 --       PARAMETER (N = .TRUE.)
@@ -200,7 +202,7 @@ logical_constant_of_integer_name =
     ∷ s 2 (End)
     ∷ []
 
-logical_constant_of_integer_name_refused : least (findings fortran77 logical_constant_of_integer_name) ≡ Some (refusal 15 1 0)
+logical_constant_of_integer_name_refused : least (findings fortran77 logical_constant_of_integer_name) ≡ Some (refusal_at causes.TypeClash 1)
 logical_constant_of_integer_name_refused = refl
 
 --       LOGICAL N
@@ -226,7 +228,7 @@ list_after_hiding_scalar =
     ∷ s 3 (End)
     ∷ []
 
-list_after_hiding_scalar_refused : least (findings fortran77 list_after_hiding_scalar) ≡ Some (refusal 15 2 0)
+list_after_hiding_scalar_refused : least (findings fortran77 list_after_hiding_scalar) ≡ Some (refusal_at causes.TypeClash 2)
 list_after_hiding_scalar_refused = refl
 
 --       INTEGER ABS
@@ -241,7 +243,7 @@ variable_abs_beside_iabs =
     ∷ s 4 (End)
     ∷ []
 
-variable_abs_beside_iabs_refused : least (findings fortran77 variable_abs_beside_iabs) ≡ Some (refusal 15 3 0)
+variable_abs_beside_iabs_refused : least (findings fortran77 variable_abs_beside_iabs) ≡ Some (refusal_at causes.TypeClash 3)
 variable_abs_beside_iabs_refused = refl
 
 --       INTEGER ABS
@@ -282,5 +284,5 @@ read_into_call =
     ∷ s 2 (End)
     ∷ []
 
-read_into_call_refused : least (findings fortran77 read_into_call) ≡ Some (refusal 15 1 0)
+read_into_call_refused : least (findings fortran77 read_into_call) ≡ Some (refusal_at causes.TypeClash 1)
 read_into_call_refused = refl

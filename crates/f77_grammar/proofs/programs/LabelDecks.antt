@@ -4,10 +4,12 @@ use lib.Chars.{codes}
 use Rattle.fv_tree.specs.Plain.{Binary}
 use Rattle.fv_tree.specs.declared.ops.Op.TheVariants.{Eq}
 use Rattle.fv_meaning.specs.Dialect.{fortran77}
+use Rattle.fv_tree.specs.Causes.{refusal_at}
+use Rattle.fv_tree.specs.declared.refusals.Cause.TheVariants as causes
 use Rattle.f77_grammar.specs.Statement77.{Labelled, Assign, Go, Test, Do, Continue, End}
 use Rattle.f77_grammar.specs.program.Program77.{findings}
 use Rattle.fv_meaning.proofs.DeckWords.{n, v, to}
-use Rattle.f77_grammar.proofs.programs.Words.{s, l, refusal}
+use Rattle.f77_grammar.proofs.programs.Words.{s, l}
 use Rattle.f77_grammar.proofs.programs.Least.{least}
 
 --     0 CONTINUE
@@ -18,7 +20,7 @@ label_zero =
     ∷ s 2 (End)
     ∷ []
 
-label_zero_refused : least (findings fortran77 label_zero) ≡ Some (refusal 10 1 0)
+label_zero_refused : least (findings fortran77 label_zero) ≡ Some (refusal_at causes.Label 1)
 label_zero_refused = refl
 
 --     1 CONTINUE
@@ -44,7 +46,7 @@ label_twice =
     ∷ s 4 (End)
     ∷ []
 
-label_twice_refused : least (findings fortran77 label_twice) ≡ Some (refusal 10 3 0)
+label_twice_refused : least (findings fortran77 label_twice) ≡ Some (refusal_at causes.Label 3)
 label_twice_refused = refl
 
 --    10 CONTINUE
@@ -72,7 +74,7 @@ go_to_nowhere =
     ∷ s 3 (End)
     ∷ []
 
-go_to_nowhere_refused : least (findings fortran77 go_to_nowhere) ≡ Some (refusal 10 2 0)
+go_to_nowhere_refused : least (findings fortran77 go_to_nowhere) ≡ Some (refusal_at causes.Label 2)
 go_to_nowhere_refused = refl
 
 --       I = 1
@@ -96,7 +98,7 @@ inner_go_to_nowhere =
     ∷ l 20 2 (End)
     ∷ []
 
-inner_go_to_nowhere_refused : least (findings fortran77 inner_go_to_nowhere) ≡ Some (refusal 10 1 0)
+inner_go_to_nowhere_refused : least (findings fortran77 inner_go_to_nowhere) ≡ Some (refusal_at causes.Label 1)
 inner_go_to_nowhere_refused = refl
 
 --       GO TO 0
@@ -107,7 +109,7 @@ go_to_zero =
     ∷ s 2 (End)
     ∷ []
 
-go_to_zero_refused : least (findings fortran77 go_to_zero) ≡ Some (refusal 10 1 0)
+go_to_zero_refused : least (findings fortran77 go_to_zero) ≡ Some (refusal_at causes.Label 1)
 go_to_zero_refused = refl
 
 --       DO 10 I = 1, 3
@@ -120,5 +122,5 @@ do_label_nowhere =
     ∷ s 3 (End)
     ∷ []
 
-do_label_nowhere_refused : least (findings fortran77 do_label_nowhere) ≡ Some (refusal 10 1 0)
+do_label_nowhere_refused : least (findings fortran77 do_label_nowhere) ≡ Some (refusal_at causes.Label 1)
 do_label_nowhere_refused = refl

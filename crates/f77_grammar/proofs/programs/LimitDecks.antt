@@ -4,10 +4,12 @@ use Rattle.fv_tree.specs.Plain.{Unary, Binary}
 use Rattle.fv_tree.specs.declared.ops.Op.TheVariants.{Div, Neg}
 use Rattle.fv_tree.specs.declared.ops.Kind.TheVariants.{Integer}
 use Rattle.fv_meaning.specs.Dialect.{fortran77}
+use Rattle.fv_tree.specs.Causes.{refusal_at}
+use Rattle.fv_tree.specs.declared.refusals.Cause.TheVariants as causes
 use Rattle.f77_grammar.specs.Statement77.{Labelled, Declare, Constants, End}
 use Rattle.f77_grammar.specs.program.Program77.{findings}
 use Rattle.fv_meaning.proofs.DeckWords.{n}
-use Rattle.f77_grammar.proofs.programs.Words.{s, array, constant, refusal}
+use Rattle.f77_grammar.proofs.programs.Words.{s, array, constant}
 use Rattle.f77_grammar.proofs.programs.Least.{least}
 
 --       INTEGER A(3:2)
@@ -18,7 +20,7 @@ bounds_turned =
     ∷ s 2 (End)
     ∷ []
 
-bounds_turned_refused : least (findings fortran77 bounds_turned) ≡ Some (refusal 18 1 43)
+bounds_turned_refused : least (findings fortran77 bounds_turned) ≡ Some (refusal_at causes.ReversedBounds 1)
 bounds_turned_refused = refl
 
 --       INTEGER A(2:2)
@@ -42,7 +44,7 @@ many_elements =
     ∷ s 3 (End)
     ∷ []
 
-many_elements_refused : least (findings fortran77 many_elements) ≡ Some (refusal 18 2 44)
+many_elements_refused : least (findings fortran77 many_elements) ≡ Some (refusal_at causes.ManyElements 2)
 many_elements_refused = refl
 
 --       INTEGER A(2048,2048)
@@ -64,7 +66,7 @@ constant_divided_by_zero =
     ∷ s 2 (End)
     ∷ []
 
-constant_divided_by_zero_refused : least (findings fortran77 constant_divided_by_zero) ≡ Some (refusal 18 1 45)
+constant_divided_by_zero_refused : least (findings fortran77 constant_divided_by_zero) ≡ Some (refusal_at causes.BadConstant 1)
 constant_divided_by_zero_refused = refl
 
 --       PARAMETER (N = 2147483648)
@@ -75,7 +77,7 @@ constant_past_range =
     ∷ s 2 (End)
     ∷ []
 
-constant_past_range_refused : least (findings fortran77 constant_past_range) ≡ Some (refusal 18 1 45)
+constant_past_range_refused : least (findings fortran77 constant_past_range) ≡ Some (refusal_at causes.BadConstant 1)
 constant_past_range_refused = refl
 
 --       PARAMETER (N = 2147483647)
@@ -97,7 +99,7 @@ bound_past_range =
     ∷ s 2 (End)
     ∷ []
 
-bound_past_range_refused : least (findings fortran77 bound_past_range) ≡ Some (refusal 18 1 45)
+bound_past_range_refused : least (findings fortran77 bound_past_range) ≡ Some (refusal_at causes.BadConstant 1)
 bound_past_range_refused = refl
 
 --       INTEGER A(-2147483649:1)
@@ -108,5 +110,5 @@ bound_below_range =
     ∷ s 2 (End)
     ∷ []
 
-bound_below_range_refused : least (findings fortran77 bound_below_range) ≡ Some (refusal 18 1 44)
+bound_below_range_refused : least (findings fortran77 bound_below_range) ≡ Some (refusal_at causes.ManyElements 1)
 bound_below_range_refused = refl

@@ -5,10 +5,12 @@ use Rattle.fv_tree.specs.Plain.{Binary, Single, items}
 use Rattle.fv_tree.specs.declared.ops.Op.TheVariants.{Add}
 use Rattle.fv_tree.specs.declared.ops.Kind.TheVariants.{Integer, Logical}
 use Rattle.fv_meaning.specs.Dialect.{fortran77}
+use Rattle.fv_tree.specs.Causes.{refusal_at}
+use Rattle.fv_tree.specs.declared.refusals.Cause.TheVariants as causes
 use Rattle.f77_grammar.specs.Statement77.{Labelled, Program, Declare, Dimension, Constants, Assign, Do, Read, Print, End}
 use Rattle.f77_grammar.specs.program.Program77.{findings}
 use Rattle.fv_meaning.proofs.DeckWords.{n, v, at, to}
-use Rattle.f77_grammar.proofs.programs.Words.{s, l, scalar, array, constant, refusal}
+use Rattle.f77_grammar.proofs.programs.Words.{s, l, scalar, array, constant}
 use Rattle.f77_grammar.proofs.programs.Least.{least}
 
 --       INTEGER A
@@ -21,7 +23,7 @@ two_types =
     ∷ s 3 (End)
     ∷ []
 
-two_types_refused : least (findings fortran77 two_types) ≡ Some (refusal 13 2 0)
+two_types_refused : least (findings fortran77 two_types) ≡ Some (refusal_at causes.Declared 2)
 two_types_refused = refl
 
 --       INTEGER I
@@ -34,7 +36,7 @@ two_equal_types =
     ∷ s 3 (End)
     ∷ []
 
-two_equal_types_refused : least (findings fortran77 two_equal_types) ≡ Some (refusal 13 2 0)
+two_equal_types_refused : least (findings fortran77 two_equal_types) ≡ Some (refusal_at causes.Declared 2)
 two_equal_types_refused = refl
 
 --       INTEGER A
@@ -58,7 +60,7 @@ two_types_in_one =
     ∷ s 2 (End)
     ∷ []
 
-two_types_in_one_refused : least (findings fortran77 two_types_in_one) ≡ Some (refusal 13 1 0)
+two_types_in_one_refused : least (findings fortran77 two_types_in_one) ≡ Some (refusal_at causes.Declared 1)
 two_types_in_one_refused = refl
 
 --       INTEGER A(3)
@@ -71,7 +73,7 @@ two_lists_of_bounds =
     ∷ s 3 (End)
     ∷ []
 
-two_lists_of_bounds_refused : least (findings fortran77 two_lists_of_bounds) ≡ Some (refusal 13 2 0)
+two_lists_of_bounds_refused : least (findings fortran77 two_lists_of_bounds) ≡ Some (refusal_at causes.Declared 2)
 two_lists_of_bounds_refused = refl
 
 --       INTEGER A
@@ -97,7 +99,7 @@ two_constants =
     ∷ s 3 (End)
     ∷ []
 
-two_constants_refused : least (findings fortran77 two_constants) ≡ Some (refusal 13 2 0)
+two_constants_refused : least (findings fortran77 two_constants) ≡ Some (refusal_at causes.Declared 2)
 two_constants_refused = refl
 
 --       PARAMETER (N = 1)
@@ -110,7 +112,7 @@ constant_with_bounds =
     ∷ s 3 (End)
     ∷ []
 
-constant_with_bounds_refused : least (findings fortran77 constant_with_bounds) ≡ Some (refusal 13 2 0)
+constant_with_bounds_refused : least (findings fortran77 constant_with_bounds) ≡ Some (refusal_at causes.Declared 2)
 constant_with_bounds_refused = refl
 
 --       PARAMETER (N = 1)
@@ -136,7 +138,7 @@ program_name_used =
     ∷ s 3 (End)
     ∷ []
 
-program_name_used_refused : least (findings fortran77 program_name_used) ≡ Some (refusal 13 2 0)
+program_name_used_refused : least (findings fortran77 program_name_used) ≡ Some (refusal_at causes.Declared 2)
 program_name_used_refused = refl
 
 --       PROGRAM P
@@ -162,7 +164,7 @@ program_max_calls_max =
     ∷ s 3 (End)
     ∷ []
 
-program_max_calls_max_refused : least (findings fortran77 program_max_calls_max) ≡ Some (refusal 13 2 0)
+program_max_calls_max_refused : least (findings fortran77 program_max_calls_max) ≡ Some (refusal_at causes.Declared 2)
 program_max_calls_max_refused = refl
 
 --       PROGRAM MAX
@@ -201,7 +203,7 @@ program_max_calls_max0 =
     ∷ s 3 (End)
     ∷ []
 
-program_max_calls_max0_refused : least (findings fortran77 program_max_calls_max0) ≡ Some (refusal 13 2 0)
+program_max_calls_max0_refused : least (findings fortran77 program_max_calls_max0) ≡ Some (refusal_at causes.Declared 2)
 program_max_calls_max0_refused = refl
 
 --       PROGRAM MAX0
@@ -214,7 +216,7 @@ program_max0_calls_max0 =
     ∷ s 3 (End)
     ∷ []
 
-program_max0_calls_max0_refused : least (findings fortran77 program_max0_calls_max0) ≡ Some (refusal 13 2 0)
+program_max0_calls_max0_refused : least (findings fortran77 program_max0_calls_max0) ≡ Some (refusal_at causes.Declared 2)
 program_max0_calls_max0_refused = refl
 
 --       PROGRAM MAX0
@@ -238,7 +240,7 @@ bound_from_variable =
     ∷ s 2 (End)
     ∷ []
 
-bound_from_variable_refused : least (findings fortran77 bound_from_variable) ≡ Some (refusal 13 1 0)
+bound_from_variable_refused : least (findings fortran77 bound_from_variable) ≡ Some (refusal_at causes.Declared 1)
 bound_from_variable_refused = refl
 
 --       INTEGER A(N)
@@ -251,7 +253,7 @@ bound_from_later_constant =
     ∷ s 3 (End)
     ∷ []
 
-bound_from_later_constant_refused : least (findings fortran77 bound_from_later_constant) ≡ Some (refusal 13 1 0)
+bound_from_later_constant_refused : least (findings fortran77 bound_from_later_constant) ≡ Some (refusal_at causes.Declared 1)
 bound_from_later_constant_refused = refl
 
 --       PARAMETER (N = 2)
@@ -286,7 +288,7 @@ constant_from_itself =
     ∷ s 2 (End)
     ∷ []
 
-constant_from_itself_refused : least (findings fortran77 constant_from_itself) ≡ Some (refusal 13 1 0)
+constant_from_itself_refused : least (findings fortran77 constant_from_itself) ≡ Some (refusal_at causes.Declared 1)
 constant_from_itself_refused = refl
 
 --       PARAMETER (N = MAX(1, 2))
@@ -297,7 +299,7 @@ call_in_constant =
     ∷ s 2 (End)
     ∷ []
 
-call_in_constant_refused : least (findings fortran77 call_in_constant) ≡ Some (refusal 13 1 0)
+call_in_constant_refused : least (findings fortran77 call_in_constant) ≡ Some (refusal_at causes.Declared 1)
 call_in_constant_refused = refl
 
 --       I = K(1)
@@ -308,7 +310,7 @@ list_after_scalar =
     ∷ s 2 (End)
     ∷ []
 
-list_after_scalar_refused : least (findings fortran77 list_after_scalar) ≡ Some (refusal 13 1 0)
+list_after_scalar_refused : least (findings fortran77 list_after_scalar) ≡ Some (refusal_at causes.Declared 1)
 list_after_scalar_refused = refl
 
 --       INTEGER K(1)
@@ -334,7 +336,7 @@ two_subscripts_for_one =
     ∷ s 3 (End)
     ∷ []
 
-two_subscripts_for_one_refused : least (findings fortran77 two_subscripts_for_one) ≡ Some (refusal 13 2 0)
+two_subscripts_for_one_refused : least (findings fortran77 two_subscripts_for_one) ≡ Some (refusal_at causes.Declared 2)
 two_subscripts_for_one_refused = refl
 
 --       PARAMETER (N = 1)
@@ -347,7 +349,7 @@ constant_assigned =
     ∷ s 3 (End)
     ∷ []
 
-constant_assigned_refused : least (findings fortran77 constant_assigned) ≡ Some (refusal 13 2 0)
+constant_assigned_refused : least (findings fortran77 constant_assigned) ≡ Some (refusal_at causes.Declared 2)
 constant_assigned_refused = refl
 
 --       PARAMETER (N = 1)
@@ -360,7 +362,7 @@ constant_read_into =
     ∷ s 3 (End)
     ∷ []
 
-constant_read_into_refused : least (findings fortran77 constant_read_into) ≡ Some (refusal 13 2 0)
+constant_read_into_refused : least (findings fortran77 constant_read_into) ≡ Some (refusal_at causes.Declared 2)
 constant_read_into_refused = refl
 
 --       PARAMETER (N = 1)
@@ -386,7 +388,7 @@ real_name =
     ∷ s 3 (End)
     ∷ []
 
-real_name_refused : least (findings fortran77 real_name) ≡ Some (refusal 14 2 0)
+real_name_refused : least (findings fortran77 real_name) ≡ Some (refusal_at causes.RealName 2)
 real_name_refused = refl
 
 --       I = 1
@@ -412,7 +414,7 @@ name_from_o =
     ∷ s 3 (End)
     ∷ []
 
-name_from_o_refused : least (findings fortran77 name_from_o) ≡ Some (refusal 14 2 0)
+name_from_o_refused : least (findings fortran77 name_from_o) ≡ Some (refusal_at causes.RealName 2)
 name_from_o_refused = refl
 
 --       PARAMETER (A = 1)
@@ -423,7 +425,7 @@ real_constant =
     ∷ s 2 (End)
     ∷ []
 
-real_constant_refused : least (findings fortran77 real_constant) ≡ Some (refusal 14 1 0)
+real_constant_refused : least (findings fortran77 real_constant) ≡ Some (refusal_at causes.RealName 1)
 real_constant_refused = refl
 
 --       PARAMETER (A = 1)
@@ -472,5 +474,5 @@ blanks_have_no_meaning_undeclared =
     ∷ s 5 (End)
     ∷ []
 
-blanks_have_no_meaning_undeclared_refused : least (findings fortran77 blanks_have_no_meaning_undeclared) ≡ Some (refusal 14 1 0)
+blanks_have_no_meaning_undeclared_refused : least (findings fortran77 blanks_have_no_meaning_undeclared) ≡ Some (refusal_at causes.RealName 1)
 blanks_have_no_meaning_undeclared_refused = refl

@@ -5,10 +5,12 @@ use Rattle.fv_tree.specs.Plain.{Binary, Single, items}
 use Rattle.fv_tree.specs.declared.ops.Op.TheVariants.{Add, Eq}
 use Rattle.fv_tree.specs.declared.ops.Kind.TheVariants.{Integer}
 use Rattle.fv_meaning.specs.Dialect.{fortran77}
+use Rattle.fv_tree.specs.Causes.{refusal_at}
+use Rattle.fv_tree.specs.declared.refusals.Cause.TheVariants as causes
 use Rattle.f77_grammar.specs.Statement77.{Labelled, Program, Declare, Assign, Go, Test, If, ElseIf, Else, EndIf, Do, Continue, Stop, Print, End}
 use Rattle.f77_grammar.specs.program.Program77.{findings}
 use Rattle.fv_meaning.proofs.DeckWords.{n, v, to}
-use Rattle.f77_grammar.proofs.programs.Words.{s, l, scalar, refusal}
+use Rattle.f77_grammar.proofs.programs.Words.{s, l, scalar}
 use Rattle.f77_grammar.proofs.programs.Least.{least}
 
 --       I = 1
@@ -21,7 +23,7 @@ program_second =
     ∷ s 3 (End)
     ∷ []
 
-program_second_refused : least (findings fortran77 program_second) ≡ Some (refusal 11 2 0)
+program_second_refused : least (findings fortran77 program_second) ≡ Some (refusal_at causes.Nesting 2)
 program_second_refused = refl
 
 --       PROGRAM P
@@ -47,7 +49,7 @@ declaration_late =
     ∷ s 3 (End)
     ∷ []
 
-declaration_late_refused : least (findings fortran77 declaration_late) ≡ Some (refusal 11 2 0)
+declaration_late_refused : least (findings fortran77 declaration_late) ≡ Some (refusal_at causes.Nesting 2)
 declaration_late_refused = refl
 
 --       INTEGER J
@@ -75,7 +77,7 @@ declaration_after_early_end =
     ∷ s 4 (End)
     ∷ []
 
-declaration_after_early_end_refused : least (findings fortran77 declaration_after_early_end) ≡ Some (refusal 11 3 0)
+declaration_after_early_end_refused : least (findings fortran77 declaration_after_early_end) ≡ Some (refusal_at causes.Nesting 3)
 declaration_after_early_end_refused = refl
 
 --       I = 1
@@ -90,7 +92,7 @@ if_left_open =
     ∷ s 4 (End)
     ∷ []
 
-if_left_open_refused : least (findings fortran77 if_left_open) ≡ Some (refusal 11 2 0)
+if_left_open_refused : least (findings fortran77 if_left_open) ≡ Some (refusal_at causes.Nesting 2)
 if_left_open_refused = refl
 
 --       I = 1
@@ -120,7 +122,7 @@ end_if_without_if =
     ∷ s 3 (End)
     ∷ []
 
-end_if_without_if_refused : least (findings fortran77 end_if_without_if) ≡ Some (refusal 11 2 0)
+end_if_without_if_refused : least (findings fortran77 end_if_without_if) ≡ Some (refusal_at causes.Nesting 2)
 end_if_without_if_refused = refl
 
 --    10 CONTINUE
@@ -133,7 +135,7 @@ do_label_before =
     ∷ s 3 (End)
     ∷ []
 
-do_label_before_refused : least (findings fortran77 do_label_before) ≡ Some (refusal 11 2 0)
+do_label_before_refused : least (findings fortran77 do_label_before) ≡ Some (refusal_at causes.Nesting 2)
 do_label_before_refused = refl
 
 --       DO 10 I = 1, 3
@@ -150,7 +152,7 @@ crossed_loops =
     ∷ s 5 (End)
     ∷ []
 
-crossed_loops_refused : least (findings fortran77 crossed_loops) ≡ Some (refusal 11 3 0)
+crossed_loops_refused : least (findings fortran77 crossed_loops) ≡ Some (refusal_at causes.Nesting 3)
 crossed_loops_refused = refl
 
 --       DO 10 I = 1, 3
@@ -199,7 +201,7 @@ loop_over_end_if =
     ∷ s 5 (End)
     ∷ []
 
-loop_over_end_if_refused : least (findings fortran77 loop_over_end_if) ≡ Some (refusal 11 3 0)
+loop_over_end_if_refused : least (findings fortran77 loop_over_end_if) ≡ Some (refusal_at causes.Nesting 3)
 loop_over_end_if_refused = refl
 
 --       DO 10 J = 1, 3
@@ -216,7 +218,7 @@ if_over_loop_end =
     ∷ s 5 (End)
     ∷ []
 
-if_over_loop_end_refused : least (findings fortran77 if_over_loop_end) ≡ Some (refusal 11 3 0)
+if_over_loop_end_refused : least (findings fortran77 if_over_loop_end) ≡ Some (refusal_at causes.Nesting 3)
 if_over_loop_end_refused = refl
 
 --       DO 10 J = 1, 3
@@ -252,7 +254,7 @@ two_else_parts =
     ∷ s 5 (End)
     ∷ []
 
-two_else_parts_refused : least (findings fortran77 two_else_parts) ≡ Some (refusal 11 3 0)
+two_else_parts_refused : least (findings fortran77 two_else_parts) ≡ Some (refusal_at causes.Nesting 3)
 two_else_parts_refused = refl
 
 --       IF (I .EQ. 1) THEN
@@ -269,7 +271,7 @@ else_if_after_else =
     ∷ s 5 (End)
     ∷ []
 
-else_if_after_else_refused : least (findings fortran77 else_if_after_else) ≡ Some (refusal 11 3 0)
+else_if_after_else_refused : least (findings fortran77 else_if_after_else) ≡ Some (refusal_at causes.Nesting 3)
 else_if_after_else_refused = refl
 
 --       IF (I .EQ. 1) THEN
@@ -326,7 +328,7 @@ else_in_a_loop =
     ∷ s 6 (End)
     ∷ []
 
-else_in_a_loop_refused : least (findings fortran77 else_in_a_loop) ≡ Some (refusal 11 3 0)
+else_in_a_loop_refused : least (findings fortran77 else_in_a_loop) ≡ Some (refusal_at causes.Nesting 3)
 else_in_a_loop_refused = refl
 
 --       ELSE
@@ -337,7 +339,7 @@ else_alone =
     ∷ s 2 (End)
     ∷ []
 
-else_alone_refused : least (findings fortran77 else_alone) ≡ Some (refusal 11 1 0)
+else_alone_refused : least (findings fortran77 else_alone) ≡ Some (refusal_at causes.Nesting 1)
 else_alone_refused = refl
 
 --       DO 10 J = 1, 3
@@ -352,7 +354,7 @@ loop_ends_on_go_to =
     ∷ s 4 (End)
     ∷ []
 
-loop_ends_on_go_to_refused : least (findings fortran77 loop_ends_on_go_to) ≡ Some (refusal 11 2 0)
+loop_ends_on_go_to_refused : least (findings fortran77 loop_ends_on_go_to) ≡ Some (refusal_at causes.Nesting 2)
 loop_ends_on_go_to_refused = refl
 
 --       DO 10 J = 1, 3
@@ -380,7 +382,7 @@ loop_ends_on_stop =
     ∷ s 3 (End)
     ∷ []
 
-loop_ends_on_stop_refused : least (findings fortran77 loop_ends_on_stop) ≡ Some (refusal 11 2 0)
+loop_ends_on_stop_refused : least (findings fortran77 loop_ends_on_stop) ≡ Some (refusal_at causes.Nesting 2)
 loop_ends_on_stop_refused = refl
 
 --       DO 10 J = 1, 3
@@ -391,7 +393,7 @@ loop_ends_on_end =
     ∷ l 10 2 (End)
     ∷ []
 
-loop_ends_on_end_refused : least (findings fortran77 loop_ends_on_end) ≡ Some (refusal 11 2 0)
+loop_ends_on_end_refused : least (findings fortran77 loop_ends_on_end) ≡ Some (refusal_at causes.Nesting 2)
 loop_ends_on_end_refused = refl
 
 --       DO 10 J = 1, 3
@@ -415,7 +417,7 @@ end_missing =
     ∷ s 2 (Print (items (Single (v "I") ∷ [])))
     ∷ []
 
-end_missing_refused : least (findings fortran77 end_missing) ≡ Some (refusal 12 2 0)
+end_missing_refused : least (findings fortran77 end_missing) ≡ Some (refusal_at causes.NoEnd 2)
 end_missing_refused = refl
 
 --       I = 1
@@ -439,12 +441,12 @@ end_early =
     ∷ s 2 (Assign (to "I") (n 1))
     ∷ []
 
-end_early_refused : least (findings fortran77 end_early) ≡ Some (refusal 12 1 0)
+end_early_refused : least (findings fortran77 end_early) ≡ Some (refusal_at causes.NoEnd 1)
 end_early_refused = refl
 
 abbrev no_statements : List Labelled
 no_statements =
     []
 
-no_statements_refused : least (findings fortran77 no_statements) ≡ Some (refusal 12 0 0)
+no_statements_refused : least (findings fortran77 no_statements) ≡ Some (refusal_at causes.NoEnd 0)
 no_statements_refused = refl

@@ -3,7 +3,6 @@ use Rattle.std.proofs.Common.{ℕ, List, [], Some, None}
 use Prim.Native.String.{String}
 use lib.Chars.{codes}
 use Rattle.fv_tree.specs.Plain.{Expression}
-use Rattle.fv_tree.specs.declared.refusals.Refusal.{Refusal}
 use Rattle.f77_grammar.specs.Statement77.{Entity, NamedConstant, Statement77, Labelled}
 
 -- a statement on its line, without and with a label
@@ -21,6 +20,3 @@ array x bs = record { name = codes x; bounds = bs }
 
 abbrev pub constant : String → Expression → NamedConstant
 constant x e = record { name = codes x; value = e }
-
-abbrev pub refusal : ℕ → ℕ → ℕ → Refusal
-refusal number line word = record { number = number; line = line; word = word }

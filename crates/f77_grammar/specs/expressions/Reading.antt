@@ -1,6 +1,7 @@
 -- What it is for characters to be an expression.
 use Rattle.std.specs.Prelude.{ℕ, ◌≡◌, ◌<◌, List, Bool, true, false, IsTrue}
 use Rattle.std.specs.List.{list_any}
+use Rattle.fv_tree.specs.Limits.{expression_depth77}
 use Rattle.fv_tree.specs.Plain.{Expression}
 use Rattle.f77_grammar.specs.expressions.Phrases.{Phrase, IsExpression, written, tree, depth}
 use Rattle.f77_grammar.specs.expressions.Spelling.{Words}
@@ -22,9 +23,9 @@ is_wide w = false
 abbrev pub IsWide : Phrase → Type 0
 IsWide p = IsTrue (list_any is_wide (written p))
 
--- operators, parentheses and lists stand in one another more than 400 deep
+-- operators, parentheses and lists stand in one another too deep
 abbrev pub IsDeep : Phrase → Type 0
-IsDeep p = 400 < depth p
+IsDeep p = expression_depth77 < depth p
 
 -- The characters are read as an expression.
 pub record ReadsAs (chars : List ℕ) (e : Expression) : Type 0 where

@@ -1,9 +1,10 @@
 -- The values of symbolic constants and bounds (ANSI X3.9-1978, sections 5.1, 6.7 and 8.6), and the limits of a program.
 -- A dialect `d` says which range INTEGER has.
-use Rattle.std.specs.Prelude.{Result, Ok, Err, ℕ, ◌+◌, ◌*◌, ◌^◌, nat_lt, nat_le, ℤ, pos, int_lt, Bool, true, false}
+use Rattle.std.specs.Prelude.{Result, Ok, Err, ℕ, ◌+◌, ◌*◌, nat_lt, nat_le, ℤ, pos, int_lt, Bool, true, false}
 use Rattle.std.specs.Prelude.{◌&&◌, ◌||◌, None, Some, is_none, is_err, if◌then◌else◌, List, [], ◌∷◌, map, length, sum}
 use Rattle.std.specs.Str.{bytes_eq}
 use Rattle.std.specs.List.{list_any, filter, flat_map}
+use Rattle.fv_tree.specs.Limits.{program_names77, block_depth77, array_elements}
 use Rattle.fv_tree.specs.Steps.{◌>>=◌}
 use Rattle.fv_tree.specs.Plain.{Expression}
 use Rattle.fv_tree.specs.declared.ops.Value.{Value}
@@ -117,9 +118,9 @@ counted_names us text =
     let is_counted = λ (u : Use). is_variable us u.name || is_constant us u.name in
     once (map (λ (u : Use). u.name) (filter is_counted (uses_in_text text)))
 
--- the 1,001st variable or symbolic constant stands here, or stood before
+-- a variable or symbolic constant beyond their limit stands here, or stood before
 abbrev pub has_many_names : List Use → Place → Bool
-has_many_names us p = nat_lt 1000 (length (counted_names us (p.here ∷ p.before)))
+has_many_names us p = nat_lt program_names77 (length (counted_names us (p.here ∷ p.before)))
 
 -- a block IF, a logical IF or a loop
 abbrev pub opens_block : Statement77 → Bool
@@ -128,9 +129,9 @@ opens_block (Test c s) = true
 opens_block (Do n x a b c) = true
 opens_block _ = false
 
--- what is opened here stands in 100 blocks or more
+-- what is opened here stands in as many blocks as there may be
 abbrev pub has_many_blocks : Place → Bool
-has_many_blocks p = opens_block p.here.statement && nat_le 100 (length (open_ifs p) + length (open_loops p))
+has_many_blocks p = opens_block p.here.statement && nat_le block_depth77 (length (open_ifs p) + length (open_loops p))
 
 abbrev pub is_reversed : Result (ℤ × ℤ) Fault → Bool
 is_reversed (Ok b) = int_lt b.1 b.0
@@ -141,9 +142,9 @@ abbrev pub has_reversed_bounds : Dialect → Store → Place → Bool
 has_reversed_bounds d s p =
     list_any (λ bs. list_any (λ b. is_reversed (dimension_of d s b)) bs) (bounds_declared p.here.statement)
 
--- the arrays declared up to here have more than 2^22 elements
+-- the arrays declared up to here have too many elements
 abbrev pub has_many_elements : Dialect → Store → Place → Bool
-has_many_elements d s p = nat_lt (2 ^ 22) (all_elements d s (p.here ∷ p.before))
+has_many_elements d s p = nat_lt array_elements (all_elements d s (p.here ∷ p.before))
 
 abbrev pub is_no_constant : Dialect → Store → Expression → Bool
 is_no_constant d s e = is_err (constant_value d e s)

@@ -1,6 +1,11 @@
 -- What is found wrong in a program's text, and which program is read from it.
-use Rattle.std.specs.Prelude.{◌≡◌, ℕ, Bool, ◌||◌, List, [], ◌∷◌, map, Contains}
+use Rattle.std.specs.Prelude.{◌≡◌, Bool, false, ◌||◌, List, [], ◌∷◌, map, Contains}
 use Rattle.std.specs.List.{filter, flat_map}
+use Rattle.fv_tree.specs.Causes.{refusal_at}
+use Rattle.fv_tree.specs.declared.refusals.Cause.{Cause}
+use Rattle.fv_tree.specs.declared.refusals.Cause.TheVariants.{Label, Nesting, NoEnd, Declared, RealName, TypeClash}
+use Rattle.fv_tree.specs.declared.refusals.Cause.TheVariants.{Jump, DoVariable, ManyNames, ManyBlocks, ReversedBounds}
+use Rattle.fv_tree.specs.declared.refusals.Cause.TheVariants.{ManyElements, BadConstant}
 use Rattle.fv_tree.specs.declared.refusals.Refusal.{Refusal}
 use Rattle.fv_tree.specs.Plain as tree
 use Rattle.fv_meaning.specs.Dialect.{Dialect}
@@ -22,45 +27,11 @@ use Rattle.f77_grammar.specs.program.Tree.{tree_of}
 
 -- ---- the causes of a program's statements
 
--- 10 to 17, and the five limits of 18: names, blocks, bounds, elements of arrays, constants
-pub data Cause : Type 0 where
-  Label : Cause
-  Nesting : Cause
-  NoEnd : Cause
-  Declared : Cause
-  RealName : Cause
-  TypeClash : Cause
-  Jump : Cause
-  DoVariable : Cause
-  ManyNames : Cause
-  ManyBlocks : Cause
-  ReversedBounds : Cause
-  ManyElements : Cause
-  BadConstant : Cause
-
-abbrev pub all_causes : List Cause
-all_causes =
+-- in the order of their numbers and words
+abbrev pub program_causes : List Cause
+program_causes =
     Label ∷ Nesting ∷ NoEnd ∷ Declared ∷ RealName ∷ TypeClash ∷ Jump ∷ DoVariable
     ∷ ManyNames ∷ ManyBlocks ∷ ReversedBounds ∷ ManyElements ∷ BadConstant ∷ []
-
-abbrev pub number_of_cause : Cause → ℕ
-number_of_cause Label = 10
-number_of_cause Nesting = 11
-number_of_cause NoEnd = 12
-number_of_cause Declared = 13
-number_of_cause RealName = 14
-number_of_cause TypeClash = 15
-number_of_cause Jump = 16
-number_of_cause DoVariable = 17
-number_of_cause _ = 18
-
-abbrev pub word_of_cause : Cause → ℕ
-word_of_cause ManyNames = 41
-word_of_cause ManyBlocks = 42
-word_of_cause ReversedBounds = 43
-word_of_cause ManyElements = 44
-word_of_cause BadConstant = 45
-word_of_cause _ = 0
 
 -- the cause holds at a place of the text
 abbrev pub holds_at : Dialect → Cause → List Labelled → List Use → Store → Place → Bool
@@ -77,19 +48,17 @@ holds_at d ManyBlocks text us s p = has_many_blocks p
 holds_at d ReversedBounds text us s p = has_reversed_bounds d s p
 holds_at d ManyElements text us s p = has_many_elements d s p
 holds_at d BadConstant text us s p = has_bad_constant d s p
-
-abbrev pub finding : Cause → ℕ → Refusal
-finding c line = record { number = number_of_cause c; line = line; word = word_of_cause c }
+holds_at d _ text us s p = false
 
 abbrev pub findings_of : Dialect → List Labelled → Cause → List Refusal
 findings_of d text c =
-    map (λ (p : Place). finding c p.here.line)
+    map (λ (p : Place). refusal_at c p.here.line)
         (filter (holds_at d c text (uses_in_text text) (constants_of d text)) (places text))
 
 -- a text without statements has no END, at line 0
 abbrev pub findings : Dialect → List Labelled → List Refusal
-findings d [] = finding NoEnd 0 ∷ []
-findings d (x ∷ xs) = flat_map (findings_of d (x ∷ xs)) all_causes
+findings d [] = refusal_at NoEnd 0 ∷ []
+findings d (x ∷ xs) = flat_map (findings_of d (x ∷ xs)) program_causes
 
 -- ---- what is read and what is refused
 

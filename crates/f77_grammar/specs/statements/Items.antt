@@ -1,6 +1,7 @@
 -- The lists of PRINT and READ as they are written, and what they stand for.
 use Rattle.std.specs.Prelude.{ℕ, ◌+◌, ◌<◌, max, pos, IsTrue, Option, Some, None, List, [], ◌∷◌, ◌++◌}
 use Rattle.std.specs.List.{list_any}
+use Rattle.fv_tree.specs.Limits.{expression_depth77}
 use Rattle.fv_tree.specs.Plain.{Expression, Number, Item, Single, Constant, ImpliedDo, items}
 use Rattle.f77_grammar.specs.expressions.Phrases.{Phrase, Literal, WideLiteral, Truth, Name, Listed, Paren, Signed}
 use Rattle.f77_grammar.specs.expressions.Phrases.{Joined, IsExpression, written, tree, depth}
@@ -119,6 +120,6 @@ abbrev mutual
 abbrev pub AreWide : ItemPhrases → Type 0
 AreWide is = IsTrue (list_any is_wide (written_items is))
 
--- operators, parentheses and lists stand in one another more than 400 deep
+-- operators, parentheses and lists stand in one another too deep
 abbrev pub AreDeep : ItemPhrases → Type 0
-AreDeep is = 400 < items_depth is
+AreDeep is = expression_depth77 < items_depth is

@@ -1,6 +1,8 @@
 -- What it is for the characters of a card to be a statement, and how they are refused.
 use Rattle.std.specs.Prelude.{ℕ, ◌≡◌, ◌<◌, ◌≤◌, false, IsTrue, List}
-use Rattle.fv_tree.specs.declared.refusals.Refusal.{Refusal}
+use Rattle.fv_tree.specs.Causes.{number_of_cause}
+use Rattle.fv_tree.specs.Limits.{expression_depth77}
+use Rattle.fv_tree.specs.declared.refusals.Cause.TheVariants as causes
 use Rattle.f77_grammar.specs.Statement77.{Statement77}
 use Rattle.f77_grammar.specs.expressions.Squeezing.{Symbol, Squeezed}
 use Rattle.f77_grammar.specs.statements.Forms.{Form, IsWritten, statement_of, form_depth, has_wide_literal}
@@ -13,12 +15,12 @@ pub record IsFormOf (chars : List ℕ) (f : Form) : Type 0 where
   pub written : IsWritten f symbols
 
 -- The characters are read as a statement: they have a form without a literal above 2^127-1 and without an expression or
--- list more than 400 deep.
+-- list that is too deep.
 pub record ReadsStatement (chars : List ℕ) (s : Statement77) : Type 0 where
   pub form : Form
   pub is_form : IsFormOf chars form
   pub narrow : has_wide_literal form ≡ false
-  pub shallow : form_depth form ≤ 400
+  pub shallow : form_depth form ≤ expression_depth77
   pub same : s ≡ statement_of form
 
 -- The characters have a word that is left out of the profile.
@@ -31,9 +33,13 @@ abbrev pub HasNoForm : List ℕ → Type 0
 HasNoForm chars = (f : Form) → IsFormOf chars f → ⊥
 
 -- Why the characters are refused: they have no form, by their word or without one; a literal is above 2^127-1;
--- something is more than 400 deep.
+-- something is too deep.
 pub data IsRefusedBy (chars : List ℕ) : (number word : ℕ) → Type 0 where
-  Syntax : HasNoForm chars → ((number : ℕ) → HasWordLeftOut chars number → ⊥) → IsRefusedBy chars 6 0
-  OutOfProfile : (word : ℕ) → HasNoForm chars → HasWordLeftOut chars word → IsRefusedBy chars 7 word
-  WideLiteral : (f : Form) → IsFormOf chars f → IsTrue (has_wide_literal f) → IsRefusedBy chars 8 0
-  Deep : (f : Form) → IsFormOf chars f → has_wide_literal f ≡ false → 400 < form_depth f → IsRefusedBy chars 9 0
+  Syntax : HasNoForm chars → ((number : ℕ) → HasWordLeftOut chars number → ⊥)
+      → IsRefusedBy chars (number_of_cause causes.Syntax) 0
+  OutOfProfile : (word : ℕ) → HasNoForm chars → HasWordLeftOut chars word
+      → IsRefusedBy chars (number_of_cause (causes.OutOfProfile word)) word
+  WideLiteral : (f : Form) → IsFormOf chars f → IsTrue (has_wide_literal f)
+      → IsRefusedBy chars (number_of_cause causes.WideLiteral) 0
+  Deep : (f : Form) → IsFormOf chars f → has_wide_literal f ≡ false → expression_depth77 < form_depth f
+      → IsRefusedBy chars (number_of_cause causes.Deep) 0
