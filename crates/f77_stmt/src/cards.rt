@@ -53,7 +53,8 @@ pub fn parse(alloc: Global, card: &Card) -> Result<Stmt77, Refused>
     ensures only_read { (s : Statement77) → ReadsStatement card.now.chars s
         → IsOkAnd result (λ read. view.statement_of read ≡ s) ⊎ (result ≡ Err Refused.Memory) }
     ensures only_refused { (number word : ℕ) → IsRefusedBy card.now.chars number word
-        → (result ≡ Err (Refused.Refusal (record { number = number; line = card.now.line; word = word }))) ⊎ (result ≡ Err Refused.Memory) }
+        → (result ≡ Err (Refused.Refusal (record { number = number; line = card.now.line; word = word })))
+            ⊎ (result ≡ Err Refused.Memory) }
 {
     let symbols = squeeze(alloc, card.chars.as_slice())?;
     match form(alloc, symbols.as_slice()) {

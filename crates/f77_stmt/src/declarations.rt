@@ -50,7 +50,8 @@ fn read_upper(
     ensures found { IfOk result (λ r. EndsBound (words_of tokens.now) first (bounds_of r.0) r.1 (words_of r.2.now)) }
     ensures only { (p : Phrase) (rest : List words.Word) → IsExpression p → Ends rest
         → words_of tokens.now ≡ written p ++ rest
-        → Given result (λ r. (bounds_of r.0 ≡ (expression_of first.tree, tree p)) × (r.1 ≡ max first.depth (capped (depth p))) × (words_of r.2.now ≡ rest)) }
+        → Given result (λ r. (bounds_of r.0 ≡ (expression_of first.tree, tree p))
+            × (r.1 ≡ max first.depth (capped (depth p))) × (words_of r.2.now ≡ rest)) }
 {
     let (second, rest) = read(alloc, tokens)?;
     let (bounds, depth) = both(first, second);
@@ -148,10 +149,12 @@ pub(crate) fn read_entities(
     alloc: Global,
     tokens: &[Token],
 ) -> Result<(Seq<Entity>, u16, &[Token]), Stop>
-    ensures found { IfOk result (λ r. BeginsWithList written_entity IsEntity entity_tree entity_depth (words_of tokens.now) (map entity_of r.0) r.1 (words_of r.2.now)) }
+    ensures found { IfOk result (λ r. BeginsWithList written_entity IsEntity entity_tree entity_depth
+        (words_of tokens.now) (map entity_of r.0) r.1 (words_of r.2.now)) }
     ensures only { (es : List Forms.Entity) (last : List words.Word) → IsList IsEntity es → EndsList last
         → words_of tokens.now ≡ separated written_entity es ++ last
-        → Given result (λ r. IsRead written_entity IsEntity entity_tree entity_depth es last (map entity_of r.0) r.1 (words_of r.2.now)) }
+        → Given result (λ r. IsRead written_entity IsEntity entity_tree entity_depth es last (map entity_of r.0) r.1
+            (words_of r.2.now)) }
 {
     let (first, depth, tail) = read_entity(alloc, tokens)?;
     let mut entities = Seq::new(alloc);
@@ -178,7 +181,8 @@ fn defined(name: Name, value: Operand) -> ((Name, Expr), u16)
 // The name of a symbolic constant with its expression, its depth, and what follows.
 #[tactic(auto, using(crate::proofs::EntityLaws::entities))]
 fn read_definition(alloc: Global, tokens: &[Token]) -> Result<((Name, Expr), u16, &[Token]), Stop>
-    ensures found { IfOk result (λ r. BeginsWithDefinition (words_of tokens.now) (constant_of r.0) r.1 (words_of r.2.now)) }
+    ensures found { IfOk result (λ r. BeginsWithDefinition (words_of tokens.now) (constant_of r.0) r.1
+        (words_of r.2.now)) }
     ensures only { (d : Definition) (last : List words.Word) → IsDefinition d → EndsPart last
         → words_of tokens.now ≡ written_definition d ++ last
         → Given result (λ r. IsTheDefinition d last (constant_of r.0) r.1 (words_of r.2.now)) }
@@ -199,10 +203,12 @@ pub(crate) fn read_definitions(
     alloc: Global,
     tokens: &[Token],
 ) -> Result<(Seq<(Name, Expr)>, u16, &[Token]), Stop>
-    ensures found { IfOk result (λ r. BeginsWithList written_definition IsDefinition definition_tree definition_depth (words_of tokens.now) (map constant_of r.0) r.1 (words_of r.2.now)) }
+    ensures found { IfOk result (λ r. BeginsWithList written_definition IsDefinition definition_tree definition_depth
+        (words_of tokens.now) (map constant_of r.0) r.1 (words_of r.2.now)) }
     ensures only { (ds : List Definition) (last : List words.Word) → IsList IsDefinition ds → EndsList last
         → words_of tokens.now ≡ separated written_definition ds ++ last
-        → Given result (λ r. IsRead written_definition IsDefinition definition_tree definition_depth ds last (map constant_of r.0) r.1 (words_of r.2.now)) }
+        → Given result (λ r. IsRead written_definition IsDefinition definition_tree definition_depth ds last
+            (map constant_of r.0) r.1 (words_of r.2.now)) }
 {
     let (first, depth, tail) = read_definition(alloc, tokens)?;
     let mut definitions = Seq::new(alloc);

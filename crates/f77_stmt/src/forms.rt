@@ -75,7 +75,8 @@ fn loop_label(text: &[Symbol]) -> Option<(u32, &[Symbol])>
     ensures found { IfSome result (λ r. IsLoopFront (symbols_of text.now) r.0 (symbols_of r.1.now)) }
     ensures only { (digits : List ℕ) (comma : Bool) (rest : List squeezing.Symbol) → IsLabel digits
         → BeginsWithLetter rest
-        → symbols_of text.now ≡ chars (codes "DO" ++ (digits ++ optional_comma comma)) ++ rest → GivesLabel result (value digits) rest }
+        → symbols_of text.now ≡ chars (codes "DO" ++ (digits ++ optional_comma comma)) ++ rest
+            → GivesLabel result (value digits) rest }
 {
     let rest = strip(b"DO", text)?;
     let (number, rest) = label(rest)?;

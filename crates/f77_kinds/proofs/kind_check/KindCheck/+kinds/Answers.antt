@@ -58,6 +58,23 @@ has_kind-returns-else-binary_gives t c =
       (are_operands (listed c.args.self.now.uses) c.in-Bin.op (expression_of c.in-Bin.a.value) (expression_of c.in-Bin.b.value)) c.binary_gives.ensures c.if-binary_gives.false)
     c.in-Bin.is (kind-bin (listed c.args.self.now.uses) c.in-Bin.op c.in-Bin.a c.in-Bin.b c.args.kind)
 
+pub has_kind-returns-then-call_gives : goal.has_kind-returns-then-call_gives
+has_kind-returns-then-call_gives t c =
+    told (listed c.args.self.now.uses) c.args.expr.now (exprs.Call c.in-Call.function c.in-Call.arguments) c.args.kind c.are_arguments.result _
+    (first_holds c.call_gives.result (suits_number c.in-Call.function (length c.in-Call.arguments)) (kinds.same_kind Integer c.args.kind)
+      (kinds.are_arguments (listed c.args.self.now.uses) (expressions (map expression_of c.in-Call.arguments))) c.are_arguments.result
+      (c.call_gives.ensures ∙ ap (λ n. suits_number c.in-Call.function n && kinds.same_kind Integer c.args.kind) c.len.ensures) c.if-call_gives.true
+      c.are_arguments.ensures)
+    c.in-Call.is (kind-call (listed c.args.self.now.uses) c.in-Call.function c.in-Call.arguments c.args.kind)
+
+pub has_kind-returns-else-call_gives : goal.has_kind-returns-else-call_gives
+has_kind-returns-else-call_gives t c =
+    told (listed c.args.self.now.uses) c.args.expr.now (exprs.Call c.in-Call.function c.in-Call.arguments) c.args.kind c.call_gives.result _
+    (first_fails c.call_gives.result (suits_number c.in-Call.function (length c.in-Call.arguments)) (kinds.same_kind Integer c.args.kind)
+      (kinds.are_arguments (listed c.args.self.now.uses) (expressions (map expression_of c.in-Call.arguments)))
+      (c.call_gives.ensures ∙ ap (λ n. suits_number c.in-Call.function n && kinds.same_kind Integer c.args.kind) c.len.ensures) c.if-call_gives.false)
+    c.in-Call.is (kind-call (listed c.args.self.now.uses) c.in-Call.function c.in-Call.arguments c.args.kind)
+
 -- ---- and those of Fortran 90 alone
 
 pub has_kind-returns-in-List : goal.has_kind-returns-in-List
