@@ -1,8 +1,8 @@
 -- Lemmas on lists of classes.
-use Rattle.std.proofs.Common.{◌≡◌, ◌↔◌, refl, sym, ap, subst, ◌⊎◌, inl, inr, ℕ, zero, suc, ◌+◌, ◌<◌, ◌≤◌, length, get_or, map, List, [], ◌∷◌, ◌++◌, arith}
+use Rattle.std.proofs.Common.{◌≡◌, refl, sym, subst, ◌⊎◌, inl, inr, ℕ, ◌<◌, List, [], ◌∷◌, ◌++◌, arith}
 use Rattle.std.specs.List.{concat}
-use Rattle.components.specs.Lists.{In, Each, Pairwise, Distinct, Rises}
-use Rattle.components.proofs.ListLaws.{Each-In, Each-from, In-left, In-right, In-append, Pairwise-append}
+use Rattle.components.specs.Lists.{In, Pairwise, Rises}
+use Rattle.components.proofs.ListLaws.{Each-In, In-left, In-right, In-append}
 
 pub In-concat : (x : ℕ) (c : List ℕ) (cs : List (List ℕ)) → In c cs → In x c → In x (concat cs)
 In-concat x c [] i j = absurd i

@@ -1,11 +1,10 @@
 -- The closure of no pair, and with one more pair.
-use Rattle.std.proofs.Common.{◌≡◌, ◌↔◌, ◌≢◌, refl, sym, ap, ◌∙◌, subst, ◌⊎◌, inl, inr, ℕ, ◌<◌, ◌≤◌, length, get_or, set, replicate, Bool, true, false, not, ◌&&◌, ◌||◌, List, [], ◌∷◌, ◌++◌, get_or-set_same, get_or-set_other}
+use Rattle.std.proofs.Common.{◌≡◌, ◌↔◌, refl, sym, ap, ◌∙◌, subst, ◌⊎◌, inl, inr, ℕ, ◌<◌, length, get_or, set, replicate, Bool, true, false, not, ◌&&◌, ◌||◌, List, [], ◌∷◌, ◌++◌, get_or-set_same, get_or-set_other}
 use Rattle.std.proofs.lemmas.Bool.{both_ways, cases_Bool, cases_eq, not-false, and_parts, and_cases, or_cases, or_left, or_right, MatchBool-at_true, MatchBool-at_false}
 use Rattle.std.proofs.lemmas.List.{length-replicate, get_or-replicate, length-set}
-use Rattle.components.specs.Lists.{In}
 use Rattle.components.specs.Reachability.{Walk, Reaches}
-use Rattle.components.specs.Tables.{holds, IsUnion, AddsBeyond, AddsPair, IsSquare, IsClosure}
-use Rattle.components.proofs.Walks.{Reaches-itself, Reaches-pair, Reaches-trans, Reaches-more, Reaches-cases}
+use Rattle.components.specs.Tables.{holds, IsUnion, AddsBeyond, AddsPair, IsClosure}
+use Rattle.components.proofs.Walks.{Reaches-pair, Reaches-trans, Reaches-more, Reaches-cases}
 use Rattle.components.proofs.ListLaws.{In-right}
 
 -- ---- no pair

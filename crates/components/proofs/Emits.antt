@@ -1,5 +1,5 @@
 -- Classes taken one after the other from what is left.
-use Rattle.std.proofs.Common.{◌≡◌, ℕ, Bool, Option, Some, List, [], ◌∷◌}
+use Rattle.std.proofs.Common.{◌≡◌, ℕ, Bool, Some, List, [], ◌∷◌}
 use Rattle.std.specs.List.{filter, find}
 use Rattle.components.specs.Tables.{holds_both, is_source, rest_of}
 

@@ -1,7 +1,7 @@
 -- Classes taken from the sources of what is left are the components in topological order.
-use Rattle.std.proofs.Common.{◌≡◌, ◌↔◌, refl, sym, ap, subst, ◌⊎◌, inl, inr, ℕ, ◌<◌, ◌≤◌, Bool, true, false, not, ◌&&◌, ◌||◌, Option, Some, List, [], ◌∷◌, ◌++◌, arith}
+use Rattle.std.proofs.Common.{◌≡◌, ◌↔◌, sym, subst, ◌⊎◌, inl, inr, ℕ, ◌<◌, ◌≤◌, Bool, true, false, not, ◌||◌, List, [], ◌∷◌, ◌++◌, arith}
 use Rattle.std.proofs.lemmas.Bool.{and_parts, and_from, both_ways, not-true, not_from_false, cases_Bool, or_cases, or_left, or_right}
-use Rattle.std.specs.List.{concat, filter, find}
+use Rattle.std.specs.List.{concat, filter}
 use Rattle.components.specs.Lists.{In, Each, Pairwise, Distinct, Rises, IsUpTo}
 use Rattle.components.specs.Reachability.{AreBelow, Walk, Reaches, AreMutual}
 use Rattle.components.specs.Orders.{IsComponent, NoneBack, MayComeNext, HasLess, LeastFirst, IsOrder}

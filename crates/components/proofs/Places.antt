@@ -1,12 +1,12 @@
 -- The order of the places of a part, as its statements.
-use Rattle.std.proofs.Common.{◌≡◌, ◌↔◌, refl, sym, ap, subst, ◌∙◌, ◌⊎◌, inl, inr, ℕ, zero, suc, ◌<◌, length, get_or, map, List, [], ◌∷◌, ◌++◌, arith}
+use Rattle.std.proofs.Common.{◌≡◌, ◌↔◌, refl, sym, ap, subst, ◌∙◌, inl, inr, ℕ, zero, suc, ◌<◌, length, get_or, map, List, [], ◌∷◌, ◌++◌, arith}
 use Rattle.std.proofs.lemmas.List.{map-append}
 use Rattle.std.specs.List.{concat}
 use Rattle.components.specs.Lists.{In, Each, Pairwise, Distinct}
 use Rattle.components.specs.Reachability.{Walk, AreMutual}
 use Rattle.components.specs.Orders.{IsComponent, NoneBack, IsOrder}
-use Rattle.components.specs.Emission.{WalkWithin, Components, ArePlaces, statements_of}
-use Rattle.components.proofs.ListLaws.{Each-In, Each-from, In-left, In-right, In-append}
+use Rattle.components.specs.Emission.{WalkWithin, ReachesWithin, Components, ArePlaces, statements_of}
+use Rattle.components.proofs.ListLaws.{Each-In}
 use Rattle.components.proofs.ClassLaws.{In-concat}
 
 module _ {X Y : Type 0} (f : X → Y) where
@@ -74,10 +74,10 @@ module _ (part : List ℕ) (leaps pairs : List (ℕ × ℕ)) (classes : List (Li
       from : (i : ℕ) × In i (concat classes) × (s ≡ at i) → In s part
       from k = subst (λ z. In z part) (sym k.2) (get_or-In part k.0 ((order.members k.0).0 k.1))
 
-  reachable : (c : List ℕ) → In c classes → (s r : ℕ) → In s (map at c) → In r (map at c) → (over : List ℕ) × WalkWithin part leaps s over r
+  reachable : (c : List ℕ) → In c classes → (s r : ℕ) → In s (map at c) → In r (map at c) → ReachesWithin part leaps s r
   reachable c i s r j k = by (map-In at c s j) (map-In at c r k)
     where
-      by : (x : ℕ) × In x c × (s ≡ at x) → (y : ℕ) × In y c × (r ≡ at y) → (over : List ℕ) × WalkWithin part leaps s over r
+      by : (x : ℕ) × In x c × (s ≡ at x) → (y : ℕ) × In y c × (r ≡ at y) → ReachesWithin part leaps s r
       by x y =
           let m : AreMutual pairs x.0 y.0 = (Each-In (IsComponent pairs) classes order.components c i x.0 y.0 x.1).0 y.1 in
           (map at m.0.0, subst (λ z. WalkWithin part leaps z (map at m.0.0) r) (sym x.2) (subst (λ z. WalkWithin part leaps (at x.0) (map at m.0.0) z) (sym y.2) (walk_at m.0.0 x.0 y.0 m.0.1)))
@@ -85,7 +85,7 @@ module _ (part : List ℕ) (leaps pairs : List (ℕ × ℕ)) (classes : List (Li
   below : (c : List ℕ) (i : ℕ) → In c classes → In i c → i < length part
   below c i j k = (order.members i).0 (In-concat i c classes j k)
 
-  forward : (c later : List ℕ) → In c classes → In later classes → NoneBack pairs c later → (s r : ℕ) → In s (map at later) → In r (map at c) → ¬ In (s, r) leaps
+  forward : (c later : List ℕ) → In c classes → In later classes → NoneBack pairs c later → NoneBack leaps (map at c) (map at later)
   forward c later i j h s r k l p = by (map-In at later s k) (map-In at c r l)
     where
       by : (x : ℕ) × In x later × (s ≡ at x) → (y : ℕ) × In y c × (r ≡ at y) → ⊥
@@ -98,7 +98,7 @@ module _ (part : List ℕ) (leaps pairs : List (ℕ × ℕ)) (classes : List (Li
     same = same;
     once = subst Distinct (sym (concat-map at classes)) (Pairwise-map at (λ x y. ¬ (x ≡ y)) (λ x y. ¬ (x ≡ y)) (concat classes)
         (λ x y i j d e. d (Distinct-get_or part distinct x y ((order.members x).0 i) ((order.members y).0 j) e)) order.once);
-    reachable = Each-map (map at) (λ c. (s r : ℕ) → In s c → In r c → (over : List ℕ) × WalkWithin part leaps s over r) classes reachable;
+    reachable = Each-map (map at) (λ c. (s r : ℕ) → In s c → In r c → ReachesWithin part leaps s r) classes reachable;
     filled = Each-map (map at) (λ c. ¬ (c ≡ [])) classes (λ c i e. Each-In (λ c. ¬ (c ≡ [])) classes order.filled c i (map-nil at c e));
-    forward = Pairwise-map (map at) (NoneBack pairs) (λ c later. (s r : ℕ) → In s later → In r c → ¬ In (s, r) leaps) classes forward order.forward;
+    forward = Pairwise-map (map at) (NoneBack pairs) (NoneBack leaps) classes forward order.forward;
   }

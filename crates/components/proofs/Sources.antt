@@ -1,11 +1,11 @@
 -- Of some numbers one is a source: what reaches it of them, it reaches.
-use Rattle.std.proofs.Common.{◌≡◌, refl, sym, subst, ◌⊎◌, inl, inr, ℕ, ◌<◌, ◌≤◌, length, Bool, true, false, not, ◌||◌, Option, Some, None, List, [], ◌∷◌}
+use Rattle.std.proofs.Common.{◌≡◌, refl, sym, subst, ◌⊎◌, inl, inr, ℕ, ◌<◌, length, Bool, true, false, not, ◌||◌, None, List, [], ◌∷◌}
 use Rattle.std.proofs.lemmas.Bool.{both_ways, not_from_false, not_from_true, cases_Bool, or_left, or_right, and_from}
 use Rattle.std.specs.List.{find}
 use Rattle.components.specs.Lists.{In}
 use Rattle.components.specs.Reachability.{Reaches}
 use Rattle.components.specs.Tables.{holds, holds_both, is_source, rest_of, IsClosure}
-use Rattle.components.proofs.ListLaws.{IsLeast, find-None, list_all-from, length-filter_less}
+use Rattle.components.proofs.ListLaws.{find-None, list_all-from, length-filter_less}
 use Rattle.components.proofs.Walks.{Reaches-itself, Reaches-trans}
 
 module _ (n : ℕ) (pairs : List (ℕ × ℕ)) (table : List (List Bool)) (closed : IsClosure n pairs table) where

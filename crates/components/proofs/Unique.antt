@@ -1,12 +1,12 @@
--- A graph has one order of its components.
-use Rattle.std.proofs.Common.{◌≡◌, ◌↔◌, refl, sym, ap, subst, ◌⊎◌, inl, inr, ℕ, ◌<◌, List, [], ◌∷◌, ◌++◌, arith}
+-- A relation has one order of its components, however its pairs are listed.
+use Rattle.std.proofs.Common.{◌≡◌, ◌↔◌, refl, sym, subst, ◌⊎◌, inl, inr, ℕ, ◌<◌, List, [], ◌∷◌, arith}
 use Rattle.std.specs.List.{concat}
 use Rattle.components.specs.Lists.{In, Each, Pairwise, Distinct, Rises}
-use Rattle.components.specs.Reachability.{AreMutual}
+use Rattle.components.specs.Reachability.{SamePairs, AreMutual}
 use Rattle.components.specs.Orders.{IsComponent, NoneBack, MayComeNext, HasLess, LeastFirst, IsOrder}
-use Rattle.components.proofs.ListLaws.{Each-In, Each-from, In-left, In-right, In-append}
+use Rattle.components.proofs.ListLaws.{Each-In, Each-from, Pairwise-weaker, In-left, In-right, In-append}
 use Rattle.components.proofs.ClassLaws.{concat-In, some_member, Pairwise-right, Pairwise-across, Rises-same}
-use Rattle.components.proofs.Walks.{AreMutual-trans, AreMutual-sym}
+use Rattle.components.proofs.Walks.{Reaches-others}
 
 module _ (pairs : List (ℕ × ℕ)) where
   -- of an order what holds of each end of it too
@@ -96,6 +96,40 @@ module _ (pairs : List (ℕ × ℕ)) where
   ordered : (n : ℕ) (cs : List (List ℕ)) → IsOrder n pairs cs → Ordered cs
   ordered n cs o = record { once = o.once; filled = o.filled; rising = o.rising; components = o.components; forward = o.forward; least_first = o.least_first }
 
-  pub order_is_unique : (n : ℕ) (cs ds : List (List ℕ)) → IsOrder n pairs cs → IsOrder n pairs ds → cs ≡ ds
-  order_is_unique n cs ds o p = unique cs ds (ordered n cs o) (ordered n ds p)
+  one_order : (n : ℕ) (cs ds : List (List ℕ)) → IsOrder n pairs cs → IsOrder n pairs ds → cs ≡ ds
+  one_order n cs ds o p = unique cs ds (ordered n cs o) (ordered n ds p)
       (λ a. (λ i. (p.members a).1 ((o.members a).0 i), λ i. (o.members a).1 ((p.members a).0 i)))
+
+-- ---- the same pairs listed otherwise
+
+module _ (pairs others : List (ℕ × ℕ)) (same : SamePairs pairs others) where
+  AreMutual-others : (a b : ℕ) → AreMutual pairs a b ↔ AreMutual others a b
+  AreMutual-others a b = (
+    λ m. (Reaches-others pairs others (λ p. (same p).0) a b m.0, Reaches-others pairs others (λ p. (same p).0) b a m.1),
+    λ m. (Reaches-others others pairs (λ p. (same p).1) a b m.0, Reaches-others others pairs (λ p. (same p).1) b a m.1),
+  )
+
+  component_others : (c : List ℕ) → IsComponent pairs c → IsComponent others c
+  component_others c h a b i = (λ j. (AreMutual-others a b).0 ((h a b i).0 j), λ m. (h a b i).1 ((AreMutual-others a b).1 m))
+
+  least_first_others : (cs : List (List ℕ)) → LeastFirst pairs cs → LeastFirst others cs
+  least_first_others [] h = tt
+  least_first_others (c ∷ cs) h = (
+    Each-from (λ d. MayComeNext others (c ∷ cs) d → HasLess c d) cs
+        (λ d i next. Each-In (λ d. MayComeNext pairs (c ∷ cs) d → HasLess c d) cs h.0 d i (λ a b j k p. next a b j k ((same (a, b)).0 p))),
+    least_first_others cs h.1,
+  )
+
+  order_of_others : (n : ℕ) (cs : List (List ℕ)) → IsOrder n pairs cs → IsOrder n others cs
+  order_of_others n cs o = record {
+    members = o.members;
+    once = o.once;
+    filled = o.filled;
+    rising = o.rising;
+    components = Each-from (IsComponent others) cs (λ c i. component_others c (Each-In (IsComponent pairs) cs o.components c i));
+    forward = Pairwise-weaker (NoneBack pairs) (NoneBack others) (λ c d h a b i j p. h a b i j ((same (a, b)).1 p)) cs o.forward;
+    least_first = least_first_others cs o.least_first;
+  }
+
+  pub order_is_unique : (n : ℕ) (cs ds : List (List ℕ)) → IsOrder n pairs cs → IsOrder n others ds → cs ≡ ds
+  order_is_unique n cs ds o p = one_order others n cs ds (order_of_others n cs o) p

@@ -1,8 +1,8 @@
 -- Walks one after the other, and walks over one more pair.
-use Rattle.std.proofs.Common.{◌≡◌, refl, sym, ap, subst, ◌⊎◌, inl, inr, ℕ, ◌<◌, List, [], ◌∷◌, ◌++◌}
-use Rattle.components.specs.Lists.{In, Each}
-use Rattle.components.specs.Reachability.{AreBelow, Walk, Reaches, AreMutual}
-use Rattle.components.proofs.ListLaws.{Each-In, In-left, In-append}
+use Rattle.std.proofs.Common.{refl, sym, ap, subst, ◌⊎◌, inl, inr, ℕ, List, [], ◌∷◌, ◌++◌}
+use Rattle.components.specs.Lists.{In}
+use Rattle.components.specs.Reachability.{Walk, Reaches, AreMutual}
+use Rattle.components.proofs.ListLaws.{In-left, In-append}
 
 module _ (pairs : List (ℕ × ℕ)) where
   Walk-append : (xs ys : List ℕ) (a b c : ℕ) → Walk pairs a xs b → Walk pairs b ys c → Walk pairs a (xs ++ ys) c
@@ -32,14 +32,18 @@ module _ (pairs : List (ℕ × ℕ)) where
       along [] a i h = subst (λ z. In z xs) h i
       along (q ∷ over) a i h = along over q (closed a q i h.0) h.1
 
+  -- where each pair is one of the others too
+  pub Reaches-others : (others : List (ℕ × ℕ)) → ((p : ℕ × ℕ) → In p pairs → In p others) → (a b : ℕ) → Reaches pairs a b → Reaches others a b
+  Reaches-others others among a b h = (h.0, along h.0 a h.1)
+    where
+      along : (over : List ℕ) (a : ℕ) → Walk pairs a over b → Walk others a over b
+      along [] a h = h
+      along (q ∷ over) a h = (among (a, q) h.0, along over q h.1)
+
   -- one more pair
   module _ (from to : ℕ) where
     pub Reaches-more : (a b : ℕ) → Reaches pairs a b → Reaches (pairs ++ (from, to) ∷ []) a b
-    Reaches-more a b h = (h.0, along h.0 a h.1)
-      where
-        along : (over : List ℕ) (a : ℕ) → Walk pairs a over b → Walk (pairs ++ (from, to) ∷ []) a over b
-        along [] a h = h
-        along (q ∷ over) a h = (In-left (a, q) pairs ((from, to) ∷ []) h.0, along over q h.1)
+    Reaches-more = Reaches-others (pairs ++ (from, to) ∷ []) (λ p. In-left p pairs ((from, to) ∷ []))
 
     pub Reaches-cases : (a b : ℕ) → Reaches (pairs ++ (from, to) ∷ []) a b → Reaches pairs a b ⊎ (Reaches pairs a from × Reaches pairs to b)
     Reaches-cases a b h = along h.0 a h.1

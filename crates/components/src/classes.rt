@@ -10,21 +10,21 @@ use crate::reach::Reach;
 use fv_tree::{Memory, Seq};
 use std::alloc::Global;
 
-/// Classes of numbers in an order, and closed walks through their members.
+/// Classes of numbers in an order, and closed walks through the members of those that are cyclic.
 #[derive(Debug, Drop)]
 pub struct Order {
     pub members: Seq<Seq<usize>>,
     pub cycles: Seq<Seq<usize>>,
 }
 
-// What leads to the number from among those left, it leads to.
+// What reaches the number from among those left, it reaches.
 fn is_source(reach: &Reach, left: &[usize], number: usize) -> bool
     ensures { result ≡ is_source reach.now left.now number }
 {
-    left.iter().all(|other| !reach.leads(*other, number) || reach.leads(number, *other))
+    left.iter().all(|other| !reach.reaches(*other, number) || reach.reaches(number, *other))
 }
 
-// The first that has all that lead to it, of those left, in its own class.
+// The first that has in its own class all of those left that reach it.
 fn next_member(reach: &Reach, left: &[usize]) -> Option<usize>
     ensures { result ≡ find (is_source reach.now left.now) left.now }
 {
@@ -44,7 +44,7 @@ fn class_of(
     let class: Vec<usize> = left
         .iter()
         .copied()
-        .filter(|other| reach.leads_both_ways(member, *other))
+        .filter(|other| reach.are_mutual(member, *other))
         .collect(alloc)?;
     Ok(Seq::from_vec(class))
 }
@@ -52,7 +52,7 @@ fn class_of(
 fn take_class_out(reach: &Reach, left: &mut Vec<usize>, member: usize)
     ensures { left.new.items ≡ rest_of reach.now member left.old.items }
 {
-    left.retain(|other| !reach.leads_both_ways(member, *other));
+    left.retain(|other| !reach.are_mutual(member, *other));
 }
 
 fn numbers_below(alloc: Global, n: usize) -> Result<Vec<usize>, Memory>
@@ -65,9 +65,9 @@ fn numbers_below(alloc: Global, n: usize) -> Result<Vec<usize>, Memory>
     Ok(numbers)
 }
 
-/// The strongly connected components of the directed graph with the nodes below `n` and these pairs as its edges, in
-/// topological order (Tarjan, "Depth-first search and linear graph algorithms", 1972). Where several may come next, the one
-/// with the least member does. The list of cycles is empty for now.
+/// The strongly connected components of the directed graph that has the numbers below `n` as its nodes and the pairs as
+/// its edges, in topological order (Tarjan, "Depth-first search and linear graph algorithms", 1972). Where several may
+/// come next, the one with the least member does. The list of cycles is empty for now.
 pub fn components(alloc: Global, n: usize, pairs: &[(usize, usize)]) -> Result<Order, Memory>
     requires { AreBelow n pairs.now }
     ensures classes { IfOk result (λ order. IsOrder n pairs.now order.members) }

@@ -1,4 +1,5 @@
-//! Dependences between the statements of a nest, and what keeps a statement from array form.
+//! Dependences between the statements of a nest (Allen and Kennedy, "Optimizing Compilers for Modern Architectures",
+//! chapter 2), and what keeps a statement from array form.
 use fv_tree::{Name, Seq};
 use subscripts::{Dirs, Point, Test};
 
@@ -9,7 +10,7 @@ pub struct Place {
     pub at: u32,
 }
 
-/// From a write to a read, from a read to a write, or from a write to a write.
+/// True dependence from a write to a read, antidependence from a read to a write, or output dependence between writes.
 #[derive(Clone, Copy, Debug, PartialEq, Eq)]
 pub enum Dep {
     Flow,
@@ -17,8 +18,8 @@ pub enum Dep {
     Output,
 }
 
-/// A dependence of one reference on another. `level` is the number of the loop that carries it, from the outside in from 1,
-/// or 0 where it is loop independent. `pair` is a pair of iterations that it stands for, where one is known.
+/// A dependence from one reference to another. `level` is that of the loop that carries it, from the outside in from 1,
+/// or 0 where it is loop independent. `pair` has iterations of the two at which they meet, where such are known.
 #[derive(Clone, Copy, Debug)]
 pub struct Edge {
     pub from: Place,

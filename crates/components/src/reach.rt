@@ -1,5 +1,6 @@
 //! Which numbers reach which, as a table of truth values.
-ghost use Rattle.std.specs.Prelude.{◌≡◌, ◌<◌, false, true, [], length, replicate, slice_index_or, slice_set, IfOk, OnOk};
+ghost use Rattle.std.specs.Prelude.{◌≡◌, ◌<◌, false, true, [], length, replicate, slice_index_or, slice_set};
+ghost use Rattle.std.specs.Prelude.{IfOk, OnOk};
 ghost use Rattle.components.specs.Reachability.{AreBelow};
 ghost use Rattle.components.specs.Tables.{holds, holds_both, IsUnion, AddsBeyond, AddsPair, IsClosure};
 
@@ -93,7 +94,7 @@ impl Reach {
     }
 
     /// Whether the one reaches the other; none does beyond the bound.
-    pub fn leads(&self, from: usize, to: usize) -> bool
+    pub fn reaches(&self, from: usize, to: usize) -> bool
         ensures { result ≡ holds self.now from to }
     {
         match self.rows.get(from) {
@@ -103,10 +104,10 @@ impl Reach {
     }
 
     /// Whether each reaches the other.
-    pub fn leads_both_ways(&self, a: usize, b: usize) -> bool
+    pub fn are_mutual(&self, a: usize, b: usize) -> bool
         ensures { result ≡ holds_both self.now a b }
     {
-        self.leads(a, b) && self.leads(b, a)
+        self.reaches(a, b) && self.reaches(b, a)
     }
 
     // With one more pair each that reaches its first number reaches also what its second number reaches.
@@ -114,7 +115,7 @@ impl Reach {
         requires { to < length self.old }
         ensures { OnOk result (AddsPair self.old self.new from to) }
     {
-        if self.leads(from, to) {
+        if self.reaches(from, to) {
             return Ok(());
         }
         let beyond = self.rows[to].copy(alloc)?;
@@ -124,7 +125,7 @@ impl Reach {
         Ok(())
     }
 
-    /// Which of the numbers below `n` reach which by the pairs. Each pair in turn is added to the closure of those before it
+    /// Which numbers below `n` reach which by the pairs. Each pair in turn is added to the closure of those before it
     /// (Ibaraki and Katoh, "On-line computation of transitive closures of graphs", 1983).
     pub fn of_pairs(alloc: Global, n: usize, pairs: &[(usize, usize)]) -> Result<Reach, Memory>
         requires { AreBelow n pairs.now }

@@ -1,5 +1,5 @@
 -- The kind of each kind of expression.
-use Rattle.std.proofs.Common.{◌≡◌, ℕ, suc, ◌+◌, ℤ, Bool, false, not, ◌&&◌, List, [], ◌∷◌, map, length, refl, ap, ◌∙◌, arith}
+use Rattle.std.proofs.Common.{◌≡◌, ℕ, suc, ◌+◌, ℤ, Bool, false, not, ◌&&◌, List, [], ◌∷◌, map, length, true, refl, ap, sym, ◌∙◌, arith}
 use Rattle.std.specs.declared.boxed.Box.{Box}
 use Rattle.std.specs.declared.alloc.Global.{Global}
 use Rattle.std.proofs.lemmas.List.{length-map}
@@ -82,5 +82,24 @@ subscript-one us e = ap (is_subscript us) (subscript_of-one e)
 
 pub subscript-part : (us : List Use) (a b c : Expr) → is_subscript us (subscript_of (subs.Part a b c)) ≡ false
 subscript-part us a b c = ap (is_subscript us) (subscript_of-part a b c)
+
+-- ---- a test and then more, as the code goes through them
+
+pub first_holds : (g u s h r : Bool) → g ≡ (u && s) → g ≡ true → r ≡ h → r ≡ (u && s && h)
+first_holds g true true h r e t k = k
+first_holds g true false h r e t k = let z : ⊥ = cc in absurd z
+first_holds g false s h r e t k = let z : ⊥ = cc in absurd z
+
+pub first_fails : (g u s h : Bool) → g ≡ (u && s) → g ≡ false → g ≡ (u && s && h)
+first_fails g true true h e f = let z : ⊥ = cc in absurd z
+first_fails g true false h e f = e
+first_fails g false s h e f = e
+
+-- a kind by an expression that was told apart, of an operand that was read through its box
+pub same_operand : (us : List Use) (e f : Expr) (k j : Kind) (r : Bool) → r ≡ has_kind us (expression_of e) k → e ≡ f → k ≡ j → r ≡ has_kind us (expression_of f) j
+same_operand us e f k j r h i l = h ∙ ap (λ x. has_kind us (expression_of x) k) i ∙ ap (has_kind us (expression_of f)) l
+
+pub told : (us : List Use) (e f : Expr) (k : Kind) (r q : Bool) → r ≡ q → e ≡ f → has_kind us (expression_of f) k ≡ q → r ≡ has_kind us (expression_of e) k
+told us e f k r q h i l = h ∙ sym (ap (λ x. has_kind us (expression_of x) k) i ∙ l)
 
 pub ruleset kind_laws = (kind-int, kind-truth, kind-item, kind-un, kind-bin, kind-call, subscript-one)

@@ -7,7 +7,7 @@ ghost use Rattle.f77_grammar.specs.program.Kinds as kinds;
 ghost use Rattle.f77_names.specs.UsesView.{listed, plain_use};
 
 use crate::kind_check::KindCheck;
-use f77_names::{Use, name_of_function};
+use f77_names::Use;
 use fv_tree::{Fun, Name};
 
 impl KindCheck {
@@ -26,7 +26,7 @@ impl KindCheck {
     fn is_hidden(&self, name: Name, function: Fun) -> bool
         ensures { result ≡ kinds.is_hidden_name (listed self.now.uses) name (Some function) }
     {
-        let spelled = name_of_function(function);
+        let spelled = function.spell90().as_bytes();
         name.text() != spelled && self.has_variable(spelled)
     }
 

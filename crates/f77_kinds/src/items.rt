@@ -18,7 +18,8 @@ impl KindCheck {
 
     /// Whether three parameters of a DO loop are INTEGER values.
     pub fn are_numbers(&self, first: &Expr, last: &Expr, step: &Expr) -> bool
-        ensures { result ≡ kinds.are_numbers (listed self.now.uses) (expression_of first.now) (expression_of last.now) (expression_of step.now) }
+        ensures { result ≡ kinds.are_numbers (listed self.now.uses) (expression_of first.now) (expression_of last.now)
+            (expression_of step.now) }
     {
         self.has_kind(first, Kind::Integer)
             && self.has_kind(last, Kind::Integer)

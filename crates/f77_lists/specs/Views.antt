@@ -58,7 +58,8 @@ Lacks Syntax found = found ≡ None
 Lacks Memory found = Unit {0}
 
 abbrev pub GivesBound : Result (Bound × Bor (List Token)) Stop → Option reader.Bound → Type 0
-GivesBound (Ok r) found = found ≡ Some (record { tree = expression_of r.0.tree; depth = r.0.depth; rest = words_of r.1.now })
+GivesBound (Ok r) found =
+    found ≡ Some (record { tree = expression_of r.0.tree; depth = r.0.depth; rest = words_of r.1.now })
 GivesBound (Err e) found = Lacks e found
 
 abbrev pub GivesBounds : Result (Bounds × Bor (List Token)) Stop → Option reader.Bounds → Type 0

@@ -78,7 +78,8 @@ fn may_stand(direction: Direction, tokens: &[Token], operand: &Operand) -> bool
 // Puts an item of some depth into the innermost list.
 #[tactic(auto, using(crate::proofs::Stacks::stacks))]
 fn put(lists: &mut Vec<ItemList>, item: Item, depth: u16) -> Result<(), Stop>
-    ensures ok { OnOk result ((ws : List words.Word) → reader.put (item_of item) depth (stack lists.old.items) ws ≡ reader.Go (reader.Done (stack lists.new.items) ws)) }
+    ensures ok { OnOk result ((ws : List words.Word) → reader.put (item_of item) depth (stack lists.old.items) ws
+        ≡ reader.Go (reader.Done (stack lists.new.items) ws)) }
     ensures syntax { IsErrOf result Stop.Syntax → (ws : List words.Word)
         → reader.put (item_of item) depth (stack lists.old.items) ws ≡ reader.Fail }
 {
@@ -97,7 +98,8 @@ fn value<'a>(
     lists: &mut Vec<ItemList>,
     tokens: &'a [Token],
 ) -> Result<&'a [Token], Stop>
-    ensures value { Leaves result lists.new.items (reader.value (direction_of direction) (words_of tokens.now) (stack lists.old.items) (expressions.read (words_of tokens.now))) }
+    ensures value { Leaves result lists.new.items (reader.value (direction_of direction) (words_of tokens.now)
+        (stack lists.old.items) (expressions.read (words_of tokens.now))) }
     ensures shorter { IfOk result (λ rest. length rest.now < length tokens.now) }
 {
     let (operand, rest) = read(alloc, tokens)?;
@@ -116,7 +118,8 @@ fn text(
     lists: &mut Vec<ItemList>,
     text: &Seq<u8>,
 ) -> Result<(), Stop>
-    ensures ok { OnOk result ((ws : List words.Word) → reader.text (direction_of direction) text.now (stack lists.old.items) ws ≡ reader.Go (reader.Done (stack lists.new.items) ws)) }
+    ensures ok { OnOk result ((ws : List words.Word) → reader.text (direction_of direction) text.now
+        (stack lists.old.items) ws ≡ reader.Go (reader.Done (stack lists.new.items) ws)) }
     ensures syntax { IsErrOf result Stop.Syntax → (ws : List words.Word)
         → reader.text (direction_of direction) text.now (stack lists.old.items) ws ≡ reader.Fail }
 {
@@ -133,7 +136,8 @@ fn simple<'a>(
     lists: &mut Vec<ItemList>,
     tokens: &'a [Token],
 ) -> Result<&'a [Token], Stop>
-    ensures simple { Leaves result lists.new.items (reader.simple (direction_of direction) (stack lists.old.items) (words_of tokens.now)) }
+    ensures simple { Leaves result lists.new.items (reader.simple (direction_of direction) (stack lists.old.items)
+        (words_of tokens.now)) }
     ensures shorter { IfOk result (λ rest. length rest.now < length tokens.now) }
 {
     match tokens {
@@ -153,7 +157,8 @@ fn begin<'a>(
     lists: &mut Vec<ItemList>,
     tokens: &'a [Token],
 ) -> Result<Turn<'a>, Stop>
-    ensures begin { Turns result lists.new.items (reader.begin (direction_of direction) (stack lists.old.items) (words_of tokens.now)) }
+    ensures begin { Turns result lists.new.items (reader.begin (direction_of direction) (stack lists.old.items)
+        (words_of tokens.now)) }
     ensures shorter { IfOk result (λ turn. IsShorter turn (length tokens.now)) }
 {
     match opened(tokens) {
@@ -173,7 +178,8 @@ fn repeat<'a>(
     name: Name,
     tokens: &'a [Token],
 ) -> Result<&'a [Token], Stop>
-    ensures repeat { Leaves result lists.new.items (reader.repeat name (stack lists.old.items) (reader.bounds (words_of tokens.now))) }
+    ensures repeat { Leaves result lists.new.items (reader.repeat name (stack lists.old.items)
+        (reader.bounds (words_of tokens.now))) }
     ensures shorter { IfOk result (λ rest. length rest.now < length tokens.now) }
 {
     let (bounds, rest) = read_bounds(alloc, tokens)?;
@@ -206,7 +212,8 @@ fn behind_comma<'a>(
     lists: &mut Vec<ItemList>,
     tokens: &'a [Token],
 ) -> Result<Turn<'a>, Stop>
-    ensures comma { Turns result lists.new.items (reader.behind_comma (stack lists.old.items) (words_of tokens.now) (reader.control (words_of tokens.now))) }
+    ensures comma { Turns result lists.new.items (reader.behind_comma (stack lists.old.items) (words_of tokens.now)
+        (reader.control (words_of tokens.now))) }
     ensures shorter { IfOk result (λ turn. IsShorter turn (length tokens.now + 1)) }
 {
     match control(tokens) {
@@ -238,7 +245,8 @@ fn step<'a>(
     is_due: bool,
     tokens: &'a [Token],
 ) -> Result<Turn<'a>, Stop>
-    ensures step { Turns result lists.new.items (reader.step (direction_of direction) (state_of is_due lists.old.items (words_of tokens.now))) }
+    ensures step { Turns result lists.new.items (reader.step (direction_of direction)
+        (state_of is_due lists.old.items (words_of tokens.now))) }
     ensures shorter { IfOk result (λ turn. IsShorter turn (length tokens.now)) }
 {
     if is_due {

@@ -62,8 +62,8 @@ is_again_by f Counter = false
 -- the program's name stands as another name, or Fortran 90 spells a function so that is called
 abbrev pub bears_title_by : Names → Names → Use → Bool
 bears_title_by before names u =
-    not (is_title u.role)
-    && ((facts_in before u.name).title || (facts_in before (printed_by (called_by (facts_in names u.name) u) u.name)).title)
+    let printed = printed_by (called_by (facts_in names u.name) u) u.name in
+    not (is_title u.role) && ((facts_in before u.name).title || (facts_in before printed).title)
 
 -- the name is a symbolic constant, by the statements before or earlier in the same
 abbrev pub is_constant_in : Names → Names → List ℕ → Bool

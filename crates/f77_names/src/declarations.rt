@@ -13,11 +13,10 @@ ghost use Rattle.f77_names.specs.Seen.{Declares, Passes};
 ghost use Rattle.f77_names.specs.NameFacts.{facts_in};
 ghost use Rattle.f77_names.specs.UsesView.{role_of, plain_use};
 
-use crate::functions::{function_named, name_of_function};
 use crate::names::{Facts, Names, names_of_text};
 use crate::statement_parts::is_declaration;
 use crate::uses::{Role, Use, Uses};
-use fv_tree::{Memory, Name};
+use fv_tree::{Fun, Memory, Name};
 use f77_syntax::{Labelled, Stmt77};
 use std::alloc::Global;
 
@@ -49,7 +48,7 @@ impl Facts {
         if self.is_array() {
             return self.dimensions.unwrap_or(0) == count;
         }
-        function_named(name).is_some()
+        Fun::read77(name.text()).is_some()
     }
 
     fn is_misused(self, name: Name, role: Role) -> bool
@@ -89,7 +88,8 @@ impl Names {
 
     // In an executable statement with these uses, a name doesn't suit its list, or a symbolic constant is assigned.
     fn has_misused_name(&self, statement: &Stmt77, uses: &[Use]) -> bool
-        ensures { result ≡ (not (is_declaration (statement_of statement.now)) && list_any (is_misused_use self.now) (map plain_use uses.now)) }
+        ensures { result ≡ (not (is_declaration (statement_of statement.now))
+            && list_any (is_misused_use self.now) (map plain_use uses.now)) }
     {
         !is_declaration(statement) && self.has_misused(uses)
     }
@@ -104,8 +104,8 @@ impl Names {
         }
     }
 
-    // The program's name stands as another name, or Fortran 90 spells a function so that is called; `names` are those of
-    // the whole program.
+    // The program's name stands as another name, or Fortran 90 spells a function so that is called; `names` are those
+    // of the whole program.
     #[tactic(auto, using(crate::proofs::TitleLaws::title_laws))]
     fn bears_title(&self, names: &Names, used: &Use) -> bool
         ensures { result ≡ bears_title_by self.now names.now (plain_use used.now) }
@@ -117,7 +117,7 @@ impl Names {
             return true;
         }
         match names.called(used) {
-            Some(function) => self.has_title(name_of_function(function)),
+            Some(function) => self.has_title(function.spell90().as_bytes()),
             None => false,
         }
     }
@@ -170,7 +170,8 @@ impl Names {
 /// The place of the first statement that declares a name again or as two things, has the program's name as another
 /// name, defines by a name that isn't defined before it, or has a name that doesn't suit what it is declared as.
 pub fn wrong_declaration(alloc: Global, text: &[Labelled]) -> Result<Option<usize>, Memory>
-    ensures { IfOk result (λ place. place ≡ first_index (is_declared_wrongly (plain.uses_in_text (text_of text.now))) (text_of text.now)) }
+    ensures { IfOk result (λ place. place ≡ first_index (is_declared_wrongly (plain.uses_in_text (text_of text.now)))
+        (text_of text.now)) }
 {
     let names = names_of_text(alloc, text)?;
     let mut before = Names::new(alloc);

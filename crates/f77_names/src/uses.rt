@@ -107,7 +107,8 @@ impl Uses {
     #[cycle(uses)]
     #[tactic(auto, using(crate::proofs::UseLaws::use_laws))]
     fn add_value(&mut self, item: &Ref) -> Result<(), Memory>
-        ensures { OnOk result (listed self.new ≡ listed self.old ++ plain.uses_in (expression_of (exprs.Item item.now))) }
+        ensures { OnOk result (listed self.new ≡ listed self.old
+            ++ plain.uses_in (expression_of (exprs.Item item.now))) }
     {
         self.note(item.name, Role::Valued(item.subs.len()))?;
         self.add_subs(&item.subs)
@@ -115,7 +116,8 @@ impl Uses {
 
     #[cycle(uses)]
     fn add_exprs(&mut self, exprs: &Seq<Expr>) -> Result<(), Memory>
-        ensures { OnOk result (listed self.new ≡ listed self.old ++ plain.uses_in_arguments (expressions (map expression_of exprs.now))) }
+        ensures { OnOk result (listed self.new ≡ listed self.old
+            ++ plain.uses_in_arguments (expressions (map expression_of exprs.now))) }
     {
         for expr in exprs.as_slice() {
             self.add_expr(expr)?;
@@ -136,7 +138,8 @@ impl Uses {
 
     #[cycle(uses)]
     pub fn add_subs(&mut self, subs: &Seq<Sub>) -> Result<(), Memory>
-        ensures { OnOk result (listed self.new ≡ listed self.old ++ plain.uses_in_subscripts (subscripts (map subscript_of subs.now))) }
+        ensures { OnOk result (listed self.new ≡ listed self.old
+            ++ plain.uses_in_subscripts (subscripts (map subscript_of subs.now))) }
     {
         for sub in subs.as_slice() {
             self.add_sub(sub)?;

@@ -1,4 +1,4 @@
-use Rattle.std.proofs.Common.{◌≡◌, ◌<◌, ℕ, Option, Some, None, List, [], ◌∷◌, ◌++◌, sym, ap, subst, append_assoc, append-nil, ◌∙◌, length, not}
+use Rattle.std.proofs.Common.{◌≡◌, ◌<◌, Some, None, [], ◌∷◌, ◌++◌, sym, ap, subst, append_assoc, append-nil, ◌∙◌, length, not}
 use Rattle.std.specs.List.{filter, find}
 use Rattle.components.specs.Lists.{In}
 use Rattle.components.specs.Tables.{holds_both, is_source}

@@ -1,6 +1,6 @@
 use Rattle.std.proofs.Common.{◌+◌, sym, subst}
 use Rattle.components.specs.Lists.{IsUpTo}
-use Rattle.components.proofs.ListLaws.{IsUpTo-none, IsUpTo-more}
+use Rattle.components.proofs.ListLaws.{IsUpTo-more}
 use Rattle.components.proofs.classes.numbers_below.Goals as goal
 
 pub loop-number-preserved : goal.loop-number-preserved

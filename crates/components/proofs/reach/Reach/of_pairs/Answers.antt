@@ -1,4 +1,4 @@
-use Rattle.std.proofs.Common.{◌+◌, ◌<◌, ℕ, length, get_or, take, sym, subst, arith}
+use Rattle.std.proofs.Common.{◌<◌, ℕ, length, get_or, take, sym, subst, arith}
 use Rattle.std.proofs.lemmas.List.{take_more}
 use Rattle.components.specs.Tables.{IsClosure}
 use Rattle.components.proofs.Closures.{closure_of_more}

@@ -1,4 +1,4 @@
-use Rattle.std.proofs.Common.{◌≡◌, ℕ, ◌<◌, false, true, [], get_or, set, replicate, ◌∙◌, arith}
+use Rattle.std.proofs.Common.{◌≡◌, ◌∙◌, arith}
 use Rattle.components.proofs.Closures.{closure_of_none}
 use Rattle.components.proofs.reach.Reach.without_pairs.Goals as goal
 
