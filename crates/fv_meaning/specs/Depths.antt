@@ -1,33 +1,14 @@
 -- How deep an expression is as it is printed: each operator, each list in parentheses and each parenthesis that it
 -- needs counts one for what stands in it (own; the levels of operators are those of ISO/IEC 1539:1991, section 7.3).
 use Rattle.std.specs.Prelude.{ℕ, ◌+◌, max, nat_le, if◌then◌else◌}
-use Rattle.fv_tree.specs.OperatorTable.{level_of}
+use Rattle.fv_tree.specs.OperatorTable.{level_of, left_least, right_least}
 use Rattle.fv_tree.specs.Plain.{Expression, Number, Logic, Named, Unary, Binary, Apply, Constructor, Spread, Transpose}
 use Rattle.fv_tree.specs.Plain.{Reshape, Reduce}
 use Rattle.fv_tree.specs.Plain.{Expressions, no_expressions, expression, Subscript, Only, Section, Subscripts}
 use Rattle.fv_tree.specs.Plain.{no_subscripts, subscript}
 use Rattle.fv_tree.specs.Plain.{Loops, no_loops, loop, Item, Single, Constant, ImpliedDo, Items, no_items, item}
-use Rattle.fv_tree.specs.declared.ops.Op.{Op}
-use Rattle.fv_tree.specs.declared.ops.Op.TheVariants.{Pow, Lt, Le, Eq, Ne, Gt, Ge}
 
 -- ---- which operands need parentheses
-
--- the least level of the operand to the left: an operator groups to the left, but a power to the right, and a relation
--- not at all
-abbrev pub left_least : Op → ℕ
-left_least Pow = level_of Pow + 1
-left_least Lt = level_of Lt + 1
-left_least Le = level_of Le + 1
-left_least Eq = level_of Eq + 1
-left_least Ne = level_of Ne + 1
-left_least Gt = level_of Gt + 1
-left_least Ge = level_of Ge + 1
-left_least o = level_of o
-
--- the least level of the operand to the right, and of the one operand that `Neg` and `Not` have
-abbrev pub right_least : Op → ℕ
-right_least Pow = level_of Pow
-right_least o = level_of o + 1
 
 -- the level of its outermost operator, and more than that of any where it has none
 abbrev pub level : Expression → ℕ

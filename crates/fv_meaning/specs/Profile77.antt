@@ -8,6 +8,7 @@ use Rattle.fv_tree.specs.Plain.{Expression, Named, Reference, Statement, Assignm
 use Rattle.fv_tree.specs.Plain.{Print, Arms, no_arms, arm, Block, no_statements, statement, Extent, Given, Later}
 use Rattle.fv_tree.specs.Plain.{Declaration, Program}
 use Rattle.fv_tree.specs.declared.ops.Kind.TheVariants.{Integer, Logical}
+use Rattle.fv_tree.specs.Limits as limits
 use Rattle.fv_meaning.specs.Dialect.{Dialect}
 use Rattle.fv_meaning.specs.Store.{names_of, size_of}
 use Rattle.fv_meaning.specs.Names.{IsSymbolicName, IsInByteOrder}
@@ -45,15 +46,15 @@ IsFixed (Later n) = ⊥
 pub record IsDeclaration (d : Dialect) (e : Declaration) : Type 0 where
   pub fixed : IsFixed e.extent
   pub name : IsSymbolicName e.name
-  pub few : length (dimensions e.extent) ≤ 7
+  pub few : length (dimensions e.extent) ≤ limits.array_dimensions
   pub dimension : AllByRecursion (IsDimension d) (dimensions e.extent)
 
--- at most 1,000 names, in byte order and none twice, and at most 2^22 elements in all arrays
+-- in byte order and none twice; the number of names is limited, and so is that of elements in all arrays
 pub record AreDeclarations (d : Dialect) (ds : List Declaration) : Type 0 where
   pub each : AllByRecursion (IsDeclaration d) ds
   pub ordered : IsInByteOrder (map (λ (e : Declaration). e.name) ds)
-  pub few : length ds ≤ 1000
-  pub elements : sum (map (λ (e : Declaration). array_elements (dimensions e.extent)) ds) ≤ 2 ^ 22
+  pub few : length ds ≤ limits.program_names77
+  pub elements : sum (map (λ (e : Declaration). array_elements (dimensions e.extent)) ds) ≤ limits.array_elements
 
 -- ---- statements (sections 10, 11 and 12)
 
@@ -99,7 +100,7 @@ pub record IsProgram77 (d : Dialect) (p : Program) : Type 0 where
   pub name : IfSome p.name (λ x. IsSymbolicName x × (Contains (names_of p) x → ⊥) × (Contains (names_called p) x → ⊥))
   pub declarations : AreDeclarations d p.declarations
   pub statements : IsBlock p.declarations p.body outermost
-  pub blocks : blocks_in p.body ≤ 100
+  pub blocks : blocks_in p.body ≤ limits.block_depth77
   pub labels : IsWithoutRepeats (all_labels_in p.body)
   pub named : AllByRecursion (Contains (targets_in p.body)) (all_labels_in p.body)
   pub few : statements_in p.body < 2 ^ 31

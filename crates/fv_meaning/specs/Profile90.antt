@@ -12,6 +12,7 @@ use Rattle.fv_tree.specs.Plain.{Expression, Named, Reference, Expressions, Exten
 use Rattle.fv_tree.specs.Plain.{Statement, Assignment, Where, If, Do, Label, GoTo, Stop, Read, Print, Allocate}
 use Rattle.fv_tree.specs.Plain.{Deallocate}
 use Rattle.fv_tree.specs.Plain.{Arms, no_arms, arm, Block, no_statements, statement}
+use Rattle.fv_tree.specs.Limits as limits
 use Rattle.fv_meaning.specs.Names.{IsLongName, IsInByteOrder}
 use Rattle.fv_meaning.specs.Depths.{depth_of, depth_of_each, depth_of_items}
 use Rattle.fv_meaning.specs.Typed.{dimensions, declared, number_of_arguments}
@@ -31,24 +32,20 @@ pub record IsDimension (b : ℤ × ℤ) : Type 0 where
 
 -- of a scalar, an array with its bounds, or an allocatable array, which has one dimension at least
 abbrev pub IsExtent : Extent → Type 0
-IsExtent (Given bs) = (length bs ≤ 7) × AllByRecursion IsDimension bs
-IsExtent (Later n) = (1 ≤ n) × (n ≤ 7)
+IsExtent (Given bs) = (length bs ≤ limits.array_dimensions) × AllByRecursion IsDimension bs
+IsExtent (Later n) = (1 ≤ n) × (n ≤ limits.array_dimensions)
 
 pub record IsDeclaration (e : Declaration) : Type 0 where
   pub name : IsLongName e.name
   pub extent : IsExtent e.extent
 
--- in byte order of names and none twice, with at most 2^22 elements in all arrays but the allocatable ones
+-- in byte order of names and none twice; how many elements all arrays but the allocatable ones have is limited
 pub record AreDeclarations (ds : List Declaration) : Type 0 where
   pub each : AllByRecursion IsDeclaration ds
   pub ordered : IsInByteOrder (map (λ (e : Declaration). e.name) ds)
-  pub elements : sum (map (λ (e : Declaration). array_elements (dimensions e.extent)) ds) ≤ 2 ^ 22
+  pub elements : sum (map (λ (e : Declaration). array_elements (dimensions e.extent)) ds) ≤ limits.array_elements
 
 -- ---- statements (sections 6.3, 7.5, 8.1, 8.2 and 9.4)
-
--- how deep a text may be
-abbrev pub deepest : ℕ
-deepest = 1000
 
 pub record IsMark (m : Mark) : Type 0 where
   pub nest : m.nest < 2 ^ 32
@@ -67,11 +64,11 @@ module _ (ds : List Declaration) where
   -- an expression of this kind, not too deep
   pub record IsWhole (e : Expression) (k : Kind) : Type 0 where
     pub suits : HasKind ds e k
-    pub depth : depth_of e ≤ deepest
+    pub depth : depth_of e ≤ limits.expression_depth90
 
   pub record IsWholeScalar (e : Expression) (k : Kind) : Type 0 where
     pub suits : IsScalar ds e k
-    pub depth : depth_of e ≤ deepest
+    pub depth : depth_of e ≤ limits.expression_depth90
 
   -- The left side is a variable, an element, an array or a section, no DO variable of a loop round it. The right side
   -- has its kind, and its rank or that of a scalar
@@ -90,7 +87,7 @@ module _ (ds : List Declaration) where
   abbrev pub IsAllocation : List ℕ → Expressions → Type 0
   IsAllocation x es =
       IsSomeAnd (declared ds x) (λ d. d.extent ≡ Later (number_of_arguments es))
-      × AreScalars ds es Integer × (depth_of_each es ≤ deepest)
+      × AreScalars ds es Integer × (depth_of_each es ≤ limits.expression_depth90)
 
   abbrev mutual
     -- An IF has at least one arm, and its conditions are scalars. So are a loop's parameters. A GO TO names a label
@@ -106,8 +103,8 @@ module _ (ds : List Declaration) where
     IsStatement (Label n) w = IsLabel n
     IsStatement (GoTo line n) w = IsLine line × Contains w.ahead n
     IsStatement (Stop line) w = IsLine line
-    IsStatement (Read line is) w = IsLine line × AreInputItems ds is w.variables × (depth_of_items is ≤ deepest)
-    IsStatement (Print line is) w = IsLine line × AreOutputItems ds is w.variables × (depth_of_items is ≤ deepest)
+    IsStatement (Read line is) w = IsLine line × AreInputItems ds is w.variables × (depth_of_items is ≤ limits.expression_depth90)
+    IsStatement (Print line is) w = IsLine line × AreOutputItems ds is w.variables × (depth_of_items is ≤ limits.expression_depth90)
     IsStatement (Allocate line x es) w = IsLine line × IsAllocation x es
     IsStatement (Deallocate line x) w = IsLine line × IsSomeAnd (declared ds x) (λ d. IsAllocatable d.extent)
 
@@ -127,7 +124,7 @@ pub record IsProgram90 (p : Program) : Type 0 where
   pub name : IfSome p.name IsLongName
   pub declarations : AreDeclarations p.declarations
   pub statements : IsBlock p.declarations p.body outermost
-  pub blocks : blocks_in p.body ≤ 300
+  pub blocks : blocks_in p.body ≤ limits.block_depth90
   pub labels : IsWithoutRepeats (all_labels_in p.body)
   pub named : AllByRecursion (Contains (targets_in p.body)) (all_labels_in p.body)
   pub few : statements_in p.body < 2 ^ 31

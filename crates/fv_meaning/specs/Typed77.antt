@@ -1,12 +1,13 @@
 -- Expressions and lists of a FORTRAN 77 program's tree whose kinds suit, by the declarations (ANSI X3.9-1978, sections
 -- 5.4, 6, 11.10.1, 12.8.2 and 15.10).
-use Rattle.std.specs.Prelude.{◌≡◌, ◌⊎◌, ℕ, ◌≤◌, not, IsTrue, None, List, ◌∷◌, length, Contains}
+use Rattle.std.specs.Prelude.{◌≡◌, ◌⊎◌, ℕ, ◌+◌, ◌≤◌, not, IsTrue, None, List, ◌∷◌, length, Contains}
 use Rattle.std.specs.Option.{IsSomeAnd}
 use Rattle.fv_tree.specs.Plain.{Expression, Number, Logic, Named, Unary, Binary, Apply, Expressions, no_expressions}
 use Rattle.fv_tree.specs.Plain.{expression, Subscript, Only, Subscripts, no_subscripts, subscript, Item, Single}
 use Rattle.fv_tree.specs.Plain.{Constant, ImpliedDo, Items, no_items, item, Declaration}
 use Rattle.fv_tree.specs.declared.ops.Kind.{Kind}
 use Rattle.fv_tree.specs.declared.ops.Kind.TheVariants.{Integer, Logical}
+use Rattle.fv_tree.specs.Limits.{expression_depth77}
 use Rattle.fv_tree.specs.Functions.{name_of_function, suits_number}
 use Rattle.fv_meaning.specs.Depths.{depth_of}
 pub use Rattle.fv_meaning.specs.Typed.{number_of_arguments}
@@ -14,10 +15,10 @@ pub use Rattle.fv_tree.specs.OperatorTable.{operand_kind, is_relation, result_ki
 pub use Rattle.fv_meaning.specs.Typed.{number_of_subscripts}
 pub use Rattle.fv_meaning.specs.Typed.{dimensions, declared, IsLiteral, has_item, IsText}
 
--- The text of an expression is at most 400 deep in a source. A symbolic constant with a negative value stands in the
+-- How deep an expression is in its text is limited in a source. A symbolic constant with a negative value stands in the
 -- tree as the negative of a literal, which may add an operator and a parenthesis
 abbrev pub deepest : ℕ
-deepest = 402
+deepest = expression_depth77 + 2
 
 -- ---- kinds, by the declarations `ds`
 module _ (ds : List Declaration) where

@@ -1,6 +1,6 @@
 -- Expressions and lists of a Fortran 90 program's tree whose kinds and ranks suit, by the declarations (ISO/IEC
 -- 1539:1991, sections 4.5, 6.2, 7.1, 9.4.2 and 13.13).
-use Rattle.std.specs.Prelude.{◌≡◌, ◌⊎◌, ℕ, ◌+◌, ◌≤◌, max, not, IsTrue, Some, None, List, ◌∷◌, codes, Contains}
+use Rattle.std.specs.Prelude.{◌≡◌, ◌⊎◌, ℕ, ◌+◌, ◌<◌, ◌≤◌, max, not, IsTrue, Some, None, List, ◌∷◌, codes, Contains}
 use Rattle.std.specs.Option.{IsSomeAnd}
 use Rattle.fv_tree.specs.Plain.{Expression, Number, Logic, Named, Unary, Binary, Apply, Constructor, Spread, Transpose}
 use Rattle.fv_tree.specs.Plain.{Reshape, Reduce}
@@ -10,6 +10,7 @@ use Rattle.fv_tree.specs.Plain.{Loops, no_loops, loop, Item, Single, Constant, I
 use Rattle.fv_tree.specs.Plain.{Declaration}
 use Rattle.fv_tree.specs.declared.ops.Kind.{Kind}
 use Rattle.fv_tree.specs.declared.ops.Kind.TheVariants.{Integer, Logical}
+use Rattle.fv_tree.specs.Limits.{array_dimensions}
 use Rattle.fv_tree.specs.Functions.{name_of_function, name_of_reduction, suits_number}
 use Rattle.fv_meaning.specs.Typed.{number_of_arguments, number_of_subscripts}
 use Rattle.fv_tree.specs.OperatorTable.{operand_kind, result_kind_of, is_unary}
@@ -88,11 +89,11 @@ module _ (ds : List Declaration) where
         IsTrue (suits_number f (number_of_arguments es)) × IsFree (name_of_function f) × (k ≡ Integer) × AreArguments es
     HasKind (Constructor es ls) k = AreScalars es k × SuitsLoops ls (number_of_arguments es) × AreLoops ls
     HasKind (Spread a d n) k =
-        IsFree (codes "SPREAD") × (1 ≤ d) × (d ≤ rank_of a + 1) × (rank_of a ≤ 6)
+        IsFree (codes "SPREAD") × (1 ≤ d) × (d ≤ rank_of a + 1) × (rank_of a < array_dimensions)
         × HasKind a k × HasKind n Integer × (rank_of n ≡ 0)
     HasKind (Transpose a) k = IsFree (codes "TRANSPOSE") × (rank_of a ≡ 2) × HasKind a k
     HasKind (Reshape a es) k =
-        IsFree (codes "RESHAPE") × (1 ≤ rank_of a) × (1 ≤ number_of_arguments es) × (number_of_arguments es ≤ 7)
+        IsFree (codes "RESHAPE") × (1 ≤ rank_of a) × (1 ≤ number_of_arguments es) × (number_of_arguments es ≤ array_dimensions)
         × HasKind a k × AreScalars es Integer
     HasKind (Reduce r a) k = IsFree (name_of_reduction r) × (1 ≤ rank_of a) × (k ≡ Integer) × HasKind a Integer
 
