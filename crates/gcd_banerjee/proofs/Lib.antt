@@ -1,1 +1,2 @@
 pub mod Gcds
+pub mod Multiples
