@@ -1,1 +1,3 @@
 pub mod Divisors
+pub mod Least
+pub mod Terms

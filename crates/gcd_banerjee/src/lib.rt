@@ -7,5 +7,7 @@
 
 mod divisors;
 mod gcd_test;
+mod least;
+mod terms;
 
 pub use gcd_test::gcd_refutes;
