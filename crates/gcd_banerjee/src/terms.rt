@@ -7,7 +7,7 @@ ghost use Rattle.std.specs.Prelude.{◌≡◌, ◌≢◌, ◌≤◌, ◌^◌, �
 ghost use Rattle.gcd_banerjee.specs.Least.{IsLeastOf, IsWithin};
 ghost use Rattle.gcd_banerjee.specs.Terms.{IsAlong, IsBeforeValue, IsTermValue, room_from};
 
-use crate::least::{least_over_triangle, Least};
+use crate::least::{least_over, Least};
 use subscripts::{Dir, Span};
 
 // How many steps are left from an iteration to the last one.
@@ -28,7 +28,7 @@ fn least_along(c: i128, last: Option<i64>) -> Least
     ensures least { IsLeastOf (IsAlong c last) result }
     ensures within { IsWithin (2 ^ 109) result }
 {
-    least_over_triangle(c, steps_from(1, last), c, c)
+    least_over(c, steps_from(1, last), c, c)
 }
 
 // The least `first * i - second * j`, for all i before j from 1 to the last one. The first of them is 1 and 2.
@@ -38,7 +38,7 @@ fn least_before(first: i128, second: i128, last: Option<i64>) -> Least
     ensures least { IsLeastOf (IsBeforeValue first second last) result }
     ensures within { IsWithin (2 ^ 109) result }
 {
-    least_over_triangle(first - second - second, steps_from(2, last), first - second, -second)
+    least_over(first - second - second, steps_from(2, last), first - second, -second)
 }
 
 // The least `first * i - second * j` over the iterations i and j that stand to each other as the direction says.
