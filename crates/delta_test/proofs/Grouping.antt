@@ -15,7 +15,7 @@ use Rattle.line_points.specs.Least.{IsWithin, HasNone, IsLeast}
 use Rattle.delta_test.specs.declared.constraint.Constraint.{Constraint}
 use Rattle.delta_test.specs.declared.constraint.Constraint.TheVariants.{AtPoint}
 use Rattle.delta_test.specs.Constraints.{Allows}
-use Rattle.line_points.specs.Crossings.{IsSmall}
+use Rattle.line_points.specs.Crossings.{IsSmallLine}
 use Rattle.delta_test.specs.Groups.{IsNoneLeft, IsLeastLeft, OnAll, IsNoneOfLines, IsLeastOfLines}
 use Rattle.line_points.proofs.Ring.{ring, linear, times_plus, times_neg}
 use Rattle.line_points.proofs.PointsOfLine.{cancel}
@@ -44,14 +44,14 @@ opposite_back a b c i j z e =
     let e' = simp (times_plus, times_neg) at e in
     omega (arith, linear)
 
-pub first_not_zero : (l : Line) → IsSmall l → l.first +ℤ l.second ≡ pos 0 → 0 < unsigned_abs l.first
+pub first_not_zero : (l : Line) → IsSmallLine l → l.first +ℤ l.second ≡ pos 0 → 0 < unsigned_abs l.first
 first_not_zero l s z =
     zero_or {P = 0 < unsigned_abs l.first} (unsigned_abs l.first) (λ e. let f : l.first ≡ pos 0 = zero_from_abs l.first e in absurd (s.slanted f (omega (arith, linear)))) (λ h. h)
 
 pub no_distance : (l : Line) (q : Quotient) → l.first +ℤ l.second ≡ pos 0 → IsQuotient l.constant l.first q → (q.rest ≡ pos 0 → ⊥) → (i j : ℤ) → OnLine l i j → ⊥
 no_distance l q z k n i j o = n (not_whole l.first l.constant (i -ℤ j) q k (opposite l.first l.second l.constant i j z o.equal))
 
-pub distance_is : (l : Line) (q : Quotient) (far : ℤ) → IsSmall l → l.first +ℤ l.second ≡ pos 0 → IsQuotient l.constant l.first q → q.rest ≡ pos 0 → far ≡ neg_ℤ q.times
+pub distance_is : (l : Line) (q : Quotient) (far : ℤ) → IsSmallLine l → l.first +ℤ l.second ≡ pos 0 → IsQuotient l.constant l.first q → q.rest ≡ pos 0 → far ≡ neg_ℤ q.times
     → (i j : ℤ) → (j ≡ i +ℤ far) ↔ OnLine l i j
 distance_is l q far s z k r f i j =
     let t : l.first *ℤ q.times ≡ l.constant = *ℤ_comm l.first q.times ∙ omega (arith, linear, k.whole) in (

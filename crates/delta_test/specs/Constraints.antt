@@ -1,7 +1,7 @@
 -- Constraints on the two iterations of one loop.
 use Rattle.std.specs.Prelude.{◌≡◌, ℤ, ◌+ℤ◌, ◌≤◌, ◌^◌, ◌↔◌, unsigned_abs}
 use Rattle.line_points.specs.Lines.{OnLine}
-use Rattle.line_points.specs.Crossings.{IsSmall}
+use Rattle.line_points.specs.Crossings.{IsSmallLine}
 use Rattle.delta_test.specs.declared.constraint.Constraint.{Constraint}
 use Rattle.delta_test.specs.declared.constraint.Constraint.TheVariants.{Anywhere, AtPoint, AtDistance, AlongLine, Nowhere}
 
@@ -18,7 +18,7 @@ abbrev pub IsConstraint : Constraint → Type 0
 IsConstraint Anywhere = Unit {0}
 IsConstraint (AtPoint x y) = (unsigned_abs x ≤ 2 ^ 83) × (unsigned_abs y ≤ 2 ^ 83)
 IsConstraint (AtDistance d) = unsigned_abs d ≤ 2 ^ 41
-IsConstraint (AlongLine l) = IsSmall l
+IsConstraint (AlongLine l) = IsSmallLine l
 IsConstraint Nowhere = Unit {0}
 
 -- what is left is what both leave

@@ -1,7 +1,7 @@
 // Constraints on the two iterations of one loop, and where two of them meet.
 ghost use Rattle.std.specs.Prelude.{◌≡◌, ◌≤◌, ◌^◌, ℤ, ◌↔◌, IsTrue, unsigned_abs, ◌+ℤ◌};
 ghost use Rattle.line_points.specs.Lines.{OnLine};
-ghost use Rattle.line_points.specs.Crossings.{IsSmall};
+ghost use Rattle.line_points.specs.Crossings.{IsSmallLine};
 ghost use Rattle.delta_test.specs.Constraints.{IsConstraint, Allows, IsMeet};
 
 use line_points::{Crossing, Line, common_points, times};
@@ -17,7 +17,7 @@ pub enum Constraint {
 }
 
 fn is_on(line: Line, i: i128, j: i128) -> bool
-    requires line { IsSmall line }
+    requires line { IsSmallLine line }
     requires i { unsigned_abs i ≤ 2 ^ 83 }
     requires j { unsigned_abs j ≤ 2 ^ 83 }
     ensures { IsTrue result ↔ OnLine line i j }
@@ -43,8 +43,8 @@ fn allows(constraint: Constraint, i: i128, j: i128) -> bool
 
 /// Two lines' common points, where all points of the first are those of `kept`.
 fn along_both(kept: Constraint, one: Line, other: Line) -> Constraint
-    requires one { IsSmall one }
-    requires other { IsSmall other }
+    requires one { IsSmallLine one }
+    requires other { IsSmallLine other }
     requires kept { IsConstraint kept }
     requires same { (i j : ℤ) → Allows kept i j ↔ OnLine one i j }
     ensures meet { (i j : ℤ) → Allows result i j ↔ (OnLine one i j × OnLine other i j) }
@@ -61,7 +61,7 @@ fn along_both(kept: Constraint, one: Line, other: Line) -> Constraint
 pub(crate) fn line_of_distance(distance: i128) -> Line
     requires { unsigned_abs distance ≤ 2 ^ 41 }
     ensures line { (i j : ℤ) → (j ≡ i +ℤ distance) ↔ OnLine result i j }
-    ensures small { IsSmall result }
+    ensures small { IsSmallLine result }
 {
     Line {
         first: 1,

@@ -3,7 +3,7 @@ ghost use Rattle.std.specs.Prelude.{◌≡◌, ◌≤◌, ◌^◌, ℤ, ◌↔�
 ghost use Rattle.std.specs.List.{All};
 ghost use Rattle.line_points.specs.Lines.{OnLine};
 ghost use Rattle.line_points.specs.Least.{IsWithin};
-ghost use Rattle.line_points.specs.Crossings.{IsSmall};
+ghost use Rattle.line_points.specs.Crossings.{IsSmallLine};
 ghost use Rattle.delta_test.specs.Constraints.{IsConstraint, Allows};
 ghost use Rattle.delta_test.specs.Groups.{IsLeastLeft, IsNoneLeft, IsLeastOfLines, IsNoneOfLines};
 
@@ -13,7 +13,7 @@ use subscripts::Dir;
 
 /// The constraint that a line is: a distance where its coefficients are opposite.
 fn constraint_of(line: Line) -> Constraint
-    requires { IsSmall line }
+    requires { IsSmallLine line }
     ensures same { (i j : ℤ) → Allows result i j ↔ OnLine line i j }
     ensures constraint { IsConstraint result }
 {
@@ -92,7 +92,7 @@ pub fn least_left(left: Constraint, trip: i128, dir: Dir) -> Option<Both>
 
 /// The least pair of iterations that lies on all lines.
 pub fn least_of_lines(lines: &[Line], trip: i128, dir: Dir) -> Option<Both>
-    requires lines { All IsSmall lines.now }
+    requires lines { All IsSmallLine lines.now }
     requires trip { unsigned_abs trip ≤ 2 ^ 44 }
     ensures { MatchOption result (IsNoneOfLines lines.now trip dir) (λ at. IsLeastOfLines lines.now trip dir at.i at.j) }
 {

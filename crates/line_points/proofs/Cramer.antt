@@ -8,7 +8,7 @@ use Rattle.line_points.specs.declared.points.Line.{Line}
 use Rattle.line_points.specs.declared.whole.Quotient.{Quotient}
 use Rattle.line_points.specs.Quotient.{IsQuotient}
 use Rattle.line_points.specs.Lines.{OnLine}
-use Rattle.line_points.specs.Crossings.{IsSmall}
+use Rattle.line_points.specs.Crossings.{IsSmallLine}
 use Rattle.line_points.proofs.Ring.{ring, linear}
 use Rattle.line_points.proofs.Steps.{zero_or, zero_from_abs}
 use Rattle.line_points.proofs.PointsOfLine.{cancel, small_multiple, multiple_of}
@@ -95,7 +95,7 @@ j_solved l m all for_i for_j i j d o p =
 pub nowhere_if_parallel : (n all x : ℤ) → all ≡ pos 0 → all *ℤ x ≡ n → n ≡ pos 0
 nowhere_if_parallel n all x z e = sym e ∙ ap (λ (t : ℤ). t *ℤ x) z ∙ zero-*ℤ x
 
-pub everywhere : (l m : Line) (all for_i for_j : ℤ) → IsSmall l → IsSmall m → Determinants l m all for_i for_j → all ≡ pos 0 → for_i ≡ pos 0 → for_j ≡ pos 0
+pub everywhere : (l m : Line) (all for_i for_j : ℤ) → IsSmallLine l → IsSmallLine m → Determinants l m all for_i for_j → all ≡ pos 0 → for_i ≡ pos 0 → for_j ≡ pos 0
     → (i j : ℤ) → OnLine l i j ↔ OnLine m i j
 everywhere l m all for_i for_j sl sm d za zi zj i j =
     let p : l.first *ℤ m.second ≡ l.second *ℤ m.first = omega (arith, linear, d.all_is) in

@@ -65,12 +65,12 @@ behind_j i j ai aj at s z h l =
     (ahead_j i j (neg_ℤ ai) (neg_ℤ aj) (neg_ℤ at) (neg_ℤ s) (omega (arith, linear)) (omega (arith, linear)) (omega (arith, linear)))
 
 -- a point on the line within the trip has its number in the stretch
-pub in_stretch : (l : Line) (p : Points) (r : Stretch) (trip : ℤ) (d : Dir) (i j : ℤ) → ArePoints l p → unsigned_abs trip ≤ 2 ^ 44
+pub in_stretch : (l : Line) (p : Points) (r : Stretch) (trip : ℤ) (d : Dir) (i j : ℤ) → ArePoints l p → unsigned_abs trip ≤ 2 ^ 64
     → ((s : ℤ) → unsigned_abs s ≤ 2 ^ 110 → IsWithin trip d (p.i +ℤ p.along_i *ℤ s) (p.j +ℤ p.along_j *ℤ s) → IsIn r s)
     → OnLine l i j → IsWithin trip d i j → (s : ℤ) × (IsPointAt p s i j × IsIn r s)
 in_stretch l p r trip d i j a t every o w =
-    let mi : unsigned_abs i ≤ 2 ^ 44 = omega (arith, ints, w.first.low, w.first.high) in
-    let mj : unsigned_abs j ≤ 2 ^ 44 = omega (arith, ints, w.second.low, w.second.high) in
+    let mi : unsigned_abs i ≤ 2 ^ 64 = omega (arith, ints, w.first.low, w.first.high) in
+    let mj : unsigned_abs j ≤ 2 ^ 64 = omega (arith, ints, w.second.low, w.second.high) in
     let q = a.every i j o mi mj in
     let s : ℤ = q.0 in
     let at : IsPointAt p s i j = q.1.0 in
@@ -78,7 +78,7 @@ in_stretch l p r trip d i j a t every o w =
     subst (λ (z : ℤ). IsWithin trip d z (p.j +ℤ p.along_j *ℤ s)) at.i_is (subst (λ (z : ℤ). IsWithin trip d i z) at.j_is w) in
     (s, (at, every s q.1.1 x))
 
-pub has_none : (l : Line) (p : Points) (r : Stretch) (trip : ℤ) (d : Dir) → ArePoints l p → unsigned_abs trip ≤ 2 ^ 44
+pub has_none : (l : Line) (p : Points) (r : Stretch) (trip : ℤ) (d : Dir) → ArePoints l p → unsigned_abs trip ≤ 2 ^ 64
     → ((s : ℤ) → unsigned_abs s ≤ 2 ^ 110 → IsWithin trip d (p.i +ℤ p.along_i *ℤ s) (p.j +ℤ p.along_j *ℤ s) → IsIn r s)
     → r.high <ℤ r.low → HasNone l trip d
 has_none l p r trip d a t every e i j o w =
@@ -92,7 +92,7 @@ carried : (p : Points) (at s i j i' j' : ℤ) → IsPointAt p at i j → IsPoint
     → IsAtMost (p.i +ℤ p.along_i *ℤ at) (p.j +ℤ p.along_j *ℤ at) (p.i +ℤ p.along_i *ℤ s) (p.j +ℤ p.along_j *ℤ s) → IsAtMost i j i' j'
 carried p at s i j i' j' w u h = rw (w.i_is, w.j_is, u.i_is, u.j_is) h
 
-pub is_least : (l : Line) (p : Points) (r : Stretch) (trip : ℤ) (d : Dir) (at i j : ℤ) → ArePoints l p → unsigned_abs trip ≤ 2 ^ 44
+pub is_least : (l : Line) (p : Points) (r : Stretch) (trip : ℤ) (d : Dir) (at i j : ℤ) → ArePoints l p → unsigned_abs trip ≤ 2 ^ 64
     → ((s : ℤ) → unsigned_abs s ≤ 2 ^ 110 → IsWithin trip d (p.i +ℤ p.along_i *ℤ s) (p.j +ℤ p.along_j *ℤ s) → IsIn r s)
     → ((s : ℤ) → IsIn r s → IsWithin trip d (p.i +ℤ p.along_i *ℤ s) (p.j +ℤ p.along_j *ℤ s))
     → IsIn r at → ((s : ℤ) → IsIn r s → IsAtMost (p.i +ℤ p.along_i *ℤ at) (p.j +ℤ p.along_j *ℤ at) (p.i +ℤ p.along_i *ℤ s) (p.j +ℤ p.along_j *ℤ s))

@@ -2,7 +2,8 @@
 use Rattle.std.proofs.Common.{◌≡◌, ◌↔◌, ap, arith, ◌∙◌}
 use Rattle.std.specs.Prelude.{ℤ, pos, ◌+ℤ◌, ◌-ℤ◌, ◌*ℤ◌, ◌≤ℤ◌, ◌<ℤ◌}
 use Rattle.std.proofs.Math.IntN.{neg_ℤ}
-use Rattle.subscripts.specs.Iterations.{WithinTrip, Related}
+use Rattle.subscripts.specs.Iterations.{IsRelated}
+use Rattle.line_points.specs.Least.{WithinTrip}
 use Rattle.subscripts.specs.declared.affine.Dir.TheVariants.{Lt, Eq, Gt}
 use Rattle.line_points.specs.Stretch.{IsIn}
 use Rattle.line_points.specs.declared.stretch.Stretch.{Stretch}
@@ -32,7 +33,7 @@ distance : (i j ai aj s : ℤ) → (j +ℤ aj *ℤ s) -ℤ (i +ℤ ai *ℤ s) �
 distance i j ai aj s = rw (plus_times s aj (neg_ℤ ai), neg_times ai s) (omega (arith, linear))
 
 pub before_left : (r r1 : Stretch) (i j ai aj k m s : ℤ) → k ≡ aj -ℤ ai → m ≡ pos 1 -ℤ (j -ℤ i)
-    → Leaves r r1 k m s → IsIn r1 s ↔ (IsIn r s × Related Lt (i +ℤ ai *ℤ s) (j +ℤ aj *ℤ s))
+    → Leaves r r1 k m s → IsIn r1 s ↔ (IsIn r s × IsRelated Lt (i +ℤ ai *ℤ s) (j +ℤ aj *ℤ s))
 before_left r r1 i j ai aj k m s ek em (out, back) =
     let e : k *ℤ s ≡ (aj -ℤ ai) *ℤ s = ap (λ (z : ℤ). z *ℤ s) ek in
     let d = distance i j ai aj s in (
@@ -41,7 +42,7 @@ before_left r r1 i j ai aj k m s ek em (out, back) =
     )
 
 pub after_left : (r r1 : Stretch) (i j ai aj k m s : ℤ) → k ≡ neg_ℤ (aj -ℤ ai) → m ≡ pos 1 +ℤ (j -ℤ i)
-    → Leaves r r1 k m s → IsIn r1 s ↔ (IsIn r s × Related Gt (i +ℤ ai *ℤ s) (j +ℤ aj *ℤ s))
+    → Leaves r r1 k m s → IsIn r1 s ↔ (IsIn r s × IsRelated Gt (i +ℤ ai *ℤ s) (j +ℤ aj *ℤ s))
 after_left r r1 i j ai aj k m s ek em (out, back) =
     let e : k *ℤ s ≡ neg_ℤ ((aj -ℤ ai) *ℤ s) = ap (λ (z : ℤ). z *ℤ s) ek ∙ neg_times (aj -ℤ ai) s in
     let d = distance i j ai aj s in (
@@ -50,7 +51,7 @@ after_left r r1 i j ai aj k m s ek em (out, back) =
     )
 
 pub same_left : (r r1 r2 : Stretch) (i j ai aj k1 m1 k2 m2 s : ℤ) → k1 ≡ aj -ℤ ai → m1 ≡ neg_ℤ (j -ℤ i) → k2 ≡ neg_ℤ (aj -ℤ ai) → m2 ≡ j -ℤ i
-    → Leaves r r1 k1 m1 s → Leaves r1 r2 k2 m2 s → IsIn r2 s ↔ (IsIn r s × Related Eq (i +ℤ ai *ℤ s) (j +ℤ aj *ℤ s))
+    → Leaves r r1 k1 m1 s → Leaves r1 r2 k2 m2 s → IsIn r2 s ↔ (IsIn r s × IsRelated Eq (i +ℤ ai *ℤ s) (j +ℤ aj *ℤ s))
 same_left r r1 r2 i j ai aj k1 m1 k2 m2 s ek1 em1 ek2 em2 (out1, in1) (out2, in2) =
     let e1 : k1 *ℤ s ≡ (aj -ℤ ai) *ℤ s = ap (λ (z : ℤ). z *ℤ s) ek1 in
     let e2 : k2 *ℤ s ≡ neg_ℤ ((aj -ℤ ai) *ℤ s) = ap (λ (z : ℤ). z *ℤ s) ek2 ∙ neg_times (aj -ℤ ai) s in

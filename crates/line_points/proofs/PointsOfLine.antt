@@ -97,6 +97,9 @@ product_below a b h k = mul-le (unsigned_abs a) (unsigned_abs b) (2 ^ 44) (2 ^ 4
 pub product_of : (a b : ℤ) → unsigned_abs a ≤ 2 ^ 44 → unsigned_abs b ≤ 2 ^ 44 → unsigned_abs (a *ℤ b) ≤ 2 ^ 88
 product_of a b h k = rw unsigned_abs-mul (product_below a b h k)
 
+pub long_product : (a b : ℤ) → unsigned_abs a ≤ 2 ^ 44 → unsigned_abs b ≤ 2 ^ 64 → unsigned_abs (a *ℤ b) ≤ 2 ^ 108
+long_product a b h k = omega (arith, unsigned_abs-mul a b, mul-le (unsigned_abs a) (unsigned_abs b) (2 ^ 44) (2 ^ 64) h k)
+
 both_sides : {a b c d : ℤ} → a ≡ b → c ≡ d → a *ℤ c ≡ b *ℤ d
 both_sides {a} {b} {c} {d} e f = ap (λ (z : ℤ). z *ℤ c) e ∙ ap (λ (z : ℤ). b *ℤ z) f
 
@@ -149,7 +152,7 @@ are_points l b q i j n h k z ei ej =
             b.y *ℤ i' -ℤ b.x *ℤ j',
             (
               record { i_is = e.0; j_is = e.1 },
-              omega (arith, abs_less (b.y *ℤ i') (b.x *ℤ j'), product_of b.y i' s.y mi, product_of b.x j' s.x mj),
+              omega (arith, abs_less (b.y *ℤ i') (b.x *ℤ j'), long_product b.y i' s.y mi, long_product b.x j' s.x mj),
             ),
           );
       apart = λ y x. no_both b.first b.second b.x b.y h.one (omega (arith, linear)) y;

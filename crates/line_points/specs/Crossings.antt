@@ -6,7 +6,7 @@ use Rattle.line_points.specs.declared.crossing.Crossing.{Crossing}
 use Rattle.line_points.specs.declared.crossing.Crossing.TheVariants.{Nowhere, At, Everywhere}
 
 -- a line whose numbers are those of a subscript pair
-pub record IsSmall (l : Line) : Type 0 where
+pub record IsSmallLine (l : Line) : Type 0 where
   pub first : unsigned_abs l.first ≤ 2 ^ 41
   pub second : unsigned_abs l.second ≤ 2 ^ 41
   pub constant : unsigned_abs l.constant ≤ 2 ^ 41

@@ -1,6 +1,6 @@
 // Where two lines meet.
 ghost use Rattle.std.specs.Prelude.{◌≡◌, ◌≤◌, ◌^◌, unsigned_abs, ◌*ℤ◌, ◌-ℤ◌};
-ghost use Rattle.line_points.specs.Crossings.{IsSmall, Meet};
+ghost use Rattle.line_points.specs.Crossings.{IsSmallLine, Meet};
 
 use crate::points::Line;
 use crate::whole::{divided, times};
@@ -27,8 +27,8 @@ fn determinant(a: i128, b: i128, c: i128, d: i128) -> i128
 
 /// By Cramer's rule.
 pub fn common_points(one: Line, other: Line) -> Crossing
-    requires one { IsSmall one }
-    requires other { IsSmall other }
+    requires one { IsSmallLine one }
+    requires other { IsSmallLine other }
     ensures { Meet one other result }
 {
     let all = determinant(one.first, one.second, other.first, other.second);

@@ -1,10 +1,10 @@
 // The least iterations of a loop on a line. A strong SIV pair's line runs along the diagonal, a weak-zero SIV pair's along an axis,
 // a weak-crossing SIV pair's across the diagonal; a general SIV pair's needs Euclid's algorithm. All four go one way.
 ghost use Rattle.std.specs.Prelude.{◌≡◌, ◌≤◌, ◌^◌, ◌↔◌, ℤ, pos, ◌+ℤ◌, ◌*ℤ◌, ◌≤ℤ◌, unsigned_abs, MatchOption};
-ghost use Rattle.subscripts.specs.Iterations.{WithinTrip, Related};
+ghost use Rattle.subscripts.specs.Iterations.{IsRelated};
 ghost use Rattle.line_points.specs.Lines.{IsLine, IsPointAt};
 ghost use Rattle.line_points.specs.Stretch.{IsIn, IsShort};
-ghost use Rattle.line_points.specs.Least.{IsWithin, IsAtMost, HasNone, IsLeast};
+ghost use Rattle.line_points.specs.Least.{WithinTrip, IsWithin, IsAtMost, HasNone, IsLeast};
 
 use crate::points::{Line, Points, points_of};
 use crate::stretch::{Stretch, at_least};
@@ -23,7 +23,7 @@ fn within_trip(stretch: Stretch, at: i128, along: i128, trip: i128) -> Stretch
     requires short { IsShort stretch }
     requires at { unsigned_abs at ≤ 2 ^ 90 }
     requires along { unsigned_abs along ≤ 2 ^ 44 }
-    requires trip { unsigned_abs trip ≤ 2 ^ 44 }
+    requires trip { unsigned_abs trip ≤ 2 ^ 64 }
     ensures left { (s : ℤ) → IsIn result s ↔ (IsIn stretch s × WithinTrip trip (at +ℤ along *ℤ s)) }
     ensures short { IsShort result }
 {
@@ -37,7 +37,7 @@ fn related(stretch: Stretch, points: Points, dir: Dir) -> Stretch
     requires j { unsigned_abs points.j ≤ 2 ^ 90 }
     requires along_i { unsigned_abs points.along_i ≤ 2 ^ 44 }
     requires along_j { unsigned_abs points.along_j ≤ 2 ^ 44 }
-    ensures left { (s : ℤ) → IsIn result s ↔ (IsIn stretch s × Related dir (points.i +ℤ points.along_i *ℤ s) (points.j +ℤ points.along_j *ℤ s)) }
+    ensures left { (s : ℤ) → IsIn result s ↔ (IsIn stretch s × IsRelated dir (points.i +ℤ points.along_i *ℤ s) (points.j +ℤ points.along_j *ℤ s)) }
     ensures short { IsShort result }
 {
     let apart = points.j - points.i;
@@ -54,7 +54,7 @@ const FAR: i128 = 1 << 110;
 
 /// The numbers whose points are pairs of iterations from 1 to the trip that are related so.
 fn meeting(points: Points, trip: i128, dir: Dir) -> Stretch
-    requires trip { unsigned_abs trip ≤ 2 ^ 44 }
+    requires trip { unsigned_abs trip ≤ 2 ^ 64 }
     requires i { unsigned_abs points.i ≤ 2 ^ 90 }
     requires j { unsigned_abs points.j ≤ 2 ^ 90 }
     requires along_i { unsigned_abs points.along_i ≤ 2 ^ 44 }
@@ -94,8 +94,8 @@ fn first_end(points: Points, stretch: Stretch) -> i128
 fn point_at(points: Points, s: i128) -> Both
     requires i { unsigned_abs points.i ≤ 2 ^ 90 }
     requires j { unsigned_abs points.j ≤ 2 ^ 90 }
-    requires at_i { unsigned_abs (points.i +ℤ points.along_i *ℤ s) ≤ 2 ^ 44 }
-    requires at_j { unsigned_abs (points.j +ℤ points.along_j *ℤ s) ≤ 2 ^ 44 }
+    requires at_i { unsigned_abs (points.i +ℤ points.along_i *ℤ s) ≤ 2 ^ 64 }
+    requires at_j { unsigned_abs (points.j +ℤ points.along_j *ℤ s) ≤ 2 ^ 64 }
     ensures { IsPointAt points s result.i result.j }
 {
     Both {
@@ -107,7 +107,7 @@ fn point_at(points: Points, s: i128) -> Both
 /// The least pair of iterations from 1 to the trip on the line that are related so, or None where there is none.
 pub fn least_on_line(line: Line, trip: i128, dir: Dir) -> Option<Both>
     requires line { IsLine line }
-    requires trip { unsigned_abs trip ≤ 2 ^ 44 }
+    requires trip { unsigned_abs trip ≤ 2 ^ 64 }
     ensures { MatchOption result (HasNone line trip dir) (λ at. IsLeast line trip dir at.i at.j) }
 {
     let points = points_of(line)?;

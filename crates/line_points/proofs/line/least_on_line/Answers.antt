@@ -6,7 +6,7 @@ use Rattle.line_points.specs.Lines.{IsPointAt}
 use Rattle.line_points.proofs.Leasts.{has_none, is_least}
 use Rattle.line_points.proofs.line.least_on_line.Goals as goal
 
-near_trip : (trip i : ℤ) → unsigned_abs trip ≤ 2 ^ 44 → pos 1 ≤ℤ i → i ≤ℤ trip → unsigned_abs i ≤ 2 ^ 44
+near_trip : (trip i : ℤ) → unsigned_abs trip ≤ 2 ^ 64 → pos 1 ≤ℤ i → i ≤ℤ trip → unsigned_abs i ≤ 2 ^ 64
 near_trip trip i h l k = omega (arith, ints)
 
 pub returns-then-stretch : goal.returns-then-stretch

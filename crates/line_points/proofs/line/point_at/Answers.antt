@@ -4,7 +4,7 @@ use Rattle.std.proofs.lemmas.Int.{to_z-of_z, fits_signed_from_abs}
 use mir.Syntax.{w128}
 use Rattle.line_points.proofs.line.point_at.Goals as goal
 
-near : (a b : ℤ) → unsigned_abs (a +ℤ b) ≤ 2 ^ 44 → FitsSigned w128 (a +ℤ b)
+near : (a b : ℤ) → unsigned_abs (a +ℤ b) ≤ 2 ^ 64 → FitsSigned w128 (a +ℤ b)
 near a b h = fits_signed_from_abs w128 (a +ℤ b) (omega arith)
 
 pub overflow_add-result-2 : goal.overflow_add-result-2

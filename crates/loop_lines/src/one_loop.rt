@@ -1,0 +1,141 @@
+//! The one loop of a pairing, and its line. With `first * i + b = second * j + d` at the iterations i and j, the line is
+//! `first * i - second * j = d - b`. A loop that stands round one reference alone has no iteration round the other one; there 1 stands for it,
+//! with the coefficient 0.
+ghost use Rattle.std.specs.Prelude.{◌≡◌, ℕ, ◌<◌, ◌≤◌, ◌^◌, pos, unsigned_abs, MatchOption};
+ghost use Rattle.subscripts.specs.Classes.{Loop, IsLoopOf, Matters, HasOneLoop, first_of, second_of, span_of};
+ghost use Rattle.subscripts.specs.Shapes.{IsPairing};
+ghost use Rattle.line_points.specs.Crossings.{IsSmallLine};
+ghost use Rattle.loop_lines.specs.Places.{loop_at};
+ghost use Rattle.loop_lines.specs.OneLoop.{IsWithinPlaces, dir_of, first_point, second_point, HasNoneAt, IsLineOf};
+
+use line_points::Line;
+use subscripts::{Dir, Dirs, Pairing, Point, Span};
+
+/// Where a loop stands: round both references, or further in round the first or the second alone.
+#[derive(Clone, Copy, Debug)]
+pub enum LoopPlace {
+    Shared(usize),
+    First(usize),
+    Second(usize),
+}
+
+/// A loop at this place that has a coefficient.
+fn mattering_at(p: &Pairing, place: usize) -> Option<LoopPlace>
+    requires { place < 7 }
+    ensures { MatchOption result (HasNoneAt p.now place) (λ l. Matters p.now (loop_at l)) }
+{
+    let first = p.from.loops[place];
+    let second = p.to.loops[place];
+    if place < usize::from(p.common) {
+        if first != 0 {
+            return Some(LoopPlace::Shared(place));
+        }
+        if second != 0 {
+            return Some(LoopPlace::Shared(place));
+        }
+        return None;
+    }
+    if first != 0 {
+        return Some(LoopPlace::First(place));
+    }
+    if second != 0 {
+        return Some(LoopPlace::Second(place));
+    }
+    None
+}
+
+/// The one loop of a pairing that has one.
+pub fn one_loop_of(p: &Pairing) -> LoopPlace
+    requires pairing { IsPairing p.now }
+    requires one { (l : Loop) × HasOneLoop p.now l }
+    ensures { HasOneLoop p.now (loop_at result) }
+{
+    for place in 0..7 {
+        if let Some(found) = mattering_at(p, place) {
+            return found;
+        }
+    }
+    unreachable!()
+}
+
+/// The loop's coefficient in the first subscript.
+pub fn first_coefficient(p: &Pairing, at: LoopPlace) -> i64
+    requires pairing { IsPairing p.now }
+    requires at { IsLoopOf p.now (loop_at at) }
+    ensures value { result ≡ first_of p.now (loop_at at) }
+    ensures size { unsigned_abs result ≤ 2 ^ 40 }
+{
+    match at {
+        LoopPlace::Shared(place) | LoopPlace::First(place) => p.from.loops[place],
+        LoopPlace::Second(_) => 0,
+    }
+}
+
+/// The loop's coefficient in the second subscript.
+pub fn second_coefficient(p: &Pairing, at: LoopPlace) -> i64
+    requires pairing { IsPairing p.now }
+    requires at { IsLoopOf p.now (loop_at at) }
+    ensures value { result ≡ second_of p.now (loop_at at) }
+    ensures size { unsigned_abs result ≤ 2 ^ 40 }
+{
+    match at {
+        LoopPlace::Shared(place) | LoopPlace::Second(place) => p.to.loops[place],
+        LoopPlace::First(_) => 0,
+    }
+}
+
+/// The loop's span.
+pub fn span_at(p: &Pairing, at: LoopPlace) -> Span
+    requires pairing { IsPairing p.now }
+    requires at { IsLoopOf p.now (loop_at at) }
+    ensures { result ≡ span_of p.now (loop_at at) }
+{
+    match at {
+        LoopPlace::Shared(place) | LoopPlace::First(place) => p.from_spans[place],
+        LoopPlace::Second(place) => p.to_spans[place],
+    }
+}
+
+/// The loop's direction. None is asked for of a loop that stands round one reference alone.
+pub fn dir_at(d: &Dirs, at: LoopPlace) -> Dir
+    requires { IsWithinPlaces (loop_at at) }
+    ensures { result ≡ dir_of d.now (loop_at at) }
+{
+    match at {
+        LoopPlace::Shared(place) => d.at[place],
+        _ => Dir::Any,
+    }
+}
+
+/// The line of a pairing that has this loop alone.
+pub fn line_of(p: &Pairing, at: LoopPlace) -> Line
+    requires pairing { IsPairing p.now }
+    requires one { HasOneLoop p.now (loop_at at) }
+    ensures line { IsLineOf p.now (loop_at at) result }
+    ensures small { IsSmallLine result }
+{
+    Line {
+        first: i128::from(first_coefficient(p, at)),
+        second: -i128::from(second_coefficient(p, at)),
+        constant: i128::from(p.to.constant) - i128::from(p.from.constant),
+    }
+}
+
+/// The iterations round either reference in which this loop has these two and each other loop has its first one.
+pub fn points_at(at: LoopPlace, i: i64, j: i64) -> (Point, Point)
+    requires { IsWithinPlaces (loop_at at) }
+    ensures first { result.0.at ≡ first_point (loop_at at) i }
+    ensures second { result.1.at ≡ second_point (loop_at at) j }
+{
+    let mut first = Point { at: [1; 7] };
+    let mut second = first;
+    match at {
+        LoopPlace::Shared(place) => {
+            first.at[place] = i;
+            second.at[place] = j;
+        }
+        LoopPlace::First(place) => first.at[place] = i,
+        LoopPlace::Second(place) => second.at[place] = j,
+    }
+    (first, second)
+}
