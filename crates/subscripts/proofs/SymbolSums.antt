@@ -1,10 +1,11 @@
 -- Symbols of a form: their coefficients determine what they add to it.
-use Rattle.std.proofs.Common.{◌≡◌, ℕ, ◌+◌, ◌*◌, ◌<◌, ◌≤◌, ◌^◌, ◌⊎◌, List, [], ◌∷◌, ◌++◌, true, false, cond, length, zero, suc, refl, ap, arith, sym, ◌∙◌, inl, inr, subst}
+use Rattle.std.proofs.Common.{◌≡◌, ℕ, ◌+◌, ◌*◌, ◌<◌, ◌≤◌, ◌^◌, ◌⊎◌, List, [], ◌∷◌, ◌++◌, true, false, cond, length, zero, suc, refl, ap, arith, sym, ◌∙◌, inl, inr, subst, take, get_or}
 use Rattle.std.specs.Prelude.{ℤ, pos, ◌+ℤ◌, ◌-ℤ◌, ◌*ℤ◌, nat_eq, All, unsigned_abs}
 use Rattle.std.proofs.lemmas.Bool.{cases_eq, cases_lt, eq-eqb, ne_eqb}
 use Rattle.std.proofs.Math.IntN.{neg_ℤ}
 use Rattle.std.proofs.lemmas.Int.{ints}
-use Rattle.std.proofs.lemmas.List.Elements.{All-cons, All-head, All-nil, All-tail}
+use Rattle.std.proofs.lemmas.List.Elements.{All-cons, All-head, All-nil, All-tail, All-take}
+use Rattle.std.proofs.lemmas.List.{length-take, take_more}
 use Rattle.subscripts.proofs.Ring.{linear, neg_times, ring}
 use Rattle.subscripts.specs.Forms.{coefficient, over_symbols}
 use Rattle.subscripts.specs.Shapes.{IsSmall}
@@ -42,10 +43,10 @@ pub in_or_none : (P : ℕ → Type 0) (ts : List (ℕ × ℤ)) (s : ℕ) → All
 in_or_none P [] s h = inr refl
 in_or_none P (t ∷ ts) s h =
     elim (cases_eq t.0 s) [
-      inl e ↦ inl (subst P e (All-head (λ t. P t.0) t ts h))
-    | inr n ↦ elim (in_or_none P ts s (All-tail (λ t. P t.0) t ts h)) [
-        inl p ↦ inl p
-      | inr z ↦ let o = part_other t.0 t.1 s n in inr (omega (arith, ints))
+      | inl e ↦ inl (subst P e (All-head (λ t. P t.0) t ts h))
+      | inr n ↦ elim (in_or_none P ts s (All-tail (λ t. P t.0) t ts h)) [
+        | inl p ↦ inl p
+        | inr z ↦ let o = part_other t.0 t.1 s n in inr (omega (arith, ints))
       ]
     ]
 
@@ -82,14 +83,14 @@ one_part : (n k : ℕ) (c : ℤ) (v : ℕ → ℤ) → k < n → sum_below n (λ
 one_part zero k c v l = absurd (omega arith)
 one_part (suc n) k c v l =
     elim (cases_eq k n) [
-      inl e ↦
-        let p = past n k c v (omega arith) in
-        let q : part k c n *ℤ v n ≡ c *ℤ v k = ap (λ z. z *ℤ v n) (part_same k c n e) ∙ ap (λ i. c *ℤ v i) (sym e) in
-        omega (arith, linear)
-    | inr d ↦
-        let p = one_part n k c v (omega arith) in
-        let q : part k c n *ℤ v n ≡ pos 0 = zero_times (part k c n) (v n) (part_other k c n d) in
-        omega (arith, linear)
+      | inl e ↦
+          let p = past n k c v (omega arith) in
+          let q : part k c n *ℤ v n ≡ c *ℤ v k = ap (λ z. z *ℤ v n) (part_same k c n e) ∙ ap (λ i. c *ℤ v i) (sym e) in
+          omega (arith, linear)
+      | inr d ↦
+          let p = one_part n k c v (omega arith) in
+          let q : part k c n *ℤ v n ≡ pos 0 = zero_times (part k c n) (v n) (part_other k c n d) in
+          omega (arith, linear)
     ]
 
 plus_times : (a b v : ℤ) → (a +ℤ b) *ℤ v ≡ a *ℤ v +ℤ b *ℤ v
@@ -159,3 +160,33 @@ same_coefficients ts us e s =
     let b = over_spike us s (pos 1) in
     let c = e (spike s (pos 1)) in
     omega (arith, linear, ints)
+
+-- ---- a loop over the symbols
+
+-- no front of a list of at most 8 sums to more than so much
+pub front_small : (ts : List (ℕ × ℤ)) (i s : ℕ) → All (λ t. IsSmall t.1) ts → i ≤ 8 → unsigned_abs (coefficient (take i ts) s) ≤ 2 ^ 43
+front_small ts i s h l =
+    let a = coefficient_small (take i ts) s (All-take (λ t. IsSmall t.1) i ts h) in
+    let m = length-take i ts in
+    let n : length (take i ts) ≤ 8 = omega arith in
+    omega arith
+
+pub whole_small : (ts : List (ℕ × ℤ)) (s : ℕ) → All (λ t. IsSmall t.1) ts → length ts ≤ 8 → unsigned_abs (coefficient ts s) ≤ 2 ^ 43
+whole_small ts s h l = let a = coefficient_small ts s h in omega arith
+
+front_more : (ts : List (ℕ × ℤ)) (i s : ℕ) → i < length ts → coefficient (take (i + 1) ts) s ≡ coefficient (take i ts) s +ℤ part (get_or ts i (0, pos 0)).0 (get_or ts i (0, pos 0)).1 s
+front_more ts i s l = ap (λ us. coefficient us s) (take_more ts i (0, pos 0) l) ∙ coefficient_push (take i ts) (get_or ts i (0, pos 0)) s
+
+pub front_counts : (ts : List (ℕ × ℤ)) (i s : ℕ) (sum : ℤ) → i < length ts → sum ≡ coefficient (take i ts) s → (get_or ts i (0, pos 0)).0 ≡ s
+    → sum +ℤ (get_or ts i (0, pos 0)).1 ≡ coefficient (take (i + 1) ts) s
+front_counts ts i s sum l e h =
+    let f = front_more ts i s l in
+    let p = part_same (get_or ts i (0, pos 0)).0 (get_or ts i (0, pos 0)).1 s h in
+    omega (arith, ints)
+
+pub front_skips : (ts : List (ℕ × ℤ)) (i s : ℕ) (sum : ℤ) → i < length ts → sum ≡ coefficient (take i ts) s → ((get_or ts i (0, pos 0)).0 ≡ s → ⊥)
+    → sum ≡ coefficient (take (i + 1) ts) s
+front_skips ts i s sum l e h =
+    let f = front_more ts i s l in
+    let p = part_other (get_or ts i (0, pos 0)).0 (get_or ts i (0, pos 0)).1 s h in
+    omega (arith, ints)
