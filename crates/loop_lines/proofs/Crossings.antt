@@ -17,7 +17,7 @@ use Rattle.line_points.proofs.Ring.{ring, linear}
 use Rattle.line_points.specs.Least.{WithinTrip, IsWithin}
 use Rattle.line_points.specs.Lines.{OnLine}
 use Rattle.line_points.specs.declared.points.Line.{Line}
-use Rattle.loop_lines.specs.OneLoop.{dir_of, ones, first_point, second_point, IsLineOf}
+use Rattle.loop_lines.specs.OneLoop.{dir_of, ones, first_point, second_point, IsLineOf, HasSevenPlaces}
 use Rattle.loop_lines.proofs.Indexed.{over_none, over_one, same_length, within_at, within_from, related_at, related_from}
 
 -- the loop's iteration in each list; 1 in that of a reference that it doesn't stand round
@@ -31,20 +31,12 @@ second_at (Shared k) y = at_place y k
 second_at (First k) y = pos 1
 second_at (Second k) y = at_place y k
 
--- the lists of a pairing and its directions are of seven places
-pub record HasSevenPlaces (p : Pairing) (d : Dirs) : Type 0 where
-  pub from_loops : length p.from.loops ≡ 7
-  pub to_loops : length p.to.loops ≡ 7
-  pub from_spans : length p.from_spans ≡ 7
-  pub to_spans : length p.to_spans ≡ 7
-  pub dirs : length d.at ≡ 7
-
 is_zero_or : (a : ℤ) → (a ≡ pos 0) ⊎ (a ≡ pos 0 → ⊥)
 is_zero_or (pos zero) = inl refl
 is_zero_or (pos (suc n)) = inr (λ e. omega (arith, ints))
 is_zero_or (negsuc n) = inr (λ e. omega (arith, ints))
 
-zero_unless : (a : ℤ) → ((a ≡ pos 0 → ⊥) → ⊥) → a ≡ pos 0
+pub zero_unless : (a : ℤ) → ((a ≡ pos 0 → ⊥) → ⊥) → a ≡ pos 0
 zero_unless a h = elim (is_zero_or a) [ inl e ↦ e | inr n ↦ absurd (h n) ]
 
 -- no other place has a coefficient

@@ -18,9 +18,9 @@ use Rattle.line_points.proofs.Ring.{ring, linear}
 use Rattle.line_points.specs.Least.{WithinTrip, IsWithin, IsAtMost}
 use Rattle.line_points.specs.Lines.{OnLine}
 use Rattle.line_points.specs.declared.points.Line.{Line}
-use Rattle.loop_lines.specs.OneLoop.{dir_of, ones, first_point, second_point, IsLineOf}
+use Rattle.loop_lines.specs.OneLoop.{dir_of, ones, first_point, second_point, IsLineOf, HasSevenPlaces}
 use Rattle.loop_lines.proofs.Indexed.{same_length, within_at, within_from, related_at, related_from, mattering_length, asked_length}
-use Rattle.loop_lines.proofs.Crossings.{first_at, second_at, HasSevenPlaces, place_of, within_seven, difference_along, on_line, off_line}
+use Rattle.loop_lines.proofs.Crossings.{first_at, second_at, place_of, within_seven, difference_along, on_line, off_line}
 use Rattle.loop_lines.proofs.Cutting.{not_shared, not_first, not_second, from_once, to_once, from_kept, to_kept, other_any, own_dir, one_only, only_one, ones_at, ones_from, set_from, set_at, set_beside}
 
 -- ---- from a pair to a point
@@ -115,7 +115,7 @@ cut_within p q d (Second k) trip x y i j a n m h g e r =
     (within_at (cut p).to_spans y k r.to_within (omega (arith, c.to_spans, h.matters.loop.1)))
 
 -- the iterations of the other loops are 1
-once_at : (ss : List Span) (x : List ℤ) (m : ℕ) → length ss ≡ 7 → WithinSpans ss x → m < 7 → get_or ss m once ≡ once → get_or x m (pos 0) ≡ pos 1
+pub once_at : (ss : List Span) (x : List ℤ) (m : ℕ) → length ss ≡ 7 → WithinSpans ss x → m < 7 → get_or ss m once ≡ once → get_or x m (pos 0) ≡ pos 1
 once_at ss x m n w b e = one_only (get_or x m (pos 0)) (subst (λ (s : Span). WithinSpan s (get_or x m (pos 0))) e (within_at ss x m w (omega arith)))
 
 pub cut_first : (p q : Pairing) (d : Dirs) (l : Loop) (x : List ℤ) → IsPairing p → HasSevenPlaces p d → HasSevenPlaces q d → HasOneLoop p l → WithinSpans (cut p).from_spans x → x ≡ first_point l (first_at l x)
@@ -184,7 +184,7 @@ set_within ss k trip i n b e o w =
       | inr u ↦ once_within (get_or ss m once) (at_place (set ones k i) m) (o m c u) (set_beside k m i c u)
     ])
 
-ones_within : (ss : List Span) → length ss ≡ 7 → ((m : ℕ) → m < 7 → get_or ss m once ≡ once) → WithinSpans ss ones
+pub ones_within : (ss : List Span) → length ss ≡ 7 → ((m : ℕ) → m < 7 → get_or ss m once ≡ once) → WithinSpans ss ones
 ones_within ss n o = within_from ss ones (sym n) (λ m l. let c : m < 7 = omega arith in once_within (get_or ss m once) (at_place ones m) (o m c) (ones_at m c))
 
 from_within : (p q : Pairing) (d : Dirs) (l : Loop) (trip i : ℤ) → IsPairing p → HasSevenPlaces p d → HasSevenPlaces q d → HasOneLoop p l → (span_of p l).last ≡ Some trip → WithinTrip trip i
@@ -288,7 +288,7 @@ prefix_no_later : (xs ys zs : List ℤ) → IsNoLater ys zs → IsNoLater (xs ++
 prefix_no_later [] ys zs h = h
 prefix_no_later (x ∷ xs) ys zs h = inr (refl, prefix_no_later xs ys zs h)
 
-itself_no_later : (xs : List ℤ) → IsNoLater xs xs
+pub itself_no_later : (xs : List ℤ) → IsNoLater xs xs
 itself_no_later [] = tt
 itself_no_later (x ∷ xs) = inr (refl, itself_no_later xs)
 

@@ -1,5 +1,5 @@
 -- The one loop of a pairing: the iterations that it picks out of two lists of iterations, and its line.
-use Rattle.std.specs.Prelude.{◌≡◌, ℕ, ℤ, pos, List, [], ◌∷◌, ◌+ℤ◌, ◌-ℤ◌, ◌*ℤ◌, ◌≤◌, ◌<◌, ◌^◌, unsigned_abs, slice_index_or, slice_set}
+use Rattle.std.specs.Prelude.{◌≡◌, ℕ, ℤ, pos, List, [], ◌∷◌, ◌+ℤ◌, ◌-ℤ◌, ◌*ℤ◌, ◌≤◌, ◌<◌, ◌^◌, length, unsigned_abs, slice_index_or, slice_set}
 use Rattle.std.specs.List.{All}
 use Rattle.subscripts.specs.Classes.{Loop, Shared, First, Second, at_place, first_of, second_of}
 use Rattle.subscripts.specs.declared.affine.Dir.{Dir}
@@ -7,6 +7,14 @@ use Rattle.subscripts.specs.declared.affine.Dir.TheVariants.{Any}
 use Rattle.subscripts.specs.declared.affine.Dirs.{Dirs}
 use Rattle.subscripts.specs.declared.pairing.Pairing.{Pairing}
 use Rattle.line_points.specs.declared.points.Line.{Line}
+
+-- the lists of a pairing and of directions are of seven places
+pub record HasSevenPlaces (p : Pairing) (d : Dirs) : Type 0 where
+  pub from_loops : length p.from.loops ≡ 7
+  pub to_loops : length p.to.loops ≡ 7
+  pub from_spans : length p.from_spans ≡ 7
+  pub to_spans : length p.to_spans ≡ 7
+  pub dirs : length d.at ≡ 7
 
 -- one of the seven places of a list
 abbrev pub IsWithinPlaces : Loop → Type 0

@@ -1,9 +1,8 @@
-// Pairs of subscripts that have one loop: which loop it is, and the line that the pair draws over the two iterations of that loop.
+//! Pairs of subscripts that have one loop: which loop it is, what bounds its two iterations, and the line that the pair draws
+//! over them. The points of that line within the trip and in the direction are the pairs of iterations (Goff, Kennedy and Tseng,
+//! "Practical Dependence Testing", PLDI 1991, section 4.2, which draws these lines).
 #![tactic(auto)]
 
 mod one_loop;
 
-pub use one_loop::{
-    LoopPlace, dir_at, first_coefficient, line_of, one_loop_of, points_at, second_coefficient,
-    span_at,
-};
+pub use one_loop::{Bounds, LoopPlace, bounds_at, first_coefficient, line_of, one_loop_of, points_at, second_coefficient};

@@ -3,10 +3,10 @@
 //! with the coefficient 0.
 ghost use Rattle.std.specs.Prelude.{◌≡◌, ℕ, ◌<◌, ◌≤◌, ◌^◌, pos, unsigned_abs, MatchOption};
 ghost use Rattle.subscripts.specs.Classes.{Loop, IsLoopOf, Matters, HasOneLoop, first_of, second_of, span_of};
-ghost use Rattle.subscripts.specs.Shapes.{IsPairing};
+ghost use Rattle.subscripts.specs.Shapes.{IsPairing, AreDirsOf};
 ghost use Rattle.line_points.specs.Crossings.{IsSmallLine};
 ghost use Rattle.loop_lines.specs.Places.{loop_at};
-ghost use Rattle.loop_lines.specs.OneLoop.{IsWithinPlaces, dir_of, first_point, second_point, HasNoneAt, IsLineOf};
+ghost use Rattle.loop_lines.specs.OneLoop.{IsWithinPlaces, dir_of, first_point, second_point, HasNoneAt, HasSevenPlaces, IsLineOf};
 
 use line_points::Line;
 use subscripts::{Dir, Dirs, Pairing, Point, Span};
@@ -17,6 +17,13 @@ pub enum LoopPlace {
     Shared(usize),
     First(usize),
     Second(usize),
+}
+
+/// The span of a loop, and how its two iterations stand to each other.
+#[derive(Clone, Copy, Debug)]
+pub struct Bounds {
+    pub span: Span,
+    pub dir: Dir,
 }
 
 /// A loop at this place that has a coefficient.
@@ -84,26 +91,25 @@ pub fn second_coefficient(p: &Pairing, at: LoopPlace) -> i64
     }
 }
 
-/// The loop's span.
-pub fn span_at(p: &Pairing, at: LoopPlace) -> Span
+/// What bounds the loop's two iterations: its span and its direction. Nothing is asked of a loop that stands round one
+/// reference alone.
+pub fn bounds_at(p: &Pairing, d: &Dirs, at: LoopPlace) -> Bounds
     requires pairing { IsPairing p.now }
+    requires dirs { AreDirsOf p.now d.now }
     requires at { IsLoopOf p.now (loop_at at) }
-    ensures { result ≡ span_of p.now (loop_at at) }
+    ensures span { result.span ≡ span_of p.now (loop_at at) }
+    ensures dir { result.dir ≡ dir_of d.now (loop_at at) }
+    // the arrays have seven places each
+    ensures places { HasSevenPlaces p.now d.now }
 {
-    match at {
-        LoopPlace::Shared(place) | LoopPlace::First(place) => p.from_spans[place],
-        LoopPlace::Second(place) => p.to_spans[place],
-    }
-}
-
-/// The loop's direction. None is asked for of a loop that stands round one reference alone.
-pub fn dir_at(d: &Dirs, at: LoopPlace) -> Dir
-    requires { IsWithinPlaces (loop_at at) }
-    ensures { result ≡ dir_of d.now (loop_at at) }
-{
-    match at {
-        LoopPlace::Shared(place) => d.at[place],
-        _ => Dir::Any,
+    let (span, place) = match at {
+        LoopPlace::Shared(place) => (p.from_spans[place], place),
+        LoopPlace::First(place) => (p.from_spans[place], place),
+        LoopPlace::Second(place) => (p.to_spans[place], place),
+    };
+    Bounds {
+        span,
+        dir: d.at[place],
     }
 }
 
