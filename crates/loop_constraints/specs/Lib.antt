@@ -1,2 +1,2 @@
 pub mod Constraints
-pub mod Groups
+pub mod Left

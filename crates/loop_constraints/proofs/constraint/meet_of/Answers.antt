@@ -3,7 +3,7 @@ use Rattle.std.specs.Prelude.{ℤ, FitsSigned, ◌+ℤ◌}
 use Rattle.std.proofs.lemmas.Int.{to_z-of_z}
 use mir.Syntax.{w128}
 use Rattle.line_points.specs.Lines.{OnLine}
-use Rattle.delta_test.proofs.constraint.meet_of.Goals as goal
+use Rattle.loop_constraints.proofs.constraint.meet_of.Goals as goal
 
 pub along_both-requires-clause-same : goal.along_both-requires-clause-same
 along_both-requires-clause-same c i j =

@@ -12,11 +12,11 @@ use Rattle.line_points.specs.declared.whole.Quotient.{Quotient}
 use Rattle.line_points.specs.Quotient.{IsQuotient}
 use Rattle.line_points.specs.Lines.{OnLine}
 use Rattle.line_points.specs.Least.{IsWithin, HasNone, IsLeast}
-use Rattle.delta_test.specs.declared.constraint.Constraint.{Constraint}
-use Rattle.delta_test.specs.declared.constraint.Constraint.TheVariants.{AtPoint}
-use Rattle.delta_test.specs.Constraints.{Allows}
+use Rattle.loop_constraints.specs.declared.constraint.Constraint.{Constraint}
+use Rattle.loop_constraints.specs.declared.constraint.Constraint.TheVariants.{AtPoint}
+use Rattle.loop_constraints.specs.Constraints.{Allows}
 use Rattle.line_points.specs.Crossings.{IsSmallLine}
-use Rattle.delta_test.specs.Groups.{IsNoneLeft, IsLeastLeft, OnAll, IsNoneOfLines, IsLeastOfLines}
+use Rattle.loop_constraints.specs.Left.{IsNoneLeft, IsLeastLeft}
 use Rattle.line_points.proofs.Ring.{ring, linear, times_plus, times_neg}
 use Rattle.line_points.proofs.PointsOfLine.{cancel}
 use Rattle.line_points.proofs.Steps.{zero_or, zero_from_abs}
@@ -60,35 +60,6 @@ distance_is l q far s z k r f i j =
           let h : i -ℤ j ≡ q.times = cancel l.first (i -ℤ j) q.times (first_not_zero l s z) g in
           omega (arith, linear),
     )
-
-fore : {X : Type 0} (P : X → Type 0) (xs : List X) (x : X) → All P (xs ++ (x ∷ [])) → All P xs
-fore P [] x a = All-nil P
-fore P (y ∷ ys) x a = All-cons P y ys (All-head P y (ys ++ (x ∷ [])) a) (fore P ys x (All-tail P y (ys ++ (x ∷ [])) a))
-
-last : {X : Type 0} (P : X → Type 0) (xs : List X) (x : X) → All P (xs ++ (x ∷ [])) → P x
-last P [] x a = All-head P x [] a
-last P (y ∷ ys) x a = last P ys x (All-tail P y (ys ++ (x ∷ [])) a)
-
--- one line more
-pub one_more : (ls : List Line) (k : ℕ) (e : Line) (i j : ℤ) → k < length ls → OnAll (take (k + 1) ls) i j ↔ (OnAll (take k ls) i j × OnLine (get_or ls k e) i j)
-one_more ls k e i j h =
-    let l : Line = get_or ls k e in
-    let m : take (k + 1) ls ≡ take k ls ++ (l ∷ []) = take_more ls k e h in (
-      λ a. let b : All (λ x. OnLine x i j) (take k ls ++ (l ∷ [])) = subst (λ (z : List Line). All (λ x. OnLine x i j) z) m a in
-          (fore (λ x. OnLine x i j) (take k ls) l b, last (λ x. OnLine x i j) (take k ls) l b),
-      λ p. rw m (All-push (λ x. OnLine x i j) (take k ls) l p.0 p.1),
-    )
-
-pub met_more : (ls : List Line) (k : ℕ) (e : Line) (i j : ℤ) (left new met : Constraint) → k < length ls → Allows left i j ↔ OnAll (take k ls) i j
-    → Allows new i j ↔ OnLine (get_or ls k e) i j → Allows met i j ↔ (Allows left i j × Allows new i j) → Allows met i j ↔ OnAll (take (k + 1) ls) i j
-met_more ls k e i j left new met h s n m =
-    let o = one_more ls k e i j h in
-    (λ a. o.1 (s.0 (m.0 a).0, n.0 (m.0 a).1), λ a. m.1 (s.1 (o.0 a).0, n.1 (o.0 a).1))
-
-pub of_lines : (c : Constraint) (ls : List Line) (trip : ℤ) (d : Dir) (r : Option Both) → ((i j : ℤ) → Allows c i j ↔ OnAll ls i j)
-    → MatchOption r (IsNoneLeft c trip d) (λ at. IsLeastLeft c trip d at.i at.j) → MatchOption r (IsNoneOfLines ls trip d) (λ at. IsLeastOfLines ls trip d at.i at.j)
-of_lines c ls trip d None s h = λ i j a w. h i j ((s i j).1 a) w
-of_lines c ls trip d (Some at) s h = record { on = (s at.i at.j).0 h.left; within = h.within; least = λ i j a w. h.least i j ((s i j).1 a) w }
 
 pub least_point : (x y trip : ℤ) (d : Dir) → IsWithin trip d x y → IsLeastLeft (AtPoint x y) trip d x y
 least_point x y trip d w = record { left = (refl, refl); within = w; least = λ i j a v. inr (sym a.0, omega (arith, linear, a.1)) }

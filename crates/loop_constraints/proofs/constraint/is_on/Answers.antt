@@ -6,8 +6,8 @@ use mir.Syntax.{w128}
 use mir.Val.{of_z}
 use Rattle.line_points.specs.Lines.{OnLine}
 use Rattle.line_points.proofs.Steps.{abs_sum}
-use Rattle.delta_test.proofs.Tests.{same_test}
-use Rattle.delta_test.proofs.constraint.is_on.Goals as goal
+use Rattle.loop_constraints.proofs.Tests.{same_test}
+use Rattle.loop_constraints.proofs.constraint.is_on.Goals as goal
 
 sum_fits : (a b i j t u : ℤ) → unsigned_abs a ≤ 2 ^ 41 → unsigned_abs b ≤ 2 ^ 41 → unsigned_abs i ≤ 2 ^ 83 → unsigned_abs j ≤ 2 ^ 83
     → t ≡ a *ℤ i → u ≡ b *ℤ j → FitsSigned w128 (t +ℤ u)

@@ -7,8 +7,8 @@ use Rattle.line_points.proofs.Cramer.{abs_neg}
 use mir.Syntax.{w128}
 use Rattle.line_points.specs.Quotient.{IsQuotient}
 use Rattle.line_points.proofs.PointsOfLine.{le_product}
-use Rattle.delta_test.proofs.Grouping.{first_not_zero, no_distance, distance_is}
-use Rattle.delta_test.proofs.group.constraint_of.Goals as goal
+use Rattle.loop_constraints.proofs.Leaving.{first_not_zero, no_distance, distance_is}
+use Rattle.loop_constraints.proofs.left.constraint_of.Goals as goal
 
 pub returns-then-before-ne0-clause-same : goal.returns-then-before-ne0-clause-same
 returns-then-before-ne0-clause-same c i j =

@@ -2,7 +2,7 @@
 ghost use Rattle.std.specs.Prelude.{◌≡◌, ◌≤◌, ◌^◌, ℤ, ◌↔◌, IsTrue, unsigned_abs, ◌+ℤ◌};
 ghost use Rattle.line_points.specs.Lines.{OnLine};
 ghost use Rattle.line_points.specs.Crossings.{IsSmallLine};
-ghost use Rattle.delta_test.specs.Constraints.{IsConstraint, Allows, IsMeet};
+ghost use Rattle.loop_constraints.specs.Constraints.{IsConstraint, Allows, IsMeet};
 
 use line_points::{Crossing, Line, common_points, times};
 

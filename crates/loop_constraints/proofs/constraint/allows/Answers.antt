@@ -3,7 +3,7 @@ use Rattle.std.specs.Prelude.{FitsSigned}
 use Rattle.std.proofs.lemmas.Int.{to_z-of_z}
 use mir.Syntax.{w128}
 use Rattle.line_points.specs.Lines.{OnLine}
-use Rattle.delta_test.proofs.constraint.allows.Goals as goal
+use Rattle.loop_constraints.proofs.constraint.allows.Goals as goal
 
 pub returns-in-AlongLine : goal.returns-in-AlongLine
 returns-in-AlongLine c =

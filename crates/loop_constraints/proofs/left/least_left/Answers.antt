@@ -3,9 +3,9 @@ use Rattle.std.specs.Prelude.{FitsSigned}
 use Rattle.std.proofs.lemmas.Int.{to_z-of_z}
 use mir.Syntax.{w128}
 use Rattle.line_points.specs.Least.{IsWithin}
-use Rattle.delta_test.specs.declared.constraint.Constraint.TheVariants.{AtDistance, AlongLine}
-use Rattle.delta_test.proofs.Grouping.{least_along, least_point}
-use Rattle.delta_test.proofs.group.least_left.Goals as goal
+use Rattle.loop_constraints.specs.declared.constraint.Constraint.TheVariants.{AtDistance, AlongLine}
+use Rattle.loop_constraints.proofs.Leaving.{least_along, least_point}
+use Rattle.loop_constraints.proofs.left.least_left.Goals as goal
 
 pub returns-then-are_within : goal.returns-then-are_within
 returns-then-are_within c =
