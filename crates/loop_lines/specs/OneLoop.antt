@@ -8,6 +8,13 @@ use Rattle.subscripts.specs.declared.affine.Dirs.{Dirs}
 use Rattle.subscripts.specs.declared.pairing.Pairing.{Pairing}
 use Rattle.line_points.specs.declared.points.Line.{Line}
 
+-- the lists of a pairing are of seven places
+pub record HasSevenLists (p : Pairing) : Type 0 where
+  pub from_loops : length p.from.loops ≡ 7
+  pub to_loops : length p.to.loops ≡ 7
+  pub from_spans : length p.from_spans ≡ 7
+  pub to_spans : length p.to_spans ≡ 7
+
 -- the lists of a pairing and of directions are of seven places
 pub record HasSevenPlaces (p : Pairing) (d : Dirs) : Type 0 where
   pub from_loops : length p.from.loops ≡ 7

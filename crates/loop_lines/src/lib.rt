@@ -5,4 +5,4 @@
 
 mod one_loop;
 
-pub use one_loop::{Bounds, LoopPlace, bounds_at, first_coefficient, line_of, one_loop_of, points_at, second_coefficient};
+pub use one_loop::{Bounds, LoopPlace, bounds_at, coefficients_at, constant_trip, line_of, one_loop_of, only_loop_of, points_at};

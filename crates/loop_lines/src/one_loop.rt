@@ -1,18 +1,18 @@
 //! The one loop of a pairing, and its line. With `first * i + b = second * j + d` at the iterations i and j, the line is
 //! `first * i - second * j = d - b`. A loop that stands round one reference alone has no iteration round the other one; there 1 stands for it,
 //! with the coefficient 0.
-ghost use Rattle.std.specs.Prelude.{◌≡◌, ℕ, ◌<◌, ◌≤◌, ◌^◌, pos, unsigned_abs, MatchOption};
+ghost use Rattle.std.specs.Prelude.{◌≡◌, ℕ, ◌<◌, ◌≤◌, ◌^◌, pos, Some, false, unsigned_abs, IsTrue, IsSome, MatchOption};
 ghost use Rattle.subscripts.specs.Classes.{Loop, IsLoopOf, Matters, HasOneLoop, first_of, second_of, span_of};
 ghost use Rattle.subscripts.specs.Shapes.{IsPairing, AreDirsOf};
 ghost use Rattle.line_points.specs.Crossings.{IsSmallLine};
 ghost use Rattle.loop_lines.specs.Places.{loop_at};
-ghost use Rattle.loop_lines.specs.OneLoop.{IsWithinPlaces, dir_of, first_point, second_point, HasNoneAt, HasSevenPlaces, IsLineOf};
+ghost use Rattle.loop_lines.specs.OneLoop.{IsWithinPlaces, dir_of, first_point, second_point, HasNoneAt, HasSevenLists, HasSevenPlaces, IsLineOf};
 
 use line_points::Line;
-use subscripts::{Dir, Dirs, Pairing, Point, Span};
+use subscripts::{Class, Dir, Dirs, Pairing, Point, Span, classify};
 
 /// Where a loop stands: round both references, or further in round the first or the second alone.
-#[derive(Clone, Copy, Debug)]
+#[derive(Clone, Copy, Debug, PartialEq, Eq)]
 pub enum LoopPlace {
     Shared(usize),
     First(usize),
@@ -65,30 +65,40 @@ pub fn one_loop_of(p: &Pairing) -> LoopPlace
     unreachable!()
 }
 
-/// The loop's coefficient in the first subscript.
-pub fn first_coefficient(p: &Pairing, at: LoopPlace) -> i64
-    requires pairing { IsPairing p.now }
-    requires at { IsLoopOf p.now (loop_at at) }
-    ensures value { result ≡ first_of p.now (loop_at at) }
-    ensures size { unsigned_abs result ≤ 2 ^ 40 }
+/// The loop of a pairing of an SIV class.
+pub fn only_loop_of(p: &Pairing) -> Option<LoopPlace>
+    requires { IsPairing p.now }
+    ensures { MatchOption result ((l : Loop) → HasOneLoop p.now l → ⊥) (λ at. HasOneLoop p.now (loop_at at)) }
 {
-    match at {
-        LoopPlace::Shared(place) | LoopPlace::First(place) => p.from.loops[place],
-        LoopPlace::Second(_) => 0,
+    match classify(p) {
+        Class::Strong | Class::WeakZero | Class::WeakCrossing | Class::GeneralSiv => Some(one_loop_of(p)),
+        Class::Ziv | Class::Miv | Class::Unknown => None,
     }
 }
 
-/// The loop's coefficient in the second subscript.
-pub fn second_coefficient(p: &Pairing, at: LoopPlace) -> i64
+/// The loop's coefficients in both subscripts; 0 in that of a reference that it doesn't stand round.
+pub fn coefficients_at(p: &Pairing, at: LoopPlace) -> (i64, i64)
     requires pairing { IsPairing p.now }
     requires at { IsLoopOf p.now (loop_at at) }
-    ensures value { result ≡ second_of p.now (loop_at at) }
-    ensures size { unsigned_abs result ≤ 2 ^ 40 }
+    ensures first { result.0 ≡ first_of p.now (loop_at at) }
+    ensures second { result.1 ≡ second_of p.now (loop_at at) }
+    ensures first_size { unsigned_abs result.0 ≤ 2 ^ 40 }
+    ensures second_size { unsigned_abs result.1 ≤ 2 ^ 40 }
+    ensures places { HasSevenLists p.now }
 {
     match at {
-        LoopPlace::Shared(place) | LoopPlace::Second(place) => p.to.loops[place],
-        LoopPlace::First(_) => 0,
+        LoopPlace::Shared(place) => (p.from.loops[place], p.to.loops[place]),
+        LoopPlace::First(place) => (p.from.loops[place], 0),
+        LoopPlace::Second(place) => (0, p.to.loops[place]),
     }
+}
+
+/// The trip of a loop, where it is a constant.
+pub fn constant_trip(span: Span) -> Option<i64>
+    requires { IsTrue span.fixed → IsSome span.last }
+    ensures { MatchOption result (span.fixed ≡ false) (λ n. IsTrue span.fixed × (span.last ≡ Some n)) }
+{
+    if span.fixed { span.last } else { None }
 }
 
 /// What bounds the loop's two iterations: its span and its direction. Nothing is asked of a loop that stands round one
@@ -119,10 +129,12 @@ pub fn line_of(p: &Pairing, at: LoopPlace) -> Line
     requires one { HasOneLoop p.now (loop_at at) }
     ensures line { IsLineOf p.now (loop_at at) result }
     ensures small { IsSmallLine result }
+    ensures places { HasSevenLists p.now }
 {
+    let (first, second) = coefficients_at(p, at);
     Line {
-        first: i128::from(first_coefficient(p, at)),
-        second: -i128::from(second_coefficient(p, at)),
+        first: i128::from(first),
+        second: -i128::from(second),
         constant: i128::from(p.to.constant) - i128::from(p.from.constant),
     }
 }

@@ -11,17 +11,11 @@ use Rattle.subscripts.specs.declared.affine.Dir.TheVariants.{Any}
 use Rattle.subscripts.specs.declared.affine.Dirs.{Dirs}
 use Rattle.subscripts.specs.declared.pairing.Pairing.{Pairing}
 use Rattle.line_points.proofs.Ring.{linear}
-use Rattle.loop_lines.specs.OneLoop.{ones}
+use Rattle.loop_lines.specs.OneLoop.{ones, HasSevenLists}
 use Rattle.loop_lines.proofs.Indexed.{over_none, same_length, mattering_length, mattering_once}
 use Rattle.loop_lines.proofs.Crossings.{zero_unless, along}
 use Rattle.loop_lines.proofs.Cutting.{ones_from}
 use Rattle.loop_lines.proofs.Pairs.{once_at, ones_within, itself_no_later}
-
-pub record HasSeven (p : Pairing) : Type 0 where
-  pub from_loops : length p.from.loops ≡ 7
-  pub to_loops : length p.to.loops ≡ 7
-  pub from_spans : length p.from_spans ≡ 7
-  pub to_spans : length p.to_spans ≡ 7
 
 first_zero : (p : Pairing) → IsZiv p → (k : ℕ) → k < 7 → at_place p.from.loops k ≡ pos 0
 first_zero p z k b =
@@ -40,12 +34,12 @@ second_zero p z k b =
     ])
 
 -- both sides are constant
-constant : (p : Pairing) (v : ℕ → ℤ) (x y : List ℤ) → IsZiv p → HasSeven p → difference p v x y ≡ (pos 0 -ℤ pos 0) +ℤ (p.from.constant -ℤ p.to.constant)
+constant : (p : Pairing) (v : ℕ → ℤ) (x y : List ℤ) → IsZiv p → HasSevenLists p → difference p v x y ≡ (pos 0 -ℤ pos 0) +ℤ (p.from.constant -ℤ p.to.constant)
 constant p v x y z n =
     along (pos 0) (pos 0) p.from.constant p.to.constant (over_loops p.from.loops x) (over_loops p.to.loops y) (over_symbols p.from.syms v) (over_symbols p.to.syms v)
     (over_none p.from.loops x (λ k b. first_zero p z k (omega (arith, n.from_loops)))) (over_none p.to.loops y (λ k b. second_zero p z k (omega (arith, n.to_loops)))) (z.cancels v)
 
-pub equal_constants : (p : Pairing) (d : Dirs) (x y : List ℤ) → IsZiv p → HasSeven p → IsPairOf p d x y → p.from.constant ≡ p.to.constant
+pub equal_constants : (p : Pairing) (d : Dirs) (x y : List ℤ) → IsZiv p → HasSevenLists p → IsPairOf p d x y → p.from.constant ≡ p.to.constant
 equal_constants p d x y z n r =
     let e = r.equal z.known in
     let f = sym (constant p e.0 x y z n) ∙ e.1 in
@@ -70,7 +64,7 @@ anyhow (a ∷ as') (b ∷ bs) (d ∷ ds) (i ∷ x) (j ∷ y) f g e h = (
   anyhow as' bs ds x y (λ k l. f (suc k) (omega arith)) (λ k l. g (suc k) (omega arith)) (omega arith) (omega arith),
 )
 
-module _ (p : Pairing) (d : Dirs) (z : IsZiv p) (n : HasSeven p) where
+module _ (p : Pairing) (d : Dirs) (z : IsZiv p) (n : HasSevenLists p) where
   from_long : length (cut p).from_spans ≡ 7
   from_long = mattering_length p.common p.from.loops p.to.loops p.from_spans (omega (arith, n.from_loops, n.from_spans)) (omega (arith, n.to_loops, n.from_spans)) ∙ n.from_spans
 

@@ -12,8 +12,8 @@ ghost use Rattle.siv_tests.specs.Words.{IsSivWord, IsWordOf};
 
 use crate::stub::{gcd_refutes, range_refutes};
 use line_points::least_on_line;
-use loop_lines::{LoopPlace, bounds_at, first_coefficient, line_of, one_loop_of, points_at, second_coefficient};
-use subscripts::{Dirs, Pairing, Point, Span, Test, Verdict};
+use loop_lines::{LoopPlace, bounds_at, coefficients_at, constant_trip, line_of, one_loop_of, points_at};
+use subscripts::{Dirs, Pairing, Point, Test, Verdict};
 
 /// The name of the test, by the loop's two coefficients.
 fn word_of(first: i64, second: i64) -> Test
@@ -32,14 +32,6 @@ fn word_of(first: i64, second: i64) -> Test
         return Test::Crossing;
     }
     Test::Siv
-}
-
-/// The trip of a loop, where it is a constant.
-fn constant_trip(span: Span) -> Option<i64>
-    requires { IsTrue span.fixed → IsSome span.last }
-    ensures { MatchOption result (span.fixed ≡ false) (λ n. IsTrue span.fixed × (span.last ≡ Some n)) }
-{
-    if span.fixed { span.last } else { None }
 }
 
 /// The least pair of iterations of the loop within its trip.
@@ -68,7 +60,8 @@ pub fn test_siv(p: &Pairing, d: &Dirs) -> Verdict
     ensures word { IsWordOf p.now (test_of result) }
 {
     let at = one_loop_of(p);
-    let word = word_of(first_coefficient(p, at), second_coefficient(p, at));
+    let (first, second) = coefficients_at(p, at);
+    let word = word_of(first, second);
     match constant_trip(bounds_at(p, d, at).span) {
         Some(trip) => match least_pair(p, d, at, trip) {
             Some((first, second)) => Verdict::Pair(first, second, word),

@@ -10,10 +10,10 @@ use Rattle.siv_tests.proofs.siv.test_siv.Goals as goal
 
 pub returns-then-range_refutes-clause-word : goal.returns-then-range_refutes-clause-word
 returns-then-range_refutes-clause-word c =
-    let fa : FitsSigned w64 c.first_coefficient.result = search rules in
-    let fb : FitsSigned w64 c.second_coefficient.result = search rules in
-    let word : IsSivWord c.first_coefficient.result c.second_coefficient.result c.word_of-word.result = simp to_z-of_z at c.word_of-word.ensures in
-    word_from c.args.p.now (loop_at c.one_loop_of-at.result) c.word_of-word.result c.first_coefficient.result c.second_coefficient.result c.one_loop_of-at.ensures c.first_coefficient.ensures.value c.second_coefficient.ensures.value word
+    let fa : FitsSigned w64 c.coefficients_at-first.result.0 = search rules in
+    let fb : FitsSigned w64 c.coefficients_at-first.result.1 = search rules in
+    let word : IsSivWord c.coefficients_at-first.result.0 c.coefficients_at-first.result.1 c.word_of-word.result = simp to_z-of_z at c.word_of-word.ensures in
+    word_from c.args.p.now (loop_at c.one_loop_of-at.result) c.word_of-word.result c.coefficients_at-first.result.0 c.coefficients_at-first.result.1 c.one_loop_of-at.ensures c.coefficients_at-first.ensures.first c.coefficients_at-first.ensures.second word
 
 pub returns-in-None-least_pair-clause-why : goal.returns-in-None-least_pair-clause-why
 returns-in-None-least_pair-clause-why c =
@@ -28,7 +28,7 @@ returns-else-range_refutes-clause-assumed c =
 
 pub returns-else-range_refutes-clause-word : goal.returns-else-range_refutes-clause-word
 returns-else-range_refutes-clause-word c =
-    let fa : FitsSigned w64 c.first_coefficient.result = search rules in
-    let fb : FitsSigned w64 c.second_coefficient.result = search rules in
-    let word : IsSivWord c.first_coefficient.result c.second_coefficient.result c.word_of-word.result = simp to_z-of_z at c.word_of-word.ensures in
-    word_from c.args.p.now (loop_at c.one_loop_of-at.result) c.word_of-word.result c.first_coefficient.result c.second_coefficient.result c.one_loop_of-at.ensures c.first_coefficient.ensures.value c.second_coefficient.ensures.value word
+    let fa : FitsSigned w64 c.coefficients_at-first.result.0 = search rules in
+    let fb : FitsSigned w64 c.coefficients_at-first.result.1 = search rules in
+    let word : IsSivWord c.coefficients_at-first.result.0 c.coefficients_at-first.result.1 c.word_of-word.result = simp to_z-of_z at c.word_of-word.ensures in
+    word_from c.args.p.now (loop_at c.one_loop_of-at.result) c.word_of-word.result c.coefficients_at-first.result.0 c.coefficients_at-first.result.1 c.one_loop_of-at.ensures c.coefficients_at-first.ensures.first c.coefficients_at-first.ensures.second word
