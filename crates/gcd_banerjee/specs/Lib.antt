@@ -1,1 +1,4 @@
 pub mod Divisors
+pub mod Extremes
+pub mod Least
+pub mod Terms

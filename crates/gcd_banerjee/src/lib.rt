@@ -6,6 +6,11 @@
 #![tactic(auto)]
 
 mod divisors;
+mod extremes;
 mod gcd_test;
+mod least;
+mod range_test;
+mod terms;
 
 pub use gcd_test::gcd_refutes;
+pub use range_test::range_refutes;

@@ -45,6 +45,11 @@ pub record IsPairing (p : Pairing) : Type 0 where
   pub to_spans : AreSpans p.to_depth p.to_spans
   pub common_spans : (k : ℕ) → k < p.common → slice_index_or p.from_spans k once ≡ slice_index_or p.to_spans k once
 
+-- as much of this as what looks at symbols asks for
+pub record HasSmallSymbols (p : Pairing) : Type 0 where
+  pub from : All (λ t. IsSmall t.1) p.from.syms
+  pub to : All (λ t. IsSmall t.1) p.to.syms
+
 -- directions of the loops round both references of a pairing
 pub record AreDirsOf (p : Pairing) (d : Dirs) : Type 0 where
   pub len : d.len ≡ p.common

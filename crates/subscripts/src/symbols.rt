@@ -2,7 +2,7 @@
 ghost use Rattle.std.specs.Prelude.{◌≡◌, ◌≤◌, ◌^◌, ◌-ℤ◌, ◌↔◌, All, IsTrue, unsigned_abs};
 ghost use Rattle.subscripts.specs.Classes.{Cancels};
 ghost use Rattle.subscripts.specs.Forms.{coefficient};
-ghost use Rattle.subscripts.specs.Shapes.{IsPairing, IsSmall};
+ghost use Rattle.subscripts.specs.Shapes.{HasSmallSymbols, IsSmall};
 
 use crate::affine::Affine;
 use crate::pairing::Pairing;
@@ -27,7 +27,7 @@ impl Affine {
 impl Pairing {
     /// How much more of a symbol the first side has than the second.
     pub fn symbol_difference(&self, symbol: u16) -> i64
-        requires { IsPairing self.now }
+        requires { HasSmallSymbols self.now }
         ensures value { result ≡ coefficient self.now.from.syms symbol -ℤ coefficient self.now.to.syms symbol }
         ensures small { unsigned_abs result ≤ 2 ^ 44 }
     {
@@ -36,7 +36,7 @@ impl Pairing {
 
     // Both sides have as much of each of these symbols.
     fn agrees_on(&self, symbols: &[(u16, i64)]) -> bool
-        requires { IsPairing self.now }
+        requires { HasSmallSymbols self.now }
         ensures { IsTrue result ↔ All (λ t. coefficient self.now.from.syms t.0 ≡ coefficient self.now.to.syms t.0) symbols.now }
     {
         for (symbol, _) in symbols {
@@ -49,7 +49,7 @@ impl Pairing {
 
     /// Whether the symbols add the same to both sides.
     pub fn symbols_cancel(&self) -> bool
-        requires { IsPairing self.now }
+        requires { HasSmallSymbols self.now }
         ensures { IsTrue result ↔ Cancels self.now }
     {
         self.agrees_on(&self.from.syms) && self.agrees_on(&self.to.syms)

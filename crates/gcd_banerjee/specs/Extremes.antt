@@ -1,0 +1,44 @@
+-- The values of the difference of a pairing's sides over a region.
+use Rattle.std.specs.Prelude.{◌≡◌, ◌≢◌, ℕ, ℤ, pos, Bool, true, false, List, drop, ◌<◌, ◌≤◌, ◌^◌, ◌+ℤ◌, ◌-ℤ◌, ◌<ℤ◌, ◌⊎◌, All, unsigned_abs, slice_index_or}
+use Rattle.subscripts.specs.Forms.{AreRelated, IsInRegion, WithinSpans, over_loops, over_symbols}
+use Rattle.subscripts.specs.Iterations.{once}
+use Rattle.subscripts.specs.Shapes.{HasSmallSymbols}
+use Rattle.subscripts.specs.declared.affine.Dirs.{Dirs}
+use Rattle.subscripts.specs.declared.pairing.Pairing.{Pairing}
+
+-- the number, or its opposite
+abbrev pub turned : Bool → ℤ → ℤ
+turned false z = z
+turned true z = pos 0 -ℤ z
+
+-- what a pairing with larger coefficients keeps
+pub record IsReduced (p : Pairing) : Type 0 where
+  pub first : All (λ a. unsigned_abs a ≤ 2 ^ 42) p.from.loops
+  pub second : All (λ b. unsigned_abs b ≤ 2 ^ 42) p.to.loops
+  pub symbols : HasSmallSymbols p
+  pub common_spans : (k : ℕ) → k < p.common → slice_index_or p.from_spans k once ≡ slice_index_or p.to_spans k once
+
+-- the difference of what the loops from place k on add to both sides
+pub record IsLoopsValue (p : Pairing) (d : Dirs) (opposite : Bool) (k : ℕ) (z : ℤ) : Type 0 where
+  pub first : List ℤ
+  pub second : List ℤ
+  pub first_within : WithinSpans (drop k p.from_spans) first
+  pub second_within : WithinSpans (drop k p.to_spans) second
+  pub related : AreRelated (drop k d.at) first second
+  pub value : z ≡ turned opposite (over_loops (drop k p.from.loops) first -ℤ over_loops (drop k p.to.loops) second)
+
+-- the difference of what the symbols add to both sides
+pub record IsSymbolsValue (p : Pairing) (opposite : Bool) (z : ℤ) : Type 0 where
+  pub values : ℕ → ℤ
+  pub value : z ≡ turned opposite (over_symbols p.from.syms values -ℤ over_symbols p.to.syms values)
+
+-- the difference of both sides, whose constants differ by so much
+abbrev pub difference_with : Pairing → ℤ → (ℕ → ℤ) → List ℤ → List ℤ → ℤ
+difference_with p constant v x y =
+    (over_loops p.from.loops x -ℤ over_loops p.to.loops y)
+    +ℤ ((over_symbols p.from.syms v -ℤ over_symbols p.to.syms v) +ℤ constant)
+
+-- the difference, or its opposite, is above 0 all over the region
+abbrev pub IsAbove : Pairing → Dirs → ℤ → Bool → Type 0
+IsAbove p d constant opposite =
+    (v : ℕ → ℤ) (x y : List ℤ) → IsInRegion p d x y → pos 0 <ℤ turned opposite (difference_with p constant v x y)

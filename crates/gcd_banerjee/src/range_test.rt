@@ -1,0 +1,22 @@
+//! Banerjee's test of the extremes.
+ghost use Rattle.std.specs.Prelude.{◌↔◌, IsTrue};
+ghost use Rattle.subscripts.specs.Forms.{HasNoPair};
+ghost use Rattle.subscripts.specs.Refutations.{IsOneSided};
+ghost use Rattle.subscripts.specs.Shapes.{AreDirsOf, IsPairing};
+
+use crate::extremes::is_above;
+use subscripts::{Dirs, Pairing};
+
+/// Whether 0 lies outside the extremes of the difference of both sides, over the corners of the region that the
+/// directions allow (Banerjee's inequality with directions: Allen and Kennedy, section 3.3.3; Goff, Kennedy and Tseng
+/// 1991, section 4.4). A loop without a known end, and a symbol that doesn't cancel, have open sides; an empty region
+/// is refuted.
+pub fn range_refutes(p: &Pairing, d: &Dirs) -> bool
+    requires pairing { IsPairing p.now }
+    requires dirs { AreDirsOf p.now d.now }
+    ensures exact { IsTrue result ↔ IsOneSided p.now d.now }
+    ensures sound { IsTrue result → IsTrue p.now.known → HasNoPair p.now d.now }
+{
+    let constant = i128::from(p.from.constant) - i128::from(p.to.constant);
+    is_above(p, d, constant, false) || is_above(p, d, constant, true)
+}
