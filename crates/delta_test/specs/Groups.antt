@@ -1,0 +1,38 @@
+-- Pairings of the same two references, tested together.
+use Rattle.std.specs.Prelude.{◌≡◌, ◌<◌, ℤ, pos, ◌-ℤ◌, List, All, map, length}
+use Rattle.subscripts.specs.Classes.{Loop, HasOneLoop, first_of, second_of}
+use Rattle.subscripts.specs.Cuts.{cut}
+use Rattle.subscripts.specs.Groups.{IsPairOfAll, IsLeastPairOfAll, group_dirs}
+use Rattle.subscripts.specs.Shapes.{IsPairing, AreDirsOf, IsBeside}
+use Rattle.subscripts.specs.declared.affine.Dirs.{Dirs}
+use Rattle.subscripts.specs.declared.pairing.Pairing.{Pairing}
+use Rattle.line_points.specs.Lines.{OnLine}
+use Rattle.line_points.specs.declared.points.Line.{Line}
+
+-- pairings of the same two references, and directions of theirs
+pub record AreMembers (ps : List Pairing) (d : Dirs) : Type 0 where
+  pub some : 0 < length ps
+  pub pairings : All IsPairing ps
+  pub beside : All (λ p. All (IsBeside p) ps) ps
+  pub dirs : All (λ p. AreDirsOf p d) ps
+
+-- all have this one loop
+abbrev pub HasOneLoopOfAll : List Pairing → Loop → Type 0
+HasOneLoopOfAll ps l = All (λ p. HasOneLoop p l) ps
+
+-- the line of a pairing of this one loop
+abbrev pub line_at : Loop → Pairing → Line
+line_at l p = record { first = first_of p l; second = pos 0 -ℤ second_of p l; constant = p.to.constant -ℤ p.from.constant }
+
+-- on the lines of all
+abbrev pub OnAllLines : Loop → List Pairing → ℤ → ℤ → Type 0
+OnAllLines l ps i j = All (λ p. OnLine (line_at l p) i j) ps
+
+-- no pair of iterations of all, neither of all loops nor of the one that matters
+pub record HasNoneOfAll (ps : List Pairing) (d : Dirs) : Type 0 where
+  pub whole : (x y : List ℤ) → IsPairOfAll ps d x y → ⊥
+  pub cut_too : (x y : List ℤ) → IsPairOfAll (map cut ps) (group_dirs ps d) x y → ⊥
+
+-- the least pair of iterations of the loop that matters
+abbrev pub IsLeastOfAll : List Pairing → Dirs → List ℤ → List ℤ → Type 0
+IsLeastOfAll ps d x y = IsLeastPairOfAll (map cut ps) (group_dirs ps d) x y

@@ -1,0 +1,29 @@
+-- The least pair of iterations of one loop that a line and a direction leave.
+use Rattle.std.specs.Prelude.{◌≡◌, ℤ, pos, ◌≤ℤ◌, ◌<ℤ◌, ◌⊎◌}
+use Rattle.subscripts.specs.Iterations.{IsRelated}
+use Rattle.subscripts.specs.declared.affine.Dir.{Dir}
+use Rattle.line_points.specs.declared.points.Line.{Line}
+use Rattle.line_points.specs.Lines.{OnLine}
+
+-- from one to the trip
+pub record WithinTrip (trip i : ℤ) : Type 0 where
+  pub low : pos 1 ≤ℤ i
+  pub high : i ≤ℤ trip
+
+-- two iterations from 1 to the trip, related so
+pub record IsWithin (trip : ℤ) (d : Dir) (i j : ℤ) : Type 0 where
+  pub first : WithinTrip trip i
+  pub second : WithinTrip trip j
+  pub related : IsRelated d i j
+
+-- the first iteration is the lesser one, or they are equal and the second isn't the greater one
+abbrev pub IsAtMost : ℤ → ℤ → ℤ → ℤ → Type 0
+IsAtMost i j i' j' = (i <ℤ i') ⊎ ((i ≡ i') × (j ≤ℤ j'))
+
+abbrev pub HasNone : Line → ℤ → Dir → Type 0
+HasNone l trip d = (i j : ℤ) → OnLine l i j → IsWithin trip d i j → ⊥
+
+pub record IsLeast (l : Line) (trip : ℤ) (d : Dir) (i j : ℤ) : Type 0 where
+  pub on : OnLine l i j
+  pub within : IsWithin trip d i j
+  pub least : (i' j' : ℤ) → OnLine l i' j' → IsWithin trip d i' j' → IsAtMost i j i' j'

@@ -1,0 +1,5 @@
+pub mod Loops
+pub mod Indexed
+pub mod Crossings
+pub mod Cutting
+pub mod Pairs
