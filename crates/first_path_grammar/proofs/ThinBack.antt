@@ -7,7 +7,7 @@ use Rattle.std.proofs.lemmas.Fmt.{decimal_is_IsNumeral_wide, length-decimal-le_w
 use Rattle.std.proofs.lemmas.Int.Digits.{digits_value-lt}
 use Rattle.std.proofs.lemmas.List.{length-drop}
 use Rattle.std.proofs.lemmas.List.Sums.{length-filter, count_by-le-length}
-use Rattle.fv_tree.specs.Plain.{Expression, Number, Logic, Named, Unary, Binary, Apply, Single, Constant, ImpliedDo, Items, no_items, item}
+use Rattle.fv_tree.specs.Plain.{Expression, Number, Logic, Named, Unary, Binary, Apply, Single, Constant, ImpliedDo, Items, no_items, item, Constructor, Reduce, Reshape, Spread, Transpose, Allocate, Deallocate, Where}
 use Rattle.fv_tree.specs.Plain.{Statement, Assignment, If, Do, Label, GoTo, Stop, Read, Print}
 use Rattle.first_path_grammar.specs.ThinGrammar.{IsCapital, IsDecimal, IsIntegerName, IsLiteral, SpellsSum, SpellsItems, SpellsStatement, spacing77, statement_text}
 use Rattle.first_path_grammar.specs.Printing90.{spacing90, expression_text, items_text, line_of}
@@ -41,6 +41,11 @@ sum_again text (Binary o a b) h = (expression_text a, expression_text b, refl, h
 sum_again text (Logic b) h = absurd h
 sum_again text (Unary o a) h = absurd h
 sum_again text (Apply f es) h = absurd h
+sum_again text (Constructor _ _) h = absurd h
+sum_again text (Spread _ _ _) h = absurd h
+sum_again text (Transpose _) h = absurd h
+sum_again text (Reshape _ _) h = absurd h
+sum_again text (Reduce _ _) h = absurd h
 
 items_again : (text : List ℕ) (is : Items) → SpellsItems spacing77 text is → SpellsItems spacing90 (items_text is) is
 items_again text no_items h = absurd h
@@ -66,6 +71,9 @@ statement_again m n text (Label l) h = absurd h
 statement_again m n text (GoTo line l) h = absurd h
 statement_again m n text (Stop line) h = absurd h
 statement_again m n text (Read line is) h = absurd h
+statement_again m n text (Where _ _ _ _ _) h = absurd h
+statement_again m n text (Allocate _ _ _) h = absurd h
+statement_again m n text (Deallocate _ _) h = absurd h
 
 -- ---- what the text is made of
 
@@ -109,6 +117,11 @@ sum_printable text (Binary o a b) h =
 sum_printable text (Logic b) h = absurd h
 sum_printable text (Unary o a) h = absurd h
 sum_printable text (Apply f es) h = absurd h
+sum_printable text (Constructor _ _) h = absurd h
+sum_printable text (Spread _ _ _) h = absurd h
+sum_printable text (Transpose _) h = absurd h
+sum_printable text (Reshape _ _) h = absurd h
+sum_printable text (Reduce _ _) h = absurd h
 
 items_printable : (text : List ℕ) (is : Items) → SpellsItems spacing77 text is → Printable (items_text is)
 items_printable text no_items h = absurd h
@@ -142,6 +155,11 @@ sum_width text (Binary o a b) h =
 sum_width text (Logic b) h = absurd h
 sum_width text (Unary o a) h = absurd h
 sum_width text (Apply f es) h = absurd h
+sum_width text (Constructor _ _) h = absurd h
+sum_width text (Spread _ _ _) h = absurd h
+sum_width text (Transpose _) h = absurd h
+sum_width text (Reshape _ _) h = absurd h
+sum_width text (Reduce _ _) h = absurd h
 
 items_width : (text : List ℕ) (is : Items) → SpellsItems spacing77 text is → length (items_text is) + 1 ≤ 2 * length text
 items_width text no_items h = absurd h
@@ -203,3 +221,6 @@ statement_fits n text (Label k) l h = absurd h
 statement_fits n text (GoTo line k) l h = absurd h
 statement_fits n text (Stop line) l h = absurd h
 statement_fits n text (Read line is) l h = absurd h
+statement_fits n text (Where _ _ _ _ _) l h = absurd h
+statement_fits n text (Allocate _ _ _) l h = absurd h
+statement_fits n text (Deallocate _ _) l h = absurd h

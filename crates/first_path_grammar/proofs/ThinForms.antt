@@ -9,7 +9,7 @@ use Rattle.std.proofs.lemmas.Bool.Decides.{Decides-and}
 use Rattle.std.proofs.lemmas.Slice.Eq.{bytes_eq-Decides}
 use Rattle.std.proofs.lemmas.List.{take-append-drop, drop_at, take_at}
 use Rattle.fv_tree.specs.declared.stmts.Mark.{Mark}
-use Rattle.fv_tree.specs.Plain.{Expression, Reference, no_subscripts, Single, Constant, ImpliedDo, Items, no_items, item, Statement, Assignment, If, Do, Label, GoTo, Stop, Read, Print}
+use Rattle.fv_tree.specs.Plain.{Expression, Reference, no_subscripts, Single, Constant, ImpliedDo, Items, no_items, item, Statement, Assignment, If, Do, Label, GoTo, Stop, Read, Print, Allocate, Deallocate, Where}
 use Rattle.first_path_grammar.specs.ThinGrammar.{IsIntegerName, SpellsSum, SpellsItems, SpellsStatement, spacing77, statement_text, Form, SpellsForm, HasForm}
 use Rattle.first_path_grammar.specs.ThinGrammar.Form.{End, Is}
 use Rattle.first_path_grammar.specs.ThinReader.{◌>>=◌, is_integer_name, expression_at, pieces, items_of, print_at, sides_of, assignment_at, is_print, statement_at, is_printable, is_card, as_form, form_at, form_of}
@@ -167,6 +167,9 @@ statement-only n text (Label l) h = absurd h
 statement-only n text (GoTo line l) h = absurd h
 statement-only n text (Stop line) h = absurd h
 statement-only n text (Read line is) h = absurd h
+statement-only n text (Where _ _ _ _ _) h = absurd h
+statement-only n text (Allocate _ _ _) h = absurd h
+statement-only n text (Deallocate _ _) h = absurd h
 
 -- ---- forms
 
@@ -191,6 +194,9 @@ no_end n text (Label l) h is = h
 no_end n text (GoTo line l) h is = h
 no_end n text (Stop line) h is = h
 no_end n text (Read line is') h is = h
+no_end n text (Where _ _ _ _ _) h is = absurd h
+no_end n text (Allocate _ _ _) h is = absurd h
+no_end n text (Deallocate _ _) h is = absurd h
 
 form_at-only : (n : ℕ) (text : List ℕ) (f : Form) → SpellsForm n text f → form_at n text ≡ Some f
 unfolding form_at

@@ -9,7 +9,7 @@ use Rattle.std.proofs.lemmas.List.Splits.{slice_split_none, slice_split_at}
 use Rattle.std.proofs.lemmas.List.Elements.{All-from_recursion}
 use Rattle.fv_tree.specs.declared.ops.Op.{Op}
 use Rattle.fv_tree.specs.declared.ops.Op.TheVariants as op
-use Rattle.fv_tree.specs.Plain.{Expression, Number, Logic, Named, Unary, Binary, Apply, Subscripts, no_subscripts}
+use Rattle.fv_tree.specs.Plain.{Expression, Number, Logic, Named, Unary, Binary, Apply, Subscripts, no_subscripts, Constructor, Reduce, Reshape, Spread, Transpose}
 use Rattle.first_path_grammar.specs.ThinGrammar.{IsCapital, IsDecimal, IsIntegerName, IsOperand, SpellsSum}
 use Rattle.first_path_grammar.specs.ThinReader.{◌>>=◌, is_integer_name, literal_of, number_of, operand_of, pieces, sum_after, sum_of, expression_at}
 use Rattle.first_path_grammar.proofs.ThinTests.{integer_name, literal-found, literal-only, decimal_from_value}
@@ -71,6 +71,11 @@ operand-only text (Logic b) h o = absurd o
 operand-only text (Unary p a) h o = absurd o
 operand-only text (Binary p a b) h o = absurd o
 operand-only text (Apply f es) h o = absurd o
+operand-only text (Constructor _ _) h o = absurd h
+operand-only text (Spread _ _ _) h o = absurd h
+operand-only text (Transpose _) h o = absurd h
+operand-only text (Reshape _ _) h o = absurd h
+operand-only text (Reduce _ _) h o = absurd h
 
 -- ---- pieces
 
@@ -226,6 +231,11 @@ operand_lacks c text (Logic b) out h o = absurd o
 operand_lacks c text (Unary p a) out h o = absurd o
 operand_lacks c text (Binary p a b) out h o = absurd o
 operand_lacks c text (Apply f es) out h o = absurd o
+operand_lacks c text (Constructor _ _) out h o = absurd h
+operand_lacks c text (Spread _ _ _) out h o = absurd h
+operand_lacks c text (Transpose _) out h o = absurd h
+operand_lacks c text (Reshape _ _) out h o = absurd h
+operand_lacks c text (Reduce _ _) out h o = absurd h
 
 -- a sum has letters, digits and plus signs alone
 pub sum_lacks : (c : ℕ) (text : List ℕ) (e : Expression) → c ≢ 43 → (c < 48) ⊎ ((57 < c) × (c < 65)) → SpellsSum (codes "+") text e → Lacks c text
@@ -237,6 +247,11 @@ sum_lacks c text (Binary p a b) apart out h =
 sum_lacks c text (Logic b) apart out h = absurd h
 sum_lacks c text (Unary p a) apart out h = absurd h
 sum_lacks c text (Apply f es) apart out h = absurd h
+sum_lacks c text (Constructor _ _) apart out h = absurd h
+sum_lacks c text (Spread _ _ _) apart out h = absurd h
+sum_lacks c text (Transpose _) apart out h = absurd h
+sum_lacks c text (Reshape _ _) apart out h = absurd h
+sum_lacks c text (Reduce _ _) apart out h = absurd h
 
 out_43 : (43 < 48) ⊎ ((57 < 43) × (43 < 65))
 out_43 = inl (omega arith)
@@ -252,3 +267,8 @@ expression-only text (Binary p a b) h =
 expression-only text (Logic b) h = absurd h
 expression-only text (Unary p a) h = absurd h
 expression-only text (Apply f es) h = absurd h
+expression-only text (Constructor _ _) h = absurd h
+expression-only text (Spread _ _ _) h = absurd h
+expression-only text (Transpose _) h = absurd h
+expression-only text (Reshape _ _) h = absurd h
+expression-only text (Reduce _ _) h = absurd h

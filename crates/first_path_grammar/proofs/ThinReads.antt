@@ -12,7 +12,7 @@ use Rattle.std.proofs.lemmas.Bool.{and_from, or_cases, or_left, or_right}
 use Rattle.first_path_grammar.proofs.ThinTests.{within}
 use Rattle.std.proofs.lemmas.Slice.Eq.{bytes_eq-Decides}
 use Rattle.fv_tree.specs.Names.{IsName, is_name_byte}
-use Rattle.fv_tree.specs.Plain.{Statement, Assignment, If, Do, Label, GoTo, Stop, Read, Print, statement, block, Declaration, Program, Items, no_items, item, Single, Constant, ImpliedDo, Expression, Number, Logic, Named, Unary, Binary, Apply}
+use Rattle.fv_tree.specs.Plain.{Statement, Assignment, If, Do, Label, GoTo, Stop, Read, Print, statement, block, Declaration, Program, Items, no_items, item, Single, Constant, ImpliedDo, Expression, Number, Logic, Named, Unary, Binary, Apply, Constructor, Reduce, Reshape, Spread, Transpose, Allocate, Deallocate, Where}
 use Rattle.fv_meaning.specs.Deck.{lines_of, source_of, input_of, data_line77, data_line90}
 use Rattle.first_path_grammar.specs.ThinGrammar.{IsCapital, IsDecimal, IsIntegerName, SpellsSum, SpellsItems, SpellsStatement, spacing77, statement_text, Form, HaveForms}
 use Rattle.first_path_grammar.specs.ThinGrammar.Form.{End, Is}
@@ -54,6 +54,11 @@ expression_are text (Binary o a b) h = both (expression_names a) (expression_nam
 expression_are text (Logic b) h = absurd h
 expression_are text (Unary o a) h = absurd h
 expression_are text (Apply f es) h = absurd h
+expression_are text (Constructor _ _) h = absurd h
+expression_are text (Spread _ _ _) h = absurd h
+expression_are text (Transpose _) h = absurd h
+expression_are text (Reshape _ _) h = absurd h
+expression_are text (Reduce _ _) h = absurd h
 
 items_are : (text : List ℕ) (is : Items) → SpellsItems spacing77 text is → AllByRecursion IsIntegerName (items_names is)
 items_are text no_items h = absurd h
@@ -73,6 +78,9 @@ statement_are n text (Label k) h = absurd h
 statement_are n text (GoTo line k) h = absurd h
 statement_are n text (Stop line) h = absurd h
 statement_are n text (Read line is) h = absurd h
+statement_are n text (Where _ _ _ _ _) h = absurd h
+statement_are n text (Allocate _ _ _) h = absurd h
+statement_are n text (Deallocate _ _) h = absurd h
 
 statements_are : (m : ℕ) (lines : List (List ℕ)) (ss : List Statement) → HaveForms m lines (map Is ss ++ End ∷ []) → AllByRecursion IsIntegerName (names_in ss)
 statements_are m lines [] h = tt
@@ -148,6 +156,9 @@ names-on_line n (Label k) = refl
 names-on_line n (GoTo line k) = refl
 names-on_line n (Stop line) = refl
 names-on_line n (Read line is) = refl
+names-on_line n (Where line mark m left e) = refl
+names-on_line n (Allocate line x es) = refl
+names-on_line n (Deallocate line x) = refl
 
 names-on_lines : (k : ℕ) (ss : List Statement) → names_in (on_lines k ss) ≡ names_in ss
 names-on_lines k [] = refl
@@ -226,6 +237,9 @@ same_statement n (Label k) = refl
 same_statement n (GoTo line k) = refl
 same_statement n (Stop line) = refl
 same_statement n (Read line is) = refl
+same_statement n (Where line mark m left e) = refl
+same_statement n (Allocate line x es) = refl
+same_statement n (Deallocate line x) = refl
 
 same_statements : (k : ℕ) (ss : List Statement) → block_without_lines (block ss) ≡ block_without_lines (block (on_lines k ss))
 same_statements k [] = refl
