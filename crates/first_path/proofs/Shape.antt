@@ -4,7 +4,7 @@ use Rattle.std.specs.Prelude.{codes}
 use Rattle.std.specs.List.{AllByRecursion}
 use Rattle.std.proofs.Math.Seq.{take-length}
 use Rattle.fv_tree.specs.declared.ops.Kind.TheVariants.{Integer}
-use Rattle.fv_tree.specs.Plain.{Statement, Assignment, If, Do, Label, GoTo, Stop, Read, Print, block, Declaration, Given, Program, Items, no_items, item, Single, Constant, ImpliedDo, Expression, Number, Logic, Named, Unary, Binary, Apply}
+use Rattle.fv_tree.specs.Plain.{Statement, Assignment, If, Do, Label, GoTo, Stop, Read, Print, block, Declaration, Given, Program, Items, no_items, item, Single, Constant, ImpliedDo, Expression, Number, Logic, Named, Unary, Binary, Apply, Constructor, Reduce, Reshape, Spread, Transpose, Allocate, Deallocate, Where}
 use Rattle.fv_meaning.specs.Deck.{lines_of}
 use Rattle.first_path_grammar.specs.ThinGrammar.{SpellsSum, SpellsItems, SpellsStatement, spacing77, statement_text, HaveForms}
 use Rattle.first_path_grammar.specs.ThinGrammar.Form.{End, Is}
@@ -18,6 +18,11 @@ thin_sum text (Binary o a b) h = (h.3, thin_sum h.0 a h.4, thin_sum h.1 b h.5)
 thin_sum text (Logic b) h = absurd h
 thin_sum text (Unary o a) h = absurd h
 thin_sum text (Apply f es) h = absurd h
+thin_sum text (Constructor _ _) h = absurd h
+thin_sum text (Spread _ _ _) h = absurd h
+thin_sum text (Transpose _) h = absurd h
+thin_sum text (Reshape _ _) h = absurd h
+thin_sum text (Reduce _ _) h = absurd h
 
 thin_items : (text : List ℕ) (is : Items) → SpellsItems spacing77 text is → AreThinItems is
 thin_items text no_items h = absurd h
@@ -37,6 +42,9 @@ thin_statement n text (Label k) h = absurd h
 thin_statement n text (GoTo line k) h = absurd h
 thin_statement n text (Stop line) h = absurd h
 thin_statement n text (Read line is) h = absurd h
+thin_statement n text (Where _ _ _ _ _) h = absurd h
+thin_statement n text (Allocate _ _ _) h = absurd h
+thin_statement n text (Deallocate _ _) h = absurd h
 
 thin_block : (m : ℕ) (lines : List (List ℕ)) (ss : List Statement) → HaveForms m lines (map Is ss ++ End ∷ []) → IsThinBlock (block ss)
 thin_block m lines [] h = tt

@@ -33,6 +33,11 @@ fn print_expression(out: &mut Vec<u8>, e: &Expr) -> Result<(), Memory>
             print_expression(out, right)
         }
         Expr::Call(_, _) => Ok(()),
+        Expr::List(_, _) => Ok(()),
+        Expr::Spread(_, _, _) => Ok(()),
+        Expr::Transpose(_) => Ok(()),
+        Expr::Reshape(_, _) => Ok(()),
+        Expr::Reduce(_, _) => Ok(()),
     }
 }
 
@@ -76,12 +81,15 @@ fn print_statement(out: &mut Vec<u8>, statement: &Stmt) -> Result<(), Memory>
             push(out, b" = ".as_slice())?;
             print_expression(out, right)
         }
+        Stmt::Masked { .. } => Ok(()),
         Stmt::If { .. } => Ok(()),
         Stmt::Do { .. } => Ok(()),
         Stmt::Label { .. } => Ok(()),
         Stmt::Go { .. } => Ok(()),
         Stmt::Stop { .. } => Ok(()),
         Stmt::Read { .. } => Ok(()),
+        Stmt::Allocate { .. } => Ok(()),
+        Stmt::Deallocate { .. } => Ok(()),
         Stmt::Print { items, .. } => {
             push(out, b"PRINT *, ".as_slice())?;
             print_items(out, items.as_slice())

@@ -90,6 +90,11 @@ fn note_expression(names: &mut IndexSet<Name>, e: &Expr) -> Result<(), Memory>
             note_expression(names, right)
         }
         Expr::Call(_, _) => Ok(()),
+        Expr::List(_, _) => Ok(()),
+        Expr::Spread(_, _, _) => Ok(()),
+        Expr::Transpose(_) => Ok(()),
+        Expr::Reshape(_, _) => Ok(()),
+        Expr::Reduce(_, _) => Ok(()),
     }
 }
 
@@ -120,12 +125,15 @@ fn note_statement(names: &mut IndexSet<Name>, statement: &Stmt) -> Result<(), Me
             names.insert(left.name)?;
             note_expression(names, right)
         }
+        Stmt::Masked { .. } => Ok(()),
         Stmt::If { .. } => Ok(()),
         Stmt::Do { .. } => Ok(()),
         Stmt::Label { .. } => Ok(()),
         Stmt::Go { .. } => Ok(()),
         Stmt::Stop { .. } => Ok(()),
         Stmt::Read { .. } => Ok(()),
+        Stmt::Allocate { .. } => Ok(()),
+        Stmt::Deallocate { .. } => Ok(()),
         Stmt::Print { items, .. } => note_items(names, items.as_slice()),
     }
 }

@@ -5,7 +5,7 @@ use Rattle.std.proofs.lemmas.Int.{to_z-of_z}
 use Rattle.std.specs.Prelude.{codes}
 use Rattle.fv_tree.specs.Plain.{Reference}
 use Rattle.fv_tree.specs.View.{expression_of}
-use Rattle.fv_tree.proofs.Equations.{expression_of-int, expression_of-truth, expression_of-item, expression_of-un, expression_of-bin, expression_of-call, reference_of-is}
+use Rattle.fv_tree.proofs.Equations.{expression_of-int, expression_of-truth, expression_of-item, expression_of-un, expression_of-bin, expression_of-call, reference_of-is, expression_of-list, expression_of-spread, expression_of-transpose, expression_of-reshape, expression_of-reduce}
 use Rattle.first_path_grammar.specs.Printing90.{expression_text}
 use Rattle.first_path.proofs.Printed.{nothing_printed, printed_as, printed_after, joined}
 use Rattle.first_path.proofs.printer.+print_expression.Goals as goal
@@ -43,3 +43,18 @@ returns-in_ok-push-in-Bin t c =
 
 pub returns-in-Call : goal.returns-in-Call
 returns-in-Call t c = nothing_printed c.args.out.now.items _ (ap expression_text (ap expression_of c.in-Call.is ∙ expression_of-call c.in-Call.field-0 c.in-Call.field-1))
+
+pub returns-in-List : goal.returns-in-List
+returns-in-List t c = nothing_printed c.args.out.now.items _ (ap expression_text (ap expression_of c.in-List.is ∙ expression_of-list c.in-List.field-0 c.in-List.field-1))
+
+pub returns-in-Spread : goal.returns-in-Spread
+returns-in-Spread t c = nothing_printed c.args.out.now.items _ (ap expression_text (ap expression_of c.in-Spread.is ∙ expression_of-spread c.in-Spread.field-0 c.in-Spread.field-1 c.in-Spread.field-2))
+
+pub returns-in-Transpose : goal.returns-in-Transpose
+returns-in-Transpose t c = nothing_printed c.args.out.now.items _ (ap expression_text (ap expression_of c.in-Transpose.is ∙ expression_of-transpose c.in-Transpose.field-0))
+
+pub returns-in-Reshape : goal.returns-in-Reshape
+returns-in-Reshape t c = nothing_printed c.args.out.now.items _ (ap expression_text (ap expression_of c.in-Reshape.is ∙ expression_of-reshape c.in-Reshape.field-0 c.in-Reshape.field-1))
+
+pub returns-in-Reduce : goal.returns-in-Reduce
+returns-in-Reduce t c = nothing_printed c.args.out.now.items _ (ap expression_text (ap expression_of c.in-Reduce.is ∙ expression_of-reduce c.in-Reduce.field-0 c.in-Reduce.field-1))

@@ -3,7 +3,7 @@ use Rattle.std.specs.Prelude.{codes}
 use Rattle.fv_tree.specs.declared.exprs.Ref.{out-Ref}
 use Rattle.fv_tree.specs.Plain.{Reference, items}
 use Rattle.fv_tree.specs.View.{statement_of, item_of, expression_of}
-use Rattle.fv_tree.proofs.Equations.{reference_of-is, statement_of-assign, statement_of-if, statement_of-do, statement_of-label, statement_of-go, statement_of-stop, statement_of-read, statement_of-print}
+use Rattle.fv_tree.proofs.Equations.{reference_of-is, statement_of-assign, statement_of-if, statement_of-do, statement_of-label, statement_of-go, statement_of-stop, statement_of-read, statement_of-print, statement_of-masked, statement_of-allocate, statement_of-deallocate}
 use Rattle.first_path_grammar.specs.Printing90.{line_of, items_text, expression_text}
 use Rattle.first_path.proofs.Printed.{nothing_printed, printed_after, joined}
 use Rattle.first_path.proofs.printer.print_statement.Goals as goal
@@ -46,3 +46,12 @@ returns-in_ok-push-in-Print c =
     ∙ ap line_of (sym (ap statement_of c.in-Print.is ∙ statement_of-print c.in-Print.line c.in-Print.items)))
     (c.in_ok-push-in-Print.ensures ∙ ap (λ t. c.args.out.now.items ++ t) c.as_slice-in-Print.ensures)
     c.print_items.ensures
+
+pub returns-in-Masked : goal.returns-in-Masked
+returns-in-Masked c = nothing_printed c.args.out.now.items _ (ap line_of (ap statement_of c.in-Masked.is ∙ statement_of-masked c.in-Masked.line c.in-Masked.mark c.in-Masked.mask c.in-Masked.left c.in-Masked.right))
+
+pub returns-in-Allocate : goal.returns-in-Allocate
+returns-in-Allocate c = nothing_printed c.args.out.now.items _ (ap line_of (ap statement_of c.in-Allocate.is ∙ statement_of-allocate c.in-Allocate.line c.in-Allocate.name c.in-Allocate.extents))
+
+pub returns-in-Deallocate : goal.returns-in-Deallocate
+returns-in-Deallocate c = nothing_printed c.args.out.now.items _ (ap line_of (ap statement_of c.in-Deallocate.is ∙ statement_of-deallocate c.in-Deallocate.line c.in-Deallocate.name))

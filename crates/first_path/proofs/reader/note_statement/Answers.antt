@@ -1,7 +1,7 @@
 use Rattle.std.proofs.Common.{ap, sym, refl, ◌∙◌, map}
 use Rattle.fv_tree.specs.Plain.{items}
 use Rattle.fv_tree.specs.View.{statement_of, item_of}
-use Rattle.fv_tree.proofs.Equations.{statement_of-if, statement_of-do, statement_of-label, statement_of-go, statement_of-stop, statement_of-read, statement_of-print}
+use Rattle.fv_tree.proofs.Equations.{statement_of-if, statement_of-do, statement_of-label, statement_of-go, statement_of-stop, statement_of-read, statement_of-print, statement_of-masked, statement_of-allocate, statement_of-deallocate}
 use Rattle.first_path_grammar.specs.Reading77.{statement_names, items_names}
 use Rattle.first_path.proofs.Noted.{statement_without, noted_as, assigned_as}
 use Rattle.first_path.proofs.reader.note_statement.Goals as goal
@@ -33,3 +33,12 @@ pub returns-in-Print : goal.returns-in-Print
 returns-in-Print c =
     noted_as c.note_items.result c.args.names.now.keys c.note_items.new.names.keys (items_names (items (map item_of c.as_slice.result.now))) (statement_names (statement_of c.args.statement.now))
     (ap (λ is. items_names (items (map item_of is))) c.as_slice.ensures ∙ ap statement_names (sym (ap statement_of c.in-Print.is ∙ statement_of-print c.in-Print.line c.in-Print.items))) c.note_items.ensures
+
+pub returns-in-Masked : goal.returns-in-Masked
+returns-in-Masked c = statement_without c.args.names.now.keys c.args.statement.now _ (ap statement_of c.in-Masked.is ∙ statement_of-masked c.in-Masked.line c.in-Masked.mark c.in-Masked.mask c.in-Masked.left c.in-Masked.right) refl
+
+pub returns-in-Allocate : goal.returns-in-Allocate
+returns-in-Allocate c = statement_without c.args.names.now.keys c.args.statement.now _ (ap statement_of c.in-Allocate.is ∙ statement_of-allocate c.in-Allocate.line c.in-Allocate.name c.in-Allocate.extents) refl
+
+pub returns-in-Deallocate : goal.returns-in-Deallocate
+returns-in-Deallocate c = statement_without c.args.names.now.keys c.args.statement.now _ (ap statement_of c.in-Deallocate.is ∙ statement_of-deallocate c.in-Deallocate.line c.in-Deallocate.name) refl
