@@ -1,5 +1,6 @@
 //! Names with bounds, and symbolic constants.
 ghost use Rattle.std.specs.Prelude.{◌≡◌, pos, max, List, [], ◌∷◌, ◌++◌, map, IfOk, length, ◌≤◌};
+ghost use Rattle.fv_tree.specs.Limits.{array_dimensions};
 ghost use Rattle.fv_tree.specs.Plain.{Number};
 ghost use Rattle.fv_tree.specs.View.{expression_of};
 ghost use Rattle.f77_grammar.specs.expressions.Phrases.{Phrase, IsExpression, written, tree, depth};
@@ -102,7 +103,8 @@ fn read_bounds(alloc: Global, tokens: &[Token]) -> Result<(Seq<(Expr, Expr)>, u1
 // A name with its bounds in parentheses, behind the opening one.
 fn bounded(alloc: Global, name: Name, tokens: &[Token]) -> Result<(Entity, u16, &[Token]), Stop>
     ensures found { IfOk result (λ r. EndsEntity (words_of tokens.now) name (entity_of r.0) r.1 (words_of r.2.now)) }
-    ensures only { (bs : List Bound) (last : List words.Word) → IsList IsBound bs → length bs ≤ 7
+    ensures only { (bs : List Bound) (last : List words.Word) → IsList IsBound bs
+        → length bs ≤ array_dimensions
         → words_of tokens.now ≡ separated written_bound bs ++ (words.Close ∷ last)
         → Given result (λ r. IsTheEntity (Bounded name bs) last (entity_of r.0) r.1 (words_of r.2.now)) }
 {
