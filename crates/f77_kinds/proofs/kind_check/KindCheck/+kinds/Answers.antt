@@ -50,7 +50,7 @@ has_kind-returns-then-has_kind t c =
           c.binary_gives.ensures w.if-binary_gives.true
           (same_operand (listed c.args.self.now.uses) _ c.in-Bin.a.value _ (operand_kind c.in-Bin.op) w.has_kind-then-binary_gives.result w.has_kind-then-binary_gives.ensures
             w.deref-then-binary_gives.ensures w.operand_kind-then-binary_gives.ensures)
-        | has_kind-else-binary_gives w ↦ w.value-is ∙ sym w.if-binary_gives.false
+        | has_kind-else-binary_gives w ↦ w.value-is
           ∙ first_fails c.binary_gives.result (not (is_unary c.in-Bin.op)) (kinds.same_kind (result_kind_of c.in-Bin.op) c.args.kind) (kinds.has_kind (listed c.args.self.now.uses) (expression_of c.in-Bin.a.value) (operand_kind c.in-Bin.op)) c.binary_gives.ensures w.if-binary_gives.false
       ])
       c.if-has_kind.true
@@ -67,7 +67,7 @@ has_kind-returns-else-has_kind t c =
           c.binary_gives.ensures w.if-binary_gives.true
           (same_operand (listed c.args.self.now.uses) _ c.in-Bin.a.value _ (operand_kind c.in-Bin.op) w.has_kind-then-binary_gives.result w.has_kind-then-binary_gives.ensures
             w.deref-then-binary_gives.ensures w.operand_kind-then-binary_gives.ensures)
-        | has_kind-else-binary_gives w ↦ w.value-is ∙ sym w.if-binary_gives.false
+        | has_kind-else-binary_gives w ↦ w.value-is
           ∙ first_fails c.binary_gives.result (not (is_unary c.in-Bin.op)) (kinds.same_kind (result_kind_of c.in-Bin.op) c.args.kind) (kinds.has_kind (listed c.args.self.now.uses) (expression_of c.in-Bin.a.value) (operand_kind c.in-Bin.op)) c.binary_gives.ensures w.if-binary_gives.false
       ])
       c.if-has_kind.false)
