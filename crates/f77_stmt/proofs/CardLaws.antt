@@ -134,6 +134,9 @@ no_word text only = NoWord (λ w h. none_is_some w (only w h)) where
   none_is_some : (w : ℕ) → None ≡ Some w → ⊥
   none_is_some w e = cc
 
+pub formless_at : (text : List Symbol) (r q : Refusal) → r ≡ q → IsFormless text q.number q.word → IsFormless text r.number r.word
+formless_at text r q e h = subst (λ (x : Refusal). IsFormless text x.number x.word) (sym e) h
+
 -- ---- in the words of the code
 
 pub squeezed_here : (a b : List ℕ) (xs ys : List Symbol') → a ≡ b → xs ≡ ys → Squeezed a (symbols_of ys) → Squeezed b (symbols_of xs)
