@@ -8,8 +8,8 @@ ghost use Rattle.f77_syntax.specs.Views.{text_of};
 ghost use Rattle.f77_jumps.specs.Blocks.{opens_form, depth_with, with_end};
 
 use f77_structure::{Form, label_ends, place_under};
-use fv_tree::{BLOCK_DEPTH_77, Memory};
 use f77_syntax::Labelled;
+use fv_tree::{BLOCK_DEPTH_77, Memory};
 use std::alloc::Global;
 
 // The blocks that are open: the number of block IFs, and for each loop the place of its last statement. They are few,
