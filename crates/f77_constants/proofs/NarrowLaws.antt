@@ -13,7 +13,7 @@ use Rattle.fv_tree.specs.declared.ops.Fault.TheVariants.{Overflow}
 use Rattle.fv_meaning.specs.Store.{Store}
 use Rattle.f77_grammar.specs.Statement77.{Entity, Labelled}
 use Rattle.fv_meaning.specs.Value.{value_of}
-use Rattle.fv_meaning.specs.Sequential.{integer_bits}
+use Rattle.fv_meaning.specs.Dialect.{fortran77}
 use Rattle.f77_grammar.specs.program.Text.{places_from}
 use Rattle.f77_grammar.specs.program.Uses.{Use}
 use Rattle.f77_grammar.specs.program.Limits.{in_range, is_no_constant, has_bounds, bounds_among, bounds_of_name, definitions_of, entities_of, has_bad_constant}
@@ -33,7 +33,7 @@ or_right false b h = h
 
 -- ---- numbers
 
-fits_more : (z : ℤ) → fits integer_bits z ≡ true → fits 63 z ≡ true
+fits_more : (z : ℤ) → fits fortran77.bits z ≡ true → fits 63 z ≡ true
 fits_more (pos n) h = grind (arith, nat_tests)
 fits_more (negsuc n) h = grind (arith, nat_tests)
 
@@ -41,8 +41,8 @@ in_integer : (b : Bool) (z : ℤ) → is_err (let r : Result Value Fault = cond 
 in_integer true z h = refl
 in_integer false z h = cc
 
-narrowed_same : (z : ℤ) → is_err (in_range (Int z)) ≡ false → narrowed z ≡ z
-narrowed_same z h = ap (λ b. cond b z (pos 0)) (fits_more z (in_integer (fits integer_bits z) z h))
+narrowed_same : (z : ℤ) → is_err (in_range fortran77 (Int z)) ≡ false → narrowed z ≡ z
+narrowed_same z h = ap (λ b. cond b z (pos 0)) (fits_more z (in_integer (fits fortran77.bits z) z h))
 
 -- ---- bounds
 
@@ -56,11 +56,11 @@ narrow_values (Ok (Int x)) (Ok (Int y)) h k = ap (λ (z : ℤ). let both : ℤ �
 narrow_dimensions : (s : Store) (bs : List (Expression × Expression)) → has_bad s bs ≡ false → map narrow (dimensions s bs) ≡ dimensions s bs
 narrow_dimensions s [] h = refl
 narrow_dimensions s (b ∷ bs) h =
-    let here : (is_no_constant s b.0 || is_no_constant s b.1) ≡ false = or_left (is_no_constant s b.0 || is_no_constant s b.1) (has_bad s bs) h in
+    let here : (is_no_constant fortran77 s b.0 || is_no_constant fortran77 s b.1) ≡ false = or_left (is_no_constant fortran77 s b.0 || is_no_constant fortran77 s b.1) (has_bad s bs) h in
     ap (λ (d : ℤ × ℤ). d ∷ map narrow (dimensions s bs))
-    (narrow_values (value_of integer_bits b.0 s) (value_of integer_bits b.1 s) (or_left (is_no_constant s b.0) (is_no_constant s b.1) here) (or_right (is_no_constant s b.0) (is_no_constant s b.1) here))
-    ∙ ap (λ (ds : List (ℤ × ℤ)). tree.bounds_in (paired (numbered (value_of integer_bits b.0 s)) (numbered (value_of integer_bits b.1 s))) ∷ ds)
-    (narrow_dimensions s bs (or_right (is_no_constant s b.0 || is_no_constant s b.1) (has_bad s bs) h))
+    (narrow_values (value_of fortran77 b.0 s) (value_of fortran77 b.1 s) (or_left (is_no_constant fortran77 s b.0) (is_no_constant fortran77 s b.1) here) (or_right (is_no_constant fortran77 s b.0) (is_no_constant fortran77 s b.1) here))
+    ∙ ap (λ (ds : List (ℤ × ℤ)). tree.bounds_in (paired (numbered (value_of fortran77 b.0 s)) (numbered (value_of fortran77 b.1 s))) ∷ ds)
+    (narrow_dimensions s bs (or_right (is_no_constant fortran77 s b.0 || is_no_constant fortran77 s b.1) (has_bad s bs) h))
 
 -- ---- the bounds of a text
 
@@ -79,13 +79,13 @@ found_nowhere false i rest h = (refl, h)
 neither : (a b : Bool) → a ≡ false → b ≡ false → (a || b) ≡ false
 neither a b e f = rw (e, f) refl
 
-none_bad : (s : Store) (before text : List Labelled) (i : ℕ) → index_from (has_bad_constant s) i (places_from before text) ≡ None
+none_bad : (s : Store) (before text : List Labelled) (i : ℕ) → index_from (has_bad_constant fortran77 s) i (places_from before text) ≡ None
     → list_any (has_bad s) (bounds_in (flat_map (λ (y : Labelled). entities_of y.statement) text)) ≡ false
 none_bad s before [] i h = refl
 none_bad s before (y ∷ ys) i h =
     let lacks : Bool = lacks_value s (definitions_of y.statement) in
     let here : Bool = list_any (has_bad s) (bounds_in (entities_of y.statement)) in
-    let parts = found_nowhere (lacks || here) i (index_from (has_bad_constant s) (suc i) (places_from (y ∷ before) ys)) h in
+    let parts = found_nowhere (lacks || here) i (index_from (has_bad_constant fortran77 s) (suc i) (places_from (y ∷ before) ys)) h in
     any_append s (entities_of y.statement) (flat_map (λ (z : Labelled). entities_of z.statement) ys)
     ∙ neither here (list_any (has_bad s) (bounds_in (flat_map (λ (z : Labelled). entities_of z.statement) ys))) (or_right lacks here parts.0) (none_bad s (y ∷ before) ys (suc i) parts.1)
 
@@ -100,15 +100,15 @@ good_among s (e ∷ es) x h =
 
 -- ---- declarations
 
-narrow_same : (us : List Use) (s : Store) (text : List Labelled) (xs : List (List ℕ)) → first_index (has_bad_constant s) text ≡ None
-    → narrow_declarations us s text xs ≡ map (tree.declaration_of us s text) xs
+narrow_same : (us : List Use) (s : Store) (text : List Labelled) (xs : List (List ℕ)) → first_index (has_bad_constant fortran77 s) text ≡ None
+    → narrow_declarations us s text xs ≡ map (tree.declaration_of fortran77 us s text) xs
 narrow_same us s text [] h = refl
 narrow_same us s text (x ∷ xs) h =
-    ap (λ (ds : List (ℤ × ℤ)). let d : Declaration = record { name = x; kind = (tree.declaration_of us s text x).kind; extent = Given ds } in d ∷ narrow_declarations us s text xs)
+    ap (λ (ds : List (ℤ × ℤ)). let d : Declaration = record { name = x; kind = (tree.declaration_of fortran77 us s text x).kind; extent = Given ds } in d ∷ narrow_declarations us s text xs)
     (narrow_dimensions s (bounds_of_name text x) (good_among s (flat_map (λ (y : Labelled). entities_of y.statement) text) x (none_bad s [] text 0 h)))
-    ∙ ap (λ (ds : List Declaration). tree.declaration_of us s text x ∷ ds) (narrow_same us s text xs h)
+    ∙ ap (λ (ds : List Declaration). tree.declaration_of fortran77 us s text x ∷ ds) (narrow_same us s text xs h)
 
 pub all_declared : (us : List Use) (s t : Store) (text : List Labelled) (names : List (List ℕ)) (ds : List Declaration) → ds ≡ narrow_declarations us t text names → s ≡ t
-    → first_index (has_bad_constant s) text ≡ None → names ≡ variables_from us us → ds ≡ all_declarations us s text
+    → first_index (has_bad_constant fortran77 s) text ≡ None → names ≡ variables_from us us → ds ≡ all_declarations us s text
 all_declared us s t text names ds declared same good variables =
-    declared ∙ ap (λ u. narrow_declarations us u text names) (sym same) ∙ narrow_same us s text names good ∙ ap (map (tree.declaration_of us s text)) variables
+    declared ∙ ap (λ u. narrow_declarations us u text names) (sym same) ∙ narrow_same us s text names good ∙ ap (map (tree.declaration_of fortran77 us s text)) variables

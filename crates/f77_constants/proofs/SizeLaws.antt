@@ -15,9 +15,10 @@ use Rattle.f77_syntax.specs.declared.statements.Entity.{Entity as Entity'}
 use Rattle.f77_syntax.specs.Views.{bounds_of, entity_of, statement_of, labelled_of, text_of}
 use Rattle.f77_syntax.specs.declared.statements.Labelled.{Labelled as Labelled'}
 use Rattle.f77_syntax.specs.Walk.{passed}
+use Rattle.fv_meaning.specs.Dialect.{fortran77}
 use Rattle.f77_constants.specs.Bounds.{capped, bounds_in}
 
-left : {A : Type 0} (xs : List A) (i : ℕ) (x : A) → i < length xs → x ≡ get_or xs i x → drop i xs ≡ x ∷ drop (i + 1) xs
+pub left : {A : Type 0} (xs : List A) (i : ℕ) (x : A) → i < length xs → x ≡ get_or xs i x → drop i xs ≡ x ∷ drop (i + 1) xs
 left xs i x h e = rw (add-one, drop-cons xs i x h, ← e) refl
 
 sum_cons : {A : Type 0} (f : A → ℕ) (x : A) (xs : List A) → sum (map f (x ∷ xs)) ≡ f x + sum (map f xs)
@@ -45,40 +46,40 @@ capped_product a n rest =
 
 -- one dimension more
 pub product_more : (s : Store) (dims : List (Expr × Expr)) (i : ℕ) (x : Expr × Expr) (all product size more : ℕ) (d : Result (ℤ × ℤ) Fault) → i < length dims → x ≡ get_or dims i x
-    → all ≡ capped (product * product_of_sizes s (map bounds_of (drop i dims))) → d ≡ dimension_of s (bounds_of x) → size ≡ capped (size_in d) → more ≡ capped (product * size)
-    → all ≡ capped (more * product_of_sizes s (map bounds_of (drop (i + 1) dims)))
+    → all ≡ capped (product * product_of_sizes fortran77 s (map bounds_of (drop i dims))) → d ≡ dimension_of fortran77 s (bounds_of x) → size ≡ capped (size_in d) → more ≡ capped (product * size)
+    → all ≡ capped (more * product_of_sizes fortran77 s (map bounds_of (drop (i + 1) dims)))
 product_more s dims i x all product size more d h k old dimension is new =
-    old ∙ ap (λ bs. capped (product * product_of_sizes s (map bounds_of bs))) (left dims i x h k)
-    ∙ capped_product product (size_in (dimension_of s (bounds_of x))) (product_of_sizes s (map bounds_of (drop (i + 1) dims)))
-    ∙ ap (λ n. capped (n * product_of_sizes s (map bounds_of (drop (i + 1) dims)))) (sym (new ∙ ap (λ n. capped (product * n)) (is ∙ ap (λ r. capped (size_in r)) dimension)))
+    old ∙ ap (λ bs. capped (product * product_of_sizes fortran77 s (map bounds_of bs))) (left dims i x h k)
+    ∙ capped_product product (size_in (dimension_of fortran77 s (bounds_of x))) (product_of_sizes fortran77 s (map bounds_of (drop (i + 1) dims)))
+    ∙ ap (λ n. capped (n * product_of_sizes fortran77 s (map bounds_of (drop (i + 1) dims)))) (sym (new ∙ ap (λ n. capped (product * n)) (is ∙ ap (λ r. capped (size_in r)) dimension)))
 
 -- one array more
 pub sum_more : (s : Store) (es : List Entity') (i : ℕ) (x : Entity') (all count here more : ℕ) → i < length es → x ≡ get_or es i x
-    → all ≡ capped (count + sum (map (elements s) (bounds_in (map entity_of (drop i es))))) → here ≡ capped (elements s (map bounds_of x.dims)) → more ≡ capped (count + here)
-    → all ≡ capped (more + sum (map (elements s) (bounds_in (map entity_of (drop (i + 1) es)))))
+    → all ≡ capped (count + sum (map (elements fortran77 s) (bounds_in (map entity_of (drop i es))))) → here ≡ capped (elements fortran77 s (map bounds_of x.dims)) → more ≡ capped (count + here)
+    → all ≡ capped (more + sum (map (elements fortran77 s) (bounds_in (map entity_of (drop (i + 1) es)))))
 sum_more s es i x all count here more h k old is new =
-    old ∙ ap (λ ts. capped (count + sum (map (elements s) (bounds_in (map entity_of ts))))) (left es i x h k)
-    ∙ ap (λ n. capped (count + n)) (sum_cons (elements s) (map bounds_of x.dims) (bounds_in (map entity_of (drop (i + 1) es))))
-    ∙ capped_sum count (elements s (map bounds_of x.dims)) (sum (map (elements s) (bounds_in (map entity_of (drop (i + 1) es)))))
-    ∙ ap (λ n. capped (n + sum (map (elements s) (bounds_in (map entity_of (drop (i + 1) es)))))) (sym (new ∙ ap (λ n. capped (count + n)) is))
+    old ∙ ap (λ ts. capped (count + sum (map (elements fortran77 s) (bounds_in (map entity_of ts))))) (left es i x h k)
+    ∙ ap (λ n. capped (count + n)) (sum_cons (elements fortran77 s) (map bounds_of x.dims) (bounds_in (map entity_of (drop (i + 1) es))))
+    ∙ capped_sum count (elements fortran77 s (map bounds_of x.dims)) (sum (map (elements fortran77 s) (bounds_in (map entity_of (drop (i + 1) es)))))
+    ∙ ap (λ n. capped (n + sum (map (elements fortran77 s) (bounds_in (map entity_of (drop (i + 1) es)))))) (sym (new ∙ ap (λ n. capped (count + n)) is))
 
 -- one statement more
-count_more : (s : Store) (x : Labelled) (before : List Labelled) (here count more : ℕ) → here ≡ capped (sum (map (elements s) (bounds_declared x.statement)))
-    → count ≡ capped (all_elements s before) → more ≡ capped (count + here) → more ≡ capped (all_elements s (x ∷ before))
+count_more : (s : Store) (x : Labelled) (before : List Labelled) (here count more : ℕ) → here ≡ capped (sum (map (elements fortran77 s) (bounds_declared x.statement)))
+    → count ≡ capped (all_elements fortran77 s before) → more ≡ capped (count + here) → more ≡ capped (all_elements fortran77 s (x ∷ before))
 count_more s x before here count more e f g =
     let b : List (List (Expression × Expression)) = flat_map (λ (y : Labelled). bounds_declared y.statement) before in
-    let parts : all_elements s (x ∷ before) ≡ sum (map (elements s) (bounds_declared x.statement)) + all_elements s before =
-    sum_append (elements s) (bounds_declared x.statement) b in
-    g ∙ both (sum (map (elements s) (bounds_declared x.statement))) (all_elements s before) here count e f ∙ ap capped (sym parts)
+    let parts : all_elements fortran77 s (x ∷ before) ≡ sum (map (elements fortran77 s) (bounds_declared x.statement)) + all_elements fortran77 s before =
+    sum_append (elements fortran77 s) (bounds_declared x.statement) b in
+    g ∙ both (sum (map (elements fortran77 s) (bounds_declared x.statement))) (all_elements fortran77 s before) here count e f ∙ ap capped (sym parts)
   where
     both : (a b here count : ℕ) → here ≡ capped a → count ≡ capped b → capped (count + here) ≡ capped (a + b)
     both a b here count e f = omega arith
 
-pub count_at : (s : Store) (xs : List Labelled') (i : ℕ) (x : Labelled') (es : List Entity') (here count more : ℕ) → here ≡ capped (sum (map (elements s) (bounds_in (map entity_of es))))
-    → map entity_of es ≡ entities_of (statement_of x.statement) → count ≡ capped (all_elements s (passed (text_of xs) i)) → more ≡ capped (count + here)
-    → more ≡ capped (all_elements s (labelled_of x ∷ passed (text_of xs) i))
+pub count_at : (s : Store) (xs : List Labelled') (i : ℕ) (x : Labelled') (es : List Entity') (here count more : ℕ) → here ≡ capped (sum (map (elements fortran77 s) (bounds_in (map entity_of es))))
+    → map entity_of es ≡ entities_of (statement_of x.statement) → count ≡ capped (all_elements fortran77 s (passed (text_of xs) i)) → more ≡ capped (count + here)
+    → more ≡ capped (all_elements fortran77 s (labelled_of x ∷ passed (text_of xs) i))
 count_at s xs i x es here count more e f g h =
-    count_more s (labelled_of x) (passed (text_of xs) i) here count more (e ∙ ap (λ ts. capped (sum (map (elements s) (bounds_in ts)))) f) g h
+    count_more s (labelled_of x) (passed (text_of xs) i) here count more (e ∙ ap (λ ts. capped (sum (map (elements fortran77 s) (bounds_in ts)))) f) g h
 
 -- more than 2^22, by the capped count
 pub are_many : (n count : ℕ) → count ≡ capped n → 4194304 < count → nat_lt (2 ^ 22) n ≡ true

@@ -1,11 +1,13 @@
 -- What is asked of the bounds of arrays.
-use Rattle.std.specs.Prelude.{Result, Ok, ℕ, min, ℤ, Bool, ◌||◌, is_none, List, map}
+use Rattle.std.specs.Prelude.{Result, Ok, ℕ, ◌+◌, min, ℤ, Bool, ◌||◌, is_none, List, map}
 use Rattle.std.specs.List.{list_any}
 use Rattle.fv_tree.specs.Steps.{◌>>=◌}
+use Rattle.fv_tree.specs.Limits.{array_elements}
 use Rattle.fv_tree.specs.Plain.{Expression}
 use Rattle.fv_tree.specs.declared.ops.Fault.{Fault}
 use Rattle.fv_meaning.specs.Store.{Store}
 use Rattle.f77_grammar.specs.Statement77.{Entity, NamedConstant}
+use Rattle.fv_meaning.specs.Dialect.{fortran77}
 use Rattle.f77_grammar.specs.program.Limits.{dimension_of, is_reversed, is_no_constant}
 
 abbrev pub paired : Result ℤ Fault → Result ℤ Fault → Result (ℤ × ℤ) Fault
@@ -14,18 +16,18 @@ paired a b = do
   upper ← b
   Ok (lower, upper)
 
--- a count, where more than 2^22 count as 2^22 + 1
+-- a count, where more than there may be count as one more than those
 abbrev pub capped : ℕ → ℕ
-capped n = min n 4194305
+capped n = min n (array_elements + 1)
 
 abbrev pub bounds_in : List Entity → List (List (Expression × Expression))
 bounds_in es = map (λ (e : Entity). e.bounds) es
 
 abbrev pub has_reversed : Store → List (Expression × Expression) → Bool
-has_reversed s bs = list_any (λ b. is_reversed (dimension_of s b)) bs
+has_reversed s bs = list_any (λ b. is_reversed (dimension_of fortran77 s b)) bs
 
 abbrev pub has_bad : Store → List (Expression × Expression) → Bool
-has_bad s bs = list_any (λ b. is_no_constant s b.0 || is_no_constant s b.1) bs
+has_bad s bs = list_any (λ b. is_no_constant fortran77 s b.0 || is_no_constant fortran77 s b.1) bs
 
 -- one of these symbolic constants has no value
 abbrev pub lacks_value : Store → List NamedConstant → Bool

@@ -17,7 +17,11 @@ value_or_nought (Some v) = v
 
 -- each constant as a scalar that holds its value
 abbrev pub store_of : Constants → Store
-store_of c = record { bounds = λ x. if is_some (value_in c x) then Some [] else None; held = λ cell. value_or_nought (value_in c cell.name) }
+store_of c =
+    record {
+      bounds = λ x. if is_some (value_in c x) then Some [] else None;
+      held = λ cell. value_or_nought (value_in c cell.name);
+    }
 
 -- the value that a store holds for a scalar
 abbrev pub held_in : Store → List ℕ → Option Value

@@ -4,13 +4,14 @@ use Rattle.std.specs.List.{filter, fold}
 use Rattle.std.specs.Cmp.Lexicographic.{slice_cmp}
 use Rattle.std.specs.Ordering.{nat_cmp, is_lt}
 use Rattle.fv_tree.specs.Operators.{fits}
-use Rattle.fv_tree.specs.Plain.{Expression, Extent, Given, Declaration}
+use Rattle.fv_tree.specs.Plain.{Expression, Extent, Given, Later, Declaration}
 use Rattle.fv_meaning.specs.Store.{Store}
 use Rattle.f77_grammar.specs.Statement77.{Labelled}
 use Rattle.f77_grammar.specs.program.Limits.{dimension_of}
 use Rattle.f77_grammar.specs.program.Uses.{Use, is_variable}
 use Rattle.f77_grammar.specs.program.Tree.{with_name, variables_of, bounds_in, declaration_of}
 use Rattle.f77_names.specs.declared.names.Names.{Names}
+use Rattle.fv_meaning.specs.Dialect.{fortran77}
 use Rattle.f77_names.specs.NameFacts.{facts_in, facts_of, nothing_known}
 
 -- the first of these names, if there is one, doesn't come before y
@@ -40,18 +41,19 @@ narrow b = (narrowed b.0, narrowed b.1)
 
 abbrev pub narrow_extent : Extent → Extent
 narrow_extent (Given bs) = Given (map narrow bs)
+narrow_extent (Later n) = Later n
 
 abbrev pub narrow_declaration : Declaration → Declaration
 narrow_declaration d = record { name = d.name; kind = d.kind; extent = narrow_extent d.extent }
 
 -- the numbers of each of these bounds; 1 and 0 where one faults
 abbrev pub dimensions : Store → List (Expression × Expression) → List (ℤ × ℤ)
-dimensions s bs = map (λ b. bounds_in (dimension_of s b)) bs
+dimensions s bs = map (λ b. bounds_in (dimension_of fortran77 s b)) bs
 
 -- these variables with their declarations
 abbrev pub narrow_declarations : List Use → Store → List Labelled → List (List ℕ) → List Declaration
-narrow_declarations us s text xs = map (λ x. narrow_declaration (declaration_of us s text x)) xs
+narrow_declarations us s text xs = map (λ x. narrow_declaration (declaration_of fortran77 us s text x)) xs
 
 -- the declarations of a program
 abbrev pub all_declarations : List Use → Store → List Labelled → List Declaration
-all_declarations us s text = map (declaration_of us s text) (variables_of us)
+all_declarations us s text = map (declaration_of fortran77 us s text) (variables_of us)

@@ -7,6 +7,7 @@ use Rattle.fv_tree.specs.declared.ops.Op.{Op}
 use Rattle.fv_tree.specs.declared.functions.Fun.{Fun}
 use Rattle.fv_tree.specs.declared.ops.Value.{Value}
 use Rattle.fv_tree.specs.declared.ops.Fault.{Fault}
+use Rattle.fv_meaning.specs.Dialect.{fortran77}
 use Rattle.fv_tree.specs.declared.ops.Fault.TheVariants.{Bounds, Allocated}
 
 -- an operator with one operand
@@ -42,7 +43,7 @@ numbered r = do
 abbrev pub kept : Result Value Fault → Result Value Fault
 kept r = do
   v ← r
-  in_range v
+  in_range fortran77 v
 
 abbrev pub fault_of : {A : Type 0} → Result A Fault → Option Fault
 fault_of (Ok x) = None

@@ -5,15 +5,13 @@ ghost use Rattle.fv_tree.specs.View.{expression_of};
 ghost use Rattle.f77_grammar.specs.program.Limits as plain;
 ghost use Rattle.f77_syntax.specs.Views.{bounds_of, entity_of};
 ghost use Rattle.f77_constants.specs.Constants.{store_of};
+ghost use Rattle.fv_meaning.specs.Dialect.{fortran77};
 ghost use Rattle.f77_constants.specs.Bounds.{paired, capped, has_reversed, has_bad, bounds_in};
 
 use crate::constants::Constants;
-use fv_tree::{Expr, Fault, Memory};
 use f77_syntax::Entity;
+use fv_tree::{ARRAY_ELEMENTS, Expr, Fault, Memory};
 use std::alloc::Global;
-
-/// The most elements that the arrays of a program have.
-pub const MOST: u64 = 1 << 22;
 
 fn both(lower: Result<i128, Fault>, upper: Result<i128, Fault>) -> Result<(i128, i128), Fault>
     ensures { result ≡ paired lower upper }
@@ -34,7 +32,7 @@ fn is_reversed(dimension: Result<(i128, i128), Fault>) -> bool
 fn at_most(number: u64) -> u64
     ensures { result ≡ capped number }
 {
-    number.min(MOST + 1)
+    number.min(ARRAY_ELEMENTS + 1)
 }
 
 /// The sum of two counts.
@@ -57,10 +55,10 @@ fn size_between(lower: i128, upper: i128) -> u64
         return 0;
     }
     let Some(difference) = upper.checked_sub(lower) else {
-        return MOST + 1;
+        return ARRAY_ELEMENTS + 1;
     };
-    if difference > i128::from(MOST) {
-        return MOST + 1;
+    if difference > i128::from(ARRAY_ELEMENTS) {
+        return ARRAY_ELEMENTS + 1;
     }
     at_most(difference as u64 + 1)
 }
@@ -81,7 +79,8 @@ impl Constants {
         alloc: Global,
         bounds: &(Expr, Expr),
     ) -> Result<Result<(i128, i128), Fault>, Memory>
-        ensures { IfOk result (λ dimension. dimension ≡ plain.dimension_of (store_of self.now) (bounds_of bounds.now)) }
+        ensures { IfOk result (λ dimension.
+            dimension ≡ plain.dimension_of fortran77 (store_of self.now) (bounds_of bounds.now)) }
     {
         let lower = self.number(alloc, &bounds.0)?;
         let upper = self.number(alloc, &bounds.1)?;
@@ -101,7 +100,8 @@ impl Constants {
 
     /// Whether an upper bound is below its lower bound.
     pub(crate) fn any_reversed(&self, alloc: Global, entities: &[Entity]) -> Result<bool, Memory>
-        ensures { IfOk result (λ found. found ≡ list_any (has_reversed (store_of self.now)) (bounds_in (map entity_of entities.now))) }
+        ensures { IfOk result (λ found.
+            found ≡ list_any (has_reversed (store_of self.now)) (bounds_in (map entity_of entities.now))) }
     {
         for entity in entities {
             if self.has_reversed(alloc, entity.dims.as_slice())? {
@@ -112,7 +112,9 @@ impl Constants {
     }
 
     fn is_bad(&self, alloc: Global, bounds: &(Expr, Expr)) -> Result<bool, Memory>
-        ensures { IfOk result (λ bad. bad ≡ (plain.is_no_constant (store_of self.now) (expression_of bounds.now.0) || plain.is_no_constant (store_of self.now) (expression_of bounds.now.1))) }
+        ensures { IfOk result (λ bad.
+            bad ≡ (plain.is_no_constant fortran77 (store_of self.now) (expression_of bounds.now.0)
+            || plain.is_no_constant fortran77 (store_of self.now) (expression_of bounds.now.1))) }
     {
         let lower = self.constant_value(alloc, &bounds.0)?;
         let upper = self.constant_value(alloc, &bounds.1)?;
@@ -132,7 +134,8 @@ impl Constants {
 
     /// Whether a bound faults, or leaves the range of INTEGER.
     pub(crate) fn any_bad(&self, alloc: Global, entities: &[Entity]) -> Result<bool, Memory>
-        ensures { IfOk result (λ found. found ≡ list_any (has_bad (store_of self.now)) (bounds_in (map entity_of entities.now))) }
+        ensures { IfOk result (λ found.
+            found ≡ list_any (has_bad (store_of self.now)) (bounds_in (map entity_of entities.now))) }
     {
         for entity in entities {
             if self.has_bad(alloc, entity.dims.as_slice())? {
@@ -143,7 +146,8 @@ impl Constants {
     }
 
     fn product(&self, alloc: Global, dims: &[(Expr, Expr)]) -> Result<u64, Memory>
-        ensures { IfOk result (λ count. count ≡ capped (plain.product_of_sizes (store_of self.now) (map bounds_of dims.now))) }
+        ensures { IfOk result (λ count.
+            count ≡ capped (plain.product_of_sizes fortran77 (store_of self.now) (map bounds_of dims.now))) }
     {
         let mut product = 1;
         for bounds in dims {
@@ -154,7 +158,8 @@ impl Constants {
     }
 
     fn elements(&self, alloc: Global, dims: &[(Expr, Expr)]) -> Result<u64, Memory>
-        ensures { IfOk result (λ count. count ≡ capped (plain.elements (store_of self.now) (map bounds_of dims.now))) }
+        ensures { IfOk result (λ count.
+            count ≡ capped (plain.elements fortran77 (store_of self.now) (map bounds_of dims.now))) }
     {
         match dims {
             [] => Ok(0),
@@ -164,7 +169,9 @@ impl Constants {
 
     /// The elements of these arrays, or one more than the most where there are more.
     pub(crate) fn all_elements(&self, alloc: Global, entities: &[Entity]) -> Result<u64, Memory>
-        ensures { IfOk result (λ count. count ≡ capped (sum (map (plain.elements (store_of self.now)) (bounds_in (map entity_of entities.now))))) }
+        ensures { IfOk result (λ count.
+            count ≡ capped (sum (map (plain.elements fortran77 (store_of self.now)) (bounds_in
+            (map entity_of entities.now))))) }
     {
         let mut count = 0;
         for entity in entities {

@@ -6,13 +6,14 @@ ghost use Rattle.f77_grammar.specs.program.Limits.{has_reversed_bounds, has_many
 ghost use Rattle.f77_syntax.specs.First.{first_index};
 ghost use Rattle.f77_syntax.specs.Views.{text_of, constant_of};
 ghost use Rattle.f77_constants.specs.Constants.{AreValues, store_of};
+ghost use Rattle.fv_meaning.specs.Dialect.{fortran77};
 ghost use Rattle.f77_constants.specs.Bounds.{lacks_value};
 
-use crate::bounds::{MOST, sum_of};
+use crate::bounds::sum_of;
 use crate::constants::Constants;
 use crate::parts::{definitions, entities};
-use fv_tree::{Expr, Memory, Name};
 use f77_syntax::Labelled;
+use fv_tree::{ARRAY_ELEMENTS, Expr, Memory, Name};
 use std::alloc::Global;
 
 /// The place of the first statement with an upper bound below its lower bound.
@@ -22,7 +23,7 @@ pub fn reversed_bounds(
     constants: &Constants,
 ) -> Result<Option<usize>, Memory>
     ensures { (s : Store) → AreValues constants.now s
-        → IfOk result (λ place. place ≡ first_index (has_reversed_bounds s) (text_of text.now)) }
+        → IfOk result (λ place. place ≡ first_index (has_reversed_bounds fortran77 s) (text_of text.now)) }
 {
     for (i, statement) in text.iter().enumerate() {
         if constants.any_reversed(alloc, entities(&statement.statement))? {
@@ -32,20 +33,20 @@ pub fn reversed_bounds(
     Ok(None)
 }
 
-/// The place of the statement at which the arrays declared so far first have more than 2^22 elements.
+/// The place of the statement at which the arrays declared so far first have too many elements.
 pub fn many_elements(
     alloc: Global,
     text: &[Labelled],
     constants: &Constants,
 ) -> Result<Option<usize>, Memory>
     ensures { (s : Store) → AreValues constants.now s
-        → IfOk result (λ place. place ≡ first_index (has_many_elements s) (text_of text.now)) }
+        → IfOk result (λ place. place ≡ first_index (has_many_elements fortran77 s) (text_of text.now)) }
 {
     let mut count = 0;
     for (i, statement) in text.iter().enumerate() {
         let here = constants.all_elements(alloc, entities(&statement.statement))?;
         count = sum_of(count, here);
-        if count > MOST {
+        if count > ARRAY_ELEMENTS {
             return Ok(Some(i));
         }
     }
@@ -81,7 +82,7 @@ pub fn bad_constant(
     constants: &Constants,
 ) -> Result<Option<usize>, Memory>
     ensures { (s : Store) → AreValues constants.now s
-        → IfOk result (λ place. place ≡ first_index (has_bad_constant s) (text_of text.now)) }
+        → IfOk result (λ place. place ≡ first_index (has_bad_constant fortran77 s) (text_of text.now)) }
 {
     for (i, statement) in text.iter().enumerate() {
         if constants.lacks_value(definitions(&statement.statement)) {

@@ -3,16 +3,16 @@ ghost use Rattle.std.specs.Prelude.{◌≡◌, ℕ, None, Some, List, map, if◌
 ghost use Rattle.std.specs.Str.{bytes_eq};
 ghost use Rattle.fv_tree.specs.Operators.{fits};
 ghost use Rattle.fv_tree.specs.View.{expression_of};
-ghost use Rattle.fv_meaning.specs.Sequential.{integer_bits};
+ghost use Rattle.fv_meaning.specs.Dialect.{fortran77};
 ghost use Rattle.f77_grammar.specs.program.Limits as plain;
 ghost use Rattle.f77_syntax.specs.Views.{constant_of, text_of};
 ghost use Rattle.f77_constants.specs.Constants.{value_in, store_of, AreValues};
 ghost use Rattle.f77_constants.specs.Steps.{kept};
 
 use crate::parts::definitions;
+use f77_syntax::Labelled;
 use fv_tree::{Expr, Fault, Memory, Name, Value};
 use indexmap::IndexMap;
-use f77_syntax::Labelled;
 use std::alloc::Global;
 
 /// The symbolic constants of a program that have a value. One whose expression faults, or leaves the range of INTEGER,
@@ -24,7 +24,7 @@ pub struct Constants {
 
 #[tactic(auto, using(crate::proofs::StoreLaws::range_laws))]
 fn is_in_range(number: i128) -> bool
-    ensures { result ≡ fits integer_bits number }
+    ensures { result ≡ fits fortran77.bits number }
 {
     -0x8000_0000 <= number && number <= 0x7fff_ffff
 }
@@ -83,21 +83,24 @@ impl Constants {
         alloc: Global,
         expr: &Expr,
     ) -> Result<Result<Value, Fault>, Memory>
-        ensures { IfOk result (λ value. value ≡ plain.constant_value (expression_of expr.now) (store_of self.now)) }
+        ensures { IfOk result (λ value.
+            value ≡ plain.constant_value fortran77 (expression_of expr.now) (store_of self.now)) }
     {
         let value = self.evaluate(alloc, expr)?;
         Ok(in_range(value))
     }
 
     fn define(&mut self, alloc: Global, constant: &(Name, Expr)) -> Result<(), Memory>
-        ensures { OnOk result (store_of self.new ≡ plain.with_constant (constant_of constant.now) (store_of self.old)) }
+        ensures { OnOk result (store_of self.new
+            ≡ plain.with_constant fortran77 (constant_of constant.now) (store_of self.old)) }
     {
         let value = self.constant_value(alloc, &constant.1)?;
         self.set(constant.0, value)
     }
 
     fn define_all(&mut self, alloc: Global, constants: &[(Name, Expr)]) -> Result<(), Memory>
-        ensures { OnOk result (store_of self.new ≡ plain.with_constants (map constant_of constants.now) (store_of self.old)) }
+        ensures { OnOk result (store_of self.new
+            ≡ plain.with_constants fortran77 (map constant_of constants.now) (store_of self.old)) }
     {
         for constant in constants {
             self.define(alloc, constant)?;
@@ -108,7 +111,7 @@ impl Constants {
 
 /// The symbolic constants of a program.
 pub fn constants_of(alloc: Global, text: &[Labelled]) -> Result<Constants, Memory>
-    ensures { IfOk result (λ constants. AreValues constants (plain.constants_of (text_of text.now))) }
+    ensures { IfOk result (λ constants. AreValues constants (plain.constants_of fortran77 (text_of text.now))) }
 {
     let mut constants = Constants::new(alloc);
     for statement in text {

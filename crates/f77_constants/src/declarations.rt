@@ -13,13 +13,14 @@ ghost use Rattle.f77_names.specs.UsesView.{plain_use};
 ghost use Rattle.f77_names.specs.NameFacts.{is_variable_by};
 ghost use Rattle.f77_constants.specs.Constants.{AreValues, store_of};
 ghost use Rattle.f77_constants.specs.Declarations.{Ascends, AreFacts, narrowed, narrow, narrow_declaration};
+ghost use Rattle.fv_meaning.specs.Dialect.{fortran77};
 ghost use Rattle.f77_constants.specs.Declarations.{narrow_declarations, dimensions, variables_from, all_declarations};
 
 use crate::constants::Constants;
 use crate::parts::entities;
 use f77_names::{Facts, Names, Use, names_of, uses_in_text};
-use fv_tree::{Decl, Dim, Expr, Extent, Fault, Kind, Memory, Name, Seq};
 use f77_syntax::{Entity, Labelled};
+use fv_tree::{Decl, Dim, Expr, Extent, Fault, Kind, Memory, Name, Seq};
 use std::alloc::Global;
 
 // A number, and 0 for one that 64 bits don't hold.
@@ -114,7 +115,9 @@ fn kind_of(names: &Names, name: Name) -> Kind
 }
 
 fn add_variable(variables: &mut Vec<Name>, names: &Names, name: Name) -> Result<(), Memory>
-    ensures { (us : List Use') → AreFacts names.now us → Ascends variables.old.items → OnOk result (variables.new.items ≡ (if is_variable us name then tree.with_name name variables.old.items else variables.old.items)) }
+    ensures { (us : List Use') → AreFacts names.now us → Ascends variables.old.items
+        → OnOk result (variables.new.items
+        ≡ (if is_variable us name then tree.with_name name variables.old.items else variables.old.items)) }
 {
     if !is_variable(names, name) {
         return Ok(());
@@ -136,7 +139,8 @@ fn variables(alloc: Global, uses: &[Use], names: &Names) -> Result<Vec<Name>, Me
 
 impl Constants {
     fn dims(&self, alloc: Global, bounds: &[(Expr, Expr)]) -> Result<Seq<Dim>, Memory>
-        ensures { IfOk result (λ dims. map view.bounds_of dims ≡ map narrow (dimensions (store_of self.now) (map bounds_of bounds.now))) }
+        ensures { IfOk result (λ dims.
+            map view.bounds_of dims ≡ map narrow (dimensions (store_of self.now) (map bounds_of bounds.now))) }
     {
         let mut dims = Seq::new(alloc);
         for pair in bounds {
@@ -146,7 +150,8 @@ impl Constants {
     }
 
     fn extent(&self, alloc: Global, bounds: &[(Expr, Expr)]) -> Result<Extent, Memory>
-        ensures { IfOk result (λ extent. view.extent_of extent ≡ Given (map narrow (dimensions (store_of self.now) (map bounds_of bounds.now)))) }
+        ensures { IfOk result (λ extent.
+            view.extent_of extent ≡ Given (map narrow (dimensions (store_of self.now) (map bounds_of bounds.now)))) }
     {
         match bounds {
             [] => Ok(Extent::Scalar),
@@ -161,7 +166,10 @@ impl Constants {
         names: &Names,
         name: Name,
     ) -> Result<Decl, Memory>
-        ensures { (us : List Use') → AreFacts names.now us → IfOk result (λ declaration. view.declaration_of declaration ≡ narrow_declaration (tree.declaration_of us (store_of self.now) (text_of text.now) name)) }
+        ensures { (us : List Use') → AreFacts names.now us
+            → IfOk result (λ declaration.
+            view.declaration_of declaration
+            ≡ narrow_declaration (tree.declaration_of fortran77 us (store_of self.now) (text_of text.now) name)) }
     {
         let extent = self.extent(alloc, bounds_of_name(text, name))?;
         let kind = kind_of(names, name);
@@ -175,7 +183,10 @@ impl Constants {
         names: &Names,
         variables: &[Name],
     ) -> Result<Seq<Decl>, Memory>
-        ensures { (us : List Use') → AreFacts names.now us → IfOk result (λ declarations. map view.declaration_of declarations ≡ narrow_declarations us (store_of self.now) (text_of text.now) variables.now) }
+        ensures { (us : List Use') → AreFacts names.now us
+            → IfOk result (λ declarations.
+            map view.declaration_of declarations
+            ≡ narrow_declarations us (store_of self.now) (text_of text.now) variables.now) }
     {
         let mut declarations = Seq::new(alloc);
         for name in variables {
@@ -191,7 +202,11 @@ pub fn declarations_of(
     text: &[Labelled],
     constants: &Constants,
 ) -> Result<Seq<Decl>, Memory>
-    ensures { (s : Store) → AreValues constants.now s → first_index (plain.has_bad_constant s) (text_of text.now) ≡ None → IfOk result (λ declarations. map view.declaration_of declarations ≡ all_declarations (uses_in_text (text_of text.now)) s (text_of text.now)) }
+    ensures { (s : Store) → AreValues constants.now s
+        → first_index (plain.has_bad_constant fortran77 s) (text_of text.now) ≡ None
+        → IfOk result (λ declarations.
+        map view.declaration_of declarations
+        ≡ all_declarations (uses_in_text (text_of text.now)) s (text_of text.now)) }
 {
     let uses = uses_in_text(alloc, text)?;
     let names = names_of(alloc, uses.as_slice())?;

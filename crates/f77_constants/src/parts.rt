@@ -3,8 +3,8 @@ ghost use Rattle.std.specs.Prelude.{◌≡◌, map};
 ghost use Rattle.f77_grammar.specs.program.Limits.{definitions_of, entities_of};
 ghost use Rattle.f77_syntax.specs.Views.{statement_of, constant_of, entity_of};
 
-use fv_tree::{Expr, Name};
 use f77_syntax::{Entity, Stmt77};
+use fv_tree::{Expr, Name};
 
 /// The symbolic constants that a statement defines.
 #[tactic(auto, using(crate::proofs::PartLaws::definition_laws))]

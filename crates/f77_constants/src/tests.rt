@@ -1,7 +1,7 @@
 //! What the rules say of small programs.
 use crate::{bad_constant, constants_of, declarations_of, many_elements, reversed_bounds};
-use fv_tree::{Expr, Kind, Name, Op, Ref, Seq, Value};
 use f77_syntax::{Entity, Labelled, Stmt77};
+use fv_tree::{Expr, Kind, Name, Op, Ref, Seq, Value};
 use std::alloc::Global;
 use std::test::Fail;
 

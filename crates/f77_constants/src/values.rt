@@ -4,7 +4,7 @@ ghost use Rattle.fv_tree.specs.Plain.{subscripts, expressions};
 ghost use Rattle.fv_tree.specs.View.{expression_of, subscript_of};
 ghost use Rattle.fv_tree.specs.declared.exprs.Expr.TheVariants as exprs;
 ghost use Rattle.fv_meaning.specs.Value.{value_of, values_of, number_of, subscript_values, subscript_value};
-ghost use Rattle.fv_meaning.specs.Sequential.{integer_bits};
+ghost use Rattle.fv_meaning.specs.Dialect.{fortran77};
 ghost use Rattle.f77_constants.specs.Constants.{store_of};
 ghost use Rattle.f77_constants.specs.Steps.{numbered, fault_of};
 
@@ -40,7 +40,7 @@ impl Constants {
         alloc: Global,
         expr: &Expr,
     ) -> Result<Result<Value, Fault>, Memory>
-        ensures { IfOk result (λ value. value ≡ value_of integer_bits (expression_of expr.now) (store_of self.now)) }
+        ensures { IfOk result (λ value. value ≡ value_of fortran77 (expression_of expr.now) (store_of self.now)) }
     {
         match expr {
             Expr::Int(number) => Ok(Ok(Value::Int(*number))),
@@ -59,13 +59,17 @@ impl Constants {
                 let arguments = self.evaluate_all(alloc, arguments)?;
                 Ok(call(*function, arguments))
             }
+            // FORTRAN 77 has no arrays as values.
+            Expr::List(..) | Expr::Spread(..) | Expr::Transpose(_) => Ok(Err(Fault::Shape)),
+            Expr::Reshape(..) | Expr::Reduce(..) => Ok(Err(Fault::Shape)),
         }
     }
 
     #[cycle(values)]
     #[tactic(auto, using(crate::proofs::ValueLaws::value_laws))]
     fn evaluate_item(&self, alloc: Global, item: &Ref) -> Result<Result<Value, Fault>, Memory>
-        ensures { IfOk result (λ value. value ≡ value_of integer_bits (expression_of (exprs.Item item.now)) (store_of self.now)) }
+        ensures { IfOk result (λ value.
+            value ≡ value_of fortran77 (expression_of (exprs.Item item.now)) (store_of self.now)) }
     {
         let fault = self.fault_in_subs(alloc, &item.subs)?;
         Ok(scalar(fault, item.subs.is_empty(), self.value(item.name)))
@@ -77,7 +81,8 @@ impl Constants {
         alloc: Global,
         exprs: &Seq<Expr>,
     ) -> Result<Result<Seq<Value>, Fault>, Memory>
-        ensures { IfOk result (λ values. values ≡ values_of integer_bits (expressions (map expression_of exprs.now)) (store_of self.now)) }
+        ensures { IfOk result (λ values.
+            values ≡ values_of fortran77 (expressions (map expression_of exprs.now)) (store_of self.now)) }
     {
         let mut values = Seq::new(alloc);
         for expr in exprs.as_slice() {
@@ -92,19 +97,23 @@ impl Constants {
     #[cycle(values)]
     #[tactic(auto, using(crate::proofs::ValueLaws::value_laws))]
     fn fault_in_sub(&self, alloc: Global, sub: &Sub) -> Result<Option<Fault>, Memory>
-        ensures { IfOk result (λ fault. fault ≡ fault_of (subscript_value integer_bits (subscript_of sub.now) (store_of self.now))) }
+        ensures { IfOk result (λ fault.
+            fault ≡ fault_of (subscript_value fortran77 (subscript_of sub.now) (store_of self.now))) }
     {
         match sub {
             Sub::One(expr) => {
                 let value = self.evaluate(alloc, expr)?;
                 Ok(fault(number(value)))
             }
+            Sub::Part(..) => Ok(Some(Fault::Shape)),
         }
     }
 
     #[cycle(values)]
     fn fault_in_subs(&self, alloc: Global, subs: &Seq<Sub>) -> Result<Option<Fault>, Memory>
-        ensures { IfOk result (λ fault. fault ≡ fault_of (subscript_values integer_bits (subscripts (map subscript_of subs.now)) (store_of self.now))) }
+        ensures { IfOk result (λ fault.
+            fault ≡ fault_of (subscript_values fortran77 (subscripts (map subscript_of subs.now))
+            (store_of self.now))) }
     {
         for sub in subs.as_slice() {
             let fault = self.fault_in_sub(alloc, sub)?;
@@ -117,7 +126,7 @@ impl Constants {
 
     /// The number that an expression gives, or its fault.
     pub(crate) fn number(&self, alloc: Global, expr: &Expr) -> Result<Result<i128, Fault>, Memory>
-        ensures { IfOk result (λ value. value ≡ number_of integer_bits (expression_of expr.now) (store_of self.now)) }
+        ensures { IfOk result (λ value. value ≡ number_of fortran77 (expression_of expr.now) (store_of self.now)) }
     {
         let value = self.evaluate(alloc, expr)?;
         Ok(number(value))

@@ -146,7 +146,7 @@ pub data IsWrong (before : List Line) (line : Line) : LineCause → Type 0 where
   IsTwentieth : (front : List Line) (initial : Line) (others : List Line) → before ≡ front ++ initial ∷ others
       → IsTrue (is_initial initial)
       → IsTrue (list_all is_continuation others) → length others ≡ continuation_lines → IsTrue (is_continuation line)
-          → IsWrong before line ManyLines
+      → IsWrong before line ManyLines
 
 -- A cause that holds, with its line: the source is too long, or something is wrong with a line.
 pub data HasCause (text : List ℕ) : Refusal → Type 0 where

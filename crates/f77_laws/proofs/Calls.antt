@@ -16,12 +16,11 @@ use Rattle.fv_meaning.specs.Typed77.{number_of_subscripts}
 use Rattle.fv_meaning.specs.Calls.{calls_in, calls_in_each, calls_in_subscripts, calls_in_subscript, calls_in_item, calls_in_items, calls_in_statement, calls_in_arms, calls_in_block}
 use Rattle.f77_grammar.specs.expressions.Printing.{IsSource, IsSourceSubscript, AreSource}
 use Rattle.f77_grammar.specs.Statement77.{Labelled, Statement77, Program, Declare, Dimension, Constants, Assign, Go, Test, If, ElseIf, Else, EndIf, Do, Continue, Stop, Read, Print, End}
-use Rattle.f77_grammar.specs.program.Text.{is_label}
 use Rattle.f77_grammar.specs.program.Uses.{Use, uses_in, uses_in_subscripts, uses_in_subscript, uses_in_output, uses_in_outputs, uses_in_input, uses_in_inputs, input_uses, control_uses, uses_of, is_array, is_function, is_constant, kind_of_name}
 use Rattle.f77_grammar.specs.program.Kinds.{same_kind, has_kind, has_some_kind, takes_so_many, list_has_kind, name_has_kind, are_subscripts, is_subscript, is_stored_into, suits_output, suits_input, are_numbers, suits_output_item, suits_output_items, suits_input_item, suits_input_items, suits}
 use Rattle.f77_grammar.specs.program.Tree.{literal, arguments_of, call_of, element_or_call, value_or_name, resolved, resolved_subscripts, resolved_subscript, resolved_input, resolved_output_item, resolved_outputs, resolved_input_item, resolved_inputs, simple, Piece, Rest, Outermost, InArm, block_of, up_to, beyond, preceded, loop_in, loop_begun, mark_of, begun, outermost_block, rest_from}
 use Rattle.f77_laws.specs.Source.{IsSourceVariable, IsSourceOutput, AreSourceOutputs, IsSourceInput, AreSourceInputs, IsSourceAction, IsSourceStatement}
-use Rattle.f77_laws.proofs.Lists.{left_true, right_true, not_both, all_left, all_right, all_both}
+use Rattle.f77_laws.proofs.Lists.{left_true, right_true, all_left, all_right, all_both}
 use Rattle.f77_laws.proofs.Blocks.{made_appended, all_pieces_are}
 
 -- ---- what holds of each name that is called

@@ -14,7 +14,7 @@ use Rattle.f77_grammar.specs.program.Program77.{program_causes, findings_of, fin
 use Rattle.f77_grammar.specs.Answered.{comes_before}
 use Rattle.f77_laws.specs.Source.{AreRising}
 use Rattle.f77_laws.specs.FirstFinding.{holds_in, HoldsFirst, RefusalIsFirst, FirstIsRefused}
-use Rattle.f77_laws.proofs.Lists.{here, there, nowhere, cases_of, not_both, all_at, all_of, in_flat, FromFlat, from_flat}
+use Rattle.f77_laws.proofs.Lists.{here, there, nowhere, cases_of, not_both, all_at, in_flat, FromFlat, from_flat}
 use Rattle.f77_laws.proofs.Variables.{kept_by, Passed, passed_by}
 
 -- ---- lines of places

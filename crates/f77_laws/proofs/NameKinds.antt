@@ -1,5 +1,5 @@
 -- Kinds and depths of resolved expressions.
-use Rattle.std.proofs.Common.{◌≡◌, ◌⊎◌, inl, inr, ℕ, suc, ◌+◌, ◌^◌, ◌<◌, ◌≤◌, max, one-add, Bool, true, false, not, ◌&&◌, ◌||◌, cond, Option, Some, None, is_some, IsSomeAnd, ℤ, pos, negsuc, List, [], length, refl, sym, ap, subst, ◌∙◌, arith, Contains, ltb-true, le-leb, eqb-true, nat_le, ◌==◌}
+use Rattle.std.proofs.Common.{◌≡◌, ◌⊎◌, inl, inr, ℕ, suc, ◌+◌, ◌^◌, ◌<◌, ◌≤◌, max, one-add, Bool, true, false, not, ◌&&◌, ◌||◌, cond, Option, Some, None, is_some, IsSomeAnd, ℤ, pos, negsuc, List, [], length, refl, sym, ap, subst, ◌∙◌, arith, Contains, ltb-true, eqb-true, nat_le, ◌==◌}
 use Rattle.std.specs.List.{AllByRecursion}
 use Rattle.std.specs.Str.{bytes_eq}
 use Rattle.std.proofs.lemmas.Bool.{or_cases, and_cases}
@@ -9,7 +9,6 @@ use Rattle.fv_tree.specs.declared.ops.Kind.TheVariants.{Integer, Logical}
 use Rattle.fv_tree.specs.declared.ops.Value.{Value}
 use Rattle.fv_tree.specs.declared.ops.Value.TheVariants.{Int, Truth}
 use Rattle.fv_tree.specs.declared.functions.Fun.{Fun}
-use Rattle.fv_tree.specs.declared.ops.Op.{Op}
 use Rattle.fv_tree.specs.Plain.{Expression, Number, Logic, Named, Unary, Binary, Apply, Expressions, no_expressions, expression, Subscript, Only, Subscripts, no_subscripts, subscript, Declaration}
 use Rattle.fv_meaning.specs.Store.{Store}
 use Rattle.fv_meaning.specs.Value.{is_in_range}
@@ -19,7 +18,7 @@ use Rattle.fv_tree.specs.Functions.{function_named, name_of_function, suits_numb
 use Rattle.fv_meaning.specs.Typed77.{number_of_arguments, number_of_subscripts, dimensions, declared, HasKind}
 use Rattle.fv_meaning.specs.Typed77.{AreArguments, AreSubscripts, IsSubscript, IsDeclared}
 use Rattle.fv_tree.specs.OperatorTable.{operand_kind, result_kind_of, is_unary}
-use Rattle.f77_grammar.specs.program.Uses.{Role, Valued, Use, use_of, uses_in, uses_in_subscripts, uses_in_subscript, is_typed, is_bare, is_bounded, stands, is_constant, is_variable, is_array, is_function, calls, kind_of_name, dimensions_of_name}
+use Rattle.f77_grammar.specs.program.Uses.{Role, Valued, Use, use_of, uses_in, uses_in_subscripts, uses_in_subscript, is_typed, is_bare, is_bounded, stands, is_constant, is_variable, is_array, is_function, kind_of_name, dimensions_of_name}
 use Rattle.f77_grammar.specs.program.Declarations.{is_misused, suits_list}
 use Rattle.f77_grammar.specs.program.Kinds.{same_kind, takes_so_many, has_kind, name_has_kind, list_has_kind, are_subscripts, is_subscript, is_hidden_name, calls_hidden}
 use Rattle.f77_grammar.specs.program.Tree.{literal, arguments_of, call_of, element_or_call, value_or_name, resolved, resolved_arguments, resolved_subscripts, resolved_subscript}

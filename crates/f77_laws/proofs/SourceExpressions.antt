@@ -6,7 +6,7 @@ use Rattle.fv_tree.specs.declared.ops.Op.TheVariants.{Pow, Mul, Div, Add, Sub, L
 use Rattle.fv_tree.specs.Plain.{Expression, Subscript, Only, subscripts}
 use Rattle.fv_meaning.specs.Depths as printing
 use Rattle.fv_meaning.specs.Depths.{enclosed, depth_of, depth_of_subscripts}
-use Rattle.fv_tree.specs.OperatorTable.{Plus, Minus, Negation, level_of, left_least, right_least, stands_between}
+use Rattle.fv_tree.specs.OperatorTable.{Plus, Minus, Negation, left_least, right_least, stands_between}
 use Rattle.f77_grammar.specs.expressions.Phrases.{Phrase, Literal, WideLiteral, Truth, Name, Listed, Paren, Signed, Joined, Phrases, One, Then, IsExpression, AreExpressions, level, tree, trees, depth, depths}
 use Rattle.f77_grammar.proofs.expressions.SourceLaws.{read_source}
 use Rattle.f77_laws.specs.Reading.{ReadExpressionIsSource}

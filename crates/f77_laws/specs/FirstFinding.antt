@@ -31,5 +31,5 @@ abbrev pub FirstIsRefused : Type 0
 FirstIsRefused = (d : Dialect) (x : Labelled) (xs : List Labelled) (c : Cause) (line : ℕ) → AreRising (x ∷ xs)
     → HoldsFirst d (x ∷ xs) c line
     → ((other : Cause) (k : ℕ) → HoldsFirst d (x ∷ xs) other k
-        → comes_before (refusal_at other k) (refusal_at c line) ≡ false)
+    → comes_before (refusal_at other k) (refusal_at c line) ≡ false)
     → RefusedStatements d (x ∷ xs) (refusal_at c line)

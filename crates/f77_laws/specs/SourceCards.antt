@@ -1,5 +1,5 @@
 -- Cards of a source (ANSI X3.9-1978, section 3), and that what they are read as is such as cards give.
-use Rattle.std.specs.Prelude.{◌≡◌, ℕ, ◌<◌, ◌≤◌, List, [], ◌∷◌}
+use Rattle.std.specs.Prelude.{ℕ, ◌<◌, ◌≤◌, List, [], ◌∷◌}
 use Rattle.std.specs.Option.{IfSome}
 use Rattle.std.specs.List.{AllByRecursion}
 use Rattle.fv_tree.specs.Limits.{source_bytes}

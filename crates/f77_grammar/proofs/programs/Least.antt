@@ -1,7 +1,6 @@
 -- The first of a list of findings: there is one where there are findings, and only one.
-use Rattle.std.proofs.Common.{◌≡◌, ◌⊎◌, inl, inr, ℕ, ◌<◌, Bool, true, false, ◌==◌, nat_lt, ◌&&◌, ◌||◌, Option, Some, None, List, [], ◌∷◌, refl, subst, ap, ◌∙◌, arith}
+use Rattle.std.proofs.Common.{◌≡◌, ◌⊎◌, inl, inr, ◌<◌, Bool, true, false, Option, Some, None, List, [], ◌∷◌, refl, subst, arith}
 use Rattle.std.specs.List.{Contains, AllByRecursion}
-use Rattle.std.proofs.lemmas.Bool.Decides.{nat_tests}
 use Rattle.std.proofs.lemmas.List.Elements.{All-from_recursion, All-contains, Contains-append_left, Contains-append_right, Contains-append_cases, Contains-get_or}
 use Rattle.fv_tree.specs.declared.refusals.Refusal.{Refusal}
 use Rattle.f77_grammar.specs.Answered.{comes_before, IsAnswered}

@@ -57,7 +57,7 @@ abbrev mutual
       × IsExpression p
   IsExpression (Joined o a b) =
       IsTrue (stands_between o) × (left_least o ≤ level a) × (right_least o ≤ level b)
-          × IsTrue (may_follow o (begins_with_sign b)) × IsExpression a × IsExpression b
+      × IsTrue (may_follow o (begins_with_sign b)) × IsExpression a × IsExpression b
 
   pub AreExpressions : Phrases → Type 0
   AreExpressions (One p) = IsExpression p

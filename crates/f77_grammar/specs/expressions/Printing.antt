@@ -4,7 +4,7 @@ use Rattle.std.specs.Prelude.{decimal, Option, Some, None, if◌then◌else◌}
 use Rattle.std.specs.List.{flat_map}
 use Rattle.fv_tree.specs.declared.ops.Op.{Op}
 use Rattle.fv_tree.specs.declared.ops.Op.TheVariants.{Neg, Not}
-use Rattle.fv_tree.specs.Plain.{Expression, Number, Logic, Named, Unary, Binary, Apply, Subscript, Only, Subscripts}
+use Rattle.fv_tree.specs.Plain.{Expression, Number, Logic, Named, Unary, Binary, Subscript, Only, Subscripts}
 use Rattle.fv_tree.specs.Plain.{no_subscripts, subscript}
 use Rattle.fv_tree.specs.OperatorTable.{Minus, Negation, left_least, right_least, stands_between, may_follow}
 use Rattle.f77_grammar.specs.expressions.Phrases.{Phrase, Literal, WideLiteral, Truth, Name, Listed, Paren, Signed}

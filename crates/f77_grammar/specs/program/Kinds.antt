@@ -119,7 +119,7 @@ module _ (us : List Use) where
   suits (Constants ds) = list_all (λ (d : NamedConstant). has_kind d.value (kind_of_name us d.name)) ds
   suits (Assign left e) =
       is_stored_into left.name (number_of_subscripts left.subscripts) && are_subscripts left.subscripts
-          && has_kind e (kind_of_name us left.name)
+      && has_kind e (kind_of_name us left.name)
   suits (Test c s) = has_kind c Logical && suits s
   suits (If c) = has_kind c Logical
   suits (ElseIf c) = has_kind c Logical

@@ -154,4 +154,4 @@ abbrev pub has_bad_constant : Dialect → Store → Place → Bool
 has_bad_constant d s p =
     list_any (λ (c : NamedConstant). is_none (s.bounds c.name)) (definitions_of p.here.statement)
     || list_any (λ bs. list_any (λ b. is_no_constant d s b.0 || is_no_constant d s b.1) bs)
-        (bounds_declared p.here.statement)
+    (bounds_declared p.here.statement)

@@ -94,7 +94,7 @@ abbrev pub ends_loops_wrongly : Place → Option ℕ → Bool
 ends_loops_wrongly p None = false
 ends_loops_wrongly p (Some n) =
     list_any (begins_loop n) p.before && (is_no_loop_end p.here.statement
-        || is_anything_open (since_do n p.before) p.after)
+    || is_anything_open (since_do n p.before) p.after)
 
 -- a block IF has no END IF
 abbrev pub stays_open : Statement77 → Place → Bool

@@ -53,7 +53,7 @@ holds_at d _ text us s p = false
 abbrev pub findings_of : Dialect → List Labelled → Cause → List Refusal
 findings_of d text c =
     map (λ (p : Place). refusal_at c p.here.line)
-        (filter (holds_at d c text (uses_in_text text) (constants_of d text)) (places text))
+    (filter (holds_at d c text (uses_in_text text) (constants_of d text)) (places text))
 
 -- a text without statements has no END, at line 0
 abbrev pub findings : Dialect → List Labelled → List Refusal

@@ -1,5 +1,5 @@
 -- The forms of statements, as they are written and what they stand for (ANSI X3.9-1978, sections 7 to 12).
-use Rattle.std.specs.Prelude.{ℕ, ◌+◌, ◌≤◌, ◌≡◌, max, pos, Bool, true, false, ◌⊎◌, Option, Some, None, List, [], ◌∷◌}
+use Rattle.std.specs.Prelude.{ℕ, ◌≤◌, ◌≡◌, max, pos, Bool, true, false, ◌⊎◌, Option, List, [], ◌∷◌}
 use Rattle.std.specs.Prelude.{◌++◌, length, map, codes}
 use Rattle.std.specs.List.{list_any, AllByRecursion}
 use Rattle.fv_tree.specs.declared.ops.Kind.{Kind}
@@ -181,7 +181,7 @@ IsWritten (Assign l r) text = Words text (written l ++ (words.Equals ∷ written
 IsWritten (Go label) text = (text ≡ chars (codes "GOTO" ++ label)) × IsLabel label
 IsWritten (Test p f) text =
     (e rest : List Symbol) × (text ≡ chars (codes "IF(") ++ (e ++ (chars (codes ")") ++ rest))) × Words e (written p)
-        × IsExpression p × IsWritten f rest × IsInner f
+    × IsExpression p × IsWritten f rest × IsInner f
 IsWritten (If p) text = (e : List Symbol) × (text ≡ chars (codes "IF(") ++ (e ++ chars (codes ")THEN")))
     × Words e (written p) × IsExpression p
 IsWritten (ElseIf p) text = (e : List Symbol) × (text ≡ chars (codes "ELSEIF(") ++ (e ++ chars (codes ")THEN")))
@@ -190,7 +190,7 @@ IsWritten Else text = text ≡ chars (codes "ELSE")
 IsWritten EndIf text = text ≡ chars (codes "ENDIF")
 IsWritten (Do label comma x a b c) text =
     IsFollowed (codes "DO" ++ (label ++ optional_comma comma)) (written_control x a b c) text × IsLabel label
-        × AreParameters a b c
+    × AreParameters a b c
 IsWritten Continue text = text ≡ chars (codes "CONTINUE")
 IsWritten Stop text = text ≡ chars (codes "STOP")
 IsWritten (Read is) text = (IsFollowed (codes "READ*,") (written_items is) text

@@ -1,6 +1,6 @@
 -- How a statement is recognised, and the words that are left out of the profile by name (ANSI X3.9-1978, section 3 and
 -- table 1).
-use Rattle.std.specs.Prelude.{ℕ, zero, suc, ◌≤◌, ◌≡◌, Bool, true, false, ◌==◌, IsTrue, Option, Some, None, List, []}
+use Rattle.std.specs.Prelude.{ℕ, zero, suc, ◌≡◌, Bool, true, false, ◌==◌, IsTrue, Option, Some, None, List, []}
 use Rattle.std.specs.Prelude.{◌∷◌, ◌++◌, codes, Contains, if◌then◌else◌}
 use Rattle.f77_grammar.specs.expressions.Spelling.{is_letter, IsName, chars}
 use Rattle.f77_grammar.specs.expressions.Squeezing.{Symbol, Char, Text, Broken}
@@ -139,7 +139,7 @@ pub data IsAssignedGoTo (text : List Symbol) : Type 0 where
   WithLabels : (name : List ℕ) (comma : Bool) (first : List ℕ) (others : List (List ℕ)) (list : List Symbol)
       → IsName name → AreLabels first others list
       → text ≡ chars (codes "GOTO" ++ (name ++ (optional_comma comma ++ codes "("))) ++ (list ++ chars (codes ")"))
-          → IsAssignedGoTo text
+      → IsAssignedGoTo text
 
 -- The word with which the text begins, or that its form has; of a logical IF, the word of its inner statement
 pub data HasWord : List Symbol → ℕ → Type 0 where

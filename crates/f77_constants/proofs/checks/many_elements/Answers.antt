@@ -7,32 +7,33 @@ use Rattle.f77_syntax.proofs.Walks.{search_goes_on, search_stops_at, search_ends
 use Rattle.f77_constants.specs.Constants.{store_of}
 use Rattle.f77_constants.specs.Bounds.{capped}
 use Rattle.f77_constants.proofs.SizeLaws.{count_at, are_many, are_few}
+use Rattle.fv_meaning.specs.Dialect.{fortran77}
 use Rattle.f77_constants.proofs.checks.many_elements.Goals as goal
 
-pub returns-then-count-gt-MOST : goal.returns-then-count-gt-MOST
-returns-then-count-gt-MOST c = λ s h.
-    search_stops_at (has_many_elements (store_of c.args.constants.now)) c.args.text.now c.loop-i.i c.index-text-i.result (omega arith) c.index-text-i.is
-    (are_many (all_elements (store_of c.args.constants.now) (labelled_of c.index-text-i.result ∷ passed (text_of c.args.text.now) c.loop-i.i)) c.sum_of-count.result
+pub returns-then-count-gt-ARRAY_ELEMENTS : goal.returns-then-count-gt-ARRAY_ELEMENTS
+returns-then-count-gt-ARRAY_ELEMENTS c = λ s h.
+    search_stops_at (has_many_elements fortran77 (store_of c.args.constants.now)) c.args.text.now c.loop-i.i c.index-text-i.result (omega arith) c.index-text-i.is
+    (are_many (all_elements fortran77 (store_of c.args.constants.now) (labelled_of c.index-text-i.result ∷ passed (text_of c.args.text.now) c.loop-i.i)) c.sum_of-count.result
     (count_at (store_of c.args.constants.now) c.args.text.now c.loop-i.i c.index-text-i.result c.entities.result.now c.in_ok-here.here c.loop-i.count c.sum_of-count.result
     c.in_ok-here.ensures c.entities.ensures c.loop-i.invariant.count c.sum_of-count.ensures)
-    c.if-count-gt-MOST.true)
+    c.if-count-gt-ARRAY_ELEMENTS.true)
     c.loop-i.invariant.searched
-    ∙ ap (λ t. first_index (has_many_elements t) (text_of c.args.text.now)) (sym h.same)
+    ∙ ap (λ t. first_index (has_many_elements fortran77 t) (text_of c.args.text.now)) (sym h.same)
 
 pub loop-i-preserved : goal.loop-i-preserved
 loop-i-preserved c = record {
-  searched = search_goes_on (has_many_elements (store_of c.args.constants.now)) c.args.text.now c.loop-i.i c.index-text-i.result (omega arith) c.index-text-i.is
-      (are_few (all_elements (store_of c.args.constants.now) (labelled_of c.index-text-i.result ∷ passed (text_of c.args.text.now) c.loop-i.i)) c.sum_of-count.result
+  searched = search_goes_on (has_many_elements fortran77 (store_of c.args.constants.now)) c.args.text.now c.loop-i.i c.index-text-i.result (omega arith) c.index-text-i.is
+      (are_few (all_elements fortran77 (store_of c.args.constants.now) (labelled_of c.index-text-i.result ∷ passed (text_of c.args.text.now) c.loop-i.i)) c.sum_of-count.result
       (count_at (store_of c.args.constants.now) c.args.text.now c.loop-i.i c.index-text-i.result c.entities.result.now c.in_ok-here.here c.loop-i.count c.sum_of-count.result
       c.in_ok-here.ensures c.entities.ensures c.loop-i.invariant.count c.sum_of-count.ensures)
-      c.if-count-gt-MOST.false)
+      c.if-count-gt-ARRAY_ELEMENTS.false)
       c.loop-i.invariant.searched;
   count = count_at (store_of c.args.constants.now) c.args.text.now c.loop-i.i c.index-text-i.result c.entities.result.now c.in_ok-here.here c.loop-i.count c.sum_of-count.result
       c.in_ok-here.ensures c.entities.ensures c.loop-i.invariant.count c.sum_of-count.ensures
-      ∙ ap (λ ts. capped (all_elements (store_of c.args.constants.now) ts)) (sym (text_passed c.args.text.now c.loop-i.i c.index-text-i.result (omega arith) c.index-text-i.is));
+      ∙ ap (λ ts. capped (all_elements fortran77 (store_of c.args.constants.now) ts)) (sym (text_passed c.args.text.now c.loop-i.i c.index-text-i.result (omega arith) c.index-text-i.is));
 }
 
 pub returns : goal.returns
 returns c = λ s h.
-    search_ends (has_many_elements (store_of c.args.constants.now)) c.args.text.now c.loop-i.i (omega arith) c.loop-i.invariant.searched
-    ∙ ap (λ t. first_index (has_many_elements t) (text_of c.args.text.now)) (sym h.same)
+    search_ends (has_many_elements fortran77 (store_of c.args.constants.now)) c.args.text.now c.loop-i.i (omega arith) c.loop-i.invariant.searched
+    ∙ ap (λ t. first_index (has_many_elements fortran77 t) (text_of c.args.text.now)) (sym h.same)

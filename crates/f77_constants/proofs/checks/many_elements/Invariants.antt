@@ -4,10 +4,11 @@ use Rattle.f77_syntax.specs.Views.{text_of}
 use Rattle.f77_syntax.specs.Walk.{passed, IsSearched}
 use Rattle.f77_constants.specs.Constants.{store_of}
 use Rattle.f77_constants.specs.Bounds.{capped}
+use Rattle.fv_meaning.specs.Dialect.{fortran77}
 use Rattle.f77_constants.proofs.checks.many_elements.Given as goal
 
 abbrev pub invariant-loop-i : goal.invariant-loop-i
 invariant-loop-i l = record {
-  searched : IsSearched (has_many_elements (store_of l.constants)) (text_of l.text) l.i;
-  count : l.count ≡ capped (all_elements (store_of l.constants) (passed (text_of l.text) l.i));
+  searched : IsSearched (has_many_elements fortran77 (store_of l.constants)) (text_of l.text) l.i;
+  count : l.count ≡ capped (all_elements fortran77 (store_of l.constants) (passed (text_of l.text) l.i));
 }

@@ -4,9 +4,10 @@ use Rattle.f77_grammar.specs.Statement77.{Labelled}
 use Rattle.f77_grammar.specs.program.Limits as plain
 use Rattle.f77_syntax.specs.Views.{text_of}
 use Rattle.f77_constants.specs.Constants.{store_of}
+use Rattle.fv_meaning.specs.Dialect.{fortran77}
 use Rattle.f77_constants.proofs.constants.constants_of.Given as goal
 
 abbrev pub invariant-loop-statement : goal.invariant-loop-statement
 invariant-loop-statement l =
-    plain.constants_of (text_of l.text)
-    ≡ plain.with_constants (flat_map (λ (x : Labelled). plain.definitions_of x.statement) (drop l.statement-index (text_of l.text))) (store_of l.constants)
+    plain.constants_of fortran77 (text_of l.text)
+    ≡ plain.with_constants fortran77 (flat_map (λ (x : Labelled). plain.definitions_of x.statement) (drop l.statement-index (text_of l.text))) (store_of l.constants)

@@ -5,13 +5,14 @@ use Rattle.f77_syntax.specs.Views.{bounds_of, entity_of}
 use Rattle.f77_constants.specs.Constants.{store_of}
 use Rattle.f77_constants.specs.Bounds.{capped, bounds_in}
 use Rattle.f77_constants.proofs.SizeLaws.{capped_once, sum_more}
+use Rattle.fv_meaning.specs.Dialect.{fortran77}
 use Rattle.f77_constants.proofs.constants.Constants.all_elements.Goals as goal
 
 pub loop-entity-preserved : goal.loop-entity-preserved
 loop-entity-preserved c = record {
   sum = sum_more (store_of c.args.self.now) c.args.entities.now c.loop-entity.entity-index c.entity-item.result
-      (capped (sum (map (elements (store_of c.args.self.now)) (bounds_in (map entity_of c.args.entities.now))))) c.loop-entity.count c.in_ok-elements.field-0 c.sum_of-count.result
+      (capped (sum (map (elements fortran77 (store_of c.args.self.now)) (bounds_in (map entity_of c.args.entities.now))))) c.loop-entity.count c.in_ok-elements.field-0 c.sum_of-count.result
       (omega arith) c.entity-item.is c.loop-entity.invariant.sum
-      (c.in_ok-elements.ensures ∙ ap (λ bs. capped (elements (store_of c.args.self.now) (map bounds_of bs))) c.as_slice.ensures) c.sum_of-count.ensures;
+      (c.in_ok-elements.ensures ∙ ap (λ bs. capped (elements fortran77 (store_of c.args.self.now) (map bounds_of bs))) c.as_slice.ensures) c.sum_of-count.ensures;
   capped = c.sum_of-count.ensures ∙ capped_once (c.loop-entity.count + c.in_ok-elements.field-0) ∙ sym (ap capped c.sum_of-count.ensures);
 }
