@@ -63,7 +63,7 @@ impl Gathered {
     pub fn reduce(self, reduction: Red, bits: u32) -> Result<Value, Fault>
         requires { bits < 127 }
         ensures value { result ≡ whole bits reduction self }
-        ensures of_all { (numbers : List ℤ) → self ≡ gathered reduction numbers → result ≡ reduced bits reduction numbers }
+        ensures of_all { (zs : List ℤ) → self ≡ gathered reduction zs → result ≡ reduced bits reduction zs }
     {
         self.finish(reduction, bits)
     }
