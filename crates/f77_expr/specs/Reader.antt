@@ -19,9 +19,12 @@ pub record Operand : Type 0 where
   pub placed : Bool
   pub tree : Expression
 
--- a depth is counted up to one more than what may be
+-- a depth is counted up to the first that is too deep
+abbrev pub capped : ℕ → ℕ
+capped d = min d (expression_depth77 + 1)
+
 abbrev pub deeper : ℕ → ℕ
-deeper d = min (d + 1) (expression_depth77 + 1)
+deeper d = capped (d + 1)
 
 abbrev pub sign_deeper : Sign → ℕ → ℕ
 sign_deeper Plus d = d

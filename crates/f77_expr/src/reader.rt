@@ -63,14 +63,7 @@ fn begin_sign(frames: &mut Vec<Frame>, op: Op) -> Result<Option<Operand>, Stop>
 }
 
 // A word where an operand is due: the operand that it is, or none where it opens a frame.
-#[tactic(
-    auto,
-    using(
-        crate::proofs::Stacks::stacks,
-        fv_tree::proofs::Equations::expression_equations,
-        crate::proofs::Trees::names
-    )
-)]
+#[tactic(auto, using(crate::proofs::Stacks::stacks, crate::proofs::Trees::primaries))]
 fn begin(alloc: Global, frames: &mut Vec<Frame>, token: &Token) -> Result<Option<Operand>, Stop>
     ensures { Begins result frames.new.items (reader.begin (stack frames.old.items) (word_of token.now)) }
 {

@@ -46,7 +46,7 @@ fn closed(text: Seq<u8>) -> Symbol
 fn scan_out(alloc: Global, c: u8, symbols: &mut Vec<Symbol>) -> Result<Mode, Memory>
     ensures { IfOk result (λ mode. (cs : List ℕ) →
         symbols_of symbols.old.items ++ scanning.scan (c ∷ cs) scanning.Out
-            ≡ symbols_of symbols.new.items ++ scanning.scan cs (mode_of mode)) }
+        ≡ symbols_of symbols.new.items ++ scanning.scan cs (mode_of mode)) }
 {
     if c == b'\'' {
         return Ok(Mode::In(Seq::new(alloc)));
@@ -78,7 +78,7 @@ fn scan_closing(
 ) -> Result<Mode, Memory>
     ensures { IfOk result (λ mode. (cs : List ℕ) →
         symbols_of symbols.old.items ++ scanning.scan (c ∷ cs) (scanning.Closing text)
-            ≡ symbols_of symbols.new.items ++ scanning.scan cs (mode_of mode)) }
+        ≡ symbols_of symbols.new.items ++ scanning.scan cs (mode_of mode)) }
 {
     if c == b'\'' {
         text.push(c)?;
@@ -91,7 +91,7 @@ fn scan_closing(
 fn scan(alloc: Global, mode: Mode, c: u8, symbols: &mut Vec<Symbol>) -> Result<Mode, Memory>
     ensures { IfOk result (λ next. (cs : List ℕ) →
         symbols_of symbols.old.items ++ scanning.scan (c ∷ cs) (mode_of mode)
-            ≡ symbols_of symbols.new.items ++ scanning.scan cs (mode_of next)) }
+        ≡ symbols_of symbols.new.items ++ scanning.scan cs (mode_of next)) }
 {
     match mode {
         Mode::Out => scan_out(alloc, c, symbols),

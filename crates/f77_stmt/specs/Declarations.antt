@@ -2,6 +2,7 @@
 use Rattle.std.specs.Prelude.{ℕ, ◌≡◌, ◌≤◌, max, List, ◌∷◌, ◌++◌, map, length}
 use Rattle.f77_grammar.specs.Statement77 as statement
 use Rattle.f77_grammar.specs.expressions.Words as words
+use Rattle.fv_tree.specs.Limits.{array_dimensions}
 use Rattle.fv_tree.specs.Plain.{Expression}
 use Rattle.fv_tree.specs.View.{expression_of}
 use Rattle.f77_grammar.specs.expressions.Phrases.{Phrase, IsExpression, written, tree, depth}
@@ -64,7 +65,7 @@ pub record EndsEntity (ws : List Word) (name : List ℕ) (made : statement.Entit
     (rest : List Word) : Type 0 where
   pub bounds : List Bound
   pub are : IsList IsBound bounds
-  pub few : length bounds ≤ 7
+  pub few : length bounds ≤ array_dimensions
   pub tree : made ≡ entity_tree (Bounded name bounds)
   pub deep : d ≡ capped (entity_depth (Bounded name bounds))
   pub same : ws ≡ separated written_bound bounds ++ (words.Close ∷ rest)

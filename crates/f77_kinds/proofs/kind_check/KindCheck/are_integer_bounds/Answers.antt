@@ -1,5 +1,4 @@
 use Rattle.std.proofs.Common.{◌∙◌, ap, map}
-use Rattle.std.proofs.lemmas.Bool.{not-true, not-false}
 use Rattle.f77_grammar.specs.program.Kinds.{are_integer_bounds}
 use Rattle.f77_syntax.specs.Views.{bounds_of}
 use Rattle.f77_names.specs.UsesView.{listed}
@@ -10,11 +9,11 @@ pub returns-then-not-is_integer_bound : goal.returns-then-not-is_integer_bound
 returns-then-not-is_integer_bound c =
     bounds_stop (listed c.args.self.now.uses) c.as_slice-bound-items.result.now c.loop-bound.bound-index c.bound-item.result
     (are_integer_bounds (listed c.args.self.now.uses) (map bounds_of c.as_slice-bound-items.result.now)) c.is_integer_bound.result c.loop-bound-test.true c.bound-item.is
-    c.loop-bound.invariant c.is_integer_bound.ensures (not-true c.is_integer_bound.result c.if-not-is_integer_bound.true)
+    c.loop-bound.invariant c.is_integer_bound.ensures c.if-not-is_integer_bound.true
     ∙ ap (λ xs. are_integer_bounds (listed c.args.self.now.uses) (map bounds_of xs)) c.as_slice-bound-items.ensures
 
 pub loop-bound-preserved : goal.loop-bound-preserved
 loop-bound-preserved c =
     bounds_go_on (listed c.args.self.now.uses) c.as_slice-bound-items.result.now c.loop-bound.bound-index c.bound-item.result
     (are_integer_bounds (listed c.args.self.now.uses) (map bounds_of c.as_slice-bound-items.result.now)) c.is_integer_bound.result c.loop-bound-test.true c.bound-item.is
-    c.loop-bound.invariant c.is_integer_bound.ensures (not-false c.is_integer_bound.result c.if-not-is_integer_bound.false)
+    c.loop-bound.invariant c.is_integer_bound.ensures c.if-not-is_integer_bound.false
