@@ -10,9 +10,10 @@ use Rattle.std.proofs.Math.Dec.{lit≤}
 use Rattle.fv_tree.specs.Plain.{Extent, Given, Later, Declaration, Program}
 use Rattle.fv_meaning.specs.Dialect.{Dialect}
 use Rattle.fv_tree.specs.Names.{IsSourceName}
-use Rattle.fv_tree.specs.declared.ops.Fun.{Fun}
-use Rattle.fv_tree.specs.declared.ops.Fun.TheVariants.{Abs, Mod, Max, Min}
-use Rattle.fv_meaning.specs.Names.{is_letter, is_digit, IsSymbolicName, IsLongName, name_of_function}
+use Rattle.fv_tree.specs.declared.functions.Fun.{Fun}
+use Rattle.fv_tree.specs.declared.functions.Fun.TheVariants.{Abs, Mod, Max, Min}
+use Rattle.fv_tree.specs.Functions.{name_of_function}
+use Rattle.fv_meaning.specs.Names.{is_letter, is_digit, IsSymbolicName, IsLongName}
 use Rattle.fv_meaning.specs.Typed.{dimensions, declared}
 use Rattle.fv_meaning.specs.Blocks.{outermost}
 use Rattle.fv_meaning.specs.Profile77 as source
