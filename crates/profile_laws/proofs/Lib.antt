@@ -11,3 +11,4 @@ pub mod Walks
 pub mod TargetRuns
 pub mod SourceValues
 pub mod SourceRuns
+pub mod WorkedPrograms
