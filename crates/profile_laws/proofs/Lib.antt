@@ -12,3 +12,4 @@ pub mod TargetRuns
 pub mod SourceValues
 pub mod SourceRuns
 pub mod WorkedPrograms
+pub mod StoreLaws

@@ -2,6 +2,7 @@
 ghost use Rattle.profile_laws.specs.Faults.{SourceRunFaultIsPlain, SourceValueFaultIsPlain, SourceValueHasKind};
 ghost use Rattle.profile_laws.specs.Forward.{SourceJumpsForward, TargetJumpsForward};
 ghost use Rattle.profile_laws.specs.Profiles.{SourceIsTarget, SourceWithMadeNamesIsTarget};
+ghost use Rattle.profile_laws.specs.Stores.{HeldStoresAgree, StoreHoldsFewer};
 ghost use Rattle.profile_laws.specs.Stores.{OpeningStoreHolds, RunHolds, SourceRunHolds, StatementsKeepStores};
 ghost use Rattle.profile_laws.specs.Values.{ElementsHaveKind, ValueHasKind};
 
@@ -30,6 +31,13 @@ pub fn stores_hold_program()
     ensures statements { StatementsKeepStores }
     ensures run { RunHolds }
     ensures source { SourceRunHolds }
+{}
+
+/// Stores that hold a program hold it with fewer names too, and agree on it where they have the same values in the same
+/// cells.
+pub fn held_stores()
+    ensures fewer { StoreHoldsFewer }
+    ensures agree { HeldStoresAgree }
 {}
 
 /// The value of an expression of FORTRAN 77 has its kind, and neither it nor a run meets the faults Shape and
