@@ -13,3 +13,4 @@ pub mod SourceValues
 pub mod SourceRuns
 pub mod WorkedPrograms
 pub mod StoreLaws
+pub mod Ranks
