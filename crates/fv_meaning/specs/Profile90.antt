@@ -103,8 +103,10 @@ module _ (ds : List Declaration) where
     IsStatement (Label n) w = IsLabel n
     IsStatement (GoTo line n) w = IsLine line × Contains w.ahead n
     IsStatement (Stop line) w = IsLine line
-    IsStatement (Read line is) w = IsLine line × AreInputItems ds is w.variables × (depth_of_items is ≤ limits.expression_depth90)
-    IsStatement (Print line is) w = IsLine line × AreOutputItems ds is w.variables × (depth_of_items is ≤ limits.expression_depth90)
+    IsStatement (Read line is) w =
+        IsLine line × AreInputItems ds is w.variables × (depth_of_items is ≤ limits.expression_depth90)
+    IsStatement (Print line is) w =
+        IsLine line × AreOutputItems ds is w.variables × (depth_of_items is ≤ limits.expression_depth90)
     IsStatement (Allocate line x es) w = IsLine line × IsAllocation x es
     IsStatement (Deallocate line x) w = IsLine line × IsSomeAnd (declared ds x) (λ d. IsAllocatable d.extent)
 

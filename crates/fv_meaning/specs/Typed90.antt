@@ -93,7 +93,8 @@ module _ (ds : List Declaration) where
         × HasKind a k × HasKind n Integer × (rank_of n ≡ 0)
     HasKind (Transpose a) k = IsFree (codes "TRANSPOSE") × (rank_of a ≡ 2) × HasKind a k
     HasKind (Reshape a es) k =
-        IsFree (codes "RESHAPE") × (1 ≤ rank_of a) × (1 ≤ number_of_arguments es) × (number_of_arguments es ≤ array_dimensions)
+        IsFree (codes "RESHAPE") × (1 ≤ rank_of a)
+        × (1 ≤ number_of_arguments es) × (number_of_arguments es ≤ array_dimensions)
         × HasKind a k × AreScalars es Integer
     HasKind (Reduce r a) k = IsFree (name_of_reduction r) × (1 ≤ rank_of a) × (k ≡ Integer) × HasKind a Integer
 

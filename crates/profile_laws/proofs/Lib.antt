@@ -11,3 +11,6 @@ pub mod Walks
 pub mod TargetRuns
 pub mod SourceValues
 pub mod SourceRuns
+pub mod WorkedPrograms
+pub mod StoreLaws
+pub mod Ranks

@@ -10,9 +10,10 @@ use Rattle.std.proofs.Math.Dec.{lit≤}
 use Rattle.fv_tree.specs.Plain.{Extent, Given, Later, Declaration, Program}
 use Rattle.fv_meaning.specs.Dialect.{Dialect}
 use Rattle.fv_tree.specs.Names.{IsSourceName}
-use Rattle.fv_tree.specs.declared.ops.Fun.{Fun}
-use Rattle.fv_tree.specs.declared.ops.Fun.TheVariants.{Abs, Mod, Max, Min}
-use Rattle.fv_meaning.specs.Names.{is_letter, is_digit, IsSymbolicName, IsLongName, name_of_function}
+use Rattle.fv_tree.specs.declared.functions.Fun.{Fun}
+use Rattle.fv_tree.specs.declared.functions.Fun.TheVariants.{Abs, Mod, Max, Min}
+use Rattle.fv_tree.specs.Functions.{name_of_function}
+use Rattle.fv_meaning.specs.Names.{is_letter, is_digit, IsSymbolicName, IsLongName}
 use Rattle.fv_meaning.specs.Typed.{dimensions, declared}
 use Rattle.fv_meaning.specs.Blocks.{outermost}
 use Rattle.fv_meaning.specs.Profile77 as source
@@ -121,12 +122,12 @@ function_is_source Mod = record { within = lit≤ tt; plain = none_is 95 (name_o
 function_is_source Max = record { within = lit≤ tt; plain = none_is 95 (name_of_function Max) refl }
 function_is_source Min = record { within = lit≤ tt; plain = none_is 95 (name_of_function Min) refl }
 
-pub source_with_made_names : SourceWithMadeNamesIsTarget
-source_with_made_names lang p es h a = program lang p es h (record { found = kept; fixed = fixed lang p.declarations h.declarations; free = free }) a.are
-  where
-    kept : (x : List ℕ) (e : Declaration) → declared p.declarations x ≡ Some e → declared es x ≡ Some e
-    kept x e f = let k = found p.declarations x e f in subst (λ y. declared es y ≡ Some e) k.name (once es e a.are.ordered (a.kept e k.among))
+pub kept_declaration : (ds es : List Declaration) → AddMadeNames ds es → (x : List ℕ) (e : Declaration) → declared ds x ≡ Some e → declared es x ≡ Some e
+kept_declaration ds es a x e f = let k = found ds x e f in subst (λ y. declared es y ≡ Some e) k.name (once es e a.are.ordered (a.kept e k.among))
 
+pub source_with_made_names : SourceWithMadeNamesIsTarget
+source_with_made_names lang p es h a = program lang p es h (record { found = kept_declaration p.declarations es a; fixed = fixed lang p.declarations h.declarations; free = free }) a.are
+  where
     hides : (f : Fun) → declared p.declarations (name_of_function f) ≡ None → (e : Declaration) → declared es (name_of_function f) ≡ Some e → ⊥
     hides f g e q = let k = found es (name_of_function f) e q in by k.name (a.made e k.among)
       where

@@ -5,6 +5,7 @@ use Rattle.std.specs.Option.{IsSomeAnd}
 use Rattle.std.specs.Ordering.{int_eq}
 use Rattle.std.specs.Int.{int_pow}
 use Rattle.std.proofs.lemmas.Bool.{leb-true}
+use Rattle.std.proofs.lemmas.Bool.Decides.{Decides-eqb}
 use Rattle.fv_tree.specs.Steps.{◌>>=◌}
 use Rattle.fv_tree.specs.Operators.{number, ranged, quotient, remainder, power, exact_value, exact_call, on_numbers, on_truths, apply, is_neg, is_not, exact_of_values, as_number, as_numbers, as_truth, call, fits, kind_of}
 use Rattle.fv_tree.specs.Plain.{Expression, Number, Logic, Named, Unary, Binary, Apply, Constructor, Spread, Transpose, Reshape, Reduce, Expressions, no_expressions, expression, Subscript, Only, Section, Subscripts, no_subscripts, subscript, Extent, Given, Later, Declaration, Program}
@@ -16,12 +17,13 @@ use Rattle.fv_tree.specs.declared.ops.Fault.{Fault}
 use Rattle.fv_tree.specs.declared.ops.Fault.TheVariants.{Overflow, ZeroDivide, Bounds, Shape}
 use Rattle.fv_tree.specs.declared.ops.Op.{Op}
 use Rattle.fv_tree.specs.declared.ops.Op.TheVariants.{Pow, Mul, Div, Neg, Add, Sub, Lt, Le, Eq, Ne, Gt, Ge, Not, And, Or, Eqv, Neqv}
-use Rattle.fv_tree.specs.declared.ops.Fun.{Fun}
-use Rattle.fv_tree.specs.declared.ops.Fun.TheVariants.{Abs, Mod, Max, Min}
+use Rattle.fv_tree.specs.declared.functions.Fun.{Fun}
+use Rattle.fv_tree.specs.declared.functions.Fun.TheVariants.{Abs, Mod, Max, Min}
 use Rattle.fv_meaning.specs.Dialect.{Dialect}
-use Rattle.fv_meaning.specs.Names.{suits_number}
+use Rattle.fv_tree.specs.Functions.{suits_number}
 use Rattle.fv_meaning.specs.Store.{Store, Cell, cell_at, cell_in, is_within}
-use Rattle.fv_meaning.specs.Typed.{operand_kind, kind_of_result, is_unary, declared, dimensions, number_of_arguments, number_of_subscripts}
+use Rattle.fv_tree.specs.OperatorTable.{operand_kind, result_kind_of}
+use Rattle.fv_meaning.specs.Typed.{declared, dimensions, number_of_arguments, number_of_subscripts}
 use Rattle.fv_meaning.specs.Typed77.{HasKind, AreArguments, AreSubscripts, IsSubscript}
 use Rattle.fv_meaning.specs.Profile77.{IsFixed}
 use Rattle.fv_meaning.specs.Value.{value_of, values_of, subscript_values, subscript_value}
@@ -66,7 +68,7 @@ power_plain a (negsuc n) = quotient_plain (pos 1) (int_pow a (suc n))
 integer_logical : Integer ≡ Logical → ⊥
 integer_logical e = cc
 
-on_numbers_plain : (o : Op) (a b : ℤ) → Integer ≡ operand_kind o → Plainly (IsKind (kind_of_result o)) (on_numbers o a b)
+on_numbers_plain : (o : Op) (a b : ℤ) → Integer ≡ operand_kind o → Plainly (IsKind (result_kind_of o)) (on_numbers o a b)
 on_numbers_plain Lt a b h = refl
 on_numbers_plain Le a b h = refl
 on_numbers_plain Eq a b h = refl
@@ -85,7 +87,7 @@ on_numbers_plain Or a b h = absurd (integer_logical h)
 on_numbers_plain Eqv a b h = absurd (integer_logical h)
 on_numbers_plain Neqv a b h = absurd (integer_logical h)
 
-on_truths_plain : (o : Op) (a b : Bool) → Logical ≡ operand_kind o → Plainly (IsKind (kind_of_result o)) (on_truths o a b)
+on_truths_plain : (o : Op) (a b : Bool) → Logical ≡ operand_kind o → Plainly (IsKind (result_kind_of o)) (on_truths o a b)
 on_truths_plain Not a b h = refl
 on_truths_plain And a b h = refl
 on_truths_plain Or a b h = refl
@@ -93,7 +95,7 @@ on_truths_plain Eqv a b h = refl
 on_truths_plain Neqv a b h = refl
 on_truths_plain _ a b h = absurd (integer_logical (sym h))
 
-apply_plain : (o : Op) (x y : Value) → IsKind (operand_kind o) x → IsKind (operand_kind o) y → Plainly (IsKind (kind_of_result o)) (apply o x y)
+apply_plain : (o : Op) (x y : Value) → IsKind (operand_kind o) x → IsKind (operand_kind o) y → Plainly (IsKind (result_kind_of o)) (apply o x y)
 apply_plain o (Int a) (Int b) h g = on_numbers_plain o a b h
 apply_plain o (Truth a) (Truth b) h g = on_truths_plain o a b h
 apply_plain o (Int a) (Truth b) h g = absurd (integer_logical (h ∙ sym g))
@@ -101,16 +103,11 @@ apply_plain o (Truth a) (Int b) h g = absurd (integer_logical (g ∙ sym h))
 
 -- ---- calls: as many arguments as the function takes
 
-both_hold : (a b : Bool) → (a && b) ≡ true → (a ≡ true) × (b ≡ true)
-both_hold true true h = (refl, refl)
-both_hold true false h = absurd cc
-both_hold false b h = absurd cc
-
 suits_one : (n : ℕ) → suits_number Abs n ≡ true → n ≡ 1
-suits_one n h = let b = both_hold _ _ h in let x = leb-true 1 n b.0 in let y = leb-true n 1 b.1 in omega (arith, x, y)
+suits_one n h = (Decides-eqb n 1).0 h
 
 suits_two : (n : ℕ) → suits_number Mod n ≡ true → n ≡ 2
-suits_two n h = let b = both_hold _ _ h in let x = leb-true 2 n b.0 in let y = leb-true n 2 b.1 in omega (arith, x, y)
+suits_two n h = (Decides-eqb n 2).0 h
 
 suits_more : (n : ℕ) → suits_number Max n ≡ true → 2 ≤ n
 suits_more n h = leb-true 2 n h
@@ -209,11 +206,11 @@ module _ (lang : Dialect) (p : Program) (fixed : (x : List ℕ) (e : Declaration
         next (λ (c : Cell). c.name ≡ x) (IsKind k) (cell_at x is s) _ (cell_known x k (number_of_subscripts ps) s is w) (λ c e. w.kind c e))
     value_plain (Unary o a) k s h g =
         subst (λ j. Plainly (IsKind j) (value_of lang (Unary o a) s)) (sym g.1)
-        (next (IsKind (operand_kind o)) (IsKind (kind_of_result o)) (value_of lang a s) _ (value_plain a (operand_kind o) s h g.2) (λ x q. apply_plain o x x q q))
+        (next (IsKind (operand_kind o)) (IsKind (result_kind_of o)) (value_of lang a s) _ (value_plain a (operand_kind o) s h g.2) (λ x q. apply_plain o x x q q))
     value_plain (Binary o a b) k s h g =
         subst (λ j. Plainly (IsKind j) (value_of lang (Binary o a b) s)) (sym g.1)
-        (next (IsKind (operand_kind o)) (IsKind (kind_of_result o)) (value_of lang a s) _ (value_plain a (operand_kind o) s h g.2) (λ x q.
-        next (IsKind (operand_kind o)) (IsKind (kind_of_result o)) (value_of lang b s) _ (value_plain b (operand_kind o) s h g.3) (λ y r. apply_plain o x y q r)))
+        (next (IsKind (operand_kind o)) (IsKind (result_kind_of o)) (value_of lang a s) _ (value_plain a (operand_kind o) s h g.2) (λ x q.
+        next (IsKind (operand_kind o)) (IsKind (result_kind_of o)) (value_of lang b s) _ (value_plain b (operand_kind o) s h g.3) (λ y r. apply_plain o x y q r)))
     value_plain (Apply f es) k s h g =
         subst (λ j. Plainly (IsKind j) (value_of lang (Apply f es) s)) (sym g.2)
         (next (AreIntegers (number_of_arguments es)) (IsKind Integer) (values_of lang es s) _ (arguments_plain es s h g.3) (λ vs q. called_plain f (number_of_arguments es) vs g.0 q))

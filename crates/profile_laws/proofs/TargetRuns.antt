@@ -40,18 +40,18 @@ any_rest = record { overflow = tt; zero_divide = tt; bounds = tt; zero_step = tt
 
 -- ---- the bounds that ALLOCATE gives
 
-numbers_length : (vs : List Value) → Gives (λ (zs : List ℤ). length zs ≡ length vs) (as_numbers vs)
+pub numbers_length : (vs : List Value) → Gives (λ (zs : List ℤ). length zs ≡ length vs) (as_numbers vs)
 numbers_length [] = refl
 numbers_length (v ∷ vs) =
     after _ (as_number v) _ (λ z. behind AnyFault (λ (zs : List ℤ). length zs ≡ length vs) _ (as_numbers vs) _ (numbers_length vs) (λ zs e. let f : length (z ∷ zs) ≡ length (v ∷ vs) = omega (arith, e) in f))
 
-values_length : (lang : Dialect) (es : Expressions) (s : Store) → Gives (λ (vs : List Value). length vs ≡ number_of_arguments es) (values_of lang es s)
+pub values_length : (lang : Dialect) (es : Expressions) (s : Store) → Gives (λ (vs : List Value). length vs ≡ number_of_arguments es) (values_of lang es s)
 values_length lang no_expressions s = refl
 values_length lang (expression e es) s =
     after _ (value_of lang e s) _ (λ x. behind AnyFault (λ (vs : List Value). length vs ≡ number_of_arguments es) _ (values_of lang es s) _ (values_length lang es s)
     (λ xs e'. let f : length (x ∷ xs) ≡ number_of_arguments (expression e es) = omega (arith, e') in f))
 
-length_map : {A B : Type 0} → (f : A → B) (xs : List A) → length (map f xs) ≡ length xs
+pub length_map : {A B : Type 0} → (f : A → B) (xs : List A) → length (map f xs) ≡ length xs
 length_map f [] = refl
 length_map f (x ∷ xs) = let e = length_map f xs in omega (arith, e)
 

@@ -6,9 +6,9 @@ use Rattle.std.specs.Option.{IsSomeAnd}
 use Rattle.fv_tree.specs.Plain.{Expression, Number, Logic, Named, Unary, Binary, Apply, Constructor, Spread, Transpose, Reshape, Reduce, Expressions, no_expressions, expression, Subscript, Only, Section, Subscripts, no_subscripts, subscript, Reference, Item, Single, Constant, ImpliedDo, Items, no_items, item, Statement, Assignment, Where, If, Do, Label, GoTo, Stop, Read, Print, Allocate, Deallocate, Arms, no_arms, arm, Block, no_statements, statement, Extent, Given, Later, Declaration, Program}
 use Rattle.fv_tree.specs.declared.ops.Kind.{Kind}
 use Rattle.fv_tree.specs.declared.ops.Kind.TheVariants.{Integer, Logical}
-use Rattle.fv_tree.specs.declared.ops.Fun.{Fun}
-use Rattle.fv_meaning.specs.Names.{name_of_function}
-use Rattle.fv_meaning.specs.Typed.{dimensions, declared, number_of_subscripts, rank_of_extent, operand_kind}
+use Rattle.fv_tree.specs.declared.functions.Fun.{Fun}
+use Rattle.fv_tree.specs.Functions.{name_of_function}
+use Rattle.fv_meaning.specs.Typed.{dimensions, declared, number_of_subscripts, rank_of_extent}
 use Rattle.fv_meaning.specs.Blocks.{Surroundings, within_loop, before_labels, labels_of}
 use Rattle.fv_meaning.specs.Value.{named}
 use Rattle.fv_meaning.specs.Typed77 as source

@@ -4,7 +4,7 @@ use Rattle.std.specs.List.{AllByRecursion, fold}
 use Rattle.std.specs.Int.{int_max, int_min}
 use Rattle.std.specs.Option.{IsSomeAnd}
 use Rattle.fv_tree.specs.Steps.{◌>>=◌}
-use Rattle.fv_tree.specs.Operators.{number, ranged, exact_value, on_numbers, on_truths, apply, is_neg, is_not, takes_truths, exact_of_values, as_numbers, call, fits, kind_of}
+use Rattle.fv_tree.specs.Operators.{number, ranged, exact_value, on_numbers, on_truths, apply, is_neg, is_not, takes_truths, exact_of_values, as_numbers, call, fits, kind_of, sum_from, reduced}
 use Rattle.fv_tree.specs.Plain.{Expression, Number, Logic, Named, Unary, Binary, Apply, Constructor, Spread, Transpose, Reshape, Reduce, Expressions, no_expressions, expression, Subscripts, no_subscripts, subscript, Loops, no_loops, loop, Declaration, Program}
 use Rattle.fv_tree.specs.declared.ops.Kind.{Kind}
 use Rattle.fv_tree.specs.declared.ops.Kind.TheVariants.{Integer, Logical}
@@ -14,14 +14,15 @@ use Rattle.fv_tree.specs.declared.ops.Fault.{Fault}
 use Rattle.fv_tree.specs.declared.ops.Fault.TheVariants.{Overflow, Shape, Bounds}
 use Rattle.fv_tree.specs.declared.ops.Op.{Op}
 use Rattle.fv_tree.specs.declared.ops.Op.TheVariants.{Pow, Mul, Div, Neg, Add, Sub, Lt, Le, Eq, Ne, Gt, Ge, Not, And, Or, Eqv, Neqv}
-use Rattle.fv_tree.specs.declared.ops.Fun.{Fun}
-use Rattle.fv_tree.specs.declared.ops.Red.{Red}
-use Rattle.fv_tree.specs.declared.ops.Red.TheVariants.{Sum, MaxVal, MinVal}
+use Rattle.fv_tree.specs.declared.functions.Fun.{Fun}
+use Rattle.fv_tree.specs.declared.functions.Red.{Red}
+use Rattle.fv_tree.specs.declared.functions.Red.TheVariants.{Sum, MaxVal, MinVal}
 use Rattle.fv_meaning.specs.Dialect.{Dialect}
 use Rattle.fv_meaning.specs.Store.{Store, Cell, cell_at, cell_in, bounds_of, numbers_from}
-use Rattle.fv_meaning.specs.Typed.{operand_kind, kind_of_result, declared, rank_of_extent}
+use Rattle.fv_tree.specs.OperatorTable.{result_kind_of}
+use Rattle.fv_meaning.specs.Typed.{declared, rank_of_extent}
 use Rattle.fv_meaning.specs.Typed90.{HasKind, AreScalars, AreLoops, IsIntegerScalar}
-use Rattle.fv_meaning.specs.ArrayValues.{Array, Elements, each, scalar, settled, in_whole, value_at, place_of, positions, conform, mapped, paired, spread, transposed, reshaped, reduced, sum_from, size}
+use Rattle.fv_meaning.specs.ArrayValues.{Array, Elements, each, scalar, settled, in_whole, value_at, place_of, positions, conform, mapped, paired, spread, transposed, reshaped, size}
 use Rattle.fv_meaning.specs.Sections.{Axis, axes_selected, extents_of, cells_along, not_negative}
 use Rattle.fv_meaning.specs.Value.{value_of, values_of, array_of, arguments_of, subscript_values, selectors, with_arrays, evaluated, numbered, under, for_numbers, bound_to, joined, is_scalar}
 use Rattle.fv_meaning.specs.Holding.{IsStorable, HoldsProgram}
@@ -56,7 +57,7 @@ ranged_is : (r : Result ℤ Fault) → Gives (IsKind Integer) (ranged r)
 ranged_is (Ok z) = number_is z
 ranged_is (Err e) = tt
 
-on_numbers_is : (o : Op) (a b : ℤ) → Gives (IsKind (kind_of_result o)) (on_numbers o a b)
+on_numbers_is : (o : Op) (a b : ℤ) → Gives (IsKind (result_kind_of o)) (on_numbers o a b)
 on_numbers_is Lt a b = refl
 on_numbers_is Le a b = refl
 on_numbers_is Eq a b = refl
@@ -75,7 +76,7 @@ on_numbers_is Or a b = tt
 on_numbers_is Eqv a b = tt
 on_numbers_is Neqv a b = tt
 
-on_truths_is : (o : Op) (a b : Bool) → Gives (IsKind (kind_of_result o)) (on_truths o a b)
+on_truths_is : (o : Op) (a b : Bool) → Gives (IsKind (result_kind_of o)) (on_truths o a b)
 on_truths_is Not a b = refl
 on_truths_is And a b = refl
 on_truths_is Or a b = refl
@@ -83,15 +84,15 @@ on_truths_is Eqv a b = refl
 on_truths_is Neqv a b = refl
 on_truths_is _ a b = tt
 
-if_neg : (o : Op) (a : ℤ) → Gives (IsKind (kind_of_result o)) (cond (is_neg o) (on_numbers Neg a a) (Err Shape))
+if_neg : (o : Op) (a : ℤ) → Gives (IsKind (result_kind_of o)) (cond (is_neg o) (on_numbers Neg a a) (Err Shape))
 if_neg Neg a = on_numbers_is Neg a a
 if_neg _ a = tt
 
-if_not : (o : Op) (a : Bool) → Gives (IsKind (kind_of_result o)) (cond (is_not o) (on_truths Not a a) (Err Shape))
+if_not : (o : Op) (a : Bool) → Gives (IsKind (result_kind_of o)) (cond (is_not o) (on_truths Not a a) (Err Shape))
 if_not Not a = refl
 if_not _ a = tt
 
-pub apply_is : (o : Op) (x y : Value) → Gives (IsKind (kind_of_result o)) (apply o x y)
+pub apply_is : (o : Op) (x y : Value) → Gives (IsKind (result_kind_of o)) (apply o x y)
 apply_is o (Int a) (Int b) = on_numbers_is o a b
 apply_is o (Truth a) (Truth b) = on_truths_is o a b
 apply_is o (Int a) (Truth b) = if_neg o a
@@ -237,10 +238,10 @@ module _ (lang : Dialect) (p : Program) where
     value_is (Logic b) k s h g = sym g
     value_is (Named x ps) k s h g =
         after (IsKind k) (subscript_values lang ps s) _ (λ is. behind AnyFault (λ (c : Cell). c.name ≡ x) (IsKind k) (cell_at x is s) _ (cell_is (s.bounds x) x is) (λ c e. held_there x k _ s c h g.0 e))
-    value_is (Unary o a) k s h g = subst (λ j. Gives (IsKind j) (value_of lang (Unary o a) s)) (sym g.1) (after (IsKind (kind_of_result o)) (value_of lang a s) _ (λ x. apply_is o x x))
+    value_is (Unary o a) k s h g = subst (λ j. Gives (IsKind j) (value_of lang (Unary o a) s)) (sym g.1) (after (IsKind (result_kind_of o)) (value_of lang a s) _ (λ x. apply_is o x x))
     value_is (Binary o a b) k s h g =
         subst (λ j. Gives (IsKind j) (value_of lang (Binary o a b) s)) (sym g.1)
-        (after (IsKind (kind_of_result o)) (value_of lang a s) _ (λ x. after (IsKind (kind_of_result o)) (value_of lang b s) _ (λ y. apply_is o x y)))
+        (after (IsKind (result_kind_of o)) (value_of lang a s) _ (λ x. after (IsKind (result_kind_of o)) (value_of lang b s) _ (λ y. apply_is o x y)))
     value_is (Apply f es) k s h g = subst (λ j. Gives (IsKind j) (value_of lang (Apply f es) s)) (sym g.2) (after (IsKind Integer) (values_of lang es s) _ (λ xs. call_is f xs))
     value_is (Constructor es ls) k s h g = tt
     value_is (Spread a n e) k s h g = tt
@@ -263,11 +264,11 @@ module _ (lang : Dialect) (p : Program) where
         settled_is k _ (cells_held x k _ s h g.0 _))))
     array_is (Unary o a) k s h g =
         subst (λ j. Gives (ElementsAre j) (array_of lang (Unary o a) s)) (sym g.1)
-        (after (ElementsAre (kind_of_result o)) (array_of lang a s) _ (λ q is. after (IsKind (kind_of_result o)) (q.at is) _ (λ x. apply_is o x x)))
+        (after (ElementsAre (result_kind_of o)) (array_of lang a s) _ (λ q is. after (IsKind (result_kind_of o)) (q.at is) _ (λ x. apply_is o x x)))
     array_is (Binary o a b) k s h g =
         subst (λ j. Gives (ElementsAre j) (array_of lang (Binary o a b) s)) (sym g.1)
-        (after (ElementsAre (kind_of_result o)) (array_of lang a s) _ (λ q. after (ElementsAre (kind_of_result o)) (array_of lang b s) _ (λ r. after (ElementsAre (kind_of_result o)) (conform q.extents r.extents) _ (λ ns is.
-        after (IsKind (kind_of_result o)) (q.at is) _ (λ x. after (IsKind (kind_of_result o)) (r.at is) _ (λ y. apply_is o x y))))))
+        (after (ElementsAre (result_kind_of o)) (array_of lang a s) _ (λ q. after (ElementsAre (result_kind_of o)) (array_of lang b s) _ (λ r. after (ElementsAre (result_kind_of o)) (conform q.extents r.extents) _ (λ ns is.
+        after (IsKind (result_kind_of o)) (q.at is) _ (λ x. after (IsKind (result_kind_of o)) (r.at is) _ (λ y. apply_is o x y))))))
     array_is (Apply f es) k s h g =
         subst (λ j. Gives (ElementsAre j) (array_of lang (Apply f es) s)) (sym g.2)
         (after (ElementsAre Integer) (arguments_of lang es [] s) _ (λ q is. after (IsKind Integer) (q.at is) _ (λ xs. call_is f xs)))

@@ -8,7 +8,7 @@ use Rattle.fv_meaning.specs.ArrayValues.{Elements}
 use Rattle.fv_meaning.specs.Dialect.{Dialect}
 use Rattle.fv_meaning.specs.Holding.{HoldsProgram}
 use Rattle.fv_meaning.specs.Store.{Store}
-use Rattle.fv_meaning.specs.Typed90.{HasKind}
+use Rattle.fv_meaning.specs.Typed90.{HasKind, rank_of}
 use Rattle.fv_meaning.specs.Value.{value_of, array_of}
 
 -- the value of an expression has the expression's kind
@@ -21,3 +21,9 @@ abbrev pub ElementsHaveKind : Type 0
 ElementsHaveKind = (lang : Dialect) (p : Program) (e : Expression) (k : Kind) (s : Store) (g : Elements Value)
     → HoldsProgram lang p s → HasKind p.declarations e k → array_of lang e s ≡ Ok g
     → (is : List ℕ) (v : Value) → g.at is ≡ Ok v → kind_of v ≡ k
+
+-- an array has an extent for each dimension of its expression
+abbrev pub ExtentsAreRank : Type 0
+ExtentsAreRank = (lang : Dialect) (p : Program) (e : Expression) (k : Kind) (s : Store) (g : Elements Value)
+    → HoldsProgram lang p s → HasKind p.declarations e k → array_of lang e s ≡ Ok g
+    → length g.extents ≡ rank_of p.declarations e

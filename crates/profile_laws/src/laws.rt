@@ -2,8 +2,9 @@
 ghost use Rattle.profile_laws.specs.Faults.{SourceRunFaultIsPlain, SourceValueFaultIsPlain, SourceValueHasKind};
 ghost use Rattle.profile_laws.specs.Forward.{SourceJumpsForward, TargetJumpsForward};
 ghost use Rattle.profile_laws.specs.Profiles.{SourceIsTarget, SourceWithMadeNamesIsTarget};
+ghost use Rattle.profile_laws.specs.Stores.{HeldStoresAgree, StoreHoldsFewer};
 ghost use Rattle.profile_laws.specs.Stores.{OpeningStoreHolds, RunHolds, SourceRunHolds, StatementsKeepStores};
-ghost use Rattle.profile_laws.specs.Values.{ElementsHaveKind, ValueHasKind};
+ghost use Rattle.profile_laws.specs.Values.{ElementsHaveKind, ExtentsAreRank, ValueHasKind};
 
 /// A program of FORTRAN 77 is one of Fortran 90, as it stands and with further declarations of names that no source has.
 pub fn source_is_target()
@@ -17,10 +18,12 @@ pub fn jumps_forward()
     ensures target { TargetJumpsForward }
 {}
 
-/// The value of an expression has its kind, and so have the elements of an array.
+/// The value of an expression has its kind, and so have the elements of an array, which has an extent for each of its
+/// dimensions.
 pub fn values_have_kinds()
     ensures value { ValueHasKind }
     ensures elements { ElementsHaveKind }
+    ensures extents { ExtentsAreRank }
 {}
 
 /// Each store of a run has the bounds of the declared names, and in their cells values of their kinds within the range
@@ -30,6 +33,13 @@ pub fn stores_hold_program()
     ensures statements { StatementsKeepStores }
     ensures run { RunHolds }
     ensures source { SourceRunHolds }
+{}
+
+/// Stores that hold a program hold it with fewer names too, and agree on it where they have the same values in the same
+/// cells.
+pub fn held_stores()
+    ensures fewer { StoreHoldsFewer }
+    ensures agree { HeldStoresAgree }
 {}
 
 /// The value of an expression of FORTRAN 77 has its kind, and neither it nor a run meets the faults Shape and

@@ -1,4 +1,5 @@
 use Rattle.profile_laws.proofs.ValueKinds.{value_has_kind, elements_have_kind}
+use Rattle.profile_laws.proofs.Ranks.{extents_are_rank}
 use Rattle.profile_laws.proofs.laws.values_have_kinds.Goals as goal
 
 pub returns-clause-value : goal.returns-clause-value
@@ -6,3 +7,6 @@ returns-clause-value c = value_has_kind
 
 pub returns-clause-elements : goal.returns-clause-elements
 returns-clause-elements c = elements_have_kind
+
+pub returns-clause-extents : goal.returns-clause-extents
+returns-clause-extents c = extents_are_rank
