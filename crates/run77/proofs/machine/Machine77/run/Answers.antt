@@ -17,13 +17,13 @@ has_arms p m h is = subst BlockHasArms (sym is.body) (block_has_arms p.declarati
 pub returns-clause-run : goal.returns-clause-run
 returns-clause-run g c = λ p h is.
     rw c.ended.ensures
-    (runs_to_end p c.args.limit c.args.input.now c.begin.new.self c.block.new.self (block_of c.args.self.now.body) (g.K.Sink.taken c.args.out.now) (g.K.Sink.taken c.block.new.out) c.block.result
+    (runs_to_end _ p c.args.limit c.args.input.now c.begin.new.self c.block.new.self (block_of c.args.self.now.body) (g.K.Sink.taken c.args.out.now) (g.K.Sink.taken c.block.new.out) c.block.result
     (same_names c.begin.ensures.names ∙ is.names) is.body (jumps_forward p h) c.begin.ensures.opening
     (c.block.ensures.run (has_arms p c.args.self.now h is)))
 
 pub returns-clause-machine : goal.returns-clause-machine
 returns-clause-machine g c = λ p h is. record {
-  names = keeps_names p c.args.limit c.args.input.now c.begin.new.self c.block.new.self (block_of c.args.self.now.body) (g.K.Sink.taken c.args.out.now) (g.K.Sink.taken c.block.new.out) c.block.result
+  names = keeps_names _ p c.args.limit c.args.input.now c.begin.new.self c.block.new.self (block_of c.args.self.now.body) (g.K.Sink.taken c.args.out.now) (g.K.Sink.taken c.block.new.out) c.block.result
       (same_names c.begin.ensures.names ∙ is.names) c.begin.ensures.opening
       (c.block.ensures.run (has_arms p c.args.self.now h is));
   body = is.body;

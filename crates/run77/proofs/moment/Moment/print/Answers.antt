@@ -15,8 +15,8 @@ returns-in_err-write_all-clause-run g c = λ input.
     rw (residual c.from_residual.ensures.1)
     (Runs-left (λ limit. writes (first_blank (plain_items c.args.items.now))) (λ limit. then (prints_items integer_bits limit (plain_items c.args.items.now) c.args.line) (writes (10 ∷ []))) input c.args.self.now c.args.self.now (g.K.Sink.taken c.args.out.now) (g.K.Sink.taken c.write_all.new.to) Unwritten
     (Runs-writes (first_blank (plain_items c.args.items.now)) input c.args.self.now (g.K.Sink.taken c.args.out.now) (g.K.Sink.taken c.write_all.new.to) (Err c.in_err-write_all.field-0.0) (subst (λ t. GivesPart (g.K.Sink.taken c.args.out.now) t (g.K.Sink.taken c.write_all.new.to)) c.first_blank.ensures c.in_err-write_all.ensures.part))
-    (Stays-then (λ limit. prints_items integer_bits limit (plain_items c.args.items.now) c.args.line) (λ limit. writes (10 ∷ [])) (Stays-prints_items (plain_items c.args.items.now) c.args.line) (Stays-writes (10 ∷ [])))
-    (λ limit. Adds-then (prints_items integer_bits limit (plain_items c.args.items.now) c.args.line) (writes (10 ∷ [])) (Adds-prints_items limit (plain_items c.args.items.now) c.args.line) (Adds-writes (10 ∷ []))))
+    (Stays-then (λ limit. prints_items integer_bits limit (plain_items c.args.items.now) c.args.line) (λ limit. writes (10 ∷ [])) (Stays-prints_items _ (plain_items c.args.items.now) c.args.line) (Stays-writes (10 ∷ [])))
+    (λ limit. Adds-then (prints_items integer_bits limit (plain_items c.args.items.now) c.args.line) (writes (10 ∷ [])) (Adds-prints_items _ limit (plain_items c.args.items.now) c.args.line) (Adds-writes (10 ∷ []))))
 
 pub returns-in_err-print_items-clause-run : goal.returns-in_err-print_items-clause-run
 returns-in_err-print_items-clause-run g c = λ input.

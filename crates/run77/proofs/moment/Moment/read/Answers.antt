@@ -11,7 +11,7 @@ use Rattle.run77.proofs.moment.Moment.read.Goals as goal
 pub returns-in_err-begin_line : goal.returns-in_err-begin_line
 returns-in_err-begin_line c = λ bytes.
     rw (residual c.from_residual.ensures.1)
-    (Runs-halted (λ limit. begins_line c.args.line) (λ limit. then (reads_items integer_bits limit (plain_items c.args.items.now) c.args.line) skips_line) c.args.input.now c.args.self.now c.begin_line.new.self bytes bytes c.in_err-begin_line.field-0.0 (c.in_err-begin_line.ensures bytes) (Stays-rest (plain_items c.args.items.now) c.args.line))
+    (Runs-halted (λ limit. begins_line c.args.line) (λ limit. then (reads_items integer_bits limit (plain_items c.args.items.now) c.args.line) skips_line) c.args.input.now c.args.self.now c.begin_line.new.self bytes bytes c.in_err-begin_line.field-0.0 (c.in_err-begin_line.ensures bytes) (Stays-rest _ (plain_items c.args.items.now) c.args.line))
 
 pub returns-in_err-read_items : goal.returns-in_err-read_items
 returns-in_err-read_items c = λ bytes.

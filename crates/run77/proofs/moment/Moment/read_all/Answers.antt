@@ -36,7 +36,7 @@ returns-in_err-read_into c = λ bytes.
     rw (residual c.from_residual.ensures.1)
     (Runs-evaluates c.args.line (all_cells c.args.name) cs (λ cs limit. for_each cs (reads_into integer_bits limit c.args.line)) c.args.input.now c.args.self.now c.read_into.new.self bytes bytes (Err (Halted c.in_err-read_into.field-0.0)) (all_here c.args.line ds c.args.self.now.storage.values.items c.args.name v c.in-Some.ensures)
     (c.loop-k.invariant.2 cs (all ∙ sym count) at bytes c.read_into.new.self (Err (Halted c.in_err-read_into.field-0.0))
-    (cells_left c.args.line cs c.loop-k.k d (omega (arith, all, count, c.loop-k-test.true)) c.args.input.now c.loop-k.self c.read_into.new.self bytes c.in_err-read_into.field-0.0 (c.in_err-read_into.ensures.read cell (ap (λ ds. place ds cell.name cell.subscripts) (same_names c.loop-k.invariant.1) ∙ at c.loop-k.k d (omega (arith, all, count, c.loop-k-test.true))) bytes))))
+    (cells_left _ c.args.line cs c.loop-k.k d (omega (arith, all, count, c.loop-k-test.true)) c.args.input.now c.loop-k.self c.read_into.new.self bytes c.in_err-read_into.field-0.0 (c.in_err-read_into.ensures.read cell (ap (λ ds. place ds cell.name cell.subscripts) (same_names c.loop-k.invariant.1) ∙ at c.loop-k.k d (omega (arith, all, count, c.loop-k-test.true))) bytes))))
 
 pub loop-k-preserved : goal.loop-k-preserved
 loop-k-preserved c = (
@@ -46,7 +46,7 @@ loop-k-preserved c = (
       let d : Cell = record { name = c.args.name; subscripts = [] } in
       let cell = get_or cs c.loop-k.k d in
       c.loop-k.invariant.2 cs n at bytes last r
-      (cells_more c.args.line cs c.loop-k.k d (omega (arith, n, c.loop-k-test.true)) c.args.input.now c.loop-k.self c.read_into.new.self bytes last r (c.in_ok-read_into.ensures.read cell (ap (λ ds. place ds cell.name cell.subscripts) (same_names c.loop-k.invariant.1) ∙ at c.loop-k.k d (omega (arith, n, c.loop-k-test.true))) bytes) h),
+      (cells_more _ c.args.line cs c.loop-k.k d (omega (arith, n, c.loop-k-test.true)) c.args.input.now c.loop-k.self c.read_into.new.self bytes last r (c.in_ok-read_into.ensures.read cell (ap (λ ds. place ds cell.name cell.subscripts) (same_names c.loop-k.invariant.1) ∙ at c.loop-k.k d (omega (arith, n, c.loop-k-test.true))) bytes) h),
 )
 
 pub returns : goal.returns
@@ -59,4 +59,4 @@ returns c = λ bytes.
     let all : length cs ≡ elements_of (bounds_here v) = cells_count ds c.args.name v c.in-Some.ensures in
     let at = λ (j : ℕ) (e : Cell) (l : j < length cs). cell_place ds c.args.name v c.in-Some.ensures j e (omega (arith, all)) in
     (Runs-evaluates c.args.line (all_cells c.args.name) cs (λ cs limit. for_each cs (reads_into integer_bits limit c.args.line)) c.args.input.now c.args.self.now c.loop-k.self bytes bytes (Ok tt) (all_here c.args.line ds c.args.self.now.storage.values.items c.args.name v c.in-Some.ensures)
-    (c.loop-k.invariant.2 cs (all ∙ sym count) at bytes c.loop-k.self (Ok tt) (cells_done c.args.line cs c.loop-k.k c.args.input.now c.loop-k.self bytes (omega (arith, all, count, c.loop-k-test.false)))))
+    (c.loop-k.invariant.2 cs (all ∙ sym count) at bytes c.loop-k.self (Ok tt) (cells_done _ c.args.line cs c.loop-k.k c.args.input.now c.loop-k.self bytes (omega (arith, all, count, c.loop-k-test.false)))))

@@ -12,15 +12,15 @@ use Rattle.run77.proofs.moment.Moment.read_cells.Goals as goal
 
 pub returns-then-is_empty : goal.returns-then-is_empty
 returns-then-is_empty c = λ bytes.
-    whole_cells c.args.item.now c.args.input.now c.args.line c.args.self.now c.read_all.new.self bytes (left_of c.read_all.result) (c.is_empty.ensures.0 c.if-is_empty.true) (c.read_all.ensures bytes)
+    whole_cells _ c.args.item.now c.args.input.now c.args.line c.args.self.now c.read_all.new.self bytes (left_of c.read_all.result) (c.is_empty.ensures.0 c.if-is_empty.true) (c.read_all.ensures bytes)
 
 pub returns-in_err-place : goal.returns-in_err-place
 returns-in_err-place c = λ bytes.
     rw (residual c.from_residual.ensures.1)
-    (element_missing c.args.item.now c.args.input.now c.args.line c.args.self.now bytes (λ e. false≢true (sym c.if-is_empty.false ∙ c.is_empty.ensures.1 e)) c.in_err-place.field-0.0
+    (element_missing _ c.args.item.now c.args.input.now c.args.line c.args.self.now bytes (λ e. false≢true (sym c.if-is_empty.false ∙ c.is_empty.ensures.1 e)) c.in_err-place.field-0.0
     (missed_cell (names_in c.args.self.now.storage) c.args.line (cell_named integer_bits (reference_of c.args.item.now) (store_in c.args.self.now.storage)) c.place.result c.in_err-place.field-0.0 c.place.ensures.found (sym c.in_err-place.was ∙ c.at.ensures)))
 
 pub returns : goal.returns
 returns c = λ bytes.
     let cell = found_cell (names_in c.args.self.now.storage) c.args.line (cell_named integer_bits (reference_of c.args.item.now) (store_in c.args.self.now.storage)) c.place.result c.in_ok-place.place c.place.ensures.found (sym c.in_ok-place.was ∙ c.at.ensures) in
-    element_read c.args.item.now c.args.input.now c.args.line c.args.self.now bytes (λ e. false≢true (sym c.if-is_empty.false ∙ c.is_empty.ensures.1 e)) cell.0 c.read_into.new.self (left_of c.read_into.result) cell.1 (c.read_into.ensures.read cell.0 cell.2 bytes)
+    element_read _ c.args.item.now c.args.input.now c.args.line c.args.self.now bytes (λ e. false≢true (sym c.if-is_empty.false ∙ c.is_empty.ensures.1 e)) cell.0 c.read_into.new.self (left_of c.read_into.result) cell.1 (c.read_into.ensures.read cell.0 cell.2 bytes)

@@ -20,7 +20,7 @@ returns-in_err-at c = λ input bytes.
     c.scalar.ensures.found (sym c.in_ok-place.was ∙ c.at.ensures) in
     rw (residual c.from_residual-in_err-at.ensures.1)
     (Runs-evaluates c.args.line (cell_at c.args.name []) cell.0 _ input c.args.self.now c.args.self.now bytes bytes _ cell.1
-    (Runs-out_of_range c.args.line (Int c.args.number) c.in_err-at.field-0.0 _ input c.args.self.now bytes
+    (Runs-out_of_range _ c.args.line (Int c.args.number) c.in_err-at.field-0.0 _ input c.args.self.now bytes
     (sym c.in_err-at.was ∙ c.at-2.ensures ∙ ap (located c.args.line) c.check_range.ensures ∙ ap (λ z. located c.args.line (checked (Int z))) (settled c.args.number (search rules)))))
 
 pub returns : goal.returns
@@ -28,7 +28,7 @@ returns c = λ input bytes.
     let cell = found_cell (names_in c.args.self.now.storage) c.args.line (cell_at c.args.name [] (store_in c.args.self.now.storage)) c.scalar.result c.in_ok-place.place
     c.scalar.ensures.found (sym c.in_ok-place.was ∙ c.at.ensures) in
     Runs-evaluates c.args.line (cell_at c.args.name []) cell.0 _ input c.args.self.now _ bytes bytes _ cell.1
-    (Runs-in_range c.args.line (Int c.args.number) _ input c.args.self.now _ bytes bytes _ c.in_ok-at.field-0
+    (Runs-in_range _ c.args.line (Int c.args.number) _ input c.args.self.now _ bytes bytes _ c.in_ok-at.field-0
     (sym c.in_ok-at.was ∙ c.at-2.ensures ∙ ap (located c.args.line) c.check_range.ensures ∙ ap (λ z. located c.args.line (checked (Int z))) (settled c.args.number (search rules)))
     (Runs-stores cell.0 (Int c.args.number) c.in_ok-place.place input c.args.self.now _ bytes cell.2
     (let within = within_located c.args.line _ c.in_ok-place.place c.scalar.result c.scalar.ensures.within (sym c.in_ok-place.was ∙ c.at.ensures) in omega (arith, c.args.self.now.storage.values.ok.0))

@@ -13,24 +13,24 @@ use Rattle.run77.proofs.moment.Moment.store.Goals as goal
 pub returns-in_err-at-clause-stored : goal.returns-in_err-at-clause-stored
 returns-in_err-at-clause-stored c = λ cell p input bytes.
     rw (residual c.from_residual.ensures.1)
-    (Runs-out_of_range c.args.line c.args.value c.in_err-at.field-0.0 (λ limit. counts_step integer_bits limit (stores cell c.args.value)) input c.args.self.now bytes
+    (Runs-out_of_range _ c.args.line c.args.value c.in_err-at.field-0.0 (λ limit. counts_step integer_bits limit (stores cell c.args.value)) input c.args.self.now bytes
     (sym c.in_err-at.was ∙ c.at.ensures ∙ ap (located c.args.line) c.check_range.ensures))
 
 pub returns-in_err-count_step-clause-stored : goal.returns-in_err-count_step-clause-stored
 returns-in_err-count_step-clause-stored c = λ cell p input bytes.
     rw (residual c.from_residual-in_err-count_step.ensures.1)
-    (Runs-in_range c.args.line c.args.value (λ limit. counts_step integer_bits limit (stores cell c.args.value)) input c.args.self.now c.count_step.new.self bytes bytes (Err (Halted c.in_err-count_step.field-0.0)) _
+    (Runs-in_range _ c.args.line c.args.value (λ limit. counts_step integer_bits limit (stores cell c.args.value)) input c.args.self.now c.count_step.new.self bytes bytes (Err (Halted c.in_err-count_step.field-0.0)) _
     (sym c.in_ok-at.was ∙ c.at.ensures ∙ ap (located c.args.line) c.check_range.ensures)
-    (Runs-cut (λ limit. stores cell c.args.value) input c.args.self.now c.count_step.new.self bytes c.in_err-count_step.field-0.0 c.in_err-count_step.ensures.counted))
+    (Runs-cut _ (λ limit. stores cell c.args.value) input c.args.self.now c.count_step.new.self bytes c.in_err-count_step.field-0.0 c.in_err-count_step.ensures.counted))
 
 pub put-requires : goal.put-requires
 put-requires c = rw c.count_step.ensures.storage c.requires
 
 pub returns-clause-stored : goal.returns-clause-stored
 returns-clause-stored c = λ cell p input bytes.
-    Runs-in_range c.args.line c.args.value (λ limit. counts_step integer_bits limit (stores cell c.args.value)) input c.args.self.now _ bytes bytes (Ok tt) _
+    Runs-in_range _ c.args.line c.args.value (λ limit. counts_step integer_bits limit (stores cell c.args.value)) input c.args.self.now _ bytes bytes (Ok tt) _
     (sym c.in_ok-at.was ∙ c.at.ensures ∙ ap (located c.args.line) c.check_range.ensures)
-    (Runs-counts_step (λ limit. stores cell c.args.value) input c.args.self.now c.count_step.new.self _ bytes bytes (Ok tt) c.in_ok-count_step.ensures.counted
+    (Runs-counts_step _ (λ limit. stores cell c.args.value) input c.args.self.now c.count_step.new.self _ bytes bytes (Ok tt) c.in_ok-count_step.ensures.counted
     (Runs-stores cell c.args.value c.args.place input c.count_step.new.self _ bytes
     (ap (λ (s : Storage). place (names_in s) cell.name cell.subscripts) c.count_step.ensures.storage ∙ p) (rw c.count_step.ensures.storage (omega (arith, c.args.self.now.storage.values.ok.0, c.requires)))
     c.put.ensures.names c.put.ensures.values refl refl refl))
