@@ -52,6 +52,26 @@ pub one_call : (f : Fun) (es : Seq Expr) → IsOneValue (expression_of (exprs.Ca
 unfolding IsOneValue
 one_call f es s = subst (λ e. item_values fortran77 e s ≡ one_value (value_of fortran77 e s)) (sym (expression_of-call f es)) refl
 
+pub one_list : (es : Seq Expr) (ls : Seq Turn) → IsOneValue (expression_of (exprs.List es ls))
+unfolding IsOneValue
+one_list es ls s = subst (λ e. item_values fortran77 e s ≡ one_value (value_of fortran77 e s)) (sym (expression_of-list es ls)) refl
+
+pub one_spread : (a : Box Expr Global) (d : ℕ) (n : Box Expr Global) → IsOneValue (expression_of (exprs.Spread a d n))
+unfolding IsOneValue
+one_spread a d n s = subst (λ e. item_values fortran77 e s ≡ one_value (value_of fortran77 e s)) (sym (expression_of-spread a d n)) refl
+
+pub one_transpose : (a : Box Expr Global) → IsOneValue (expression_of (exprs.Transpose a))
+unfolding IsOneValue
+one_transpose a s = subst (λ e. item_values fortran77 e s ≡ one_value (value_of fortran77 e s)) (sym (expression_of-transpose a)) refl
+
+pub one_reshape : (a : Box Expr Global) (es : Seq Expr) → IsOneValue (expression_of (exprs.Reshape a es))
+unfolding IsOneValue
+one_reshape a es s = subst (λ e. item_values fortran77 e s ≡ one_value (value_of fortran77 e s)) (sym (expression_of-reshape a es)) refl
+
+pub one_reduce : (r : Red) (a : Box Expr Global) → IsOneValue (expression_of (exprs.Reduce r a))
+unfolding IsOneValue
+one_reduce r a s = subst (λ e. item_values fortran77 e s ≡ one_value (value_of fortran77 e s)) (sym (expression_of-reduce r a)) refl
+
 element_value : (x : List ℕ) (p : P.Subscript) (ps : P.Subscripts) (s : Store) (q : Result (List ℤ) Fault)
     → ◌≡◌ {A = Result (List Value) Fault} (do cs ← (do is ← q; c ← cell_at x is s; Ok (c ∷ [])); Ok (map s.held cs)) (one_value (do is ← q; c ← cell_at x is s; Ok (s.held c)))
 element_value x p ps s (Err f) = refl
@@ -106,5 +126,5 @@ pub one_ok : (line : ℕ) (q : Result Value Fault) (v : Value) → Ok v ≡ loca
 one_ok line (Ok u) v e = (let same : v ≡ u = cc in ap (λ (v : Value). let r : Result (List Value) Halt = Ok (v ∷ []) in r) same)
 one_ok line (Err f) v e = cc
 
-pub ruleset item_laws = (one_int, one_truth, one_un, one_bin, one_call, one_element, whole_item)
+pub ruleset item_laws = (one_int, one_truth, one_un, one_bin, one_call, one_list, one_spread, one_transpose, one_reshape, one_reduce, one_element, whole_item)
 

@@ -18,17 +18,19 @@ use Rattle.fv_tree.specs.Plain as P
 use Rattle.fv_tree.specs.View.{expression_of, subscript_of, reference_of}
 use Rattle.fv_tree.specs.declared.ops.Op.{Op}
 use Rattle.fv_tree.specs.declared.ops.Fun.{Fun}
+use Rattle.fv_tree.specs.declared.ops.Red.{Red}
+use Rattle.fv_tree.specs.declared.exprs.Turn.{Turn}
 use Rattle.fv_tree.specs.declared.ops.Value.{Value}
 use Rattle.fv_tree.specs.declared.ops.Value.TheVariants.{Int, Truth}
 use Rattle.fv_tree.specs.declared.ops.Fault.{Fault}
-use Rattle.fv_tree.specs.declared.ops.Fault.TheVariants.{Bounds, Allocated}
+use Rattle.fv_tree.specs.declared.ops.Fault.TheVariants.{Bounds, Allocated, Shape}
 use Rattle.fv_tree.specs.declared.lists.Seq.{Seq}
 use Rattle.fv_tree.specs.declared.exprs.Expr.{Expr}
 use Rattle.fv_tree.specs.declared.exprs.Expr.TheVariants as exprs
 use Rattle.fv_tree.specs.declared.exprs.Sub.{Sub}
 use Rattle.fv_tree.specs.declared.exprs.Sub.TheVariants as subs
 use Rattle.fv_tree.specs.declared.exprs.Ref.{Ref, out-Ref}
-use Rattle.fv_tree.proofs.Equations.{expression_of-int, expression_of-truth, expression_of-item, expression_of-un, expression_of-bin, expression_of-call, subscript_of-one, reference_of-is}
+use Rattle.fv_tree.proofs.Equations.{expression_of-int, expression_of-truth, expression_of-item, expression_of-un, expression_of-bin, expression_of-call, expression_of-list, expression_of-spread, expression_of-transpose, expression_of-reshape, expression_of-reduce, subscript_of-one, subscript_of-part, reference_of-is}
 use Rattle.fv_meaning.specs.Store.{Store, Cell, cell_at, cell_in, is_within, opening_bounds, opening_value, size_of}
 use Rattle.fv_meaning.specs.Dialect.{fortran77}
 use Rattle.fv_meaning.specs.Value.{value_of, values_of, subscript_value, subscript_values, cell_named}
@@ -85,7 +87,31 @@ pub subscript_fault_is : (e : Expr) (s : Store) (f : Fault) → Err f ≡ value_
     → subscript_value fortran77 (subscript_of (subs.One e)) s ≡ Err f
 subscript_fault_is e s f h = ap (λ p. subscript_value fortran77 p s) (subscript_of-one e) ∙ ap (λ (r : Result Value Fault). do x ← r; as_number x) (sym h)
 
-pub ruleset value_laws = (int_value, truth_value, un_value, un_fault, bin_value, bin_first_fault, bin_second_fault, call_value, subscript_value_is, subscript_fault_is)
+pub part_fault_is : (a b c : Expr) (s : Store) → subscript_value fortran77 (subscript_of (subs.Part a b c)) s ≡ Err Shape
+part_fault_is a b c s = ap (λ p. subscript_value fortran77 p s) (subscript_of-part a b c)
+
+-- ---- arrays are no values
+
+pub list_value : (es : Seq Expr) (ls : Seq Turn) (s : Store) → value_of fortran77 (expression_of (exprs.List es ls)) s ≡ Err Shape
+list_value es ls s = ap (λ e. value_of fortran77 e s) (expression_of-list es ls)
+
+pub spread_value : (a : Box Expr Global) (d : ℕ) (n : Box Expr Global) (s : Store)
+    → value_of fortran77 (expression_of (exprs.Spread a d n)) s ≡ Err Shape
+spread_value a d n s = ap (λ e. value_of fortran77 e s) (expression_of-spread a d n)
+
+pub transpose_value : (a : Box Expr Global) (s : Store) → value_of fortran77 (expression_of (exprs.Transpose a)) s ≡ Err Shape
+transpose_value a s = ap (λ e. value_of fortran77 e s) (expression_of-transpose a)
+
+pub reshape_value : (a : Box Expr Global) (es : Seq Expr) (s : Store)
+    → value_of fortran77 (expression_of (exprs.Reshape a es)) s ≡ Err Shape
+reshape_value a es s = ap (λ e. value_of fortran77 e s) (expression_of-reshape a es)
+
+pub reduce_value : (r : Red) (a : Box Expr Global) (s : Store) → value_of fortran77 (expression_of (exprs.Reduce r a)) s ≡ Err Shape
+reduce_value r a s = ap (λ e. value_of fortran77 e s) (expression_of-reduce r a)
+
+pub ruleset array_laws = (list_value, spread_value, transpose_value, reshape_value, reduce_value)
+
+pub ruleset value_laws = (int_value, truth_value, un_value, un_fault, bin_value, bin_first_fault, bin_second_fault, call_value, subscript_value_is, subscript_fault_is, part_fault_is)
 
 -- a place that was found for subscripts
 pub offset_found : (bs : List (ℤ × ℤ)) (ps : P.Subscripts) (s : Store) (k : ℕ) → Ok (Some k) ≡ offset_of fortran77 bs ps s → k < elements_of bs
@@ -159,12 +185,10 @@ pub place_within : (ds : List P.Declaration) (vs : List Value) (ps : P.Subscript
     → Ok (Some k) ≡ offset_of fortran77 (bounds_here v) ps (store_of ds vs) → v.start + k < total ds
 place_within ds vs ps x v k h e = let below = offset_found (bounds_here v) ps (store_of ds vs) k e in omega (arith, h.fits)
 
-finds_value : (ds : List P.Declaration) (vs : List Value) (q : Result Cell Fault) (k : ℕ) (x : Value) → Finds ds q (Ok k) → k < length vs → x ≡ get_or vs k x
-    → ◌≡◌ {A = Result Value Fault} (do c ← q; Ok ((store_of ds vs).held c)) (Ok x)
-finds_value ds vs (Ok c) k x h l e =
-    ap (λ (v : Value). let r : Result Value Fault = Ok v in r)
-    (store-held ds vs c ∙ ap (value_at vs (opening_value ds c.name)) h ∙ sym (get_or_read vs k x l e (opening_value ds c.name)))
-finds_value ds vs (Err f) k x h l e = absurd h
+finds_value : (ds : List P.Declaration) (s : Store) (q : Result Cell Fault) (k : ℕ) (x : Value) → Finds ds q (Ok k)
+    → ((c : Cell) → place ds c.name c.subscripts ≡ Some k → s.held c ≡ x) → ◌≡◌ {A = Result Value Fault} (do c ← q; Ok (s.held c)) (Ok x)
+finds_value ds s (Ok c) k x h e = ap (λ (v : Value). let r : Result Value Fault = Ok v in r) (e c h)
+finds_value ds s (Err f) k x h e = absurd h
 
 finds_fault : (ds : List P.Declaration) (vs : List Value) (q : Result Cell Fault) (f : Fault) → Finds ds q (Err f) → ◌≡◌ {A = Result Value Fault} (do c ← q; Ok ((store_of ds vs).held c)) (Err f)
 finds_fault ds vs (Ok c) f h = absurd h
@@ -177,11 +201,11 @@ named_is r s = by (subscript_values fortran77 r.subscripts s)
     by (Ok is) = refl
     by (Err f) = refl
 
-pub item_value : (ds : List P.Declaration) (vs : List Value) (r : Ref) (k : ℕ) (x : Value) → Finds ds (cell_named fortran77 (reference_of r) (store_of ds vs)) (Ok k) → k < length vs → x ≡ get_or vs k x
-    → value_of fortran77 (expression_of (exprs.Item r)) (store_of ds vs) ≡ Ok x
-item_value ds vs r k x h l e =
-    ap (λ e. value_of fortran77 e (store_of ds vs)) (expression_of-item r)
-    ∙ named_is (reference_of r) (store_of ds vs) ∙ finds_value ds vs (cell_named fortran77 (reference_of r) (store_of ds vs)) k x h l e
+pub item_value : (ds : List P.Declaration) (s : Store) (r : Ref) (k : ℕ) (x : Value) → Finds ds (cell_named fortran77 (reference_of r) s) (Ok k)
+    → ((c : Cell) → place ds c.name c.subscripts ≡ Some k → s.held c ≡ x) → value_of fortran77 (expression_of (exprs.Item r)) s ≡ Ok x
+item_value ds s r k x h e =
+    ap (λ e. value_of fortran77 e s) (expression_of-item r)
+    ∙ named_is (reference_of r) s ∙ finds_value ds s (cell_named fortran77 (reference_of r) s) k x h e
 
 pub item_fault : (ds : List P.Declaration) (vs : List Value) (r : Ref) (f : Fault) → Finds ds (cell_named fortran77 (reference_of r) (store_of ds vs)) (Err f)
     → value_of fortran77 (expression_of (exprs.Item r)) (store_of ds vs) ≡ Err f
