@@ -4,5 +4,4 @@ pub mod NarrowLaws
 pub mod PartLaws
 pub mod SizeLaws
 pub mod StoreLaws
-pub mod Unsuited
 pub mod ValueLaws

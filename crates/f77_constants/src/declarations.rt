@@ -18,7 +18,7 @@ ghost use Rattle.f77_constants.specs.Declarations.{narrow_declarations, dimensio
 use crate::constants::Constants;
 use crate::parts::entities;
 use f77_names::{Facts, Names, Use, names_of, uses_in_text};
-use fv_tree::{Decl, Dim, Expr, Fault, Form, Kind, Memory, Name, Seq};
+use fv_tree::{Decl, Dim, Expr, Extent, Fault, Kind, Memory, Name, Seq};
 use f77_syntax::{Entity, Labelled};
 use std::alloc::Global;
 
@@ -145,12 +145,12 @@ impl Constants {
         Ok(dims)
     }
 
-    fn form(&self, alloc: Global, bounds: &[(Expr, Expr)]) -> Result<Form, Memory>
-        ensures { IfOk result (λ form. view.extent_of form ≡ Given (map narrow (dimensions (store_of self.now) (map bounds_of bounds.now)))) }
+    fn extent(&self, alloc: Global, bounds: &[(Expr, Expr)]) -> Result<Extent, Memory>
+        ensures { IfOk result (λ extent. view.extent_of extent ≡ Given (map narrow (dimensions (store_of self.now) (map bounds_of bounds.now)))) }
     {
         match bounds {
-            [] => Ok(Form::Scalar),
-            [..] => Ok(Form::Fixed(self.dims(alloc, bounds)?)),
+            [] => Ok(Extent::Scalar),
+            [..] => Ok(Extent::Fixed(self.dims(alloc, bounds)?)),
         }
     }
 
@@ -163,9 +163,9 @@ impl Constants {
     ) -> Result<Decl, Memory>
         ensures { (us : List Use') → AreFacts names.now us → IfOk result (λ declaration. view.declaration_of declaration ≡ narrow_declaration (tree.declaration_of us (store_of self.now) (text_of text.now) name)) }
     {
-        let form = self.form(alloc, bounds_of_name(text, name))?;
+        let extent = self.extent(alloc, bounds_of_name(text, name))?;
         let kind = kind_of(names, name);
-        Ok(Decl { name, kind, form })
+        Ok(Decl { name, kind, extent })
     }
 
     fn declare(

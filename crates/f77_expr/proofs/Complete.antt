@@ -7,7 +7,7 @@ use Rattle.fv_tree.specs.declared.ops.Op.TheVariants.{Pow}
 use Rattle.fv_tree.specs.Plain.{Expression, Subscript, Only}
 use Rattle.f77_grammar.specs.expressions.Words.{Word}
 use Rattle.f77_grammar.specs.expressions.Words as words
-use Rattle.f77_grammar.specs.expressions.Levels.{Sign, Plus, Minus, Negation, level_of, left_least, right_least, joins, sign_level}
+use Rattle.fv_tree.specs.OperatorTable.{Sign, Plus, Minus, Negation, level_of, left_least, right_least, stands_between, sign_level}
 use Rattle.f77_grammar.specs.expressions.Phrases.{Phrase, Phrases, level, depth, depths, tree, trees, begins_with_sign, written, written_list, IsExpression, sign_word, Literal, WideLiteral, Truth, Name, Listed, Paren, Signed, Joined, One, Then}
 use Rattle.f77_expr.proofs.Placing.{IsGrouped, AreGrouped, is_placed, are_placed, is_grouped, signs_placed}
 use Rattle.f77_expr.specs.Reading.{Ends}
@@ -18,7 +18,7 @@ operand_of p = record { level = level p; depth = min (depth p) 401; begins_with_
 
 -- what follows doesn't go on where an begin of this level stands
 abbrev pub Follows : ℕ → List Word → Type 0
-Follows n (words.Operator o ∷ ts) = IsTrue (joins o) → left_least o ≤ n
+Follows n (words.Operator o ∷ ts) = IsTrue (stands_between o) → left_least o ≤ n
 Follows n ts = Unit {0}
 
 level_least : (p : Op) → level_of p ≤ left_least p
@@ -46,7 +46,7 @@ stays n (f ∷ fs) m h = grind (arith, nat_tests)
 pub closes : (n : ℕ) (f : Frame) (fs : List Frame) (m : Operand) → n < frame_least f → close n (f ∷ fs) m ≡ close n fs (into f m)
 closes n f fs m h = grind (arith, nat_tests)
 
-pub joins_on : (o : Op) (fs : List Frame) (a : Operand) → IsTrue (joins o) → least fs ≤ level_of o → left_least o ≤ a.level
+pub joins_on : (o : Op) (fs : List Frame) (a : Operand) → IsTrue (stands_between o) → least fs ≤ level_of o → left_least o ≤ a.level
     → go_on fs a (words.Operator o) ≡ Go (Wants (After o a ∷ fs))
 joins_on o fs a j l h = rw (stays (level_of o) fs a l) (grind (arith, nat_tests))
 
@@ -54,7 +54,7 @@ told : (b : Bool) → (IsTrue b) ⊎ (b ≡ false)
 told true = inl refl
 told false = inr refl
 
-joins_not : (p : Op) (h g : Held) → joins p ≡ false → join p h ≡ join p g
+joins_not : (p : Op) (h g : Held) → stands_between p ≡ false → join p h ≡ join p g
 joins_not p h g e = simp e
 
 -- An begin in a sign's or go_on's frame is applied by what follows, where that doesn't take it.
@@ -62,7 +62,7 @@ pub ends : (n : ℕ) (f : Frame) (fs : List Frame) (b : Operand) (r : List Word)
     → ((p : Op) → left_least p ≤ n → level_of p < frame_least f) → run r (Has (f ∷ fs) b) ≡ run r (Has fs (into f b))
 ends n f fs b [] h z a = rw (closes 0 f fs b z) refl
 ends n f fs b (words.Operator p ∷ r) h z a = ap (λ (s : Step). went s (words.Operator p) r (run r))
-    (elim (told (joins p)) [ inl j ↦ ap (join p) (closes (level_of p) f fs b (a p (h j))) | inr e ↦ joins_not p _ _ e ])
+    (elim (told (stands_between p)) [ inl j ↦ ap (join p) (closes (level_of p) f fs b (a p (h j))) | inr e ↦ joins_not p _ _ e ])
 ends n f fs b (words.Close ∷ r) h z a = rw (closes 0 f fs b z) refl
 ends n f fs b (words.Comma ∷ r) h z a = rw (closes 0 f fs b z) refl
 ends n f fs b (words.Equals ∷ r) h z a = rw (closes 0 f fs b z) refl

@@ -8,7 +8,7 @@ use Rattle.fv_tree.specs.declared.ops.Op.TheVariants.{Pow, Mul, Neg}
 use Rattle.f77_grammar.specs.expressions.Squeezing.{Symbol, Char, Text, Broken}
 use Rattle.f77_grammar.specs.expressions.Words.{Word, Number, Wide, Truth, Name, Head, Operator, Constant}
 use Rattle.f77_grammar.specs.expressions.Spelling.{is_digit, is_letter, is_letter_or_digit, Pass, Stops, value, IsDigits, IsName, Spelled, chars, SpelledBy, goes_on, Whole, Begins}
-use Rattle.f77_expr.specs.Lexing.{Run, longer, run_of, Front, some, literal, named, named_by, word_by, name, strip, or_else, first_of, marks, dotted, either, word}
+use Rattle.f77_expr.specs.Lexing.{Run, longer, run_of, Front, some, literal, named, named_by, word_by, name, strip, or_else, first_of, operators, marks, either, word}
 
 whole_run : (p : ℕ → Bool) (a : List ℕ) (r : List Symbol) → Pass p a → Stops p r → run_of p (chars a ++ r) ≡ record { front = a; rest = r }
 whole_run p [] [] h s = refl
@@ -171,11 +171,11 @@ abbrev AreFixed : List (List ℕ × Word) → Type 0
 AreFixed [] = Unit {0}
 AreFixed (w ∷ ws) = Spelled w.1 w.0 × IsFixed w.1 × AreFixed ws
 
-marks_fixed : AreFixed marks
-marks_fixed = (refl, tt, (refl, tt, (refl, tt, (refl, tt, (refl, tt, (refl, tt, (refl, tt, (refl, tt, (refl, tt, (refl, tt, tt))))))))))
+operators_fixed : AreFixed operators
+operators_fixed = (refl, tt, (refl, tt, (refl, tt, (refl, tt, (refl, tt, (refl, tt, (refl, tt, (refl, tt, (refl, tt, (refl, tt, (refl, tt, (refl, tt, (refl, tt, (refl, tt, (refl, tt, (refl, tt, tt))))))))))))))))
 
-dotted_fixed : AreFixed dotted
-dotted_fixed = (refl, tt, (refl, tt, (refl, tt, (refl, tt, (refl, tt, (refl, tt, (refl, tt, (refl, tt, (refl, tt, (refl, tt, (refl, tt, (refl, tt, (refl, tt, tt)))))))))))))
+marks_fixed : AreFixed marks
+marks_fixed = (refl, tt, (refl, tt, (refl, tt, (refl, tt, (refl, tt, (refl, tt, (refl, tt, tt)))))))
 
 strip_same : (w : List ℕ) (text rest : List Symbol) → strip w text ≡ Some rest → text ≡ chars w ++ rest
 strip_same [] text rest e = cc
@@ -239,7 +239,7 @@ word_by_is : (d l : Bool) (c : ℕ) (ss : List Symbol) (w : Front) → is_digit 
 word_by_is true l c ss w d k e = literal_word c ss w d e
 word_by_is false true c ss w d k e = name_word c ss w k e
 word_by_is false false c ss w d k e =
-    let f = either_word (first_of marks (Char c ∷ ss)) (first_of dotted (Char c ∷ ss)) (Char c ∷ ss) w (first_word marks _ w marks_fixed) (first_word dotted _ w dotted_fixed) e in
+    let f = either_word (first_of operators (Char c ∷ ss)) (first_of marks (Char c ∷ ss)) (Char c ∷ ss) w (first_word operators _ w operators_fixed) (first_word marks _ w marks_fixed) e in
     let n : word (Char c ∷ ss) ≡ Some w = ap (λ (b : Bool). word_by b (is_letter c) (Char c ∷ ss)) d ∙ (ap (λ (b : Bool). word_by false b (Char c ∷ ss)) k ∙ e) in
     record { front = chars f.front; same = f.same; spelled = by_chars w.word f.front f.spelled; whole = fixed_whole w.word f.front w.rest (Char c ∷ ss) f.is_fixed f.spelled f.same n }
 

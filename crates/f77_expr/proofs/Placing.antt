@@ -2,7 +2,7 @@
 use Rattle.std.proofs.Common.{◌≤◌, ◌+◌, Bool, true, IsTrue, refl}
 use Rattle.std.specs.Prelude.{◌&&◌}
 use Rattle.std.proofs.lemmas.Bool.{and_parts, and_from}
-use Rattle.f77_grammar.specs.expressions.Levels.{left_least, right_least, joins, may_follow, sign_level}
+use Rattle.fv_tree.specs.OperatorTable.{left_least, right_least, stands_between, may_follow, sign_level}
 use Rattle.f77_grammar.specs.expressions.Phrases.{Phrase, Phrases, level, begins_with_sign, IsExpression, AreExpressions, sign_word, Literal, WideLiteral, Truth, Name, Listed, Paren, Signed, Joined, One, Then}
 
 -- each operand binds tightly enough for its operator or sign
@@ -15,7 +15,7 @@ abbrev mutual
   IsGrouped (Listed x ps) = AreGrouped ps
   IsGrouped (Paren p) = IsGrouped p
   IsGrouped (Signed s p) = (sign_level s + 1 ≤ level p) × IsGrouped p
-  IsGrouped (Joined o a b) = IsTrue (joins o) × (left_least o ≤ level a) × (right_least o ≤ level b) × IsGrouped a × IsGrouped b
+  IsGrouped (Joined o a b) = IsTrue (stands_between o) × (left_least o ≤ level a) × (right_least o ≤ level b) × IsGrouped a × IsGrouped b
 
   pub AreGrouped : Phrases → Type 0
   AreGrouped (One p) = IsGrouped p

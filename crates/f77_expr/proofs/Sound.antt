@@ -7,7 +7,7 @@ use Rattle.fv_tree.specs.declared.ops.Op.TheVariants.{Pow, Add, Sub, Not}
 use Rattle.fv_tree.specs.Plain.{Subscript, Only}
 use Rattle.f77_grammar.specs.expressions.Words.{Word}
 use Rattle.f77_grammar.specs.expressions.Words as words
-use Rattle.f77_grammar.specs.expressions.Levels.{Sign, Plus, Minus, Negation, level_of, left_least, right_least, joins, sign_level}
+use Rattle.fv_tree.specs.OperatorTable.{Sign, Plus, Minus, Negation, level_of, left_least, right_least, stands_between, sign_level}
 use Rattle.f77_grammar.specs.expressions.Phrases.{Phrase, Phrases, level, depths, tree, trees, written, written_list, IsExpression, sign_word, Literal, WideLiteral, Truth, Name, Listed, Paren, Signed, Joined, One, Then}
 use Rattle.f77_expr.proofs.Placing.{IsGrouped, AreGrouped, are_placed, is_placed, is_expression}
 use Rattle.f77_expr.specs.Reader.{Operand, Frame, State, Wants, Has, Step, Go, Stop, Fail, Read, run, step, went, begin, go_on, begin_sign, sign_of, close, least, join, shut, part, halt, Before, After, Within, Among, Held, into, stopped, checked, placed_alone, read}
@@ -19,7 +19,7 @@ data Stands : List Frame → List Word → Type 0 where
   before : (s : Sign) (fs : List Frame) (text : List Word) → Stands fs text → least fs ≤ sign_level s
       → Stands (Before s ∷ fs) (text ++ words.Operator (sign_word s) ∷ [])
   after : (o : Op) (m : Operand) (a : Phrase) (fs : List Frame) (text : List Word) → Stands fs text → least fs ≤ level_of o
-      → IsTrue (joins o) → left_least o ≤ level a → IsGrouped a → m ≡ operand_of a
+      → IsTrue (stands_between o) → left_least o ≤ level a → IsGrouped a → m ≡ operand_of a
       → Stands (After o m ∷ fs) ((text ++ written a) ++ words.Operator o ∷ [])
   within : (fs : List Frame) (text : List Word) → Stands fs text → Stands (Within ∷ fs) (text ++ words.Open ∷ [])
   first : (x : List ℕ) (fs : List Frame) (text : List Word) → Stands fs text → Stands (Among x [] 0 true ∷ fs) (text ++ words.Head x ∷ [])
@@ -121,8 +121,8 @@ begin_step t fs text h = tt
 join_step : (o : Op) (h : Held) (text : List Word) → Applied (level_of o) h text → StepStands (join o h) (words.Operator o) text
 join_step o h text a =
     let d = a.place in
-    cond_both (joins o && nat_le (left_least o) h.operand.level) _ _ (λ q. StepStands q (words.Operator o) text)
-    (λ e. let both = and_parts (joins o) (nat_le (left_least o) h.operand.level) e in
+    cond_both (stands_between o && nat_le (left_least o) h.operand.level) _ _ (λ q. StepStands q (words.Operator o) text)
+    (λ e. let both = and_parts (stands_between o) (nat_le (left_least o) h.operand.level) e in
     let fits : left_least o ≤ level d.phrase = omega (arith, leb-true _ _ both.1, ap (λ (q : Operand). q.level) d.operand_is) in
     subst (λ (q : List Word). Stands (After o h.operand ∷ h.frames) (q ++ words.Operator o ∷ [])) d.text_is
     (after o h.operand d.phrase h.frames d.front d.stands a.loose both.0 fits d.good d.operand_is))

@@ -1,6 +1,8 @@
 -- The word at the front of a text, found symbol by symbol.
 use Rattle.std.specs.Prelude.{ℕ, ◌^◌, pos, Bool, true, false, nat_lt, ◌==◌, List, [], ◌∷◌, length, codes, Option, Some}
 use Rattle.std.specs.Prelude.{None, if◌then◌else◌}
+use Rattle.fv_tree.specs.OperatorTable.{spelling77_of}
+use Rattle.fv_tree.specs.declared.ops.Op.{Op}
 use Rattle.fv_tree.specs.declared.ops.Op.TheVariants.{Pow, Mul, Div, Add, Sub, Lt, Le, Eq, Ne, Gt, Ge, Not, And, Or}
 use Rattle.fv_tree.specs.declared.ops.Op.TheVariants.{Eqv, Neqv}
 use Rattle.f77_grammar.specs.expressions.Squeezing.{Symbol, Char, Text, Broken}
@@ -59,13 +61,20 @@ abbrev pub first_of : List (List ℕ × Word) → List Symbol → Option Front
 first_of [] text = None
 first_of (w ∷ ws) text = or_else (strip w.0 text) w.1 (first_of ws text)
 
-abbrev pub marks : List (List ℕ × Word)
-marks = (codes "**", Operator Pow) ∷ (codes "*", Operator Mul) ∷ (codes "/", Operator Div) ∷ (codes "+", Operator Add) ∷ (codes "-", Operator Sub)
-    ∷ (codes "(", Open) ∷ (codes ")", Close) ∷ (codes ",", Comma) ∷ (codes "=", Equals) ∷ (codes ":", Colon) ∷ []
+-- as FORTRAN 77 spells them
+abbrev pub operator_words : List Op → List (List ℕ × Word)
+operator_words [] = []
+operator_words (o ∷ os) = (spelling77_of o, Operator o) ∷ operator_words os
 
-abbrev pub dotted : List (List ℕ × Word)
-dotted = (codes ".LT.", Operator Lt) ∷ (codes ".LE.", Operator Le) ∷ (codes ".EQ.", Operator Eq) ∷ (codes ".NE.", Operator Ne) ∷ (codes ".GT.", Operator Gt) ∷ (codes ".GE.", Operator Ge)
-    ∷ (codes ".NOT.", Operator Not) ∷ (codes ".AND.", Operator And) ∷ (codes ".OR.", Operator Or) ∷ (codes ".EQV.", Operator Eqv) ∷ (codes ".NEQV.", Operator Neqv)
+-- a minus sign is Sub
+abbrev pub operators : List (List ℕ × Word)
+operators =
+    operator_words
+    (Pow ∷ Mul ∷ Div ∷ Add ∷ Sub ∷ Lt ∷ Le ∷ Eq ∷ Ne ∷ Gt ∷ Ge ∷ Not ∷ And ∷ Or ∷ Eqv ∷ Neqv ∷ [])
+
+abbrev pub marks : List (List ℕ × Word)
+marks =
+    (codes "(", Open) ∷ (codes ")", Close) ∷ (codes ",", Comma) ∷ (codes "=", Equals) ∷ (codes ":", Colon)
     ∷ (codes ".TRUE.", Truth true) ∷ (codes ".FALSE.", Truth false) ∷ []
 
 abbrev pub either : Option Front → Option Front → Option Front
@@ -76,7 +85,7 @@ either None next = next
 abbrev pub word_by : Bool → Bool → List Symbol → Option Front
 word_by true l text = literal (run_of is_digit text)
 word_by false true text = name (run_of is_letter_or_digit text)
-word_by false false text = either (first_of marks text) (first_of dotted text)
+word_by false false text = either (first_of operators text) (first_of marks text)
 
 abbrev pub word : List Symbol → Option Front
 word [] = None

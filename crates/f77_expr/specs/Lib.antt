@@ -5,5 +5,6 @@ pub mod Reader
 pub mod Reading
 pub mod Scanning
 pub mod Symbols
+pub mod TokenFronts
 pub mod Tokens
 pub mod Views

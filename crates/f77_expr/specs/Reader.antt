@@ -6,8 +6,8 @@ use Rattle.fv_tree.specs.declared.ops.Op.TheVariants.{Add, Sub, Not}
 use Rattle.fv_tree.specs.Plain.{Expression, Number, Logic, Named, Binary, Subscript, Only, subscripts, no_subscripts}
 use Rattle.f77_grammar.specs.expressions.Words as words
 use Rattle.f77_grammar.specs.expressions.Words.{Word}
-use Rattle.f77_grammar.specs.expressions.Levels.{Sign, Plus, Minus, Negation, level_of, left_least, right_least, joins}
-use Rattle.f77_grammar.specs.expressions.Levels.{compares, may_follow, sign_level}
+use Rattle.fv_tree.specs.OperatorTable.{Sign, Plus, Minus, Negation, level_of, left_least, right_least, stands_between}
+use Rattle.fv_tree.specs.OperatorTable.{is_relation, may_follow, sign_level}
 use Rattle.f77_grammar.specs.expressions.Phrases.{signed, sign_word}
 
 -- what is kept of an operand; `placed` is that each plus or minus sign in it stands where one may
@@ -46,7 +46,7 @@ abbrev pub joined_operand : Op → Operand → Operand → Operand
 joined_operand o a b = record {
   level = level_of o;
   depth = deeper (max a.depth b.depth);
-  begins_with_sign = if compares o then false else a.begins_with_sign;
+  begins_with_sign = if is_relation o then false else a.begins_with_sign;
   placed = (a.placed && b.placed) && may_follow o b.begins_with_sign;
   tree = Binary o a.tree b.tree;
 }
@@ -122,7 +122,7 @@ begin fs words.Open = Go (Wants (Within ∷ fs))
 begin fs w = Fail
 
 abbrev pub join : Op → Held → Step
-join o h = if joins o && nat_le (left_least o) h.operand.level then Go (Wants (After o h.operand ∷ h.frames)) else Fail
+join o h = if stands_between o && nat_le (left_least o) h.operand.level then Go (Wants (After o h.operand ∷ h.frames)) else Fail
 
 abbrev pub shut : List Frame → Operand → Step
 shut [] m = Stop m

@@ -16,7 +16,7 @@ use crate::operands::Operand;
 use crate::reader::read;
 use crate::symbols::squeeze;
 use crate::tokens::{Stop, Token};
-use fv_tree::{Expr, Memory};
+use fv_tree::{EXPRESSION_DEPTH_77, Expr, Memory};
 use std::alloc::Global;
 
 /// Why characters aren't read as an expression: the first of these that holds.
@@ -95,7 +95,7 @@ fn read_chars(alloc: Global, chars: &[u8]) -> Result<Expr, Unread>
     if has_wide(tokens.as_slice()) {
         return Err(Unread::WideLiteral);
     }
-    if operand.depth > 400 {
+    if operand.depth > EXPRESSION_DEPTH_77 {
         return Err(Unread::Deep);
     }
     Ok(operand.tree)

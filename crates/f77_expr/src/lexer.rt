@@ -15,7 +15,7 @@ ghost use Rattle.f77_expr.specs.Views.{words_of};
 
 use crate::symbols::Symbol;
 use crate::tokens::{Stop, Token};
-use fv_tree::{Memory, Name, Op, Seq};
+use fv_tree::{GREATEST_LITERAL, Memory, Name, Op, Seq};
 use std::alloc::Global;
 
 fn is_letter(c: u8) -> bool
@@ -24,8 +24,7 @@ fn is_letter(c: u8) -> bool
     c.is_ascii_uppercase()
 }
 
-/// Whether the character is a digit.
-pub fn is_digit(c: u8) -> bool
+fn is_digit(c: u8) -> bool
     ensures { result ≡ spelling.is_digit c }
 {
     c.is_ascii_digit()
@@ -37,8 +36,8 @@ fn is_letter_or_digit(c: u8) -> bool
     is_letter(c) || is_digit(c)
 }
 
-// The digit at the front, and what follows it.
-fn next_digit(text: &[Symbol]) -> Option<(u8, &[Symbol])>
+/// The digit at the front, and what follows it.
+pub fn next_digit(text: &[Symbol]) -> Option<(u8, &[Symbol])>
     ensures { NextChar spelling.is_digit result (symbols_of text.now) }
 {
     match text {
@@ -47,8 +46,8 @@ fn next_digit(text: &[Symbol]) -> Option<(u8, &[Symbol])>
     }
 }
 
-// The letter or digit at the front, and what follows it.
-fn next_letter_or_digit(text: &[Symbol]) -> Option<(u8, &[Symbol])>
+/// The letter or digit at the front, and what follows it.
+pub fn next_letter_or_digit(text: &[Symbol]) -> Option<(u8, &[Symbol])>
     ensures { NextChar spelling.is_letter_or_digit result (symbols_of text.now) }
 {
     match text {
@@ -57,15 +56,13 @@ fn next_letter_or_digit(text: &[Symbol]) -> Option<(u8, &[Symbol])>
     }
 }
 
-const LARGEST: u128 = 170141183460469231731687303715884105727;
-
 // A literal's value with one more digit, where it is within 2^127-1.
 fn appended(value: u128, digit: u8) -> Option<u128>
     requires { IsTrue (spelling.is_digit digit) }
     ensures { result ≡ narrow (10 * value + (digit - 48)) }
 {
     let units = u128::from(digit - b'0');
-    if value > (LARGEST - units) / 10 {
+    if value > (GREATEST_LITERAL as u128 - units) / 10 {
         return None;
     }
     Some(10 * value + units)
@@ -148,8 +145,8 @@ fn after(c: u8, text: &[Symbol]) -> Option<&[Symbol]>
     }
 }
 
-#[tactic(auto, using(crate::proofs::NameLaws::stripping))]
 /// What follows the characters of a word, where the text begins with them.
+#[tactic(auto, using(crate::proofs::NameLaws::stripping))]
 pub fn strip<'a>(word: &[u8], text: &'a [Symbol]) -> Option<&'a [Symbol]>
     ensures { Strips result (lexing.strip word.now (symbols_of text.now)) }
 {
@@ -175,45 +172,43 @@ macro_rules! first_word {
     }};
 }
 
-// A longer word stands before one that begins it.
+// The first of the operators that the text begins with.
+macro_rules! first_operator {
+    ($text:expr; $($op:ident),*) => {{
+        $(
+            if let Some(rest) = strip(Op::$op.spell77().as_bytes(), $text) {
+                return Some((Token::Operator(Op::$op), rest));
+            }
+        )*
+        None
+    }};
+}
+
+// The operator at the front, and what follows it. A longer one stands before one that begins it, and a minus sign is
+// Sub.
+fn operator(text: &[Symbol]) -> Option<(Token, &[Symbol])>
+    ensures { FrontOption result (lexing.first_of lexing.operators (symbols_of text.now)) }
+{
+    first_operator!(text; Pow, Mul, Div, Add, Sub, Lt, Le, Eq, Ne, Gt, Ge, Not, And, Or, Eqv, Neqv)
+}
+
+// A mark or a truth value.
 fn mark(text: &[Symbol]) -> Option<(Token, &[Symbol])>
     ensures { FrontOption result (lexing.first_of lexing.marks (symbols_of text.now)) }
 {
     first_word!(text;
-        b"**" => Token::Operator(Op::Pow),
-        b"*" => Token::Operator(Op::Mul),
-        b"/" => Token::Operator(Op::Div),
-        b"+" => Token::Operator(Op::Add),
-        b"-" => Token::Operator(Op::Sub),
         b"(" => Token::Open,
         b")" => Token::Close,
         b"," => Token::Comma,
         b"=" => Token::Equals,
         b":" => Token::Colon,
-    )
-}
-
-fn dotted(text: &[Symbol]) -> Option<(Token, &[Symbol])>
-    ensures { FrontOption result (lexing.first_of lexing.dotted (symbols_of text.now)) }
-{
-    first_word!(text;
-        b".LT." => Token::Operator(Op::Lt),
-        b".LE." => Token::Operator(Op::Le),
-        b".EQ." => Token::Operator(Op::Eq),
-        b".NE." => Token::Operator(Op::Ne),
-        b".GT." => Token::Operator(Op::Gt),
-        b".GE." => Token::Operator(Op::Ge),
-        b".NOT." => Token::Operator(Op::Not),
-        b".AND." => Token::Operator(Op::And),
-        b".OR." => Token::Operator(Op::Or),
-        b".EQV." => Token::Operator(Op::Eqv),
-        b".NEQV." => Token::Operator(Op::Neqv),
         b".TRUE." => Token::Truth(true),
         b".FALSE." => Token::Truth(false),
     )
 }
 
-fn copied(alloc: Global, text: &Seq<u8>) -> Result<Seq<u8>, Memory>
+/// An equal text.
+pub fn copied(alloc: Global, text: &Seq<u8>) -> Result<Seq<u8>, Memory>
     ensures { IfOk result (λ copy. copy ≡ text.now) }
 {
     Ok(Seq::from_vec(Vec::from_slice(alloc, text.as_slice())?))
@@ -233,9 +228,9 @@ fn word_of_chars(text: &[Symbol], first: u8) -> Option<(Token, &[Symbol])>
         };
         return Some(named(name, rest));
     }
-    match mark(text) {
+    match operator(text) {
         Some(front) => Some(front),
-        None => dotted(text),
+        None => mark(text),
     }
 }
 

@@ -2,6 +2,7 @@
 #![tactic(auto)]
 
 pub mod expressions;
+mod fronts;
 pub mod lexer;
 pub mod operands;
 pub mod reader;
@@ -9,8 +10,12 @@ pub mod symbols;
 pub mod tokens;
 
 pub use expressions::{Unread, expression, has_wide, whole};
-pub use lexer::{is_digit, strip, words};
-pub use operands::Operand;
+pub use fronts::{
+    after_close, after_colon, after_comma, after_equals, after_head, after_name, after_open,
+    begins_with_name,
+};
+pub use lexer::{copied, next_digit, next_letter_or_digit, strip, words};
+pub use operands::{DEPTH_COUNTED, Operand};
 pub use reader::read;
 pub use symbols::{Symbol, squeeze};
 pub use tokens::{Stop, Token};

@@ -2,8 +2,7 @@
 ghost use Rattle.std.specs.Prelude.{◌≡◌, ◌≤◌, ◌++◌, ◌∷◌, [], IfOk, IsTrue, max};
 ghost use Rattle.fv_tree.specs.View.{expression_of, subscript_of};
 ghost use Rattle.fv_tree.specs.Plain.{Only};
-ghost use Rattle.f77_grammar.specs.expressions.Levels as levels;
-ghost use Rattle.f77_grammar.specs.expressions.Levels.{level_of, left_least, right_least, joins};
+ghost use Rattle.fv_tree.specs.OperatorTable.{may_follow};
 ghost use Rattle.f77_expr.specs.Reader.{deeper, signed_operand, joined_operand, paren_operand, listed_operand, primary};
 ghost use Rattle.f77_expr.specs.Reader.{frame_least};
 ghost use Rattle.f77_expr.specs.Reader as reader;
@@ -12,91 +11,27 @@ ghost use Rattle.f77_expr.specs.Views.{operand_of, frame_of, subscripts_of};
 ghost use Rattle.std.specs.Prelude.{map};
 
 use crate::tokens::Sign;
-use fv_tree::{Expr, Memory, Name, Op, Ref, Seq, Sub};
+use fv_tree::{EXPRESSION_DEPTH_77, Expr, Memory, Name, Op, Ref, Seq, Sub};
 use std::alloc::{AllocError, Global};
-
-/// How tightly an operator binds (ANSI X3.9-1978, 6.5).
-pub(crate) fn level(op: Op) -> u8
-    ensures { result ≡ level_of op }
-{
-    match op {
-        Op::Pow => 9,
-        Op::Mul | Op::Div => 8,
-        Op::Neg | Op::Add | Op::Sub => 7,
-        Op::Lt | Op::Le | Op::Eq | Op::Ne | Op::Gt | Op::Ge => 6,
-        Op::Not => 5,
-        Op::And => 4,
-        Op::Or => 3,
-        Op::Eqv | Op::Neqv => 2,
-    }
-}
-
-/// The least level of the operand to the left.
-pub(crate) fn least_left(op: Op) -> u8
-    ensures { result ≡ left_least op }
-{
-    match op {
-        Op::Pow => 10,
-        Op::Lt | Op::Le | Op::Eq | Op::Ne | Op::Gt | Op::Ge => 7,
-        _ => level(op),
-    }
-}
-
-/// The least level of the operand to the right.
-pub(crate) fn least_right(op: Op) -> u8
-    ensures { result ≡ right_least op }
-{
-    match op {
-        Op::Pow => 9,
-        _ => level(op) + 1,
-    }
-}
-
-/// Whether the operator stands between two operands.
-pub(crate) fn is_joining(op: Op) -> bool
-    ensures { result ≡ joins op }
-{
-    match op {
-        Op::Neg | Op::Not => false,
-        _ => true,
-    }
-}
-
-// Whether the operator compares its operands.
-fn is_comparing(op: Op) -> bool
-    ensures { result ≡ levels.compares op }
-{
-    match op {
-        Op::Lt | Op::Le | Op::Eq | Op::Ne | Op::Gt | Op::Ge => true,
-        _ => false,
-    }
-}
-
-// Whether an operand that begins with a plus or minus sign may stand behind the operator.
-fn takes_sign(op: Op) -> bool
-    ensures { result ≡ levels.takes_sign op }
-{
-    match op {
-        Op::Not | Op::And | Op::Or | Op::Eqv | Op::Neqv => false,
-        _ => true,
-    }
-}
 
 // Whether an operand may stand behind the operator, by whether it begins with such a sign.
 fn may_follow(op: Op, begins_with_sign: bool) -> bool
-    ensures { result ≡ levels.may_follow op begins_with_sign }
+    ensures { result ≡ may_follow op begins_with_sign }
 {
     if begins_with_sign {
-        takes_sign(op)
+        op.takes_sign()
     } else {
         true
     }
 }
 
+/// A depth is counted up to here: it is too deep.
+pub const DEPTH_COUNTED: u16 = EXPRESSION_DEPTH_77 + 1;
+
 fn deepened(depth: u16) -> u16
     ensures { result ≡ deeper depth }
 {
-    depth.saturating_add(1).min(401)
+    depth.saturating_add(1).min(DEPTH_COUNTED)
 }
 
 /// An operand: its level, its depth, which is counted up to 401, and its tree. It is `placed` where each plus or minus
@@ -152,12 +87,12 @@ impl Operand {
         ensures { IfOk result (λ operand. operand_of operand ≡ joined_operand op (operand_of left) (operand_of right)) }
     {
         let depth = deepened(left.depth.max(right.depth));
-        let begins_with_sign = !is_comparing(op) && left.begins_with_sign;
+        let begins_with_sign = !op.is_relation() && left.begins_with_sign;
         let placed = left.placed && right.placed && may_follow(op, right.begins_with_sign);
         let left = Box::new(alloc, left.tree)?;
         let right = Box::new(alloc, right.tree)?;
         Ok(Operand {
-            level: level(op),
+            level: op.level(),
             depth,
             begins_with_sign,
             placed,
@@ -207,7 +142,7 @@ impl Frame {
     {
         match self {
             Frame::Before(sign) => sign.level() + 1,
-            Frame::After(op, _) => least_right(*op),
+            Frame::After(op, _) => op.right_least(),
             Frame::Within => 0,
             Frame::Among(_, _, _, _) => 0,
         }

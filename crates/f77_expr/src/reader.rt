@@ -1,6 +1,6 @@
 //! Expressions, read word by word.
 ghost use Rattle.std.specs.Prelude.{◌≡◌, ◌<◌, length, List, [], ◌∷◌, ◌++◌, IfOk};
-ghost use Rattle.f77_grammar.specs.expressions.Levels.{level_of};
+ghost use Rattle.fv_tree.specs.OperatorTable.{level_of};
 ghost use Rattle.f77_expr.specs.Reader as reader;
 ghost use Rattle.f77_grammar.specs.expressions.Words as words;
 ghost use Rattle.f77_grammar.specs.expressions.Phrases.{Phrase, IsExpression, written};
@@ -10,7 +10,7 @@ ghost use Rattle.f77_expr.specs.Tokens.{word_of};
 ghost use Rattle.f77_expr.specs.Views.{operand_of, frame_of, stack, held, state_of, words_of, Begins, Turns, Shuts};
 ghost use Rattle.f77_expr.specs.Views.{Parts, Halts, Finishes, Reads};
 
-use crate::operands::{Frame, Operand, is_joining, least_left, level};
+use crate::operands::{Frame, Operand};
 use crate::tokens::{Sign, Stop, Token};
 use fv_tree::{Expr, Memory, Op, Ref, Seq, Sub};
 use std::alloc::Global;
@@ -103,8 +103,8 @@ pub(crate) enum Turn {
 fn join(alloc: Global, frames: &mut Vec<Frame>, operand: Operand, op: Op) -> Result<Turn, Stop>
     ensures { Turns result frames.new.items (reader.join op (reader.close (level_of op) (stack frames.old.items) (operand_of operand))) }
 {
-    let operand = close(alloc, level(op), frames, operand)?;
-    if !is_joining(op) || operand.level < least_left(op) {
+    let operand = close(alloc, op.level(), frames, operand)?;
+    if !op.stands_between() || operand.level < op.left_least() {
         return Err(Stop::Syntax);
     }
     frames.push(Frame::After(op, operand))?;

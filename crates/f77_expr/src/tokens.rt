@@ -1,6 +1,6 @@
 //! The words of expressions and lists.
 ghost use Rattle.std.specs.Prelude.{◌≡◌, Option, Some, None};
-ghost use Rattle.f77_grammar.specs.expressions.Levels.{sign_level};
+ghost use Rattle.fv_tree.specs.OperatorTable.{sign_level};
 ghost use Rattle.f77_grammar.specs.expressions.Phrases.{sign_word};
 ghost use Rattle.f77_expr.specs.Reader as reader;
 ghost use Rattle.f77_expr.specs.Tokens.{sign_view, sign_view_option};
@@ -80,14 +80,11 @@ impl Sign {
         }
     }
 
+    /// How tightly it binds.
     pub(crate) fn level(self) -> u8
         ensures { result ≡ sign_level (sign_view self) }
     {
-        match self {
-            Sign::Plus => 7,
-            Sign::Minus => 7,
-            Sign::Negation => 5,
-        }
+        self.operator().level()
     }
 }
 

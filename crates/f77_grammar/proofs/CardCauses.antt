@@ -6,6 +6,7 @@ use Rattle.std.specs.Str.Lines.{lines}
 use Rattle.std.proofs.lemmas.Bool.{and_parts, and_from, not-true, not_from_false, cond-true, cond-false, or_cases, or_left, or_right, eqb-true, ltb-true, ltb-false, both_ways, cases_lt}
 use Rattle.std.proofs.lemmas.List.Sums.{fold-append}
 use Rattle.fv_tree.specs.declared.refusals.Refusal.{Refusal}
+use Rattle.f77_grammar.proofs.Answered.{answered_by}
 use Rattle.f77_grammar.specs.Cards.{Line, Cause, IsWrong, HasCause, RefusedCards, is_blank, is_comment, is_initial, is_continuation, is_bad_byte, is_tab, is_label_character, label_field, statement_field, number_of, numbered, refusal, statement_lines, statement_lines_from}
 use Rattle.f77_grammar.specs.Cards.Cause.{BadByte, Tab, LineForm, ManyLines}
 use Rattle.f77_grammar.specs.Cards.IsWrong.{HoldsBadByte, HoldsTab, HasNoInitialLine, HasLabelField, HasNoLabel, HasNoStatement, IsTwentieth}
@@ -427,8 +428,12 @@ line_number_least Tab = omega arith
 line_number_least LineForm = omega arith
 line_number_least ManyLines = omega arith
 
+-- no lesser line and no lesser word
+follows : (r s : Refusal) → r.line ≤ s.line → r.word ≤ s.word → (r.line < s.line) ⊎ ((r.line ≡ s.line) × (r.word ≤ s.word))
+follows r s h g = elim (cases_lt r.line s.line) [ inl lt ↦ inl lt | inr le ↦ inr (omega arith, g) ]
+
 too_long_first : (text : List ℕ) → 2 ^ 20 < length text → RefusedCards text (refusal 1 0)
-too_long_first text h = record { holds = TooLong h; least = λ s g. least s (HasCause-cases text s g); first = λ s g e. omega arith }
+too_long_first text h = answered_by (HasCause text) (refusal 1 0) (TooLong h) (λ s g. least s (HasCause-cases text s g)) (λ s g e. follows (refusal 1 0) s (omega arith) (omega arith))
   where
     least : (s : Refusal) → HoldsAs text s → 1 ≤ s.number
     least s (inl g) = omega (arith, ap (λ (x : Refusal). x.number) g.1)
@@ -451,11 +456,11 @@ module _ (text : List ℕ) (short : length text ≤ 2 ^ 20) (r : Refusal) (f : I
       omega (arith, first_wrong-least f.cause None 1 (statement_lines text) g.1 f.line (RiseFrom-statement_lines 1 text) f.found found, ap (λ (x : Refusal). x.line) g.3)
 
   first_answered : RefusedCards text (refusal (number_of f.cause) f.line)
-  first_answered = record {
-    holds = HasCause-IsFound text f.cause f.line (first_wrong-Some f.cause None (statement_lines text) f.line f.found);
-    least = λ s g. least_number s (HasCause-cases text s g);
-    first = λ s g e. first_number s (HasCause-cases text s g) e;
-  }
+  first_answered =
+      answered_by (HasCause text) (refusal (number_of f.cause) f.line)
+      (HasCause-IsFound text f.cause f.line (first_wrong-Some f.cause None (statement_lines text) f.line f.found))
+      (λ s g. least_number s (HasCause-cases text s g))
+      (λ s g e. follows (refusal (number_of f.cause) f.line) s (first_number s (HasCause-cases text s g) e) (omega arith))
 
 -- ---- the answer to a text
 

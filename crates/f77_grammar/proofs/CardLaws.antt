@@ -7,6 +7,7 @@ use Rattle.f77_grammar.specs.Cards.{Line, PlainCard, HasCause, RefusedCards, Rea
 use Rattle.f77_grammar.specs.Cards.Cause.{LineForm}
 use Rattle.f77_grammar.specs.Cards.IsWrong.{HasNoInitialLine}
 use Rattle.f77_grammar.specs.Cards.HasCause.{TooLong, AtLine}
+use Rattle.f77_grammar.proofs.Answered.{one_answer}
 use Rattle.f77_grammar.proofs.CardCauses.{refusal_of, refusal_of-Some, refusal_of-None}
 use Rattle.f77_grammar.proofs.Grouping.{leading, grouped, leading-initial, AreCards-grouped, cards_are_grouped}
 
@@ -57,20 +58,8 @@ read_or_refused text = read_or_refused_by text (refusal_of text) refl
 pub not_both : (text : List ℕ) (cards : List PlainCard) (r : Refusal) → ReadsCards text cards → RefusedCards text r → ⊥
 not_both text cards r h k = h.unrefused r k.holds
 
-word_of : (text : List ℕ) (r : Refusal) → HasCause text r → r.word ≡ 0
-word_of text _ (TooLong h) = refl
-word_of text _ (AtLine c before line after e w) = refl
-
--- a refusal is its number, line and word
-same_refusal : (r s : Refusal) → r.number ≡ s.number → r.line ≡ s.line → r.word ≡ s.word → r ≡ s
-same_refusal r s e f g =
-    ap (λ n. record r { number = n }) e ∙ ap (λ n. record s { line = n; word = r.word }) f ∙ ap (λ n. record s { word = n }) g
-
 pub one_refusal : (text : List ℕ) (r s : Refusal) → RefusedCards text r → RefusedCards text s → r ≡ s
-one_refusal text r s h k =
-    let number : r.number ≡ s.number = omega (arith, h.least s k.holds, k.least r h.holds) in
-    let line : r.line ≡ s.line = omega (arith, h.first s k.holds (sym number), k.first r h.holds number) in
-    same_refusal r s number line (word_of text r h.holds ∙ sym (word_of text s k.holds))
+one_refusal text r s h k = one_answer (HasCause text) r s h k
 
 refused_by : (text : List ℕ) (r : Refusal) (o : Option Refusal) → refusal_of text ≡ o → RefusedCards text r → refusal_of text ≡ Some r
 refused_by text r None e h = absurd (refusal_of-None text e r h.holds)

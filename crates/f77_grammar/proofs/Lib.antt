@@ -1,3 +1,4 @@
+pub mod Answered
 pub mod CardCauses
 pub mod CardLaws
 pub mod FirstLine

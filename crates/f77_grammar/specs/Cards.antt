@@ -1,12 +1,13 @@
 -- Fixed form (ANSI X3.9-1978, section 3): the statements that the lines of a source are, and the refusals of lines.
 -- Bytes are named by their codes: 9 is a tab, 32 a blank and 48 the digit 0.
-use Rattle.std.specs.Prelude.{◌≡◌, ℕ, ◌+◌, ◌^◌, ◌<◌, ◌≤◌, Bool, not, ◌&&◌, ◌||◌, ◌==◌, nat_lt, IsTrue, List, [], ◌∷◌}
+use Rattle.std.specs.Prelude.{◌≡◌, ℕ, ◌+◌, ◌^◌, ◌<◌, Bool, not, ◌&&◌, ◌||◌, ◌==◌, nat_lt, IsTrue, List, [], ◌∷◌}
 use Rattle.std.specs.Prelude.{◌++◌, length, take, drop, replicate, map, filter, slice_index, codes, Option, None, Some}
 use Rattle.std.specs.Char.{is_ascii_digit}
 use Rattle.std.specs.List.{list_any, list_all, flat_map}
 use Rattle.std.specs.Str.Lines.{lines}
 use Rattle.std.specs.Str.Parse.{digits_value}
 use Rattle.fv_tree.specs.declared.refusals.Refusal.{Refusal}
+use Rattle.f77_grammar.specs.Answered.{IsAnswered}
 
 -- ---- lines
 
@@ -46,8 +47,7 @@ numbered n [] = []
 numbered n (line ∷ more) = record { number = n; columns = columns_of line } ∷ numbered (n + 1) more
 
 -- The lines of a text that are no comment lines, where its first line has the number n. A line is ended by LF or by the
--- end of the bytes, and a CR
--- just before an LF is dropped; std's `lines` says so.
+-- end of the bytes, and a CR just before an LF is dropped; std's `lines` says so.
 unfoldable pub statement_lines_from : ℕ → List ℕ → List Line
 statement_lines_from n text = filter (λ line. not (is_comment line.columns)) (numbered n (lines text))
 
@@ -85,7 +85,12 @@ label_in field = number_in (filter is_ascii_digit field)
 -- its label is that of its initial line, its line the number of that, and its characters are the statement fields of
 -- its lines
 unfoldable pub card_in : StatementLines → PlainCard
-card_in s = record { label = label_in (label_field s.initial); line = s.initial.number; chars = flat_map statement_field (all_lines s) }
+card_in s =
+    record {
+      label = label_in (label_field s.initial);
+      line = s.initial.number;
+      chars = flat_map statement_field (all_lines s);
+    }
 
 -- The cards are the statements of the source: the lines that are no comment lines are those of statements, one after
 -- another.
@@ -148,12 +153,6 @@ pub data HasCause (text : List ℕ) : Refusal → Type 0 where
   AtLine : (cause : Cause) (before : List Line) (line : Line) (after : List Line)
       → statement_lines text ≡ before ++ line ∷ after
       → IsWrong before line cause → HasCause text (refusal (number_of cause) line.number)
-
--- Of the causes that hold, the one that is answered: the least number, then the first line.
-pub record IsAnswered (Holds : Refusal → Type 0) (r : Refusal) : Type 0 where
-  pub holds : Holds r
-  pub least : (other : Refusal) → Holds other → r.number ≤ other.number
-  pub first : (other : Refusal) → Holds other → other.number ≡ r.number → r.line ≤ other.line
 
 abbrev pub RefusedCards : List ℕ → Refusal → Type 0
 RefusedCards text = IsAnswered (HasCause text)

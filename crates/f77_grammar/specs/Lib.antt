@@ -1,3 +1,4 @@
+pub mod Answered
 pub mod Cards
 pub mod Statement77
 pub mod expressions

@@ -1,12 +1,14 @@
 -- Which program is read from the cards of a source, and why cards are refused.
-use Rattle.std.specs.Prelude.{◌≡◌, ℕ, false, List, [], ◌∷◌}
+use Rattle.std.specs.Prelude.{◌≡◌, ℕ, List, [], ◌∷◌}
 use Rattle.std.specs.List.{Contains}
 use Rattle.fv_tree.specs.declared.refusals.Refusal.{Refusal}
 use Rattle.fv_tree.specs.Plain.{Program}
+use Rattle.fv_meaning.specs.Dialect.{Dialect}
+use Rattle.f77_grammar.specs.Answered.{IsAnswered}
 use Rattle.f77_grammar.specs.Cards.{PlainCard, ReadsCards, RefusedCards}
 use Rattle.f77_grammar.specs.Statement77.{Labelled}
 use Rattle.f77_grammar.specs.statements.Reading.{ReadsStatement, IsRefusedBy}
-use Rattle.f77_grammar.specs.program.Program77.{comes_before, findings, ReadsStatements}
+use Rattle.f77_grammar.specs.program.Program77.{findings, ReadsStatements}
 
 -- ---- the statements of cards
 
@@ -25,37 +27,33 @@ AreReadFrom cards xs = ⊥
 -- ---- what is read
 
 -- the cards are statements, which are read as the program
-pub record ReadsProgram (cards : List PlainCard) (p : Program) : Type 0 where
+pub record ReadsProgram (d : Dialect) (cards : List PlainCard) (p : Program) : Type 0 where
   pub text : List Labelled
   pub statements : AreReadFrom cards text
-  pub reads : ReadsStatements text p
+  pub reads : ReadsStatements d text p
 
 -- ---- what is refused
 
 -- A cause that holds: the characters of a card are no statement, or the cards are statements in which something is
 -- found.
-pub data HasCause (cards : List PlainCard) : Refusal → Type 0 where
+pub data HasCause (d : Dialect) (cards : List PlainCard) : Refusal → Type 0 where
   AtCard : (card : PlainCard) (number word : ℕ) → Contains cards card → IsRefusedBy card.chars number word
-      → HasCause cards (record { number = number; line = card.line; word = word })
-  InText : (text : List Labelled) (r : Refusal) → AreReadFrom cards text → Contains (findings text) r → HasCause cards r
+      → HasCause d cards (record { number = number; line = card.line; word = word })
+  InText : (text : List Labelled) (r : Refusal) → AreReadFrom cards text → Contains (findings d text) r
+      → HasCause d cards r
 
--- Of the causes that hold, the one that is answered: the least number, then the first line, then the least word.
-pub record IsAnswered (Holds : Refusal → Type 0) (r : Refusal) : Type 0 where
-  pub holds : Holds r
-  pub first : (other : Refusal) → Holds other → comes_before other r ≡ false
-
-abbrev pub RefusedProgram : List PlainCard → Refusal → Type 0
-RefusedProgram cards = IsAnswered (HasCause cards)
+abbrev pub RefusedProgram : Dialect → List PlainCard → Refusal → Type 0
+RefusedProgram d cards = IsAnswered (HasCause d cards)
 
 -- ---- a source
 
 -- its cards are read as the program
-pub record Reads77 (source : List ℕ) (p : Program) : Type 0 where
+pub record Reads77 (d : Dialect) (source : List ℕ) (p : Program) : Type 0 where
   pub cards : List PlainCard
   pub are_cards : ReadsCards source cards
-  pub program : ReadsProgram cards p
+  pub program : ReadsProgram d cards p
 
 -- It is refused for its length or a line, or else its cards are refused.
-pub data Refused77 (source : List ℕ) (r : Refusal) : Type 0 where
-  OfLines : RefusedCards source r → Refused77 source r
-  OfCards : (cards : List PlainCard) → ReadsCards source cards → RefusedProgram cards r → Refused77 source r
+pub data Refused77 (d : Dialect) (source : List ℕ) (r : Refusal) : Type 0 where
+  OfLines : RefusedCards source r → Refused77 d source r
+  OfCards : (cards : List PlainCard) → ReadsCards source cards → RefusedProgram d cards r → Refused77 d source r

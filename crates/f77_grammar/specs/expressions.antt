@@ -1,4 +1,3 @@
-pub mod Levels
 pub mod Phrases
 pub mod Printing
 pub mod Reading

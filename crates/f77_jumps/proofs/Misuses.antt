@@ -8,15 +8,18 @@ use Rattle.fv_tree.specs.Plain.{Reference, subscripts, items}
 use Rattle.fv_tree.specs.View.{expression_of, subscript_of, reference_of, item_of}
 use Rattle.fv_tree.specs.declared.names.Name.{Name}
 use Rattle.fv_tree.specs.declared.ops.Op.{Op}
-use Rattle.fv_tree.specs.declared.ops.Fun.{Fun}
+use Rattle.fv_tree.specs.declared.functions.Fun.{Fun}
+use Rattle.fv_tree.specs.declared.functions.Red.{Red}
 use Rattle.fv_tree.specs.declared.lists.Seq.{Seq}
 use Rattle.fv_tree.specs.declared.exprs.Expr.{Expr}
+use Rattle.fv_tree.specs.declared.exprs.Turn.{Turn}
 use Rattle.fv_tree.specs.declared.exprs.Expr.TheVariants as exprs
 use Rattle.fv_tree.specs.declared.exprs.Sub.{Sub}
 use Rattle.fv_tree.specs.declared.exprs.Ref.{Ref, out-Ref}
 use Rattle.fv_tree.specs.declared.stmts.Item.{Item as Item'}
 use Rattle.fv_tree.specs.declared.stmts.Item.TheVariants as variants
 use Rattle.fv_tree.proofs.Equations.{expression_of-int, expression_of-truth, expression_of-item, expression_of-un, expression_of-bin, expression_of-call, reference_of-is, item_of-one, item_of-text, item_of-turns}
+use Rattle.fv_tree.proofs.Equations.{expression_of-list, expression_of-spread, expression_of-transpose, expression_of-reshape, expression_of-reduce}
 use Rattle.fv_tree.specs.declared.ops.Kind.{Kind}
 use Rattle.f77_syntax.specs.declared.statements.Entity.{Entity}
 use Rattle.f77_syntax.specs.declared.statements.Stmt77.{Stmt77}
@@ -64,7 +67,22 @@ reads-bin round lists o a b = ap (reads_round round lists) (expression_of-bin o 
 pub reads-call : (round : List ℕ → Bool) (lists : List (List ℕ)) (f : Fun) (es : Seq Expr) → reads_round round lists (expression_of (exprs.Call f es)) ≡ false
 reads-call round lists f es = ap (reads_round round lists) (expression_of-call f es)
 
-pub ruleset target_laws = (target-bare, target-element, reads-item, reads-int, reads-truth, reads-un, reads-bin, reads-call)
+pub reads-list : (round : List ℕ → Bool) (lists : List (List ℕ)) (es : Seq Expr) (ls : Seq Turn) → reads_round round lists (expression_of (exprs.List es ls)) ≡ false
+reads-list round lists es ls = ap (reads_round round lists) (expression_of-list es ls)
+
+pub reads-spread : (round : List ℕ → Bool) (lists : List (List ℕ)) (a : Box Expr Global) (d : ℕ) (n : Box Expr Global) → reads_round round lists (expression_of (exprs.Spread a d n)) ≡ false
+reads-spread round lists a d n = ap (reads_round round lists) (expression_of-spread a d n)
+
+pub reads-transpose : (round : List ℕ → Bool) (lists : List (List ℕ)) (a : Box Expr Global) → reads_round round lists (expression_of (exprs.Transpose a)) ≡ false
+reads-transpose round lists a = ap (reads_round round lists) (expression_of-transpose a)
+
+pub reads-reshape : (round : List ℕ → Bool) (lists : List (List ℕ)) (a : Box Expr Global) (es : Seq Expr) → reads_round round lists (expression_of (exprs.Reshape a es)) ≡ false
+reads-reshape round lists a es = ap (reads_round round lists) (expression_of-reshape a es)
+
+pub reads-reduce : (round : List ℕ → Bool) (lists : List (List ℕ)) (r : Red) (a : Box Expr Global) → reads_round round lists (expression_of (exprs.Reduce r a)) ≡ false
+reads-reduce round lists r a = ap (reads_round round lists) (expression_of-reduce r a)
+
+pub ruleset target_laws = (target-bare, target-element, reads-item, reads-int, reads-truth, reads-un, reads-bin, reads-call, reads-list, reads-spread, reads-transpose, reads-reshape, reads-reduce)
 
 -- ---- items
 

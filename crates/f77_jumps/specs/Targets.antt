@@ -53,7 +53,10 @@ is_no_target_form _ = false
 -- the statement x, which stands behind the others; `ends` gives the place of the last statement with a label
 abbrev pub target_of : (ℕ → Option ℕ) → List Labelled → Labelled → Target
 target_of ends before x =
-    record { inside = later (first_of (arms_of before)) (nearest_at (trimmed (length before) (loops_of ends before))); refused = is_no_target_form (form_of x.statement) }
+    record {
+      inside = later (first_of (arms_of before)) (nearest_at (trimmed (length before) (loops_of ends before)));
+      refused = is_no_target_form (form_of x.statement);
+    }
 
 -- each of the statements, which stand behind others
 abbrev pub targets_of : (ℕ → Option ℕ) → List Labelled → List Labelled → List Target
@@ -63,7 +66,8 @@ targets_of ends before (x ∷ xs) = target_of ends before x ∷ targets_of ends 
 -- the first of them that bears the label
 abbrev pub first_target : (ℕ → Option ℕ) → List Labelled → List Labelled → ℕ → Option Target
 first_target ends before [] n = None
-first_target ends before (x ∷ xs) n = if bears n x then Some (target_of ends before x) else first_target ends (x ∷ before) xs n
+first_target ends before (x ∷ xs) n =
+    if bears n x then Some (target_of ends before x) else first_target ends (x ∷ before) xs n
 
 -- a GO TO behind `at` statements leads wrongly to it: into a block or loop, or to nothing that may be led to
 abbrev pub refuses : Target → ℕ → Bool

@@ -7,12 +7,9 @@ ghost use Rattle.f77_syntax.specs.Views.{text_of};
 ghost use Rattle.f77_jumps.specs.Blocks.{opens_form, depth_with, with_end};
 
 use f77_structure::{Form, label_ends, place_under};
-use fv_tree::Memory;
+use fv_tree::{BLOCK_DEPTH_77, Memory};
 use f77_syntax::Labelled;
 use std::alloc::Global;
-
-// What opens a block stands in fewer blocks than these.
-const MOST_BLOCKS: usize = 100;
 
 // The blocks that are open: the number of block IFs, and for each loop the place of its last statement. They are few,
 // since
@@ -47,7 +44,7 @@ impl OpenBlocks {
         requires { self.now.ifs + length self.now.loop_ends.items < 2 ^ 64 }
         ensures { result ≡ (opens_form form && nat_le 100 (self.now.ifs + length self.now.loop_ends.items)) }
     {
-        opens_block(form) && MOST_BLOCKS <= self.ifs + self.loop_ends.len()
+        opens_block(form) && BLOCK_DEPTH_77 <= self.ifs + self.loop_ends.len()
     }
 
     // What is open behind a statement of this form; a DO's loop ends at `end`.

@@ -136,7 +136,8 @@ impl LoopVariables {
     #[tactic(auto, using(crate::proofs::Lasts::last_laws))]
     fn pass(&mut self, statement: &Stmt77, ends: &LabelPlaces) -> Result<(), Memory>
         ensures names { OnOk result (self.new.names ≡ self.old.names) }
-        ensures lasts { OnOk result ((x : List ℕ) → last_in self.new x ≡ later (last_in self.old x) (end_with (place_of ends.now) (loop_begun (statement_of statement.now)) x)) }
+        ensures lasts { OnOk result ((x : List ℕ) → last_in self.new x
+            ≡ later (last_in self.old x) (end_with (place_of ends.now) (loop_begun (statement_of statement.now)) x)) }
     {
         match loop_begun(statement) {
             Some((label, variable)) => self.begin(variable, ends.get(label)),
@@ -179,7 +180,8 @@ impl LoopVariables {
     // A scalar is set that is a DO variable round it.
     #[tactic(auto, using(crate::proofs::Misuses::target_laws))]
     fn sets_round(&self, target: &Ref, at: usize, lists: &[Name]) -> bool
-        ensures { result ≡ sets_round (round_at self.now at) lists.now (reference_of target.now).name (reference_of target.now).subscripts }
+        ensures { result ≡ sets_round (round_at self.now at) lists.now (reference_of target.now).name
+            (reference_of target.now).subscripts }
     {
         target.subs.is_empty() && self.is_round(target.name, at, lists)
     }
@@ -196,6 +198,11 @@ impl LoopVariables {
             Expr::Un(..) => false,
             Expr::Bin(..) => false,
             Expr::Call(..) => false,
+            Expr::List(..) => false,
+            Expr::Spread(..) => false,
+            Expr::Transpose(_) => false,
+            Expr::Reshape(..) => false,
+            Expr::Reduce(..) => false,
         }
     }
 
@@ -204,7 +211,8 @@ impl LoopVariables {
     #[tactic(auto, using(crate::proofs::Misuses::item_laws))]
     fn misuses_output(&self, item: &Item, at: usize, lists: &mut Vec<Name>) -> Result<bool, Memory>
         ensures lists { OnOk result (lists.new.items ≡ lists.old.items) }
-        ensures wrong { IfOk result (λ wrong. wrong ≡ misuses_output (scalar_in self.now) (round_at self.now at) (item_of item.now) lists.old.items) }
+        ensures wrong { IfOk result (λ wrong. wrong ≡ misuses_output (scalar_in self.now) (round_at self.now at)
+            (item_of item.now) lists.old.items) }
     {
         match item {
             Item::One(_) => Ok(false),
@@ -229,7 +237,8 @@ impl LoopVariables {
         lists: &mut Vec<Name>,
     ) -> Result<bool, Memory>
         ensures lists { OnOk result (lists.new.items ≡ lists.old.items) }
-        ensures wrong { IfOk result (λ wrong. wrong ≡ misuses_outputs (scalar_in self.now) (round_at self.now at) (items (map item_of list.now)) lists.old.items) }
+        ensures wrong { IfOk result (λ wrong. wrong ≡ misuses_outputs (scalar_in self.now) (round_at self.now at)
+            (items (map item_of list.now)) lists.old.items) }
     {
         for item in list.as_slice() {
             let wrong = self.misuses_output(item, at, lists)?;
@@ -245,7 +254,8 @@ impl LoopVariables {
     #[tactic(auto, using(crate::proofs::Misuses::item_laws))]
     fn misuses_input(&self, item: &Item, at: usize, lists: &mut Vec<Name>) -> Result<bool, Memory>
         ensures lists { OnOk result (lists.new.items ≡ lists.old.items) }
-        ensures wrong { IfOk result (λ wrong. wrong ≡ misuses_input (scalar_in self.now) (round_at self.now at) (item_of item.now) lists.old.items) }
+        ensures wrong { IfOk result (λ wrong. wrong ≡ misuses_input (scalar_in self.now) (round_at self.now at)
+            (item_of item.now) lists.old.items) }
     {
         match item {
             Item::One(expr) => Ok(self.reads_round(expr, at, lists.as_slice())),
@@ -270,7 +280,8 @@ impl LoopVariables {
         lists: &mut Vec<Name>,
     ) -> Result<bool, Memory>
         ensures lists { OnOk result (lists.new.items ≡ lists.old.items) }
-        ensures wrong { IfOk result (λ wrong. wrong ≡ misuses_inputs (scalar_in self.now) (round_at self.now at) (items (map item_of list.now)) lists.old.items) }
+        ensures wrong { IfOk result (λ wrong. wrong ≡ misuses_inputs (scalar_in self.now) (round_at self.now at)
+            (items (map item_of list.now)) lists.old.items) }
     {
         for item in list.as_slice() {
             let wrong = self.misuses_input(item, at, lists)?;
@@ -284,7 +295,8 @@ impl LoopVariables {
     // The statement has a wrong DO variable, or sets one that is round it.
     #[tactic(auto, using(crate::proofs::Misuses::statement_laws))]
     fn misuses(&self, alloc: Global, statement: &Stmt77, at: usize) -> Result<bool, Memory>
-        ensures { IfOk result (λ wrong. wrong ≡ misuses_statement (scalar_in self.now) (round_at self.now at) (statement_of statement.now)) }
+        ensures { IfOk result (λ wrong. wrong ≡ misuses_statement (scalar_in self.now) (round_at self.now at)
+            (statement_of statement.now)) }
     {
         let mut lists = Vec::new(alloc);
         match statement {
@@ -311,7 +323,8 @@ impl LoopVariables {
 
 /// The place of the first statement that has a wrong DO variable, or sets one in the range of its loop.
 pub fn wrong_do_variable(alloc: Global, text: &[Labelled]) -> Result<Option<usize>, Memory>
-    ensures { IfOk result (λ place. place ≡ first_index (has_wrong_do_variable (plain.uses_in_text (text_of text.now))) (text_of text.now)) }
+    ensures { IfOk result (λ place. place ≡ first_index (has_wrong_do_variable (plain.uses_in_text (text_of text.now)))
+        (text_of text.now)) }
 {
     let ends = label_ends(alloc, text)?;
     let uses = uses_in_text(alloc, text)?;

@@ -13,7 +13,7 @@ use Rattle.f77_expr.specs.Lexing.{strip}
 use Rattle.f77_expr.specs.Symbols.{symbols_of}
 use Rattle.f77_expr.specs.declared.symbols.Symbol.{Symbol as Symbol'}
 use Rattle.f77_keywords.specs.FormsLeftOut as forms
-use Rattle.f77_keywords.specs.FormsLeftOut.{AreThreeLabels, without_comma_by, without_comma, IsIndex, AreEnclosed, IsFormLeftOut}
+use Rattle.f77_keywords.specs.FormsLeftOut.{AreThreeLabels, without_comma_by, without_comma, AreEnclosed, IsFormLeftOut}
 use Rattle.f77_keywords.specs.Fronts.{IsNamed, IsLabelList}
 use Rattle.f77_keywords.proofs.Stripping.{strip_same, stripped}
 
@@ -108,18 +108,33 @@ closed_same enclosed rest rest' s e = the_same rest rest' (sym s ∙ stripped (c
 
 -- ---- a comma that may be left out
 
+abbrev char_at_first : List Symbol → ℕ
+char_at_first (Char c ∷ ss) = c
+char_at_first ss = 0
+
+not_both : (c d : ℕ) → (c == d) ≡ false → c ≡ d → ⊥
+not_both c d n e = let k : (d == d) ≡ false = subst (λ (q : ℕ). (q == d) ≡ false) e n in let m : (d == d) ≡ true = grind (arith, nat_tests) in let z : ⊥ = cc in z
+
+-- a comma that is left out doesn't stand in front
+abbrev pub IsTaken : Bool → List Symbol → Type 0
+IsTaken comma text = comma ≡ false → (rest : List Symbol) → text ≡ Char 44 ∷ rest → ⊥
+
 pub record HasComma (rest : List Symbol) : Type 0 where
   pub comma : Bool
   pub same : rest ≡ chars (optional_comma comma) ++ without_comma rest
+  pub taken : IsTaken comma (without_comma rest)
+
+other_char : (c : ℕ) (ss r : List Symbol) → (44 == c) ≡ false → Char c ∷ ss ≡ Char 44 ∷ r → ⊥
+other_char c ss r e k = not_both 44 c e (sym (ap char_at_first k))
 
 has_comma_by : (b : Bool) (c : ℕ) (ss : List Symbol) → (44 == c) ≡ b → HasComma (Char c ∷ ss)
-has_comma_by true c ss e = let k : 44 ≡ c = eqb-true 44 c e in record { comma = true; same = rw e (ap (λ (q : ℕ). Char q ∷ ss) (sym k)) }
-has_comma_by false c ss e = record { comma = false; same = rw e refl }
+has_comma_by true c ss e = let k : 44 ≡ c = eqb-true 44 c e in record { comma = true; same = rw e (ap (λ (q : ℕ). Char q ∷ ss) (sym k)); taken = λ f. let z : ⊥ = cc in absurd z }
+has_comma_by false c ss e = record { comma = false; same = rw e refl; taken = λ f r k. other_char c ss r e (sym (ap (λ (b : Bool). without_comma_by b (Char c) ss) e) ∙ k) }
 
 pub has_comma : (rest : List Symbol) → HasComma rest
-has_comma [] = record { comma = false; same = refl }
+has_comma [] = record { comma = false; same = refl; taken = λ f r k. let z : ⊥ = cc in z }
 has_comma (Char c ∷ ss) = has_comma_by (44 == c) c ss refl
-has_comma (s ∷ ss) = record { comma = false; same = refl }
+has_comma (s ∷ ss) = record { comma = false; same = refl; taken = λ f r k. let z : ⊥ = cc in z }
 
 no_comma_by : (b : Bool) (c : ℕ) (ss : List Symbol) → (44 == c) ≡ b → ((r : List Symbol) → Char c ∷ ss ≡ Char 44 ∷ r → ⊥) → without_comma_by b (Char c) ss ≡ Char c ∷ ss
 no_comma_by true c ss e n = let k : 44 ≡ c = eqb-true 44 c e in absurd (n ss (ap (λ (q : ℕ). Char q ∷ ss) (sym k)))
@@ -130,9 +145,9 @@ no_comma [] n = refl
 no_comma (Char c ∷ ss) n = no_comma_by (44 == c) c ss refl n
 no_comma (s ∷ ss) n = refl
 
-pub without_of : (b : Bool) (text : List Symbol) → ((r : List Symbol) → text ≡ Char 44 ∷ r → ⊥) → without_comma (chars (optional_comma b) ++ text) ≡ text
+pub without_of : (b : Bool) (text : List Symbol) → IsTaken b text → without_comma (chars (optional_comma b) ++ text) ≡ text
 without_of true text n = refl
-without_of false text n = no_comma text n
+without_of false text n = no_comma text (n refl)
 
 -- ---- computed GO TO
 
@@ -145,8 +160,8 @@ computed_enclosed text list h s = record {
   same = the_same list (h.list ++ (chars (codes ")" ++ optional_comma h.comma) ++ h.index)) (sym s ∙ stripped (codes "GOTO(") text _ h.written);
 }
 
-pub computed_found : (text list rest : List Symbol) → strip (codes "GOTO(") text ≡ Some list → IsEnclosed list rest → IsIndex (without_comma rest) → IsComputedGoTo text
-computed_found text list rest s e i =
+pub computed_found : (text list rest : List Symbol) → strip (codes "GOTO(") text ≡ Some list → IsEnclosed list rest → (without_comma rest ≡ [] → ⊥) → IsComputedGoTo text
+computed_found text list rest s e n =
     let c = has_comma rest in
     record {
       list = e.list;
@@ -156,13 +171,12 @@ computed_found text list rest s e i =
       comma = c.comma;
       index = without_comma rest;
       written = strip_same (codes "GOTO(") text list s ∙ ap (λ (q : List Symbol). chars (codes "GOTO(") ++ q) (e.same ∙ ap (λ (q : List Symbol). e.list ++ Char 41 ∷ q) c.same);
-      something = i.something;
-      no_comma = i.no_comma;
+      something = n;
+      taken = c.taken;
     }
 
-pub computed_index : (text rest : List Symbol) (h : IsComputedGoTo text) → rest ≡ chars (optional_comma h.comma) ++ h.index → IsIndex (without_comma rest)
-computed_index text rest h e =
-    subst IsIndex (sym (ap without_comma e ∙ without_of h.comma h.index h.no_comma)) (record { something = h.something; no_comma = h.no_comma })
+pub computed_index : (text rest : List Symbol) (h : IsComputedGoTo text) → rest ≡ chars (optional_comma h.comma) ++ h.index → without_comma rest ≡ [] → ⊥
+computed_index text rest h e n = h.something (sym (ap without_comma e ∙ without_of h.comma h.index h.taken) ∙ n)
 
 -- ---- labels in parentheses
 
@@ -188,13 +202,6 @@ pub nothing_behind : (rest : List Symbol) → rest ≡ [] → (text : List Symbo
 nothing_behind rest e text h = subst (IsEnclosed text) e h
 
 -- ---- assigned GO TO
-
-abbrev char_at_first : List Symbol → ℕ
-char_at_first (Char c ∷ ss) = c
-char_at_first ss = 0
-
-not_both : (c d : ℕ) → (c == d) ≡ false → c ≡ d → ⊥
-not_both c d n e = let k : (d == d) ≡ false = subst (λ (q : ℕ). (q == d) ≡ false) e n in let m : (d == d) ≡ true = grind (arith, nat_tests) in let z : ⊥ = cc in z
 
 enclosed_no_comma : (list r : List Symbol) → Char 40 ∷ (list ++ Char 41 ∷ []) ≡ Char 44 ∷ r → ⊥
 enclosed_no_comma list r e = not_both 40 44 refl (ap char_at_first e)
@@ -227,7 +234,7 @@ assigned_name text assigned s (recognition.WithLabels name comma first others li
     record {
       rest = chars (optional_comma comma) ++ Char 40 ∷ (list ++ Char 41 ∷ []);
       named = record { name = name; is_name = n; same = f; whole = stops_at comma (list ++ Char 41 ∷ []) };
-      holds = λ h. subst AreEnclosed (sym (without_of comma (Char 40 ∷ (list ++ Char 41 ∷ [])) (λ r k. enclosed_no_comma list r k)))
+      holds = λ h. subst AreEnclosed (sym (without_of comma (Char 40 ∷ (list ++ Char 41 ∷ [])) (λ f r k. enclosed_no_comma list r k)))
           (record { first = first; later = others; list = list; labels = l; same = refl });
     }
 

@@ -8,11 +8,12 @@ use Rattle.fv_tree.specs.declared.ops.Op.TheVariants.{Pow, Mul, Div, Neg, Add, S
 use Rattle.f77_grammar.specs.expressions.Squeezing.{Symbol, Char, Text, Broken}
 use Rattle.f77_grammar.specs.expressions.Words as words
 use Rattle.f77_grammar.specs.expressions.Words.{Word}
-use Rattle.f77_grammar.specs.expressions.Spelling.{is_digit, is_letter, is_letter_or_digit, Pass, IsDigits, IsName, Spelled, chars, spelling, SpelledBy}
+use Rattle.f77_grammar.specs.expressions.Spelling.{is_digit, is_letter, is_letter_or_digit, Pass, IsDigits, IsName, Spelled, chars, SpelledBy}
 use Rattle.f77_grammar.specs.statements.Recognition as recognition
 use Rattle.f77_grammar.specs.statements.Recognition.{bracket_of, bracket_in, is_equals}
 use Rattle.f77_keywords.specs.Outside.{character_is}
 use Rattle.f77_keywords.proofs.Marks.{Mark, Opening, Plain, mark_of, sign_of}
+use Rattle.fv_tree.specs.OperatorTable.{spelling77_of}
 
 -- no parenthesis, comma or equals sign
 abbrev pub is_plain : Symbol → Bool
@@ -88,23 +89,23 @@ of_head : (front : List Symbol) (cs x : List ℕ) → front ≡ chars cs → cs 
 of_head front cs x e f n = record { plain = chars x; same = e ∙ (ap chars f ∙ map-append Char x (codes "(")); are_plain = name_plain x n }
 
 of_operator : (o : Op) (front : List Symbol) (cs : List ℕ) → front ≡ chars cs → Spelled (words.Operator o) cs → HasMark front Plain
-of_operator Pow front cs e s = all_plain front (spelling Pow) (e ∙ ap chars s) refl
-of_operator Mul front cs e s = all_plain front (spelling Mul) (e ∙ ap chars s) refl
-of_operator Div front cs e s = all_plain front (spelling Div) (e ∙ ap chars s) refl
+of_operator Pow front cs e s = all_plain front (spelling77_of Pow) (e ∙ ap chars s) refl
+of_operator Mul front cs e s = all_plain front (spelling77_of Mul) (e ∙ ap chars s) refl
+of_operator Div front cs e s = all_plain front (spelling77_of Div) (e ∙ ap chars s) refl
 of_operator Neg front cs e s = absurd s
-of_operator Add front cs e s = all_plain front (spelling Add) (e ∙ ap chars s) refl
-of_operator Sub front cs e s = all_plain front (spelling Sub) (e ∙ ap chars s) refl
-of_operator Lt front cs e s = all_plain front (spelling Lt) (e ∙ ap chars s) refl
-of_operator Le front cs e s = all_plain front (spelling Le) (e ∙ ap chars s) refl
-of_operator Eq front cs e s = all_plain front (spelling Eq) (e ∙ ap chars s) refl
-of_operator Ne front cs e s = all_plain front (spelling Ne) (e ∙ ap chars s) refl
-of_operator Gt front cs e s = all_plain front (spelling Gt) (e ∙ ap chars s) refl
-of_operator Ge front cs e s = all_plain front (spelling Ge) (e ∙ ap chars s) refl
-of_operator Not front cs e s = all_plain front (spelling Not) (e ∙ ap chars s) refl
-of_operator And front cs e s = all_plain front (spelling And) (e ∙ ap chars s) refl
-of_operator Or front cs e s = all_plain front (spelling Or) (e ∙ ap chars s) refl
-of_operator Eqv front cs e s = all_plain front (spelling Eqv) (e ∙ ap chars s) refl
-of_operator Neqv front cs e s = all_plain front (spelling Neqv) (e ∙ ap chars s) refl
+of_operator Add front cs e s = all_plain front (spelling77_of Add) (e ∙ ap chars s) refl
+of_operator Sub front cs e s = all_plain front (spelling77_of Sub) (e ∙ ap chars s) refl
+of_operator Lt front cs e s = all_plain front (spelling77_of Lt) (e ∙ ap chars s) refl
+of_operator Le front cs e s = all_plain front (spelling77_of Le) (e ∙ ap chars s) refl
+of_operator Eq front cs e s = all_plain front (spelling77_of Eq) (e ∙ ap chars s) refl
+of_operator Ne front cs e s = all_plain front (spelling77_of Ne) (e ∙ ap chars s) refl
+of_operator Gt front cs e s = all_plain front (spelling77_of Gt) (e ∙ ap chars s) refl
+of_operator Ge front cs e s = all_plain front (spelling77_of Ge) (e ∙ ap chars s) refl
+of_operator Not front cs e s = all_plain front (spelling77_of Not) (e ∙ ap chars s) refl
+of_operator And front cs e s = all_plain front (spelling77_of And) (e ∙ ap chars s) refl
+of_operator Or front cs e s = all_plain front (spelling77_of Or) (e ∙ ap chars s) refl
+of_operator Eqv front cs e s = all_plain front (spelling77_of Eqv) (e ∙ ap chars s) refl
+of_operator Neqv front cs e s = all_plain front (spelling77_of Neqv) (e ∙ ap chars s) refl
 
 pub has_mark : (w : Word) (front : List Symbol) → SpelledBy w front → HasMark front (mark_of w)
 has_mark (words.Number n) front s = all_plain front s.0 s.1 (digits_plain s.0 s.2.0)

@@ -1,7 +1,7 @@
 -- Forms that are left out: arithmetic IF, computed and assigned GO TO.
 use Rattle.std.specs.Prelude.{ℕ, ◌≡◌, Bool, true, false, ◌==◌, List, [], ◌∷◌, ◌++◌}
 use Rattle.f77_grammar.specs.expressions.Squeezing.{Symbol, Char}
-use Rattle.f77_grammar.specs.statements.Recognition.{AreLabels, IsNothing, IsArithmeticIf, IsComputedGoTo}
+use Rattle.f77_grammar.specs.statements.Recognition.{AreLabels, IsArithmeticIf, IsComputedGoTo}
 use Rattle.f77_grammar.specs.statements.Recognition.{IsAssignedGoTo}
 
 pub record AreThreeLabels (text : List Symbol) : Type 0 where
@@ -19,11 +19,6 @@ abbrev pub without_comma : List Symbol → List Symbol
 without_comma [] = []
 without_comma (Char c ∷ ss) = without_comma_by (44 == c) (Char c) ss
 without_comma (s ∷ ss) = s ∷ ss
-
--- something, that doesn't begin with a comma
-pub record IsIndex (text : List Symbol) : Type 0 where
-  pub something : ¬ IsNothing text
-  pub no_comma : (rest : List Symbol) → text ≡ Char 44 ∷ rest → ⊥
 
 -- labels in parentheses, and nothing behind them
 pub record AreEnclosed (text : List Symbol) : Type 0 where

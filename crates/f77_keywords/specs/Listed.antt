@@ -13,15 +13,17 @@ listed (w ∷ ws) text = if begins_with w.0 text then Some w.1 else listed ws te
 
 abbrev pub declarations : List (List ℕ × ℕ)
 declarations =
-    (codes "REAL", 1) ∷ (codes "DOUBLEPRECISION", 2) ∷ (codes "COMPLEX", 3) ∷ (codes "CHARACTER", 4) ∷ (codes "EQUIVALENCE", 5) ∷ (codes "COMMON", 6)
-    ∷ (codes "DATA", 7) ∷ (codes "SAVE", 8) ∷ (codes "IMPLICIT", 9) ∷ (codes "ENTRY", 10) ∷ (codes "BLOCKDATA", 11) ∷ (codes "FORMAT", 12) ∷ []
+    (codes "REAL", 1) ∷ (codes "DOUBLEPRECISION", 2) ∷ (codes "COMPLEX", 3) ∷ (codes "CHARACTER", 4)
+    ∷ (codes "EQUIVALENCE", 5) ∷ (codes "COMMON", 6) ∷ (codes "DATA", 7) ∷ (codes "SAVE", 8) ∷ (codes "IMPLICIT", 9)
+    ∷ (codes "ENTRY", 10) ∷ (codes "BLOCKDATA", 11) ∷ (codes "FORMAT", 12) ∷ []
 
 abbrev pub procedures : List (List ℕ × ℕ)
 procedures =
-    (codes "FUNCTION", 13) ∷ (codes "INTEGERFUNCTION", 14) ∷ (codes "LOGICALFUNCTION", 15) ∷ (codes "SUBROUTINE", 16) ∷ (codes "CALL", 17)
-    ∷ (codes "RETURN", 18) ∷ (codes "ASSIGN", 19) ∷ (codes "PAUSE", 20) ∷ (codes "EXTERNAL", 21) ∷ (codes "INTRINSIC", 22) ∷ []
+    (codes "FUNCTION", 13) ∷ (codes "INTEGERFUNCTION", 14) ∷ (codes "LOGICALFUNCTION", 15) ∷ (codes "SUBROUTINE", 16)
+    ∷ (codes "CALL", 17) ∷ (codes "RETURN", 18) ∷ (codes "ASSIGN", 19) ∷ (codes "PAUSE", 20) ∷ (codes "EXTERNAL", 21)
+    ∷ (codes "INTRINSIC", 22) ∷ []
 
 abbrev pub files_and_loops : List (List ℕ × ℕ)
 files_and_loops =
-    (codes "OPEN", 23) ∷ (codes "CLOSE", 24) ∷ (codes "INQUIRE", 25) ∷ (codes "REWIND", 26) ∷ (codes "BACKSPACE", 27) ∷ (codes "ENDFILE", 28) ∷ (codes "INCLUDE", 29)
-    ∷ (codes "DOWHILE", 30) ∷ (codes "ENDDO", 31) ∷ []
+    (codes "OPEN", 23) ∷ (codes "CLOSE", 24) ∷ (codes "INQUIRE", 25) ∷ (codes "REWIND", 26) ∷ (codes "BACKSPACE", 27)
+    ∷ (codes "ENDFILE", 28) ∷ (codes "INCLUDE", 29) ∷ (codes "DOWHILE", 30) ∷ (codes "ENDDO", 31) ∷ []

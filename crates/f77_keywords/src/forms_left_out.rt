@@ -3,7 +3,7 @@
 ghost use Rattle.std.specs.Prelude.{◌≡◌, ℕ, Some, IfSome, IsTrue, ◌↔◌};
 ghost use Rattle.f77_grammar.specs.statements.Recognition.{IsArithmeticIf, IsComputedGoTo, IsAssignedGoTo};
 ghost use Rattle.f77_expr.specs.Symbols.{symbols_of};
-ghost use Rattle.f77_keywords.specs.FormsLeftOut.{AreThreeLabels, without_comma, IsIndex, AreEnclosed, IsFormLeftOut};
+ghost use Rattle.f77_keywords.specs.FormsLeftOut.{AreThreeLabels, without_comma, AreEnclosed, IsFormLeftOut};
 
 use crate::fronts::{behind_name, labels};
 use crate::parentheses::cut_at_close;
@@ -30,21 +30,14 @@ fn is_arithmetic_if(text: &[Symbol]) -> bool
     !condition.is_empty() && are_three_labels(rest)
 }
 
-// What follows the comma at the front, or the text where there is none.
-fn behind_comma(text: &[Symbol]) -> &[Symbol]
+/// What follows the comma at the front, or the text where there is none.
+pub fn behind_comma(text: &[Symbol]) -> &[Symbol]
     ensures { symbols_of result.now ≡ without_comma (symbols_of text.now) }
 {
     match strip(b",", text) {
         Some(rest) => rest,
         None => text,
     }
-}
-
-// The text is something, and doesn't begin with a comma.
-fn is_index(text: &[Symbol]) -> bool
-    ensures { IsTrue result ↔ IsIndex (symbols_of text.now) }
-{
-    !text.is_empty() && strip(b",", text).is_none()
 }
 
 fn is_computed_go_to(text: &[Symbol]) -> bool
@@ -59,7 +52,7 @@ fn is_computed_go_to(text: &[Symbol]) -> bool
     let Some(rest) = strip(b")", enclosed) else {
         return false;
     };
-    is_index(behind_comma(rest))
+    !behind_comma(rest).is_empty()
 }
 
 // The text is labels in parentheses.

@@ -1,33 +1,11 @@
 //! Names and labels at the front of a text.
 ghost use Rattle.std.specs.Prelude.{◌≡◌, ℕ, List, IfSome};
-ghost use Rattle.f77_grammar.specs.expressions.Spelling.{is_digit, is_letter_or_digit};
 ghost use Rattle.f77_grammar.specs.expressions.Squeezing as squeezing;
-ghost use Rattle.f77_expr.specs.Fronts.{NextChar};
 ghost use Rattle.f77_expr.specs.Symbols.{symbols_of};
 ghost use Rattle.f77_keywords.specs.Fronts.{IsLabelled, GivesLabel, IsNamed, GivesRest, IsLabelList, GivesLabels};
 
 use crate::conditions::begins_with_letter;
-use f77_expr::{Symbol, is_digit, strip};
-
-// The digit at the front, and what follows it.
-fn next_digit(text: &[Symbol]) -> Option<(u8, &[Symbol])>
-    ensures { NextChar is_digit result (symbols_of text.now) }
-{
-    match text {
-        [Symbol::Char(c), rest @ ..] if is_digit(*c) => Some((*c, rest)),
-        _ => None,
-    }
-}
-
-// The letter or digit at the front, and what follows it.
-fn next_letter_or_digit(text: &[Symbol]) -> Option<(u8, &[Symbol])>
-    ensures { NextChar is_letter_or_digit result (symbols_of text.now) }
-{
-    match text {
-        [Symbol::Char(c), rest @ ..] if c.is_ascii_uppercase() || is_digit(*c) => Some((*c, rest)),
-        _ => None,
-    }
-}
+use f77_expr::{Symbol, next_digit, next_letter_or_digit, strip};
 
 const LABEL: usize = 5;
 

@@ -16,7 +16,8 @@ mod tests;
 mod words_left_out;
 
 pub use conditions::conditional;
+pub use forms_left_out::behind_comma;
 pub use fronts::label;
 pub use outside::Outside;
 pub use parentheses::cut_at_close;
-pub use words_left_out::word_left_out;
+pub use words_left_out::{is_then, word_left_out};

@@ -55,7 +55,7 @@ fn words_are_left_out(rt: HostRuntime) -> Result<(), Fail> {
 
 #[test]
 fn other_texts(rt: HostRuntime) -> Result<(), Fail> {
-    let rows: [(&str, Option<u8>); 20] = [
+    let rows: [(&str, Option<u8>); 21] = [
         ("go to (10) i+1", Some(33)),
         ("GO TO L, (10, 20)", Some(34)),
         ("GO TO L (10)", Some(34)),
@@ -68,7 +68,8 @@ fn other_texts(rt: HostRuntime) -> Result<(), Fail> {
         ("IF (X) 10, 20", None),
         ("GO TO 10", None),
         ("GO TO (10, 20)", None),
-        ("GO TO (10, 20),, I", None),
+        ("GO TO (10, 20),, I", Some(33)),
+        ("GO TO (10),", None),
         ("GO TO (123456), I", None),
         ("GO TO LONGERX", None),
         ("REAL = 1", None),

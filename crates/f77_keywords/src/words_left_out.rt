@@ -108,7 +108,8 @@ fn keyword_left_out(text: &[Symbol]) -> Option<u8>
     }
 }
 
-fn is_then(text: &[Symbol]) -> bool
+/// Whether the text is the word THEN.
+pub fn is_then(text: &[Symbol]) -> bool
     ensures { IsTrue result ↔ (symbols_of text.now ≡ chars (codes "THEN")) }
 {
     match strip(b"THEN", text) {

@@ -6,15 +6,18 @@ use Rattle.fv_tree.specs.Plain.{Named, Reference, items, subscripts}
 use Rattle.fv_tree.specs.View.{expression_of, subscript_of, item_of}
 use Rattle.fv_tree.specs.declared.names.Name.{Name}
 use Rattle.fv_tree.specs.declared.ops.Op.{Op}
-use Rattle.fv_tree.specs.declared.ops.Fun.{Fun}
+use Rattle.fv_tree.specs.declared.functions.Fun.{Fun}
+use Rattle.fv_tree.specs.declared.functions.Red.{Red}
 use Rattle.fv_tree.specs.declared.lists.Seq.{Seq}
 use Rattle.fv_tree.specs.declared.exprs.Expr.{Expr}
+use Rattle.fv_tree.specs.declared.exprs.Turn.{Turn}
 use Rattle.fv_tree.specs.declared.exprs.Expr.TheVariants as exprs
 use Rattle.fv_tree.specs.declared.exprs.Ref.{Ref, out-Ref}
 use Rattle.fv_tree.specs.declared.exprs.Sub.{Sub}
 use Rattle.fv_tree.specs.declared.stmts.Item.{Item}
 use Rattle.fv_tree.specs.declared.stmts.Item.TheVariants as variants
 use Rattle.fv_tree.proofs.Equations.{expression_of-int, expression_of-truth, expression_of-item, expression_of-un, expression_of-bin, expression_of-call, reference_of-is, item_of-one, item_of-text, item_of-turns}
+use Rattle.fv_tree.proofs.Equations.{expression_of-list, expression_of-spread, expression_of-transpose, expression_of-reshape, expression_of-reduce}
 use Rattle.f77_grammar.specs.program.Uses.{Use, is_array}
 use Rattle.f77_grammar.specs.program.Kinds.{has_some_kind, are_numbers, are_subscripts, suits_output, suits_input, suits_output_item, suits_output_items, suits_input_item, suits_input_items}
 
@@ -48,6 +51,21 @@ output-bin us o a b = ap (suits_output us) (expression_of-bin o a b) ∙ ap (has
 
 pub output-call : (us : List Use) (f : Fun) (es : Seq Expr) → suits_output us (expression_of (exprs.Call f es)) ≡ has_some_kind us (expression_of (exprs.Call f es))
 output-call us f es = ap (suits_output us) (expression_of-call f es) ∙ ap (has_some_kind us) (sym (expression_of-call f es))
+
+pub output-list : (us : List Use) (es : Seq Expr) (ls : Seq Turn) → suits_output us (expression_of (exprs.List es ls)) ≡ has_some_kind us (expression_of (exprs.List es ls))
+output-list us es ls = ap (suits_output us) (expression_of-list es ls) ∙ ap (has_some_kind us) (sym (expression_of-list es ls))
+
+pub output-spread : (us : List Use) (a : Box Expr Global) (d : ℕ) (n : Box Expr Global) → suits_output us (expression_of (exprs.Spread a d n)) ≡ has_some_kind us (expression_of (exprs.Spread a d n))
+output-spread us a d n = ap (suits_output us) (expression_of-spread a d n) ∙ ap (has_some_kind us) (sym (expression_of-spread a d n))
+
+pub output-transpose : (us : List Use) (a : Box Expr Global) → suits_output us (expression_of (exprs.Transpose a)) ≡ has_some_kind us (expression_of (exprs.Transpose a))
+output-transpose us a = ap (suits_output us) (expression_of-transpose a) ∙ ap (has_some_kind us) (sym (expression_of-transpose a))
+
+pub output-reshape : (us : List Use) (a : Box Expr Global) (es : Seq Expr) → suits_output us (expression_of (exprs.Reshape a es)) ≡ has_some_kind us (expression_of (exprs.Reshape a es))
+output-reshape us a es = ap (suits_output us) (expression_of-reshape a es) ∙ ap (has_some_kind us) (sym (expression_of-reshape a es))
+
+pub output-reduce : (us : List Use) (r : Red) (a : Box Expr Global) → suits_output us (expression_of (exprs.Reduce r a)) ≡ has_some_kind us (expression_of (exprs.Reduce r a))
+output-reduce us r a = ap (suits_output us) (expression_of-reduce r a) ∙ ap (has_some_kind us) (sym (expression_of-reduce r a))
 
 pub output-one : (us : List Use) (e : Expr) → suits_output_item us (item_of (variants.One e)) ≡ suits_output us (expression_of e)
 output-one us e = ap (suits_output_item us) (item_of-one e)
@@ -87,6 +105,21 @@ input-bin us o a b = ap (suits_input us) (expression_of-bin o a b)
 pub input-call : (us : List Use) (f : Fun) (es : Seq Expr) → suits_input us (expression_of (exprs.Call f es)) ≡ false
 input-call us f es = ap (suits_input us) (expression_of-call f es)
 
+pub input-list : (us : List Use) (es : Seq Expr) (ls : Seq Turn) → suits_input us (expression_of (exprs.List es ls)) ≡ false
+input-list us es ls = ap (suits_input us) (expression_of-list es ls)
+
+pub input-spread : (us : List Use) (a : Box Expr Global) (d : ℕ) (n : Box Expr Global) → suits_input us (expression_of (exprs.Spread a d n)) ≡ false
+input-spread us a d n = ap (suits_input us) (expression_of-spread a d n)
+
+pub input-transpose : (us : List Use) (a : Box Expr Global) → suits_input us (expression_of (exprs.Transpose a)) ≡ false
+input-transpose us a = ap (suits_input us) (expression_of-transpose a)
+
+pub input-reshape : (us : List Use) (a : Box Expr Global) (es : Seq Expr) → suits_input us (expression_of (exprs.Reshape a es)) ≡ false
+input-reshape us a es = ap (suits_input us) (expression_of-reshape a es)
+
+pub input-reduce : (us : List Use) (r : Red) (a : Box Expr Global) → suits_input us (expression_of (exprs.Reduce r a)) ≡ false
+input-reduce us r a = ap (suits_input us) (expression_of-reduce r a)
+
 pub input-one : (us : List Use) (e : Expr) → suits_input_item us (item_of (variants.One e)) ≡ suits_input us (expression_of e)
 input-one us e = ap (suits_input_item us) (item_of-one e)
 
@@ -97,4 +130,4 @@ pub input-turns : (us : List Use) (is : Seq Item) (x : Name) (a b c : Expr) → 
     ≡ (suits_input_items us (items (map item_of is)) && are_numbers us (expression_of a) (expression_of b) (expression_of c))
 input-turns us is x a b c = ap (suits_input_item us) (item_of-turns is x a b c)
 
-pub ruleset item_laws = (output-alone, output-listed, output-int, output-truth, output-un, output-bin, output-call, output-one, output-text, output-turns, input-alone, input-listed, input-int, input-truth, input-un, input-bin, input-call, input-one, input-text, input-turns)
+pub ruleset item_laws = (output-alone, output-listed, output-int, output-truth, output-un, output-bin, output-call, output-list, output-spread, output-transpose, output-reshape, output-reduce, output-one, output-text, output-turns, input-alone, input-listed, input-int, input-truth, input-un, input-bin, input-call, input-list, input-spread, input-transpose, input-reshape, input-reduce, input-one, input-text, input-turns)

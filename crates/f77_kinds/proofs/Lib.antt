@@ -2,5 +2,4 @@ pub mod HiddenLaws
 pub mod ItemLaws
 pub mod KindLaws
 pub mod NameLaws
-pub mod OperatorLaws
 pub mod StatementLaws

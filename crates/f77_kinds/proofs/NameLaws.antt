@@ -2,8 +2,8 @@
 use Rattle.std.proofs.Common.{◌≡◌, ◌≢◌, ℕ, zero, suc, Bool, true, false, not, ◌&&◌, ◌||◌, cond, Option, None, List, refl}
 use Rattle.fv_tree.specs.declared.ops.Kind.{Kind}
 use Rattle.fv_tree.specs.declared.ops.Kind.TheVariants.{Integer}
-use Rattle.fv_tree.specs.declared.ops.Fun.{Fun}
-use Rattle.fv_meaning.specs.Names.{function_named}
+use Rattle.fv_tree.specs.declared.functions.Fun.{Fun}
+use Rattle.fv_tree.specs.Functions.{function_named}
 use Rattle.f77_grammar.specs.program.Uses as plain
 use Rattle.f77_grammar.specs.program.Kinds as kinds
 use Rattle.f77_names.specs.NameFacts.{function_of}

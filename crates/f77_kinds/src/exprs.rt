@@ -3,21 +3,21 @@ ghost use Rattle.std.specs.Prelude.{◌≡◌, ◌&&◌, map};
 ghost use Rattle.fv_tree.specs.Plain.{subscripts, expressions};
 ghost use Rattle.fv_tree.specs.View.{expression_of, subscript_of};
 ghost use Rattle.fv_tree.specs.declared.exprs.Expr.TheVariants as exprs;
-ghost use Rattle.fv_meaning.specs.Names.{function_named};
+ghost use Rattle.fv_tree.specs.Functions.{function_named};
 ghost use Rattle.f77_grammar.specs.program.Uses as plain;
 ghost use Rattle.f77_grammar.specs.program.Kinds as kinds;
 ghost use Rattle.f77_names.specs.UsesView.{listed};
+ghost use Rattle.f77_kinds.specs.Operands.{are_operands};
 
 use crate::kind_check::KindCheck;
-use crate::operators::{
-    binary_gives, operand_kind, same_kind, suits_number, takes_so_many, unary_gives,
-};
-use fv_tree::{Expr, Kind, Name, Ref, Seq, Sub};
+use crate::operators::{binary_gives, call_gives, same_kind, takes_so_many, unary_gives};
+use fv_tree::{Expr, Kind, Name, Op, Ref, Seq, Sub};
 
 impl KindCheck {
     // An element of an array of this kind.
     fn is_element(&self, name: Name, kind: Kind) -> bool
-        ensures { result ≡ (plain.is_array (listed self.now.uses) name && kinds.same_kind (plain.kind_of_name (listed self.now.uses) name) kind) }
+        ensures { result ≡ (plain.is_array (listed self.now.uses) name
+            && kinds.same_kind (plain.kind_of_name (listed self.now.uses) name) kind) }
     {
         self.is_array(name) && same_kind(self.kind(name), kind)
     }
@@ -25,7 +25,8 @@ impl KindCheck {
     // A call with so many arguments: it is INTEGER.
     #[tactic(auto, using(crate::proofs::NameLaws::name_laws))]
     fn is_call(&self, name: Name, count: usize, kind: Kind) -> bool
-        ensures { result ≡ (plain.is_function (listed self.now.uses) name && kinds.takes_so_many (function_named name) count && kinds.same_kind Kind.Integer kind) }
+        ensures { result ≡ (plain.is_function (listed self.now.uses) name
+            && kinds.takes_so_many (function_named name) count && kinds.same_kind Kind.Integer kind) }
     {
         takes_so_many(self.function(name), count) && same_kind(Kind::Integer, kind)
     }
@@ -51,18 +52,25 @@ impl KindCheck {
             Expr::Int(_) => same_kind(Kind::Integer, kind),
             Expr::Truth(_) => same_kind(Kind::Logical, kind),
             Expr::Item(item) => self.item_has_kind(item, kind),
-            Expr::Un(op, a) => unary_gives(*op, kind) && self.has_kind(a, operand_kind(*op)),
-            Expr::Bin(op, a, b) => {
-                binary_gives(*op, kind)
-                    && self.has_kind(a, operand_kind(*op))
-                    && self.has_kind(b, operand_kind(*op))
-            }
+            Expr::Un(op, a) => unary_gives(*op, kind) && self.has_kind(a, op.operand_kind()),
+            Expr::Bin(op, a, b) => binary_gives(*op, kind) && self.are_operands(*op, a, b),
             Expr::Call(function, arguments) => {
-                suits_number(*function, arguments.len())
-                    && same_kind(Kind::Integer, kind)
-                    && self.are_arguments(arguments)
+                call_gives(*function, arguments.len(), kind) && self.are_arguments(arguments)
             }
+            Expr::List(..) => false,
+            Expr::Spread(..) => false,
+            Expr::Transpose(_) => false,
+            Expr::Reshape(..) => false,
+            Expr::Reduce(..) => false,
         }
+    }
+
+    // Both have the kind that the operator takes.
+    #[cycle(kinds)]
+    fn are_operands(&self, op: Op, a: &Expr, b: &Expr) -> bool
+        ensures { result ≡ are_operands (listed self.now.uses) op (expression_of a.now) (expression_of b.now) }
+    {
+        self.has_kind(a, op.operand_kind()) && self.has_kind(b, op.operand_kind())
     }
 
     // A scalar, a symbolic constant, an element or a call.
@@ -94,6 +102,7 @@ impl KindCheck {
     {
         match sub {
             Sub::One(expr) => self.has_kind(expr, Kind::Integer),
+            Sub::Part(..) => false,
         }
     }
 

@@ -2,7 +2,6 @@
 ghost use Rattle.std.specs.Prelude.{◌≡◌, map};
 ghost use Rattle.std.specs.List.{list_any};
 ghost use Rattle.fv_tree.specs.Names.{IsName};
-ghost use Rattle.fv_meaning.specs.Names.{name_of_function};
 ghost use Rattle.f77_grammar.specs.program.Uses as plain;
 ghost use Rattle.f77_grammar.specs.program.Kinds as kinds;
 ghost use Rattle.f77_names.specs.UsesView.{listed, plain_use};
@@ -10,18 +9,6 @@ ghost use Rattle.f77_names.specs.UsesView.{listed, plain_use};
 use crate::kind_check::KindCheck;
 use f77_names::Use;
 use fv_tree::{Fun, Name};
-
-// The name that Fortran 90 has for a function.
-fn name_of_function(function: Fun) -> &'static [u8]
-    ensures { result.now ≡ name_of_function function }
-{
-    match function {
-        Fun::Abs => b"ABS",
-        Fun::Mod => b"MOD",
-        Fun::Max => b"MAX",
-        Fun::Min => b"MIN",
-    }
-}
 
 impl KindCheck {
     // A variable has the name that is so spelled.
@@ -39,16 +26,16 @@ impl KindCheck {
     fn is_hidden(&self, name: Name, function: Fun) -> bool
         ensures { result ≡ kinds.is_hidden_name (listed self.now.uses) name (Some function) }
     {
-        let spelled = name_of_function(function);
+        let spelled = function.spell90().as_bytes();
         name.text() != spelled && self.has_variable(spelled)
     }
 
-    // The name is a function's that is hidden.
+    // A function is called that is hidden.
     #[tactic(auto, using(crate::proofs::HiddenLaws::call_laws))]
     fn calls_hidden(&self, used: &Use) -> bool
         ensures { result ≡ kinds.calls_hidden (listed self.now.uses) (plain_use used.now) }
     {
-        match self.function(used.name) {
+        match self.names.called(used) {
             Some(function) => self.is_hidden(used.name, function),
             None => false,
         }

@@ -18,7 +18,8 @@ impl KindCheck {
 
     /// Whether three parameters of a DO loop are INTEGER values.
     pub fn are_numbers(&self, first: &Expr, last: &Expr, step: &Expr) -> bool
-        ensures { result ≡ kinds.are_numbers (listed self.now.uses) (expression_of first.now) (expression_of last.now) (expression_of step.now) }
+        ensures { result ≡ kinds.are_numbers (listed self.now.uses) (expression_of first.now) (expression_of last.now)
+            (expression_of step.now) }
     {
         self.has_kind(first, Kind::Integer)
             && self.has_kind(last, Kind::Integer)
@@ -37,6 +38,11 @@ impl KindCheck {
             Expr::Un(..) => self.has_some_kind(expr),
             Expr::Bin(..) => self.has_some_kind(expr),
             Expr::Call(..) => self.has_some_kind(expr),
+            Expr::List(..) => self.has_some_kind(expr),
+            Expr::Spread(..) => self.has_some_kind(expr),
+            Expr::Transpose(_) => self.has_some_kind(expr),
+            Expr::Reshape(..) => self.has_some_kind(expr),
+            Expr::Reduce(..) => self.has_some_kind(expr),
         }
     }
 
@@ -62,6 +68,11 @@ impl KindCheck {
             Expr::Un(..) => false,
             Expr::Bin(..) => false,
             Expr::Call(..) => false,
+            Expr::List(..) => false,
+            Expr::Spread(..) => false,
+            Expr::Transpose(_) => false,
+            Expr::Reshape(..) => false,
+            Expr::Reduce(..) => false,
         }
     }
 

@@ -1,8 +1,7 @@
-//! The kinds of operands and of results, and the numbers of arguments (ANSI X3.9-1978, sections 6.1, 6.3, 6.4 and
-//! 15.10).
+//! The kinds that operators give, and the numbers of arguments (ANSI X3.9-1978, sections 6.1, 6.3, 6.4 and 15.10).
 ghost use Rattle.std.specs.Prelude.{◌≡◌, ◌&&◌, not};
-ghost use Rattle.fv_meaning.specs.Names as names;
-ghost use Rattle.fv_meaning.specs.Typed77 as typed;
+ghost use Rattle.fv_tree.specs.Functions.{suits_number};
+ghost use Rattle.fv_tree.specs.OperatorTable.{is_unary, result_kind_of};
 ghost use Rattle.f77_grammar.specs.program.Kinds as kinds;
 
 use fv_tree::{Fun, Kind, Op};
@@ -14,43 +13,25 @@ pub fn same_kind(a: Kind, b: Kind) -> bool
     a == b
 }
 
-/// The kind of an operator's operands.
-pub fn operand_kind(op: Op) -> Kind
-    ensures { result ≡ typed.operand_kind op }
-{
-    match op {
-        Op::Pow | Op::Mul | Op::Div | Op::Neg | Op::Add | Op::Sub => Kind::Integer,
-        Op::Lt | Op::Le | Op::Eq | Op::Ne | Op::Gt | Op::Ge => Kind::Integer,
-        Op::Not | Op::And | Op::Or | Op::Eqv | Op::Neqv => Kind::Logical,
-    }
-}
-
 /// The operator stands before one operand and gives values of this kind.
-#[tactic(auto, using(crate::proofs::OperatorLaws::operator_laws))]
 pub fn unary_gives(op: Op, kind: Kind) -> bool
-    ensures { result ≡ (typed.is_unary op && kinds.same_kind (typed.kind_of_result op) kind) }
+    ensures { result ≡ (is_unary op && kinds.same_kind (result_kind_of op) kind) }
 {
     !op.stands_between() && same_kind(op.result_kind(), kind)
 }
 
 /// The operator stands between two operands and gives values of this kind.
-#[tactic(auto, using(crate::proofs::OperatorLaws::operator_laws))]
 pub fn binary_gives(op: Op, kind: Kind) -> bool
-    ensures { result ≡ (not (typed.is_unary op) && kinds.same_kind (typed.kind_of_result op) kind) }
+    ensures { result ≡ (not (is_unary op) && kinds.same_kind (result_kind_of op) kind) }
 {
     op.stands_between() && same_kind(op.result_kind(), kind)
 }
 
-/// The function has so many arguments.
-pub fn suits_number(function: Fun, count: usize) -> bool
-    ensures { result ≡ names.suits_number function count }
+/// The function has so many arguments, and gives values of this kind.
+pub fn call_gives(function: Fun, count: usize, kind: Kind) -> bool
+    ensures { result ≡ (suits_number function count && kinds.same_kind Kind.Integer kind) }
 {
-    match function {
-        Fun::Abs => count == 1,
-        Fun::Mod => count == 2,
-        Fun::Max => 2 <= count,
-        Fun::Min => 2 <= count,
-    }
+    function.takes(count) && same_kind(Kind::Integer, kind)
 }
 
 /// There is a function, and it has so many arguments.
@@ -58,7 +39,7 @@ pub fn takes_so_many(function: Option<Fun>, count: usize) -> bool
     ensures { result ≡ kinds.takes_so_many function count }
 {
     match function {
-        Some(function) => suits_number(function, count),
+        Some(function) => function.takes(count),
         None => false,
     }
 }

@@ -66,7 +66,8 @@ impl KindCheck {
     // What is stored into is no call and no whole array, and has the kind of the right side.
     #[tactic(auto, using(crate::proofs::StatementLaws::assignment_laws))]
     fn suits_assignment(&self, left: &Ref, right: &Expr) -> bool
-        ensures { result ≡ kinds.suits (listed self.now.uses) (plain.Assign (reference_of left.now) (expression_of right.now)) }
+        ensures { result ≡ kinds.suits (listed self.now.uses)
+            (plain.Assign (reference_of left.now) (expression_of right.now)) }
     {
         self.is_stored_into(left.name, left.subs.len())
             && self.are_subscripts(&left.subs)

@@ -16,7 +16,8 @@ use std::alloc::Global;
 impl KindCheck {
     // The statement calls a function that is hidden.
     fn calls_hidden_in(&self, alloc: Global, statement: &Stmt77) -> Result<bool, Memory>
-        ensures { IfOk result (λ hidden. hidden ≡ list_any (kinds.calls_hidden (listed self.now.uses)) (plain.uses_of (statement_of statement.now))) }
+        ensures { IfOk result (λ hidden. hidden ≡ list_any (kinds.calls_hidden (listed self.now.uses))
+            (plain.uses_of (statement_of statement.now))) }
     {
         let mut uses = Uses::new(alloc);
         uses.add_statement(statement)?;
@@ -25,7 +26,9 @@ impl KindCheck {
 
     // A kind in the statement doesn't suit, or it calls a function that is hidden.
     fn is_unsuited(&self, alloc: Global, statement: &Stmt77) -> Result<bool, Memory>
-        ensures { IfOk result (λ unsuited. unsuited ≡ (not (kinds.suits (listed self.now.uses) (statement_of statement.now)) || list_any (kinds.calls_hidden (listed self.now.uses)) (plain.uses_of (statement_of statement.now)))) }
+        ensures { IfOk result (λ unsuited. unsuited
+            ≡ (not (kinds.suits (listed self.now.uses) (statement_of statement.now))
+            || list_any (kinds.calls_hidden (listed self.now.uses)) (plain.uses_of (statement_of statement.now)))) }
     {
         if !self.suits(statement) {
             return Ok(true);
@@ -37,7 +40,8 @@ impl KindCheck {
 /// The place of the first statement in which a kind doesn't suit, or a function is called whose Fortran 90 name a
 /// variable hides.
 pub fn unsuited_kind(alloc: Global, text: &[Labelled]) -> Result<Option<usize>, Memory>
-    ensures { IfOk result (λ place. place ≡ first_index (kinds.has_unsuited_kind (plain.uses_in_text (text_of text.now))) (text_of text.now)) }
+    ensures { IfOk result (λ place. place
+        ≡ first_index (kinds.has_unsuited_kind (plain.uses_in_text (text_of text.now))) (text_of text.now)) }
 {
     let check = KindCheck::of_text(alloc, text)?;
     for (i, statement) in text.iter().enumerate() {

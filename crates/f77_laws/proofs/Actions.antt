@@ -10,7 +10,8 @@ use Rattle.fv_meaning.specs.Store.{Store}
 use Rattle.f77_grammar.specs.Statement77.{Statement77, Program, Declare, Dimension, Constants, Assign, Go, Test, If, ElseIf, Else, EndIf, Do, Continue, Stop, Read, Print, End}
 use Rattle.f77_grammar.specs.expressions.Printing.{IsSource}
 use Rattle.fv_meaning.specs.Names.{is_among}
-use Rattle.fv_meaning.specs.Typed77.{number_of_subscripts, dimensions, declared, has_item, depth_of, depth_of_item, depth_of_items, HasKind, IsWhole, IsDoVariable, IsOutput, IsInput, IsOutputItem, AreOutputItems, IsInputItem, AreInputItems}
+use Rattle.fv_meaning.specs.Depths.{depth_of, depth_of_item, depth_of_items}
+use Rattle.fv_meaning.specs.Typed77.{number_of_subscripts, dimensions, declared, has_item, HasKind, IsWhole, IsDoVariable, IsOutput, IsInput, IsOutputItem, AreOutputItems, IsInputItem, AreInputItems}
 use Rattle.f77_grammar.specs.program.Uses.{Target, Valued, Use, use_of, uses_in, uses_in_subscripts, uses_in_output, uses_in_outputs, uses_in_input, uses_in_inputs, input_uses, control_uses, uses_of, stands, is_typed, is_bounded, is_bare, is_constant, is_variable, is_array, kind_of_name}
 use Rattle.f77_grammar.specs.program.Declarations.{suits_list}
 use Rattle.f77_grammar.specs.program.Kinds.{same_kind, has_kind, has_some_kind, are_subscripts, is_stored_into, suits_output, suits_input, are_numbers, suits_output_item, suits_output_items, suits_input_item, suits_input_items, suits}
@@ -83,7 +84,7 @@ module _ (us : List Use) (s : Store) (ds : List Declaration) (knows : Knows us s
   output_of (Named x (subscript p ps)) h = h
   output_of (Unary o a) h = h
   output_of (Binary o a b) h = h
-  output_of (Apply f es) h = h
+  output_of e h = h
 
   some_kind : (e : Expression) (k : Kind) → HasKind ds e k → HasKind ds e Integer ⊎ HasKind ds e Logical
   some_kind e Integer h = inl h
@@ -109,7 +110,7 @@ module _ (us : List Use) (s : Store) (ds : List Declaration) (knows : Knows us s
   output_expression (Named x (subscript p ps)) h u g = some_output (Named x (subscript p ps)) h u g
   output_expression (Unary o a) h u g = some_output (Unary o a) h u g
   output_expression (Binary o a b) h u g = some_output (Binary o a b) h u g
-  output_expression (Apply f es) h u g = absurd h
+  output_expression e h u g = absurd h
 
   has_outputs : (is : Items) → IsTrue (has_item is) → IsTrue (has_item (resolved_outputs us s is))
   has_outputs no_items h = h
@@ -180,11 +181,7 @@ module _ (us : List Use) (s : Store) (ds : List Declaration) (knows : Knows us s
         some_kind (Named x (resolved_subscripts us s (subscript p ps))) (kind_of_name us x) (target_element x p ps h u.0 u.1 a (right_true (is_array us x) (are_subscripts us (subscript p ps)) g)),
         no_do_variable x vs around w a,
       )
-  input_expression (Number n) vs around w h u g m = absurd h
-  input_expression (Logic b) vs around w h u g m = absurd h
-  input_expression (Unary o a) vs around w h u g m = absurd h
-  input_expression (Binary o a b) vs around w h u g m = absurd h
-  input_expression (Apply f es) vs around w h u g m = absurd h
+  input_expression e vs around w h u g m = absurd h
 
   has_inputs : (is : Items) → IsTrue (has_item is) → IsTrue (has_item (resolved_inputs us s is))
   has_inputs no_items h = h
@@ -218,30 +215,31 @@ module _ (us : List Use) (s : Store) (ds : List Declaration) (knows : Knows us s
   -- ---- depths of lists
 
   mutual
-    output_item_depth : (i : Item) → depth_of_item (resolved_output_item us s i) ≤ depth_of_item i
+    output_item_depth : (i : Item) → depth_of_item (resolved_output_item us s i) ≤ 2 + depth_of_item i
     output_item_depth (Single e) = depths us s ds knows e
     output_item_depth (Constant t) = omega arith
     output_item_depth (ImpliedDo is x a b c) = omega (arith, output_depth is, depths us s ds knows a, depths us s ds knows b, depths us s ds knows c)
 
-    output_depth : (is : Items) → depth_of_items (resolved_outputs us s is) ≤ depth_of_items is
+    output_depth : (is : Items) → depth_of_items (resolved_outputs us s is) ≤ 2 + depth_of_items is
     output_depth no_items = omega arith
     output_depth (item i is) = omega (arith, output_item_depth i, output_depth is)
 
-  input_expression_depth : (e : Expression) → depth_of (resolved_input us s e) ≤ depth_of e
+  input_expression_depth : (e : Expression) → depth_of (resolved_input us s e) ≤ 2 + depth_of e
   input_expression_depth (Named x ps) = subscript_depths us s ds knows ps
   input_expression_depth (Number n) = depths us s ds knows (Number n)
   input_expression_depth (Logic b) = depths us s ds knows (Logic b)
   input_expression_depth (Unary o a) = depths us s ds knows (Unary o a)
   input_expression_depth (Binary o a b) = depths us s ds knows (Binary o a b)
   input_expression_depth (Apply f es) = depths us s ds knows (Apply f es)
+  input_expression_depth e = depths us s ds knows e
 
   mutual
-    input_item_depth : (i : Item) → depth_of_item (resolved_input_item us s i) ≤ depth_of_item i
+    input_item_depth : (i : Item) → depth_of_item (resolved_input_item us s i) ≤ 2 + depth_of_item i
     input_item_depth (Single e) = input_expression_depth e
     input_item_depth (Constant t) = omega arith
     input_item_depth (ImpliedDo is x a b c) = omega (arith, input_depth is, depths us s ds knows a, depths us s ds knows b, depths us s ds knows c)
 
-    input_depth : (is : Items) → depth_of_items (resolved_inputs us s is) ≤ depth_of_items is
+    input_depth : (is : Items) → depth_of_items (resolved_inputs us s is) ≤ 2 + depth_of_items is
     input_depth no_items = omega arith
     input_depth (item i is) = omega (arith, input_item_depth i, input_depth is)
 
@@ -272,7 +270,7 @@ module _ (us : List Use) (s : Store) (ds : List Declaration) (knows : Knows us s
       by d = subst (λ (o : Option Declaration). IsSomeAnd o (λ f. IsWhole ds (Named x ps) f.kind × IsWhole ds e f.kind)) (sym d.is)
           (subst (λ (k : Kind). IsWhole ds (Named x ps) k × IsWhole ds e k) (sym d.kind) (h, g))
 
-  left_depth : (x : List ℕ) (ps : Subscripts) → depth_of (Named x ps) ≤ 400 → depth_of (Named x (resolved_subscripts us s ps)) ≤ 400
+  left_depth : (x : List ℕ) (ps : Subscripts) → depth_of (Named x ps) ≤ 400 → depth_of (Named x (resolved_subscripts us s ps)) ≤ 402
   left_depth x ps h = let d = subscript_depths us s ds knows ps in omega (arith, d, h)
 
   assignment : (x : List ℕ) (ps : Subscripts) (e : Expression) (w : Surroundings) (around : List (List ℕ)) → IsWithin w.variables around → IsShallow (Named x ps) → IsShallow e

@@ -16,12 +16,13 @@ use Rattle.fv_tree.specs.declared.ops.Op.TheVariants.{Pow, Mul, Div, Neg, Add, S
 use Rattle.fv_tree.specs.Plain.{Expression, Number, Logic, Named, Unary, Binary, Apply, Subscripts, no_subscripts, subscript}
 use Rattle.fv_meaning.specs.Store.{Store, Cell, cell_at, cell_in, is_within}
 use Rattle.fv_meaning.specs.Value.{value_of, values_of, subscript_values, subscript_value, is_in_range}
-use Rattle.fv_meaning.specs.Sequential.{integer_bits}
+use Rattle.fv_meaning.specs.Dialect.{Dialect}
 use Rattle.f77_grammar.specs.Statement77.{NamedConstant, Labelled}
-use Rattle.fv_meaning.specs.Typed77.{kind_of_result, operand_kind, number_of_arguments, is_unary}
+use Rattle.fv_meaning.specs.Typed77.{number_of_arguments}
 use Rattle.f77_grammar.specs.program.Uses.{Use, is_array, kind_of_name}
 use Rattle.f77_grammar.specs.program.Kinds.{same_kind, has_kind, name_has_kind, are_arguments}
-use Rattle.fv_meaning.specs.Names.{suits_number}
+use Rattle.fv_tree.specs.OperatorTable.{result_kind_of, operand_kind, is_unary}
+use Rattle.fv_tree.specs.Functions.{suits_number}
 use Rattle.f77_grammar.specs.program.Limits.{in_range, constant_value, no_values, with_value, with_constant, with_constants, definitions_of, constants_of}
 use Rattle.f77_laws.proofs.Lists.{left_true, right_true}
 use Rattle.f77_laws.proofs.Variables.{same_name}
@@ -45,7 +46,7 @@ ranged_kind (Ok z) v h = by (fits 127 z) h
 truth_kind : (b : Bool) (v : Value) → ◌≡◌ {A = Result Value Fault} (Ok (Truth b)) (Ok v) → kind_of v ≡ Logical
 truth_kind b v h = let e : Truth b ≡ v = cc in ap kind_of (sym e)
 
-numbers_kind : (o : Op) (a b : ℤ) (v : Value) → on_numbers o a b ≡ Ok v → kind_of v ≡ kind_of_result o
+numbers_kind : (o : Op) (a b : ℤ) (v : Value) → on_numbers o a b ≡ Ok v → kind_of v ≡ result_kind_of o
 numbers_kind Pow a b v h = ranged_kind (exact_value Pow a b) v h
 numbers_kind Mul a b v h = ranged_kind (exact_value Mul a b) v h
 numbers_kind Div a b v h = ranged_kind (exact_value Div a b) v h
@@ -64,7 +65,7 @@ numbers_kind Or a b v h = absurd cc
 numbers_kind Eqv a b v h = absurd cc
 numbers_kind Neqv a b v h = absurd cc
 
-truths_kind : (o : Op) (a b : Bool) (v : Value) → on_truths o a b ≡ Ok v → kind_of v ≡ kind_of_result o
+truths_kind : (o : Op) (a b : Bool) (v : Value) → on_truths o a b ≡ Ok v → kind_of v ≡ result_kind_of o
 truths_kind Not a b v h = truth_kind _ v h
 truths_kind And a b v h = truth_kind _ v h
 truths_kind Or a b v h = truth_kind _ v h
@@ -72,37 +73,37 @@ truths_kind Eqv a b v h = truth_kind _ v h
 truths_kind Neqv a b v h = truth_kind _ v h
 truths_kind o a b v h = absurd cc
 
-number_alone : (o : Op) (a : ℤ) (v : Value) → cond (is_neg o) (on_numbers Neg a a) (Err Shape) ≡ Ok v → kind_of v ≡ kind_of_result o
+number_alone : (o : Op) (a : ℤ) (v : Value) → cond (is_neg o) (on_numbers Neg a a) (Err Shape) ≡ Ok v → kind_of v ≡ result_kind_of o
 number_alone Neg a v h = numbers_kind Neg a a v h
 number_alone o a v h = absurd cc
 
-truth_alone : (o : Op) (a : Bool) (v : Value) → cond (is_not o) (on_truths Not a a) (Err Shape) ≡ Ok v → kind_of v ≡ kind_of_result o
+truth_alone : (o : Op) (a : Bool) (v : Value) → cond (is_not o) (on_truths Not a a) (Err Shape) ≡ Ok v → kind_of v ≡ result_kind_of o
 truth_alone Not a v h = truths_kind Not a a v h
 truth_alone o a v h = absurd cc
 
-apply_kind : (o : Op) (x y v : Value) → apply o x y ≡ Ok v → kind_of v ≡ kind_of_result o
+apply_kind : (o : Op) (x y v : Value) → apply o x y ≡ Ok v → kind_of v ≡ result_kind_of o
 apply_kind o (Int a) (Int b) v h = numbers_kind o a b v h
 apply_kind o (Truth a) (Truth b) v h = truths_kind o a b v h
 apply_kind o (Int a) (Truth b) v h = number_alone o a v h
 apply_kind o (Truth a) (Int b) v h = truth_alone o a v h
 
-unary_kind : (o : Op) (r : Result Value Fault) (v : Value) → (r >>= λ x. apply o x x) ≡ Ok v → kind_of v ≡ kind_of_result o
+unary_kind : (o : Op) (r : Result Value Fault) (v : Value) → (r >>= λ x. apply o x x) ≡ Ok v → kind_of v ≡ result_kind_of o
 unary_kind o (Ok x) v h = apply_kind o x x v h
 unary_kind o (Err f) v h = absurd cc
 
-binary_kind : (o : Op) (r t : Result Value Fault) (v : Value) → (r >>= λ x. t >>= λ y. apply o x y) ≡ Ok v → kind_of v ≡ kind_of_result o
+binary_kind : (o : Op) (r t : Result Value Fault) (v : Value) → (r >>= λ x. t >>= λ y. apply o x y) ≡ Ok v → kind_of v ≡ result_kind_of o
 binary_kind o (Ok x) (Ok y) v h = apply_kind o x y v h
 binary_kind o (Ok x) (Err f) v h = absurd cc
 binary_kind o (Err f) t v h = absurd cc
 
 -- ---- the constants that a store has
 
-module _ (us : List Use) where
+module _ (d : Dialect) (us : List Use) where
   -- a name has no value, or one of its kind and in range
   pub record IsKept (s : Store) (x : List ℕ) (bs : List (ℤ × ℤ)) : Type 0 where
     pub scalar : bs ≡ []
     pub kind : (c : Cell) → c.name ≡ x → kind_of (s.held c) ≡ kind_of_name us x
-    pub range : (c : Cell) → c.name ≡ x → is_in_range integer_bits (s.held c) ≡ true
+    pub range : (c : Cell) → c.name ≡ x → is_in_range d.bits (s.held c) ≡ true
 
   abbrev pub KeepsKinds : Store → Type 0
   KeepsKinds s = (x : List ℕ) (bs : List (ℤ × ℤ)) → s.bounds x ≡ Some bs → IsKept s x bs
@@ -128,11 +129,11 @@ module _ (us : List Use) where
     named_kind x (Ok is') v h is e = let f : is' ≡ is = cc in subst (λ (js : List ℤ). IsScalarValue x js v) f (found_cell x is' v (s.bounds x) refl h)
     named_kind x (Err f) v h is e = absurd cc
 
-    bare_kind : (x : List ℕ) (v : Value) → value_of integer_bits (Named x no_subscripts) s ≡ Ok v → kind_of v ≡ kind_of_name us x
+    bare_kind : (x : List ℕ) (v : Value) → value_of d (Named x no_subscripts) s ≡ Ok v → kind_of v ≡ kind_of_name us x
     bare_kind x v h = (found_cell x [] v (s.bounds x) refl h).kind
 
-    no_element : (x : List ℕ) (p : _) (ps : Subscripts) (v : Value) → value_of integer_bits (Named x (subscript p ps)) s ≡ Ok v → ⊥
-    no_element x p ps v h = first (subscript_value integer_bits p s) (subscript_values integer_bits ps s) h
+    no_element : (x : List ℕ) (p : _) (ps : Subscripts) (v : Value) → value_of d (Named x (subscript p ps)) s ≡ Ok v → ⊥
+    no_element x p ps v h = first (subscript_value d p s) (subscript_values d ps s) h
       where
         ends : (i : ℤ) (is : List ℤ) → IsScalarValue x (i ∷ is) v → ⊥
         ends i is k = let e = k.alone in absurd cc
@@ -147,24 +148,25 @@ module _ (us : List Use) where
     call_kind (Err g) f v h = absurd cc
 
     -- a value has the kind of its expression
-    pub value_kind : (e : Expression) (k : Kind) (v : Value) → has_kind us e k ≡ true → value_of integer_bits e s ≡ Ok v → kind_of v ≡ k
+    pub value_kind : (e : Expression) (k : Kind) (v : Value) → has_kind us e k ≡ true → value_of d e s ≡ Ok v → kind_of v ≡ k
     value_kind (Number n) k v h g = let e : Int n ≡ v = cc in sym (ap kind_of e) ∙ kinds_same Integer k h
     value_kind (Logic b) k v h g = let e : Truth b ≡ v = cc in sym (ap kind_of e) ∙ kinds_same Logical k h
     value_kind (Named x no_subscripts) k v h g =
         bare_kind x v g ∙ kinds_same (kind_of_name us x) k (right_true (not (is_array us x)) (same_kind (kind_of_name us x) k) (left_true (name_has_kind us x 0 k) true h))
     value_kind (Named x (subscript p ps)) k v h g = absurd (no_element x p ps v g)
     value_kind (Unary o a) k v h g =
-        unary_kind o (value_of integer_bits a s) v g
+        unary_kind o (value_of d a s) v g
         ∙ kinds_same (kind_of_result o) k (right_true (is_unary o) (same_kind (kind_of_result o) k) (left_true (is_unary o && same_kind (kind_of_result o) k) (has_kind us a (operand_kind o)) h))
     value_kind (Binary o a b) k v h g =
-        binary_kind o (value_of integer_bits a s) (value_of integer_bits b s) v g
+        binary_kind o (value_of d a s) (value_of d b s) v g
         ∙ kinds_same (kind_of_result o) k (right_true (not (is_unary o)) (same_kind (kind_of_result o) k) (left_true (not (is_unary o) && same_kind (kind_of_result o) k) (has_kind us a (operand_kind o))
         (left_true (not (is_unary o) && same_kind (kind_of_result o) k && has_kind us a (operand_kind o)) (has_kind us b (operand_kind o)) h)))
-    value_kind (Apply f es) k v h g = call_kind (values_of integer_bits es s) f v g ∙ kinds_same Integer k (right_true (suits_number f (number_of_arguments es)) (same_kind Integer k) (left_true (suits_number f (number_of_arguments es) && same_kind Integer k) (are_arguments us es) h))
+    value_kind (Apply f es) k v h g = call_kind (values_of d es s) f v g ∙ kinds_same Integer k (right_true (suits_number f (number_of_arguments es)) (same_kind Integer k) (left_true (suits_number f (number_of_arguments es) && same_kind Integer k) (are_arguments us es) h))
+    value_kind e k v h g = absurd cc
 
   -- ---- one constant more
 
-  value_kept : (s : Store) (x : List ℕ) (r : Result Value Fault) → KeepsKinds s → ((v : Value) → r ≡ Ok v → (kind_of v ≡ kind_of_name us x) × (is_in_range integer_bits v ≡ true)) → KeepsKinds (with_value x r s)
+  value_kept : (s : Store) (x : List ℕ) (r : Result Value Fault) → KeepsKinds s → ((v : Value) → r ≡ Ok v → (kind_of v ≡ kind_of_name us x) × (is_in_range d.bits v ≡ true)) → KeepsKinds (with_value x r s)
   value_kept s x (Err f) keeps h = keeps
   value_kept s x (Ok v) keeps h = λ y bs e. by y bs (bytes_eq x y) refl e
     where
@@ -178,36 +180,36 @@ module _ (us : List Use) where
       by y bs true f e = record {
         scalar = cc;
         kind = λ c g. ap kind_of (same y f c g) ∙ (h v refl).0 ∙ ap (kind_of_name us) (same_name x y f);
-        range = λ c g. ap (is_in_range integer_bits) (same y f c g) ∙ (h v refl).1;
+        range = λ c g. ap (is_in_range d.bits) (same y f c g) ∙ (h v refl).1;
       }
       by y bs false f e = record {
         scalar = (keeps y bs e).scalar;
         kind = λ c g. ap kind_of (other y f c g) ∙ (keeps y bs e).kind c g;
-        range = λ c g. ap (is_in_range integer_bits) (other y f c g) ∙ (keeps y bs e).range c g;
+        range = λ c g. ap (is_in_range d.bits) (other y f c g) ∙ (keeps y bs e).range c g;
       }
 
-  constant_kind : (s : Store) (e : Expression) (k : Kind) (v : Value) → KeepsKinds s → has_kind us e k ≡ true → constant_value e s ≡ Ok v → (kind_of v ≡ k) × (is_in_range integer_bits v ≡ true)
-  constant_kind s e k v keeps h g = by (value_of integer_bits e s) refl g
+  constant_kind : (s : Store) (e : Expression) (k : Kind) (v : Value) → KeepsKinds s → has_kind us e k ≡ true → constant_value d e s ≡ Ok v → (kind_of v ≡ k) × (is_in_range d.bits v ≡ true)
+  constant_kind s e k v keeps h g = by (value_of d e s) refl g
     where
-      tested : (w : Value) (b : Bool) → value_of integer_bits e s ≡ Ok w → is_in_range integer_bits w ≡ b → cond b (Ok w) (Err Overflow) ≡ Ok v → (kind_of v ≡ k) × (is_in_range integer_bits v ≡ true)
-      tested w true f t g = let same : w ≡ v = cc in (sym (ap kind_of same) ∙ value_kind s keeps e k w h f, sym (ap (is_in_range integer_bits) same) ∙ t)
+      tested : (w : Value) (b : Bool) → value_of d e s ≡ Ok w → is_in_range d.bits w ≡ b → cond b (Ok w) (Err Overflow) ≡ Ok v → (kind_of v ≡ k) × (is_in_range d.bits v ≡ true)
+      tested w true f t g = let same : w ≡ v = cc in (sym (ap kind_of same) ∙ value_kind s keeps e k w h f, sym (ap (is_in_range d.bits) same) ∙ t)
       tested w false f t g = absurd cc
 
-      by : (r : Result Value Fault) → value_of integer_bits e s ≡ r → (r >>= λ w. in_range w) ≡ Ok v → (kind_of v ≡ k) × (is_in_range integer_bits v ≡ true)
-      by (Ok w) f g = tested w (is_in_range integer_bits w) f refl g
+      by : (r : Result Value Fault) → value_of d e s ≡ r → (r >>= λ w. in_range d w) ≡ Ok v → (kind_of v ≡ k) × (is_in_range d.bits v ≡ true)
+      by (Ok w) f g = tested w (is_in_range d.bits w) f refl g
       by (Err fault) f g = absurd cc
 
   abbrev pub DefinesKinds : List NamedConstant → Type 0
-  DefinesKinds ds = AllByRecursion (λ (d : NamedConstant). has_kind us d.value (kind_of_name us d.name) ≡ true) ds
+  DefinesKinds cs = AllByRecursion (λ (c : NamedConstant). has_kind us c.value (kind_of_name us c.name) ≡ true) cs
 
-  constants_kept : (ds : List NamedConstant) (s : Store) → DefinesKinds ds → KeepsKinds s → KeepsKinds (with_constants ds s)
+  constants_kept : (cs : List NamedConstant) (s : Store) → DefinesKinds cs → KeepsKinds s → KeepsKinds (with_constants d cs s)
   constants_kept [] s h keeps = keeps
-  constants_kept (d ∷ ds) s h keeps =
-      constants_kept ds (with_constant d s) h.1
-      (value_kept s d.name (constant_value d.value s) keeps (λ v e. constant_kind s d.value (kind_of_name us d.name) v keeps h.0 e))
+  constants_kept (c ∷ cs) s h keeps =
+      constants_kept cs (with_constant d c s) h.1
+      (value_kept s c.name (constant_value d c.value s) keeps (λ v e. constant_kind s c.value (kind_of_name us c.name) v keeps h.0 e))
 
   no_constants : KeepsKinds no_values
   no_constants x bs e = absurd cc
 
-  pub text_constants : (text : List Labelled) → DefinesKinds (flat_map (λ (x : Labelled). definitions_of x.statement) text) → KeepsKinds (constants_of text)
+  pub text_constants : (text : List Labelled) → DefinesKinds (flat_map (λ (x : Labelled). definitions_of x.statement) text) → KeepsKinds (constants_of d text)
   text_constants text h = constants_kept (flat_map (λ (x : Labelled). definitions_of x.statement) text) no_values h no_constants

@@ -6,6 +6,7 @@ use Rattle.std.specs.Str.{bytes_eq}
 use Rattle.std.specs.declared.cmp.Ordering.TheVariants.{Less}
 use Rattle.fv_tree.specs.declared.ops.Fault.{Fault}
 use Rattle.fv_tree.specs.Plain.{Expression}
+use Rattle.fv_meaning.specs.Dialect.{Dialect}
 use Rattle.fv_meaning.specs.Store.{Store, size_of}
 use Rattle.f77_grammar.specs.Statement77.{Entity, Labelled}
 use Rattle.fv_meaning.specs.Names.{IsInByteOrder, is_among}
@@ -73,31 +74,31 @@ size_is : (r : Result (ℤ × ℤ) Fault) → size_of (bounds_in r) ≡ size_in 
 size_is (Ok b) = refl
 size_is (Err fault) = refl
 
-sizes_are : (s : Store) (bs : List (Expression × Expression)) → elements_of (map (λ b. bounds_in (dimension_of s b)) bs) ≡ product_of_sizes s bs
-sizes_are s [] = refl
-sizes_are s (b ∷ bs) =
-    ap (λ n. n * elements_of (map (λ c. bounds_in (dimension_of s c)) bs)) (size_is (dimension_of s b)) ∙ ap (λ n. size_in (dimension_of s b) * n) (sizes_are s bs)
+sizes_are : (d : Dialect) (s : Store) (bs : List (Expression × Expression)) → elements_of (map (λ b. bounds_in (dimension_of d s b)) bs) ≡ product_of_sizes d s bs
+sizes_are d s [] = refl
+sizes_are d s (b ∷ bs) =
+    ap (λ n. n * elements_of (map (λ c. bounds_in (dimension_of d s c)) bs)) (size_is (dimension_of d s b)) ∙ ap (λ n. size_in (dimension_of d s b) * n) (sizes_are d s bs)
 
-pub elements_are : (s : Store) (bs : List (Expression × Expression)) → array_elements (map (λ b. bounds_in (dimension_of s b)) bs) ≡ elements s bs
-elements_are s [] = refl
-elements_are s (b ∷ bs) = sizes_are s (b ∷ bs)
+pub elements_are : (d : Dialect) (s : Store) (bs : List (Expression × Expression)) → array_elements (map (λ b. bounds_in (dimension_of d s b)) bs) ≡ elements d s bs
+elements_are d s [] = refl
+elements_are d s (b ∷ bs) = sizes_are d s (b ∷ bs)
 
-module _ (s : Store) where
+module _ (d : Dialect) (s : Store) where
   abbrev of_entities : List Entity → ℕ
-  of_entities es = sum (map (elements s) (map (λ (e : Entity). e.bounds) es))
+  of_entities es = sum (map (elements d s) (map (λ (e : Entity). e.bounds) es))
 
   entities_appended : (es fs : List Entity) → of_entities (es ++ fs) ≡ of_entities es + of_entities fs
   entities_appended es fs =
-      ap (λ bs. sum (map (elements s) bs)) (map-append (λ (e : Entity). e.bounds) es fs)
-      ∙ ap sum (map-append (elements s) (map (λ (e : Entity). e.bounds) es) (map (λ (e : Entity). e.bounds) fs))
-      ∙ sum_by-append (λ n. n) (map (elements s) (map (λ (e : Entity). e.bounds) es)) (map (elements s) (map (λ (e : Entity). e.bounds) fs))
+      ap (λ bs. sum (map (elements d s) bs)) (map-append (λ (e : Entity). e.bounds) es fs)
+      ∙ ap sum (map-append (elements d s) (map (λ (e : Entity). e.bounds) es) (map (λ (e : Entity). e.bounds) fs))
+      ∙ sum_by-append (λ n. n) (map (elements d s) (map (λ (e : Entity). e.bounds) es)) (map (elements d s) (map (λ (e : Entity). e.bounds) fs))
 
-  more_elements : (x : Labelled) (xs : List Labelled) → all_elements s (x ∷ xs) ≡ of_entities (entities_of x.statement) + all_elements s xs
+  more_elements : (x : Labelled) (xs : List Labelled) → all_elements d s (x ∷ xs) ≡ of_entities (entities_of x.statement) + all_elements d s xs
   more_elements x xs =
-      ap sum (map-append (elements s) (bounds_declared x.statement) (flat_map (λ (y : Labelled). bounds_declared y.statement) xs))
-      ∙ sum_by-append (λ n. n) (map (elements s) (bounds_declared x.statement)) (map (elements s) (flat_map (λ (y : Labelled). bounds_declared y.statement) xs))
+      ap sum (map-append (elements d s) (bounds_declared x.statement) (flat_map (λ (y : Labelled). bounds_declared y.statement) xs))
+      ∙ sum_by-append (λ n. n) (map (elements d s) (bounds_declared x.statement)) (map (elements d s) (flat_map (λ (y : Labelled). bounds_declared y.statement) xs))
 
-  text_elements : (text : List Labelled) → of_entities (flat_map (λ (y : Labelled). entities_of y.statement) text) ≡ all_elements s text
+  text_elements : (text : List Labelled) → of_entities (flat_map (λ (y : Labelled). entities_of y.statement) text) ≡ all_elements d s text
   text_elements [] = refl
   text_elements (x ∷ xs) =
       entities_appended (entities_of x.statement) (flat_map (λ (y : Labelled). entities_of y.statement) xs)
@@ -105,7 +106,7 @@ module _ (s : Store) where
       ∙ sym (more_elements x xs)
 
   -- the order of the statements doesn't matter
-  pub turned_elements : (before text : List Labelled) → all_elements s (onto before text) ≡ all_elements s text + all_elements s before
+  pub turned_elements : (before text : List Labelled) → all_elements d s (onto before text) ≡ all_elements d s text + all_elements d s before
   turned_elements before [] = omega arith
   turned_elements before (x ∷ xs) =
       let a = turned_elements (x ∷ before) xs in
@@ -116,10 +117,10 @@ module _ (s : Store) where
   -- ---- of names
 
   abbrev of_names : (List ℕ → List (Expression × Expression)) → List (List ℕ) → ℕ
-  of_names f names = sum (map (λ x. elements s (f x)) names)
+  of_names f names = sum (map (λ x. elements d s (f x)) names)
 
-  names_more : (f : List ℕ → List (Expression × Expression)) (x : List ℕ) (xs : List (List ℕ)) → of_names f (x ∷ xs) ≡ elements s (f x) + of_names f xs
-  names_more f x xs = sum_by-cons (λ n. n) (elements s (f x)) (map (λ y. elements s (f y)) xs)
+  names_more : (f : List ℕ → List (Expression × Expression)) (x : List ℕ) (xs : List (List ℕ)) → of_names f (x ∷ xs) ≡ elements d s (f x) + of_names f xs
+  names_more f x xs = sum_by-cons (λ n. n) (elements d s (f x)) (map (λ y. elements d s (f y)) xs)
 
   abbrev or_bounds : Entity → (List ℕ → List (Expression × Expression)) → List ℕ → List (Expression × Expression)
   or_bounds e f x = cond (has_bounds e.bounds && bytes_eq e.name x) e.bounds (f x)
@@ -137,33 +138,33 @@ module _ (s : Store) where
   none_named e f (x ∷ xs) h =
       let a = names_more (or_bounds e f) x xs in
       let b = names_more f x xs in
-      let c = ap (elements s) (not_named e f x h.0) in
-      let d = none_named e f xs h.1 in
-      omega (arith, a, b, c, d)
+      let c = ap (elements d s) (not_named e f x h.0) in
+      let more = none_named e f xs h.1 in
+      omega (arith, a, b, c, more)
 
-  no_more : (e : Entity) (f : List ℕ → List (Expression × Expression)) (x : List ℕ) → elements s (or_bounds e f x) ≤ elements s e.bounds + elements s (f x)
+  no_more : (e : Entity) (f : List ℕ → List (Expression × Expression)) (x : List ℕ) → elements d s (or_bounds e f x) ≤ elements d s e.bounds + elements d s (f x)
   no_more e f x = by (has_bounds e.bounds && bytes_eq e.name x)
     where
-      by : (b : Bool) → elements s (cond b e.bounds (f x)) ≤ elements s e.bounds + elements s (f x)
+      by : (b : Bool) → elements d s (cond b e.bounds (f x)) ≤ elements d s e.bounds + elements d s (f x)
       by true = omega arith
       by false = omega arith
 
   differ : (e : Entity) (x : List ℕ) (xs : List (List ℕ)) → e.name ≡ x → AllByRecursion (λ y. order x y ≡ Less) xs → AllByRecursion (λ y. bytes_eq e.name y ≡ false) xs
   differ e x xs f h = all_weaker (λ y. order x y ≡ Less) (λ y. bytes_eq e.name y ≡ false) (λ y k. other_names e.name y (λ g. below_differs x y k (sym f ∙ g))) xs h
 
-  one_named : (e : Entity) (f : List ℕ → List (Expression × Expression)) (xs : List (List ℕ)) → IsInByteOrder xs → of_names (or_bounds e f) xs ≤ elements s e.bounds + of_names f xs
+  one_named : (e : Entity) (f : List ℕ → List (Expression × Expression)) (xs : List (List ℕ)) → IsInByteOrder xs → of_names (or_bounds e f) xs ≤ elements d s e.bounds + of_names f xs
   one_named e f [] h = omega arith
   one_named e f (x ∷ xs) h = by (bytes_eq e.name x) refl (one_named e f xs h.1) (names_more (or_bounds e f) x xs) (names_more f x xs)
     where
-      by : (b : Bool) → bytes_eq e.name x ≡ b → of_names (or_bounds e f) xs ≤ elements s e.bounds + of_names f xs
-          → of_names (or_bounds e f) (x ∷ xs) ≡ elements s (or_bounds e f x) + of_names (or_bounds e f) xs → of_names f (x ∷ xs) ≡ elements s (f x) + of_names f xs
-          → of_names (or_bounds e f) (x ∷ xs) ≤ elements s e.bounds + of_names f (x ∷ xs)
+      by : (b : Bool) → bytes_eq e.name x ≡ b → of_names (or_bounds e f) xs ≤ elements d s e.bounds + of_names f xs
+          → of_names (or_bounds e f) (x ∷ xs) ≡ elements d s (or_bounds e f x) + of_names (or_bounds e f) xs → of_names f (x ∷ xs) ≡ elements d s (f x) + of_names f xs
+          → of_names (or_bounds e f) (x ∷ xs) ≤ elements d s e.bounds + of_names f (x ∷ xs)
       by true g more a b =
           let c = none_named e f xs (differ e x xs (same_name e.name x g) h.0) in
-          let d = no_more e f x in
-          omega (arith, a, b, c, d)
+          let n = no_more e f x in
+          omega (arith, a, b, c, n)
       by false g more a b =
-          let c = ap (elements s) (not_named e f x g) in
+          let c = ap (elements d s) (not_named e f x g) in
           omega (arith, a, b, c, more)
 
   nothing_named : (xs : List (List ℕ)) → of_names (λ x. []) xs ≡ 0
@@ -178,11 +179,11 @@ module _ (s : Store) where
   names_within (e ∷ es) xs h =
       let a = one_named e (bounds_among es) xs h in
       let b = names_within es xs h in
-      let c = sum_by-cons (λ n. n) (elements s e.bounds) (map (elements s) (map (λ (e : Entity). e.bounds) es)) in
+      let c = sum_by-cons (λ n. n) (elements d s e.bounds) (map (elements d s) (map (λ (e : Entity). e.bounds) es)) in
       omega (arith, a, b, c)
 
   -- the arrays of names, none of which stands twice, have no more elements than the text declares
-  pub names_of_text : (text : List Labelled) (xs : List (List ℕ)) → IsInByteOrder xs → of_names (bounds_of_name text) xs ≤ all_elements s text
+  pub names_of_text : (text : List Labelled) (xs : List (List ℕ)) → IsInByteOrder xs → of_names (bounds_of_name text) xs ≤ all_elements d s text
   names_of_text text xs h =
       let a = names_within (flat_map (λ (y : Labelled). entities_of y.statement) text) xs h in
       let b = text_elements text in

@@ -37,6 +37,7 @@ mutual
   plain_in (Unary o a) = plain_in a
   plain_in (Binary o a b) = plain_both (uses_in a) (uses_in b) (plain_in a) (plain_in b)
   plain_in (Apply f es) = plain_in_arguments es
+  plain_in e = tt
 
   plain_in_arguments : (es : Expressions) → ArePlain (uses_in_arguments es)
   plain_in_arguments no_expressions = tt
@@ -48,6 +49,7 @@ mutual
 
   plain_in_subscript : (p : Subscript) → ArePlain (uses_in_subscript p)
   plain_in_subscript (Only e) = plain_in e
+  plain_in_subscript p = tt
 
 plain_input : (e : Expression) → ArePlain (input_uses e)
 plain_input (Named x ps) = (tt, plain_in_subscripts ps)
@@ -56,6 +58,7 @@ plain_input (Logic b) = tt
 plain_input (Unary o a) = plain_in a
 plain_input (Binary o a b) = plain_in (Binary o a b)
 plain_input (Apply f es) = plain_in (Apply f es)
+plain_input e = tt
 
 plain_control : (a b c : Expression) → ArePlain (uses_in a ++ uses_in b ++ uses_in c)
 plain_control a b c = plain_both (uses_in a ++ uses_in b) (uses_in c) (plain_both (uses_in a) (uses_in b) (plain_in a) (plain_in b)) (plain_in c)

@@ -4,9 +4,11 @@ use Rattle.std.specs.Option.{option_map}
 use Rattle.std.specs.List.{AllByRecursion}
 use Rattle.std.proofs.lemmas.Bool.Decides.{nat_tests}
 use Rattle.fv_tree.specs.declared.refusals.Refusal.{Refusal}
+use Rattle.fv_meaning.specs.Dialect.{Dialect}
 use Rattle.f77_grammar.specs.Statement77.{Labelled}
 use Rattle.f77_grammar.specs.program.Text.{Place, places, places_from}
-use Rattle.f77_grammar.specs.program.Program77.{Cause, Label, Nesting, NoEnd, Declared, RealName, TypeClash, Jump, DoVariable, ManyNames, ManyBlocks, ReversedBounds, ManyElements, BadConstant, all_causes, number_of_cause, word_of_cause, finding, findings_of, findings, comes_before}
+use Rattle.f77_grammar.specs.program.Program77.{Cause, Label, Nesting, NoEnd, Declared, RealName, TypeClash, Jump, DoVariable, ManyNames, ManyBlocks, ReversedBounds, ManyElements, BadConstant, all_causes, number_of_cause, word_of_cause, finding, findings_of, findings}
+use Rattle.f77_grammar.specs.Answered.{comes_before}
 use Rattle.f77_laws.specs.Source.{AreRising}
 use Rattle.f77_laws.specs.FirstFinding.{holds_in, HoldsFirst, RefusalIsFirst, FirstIsRefused}
 use Rattle.f77_laws.proofs.Lists.{here, there, nowhere, cases_of, not_both, all_at, all_of, in_flat, FromFlat, from_flat}
@@ -87,24 +89,24 @@ from_mapped f (q ∷ qs) r c = by (from_mapped f qs r) (cases_of (f q) (map f qs
     by more (inr d) = let k = more d in record { place = k.place; among = there q qs k.place k.among; is = k.is }
 
 -- a finding of a text, with the first place at which its cause holds
-record IsFinding (text : List Labelled) (r : Refusal) : Type 0 where
+record IsFinding (d : Dialect) (text : List Labelled) (r : Refusal) : Type 0 where
   cause : Cause
   is : r ≡ finding cause r.line
   first : ℕ
-  holds : HoldsFirst text cause first
+  holds : HoldsFirst d text cause first
   soon : first ≤ r.line
 
-finding_of : (x : Labelled) (xs : List Labelled) (r : Refusal) → AreRising (x ∷ xs) → Contains (findings (x ∷ xs)) r → IsFinding (x ∷ xs) r
-finding_of x xs r h c = by (from_flat (findings_of (x ∷ xs)) all_causes r c)
+finding_of : (d : Dialect) (x : Labelled) (xs : List Labelled) (r : Refusal) → AreRising (x ∷ xs) → Contains (findings d (x ∷ xs)) r → IsFinding d (x ∷ xs) r
+finding_of d x xs r h c = by (from_flat (findings_of d (x ∷ xs)) all_causes r c)
   where
     text : List Labelled
     text = x ∷ xs
 
-    by : FromFlat (findings_of (x ∷ xs)) all_causes r → IsFinding (x ∷ xs) r
+    by : FromFlat (findings_of d (x ∷ xs)) all_causes r → IsFinding d (x ∷ xs) r
     by f =
-        let m = from_mapped (λ (p : Place). finding f.it p.here.line) (filter (holds_in (x ∷ xs) f.it) (places (x ∷ xs))) r f.gives in
-        let p = passed_by (holds_in (x ∷ xs) f.it) (places (x ∷ xs)) m.place m.among in
-        let q = first_place (holds_in (x ∷ xs) f.it) [] (x ∷ xs) m.place h p.among p.passes in
+        let m = from_mapped (λ (p : Place). finding f.it p.here.line) (filter (holds_in d (x ∷ xs) f.it) (places (x ∷ xs))) r f.gives in
+        let p = passed_by (holds_in d (x ∷ xs) f.it) (places (x ∷ xs)) m.place m.among in
+        let q = first_place (holds_in d (x ∷ xs) f.it) [] (x ∷ xs) m.place h p.among p.passes in
         let l = ap (λ (o : Refusal). o.line) m.is in
         record {
           cause = f.it;
@@ -115,17 +117,17 @@ finding_of x xs r h c = by (from_flat (findings_of (x ∷ xs)) all_causes r c)
         }
 
 -- where a cause holds first there is a finding
-first_found : (x : Labelled) (xs : List Labelled) (c : Cause) (line : ℕ) → HoldsFirst (x ∷ xs) c line → Contains (findings (x ∷ xs)) (finding c line)
-first_found x xs c line h = by (find (holds_in (x ∷ xs) c) (places (x ∷ xs))) refl h
+first_found : (d : Dialect) (x : Labelled) (xs : List Labelled) (c : Cause) (line : ℕ) → HoldsFirst d (x ∷ xs) c line → Contains (findings d (x ∷ xs)) (finding c line)
+first_found d x xs c line h = by (find (holds_in d (x ∷ xs) c) (places (x ∷ xs))) refl h
   where
-    by : (o : Option Place) → find (holds_in (x ∷ xs) c) (places (x ∷ xs)) ≡ o → option_map (λ (p : Place). p.here.line) o ≡ Some line → Contains (findings (x ∷ xs)) (finding c line)
+    by : (o : Option Place) → find (holds_in d (x ∷ xs) c) (places (x ∷ xs)) ≡ o → option_map (λ (p : Place). p.here.line) o ≡ Some line → Contains (findings d (x ∷ xs)) (finding c line)
     by None e h = absurd cc
     by (Some q) e h =
         let l : q.here.line ≡ line = cc in
-        let k = found_there (holds_in (x ∷ xs) c) (places (x ∷ xs)) q e in
-        subst (λ (n : ℕ). Contains (findings (x ∷ xs)) (finding c n)) l
-        (in_flat (findings_of (x ∷ xs)) all_causes c (finding c q.here.line) (any_cause c)
-        (mapped (λ (p : Place). finding c p.here.line) (filter (holds_in (x ∷ xs) c) (places (x ∷ xs))) q (kept_by (holds_in (x ∷ xs) c) (places (x ∷ xs)) q k.among k.passes)))
+        let k = found_there (holds_in d (x ∷ xs) c) (places (x ∷ xs)) q e in
+        subst (λ (n : ℕ). Contains (findings d (x ∷ xs)) (finding c n)) l
+        (in_flat (findings_of d (x ∷ xs)) all_causes c (finding c q.here.line) (any_cause c)
+        (mapped (λ (p : Place). finding c p.here.line) (filter (holds_in d (x ∷ xs) c) (places (x ∷ xs))) q (kept_by (holds_in d (x ∷ xs) c) (places (x ∷ xs)) q k.among k.passes)))
 
 -- ---- the laws
 
@@ -133,19 +135,19 @@ not_sooner : (n w l k : ℕ) → (nat_lt n n || (n == n && (nat_lt k l || (k == 
 not_sooner n w l k h g = grind (arith, nat_tests)
 
 pub refusal_is_first : RefusalIsFirst
-refusal_is_first x xs r h f =
-    let k = finding_of x xs r h f.found_it in
-    let m = all_at (λ o. comes_before o r ≡ false) (findings (x ∷ xs)) (finding k.cause k.first) f.first (first_found x xs k.cause k.first k.holds) in
+refusal_is_first d x xs r h f =
+    let k = finding_of d x xs r h f.holds in
+    let m = f.first (finding k.cause k.first) (first_found d x xs k.cause k.first k.holds) in
     let same = not_sooner (number_of_cause k.cause) (word_of_cause k.cause) r.line k.first (sym (ap (comes_before (finding k.cause k.first)) k.is) ∙ m) k.soon in
-    (k.cause, k.is, subst (λ (n : ℕ). HoldsFirst (x ∷ xs) k.cause n) same k.holds)
+    (k.cause, k.is, subst (λ (n : ℕ). HoldsFirst d (x ∷ xs) k.cause n) same k.holds)
 
 later_too : (n l w m k v j : ℕ) → (nat_lt n m || (n == m && (nat_lt l k || (l == k && nat_lt w v)))) ≡ false → l ≤ j → (nat_lt n m || (n == m && (nat_lt j k || (j == k && nat_lt w v)))) ≡ false
 later_too n l w m k v j h g = grind (arith, nat_tests)
 
 pub first_is_refused : FirstIsRefused
-first_is_refused x xs c line h f o = record { found_it = first_found x xs c line f; first = all_of (λ r. comes_before r (finding c line) ≡ false) (findings (x ∷ xs)) (λ r d. at r (finding_of x xs r h d)) }
+first_is_refused d x xs c line h f o = record { holds = first_found d x xs c line f; first = λ r m. at r (finding_of d x xs r h m) }
   where
-    at : (r : Refusal) → IsFinding (x ∷ xs) r → comes_before r (finding c line) ≡ false
+    at : (r : Refusal) → IsFinding d (x ∷ xs) r → comes_before r (finding c line) ≡ false
     at r k =
         ap (λ (q : Refusal). comes_before q (finding c line)) k.is
         ∙ later_too (number_of_cause k.cause) k.first (word_of_cause k.cause) (number_of_cause c) line (word_of_cause c) r.line (o k.cause k.first k.holds) k.soon

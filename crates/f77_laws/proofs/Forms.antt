@@ -7,7 +7,7 @@ use Rattle.f77_grammar.specs.expressions.Phrases as phrases
 use Rattle.f77_grammar.specs.expressions.Phrases.{Phrase, IsExpression, written, tree, depth}
 use Rattle.f77_grammar.specs.expressions.Spelling.{Words, chars}
 use Rattle.f77_grammar.specs.expressions.Squeezing.{Symbol}
-use Rattle.f77_grammar.specs.statements.Items.{IsReference, written_items}
+use Rattle.f77_grammar.specs.statements.Items.{IsReference, written_items, Input, Output}
 use Rattle.f77_grammar.specs.statements.Forms.{Form, Program, Declare, Dimension, Constants, Assign, Go, Test, If, ElseIf, Else, EndIf, Do, Continue, Stop, Read, ReadNothing, Print, PrintNothing, End, IsEntity, IsBounded, Definition, IsDefinition, IsInner, IsFollowed, IsWritten, separated, keyword_of, written_entity, entity_tree, entity_depth, written_definition, definition_tree, definition_depth, optional_comma, written_control, reference_in, statement_of, form_depth}
 use Rattle.f77_laws.specs.Source.{IsShallow, IsSourceEntity, IsSourceConstant, IsSourceAction, IsSourceStatement}
 use Rattle.f77_laws.proofs.Lists.{all_left, all_right}
@@ -60,9 +60,9 @@ action (Assign l r) text s i h d = assignment l r text s h d
 action (Go label) text s i h d = parts.label label h.1
 action Continue text s i h d = tt
 action Stop text s i h d = tt
-action (Read is) text s i h d = (inputs is h.1 (either (codes "READ*,") (codes "READ(*,*)") (written_items is) text s h.0), omega (arith, items_within is, d))
+action (Read is) text s i h d = (inputs is h.1 (either (codes "READ*,") (codes "READ(*,*)") (written_items is) text s h.0), omega (arith, items_within Input is h.1, d))
 action ReadNothing text s i h d = (tt, omega arith)
-action (Print is) text s i h d = (outputs is h.1 (either (codes "PRINT*,") (codes "WRITE(*,*)") (written_items is) text s h.0), omega (arith, items_within is, d))
+action (Print is) text s i h d = (outputs is h.1 (either (codes "PRINT*,") (codes "WRITE(*,*)") (written_items is) text s h.0), omega (arith, items_within Output is h.1, d))
 action PrintNothing text s i h d = (tt, omega arith)
 action (Program x) text s i h d = absurd i
 action (Declare k es) text s i h d = absurd i
@@ -108,7 +108,7 @@ statement (Do label comma x a b c) text s h d =
       symbolic_name x ws.0,
       shallow a h.2.0 k.lower (omega (arith, d)),
       shallow b h.2.1 k.upper (omega (arith, d)),
-      (step_source c h.2.2 k.step, omega (arith, step_within c, d)),
+      (step_source c h.2.2 k.step, omega (arith, step_within c h.2.2, d)),
     )
 statement Continue text s h d = tt
 statement Stop text s h d = tt

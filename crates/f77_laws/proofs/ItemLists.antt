@@ -5,8 +5,9 @@ use Rattle.f77_grammar.specs.expressions.Words as words
 use Rattle.f77_grammar.specs.expressions.Words.{Word}
 use Rattle.f77_grammar.specs.expressions.Phrases.{Phrase, Literal, WideLiteral, Truth, Name, Listed, Paren, Signed, Joined, written, tree}
 use Rattle.f77_grammar.specs.expressions.Printing.{IsSource}
-use Rattle.fv_meaning.specs.Typed77.{depth_of, depth_of_item, depth_of_items, has_item}
-use Rattle.f77_grammar.specs.statements.Items.{ItemPhrase, ItemPhrases, Value, Text, Loop, Sole, More, Input, Output, IsReference, IsStep, IsItem, AreItems, written_step, written_bounds, written_item, written_items, step_tree, item_tree, item_trees, step_depth, item_depth, items_depth}
+use Rattle.fv_meaning.specs.Depths.{depth_of, depth_of_item, depth_of_items}
+use Rattle.fv_meaning.specs.Typed77.{has_item}
+use Rattle.f77_grammar.specs.statements.Items.{ItemPhrase, ItemPhrases, Value, Text, Loop, Sole, More, Direction, Input, Output, IsReference, IsStep, IsItem, AreItems, written_step, written_bounds, written_item, written_items, step_tree, item_tree, item_trees, step_depth, item_depth, items_depth}
 use Rattle.f77_laws.specs.Source.{IsSourceVariable, IsSourceOutput, AreSourceOutputs, IsSourceInput, AreSourceInputs}
 use Rattle.f77_laws.proofs.SourceExpressions.{within}
 use Rattle.f77_laws.proofs.SymbolicNames.{symbolic_name}
@@ -18,9 +19,9 @@ pub step_source : (c : Option Phrase) → IsStep c → AreSourceWords (written_s
 step_source None g h = omega arith
 step_source (Some p) g h = source p g h.1
 
-pub step_within : (c : Option Phrase) → depth_of (step_tree c) ≤ step_depth c
-step_within None = omega arith
-step_within (Some p) = within p
+pub step_within : (c : Option Phrase) → IsStep c → depth_of (step_tree c) ≤ step_depth c
+step_within None g = omega arith
+step_within (Some p) g = within p g
 
 -- the words of each
 pub record BoundsWords (a b : Phrase) (c : Option Phrase) : Type 0 where
@@ -116,11 +117,11 @@ mutual
 -- ---- depth
 
 mutual
-  item_within : (i : ItemPhrase) → depth_of_item (item_tree i) ≤ item_depth i
-  item_within (Value p) = within p
-  item_within (Text t) = omega arith
-  item_within (Loop is x a b c) = omega (arith, items_within is, within a, within b, step_within c)
+  item_within : (d : Direction) (i : ItemPhrase) → IsItem d i → depth_of_item (item_tree i) ≤ item_depth i
+  item_within d (Value p) g = within p g.0
+  item_within d (Text t) g = omega arith
+  item_within d (Loop is x a b c) g = omega (arith, items_within d is g.0, within a g.1, within b g.2, step_within c g.3)
 
-  pub items_within : (is : ItemPhrases) → depth_of_items (items (item_trees is)) ≤ items_depth is
-  items_within (Sole i) = omega (arith, item_within i)
-  items_within (More is i) = omega (arith, items_within is, item_within i, depth_push (item_trees is) (item_tree i))
+  pub items_within : (d : Direction) (is : ItemPhrases) → AreItems d is → depth_of_items (items (item_trees is)) ≤ items_depth is
+  items_within d (Sole i) g = omega (arith, item_within d i g)
+  items_within d (More is i) g = omega (arith, items_within d is g.0, item_within d i g.1, depth_push (item_trees is) (item_tree i))

@@ -1,12 +1,17 @@
 -- What the declarations of the tree say of names is what their uses say.
-use Rattle.std.proofs.Common.{◌≡◌, ◌⊎◌, inl, inr, ℕ, Bool, true, false, not, ◌&&◌, ◌||◌, Option, Some, None, is_none, ℤ, List, [], ◌∷◌, map, refl, sym, ap, subst, ◌∙◌, Contains, flat_map}
+use Rattle.std.proofs.Common.{◌≡◌, ◌⊎◌, inl, inr, ℕ, ◌^◌, ◌≤◌, nat_lt, ltb-true, lt-ltb, pos, negsuc, arith, Bool, true, false, not, ◌&&◌, ◌||◌, Option, Some, None, is_none, ℤ, List, [], ◌∷◌, map, refl, sym, ap, subst, ◌∙◌, Contains, flat_map}
 use Rattle.std.specs.List.{AllByRecursion, list_any}
 use Rattle.std.specs.Str.{bytes_eq}
 use Rattle.std.proofs.lemmas.Bool.{or_cases}
 use Rattle.std.proofs.lemmas.List.{length-map}
 use Rattle.fv_tree.specs.declared.ops.Kind.{Kind}
 use Rattle.fv_tree.specs.Plain.{Expression, Declaration}
-use Rattle.fv_meaning.specs.Store.{Store}
+use Rattle.std.proofs.Math.Pow.{pow_mono}
+use Rattle.fv_tree.specs.declared.ops.Value.{Value}
+use Rattle.fv_tree.specs.declared.ops.Value.TheVariants.{Int, Truth}
+use Rattle.fv_meaning.specs.Dialect.{Dialect}
+use Rattle.fv_meaning.specs.Store.{Store, Cell}
+use Rattle.fv_meaning.specs.Value.{is_in_range}
 use Rattle.f77_grammar.specs.Statement77.{Entity, NamedConstant, Labelled, Statement77, Program, Declare, Dimension, Constants, Test}
 use Rattle.f77_grammar.specs.program.Text.{places, places_from}
 use Rattle.f77_grammar.specs.program.Uses.{Role, Title, uses_in_bounds, Defined, Use, use_of, uses_in, bounded_uses, dimensioned_uses, typed_uses, defined_uses, uses_of, uses_in_text, is_typed, is_bounded, is_defined, is_bare, stands, is_constant, is_variable, kind_of_name}
@@ -16,7 +21,7 @@ use Rattle.f77_grammar.specs.program.Tree.{bounds_in, variables_of, declaration_
 use Rattle.f77_laws.specs.Source.{IsSourceAction, IsSourceStatement, IsSourceCard}
 use Rattle.f77_laws.proofs.Lists.{left_true, right_true, left_false, affirmed, not_both, all_weaker, all_both, all_at, all_true, none_any, found, FromFlat, from_flat, cases_of}
 use Rattle.f77_laws.proofs.Places.{place_of}
-use Rattle.f77_laws.proofs.Sound.{IsRight}
+use Rattle.f77_laws.proofs.Sound.{IsRight, HasValues}
 use Rattle.f77_laws.proofs.Variables.{same_name, is_among_variables, declared_name, undeclared_name, variable_used}
 use Rattle.f77_laws.proofs.Dimensions.{IsAction, IsProper, AreProper, IsPlainRole, IsPlainUse, ArePlain, plain_of, plain_in, plain_in_bounds, number_of_bounds}
 use Rattle.f77_laws.proofs.ConstantValues.{KeepsKinds, DefinesKinds, text_constants}
@@ -137,58 +142,73 @@ defined_in text x p h =
 
 -- ---- kinds of definitions
 
-module _ (text : List Labelled) where
+module _ (d : Dialect) (text : List Labelled) where
   abbrev us : List Use
   us = uses_in_text text
 
   abbrev s : Store
-  s = constants_of text
+  s = constants_of d text
 
-  defines_kinds_here : (c : Statement77) → suits us c ≡ true → DefinesKinds us (definitions_of c)
-  defines_kinds_here (Constants ds) h = all_true (λ (d : NamedConstant). has_kind us d.value (kind_of_name us d.name)) ds h
+  defines_kinds_here : (c : Statement77) → suits us c ≡ true → DefinesKinds d us (definitions_of c)
+  defines_kinds_here (Constants ds) h = all_true (λ (c : NamedConstant). has_kind us c.value (kind_of_name us c.name)) ds h
   defines_kinds_here c h = tt
 
-  defines_kinds : (before xs : List Labelled) → AllByRecursion (IsRight text) (places_from before xs) → DefinesKinds us (flat_map (λ (x : Labelled). definitions_of x.statement) xs)
+  defines_kinds : (before xs : List Labelled) → AllByRecursion (IsRight text) (places_from before xs) → DefinesKinds d us (flat_map (λ (x : Labelled). definitions_of x.statement) xs)
   defines_kinds before [] r = tt
   defines_kinds before (x ∷ xs) r =
-      all_both (λ (d : NamedConstant). has_kind us d.value (kind_of_name us d.name) ≡ true) (definitions_of x.statement) (flat_map (λ (y : Labelled). definitions_of y.statement) xs)
+      all_both (λ (c : NamedConstant). has_kind us c.value (kind_of_name us c.name) ≡ true) (definitions_of x.statement) (flat_map (λ (y : Labelled). definitions_of y.statement) xs)
       (defines_kinds_here x.statement (affirmed (suits us x.statement) (left_false (not (suits us x.statement)) (list_any (calls_hidden us) (uses_of x.statement)) r.0.kinds)))
       (defines_kinds (x ∷ before) xs r.1)
 
-  pub keeps_kinds : AllByRecursion (IsRight text) (places text) → KeepsKinds us s
-  keeps_kinds r = text_constants us text (defines_kinds [] text r)
+  pub keeps_kinds : AllByRecursion (IsRight text) (places text) → KeepsKinds d us s
+  keeps_kinds r = text_constants d us text (defines_kinds [] text r)
 
   abbrev has_bad_bounds : Statement77 → Bool
-  has_bad_bounds c = list_any (λ bs. list_any (λ b. is_no_constant s b.0 || is_no_constant s b.1) bs) (bounds_declared c)
+  has_bad_bounds c = list_any (λ bs. list_any (λ b. is_no_constant d s b.0 || is_no_constant d s b.1) bs) (bounds_declared c)
 
   -- a symbolic constant has a value
-  has_value : AllByRecursion (IsRight text) (places text) → AreProper text → (x : List ℕ) → is_constant us x ≡ true → is_none (s.bounds x) ≡ false
+  has_value : AllByRecursion (HasValues d text) (places text) → AreProper text → (x : List ℕ) → is_constant us x ≡ true → is_none (s.bounds x) ≡ false
   has_value r p x h =
-      let d = defined_in text x p h in
-      let q = place_of (IsRight text) [] text d.card r d.among in
+      let m = defined_in text x p h in
+      let q = place_of (HasValues d text) [] text m.card r m.among in
       let g = left_false (list_any (λ (e : NamedConstant). is_none (s.bounds e.name)) (definitions_of q.place.here.statement)) (has_bad_bounds q.place.here.statement) q.holds.constants in
       let k = ap (λ (y : Labelled). list_any (λ (e : NamedConstant). is_none (s.bounds e.name)) (definitions_of y.statement)) (sym q.stands) ∙ g in
-      ap (λ y. is_none (s.bounds y)) (sym d.same)
-      ∙ all_at (λ (e : NamedConstant). is_none (s.bounds e.name) ≡ false) (definitions_of d.card.statement) d.definition (none_any (λ (e : NamedConstant). is_none (s.bounds e.name)) (definitions_of d.card.statement) k) d.defines
+      ap (λ y. is_none (s.bounds y)) (sym m.same)
+      ∙ all_at (λ (e : NamedConstant). is_none (s.bounds e.name) ≡ false) (definitions_of m.card.statement) m.definition (none_any (λ (e : NamedConstant). is_none (s.bounds e.name)) (definitions_of m.card.statement) k) m.defines
 
-  valued : (x : List ℕ) → KeepsKinds us s → is_none (s.bounds x) ≡ false → IsValued us s x
-  valued x keeps h = by (s.bounds x) refl h
+  -- what INTEGER holds is a literal or the negative of one
+  literal_range : (v : Value) → d.bits ≤ 126 → is_in_range d.bits v ≡ true → is_in_range 126 v ≡ true
+  literal_range (Int (pos n)) b h = below n b h
+    where
+      below : (n : ℕ) → d.bits ≤ 126 → nat_lt n (2 ^ d.bits) ≡ true → nat_lt n (2 ^ 126) ≡ true
+      below n b h = let lt = ltb-true n (2 ^ d.bits) h in let le = pow_mono b in lt-ltb n (2 ^ 126) (omega (arith, lt, le))
+  literal_range (Int (negsuc n)) b h = below n b h
+    where
+      below : (n : ℕ) → d.bits ≤ 126 → nat_lt n (2 ^ d.bits) ≡ true → nat_lt n (2 ^ 126) ≡ true
+      below n b h = let lt = ltb-true n (2 ^ d.bits) h in let le = pow_mono b in lt-ltb n (2 ^ 126) (omega (arith, lt, le))
+  literal_range (Truth t) b h = refl
+
+  valued : (x : List ℕ) → d.bits ≤ 126 → KeepsKinds d us s → is_none (s.bounds x) ≡ false → IsValued us s x
+  valued x b keeps h = by (s.bounds x) refl h
     where
       by : (o : Option (List (ℤ × ℤ))) → s.bounds x ≡ o → is_none o ≡ false → IsValued us s x
       by None e h = absurd cc
-      by (Some bs) e h = let k = keeps x bs e in record { kind = k.kind (record { name = x; subscripts = [] }) refl; range = k.range (record { name = x; subscripts = [] }) refl }
+      by (Some bs) e h =
+          let k = keeps x bs e in
+          let c : Cell = record { name = x; subscripts = [] } in
+          record { kind = k.kind c refl; range = literal_range (s.held c) b (k.range c refl) }
 
   abbrev pub declarations : List Declaration
-  declarations = map (declaration_of us s text) (variables_of us)
+  declarations = map (declaration_of d us s text) (variables_of us)
 
-  pub knows : AllByRecursion (IsRight text) (places text) → AreProper text → Knows us s declarations
-  knows r p = record {
+  pub knows : d.bits ≤ 126 → AllByRecursion (IsRight text) (places text) → AllByRecursion (HasValues d text) (places text) → AreProper text → Knows us s declarations
+  knows b r v p = record {
     variable = λ x h. record {
-      it = declaration_of us s text x;
-      is = declared_name us s text (variables_of us) x (variable_named us x h);
+      it = declaration_of d us s text x;
+      is = declared_name d us s text (variables_of us) x (variable_named us x h);
       kind = refl;
-      many = length-map (bounds_of_name text x) (λ b. bounds_in (dimension_of s b)) ∙ number_of_bounds text x p;
+      many = length-map (bounds_of_name text x) (λ b. bounds_in (dimension_of d s b)) ∙ number_of_bounds text x p;
     };
-    other = λ x h. undeclared_name us s text (variables_of us) x (λ c. not_both (is_variable us x) (variable_used us x c).variable h);
-    constant = λ x h. valued x (keeps_kinds r) (has_value r p x h);
+    other = λ x h. undeclared_name d us s text (variables_of us) x (λ c. not_both (is_variable us x) (variable_used us x c).variable h);
+    constant = λ x h. valued x b (keeps_kinds r) (has_value v p x h);
   }

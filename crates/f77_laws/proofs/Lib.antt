@@ -18,6 +18,7 @@ pub mod LabelCounts
 pub mod Known
 pub mod SymbolicNames
 pub mod Declared
+pub mod Calls
 pub mod Titles
 pub mod Programs
 pub mod FirstFindings

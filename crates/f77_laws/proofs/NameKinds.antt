@@ -1,5 +1,5 @@
 -- Kinds and depths of resolved expressions.
-use Rattle.std.proofs.Common.{◌≡◌, ◌⊎◌, inl, inr, ℕ, suc, ◌+◌, ◌<◌, ◌≤◌, max, one-add, Bool, true, false, not, ◌&&◌, ◌||◌, cond, Option, Some, None, is_some, IsSomeAnd, ℤ, pos, negsuc, List, [], length, refl, sym, ap, subst, ◌∙◌, arith, Contains, ltb-true, le-leb, eqb-true, nat_le, ◌==◌}
+use Rattle.std.proofs.Common.{◌≡◌, ◌⊎◌, inl, inr, ℕ, suc, ◌+◌, ◌^◌, ◌<◌, ◌≤◌, max, one-add, Bool, true, false, not, ◌&&◌, ◌||◌, cond, Option, Some, None, is_some, IsSomeAnd, ℤ, pos, negsuc, List, [], length, refl, sym, ap, subst, ◌∙◌, arith, Contains, ltb-true, le-leb, eqb-true, nat_le, ◌==◌}
 use Rattle.std.specs.List.{AllByRecursion}
 use Rattle.std.specs.Str.{bytes_eq}
 use Rattle.std.proofs.lemmas.Bool.{or_cases, and_cases}
@@ -8,16 +8,18 @@ use Rattle.fv_tree.specs.declared.ops.Kind.{Kind}
 use Rattle.fv_tree.specs.declared.ops.Kind.TheVariants.{Integer, Logical}
 use Rattle.fv_tree.specs.declared.ops.Value.{Value}
 use Rattle.fv_tree.specs.declared.ops.Value.TheVariants.{Int, Truth}
-use Rattle.fv_tree.specs.declared.ops.Fun.{Fun}
+use Rattle.fv_tree.specs.declared.functions.Fun.{Fun}
 use Rattle.fv_tree.specs.declared.ops.Op.{Op}
 use Rattle.fv_tree.specs.Plain.{Expression, Number, Logic, Named, Unary, Binary, Apply, Expressions, no_expressions, expression, Subscript, Only, Subscripts, no_subscripts, subscript, Declaration}
 use Rattle.fv_meaning.specs.Store.{Store}
 use Rattle.fv_meaning.specs.Value.{is_in_range}
-use Rattle.fv_meaning.specs.Sequential.{integer_bits}
+use Rattle.fv_meaning.specs.Depths.{level, enclosed, left_least, right_least, depth_of, depth_of_each, depth_of_subscripts, depth_of_subscript}
 use Rattle.f77_grammar.specs.expressions.Printing.{IsSource, IsSourceSubscript, AreSource}
-use Rattle.fv_meaning.specs.Names.{function_named, name_of_function, suits_number}
-use Rattle.fv_meaning.specs.Typed77.{operand_kind, kind_of_result, is_unary, number_of_arguments, number_of_subscripts, dimensions, declared, depth_of, depth_of_arguments, depth_of_subscripts, depth_of_subscript, is_negative_literal, HasKind, AreArguments, AreSubscripts, IsSubscript, IsDeclared}
-use Rattle.f77_grammar.specs.program.Uses.{Role, Valued, Use, use_of, uses_in, uses_in_subscripts, uses_in_subscript, is_typed, is_bare, is_bounded, stands, is_constant, is_variable, is_array, is_function, kind_of_name, dimensions_of_name}
+use Rattle.fv_tree.specs.Functions.{function_named, name_of_function, suits_number}
+use Rattle.fv_meaning.specs.Typed77.{number_of_arguments, number_of_subscripts, dimensions, declared, HasKind}
+use Rattle.fv_meaning.specs.Typed77.{AreArguments, AreSubscripts, IsSubscript, IsDeclared}
+use Rattle.fv_tree.specs.OperatorTable.{operand_kind, result_kind_of, is_unary}
+use Rattle.f77_grammar.specs.program.Uses.{Role, Valued, Use, use_of, uses_in, uses_in_subscripts, uses_in_subscript, is_typed, is_bare, is_bounded, stands, is_constant, is_variable, is_array, is_function, calls, kind_of_name, dimensions_of_name}
 use Rattle.f77_grammar.specs.program.Declarations.{is_misused, suits_list}
 use Rattle.f77_grammar.specs.program.Kinds.{same_kind, takes_so_many, has_kind, name_has_kind, list_has_kind, are_subscripts, is_subscript, is_hidden_name, calls_hidden}
 use Rattle.f77_grammar.specs.program.Tree.{literal, arguments_of, call_of, element_or_call, value_or_name, resolved, resolved_arguments, resolved_subscripts, resolved_subscript}
@@ -36,7 +38,7 @@ pub record IsDeclaredAs (us : List Use) (ds : List Declaration) (x : List ℕ) :
 
 pub record IsValued (us : List Use) (s : Store) (x : List ℕ) : Type 0 where
   pub kind : kind_of (s.held (record { name = x; subscripts = [] })) ≡ kind_of_name us x
-  pub range : is_in_range integer_bits (s.held (record { name = x; subscripts = [] })) ≡ true
+  pub range : is_in_range 126 (s.held (record { name = x; subscripts = [] })) ≡ true
 
 pub record Knows (us : List Use) (s : Store) (ds : List Declaration) : Type 0 where
   pub variable : (x : List ℕ) → is_variable us x ≡ true → IsDeclaredAs us ds x
@@ -104,33 +106,33 @@ module _ (us : List Use) where
 
 -- ---- literals
 
-pub literal_kind : (ds : List Declaration) (v : Value) (k : Kind) → kind_of v ≡ k → is_in_range integer_bits v ≡ true → HasKind ds (literal v) k
-literal_kind ds (Int (pos n)) k e r = (let lt : n < 2147483648 = ltb-true n 2147483648 r in omega arith, sym e)
-literal_kind ds (Int (negsuc n)) k e r = (refl, sym e, (let lt : n < 2147483648 = ltb-true n 2147483648 r in omega arith, refl))
+pub literal_kind : (ds : List Declaration) (v : Value) (k : Kind) → kind_of v ≡ k → is_in_range 126 v ≡ true → HasKind ds (literal v) k
+literal_kind ds (Int (pos n)) k e r = (let lt : n < 2 ^ 126 = ltb-true n (2 ^ 126) r in omega arith, sym e)
+literal_kind ds (Int (negsuc n)) k e r = (refl, sym e, (let lt : n < 2 ^ 126 = ltb-true n (2 ^ 126) r in omega arith, refl))
 literal_kind ds (Truth b) k e r = sym e
 
-literal_depth : (v : Value) → is_in_range integer_bits v ≡ true → depth_of (literal v) ≤ 0
-literal_depth (Int (pos n)) r = omega arith
-literal_depth (Int (negsuc n)) r = small (nat_le (suc n) 2147483648) (le-leb (suc n) 2147483648 (let lt : n < 2147483648 = ltb-true n 2147483648 r in omega arith))
-  where
-    small : (b : Bool) → b ≡ true → cond b 0 1 ≤ 0
-    small true h = omega arith
-    small false h = absurd cc
-literal_depth (Truth b) r = omega arith
+-- the negative of a literal is an operator deep
+literal_depth : (v : Value) → depth_of (literal v) ≤ 1
+literal_depth (Int (pos n)) = omega arith
+literal_depth (Int (negsuc n)) = omega arith
+literal_depth (Truth b) = omega arith
 
 -- ---- arguments
 
 arguments_suit : (ds : List Declaration) (ps : Subscripts) → AreSubscripts ds ps → AreArguments ds (arguments_of ps)
 arguments_suit ds no_subscripts h = tt
 arguments_suit ds (subscript (Only e) ps) h = (h.0, arguments_suit ds ps h.1)
+arguments_suit ds (subscript p ps) h = absurd h.0
 
-as_many_arguments : (ps : Subscripts) → number_of_arguments (arguments_of ps) ≡ number_of_subscripts ps
-as_many_arguments no_subscripts = refl
-as_many_arguments (subscript (Only e) ps) = ap (λ n. 1 + n) (as_many_arguments ps)
+as_many_arguments : (ds : List Declaration) (ps : Subscripts) → AreSubscripts ds ps → number_of_arguments (arguments_of ps) ≡ number_of_subscripts ps
+as_many_arguments ds no_subscripts h = refl
+as_many_arguments ds (subscript (Only e) ps) h = ap (λ n. 1 + n) (as_many_arguments ds ps h.1)
+as_many_arguments ds (subscript p ps) h = absurd h.0
 
-arguments_depth : (ps : Subscripts) → 1 + depth_of_arguments (arguments_of ps) ≤ max 1 (depth_of_subscripts ps)
+arguments_depth : (ps : Subscripts) → 1 + depth_of_each (arguments_of ps) ≤ max 1 (depth_of_subscripts ps)
 arguments_depth no_subscripts = omega arith
 arguments_depth (subscript (Only e) ps) = let h = arguments_depth ps in omega (arith, h)
+arguments_depth (subscript p ps) = let h = arguments_depth ps in omega (arith, h)
 
 -- ---- kinds
 
@@ -169,7 +171,7 @@ module _ (us : List Use) (s : Store) (ds : List Declaration) (knows : Knows us s
   call_kind : (x : List ℕ) (n : ℕ) (k : Kind) (ps : Subscripts) (f : Option Fun) → function_named x ≡ f → is_function us x ≡ true → takes_so_many f n ≡ true → k ≡ Integer
       → is_hidden_name us x f ≡ false → number_of_subscripts ps ≡ n → AreSubscripts ds ps → HasKind ds (call_of f x ps) k
   call_kind x n k ps None e fun t i g m h = absurd cc
-  call_kind x n k ps (Some f) e fun t i g m h = (ap (suits_number f) (as_many_arguments ps ∙ m) ∙ t, knows.other (name_of_function f) (by (and_cases (not (bytes_eq x (name_of_function f))) (is_variable us (name_of_function f)) g)), i, arguments_suit ds ps h)
+  call_kind x n k ps (Some f) e fun t i g m h = (ap (suits_number f) (as_many_arguments ds ps h ∙ m) ∙ t, knows.other (name_of_function f) (by (and_cases (not (bytes_eq x (name_of_function f))) (is_variable us (name_of_function f)) g)), i, arguments_suit ds ps h)
     where
       by : (not (bytes_eq x (name_of_function f)) ≡ false) ⊎ (is_variable us (name_of_function f) ≡ false) → is_variable us (name_of_function f) ≡ false
       by (inl a) = sym (ap (is_variable us) (same_name x (name_of_function f) (affirmed (bytes_eq x (name_of_function f)) a))) ∙ function_no_variable us x fun
@@ -225,20 +227,20 @@ module _ (us : List Use) (s : Store) (ds : List Declaration) (knows : Knows us s
         (as_many (subscript p ps) ∙ one-add (number_of_subscripts ps))
         (subscript_kinds (subscript p ps) h.1 u.1 (right_true (name_has_kind us x (1 + number_of_subscripts ps) k) (are_subscripts us (subscript p ps)) g))
     kinds (Unary o a) k h u g =
-        let front = left_true (is_unary o && same_kind (kind_of_result o) k) (has_kind us a (operand_kind o)) g in (
-          left_true (is_unary o) (same_kind (kind_of_result o) k) front,
-          sym (kinds_same (kind_of_result o) k (right_true (is_unary o) (same_kind (kind_of_result o) k) front)),
-          kinds a (operand_kind o) h.1 u (right_true (is_unary o && same_kind (kind_of_result o) k) (has_kind us a (operand_kind o)) g),
+        let front = left_true (is_unary o && same_kind (result_kind_of o) k) (has_kind us a (operand_kind o)) g in (
+          left_true (is_unary o) (same_kind (result_kind_of o) k) front,
+          sym (kinds_same (result_kind_of o) k (right_true (is_unary o) (same_kind (result_kind_of o) k) front)),
+          kinds a (operand_kind o) h.1 u (right_true (is_unary o && same_kind (result_kind_of o) k) (has_kind us a (operand_kind o)) g),
         )
     kinds (Binary o a b) k h u g =
-        let front = left_true (not (is_unary o) && same_kind (kind_of_result o) k && has_kind us a (operand_kind o)) (has_kind us b (operand_kind o)) g in
-        let first = left_true (not (is_unary o) && same_kind (kind_of_result o) k) (has_kind us a (operand_kind o)) front in (
-          left_true (not (is_unary o)) (same_kind (kind_of_result o) k) first,
-          sym (kinds_same (kind_of_result o) k (right_true (not (is_unary o)) (same_kind (kind_of_result o) k) first)),
-          kinds a (operand_kind o) h.1 (all_left (IsGood us) (uses_in a) (uses_in b) u) (right_true (not (is_unary o) && same_kind (kind_of_result o) k) (has_kind us a (operand_kind o)) front),
-          kinds b (operand_kind o) h.2 (all_right (IsGood us) (uses_in a) (uses_in b) u) (right_true (not (is_unary o) && same_kind (kind_of_result o) k && has_kind us a (operand_kind o)) (has_kind us b (operand_kind o)) g),
+        let front = left_true (not (is_unary o) && same_kind (result_kind_of o) k && has_kind us a (operand_kind o)) (has_kind us b (operand_kind o)) g in
+        let first = left_true (not (is_unary o) && same_kind (result_kind_of o) k) (has_kind us a (operand_kind o)) front in (
+          left_true (not (is_unary o)) (same_kind (result_kind_of o) k) first,
+          sym (kinds_same (result_kind_of o) k (right_true (not (is_unary o)) (same_kind (result_kind_of o) k) first)),
+          kinds a (operand_kind o) h.1 (all_left (IsGood us) (uses_in a) (uses_in b) u) (right_true (not (is_unary o) && same_kind (result_kind_of o) k) (has_kind us a (operand_kind o)) front),
+          kinds b (operand_kind o) h.2 (all_right (IsGood us) (uses_in a) (uses_in b) u) (right_true (not (is_unary o) && same_kind (result_kind_of o) k && has_kind us a (operand_kind o)) (has_kind us b (operand_kind o)) g),
         )
-    kinds (Apply f es) k h u g = absurd h
+    kinds e k h u g = absurd h
 
     pub subscript_kinds : (ps : Subscripts) → AreSource ps → AreGood us (uses_in_subscripts ps) → are_subscripts us ps ≡ true → AreSubscripts ds (resolved_subscripts us s ps)
     subscript_kinds no_subscripts h u g = tt
@@ -249,26 +251,13 @@ module _ (us : List Use) (s : Store) (ds : List Declaration) (knows : Knows us s
 
     one_subscript : (p : Subscript) → IsSourceSubscript p → AreGood us (uses_in_subscript p) → is_subscript us p ≡ true → IsSubscript ds (resolved_subscript us s p)
     one_subscript (Only e) h u g = kinds e Integer h u g
+    one_subscript p h u g = absurd h
 
   -- ---- depth
 
-  keeps_literal : (o : Op) (a : Expression) → is_negative_literal o a ≡ true → is_negative_literal o (resolved us s a) ≡ true
-  keeps_literal o (Number n) h = h
-  keeps_literal o (Logic b) h = absurd cc
-  keeps_literal o (Named x ps) h = absurd cc
-  keeps_literal o (Unary p a) h = absurd cc
-  keeps_literal o (Binary p a b) h = absurd cc
-  keeps_literal o (Apply f es) h = absurd cc
-
-  unary_depth : (a b : Bool) (n m : ℕ) → (a ≡ true → b ≡ true) → n ≤ m → cond b 0 (1 + n) ≤ cond a 0 (1 + m)
-  unary_depth true true n m f h = omega arith
-  unary_depth true false n m f h = absurd (let g = f refl in cc)
-  unary_depth false true n m f h = omega arith
-  unary_depth false false n m f h = omega (arith, h)
-
-  bare_depth : (x : List ℕ) (b : Bool) → is_constant us x ≡ b → depth_of (value_or_name b x s) ≤ 0
-  bare_depth x true c = literal_depth (s.held (record { name = x; subscripts = [] })) (knows.constant x c).range
-  bare_depth x false c = omega arith
+  bare_depth : (x : List ℕ) (b : Bool) → depth_of (value_or_name b x s) ≤ 1
+  bare_depth x true = literal_depth (s.held (record { name = x; subscripts = [] }))
+  bare_depth x false = omega arith
 
   call_depth : (x : List ℕ) (f : Option Fun) (ps : Subscripts) → depth_of (call_of f x ps) ≤ max 1 (depth_of_subscripts ps)
   call_depth x None ps = omega arith
@@ -278,26 +267,68 @@ module _ (us : List Use) (s : Store) (ds : List Declaration) (knows : Knows us s
   list_depth x true ps = omega arith
   list_depth x false ps = call_depth x (function_named x) ps
 
+  call_level : (x : List ℕ) (f : Option Fun) (ps : Subscripts) → level (call_of f x ps) ≡ 10
+  call_level x None ps = refl
+  call_level x (Some f) ps = refl
+
+  list_level : (x : List ℕ) (b : Bool) (ps : Subscripts) → level (element_or_call b x ps) ≡ 10
+  list_level x true ps = refl
+  list_level x false ps = call_level x (function_named x) ps
+
+  -- an expression keeps its level, but for a symbolic constant
+  levels : (e : Expression) → (level (resolved us s e) ≡ level e) ⊎ (depth_of (resolved us s e) ≤ 1)
+  levels (Named x no_subscripts) = inr (bare_depth x (is_constant us x))
+  levels (Named x (subscript p ps)) = inl (list_level x (is_array us x) (resolved_subscripts us s (subscript p ps)))
+  levels e = inl refl
+
+  enclosed_le : (least own n : ℕ) → enclosed least own n ≤ 1 + n
+  enclosed_le least own n = by (nat_le least own)
+    where
+      by : (b : Bool) → cond b n (1 + n) ≤ 1 + n
+      by true = omega arith
+      by false = omega arith
+
+  enclosed_more : (least own n m : ℕ) → n ≤ 2 + m → enclosed least own n ≤ 2 + enclosed least own m
+  enclosed_more least own n m h = by (nat_le least own)
+    where
+      by : (b : Bool) → cond b n (1 + n) ≤ 2 + cond b m (1 + m)
+      by true = omega (arith, h)
+      by false = omega (arith, h)
+
+  operand : (least : ℕ) (e : Expression) → depth_of (resolved us s e) ≤ 2 + depth_of e
+      → enclosed least (level (resolved us s e)) (depth_of (resolved us s e)) ≤ 2 + enclosed least (level e) (depth_of e)
+  operand least e h = by (levels e)
+    where
+      by : (level (resolved us s e) ≡ level e) ⊎ (depth_of (resolved us s e) ≤ 1)
+          → enclosed least (level (resolved us s e)) (depth_of (resolved us s e)) ≤ 2 + enclosed least (level e) (depth_of e)
+      by (inl g) = subst (λ (l : ℕ). enclosed least l (depth_of (resolved us s e)) ≤ 2 + enclosed least (level e) (depth_of e)) (sym g)
+          (enclosed_more least (level e) (depth_of (resolved us s e)) (depth_of e) h)
+      by (inr g) = let a = enclosed_le least (level (resolved us s e)) (depth_of (resolved us s e)) in omega (arith, a, g)
+
   mutual
-    pub depths : (e : Expression) → depth_of (resolved us s e) ≤ depth_of e
-    depths (Number n) = omega arith
-    depths (Logic b) = omega arith
-    depths (Named x no_subscripts) = bare_depth x (is_constant us x) refl
+    -- the negative of a literal, in parentheses where it needs them, is two deep
+    pub depths : (e : Expression) → depth_of (resolved us s e) ≤ 2 + depth_of e
+    depths (Named x no_subscripts) = let a = bare_depth x (is_constant us x) in omega (arith, a)
     depths (Named x (subscript p ps)) =
         let a = list_depth x (is_array us x) (resolved_subscripts us s (subscript p ps)) in
         let b = subscript_depths (subscript p ps) in
         omega (arith, a, b)
-    depths (Unary o a) = unary_depth (is_negative_literal o a) (is_negative_literal o (resolved us s a)) (depth_of (resolved us s a)) (depth_of a) (keeps_literal o a) (depths a)
-    depths (Binary o a b) = omega (arith, depths a, depths b)
+    depths (Unary o a) = let h = operand (right_least o) a (depths a) in omega (arith, h)
+    depths (Binary o a b) =
+        let h = operand (left_least o) a (depths a) in
+        let g = operand (right_least o) b (depths b) in
+        omega (arith, h, g)
     depths (Apply f es) = let h = argument_depths es in omega (arith, h)
+    depths e = omega arith
 
-    argument_depths : (es : Expressions) → depth_of_arguments (resolved_arguments us s es) ≤ depth_of_arguments es
+    argument_depths : (es : Expressions) → depth_of_each (resolved_arguments us s es) ≤ 2 + depth_of_each es
     argument_depths no_expressions = omega arith
     argument_depths (expression e es) = omega (arith, depths e, argument_depths es)
 
-    pub subscript_depths : (ps : Subscripts) → depth_of_subscripts (resolved_subscripts us s ps) ≤ depth_of_subscripts ps
+    pub subscript_depths : (ps : Subscripts) → depth_of_subscripts (resolved_subscripts us s ps) ≤ 2 + depth_of_subscripts ps
     subscript_depths no_subscripts = omega arith
     subscript_depths (subscript p ps) = omega (arith, subscript_depth p, subscript_depths ps)
 
-    subscript_depth : (p : Subscript) → depth_of_subscript (resolved_subscript us s p) ≤ depth_of_subscript p
+    subscript_depth : (p : Subscript) → depth_of_subscript (resolved_subscript us s p) ≤ 2 + depth_of_subscript p
     subscript_depth (Only e) = depths e
+    subscript_depth p = omega arith

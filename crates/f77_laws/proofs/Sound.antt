@@ -1,6 +1,7 @@
 -- A text without findings: at none of its places does a cause of refusal hold.
 use Rattle.std.proofs.Common.{◌≡◌, false, List, [], ◌∷◌, ◌++◌, length, refl, ap, arith, flat_map, Contains}
 use Rattle.std.specs.List.{AllByRecursion}
+use Rattle.fv_meaning.specs.Dialect.{Dialect}
 use Rattle.f77_grammar.specs.Statement77.{Labelled}
 use Rattle.f77_grammar.specs.program.Text.{Place, places}
 use Rattle.f77_grammar.specs.program.Uses.{uses_in_text}
@@ -16,8 +17,8 @@ use Rattle.f77_grammar.specs.program.Program77.{Cause, Label, Nesting, NoEnd, De
 use Rattle.f77_laws.proofs.Lists.{none_left, left_false, right_false, all_at, all_of}
 
 -- the cause holds nowhere
-abbrev pub IsFree : List Labelled → Cause → Type 0
-IsFree text c = AllByRecursion (λ (p : Place). holds_at c text (uses_in_text text) (constants_of text) p ≡ false) (places text)
+abbrev pub IsFree : Dialect → List Labelled → Cause → Type 0
+IsFree d text c = AllByRecursion (λ (p : Place). holds_at d c text (uses_in_text text) (constants_of d text) p ≡ false) (places text)
 
 nothing_left : {A : Type 0} → (xs ys : List A) → xs ++ ys ≡ [] → xs ≡ []
 nothing_left [] ys h = refl
@@ -27,18 +28,18 @@ nothing_right : {A : Type 0} → (xs ys : List A) → xs ++ ys ≡ [] → ys ≡
 nothing_right [] ys h = h
 nothing_right (x ∷ xs) ys h = absurd (let e = ap length h in omega arith)
 
-free_of : (text : List Labelled) (cs : List Cause) → flat_map (findings_of text) cs ≡ [] → AllByRecursion (IsFree text) cs
-free_of text [] h = tt
-free_of text (c ∷ cs) h = (
-  none_left (λ (p : Place). finding c p.here.line) (holds_at c text (uses_in_text text) (constants_of text)) (places text) (nothing_left (findings_of text c) (flat_map (findings_of text) cs) h),
-  free_of text cs (nothing_right (findings_of text c) (flat_map (findings_of text) cs) h),
+free_of : (d : Dialect) (text : List Labelled) (cs : List Cause) → flat_map (findings_of d text) cs ≡ [] → AllByRecursion (IsFree d text) cs
+free_of d text [] h = tt
+free_of d text (c ∷ cs) h = (
+  none_left (λ (p : Place). finding c p.here.line) (holds_at d c text (uses_in_text text) (constants_of d text)) (places text) (nothing_left (findings_of d text c) (flat_map (findings_of d text) cs) h),
+  free_of d text cs (nothing_right (findings_of d text c) (flat_map (findings_of d text) cs) h),
 )
 
-pub sound : (text : List Labelled) → findings text ≡ [] → AllByRecursion (IsFree text) all_causes
-sound [] h = absurd (let e = ap length h in omega arith)
-sound (x ∷ xs) h = free_of (x ∷ xs) all_causes h
+pub sound : (d : Dialect) (text : List Labelled) → findings d text ≡ [] → AllByRecursion (IsFree d text) all_causes
+sound d [] h = absurd (let e = ap length h in omega arith)
+sound d (x ∷ xs) h = free_of d (x ∷ xs) all_causes h
 
--- nothing is wrong at a place
+-- nothing is wrong at a place, its values aside
 pub record IsRight (text : List Labelled) (p : Place) : Type 0 where
   pub label : has_wrong_label text p ≡ false
   pub nesting : is_nested_wrongly p ≡ false
@@ -50,31 +51,42 @@ pub record IsRight (text : List Labelled) (p : Place) : Type 0 where
   pub do_variable : has_wrong_do_variable (uses_in_text text) p ≡ false
   pub names : has_many_names (uses_in_text text) p ≡ false
   pub blocks : has_many_blocks p ≡ false
-  pub bounds : has_reversed_bounds (constants_of text) p ≡ false
-  pub elements : has_many_elements (constants_of text) p ≡ false
-  pub constants : has_bad_constant (constants_of text) p ≡ false
 
-pub right : (text : List Labelled) → findings text ≡ [] → AllByRecursion (IsRight text) (places text)
-right text e = all_of (IsRight text) (places text) (λ p c. at p c (sound text e))
-  where
-    of : (c : Cause) (p : Place) → IsFree text c → Contains (places text) p → holds_at c text (uses_in_text text) (constants_of text) p ≡ false
-    of c p h m = all_at (λ (q : Place). holds_at c text (uses_in_text text) (constants_of text) q ≡ false) (places text) p h m
+-- nothing is wrong with the values of constants and bounds at a place
+pub record HasValues (d : Dialect) (text : List Labelled) (p : Place) : Type 0 where
+  pub bounds : has_reversed_bounds d (constants_of d text) p ≡ false
+  pub elements : has_many_elements d (constants_of d text) p ≡ false
+  pub constants : has_bad_constant d (constants_of d text) p ≡ false
 
-    at : (p : Place) → Contains (places text) p → AllByRecursion (IsFree text) all_causes → IsRight text p
-    at p m h =
-        let nesting = of Nesting p h.1.0 m in
-        record {
-          label = of Label p h.0 m;
-          nesting = left_false (is_nested_wrongly p) (is_out_of_order p) nesting;
-          order = right_false (is_nested_wrongly p) (is_out_of_order p) nesting;
-          end = of NoEnd p h.1.1.0 m;
-          declared = of Declared p h.1.1.1.0 m;
-          kinds = of TypeClash p h.1.1.1.1.1.0 m;
-          jump = of Jump p h.1.1.1.1.1.1.0 m;
-          do_variable = of DoVariable p h.1.1.1.1.1.1.1.0 m;
-          names = of ManyNames p h.1.1.1.1.1.1.1.1.0 m;
-          blocks = of ManyBlocks p h.1.1.1.1.1.1.1.1.1.0 m;
-          bounds = of ReversedBounds p h.1.1.1.1.1.1.1.1.1.1.0 m;
-          elements = of ManyElements p h.1.1.1.1.1.1.1.1.1.1.1.0 m;
-          constants = of BadConstant p h.1.1.1.1.1.1.1.1.1.1.1.1.0 m;
-        }
+module _ (d : Dialect) (text : List Labelled) (e : findings d text ≡ []) where
+  free_at : (c : Cause) (p : Place) → IsFree d text c → Contains (places text) p → holds_at d c text (uses_in_text text) (constants_of d text) p ≡ false
+  free_at c p h m = all_at (λ (q : Place). holds_at d c text (uses_in_text text) (constants_of d text) q ≡ false) (places text) p h m
+
+  right_at : (p : Place) → Contains (places text) p → AllByRecursion (IsFree d text) all_causes → IsRight text p
+  right_at p m h =
+      let nesting = free_at Nesting p h.1.0 m in
+      record {
+        label = free_at Label p h.0 m;
+        nesting = left_false (is_nested_wrongly p) (is_out_of_order p) nesting;
+        order = right_false (is_nested_wrongly p) (is_out_of_order p) nesting;
+        end = free_at NoEnd p h.1.1.0 m;
+        declared = free_at Declared p h.1.1.1.0 m;
+        kinds = free_at TypeClash p h.1.1.1.1.1.0 m;
+        jump = free_at Jump p h.1.1.1.1.1.1.0 m;
+        do_variable = free_at DoVariable p h.1.1.1.1.1.1.1.0 m;
+        names = free_at ManyNames p h.1.1.1.1.1.1.1.1.0 m;
+        blocks = free_at ManyBlocks p h.1.1.1.1.1.1.1.1.1.0 m;
+      }
+
+  pub right : AllByRecursion (IsRight text) (places text)
+  right = all_of (IsRight text) (places text) (λ p c. right_at p c (sound d text e))
+
+  values_at : (p : Place) → Contains (places text) p → AllByRecursion (IsFree d text) all_causes → HasValues d text p
+  values_at p m h = record {
+    bounds = free_at ReversedBounds p h.1.1.1.1.1.1.1.1.1.1.0 m;
+    elements = free_at ManyElements p h.1.1.1.1.1.1.1.1.1.1.1.0 m;
+    constants = free_at BadConstant p h.1.1.1.1.1.1.1.1.1.1.1.1.0 m;
+  }
+
+  pub values : AllByRecursion (HasValues d text) (places text)
+  values = all_of (HasValues d text) (places text) (λ p c. values_at p c (sound d text e))

@@ -1,11 +1,15 @@
 -- What is read as an expression is such as cards give: its names are symbolic names, its literals are within range, and it isn't deep.
-use Rattle.std.proofs.Common.{ℕ, ◌+◌, ◌<◌, ◌≤◌, max, Bool, true, false, cond, List, [], ◌∷◌, ◌++◌, sym, subst, arith}
-use Rattle.fv_tree.specs.declared.ops.Op.TheVariants.{Neg, Not}
+use Rattle.std.proofs.Common.{◌≡◌, ℕ, ◌+◌, ◌<◌, ◌≤◌, max, nat_le, Bool, true, false, cond, IsTrue, List, [], ◌∷◌, ◌++◌, refl, sym, ap, subst, le-leb, arith}
+use Rattle.std.proofs.lemmas.Bool.{cond-true}
+use Rattle.fv_tree.specs.Spelling as spelling
+use Rattle.fv_tree.specs.declared.ops.Op.{Op}
+use Rattle.fv_tree.specs.declared.ops.Op.TheVariants.{Pow, Mul, Div, Add, Sub, Lt, Le, Eq, Ne, Gt, Ge, And, Or, Eqv, Neqv}
 use Rattle.fv_tree.specs.Plain.{Expression, Subscript, Only, subscripts}
-use Rattle.f77_grammar.specs.expressions.Levels.{Plus, Minus, Negation}
-use Rattle.f77_grammar.specs.expressions.Phrases.{Phrase, Literal, WideLiteral, Truth, Name, Listed, Paren, Signed, Joined, Phrases, One, Then, tree, trees, depth, depths}
+use Rattle.fv_meaning.specs.Depths as printing
+use Rattle.fv_meaning.specs.Depths.{enclosed, depth_of, depth_of_subscripts}
+use Rattle.fv_tree.specs.OperatorTable.{Plus, Minus, Negation, level_of, left_least, right_least, stands_between}
+use Rattle.f77_grammar.specs.expressions.Phrases.{Phrase, Literal, WideLiteral, Truth, Name, Listed, Paren, Signed, Joined, Phrases, One, Then, IsExpression, AreExpressions, level, tree, trees, depth, depths}
 use Rattle.f77_grammar.proofs.expressions.SourceLaws.{read_source}
-use Rattle.fv_meaning.specs.Typed77.{depth_of, depth_of_subscripts, is_negative_literal}
 use Rattle.f77_laws.specs.Reading.{ReadExpressionIsSource}
 
 -- ---- depth
@@ -14,26 +18,115 @@ one_more : (ss : List Subscript) (e : Expression) → depth_of_subscripts (subsc
 one_more [] e = omega arith
 one_more (s ∷ ss) e = let h = one_more ss e in omega (arith, h)
 
-unary_within : (b : Bool) (n m : ℕ) → n ≤ m → cond b 0 (1 + n) ≤ m + 1
-unary_within true n m h = omega arith
-unary_within false n m h = omega (arith, h)
+-- ---- the levels of operators are those by which expressions are printed
+
+same_left : (o : Op) → IsTrue (stands_between o) → printing.left_least o ≡ left_least o
+same_left Pow h = refl
+same_left Mul h = refl
+same_left Div h = refl
+same_left Add h = refl
+same_left Sub h = refl
+same_left Lt h = refl
+same_left Le h = refl
+same_left Eq h = refl
+same_left Ne h = refl
+same_left Gt h = refl
+same_left Ge h = refl
+same_left And h = refl
+same_left Or h = refl
+same_left Eqv h = refl
+same_left Neqv h = refl
+same_left o h = absurd cc
+
+same_right : (o : Op) → IsTrue (stands_between o) → printing.right_least o ≡ right_least o
+same_right Pow h = refl
+same_right Mul h = refl
+same_right Div h = refl
+same_right Add h = refl
+same_right Sub h = refl
+same_right Lt h = refl
+same_right Le h = refl
+same_right Eq h = refl
+same_right Ne h = refl
+same_right Gt h = refl
+same_right Ge h = refl
+same_right And h = refl
+same_right Or h = refl
+same_right Eqv h = refl
+same_right Neqv h = refl
+same_right o h = absurd cc
+
+same_level : (o : Op) → IsTrue (stands_between o) → spelling.level_of o ≡ level_of o
+same_level Pow h = refl
+same_level Mul h = refl
+same_level Div h = refl
+same_level Add h = refl
+same_level Sub h = refl
+same_level Lt h = refl
+same_level Le h = refl
+same_level Eq h = refl
+same_level Ne h = refl
+same_level Gt h = refl
+same_level Ge h = refl
+same_level And h = refl
+same_level Or h = refl
+same_level Eqv h = refl
+same_level Neqv h = refl
+same_level o h = absurd cc
+
+-- ---- parentheses are needed where they are written, or nowhere
+
+bare : (least own n : ℕ) → least ≤ own → enclosed least own n ≡ n
+bare least own n h = cond-true (nat_le least own) n (1 + n) (le-leb least own h)
+
+in_parentheses : (least own n : ℕ) → enclosed least own n ≤ 1 + n
+in_parentheses least own n = by (nat_le least own)
+  where
+    by : (b : Bool) → cond b n (1 + n) ≤ 1 + n
+    by true = omega arith
+    by false = omega arith
+
+-- the tree of a phrase is no deeper than the phrase; so it is as an operand, in parentheses where it needs them
+record IsWithin (p : Phrase) : Type 0 where
+  whole : depth_of (tree p) ≤ depth p
+  operand : (least : ℕ) → least ≤ level p → enclosed least (printing.level (tree p)) (depth_of (tree p)) ≤ depth p
+
+-- a primary, and an operand with an operator of its level, needs no parentheses
+at_level : (p : Phrase) → level p ≤ printing.level (tree p) → depth_of (tree p) ≤ depth p → IsWithin p
+at_level p l h = record { whole = h; operand = λ least k. let e = bare least (printing.level (tree p)) (depth_of (tree p)) (omega (arith, l, k)) in omega (arith, e, h) }
 
 mutual
-  pub within : (p : Phrase) → depth_of (tree p) ≤ depth p
-  within (Literal n) = omega arith
-  within WideLiteral = omega arith
-  within (Truth b) = omega arith
-  within (Name x) = omega arith
-  within (Listed x ps) = lists_within ps
-  within (Paren p) = omega (arith, within p)
-  within (Signed Plus p) = omega (arith, within p)
-  within (Signed Minus p) = unary_within (is_negative_literal Neg (tree p)) (depth_of (tree p)) (depth p) (within p)
-  within (Signed Negation p) = unary_within (is_negative_literal Not (tree p)) (depth_of (tree p)) (depth p) (within p)
-  within (Joined o a b) = omega (arith, within a, within b)
+  within_of : (p : Phrase) → IsExpression p → IsWithin p
+  within_of (Literal n) g = at_level (Literal n) (omega arith) (omega arith)
+  within_of WideLiteral g = at_level WideLiteral (omega arith) (omega arith)
+  within_of (Truth b) g = at_level (Truth b) (omega arith) (omega arith)
+  within_of (Name x) g = at_level (Name x) (omega arith) (omega arith)
+  within_of (Listed x ps) g = at_level (Listed x ps) (omega arith) (lists_within ps g)
+  within_of (Paren p) g =
+      let h = (within_of p g).whole in
+      record { whole = omega (arith, h); operand = λ least k. let e = in_parentheses least (printing.level (tree p)) (depth_of (tree p)) in omega (arith, e, h) }
+  within_of (Signed Plus p) g =
+      let h = within_of p g.2 in
+      record { whole = (let k = h.whole in omega (arith, k)); operand = λ least l. let k = h.operand least (let m = g.0 in omega (arith, l, m)) in omega (arith, k) }
+  within_of (Signed Minus p) g = let h = (within_of p g.2).operand 8 g.0 in at_level (Signed Minus p) (omega arith) (omega (arith, h))
+  within_of (Signed Negation p) g = let h = (within_of p g.2).operand 6 g.0 in at_level (Signed Negation p) (omega arith) (omega (arith, h))
+  within_of (Joined o a b) g =
+      let h = (within_of a g.4).operand (left_least o) g.1 in
+      let k = (within_of b g.5).operand (right_least o) g.2 in
+      let e = ap (λ l. enclosed l (printing.level (tree a)) (depth_of (tree a))) (same_left o g.0) in
+      let f = ap (λ l. enclosed l (printing.level (tree b)) (depth_of (tree b))) (same_right o g.0) in
+      at_level (Joined o a b) (let l = same_level o g.0 in omega (arith, l)) (omega (arith, h, k, e, f))
 
-  lists_within : (ps : Phrases) → depth_of_subscripts (subscripts (trees ps)) ≤ depths ps + 1
-  lists_within (One p) = omega (arith, within p)
-  lists_within (Then ps p) = omega (arith, lists_within ps, one_more (trees ps) (tree p), within p)
+  lists_within : (ps : Phrases) → AreExpressions ps → depth_of_subscripts (subscripts (trees ps)) ≤ depths ps + 1
+  lists_within (One p) g = let h = (within_of p g).whole in omega (arith, h)
+  lists_within (Then ps p) g =
+      let h = lists_within ps g.0 in
+      let k = one_more (trees ps) (tree p) in
+      let l = (within_of p g.1).whole in
+      omega (arith, h, k, l)
+
+pub within : (p : Phrase) → IsExpression p → depth_of (tree p) ≤ depth p
+within p g = (within_of p g).whole
 
 -- ---- the law
 
@@ -42,5 +135,5 @@ not_more n h = omega (arith, h)
 
 pub read_is_source : ReadExpressionIsSource
 read_is_source chars e h =
-    let d : depth_of (tree h.phrase) ≤ 400 = (let a = within h.phrase in let b = not_more (depth h.phrase) h.shallow in omega (arith, a, b)) in
+    let d : depth_of (tree h.phrase) ≤ 400 = (let a = within h.phrase h.spells.good in let b = not_more (depth h.phrase) h.shallow in omega (arith, a, b)) in
     (read_source chars e h, subst (λ (q : Expression). depth_of q ≤ 400) (sym h.same) d)

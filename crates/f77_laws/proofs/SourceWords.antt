@@ -63,4 +63,4 @@ pub source : (p : Phrase) → IsExpression p → AreSourceWords (written p) → 
 source p g h = laws.source p g (good (written p) h)
 
 pub shallow : (p : Phrase) → IsExpression p → AreSourceWords (written p) → depth p ≤ 400 → IsShallow (tree p)
-shallow p g h d = (source p g h, omega (arith, within p, d))
+shallow p g h d = (source p g h, omega (arith, within p g, d))

@@ -14,7 +14,7 @@ use Rattle.f77_grammar.specs.program.Declarations.{is_misused, has_misused_name,
 use Rattle.f77_grammar.specs.program.Kinds.{has_kind, suits, calls_hidden}
 use Rattle.f77_grammar.specs.program.Jumps.{jumps_wrongly}
 use Rattle.f77_grammar.specs.program.DoVariables.{loop_variable, loop_variables, misuses_variable}
-use Rattle.f77_grammar.specs.program.Limits.{constants_of, opens_block, has_many_blocks}
+use Rattle.f77_grammar.specs.program.Limits.{opens_block, has_many_blocks}
 use Rattle.fv_meaning.specs.Profile77.{blocks_in, IsLine}
 use Rattle.f77_grammar.specs.program.Tree.{Rest, Outermost, InArm, preceded, mark_of, target, targets, resolved, simple, begun, rest_from}
 use Rattle.f77_laws.specs.Source.{IsShallow, IsSourceLabel, IsSourceAction, IsSourceStatement, IsSourceCard}
@@ -122,12 +122,9 @@ flat_action us s line EndIf h = absurd h
 flat_action us s line (Do n x b c d) h = absurd h
 flat_action us s line End h = absurd h
 
-module _ (text : List Labelled) (ds : List Declaration) (knows : Knows (uses_in_text text) (constants_of text) ds) where
+module _ (text : List Labelled) (s : Store) (ds : List Declaration) (knows : Knows (uses_in_text text) s ds) where
   abbrev us : List Use
   us = uses_in_text text
-
-  abbrev s : Store
-  s = constants_of text
 
   abbrev named : List ℕ
   named = targets text
@@ -148,7 +145,7 @@ module _ (text : List Labelled) (ds : List Declaration) (knows : Knows (uses_in_
   good_uses : (before xs : List Labelled) (x : Labelled) → IsAt before (x ∷ xs) → IsExecuted x.statement → AreGood us (uses_of x.statement)
   good_uses before xs x k e =
       let p : Place = record { before = before; here = x; after = xs } in
-      let m = misused us x.statement e (right_false (is_declared_again is_typed p || is_declared_again is_array_or_constant p || uses_title p || has_unknown_constant (names_that is_defined (uses_in_text before)) x.statement) (has_misused_name us x.statement) k.right.0.declared) in
+      let m = misused us x.statement e (right_false (is_declared_again is_typed p || is_declared_again is_array_or_constant p || uses_title us p || has_unknown_constant (names_that is_defined (uses_in_text before)) x.statement) (has_misused_name us x.statement) k.right.0.declared) in
       let h = right_false (not (suits us x.statement)) (list_any (calls_hidden us) (uses_of x.statement)) k.right.0.kinds in
       all_of (IsGood us) (uses_of x.statement) (λ u c. record {
         among = in_flat (λ (y : Labelled). uses_of y.statement) text x u k.cards.0.among c;

@@ -44,7 +44,7 @@ mutual
   names_in (Named x ps) h = (symbolic_name x h.0, names_in_subscripts ps h.1)
   names_in (Unary o a) h = names_in a h.1
   names_in (Binary o a b) h = both (uses_in a) (uses_in b) (names_in a h.1) (names_in b h.2)
-  names_in (Apply f es) h = absurd h
+  names_in e h = absurd h
 
   names_in_subscripts : (ps : Subscripts) → AreSource ps → AreSymbolic (uses_in_subscripts ps)
   names_in_subscripts no_subscripts h = tt
@@ -52,6 +52,7 @@ mutual
 
   names_in_subscript : (p : Subscript) → IsSourceSubscript p → AreSymbolic (uses_in_subscript p)
   names_in_subscript (Only e) h = names_in e h
+  names_in_subscript p h = absurd h
 
 names_in_control : (a b c : Expression) → IsSource a → IsSource b → IsSource c → AreSymbolic (uses_in a ++ uses_in b ++ uses_in c)
 names_in_control a b c h k l = both (uses_in a ++ uses_in b) (uses_in c) (both (uses_in a) (uses_in b) (names_in a h) (names_in b k)) (names_in c l)
@@ -68,11 +69,7 @@ mutual
 
 names_in_variable : (e : Expression) → IsSourceVariable e → AreSymbolic (input_uses e)
 names_in_variable (Named x ps) h = (symbolic_name x h.0, names_in_subscripts ps h.1)
-names_in_variable (Number n) h = absurd h
-names_in_variable (Logic b) h = absurd h
-names_in_variable (Unary o a) h = absurd h
-names_in_variable (Binary o a b) h = absurd h
-names_in_variable (Apply f es) h = absurd h
+names_in_variable e h = absurd h
 
 mutual
   names_in_input : (i : Item) → IsSourceInput i → AreSymbolic (uses_in_input i)

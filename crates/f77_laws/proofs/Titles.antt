@@ -1,18 +1,25 @@
 -- The name of the program is no other name.
-use Rattle.std.proofs.Common.{◌≡◌, ◌⊎◌, inl, inr, ℕ, Bool, true, false, not, ◌&&◌, ◌||◌, List, [], ◌∷◌, ◌++◌, refl, sym, ap, subst, Contains, filter, flat_map}
-use Rattle.std.specs.List.{AllByRecursion}
+use Rattle.std.proofs.Common.{◌≡◌, ◌⊎◌, inl, inr, ℕ, Bool, true, false, not, ◌&&◌, ◌||◌, cond, Some, ◌∙◌, List, [], ◌∷◌, ◌++◌, refl, sym, ap, subst, Contains, filter, flat_map}
+use Rattle.std.specs.List.{AllByRecursion, list_any}
 use Rattle.std.specs.Str.{bytes_eq}
 use Rattle.std.proofs.lemmas.Bool.{or_cases}
 use Rattle.fv_tree.specs.declared.ops.Kind.{Kind}
 use Rattle.fv_tree.specs.Plain.{Expression}
 use Rattle.f77_grammar.specs.Statement77.{Entity, NamedConstant, Labelled, Statement77, Program, Declare, Dimension, Constants, Test}
 use Rattle.f77_grammar.specs.program.Text.{Place, places, places_from}
-use Rattle.fv_meaning.specs.Names.{IsSymbolicName}
-use Rattle.f77_grammar.specs.program.Uses.{Role, Title, Use, use_of, uses_in, uses_in_bounds, bounded_uses, dimensioned_uses, typed_uses, defined_uses, uses_of, uses_in_text, is_title, is_typed, is_bounded, is_defined, is_bare, names_that, stands, is_constant, is_variable}
+use Rattle.fv_tree.specs.declared.ops.Fun.{Fun}
+use Rattle.fv_meaning.specs.Store.{Store}
+use Rattle.fv_meaning.specs.Calls.{calls_in_block}
+use Rattle.fv_meaning.specs.Names.{IsSymbolicName, function_named, name_of_function}
+use Rattle.f77_grammar.specs.program.Uses.{Role, Title, Use, use_of, uses_in, uses_in_bounds, bounded_uses, dimensioned_uses, typed_uses, defined_uses, uses_of, uses_in_text, is_title, is_typed, is_bounded, is_defined, is_bare, names_that, stands, is_constant, is_variable, is_function}
 use Rattle.f77_grammar.specs.program.Order.{is_nothing, is_late}
-use Rattle.f77_grammar.specs.program.Declarations.{is_declared_again, is_array_or_constant, uses_title, has_unknown_constant, has_misused_name}
-use Rattle.f77_laws.proofs.Lists.{left_true, right_true, left_false, right_false, not_both, all_both, all_at, all_weaker, none_any, any_true, here, there, nowhere, cases_of, found, FromFlat, from_flat, in_flat}
+use Rattle.f77_grammar.specs.program.Declarations.{is_declared_again, is_array_or_constant, printed_by, printed_name, bears_title, uses_title, has_unknown_constant, has_misused_name}
+use Rattle.f77_laws.proofs.Lists.{left_true, right_true, left_false, right_false, affirmed, not_both, all_both, all_at, all_of, all_weaker, none_any, any_true, here, there, nowhere, cases_of, found, FromFlat, from_flat, in_flat}
+use Rattle.f77_grammar.specs.program.Kinds.{suits, calls_hidden}
+use Rattle.f77_grammar.specs.program.Tree.{Rest, begun, rest_from, outermost_block}
+use Rattle.f77_laws.specs.Source.{IsSourceCard}
 use Rattle.f77_laws.proofs.Places.{place_of}
+use Rattle.f77_laws.proofs.Calls.{IsHeard, IsSaid, AllIn, title_calls, rest_calls, outermost_calls}
 use Rattle.f77_laws.proofs.Sound.{IsRight}
 use Rattle.f77_laws.proofs.Variables.{same_name, equal_names, passed_by, use_named}
 use Rattle.f77_laws.proofs.Dimensions.{IsProper, AreProper, IsPlainRole, IsPlainUse, plain_of, plain_in, plain_in_bounds}
@@ -141,15 +148,16 @@ told us x h = by (or_cases (stands is_typed us x || stands is_bounded us x) (sta
 no_title_used : (text : List Labelled) (y : Labelled) (q : Place) (z : Labelled) (x : List ℕ) (v : Use) → IsBehind text y q → q.here ≡ z → IsTitled y.statement x → Contains (uses_of z.statement) v → v.name ≡ x → is_title v.role ≡ false → ⊥
 no_title_used text y q z x v b e t c n u =
     let g = uses_title_here in
-    let k = all_at (λ (w : Use). (not (is_title w.role) && stands is_title (uses_in_text q.before) w.name) ≡ false) (uses_of q.here.statement) v
-    (none_any (λ (w : Use). not (is_title w.role) && stands is_title (uses_in_text q.before) w.name) (uses_of q.here.statement) g) (subst (λ (w : Labelled). Contains (uses_of w.statement) v) (sym e) c) in
-    not_both (stands is_title (uses_in_text q.before) v.name) stands_there (falls (is_title v.role) (stands is_title (uses_in_text q.before) v.name) u k)
+    let k = all_at (λ (w : Use). bears_title (uses_in_text text) (uses_in_text q.before) w ≡ false) (uses_of q.here.statement) v
+    (none_any (bears_title (uses_in_text text) (uses_in_text q.before)) (uses_of q.here.statement) g) (subst (λ (w : Labelled). Contains (uses_of w.statement) v) (sym e) c) in
+    not_both (stands is_title (uses_in_text q.before) v.name) stands_there
+    (left_false (stands is_title (uses_in_text q.before) v.name) (stands is_title (uses_in_text q.before) (printed_name (uses_in_text text) v)) (falls (is_title v.role) _ u k))
   where
-    uses_title_here : uses_title q ≡ false
+    uses_title_here : uses_title (uses_in_text text) q ≡ false
     uses_title_here =
-        right_false (is_declared_again is_typed q || is_declared_again is_array_or_constant q) (uses_title q)
-        (left_false (is_declared_again is_typed q || is_declared_again is_array_or_constant q || uses_title q) (has_unknown_constant (names_that is_defined (uses_in_text q.before)) q.here.statement)
-        (left_false (is_declared_again is_typed q || is_declared_again is_array_or_constant q || uses_title q || has_unknown_constant (names_that is_defined (uses_in_text q.before)) q.here.statement)
+        right_false (is_declared_again is_typed q || is_declared_again is_array_or_constant q) (uses_title (uses_in_text text) q)
+        (left_false (is_declared_again is_typed q || is_declared_again is_array_or_constant q || uses_title (uses_in_text text) q) (has_unknown_constant (names_that is_defined (uses_in_text q.before)) q.here.statement)
+        (left_false (is_declared_again is_typed q || is_declared_again is_array_or_constant q || uses_title (uses_in_text text) q || has_unknown_constant (names_that is_defined (uses_in_text q.before)) q.here.statement)
         (has_misused_name (uses_in_text text) q.here.statement) b.right.declared))
 
     falls : (a c : Bool) → a ≡ false → (not a && c) ≡ false → c ≡ false
@@ -160,6 +168,46 @@ no_title_used text y q z x v b e t c n u =
     stands_there =
         any_true (λ (w : Use). is_title w.role && bytes_eq w.name v.name) (uses_in_text q.before) (use_of x Title) (in_flat (λ (w : Labelled). uses_of w.statement) q.before y (use_of x Title) b.behind (title_there y.statement x t))
         (equal_names x v.name (sym n))
+
+-- what is called behind the title has another name
+heard_behind : (text : List Labelled) (s : Store) (y : Labelled) (q : Place) (x : List ℕ) (v : Use) → IsBehind text y q → IsTitled y.statement x → Contains (uses_of q.here.statement) v → is_title v.role ≡ false
+    → IsHeard (uses_in_text text) s (λ n. n ≡ x → ⊥) v
+heard_behind text s y q x v b t c u = record { heard = λ f i e n. not_both (stands is_title (uses_in_text q.before) (printed_name us v)) (there_too f i e n) not_there }
+  where
+    us : List Use
+    us = uses_in_text text
+
+    uses_title_here : uses_title (uses_in_text text) q ≡ false
+    uses_title_here =
+        right_false (is_declared_again is_typed q || is_declared_again is_array_or_constant q) (uses_title (uses_in_text text) q)
+        (left_false (is_declared_again is_typed q || is_declared_again is_array_or_constant q || uses_title (uses_in_text text) q) (has_unknown_constant (names_that is_defined (uses_in_text q.before)) q.here.statement)
+        (left_false (is_declared_again is_typed q || is_declared_again is_array_or_constant q || uses_title (uses_in_text text) q || has_unknown_constant (names_that is_defined (uses_in_text q.before)) q.here.statement)
+        (has_misused_name (uses_in_text text) q.here.statement) b.right.declared))
+
+    falls : (a c : Bool) → a ≡ false → (not a && c) ≡ false → c ≡ false
+    falls true c h g = absurd cc
+    falls false c h g = g
+
+    not_there : stands is_title (uses_in_text q.before) (printed_name (uses_in_text text) v) ≡ false
+    not_there =
+        right_false (stands is_title (uses_in_text q.before) v.name) (stands is_title (uses_in_text q.before) (printed_name (uses_in_text text) v))
+        (falls (is_title v.role) _ u
+        (all_at (λ (w : Use). bears_title (uses_in_text text) (uses_in_text q.before) w ≡ false) (uses_of q.here.statement) v
+        (none_any (bears_title (uses_in_text text) (uses_in_text q.before)) (uses_of q.here.statement) uses_title_here) c))
+
+    printed : (f : Fun) → is_function (uses_in_text text) v.name ≡ true → function_named v.name ≡ Some f → printed_name (uses_in_text text) v ≡ name_of_function f
+    printed f i e =
+        ap (λ a. cond (not a && is_function (uses_in_text text) v.name) (printed_by (function_named v.name) v.name) v.name) u
+        ∙ ap (λ b. cond b (printed_by (function_named v.name) v.name) v.name) i
+        ∙ ap (λ o. printed_by o v.name) e
+
+    stands_there : stands is_title (uses_in_text q.before) x ≡ true
+    stands_there =
+        any_true (λ (w : Use). is_title w.role && bytes_eq w.name x) (uses_in_text q.before) (use_of x Title) (in_flat (λ (w : Labelled). uses_of w.statement) q.before y (use_of x Title) b.behind (title_there y.statement x t))
+        (equal_names x x refl)
+
+    there_too : (f : Fun) → is_function (uses_in_text text) v.name ≡ true → function_named v.name ≡ Some f → name_of_function f ≡ x → stands is_title (uses_in_text q.before) (printed_name (uses_in_text text) v) ≡ true
+    there_too f i e n = ap (stands is_title (uses_in_text q.before)) (printed f i e ∙ n) ∙ stands_there
 
 -- the first statement has the title, if any has
 title_first : (y : Labelled) (ys : List Labelled) (u : Use) → AreProper (y ∷ ys) → AllByRecursion IsUntitled ys → Contains (uses_in_text (y ∷ ys)) u → is_title u.role ≡ true → IsTitled y.statement u.name
@@ -209,3 +257,43 @@ no_variable (y ∷ ys) x r p c h =
 
 pub title_symbolic : (us : List Use) (x : List ℕ) → AllByRecursion IsSymbolic us → Contains (names_that is_title us) x → IsSymbolicName x
 title_symbolic us x h c = let u = title_use us x c in subst IsSymbolicName u.same (all_at IsSymbolic us u.it h u.among)
+
+-- ---- no function that is called has its name
+
+module _ (text : List Labelled) (s : Store) (y : Labelled) (x : List ℕ) (t : IsTitled y.statement x) where
+  abbrev IsOther : List ℕ → Type 0
+  IsOther n = n ≡ x → ⊥
+
+  said_at : (q : Place) → IsBehind text y q → IsProper q.here.statement → IsSourceCard q.here → IsUntitled q.here → IsSaid (uses_in_text text) s IsOther q.here.statement
+  said_at q b p c n = record {
+    source = c.statement;
+    suits' = affirmed (suits (uses_in_text text) q.here.statement) (left_false (not (suits (uses_in_text text) q.here.statement)) (list_any (calls_hidden (uses_in_text text)) (uses_of q.here.statement)) b.right.kinds);
+    heard = all_of (IsHeard (uses_in_text text) s IsOther) (uses_of q.here.statement) (λ v m. heard_behind text s y q x v b t m (no_title_in v m (is_title v.role) refl));
+  }
+    where
+      no_title_in : (v : Use) → Contains (uses_of q.here.statement) v → (b : Bool) → is_title v.role ≡ b → is_title v.role ≡ false
+      no_title_in v m true e = absurd (n v.name (titled q.here.statement v p m e))
+      no_title_in v m false e = e
+
+  all_said : (before xs : List Labelled) → AllByRecursion (IsBehind text y) (places_from before xs) → AreProper xs → AllByRecursion IsSourceCard xs → AllByRecursion IsUntitled xs
+      → AllByRecursion (λ (z : Labelled). IsSaid (uses_in_text text) s IsOther z.statement) xs
+  all_said before [] b p c n = tt
+  all_said before (z ∷ zs) b p c n = (said_at (record { before = before; here = z; after = zs }) b.0 p.0 c.0 n.0, all_said (z ∷ before) zs b.1 p.1 c.1 n.1)
+
+title_begun : (us : List Use) (s : Store) (P : List ℕ → Type 0) (named : List ℕ) (z : Labelled) (c : Statement77) (x : List ℕ) (r : Rest) → IsTitled c x → AllIn us s P r → AllIn us s P (begun us s named z c r)
+title_begun us s P named z (Program y) x r t g = title_calls us s P named z y r g
+title_begun us s P named z c x r t g = absurd t
+
+pub no_call : (s : Store) (named : List ℕ) (text : List Labelled) (x : List ℕ) → AllByRecursion (IsRight text) (places text) → AllByRecursion IsSourceCard text → AreProper text
+    → Contains (names_that is_title (uses_in_text text)) x → Contains (calls_in_block (outermost_block (rest_from (uses_in_text text) s named text))) x → ⊥
+no_call s named [] x r c p h m = nowhere x h
+no_call s named (y ∷ ys) x r c p h m =
+    let text : List Labelled = y ∷ ys in
+    let us = uses_in_text text in
+    let u = title_use us x h in
+    let later = no_later_title text y [] ys r.1 in
+    let t = subst (λ (z : List ℕ). IsTitled y.statement z) u.same (title_first y ys u.it p later u.among u.title) in
+    let said = all_said text s y x t (y ∷ []) ys (all_behind text y (y ∷ []) ys (here y []) r.1) p.1 c.1 later in
+    let P : List ℕ → Type 0 = λ n. n ≡ x → ⊥ in
+    let calls = title_begun us s P named y y.statement x (rest_from us s named ys) t (rest_calls us s P named ys said) in
+    all_at P (calls_in_block (outermost_block (rest_from us s named text))) x (outermost_calls us s P (rest_from us s named text) calls) m refl

@@ -13,6 +13,7 @@ use Rattle.fv_meaning.specs.Names.{IsInByteOrder}
 use Rattle.fv_meaning.specs.Typed77.{declared}
 use Rattle.f77_grammar.specs.program.Uses.{Use, is_variable}
 use Rattle.f77_grammar.specs.program.Tree.{with_name, variables_of, declaration_of}
+use Rattle.fv_meaning.specs.Dialect.{Dialect}
 use Rattle.f77_laws.proofs.Lists.{here, there, nowhere, cases_of, not_both}
 
 -- ---- names
@@ -219,20 +220,20 @@ variable_used us x h = by (all_cases [] (filter (is_variable us) (map (λ (v : U
 
 -- ---- their declarations
 
-pub declared_name : (us : List Use) (s : Store) (text : List Labelled) (names : List (List ℕ)) (x : List ℕ) → Contains names x
-    → declared (map (declaration_of us s text) names) x ≡ Some (declaration_of us s text x)
-declared_name us s text [] x h = absurd (nowhere x h)
-declared_name us s text (y ∷ ys) x h = by (bytes_eq y x) refl (declared_name us s text ys x) (cases_of y ys x h)
+pub declared_name : (d : Dialect) (us : List Use) (s : Store) (text : List Labelled) (names : List (List ℕ)) (x : List ℕ) → Contains names x
+    → declared (map (declaration_of d us s text) names) x ≡ Some (declaration_of d us s text x)
+declared_name d us s text [] x h = absurd (nowhere x h)
+declared_name d us s text (y ∷ ys) x h = by (bytes_eq y x) refl (declared_name d us s text ys x) (cases_of y ys x h)
   where
-    by : (b : Bool) → bytes_eq y x ≡ b → (Contains ys x → declared (map (declaration_of us s text) ys) x ≡ Some (declaration_of us s text x)) → (y ≡ x) ⊎ Contains ys x
-        → cond b (Some (declaration_of us s text y)) (declared (map (declaration_of us s text) ys) x) ≡ Some (declaration_of us s text x)
-    by true e more c = ap (λ z. Some (declaration_of us s text z)) (same_name y x e)
+    by : (b : Bool) → bytes_eq y x ≡ b → (Contains ys x → declared (map (declaration_of d us s text) ys) x ≡ Some (declaration_of d us s text x)) → (y ≡ x) ⊎ Contains ys x
+        → cond b (Some (declaration_of d us s text y)) (declared (map (declaration_of d us s text) ys) x) ≡ Some (declaration_of d us s text x)
+    by true e more c = ap (λ z. Some (declaration_of d us s text z)) (same_name y x e)
     by false e more (inl f) = absurd (not_both (bytes_eq y x) (equal_names y x f) e)
     by false e more (inr c) = more c
 
-pub undeclared_name : (us : List Use) (s : Store) (text : List Labelled) (names : List (List ℕ)) (x : List ℕ) → (Contains names x → ⊥)
-    → declared (map (declaration_of us s text) names) x ≡ None
-undeclared_name us s text [] x h = refl
-undeclared_name us s text (y ∷ ys) x h =
-    ap (λ b. cond b (Some (declaration_of us s text y)) (declared (map (declaration_of us s text) ys) x)) (other_names y x (λ e. h (subst (λ (w : List ℕ). Contains (y ∷ ys) w) e (here y ys))))
-    ∙ undeclared_name us s text ys x (λ c. h (there y ys x c))
+pub undeclared_name : (d : Dialect) (us : List Use) (s : Store) (text : List Labelled) (names : List (List ℕ)) (x : List ℕ) → (Contains names x → ⊥)
+    → declared (map (declaration_of d us s text) names) x ≡ None
+undeclared_name d us s text [] x h = refl
+undeclared_name d us s text (y ∷ ys) x h =
+    ap (λ b. cond b (Some (declaration_of d us s text y)) (declared (map (declaration_of d us s text) ys) x)) (other_names y x (λ e. h (subst (λ (w : List ℕ). Contains (y ∷ ys) w) e (here y ys))))
+    ∙ undeclared_name d us s text ys x (λ c. h (there y ys x c))

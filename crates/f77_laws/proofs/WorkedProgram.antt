@@ -5,6 +5,7 @@ use Rattle.std.specs.List.{AllByRecursion}
 use Rattle.fv_tree.specs.Plain.{Unary, Binary, Single, Constant, ImpliedDo, items}
 use Rattle.fv_tree.specs.declared.ops.Op.TheVariants.{Neg, Add, Eq, Gt, Not}
 use Rattle.fv_tree.specs.declared.ops.Kind.TheVariants.{Integer, Logical}
+use Rattle.fv_meaning.specs.Dialect.{fortran77}
 use Rattle.f77_grammar.specs.Statement77.{Labelled, Declare, Constants, Assign, Go, Test, If, ElseIf, Else, EndIf, Do, Continue, Stop, Read, Print, End}
 use Rattle.f77_grammar.specs.Statement77 as text
 use Rattle.f77_grammar.specs.program.Program77.{findings}
@@ -39,11 +40,11 @@ search_loop =
     ∷ s 10 End
     ∷ []
 
-search_loop_sound : findings search_loop ≡ []
+search_loop_sound : findings fortran77 search_loop ≡ []
 search_loop_sound = refl
 
 -- each part by itself, without the law
-search_loop_parts : IsProgram77 (tree_of search_loop)
+search_loop_parts : IsProgram77 fortran77 (tree_of fortran77 search_loop)
 search_loop_parts = record {
   name = search rules;
   declarations = search rules;
@@ -57,8 +58,8 @@ search_loop_parts = record {
 search_loop_source : AreSourceStatements search_loop
 search_loop_source = search rules
 
-search_loop_program : IsProgram77 (tree_of search_loop)
-search_loop_program = read_is_program search_loop (tree_of search_loop) (record { sound = refl; formed = refl }) search_loop_source (omega arith)
+search_loop_program : IsProgram77 fortran77 (tree_of fortran77 search_loop)
+search_loop_program = read_is_program fortran77 search_loop (tree_of fortran77 search_loop) (omega arith) (record { sound = refl; formed = refl }) search_loop_source (omega arith)
 
 --       PROGRAM SWEEP
 --       LOGICAL L
@@ -104,20 +105,20 @@ sweep =
     ∷ l 30 20 End
     ∷ []
 
-sweep_sound : findings sweep ≡ []
+sweep_sound : findings fortran77 sweep ≡ []
 sweep_sound = refl
 
-sweep_declarations : AreDeclarations (tree_of sweep).declarations
+sweep_declarations : AreDeclarations fortran77 (tree_of fortran77 sweep).declarations
 sweep_declarations = search rules
 
-sweep_statements : IsBlock (tree_of sweep).declarations (tree_of sweep).body outermost
+sweep_statements : IsBlock (tree_of fortran77 sweep).declarations (tree_of fortran77 sweep).body outermost
 sweep_statements = search rules
 
-sweep_named : AllByRecursion (Contains (targets_in (tree_of sweep).body)) (all_labels_in (tree_of sweep).body)
+sweep_named : AllByRecursion (Contains (targets_in (tree_of fortran77 sweep).body)) (all_labels_in (tree_of fortran77 sweep).body)
 sweep_named = search rules
 
 sweep_source : AreSourceStatements sweep
 sweep_source = search rules
 
-sweep_program : IsProgram77 (tree_of sweep)
-sweep_program = read_is_program sweep (tree_of sweep) (record { sound = refl; formed = refl }) sweep_source (omega arith)
+sweep_program : IsProgram77 fortran77 (tree_of fortran77 sweep)
+sweep_program = read_is_program fortran77 sweep (tree_of fortran77 sweep) (omega arith) (record { sound = refl; formed = refl }) sweep_source (omega arith)

@@ -3,6 +3,7 @@
 use Rattle.std.specs.Prelude.{ℕ, ◌*◌, ◌^◌, ◌<◌, ◌≤◌, List, length}
 use Rattle.std.specs.List.{AllByRecursion}
 use Rattle.fv_tree.specs.Plain.{Expression, Program}
+use Rattle.fv_meaning.specs.Dialect.{Dialect}
 use Rattle.f77_grammar.specs.Statement77.{Labelled}
 use Rattle.f77_grammar.specs.program.Program77.{ReadsStatements}
 use Rattle.fv_meaning.specs.Profile77.{IsProgram77}
@@ -18,9 +19,10 @@ abbrev pub RisingLinesAreFew : Type 0
 RisingLinesAreFew = (text : List Labelled) (n : ℕ) → AreRising text → AllByRecursion (λ (x : Labelled). x.line < n) text
     → length text ≤ n
 
+-- an INTEGER is a literal or the negative of one
 abbrev pub ReadTextIsProgram : Type 0
-ReadTextIsProgram = (text : List Labelled) (p : Program) → ReadsStatements text p → AreSourceStatements text
-    → HasFewStatements text → IsProgram77 p
+ReadTextIsProgram = (d : Dialect) (text : List Labelled) (p : Program) → d.bits ≤ 126
+    → ReadsStatements d text p → AreSourceStatements text → HasFewStatements text → IsProgram77 d p
 
 abbrev pub ReadExpressionIsSource : Type 0
 ReadExpressionIsSource = (chars : List ℕ) (e : Expression) → ReadsAs chars e → IsShallow e

@@ -8,7 +8,8 @@ use Rattle.f77_grammar.specs.Statement77.{Constants, Assign, Go, Test, If, ElseI
 use Rattle.f77_grammar.specs.Statement77.{Read, Print, End}
 use Rattle.f77_grammar.specs.expressions.Printing.{IsSource}
 use Rattle.fv_meaning.specs.Names.{IsSymbolicName}
-use Rattle.fv_meaning.specs.Typed77.{depth_of, depth_of_items, has_item, IsText}
+use Rattle.fv_meaning.specs.Depths.{depth_of, depth_of_items}
+use Rattle.fv_meaning.specs.Typed77.{has_item, IsText}
 use Rattle.fv_meaning.specs.Profile77.{IsLine}
 
 -- ---- expressions and lists

@@ -5,13 +5,14 @@ use Rattle.std.proofs.lemmas.Bool.Decides.{nat_tests}
 use Rattle.std.proofs.lemmas.Bool.{and_parts, eqb-true}
 use Rattle.fv_tree.specs.declared.ops.Op.{Op}
 use Rattle.fv_tree.specs.declared.ops.Op.TheVariants.{Pow}
-use Rattle.f77_grammar.specs.expressions.Levels.{level_of}
+use Rattle.fv_tree.specs.OperatorTable.{level_of}
 use Rattle.f77_grammar.specs.expressions.Phrases.{Phrase, Literal, WideLiteral, Truth, Name, Listed, Paren, Signed, Joined, Phrases, One, Then, written, written_list, level}
 use Rattle.f77_grammar.specs.expressions.Words as words
 use Rattle.f77_grammar.specs.expressions.Words.{Word}
 use Rattle.f77_grammar.specs.statements.Items.{ItemPhrase, ItemPhrases, Value, Text, Loop, Sole, More, Direction, IsReference, written_step, written_bounds, written_item, written_items}
 use Rattle.f77_expr.specs.Reader as expressions
-use Rattle.f77_lists.specs.Reader.{Frame, holds_comma, opens, simple, value, begins_with_name, control}
+use Rattle.f77_lists.specs.Reader.{Frame, holds_comma, opens, simple, value, control}
+use Rattle.f77_expr.specs.TokenFronts.{begins_with_name}
 
 -- ---- commas within a parenthesis
 

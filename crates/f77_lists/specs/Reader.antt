@@ -6,6 +6,7 @@ use Rattle.fv_tree.specs.Plain.{Expression, Number, Item, Single, Constant, Impl
 use Rattle.f77_grammar.specs.expressions.Words as words
 use Rattle.f77_grammar.specs.expressions.Words.{Word}
 use Rattle.f77_grammar.specs.statements.Items.{Direction, Output, Input}
+use Rattle.f77_expr.specs.TokenFronts.{begins_with_name}
 use Rattle.f77_expr.specs.Reader as expressions
 use Rattle.f77_expr.specs.Reader.{Operand, Read, deeper}
 
@@ -50,18 +51,14 @@ abbrev pub opens : List Word → Bool
 opens (words.Open ∷ ws) = holds_comma 0 ws
 opens ws = false
 
-abbrev pub begins_with_name : List Word → Bool
-begins_with_name (words.Name x ∷ ws) = true
-begins_with_name (words.Head x ∷ ws) = true
-begins_with_name ws = false
-
 abbrev pub may_stand : Direction → List Word → Operand → Bool
 may_stand Output ws m = true
 may_stand Input ws m = begins_with_name ws && (m.level == 10)
 
 abbrev pub value : Direction → List Word → List Frame → Option Read → Step
 value d ws fs None = Fail
-value d ws fs (Some r) = if may_stand d ws r.operand then put (Single r.operand.tree) r.operand.depth fs r.rest else Fail
+value d ws fs (Some r) =
+    if may_stand d ws r.operand then put (Single r.operand.tree) r.operand.depth fs r.rest else Fail
 
 abbrev pub text : Direction → List ℕ → List Frame → List Word → Step
 text Output t fs ws = put (Constant t) 0 fs ws
@@ -113,7 +110,13 @@ pub record Bounds : Type 0 where
 
 abbrev pub with_step : Operand → Operand → Option Bound → Option Bounds
 with_step a b None = None
-with_step a b (Some c) = Some (record { first = a.tree; last = b.tree; step = c.tree; depth = max (max a.depth b.depth) c.depth; rest = c.rest })
+with_step a b (Some c) = Some (record {
+  first = a.tree;
+  last = b.tree;
+  step = c.tree;
+  depth = max (max a.depth b.depth) c.depth;
+  rest = c.rest;
+})
 
 abbrev pub with_last : Operand → Option Read → Option Bounds
 with_last a None = None
@@ -144,7 +147,8 @@ control ws = None
 abbrev pub repeat : List ℕ → List Frame → Option Bounds → Step
 repeat x fs None = Fail
 repeat x [] (Some b) = Fail
-repeat x (f ∷ fs) (Some b) = put (ImpliedDo (items f.items) x b.first b.last b.step) (deeper (max f.depth b.depth)) fs b.rest
+repeat x (f ∷ fs) (Some b) =
+    put (ImpliedDo (items f.items) x b.first b.last b.step) (deeper (max f.depth b.depth)) fs b.rest
 
 abbrev pub behind_comma : List Frame → List Word → Option Control → Step
 behind_comma fs ws None = Go (Wants fs ws)

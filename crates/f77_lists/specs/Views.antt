@@ -57,17 +57,9 @@ abbrev pub Lacks : {T : Type 0} → Stop → Option T → Type 0
 Lacks Syntax found = found ≡ None
 Lacks Memory found = Unit {0}
 
--- no comma is at the front
-abbrev pub HasNoComma : List Word → Type 0
-HasNoComma (words.Comma ∷ ws) = ⊥
-HasNoComma ws = Unit {0}
-
-abbrev pub BehindComma : Option (Bor (List Token)) → List Word → Type 0
-BehindComma (Some rest) ws = ws ≡ words.Comma ∷ words_of rest.now
-BehindComma None ws = HasNoComma ws
-
 abbrev pub GivesBound : Result (Bound × Bor (List Token)) Stop → Option reader.Bound → Type 0
-GivesBound (Ok r) found = found ≡ Some (record { tree = expression_of r.0.tree; depth = r.0.depth; rest = words_of r.1.now })
+GivesBound (Ok r) found =
+    found ≡ Some (record { tree = expression_of r.0.tree; depth = r.0.depth; rest = words_of r.1.now })
 GivesBound (Err e) found = Lacks e found
 
 abbrev pub GivesBounds : Result (Bounds × Bor (List Token)) Stop → Option reader.Bounds → Type 0

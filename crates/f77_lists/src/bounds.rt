@@ -5,7 +5,7 @@ ghost use Rattle.fv_tree.specs.View.{expression_of};
 ghost use Rattle.f77_expr.specs.Views.{words_of};
 ghost use Rattle.f77_expr.specs.Reader as expressions;
 ghost use Rattle.f77_lists.specs.Reader as reader;
-ghost use Rattle.f77_lists.specs.Views.{BehindComma, GivesBound, GivesBounds, GivesControl};
+ghost use Rattle.f77_lists.specs.Views.{GivesBound, GivesBounds, GivesControl};
 
 use f77_expr::reader::read;
 use f77_expr::tokens::{Stop, Token};
@@ -70,23 +70,13 @@ fn step(alloc: Global, tokens: &[Token]) -> Result<(Bound, &[Token]), Stop>
     }
 }
 
-// What follows a comma.
-fn behind_comma(tokens: &[Token]) -> Option<&[Token]>
-    ensures { BehindComma result (words_of tokens.now) }
-{
-    match tokens {
-        [Token::Comma, rest @ ..] => Some(rest),
-        _ => None,
-    }
-}
-
 /// The bounds behind the equals sign, with the parenthesis that ends the list.
 pub(crate) fn read_bounds(alloc: Global, tokens: &[Token]) -> Result<(Bounds, &[Token]), Stop>
     ensures bounds { GivesBounds result (reader.bounds (words_of tokens.now)) }
     ensures shorter { IfOk result (λ r. length r.1.now < length tokens.now) }
 {
     let (first, rest) = read(alloc, tokens)?;
-    let Some(rest) = behind_comma(rest) else {
+    let [Token::Comma, rest @ ..] = rest else {
         return Err(Stop::Syntax);
     };
     let (last, rest) = read(alloc, rest)?;

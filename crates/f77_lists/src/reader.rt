@@ -10,9 +10,7 @@ ghost use Rattle.f77_lists.specs.Views.{Runs};
 
 use crate::bounds::{control, read_bounds};
 use crate::lists::{Direction, ItemList};
-use f77_expr::operands::Operand;
-use f77_expr::reader::read;
-use f77_expr::tokens::{Stop, Token};
+use f77_expr::{DEPTH_COUNTED, Operand, Stop, Token, begins_with_name, copied, read};
 use fv_tree::{Item, Memory, Name, Seq};
 use std::alloc::Global;
 
@@ -67,16 +65,6 @@ fn opened(tokens: &[Token]) -> Option<&[Token]>
     }
 }
 
-fn begins_with_name(tokens: &[Token]) -> bool
-    ensures { result ≡ reader.begins_with_name (words_of tokens.now) }
-{
-    match tokens {
-        [Token::Name(_), ..] => true,
-        [Token::Head(_), ..] => true,
-        _ => false,
-    }
-}
-
 // Whether the expression may stand as an item: a reference is read.
 fn may_stand(direction: Direction, tokens: &[Token], operand: &Operand) -> bool
     ensures { result ≡ reader.may_stand (direction_of direction) (words_of tokens.now) (operand_of operand.now) }
@@ -90,7 +78,8 @@ fn may_stand(direction: Direction, tokens: &[Token], operand: &Operand) -> bool
 // Puts an item of some depth into the innermost list.
 #[tactic(auto, using(crate::proofs::Stacks::stacks))]
 fn put(lists: &mut Vec<ItemList>, item: Item, depth: u16) -> Result<(), Stop>
-    ensures ok { OnOk result ((ws : List words.Word) → reader.put (item_of item) depth (stack lists.old.items) ws ≡ reader.Go (reader.Done (stack lists.new.items) ws)) }
+    ensures ok { OnOk result ((ws : List words.Word) → reader.put (item_of item) depth (stack lists.old.items) ws
+        ≡ reader.Go (reader.Done (stack lists.new.items) ws)) }
     ensures syntax { IsErrOf result Stop.Syntax → (ws : List words.Word)
         → reader.put (item_of item) depth (stack lists.old.items) ws ≡ reader.Fail }
 {
@@ -109,7 +98,8 @@ fn value<'a>(
     lists: &mut Vec<ItemList>,
     tokens: &'a [Token],
 ) -> Result<&'a [Token], Stop>
-    ensures value { Leaves result lists.new.items (reader.value (direction_of direction) (words_of tokens.now) (stack lists.old.items) (expressions.read (words_of tokens.now))) }
+    ensures value { Leaves result lists.new.items (reader.value (direction_of direction) (words_of tokens.now)
+        (stack lists.old.items) (expressions.read (words_of tokens.now))) }
     ensures shorter { IfOk result (λ rest. length rest.now < length tokens.now) }
 {
     let (operand, rest) = read(alloc, tokens)?;
@@ -120,12 +110,6 @@ fn value<'a>(
     Ok(rest)
 }
 
-fn copied(alloc: Global, text: &Seq<u8>) -> Result<Seq<u8>, Memory>
-    ensures { IfOk result (λ copy. copy ≡ text.now) }
-{
-    Ok(Seq::from_vec(Vec::from_slice(alloc, text.as_slice())?))
-}
-
 // A character constant as an item.
 #[tactic(auto, using(fv_tree::proofs::Equations::item_equations))]
 fn text(
@@ -134,7 +118,8 @@ fn text(
     lists: &mut Vec<ItemList>,
     text: &Seq<u8>,
 ) -> Result<(), Stop>
-    ensures ok { OnOk result ((ws : List words.Word) → reader.text (direction_of direction) text.now (stack lists.old.items) ws ≡ reader.Go (reader.Done (stack lists.new.items) ws)) }
+    ensures ok { OnOk result ((ws : List words.Word) → reader.text (direction_of direction) text.now
+        (stack lists.old.items) ws ≡ reader.Go (reader.Done (stack lists.new.items) ws)) }
     ensures syntax { IsErrOf result Stop.Syntax → (ws : List words.Word)
         → reader.text (direction_of direction) text.now (stack lists.old.items) ws ≡ reader.Fail }
 {
@@ -151,7 +136,8 @@ fn simple<'a>(
     lists: &mut Vec<ItemList>,
     tokens: &'a [Token],
 ) -> Result<&'a [Token], Stop>
-    ensures simple { Leaves result lists.new.items (reader.simple (direction_of direction) (stack lists.old.items) (words_of tokens.now)) }
+    ensures simple { Leaves result lists.new.items (reader.simple (direction_of direction) (stack lists.old.items)
+        (words_of tokens.now)) }
     ensures shorter { IfOk result (λ rest. length rest.now < length tokens.now) }
 {
     match tokens {
@@ -171,7 +157,8 @@ fn begin<'a>(
     lists: &mut Vec<ItemList>,
     tokens: &'a [Token],
 ) -> Result<Turn<'a>, Stop>
-    ensures begin { Turns result lists.new.items (reader.begin (direction_of direction) (stack lists.old.items) (words_of tokens.now)) }
+    ensures begin { Turns result lists.new.items (reader.begin (direction_of direction) (stack lists.old.items)
+        (words_of tokens.now)) }
     ensures shorter { IfOk result (λ turn. IsShorter turn (length tokens.now)) }
 {
     match opened(tokens) {
@@ -191,14 +178,15 @@ fn repeat<'a>(
     name: Name,
     tokens: &'a [Token],
 ) -> Result<&'a [Token], Stop>
-    ensures repeat { Leaves result lists.new.items (reader.repeat name (stack lists.old.items) (reader.bounds (words_of tokens.now))) }
+    ensures repeat { Leaves result lists.new.items (reader.repeat name (stack lists.old.items)
+        (reader.bounds (words_of tokens.now))) }
     ensures shorter { IfOk result (λ rest. length rest.now < length tokens.now) }
 {
     let (bounds, rest) = read_bounds(alloc, tokens)?;
     let Some(list) = lists.pop() else {
         return Err(Stop::Syntax);
     };
-    let depth = list.depth.max(bounds.depth).saturating_add(1).min(401);
+    let depth = list.depth.max(bounds.depth).saturating_add(1).min(DEPTH_COUNTED);
     let item = Item::Turns(list.items, name, bounds.first, bounds.last, bounds.step);
     put(lists, item, depth)?;
     Ok(rest)
@@ -224,7 +212,8 @@ fn behind_comma<'a>(
     lists: &mut Vec<ItemList>,
     tokens: &'a [Token],
 ) -> Result<Turn<'a>, Stop>
-    ensures comma { Turns result lists.new.items (reader.behind_comma (stack lists.old.items) (words_of tokens.now) (reader.control (words_of tokens.now))) }
+    ensures comma { Turns result lists.new.items (reader.behind_comma (stack lists.old.items) (words_of tokens.now)
+        (reader.control (words_of tokens.now))) }
     ensures shorter { IfOk result (λ turn. IsShorter turn (length tokens.now + 1)) }
 {
     match control(tokens) {
@@ -256,7 +245,8 @@ fn step<'a>(
     is_due: bool,
     tokens: &'a [Token],
 ) -> Result<Turn<'a>, Stop>
-    ensures step { Turns result lists.new.items (reader.step (direction_of direction) (state_of is_due lists.old.items (words_of tokens.now))) }
+    ensures step { Turns result lists.new.items (reader.step (direction_of direction)
+        (state_of is_due lists.old.items (words_of tokens.now))) }
     ensures shorter { IfOk result (λ turn. IsShorter turn (length tokens.now)) }
 {
     if is_due {

@@ -7,11 +7,11 @@ use Rattle.std.specs.Cmp.Lexicographic.{nat_list_eq_equiv}
 use Rattle.fv_tree.specs.View.{expression_of}
 use Rattle.fv_tree.specs.declared.exprs.Expr.{Expr}
 use Rattle.f77_grammar.specs.Statement77.{Statement77, Declare, Dimension, Constants, Entity}
-use Rattle.fv_meaning.specs.Names.{is_among, function_named}
+use Rattle.fv_meaning.specs.Names.{is_among}
 use Rattle.f77_grammar.specs.program.Text.{is_declaration}
 use Rattle.f77_grammar.specs.program.Uses.{Role, Title, Typed, Bounded, Defined, Valued, Target, Counter, Use, uses_of, uses_in, uses_in_bounds, uses_in_text, is_title, is_typed, is_defined, names_that, stands, is_array}
 use Rattle.f77_grammar.specs.program.Limits.{entities_of, definitions_of}
-use Rattle.f77_grammar.specs.program.Declarations.{has_repeat, is_array_or_constant, has_unknown, is_listed, bounds_of_entities, defines_from_unknown, has_unknown_constant, suits_list, is_misused, is_misused_as, has_misused_name}
+use Rattle.f77_grammar.specs.program.Declarations.{bears_title, has_repeat, is_array_or_constant, has_unknown, is_listed, bounds_of_entities, defines_from_unknown, has_unknown_constant, suits_list, is_misused, is_misused_as, has_misused_name}
 use Rattle.f77_syntax.specs.declared.statements.Entity.{Entity as Entity'}
 use Rattle.f77_syntax.specs.declared.statements.Labelled.{Labelled as Labelled'}
 use Rattle.f77_syntax.specs.Views.{text_of, statement_of, constant_of, entity_of, bounds_of}
@@ -22,10 +22,12 @@ use Rattle.f77_names.specs.declared.names.Names.{Names}
 use Rattle.f77_names.specs.NameFacts.{nothing_known, facts_with, facts_in, AreNamesOf, dimensions_by}
 use Rattle.f77_names.specs.declared.uses.Use.{Use as Use'}
 use Rattle.f77_names.specs.UsesView.{role_of, plain_use}
-use Rattle.f77_names.specs.Seen.{HaveSeen, seen_after, defined_after, declares_again, is_again_by, is_title_use, is_constant_in, is_unknown_use, Define, AreDefined, suits_list_by, is_misused_by, is_misused_use, is_wrong_after}
+use Rattle.f77_names.specs.Seen.{bears_title_by, HaveSeen, seen_after, defined_after, declares_again, is_again_by, is_constant_in, is_unknown_use, Define, AreDefined, suits_list_by, is_misused_by, is_misused_use, is_wrong_after}
+use Rattle.f77_names.proofs.TitleLaws.{bears_same}
 use Rattle.f77_names.proofs.UseLaws.{one_more}
 use Rattle.f77_names.proofs.SeenLaws.{ahead_at, behind_more, again_step, seen_turned, seen_same}
 use Rattle.f77_names.proofs.FactLaws.{constant_by_names, array_by_names, dimensions_by_names, or_false}
+use Rattle.fv_tree.specs.Functions.{function_named}
 
 -- ---- names declared again
 
@@ -61,12 +63,12 @@ unknown_is defined s = refl
 
 -- ---- the program's name
 
-pub title_same : (names : Names) (seen vs : List Use) → HaveSeen names seen
-    → list_any (is_title_use names) vs ≡ list_any (λ (u : Use). not (is_title u.role) && stands is_title seen u.name) vs
-title_same names seen [] h = refl
-title_same names seen (v ∷ vs) h =
-    ap (λ b. (not (is_title v.role) && b) || list_any (is_title_use names) vs) (h.title v.name)
-    ∙ ap (λ b. (not (is_title v.role) && stands is_title seen v.name) || b) (title_same names seen vs h)
+pub title_same : (before names : Names) (us seen vs : List Use) → HaveSeen before seen → AreNamesOf names us
+    → list_any (bears_title_by before names) vs ≡ list_any (bears_title us seen) vs
+title_same before names us seen [] h k = refl
+title_same before names us seen (v ∷ vs) h k =
+    ap (λ b. b || list_any (bears_title_by before names) vs) (bears_same before names us seen v h k)
+    ∙ ap (λ b. bears_title us seen v || b) (title_same before names us seen vs h k)
 
 -- ---- names that are misused
 
@@ -189,23 +191,23 @@ first_two false false c d e f g h = sym (ap (λ x. x || d || e) f ∙ ap (λ x. 
 pub wrong_misused : (us seen : List Use) (s : Statement77) → has_misused_name us s ≡ true → true ≡ is_wrong_after us seen s
 wrong_misused us seen s h =
     fifth (has_repeat (names_that is_typed seen) (names_that is_typed (uses_of s))) (has_repeat (names_that is_array_or_constant seen) (names_that is_array_or_constant (uses_of s)))
-    (list_any (λ (u : Use). not (is_title u.role) && stands is_title seen u.name) (uses_of s)) (has_unknown_constant (names_that is_defined seen) s) (has_misused_name us s) h
+    (list_any (bears_title us seen) (uses_of s)) (has_unknown_constant (names_that is_defined seen) s) (has_misused_name us s) h
 
 pub wrong_unknown : (us seen : List Use) (s : Statement77) → has_unknown_constant (names_that is_defined seen) s ≡ true → true ≡ is_wrong_after us seen s
 wrong_unknown us seen s h =
     fourth (has_repeat (names_that is_typed seen) (names_that is_typed (uses_of s))) (has_repeat (names_that is_array_or_constant seen) (names_that is_array_or_constant (uses_of s)))
-    (list_any (λ (u : Use). not (is_title u.role) && stands is_title seen u.name) (uses_of s)) (has_unknown_constant (names_that is_defined seen) s) (has_misused_name us s) h
+    (list_any (bears_title us seen) (uses_of s)) (has_unknown_constant (names_that is_defined seen) s) (has_misused_name us s) h
 
-pub wrong_title : (us seen : List Use) (s : Statement77) → list_any (λ (u : Use). not (is_title u.role) && stands is_title seen u.name) (uses_of s) ≡ true → true ≡ is_wrong_after us seen s
+pub wrong_title : (us seen : List Use) (s : Statement77) → list_any (bears_title us seen) (uses_of s) ≡ true → true ≡ is_wrong_after us seen s
 wrong_title us seen s h =
     third (has_repeat (names_that is_typed seen) (names_that is_typed (uses_of s))) (has_repeat (names_that is_array_or_constant seen) (names_that is_array_or_constant (uses_of s)))
-    (list_any (λ (u : Use). not (is_title u.role) && stands is_title seen u.name) (uses_of s)) (has_unknown_constant (names_that is_defined seen) s) (has_misused_name us s) h
+    (list_any (bears_title us seen) (uses_of s)) (has_unknown_constant (names_that is_defined seen) s) (has_misused_name us s) h
 
-pub wrong_again : (us seen : List Use) (s : Statement77) → list_any (λ (u : Use). not (is_title u.role) && stands is_title seen u.name) (uses_of s) ≡ false
+pub wrong_again : (us seen : List Use) (s : Statement77) → list_any (bears_title us seen) (uses_of s) ≡ false
     → has_unknown_constant (names_that is_defined seen) s ≡ false → has_misused_name us s ≡ false → declares_again seen (uses_of s) ≡ is_wrong_after us seen s
 wrong_again us seen s f g h =
     first_two (has_repeat (names_that is_typed seen) (names_that is_typed (uses_of s))) (has_repeat (names_that is_array_or_constant seen) (names_that is_array_or_constant (uses_of s)))
-    (list_any (λ (u : Use). not (is_title u.role) && stands is_title seen u.name) (uses_of s)) (has_unknown_constant (names_that is_defined seen) s) (has_misused_name us s) f g h
+    (list_any (bears_title us seen) (uses_of s)) (has_unknown_constant (names_that is_defined seen) s) (has_misused_name us s) f g h
 
 -- what the checks of the code say of the uses in a statement
 
@@ -215,10 +217,10 @@ misused_here names us s here h e =
     misused_is us s ∙ ap (λ vs. not (is_declaration s) && list_any (is_misused us) vs) (sym e)
     ∙ ap (λ b. not (is_declaration s) && b) (sym (misused_same names us (map plain_use here) h))
 
-pub title_here : (names : Names) (seen : List Use) (s : Statement77) (here : List Use') → HaveSeen names seen → map plain_use here ≡ uses_of s
-    → list_any (λ (u : Use). not (is_title u.role) && stands is_title seen u.name) (uses_of s) ≡ list_any (is_title_use names) (map plain_use here)
-title_here names seen s here h e =
-    ap (list_any (λ (u : Use). not (is_title u.role) && stands is_title seen u.name)) (sym e) ∙ sym (title_same names seen (map plain_use here) h)
+pub title_here : (before names : Names) (us seen : List Use) (s : Statement77) (here : List Use') → HaveSeen before seen → AreNamesOf names us → map plain_use here ≡ uses_of s
+    → list_any (bears_title us seen) (uses_of s) ≡ list_any (bears_title_by before names) (map plain_use here)
+title_here before names us seen s here h k e =
+    ap (list_any (bears_title us seen)) (sym e) ∙ sym (title_same before names us seen (map plain_use here) h k)
 
 -- ---- a statement more
 

@@ -7,14 +7,17 @@ use Rattle.fv_tree.specs.Plain.{Reference, Item, items, subscripts}
 use Rattle.fv_tree.specs.View.{expression_of, subscript_of, reference_of, item_of}
 use Rattle.fv_tree.specs.declared.names.Name.{Name}
 use Rattle.fv_tree.specs.declared.ops.Op.{Op}
-use Rattle.fv_tree.specs.declared.ops.Fun.{Fun}
+use Rattle.fv_tree.specs.declared.functions.Fun.{Fun}
+use Rattle.fv_tree.specs.declared.functions.Red.{Red}
 use Rattle.fv_tree.specs.declared.lists.Seq.{Seq}
 use Rattle.fv_tree.specs.declared.exprs.Expr.{Expr}
+use Rattle.fv_tree.specs.declared.exprs.Turn.{Turn}
 use Rattle.fv_tree.specs.declared.exprs.Expr.TheVariants as exprs
 use Rattle.fv_tree.specs.declared.exprs.Ref.{Ref, out-Ref}
 use Rattle.fv_tree.specs.declared.stmts.Item.{Item as Item'}
 use Rattle.fv_tree.specs.declared.stmts.Item.TheVariants as variants
 use Rattle.fv_tree.proofs.Equations.{expression_of-int, expression_of-truth, expression_of-item, expression_of-un, expression_of-bin, expression_of-call, reference_of-is, item_of-one, item_of-text, item_of-turns}
+use Rattle.fv_tree.proofs.Equations.{expression_of-list, expression_of-spread, expression_of-transpose, expression_of-reshape, expression_of-reduce}
 use Rattle.f77_grammar.specs.program.Uses as plain
 use Rattle.f77_names.proofs.UseLaws.{number_is, one_more}
 
@@ -42,6 +45,21 @@ input-bin o a b = ap plain.input_uses (expression_of-bin o a b) ∙ sym (ap plai
 
 pub input-call : (f : Fun) (es : Seq Expr) → plain.input_uses (expression_of (exprs.Call f es)) ≡ plain.uses_in (expression_of (exprs.Call f es))
 input-call f es = ap plain.input_uses (expression_of-call f es) ∙ sym (ap plain.uses_in (expression_of-call f es))
+
+pub input-list : (es : Seq Expr) (ls : Seq Turn) → plain.input_uses (expression_of (exprs.List es ls)) ≡ plain.uses_in (expression_of (exprs.List es ls))
+input-list es ls = ap plain.input_uses (expression_of-list es ls) ∙ sym (ap plain.uses_in (expression_of-list es ls))
+
+pub input-spread : (a : Box Expr Global) (d : ℕ) (n : Box Expr Global) → plain.input_uses (expression_of (exprs.Spread a d n)) ≡ plain.uses_in (expression_of (exprs.Spread a d n))
+input-spread a d n = ap plain.input_uses (expression_of-spread a d n) ∙ sym (ap plain.uses_in (expression_of-spread a d n))
+
+pub input-transpose : (a : Box Expr Global) → plain.input_uses (expression_of (exprs.Transpose a)) ≡ plain.uses_in (expression_of (exprs.Transpose a))
+input-transpose a = ap plain.input_uses (expression_of-transpose a) ∙ sym (ap plain.uses_in (expression_of-transpose a))
+
+pub input-reshape : (a : Box Expr Global) (es : Seq Expr) → plain.input_uses (expression_of (exprs.Reshape a es)) ≡ plain.uses_in (expression_of (exprs.Reshape a es))
+input-reshape a es = ap plain.input_uses (expression_of-reshape a es) ∙ sym (ap plain.uses_in (expression_of-reshape a es))
+
+pub input-reduce : (r : Red) (a : Box Expr Global) → plain.input_uses (expression_of (exprs.Reduce r a)) ≡ plain.uses_in (expression_of (exprs.Reduce r a))
+input-reduce r a = ap plain.input_uses (expression_of-reduce r a) ∙ sym (ap plain.uses_in (expression_of-reduce r a))
 
 -- ---- output lists
 
@@ -91,4 +109,4 @@ inputs_more list i x h e =
     ∙ inputs_append (map item_of (take i list)) (item_of x ∷ [])
     ∙ ap (λ us. plain.uses_in_inputs (items (map item_of (take i list))) ++ us) (append-nil (plain.uses_in_input (item_of x)))
 
-pub ruleset item_use_laws = (target-is, input-item, input-int, input-truth, input-un, input-bin, input-call, output-one, output-text, output-turns, input-one, input-text, input-turns, append_assoc, append-nil)
+pub ruleset item_use_laws = (target-is, input-item, input-int, input-truth, input-un, input-bin, input-call, input-list, input-spread, input-transpose, input-reshape, input-reduce, output-one, output-text, output-turns, input-one, input-text, input-turns, append_assoc, append-nil)

@@ -4,4 +4,5 @@ pub mod FactLaws
 pub mod ItemUseLaws
 pub mod SeenLaws
 pub mod StatementUseLaws
+pub mod TitleLaws
 pub mod UseLaws

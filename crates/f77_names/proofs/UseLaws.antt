@@ -7,14 +7,17 @@ use Rattle.std.proofs.lemmas.List.{map-append, length-map, append-nil}
 use Rattle.fv_tree.specs.Plain.{Expression, Subscript, Reference, subscripts, expressions}
 use Rattle.fv_tree.specs.View.{expression_of, subscript_of}
 use Rattle.fv_tree.specs.declared.ops.Op.{Op}
-use Rattle.fv_tree.specs.declared.ops.Fun.{Fun}
+use Rattle.fv_tree.specs.declared.functions.Fun.{Fun}
+use Rattle.fv_tree.specs.declared.functions.Red.{Red}
 use Rattle.fv_tree.specs.declared.lists.Seq.{Seq}
 use Rattle.fv_tree.specs.declared.exprs.Expr.{Expr}
+use Rattle.fv_tree.specs.declared.exprs.Turn.{Turn}
 use Rattle.fv_tree.specs.declared.exprs.Expr.TheVariants as exprs
 use Rattle.fv_tree.specs.declared.exprs.Ref.{Ref, out-Ref}
 use Rattle.fv_tree.specs.declared.exprs.Sub.{Sub}
 use Rattle.fv_tree.specs.declared.exprs.Sub.TheVariants as subs
 use Rattle.fv_tree.proofs.Equations.{expression_of-int, expression_of-truth, expression_of-item, expression_of-un, expression_of-bin, expression_of-call, subscript_of-one, reference_of-is}
+use Rattle.fv_tree.proofs.Equations.{expression_of-list, expression_of-spread, expression_of-transpose, expression_of-reshape, expression_of-reduce, subscript_of-part}
 use Rattle.f77_grammar.specs.program.Uses as plain
 use Rattle.fv_meaning.specs.Typed77.{number_of_subscripts}
 
@@ -33,8 +36,27 @@ uses-bin o a b = ap plain.uses_in (expression_of-bin o a b)
 pub uses-call : (f : Fun) (es : Seq Expr) → plain.uses_in (expression_of (exprs.Call f es)) ≡ plain.uses_in_arguments (expressions (map expression_of es))
 uses-call f es = ap plain.uses_in (expression_of-call f es)
 
+-- an expression with arrays, which FORTRAN 77 doesn't have, has none
+pub uses-list : (es : Seq Expr) (ls : Seq Turn) → plain.uses_in (expression_of (exprs.List es ls)) ≡ []
+uses-list es ls = ap plain.uses_in (expression_of-list es ls)
+
+pub uses-spread : (a : Box Expr Global) (d : ℕ) (n : Box Expr Global) → plain.uses_in (expression_of (exprs.Spread a d n)) ≡ []
+uses-spread a d n = ap plain.uses_in (expression_of-spread a d n)
+
+pub uses-transpose : (a : Box Expr Global) → plain.uses_in (expression_of (exprs.Transpose a)) ≡ []
+uses-transpose a = ap plain.uses_in (expression_of-transpose a)
+
+pub uses-reshape : (a : Box Expr Global) (es : Seq Expr) → plain.uses_in (expression_of (exprs.Reshape a es)) ≡ []
+uses-reshape a es = ap plain.uses_in (expression_of-reshape a es)
+
+pub uses-reduce : (r : Red) (a : Box Expr Global) → plain.uses_in (expression_of (exprs.Reduce r a)) ≡ []
+uses-reduce r a = ap plain.uses_in (expression_of-reduce r a)
+
 pub uses-one : (e : Expr) → plain.uses_in_subscript (subscript_of (subs.One e)) ≡ plain.uses_in (expression_of e)
 uses-one e = ap plain.uses_in_subscript (subscript_of-one e)
+
+pub uses-part : (a b c : Expr) → plain.uses_in_subscript (subscript_of (subs.Part a b c)) ≡ []
+uses-part a b c = ap plain.uses_in_subscript (subscript_of-part a b c)
 
 pub number_is : (ss : List Subscript) → number_of_subscripts (subscripts ss) ≡ length ss
 number_is [] = refl
@@ -85,4 +107,4 @@ nothing_added us vs e = sym (ap (λ t. us ++ t) e ∙ append-nil us)
 pub added : (first old new before now all : List plain.Use) → old ≡ first ++ before → new ≡ old ++ now → all ≡ before ++ now → new ≡ first ++ all
 added first old new before now all e f g = f ∙ ap (λ t. t ++ now) e ∙ append_assoc first before now ∙ ap (λ t. first ++ t) (sym g)
 
-pub ruleset use_laws = (uses-int, uses-truth, uses-un, uses-bin, uses-call, uses-one, uses-item, append_assoc)
+pub ruleset use_laws = (uses-int, uses-truth, uses-un, uses-bin, uses-call, uses-list, uses-spread, uses-transpose, uses-reshape, uses-reduce, uses-one, uses-part, uses-item, append_assoc)

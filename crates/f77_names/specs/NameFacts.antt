@@ -5,12 +5,14 @@ use Rattle.std.specs.Option.{unwrap_or}
 use Rattle.std.specs.Str.{bytes_eq}
 use Rattle.indexmap.specs.IndexMap.{get}
 use Rattle.fv_tree.specs.declared.ops.Kind.{Kind}
-use Rattle.fv_tree.specs.declared.ops.Fun.{Fun}
+use Rattle.fv_tree.specs.declared.functions.Fun.{Fun}
 use Rattle.f77_grammar.specs.program.Uses.{Role, Title, Typed, Bounded, Defined, Valued, Target, Counter, Use, is_title}
-use Rattle.f77_grammar.specs.program.Uses.{is_function, or_integer}
-use Rattle.fv_meaning.specs.Names.{is_implicit_integer, function_named}
+use Rattle.f77_grammar.specs.program.Uses.{is_function, calls, or_integer}
+use Rattle.fv_meaning.specs.Names.{is_implicit_integer}
+use Rattle.fv_tree.specs.Functions.{function_named}
 use Rattle.f77_names.specs.declared.names.Facts.{Facts}
 use Rattle.f77_names.specs.declared.names.Names.{Names}
+use Rattle.fv_tree.specs.Functions.{function_named}
 
 abbrev pub nothing_known : Facts
 nothing_known = record { kind = None; dimensions = None; bare = false; constant = false; title = false }
@@ -67,6 +69,13 @@ dimensions_by f = unwrap_or f.dimensions 0
 -- the function that a name names, if it isn't hidden
 abbrev pub function_of : List Use → List ℕ → Option Fun
 function_of us x = if is_function us x then function_named x else None
+
+-- the function that is called where the name stands so
+abbrev pub called_of : List Use → Use → Option Fun
+called_of us u = if calls us u then function_named u.name else None
+
+abbrev pub called_by : Facts → Use → Option Fun
+called_by f u = if not (is_title u.role) && is_function_by f u.name then function_named u.name else None
 
 abbrev pub function_by : Facts → List ℕ → Option Fun
 function_by f x = if is_function_by f x then function_named x else None

@@ -5,16 +5,17 @@ use Rattle.std.specs.Prelude.{if◌then◌else◌, List, ◌++◌, map, reverse,
 use Rattle.std.specs.List.{list_any}
 use Rattle.fv_tree.specs.declared.exprs.Expr.{Expr}
 use Rattle.f77_grammar.specs.Statement77.{Statement77}
-use Rattle.fv_meaning.specs.Names.{is_among, function_named}
+use Rattle.fv_meaning.specs.Names.{is_among}
+use Rattle.fv_tree.specs.Functions.{function_named}
 use Rattle.f77_grammar.specs.program.Uses.{Role, Title, Typed, Bounded, Defined, Valued, Target, Counter, Use, uses_of}
 use Rattle.f77_grammar.specs.program.Uses.{is_title, is_typed, is_defined, names_that, stands}
 use Rattle.f77_grammar.specs.program.Declarations.{has_repeat, is_array_or_constant, is_listed, has_unknown_constant}
-use Rattle.f77_grammar.specs.program.Declarations.{has_misused_name}
+use Rattle.f77_grammar.specs.program.Declarations.{has_misused_name, printed_by, bears_title}
 use Rattle.f77_names.specs.declared.names.Facts.{Facts}
 use Rattle.f77_names.specs.declared.names.Names.{Names}
 use Rattle.f77_names.specs.declared.uses.Use.{Use as Use'}
 use Rattle.f77_names.specs.UsesView.{plain_use}
-use Rattle.f77_names.specs.NameFacts.{facts_in, is_array_by, dimensions_by, AreNamesOf}
+use Rattle.f77_names.specs.NameFacts.{facts_in, is_array_by, dimensions_by, called_by, AreNamesOf}
 
 -- ---- what stands before a statement
 
@@ -58,9 +59,11 @@ is_again_by f (Valued n) = false
 is_again_by f (Target n) = false
 is_again_by f Counter = false
 
--- these uses have the program's name as another name
-abbrev pub is_title_use : Names → Use → Bool
-is_title_use names u = not (is_title u.role) && (facts_in names u.name).title
+-- the program's name stands as another name, or Fortran 90 spells a function so that is called
+abbrev pub bears_title_by : Names → Names → Use → Bool
+bears_title_by before names u =
+    let printed = printed_by (called_by (facts_in names u.name) u) u.name in
+    not (is_title u.role) && ((facts_in before u.name).title || (facts_in before printed).title)
 
 -- the name is a symbolic constant, by the statements before or earlier in the same
 abbrev pub is_constant_in : Names → Names → List ℕ → Bool
@@ -100,7 +103,7 @@ abbrev pub is_wrong_after : List Use → List Use → Statement77 → Bool
 is_wrong_after us seen s =
     has_repeat (names_that is_typed seen) (names_that is_typed (uses_of s))
     || has_repeat (names_that is_array_or_constant seen) (names_that is_array_or_constant (uses_of s))
-    || list_any (λ (u : Use). not (is_title u.role) && stands is_title seen u.name) (uses_of s)
+    || list_any (bears_title us seen) (uses_of s)
     || has_unknown_constant (names_that is_defined seen) s
     || has_misused_name us s
 

@@ -8,11 +8,10 @@ ghost use Rattle.f77_syntax.specs.Views.{statement_of, entity_of, constant_of};
 ghost use Rattle.f77_names.specs.Seen.{is_unknown_use, AreDefined};
 ghost use Rattle.f77_names.specs.UsesView.{role_of, plain_use, listed};
 
-use crate::functions::function_named;
 use crate::names::Names;
 use crate::statement_parts::{definitions, entities};
 use crate::uses::{Role, Use, Uses};
-use fv_tree::{Expr, Memory, Name};
+use fv_tree::{Expr, Fun, Memory, Name};
 use f77_syntax::{Entity, Stmt77};
 use std::alloc::Global;
 
@@ -52,7 +51,7 @@ impl Names {
         ensures { result ≡ is_unknown_use self.now own.now (plain_use used.now) }
     {
         let is_defined = own.facts(used.name).constant || self.facts(used.name).constant;
-        !is_defined || (used.role.is_listed() && function_named(used.name).is_none())
+        !is_defined || (used.role.is_listed() && Fun::read77(used.name.text()).is_none())
     }
 
     fn has_unknown(&self, own: &Names, uses: &[Use]) -> bool

@@ -9,13 +9,10 @@ ghost use Rattle.f77_names.specs.UsesView.{plain_use};
 
 use crate::names::{Facts, Names, names_of_text};
 use crate::uses::{Use, Uses};
-use fv_tree::{Memory, Name};
+use fv_tree::{Memory, Name, PROGRAM_NAMES_77};
 use indexmap::IndexSet;
 use f77_syntax::Labelled;
 use std::alloc::Global;
-
-// A program may have so many variables and symbolic constants.
-const MOST_NAMES: usize = 1000;
 
 // The variables and symbolic constants so far.
 #[derive(Drop)]
@@ -61,13 +58,14 @@ impl Counted {
     fn are_many(&self) -> bool
         ensures { result ≡ nat_lt 1000 (length self.now.names.keys) }
     {
-        self.names.len() > MOST_NAMES
+        self.names.len() > PROGRAM_NAMES_77
     }
 }
 
 /// The place of the first statement up to which a program has more than 1,000 variables and symbolic constants.
 pub fn many_names(alloc: Global, text: &[Labelled]) -> Result<Option<usize>, Memory>
-    ensures { IfOk result (λ place. place ≡ first_index (has_many_names (plain.uses_in_text (text_of text.now))) (text_of text.now)) }
+    ensures { IfOk result (λ place. place ≡ first_index (has_many_names (plain.uses_in_text (text_of text.now)))
+        (text_of text.now)) }
 {
     let names = names_of_text(alloc, text)?;
     let mut counted = Counted::new(alloc);

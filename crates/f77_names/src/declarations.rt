@@ -2,20 +2,21 @@
 //! 4.1.2, 5.1, 6.7, 8.1, 8.4, 8.6 and 18.2).
 ghost use Rattle.std.specs.Prelude.{◌≡◌, ◌&&◌, not, IfOk, map};
 ghost use Rattle.std.specs.List.{list_any};
+ghost use Rattle.fv_tree.specs.Names.{IsName};
 ghost use Rattle.f77_grammar.specs.program.Text.{is_declaration};
 ghost use Rattle.f77_grammar.specs.program.Uses as plain;
 ghost use Rattle.f77_grammar.specs.program.Declarations.{is_declared_wrongly};
 ghost use Rattle.f77_syntax.specs.First.{first_index};
 ghost use Rattle.f77_syntax.specs.Views.{text_of, statement_of};
-ghost use Rattle.f77_names.specs.Seen.{is_again_by, is_title_use, suits_list_by, is_misused_by, is_misused_use};
+ghost use Rattle.f77_names.specs.Seen.{is_again_by, bears_title_by, suits_list_by, is_misused_by, is_misused_use};
 ghost use Rattle.f77_names.specs.Seen.{Declares, Passes};
+ghost use Rattle.f77_names.specs.NameFacts.{facts_in};
 ghost use Rattle.f77_names.specs.UsesView.{role_of, plain_use};
 
-use crate::functions::function_named;
 use crate::names::{Facts, Names, names_of_text};
 use crate::statement_parts::is_declaration;
 use crate::uses::{Role, Use, Uses};
-use fv_tree::{Memory, Name};
+use fv_tree::{Fun, Memory, Name};
 use f77_syntax::{Labelled, Stmt77};
 use std::alloc::Global;
 
@@ -47,7 +48,7 @@ impl Facts {
         if self.is_array() {
             return self.dimensions.unwrap_or(0) == count;
         }
-        function_named(name).is_some()
+        Fun::read77(name.text()).is_some()
     }
 
     fn is_misused(self, name: Name, role: Role) -> bool
@@ -60,22 +61,6 @@ impl Facts {
             Role::Typed(_) => false,
             Role::Bounded(_) => false,
             Role::Defined => false,
-            Role::Counter => false,
-        }
-    }
-}
-
-impl Role {
-    fn is_title(self) -> bool
-        ensures { result ≡ plain.is_title (role_of self) }
-    {
-        match self {
-            Role::Title => true,
-            Role::Typed(_) => false,
-            Role::Bounded(_) => false,
-            Role::Defined => false,
-            Role::Valued(_) => false,
-            Role::Target(_) => false,
             Role::Counter => false,
         }
     }
@@ -103,23 +88,45 @@ impl Names {
 
     // In an executable statement with these uses, a name doesn't suit its list, or a symbolic constant is assigned.
     fn has_misused_name(&self, statement: &Stmt77, uses: &[Use]) -> bool
-        ensures { result ≡ (not (is_declaration (statement_of statement.now)) && list_any (is_misused_use self.now) (map plain_use uses.now)) }
+        ensures { result ≡ (not (is_declaration (statement_of statement.now))
+            && list_any (is_misused_use self.now) (map plain_use uses.now)) }
     {
         !is_declaration(statement) && self.has_misused(uses)
     }
 
-    // The program's name stands as another name.
-    fn is_title(&self, used: &Use) -> bool
-        ensures { result ≡ is_title_use self.now (plain_use used.now) }
+    // The program's name is so spelled.
+    fn has_title(&self, text: &[u8]) -> bool
+        ensures { IsName text.now → result ≡ (facts_in self.now text.now).title }
     {
-        !used.role.is_title() && self.facts(used.name).title
+        match Name::read(text) {
+            Some(name) => self.facts(name).title,
+            None => false,
+        }
     }
 
-    fn has_title(&self, uses: &[Use]) -> bool
-        ensures { result ≡ list_any (is_title_use self.now) (map plain_use uses.now) }
+    // The program's name stands as another name, or Fortran 90 spells a function so that is called; `names` are those
+    // of the whole program.
+    #[tactic(auto, using(crate::proofs::TitleLaws::title_laws))]
+    fn bears_title(&self, names: &Names, used: &Use) -> bool
+        ensures { result ≡ bears_title_by self.now names.now (plain_use used.now) }
+    {
+        if used.role.is_title() {
+            return false;
+        }
+        if self.facts(used.name).title {
+            return true;
+        }
+        match names.called(used) {
+            Some(function) => self.has_title(function.spell90().as_bytes()),
+            None => false,
+        }
+    }
+
+    fn bear_title(&self, names: &Names, uses: &[Use]) -> bool
+        ensures { result ≡ list_any (bears_title_by self.now names.now) (map plain_use uses.now) }
     {
         for used in uses {
-            if self.is_title(used) {
+            if self.bears_title(names, used) {
                 return true;
             }
         }
@@ -140,8 +147,7 @@ impl Names {
     }
 
     // The statement is wrong, where `self` has the names of the statements before it and `names` those of the whole
-    // program.
-    // Where it isn't, its names are noted.
+    // program. Where it isn't, its names are noted.
     fn is_wrong(&mut self, alloc: Global, names: &Names, statement: &Stmt77) -> Result<bool, Memory>
         ensures { IfOk result (Passes names.now self.old self.new (statement_of statement.now)) }
     {
@@ -151,7 +157,7 @@ impl Names {
         if names.has_misused_name(statement, uses) {
             return Ok(true);
         }
-        if self.has_title(uses) {
+        if self.bear_title(names, uses) {
             return Ok(true);
         }
         if self.has_unknown_constant(alloc, statement)? {
@@ -162,10 +168,10 @@ impl Names {
 }
 
 /// The place of the first statement that declares a name again or as two things, has the program's name as another
-/// name, defines by a name that isn't defined
-/// before it, or has a name that doesn't suit what it is declared as.
+/// name, defines by a name that isn't defined before it, or has a name that doesn't suit what it is declared as.
 pub fn wrong_declaration(alloc: Global, text: &[Labelled]) -> Result<Option<usize>, Memory>
-    ensures { IfOk result (λ place. place ≡ first_index (is_declared_wrongly (plain.uses_in_text (text_of text.now))) (text_of text.now)) }
+    ensures { IfOk result (λ place. place ≡ first_index (is_declared_wrongly (plain.uses_in_text (text_of text.now)))
+        (text_of text.now)) }
 {
     let names = names_of_text(alloc, text)?;
     let mut before = Names::new(alloc);

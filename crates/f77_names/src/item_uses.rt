@@ -12,7 +12,8 @@ impl Uses {
     /// What is assigned or read into.
     #[tactic(auto, using(crate::proofs::ItemUseLaws::item_use_laws))]
     pub fn add_target(&mut self, target: &Ref) -> Result<(), Memory>
-        ensures { OnOk result (listed self.new ≡ listed self.old ++ plain.target_uses (reference_of target.now).name (reference_of target.now).subscripts) }
+        ensures { OnOk result (listed self.new ≡ listed self.old
+            ++ plain.target_uses (reference_of target.now).name (reference_of target.now).subscripts) }
     {
         self.note(target.name, Role::Target(target.subs.len()))?;
         self.add_subs(&target.subs)
@@ -29,6 +30,11 @@ impl Uses {
             Expr::Un(..) => self.add_expr(expr),
             Expr::Bin(..) => self.add_expr(expr),
             Expr::Call(..) => self.add_expr(expr),
+            Expr::List(..) => self.add_expr(expr),
+            Expr::Spread(..) => self.add_expr(expr),
+            Expr::Transpose(_) => self.add_expr(expr),
+            Expr::Reshape(..) => self.add_expr(expr),
+            Expr::Reduce(..) => self.add_expr(expr),
         }
     }
 
@@ -40,7 +46,9 @@ impl Uses {
         last: &Expr,
         step: &Expr,
     ) -> Result<(), Memory>
-        ensures { OnOk result (listed self.new ≡ listed self.old ++ plain.control_uses variable (expression_of first.now) (expression_of last.now) (expression_of step.now)) }
+        ensures { OnOk result (listed self.new ≡ listed self.old
+            ++ plain.control_uses variable (expression_of first.now) (expression_of last.now)
+            (expression_of step.now)) }
     {
         self.note(variable, Role::Counter)?;
         self.add_expr(first)?;
@@ -66,7 +74,8 @@ impl Uses {
     /// The items of an output list.
     #[cycle(outputs)]
     pub fn add_outputs(&mut self, list: &Seq<Item>) -> Result<(), Memory>
-        ensures { OnOk result (listed self.new ≡ listed self.old ++ plain.uses_in_outputs (items (map item_of list.now))) }
+        ensures { OnOk result (listed self.new ≡ listed self.old
+            ++ plain.uses_in_outputs (items (map item_of list.now))) }
     {
         for item in list.as_slice() {
             self.add_output(item)?;
@@ -92,7 +101,8 @@ impl Uses {
     /// The items of an input list.
     #[cycle(inputs)]
     pub fn add_inputs(&mut self, list: &Seq<Item>) -> Result<(), Memory>
-        ensures { OnOk result (listed self.new ≡ listed self.old ++ plain.uses_in_inputs (items (map item_of list.now))) }
+        ensures { OnOk result (listed self.new ≡ listed self.old
+            ++ plain.uses_in_inputs (items (map item_of list.now))) }
     {
         for item in list.as_slice() {
             self.add_input(item)?;

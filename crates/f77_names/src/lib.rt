@@ -7,7 +7,6 @@
 mod constant_expressions;
 mod counts;
 mod declarations;
-mod functions;
 mod item_uses;
 mod names;
 mod real_names;
@@ -19,7 +18,6 @@ mod uses;
 
 pub use counts::many_names;
 pub use declarations::wrong_declaration;
-pub use functions::function_named;
 pub use names::{Facts, Names, names_of, names_of_text};
 pub use real_names::real_name;
 pub use statement_uses::uses_in_text;

@@ -6,9 +6,8 @@ ghost use Rattle.f77_grammar.specs.program.Uses as plain;
 ghost use Rattle.f77_syntax.specs.Views.{text_of};
 ghost use Rattle.f77_names.specs.NameFacts.{nothing_known, facts_with, facts_in, AreNamesOf, is_variable_by};
 ghost use Rattle.f77_names.specs.NameFacts.{is_array_by, is_function_by, kind_by, dimensions_by, function_by};
-ghost use Rattle.f77_names.specs.NameFacts.{function_of};
+ghost use Rattle.f77_names.specs.NameFacts.{function_of, called_by, called_of};
 
-use crate::functions::function_named;
 use crate::statement_uses::uses_in_text;
 use crate::uses::{Role, Use};
 use fv_tree::{Fun, Kind, Memory, Name};
@@ -61,14 +60,14 @@ impl Facts {
     fn is_function(self, name: Name) -> bool
         ensures { result ≡ is_function_by self name }
     {
-        function_named(name).is_some() && !self.is_variable() && !self.constant
+        Fun::read77(name.text()).is_some() && !self.is_variable() && !self.constant
     }
 
     fn function(self, name: Name) -> Option<Fun>
         ensures { result ≡ function_by self name }
     {
         if self.is_function(name) {
-            function_named(name)
+            Fun::read77(name.text())
         } else {
             None
         }
@@ -198,6 +197,18 @@ impl Names {
         self.facts(name).function(name)
     }
 
+    /// The function that is called where the name stands so. A program's name by itself calls nothing.
+    #[tactic(auto, using(crate::proofs::TitleLaws::call_laws))]
+    pub fn called(&self, used: &Use) -> Option<Fun>
+        ensures known { result ≡ called_by (facts_in self.now used.now.name) (plain_use used.now) }
+        ensures exact { (us : List plain.Use) → AreNamesOf self.now us → result ≡ called_of us (plain_use used.now) }
+    {
+        if used.role.is_title() {
+            return None;
+        }
+        self.function(used.name)
+    }
+
     /// The kind of a variable or symbolic constant, INTEGER where no type is given.
     pub fn kind(&self, name: Name) -> Kind
         ensures known { result ≡ kind_by (facts_in self.now name) }
@@ -215,7 +226,8 @@ impl Names {
     }
 
     pub(crate) fn note(&mut self, name: Name, role: Role) -> Result<(), Memory>
-        ensures { OnOk result ((x : List ℕ) → facts_in self.new x ≡ (if bytes_eq name x then facts_with (facts_in self.old name) (role_of role) else facts_in self.old x)) }
+        ensures { OnOk result ((x : List ℕ) → facts_in self.new x
+            ≡ (if bytes_eq name x then facts_with (facts_in self.old name) (role_of role) else facts_in self.old x)) }
     {
         let facts = self.facts(name).with(role);
         self.table.insert(name, facts)?;

@@ -64,7 +64,8 @@ impl Names {
 
 /// The place of the first statement with such a name.
 pub fn real_name(alloc: Global, text: &[Labelled]) -> Result<Option<usize>, Memory>
-    ensures { IfOk result (λ place. place ≡ first_index (has_real_name (plain.uses_in_text (text_of text.now))) (text_of text.now)) }
+    ensures { IfOk result (λ place. place ≡ first_index (has_real_name (plain.uses_in_text (text_of text.now)))
+        (text_of text.now)) }
 {
     let uses = uses_in_text(alloc, text)?;
     let names = names_of(alloc, uses.as_slice())?;

@@ -14,7 +14,8 @@ use std::alloc::Global;
 impl Uses {
     #[tactic(auto, using(crate::proofs::StatementUseLaws::entity_laws))]
     fn add_bound(&mut self, bound: &(Expr, Expr)) -> Result<(), Memory>
-        ensures { OnOk result (listed self.new ≡ listed self.old ++ (plain.uses_in (expression_of bound.now.0) ++ plain.uses_in (expression_of bound.now.1))) }
+        ensures { OnOk result (listed self.new ≡ listed self.old
+            ++ (plain.uses_in (expression_of bound.now.0) ++ plain.uses_in (expression_of bound.now.1))) }
     {
         self.add_expr(&bound.0)?;
         self.add_expr(&bound.1)
@@ -51,7 +52,8 @@ impl Uses {
     }
 
     fn add_typed(&mut self, kind: Kind, entities: &Seq<Entity>) -> Result<(), Memory>
-        ensures { OnOk result (listed self.new ≡ listed self.old ++ flat_map (plain.typed_uses kind) (map entity_of entities.now)) }
+        ensures { OnOk result (listed self.new ≡ listed self.old
+            ++ flat_map (plain.typed_uses kind) (map entity_of entities.now)) }
     {
         for entity in entities.as_slice() {
             self.add_typed_entity(kind, entity)?;
@@ -60,7 +62,8 @@ impl Uses {
     }
 
     fn add_dimensioned(&mut self, entities: &Seq<Entity>) -> Result<(), Memory>
-        ensures { OnOk result (listed self.new ≡ listed self.old ++ flat_map plain.dimensioned_uses (map entity_of entities.now)) }
+        ensures { OnOk result (listed self.new ≡ listed self.old
+            ++ flat_map plain.dimensioned_uses (map entity_of entities.now)) }
     {
         for entity in entities.as_slice() {
             self.add_dimensions(entity)?;
@@ -77,7 +80,8 @@ impl Uses {
     }
 
     fn add_constants(&mut self, constants: &Seq<(Name, Expr)>) -> Result<(), Memory>
-        ensures { OnOk result (listed self.new ≡ listed self.old ++ flat_map plain.defined_uses (map constant_of constants.now)) }
+        ensures { OnOk result (listed self.new ≡ listed self.old
+            ++ flat_map plain.defined_uses (map constant_of constants.now)) }
     {
         for constant in constants.as_slice() {
             self.add_constant(constant)?;
@@ -86,7 +90,8 @@ impl Uses {
     }
 
     fn add_assignment(&mut self, left: &Ref, right: &Expr) -> Result<(), Memory>
-        ensures { OnOk result (listed self.new ≡ listed self.old ++ plain.assignment_uses (reference_of left.now) (expression_of right.now)) }
+        ensures { OnOk result (listed self.new ≡ listed self.old
+            ++ plain.assignment_uses (reference_of left.now) (expression_of right.now)) }
     {
         self.add_target(left)?;
         self.add_expr(right)

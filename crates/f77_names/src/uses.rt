@@ -28,6 +28,23 @@ pub enum Role {
     Counter,
 }
 
+impl Role {
+    /// The name stands as the program's.
+    pub fn is_title(self) -> bool
+        ensures { result ≡ plain.is_title (role_of self) }
+    {
+        match self {
+            Role::Title => true,
+            Role::Typed(_) => false,
+            Role::Bounded(_) => false,
+            Role::Defined => false,
+            Role::Valued(_) => false,
+            Role::Target(_) => false,
+            Role::Counter => false,
+        }
+    }
+}
+
 /// A name, and how it stands.
 #[derive(Clone, Copy, Debug)]
 pub struct Use {
@@ -79,13 +96,19 @@ impl Uses {
                 self.add_expr(b)
             }
             Expr::Call(_, arguments) => self.add_exprs(arguments),
+            Expr::List(..) => Ok(()),
+            Expr::Spread(..) => Ok(()),
+            Expr::Transpose(_) => Ok(()),
+            Expr::Reshape(..) => Ok(()),
+            Expr::Reduce(..) => Ok(()),
         }
     }
 
     #[cycle(uses)]
     #[tactic(auto, using(crate::proofs::UseLaws::use_laws))]
     fn add_value(&mut self, item: &Ref) -> Result<(), Memory>
-        ensures { OnOk result (listed self.new ≡ listed self.old ++ plain.uses_in (expression_of (exprs.Item item.now))) }
+        ensures { OnOk result (listed self.new ≡ listed self.old
+            ++ plain.uses_in (expression_of (exprs.Item item.now))) }
     {
         self.note(item.name, Role::Valued(item.subs.len()))?;
         self.add_subs(&item.subs)
@@ -93,7 +116,8 @@ impl Uses {
 
     #[cycle(uses)]
     fn add_exprs(&mut self, exprs: &Seq<Expr>) -> Result<(), Memory>
-        ensures { OnOk result (listed self.new ≡ listed self.old ++ plain.uses_in_arguments (expressions (map expression_of exprs.now))) }
+        ensures { OnOk result (listed self.new ≡ listed self.old
+            ++ plain.uses_in_arguments (expressions (map expression_of exprs.now))) }
     {
         for expr in exprs.as_slice() {
             self.add_expr(expr)?;
@@ -108,12 +132,14 @@ impl Uses {
     {
         match sub {
             Sub::One(expr) => self.add_expr(expr),
+            Sub::Part(..) => Ok(()),
         }
     }
 
     #[cycle(uses)]
     pub fn add_subs(&mut self, subs: &Seq<Sub>) -> Result<(), Memory>
-        ensures { OnOk result (listed self.new ≡ listed self.old ++ plain.uses_in_subscripts (subscripts (map subscript_of subs.now))) }
+        ensures { OnOk result (listed self.new ≡ listed self.old
+            ++ plain.uses_in_subscripts (subscripts (map subscript_of subs.now))) }
     {
         for sub in subs.as_slice() {
             self.add_sub(sub)?;

@@ -4,6 +4,7 @@ use Rattle.fv_tree.specs.Plain.{Expression, Named, Reference}
 use Rattle.fv_tree.specs.View.{expression_of, reference_of}
 use Rattle.fv_tree.specs.declared.exprs.Ref.{Ref}
 use Rattle.fv_tree.proofs.Equations.{expression_of-int, expression_of-truth, expression_of-item, expression_of-un, expression_of-bin, expression_of-call}
+use Rattle.fv_tree.proofs.Equations.{expression_of-list, expression_of-spread, expression_of-transpose, expression_of-reshape, expression_of-reduce}
 use Rattle.f77_grammar.specs.expressions.Phrases.{Phrase, Literal, WideLiteral, Truth, Name, Listed, Paren, Signed, Joined, written, tree}
 use Rattle.f77_grammar.specs.expressions.Words.{Word}
 use Rattle.f77_grammar.specs.statements.Items.{IsReference}
@@ -11,9 +12,11 @@ use Rattle.f77_grammar.specs.statements.Forms.{reference_in}
 use Rattle.f77_expr.specs.declared.operands.Operand.{Operand}
 use Rattle.f77_expr.specs.Reading as reading
 use Rattle.f77_expr.specs.Reading.{Ends, IsMadeOf, Gives}
-use Rattle.f77_stmt.specs.Parts.{begins_with_name, IsItem, IsReferenceOf, BeginsWithReference}
+use Rattle.f77_expr.specs.TokenFronts.{begins_with_name}
+use Rattle.f77_stmt.specs.Parts.{IsItem, IsReferenceOf, BeginsWithReference}
 
-pub ruleset items = (expression_of-int, expression_of-truth, expression_of-item, expression_of-un, expression_of-bin, expression_of-call)
+pub ruleset items = (expression_of-int, expression_of-truth, expression_of-item, expression_of-un, expression_of-bin, expression_of-call,
+    expression_of-list, expression_of-spread, expression_of-transpose, expression_of-reshape, expression_of-reduce)
 
 -- what begins with a name and stands for a reference has neither a sign nor parentheses
 pub is_bare : (p : Phrase) (rest : List Word) (r : Reference) → begins_with_name (written p ++ rest) ≡ true → IsItem (tree p) r → IsReference p

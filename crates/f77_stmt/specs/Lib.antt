@@ -2,7 +2,6 @@ pub mod Actions
 pub mod Conditions
 pub mod Declarations
 pub mod Formed
-pub mod Fronts
 pub mod KeywordFronts
 pub mod Keywords
 pub mod Kinds

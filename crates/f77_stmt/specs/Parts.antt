@@ -27,11 +27,6 @@ capped n = min n 401
 
 -- ---- a reference
 
-abbrev pub begins_with_name : List Word → Bool
-begins_with_name (words.Name x ∷ ws) = true
-begins_with_name (words.Head x ∷ ws) = true
-begins_with_name ws = false
-
 -- the tree is this reference
 abbrev pub IsItem : Expression → Reference → Type 0
 IsItem e r = e ≡ Named r.name r.subscripts

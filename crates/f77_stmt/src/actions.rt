@@ -17,7 +17,7 @@ ghost use Rattle.f77_stmt.specs.Parts.{Given, IsFormedOf};
 use crate::formed::Formed;
 use f77_expr::{Stop, Symbol, has_wide, strip, whole, words};
 use f77_lists::{read_inputs, read_items};
-use f77_keywords::{cut_at_close, label};
+use f77_keywords::{cut_at_close, is_then, label};
 use fv_tree::{Expr, Seq};
 use f77_syntax::Stmt77;
 use std::alloc::Global;
@@ -47,16 +47,6 @@ pub(crate) fn condition(alloc: Global, text: &[Symbol]) -> Result<(Expr, u16, bo
     let operand = whole(alloc, tokens.as_slice())?;
     let wide = has_wide(tokens.as_slice());
     Ok((operand.tree, operand.depth, wide))
-}
-
-/// Whether the text is the word THEN.
-pub(crate) fn is_then(text: &[Symbol]) -> bool
-    ensures { IsTrue result ↔ (symbols_of text.now ≡ chars (codes "THEN")) }
-{
-    match strip(b"THEN", text) {
-        Some(rest) => rest.is_empty(),
-        None => false,
-    }
 }
 
 /// A condition, a closing parenthesis and THEN, as those of an ELSE IF (section 11.7).

@@ -10,26 +10,15 @@ ghost use Rattle.f77_expr.specs.Views.{words_of};
 ghost use Rattle.std.specs.Prelude.{ℕ};
 ghost use Rattle.fv_tree.specs.Plain.{Named, Subscripts};
 ghost use Rattle.fv_tree.specs.View.{expression_of, reference_of};
-ghost use Rattle.f77_stmt.specs.Parts.{begins_with_name, IsItem, Given, BeginsWithReference, IsReferenceOf, IsStepOf};
+ghost use Rattle.f77_stmt.specs.Parts.{IsItem, Given, BeginsWithReference, IsReferenceOf, IsStepOf};
 ghost use Rattle.f77_stmt.specs.Parts.{HasStep, IsControl, IsControlOf, IsAssignment, IsFormedOf};
 
 use crate::formed::Formed;
-use crate::fronts::{after_comma, after_equals, after_name};
-use f77_expr::{Operand, Stop, Token, has_wide, read, whole};
+use f77_expr::{Operand, Stop, Token, after_comma, after_equals, after_name, begins_with_name};
+use f77_expr::{has_wide, read, whole};
 use fv_tree::{Expr, Name, Ref};
 use f77_syntax::Stmt77;
 use std::alloc::Global;
-
-// Whether the words begin with a name.
-fn begins_with_name(tokens: &[Token]) -> bool
-    ensures { result ≡ begins_with_name (words_of tokens.now) }
-{
-    match tokens {
-        [Token::Name(_), ..] => true,
-        [Token::Head(_), ..] => true,
-        _ => false,
-    }
-}
 
 // An operand that is a name, or a name with a list, with its depth.
 #[tactic(auto, using(crate::proofs::ReferenceLaws::items))]
@@ -46,6 +35,11 @@ fn item(operand: Operand) -> Result<(Ref, u16), Stop>
         Expr::Un(_, _) => Err(Stop::Syntax),
         Expr::Bin(_, _, _) => Err(Stop::Syntax),
         Expr::Call(_, _) => Err(Stop::Syntax),
+        Expr::List(..) => Err(Stop::Syntax),
+        Expr::Spread(..) => Err(Stop::Syntax),
+        Expr::Transpose(_) => Err(Stop::Syntax),
+        Expr::Reshape(..) => Err(Stop::Syntax),
+        Expr::Reduce(..) => Err(Stop::Syntax),
     }
 }
 

@@ -12,29 +12,19 @@ use crate::forms::form;
 use f77_expr::{Stop, Symbol, squeeze};
 use f77_keywords::word_left_out;
 use fixed_form::Card;
-use fv_tree::{Refusal, Refused};
+use fv_tree::{Cause, EXPRESSION_DEPTH_77, Refusal, Refused};
 use f77_syntax::Stmt77;
 use std::alloc::Global;
-
-const MOST_DEPTH: u16 = 400;
 
 // The statement, where its literals and its depth are within the limits.
 fn limited(made: Formed, line: u32) -> Result<Stmt77, Refused>
     ensures { result ≡ limited made line }
 {
     if made.wide {
-        return Err(Refused::Refusal(Refusal {
-            number: 8,
-            line,
-            word: 0,
-        }));
+        return Err(Refused::Refusal(Cause::WideLiteral.at(line)));
     }
-    if made.depth > MOST_DEPTH {
-        return Err(Refused::Refusal(Refusal {
-            number: 9,
-            line,
-            word: 0,
-        }));
+    if made.depth > EXPRESSION_DEPTH_77 {
+        return Err(Refused::Refusal(Cause::Deep.at(line)));
     }
     Ok(made.statement)
 }
@@ -47,22 +37,13 @@ fn formless(text: &[Symbol], line: u32) -> Refusal
         × (result.word ≡ word) }
 {
     match word_left_out(text) {
-        Some(word) => Refusal {
-            number: 7,
-            line,
-            word,
-        },
-        None => Refusal {
-            number: 6,
-            line,
-            word: 0,
-        },
+        Some(word) => Cause::OutOfProfile(word).at(line),
+        None => Cause::Syntax.at(line),
     }
 }
 
 /// The statement of a card. The first cause that holds refuses it: no form, of which a word that is left out of the
-/// profile is told by its number; a literal
-/// above 2^127-1; an expression or a list more than 400 deep.
+/// profile is told by its number; a literal above 2^127-1; an expression or a list more than 400 deep.
 pub fn parse(alloc: Global, card: &Card) -> Result<Stmt77, Refused>
     ensures read { IfOk result (λ s. ReadsStatement card.now.chars (view.statement_of s)) }
     ensures refused { (r : refusals.Refusal) → result ≡ Err (Refused.Refusal r) → (r.line ≡ card.now.line)

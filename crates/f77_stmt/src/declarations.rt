@@ -18,9 +18,9 @@ ghost use Rattle.f77_stmt.specs.Declarations.{IsTheDefinition, AreBoundsRead, Ar
 ghost use Rattle.f77_stmt.specs.Declarations.{IsBoundOf};
 ghost use Rattle.f77_stmt.specs.Separated.{EndsPart, EndsList, BeginsWithList, IsRead};
 
-use crate::fronts::{after_close, after_colon, after_comma, after_equals, after_head, after_name};
 use f77_expr::{Operand, Stop, Token, read};
-use fv_tree::{Expr, Name, Seq};
+use f77_expr::{after_close, after_colon, after_comma, after_equals, after_head, after_name};
+use fv_tree::{ARRAY_DIMENSIONS, Expr, Name, Seq};
 use f77_syntax::Entity;
 use std::alloc::Global;
 
@@ -98,8 +98,6 @@ fn read_bounds(alloc: Global, tokens: &[Token]) -> Result<(Seq<(Expr, Expr)>, u1
     Ok((bounds, depth, rest))
 }
 
-const MOST_DIMENSIONS: usize = 7;
-
 // A name with its bounds in parentheses, behind the opening one.
 fn bounded(alloc: Global, name: Name, tokens: &[Token]) -> Result<(Entity, u16, &[Token]), Stop>
     ensures found { IfOk result (λ r. EndsEntity (words_of tokens.now) name (entity_of r.0) r.1 (words_of r.2.now)) }
@@ -111,7 +109,7 @@ fn bounded(alloc: Global, name: Name, tokens: &[Token]) -> Result<(Entity, u16, 
     let Some(rest) = after_close(rest) else {
         return Err(Stop::Syntax);
     };
-    if dims.len() > MOST_DIMENSIONS {
+    if dims.len() > ARRAY_DIMENSIONS {
         return Err(Stop::Syntax);
     }
     Ok((Entity { name, dims }, depth, rest))

@@ -10,7 +10,6 @@ ghost use Rattle.f77_grammar.specs.statements.Forms.{Form, Assign, Do, Test, IsW
 ghost use Rattle.f77_grammar.specs.statements.Forms.{optional_comma, written_control};
 ghost use Rattle.f77_grammar.specs.statements.Recognition.{BeginsWithLetter};
 ghost use Rattle.f77_expr.specs.Symbols.{symbols_of};
-ghost use Rattle.f77_keywords.specs.FormsLeftOut.{without_comma};
 ghost use Rattle.f77_keywords.specs.Fronts.{GivesLabel};
 ghost use Rattle.f77_keywords.specs.Kinds.{HasKeyword};
 ghost use Rattle.f77_syntax.specs.Views as view;
@@ -23,14 +22,14 @@ ghost use Rattle.f77_stmt.specs.Loops.{IsLoopFront};
 ghost use Rattle.f77_stmt.specs.Parts.{Given, IsControlOf, IsFormedOf};
 
 use crate::actions::{
-    condition, else_if, go_to, is_then, nothing, print_list, read_list, read_unit, write_unit,
+    condition, else_if, go_to, nothing, print_list, read_list, read_unit, write_unit,
 };
 use crate::assignments::{Control, assignment, read_control};
 use crate::formed::Formed;
 use crate::keywords::Keyword;
 use crate::statements::{constants, declaration, dimension, program};
 use f77_expr::{Stop, Symbol, has_wide, strip, words};
-use f77_keywords::{Outside, conditional, label};
+use f77_keywords::{Outside, behind_comma, conditional, is_then, label};
 use fv_tree::{Expr, Kind};
 use f77_syntax::Stmt77;
 use std::alloc::Global;
@@ -69,16 +68,6 @@ fn assignment_statement(alloc: Global, text: &[Symbol]) -> Result<Formed, Stop>
 {
     let tokens = words(alloc, text)?;
     assignment(alloc, tokens.as_slice())
-}
-
-// What follows the comma at the front, or the text where there is none.
-fn behind_comma(text: &[Symbol]) -> &[Symbol]
-    ensures { symbols_of result.now ≡ without_comma (symbols_of text.now) }
-{
-    match strip(b",", text) {
-        Some(rest) => rest,
-        None => text,
-    }
 }
 
 // The label of a DO, and what follows it and its comma.

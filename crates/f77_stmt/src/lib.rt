@@ -7,7 +7,6 @@ mod cards;
 mod declarations;
 mod formed;
 mod forms;
-mod fronts;
 mod keywords;
 mod statements;
 #[cfg(test)]

@@ -1,7 +1,7 @@
 //! What no clause says: with ample memory cards are read or refused as the rules have it.
 use crate::parse;
 use fixed_form::Card;
-use fv_tree::{Refused, Seq};
+use fv_tree::{Cause, Refusal, Refused, Seq};
 use f77_syntax::Stmt77;
 use std::alloc::{AllocError, Global};
 use std::test::Fail;
@@ -14,11 +14,11 @@ fn card(alloc: Global, text: &str) -> Result<Card, AllocError> {
     })
 }
 
-// The number and the word of a refusal; 0 and 0 for a statement.
-fn refusal(alloc: Global, text: &str) -> Result<(u8, u8), Fail> {
+// Why the text, on line 7, is refused, if it is.
+fn refusal(alloc: Global, text: &str) -> Result<Option<Refusal>, Fail> {
     match parse(alloc, &card(alloc, text)?) {
-        Ok(_) => Ok((0, 0)),
-        Err(Refused::Refusal(refusal)) => Ok((refusal.number, refusal.word)),
+        Ok(_) => Ok(None),
+        Err(Refused::Refusal(refusal)) => Ok(Some(refusal)),
         Err(Refused::Memory) => Err(Fail::from("memory")),
     }
 }
@@ -61,49 +61,52 @@ fn left_out_by_their_words(rt: HostRuntime) -> Result<(), Fail> {
         ("GO TO (10, 20), I", 33),
         ("GO TO I, (10, 20)", 34),
     ] {
-        assert_eq!(rt; refusal(rt.alloc(), text)?, (7, word), "at {text}");
+        let want = Cause::OutOfProfile(word).at(7);
+        assert_eq!(rt; refusal(rt.alloc(), text)?, Some(want), "at {text}");
     }
     Ok(())
 }
 
 #[test]
 fn read_or_refused(rt: HostRuntime) -> Result<(), Fail> {
-    for (text, number) in [
-        ("DO10I=1", 0),
-        ("DO 10 I = 1, 3", 0),
-        ("DO 10, I = 1, 3, -1", 0),
-        ("IF(1)=2", 0),
-        ("IF (L) THEN = 3", 0),
-        ("REAL X = 4", 0),
-        ("READ(*,*)I", 0),
-        ("READ *, (A(I), I = 1, 3)", 0),
-        ("PRINT *, 'IT''S, (1', ('A', I = 1, 2)", 0),
-        ("INTEGER A(1,2,3,4,5,6,7)", 0),
-        ("INTEGER A(1,2,3,4,5,6,7,8)", 6),
-        ("INTEGER A()", 6),
-        ("DIMENSION A", 6),
-        ("PRINT *,", 6),
-        ("READ (*,*), I", 6),
-        ("READ *, (I)", 6),
-        ("READ *, I + 1", 6),
-        ("PRINT *, 'A' 'B'", 6),
-        ("PRINT *, ''", 6),
-        ("CHARACTER*8 C = 'X'", 6),
-        ("DO 123456 I = 1, 2", 6),
-        ("GO TO (10),", 6),
-        ("IF (L) IF (M) I = 1", 6),
-        ("STOP 1", 6),
-        ("I = 170141183460469231731687303715884105727", 0),
-        ("I = 170141183460469231731687303715884105728", 8),
+    for (text, cause) in [
+        ("DO10I=1", None),
+        ("DO 10 I = 1, 3", None),
+        ("DO 10, I = 1, 3, -1", None),
+        ("IF(1)=2", None),
+        ("IF (L) THEN = 3", None),
+        ("REAL X = 4", None),
+        ("READ(*,*)I", None),
+        ("READ *, (A(I), I = 1, 3)", None),
+        ("PRINT *, 'IT''S, (1', ('A', I = 1, 2)", None),
+        ("INTEGER A(1,2,3,4,5,6,7)", None),
+        ("INTEGER A(1,2,3,4,5,6,7,8)", Some(Cause::Syntax)),
+        ("INTEGER A()", Some(Cause::Syntax)),
+        ("DIMENSION A", Some(Cause::Syntax)),
+        ("PRINT *,", Some(Cause::Syntax)),
+        ("READ (*,*), I", Some(Cause::Syntax)),
+        ("READ *, (I)", Some(Cause::Syntax)),
+        ("READ *, I + 1", Some(Cause::Syntax)),
+        ("PRINT *, 'A' 'B'", Some(Cause::Syntax)),
+        ("PRINT *, ''", Some(Cause::Syntax)),
+        ("CHARACTER*8 C = 'X'", Some(Cause::Syntax)),
+        ("DO 123456 I = 1, 2", Some(Cause::Syntax)),
+        ("GO TO (10),", Some(Cause::Syntax)),
+        ("GO TO (10),,I", Some(Cause::OutOfProfile(33))),
+        ("IF (L) IF (M) I = 1", Some(Cause::Syntax)),
+        ("STOP 1", Some(Cause::Syntax)),
+        ("I = 170141183460469231731687303715884105727", None),
+        ("I = 170141183460469231731687303715884105728", Some(Cause::WideLiteral)),
     ] {
-        assert_eq!(rt; refusal(rt.alloc(), text)?.0, number, "at {text}");
+        let want = cause.map(|cause| cause.at(7));
+        assert_eq!(rt; refusal(rt.alloc(), text)?, want, "at {text}");
     }
     Ok(())
 }
 
 #[test]
 fn depth_of_parentheses(rt: HostRuntime) -> Result<(), Fail> {
-    for (count, number) in [(400, 0), (401, 9)] {
+    for (count, want) in [(400, None), (401, Some(Cause::Deep.at(7)))] {
         let mut text = String::new(rt.alloc());
         text.push_str("I=")?;
         for _ in 0..count {
@@ -113,7 +116,7 @@ fn depth_of_parentheses(rt: HostRuntime) -> Result<(), Fail> {
         for _ in 0..count {
             text.push(')')?;
         }
-        assert_eq!(rt; refusal(rt.alloc(), text.as_str())?.0, number, "at {count}");
+        assert_eq!(rt; refusal(rt.alloc(), text.as_str())?, want, "at {count}");
     }
     Ok(())
 }

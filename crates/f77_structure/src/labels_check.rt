@@ -48,7 +48,8 @@ fn is_wrong(label: Option<u32>, labels: &Labels, refused: bool) -> bool
 
 // The statement has a wrong label, or names one.
 fn has_wrong_label_among(statement: &Labelled, earlier: &Labels, all: &Labels) -> bool
-    ensures { result ≡ (is_refused earlier.now true statement.now.label || is_refused all.now false (label_in (form_of (action (statement_of statement.now.statement))))) }
+    ensures { result ≡ (is_refused earlier.now true statement.now.label
+        || is_refused all.now false (label_in (form_of (action (statement_of statement.now.statement))))) }
 {
     let named = Form::of(statement.statement.action()).label();
     is_wrong(statement.label, earlier, true) || is_wrong(named, all, false)

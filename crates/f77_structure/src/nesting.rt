@@ -146,7 +146,8 @@ fn sooner(a: Option<usize>, b: Option<usize>) -> Option<usize>
 /// The place of the first statement that is out of order, or that opens or closes something wrongly.
 #[tactic(auto, using(crate::proofs::Sooner::sooner_laws))]
 pub fn wrong_nesting(alloc: Global, text: &[Labelled]) -> Result<Option<usize>, Memory>
-    ensures { IfOk result (λ place. place ≡ first_index (λ p. is_nested_wrongly p || is_out_of_order p) (text_of text.now)) }
+    ensures { IfOk result (λ place. place ≡ first_index (λ p. is_nested_wrongly p
+        || is_out_of_order p) (text_of text.now)) }
 {
     let closed = wrong_closer(alloc, text)?;
     let nested = sooner(left_open(text), closed);

@@ -5,7 +5,7 @@ use Rattle.std.specs.declared.alloc.Global.{Global}
 use Rattle.fv_tree.specs.Plain.{Expression, expression, expressions, Subscript, Only, Subscripts, no_subscripts, subscript, subscripts, Reference, Number, Logic, Named, Unary, Binary, Apply}
 use Rattle.fv_tree.specs.View.{expression_of, subscript_of, reference_of}
 use Rattle.fv_tree.specs.declared.ops.Op.{Op}
-use Rattle.fv_tree.specs.declared.ops.Fun.{Fun}
+use Rattle.fv_tree.specs.declared.functions.Fun.{Fun}
 use Rattle.fv_tree.specs.declared.lists.Seq.{Seq}
 use Rattle.fv_tree.specs.declared.exprs.Expr.{Expr}
 use Rattle.fv_tree.specs.declared.exprs.Expr.TheVariants as exprs
@@ -14,7 +14,7 @@ use Rattle.fv_tree.specs.declared.exprs.Sub.{Sub}
 use Rattle.fv_tree.specs.declared.exprs.Sub.TheVariants as subs
 use Rattle.fv_tree.proofs.Equations.{expression_of-int, expression_of-truth, expression_of-item, expression_of-un, expression_of-bin, expression_of-call, subscript_of-one, reference_of-is, reference_of-made}
 use Rattle.fv_meaning.specs.Store.{Store}
-use Rattle.fv_meaning.specs.Names.{function_named}
+use Rattle.fv_tree.specs.Functions.{function_named}
 use Rattle.f77_grammar.specs.program.Uses.{Use, is_array, is_constant}
 use Rattle.f77_grammar.specs.program.Tree as tree
 use Rattle.f77_tree.specs.Resolved.{only, called}

@@ -3,10 +3,10 @@ use Rattle.std.specs.Prelude.{◌≡◌, ℕ, true, Option, None, Some, List, []
 use Rattle.fv_tree.specs.Plain.{Expression, Subscript, Only, Statement}
 use Rattle.fv_tree.specs.View.{statement_of}
 use Rattle.fv_tree.specs.declared.stmts.Stmt.{Stmt}
-use Rattle.fv_tree.specs.declared.ops.Fun.{Fun}
+use Rattle.fv_tree.specs.declared.functions.Fun.{Fun}
 use Rattle.fv_meaning.specs.Sequential.{integer_bits}
 use Rattle.fv_meaning.specs.Value.{is_in_range}
-use Rattle.fv_meaning.specs.Names.{function_named}
+use Rattle.fv_tree.specs.Functions.{function_named}
 use Rattle.f77_grammar.specs.program.Uses.{Use, is_array}
 use Rattle.f77_constants.specs.declared.constants.Constants.{Constants}
 use Rattle.f77_constants.specs.Constants.{value_in, value_or_nought}

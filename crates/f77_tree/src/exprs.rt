@@ -12,7 +12,6 @@ ghost use Rattle.f77_names.specs.UsesView.{listed};
 ghost use Rattle.f77_tree.specs.Resolved.{only, called};
 
 use crate::resolver::Resolver;
-use f77_names::function_named;
 use fv_tree::{Expr, Fun, Memory, Name, Op, Ref, Seq, Sub, Value};
 use std::alloc::Global;
 
@@ -62,7 +61,7 @@ impl Resolver {
         if self.is_array(name) {
             return None;
         }
-        function_named(name)
+        Fun::read77(name.text())
     }
 
     /// The expression, in which symbolic constants are replaced by their values, and calls are told from elements.

@@ -13,7 +13,7 @@ ghost use Rattle.first_path.specs.Progress.{progress_of, StopsAt, Stays, IsOrder
 use crate::statements::{Form, read_line};
 use fv_deck::{next_line, source_and_input};
 use fv_tree::{
-    Block, Decl, Expr, Form as Extent, Item, Kind, Memory, Name, Program77, Refusal, Refused, Seq,
+    Block, Decl, Expr, Extent, Item, Kind, Memory, Name, Program77, Refusal, Refused, Seq,
     Stmt,
 };
 use indexmap::IndexSet;
@@ -213,7 +213,7 @@ fn declarations(alloc: Global, names: &[Name]) -> Result<Seq<Decl>, Memory>
         decls.push(Decl {
             name: *name,
             kind: Kind::Integer,
-            form: Extent::Scalar,
+            extent: Extent::Scalar,
         })?;
     }
     Ok(decls)

@@ -2,31 +2,42 @@
 ghost use Rattle.std.specs.Prelude.{◌≡◌, ◌+◌, ◌^◌, ◌<◌, ◌≤◌, length, unwrap_or, None};
 ghost use Rattle.std.specs.List.{list_any, list_all};
 ghost use Rattle.f77_grammar.specs.Cards.Cause.{LineForm};
-ghost use Rattle.f77_grammar.specs.Cards.{statement_lines, is_bad_byte, is_tab, is_label_character};
+ghost use Rattle.f77_grammar.specs.Cards.{statement_lines, refusal, number_of, is_bad_byte, is_tab, is_label_character};
 ghost use Rattle.f77_grammar.proofs.CardCauses.{after_line, is_wrong, first_wrong, refusal_of};
 ghost use Rattle.fixed_form.specs.Source.{line_of, cause_of};
 
 use crate::source::{BLANK, Line, Lines, is_blank};
-use fv_tree::Refusal;
+use fv_tree::{CONTINUATION_LINES, Cause, Refusal, SOURCE_BYTES};
 
-const SOURCE_BYTES: usize = 1 << 20;
-
-const CONTINUATION_LINES: u32 = 19;
-
-/// What may be wrong with a line, by the number of its refusal.
+/// What may be wrong with a line.
 #[derive(Clone, Copy, Debug, PartialEq, Eq)]
-pub(crate) enum Cause {
-    BadByte = 2,
-    Tab = 3,
-    LineForm = 4,
-    ManyLines = 5,
+pub(crate) enum LineCause {
+    BadByte,
+    Tab,
+    LineForm,
+    ManyLines,
 }
 
-const CAUSES: [Cause; 4] = [
-    Cause::BadByte,
-    Cause::Tab,
-    Cause::LineForm,
-    Cause::ManyLines,
+impl LineCause {
+    // The refusal of a source for it, at this line.
+    fn at(self, line: u32) -> Refusal
+        ensures { result ≡ refusal (number_of (cause_of self)) line }
+    {
+        match self {
+            LineCause::BadByte => Cause::BadByte.at(line),
+            LineCause::Tab => Cause::Tab.at(line),
+            LineCause::LineForm => Cause::LineForm.at(line),
+            LineCause::ManyLines => Cause::ManyLines.at(line),
+        }
+    }
+}
+
+// The one that is answered first stands first.
+const LINE_CAUSES: [LineCause; 4] = [
+    LineCause::BadByte,
+    LineCause::Tab,
+    LineCause::LineForm,
+    LineCause::ManyLines,
 ];
 
 #[tactic(auto, unfolding(f77_grammar::specs::Cards::is_bad_byte))]
@@ -83,19 +94,19 @@ fn is_wrong_form(place: Option<u32>, line: &Line) -> bool
     }
 }
 
-fn is_wrong(cause: Cause, place: Option<u32>, line: &Line) -> bool
+fn is_wrong(cause: LineCause, place: Option<u32>, line: &Line) -> bool
     ensures { result ≡ is_wrong (cause_of cause) place (line_of line.now) }
 {
     match cause {
-        Cause::BadByte => has_bad_byte(&line.columns),
-        Cause::Tab => has_tab(&line.columns),
-        Cause::LineForm => is_wrong_form(place, line),
-        Cause::ManyLines => !line.is_initial() && place == Some(CONTINUATION_LINES),
+        LineCause::BadByte => has_bad_byte(&line.columns),
+        LineCause::Tab => has_tab(&line.columns),
+        LineCause::LineForm => is_wrong_form(place, line),
+        LineCause::ManyLines => !line.is_initial() && place == Some(CONTINUATION_LINES),
     }
 }
 
 /// The first line at which the cause holds.
-fn first_wrong(cause: Cause, text: &[u8]) -> Option<u32>
+fn first_wrong(cause: LineCause, text: &[u8]) -> Option<u32>
     requires { length text.now ≤ 2 ^ 20 }
     ensures { result ≡ first_wrong (cause_of cause) None (statement_lines text.now) }
 {
@@ -115,19 +126,11 @@ pub(crate) fn refusal(text: &[u8]) -> Option<Refusal>
     ensures { result ≡ refusal_of text.now }
 {
     if text.len() > SOURCE_BYTES {
-        return Some(Refusal {
-            number: 1,
-            line: 0,
-            word: 0,
-        });
+        return Some(Cause::TooLong.at(0));
     }
-    for cause in CAUSES {
+    for cause in LINE_CAUSES {
         if let Some(line) = first_wrong(cause, text) {
-            return Some(Refusal {
-                number: cause as u8,
-                line,
-                word: 0,
-            });
+            return Some(cause.at(line));
         }
     }
     None

@@ -1,6 +1,6 @@
 //! Sources with the statements that they are, or with their refusals.
 use crate::statements;
-use fv_tree::{Refusal, Refused};
+use fv_tree::{Cause, Refused};
 use std::process::Abort;
 use std::test::Fail;
 
@@ -33,15 +33,14 @@ fn assert_refused(
     rt: &(impl Abort + AllocGlobal),
     name: &str,
     source: &[u8],
-    number: u8,
+    cause: Cause,
     line: u32,
 ) {
-    let word = 0;
     match statements(rt.alloc(), source) {
         Err(refused) => {
             assert_eq!(rt;
                 refused,
-                Refused::Refusal(Refusal { number, line, word }),
+                Refused::Refusal(cause.at(line)),
                 "{name}"
             )
         }
@@ -120,55 +119,55 @@ fn sources_are_read(rt: HostRuntime) -> Result<(), Fail> {
 
 #[test]
 fn sources_are_refused(rt: HostRuntime) {
-    let rows: [(&str, &[u8], u8, u32); 15] = [
-        ("a byte in column 10", b"      END\n      PRI\xc8\n", 2, 2),
-        ("a carriage return at the end", b"      END\r", 2, 1),
-        ("a carriage return within", b"      EN\rD\n", 2, 1),
-        ("a tab in column 7", b"      \tEND\n", 3, 1),
-        ("a tab and blanks alone", b"\n \t \n", 3, 2),
-        ("a bad byte after a tab", b"\tEND\n      EN\x7f\n", 2, 2),
+    let rows: [(&str, &[u8], Cause, u32); 15] = [
+        ("a byte in column 10", b"      END\n      PRI\xc8\n", Cause::BadByte, 2),
+        ("a carriage return at the end", b"      END\r", Cause::BadByte, 1),
+        ("a carriage return within", b"      EN\rD\n", Cause::BadByte, 1),
+        ("a tab in column 7", b"      \tEND\n", Cause::Tab, 1),
+        ("a tab and blanks alone", b"\n \t \n", Cause::Tab, 2),
+        ("a bad byte after a tab", b"\tEND\n      EN\x7f\n", Cause::BadByte, 2),
         (
             "a continuation line first",
             b"C\n     1+1\n      END\n",
-            4,
+            Cause::LineForm,
             2,
         ),
-        ("a letter in the label field", b"1A    END\n", 4, 1),
+        ("a letter in the label field", b"1A    END\n", Cause::LineForm, 1),
         (
             "a label on a continuation line",
             b"      A = 1\n1    1+1\n",
-            4,
+            Cause::LineForm,
             2,
         ),
-        ("no statement", b"   10\n", 4, 1),
+        ("no statement", b"   10\n", Cause::LineForm, 1),
         (
             "no statement before a continuation line",
             b"   10\n     1END\n",
-            4,
+            Cause::LineForm,
             1,
         ),
         (
             "an exclamation mark in column 1",
             b"      END\n! END\n",
-            4,
+            Cause::LineForm,
             2,
         ),
         (
             "a tab after a wrong line",
             b"1A    END\n      \tEND\n",
-            3,
+            Cause::Tab,
             2,
         ),
         (
             "the first of two",
             b"      END\n1A    END\n1B    END\n",
-            4,
+            Cause::LineForm,
             2,
         ),
-        ("text in columns 1 to 6 alone", b"1\n", 4, 1),
+        ("text in columns 1 to 6 alone", b"1\n", Cause::LineForm, 1),
     ];
-    for (name, source, number, line) in rows {
-        assert_refused(&rt, name, source, number, line);
+    for (name, source, cause, line) in rows {
+        assert_refused(&rt, name, source, cause, line);
     }
 }
 
@@ -187,7 +186,7 @@ fn continuation_lines_are_counted(rt: HostRuntime) -> Result<(), Fail> {
         assert_eq!(rt; card.line, line);
         assert_eq!(rt; card.chars.len(), len);
     }
-    assert_refused(&rt, "twenty", longer.as_slice(), 5, 22);
+    assert_refused(&rt, "twenty", longer.as_slice(), Cause::ManyLines, 22);
     Ok(())
 }
 
@@ -196,6 +195,6 @@ fn the_longest_source(rt: HostRuntime) -> Result<(), Fail> {
     let mut source = vec![in rt.alloc(); b'\n'; 1 << 20]?;
     assert_read(&rt, "empty lines", source.as_slice(), &[])?;
     source.push(b'\n')?;
-    assert_refused(&rt, "one byte more", source.as_slice(), 1, 0);
+    assert_refused(&rt, "one byte more", source.as_slice(), Cause::TooLong, 0);
     Ok(())
 }

@@ -27,13 +27,15 @@ no_options = record { final_store = false; steps = None }
 -- these options and `--final`, which doesn't stand among them
 abbrev pub and_final : Option Options → Option Options
 and_final None = None
-and_final (Some options) = if options.final_store then None else Some (record { final_store = true; steps = options.steps })
+and_final (Some options) =
+    if options.final_store then None else Some (record { final_store = true; steps = options.steps })
 
 -- these options and `--steps`, which doesn't stand among them, with its number
 abbrev pub and_steps : Option ℕ → Option Options → Option Options
 and_steps None options = None
 and_steps (Some n) None = None
-and_steps (Some n) (Some options) = if is_some options.steps then None else Some (record { final_store = options.final_store; steps = Some n })
+and_steps (Some n) (Some options) =
+    if is_some options.steps then None else Some (record { final_store = options.final_store; steps = Some n })
 
 -- the number of the word `--steps=` with a number
 abbrev pub attached_number : List ℕ → Option ℕ
@@ -41,13 +43,15 @@ attached_number word = if starts_with nat_eq word (codes "--steps=") then number
 
 -- these options and the one that is a word by itself
 abbrev pub and_option : List ℕ → Option Options → Option Options
-and_option word options = if bytes_eq word (codes "--final") then and_final options else and_steps (attached_number word) options
+and_option word options =
+    if bytes_eq word (codes "--final") then and_final options else and_steps (attached_number word) options
 
 abbrev pub options_of : List (List ℕ) → Option Options
 options_of [] = Some no_options
 options_of (word ∷ []) = and_option word (Some no_options)
 options_of (word ∷ number ∷ words) =
-    if bytes_eq word (codes "--steps") then and_steps (number_of number) (options_of words) else and_option word (options_of (number ∷ words))
+    if bytes_eq word (codes "--steps") then and_steps (number_of number) (options_of words)
+    else and_option word (options_of (number ∷ words))
 
 -- the command of these words, or none
 abbrev pub command_of : List (List ℕ) → Option Command

@@ -6,7 +6,8 @@ ghost use Rattle.fv_command.specs.Command.{command_of};
 /// `--steps=N` means what `--steps N` means, wherever it stands and whatever follows.
 pub fn number_attached_or_apart()
     ensures { (front words : List (List ℕ)) (number : List ℕ)
-        → command_of (front ++ (codes "--steps=" ++ number) ∷ words) ≡ command_of (front ++ codes "--steps" ∷ number ∷ words) }
+        → command_of (front ++ (codes "--steps=" ++ number) ∷ words)
+        ≡ command_of (front ++ codes "--steps" ∷ number ∷ words) }
 {}
 
 /// The order of the two options doesn't matter, wherever they stand and whatever follows.

@@ -74,3 +74,6 @@ source_at_end deck rest p e = p.text_is ∙ ap (λ t. p.front ++ t) e ∙ sym (p
 
 pub input_at_end : (deck rest : List ℕ) → IsPassed deck rest → rest ≡ [] → [] ≡ input_of data_line77 deck
 input_at_end deck rest p e = sym (p.input ∙ ap (input_of data_line77) e)
+
+-- what `source_and_input` leaves to be shown
+pub ruleset part_laws = (none_passed, source_at_end, input_at_end)

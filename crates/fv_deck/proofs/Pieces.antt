@@ -76,3 +76,6 @@ none_cut c text at e = (at_first c text at e).1
 abbrev pub left_of : Option (List ℕ) → ℕ
 left_of None = 0
 left_of (Some rest) = length rest + 1
+
+-- what `cut` leaves to be shown
+pub ruleset cut_laws = (pieces_uncut, pieces_cut, whole_cut, none_uncut, none_cut)

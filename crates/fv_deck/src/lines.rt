@@ -16,7 +16,7 @@ fn first(text: &[u8], byte: u8) -> Option<usize>
 }
 
 /// What stands before the first such byte, and what stands after it, if there is one.
-#[tactic(auto, using(crate::proofs::Pieces::pieces_uncut, crate::proofs::Pieces::pieces_cut, crate::proofs::Pieces::whole_cut, crate::proofs::Pieces::none_uncut, crate::proofs::Pieces::none_cut))]
+#[tactic(auto, using(crate::proofs::Pieces::cut_laws))]
 pub fn cut(text: &[u8], byte: u8) -> (&[u8], Option<&[u8]>)
     ensures pieces { pieces byte text.now ≡ result.0.now ∷ pieces_after byte (option_copied result.1) }
     ensures whole { text.now ≡ joined_at byte result.0.now (option_copied result.1) }
@@ -61,7 +61,7 @@ fn is_data_line(line: &[u8]) -> bool
 }
 
 /// What stands before the first line that is `*DATA`, and what stands after it. Without such a line the input is empty.
-#[tactic(auto, using(crate::proofs::Parts::none_passed, crate::proofs::Parts::source_at_end, crate::proofs::Parts::input_at_end))]
+#[tactic(auto, using(crate::proofs::Parts::part_laws))]
 pub fn source_and_input(deck: &[u8]) -> (&[u8], &[u8])
     ensures source { result.0.now ≡ source_of data_line77 deck.now }
     ensures input { result.1.now ≡ input_of data_line77 deck.now }

@@ -74,7 +74,13 @@ impl Model for MemSource {
 
     ghost Value = { SourceState };
 
-    ghost view = { λ s. record { left = s.bytes; piece = s.piece; fails = s.schedule.fails.items; calls = s.schedule.calls; faults = s.schedule.faults } };
+    ghost view = { λ s. record {
+      left = s.bytes;
+      piece = s.piece;
+      fails = s.schedule.fails.items;
+      calls = s.schedule.calls;
+      faults = s.schedule.faults;
+    } };
 
     ghost invariant = { λ s. 0 < s.piece };
 }
@@ -137,7 +143,14 @@ impl Model for MemSink {
 
     ghost Value = { SinkState };
 
-    ghost view = { λ s. record { taken = s.bytes.items; room = s.room; piece = s.piece; fails = s.schedule.fails.items; calls = s.schedule.calls; faults = s.schedule.faults } };
+    ghost view = { λ s. record {
+      taken = s.bytes.items;
+      room = s.room;
+      piece = s.piece;
+      fails = s.schedule.fails.items;
+      calls = s.schedule.calls;
+      faults = s.schedule.faults;
+    } };
 
     ghost invariant = { λ s. (0 < s.piece) × (vec_len s.bytes ≤ s.room) × (s.room ≤ vec_capacity s.bytes) };
 }
@@ -147,7 +160,8 @@ impl MemSink {
     /// are in `fails` fail, and so do those that find no room left.
     pub fn new(alloc: Global, room: usize, piece: usize, fails: Vec<u64>) -> Result<MemSink, Memory>
         requires { 0 < piece }
-        ensures { IfOk result (λ sink. sink ≡ record { taken = []; room = room; piece = piece; fails = fails.items; calls = 0; faults = 0 }) }
+        ensures { IfOk result (λ sink.
+            sink ≡ record { taken = []; room = room; piece = piece; fails = fails.items; calls = 0; faults = 0 }) }
     {
         Ok(MemSink {
             bytes: Vec::with_capacity(alloc, room)?,

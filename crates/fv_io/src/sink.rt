@@ -1,5 +1,5 @@
 // A sink for bytes.
-ghost use Rattle.std.specs.Prelude.{◌≡◌, ℕ, ◌-◌, ◌^◌, ◌<◌, ◌≤◌, List, Option, length};
+ghost use Rattle.std.specs.Prelude.{◌≡◌, ◌≢◌, ℕ, ◌-◌, ◌^◌, ◌<◌, ◌≤◌, List, Option, length};
 ghost use Rattle.fv_io.specs.Causes.{Rose};
 ghost use Rattle.fv_io.specs.Streams.{GivesFront, GivesCount};
 
@@ -26,7 +26,8 @@ pub trait Sink {
         ensures bytes { GivesFront (taken self.old) result piece.now (taken self.new) }
         ensures count { GivesCount result piece.now }
         ensures later { faults self.old ≤ faults self.new }
-        ensures failed { result ≡ Gave.Failed → Rose (faults self.old) (faults self.new) };
+        ensures failed { result ≡ Gave.Failed → Rose (faults self.old) (faults self.new) }
+        ensures not_failed { result ≢ Gave.Failed → faults self.new ≡ faults self.old };
 
     /// A u64 holds the count.
     ghost faults_fit: { (sink : Self) → faults sink ≤ 2 ^ 64 - 1 };

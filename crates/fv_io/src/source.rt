@@ -1,5 +1,5 @@
 // A source of bytes.
-ghost use Rattle.std.specs.Prelude.{◌≡◌, ℕ, ◌-◌, ◌^◌, ◌<◌, ◌≤◌, List, Option, length};
+ghost use Rattle.std.specs.Prelude.{◌≡◌, ◌≢◌, ℕ, ◌-◌, ◌^◌, ◌<◌, ◌≤◌, List, Option, length};
 ghost use Rattle.fv_io.specs.Causes.{Rose};
 ghost use Rattle.fv_io.specs.Streams.{TakesFront, TakesCount};
 
@@ -28,7 +28,8 @@ pub trait Source {
         ensures bytes { TakesFront (left self.old) result buffer.new (left self.new) }
         ensures count { TakesCount result buffer.new }
         ensures later { faults self.old ≤ faults self.new }
-        ensures failed { result ≡ Took.Failed → Rose (faults self.old) (faults self.new) };
+        ensures failed { result ≡ Took.Failed → Rose (faults self.old) (faults self.new) }
+        ensures not_failed { result ≢ Took.Failed → faults self.new ≡ faults self.old };
 
     /// A u64 holds the count.
     ghost faults_fit: { (source : Self) → faults source ≤ 2 ^ 64 - 1 };

@@ -113,6 +113,123 @@ fn writers_are_sinks(rt: HostRuntime) -> Result<(), Fail> {
     Ok(())
 }
 
+// The sizes of texts round those of buffers.
+const SIZES: [usize; 5] = [1, 4095, 4096, 4097, 65536];
+
+// Reads and writes at most `piece` bytes a call, and fails at the call `fails` (from 1; 0 for none).
+#[derive(Drop)]
+struct Pipe {
+    bytes: Vec<u8>,
+    at: usize,
+    piece: usize,
+    calls: u32,
+    fails: u32,
+}
+
+impl Pipe {
+    fn begin(&mut self) -> io::Result<()> {
+        self.calls = self.calls.saturating_add(1);
+        if self.calls == self.fails {
+            return Err(io::Error::from(ErrorKind::Other));
+        }
+        Ok(())
+    }
+}
+
+impl Read for Pipe {
+    fn read(&mut self, buf: &mut [u8]) -> io::Result<usize> {
+        self.begin()?;
+        let left = self.bytes.get(self.at..).unwrap_or(&[]);
+        let n = self.piece.min(buf.len()).min(left.len());
+        buf[..n].copy_from_slice(&left[..n]);
+        self.at = self.at.saturating_add(n);
+        Ok(n)
+    }
+}
+
+impl Write for Pipe {
+    fn write(&mut self, buf: &[u8]) -> io::Result<usize> {
+        self.begin()?;
+        let n = self.piece.min(buf.len());
+        if self.bytes.extend_from_slice(&buf[..n]).is_err() {
+            return Err(io::Error::from(ErrorKind::OutOfMemory));
+        }
+        Ok(n)
+    }
+
+    fn flush(&mut self) -> io::Result<()> {
+        Ok(())
+    }
+}
+
+// A text of this size in which neighbours differ.
+fn text_of(alloc: Global, size: usize) -> Result<Vec<u8>, AllocError> {
+    let mut text = Vec::new(alloc);
+    for at in 0..size {
+        text.push(b'A' + (at % 23) as u8)?;
+    }
+    Ok(text)
+}
+
+#[test]
+fn whole_texts_go_through_readers(rt: HostRuntime) -> Result<(), Fail> {
+    for size in SIZES {
+        for piece in [size, 1000] {
+            let text = text_of(rt.alloc(), size)?;
+            let pipe = Pipe {
+                bytes: text.clone()?,
+                at: 0,
+                piece,
+                calls: 0,
+                fails: 0,
+            };
+            let mut source = StdSource::new(pipe);
+            let bytes = read_all(rt.alloc(), &mut source, size)
+                .ok()
+                .ok_or("not read")?;
+            assert_eq!(rt; bytes.as_slice(), text.as_slice(), "at {size}, {piece}");
+        }
+        let pipe = Pipe {
+            bytes: text_of(rt.alloc(), size)?,
+            at: 0,
+            piece: size,
+            calls: 0,
+            fails: 1,
+        };
+        let mut source = StdSource::new(pipe);
+        assert_eq!(rt;
+            read_all(rt.alloc(), &mut source, size).err(),
+            Some(ReadEnd::Fault),
+            "at {size}"
+        );
+    }
+    Ok(())
+}
+
+#[test]
+fn whole_texts_go_through_writers(rt: HostRuntime) -> Result<(), Fail> {
+    for size in SIZES {
+        let text = text_of(rt.alloc(), size)?;
+        // The most that a call writes, the call that fails, and how many bytes are written then.
+        for (piece, fails, held) in [(size, 0, size), (1000, 0, size), (size, 1, 0), (1, 2, 1)] {
+            let mut pipe = Pipe {
+                bytes: Vec::new(rt.alloc()),
+                at: 0,
+                piece,
+                calls: 0,
+                fails,
+            };
+            let mut sink = StdSink::new(&mut pipe);
+            let answer = write_all(&mut sink, text.as_slice());
+            drop(sink);
+            assert_eq!(rt; answer.is_ok(), held == size, "at {size}, {piece}");
+            let front = text.get(..held).unwrap_or(&[]);
+            assert_eq!(rt; pipe.bytes.as_slice(), front, "at {size}, {piece}");
+        }
+    }
+    Ok(())
+}
+
 #[test]
 fn sources_fail_at_the_chosen_calls(rt: HostRuntime) -> Result<(), Fail> {
     let fails = Vec::from_slice(rt.alloc(), &[2])?;

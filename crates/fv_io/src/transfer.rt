@@ -1,5 +1,5 @@
 // All bytes of a source, and a whole text to a sink.
-ghost use Rattle.std.specs.Prelude.{◌-◌, ◌^◌, ◌≤◌, length, IfOk, OnOk, OnErr, IsErrOf};
+ghost use Rattle.std.specs.Prelude.{◌≡◌, [], ◌-◌, ◌^◌, ◌≤◌, length, IfOk, OnOk, OnErr, IsErrOf};
 ghost use Rattle.std.specs.Io.KnownBytes.{IsAtEnd};
 ghost use Rattle.fv_io.specs.Causes.{Rose};
 ghost use Rattle.fv_io.specs.Streams.{Takes, TakesMoreThan, TakesAtMost, Gives, GivesPart};
@@ -22,8 +22,9 @@ pub fn read_all<S: Source>(alloc: Global, from: &mut S, limit: usize) -> Result<
     ensures not_too_long { (IsErrOf result ReadEnd.TooLong → ⊥)
         → TakesAtMost limit (S.left from.old) (S.left from.new) }
 
-    // A fault was counted, and the count never falls.
+    // A fault was counted, and nothing else is.
     ensures fault { IsErrOf result ReadEnd.Fault → Rose (S.faults from.old) (S.faults from.new) }
+    ensures no_fault { (IsErrOf result ReadEnd.Fault → ⊥) → S.faults from.new ≡ S.faults from.old }
     ensures later { S.faults from.old ≤ S.faults from.new }
     ensures counted { S.faults from.new ≤ 2 ^ 64 - 1 }
 {
@@ -48,8 +49,12 @@ pub fn write_all<K: Sink>(to: &mut K, text: &[u8]) -> Result<(), WriteFault>
     ensures ok { OnOk result (Gives (K.taken to.old) text.now (K.taken to.new)) }
     ensures part { OnErr result (GivesPart (K.taken to.old) text.now (K.taken to.new)) }
 
-    // A fault was counted, and the count never falls.
+    // Without a text there is no call.
+    ensures untouched { text.now ≡ [] → to.new ≡ to.old }
+
+    // A fault was counted, and nothing else is.
     ensures fault { OnErr result (Rose (K.faults to.old) (K.faults to.new)) }
+    ensures no_fault { OnOk result (K.faults to.new ≡ K.faults to.old) }
     ensures later { K.faults to.old ≤ K.faults to.new }
     ensures counted { K.faults to.new ≤ 2 ^ 64 - 1 }
 {

@@ -12,7 +12,7 @@ use Rattle.fv_tree.proofs.Equations.{tested_of-is, block_of-is}
 use Rattle.fv_meaning.specs.Dialect.{Dialect}
 use Rattle.fv_meaning.specs.Value.{truth_of, number_of}
 use Rattle.fv_meaning.specs.Cuts.{IsAtMost}
-use Rattle.fv_meaning.specs.Profile77.{has_arm}
+use Rattle.fv_meaning.specs.Blocks.{has_arm}
 use Rattle.fv_meaning.specs.Run.{State, Way, Going, Jumping, nothing, then, either, goes, arrives, evaluates, counts_step, does, does_all, chooses}
 use Rattle.fv_meaning.proofs.Limit.{Follows-does_all}
 use Rattle.fv_machine.specs.Moments.{Seen}

@@ -10,9 +10,9 @@ use Rattle.std.proofs.lemmas.List.{map-append, drop_more}
 use Rattle.fv_tree.specs.Plain.{Declaration}
 use Rattle.fv_tree.specs.declared.ops.Value.{Value}
 use Rattle.fv_meaning.specs.Store.{Cell, numbers_from, size_of, column_major, cells_of, opening_value}
-use Rattle.fv_meaning.specs.Profile77.{IsDimension, elements_of}
+use Rattle.fv_meaning.specs.Profile77.{elements_of}
 use Rattle.fv_machine.specs.declared.variables.Variable.{Variable}
-use Rattle.fv_machine.specs.Storage.{store_of, place, offset, joined, value_at}
+use Rattle.fv_machine.specs.Storage.{store_of, place, offset, joined, value_at, IsBounded}
 use Rattle.fv_machine.specs.Stored.{IsOf, bounds_here}
 use Rattle.fv_machine.proofs.StoreLaws.{store-held, size_is}
 
@@ -76,7 +76,7 @@ spread b bs xs (r ∷ rs) =
     map-append (offset (b ∷ bs)) (map (λ x. x ∷ r) xs) (flat_map (λ rest. map (λ x. x ∷ rest) xs) rs)
     ∙ ap₂ (λ os ps. os ++ ps) (one_row b bs xs r) (spread b bs xs rs)
 
-pub elements_in_order : (bs : List (ℤ × ℤ)) → AllByRecursion IsDimension bs
+pub elements_in_order : (bs : List (ℤ × ℤ)) → AllByRecursion IsBounded bs
     → map (offset bs) (column_major (map (λ (b : ℤ × ℤ). numbers_from b.0 (size_of b)) bs)) ≡ somes (range_with_len 0 (elements_of bs))
 elements_in_order [] h = refl
 elements_in_order (b ∷ bs) h =

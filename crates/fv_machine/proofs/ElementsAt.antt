@@ -14,8 +14,8 @@ use Rattle.fv_tree.specs.declared.ops.Value.TheVariants.{Int}
 use Rattle.fv_meaning.specs.Store.{Store, Cell, numbers_from, size_of, column_major, cells_of}
 use Rattle.fv_meaning.specs.Texts.{final_line}
 use Rattle.fv_meaning.specs.Steps.{lines_of_cells}
-use Rattle.fv_meaning.specs.Profile77.{IsDimension, elements_of}
-use Rattle.fv_machine.specs.Storage.{offset, joined}
+use Rattle.fv_meaning.specs.Profile77.{elements_of}
+use Rattle.fv_machine.specs.Storage.{offset, joined, IsBounded}
 use Rattle.fv_machine.specs.Showing.{subscripts_at, element, element_line, value_line}
 use Rattle.fv_machine.proofs.StoreLaws.{both_true, number_inside}
 use Rattle.fv_machine.proofs.ColumnMajor.{elements_in_order}
@@ -56,11 +56,11 @@ each_at bs (r ∷ rs) (k ∷ ks) e =
     let more : map (offset bs) rs ≡ map (λ k. let o : Option ℕ = Some k in o) ks = cc in
     ap₂ (λ s ss. s ∷ ss) (subscripts_are bs r k first) (each_at bs rs ks more)
 
-in_order : (bs : List (ℤ × ℤ)) → AllByRecursion IsDimension bs → column_major (map (λ (b : ℤ × ℤ). numbers_from b.0 (size_of b)) bs) ≡ map (subscripts_at bs) (range_with_len 0 (elements_of bs))
+in_order : (bs : List (ℤ × ℤ)) → AllByRecursion IsBounded bs → column_major (map (λ (b : ℤ × ℤ). numbers_from b.0 (size_of b)) bs) ≡ map (subscripts_at bs) (range_with_len 0 (elements_of bs))
 in_order bs h = each_at bs (column_major (map (λ (b : ℤ × ℤ). numbers_from b.0 (size_of b)) bs)) (range_with_len 0 (elements_of bs)) (elements_in_order bs h)
 
 -- the lines of a name are those of its elements, one after the other
-pub lines_are : (x : List ℕ) (bs : List (ℤ × ℤ)) (s : Store) → AllByRecursion IsDimension bs → lines_of_cells x (Some bs) s ≡ flat_map (element_line x bs s) (range_with_len 0 (elements_of bs))
+pub lines_are : (x : List ℕ) (bs : List (ℤ × ℤ)) (s : Store) → AllByRecursion IsBounded bs → lines_of_cells x (Some bs) s ≡ flat_map (element_line x bs s) (range_with_len 0 (elements_of bs))
 lines_are x bs s h =
     ap (λ rs. flat_map (λ c. final_line c (s.held c)) (map (λ is. let c : Cell = record { name = x; subscripts = is } in c) rs)) (in_order bs h)
     ∙ flat_map-map (λ c. final_line c (s.held c)) (λ is. let c : Cell = record { name = x; subscripts = is } in c) (map (subscripts_at bs) (range_with_len 0 (elements_of bs)))
@@ -82,7 +82,7 @@ lines_alike f g a (suc n) h = ap₂ (λ xs ys. xs ++ ys)
     (lines_alike f g (a + 1) n (λ k l. subst (λ j. f j ≡ g j) (let e : a + suc k ≡ a + 1 + k = omega arith in e)
     (h (suc k) (omega arith))))
 
-pub lines_held : (x : List ℕ) (bs : List (ℤ × ℤ)) (vs : List Value) (s : Store) → AllByRecursion IsDimension bs
+pub lines_held : (x : List ℕ) (bs : List (ℤ × ℤ)) (vs : List Value) (s : Store) → AllByRecursion IsBounded bs
     → map s.held (cells_of x bs) ≡ vs → lines_of_cells x (Some bs) s ≡ flat_map (value_line x bs vs) (range_with_len 0 (elements_of bs))
 lines_held x bs vs s h e =
     let ks = range_with_len 0 (elements_of bs) in

@@ -10,7 +10,7 @@ use Rattle.fv_tree.specs.declared.ops.Value.{Value}
 use Rattle.fv_tree.specs.Plain.{Declaration}
 use Rattle.fv_tree.specs.View.{declaration_of, extent_of}
 use Rattle.fv_tree.specs.declared.programs.Decl.{Decl}
-use Rattle.fv_meaning.specs.Typed77.{dimensions}
+use Rattle.fv_meaning.specs.Typed.{dimensions}
 use Rattle.fv_meaning.proofs.CellFrame.{second_part}
 use mathlib.Core.Path.{ap₂}
 use Rattle.std.specs.Prelude.{◌^◌}
@@ -70,8 +70,8 @@ pub record ArePlaced (ds : List Declaration) (names : List Variable) (values : L
   pub starts : starts_in names ≡ starts_of 0 (declared names)
   pub noughts : values ≡ noughts_of (declared names)
 
-pub bounds_placed : (ds : List Declaration) (names : List Variable) (values : List Value) (d : Decl) (more : List Decl) → AreArrays ds → ArePlaced ds names values (d ∷ more) → AreBounds (dimensions (extent_of d.form))
-bounds_placed ds names values d more a h = bounds_known (extent_of d.form) (second_part (λ (d : Declaration). HasBounds d.extent) (declared names) (map declaration_of (d ∷ more)) (subst AreArrays h.all a)).0
+pub bounds_placed : (ds : List Declaration) (names : List Variable) (values : List Value) (d : Decl) (more : List Decl) → AreArrays ds → ArePlaced ds names values (d ∷ more) → AreBounds (dimensions (extent_of d.extent))
+bounds_placed ds names values d more a h = bounds_known (extent_of d.extent) (second_part (λ (d : Declaration). HasBounds d.extent) (declared names) (map declaration_of (d ∷ more)) (subst AreArrays h.all a)).0
 
 pub place_more : (ds : List Declaration) (names : List Variable) (values : List Value) (v : Variable) (more : List Decl) (n : ℕ) (x : Value) → ArePlaced ds names values (v.decl ∷ more)
     → v.start ≡ length values → n ≡ values_of (declaration_of v.decl) → x ≡ nought v.decl.kind → ArePlaced ds (names ++ v ∷ []) (values ++ replicate n x) more

@@ -7,7 +7,7 @@ use Rattle.std.proofs.Math.Path.{fun_ext}
 use Rattle.fv_tree.specs.Plain.{Declaration}
 use Rattle.fv_tree.specs.declared.ops.Value.{Value}
 use Rattle.fv_meaning.specs.Store.{Store, Cell, opening_bounds, opening_value, nought}
-use Rattle.fv_meaning.specs.Typed77.{dimensions}
+use Rattle.fv_meaning.specs.Typed.{dimensions}
 use Rattle.fv_machine.specs.Storage.{store_of, opening_of, place, offset, values_of, value_at, noughts_of}
 use Rattle.fv_machine.proofs.StoreLaws.{offset_below}
 

@@ -14,7 +14,7 @@ use Rattle.fv_meaning.specs.Store.{Store, Cell, put, same_cell, size_of, opening
 use Rattle.fv_meaning.proofs.Exchanges.{same_cell-same, same_cell-refl}
 use Rattle.std.proofs.lemmas.Bool.{false≢true}
 use mathlib.Core.Path.{ap₂}
-use Rattle.fv_meaning.specs.Typed77.{dimensions}
+use Rattle.fv_meaning.specs.Typed.{dimensions}
 use Rattle.fv_machine.specs.Storage.{store_of, place, offset, joined, value_at, values_of}
 use Rattle.fv_machine.proofs.StoreLaws.{store-held, number_inside, offset_below, both_true}
 

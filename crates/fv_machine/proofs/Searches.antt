@@ -7,7 +7,7 @@ use Rattle.std.specs.Str.{bytes_eq}
 use Rattle.fv_tree.specs.Plain.{Extent, Given, Later}
 use Rattle.fv_tree.specs.View.{declaration_of}
 use Rattle.fv_meaning.specs.Store.{opening_bounds}
-use Rattle.fv_meaning.specs.Typed77.{dimensions}
+use Rattle.fv_meaning.specs.Typed.{dimensions}
 use Rattle.fv_machine.specs.declared.variables.Variable.{Variable}
 use Rattle.fv_machine.specs.Storage.{declared, own_names, starts_in, starts_of, place, offset, total, values_of, AreArrays, HasBounds}
 use Rattle.fv_machine.specs.Stored.{IsOf, bounds_here}

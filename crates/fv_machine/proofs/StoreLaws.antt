@@ -9,7 +9,7 @@ use Rattle.std.specs.Prelude.{int_le, ◌&&◌, nat_abs, ◌^◌, is_some}
 use Rattle.fv_tree.specs.Plain.{Declaration, Extent, Given, Later}
 use Rattle.fv_tree.specs.declared.ops.Value.{Value}
 use Rattle.fv_meaning.specs.Store.{Cell, is_within, opening_bounds, opening_value, size_of}
-use Rattle.fv_meaning.specs.Typed77.{dimensions}
+use Rattle.fv_meaning.specs.Typed.{dimensions}
 use Rattle.fv_meaning.specs.Profile77.{elements_of}
 use Rattle.fv_machine.specs.Storage.{store_of, place, offset, joined, value_at, AreBounds, HasBounds}
 

@@ -1,5 +1,4 @@
 pub mod Storage
-pub mod Arguments
 pub mod Stored
 pub mod Propositions
 pub mod Moments

@@ -4,19 +4,18 @@ use Rattle.std.proofs.Math.Bridge.{le_prop}
 use Rattle.std.proofs.Math.Dec.{T_prop}
 use Rattle.std.specs.List.{AllByRecursion}
 use Rattle.fv_tree.specs.Plain.{Declaration, Extent, Given, Later}
-use Rattle.fv_meaning.specs.Profile77.{IsDimension}
-use Rattle.fv_machine.specs.Storage.{AreArrays, AreBounds, HasBounds}
+use Rattle.fv_machine.specs.Storage.{AreArrays, AreBounds, HasBounds, IsBounded}
 
 AllByRecursion-prop : {X : Type 0} (P : X → Type 0) → ((x : X) → IsProp (P x)) → (xs : List X)
     → IsProp (AllByRecursion P xs)
 AllByRecursion-prop P h [] = hlevel []
 AllByRecursion-prop P h (x ∷ xs) = let a = h x in let b = AllByRecursion-prop P h xs in hlevel (a, b)
 
-IsDimension-prop : (b : ℤ × ℤ) → IsProp (IsDimension b)
-IsDimension-prop b = hlevel T_prop
+IsBounded-prop : (b : ℤ × ℤ) → IsProp (IsBounded b)
+IsBounded-prop b = hlevel T_prop
 
 AreBounds-prop : (bs : List (ℤ × ℤ)) → IsProp (AreBounds bs)
-AreBounds-prop bs = let each = AllByRecursion-prop IsDimension IsDimension-prop bs in hlevel (each, le_prop)
+AreBounds-prop bs = let each = AllByRecursion-prop IsBounded IsBounded-prop bs in hlevel (each, le_prop)
 
 HasBounds-prop : (e : Extent) → IsProp (HasBounds e)
 HasBounds-prop (Given bs) = AreBounds-prop bs

@@ -6,7 +6,7 @@ use Rattle.fv_tree.specs.View.{arms, tested_of}
 use Rattle.fv_tree.specs.declared.stmts.Arm.{Arm}
 use Rattle.fv_meaning.specs.Dialect.{Dialect}
 use Rattle.fv_meaning.specs.Run.{Act, then, chooses, begins_line, reads_items, skips_line}
-use Rattle.fv_meaning.specs.Profile77.{has_arm}
+use Rattle.fv_meaning.specs.Blocks.{has_arm}
 use Rattle.fv_machine.specs.Moments.{Seen}
 use Rattle.fv_machine.specs.declared.progress.Halt.{Halt}
 use Rattle.fv_machine.specs.declared.progress.Left.{Left}

@@ -1,6 +1,6 @@
 -- Where the cells of a program's names lie: in one list of values, the names in the order of their declarations, and the
 -- elements of an array in column-major order (ANSI X3.9-1978, section 5.2.5).
-use Rattle.std.specs.Prelude.{◌≡◌, false, Option, Some, None, ℕ, ◌+◌, ◌*◌, ◌^◌, ◌≤◌, ℤ, ◌-ℤ◌, nat_abs, int_le, ◌&&◌}
+use Rattle.std.specs.Prelude.{◌≡◌, false, Option, Some, None, ℕ, ◌+◌, ◌*◌, ◌^◌, ◌≤◌, ℤ, ◌-ℤ◌, nat_abs, int_le, ◌&&◌, pos, negsuc, ◌≤ℤ◌}
 use Rattle.std.specs.Prelude.{if◌then◌else◌, List, [], ◌∷◌, map, get_or, nat_lt, length, ◌++◌, replicate}
 use Rattle.std.specs.Option.{option_map}
 use Rattle.std.specs.Str.{bytes_eq}
@@ -10,8 +10,8 @@ use Rattle.fv_tree.specs.View.{declaration_of, bounds_of}
 use Rattle.fv_tree.specs.declared.ops.Value.{Value}
 use Rattle.fv_tree.specs.declared.programs.Dim.{Dim}
 use Rattle.fv_meaning.specs.Store.{Store, size_of, opening_bounds, opening_value, nought}
-use Rattle.fv_meaning.specs.Typed77.{dimensions}
-use Rattle.fv_meaning.specs.Profile77.{IsDimension, elements_of}
+use Rattle.fv_meaning.specs.Typed.{dimensions}
+use Rattle.fv_meaning.specs.Profile77.{elements_of}
 use Rattle.fv_machine.specs.declared.variables.Variable.{Variable}
 
 -- the place of one number in its dimension, and of the others in theirs
@@ -79,9 +79,15 @@ starts_in vs = map (λ (v : Variable). v.start) vs
 abbrev pub bounds_list : List Dim → List (ℤ × ℤ)
 bounds_list ds = map bounds_of ds
 
+-- the bounds of a dimension are numbers of 32 bits, the lower one at most the upper one
+pub record IsBounded (b : ℤ × ℤ) : Type 0 where
+  pub above : negsuc 2147483647 ≤ℤ b.0
+  pub ordered : b.0 ≤ℤ b.1
+  pub below : b.1 ≤ℤ pos 2147483647
+
 -- the bounds of an array, which has at most 2^22 elements
 pub record AreBounds (bs : List (ℤ × ℤ)) : Type 0 where
-  pub each : AllByRecursion IsDimension bs
+  pub each : AllByRecursion IsBounded bs
   pub dimensions : length bs ≤ 7
   pub few : elements_of bs ≤ 2 ^ 22
 

@@ -8,7 +8,7 @@ use Rattle.fv_tree.specs.View.{declaration_of}
 use Rattle.fv_tree.specs.declared.ops.Value.{Value}
 use Rattle.fv_tree.specs.declared.ops.Fault.{Fault}
 use Rattle.fv_meaning.specs.Store.{Store, Cell, opening_bounds, bounds_of, cells_of}
-use Rattle.fv_meaning.specs.Typed77.{dimensions}
+use Rattle.fv_meaning.specs.Typed.{dimensions}
 use Rattle.fv_machine.specs.declared.variables.Variable.{Variable}
 use Rattle.fv_machine.specs.declared.storage.Storage.{Storage}
 use Rattle.fv_machine.specs.Storage.{store_of, declared, offset, place, total, values_of, AreBounds}

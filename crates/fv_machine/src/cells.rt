@@ -27,7 +27,7 @@ impl Storage {
         let Some(variable) = self.find(name) else {
             return Err(Fault::Allocated);
         };
-        let Some(offset) = offset(numbers, dims_of(&variable.decl.form)) else {
+        let Some(offset) = offset(numbers, dims_of(&variable.decl.extent)) else {
             return Err(Fault::Bounds);
         };
         Ok(variable.start + offset)
@@ -61,7 +61,7 @@ impl Storage {
         let Some(variable) = self.find(name) else {
             return Err(Fault::Allocated);
         };
-        let end = variable.start + elements(dims_of(&variable.decl.form));
+        let end = variable.start + elements(dims_of(&variable.decl.extent));
         Ok(&self.values[variable.start..end])
     }
 }

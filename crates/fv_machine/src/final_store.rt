@@ -8,8 +8,8 @@ ghost use Rattle.fv_tree.specs.View.{bounds_of};
 ghost use Rattle.fv_meaning.specs.Store.{Store, size_of, cells_of};
 ghost use Rattle.fv_meaning.specs.Texts.{subscripts_text, final_line};
 ghost use Rattle.fv_meaning.specs.Steps.{lines_of_cells, lines_of_name};
-ghost use Rattle.fv_meaning.specs.Profile77.{IsDimension, elements_of};
-ghost use Rattle.fv_machine.specs.Storage.{AreBounds, bounds_list};
+ghost use Rattle.fv_meaning.specs.Profile77.{elements_of};
+ghost use Rattle.fv_machine.specs.Storage.{AreBounds, bounds_list, IsBounded};
 ghost use Rattle.fv_machine.specs.Stored.{names_in, store_in, IsOf, bounds_here};
 ghost use Rattle.fv_machine.specs.Texts.{WritesText};
 ghost use Rattle.fv_machine.specs.Showing.{subscripts_at, element, behind_commas, held_text};
@@ -63,7 +63,7 @@ impl Storage {
         ensures fault { OnErr result (Rose (K.faults out.old) (K.faults out.new)) }
         ensures later { K.faults out.old ≤ K.faults out.new }
     {
-        let dims = dims_of(&variable.decl.form);
+        let dims = dims_of(&variable.decl.extent);
         let end = variable.start + elements(dims);
         write_lines(name, dims, &self.values[variable.start..end], out)
     }
@@ -150,7 +150,7 @@ fn write_more<K: Sink>(dims: &[Dim], place: usize, out: &mut K) -> Result<(), Wr
 }
 
 fn write_subscript<K: Sink>(dim: Dim, place: usize, out: &mut K) -> Result<(), WriteFault>
-    requires { IsDimension (bounds_of dim) }
+    requires { IsBounded (bounds_of dim) }
     ensures text { WritesText (K.taken out.old) (signed_decimal ((bounds_of dim).0 +ℤ pos (place % size_of (bounds_of dim)))) (K.taken out.new) result }
     ensures fault { OnErr result (Rose (K.faults out.old) (K.faults out.new)) }
     ensures later { K.faults out.old ≤ K.faults out.new }

@@ -6,7 +6,6 @@ mod cells;
 mod final_store;
 mod input;
 mod opening;
-mod operations;
 mod progress;
 mod steps;
 mod storage;
@@ -16,7 +15,6 @@ mod variables;
 
 pub use final_store::write_lines;
 pub use input::read_value;
-pub use operations::{Arguments, apply, as_number, as_truth};
 pub use progress::{Halt, Left, Progress, ended};
 pub use steps::{Turns, add, at, check_range, increment, trip_count};
 pub use storage::Storage;

@@ -30,7 +30,7 @@ fn clear(variables: &[Variable], values: &mut [Value])
 {
     let mut start = 0;
     for variable in variables {
-        let end = start + elements(dims_of(&variable.decl.form));
+        let end = start + elements(dims_of(&variable.decl.extent));
         values[start..end].fill(nought(variable.decl.kind));
         start = end;
     }
@@ -57,7 +57,7 @@ impl Storage {
         let mut values = Vec::new(alloc);
         for decl in decls.into_vec() {
             let start = values.len();
-            values.resize(start + elements(dims_of(&decl.form)), nought(decl.kind))?;
+            values.resize(start + elements(dims_of(&decl.extent)), nought(decl.kind))?;
             declare(&mut variables, decl, start)?;
         }
         Ok(Storage { variables, values })

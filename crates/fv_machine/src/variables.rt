@@ -2,11 +2,11 @@
 ghost use Rattle.std.specs.Prelude.{◌≡◌, ◌≤◌, ◌^◌, ◌*◌, map, Option, Some, None, ℕ, int_le, ◌&&◌};
 ghost use Rattle.fv_tree.specs.View.{bounds_of, declaration_of, extent_of};
 ghost use Rattle.fv_meaning.specs.Store.{size_of};
-ghost use Rattle.fv_meaning.specs.Typed77.{dimensions};
-ghost use Rattle.fv_meaning.specs.Profile77.{IsDimension, elements_of};
-ghost use Rattle.fv_machine.specs.Storage.{joined, bounds_list, AreBounds};
+ghost use Rattle.fv_meaning.specs.Typed.{dimensions};
+ghost use Rattle.fv_meaning.specs.Profile77.{elements_of};
+ghost use Rattle.fv_machine.specs.Storage.{joined, bounds_list, AreBounds, IsBounded};
 
-use fv_tree::{Decl, Dim, Form};
+use fv_tree::{Decl, Dim, Extent};
 
 /// A declared name, and the place of its first value among the values of all names.
 #[derive(Drop)]
@@ -16,19 +16,19 @@ pub struct Variable {
 }
 
 /// The bounds of the name's dimensions: none for a scalar.
-pub fn dims_of(form: &Form) -> &[Dim]
-    ensures { bounds_list result.now ≡ dimensions (extent_of form.now) }
+pub fn dims_of(extent: &Extent) -> &[Dim]
+    ensures { bounds_list result.now ≡ dimensions (extent_of extent.now) }
 {
-    match form {
-        Form::Scalar => &[],
-        Form::Fixed(dims) => dims.as_slice(),
-        Form::Later(_) => &[],
+    match extent {
+        Extent::Scalar => &[],
+        Extent::Fixed(dims) => dims.as_slice(),
+        Extent::Later(_) => &[],
     }
 }
 
 /// How many numbers the dimension has.
 pub fn size(dim: Dim) -> usize
-    requires { IsDimension (bounds_of dim) }
+    requires { IsBounded (bounds_of dim) }
     ensures { result ≡ size_of (bounds_of dim) }
 {
     (dim.upper - dim.lower + 1) as usize
@@ -47,7 +47,7 @@ pub fn elements(dims: &[Dim]) -> usize
 
 /// The place of an element, by its first subscript and the place that the others give.
 pub fn join(dim: Dim, number: i128, rest: usize) -> Option<usize>
-    requires dimension { IsDimension (bounds_of dim) }
+    requires dimension { IsBounded (bounds_of dim) }
     requires few { size_of (bounds_of dim) * rest ≤ 2 ^ 22 }
     ensures { result ≡ joined (bounds_of dim) number (Some rest) }
 {

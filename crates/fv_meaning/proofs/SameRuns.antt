@@ -9,8 +9,7 @@ use Rattle.fv_tree.specs.declared.ops.Kind.TheVariants.{Integer, Logical}
 use Rattle.fv_meaning.specs.Store.{Store, opening_bounds, opening_store}
 use Rattle.fv_meaning.specs.Value.{is_scalar, are_scalar, are_indices, is_index, is_bare, named}
 use Rattle.fv_meaning.specs.Run.{run}
-use Rattle.fv_meaning.specs.Dialect.{fortran77}
-use Rattle.fv_meaning.specs.Dialect.{fortran90}
+use Rattle.fv_meaning.specs.Dialect.{Dialect, fortran77, fortran90}
 use Rattle.fv_meaning.specs.Typed77 as typed
 use Rattle.fv_meaning.specs.Typed77.{dimensions, declared, number_of_subscripts, HasKind, AreArguments, AreSubscripts, IsSubscript}
 use Rattle.fv_meaning.specs.Profile77 as profile
@@ -177,9 +176,9 @@ module _ (ds : List Declaration) (fixed : AllFixed ds) where
     block_plain no_statements w h = tt
     block_plain (statement c cs) w h = (statement_plain c (before_labels (labels_of cs) w) h.0, block_plain cs w h.1)
 
-all_fixed : (ds : List Declaration) → AllByRecursion IsDeclaration ds → AllFixed ds
-all_fixed [] h = tt
-all_fixed (d ∷ ds) h = (h.0.fixed, all_fixed ds h.1)
+all_fixed : (lang : Dialect) (ds : List Declaration) → AllByRecursion (IsDeclaration lang) ds → AllFixed ds
+all_fixed lang [] h = tt
+all_fixed lang (d ∷ ds) h = (h.0.fixed, all_fixed lang ds h.1)
 
-pub same_run : (limit : Option ℕ) (p : Program) (input : List ℕ) → IsProgram77 p → run fortran77 limit p input ≡ run fortran90 limit p input
-same_run limit p input h = one_run limit p input (block_plain p.declarations (all_fixed p.declarations h.declarations.each) p.body outermost h.statements)
+pub same_run : (lang : Dialect) (limit : Option ℕ) (p : Program) (input : List ℕ) → IsProgram77 lang p → run fortran77 limit p input ≡ run fortran90 limit p input
+same_run lang limit p input h = one_run limit p input (block_plain p.declarations (all_fixed lang p.declarations h.declarations.each) p.body outermost h.statements)

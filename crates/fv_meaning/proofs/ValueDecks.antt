@@ -3,7 +3,7 @@ use Rattle.std.proofs.Common.{◌≡◌, refl, [], ◌∷◌, pos, negsuc, Some,
 use lib.Chars.{codes}
 use Rattle.fv_tree.specs.Plain.{Logic, Unary, Binary, Apply, expressions, Single, items, Assignment, If, Do, Label, GoTo, Stop, Read, Print, no_arms, arm, block, no_statements, Program}
 use Rattle.fv_tree.specs.declared.ops.Op.TheVariants.{Pow, Mul, Div, Neg, Add, Sub, Lt, Eq, Gt, Not, And, Or, Eqv, Neqv}
-use Rattle.fv_tree.specs.declared.ops.Fun.TheVariants.{Mod, Max}
+use Rattle.fv_tree.specs.declared.functions.Fun.TheVariants.{Mod, Max}
 use Rattle.fv_tree.specs.declared.ops.Value.TheVariants.{Int, Truth}
 use Rattle.fv_tree.specs.declared.ops.Fault.TheVariants.{Overflow, ZeroDivide, Bounds, ZeroStep}
 use Rattle.fv_meaning.specs.declared.End.TheVariants.{Done, Fault}

@@ -3,7 +3,7 @@ use Rattle.std.proofs.Common.{◌≡◌, refl, [], ◌∷◌, pos, Some, None}
 use lib.Chars.{codes}
 use Rattle.fv_tree.specs.Plain.{Unary, Binary, Apply, expressions, Single, Constant, items, Assignment, If, Do, Label, GoTo, Read, Print, no_arms, arm, block, no_statements, Program}
 use Rattle.fv_tree.specs.declared.ops.Op.TheVariants.{Pow, Mul, Div, Neg, Add, Sub, Eq, Ne}
-use Rattle.fv_tree.specs.declared.ops.Fun.TheVariants.{Mod}
+use Rattle.fv_tree.specs.declared.functions.Fun.TheVariants.{Mod}
 use Rattle.fv_tree.specs.declared.ops.Value.TheVariants.{Int}
 use Rattle.fv_tree.specs.declared.ops.Fault.TheVariants.{Overflow, Bounds, ZeroStep, TripCount, InputEnd, InputForm}
 use Rattle.fv_meaning.specs.declared.End.TheVariants.{Done, Fault, StepLimit}

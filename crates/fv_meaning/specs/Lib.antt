@@ -22,3 +22,10 @@ pub mod ArrayStatements
 pub mod ArrayValues
 pub mod Dialect
 pub mod Sections
+pub mod Blocks
+pub mod Calls
+pub mod Depths
+pub mod Holding
+pub mod Profile90
+pub mod Typed
+pub mod Typed90

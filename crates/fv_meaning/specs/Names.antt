@@ -1,12 +1,10 @@
--- Symbolic names and the names of functions (ANSI X3.9-1978, sections 2.2, 4.1.2 and 15.10).
-use Rattle.std.specs.Prelude.{◌≡◌, ℕ, ◌≤◌, nat_le, Bool, false, ◌&&◌, ◌||◌, IsTrue, Option, None, Some, if◌then◌else◌, List, [], ◌∷◌, length, codes}
+-- Symbolic names (ANSI X3.9-1978, sections 2.2 and 4.1.2; ISO/IEC 1539:1991, section 3.2.1).
+use Rattle.std.specs.Prelude.{◌≡◌, ℕ, ◌≤◌, nat_le, ◌==◌, Bool, false, ◌&&◌, ◌||◌, IsTrue, List, [], ◌∷◌, length}
 use Rattle.std.specs.List.{list_all, list_any, AllByRecursion}
 use Rattle.std.specs.Cmp.Lexicographic.{slice_cmp}
 use Rattle.std.specs.Ordering.{nat_cmp}
 use Rattle.std.specs.declared.cmp.Ordering.TheVariants.{Less}
 use Rattle.std.specs.Str.{bytes_eq}
-use Rattle.fv_tree.specs.declared.ops.Fun.{Fun}
-use Rattle.fv_tree.specs.declared.ops.Fun.TheVariants.{Abs, Mod, Max, Min}
 
 abbrev pub is_letter : ℕ → Bool
 is_letter c = nat_le 65 c && nat_le c 90
@@ -24,6 +22,13 @@ pub record IsSymbolicName (x : List ℕ) : Type 0 where
   pub goes_on : IsTrue (list_all (λ c. is_letter c || is_digit c) x)
   pub within : length x ≤ 6
 
+-- the same with underscores, at most 31 in all (ISO/IEC 1539:1991, section 3.2.1); in a tree all letters are in upper
+-- case
+pub record IsLongName (x : List ℕ) : Type 0 where
+  pub begins : IsTrue (begins_with is_letter x)
+  pub goes_on : IsTrue (list_all (λ c. is_letter c || is_digit c || c == 95) x)
+  pub within : length x ≤ 31
+
 -- a name that begins with one of I to N is an INTEGER without a type statement (section 4.1.2)
 abbrev pub is_implicit_integer : List ℕ → Bool
 is_implicit_integer = begins_with (λ c. nat_le 73 c && nat_le c 78)
@@ -37,28 +42,3 @@ is_among names x = list_any (bytes_eq x) names
 abbrev pub IsInByteOrder : List (List ℕ) → Type 0
 IsInByteOrder [] = Unit {0}
 IsInByteOrder (x ∷ xs) = AllByRecursion (λ y. slice_cmp nat_cmp x y ≡ Less) xs × IsInByteOrder xs
-
--- ---- functions (section 15.10, table 5)
-
--- the functions of the profile, by their names; MAX0 and IABS are names of MAX and ABS of INTEGER values
-abbrev pub function_named : List ℕ → Option Fun
-function_named x =
-    if bytes_eq x (codes "ABS") || bytes_eq x (codes "IABS") then Some Abs
-    else if bytes_eq x (codes "MOD") then Some Mod
-    else if bytes_eq x (codes "MAX") || bytes_eq x (codes "MAX0") then Some Max
-    else if bytes_eq x (codes "MIN") || bytes_eq x (codes "MIN0") then Some Min
-    else None
-
--- the name that Fortran 90 has for a function
-abbrev pub name_of_function : Fun → List ℕ
-name_of_function Abs = codes "ABS"
-name_of_function Mod = codes "MOD"
-name_of_function Max = codes "MAX"
-name_of_function Min = codes "MIN"
-
--- how many arguments it has: ABS one, MOD two, MAX and MIN two or more
-abbrev pub suits_number : Fun → ℕ → Bool
-suits_number Abs n = nat_le 1 n && nat_le n 1
-suits_number Mod n = nat_le 2 n && nat_le n 2
-suits_number Max n = nat_le 2 n
-suits_number Min n = nat_le 2 n

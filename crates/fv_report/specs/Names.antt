@@ -3,6 +3,7 @@ use Rattle.std.specs.Prelude.{ℕ, List, [], ◌∷◌, ◌++◌, codes, if◌th
 use Rattle.fv_tree.specs.declared.ops.Fault.{Fault}
 use Rattle.fv_tree.specs.declared.ops.Fault.TheVariants.{Overflow, ZeroDivide, Bounds, ZeroStep, TripCount, InputEnd}
 use Rattle.fv_tree.specs.declared.ops.Fault.TheVariants.{InputForm, Shape, Allocated}
+use Rattle.fv_tree.specs.Causes.{refusal_name, refusal_limit}
 use Rattle.f77_grammar.specs.statements.Recognition.{words_left_out}
 
 -- the name that a table has for a number, and nothing for a number that it doesn't have
@@ -36,16 +37,9 @@ fault_name Allocated = codes "Allocated"
 
 -- ---- refusals
 
-abbrev pub refusals : List (List ℕ × ℕ)
-refusals =
-    (codes "TooLong", 1) ∷ (codes "BadByte", 2) ∷ (codes "Tab", 3) ∷ (codes "LineForm", 4) ∷ (codes "ManyLines", 5) ∷ (codes "Syntax", 6)
-    ∷ (codes "OutOfProfile", 7) ∷ (codes "WideLiteral", 8) ∷ (codes "Deep", 9) ∷ (codes "Label", 10) ∷ (codes "Nesting", 11) ∷ (codes "NoEnd", 12)
-    ∷ (codes "Declared", 13) ∷ (codes "RealName", 14) ∷ (codes "TypeClash", 15) ∷ (codes "Jump", 16) ∷ (codes "DoVariable", 17) ∷ (codes "Limit", 18)
-    ∷ (codes "NotBuilt", 60) ∷ []
-
--- no rule has another number, and such a number has no name
-abbrev pub refusal_name : ℕ → List ℕ
-refusal_name number = name_at number refusals
+-- the name of its cause; `vectorise` has one refusal of its own as long as it reads less than `run77`
+abbrev pub name_of_refusal : ℕ → List ℕ
+name_of_refusal number = if number == 60 then codes "NotBuilt" else refusal_name number
 
 -- ---- words of refusals
 
@@ -53,9 +47,6 @@ refusal_name number = name_at number refusals
 abbrev pub left_out : List (List ℕ × ℕ)
 left_out = words_left_out ++ (codes "ARITHMETICIF", 32) ∷ (codes "COMPUTEDGOTO", 33) ∷ (codes "ASSIGNEDGOTO", 34) ∷ []
 
-abbrev pub limits : List (List ℕ × ℕ)
-limits = (codes "NAMES", 41) ∷ (codes "BLOCKS", 42) ∷ (codes "BOUNDS", 43) ∷ (codes "ARRAYS", 44) ∷ (codes "CONSTANT", 45) ∷ []
-
 -- OutOfProfile has a word of what is left out, Limit has that of its limit, and no other refusal has a word
 abbrev pub refusal_word : ℕ → ℕ → List ℕ
-refusal_word number word = if number == 7 then name_at word left_out else if number == 18 then name_at word limits else []
+refusal_word number word = if number == 7 then name_at word left_out else refusal_limit number word

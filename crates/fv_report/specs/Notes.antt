@@ -5,7 +5,7 @@ use Rattle.fv_tree.specs.declared.refusals.Refusal.{Refusal}
 use Rattle.fv_report.specs.declared.outcome.Outcome.{Outcome}
 use Rattle.fv_report.specs.declared.outcome.Outcome.TheVariants.{Done, Usage, Refused, Faulted, StepLimit, ReadFault}
 use Rattle.fv_report.specs.declared.outcome.Outcome.TheVariants.{WriteFault, OutOfMemory}
-use Rattle.fv_report.specs.Names.{fault_number, fault_name, refusal_name, refusal_word}
+use Rattle.fv_report.specs.Names.{fault_number, fault_name, name_of_refusal, refusal_word}
 
 abbrev pub status_of : Outcome → ℕ
 status_of Done = 0
@@ -25,15 +25,17 @@ after_blank (c ∷ cs) = codes " " ++ c ∷ cs
 abbrev pub refusal_line : Refusal → List ℕ
 refusal_line r =
     codes "fvec: line " ++ decimal r.line ++ codes ": refused " ++ decimal r.number
-    ++ after_blank (refusal_name r.number) ++ after_blank (refusal_word r.number r.word) ++ codes "\n"
+    ++ after_blank (name_of_refusal r.number) ++ after_blank (refusal_word r.number r.word) ++ codes "\n"
 
 abbrev pub fault_line : Fault → ℕ → List ℕ
 fault_line fault line =
-    codes "fvec: line " ++ decimal line ++ codes ": fault " ++ decimal (fault_number fault) ++ after_blank (fault_name fault) ++ codes "\n"
+    codes "fvec: line " ++ decimal line ++ codes ": fault " ++ decimal (fault_number fault)
+    ++ after_blank (fault_name fault) ++ codes "\n"
 
 abbrev pub note_of : Outcome → List ℕ
 note_of Done = []
-note_of Usage = codes "fvec: usage: vectorise | graph | run77 [--final] [--steps N] | run90 [--final] [--steps N] | make N\n"
+note_of Usage =
+    codes "fvec: usage: vectorise | graph | run77 [--final] [--steps N] | run90 [--final] [--steps N] | make N\n"
 note_of (Refused r) = refusal_line r
 note_of (Faulted fault line) = fault_line fault line
 note_of StepLimit = codes "fvec: step limit\n"

@@ -1,9 +1,8 @@
 //! The names of faults, refusals and their words.
 ghost use Rattle.std.specs.Prelude.{◌≡◌, ◌<◌, ◌≤◌, length};
-ghost use Rattle.fv_report.specs.Names.{fault_number, fault_name, refusal_name, refusal_word, left_out, limits};
-ghost use Rattle.fv_report.specs.Names.{name_at};
+ghost use Rattle.fv_report.specs.Names.{fault_number, fault_name, name_of_refusal, refusal_word, left_out, name_at};
 
-use fv_tree::Fault;
+use fv_tree::{Fault, Refusal};
 
 pub(crate) fn fault_number(fault: Fault) -> u8
     ensures number { result ≡ fault_number fault }
@@ -39,32 +38,16 @@ pub(crate) fn fault_name(fault: Fault) -> &'static str
     }
 }
 
-pub(crate) fn refusal_name(number: u8) -> &'static str
-    ensures name { result.now ≡ refusal_name number }
+/// The name of a refusal.
+pub(crate) fn refusal_name(refusal: Refusal) -> &'static str
+    ensures name { result.now ≡ name_of_refusal refusal.number }
     ensures short { length result.now ≤ 12 }
 {
-    match number {
-        1 => "TooLong",
-        2 => "BadByte",
-        3 => "Tab",
-        4 => "LineForm",
-        5 => "ManyLines",
-        6 => "Syntax",
-        7 => "OutOfProfile",
-        8 => "WideLiteral",
-        9 => "Deep",
-        10 => "Label",
-        11 => "Nesting",
-        12 => "NoEnd",
-        13 => "Declared",
-        14 => "RealName",
-        15 => "TypeClash",
-        16 => "Jump",
-        17 => "DoVariable",
-        18 => "Limit",
-        60 => "NotBuilt",
-        _ => "",
+    // As long as `vectorise` reads less than `run77`.
+    if refusal.number == 60 {
+        return "NotBuilt";
     }
+    refusal.name()
 }
 
 // The word or form that the profile leaves out.
@@ -111,29 +94,13 @@ fn left_out(word: u8) -> &'static str
     }
 }
 
-// The limit that is passed.
-fn limit(word: u8) -> &'static str
-    ensures name { result.now ≡ name_at word limits }
-    ensures short { length result.now ≤ 15 }
-{
-    match word {
-        41 => "NAMES",
-        42 => "BLOCKS",
-        43 => "BOUNDS",
-        44 => "ARRAYS",
-        45 => "CONSTANT",
-        _ => "",
-    }
-}
-
 /// The word of a refusal; empty where it has none.
-pub(crate) fn refusal_word(number: u8, word: u8) -> &'static str
-    ensures name { result.now ≡ refusal_word number word }
+pub(crate) fn refusal_word(refusal: Refusal) -> &'static str
+    ensures name { result.now ≡ refusal_word refusal.number refusal.word }
     ensures short { length result.now ≤ 15 }
 {
-    match number {
-        7 => left_out(word),
-        18 => limit(word),
-        _ => "",
+    match refusal.number {
+        7 => left_out(refusal.word),
+        _ => refusal.limit(),
     }
 }

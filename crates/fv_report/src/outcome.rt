@@ -49,8 +49,8 @@ fn refusal_line(refusal: &Refusal) -> Line
     line.push(Buffer::new().format(refusal.line));
     line.push(": refused ");
     line.push(Buffer::new().format(refusal.number));
-    line.push_word(refusal_name(refusal.number));
-    line.push_word(refusal_word(refusal.number, refusal.word));
+    line.push_word(refusal_name(*refusal));
+    line.push_word(refusal_word(*refusal));
     line.push("\n");
     line
 }

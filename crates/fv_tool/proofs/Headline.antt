@@ -3,7 +3,8 @@ use Rattle.std.proofs.Common.{List, ℕ, refl, ap, sym, ◌∙◌, subst}
 use Rattle.std.specs.Prelude.{None}
 use Rattle.fv_tree.specs.Plain.{Program}
 use Rattle.fv_meaning.specs.Deck.{input_of, data_line77}
-use Rattle.fv_meaning.specs.Sequential.{integer_bits, sequential_run}
+use Rattle.fv_meaning.specs.Sequential.{sequential_run}
+use Rattle.fv_meaning.specs.Dialect.{fortran77}
 use Rattle.fv_meaning.specs.Array.{array_run}
 use Rattle.fv_meaning.specs.Relined.{SameButLines, AlikeButLine}
 use Rattle.first_path_grammar.specs.Reading77.{ReadsThin}
@@ -15,7 +16,7 @@ use Rattle.fv_tool.specs.Headline.{Preserves, TranslationHolds}
 
 preserved : (p q : Program) (input : List ℕ) → SameButLines p q → Preserves p q input
 preserved p q input same =
-    let alike : AlikeButLine (sequential_run p input) (array_run q input) = relined integer_bits None p q input same in
+    let alike : AlikeButLine (sequential_run p input) (array_run q input) = relined fortran77 None p q input same in
     record {
       ends = relined_ends_well (sequential_run p input) (array_run q input) alike;
       output = λ _. alike.written;

@@ -7,18 +7,20 @@ use Rattle.first_path_grammar.specs.Reading77.{ReadsThin, RefusedThin, refusal}
 use Rattle.f77_grammar.specs.Reading77.{Reads77, Refused77}
 use Rattle.fv_command.specs.declared.commands.Command.{Command}
 use Rattle.fv_command.specs.declared.commands.Command.TheVariants.{Vectorise, Run77}
+use Rattle.fv_meaning.specs.Dialect.{fortran77}
 
 -- ---- a deck of the whole language
 
 -- within the limit of bytes, and its source is read as the program
 pub record ReadsDeck77 (deck : List ℕ) (p : Program) : Type 0 where
   pub within : length deck ≤ 2 ^ 24
-  pub source : Reads77 (source_of data_line77 deck) p
+  pub source : Reads77 fortran77 (source_of data_line77 deck) p
 
 -- It is too long, or else its source is refused.
 pub data RefusedDeck77 (deck : List ℕ) : Refusal → Type 0 where
   TooLong : 2 ^ 24 < length deck → RefusedDeck77 deck (refusal 1 0)
-  OfSource : (r : Refusal) → length deck ≤ 2 ^ 24 → Refused77 (source_of data_line77 deck) r → RefusedDeck77 deck r
+  OfSource : (r : Refusal) → length deck ≤ 2 ^ 24 → Refused77 fortran77 (source_of data_line77 deck) r
+      → RefusedDeck77 deck r
 
 -- ---- by command: so far `vectorise` reads less than `run77`
 

@@ -36,6 +36,10 @@ IsReadOrPassed before now = IsAtEnd now ⊎ TakesMoreThan (2 ^ 24) before now
 abbrev pub IsReadFor : Option (List ℕ) → Option (List ℕ) → Refusal → Type 0
 IsReadFor before now r = IsReadOrPassed before now × ((r.number ≡ 1 → ⊥) → IsAtEnd now)
 
+-- The deck is refused for the command, and so far it was read.
+abbrev pub IsRefusedAfter : Command → Option (List ℕ) → Option (List ℕ) → List ℕ → Type 0
+IsRefusedAfter c before now bytes = (r : Refusal) × IsRefused c bytes r × IsReadFor before now r
+
 -- ---- what a command comes to with a deck and its program
 
 -- a translation needs no run

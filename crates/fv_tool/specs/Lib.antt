@@ -1,4 +1,5 @@
 pub mod Answers
+pub mod Asked
 pub mod Decks
 pub mod Endings
 pub mod Headline

@@ -3,7 +3,8 @@ use Rattle.std.specs.Prelude.{◌≡◌, ◌++◌, ◌<◌, ℕ, List, [], Optio
 use Rattle.fv_tree.specs.Plain.{Program}
 use Rattle.fv_meaning.specs.Deck.{input_of, data_line77}
 use Rattle.fv_meaning.specs.Run.{State, run}
-use Rattle.fv_meaning.specs.Sequential.{integer_bits, ending}
+use Rattle.fv_meaning.specs.Sequential.{ending}
+use Rattle.fv_meaning.specs.Dialect.{fortran77}
 use Rattle.fv_meaning.specs.Steps.{final_lines, steps_of}
 use Rattle.fv_meaning.specs.declared.End.{End}
 use Rattle.fv_meaning.specs.declared.End.TheVariants.{Done}
@@ -13,7 +14,7 @@ use Rattle.fv_tool.specs.Decks.{ReadsDeck77}
 
 -- the sequential run of the program on the deck's input, cut at the limit of steps where one is given
 abbrev pub run_of : Options → List ℕ → Program → State
-run_of options deck p = run integer_bits options.steps p (input_of data_line77 deck)
+run_of options deck p = run fortran77 options.steps p (input_of data_line77 deck)
 
 -- the final store is shown where that is asked for, and only after a run that ended without fault and within the limit
 abbrev pub final_part : Options → Program → State → Option End → List ℕ
@@ -35,6 +36,11 @@ pub record GivesRun (options : Options) (end : End) (before now : Option (List �
   pub reads : ReadsDeck77 deck program
   pub ending : ending (run_of options deck program) ≡ Some end
   pub text : Gives before (run_text options program (run_of options deck program)) now
+
+-- The same of a run that ends by some fault.
+abbrev pub GivesFaultedRun : Options → Option (List ℕ) → Option (List ℕ) → List ℕ → Type 0
+GivesFaultedRun options before now deck = (fault : Kind) × (line : ℕ)
+    × GivesRun options (Fault fault line) before now deck
 
 -- The deck is read, and a front of its run's text was given.
 pub record GivesRunPart (options : Options) (before now : Option (List ℕ)) (deck : List ℕ) : Type 0 where

@@ -6,7 +6,7 @@ ghost use Rattle.fv_tool.specs.Unread.{IsUnread, outcome_for};
 
 use fv_io::{ReadEnd, Source, read_all};
 use fv_report::Outcome;
-use fv_tree::{Refusal, Refused};
+use fv_tree::{Cause, Refused};
 use std::alloc::Global;
 
 const DECK_BYTES: usize = 1 << 24;
@@ -16,17 +16,14 @@ pub(crate) fn read_deck<S: Source>(alloc: Global, deck: &mut S) -> Result<Vec<u8
     ensures whole { IfOk result (λ bytes. Takes (S.left deck.old) bytes.items (S.left deck.new)) }
     ensures end { OnOk result (IsAtEnd (S.left deck.new)) }
     ensures within { IfOk result (λ bytes. length bytes.items ≤ 2 ^ 24) }
-    ensures unread { IfErr result (IsUnread (S.left deck.old) (S.left deck.new) (S.faults deck.old) (S.faults deck.new)) }
+    ensures unread {
+        IfErr result (IsUnread (S.left deck.old) (S.left deck.new) (S.faults deck.old) (S.faults deck.new)) }
     ensures later { S.faults deck.old ≤ S.faults deck.new }
 {
     match read_all(alloc, deck, DECK_BYTES) {
         Ok(bytes) => Ok(bytes),
         Err(ReadEnd::Fault) => Err(Outcome::ReadFault),
-        Err(ReadEnd::TooLong) => Err(Outcome::Refused(Refusal {
-            number: 1,
-            line: 0,
-            word: 0,
-        })),
+        Err(ReadEnd::TooLong) => Err(Outcome::Refused(Cause::TooLong.at(0))),
         Err(ReadEnd::Memory) => Err(Outcome::OutOfMemory),
     }
 }

@@ -1,7 +1,7 @@
 //! The top call: words, the deck, the text and the notes.
 #![tactic(auto)]
 
-ghost use Rattle.std.specs.Prelude.{◌≡◌, ◌^◌, ◌≤◌, ◌↔◌, [], ◌∷◌, List, None, Some, IfSome, Option, ℕ};
+ghost use Rattle.std.specs.Prelude.{◌≡◌, ◌≤◌, ◌↔◌, [], ◌∷◌, List, None, Some, ℕ};
 ghost use Rattle.std.specs.Io.KnownBytes.{IsAtEnd};
 ghost use Rattle.fv_tree.specs.Plain.{Program};
 ghost use Rattle.fv_tree.specs.declared.ops.Fault.{Fault as Kind};
@@ -16,10 +16,11 @@ ghost use Rattle.fv_command.specs.declared.commands.Options.{Options};
 ghost use Rattle.fv_command.specs.declared.commands.Command.{Command as Asked};
 ghost use Rattle.fv_command.specs.declared.commands.Command.TheVariants.{Vectorise, Run77};
 ghost use Rattle.fv_tool.specs.Answers.{IsOneOf, NoteFor};
+ghost use Rattle.fv_tool.specs.Asked.{Asks, HasNotFailed, IfTold};
 ghost use Rattle.fv_tool.specs.Decks.{Reads, IsRefused, ReadsDeck77};
-ghost use Rattle.fv_tool.specs.Endings.{Ends, Ended, IsReadOrPassed, IsReadFor, ending_of};
+ghost use Rattle.fv_tool.specs.Endings.{Ends, Ended, IsReadOrPassed, IsRefusedAfter, ending_of};
 ghost use Rattle.fv_tool.specs.Headline.{GivesTranslation, GivesTranslationPart};
-ghost use Rattle.fv_tool.specs.Running.{GivesRun, GivesRunPart, IsExceeded, run_of};
+ghost use Rattle.fv_tool.specs.Running.{GivesRun, GivesFaultedRun, GivesRunPart, IsExceeded, run_of};
 
 mod deck;
 #[cfg(test)]
@@ -44,7 +45,11 @@ fn perform<S: Source, K: Sink>(
     deck: &mut S,
     out: &mut K,
 ) -> Outcome
-    ensures ends { Ends command (record { left_before = S.left deck.old; left_now = S.left deck.new; taken_before = K.taken out.old; taken_now = K.taken out.new; deck_faults_before = S.faults deck.old; deck_faults_now = S.faults deck.new; out_faults_before = K.faults out.old; out_faults_now = K.faults out.new }) result }
+    ensures ends { Ends command (record {
+        left_before = S.left deck.old; left_now = S.left deck.new;
+        taken_before = K.taken out.old; taken_now = K.taken out.new;
+        deck_faults_before = S.faults deck.old; deck_faults_now = S.faults deck.new;
+        out_faults_before = K.faults out.old; out_faults_now = K.faults out.new }) result }
     ensures deck_later { S.faults deck.old ≤ S.faults deck.new }
     ensures out_later { K.faults out.old ≤ K.faults out.new }
 {
@@ -60,7 +65,11 @@ fn perform<S: Source, K: Sink>(
 
 // Does what the words ask for.
 fn work<S: Source, K: Sink>(alloc: Global, words: &[String], deck: &mut S, out: &mut K) -> Outcome
-    ensures ended { Ended (command_of (texts words.now)) (record { left_before = S.left deck.old; left_now = S.left deck.new; taken_before = K.taken out.old; taken_now = K.taken out.new; deck_faults_before = S.faults deck.old; deck_faults_now = S.faults deck.new; out_faults_before = K.faults out.old; out_faults_now = K.faults out.new }) result }
+    ensures ended { Ended (command_of (texts words.now)) (record {
+        left_before = S.left deck.old; left_now = S.left deck.new;
+        taken_before = K.taken out.old; taken_now = K.taken out.new;
+        deck_faults_before = S.faults deck.old; deck_faults_now = S.faults deck.new;
+        out_faults_before = K.faults out.old; out_faults_now = K.faults out.new }) result }
     ensures unread { command_of (texts words.now) ≡ None → deck.new ≡ deck.old }
     ensures deck_later { S.faults deck.old ≤ S.faults deck.new }
     ensures out_later { K.faults out.old ≤ K.faults out.new }
@@ -81,67 +90,76 @@ pub fn run_tool<S: Source, K: Sink, E: Sink>(
 ) -> u8
     ensures answers { IsOneOf (0 ∷ 1 ∷ 2 ∷ 3 ∷ 4 ∷ 5 ∷ 6 ∷ 7 ∷ []) result }
 
-    // 1 comes exactly where the words aren't a command, and then nothing is read.
+    // The words: 1 comes exactly where they aren't a command, and then nothing is read.
     ensures usage { (result ≡ 1) ↔ (command_of (texts words.now.items) ≡ None) }
     ensures unread { result ≡ 1 → deck.new ≡ deck.old }
 
-    // The deck was read to its end, but where a limit of bytes is passed.
+    // Reading: the deck was read to its end, but where a limit of bytes is passed.
     ensures whole { IsOneOf (0 ∷ 3 ∷ 4 ∷ 6 ∷ []) result → IsAtEnd (S.left deck.new) }
     ensures whole_refused { result ≡ 2 → IsReadOrPassed (S.left deck.old) (S.left deck.new) }
 
-    // 2 comes only where the deck is refused for the command. Where it is and reading didn't fail, there is nothing but
-    // 2, or 7.
-    ensures refused { (c : Asked) → command_of (texts words.now.items) ≡ Some c → result ≡ 2
-        → IfSome (S.left deck.old) (λ bytes. (r : Refusal) × IsRefused c bytes r × IsReadFor (S.left deck.old) (S.left deck.new) r) }
-    ensures accepted { (c : Asked) → command_of (texts words.now.items) ≡ Some c
-        → IfSome (S.left deck.old) (λ bytes. (p : Program) → Reads c bytes p → result ≡ 2 → ⊥) }
-    ensures never_done { (c : Asked) → command_of (texts words.now.items) ≡ Some c
-        → IfSome (S.left deck.old) (λ bytes. (r : Refusal) → IsRefused c bytes r → (Rose (S.faults deck.old) (S.faults deck.new) → ⊥) → IsOneOf (2 ∷ 7 ∷ []) result) }
+    // Refusals: 2 comes only where the deck is refused for the command. Where it is and reading didn't fail, there is
+    // nothing but 2, or 7.
+    ensures refused { (c : Asked) → Asks words.now.items c → result ≡ 2
+        → IfTold (S.left deck.old) (IsRefusedAfter c (S.left deck.old) (S.left deck.new)) }
+    ensures accepted { (c : Asked) → Asks words.now.items c
+        → IfTold (S.left deck.old) (λ bytes. (p : Program) → Reads c bytes p → result ≡ 2 → ⊥) }
+    ensures never_done { (c : Asked) → Asks words.now.items c
+        → IfTold (S.left deck.old) (λ bytes. (r : Refusal) → IsRefused c bytes r
+        → HasNotFailed (S.faults deck.old) (S.faults deck.new) → IsOneOf (2 ∷ 7 ∷ []) result) }
 
-    // 5 and 6 come only where that object failed in this call.
+    // Faults of the objects: 5 and 6 come only where that object failed in this call.
     ensures read_fault { result ≡ 5 → Rose (S.faults deck.old) (S.faults deck.new) }
     ensures write_fault { result ≡ 6 → Rose (K.faults out.old) (K.faults out.new) }
 
     // `vectorise` gives the translation at 0, and a front of it at 6.
-    ensures translated { command_of (texts words.now.items) ≡ Some Vectorise → result ≡ 0
-        → IfSome (S.left deck.old) (GivesTranslation (K.taken out.old) (K.taken out.new)) }
-    ensures part { command_of (texts words.now.items) ≡ Some Vectorise → result ≡ 6
-        → IfSome (S.left deck.old) (GivesTranslationPart (K.taken out.old) (K.taken out.new)) }
+    ensures translated { Asks words.now.items Vectorise → result ≡ 0
+        → IfTold (S.left deck.old) (GivesTranslation (K.taken out.old) (K.taken out.new)) }
+    ensures part { Asks words.now.items Vectorise → result ≡ 6
+        → IfTold (S.left deck.old) (GivesTranslationPart (K.taken out.old) (K.taken out.new)) }
 
     // `run77` gives all of the run's text: at 0 the run ended without fault, at 3 by a fault, at 4 since its steps
     // exceed the limit. At 6 it gives a front.
-    ensures ran { (o : Options) → command_of (texts words.now.items) ≡ Some (Run77 o) → result ≡ 0
-        → IfSome (S.left deck.old) (GivesRun o Done (K.taken out.old) (K.taken out.new)) }
-    ensures faulted { result ≡ 3 → (o : Options) × (command_of (texts words.now.items) ≡ Some (Run77 o))
-        × IfSome (S.left deck.old) (λ bytes. (fault : Kind) × (line : ℕ) × GivesRun o (Fault fault line) (K.taken out.old) (K.taken out.new) bytes) }
-    ensures limited { result ≡ 4 → (o : Options) × (command_of (texts words.now.items) ≡ Some (Run77 o))
-        × IfSome (S.left deck.old) (GivesRun o StepLimit (K.taken out.old) (K.taken out.new)) }
-    ensures run_part { (o : Options) → command_of (texts words.now.items) ≡ Some (Run77 o) → result ≡ 6
-        → IfSome (S.left deck.old) (GivesRunPart o (K.taken out.old) (K.taken out.new)) }
+    ensures ran { (o : Options) → Asks words.now.items (Run77 o) → result ≡ 0
+        → IfTold (S.left deck.old) (GivesRun o Done (K.taken out.old) (K.taken out.new)) }
+    ensures faulted { result ≡ 3 → (o : Options) × Asks words.now.items (Run77 o)
+        × IfTold (S.left deck.old) (GivesFaultedRun o (K.taken out.old) (K.taken out.new)) }
+    ensures limited { result ≡ 4 → (o : Options) × Asks words.now.items (Run77 o)
+        × IfTold (S.left deck.old) (GivesRun o StepLimit (K.taken out.old) (K.taken out.new)) }
+    ensures run_part { (o : Options) → Asks words.now.items (Run77 o) → result ≡ 6
+        → IfTold (S.left deck.old) (GivesRunPart o (K.taken out.old) (K.taken out.new)) }
 
     // Otherwise nothing is given.
     ensures nothing { IsOneOf (1 ∷ 2 ∷ 5 ∷ 7 ∷ []) result → K.taken out.new ≡ K.taken out.old }
 
-    // Where no count of faults rose, a deck that is read gets 3 where its run faults within the limit, 4 where its
-    // steps exceed the limit, and 0 otherwise, unless memory runs out.
-    ensures faults { (o : Options) → command_of (texts words.now.items) ≡ Some (Run77 o)
-        → IfSome (S.left deck.old) (λ bytes. (p : Program) → ReadsDeck77 bytes p → (fault : Kind) (line : ℕ) → ending (run_of o bytes p) ≡ Some (Fault fault line)
-        → (Rose (S.faults deck.old) (S.faults deck.new) → ⊥) → (Rose (K.faults out.old) (K.faults out.new) → ⊥) → IsOneOf (3 ∷ 7 ∷ []) result) }
-    ensures limits { (o : Options) → command_of (texts words.now.items) ≡ Some (Run77 o)
-        → IfSome (S.left deck.old) (λ bytes. (p : Program) → ReadsDeck77 bytes p → IsExceeded o.steps p (input_of data_line77 bytes)
-        → (Rose (S.faults deck.old) (S.faults deck.new) → ⊥) → (Rose (K.faults out.old) (K.faults out.new) → ⊥) → IsOneOf (4 ∷ 7 ∷ []) result) }
-    ensures exceeded { (o : Options) → command_of (texts words.now.items) ≡ Some (Run77 o) → result ≡ 4
-        → IfSome (S.left deck.old) (λ bytes. (p : Program) → ReadsDeck77 bytes p → IsExceeded o.steps p (input_of data_line77 bytes)) }
-    ensures done { (c : Asked) → command_of (texts words.now.items) ≡ Some c
-        → IfSome (S.left deck.old) (λ bytes. (p : Program) → Reads c bytes p → ending_of c bytes p ≡ Some Done
-        → (Rose (S.faults deck.old) (S.faults deck.new) → ⊥) → (Rose (K.faults out.old) (K.faults out.new) → ⊥) → IsOneOf (0 ∷ 7 ∷ []) result) }
+    // Completeness: where nothing failed, a deck that is read gets 3 where its run faults within the limit, 4 where
+    // its steps exceed the limit, and 0 otherwise, unless memory runs out.
+    ensures faults { (o : Options) → Asks words.now.items (Run77 o)
+        → IfTold (S.left deck.old) (λ bytes. (p : Program) → ReadsDeck77 bytes p
+        → (fault : Kind) (line : ℕ) → ending (run_of o bytes p) ≡ Some (Fault fault line)
+        → HasNotFailed (S.faults deck.old) (S.faults deck.new) → HasNotFailed (K.faults out.old) (K.faults out.new)
+        → IsOneOf (3 ∷ 7 ∷ []) result) }
+    ensures limits { (o : Options) → Asks words.now.items (Run77 o)
+        → IfTold (S.left deck.old) (λ bytes. (p : Program) → ReadsDeck77 bytes p
+        → IsExceeded o.steps p (input_of data_line77 bytes)
+        → HasNotFailed (S.faults deck.old) (S.faults deck.new) → HasNotFailed (K.faults out.old) (K.faults out.new)
+        → IsOneOf (4 ∷ 7 ∷ []) result) }
+    ensures exceeded { (o : Options) → Asks words.now.items (Run77 o) → result ≡ 4
+        → IfTold (S.left deck.old) (λ bytes. (p : Program) → ReadsDeck77 bytes p
+        → IsExceeded o.steps p (input_of data_line77 bytes)) }
+    ensures done { (c : Asked) → Asks words.now.items c
+        → IfTold (S.left deck.old) (λ bytes. (p : Program) → Reads c bytes p → ending_of c bytes p ≡ Some Done
+        → HasNotFailed (S.faults deck.old) (S.faults deck.new) → HasNotFailed (K.faults out.old) (K.faults out.new)
+        → IsOneOf (0 ∷ 7 ∷ []) result) }
 
     // The notes have the status's line, or a front of it where they failed.
-    ensures note { (Rose (E.faults notes.old) (E.faults notes.new) → ⊥)
-        → (line : List ℕ) × NoteFor (command_of (texts words.now.items)) (S.left deck.old) result line × Gives (E.taken notes.old) line (E.taken notes.new) }
+    ensures note { HasNotFailed (E.faults notes.old) (E.faults notes.new)
+        → (line : List ℕ) × NoteFor (command_of (texts words.now.items)) (S.left deck.old) result line
+        × Gives (E.taken notes.old) line (E.taken notes.new) }
     ensures note_part { (line : List ℕ) × NoteFor (command_of (texts words.now.items)) (S.left deck.old) result line
         × GivesPart (E.taken notes.old) line (E.taken notes.new) }
 
+    // Counts of faults never fall.
     ensures deck_later { S.faults deck.old ≤ S.faults deck.new }
     ensures out_later { K.faults out.old ≤ K.faults out.new }
     ensures notes_later { E.faults notes.old ≤ E.faults notes.new }

@@ -2,7 +2,8 @@
 ghost use Rattle.std.specs.Prelude.{◌^◌, ◌≤◌, length};
 ghost use Rattle.fv_tree.specs.Plain.{Program};
 ghost use Rattle.fv_meaning.specs.Run.{run as run_at};
-ghost use Rattle.fv_meaning.specs.Sequential.{integer_bits, ending};
+ghost use Rattle.fv_meaning.specs.Sequential.{ending};
+ghost use Rattle.fv_meaning.specs.Dialect.{fortran77};
 ghost use Rattle.fv_meaning.specs.Profile77.{IsProgram77};
 ghost use Rattle.fv_command.specs.declared.commands.Command.TheVariants.{Run77};
 ghost use Rattle.run77.specs.Machine.{IsMachineOf};
@@ -26,8 +27,10 @@ fn run_machine<K: Sink>(
     input: &[u8],
     out: &mut K,
 ) -> Outcome
-    ensures comes { (p : Program) → IsProgram77 p → IsMachineOf p machine.old → Comes (ending (run_at integer_bits options.steps p input.now)) (run_text options p (run_at integer_bits options.steps p input.now))
-        (record { before = K.taken out.old; now = K.taken out.new; faults_before = K.faults out.old; faults_now = K.faults out.new }) result }
+    ensures comes { (p : Program) → IsProgram77 fortran77 p → IsMachineOf p machine.old
+        → let run = run_at fortran77 options.steps p input.now in Comes (ending run) (run_text options p run) (record {
+        before = K.taken out.old; now = K.taken out.new;
+        faults_before = K.faults out.old; faults_now = K.faults out.new }) result }
     ensures later { K.faults out.old ≤ K.faults out.new }
 {
     match machine.run(input, out, options.steps) {
@@ -48,7 +51,9 @@ fn run_machine<K: Sink>(
 /// Runs the deck, which has at most 2^24 bytes. The output goes out as it comes.
 pub(crate) fn run<K: Sink>(alloc: Global, options: Options, deck: &[u8], out: &mut K) -> Outcome
     requires { length deck.now ≤ 2 ^ 24 }
-    ensures works { Works (Run77 options) deck.now (record { before = K.taken out.old; now = K.taken out.new; faults_before = K.faults out.old; faults_now = K.faults out.new }) result }
+    ensures works { Works (Run77 options) deck.now (record {
+        before = K.taken out.old; now = K.taken out.new;
+        faults_before = K.faults out.old; faults_now = K.faults out.new }) result }
     ensures later { K.faults out.old ≤ K.faults out.new }
 {
     let (source, input) = source_and_input(deck);

@@ -10,7 +10,7 @@ use Rattle.std.proofs.lemmas.Int.{ints, quot-rem, rem_below, fold-int_max_bounds
 use Rattle.std.proofs.lemmas.List.Elements.{All-cons}
 use Rattle.fv_tree.specs.Operators.{quotient, exact_call}
 use Rattle.fv_tree.specs.declared.ops.Fault.TheVariants.{ZeroDivide}
-use Rattle.fv_tree.specs.declared.ops.Fun.TheVariants.{Max, Min}
+use Rattle.fv_tree.specs.declared.functions.Fun.TheVariants.{Max, Min}
 
 -- q is a over b, truncated towards zero: what is left is smaller than b, and is never of the sign that a isn't of
 pub record Truncates (a b q : ℤ) : Type 0 where

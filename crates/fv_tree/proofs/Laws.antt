@@ -1,6 +1,6 @@
 -- When an operator and a function fault, and what kind of value they give.
 use Rattle.std.proofs.Common.{◌≡◌, ◌≢◌, refl, sym, ap, ◌∙◌, ◌↔◌, suc, ℤ, pos, negsuc, ◌<ℤ◌, ◌*ℤ◌, ◌-ℤ◌, ◌+ℤ◌, neg_ℤ, Bool, true, false, cond, List, [], ◌∷◌, Result, Ok, Err, arith, IsTrue, Decides, map, length, subst}
-use Rattle.std.specs.Prelude.{FitsSigned, IfErr, IfOk, IsErrOf, int_div}
+use Rattle.std.specs.Prelude.{⊤, FitsSigned, IfErr, IsOkAnd, IfOk, IsErrOf, int_div}
 use Rattle.std.specs.Int.{w128, int_pow}
 use Rattle.std.specs.Ordering.{int_eq}
 use Rattle.std.specs.List.{All}
@@ -8,10 +8,11 @@ use Rattle.std.proofs.lemmas.List.{length-map}
 use Rattle.std.proofs.lemmas.List.Elements.{All-head, All-tail}
 use Rattle.std.proofs.lemmas.Int.{ints}
 use Rattle.std.proofs.lemmas.Bool.{false≢true}
-use Rattle.std.proofs.lemmas.Bool.Decides.{Decides-int_eq}
+use Rattle.std.proofs.lemmas.Bool.Decides.{Decides-eqb, Decides-int_eq}
 use Rattle.fv_tree.specs.Steps.{◌>>=◌}
-use Rattle.fv_tree.specs.Operators.{fits, number, ranged, quotient, power, exact_value, exact_call, exact, exact_of_values, on_numbers, on_truths, apply, call, suits, LeavesRange, DividesByZero, CallDividesByZero, as_numbers, IsNumber, SuitsCount, IsArithmeticFault, IsInRange, NumbersDivideByZero, kind_of, is_neg, is_not, takes_numbers, takes_truths, as_number, number_in}
-use Rattle.fv_tree.specs.Spelling.{result_kind_of}
+use Rattle.fv_tree.specs.Operators.{fits, number, ranged, quotient, power, exact_value, exact_call, exact, exact_of_values, on_numbers, on_truths, apply, call, suits, LeavesRange, DividesByZero, CallDividesByZero, NumbersCallDividesByZero, as_numbers, IsNumber, IsInRange, NumbersDivideByZero, kind_of, is_neg, is_not, takes_numbers, takes_truths, as_number, number_in}
+use Rattle.fv_tree.specs.Functions.{suits_number}
+use Rattle.fv_tree.specs.OperatorTable.{result_kind_of}
 use Rattle.fv_tree.specs.declared.ops.Kind.TheVariants.{Integer}
 use Rattle.fv_tree.specs.declared.ops.Value.{Value}
 use Rattle.fv_tree.specs.declared.ops.Value.TheVariants.{Int, Truth}
@@ -19,10 +20,16 @@ use Rattle.fv_tree.specs.declared.ops.Fault.{Fault}
 use Rattle.fv_tree.specs.declared.ops.Fault.TheVariants.{Overflow, ZeroDivide, Shape}
 use Rattle.fv_tree.specs.declared.ops.Op.{Op}
 use Rattle.fv_tree.specs.declared.ops.Op.TheVariants.{Pow, Mul, Div, Neg, Add, Sub, Lt, Le, Eq, Ne, Gt, Ge, Not, And, Or, Eqv, Neqv}
-use Rattle.fv_tree.specs.declared.ops.Fun.{Fun}
-use Rattle.fv_tree.specs.declared.ops.Fun.TheVariants.{Abs, Mod, Max, Min}
+use Rattle.fv_tree.specs.declared.functions.Fun.{Fun}
+use Rattle.fv_tree.specs.declared.functions.Fun.TheVariants.{Abs, Mod, Max, Min}
 use Rattle.fv_tree.proofs.Exact.{fits-Decides}
 use Rattle.fv_tree.proofs.Powers.{inverse_power-zero, inverse_power-base}
+
+-- the two faults of an operation at values that suit it
+abbrev pub IsArithmeticFault : Fault → Type 0
+IsArithmeticFault Overflow = ⊤
+IsArithmeticFault ZeroDivide = ⊤
+IsArithmeticFault _ = ⊥
 
 -- ---- the test of range
 
@@ -287,10 +294,6 @@ apply-IsInRange o (Int a) (Truth b) = negated-IsInRange (is_neg o) a
 apply-IsInRange o (Truth a) (Truth b) = on_truths-IsInRange o a b
 apply-IsInRange o (Truth a) (Int b) = inverted-IsInRange (is_not o) a
 
-pub ruleset apply_laws = (apply-Overflow, apply-ZeroDivide, apply-faults, apply-kind)
-
--- ---- functions
-
 -- ---- functions
 
 then-fault : (r : Result ℤ Fault) (rs : Result (List ℤ) Fault) → IfErr r (λ f. f ≡ Shape) → IfErr rs (λ f. f ≡ Shape) → IfErr (r >>= (λ z. rs >>= (λ zs. let more : Result (List ℤ) Fault = Ok (z ∷ zs) in more))) (λ f. f ≡ Shape)
@@ -336,10 +339,6 @@ exact_call-Overflow Min [] e = cc
 exact_call-Overflow Min (a ∷ []) e = cc
 exact_call-Overflow Min (a ∷ b ∷ more) e = cc
 
-abbrev NumbersCallDividesByZero : Fun → List ℤ → Type 0
-NumbersCallDividesByZero Mod (a ∷ b ∷ []) = b ≡ pos 0
-NumbersCallDividesByZero _ _ = ⊥
-
 exact_call-ZeroDivide : (f : Fun) (zs : List ℤ) → IsErrOf (exact_call f zs) ZeroDivide ↔ NumbersCallDividesByZero f zs
 exact_call-ZeroDivide Abs [] = (λ e. absurd (cc), λ h. absurd h)
 exact_call-ZeroDivide Abs (a ∷ []) = (λ e. absurd (cc), λ h. absurd h)
@@ -355,19 +354,19 @@ exact_call-ZeroDivide Min [] = (λ e. absurd (cc), λ h. absurd h)
 exact_call-ZeroDivide Min (a ∷ []) = (λ e. absurd (cc), λ h. absurd h)
 exact_call-ZeroDivide Min (a ∷ b ∷ more) = (λ e. absurd (cc), λ h. absurd h)
 
-exact_call-faults : (f : Fun) (zs : List ℤ) → SuitsCount f (length zs) → IfErr (exact_call f zs) IsArithmeticFault
-exact_call-faults Abs [] h = absurd (omega arith)
+exact_call-faults : (f : Fun) (zs : List ℤ) → IsTrue (suits_number f (length zs)) → IfErr (exact_call f zs) IsArithmeticFault
+exact_call-faults Abs [] h = absurd (false≢true h)
 exact_call-faults Abs (a ∷ []) h = tt
-exact_call-faults Abs (a ∷ b ∷ more) h = absurd (omega arith)
-exact_call-faults Mod [] h = absurd (omega arith)
-exact_call-faults Mod (a ∷ []) h = absurd (omega arith)
+exact_call-faults Abs (a ∷ b ∷ more) h = let e = (Decides-eqb (length (a ∷ b ∷ more)) 1).0 h in absurd (omega arith)
+exact_call-faults Mod [] h = absurd (false≢true h)
+exact_call-faults Mod (a ∷ []) h = absurd (false≢true h)
 exact_call-faults Mod (a ∷ b ∷ []) h = remainder_by-faults (int_eq b (pos 0)) (int_div a b) a b
-exact_call-faults Mod (a ∷ b ∷ c ∷ more) h = absurd (omega arith)
-exact_call-faults Max [] h = absurd (omega arith)
-exact_call-faults Max (a ∷ []) h = absurd (omega arith)
+exact_call-faults Mod (a ∷ b ∷ c ∷ more) h = let e = (Decides-eqb (length (a ∷ b ∷ c ∷ more)) 2).0 h in absurd (omega arith)
+exact_call-faults Max [] h = absurd (false≢true h)
+exact_call-faults Max (a ∷ []) h = absurd (false≢true h)
 exact_call-faults Max (a ∷ b ∷ more) h = tt
-exact_call-faults Min [] h = absurd (omega arith)
-exact_call-faults Min (a ∷ []) h = absurd (omega arith)
+exact_call-faults Min [] h = absurd (false≢true h)
+exact_call-faults Min (a ∷ []) h = absurd (false≢true h)
 exact_call-faults Min (a ∷ b ∷ more) h = tt
 
 called-Overflow : (f : Fun) (r : Result (List ℤ) Fault) → IfErr r (λ g. g ≡ Shape) → ¬ IsErrOf (r >>= (λ zs. exact_call f zs)) Overflow
@@ -402,27 +401,20 @@ as_numbers-numbers (v ∷ vs) h =
 pub exact_of_values-numbers : (f : Fun) (vs : List Value) → All IsNumber vs → exact_of_values f vs ≡ exact_call f (map number_in vs)
 exact_of_values-numbers f vs h = ap (λ (rs : Result (List ℤ) Fault). rs >>= (λ zs. exact_call f zs)) (as_numbers-numbers vs h)
 
-map_divides : (f : Fun) (vs : List Value) → NumbersCallDividesByZero f (map number_in vs) ↔ CallDividesByZero f vs
-map_divides Abs vs = (λ h. absurd h, λ h. absurd h)
-map_divides Mod [] = (λ h. absurd h, λ h. absurd h)
-map_divides Mod (a ∷ []) = (λ h. absurd h, λ h. absurd h)
-map_divides Mod (a ∷ b ∷ []) = (λ h. h, λ h. h)
-map_divides Mod (a ∷ b ∷ c ∷ more) = (λ h. absurd h, λ h. absurd h)
-map_divides Max vs = (λ h. absurd h, λ h. absurd h)
-map_divides Min vs = (λ h. absurd h, λ h. absurd h)
+called-ZeroDivide : (f : Fun) (r : Result (List ℤ) Fault) → IfErr r (λ g. g ≡ Shape)
+    → IsErrOf (r >>= (λ zs. exact_call f zs)) ZeroDivide ↔ IsOkAnd r (NumbersCallDividesByZero f)
+called-ZeroDivide f (Ok zs) h = exact_call-ZeroDivide f zs
+called-ZeroDivide f (Err g) h = (λ e. let same : Shape ≡ ZeroDivide = sym h ∙ (cc) in cc, λ d. absurd d)
 
 -- it divides by zero exactly where the divisor of MOD is 0
-pub call-ZeroDivide : (f : Fun) (vs : List Value) → All IsNumber vs → IsErrOf (call f vs) ZeroDivide ↔ CallDividesByZero f vs
-call-ZeroDivide f vs h =
-    let e = exact_of_values-numbers f vs h in (
-      λ d. (map_divides f vs).0 ((exact_call-ZeroDivide f (map number_in vs)).0 (sym e ∙ (ranged-ZeroDivide (exact_of_values f vs)).0 d)),
-      λ d. (ranged-ZeroDivide (exact_of_values f vs)).1 (e ∙ (exact_call-ZeroDivide f (map number_in vs)).1 ((map_divides f vs).1 d)),
-    )
+pub call-ZeroDivide : (f : Fun) (vs : List Value) → IsErrOf (call f vs) ZeroDivide ↔ CallDividesByZero f vs
+call-ZeroDivide f vs =
+    let inner = called-ZeroDivide f (as_numbers vs) (as_numbers-fault vs) in
+    let outer = ranged-ZeroDivide (exact_of_values f vs) in
+    (λ e. inner.0 (outer.0 e), λ d. outer.1 (inner.1 d))
 
 -- a right number of numbers gives no other fault
-pub call-faults : (f : Fun) (vs : List Value) → SuitsCount f (length vs) → All IsNumber vs → IfErr (call f vs) IsArithmeticFault
+pub call-faults : (f : Fun) (vs : List Value) → IsTrue (suits_number f (length vs)) → All IsNumber vs → IfErr (call f vs) IsArithmeticFault
 call-faults f vs n h =
-    let count : SuitsCount f (length (map number_in vs)) = rw length-map n in
+    let count : IsTrue (suits_number f (length (map number_in vs))) = rw length-map n in
     ranged-faults (exact_of_values f vs) (subst (λ (r : Result ℤ Fault). IfErr r IsArithmeticFault) (sym (exact_of_values-numbers f vs h)) (exact_call-faults f (map number_in vs) count))
-
-pub ruleset call_laws = (call-Overflow, call-ZeroDivide, call-faults, call-kind)

@@ -1,7 +1,12 @@
 pub mod Arithmetic
+pub mod Calls
+pub mod CauseLaws
 pub mod Equations
 pub mod Exact
-pub mod Functions
+pub mod Faults
+pub mod CallValues
 pub mod Laws
 pub mod Powers
+pub mod Reductions
 pub mod Table
+pub mod Unsuited

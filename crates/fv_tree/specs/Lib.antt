@@ -1,8 +1,13 @@
 pub mod formers
+pub mod Arguments
+pub mod Causes
+pub mod Functions
+pub mod Gathered
+pub mod Limits
 pub mod Names
 pub mod Operators
+pub mod OperatorTable
 pub mod Padded
 pub mod Plain
-pub mod Spelling
 pub mod Steps
 pub mod View

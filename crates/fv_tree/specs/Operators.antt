@@ -1,9 +1,14 @@
--- What an operator and a function give (ANSI X3.9-1978, sections 6.1, 6.3, 6.4 and 15.10): the exact value over the integers, which then has to fit 128 bits.
-use Rattle.std.specs.Prelude.{◌≡◌, Result, Ok, Err, ℕ, suc, ◌^◌, ◌≤◌, nat_lt, ℤ, pos, negsuc, ◌+ℤ◌, ◌-ℤ◌, ◌*ℤ◌, neg_ℤ, ◌<ℤ◌, nat_abs, int_lt, int_le, int_div, FitsSigned, Bool, true, false, not, ◌&&◌, ◌||◌, if◌then◌else◌, List, [], ◌∷◌, IsOkAnd, ⊤}
+-- What an operator and a function give (ANSI X3.9-1978, sections 6.1, 6.3, 6.4 and 15.10): the exact value over the
+-- integers, which then has to fit 128 bits.
+use Rattle.std.specs.Prelude.{◌≡◌, Result, Ok, Err, IsOkAnd, ⊤, List, [], ◌∷◌, length, if◌then◌else◌}
+use Rattle.std.specs.Prelude.{Bool, true, false, not, ◌&&◌, ◌||◌, IsTrue, ℕ, suc, ◌-◌, ◌^◌, ◌≤◌, nat_lt}
+use Rattle.std.specs.Prelude.{ℤ, pos, negsuc, ◌+ℤ◌, ◌-ℤ◌, ◌*ℤ◌, neg_ℤ, ◌<ℤ◌, nat_abs, int_lt, int_le, int_div}
+use Rattle.std.specs.Prelude.{FitsSigned}
 use Rattle.std.specs.Int.{int_max, int_min, int_pow, w128}
-use Rattle.std.specs.List.{fold}
+use Rattle.std.specs.List.{All, fold}
 use Rattle.std.specs.Ordering.{int_eq}
 use Rattle.fv_tree.specs.Steps.{◌>>=◌}
+use Rattle.fv_tree.specs.Functions.{suits_number}
 use Rattle.fv_tree.specs.declared.ops.Kind.{Kind}
 use Rattle.fv_tree.specs.declared.ops.Kind.TheVariants.{Integer, Logical}
 use Rattle.fv_tree.specs.declared.ops.Value.{Value}
@@ -11,9 +16,12 @@ use Rattle.fv_tree.specs.declared.ops.Value.TheVariants.{Int, Truth}
 use Rattle.fv_tree.specs.declared.ops.Fault.{Fault}
 use Rattle.fv_tree.specs.declared.ops.Fault.TheVariants.{Overflow, ZeroDivide, Shape}
 use Rattle.fv_tree.specs.declared.ops.Op.{Op}
-use Rattle.fv_tree.specs.declared.ops.Op.TheVariants.{Pow, Mul, Div, Neg, Add, Sub, Lt, Le, Eq, Ne, Gt, Ge, Not, And, Or, Eqv, Neqv}
-use Rattle.fv_tree.specs.declared.ops.Fun.{Fun}
-use Rattle.fv_tree.specs.declared.ops.Fun.TheVariants.{Abs, Mod, Max, Min}
+use Rattle.fv_tree.specs.declared.ops.Op.TheVariants.{Pow, Mul, Div, Neg, Add, Sub, Lt, Le, Eq, Ne, Gt, Ge}
+use Rattle.fv_tree.specs.declared.ops.Op.TheVariants.{Not, And, Or, Eqv, Neqv}
+use Rattle.fv_tree.specs.declared.functions.Fun.{Fun}
+use Rattle.fv_tree.specs.declared.functions.Fun.TheVariants.{Abs, Mod, Max, Min}
+use Rattle.fv_tree.specs.declared.functions.Red.{Red}
+use Rattle.fv_tree.specs.declared.functions.Red.TheVariants.{Sum, MaxVal, MinVal}
 
 -- -2 ^ n to 2 ^ n - 1
 abbrev pub fits : ℕ → ℤ → Bool
@@ -141,11 +149,12 @@ abbrev pub DividesByZero : Op → Value → Value → Type 0
 DividesByZero o (Int a) (Int b) = NumbersDivideByZero o a b
 DividesByZero o _ _ = ⊥
 
--- the two faults of an operation
-abbrev pub IsArithmeticFault : Fault → Type 0
-IsArithmeticFault Overflow = ⊤
-IsArithmeticFault ZeroDivide = ⊤
-IsArithmeticFault _ = ⊥
+-- the faults of an operation
+abbrev pub IsOperationFault : Fault → Type 0
+IsOperationFault Overflow = ⊤
+IsOperationFault ZeroDivide = ⊤
+IsOperationFault Shape = ⊤
+IsOperationFault _ = ⊥
 
 -- a number of 128 bits
 abbrev pub IsInRange : Value → Type 0
@@ -185,12 +194,10 @@ abbrev pub IsNumber : Value → Type 0
 IsNumber (Int z) = ⊤
 IsNumber (Truth b) = ⊥
 
--- how many arguments a function takes
-abbrev pub SuitsCount : Fun → ℕ → Type 0
-SuitsCount Abs n = n ≡ 1
-SuitsCount Mod n = n ≡ 2
-SuitsCount Max n = 2 ≤ n
-SuitsCount Min n = 2 ≤ n
+-- as many arguments as the function takes, all of them numbers
+pub record SuitsCall (f : Fun) (vs : List Value) : Type 0 where
+  pub count : IsTrue (suits_number f (length vs))
+  pub numbers : All IsNumber vs
 
 -- the number of a value, and 0 for a truth value
 abbrev pub number_in : Value → ℤ
@@ -198,6 +205,23 @@ number_in (Int z) = z
 number_in (Truth b) = pos 0
 
 -- the divisor of MOD is 0
+abbrev pub NumbersCallDividesByZero : Fun → List ℤ → Type 0
+NumbersCallDividesByZero Mod (a ∷ b ∷ []) = b ≡ pos 0
+NumbersCallDividesByZero _ _ = ⊥
+
 abbrev pub CallDividesByZero : Fun → List Value → Type 0
-CallDividesByZero Mod (a ∷ b ∷ []) = number_in b ≡ pos 0
-CallDividesByZero _ _ = ⊥
+CallDividesByZero f vs = IsOkAnd (as_numbers vs) (NumbersCallDividesByZero f)
+
+-- ---- SUM, MAXVAL, MINVAL of an array's elements (ISO/IEC 1539:1991, section 13.13)
+
+abbrev pub sum_from : ℤ → List ℤ → Result Value Fault
+sum_from z [] = Ok (Int z)
+sum_from z (x ∷ xs) = if fits 127 (z +ℤ x) then sum_from (z +ℤ x) xs else Err Overflow
+
+-- `bits`: INTEGER holds -2 ^ bits to 2 ^ bits - 1
+abbrev pub reduced : ℕ → Red → List ℤ → Result Value Fault
+reduced bits Sum zs = sum_from (pos 0) zs
+reduced bits MaxVal [] = number (neg_ℤ (pos (2 ^ bits)))
+reduced bits MaxVal (z ∷ zs) = number (fold int_max z zs)
+reduced bits MinVal [] = number (pos (2 ^ bits - 1))
+reduced bits MinVal (z ∷ zs) = number (fold int_min z zs)

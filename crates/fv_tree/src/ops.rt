@@ -1,8 +1,12 @@
 //! Kinds, values, faults, operators and functions.
-ghost use Rattle.std.specs.Prelude.{◌≡◌, ◌≤◌, ◌↔◌, IsTrue, IsErrOf, IfErr, IfOk, IfSome, MatchOption, All, find, length, pos, negsuc, ◌<ℤ◌, nat_abs};
-ghost use Rattle.fv_tree.specs.Operators.{suits, apply, on_numbers, number, ranged, remainder, exact, LeavesRange, DividesByZero, IsArithmeticFault, kind_of};
-ghost use Rattle.fv_tree.specs.Operators.{call, exact_of_values, number_in, IsNumber, SuitsCount, CallDividesByZero};
-ghost use Rattle.fv_tree.specs.Spelling.{spelling77_of, spelling90_of, level_of, result_kind_of, stands_between, is_spelled, IsSpelled};
+ghost use Rattle.std.specs.Prelude.{◌≡◌, ◌↔◌, IsTrue, IsErrOf, IfErr, IfOk, IfSome, MatchOption, find, pos, negsuc};
+ghost use Rattle.std.specs.Prelude.{◌<ℤ◌};
+ghost use Rattle.fv_tree.specs.Operators.{suits, apply, on_numbers, exact, LeavesRange, DividesByZero};
+ghost use Rattle.fv_tree.specs.Operators.{IsOperationFault};
+ghost use Rattle.fv_tree.specs.Operators.{kind_of, as_number, as_truth};
+ghost use Rattle.fv_tree.specs.OperatorTable.{spelling77_of, spelling90_of, is_spelled, IsSpelled};
+ghost use Rattle.fv_tree.specs.OperatorTable.{level_of, left_least, right_least, stands_between, takes_sign};
+ghost use Rattle.fv_tree.specs.OperatorTable.{is_relation, operand_kind, result_kind_of};
 
 /// The kind of a variable, a constant or an expression.
 #[derive(Clone, Copy, Debug, PartialEq, Eq)]
@@ -18,6 +22,28 @@ pub enum Value {
     Truth(bool),
 }
 
+impl Value {
+    /// The number; a truth value faults as `Shape`.
+    pub fn as_number(self) -> Result<i128, Fault>
+        ensures { result ≡ as_number self }
+    {
+        match self {
+            Value::Int(number) => Ok(number),
+            Value::Truth(_) => Err(Fault::Shape),
+        }
+    }
+
+    /// The truth value; a number faults as `Shape`.
+    pub fn as_truth(self) -> Result<bool, Fault>
+        ensures { result ≡ as_truth self }
+    {
+        match self {
+            Value::Int(_) => Err(Fault::Shape),
+            Value::Truth(truth) => Ok(truth),
+        }
+    }
+}
+
 /// What stops a run.
 #[derive(Clone, Copy, Debug, PartialEq, Eq)]
 pub enum Fault {
@@ -30,14 +56,6 @@ pub enum Fault {
     InputForm,
     Shape,
     Allocated,
-}
-
-/// What gathers the elements of an array into one number.
-#[derive(Clone, Copy, Debug, PartialEq, Eq)]
-pub enum Red {
-    Sum,
-    MaxVal,
-    MinVal,
 }
 
 /// The operators (ANSI X3.9-1978, sections 6.1, 6.3 and 6.4).
@@ -62,97 +80,152 @@ pub enum Op {
     Neqv,
 }
 
-// The operator table, one row an operator: its spelling in FORTRAN 77 and in Fortran 90, its level, the kind of its
-// result, the operands that it takes, and its value at them. Each column has a rule.
+// The operator table, one row an operator: its spelling in FORTRAN 77 and in Fortran 90, its level and the side to
+// which it groups, what it takes and the kind that it gives, and its value at its operands. Each column has a rule.
 macro_rules! operator_table {
     ($column:ident $($input:tt)*) => {
         operator_table! { @$column ($($input)*)
-            Pow "**" "**" 9 Integer numbers (x, y) power(x, y);
-            Mul "*" "*" 8 Integer numbers (x, y) within_range(x.checked_mul(y));
-            Div "/" "/" 8 Integer numbers (x, y) quotient(x, y);
-            Neg "-" "-" 7 Integer number (x) within_range(x.checked_neg());
-            Add "+" "+" 7 Integer numbers (x, y) within_range(x.checked_add(y));
-            Sub "-" "-" 7 Integer numbers (x, y) within_range(x.checked_sub(y));
-            Lt ".LT." "<" 6 Logical numbers (x, y) Ok(Value::Truth(x < y));
-            Le ".LE." "<=" 6 Logical numbers (x, y) Ok(Value::Truth(x <= y));
-            Eq ".EQ." "==" 6 Logical numbers (x, y) Ok(Value::Truth(x == y));
-            Ne ".NE." "/=" 6 Logical numbers (x, y) Ok(Value::Truth(x != y));
-            Gt ".GT." ">" 6 Logical numbers (x, y) Ok(Value::Truth(x > y));
-            Ge ".GE." ">=" 6 Logical numbers (x, y) Ok(Value::Truth(x >= y));
-            Not ".NOT." ".NOT." 5 Logical truth (x) Ok(Value::Truth(!x));
-            And ".AND." ".AND." 4 Logical truths (x, y) Ok(Value::Truth(x && y));
-            Or ".OR." ".OR." 3 Logical truths (x, y) Ok(Value::Truth(x || y));
-            Eqv ".EQV." ".EQV." 2 Logical truths (x, y) Ok(Value::Truth(x == y));
-            Neqv ".NEQV." ".NEQV." 2 Logical truths (x, y) Ok(Value::Truth(x != y));
+            Pow ["**" "**"] [9 right] [numbers Integer] (x, y) power(x, y);
+            Mul ["*" "*"] [8 left] [numbers Integer] (x, y) within_range(x.checked_mul(y));
+            Div ["/" "/"] [8 left] [numbers Integer] (x, y) quotient(x, y);
+            Neg ["-" "-"] [7 left] [numbers Integer] (x) within_range(x.checked_neg());
+            Add ["+" "+"] [7 left] [numbers Integer] (x, y) within_range(x.checked_add(y));
+            Sub ["-" "-"] [7 left] [numbers Integer] (x, y) within_range(x.checked_sub(y));
+            Lt [".LT." "<"] [6 neither] [numbers Logical] (x, y) Ok(Value::Truth(x < y));
+            Le [".LE." "<="] [6 neither] [numbers Logical] (x, y) Ok(Value::Truth(x <= y));
+            Eq [".EQ." "=="] [6 neither] [numbers Logical] (x, y) Ok(Value::Truth(x == y));
+            Ne [".NE." "/="] [6 neither] [numbers Logical] (x, y) Ok(Value::Truth(x != y));
+            Gt [".GT." ">"] [6 neither] [numbers Logical] (x, y) Ok(Value::Truth(x > y));
+            Ge [".GE." ">="] [6 neither] [numbers Logical] (x, y) Ok(Value::Truth(x >= y));
+            Not [".NOT." ".NOT."] [5 left] [truths Logical] (x) Ok(Value::Truth(!x));
+            And [".AND." ".AND."] [4 left] [truths Logical] (x, y) Ok(Value::Truth(x && y));
+            Or [".OR." ".OR."] [3 left] [truths Logical] (x, y) Ok(Value::Truth(x || y));
+            Eqv [".EQV." ".EQV."] [2 left] [truths Logical] (x, y) Ok(Value::Truth(x == y));
+            Neqv [".NEQV." ".NEQV."] [2 left] [truths Logical] (x, y) Ok(Value::Truth(x != y));
         }
     };
-    (@spell77 ($op:tt) $($variant:ident $old:literal $new:literal $level:literal $kind:ident $operands:ident $names:tt $value:expr;)*) => {
-        match $op {
-            $(Op::$variant => $old,)*
+    (@all () $($op:ident $spelled:tt $groups:tt $kinds:tt $at:tt $value:expr;)*) => {
+        [$(Op::$op),*]
+    };
+    (@spell77 ($o:tt) $($op:ident [$old:literal $new:literal] $groups:tt $kinds:tt $at:tt $value:expr;)*) => {
+        match $o {
+            $(Op::$op => $old,)*
         }
     };
-    (@spell90 ($op:tt) $($variant:ident $old:literal $new:literal $level:literal $kind:ident $operands:ident $names:tt $value:expr;)*) => {
-        match $op {
-            $(Op::$variant => $new,)*
+    (@spell90 ($o:tt) $($op:ident [$old:literal $new:literal] $groups:tt $kinds:tt $at:tt $value:expr;)*) => {
+        match $o {
+            $(Op::$op => $new,)*
         }
     };
-    (@level ($op:tt) $($variant:ident $old:literal $new:literal $level:literal $kind:ident $operands:ident $names:tt $value:expr;)*) => {
-        match $op {
-            $(Op::$variant => $level,)*
+    (@level ($o:tt) $($op:ident $spelled:tt [$level:literal $side:ident] $kinds:tt $at:tt $value:expr;)*) => {
+        match $o {
+            $(Op::$op => $level,)*
         }
     };
-    (@kind ($op:tt) $($variant:ident $old:literal $new:literal $level:literal $kind:ident $operands:ident $names:tt $value:expr;)*) => {
-        match $op {
-            $(Op::$variant => Kind::$kind,)*
+    (@left ($o:tt) $($op:ident $spelled:tt [$level:literal $side:ident] $kinds:tt $at:tt $value:expr;)*) => {
+        match $o {
+            $(Op::$op => operator_table!(@left_least $side $level),)*
         }
     };
-    (@all () $($variant:ident $old:literal $new:literal $level:literal $kind:ident $operands:ident $names:tt $value:expr;)*) => {
-        [$(Op::$variant),*]
-    };
-    (@between ($op:tt) $($variant:ident $old:literal $new:literal $level:literal $kind:ident $operands:ident $names:tt $value:expr;)*) => {
-        match $op {
-            $(Op::$variant => operator_table!(@stands $names),)*
+    (@right ($o:tt) $($op:ident $spelled:tt [$level:literal $side:ident] $kinds:tt $at:tt $value:expr;)*) => {
+        match $o {
+            $(Op::$op => operator_table!(@right_least $side $level),)*
         }
     };
-    (@stands ($x:ident, $y:ident)) => {
+    (@operands ($o:tt) $($op:ident $spelled:tt $groups:tt [$operands:ident $kind:ident] $at:tt $value:expr;)*) => {
+        match $o {
+            $(Op::$op => operator_table!(@kind_of $operands),)*
+        }
+    };
+    (@result ($o:tt) $($op:ident $spelled:tt $groups:tt [$operands:ident $kind:ident] $at:tt $value:expr;)*) => {
+        match $o {
+            $(Op::$op => Kind::$kind,)*
+        }
+    };
+    (@relation ($o:tt) $($op:ident $spelled:tt $groups:tt [$operands:ident $kind:ident] $at:tt $value:expr;)*) => {
+        match $o {
+            $(Op::$op => operator_table!(@compares $operands $kind),)*
+        }
+    };
+    (@sign ($o:tt) $($op:ident $spelled:tt $groups:tt [$operands:ident $kind:ident] $at:tt $value:expr;)*) => {
+        match $o {
+            $(Op::$op => operator_table!(@takes_numbers $operands),)*
+        }
+    };
+    (@between ($o:tt) $($op:ident $spelled:tt $groups:tt $kinds:tt $at:tt $value:expr;)*) => {
+        match $o {
+            $(Op::$op => operator_table!(@are_two $at),)*
+        }
+    };
+    (@value ($o:tt $a:tt $b:tt) $($op:ident $s:tt $groups:tt [$operands:ident $kind:ident] $at:tt $value:expr;)*) => {
+        match $o {
+            $(Op::$op => operator_table!(@$operands $a $b $at $value),)*
+        }
+    };
+    (@left_least left $level:literal) => {
+        $level
+    };
+    (@left_least $side:ident $level:literal) => {
+        $level + 1
+    };
+    (@right_least right $level:literal) => {
+        $level
+    };
+    (@right_least $side:ident $level:literal) => {
+        $level + 1
+    };
+    (@kind_of numbers) => {
+        Kind::Integer
+    };
+    (@kind_of truths) => {
+        Kind::Logical
+    };
+    (@takes_numbers numbers) => {
         true
     };
-    (@stands ($x:ident)) => {
+    (@takes_numbers truths) => {
         false
     };
-    (@value ($op:tt $a:tt $b:tt) $($variant:ident $old:literal $new:literal $level:literal $kind:ident $operands:ident $names:tt $value:expr;)*) => {
-        match $op {
-            $(Op::$variant => operator_table!(@$operands $a $b $names $value),)*
-        }
+    (@compares numbers Logical) => {
+        true
+    };
+    (@compares $operands:ident $kind:ident) => {
+        false
+    };
+    (@are_two ($x:ident, $y:ident)) => {
+        true
+    };
+    (@are_two ($x:ident)) => {
+        false
     };
     (@numbers $a:tt $b:tt ($x:ident, $y:ident) $value:expr) => {
         match ($a, $b) {
             (Value::Int($x), Value::Int($y)) => $value,
-            _ => unreachable!(),
+            _ => Err(Fault::Shape),
         }
     };
-    (@number $a:tt $b:tt ($x:ident) $value:expr) => {
+    (@numbers $a:tt $b:tt ($x:ident) $value:expr) => {
         match $a {
             Value::Int($x) => $value,
-            Value::Truth(_) => unreachable!(),
+            Value::Truth(_) => Err(Fault::Shape),
         }
     };
     (@truths $a:tt $b:tt ($x:ident, $y:ident) $value:expr) => {
         match ($a, $b) {
             (Value::Truth($x), Value::Truth($y)) => $value,
-            _ => unreachable!(),
+            _ => Err(Fault::Shape),
         }
     };
-    (@truth $a:tt $b:tt ($x:ident) $value:expr) => {
+    (@truths $a:tt $b:tt ($x:ident) $value:expr) => {
         match $a {
             Value::Truth($x) => $value,
-            Value::Int(_) => unreachable!(),
+            Value::Int(_) => Err(Fault::Shape),
         }
     };
 }
 
 // A number that was exact, or nothing where it was outside 128 bits.
-fn within_range(exact: Option<i128>) -> Result<Value, Fault>
+pub(crate) fn within_range(exact: Option<i128>) -> Result<Value, Fault>
     ensures { MatchOption exact (result ≡ Err Fault.Overflow) (λ z. result ≡ Ok (Value.Int z)) }
 {
     exact.map(Value::Int).ok_or(Fault::Overflow)
@@ -211,7 +284,8 @@ fn power_of_minus_one(b: i128) -> Result<Value, Fault>
     Ok(Value::Int(-1))
 }
 
-const OPERATORS: [Op; 17] = operator_table!(all);
+/// Each operator once.
+pub const OPERATORS: [Op; 17] = operator_table!(all);
 
 fn find77(text: &[u8], between: bool) -> Option<Op>
     ensures { result ≡ find (is_spelled spelling77_of text.now between) OPERATORS }
@@ -232,7 +306,8 @@ fn find90(text: &[u8], between: bool) -> Option<Op>
 }
 
 impl Op {
-    /// The operator that is so spelled in FORTRAN 77, between two operands or before one: `-` is `Sub` there and `Neg` here.
+    /// The operator that is so spelled in FORTRAN 77, between two operands or before one: `-` is `Sub` there and `Neg`
+    /// here.
     pub fn read77(text: &[u8], between: bool) -> Option<Op>
         ensures spelled { IfSome result (IsSpelled spelling77_of text.now between) }
         ensures every { (op : Op) → IsSpelled spelling77_of text.now between op → result ≡ Some op }
@@ -240,7 +315,8 @@ impl Op {
         find77(text, between)
     }
 
-    /// The operator that is so spelled in Fortran 90, between two operands or before one: `-` is `Sub` there and `Neg` here.
+    /// The operator that is so spelled in Fortran 90, between two operands or before one: `-` is `Sub` there and `Neg`
+    /// here.
     pub fn read90(text: &[u8], between: bool) -> Option<Op>
         ensures spelled { IfSome result (IsSpelled spelling90_of text.now between) }
         ensures every { (op : Op) → IsSpelled spelling90_of text.now between op → result ≡ Some op }
@@ -288,23 +364,59 @@ impl Op {
         operator_table!(level self)
     }
 
+    /// The least level of the operand to its left.
+    pub fn left_least(self) -> u8
+        ensures { result ≡ left_least self }
+    {
+        operator_table!(left self)
+    }
+
+    /// The least level of the operand to its right.
+    pub fn right_least(self) -> u8
+        ensures { result ≡ right_least self }
+    {
+        operator_table!(right self)
+    }
+
+    /// Whether an operand that begins with a plus or minus sign may stand behind it.
+    pub fn takes_sign(self) -> bool
+        ensures { result ≡ takes_sign self }
+    {
+        operator_table!(sign self)
+    }
+
+    /// Whether it compares two numbers.
+    pub fn is_relation(self) -> bool
+        ensures { result ≡ is_relation self }
+    {
+        operator_table!(relation self)
+    }
+
+    /// The kind of its operands.
+    pub fn operand_kind(self) -> Kind
+        ensures { result ≡ operand_kind self }
+    {
+        operator_table!(operands self)
+    }
+
     /// The kind of its values.
     pub fn result_kind(self) -> Kind
         ensures { result ≡ result_kind_of self }
     {
-        operator_table!(kind self)
+        operator_table!(result self)
     }
 
     /// The operator at its operands (ANSI X3.9-1978, sections 6.1, 6.3 and 6.4). `Neg` and `Not` don't look at `b`.
     ///
-    /// Division truncates towards zero, and a negative power is one divided by the power.
-    #[tactic(auto, using(crate::proofs::Laws::apply_laws))]
+    /// Division truncates towards zero, and a negative power is one divided by the power. Operands of a kind that it
+    /// doesn't take fault as `Shape`.
+    #[tactic(auto, using(crate::proofs::Faults::apply_laws))]
     pub fn apply(self, a: Value, b: Value) -> Result<Value, Fault>
-        requires { IsTrue (suits self a b) }
         ensures value { result ≡ apply self a b }
         ensures overflow { IsErrOf result Fault.Overflow ↔ LeavesRange (exact self a b) }
         ensures zero_divide { IsErrOf result Fault.ZeroDivide ↔ DividesByZero self a b }
-        ensures only_these { IfErr result IsArithmeticFault }
+        ensures shape { IsErrOf result Fault.Shape ↔ ¬ IsTrue (suits self a b) }
+        ensures only_these { IfErr result IsOperationFault }
         ensures kind { IfOk result (λ value. kind_of value ≡ result_kind_of self) }
     {
         self.operate(a, b)
@@ -312,104 +424,9 @@ impl Op {
 
     #[tactic(auto, using(crate::proofs::Exact::exact))]
     fn operate(self, a: Value, b: Value) -> Result<Value, Fault>
-        requires { IsTrue (suits self a b) }
         ensures { result ≡ apply self a b }
     {
         operator_table!(value self a b)
-    }
-}
-
-/// The functions (ANSI X3.9-1978, section 15.10): ABS and IABS, MOD, MAX and MAX0, MIN and MIN0.
-#[derive(Clone, Copy, Debug, PartialEq, Eq)]
-pub enum Fun {
-    Abs,
-    Mod,
-    Max,
-    Min,
-}
-
-fn number_of(value: Value) -> i128
-    requires { IsNumber value }
-    ensures { result ≡ number_in value }
-{
-    match value {
-        Value::Int(number) => number,
-        Value::Truth(_) => unreachable!(),
-    }
-}
-
-#[tactic(auto, using(crate::proofs::Functions::absolutes))]
-fn absolute(a: i128) -> Result<Value, Fault>
-    ensures { result ≡ number (pos (nat_abs a)) }
-{
-    within_range(a.checked_abs())
-}
-
-#[tactic(auto, using(crate::proofs::Functions::remainders))]
-fn remainder(a: i128, b: i128) -> Result<Value, Fault>
-    ensures { result ≡ ranged (remainder a b) }
-{
-    if b == 0 {
-        return Err(Fault::ZeroDivide);
-    }
-    Ok(Value::Int(a.wrapping_rem(b)))
-}
-
-#[tactic(auto, using(crate::proofs::Functions::calls))]
-fn greatest(args: &[Value]) -> i128
-    requires count { 2 ≤ length args.now }
-    requires numbers { All IsNumber args.now }
-    ensures { call Fun.Max args.now ≡ Ok (Value.Int result) }
-{
-    let mut best = number_of(args[0]);
-    for value in args {
-        best = best.max(number_of(*value));
-    }
-    best
-}
-
-#[tactic(auto, using(crate::proofs::Functions::calls))]
-fn least(args: &[Value]) -> i128
-    requires count { 2 ≤ length args.now }
-    requires numbers { All IsNumber args.now }
-    ensures { call Fun.Min args.now ≡ Ok (Value.Int result) }
-{
-    let mut best = number_of(args[0]);
-    for value in args {
-        best = best.min(number_of(*value));
-    }
-    best
-}
-
-impl Fun {
-    /// The function at its arguments (ANSI X3.9-1978, section 15.10).
-    ///
-    /// MOD of `a` and `b` is `a - (a / b) * b`, also where `a / b` alone is outside 128 bits.
-    #[tactic(auto, using(crate::proofs::Laws::call_laws))]
-    pub fn apply(self, args: &[Value]) -> Result<Value, Fault>
-        requires count { SuitsCount self (length args.now) }
-        requires numbers { All IsNumber args.now }
-        ensures value { result ≡ call self args.now }
-        ensures overflow { IsErrOf result Fault.Overflow ↔ LeavesRange (exact_of_values self args.now) }
-        ensures zero_divide { IsErrOf result Fault.ZeroDivide ↔ CallDividesByZero self args.now }
-        ensures only_these { IfErr result IsArithmeticFault }
-        ensures kind { IfOk result (λ value. kind_of value ≡ Kind.Integer) }
-    {
-        self.operate(args)
-    }
-
-    #[tactic(auto, using(crate::proofs::Functions::calls))]
-    fn operate(self, args: &[Value]) -> Result<Value, Fault>
-        requires count { SuitsCount self (length args.now) }
-        requires numbers { All IsNumber args.now }
-        ensures { result ≡ call self args.now }
-    {
-        match self {
-            Fun::Abs => absolute(number_of(args[0])),
-            Fun::Mod => remainder(number_of(args[0]), number_of(args[1])),
-            Fun::Max => Ok(Value::Int(greatest(args))),
-            Fun::Min => Ok(Value::Int(least(args))),
-        }
     }
 }
 
@@ -420,12 +437,6 @@ mod tests {
     macro_rules! gives {
         ($rt:ident; $($op:ident $a:expr, $b:expr => $want:expr;)*) => {
             $(assert_eq!($rt; Op::$op.apply(Value::Int($a), Value::Int($b)), $want);)*
-        };
-    }
-
-    macro_rules! calls {
-        ($rt:ident; $($function:ident [$($argument:expr),*] => $want:expr;)*) => {
-            $(assert_eq!($rt; Fun::$function.apply(&[$(Value::Int($argument)),*]), $want);)*
         };
     }
 
@@ -478,6 +489,12 @@ mod tests {
         assert_eq!(rt; Op::Neg.apply(Value::Int(3), no), Ok(Value::Int(-3)));
         assert_eq!(rt; Op::Not.apply(no, Value::Int(3)), Ok(Value::Truth(true)));
         assert_eq!(rt; Op::Eqv.apply(no, no), Ok(Value::Truth(true)));
+        assert_eq!(rt; Op::Add.apply(no, no), Err(Fault::Shape));
+        assert_eq!(rt; Op::And.apply(no, Value::Int(3)), Err(Fault::Shape));
+        assert_eq!(rt;
+            (no.as_truth(), no.as_number()),
+            (Ok(false), Err(Fault::Shape))
+        );
         assert_eq!(rt;
             Op::Le.apply(Value::Int(3), Value::Int(3)),
             Ok(Value::Truth(true))
@@ -485,26 +502,19 @@ mod tests {
     }
 
     #[test]
-    #[tactic(auto, using(crate::proofs::Functions::literals))]
-    fn calls_functions(rt: HostRuntime) {
-        calls! { rt;
-            Abs [-5] => Ok(Value::Int(5));
-            Abs [i128::MIN] => Err(Fault::Overflow);
-            Mod [-7, 3] => Ok(Value::Int(-1));
-            Mod [7, -3] => Ok(Value::Int(1));
-            Mod [i128::MIN, -1] => Ok(Value::Int(0));
-            Mod [7, 0] => Err(Fault::ZeroDivide);
-            Max [1, 5, 3] => Ok(Value::Int(5));
-            Min [1, -5, 3] => Ok(Value::Int(-5));
-        }
-    }
-
-    #[test]
     fn spells_and_reads(rt: HostRuntime) {
         assert_eq!(rt; Op::Le.spell77(), ".LE.");
         assert_eq!(rt; Op::Le.spell90(), "<=");
         assert_eq!(rt; Op::Neg.level(), 7);
-        assert_eq!(rt; Op::Ge.result_kind(), Kind::Logical);
+        assert_eq!(rt; (Op::Pow.left_least(), Op::Pow.right_least()), (10, 9));
+        assert_eq!(rt; (Op::Ge.left_least(), Op::Ge.right_least()), (7, 7));
+        assert_eq!(rt; (Op::Sub.left_least(), Op::Sub.right_least()), (7, 8));
+        assert_eq!(rt;
+            (Op::Ge.operand_kind(), Op::Ge.result_kind()),
+            (Kind::Integer, Kind::Logical)
+        );
+        assert!(rt; Op::Ge.is_relation() && !Op::Add.is_relation() && !Op::And.is_relation());
+        assert!(rt; Op::Add.takes_sign() && !Op::And.takes_sign());
         assert_eq!(rt; Op::read77(b"-", true), Some(Op::Sub));
         assert_eq!(rt; Op::read77(b"-", false), Some(Op::Neg));
         assert_eq!(rt; Op::read90(b"/=", true), Some(Op::Ne));

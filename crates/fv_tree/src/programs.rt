@@ -10,7 +10,7 @@ pub struct Dim {
 
 /// A scalar, an array of fixed bounds, or an allocatable array with its number of dimensions.
 #[derive(Debug, Drop)]
-pub enum Form {
+pub enum Extent {
     Scalar,
     Fixed(Seq<Dim>),
     Later(usize),
@@ -20,7 +20,7 @@ pub enum Form {
 pub struct Decl {
     pub name: Name,
     pub kind: Kind,
-    pub form: Form,
+    pub extent: Extent,
 }
 
 /// A FORTRAN 77 program. The declarations stand in byte order of their names.

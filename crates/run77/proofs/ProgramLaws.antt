@@ -1,6 +1,7 @@
 -- What a machine relies on in a program of the profile.
 use Rattle.std.proofs.Common.{◌≡◌, sym, map, ap, ◌∙◌, subst, ℕ, ℤ, ◌+◌, ◌≤◌, false, List, [], ◌∷◌, arith}
 use Rattle.std.specs.List.{AllByRecursion}
+use Rattle.std.proofs.lemmas.Int.{ints}
 use Rattle.std.specs.Prelude.{sum_by, ◌^◌}
 use Rattle.std.specs.Str.{bytes_eq}
 use Rattle.std.specs.Ordering.{nat_cmp, is_eq}
@@ -12,11 +13,13 @@ use Rattle.fv_tree.specs.Plain.{Declaration, Extent, Given, Later, Program, Stat
 use Rattle.fv_tree.specs.Plain.{GoTo, Stop, Read, Print, Allocate, Deallocate, Arms, no_arms, arm, Block, no_statements}
 use Rattle.fv_tree.specs.Plain.{statement}
 use Rattle.fv_meaning.specs.Names.{IsInByteOrder}
-use Rattle.fv_meaning.specs.Typed77.{dimensions}
-use Rattle.fv_meaning.specs.Profile77.{IsProgram77, IsDeclaration, IsFixed, array_elements, elements_of, Surroundings}
-use Rattle.fv_meaning.specs.Profile77.{IsStatement, AreArms, IsBlock, before_labels, labels_of, within_loop}
+use Rattle.fv_meaning.specs.Typed.{dimensions}
+use Rattle.fv_meaning.specs.Dialect.{fortran77}
+use Rattle.fv_meaning.specs.Blocks.{Surroundings, before_labels, labels_of, within_loop}
+use Rattle.fv_meaning.specs.Profile77.{IsProgram77, IsDeclaration, IsDimension, IsFixed, array_elements, elements_of}
+use Rattle.fv_meaning.specs.Profile77.{IsStatement, AreArms, IsBlock}
 use Rattle.fv_machine.specs.Statements.{HasArms, ArmsHaveArms, BlockHasArms}
-use Rattle.fv_machine.specs.Storage.{AreArrays, AreBounds, HasBounds, AreDistinct}
+use Rattle.fv_machine.specs.Storage.{AreArrays, AreBounds, IsBounded, HasBounds, AreDistinct}
 
 mutual
   statement_has_arms : (ds : List Declaration) (c : Statement) (w : Surroundings) → IsStatement ds c w → HasArms c
@@ -49,18 +52,26 @@ few_elements (b ∷ bs) others l = omega arith
 abbrev counted : Declaration → ℕ
 counted d = array_elements (dimensions d.extent)
 
+one_bounded : (b : ℤ × ℤ) → IsDimension fortran77 b → IsBounded b
+one_bounded b h = (let a = h.above in let c = h.ordered in let d = h.below in
+    record { above = omega (arith, ints); ordered = c; below = omega (arith, ints) })
+
+bounded : (bs : List (ℤ × ℤ)) → AllByRecursion (IsDimension fortran77) bs → AllByRecursion IsBounded bs
+bounded [] h = tt
+bounded (b ∷ bs) h = (one_bounded b h.0, bounded bs h.1)
+
 fixed_bounds : (e : Extent) → IsFixed e → AreBounds (dimensions e) → HasBounds e
 fixed_bounds (Given bs) f h = h
 fixed_bounds (Later n) f h = absurd f
 
-arrays : (ds : List Declaration) → AllByRecursion IsDeclaration ds → sum_by counted ds ≤ 2 ^ 22 → AreArrays ds
+arrays : (ds : List Declaration) → AllByRecursion (IsDeclaration fortran77) ds → sum_by counted ds ≤ 2 ^ 22 → AreArrays ds
 arrays [] h l = tt
 arrays (d ∷ ds) h l =
     let all : sum_by counted (d ∷ ds) ≡ counted d + sum_by counted ds = sum_by-cons counted d ds in
     let few : elements_of (dimensions d.extent) ≤ 2 ^ 22 = few_elements (dimensions d.extent) (sum_by counted ds) (let sum : counted d + sum_by counted ds ≤ 2 ^ 22 = omega (arith, all, l) in sum) in
-    (fixed_bounds d.extent h.0.fixed (record { each = h.0.dimension; dimensions = h.0.few; few = few }), arrays ds h.1 (omega (arith, all, l)))
+    (fixed_bounds d.extent h.0.fixed (record { each = bounded (dimensions d.extent) h.0.dimension; dimensions = h.0.few; few = few }), arrays ds h.1 (omega (arith, all, l)))
 
-pub are_arrays : (p : Program) → IsProgram77 p → AreArrays p.declarations
+pub are_arrays : (p : Program) → IsProgram77 fortran77 p → AreArrays p.declarations
 are_arrays p h = arrays p.declarations h.declarations.each (subst (λ n. n ≤ 2 ^ 22) (sum-map counted p.declarations) h.declarations.elements)
 
 -- a name is none of those after it in byte order
@@ -72,5 +83,5 @@ distinct : (ds : List Declaration) → IsInByteOrder (map (λ (d : Declaration).
 distinct [] h = tt
 distinct (d ∷ ds) h = (apart d.name ds h.0, distinct ds h.1)
 
-pub are_distinct : (p : Program) → IsProgram77 p → AreDistinct p.declarations
+pub are_distinct : (p : Program) → IsProgram77 fortran77 p → AreDistinct p.declarations
 are_distinct p h = distinct p.declarations h.declarations.ordered

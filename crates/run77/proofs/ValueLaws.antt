@@ -17,8 +17,8 @@ use Rattle.fv_tree.specs.Operators.{apply, call, as_number}
 use Rattle.fv_tree.specs.Plain as P
 use Rattle.fv_tree.specs.View.{expression_of, subscript_of, reference_of}
 use Rattle.fv_tree.specs.declared.ops.Op.{Op}
-use Rattle.fv_tree.specs.declared.ops.Fun.{Fun}
-use Rattle.fv_tree.specs.declared.ops.Red.{Red}
+use Rattle.fv_tree.specs.declared.functions.Fun.{Fun}
+use Rattle.fv_tree.specs.declared.functions.Red.{Red}
 use Rattle.fv_tree.specs.declared.exprs.Turn.{Turn}
 use Rattle.fv_tree.specs.declared.ops.Value.{Value}
 use Rattle.fv_tree.specs.declared.ops.Value.TheVariants.{Int, Truth}
@@ -40,10 +40,10 @@ use Rattle.fv_machine.specs.Stored.{Finds, IsOf, bounds_here}
 use Rattle.run77.specs.Values.{call_of, offset_of}
 use Rattle.fv_machine.proofs.StoreLaws.{store-bounds, store-held, within_offset, offset_below}
 use Rattle.fv_machine.specs.declared.variables.Variable.{Variable}
-use Rattle.fv_machine.specs.declared.operations.Arguments.{Arguments}
-use Rattle.fv_machine.specs.declared.operations.Arguments.TheVariants.{Empty}
-use Rattle.fv_machine.specs.Arguments.{added, finished}
-use Rattle.fv_machine.proofs.Calls.{finished_is}
+use Rattle.fv_tree.specs.declared.arguments.Arguments.{Arguments}
+use Rattle.fv_tree.specs.declared.arguments.Arguments.TheVariants.{Empty}
+use Rattle.fv_tree.specs.Arguments.{added, finished}
+use Rattle.fv_tree.proofs.Calls.{finished_is}
 
 -- ---- expressions
 

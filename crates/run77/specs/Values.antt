@@ -3,7 +3,7 @@ use Rattle.std.specs.Prelude.{Result, Ok, Option, ℕ, ℤ, List}
 use Rattle.fv_tree.specs.Steps.{◌>>=◌}
 use Rattle.fv_tree.specs.Operators.{call}
 use Rattle.fv_tree.specs.Plain.{Expressions, Subscripts}
-use Rattle.fv_tree.specs.declared.ops.Fun.{Fun}
+use Rattle.fv_tree.specs.declared.functions.Fun.{Fun}
 use Rattle.fv_tree.specs.declared.ops.Value.{Value}
 use Rattle.fv_tree.specs.declared.ops.Fault.{Fault}
 use Rattle.fv_meaning.specs.Dialect.{Dialect}

@@ -12,7 +12,7 @@ ghost use Rattle.fv_machine.specs.Loops.{BeginsLoop, increased};
 ghost use Rattle.run77.specs.Moments.{seen};
 
 use crate::moment::Moment;
-use fv_machine::{Halt, Turns, add, as_number, at, check_range, increment, trip_count};
+use fv_machine::{Halt, Turns, add, at, check_range, increment, trip_count};
 use fv_tree::{Expr, Fault, Name, Ref, Value};
 
 impl Moment {
@@ -30,7 +30,7 @@ impl Moment {
         ensures { (c : Cell) → place (names_in self.now.storage) c.name c.subscripts ≡ Some at
             → result ≡ increased ((store_in self.now.storage).held c) step }
     {
-        add(as_number(self.storage.value(at))?, step)
+        add(self.storage.value(at).as_number()?, step)
     }
 
     /// An assignment: the right side, the left subscripts, the bounds, the range, the store.
@@ -65,7 +65,7 @@ impl Moment {
     fn parameter(&self, expr: &Expr) -> Result<i128, Fault>
         ensures { result ≡ number_of fortran77 (expression_of expr.now) (store_in self.now.storage) }
     {
-        as_number(self.value(expr)?)
+        self.value(expr)?.as_number()
     }
 
     // The value of a third parameter.

@@ -44,7 +44,7 @@ impl Machine77 {
     /// Takes all the memory that runs need.
     #[tactic(auto, using(crate::proofs::ProgramLaws::are_arrays, crate::proofs::ProgramLaws::are_distinct))]
     pub fn new(alloc: Global, program: Program77) -> Result<Machine77, Memory>
-        requires { IsProgram77 (program_of program) }
+        requires { IsProgram77 fortran77 (program_of program) }
         ensures machine { IfOk result (IsMachineOf (program_of program)) }
         ensures opened { IfOk result (λ m. store_left m ≡ opening_store (program_of program)) }
     {
@@ -75,10 +75,10 @@ impl Machine77 {
 
     /// Runs the program over the input, from its opening store on. The output goes out as it comes.
     pub fn run<K: Sink>(&mut self, input: &[u8], out: &mut K, limit: Option<u64>) -> End
-        ensures run { (p : Program) → IsProgram77 p → IsMachineOf p self.old
+        ensures run { (p : Program) → IsProgram77 fortran77 p → IsMachineOf p self.old
             → Ends p.declarations (run fortran77 limit p input.now)
             (seen self.new.moment) (K.taken out.old) (K.taken out.new) result }
-        ensures machine { (p : Program) → IsProgram77 p → IsMachineOf p self.old → IsMachineOf p self.new }
+        ensures machine { (p : Program) → IsProgram77 fortran77 p → IsMachineOf p self.old → IsMachineOf p self.new }
         ensures fault { result ≡ End.WriteFault → Rose (K.faults out.old) (K.faults out.new) }
         ensures later { K.faults out.old ≤ K.faults out.new }
     {

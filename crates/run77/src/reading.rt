@@ -35,7 +35,7 @@ impl Moment {
             return Err(Halt::Fault(Fault::Allocated, line));
         };
         let start = variable.start;
-        let count = elements(dims_of(&variable.decl.form));
+        let count = elements(dims_of(&variable.decl.extent));
         for k in 0..count {
             self.read_into(line, start + k, input)?;
         }

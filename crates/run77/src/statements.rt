@@ -14,7 +14,7 @@ ghost use Rattle.fv_machine.specs.Jumps.{arrived, passed, caught, landed};
 
 use crate::moment::Moment;
 use fv_io::Sink;
-use fv_machine::{Halt, Left, as_truth, at};
+use fv_machine::{Halt, Left, at};
 use fv_tree::{Arm, Block, Expr, Fault, Item, Ref, Seq, Stmt};
 
 fn left(answer: Result<(), Halt>) -> Result<(), Left>
@@ -82,7 +82,7 @@ impl Moment {
     fn truth(&self, test: &Expr) -> Result<bool, Fault>
         ensures { result ≡ truth_of fortran77 (expression_of test.now) (store_in self.now.storage) }
     {
-        as_truth(self.value(test)?)
+        self.value(test)?.as_truth()
     }
 
     fn assignment(&mut self, line: u32, left: &Ref, right: &Expr) -> Result<(), Halt>

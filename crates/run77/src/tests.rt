@@ -5,7 +5,7 @@ ghost use Rattle.fv_machine.specs.Storage.{AreArrays, AreDistinct};
 use crate::Machine77;
 use fv_io::MemSink;
 use fv_meaning::End;
-use fv_tree::{Block, Decl, Dim, Expr, Form, Item, Kind, Name, Op, Ref, Seq, Stmt, Sub};
+use fv_tree::{Block, Decl, Dim, Expr, Extent, Item, Kind, Name, Op, Ref, Seq, Stmt, Sub};
 use std::alloc::Global;
 use std::test::Fail;
 
@@ -36,12 +36,12 @@ fn declarations(alloc: Global) -> Result<Seq<Decl>, Fail>
     decls.push(Decl {
         name: Name::read(b"A").ok_or("A")?,
         kind: Kind::Integer,
-        form: Form::Fixed(dims),
+        extent: Extent::Fixed(dims),
     })?;
     decls.push(Decl {
         name: Name::read(b"I").ok_or("I")?,
         kind: Kind::Integer,
-        form: Form::Scalar,
+        extent: Extent::Scalar,
     })?;
     Ok(decls)
 }

@@ -9,8 +9,8 @@ ghost use Rattle.fv_machine.specs.Stored.{names_in, store_in, Finds};
 ghost use Rattle.run77.specs.Values.{call_of, offset_of};
 
 use crate::moment::Moment;
-use fv_machine::{Arguments, Subscripts, apply, as_number, dims_of, offset};
-use fv_tree::{Dim, Expr, Fault, Fun, Ref, Seq, Sub, Value};
+use fv_machine::{Subscripts, dims_of, offset};
+use fv_tree::{Arguments, Dim, Expr, Fault, Fun, Ref, Seq, Sub, Value};
 
 impl Moment {
     /// The value of an expression. The left operand of two is evaluated first, and the first fault wins.
@@ -25,12 +25,12 @@ impl Moment {
             Expr::Item(item) => Ok(self.storage.value(self.place(item)?)),
             Expr::Un(op, a) => {
                 let x = self.value(a)?;
-                apply(*op, x, x)
+                op.apply(x, x)
             }
             Expr::Bin(op, a, b) => {
                 let x = self.value(a)?;
                 let y = self.value(b)?;
-                apply(*op, x, y)
+                op.apply(x, y)
             }
             Expr::Call(function, arguments) => self.call(*function, arguments),
             Expr::List(..) => Err(Fault::Shape),
@@ -66,7 +66,7 @@ impl Moment {
             self.offset(&item.subs, &[])?;
             return Err(Fault::Allocated);
         };
-        let Some(offset) = self.offset(&item.subs, dims_of(&variable.decl.form))? else {
+        let Some(offset) = self.offset(&item.subs, dims_of(&variable.decl.extent))? else {
             return Err(Fault::Bounds);
         };
         Ok(variable.start + offset)
@@ -92,7 +92,7 @@ impl Moment {
         ensures { result ≡ subscript_value fortran77 (subscript_of sub.now) (store_in self.now.storage) }
     {
         match sub {
-            Sub::One(expr) => as_number(self.value(expr)?),
+            Sub::One(expr) => self.value(expr)?.as_number(),
             Sub::Part(..) => Err(Fault::Shape),
         }
     }

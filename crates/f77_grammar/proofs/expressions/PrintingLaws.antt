@@ -10,11 +10,11 @@ use Rattle.std.proofs.lemmas.Str.Parse.{IsNumeralModel, numerals_by_fold}
 use Rattle.fv_tree.specs.declared.ops.Op.{Op}
 use Rattle.fv_tree.specs.declared.ops.Op.TheVariants.{Pow, Mul, Neg, Sub, Not}
 use Rattle.fv_tree.specs.Plain.{Expression, Number, Logic, Named, Unary, Binary, Apply, Constructor, Spread, Transpose, Reshape, Reduce, Subscript, Only, Section, Subscripts, no_subscripts, subscript, subscripts}
-use Rattle.f77_grammar.specs.expressions.Levels.{Sign, Plus, Minus, Negation, left_least, right_least, joins, may_follow}
+use Rattle.fv_tree.specs.OperatorTable.{Sign, Plus, Minus, Negation, left_least, right_least, stands_between, may_follow, spelling77_of}
 use Rattle.f77_grammar.specs.expressions.Phrases.{Phrase, Literal, WideLiteral, Truth, Name, Listed, Paren, Signed, Joined, Phrases, One, Then, level, begins_with_sign, written, written_list, tree, trees, sign_word, IsExpression, AreExpressions}
 use Rattle.f77_grammar.specs.expressions.Printing.{IsLiteral, is_negating, IsSource, IsSourceSubscript, AreSource, fit, behind, listed, unary_phrase, phrase_of, subscript_phrase, phrases_of, with_more, digits_of, spelling_of, printed}
 use Rattle.f77_grammar.specs.expressions.Reading.{Spells, IsWide, is_wide}
-use Rattle.f77_grammar.specs.expressions.Spelling.{is_digit, is_letter, is_letter_or_digit, Pass, IsDigits, value, IsName, spelling, Spelled, chars, SpelledBy, Stops, goes_on, Whole, Words}
+use Rattle.f77_grammar.specs.expressions.Spelling.{is_digit, is_letter, is_letter_or_digit, Pass, IsDigits, value, IsName, Spelled, chars, SpelledBy, Stops, goes_on, Whole, Words}
 use Rattle.f77_grammar.specs.expressions.Squeezing.{Symbol, Char, Squeezed, nothing, character, upper}
 use Rattle.f77_grammar.specs.expressions.Words as words
 use Rattle.f77_grammar.specs.expressions.Words.{Word}
@@ -175,12 +175,12 @@ truth_spelled : (b : Bool) → Spelled (words.Truth b) (spelling_of (words.Truth
 truth_spelled true = refl
 truth_spelled false = refl
 
-joins_spelled : (o : Op) → IsTrue (joins o) → Spelled (words.Operator o) (spelling o)
+joins_spelled : (o : Op) → IsTrue (stands_between o) → Spelled (words.Operator o) (spelling77_of o)
 joins_spelled Neg h = cc
 joins_spelled Pow h = refl
 joins_spelled o h = refl
 
-sign_spelled : (s : Sign) → Spelled (words.Operator (sign_word s)) (spelling (sign_word s))
+sign_spelled : (s : Sign) → Spelled (words.Operator (sign_word s)) (spelling77_of (sign_word s))
 sign_spelled Plus = refl
 sign_spelled Minus = refl
 sign_spelled Negation = refl
@@ -270,7 +270,7 @@ digit_stops [] h = tt
 digit_stops (Char c ∷ r) h = goes_digit c h
 digit_stops (s ∷ r) h = tt
 
-operator_stops : (o : Op) (r : List Symbol) → Stops goes_on (chars (spelling o) ++ r)
+operator_stops : (o : Op) (r : List Symbol) → Stops goes_on (chars (spelling77_of o) ++ r)
 operator_stops Pow r = refl
 operator_stops o r = refl
 
@@ -320,8 +320,8 @@ starts (Joined o a b) r h =
 closed : (r : List Symbol) (later : List Word) → Words r later → Words (Char 41 ∷ r) (words.Close ∷ later)
 closed r later k = (r, record { front = Char 41 ∷ []; same = refl; spelled = (codes ")", refl, refl); whole = tt }, k)
 
-operator_by : (o : Op) → Spelled (words.Operator o) (spelling o) → SpelledBy (words.Operator o) (chars (spelling o))
-operator_by o h = (spelling o, refl, h)
+operator_by : (o : Op) → Spelled (words.Operator o) (spelling77_of o) → SpelledBy (words.Operator o) (chars (spelling77_of o))
+operator_by o h = (spelling77_of o, refl, h)
 
 mutual
   phrase_words : (p : Phrase) (r : List Symbol) (later : List Word) → AreSpelled (written p) → Stops goes_on r → Words r later → Words (spelled (written p) r) (written p ++ later)
@@ -343,7 +343,7 @@ mutual
   )
   phrase_words (Signed s p) r later h stop k = (
     _,
-    record { front = chars (spelling (sign_word s)); same = refl; spelled = operator_by (sign_word s) h.0; whole = sign_whole s _ },
+    record { front = chars (spelling77_of (sign_word s)); same = refl; spelled = operator_by (sign_word s) h.0; whole = sign_whole s _ },
     phrase_words p r later h.2 stop k,
   )
   phrase_words (Joined o a b) r later h s k =
@@ -351,7 +351,7 @@ mutual
       apart (written a) (words.Operator o ∷ written b) r later
       (phrase_words a _ (words.Operator o ∷ (written b ++ later)) hs.0 (operator_stops o _) (
         _,
-        record { front = chars (spelling o); same = refl; spelled = operator_by o hs.1.0; whole = operator_whole o _ (starts b r hs.1.2) },
+        record { front = chars (spelling77_of o); same = refl; spelled = operator_by o hs.1.0; whole = operator_whole o _ (starts b r hs.1.2) },
         phrase_words b r later hs.1.2 s k,
       ))
 
@@ -397,7 +397,7 @@ plain_append : (a b : List ℕ) → Pass is_plain a → Pass is_plain b → Pass
 plain_append [] b h k = k
 plain_append (c ∷ a) b h k = (h.0, plain_append a b h.1 k)
 
-operator_plain : (o : Op) → Pass is_plain (spelling o)
+operator_plain : (o : Op) → Pass is_plain (spelling77_of o)
 operator_plain Pow = (refl, (refl, tt))
 operator_plain o = search rules
 

@@ -4,6 +4,7 @@ use lib.Chars.{codes}
 use Rattle.fv_tree.specs.Plain.{Binary, Single, ImpliedDo, items}
 use Rattle.fv_tree.specs.declared.ops.Op.TheVariants.{Add, Eq}
 use Rattle.fv_tree.specs.declared.ops.Kind.TheVariants.{Integer, Logical}
+use Rattle.fv_meaning.specs.Dialect.{fortran77}
 use Rattle.f77_grammar.specs.Statement77.{Labelled, Declare, Constants, Assign, Go, Test, If, Else, EndIf, Do, Continue, Read, Print, End}
 use Rattle.f77_grammar.specs.program.Program77.{findings}
 use Rattle.fv_meaning.proofs.DeckWords.{n, v, to}
@@ -20,7 +21,7 @@ jump_back =
     ∷ s 3 (End)
     ∷ []
 
-jump_back_refused : least (findings jump_back) ≡ Some (refusal 16 2 0)
+jump_back_refused : least (findings fortran77 jump_back) ≡ Some (refusal 16 2 0)
 jump_back_refused = refl
 
 --       I = 1
@@ -33,7 +34,7 @@ jump_to_itself =
     ∷ s 3 (End)
     ∷ []
 
-jump_to_itself_refused : least (findings jump_to_itself) ≡ Some (refusal 16 2 0)
+jump_to_itself_refused : least (findings fortran77 jump_to_itself) ≡ Some (refusal 16 2 0)
 jump_to_itself_refused = refl
 
 --       GO TO 10
@@ -46,7 +47,7 @@ jump_on =
     ∷ s 3 (End)
     ∷ []
 
-jump_on_read : findings jump_on ≡ []
+jump_on_read : findings fortran77 jump_on ≡ []
 jump_on_read = refl
 
 --       GO TO 10
@@ -63,7 +64,7 @@ jump_into_loop =
     ∷ s 5 (End)
     ∷ []
 
-jump_into_loop_refused : least (findings jump_into_loop) ≡ Some (refusal 16 1 0)
+jump_into_loop_refused : least (findings fortran77 jump_into_loop) ≡ Some (refusal 16 1 0)
 jump_into_loop_refused = refl
 
 --       GO TO 10
@@ -80,7 +81,7 @@ jump_over_loop =
     ∷ s 5 (End)
     ∷ []
 
-jump_over_loop_read : findings jump_over_loop ≡ []
+jump_over_loop_read : findings fortran77 jump_over_loop ≡ []
 jump_over_loop_read = refl
 
 --       GO TO 10
@@ -95,7 +96,7 @@ jump_to_do =
     ∷ s 4 (End)
     ∷ []
 
-jump_to_do_read : findings jump_to_do ≡ []
+jump_to_do_read : findings fortran77 jump_to_do ≡ []
 jump_to_do_read = refl
 
 --       DO 20 I = 1, 3
@@ -112,7 +113,7 @@ jump_out_of_loop =
     ∷ s 5 (End)
     ∷ []
 
-jump_out_of_loop_read : findings jump_out_of_loop ≡ []
+jump_out_of_loop_read : findings fortran77 jump_out_of_loop ≡ []
 jump_out_of_loop_read = refl
 
 --       DO 20 I = 1, 3
@@ -129,7 +130,7 @@ jump_to_end_of_loop =
     ∷ s 5 (End)
     ∷ []
 
-jump_to_end_of_loop_read : findings jump_to_end_of_loop ≡ []
+jump_to_end_of_loop_read : findings fortran77 jump_to_end_of_loop ≡ []
 jump_to_end_of_loop_read = refl
 
 --       DO 20 I = 1, 3
@@ -146,7 +147,7 @@ jump_to_shared_end =
     ∷ s 5 (End)
     ∷ []
 
-jump_to_shared_end_refused : least (findings jump_to_shared_end) ≡ Some (refusal 16 2 0)
+jump_to_shared_end_refused : least (findings fortran77 jump_to_shared_end) ≡ Some (refusal 16 2 0)
 jump_to_shared_end_refused = refl
 
 --       GO TO 10
@@ -163,7 +164,7 @@ jump_into_arm =
     ∷ s 5 (End)
     ∷ []
 
-jump_into_arm_refused : least (findings jump_into_arm) ≡ Some (refusal 16 1 0)
+jump_into_arm_refused : least (findings fortran77 jump_into_arm) ≡ Some (refusal 16 1 0)
 jump_into_arm_refused = refl
 
 --       IF (I .EQ. 2) THEN
@@ -182,7 +183,7 @@ jump_into_other_arm =
     ∷ s 6 (End)
     ∷ []
 
-jump_into_other_arm_refused : least (findings jump_into_other_arm) ≡ Some (refusal 16 2 0)
+jump_into_other_arm_refused : least (findings fortran77 jump_into_other_arm) ≡ Some (refusal 16 2 0)
 jump_into_other_arm_refused = refl
 
 --       IF (I .EQ. 2) THEN
@@ -203,7 +204,7 @@ jump_out_of_arm =
     ∷ s 7 (End)
     ∷ []
 
-jump_out_of_arm_read : findings jump_out_of_arm ≡ []
+jump_out_of_arm_read : findings fortran77 jump_out_of_arm ≡ []
 jump_out_of_arm_read = refl
 
 --       IF (I .EQ. 2) THEN
@@ -230,7 +231,7 @@ jump_over_inner_else =
     ∷ s 10 (End)
     ∷ []
 
-jump_over_inner_else_read : findings jump_over_inner_else ≡ []
+jump_over_inner_else_read : findings fortran77 jump_over_inner_else ≡ []
 jump_over_inner_else_read = refl
 
 --       IF (I .EQ. 2) THEN
@@ -245,7 +246,7 @@ jump_to_end_if =
     ∷ s 4 (End)
     ∷ []
 
-jump_to_end_if_refused : least (findings jump_to_end_if) ≡ Some (refusal 16 2 0)
+jump_to_end_if_refused : least (findings fortran77 jump_to_end_if) ≡ Some (refusal 16 2 0)
 jump_to_end_if_refused = refl
 
 --       DO 10 I = 1, 3
@@ -260,7 +261,7 @@ do_variable_assigned =
     ∷ s 4 (End)
     ∷ []
 
-do_variable_assigned_refused : least (findings do_variable_assigned) ≡ Some (refusal 17 2 0)
+do_variable_assigned_refused : least (findings fortran77 do_variable_assigned) ≡ Some (refusal 17 2 0)
 do_variable_assigned_refused = refl
 
 --       DO 10 I = 1, 3
@@ -273,7 +274,7 @@ do_variable_assigned_last =
     ∷ s 3 (End)
     ∷ []
 
-do_variable_assigned_last_refused : least (findings do_variable_assigned_last) ≡ Some (refusal 17 2 0)
+do_variable_assigned_last_refused : least (findings fortran77 do_variable_assigned_last) ≡ Some (refusal 17 2 0)
 do_variable_assigned_last_refused = refl
 
 --       DO 10 I = 1, 3
@@ -288,7 +289,7 @@ do_variable_assigned_after =
     ∷ s 4 (End)
     ∷ []
 
-do_variable_assigned_after_read : findings do_variable_assigned_after ≡ []
+do_variable_assigned_after_read : findings fortran77 do_variable_assigned_after ≡ []
 do_variable_assigned_after_read = refl
 
 --       DO 10 I = 1, 3
@@ -301,7 +302,7 @@ do_variable_read =
     ∷ s 3 (End)
     ∷ []
 
-do_variable_read_refused : least (findings do_variable_read) ≡ Some (refusal 17 2 0)
+do_variable_read_refused : least (findings fortran77 do_variable_read) ≡ Some (refusal 17 2 0)
 do_variable_read_refused = refl
 
 --       DO 10 I = 1, 3
@@ -316,7 +317,7 @@ do_variable_twice =
     ∷ s 4 (End)
     ∷ []
 
-do_variable_twice_refused : least (findings do_variable_twice) ≡ Some (refusal 17 2 0)
+do_variable_twice_refused : least (findings fortran77 do_variable_twice) ≡ Some (refusal 17 2 0)
 do_variable_twice_refused = refl
 
 --       LOGICAL L
@@ -331,7 +332,7 @@ do_variable_logical =
     ∷ s 4 (End)
     ∷ []
 
-do_variable_logical_refused : least (findings do_variable_logical) ≡ Some (refusal 17 2 0)
+do_variable_logical_refused : least (findings fortran77 do_variable_logical) ≡ Some (refusal 17 2 0)
 do_variable_logical_refused = refl
 
 --       INTEGER L(3)
@@ -346,7 +347,7 @@ do_variable_array =
     ∷ s 4 (End)
     ∷ []
 
-do_variable_array_refused : least (findings do_variable_array) ≡ Some (refusal 17 2 0)
+do_variable_array_refused : least (findings fortran77 do_variable_array) ≡ Some (refusal 17 2 0)
 do_variable_array_refused = refl
 
 --       PARAMETER (L = 1)
@@ -361,7 +362,7 @@ do_variable_constant =
     ∷ s 4 (End)
     ∷ []
 
-do_variable_constant_refused : least (findings do_variable_constant) ≡ Some (refusal 17 2 0)
+do_variable_constant_refused : least (findings fortran77 do_variable_constant) ≡ Some (refusal 17 2 0)
 do_variable_constant_refused = refl
 
 --       DO 10 I = 1, 3
@@ -374,7 +375,7 @@ implied_do_variable_of_loop =
     ∷ s 3 (End)
     ∷ []
 
-implied_do_variable_of_loop_refused : least (findings implied_do_variable_of_loop) ≡ Some (refusal 17 2 0)
+implied_do_variable_of_loop_refused : least (findings fortran77 implied_do_variable_of_loop) ≡ Some (refusal 17 2 0)
 implied_do_variable_of_loop_refused = refl
 
 --       DO 10 I = 1, 3
@@ -387,7 +388,7 @@ implied_do_variable_free =
     ∷ s 3 (End)
     ∷ []
 
-implied_do_variable_free_read : findings implied_do_variable_free ≡ []
+implied_do_variable_free_read : findings fortran77 implied_do_variable_free ≡ []
 implied_do_variable_free_read = refl
 
 --       READ *, (I, I = 1, 2)
@@ -398,7 +399,7 @@ implied_do_variable_read_in_list =
     ∷ s 2 (End)
     ∷ []
 
-implied_do_variable_read_in_list_refused : least (findings implied_do_variable_read_in_list) ≡ Some (refusal 17 1 0)
+implied_do_variable_read_in_list_refused : least (findings fortran77 implied_do_variable_read_in_list) ≡ Some (refusal 17 1 0)
 implied_do_variable_read_in_list_refused = refl
 
 --       PRINT *, (J, I = 1, I)
@@ -409,5 +410,5 @@ implied_do_variable_in_bounds =
     ∷ s 2 (End)
     ∷ []
 
-implied_do_variable_in_bounds_read : findings implied_do_variable_in_bounds ≡ []
+implied_do_variable_in_bounds_read : findings fortran77 implied_do_variable_in_bounds ≡ []
 implied_do_variable_in_bounds_read = refl

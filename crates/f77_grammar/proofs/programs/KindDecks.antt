@@ -4,6 +4,7 @@ use lib.Chars.{codes}
 use Rattle.fv_tree.specs.Plain.{Logic, Binary, Single, items}
 use Rattle.fv_tree.specs.declared.ops.Op.TheVariants.{Add, Lt}
 use Rattle.fv_tree.specs.declared.ops.Kind.TheVariants.{Integer, Logical}
+use Rattle.fv_meaning.specs.Dialect.{fortran77}
 use Rattle.f77_grammar.specs.Statement77.{Labelled, Declare, Constants, Assign, Test, Do, Continue, Read, Print, End}
 use Rattle.f77_grammar.specs.program.Program77.{findings}
 use Rattle.fv_meaning.proofs.DeckWords.{n, v, at, to, to_element}
@@ -20,7 +21,7 @@ sum_with_logical =
     ∷ s 3 (End)
     ∷ []
 
-sum_with_logical_refused : least (findings sum_with_logical) ≡ Some (refusal 15 2 0)
+sum_with_logical_refused : least (findings fortran77 sum_with_logical) ≡ Some (refusal 15 2 0)
 sum_with_logical_refused = refl
 
 --       INTEGER L
@@ -33,7 +34,7 @@ sum_with_integer =
     ∷ s 3 (End)
     ∷ []
 
-sum_with_integer_read : findings sum_with_integer ≡ []
+sum_with_integer_read : findings fortran77 sum_with_integer ≡ []
 sum_with_integer_read = refl
 
 --       I = 1 .LT. 2
@@ -44,7 +45,7 @@ relation_assigned =
     ∷ s 2 (End)
     ∷ []
 
-relation_assigned_refused : least (findings relation_assigned) ≡ Some (refusal 15 1 0)
+relation_assigned_refused : least (findings fortran77 relation_assigned) ≡ Some (refusal 15 1 0)
 relation_assigned_refused = refl
 
 --       LOGICAL L
@@ -57,7 +58,7 @@ relation_to_logical =
     ∷ s 3 (End)
     ∷ []
 
-relation_to_logical_read : findings relation_to_logical ≡ []
+relation_to_logical_read : findings fortran77 relation_to_logical ≡ []
 relation_to_logical_read = refl
 
 --       I = MAX(1)
@@ -68,7 +69,7 @@ max_of_one =
     ∷ s 2 (End)
     ∷ []
 
-max_of_one_refused : least (findings max_of_one) ≡ Some (refusal 15 1 0)
+max_of_one_refused : least (findings fortran77 max_of_one) ≡ Some (refusal 15 1 0)
 max_of_one_refused = refl
 
 --       I = MAX(1, 2)
@@ -79,7 +80,7 @@ max_of_two =
     ∷ s 2 (End)
     ∷ []
 
-max_of_two_read : findings max_of_two ≡ []
+max_of_two_read : findings fortran77 max_of_two ≡ []
 max_of_two_read = refl
 
 --       I = ABS(1, 2)
@@ -90,7 +91,7 @@ abs_of_two =
     ∷ s 2 (End)
     ∷ []
 
-abs_of_two_refused : least (findings abs_of_two) ≡ Some (refusal 15 1 0)
+abs_of_two_refused : least (findings fortran77 abs_of_two) ≡ Some (refusal 15 1 0)
 abs_of_two_refused = refl
 
 --       INTEGER K(3)
@@ -103,7 +104,7 @@ logical_subscript =
     ∷ s 3 (End)
     ∷ []
 
-logical_subscript_refused : least (findings logical_subscript) ≡ Some (refusal 15 2 0)
+logical_subscript_refused : least (findings fortran77 logical_subscript) ≡ Some (refusal 15 2 0)
 logical_subscript_refused = refl
 
 --       IF (1) I = 2
@@ -114,7 +115,7 @@ integer_condition =
     ∷ s 2 (End)
     ∷ []
 
-integer_condition_refused : least (findings integer_condition) ≡ Some (refusal 15 1 0)
+integer_condition_refused : least (findings fortran77 integer_condition) ≡ Some (refusal 15 1 0)
 integer_condition_refused = refl
 
 --       IF (.TRUE.) I = 2
@@ -125,7 +126,7 @@ logical_condition =
     ∷ s 2 (End)
     ∷ []
 
-logical_condition_read : findings logical_condition ≡ []
+logical_condition_read : findings fortran77 logical_condition ≡ []
 logical_condition_read = refl
 
 --       INTEGER K(3)
@@ -138,7 +139,7 @@ whole_array_in_sum =
     ∷ s 3 (End)
     ∷ []
 
-whole_array_in_sum_refused : least (findings whole_array_in_sum) ≡ Some (refusal 15 2 0)
+whole_array_in_sum_refused : least (findings fortran77 whole_array_in_sum) ≡ Some (refusal 15 2 0)
 whole_array_in_sum_refused = refl
 
 --       INTEGER K(3)
@@ -151,7 +152,7 @@ whole_array_assigned =
     ∷ s 3 (End)
     ∷ []
 
-whole_array_assigned_refused : least (findings whole_array_assigned) ≡ Some (refusal 15 2 0)
+whole_array_assigned_refused : least (findings fortran77 whole_array_assigned) ≡ Some (refusal 15 2 0)
 whole_array_assigned_refused = refl
 
 --       INTEGER K(3)
@@ -164,7 +165,7 @@ whole_array_printed =
     ∷ s 3 (End)
     ∷ []
 
-whole_array_printed_read : findings whole_array_printed ≡ []
+whole_array_printed_read : findings fortran77 whole_array_printed ≡ []
 whole_array_printed_read = refl
 
 --       MAX(1, 2) = 3
@@ -175,7 +176,7 @@ call_assigned =
     ∷ s 2 (End)
     ∷ []
 
-call_assigned_refused : least (findings call_assigned) ≡ Some (refusal 15 1 0)
+call_assigned_refused : least (findings fortran77 call_assigned) ≡ Some (refusal 15 1 0)
 call_assigned_refused = refl
 
 --       DO 10 I = 1, .TRUE.
@@ -188,7 +189,7 @@ logical_loop_bound =
     ∷ s 3 (End)
     ∷ []
 
-logical_loop_bound_refused : least (findings logical_loop_bound) ≡ Some (refusal 15 1 0)
+logical_loop_bound_refused : least (findings fortran77 logical_loop_bound) ≡ Some (refusal 15 1 0)
 logical_loop_bound_refused = refl
 
 --       PARAMETER (N = .TRUE.)
@@ -199,7 +200,7 @@ logical_constant_of_integer_name =
     ∷ s 2 (End)
     ∷ []
 
-logical_constant_of_integer_name_refused : least (findings logical_constant_of_integer_name) ≡ Some (refusal 15 1 0)
+logical_constant_of_integer_name_refused : least (findings fortran77 logical_constant_of_integer_name) ≡ Some (refusal 15 1 0)
 logical_constant_of_integer_name_refused = refl
 
 --       LOGICAL N
@@ -212,7 +213,7 @@ logical_constant =
     ∷ s 3 (End)
     ∷ []
 
-logical_constant_read : findings logical_constant ≡ []
+logical_constant_read : findings fortran77 logical_constant ≡ []
 logical_constant_read = refl
 
 --       INTEGER MAX
@@ -225,7 +226,7 @@ list_after_hiding_scalar =
     ∷ s 3 (End)
     ∷ []
 
-list_after_hiding_scalar_refused : least (findings list_after_hiding_scalar) ≡ Some (refusal 15 2 0)
+list_after_hiding_scalar_refused : least (findings fortran77 list_after_hiding_scalar) ≡ Some (refusal 15 2 0)
 list_after_hiding_scalar_refused = refl
 
 --       INTEGER ABS
@@ -240,7 +241,7 @@ variable_abs_beside_iabs =
     ∷ s 4 (End)
     ∷ []
 
-variable_abs_beside_iabs_refused : least (findings variable_abs_beside_iabs) ≡ Some (refusal 15 3 0)
+variable_abs_beside_iabs_refused : least (findings fortran77 variable_abs_beside_iabs) ≡ Some (refusal 15 3 0)
 variable_abs_beside_iabs_refused = refl
 
 --       INTEGER ABS
@@ -255,7 +256,7 @@ variable_abs_beside_nothing =
     ∷ s 4 (End)
     ∷ []
 
-variable_abs_beside_nothing_read : findings variable_abs_beside_nothing ≡ []
+variable_abs_beside_nothing_read : findings fortran77 variable_abs_beside_nothing ≡ []
 variable_abs_beside_nothing_read = refl
 
 --       INTEGER ABS
@@ -270,7 +271,7 @@ constant_abs_beside_iabs =
     ∷ s 4 (End)
     ∷ []
 
-constant_abs_beside_iabs_read : findings constant_abs_beside_iabs ≡ []
+constant_abs_beside_iabs_read : findings fortran77 constant_abs_beside_iabs ≡ []
 constant_abs_beside_iabs_read = refl
 
 --       READ *, MAX(1, 2)
@@ -281,5 +282,5 @@ read_into_call =
     ∷ s 2 (End)
     ∷ []
 
-read_into_call_refused : least (findings read_into_call) ≡ Some (refusal 15 1 0)
+read_into_call_refused : least (findings fortran77 read_into_call) ≡ Some (refusal 15 1 0)
 read_into_call_refused = refl

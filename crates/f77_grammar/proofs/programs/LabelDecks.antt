@@ -3,6 +3,7 @@ use Rattle.std.proofs.Common.{◌≡◌, refl, List, [], ◌∷◌, Some}
 use lib.Chars.{codes}
 use Rattle.fv_tree.specs.Plain.{Binary}
 use Rattle.fv_tree.specs.declared.ops.Op.TheVariants.{Eq}
+use Rattle.fv_meaning.specs.Dialect.{fortran77}
 use Rattle.f77_grammar.specs.Statement77.{Labelled, Assign, Go, Test, Do, Continue, End}
 use Rattle.f77_grammar.specs.program.Program77.{findings}
 use Rattle.fv_meaning.proofs.DeckWords.{n, v, to}
@@ -17,7 +18,7 @@ label_zero =
     ∷ s 2 (End)
     ∷ []
 
-label_zero_refused : least (findings label_zero) ≡ Some (refusal 10 1 0)
+label_zero_refused : least (findings fortran77 label_zero) ≡ Some (refusal 10 1 0)
 label_zero_refused = refl
 
 --     1 CONTINUE
@@ -28,7 +29,7 @@ label_one =
     ∷ s 2 (End)
     ∷ []
 
-label_one_read : findings label_one ≡ []
+label_one_read : findings fortran77 label_one ≡ []
 label_one_read = refl
 
 --    10 CONTINUE
@@ -43,7 +44,7 @@ label_twice =
     ∷ s 4 (End)
     ∷ []
 
-label_twice_refused : least (findings label_twice) ≡ Some (refusal 10 3 0)
+label_twice_refused : least (findings fortran77 label_twice) ≡ Some (refusal 10 3 0)
 label_twice_refused = refl
 
 --    10 CONTINUE
@@ -58,7 +59,7 @@ labels_differ =
     ∷ s 4 (End)
     ∷ []
 
-labels_differ_read : findings labels_differ ≡ []
+labels_differ_read : findings fortran77 labels_differ ≡ []
 labels_differ_read = refl
 
 --       I = 1
@@ -71,7 +72,7 @@ go_to_nowhere =
     ∷ s 3 (End)
     ∷ []
 
-go_to_nowhere_refused : least (findings go_to_nowhere) ≡ Some (refusal 10 2 0)
+go_to_nowhere_refused : least (findings fortran77 go_to_nowhere) ≡ Some (refusal 10 2 0)
 go_to_nowhere_refused = refl
 
 --       I = 1
@@ -84,7 +85,7 @@ go_to_end =
     ∷ l 10 3 (End)
     ∷ []
 
-go_to_end_read : findings go_to_end ≡ []
+go_to_end_read : findings fortran77 go_to_end ≡ []
 go_to_end_read = refl
 
 --       IF (I .EQ. 1) GO TO 10
@@ -95,7 +96,7 @@ inner_go_to_nowhere =
     ∷ l 20 2 (End)
     ∷ []
 
-inner_go_to_nowhere_refused : least (findings inner_go_to_nowhere) ≡ Some (refusal 10 1 0)
+inner_go_to_nowhere_refused : least (findings fortran77 inner_go_to_nowhere) ≡ Some (refusal 10 1 0)
 inner_go_to_nowhere_refused = refl
 
 --       GO TO 0
@@ -106,7 +107,7 @@ go_to_zero =
     ∷ s 2 (End)
     ∷ []
 
-go_to_zero_refused : least (findings go_to_zero) ≡ Some (refusal 10 1 0)
+go_to_zero_refused : least (findings fortran77 go_to_zero) ≡ Some (refusal 10 1 0)
 go_to_zero_refused = refl
 
 --       DO 10 I = 1, 3
@@ -119,5 +120,5 @@ do_label_nowhere =
     ∷ s 3 (End)
     ∷ []
 
-do_label_nowhere_refused : least (findings do_label_nowhere) ≡ Some (refusal 10 1 0)
+do_label_nowhere_refused : least (findings fortran77 do_label_nowhere) ≡ Some (refusal 10 1 0)
 do_label_nowhere_refused = refl

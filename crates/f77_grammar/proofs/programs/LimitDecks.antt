@@ -3,6 +3,7 @@ use Rattle.std.proofs.Common.{◌≡◌, refl, List, [], ◌∷◌, Some}
 use Rattle.fv_tree.specs.Plain.{Unary, Binary}
 use Rattle.fv_tree.specs.declared.ops.Op.TheVariants.{Div, Neg}
 use Rattle.fv_tree.specs.declared.ops.Kind.TheVariants.{Integer}
+use Rattle.fv_meaning.specs.Dialect.{fortran77}
 use Rattle.f77_grammar.specs.Statement77.{Labelled, Declare, Constants, End}
 use Rattle.f77_grammar.specs.program.Program77.{findings}
 use Rattle.fv_meaning.proofs.DeckWords.{n}
@@ -17,7 +18,7 @@ bounds_turned =
     ∷ s 2 (End)
     ∷ []
 
-bounds_turned_refused : least (findings bounds_turned) ≡ Some (refusal 18 1 43)
+bounds_turned_refused : least (findings fortran77 bounds_turned) ≡ Some (refusal 18 1 43)
 bounds_turned_refused = refl
 
 --       INTEGER A(2:2)
@@ -28,7 +29,7 @@ bounds_equal =
     ∷ s 2 (End)
     ∷ []
 
-bounds_equal_read : findings bounds_equal ≡ []
+bounds_equal_read : findings fortran77 bounds_equal ≡ []
 bounds_equal_read = refl
 
 --       INTEGER A(2048,2048)
@@ -41,7 +42,7 @@ many_elements =
     ∷ s 3 (End)
     ∷ []
 
-many_elements_refused : least (findings many_elements) ≡ Some (refusal 18 2 44)
+many_elements_refused : least (findings fortran77 many_elements) ≡ Some (refusal 18 2 44)
 many_elements_refused = refl
 
 --       INTEGER A(2048,2048)
@@ -52,7 +53,7 @@ as_many_elements =
     ∷ s 2 (End)
     ∷ []
 
-as_many_elements_read : findings as_many_elements ≡ []
+as_many_elements_read : findings fortran77 as_many_elements ≡ []
 as_many_elements_read = refl
 
 --       PARAMETER (N = 1 / 0)
@@ -63,7 +64,7 @@ constant_divided_by_zero =
     ∷ s 2 (End)
     ∷ []
 
-constant_divided_by_zero_refused : least (findings constant_divided_by_zero) ≡ Some (refusal 18 1 45)
+constant_divided_by_zero_refused : least (findings fortran77 constant_divided_by_zero) ≡ Some (refusal 18 1 45)
 constant_divided_by_zero_refused = refl
 
 --       PARAMETER (N = 2147483648)
@@ -74,7 +75,7 @@ constant_past_range =
     ∷ s 2 (End)
     ∷ []
 
-constant_past_range_refused : least (findings constant_past_range) ≡ Some (refusal 18 1 45)
+constant_past_range_refused : least (findings fortran77 constant_past_range) ≡ Some (refusal 18 1 45)
 constant_past_range_refused = refl
 
 --       PARAMETER (N = 2147483647)
@@ -85,7 +86,7 @@ constant_at_range =
     ∷ s 2 (End)
     ∷ []
 
-constant_at_range_read : findings constant_at_range ≡ []
+constant_at_range_read : findings fortran77 constant_at_range ≡ []
 constant_at_range_read = refl
 
 --       INTEGER A(2147483648:2147483648)
@@ -96,7 +97,7 @@ bound_past_range =
     ∷ s 2 (End)
     ∷ []
 
-bound_past_range_refused : least (findings bound_past_range) ≡ Some (refusal 18 1 45)
+bound_past_range_refused : least (findings fortran77 bound_past_range) ≡ Some (refusal 18 1 45)
 bound_past_range_refused = refl
 
 --       INTEGER A(-2147483649:1)
@@ -107,5 +108,5 @@ bound_below_range =
     ∷ s 2 (End)
     ∷ []
 
-bound_below_range_refused : least (findings bound_below_range) ≡ Some (refusal 18 1 44)
+bound_below_range_refused : least (findings fortran77 bound_below_range) ≡ Some (refusal 18 1 44)
 bound_below_range_refused = refl

@@ -4,6 +4,7 @@ use lib.Chars.{codes}
 use Rattle.fv_tree.specs.Plain.{Binary, Single, items}
 use Rattle.fv_tree.specs.declared.ops.Op.TheVariants.{Add}
 use Rattle.fv_tree.specs.declared.ops.Kind.TheVariants.{Integer, Logical}
+use Rattle.fv_meaning.specs.Dialect.{fortran77}
 use Rattle.f77_grammar.specs.Statement77.{Labelled, Program, Declare, Dimension, Constants, Assign, Do, Read, Print, End}
 use Rattle.f77_grammar.specs.program.Program77.{findings}
 use Rattle.fv_meaning.proofs.DeckWords.{n, v, at, to}
@@ -20,7 +21,7 @@ two_types =
     ∷ s 3 (End)
     ∷ []
 
-two_types_refused : least (findings two_types) ≡ Some (refusal 13 2 0)
+two_types_refused : least (findings fortran77 two_types) ≡ Some (refusal 13 2 0)
 two_types_refused = refl
 
 --       INTEGER I
@@ -33,7 +34,7 @@ two_equal_types =
     ∷ s 3 (End)
     ∷ []
 
-two_equal_types_refused : least (findings two_equal_types) ≡ Some (refusal 13 2 0)
+two_equal_types_refused : least (findings fortran77 two_equal_types) ≡ Some (refusal 13 2 0)
 two_equal_types_refused = refl
 
 --       INTEGER A
@@ -46,7 +47,7 @@ one_type =
     ∷ s 3 (End)
     ∷ []
 
-one_type_read : findings one_type ≡ []
+one_type_read : findings fortran77 one_type ≡ []
 one_type_read = refl
 
 --       INTEGER A, A
@@ -57,7 +58,7 @@ two_types_in_one =
     ∷ s 2 (End)
     ∷ []
 
-two_types_in_one_refused : least (findings two_types_in_one) ≡ Some (refusal 13 1 0)
+two_types_in_one_refused : least (findings fortran77 two_types_in_one) ≡ Some (refusal 13 1 0)
 two_types_in_one_refused = refl
 
 --       INTEGER A(3)
@@ -70,7 +71,7 @@ two_lists_of_bounds =
     ∷ s 3 (End)
     ∷ []
 
-two_lists_of_bounds_refused : least (findings two_lists_of_bounds) ≡ Some (refusal 13 2 0)
+two_lists_of_bounds_refused : least (findings fortran77 two_lists_of_bounds) ≡ Some (refusal 13 2 0)
 two_lists_of_bounds_refused = refl
 
 --       INTEGER A
@@ -83,7 +84,7 @@ type_and_bounds =
     ∷ s 3 (End)
     ∷ []
 
-type_and_bounds_read : findings type_and_bounds ≡ []
+type_and_bounds_read : findings fortran77 type_and_bounds ≡ []
 type_and_bounds_read = refl
 
 --       PARAMETER (N = 1)
@@ -96,7 +97,7 @@ two_constants =
     ∷ s 3 (End)
     ∷ []
 
-two_constants_refused : least (findings two_constants) ≡ Some (refusal 13 2 0)
+two_constants_refused : least (findings fortran77 two_constants) ≡ Some (refusal 13 2 0)
 two_constants_refused = refl
 
 --       PARAMETER (N = 1)
@@ -109,7 +110,7 @@ constant_with_bounds =
     ∷ s 3 (End)
     ∷ []
 
-constant_with_bounds_refused : least (findings constant_with_bounds) ≡ Some (refusal 13 2 0)
+constant_with_bounds_refused : least (findings fortran77 constant_with_bounds) ≡ Some (refusal 13 2 0)
 constant_with_bounds_refused = refl
 
 --       PARAMETER (N = 1)
@@ -122,7 +123,7 @@ type_after_constant =
     ∷ s 3 (End)
     ∷ []
 
-type_after_constant_read : findings type_after_constant ≡ []
+type_after_constant_read : findings fortran77 type_after_constant ≡ []
 type_after_constant_read = refl
 
 --       PROGRAM P
@@ -135,7 +136,7 @@ program_name_used =
     ∷ s 3 (End)
     ∷ []
 
-program_name_used_refused : least (findings program_name_used) ≡ Some (refusal 13 2 0)
+program_name_used_refused : least (findings fortran77 program_name_used) ≡ Some (refusal 13 2 0)
 program_name_used_refused = refl
 
 --       PROGRAM P
@@ -148,7 +149,7 @@ program_name_unused =
     ∷ s 3 (End)
     ∷ []
 
-program_name_unused_read : findings program_name_unused ≡ []
+program_name_unused_read : findings fortran77 program_name_unused ≡ []
 program_name_unused_read = refl
 
 --       PROGRAM MAX
@@ -161,7 +162,7 @@ program_max_calls_max =
     ∷ s 3 (End)
     ∷ []
 
-program_max_calls_max_refused : least (findings program_max_calls_max) ≡ Some (refusal 13 2 0)
+program_max_calls_max_refused : least (findings fortran77 program_max_calls_max) ≡ Some (refusal 13 2 0)
 program_max_calls_max_refused = refl
 
 --       PROGRAM MAX
@@ -174,8 +175,60 @@ program_max_calls_min =
     ∷ s 3 (End)
     ∷ []
 
-program_max_calls_min_read : findings program_max_calls_min ≡ []
+program_max_calls_min_read : findings fortran77 program_max_calls_min ≡ []
 program_max_calls_min_read = refl
+
+--       PROGRAM MAX0
+--       MAX = 1
+--       END
+abbrev program_max0_beside_max : List Labelled
+program_max0_beside_max =
+    s 1 (Program (codes "MAX0"))
+    ∷ s 2 (Assign (to "MAX") (n 1))
+    ∷ s 3 (End)
+    ∷ []
+
+program_max0_beside_max_read : findings fortran77 program_max0_beside_max ≡ []
+program_max0_beside_max_read = refl
+
+--       PROGRAM MAX
+--       I = MAX0(1, 2)
+--       END
+abbrev program_max_calls_max0 : List Labelled
+program_max_calls_max0 =
+    s 1 (Program (codes "MAX"))
+    ∷ s 2 (Assign (to "I") (at "MAX0" (n 1 ∷ n 2 ∷ [])))
+    ∷ s 3 (End)
+    ∷ []
+
+program_max_calls_max0_refused : least (findings fortran77 program_max_calls_max0) ≡ Some (refusal 13 2 0)
+program_max_calls_max0_refused = refl
+
+--       PROGRAM MAX0
+--       I = MAX0(1, 2)
+--       END
+abbrev program_max0_calls_max0 : List Labelled
+program_max0_calls_max0 =
+    s 1 (Program (codes "MAX0"))
+    ∷ s 2 (Assign (to "I") (at "MAX0" (n 1 ∷ n 2 ∷ [])))
+    ∷ s 3 (End)
+    ∷ []
+
+program_max0_calls_max0_refused : least (findings fortran77 program_max0_calls_max0) ≡ Some (refusal 13 2 0)
+program_max0_calls_max0_refused = refl
+
+--       PROGRAM MAX0
+--       I = MAX(1, 2)
+--       END
+abbrev program_max0_calls_max : List Labelled
+program_max0_calls_max =
+    s 1 (Program (codes "MAX0"))
+    ∷ s 2 (Assign (to "I") (at "MAX" (n 1 ∷ n 2 ∷ [])))
+    ∷ s 3 (End)
+    ∷ []
+
+program_max0_calls_max_read : findings fortran77 program_max0_calls_max ≡ []
+program_max0_calls_max_read = refl
 
 --       INTEGER A(N)
 --       END
@@ -185,7 +238,7 @@ bound_from_variable =
     ∷ s 2 (End)
     ∷ []
 
-bound_from_variable_refused : least (findings bound_from_variable) ≡ Some (refusal 13 1 0)
+bound_from_variable_refused : least (findings fortran77 bound_from_variable) ≡ Some (refusal 13 1 0)
 bound_from_variable_refused = refl
 
 --       INTEGER A(N)
@@ -198,7 +251,7 @@ bound_from_later_constant =
     ∷ s 3 (End)
     ∷ []
 
-bound_from_later_constant_refused : least (findings bound_from_later_constant) ≡ Some (refusal 13 1 0)
+bound_from_later_constant_refused : least (findings fortran77 bound_from_later_constant) ≡ Some (refusal 13 1 0)
 bound_from_later_constant_refused = refl
 
 --       PARAMETER (N = 2)
@@ -211,7 +264,7 @@ bound_from_constant =
     ∷ s 3 (End)
     ∷ []
 
-bound_from_constant_read : findings bound_from_constant ≡ []
+bound_from_constant_read : findings fortran77 bound_from_constant ≡ []
 bound_from_constant_read = refl
 
 --       PARAMETER (N = 2, M = N + 1)
@@ -222,7 +275,7 @@ constant_from_one_beside_it =
     ∷ s 2 (End)
     ∷ []
 
-constant_from_one_beside_it_read : findings constant_from_one_beside_it ≡ []
+constant_from_one_beside_it_read : findings fortran77 constant_from_one_beside_it ≡ []
 constant_from_one_beside_it_read = refl
 
 --       PARAMETER (N = N)
@@ -233,7 +286,7 @@ constant_from_itself =
     ∷ s 2 (End)
     ∷ []
 
-constant_from_itself_refused : least (findings constant_from_itself) ≡ Some (refusal 13 1 0)
+constant_from_itself_refused : least (findings fortran77 constant_from_itself) ≡ Some (refusal 13 1 0)
 constant_from_itself_refused = refl
 
 --       PARAMETER (N = MAX(1, 2))
@@ -244,7 +297,7 @@ call_in_constant =
     ∷ s 2 (End)
     ∷ []
 
-call_in_constant_refused : least (findings call_in_constant) ≡ Some (refusal 13 1 0)
+call_in_constant_refused : least (findings fortran77 call_in_constant) ≡ Some (refusal 13 1 0)
 call_in_constant_refused = refl
 
 --       I = K(1)
@@ -255,7 +308,7 @@ list_after_scalar =
     ∷ s 2 (End)
     ∷ []
 
-list_after_scalar_refused : least (findings list_after_scalar) ≡ Some (refusal 13 1 0)
+list_after_scalar_refused : least (findings fortran77 list_after_scalar) ≡ Some (refusal 13 1 0)
 list_after_scalar_refused = refl
 
 --       INTEGER K(1)
@@ -268,7 +321,7 @@ list_after_array =
     ∷ s 3 (End)
     ∷ []
 
-list_after_array_read : findings list_after_array ≡ []
+list_after_array_read : findings fortran77 list_after_array ≡ []
 list_after_array_read = refl
 
 --       INTEGER K(1)
@@ -281,7 +334,7 @@ two_subscripts_for_one =
     ∷ s 3 (End)
     ∷ []
 
-two_subscripts_for_one_refused : least (findings two_subscripts_for_one) ≡ Some (refusal 13 2 0)
+two_subscripts_for_one_refused : least (findings fortran77 two_subscripts_for_one) ≡ Some (refusal 13 2 0)
 two_subscripts_for_one_refused = refl
 
 --       PARAMETER (N = 1)
@@ -294,7 +347,7 @@ constant_assigned =
     ∷ s 3 (End)
     ∷ []
 
-constant_assigned_refused : least (findings constant_assigned) ≡ Some (refusal 13 2 0)
+constant_assigned_refused : least (findings fortran77 constant_assigned) ≡ Some (refusal 13 2 0)
 constant_assigned_refused = refl
 
 --       PARAMETER (N = 1)
@@ -307,7 +360,7 @@ constant_read_into =
     ∷ s 3 (End)
     ∷ []
 
-constant_read_into_refused : least (findings constant_read_into) ≡ Some (refusal 13 2 0)
+constant_read_into_refused : least (findings fortran77 constant_read_into) ≡ Some (refusal 13 2 0)
 constant_read_into_refused = refl
 
 --       PARAMETER (N = 1)
@@ -320,7 +373,7 @@ constant_printed =
     ∷ s 3 (End)
     ∷ []
 
-constant_printed_read : findings constant_printed ≡ []
+constant_printed_read : findings fortran77 constant_printed ≡ []
 constant_printed_read = refl
 
 --       I = 1
@@ -333,7 +386,7 @@ real_name =
     ∷ s 3 (End)
     ∷ []
 
-real_name_refused : least (findings real_name) ≡ Some (refusal 14 2 0)
+real_name_refused : least (findings fortran77 real_name) ≡ Some (refusal 14 2 0)
 real_name_refused = refl
 
 --       I = 1
@@ -346,7 +399,7 @@ name_up_to_n =
     ∷ s 3 (End)
     ∷ []
 
-name_up_to_n_read : findings name_up_to_n ≡ []
+name_up_to_n_read : findings fortran77 name_up_to_n ≡ []
 name_up_to_n_read = refl
 
 --       I = 1
@@ -359,7 +412,7 @@ name_from_o =
     ∷ s 3 (End)
     ∷ []
 
-name_from_o_refused : least (findings name_from_o) ≡ Some (refusal 14 2 0)
+name_from_o_refused : least (findings fortran77 name_from_o) ≡ Some (refusal 14 2 0)
 name_from_o_refused = refl
 
 --       PARAMETER (A = 1)
@@ -370,7 +423,7 @@ real_constant =
     ∷ s 2 (End)
     ∷ []
 
-real_constant_refused : least (findings real_constant) ≡ Some (refusal 14 1 0)
+real_constant_refused : least (findings fortran77 real_constant) ≡ Some (refusal 14 1 0)
 real_constant_refused = refl
 
 --       PARAMETER (A = 1)
@@ -383,7 +436,7 @@ typed_constant =
     ∷ s 3 (End)
     ∷ []
 
-typed_constant_read : findings typed_constant ≡ []
+typed_constant_read : findings fortran77 typed_constant ≡ []
 typed_constant_read = refl
 
 --       INTEGER DO10I
@@ -402,7 +455,7 @@ blanks_have_no_meaning =
     ∷ s 6 (End)
     ∷ []
 
-blanks_have_no_meaning_read : findings blanks_have_no_meaning ≡ []
+blanks_have_no_meaning_read : findings fortran77 blanks_have_no_meaning ≡ []
 blanks_have_no_meaning_read = refl
 
 --       DO10I=1
@@ -419,5 +472,5 @@ blanks_have_no_meaning_undeclared =
     ∷ s 5 (End)
     ∷ []
 
-blanks_have_no_meaning_undeclared_refused : least (findings blanks_have_no_meaning_undeclared) ≡ Some (refusal 14 1 0)
+blanks_have_no_meaning_undeclared_refused : least (findings fortran77 blanks_have_no_meaning_undeclared) ≡ Some (refusal 14 1 0)
 blanks_have_no_meaning_undeclared_refused = refl

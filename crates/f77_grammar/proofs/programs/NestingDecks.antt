@@ -4,6 +4,7 @@ use lib.Chars.{codes}
 use Rattle.fv_tree.specs.Plain.{Binary, Single, items}
 use Rattle.fv_tree.specs.declared.ops.Op.TheVariants.{Add, Eq}
 use Rattle.fv_tree.specs.declared.ops.Kind.TheVariants.{Integer}
+use Rattle.fv_meaning.specs.Dialect.{fortran77}
 use Rattle.f77_grammar.specs.Statement77.{Labelled, Program, Declare, Assign, Go, Test, If, ElseIf, Else, EndIf, Do, Continue, Stop, Print, End}
 use Rattle.f77_grammar.specs.program.Program77.{findings}
 use Rattle.fv_meaning.proofs.DeckWords.{n, v, to}
@@ -20,7 +21,7 @@ program_second =
     ∷ s 3 (End)
     ∷ []
 
-program_second_refused : least (findings program_second) ≡ Some (refusal 11 2 0)
+program_second_refused : least (findings fortran77 program_second) ≡ Some (refusal 11 2 0)
 program_second_refused = refl
 
 --       PROGRAM P
@@ -33,7 +34,7 @@ program_first =
     ∷ s 3 (End)
     ∷ []
 
-program_first_read : findings program_first ≡ []
+program_first_read : findings fortran77 program_first ≡ []
 program_first_read = refl
 
 --       I = 1
@@ -46,7 +47,7 @@ declaration_late =
     ∷ s 3 (End)
     ∷ []
 
-declaration_late_refused : least (findings declaration_late) ≡ Some (refusal 11 2 0)
+declaration_late_refused : least (findings fortran77 declaration_late) ≡ Some (refusal 11 2 0)
 declaration_late_refused = refl
 
 --       INTEGER J
@@ -59,7 +60,7 @@ declaration_early =
     ∷ s 3 (End)
     ∷ []
 
-declaration_early_read : findings declaration_early ≡ []
+declaration_early_read : findings fortran77 declaration_early ≡ []
 declaration_early_read = refl
 
 --       I = 1
@@ -74,7 +75,7 @@ declaration_after_early_end =
     ∷ s 4 (End)
     ∷ []
 
-declaration_after_early_end_refused : least (findings declaration_after_early_end) ≡ Some (refusal 11 3 0)
+declaration_after_early_end_refused : least (findings fortran77 declaration_after_early_end) ≡ Some (refusal 11 3 0)
 declaration_after_early_end_refused = refl
 
 --       I = 1
@@ -89,7 +90,7 @@ if_left_open =
     ∷ s 4 (End)
     ∷ []
 
-if_left_open_refused : least (findings if_left_open) ≡ Some (refusal 11 2 0)
+if_left_open_refused : least (findings fortran77 if_left_open) ≡ Some (refusal 11 2 0)
 if_left_open_refused = refl
 
 --       I = 1
@@ -106,7 +107,7 @@ if_ended =
     ∷ s 5 (End)
     ∷ []
 
-if_ended_read : findings if_ended ≡ []
+if_ended_read : findings fortran77 if_ended ≡ []
 if_ended_read = refl
 
 --       I = 1
@@ -119,7 +120,7 @@ end_if_without_if =
     ∷ s 3 (End)
     ∷ []
 
-end_if_without_if_refused : least (findings end_if_without_if) ≡ Some (refusal 11 2 0)
+end_if_without_if_refused : least (findings fortran77 end_if_without_if) ≡ Some (refusal 11 2 0)
 end_if_without_if_refused = refl
 
 --    10 CONTINUE
@@ -132,7 +133,7 @@ do_label_before =
     ∷ s 3 (End)
     ∷ []
 
-do_label_before_refused : least (findings do_label_before) ≡ Some (refusal 11 2 0)
+do_label_before_refused : least (findings fortran77 do_label_before) ≡ Some (refusal 11 2 0)
 do_label_before_refused = refl
 
 --       DO 10 I = 1, 3
@@ -149,7 +150,7 @@ crossed_loops =
     ∷ s 5 (End)
     ∷ []
 
-crossed_loops_refused : least (findings crossed_loops) ≡ Some (refusal 11 3 0)
+crossed_loops_refused : least (findings fortran77 crossed_loops) ≡ Some (refusal 11 3 0)
 crossed_loops_refused = refl
 
 --       DO 10 I = 1, 3
@@ -166,7 +167,7 @@ loops_in_each_other =
     ∷ s 5 (End)
     ∷ []
 
-loops_in_each_other_read : findings loops_in_each_other ≡ []
+loops_in_each_other_read : findings fortran77 loops_in_each_other ≡ []
 loops_in_each_other_read = refl
 
 --       DO 10 I = 1, 3
@@ -181,7 +182,7 @@ loops_with_one_end =
     ∷ s 4 (End)
     ∷ []
 
-loops_with_one_end_read : findings loops_with_one_end ≡ []
+loops_with_one_end_read : findings fortran77 loops_with_one_end ≡ []
 loops_with_one_end_read = refl
 
 --       IF (I .EQ. 1) THEN
@@ -198,7 +199,7 @@ loop_over_end_if =
     ∷ s 5 (End)
     ∷ []
 
-loop_over_end_if_refused : least (findings loop_over_end_if) ≡ Some (refusal 11 3 0)
+loop_over_end_if_refused : least (findings fortran77 loop_over_end_if) ≡ Some (refusal 11 3 0)
 loop_over_end_if_refused = refl
 
 --       DO 10 J = 1, 3
@@ -215,7 +216,7 @@ if_over_loop_end =
     ∷ s 5 (End)
     ∷ []
 
-if_over_loop_end_refused : least (findings if_over_loop_end) ≡ Some (refusal 11 3 0)
+if_over_loop_end_refused : least (findings fortran77 if_over_loop_end) ≡ Some (refusal 11 3 0)
 if_over_loop_end_refused = refl
 
 --       DO 10 J = 1, 3
@@ -234,7 +235,7 @@ if_in_loop =
     ∷ s 6 (End)
     ∷ []
 
-if_in_loop_read : findings if_in_loop ≡ []
+if_in_loop_read : findings fortran77 if_in_loop ≡ []
 if_in_loop_read = refl
 
 --       IF (I .EQ. 1) THEN
@@ -251,7 +252,7 @@ two_else_parts =
     ∷ s 5 (End)
     ∷ []
 
-two_else_parts_refused : least (findings two_else_parts) ≡ Some (refusal 11 3 0)
+two_else_parts_refused : least (findings fortran77 two_else_parts) ≡ Some (refusal 11 3 0)
 two_else_parts_refused = refl
 
 --       IF (I .EQ. 1) THEN
@@ -268,7 +269,7 @@ else_if_after_else =
     ∷ s 5 (End)
     ∷ []
 
-else_if_after_else_refused : least (findings else_if_after_else) ≡ Some (refusal 11 3 0)
+else_if_after_else_refused : least (findings fortran77 else_if_after_else) ≡ Some (refusal 11 3 0)
 else_if_after_else_refused = refl
 
 --       IF (I .EQ. 1) THEN
@@ -285,7 +286,7 @@ else_if_before_else =
     ∷ s 5 (End)
     ∷ []
 
-else_if_before_else_read : findings else_if_before_else ≡ []
+else_if_before_else_read : findings fortran77 else_if_before_else ≡ []
 else_if_before_else_read = refl
 
 --       IF (I .EQ. 1) THEN
@@ -306,7 +307,7 @@ else_of_an_inner_if =
     ∷ s 7 (End)
     ∷ []
 
-else_of_an_inner_if_read : findings else_of_an_inner_if ≡ []
+else_of_an_inner_if_read : findings fortran77 else_of_an_inner_if ≡ []
 else_of_an_inner_if_read = refl
 
 --       IF (I .EQ. 1) THEN
@@ -325,7 +326,7 @@ else_in_a_loop =
     ∷ s 6 (End)
     ∷ []
 
-else_in_a_loop_refused : least (findings else_in_a_loop) ≡ Some (refusal 11 3 0)
+else_in_a_loop_refused : least (findings fortran77 else_in_a_loop) ≡ Some (refusal 11 3 0)
 else_in_a_loop_refused = refl
 
 --       ELSE
@@ -336,7 +337,7 @@ else_alone =
     ∷ s 2 (End)
     ∷ []
 
-else_alone_refused : least (findings else_alone) ≡ Some (refusal 11 1 0)
+else_alone_refused : least (findings fortran77 else_alone) ≡ Some (refusal 11 1 0)
 else_alone_refused = refl
 
 --       DO 10 J = 1, 3
@@ -351,7 +352,7 @@ loop_ends_on_go_to =
     ∷ s 4 (End)
     ∷ []
 
-loop_ends_on_go_to_refused : least (findings loop_ends_on_go_to) ≡ Some (refusal 11 2 0)
+loop_ends_on_go_to_refused : least (findings fortran77 loop_ends_on_go_to) ≡ Some (refusal 11 2 0)
 loop_ends_on_go_to_refused = refl
 
 --       DO 10 J = 1, 3
@@ -366,7 +367,7 @@ loop_ends_on_logical_if =
     ∷ s 4 (End)
     ∷ []
 
-loop_ends_on_logical_if_read : findings loop_ends_on_logical_if ≡ []
+loop_ends_on_logical_if_read : findings fortran77 loop_ends_on_logical_if ≡ []
 loop_ends_on_logical_if_read = refl
 
 --       DO 10 J = 1, 3
@@ -379,7 +380,7 @@ loop_ends_on_stop =
     ∷ s 3 (End)
     ∷ []
 
-loop_ends_on_stop_refused : least (findings loop_ends_on_stop) ≡ Some (refusal 11 2 0)
+loop_ends_on_stop_refused : least (findings fortran77 loop_ends_on_stop) ≡ Some (refusal 11 2 0)
 loop_ends_on_stop_refused = refl
 
 --       DO 10 J = 1, 3
@@ -390,7 +391,7 @@ loop_ends_on_end =
     ∷ l 10 2 (End)
     ∷ []
 
-loop_ends_on_end_refused : least (findings loop_ends_on_end) ≡ Some (refusal 11 2 0)
+loop_ends_on_end_refused : least (findings fortran77 loop_ends_on_end) ≡ Some (refusal 11 2 0)
 loop_ends_on_end_refused = refl
 
 --       DO 10 J = 1, 3
@@ -403,7 +404,7 @@ loop_ends_on_print =
     ∷ s 3 (End)
     ∷ []
 
-loop_ends_on_print_read : findings loop_ends_on_print ≡ []
+loop_ends_on_print_read : findings fortran77 loop_ends_on_print ≡ []
 loop_ends_on_print_read = refl
 
 --       I = 1
@@ -414,7 +415,7 @@ end_missing =
     ∷ s 2 (Print (items (Single (v "I") ∷ [])))
     ∷ []
 
-end_missing_refused : least (findings end_missing) ≡ Some (refusal 12 2 0)
+end_missing_refused : least (findings fortran77 end_missing) ≡ Some (refusal 12 2 0)
 end_missing_refused = refl
 
 --       I = 1
@@ -427,7 +428,7 @@ end_last =
     ∷ s 3 (End)
     ∷ []
 
-end_last_read : findings end_last ≡ []
+end_last_read : findings fortran77 end_last ≡ []
 end_last_read = refl
 
 --       END
@@ -438,12 +439,12 @@ end_early =
     ∷ s 2 (Assign (to "I") (n 1))
     ∷ []
 
-end_early_refused : least (findings end_early) ≡ Some (refusal 12 1 0)
+end_early_refused : least (findings fortran77 end_early) ≡ Some (refusal 12 1 0)
 end_early_refused = refl
 
 abbrev no_statements : List Labelled
 no_statements =
     []
 
-no_statements_refused : least (findings no_statements) ≡ Some (refusal 12 0 0)
+no_statements_refused : least (findings fortran77 no_statements) ≡ Some (refusal 12 0 0)
 no_statements_refused = refl

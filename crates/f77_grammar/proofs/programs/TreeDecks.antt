@@ -4,8 +4,9 @@ use lib.Chars.{codes}
 use Rattle.fv_tree.specs.Plain.{Unary, Binary, Apply, Single, Constant, ImpliedDo, items, expressions, Assignment, GoTo, no_arms, arm, block, no_statements, Given, Program}
 use Rattle.fv_tree.specs.Plain as tree
 use Rattle.fv_tree.specs.declared.ops.Op.TheVariants.{Div, Neg, Add, Sub, Eq, Gt, Not}
-use Rattle.fv_tree.specs.declared.ops.Fun.TheVariants.{Abs, Mod, Max, Min}
+use Rattle.fv_tree.specs.declared.functions.Fun.TheVariants.{Abs, Mod, Max, Min}
 use Rattle.fv_tree.specs.declared.ops.Kind.TheVariants.{Integer, Logical}
+use Rattle.fv_meaning.specs.Dialect.{fortran77}
 use Rattle.f77_grammar.specs.Statement77.{Labelled, Declare, Constants, Assign, Go, Test, If, ElseIf, Else, EndIf, Do, Continue, Stop, Read, Print, End}
 use Rattle.f77_grammar.specs.Statement77 as text
 use Rattle.f77_grammar.specs.program.Program77.{findings}
@@ -36,10 +37,10 @@ blanks_have_no_meaning_tree = record {
   body = block (Assignment 2 None (to "DO10I") (n 1) ∷ tree.Do 3 (codes "I") (n 1) (n 3) (n 1) (block (Assignment 4 None (to "DO10I") (Binary Add (v "DO10I") (v "I")) ∷ [])) ∷ tree.Print 5 (items (Single (v "DO10I") ∷ Single (v "I") ∷ [])) ∷ []);
 }
 
-blanks_have_no_meaning_sound : findings blanks_have_no_meaning ≡ []
+blanks_have_no_meaning_sound : findings fortran77 blanks_have_no_meaning ≡ []
 blanks_have_no_meaning_sound = refl
 
-blanks_have_no_meaning_formed : tree_of blanks_have_no_meaning ≡ blanks_have_no_meaning_tree
+blanks_have_no_meaning_formed : tree_of fortran77 blanks_have_no_meaning ≡ blanks_have_no_meaning_tree
 blanks_have_no_meaning_formed = refl
 
 --       INTEGER A(5)
@@ -67,10 +68,10 @@ loop_left_by_go_to_tree = record {
   body = block (Assignment 2 None (to_element "A" (n 3 ∷ [])) (n 7) ∷ tree.Do 3 (codes "I") (n 1) (n 5) (n 1) (block (tree.If 4 (arm (Binary Eq (at "A" (v "I" ∷ [])) (n 7)) (block (GoTo 4 30 ∷ [])) (no_arms)) (no_statements) ∷ [])) ∷ tree.Label 30 ∷ tree.Print 6 (items (Single (v "I") ∷ [])) ∷ []);
 }
 
-loop_left_by_go_to_sound : findings loop_left_by_go_to ≡ []
+loop_left_by_go_to_sound : findings fortran77 loop_left_by_go_to ≡ []
 loop_left_by_go_to_sound = refl
 
-loop_left_by_go_to_formed : tree_of loop_left_by_go_to ≡ loop_left_by_go_to_tree
+loop_left_by_go_to_formed : tree_of fortran77 loop_left_by_go_to ≡ loop_left_by_go_to_tree
 loop_left_by_go_to_formed = refl
 
 --       PROGRAM RELAX
@@ -112,10 +113,10 @@ realistic_sweep_tree = record {
   body = block (tree.Do 4 (codes "I") (n 0) (n 4) (n 1) (block (Assignment 5 None (to_element "U" (v "I" ∷ n 0 ∷ [])) (n 64) ∷ [])) ∷ tree.Do 6 (codes "ITER") (n 1) (n 2) (n 1) (block (tree.Do 7 (codes "J") (n 1) (Binary Sub (n 4) (n 1)) (n 1) (block (tree.Do 8 (codes "I") (n 1) (Binary Sub (n 4) (n 1)) (n 1) (block (Assignment 9 None (to_element "V" (v "I" ∷ v "J" ∷ [])) (Binary Div (Binary Add (Binary Add (Binary Add (at "U" (Binary Sub (v "I") (n 1) ∷ v "J" ∷ [])) (at "U" (Binary Add (v "I") (n 1) ∷ v "J" ∷ []))) (at "U" (v "I" ∷ Binary Sub (v "J") (n 1) ∷ []))) (at "U" (v "I" ∷ Binary Add (v "J") (n 1) ∷ []))) (n 4)) ∷ [])) ∷ [])) ∷ tree.Do 10 (codes "J") (n 1) (Binary Sub (n 4) (n 1)) (n 1) (block (tree.Do 11 (codes "I") (n 1) (Binary Sub (n 4) (n 1)) (n 1) (block (Assignment 12 None (to_element "U" (v "I" ∷ v "J" ∷ [])) (at "V" (v "I" ∷ v "J" ∷ [])) ∷ [])) ∷ [])) ∷ [])) ∷ tree.Print 13 (items (ImpliedDo (items (Single (at "U" (v "I" ∷ n 1 ∷ [])) ∷ [])) (codes "I") (n 0) (n 4) (n 1) ∷ [])) ∷ []);
 }
 
-realistic_sweep_sound : findings realistic_sweep ≡ []
+realistic_sweep_sound : findings fortran77 realistic_sweep ≡ []
 realistic_sweep_sound = refl
 
-realistic_sweep_formed : tree_of realistic_sweep ≡ realistic_sweep_tree
+realistic_sweep_formed : tree_of fortran77 realistic_sweep ≡ realistic_sweep_tree
 realistic_sweep_formed = refl
 
 --       LOGICAL L
@@ -167,10 +168,10 @@ arms_and_labels_tree = record {
   body = block (tree.Read 4 (items (Single (v "L") ∷ ImpliedDo (items (Single (at "A" (v "I" ∷ [])) ∷ [])) (codes "I") (n 1) (n 3) (n 1) ∷ [])) ∷ tree.If 5 (arm (v "L") (block (GoTo 6 20 ∷ [])) (arm (Unary Not (v "L")) (block (Assignment 8 None (to_element "A" (n 1 ∷ [])) (Unary Neg (n 2)) ∷ [])) (no_arms))) (block (Assignment 10 None (to_element "A" (n 1 ∷ [])) (Binary Add (Apply Max (expressions (n 1 ∷ Unary Neg (n 2) ∷ n 2 ∷ []))) (Apply Abs (expressions (Unary Neg (n 2) ∷ [])))) ∷ [])) ∷ tree.Do 12 (codes "J") (n 1) (n 2) (n 1) (block (tree.Do 13 (codes "K") (n 1) (n 2) (n 1) (block (tree.If 14 (arm (Binary Eq (v "K") (n 1)) (block (GoTo 14 10 ∷ [])) (no_arms)) (no_statements) ∷ Assignment 15 None (to_element "A" (v "K" ∷ [])) (Apply Mod (expressions (v "J" ∷ n 2 ∷ []))) ∷ tree.Label 10 ∷ [])) ∷ [])) ∷ tree.If 17 (arm (Binary Gt (at "A" (n 2 ∷ [])) (n 0)) (block (tree.Stop 17 ∷ [])) (no_arms)) (no_statements) ∷ tree.Label 20 ∷ tree.Print 18 (items (Constant (codes "A") ∷ Single (v "A") ∷ [])) ∷ []);
 }
 
-arms_and_labels_sound : findings arms_and_labels ≡ []
+arms_and_labels_sound : findings fortran77 arms_and_labels ≡ []
 arms_and_labels_sound = refl
 
-arms_and_labels_formed : tree_of arms_and_labels ≡ arms_and_labels_tree
+arms_and_labels_formed : tree_of fortran77 arms_and_labels ≡ arms_and_labels_tree
 arms_and_labels_formed = refl
 
 --       MAX = 1
@@ -190,8 +191,8 @@ function_name_as_variable_tree = record {
   body = block (Assignment 1 None (to "MAX") (n 1) ∷ Assignment 2 None (to "I") (Apply Min (expressions (v "MAX" ∷ n 2 ∷ []))) ∷ []);
 }
 
-function_name_as_variable_sound : findings function_name_as_variable ≡ []
+function_name_as_variable_sound : findings fortran77 function_name_as_variable ≡ []
 function_name_as_variable_sound = refl
 
-function_name_as_variable_formed : tree_of function_name_as_variable ≡ function_name_as_variable_tree
+function_name_as_variable_formed : tree_of fortran77 function_name_as_variable ≡ function_name_as_variable_tree
 function_name_as_variable_formed = refl

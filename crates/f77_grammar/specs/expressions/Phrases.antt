@@ -6,8 +6,8 @@ use Rattle.fv_tree.specs.Plain.{Expression, Number, Logic, Named, Unary, Binary,
 use Rattle.fv_tree.specs.Plain.{no_subscripts}
 use Rattle.f77_grammar.specs.expressions.Words as words
 use Rattle.f77_grammar.specs.expressions.Words.{Word}
-use Rattle.f77_grammar.specs.expressions.Levels.{Sign, Plus, Minus, Negation, level_of, left_least, right_least, joins}
-use Rattle.f77_grammar.specs.expressions.Levels.{compares, may_follow, sign_level}
+use Rattle.fv_tree.specs.OperatorTable.{Sign, Plus, Minus, Negation, level_of, left_least, right_least, stands_between}
+use Rattle.fv_tree.specs.OperatorTable.{is_relation, may_follow, sign_level}
 
 -- A list has one expression at least.
 mutual
@@ -40,7 +40,7 @@ sign_word Negation = Not
 abbrev pub begins_with_sign : Phrase → Bool
 begins_with_sign (Signed Plus p) = true
 begins_with_sign (Signed Minus p) = true
-begins_with_sign (Joined o a b) = if compares o then false else begins_with_sign a
+begins_with_sign (Joined o a b) = if is_relation o then false else begins_with_sign a
 begins_with_sign p = false
 
 -- Each operand binds tightly enough for its operator or sign. A plus or minus sign stands at the front alone: of the
@@ -56,7 +56,7 @@ abbrev mutual
   IsExpression (Signed s p) = (sign_level s + 1 ≤ level p) × IsTrue (may_follow (sign_word s) (begins_with_sign p))
       × IsExpression p
   IsExpression (Joined o a b) =
-      IsTrue (joins o) × (left_least o ≤ level a) × (right_least o ≤ level b)
+      IsTrue (stands_between o) × (left_least o ≤ level a) × (right_least o ≤ level b)
           × IsTrue (may_follow o (begins_with_sign b)) × IsExpression a × IsExpression b
 
   pub AreExpressions : Phrases → Type 0

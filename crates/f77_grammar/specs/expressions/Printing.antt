@@ -6,10 +6,11 @@ use Rattle.fv_tree.specs.declared.ops.Op.{Op}
 use Rattle.fv_tree.specs.declared.ops.Op.TheVariants.{Neg, Not}
 use Rattle.fv_tree.specs.Plain.{Expression, Number, Logic, Named, Unary, Binary, Apply, Subscript, Only, Subscripts}
 use Rattle.fv_tree.specs.Plain.{no_subscripts, subscript}
-use Rattle.f77_grammar.specs.expressions.Levels.{Minus, Negation, left_least, right_least, joins, may_follow}
+use Rattle.fv_tree.specs.OperatorTable.{Minus, Negation, left_least, right_least, stands_between, may_follow}
 use Rattle.f77_grammar.specs.expressions.Phrases.{Phrase, Literal, WideLiteral, Truth, Name, Listed, Paren, Signed}
 use Rattle.f77_grammar.specs.expressions.Phrases.{Joined, Phrases, One, Then, level, begins_with_sign, written}
-use Rattle.f77_grammar.specs.expressions.Spelling.{IsName, spelling}
+use Rattle.f77_grammar.specs.expressions.Spelling.{IsName}
+use Rattle.fv_tree.specs.OperatorTable.{spelling77_of}
 use Rattle.f77_grammar.specs.expressions.Words as words
 use Rattle.f77_grammar.specs.expressions.Words.{Word}
 
@@ -30,7 +31,7 @@ abbrev mutual
   IsSource (Logic b) = Unit {0}
   IsSource (Named x ss) = IsName x × AreSource ss
   IsSource (Unary o a) = IsTrue (is_negating o) × IsSource a
-  IsSource (Binary o a b) = IsTrue (joins o) × IsSource a × IsSource b
+  IsSource (Binary o a b) = IsTrue (stands_between o) × IsSource a × IsSource b
   IsSource _ = ⊥
 
   pub IsSourceSubscript : Subscript → Type 0
@@ -93,7 +94,7 @@ spelling_of words.Wide = decimal (2 ^ 127)
 spelling_of (words.Truth b) = truth_text b
 spelling_of (words.Name x) = x
 spelling_of (words.Head x) = x ++ codes "("
-spelling_of (words.Operator o) = spelling o
+spelling_of (words.Operator o) = spelling77_of o
 spelling_of words.Open = codes "("
 spelling_of words.Close = codes ")"
 spelling_of words.Comma = codes ","

@@ -1,9 +1,8 @@
 -- How words are spelled, and which words a text has.
 use Rattle.std.specs.Prelude.{ℕ, ◌+◌, ◌-◌, ◌*◌, ◌^◌, ◌<◌, ◌≤◌, ◌≡◌, pos, Bool, true, false, ◌&&◌, ◌||◌, nat_le, ◌==◌}
 use Rattle.std.specs.Prelude.{List, [], ◌∷◌, ◌++◌, length, map, fold, codes, IsTrue}
-use Rattle.fv_tree.specs.declared.ops.Op.{Op}
-use Rattle.fv_tree.specs.declared.ops.Op.TheVariants.{Pow, Mul, Div, Neg, Add, Sub, Lt, Le, Eq, Ne, Gt, Ge, Not, And}
-use Rattle.fv_tree.specs.declared.ops.Op.TheVariants.{Or, Eqv, Neqv}
+use Rattle.fv_tree.specs.OperatorTable.{spelling77_of}
+use Rattle.fv_tree.specs.declared.ops.Op.TheVariants.{Neg, Mul}
 use Rattle.f77_grammar.specs.expressions.Squeezing.{Symbol, Char, Text}
 use Rattle.f77_grammar.specs.expressions.Words.{Word, Number, Wide, Truth, Name, Head, Operator, Open, Close, Comma}
 use Rattle.f77_grammar.specs.expressions.Words.{Equals, Colon, Constant}
@@ -34,25 +33,6 @@ abbrev pub IsName : List ℕ → Type 0
 IsName [] = ⊥
 IsName (c ∷ cs) = IsTrue (is_letter c) × Pass is_letter_or_digit cs × (length cs ≤ 5)
 
-abbrev pub spelling : Op → List ℕ
-spelling Pow = codes "**"
-spelling Mul = codes "*"
-spelling Div = codes "/"
-spelling Neg = codes "-"
-spelling Add = codes "+"
-spelling Sub = codes "-"
-spelling Lt = codes ".LT."
-spelling Le = codes ".LE."
-spelling Eq = codes ".EQ."
-spelling Ne = codes ".NE."
-spelling Gt = codes ".GT."
-spelling Ge = codes ".GE."
-spelling Not = codes ".NOT."
-spelling And = codes ".AND."
-spelling Or = codes ".OR."
-spelling Eqv = codes ".EQV."
-spelling Neqv = codes ".NEQV."
-
 -- The characters of a word. A minus sign is the word Sub, and a constant is no characters but a symbol of its own.
 abbrev pub Spelled : Word → List ℕ → Type 0
 Spelled (Number n) text = IsDigits text × (n ≡ pos (value text)) × (value text < 2 ^ 127)
@@ -62,7 +42,7 @@ Spelled (Truth false) text = text ≡ codes ".FALSE."
 Spelled (Name x) text = (text ≡ x) × IsName x
 Spelled (Head x) text = (text ≡ x ++ codes "(") × IsName x
 Spelled (Operator Neg) text = ⊥
-Spelled (Operator o) text = text ≡ spelling o
+Spelled (Operator o) text = text ≡ spelling77_of o
 Spelled Open text = text ≡ codes "("
 Spelled Close text = text ≡ codes ")"
 Spelled Comma text = text ≡ codes ","

@@ -1,14 +1,17 @@
 -- What names are declared as (ANSI X3.9-1978, sections 4.1.2, 5.1, 8.1, 8.4, 8.6 and 18.2): each once, and as one
 -- thing.
-use Rattle.std.specs.Prelude.{ℕ, zero, suc, ◌==◌, Bool, true, false, not, ◌&&◌, ◌||◌, is_some, is_none, if◌then◌else◌}
+use Rattle.std.specs.Prelude.{ℕ, zero, suc, ◌==◌, Bool, true, false, not, ◌&&◌, ◌||◌, if◌then◌else◌, Option, None, Some}
+use Rattle.std.specs.Prelude.{is_some, is_none}
 use Rattle.std.specs.Prelude.{List, [], ◌∷◌, ◌++◌}
 use Rattle.std.specs.List.{list_any}
+use Rattle.fv_tree.specs.declared.functions.Fun.{Fun}
 use Rattle.f77_grammar.specs.Statement77.{Entity, NamedConstant, Statement77, Declare, Dimension, Constants}
-use Rattle.fv_meaning.specs.Names.{is_among, function_named, is_implicit_integer}
+use Rattle.fv_meaning.specs.Names.{is_among, is_implicit_integer}
+use Rattle.fv_tree.specs.Functions.{function_named, name_of_function}
 use Rattle.f77_grammar.specs.program.Text.{Place}
 use Rattle.f77_grammar.specs.program.Uses.{Role, Valued, Target, Use, uses_in, uses_in_bounds, uses_of, uses_in_text}
 use Rattle.f77_grammar.specs.program.Uses.{is_title, is_typed, is_bounded, is_defined, names_that, stands, is_constant}
-use Rattle.f77_grammar.specs.program.Uses.{is_variable, is_array, type_of, dimensions_of_name}
+use Rattle.f77_grammar.specs.program.Uses.{is_variable, is_array, calls, type_of, dimensions_of_name}
 
 -- ---- declared twice, or as two things
 
@@ -19,22 +22,33 @@ has_repeat earlier (x ∷ xs) = is_among earlier x || has_repeat (x ∷ earlier)
 
 -- a name is declared so here and before
 abbrev pub is_declared_again : (Role → Bool) → Place → Bool
-is_declared_again test p = has_repeat (names_that test (uses_in_text p.before)) (names_that test (uses_of p.here.statement))
+is_declared_again test p =
+    has_repeat (names_that test (uses_in_text p.before)) (names_that test (uses_of p.here.statement))
 
 -- a symbolic constant has no bounds
 abbrev pub is_array_or_constant : Role → Bool
 is_array_or_constant r = is_bounded r || is_defined r
 
--- the program's name is no other name
-abbrev pub uses_title : Place → Bool
-uses_title p = list_any (λ (u : Use). not (is_title u.role)
-    && stands is_title (uses_in_text p.before) u.name) (uses_of p.here.statement)
+-- the name by which Fortran 90 calls the function, if one is called here, and else the name itself
+abbrev pub printed_by : Option Fun → List ℕ → List ℕ
+printed_by None x = x
+printed_by (Some f) x = name_of_function f
+
+abbrev pub printed_name : List Use → Use → List ℕ
+printed_name us u = if calls us u then printed_by (function_named u.name) u.name else u.name
+
+-- the program's name is no other name, a called function's neither, as Fortran 90 spells it or as it stands here
+abbrev pub bears_title : List Use → List Use → Use → Bool
+bears_title us before u =
+    not (is_title u.role) && (stands is_title before u.name || stands is_title before (printed_name us u))
+
+abbrev pub uses_title : List Use → Place → Bool
+uses_title us p = list_any (bears_title us (uses_in_text p.before)) (uses_of p.here.statement)
 
 -- ---- constant expressions (section 6.7)
 
 -- A name in a constant expression isn't a symbolic constant that was defined before, or has a list in parentheses. Such
--- a constant
--- that bears a function's name and has a list is no name undeclared; its kind doesn't suit
+-- a constant that bears a function's name and has a list is no name undeclared; its kind doesn't suit
 abbrev pub is_listed : Role → Bool
 is_listed (Valued (suc n)) = true
 is_listed (Target (suc n)) = true
@@ -90,7 +104,7 @@ abbrev pub is_declared_wrongly : List Use → Place → Bool
 is_declared_wrongly us p =
     is_declared_again is_typed p
     || is_declared_again is_array_or_constant p
-    || uses_title p
+    || uses_title us p
     || has_unknown_constant (names_that is_defined (uses_in_text p.before)) p.here.statement
     || has_misused_name us p.here.statement
 

@@ -8,14 +8,15 @@ use Rattle.fv_tree.specs.Plain.{expression, Subscript, Only, Subscripts, no_subs
 use Rattle.fv_tree.specs.Plain.{Constant, ImpliedDo, Items, no_items, item}
 use Rattle.fv_tree.specs.declared.ops.Kind.{Kind}
 use Rattle.fv_tree.specs.declared.ops.Kind.TheVariants.{Integer, Logical}
-use Rattle.fv_tree.specs.declared.ops.Fun.{Fun}
+use Rattle.fv_tree.specs.declared.functions.Fun.{Fun}
 use Rattle.f77_grammar.specs.Statement77.{Entity, NamedConstant, Statement77, Program, Declare, Dimension, Constants}
 use Rattle.f77_grammar.specs.Statement77.{Assign, Go, Test, If, ElseIf, Else, EndIf, Do, Continue, Stop, Read, Print}
 use Rattle.f77_grammar.specs.Statement77.{End}
-use Rattle.fv_meaning.specs.Names.{function_named, name_of_function, suits_number}
-use Rattle.fv_meaning.specs.Typed77.{operand_kind, kind_of_result, is_unary, number_of_arguments, number_of_subscripts}
+use Rattle.fv_tree.specs.Functions.{function_named, name_of_function, suits_number}
+use Rattle.fv_meaning.specs.Typed77.{number_of_arguments, number_of_subscripts}
+use Rattle.fv_tree.specs.OperatorTable.{operand_kind, result_kind_of, is_unary}
 use Rattle.f77_grammar.specs.program.Text.{Place}
-use Rattle.f77_grammar.specs.program.Uses.{Use, uses_of, is_variable, is_array, is_function, kind_of_name}
+use Rattle.f77_grammar.specs.program.Uses.{Use, uses_of, is_variable, is_array, is_function, calls, kind_of_name}
 
 abbrev pub same_kind : Kind → Kind → Bool
 same_kind Integer Integer = true
@@ -44,8 +45,8 @@ module _ (us : List Use) where
     has_kind (Number n) k = same_kind Integer k
     has_kind (Logic b) k = same_kind Logical k
     has_kind (Named x ps) k = name_has_kind x (number_of_subscripts ps) k && are_subscripts ps
-    has_kind (Unary o a) k = is_unary o && same_kind (kind_of_result o) k && has_kind a (operand_kind o)
-    has_kind (Binary o a b) k = not (is_unary o) && same_kind (kind_of_result o) k && has_kind a (operand_kind o)
+    has_kind (Unary o a) k = is_unary o && same_kind (result_kind_of o) k && has_kind a (operand_kind o)
+    has_kind (Binary o a b) k = not (is_unary o) && same_kind (result_kind_of o) k && has_kind a (operand_kind o)
         && has_kind b (operand_kind o)
     has_kind (Apply f es) k = suits_number f (number_of_arguments es) && same_kind Integer k && are_arguments es
     has_kind _ k = false
@@ -133,14 +134,15 @@ module _ (us : List Use) where
   suits Stop = true
   suits End = true
 
-  -- ---- Fortran 90 spells a call of IABS, MAX0 or MIN0 with the name ABS, MAX or MIN, which a variable of that name would hide
+  -- ---- Fortran 90 spells a call of IABS, MAX0 or MIN0 with the name ABS, MAX or MIN, which a variable of that name
+  -- would hide
 
   abbrev pub is_hidden_name : List ℕ → Option Fun → Bool
   is_hidden_name x None = false
   is_hidden_name x (Some f) = not (bytes_eq x (name_of_function f)) && is_variable us (name_of_function f)
 
   abbrev pub calls_hidden : Use → Bool
-  calls_hidden u = is_function us u.name && is_hidden_name u.name (function_named u.name)
+  calls_hidden u = calls us u && is_hidden_name u.name (function_named u.name)
 
   abbrev pub has_unsuited_kind : Place → Bool
   has_unsuited_kind p = not (suits p.here.statement) || list_any calls_hidden (uses_of p.here.statement)

@@ -1,4 +1,5 @@
 -- The values of symbolic constants and bounds (ANSI X3.9-1978, sections 5.1, 6.7 and 8.6), and the limits of a program.
+-- A dialect `d` says which range INTEGER has.
 use Rattle.std.specs.Prelude.{Result, Ok, Err, ℕ, ◌+◌, ◌*◌, ◌^◌, nat_lt, nat_le, ℤ, pos, int_lt, Bool, true, false}
 use Rattle.std.specs.Prelude.{◌&&◌, ◌||◌, None, Some, is_none, is_err, if◌then◌else◌, List, [], ◌∷◌, map, length, sum}
 use Rattle.std.specs.Str.{bytes_eq}
@@ -11,7 +12,7 @@ use Rattle.fv_tree.specs.declared.ops.Fault.{Fault}
 use Rattle.fv_tree.specs.declared.ops.Fault.TheVariants.{Overflow}
 use Rattle.fv_meaning.specs.Store.{Store, size_of}
 use Rattle.fv_meaning.specs.Value.{value_of, number_of, is_in_range}
-use Rattle.fv_meaning.specs.Sequential.{fortran77}
+use Rattle.fv_meaning.specs.Dialect.{Dialect}
 use Rattle.f77_grammar.specs.Statement77.{Entity, NamedConstant, Labelled, Statement77, Declare, Dimension, Constants}
 use Rattle.f77_grammar.specs.Statement77.{Test, If, Do}
 use Rattle.fv_meaning.specs.Names.{is_among}
@@ -20,37 +21,41 @@ use Rattle.f77_grammar.specs.program.Uses.{Use, uses_in_text, is_variable, is_co
 
 -- ---- symbolic constants: each has the value of its expression, where the constants before it have theirs
 
-abbrev pub in_range : Value → Result Value Fault
-in_range v = if is_in_range fortran77.bits v then Ok v else Err Overflow
+abbrev pub in_range : Dialect → Value → Result Value Fault
+in_range d v = if is_in_range d.bits v then Ok v else Err Overflow
 
-abbrev pub constant_value : Expression → Store → Result Value Fault
-constant_value e s = do
-  v ← value_of fortran77 e s
-  in_range v
+abbrev pub constant_value : Dialect → Expression → Store → Result Value Fault
+constant_value d e s = do
+  v ← value_of d e s
+  in_range d v
 
 -- no name has a value
 abbrev pub no_values : Store
 no_values = record { bounds = λ x. None; held = λ c. Int (pos 0) }
 
 abbrev pub with_value : List ℕ → Result Value Fault → Store → Store
-with_value x (Ok v) s = record { bounds = λ y. if bytes_eq x y then Some [] else s.bounds y; held = λ c. if bytes_eq x c.name then v else s.held c }
+with_value x (Ok v) s =
+    record {
+      bounds = λ y. if bytes_eq x y then Some [] else s.bounds y;
+      held = λ c. if bytes_eq x c.name then v else s.held c;
+    }
 with_value x (Err fault) s = s
 
-abbrev pub with_constant : NamedConstant → Store → Store
-with_constant d s = with_value d.name (constant_value d.value s) s
+abbrev pub with_constant : Dialect → NamedConstant → Store → Store
+with_constant d c s = with_value c.name (constant_value d c.value s) s
 
-abbrev pub with_constants : List NamedConstant → Store → Store
-with_constants [] s = s
-with_constants (d ∷ ds) s = with_constants ds (with_constant d s)
+abbrev pub with_constants : Dialect → List NamedConstant → Store → Store
+with_constants d [] s = s
+with_constants d (c ∷ cs) s = with_constants d cs (with_constant d c s)
 
 abbrev pub definitions_of : Statement77 → List NamedConstant
-definitions_of (Constants ds) = ds
+definitions_of (Constants cs) = cs
 definitions_of _ = []
 
 -- the values of all symbolic constants of a program; one whose expression faults, or leaves the range of INTEGER, has
 -- none
-abbrev pub constants_of : List Labelled → Store
-constants_of text = with_constants (flat_map (λ (x : Labelled). definitions_of x.statement) text) no_values
+abbrev pub constants_of : Dialect → List Labelled → Store
+constants_of d text = with_constants d (flat_map (λ (x : Labelled). definitions_of x.statement) text) no_values
 
 -- ---- arrays
 
@@ -76,28 +81,28 @@ abbrev pub bounds_of_name : List Labelled → List ℕ → List (Expression × E
 bounds_of_name text x = bounds_among (flat_map (λ (y : Labelled). entities_of y.statement) text) x
 
 -- the numbers that two bounds have
-abbrev pub dimension_of : Store → Expression × Expression → Result (ℤ × ℤ) Fault
-dimension_of s b = do
-  lower ← number_of fortran77 b.0 s
-  upper ← number_of fortran77 b.1 s
+abbrev pub dimension_of : Dialect → Store → Expression × Expression → Result (ℤ × ℤ) Fault
+dimension_of d s b = do
+  lower ← number_of d b.0 s
+  upper ← number_of d b.1 s
   Ok (lower, upper)
 
 abbrev pub size_in : Result (ℤ × ℤ) Fault → ℕ
 size_in (Ok b) = size_of b
 size_in (Err fault) = 0
 
-abbrev pub product_of_sizes : Store → List (Expression × Expression) → ℕ
-product_of_sizes s [] = 1
-product_of_sizes s (b ∷ bs) = size_in (dimension_of s b) * product_of_sizes s bs
+abbrev pub product_of_sizes : Dialect → Store → List (Expression × Expression) → ℕ
+product_of_sizes d s [] = 1
+product_of_sizes d s (b ∷ bs) = size_in (dimension_of d s b) * product_of_sizes d s bs
 
 -- the number of elements, exact; 0 where a bound faults or an upper bound is below its lower bound, and for a scalar
-abbrev pub elements : Store → List (Expression × Expression) → ℕ
-elements s [] = 0
-elements s (b ∷ bs) = product_of_sizes s (b ∷ bs)
+abbrev pub elements : Dialect → Store → List (Expression × Expression) → ℕ
+elements d s [] = 0
+elements d s (b ∷ bs) = product_of_sizes d s (b ∷ bs)
 
 -- the elements of all arrays that these statements declare
-abbrev pub all_elements : Store → List Labelled → ℕ
-all_elements s text = sum (map (elements s) (flat_map (λ (x : Labelled). bounds_declared x.statement) text))
+abbrev pub all_elements : Dialect → Store → List Labelled → ℕ
+all_elements d s text = sum (map (elements d s) (flat_map (λ (x : Labelled). bounds_declared x.statement) text))
 
 -- ---- the five limits, at a place
 
@@ -109,8 +114,8 @@ once (x ∷ xs) = if is_among xs x then once xs else x ∷ once xs
 -- the variables and symbolic constants that stand in these statements
 abbrev pub counted_names : List Use → List Labelled → List (List ℕ)
 counted_names us text =
-    once (map (λ (u : Use). u.name) (filter (λ (u : Use). is_variable us u.name
-        || is_constant us u.name) (uses_in_text text)))
+    let is_counted = λ (u : Use). is_variable us u.name || is_constant us u.name in
+    once (map (λ (u : Use). u.name) (filter is_counted (uses_in_text text)))
 
 -- the 1,001st variable or symbolic constant stands here, or stood before
 abbrev pub has_many_names : List Use → Place → Bool
@@ -132,19 +137,20 @@ is_reversed (Ok b) = int_lt b.1 b.0
 is_reversed (Err fault) = false
 
 -- an upper bound is below its lower bound
-abbrev pub has_reversed_bounds : Store → Place → Bool
-has_reversed_bounds s p = list_any (λ bs. list_any (λ b. is_reversed (dimension_of s b)) bs) (bounds_declared p.here.statement)
+abbrev pub has_reversed_bounds : Dialect → Store → Place → Bool
+has_reversed_bounds d s p =
+    list_any (λ bs. list_any (λ b. is_reversed (dimension_of d s b)) bs) (bounds_declared p.here.statement)
 
 -- the arrays declared up to here have more than 2^22 elements
-abbrev pub has_many_elements : Store → Place → Bool
-has_many_elements s p = nat_lt (2 ^ 22) (all_elements s (p.here ∷ p.before))
+abbrev pub has_many_elements : Dialect → Store → Place → Bool
+has_many_elements d s p = nat_lt (2 ^ 22) (all_elements d s (p.here ∷ p.before))
 
-abbrev pub is_no_constant : Store → Expression → Bool
-is_no_constant s e = is_err (constant_value e s)
+abbrev pub is_no_constant : Dialect → Store → Expression → Bool
+is_no_constant d s e = is_err (constant_value d e s)
 
 -- a symbolic constant or a bound faults, or leaves the range of INTEGER
-abbrev pub has_bad_constant : Store → Place → Bool
-has_bad_constant s p =
-    list_any (λ (d : NamedConstant). is_none (s.bounds d.name)) (definitions_of p.here.statement)
-    || list_any (λ bs. list_any (λ b. is_no_constant s b.0
-        || is_no_constant s b.1) bs) (bounds_declared p.here.statement)
+abbrev pub has_bad_constant : Dialect → Store → Place → Bool
+has_bad_constant d s p =
+    list_any (λ (c : NamedConstant). is_none (s.bounds c.name)) (definitions_of p.here.statement)
+    || list_any (λ bs. list_any (λ b. is_no_constant d s b.0 || is_no_constant d s b.1) bs)
+        (bounds_declared p.here.statement)

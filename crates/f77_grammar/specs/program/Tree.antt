@@ -11,14 +11,15 @@ use Rattle.fv_tree.specs.Plain.{expression, Subscript, Only, Subscripts, no_subs
 use Rattle.fv_tree.specs.Plain.{Single, Constant, ImpliedDo, Items, no_items, item}
 use Rattle.fv_tree.specs.Plain as tree
 use Rattle.fv_tree.specs.declared.ops.Op.TheVariants.{Neg}
-use Rattle.fv_tree.specs.declared.ops.Fun.{Fun}
+use Rattle.fv_tree.specs.declared.functions.Fun.{Fun}
 use Rattle.fv_tree.specs.declared.ops.Fault.{Fault}
 use Rattle.fv_tree.specs.declared.ops.Value.{Value}
 use Rattle.fv_tree.specs.declared.ops.Value.TheVariants.{Int, Truth}
+use Rattle.fv_meaning.specs.Dialect.{Dialect}
 use Rattle.fv_meaning.specs.Store.{Store}
 use Rattle.f77_grammar.specs.Statement77.{Labelled, Statement77, Assign, Go, Test, If, ElseIf, Else, EndIf, Do, Stop}
 use Rattle.f77_grammar.specs.Statement77.{Read, Print}
-use Rattle.fv_meaning.specs.Names.{function_named}
+use Rattle.fv_tree.specs.Functions.{function_named}
 use Rattle.f77_grammar.specs.program.Text.{action, is_label}
 use Rattle.f77_grammar.specs.program.Uses.{Use, uses_in_text, is_title, names_that, is_variable, is_constant, is_array}
 use Rattle.f77_grammar.specs.program.Uses.{kind_of_name}
@@ -89,7 +90,8 @@ module _ (us : List Use) (s : Store) where
     pub resolved_output_item : Item → Item
     resolved_output_item (Single e) = Single (resolved e)
     resolved_output_item (Constant t) = Constant t
-    resolved_output_item (ImpliedDo is x a b c) = ImpliedDo (resolved_outputs is) x (resolved a) (resolved b) (resolved c)
+    resolved_output_item (ImpliedDo is x a b c) =
+        ImpliedDo (resolved_outputs is) x (resolved a) (resolved b) (resolved c)
 
     pub resolved_outputs : Items → Items
     resolved_outputs no_items = no_items
@@ -114,7 +116,8 @@ module _ (us : List Use) (s : Store) where
   simple line Stop = tree.Stop line ∷ []
   simple line (Read is) = tree.Read line (resolved_inputs is) ∷ []
   simple line (Print is) = tree.Print line (resolved_outputs is) ∷ []
-  simple line (Test c body) = tree.If line (tree.arm (resolved c) (tree.block (simple line body)) tree.no_arms) tree.no_statements ∷ []
+  simple line (Test c body) =
+      tree.If line (tree.arm (resolved c) (tree.block (simple line body)) tree.no_arms) tree.no_statements ∷ []
   simple line _ = []
 
 -- ---- labels
@@ -200,7 +203,8 @@ module _ (us : List Use) (s : Store) (named : List ℕ) where
   begun x Else r = else_begun r
   begun x (ElseIf c) r = arm_begun (resolved us s c) r
   begun x (If c) r = if_begun x.line (mark_of named x.label) (resolved us s c) r
-  begun x (Do n v a b c) r = loop_begun (tree.Do x.line v (resolved us s a) (resolved us s b) (resolved us s c)) (mark_of named x.label) n r
+  begun x (Do n v a b c) r =
+      loop_begun (tree.Do x.line v (resolved us s a) (resolved us s b) (resolved us s c)) (mark_of named x.label) n r
   begun x other r = preceded (record { ends = x.label; made = mark_of named x.label ++ simple us s x.line other }) r
 
   abbrev pub rest_from : List Labelled → Rest
@@ -222,21 +226,26 @@ abbrev pub bounds_in : Result (ℤ × ℤ) Fault → ℤ × ℤ
 bounds_in (Ok b) = b
 bounds_in (Err fault) = (pos 1, pos 0)
 
-abbrev pub declaration_of : List Use → Store → List Labelled → List ℕ → tree.Declaration
-declaration_of us s text x = record { name = x; kind = kind_of_name us x; extent = tree.Given (map (λ b. bounds_in (dimension_of s b)) (bounds_of_name text x)) }
+abbrev pub declaration_of : Dialect → List Use → Store → List Labelled → List ℕ → tree.Declaration
+declaration_of d us s text x =
+    record {
+      name = x;
+      kind = kind_of_name us x;
+      extent = tree.Given (map (λ b. bounds_in (dimension_of d s b)) (bounds_of_name text x));
+    }
 
 abbrev pub first_of_names : List (List ℕ) → Option (List ℕ)
 first_of_names [] = None
 first_of_names (x ∷ xs) = Some x
 
-abbrev pub program_with : List Use → Store → List Labelled → tree.Program
-program_with us s text =
+abbrev pub program_with : Dialect → List Use → Store → List Labelled → tree.Program
+program_with d us s text =
     record {
       name = first_of_names (names_that is_title us);
-      declarations = map (declaration_of us s text) (variables_of us);
+      declarations = map (declaration_of d us s text) (variables_of us);
       body = outermost_block (rest_from us s (targets text) text);
     }
 
 -- the tree that the statements form
-abbrev pub tree_of : List Labelled → tree.Program
-tree_of text = program_with (uses_in_text text) (constants_of text) text
+abbrev pub tree_of : Dialect → List Labelled → tree.Program
+tree_of d text = program_with d (uses_in_text text) (constants_of d text) text

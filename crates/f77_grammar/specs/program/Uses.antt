@@ -1,6 +1,5 @@
 -- How the names of a program stand in it, and what they are: variables, arrays, symbolic constants, functions (ANSI
--- X3.9-1978,
--- sections 2.2, 4.1.2, 8.1, 8.4, 8.6 and 18.2).
+-- X3.9-1978, sections 2.2, 4.1.2, 8.1, 8.4, 8.6 and 18.2).
 use Rattle.std.specs.Prelude.{ℕ, zero, Bool, true, false, not, ◌&&◌, ◌||◌, Option, None, Some, is_some, List, [], ◌∷◌}
 use Rattle.std.specs.Prelude.{◌++◌, map, length}
 use Rattle.std.specs.Str.{bytes_eq}
@@ -13,13 +12,12 @@ use Rattle.fv_tree.specs.declared.ops.Kind.TheVariants.{Integer}
 use Rattle.f77_grammar.specs.Statement77.{Entity, NamedConstant, Labelled, Statement77, Program, Declare, Dimension}
 use Rattle.f77_grammar.specs.Statement77.{Constants, Assign, Go, Test, If, ElseIf, Else, EndIf, Do, Continue, Stop}
 use Rattle.f77_grammar.specs.Statement77.{Read, Print, End}
-use Rattle.fv_meaning.specs.Names.{function_named}
+use Rattle.fv_tree.specs.Functions.{function_named}
 use Rattle.fv_meaning.specs.Typed77.{number_of_subscripts}
 
 -- How a name stands: as the program's name; in a type statement; with bounds for so many dimensions; in PARAMETER,
--- before the `=`; in an expression, with as
--- many subscripts or arguments in parentheses, 0 where it stands bare; so too as what is assigned or read into; as a DO
--- variable
+-- before the `=`; in an expression, with as many subscripts or arguments in parentheses, 0 where it stands bare; so too
+-- as what is assigned or read into; as a DO variable
 pub data Role : Type 0 where
   Title : Role
   Typed : Kind → Role
@@ -186,6 +184,10 @@ is_array us x = stands is_bounded us x && not (is_constant us x)
 -- one of the seven names, where no variable or constant of the program hides it (section 18.2.3)
 abbrev pub is_function : List Use → List ℕ → Bool
 is_function us x = is_some (function_named x) && not (is_variable us x) && not (is_constant us x)
+
+-- the name stands here for a function, which is called: a program's name by itself calls nothing
+abbrev pub calls : List Use → Use → Bool
+calls us u = not (is_title u.role) && is_function us u.name
 
 abbrev pub type_in : Role → Bool → Option Kind → Option Kind
 type_in (Typed k) true other = Some k

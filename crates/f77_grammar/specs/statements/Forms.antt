@@ -173,7 +173,9 @@ abbrev pub IsWritten : Form → List Symbol → Type 0
 IsWritten (Program x) text = IsFollowed (codes "PROGRAM") (words.Name x ∷ []) text
 IsWritten (Declare k es) text = IsFollowed (keyword_of k) (separated written_entity es) text × IsList IsEntity es
 IsWritten (Dimension es) text = IsFollowed (codes "DIMENSION") (separated written_entity es) text × IsList IsBounded es
-IsWritten (Constants ds) text = IsFollowed (codes "PARAMETER") (words.Open ∷ (separated written_definition ds ++ words.Close ∷ [])) text × IsList IsDefinition ds
+IsWritten (Constants ds) text =
+    IsFollowed (codes "PARAMETER") (words.Open ∷ (separated written_definition ds ++ words.Close ∷ [])) text
+    × IsList IsDefinition ds
 IsWritten (Assign l r) text = Words text (written l ++ (words.Equals ∷ written r)) × IsReference l × IsExpression l
     × IsExpression r
 IsWritten (Go label) text = (text ≡ chars (codes "GOTO" ++ label)) × IsLabel label

@@ -74,7 +74,9 @@ abbrev mutual
   pub written_item : ItemPhrase → List Word
   written_item (Value p) = written p
   written_item (Text t) = words.Constant t ∷ []
-  written_item (Loop is x a b c) = words.Open ∷ (written_items is ++ words.Comma ∷ (words.Name x ∷ (words.Equals ∷ (written_bounds a b c ++ words.Close ∷ []))))
+  written_item (Loop is x a b c) =
+      let control = words.Name x ∷ (words.Equals ∷ (written_bounds a b c ++ words.Close ∷ [])) in
+      words.Open ∷ (written_items is ++ words.Comma ∷ control)
 
   pub written_items : ItemPhrases → List Word
   written_items (Sole i) = written_item i

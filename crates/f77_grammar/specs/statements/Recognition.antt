@@ -64,7 +64,7 @@ abbrev pub has_equals_outside : List Symbol → ℕ → Bool
 has_equals_outside [] opened = false
 has_equals_outside (s ∷ ss) opened = has_equals_by (bracket_of s) s (has_equals_outside ss) opened
 
--- ---- a statement that begins with IF( whose matching parenthesis is followed by a letter is a block IF or a logical IF
+-- ---- a statement that begins with IF( is a block IF or a logical IF, where a letter follows the matching parenthesis
 
 abbrev pub BeginsWithLetter : List Symbol → Type 0
 BeginsWithLetter (Char c ∷ ss) = IsTrue (is_letter c)
@@ -86,11 +86,13 @@ pub record IsOfKeyword (text : List Symbol) : Type 0 where
 
 abbrev pub words_left_out : List (List ℕ × ℕ)
 words_left_out =
-    (codes "REAL", 1) ∷ (codes "DOUBLEPRECISION", 2) ∷ (codes "COMPLEX", 3) ∷ (codes "CHARACTER", 4) ∷ (codes "EQUIVALENCE", 5) ∷ (codes "COMMON", 6)
-    ∷ (codes "DATA", 7) ∷ (codes "SAVE", 8) ∷ (codes "IMPLICIT", 9) ∷ (codes "ENTRY", 10) ∷ (codes "BLOCKDATA", 11) ∷ (codes "FORMAT", 12)
-    ∷ (codes "FUNCTION", 13) ∷ (codes "INTEGERFUNCTION", 14) ∷ (codes "LOGICALFUNCTION", 15) ∷ (codes "SUBROUTINE", 16) ∷ (codes "CALL", 17)
-    ∷ (codes "RETURN", 18) ∷ (codes "ASSIGN", 19) ∷ (codes "PAUSE", 20) ∷ (codes "EXTERNAL", 21) ∷ (codes "INTRINSIC", 22) ∷ (codes "OPEN", 23)
-    ∷ (codes "CLOSE", 24) ∷ (codes "INQUIRE", 25) ∷ (codes "REWIND", 26) ∷ (codes "BACKSPACE", 27) ∷ (codes "ENDFILE", 28) ∷ (codes "INCLUDE", 29)
+    (codes "REAL", 1) ∷ (codes "DOUBLEPRECISION", 2) ∷ (codes "COMPLEX", 3) ∷ (codes "CHARACTER", 4)
+    ∷ (codes "EQUIVALENCE", 5) ∷ (codes "COMMON", 6) ∷ (codes "DATA", 7) ∷ (codes "SAVE", 8) ∷ (codes "IMPLICIT", 9)
+    ∷ (codes "ENTRY", 10) ∷ (codes "BLOCKDATA", 11) ∷ (codes "FORMAT", 12) ∷ (codes "FUNCTION", 13)
+    ∷ (codes "INTEGERFUNCTION", 14) ∷ (codes "LOGICALFUNCTION", 15) ∷ (codes "SUBROUTINE", 16) ∷ (codes "CALL", 17)
+    ∷ (codes "RETURN", 18) ∷ (codes "ASSIGN", 19) ∷ (codes "PAUSE", 20) ∷ (codes "EXTERNAL", 21)
+    ∷ (codes "INTRINSIC", 22) ∷ (codes "OPEN", 23) ∷ (codes "CLOSE", 24) ∷ (codes "INQUIRE", 25)
+    ∷ (codes "REWIND", 26) ∷ (codes "BACKSPACE", 27) ∷ (codes "ENDFILE", 28) ∷ (codes "INCLUDE", 29)
     ∷ (codes "DOWHILE", 30) ∷ (codes "ENDDO", 31) ∷ []
 
 -- one label at least, separated by commas
@@ -119,7 +121,7 @@ pub record IsArithmeticIf (text : List Symbol) : Type 0 where
   pub third : List ℕ
   pub labels : AreLabels first (second ∷ third ∷ []) rest
 
--- GO TO (l1, ..) [,] e (section 11.2)
+-- GO TO (l1, ..) [,] e (section 11.2): a comma behind the labels is taken, and what follows it is something
 pub record IsComputedGoTo (text : List Symbol) : Type 0 where
   pub list : List Symbol
   pub first : List ℕ
@@ -129,7 +131,7 @@ pub record IsComputedGoTo (text : List Symbol) : Type 0 where
   pub index : List Symbol
   pub written : text ≡ chars (codes "GOTO(") ++ (list ++ (chars (codes ")" ++ optional_comma comma) ++ index))
   pub something : ¬ IsNothing index
-  pub no_comma : (rest : List Symbol) → index ≡ Char 44 ∷ rest → ⊥
+  pub taken : comma ≡ false → (rest : List Symbol) → index ≡ Char 44 ∷ rest → ⊥
 
 -- GO TO x, and GO TO x [,] (l1, ..) (section 11.3)
 pub data IsAssignedGoTo (text : List Symbol) : Type 0 where

@@ -1,4 +1,4 @@
-use Rattle.std.proofs.Common.{take, arith, length-take}
+use Rattle.std.proofs.Common.{rules, ◌∙◌, take, arith, length-take}
 use Rattle.fv_io.proofs.Chained.{takes_beyond, takes_within}
 use Rattle.fv_io.proofs.transfer.read_all.Goals as goal
 
@@ -16,3 +16,14 @@ returns-in_err-extend_from_slice-in-Bytes-clause-not_too_long g c =
     let n = c.in-Bytes.n in
     let buffer = c.take.new.buffer in
     takes_within c.args.limit _ _ _ c.loop-n.bytes.items (take n buffer) c.loop-n.invariant.taken c.in-Bytes.ensures.bytes (omega (arith, c.in-Bytes.ensures.count, length-take n buffer))
+
+pub returns-then-n-limit-clause-no_fault : goal.returns-then-n-limit-clause-no_fault
+returns-then-n-limit-clause-no_fault g c = λ _. c.in-Bytes.ensures.not_failed (search rules) ∙ c.loop-n.invariant.faultless
+
+pub returns-in_err-extend_from_slice-in-Bytes-clause-no_fault :
+    goal.returns-in_err-extend_from_slice-in-Bytes-clause-no_fault
+returns-in_err-extend_from_slice-in-Bytes-clause-no_fault g c =
+    λ _. c.in-Bytes.ensures.not_failed (search rules) ∙ c.loop-n.invariant.faultless
+
+pub returns-in-End-clause-no_fault : goal.returns-in-End-clause-no_fault
+returns-in-End-clause-no_fault g c = λ _. c.in-End.ensures.not_failed (search rules) ∙ c.loop-n.invariant.faultless

@@ -16,10 +16,10 @@ returns-then-has_misused_name c us seen h k = (
   λ e. absurd (false≢true (sym e)),
 )
 
-pub returns-then-has_title : goal.returns-then-has_title
-returns-then-has_title c us seen h k = (
+pub returns-then-bear_title : goal.returns-then-bear_title
+returns-then-bear_title c us seen h k = (
   wrong_title us seen (statement_of c.args.statement.now)
-      (title_here c.args.self.now seen (statement_of c.args.statement.now) c.as_slice-uses.result.now k (ap (map plain_use) c.as_slice-uses.ensures ∙ c.in_ok-add_statement.ensures ∙ ap (λ vs. vs ++ plain.uses_of (statement_of c.args.statement.now)) c.new-here.ensures) ∙ sym c.has_title.ensures ∙ c.if-has_title.true),
+      (title_here c.args.self.now c.args.names.now us seen (statement_of c.args.statement.now) c.as_slice-uses.result.now k h (ap (map plain_use) c.as_slice-uses.ensures ∙ c.in_ok-add_statement.ensures ∙ ap (λ vs. vs ++ plain.uses_of (statement_of c.args.statement.now)) c.new-here.ensures) ∙ sym c.bear_title.ensures ∙ c.if-bear_title.true),
   λ e. absurd (false≢true (sym e)),
 )
 
@@ -36,7 +36,7 @@ returns c =
     (λ again declares us seen h k. (
       (declares seen k).0 ∙ ap (declares_again seen) (ap (map plain_use) c.as_slice-uses.ensures ∙ c.in_ok-add_statement.ensures ∙ ap (λ vs. vs ++ plain.uses_of (statement_of c.args.statement.now)) c.new-here.ensures)
           ∙ wrong_again us seen (statement_of c.args.statement.now)
-          (title_here c.args.self.now seen (statement_of c.args.statement.now) c.as_slice-uses.result.now k (ap (map plain_use) c.as_slice-uses.ensures ∙ c.in_ok-add_statement.ensures ∙ ap (λ vs. vs ++ plain.uses_of (statement_of c.args.statement.now)) c.new-here.ensures) ∙ sym c.has_title.ensures ∙ c.if-has_title.false)
+          (title_here c.args.self.now c.args.names.now us seen (statement_of c.args.statement.now) c.as_slice-uses.result.now k h (ap (map plain_use) c.as_slice-uses.ensures ∙ c.in_ok-add_statement.ensures ∙ ap (λ vs. vs ++ plain.uses_of (statement_of c.args.statement.now)) c.new-here.ensures) ∙ sym c.bear_title.ensures ∙ c.if-bear_title.false)
           (sym (c.in_ok-has_unknown_constant.ensures (plain.names_that plain.is_defined seen) (seen_defined c.args.self.now seen k)) ∙ c.if-branch.false)
           (misused_here c.args.names.now us (statement_of c.args.statement.now) c.as_slice-uses.result.now h (ap (map plain_use) c.as_slice-uses.ensures ∙ c.in_ok-add_statement.ensures ∙ ap (λ vs. vs ++ plain.uses_of (statement_of c.args.statement.now)) c.new-here.ensures) ∙ sym c.has_misused_name.ensures ∙ c.if-has_misused_name.false),
       λ e. seen_same c.declares_again.new.self (map plain_use c.as_slice-uses.result.now ++ seen) (plain.uses_of (statement_of c.args.statement.now) ++ seen)

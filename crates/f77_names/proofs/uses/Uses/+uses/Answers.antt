@@ -3,7 +3,7 @@ use Rattle.fv_tree.specs.Plain.{subscripts, expressions}
 use Rattle.fv_tree.specs.View.{expression_of, subscript_of}
 use Rattle.f77_grammar.specs.program.Uses as plain
 use Rattle.f77_names.specs.UsesView.{listed}
-use Rattle.f77_names.proofs.UseLaws.{uses-int, uses-truth, arguments_more, subscripts_more, nothing_added, added}
+use Rattle.f77_names.proofs.UseLaws.{uses-int, uses-truth, uses-list, uses-spread, uses-transpose, uses-reshape, uses-reduce, uses-part, arguments_more, subscripts_more, nothing_added, added}
 use Rattle.f77_names.proofs.uses.Uses.+uses.Goals as goal
 
 pub add_expr-returns-in-Int : goal.add_expr-returns-in-Int
@@ -13,6 +13,31 @@ add_expr-returns-in-Int t c =
 pub add_expr-returns-in-Truth : goal.add_expr-returns-in-Truth
 add_expr-returns-in-Truth t c =
     nothing_added (listed c.args.self.now) (plain.uses_in (expression_of c.args.expr.now)) (ap (λ e. plain.uses_in (expression_of e)) c.in-Truth.is ∙ uses-truth c.in-Truth.field-0)
+
+pub add_expr-returns-in-List : goal.add_expr-returns-in-List
+add_expr-returns-in-List t c =
+    nothing_added (listed c.args.self.now) (plain.uses_in (expression_of c.args.expr.now)) (ap (λ e. plain.uses_in (expression_of e)) c.in-List.is ∙ uses-list c.in-List.field-0 c.in-List.field-1)
+
+pub add_expr-returns-in-Spread : goal.add_expr-returns-in-Spread
+add_expr-returns-in-Spread t c =
+    nothing_added (listed c.args.self.now) (plain.uses_in (expression_of c.args.expr.now)) (ap (λ e. plain.uses_in (expression_of e)) c.in-Spread.is ∙ uses-spread c.in-Spread.field-0 c.in-Spread.field-1 c.in-Spread.field-2)
+
+pub add_expr-returns-in-Transpose : goal.add_expr-returns-in-Transpose
+add_expr-returns-in-Transpose t c =
+    nothing_added (listed c.args.self.now) (plain.uses_in (expression_of c.args.expr.now)) (ap (λ e. plain.uses_in (expression_of e)) c.in-Transpose.is ∙ uses-transpose c.in-Transpose.field-0)
+
+pub add_expr-returns-in-Reshape : goal.add_expr-returns-in-Reshape
+add_expr-returns-in-Reshape t c =
+    nothing_added (listed c.args.self.now) (plain.uses_in (expression_of c.args.expr.now)) (ap (λ e. plain.uses_in (expression_of e)) c.in-Reshape.is ∙ uses-reshape c.in-Reshape.field-0 c.in-Reshape.field-1)
+
+pub add_expr-returns-in-Reduce : goal.add_expr-returns-in-Reduce
+add_expr-returns-in-Reduce t c =
+    nothing_added (listed c.args.self.now) (plain.uses_in (expression_of c.args.expr.now)) (ap (λ e. plain.uses_in (expression_of e)) c.in-Reduce.is ∙ uses-reduce c.in-Reduce.field-0 c.in-Reduce.field-1)
+
+pub add_sub-returns-in-Part : goal.add_sub-returns-in-Part
+add_sub-returns-in-Part t c =
+    nothing_added (listed c.args.self.now) (plain.uses_in_subscript (subscript_of c.args.sub.now))
+    (ap (λ s. plain.uses_in_subscript (subscript_of s)) c.in-Part.is ∙ uses-part c.in-Part.field-0 c.in-Part.field-1 c.in-Part.field-2)
 
 pub add_exprs-loop-expr-preserved : goal.add_exprs-loop-expr-preserved
 add_exprs-loop-expr-preserved t c =

@@ -1,4 +1,4 @@
-use Rattle.fv_tree.specs.Spelling.{spelling77_of}
+use Rattle.fv_tree.specs.OperatorTable.{spelling77_of}
 use Rattle.fv_tree.specs.declared.ops.TheConstants.{OPERATORS}
 use Rattle.fv_tree.proofs.Table.{find-IsSpelled}
 use Rattle.fv_tree.proofs.ops.Op.read77.Goals as goal

@@ -1,4 +1,4 @@
-use Rattle.fv_tree.specs.Spelling.{spelling90_of}
+use Rattle.fv_tree.specs.OperatorTable.{spelling90_of}
 use Rattle.fv_tree.specs.declared.ops.TheConstants.{OPERATORS}
 use Rattle.fv_tree.proofs.Table.{find-IsSpelled}
 use Rattle.fv_tree.proofs.ops.Op.read90.Goals as goal

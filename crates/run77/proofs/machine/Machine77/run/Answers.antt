@@ -2,7 +2,8 @@ use Rattle.fv_meaning.specs.Dialect.{fortran77}
 use Rattle.std.proofs.Common.{sym, ◌∙◌, subst}
 use Rattle.fv_tree.specs.Plain.{Program}
 use Rattle.fv_tree.specs.View.{block_of}
-use Rattle.fv_meaning.specs.Profile77.{IsProgram77, outermost}
+use Rattle.fv_meaning.specs.Profile77.{IsProgram77}
+use Rattle.fv_meaning.specs.Blocks.{outermost}
 use Rattle.run77.specs.declared.machine.Machine77.{Machine77}
 use Rattle.fv_machine.specs.Statements.{BlockHasArms}
 use Rattle.run77.specs.Machine.{IsMachineOf}
@@ -12,7 +13,7 @@ use Rattle.run77.proofs.ProgramLaws.{block_has_arms}
 use Rattle.fv_machine.proofs.MachineLaws.{runs_to_end, keeps_names}
 use Rattle.run77.proofs.machine.Machine77.run.Goals as goal
 
-has_arms : (p : Program) (m : Machine77) → IsProgram77 p → IsMachineOf p m → BlockHasArms (block_of m.body)
+has_arms : (p : Program) (m : Machine77) → IsProgram77 fortran77 p → IsMachineOf p m → BlockHasArms (block_of m.body)
 has_arms p m h is = subst BlockHasArms (sym is.body) (block_has_arms p.declarations p.body outermost h.statements)
 
 pub returns-clause-run : goal.returns-clause-run

@@ -36,7 +36,7 @@ call-returns t c =
     let s = store_in c.args.self.now.storage in
     let whole = call_of fortran77 c.args.function (expressions (map expression_of c.args.exprs.now)) s in
     let e = call_end whole c.args.function c.loop-expr.arguments c.as_slice-expr-items.result.now c.loop-expr.expr-index s c.loop-expr.invariant (omega arith) in
-    c.call.ensures ∙ e
+    c.call.ensures.value ∙ e
 
 pub offset-returns-in_err-subscript : goal.offset-returns-in_err-subscript
 offset-returns-in_err-subscript t c =

@@ -1,0 +1,6 @@
+pub mod Emission
+pub mod Laws
+pub mod Lists
+pub mod Orders
+pub mod Reachability
+pub mod Tables

@@ -1,0 +1,13 @@
+//! Dependence graphs of nests, and the strongly connected components of a relation in topological order.
+#![tactic(auto)]
+
+mod classes;
+mod graphs;
+mod laws;
+mod reach;
+#[cfg(test)]
+mod tests;
+
+pub use classes::{Order, components};
+pub use graphs::{Cycle, Dep, Dropped, Edge, Graph, Hold, HoldReason, Place};
+pub use laws::{order_has_components, order_is_unique};

@@ -1,0 +1,91 @@
+-- Arrays have no kind in FORTRAN 77.
+use Rattle.std.proofs.Common.{sym, ap, ◌∙◌, not, ◌&&◌, map, length}
+use Rattle.fv_tree.specs.View.{expression_of, subscript_of}
+use Rattle.f77_grammar.specs.program.Kinds as kinds
+use Rattle.f77_names.specs.UsesView.{listed}
+use Rattle.fv_tree.specs.OperatorTable.{is_unary, result_kind_of, operand_kind}
+use Rattle.fv_tree.specs.declared.exprs.Expr.TheVariants as exprs
+use Rattle.fv_tree.specs.declared.ops.Kind.TheVariants.{Integer}
+use Rattle.fv_tree.specs.Functions.{suits_number}
+use Rattle.fv_tree.specs.Plain.{expressions}
+use Rattle.f77_kinds.specs.Operands.{are_operands}
+use Rattle.f77_kinds.proofs.KindLaws.{kind-int, kind-truth, kind-un, kind-bin, kind-call, first_holds, first_fails, same_operand, told}
+use Rattle.f77_kinds.proofs.KindLaws.{kind-list, kind-spread, kind-transpose, kind-reshape, kind-reduce, subscript-part}
+use Rattle.f77_kinds.proofs.kind_check.KindCheck.+kinds.Goals as goal
+
+-- ---- the nodes of FORTRAN 77
+
+pub has_kind-returns-in-Int : goal.has_kind-returns-in-Int
+has_kind-returns-in-Int t c =
+    told (listed c.args.self.now.uses) c.args.expr.now (exprs.Int c.in-Int.field-0) c.args.kind c.same_kind.result _ c.same_kind.ensures c.in-Int.is
+    (kind-int (listed c.args.self.now.uses) c.in-Int.field-0 c.args.kind)
+
+pub has_kind-returns-in-Truth : goal.has_kind-returns-in-Truth
+has_kind-returns-in-Truth t c =
+    told (listed c.args.self.now.uses) c.args.expr.now (exprs.Truth c.in-Truth.field-0) c.args.kind c.same_kind-in-Truth.result _ c.same_kind-in-Truth.ensures c.in-Truth.is
+    (kind-truth (listed c.args.self.now.uses) c.in-Truth.field-0 c.args.kind)
+
+pub has_kind-returns-then-unary_gives : goal.has_kind-returns-then-unary_gives
+has_kind-returns-then-unary_gives t c =
+    told (listed c.args.self.now.uses) c.args.expr.now (exprs.Un c.in-Un.op c.in-Un.a) c.args.kind c.has_kind.result _
+    (first_holds c.unary_gives.result (is_unary c.in-Un.op) (kinds.same_kind (result_kind_of c.in-Un.op) c.args.kind)
+      (kinds.has_kind (listed c.args.self.now.uses) (expression_of c.in-Un.a.value) (operand_kind c.in-Un.op)) c.has_kind.result
+      c.unary_gives.ensures c.if-unary_gives.true
+      (same_operand (listed c.args.self.now.uses) _ c.in-Un.a.value _ (operand_kind c.in-Un.op) c.has_kind.result c.has_kind.ensures c.deref.ensures c.operand_kind.ensures))
+    c.in-Un.is (kind-un (listed c.args.self.now.uses) c.in-Un.op c.in-Un.a c.args.kind)
+
+pub has_kind-returns-else-unary_gives : goal.has_kind-returns-else-unary_gives
+has_kind-returns-else-unary_gives t c =
+    told (listed c.args.self.now.uses) c.args.expr.now (exprs.Un c.in-Un.op c.in-Un.a) c.args.kind c.unary_gives.result _
+    (first_fails c.unary_gives.result (is_unary c.in-Un.op) (kinds.same_kind (result_kind_of c.in-Un.op) c.args.kind)
+      (kinds.has_kind (listed c.args.self.now.uses) (expression_of c.in-Un.a.value) (operand_kind c.in-Un.op)) c.unary_gives.ensures c.if-unary_gives.false)
+    c.in-Un.is (kind-un (listed c.args.self.now.uses) c.in-Un.op c.in-Un.a c.args.kind)
+
+pub has_kind-returns-then-binary_gives : goal.has_kind-returns-then-binary_gives
+has_kind-returns-then-binary_gives t c =
+    told (listed c.args.self.now.uses) c.args.expr.now (exprs.Bin c.in-Bin.op c.in-Bin.a c.in-Bin.b) c.args.kind c.are_operands.result _
+    (first_holds c.binary_gives.result (not (is_unary c.in-Bin.op)) (kinds.same_kind (result_kind_of c.in-Bin.op) c.args.kind)
+      (are_operands (listed c.args.self.now.uses) c.in-Bin.op (expression_of c.in-Bin.a.value) (expression_of c.in-Bin.b.value)) c.are_operands.result
+      c.binary_gives.ensures c.if-binary_gives.true
+      (c.are_operands.ensures ∙ ap (λ e. are_operands (listed c.args.self.now.uses) c.in-Bin.op (expression_of e) (expression_of c.deref-2.result.now)) c.deref.ensures
+      ∙ ap (λ e. are_operands (listed c.args.self.now.uses) c.in-Bin.op (expression_of c.in-Bin.a.value) (expression_of e)) c.deref-2.ensures))
+    c.in-Bin.is (kind-bin (listed c.args.self.now.uses) c.in-Bin.op c.in-Bin.a c.in-Bin.b c.args.kind)
+
+pub has_kind-returns-else-binary_gives : goal.has_kind-returns-else-binary_gives
+has_kind-returns-else-binary_gives t c =
+    told (listed c.args.self.now.uses) c.args.expr.now (exprs.Bin c.in-Bin.op c.in-Bin.a c.in-Bin.b) c.args.kind c.binary_gives.result _
+    (first_fails c.binary_gives.result (not (is_unary c.in-Bin.op)) (kinds.same_kind (result_kind_of c.in-Bin.op) c.args.kind)
+      (are_operands (listed c.args.self.now.uses) c.in-Bin.op (expression_of c.in-Bin.a.value) (expression_of c.in-Bin.b.value)) c.binary_gives.ensures c.if-binary_gives.false)
+    c.in-Bin.is (kind-bin (listed c.args.self.now.uses) c.in-Bin.op c.in-Bin.a c.in-Bin.b c.args.kind)
+
+-- ---- and those of Fortran 90 alone
+
+pub has_kind-returns-in-List : goal.has_kind-returns-in-List
+has_kind-returns-in-List t c =
+    sym (ap (λ e. kinds.has_kind (listed c.args.self.now.uses) (expression_of e) c.args.kind) c.in-List.is
+    ∙ kind-list (listed c.args.self.now.uses) c.in-List.field-0 c.in-List.field-1 c.args.kind)
+
+pub has_kind-returns-in-Spread : goal.has_kind-returns-in-Spread
+has_kind-returns-in-Spread t c =
+    sym (ap (λ e. kinds.has_kind (listed c.args.self.now.uses) (expression_of e) c.args.kind) c.in-Spread.is
+    ∙ kind-spread (listed c.args.self.now.uses) c.in-Spread.field-0 c.in-Spread.field-1 c.in-Spread.field-2 c.args.kind)
+
+pub has_kind-returns-in-Transpose : goal.has_kind-returns-in-Transpose
+has_kind-returns-in-Transpose t c =
+    sym (ap (λ e. kinds.has_kind (listed c.args.self.now.uses) (expression_of e) c.args.kind) c.in-Transpose.is
+    ∙ kind-transpose (listed c.args.self.now.uses) c.in-Transpose.field-0 c.args.kind)
+
+pub has_kind-returns-in-Reshape : goal.has_kind-returns-in-Reshape
+has_kind-returns-in-Reshape t c =
+    sym (ap (λ e. kinds.has_kind (listed c.args.self.now.uses) (expression_of e) c.args.kind) c.in-Reshape.is
+    ∙ kind-reshape (listed c.args.self.now.uses) c.in-Reshape.field-0 c.in-Reshape.field-1 c.args.kind)
+
+pub has_kind-returns-in-Reduce : goal.has_kind-returns-in-Reduce
+has_kind-returns-in-Reduce t c =
+    sym (ap (λ e. kinds.has_kind (listed c.args.self.now.uses) (expression_of e) c.args.kind) c.in-Reduce.is
+    ∙ kind-reduce (listed c.args.self.now.uses) c.in-Reduce.field-0 c.in-Reduce.field-1 c.args.kind)
+
+pub is_subscript-returns-in-Part : goal.is_subscript-returns-in-Part
+is_subscript-returns-in-Part t c =
+    sym (ap (λ s. kinds.is_subscript (listed c.args.self.now.uses) (subscript_of s)) c.in-Part.is
+    ∙ subscript-part (listed c.args.self.now.uses) c.in-Part.field-0 c.in-Part.field-1 c.in-Part.field-2)

@@ -1,0 +1,42 @@
+//! The GCD test.
+ghost use Rattle.std.specs.Prelude.{◌↔◌, IsTrue, map};
+ghost use Rattle.gcd_banerjee.specs.Divisors.{IsGcdFrom, difference_of};
+ghost use Rattle.subscripts.specs.Forms.{HasNoPair};
+ghost use Rattle.subscripts.specs.Refutations.{HasGcd, IsRefutedByGcd};
+ghost use Rattle.subscripts.specs.Shapes.{IsPairing};
+ghost use Rattle.subscripts.specs.declared.affine.Dirs.{Dirs as Vector};
+
+use crate::divisors::{divides, gcd, gcd_with};
+use subscripts::Pairing;
+
+// The greatest common divisor of a number and the differences of the coefficients of these symbols.
+fn gcd_with_symbols(start: u64, p: &Pairing, symbols: &[(u16, i64)]) -> u64
+    requires { IsPairing p.now }
+    ensures { IsGcdFrom start (map (difference_of p.now) symbols.now) result }
+{
+    let mut all = start;
+    for (symbol, _) in symbols {
+        all = gcd(all, p.symbol_difference(*symbol).unsigned_abs());
+    }
+    all
+}
+
+// The greatest common divisor of all coefficients of a pairing.
+fn gcd_of(p: &Pairing) -> u64
+    requires { IsPairing p.now }
+    ensures { HasGcd p.now result }
+{
+    let loops = gcd_with(gcd_with(0, &p.from.loops), &p.to.loops);
+    gcd_with_symbols(gcd_with_symbols(loops, p, &p.from.syms), p, &p.to.syms)
+}
+
+/// Whether the greatest common divisor of the coefficients of all loops, and of the differences of each symbol's two
+/// coefficients, doesn't divide the difference of the constants (Goff, Kennedy and Tseng 1991, section 4.4). Then no
+/// whole numbers at all make both sides equal.
+pub fn gcd_refutes(p: &Pairing) -> bool
+    requires { IsPairing p.now }
+    ensures exact { IsTrue result ↔ IsRefutedByGcd p.now }
+    ensures sound { IsTrue result → IsTrue p.now.known → (d : Vector) → HasNoPair p.now d }
+{
+    !divides(gcd_of(p), (p.to.constant - p.from.constant).unsigned_abs())
+}

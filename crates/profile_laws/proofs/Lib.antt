@@ -1,0 +1,13 @@
+pub mod Lists
+pub mod Names
+pub mod Targets
+pub mod Programs
+pub mod Forward
+pub mod Answering
+pub mod Stores
+pub mod ValueKinds
+pub mod Parts
+pub mod Walks
+pub mod TargetRuns
+pub mod SourceValues
+pub mod SourceRuns

@@ -1,0 +1,5 @@
+pub mod Profiles
+pub mod Forward
+pub mod Values
+pub mod Stores
+pub mod Faults
