@@ -46,4 +46,3 @@ opening_store_is ds = ap (λ (f : Cell → Value). let s : Store = record { boun
 
 pub opens_with : (ds : List Declaration) (vs : List Value) → vs ≡ noughts_of ds → store_of ds vs ≡ opening_of ds
 opens_with ds vs e = ap (store_of ds) e ∙ opening_store_is ds
-

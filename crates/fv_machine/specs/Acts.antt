@@ -42,7 +42,7 @@ unfoldable pub Runs : LimitedAct → List ℕ → Seen → Option (List ℕ) →
     → Type 0
 Runs act input old before new now r = (names : List Declaration) (limit : Option ℕ) (base : Option (List ℕ)) (s : State)
     → Stands names limit input old Going s → before ≡ append_known base s.written
-        → Outcome names limit input base new now r (act limit s)
+    → Outcome names limit input base new now r (act limit s)
 
 abbrev pub left_of : {A : Type 0} → Result A Halt → Result A Left
 left_of (Ok x) = Ok x

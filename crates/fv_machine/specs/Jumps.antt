@@ -1,6 +1,7 @@
 -- Jumps, and the labels where they end.
 use Rattle.std.specs.Prelude.{Result, Ok, Err, Option, Some, None, ℕ, ◌==◌, if◌then◌else◌}
-use Rattle.fv_tree.specs.Plain.{Statement, Assignment, Where, If, Do, Label, GoTo, Stop, Read, Print, Allocate, Deallocate}
+use Rattle.fv_tree.specs.Plain.{Statement, Assignment, Where, If, Do, Label, GoTo, Stop, Read, Print, Allocate}
+use Rattle.fv_tree.specs.Plain.{Deallocate}
 use Rattle.fv_meaning.specs.Run.{Way, Going, Jumping}
 use Rattle.fv_machine.specs.declared.progress.Halt.{Halt}
 use Rattle.fv_machine.specs.declared.progress.Halt.TheVariants.{Jump, Stop as Stop', Fault, Limit}

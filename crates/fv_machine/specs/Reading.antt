@@ -23,7 +23,7 @@ module _ (input : List ℕ) (line : ℕ) (old new : Seen) where
   unfoldable pub TakesWord : List ℕ → Type 0
   TakesWord w = (k : List ℕ → LimitedAct) (before now : Option (List ℕ)) (end : Seen) (r : Result (Unit {0}) Left)
       → Runs (k w) input new before end now r
-          → Runs (λ limit. takes_word line (λ w. k w limit)) input old before end now r
+      → Runs (λ limit. takes_word line (λ w. k w limit)) input old before end now r
 
   -- there was none
   unfoldable pub HasNoWord : Halt → Type 0

@@ -1,6 +1,7 @@
 -- Statements, as a machine does them.
 use Rattle.std.specs.Prelude.{Result, Ok, Err, Option, ℕ, Bool, true, false, List, map, IsTrue}
-use Rattle.fv_tree.specs.Plain.{Statement, Assignment, Where, If, Do, Label, GoTo, Stop, Read, Print, Allocate, Deallocate}
+use Rattle.fv_tree.specs.Plain.{Statement, Assignment, Where, If, Do, Label, GoTo, Stop, Read, Print, Allocate}
+use Rattle.fv_tree.specs.Plain.{Deallocate}
 use Rattle.fv_tree.specs.Plain.{Arms, no_arms, arm, Block, no_statements, statement, Items}
 use Rattle.fv_tree.specs.View.{arms, tested_of}
 use Rattle.fv_tree.specs.declared.stmts.Arm.{Arm}
@@ -39,15 +40,15 @@ abbrev pub plain_arms : List Arm → Arms
 plain_arms as' = arms (map tested_of as')
 
 -- The arms were gone through, whatever the ELSE part does: one was done; none, so that the ELSE part goes on from here;
--- or
--- the run was left
-module _ (lang : Dialect) (line : ℕ) (as' : Arms) (input : List ℕ) (old : Seen) (before : Option (List ℕ)) (new : Seen) (now : Option (List ℕ)) where
+-- or the run was left
+module _ (lang : Dialect) (line : ℕ) (as' : Arms) (input : List ℕ) (old : Seen) (before : Option (List ℕ))
+    (new : Seen) (now : Option (List ℕ)) where
   unfoldable pub Chooses : Result Bool Left → Type 0
   Chooses (Ok true) = (other : LimitedAct)
       → Runs (λ limit. chooses lang limit line as' (other limit)) input old before new now (Ok tt)
   Chooses (Ok false) = (other : LimitedAct) (end : Seen) (after : Option (List ℕ)) (r : Result (Unit {0}) Left)
       → Runs other input new now end after r
-          → Runs (λ limit. chooses lang limit line as' (other limit)) input old before end after r
+      → Runs (λ limit. chooses lang limit line as' (other limit)) input old before end after r
   Chooses (Err left) = (other : LimitedAct)
       → Runs (λ limit. chooses lang limit line as' (other limit)) input old before new now (Err left)
 

@@ -1,6 +1,8 @@
--- Where the cells of a program's names lie: in one list of values, the names in the order of their declarations, and the
+-- Where the cells of a program's names lie: in one list of values, the names in the order of their declarations, and
+-- the
 -- elements of an array in column-major order (ANSI X3.9-1978, section 5.2.5).
-use Rattle.std.specs.Prelude.{◌≡◌, false, Option, Some, None, ℕ, ◌+◌, ◌*◌, ◌^◌, ◌≤◌, ℤ, ◌-ℤ◌, nat_abs, int_le, ◌&&◌, pos, negsuc, ◌≤ℤ◌}
+use Rattle.std.specs.Prelude.{◌≡◌, false, Option, Some, None, ℕ, ◌+◌, ◌*◌, ◌^◌, ◌≤◌, ℤ, ◌-ℤ◌, nat_abs, int_le, ◌&&◌}
+use Rattle.std.specs.Prelude.{pos, negsuc, ◌≤ℤ◌}
 use Rattle.std.specs.Prelude.{if◌then◌else◌, List, [], ◌∷◌, map, get_or, nat_lt, length, ◌++◌, replicate}
 use Rattle.std.specs.Option.{option_map}
 use Rattle.std.specs.Str.{bytes_eq}
@@ -36,7 +38,8 @@ total (d ∷ ds) = values_of d + total ds
 -- the place of a cell among all values of the names
 abbrev pub place : List Declaration → List ℕ → List ℤ → Option ℕ
 place [] x is = None
-place (d ∷ ds) x is = if bytes_eq d.name x then offset (dimensions d.extent) is else option_map (λ k. values_of d + k) (place ds x is)
+place (d ∷ ds) x is = if bytes_eq d.name x then offset (dimensions d.extent) is
+    else option_map (λ k. values_of d + k) (place ds x is)
 
 -- what the values of the names are when a run begins
 abbrev pub noughts_of : List Declaration → List Value
@@ -53,7 +56,10 @@ opening_of ds = record { bounds = opening_bounds ds; held = λ c. opening_value 
 
 -- the store that the values stand for. A cell that isn't there holds what it held when the run began
 unfoldable pub store_of : List Declaration → List Value → Store
-store_of ds vs = record { bounds = opening_bounds ds; held = λ c. value_at vs (opening_value ds c.name) (place ds c.name c.subscripts) }
+store_of ds vs = record {
+  bounds = opening_bounds ds;
+  held = λ c. value_at vs (opening_value ds c.name) (place ds c.name c.subscripts);
+}
 
 -- ---- the machine's table of names
 

@@ -121,7 +121,8 @@ fn write_held<K: Sink>(value: Value, out: &mut K) -> Result<(), WriteFault>
 // The subscripts of the element at this place among those of its array. A scalar has none.
 fn write_subscripts<K: Sink>(dims: &[Dim], place: usize, out: &mut K) -> Result<(), WriteFault>
     requires { AreBounds (bounds_list dims.now) }
-    ensures text { WritesText (K.taken out.old) (subscripts_text (subscripts_at (bounds_list dims.now) place)) (K.taken out.new) result }
+    ensures text { WritesText (K.taken out.old) (subscripts_text (subscripts_at (bounds_list dims.now) place))
+        (K.taken out.new) result }
     ensures fault { OnErr result (Rose (K.faults out.old) (K.faults out.new)) }
     ensures later { K.faults out.old ≤ K.faults out.new }
 {
@@ -137,7 +138,8 @@ fn write_subscripts<K: Sink>(dims: &[Dim], place: usize, out: &mut K) -> Result<
 // The subscripts behind the first one.
 fn write_more<K: Sink>(dims: &[Dim], place: usize, out: &mut K) -> Result<(), WriteFault>
     requires { AreBounds (bounds_list dims.now) }
-    ensures text { WritesText (K.taken out.old) (behind_commas (subscripts_at (bounds_list dims.now) place)) (K.taken out.new) result }
+    ensures text { WritesText (K.taken out.old) (behind_commas (subscripts_at (bounds_list dims.now) place))
+        (K.taken out.new) result }
     ensures fault { OnErr result (Rose (K.faults out.old) (K.faults out.new)) }
     ensures later { K.faults out.old ≤ K.faults out.new }
 {
@@ -151,7 +153,9 @@ fn write_more<K: Sink>(dims: &[Dim], place: usize, out: &mut K) -> Result<(), Wr
 
 fn write_subscript<K: Sink>(dim: Dim, place: usize, out: &mut K) -> Result<(), WriteFault>
     requires { IsBounded (bounds_of dim) }
-    ensures text { WritesText (K.taken out.old) (signed_decimal ((bounds_of dim).0 +ℤ pos (place % size_of (bounds_of dim)))) (K.taken out.new) result }
+    ensures text { WritesText (K.taken out.old)
+        (signed_decimal ((bounds_of dim).0 +ℤ pos (place % size_of (bounds_of dim))))
+        (K.taken out.new) result }
     ensures fault { OnErr result (Rose (K.faults out.old) (K.faults out.new)) }
     ensures later { K.faults out.old ≤ K.faults out.new }
 {

@@ -14,7 +14,8 @@ const BEYOND: u32 = 2147483649;
 /// The byte at a place of the input, and the place of the next one. A CR just before an LF is dropped.
 #[tactic(auto, using(crate::proofs::InputLaws::byte_laws))]
 pub fn byte_at(input: &[u8], at: usize) -> Option<(u8, usize)>
-    ensures byte { MatchOption result (without_cr (drop at input.now) ≡ []) (λ found. without_cr (drop at input.now) ≡ found.0 ∷ without_cr (drop found.1 input.now)) }
+    ensures byte { MatchOption result (without_cr (drop at input.now) ≡ [])
+        (λ found. without_cr (drop at input.now) ≡ found.0 ∷ without_cr (drop found.1 input.now)) }
     ensures within { IfSome result (λ found. (at < found.1) × (found.1 ≤ length input.now)) }
     ensures plain { IfSome result (λ found. found.0 ≢ 10 → (found.1 ≡ at + 1) × (found.0 ≡ get_or input.now at 0)) }
 {
@@ -38,7 +39,9 @@ fn is_gap(byte: u8) -> bool
 /// `comma` says whether one may still come.
 #[tactic(auto, using(crate::proofs::InputLaws::value_laws))]
 pub fn value_place(input: &[u8], start: usize, may_have_comma: bool) -> Result<usize, Fault>
-    ensures place { MatchResult result (λ at. from_value may_have_comma (without_cr (drop start input.now)) ≡ Ok (without_cr (drop at input.now))) (λ fault. from_value may_have_comma (without_cr (drop start input.now)) ≡ Err fault) }
+    ensures place { MatchResult result
+        (λ at. from_value may_have_comma (without_cr (drop start input.now)) ≡ Ok (without_cr (drop at input.now)))
+        (λ fault. from_value may_have_comma (without_cr (drop start input.now)) ≡ Err fault) }
     ensures within { IfOk result (λ at. (start ≤ at) × (at < length input.now)) }
 {
     let mut at = start;
@@ -109,7 +112,8 @@ fn digits(word: &[u8]) -> Result<u32, Fault>
 }
 
 fn number(word: &[u8]) -> Result<i128, Fault>
-    ensures { MatchResult result (λ number. SpellsNumber integer_bits word.now number) (λ fault. signed_number word.now ≡ Err fault) }
+    ensures { MatchResult result (λ number. SpellsNumber integer_bits word.now number)
+        (λ fault. signed_number word.now ≡ Err fault) }
 {
     let Some((first, more)) = word.split_first() else {
         return Err(Fault::InputForm);
@@ -152,7 +156,8 @@ fn truth(word: &[u8]) -> Result<bool, Fault>
 /// The value that a word spells for a variable that holds `old`: one of its kind. A number outside the range of INTEGER
 /// is one next to that range.
 pub fn read_value(old: Value, word: &[u8]) -> Result<Value, Fault>
-    ensures { MatchResult result (λ value. Spells integer_bits old word.now value) (λ fault. read_value old word.now ≡ Err fault) }
+    ensures { MatchResult result (λ value. Spells integer_bits old word.now value)
+        (λ fault. read_value old word.now ≡ Err fault) }
 {
     match old {
         Value::Int(_) => Ok(Value::Int(number(word)?)),

@@ -39,7 +39,8 @@ fn clear(variables: &[Variable], values: &mut [Value])
 // Puts a name behind those that are there.
 fn declare(variables: &mut IndexMap<Name, Variable>, decl: Decl, start: usize) -> Result<(), Memory>
     requires { get bytes_eq variables.old decl.name ≡ None }
-    ensures { OnOk result (variables.new.entries ≡ variables.old.entries ++ (decl.name, record { decl = decl; start = start }) ∷ []) }
+    ensures { OnOk result (variables.new.entries
+        ≡ variables.old.entries ++ (decl.name, record { decl = decl; start = start }) ∷ []) }
 {
     variables.insert(decl.name, Variable { decl, start })?;
     Ok(())

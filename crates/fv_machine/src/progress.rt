@@ -97,7 +97,8 @@ impl Progress {
 
     /// Counts a step, unless none is left.
     pub fn count_step(&mut self) -> Result<(), Halt>
-        ensures { (ds : List Declaration) (s : Store) → CountsStep (seen_at ds s self.old) (seen_at ds s self.new) result }
+        ensures { (ds : List Declaration) (s : Store)
+            → CountsStep (seen_at ds s self.old) (seen_at ds s self.new) result }
     {
         if let Some(left) = self.left {
             if left == 0 {

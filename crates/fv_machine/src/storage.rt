@@ -17,6 +17,5 @@ pub struct Storage {
     ghost named: { keys_of variables.entries ≡ own_names (values_of variables.entries) },
     ghost starts: { starts_in (values_of variables.entries) ≡ starts_of 0 (declared (values_of variables.entries)) },
     ghost filled: { vec_len values ≡ total (declared (values_of variables.entries)) },
-    ghost sound: { AreArrays (declared (values_of variables.entries)) }
-        by { AreArrays-prop (declared (values_of variables.entries)) },
+    ghost sound: { AreArrays (declared (values_of variables.entries)) } by { AreArrays-prop (declared (values_of variables.entries)) },
 }

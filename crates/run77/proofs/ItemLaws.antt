@@ -127,4 +127,3 @@ one_ok line (Ok u) v e = (let same : v ≡ u = cc in ap (λ (v : Value). let r :
 one_ok line (Err f) v e = cc
 
 pub ruleset item_laws = (one_int, one_truth, one_un, one_bin, one_call, one_list, one_spread, one_transpose, one_reshape, one_reduce, one_element, whole_item)
-

@@ -109,8 +109,6 @@ reshape_value a es s = ap (λ e. value_of fortran77 e s) (expression_of-reshape 
 pub reduce_value : (r : Red) (a : Box Expr Global) (s : Store) → value_of fortran77 (expression_of (exprs.Reduce r a)) s ≡ Err Shape
 reduce_value r a s = ap (λ e. value_of fortran77 e s) (expression_of-reduce r a)
 
-pub ruleset array_laws = (list_value, spread_value, transpose_value, reshape_value, reduce_value)
-
 pub ruleset value_laws = (int_value, truth_value, un_value, un_fault, bin_value, bin_first_fault, bin_second_fault, call_value, subscript_value_is, subscript_fault_is, part_fault_is)
 
 -- a place that was found for subscripts
@@ -322,4 +320,4 @@ pub ruleset place_laws = (place_fault, place_unknown, place_outside, place_found
 
 pub ruleset left_laws = (call_begun, call_done, call_fault, call_more, place_begun, place_done, place_stopped, place_more)
 
-pub ruleset item_laws = (item_value, item_fault)
+pub ruleset item_laws = (item_fault, list_value, spread_value, transpose_value, reshape_value, reduce_value)

@@ -35,7 +35,8 @@ impl Moment {
 
     /// An assignment: the right side, the left subscripts, the bounds, the range, the store.
     pub fn assign(&mut self, line: u32, left: &Ref, right: &Expr) -> Result<(), Halt>
-        ensures { Does (λ limit. assigns fortran77 limit line (reference_of left.now) (expression_of right.now)) (seen self.old) (seen self.new) result }
+        ensures { Does (λ limit. assigns fortran77 limit line (reference_of left.now) (expression_of right.now))
+            (seen self.old) (seen self.new) result }
     {
         let value = at(line, self.value(right))?;
         let place = at(line, self.place(left))?;
@@ -44,7 +45,8 @@ impl Moment {
 
     // Storing a loop's variable is no step.
     fn set_variable(&mut self, line: u32, name: Name, number: i128) -> Result<(), Halt>
-        ensures { Does (λ limit. sets_variable fortran77 limit line name number) (seen self.old) (seen self.new) result }
+        ensures { Does (λ limit. sets_variable fortran77 limit line name number)
+            (seen self.old) (seen self.new) result }
     {
         let place = at(line, self.scalar(name))?;
         at(line, check_range(Value::Int(number)))?;
@@ -85,7 +87,9 @@ impl Moment {
         last: &Expr,
         step: &Expr,
     ) -> Result<Turns, Halt>
-        ensures { BeginsLoop fortran77 line name (expression_of first.now) (expression_of last.now) (expression_of step.now) (seen self.old) (seen self.new) result }
+        ensures { BeginsLoop fortran77 line name
+            (expression_of first.now) (expression_of last.now) (expression_of step.now)
+            (seen self.old) (seen self.new) result }
     {
         let first = at(line, self.parameter(first))?;
         let last = at(line, self.parameter(last))?;

@@ -17,7 +17,8 @@ use fv_tree::{Expr, Item, Name, Seq};
 // The name of a scalar or a whole array.
 #[tactic(auto, using(crate::proofs::ItemLaws::item_laws))]
 fn whole_name(expr: &Expr) -> Option<Name>
-    ensures { MatchOption result (IsOneValue (expression_of expr.now)) (λ name. AreAllValues (expression_of expr.now) name) }
+    ensures { MatchOption result (IsOneValue (expression_of expr.now))
+        (λ name. AreAllValues (expression_of expr.now) name) }
 {
     match expr {
         Expr::Item(item) => match item.subs.as_slice().first() {
@@ -39,7 +40,8 @@ fn whole_name(expr: &Expr) -> Option<Name>
 
 impl Moment {
     fn print_value<K: Sink>(&self, line: u32, expr: &Expr, out: &mut K) -> Result<(), Left>
-        ensures run { (input : List ℕ) → Runs (λ limit. prints_value fortran77 line (expression_of expr.now)) input (seen self.now) (K.taken out.old) (seen self.now) (K.taken out.new) result }
+        ensures run { (input : List ℕ) → Runs (λ limit. prints_value fortran77 line (expression_of expr.now)) input
+            (seen self.now) (K.taken out.old) (seen self.now) (K.taken out.new) result }
         ensures fault { result ≡ Err Left.Unwritten → Rose (K.faults out.old) (K.faults out.new) }
         ensures later { K.faults out.old ≤ K.faults out.new }
     {
@@ -59,7 +61,8 @@ impl Moment {
 
     #[cycle(printing)]
     fn print_item<K: Sink>(&mut self, line: u32, item: &Item, out: &mut K) -> Result<(), Left>
-        ensures run { (input : List ℕ) → Runs (λ limit. prints_item fortran77 limit (item_of item.now) line) input (seen self.old) (K.taken out.old) (seen self.new) (K.taken out.new) result }
+        ensures run { (input : List ℕ) → Runs (λ limit. prints_item fortran77 limit (item_of item.now) line) input
+            (seen self.old) (K.taken out.old) (seen self.new) (K.taken out.new) result }
         ensures fault { result ≡ Err Left.Unwritten → Rose (K.faults out.old) (K.faults out.new) }
         ensures later { K.faults out.old ≤ K.faults out.new }
     {
@@ -85,7 +88,8 @@ impl Moment {
         items: &Seq<Item>,
         out: &mut K,
     ) -> Result<(), Left>
-        ensures run { (input : List ℕ) → Runs (λ limit. prints_items fortran77 limit (plain_items items.now) line) input (seen self.old) (K.taken out.old) (seen self.new) (K.taken out.new) result }
+        ensures run { (input : List ℕ) → Runs (λ limit. prints_items fortran77 limit (plain_items items.now) line) input
+            (seen self.old) (K.taken out.old) (seen self.new) (K.taken out.new) result }
         ensures fault { result ≡ Err Left.Unwritten → Rose (K.faults out.old) (K.faults out.new) }
         ensures later { K.faults out.old ≤ K.faults out.new }
     {
@@ -97,7 +101,8 @@ impl Moment {
 
     /// A line of output. A blank stands before it where it begins with a constant, or is empty.
     pub fn print<K: Sink>(&mut self, line: u32, items: &Seq<Item>, out: &mut K) -> Result<(), Left>
-        ensures run { (input : List ℕ) → Runs (λ limit. prints fortran77 limit line (plain_items items.now)) input (seen self.old) (K.taken out.old) (seen self.new) (K.taken out.new) result }
+        ensures run { (input : List ℕ) → Runs (λ limit. prints fortran77 limit line (plain_items items.now)) input
+            (seen self.old) (K.taken out.old) (seen self.new) (K.taken out.new) result }
         ensures fault { result ≡ Err Left.Unwritten → Rose (K.faults out.old) (K.faults out.new) }
         ensures later { K.faults out.old ≤ K.faults out.new }
     {

@@ -29,7 +29,8 @@ impl Moment {
 
     // All elements of an array, or a scalar.
     fn read_all(&mut self, line: u32, name: Name, input: &[u8]) -> Result<(), Halt>
-        ensures { DoesOver input.now (λ limit. reads_all fortran77 limit line name) (seen self.old) (seen self.new) result }
+        ensures { DoesOver input.now (λ limit. reads_all fortran77 limit line name)
+            (seen self.old) (seen self.new) result }
     {
         let Some(variable) = self.storage.find(name) else {
             return Err(Halt::Fault(Fault::Allocated, line));
@@ -44,7 +45,8 @@ impl Moment {
 
     // All elements, or one.
     fn read_cells(&mut self, line: u32, item: &Ref, input: &[u8]) -> Result<(), Halt>
-        ensures { DoesOver input.now (λ limit. reads_cells fortran77 limit line (reference_of item.now)) (seen self.old) (seen self.new) result }
+        ensures { DoesOver input.now (λ limit. reads_cells fortran77 limit line (reference_of item.now))
+            (seen self.old) (seen self.new) result }
     {
         if item.subs.is_empty() {
             return self.read_all(line, item.name, input);
@@ -54,7 +56,8 @@ impl Moment {
     }
 
     fn read_expression(&mut self, line: u32, expr: &Expr, input: &[u8]) -> Result<(), Halt>
-        ensures { DoesOver input.now (λ limit. reads_item fortran77 limit (Single (expression_of expr.now)) line) (seen self.old) (seen self.new) result }
+        ensures { DoesOver input.now (λ limit. reads_item fortran77 limit (Single (expression_of expr.now)) line)
+            (seen self.old) (seen self.new) result }
     {
         match expr {
             Expr::Item(item) => self.read_cells(line, item, input),
@@ -73,7 +76,8 @@ impl Moment {
 
     #[cycle(reading)]
     fn read_item(&mut self, line: u32, item: &Item, input: &[u8]) -> Result<(), Halt>
-        ensures { DoesOver input.now (λ limit. reads_item fortran77 limit (item_of item.now) line) (seen self.old) (seen self.new) result }
+        ensures { DoesOver input.now (λ limit. reads_item fortran77 limit (item_of item.now) line)
+            (seen self.old) (seen self.new) result }
     {
         match item {
             Item::One(expr) => self.read_expression(line, expr, input),
@@ -92,7 +96,8 @@ impl Moment {
 
     #[cycle(reading)]
     fn read_items(&mut self, line: u32, items: &Seq<Item>, input: &[u8]) -> Result<(), Halt>
-        ensures { DoesOver input.now (λ limit. reads_items fortran77 limit (plain_items items.now) line) (seen self.old) (seen self.new) result }
+        ensures { DoesOver input.now (λ limit. reads_items fortran77 limit (plain_items items.now) line)
+            (seen self.old) (seen self.new) result }
     {
         for item in items.as_slice() {
             self.read_item(line, item, input)?;
@@ -102,7 +107,8 @@ impl Moment {
 
     /// The items of a list get the values of the input. The rest of the last line is passed over.
     pub fn read(&mut self, line: u32, items: &Seq<Item>, input: &[u8]) -> Result<(), Halt>
-        ensures { DoesOver input.now (λ limit. reads fortran77 limit line (plain_items items.now)) (seen self.old) (seen self.new) result }
+        ensures { DoesOver input.now (λ limit. reads fortran77 limit line (plain_items items.now))
+            (seen self.old) (seen self.new) result }
     {
         self.progress.begin_line(line, input)?;
         self.read_items(line, items, input)?;

@@ -8,7 +8,8 @@ ghost use Rattle.fv_meaning.specs.Run.{does, does_all, counts_step, assigns, goe
 ghost use Rattle.fv_machine.specs.Acts.{Does, Runs, left_of};
 ghost use Rattle.fv_machine.specs.Stored.{store_in};
 ghost use Rattle.fv_machine.specs.Printing.{plain_items, prints};
-ghost use Rattle.fv_machine.specs.Statements.{HasArms, ArmsHaveArms, BlockHasArms, plain_arms, Chooses, DoesOver, reads};
+ghost use Rattle.fv_machine.specs.Statements.{HasArms, ArmsHaveArms, BlockHasArms, plain_arms, Chooses, DoesOver};
+ghost use Rattle.fv_machine.specs.Statements.{reads};
 ghost use Rattle.run77.specs.Moments.{seen};
 ghost use Rattle.fv_machine.specs.Jumps.{arrived, passed, caught, landed};
 
@@ -86,14 +87,17 @@ impl Moment {
     }
 
     fn assignment(&mut self, line: u32, left: &Ref, right: &Expr) -> Result<(), Halt>
-        ensures { Does (λ limit. counts_step fortran77 limit (assigns fortran77 limit line (reference_of left.now) (expression_of right.now))) (seen self.old) (seen self.new) result }
+        ensures { Does (λ limit. counts_step fortran77 limit
+            (assigns fortran77 limit line (reference_of left.now) (expression_of right.now)))
+            (seen self.old) (seen self.new) result }
     {
         self.count_step()?;
         self.assign(line, left, right)
     }
 
     fn go(&mut self, label: u32) -> Result<(), Halt>
-        ensures { Does (λ limit. counts_step fortran77 limit (goes (Jumping label))) (seen self.old) (seen self.new) result }
+        ensures { Does (λ limit. counts_step fortran77 limit (goes (Jumping label)))
+            (seen self.old) (seen self.new) result }
     {
         self.count_step()?;
         Err(Halt::Jump(label))
@@ -107,7 +111,9 @@ impl Moment {
     }
 
     fn read_statement(&mut self, line: u32, items: &Seq<Item>, input: &[u8]) -> Result<(), Halt>
-        ensures { DoesOver input.now (λ limit. counts_step fortran77 limit (reads fortran77 limit line (plain_items items.now))) (seen self.old) (seen self.new) result }
+        ensures { DoesOver input.now (λ limit. counts_step fortran77 limit
+            (reads fortran77 limit line (plain_items items.now)))
+            (seen self.old) (seen self.new) result }
     {
         self.count_step()?;
         self.read(line, items, input)
@@ -119,7 +125,9 @@ impl Moment {
         items: &Seq<Item>,
         out: &mut K,
     ) -> Result<(), Left>
-        ensures run { (input : List ℕ) → Runs (λ limit. counts_step fortran77 limit (prints fortran77 limit line (plain_items items.now))) input (seen self.old) (K.taken out.old) (seen self.new) (K.taken out.new) result }
+        ensures run { (input : List ℕ)
+            → Runs (λ limit. counts_step fortran77 limit (prints fortran77 limit line (plain_items items.now))) input
+            (seen self.old) (K.taken out.old) (seen self.new) (K.taken out.new) result }
         ensures fault { result ≡ Err Left.Unwritten → Rose (K.faults out.old) (K.faults out.new) }
         ensures later { K.faults out.old ≤ K.faults out.new }
     {
@@ -129,7 +137,9 @@ impl Moment {
 
     #[cycle(statements)]
     fn statement<K: Sink>(&mut self, stmt: &Stmt, input: &[u8], out: &mut K) -> Result<(), Left>
-        ensures run { HasArms (statement_of stmt.now) → Runs (λ limit. does fortran77 limit (statement_of stmt.now)) input.now (seen self.old) (K.taken out.old) (seen self.new) (K.taken out.new) result }
+        ensures run { HasArms (statement_of stmt.now)
+            → Runs (λ limit. does fortran77 limit (statement_of stmt.now)) input.now
+            (seen self.old) (K.taken out.old) (seen self.new) (K.taken out.new) result }
         ensures fault { result ≡ Err Left.Unwritten → Rose (K.faults out.old) (K.faults out.new) }
         ensures later { K.faults out.old ≤ K.faults out.new }
     {
@@ -183,7 +193,8 @@ impl Moment {
         input: &[u8],
         out: &mut K,
     ) -> Result<bool, Left>
-        ensures run { ArmsHaveArms (plain_arms arms.now) → Chooses fortran77 line (plain_arms arms.now) input.now (seen self.old) (K.taken out.old) (seen self.new) (K.taken out.new) result }
+        ensures run { ArmsHaveArms (plain_arms arms.now) → Chooses fortran77 line (plain_arms arms.now) input.now
+            (seen self.old) (K.taken out.old) (seen self.new) (K.taken out.new) result }
         ensures fault { result ≡ Err Left.Unwritten → Rose (K.faults out.old) (K.faults out.new) }
         ensures later { K.faults out.old ≤ K.faults out.new }
     {
@@ -201,7 +212,9 @@ impl Moment {
     /// One statement after the other. A jump passes over those up to its label, and leaves a block that hasn't it.
     #[cycle(statements)]
     pub fn block<K: Sink>(&mut self, block: &Block, input: &[u8], out: &mut K) -> Result<(), Left>
-        ensures run { BlockHasArms (block_of block.now) → Runs (λ limit. does_all fortran77 limit (block_of block.now)) input.now (seen self.old) (K.taken out.old) (seen self.new) (K.taken out.new) result }
+        ensures run { BlockHasArms (block_of block.now)
+            → Runs (λ limit. does_all fortran77 limit (block_of block.now)) input.now
+            (seen self.old) (K.taken out.old) (seen self.new) (K.taken out.new) result }
         ensures fault { result ≡ Err Left.Unwritten → Rose (K.faults out.old) (K.faults out.new) }
         ensures later { K.faults out.old ≤ K.faults out.new }
     {

@@ -15,7 +15,7 @@ use fv_tree::{Arguments, Dim, Expr, Fault, Fun, Ref, Seq, Sub, Value};
 impl Moment {
     /// The value of an expression. The left operand of two is evaluated first, and the first fault wins.
     #[cycle(value)]
-    #[tactic(auto, using(crate::proofs::ValueLaws::value_laws, crate::proofs::ValueLaws::item_laws, crate::proofs::ValueLaws::array_laws))]
+    #[tactic(auto, using(crate::proofs::ValueLaws::value_laws, crate::proofs::ValueLaws::item_laws))]
     pub fn value(&self, expr: &Expr) -> Result<Value, Fault>
         ensures { result ≡ value_of fortran77 (expression_of expr.now) (store_in self.now.storage) }
     {
@@ -45,7 +45,8 @@ impl Moment {
     #[cycle(value)]
     #[tactic(auto, using(crate::proofs::ValueLaws::left_laws))]
     fn call(&self, function: Fun, exprs: &Seq<Expr>) -> Result<Value, Fault>
-        ensures { result ≡ call_of fortran77 function (expressions (map expression_of exprs.now)) (store_in self.now.storage) }
+        ensures { result ≡ call_of fortran77 function (expressions (map expression_of exprs.now))
+            (store_in self.now.storage) }
     {
         let mut arguments = Arguments::Empty;
         for expr in exprs.as_slice() {
@@ -59,7 +60,8 @@ impl Moment {
     #[cycle(value)]
     #[tactic(auto, using(crate::proofs::ValueLaws::place_laws))]
     pub fn place(&self, item: &Ref) -> Result<usize, Fault>
-        ensures found { Finds (names_in self.now.storage) (cell_named fortran77 (reference_of item.now) (store_in self.now.storage)) result }
+        ensures found { Finds (names_in self.now.storage) (cell_named fortran77 (reference_of item.now)
+            (store_in self.now.storage)) result }
         ensures within { IfOk result (λ k. k < total (names_in self.now.storage)) }
     {
         let Some(variable) = self.storage.find(item.name) else {
@@ -77,7 +79,8 @@ impl Moment {
     #[tactic(auto, using(crate::proofs::ValueLaws::left_laws))]
     fn offset(&self, subs: &Seq<Sub>, dims: &[Dim]) -> Result<Option<usize>, Fault>
         requires { AreBounds (bounds_list dims.now) }
-        ensures { result ≡ offset_of fortran77 (bounds_list dims.now) (subscripts (map subscript_of subs.now)) (store_in self.now.storage) }
+        ensures { result ≡ offset_of fortran77 (bounds_list dims.now) (subscripts (map subscript_of subs.now))
+            (store_in self.now.storage) }
     {
         let mut numbers = Subscripts::new();
         for sub in subs.as_slice() {

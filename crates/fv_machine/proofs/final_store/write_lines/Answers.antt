@@ -28,11 +28,13 @@ returns-in_err-write_line-clause-text g c = λ s e.
 pub loop-place-preserved : goal.loop-place-preserved
 loop-place-preserved g c =
     let bs = bounds_list c.args.dims.now in
-    let line = value_line c.args.name bs c.args.values.now in
-    (range_more line (length c.args.values.now) c.loop-place.place _ _ _ (omega arith) c.loop-place.invariant.0
-    (subst (λ v. Gives (g.K.Sink.taken c.loop-place.out) (final_line (element c.args.name bs c.loop-place.place) v)
-    (g.K.Sink.taken c.write_line.new.out)) (get_or_default c.args.values.now c.loop-place.place _ (Int (pos 0)) (omega arith))
-    c.in_ok-write_line.ensures.text), omega (arith, c.loop-place.invariant.1, c.write_line.ensures.later))
+    let line = value_line c.args.name bs c.args.values.now in (
+      range_more line (length c.args.values.now) c.loop-place.place _ _ _ (omega arith) c.loop-place.invariant.0
+          (subst (λ v. Gives (g.K.Sink.taken c.loop-place.out) (final_line (element c.args.name bs c.loop-place.place) v)
+          (g.K.Sink.taken c.write_line.new.out)) (get_or_default c.args.values.now c.loop-place.place _ (Int (pos 0)) (omega arith))
+          c.in_ok-write_line.ensures.text),
+      omega (arith, c.loop-place.invariant.1, c.write_line.ensures.later),
+    )
 
 pub returns-clause-text : goal.returns-clause-text
 returns-clause-text g c = λ s e.
