@@ -1,85 +1,129 @@
--- Items of output lists.
-use Rattle.std.proofs.Common.{◌≡◌, refl, sym, ap, ◌∙◌, subst, ℕ, ◌+◌, ◌<◌, ◌≤◌, List, [], ◌∷◌, drop, get_or, length, Result, Ok, Err, Option, Some}
-use Rattle.std.specs.Prelude.{slice_get}
-use Rattle.std.proofs.lemmas.List.{at_drop_more, at_drop_all}
-use Rattle.fv_tree.specs.Plain.{Single, Constant, ImpliedDo}
+-- Items of output lists: one value, or all values of a name.
+use Rattle.std.proofs.Common.{◌≡◌, refl, sym, ap, ◌∙◌, subst, ℕ, ℤ, Bool, List, [], ◌∷◌, map, Bor, Result, Ok, Err, Option}
+use Rattle.std.proofs.Common.{Some, None}
+use Rattle.std.specs.declared.boxed.Box.{Box}
+use Rattle.std.specs.declared.alloc.Global.{Global}
+use Rattle.std.specs.Prelude.{MatchResult, slice_get}
+use Rattle.fv_tree.specs.Steps.{◌>>=◌}
 use Rattle.fv_tree.specs.Plain as P
-use Rattle.fv_tree.specs.View.{item_of, expression_of}
-use Rattle.fv_tree.specs.declared.names.Name.{Name}
+use Rattle.fv_tree.specs.View.{expression_of, subscript_of}
 use Rattle.fv_tree.specs.declared.lists.Seq.{Seq}
+use Rattle.fv_tree.specs.declared.ops.Op.{Op}
+use Rattle.fv_tree.specs.declared.functions.Fun.{Fun}
+use Rattle.fv_tree.specs.declared.functions.Red.{Red}
+use Rattle.fv_tree.specs.declared.ops.Value.{Value}
+use Rattle.fv_tree.specs.declared.ops.Fault.{Fault}
 use Rattle.fv_tree.specs.declared.exprs.Expr.{Expr}
-use Rattle.fv_tree.specs.declared.stmts.Item.{Item}
-use Rattle.fv_tree.specs.declared.stmts.Item.TheVariants as variants
-use Rattle.fv_tree.proofs.Equations.{item_of-one, item_of-text, item_of-turns}
-use Rattle.fv_io.specs.declared.errors.WriteFault.{WriteFault}
-use Rattle.fv_meaning.specs.Sequential.{integer_bits}
-use Rattle.fv_meaning.specs.Run.{first_blank, prints_item, prints_items, loops, then}
-use Rattle.run77.specs.declared.moment.Moment.{Moment}
-use Rattle.run77.specs.declared.moment.Left.{Left}
-use Rattle.run77.specs.Acts.{LimitedAct, Runs}
-use Rattle.run77.specs.Texts.{WritesText}
-use Rattle.run77.specs.Printing.{plain_items, prints_value}
-use Rattle.run77.proofs.ActLaws.{Runs-then, Runs-nothing}
-use Rattle.run77.proofs.TurnLaws.{Runs-left, Stays-prints_items, Adds-prints_items}
-use Rattle.run77.proofs.WriteLaws.{Runs-writes, left_by}
+use Rattle.fv_tree.specs.declared.exprs.Expr.TheVariants as exprs
+use Rattle.fv_tree.specs.declared.exprs.Sub.{Sub}
+use Rattle.fv_tree.specs.declared.exprs.Turn.{Turn}
+use Rattle.fv_tree.specs.declared.exprs.Ref.{Ref, out-Ref}
+use Rattle.fv_tree.proofs.Equations.{expression_of-int, expression_of-truth, expression_of-item, expression_of-un}
+use Rattle.fv_tree.proofs.Equations.{expression_of-bin, expression_of-call, expression_of-list, expression_of-spread}
+use Rattle.fv_tree.proofs.Equations.{expression_of-transpose, expression_of-reshape, expression_of-reduce, reference_of-is}
+use Rattle.fv_meaning.specs.Store.{Store, Cell, cell_at, bounds_of, cells_of}
+use Rattle.fv_meaning.specs.Dialect.{fortran77}
+use Rattle.fv_meaning.specs.Value.{value_of, item_values, subscript_values}
+use Rattle.fv_machine.specs.declared.progress.Halt.{Halt}
+use Rattle.fv_machine.specs.declared.progress.Halt.TheVariants.{Fault as Fault'}
+use Rattle.fv_machine.specs.Moments.{located}
+use Rattle.fv_machine.specs.Stored.{all_values}
+use Rattle.run77.specs.Printing.{one_value, IsOneValue, AreAllValues}
 
-abbrev pub blank_of : P.Item → List ℕ
-blank_of (Single e) = []
-blank_of (Constant t) = 32 ∷ []
-blank_of (ImpliedDo is x a b c) = []
+-- ---- items
 
-blank_is : (i : P.Item) (is : P.Items) → first_blank (P.item i is) ≡ blank_of i
-blank_is (Single e) is = refl
-blank_is (Constant t) is = refl
-blank_is (ImpliedDo js x a b c) is = refl
+pub one_int : (n : ℤ) → IsOneValue (expression_of (exprs.Int n))
+unfolding IsOneValue
+one_int n s = subst (λ e. item_values fortran77 e s ≡ one_value (value_of fortran77 e s)) (sym (expression_of-int n)) refl
 
-first_is : (xs : List Item) (i : Item) → Some i ≡ slice_get xs 0 → first_blank (plain_items xs) ≡ blank_of (item_of i)
-first_is [] i e = cc
-first_is (x ∷ xs) i e = (let same : i ≡ x = cc in blank_is (item_of x) (plain_items xs) ∙ ap (λ i. blank_of (item_of i)) (sym same))
+pub one_truth : (b : Bool) → IsOneValue (expression_of (exprs.Truth b))
+unfolding IsOneValue
+one_truth b s = subst (λ e. item_values fortran77 e s ≡ one_value (value_of fortran77 e s)) (sym (expression_of-truth b)) refl
 
-pub blank_text : (xs ys : List Item) (i : Item) (t : Seq ℕ) → ys ≡ xs → Some i ≡ slice_get ys 0 → i ≡ variants.Text t → (32 ∷ []) ≡ first_blank (plain_items xs)
-blank_text xs ys i t h e k = sym (ap (λ xs. first_blank (plain_items xs)) (sym h) ∙ first_is ys i e ∙ ap blank_of (ap item_of k ∙ item_of-text t))
+pub one_un : (o : Op) (a : Box Expr Global) → IsOneValue (expression_of (exprs.Un o a))
+unfolding IsOneValue
+one_un o a s = subst (λ e. item_values fortran77 e s ≡ one_value (value_of fortran77 e s)) (sym (expression_of-un o a)) refl
 
-pub blank_one : (xs ys : List Item) (i : Item) (a : Expr) → ys ≡ xs → Some i ≡ slice_get ys 0 → i ≡ variants.One a → [] ≡ first_blank (plain_items xs)
-blank_one xs ys i a h e k = sym (ap (λ xs. first_blank (plain_items xs)) (sym h) ∙ first_is ys i e ∙ ap blank_of (ap item_of k ∙ item_of-one a))
+pub one_bin : (o : Op) (a b : Box Expr Global) → IsOneValue (expression_of (exprs.Bin o a b))
+unfolding IsOneValue
+one_bin o a b s = subst (λ e. item_values fortran77 e s ≡ one_value (value_of fortran77 e s)) (sym (expression_of-bin o a b)) refl
 
-pub blank_turns : (xs ys : List Item) (i : Item) (is : Seq Item) (x : Name) (a b c : Expr) → ys ≡ xs → Some i ≡ slice_get ys 0 → i ≡ variants.Turns is x a b c → [] ≡ first_blank (plain_items xs)
-blank_turns xs ys i is x a b c h e k = sym (ap (λ xs. first_blank (plain_items xs)) (sym h) ∙ first_is ys i e ∙ ap blank_of (ap item_of k ∙ item_of-turns is x a b c))
+pub one_call : (f : Fun) (es : Seq Expr) → IsOneValue (expression_of (exprs.Call f es))
+unfolding IsOneValue
+one_call f es s = subst (λ e. item_values fortran77 e s ≡ one_value (value_of fortran77 e s)) (sym (expression_of-call f es)) refl
 
--- ---- an item
+pub one_list : (es : Seq Expr) (ls : Seq Turn) → IsOneValue (expression_of (exprs.List es ls))
+unfolding IsOneValue
+one_list es ls s = subst (λ e. item_values fortran77 e s ≡ one_value (value_of fortran77 e s)) (sym (expression_of-list es ls)) refl
 
-module _ (line : ℕ) (input : List ℕ) (old new : Moment) (before now : Option (List ℕ)) (r : Result (Unit {0}) Left) where
-  pub one_runs : (i : Item) (e : Expr) → i ≡ variants.One e → Runs (λ limit. prints_value line (expression_of e)) input old before new now r → Runs (λ limit. prints_item integer_bits limit (item_of i) line) input old before new now r
-  one_runs i e k h = subst (λ j. Runs (λ limit. prints_item integer_bits limit j line) input old before new now r) (sym (ap item_of k ∙ item_of-one e)) h
+pub one_spread : (a : Box Expr Global) (d : ℕ) (n : Box Expr Global) → IsOneValue (expression_of (exprs.Spread a d n))
+unfolding IsOneValue
+one_spread a d n s = subst (λ e. item_values fortran77 e s ≡ one_value (value_of fortran77 e s)) (sym (expression_of-spread a d n)) refl
 
-  pub turns_run : (i : Item) (is : Seq Item) (x : Name) (a b c : Expr) → i ≡ variants.Turns is x a b c
-      → Runs (λ limit. loops integer_bits limit line x (expression_of a) (expression_of b) (expression_of c) (prints_items integer_bits limit (plain_items is) line)) input old before new now r
-      → Runs (λ limit. prints_item integer_bits limit (item_of i) line) input old before new now r
-  turns_run i is x a b c k h = subst (λ j. Runs (λ limit. prints_item integer_bits limit j line) input old before new now r) (sym (ap item_of k ∙ item_of-turns is x a b c)) h
+pub one_transpose : (a : Box Expr Global) → IsOneValue (expression_of (exprs.Transpose a))
+unfolding IsOneValue
+one_transpose a s = subst (λ e. item_values fortran77 e s ≡ one_value (value_of fortran77 e s)) (sym (expression_of-transpose a)) refl
 
-pub text_runs : (line : ℕ) (input : List ℕ) (m : Moment) (before now : Option (List ℕ)) (r : Result (Unit {0}) WriteFault) (i : Item) (t : Seq ℕ) → i ≡ variants.Text t → WritesText before t now r
-    → Runs (λ limit. prints_item integer_bits limit (item_of i) line) input m before m now (left_by r)
-text_runs line input m before now r i t k h = subst (λ j. Runs (λ limit. prints_item integer_bits limit j line) input m before m now (left_by r)) (sym (ap item_of k ∙ item_of-text t)) (Runs-writes t input m before now r h)
+pub one_reshape : (a : Box Expr Global) (es : Seq Expr) → IsOneValue (expression_of (exprs.Reshape a es))
+unfolding IsOneValue
+one_reshape a es s = subst (λ e. item_values fortran77 e s ≡ one_value (value_of fortran77 e s)) (sym (expression_of-reshape a es)) refl
 
--- ---- the items from a place in the list on
+pub one_reduce : (r : Red) (a : Box Expr Global) → IsOneValue (expression_of (exprs.Reduce r a))
+unfolding IsOneValue
+one_reduce r a s = subst (λ e. item_values fortran77 e s ≡ one_value (value_of fortran77 e s)) (sym (expression_of-reduce r a)) refl
 
-module _ (line : ℕ) (xs : List Item) (i : ℕ) (x : Item) (within : i < length xs) (is : x ≡ get_or xs i x) (input : List ℕ) (old mid : Moment) (before now : Option (List ℕ)) where
-  abbrev left_over : ℕ → LimitedAct
-  left_over i limit = prints_items integer_bits limit (plain_items (drop i xs)) line
+element_value : (x : List ℕ) (p : P.Subscript) (ps : P.Subscripts) (s : Store) (q : Result (List ℤ) Fault)
+    → ◌≡◌ {A = Result (List Value) Fault} (do cs ← (do is ← q; c ← cell_at x is s; Ok (c ∷ [])); Ok (map s.held cs)) (one_value (do is ← q; c ← cell_at x is s; Ok (s.held c)))
+element_value x p ps s (Err f) = refl
+element_value x p ps s (Ok is) = by (cell_at x is s)
+  where
+    by : (q : Result Cell Fault) → ◌≡◌ {A = Result (List Value) Fault} (do cs ← (do c ← q; Ok (c ∷ [])); Ok (map s.held cs)) (one_value (do c ← q; Ok (s.held c)))
+    by (Ok c) = refl
+    by (Err f) = refl
 
-  begins : (r : Result (Unit {0}) Left) (new : Moment) (after : Option (List ℕ)) → Runs (λ limit. then (prints_item integer_bits limit (item_of x) line) (left_over (i + 1) limit)) input old before new after r
-      → Runs (left_over i) input old before new after r
-  begins r new after h = subst (λ is. Runs (λ limit. prints_items integer_bits limit is line) input old before new after r)
-      (sym (at_drop_more plain_items xs i x within ∙ ap (λ y. P.item (item_of y) (plain_items (drop (i + 1) xs))) (sym is))) h
+item_is : (r : Ref) → expression_of (exprs.Item r) ≡ P.Named (out-Ref r).name (P.subscripts (map subscript_of (out-Ref r).subs))
+item_is r = expression_of-item r ∙ ap (λ (q : P.Reference). P.Named q.name q.subscripts) (reference_of-is r)
 
-  pub items_left : (left : Left) → Runs (λ limit. prints_item integer_bits limit (item_of x) line) input old before mid now (Err left) → Runs (left_over i) input old before mid now (Err left)
-  items_left left h = begins (Err left) mid now
-      (Runs-left (λ limit. prints_item integer_bits limit (item_of x) line) (left_over (i + 1)) input old mid before now left h
-      (Stays-prints_items (plain_items (drop (i + 1) xs)) line) (λ limit. Adds-prints_items limit (plain_items (drop (i + 1) xs)) line))
+pub one_element : (r : Ref) (p : Sub) (ps : List Sub) → (out-Ref r).subs ≡ p ∷ ps → IsOneValue (expression_of (exprs.Item r))
+unfolding IsOneValue
+one_element r p ps e s = subst (λ e. item_values fortran77 e s ≡ one_value (value_of fortran77 e s))
+    (sym (item_is r ∙ ap (λ ss. P.Named (out-Ref r).name (P.subscripts (map subscript_of ss))) e))
+    (element_value (out-Ref r).name (subscript_of p) (P.subscripts (map subscript_of ps)) s (subscript_values fortran77 (P.subscript (subscript_of p) (P.subscripts (map subscript_of ps))) s))
 
-  pub items_more : (new : Moment) (after : Option (List ℕ)) (r : Result (Unit {0}) Left) → Runs (λ limit. prints_item integer_bits limit (item_of x) line) input old before mid now (Ok tt)
-      → Runs (left_over (i + 1)) input mid now new after r → Runs (left_over i) input old before new after r
-  items_more new after r h k = begins r new after (Runs-then (λ limit. prints_item integer_bits limit (item_of x) line) (left_over (i + 1)) input old mid before now new after r h k)
+whole_values : (x : List ℕ) (s : Store) (q : Result (List (ℤ × ℤ)) Fault)
+    → ◌≡◌ {A = Result (List Value) Fault} (do cs ← (do bs ← q; Ok (cells_of x bs)); Ok (map s.held cs)) (do bs ← q; Ok (map s.held (cells_of x bs)))
+whole_values x s (Ok bs) = refl
+whole_values x s (Err f) = refl
 
-pub items_done : (line : ℕ) (xs : List Item) (i : ℕ) (input : List ℕ) (m : Moment) (now : Option (List ℕ)) → length xs ≤ i → Runs (λ limit. prints_items integer_bits limit (plain_items (drop i xs)) line) input m now m now (Ok tt)
-items_done line xs i input m now l = subst (λ is. Runs (λ limit. prints_items integer_bits limit is line) input m now m now (Ok tt)) (sym (at_drop_all plain_items xs i l)) (Runs-nothing input m now)
+pub whole_item : (r : Ref) → (out-Ref r).subs ≡ [] → AreAllValues (expression_of (exprs.Item r)) (out-Ref r).name
+unfolding AreAllValues
+whole_item r e s = subst (λ q. item_values fortran77 q s ≡ all_values (out-Ref r).name s)
+    (sym (item_is r ∙ ap (λ ss. P.Named (out-Ref r).name (P.subscripts (map subscript_of ss))) e))
+    (whole_values (out-Ref r).name s (bounds_of (out-Ref r).name s))
+
+pub whole_case : (e : Expr) (r : Ref) (ps : List Sub) → e ≡ exprs.Item r → ps ≡ (out-Ref r).subs → None ≡ slice_get ps 0 → AreAllValues (expression_of e) (out-Ref r).name
+whole_case e r [] h k n = subst (λ e. AreAllValues (expression_of e) (out-Ref r).name) (sym h) (whole_item r (sym k))
+whole_case e r (p ∷ ps) h k n = cc
+
+pub element_case : (e : Expr) (r : Ref) (p : Sub) (ps : List Sub) → e ≡ exprs.Item r → ps ≡ (out-Ref r).subs → Some p ≡ slice_get ps 0 → IsOneValue (expression_of e)
+element_case e r p [] h k n = cc
+element_case e r p (q ∷ ps) h k n = subst (λ e. IsOneValue (expression_of e)) (sym h) (one_element r q ps (sym k))
+
+-- a fault, or the values, of all elements
+pub all_fault : (line : ℕ) (w : Result (List Value) Fault) (q : Result (Bor (List Value)) Fault) (h : Halt) → MatchResult q (λ v. w ≡ Ok v.now) (λ f. w ≡ Err f) → Err h ≡ located line q → Err h ≡ located line w
+all_fault line w (Ok v) h m e = cc
+all_fault line w (Err f) h m e = (let same : h ≡ Fault' f line = cc in ap (λ (h : Halt). let r : Result (List Value) Halt = Err h in r) same ∙ sym (ap (located line) m))
+
+pub all_ok : (line : ℕ) (w : Result (List Value) Fault) (q : Result (Bor (List Value)) Fault) (v : Bor (List Value)) → MatchResult q (λ v. w ≡ Ok v.now) (λ f. w ≡ Err f) → Ok v ≡ located line q → Ok v.now ≡ located line w
+all_ok line w (Ok u) v m e = (let same : v ≡ u = cc in ap (λ (v : Bor (List Value)). let r : Result (List Value) Halt = Ok v.now in r) same ∙ sym (ap (located line) m))
+all_ok line w (Err f) v m e = cc
+
+pub one_fault : (line : ℕ) (q : Result Value Fault) (h : Halt) → Err h ≡ located line q → Err h ≡ located line (one_value q)
+one_fault line (Ok v) h e = cc
+one_fault line (Err f) h e = (let same : h ≡ Fault' f line = cc in ap (λ (h : Halt). let r : Result (List Value) Halt = Err h in r) same)
+
+pub one_ok : (line : ℕ) (q : Result Value Fault) (v : Value) → Ok v ≡ located line q → Ok (v ∷ []) ≡ located line (one_value q)
+one_ok line (Ok u) v e = (let same : v ≡ u = cc in ap (λ (v : Value). let r : Result (List Value) Halt = Ok (v ∷ []) in r) same)
+one_ok line (Err f) v e = cc
+
+pub ruleset item_laws = (one_int, one_truth, one_un, one_bin, one_call, one_list, one_spread, one_transpose, one_reshape, one_reduce, one_element, whole_item)

@@ -18,24 +18,28 @@ use Rattle.fv_tree.specs.Plain as P
 use Rattle.fv_tree.specs.View.{expression_of, subscript_of, reference_of}
 use Rattle.fv_tree.specs.declared.ops.Op.{Op}
 use Rattle.fv_tree.specs.declared.functions.Fun.{Fun}
+use Rattle.fv_tree.specs.declared.functions.Red.{Red}
+use Rattle.fv_tree.specs.declared.exprs.Turn.{Turn}
 use Rattle.fv_tree.specs.declared.ops.Value.{Value}
 use Rattle.fv_tree.specs.declared.ops.Value.TheVariants.{Int, Truth}
 use Rattle.fv_tree.specs.declared.ops.Fault.{Fault}
-use Rattle.fv_tree.specs.declared.ops.Fault.TheVariants.{Bounds, Allocated}
+use Rattle.fv_tree.specs.declared.ops.Fault.TheVariants.{Bounds, Allocated, Shape}
 use Rattle.fv_tree.specs.declared.lists.Seq.{Seq}
 use Rattle.fv_tree.specs.declared.exprs.Expr.{Expr}
 use Rattle.fv_tree.specs.declared.exprs.Expr.TheVariants as exprs
 use Rattle.fv_tree.specs.declared.exprs.Sub.{Sub}
 use Rattle.fv_tree.specs.declared.exprs.Sub.TheVariants as subs
 use Rattle.fv_tree.specs.declared.exprs.Ref.{Ref, out-Ref}
-use Rattle.fv_tree.proofs.Equations.{expression_of-int, expression_of-truth, expression_of-item, expression_of-un, expression_of-bin, expression_of-call, subscript_of-one, reference_of-is}
+use Rattle.fv_tree.proofs.Equations.{expression_of-int, expression_of-truth, expression_of-item, expression_of-un, expression_of-bin, expression_of-call, expression_of-list, expression_of-spread, expression_of-transpose, expression_of-reshape, expression_of-reduce, subscript_of-one, subscript_of-part, reference_of-is}
 use Rattle.fv_meaning.specs.Store.{Store, Cell, cell_at, cell_in, is_within, opening_bounds, opening_value, size_of}
-use Rattle.fv_meaning.specs.Sequential.{integer_bits}
+use Rattle.fv_meaning.specs.Dialect.{fortran77}
 use Rattle.fv_meaning.specs.Value.{value_of, values_of, subscript_value, subscript_values, cell_named}
 use Rattle.fv_meaning.specs.Profile77.{elements_of}
-use Rattle.run77.specs.Storage.{store_of, place, offset, joined, value_at, total, AreBounds, with_more}
-use Rattle.run77.specs.Stored.{Finds, IsOf, bounds_here, call_of, offset_of}
-use Rattle.run77.specs.declared.variables.Variable.{Variable}
+use Rattle.fv_machine.specs.Storage.{store_of, place, offset, joined, value_at, total, AreBounds, with_more}
+use Rattle.fv_machine.specs.Stored.{Finds, IsOf, bounds_here}
+use Rattle.run77.specs.Values.{call_of, offset_of}
+use Rattle.fv_machine.proofs.StoreLaws.{store-bounds, store-held, within_offset, offset_below}
+use Rattle.fv_machine.specs.declared.variables.Variable.{Variable}
 use Rattle.fv_tree.specs.declared.arguments.Arguments.{Arguments}
 use Rattle.fv_tree.specs.declared.arguments.Arguments.TheVariants.{Empty}
 use Rattle.fv_tree.specs.Arguments.{added, finished}
@@ -43,126 +47,73 @@ use Rattle.fv_tree.proofs.Calls.{finished_is}
 
 -- ---- expressions
 
-pub int_value : (n : ℤ) (s : Store) → value_of integer_bits (expression_of (exprs.Int n)) s ≡ Ok (Int n)
-int_value n s = ap (λ e. value_of integer_bits e s) (expression_of-int n)
+pub int_value : (n : ℤ) (s : Store) → value_of fortran77 (expression_of (exprs.Int n)) s ≡ Ok (Int n)
+int_value n s = ap (λ e. value_of fortran77 e s) (expression_of-int n)
 
-pub truth_value : (b : Bool) (s : Store) → value_of integer_bits (expression_of (exprs.Truth b)) s ≡ Ok (Truth b)
-truth_value b s = ap (λ e. value_of integer_bits e s) (expression_of-truth b)
+pub truth_value : (b : Bool) (s : Store) → value_of fortran77 (expression_of (exprs.Truth b)) s ≡ Ok (Truth b)
+truth_value b s = ap (λ e. value_of fortran77 e s) (expression_of-truth b)
 
-pub un_value : (o : Op) (a : Box Expr Global) (s : Store) (x : Value) → Ok x ≡ value_of integer_bits (expression_of a.value) s
-    → value_of integer_bits (expression_of (exprs.Un o a)) s ≡ apply o x x
-un_value o a s x e = ap (λ e. value_of integer_bits e s) (expression_of-un o a) ∙ ap (λ (r : Result Value Fault). do x ← r; apply o x x) (sym e)
+pub un_value : (o : Op) (a : Box Expr Global) (s : Store) (x : Value) → Ok x ≡ value_of fortran77 (expression_of a.value) s
+    → value_of fortran77 (expression_of (exprs.Un o a)) s ≡ apply o x x
+un_value o a s x e = ap (λ e. value_of fortran77 e s) (expression_of-un o a) ∙ ap (λ (r : Result Value Fault). do x ← r; apply o x x) (sym e)
 
-pub un_fault : (o : Op) (a : Box Expr Global) (s : Store) (f : Fault) → Err f ≡ value_of integer_bits (expression_of a.value) s
-    → value_of integer_bits (expression_of (exprs.Un o a)) s ≡ Err f
-un_fault o a s f e = ap (λ e. value_of integer_bits e s) (expression_of-un o a) ∙ ap (λ (r : Result Value Fault). do x ← r; apply o x x) (sym e)
+pub un_fault : (o : Op) (a : Box Expr Global) (s : Store) (f : Fault) → Err f ≡ value_of fortran77 (expression_of a.value) s
+    → value_of fortran77 (expression_of (exprs.Un o a)) s ≡ Err f
+un_fault o a s f e = ap (λ e. value_of fortran77 e s) (expression_of-un o a) ∙ ap (λ (r : Result Value Fault). do x ← r; apply o x x) (sym e)
 
-pub bin_value : (o : Op) (a b : Box Expr Global) (s : Store) (x y : Value) → Ok x ≡ value_of integer_bits (expression_of a.value) s → Ok y ≡ value_of integer_bits (expression_of b.value) s
-    → value_of integer_bits (expression_of (exprs.Bin o a b)) s ≡ apply o x y
-bin_value o a b s x y e h = ap (λ e. value_of integer_bits e s) (expression_of-bin o a b) ∙ ap₂ (λ (r q : Result Value Fault). do x ← r; y ← q; apply o x y) (sym e) (sym h)
+pub bin_value : (o : Op) (a b : Box Expr Global) (s : Store) (x y : Value) → Ok x ≡ value_of fortran77 (expression_of a.value) s → Ok y ≡ value_of fortran77 (expression_of b.value) s
+    → value_of fortran77 (expression_of (exprs.Bin o a b)) s ≡ apply o x y
+bin_value o a b s x y e h = ap (λ e. value_of fortran77 e s) (expression_of-bin o a b) ∙ ap₂ (λ (r q : Result Value Fault). do x ← r; y ← q; apply o x y) (sym e) (sym h)
 
-pub bin_first_fault : (o : Op) (a b : Box Expr Global) (s : Store) (f : Fault) → Err f ≡ value_of integer_bits (expression_of a.value) s
-    → value_of integer_bits (expression_of (exprs.Bin o a b)) s ≡ Err f
-bin_first_fault o a b s f e = ap (λ e. value_of integer_bits e s) (expression_of-bin o a b) ∙ ap (λ (r : Result Value Fault). do x ← r; y ← value_of integer_bits (expression_of b.value) s; apply o x y) (sym e)
+pub bin_first_fault : (o : Op) (a b : Box Expr Global) (s : Store) (f : Fault) → Err f ≡ value_of fortran77 (expression_of a.value) s
+    → value_of fortran77 (expression_of (exprs.Bin o a b)) s ≡ Err f
+bin_first_fault o a b s f e = ap (λ e. value_of fortran77 e s) (expression_of-bin o a b) ∙ ap (λ (r : Result Value Fault). do x ← r; y ← value_of fortran77 (expression_of b.value) s; apply o x y) (sym e)
 
-pub bin_second_fault : (o : Op) (a b : Box Expr Global) (s : Store) (x : Value) (f : Fault) → Ok x ≡ value_of integer_bits (expression_of a.value) s → Err f ≡ value_of integer_bits (expression_of b.value) s
-    → value_of integer_bits (expression_of (exprs.Bin o a b)) s ≡ Err f
-bin_second_fault o a b s x f e h = ap (λ e. value_of integer_bits e s) (expression_of-bin o a b) ∙ ap₂ (λ (r q : Result Value Fault). do x ← r; y ← q; apply o x y) (sym e) (sym h)
+pub bin_second_fault : (o : Op) (a b : Box Expr Global) (s : Store) (x : Value) (f : Fault) → Ok x ≡ value_of fortran77 (expression_of a.value) s → Err f ≡ value_of fortran77 (expression_of b.value) s
+    → value_of fortran77 (expression_of (exprs.Bin o a b)) s ≡ Err f
+bin_second_fault o a b s x f e h = ap (λ e. value_of fortran77 e s) (expression_of-bin o a b) ∙ ap₂ (λ (r q : Result Value Fault). do x ← r; y ← q; apply o x y) (sym e) (sym h)
 
 pub call_value : (f : Fun) (es : Seq Expr) (s : Store)
-    → value_of integer_bits (expression_of (exprs.Call f es)) s ≡ call_of integer_bits f (P.expressions (map expression_of es)) s
-call_value f es s = ap (λ e. value_of integer_bits e s) (expression_of-call f es)
+    → value_of fortran77 (expression_of (exprs.Call f es)) s ≡ call_of fortran77 f (P.expressions (map expression_of es)) s
+call_value f es s = ap (λ e. value_of fortran77 e s) (expression_of-call f es)
 
 -- ---- subscripts
 
-pub subscript_value_is : (e : Expr) (s : Store) (x : Value) → Ok x ≡ value_of integer_bits (expression_of e) s
-    → subscript_value integer_bits (subscript_of (subs.One e)) s ≡ as_number x
-subscript_value_is e s x h = ap (λ p. subscript_value integer_bits p s) (subscript_of-one e) ∙ ap (λ (r : Result Value Fault). do x ← r; as_number x) (sym h)
+pub subscript_value_is : (e : Expr) (s : Store) (x : Value) → Ok x ≡ value_of fortran77 (expression_of e) s
+    → subscript_value fortran77 (subscript_of (subs.One e)) s ≡ as_number x
+subscript_value_is e s x h = ap (λ p. subscript_value fortran77 p s) (subscript_of-one e) ∙ ap (λ (r : Result Value Fault). do x ← r; as_number x) (sym h)
 
-pub subscript_fault_is : (e : Expr) (s : Store) (f : Fault) → Err f ≡ value_of integer_bits (expression_of e) s
-    → subscript_value integer_bits (subscript_of (subs.One e)) s ≡ Err f
-subscript_fault_is e s f h = ap (λ p. subscript_value integer_bits p s) (subscript_of-one e) ∙ ap (λ (r : Result Value Fault). do x ← r; as_number x) (sym h)
+pub subscript_fault_is : (e : Expr) (s : Store) (f : Fault) → Err f ≡ value_of fortran77 (expression_of e) s
+    → subscript_value fortran77 (subscript_of (subs.One e)) s ≡ Err f
+subscript_fault_is e s f h = ap (λ p. subscript_value fortran77 p s) (subscript_of-one e) ∙ ap (λ (r : Result Value Fault). do x ← r; as_number x) (sym h)
 
-pub ruleset value_laws = (int_value, truth_value, un_value, un_fault, bin_value, bin_first_fault, bin_second_fault, call_value, subscript_value_is, subscript_fault_is)
+pub part_fault_is : (a b c : Expr) (s : Store) → subscript_value fortran77 (subscript_of (subs.Part a b c)) s ≡ Err Shape
+part_fault_is a b c s = ap (λ p. subscript_value fortran77 p s) (subscript_of-part a b c)
 
--- ---- places
+-- ---- arrays are no values
 
-pub store-bounds : (ds : List P.Declaration) (vs : List Value) (x : List ℕ) → (store_of ds vs).bounds x ≡ opening_bounds ds x
-unfolding store_of
-store-bounds ds vs x = refl
+pub list_value : (es : Seq Expr) (ls : Seq Turn) (s : Store) → value_of fortran77 (expression_of (exprs.List es ls)) s ≡ Err Shape
+list_value es ls s = ap (λ e. value_of fortran77 e s) (expression_of-list es ls)
 
-pub store-held : (ds : List P.Declaration) (vs : List Value) (c : Cell) → (store_of ds vs).held c ≡ value_at vs (opening_value ds c.name) (place ds c.name c.subscripts)
-unfolding store_of
-store-held ds vs c = refl
+pub spread_value : (a : Box Expr Global) (d : ℕ) (n : Box Expr Global) (s : Store)
+    → value_of fortran77 (expression_of (exprs.Spread a d n)) s ≡ Err Shape
+spread_value a d n s = ap (λ e. value_of fortran77 e s) (expression_of-spread a d n)
 
-unjoined : (b : ℤ × ℤ) (i : ℤ) (t : Bool) (o : Option ℕ) → t ≡ is_some o → int_le b.0 i && (int_le i b.1 && t) ≡ is_some (joined b i o)
-unjoined b i t None e = grind (arith, rules)
-unjoined b i t (Some r) e = grind (arith, rules)
+pub transpose_value : (a : Box Expr Global) (s : Store) → value_of fortran77 (expression_of (exprs.Transpose a)) s ≡ Err Shape
+transpose_value a s = ap (λ e. value_of fortran77 e s) (expression_of-transpose a)
 
--- an element has a place where its subscripts are within the bounds
-pub within_offset : (bs : List (ℤ × ℤ)) (is : List ℤ) → is_within bs is ≡ is_some (offset bs is)
-within_offset [] [] = refl
-within_offset [] (i ∷ is) = refl
-within_offset (b ∷ bs) [] = refl
-within_offset (b ∷ bs) (i ∷ is) = unjoined b i (is_within bs is) (offset bs is) (within_offset bs is)
+pub reshape_value : (a : Box Expr Global) (es : Seq Expr) (s : Store)
+    → value_of fortran77 (expression_of (exprs.Reshape a es)) s ≡ Err Shape
+reshape_value a es s = ap (λ e. value_of fortran77 e s) (expression_of-reshape a es)
 
--- ---- the elements within bounds
+pub reduce_value : (r : Red) (a : Box Expr Global) (s : Store) → value_of fortran77 (expression_of (exprs.Reduce r a)) s ≡ Err Shape
+reduce_value r a s = ap (λ e. value_of fortran77 e s) (expression_of-reduce r a)
 
-pub both_true : (a b : Bool) → (a && b) ≡ true → (a ≡ true) × (b ≡ true)
-both_true true true e = (refl, refl)
-both_true true false e = cc
-both_true false b e = cc
-
-count_is : (z : ℤ) → pos 0 ≤ℤ z → elim z as (λ _. ℕ) [ pos n ↦ n + 1 | negsuc n ↦ 0 ] ≡ nat_abs z + 1
-count_is (pos n) h = refl
-count_is (negsuc n) h = absurd (omega (arith, ints))
-
-pub size_is : (b : ℤ × ℤ) → b.0 ≤ℤ b.1 → size_of b ≡ nat_abs (b.1 -ℤ b.0) + 1
-size_is b h = count_is (b.1 -ℤ b.0) (omega (arith, ints))
-
-pub number_inside : (b : ℤ × ℤ) (i : ℤ) → (int_le b.0 i && int_le i b.1) ≡ true → nat_abs (i -ℤ b.0) < size_of b
-number_inside b i e =
-    let both = both_true (int_le b.0 i) (int_le i b.1) e in
-    let low : b.0 ≤ℤ i = record { le = T_from_true _ both.0 } in
-    let high : i ≤ℤ b.1 = record { le = T_from_true _ both.1 } in
-    let size = size_is b (omega (arith, ints)) in
-    omega (arith, ints)
-
-offset_joined : (b : ℤ × ℤ) (i : ℤ) (o : Option ℕ) (k e : ℕ) → ((r : ℕ) → o ≡ Some r → r < e) → joined b i o ≡ Some k → k < size_of b * e
-offset_joined b i None k e h p = cc
-offset_joined b i (Some r) k e h p = by (int_le b.0 i && int_le i b.1) refl p
-  where
-    by : (t : Bool) → (int_le b.0 i && int_le i b.1) ≡ t → cond t (Some (nat_abs (i -ℤ b.0) + size_of b * r)) None ≡ Some k → k < size_of b * e
-    by true t q =
-        let same : nat_abs (i -ℤ b.0) + size_of b * r ≡ k = cc in
-        let inside : nat_abs (i -ℤ b.0) < size_of b = number_inside b i t in
-        let room = mul-add-lt r (size_of b) (nat_abs (i -ℤ b.0)) e (h r refl) inside in
-        omega arith
-    by false t q = cc
-
-pub offset_below : (bs : List (ℤ × ℤ)) (is : List ℤ) (k : ℕ) → offset bs is ≡ Some k → k < elements_of bs
-offset_below [] [] k e = (let same : 0 ≡ k = cc in omega arith)
-offset_below [] (i ∷ is) k e = cc
-offset_below (b ∷ bs) [] k e = cc
-offset_below (b ∷ bs) (i ∷ is) k e = offset_joined b i (offset bs is) k (elements_of bs) (λ r. offset_below bs is r) e
-
-inner_few : (d e : ℕ) → d * e ≤ 2 ^ 22 → 0 < d → e ≤ 2 ^ 22
-inner_few zero e h p = absurd (omega arith)
-inner_few (suc d) e h p = grind arith
-
-pub inner_bounds : (b : ℤ × ℤ) (bs : List (ℤ × ℤ)) → AreBounds (b ∷ bs) → AreBounds bs
-inner_bounds b bs h =
-    let positive : 0 < size_of b = (let e = size_is b h.each.0.ordered in omega arith) in
-    record { each = h.each.1; dimensions = omega (arith, h.dimensions); few = inner_few (size_of b) (elements_of bs) h.few positive }
-
-pub rest_few : (b : ℤ × ℤ) (bs : List (ℤ × ℤ)) (r : ℕ) → AreBounds (b ∷ bs) → r < elements_of bs → size_of b * r ≤ 2 ^ 22
-rest_few b bs r h l = let m : size_of b * r ≤ size_of b * elements_of bs = mul-le-mul_left (size_of b) (omega arith) in omega (arith, h.few)
-
-pub ruleset offset_laws = (inner_bounds, rest_few, offset_below)
+pub ruleset value_laws = (int_value, truth_value, un_value, un_fault, bin_value, bin_first_fault, bin_second_fault, call_value, subscript_value_is, subscript_fault_is, part_fault_is)
 
 -- a place that was found for subscripts
-pub offset_found : (bs : List (ℤ × ℤ)) (ps : P.Subscripts) (s : Store) (k : ℕ) → Ok (Some k) ≡ offset_of integer_bits bs ps s → k < elements_of bs
-offset_found bs ps s k e = by (subscript_values integer_bits ps s) e
+pub offset_found : (bs : List (ℤ × ℤ)) (ps : P.Subscripts) (s : Store) (k : ℕ) → Ok (Some k) ≡ offset_of fortran77 bs ps s → k < elements_of bs
+offset_found bs ps s k e = by (subscript_values fortran77 ps s) e
   where
     by : (r : Result (List ℤ) Fault) → ◌≡◌ {A = Result (Option ℕ) Fault} (Ok (Some k)) (do is ← r; Ok (offset bs is)) → k < elements_of bs
     by (Ok is) e = offset_below bs is k cc
@@ -170,14 +121,14 @@ offset_found bs ps s k e = by (subscript_values integer_bits ps s) e
 
 -- ---- the place of a cell
 
-cell_of : (ds : List P.Declaration) (vs : List Value) (r : P.Reference) → cell_named integer_bits r (store_of ds vs) ≡ (do is ← subscript_values integer_bits r.subscripts (store_of ds vs); cell_in (opening_bounds ds r.name) r.name is)
-cell_of ds vs r = ap (λ b. do is ← subscript_values integer_bits r.subscripts (store_of ds vs); cell_in b r.name is) (store-bounds ds vs r.name)
+cell_of : (ds : List P.Declaration) (vs : List Value) (r : P.Reference) → cell_named fortran77 r (store_of ds vs) ≡ (do is ← subscript_values fortran77 r.subscripts (store_of ds vs); cell_in (opening_bounds ds r.name) r.name is)
+cell_of ds vs r = ap (λ b. do is ← subscript_values fortran77 r.subscripts (store_of ds vs); cell_in b r.name is) (store-bounds ds vs r.name)
 
 pub place_fault : (ds : List P.Declaration) (vs : List Value) (r : Ref) (bs : List (ℤ × ℤ)) (f : Fault)
-    → Err f ≡ offset_of integer_bits bs (P.subscripts (map subscript_of (out-Ref r).subs)) (store_of ds vs) → cell_named integer_bits (reference_of r) (store_of ds vs) ≡ Err f
+    → Err f ≡ offset_of fortran77 bs (P.subscripts (map subscript_of (out-Ref r).subs)) (store_of ds vs) → cell_named fortran77 (reference_of r) (store_of ds vs) ≡ Err f
 place_fault ds vs r bs f e =
-    ap (λ q. cell_named integer_bits q (store_of ds vs)) (reference_of-is r)
-    ∙ by (subscript_values integer_bits (P.subscripts (map subscript_of (out-Ref r).subs)) (store_of ds vs)) e
+    ap (λ q. cell_named fortran77 q (store_of ds vs)) (reference_of-is r)
+    ∙ by (subscript_values fortran77 (P.subscripts (map subscript_of (out-Ref r).subs)) (store_of ds vs)) e
   where
     by : (q : Result (List ℤ) Fault) → ◌≡◌ {A = Result (Option ℕ) Fault} (Err f) (do is ← q; Ok (offset bs is))
         → ◌≡◌ {A = Result Cell Fault} (do is ← q; cell_at (out-Ref r).name is (store_of ds vs)) (Err f)
@@ -185,10 +136,10 @@ place_fault ds vs r bs f e =
     by (Err g) e = cc
 
 pub place_unknown : (ds : List P.Declaration) (vs : List Value) (r : Ref) (bs : List (ℤ × ℤ)) (o : Option ℕ) → opening_bounds ds (out-Ref r).name ≡ None
-    → Ok o ≡ offset_of integer_bits bs (P.subscripts (map subscript_of (out-Ref r).subs)) (store_of ds vs) → cell_named integer_bits (reference_of r) (store_of ds vs) ≡ Err Allocated
+    → Ok o ≡ offset_of fortran77 bs (P.subscripts (map subscript_of (out-Ref r).subs)) (store_of ds vs) → cell_named fortran77 (reference_of r) (store_of ds vs) ≡ Err Allocated
 place_unknown ds vs r bs o n e =
-    ap (λ q. cell_named integer_bits q (store_of ds vs)) (reference_of-is r)
-    ∙ by (subscript_values integer_bits (P.subscripts (map subscript_of (out-Ref r).subs)) (store_of ds vs)) e
+    ap (λ q. cell_named fortran77 q (store_of ds vs)) (reference_of-is r)
+    ∙ by (subscript_values fortran77 (P.subscripts (map subscript_of (out-Ref r).subs)) (store_of ds vs)) e
   where
     by : (q : Result (List ℤ) Fault) → ◌≡◌ {A = Result (Option ℕ) Fault} (Ok o) (do is ← q; Ok (offset bs is))
         → ◌≡◌ {A = Result Cell Fault} (do is ← q; cell_at (out-Ref r).name is (store_of ds vs)) (Err Allocated)
@@ -196,10 +147,10 @@ place_unknown ds vs r bs o n e =
     by (Err g) e = cc
 
 pub place_outside : (ds : List P.Declaration) (vs : List Value) (r : Ref) (v : Variable) → IsOf ds (out-Ref r).name v
-    → Ok None ≡ offset_of integer_bits (bounds_here v) (P.subscripts (map subscript_of (out-Ref r).subs)) (store_of ds vs) → cell_named integer_bits (reference_of r) (store_of ds vs) ≡ Err Bounds
+    → Ok None ≡ offset_of fortran77 (bounds_here v) (P.subscripts (map subscript_of (out-Ref r).subs)) (store_of ds vs) → cell_named fortran77 (reference_of r) (store_of ds vs) ≡ Err Bounds
 place_outside ds vs r v h e =
-    ap (λ q. cell_named integer_bits q (store_of ds vs)) (reference_of-is r)
-    ∙ by (subscript_values integer_bits (P.subscripts (map subscript_of (out-Ref r).subs)) (store_of ds vs)) e
+    ap (λ q. cell_named fortran77 q (store_of ds vs)) (reference_of-is r)
+    ∙ by (subscript_values fortran77 (P.subscripts (map subscript_of (out-Ref r).subs)) (store_of ds vs)) e
   where
     by : (q : Result (List ℤ) Fault) → ◌≡◌ {A = Result (Option ℕ) Fault} (Ok None) (do is ← q; Ok (offset (bounds_here v) is))
         → ◌≡◌ {A = Result Cell Fault} (do is ← q; cell_at (out-Ref r).name is (store_of ds vs)) (Err Bounds)
@@ -211,11 +162,11 @@ place_outside ds vs r v h e =
     by (Err g) e = cc
 
 pub place_found : (ds : List P.Declaration) (vs : List Value) (r : Ref) (v : Variable) (k : ℕ) → IsOf ds (out-Ref r).name v
-    → Ok (Some k) ≡ offset_of integer_bits (bounds_here v) (P.subscripts (map subscript_of (out-Ref r).subs)) (store_of ds vs)
-    → Finds ds (cell_named integer_bits (reference_of r) (store_of ds vs)) (Ok (v.start + k))
+    → Ok (Some k) ≡ offset_of fortran77 (bounds_here v) (P.subscripts (map subscript_of (out-Ref r).subs)) (store_of ds vs)
+    → Finds ds (cell_named fortran77 (reference_of r) (store_of ds vs)) (Ok (v.start + k))
 place_found ds vs r v k h e =
-    subst (λ q. Finds ds (cell_named integer_bits q (store_of ds vs)) (Ok (v.start + k))) (sym (reference_of-is r))
-    (by (subscript_values integer_bits (P.subscripts (map subscript_of (out-Ref r).subs)) (store_of ds vs)) e)
+    subst (λ q. Finds ds (cell_named fortran77 q (store_of ds vs)) (Ok (v.start + k))) (sym (reference_of-is r))
+    (by (subscript_values fortran77 (P.subscripts (map subscript_of (out-Ref r).subs)) (store_of ds vs)) e)
   where
     by : (q : Result (List ℤ) Fault) → ◌≡◌ {A = Result (Option ℕ) Fault} (Ok (Some k)) (do is ← q; Ok (offset (bounds_here v) is))
         → Finds ds (do is ← q; cell_at (out-Ref r).name is (store_of ds vs)) (Ok (v.start + k))
@@ -229,38 +180,36 @@ place_found ds vs r v k h e =
     by (Err g) e = cc
 
 pub place_within : (ds : List P.Declaration) (vs : List Value) (ps : P.Subscripts) (x : List ℕ) (v : Variable) (k : ℕ) → IsOf ds x v
-    → Ok (Some k) ≡ offset_of integer_bits (bounds_here v) ps (store_of ds vs) → v.start + k < total ds
+    → Ok (Some k) ≡ offset_of fortran77 (bounds_here v) ps (store_of ds vs) → v.start + k < total ds
 place_within ds vs ps x v k h e = let below = offset_found (bounds_here v) ps (store_of ds vs) k e in omega (arith, h.fits)
 
-finds_value : (ds : List P.Declaration) (vs : List Value) (q : Result Cell Fault) (k : ℕ) (x : Value) → Finds ds q (Ok k) → k < length vs → x ≡ get_or vs k x
-    → ◌≡◌ {A = Result Value Fault} (do c ← q; Ok ((store_of ds vs).held c)) (Ok x)
-finds_value ds vs (Ok c) k x h l e =
-    ap (λ (v : Value). let r : Result Value Fault = Ok v in r)
-    (store-held ds vs c ∙ ap (value_at vs (opening_value ds c.name)) h ∙ sym (get_or_read vs k x l e (opening_value ds c.name)))
-finds_value ds vs (Err f) k x h l e = absurd h
+finds_value : (ds : List P.Declaration) (s : Store) (q : Result Cell Fault) (k : ℕ) (x : Value) → Finds ds q (Ok k)
+    → ((c : Cell) → place ds c.name c.subscripts ≡ Some k → s.held c ≡ x) → ◌≡◌ {A = Result Value Fault} (do c ← q; Ok (s.held c)) (Ok x)
+finds_value ds s (Ok c) k x h e = ap (λ (v : Value). let r : Result Value Fault = Ok v in r) (e c h)
+finds_value ds s (Err f) k x h e = absurd h
 
 finds_fault : (ds : List P.Declaration) (vs : List Value) (q : Result Cell Fault) (f : Fault) → Finds ds q (Err f) → ◌≡◌ {A = Result Value Fault} (do c ← q; Ok ((store_of ds vs).held c)) (Err f)
 finds_fault ds vs (Ok c) f h = absurd h
 finds_fault ds vs (Err g) f h = cc
 
-named_is : (r : P.Reference) (s : Store) → value_of integer_bits (P.Named r.name r.subscripts) s ≡ (do c ← cell_named integer_bits r s; Ok (s.held c))
-named_is r s = by (subscript_values integer_bits r.subscripts s)
+named_is : (r : P.Reference) (s : Store) → value_of fortran77 (P.Named r.name r.subscripts) s ≡ (do c ← cell_named fortran77 r s; Ok (s.held c))
+named_is r s = by (subscript_values fortran77 r.subscripts s)
   where
     by : (q : Result (List ℤ) Fault) → ◌≡◌ {A = Result Value Fault} (do is ← q; c ← cell_at r.name is s; Ok (s.held c)) (do c ← (do is ← q; cell_at r.name is s); Ok (s.held c))
     by (Ok is) = refl
     by (Err f) = refl
 
-pub item_value : (ds : List P.Declaration) (vs : List Value) (r : Ref) (k : ℕ) (x : Value) → Finds ds (cell_named integer_bits (reference_of r) (store_of ds vs)) (Ok k) → k < length vs → x ≡ get_or vs k x
-    → value_of integer_bits (expression_of (exprs.Item r)) (store_of ds vs) ≡ Ok x
-item_value ds vs r k x h l e =
-    ap (λ e. value_of integer_bits e (store_of ds vs)) (expression_of-item r)
-    ∙ named_is (reference_of r) (store_of ds vs) ∙ finds_value ds vs (cell_named integer_bits (reference_of r) (store_of ds vs)) k x h l e
+pub item_value : (ds : List P.Declaration) (s : Store) (r : Ref) (k : ℕ) (x : Value) → Finds ds (cell_named fortran77 (reference_of r) s) (Ok k)
+    → ((c : Cell) → place ds c.name c.subscripts ≡ Some k → s.held c ≡ x) → value_of fortran77 (expression_of (exprs.Item r)) s ≡ Ok x
+item_value ds s r k x h e =
+    ap (λ e. value_of fortran77 e s) (expression_of-item r)
+    ∙ named_is (reference_of r) s ∙ finds_value ds s (cell_named fortran77 (reference_of r) s) k x h e
 
-pub item_fault : (ds : List P.Declaration) (vs : List Value) (r : Ref) (f : Fault) → Finds ds (cell_named integer_bits (reference_of r) (store_of ds vs)) (Err f)
-    → value_of integer_bits (expression_of (exprs.Item r)) (store_of ds vs) ≡ Err f
+pub item_fault : (ds : List P.Declaration) (vs : List Value) (r : Ref) (f : Fault) → Finds ds (cell_named fortran77 (reference_of r) (store_of ds vs)) (Err f)
+    → value_of fortran77 (expression_of (exprs.Item r)) (store_of ds vs) ≡ Err f
 item_fault ds vs r f h =
-    ap (λ e. value_of integer_bits e (store_of ds vs)) (expression_of-item r)
-    ∙ named_is (reference_of r) (store_of ds vs) ∙ finds_fault ds vs (cell_named integer_bits (reference_of r) (store_of ds vs)) f h
+    ap (λ e. value_of fortran77 e (store_of ds vs)) (expression_of-item r)
+    ∙ named_is (reference_of r) (store_of ds vs) ∙ finds_fault ds vs (cell_named fortran77 (reference_of r) (store_of ds vs)) f h
 
 pub finds_same : (ds : List P.Declaration) (q : Result Cell Fault) (f : Fault) → q ≡ Err f → Finds ds q (Err f)
 finds_same ds q f e = subst (λ (r : Result Cell Fault). Finds ds r (Err f)) (sym e) refl
@@ -274,30 +223,30 @@ taken_on f given x (Err e) = refl
 
 -- the value of a call, where some arguments were taken and these are left
 pub left_to_call : Fun → Arguments → List Expr → Store → Result Value Fault
-left_to_call f given es s = do xs ← values_of integer_bits (P.expressions (map expression_of es)) s; finished f (fold (added f) given xs)
+left_to_call f given es s = do xs ← values_of fortran77 (P.expressions (map expression_of es)) s; finished f (fold (added f) given xs)
 
 called : (f : Fun) (q : Result (List Value) Fault) → ◌≡◌ {A = Result Value Fault} (do xs ← q; call f xs) (do xs ← q; finished f (fold (added f) Empty xs))
 called f (Ok xs) = sym (finished_is f xs)
 called f (Err e) = refl
 
-pub call_begun : (f : Fun) (es : List Expr) (s : Store) → call_of integer_bits f (P.expressions (map expression_of es)) s ≡ left_to_call f Empty es s
+pub call_begun : (f : Fun) (es : List Expr) (s : Store) → call_of fortran77 f (P.expressions (map expression_of es)) s ≡ left_to_call f Empty es s
 unfolding left_to_call
-call_begun f es s = called f (values_of integer_bits (P.expressions (map expression_of es)) s)
+call_begun f es s = called f (values_of fortran77 (P.expressions (map expression_of es)) s)
 
 pub call_done : (f : Fun) (given : Arguments) (s : Store) → left_to_call f given [] s ≡ finished f given
 unfolding left_to_call
 call_done f given s = refl
 
-pub call_fault : (f : Fun) (given : Arguments) (e : Expr) (es : List Expr) (s : Store) (g : Fault) → Err g ≡ value_of integer_bits (expression_of e) s → left_to_call f given (e ∷ es) s ≡ Err g
+pub call_fault : (f : Fun) (given : Arguments) (e : Expr) (es : List Expr) (s : Store) (g : Fault) → Err g ≡ value_of fortran77 (expression_of e) s → left_to_call f given (e ∷ es) s ≡ Err g
 unfolding left_to_call
-call_fault f given e es s g h = ap (λ (r : Result Value Fault). do xs ← (do x ← r; xs ← values_of integer_bits (P.expressions (map expression_of es)) s; Ok (x ∷ xs)); finished f (fold (added f) given xs)) (sym h)
+call_fault f given e es s g h = ap (λ (r : Result Value Fault). do xs ← (do x ← r; xs ← values_of fortran77 (P.expressions (map expression_of es)) s; Ok (x ∷ xs)); finished f (fold (added f) given xs)) (sym h)
 
-pub call_more : (f : Fun) (given : Arguments) (e : Expr) (es : List Expr) (s : Store) (x : Value) → Ok x ≡ value_of integer_bits (expression_of e) s
+pub call_more : (f : Fun) (given : Arguments) (e : Expr) (es : List Expr) (s : Store) (x : Value) → Ok x ≡ value_of fortran77 (expression_of e) s
     → left_to_call f given (e ∷ es) s ≡ left_to_call f (added f given x) es s
 unfolding left_to_call
 call_more f given e es s x h =
-    ap (λ (r : Result Value Fault). do xs ← (do x ← r; xs ← values_of integer_bits (P.expressions (map expression_of es)) s; Ok (x ∷ xs)); finished f (fold (added f) given xs)) (sym h)
-    ∙ taken_on f given x (values_of integer_bits (P.expressions (map expression_of es)) s)
+    ap (λ (r : Result Value Fault). do xs ← (do x ← r; xs ← values_of fortran77 (P.expressions (map expression_of es)) s; Ok (x ∷ xs)); finished f (fold (added f) given xs)) (sym h)
+    ∙ taken_on f given x (values_of fortran77 (P.expressions (map expression_of es)) s)
 
 -- ---- subscripts, one at a time
 
@@ -319,14 +268,14 @@ with_more_offset bs is i more h = by (nat_lt (length is) 8) refl
 
 -- the place of an element, where some subscripts are known and these are left
 pub left_to_place : List (ℤ × ℤ) → List ℤ → List Sub → Store → Result (Option ℕ) Fault
-left_to_place bs known ps s = do is ← subscript_values integer_bits (P.subscripts (map subscript_of ps)) s; Ok (offset bs (known ++ is))
+left_to_place bs known ps s = do is ← subscript_values fortran77 (P.subscripts (map subscript_of ps)) s; Ok (offset bs (known ++ is))
 
 known_more : (bs : List (ℤ × ℤ)) (known : List ℤ) (i : ℤ) (q : Result (List ℤ) Fault) → length bs < 8
     → ◌≡◌ {A = Result (Option ℕ) Fault} (do is ← (do is ← q; Ok (i ∷ is)); Ok (offset bs (known ++ is))) (do is ← q; Ok (offset bs (with_more known i ++ is)))
 known_more bs known i (Ok is) h = ap (λ (o : Option ℕ). let r : Result (Option ℕ) Fault = Ok o in r) (sym (with_more_offset bs known i is h))
 known_more bs known i (Err f) h = refl
 
-pub place_begun : (bs : List (ℤ × ℤ)) (ps : List Sub) (s : Store) → offset_of integer_bits bs (P.subscripts (map subscript_of ps)) s ≡ left_to_place bs [] ps s
+pub place_begun : (bs : List (ℤ × ℤ)) (ps : List Sub) (s : Store) → offset_of fortran77 bs (P.subscripts (map subscript_of ps)) s ≡ left_to_place bs [] ps s
 unfolding left_to_place
 place_begun bs ps s = refl
 
@@ -334,34 +283,34 @@ pub place_done : (bs : List (ℤ × ℤ)) (known : List ℤ) (s : Store) → lef
 unfolding left_to_place
 place_done bs known s = ap (λ (is : List ℤ). let r : Result (Option ℕ) Fault = Ok (offset bs is) in r) (append-nil known)
 
-pub place_stopped : (bs : List (ℤ × ℤ)) (known : List ℤ) (p : Sub) (ps : List Sub) (s : Store) (f : Fault) → Err f ≡ subscript_value integer_bits (subscript_of p) s → left_to_place bs known (p ∷ ps) s ≡ Err f
+pub place_stopped : (bs : List (ℤ × ℤ)) (known : List ℤ) (p : Sub) (ps : List Sub) (s : Store) (f : Fault) → Err f ≡ subscript_value fortran77 (subscript_of p) s → left_to_place bs known (p ∷ ps) s ≡ Err f
 unfolding left_to_place
-place_stopped bs known p ps s f h = ap (λ (r : Result ℤ Fault). do is ← (do i ← r; is ← subscript_values integer_bits (P.subscripts (map subscript_of ps)) s; Ok (i ∷ is)); Ok (offset bs (known ++ is))) (sym h)
+place_stopped bs known p ps s f h = ap (λ (r : Result ℤ Fault). do is ← (do i ← r; is ← subscript_values fortran77 (P.subscripts (map subscript_of ps)) s; Ok (i ∷ is)); Ok (offset bs (known ++ is))) (sym h)
 
-pub place_more : (bs : List (ℤ × ℤ)) (known : List ℤ) (p : Sub) (ps : List Sub) (s : Store) (i : ℤ) → length bs < 8 → Ok i ≡ subscript_value integer_bits (subscript_of p) s
+pub place_more : (bs : List (ℤ × ℤ)) (known : List ℤ) (p : Sub) (ps : List Sub) (s : Store) (i : ℤ) → length bs < 8 → Ok i ≡ subscript_value fortran77 (subscript_of p) s
     → left_to_place bs known (p ∷ ps) s ≡ left_to_place bs (with_more known i) ps s
 unfolding left_to_place
 place_more bs known p ps s i l h =
-    ap (λ (r : Result ℤ Fault). do is ← (do i ← r; is ← subscript_values integer_bits (P.subscripts (map subscript_of ps)) s; Ok (i ∷ is)); Ok (offset bs (known ++ is))) (sym h)
-    ∙ known_more bs known i (subscript_values integer_bits (P.subscripts (map subscript_of ps)) s) l
+    ap (λ (r : Result ℤ Fault). do is ← (do i ← r; is ← subscript_values fortran77 (P.subscripts (map subscript_of ps)) s; Ok (i ∷ is)); Ok (offset bs (known ++ is))) (sym h)
+    ∙ known_more bs known i (subscript_values fortran77 (P.subscripts (map subscript_of ps)) s) l
 
 -- the same over a list from a place in it on
 
 module _ (whole : Result Value Fault) (f : Fun) (given : Arguments) (es : List Expr) (i : ℕ) (s : Store) (so_far : whole ≡ left_to_call f given (drop i es) s) where
-  pub call_step_fault : (e : Expr) (g : Fault) → i < length es → e ≡ get_or es i e → Err g ≡ value_of integer_bits (expression_of e) s → Err g ≡ whole
+  pub call_step_fault : (e : Expr) (g : Fault) → i < length es → e ≡ get_or es i e → Err g ≡ value_of fortran77 (expression_of e) s → Err g ≡ whole
   call_step_fault e g l h v = sym (so_far ∙ at_drop_more (λ es. left_to_call f given es s) es i e l ∙ ap (λ d. left_to_call f given (d ∷ drop (i + 1) es) s) (sym h) ∙ call_fault f given e (drop (i + 1) es) s g v)
 
-  pub call_step : (e : Expr) (x : Value) → i < length es → e ≡ get_or es i e → Ok x ≡ value_of integer_bits (expression_of e) s → whole ≡ left_to_call f (added f given x) (drop (i + 1) es) s
+  pub call_step : (e : Expr) (x : Value) → i < length es → e ≡ get_or es i e → Ok x ≡ value_of fortran77 (expression_of e) s → whole ≡ left_to_call f (added f given x) (drop (i + 1) es) s
   call_step e x l h v = so_far ∙ at_drop_more (λ es. left_to_call f given es s) es i e l ∙ ap (λ d. left_to_call f given (d ∷ drop (i + 1) es) s) (sym h) ∙ call_more f given e (drop (i + 1) es) s x v
 
   pub call_end : length es ≤ i → finished f given ≡ whole
   call_end l = sym (so_far ∙ at_drop_all (λ es. left_to_call f given es s) es i l ∙ call_done f given s)
 
 module _ (whole : Result (Option ℕ) Fault) (bs : List (ℤ × ℤ)) (known : List ℤ) (ps : List Sub) (i : ℕ) (s : Store) (so_far : whole ≡ left_to_place bs known (drop i ps) s) where
-  pub place_step_fault : (p : Sub) (g : Fault) → i < length ps → p ≡ get_or ps i p → Err g ≡ subscript_value integer_bits (subscript_of p) s → Err g ≡ whole
+  pub place_step_fault : (p : Sub) (g : Fault) → i < length ps → p ≡ get_or ps i p → Err g ≡ subscript_value fortran77 (subscript_of p) s → Err g ≡ whole
   place_step_fault p g l h v = sym (so_far ∙ at_drop_more (λ ps. left_to_place bs known ps s) ps i p l ∙ ap (λ d. left_to_place bs known (d ∷ drop (i + 1) ps) s) (sym h) ∙ place_stopped bs known p (drop (i + 1) ps) s g v)
 
-  pub place_step : (p : Sub) (n : ℤ) → length bs < 8 → i < length ps → p ≡ get_or ps i p → Ok n ≡ subscript_value integer_bits (subscript_of p) s → whole ≡ left_to_place bs (with_more known n) (drop (i + 1) ps) s
+  pub place_step : (p : Sub) (n : ℤ) → length bs < 8 → i < length ps → p ≡ get_or ps i p → Ok n ≡ subscript_value fortran77 (subscript_of p) s → whole ≡ left_to_place bs (with_more known n) (drop (i + 1) ps) s
   place_step p n few l h v = so_far ∙ at_drop_more (λ ps. left_to_place bs known ps s) ps i p l ∙ ap (λ d. left_to_place bs known (d ∷ drop (i + 1) ps) s) (sym h) ∙ place_more bs known p (drop (i + 1) ps) s n few v
 
   pub place_end : length ps ≤ i → Ok (offset bs known) ≡ whole
@@ -371,4 +320,4 @@ pub ruleset place_laws = (place_fault, place_unknown, place_outside, place_found
 
 pub ruleset left_laws = (call_begun, call_done, call_fault, call_more, place_begun, place_done, place_stopped, place_more)
 
-pub ruleset item_laws = (item_value, item_fault)
+pub ruleset item_laws = (item_fault, list_value, spread_value, transpose_value, reshape_value, reduce_value)

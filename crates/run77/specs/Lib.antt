@@ -1,13 +1,4 @@
-pub mod Storage
-pub mod Stored
-pub mod Propositions
 pub mod Moments
-pub mod Acts
-pub mod Loops
-pub mod Texts
+pub mod Values
 pub mod Printing
-pub mod Statements
-pub mod Jumps
-pub mod Reading
 pub mod Machine
-pub mod Showing

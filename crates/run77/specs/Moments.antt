@@ -1,60 +1,7 @@
--- How a machine's moment stands for a moment of a run by its definition.
-use Rattle.std.specs.Prelude.{◌≡◌, Result, Ok, Err, Option, ℕ, ◌-◌, ◌+◌, List, drop, Bool, true, false}
-use Rattle.std.specs.Option.{option_map}
-use Rattle.fv_tree.specs.Plain.{Declaration}
-use Rattle.fv_tree.specs.declared.ops.Value.{Value}
-use Rattle.fv_tree.specs.declared.ops.Fault.{Fault}
-use Rattle.fv_tree.specs.declared.ops.Fault.TheVariants.{Overflow}
-use Rattle.fv_meaning.specs.Sequential.{integer_bits}
-use Rattle.fv_meaning.specs.Value.{is_in_range}
-use Rattle.fv_meaning.specs.Texts.{without_cr}
-use Rattle.fv_meaning.specs.Run.{State, Way, Going, Jumping, Stopped, Failed, Cut, is_allowed}
+-- What is seen of the moments of a FORTRAN 77 program's run.
+use Rattle.fv_machine.specs.Moments.{Seen, seen_at}
+use Rattle.fv_machine.specs.Stored.{names_in, store_in}
 use Rattle.run77.specs.declared.moment.Moment.{Moment}
-use Rattle.run77.specs.declared.moment.Halt.{Halt}
-use Rattle.run77.specs.declared.moment.Halt.TheVariants.{Jump, Stop, Fault as Fault', Limit}
-use Rattle.run77.specs.Storage.{store_of}
-use Rattle.run77.specs.Stored.{names_in}
 
--- how many steps are left after so many
-abbrev pub steps_left : Option ℕ → ℕ → Option ℕ
-steps_left limit k = option_map (λ n. n - k) limit
-
--- the way on which a halt leaves a run
-abbrev pub way_of : Halt → Way
-way_of (Jump n) = Jumping n
-way_of Stop = Stopped
-way_of (Fault' f line) = Failed f line
-way_of Limit = Cut
-
--- The machine's moment m stands for the moment s of the run of a program with these names, under this limit of steps,
--- over
--- this input
-pub record Stands (names : List Declaration) (limit : Option ℕ) (input : List ℕ) (m : Moment) (way : Way) (s : State) : Type 0 where
-  pub names_are : names_in m.storage ≡ names
-  pub store : s.store ≡ store_of names m.storage.values.items
-  pub input_left : s.input ≡ without_cr (drop m.at input)
-  pub had_value : s.had_value ≡ m.had_value
-  pub steps : m.left ≡ steps_left limit s.steps
-  pub way_is : s.way ≡ way
-
--- a step was counted, or none was left
-unfoldable pub CountsStep : Moment → Moment → Result (Unit {0}) Halt → Type 0
-CountsStep old new (Ok x) = (names : List Declaration) (limit : Option ℕ) (input : List ℕ) (s : State)
-    → Stands names limit input old Going s
-    → (is_allowed limit s.steps ≡ true) × Stands names limit input new Going (record s { steps = s.steps + 1 })
-CountsStep old new (Err h) = (h ≡ Limit) × (new ≡ old)
-    × ((names : List Declaration) (limit : Option ℕ) (input : List ℕ) (s : State) → Stands names limit input old Going s
-    → is_allowed limit s.steps ≡ false)
-
--- an answer with its fault at the line
-abbrev pub located : {A : Type 0} → ℕ → Result A Fault → Result A Halt
-located line (Ok x) = Ok x
-located line (Err f) = Err (Fault' f line)
-
-abbrev pub chosen : Bool → Result (Unit {0}) Fault
-chosen true = Ok tt
-chosen false = Err Overflow
-
--- a number that is stored has to be in the range of INTEGER
-abbrev pub checked : Value → Result (Unit {0}) Fault
-checked v = chosen (is_in_range integer_bits v)
+abbrev pub seen : Moment → Seen
+seen m = seen_at (names_in m.storage) (store_in m.storage) m.progress

@@ -1,80 +1,54 @@
 //! Assignments, and the variables and turns of loops (ANSI X3.9-1978, sections 10 and 11.10).
-ghost use Rattle.std.specs.Prelude.{◌≡◌, [], Some, pos, ℤ, IfOk, ◌<◌, vec_len, get_or};
+ghost use Rattle.std.specs.Prelude.{◌≡◌, [], Some, pos, IfOk, ◌<◌};
 ghost use Rattle.fv_tree.specs.View.{expression_of, reference_of};
-ghost use Rattle.fv_meaning.specs.Sequential.{integer_bits};
-ghost use Rattle.fv_meaning.specs.Store.{cell_at};
+ghost use Rattle.fv_meaning.specs.Dialect.{fortran77};
+ghost use Rattle.fv_meaning.specs.Store.{Cell, cell_at};
 ghost use Rattle.fv_meaning.specs.Value.{increment_of, number_of};
 ghost use Rattle.fv_meaning.specs.Run.{assigns, sets_variable, increases};
-ghost use Rattle.run77.specs.Stored.{names_in, store_in, Finds};
-ghost use Rattle.run77.specs.Acts.{Does};
-ghost use Rattle.run77.specs.Loops.{BeginsLoop, increased, nonzero};
+ghost use Rattle.fv_machine.specs.Storage.{total, place};
+ghost use Rattle.fv_machine.specs.Stored.{names_in, store_in, Finds};
+ghost use Rattle.fv_machine.specs.Acts.{Does};
+ghost use Rattle.fv_machine.specs.Loops.{BeginsLoop, increased};
+ghost use Rattle.run77.specs.Moments.{seen};
 
-use crate::moment::{Halt, Moment};
-use crate::steps::{add, at, check_range, trip_count};
-use crate::storage::Storage;
-use crate::subscripts::offset;
-use crate::values::as_number;
-use crate::variables::dims_of;
+use crate::moment::Moment;
+use fv_machine::{Halt, Turns, add, at, check_range, increment, trip_count};
 use fv_tree::{Expr, Fault, Name, Ref, Value};
 
-/// How often a loop turns, and by how much its variable grows after each turn.
-#[derive(Clone, Copy)]
-pub struct Turns {
-    pub count: u32,
-    pub step: i128,
-}
-
-impl Storage {
+impl Moment {
     /// The place of a variable's value.
-    #[tactic(auto, using(crate::proofs::LoopLaws::scalar_laws))]
-    pub fn scalar(&self, name: Name) -> Result<usize, Fault>
-        ensures found { Finds (names_in self.now) (cell_at name [] (store_in self.now)) result }
-        ensures within { IfOk result (λ k. k < vec_len self.now.values) }
+    fn scalar(&self, name: Name) -> Result<usize, Fault>
+        ensures found { Finds (names_in self.now.storage) (cell_at name [] (store_in self.now.storage)) result }
+        ensures within { IfOk result (λ k. k < total (names_in self.now.storage)) }
     {
-        let Some(variable) = self.find(name) else {
-            return Err(Fault::Allocated);
-        };
-        let Some(offset) = offset(&[], dims_of(&variable.decl.extent)) else {
-            return Err(Fault::Bounds);
-        };
-        Ok(variable.start + offset)
+        self.storage.place(name, &[])
     }
 
     // The value at the place, and the step of a loop.
-    fn increased(&self, place: usize, step: i128) -> Result<i128, Fault>
-        requires { place < vec_len self.now.values }
-        ensures { result ≡ increased (get_or self.now.values.items place (Value.Int (pos 0))) step }
+    fn increased(&self, at: usize, step: i128) -> Result<i128, Fault>
+        requires { at < total (names_in self.now.storage) }
+        ensures { (c : Cell) → place (names_in self.now.storage) c.name c.subscripts ≡ Some at
+            → result ≡ increased ((store_in self.now.storage).held c) step }
     {
-        add(as_number(self.values[place])?, step)
+        add(self.storage.value(at).as_number()?, step)
     }
-}
 
-// The third parameter of a loop isn't 0.
-fn increment(step: i128) -> Result<i128, Fault>
-    ensures value { result ≡ nonzero step }
-    ensures nonzero { IfOk result (λ z. z ≡ pos 0 → ⊥) }
-{
-    if step == 0 {
-        return Err(Fault::ZeroStep);
-    }
-    Ok(step)
-}
-
-impl Moment {
     /// An assignment: the right side, the left subscripts, the bounds, the range, the store.
     pub fn assign(&mut self, line: u32, left: &Ref, right: &Expr) -> Result<(), Halt>
-        ensures { Does (λ limit. assigns integer_bits limit line (reference_of left.now) (expression_of right.now)) self.old self.new result }
+        ensures { Does (λ limit. assigns fortran77 limit line (reference_of left.now) (expression_of right.now))
+            (seen self.old) (seen self.new) result }
     {
-        let value = at(line, self.storage.value(right))?;
-        let place = at(line, self.storage.place(left))?;
+        let value = at(line, self.value(right))?;
+        let place = at(line, self.place(left))?;
         self.store(line, place, value)
     }
 
     // Storing a loop's variable is no step.
     fn set_variable(&mut self, line: u32, name: Name, number: i128) -> Result<(), Halt>
-        ensures { Does (λ limit. sets_variable integer_bits limit line name number) self.old self.new result }
+        ensures { Does (λ limit. sets_variable fortran77 limit line name number)
+            (seen self.old) (seen self.new) result }
     {
-        let place = at(line, self.storage.scalar(name))?;
+        let place = at(line, self.scalar(name))?;
         at(line, check_range(Value::Int(number)))?;
         self.storage.put(place, Value::Int(number));
         Ok(())
@@ -82,23 +56,23 @@ impl Moment {
 
     /// The variable grows after a turn.
     pub fn increase(&mut self, line: u32, name: Name, step: i128) -> Result<(), Halt>
-        ensures { Does (λ limit. increases integer_bits limit line name step) self.old self.new result }
+        ensures { Does (λ limit. increases fortran77 limit line name step) (seen self.old) (seen self.new) result }
     {
-        let place = at(line, self.storage.scalar(name))?;
-        let number = at(line, self.storage.increased(place, step))?;
+        let place = at(line, self.scalar(name))?;
+        let number = at(line, self.increased(place, step))?;
         self.set_variable(line, name, number)
     }
 
     // The value of a parameter.
     fn parameter(&self, expr: &Expr) -> Result<i128, Fault>
-        ensures { result ≡ number_of integer_bits (expression_of expr.now) (store_in self.now.storage) }
+        ensures { result ≡ number_of fortran77 (expression_of expr.now) (store_in self.now.storage) }
     {
-        as_number(self.storage.value(expr)?)
+        self.value(expr)?.as_number()
     }
 
     // The value of a third parameter.
     fn step(&self, expr: &Expr) -> Result<i128, Fault>
-        ensures value { result ≡ increment_of integer_bits (expression_of expr.now) (store_in self.now.storage) }
+        ensures value { result ≡ increment_of fortran77 (expression_of expr.now) (store_in self.now.storage) }
         ensures nonzero { IfOk result (λ z. z ≡ pos 0 → ⊥) }
     {
         increment(self.parameter(expr)?)
@@ -113,7 +87,9 @@ impl Moment {
         last: &Expr,
         step: &Expr,
     ) -> Result<Turns, Halt>
-        ensures { BeginsLoop line name (expression_of first.now) (expression_of last.now) (expression_of step.now) self.old self.new result }
+        ensures { BeginsLoop fortran77 line name
+            (expression_of first.now) (expression_of last.now) (expression_of step.now)
+            (seen self.old) (seen self.new) result }
     {
         let first = at(line, self.parameter(first))?;
         let last = at(line, self.parameter(last))?;

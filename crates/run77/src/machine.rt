@@ -5,17 +5,19 @@ ghost use Rattle.fv_tree.specs.Plain.{Program};
 ghost use Rattle.fv_tree.specs.View.{program_of, declaration_of, block_of};
 ghost use Rattle.fv_meaning.specs.Store.{opening_store};
 ghost use Rattle.fv_meaning.specs.Profile77.{IsProgram77};
-ghost use Rattle.fv_meaning.specs.Sequential.{integer_bits};
+ghost use Rattle.fv_meaning.specs.Dialect.{fortran77};
 ghost use Rattle.fv_meaning.specs.Run.{run};
 ghost use Rattle.fv_meaning.specs.Steps.{final_lines};
-ghost use Rattle.run77.specs.Machine.{IsOpening, IsMachineOf, Ends, end_at, ended, opening_of, store_left};
-ghost use Rattle.run77.specs.Storage.{AreArrays, AreDistinct};
-ghost use Rattle.run77.specs.Stored.{names_in};
-ghost use Rattle.run77.specs.Texts.{WritesText};
+ghost use Rattle.fv_machine.specs.Endings.{IsOpening, Ends};
+ghost use Rattle.fv_machine.specs.Storage.{AreArrays, AreDistinct, opening_of};
+ghost use Rattle.fv_machine.specs.Stored.{names_in};
+ghost use Rattle.fv_machine.specs.Texts.{WritesText};
+ghost use Rattle.run77.specs.Moments.{seen};
+ghost use Rattle.run77.specs.Machine.{IsMachineOf, store_left};
 
-use crate::moment::{Halt, Left, Moment};
-use crate::storage::Storage;
+use crate::moment::Moment;
 use fv_io::{Sink, WriteFault};
+use fv_machine::{Progress, Storage, ended};
 use fv_meaning::End;
 use fv_tree::{Block, Decl, Memory, Program77, Seq};
 use std::alloc::Global;
@@ -27,37 +29,14 @@ pub struct Machine77 {
     moment: Moment,
 }
 
-fn end_at(halt: Halt) -> End
-    ensures { result ≡ end_at halt }
-{
-    match halt {
-        Halt::Jump(_) => End::Done,
-        Halt::Stop => End::Done,
-        Halt::Fault(fault, line) => End::Fault(fault, line),
-        Halt::Limit => End::StepLimit,
-    }
-}
-
-fn ended(answer: Result<(), Left>) -> End
-    ensures { result ≡ ended answer }
-{
-    match answer {
-        Ok(()) => End::Done,
-        Err(Left::Halted(halt)) => end_at(halt),
-        Err(Left::Unwritten) => End::WriteFault,
-    }
-}
-
 impl Moment {
     // The first moment of a run.
     fn begin(&mut self, limit: Option<u64>)
-        ensures opening { IsOpening limit self.new }
-        ensures names { self.new.storage.variables ≡ self.old.storage.variables }
+        ensures opening { IsOpening limit (seen self.new) }
+        ensures names { names_in self.new.storage ≡ names_in self.old.storage }
     {
         self.storage.reset();
-        self.at = 0;
-        self.had_value = false;
-        self.left = limit;
+        self.progress = Progress::begin(limit);
     }
 }
 
@@ -65,7 +44,7 @@ impl Machine77 {
     /// Takes all the memory that runs need.
     #[tactic(auto, using(crate::proofs::ProgramLaws::are_arrays, crate::proofs::ProgramLaws::are_distinct))]
     pub fn new(alloc: Global, program: Program77) -> Result<Machine77, Memory>
-        requires { IsProgram77 (program_of program) }
+        requires { IsProgram77 fortran77 (program_of program) }
         ensures machine { IfOk result (IsMachineOf (program_of program)) }
         ensures opened { IfOk result (λ m. store_left m ≡ opening_store (program_of program)) }
     {
@@ -89,17 +68,17 @@ impl Machine77 {
             body,
             moment: Moment {
                 storage: Storage::new(alloc, decls)?,
-                at: 0,
-                had_value: false,
-                left: None,
+                progress: Progress::begin(None),
             },
         })
     }
 
     /// Runs the program over the input, from its opening store on. The output goes out as it comes.
     pub fn run<K: Sink>(&mut self, input: &[u8], out: &mut K, limit: Option<u64>) -> End
-        ensures run { (p : Program) → IsProgram77 p → IsMachineOf p self.old → Ends p.declarations (run integer_bits limit p input.now) self.new.moment (K.taken out.old) (K.taken out.new) result }
-        ensures machine { (p : Program) → IsProgram77 p → IsMachineOf p self.old → IsMachineOf p self.new }
+        ensures run { (p : Program) → IsProgram77 fortran77 p → IsMachineOf p self.old
+            → Ends p.declarations (run fortran77 limit p input.now)
+            (seen self.new.moment) (K.taken out.old) (K.taken out.new) result }
+        ensures machine { (p : Program) → IsProgram77 fortran77 p → IsMachineOf p self.old → IsMachineOf p self.new }
         ensures fault { result ≡ End.WriteFault → Rose (K.faults out.old) (K.faults out.new) }
         ensures later { K.faults out.old ≤ K.faults out.new }
     {

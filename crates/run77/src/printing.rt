@@ -1,27 +1,24 @@
 //! PRINT (ANSI X3.9-1978, sections 12 and 13.6).
-ghost use Rattle.std.specs.Prelude.{◌≡◌, ◌≤◌, ◌∷◌, [], Err, map, OnErr, List, ℕ, MatchResult, MatchOption, Ok};
+ghost use Rattle.std.specs.Prelude.{◌≡◌, ◌≤◌, Err, List, ℕ, MatchOption};
 ghost use Rattle.fv_io.specs.Causes.{Rose};
 ghost use Rattle.fv_tree.specs.View.{expression_of, item_of};
-ghost use Rattle.fv_meaning.specs.Sequential.{integer_bits};
-ghost use Rattle.fv_meaning.specs.Texts.{output_text};
-ghost use Rattle.fv_meaning.specs.Run.{prints_item, prints_items, writes, first_blank, loops};
-ghost use Rattle.run77.specs.Acts.{Runs};
-ghost use Rattle.run77.specs.Stored.{store_in};
-ghost use Rattle.run77.specs.Texts.{WritesText};
-ghost use Rattle.run77.specs.Printing.{all_values, prints_value, prints, plain_items, IsOneValue, AreAllValues};
+ghost use Rattle.fv_meaning.specs.Dialect.{fortran77};
+ghost use Rattle.fv_meaning.specs.Run.{prints_item, prints_items, first_blank};
+ghost use Rattle.fv_machine.specs.Acts.{Runs};
+ghost use Rattle.fv_machine.specs.Printing.{prints_value, prints, plain_items};
+ghost use Rattle.run77.specs.Moments.{seen};
+ghost use Rattle.run77.specs.Printing.{IsOneValue, AreAllValues};
 
-use crate::moment::{Left, Moment};
-use crate::steps::at;
-use crate::storage::Storage;
-use crate::texts::write_output;
-use crate::variables::{dims_of, elements};
-use fv_io::{Sink, WriteFault, write_all};
-use fv_tree::{Expr, Fault, Item, Name, Seq, Value};
+use crate::moment::Moment;
+use fv_io::{Sink, write_all};
+use fv_machine::{Left, at, write_output, write_outputs};
+use fv_tree::{Expr, Item, Name, Seq};
 
 // The name of a scalar or a whole array.
-#[tactic(auto, using(crate::proofs::WriteLaws::item_laws))]
+#[tactic(auto, using(crate::proofs::ItemLaws::item_laws))]
 fn whole_name(expr: &Expr) -> Option<Name>
-    ensures { MatchOption result (IsOneValue (expression_of expr.now)) (λ name. AreAllValues (expression_of expr.now) name) }
+    ensures { MatchOption result (IsOneValue (expression_of expr.now))
+        (λ name. AreAllValues (expression_of expr.now) name) }
 {
     match expr {
         Expr::Item(item) => match item.subs.as_slice().first() {
@@ -33,37 +30,18 @@ fn whole_name(expr: &Expr) -> Option<Name>
         Expr::Un(..) => None,
         Expr::Bin(..) => None,
         Expr::Call(..) => None,
-    }
-}
-
-fn write_outputs<K: Sink>(values: &[Value], out: &mut K) -> Result<(), WriteFault>
-    ensures text { WritesText (K.taken out.old) (output_text values.now) (K.taken out.new) result }
-    ensures fault { OnErr result (Rose (K.faults out.old) (K.faults out.new)) }
-    ensures later { K.faults out.old ≤ K.faults out.new }
-{
-    for value in values {
-        write_output(*value, out)?;
-    }
-    Ok(())
-}
-
-impl Storage {
-    // The values of all elements of an array, or of a scalar.
-    #[tactic(auto, using(crate::proofs::PrintLaws::all_laws))]
-    fn all(&self, name: Name) -> Result<&[Value], Fault>
-        ensures { MatchResult result (λ values. all_values name (store_in self.now) ≡ Ok values.now) (λ fault. all_values name (store_in self.now) ≡ Err fault) }
-    {
-        let Some(variable) = self.find(name) else {
-            return Err(Fault::Allocated);
-        };
-        let end = variable.start + elements(dims_of(&variable.decl.extent));
-        Ok(&self.values[variable.start..end])
+        Expr::List(..) => None,
+        Expr::Spread(..) => None,
+        Expr::Transpose(_) => None,
+        Expr::Reshape(..) => None,
+        Expr::Reduce(..) => None,
     }
 }
 
 impl Moment {
     fn print_value<K: Sink>(&self, line: u32, expr: &Expr, out: &mut K) -> Result<(), Left>
-        ensures run { (input : List ℕ) → Runs (λ limit. prints_value line (expression_of expr.now)) input self.now (K.taken out.old) self.now (K.taken out.new) result }
+        ensures run { (input : List ℕ) → Runs (λ limit. prints_value fortran77 line (expression_of expr.now)) input
+            (seen self.now) (K.taken out.old) (seen self.now) (K.taken out.new) result }
         ensures fault { result ≡ Err Left.Unwritten → Rose (K.faults out.old) (K.faults out.new) }
         ensures later { K.faults out.old ≤ K.faults out.new }
     {
@@ -74,7 +52,7 @@ impl Moment {
                 Ok(())
             }
             None => {
-                let value = at(line, self.storage.value(expr))?;
+                let value = at(line, self.value(expr))?;
                 write_output(value, out)?;
                 Ok(())
             }
@@ -83,7 +61,8 @@ impl Moment {
 
     #[cycle(printing)]
     fn print_item<K: Sink>(&mut self, line: u32, item: &Item, out: &mut K) -> Result<(), Left>
-        ensures run { (input : List ℕ) → Runs (λ limit. prints_item integer_bits limit (item_of item.now) line) input self.old (K.taken out.old) self.new (K.taken out.new) result }
+        ensures run { (input : List ℕ) → Runs (λ limit. prints_item fortran77 limit (item_of item.now) line) input
+            (seen self.old) (K.taken out.old) (seen self.new) (K.taken out.new) result }
         ensures fault { result ≡ Err Left.Unwritten → Rose (K.faults out.old) (K.faults out.new) }
         ensures later { K.faults out.old ≤ K.faults out.new }
     {
@@ -109,7 +88,8 @@ impl Moment {
         items: &Seq<Item>,
         out: &mut K,
     ) -> Result<(), Left>
-        ensures run { (input : List ℕ) → Runs (λ limit. prints_items integer_bits limit (plain_items items.now) line) input self.old (K.taken out.old) self.new (K.taken out.new) result }
+        ensures run { (input : List ℕ) → Runs (λ limit. prints_items fortran77 limit (plain_items items.now) line) input
+            (seen self.old) (K.taken out.old) (seen self.new) (K.taken out.new) result }
         ensures fault { result ≡ Err Left.Unwritten → Rose (K.faults out.old) (K.faults out.new) }
         ensures later { K.faults out.old ≤ K.faults out.new }
     {
@@ -121,7 +101,8 @@ impl Moment {
 
     /// A line of output. A blank stands before it where it begins with a constant, or is empty.
     pub fn print<K: Sink>(&mut self, line: u32, items: &Seq<Item>, out: &mut K) -> Result<(), Left>
-        ensures run { (input : List ℕ) → Runs (λ limit. prints limit line (plain_items items.now)) input self.old (K.taken out.old) self.new (K.taken out.new) result }
+        ensures run { (input : List ℕ) → Runs (λ limit. prints fortran77 limit line (plain_items items.now)) input
+            (seen self.old) (K.taken out.old) (seen self.new) (K.taken out.new) result }
         ensures fault { result ≡ Err Left.Unwritten → Rose (K.faults out.old) (K.faults out.new) }
         ensures later { K.faults out.old ≤ K.faults out.new }
     {

@@ -1,58 +1,36 @@
 //! READ (ANSI X3.9-1978, section 12.3).
-ghost use Rattle.std.specs.Prelude.{◌≡◌, ◌<◌, vec_len, MatchResult};
+ghost use Rattle.std.specs.Prelude.{◌≡◌, ◌<◌};
 ghost use Rattle.fv_tree.specs.Plain.{Single};
 ghost use Rattle.fv_tree.specs.View.{expression_of, reference_of, item_of};
-ghost use Rattle.fv_meaning.specs.Sequential.{integer_bits};
-ghost use Rattle.fv_meaning.specs.Run.{begins_line, reads_item, reads_items};
-ghost use Rattle.run77.specs.Printing.{plain_items};
-ghost use Rattle.run77.specs.Statements.{DoesOver, reads};
-ghost use Rattle.run77.specs.Reading.{TakesWord, HasNoWord, ReadsAt, reads_all, reads_cells};
+ghost use Rattle.fv_meaning.specs.Dialect.{fortran77};
+ghost use Rattle.fv_meaning.specs.Run.{reads_item, reads_items};
+ghost use Rattle.fv_machine.specs.Storage.{total};
+ghost use Rattle.fv_machine.specs.Stored.{names_in};
+ghost use Rattle.fv_machine.specs.Printing.{plain_items};
+ghost use Rattle.fv_machine.specs.Statements.{DoesOver, reads};
+ghost use Rattle.fv_machine.specs.Reading.{ReadsAt, reads_all, reads_cells};
+ghost use Rattle.run77.specs.Moments.{seen};
 
-use crate::input::{line_end, read_value, value_place, word_end};
-use crate::moment::{Halt, Moment};
-use crate::steps::at;
-use crate::variables::{dims_of, elements};
+use crate::moment::Moment;
+use fv_machine::{Halt, at, dims_of, elements, read_value};
 use fv_tree::{Expr, Fault, Item, Name, Ref, Seq};
 
 impl Moment {
-    // A READ begins at a line, which has to be there.
-    fn begin_line(&mut self, line: u32, input: &[u8]) -> Result<(), Halt>
-        ensures { DoesOver input.now (λ limit. begins_line line) self.old self.new result }
-    {
-        if self.at >= input.len() {
-            return Err(Halt::Fault(Fault::InputEnd, line));
-        }
-        self.had_value = false;
-        Ok(())
-    }
-
-    // The next word of the input.
-    fn take_word<'a>(&mut self, line: u32, input: &'a [u8]) -> Result<&'a [u8], Halt>
-        ensures word { MatchResult result (λ word. TakesWord input.now line self.old self.new word.now) (λ halt. HasNoWord input.now line self.old self.new halt) }
-        ensures storage { self.new.storage ≡ self.old.storage }
-    {
-        let start = at(line, value_place(input, self.at, self.had_value))?;
-        let end = word_end(input, start);
-        self.at = end;
-        self.had_value = true;
-        Ok(&input[start..end])
-    }
-
     // The value that the place has from now on, as the input says.
     fn read_into(&mut self, line: u32, place: usize, input: &[u8]) -> Result<(), Halt>
-        requires { place < vec_len self.old.storage.values }
-        ensures read { ReadsAt input.now line place self.old self.new result }
-        ensures names { self.new.storage.variables ≡ self.old.storage.variables }
-        ensures length { vec_len self.new.storage.values ≡ vec_len self.old.storage.values }
+        requires { place < total (names_in self.old.storage) }
+        ensures read { ReadsAt fortran77 input.now line place (seen self.old) (seen self.new) result }
+        ensures names { names_in self.new.storage ≡ names_in self.old.storage }
     {
-        let word = self.take_word(line, input)?;
-        let value = at(line, read_value(self.storage.values[place], word))?;
+        let word = self.progress.take_word(line, input)?;
+        let value = at(line, read_value(self.storage.value(place), word))?;
         self.store(line, place, value)
     }
 
     // All elements of an array, or a scalar.
     fn read_all(&mut self, line: u32, name: Name, input: &[u8]) -> Result<(), Halt>
-        ensures { DoesOver input.now (λ limit. reads_all limit line name) self.old self.new result }
+        ensures { DoesOver input.now (λ limit. reads_all fortran77 limit line name)
+            (seen self.old) (seen self.new) result }
     {
         let Some(variable) = self.storage.find(name) else {
             return Err(Halt::Fault(Fault::Allocated, line));
@@ -67,17 +45,19 @@ impl Moment {
 
     // All elements, or one.
     fn read_cells(&mut self, line: u32, item: &Ref, input: &[u8]) -> Result<(), Halt>
-        ensures { DoesOver input.now (λ limit. reads_cells limit line (reference_of item.now)) self.old self.new result }
+        ensures { DoesOver input.now (λ limit. reads_cells fortran77 limit line (reference_of item.now))
+            (seen self.old) (seen self.new) result }
     {
         if item.subs.is_empty() {
             return self.read_all(line, item.name, input);
         }
-        let place = at(line, self.storage.place(item))?;
+        let place = at(line, self.place(item))?;
         self.read_into(line, place, input)
     }
 
     fn read_expression(&mut self, line: u32, expr: &Expr, input: &[u8]) -> Result<(), Halt>
-        ensures { DoesOver input.now (λ limit. reads_item integer_bits limit (Single (expression_of expr.now)) line) self.old self.new result }
+        ensures { DoesOver input.now (λ limit. reads_item fortran77 limit (Single (expression_of expr.now)) line)
+            (seen self.old) (seen self.new) result }
     {
         match expr {
             Expr::Item(item) => self.read_cells(line, item, input),
@@ -86,12 +66,18 @@ impl Moment {
             Expr::Un(..) => Ok(()),
             Expr::Bin(..) => Ok(()),
             Expr::Call(..) => Ok(()),
+            Expr::List(..) => Ok(()),
+            Expr::Spread(..) => Ok(()),
+            Expr::Transpose(_) => Ok(()),
+            Expr::Reshape(..) => Ok(()),
+            Expr::Reduce(..) => Ok(()),
         }
     }
 
     #[cycle(reading)]
     fn read_item(&mut self, line: u32, item: &Item, input: &[u8]) -> Result<(), Halt>
-        ensures { DoesOver input.now (λ limit. reads_item integer_bits limit (item_of item.now) line) self.old self.new result }
+        ensures { DoesOver input.now (λ limit. reads_item fortran77 limit (item_of item.now) line)
+            (seen self.old) (seen self.new) result }
     {
         match item {
             Item::One(expr) => self.read_expression(line, expr, input),
@@ -110,7 +96,8 @@ impl Moment {
 
     #[cycle(reading)]
     fn read_items(&mut self, line: u32, items: &Seq<Item>, input: &[u8]) -> Result<(), Halt>
-        ensures { DoesOver input.now (λ limit. reads_items integer_bits limit (plain_items items.now) line) self.old self.new result }
+        ensures { DoesOver input.now (λ limit. reads_items fortran77 limit (plain_items items.now) line)
+            (seen self.old) (seen self.new) result }
     {
         for item in items.as_slice() {
             self.read_item(line, item, input)?;
@@ -120,11 +107,12 @@ impl Moment {
 
     /// The items of a list get the values of the input. The rest of the last line is passed over.
     pub fn read(&mut self, line: u32, items: &Seq<Item>, input: &[u8]) -> Result<(), Halt>
-        ensures { DoesOver input.now (λ limit. reads limit line (plain_items items.now)) self.old self.new result }
+        ensures { DoesOver input.now (λ limit. reads fortran77 limit line (plain_items items.now))
+            (seen self.old) (seen self.new) result }
     {
-        self.begin_line(line, input)?;
+        self.progress.begin_line(line, input)?;
         self.read_items(line, items, input)?;
-        self.at = line_end(input, self.at);
+        self.progress.skip_line(input);
         Ok(())
     }
 }

@@ -1,30 +1,22 @@
 //! Statements, block IFs, loops and jumps (ANSI X3.9-1978, sections 10 and 11).
 ghost use Rattle.std.specs.Prelude.{◌≡◌, ◌≤◌, Err, map, IsTrue, Option, List, ℕ};
 ghost use Rattle.fv_io.specs.Causes.{Rose};
-ghost use Rattle.fv_tree.specs.Operators.{as_truth};
 ghost use Rattle.fv_tree.specs.View.{expression_of, reference_of, statement_of, block_of};
-ghost use Rattle.fv_meaning.specs.Sequential.{integer_bits};
+ghost use Rattle.fv_meaning.specs.Dialect.{fortran77};
 ghost use Rattle.fv_meaning.specs.Value.{truth_of};
 ghost use Rattle.fv_meaning.specs.Run.{does, does_all, counts_step, assigns, goes, loops, Jumping, Stopped};
-ghost use Rattle.run77.specs.Acts.{Does, Runs, left_of};
-ghost use Rattle.run77.specs.Stored.{store_in};
-ghost use Rattle.run77.specs.Printing.{plain_items, prints};
-ghost use Rattle.run77.specs.Statements.{HasArms, ArmsHaveArms, BlockHasArms, plain_arms, Chooses, DoesOver, reads};
-ghost use Rattle.run77.specs.Jumps.{arrived, passed, caught, landed};
+ghost use Rattle.fv_machine.specs.Acts.{Does, Runs, left_of};
+ghost use Rattle.fv_machine.specs.Stored.{store_in};
+ghost use Rattle.fv_machine.specs.Printing.{plain_items, prints};
+ghost use Rattle.fv_machine.specs.Statements.{HasArms, ArmsHaveArms, BlockHasArms, plain_arms, Chooses, DoesOver};
+ghost use Rattle.fv_machine.specs.Statements.{reads};
+ghost use Rattle.run77.specs.Moments.{seen};
+ghost use Rattle.fv_machine.specs.Jumps.{arrived, passed, caught, landed};
 
-use crate::moment::{Halt, Left, Moment};
-use crate::steps::at;
+use crate::moment::Moment;
 use fv_io::Sink;
-use fv_tree::{Arm, Block, Expr, Fault, Item, Name, Ref, Seq, Stmt, Value};
-
-fn as_truth(value: Value) -> Result<bool, Fault>
-    ensures { result ≡ as_truth value }
-{
-    match value {
-        Value::Truth(truth) => Ok(truth),
-        Value::Int(_) => Err(Fault::Shape),
-    }
-}
+use fv_machine::{Halt, Left, at};
+use fv_tree::{Arm, Block, Expr, Fault, Item, Ref, Seq, Stmt};
 
 fn left(answer: Result<(), Halt>) -> Result<(), Left>
     ensures { result ≡ left_of answer }
@@ -75,45 +67,53 @@ fn passed(stmt: &Stmt, label: u32) -> Option<u32>
     match stmt {
         Stmt::Label { number } => arrived(*number, label),
         Stmt::Assign { .. } => Some(label),
+        Stmt::Masked { .. } => Some(label),
         Stmt::If { .. } => Some(label),
         Stmt::Do { .. } => Some(label),
         Stmt::Go { .. } => Some(label),
         Stmt::Stop { .. } => Some(label),
         Stmt::Read { .. } => Some(label),
         Stmt::Print { .. } => Some(label),
+        Stmt::Allocate { .. } => Some(label),
+        Stmt::Deallocate { .. } => Some(label),
     }
 }
 
 impl Moment {
     fn truth(&self, test: &Expr) -> Result<bool, Fault>
-        ensures { result ≡ truth_of integer_bits (expression_of test.now) (store_in self.now.storage) }
+        ensures { result ≡ truth_of fortran77 (expression_of test.now) (store_in self.now.storage) }
     {
-        as_truth(self.storage.value(test)?)
+        self.value(test)?.as_truth()
     }
 
     fn assignment(&mut self, line: u32, left: &Ref, right: &Expr) -> Result<(), Halt>
-        ensures { Does (λ limit. counts_step integer_bits limit (assigns integer_bits limit line (reference_of left.now) (expression_of right.now))) self.old self.new result }
+        ensures { Does (λ limit. counts_step fortran77 limit
+            (assigns fortran77 limit line (reference_of left.now) (expression_of right.now)))
+            (seen self.old) (seen self.new) result }
     {
         self.count_step()?;
         self.assign(line, left, right)
     }
 
     fn go(&mut self, label: u32) -> Result<(), Halt>
-        ensures { Does (λ limit. counts_step integer_bits limit (goes (Jumping label))) self.old self.new result }
+        ensures { Does (λ limit. counts_step fortran77 limit (goes (Jumping label)))
+            (seen self.old) (seen self.new) result }
     {
         self.count_step()?;
         Err(Halt::Jump(label))
     }
 
     fn stop(&mut self) -> Result<(), Halt>
-        ensures { Does (λ limit. counts_step integer_bits limit (goes Stopped)) self.old self.new result }
+        ensures { Does (λ limit. counts_step fortran77 limit (goes Stopped)) (seen self.old) (seen self.new) result }
     {
         self.count_step()?;
         Err(Halt::Stop)
     }
 
     fn read_statement(&mut self, line: u32, items: &Seq<Item>, input: &[u8]) -> Result<(), Halt>
-        ensures { DoesOver input.now (λ limit. counts_step integer_bits limit (reads limit line (plain_items items.now))) self.old self.new result }
+        ensures { DoesOver input.now (λ limit. counts_step fortran77 limit
+            (reads fortran77 limit line (plain_items items.now)))
+            (seen self.old) (seen self.new) result }
     {
         self.count_step()?;
         self.read(line, items, input)
@@ -125,7 +125,9 @@ impl Moment {
         items: &Seq<Item>,
         out: &mut K,
     ) -> Result<(), Left>
-        ensures run { (input : List ℕ) → Runs (λ limit. counts_step integer_bits limit (prints limit line (plain_items items.now))) input self.old (K.taken out.old) self.new (K.taken out.new) result }
+        ensures run { (input : List ℕ)
+            → Runs (λ limit. counts_step fortran77 limit (prints fortran77 limit line (plain_items items.now))) input
+            (seen self.old) (K.taken out.old) (seen self.new) (K.taken out.new) result }
         ensures fault { result ≡ Err Left.Unwritten → Rose (K.faults out.old) (K.faults out.new) }
         ensures later { K.faults out.old ≤ K.faults out.new }
     {
@@ -135,7 +137,9 @@ impl Moment {
 
     #[cycle(statements)]
     fn statement<K: Sink>(&mut self, stmt: &Stmt, input: &[u8], out: &mut K) -> Result<(), Left>
-        ensures run { HasArms (statement_of stmt.now) → Runs (λ limit. does integer_bits limit (statement_of stmt.now)) input.now self.old (K.taken out.old) self.new (K.taken out.new) result }
+        ensures run { HasArms (statement_of stmt.now)
+            → Runs (λ limit. does fortran77 limit (statement_of stmt.now)) input.now
+            (seen self.old) (K.taken out.old) (seen self.new) (K.taken out.new) result }
         ensures fault { result ≡ Err Left.Unwritten → Rose (K.faults out.old) (K.faults out.new) }
         ensures later { K.faults out.old ≤ K.faults out.new }
     {
@@ -146,6 +150,7 @@ impl Moment {
                 right,
                 ..
             } => left(self.assignment(*line, target, right)),
+            Stmt::Masked { .. } => Ok(()),
             Stmt::If { line, arms, other } => {
                 let done = self.branch(*line, arms, input, out)?;
                 if done {
@@ -174,6 +179,8 @@ impl Moment {
             Stmt::Stop { .. } => left(self.stop()),
             Stmt::Read { line, items } => left(self.read_statement(*line, items, input)),
             Stmt::Print { line, items } => self.print_statement(*line, items, out),
+            Stmt::Allocate { .. } => Ok(()),
+            Stmt::Deallocate { .. } => Ok(()),
         }
     }
 
@@ -186,7 +193,8 @@ impl Moment {
         input: &[u8],
         out: &mut K,
     ) -> Result<bool, Left>
-        ensures run { ArmsHaveArms (plain_arms arms.now) → Chooses line (plain_arms arms.now) input.now self.old (K.taken out.old) self.new (K.taken out.new) result }
+        ensures run { ArmsHaveArms (plain_arms arms.now) → Chooses fortran77 line (plain_arms arms.now) input.now
+            (seen self.old) (K.taken out.old) (seen self.new) (K.taken out.new) result }
         ensures fault { result ≡ Err Left.Unwritten → Rose (K.faults out.old) (K.faults out.new) }
         ensures later { K.faults out.old ≤ K.faults out.new }
     {
@@ -204,7 +212,9 @@ impl Moment {
     /// One statement after the other. A jump passes over those up to its label, and leaves a block that hasn't it.
     #[cycle(statements)]
     pub fn block<K: Sink>(&mut self, block: &Block, input: &[u8], out: &mut K) -> Result<(), Left>
-        ensures run { BlockHasArms (block_of block.now) → Runs (λ limit. does_all integer_bits limit (block_of block.now)) input.now self.old (K.taken out.old) self.new (K.taken out.new) result }
+        ensures run { BlockHasArms (block_of block.now)
+            → Runs (λ limit. does_all fortran77 limit (block_of block.now)) input.now
+            (seen self.old) (K.taken out.old) (seen self.new) (K.taken out.new) result }
         ensures fault { result ≡ Err Left.Unwritten → Rose (K.faults out.old) (K.faults out.new) }
         ensures later { K.faults out.old ≤ K.faults out.new }
     {

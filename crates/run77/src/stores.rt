@@ -1,31 +1,30 @@
-//! What is stored.
-ghost use Rattle.std.specs.Prelude.{◌≡◌, ◌<◌, set, vec_len};
-ghost use Rattle.run77.specs.Acts.{StoresAt};
+//! Steps, and what is stored.
+ghost use Rattle.std.specs.Prelude.{◌≡◌, ◌<◌};
+ghost use Rattle.fv_meaning.specs.Dialect.{fortran77};
+ghost use Rattle.fv_machine.specs.Storage.{total};
+ghost use Rattle.fv_machine.specs.Stored.{names_in};
+ghost use Rattle.fv_machine.specs.Moments.{CountsStep};
+ghost use Rattle.fv_machine.specs.Acts.{StoresAt};
+ghost use Rattle.run77.specs.Moments.{seen};
 
-use crate::moment::{Halt, Moment};
-use crate::steps::{at, check_range};
-use crate::storage::Storage;
+use crate::moment::Moment;
+use fv_machine::{Halt, at, check_range};
 use fv_tree::Value;
 
-impl Storage {
-    /// Puts the value at the place.
-    pub fn put(&mut self, place: usize, value: Value)
-        requires { place < vec_len self.old.values }
-        ensures names { self.new.variables ≡ self.old.variables }
-        ensures values { self.new.values.items ≡ set self.old.values.items place value }
-        ensures length { vec_len self.new.values ≡ vec_len self.old.values }
-    {
-        self.values[place] = value;
-    }
-}
-
 impl Moment {
+    /// Counts a step, unless none is left.
+    pub fn count_step(&mut self) -> Result<(), Halt>
+        ensures counted { CountsStep (seen self.old) (seen self.new) result }
+        ensures storage { self.new.storage ≡ self.old.storage }
+    {
+        self.progress.count_step()
+    }
+
     /// Stores the value of an element or a scalar, which is a step. The range comes before it.
     pub fn store(&mut self, line: u32, place: usize, value: Value) -> Result<(), Halt>
-        requires { place < vec_len self.old.storage.values }
-        ensures stored { StoresAt line place value self.old self.new result }
-        ensures names { self.new.storage.variables ≡ self.old.storage.variables }
-        ensures length { vec_len self.new.storage.values ≡ vec_len self.old.storage.values }
+        requires { place < total (names_in self.old.storage) }
+        ensures stored { StoresAt fortran77 line place value (seen self.old) (seen self.new) result }
+        ensures names { names_in self.new.storage ≡ names_in self.old.storage }
     {
         at(line, check_range(value))?;
         self.count_step()?;

@@ -1,6 +1,6 @@
 ghost use Rattle.std.specs.Prelude.{IfOk, map};
 ghost use Rattle.fv_tree.specs.View.{declaration_of};
-ghost use Rattle.run77.specs.Storage.{AreArrays, AreDistinct};
+ghost use Rattle.fv_machine.specs.Storage.{AreArrays, AreDistinct};
 
 use crate::Machine77;
 use fv_io::MemSink;

@@ -1,38 +1,28 @@
 //! The values of expressions over the values of a program's names.
-ghost use Rattle.std.specs.Prelude.{◌≡◌, [], ◌<◌, ◌≤◌, ◌+◌, Ok, map, set, IfOk, IfSome, MatchOption, None, Option};
-ghost use Rattle.std.specs.Prelude.{vec_len};
+ghost use Rattle.std.specs.Prelude.{◌≡◌, ◌<◌, map, IfOk};
 ghost use Rattle.fv_tree.specs.Plain.{subscripts, expressions};
-ghost use Rattle.fv_tree.specs.Operators.{as_number};
 ghost use Rattle.fv_tree.specs.View.{expression_of, subscript_of, reference_of};
-ghost use Rattle.fv_meaning.specs.Store.{opening_bounds};
-ghost use Rattle.fv_meaning.specs.Sequential.{integer_bits};
+ghost use Rattle.fv_meaning.specs.Dialect.{fortran77};
 ghost use Rattle.fv_meaning.specs.Value.{value_of, subscript_value, cell_named};
-ghost use Rattle.run77.specs.Storage.{AreBounds, bounds_list};
-ghost use Rattle.run77.specs.Stored.{names_in, store_in, IsOf, Finds, call_of, offset_of};
+ghost use Rattle.fv_machine.specs.Storage.{AreBounds, bounds_list, total};
+ghost use Rattle.fv_machine.specs.Stored.{names_in, store_in, Finds};
+ghost use Rattle.run77.specs.Values.{call_of, offset_of};
 
-use crate::storage::Storage;
-use crate::subscripts::{Subscripts, offset};
-use crate::variables::{Variable, dims_of};
-use fv_tree::{Arguments, Dim, Expr, Fault, Fun, Name, Ref, Seq, Sub, Value};
+use crate::moment::Moment;
+use fv_machine::{Subscripts, dims_of, offset};
+use fv_tree::{Arguments, Dim, Expr, Fault, Fun, Ref, Seq, Sub, Value};
 
-impl Storage {
-    // The name's declaration.
-    pub fn find(&self, name: Name) -> Option<&Variable>
-        ensures { MatchOption result (opening_bounds (names_in self.now) name ≡ None) (λ v. IsOf (names_in self.now) name v.now) }
-    {
-        self.variables.get(&name)
-    }
-
+impl Moment {
     /// The value of an expression. The left operand of two is evaluated first, and the first fault wins.
     #[cycle(value)]
     #[tactic(auto, using(crate::proofs::ValueLaws::value_laws, crate::proofs::ValueLaws::item_laws))]
     pub fn value(&self, expr: &Expr) -> Result<Value, Fault>
-        ensures { result ≡ value_of integer_bits (expression_of expr.now) (store_in self.now) }
+        ensures { result ≡ value_of fortran77 (expression_of expr.now) (store_in self.now.storage) }
     {
         match expr {
             Expr::Int(number) => Ok(Value::Int(*number)),
             Expr::Truth(truth) => Ok(Value::Truth(*truth)),
-            Expr::Item(item) => Ok(self.values[self.place(item)?]),
+            Expr::Item(item) => Ok(self.storage.value(self.place(item)?)),
             Expr::Un(op, a) => {
                 let x = self.value(a)?;
                 op.apply(x, x)
@@ -43,6 +33,11 @@ impl Storage {
                 op.apply(x, y)
             }
             Expr::Call(function, arguments) => self.call(*function, arguments),
+            Expr::List(..) => Err(Fault::Shape),
+            Expr::Spread(..) => Err(Fault::Shape),
+            Expr::Transpose(_) => Err(Fault::Shape),
+            Expr::Reshape(..) => Err(Fault::Shape),
+            Expr::Reduce(..) => Err(Fault::Shape),
         }
     }
 
@@ -50,7 +45,8 @@ impl Storage {
     #[cycle(value)]
     #[tactic(auto, using(crate::proofs::ValueLaws::left_laws))]
     fn call(&self, function: Fun, exprs: &Seq<Expr>) -> Result<Value, Fault>
-        ensures { result ≡ call_of integer_bits function (expressions (map expression_of exprs.now)) (store_in self.now) }
+        ensures { result ≡ call_of fortran77 function (expressions (map expression_of exprs.now))
+            (store_in self.now.storage) }
     {
         let mut arguments = Arguments::Empty;
         for expr in exprs.as_slice() {
@@ -64,10 +60,11 @@ impl Storage {
     #[cycle(value)]
     #[tactic(auto, using(crate::proofs::ValueLaws::place_laws))]
     pub fn place(&self, item: &Ref) -> Result<usize, Fault>
-        ensures found { Finds (names_in self.now) (cell_named integer_bits (reference_of item.now) (store_in self.now)) result }
-        ensures within { IfOk result (λ k. k < vec_len self.now.values) }
+        ensures found { Finds (names_in self.now.storage) (cell_named fortran77 (reference_of item.now)
+            (store_in self.now.storage)) result }
+        ensures within { IfOk result (λ k. k < total (names_in self.now.storage)) }
     {
-        let Some(variable) = self.find(item.name) else {
+        let Some(variable) = self.storage.find(item.name) else {
             self.offset(&item.subs, &[])?;
             return Err(Fault::Allocated);
         };
@@ -82,7 +79,8 @@ impl Storage {
     #[tactic(auto, using(crate::proofs::ValueLaws::left_laws))]
     fn offset(&self, subs: &Seq<Sub>, dims: &[Dim]) -> Result<Option<usize>, Fault>
         requires { AreBounds (bounds_list dims.now) }
-        ensures { result ≡ offset_of integer_bits (bounds_list dims.now) (subscripts (map subscript_of subs.now)) (store_in self.now) }
+        ensures { result ≡ offset_of fortran77 (bounds_list dims.now) (subscripts (map subscript_of subs.now))
+            (store_in self.now.storage) }
     {
         let mut numbers = Subscripts::new();
         for sub in subs.as_slice() {
@@ -94,19 +92,11 @@ impl Storage {
     #[cycle(value)]
     #[tactic(auto, using(crate::proofs::ValueLaws::value_laws))]
     fn subscript(&self, sub: &Sub) -> Result<i128, Fault>
-        ensures { result ≡ subscript_value integer_bits (subscript_of sub.now) (store_in self.now) }
+        ensures { result ≡ subscript_value fortran77 (subscript_of sub.now) (store_in self.now.storage) }
     {
-        let Sub::One(expr) = sub;
-        as_number(self.value(expr)?)
-    }
-}
-
-/// The number that a value is.
-pub fn as_number(value: Value) -> Result<i128, Fault>
-    ensures { result ≡ as_number value }
-{
-    match value {
-        Value::Int(number) => Ok(number),
-        Value::Truth(_) => Err(Fault::Shape),
+        match sub {
+            Sub::One(expr) => self.value(expr)?.as_number(),
+            Sub::Part(..) => Err(Fault::Shape),
+        }
     }
 }

@@ -1,4 +1,4 @@
-use Rattle.run77.proofs.WriteLaws.{whole_case, element_case}
+use Rattle.run77.proofs.ItemLaws.{whole_case, element_case}
 use Rattle.run77.proofs.printing.whole_name.Goals as goal
 
 pub returns-in-None : goal.returns-in-None

@@ -1,30 +1,32 @@
+use Rattle.fv_meaning.specs.Dialect.{fortran77}
 use Rattle.std.proofs.Common.{sym, ◌∙◌, subst}
 use Rattle.fv_tree.specs.Plain.{Program}
 use Rattle.fv_tree.specs.View.{block_of}
-use Rattle.fv_meaning.specs.Profile77.{IsProgram77, outermost}
+use Rattle.fv_meaning.specs.Profile77.{IsProgram77}
+use Rattle.fv_meaning.specs.Blocks.{outermost}
 use Rattle.run77.specs.declared.machine.Machine77.{Machine77}
-use Rattle.run77.specs.Statements.{BlockHasArms}
+use Rattle.fv_machine.specs.Statements.{BlockHasArms}
 use Rattle.run77.specs.Machine.{IsMachineOf}
-use Rattle.run77.proofs.ActLaws.{same_names}
+use Rattle.run77.specs.Moments.{seen}
 use Rattle.run77.proofs.JumpLaws.{jumps_forward}
 use Rattle.run77.proofs.ProgramLaws.{block_has_arms}
-use Rattle.run77.proofs.MachineLaws.{runs_to_end, keeps_names}
+use Rattle.fv_machine.proofs.MachineLaws.{runs_to_end, keeps_names}
 use Rattle.run77.proofs.machine.Machine77.run.Goals as goal
 
-has_arms : (p : Program) (m : Machine77) → IsProgram77 p → IsMachineOf p m → BlockHasArms (block_of m.body)
+has_arms : (p : Program) (m : Machine77) → IsProgram77 fortran77 p → IsMachineOf p m → BlockHasArms (block_of m.body)
 has_arms p m h is = subst BlockHasArms (sym is.body) (block_has_arms p.declarations p.body outermost h.statements)
 
 pub returns-clause-run : goal.returns-clause-run
 returns-clause-run g c = λ p h is.
     rw c.ended.ensures
-    (runs_to_end p c.args.limit c.args.input.now c.begin.new.self c.block.new.self (block_of c.args.self.now.body) (g.K.Sink.taken c.args.out.now) (g.K.Sink.taken c.block.new.out) c.block.result
-    (same_names c.begin.ensures.names ∙ is.names) is.body (jumps_forward p h) c.begin.ensures.opening
+    (runs_to_end fortran77 p c.args.limit c.args.input.now (seen c.begin.new.self) (seen c.block.new.self) (block_of c.args.self.now.body) (g.K.Sink.taken c.args.out.now) (g.K.Sink.taken c.block.new.out) c.block.result
+    (c.begin.ensures.names ∙ is.names) is.body (jumps_forward p h) c.begin.ensures.opening
     (c.block.ensures.run (has_arms p c.args.self.now h is)))
 
 pub returns-clause-machine : goal.returns-clause-machine
 returns-clause-machine g c = λ p h is. record {
-  names = keeps_names p c.args.limit c.args.input.now c.begin.new.self c.block.new.self (block_of c.args.self.now.body) (g.K.Sink.taken c.args.out.now) (g.K.Sink.taken c.block.new.out) c.block.result
-      (same_names c.begin.ensures.names ∙ is.names) c.begin.ensures.opening
+  names = keeps_names fortran77 p c.args.limit c.args.input.now (seen c.begin.new.self) (seen c.block.new.self) (block_of c.args.self.now.body) (g.K.Sink.taken c.args.out.now) (g.K.Sink.taken c.block.new.out) c.block.result
+      (c.begin.ensures.names ∙ is.names) c.begin.ensures.opening
       (c.block.ensures.run (has_arms p c.args.self.now h is));
   body = is.body;
 }

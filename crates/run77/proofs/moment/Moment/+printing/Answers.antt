@@ -1,97 +1,98 @@
 use Rattle.std.proofs.Common.{◌≡◌, subst, ◌+◌, ◌-◌, Ok, Err, arith, rules}
 use Rattle.fv_io.specs.Streams.{Gives, GivesPart}
-use Rattle.fv_meaning.specs.Sequential.{integer_bits}
+use Rattle.fv_meaning.specs.Dialect.{fortran77}
 use Rattle.fv_meaning.specs.Run.{repeated, turn, prints_items, increases}
-use Rattle.run77.specs.declared.moment.Left.TheVariants.{Halted}
-use Rattle.run77.specs.Acts.{Runs}
-use Rattle.run77.specs.Loops.{BeginsLoop}
-use Rattle.run77.specs.Printing.{plain_items}
-use Rattle.run77.proofs.Residuals.{residual, settled}
-use Rattle.run77.proofs.ItemLaws.{one_runs, turns_run, text_runs, items_left, items_more, items_done}
-use Rattle.run77.proofs.TurnLaws.{Adds-prints_items, turn_cut, turn_left, turn_stuck, turn_done, at_turn, no_turn}
+use Rattle.fv_machine.specs.declared.progress.Left.TheVariants.{Halted}
+use Rattle.fv_machine.specs.Acts.{Runs}
+use Rattle.fv_machine.specs.Loops.{BeginsLoop}
+use Rattle.fv_machine.specs.Printing.{plain_items}
+use Rattle.fv_machine.proofs.Residuals.{residual, settled}
+use Rattle.fv_machine.proofs.ItemLaws.{one_runs, turns_run, text_runs, items_left, items_more, items_done}
+use Rattle.fv_machine.proofs.TurnLaws.{Adds-prints_items, turn_cut, turn_left, turn_stuck, turn_done, at_turn, no_turn}
+use Rattle.run77.specs.Moments.{seen}
 use Rattle.run77.proofs.moment.Moment.+printing.Goals as goal
 
 pub print_item-returns-in_err-write_all-in-Text-clause-run : goal.print_item-returns-in_err-write_all-in-Text-clause-run
 print_item-returns-in_err-write_all-in-Text-clause-run g t c = λ input.
     rw (residual c.from_residual.ensures.1)
-    (text_runs c.args.line input c.args.self.now (g.K.Sink.taken c.args.out.now) (g.K.Sink.taken c.write_all.new.to) (Err c.in_err-write_all-in-Text.field-0.0) c.args.item.now c.in-Text.text c.in-Text.is
+    (text_runs fortran77 c.args.line input (seen c.args.self.now) (g.K.Sink.taken c.args.out.now) (g.K.Sink.taken c.write_all.new.to) (Err c.in_err-write_all-in-Text.field-0.0) c.args.item.now c.in-Text.text c.in-Text.is
     (subst (λ t. GivesPart (g.K.Sink.taken c.args.out.now) t (g.K.Sink.taken c.write_all.new.to)) c.as_slice.ensures c.in_err-write_all-in-Text.ensures.part))
 
 pub print_item-returns-in_ok-write_all-in-Text-clause-run : goal.print_item-returns-in_ok-write_all-in-Text-clause-run
 print_item-returns-in_ok-write_all-in-Text-clause-run g t c = λ input.
-    text_runs c.args.line input c.args.self.now (g.K.Sink.taken c.args.out.now) (g.K.Sink.taken c.write_all.new.to) (Ok tt) c.args.item.now c.in-Text.text c.in-Text.is
+    text_runs fortran77 c.args.line input (seen c.args.self.now) (g.K.Sink.taken c.args.out.now) (g.K.Sink.taken c.write_all.new.to) (Ok tt) c.args.item.now c.in-Text.text c.in-Text.is
     (subst (λ t. Gives (g.K.Sink.taken c.args.out.now) t (g.K.Sink.taken c.write_all.new.to)) c.as_slice.ensures c.in_ok-write_all-in-Text.ensures.ok)
 
 pub print_item-returns-in-One-clause-run : goal.print_item-returns-in-One-clause-run
 print_item-returns-in-One-clause-run g t c = λ input.
-    one_runs c.args.line input c.args.self.now c.args.self.now (g.K.Sink.taken c.args.out.now) (g.K.Sink.taken c.print_value.new.out) c.print_value.result c.args.item.now c.in-One.expr c.in-One.is (c.print_value.ensures.run input)
+    one_runs fortran77 c.args.line input (seen c.args.self.now) (seen c.args.self.now) (g.K.Sink.taken c.args.out.now) (g.K.Sink.taken c.print_value.new.out) c.print_value.result c.args.item.now c.in-One.expr c.in-One.is (c.print_value.ensures.run input)
 
 pub print_item-returns-in_err-turns-in-Turns-clause-run : goal.print_item-returns-in_err-turns-in-Turns-clause-run
 unfolding BeginsLoop
 print_item-returns-in_err-turns-in-Turns-clause-run g t c = λ input.
     rw (residual c.from_residual-in_err-turns-in-Turns.ensures.1)
-    (turns_run c.args.line input c.args.self.now c.begin_loop.new.self (g.K.Sink.taken c.args.out.now) (g.K.Sink.taken c.args.out.now) (Err (Halted c.in_err-turns-in-Turns.field-0.0)) c.args.item.now c.in-Turns.items c.in-Turns.name c.in-Turns.first c.in-Turns.last c.in-Turns.step c.in-Turns.is
-    (c.in_err-turns-in-Turns.ensures (λ limit. prints_items integer_bits limit (plain_items c.in-Turns.items) c.args.line) input (g.K.Sink.taken c.args.out.now)))
+    (turns_run fortran77 c.args.line input (seen c.args.self.now) (seen c.begin_loop.new.self) (g.K.Sink.taken c.args.out.now) (g.K.Sink.taken c.args.out.now) (Err (Halted c.in_err-turns-in-Turns.field-0.0)) c.args.item.now c.in-Turns.items c.in-Turns.name c.in-Turns.first c.in-Turns.last c.in-Turns.step c.in-Turns.is
+    (c.in_err-turns-in-Turns.ensures (λ limit. prints_items fortran77 limit (plain_items c.in-Turns.items) c.args.line) input (g.K.Sink.taken c.args.out.now)))
 
 pub print_item-loop-init : goal.print_item-loop-init
 unfolding BeginsLoop
 print_item-loop-init g t c = (
   λ input now last r h.
-      turns_run c.args.line input c.args.self.now last (g.K.Sink.taken c.args.out.now) now r c.args.item.now c.in-Turns.items c.in-Turns.name c.in-Turns.first c.in-Turns.last c.in-Turns.step c.in-Turns.is
-      (c.in_ok-turns-in-Turns.ensures (λ limit. prints_items integer_bits limit (plain_items c.in-Turns.items) c.args.line) input (g.K.Sink.taken c.args.out.now) now last r
-      (subst (λ n. Runs (λ limit. repeated n (turn integer_bits limit c.args.line c.in-Turns.name c.in_ok-turns-in-Turns.turns.step (prints_items integer_bits limit (plain_items c.in-Turns.items) c.args.line))) input c.begin_loop.new.self (g.K.Sink.taken c.args.out.now) last now r) (let e : c.in_ok-turns-in-Turns.turns.count - 0 ≡ c.in_ok-turns-in-Turns.turns.count = omega arith in e) h)),
+      turns_run fortran77 c.args.line input (seen c.args.self.now) last (g.K.Sink.taken c.args.out.now) now r c.args.item.now c.in-Turns.items c.in-Turns.name c.in-Turns.first c.in-Turns.last c.in-Turns.step c.in-Turns.is
+      (c.in_ok-turns-in-Turns.ensures (λ limit. prints_items fortran77 limit (plain_items c.in-Turns.items) c.args.line) input (g.K.Sink.taken c.args.out.now) now last r
+      (subst (λ n. Runs (λ limit. repeated n (turn fortran77 limit c.args.line c.in-Turns.name c.in_ok-turns-in-Turns.turns.step (prints_items fortran77 limit (plain_items c.in-Turns.items) c.args.line))) input (seen c.begin_loop.new.self) (g.K.Sink.taken c.args.out.now) last now r) (let e : c.in_ok-turns-in-Turns.turns.count - 0 ≡ c.in_ok-turns-in-Turns.turns.count = omega arith in e) h)),
   omega arith,
 )
 
 pub print_item-returns-in_err-count_step-in-Turns-clause-run : goal.print_item-returns-in_err-count_step-in-Turns-clause-run
 print_item-returns-in_err-count_step-in-Turns-clause-run g t c = λ input.
     rw (residual c.from_residual-in_err-count_step-in-Turns.ensures.1)
-    (c.loop.invariant.0 input (g.K.Sink.taken c.loop.out) c.count_step.new.self (Err (Halted c.in_err-count_step-in-Turns.field-0.0))
-    (at_turn c.args.line c.in-Turns.name c.in_ok-turns-in-Turns.turns.step (λ limit. prints_items integer_bits limit (plain_items c.in-Turns.items) c.args.line) input (c.in_ok-turns-in-Turns.turns.count - c.loop.counter) (c.in_ok-turns-in-Turns.turns.count - (c.loop.counter + 1)) c.loop.self c.count_step.new.self (g.K.Sink.taken c.loop.out) (g.K.Sink.taken c.loop.out) (Err (Halted c.in_err-count_step-in-Turns.field-0.0)) (omega (arith, c.loop-test.true))
-    (turn_cut c.args.line c.in-Turns.name c.in_ok-turns-in-Turns.turns.step (λ limit. prints_items integer_bits limit (plain_items c.in-Turns.items) c.args.line) input (c.in_ok-turns-in-Turns.turns.count - (c.loop.counter + 1)) c.loop.self c.count_step.new.self (g.K.Sink.taken c.loop.out) c.in_err-count_step-in-Turns.field-0.0 c.in_err-count_step-in-Turns.ensures.counted)))
+    (c.loop.invariant.0 input (g.K.Sink.taken c.loop.out) (seen c.count_step.new.self) (Err (Halted c.in_err-count_step-in-Turns.field-0.0))
+    (at_turn fortran77 c.args.line c.in-Turns.name c.in_ok-turns-in-Turns.turns.step (λ limit. prints_items fortran77 limit (plain_items c.in-Turns.items) c.args.line) input (c.in_ok-turns-in-Turns.turns.count - c.loop.counter) (c.in_ok-turns-in-Turns.turns.count - (c.loop.counter + 1)) (seen c.loop.self) (seen c.count_step.new.self) (g.K.Sink.taken c.loop.out) (g.K.Sink.taken c.loop.out) (Err (Halted c.in_err-count_step-in-Turns.field-0.0)) (omega (arith, c.loop-test.true))
+    (turn_cut fortran77 c.args.line c.in-Turns.name c.in_ok-turns-in-Turns.turns.step (λ limit. prints_items fortran77 limit (plain_items c.in-Turns.items) c.args.line) input (c.in_ok-turns-in-Turns.turns.count - (c.loop.counter + 1)) (seen c.loop.self) (seen c.count_step.new.self) (g.K.Sink.taken c.loop.out) c.in_err-count_step-in-Turns.field-0.0 c.in_err-count_step-in-Turns.ensures.counted)))
 
 pub print_item-returns-in_err-print_items-in-Turns-clause-run : goal.print_item-returns-in_err-print_items-in-Turns-clause-run
 print_item-returns-in_err-print_items-in-Turns-clause-run g t c = λ input.
     rw (residual c.from_residual-in_err-print_items-in-Turns.ensures.1)
-    (c.loop.invariant.0 input (g.K.Sink.taken c.print_items.new.out) c.print_items.new.self (Err c.in_err-print_items-in-Turns.field-0.0)
-    (at_turn c.args.line c.in-Turns.name c.in_ok-turns-in-Turns.turns.step (λ limit. prints_items integer_bits limit (plain_items c.in-Turns.items) c.args.line) input (c.in_ok-turns-in-Turns.turns.count - c.loop.counter) (c.in_ok-turns-in-Turns.turns.count - (c.loop.counter + 1)) c.loop.self c.print_items.new.self (g.K.Sink.taken c.loop.out) (g.K.Sink.taken c.print_items.new.out) (Err c.in_err-print_items-in-Turns.field-0.0) (omega (arith, c.loop-test.true))
-    (turn_left c.args.line c.in-Turns.name c.in_ok-turns-in-Turns.turns.step (λ limit. prints_items integer_bits limit (plain_items c.in-Turns.items) c.args.line) input (c.in_ok-turns-in-Turns.turns.count - (c.loop.counter + 1)) c.loop.self c.count_step.new.self c.print_items.new.self (g.K.Sink.taken c.loop.out) (g.K.Sink.taken c.print_items.new.out) c.in_err-print_items-in-Turns.field-0.0 (λ limit. Adds-prints_items limit (plain_items c.in-Turns.items) c.args.line) c.in_ok-count_step-in-Turns.ensures.counted (c.in_err-print_items-in-Turns.ensures.run input))))
+    (c.loop.invariant.0 input (g.K.Sink.taken c.print_items.new.out) (seen c.print_items.new.self) (Err c.in_err-print_items-in-Turns.field-0.0)
+    (at_turn fortran77 c.args.line c.in-Turns.name c.in_ok-turns-in-Turns.turns.step (λ limit. prints_items fortran77 limit (plain_items c.in-Turns.items) c.args.line) input (c.in_ok-turns-in-Turns.turns.count - c.loop.counter) (c.in_ok-turns-in-Turns.turns.count - (c.loop.counter + 1)) (seen c.loop.self) (seen c.print_items.new.self) (g.K.Sink.taken c.loop.out) (g.K.Sink.taken c.print_items.new.out) (Err c.in_err-print_items-in-Turns.field-0.0) (omega (arith, c.loop-test.true))
+    (turn_left fortran77 c.args.line c.in-Turns.name c.in_ok-turns-in-Turns.turns.step (λ limit. prints_items fortran77 limit (plain_items c.in-Turns.items) c.args.line) input (c.in_ok-turns-in-Turns.turns.count - (c.loop.counter + 1)) (seen c.loop.self) (seen c.count_step.new.self) (seen c.print_items.new.self) (g.K.Sink.taken c.loop.out) (g.K.Sink.taken c.print_items.new.out) c.in_err-print_items-in-Turns.field-0.0 (λ limit. Adds-prints_items fortran77 limit (plain_items c.in-Turns.items) c.args.line) c.in_ok-count_step-in-Turns.ensures.counted (c.in_err-print_items-in-Turns.ensures.run input))))
 
 pub print_item-returns-in_err-increase-in-Turns-clause-run : goal.print_item-returns-in_err-increase-in-Turns-clause-run
 print_item-returns-in_err-increase-in-Turns-clause-run g t c = λ input.
     rw (residual c.from_residual-in_err-increase-in-Turns.ensures.1)
-    (c.loop.invariant.0 input (g.K.Sink.taken c.print_items.new.out) c.increase.new.self (Err (Halted c.in_err-increase-in-Turns.field-0.0))
-    (at_turn c.args.line c.in-Turns.name c.in_ok-turns-in-Turns.turns.step (λ limit. prints_items integer_bits limit (plain_items c.in-Turns.items) c.args.line) input (c.in_ok-turns-in-Turns.turns.count - c.loop.counter) (c.in_ok-turns-in-Turns.turns.count - (c.loop.counter + 1)) c.loop.self c.increase.new.self (g.K.Sink.taken c.loop.out) (g.K.Sink.taken c.print_items.new.out) (Err (Halted c.in_err-increase-in-Turns.field-0.0)) (omega (arith, c.loop-test.true))
-    (turn_stuck c.args.line c.in-Turns.name c.in_ok-turns-in-Turns.turns.step (λ limit. prints_items integer_bits limit (plain_items c.in-Turns.items) c.args.line) input (c.in_ok-turns-in-Turns.turns.count - (c.loop.counter + 1)) c.loop.self c.count_step.new.self c.print_items.new.self c.increase.new.self (g.K.Sink.taken c.loop.out) (g.K.Sink.taken c.print_items.new.out) c.in_err-increase-in-Turns.field-0.0 (λ limit. Adds-prints_items limit (plain_items c.in-Turns.items) c.args.line) c.in_ok-count_step-in-Turns.ensures.counted (c.in_ok-print_items-in-Turns.ensures.run input)
-    (subst (λ d. Runs (λ limit. increases integer_bits limit c.args.line c.in-Turns.name d) input c.print_items.new.self (g.K.Sink.taken c.print_items.new.out) c.increase.new.self (g.K.Sink.taken c.print_items.new.out) (Err (Halted c.in_err-increase-in-Turns.field-0.0))) (settled c.in_ok-turns-in-Turns.turns.step (search rules)) (c.in_err-increase-in-Turns.ensures input (g.K.Sink.taken c.print_items.new.out))))))
+    (c.loop.invariant.0 input (g.K.Sink.taken c.print_items.new.out) (seen c.increase.new.self) (Err (Halted c.in_err-increase-in-Turns.field-0.0))
+    (at_turn fortran77 c.args.line c.in-Turns.name c.in_ok-turns-in-Turns.turns.step (λ limit. prints_items fortran77 limit (plain_items c.in-Turns.items) c.args.line) input (c.in_ok-turns-in-Turns.turns.count - c.loop.counter) (c.in_ok-turns-in-Turns.turns.count - (c.loop.counter + 1)) (seen c.loop.self) (seen c.increase.new.self) (g.K.Sink.taken c.loop.out) (g.K.Sink.taken c.print_items.new.out) (Err (Halted c.in_err-increase-in-Turns.field-0.0)) (omega (arith, c.loop-test.true))
+    (turn_stuck fortran77 c.args.line c.in-Turns.name c.in_ok-turns-in-Turns.turns.step (λ limit. prints_items fortran77 limit (plain_items c.in-Turns.items) c.args.line) input (c.in_ok-turns-in-Turns.turns.count - (c.loop.counter + 1)) (seen c.loop.self) (seen c.count_step.new.self) (seen c.print_items.new.self) (seen c.increase.new.self) (g.K.Sink.taken c.loop.out) (g.K.Sink.taken c.print_items.new.out) c.in_err-increase-in-Turns.field-0.0 (λ limit. Adds-prints_items fortran77 limit (plain_items c.in-Turns.items) c.args.line) c.in_ok-count_step-in-Turns.ensures.counted (c.in_ok-print_items-in-Turns.ensures.run input)
+    (subst (λ d. Runs (λ limit. increases fortran77 limit c.args.line c.in-Turns.name d) input (seen c.print_items.new.self) (g.K.Sink.taken c.print_items.new.out) (seen c.increase.new.self) (g.K.Sink.taken c.print_items.new.out) (Err (Halted c.in_err-increase-in-Turns.field-0.0))) (settled c.in_ok-turns-in-Turns.turns.step (search rules)) (c.in_err-increase-in-Turns.ensures input (g.K.Sink.taken c.print_items.new.out))))))
 
 pub print_item-loop-preserved : goal.print_item-loop-preserved
 print_item-loop-preserved g t c = (
   λ input now last r h.
       c.loop.invariant.0 input now last r
-      (at_turn c.args.line c.in-Turns.name c.in_ok-turns-in-Turns.turns.step (λ limit. prints_items integer_bits limit (plain_items c.in-Turns.items) c.args.line) input (c.in_ok-turns-in-Turns.turns.count - c.loop.counter) (c.in_ok-turns-in-Turns.turns.count - (c.loop.counter + 1)) c.loop.self last (g.K.Sink.taken c.loop.out) now r (omega (arith, c.loop-test.true))
-      (turn_done c.args.line c.in-Turns.name c.in_ok-turns-in-Turns.turns.step (λ limit. prints_items integer_bits limit (plain_items c.in-Turns.items) c.args.line) input (c.in_ok-turns-in-Turns.turns.count - (c.loop.counter + 1)) c.loop.self c.count_step.new.self c.print_items.new.self c.increase.new.self last (g.K.Sink.taken c.loop.out) (g.K.Sink.taken c.print_items.new.out) now r c.in_ok-count_step-in-Turns.ensures.counted (c.in_ok-print_items-in-Turns.ensures.run input)
-      (subst (λ d. Runs (λ limit. increases integer_bits limit c.args.line c.in-Turns.name d) input c.print_items.new.self (g.K.Sink.taken c.print_items.new.out) c.increase.new.self (g.K.Sink.taken c.print_items.new.out) (Ok tt)) (settled c.in_ok-turns-in-Turns.turns.step (search rules)) (c.in_ok-increase-in-Turns.ensures input (g.K.Sink.taken c.print_items.new.out))) h)),
+      (at_turn fortran77 c.args.line c.in-Turns.name c.in_ok-turns-in-Turns.turns.step (λ limit. prints_items fortran77 limit (plain_items c.in-Turns.items) c.args.line) input (c.in_ok-turns-in-Turns.turns.count - c.loop.counter) (c.in_ok-turns-in-Turns.turns.count - (c.loop.counter + 1)) (seen c.loop.self) last (g.K.Sink.taken c.loop.out) now r (omega (arith, c.loop-test.true))
+      (turn_done fortran77 c.args.line c.in-Turns.name c.in_ok-turns-in-Turns.turns.step (λ limit. prints_items fortran77 limit (plain_items c.in-Turns.items) c.args.line) input (c.in_ok-turns-in-Turns.turns.count - (c.loop.counter + 1)) (seen c.loop.self) (seen c.count_step.new.self) (seen c.print_items.new.self) (seen c.increase.new.self) last (g.K.Sink.taken c.loop.out) (g.K.Sink.taken c.print_items.new.out) now r c.in_ok-count_step-in-Turns.ensures.counted (c.in_ok-print_items-in-Turns.ensures.run input)
+      (subst (λ d. Runs (λ limit. increases fortran77 limit c.args.line c.in-Turns.name d) input (seen c.print_items.new.self) (g.K.Sink.taken c.print_items.new.out) (seen c.increase.new.self) (g.K.Sink.taken c.print_items.new.out) (Ok tt)) (settled c.in_ok-turns-in-Turns.turns.step (search rules)) (c.in_ok-increase-in-Turns.ensures input (g.K.Sink.taken c.print_items.new.out))) h)),
   omega (arith, c.loop.invariant.1, c.print_items.ensures.later),
 )
 
 pub print_item-returns-after-loop-clause-run : goal.print_item-returns-after-loop-clause-run
 print_item-returns-after-loop-clause-run g t c = λ input.
-    c.loop.invariant.0 input (g.K.Sink.taken c.loop.out) c.loop.self (Ok tt) (no_turn c.args.line c.in-Turns.name c.in_ok-turns-in-Turns.turns.step (λ limit. prints_items integer_bits limit (plain_items c.in-Turns.items) c.args.line) input (c.in_ok-turns-in-Turns.turns.count - c.loop.counter) c.loop.self (g.K.Sink.taken c.loop.out) (omega (arith, c.loop-test.false)))
+    c.loop.invariant.0 input (g.K.Sink.taken c.loop.out) (seen c.loop.self) (Ok tt) (no_turn fortran77 c.args.line c.in-Turns.name c.in_ok-turns-in-Turns.turns.step (λ limit. prints_items fortran77 limit (plain_items c.in-Turns.items) c.args.line) input (c.in_ok-turns-in-Turns.turns.count - c.loop.counter) (seen c.loop.self) (g.K.Sink.taken c.loop.out) (omega (arith, c.loop-test.false)))
 
 pub print_items-returns-in_err-print_item-clause-run : goal.print_items-returns-in_err-print_item-clause-run
 print_items-returns-in_err-print_item-clause-run g t c = λ input.
     rw (residual c.from_residual.ensures.1)
-    (c.loop-item.invariant.0 input (g.K.Sink.taken c.print_item.new.out) c.print_item.new.self (Err c.in_err-print_item.field-0.0)
-    (items_left c.args.line c.as_slice-item-items.result.now c.loop-item.item-index c.item-item.result (omega (arith, c.loop-item-test.true)) c.item-item.is input c.loop-item.self c.print_item.new.self (g.K.Sink.taken c.loop-item.out) (g.K.Sink.taken c.print_item.new.out) c.in_err-print_item.field-0.0 (c.in_err-print_item.ensures.run input)))
+    (c.loop-item.invariant.0 input (g.K.Sink.taken c.print_item.new.out) (seen c.print_item.new.self) (Err c.in_err-print_item.field-0.0)
+    (items_left fortran77 c.args.line c.as_slice-item-items.result.now c.loop-item.item-index c.item-item.result (omega (arith, c.loop-item-test.true)) c.item-item.is input (seen c.loop-item.self) (seen c.print_item.new.self) (g.K.Sink.taken c.loop-item.out) (g.K.Sink.taken c.print_item.new.out) c.in_err-print_item.field-0.0 (c.in_err-print_item.ensures.run input)))
 
 pub print_items-loop-item-preserved : goal.print_items-loop-item-preserved
 print_items-loop-item-preserved g t c = (
   λ input now last r h.
-      c.loop-item.invariant.0 input now last r (items_more c.args.line c.as_slice-item-items.result.now c.loop-item.item-index c.item-item.result (omega (arith, c.loop-item-test.true)) c.item-item.is input c.loop-item.self c.print_item.new.self (g.K.Sink.taken c.loop-item.out) (g.K.Sink.taken c.print_item.new.out) last now r (c.in_ok-print_item.ensures.run input) h),
+      c.loop-item.invariant.0 input now last r (items_more fortran77 c.args.line c.as_slice-item-items.result.now c.loop-item.item-index c.item-item.result (omega (arith, c.loop-item-test.true)) c.item-item.is input (seen c.loop-item.self) (seen c.print_item.new.self) (g.K.Sink.taken c.loop-item.out) (g.K.Sink.taken c.print_item.new.out) last now r (c.in_ok-print_item.ensures.run input) h),
   omega (arith, c.loop-item.invariant.1, c.print_item.ensures.later),
 )
 
 pub print_items-returns-clause-run : goal.print_items-returns-clause-run
 print_items-returns-clause-run g t c = λ input.
-    c.loop-item.invariant.0 input (g.K.Sink.taken c.loop-item.out) c.loop-item.self (Ok tt) (items_done c.args.line c.as_slice-item-items.result.now c.loop-item.item-index input c.loop-item.self (g.K.Sink.taken c.loop-item.out) (omega (arith, c.loop-item-test.false)))
+    c.loop-item.invariant.0 input (g.K.Sink.taken c.loop-item.out) (seen c.loop-item.self) (Ok tt) (items_done fortran77 c.args.line c.as_slice-item-items.result.now c.loop-item.item-index input (seen c.loop-item.self) (g.K.Sink.taken c.loop-item.out) (omega (arith, c.loop-item-test.false)))

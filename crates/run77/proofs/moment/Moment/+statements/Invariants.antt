@@ -1,36 +1,37 @@
 use Rattle.std.proofs.Common.{ℕ, ◌-◌, ◌≤◌, List, Option, Result, drop, map}
 use Rattle.fv_tree.specs.Plain.{block}
 use Rattle.fv_tree.specs.View.{statement_of, block_of}
-use Rattle.fv_meaning.specs.Sequential.{integer_bits}
+use Rattle.fv_meaning.specs.Dialect.{fortran77}
 use Rattle.fv_meaning.specs.Run.{repeated, turn, does, does_all}
-use Rattle.run77.specs.declared.moment.Moment.{Moment}
-use Rattle.run77.specs.declared.moment.Left.{Left}
-use Rattle.run77.specs.Acts.{LimitedAct, Runs}
-use Rattle.run77.specs.Statements.{HasArms, ArmsHaveArms, BlockHasArms, plain_arms}
-use Rattle.run77.specs.Jumps.{way_at}
-use Rattle.run77.proofs.BlockLaws.{RunsOn, left_of_block, left_of_arms}
+use Rattle.fv_machine.specs.Moments.{Seen}
+use Rattle.fv_machine.specs.declared.progress.Left.{Left}
+use Rattle.fv_machine.specs.Acts.{LimitedAct, Runs}
+use Rattle.fv_machine.specs.Statements.{HasArms, ArmsHaveArms, BlockHasArms, plain_arms}
+use Rattle.fv_machine.specs.Jumps.{way_at}
+use Rattle.fv_machine.proofs.BlockLaws.{RunsOn, left_of_block, left_of_arms}
+use Rattle.run77.specs.Moments.{seen}
 use Rattle.run77.proofs.moment.Moment.+statements.Given as goal
 
 -- what is done with the turns, the arms or the statements that are left is done with all
 abbrev pub invariant-statement-loop : goal.invariant-statement-loop
 invariant-statement-loop g l =
-    (HasArms (statement_of l.fn.stmt) → (now : Option (List ℕ)) (last : Moment) (r : Result (Unit {0}) Left)
-    → Runs (λ limit. repeated (l.end - l.counter) (turn integer_bits limit l.line l.var l.turns.step (does_all integer_bits limit (block_of l.body)))) l.input l.self (g.K.Sink.taken l.out) last now r
-    → Runs (λ limit. does integer_bits limit (statement_of l.fn.stmt)) l.input l.fn.self (g.K.Sink.taken l.fn.out) last now r)
+    (HasArms (statement_of l.fn.stmt) → (now : Option (List ℕ)) (last : Seen) (r : Result (Unit {0}) Left)
+    → Runs (λ limit. repeated (l.end - l.counter) (turn fortran77 limit l.line l.var l.turns.step (does_all fortran77 limit (block_of l.body)))) l.input (seen l.self) (g.K.Sink.taken l.out) last now r
+    → Runs (λ limit. does fortran77 limit (statement_of l.fn.stmt)) l.input (seen l.fn.self) (g.K.Sink.taken l.fn.out) last now r)
     × (g.K.Sink.faults l.fn.out ≤ g.K.Sink.faults l.out)
 
 abbrev pub invariant-branch-loop-arm : goal.invariant-branch-loop-arm
 invariant-branch-loop-arm g l =
-    ((other : LimitedAct) (now : Option (List ℕ)) (last : Moment) (r : Result (Unit {0}) Left)
-    → Runs (left_of_arms l.line other (drop l.arm-index l.arm-items)) l.input l.self (g.K.Sink.taken l.out) last now r
-    → Runs (left_of_arms l.line other l.arms) l.input l.fn.self (g.K.Sink.taken l.fn.out) last now r)
+    ((other : LimitedAct) (now : Option (List ℕ)) (last : Seen) (r : Result (Unit {0}) Left)
+    → Runs (left_of_arms fortran77 l.line other (drop l.arm-index l.arm-items)) l.input (seen l.self) (g.K.Sink.taken l.out) last now r
+    → Runs (left_of_arms fortran77 l.line other l.arms) l.input (seen l.fn.self) (g.K.Sink.taken l.fn.out) last now r)
     × (ArmsHaveArms (plain_arms l.arms) → ArmsHaveArms (plain_arms (drop l.arm-index l.arm-items)))
     × (g.K.Sink.faults l.fn.out ≤ g.K.Sink.faults l.out)
 
 abbrev pub invariant-block-loop-stmt : goal.invariant-block-loop-stmt
 invariant-block-loop-stmt g l =
     (BlockHasArms (block_of l.block) → BlockHasArms (block (map statement_of (drop l.stmt-index l.stmt-items)))
-    × ((now : Option (List ℕ)) (last : Moment) (r : Result (Unit {0}) Left)
-    → RunsOn (way_at l.jump) (left_of_block (drop l.stmt-index l.stmt-items)) l.input l.self (g.K.Sink.taken l.out) last now r
-    → Runs (λ limit. does_all integer_bits limit (block_of l.block)) l.input l.fn.self (g.K.Sink.taken l.fn.out) last now r))
+    × ((now : Option (List ℕ)) (last : Seen) (r : Result (Unit {0}) Left)
+    → RunsOn (way_at l.jump) (left_of_block fortran77 (drop l.stmt-index l.stmt-items)) l.input (seen l.self) (g.K.Sink.taken l.out) last now r
+    → Runs (λ limit. does_all fortran77 limit (block_of l.block)) l.input (seen l.fn.self) (g.K.Sink.taken l.fn.out) last now r))
     × (g.K.Sink.faults l.fn.out ≤ g.K.Sink.faults l.out)

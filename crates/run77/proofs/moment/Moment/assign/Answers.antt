@@ -1,33 +1,34 @@
 use Rattle.std.proofs.Common.{sym, ap, ◌∙◌}
 use Rattle.fv_tree.specs.View.{expression_of, reference_of}
-use Rattle.fv_meaning.specs.Sequential.{integer_bits}
+use Rattle.fv_meaning.specs.Dialect.{fortran77}
 use Rattle.fv_meaning.specs.Value.{value_of, cell_named}
-use Rattle.run77.specs.Moments.{located}
-use Rattle.run77.specs.Stored.{names_in, store_in}
-use Rattle.run77.proofs.Residuals.{residual}
-use Rattle.run77.proofs.ActLaws.{Runs-evaluates, Runs-fault, found_cell, missed_cell}
+use Rattle.fv_machine.specs.Moments.{located}
+use Rattle.fv_machine.specs.Stored.{names_in, store_in}
+use Rattle.fv_machine.proofs.Residuals.{residual}
+use Rattle.fv_machine.proofs.ActLaws.{Runs-evaluates, Runs-fault, found_cell, missed_cell}
+use Rattle.run77.specs.Moments.{seen}
 use Rattle.run77.proofs.moment.Moment.assign.Goals as goal
 
 pub returns-in_err-value : goal.returns-in_err-value
 returns-in_err-value c = λ input bytes.
     rw (residual c.from_residual.ensures.1)
-    (Runs-fault c.args.line (value_of integer_bits (expression_of c.args.right.now)) c.in_err-value.field-0.0 _ input c.args.self.now bytes
+    (Runs-fault c.args.line (value_of fortran77 (expression_of c.args.right.now)) c.in_err-value.field-0.0 _ input (seen c.args.self.now) bytes
     (sym c.in_err-value.was ∙ c.at.ensures ∙ ap (located c.args.line) c.value.ensures))
 
 pub returns-in_err-place : goal.returns-in_err-place
 returns-in_err-place c = λ input bytes.
     rw (residual c.from_residual-in_err-place.ensures.1)
-    (Runs-evaluates c.args.line (value_of integer_bits (expression_of c.args.right.now)) c.in_ok-value.value _ input c.args.self.now c.args.self.now bytes bytes _
+    (Runs-evaluates c.args.line (value_of fortran77 (expression_of c.args.right.now)) c.in_ok-value.value _ input (seen c.args.self.now) (seen c.args.self.now) bytes bytes _
     (sym c.in_ok-value.was ∙ c.at.ensures ∙ ap (located c.args.line) c.value.ensures)
-    (Runs-fault c.args.line (cell_named integer_bits (reference_of c.args.left.now)) c.in_err-place.field-0.0 _ input c.args.self.now bytes
-    (missed_cell (names_in c.args.self.now.storage) c.args.line (cell_named integer_bits (reference_of c.args.left.now) (store_in c.args.self.now.storage)) c.place.result c.in_err-place.field-0.0
+    (Runs-fault c.args.line (cell_named fortran77 (reference_of c.args.left.now)) c.in_err-place.field-0.0 _ input (seen c.args.self.now) bytes
+    (missed_cell (names_in c.args.self.now.storage) c.args.line (cell_named fortran77 (reference_of c.args.left.now) (store_in c.args.self.now.storage)) c.place.result c.in_err-place.field-0.0
     c.place.ensures.found (sym c.in_err-place.was ∙ c.at-2.ensures))))
 
 pub returns : goal.returns
 returns c = λ input bytes.
-    let cell = found_cell (names_in c.args.self.now.storage) c.args.line (cell_named integer_bits (reference_of c.args.left.now) (store_in c.args.self.now.storage)) c.place.result c.in_ok-place.place
+    let cell = found_cell (names_in c.args.self.now.storage) c.args.line (cell_named fortran77 (reference_of c.args.left.now) (store_in c.args.self.now.storage)) c.place.result c.in_ok-place.place
     c.place.ensures.found (sym c.in_ok-place.was ∙ c.at-2.ensures) in
-    Runs-evaluates c.args.line (value_of integer_bits (expression_of c.args.right.now)) c.in_ok-value.value _ input c.args.self.now c.store.new.self bytes bytes _
+    Runs-evaluates c.args.line (value_of fortran77 (expression_of c.args.right.now)) c.in_ok-value.value _ input (seen c.args.self.now) (seen c.store.new.self) bytes bytes _
     (sym c.in_ok-value.was ∙ c.at.ensures ∙ ap (located c.args.line) c.value.ensures)
-    (Runs-evaluates c.args.line (cell_named integer_bits (reference_of c.args.left.now)) cell.0 _ input c.args.self.now c.store.new.self bytes bytes _ cell.1
+    (Runs-evaluates c.args.line (cell_named fortran77 (reference_of c.args.left.now)) cell.0 _ input (seen c.args.self.now) (seen c.store.new.self) bytes bytes _ cell.1
     (c.store.ensures.stored cell.0 cell.2 input bytes))

@@ -1,6 +1,12 @@
-use Rattle.std.proofs.Common.{refl}
-use Rattle.run77.proofs.MachineLaws.{opens}
+use Rattle.std.proofs.Common.{◌≡◌, sym, subst}
+use Rattle.fv_machine.specs.Moments.{seen_at}
+use Rattle.fv_machine.specs.Stored.{names_in, store_in}
+use Rattle.fv_machine.specs.Endings.{IsOpening}
+use Rattle.fv_machine.proofs.MachineLaws.{opens}
 use Rattle.run77.proofs.moment.Moment.begin.Goals as goal
 
 pub returns-clause-opening : goal.returns-clause-opening
-returns-clause-opening c = opens _ c.args.limit c.reset.ensures.opened refl refl refl
+returns-clause-opening c =
+    let st = c.reset.new.self in
+    subst (λ p. IsOpening c.args.limit (seen_at (names_in st) (store_in st) p)) (sym c.begin-self.ensures)
+    (opens (names_in st) (store_in st) c.args.limit c.reset.ensures.opened)

@@ -1,72 +1,73 @@
 use Rattle.std.proofs.Common.{sym, ap, ◌∙◌, subst, to_z, of_z, Ok, Err, rules}
 use Rattle.std.specs.Int.{w128}
 use Rattle.fv_tree.specs.View.{expression_of}
-use Rattle.fv_meaning.specs.Sequential.{integer_bits}
+use Rattle.fv_meaning.specs.Dialect.{fortran77}
 use Rattle.fv_meaning.specs.Value.{number_of, increment_of, trip_count}
 use Rattle.fv_meaning.specs.Run.{sets_variable, repeated, turn, evaluates}
-use Rattle.run77.specs.declared.moment.Left.TheVariants.{Halted}
-use Rattle.run77.specs.Moments.{located}
-use Rattle.run77.specs.Acts.{Runs}
-use Rattle.run77.specs.Loops.{BeginsLoop}
-use Rattle.run77.proofs.Residuals.{residual, settled}
-use Rattle.run77.proofs.ActLaws.{Runs-evaluates, Runs-fault, Runs-then, Runs-halted, Stays-evaluates}
+use Rattle.fv_machine.specs.declared.progress.Left.TheVariants.{Halted}
+use Rattle.fv_machine.specs.Moments.{located}
+use Rattle.fv_machine.specs.Acts.{Runs}
+use Rattle.fv_machine.specs.Loops.{BeginsLoop}
+use Rattle.fv_machine.proofs.Residuals.{residual, settled}
+use Rattle.fv_machine.proofs.ActLaws.{Runs-evaluates, Runs-fault, Runs-then, Runs-halted, Stays-evaluates}
+use Rattle.run77.specs.Moments.{seen}
 use Rattle.run77.proofs.moment.Moment.begin_loop.Goals as goal
 
 pub returns-in_err-first : goal.returns-in_err-first
 unfolding BeginsLoop
 returns-in_err-first c =
     rw (residual c.from_residual.ensures.1)
-    (λ body input bytes. Runs-fault c.args.line (number_of integer_bits (expression_of c.args.first.now)) c.in_err-first.field-0.0 _ input c.args.self.now bytes
+    (λ body input bytes. Runs-fault c.args.line (number_of fortran77 (expression_of c.args.first.now)) c.in_err-first.field-0.0 _ input (seen c.args.self.now) bytes
     (sym c.in_err-first.was ∙ c.at.ensures ∙ ap (located c.args.line) c.parameter.ensures))
 
 pub returns-in_err-last : goal.returns-in_err-last
 unfolding BeginsLoop
 returns-in_err-last c =
     rw (residual c.from_residual-in_err-last.ensures.1)
-    (λ body input bytes. (Runs-evaluates c.args.line (number_of integer_bits (expression_of c.args.first.now)) c.in_ok-first.first _ input c.args.self.now c.args.self.now bytes bytes _ (sym c.in_ok-first.was ∙ c.at.ensures ∙ ap (located c.args.line) c.parameter.ensures)
-    (Runs-fault c.args.line (number_of integer_bits (expression_of c.args.last.now)) c.in_err-last.field-0.0 _ input c.args.self.now bytes
+    (λ body input bytes. (Runs-evaluates c.args.line (number_of fortran77 (expression_of c.args.first.now)) c.in_ok-first.first _ input (seen c.args.self.now) (seen c.args.self.now) bytes bytes _ (sym c.in_ok-first.was ∙ c.at.ensures ∙ ap (located c.args.line) c.parameter.ensures)
+    (Runs-fault c.args.line (number_of fortran77 (expression_of c.args.last.now)) c.in_err-last.field-0.0 _ input (seen c.args.self.now) bytes
     (sym c.in_err-last.was ∙ c.at-2.ensures ∙ ap (located c.args.line) c.parameter-2.ensures))))
 
 pub returns-in_err-step : goal.returns-in_err-step
 unfolding BeginsLoop
 returns-in_err-step c =
     rw (residual c.from_residual-in_err-step.ensures.1)
-    (λ body input bytes. (Runs-evaluates c.args.line (number_of integer_bits (expression_of c.args.first.now)) c.in_ok-first.first _ input c.args.self.now c.args.self.now bytes bytes _ (sym c.in_ok-first.was ∙ c.at.ensures ∙ ap (located c.args.line) c.parameter.ensures)
-    (Runs-evaluates c.args.line (number_of integer_bits (expression_of c.args.last.now)) c.in_ok-last.last _ input c.args.self.now c.args.self.now bytes bytes _ (sym c.in_ok-last.was ∙ c.at-2.ensures ∙ ap (located c.args.line) c.parameter-2.ensures)
-    (Runs-fault c.args.line (increment_of integer_bits (expression_of c.args.step.now)) c.in_err-step.field-0.0 _ input c.args.self.now bytes
+    (λ body input bytes. (Runs-evaluates c.args.line (number_of fortran77 (expression_of c.args.first.now)) c.in_ok-first.first _ input (seen c.args.self.now) (seen c.args.self.now) bytes bytes _ (sym c.in_ok-first.was ∙ c.at.ensures ∙ ap (located c.args.line) c.parameter.ensures)
+    (Runs-evaluates c.args.line (number_of fortran77 (expression_of c.args.last.now)) c.in_ok-last.last _ input (seen c.args.self.now) (seen c.args.self.now) bytes bytes _ (sym c.in_ok-last.was ∙ c.at-2.ensures ∙ ap (located c.args.line) c.parameter-2.ensures)
+    (Runs-fault c.args.line (increment_of fortran77 (expression_of c.args.step.now)) c.in_err-step.field-0.0 _ input (seen c.args.self.now) bytes
     (sym c.in_err-step.was ∙ c.at-3.ensures ∙ ap (located c.args.line) c.step.ensures.value)))))
 
 pub returns-in_err-set_variable : goal.returns-in_err-set_variable
 unfolding BeginsLoop
 returns-in_err-set_variable c =
     rw (residual c.from_residual-in_err-set_variable.ensures.1)
-    (λ body input bytes. (Runs-evaluates c.args.line (number_of integer_bits (expression_of c.args.first.now)) c.in_ok-first.first _ input c.args.self.now c.set_variable.new.self bytes bytes _ (sym c.in_ok-first.was ∙ c.at.ensures ∙ ap (located c.args.line) c.parameter.ensures)
-    (Runs-evaluates c.args.line (number_of integer_bits (expression_of c.args.last.now)) c.in_ok-last.last _ input c.args.self.now c.set_variable.new.self bytes bytes _ (sym c.in_ok-last.was ∙ c.at-2.ensures ∙ ap (located c.args.line) c.parameter-2.ensures)
-    (Runs-evaluates c.args.line (increment_of integer_bits (expression_of c.args.step.now)) c.in_ok-step.step _ input c.args.self.now c.set_variable.new.self bytes bytes _ (sym c.in_ok-step.was ∙ c.at-3.ensures ∙ ap (located c.args.line) c.step.ensures.value)
-    (Runs-halted _ (λ limit. evaluates c.args.line (λ s. trip_count c.in_ok-first.first c.in_ok-last.last c.in_ok-step.step) (λ n. repeated n (turn integer_bits limit c.args.line c.args.name c.in_ok-step.step (body limit)))) input c.args.self.now c.set_variable.new.self bytes bytes c.in_err-set_variable.field-0.0
-    (subst (λ z. Runs (λ limit. sets_variable integer_bits limit c.args.line c.args.name z) input c.args.self.now bytes c.set_variable.new.self bytes (Err (Halted c.in_err-set_variable.field-0.0))) (settled c.in_ok-first.first (search rules)) (c.in_err-set_variable.ensures input bytes))
-    (Stays-evaluates c.args.line (λ s. trip_count c.in_ok-first.first c.in_ok-last.last c.in_ok-step.step) (λ n limit. repeated n (turn integer_bits limit c.args.line c.args.name c.in_ok-step.step (body limit)))))))))
+    (λ body input bytes. (Runs-evaluates c.args.line (number_of fortran77 (expression_of c.args.first.now)) c.in_ok-first.first _ input (seen c.args.self.now) (seen c.set_variable.new.self) bytes bytes _ (sym c.in_ok-first.was ∙ c.at.ensures ∙ ap (located c.args.line) c.parameter.ensures)
+    (Runs-evaluates c.args.line (number_of fortran77 (expression_of c.args.last.now)) c.in_ok-last.last _ input (seen c.args.self.now) (seen c.set_variable.new.self) bytes bytes _ (sym c.in_ok-last.was ∙ c.at-2.ensures ∙ ap (located c.args.line) c.parameter-2.ensures)
+    (Runs-evaluates c.args.line (increment_of fortran77 (expression_of c.args.step.now)) c.in_ok-step.step _ input (seen c.args.self.now) (seen c.set_variable.new.self) bytes bytes _ (sym c.in_ok-step.was ∙ c.at-3.ensures ∙ ap (located c.args.line) c.step.ensures.value)
+    (Runs-halted _ (λ limit. evaluates c.args.line (λ s. trip_count c.in_ok-first.first c.in_ok-last.last c.in_ok-step.step) (λ n. repeated n (turn fortran77 limit c.args.line c.args.name c.in_ok-step.step (body limit)))) input (seen c.args.self.now) (seen c.set_variable.new.self) bytes bytes c.in_err-set_variable.field-0.0
+    (subst (λ z. Runs (λ limit. sets_variable fortran77 limit c.args.line c.args.name z) input (seen c.args.self.now) bytes (seen c.set_variable.new.self) bytes (Err (Halted c.in_err-set_variable.field-0.0))) (settled c.in_ok-first.first (search rules)) (c.in_err-set_variable.ensures input bytes))
+    (Stays-evaluates c.args.line (λ s. trip_count c.in_ok-first.first c.in_ok-last.last c.in_ok-step.step) (λ n limit. repeated n (turn fortran77 limit c.args.line c.args.name c.in_ok-step.step (body limit)))))))))
 
 pub returns-in_err-count : goal.returns-in_err-count
 unfolding BeginsLoop
 returns-in_err-count c =
     rw (residual c.from_residual-in_err-count.ensures.1)
-    (λ body input bytes. (Runs-evaluates c.args.line (number_of integer_bits (expression_of c.args.first.now)) c.in_ok-first.first _ input c.args.self.now c.set_variable.new.self bytes bytes _ (sym c.in_ok-first.was ∙ c.at.ensures ∙ ap (located c.args.line) c.parameter.ensures)
-    (Runs-evaluates c.args.line (number_of integer_bits (expression_of c.args.last.now)) c.in_ok-last.last _ input c.args.self.now c.set_variable.new.self bytes bytes _ (sym c.in_ok-last.was ∙ c.at-2.ensures ∙ ap (located c.args.line) c.parameter-2.ensures)
-    (Runs-evaluates c.args.line (increment_of integer_bits (expression_of c.args.step.now)) c.in_ok-step.step _ input c.args.self.now c.set_variable.new.self bytes bytes _ (sym c.in_ok-step.was ∙ c.at-3.ensures ∙ ap (located c.args.line) c.step.ensures.value)
-    (Runs-then _ _ input c.args.self.now c.set_variable.new.self bytes bytes c.set_variable.new.self bytes _
-    (subst (λ z. Runs (λ limit. sets_variable integer_bits limit c.args.line c.args.name z) input c.args.self.now bytes c.set_variable.new.self bytes (Ok tt)) (settled c.in_ok-first.first (search rules)) (c.in_ok-set_variable.ensures input bytes))
-    (Runs-fault c.args.line (λ s. trip_count c.in_ok-first.first c.in_ok-last.last c.in_ok-step.step) c.in_err-count.field-0.0 _ input c.set_variable.new.self bytes
+    (λ body input bytes. (Runs-evaluates c.args.line (number_of fortran77 (expression_of c.args.first.now)) c.in_ok-first.first _ input (seen c.args.self.now) (seen c.set_variable.new.self) bytes bytes _ (sym c.in_ok-first.was ∙ c.at.ensures ∙ ap (located c.args.line) c.parameter.ensures)
+    (Runs-evaluates c.args.line (number_of fortran77 (expression_of c.args.last.now)) c.in_ok-last.last _ input (seen c.args.self.now) (seen c.set_variable.new.self) bytes bytes _ (sym c.in_ok-last.was ∙ c.at-2.ensures ∙ ap (located c.args.line) c.parameter-2.ensures)
+    (Runs-evaluates c.args.line (increment_of fortran77 (expression_of c.args.step.now)) c.in_ok-step.step _ input (seen c.args.self.now) (seen c.set_variable.new.self) bytes bytes _ (sym c.in_ok-step.was ∙ c.at-3.ensures ∙ ap (located c.args.line) c.step.ensures.value)
+    (Runs-then _ _ input (seen c.args.self.now) (seen c.set_variable.new.self) bytes bytes (seen c.set_variable.new.self) bytes _
+    (subst (λ z. Runs (λ limit. sets_variable fortran77 limit c.args.line c.args.name z) input (seen c.args.self.now) bytes (seen c.set_variable.new.self) bytes (Ok tt)) (settled c.in_ok-first.first (search rules)) (c.in_ok-set_variable.ensures input bytes))
+    (Runs-fault c.args.line (λ s. trip_count c.in_ok-first.first c.in_ok-last.last c.in_ok-step.step) c.in_err-count.field-0.0 _ input (seen c.set_variable.new.self) bytes
     (sym c.in_err-count.was ∙ c.at-4.ensures ∙ ap (located c.args.line) (c.trip_count.ensures ∙ ap (λ z. trip_count z (to_z w128 (of_z w128 c.in_ok-last.last)) (to_z w128 (of_z w128 c.in_ok-step.step))) (settled c.in_ok-first.first (search rules)) ∙ ap (λ z. trip_count c.in_ok-first.first z (to_z w128 (of_z w128 c.in_ok-step.step))) (settled c.in_ok-last.last (search rules)) ∙ ap (trip_count c.in_ok-first.first c.in_ok-last.last) (settled c.in_ok-step.step (search rules))))))))))
 
 pub returns : goal.returns
 unfolding BeginsLoop
 returns c = λ body input before now end r h.
-    (Runs-evaluates c.args.line (number_of integer_bits (expression_of c.args.first.now)) c.in_ok-first.first _ input c.args.self.now end before now r (sym c.in_ok-first.was ∙ c.at.ensures ∙ ap (located c.args.line) c.parameter.ensures)
-    (Runs-evaluates c.args.line (number_of integer_bits (expression_of c.args.last.now)) c.in_ok-last.last _ input c.args.self.now end before now r (sym c.in_ok-last.was ∙ c.at-2.ensures ∙ ap (located c.args.line) c.parameter-2.ensures)
-    (Runs-evaluates c.args.line (increment_of integer_bits (expression_of c.args.step.now)) c.in_ok-step.step _ input c.args.self.now end before now r (sym c.in_ok-step.was ∙ c.at-3.ensures ∙ ap (located c.args.line) c.step.ensures.value)
-    (Runs-then _ _ input c.args.self.now c.set_variable.new.self before before end now r
-    (subst (λ z. Runs (λ limit. sets_variable integer_bits limit c.args.line c.args.name z) input c.args.self.now before c.set_variable.new.self before (Ok tt)) (settled c.in_ok-first.first (search rules)) (c.in_ok-set_variable.ensures input before))
-    (Runs-evaluates c.args.line (λ s. trip_count c.in_ok-first.first c.in_ok-last.last c.in_ok-step.step) c.in_ok-count.count _ input c.set_variable.new.self end before now r
+    (Runs-evaluates c.args.line (number_of fortran77 (expression_of c.args.first.now)) c.in_ok-first.first _ input (seen c.args.self.now) end before now r (sym c.in_ok-first.was ∙ c.at.ensures ∙ ap (located c.args.line) c.parameter.ensures)
+    (Runs-evaluates c.args.line (number_of fortran77 (expression_of c.args.last.now)) c.in_ok-last.last _ input (seen c.args.self.now) end before now r (sym c.in_ok-last.was ∙ c.at-2.ensures ∙ ap (located c.args.line) c.parameter-2.ensures)
+    (Runs-evaluates c.args.line (increment_of fortran77 (expression_of c.args.step.now)) c.in_ok-step.step _ input (seen c.args.self.now) end before now r (sym c.in_ok-step.was ∙ c.at-3.ensures ∙ ap (located c.args.line) c.step.ensures.value)
+    (Runs-then _ _ input (seen c.args.self.now) (seen c.set_variable.new.self) before before end now r
+    (subst (λ z. Runs (λ limit. sets_variable fortran77 limit c.args.line c.args.name z) input (seen c.args.self.now) before (seen c.set_variable.new.self) before (Ok tt)) (settled c.in_ok-first.first (search rules)) (c.in_ok-set_variable.ensures input before))
+    (Runs-evaluates c.args.line (λ s. trip_count c.in_ok-first.first c.in_ok-last.last c.in_ok-step.step) c.in_ok-count.count _ input (seen c.set_variable.new.self) end before now r
     (sym c.in_ok-count.was ∙ c.at-4.ensures ∙ ap (located c.args.line) (c.trip_count.ensures ∙ ap (λ z. trip_count z (to_z w128 (of_z w128 c.in_ok-last.last)) (to_z w128 (of_z w128 c.in_ok-step.step))) (settled c.in_ok-first.first (search rules)) ∙ ap (λ z. trip_count c.in_ok-first.first z (to_z w128 (of_z w128 c.in_ok-step.step))) (settled c.in_ok-last.last (search rules)) ∙ ap (trip_count c.in_ok-first.first c.in_ok-last.last) (settled c.in_ok-step.step (search rules))))
-    (subst (λ z. Runs (λ limit. repeated c.in_ok-count.count (turn integer_bits limit c.args.line c.args.name z (body limit))) input c.set_variable.new.self before end now r) (settled c.in_ok-step.step (search rules)) h))))))
+    (subst (λ z. Runs (λ limit. repeated c.in_ok-count.count (turn fortran77 limit c.args.line c.args.name z (body limit))) input (seen c.set_variable.new.self) before end now r) (settled c.in_ok-step.step (search rules)) h))))))

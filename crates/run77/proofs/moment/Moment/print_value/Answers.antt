@@ -1,12 +1,15 @@
 use Rattle.std.proofs.Common.{sym, ap, ◌∙◌, [], ◌∷◌, Ok, Err}
 use Rattle.fv_tree.specs.View.{expression_of}
-use Rattle.fv_meaning.specs.Sequential.{integer_bits}
+use Rattle.fv_meaning.specs.Dialect.{fortran77}
 use Rattle.fv_meaning.specs.Value.{value_of}
-use Rattle.run77.specs.Moments.{located}
-use Rattle.run77.specs.Stored.{store_in}
-use Rattle.run77.specs.Printing.{all_values, IsOneValue, AreAllValues}
-use Rattle.run77.proofs.Residuals.{residual}
-use Rattle.run77.proofs.WriteLaws.{prints_values, prints_fault, one_written, all_fault, all_ok, one_fault, one_ok}
+use Rattle.fv_machine.specs.Moments.{located}
+use Rattle.fv_machine.specs.Stored.{store_in}
+use Rattle.fv_machine.specs.Stored.{all_values}
+use Rattle.run77.specs.Printing.{IsOneValue, AreAllValues}
+use Rattle.fv_machine.proofs.Residuals.{residual}
+use Rattle.fv_machine.proofs.WriteLaws.{prints_values, prints_fault, one_written}
+use Rattle.run77.proofs.ItemLaws.{all_fault, all_ok, one_fault, one_ok}
+use Rattle.run77.specs.Moments.{seen}
 use Rattle.run77.proofs.moment.Moment.print_value.Goals as goal
 
 pub returns-in_err-values-in-Some-clause-run : goal.returns-in_err-values-in-Some-clause-run
@@ -14,7 +17,7 @@ unfolding AreAllValues
 returns-in_err-values-in-Some-clause-run g c = λ input.
     let s = store_in c.args.self.now.storage in
     rw (residual c.from_residual.ensures.1)
-    (prints_fault c.args.line (expression_of c.args.expr.now) input c.args.self.now (g.K.Sink.taken c.args.out.now) (g.K.Sink.taken c.args.out.now) c.in_err-values-in-Some.field-0.0
+    (prints_fault fortran77 c.args.line (expression_of c.args.expr.now) input (seen c.args.self.now) (g.K.Sink.taken c.args.out.now) (g.K.Sink.taken c.args.out.now) c.in_err-values-in-Some.field-0.0
     (all_fault c.args.line (all_values c.in-Some.name s) c.all.result c.in_err-values-in-Some.field-0.0 c.all.ensures (sym c.in_err-values-in-Some.was ∙ c.at.ensures)
     ∙ sym (ap (located c.args.line) (c.in-Some.ensures s))))
 
@@ -23,7 +26,7 @@ unfolding AreAllValues
 returns-in_err-write_outputs-in-Some-clause-run g c = λ input.
     let s = store_in c.args.self.now.storage in
     rw (residual c.from_residual-in_err-write_outputs-in-Some.ensures.1)
-    (prints_values c.args.line (expression_of c.args.expr.now) input c.args.self.now (g.K.Sink.taken c.args.out.now) (g.K.Sink.taken c.write_outputs.new.out) c.in_ok-values-in-Some.values.now (Err c.in_err-write_outputs-in-Some.field-0.0)
+    (prints_values fortran77 c.args.line (expression_of c.args.expr.now) input (seen c.args.self.now) (g.K.Sink.taken c.args.out.now) (g.K.Sink.taken c.write_outputs.new.out) c.in_ok-values-in-Some.values.now (Err c.in_err-write_outputs-in-Some.field-0.0)
     (all_ok c.args.line (all_values c.in-Some.name s) c.all.result c.in_ok-values-in-Some.values c.all.ensures (sym c.in_ok-values-in-Some.was ∙ c.at.ensures)
     ∙ sym (ap (located c.args.line) (c.in-Some.ensures s)))
     c.in_err-write_outputs-in-Some.ensures.text)
@@ -32,7 +35,7 @@ pub returns-in_ok-write_outputs-in-Some-clause-run : goal.returns-in_ok-write_ou
 unfolding AreAllValues
 returns-in_ok-write_outputs-in-Some-clause-run g c = λ input.
     let s = store_in c.args.self.now.storage in
-    prints_values c.args.line (expression_of c.args.expr.now) input c.args.self.now (g.K.Sink.taken c.args.out.now) (g.K.Sink.taken c.write_outputs.new.out) c.in_ok-values-in-Some.values.now (Ok tt)
+    prints_values fortran77 c.args.line (expression_of c.args.expr.now) input (seen c.args.self.now) (g.K.Sink.taken c.args.out.now) (g.K.Sink.taken c.write_outputs.new.out) c.in_ok-values-in-Some.values.now (Ok tt)
     (all_ok c.args.line (all_values c.in-Some.name s) c.all.result c.in_ok-values-in-Some.values c.all.ensures (sym c.in_ok-values-in-Some.was ∙ c.at.ensures)
     ∙ sym (ap (located c.args.line) (c.in-Some.ensures s)))
     c.in_ok-write_outputs-in-Some.ensures.text
@@ -42,8 +45,8 @@ unfolding IsOneValue
 returns-in_err-value-in-None-clause-run g c = λ input.
     let s = store_in c.args.self.now.storage in
     rw (residual c.from_residual-in_err-value-in-None.ensures.1)
-    (prints_fault c.args.line (expression_of c.args.expr.now) input c.args.self.now (g.K.Sink.taken c.args.out.now) (g.K.Sink.taken c.args.out.now) c.in_err-value-in-None.field-0.0
-    (one_fault c.args.line (value_of integer_bits (expression_of c.args.expr.now) s) c.in_err-value-in-None.field-0.0 (sym c.in_err-value-in-None.was ∙ c.at-in-None.ensures ∙ ap (located c.args.line) c.value.ensures)
+    (prints_fault fortran77 c.args.line (expression_of c.args.expr.now) input (seen c.args.self.now) (g.K.Sink.taken c.args.out.now) (g.K.Sink.taken c.args.out.now) c.in_err-value-in-None.field-0.0
+    (one_fault c.args.line (value_of fortran77 (expression_of c.args.expr.now) s) c.in_err-value-in-None.field-0.0 (sym c.in_err-value-in-None.was ∙ c.at-in-None.ensures ∙ ap (located c.args.line) c.value.ensures)
     ∙ sym (ap (located c.args.line) (c.in-None.ensures s))))
 
 pub returns-in_err-write_output-in-None-clause-run : goal.returns-in_err-write_output-in-None-clause-run
@@ -51,8 +54,8 @@ unfolding IsOneValue
 returns-in_err-write_output-in-None-clause-run g c = λ input.
     let s = store_in c.args.self.now.storage in
     rw (residual c.from_residual-in_err-write_output-in-None.ensures.1)
-    (prints_values c.args.line (expression_of c.args.expr.now) input c.args.self.now (g.K.Sink.taken c.args.out.now) (g.K.Sink.taken c.write_output.new.out) (c.in_ok-value-in-None.value ∷ []) (Err c.in_err-write_output-in-None.field-0.0)
-    (one_ok c.args.line (value_of integer_bits (expression_of c.args.expr.now) s) c.in_ok-value-in-None.value (sym c.in_ok-value-in-None.was ∙ c.at-in-None.ensures ∙ ap (located c.args.line) c.value.ensures)
+    (prints_values fortran77 c.args.line (expression_of c.args.expr.now) input (seen c.args.self.now) (g.K.Sink.taken c.args.out.now) (g.K.Sink.taken c.write_output.new.out) (c.in_ok-value-in-None.value ∷ []) (Err c.in_err-write_output-in-None.field-0.0)
+    (one_ok c.args.line (value_of fortran77 (expression_of c.args.expr.now) s) c.in_ok-value-in-None.value (sym c.in_ok-value-in-None.was ∙ c.at-in-None.ensures ∙ ap (located c.args.line) c.value.ensures)
     ∙ sym (ap (located c.args.line) (c.in-None.ensures s)))
     (one_written c.in_ok-value-in-None.value (g.K.Sink.taken c.args.out.now) (g.K.Sink.taken c.write_output.new.out) (Err c.in_err-write_output-in-None.field-0.0) c.in_err-write_output-in-None.ensures.text))
 
@@ -60,7 +63,7 @@ pub returns-in_ok-write_output-in-None-clause-run : goal.returns-in_ok-write_out
 unfolding IsOneValue
 returns-in_ok-write_output-in-None-clause-run g c = λ input.
     let s = store_in c.args.self.now.storage in
-    prints_values c.args.line (expression_of c.args.expr.now) input c.args.self.now (g.K.Sink.taken c.args.out.now) (g.K.Sink.taken c.write_output.new.out) (c.in_ok-value-in-None.value ∷ []) (Ok tt)
-    (one_ok c.args.line (value_of integer_bits (expression_of c.args.expr.now) s) c.in_ok-value-in-None.value (sym c.in_ok-value-in-None.was ∙ c.at-in-None.ensures ∙ ap (located c.args.line) c.value.ensures)
+    prints_values fortran77 c.args.line (expression_of c.args.expr.now) input (seen c.args.self.now) (g.K.Sink.taken c.args.out.now) (g.K.Sink.taken c.write_output.new.out) (c.in_ok-value-in-None.value ∷ []) (Ok tt)
+    (one_ok c.args.line (value_of fortran77 (expression_of c.args.expr.now) s) c.in_ok-value-in-None.value (sym c.in_ok-value-in-None.was ∙ c.at-in-None.ensures ∙ ap (located c.args.line) c.value.ensures)
     ∙ sym (ap (located c.args.line) (c.in-None.ensures s)))
     (one_written c.in_ok-value-in-None.value (g.K.Sink.taken c.args.out.now) (g.K.Sink.taken c.write_output.new.out) (Ok tt) c.in_ok-write_output-in-None.ensures.text)

@@ -1,26 +1,27 @@
 use Rattle.std.proofs.Common.{sym, ◌∙◌}
 use Rattle.std.proofs.lemmas.Bool.{false≢true}
 use Rattle.fv_tree.specs.View.{reference_of}
-use Rattle.fv_meaning.specs.Sequential.{integer_bits}
+use Rattle.fv_meaning.specs.Dialect.{fortran77}
 use Rattle.fv_meaning.specs.Value.{cell_named}
-use Rattle.run77.specs.Acts.{left_of}
-use Rattle.run77.specs.Stored.{names_in, store_in}
-use Rattle.run77.proofs.Residuals.{residual}
-use Rattle.run77.proofs.ActLaws.{found_cell, missed_cell}
-use Rattle.run77.proofs.ReadLaws.{whole_cells, element_missing, element_read}
+use Rattle.fv_machine.specs.Acts.{left_of}
+use Rattle.fv_machine.specs.Stored.{names_in, store_in}
+use Rattle.fv_machine.proofs.Residuals.{residual}
+use Rattle.fv_machine.proofs.ActLaws.{found_cell, missed_cell}
+use Rattle.fv_machine.proofs.ReadLaws.{whole_cells, element_missing, element_read}
+use Rattle.run77.specs.Moments.{seen}
 use Rattle.run77.proofs.moment.Moment.read_cells.Goals as goal
 
 pub returns-then-is_empty : goal.returns-then-is_empty
 returns-then-is_empty c = λ bytes.
-    whole_cells c.args.item.now c.args.input.now c.args.line c.args.self.now c.read_all.new.self bytes (left_of c.read_all.result) (c.is_empty.ensures.0 c.if-is_empty.true) (c.read_all.ensures bytes)
+    whole_cells fortran77 c.args.item.now c.args.input.now c.args.line (seen c.args.self.now) (seen c.read_all.new.self) bytes (left_of c.read_all.result) (c.is_empty.ensures.0 c.if-is_empty.true) (c.read_all.ensures bytes)
 
 pub returns-in_err-place : goal.returns-in_err-place
 returns-in_err-place c = λ bytes.
     rw (residual c.from_residual.ensures.1)
-    (element_missing c.args.item.now c.args.input.now c.args.line c.args.self.now bytes (λ e. false≢true (sym c.if-is_empty.false ∙ c.is_empty.ensures.1 e)) c.in_err-place.field-0.0
-    (missed_cell (names_in c.args.self.now.storage) c.args.line (cell_named integer_bits (reference_of c.args.item.now) (store_in c.args.self.now.storage)) c.place.result c.in_err-place.field-0.0 c.place.ensures.found (sym c.in_err-place.was ∙ c.at.ensures)))
+    (element_missing fortran77 c.args.item.now c.args.input.now c.args.line (seen c.args.self.now) bytes (λ e. false≢true (sym c.if-is_empty.false ∙ c.is_empty.ensures.1 e)) c.in_err-place.field-0.0
+    (missed_cell (names_in c.args.self.now.storage) c.args.line (cell_named fortran77 (reference_of c.args.item.now) (store_in c.args.self.now.storage)) c.place.result c.in_err-place.field-0.0 c.place.ensures.found (sym c.in_err-place.was ∙ c.at.ensures)))
 
 pub returns : goal.returns
 returns c = λ bytes.
-    let cell = found_cell (names_in c.args.self.now.storage) c.args.line (cell_named integer_bits (reference_of c.args.item.now) (store_in c.args.self.now.storage)) c.place.result c.in_ok-place.place c.place.ensures.found (sym c.in_ok-place.was ∙ c.at.ensures) in
-    element_read c.args.item.now c.args.input.now c.args.line c.args.self.now bytes (λ e. false≢true (sym c.if-is_empty.false ∙ c.is_empty.ensures.1 e)) cell.0 c.read_into.new.self (left_of c.read_into.result) cell.1 (c.read_into.ensures.read cell.0 cell.2 bytes)
+    let cell = found_cell (names_in c.args.self.now.storage) c.args.line (cell_named fortran77 (reference_of c.args.item.now) (store_in c.args.self.now.storage)) c.place.result c.in_ok-place.place c.place.ensures.found (sym c.in_ok-place.was ∙ c.at.ensures) in
+    element_read fortran77 c.args.item.now c.args.input.now c.args.line (seen c.args.self.now) bytes (λ e. false≢true (sym c.if-is_empty.false ∙ c.is_empty.ensures.1 e)) cell.0 (seen c.read_into.new.self) (left_of c.read_into.result) cell.1 (c.read_into.ensures.read cell.0 cell.2 bytes)

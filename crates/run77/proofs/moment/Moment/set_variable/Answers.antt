@@ -1,16 +1,18 @@
+use Rattle.fv_meaning.specs.Dialect.{fortran77}
 use Rattle.std.proofs.Common.{refl, sym, ap, ◌∙◌, set, [], arith, rules}
 use Rattle.fv_tree.specs.declared.ops.Value.TheVariants.{Int}
-use Rattle.fv_meaning.specs.Store.{cell_at}
-use Rattle.run77.specs.Moments.{located, checked}
-use Rattle.run77.specs.Stored.{names_in, store_in}
-use Rattle.run77.proofs.Residuals.{residual, settled}
-use Rattle.run77.proofs.ActLaws.{Runs-evaluates, Runs-fault, Runs-in_range, Runs-out_of_range, Runs-stores, found_cell, missed_cell, within_located}
+use Rattle.fv_meaning.specs.Store.{cell_at, put}
+use Rattle.fv_machine.specs.Moments.{integer_bits, located, checked}
+use Rattle.fv_machine.specs.Stored.{names_in, store_in}
+use Rattle.fv_machine.proofs.Residuals.{residual, settled}
+use Rattle.fv_machine.proofs.ActLaws.{Runs-evaluates, Runs-fault, Runs-in_range, Runs-out_of_range, Runs-stores, found_cell, missed_cell, within_located}
+use Rattle.run77.specs.Moments.{seen}
 use Rattle.run77.proofs.moment.Moment.set_variable.Goals as goal
 
 pub returns-in_err-place : goal.returns-in_err-place
 returns-in_err-place c = λ input bytes.
     rw (residual c.from_residual.ensures.1)
-    (Runs-fault c.args.line (cell_at c.args.name []) c.in_err-place.field-0.0 _ input c.args.self.now bytes
+    (Runs-fault c.args.line (cell_at c.args.name []) c.in_err-place.field-0.0 _ input (seen c.args.self.now) bytes
     (missed_cell (names_in c.args.self.now.storage) c.args.line (cell_at c.args.name [] (store_in c.args.self.now.storage)) c.scalar.result c.in_err-place.field-0.0
     c.scalar.ensures.found (sym c.in_err-place.was ∙ c.at.ensures)))
 
@@ -19,17 +21,20 @@ returns-in_err-at c = λ input bytes.
     let cell = found_cell (names_in c.args.self.now.storage) c.args.line (cell_at c.args.name [] (store_in c.args.self.now.storage)) c.scalar.result c.in_ok-place.place
     c.scalar.ensures.found (sym c.in_ok-place.was ∙ c.at.ensures) in
     rw (residual c.from_residual-in_err-at.ensures.1)
-    (Runs-evaluates c.args.line (cell_at c.args.name []) cell.0 _ input c.args.self.now c.args.self.now bytes bytes _ cell.1
-    (Runs-out_of_range c.args.line (Int c.args.number) c.in_err-at.field-0.0 _ input c.args.self.now bytes
-    (sym c.in_err-at.was ∙ c.at-2.ensures ∙ ap (located c.args.line) c.check_range.ensures ∙ ap (λ z. located c.args.line (checked (Int z))) (settled c.args.number (search rules)))))
+    (Runs-evaluates c.args.line (cell_at c.args.name []) cell.0 _ input (seen c.args.self.now) (seen c.args.self.now) bytes bytes _ cell.1
+    (Runs-out_of_range fortran77 c.args.line (Int c.args.number) c.in_err-at.field-0.0 _ input (seen c.args.self.now) bytes
+    (sym c.in_err-at.was ∙ c.at-2.ensures ∙ ap (located c.args.line) c.check_range.ensures ∙ ap (λ z. located c.args.line (checked integer_bits (Int z))) (settled c.args.number (search rules)))))
 
 pub returns : goal.returns
 returns c = λ input bytes.
     let cell = found_cell (names_in c.args.self.now.storage) c.args.line (cell_at c.args.name [] (store_in c.args.self.now.storage)) c.scalar.result c.in_ok-place.place
     c.scalar.ensures.found (sym c.in_ok-place.was ∙ c.at.ensures) in
-    Runs-evaluates c.args.line (cell_at c.args.name []) cell.0 _ input c.args.self.now _ bytes bytes _ cell.1
-    (Runs-in_range c.args.line (Int c.args.number) _ input c.args.self.now _ bytes bytes _ c.in_ok-at.field-0
-    (sym c.in_ok-at.was ∙ c.at-2.ensures ∙ ap (located c.args.line) c.check_range.ensures ∙ ap (λ z. located c.args.line (checked (Int z))) (settled c.args.number (search rules)))
-    (Runs-stores cell.0 (Int c.args.number) c.in_ok-place.place input c.args.self.now _ bytes cell.2
-    (let within = within_located c.args.line _ c.in_ok-place.place c.scalar.result c.scalar.ensures.within (sym c.in_ok-place.was ∙ c.at.ensures) in omega (arith, c.args.self.now.storage.values.ok.0))
-    c.put.ensures.names (c.put.ensures.values ∙ ap (λ z. set c.args.self.now.storage.values.items c.in_ok-place.place (Int z)) (settled c.args.number (search rules))) refl refl refl))
+    Runs-evaluates c.args.line (cell_at c.args.name []) cell.0 _ input (seen c.args.self.now) _ bytes bytes _ cell.1
+    (Runs-in_range fortran77 c.args.line (Int c.args.number) _ input (seen c.args.self.now) _ bytes bytes _ c.in_ok-at.field-0
+    (sym c.in_ok-at.was ∙ c.at-2.ensures ∙ ap (located c.args.line) c.check_range.ensures ∙ ap (λ z. located c.args.line (checked integer_bits (Int z))) (settled c.args.number (search rules)))
+    (Runs-stores cell.0 (Int c.args.number) input (seen c.args.self.now) _ bytes c.put.ensures.names
+    (c.put.ensures.stored cell.0 cell.2
+    ∙ ap (λ z. put cell.0 (Int z) (store_in c.args.self.now.storage)) (settled c.args.number (search rules))) refl))
+
+pub put-requires : goal.put-requires
+put-requires c = within_located c.args.line _ c.in_ok-place.place c.scalar.result c.scalar.ensures.within (sym c.in_ok-place.was ∙ c.at.ensures)

@@ -1,36 +1,45 @@
 use Rattle.std.proofs.Common.{refl, sym, ap, ◌∙◌, Ok, Err, arith}
-use Rattle.fv_meaning.specs.Sequential.{integer_bits}
+use Rattle.fv_meaning.specs.Dialect.{fortran77}
+use Rattle.fv_meaning.specs.Store.{put}
 use Rattle.fv_meaning.specs.Run.{counts_step, stores}
-use Rattle.run77.specs.declared.moment.Left.TheVariants.{Halted}
-use Rattle.run77.specs.declared.storage.Storage.{Storage}
-use Rattle.run77.specs.Moments.{located}
-use Rattle.run77.specs.Stored.{names_in}
-use Rattle.run77.specs.Storage.{place}
-use Rattle.run77.proofs.Residuals.{residual}
-use Rattle.run77.proofs.ActLaws.{Runs-counts_step, Runs-cut, Runs-in_range, Runs-out_of_range, Runs-stores}
+use Rattle.fv_machine.specs.declared.progress.Left.TheVariants.{Halted}
+use Rattle.fv_machine.specs.declared.storage.Storage.{Storage}
+use Rattle.fv_machine.specs.Moments.{located}
+use Rattle.fv_machine.specs.Stored.{names_in, store_in}
+use Rattle.fv_machine.specs.Storage.{place}
+use Rattle.fv_machine.proofs.Residuals.{residual}
+use Rattle.fv_machine.proofs.ActLaws.{Runs-counts_step, Runs-cut, Runs-in_range, Runs-out_of_range, Runs-stores}
+use Rattle.run77.specs.Moments.{seen}
 use Rattle.run77.proofs.moment.Moment.store.Goals as goal
 
 pub returns-in_err-at-clause-stored : goal.returns-in_err-at-clause-stored
 returns-in_err-at-clause-stored c = λ cell p input bytes.
     rw (residual c.from_residual.ensures.1)
-    (Runs-out_of_range c.args.line c.args.value c.in_err-at.field-0.0 (λ limit. counts_step integer_bits limit (stores cell c.args.value)) input c.args.self.now bytes
+    (Runs-out_of_range fortran77 c.args.line c.args.value c.in_err-at.field-0.0 (λ limit. counts_step fortran77 limit (stores cell c.args.value))
+    input (seen c.args.self.now) bytes
     (sym c.in_err-at.was ∙ c.at.ensures ∙ ap (located c.args.line) c.check_range.ensures))
 
 pub returns-in_err-count_step-clause-stored : goal.returns-in_err-count_step-clause-stored
 returns-in_err-count_step-clause-stored c = λ cell p input bytes.
     rw (residual c.from_residual-in_err-count_step.ensures.1)
-    (Runs-in_range c.args.line c.args.value (λ limit. counts_step integer_bits limit (stores cell c.args.value)) input c.args.self.now c.count_step.new.self bytes bytes (Err (Halted c.in_err-count_step.field-0.0)) _
+    (Runs-in_range fortran77 c.args.line c.args.value (λ limit. counts_step fortran77 limit (stores cell c.args.value)) input
+    (seen c.args.self.now) (seen c.count_step.new.self) bytes bytes (Err (Halted c.in_err-count_step.field-0.0)) _
     (sym c.in_ok-at.was ∙ c.at.ensures ∙ ap (located c.args.line) c.check_range.ensures)
-    (Runs-cut (λ limit. stores cell c.args.value) input c.args.self.now c.count_step.new.self bytes c.in_err-count_step.field-0.0 c.in_err-count_step.ensures.counted))
+    (Runs-cut fortran77 (λ limit. stores cell c.args.value) input (seen c.args.self.now) (seen c.count_step.new.self) bytes
+    c.in_err-count_step.field-0.0 c.in_err-count_step.ensures.counted))
 
 pub put-requires : goal.put-requires
 put-requires c = rw c.count_step.ensures.storage c.requires
 
 pub returns-clause-stored : goal.returns-clause-stored
 returns-clause-stored c = λ cell p input bytes.
-    Runs-in_range c.args.line c.args.value (λ limit. counts_step integer_bits limit (stores cell c.args.value)) input c.args.self.now _ bytes bytes (Ok tt) _
+    Runs-in_range fortran77 c.args.line c.args.value (λ limit. counts_step fortran77 limit (stores cell c.args.value)) input
+    (seen c.args.self.now) _ bytes bytes (Ok tt) _
     (sym c.in_ok-at.was ∙ c.at.ensures ∙ ap (located c.args.line) c.check_range.ensures)
-    (Runs-counts_step (λ limit. stores cell c.args.value) input c.args.self.now c.count_step.new.self _ bytes bytes (Ok tt) c.in_ok-count_step.ensures.counted
-    (Runs-stores cell c.args.value c.args.place input c.count_step.new.self _ bytes
-    (ap (λ (s : Storage). place (names_in s) cell.name cell.subscripts) c.count_step.ensures.storage ∙ p) (rw c.count_step.ensures.storage (omega (arith, c.args.self.now.storage.values.ok.0, c.requires)))
-    c.put.ensures.names c.put.ensures.values refl refl refl))
+    (Runs-counts_step fortran77 (λ limit. stores cell c.args.value) input (seen c.args.self.now) (seen c.count_step.new.self) _ bytes bytes
+    (Ok tt) c.in_ok-count_step.ensures.counted
+    (Runs-stores cell c.args.value input (seen c.count_step.new.self) _ bytes c.put.ensures.names
+    (c.put.ensures.stored cell (ap (λ (s : Storage). place (names_in s) cell.name cell.subscripts) c.count_step.ensures.storage ∙ p)) refl))
+
+pub returns-clause-names : goal.returns-clause-names
+returns-clause-names c = c.put.ensures.names ∙ ap names_in c.count_step.ensures.storage

@@ -1,0 +1,23 @@
+-- PRINT, with the values of whole arrays.
+use Rattle.std.specs.Prelude.{◌≡◌, Result, Ok, Option, ℕ, List, [], ◌∷◌, map}
+use Rattle.fv_tree.specs.Steps.{◌>>=◌}
+use Rattle.fv_tree.specs.Plain.{Expression, Items, items}
+use Rattle.fv_tree.specs.View.{item_of}
+use Rattle.fv_tree.specs.declared.stmts.Item.{Item}
+use Rattle.fv_tree.specs.declared.ops.Value.{Value}
+use Rattle.fv_tree.specs.declared.ops.Fault.{Fault}
+use Rattle.fv_meaning.specs.Store.{Store, bounds_of, cells_of}
+use Rattle.fv_meaning.specs.Dialect.{Dialect}
+use Rattle.fv_meaning.specs.Texts.{output_text}
+use Rattle.fv_meaning.specs.Value.{value_of, item_values}
+use Rattle.fv_meaning.specs.Run.{Act, evaluates, writes, then, prints_items, first_blank}
+
+abbrev pub prints_value : Dialect → ℕ → Expression → Act
+prints_value lang line e = evaluates line (item_values lang e) (λ vs. writes (output_text vs))
+
+abbrev pub plain_items : List Item → Items
+plain_items is = items (map item_of is)
+
+-- a PRINT, after its first step
+abbrev pub prints : Dialect → Option ℕ → ℕ → Items → Act
+prints lang limit line is = then (writes (first_blank is)) (then (prints_items lang limit is line) (writes (10 ∷ [])))
