@@ -1,5 +1,5 @@
 -- In a program each GO TO leads forward.
-use Rattle.std.proofs.Common.{ℕ, List, []}
+use Rattle.std.proofs.Common.{List}
 use Rattle.fv_tree.specs.Plain.{Statement, Assignment, Where, If, Do, Label, GoTo, Stop, Read, Print, Allocate, Deallocate}
 use Rattle.fv_tree.specs.Plain.{Arms, no_arms, arm, Block, no_statements, statement, Declaration}
 use Rattle.fv_meaning.specs.Blocks.{Surroundings, outermost, within_loop, before_labels, labels_of}

@@ -1,22 +1,21 @@
 -- What statements are made of keeps a store that holds the program, and brings no fault but those of F.
-use Rattle.std.proofs.Common.{◌≡◌, refl, sym, ap, subst, ◌∙◌, ℕ, zero, suc, ◌+◌, ◌-◌, ◌*◌, ℤ, pos, ◌+ℤ◌, ◌-ℤ◌, neg_ℤ, int_div, nat_le, Bool, true, false, ◌&&◌, ◌||◌, ◌==◌, cond, Option, Some, None, IfSome, List, [], ◌∷◌, ◌++◌, Result, Ok, Err}
+use Rattle.std.proofs.Common.{◌≡◌, refl, sym, subst, ◌∙◌, ℕ, zero, suc, ◌+◌, ◌-◌, ◌*◌, ℤ, pos, ◌+ℤ◌, ◌-ℤ◌, neg_ℤ, int_div, nat_le, Bool, true, false, ◌&&◌, ◌||◌, ◌==◌, cond, Option, Some, None, IfSome, List, [], ◌∷◌, Result, Ok, Err}
 use Rattle.std.specs.List.{AllByRecursion}
 use Rattle.std.specs.Ordering.{int_eq}
 use Rattle.fv_tree.specs.Steps as results
 use Rattle.fv_tree.specs.Operators.{as_number, fits, kind_of}
 use Rattle.fv_tree.specs.Plain.{Expression, Declaration, Program}
-use Rattle.fv_tree.specs.declared.ops.Kind.{Kind}
 use Rattle.fv_tree.specs.declared.ops.Value.{Value}
 use Rattle.fv_tree.specs.declared.ops.Value.TheVariants.{Int, Truth}
 use Rattle.fv_tree.specs.declared.ops.Fault.{Fault}
 use Rattle.fv_tree.specs.declared.ops.Fault.TheVariants.{Overflow, ZeroDivide, Bounds, ZeroStep, TripCount, InputEnd, InputForm}
 use Rattle.fv_meaning.specs.Dialect.{Dialect}
-use Rattle.fv_meaning.specs.Store.{Store, Cell, put, cell_at, with_bounds, allocated}
-use Rattle.fv_meaning.specs.Texts.{is_gap, from_value, first_word, after_word, after_line, digits_after, unsigned_number, signed_number, has_slash, truth_letter, truth_word, read_value}
+use Rattle.fv_meaning.specs.Store.{Store, Cell, cell_at}
+use Rattle.fv_meaning.specs.Texts.{is_gap, from_value, first_word, after_word, digits_after, unsigned_number, signed_number, has_slash, truth_letter, truth_word, read_value}
 use Rattle.fv_meaning.specs.Typed.{declared}
 use Rattle.fv_meaning.specs.Value.{number_of, increment_of, exact, as_count, trip_count, is_in_range}
 use Rattle.fv_meaning.specs.Holding.{HasBounds, IsStorable, HoldsProgram}
-use Rattle.fv_meaning.specs.Run.{State, Way, Going, Jumping, Stopped, Failed, Cut, Act, nothing, then, either, repeated, for_each, goes, on_way, while_going, answered, evaluates, writes, stores, is_empty, begins_line, takes_word, skips_line, is_allowed, arrives, counts_step, checks_range, stores_element, allocates, deallocates, sets_variable, increases, turn, loops, reads_into}
+use Rattle.fv_meaning.specs.Run.{State, Way, Going, Jumping, Stopped, Failed, Cut, Act, nothing, then, either, repeated, for_each, goes, on_way, while_going, answered, evaluates, writes, stores, is_empty, begins_line, takes_word, skips_line, is_allowed, counts_step, checks_range, stores_element, allocates, deallocates, sets_variable, increases, loops, reads_into}
 use Rattle.fv_meaning.proofs.Kept.{Keeps}
 use Rattle.profile_laws.proofs.Answering.{Answers, AnyValue, behind, weaker}
 use Rattle.profile_laws.proofs.Stores.{Fits, put_holds, without_holds, allocated_holds}
@@ -142,8 +141,10 @@ module _ (lang : Dialect) (limit : Option ℕ) (p : Program) (F : Fault → Type
 
   keeps_takes_word : (line : ℕ) (k : List ℕ → Act) → ((w : List ℕ) → Keeps Good (k w)) → Keeps Good (takes_word line k)
   unfolding takes_word
-  keeps_takes_word line k h = keeps_while _ (record { at = λ s q.
-      (keeps_answered AnyValue line (from_value s.had_value s.input) (λ more t. k (first_word more) (record t { input = after_word more; had_value = true })) (next_value s.had_value s.input) (λ more u. past more)).at s q })
+  keeps_takes_word line k h = keeps_while _ (record {
+    at = λ s q.
+        (keeps_answered AnyValue line (from_value s.had_value s.input) (λ more t. k (first_word more) (record t { input = after_word more; had_value = true })) (next_value s.had_value s.input) (λ more u. past more)).at s q;
+  })
     where
       past : (more : List ℕ) → Keeps Good (λ t. k (first_word more) (record t { input = after_word more; had_value = true }))
       past more = record { at = λ t q. (h (first_word more)).at (record t { input = after_word more; had_value = true }) (record { store = q.store; way = q.way }) }
@@ -200,8 +201,8 @@ module _ (lang : Dialect) (limit : Option ℕ) (p : Program) (F : Fault → Type
   keeps_reads_into line c =
       keeps_takes_word line _ (λ w.
       keeps_evaluates (λ v. is_in_range lang.bits v ≡ true → Fits lang p c.name v) line _ _
-        (λ s h. weaker F (λ v. kind_of v ≡ kind_of (s.held c)) _ (read_value (s.held c) w) (λ v e r. same_kind (declared p.declarations c.name) (s.held c) v e r (h.kinds c)) (read_known (s.held c) w))
-        (λ v f. keeps_checks_range line v _ (λ r. keeps_counts_step _ (keeps_stores c v (f r)))))
+      (λ s h. weaker F (λ v. kind_of v ≡ kind_of (s.held c)) _ (read_value (s.held c) w) (λ v e r. same_kind (declared p.declarations c.name) (s.held c) v e r (h.kinds c)) (read_known (s.held c) w))
+      (λ v f. keeps_checks_range line v _ (λ r. keeps_counts_step _ (keeps_stores c v (f r)))))
 
   -- ---- loops
 

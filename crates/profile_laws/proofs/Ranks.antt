@@ -4,8 +4,7 @@ use Rattle.std.specs.Option.{IsSomeAnd}
 use Rattle.std.specs.Str.{bytes_eq}
 use Rattle.std.specs.Ordering.{int_eq}
 use Rattle.std.proofs.lemmas.Slice.Eq.{bytes_eq-Decides}
-use Rattle.fv_tree.specs.Steps.{◌>>=◌}
-use Rattle.fv_tree.specs.Operators.{apply, call, as_numbers, reduced}
+use Rattle.fv_tree.specs.Operators.{as_numbers, reduced}
 use Rattle.fv_tree.specs.Plain.{Expression, Number, Logic, Named, Unary, Binary, Apply, Constructor, Spread, Transpose, Reshape, Reduce, Expressions, no_expressions, expression, Subscript, Only, Section, Subscripts, no_subscripts, subscript, Extent, Given, Later, Declaration, Program}
 use Rattle.fv_tree.specs.declared.ops.Kind.{Kind}
 use Rattle.fv_tree.specs.declared.ops.Kind.TheVariants.{Integer}
@@ -17,12 +16,12 @@ use Rattle.fv_meaning.specs.Store.{Store, bounds_of, bounds_in}
 use Rattle.fv_meaning.specs.Typed.{declared, rank_of_extent, number_of_arguments}
 use Rattle.fv_meaning.specs.Typed90.{HasKind, AreArguments, AreSubscripts, IsSubscript, rank_of, rank_of_each, rank_of_subscripts, rank_of_subscript, rank_of_name}
 use Rattle.fv_meaning.specs.ArrayValues.{Array, Elements, each, scalar, settled, in_whole, positions, size, conform, with_extent, swapped, reshaped}
-use Rattle.fv_meaning.specs.Sections.{Selector, Index, Triplet, Vector, Axis, Fixed, Along, stands_in, all_stand_in, along, axis_on, axes_on, whole_axes, axes_selected, extents_of, triplet_numbers, not_negative}
-use Rattle.fv_meaning.specs.Value.{value_of, values_of, array_of, arguments_of, selector, selectors, selector_of, is_scalar, are_scalar, are_indices, is_index, is_bare, evaluated, numbered, under, together}
+use Rattle.fv_meaning.specs.Sections.{Selector, Index, Triplet, Vector, Axis, Fixed, Along, stands_in, all_stand_in, along, axis_on, axes_on, whole_axes, extents_of, triplet_numbers, not_negative}
+use Rattle.fv_meaning.specs.Value.{value_of, values_of, array_of, arguments_of, selector, selectors, selector_of, is_scalar, are_scalar, are_indices, is_index, is_bare, evaluated, numbered, under}
 use Rattle.fv_meaning.specs.Holding.{HasBounds, HoldsProgram}
 use Rattle.profile_laws.specs.Values.{ExtentsAreRank}
-use Rattle.profile_laws.proofs.Answering.{AnyFault, AnyValue, behind, value}
-use Rattle.profile_laws.proofs.ValueKinds.{Gives, any, after}
+use Rattle.profile_laws.proofs.Answering.{AnyFault, behind, value}
+use Rattle.profile_laws.proofs.ValueKinds.{Gives, after}
 use Rattle.profile_laws.proofs.TargetRuns.{numbers_length, values_length, length_map}
 
 -- ---- extents of operations
@@ -221,13 +220,13 @@ module _ (lang : Dialect) (p : Program) where
         behind AnyFault (Ranked (rank_of ds a)) (Ranked (max (rank_of ds a) (rank_of ds b))) (array_of lang a s) _ (array_rank a _ s h g.2) (λ q e.
         behind AnyFault (Ranked (rank_of ds b)) (Ranked (max (rank_of ds a) (rank_of ds b))) (array_of lang b s) _ (array_rank b _ s h g.3) (λ r f.
         behind AnyFault (Many (max (length q.extents) (length r.extents))) (Ranked (max (rank_of ds a) (rank_of ds b))) (conform q.extents r.extents) _ (conform_many q.extents r.extents)
-          (λ ns m. let w : length ns ≡ max (rank_of ds a) (rank_of ds b) = omega (arith, e, f, m) in w)))
+        (λ ns m. let w : length ns ≡ max (rank_of ds a) (rank_of ds b) = omega (arith, e, f, m) in w)))
     array_rank (Apply f es) k s h g =
         behind AnyFault (Ranked (max 0 (rank_of_each ds es))) (Ranked (rank_of_each ds es)) (arguments_of lang es [] s) _ (more_arguments es [] s h g.3) (λ q e. let w : length q.extents ≡ rank_of_each ds es = omega (arith, e) in w)
     array_rank (Constructor es ls) k s h g = after (Ranked 1) (under lang ls (values_of lang es) s) _ (λ vs. refl)
     array_rank (Spread a n e) k s h g =
         behind AnyFault (HasRank (rank_of ds a)) (Ranked (rank_of ds a + 1)) (evaluated (is_scalar a s.bounds) (value_of lang a s) (array_of lang a s)) _
-          (evaluated_rank (rank_of ds a) (is_scalar a s.bounds) (value_of lang a s) (array_of lang a s) (λ q. scalar_rank a k s h g.4 q) (array_rank a k s h g.4)) (λ v w.
+        (evaluated_rank (rank_of ds a) (is_scalar a s.bounds) (value_of lang a s) (array_of lang a s) (λ q. scalar_rank a k s h g.4 q) (array_rank a k s h g.4)) (λ v w.
         after (Ranked (rank_of ds a + 1)) (numbered (value_of lang e s)) _ (λ z. let m = inserted_many (n - 1) (not_negative z) v.extents in let r = w.many in let t : length (with_extent n (not_negative z) v.extents) ≡ rank_of ds a + 1 = omega (arith, m, r) in t))
     array_rank (Transpose a) k s h g =
         behind AnyFault (Ranked (rank_of ds a)) (Ranked 2) (array_of lang a s) _ (array_rank a k s h g.2) (λ q e.
@@ -246,7 +245,7 @@ module _ (lang : Dialect) (p : Program) where
         behind AnyFault (Ranked (rank_of ds e)) _ (array_of lang e s) _ (array_rank e _ s h g.0) (λ q m.
         behind AnyFault (Many (max (length ns) (length q.extents))) _ (conform ns q.extents) _ (conform_many ns q.extents) (λ ms c.
         behind AnyFault (Ranked (max (length ms) (rank_of_each ds es))) _ (arguments_of lang es ms s) _ (more_arguments es ms s h g.2)
-          (λ r f. let w : length r.extents ≡ max (length ns) (max (rank_of ds e) (rank_of_each ds es)) = omega (arith, m, c, f) in w)))
+        (λ r f. let w : length r.extents ≡ max (length ns) (max (rank_of ds e) (rank_of_each ds es)) = omega (arith, m, c, f) in w)))
 
     selectors_rank : (ps : Subscripts) (s : Store) → HoldsProgram lang p s → AreSubscripts ds ps → Gives (λ zs. rank_of_selectors zs ≡ rank_of_subscripts ds ps) (selectors lang ps s)
     selectors_rank no_subscripts s h g = refl
@@ -257,7 +256,7 @@ module _ (lang : Dialect) (p : Program) where
     one_selector : (r : Subscript) (s : Store) → HoldsProgram lang p s → IsSubscript ds r → Gives (λ z. rank_of_selector z ≡ rank_of_subscript ds r) (selector lang r s)
     one_selector (Only e) s h g =
         behind AnyFault (HasRank (rank_of ds e)) _ (evaluated (is_scalar e s.bounds) (value_of lang e s) (array_of lang e s)) _
-          (evaluated_rank (rank_of ds e) (is_scalar e s.bounds) (value_of lang e s) (array_of lang e s) (λ q. scalar_rank e Integer s h g.0 q) (array_rank e Integer s h g.0)) (λ v w.
+        (evaluated_rank (rank_of ds e) (is_scalar e s.bounds) (value_of lang e s) (array_of lang e s) (λ q. scalar_rank e Integer s h g.0 q) (array_rank e Integer s h g.0)) (λ v w.
         behind AnyFault (λ (zs : List ℤ). length zs ≡ length v.values) _ (as_numbers v.values) _ (numbers_length v.values) (λ zs m. selector_rank (rank_of ds e) v zs g.1 w m))
     one_selector (Section a b c) s h g = after _ (numbered (value_of lang a s)) _ (λ l. after _ (numbered (value_of lang b s)) _ (λ u. after _ (numbered (value_of lang c s)) _ (λ k. refl)))
 

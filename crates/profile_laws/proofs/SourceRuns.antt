@@ -1,29 +1,26 @@
 -- A run of a program of FORTRAN 77 meets plain faults alone.
-use Rattle.std.proofs.Common.{◌≡◌, refl, sym, ap, subst, ◌∙◌, ◌⊎◌, inl, inr, ℕ, ℤ, Bool, true, false, ◌&&◌, not, cond, Option, Some, None, IfSome, List, [], ◌∷◌, length, map, Result, Ok, Err, arith}
+use Rattle.std.proofs.Common.{◌≡◌, refl, sym, ap, subst, ◌∙◌, ◌⊎◌, inl, inr, ℕ, ℤ, Bool, true, false, ◌&&◌, not, cond, Option, Some, None, IfSome, List, [], ◌∷◌, length, map, Result, Ok, arith}
 use Rattle.std.specs.Option.{IsSomeAnd}
 use Rattle.fv_tree.specs.Steps.{◌>>=◌}
-use Rattle.fv_tree.specs.Operators.{fits, kind_of, as_number, as_truth}
+use Rattle.fv_tree.specs.Operators.{fits}
 use Rattle.fv_tree.specs.Plain.{Expression, Number, Logic, Named, Unary, Binary, Apply, Constructor, Spread, Transpose, Reshape, Reduce, Expressions, no_expressions, expression, Subscript, Only, Section, Subscripts, no_subscripts, subscript, Reference, Item, Single, Constant, ImpliedDo, Items, no_items, item, Statement, Assignment, Where, If, Do, Label, GoTo, Stop, Read, Print, Allocate, Deallocate, Arms, no_arms, arm, Block, no_statements, statement, Declaration, Program}
 use Rattle.fv_tree.specs.declared.ops.Kind.{Kind}
 use Rattle.fv_tree.specs.declared.ops.Kind.TheVariants.{Integer, Logical}
-use Rattle.fv_tree.specs.declared.ops.Value.{Value}
 use Rattle.fv_tree.specs.declared.ops.Value.TheVariants.{Int}
 use Rattle.fv_tree.specs.declared.ops.Fault.{Fault}
 use Rattle.fv_meaning.specs.Dialect.{Dialect}
-use Rattle.fv_meaning.specs.Store.{Store, Cell, cell_at, bounds_of, bounds_in, cells_of}
+use Rattle.fv_meaning.specs.Store.{Store, Cell, cell_at, bounds_in, cells_of}
 use Rattle.fv_meaning.specs.Typed.{declared, dimensions, number_of_subscripts}
 use Rattle.fv_meaning.specs.Typed77 as typed
 use Rattle.fv_meaning.specs.Typed77.{HasKind, AreArguments, AreSubscripts, IsSubscript}
 use Rattle.fv_meaning.specs.Profile77 as source
 use Rattle.fv_meaning.specs.Profile77.{IsFixed, IsProgram77}
 use Rattle.fv_meaning.specs.Blocks.{Surroundings, outermost, within_loop, before_labels, labels_of}
-use Rattle.fv_meaning.specs.Value.{value_of, subscript_values, cell_named, item_cells, item_values, all_elements, is_array, is_scalar, are_scalar, are_indices, is_index, is_bare, named, number_of, truth_of}
+use Rattle.fv_meaning.specs.Value.{value_of, subscript_values, item_cells, item_values, all_elements, is_array, is_scalar, are_scalar, are_indices, is_index, is_bare, named, number_of, truth_of}
 use Rattle.fv_meaning.specs.Holding.{IsStorable, HoldsProgram}
-use Rattle.fv_meaning.specs.Run.{Way, Failed, run}
 use Rattle.fv_meaning.proofs.ArrayLaws.{whole_name}
 use Rattle.profile_laws.specs.Faults.{IsPlainFault, SourceValueHasKind, SourceValueFaultIsPlain, SourceRunFaultIsPlain}
-use Rattle.profile_laws.proofs.Answering.{Answers, AnyValue, value, fault}
-use Rattle.profile_laws.proofs.Stores.{Fits}
+use Rattle.profile_laws.proofs.Answering.{AnyValue, value, fault}
 use Rattle.profile_laws.proofs.ValueKinds.{IsKind}
 use Rattle.profile_laws.proofs.SourceValues.{Plainly, next, integer_plain, truth_plain, IsKnown, known, cell_known, value_plain, subscripts_plain}
 use Rattle.profile_laws.proofs.Programs.{fixed}

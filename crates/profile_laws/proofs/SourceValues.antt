@@ -1,5 +1,5 @@
 -- The value of an expression of FORTRAN 77 has its kind, and its faults are plain ones.
-use Rattle.std.proofs.Common.{◌≡◌, refl, sym, ap, subst, ◌∙◌, ℕ, zero, suc, ◌+◌, ◌^◌, ◌-◌, ◌<◌, ◌≤◌, ℤ, pos, negsuc, neg_ℤ, ◌*ℤ◌, ◌-ℤ◌, int_div, Bool, true, false, ◌&&◌, not, cond, Option, Some, None, IfSome, List, [], ◌∷◌, length, Result, Ok, Err, arith}
+use Rattle.std.proofs.Common.{◌≡◌, refl, sym, subst, ◌∙◌, ℕ, suc, ◌≤◌, ℤ, pos, negsuc, neg_ℤ, ◌*ℤ◌, ◌-ℤ◌, int_div, Bool, true, false, cond, Option, Some, None, IfSome, List, [], ◌∷◌, length, Result, Ok, Err, arith}
 use Rattle.std.specs.List.{AllByRecursion}
 use Rattle.std.specs.Option.{IsSomeAnd}
 use Rattle.std.specs.Ordering.{int_eq}
@@ -7,14 +7,14 @@ use Rattle.std.specs.Int.{int_pow}
 use Rattle.std.proofs.lemmas.Bool.{leb-true}
 use Rattle.std.proofs.lemmas.Bool.Decides.{Decides-eqb}
 use Rattle.fv_tree.specs.Steps.{◌>>=◌}
-use Rattle.fv_tree.specs.Operators.{number, ranged, quotient, remainder, power, exact_value, exact_call, on_numbers, on_truths, apply, is_neg, is_not, exact_of_values, as_number, as_numbers, as_truth, call, fits, kind_of}
+use Rattle.fv_tree.specs.Operators.{number, ranged, quotient, remainder, power, exact_value, exact_call, on_numbers, on_truths, apply, exact_of_values, as_number, as_numbers, as_truth, call, fits}
 use Rattle.fv_tree.specs.Plain.{Expression, Number, Logic, Named, Unary, Binary, Apply, Constructor, Spread, Transpose, Reshape, Reduce, Expressions, no_expressions, expression, Subscript, Only, Section, Subscripts, no_subscripts, subscript, Extent, Given, Later, Declaration, Program}
 use Rattle.fv_tree.specs.declared.ops.Kind.{Kind}
 use Rattle.fv_tree.specs.declared.ops.Kind.TheVariants.{Integer, Logical}
 use Rattle.fv_tree.specs.declared.ops.Value.{Value}
 use Rattle.fv_tree.specs.declared.ops.Value.TheVariants.{Int, Truth}
 use Rattle.fv_tree.specs.declared.ops.Fault.{Fault}
-use Rattle.fv_tree.specs.declared.ops.Fault.TheVariants.{Overflow, ZeroDivide, Bounds, Shape}
+use Rattle.fv_tree.specs.declared.ops.Fault.TheVariants.{Overflow, ZeroDivide, Bounds}
 use Rattle.fv_tree.specs.declared.ops.Op.{Op}
 use Rattle.fv_tree.specs.declared.ops.Op.TheVariants.{Pow, Mul, Div, Neg, Add, Sub, Lt, Le, Eq, Ne, Gt, Ge, Not, And, Or, Eqv, Neqv}
 use Rattle.fv_tree.specs.declared.functions.Fun.{Fun}
@@ -29,7 +29,7 @@ use Rattle.fv_meaning.specs.Profile77.{IsFixed}
 use Rattle.fv_meaning.specs.Value.{value_of, values_of, subscript_values, subscript_value}
 use Rattle.fv_meaning.specs.Holding.{HasBounds, IsStorable, HoldsProgram}
 use Rattle.profile_laws.specs.Faults.{IsPlainFault}
-use Rattle.profile_laws.proofs.Answering.{Answers, AnyValue, behind, weaker}
+use Rattle.profile_laws.proofs.Answering.{Answers, AnyValue, behind}
 use Rattle.profile_laws.proofs.ValueKinds.{IsKind}
 
 abbrev pub Plainly : {A : Type 0} → (A → Type 0) → Result A Fault → Type 0

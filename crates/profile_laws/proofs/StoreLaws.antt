@@ -1,17 +1,15 @@
 -- Stores that hold one program and another, and stores that agree.
-use Rattle.std.proofs.Common.{◌≡◌, refl, sym, ap, subst, ◌∙◌, ◌⊎◌, inl, inr, ℕ, Bool, true, false, cond, Option, Some, None, IfSome, List, [], ◌∷◌, map, Contains}
+use Rattle.std.proofs.Common.{◌≡◌, refl, sym, subst, ◌∙◌, ◌⊎◌, inl, inr, ℕ, Bool, true, false, cond, Option, Some, None, IfSome, List, [], ◌∷◌, map, Contains}
 use Rattle.std.specs.Str.{bytes_eq}
 use Rattle.std.proofs.lemmas.Slice.Eq.{bytes_eq-Decides}
 use Rattle.fv_tree.specs.Operators.{kind_of}
-use Rattle.fv_tree.specs.Plain.{Declaration, Program}
-use Rattle.fv_tree.specs.declared.ops.Kind.{Kind}
-use Rattle.fv_tree.specs.declared.ops.Kind.TheVariants.{Integer, Logical}
+use Rattle.fv_tree.specs.Plain.{Declaration}
 use Rattle.fv_tree.specs.declared.ops.Value.{Value}
 use Rattle.fv_tree.specs.declared.ops.Value.TheVariants.{Int, Truth}
 use Rattle.fv_meaning.specs.Dialect.{Dialect}
-use Rattle.fv_meaning.specs.Store.{Store, Cell, nought_like, names_of}
+use Rattle.fv_meaning.specs.Store.{nought_like}
 use Rattle.fv_meaning.specs.Typed.{declared}
-use Rattle.fv_meaning.specs.Holding.{HasBounds, IsStorable, HoldsProgram}
+use Rattle.fv_meaning.specs.Holding.{HasBounds, IsStorable}
 use Rattle.profile_laws.specs.Stores.{StoreHoldsFewer, HeldStoresAgree}
 use Rattle.profile_laws.proofs.Lists.{nowhere, cases_of}
 use Rattle.profile_laws.proofs.Programs.{kept_declaration}

@@ -1,12 +1,11 @@
 -- Stores that hold a program: the first one of its runs, and those with one more value or array.
-use Rattle.std.proofs.Common.{◌≡◌, refl, sym, ap, subst, ◌∙◌, ℕ, ◌^◌, ℤ, pos, Bool, true, false, ◌&&◌, cond, Option, Some, None, IfSome, List, [], ◌∷◌, length}
+use Rattle.std.proofs.Common.{◌≡◌, refl, subst, ℕ, ◌^◌, ℤ, Bool, true, false, ◌&&◌, cond, Option, Some, None, IfSome, List, [], ◌∷◌}
 use Rattle.std.proofs.lemmas.Nat.{pow_pos}
 use Rattle.std.proofs.lemmas.Bool.Decides.{Decides-ltb}
 use Rattle.std.proofs.lemmas.Slice.Eq.{bytes_eq-Decides}
 use Rattle.std.specs.Str.{bytes_eq}
 use Rattle.std.specs.Cmp.Lexicographic.{pointwise}
 use Rattle.std.specs.Ordering.{int_eq}
-use Rattle.fv_tree.specs.Operators.{kind_of}
 use Rattle.fv_tree.specs.Plain.{Extent, Given, Later, Declaration, Program}
 use Rattle.fv_tree.specs.declared.ops.Kind.{Kind}
 use Rattle.fv_tree.specs.declared.ops.Kind.TheVariants.{Integer, Logical}
@@ -15,7 +14,6 @@ use Rattle.fv_tree.specs.declared.ops.Value.TheVariants.{Int, Truth}
 use Rattle.fv_meaning.specs.Dialect.{Dialect}
 use Rattle.fv_meaning.specs.Store.{Store, Cell, put, same_cell, nought, nought_like, opening_bounds, opening_value, opening_store, with_bounds, allocated}
 use Rattle.fv_meaning.specs.Typed.{declared}
-use Rattle.fv_meaning.specs.Value.{is_in_range}
 use Rattle.fv_meaning.specs.Holding.{HasBounds, IsStorable, HoldsProgram}
 
 -- ---- 0 and `.FALSE.`

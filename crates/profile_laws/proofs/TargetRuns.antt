@@ -1,35 +1,30 @@
 -- Of the statements of a Fortran 90 program enough is known for each run to keep a store that holds the program.
-use Rattle.std.proofs.Common.{◌≡◌, refl, sym, ap, subst, ◌∙◌, ◌⊎◌, inl, inr, ℕ, ◌+◌, ℤ, pos, Bool, true, false, cond, Option, Some, None, IfSome, List, [], ◌∷◌, map, length, Result, Ok, Err, arith}
+use Rattle.std.proofs.Common.{◌≡◌, refl, sym, subst, ◌∙◌, ℕ, ℤ, pos, Bool, true, false, cond, Option, Some, None, IfSome, List, [], ◌∷◌, map, length, Ok, Err, arith}
 use Rattle.std.specs.List.{AllByRecursion, zip}
 use Rattle.std.specs.Option.{IsSomeAnd}
-use Rattle.fv_tree.specs.Steps.{◌>>=◌}
-use Rattle.fv_tree.specs.Operators.{fits, kind_of, as_number, as_numbers, as_truth}
+use Rattle.fv_tree.specs.Operators.{as_number, as_numbers, as_truth}
 use Rattle.fv_tree.specs.Plain.{Expression, Expressions, no_expressions, expression, Logic, Named, Unary, Binary, Apply, Constructor, Spread, Transpose, Reshape, Reduce, Number, Reference, Item, Single, Constant, ImpliedDo, Items, no_items, item, Statement, Assignment, Where, If, Do, Label, GoTo, Stop, Read, Print, Allocate, Deallocate, Arms, no_arms, arm, Block, no_statements, statement, Extent, Given, Later, Declaration, Program}
 use Rattle.fv_tree.specs.declared.ops.Kind.{Kind}
-use Rattle.fv_tree.specs.declared.ops.Kind.TheVariants.{Integer}
 use Rattle.fv_tree.specs.declared.ops.Value.{Value}
-use Rattle.fv_tree.specs.declared.ops.Value.TheVariants.{Int, Truth}
-use Rattle.fv_tree.specs.declared.ops.Fault.{Fault}
-use Rattle.fv_tree.specs.declared.ops.Fault.TheVariants.{Overflow, Allocated}
+use Rattle.fv_tree.specs.declared.ops.Fault.TheVariants.{Overflow}
 use Rattle.fv_meaning.specs.Dialect.{Dialect}
-use Rattle.fv_meaning.specs.Store.{Store, Cell, cell_at, bounds_of}
-use Rattle.fv_meaning.specs.Typed.{declared, rank_of_extent, number_of_arguments}
+use Rattle.fv_meaning.specs.Store.{Store, Cell, bounds_of}
+use Rattle.fv_meaning.specs.Typed.{declared, number_of_arguments}
 use Rattle.fv_meaning.specs.Blocks.{Surroundings, outermost, within_loop, before_labels, labels_of}
 use Rattle.fv_meaning.specs.ArrayValues.{Elements, each, positions, conform}
-use Rattle.fv_meaning.specs.Sections.{Axis, extents_of, cells_along}
-use Rattle.fv_meaning.specs.Value.{value_of, values_of, array_of, subscript_values, cell_named, is_array, named, is_in_range}
-use Rattle.fv_meaning.specs.ArrayStatements.{second, where_true, free, axes_named, storable, writes_of, allocated_bounds}
+use Rattle.fv_meaning.specs.Sections.{extents_of, cells_along}
+use Rattle.fv_meaning.specs.Value.{value_of, values_of, array_of, subscript_values, named, is_in_range}
+use Rattle.fv_meaning.specs.ArrayStatements.{second, where_true, free, axes_named, storable, writes_of}
 use Rattle.fv_meaning.specs.Holding.{HasBounds, IsStorable, HoldsProgram}
-use Rattle.fv_meaning.specs.Run.{Way, Going, Jumping, Stopped, Failed, Cut, run, does_all}
+use Rattle.fv_meaning.specs.Run.{Way, Going, Jumping, Stopped, Failed, Cut}
 use Rattle.fv_meaning.specs.Typed90 as typed
 use Rattle.fv_meaning.specs.Typed90.{HasKind, IsIntegerScalar}
 use Rattle.fv_meaning.specs.Profile90 as target
 use Rattle.fv_meaning.specs.Profile90.{IsProgram90, IsWhole, IsAllocatable}
-use Rattle.fv_meaning.proofs.Kept.{Keeps}
-use Rattle.profile_laws.proofs.Answering.{Answers, AnyFault, AnyValue, behind, weaker, each_answers, all_any}
+use Rattle.profile_laws.proofs.Answering.{AnyFault, AnyValue, behind, weaker, each_answers, all_any}
 use Rattle.profile_laws.proofs.Stores.{Fits, opening_holds}
 use Rattle.profile_laws.proofs.ValueKinds.{Gives, IsKind, ElementsAre, any, after, cell_is, integer_fits, value_is, array_is}
-use Rattle.profile_laws.proofs.Parts.{AllowsRest, Allowed, Good, IsVariable}
+use Rattle.profile_laws.proofs.Parts.{AllowsRest, Allowed, IsVariable}
 use Rattle.profile_laws.specs.Stores.{OpeningStoreHolds, StatementsKeepStores, RunHolds, SourceRunHolds}
 use Rattle.profile_laws.proofs.Targets.{block_is}
 use Rattle.profile_laws.proofs.Programs.{as_it_stands}
@@ -111,7 +106,7 @@ module _ (lang : Dialect) (p : Program) where
       after Q (array_of lang mask s) _ (λ m. after Q (axes_named lang left s) _ (λ axes. after Q (conform m.extents (extents_of axes)) _ (λ ns.
       behind AnyFault (ElementsAre k) Q (array_of lang right s) _ (array_is lang p right k s h g) (λ a ka. after Q (conform ns a.extents) _ (λ ms.
       behind AnyFault (AllByRecursion (Of left.name)) Q (where_true m (zip (positions (extents_of axes)) (cells_along left.name axes))) _
-        (chosen_are left.name m _ (placed left.name (positions (extents_of axes)) (cells_along left.name axes) (cells_of_name left.name _))) (λ chosen qc.
+      (chosen_are left.name m _ (placed left.name (positions (extents_of axes)) (cells_along left.name axes) (cells_of_name left.name _))) (λ chosen qc.
       behind AnyFault (AllByRecursion (IsKind k)) Q (each (λ (q : List ℕ × Cell). a.at q.0) chosen) _ (each_answers AnyFault AnyValue (IsKind k) (λ q. a.at q.0) chosen (λ q u. ka q.0) (all_any chosen)) (λ xs qx.
       behind AnyFault (AllByRecursion (Storable k)) Q (each (storable lang) xs) _ (each_answers AnyFault (IsKind k) (Storable k) (storable lang) xs (storable_is k) qx) (λ vs qv.
       written left.name k f chosen vs qc qv))))))))

@@ -1,13 +1,13 @@
 -- The value of an expression has its kind, and so have the elements of an array.
-use Rattle.std.proofs.Common.{◌≡◌, refl, sym, ap, subst, ◌∙◌, ℕ, zero, suc, ◌+◌, ◌^◌, ◌-◌, ℤ, pos, ◌+ℤ◌, ◌-ℤ◌, neg_ℤ, Bool, true, false, cond, Option, Some, None, IfSome, List, [], ◌∷◌, ◌++◌, map, length, Result, Ok, Err}
+use Rattle.std.proofs.Common.{◌≡◌, refl, sym, subst, ◌∙◌, ℕ, zero, suc, ◌^◌, ◌-◌, ℤ, pos, ◌+ℤ◌, ◌-ℤ◌, neg_ℤ, Bool, true, false, cond, Option, Some, None, IfSome, List, [], ◌∷◌, ◌++◌, map, length, Result, Ok, Err}
 use Rattle.std.specs.List.{AllByRecursion, fold}
 use Rattle.std.specs.Int.{int_max, int_min}
 use Rattle.std.specs.Option.{IsSomeAnd}
 use Rattle.fv_tree.specs.Steps.{◌>>=◌}
-use Rattle.fv_tree.specs.Operators.{number, ranged, exact_value, on_numbers, on_truths, apply, is_neg, is_not, takes_truths, exact_of_values, as_numbers, call, fits, kind_of, sum_from, reduced}
-use Rattle.fv_tree.specs.Plain.{Expression, Number, Logic, Named, Unary, Binary, Apply, Constructor, Spread, Transpose, Reshape, Reduce, Expressions, no_expressions, expression, Subscripts, no_subscripts, subscript, Loops, no_loops, loop, Declaration, Program}
+use Rattle.fv_tree.specs.Operators.{number, ranged, exact_value, on_numbers, on_truths, apply, is_neg, is_not, exact_of_values, as_numbers, call, fits, kind_of, sum_from, reduced}
+use Rattle.fv_tree.specs.Plain.{Expression, Number, Logic, Named, Unary, Binary, Apply, Constructor, Spread, Transpose, Reshape, Reduce, Expressions, no_expressions, expression, Loops, no_loops, loop, Declaration, Program}
 use Rattle.fv_tree.specs.declared.ops.Kind.{Kind}
-use Rattle.fv_tree.specs.declared.ops.Kind.TheVariants.{Integer, Logical}
+use Rattle.fv_tree.specs.declared.ops.Kind.TheVariants.{Integer}
 use Rattle.fv_tree.specs.declared.ops.Value.{Value}
 use Rattle.fv_tree.specs.declared.ops.Value.TheVariants.{Int, Truth}
 use Rattle.fv_tree.specs.declared.ops.Fault.{Fault}
@@ -22,12 +22,12 @@ use Rattle.fv_meaning.specs.Store.{Store, Cell, cell_at, cell_in, bounds_of, num
 use Rattle.fv_tree.specs.OperatorTable.{result_kind_of}
 use Rattle.fv_meaning.specs.Typed.{declared, rank_of_extent}
 use Rattle.fv_meaning.specs.Typed90.{HasKind, AreScalars, AreLoops, IsIntegerScalar}
-use Rattle.fv_meaning.specs.ArrayValues.{Array, Elements, each, scalar, settled, in_whole, value_at, place_of, positions, conform, mapped, paired, spread, transposed, reshaped, size}
-use Rattle.fv_meaning.specs.Sections.{Axis, axes_selected, extents_of, cells_along, not_negative}
+use Rattle.fv_meaning.specs.ArrayValues.{Array, Elements, each, scalar, settled, in_whole, value_at, place_of, positions, conform, reshaped}
+use Rattle.fv_meaning.specs.Sections.{axes_selected, not_negative}
 use Rattle.fv_meaning.specs.Value.{value_of, values_of, array_of, arguments_of, subscript_values, selectors, with_arrays, evaluated, numbered, under, for_numbers, bound_to, joined, is_scalar}
 use Rattle.fv_meaning.specs.Holding.{IsStorable, HoldsProgram}
 use Rattle.profile_laws.specs.Values.{ValueHasKind, ElementsHaveKind}
-use Rattle.profile_laws.proofs.Answering.{Answers, AnyFault, AnyValue, behind, weaker, value, known, each_answers}
+use Rattle.profile_laws.proofs.Answering.{Answers, AnyFault, AnyValue, behind, value, each_answers}
 use Rattle.profile_laws.proofs.Stores.{Fits, put_holds}
 
 abbrev pub IsKind : Kind → Value → Type 0

@@ -1,8 +1,8 @@
 -- Statements of which enough is known keep a store that holds the program, and bring no fault but those of F.
-use Rattle.std.proofs.Common.{◌≡◌, refl, sym, subst, ℕ, ℤ, Bool, true, false, Option, Some, None, IfSome, List, [], ◌∷◌, Result, Ok, Err}
+use Rattle.std.proofs.Common.{◌≡◌, sym, subst, ℕ, true, Option, Some, None, IfSome, List, [], ◌∷◌, Result}
 use Rattle.std.specs.List.{AllByRecursion}
 use Rattle.fv_tree.specs.Operators.{kind_of}
-use Rattle.fv_tree.specs.Plain.{Expression, Expressions, Logic, Named, Reference, Subscripts, Item, Single, Constant, ImpliedDo, Items, no_items, item, Statement, Assignment, Where, If, Do, Label, GoTo, Stop, Read, Print, Allocate, Deallocate, Arms, no_arms, arm, Block, no_statements, statement, Declaration, Program}
+use Rattle.fv_tree.specs.Plain.{Expression, Expressions, Logic, Named, Reference, Item, Single, Constant, ImpliedDo, Items, no_items, item, Statement, Assignment, Where, If, Do, Label, GoTo, Stop, Read, Print, Allocate, Deallocate, Arms, no_arms, arm, Block, no_statements, statement, Declaration, Program}
 use Rattle.fv_tree.specs.declared.stmts.Mark.{Mark}
 use Rattle.fv_tree.specs.declared.ops.Kind.{Kind}
 use Rattle.fv_tree.specs.declared.ops.Value.{Value}
@@ -13,10 +13,10 @@ use Rattle.fv_meaning.specs.Texts.{output_text}
 use Rattle.fv_meaning.specs.Typed.{declared}
 use Rattle.fv_meaning.specs.Value.{value_of, truth_of, cell_named, item_cells, item_values, is_array, named, is_in_range}
 use Rattle.fv_meaning.specs.ArrayStatements.{writes_of, allocated_bounds}
-use Rattle.fv_meaning.specs.Holding.{HasBounds, IsStorable, HoldsProgram}
-use Rattle.fv_meaning.specs.Run.{State, Way, Going, Jumping, Stopped, Act, nothing, either, goes, first_blank, arrives, assigns, array_assigns, reads_item, reads_items, prints_item, prints_items, does, chooses, does_all, run, opening_state}
+use Rattle.fv_meaning.specs.Holding.{HasBounds, HoldsProgram}
+use Rattle.fv_meaning.specs.Run.{Going, Jumping, Stopped, Act, nothing, goes, first_blank, arrives, assigns, array_assigns, reads_item, reads_items, prints_item, prints_items, does, chooses, does_all, run, opening_state}
 use Rattle.fv_meaning.proofs.Kept.{Keeps}
-use Rattle.profile_laws.proofs.Answering.{Answers, AnyValue, all_any}
+use Rattle.profile_laws.proofs.Answering.{AnyValue, all_any}
 use Rattle.profile_laws.proofs.Stores.{Fits, opening_holds}
 use Rattle.profile_laws.proofs.Parts.{AllowsRest, Good, Known, IsNumeric, IsVariable, keeps_nothing, keeps_then, keeps_goes, keeps_either, keeps_evaluates, keeps_for_each, keeps_writes, keeps_allocates, keeps_deallocates, keeps_counts_step, keeps_checks_range, keeps_stores, keeps_begins_line, keeps_skips_line, keeps_reads_into, keeps_loops, keeps_elements}
 

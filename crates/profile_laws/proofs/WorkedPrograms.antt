@@ -1,8 +1,8 @@
 -- Worked programs of Fortran 90, trees that are none, and how deep printed expressions are.
-use Rattle.std.proofs.Common.{◌≡◌, refl, rules, ◌<◌, ◌≤◌, List, [], ◌∷◌, pos, None, arith}
+use Rattle.std.proofs.Common.{◌≡◌, refl, rules, List, [], ◌∷◌, pos, None, arith}
 use lib.Chars.{codes}
-use Rattle.fv_tree.specs.Plain.{Expression, Logic, Named, Unary, Binary, Apply, Constructor, Spread, Transpose, Reshape, Reduce, Only, subscripts, expressions, no_loops, loop, Single, Constant, ImpliedDo, item, no_items, items, Statement, Assignment, Where, If, Do, Label, GoTo, Print, Read, Allocate, Deallocate, no_arms, arm, block, no_statements, Later, Declaration, Program}
-use Rattle.fv_tree.specs.declared.ops.Kind.TheVariants.{Integer, Logical}
+use Rattle.fv_tree.specs.Plain.{Unary, Binary, Apply, Constructor, Spread, Transpose, Reshape, Reduce, Only, subscripts, expressions, no_loops, loop, Single, Constant, ImpliedDo, items, Assignment, Where, If, Do, Label, GoTo, Print, Read, Allocate, Deallocate, no_arms, arm, block, no_statements, Later, Declaration, Program}
+use Rattle.fv_tree.specs.declared.ops.Kind.TheVariants.{Integer}
 use Rattle.fv_tree.specs.declared.ops.Op.TheVariants.{Pow, Mul, Neg, Add, Sub, Lt, Not, And}
 use Rattle.fv_tree.specs.declared.functions.Fun.TheVariants.{Max}
 use Rattle.fv_tree.specs.declared.functions.Red.TheVariants.{Sum}
@@ -94,12 +94,12 @@ arrays = program (integers "A" ((pos 1, pos 10) ∷ []) ∷ made ∷ integer "I"
     ∷ Allocate 7 (codes "FV_EXP_T") (expressions (v "I" ∷ n 2 ∷ []))
     ∷ Where 8 None (v "M") (to "A") (Apply Max (expressions (v "A" ∷ Binary Sub (n 3) (v "I") ∷ [])))
     ∷ Assignment 9 None (record { name = codes "A"; subscripts = subscripts (triplet (n 1) (n 9) (n 2) ∷ []) })
-        (Constructor (expressions (Binary Mul (v "I") (n 2) ∷ [])) (loop (codes "I") (n 1) (n 5) no_loops))
+    (Constructor (expressions (Binary Mul (v "I") (n 2) ∷ [])) (loop (codes "I") (n 1) (n 5) no_loops))
     ∷ Assignment 10 None (record { name = codes "FV_EXP_T"; subscripts = subscripts (triplet (n 1) (n 10) (n 1) ∷ triplet (n 1) (n 2) (n 1) ∷ []) }) (Spread (v "A") 2 (n 2))
     ∷ Do 11 (codes "I") (n 1) (n 10) (n 1) (block (
-        If 12 (arm (at "M" (v "I" ∷ [])) (block (GoTo 13 10 ∷ [])) no_arms) no_statements
-        ∷ Assignment 15 None (record { name = codes "A"; subscripts = subscripts (Only (Constructor (expressions (v "I" ∷ n 1 ∷ [])) no_loops) ∷ []) }) (Unary Neg (v "I"))
-        ∷ []))
+    If 12 (arm (at "M" (v "I" ∷ [])) (block (GoTo 13 10 ∷ [])) no_arms) no_statements
+    ∷ Assignment 15 None (record { name = codes "A"; subscripts = subscripts (Only (Constructor (expressions (v "I" ∷ n 1 ∷ [])) no_loops) ∷ []) }) (Unary Neg (v "I"))
+    ∷ []))
     ∷ Label 10
     ∷ Print 18 (items (Single (Reduce Sum (v "A")) ∷ Constant (codes "A") ∷ Single (Reshape (v "A") (expressions (n 2 ∷ n 5 ∷ []))) ∷ Single (Transpose (v "FV_EXP_T")) ∷ []))
     ∷ Deallocate 19 (codes "FV_EXP_T")

@@ -1,5 +1,5 @@
 -- What is known of the value of an expression by its kind.
-use Rattle.std.specs.Prelude.{◌≡◌, Ok, Err, ℕ, List, length}
+use Rattle.std.specs.Prelude.{◌≡◌, Ok, ℕ, List, length}
 use Rattle.fv_tree.specs.Operators.{kind_of}
 use Rattle.fv_tree.specs.Plain.{Expression, Program}
 use Rattle.fv_tree.specs.declared.ops.Kind.{Kind}

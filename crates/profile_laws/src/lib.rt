@@ -5,5 +5,6 @@
 mod laws;
 
 pub use laws::{
-    held_stores, jumps_forward, source_faults_are_plain, source_is_target, stores_hold_program, values_have_kinds,
+    held_stores, jumps_forward, source_faults_are_plain, source_is_target, stores_hold_program,
+    values_have_kinds,
 };
