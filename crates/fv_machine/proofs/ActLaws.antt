@@ -1,5 +1,5 @@
 -- How what a machine does is put together, as acts are.
-use Rattle.std.proofs.Common.{◌≡◌, refl, sym, ap, ◌∙◌, subst, ℕ, ◌+◌, ◌<◌, Bool, true, false, List, ◌++◌, length, set, drop, Result, Ok, Err, Option, Some, append_assoc, arith}
+use Rattle.std.proofs.Common.{◌≡◌, refl, sym, ap, ◌∙◌, subst, ℕ, ◌+◌, ◌<◌, Bool, true, false, List, ◌++◌, drop, Result, Ok, Err, Option, Some, append_assoc, arith}
 use Rattle.std.specs.Io.KnownBytes.{append_known}
 use Rattle.fv_tree.specs.Plain.{Declaration}
 use Rattle.fv_tree.specs.declared.ops.Value.{Value}
@@ -9,7 +9,7 @@ use Rattle.fv_meaning.specs.Dialect.{Dialect}
 use Rattle.fv_meaning.specs.Store.{Store, Cell, put}
 use Rattle.fv_meaning.specs.Value.{is_in_range}
 use Rattle.fv_meaning.specs.Texts.{without_cr}
-use Rattle.fv_meaning.specs.Run.{State, Act, Way, Going, Failed, Cut, then, either, goes, while_going, on_way, answered, evaluates, stores, counts_step, checks_range, is_allowed, nothing}
+use Rattle.fv_meaning.specs.Run.{State, Act, Going, Failed, Cut, then, either, goes, while_going, on_way, answered, evaluates, stores, counts_step, checks_range, is_allowed, nothing}
 use Rattle.fv_machine.specs.Moments.{Seen}
 use Rattle.fv_machine.specs.declared.progress.Halt.{Halt}
 use Rattle.fv_machine.specs.declared.progress.Halt.TheVariants.{Jump, Stop, Fault as Fault', Limit}

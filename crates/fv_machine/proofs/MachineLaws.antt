@@ -1,5 +1,5 @@
 -- Whole runs.
-use Rattle.std.proofs.Common.{◌≡◌, refl, sym, ap, ◌∙◌, subst, ℕ, ◌-◌, false, List, [], drop, Result, Ok, Err, Option, Some, None, append-nil, arith}
+use Rattle.std.proofs.Common.{◌≡◌, refl, sym, ap, ◌∙◌, subst, ℕ, ◌-◌, List, [], Result, Ok, Err, Option, Some, None, append-nil, arith}
 use Rattle.std.specs.Prelude.{IsSome}
 use Rattle.std.specs.Io.KnownBytes.{append_known}
 use Rattle.fv_tree.specs.Plain.{Declaration, Program, Block}
@@ -7,7 +7,6 @@ use Rattle.fv_meaning.specs.Dialect.{Dialect}
 use Rattle.fv_meaning.specs.Store.{Store}
 use Rattle.fv_meaning.specs.Sequential.{ending, end_of}
 use Rattle.fv_meaning.specs.Jumps.{AllJumpsForward}
-use Rattle.fv_meaning.specs.Texts.{without_cr}
 use Rattle.fv_meaning.specs.Run.{State, Way, Going, opening_state, does_all, run}
 use Rattle.fv_meaning.specs.declared.End.{End}
 use Rattle.fv_meaning.proofs.Arriving.{every_run_ends}

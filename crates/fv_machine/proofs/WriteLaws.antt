@@ -1,14 +1,11 @@
 -- What is written to a sink, as a run writes it.
-use Rattle.std.proofs.Common.{◌≡◌, refl, sym, ap, ◌∙◌, subst, ℕ, ℤ, Bool, List, [], ◌∷◌, ◌++◌, take, drop, get_or, length, map, ◌+◌, ◌<◌, Bor, Result, Ok, Err, Option, Some, None, append_assoc, append-nil}
+use Rattle.std.proofs.Common.{◌≡◌, refl, sym, ap, ◌∙◌, subst, ℕ, List, [], ◌∷◌, ◌++◌, take, drop, get_or, length, ◌+◌, ◌<◌, Result, Ok, Err, Option, append_assoc, append-nil}
 use Rattle.std.proofs.lemmas.List.{take_more, take-append-drop, drop_more}
-use Rattle.std.specs.Prelude.{MatchResult, slice_get}
-use Rattle.fv_machine.specs.declared.progress.Halt.TheVariants.{Fault as Fault'}
 use Rattle.fv_io.specs.Streams.{Gives, GivesPart}
 use Rattle.fv_io.specs.declared.errors.WriteFault.{WriteFault}
 use Rattle.fv_io.proofs.Chained.{gives_more, part_after, part_before}
 use Rattle.fv_tree.specs.Plain as P
 use Rattle.fv_tree.specs.declared.ops.Value.{Value}
-use Rattle.fv_tree.specs.declared.ops.Fault.{Fault}
 use Rattle.fv_meaning.specs.Dialect.{Dialect}
 use Rattle.fv_meaning.specs.Value.{item_values}
 use Rattle.fv_meaning.specs.Texts.{output_text, value_text}

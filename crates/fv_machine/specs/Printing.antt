@@ -1,15 +1,11 @@
 -- PRINT, with the values of whole arrays.
-use Rattle.std.specs.Prelude.{◌≡◌, Result, Ok, Option, ℕ, List, [], ◌∷◌, map}
-use Rattle.fv_tree.specs.Steps.{◌>>=◌}
+use Rattle.std.specs.Prelude.{Option, ℕ, List, [], ◌∷◌, map}
 use Rattle.fv_tree.specs.Plain.{Expression, Items, items}
 use Rattle.fv_tree.specs.View.{item_of}
 use Rattle.fv_tree.specs.declared.stmts.Item.{Item}
-use Rattle.fv_tree.specs.declared.ops.Value.{Value}
-use Rattle.fv_tree.specs.declared.ops.Fault.{Fault}
-use Rattle.fv_meaning.specs.Store.{Store, bounds_of, cells_of}
 use Rattle.fv_meaning.specs.Dialect.{Dialect}
 use Rattle.fv_meaning.specs.Texts.{output_text}
-use Rattle.fv_meaning.specs.Value.{value_of, item_values}
+use Rattle.fv_meaning.specs.Value.{item_values}
 use Rattle.fv_meaning.specs.Run.{Act, evaluates, writes, then, prints_items, first_blank}
 
 abbrev pub prints_value : Dialect → ℕ → Expression → Act

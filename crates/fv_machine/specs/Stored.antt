@@ -1,5 +1,5 @@
 -- The store that a machine's values stand for, and where its cells are.
-use Rattle.std.specs.Prelude.{◌≡◌, Result, Ok, Err, Option, Some, ℕ, ◌+◌, ◌≤◌, ℤ, List, map}
+use Rattle.std.specs.Prelude.{◌≡◌, Result, Ok, Err, Some, ℕ, ◌+◌, ◌≤◌, ℤ, List, map}
 use Rattle.std.specs.Option.{option_map}
 use Rattle.std.specs.Map.{values_of as variables_of}
 use Rattle.fv_tree.specs.Steps.{◌>>=◌}

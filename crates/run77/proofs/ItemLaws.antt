@@ -1,5 +1,5 @@
 -- Items of output lists: one value, or all values of a name.
-use Rattle.std.proofs.Common.{◌≡◌, refl, sym, ap, ◌∙◌, subst, ℕ, ℤ, Bool, List, [], ◌∷◌, map, Bor, Result, Ok, Err, Option}
+use Rattle.std.proofs.Common.{◌≡◌, refl, sym, ap, ◌∙◌, subst, ℕ, ℤ, Bool, List, [], ◌∷◌, map, Bor, Result, Ok, Err}
 use Rattle.std.proofs.Common.{Some, None}
 use Rattle.std.specs.declared.boxed.Box.{Box}
 use Rattle.std.specs.declared.alloc.Global.{Global}

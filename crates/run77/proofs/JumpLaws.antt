@@ -1,6 +1,5 @@
 -- The jumps of a program of the profile lead forwards.
-use Rattle.std.proofs.Common.{◌≡◌, refl, subst, List, ◌++◌}
-use mathlib.Core.Path.{ap₂}
+use Rattle.std.proofs.Common.{List}
 use Rattle.fv_tree.specs.Plain.{Declaration, Statement, Assignment, Where, If, Do, Label, GoTo, Stop}
 use Rattle.fv_tree.specs.Plain.{Read, Print, Allocate, Deallocate, Arms, no_arms, arm, Block, no_statements, statement}
 use Rattle.fv_tree.specs.Plain.{Program}

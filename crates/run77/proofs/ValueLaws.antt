@@ -1,12 +1,8 @@
 -- What the parts of an expression give it.
-use Rattle.std.proofs.Common.{◌≡◌, refl, sym, ap, ◌∙◌, subst, zero, suc, ℕ, ℤ, ◌+◌, ◌*◌, ◌<◌, ◌≤◌, Bool, true, false, cond, List, [], ◌∷◌, ◌++◌, map, drop, length, get_or, Result, Ok, Err, Option, Some, None, arith, rules, pos, negsuc, ◌-ℤ◌, ◌≤ℤ◌}
-use Rattle.std.proofs.lemmas.Float.{T_from_true}
-use Rattle.std.proofs.lemmas.Int.{ints}
-use Rattle.std.proofs.lemmas.List.{get_or_read, append-nil, at_drop_more, at_drop_all}
+use Rattle.std.proofs.Common.{◌≡◌, refl, sym, ap, ◌∙◌, subst, ℕ, ℤ, ◌+◌, ◌<◌, ◌≤◌, Bool, true, false, cond, List, [], ◌∷◌, ◌++◌, map, drop, length, get_or, Result, Ok, Err, Option, Some, None, arith}
+use Rattle.std.proofs.lemmas.List.{append-nil, at_drop_more, at_drop_all}
 use Rattle.std.proofs.Common.{append_assoc, length-append, ltb-false}
-use Rattle.std.proofs.lemmas.Nat.{mul-add-lt}
-use Rattle.std.proofs.Math.Nat.{mul-le-mul_left}
-use Rattle.std.specs.Prelude.{int_le, ◌&&◌, nat_abs, ◌^◌, is_some, nat_lt}
+use Rattle.std.specs.Prelude.{is_some, nat_lt}
 use Rattle.std.specs.Option.{option_map}
 use Rattle.std.specs.List.{fold}
 use mathlib.Core.Path.{ap₂}
@@ -31,14 +27,14 @@ use Rattle.fv_tree.specs.declared.exprs.Sub.{Sub}
 use Rattle.fv_tree.specs.declared.exprs.Sub.TheVariants as subs
 use Rattle.fv_tree.specs.declared.exprs.Ref.{Ref, out-Ref}
 use Rattle.fv_tree.proofs.Equations.{expression_of-int, expression_of-truth, expression_of-item, expression_of-un, expression_of-bin, expression_of-call, expression_of-list, expression_of-spread, expression_of-transpose, expression_of-reshape, expression_of-reduce, subscript_of-one, subscript_of-part, reference_of-is}
-use Rattle.fv_meaning.specs.Store.{Store, Cell, cell_at, cell_in, is_within, opening_bounds, opening_value, size_of}
+use Rattle.fv_meaning.specs.Store.{Store, Cell, cell_at, cell_in, is_within, opening_bounds}
 use Rattle.fv_meaning.specs.Dialect.{fortran77}
 use Rattle.fv_meaning.specs.Value.{value_of, values_of, subscript_value, subscript_values, cell_named}
 use Rattle.fv_meaning.specs.Profile77.{elements_of}
-use Rattle.fv_machine.specs.Storage.{store_of, place, offset, joined, value_at, total, AreBounds, with_more}
+use Rattle.fv_machine.specs.Storage.{store_of, place, offset, joined, total, with_more}
 use Rattle.fv_machine.specs.Stored.{Finds, IsOf, bounds_here}
 use Rattle.run77.specs.Values.{call_of, offset_of}
-use Rattle.fv_machine.proofs.StoreLaws.{store-bounds, store-held, within_offset, offset_below}
+use Rattle.fv_machine.proofs.StoreLaws.{store-bounds, within_offset, offset_below}
 use Rattle.fv_machine.specs.declared.variables.Variable.{Variable}
 use Rattle.fv_tree.specs.declared.arguments.Arguments.{Arguments}
 use Rattle.fv_tree.specs.declared.arguments.Arguments.TheVariants.{Empty}

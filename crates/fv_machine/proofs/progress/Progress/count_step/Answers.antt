@@ -1,4 +1,4 @@
-use Rattle.std.proofs.Common.{◌≡◌, refl, ap, ◌∙◌, ℕ, Option, Some, arith}
+use Rattle.std.proofs.Common.{refl, ap, ◌∙◌, ℕ, Option, Some, arith}
 use Rattle.fv_machine.specs.Moments.{seen_at}
 use Rattle.fv_machine.proofs.StepLaws.{step_unlimited, step_missing, step_taken}
 use Rattle.fv_machine.proofs.progress.Progress.count_step.Goals as goal

@@ -1,4 +1,4 @@
-use Rattle.std.proofs.Common.{sym, ap, ◌∙◌, arith}
+use Rattle.std.proofs.Common.{arith}
 use Rattle.fv_machine.specs.Stored.{names_in}
 use Rattle.fv_machine.proofs.Places.{put_is}
 use Rattle.fv_machine.proofs.storage.Storage.put.Goals as goal

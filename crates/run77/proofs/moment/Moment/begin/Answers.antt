@@ -1,4 +1,4 @@
-use Rattle.std.proofs.Common.{◌≡◌, sym, subst}
+use Rattle.std.proofs.Common.{sym, subst}
 use Rattle.fv_machine.specs.Moments.{seen_at}
 use Rattle.fv_machine.specs.Stored.{names_in, store_in}
 use Rattle.fv_machine.specs.Endings.{IsOpening}

@@ -1,5 +1,4 @@
-use Rattle.std.proofs.Common.{sym, ap, ◌∙◌, subst, length, pos, ◌<◌, [], ◌+ℤ◌, arith, rules}
-use Rattle.fv_tree.specs.declared.ops.Value.TheVariants.{Int}
+use Rattle.std.proofs.Common.{sym, ap, ◌∙◌, subst, [], ◌+ℤ◌, rules}
 use Rattle.fv_meaning.specs.Dialect.{fortran77}
 use Rattle.fv_meaning.specs.Store.{cell_at}
 use Rattle.fv_machine.specs.Moments.{located}

@@ -1,4 +1,4 @@
-use Rattle.std.proofs.Common.{refl, Ok, Err}
+use Rattle.std.proofs.Common.{Ok, Err}
 use Rattle.fv_meaning.specs.Dialect.{fortran77}
 use Rattle.fv_meaning.specs.Run.{then, begins_line, reads_items, skips_line}
 use Rattle.fv_machine.specs.declared.progress.Left.TheVariants.{Halted}

@@ -1,5 +1,5 @@
 use Rattle.fv_meaning.specs.Dialect.{fortran77}
-use Rattle.std.proofs.Common.{refl, sym, ap, ◌∙◌, set, [], arith, rules}
+use Rattle.std.proofs.Common.{refl, sym, ap, ◌∙◌, [], rules}
 use Rattle.fv_tree.specs.declared.ops.Value.TheVariants.{Int}
 use Rattle.fv_meaning.specs.Store.{cell_at, put}
 use Rattle.fv_machine.specs.Moments.{integer_bits, located, checked}

@@ -1,11 +1,10 @@
-use Rattle.std.proofs.Common.{refl, sym, ap, ◌∙◌, Ok, Err, arith}
+use Rattle.std.proofs.Common.{refl, sym, ap, ◌∙◌, Ok, Err}
 use Rattle.fv_meaning.specs.Dialect.{fortran77}
-use Rattle.fv_meaning.specs.Store.{put}
 use Rattle.fv_meaning.specs.Run.{counts_step, stores}
 use Rattle.fv_machine.specs.declared.progress.Left.TheVariants.{Halted}
 use Rattle.fv_machine.specs.declared.storage.Storage.{Storage}
 use Rattle.fv_machine.specs.Moments.{located}
-use Rattle.fv_machine.specs.Stored.{names_in, store_in}
+use Rattle.fv_machine.specs.Stored.{names_in}
 use Rattle.fv_machine.specs.Storage.{place}
 use Rattle.fv_machine.proofs.Residuals.{residual}
 use Rattle.fv_machine.proofs.ActLaws.{Runs-counts_step, Runs-cut, Runs-in_range, Runs-out_of_range, Runs-stores}
