@@ -8,6 +8,7 @@ use Rattle.std.proofs.lemmas.Int.{ints}
 use Rattle.std.proofs.lemmas.List.{map_push, take_more}
 use Rattle.std.proofs.lemmas.List.Elements.{All-push, All-nil, All-cons, All-head, All-map, All-tail}
 use Rattle.std.proofs.lemmas.Nat.Gcd.{dvd_refl, dvd_trans, dvd-zero}
+use Rattle.gcd_banerjee.specs.Extremes.{difference_with}
 use Rattle.gcd_banerjee.specs.Divisors.{DividesEach, IsGcdFrom, difference_of}
 use Rattle.gcd_banerjee.proofs.Multiples.{divides_opposite, divides_over_loops, divides_product, divides_sum, divides_sum_below}
 use Rattle.subscripts.proofs.SymbolSums.{above_all, in_or_none, over_symbols_difference}
@@ -94,8 +95,8 @@ pub same_multiples : (p : Pairing) (g h n : ℕ) → HasGcd p g → HasGcd p h �
 same_multiples p g h n a b d = dvd_trans h (a.greatest h b.divides) d
 
 -- what makes both sides equal makes each common divisor divide the difference of the constants
-pub divides_constants : (p : Pairing) (g : ℕ) (v : ℕ → ℤ) (x y : List ℤ) → DividesAll g p → difference p v x y ≡ pos 0 → g ∣ unsigned_abs (p.to.constant -ℤ p.from.constant)
-divides_constants p g v x y h e =
+pub divides_constant : (p : Pairing) (g : ℕ) (constant : ℤ) (v : ℕ → ℤ) (x y : List ℤ) → DividesAll g p → difference_with p constant v x y ≡ pos 0 → g ∣ unsigned_abs constant
+divides_constant p g constant v x y h e =
     let a = divides_over_loops g p.from.loops x h.first in
     let b = divides_over_loops g p.to.loops y h.second in
     let n = above_all p.from.syms + above_all p.to.syms in
@@ -105,5 +106,10 @@ divides_constants p g v x y h e =
     let t : g ∣ unsigned_abs (neg_ℤ (over_loops p.to.loops y)) = divides_opposite g (over_loops p.to.loops y) (neg_ℤ (over_loops p.to.loops y)) (omega (arith, ints)) b in
     let u = divides_sum g (over_loops p.from.loops x) (neg_ℤ (over_loops p.to.loops y)) a t in
     let w = divides_sum g (over_loops p.from.loops x +ℤ neg_ℤ (over_loops p.to.loops y)) (over_symbols p.from.syms v -ℤ over_symbols p.to.syms v) u s in
-    let k : (over_loops p.from.loops x +ℤ neg_ℤ (over_loops p.to.loops y)) +ℤ (over_symbols p.from.syms v -ℤ over_symbols p.to.syms v) ≡ p.to.constant -ℤ p.from.constant = omega (arith, ints) in
-    subst (λ z. g ∣ unsigned_abs z) k w
+    divides_opposite g ((over_loops p.from.loops x +ℤ neg_ℤ (over_loops p.to.loops y)) +ℤ (over_symbols p.from.syms v -ℤ over_symbols p.to.syms v)) constant (omega (arith, ints)) w
+
+pub same_difference : (p : Pairing) → unsigned_abs (p.from.constant -ℤ p.to.constant) ≡ unsigned_abs (p.to.constant -ℤ p.from.constant)
+same_difference p = omega (arith, ints)
+
+pub difference_is : (p : Pairing) (v : ℕ → ℤ) (x y : List ℤ) → difference_with p (p.from.constant -ℤ p.to.constant) v x y ≡ difference p v x y
+difference_is p v x y = omega (arith, ints)

@@ -1,5 +1,9 @@
+pub mod Differences
 pub mod Gcds
+pub mod LoopValues
 pub mod Multiples
+pub mod OneSided
 pub mod Sums
+pub mod SymbolValues
 pub mod TermValues
 pub mod Triangles

@@ -29,9 +29,10 @@ least_sum S T (At n) Unbounded h g = λ m.
     let t = g (m -ℤ n) in
     let e = t.1.1 in
     (n +ℤ t.0, (record { first = n; second = t.0; in_first = h.0; in_second = t.1.0; sum = refl }, omega (arith, ints)))
-least_sum S T (At m) (At n) h g =
-    (record { first = m; second = n; in_first = h.0; in_second = g.0; sum = refl },
-     λ z v. let a = h.1 v.first v.in_first in let b = g.1 v.second v.in_second in let e = v.sum in omega (arith, ints))
+least_sum S T (At m) (At n) h g = (
+  record { first = m; second = n; in_first = h.0; in_second = g.0; sum = refl },
+  λ z v. let a = h.1 v.first v.in_first in let b = g.1 v.second v.in_second in let e = v.sum in omega (arith, ints),
+)
 
 pub sum_within : (m n k : ℕ) (l r : Least) → m + n ≤ k → IsWithin m l → IsWithin n r → IsWithin k (plus_least l r)
 sum_within m n k Nothing r s h g = tt

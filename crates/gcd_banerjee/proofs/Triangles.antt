@@ -74,7 +74,7 @@ pub least_origin : (b c d : ℤ) → pos 0 ≤ℤ c → pos 0 ≤ℤ d → IsLea
 least_origin b c d hc hd =
     (record { u = 0; w = 0; fits = tt; value = at_origin b c d }, λ z v. let k = above_zero c d v.u v.w hc hd in let e = v.value in omega (arith, ints))
 
-down_to : (s m : ℤ) → s <ℤ pos 0 → (s *ℤ pos (unsigned_abs m)) ≤ℤ m
+pub down_to : (s m : ℤ) → s <ℤ pos 0 → (s *ℤ pos (unsigned_abs m)) ≤ℤ m
 down_to s m h =
     let e = times_right s (negsuc 0) (unsigned_abs m) (omega (arith, ints)) in
     omega (arith, ints)

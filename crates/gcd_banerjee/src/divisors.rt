@@ -30,7 +30,7 @@ pub fn gcd_with(start: u64, numbers: &[i64]) -> u64
 }
 
 // Whether a number divides another one; 0 divides 0 alone.
-pub fn divides(divisor: u64, number: u64) -> bool
+pub fn divides(divisor: u128, number: u128) -> bool
     ensures { IsTrue result ↔ divisor ∣ number }
 {
     if divisor == 0 {

@@ -12,5 +12,5 @@ mod least;
 mod range_test;
 mod terms;
 
-pub use gcd_test::gcd_refutes;
-pub use range_test::range_refutes;
+pub use gcd_test::{gcd_refutes, gcd_refutes_with};
+pub use range_test::{range_refutes, range_refutes_with};

@@ -7,7 +7,7 @@ ghost use Rattle.std.specs.Prelude.{◌≡◌, ◌≢◌, ◌≤◌, ◌^◌, �
 ghost use Rattle.gcd_banerjee.specs.Least.{IsLeastOf, IsWithin};
 ghost use Rattle.gcd_banerjee.specs.Terms.{IsAlong, IsBeforeValue, IsTermValue, room_from};
 
-use crate::least::{least_over, Least};
+use crate::least::{Least, least_over};
 use subscripts::{Dir, Span};
 
 // How many steps are left from an iteration to the last one.
@@ -38,7 +38,12 @@ fn least_before(first: i128, second: i128, last: Option<i64>) -> Least
     ensures least { IsLeastOf (IsBeforeValue first second last) result }
     ensures within { IsWithin (2 ^ 109) result }
 {
-    least_over(first - second - second, steps_from(2, last), first - second, -second)
+    least_over(
+        first - second - second,
+        steps_from(2, last),
+        first - second,
+        -second,
+    )
 }
 
 // The least `first * i - second * j` over the iterations i and j that stand to each other as the direction says.

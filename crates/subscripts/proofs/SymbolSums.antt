@@ -190,3 +190,13 @@ front_skips ts i s sum l e h =
     let f = front_more ts i s l in
     let p = part_other (get_or ts i (0, pos 0)).0 (get_or ts i (0, pos 0)).1 s h in
     omega (arith, ints)
+
+-- where the coefficients of the symbols in both lists agree, the symbols cancel
+pub cancel_from_lists : (ts us : List (ℕ × ℤ)) → All (λ t. coefficient ts t.0 ≡ coefficient us t.0) ts → All (λ t. coefficient ts t.0 ≡ coefficient us t.0) us
+    → (v : ℕ → ℤ) → over_symbols ts v ≡ over_symbols us v
+cancel_from_lists ts us a b =
+    same_over_symbols ts us (λ s.
+    elim (in_or_none (λ k. coefficient ts k ≡ coefficient us k) ts s a) [
+      | inl e ↦ e
+      | inr z ↦ elim (in_or_none (λ k. coefficient ts k ≡ coefficient us k) us s b) [ inl e ↦ e | inr y ↦ cc ]
+    ])

@@ -36,4 +36,4 @@ returns-in-Any-clause-least c =
     let o : FitsSigned w128 (pos 0 -ℤ c.args.second) = fits_signed_from_abs w128 _ (omega (arith, ints)) in
     rw (c.in-Any.is, c.plus.ensures)
     (least_any c.args.first c.args.second c.args.from c.args.to c.least_along-in-Any.result c.least_along-in-Any-2.result (simp to_z-of_z at c.least_along-in-Any.ensures.least)
-     (simp to_z-of_z at c.least_along-in-Any-2.ensures.least))
+    (simp to_z-of_z at c.least_along-in-Any-2.ensures.least))
