@@ -18,8 +18,8 @@ use Rattle.line_points.specs.Lines.{OnLine}
 use Rattle.loop_constraints.specs.Constraints.{Allows}
 use Rattle.loop_constraints.specs.Left.{IsNoneLeft, IsLeastLeft}
 use Rattle.loop_constraints.specs.declared.constraint.Constraint.{Constraint}
-use Rattle.loop_lines.specs.OneLoop.{dir_of, first_point, second_point, HasSevenLists, HasSevenPlaces, IsLineOf, IsWithinPlaces}
-use Rattle.loop_lines.proofs.Crossings.{first_at, second_at, place_of, within_seven}
+use Rattle.loop_lines.specs.OneLoop.{first_at, second_at, dir_of, first_point, second_point, HasSevenLists, HasSevenPlaces, IsLineOf, IsWithinPlaces}
+use Rattle.loop_lines.proofs.Crossings.{place_of, within_seven}
 use Rattle.loop_lines.proofs.Pairs.{pair_point, cut_point, point_pair, points_in_order, IsPointOfPair, IsPointOfCut}
 use Rattle.delta_test.specs.Groups.{AreMembers, HasOneLoopOfAll, OnAllLines, HasNoneOfAll, IsLeastOfAll, line_at}
 

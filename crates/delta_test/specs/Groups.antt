@@ -1,11 +1,14 @@
 -- Pairings of the same two references, tested together.
-use Rattle.std.specs.Prelude.{◌≡◌, ◌<◌, ℤ, pos, ◌-ℤ◌, List, All, map, length}
-use Rattle.subscripts.specs.Classes.{Loop, HasOneLoop, first_of, second_of}
+use Rattle.std.specs.Prelude.{◌≡◌, ◌<◌, ℤ, pos, ◌-ℤ◌, List, All, Some, IsTrue, map, length}
+use Rattle.subscripts.specs.Classes.{Loop, HasOneLoop, first_of, second_of, span_of}
 use Rattle.subscripts.specs.Cuts.{cut}
 use Rattle.subscripts.specs.Groups.{IsPairOfAll, IsLeastPairOfAll, group_dirs}
+use Rattle.subscripts.specs.Refutations.{IsRefutedByGcd, IsOneSided}
 use Rattle.subscripts.specs.Shapes.{IsPairing, AreDirsOf, IsBeside}
 use Rattle.subscripts.specs.declared.affine.Dirs.{Dirs}
 use Rattle.subscripts.specs.declared.pairing.Pairing.{Pairing}
+use Rattle.subscripts.specs.declared.verdict.Test.{Test}
+use Rattle.subscripts.specs.declared.verdict.Test.TheVariants.{Delta}
 use Rattle.line_points.specs.Lines.{OnLine}
 use Rattle.line_points.specs.declared.points.Line.{Line}
 
@@ -27,6 +30,23 @@ line_at l p = record { first = first_of p l; second = pos 0 -ℤ second_of p l; 
 -- on the lines of all
 abbrev pub OnAllLines : Loop → List Pairing → ℤ → ℤ → Type 0
 OnAllLines l ps i j = All (λ p. OnLine (line_at l p) i j) ps
+
+-- no pair of iterations of all
+abbrev pub HasNoPairOfAll : List Pairing → Dirs → Type 0
+HasNoPairOfAll ps d = (x y : List ℤ) → IsPairOfAll ps d x y → ⊥
+
+-- neither the GCD test nor Banerjee's refutes one of them
+abbrev pub AreNotRefuted : List Pairing → Dirs → Type 0
+AreNotRefuted ps d = All (λ p. (IsRefutedByGcd p → ⊥) × (IsOneSided p d → ⊥)) ps
+
+-- all have this one loop, whose trip is this constant
+pub record IsExactWith (ps : List Pairing) (l : Loop) (trip : ℤ) : Type 0 where
+  pub one : HasOneLoopOfAll ps l
+  pub ends : All (λ p. (span_of p l).last ≡ Some trip) ps
+  pub fixed : All (λ p. IsTrue (span_of p l).fixed) ps
+
+abbrev pub delta_word : Test
+delta_word = Delta
 
 -- no pair of iterations of all, neither of all loops nor of the one that matters
 pub record HasNoneOfAll (ps : List Pairing) (d : Dirs) : Type 0 where

@@ -17,19 +17,8 @@ use Rattle.line_points.proofs.Ring.{ring, linear}
 use Rattle.line_points.specs.Least.{WithinTrip, IsWithin}
 use Rattle.line_points.specs.Lines.{OnLine}
 use Rattle.line_points.specs.declared.points.Line.{Line}
-use Rattle.loop_lines.specs.OneLoop.{dir_of, ones, first_point, second_point, IsLineOf, HasSevenPlaces}
+use Rattle.loop_lines.specs.OneLoop.{first_at, second_at, dir_of, ones, first_point, second_point, IsLineOf, HasSevenPlaces}
 use Rattle.loop_lines.proofs.Indexed.{over_none, over_one, same_length, within_at, within_from, related_at, related_from}
-
--- the loop's iteration in each list; 1 in that of a reference that it doesn't stand round
-abbrev pub first_at : Loop → List ℤ → ℤ
-first_at (Shared k) x = at_place x k
-first_at (First k) x = at_place x k
-first_at (Second k) x = pos 1
-
-abbrev pub second_at : Loop → List ℤ → ℤ
-second_at (Shared k) y = at_place y k
-second_at (First k) y = pos 1
-second_at (Second k) y = at_place y k
 
 is_zero_or : (a : ℤ) → (a ≡ pos 0) ⊎ (a ≡ pos 0 → ⊥)
 is_zero_or (pos zero) = inl refl
@@ -77,27 +66,23 @@ within_seven p (Second k) i h = h.matters.loop.1
 
 -- ---- both sides
 
-pub first_side : (p : Pairing) (d : Dirs) (l : Loop) (x : List ℤ) → IsPairing p → HasSevenPlaces p d → HasOneLoop p l → length x ≡ 7
+pub first_side : (p : Pairing) (l : Loop) (x : List ℤ) → place_of l < 7 → length p.from.loops ≡ 7 → HasOneLoop p l → length x ≡ 7
     → over_loops p.from.loops x ≡ first_of p l *ℤ first_at l x
-first_side p d (Shared k) x i n h e =
-    let w : k < 7 = within_seven p (Shared k) i h in
-    over_one k p.from.loops x (λ m b u. first_zero p (Shared k) m h (omega (arith, n.from_loops)) (λ t. u (shared_place m k t)) (λ t. cc)) (omega arith) (omega (arith, n.from_loops))
-first_side p d (First k) x i n h e =
-    let w : k < 7 = within_seven p (First k) i h in
-    over_one k p.from.loops x (λ m b u. first_zero p (First k) m h (omega (arith, n.from_loops)) (λ t. cc) (λ t. u (first_place m k t))) (omega arith) (omega (arith, n.from_loops))
-first_side p d (Second k) x i n h e =
-    over_none p.from.loops x (λ m b. first_zero p (Second k) m h (omega (arith, n.from_loops)) (λ t. cc) (λ t. cc)) ∙ sym (zero-*ℤ (pos 1))
+first_side p (Shared k) x w n h e =
+    over_one k p.from.loops x (λ m b u. first_zero p (Shared k) m h (omega (arith, n)) (λ t. u (shared_place m k t)) (λ t. cc)) (omega arith) (omega (arith, n))
+first_side p (First k) x w n h e =
+    over_one k p.from.loops x (λ m b u. first_zero p (First k) m h (omega (arith, n)) (λ t. cc) (λ t. u (first_place m k t))) (omega arith) (omega (arith, n))
+first_side p (Second k) x w n h e =
+    over_none p.from.loops x (λ m b. first_zero p (Second k) m h (omega (arith, n)) (λ t. cc) (λ t. cc)) ∙ sym (zero-*ℤ (pos 1))
 
-pub second_side : (p : Pairing) (d : Dirs) (l : Loop) (y : List ℤ) → IsPairing p → HasSevenPlaces p d → HasOneLoop p l → length y ≡ 7
+pub second_side : (p : Pairing) (l : Loop) (y : List ℤ) → place_of l < 7 → length p.to.loops ≡ 7 → HasOneLoop p l → length y ≡ 7
     → over_loops p.to.loops y ≡ second_of p l *ℤ second_at l y
-second_side p d (Shared k) y i n h e =
-    let w : k < 7 = within_seven p (Shared k) i h in
-    over_one k p.to.loops y (λ m b u. second_zero p (Shared k) m h (omega (arith, n.to_loops)) (λ t. u (shared_place m k t)) (λ t. cc)) (omega arith) (omega (arith, n.to_loops))
-second_side p d (First k) y i n h e =
-    over_none p.to.loops y (λ m b. second_zero p (First k) m h (omega (arith, n.to_loops)) (λ t. cc) (λ t. cc)) ∙ sym (zero-*ℤ (pos 1))
-second_side p d (Second k) y i n h e =
-    let w : k < 7 = within_seven p (Second k) i h in
-    over_one k p.to.loops y (λ m b u. second_zero p (Second k) m h (omega (arith, n.to_loops)) (λ t. cc) (λ t. u (second_place m k t))) (omega arith) (omega (arith, n.to_loops))
+second_side p (Shared k) y w n h e =
+    over_one k p.to.loops y (λ m b u. second_zero p (Shared k) m h (omega (arith, n)) (λ t. u (shared_place m k t)) (λ t. cc)) (omega arith) (omega (arith, n))
+second_side p (First k) y w n h e =
+    over_none p.to.loops y (λ m b. second_zero p (First k) m h (omega (arith, n)) (λ t. cc) (λ t. cc)) ∙ sym (zero-*ℤ (pos 1))
+second_side p (Second k) y w n h e =
+    over_one k p.to.loops y (λ m b u. second_zero p (Second k) m h (omega (arith, n)) (λ t. cc) (λ t. u (second_place m k t))) (omega arith) (omega (arith, n))
 
 -- the difference of both sides, along the line
 pub along : (a b c e : ℤ) (f g s t : ℤ) → f ≡ a → g ≡ b → s ≡ t → ((f +ℤ (s +ℤ c)) -ℤ (g +ℤ (t +ℤ e))) ≡ (a -ℤ b) +ℤ (c -ℤ e)
@@ -113,4 +98,4 @@ pub difference_along : (p : Pairing) (d : Dirs) (l : Loop) (v : ℕ → ℤ) (x 
     → difference p v x y ≡ (first_of p l *ℤ first_at l x -ℤ second_of p l *ℤ second_at l y) +ℤ (p.from.constant -ℤ p.to.constant)
 difference_along p d l v x y i n h ex ey =
     along (first_of p l *ℤ first_at l x) (second_of p l *ℤ second_at l y) p.from.constant p.to.constant (over_loops p.from.loops x) (over_loops p.to.loops y) (over_symbols p.from.syms v) (over_symbols p.to.syms v)
-    (first_side p d l x i n h ex) (second_side p d l y i n h ey) (h.cancels v)
+    (first_side p l x (within_seven p l i h) n.from_loops h ex) (second_side p l y (within_seven p l i h) n.to_loops h ey) (h.cancels v)

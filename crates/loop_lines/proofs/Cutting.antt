@@ -18,9 +18,9 @@ use Rattle.line_points.proofs.Ring.{ring, linear}
 use Rattle.line_points.specs.Least.{WithinTrip, IsWithin}
 use Rattle.line_points.specs.Lines.{OnLine}
 use Rattle.line_points.specs.declared.points.Line.{Line}
-use Rattle.loop_lines.specs.OneLoop.{dir_of, ones, first_point, second_point, IsLineOf, HasSevenPlaces}
+use Rattle.loop_lines.specs.OneLoop.{first_at, second_at, dir_of, ones, first_point, second_point, IsLineOf, HasSevenPlaces}
 use Rattle.loop_lines.proofs.Indexed.{same_length, within_at, within_from, related_at, related_from, mattering_length, mattering_once, mattering_kept, asked_length, asked_any, asked_kept}
-use Rattle.loop_lines.proofs.Crossings.{first_at, second_at, first_zero, second_zero, place_of, within_seven, difference_along, on_line, off_line}
+use Rattle.loop_lines.proofs.Crossings.{first_zero, second_zero, place_of, within_seven, difference_along, on_line, off_line}
 
 -- a place other than the loop's
 pub not_shared : (l : Loop) (m : ℕ) → (m ≡ place_of l → ⊥) → Shared m ≡ l → ⊥

@@ -18,9 +18,9 @@ use Rattle.line_points.proofs.Ring.{ring, linear}
 use Rattle.line_points.specs.Least.{WithinTrip, IsWithin, IsAtMost}
 use Rattle.line_points.specs.Lines.{OnLine}
 use Rattle.line_points.specs.declared.points.Line.{Line}
-use Rattle.loop_lines.specs.OneLoop.{dir_of, ones, first_point, second_point, IsLineOf, HasSevenPlaces}
+use Rattle.loop_lines.specs.OneLoop.{first_at, second_at, dir_of, ones, first_point, second_point, IsLineOf, HasSevenPlaces}
 use Rattle.loop_lines.proofs.Indexed.{same_length, within_at, within_from, related_at, related_from, mattering_length, asked_length}
-use Rattle.loop_lines.proofs.Crossings.{first_at, second_at, place_of, within_seven, difference_along, on_line, off_line}
+use Rattle.loop_lines.proofs.Crossings.{place_of, within_seven, difference_along, on_line, off_line}
 use Rattle.loop_lines.proofs.Cutting.{not_shared, not_first, not_second, from_once, to_once, from_kept, to_kept, other_any, own_dir, one_only, only_one, ones_at, ones_from, set_from, set_at, set_beside}
 
 -- ---- from a pair to a point

@@ -60,3 +60,14 @@ pub record IsLineOf (p : Pairing) (l : Loop) (line : Line) : Type 0 where
   pub first : line.first ≡ first_of p l
   pub second : line.second ≡ pos 0 -ℤ second_of p l
   pub constant : line.constant ≡ p.to.constant -ℤ p.from.constant
+
+-- the loop's iteration in each list; 1 in that of a reference that it doesn't stand round
+abbrev pub first_at : Loop → List ℤ → ℤ
+first_at (Shared k) x = at_place x k
+first_at (First k) x = at_place x k
+first_at (Second k) x = pos 1
+
+abbrev pub second_at : Loop → List ℤ → ℤ
+second_at (Shared k) y = at_place y k
+second_at (First k) y = pos 1
+second_at (Second k) y = at_place y k

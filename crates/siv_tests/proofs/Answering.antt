@@ -10,8 +10,8 @@ use Rattle.subscripts.specs.declared.affine.Dirs.{Dirs}
 use Rattle.subscripts.specs.declared.pairing.Pairing.{Pairing}
 use Rattle.line_points.specs.Least.{WithinTrip, HasNone, IsLeast}
 use Rattle.line_points.specs.declared.points.Line.{Line}
-use Rattle.loop_lines.specs.OneLoop.{dir_of, first_point, second_point, HasSevenPlaces, IsLineOf, IsWithinPlaces}
-use Rattle.loop_lines.proofs.Crossings.{first_at, second_at, place_of, within_seven}
+use Rattle.loop_lines.specs.OneLoop.{first_at, second_at, dir_of, first_point, second_point, HasSevenPlaces, IsLineOf, IsWithinPlaces}
+use Rattle.loop_lines.proofs.Crossings.{place_of, within_seven}
 use Rattle.loop_lines.proofs.Pairs.{pair_point, cut_point, point_pair, points_in_order, IsPointOfCut}
 use Rattle.siv_tests.specs.Ways.{HasNone as HasNoneAtAll}
 
