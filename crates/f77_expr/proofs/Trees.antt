@@ -7,7 +7,7 @@ use Rattle.fv_tree.specs.declared.exprs.Ref.{roll-Ref}
 use Rattle.fv_tree.specs.declared.exprs.Expr.{Expr}
 use Rattle.fv_tree.specs.declared.exprs.Sub.TheVariants as subs_
 use Rattle.fv_tree.specs.Plain.{Named, subscripts, Subscript, Only}
-use Rattle.fv_tree.proofs.Equations.{subscript_of-one}
+use Rattle.fv_tree.proofs.Equations.{expression_of-int, expression_of-truth, subscript_of-one}
 use Rattle.std.proofs.lemmas.List.{map_push}
 use Rattle.f77_expr.specs.Views.{subscripts_of}
 use Rattle.fv_tree.specs.View.{expression_of, subscript_of, reference_of}
@@ -17,6 +17,8 @@ unfolding expression_of reference_of subscript_of
 expression_of-named x subs = search (rules, the_lemmas)
 
 pub ruleset names = (expression_of-named)
+
+pub ruleset primaries = (expression_of-int, expression_of-truth, expression_of-named)
 
 pub subscripts_of_push : (subs : List Sub) (e : Expr) → subscripts_of (subs ++ subs_.One e ∷ []) ≡ subscripts_of subs ++ Only (expression_of e) ∷ []
 subscripts_of_push subs e = map_push subscript_of subs (subs_.One e) ∙ ap (λ (s : Subscript). subscripts_of subs ++ s ∷ []) (subscript_of-one e)

@@ -3,6 +3,7 @@ use Rattle.std.specs.Prelude.{ℕ, ◌+◌, max, min, pos, Bool, true, false, �
 use Rattle.std.specs.Prelude.{Option, Some, None, if◌then◌else◌}
 use Rattle.fv_tree.specs.declared.ops.Op.{Op}
 use Rattle.fv_tree.specs.declared.ops.Op.TheVariants.{Add, Sub, Not}
+use Rattle.fv_tree.specs.Limits.{expression_depth77}
 use Rattle.fv_tree.specs.Plain.{Expression, Number, Logic, Named, Binary, Subscript, Only, subscripts, no_subscripts}
 use Rattle.f77_grammar.specs.expressions.Words as words
 use Rattle.f77_grammar.specs.expressions.Words.{Word}
@@ -18,9 +19,12 @@ pub record Operand : Type 0 where
   pub placed : Bool
   pub tree : Expression
 
--- a depth is counted up to 401, since more than 400 is too deep
+-- a depth is counted up to the first that is too deep
+abbrev pub capped : ℕ → ℕ
+capped d = min d (expression_depth77 + 1)
+
 abbrev pub deeper : ℕ → ℕ
-deeper d = min (d + 1) 401
+deeper d = capped (d + 1)
 
 abbrev pub sign_deeper : Sign → ℕ → ℕ
 sign_deeper Plus d = d
@@ -52,10 +56,22 @@ joined_operand o a b = record {
 }
 
 abbrev pub paren_operand : Operand → Operand
-paren_operand m = record { level = 10; depth = deeper m.depth; begins_with_sign = false; placed = m.placed; tree = m.tree }
+paren_operand m = record {
+  level = 10;
+  depth = deeper m.depth;
+  begins_with_sign = false;
+  placed = m.placed;
+  tree = m.tree;
+}
 
 abbrev pub listed_operand : List ℕ → List Subscript → ℕ → Bool → Operand
-listed_operand x ss d g = record { level = 10; depth = deeper d; begins_with_sign = false; placed = g; tree = Named x (subscripts ss) }
+listed_operand x ss d g = record {
+  level = 10;
+  depth = deeper d;
+  begins_with_sign = false;
+  placed = g;
+  tree = Named x (subscripts ss);
+}
 
 -- what is open, the innermost first: a sign, an operator with its left operand, a parenthesis, a name with its list so
 -- far, the depth of that list and whether the signs in it stand where they may
@@ -122,7 +138,10 @@ begin fs words.Open = Go (Wants (Within ∷ fs))
 begin fs w = Fail
 
 abbrev pub join : Op → Held → Step
-join o h = if stands_between o && nat_le (left_least o) h.operand.level then Go (Wants (After o h.operand ∷ h.frames)) else Fail
+join o h =
+    if stands_between o && nat_le (left_least o) h.operand.level
+    then Go (Wants (After o h.operand ∷ h.frames))
+    else Fail
 
 abbrev pub shut : List Frame → Operand → Step
 shut [] m = Stop m

@@ -1,5 +1,5 @@
 -- What it is for words to begin with an expression, and to be one.
-use Rattle.std.specs.Prelude.{◌≡◌, min, List, [], ◌∷◌, ◌++◌, Result, Ok, Err}
+use Rattle.std.specs.Prelude.{◌≡◌, List, [], ◌∷◌, ◌++◌, Result, Ok, Err}
 use Rattle.std.specs.Borrow.{Bor}
 use Rattle.fv_tree.specs.View.{expression_of}
 use Rattle.f77_grammar.specs.expressions.Phrases.{Phrase, IsExpression, written, tree, depth}
@@ -15,6 +15,7 @@ use Rattle.f77_expr.specs.declared.operands.Operand.{Operand}
 use Rattle.f77_expr.specs.declared.tokens.Stop.{Stop}
 use Rattle.f77_expr.specs.declared.tokens.Stop.TheVariants.{Syntax, Memory}
 use Rattle.f77_expr.specs.declared.tokens.Token.{Token}
+use Rattle.f77_expr.specs.Reader.{capped}
 use Rattle.f77_expr.specs.Views.{words_of}
 
 -- what may stand behind a whole expression
@@ -26,10 +27,10 @@ Ends (words.Equals ∷ ws) = Unit {0}
 Ends (words.Colon ∷ ws) = Unit {0}
 Ends (w ∷ ws) = ⊥
 
--- what was made of a phrase; a depth above 400 counts as 401
+-- what was made of a phrase
 pub record IsMadeOf (m : Operand) (p : Phrase) : Type 0 where
   pub tree : expression_of m.tree ≡ tree p
-  pub depth : m.depth ≡ min (depth p) 401
+  pub depth : m.depth ≡ capped (depth p)
 
 -- The words are an expression, of which the operand was made, and a rest.
 pub record Begins (ws : List Word) (m : Operand) (rest : List Word) : Type 0 where

@@ -20,7 +20,13 @@ abbrev pub subscripts_of : List Sub → List Subscript
 subscripts_of subs = map subscript_of subs
 
 abbrev pub operand_of : Operand → reader.Operand
-operand_of m = record { level = m.level; depth = m.depth; begins_with_sign = m.begins_with_sign; placed = m.placed; tree = expression_of m.tree }
+operand_of m = record {
+  level = m.level;
+  depth = m.depth;
+  begins_with_sign = m.begins_with_sign;
+  placed = m.placed;
+  tree = expression_of m.tree;
+}
 
 abbrev pub frame_of : Frame → reader.Frame
 frame_of (Before s) = reader.Before (sign_view s)

@@ -88,7 +88,8 @@ fn number(value: u128) -> Token
 // The literal at the front, which begins with a digit, and what follows it.
 #[tactic(auto, using(crate::proofs::LiteralLaws::literals))]
 fn literal(text: &[Symbol]) -> (Token, &[Symbol])
-    ensures { lexing.literal (lexing.run_of spelling.is_digit (symbols_of text.now)) ≡ Some (record { word = word_of result.0; rest = symbols_of result.1.now }) }
+    ensures { lexing.literal (lexing.run_of spelling.is_digit (symbols_of text.now))
+        ≡ Some (record { word = word_of result.0; rest = symbols_of result.1.now }) }
 {
     let mut rest = text;
     let mut value = Some(0);
@@ -127,7 +128,8 @@ fn name(text: &[Symbol]) -> Option<(Name, &[Symbol])>
 
 // The word of a name, and what follows it: a parenthesis directly behind the name belongs to it.
 fn named(name: Name, rest: &[Symbol]) -> (Token, &[Symbol])
-    ensures { lexing.named name (symbols_of rest.now) ≡ Some (record { word = word_of result.0; rest = symbols_of result.1.now }) }
+    ensures { lexing.named name (symbols_of rest.now)
+        ≡ Some (record { word = word_of result.0; rest = symbols_of result.1.now }) }
 {
     match rest {
         [Symbol::Char(b'('), tail @ ..] => (Token::Head(name), tail),
@@ -217,7 +219,8 @@ pub fn copied(alloc: Global, text: &Seq<u8>) -> Result<Seq<u8>, Memory>
 // The word of characters at the front, and what follows it.
 fn word_of_chars(text: &[Symbol], first: u8) -> Option<(Token, &[Symbol])>
     requires { BeginsWith first (symbols_of text.now) }
-    ensures { FrontOption result (lexing.word_by (spelling.is_digit first) (spelling.is_letter first) (symbols_of text.now)) }
+    ensures { FrontOption result (lexing.word_by (spelling.is_digit first) (spelling.is_letter first)
+        (symbols_of text.now)) }
 {
     if is_digit(first) {
         return Some(literal(text));

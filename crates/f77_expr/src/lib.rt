@@ -15,7 +15,7 @@ pub use fronts::{
     begins_with_name,
 };
 pub use lexer::{copied, next_digit, next_letter_or_digit, strip, words};
-pub use operands::{DEPTH_COUNTED, Operand};
+pub use operands::{Operand, deepened};
 pub use reader::read;
 pub use symbols::{Symbol, squeeze};
 pub use tokens::{Stop, Token};

@@ -25,17 +25,18 @@ fn may_follow(op: Op, begins_with_sign: bool) -> bool
     }
 }
 
-/// A depth is counted up to here: it is too deep.
-pub const DEPTH_COUNTED: u16 = EXPRESSION_DEPTH_77 + 1;
+// A depth is counted up to here: it is too deep.
+const DEPTH_COUNTED: u16 = EXPRESSION_DEPTH_77 + 1;
 
-fn deepened(depth: u16) -> u16
+/// One more, as a depth is counted: up to the first that is too deep.
+pub fn deepened(depth: u16) -> u16
     ensures { result ≡ deeper depth }
 {
     depth.saturating_add(1).min(DEPTH_COUNTED)
 }
 
-/// An operand: its level, its depth, which is counted up to 401, and its tree. It is `placed` where each plus or minus
-/// sign in it stands where one may.
+/// An operand: its level, its depth, which is counted up to the first that is too deep, and its tree. It is `placed`
+/// where each plus or minus sign in it stands where one may.
 #[derive(Debug, Drop)]
 pub struct Operand {
     pub level: u8,

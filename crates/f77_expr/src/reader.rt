@@ -34,7 +34,8 @@ fn close(
     frames: &mut Vec<Frame>,
     operand: Operand,
 ) -> Result<Operand, Memory>
-    ensures { IfOk result (λ closed. reader.close level (stack frames.old.items) (operand_of operand) ≡ held frames.new.items closed) }
+    ensures { IfOk result (λ closed. reader.close level (stack frames.old.items) (operand_of operand)
+        ≡ held frames.new.items closed) }
 {
     let mut operand = operand;
     'closing: while level < least(frames.as_slice()) {
@@ -62,7 +63,7 @@ fn begin_sign(frames: &mut Vec<Frame>, op: Op) -> Result<Option<Operand>, Stop>
 }
 
 // A word where an operand is due: the operand that it is, or none where it opens a frame.
-#[tactic(auto, using(crate::proofs::Stacks::stacks, fv_tree::proofs::Equations::expression_equations, crate::proofs::Trees::names))]
+#[tactic(auto, using(crate::proofs::Stacks::stacks, crate::proofs::Trees::primaries))]
 fn begin(alloc: Global, frames: &mut Vec<Frame>, token: &Token) -> Result<Option<Operand>, Stop>
     ensures { Begins result frames.new.items (reader.begin (stack frames.old.items) (word_of token.now)) }
 {
@@ -101,7 +102,8 @@ pub(crate) enum Turn {
 // An operator behind an operand.
 #[tactic(auto, using(crate::proofs::Stacks::stacks))]
 fn join(alloc: Global, frames: &mut Vec<Frame>, operand: Operand, op: Op) -> Result<Turn, Stop>
-    ensures { Turns result frames.new.items (reader.join op (reader.close (level_of op) (stack frames.old.items) (operand_of operand))) }
+    ensures { Turns result frames.new.items (reader.join op
+        (reader.close (level_of op) (stack frames.old.items) (operand_of operand))) }
 {
     let operand = close(alloc, op.level(), frames, operand)?;
     if !op.stands_between() || operand.level < op.left_least() {
@@ -191,7 +193,8 @@ fn go_on(
     operand: Operand,
     token: &Token,
 ) -> Result<Turn, Stop>
-    ensures { Turns result frames.new.items (reader.go_on (stack frames.old.items) (operand_of operand) (word_of token.now)) }
+    ensures { Turns result frames.new.items (reader.go_on (stack frames.old.items) (operand_of operand)
+        (word_of token.now)) }
 {
     match token {
         Token::Operator(op) => join(alloc, frames, operand, *op),

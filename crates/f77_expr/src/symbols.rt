@@ -45,7 +45,8 @@ fn closed(text: Seq<u8>) -> Symbol
 // A character outside constants.
 fn scan_out(alloc: Global, c: u8, symbols: &mut Vec<Symbol>) -> Result<Mode, Memory>
     ensures { IfOk result (λ mode. (cs : List ℕ) →
-        symbols_of symbols.old.items ++ scanning.scan (c ∷ cs) scanning.Out ≡ symbols_of symbols.new.items ++ scanning.scan cs (mode_of mode)) }
+        symbols_of symbols.old.items ++ scanning.scan (c ∷ cs) scanning.Out
+        ≡ symbols_of symbols.new.items ++ scanning.scan cs (mode_of mode)) }
 {
     if c == b'\'' {
         return Ok(Mode::In(Seq::new(alloc)));
@@ -76,7 +77,8 @@ fn scan_closing(
     symbols: &mut Vec<Symbol>,
 ) -> Result<Mode, Memory>
     ensures { IfOk result (λ mode. (cs : List ℕ) →
-        symbols_of symbols.old.items ++ scanning.scan (c ∷ cs) (scanning.Closing text) ≡ symbols_of symbols.new.items ++ scanning.scan cs (mode_of mode)) }
+        symbols_of symbols.old.items ++ scanning.scan (c ∷ cs) (scanning.Closing text)
+        ≡ symbols_of symbols.new.items ++ scanning.scan cs (mode_of mode)) }
 {
     if c == b'\'' {
         text.push(c)?;
@@ -88,7 +90,8 @@ fn scan_closing(
 
 fn scan(alloc: Global, mode: Mode, c: u8, symbols: &mut Vec<Symbol>) -> Result<Mode, Memory>
     ensures { IfOk result (λ next. (cs : List ℕ) →
-        symbols_of symbols.old.items ++ scanning.scan (c ∷ cs) (mode_of mode) ≡ symbols_of symbols.new.items ++ scanning.scan cs (mode_of next)) }
+        symbols_of symbols.old.items ++ scanning.scan (c ∷ cs) (mode_of mode)
+        ≡ symbols_of symbols.new.items ++ scanning.scan cs (mode_of next)) }
 {
     match mode {
         Mode::Out => scan_out(alloc, c, symbols),
@@ -99,7 +102,8 @@ fn scan(alloc: Global, mode: Mode, c: u8, symbols: &mut Vec<Symbol>) -> Result<M
 
 // The end of the statement.
 fn end(mode: Mode, symbols: &mut Vec<Symbol>) -> Result<(), Memory>
-    ensures { OnOk result (symbols_of symbols.old.items ++ scanning.scan [] (mode_of mode) ≡ symbols_of symbols.new.items) }
+    ensures { OnOk result (symbols_of symbols.old.items ++ scanning.scan [] (mode_of mode)
+        ≡ symbols_of symbols.new.items) }
 {
     match mode {
         Mode::Out => Ok(()),

@@ -1,14 +1,15 @@
 //! How deep blocks stand in one another: block IFs, logical IFs and loops.
 ghost use Rattle.std.specs.Prelude.{◌≡◌, ◌+◌, ◌<◌, ◌^◌, nat_le, ◌&&◌, [], length, OnOk, IfOk};
 ghost use Rattle.std.specs.List.{filter};
+ghost use Rattle.fv_tree.specs.Limits.{block_depth77};
 ghost use Rattle.f77_grammar.specs.program.Limits.{has_many_blocks};
 ghost use Rattle.f77_syntax.specs.First.{first_index};
 ghost use Rattle.f77_syntax.specs.Views.{text_of};
 ghost use Rattle.f77_jumps.specs.Blocks.{opens_form, depth_with, with_end};
 
 use f77_structure::{Form, label_ends, place_under};
-use fv_tree::{BLOCK_DEPTH_77, Memory};
 use f77_syntax::Labelled;
+use fv_tree::{BLOCK_DEPTH_77, Memory};
 use std::alloc::Global;
 
 // The blocks that are open: the number of block IFs, and for each loop the place of its last statement. They are few,
@@ -42,7 +43,7 @@ impl OpenBlocks {
     // A statement of this form opens one more, where no more may be opened.
     fn refuses(&self, form: Form) -> bool
         requires { self.now.ifs + length self.now.loop_ends.items < 2 ^ 64 }
-        ensures { result ≡ (opens_form form && nat_le 100 (self.now.ifs + length self.now.loop_ends.items)) }
+        ensures { result ≡ (opens_form form && nat_le block_depth77 (self.now.ifs + length self.now.loop_ends.items)) }
     {
         opens_block(form) && BLOCK_DEPTH_77 <= self.ifs + self.loop_ends.len()
     }

@@ -20,11 +20,11 @@ ghost use Rattle.f77_jumps.specs.Misuses.{misuses_statement};
 ghost use Rattle.f77_jumps.specs.Targets.{later};
 
 use crate::targets::later;
-use f77_structure::{LabelPlaces, label_ends};
 use f77_names::{Facts, Names, names_of, uses_in_text};
+use f77_structure::{LabelPlaces, label_ends};
+use f77_syntax::{Labelled, Stmt77};
 use fv_tree::{Expr, Item, Kind, Memory, Name, Ref, Seq};
 use indexmap::IndexMap;
-use f77_syntax::{Labelled, Stmt77};
 use std::alloc::Global;
 
 // An INTEGER scalar variable.

@@ -8,8 +8,8 @@ ghost use Rattle.f77_jumps.specs.Targets.{jumps_wrongly_to};
 
 use crate::targets::{LabelTargets, targets_of};
 use f77_structure::{Form, here_if, label_ends};
-use fv_tree::Memory;
 use f77_syntax::Labelled;
+use fv_tree::Memory;
 use std::alloc::Global;
 
 impl LabelTargets {

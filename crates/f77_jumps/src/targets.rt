@@ -9,8 +9,8 @@ ghost use Rattle.f77_jumps.specs.Targets.{arms_in, next_arms, later, is_no_targe
 ghost use Rattle.f77_jumps.specs.Targets.{leads_wrongly_to};
 
 use f77_structure::{Form, LabelPlaces, Openings, place_under};
-use fv_tree::Memory;
 use f77_syntax::Labelled;
+use fv_tree::Memory;
 use std::alloc::Global;
 use std::collections::BTreeMap;
 

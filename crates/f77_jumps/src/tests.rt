@@ -1,7 +1,7 @@
 //! What no clause says: with ample memory each check answers.
 use crate::{many_blocks, wrong_do_variable, wrong_jump};
-use fv_tree::{Expr, Item, Name, Ref, Seq};
 use f77_syntax::{Labelled, Stmt77};
+use fv_tree::{Expr, Item, Name, Ref, Seq};
 use std::alloc::Global;
 use std::test::Fail;
 

@@ -1,6 +1,6 @@
 -- Arithmetic IF, computed and assigned GO TO.
 use Rattle.std.proofs.Common.{◌≡◌, ℕ, suc, Bool, true, false, List, [], ◌∷◌, ◌++◌, length, refl, ap, sym, ◌∙◌, subst, append_assoc, append-nil, IsTrue, arith, codes}
-use Rattle.std.specs.Prelude.{◌==◌, Option, Some, None}
+use Rattle.std.specs.Prelude.{◌==◌, not, Option, Some, None}
 use Rattle.std.proofs.lemmas.List.{map-append}
 use Rattle.std.proofs.lemmas.Bool.{eqb-true}
 use Rattle.std.proofs.lemmas.Bool.Decides.{nat_tests}
@@ -26,6 +26,10 @@ empty_is (x ∷ xs) b e h = let k : (suc (length xs) == 0) ≡ true = sym e ∙ 
 pub is_empty : (xs : List Symbol') (b : Bool) → b ≡ (length xs == 0) → symbols_of xs ≡ [] → b ≡ true
 is_empty [] b e h = e
 is_empty (x ∷ xs) b e h = let z : ⊥ = cc in absurd z
+
+pub is_some : (xs : List Symbol') (b : Bool) → b ≡ (length xs == 0) → IsTrue (not b) → symbols_of xs ≡ [] → ⊥
+is_some xs true e n h = let z : ⊥ = cc in z
+is_some xs false e n h = let k : false ≡ true = is_empty xs false e h in let z : ⊥ = cc in z
 
 -- ---- three labels
 

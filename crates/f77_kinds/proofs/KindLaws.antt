@@ -95,6 +95,14 @@ first_fails g true true h e f = let z : ⊥ = cc in absurd z
 first_fails g true false h e f = e
 first_fails g false s h e f = e
 
+pub then_holds : (v x y r : Bool) → v ≡ x → v ≡ true → r ≡ y → r ≡ (x && y)
+then_holds v true y r e t k = k
+then_holds v false y r e t k = let z : ⊥ = cc in absurd z
+
+pub then_fails : (v x y : Bool) → v ≡ x → v ≡ false → v ≡ (x && y)
+then_fails v true y e f = let z : ⊥ = cc in absurd z
+then_fails v false y e f = e
+
 -- a kind by an expression that was told apart, of an operand that was read through its box
 pub same_operand : (us : List Use) (e f : Expr) (k j : Kind) (r : Bool) → r ≡ has_kind us (expression_of e) k → e ≡ f → k ≡ j → r ≡ has_kind us (expression_of f) j
 same_operand us e f k j r h i l = h ∙ ap (λ x. has_kind us (expression_of x) k) i ∙ ap (has_kind us (expression_of f)) l

@@ -1,5 +1,6 @@
 -- What suits, for each kind of statement.
-use Rattle.std.proofs.Common.{◌≡◌, ◌≢◌, ℕ, zero, suc, true, not, ◌&&◌, ◌||◌, List, map, length, refl, sym, ap, ◌∙◌}
+use Rattle.std.proofs.Common.{◌≡◌, ◌≢◌, ℕ, zero, suc, ◌+◌, ◌<◌, Bool, true, false, not, ◌&&◌, ◌||◌, List, [], ◌∷◌, map, drop, length, get_or, refl, sym, ap, ◌∙◌, add-one}
+use Rattle.std.proofs.Math.Seq.{drop-cons}
 use Rattle.std.specs.List.{list_any}
 use Rattle.std.specs.declared.boxed.Box.{Box}
 use Rattle.std.specs.declared.alloc.Global.{Global}
@@ -8,7 +9,7 @@ use Rattle.fv_tree.specs.Plain.{Expression, Reference, items, subscripts}
 use Rattle.fv_tree.specs.View.{expression_of, subscript_of, reference_of, item_of}
 use Rattle.fv_tree.specs.declared.names.Name.{Name}
 use Rattle.fv_tree.specs.declared.ops.Kind.{Kind}
-use Rattle.fv_tree.specs.declared.ops.Kind.TheVariants.{Logical}
+use Rattle.fv_tree.specs.declared.ops.Kind.TheVariants.{Integer, Logical}
 use Rattle.fv_tree.specs.declared.lists.Seq.{Seq}
 use Rattle.fv_tree.specs.declared.exprs.Expr.{Expr}
 use Rattle.fv_tree.specs.declared.exprs.Ref.{Ref, out-Ref}
@@ -16,15 +17,42 @@ use Rattle.fv_tree.specs.declared.stmts.Item.{Item}
 use Rattle.fv_tree.proofs.Equations.{reference_of-is}
 use Rattle.f77_grammar.specs.Statement77 as plain
 use Rattle.f77_grammar.specs.program.Uses.{Use, uses_of, uses_in_text, is_array, kind_of_name}
-use Rattle.f77_grammar.specs.program.Kinds.{has_kind, are_subscripts, is_stored_into, are_numbers, has_integer_bounds, suits_output_items, suits_input_items, suits, calls_hidden, has_unsuited_kind}
+use Rattle.f77_grammar.specs.program.Kinds.{has_kind, are_integer_bounds, are_subscripts, is_stored_into, are_numbers, has_integer_bounds, suits_output_items, suits_input_items, suits, calls_hidden, has_unsuited_kind}
 use Rattle.f77_syntax.specs.declared.statements.Entity.{Entity}
 use Rattle.f77_syntax.specs.declared.statements.Stmt77.{Stmt77}
 use Rattle.f77_syntax.specs.declared.statements.Stmt77.TheVariants as stmts
-use Rattle.f77_syntax.specs.Views.{statement_of, labelled_of, text_of, entity_of, constant_of}
+use Rattle.f77_syntax.specs.Views.{statement_of, labelled_of, text_of, bounds_of, entity_of, constant_of}
 use Rattle.f77_syntax.specs.declared.statements.Labelled.{Labelled as Labelled'}
 use Rattle.f77_syntax.specs.Walk.{place_at}
 use Rattle.f77_syntax.proofs.Equations.{statement_of-program, statement_of-declare, statement_of-dimension, statement_of-constants, statement_of-assign, statement_of-go, statement_of-test, statement_of-if, statement_of-else_if, statement_of-else, statement_of-end_if, statement_of-do, statement_of-continue, statement_of-stop, statement_of-read, statement_of-print, statement_of-end}
 use Rattle.f77_names.proofs.UseLaws.{number_is}
+
+-- ---- bounds, one after the other
+
+pub bounds_left : (us : List Use) (list : List (Expr × Expr)) (i : ℕ) (x : Expr × Expr) → i < length list → x ≡ get_or list i x
+    → are_integer_bounds us (map bounds_of (drop i list))
+    ≡ (are_integer_bounds us (bounds_of x ∷ []) && are_integer_bounds us (map bounds_of (drop (i + 1) list)))
+bounds_left us list i x h e =
+    ap (λ xs. are_integer_bounds us (map bounds_of xs)) (left list i x h e)
+    ∙ two (has_kind us (bounds_of x).0 Integer && has_kind us (bounds_of x).1 Integer) (are_integer_bounds us (map bounds_of (drop (i + 1) list)))
+  where
+    left : (list : List (Expr × Expr)) (i : ℕ) (x : Expr × Expr) → i < length list → x ≡ get_or list i x → drop i list ≡ x ∷ drop (i + 1) list
+    left list i x h e = rw (add-one, drop-cons list i x h, sym e) refl
+
+    two : (a b : Bool) → (a && b) ≡ ((a && true) && b)
+    two true b = refl
+    two false b = refl
+
+pub bounds_stop : (us : List Use) (list : List (Expr × Expr)) (i : ℕ) (x : Expr × Expr) (whole suit : Bool) → i < length list → x ≡ get_or list i x
+    → whole ≡ are_integer_bounds us (map bounds_of (drop i list)) → suit ≡ are_integer_bounds us (bounds_of x ∷ []) → suit ≡ false → false ≡ whole
+bounds_stop us list i x whole suit h e w s f =
+    sym (w ∙ bounds_left us list i x h e ∙ ap (λ b. b && are_integer_bounds us (map bounds_of (drop (i + 1) list))) (sym s ∙ f))
+
+pub bounds_go_on : (us : List Use) (list : List (Expr × Expr)) (i : ℕ) (x : Expr × Expr) (whole suit : Bool) → i < length list → x ≡ get_or list i x
+    → whole ≡ are_integer_bounds us (map bounds_of (drop i list)) → suit ≡ are_integer_bounds us (bounds_of x ∷ []) → suit ≡ true
+    → whole ≡ are_integer_bounds us (map bounds_of (drop (i + 1) list))
+bounds_go_on us list i x whole suit h e w s f =
+    w ∙ bounds_left us list i x h e ∙ ap (λ b. b && are_integer_bounds us (map bounds_of (drop (i + 1) list))) (sym s ∙ f)
 
 -- ---- assignments
 

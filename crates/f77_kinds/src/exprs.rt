@@ -7,11 +7,10 @@ ghost use Rattle.fv_tree.specs.Functions.{function_named};
 ghost use Rattle.f77_grammar.specs.program.Uses as plain;
 ghost use Rattle.f77_grammar.specs.program.Kinds as kinds;
 ghost use Rattle.f77_names.specs.UsesView.{listed};
-ghost use Rattle.f77_kinds.specs.Operands.{are_operands};
 
 use crate::kind_check::KindCheck;
 use crate::operators::{binary_gives, call_gives, same_kind, takes_so_many, unary_gives};
-use fv_tree::{Expr, Kind, Name, Op, Ref, Seq, Sub};
+use fv_tree::{Expr, Kind, Name, Ref, Seq, Sub};
 
 impl KindCheck {
     // An element of an array of this kind.
@@ -53,7 +52,11 @@ impl KindCheck {
             Expr::Truth(_) => same_kind(Kind::Logical, kind),
             Expr::Item(item) => self.item_has_kind(item, kind),
             Expr::Un(op, a) => unary_gives(*op, kind) && self.has_kind(a, op.operand_kind()),
-            Expr::Bin(op, a, b) => binary_gives(*op, kind) && self.are_operands(*op, a, b),
+            Expr::Bin(op, a, b) => {
+                binary_gives(*op, kind)
+                    && self.has_kind(a, op.operand_kind())
+                    && self.has_kind(b, op.operand_kind())
+            }
             Expr::Call(function, arguments) => {
                 call_gives(*function, arguments.len(), kind) && self.are_arguments(arguments)
             }
@@ -63,14 +66,6 @@ impl KindCheck {
             Expr::Reshape(..) => false,
             Expr::Reduce(..) => false,
         }
-    }
-
-    // Both have the kind that the operator takes.
-    #[cycle(kinds)]
-    fn are_operands(&self, op: Op, a: &Expr, b: &Expr) -> bool
-        ensures { result ≡ are_operands (listed self.now.uses) op (expression_of a.now) (expression_of b.now) }
-    {
-        self.has_kind(a, op.operand_kind()) && self.has_kind(b, op.operand_kind())
     }
 
     // A scalar, a symbolic constant, an element or a call.

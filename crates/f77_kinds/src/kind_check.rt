@@ -6,8 +6,8 @@ ghost use Rattle.f77_names.specs.UsesView.{listed};
 ghost use Rattle.f77_syntax.specs.Views.{text_of};
 
 use f77_names::{Names, Uses, names_of, uses_in_text};
-use fv_tree::{Fun, Kind, Memory, Name};
 use f77_syntax::Labelled;
+use fv_tree::{Fun, Kind, Memory, Name};
 use std::alloc::Global;
 
 /// The check of a program's kinds.

@@ -7,8 +7,8 @@ ghost use Rattle.f77_syntax.specs.Views.{bounds_of, entity_of, constant_of, stat
 ghost use Rattle.f77_names.specs.UsesView.{listed};
 
 use crate::kind_check::KindCheck;
-use fv_tree::{Expr, Kind, Name, Ref, Seq};
 use f77_syntax::{Entity, Stmt77};
+use fv_tree::{Expr, Kind, Name, Ref, Seq};
 
 impl KindCheck {
     // The lower and the upper bound of a dimension are INTEGER values.

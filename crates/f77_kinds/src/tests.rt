@@ -1,7 +1,7 @@
 //! What no clause says: with ample memory the check answers.
 use crate::unsuited_kind;
-use fv_tree::{Expr, Item, Kind, Name, Ref, Seq, Sub};
 use f77_syntax::{Entity, Labelled, Stmt77};
+use fv_tree::{Expr, Item, Kind, Name, Ref, Seq, Sub};
 use std::alloc::Global;
 use std::test::Fail;
 

@@ -9,8 +9,8 @@ ghost use Rattle.f77_names.specs.UsesView.{listed};
 
 use crate::kind_check::KindCheck;
 use f77_names::Uses;
-use fv_tree::Memory;
 use f77_syntax::{Labelled, Stmt77};
+use fv_tree::Memory;
 use std::alloc::Global;
 
 impl KindCheck {

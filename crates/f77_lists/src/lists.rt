@@ -14,7 +14,7 @@ pub(crate) enum Direction {
     Input,
 }
 
-/// The items of a list, and the depth of its deepest expression, which is counted up to 401.
+/// The items of a list, and the depth of its deepest expression, which is counted up to the first that is too deep.
 #[derive(Debug, Drop)]
 pub struct ItemList {
     pub items: Seq<Item>,

@@ -10,7 +10,7 @@ ghost use Rattle.f77_lists.specs.Views.{Runs};
 
 use crate::bounds::{control, read_bounds};
 use crate::lists::{Direction, ItemList};
-use f77_expr::{DEPTH_COUNTED, Operand, Stop, Token, begins_with_name, copied, read};
+use f77_expr::{Operand, Stop, Token, begins_with_name, copied, deepened, read};
 use fv_tree::{Item, Memory, Name, Seq};
 use std::alloc::Global;
 
@@ -186,7 +186,7 @@ fn repeat<'a>(
     let Some(list) = lists.pop() else {
         return Err(Stop::Syntax);
     };
-    let depth = list.depth.max(bounds.depth).saturating_add(1).min(DEPTH_COUNTED);
+    let depth = deepened(list.depth.max(bounds.depth));
     let item = Item::Turns(list.items, name, bounds.first, bounds.last, bounds.step);
     put(lists, item, depth)?;
     Ok(rest)

@@ -48,7 +48,7 @@ defined_after constants i defined = reverse (map (λ (d : List ℕ × Expr). d.0
 abbrev pub declares_again : List Use → List Use → Bool
 declares_again seen us =
     has_repeat (names_that is_typed seen) (names_that is_typed us)
-        || has_repeat (names_that is_array_or_constant seen) (names_that is_array_or_constant us)
+    || has_repeat (names_that is_array_or_constant seen) (names_that is_array_or_constant us)
 
 abbrev pub is_again_by : Facts → Role → Bool
 is_again_by f (Typed k) = is_typed_by f
@@ -116,4 +116,4 @@ Declares old new us again = (seen : List Use) → HaveSeen old seen → (again �
 abbrev pub Passes : Names → Names → Names → Statement77 → Bool → Type 0
 Passes names old new s wrong =
     (us seen : List Use) → AreNamesOf names us → HaveSeen old seen → (wrong ≡ is_wrong_after us seen s)
-        × (wrong ≡ false → HaveSeen new (uses_of s ++ seen))
+    × (wrong ≡ false → HaveSeen new (uses_of s ++ seen))

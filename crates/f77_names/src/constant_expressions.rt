@@ -11,8 +11,8 @@ ghost use Rattle.f77_names.specs.UsesView.{role_of, plain_use, listed};
 use crate::names::Names;
 use crate::statement_parts::{definitions, entities};
 use crate::uses::{Role, Use, Uses};
-use fv_tree::{Expr, Fun, Memory, Name};
 use f77_syntax::{Entity, Stmt77};
+use fv_tree::{Expr, Fun, Memory, Name};
 use std::alloc::Global;
 
 impl Role {

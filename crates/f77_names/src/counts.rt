@@ -9,9 +9,9 @@ ghost use Rattle.f77_names.specs.UsesView.{plain_use};
 
 use crate::names::{Facts, Names, names_of_text};
 use crate::uses::{Use, Uses};
+use f77_syntax::Labelled;
 use fv_tree::{Memory, Name, PROGRAM_NAMES_77};
 use indexmap::IndexSet;
-use f77_syntax::Labelled;
 use std::alloc::Global;
 
 // The variables and symbolic constants so far.

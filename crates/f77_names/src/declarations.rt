@@ -16,8 +16,8 @@ ghost use Rattle.f77_names.specs.UsesView.{role_of, plain_use};
 use crate::names::{Facts, Names, names_of_text};
 use crate::statement_parts::is_declaration;
 use crate::uses::{Role, Use, Uses};
-use fv_tree::{Fun, Memory, Name};
 use f77_syntax::{Labelled, Stmt77};
+use fv_tree::{Fun, Memory, Name};
 use std::alloc::Global;
 
 // ---- a name, by what is known of it

@@ -10,9 +10,9 @@ ghost use Rattle.f77_names.specs.NameFacts.{function_of, called_by, called_of};
 
 use crate::statement_uses::uses_in_text;
 use crate::uses::{Role, Use};
+use f77_syntax::Labelled;
 use fv_tree::{Fun, Kind, Memory, Name};
 use indexmap::IndexMap;
-use f77_syntax::Labelled;
 use std::alloc::Global;
 
 /// What the uses of a name say of it.

@@ -13,8 +13,8 @@ ghost use Rattle.f77_syntax.specs.Views.{text_of};
 use crate::names::{Facts, Names, names_of};
 use crate::statement_uses::uses_in_text;
 use crate::uses::{Role, Use, Uses};
-use fv_tree::{Memory, Name};
 use f77_syntax::Labelled;
+use fv_tree::{Memory, Name};
 use std::alloc::Global;
 
 // A name that is INTEGER without a type statement.

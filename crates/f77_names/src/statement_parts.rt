@@ -4,8 +4,8 @@ ghost use Rattle.f77_grammar.specs.program.Text.{is_declaration};
 ghost use Rattle.f77_grammar.specs.program.Limits.{entities_of, definitions_of};
 ghost use Rattle.f77_syntax.specs.Views.{statement_of, entity_of, constant_of};
 
-use fv_tree::{Expr, Name};
 use f77_syntax::{Entity, Stmt77};
+use fv_tree::{Expr, Name};
 
 #[tactic(auto, using(f77_syntax::proofs::Equations::statement_equations))]
 pub(crate) fn is_declaration(statement: &Stmt77) -> bool

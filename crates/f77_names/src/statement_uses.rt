@@ -7,8 +7,8 @@ ghost use Rattle.f77_names.specs.UsesView.{listed};
 ghost use Rattle.f77_syntax.specs.Views.{statement_of, text_of, bounds_of, entity_of, constant_of};
 
 use crate::uses::{Role, Uses};
-use fv_tree::{Expr, Kind, Memory, Name, Ref, Seq};
 use f77_syntax::{Entity, Labelled, Stmt77};
+use fv_tree::{Expr, Kind, Memory, Name, Ref, Seq};
 use std::alloc::Global;
 
 impl Uses {

@@ -1,7 +1,7 @@
 //! What no clause says: with ample memory each check answers.
 use crate::{many_names, real_name, uses_in_text, wrong_declaration};
-use fv_tree::{Expr, Name, Ref, Seq};
 use f77_syntax::{Labelled, Stmt77};
+use fv_tree::{Expr, Name, Ref, Seq};
 use std::alloc::Global;
 use std::test::Fail;
 

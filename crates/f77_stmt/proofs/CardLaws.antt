@@ -2,6 +2,9 @@
 use Rattle.std.proofs.Common.{◌≡◌, ℕ, ◌<◌, Bool, true, false, List, refl, ap, sym, ◌∙◌, subst, Result, Err, nat_lt, inl, arith}
 use Rattle.std.specs.Prelude.{◌⊎◌, Some, None}
 use Rattle.std.proofs.lemmas.Bool.Decides.{nat_tests}
+use Rattle.fv_tree.specs.Causes.{number_of_cause}
+use Rattle.fv_tree.specs.Limits.{expression_depth77}
+use Rattle.fv_tree.specs.declared.refusals.Cause.TheVariants as causes
 use Rattle.fv_tree.specs.declared.refusals.Refusal.{Refusal}
 use Rattle.fv_tree.specs.declared.refusals.Refused.{Refused}
 use Rattle.f77_grammar.specs.expressions.Squeezing.{Symbol, Squeezed}
@@ -21,10 +24,10 @@ use Rattle.f77_stmt.specs.Refusing.{IsFormless, NoWord, Word, limited, limited_b
 
 -- ---- limits
 
-deep : (n : ℕ) → nat_lt 400 (capped n) ≡ true → 400 < n
+deep : (n : ℕ) → nat_lt expression_depth77 (capped n) ≡ true → expression_depth77 < n
 deep n e = grind (arith, nat_tests)
 
-beyond : (n : ℕ) → 400 < n → nat_lt 400 (capped n) ≡ true
+beyond : (n : ℕ) → expression_depth77 < n → nat_lt expression_depth77 (capped n) ≡ true
 beyond n h = grind (arith, nat_tests)
 
 -- that is why
@@ -37,14 +40,14 @@ refused_with r = Err (Refused.Refusal r)
 the_refusal : (a b : Refusal) → refused_with a ≡ refused_with b → a ≡ b
 the_refusal a b e = cc
 
-refused_by : (chars : List ℕ) (f : Form) (s : Stmt77) (line : ℕ) (wide more : Bool) → IsFormOf chars f → wide ≡ has_wide_literal f → more ≡ nat_lt 400 (capped (form_depth f))
+refused_by : (chars : List ℕ) (f : Form) (s : Stmt77) (line : ℕ) (wide more : Bool) → IsFormOf chars f → wide ≡ has_wide_literal f → more ≡ nat_lt expression_depth77 (capped (form_depth f))
     → (r : Refusal) → limited_by wide more s line ≡ Err (Refused.Refusal r) → IsWhy chars line r
 refused_by chars f s line true more i w d r e = subst (IsWhy chars line) (the_refusal _ r e) (refl, reading.WideLiteral f i (sym w))
 refused_by chars f s line false true i w d r e = subst (IsWhy chars line) (the_refusal _ r e) (refl, reading.Deep f i (sym w) (deep (form_depth f) (sym d)))
 refused_by chars f s line false false i w d r e = cc
 
-depth_same : (made : Formed) (f : Form) → IsFormedOf made f → nat_lt 400 made.depth ≡ nat_lt 400 (capped (form_depth f))
-depth_same made f h = ap (nat_lt 400) h.depth
+depth_same : (made : Formed) (f : Form) → IsFormedOf made f → nat_lt expression_depth77 made.depth ≡ nat_lt expression_depth77 (capped (form_depth f))
+depth_same made f h = ap (nat_lt expression_depth77) h.depth
 
 form_of : (chars : List ℕ) (text : List Symbol) (f : Form) → Squeezed chars text → IsWritten f text → IsFormOf chars f
 form_of chars text f q h = record { symbols = text; squeezed = q; written = h }
@@ -52,7 +55,7 @@ form_of chars text f q h = record { symbols = text; squeezed = q; written = h }
 pub refused_limited : (chars : List ℕ) (text : List Symbol) (line : ℕ) (made : Formed) (r : Result Stmt77 Refused) → r ≡ limited made line → Squeezed chars text → IsFound (λ f. IsWritten f text) made
     → (x : Refusal) → r ≡ Err (Refused.Refusal x) → IsWhy chars line x
 refused_limited chars text line made r e q h x k =
-    refused_by chars h.form made.statement line made.wide (nat_lt 400 made.depth) (form_of chars text h.form q h.is) h.made_of.wide (depth_same made h.form h.made_of) x (sym e ∙ k)
+    refused_by chars h.form made.statement line made.wide (nat_lt expression_depth77 made.depth) (form_of chars text h.form q h.is) h.made_of.wide (depth_same made h.form h.made_of) x (sym e ∙ k)
 
 -- ---- nothing else is answered
 
@@ -69,11 +72,11 @@ written_here chars text f only i = subst (IsWritten f) (sym (only i.symbols i.sq
 word_here : (chars : List ℕ) (text : List Symbol) (w : ℕ) → IsOnly chars text → HasWordLeftOut chars w → HasWord text w
 word_here chars text w only h = subst (λ (q : List Symbol). HasWord q w) (sym (only h.symbols h.squeezed)) h.has_word
 
-wide_as : (t : Stmt77) (line : ℕ) (wide more : Bool) → wide ≡ true → IsRefusedAs line 8 0 (limited_by wide more t line)
+wide_as : (t : Stmt77) (line : ℕ) (wide more : Bool) → wide ≡ true → IsRefusedAs line (number_of_cause causes.WideLiteral) 0 (limited_by wide more t line)
 wide_as t line true more w = inl refl
 wide_as t line false more w = cc
 
-deep_as : (t : Stmt77) (line : ℕ) (wide more : Bool) → wide ≡ false → more ≡ true → IsRefusedAs line 9 0 (limited_by wide more t line)
+deep_as : (t : Stmt77) (line : ℕ) (wide more : Bool) → wide ≡ false → more ≡ true → IsRefusedAs line (number_of_cause causes.Deep) 0 (limited_by wide more t line)
 deep_as t line true more w d = cc
 deep_as t line false true w d = inl refl
 deep_as t line false false w d = cc
@@ -83,10 +86,10 @@ refused_as : (chars : List ℕ) (text : List Symbol) (line : ℕ) (made : Formed
 refused_as chars text line made number word only q h m (reading.Syntax never words) = absurd (never h.form (form_of chars text h.form q h.is))
 refused_as chars text line made number word only q h m (reading.OutOfProfile w never has) = absurd (never h.form (form_of chars text h.form q h.is))
 refused_as chars text line made number word only q h m (reading.WideLiteral f i w) =
-    wide_as made.statement line made.wide (nat_lt 400 made.depth) ((m f (written_here chars text f only i)).wide ∙ w)
+    wide_as made.statement line made.wide (nat_lt expression_depth77 made.depth) ((m f (written_here chars text f only i)).wide ∙ w)
 refused_as chars text line made number word only q h m (reading.Deep f i w d) =
     let k = m f (written_here chars text f only i) in
-    deep_as made.statement line made.wide (nat_lt 400 made.depth) (k.wide ∙ w) (depth_same made f k ∙ beyond (form_depth f) d)
+    deep_as made.statement line made.wide (nat_lt expression_depth77 made.depth) (k.wide ∙ w) (depth_same made f k ∙ beyond (form_depth f) d)
 
 pub limited_refuses : (chars : List ℕ) (text : List Symbol) (line : ℕ) (made : Formed) (r : Result Stmt77 Refused) → r ≡ limited made line → IsOnly chars text → Squeezed chars text → IsFound (λ f. IsWritten f text) made
     → ((f : Form) → IsWritten f text → IsFormedOf made f) → (number word : ℕ) → IsRefusedBy chars number word → IsRefusedAs line number word r
@@ -126,10 +129,13 @@ formless_refuses chars text line x q only never l exact number word b =
     let k = exact number word (formless_is chars text number word q only never b) in
     inl (ap refused_with (same_refusal x line number word l k.0 k.1))
 
-pub no_word : (text : List Symbol) → ((w : ℕ) → HasWord text w → None ≡ Some w) → IsFormless text 6 0
+pub no_word : (text : List Symbol) → ((w : ℕ) → HasWord text w → None ≡ Some w) → IsFormless text (number_of_cause causes.Syntax) 0
 no_word text only = NoWord (λ w h. none_is_some w (only w h)) where
   none_is_some : (w : ℕ) → None ≡ Some w → ⊥
   none_is_some w e = cc
+
+pub formless_at : (text : List Symbol) (r q : Refusal) → r ≡ q → IsFormless text q.number q.word → IsFormless text r.number r.word
+formless_at text r q e h = subst (λ (x : Refusal). IsFormless text x.number x.word) (sym e) h
 
 -- ---- in the words of the code
 

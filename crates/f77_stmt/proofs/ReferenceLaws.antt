@@ -15,8 +15,19 @@ use Rattle.f77_expr.specs.Reading.{Ends, IsMadeOf, Gives}
 use Rattle.f77_expr.specs.TokenFronts.{begins_with_name}
 use Rattle.f77_stmt.specs.Parts.{IsItem, IsReferenceOf, BeginsWithReference}
 
-pub ruleset items = (expression_of-int, expression_of-truth, expression_of-item, expression_of-un, expression_of-bin, expression_of-call,
-    expression_of-list, expression_of-spread, expression_of-transpose, expression_of-reshape, expression_of-reduce)
+pub ruleset items = (
+  expression_of-int,
+  expression_of-truth,
+  expression_of-item,
+  expression_of-un,
+  expression_of-bin,
+  expression_of-call,
+  expression_of-list,
+  expression_of-spread,
+  expression_of-transpose,
+  expression_of-reshape,
+  expression_of-reduce,
+)
 
 -- what begins with a name and stands for a reference has neither a sign nor parentheses
 pub is_bare : (p : Phrase) (rest : List Word) (r : Reference) → begins_with_name (written p ++ rest) ≡ true → IsItem (tree p) r → IsReference p

@@ -2,6 +2,7 @@
 use Rattle.std.specs.Prelude.{ℕ, ◌≡◌, ◌≤◌, max, List, ◌∷◌, ◌++◌, map, length}
 use Rattle.f77_grammar.specs.Statement77 as statement
 use Rattle.f77_grammar.specs.expressions.Words as words
+use Rattle.fv_tree.specs.Limits.{array_dimensions}
 use Rattle.fv_tree.specs.Plain.{Expression}
 use Rattle.fv_tree.specs.View.{expression_of}
 use Rattle.f77_grammar.specs.expressions.Phrases.{Phrase, IsExpression, written, tree, depth}
@@ -27,7 +28,8 @@ pub record BeginsWithBound (ws : List Word) (bounds : Expression × Expression) 
   pub same : ws ≡ written_bound bound ++ rest
 
 -- An expression behind the first bound and a colon, which gives the second.
-pub record EndsBound (ws : List Word) (first : Operand) (bounds : Expression × Expression) (d : ℕ) (rest : List Word) : Type 0 where
+pub record EndsBound (ws : List Word) (first : Operand) (bounds : Expression × Expression) (d : ℕ)
+    (rest : List Word) : Type 0 where
   pub phrase : Phrase
   pub good : IsExpression phrase
   pub tree : bounds ≡ (expression_of first.tree, tree phrase)
@@ -35,10 +37,12 @@ pub record EndsBound (ws : List Word) (first : Operand) (bounds : Expression × 
   pub same : ws ≡ written phrase ++ rest
 
 abbrev pub AreBoundsRead : List Word → List (Expr × Expr) → ℕ → List Word → Type 0
-AreBoundsRead ws made d rest = BeginsWithList written_bound IsBound bound_tree bound_depth ws (map bounds_of made) d rest
+AreBoundsRead ws made d rest =
+    BeginsWithList written_bound IsBound bound_tree bound_depth ws (map bounds_of made) d rest
 
 abbrev pub AreTheBounds : List Bound → List Word → List (Expr × Expr) → ℕ → List Word → Type 0
-AreTheBounds bs last made d rest = IsRead written_bound IsBound bound_tree bound_depth bs last (map bounds_of made) d rest
+AreTheBounds bs last made d rest =
+    IsRead written_bound IsBound bound_tree bound_depth bs last (map bounds_of made) d rest
 
 -- while they are read
 abbrev pub ReadsBounds : List Word → List (Expr × Expr) → ℕ → List Word → Type 0
@@ -57,10 +61,11 @@ abbrev pub IsTheEntity : Entity → List Word → statement.Entity → ℕ → L
 IsTheEntity e last made d rest = IsThePart written_entity IsEntity entity_tree entity_depth e last made d rest
 
 -- bounds and a closing parenthesis, behind a name with its opening one
-pub record EndsEntity (ws : List Word) (name : List ℕ) (made : statement.Entity) (d : ℕ) (rest : List Word) : Type 0 where
+pub record EndsEntity (ws : List Word) (name : List ℕ) (made : statement.Entity) (d : ℕ)
+    (rest : List Word) : Type 0 where
   pub bounds : List Bound
   pub are : IsList IsBound bounds
-  pub few : length bounds ≤ 7
+  pub few : length bounds ≤ array_dimensions
   pub tree : made ≡ entity_tree (Bounded name bounds)
   pub deep : d ≡ capped (entity_depth (Bounded name bounds))
   pub same : ws ≡ separated written_bound bounds ++ (words.Close ∷ rest)
@@ -68,7 +73,9 @@ pub record EndsEntity (ws : List Word) (name : List ℕ) (made : statement.Entit
 -- ---- symbolic constants
 
 abbrev pub BeginsWithDefinition : List Word → statement.NamedConstant → ℕ → List Word → Type 0
-BeginsWithDefinition ws made d rest = BeginsWithPart written_definition IsDefinition definition_tree definition_depth ws made d rest
+BeginsWithDefinition ws made d rest =
+    BeginsWithPart written_definition IsDefinition definition_tree definition_depth ws made d rest
 
 abbrev pub IsTheDefinition : Definition → List Word → statement.NamedConstant → ℕ → List Word → Type 0
-IsTheDefinition x last made d rest = IsThePart written_definition IsDefinition definition_tree definition_depth x last made d rest
+IsTheDefinition x last made d rest =
+    IsThePart written_definition IsDefinition definition_tree definition_depth x last made d rest

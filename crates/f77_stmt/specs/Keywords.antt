@@ -31,13 +31,15 @@ first_of (w ∷ ws) text = or_else (strip w.0 text) w.1 (first_of ws text)
 -- a longer keyword stands before one that begins it
 abbrev pub first_keywords : List (List ℕ × Keyword)
 first_keywords =
-    (codes "PROGRAM", Program) ∷ (codes "INTEGER", Integer) ∷ (codes "LOGICAL", Logical) ∷ (codes "DIMENSION", Dimension) ∷ (codes "PARAMETER", Parameter)
-    ∷ (codes "GOTO", GoTo) ∷ (codes "ELSEIF(", ElseIf) ∷ (codes "ELSE", Else) ∷ []
+    (codes "PROGRAM", Program) ∷ (codes "INTEGER", Integer) ∷ (codes "LOGICAL", Logical)
+    ∷ (codes "DIMENSION", Dimension) ∷ (codes "PARAMETER", Parameter) ∷ (codes "GOTO", GoTo)
+    ∷ (codes "ELSEIF(", ElseIf) ∷ (codes "ELSE", Else) ∷ []
 
 abbrev pub last_keywords : List (List ℕ × Keyword)
 last_keywords =
     (codes "ENDIF", EndIf) ∷ (codes "END", End) ∷ (codes "CONTINUE", Continue) ∷ (codes "STOP", Stop)
-    ∷ (codes "READ(*,*)", ReadUnit) ∷ (codes "READ*", ReadList) ∷ (codes "WRITE(*,*)", WriteUnit) ∷ (codes "PRINT*", PrintList) ∷ []
+    ∷ (codes "READ(*,*)", ReadUnit) ∷ (codes "READ*", ReadList) ∷ (codes "WRITE(*,*)", WriteUnit)
+    ∷ (codes "PRINT*", PrintList) ∷ []
 
 abbrev pub either : Option Front → Option Front → Option Front
 either (Some f) next = Some f

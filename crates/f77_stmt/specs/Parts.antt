@@ -1,5 +1,5 @@
 -- What is read of a statement and its parts, in the words of the grammar.
-use Rattle.std.specs.Prelude.{ℕ, ◌≡◌, min, Bool, true, false, Option, List, ◌∷◌, ◌++◌, Result, Ok, Err}
+use Rattle.std.specs.Prelude.{ℕ, ◌≡◌, Bool, true, false, Option, List, ◌∷◌, ◌++◌, Result, Ok, Err}
 use Rattle.fv_tree.specs.Plain.{Expression, Named, Reference}
 use Rattle.fv_tree.specs.View.{expression_of, reference_of}
 use Rattle.fv_tree.specs.declared.exprs.Ref.{Ref}
@@ -10,6 +10,7 @@ use Rattle.f77_grammar.specs.statements.Items.{IsReference, IsStep, written_step
 use Rattle.f77_grammar.specs.statements.Forms.{AreParameters, written_control, control_depth}
 use Rattle.f77_grammar.specs.statements.Forms.{Form, Assign, statement_of, form_depth, has_wide_literal, reference_in}
 use Rattle.f77_syntax.specs.Views as view
+pub use Rattle.f77_expr.specs.Reader.{capped}
 use Rattle.f77_expr.specs.declared.tokens.Stop.{Stop}
 use Rattle.f77_expr.specs.declared.tokens.Stop.TheVariants.{Syntax, Memory}
 use Rattle.f77_stmt.specs.declared.assignments.Control.{Control}
@@ -20,10 +21,6 @@ abbrev pub Given : {A : Type 0} → Result A Stop → (A → Type 0) → Type 0
 Given (Ok a) P = P a
 Given (Err Syntax) P = ⊥
 Given (Err Memory) P = Unit {0}
-
--- a depth above 400 counts as 401
-abbrev pub capped : ℕ → ℕ
-capped n = min n 401
 
 -- ---- a reference
 

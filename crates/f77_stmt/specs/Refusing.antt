@@ -1,5 +1,8 @@
 -- Why a card is refused.
 use Rattle.std.specs.Prelude.{ℕ, Bool, true, false, nat_lt, List, Result, Ok, Err}
+use Rattle.fv_tree.specs.Causes.{number_of_cause, refusal_at}
+use Rattle.fv_tree.specs.Limits.{expression_depth77}
+use Rattle.fv_tree.specs.declared.refusals.Cause.TheVariants.{Syntax, OutOfProfile, WideLiteral, Deep}
 use Rattle.fv_tree.specs.declared.refusals.Refused.{Refused}
 use Rattle.f77_grammar.specs.expressions.Squeezing.{Symbol}
 use Rattle.f77_grammar.specs.statements.Recognition.{HasWord}
@@ -8,14 +11,14 @@ use Rattle.f77_stmt.specs.declared.formed.Formed.{Formed}
 
 -- The number of the cause and that of the word, for a text that has no form.
 pub data IsFormless (text : List Symbol) : (number word : ℕ) → Type 0 where
-  NoWord : ((word : ℕ) → HasWord text word → ⊥) → IsFormless text 6 0
-  Word : (word : ℕ) → HasWord text word → IsFormless text 7 word
+  NoWord : ((word : ℕ) → HasWord text word → ⊥) → IsFormless text (number_of_cause Syntax) 0
+  Word : (word : ℕ) → HasWord text word → IsFormless text (number_of_cause (OutOfProfile word)) word
 
--- a literal above 2^127-1 is refused first, and then what is more than 400 deep
+-- a literal above 2^127-1 is refused first, and then what is too deep
 abbrev pub limited_by : (wide deep : Bool) → Stmt77 → ℕ → Result Stmt77 Refused
-limited_by true deep s line = Err (Refused.Refusal (record { number = 8; line = line; word = 0 }))
-limited_by false true s line = Err (Refused.Refusal (record { number = 9; line = line; word = 0 }))
+limited_by true deep s line = Err (Refused.Refusal (refusal_at WideLiteral line))
+limited_by false true s line = Err (Refused.Refusal (refusal_at Deep line))
 limited_by false false s line = Ok s
 
 abbrev pub limited : Formed → ℕ → Result Stmt77 Refused
-limited made line = limited_by made.wide (nat_lt 400 made.depth) made.statement line
+limited made line = limited_by made.wide (nat_lt expression_depth77 made.depth) made.statement line

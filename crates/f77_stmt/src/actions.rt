@@ -16,10 +16,10 @@ ghost use Rattle.f77_stmt.specs.Parts.{Given, IsFormedOf};
 
 use crate::formed::Formed;
 use f77_expr::{Stop, Symbol, has_wide, strip, whole, words};
-use f77_lists::{read_inputs, read_items};
 use f77_keywords::{cut_at_close, is_then, label};
-use fv_tree::{Expr, Seq};
+use f77_lists::{read_inputs, read_items};
 use f77_syntax::Stmt77;
+use fv_tree::{Expr, Seq};
 use std::alloc::Global;
 
 /// A label as that of a GO TO (section 11.1).
@@ -36,8 +36,8 @@ pub(crate) fn go_to(text: &[Symbol]) -> Result<Formed, Stop>
     Ok(Formed::bare(Stmt77::Go(number)))
 }
 
-/// The whole text as one expression, with its depth, which is counted up to 401, and whether a literal of it is above
-/// 2^127-1.
+/// The whole text as one expression, with its depth, which is counted up to the first that is too deep, and whether a
+/// literal of it is above 2^127-1.
 pub(crate) fn condition(alloc: Global, text: &[Symbol]) -> Result<(Expr, u16, bool), Stop>
     ensures found { IfOk result (λ r. IsCondition (symbols_of text.now) (expression_of r.0) r.1 r.2) }
     ensures only { (p : Phrase) → IsExpression p → Words (symbols_of text.now) (written p)

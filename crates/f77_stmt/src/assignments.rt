@@ -14,10 +14,12 @@ ghost use Rattle.f77_stmt.specs.Parts.{IsItem, Given, BeginsWithReference, IsRef
 ghost use Rattle.f77_stmt.specs.Parts.{HasStep, IsControl, IsControlOf, IsAssignment, IsFormedOf};
 
 use crate::formed::Formed;
-use f77_expr::{Operand, Stop, Token, after_comma, after_equals, after_name, begins_with_name};
-use f77_expr::{has_wide, read, whole};
-use fv_tree::{Expr, Name, Ref};
+use f77_expr::{
+    Operand, Stop, Token, after_comma, after_equals, after_name, begins_with_name, has_wide, read,
+    whole,
+};
 use f77_syntax::Stmt77;
+use fv_tree::{Expr, Name, Ref};
 use std::alloc::Global;
 
 // An operand that is a name, or a name with a list, with its depth.
@@ -59,7 +61,7 @@ pub(crate) fn reference(alloc: Global, tokens: &[Token]) -> Result<(Ref, u16, &[
     Ok((item, depth, rest))
 }
 
-/// A DO variable with its parameters, and their depth, which is counted up to 401.
+/// A DO variable with its parameters, and their depth, which is counted up to the first that is too deep.
 #[derive(Debug, Drop)]
 pub(crate) struct Control {
     pub variable: Name,

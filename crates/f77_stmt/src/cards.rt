@@ -11,9 +11,9 @@ use crate::formed::Formed;
 use crate::forms::form;
 use f77_expr::{Stop, Symbol, squeeze};
 use f77_keywords::word_left_out;
+use f77_syntax::Stmt77;
 use fixed_form::Card;
 use fv_tree::{Cause, EXPRESSION_DEPTH_77, Refusal, Refused};
-use f77_syntax::Stmt77;
 use std::alloc::Global;
 
 // The statement, where its literals and its depth are within the limits.
@@ -53,7 +53,8 @@ pub fn parse(alloc: Global, card: &Card) -> Result<Stmt77, Refused>
     ensures only_read { (s : Statement77) → ReadsStatement card.now.chars s
         → IsOkAnd result (λ read. view.statement_of read ≡ s) ⊎ (result ≡ Err Refused.Memory) }
     ensures only_refused { (number word : ℕ) → IsRefusedBy card.now.chars number word
-        → (result ≡ Err (Refused.Refusal (record { number = number; line = card.now.line; word = word }))) ⊎ (result ≡ Err Refused.Memory) }
+        → (result ≡ Err (Refused.Refusal (record { number = number; line = card.now.line; word = word })))
+        ⊎ (result ≡ Err Refused.Memory) }
 {
     let symbols = squeeze(alloc, card.chars.as_slice())?;
     match form(alloc, symbols.as_slice()) {

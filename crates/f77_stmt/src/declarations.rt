@@ -1,5 +1,6 @@
 //! Names with bounds, and symbolic constants.
 ghost use Rattle.std.specs.Prelude.{◌≡◌, pos, max, List, [], ◌∷◌, ◌++◌, map, IfOk, length, ◌≤◌};
+ghost use Rattle.fv_tree.specs.Limits.{array_dimensions};
 ghost use Rattle.fv_tree.specs.Plain.{Number};
 ghost use Rattle.fv_tree.specs.View.{expression_of};
 ghost use Rattle.f77_grammar.specs.expressions.Phrases.{Phrase, IsExpression, written, tree, depth};
@@ -18,10 +19,12 @@ ghost use Rattle.f77_stmt.specs.Declarations.{IsTheDefinition, AreBoundsRead, Ar
 ghost use Rattle.f77_stmt.specs.Declarations.{IsBoundOf};
 ghost use Rattle.f77_stmt.specs.Separated.{EndsPart, EndsList, BeginsWithList, IsRead};
 
-use f77_expr::{Operand, Stop, Token, read};
-use f77_expr::{after_close, after_colon, after_comma, after_equals, after_head, after_name};
-use fv_tree::{ARRAY_DIMENSIONS, Expr, Name, Seq};
+use f77_expr::{
+    Operand, Stop, Token, after_close, after_colon, after_comma, after_equals, after_head,
+    after_name, read,
+};
 use f77_syntax::Entity;
+use fv_tree::{ARRAY_DIMENSIONS, Expr, Name, Seq};
 use std::alloc::Global;
 
 // An upper bound alone.
@@ -50,7 +53,8 @@ fn read_upper(
     ensures found { IfOk result (λ r. EndsBound (words_of tokens.now) first (bounds_of r.0) r.1 (words_of r.2.now)) }
     ensures only { (p : Phrase) (rest : List words.Word) → IsExpression p → Ends rest
         → words_of tokens.now ≡ written p ++ rest
-        → Given result (λ r. (bounds_of r.0 ≡ (expression_of first.tree, tree p)) × (r.1 ≡ max first.depth (capped (depth p))) × (words_of r.2.now ≡ rest)) }
+        → Given result (λ r. (bounds_of r.0 ≡ (expression_of first.tree, tree p))
+        × (r.1 ≡ max first.depth (capped (depth p))) × (words_of r.2.now ≡ rest)) }
 {
     let (second, rest) = read(alloc, tokens)?;
     let (bounds, depth) = both(first, second);
@@ -101,7 +105,8 @@ fn read_bounds(alloc: Global, tokens: &[Token]) -> Result<(Seq<(Expr, Expr)>, u1
 // A name with its bounds in parentheses, behind the opening one.
 fn bounded(alloc: Global, name: Name, tokens: &[Token]) -> Result<(Entity, u16, &[Token]), Stop>
     ensures found { IfOk result (λ r. EndsEntity (words_of tokens.now) name (entity_of r.0) r.1 (words_of r.2.now)) }
-    ensures only { (bs : List Bound) (last : List words.Word) → IsList IsBound bs → length bs ≤ 7
+    ensures only { (bs : List Bound) (last : List words.Word) → IsList IsBound bs
+        → length bs ≤ array_dimensions
         → words_of tokens.now ≡ separated written_bound bs ++ (words.Close ∷ last)
         → Given result (λ r. IsTheEntity (Bounded name bs) last (entity_of r.0) r.1 (words_of r.2.now)) }
 {
@@ -148,10 +153,12 @@ pub(crate) fn read_entities(
     alloc: Global,
     tokens: &[Token],
 ) -> Result<(Seq<Entity>, u16, &[Token]), Stop>
-    ensures found { IfOk result (λ r. BeginsWithList written_entity IsEntity entity_tree entity_depth (words_of tokens.now) (map entity_of r.0) r.1 (words_of r.2.now)) }
+    ensures found { IfOk result (λ r. BeginsWithList written_entity IsEntity entity_tree entity_depth
+        (words_of tokens.now) (map entity_of r.0) r.1 (words_of r.2.now)) }
     ensures only { (es : List Forms.Entity) (last : List words.Word) → IsList IsEntity es → EndsList last
         → words_of tokens.now ≡ separated written_entity es ++ last
-        → Given result (λ r. IsRead written_entity IsEntity entity_tree entity_depth es last (map entity_of r.0) r.1 (words_of r.2.now)) }
+        → Given result (λ r. IsRead written_entity IsEntity entity_tree entity_depth es last (map entity_of r.0) r.1
+        (words_of r.2.now)) }
 {
     let (first, depth, tail) = read_entity(alloc, tokens)?;
     let mut entities = Seq::new(alloc);
@@ -178,7 +185,8 @@ fn defined(name: Name, value: Operand) -> ((Name, Expr), u16)
 // The name of a symbolic constant with its expression, its depth, and what follows.
 #[tactic(auto, using(crate::proofs::EntityLaws::entities))]
 fn read_definition(alloc: Global, tokens: &[Token]) -> Result<((Name, Expr), u16, &[Token]), Stop>
-    ensures found { IfOk result (λ r. BeginsWithDefinition (words_of tokens.now) (constant_of r.0) r.1 (words_of r.2.now)) }
+    ensures found { IfOk result (λ r. BeginsWithDefinition (words_of tokens.now) (constant_of r.0) r.1
+        (words_of r.2.now)) }
     ensures only { (d : Definition) (last : List words.Word) → IsDefinition d → EndsPart last
         → words_of tokens.now ≡ written_definition d ++ last
         → Given result (λ r. IsTheDefinition d last (constant_of r.0) r.1 (words_of r.2.now)) }
@@ -199,10 +207,12 @@ pub(crate) fn read_definitions(
     alloc: Global,
     tokens: &[Token],
 ) -> Result<(Seq<(Name, Expr)>, u16, &[Token]), Stop>
-    ensures found { IfOk result (λ r. BeginsWithList written_definition IsDefinition definition_tree definition_depth (words_of tokens.now) (map constant_of r.0) r.1 (words_of r.2.now)) }
+    ensures found { IfOk result (λ r. BeginsWithList written_definition IsDefinition definition_tree definition_depth
+        (words_of tokens.now) (map constant_of r.0) r.1 (words_of r.2.now)) }
     ensures only { (ds : List Definition) (last : List words.Word) → IsList IsDefinition ds → EndsList last
         → words_of tokens.now ≡ separated written_definition ds ++ last
-        → Given result (λ r. IsRead written_definition IsDefinition definition_tree definition_depth ds last (map constant_of r.0) r.1 (words_of r.2.now)) }
+        → Given result (λ r. IsRead written_definition IsDefinition definition_tree definition_depth ds last
+        (map constant_of r.0) r.1 (words_of r.2.now)) }
 {
     let (first, depth, tail) = read_definition(alloc, tokens)?;
     let mut definitions = Seq::new(alloc);

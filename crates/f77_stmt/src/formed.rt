@@ -7,7 +7,7 @@ ghost use Rattle.f77_stmt.specs.Parts.{IsFormedOf};
 use f77_syntax::Stmt77;
 
 /// A statement that has a form, before its literals and its depth are looked at: whether a literal of it is above
-/// 2^127-1, and its depth, which is counted up to 401.
+/// 2^127-1, and its depth, which is counted up to the first that is too deep.
 #[derive(Debug, Drop)]
 pub(crate) struct Formed {
     pub statement: Stmt77,

@@ -30,8 +30,8 @@ use crate::keywords::Keyword;
 use crate::statements::{constants, declaration, dimension, program};
 use f77_expr::{Stop, Symbol, has_wide, strip, words};
 use f77_keywords::{Outside, behind_comma, conditional, is_then, label};
-use fv_tree::{Expr, Kind};
 use f77_syntax::Stmt77;
+use fv_tree::{Expr, Kind};
 use std::alloc::Global;
 
 // Whether the statement may be the inner one of a logical IF.
@@ -75,7 +75,8 @@ fn loop_label(text: &[Symbol]) -> Option<(u32, &[Symbol])>
     ensures found { IfSome result (λ r. IsLoopFront (symbols_of text.now) r.0 (symbols_of r.1.now)) }
     ensures only { (digits : List ℕ) (comma : Bool) (rest : List squeezing.Symbol) → IsLabel digits
         → BeginsWithLetter rest
-        → symbols_of text.now ≡ chars (codes "DO" ++ (digits ++ optional_comma comma)) ++ rest → GivesLabel result (value digits) rest }
+        → symbols_of text.now ≡ chars (codes "DO" ++ (digits ++ optional_comma comma)) ++ rest
+        → GivesLabel result (value digits) rest }
 {
     let rest = strip(b"DO", text)?;
     let (number, rest) = label(rest)?;

@@ -1,8 +1,8 @@
 //! What no clause says: with ample memory cards are read or refused as the rules have it.
 use crate::parse;
+use f77_syntax::Stmt77;
 use fixed_form::Card;
 use fv_tree::{Cause, Refusal, Refused, Seq};
-use f77_syntax::Stmt77;
 use std::alloc::{AllocError, Global};
 use std::test::Fail;
 
@@ -96,7 +96,10 @@ fn read_or_refused(rt: HostRuntime) -> Result<(), Fail> {
         ("IF (L) IF (M) I = 1", Some(Cause::Syntax)),
         ("STOP 1", Some(Cause::Syntax)),
         ("I = 170141183460469231731687303715884105727", None),
-        ("I = 170141183460469231731687303715884105728", Some(Cause::WideLiteral)),
+        (
+            "I = 170141183460469231731687303715884105728",
+            Some(Cause::WideLiteral),
+        ),
     ] {
         let want = cause.map(|cause| cause.at(7));
         assert_eq!(rt; refusal(rt.alloc(), text)?, want, "at {text}");

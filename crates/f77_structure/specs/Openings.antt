@@ -148,4 +148,4 @@ abbrev pub has_wrong_closer : Form → ℕ → Option ℕ → Option ℕ → Opt
 has_wrong_closer form at end first f es =
     refuses_else form f (nearest_at (trimmed at es))
     || (closes_wrongly form (is_from (at + 1) end) f (nearest_at (trimmed (at + 1) (trimmed at es)))
-        || ends_wrongly first form f (nearest_at (trimmed (at + 1) (trimmed at es))))
+    || ends_wrongly first form f (nearest_at (trimmed (at + 1) (trimmed at es))))

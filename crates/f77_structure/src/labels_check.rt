@@ -9,8 +9,8 @@ ghost use Rattle.f77_syntax.specs.Views.{text_of, statement_of};
 
 use crate::forms::Form;
 use crate::labels::Labels;
-use fv_tree::Memory;
 use f77_syntax::Labelled;
+use fv_tree::Memory;
 use std::alloc::Global;
 
 impl Form {

@@ -12,8 +12,8 @@ use crate::forms::Form;
 use crate::label_places::LabelPlaces;
 use crate::openings::Openings;
 use crate::order::out_of_order;
-use fv_tree::Memory;
 use f77_syntax::Labelled;
+use fv_tree::Memory;
 use std::alloc::Global;
 
 impl Form {

@@ -1,7 +1,7 @@
 //! What no clause says: with ample memory each check answers.
 use crate::{wrong_end, wrong_label, wrong_nesting};
-use fv_tree::{Expr, Name};
 use f77_syntax::{Labelled, Stmt77};
+use fv_tree::{Expr, Name};
 use std::test::Fail;
 
 fn on_line(line: u32, label: Option<u32>, statement: Stmt77) -> Labelled {

@@ -37,13 +37,7 @@ fn assert_refused(
     line: u32,
 ) {
     match statements(rt.alloc(), source) {
-        Err(refused) => {
-            assert_eq!(rt;
-                refused,
-                Refused::Refusal(cause.at(line)),
-                "{name}"
-            )
-        }
+        Err(refused) => { assert_eq!(rt; refused, Refused::Refusal(cause.at(line)), "{name}") }
         Ok(_) => panic!(rt; "{name}"),
     }
 }
@@ -120,19 +114,44 @@ fn sources_are_read(rt: HostRuntime) -> Result<(), Fail> {
 #[test]
 fn sources_are_refused(rt: HostRuntime) {
     let rows: [(&str, &[u8], Cause, u32); 15] = [
-        ("a byte in column 10", b"      END\n      PRI\xc8\n", Cause::BadByte, 2),
-        ("a carriage return at the end", b"      END\r", Cause::BadByte, 1),
-        ("a carriage return within", b"      EN\rD\n", Cause::BadByte, 1),
+        (
+            "a byte in column 10",
+            b"      END\n      PRI\xc8\n",
+            Cause::BadByte,
+            2,
+        ),
+        (
+            "a carriage return at the end",
+            b"      END\r",
+            Cause::BadByte,
+            1,
+        ),
+        (
+            "a carriage return within",
+            b"      EN\rD\n",
+            Cause::BadByte,
+            1,
+        ),
         ("a tab in column 7", b"      \tEND\n", Cause::Tab, 1),
         ("a tab and blanks alone", b"\n \t \n", Cause::Tab, 2),
-        ("a bad byte after a tab", b"\tEND\n      EN\x7f\n", Cause::BadByte, 2),
+        (
+            "a bad byte after a tab",
+            b"\tEND\n      EN\x7f\n",
+            Cause::BadByte,
+            2,
+        ),
         (
             "a continuation line first",
             b"C\n     1+1\n      END\n",
             Cause::LineForm,
             2,
         ),
-        ("a letter in the label field", b"1A    END\n", Cause::LineForm, 1),
+        (
+            "a letter in the label field",
+            b"1A    END\n",
+            Cause::LineForm,
+            1,
+        ),
         (
             "a label on a continuation line",
             b"      A = 1\n1    1+1\n",

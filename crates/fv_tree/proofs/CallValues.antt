@@ -8,7 +8,6 @@ use Rattle.std.specs.Ordering.{int_eq}
 use Rattle.std.proofs.lemmas.Int.{ints, quot-rem}
 use Rattle.std.proofs.lemmas.Bool.{false_from_ne_true}
 use Rattle.std.proofs.lemmas.Bool.Decides.{Decides-int_eq}
-use Rattle.std.proofs.lemmas.List.Elements.{All-nil, All-cons}
 use Rattle.fv_tree.specs.Steps.{◌>>=◌}
 use Rattle.fv_tree.specs.Operators.{number, ranged, remainder, exact_call, call, number_in, IsNumber}
 use Rattle.fv_tree.specs.declared.functions.Fun.{Fun}
@@ -106,6 +105,3 @@ pub ruleset absolutes = (abs-checked)
 pub ruleset remainders = (remainder-zero, remainder-other)
 
 pub ruleset calls = (call-Abs, call-Mod, call-Max, call-Min)
-
--- arguments that are written out
-pub ruleset literals = (All-nil, All-cons)

@@ -1,5 +1,5 @@
 -- The number and the word of a refusal tell its cause.
-use Rattle.std.proofs.Common.{◌≡◌, ◌∙◌, ap, refl, sym, ℕ, ◌==◌, ◌&&◌, Option, Some, None, find, cond}
+use Rattle.std.proofs.Common.{◌≡◌, ◌∙◌, ap, refl, sym, ℕ, ◌==◌, Option, Some, find, cond}
 use Rattle.fv_tree.specs.Causes.{number_of_cause, word_of_cause, has_code, all_causes, IsRefusedFor}
 use Rattle.fv_tree.specs.declared.refusals.Refusal.{Refusal}
 use Rattle.fv_tree.specs.declared.refusals.Cause.{Cause}

@@ -7,5 +7,6 @@ pub mod Faults
 pub mod CallValues
 pub mod Laws
 pub mod Powers
+pub mod Reductions
 pub mod Table
 pub mod Unsuited

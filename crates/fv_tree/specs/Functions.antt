@@ -1,6 +1,6 @@
 -- The function table: the names of functions in FORTRAN 77 (ANSI X3.9-1978, 15.10, table 5) and in Fortran 90
 -- (ISO/IEC 1539:1991, 13.10), and how many arguments each takes.
-use Rattle.std.specs.Prelude.{◌≡◌, ℕ, nat_le, ◌==◌, Bool, ◌||◌, Option, None, Some, find, if◌then◌else◌, List, [], ◌∷◌}
+use Rattle.std.specs.Prelude.{ℕ, nat_le, ◌==◌, Bool, ◌||◌, Option, None, Some, find, if◌then◌else◌, List, [], ◌∷◌}
 use Rattle.std.specs.Prelude.{codes}
 use Rattle.std.specs.Str.{bytes_eq}
 use Rattle.fv_tree.specs.declared.functions.Fun.{Fun}

@@ -2,6 +2,7 @@ pub mod formers
 pub mod Arguments
 pub mod Causes
 pub mod Functions
+pub mod Gathered
 pub mod Limits
 pub mod Names
 pub mod Operators

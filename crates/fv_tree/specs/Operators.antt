@@ -1,7 +1,7 @@
 -- What an operator and a function give (ANSI X3.9-1978, sections 6.1, 6.3, 6.4 and 15.10): the exact value over the
 -- integers, which then has to fit 128 bits.
 use Rattle.std.specs.Prelude.{◌≡◌, Result, Ok, Err, IsOkAnd, ⊤, List, [], ◌∷◌, length, if◌then◌else◌}
-use Rattle.std.specs.Prelude.{Bool, true, false, not, ◌&&◌, ◌||◌, IsTrue, ℕ, suc, ◌-◌, ◌^◌, ◌≤◌, nat_lt}
+use Rattle.std.specs.Prelude.{Bool, true, false, not, ◌&&◌, ◌||◌, IsTrue, ℕ, suc, ◌-◌, ◌^◌, nat_lt}
 use Rattle.std.specs.Prelude.{ℤ, pos, negsuc, ◌+ℤ◌, ◌-ℤ◌, ◌*ℤ◌, neg_ℤ, ◌<ℤ◌, nat_abs, int_lt, int_le, int_div}
 use Rattle.std.specs.Prelude.{FitsSigned}
 use Rattle.std.specs.Int.{int_max, int_min, int_pow, w128}

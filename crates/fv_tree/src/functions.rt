@@ -163,8 +163,8 @@ impl Fun {
 
     /// The function at its arguments.
     ///
-    /// MOD of `a` and `b` is `a - (a / b) * b`, also where `a / b` alone is outside 128 bits. Truth values, and a number
-    /// of arguments that it doesn't take, fault as `Shape`.
+    /// MOD of `a` and `b` is `a - (a / b) * b`, also where `a / b` alone is outside 128 bits. Truth values, and a
+    /// number of arguments that it doesn't take, fault as `Shape`.
     #[tactic(auto, using(crate::proofs::Faults::call_laws))]
     pub fn apply(self, args: &[Value]) -> Result<Value, Fault>
         ensures value { result ≡ call self args.now }

@@ -4,6 +4,7 @@
 mod arguments;
 mod exprs;
 mod functions;
+mod gathered;
 mod limits;
 mod lists;
 mod names;
@@ -15,6 +16,7 @@ mod stmts;
 pub use arguments::Arguments;
 pub use exprs::{Expr, Ref, Sub, Turn};
 pub use functions::{Fun, Intrinsic, Red};
+pub use gathered::Gathered;
 pub use limits::{
     ARRAY_DIMENSIONS, ARRAY_ELEMENTS, BLOCK_DEPTH_77, BLOCK_DEPTH_90, CONTINUATION_LINES,
     DECK_BYTES, DECK_BYTES_90, EXPRESSION_DEPTH_77, EXPRESSION_DEPTH_90, FORM_COEFFICIENT,

@@ -440,12 +440,6 @@ mod tests {
         };
     }
 
-    macro_rules! calls {
-        ($rt:ident; $($function:ident [$($argument:expr),*] => $want:expr;)*) => {
-            $(assert_eq!($rt; Fun::$function.apply(&[$(Value::Int($argument)),*]), $want);)*
-        };
-    }
-
     const HUGE: i128 = 1 << 100;
 
     #[test]
@@ -495,6 +489,12 @@ mod tests {
         assert_eq!(rt; Op::Neg.apply(Value::Int(3), no), Ok(Value::Int(-3)));
         assert_eq!(rt; Op::Not.apply(no, Value::Int(3)), Ok(Value::Truth(true)));
         assert_eq!(rt; Op::Eqv.apply(no, no), Ok(Value::Truth(true)));
+        assert_eq!(rt; Op::Add.apply(no, no), Err(Fault::Shape));
+        assert_eq!(rt; Op::And.apply(no, Value::Int(3)), Err(Fault::Shape));
+        assert_eq!(rt;
+            (no.as_truth(), no.as_number()),
+            (Ok(false), Err(Fault::Shape))
+        );
         assert_eq!(rt;
             Op::Le.apply(Value::Int(3), Value::Int(3)),
             Ok(Value::Truth(true))
@@ -502,26 +502,19 @@ mod tests {
     }
 
     #[test]
-    #[tactic(auto, using(crate::proofs::CallValues::literals))]
-    fn calls_functions(rt: HostRuntime) {
-        calls! { rt;
-            Abs [-5] => Ok(Value::Int(5));
-            Abs [i128::MIN] => Err(Fault::Overflow);
-            Mod [-7, 3] => Ok(Value::Int(-1));
-            Mod [7, -3] => Ok(Value::Int(1));
-            Mod [i128::MIN, -1] => Ok(Value::Int(0));
-            Mod [7, 0] => Err(Fault::ZeroDivide);
-            Max [1, 5, 3] => Ok(Value::Int(5));
-            Min [1, -5, 3] => Ok(Value::Int(-5));
-        }
-    }
-
-    #[test]
     fn spells_and_reads(rt: HostRuntime) {
         assert_eq!(rt; Op::Le.spell77(), ".LE.");
         assert_eq!(rt; Op::Le.spell90(), "<=");
         assert_eq!(rt; Op::Neg.level(), 7);
-        assert_eq!(rt; Op::Ge.result_kind(), Kind::Logical);
+        assert_eq!(rt; (Op::Pow.left_least(), Op::Pow.right_least()), (10, 9));
+        assert_eq!(rt; (Op::Ge.left_least(), Op::Ge.right_least()), (7, 7));
+        assert_eq!(rt; (Op::Sub.left_least(), Op::Sub.right_least()), (7, 8));
+        assert_eq!(rt;
+            (Op::Ge.operand_kind(), Op::Ge.result_kind()),
+            (Kind::Integer, Kind::Logical)
+        );
+        assert!(rt; Op::Ge.is_relation() && !Op::Add.is_relation() && !Op::And.is_relation());
+        assert!(rt; Op::Add.takes_sign() && !Op::And.takes_sign());
         assert_eq!(rt; Op::read77(b"-", true), Some(Op::Sub));
         assert_eq!(rt; Op::read77(b"-", false), Some(Op::Neg));
         assert_eq!(rt; Op::read90(b"/=", true), Some(Op::Ne));

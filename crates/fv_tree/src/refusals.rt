@@ -1,7 +1,8 @@
 //! Why a source isn't read.
 ghost use Rattle.std.specs.Prelude.{◌≡◌, ◌≤◌, length, find};
 ghost use Rattle.fv_tree.specs.Causes.{number_of_cause, word_of_cause, name_of_cause, limit_of_cause, all_causes};
-ghost use Rattle.fv_tree.specs.Causes.{refusal_at, refusal_name, refusal_limit, IsRefusalNumber, IsRefusedFor, has_number, has_code};
+ghost use Rattle.fv_tree.specs.Causes.{refusal_at, refusal_name, refusal_limit, IsRefusalNumber, IsRefusedFor};
+ghost use Rattle.fv_tree.specs.Causes.{has_number, has_code};
 
 use crate::Memory;
 use std::alloc::{AllocError, AllocFailed};

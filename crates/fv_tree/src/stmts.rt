@@ -336,13 +336,45 @@ mod tests {
         Ok(Block { stmts })
     }
 
+    // ALLOCATE (K(1:6)); a WHERE with a mark; DEALLOCATE (K).
+    fn arrays(alloc: Global) -> Result<Block, Fail> {
+        let mut extents = Seq::new(alloc);
+        extents.push(Expr::Int(6))?;
+        let mut stmts = Seq::new(alloc);
+        stmts.push(Stmt::Allocate {
+            line: 1,
+            name: name()?,
+            extents,
+        })?;
+        stmts.push(Stmt::Masked {
+            line: 2,
+            mark: Some(Mark {
+                nest: 4,
+                stmt: 5,
+                level: 6,
+            }),
+            mask: Expr::Truth(true),
+            left: Ref {
+                name: name()?,
+                subs: Seq::new(alloc),
+            },
+            right: Expr::Int(8),
+        })?;
+        stmts.push(Stmt::Deallocate {
+            line: 3,
+            name: name()?,
+        })?;
+        Ok(Block { stmts })
+    }
+
     #[test]
     fn copies(rt: HostRuntime) -> Result<(), Fail> {
-        let block = sample(rt.alloc())?;
-        let copy = block.copy(rt.alloc())?;
-        let text = format!(in rt.alloc(); "{copy:?}")?;
-        assert_eq!(rt; text, format!(in rt.alloc(); "{block:?}")?);
-        assert!(rt; copy.stmts.len() == 3);
+        for block in [sample(rt.alloc())?, arrays(rt.alloc())?] {
+            let copy = block.copy(rt.alloc())?;
+            let text = format!(in rt.alloc(); "{copy:?}")?;
+            assert_eq!(rt; text, format!(in rt.alloc(); "{block:?}")?);
+            assert!(rt; !copy.stmts.is_empty());
+        }
         Ok(())
     }
 }

@@ -1,10 +1,16 @@
 use Rattle.f77_expr.specs.Symbols.{symbols_of}
+use Rattle.fv_tree.specs.Causes.{refusal_at}
+use Rattle.fv_tree.specs.declared.refusals.Cause.TheVariants as causes
 use Rattle.f77_stmt.specs.Refusing.{Word}
-use Rattle.f77_stmt.proofs.CardLaws.{no_word}
+use Rattle.f77_stmt.proofs.CardLaws.{no_word, formless_at}
 use Rattle.f77_stmt.proofs.cards.formless.Goals as goal
 
 pub returns-in-Some-clause-found : goal.returns-in-Some-clause-found
-returns-in-Some-clause-found c = Word c.in-Some.word c.in-Some.ensures.found
+returns-in-Some-clause-found c =
+    formless_at (symbols_of c.args.text.now) c.at.result (refusal_at (causes.OutOfProfile c.in-Some.word) c.args.line) c.at.ensures.refusal
+    (Word c.in-Some.word c.in-Some.ensures.found)
 
 pub returns-in-None-clause-found : goal.returns-in-None-clause-found
-returns-in-None-clause-found c = no_word (symbols_of c.args.text.now) c.in-None.ensures.only
+returns-in-None-clause-found c =
+    formless_at (symbols_of c.args.text.now) c.at-in-None.result (refusal_at causes.Syntax c.args.line) c.at-in-None.ensures.refusal
+    (no_word (symbols_of c.args.text.now) c.in-None.ensures.only)

@@ -8,10 +8,10 @@ use Rattle.fv_tree.specs.declared.exprs.Expr.TheVariants as exprs
 use Rattle.fv_tree.specs.declared.ops.Kind.TheVariants.{Integer}
 use Rattle.fv_tree.specs.Functions.{suits_number}
 use Rattle.fv_tree.specs.Plain.{expressions}
-use Rattle.f77_kinds.specs.Operands.{are_operands}
-use Rattle.f77_kinds.proofs.KindLaws.{kind-int, kind-truth, kind-un, kind-bin, kind-call, first_holds, first_fails, same_operand, told}
+use Rattle.f77_kinds.proofs.KindLaws.{kind-int, kind-truth, kind-un, kind-bin, kind-call, first_holds, first_fails, then_holds, then_fails, same_operand, told}
 use Rattle.f77_kinds.proofs.KindLaws.{kind-list, kind-spread, kind-transpose, kind-reshape, kind-reduce, subscript-part}
 use Rattle.f77_kinds.proofs.kind_check.KindCheck.+kinds.Goals as goal
+use Rattle.f77_kinds.proofs.kind_check.KindCheck.+kinds.Goals.{has_kind-then-binary_gives, has_kind-else-binary_gives}
 
 -- ---- the nodes of FORTRAN 77
 
@@ -29,34 +29,66 @@ pub has_kind-returns-then-unary_gives : goal.has_kind-returns-then-unary_gives
 has_kind-returns-then-unary_gives t c =
     told (listed c.args.self.now.uses) c.args.expr.now (exprs.Un c.in-Un.op c.in-Un.a) c.args.kind c.has_kind.result _
     (first_holds c.unary_gives.result (is_unary c.in-Un.op) (kinds.same_kind (result_kind_of c.in-Un.op) c.args.kind)
-      (kinds.has_kind (listed c.args.self.now.uses) (expression_of c.in-Un.a.value) (operand_kind c.in-Un.op)) c.has_kind.result
-      c.unary_gives.ensures c.if-unary_gives.true
-      (same_operand (listed c.args.self.now.uses) _ c.in-Un.a.value _ (operand_kind c.in-Un.op) c.has_kind.result c.has_kind.ensures c.deref.ensures c.operand_kind.ensures))
+    (kinds.has_kind (listed c.args.self.now.uses) (expression_of c.in-Un.a.value) (operand_kind c.in-Un.op)) c.has_kind.result
+    c.unary_gives.ensures c.if-unary_gives.true
+    (same_operand (listed c.args.self.now.uses) _ c.in-Un.a.value _ (operand_kind c.in-Un.op) c.has_kind.result c.has_kind.ensures c.deref.ensures c.operand_kind.ensures))
     c.in-Un.is (kind-un (listed c.args.self.now.uses) c.in-Un.op c.in-Un.a c.args.kind)
 
 pub has_kind-returns-else-unary_gives : goal.has_kind-returns-else-unary_gives
 has_kind-returns-else-unary_gives t c =
     told (listed c.args.self.now.uses) c.args.expr.now (exprs.Un c.in-Un.op c.in-Un.a) c.args.kind c.unary_gives.result _
     (first_fails c.unary_gives.result (is_unary c.in-Un.op) (kinds.same_kind (result_kind_of c.in-Un.op) c.args.kind)
-      (kinds.has_kind (listed c.args.self.now.uses) (expression_of c.in-Un.a.value) (operand_kind c.in-Un.op)) c.unary_gives.ensures c.if-unary_gives.false)
+    (kinds.has_kind (listed c.args.self.now.uses) (expression_of c.in-Un.a.value) (operand_kind c.in-Un.op)) c.unary_gives.ensures c.if-unary_gives.false)
     c.in-Un.is (kind-un (listed c.args.self.now.uses) c.in-Un.op c.in-Un.a c.args.kind)
 
-pub has_kind-returns-then-binary_gives : goal.has_kind-returns-then-binary_gives
-has_kind-returns-then-binary_gives t c =
-    told (listed c.args.self.now.uses) c.args.expr.now (exprs.Bin c.in-Bin.op c.in-Bin.a c.in-Bin.b) c.args.kind c.are_operands.result _
-    (first_holds c.binary_gives.result (not (is_unary c.in-Bin.op)) (kinds.same_kind (result_kind_of c.in-Bin.op) c.args.kind)
-      (are_operands (listed c.args.self.now.uses) c.in-Bin.op (expression_of c.in-Bin.a.value) (expression_of c.in-Bin.b.value)) c.are_operands.result
-      c.binary_gives.ensures c.if-binary_gives.true
-      (c.are_operands.ensures ∙ ap (λ e. are_operands (listed c.args.self.now.uses) c.in-Bin.op (expression_of e) (expression_of c.deref-2.result.now)) c.deref.ensures
-      ∙ ap (λ e. are_operands (listed c.args.self.now.uses) c.in-Bin.op (expression_of c.in-Bin.a.value) (expression_of e)) c.deref-2.ensures))
+pub has_kind-returns-then-has_kind : goal.has_kind-returns-then-has_kind
+has_kind-returns-then-has_kind t c =
+    told (listed c.args.self.now.uses) c.args.expr.now (exprs.Bin c.in-Bin.op c.in-Bin.a c.in-Bin.b) c.args.kind c.has_kind-then-has_kind.result _
+    (then_holds c.if-binary_gives.value (not (is_unary c.in-Bin.op) && kinds.same_kind (result_kind_of c.in-Bin.op) c.args.kind && kinds.has_kind (listed c.args.self.now.uses) (expression_of c.in-Bin.a.value) (operand_kind c.in-Bin.op)) (kinds.has_kind (listed c.args.self.now.uses) (expression_of c.in-Bin.b.value) (operand_kind c.in-Bin.op)) c.has_kind-then-has_kind.result
+    (elim c.if-binary_gives.branch [
+      | has_kind-then-binary_gives w ↦ w.value-is ∙ first_holds c.binary_gives.result (not (is_unary c.in-Bin.op)) (kinds.same_kind (result_kind_of c.in-Bin.op) c.args.kind) (kinds.has_kind (listed c.args.self.now.uses) (expression_of c.in-Bin.a.value) (operand_kind c.in-Bin.op)) w.has_kind-then-binary_gives.result
+          c.binary_gives.ensures w.if-binary_gives.true
+          (same_operand (listed c.args.self.now.uses) _ c.in-Bin.a.value _ (operand_kind c.in-Bin.op) w.has_kind-then-binary_gives.result w.has_kind-then-binary_gives.ensures
+          w.deref-then-binary_gives.ensures w.operand_kind-then-binary_gives.ensures)
+      | has_kind-else-binary_gives w ↦ w.value-is
+          ∙ first_fails c.binary_gives.result (not (is_unary c.in-Bin.op)) (kinds.same_kind (result_kind_of c.in-Bin.op) c.args.kind) (kinds.has_kind (listed c.args.self.now.uses) (expression_of c.in-Bin.a.value) (operand_kind c.in-Bin.op)) c.binary_gives.ensures w.if-binary_gives.false
+    ])
+    c.if-has_kind.true
+    (same_operand (listed c.args.self.now.uses) _ c.in-Bin.b.value _ (operand_kind c.in-Bin.op) c.has_kind-then-has_kind.result c.has_kind-then-has_kind.ensures
+    c.deref-then-has_kind.ensures c.operand_kind-then-has_kind.ensures))
     c.in-Bin.is (kind-bin (listed c.args.self.now.uses) c.in-Bin.op c.in-Bin.a c.in-Bin.b c.args.kind)
 
-pub has_kind-returns-else-binary_gives : goal.has_kind-returns-else-binary_gives
-has_kind-returns-else-binary_gives t c =
-    told (listed c.args.self.now.uses) c.args.expr.now (exprs.Bin c.in-Bin.op c.in-Bin.a c.in-Bin.b) c.args.kind c.binary_gives.result _
-    (first_fails c.binary_gives.result (not (is_unary c.in-Bin.op)) (kinds.same_kind (result_kind_of c.in-Bin.op) c.args.kind)
-      (are_operands (listed c.args.self.now.uses) c.in-Bin.op (expression_of c.in-Bin.a.value) (expression_of c.in-Bin.b.value)) c.binary_gives.ensures c.if-binary_gives.false)
+pub has_kind-returns-else-has_kind : goal.has_kind-returns-else-has_kind
+has_kind-returns-else-has_kind t c =
+    told (listed c.args.self.now.uses) c.args.expr.now (exprs.Bin c.in-Bin.op c.in-Bin.a c.in-Bin.b) c.args.kind c.if-binary_gives.value _
+    (then_fails c.if-binary_gives.value (not (is_unary c.in-Bin.op) && kinds.same_kind (result_kind_of c.in-Bin.op) c.args.kind && kinds.has_kind (listed c.args.self.now.uses) (expression_of c.in-Bin.a.value) (operand_kind c.in-Bin.op)) (kinds.has_kind (listed c.args.self.now.uses) (expression_of c.in-Bin.b.value) (operand_kind c.in-Bin.op))
+    (elim c.if-binary_gives.branch [
+      | has_kind-then-binary_gives w ↦ w.value-is ∙ first_holds c.binary_gives.result (not (is_unary c.in-Bin.op)) (kinds.same_kind (result_kind_of c.in-Bin.op) c.args.kind) (kinds.has_kind (listed c.args.self.now.uses) (expression_of c.in-Bin.a.value) (operand_kind c.in-Bin.op)) w.has_kind-then-binary_gives.result
+          c.binary_gives.ensures w.if-binary_gives.true
+          (same_operand (listed c.args.self.now.uses) _ c.in-Bin.a.value _ (operand_kind c.in-Bin.op) w.has_kind-then-binary_gives.result w.has_kind-then-binary_gives.ensures
+          w.deref-then-binary_gives.ensures w.operand_kind-then-binary_gives.ensures)
+      | has_kind-else-binary_gives w ↦ w.value-is
+          ∙ first_fails c.binary_gives.result (not (is_unary c.in-Bin.op)) (kinds.same_kind (result_kind_of c.in-Bin.op) c.args.kind) (kinds.has_kind (listed c.args.self.now.uses) (expression_of c.in-Bin.a.value) (operand_kind c.in-Bin.op)) c.binary_gives.ensures w.if-binary_gives.false
+    ])
+    c.if-has_kind.false)
     c.in-Bin.is (kind-bin (listed c.args.self.now.uses) c.in-Bin.op c.in-Bin.a c.in-Bin.b c.args.kind)
+
+pub has_kind-returns-then-call_gives : goal.has_kind-returns-then-call_gives
+has_kind-returns-then-call_gives t c =
+    told (listed c.args.self.now.uses) c.args.expr.now (exprs.Call c.in-Call.function c.in-Call.arguments) c.args.kind c.are_arguments.result _
+    (first_holds c.call_gives.result (suits_number c.in-Call.function (length c.in-Call.arguments)) (kinds.same_kind Integer c.args.kind)
+    (kinds.are_arguments (listed c.args.self.now.uses) (expressions (map expression_of c.in-Call.arguments))) c.are_arguments.result
+    (c.call_gives.ensures ∙ ap (λ n. suits_number c.in-Call.function n && kinds.same_kind Integer c.args.kind) c.len.ensures) c.if-call_gives.true
+    c.are_arguments.ensures)
+    c.in-Call.is (kind-call (listed c.args.self.now.uses) c.in-Call.function c.in-Call.arguments c.args.kind)
+
+pub has_kind-returns-else-call_gives : goal.has_kind-returns-else-call_gives
+has_kind-returns-else-call_gives t c =
+    told (listed c.args.self.now.uses) c.args.expr.now (exprs.Call c.in-Call.function c.in-Call.arguments) c.args.kind c.call_gives.result _
+    (first_fails c.call_gives.result (suits_number c.in-Call.function (length c.in-Call.arguments)) (kinds.same_kind Integer c.args.kind)
+    (kinds.are_arguments (listed c.args.self.now.uses) (expressions (map expression_of c.in-Call.arguments)))
+    (c.call_gives.ensures ∙ ap (λ n. suits_number c.in-Call.function n && kinds.same_kind Integer c.args.kind) c.len.ensures) c.if-call_gives.false)
+    c.in-Call.is (kind-call (listed c.args.self.now.uses) c.in-Call.function c.in-Call.arguments c.args.kind)
 
 -- ---- and those of Fortran 90 alone
 

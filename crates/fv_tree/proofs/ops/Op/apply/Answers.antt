@@ -1,4 +1,4 @@
-use Rattle.std.proofs.Common.{◌≡◌, ◌↔◌, sym, subst, Result, IsTrue}
+use Rattle.std.proofs.Common.{◌↔◌, sym, subst, Result, IsTrue}
 use Rattle.std.specs.Prelude.{IsErrOf}
 use Rattle.fv_tree.specs.Operators.{suits}
 use Rattle.fv_tree.specs.declared.ops.Value.{Value}
