@@ -12,7 +12,8 @@ use Rattle.fv_tree.specs.declared.functions.Fun.{Fun}
 use Rattle.fv_tree.specs.Plain.{Expression, Number, Logic, Named, Unary, Binary, Apply, Expressions, no_expressions, expression, Subscript, Only, Section, Subscripts, no_subscripts, subscript, Declaration}
 use Rattle.fv_meaning.specs.Store.{Store}
 use Rattle.fv_meaning.specs.Value.{is_in_range}
-use Rattle.fv_meaning.specs.Depths.{level, enclosed, left_least, right_least, depth_of, depth_of_each, depth_of_subscripts, depth_of_subscript}
+use Rattle.fv_tree.specs.OperatorTable.{left_least, right_least}
+use Rattle.fv_meaning.specs.Depths.{level, enclosed, depth_of, depth_of_each, depth_of_subscripts, depth_of_subscript}
 use Rattle.f77_grammar.specs.expressions.Printing.{IsSource, IsSourceSubscript, AreSource}
 use Rattle.fv_tree.specs.Functions.{function_named, name_of_function, suits_number}
 use Rattle.fv_meaning.specs.Typed77.{number_of_arguments, number_of_subscripts, dimensions, declared, HasKind}

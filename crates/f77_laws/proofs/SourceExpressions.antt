@@ -17,44 +17,6 @@ one_more : (ss : List Subscript) (e : Expression) → depth_of_subscripts (subsc
 one_more [] e = omega arith
 one_more (s ∷ ss) e = let h = one_more ss e in omega (arith, h)
 
--- ---- the levels of operators are those by which expressions are printed
-
-same_left : (o : Op) → IsTrue (stands_between o) → printing.left_least o ≡ left_least o
-same_left Pow h = refl
-same_left Mul h = refl
-same_left Div h = refl
-same_left Add h = refl
-same_left Sub h = refl
-same_left Lt h = refl
-same_left Le h = refl
-same_left Eq h = refl
-same_left Ne h = refl
-same_left Gt h = refl
-same_left Ge h = refl
-same_left And h = refl
-same_left Or h = refl
-same_left Eqv h = refl
-same_left Neqv h = refl
-same_left o h = absurd cc
-
-same_right : (o : Op) → IsTrue (stands_between o) → printing.right_least o ≡ right_least o
-same_right Pow h = refl
-same_right Mul h = refl
-same_right Div h = refl
-same_right Add h = refl
-same_right Sub h = refl
-same_right Lt h = refl
-same_right Le h = refl
-same_right Eq h = refl
-same_right Ne h = refl
-same_right Gt h = refl
-same_right Ge h = refl
-same_right And h = refl
-same_right Or h = refl
-same_right Eqv h = refl
-same_right Neqv h = refl
-same_right o h = absurd cc
-
 -- ---- parentheses are needed where they are written, or nowhere
 
 bare : (least own n : ℕ) → least ≤ own → enclosed least own n ≡ n
@@ -94,9 +56,7 @@ mutual
   within_of (Joined o a b) g =
       let h = (within_of a g.4).operand (left_least o) g.1 in
       let k = (within_of b g.5).operand (right_least o) g.2 in
-      let e = ap (λ l. enclosed l (printing.level (tree a)) (depth_of (tree a))) (same_left o g.0) in
-      let f = ap (λ l. enclosed l (printing.level (tree b)) (depth_of (tree b))) (same_right o g.0) in
-      at_level (Joined o a b) (omega arith) (omega (arith, h, k, e, f))
+      at_level (Joined o a b) (omega arith) (omega (arith, h, k))
 
   lists_within : (ps : Phrases) → AreExpressions ps → depth_of_subscripts (subscripts (trees ps)) ≤ depths ps + 1
   lists_within (One p) g = let h = (within_of p g).whole in omega (arith, h)
