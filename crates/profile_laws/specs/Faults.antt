@@ -23,11 +23,13 @@ IsPlainFault _ = Unit {0}
 -- an expression of a kind has a value of this kind, or a plain fault
 abbrev pub SourceValueHasKind : Type 0
 SourceValueHasKind = (lang own : Dialect) (p : Program) (e : Expression) (k : Kind) (s : Store) (v : Value)
-    → IsProgram77 own p → HoldsProgram lang p s → HasKind p.declarations e k → value_of lang e s ≡ Ok v → kind_of v ≡ k
+    → IsProgram77 own p → HoldsProgram lang p s → HasKind p.declarations e k
+    → value_of lang e s ≡ Ok v → kind_of v ≡ k
 
 abbrev pub SourceValueFaultIsPlain : Type 0
 SourceValueFaultIsPlain = (lang own : Dialect) (p : Program) (e : Expression) (k : Kind) (s : Store) (f : Fault)
-    → IsProgram77 own p → HoldsProgram lang p s → HasKind p.declarations e k → value_of lang e s ≡ Err f → IsPlainFault f
+    → IsProgram77 own p → HoldsProgram lang p s → HasKind p.declarations e k
+    → value_of lang e s ≡ Err f → IsPlainFault f
 
 -- a run of a program of FORTRAN 77 ends by a plain fault, if by one
 abbrev pub SourceRunFaultIsPlain : Type 0

@@ -6,7 +6,8 @@ ghost use Rattle.profile_laws.specs.Stores.{HeldStoresAgree, StoreHoldsFewer};
 ghost use Rattle.profile_laws.specs.Stores.{OpeningStoreHolds, RunHolds, SourceRunHolds, StatementsKeepStores};
 ghost use Rattle.profile_laws.specs.Values.{ElementsHaveKind, ExtentsAreRank, ValueHasKind};
 
-/// A program of FORTRAN 77 is one of Fortran 90, as it stands and with further declarations of names that no source has.
+/// A program of FORTRAN 77 is one of Fortran 90, as it stands and with further declarations of names that no source
+/// has.
 pub fn source_is_target()
     ensures plain { SourceIsTarget }
     ensures made { SourceWithMadeNamesIsTarget }
