@@ -1,6 +1,6 @@
 -- The groups of subscript pairs: those that are coupled, also through others.
-use Rattle.std.specs.Prelude.{◌≡◌, ℕ, List, [], ◌∷◌, ◌≤◌, ◌<◌, Some, IsTrue, length, slice_get, slice_index}
-use Rattle.subscripts.specs.Classes.{Loop, Matters}
+use Rattle.std.specs.Prelude.{◌≡◌, ℕ, List, [], ◌∷◌, ◌≤◌, ◌<◌, ◌⊎◌, Some, IsTrue, cond, max, min, nat_eq, slice_get, slice_index}
+use Rattle.subscripts.specs.Classes.{Loop, Shared, First, Second, Matters}
 use Rattle.subscripts.specs.declared.pairing.Pairing.{Pairing}
 
 -- a loop matters to both, which are linear, and so of an SIV class or Miv
@@ -35,3 +35,19 @@ pub record IsLeastOfGroup (ps : List Pairing) (i least : ℕ) : Type 0 where
 
 abbrev pub IsPartition : List Pairing → List ℕ → Type 0
 IsPartition ps of' = (i : ℕ) → i < 7 → IsLeastOfGroup ps i (slice_index of' i)
+
+-- a loop at this place matters to both
+abbrev pub SharesAt : Pairing → Pairing → ℕ → Type 0
+SharesAt p q k =
+    (Matters p (Shared k) × Matters q (Shared k)) ⊎ ((Matters p (First k) × Matters q (First k)) ⊎ (Matters p (Second k) × Matters q (Second k)))
+
+-- the number of a group once two are one
+abbrev pub joined_number : ℕ → ℕ → ℕ → ℕ
+joined_number first second n = cond (nat_eq n (max first second)) (min first second) n
+
+-- numbers of groups, which are those of members, where the first n pairings have been compared with each other, and the
+-- next one with the first m
+pub record AreGroupedUpTo (ps : List Pairing) (groups : List ℕ) (n m : ℕ) : Type 0 where
+  pub grouped : (k : ℕ) → k < 7 → AreGrouped ps k (slice_index groups k)
+  pub no_later : (k : ℕ) → k < 7 → slice_index groups k ≤ k
+  pub same : (i j : ℕ) → i < j → (j < n) ⊎ ((j ≡ n) × (i < m)) → AreCoupled ps i j → slice_index groups i ≡ slice_index groups j
