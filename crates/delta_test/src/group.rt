@@ -9,7 +9,7 @@ ghost use Rattle.loop_lines.specs.Verdicts.{OnNever, IfPair, OnAssumed, test_of}
 ghost use Rattle.delta_test.specs.Groups.{AreMembers, AreNotRefuted, HasNoPairOfAll, IsExactWith, delta_word};
 
 use crate::one_loop::{least_pair_of_all, loop_of_all};
-use crate::stub::{gcd_refutes, range_refutes};
+use gcd_banerjee::{gcd_refutes, range_refutes};
 use loop_lines::{LoopPlace, bounds_at, constant_trip};
 use subscripts::{Dirs, Group, Pairing, Test, Verdict};
 

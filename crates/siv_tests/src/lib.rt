@@ -6,7 +6,6 @@
 #![tactic(auto)]
 
 mod siv;
-mod stub;
 mod ziv;
 
 pub use siv::test_siv;
