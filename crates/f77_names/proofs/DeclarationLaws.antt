@@ -9,7 +9,7 @@ use Rattle.fv_tree.specs.declared.exprs.Expr.{Expr}
 use Rattle.f77_grammar.specs.Statement77.{Statement77, Declare, Dimension, Constants, Entity}
 use Rattle.fv_meaning.specs.Names.{is_among}
 use Rattle.f77_grammar.specs.program.Text.{is_declaration}
-use Rattle.f77_grammar.specs.program.Uses.{Role, Title, Typed, Bounded, Defined, Valued, Target, Counter, Use, uses_of, uses_in, uses_in_bounds, uses_in_text, is_title, is_typed, is_defined, names_that, stands, is_array}
+use Rattle.f77_grammar.specs.program.Uses.{Role, Title, Typed, Bounded, Defined, Valued, Target, Counter, Use, uses_of, uses_in, uses_in_bounds, uses_in_text, is_typed, is_defined, names_that, is_array}
 use Rattle.f77_grammar.specs.program.Limits.{entities_of, definitions_of}
 use Rattle.f77_grammar.specs.program.Declarations.{bears_title, has_repeat, is_array_or_constant, has_unknown, is_listed, bounds_of_entities, defines_from_unknown, has_unknown_constant, suits_list, is_misused, is_misused_as, has_misused_name}
 use Rattle.f77_syntax.specs.declared.statements.Entity.{Entity as Entity'}
