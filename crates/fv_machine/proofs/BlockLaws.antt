@@ -24,6 +24,15 @@ use Rattle.fv_machine.specs.Moments.{Stands, CountsStep, way_of, located}
 use Rattle.fv_machine.specs.Acts.{LimitedAct, Ended, Outcome, Runs}
 use Rattle.fv_machine.specs.Statements.{HasArms, ArmsHaveArms, BlockHasArms, plain_arms}
 use Rattle.fv_machine.specs.Jumps.{way_at, arrived, passed, landed}
+use Rattle.std.proofs.Common.{[], ◌∷◌}
+use Rattle.fv_tree.specs.Plain.{Logic}
+use Rattle.fv_meaning.specs.Store.{bounds_of}
+use Rattle.fv_meaning.specs.Value.{is_array, named}
+use Rattle.fv_meaning.specs.ArrayStatements.{allocated_bounds}
+use Rattle.fv_meaning.specs.Run.{Stopped, array_assigns, assigns, begins_line, reads_items, skips_line, writes, first_blank, prints_items, allocates, deallocates}
+use Rattle.fv_machine.specs.Acts.{Same, Elsewhere}
+use Rattle.fv_machine.proofs.ActLaws.{Idle, Idles, steady, elsewhere_same, elsewhere_then, elsewhere_stays, cut_then}
+use Rattle.fv_machine.proofs.IdleLaws.{idle_goes, Idles-nothing, Idles-then, Idles-either, Idles-counts_step, Idles-loops}
 use Rattle.fv_machine.proofs.ActLaws.{Stays, Extends, Stays-evaluates, Runs-counts_step, Runs-cut, Runs-evaluates, Runs-fault}
 use Rattle.fv_machine.proofs.TurnLaws.{Stays-counts_step}
 
@@ -105,14 +114,50 @@ mutual
   StaysEnded-does_all lang no_statements limit s h d e = refl
   StaysEnded-does_all lang (statement c cs) limit s h d e = ap (does_all lang limit cs) (StaysEnded-does lang c limit s h d e) ∙ StaysEnded-does_all lang cs limit s h d e
 
+-- ---- with no step left
+
+Idles-chooses : (lang : Dialect) (line : ℕ) (as' : Arms) (other : LimitedAct) → Idles other → Idles (λ limit. chooses lang limit line as' (other limit))
+Idles-chooses lang line no_arms other h = h
+Idles-chooses lang line (arm test body more) other h = Idles-counts_step lang
+    (λ limit. evaluates line (truth_of lang test) (λ b. either b (does_all lang limit body) (chooses lang limit line more (other limit))))
+
+label_idle : (lang : Dialect) (n : ℕ) → Idles (λ limit. does lang limit (Label n))
+label_idle lang n s = by (arrives n s.way)
+  where
+    by : (b : Bool) → Idle s (either b (goes Going) nothing s)
+    by true = idle_goes Going s
+    by false = Idles-nothing s
+
+mutual
+  Idles-does : (lang : Dialect) (c : Statement) → Idles (λ limit. does lang limit c)
+  Idles-does lang (Assignment line mark left right) = Idles-counts_step lang
+      (λ limit s. either (is_array lang (named left) s.store) (array_assigns lang limit line (Logic true) left right) (assigns lang limit line left right) s)
+  Idles-does lang (Where line mark mask left right) = Idles-either lang.arrays (λ limit. counts_step lang limit (array_assigns lang limit line mask left right)) (λ limit. nothing)
+      (Idles-counts_step lang (λ limit. array_assigns lang limit line mask left right)) Idles-nothing
+  Idles-does lang (If line as' other) = Idles-chooses lang line as' (λ limit. does_all lang limit other) (Idles-does_all lang other)
+  Idles-does lang (Do line x a b c body) = Idles-loops lang line x a b c (λ limit. does_all lang limit body)
+  Idles-does lang (Label n) = label_idle lang n
+  Idles-does lang (GoTo line n) = Idles-counts_step lang (λ limit. goes (Jumping n))
+  Idles-does lang (Stop line) = Idles-counts_step lang (λ limit. goes Stopped)
+  Idles-does lang (Read line is) = Idles-counts_step lang (λ limit. then (begins_line line) (then (reads_items lang limit is line) skips_line))
+  Idles-does lang (Print line is) = Idles-counts_step lang (λ limit. then (writes (first_blank is)) (then (prints_items lang limit is line) (writes (10 ∷ []))))
+  Idles-does lang (Allocate line x es) = Idles-either lang.arrays (λ limit. counts_step lang limit (evaluates line (allocated_bounds lang x es) (λ bs. allocates x bs))) (λ limit. nothing)
+      (Idles-counts_step lang (λ limit. evaluates line (allocated_bounds lang x es) (λ bs. allocates x bs))) Idles-nothing
+  Idles-does lang (Deallocate line x) = Idles-either lang.arrays (λ limit. counts_step lang limit (evaluates line (bounds_of x) (λ bs. deallocates x))) (λ limit. nothing)
+      (Idles-counts_step lang (λ limit. evaluates line (bounds_of x) (λ bs. deallocates x))) Idles-nothing
+
+  Idles-does_all : (lang : Dialect) (b : Block) → Idles (λ limit. does_all lang limit b)
+  Idles-does_all lang no_statements = Idles-nothing
+  Idles-does_all lang (statement c cs) = Idles-then (λ limit. does lang limit c) (λ limit. does_all lang limit cs) (Idles-does lang c) (Idles-does_all lang cs)
+
 -- ---- nothing that was written is taken back
 
-none_least : (limit : Option ℕ) → IsAtMost 0 limit
+pub none_least : (limit : Option ℕ) → IsAtMost 0 limit
 none_least None = tt
 none_least (Some n) = omega arith
 
 pub Extends-does_all : (lang : Dialect) (b : Block) → Extends (λ limit. does_all lang limit b)
-Extends-does_all lang b limit s = ((Follows-does_all 0 limit (none_least limit) lang b).rises s).written
+Extends-does_all lang b = record { adds = λ limit s. ((Follows-does_all 0 limit (none_least limit) lang b).rises s).written; idles = Idles-does_all lang b }
 
 -- ---- a jump passes over a statement that isn't its label
 
@@ -166,16 +211,72 @@ module _ (names : List Declaration) (limit : Option ℕ) (input : List ℕ) (bas
     ends_at (Err (Halted Limit)) left s e h = (let same : Halted Limit ≡ left = cc in subst (λ l. Outcome names limit input base m now (Err l) (act limit s)) same (stopped Limit s tt h))
     ends_at (Err Unwritten) left s e h =
         let same : Unwritten ≡ left = cc in
-        let more = extends limit s in
+        let more = extends.adds limit s in
         subst (λ l. Outcome names limit input base m now (Err l) (act limit s)) same
         (record { names_are = h.names_are; front = h.front; rest = h.rest ++ more.0; whole = more.1 ∙ ap (λ t. t ++ more.0) h.whole ∙ append_assoc h.front h.rest more.0; taken = h.taken })
+
+-- ---- under other limits
+
+-- a statement that led on, or to a jump, is the same there
+goes_on : (base : Option (List ℕ)) (m : Seen) (now : Option (List ℕ)) (q : Result (Unit {0}) Left) (j : Option ℕ) (f : LimitedAct) (limit : Option ℕ) (s : State)
+    → Ok j ≡ landed q → Elsewhere base m now q f limit s → Same f limit s
+goes_on base m now (Ok x) j f limit s e h = h
+goes_on base m now (Err (Halted (Jump n))) j f limit s e h = h
+goes_on base m now (Err (Halted Stop')) j f limit s e h = cc
+goes_on base m now (Err (Halted (Fault' g line))) j f limit s e h = cc
+goes_on base m now (Err (Halted Limit)) j f limit s e h = cc
+goes_on base m now (Err Unwritten) j f limit s e h = cc
+
+module _ (names : List Declaration) (input : List ℕ) (base : Option (List ℕ)) (m : Seen) (now : Option (List ℕ)) (f g : LimitedAct) (limit : Option ℕ) (s : State) (stays : StaysEnded g) (idles : Idles g) where
+  -- a statement that ended the run
+  ends_elsewhere : (q : Result (Unit {0}) Left) (left : Left) → Err left ≡ landed q → Outcome names limit input base m now q (f limit s) → Elsewhere base m now q f limit s
+      → Elsewhere base m now (Err left) (λ l. then (f l) (g l)) limit s
+  ends_elsewhere (Ok x) left e o h = cc
+  ends_elsewhere (Err (Halted (Jump n))) left e o h = cc
+  ends_elsewhere (Err (Halted Stop')) left e o h = (let same : Halted Stop' ≡ left = cc in subst (λ l. Elsewhere base m now (Err l) (λ l. then (f l) (g l)) limit s) same
+      (elsewhere_stays f g base m now limit s Stop' h (λ l. stays l (f limit s) Stop' tt o.stands.way_is)))
+  ends_elsewhere (Err (Halted (Fault' k line))) left e o h = (let same : Halted (Fault' k line) ≡ left = cc in subst (λ l. Elsewhere base m now (Err l) (λ l. then (f l) (g l)) limit s) same
+      (elsewhere_stays f g base m now limit s (Fault' k line) h (λ l. stays l (f limit s) (Fault' k line) tt o.stands.way_is)))
+  ends_elsewhere (Err (Halted Limit)) left e o h = (let same : Halted Limit ≡ left = cc in subst (λ l. Elsewhere base m now (Err l) (λ l. then (f l) (g l)) limit s) same tt)
+  ends_elsewhere (Err Unwritten) left e o h = (let same : Unwritten ≡ left = cc in subst (λ l. Elsewhere base m now (Err l) (λ l. then (f l) (g l)) limit s) same
+      (cut_then f g base m now limit s h idles))
+
+same_label : (lang : Dialect) (n : ℕ) (limit : Option ℕ) (s : State) → Same (λ l. does lang l (Label n)) limit s
+same_label lang n limit s = steady (does lang limit (Label n)) limit s (by (arrives n s.way))
+  where
+    by : (b : Bool) → (either b (goes Going) nothing s).steps ≡ s.steps
+    by true = refl
+    by false = refl
+
+same_passed : (lang : Dialect) (c : Statement) (limit : Option ℕ) (n : ℕ) (s : State) → IsPassed c → s.way ≡ Jumping n → Same (λ l. does lang l c) limit s
+same_passed lang c limit n s a e =
+    let is : (l : Option ℕ) → does lang l c s ≡ s = λ l. Stays-does lang c a l s (Jump n) e in
+    record {
+      later = subst (λ (t : State). s.steps ≤ t.steps) (sym (is limit)) (omega arith);
+      within = λ q. subst (λ (t : State). IsAtMost t.steps limit) (sym (is limit)) q;
+      same = λ k l. is (Some k) ∙ sym (is limit);
+    }
+
+same_jumped : (lang : Dialect) (c : Statement) (limit : Option ℕ) (n : ℕ) (s : State) → HasArms c → s.way ≡ Jumping n → Same (λ l. does lang l c) limit s
+same_jumped lang (Assignment line mark left right) limit n s a e = same_passed lang (Assignment line mark left right) limit n s tt e
+same_jumped lang (Where line mark mask left right) limit n s a e = same_passed lang (Where line mark mask left right) limit n s tt e
+same_jumped lang (If line as' other) limit n s a e = same_passed lang (If line as' other) limit n s a.0 e
+same_jumped lang (Do line x p q r body) limit n s a e = same_passed lang (Do line x p q r body) limit n s tt e
+same_jumped lang (Label l) limit n s a e = same_label lang l limit s
+same_jumped lang (GoTo line l) limit n s a e = same_passed lang (GoTo line l) limit n s tt e
+same_jumped lang (Stop line) limit n s a e = same_passed lang (Stop line) limit n s tt e
+same_jumped lang (Read line is) limit n s a e = same_passed lang (Read line is) limit n s tt e
+same_jumped lang (Print line is) limit n s a e = same_passed lang (Print line is) limit n s tt e
+same_jumped lang (Allocate line x es) limit n s a e = same_passed lang (Allocate line x es) limit n s tt e
+same_jumped lang (Deallocate line x) limit n s a e = same_passed lang (Deallocate line x) limit n s tt e
 
 -- ---- the statements from a place in a block on
 
 -- the same as `Runs`, begun on this way
 unfoldable pub RunsOn : Way → LimitedAct → List ℕ → Seen → Option (List ℕ) → Seen → Option (List ℕ) → Result (Unit {0}) Left → Type 0
 RunsOn way act input old before new now r = (names : List Declaration) (limit : Option ℕ) (base : Option (List ℕ)) (s : State)
-    → Stands names limit input old way s → before ≡ append_known base s.written → Outcome names limit input base new now r (act limit s)
+    → Stands names limit input old way s → before ≡ append_known base s.written
+    → Outcome names limit input base new now r (act limit s) × Elsewhere base new now r act limit s
 
 abbrev pub left_of_block : Dialect → List Stmt → LimitedAct
 left_of_block lang xs limit = does_all lang limit (block (map statement_of xs))
@@ -207,22 +308,33 @@ module _ (xs : List Stmt) (i : ℕ) (x : Stmt) (within : i < length xs) (is : x 
       → RunsOn Going (left_of_block lang (drop i xs)) input old before new after r
   unfolding Runs RunsOn
   block_more lang old mid new before now after q r j e h k = begins lang Going old new before after r λ names limit base s d b.
-      let o = goes_to names limit input base mid now q j (does lang limit (statement_of x) s) e (h names limit base s d b) in
-      k names limit base (does lang limit (statement_of x) s) o.0 o.1
+      let p = h names limit base s d b in
+      let o = goes_to names limit input base mid now q j (does lang limit (statement_of x) s) e p.0 in
+      let u = k names limit base (does lang limit (statement_of x) s) o.0 o.1 in
+      let one : LimitedAct = λ l. does lang l (statement_of x) in
+      (u.0, elsewhere_then one (left_of_block lang (drop (i + 1) xs)) base new after limit s r (goes_on base mid now q j one limit s e p.1) u.1)
 
   pub block_left : (lang : Dialect) (old mid : Seen) (before now : Option (List ℕ)) (q : Result (Unit {0}) Left) (left : Left) → Err left ≡ landed q
       → Runs (λ limit. does lang limit (statement_of x)) input old before mid now q → RunsOn Going (left_of_block lang (drop i xs)) input old before mid now (Err left)
   unfolding Runs RunsOn
   block_left lang old mid before now q left e h = begins lang Going old mid before now (Err left) λ names limit base s d b.
-      ends_at names limit input base mid now (left_of_block lang (drop (i + 1) xs)) (StaysEnded-does_all lang (block (map statement_of (drop (i + 1) xs)))) (Extends-does_all lang (block (map statement_of (drop (i + 1) xs))))
-      q left (does lang limit (statement_of x) s) e (h names limit base s d b)
+      let p = h names limit base s d b in (
+        ends_at names limit input base mid now (left_of_block lang (drop (i + 1) xs)) (StaysEnded-does_all lang (block (map statement_of (drop (i + 1) xs)))) (Extends-does_all lang (block (map statement_of (drop (i + 1) xs))))
+            q left (does lang limit (statement_of x) s) e p.0,
+        ends_elsewhere names input base mid now (λ l. does lang l (statement_of x)) (left_of_block lang (drop (i + 1) xs)) limit s
+            (StaysEnded-does_all lang (block (map statement_of (drop (i + 1) xs)))) (Idles-does_all lang (block (map statement_of (drop (i + 1) xs)))) q left e p.0 p.1,
+      )
 
   pub block_passed : (lang : Dialect) (n : ℕ) (old new : Seen) (before after : Option (List ℕ)) (r : Result (Unit {0}) Left) → HasArms (statement_of x)
       → RunsOn (way_at (passed (statement_of x) n)) (left_of_block lang (drop (i + 1) xs)) input old before new after r → RunsOn (Jumping n) (left_of_block lang (drop i xs)) input old before new after r
   unfolding RunsOn
   block_passed lang n old new before after r a k = begins lang (Jumping n) old new before after r λ names limit base s d b.
       let o = passes names limit input base old before lang (statement_of x) n s a (d, b) in
-      k names limit base (does lang limit (statement_of x) s) o.0 o.1
+      let u = k names limit base (does lang limit (statement_of x) s) o.0 o.1 in (
+        u.0,
+        elsewhere_then (λ l. does lang l (statement_of x)) (left_of_block lang (drop (i + 1) xs)) base new after limit s r
+            (same_jumped lang (statement_of x) limit n s a d.way_is) u.1,
+      )
 
 module _ (lang : Dialect) (xs : List Stmt) (i : ℕ) (end : length xs ≤ i) (input : List ℕ) (m : Seen) (now : Option (List ℕ)) where
   done_is : (limit : Option ℕ) → left_of_block lang (drop i xs) limit ≡ nothing
@@ -230,11 +342,17 @@ module _ (lang : Dialect) (xs : List Stmt) (i : ℕ) (end : length xs ≤ i) (in
 
   pub block_done : RunsOn Going (left_of_block lang (drop i xs)) input m now m now (Ok tt)
   unfolding RunsOn
-  block_done names limit base s d b = subst (λ f. Ended names limit input base m now Going (f s)) (sym (done_is limit)) (record { stands = d; taken = b })
+  block_done names limit base s d b = (
+    subst (λ f. Ended names limit input base m now Going (f s)) (sym (done_is limit)) (record { stands = d; taken = b }),
+    elsewhere_same base m now (Ok tt) (λ l. nothing) (left_of_block lang (drop i xs)) limit s (λ l. ap (λ f. f s) (done_is l)) (steady nothing limit s refl),
+  )
 
   pub block_jumped : (n : ℕ) → RunsOn (Jumping n) (left_of_block lang (drop i xs)) input m now m now (Err (Halted (Jump n)))
   unfolding RunsOn
-  block_jumped n names limit base s d b = subst (λ f. Ended names limit input base m now (Jumping n) (f s)) (sym (done_is limit)) (record { stands = d; taken = b })
+  block_jumped n names limit base s d b = (
+    subst (λ f. Ended names limit input base m now (Jumping n) (f s)) (sym (done_is limit)) (record { stands = d; taken = b }),
+    elsewhere_same base m now (Err (Halted (Jump n))) (λ l. nothing) (left_of_block lang (drop i xs)) limit s (λ l. ap (λ f. f s) (done_is l)) (steady nothing limit s refl),
+  )
 
 -- ---- the arms from a place in a block IF on
 
@@ -291,4 +409,7 @@ none_left (Some n) h = absurd (h n refl)
 -- a label that is reached without a jump does nothing
 pub label_runs : (lang : Dialect) (n : ℕ) (input : List ℕ) (m : Seen) (now : Option (List ℕ)) → Runs (λ limit. does lang limit (Label n)) input m now m now (Ok tt)
 unfolding Runs
-label_runs lang n input m now names limit base s d b = subst (λ w. Ended names limit input base m now Going (either (arrives n w) (goes Going) nothing s)) (sym d.way_is) (record { stands = d; taken = b })
+label_runs lang n input m now names limit base s d b = (
+  subst (λ w. Ended names limit input base m now Going (either (arrives n w) (goes Going) nothing s)) (sym d.way_is) (record { stands = d; taken = b }),
+  same_label lang n limit s,
+)

@@ -20,7 +20,7 @@ use Rattle.fv_machine.specs.Acts.{LimitedAct, Runs}
 use Rattle.fv_machine.specs.Texts.{WritesText}
 use Rattle.fv_machine.specs.Printing.{plain_items, prints_value}
 use Rattle.fv_machine.proofs.ActLaws.{Runs-then, Runs-nothing}
-use Rattle.fv_machine.proofs.TurnLaws.{Runs-left, Stays-prints_items, Adds-prints_items}
+use Rattle.fv_machine.proofs.TurnLaws.{Runs-left, Stays-prints_items, Extends-prints_items}
 use Rattle.fv_machine.proofs.WriteLaws.{Runs-writes, left_by}
 
 abbrev pub blank_of : P.Item → List ℕ
@@ -75,7 +75,7 @@ module _ (lang : Dialect) (line : ℕ) (xs : List Item) (i : ℕ) (x : Item) (wi
   pub items_left : (left : Left) → Runs (λ limit. prints_item lang limit (item_of x) line) input old before mid now (Err left) → Runs (left_over i) input old before mid now (Err left)
   items_left left h = begins (Err left) mid now
       (Runs-left (λ limit. prints_item lang limit (item_of x) line) (left_over (i + 1)) input old mid before now left h
-      (Stays-prints_items lang (plain_items (drop (i + 1) xs)) line) (λ limit. Adds-prints_items lang limit (plain_items (drop (i + 1) xs)) line))
+      (Stays-prints_items lang (plain_items (drop (i + 1) xs)) line) (Extends-prints_items lang (plain_items (drop (i + 1) xs)) line))
 
   pub items_more : (new : Seen) (after : Option (List ℕ)) (r : Result (Unit {0}) Left) → Runs (λ limit. prints_item lang limit (item_of x) line) input old before mid now (Ok tt)
       → Runs (left_over (i + 1)) input mid now new after r → Runs (left_over i) input old before new after r

@@ -11,6 +11,7 @@ pub mod ColumnMajor
 pub mod ElementsAt
 pub mod PrintLaws
 pub mod WriteLaws
+pub mod IdleLaws
 pub mod TurnLaws
 pub mod ItemLaws
 pub mod InputLaws

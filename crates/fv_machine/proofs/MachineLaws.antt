@@ -16,8 +16,11 @@ use Rattle.fv_machine.specs.declared.progress.Left.{Left}
 use Rattle.fv_machine.specs.declared.progress.Left.TheVariants.{Halted, Unwritten}
 use Rattle.fv_machine.specs.Storage.{opening_of}
 use Rattle.fv_machine.specs.Moments.{seen_at, begun_at, steps_left, way_of}
+use Rattle.fv_meaning.specs.declared.End.TheVariants.{WriteFault}
+use Rattle.fv_machine.specs.Acts.{Elsewhere}
+use Rattle.fv_machine.proofs.BlockLaws.{none_least}
 use Rattle.fv_machine.specs.Acts.{Ended, Outcome, Runs}
-use Rattle.fv_machine.specs.Endings.{IsOpening, EndsWith, Ends, ended}
+use Rattle.fv_machine.specs.Endings.{IsOpening, EndsWith, Ends, ended, IsLeftAt}
 
 whole : (limit : Option ℕ) → limit ≡ steps_left limit 0
 whole None = refl
@@ -63,7 +66,7 @@ unfolding IsOpening Runs
 runs_to_end lang p limit input old new b before now r n e f o h =
     ends p.declarations limit input before new now r (run lang limit p input) (every_run_ends lang limit p input f)
     (subst (λ b. Outcome p.declarations limit input before new now r (does_all lang limit b (opening_state p input))) e
-    (h p.declarations limit before (opening_state p input) (o p input n) (with_nothing before)))
+    (h p.declarations limit before (opening_state p input) (o p input n) (with_nothing before)).0)
 
 left_names : (names : List Declaration) (limit : Option ℕ) (input : List ℕ) (base : Option (List ℕ)) (m : Seen) (now : Option (List ℕ)) (r : Result (Unit {0}) Left) (s : State) → Outcome names limit input base m now r s → m.names ≡ names
 left_names names limit input base m now (Ok x) s h = h.stands.names_are
@@ -75,4 +78,31 @@ pub keeps_names : (lang : Dialect) (p : Program) (limit : Option ℕ) (input : L
     → IsOpening limit old → Runs (λ limit. does_all lang limit b) input old before new now r → new.names ≡ p.declarations
 unfolding IsOpening Runs
 keeps_names lang p limit input old new b before now r n o h =
-    left_names p.declarations limit input before new now r (does_all lang limit b (opening_state p input)) (h p.declarations limit before (opening_state p input) (o p input n) (with_nothing before))
+    left_names p.declarations limit input before new now r (does_all lang limit b (opening_state p input)) (h p.declarations limit before (opening_state p input) (o p input n) (with_nothing before)).0
+
+left_after : (lang : Dialect) (p : Program) (limit : Option ℕ) (input : List ℕ) (m : Seen) (before now : Option (List ℕ)) (r : Result (Unit {0}) Left)
+    → Elsewhere before m now r (λ l. does_all lang l p.body) limit (opening_state p input) → ended r ≡ WriteFault → IsLeftAt lang limit p input m.store before now
+left_after lang p limit input m before now (Ok x) h e = cc
+left_after lang p limit input m before now (Err (Halted (Jump n))) h e = cc
+left_after lang p limit input m before now (Err (Halted Stop)) h e = cc
+left_after lang p limit input m before now (Err (Halted (Fault' f line))) h e = cc
+left_after lang p limit input m before now (Err (Halted Limit)) h e = cc
+left_after lang p limit input m before now (Err Unwritten) h e = record {
+  count = h.count;
+  within = h.within (none_least limit);
+  set = h.set;
+  store = h.store;
+  part = h.part;
+  more = h.more;
+  text = h.text;
+  taken = h.taken;
+}
+
+-- the store after a failed write
+pub left_at : (lang : Dialect) (p : Program) (limit : Option ℕ) (input : List ℕ) (old new : Seen) (b : Block) (before now : Option (List ℕ)) (r : Result (Unit {0}) Left) → old.names ≡ p.declarations → b ≡ p.body
+    → IsOpening limit old → Runs (λ limit. does_all lang limit b) input old before new now r → ended r ≡ WriteFault → IsLeftAt lang limit p input new.store before now
+unfolding IsOpening Runs
+left_at lang p limit input old new b before now r n e o h w =
+    left_after lang p limit input new before now r
+    (subst (λ b. Elsewhere before new now r (λ l. does_all lang l b) limit (opening_state p input)) e
+    (h p.declarations limit before (opening_state p input) (o p input n) (with_nothing before)).1) w

@@ -26,7 +26,7 @@ use Rattle.fv_meaning.specs.Store.{Store, Cell, bounds_in, cells_of, cell_at, op
 use Rattle.fv_meaning.specs.Texts.{without_cr, from_value, first_word, after_word, after_line, read_value}
 use Rattle.fv_meaning.specs.Value.{is_in_range, cells_named, cell_named, item_cells, subscript_values, number_of}
 use Rattle.fv_meaning.specs.Profile77.{elements_of}
-use Rattle.fv_meaning.specs.Run.{Failed, then, either, for_each, goes, while_going, answered, evaluates, stores, counts_step, checks_range, repeated, turn, increases, loops, is_empty, begins_line, takes_word, skips_line, reads_into, reads_item, reads_items}
+use Rattle.fv_meaning.specs.Run.{State, Failed, then, either, for_each, goes, while_going, answered, evaluates, stores, counts_step, checks_range, repeated, turn, increases, loops, is_empty, begins_line, takes_word, skips_line, reads_into, reads_item, reads_items}
 use Rattle.fv_machine.specs.declared.variables.Variable.{Variable}
 use Rattle.fv_machine.specs.Moments.{Seen}
 use Rattle.fv_machine.specs.declared.progress.Halt.{Halt}
@@ -40,7 +40,7 @@ use Rattle.fv_machine.specs.Storage.{store_of, place, offset}
 use Rattle.fv_machine.specs.Stored.{IsOf, bounds_here}
 use Rattle.fv_machine.specs.Printing.{plain_items}
 use Rattle.fv_machine.specs.Reading.{TakesWord, HasNoWord, Spells, all_cells, reads_all, reads_cells}
-use Rattle.fv_machine.proofs.ActLaws.{at_same, begun, Stays, Runs-nothing, Runs-goes, Runs-counts_step, Runs-evaluates, Runs-fault, Runs-then, Runs-halted, Stays-evaluates, ended_way}
+use Rattle.fv_machine.proofs.ActLaws.{at_same, begun, steady, elsewhere_same, elsewhere_at, Stays, Runs-nothing, Runs-goes, Runs-counts_step, Runs-evaluates, Runs-fault, Runs-then, Runs-halted, Stays-evaluates, ended_way}
 use Rattle.fv_machine.proofs.TurnLaws.{Stays-counts_step, Stays-repeated}
 use Rattle.fv_machine.proofs.InputLaws.{cr_none}
 use Rattle.fv_machine.proofs.StoreLaws.{store-bounds}
@@ -59,69 +59,80 @@ some_byte c (d ∷ cs) = by (c == 13 && d == 10) (some_byte d cs)
 pub begins_at_end : (line : ℕ) (input : List ℕ) (m : Seen) (bytes : Option (List ℕ)) → length input ≤ m.progress.at → Runs (λ limit. begins_line line) input m bytes m bytes (Err (Halted (Fault' InputEnd line)))
 unfolding Runs begins_line
 begins_at_end line input m bytes l names limit base s d b =
-    at_same names limit input base m bytes (Err (Halted (Fault' InputEnd line)))
-    (begun (λ s. either (is_empty s.input) (goes (Failed InputEnd line)) (λ t. record t { had_value = false }) s) s d.way_is
-    ∙ ap (λ xs. either (is_empty xs) (goes (Failed InputEnd line)) (λ t. record t { had_value = false }) s) (d.input_left ∙ cr_none input m.progress.at l))
-    (Runs-goes input m bytes (Fault' InputEnd line) names limit base s d b)
+    let at : begins_line line s ≡ goes (Failed InputEnd line) s =
+    begun (λ s. either (is_empty s.input) (goes (Failed InputEnd line)) (λ t. record t { had_value = false }) s) s d.way_is
+    ∙ ap (λ xs. either (is_empty xs) (goes (Failed InputEnd line)) (λ t. record t { had_value = false }) s) (d.input_left ∙ cr_none input m.progress.at l) in
+    let q = Runs-goes input m bytes (Fault' InputEnd line) names limit base s d b in
+    (at_same names limit input base m bytes (Err (Halted (Fault' InputEnd line))) at q.0, steady (begins_line line) limit s (ap (λ (t : State). t.steps) at))
 
 pub begins_there : (line : ℕ) (input : List ℕ) (old new : Seen) (bytes : Option (List ℕ)) → old.progress.at < length input → new.names ≡ old.names → new.store ≡ old.store
     → new.progress ≡ record old.progress { had_value = false }
     → Runs (λ limit. begins_line line) input old bytes new bytes (Ok tt)
 unfolding Runs begins_line
 begins_there line input old new bytes l e f g names limit base s d b =
-    at_same names limit input base new bytes (Ok tt)
-    (begun (λ s. either (is_empty s.input) (goes (Failed InputEnd line)) (λ t. record t { had_value = false }) s) s d.way_is
+    let at : begins_line line s ≡ record s { had_value = false } =
+    begun (λ s. either (is_empty s.input) (goes (Failed InputEnd line)) (λ t. record t { had_value = false }) s) s d.way_is
     ∙ ap (λ t. either t (goes (Failed InputEnd line)) (λ t. record t { had_value = false }) s)
-    (ap is_empty d.input_left ∙ ap (λ xs. is_empty (without_cr xs)) (drop_more input old.progress.at 0 l) ∙ some_byte (get_or input old.progress.at 0) (drop (old.progress.at + 1) input)))
-    (record {
-      stands = record {
-        names_are = e ∙ d.names_are;
-        store = d.store ∙ sym f;
-        input_left = d.input_left ∙ ap (λ (p : Progress). without_cr (drop p.at input)) (sym g);
-        had_value = ap (λ (p : Progress). p.had_value) (sym g);
-        steps = ap (λ (p : Progress). p.left) g ∙ d.steps;
-        way_is = d.way_is;
-      };
-      taken = b;
-    })
+    (ap is_empty d.input_left ∙ ap (λ xs. is_empty (without_cr xs)) (drop_more input old.progress.at 0 l) ∙ some_byte (get_or input old.progress.at 0) (drop (old.progress.at + 1) input)) in (
+      at_same names limit input base new bytes (Ok tt) at
+          (record {
+            stands = record {
+              names_are = e ∙ d.names_are;
+              store = d.store ∙ sym f;
+              input_left = d.input_left ∙ ap (λ (p : Progress). without_cr (drop p.at input)) (sym g);
+              had_value = ap (λ (p : Progress). p.had_value) (sym g);
+              steps = ap (λ (p : Progress). p.left) g ∙ d.steps;
+              way_is = d.way_is;
+            };
+            taken = b;
+          }),
+      steady (begins_line line) limit s (ap (λ (t : State). t.steps) at),
+    )
 
 pub skips : (input : List ℕ) (old new : Seen) (bytes : Option (List ℕ)) → after_line (without_cr (drop old.progress.at input)) ≡ without_cr (drop new.progress.at input) → new.names ≡ old.names
     → new.store ≡ old.store → new.progress.had_value ≡ old.progress.had_value → new.progress.left ≡ old.progress.left
     → Runs (λ limit. skips_line) input old bytes new bytes (Ok tt)
 unfolding Runs skips_line
 skips input old new bytes f e st g h names limit base s d b =
-    at_same names limit input base new bytes (Ok tt) (begun (λ s. record s { input = after_line s.input }) s d.way_is)
-    (record {
-      stands = record {
-        names_are = e ∙ d.names_are;
-        store = d.store ∙ sym st;
-        input_left = ap after_line d.input_left ∙ f;
-        had_value = d.had_value ∙ sym g;
-        steps = h ∙ d.steps;
-        way_is = d.way_is;
-      };
-      taken = b;
-    })
+    let at = begun (λ s. record s { input = after_line s.input }) s d.way_is in (
+      at_same names limit input base new bytes (Ok tt) at
+          (record {
+            stands = record {
+              names_are = e ∙ d.names_are;
+              store = d.store ∙ sym st;
+              input_left = ap after_line d.input_left ∙ f;
+              had_value = d.had_value ∙ sym g;
+              steps = h ∙ d.steps;
+              way_is = d.way_is;
+            };
+            taken = b;
+          }),
+      steady skips_line limit s (ap (λ (t : State). t.steps) at),
+    )
 
 module _ (input : List ℕ) (line : ℕ) (old : Seen) where
   no_word : (f : Fault) → from_value old.progress.had_value (without_cr (drop old.progress.at input)) ≡ Err f → HasNoWord input line old old (Fault' f line)
   unfolding Runs takes_word HasNoWord
   no_word f e k bytes names limit base s d b =
-      at_same names limit input base old bytes (Err (Halted (Fault' f line)))
-      (begun (λ s. answered line (from_value s.had_value s.input) (λ rest t. k (first_word rest) limit (record t { input = after_word rest; had_value = true })) s) s d.way_is
-      ∙ ap (λ q. answered line q (λ rest t. k (first_word rest) limit (record t { input = after_word rest; had_value = true })) s) (ap₂ from_value d.had_value d.input_left ∙ e))
-      (Runs-goes input old bytes (Fault' f line) names limit base s d b)
+      let at : (l : Option ℕ) → takes_word line (λ w. k w l) s ≡ goes (Failed f line) s = λ l.
+      begun (λ s. answered line (from_value s.had_value s.input) (λ rest t. k (first_word rest) l (record t { input = after_word rest; had_value = true })) s) s d.way_is
+      ∙ ap (λ q. answered line q (λ rest t. k (first_word rest) l (record t { input = after_word rest; had_value = true })) s) (ap₂ from_value d.had_value d.input_left ∙ e) in
+      let q = Runs-goes input old bytes (Fault' f line) names limit base s d b in (
+        at_same names limit input base old bytes (Err (Halted (Fault' f line))) (at limit) q.0,
+        elsewhere_same base old bytes (Err (Halted (Fault' f line))) (λ l. goes (Failed f line)) (λ l. takes_word line (λ w. k w l)) limit s at q.1,
+      )
 
   pub some_word : (new : Seen) (at : ℕ) (w : List ℕ) → from_value old.progress.had_value (without_cr (drop old.progress.at input)) ≡ Ok (without_cr (drop at input))
       → first_word (without_cr (drop at input)) ≡ w → after_word (without_cr (drop at input)) ≡ without_cr (drop new.progress.at input)
       → new.names ≡ old.names → new.store ≡ old.store → new.progress.had_value ≡ true → new.progress.left ≡ old.progress.left → TakesWord input line old new w
   unfolding Runs takes_word TakesWord
   some_word new at w e f a nm st g h k before now end r run names limit base s d b =
-      at_same names limit input base end now r
-      (begun (λ s. answered line (from_value s.had_value s.input) (λ rest t. k (first_word rest) limit (record t { input = after_word rest; had_value = true })) s) s d.way_is
-      ∙ ap (λ q. answered line q (λ rest t. k (first_word rest) limit (record t { input = after_word rest; had_value = true })) s) (ap₂ from_value d.had_value d.input_left ∙ e)
-      ∙ ap (λ w. k w limit (record s { input = after_word (without_cr (drop at input)); had_value = true })) f)
-      (run names limit base (record s { input = after_word (without_cr (drop at input)); had_value = true })
+      let t : State = record s { input = after_word (without_cr (drop at input)); had_value = true } in
+      let is : (l : Option ℕ) → takes_word line (λ w. k w l) s ≡ k w l t = λ l.
+      begun (λ s. answered line (from_value s.had_value s.input) (λ rest t. k (first_word rest) l (record t { input = after_word rest; had_value = true })) s) s d.way_is
+      ∙ ap (λ q. answered line q (λ rest t. k (first_word rest) l (record t { input = after_word rest; had_value = true })) s) (ap₂ from_value d.had_value d.input_left ∙ e)
+      ∙ ap (λ w. k w l (record s { input = after_word (without_cr (drop at input)); had_value = true })) f in
+      let q = run names limit base t
       (record {
         names_are = nm ∙ d.names_are;
         store = d.store ∙ sym st;
@@ -130,14 +141,19 @@ module _ (input : List ℕ) (line : ℕ) (old : Seen) where
         steps = h ∙ d.steps;
         way_is = d.way_is;
       })
-      b)
+      b in (
+        at_same names limit input base end now r (is limit) q.0,
+        elsewhere_same base end now r (λ l u. k w l t) (λ l. takes_word line (λ w. k w l)) limit s is (elsewhere_at base end now r (k w) limit s t refl q.1),
+      )
 
 -- ---- a cell gets a value
 
 -- an act that is the same everywhere
 Runs-same : (f g : LimitedAct) (input : List ℕ) (old new : Seen) (before now : Option (List ℕ)) (r : Result (Unit {0}) Left) → ((limit : Option ℕ) → f limit ≡ g limit) → Runs g input old before new now r → Runs f input old before new now r
 unfolding Runs
-Runs-same f g input old new before now r e h names limit base s d b = at_same names limit input base new now r (ap (λ f. f s) (e limit)) (h names limit base s d b)
+Runs-same f g input old new before now r e h names limit base s d b =
+    let q = h names limit base s d b in
+    (at_same names limit input base new now r (ap (λ f. f s) (e limit)) q.0, elsewhere_same base new now r g f limit s (λ l. ap (λ f. f s) (e l)) q.1)
 
 stored_same : (lang : Dialect) (line : ℕ) (c : Cell) (u v : Value) (limit : Option ℕ) → is_in_range lang.bits v ≡ is_in_range lang.bits u → (is_in_range lang.bits u ≡ true → v ≡ u)
     → checks_range lang limit line u (counts_step lang limit (stores c u)) ≡ checks_range lang limit line v (counts_step lang limit (stores c v))

@@ -18,6 +18,7 @@ use Rattle.fv_machine.specs.declared.progress.Left.{Left}
 use Rattle.fv_machine.specs.declared.progress.Left.TheVariants.{Halted, Unwritten}
 use Rattle.fv_machine.specs.Moments.{CountsStep}
 use Rattle.fv_machine.specs.Acts.{LimitedAct, Runs}
+use Rattle.fv_machine.proofs.IdleLaws.{Idles-then, Idles-writes, Idles-repeated, Idles-counts_step, Idles-increases, Idles-prints_items}
 use Rattle.fv_machine.proofs.ActLaws.{Runs-nothing, Runs-counts_step, Runs-cut, Runs-then, Runs-halted, Runs-unwritten, Stays, Extends, ended_way, Stays-evaluates}
 
 -- ---- acts that stay, and acts that extend what was written
@@ -127,6 +128,20 @@ mutual
   Stays-prints_items lang no_items line = λ limit s h e. refl
   Stays-prints_items lang (item i is) line = Stays-then (λ limit. prints_item lang limit i line) (λ limit. prints_items lang limit is line) (Stays-prints_item lang i line) (Stays-prints_items lang is line)
 
+-- ---- and with no step left
+
+pub Extends-then : (f g : LimitedAct) → Extends f → Extends g → Extends (λ limit. then (f limit) (g limit))
+Extends-then f g h k = record { adds = λ limit. Adds-then (f limit) (g limit) (h.adds limit) (k.adds limit); idles = Idles-then f g h.idles k.idles }
+
+pub Extends-writes : (t : List ℕ) → Extends (λ limit. writes t)
+Extends-writes t = record { adds = λ limit. Adds-writes t; idles = Idles-writes t }
+
+pub Extends-increases : (lang : Dialect) (line : ℕ) (x : List ℕ) (d : ℤ) → Extends (λ limit. increases lang limit line x d)
+Extends-increases lang line x d = record { adds = λ limit. Adds-increases lang limit line x d; idles = Idles-increases lang line x d }
+
+pub Extends-prints_items : (lang : Dialect) (is : Items) (line : ℕ) → Extends (λ limit. prints_items lang limit is line)
+Extends-prints_items lang is line = record { adds = λ limit. Adds-prints_items lang limit is line; idles = Idles-prints_items lang is line }
+
 -- ---- where a run is left
 
 pub Runs-left : (f g : LimitedAct) (input : List ℕ) (old mid : Seen) (before now : Option (List ℕ)) (left : Left) → Runs f input old before mid now (Err left) → Stays g → Extends g
@@ -142,7 +157,10 @@ module _ (lang : Dialect) (line : ℕ) (x : List ℕ) (d : ℤ) (body : LimitedA
   Stays-turns n = Stays-repeated n (λ limit. turn lang limit line x d (body limit)) (Stays-counts_step lang (λ limit. then (body limit) (increases lang limit line x d)))
 
   Extends-turns : Extends body → (n : ℕ) → Extends (turns n)
-  Extends-turns a n limit = Adds-repeated n (turn lang limit line x d (body limit)) (Adds-turn lang limit line x d (body limit) (a limit))
+  Extends-turns a n = record {
+    adds = λ limit. Adds-repeated n (turn lang limit line x d (body limit)) (Adds-turn lang limit line x d (body limit) (a.adds limit));
+    idles = Idles-repeated n (λ limit. turn lang limit line x d (body limit)) (Idles-counts_step lang (λ limit. then (body limit) (increases lang limit line x d)));
+  }
 
   pub turn_cut : (n : ℕ) (old new : Seen) (now : Option (List ℕ)) (h : Halt) → CountsStep old new (Err h) → Runs (turns (suc n)) input old now new now (Err (Halted h))
   turn_cut n old new now h c = Runs-halted (λ limit. turn lang limit line x d (body limit)) (turns n) input old new now now h
@@ -152,7 +170,7 @@ module _ (lang : Dialect) (line : ℕ) (x : List ℕ) (d : ℤ) (body : LimitedA
       → Runs (turns (suc n)) input old before new now (Err left)
   turn_left n old mid new before now left a c r = Runs-left (λ limit. turn lang limit line x d (body limit)) (turns n) input old new before now left
       (Runs-counts_step lang (λ limit. then (body limit) (increases lang limit line x d)) input old mid new before now (Err left) c
-      (Runs-left body (λ limit. increases lang limit line x d) input mid new before now left r (Stays-evaluates line (cell_at x []) _) (λ limit. Adds-increases lang limit line x d)))
+      (Runs-left body (λ limit. increases lang limit line x d) input mid new before now left r (Stays-evaluates line (cell_at x []) _) (Extends-increases lang line x d)))
       (Stays-turns n) (Extends-turns a n)
 
   pub turn_stuck : (n : ℕ) (old mid last new : Seen) (before now : Option (List ℕ)) (h : Halt) → Extends body → CountsStep old mid (Ok tt) → Runs body input mid before last now (Ok tt)

@@ -18,7 +18,9 @@ use Rattle.fv_machine.specs.Moments.{located}
 use Rattle.fv_machine.specs.Acts.{Runs}
 use Rattle.fv_machine.specs.Texts.{WritesText}
 use Rattle.fv_machine.specs.Printing.{prints_value}
-use Rattle.fv_machine.proofs.ActLaws.{Runs-evaluates, Runs-fault, at_same, begun}
+use Rattle.fv_meaning.specs.Run.{State}
+use Rattle.std.proofs.Common.{arith, ◌≤◌}
+use Rattle.fv_machine.proofs.ActLaws.{Runs-evaluates, Runs-fault, at_same, begun, steady}
 
 -- a write that failed leaves the run
 abbrev pub left_by : Result (Unit {0}) WriteFault → Result (Unit {0}) Left
@@ -29,20 +31,37 @@ pub Runs-writes : (text input : List ℕ) (m : Seen) (before now : Option (List 
     → Runs (λ limit. writes text) input m before m now (left_by r)
 unfolding Runs writes
 Runs-writes text input m before now (Ok x) h names limit base s d b =
-    at_same names limit input base m now (Ok x) (begun (λ s. record s { written = s.written ++ text }) s d.way_is)
-    (record {
-      stands = record { names_are = d.names_are; store = d.store; input_left = d.input_left; had_value = d.had_value; steps = d.steps; way_is = d.way_is };
-      taken = gives_more base before now s.written text b h;
-    })
+    let at = begun (λ s. record s { written = s.written ++ text }) s d.way_is in (
+      at_same names limit input base m now (Ok x) at
+          (record {
+            stands = record { names_are = d.names_are; store = d.store; input_left = d.input_left; had_value = d.had_value; steps = d.steps; way_is = d.way_is };
+            taken = gives_more base before now s.written text b h;
+          }),
+      steady (writes text) limit s (ap (λ (t : State). t.steps) at),
+    )
 Runs-writes text input m before now (Err e) h names limit base s d b =
-    at_same names limit input base m now (Err Unwritten) (begun (λ s. record s { written = s.written ++ text }) s d.way_is)
-    (record {
-      names_are = d.names_are;
-      front = s.written ++ h.0;
-      rest = h.1;
-      whole = ap (λ t. s.written ++ t) h.2 ∙ sym (append_assoc s.written h.0 h.1);
-      taken = gives_more base before now s.written h.0 b h.3;
-    })
+    let at = begun (λ s. record s { written = s.written ++ text }) s d.way_is in (
+      at_same names limit input base m now (Err Unwritten) at
+          (record {
+            names_are = d.names_are;
+            front = s.written ++ h.0;
+            rest = h.1;
+            whole = ap (λ t. s.written ++ t) h.2 ∙ sym (append_assoc s.written h.0 h.1);
+            taken = gives_more base before now s.written h.0 b h.3;
+          }),
+      record {
+        count = s.steps;
+        later = omega arith;
+        within = λ q. q;
+        steps = ap (λ (t : State). t.steps) at;
+        set = [];
+        store = ap (λ (t : State). t.store) at ∙ d.store;
+        part = s.written ++ h.0;
+        more = h.1;
+        text = ap (λ (t : State). t.written) at ∙ ap (λ t. s.written ++ t) h.2 ∙ sym (append_assoc s.written h.0 h.1);
+        taken = gives_more base before now s.written h.0 b h.3;
+      },
+    )
 
 -- ---- values
 

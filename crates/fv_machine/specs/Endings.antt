@@ -1,9 +1,12 @@
 -- A whole run, as a machine does it.
-use Rattle.std.specs.Prelude.{◌≡◌, Result, Ok, Err, Option, Some, ℕ, List}
+use Rattle.std.specs.Prelude.{◌≡◌, Result, Ok, Err, Option, Some, ℕ, ℤ, List, ◌++◌}
 use Rattle.std.specs.Io.KnownBytes.{append_known}
 use Rattle.fv_tree.specs.Plain.{Declaration, Program}
 use Rattle.fv_meaning.specs.Sequential.{ending}
-use Rattle.fv_meaning.specs.Run.{State, Going, opening_state}
+use Rattle.fv_meaning.specs.Dialect.{Dialect}
+use Rattle.fv_meaning.specs.Store.{Store}
+use Rattle.fv_meaning.specs.Cuts.{IsAtMost}
+use Rattle.fv_meaning.specs.Run.{State, Going, opening_state, run}
 use Rattle.fv_meaning.specs.declared.End.{End}
 use Rattle.fv_meaning.specs.declared.End.TheVariants.{Done, Fault, StepLimit, WriteFault}
 use Rattle.fv_machine.specs.declared.progress.Halt.{Halt}
@@ -11,7 +14,7 @@ use Rattle.fv_machine.specs.declared.progress.Halt.TheVariants.{Jump, Stop, Faul
 use Rattle.fv_machine.specs.declared.progress.Left.{Left}
 use Rattle.fv_machine.specs.declared.progress.Left.TheVariants.{Halted, Unwritten}
 use Rattle.fv_machine.specs.Moments.{Seen, Stands}
-use Rattle.fv_machine.specs.Acts.{HasFront}
+use Rattle.fv_machine.specs.Acts.{HasFront, all_set}
 
 -- the moment stands for the first one of a run of any program with the machine's names
 unfoldable pub IsOpening : Option ℕ → Seen → Type 0
@@ -34,6 +37,19 @@ pub record EndsWith (s : State) (m : Seen) (before now : Option (List ℕ)) (e :
   pub ending : ending s ≡ Some e
   pub store : m.store ≡ s.store
   pub taken : now ≡ append_known before s.written
+
+-- After a failed write the store is that of a moment of the run that is cut after `count` steps: from there on that run
+-- counts no step, and stores nothing but variables of loops. A sink has a front of its text
+pub record IsLeftAt (lang : Dialect) (limit : Option ℕ) (p : Program) (input : List ℕ) (left : Store)
+    (before now : Option (List ℕ)) : Type 0 where
+  pub count : ℕ
+  pub within : IsAtMost count limit
+  pub set : List (List ℕ × ℤ)
+  pub store : (run lang (Some count) p input).store ≡ all_set set left
+  pub part : List ℕ
+  pub more : List ℕ
+  pub text : (run lang (Some count) p input).written ≡ part ++ more
+  pub taken : now ≡ append_known before part
 
 -- How a run under a limit ends: as its definition says, or where a write failed with a front of the run's text written
 abbrev pub Ends : List Declaration → State → Seen → Option (List ℕ) → Option (List ℕ) → End → Type 0

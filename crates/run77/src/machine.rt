@@ -8,7 +8,7 @@ ghost use Rattle.fv_meaning.specs.Profile77.{IsProgram77};
 ghost use Rattle.fv_meaning.specs.Dialect.{fortran77};
 ghost use Rattle.fv_meaning.specs.Run.{run};
 ghost use Rattle.fv_meaning.specs.Steps.{final_lines};
-ghost use Rattle.fv_machine.specs.Endings.{IsOpening, Ends};
+ghost use Rattle.fv_machine.specs.Endings.{IsOpening, Ends, IsLeftAt};
 ghost use Rattle.fv_machine.specs.Storage.{AreArrays, AreDistinct, opening_of};
 ghost use Rattle.fv_machine.specs.Stored.{names_in};
 ghost use Rattle.fv_machine.specs.Texts.{WritesText};
@@ -78,6 +78,8 @@ impl Machine77 {
         ensures run { (p : Program) → IsProgram77 fortran77 p → IsMachineOf p self.old
             → Ends p.declarations (run fortran77 limit p input.now)
             (seen self.new.moment) (K.taken out.old) (K.taken out.new) result }
+        ensures unwritten { (p : Program) → IsProgram77 fortran77 p → IsMachineOf p self.old → result ≡ End.WriteFault
+            → IsLeftAt fortran77 limit p input.now (store_left self.new) (K.taken out.old) (K.taken out.new) }
         ensures machine { (p : Program) → IsProgram77 fortran77 p → IsMachineOf p self.old → IsMachineOf p self.new }
         ensures fault { result ≡ End.WriteFault → Rose (K.faults out.old) (K.faults out.new) }
         ensures later { K.faults out.old ≤ K.faults out.new }

@@ -10,7 +10,7 @@ use Rattle.run77.specs.Machine.{IsMachineOf}
 use Rattle.run77.specs.Moments.{seen}
 use Rattle.run77.proofs.JumpLaws.{jumps_forward}
 use Rattle.run77.proofs.ProgramLaws.{block_has_arms}
-use Rattle.fv_machine.proofs.MachineLaws.{runs_to_end, keeps_names}
+use Rattle.fv_machine.proofs.MachineLaws.{runs_to_end, keeps_names, left_at}
 use Rattle.run77.proofs.machine.Machine77.run.Goals as goal
 
 has_arms : (p : Program) (m : Machine77) → IsProgram77 fortran77 p → IsMachineOf p m → BlockHasArms (block_of m.body)
@@ -30,3 +30,9 @@ returns-clause-machine g c = λ p h is. record {
       (c.block.ensures.run (has_arms p c.args.self.now h is));
   body = is.body;
 }
+
+pub returns-clause-unwritten : goal.returns-clause-unwritten
+returns-clause-unwritten g c = λ p h is e.
+    left_at fortran77 p c.args.limit c.args.input.now (seen c.begin.new.self) (seen c.block.new.self) (block_of c.args.self.now.body) (g.K.Sink.taken c.args.out.now)
+    (g.K.Sink.taken c.block.new.out) c.block.result (c.begin.ensures.names ∙ is.names) is.body c.begin.ensures.opening
+    (c.block.ensures.run (has_arms p c.args.self.now h is)) (sym c.ended.ensures ∙ e)

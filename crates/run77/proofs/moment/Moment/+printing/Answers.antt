@@ -8,7 +8,7 @@ use Rattle.fv_machine.specs.Loops.{BeginsLoop}
 use Rattle.fv_machine.specs.Printing.{plain_items}
 use Rattle.fv_machine.proofs.Residuals.{residual, settled}
 use Rattle.fv_machine.proofs.ItemLaws.{one_runs, turns_run, text_runs, items_left, items_more, items_done}
-use Rattle.fv_machine.proofs.TurnLaws.{Adds-prints_items, turn_cut, turn_left, turn_stuck, turn_done, at_turn, no_turn}
+use Rattle.fv_machine.proofs.TurnLaws.{Extends-prints_items, turn_cut, turn_left, turn_stuck, turn_done, at_turn, no_turn}
 use Rattle.run77.specs.Moments.{seen}
 use Rattle.run77.proofs.moment.Moment.+printing.Goals as goal
 
@@ -56,14 +56,14 @@ print_item-returns-in_err-print_items-in-Turns-clause-run g t c = λ input.
     rw (residual c.from_residual-in_err-print_items-in-Turns.ensures.1)
     (c.loop.invariant.0 input (g.K.Sink.taken c.print_items.new.out) (seen c.print_items.new.self) (Err c.in_err-print_items-in-Turns.field-0.0)
     (at_turn fortran77 c.args.line c.in-Turns.name c.in_ok-turns-in-Turns.turns.step (λ limit. prints_items fortran77 limit (plain_items c.in-Turns.items) c.args.line) input (c.in_ok-turns-in-Turns.turns.count - c.loop.counter) (c.in_ok-turns-in-Turns.turns.count - (c.loop.counter + 1)) (seen c.loop.self) (seen c.print_items.new.self) (g.K.Sink.taken c.loop.out) (g.K.Sink.taken c.print_items.new.out) (Err c.in_err-print_items-in-Turns.field-0.0) (omega (arith, c.loop-test.true))
-    (turn_left fortran77 c.args.line c.in-Turns.name c.in_ok-turns-in-Turns.turns.step (λ limit. prints_items fortran77 limit (plain_items c.in-Turns.items) c.args.line) input (c.in_ok-turns-in-Turns.turns.count - (c.loop.counter + 1)) (seen c.loop.self) (seen c.count_step.new.self) (seen c.print_items.new.self) (g.K.Sink.taken c.loop.out) (g.K.Sink.taken c.print_items.new.out) c.in_err-print_items-in-Turns.field-0.0 (λ limit. Adds-prints_items fortran77 limit (plain_items c.in-Turns.items) c.args.line) c.in_ok-count_step-in-Turns.ensures.counted (c.in_err-print_items-in-Turns.ensures.run input))))
+    (turn_left fortran77 c.args.line c.in-Turns.name c.in_ok-turns-in-Turns.turns.step (λ limit. prints_items fortran77 limit (plain_items c.in-Turns.items) c.args.line) input (c.in_ok-turns-in-Turns.turns.count - (c.loop.counter + 1)) (seen c.loop.self) (seen c.count_step.new.self) (seen c.print_items.new.self) (g.K.Sink.taken c.loop.out) (g.K.Sink.taken c.print_items.new.out) c.in_err-print_items-in-Turns.field-0.0 (Extends-prints_items fortran77 (plain_items c.in-Turns.items) c.args.line) c.in_ok-count_step-in-Turns.ensures.counted (c.in_err-print_items-in-Turns.ensures.run input))))
 
 pub print_item-returns-in_err-increase-in-Turns-clause-run : goal.print_item-returns-in_err-increase-in-Turns-clause-run
 print_item-returns-in_err-increase-in-Turns-clause-run g t c = λ input.
     rw (residual c.from_residual-in_err-increase-in-Turns.ensures.1)
     (c.loop.invariant.0 input (g.K.Sink.taken c.print_items.new.out) (seen c.increase.new.self) (Err (Halted c.in_err-increase-in-Turns.field-0.0))
     (at_turn fortran77 c.args.line c.in-Turns.name c.in_ok-turns-in-Turns.turns.step (λ limit. prints_items fortran77 limit (plain_items c.in-Turns.items) c.args.line) input (c.in_ok-turns-in-Turns.turns.count - c.loop.counter) (c.in_ok-turns-in-Turns.turns.count - (c.loop.counter + 1)) (seen c.loop.self) (seen c.increase.new.self) (g.K.Sink.taken c.loop.out) (g.K.Sink.taken c.print_items.new.out) (Err (Halted c.in_err-increase-in-Turns.field-0.0)) (omega (arith, c.loop-test.true))
-    (turn_stuck fortran77 c.args.line c.in-Turns.name c.in_ok-turns-in-Turns.turns.step (λ limit. prints_items fortran77 limit (plain_items c.in-Turns.items) c.args.line) input (c.in_ok-turns-in-Turns.turns.count - (c.loop.counter + 1)) (seen c.loop.self) (seen c.count_step.new.self) (seen c.print_items.new.self) (seen c.increase.new.self) (g.K.Sink.taken c.loop.out) (g.K.Sink.taken c.print_items.new.out) c.in_err-increase-in-Turns.field-0.0 (λ limit. Adds-prints_items fortran77 limit (plain_items c.in-Turns.items) c.args.line) c.in_ok-count_step-in-Turns.ensures.counted (c.in_ok-print_items-in-Turns.ensures.run input)
+    (turn_stuck fortran77 c.args.line c.in-Turns.name c.in_ok-turns-in-Turns.turns.step (λ limit. prints_items fortran77 limit (plain_items c.in-Turns.items) c.args.line) input (c.in_ok-turns-in-Turns.turns.count - (c.loop.counter + 1)) (seen c.loop.self) (seen c.count_step.new.self) (seen c.print_items.new.self) (seen c.increase.new.self) (g.K.Sink.taken c.loop.out) (g.K.Sink.taken c.print_items.new.out) c.in_err-increase-in-Turns.field-0.0 (Extends-prints_items fortran77 (plain_items c.in-Turns.items) c.args.line) c.in_ok-count_step-in-Turns.ensures.counted (c.in_ok-print_items-in-Turns.ensures.run input)
     (subst (λ d. Runs (λ limit. increases fortran77 limit c.args.line c.in-Turns.name d) input (seen c.print_items.new.self) (g.K.Sink.taken c.print_items.new.out) (seen c.increase.new.self) (g.K.Sink.taken c.print_items.new.out) (Err (Halted c.in_err-increase-in-Turns.field-0.0))) (settled c.in_ok-turns-in-Turns.turns.step (search rules)) (c.in_err-increase-in-Turns.ensures input (g.K.Sink.taken c.print_items.new.out))))))
 
 pub print_item-loop-preserved : goal.print_item-loop-preserved
