@@ -56,7 +56,8 @@ pub fn check(alloc: Global, text: &[Labelled]) -> Result<(), Refused>
 
     // A text in which nothing is wrong, or that is refused, has no other answer, unless memory runs out.
     ensures only_sound { findings fortran77 (text_of text.now) ≡ [] → OnErr result (result ≡ Err Refused.Memory) }
-    ensures only_refused { (r : Refusal) → RefusedStatements fortran77 (text_of text.now) r → AreRising (text_of text.now)
+    ensures only_refused { (r : Refusal) → RefusedStatements fortran77 (text_of text.now) r
+        → AreRising (text_of text.now)
         → (result ≡ Err (Refused.Refusal r)) ⊎ (result ≡ Err Refused.Memory) }
 {
     check_text(alloc, text)
