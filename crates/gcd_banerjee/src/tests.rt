@@ -301,6 +301,34 @@ fn sides_alone(p: &Pairing, part: i64, own: i64) -> (bool, bool) {
     (above, below)
 }
 
+fn opposite(a: Affine) -> Affine {
+    let mut b = a;
+    for number in b.loops.iter_mut() {
+        *number = number.wrapping_neg();
+    }
+    for (_, times) in b.syms.iter_mut() {
+        *times = times.wrapping_neg();
+    }
+    b.constant = b.constant.wrapping_neg();
+    b
+}
+
+fn exchanged(p: Pairing) -> Pairing {
+    Pairing {
+        from: p.to,
+        to: p.from,
+        ..p
+    }
+}
+
+fn turned(direction: Dir) -> Dir {
+    match direction {
+        Dir::Lt => Dir::Gt,
+        Dir::Gt => Dir::Lt,
+        other => other,
+    }
+}
+
 #[test]
 fn extremes_by_enumeration(rt: HostRuntime) -> Result<(), Fail> {
     let mut random = Random { state: 20 };
