@@ -1,5 +1,6 @@
 -- The values of the difference of a pairing's sides over a region.
-use Rattle.std.specs.Prelude.{◌≡◌, ◌≢◌, ℕ, ℤ, pos, Bool, true, false, List, drop, ◌<◌, ◌≤◌, ◌^◌, ◌+ℤ◌, ◌-ℤ◌, ◌<ℤ◌, ◌⊎◌, All, unsigned_abs, slice_index_or}
+use Rattle.std.specs.Prelude.{◌≡◌, ◌⊎◌, ℕ, ◌<◌, ◌≤◌, ◌^◌, ℤ, pos, ◌+ℤ◌, ◌-ℤ◌, ◌<ℤ◌, unsigned_abs}
+use Rattle.std.specs.Prelude.{All, Bool, true, false, List, drop, slice_index_or}
 use Rattle.subscripts.specs.Forms.{AreRelated, IsInRegion, WithinSpans, over_loops, over_symbols}
 use Rattle.subscripts.specs.Iterations.{once}
 use Rattle.subscripts.specs.Shapes.{HasSmallSymbols}
@@ -32,7 +33,8 @@ pub record IsLinearValue (as' bs : List ℤ) (ss ts : List Span) (ds : List Dir)
 -- that of the loops from place k on
 abbrev pub IsLoopsValue : Pairing → Dirs → Bool → ℕ → ℤ → Type 0
 IsLoopsValue p d opposite k =
-    IsLinearValue (drop k p.from.loops) (drop k p.to.loops) (drop k p.from_spans) (drop k p.to_spans) (drop k d.at) opposite
+    IsLinearValue (drop k p.from.loops) (drop k p.to.loops) (drop k p.from_spans) (drop k p.to_spans) (drop k d.at)
+    opposite
 
 -- the difference of what the symbols add to both sides
 pub record IsSymbolsValue (p : Pairing) (opposite : Bool) (z : ℤ) : Type 0 where

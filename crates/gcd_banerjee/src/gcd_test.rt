@@ -31,8 +31,8 @@ fn gcd_of(p: &Pairing) -> u64
     gcd_with_symbols(gcd_with_symbols(loops, p, &p.from.syms), p, &p.to.syms)
 }
 
-/// Whether the greatest common divisor of all coefficients, as in `gcd_refutes`, doesn't divide `constant`, by which the
-/// constants differ in place of their own difference.
+/// Whether the greatest common divisor of all coefficients, as in `gcd_refutes`, doesn't divide `constant`, which
+/// stands in place of the difference of the constants.
 pub fn gcd_refutes_with(p: &Pairing, constant: i128) -> bool
     requires { HasSmallSymbols p.now }
     ensures exact { IsTrue result ↔ IsRefutedByGcdWith p.now constant }

@@ -1,5 +1,6 @@
 -- A pairing cut to the loops that matter, and the least pair of iterations.
-use Rattle.std.specs.Prelude.{◌≡◌, ℕ, ℤ, pos, negsuc, List, [], ◌∷◌, ◌++◌, Bool, true, false, cond, ◌&&◌, zero, suc, ◌<ℤ◌, ◌⊎◌}
+use Rattle.std.specs.Prelude.{◌≡◌, ◌⊎◌, ℕ, zero, suc, ℤ, pos, negsuc, ◌<ℤ◌}
+use Rattle.std.specs.Prelude.{List, [], ◌∷◌, ◌++◌, Bool, true, false, cond, ◌&&◌}
 use Rattle.subscripts.specs.Forms.{IsPairOf}
 use Rattle.subscripts.specs.Iterations.{once}
 use Rattle.subscripts.specs.declared.affine.Dir.{Dir}

@@ -1,11 +1,13 @@
 -- The loops of a pairing that have been looked at, and how many of them matter.
 use Rattle.std.specs.Prelude.{◌≡◌, ℕ, ℤ, pos, ◌<◌, cond, ◌&&◌, List}
-use Rattle.subscripts.specs.Classes.{Loop, Matters, first_of, second_of, IsStrong, IsWeakZero, IsWeakCrossing, IsGeneral}
+use Rattle.subscripts.specs.Classes.{IsStrong, IsWeakZero, IsWeakCrossing, IsGeneral}
+use Rattle.subscripts.specs.Classes.{Loop, Matters, first_of, second_of}
 use Rattle.subscripts.specs.Cuts.{is_zero}
 use Rattle.subscripts.specs.declared.classes.Found.{Found}
 use Rattle.subscripts.specs.declared.classes.Found.TheVariants.{Nothing, One, Several}
 use Rattle.subscripts.specs.declared.pairing.Class.{Class}
-use Rattle.subscripts.specs.declared.pairing.Class.TheVariants.{Ziv, Strong, WeakZero, WeakCrossing, GeneralSiv, Miv, Unknown}
+use Rattle.subscripts.specs.declared.pairing.Class.TheVariants.{Ziv, Strong, WeakZero, WeakCrossing, GeneralSiv}
+use Rattle.subscripts.specs.declared.pairing.Class.TheVariants.{Miv, Unknown}
 use Rattle.subscripts.specs.declared.pairing.Pairing.{Pairing}
 
 -- one more

@@ -1,5 +1,6 @@
 -- The groups of subscript pairs: those that are coupled, also through others.
-use Rattle.std.specs.Prelude.{◌≡◌, ℕ, List, [], ◌∷◌, ◌≤◌, ◌<◌, ◌⊎◌, Some, IsTrue, cond, max, min, nat_eq, slice_get, slice_index}
+use Rattle.std.specs.Prelude.{◌≡◌, ◌⊎◌, ℕ, ◌≤◌, ◌<◌, max, min, nat_eq, cond, IsTrue}
+use Rattle.std.specs.Prelude.{EachIndex, List, [], ◌∷◌, Some, slice_get, slice_index}
 use Rattle.subscripts.specs.Classes.{Loop, Shared, First, Second, Matters}
 use Rattle.subscripts.specs.declared.pairing.Pairing.{Pairing}
 
@@ -39,15 +40,21 @@ IsPartition ps of' = (i : ℕ) → i < 7 → IsLeastOfGroup ps i (slice_index of
 -- a loop at this place matters to both
 abbrev pub SharesAt : Pairing → Pairing → ℕ → Type 0
 SharesAt p q k =
-    (Matters p (Shared k) × Matters q (Shared k)) ⊎ ((Matters p (First k) × Matters q (First k)) ⊎ (Matters p (Second k) × Matters q (Second k)))
+    (Matters p (Shared k) × Matters q (Shared k))
+    ⊎ ((Matters p (First k) × Matters q (First k)) ⊎ (Matters p (Second k) × Matters q (Second k)))
 
 -- the number of a group once two are one
 abbrev pub joined_number : ℕ → ℕ → ℕ → ℕ
 joined_number first second n = cond (nat_eq n (max first second)) (min first second) n
+
+abbrev pub AreJoined : ℕ → ℕ → List ℕ → List ℕ → Type 0
+AreJoined first second old new =
+    EachIndex new (λ k. slice_index new k ≡ joined_number first second (slice_index old k))
 
 -- numbers of groups, which are those of members, where the first n pairings have been compared with each other, and the
 -- next one with the first m
 pub record AreGroupedUpTo (ps : List Pairing) (groups : List ℕ) (n m : ℕ) : Type 0 where
   pub grouped : (k : ℕ) → k < 7 → AreGrouped ps k (slice_index groups k)
   pub no_later : (k : ℕ) → k < 7 → slice_index groups k ≤ k
-  pub same : (i j : ℕ) → i < j → (j < n) ⊎ ((j ≡ n) × (i < m)) → AreCoupled ps i j → slice_index groups i ≡ slice_index groups j
+  pub same :
+      (i j : ℕ) → i < j → (j < n) ⊎ ((j ≡ n) × (i < m)) → AreCoupled ps i j → slice_index groups i ≡ slice_index groups j

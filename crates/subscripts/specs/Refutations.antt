@@ -17,8 +17,8 @@ pub record HasGcd (p : Pairing) (g : ℕ) : Type 0 where
   pub divides : DividesAll g p
   pub greatest : (d : ℕ) → DividesAll d p → d ∣ g
 
--- the first way, the GCD test: the greatest common divisor doesn't divide the difference of the constants. It is 0 where
--- all the numbers are 0, and 0 divides 0 alone.
+-- the first way, the GCD test: the greatest common divisor doesn't divide the difference of the constants. It is 0
+-- where all the numbers are 0, and 0 divides 0 alone.
 abbrev pub IsRefutedByGcd : Pairing → Type 0
 IsRefutedByGcd p = (g : ℕ) × (HasGcd p g × (g ∣ unsigned_abs (p.to.constant -ℤ p.from.constant) → ⊥))
 

@@ -1,5 +1,6 @@
 -- What callers keep of forms, pairings, directions and groups.
-use Rattle.std.specs.Prelude.{◌≡◌, ◌≢◌, ℕ, ℤ, pos, List, ◌≤◌, ◌<◌, ◌^◌, IsTrue, IsSome, All, take, drop, map, unsigned_abs, slice_index_or}
+use Rattle.std.specs.Prelude.{◌≡◌, ◌≢◌, ℕ, ℤ, pos, ◌≤◌, ◌<◌, ◌^◌, unsigned_abs}
+use Rattle.std.specs.Prelude.{IsTrue, IsSome, All, List, take, drop, map, slice_index_or}
 use Rattle.std.specs.List.Sorted.{IsStrictlyIncreasing}
 use Rattle.subscripts.specs.Classes.{IsZiv}
 use Rattle.subscripts.specs.Iterations.{once}

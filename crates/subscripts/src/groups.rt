@@ -1,13 +1,13 @@
 //! The groups of subscript pairs.
-ghost use Rattle.std.specs.Prelude.{◌≡◌, ◌≤◌, ◌<◌, All, EachIndex, length, slice_index};
-ghost use Rattle.subscripts.specs.Partitions.{AreCoupled, AreGroupedUpTo, IsPartition, joined_number};
+ghost use Rattle.std.specs.Prelude.{◌≡◌, ◌≤◌, ◌<◌, All, length};
+ghost use Rattle.subscripts.specs.Partitions.{AreGroupedUpTo, AreJoined, IsPartition};
 ghost use Rattle.subscripts.specs.Shapes.{IsPairing};
 
 use crate::pairing::{Groups, Pairing};
 
 // Makes two groups one, with the lesser number.
 fn join(groups: &mut [u8], first: u8, second: u8)
-    ensures { EachIndex groups.new (λ k. slice_index groups.new k ≡ joined_number first second (slice_index groups.old k)) }
+    ensures { AreJoined first second groups.old groups.new }
 {
     let joined = first.min(second);
     let other = first.max(second);

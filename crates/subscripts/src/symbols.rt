@@ -1,7 +1,7 @@
 //! The coefficients of symbols.
 ghost use Rattle.std.specs.Prelude.{◌≡◌, ◌≤◌, ◌^◌, ◌-ℤ◌, ◌↔◌, All, IsTrue, unsigned_abs};
 ghost use Rattle.subscripts.specs.Classes.{Cancels};
-ghost use Rattle.subscripts.specs.Forms.{coefficient};
+ghost use Rattle.subscripts.specs.Forms.{AgreesOn, coefficient};
 ghost use Rattle.subscripts.specs.Shapes.{HasSmallSymbols, IsSmall};
 
 use crate::affine::Affine;
@@ -37,7 +37,7 @@ impl Pairing {
     // Both sides have as much of each of these symbols.
     fn agrees_on(&self, symbols: &[(u16, i64)]) -> bool
         requires { HasSmallSymbols self.now }
-        ensures { IsTrue result ↔ All (λ t. coefficient self.now.from.syms t.0 ≡ coefficient self.now.to.syms t.0) symbols.now }
+        ensures { IsTrue result ↔ AgreesOn self.now symbols.now }
     {
         for (symbol, _) in symbols {
             if self.symbol_difference(*symbol) != 0 {
