@@ -1,5 +1,6 @@
 pub mod Gathered
 pub mod Noted
+pub mod OneRun
 pub mod Operands
 pub mod Printed
 pub mod Shape

@@ -11,16 +11,15 @@ use Rattle.fv_meaning.specs.Sequential.{ending}
 use Rattle.fv_meaning.specs.Steps.{final_lines}
 use Rattle.fv_meaning.specs.Store.{Store}
 use Rattle.fv_meaning.specs.declared.End.TheVariants as end
-use Rattle.run77.specs.declared.moment.Moment.{Moment}
-use Rattle.run77.specs.Acts.{HasFront}
-use Rattle.run77.specs.Machine.{EndsWith}
-use Rattle.run77.specs.Stored.{store_in}
+use Rattle.fv_machine.specs.Moments.{Seen}
+use Rattle.fv_machine.specs.Acts.{HasFront}
+use Rattle.fv_machine.specs.Endings.{EndsWith}
 use Rattle.fv_command.specs.declared.commands.Options.{Options}
 use Rattle.fv_tool.specs.Running.{run_text, final_part}
 use Rattle.fv_tool.specs.Works.{Writing, GaveAll, GaveFront}
 
 -- a write failed in the run
-pub run_cut : (options : Options) (p : Program) (s : State) (names : List Declaration) (m : Moment) (w : Writing) → HasFront names w.before m w.now s → Rose w.faults_before w.faults_now
+pub run_cut : (options : Options) (p : Program) (s : State) (names : List Declaration) (m : Seen) (w : Writing) → HasFront names w.before m w.now s → Rose w.faults_before w.faults_now
     → GaveFront (run_text options p s) w
 run_cut options p s names m w h fault = record {
   fault = fault;
@@ -48,24 +47,24 @@ shown_text options p s store e ended same =
     ∙ ap (λ t. s.written ++ final_lines p t) (sym same)
 
 -- the store was shown behind the run's output
-pub store_shown : (options : Options) (p : Program) (s : State) (m : Moment) (between : Option (List ℕ)) (w : Writing) → not options.final_store ≡ false
-    → EndsWith s m w.before between end.Done → Gives between (final_lines p (store_in m.storage)) w.now → GaveAll (ending s) (run_text options p s) w end.Done
+pub store_shown : (options : Options) (p : Program) (s : State) (m : Seen) (between : Option (List ℕ)) (w : Writing) → not options.final_store ≡ false
+    → EndsWith s m w.before between end.Done → Gives between (final_lines p m.store) w.now → GaveAll (ending s) (run_text options p s) w end.Done
 store_shown options p s m between w e h shown = record {
   ending_is = h.ending;
-  all = subst (λ (t : List ℕ). Gives w.before t w.now) (sym (shown_text options p s (store_in m.storage) e h.ending h.store))
-      (gives_more w.before between w.now s.written (final_lines p (store_in m.storage)) h.taken shown);
+  all = subst (λ (t : List ℕ). Gives w.before t w.now) (sym (shown_text options p s m.store e h.ending h.store))
+      (gives_more w.before between w.now s.written (final_lines p m.store) h.taken shown);
 }
 
 -- a write failed as the store was shown
-pub store_cut : (options : Options) (p : Program) (s : State) (m : Moment) (between : Option (List ℕ)) (w : Writing) (faults : ℕ) → not options.final_store ≡ false
-    → EndsWith s m w.before between end.Done → GivesPart between (final_lines p (store_in m.storage)) w.now → w.faults_before ≤ faults → Rose faults w.faults_now
+pub store_cut : (options : Options) (p : Program) (s : State) (m : Seen) (between : Option (List ℕ)) (w : Writing) (faults : ℕ) → not options.final_store ≡ false
+    → EndsWith s m w.before between end.Done → GivesPart between (final_lines p m.store) w.now → w.faults_before ≤ faults → Rose faults w.faults_now
     → GaveFront (run_text options p s) w
 store_cut options p s m between w faults e h shown later fault = record {
   fault = later_then_rose w.faults_before faults w.faults_now later fault;
   front = (
     s.written ++ shown.0,
     shown.1,
-    shown_text options p s (store_in m.storage) e h.ending h.store ∙ ap (λ t. s.written ++ t) shown.2 ∙ sym (append_assoc s.written shown.0 shown.1),
+    shown_text options p s m.store e h.ending h.store ∙ ap (λ t. s.written ++ t) shown.2 ∙ sym (append_assoc s.written shown.0 shown.1),
     gives_more w.before between w.now s.written shown.0 h.taken shown.3,
   );
 }

@@ -7,7 +7,8 @@ use Rattle.fv_meaning.specs.Sequential.{ending}
 use Rattle.fv_meaning.specs.Dialect.{fortran77}
 use Rattle.fv_meaning.specs.Steps.{final_lines, steps_of}
 use Rattle.fv_meaning.specs.declared.End.{End}
-use Rattle.fv_meaning.specs.declared.End.TheVariants.{Done}
+use Rattle.fv_meaning.specs.declared.End.TheVariants.{Done, Fault}
+use Rattle.fv_tree.specs.declared.ops.Fault.{Fault as Kind}
 use Rattle.fv_io.specs.Streams.{Gives, GivesPart}
 use Rattle.fv_command.specs.declared.commands.Options.{Options}
 use Rattle.fv_tool.specs.Decks.{ReadsDeck77}
