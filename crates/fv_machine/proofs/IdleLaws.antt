@@ -1,13 +1,12 @@
 -- What is done with no step left.
-use Rattle.std.proofs.Common.{◌≡◌, refl, sym, ap, ◌∙◌, subst, zero, suc, ℕ, ℤ, Bool, true, false, cond, List, [], ◌∷◌, ◌++◌}
-use Rattle.std.proofs.Common.{Result, Ok, Err, Option, Some, None, append-nil, arith, ◌+ℤ◌, ◌+◌, ◌<◌}
-use Rattle.std.specs.Prelude.{nat_lt, ◌==◌}
+use Rattle.std.proofs.Common.{◌≡◌, refl, sym, subst, zero, suc, ℕ, ℤ, Bool, true, false, cond, List, [], ◌∷◌, ◌++◌}
+use Rattle.std.proofs.Common.{Result, Ok, Err, Option, Some, None, append-nil, arith, ◌+ℤ◌, ◌+◌}
+use Rattle.std.specs.Prelude.{nat_lt}
 use Rattle.std.proofs.lemmas.Bool.{false_from_ne_true}
 use Rattle.std.proofs.lemmas.Bool.Decides.{Decides-ltb}
 use Rattle.fv_tree.specs.Steps as results
 use Rattle.fv_tree.specs.Operators.{as_number}
 use Rattle.fv_tree.specs.Plain.{Expression, Single, Constant, ImpliedDo, Item, Items, no_items, item}
-use Rattle.fv_tree.specs.declared.ops.Value.{Value}
 use Rattle.fv_tree.specs.declared.ops.Value.TheVariants.{Int}
 use Rattle.fv_tree.specs.declared.ops.Fault.{Fault}
 use Rattle.fv_tree.specs.declared.ops.Fault.TheVariants.{Overflow, Bounds}
@@ -16,9 +15,9 @@ use Rattle.fv_meaning.specs.Store.{Store, Cell, put, cell_at, cell_in, is_within
 use Rattle.fv_meaning.specs.Texts.{output_text}
 use Rattle.fv_meaning.specs.Value.{exact, is_in_range, item_values, number_of, increment_of, trip_count}
 use Rattle.fv_meaning.specs.Run.{State, Act, Way, Going, Jumping, Stopped, Failed, Cut, nothing, then, either, goes, on_way}
-use Rattle.fv_meaning.specs.Run.{while_going, answered, evaluates, writes, stores, counts_step, checks_range, is_allowed}
+use Rattle.fv_meaning.specs.Run.{while_going, answered, evaluates, writes, stores, counts_step, checks_range}
 use Rattle.fv_meaning.specs.Run.{repeated, turn, increases, sets_variable, loops, prints_item, prints_items}
-use Rattle.fv_machine.specs.Acts.{LimitedAct, all_set}
+use Rattle.fv_machine.specs.Acts.{LimitedAct}
 use Rattle.fv_machine.proofs.ActLaws.{Idle, Idles, idle_twice}
 
 idle_same : (s : State) → Idle s s

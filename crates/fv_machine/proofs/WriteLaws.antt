@@ -19,7 +19,7 @@ use Rattle.fv_machine.specs.Acts.{Runs}
 use Rattle.fv_machine.specs.Texts.{WritesText}
 use Rattle.fv_machine.specs.Printing.{prints_value}
 use Rattle.fv_meaning.specs.Run.{State}
-use Rattle.std.proofs.Common.{arith, ◌≤◌}
+use Rattle.std.proofs.Common.{arith}
 use Rattle.fv_machine.proofs.ActLaws.{Runs-evaluates, Runs-fault, at_same, begun, steady}
 
 -- a write that failed leaves the run
