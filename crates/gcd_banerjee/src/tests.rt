@@ -222,11 +222,19 @@ fn divisors(rt: HostRuntime) -> Result<(), Fail> {
     }
     // Fifteen coefficients, of which fourteen are even.
     for (times, refuted) in [(3, false), (4, true)] {
-        let mut p = pairing(form([0, 0], times, 1), form([0, 0], 0, 0), Some(9), Some(9));
-        p.from_depth = 7;
-        p.to_depth = 7;
-        p.from.loops = [2, 4, 6, 8, 10, 12, 14];
-        p.to.loops = [16, 18, 20, 22, 24, 26, LARGEST];
+        let from = Affine {
+            loops: [2, 4, 6, 8, 10, 12, 14],
+            ..form([0, 0], times, 1)
+        };
+        let to = Affine {
+            loops: [16, 18, 20, 22, 24, 26, LARGEST],
+            ..form([0, 0], 0, 0)
+        };
+        let p = Pairing {
+            from_depth: 7,
+            to_depth: 7,
+            ..pairing(from, to, Some(9), Some(9))
+        };
         assert_eq!(rt; by_gcd(&rt, &p), refuted);
     }
     Ok(())
