@@ -1,5 +1,5 @@
 //! Pairs of one loop, as tables. The expected answers are worked by hand.
-ghost use Rattle.std.specs.Prelude.{◌≡◌, IsTrue, IsSome};
+ghost use Rattle.std.specs.Prelude.{◌≡◌, ◌<◌, IsTrue, IsSome};
 ghost use Rattle.subscripts.specs.declared.pairing.Pairing.{Pairing as Pair};
 ghost use Rattle.subscripts.specs.Shapes.{IsPairing, IsSmall, AreDirsOf};
 
@@ -193,4 +193,63 @@ fn general(rt: HostRuntime) {
         Some(('P', 3, 2, Test::Siv))
     );
     assert_eq!(rt; answer((0, 1), (0, 1), Some(10), Dir::Gt), None);
+}
+
+/// Whether two iterations stand to each other so.
+fn stands(i: i64, j: i64, dir: Dir) -> bool {
+    match dir {
+        Dir::Lt => i < j,
+        Dir::Eq => i == j,
+        Dir::Gt => i > j,
+        Dir::Any => true,
+    }
+}
+
+/// The least pair of iterations up to the trip, by trying all.
+fn tried(first: (i64, i64), second: (i64, i64), trip: u8, dir: Dir) -> Option<(i64, i64)> {
+    for m in 0..trip {
+        for n in 0..trip {
+            let i = i64::from(m) + 1;
+            let j = i64::from(n) + 1;
+            let left = first.0.wrapping_mul(i).wrapping_add(first.1);
+            let right = second.0.wrapping_mul(j).wrapping_add(second.1);
+            if left == right && stands(i, j, dir) {
+                return Some((i, j));
+            }
+        }
+    }
+    None
+}
+
+/// A number from -6 to 9, by some bits of a seed.
+fn small(seed: u32, shift: u32) -> i64
+    requires { shift < 32 }
+    ensures { IsSmall result }
+{
+    i64::from((seed >> shift) & 15) - 6
+}
+
+#[test]
+fn agrees_with_trying(rt: HostRuntime) {
+    let mut seed: u32 = 1;
+    for _ in 0..5000 {
+        seed = seed.wrapping_mul(1664525).wrapping_add(1013904223);
+        let first = (small(seed, 28), small(seed, 24));
+        let second = (small(seed, 20), small(seed, 16));
+        let trip = ((seed >> 12) & 7) as u8;
+        let dir = match (seed >> 10) & 3 {
+            0 => Dir::Lt,
+            1 => Dir::Eq,
+            2 => Dir::Gt,
+            _ => Dir::Any,
+        };
+        if let Some((kind, i, j, _)) = answer(first, second, Some(i64::from(trip)), dir) {
+            let expected = tried(first, second, trip, dir);
+            let same = match expected {
+                Some(pair) => kind == 'P' && i == pair.0 && j == pair.1,
+                None => kind == 'N',
+            };
+            assert!(rt; same);
+        }
+    }
 }
