@@ -1,8 +1,8 @@
 -- Pairings written out.
 use Rattle.std.proofs.Common.{◌≡◌, ℕ, ◌≤◌, ◌<◌, List, [], ◌∷◌, zero, suc, refl, arith, get_or, sym, true, IsTrue}
-use Rattle.std.specs.Prelude.{ℤ, pos, IsSome, unsigned_abs, ◌^◌}
+use Rattle.std.specs.Prelude.{ℤ, pos, IsSome}
 use Rattle.subscripts.specs.Iterations.{once}
-use Rattle.subscripts.specs.Shapes.{IsForm, AreSpans, AreSymbols, AreDirsOf, IsPairing, IsSmall}
+use Rattle.subscripts.specs.Shapes.{IsForm, AreSpans, AreDirsOf, IsPairing, IsSmall}
 use Rattle.subscripts.specs.declared.affine.Dir.{Dir}
 use Rattle.subscripts.specs.declared.affine.Dir.TheVariants.{Any}
 use Rattle.subscripts.specs.declared.affine.Span.{Span}
