@@ -1,25 +1,23 @@
 -- Pairs of iterations of a group of one loop, and the points that all lines share.
-use Rattle.std.proofs.Common.{◌≡◌, ℕ, ◌<◌, ◌↔◌, List, [], ◌∷◌, ◌++◌, length, map, get_or, refl, ap, subst, sym, arith, ◌∙◌, zero, suc}
+use Rattle.std.proofs.Common.{◌≡◌, ◌<◌, ◌↔◌, List, [], ◌∷◌, ◌++◌, length, map, get_or, refl, ap, subst, sym, arith}
 use Rattle.std.specs.Prelude.{ℤ, Some, All, FitsSigned}
 use Rattle.std.proofs.lemmas.Int.{ints}
 use mir.Syntax.{w64}
 use Rattle.std.proofs.lemmas.List.{get_or-map, length-map}
-use Rattle.std.proofs.lemmas.List.Elements.{All-map, All-nil, All-cons, All-head, All-tail}
-use Rattle.subscripts.specs.Classes.{Loop, Shared, First, Second, HasOneLoop, span_of}
+use Rattle.std.proofs.lemmas.List.Elements.{All-map}
+use Rattle.subscripts.specs.Classes.{Loop, HasOneLoop, span_of}
 use Rattle.subscripts.specs.Cuts.{cut, cut_dirs, IsNoLater}
 use Rattle.subscripts.specs.Forms.{IsPairOf}
-use Rattle.subscripts.specs.Groups.{IsPairOfAll, IsLeastPairOfAll, group_dirs}
-use Rattle.subscripts.specs.Shapes.{IsPairing, AreDirsOf, IsBeside}
-use Rattle.subscripts.specs.declared.affine.Dir.{Dir}
+use Rattle.subscripts.specs.Groups.{IsPairOfAll}
+use Rattle.subscripts.specs.Shapes.{IsPairing, AreDirsOf}
 use Rattle.subscripts.specs.declared.affine.Dirs.{Dirs}
 use Rattle.subscripts.specs.declared.pairing.Pairing.{Pairing}
 use Rattle.line_points.specs.Least.{WithinTrip, IsWithin}
-use Rattle.line_points.specs.Lines.{OnLine}
 use Rattle.loop_constraints.specs.Constraints.{Allows}
 use Rattle.loop_constraints.specs.Left.{IsNoneLeft, IsLeastLeft}
 use Rattle.loop_constraints.specs.declared.constraint.Constraint.{Constraint}
-use Rattle.loop_lines.specs.OneLoop.{first_at, second_at, dir_of, first_point, second_point, HasSevenLists, HasSevenPlaces, IsLineOf, IsWithinPlaces}
-use Rattle.loop_lines.proofs.Crossings.{place_of, within_seven}
+use Rattle.loop_lines.specs.OneLoop.{first_at, second_at, dir_of, first_point, second_point, HasSevenLists, HasSevenPlaces, IsLineOf}
+use Rattle.loop_lines.proofs.Crossings.{within_seven}
 use Rattle.loop_lines.proofs.Pairs.{pair_point, cut_point, point_pair, points_in_order, IsPointOfPair, IsPointOfCut}
 use Rattle.delta_test.specs.Groups.{AreMembers, HasOneLoopOfAll, OnAllLines, HasNoneOfAll, IsLeastOfAll, line_at}
 

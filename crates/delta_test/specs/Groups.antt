@@ -23,9 +23,14 @@ pub record AreMembers (ps : List Pairing) (d : Dirs) : Type 0 where
 abbrev pub HasOneLoopOfAll : List Pairing → Loop → Type 0
 HasOneLoopOfAll ps l = All (λ p. HasOneLoop p l) ps
 
+-- no one loop is that of all
+abbrev pub HasNoLoopOfAll : List Pairing → Type 0
+HasNoLoopOfAll ps = (l : Loop) → HasOneLoopOfAll ps l → ⊥
+
 -- the line of a pairing of this one loop
 abbrev pub line_at : Loop → Pairing → Line
-line_at l p = record { first = first_of p l; second = pos 0 -ℤ second_of p l; constant = p.to.constant -ℤ p.from.constant }
+line_at l p =
+    record { first = first_of p l; second = pos 0 -ℤ second_of p l; constant = p.to.constant -ℤ p.from.constant }
 
 -- on the lines of all
 abbrev pub OnAllLines : Loop → List Pairing → ℤ → ℤ → Type 0
@@ -34,6 +39,10 @@ OnAllLines l ps i j = All (λ p. OnLine (line_at l p) i j) ps
 -- no pair of iterations of all
 abbrev pub HasNoPairOfAll : List Pairing → Dirs → Type 0
 HasNoPairOfAll ps d = (x y : List ℤ) → IsPairOfAll ps d x y → ⊥
+
+-- nor of the loop that matters
+abbrev pub HasNoCutPairOfAll : List Pairing → Dirs → Type 0
+HasNoCutPairOfAll ps d = HasNoPairOfAll (map cut ps) (group_dirs ps d)
 
 -- neither the GCD test nor Banerjee's refutes one of them
 abbrev pub AreNotRefuted : List Pairing → Dirs → Type 0

@@ -1,12 +1,12 @@
 //! The Delta test of a group.
-ghost use Rattle.std.specs.Prelude.{◌≡◌, ◌<◌, ℤ, List, Some, false, All, IsTrue, MatchOption, length, map};
+ghost use Rattle.std.specs.Prelude.{◌≡◌, ◌<◌, ℤ, List, Some, false, All, IsTrue, MatchOption};
 ghost use Rattle.subscripts.specs.Classes.{HasOneLoop, span_of};
-ghost use Rattle.subscripts.specs.Cuts.{cut};
-ghost use Rattle.subscripts.specs.Groups.{IsExactGroup, IsPairOfAll, IsLeastPairOfAll, group_dirs};
+ghost use Rattle.subscripts.specs.Groups.{IsExactGroup};
 ghost use Rattle.subscripts.specs.Shapes.{IsGroup, AreDirsOf, members};
 ghost use Rattle.loop_lines.specs.Places.{loop_at};
 ghost use Rattle.loop_lines.specs.Verdicts.{OnNever, IfPair, OnAssumed, test_of};
-ghost use Rattle.delta_test.specs.Groups.{AreMembers, AreNotRefuted, HasNoPairOfAll, IsExactWith, delta_word};
+ghost use Rattle.delta_test.specs.Groups.{AreMembers, AreNotRefuted, IsExactWith, delta_word};
+ghost use Rattle.delta_test.specs.Groups.{HasNoPairOfAll, HasNoCutPairOfAll, IsLeastOfAll};
 
 use crate::one_loop::{least_pair_of_all, loop_of_all};
 use gcd_banerjee::{gcd_refutes, range_refutes};
@@ -46,8 +46,8 @@ pub fn test_group(g: &Group, d: &Dirs) -> Verdict
     requires group { IsGroup g.now }
     requires dirs { All (λ p. AreDirsOf p d.now) (members g.now) }
     ensures never { OnNever result (HasNoPairOfAll (members g.now) d.now) }
-    ensures exact { OnNever result (IsExactGroup (members g.now) → HasNoPairOfAll (map cut (members g.now)) (group_dirs (members g.now) d.now)) }
-    ensures pair { IfPair result (λ x y. IsExactGroup (members g.now) × IsLeastPairOfAll (map cut (members g.now)) (group_dirs (members g.now) d.now) x.at y.at) }
+    ensures exact { OnNever result (IsExactGroup (members g.now) → HasNoCutPairOfAll (members g.now) d.now) }
+    ensures pair { IfPair result (λ x y. IsExactGroup (members g.now) × IsLeastOfAll (members g.now) d.now x.at y.at) }
     ensures assumed { OnAssumed result ((IsExactGroup (members g.now) → ⊥) × AreNotRefuted (members g.now) d.now) }
     ensures word { test_of result ≡ delta_word }
 {

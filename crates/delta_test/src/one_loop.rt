@@ -1,13 +1,12 @@
-//! Groups whose members all have one and the same loop, with a constant trip: the loop alone decides. Each member is a line over
-//! the loop's two iterations, and what all lines share is nothing, a point or a line.
+//! Groups whose members all have one and the same loop, with a constant trip: the loop alone decides. Each member is a
+//! line over the loop's two iterations, and what all lines share is nothing, a point or a line.
 ghost use Rattle.std.specs.Prelude.{◌≡◌, ◌↔◌, ◌<◌, ℤ, Some, All, IsTrue, MatchOption, length};
 ghost use Rattle.subscripts.specs.Classes.{Loop, HasOneLoop, span_of};
 ghost use Rattle.subscripts.specs.Shapes.{IsPairing, AreDirsOf, IsBeside};
 ghost use Rattle.loop_lines.specs.OneLoop.{HasSevenLists};
 ghost use Rattle.loop_lines.specs.Places.{loop_at};
 ghost use Rattle.loop_constraints.specs.Constraints.{IsConstraint, Allows};
-ghost use Rattle.delta_test.specs.Groups.{AreMembers, HasNoneOfAll, HasOneLoopOfAll, IsLeastOfAll, OnAllLines};
-
+ghost use Rattle.delta_test.specs.Groups.{AreMembers, HasNoneOfAll, HasNoLoopOfAll, HasOneLoopOfAll, IsLeastOfAll, OnAllLines};
 
 use loop_constraints::{Constraint, constraint_of, least_left, meet_of};
 use loop_lines::{LoopPlace, bounds_at, line_of, only_loop_of, points_at};
@@ -17,7 +16,7 @@ use subscripts::{Dirs, Pairing, Point};
 pub fn loop_of_all(ps: &[Pairing]) -> Option<LoopPlace>
     requires some { 0 < length ps.now }
     requires pairings { All IsPairing ps.now }
-    ensures { MatchOption result ((l : Loop) → HasOneLoopOfAll ps.now l → ⊥) (λ at. HasOneLoopOfAll ps.now (loop_at at)) }
+    ensures { MatchOption result (HasNoLoopOfAll ps.now) (λ at. HasOneLoopOfAll ps.now (loop_at at)) }
 {
     let at = only_loop_of(&ps[0])?;
     for p in ps {
@@ -45,7 +44,12 @@ fn shared_by_all(ps: &[Pairing], at: LoopPlace) -> Constraint
 }
 
 /// The least pair of iterations of all pairings within the trip of their loop.
-pub fn least_pair_of_all(ps: &[Pairing], d: &Dirs, at: LoopPlace, trip: i64) -> Option<(Point, Point)>
+pub fn least_pair_of_all(
+    ps: &[Pairing],
+    d: &Dirs,
+    at: LoopPlace,
+    trip: i64,
+) -> Option<(Point, Point)>
     requires members { AreMembers ps.now d.now }
     requires one { HasOneLoopOfAll ps.now (loop_at at) }
     requires trip { All (λ p. (span_of p (loop_at at)).last ≡ Some trip) ps.now }

@@ -14,5 +14,7 @@ pub record IsSmallLine (l : Line) : Type 0 where
 
 abbrev pub Meet : Line → Line → Crossing → Type 0
 Meet l m Nowhere = (i j : ℤ) → OnLine l i j → OnLine m i j → ⊥
-Meet l m (At x y) = ((i j : ℤ) → (OnLine l i j × OnLine m i j) ↔ ((i ≡ x) × (j ≡ y))) × (unsigned_abs x ≤ 2 ^ 83) × (unsigned_abs y ≤ 2 ^ 83)
+Meet l m (At x y) =
+    ((i j : ℤ) → (OnLine l i j × OnLine m i j) ↔ ((i ≡ x) × (j ≡ y)))
+    × (unsigned_abs x ≤ 2 ^ 83) × (unsigned_abs y ≤ 2 ^ 83)
 Meet l m Everywhere = (i j : ℤ) → OnLine l i j ↔ OnLine m i j

@@ -22,7 +22,8 @@ pub record IsPointAt (p : Points) (s i j : ℤ) : Type 0 where
 
 pub record ArePoints (l : Line) (p : Points) : Type 0 where
   pub on : (s i j : ℤ) → IsPointAt p s i j → OnLine l i j
-  pub every : (i j : ℤ) → OnLine l i j → unsigned_abs i ≤ 2 ^ 64 → unsigned_abs j ≤ 2 ^ 64 → (s : ℤ) × (IsPointAt p s i j × unsigned_abs s ≤ 2 ^ 110)
+  pub every : (i j : ℤ) → OnLine l i j → unsigned_abs i ≤ 2 ^ 64 → unsigned_abs j ≤ 2 ^ 64
+      → (s : ℤ) × (IsPointAt p s i j × unsigned_abs s ≤ 2 ^ 110)
   pub apart : p.along_i ≡ pos 0 → p.along_j ≡ pos 0 → ⊥
   pub along_i : unsigned_abs p.along_i ≤ 2 ^ 44
   pub along_j : unsigned_abs p.along_j ≤ 2 ^ 44

@@ -1,10 +1,11 @@
-// The least iterations of a loop on a line. A strong SIV pair's line runs along the diagonal, a weak-zero SIV pair's along an axis,
-// a weak-crossing SIV pair's across the diagonal; a general SIV pair's needs Euclid's algorithm. All four go one way.
+//! The least iterations of a loop on a line. A strong SIV pair's line runs along the diagonal, a weak-zero SIV pair's along
+//! an axis, and a weak-crossing SIV pair's across the diagonal; a general SIV pair's needs Euclid's algorithm. All four go
+//! one way (Goff, Kennedy and Tseng, "Practical Dependence Testing", PLDI 1991, section 4.2).
 ghost use Rattle.std.specs.Prelude.{◌≡◌, ◌≤◌, ◌^◌, ◌↔◌, ℤ, pos, ◌+ℤ◌, ◌*ℤ◌, ◌≤ℤ◌, unsigned_abs, MatchOption};
 ghost use Rattle.subscripts.specs.Iterations.{IsRelated};
 ghost use Rattle.line_points.specs.Lines.{IsLine, IsPointAt};
 ghost use Rattle.line_points.specs.Stretch.{IsIn, IsShort};
-ghost use Rattle.line_points.specs.Least.{WithinTrip, IsWithin, IsAtMost, HasNone, IsLeast};
+ghost use Rattle.line_points.specs.Least.{WithinTrip, IsWithin, IsAtMost, HasNone, IsLeast, IsRelatedAt, IsWithinAt, IsAtMostAt};
 
 use crate::points::{Line, Points, points_of};
 use crate::stretch::{Stretch, at_least};
@@ -37,7 +38,7 @@ fn related(stretch: Stretch, points: Points, dir: Dir) -> Stretch
     requires j { unsigned_abs points.j ≤ 2 ^ 90 }
     requires along_i { unsigned_abs points.along_i ≤ 2 ^ 44 }
     requires along_j { unsigned_abs points.along_j ≤ 2 ^ 44 }
-    ensures left { (s : ℤ) → IsIn result s ↔ (IsIn stretch s × IsRelated dir (points.i +ℤ points.along_i *ℤ s) (points.j +ℤ points.along_j *ℤ s)) }
+    ensures left { (s : ℤ) → IsIn result s ↔ (IsIn stretch s × IsRelatedAt points dir s) }
     ensures short { IsShort result }
 {
     let apart = points.j - points.i;
@@ -59,8 +60,8 @@ fn meeting(points: Points, trip: i128, dir: Dir) -> Stretch
     requires j { unsigned_abs points.j ≤ 2 ^ 90 }
     requires along_i { unsigned_abs points.along_i ≤ 2 ^ 44 }
     requires along_j { unsigned_abs points.along_j ≤ 2 ^ 44 }
-    ensures every { (s : ℤ) → unsigned_abs s ≤ 2 ^ 110 → IsWithin trip dir (points.i +ℤ points.along_i *ℤ s) (points.j +ℤ points.along_j *ℤ s) → IsIn result s }
-    ensures only { (s : ℤ) → IsIn result s → IsWithin trip dir (points.i +ℤ points.along_i *ℤ s) (points.j +ℤ points.along_j *ℤ s) }
+    ensures every { (s : ℤ) → unsigned_abs s ≤ 2 ^ 110 → IsWithinAt points trip dir s → IsIn result s }
+    ensures only { (s : ℤ) → IsIn result s → IsWithinAt points trip dir s }
     ensures short { IsShort result }
 {
     let all = Stretch {
@@ -77,7 +78,7 @@ fn first_end(points: Points, stretch: Stretch) -> i128
     requires apart { points.along_i ≡ pos 0 → points.along_j ≡ pos 0 → ⊥ }
     requires some { stretch.low ≤ℤ stretch.high }
     ensures inside { IsIn stretch result }
-    ensures first { (s : ℤ) → IsIn stretch s → IsAtMost (points.i +ℤ points.along_i *ℤ result) (points.j +ℤ points.along_j *ℤ result) (points.i +ℤ points.along_i *ℤ s) (points.j +ℤ points.along_j *ℤ s) }
+    ensures first { (s : ℤ) → IsIn stretch s → IsAtMostAt points result s }
 {
     if points.along_i > 0 {
         stretch.low

@@ -1,10 +1,7 @@
 -- Lines as constraints, and the least pair of iterations of several.
-use Rattle.std.proofs.Common.{◌≡◌, ℕ, ◌+◌, ◌<◌, ◌↔◌, List, [], ◌∷◌, ◌++◌, length, take, get_or, refl, ap, subst, arith, sym, ◌∙◌, MatchOption, Option, Some, None, inr}
+use Rattle.std.proofs.Common.{◌≡◌, ◌<◌, ◌↔◌, refl, ap, arith, sym, ◌∙◌, MatchOption, Option, Some, None, inr}
 use Rattle.std.specs.Prelude.{ℤ, pos, ◌+ℤ◌, ◌-ℤ◌, ◌*ℤ◌, unsigned_abs}
-use Rattle.std.specs.List.{All}
 use Rattle.std.proofs.Math.IntN.{neg_ℤ, *ℤ_comm}
-use Rattle.std.proofs.lemmas.List.{take_more}
-use Rattle.std.proofs.lemmas.List.Elements.{All-push, All-nil, All-cons, All-head, All-tail}
 use Rattle.subscripts.specs.declared.affine.Dir.{Dir}
 use Rattle.line_points.specs.declared.points.Line.{Line}
 use Rattle.line_points.specs.declared.line.Both.{Both}

@@ -3,7 +3,8 @@ use Rattle.std.specs.Prelude.{◌≡◌, ℤ, ◌+ℤ◌, ◌≤◌, ◌^◌, �
 use Rattle.line_points.specs.Lines.{OnLine}
 use Rattle.line_points.specs.Crossings.{IsSmallLine}
 use Rattle.loop_constraints.specs.declared.constraint.Constraint.{Constraint}
-use Rattle.loop_constraints.specs.declared.constraint.Constraint.TheVariants.{Anywhere, AtPoint, AtDistance, AlongLine, Nowhere}
+use Rattle.loop_constraints.specs.declared.constraint.Constraint.TheVariants.{Anywhere, AtPoint, AtDistance}
+use Rattle.loop_constraints.specs.declared.constraint.Constraint.TheVariants.{AlongLine, Nowhere}
 
 -- the two iterations that a constraint leaves
 abbrev pub Allows : Constraint → ℤ → ℤ → Type 0

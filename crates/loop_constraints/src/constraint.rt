@@ -1,4 +1,4 @@
-// Constraints on the two iterations of one loop, and where two of them meet.
+//! Constraints on the two iterations of one loop, and what two of them leave.
 ghost use Rattle.std.specs.Prelude.{◌≡◌, ◌≤◌, ◌^◌, ℤ, ◌↔◌, IsTrue, unsigned_abs, ◌+ℤ◌};
 ghost use Rattle.line_points.specs.Lines.{OnLine};
 ghost use Rattle.line_points.specs.Crossings.{IsSmallLine};
@@ -6,7 +6,8 @@ ghost use Rattle.loop_constraints.specs.Constraints.{IsConstraint, Allows, IsMee
 
 use line_points::{Crossing, Line, common_points, times};
 
-/// What is known of two iterations of one loop: nothing, both of them, how far the second is after the first, a line, or that there are none.
+/// What is known of the two iterations of one loop: nothing, both of them, how far the second is after the first, a line,
+/// or that there are none.
 #[derive(Clone, Copy, Debug)]
 pub enum Constraint {
     Anywhere,

@@ -6,6 +6,7 @@ ghost use Rattle.line_points.specs.Lines.{OnLine};
 ghost use Rattle.line_points.specs.Least.{IsWithin};
 ghost use Rattle.line_points.specs.Crossings.{IsSmallLine};
 ghost use Rattle.loop_constraints.specs.Constraints.{IsConstraint, Allows};
+ghost use Rattle.loop_constraints.specs.declared.constraint.Constraint.TheVariants.{Anywhere};
 ghost use Rattle.loop_constraints.specs.Left.{IsLeastLeft, IsNoneLeft, IsNoneUpTo};
 
 use crate::constraint::{Constraint, line_of_distance};
@@ -31,7 +32,7 @@ pub fn constraint_of(line: Line) -> Constraint
 /// The first iterations that are related so, where the trip reaches them.
 fn first_related(trip: i128, dir: Dir) -> Option<Both>
     requires { unsigned_abs trip ≤ 2 ^ 64 }
-    ensures { MatchOption result (IsNoneLeft Constraint.Anywhere trip dir) (λ at. IsLeastLeft Constraint.Anywhere trip dir at.i at.j) }
+    ensures { MatchOption result (IsNoneLeft Anywhere trip dir) (λ at. IsLeastLeft Anywhere trip dir at.i at.j) }
 {
     match dir {
         Dir::Lt => if trip >= 2 {
@@ -110,7 +111,8 @@ fn leaves_none_on(constraint: Constraint, dir: Dir) -> bool
     }
 }
 
-/// Whether a constraint leaves no pair of iterations up to the last one. Where no last one is known, a line leaves some.
+/// Whether a constraint leaves no pair of iterations up to the last one. Where no last one is known, a line is passed
+/// over.
 pub fn leaves_none(constraint: Constraint, last: Option<i64>, dir: Dir) -> bool
     requires { IsConstraint constraint }
     ensures sound { IsTrue result → IsNoneUpTo constraint last dir }

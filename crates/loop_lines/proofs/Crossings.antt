@@ -1,24 +1,17 @@
 -- Pairs of iterations of a pairing that has one loop are the points of its line, within that loop's trip and in its direction.
-use Rattle.std.proofs.Common.{◌≡◌, ◌⊎◌, ℕ, ◌<◌, ◌≤◌, List, length, get_or, refl, ap, subst, sym, arith, ◌∙◌, inl, inr, ⊎_elim, true, false, Bool, IsTrue}
-use Rattle.std.specs.Prelude.{ℤ, pos, negsuc, ◌+ℤ◌, ◌-ℤ◌, ◌*ℤ◌, ◌≤ℤ◌, ◌<ℤ◌, Some, zero, suc}
-use Rattle.std.proofs.Math.IntN.{neg_ℤ, zero-*ℤ}
+use Rattle.std.proofs.Common.{◌≡◌, ◌⊎◌, ℕ, ◌<◌, List, length, refl, ap, sym, arith, ◌∙◌, inl, inr}
+use Rattle.std.specs.Prelude.{ℤ, pos, negsuc, ◌+ℤ◌, ◌-ℤ◌, ◌*ℤ◌, zero, suc}
+use Rattle.std.proofs.Math.IntN.{zero-*ℤ}
 use Rattle.std.proofs.lemmas.Int.{ints}
-use Rattle.std.proofs.lemmas.Bool.{cases_lt, cases_eq}
-use Rattle.std.proofs.lemmas.List.{ext_get_or}
-use Rattle.subscripts.specs.Classes.{Loop, Shared, First, Second, HasOneLoop, Matters, at_place, first_of, second_of, span_of}
-use Rattle.subscripts.specs.Cuts.{cut, cut_dirs}
-use Rattle.subscripts.specs.Forms.{IsPairOf, IsInRegion, difference, over_loops, over_symbols}
-use Rattle.subscripts.specs.Iterations.{WithinSpan, IsRelated, once}
+use Rattle.std.proofs.lemmas.Bool.{cases_lt}
+use Rattle.subscripts.specs.Classes.{Loop, Shared, First, Second, HasOneLoop, at_place, first_of, second_of}
+use Rattle.subscripts.specs.Forms.{difference, over_loops, over_symbols}
 use Rattle.subscripts.specs.Shapes.{IsPairing}
 use Rattle.subscripts.specs.declared.affine.Dirs.{Dirs}
-use Rattle.subscripts.specs.declared.affine.Span.{Span}
 use Rattle.subscripts.specs.declared.pairing.Pairing.{Pairing}
 use Rattle.line_points.proofs.Ring.{ring, linear}
-use Rattle.line_points.specs.Least.{WithinTrip, IsWithin}
-use Rattle.line_points.specs.Lines.{OnLine}
-use Rattle.line_points.specs.declared.points.Line.{Line}
-use Rattle.loop_lines.specs.OneLoop.{first_at, second_at, dir_of, ones, first_point, second_point, IsLineOf, HasSevenPlaces}
-use Rattle.loop_lines.proofs.Indexed.{over_none, over_one, same_length, within_at, within_from, related_at, related_from}
+use Rattle.loop_lines.specs.OneLoop.{first_at, second_at, HasSevenPlaces}
+use Rattle.loop_lines.proofs.Indexed.{over_none, over_one}
 
 is_zero_or : (a : ℤ) → (a ≡ pos 0) ⊎ (a ≡ pos 0 → ⊥)
 is_zero_or (pos zero) = inl refl

@@ -1,26 +1,19 @@
 -- A pairing of one loop, cut to it: the iterations of a pair are those of that loop, and 1 in each other place.
-use Rattle.std.proofs.Common.{◌≡◌, ◌≢◌, ◌⊎◌, ℕ, ◌<◌, ◌≤◌, List, length, get_or, set, length-set, refl, ap, subst, sym, arith, ◌∙◌, inl, inr, get_or-set_other, get_or-set_same}
-use Rattle.std.specs.Prelude.{ℤ, pos, ◌+ℤ◌, ◌-ℤ◌, ◌*ℤ◌, ◌≤ℤ◌, Some, IfSome}
+use Rattle.std.proofs.Common.{◌≡◌, ◌≢◌, ℕ, ◌<◌, List, length, get_or, set, length-set, refl, ap, subst, sym, arith, ◌∙◌, inl, inr, get_or-set_other, get_or-set_same}
+use Rattle.std.specs.Prelude.{ℤ, pos}
 use Rattle.std.proofs.lemmas.Int.{ints}
 use Rattle.std.proofs.lemmas.Bool.{cases_eq}
 use Rattle.std.proofs.lemmas.List.{ext_get_or, get_or-replicate}
-use Rattle.subscripts.specs.Classes.{Loop, Shared, First, Second, HasOneLoop, at_place, first_of, second_of, span_of}
+use Rattle.subscripts.specs.Classes.{Loop, Shared, First, Second, HasOneLoop, at_place}
 use Rattle.subscripts.specs.Cuts.{cut, cut_dirs}
-use Rattle.subscripts.specs.Forms.{IsPairOf, IsInRegion, difference}
-use Rattle.subscripts.specs.Iterations.{WithinSpan, IsRelated, once}
+use Rattle.subscripts.specs.Iterations.{WithinSpan, once}
 use Rattle.subscripts.specs.Shapes.{IsPairing, AreDirsOf}
-use Rattle.subscripts.specs.declared.affine.Dir.{Dir}
 use Rattle.subscripts.specs.declared.affine.Dir.TheVariants.{Any}
 use Rattle.subscripts.specs.declared.affine.Dirs.{Dirs}
-use Rattle.subscripts.specs.declared.affine.Span.{Span}
 use Rattle.subscripts.specs.declared.pairing.Pairing.{Pairing}
-use Rattle.line_points.proofs.Ring.{ring, linear}
-use Rattle.line_points.specs.Least.{WithinTrip, IsWithin}
-use Rattle.line_points.specs.Lines.{OnLine}
-use Rattle.line_points.specs.declared.points.Line.{Line}
-use Rattle.loop_lines.specs.OneLoop.{first_at, second_at, dir_of, ones, first_point, second_point, IsLineOf, HasSevenPlaces}
-use Rattle.loop_lines.proofs.Indexed.{same_length, within_at, within_from, related_at, related_from, mattering_length, mattering_once, mattering_kept, asked_length, asked_any, asked_kept}
-use Rattle.loop_lines.proofs.Crossings.{first_zero, second_zero, place_of, within_seven, difference_along, on_line, off_line}
+use Rattle.loop_lines.specs.OneLoop.{dir_of, ones, HasSevenPlaces}
+use Rattle.loop_lines.proofs.Indexed.{mattering_once, mattering_kept, asked_any, asked_kept}
+use Rattle.loop_lines.proofs.Crossings.{first_zero, second_zero, place_of, within_seven}
 
 -- a place other than the loop's
 pub not_shared : (l : Loop) (m : ℕ) → (m ≡ place_of l → ⊥) → Shared m ≡ l → ⊥

@@ -1,7 +1,7 @@
 -- Spans, directions and sums over lists of loops, place by place.
-use Rattle.std.proofs.Common.{◌≡◌, ℕ, ◌<◌, ◌≤◌, List, [], ◌∷◌, length, get_or, zero, suc, refl, ap, arith, ◌∙◌, cond, ◌&&◌, true, false, Bool}
+use Rattle.std.proofs.Common.{◌≡◌, ℕ, ◌<◌, List, [], ◌∷◌, length, get_or, zero, suc, refl, ap, arith, ◌∙◌, cond, ◌&&◌, true, false, Bool}
 use Rattle.std.specs.Prelude.{ℤ, pos, negsuc, ◌+ℤ◌, ◌*ℤ◌}
-use Rattle.std.proofs.Math.IntN.{zero-*ℤ, *ℤ-zero, +ℤ_idl, +ℤ_idr}
+use Rattle.std.proofs.Math.IntN.{zero-*ℤ, +ℤ_idl, +ℤ_idr}
 use Rattle.subscripts.specs.Forms.{over_loops, WithinSpans, AreRelated}
 use Rattle.subscripts.specs.Iterations.{WithinSpan, IsRelated, once}
 use Rattle.subscripts.specs.Cuts.{spans_that_matter, dirs_that_matter, is_zero}

@@ -1,8 +1,8 @@
 -- The one loop of a pairing.
-use Rattle.std.proofs.Common.{◌≡◌, ℕ, ◌<◌, ◌≤◌, ◌^◌, length, arith, ap, sym, refl, ◌∙◌}
+use Rattle.std.proofs.Common.{◌≡◌, ℕ, ◌<◌, ◌≤◌, ◌^◌, arith, ap, sym, refl, ◌∙◌}
 use Rattle.std.specs.Prelude.{ℤ, pos, ◌-ℤ◌, unsigned_abs}
 use Rattle.std.proofs.lemmas.Int.{ints}
-use Rattle.subscripts.specs.Classes.{Loop, Shared, First, Second, HasOneLoop, Matters, first_of, second_of}
+use Rattle.subscripts.specs.Classes.{Loop, Shared, First, Second, HasOneLoop, first_of, second_of}
 use Rattle.subscripts.specs.declared.pairing.Pairing.{Pairing}
 use Rattle.line_points.specs.Crossings.{IsSmallLine}
 use Rattle.loop_lines.specs.OneLoop.{HasNoneAt}

@@ -1,11 +1,11 @@
 -- Pairs of iterations of a pairing that has one loop, and the points of its line.
-use Rattle.std.proofs.Common.{◌≡◌, ◌≢◌, ◌⊎◌, ℕ, ◌<◌, ◌≤◌, List, [], ◌∷◌, ◌++◌, length, get_or, set, length-set, refl, ap, subst, sym, arith, ◌∙◌, inl, inr, zero, suc, ⊎_elim}
-use Rattle.std.specs.Prelude.{ℤ, pos, ◌+ℤ◌, ◌-ℤ◌, ◌*ℤ◌, ◌≤ℤ◌, ◌<ℤ◌, Some, IfSome}
+use Rattle.std.proofs.Common.{◌≡◌, ◌⊎◌, ℕ, ◌<◌, List, [], ◌∷◌, ◌++◌, length, get_or, set, length-set, refl, ap, subst, sym, arith, ◌∙◌, inl, inr, zero, suc, ⊎_elim}
+use Rattle.std.specs.Prelude.{ℤ, pos, ◌+ℤ◌, ◌-ℤ◌, ◌*ℤ◌, ◌≤ℤ◌, ◌<ℤ◌, Some}
 use Rattle.std.proofs.Math.IntN.{zero-*ℤ}
 use Rattle.std.proofs.lemmas.Int.{ints, by_lt_z}
 use Rattle.std.proofs.lemmas.Bool.{cases_eq}
 use Rattle.subscripts.specs.Classes.{Loop, Shared, First, Second, HasOneLoop, at_place, first_of, second_of, span_of}
-use Rattle.subscripts.specs.Cuts.{cut, cut_dirs, IsNoLater, IsLeastPair}
+use Rattle.subscripts.specs.Cuts.{cut, cut_dirs, IsNoLater}
 use Rattle.subscripts.specs.Forms.{IsPairOf, IsInRegion, WithinSpans, AreRelated, difference}
 use Rattle.subscripts.specs.Iterations.{WithinSpan, IsRelated, once}
 use Rattle.subscripts.specs.Shapes.{IsPairing, AreDirsOf}
@@ -14,7 +14,7 @@ use Rattle.subscripts.specs.declared.affine.Dir.TheVariants.{Any}
 use Rattle.subscripts.specs.declared.affine.Dirs.{Dirs}
 use Rattle.subscripts.specs.declared.affine.Span.{Span}
 use Rattle.subscripts.specs.declared.pairing.Pairing.{Pairing}
-use Rattle.line_points.proofs.Ring.{ring, linear}
+use Rattle.line_points.proofs.Ring.{linear}
 use Rattle.line_points.specs.Least.{WithinTrip, IsWithin, IsAtMost}
 use Rattle.line_points.specs.Lines.{OnLine}
 use Rattle.line_points.specs.declared.points.Line.{Line}

@@ -1,6 +1,5 @@
 -- The one loop of a pairing: the iterations that it picks out of two lists of iterations, and its line.
-use Rattle.std.specs.Prelude.{◌≡◌, ℕ, ℤ, pos, List, [], ◌∷◌, ◌+ℤ◌, ◌-ℤ◌, ◌*ℤ◌, ◌≤◌, ◌<◌, ◌^◌, length, unsigned_abs, slice_index_or, slice_set}
-use Rattle.std.specs.List.{All}
+use Rattle.std.specs.Prelude.{◌≡◌, ℕ, ℤ, pos, List, [], ◌∷◌, ◌-ℤ◌, ◌<◌, length, slice_index_or, slice_set}
 use Rattle.subscripts.specs.Classes.{Loop, Shared, First, Second, at_place, first_of, second_of}
 use Rattle.subscripts.specs.declared.affine.Dir.{Dir}
 use Rattle.subscripts.specs.declared.affine.Dir.TheVariants.{Any}

@@ -1,12 +1,13 @@
 //! The one loop of a pairing, and its line. With `first * i + b = second * j + d` at the iterations i and j, the line is
-//! `first * i - second * j = d - b`. A loop that stands round one reference alone has no iteration round the other one; there 1 stands for it,
-//! with the coefficient 0.
+//! `first * i - second * j = d - b`. A loop that stands round one reference alone has no iteration round the other one;
+//! there 1 stands for it, with the coefficient 0.
 ghost use Rattle.std.specs.Prelude.{◌≡◌, ℕ, ◌<◌, ◌≤◌, ◌^◌, pos, Some, false, unsigned_abs, IsTrue, IsSome, MatchOption};
 ghost use Rattle.subscripts.specs.Classes.{Loop, IsLoopOf, Matters, HasOneLoop, first_of, second_of, span_of};
 ghost use Rattle.subscripts.specs.Shapes.{IsPairing, AreDirsOf};
 ghost use Rattle.line_points.specs.Crossings.{IsSmallLine};
 ghost use Rattle.loop_lines.specs.Places.{loop_at};
-ghost use Rattle.loop_lines.specs.OneLoop.{IsWithinPlaces, dir_of, first_point, second_point, HasNoneAt, HasSevenLists, HasSevenPlaces, IsLineOf};
+ghost use Rattle.loop_lines.specs.OneLoop.{IsWithinPlaces, dir_of, first_point, second_point, IsLineOf};
+ghost use Rattle.loop_lines.specs.OneLoop.{HasNoneAt, HasSevenLists, HasSevenPlaces};
 
 use line_points::Line;
 use subscripts::{Class, Dir, Dirs, Pairing, Point, Span, classify};
@@ -71,7 +72,9 @@ pub fn only_loop_of(p: &Pairing) -> Option<LoopPlace>
     ensures { MatchOption result ((l : Loop) → HasOneLoop p.now l → ⊥) (λ at. HasOneLoop p.now (loop_at at)) }
 {
     match classify(p) {
-        Class::Strong | Class::WeakZero | Class::WeakCrossing | Class::GeneralSiv => Some(one_loop_of(p)),
+        Class::Strong | Class::WeakZero | Class::WeakCrossing | Class::GeneralSiv => Some(
+            one_loop_of(p),
+        ),
         Class::Ziv | Class::Miv | Class::Unknown => None,
     }
 }

@@ -1,18 +1,18 @@
 -- From points of the line to pairs of iterations.
-use Rattle.std.proofs.Common.{◌≡◌, ℕ, ◌<◌, List, ◌++◌, sym, ap, subst, refl, arith}
+use Rattle.std.proofs.Common.{◌≡◌, List, ◌++◌, sym, ap, subst, arith}
 use Rattle.std.specs.Prelude.{ℤ, Some, FitsSigned}
 use Rattle.std.proofs.lemmas.Int.{ints}
 use mir.Syntax.{w64}
 use Rattle.subscripts.specs.Classes.{Loop, Shared, First, Second, HasOneLoop, span_of}
-use Rattle.subscripts.specs.Cuts.{cut, cut_dirs, IsLeastPair, IsNoLater}
+use Rattle.subscripts.specs.Cuts.{IsLeastPair, IsNoLater}
 use Rattle.subscripts.specs.Shapes.{IsPairing, AreDirsOf}
 use Rattle.subscripts.specs.declared.affine.Dirs.{Dirs}
 use Rattle.subscripts.specs.declared.pairing.Pairing.{Pairing}
 use Rattle.line_points.specs.Least.{WithinTrip, HasNone, IsLeast}
 use Rattle.line_points.specs.declared.points.Line.{Line}
 use Rattle.loop_lines.specs.OneLoop.{first_at, second_at, dir_of, first_point, second_point, HasSevenPlaces, IsLineOf, IsWithinPlaces}
-use Rattle.loop_lines.proofs.Crossings.{place_of, within_seven}
-use Rattle.loop_lines.proofs.Pairs.{pair_point, cut_point, point_pair, points_in_order, IsPointOfCut}
+use Rattle.loop_lines.proofs.Crossings.{within_seven}
+use Rattle.loop_lines.proofs.Pairs.{pair_point, cut_point, point_pair, points_in_order}
 use Rattle.siv_tests.specs.Ways.{HasNone as HasNoneAtAll}
 
 module _ (p : Pairing) (d : Dirs) (l : Loop) (line : Line) (trip : ℤ) (i : IsPairing p) (a : AreDirsOf p d) (n : HasSevenPlaces p d) (h : HasOneLoop p l) (e : IsLineOf p l line) (t : (span_of p l).last ≡ Some trip) where

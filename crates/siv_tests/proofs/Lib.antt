@@ -1,3 +1,4 @@
 pub mod Answering
 pub mod WordLaws
 pub mod Zivs
+pub mod Literals

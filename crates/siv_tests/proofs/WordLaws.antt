@@ -1,6 +1,6 @@
 -- The name of a test, and its class; and what a constant trip decides.
-use Rattle.std.proofs.Common.{◌≡◌, subst, sym, false, true, IsTrue, ◌⊎◌, inl, inr, ap}
-use Rattle.std.specs.Prelude.{ℤ, ◌↔◌}
+use Rattle.std.proofs.Common.{◌≡◌, subst, false, IsTrue, inl, inr}
+use Rattle.std.specs.Prelude.{ℤ}
 use Rattle.subscripts.specs.Classes.{Loop, HasOneLoop, first_of, second_of, span_of}
 use Rattle.subscripts.specs.Refutations.{IsExact, IsRefutedByGcd, IsOneSided}
 use Rattle.subscripts.specs.declared.affine.Dirs.{Dirs}
@@ -8,7 +8,7 @@ use Rattle.subscripts.specs.declared.affine.Span.{Span}
 use Rattle.subscripts.specs.declared.pairing.Pairing.{Pairing}
 use Rattle.subscripts.specs.declared.verdict.Test.{Test}
 use Rattle.subscripts.specs.declared.verdict.Test.TheVariants.{Trip, Scalar, Ziv, Strong, WeakZero, Crossing, Siv, Delta, Gcd, Range, Miv, Unknown}
-use Rattle.siv_tests.specs.Ways.{IsRefuted, HasNone}
+use Rattle.siv_tests.specs.Ways.{IsRefuted}
 use Rattle.siv_tests.specs.Words.{IsSivWord, IsWordOf}
 
 own_word : (p : Pairing) (l : Loop) (t : Test) → HasOneLoop p l → IsSivWord (first_of p l) (second_of p l) t → IsWordOf p t

@@ -1,10 +1,10 @@
 -- A pairing without a loop.
-use Rattle.std.proofs.Common.{◌≡◌, ◌⊎◌, ℕ, ◌<◌, List, [], ◌∷◌, ◌++◌, length, get_or, zero, suc, refl, ap, subst, sym, arith, ◌∙◌, inl, inr, cond, Bool, ◌&&◌, true}
+use Rattle.std.proofs.Common.{◌≡◌, ℕ, ◌<◌, List, [], ◌∷◌, ◌++◌, length, get_or, suc, refl, subst, sym, arith, ◌∙◌, inl, inr, cond, Bool, ◌&&◌, true}
 use Rattle.std.specs.Prelude.{ℤ, pos, ◌+ℤ◌, ◌-ℤ◌}
 use Rattle.std.proofs.lemmas.Bool.{cases_lt}
-use Rattle.subscripts.specs.Classes.{Loop, Shared, First, Second, IsZiv, at_place}
-use Rattle.subscripts.specs.Cuts.{cut, cut_dirs, dirs_that_matter, is_zero, IsLeastPair, IsNoLater}
-use Rattle.subscripts.specs.Forms.{IsPairOf, HasNoPair, AreRelated, difference, over_loops, over_symbols}
+use Rattle.subscripts.specs.Classes.{Shared, First, Second, IsZiv, at_place}
+use Rattle.subscripts.specs.Cuts.{cut, dirs_that_matter, is_zero, IsLeastPair, IsNoLater}
+use Rattle.subscripts.specs.Forms.{IsPairOf, AreRelated, difference, over_loops, over_symbols}
 use Rattle.subscripts.specs.Iterations.{IsRelated, once}
 use Rattle.subscripts.specs.declared.affine.Dir.{Dir}
 use Rattle.subscripts.specs.declared.affine.Dir.TheVariants.{Any}

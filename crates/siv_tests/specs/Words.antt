@@ -4,7 +4,8 @@ use Rattle.subscripts.specs.Classes.{IsStrong, IsWeakZero, IsWeakCrossing, IsGen
 use Rattle.subscripts.specs.declared.pairing.Class.TheVariants as class
 use Rattle.subscripts.specs.declared.pairing.Pairing.{Pairing}
 use Rattle.subscripts.specs.declared.verdict.Test.{Test}
-use Rattle.subscripts.specs.declared.verdict.Test.TheVariants.{Trip, Scalar, Ziv, Strong, WeakZero, Crossing, Siv, Delta, Gcd, Range, Miv, Unknown}
+use Rattle.subscripts.specs.declared.verdict.Test.TheVariants.{Trip, Scalar, Ziv, Strong, WeakZero, Crossing, Siv}
+use Rattle.subscripts.specs.declared.verdict.Test.TheVariants.{Delta, Gcd, Range, Miv, Unknown}
 
 abbrev pub ziv_word : Test
 ziv_word = Ziv

@@ -12,7 +12,9 @@ ghost use Rattle.siv_tests.specs.Words.{IsSivWord, IsWordOf};
 
 use gcd_banerjee::{gcd_refutes, range_refutes};
 use line_points::least_on_line;
-use loop_lines::{LoopPlace, bounds_at, coefficients_at, constant_trip, line_of, one_loop_of, points_at};
+use loop_lines::{
+    LoopPlace, bounds_at, coefficients_at, constant_trip, line_of, one_loop_of, points_at,
+};
 use subscripts::{Dirs, Pairing, Point, Test, Verdict};
 
 /// The name of the test, by the loop's two coefficients.

@@ -1,7 +1,6 @@
-use Rattle.std.proofs.Common.{rules, ◌≡◌, get_or, ◌<◌, take, length, arith, subst}
+use Rattle.std.proofs.Common.{rules, ◌≡◌, take, arith, subst}
 use Rattle.std.proofs.lemmas.List.Elements.{All-more}
 use Rattle.subscripts.specs.Classes.{HasOneLoop}
-use Rattle.loop_lines.specs.declared.one_loop.LoopPlace.{LoopPlace}
 use Rattle.delta_test.proofs.Folding.{take_all}
 use Rattle.delta_test.specs.Groups.{HasOneLoopOfAll}
 use Rattle.loop_lines.specs.Places.{loop_at}

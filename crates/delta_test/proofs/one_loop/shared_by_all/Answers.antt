@@ -1,11 +1,8 @@
-use Rattle.std.proofs.Common.{◌≡◌, ◌↔◌, take, length, arith, subst}
-use Rattle.std.specs.Prelude.{ℤ, All}
+use Rattle.std.proofs.Common.{◌≡◌, take, arith, subst}
+use Rattle.std.specs.Prelude.{All}
 use Rattle.std.proofs.lemmas.List.Elements.{All-more}
-use Rattle.subscripts.specs.declared.pairing.Pairing.{Pairing}
-use Rattle.loop_constraints.specs.Constraints.{Allows}
 use Rattle.loop_lines.specs.OneLoop.{HasSevenLists}
 use Rattle.loop_lines.specs.Places.{loop_at}
-use Rattle.delta_test.specs.Groups.{OnAllLines}
 use Rattle.delta_test.proofs.Folding.{take_all, line_more}
 use Rattle.delta_test.proofs.one_loop.shared_by_all.Goals as goal
 

@@ -2,7 +2,6 @@ use Rattle.std.proofs.Common.{rules, ◌≡◌, ◌≤◌, ◌^◌, arith, ap, s
 use Rattle.std.specs.Prelude.{ℤ, pos, ◌-ℤ◌, FitsSigned, unsigned_abs}
 use Rattle.std.proofs.lemmas.Int.{ints, to_z-of_z, fits_signed_from_abs}
 use mir.Syntax.{w64, w128}
-use Rattle.subscripts.specs.Classes.{first_of, second_of}
 use Rattle.loop_lines.specs.Places.{loop_at}
 use Rattle.loop_lines.proofs.Loops.{small_line}
 use Rattle.loop_lines.proofs.one_loop.line_of.Goals as goal

@@ -1,13 +1,11 @@
-use Rattle.std.proofs.Common.{rules, ◌≡◌, ◌≤◌, ◌<◌, ◌^◌, arith, ap, subst, sym, ◌∙◌}
-use Rattle.std.specs.Prelude.{ℤ, pos, ◌≤ℤ◌, FitsSigned, unsigned_abs}
-use Rattle.std.proofs.lemmas.Int.{ints, to_z-of_z, fits_signed_from_abs}
+use Rattle.std.proofs.Common.{rules, ◌≡◌, subst}
+use Rattle.std.specs.Prelude.{ℤ, FitsSigned}
+use Rattle.std.proofs.lemmas.Int.{to_z-of_z}
 use mir.Syntax.{w64, w128}
-use Rattle.subscripts.specs.Cuts.{IsLeastPair}
 use Rattle.subscripts.specs.declared.affine.Dir.{Dir}
 use Rattle.line_points.specs.Least.{WithinTrip, HasNone, IsLeast}
 use Rattle.loop_lines.specs.OneLoop.{dir_of, first_point, second_point}
 use Rattle.loop_lines.specs.Places.{loop_at}
-use Rattle.loop_lines.proofs.Crossings.{within_seven}
 use Rattle.siv_tests.proofs.Answering.{none_left, least_left, iteration_fits, within_places}
 use Rattle.siv_tests.proofs.siv.least_pair.Goals as goal
 
