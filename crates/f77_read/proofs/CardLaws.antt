@@ -114,7 +114,7 @@ refused_last cards card r f a = record {
   first = all_append (IsNotBefore r) cards (card ∷ []) a (itself_alone card r f, tt);
 }
 
-kept : (cards : List PlainCard) (card : PlainCard) (r : Refusal) → IsRefusedFirst cards r → IsNotBefore r card → IsRefusedFirst (cards ++ card ∷ []) r
+pub kept : (cards : List PlainCard) (card : PlainCard) (r : Refusal) → IsRefusedFirst cards r → IsNotBefore r card → IsRefusedFirst (cards ++ card ∷ []) r
 kept cards card r f h = record {
   card = f.card;
   is_card = Contains-append_left cards (card ∷ []) f.card f.is_card;
@@ -125,12 +125,12 @@ kept cards card r f h = record {
 }
 
 -- of cards that were read
-first_refused : (cards : List PlainCard) (text : List Labelled) (card : PlainCard) (r : Refusal) → AreReadAlone cards text → IsRefusedAlone card r
+pub first_refused : (cards : List PlainCard) (text : List Labelled) (card : PlainCard) (r : Refusal) → AreReadAlone cards text → IsRefusedAlone card r
     → IsRefusedFirst (cards ++ card ∷ []) r
 first_refused cards text card r a f = refused_last cards card r f (every IsUnrefused (IsNotBefore r) (λ c u n w h. absurd (u n w h)) cards (unrefused cards text a))
 
 -- of cards of which one is refused
-another_refused : (cards : List PlainCard) (card : PlainCard) (r s : Refusal) (t : Bool) → comes_before s r ≡ t → IsRefusedFirst cards r → IsRefusedAlone card s
+pub another_refused : (cards : List PlainCard) (card : PlainCard) (r s : Refusal) (t : Bool) → comes_before s r ≡ t → IsRefusedFirst cards r → IsRefusedAlone card s
     → IsRefusedFirst (cards ++ card ∷ []) (cond t s r)
 another_refused cards card r s true e f g =
     refused_last cards card s g (every (IsNotBefore r) (IsNotBefore s) (λ c h n w i. not_before_sooner (card_refusal c n w) r s (h n w i) e) cards f.first)
