@@ -15,7 +15,7 @@ ghost use Rattle.f77_expr.specs.Views.{words_of};
 
 use crate::symbols::Symbol;
 use crate::tokens::{Stop, Token};
-use fv_tree::{GREATEST_LITERAL, Memory, Name, Op, Seq};
+use fv_tree::{GREATEST_LITERAL, Name, Op, copy_text};
 use std::alloc::Global;
 
 fn is_letter(c: u8) -> bool
@@ -209,13 +209,6 @@ fn mark(text: &[Symbol]) -> Option<(Token, &[Symbol])>
     )
 }
 
-/// An equal text.
-pub fn copied(alloc: Global, text: &Seq<u8>) -> Result<Seq<u8>, Memory>
-    ensures { IfOk result (λ copy. copy ≡ text.now) }
-{
-    Ok(Seq::from_vec(Vec::from_slice(alloc, text.as_slice())?))
-}
-
 // The word of characters at the front, and what follows it.
 fn word_of_chars(text: &[Symbol], first: u8) -> Option<(Token, &[Symbol])>
     requires { BeginsWith first (symbols_of text.now) }
@@ -248,7 +241,7 @@ fn word(alloc: Global, text: &[Symbol]) -> Result<(Token, &[Symbol]), Stop>
             None => Err(Stop::Syntax),
         },
         [Symbol::Text(constant), rest @ ..] => Ok((
-            Token::Constant(copied(alloc, constant)?),
+            Token::Constant(copy_text(constant, alloc)?),
             rest,
         )),
         [Symbol::Broken, ..] => Err(Stop::Syntax),

@@ -14,7 +14,7 @@ pub use fronts::{
     after_close, after_colon, after_comma, after_equals, after_head, after_name, after_open,
     begins_with_name,
 };
-pub use lexer::{copied, next_digit, next_letter_or_digit, strip, words};
+pub use lexer::{next_digit, next_letter_or_digit, strip, words};
 pub use operands::{Operand, deepened};
 pub use reader::read;
 pub use symbols::{Symbol, squeeze};

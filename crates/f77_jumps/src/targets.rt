@@ -2,13 +2,13 @@
 ghost use Rattle.std.specs.Prelude.{◌≡◌, ℕ, ◌+◌, ◌<◌, ◌^◌, None, Some, [], ◌∷◌, reverse, OnOk, IfOk, if◌then◌else◌};
 ghost use Rattle.f77_grammar.specs.program.Text.{is_label};
 ghost use Rattle.f77_structure.specs.LabelPlaces.{place_of};
-ghost use Rattle.f77_structure.specs.Openings.{first_of, tail_of, is_behind};
+ghost use Rattle.f77_structure.specs.Openings.{first_of, tail_of};
 ghost use Rattle.f77_syntax.specs.Views.{text_of};
 ghost use Rattle.f77_jumps.specs.LabelTargets.{target_in};
 ghost use Rattle.f77_jumps.specs.Targets.{arms_in, next_arms, later, is_no_target_form, targets_of, refuses};
 ghost use Rattle.f77_jumps.specs.Targets.{leads_wrongly_to};
 
-use f77_structure::{Form, LabelPlaces, Openings, place_under};
+use f77_structure::{Form, LabelPlaces, Openings, is_behind, place_under};
 use f77_syntax::Labelled;
 use fv_tree::Memory;
 use std::alloc::Global;
@@ -83,15 +83,6 @@ impl Target {
         ensures { result ≡ refuses self at }
     {
         is_behind(self.inside, at) || self.refused
-    }
-}
-
-fn is_behind(place: Option<usize>, at: usize) -> bool
-    ensures { result ≡ is_behind place at }
-{
-    match place {
-        Some(place) => place > at,
-        None => false,
     }
 }
 

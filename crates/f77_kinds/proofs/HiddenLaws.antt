@@ -1,9 +1,7 @@
 -- Hidden functions.
-use Rattle.std.proofs.Common.{◌≡◌, Bool, true, false, ◌&&◌, cond, Option, None, List, refl, lit≤}
-use Rattle.fv_tree.specs.Names.{IsName}
+use Rattle.std.proofs.Common.{◌≡◌, Bool, true, false, ◌&&◌, cond, Option, None, List, refl}
 use Rattle.fv_tree.specs.declared.functions.Fun.{Fun}
-use Rattle.fv_tree.specs.declared.functions.Fun.TheVariants.{Abs, Mod, Max, Min}
-use Rattle.fv_tree.specs.Functions.{function_named, name_of_function}
+use Rattle.fv_tree.specs.Functions.{function_named}
 use Rattle.f77_grammar.specs.program.Uses.{Use, calls}
 use Rattle.f77_grammar.specs.program.Kinds.{is_hidden_name, calls_hidden}
 use Rattle.f77_names.specs.NameFacts.{called_of}

@@ -10,8 +10,8 @@ ghost use Rattle.f77_lists.specs.Views.{Runs};
 
 use crate::bounds::{control, read_bounds};
 use crate::lists::{Direction, ItemList};
-use f77_expr::{Operand, Stop, Token, begins_with_name, copied, deepened, read};
-use fv_tree::{Item, Memory, Name, Seq};
+use f77_expr::{Operand, Stop, Token, begins_with_name, deepened, read};
+use fv_tree::{Item, Memory, Name, Seq, copy_text};
 use std::alloc::Global;
 
 /// What comes next, with the words that follow: an item is due, or has been read, or the list is whole.
@@ -124,7 +124,7 @@ fn text(
         → reader.text (direction_of direction) text.now (stack lists.old.items) ws ≡ reader.Fail }
 {
     match direction {
-        Direction::Output => put(lists, Item::Text(copied(alloc, text)?), 0),
+        Direction::Output => put(lists, Item::Text(copy_text(text, alloc)?), 0),
         Direction::Input => Err(Stop::Syntax),
     }
 }

@@ -18,5 +18,5 @@ pub use forms::Form;
 pub use label_places::LabelPlaces;
 pub use labels_check::wrong_label;
 pub use nesting::{here_if, label_ends, place_under, wrong_nesting};
-pub use openings::Openings;
+pub use openings::{Openings, is_behind};
 pub use order::wrong_end;

@@ -203,10 +203,10 @@ impl Openings {
     }
 }
 
-// The statement comes behind the one that stands behind `at` others.
-fn is_later(place: Option<usize>, at: usize) -> bool
-    requires { at + 1 < 2 ^ 64 }
-    ensures { result ≡ is_from (at + 1) place }
+/// Whether there is a place, and it comes behind `at`.
+pub fn is_behind(place: Option<usize>, at: usize) -> bool
+    ensures behind { result ≡ is_behind place at }
+    ensures from { result ≡ is_from (at + 1) place }
 {
     match place {
         Some(place) => place > at,
@@ -233,7 +233,7 @@ impl Openings {
         self.drop_ended(at);
         let refuses = self.refuses_else(form);
         self.drop_ended(at + 1);
-        refuses || self.closes_wrongly(form, is_later(end, at)) || self.ends_wrongly(first, form)
+        refuses || self.closes_wrongly(form, is_behind(end, at)) || self.ends_wrongly(first, form)
     }
 }
 

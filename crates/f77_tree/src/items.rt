@@ -4,14 +4,8 @@ ghost use Rattle.fv_tree.specs.View.{expression_of, item_of};
 ghost use Rattle.f77_tree.specs.Parts.{read_by, output_by, input_by};
 
 use crate::resolver::Resolver;
-use fv_tree::{Expr, Item, Memory, Seq};
+use fv_tree::{Expr, Item, Memory, Seq, copy_text};
 use std::alloc::Global;
-
-fn copy_text(alloc: Global, text: &Seq<u8>) -> Result<Seq<u8>, Memory>
-    ensures { IfOk result (λ copy. copy ≡ text.now) }
-{
-    Ok(Seq::from_vec(Vec::from_slice(alloc, text.as_slice())?))
-}
 
 impl Resolver {
     #[cycle(outputs)]
@@ -21,7 +15,7 @@ impl Resolver {
     {
         match item {
             Item::One(expr) => Ok(Item::One(self.resolve(alloc, expr)?)),
-            Item::Text(text) => Ok(Item::Text(copy_text(alloc, text)?)),
+            Item::Text(text) => Ok(Item::Text(copy_text(text, alloc)?)),
             Item::Turns(list, variable, first, last, step) => Ok(Item::Turns(
                 self.resolve_outputs(alloc, list)?,
                 *variable,
@@ -68,7 +62,7 @@ impl Resolver {
     {
         match item {
             Item::One(expr) => Ok(Item::One(self.resolve_read(alloc, expr)?)),
-            Item::Text(text) => Ok(Item::Text(copy_text(alloc, text)?)),
+            Item::Text(text) => Ok(Item::Text(copy_text(text, alloc)?)),
             Item::Turns(list, variable, first, last, step) => Ok(Item::Turns(
                 self.resolve_inputs(alloc, list)?,
                 *variable,

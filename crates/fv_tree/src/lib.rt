@@ -28,4 +28,4 @@ pub use names::Name;
 pub use ops::{Fault, Kind, OPERATORS, Op, Value};
 pub use programs::{Decl, Dim, Extent, Line, Program77, Program90};
 pub use refusals::{Cause, Refusal, Refused};
-pub use stmts::{Arm, Block, Item, Mark, Stmt};
+pub use stmts::{Arm, Block, Item, Mark, Stmt, copy_text};

@@ -117,7 +117,8 @@ impl Item {
     }
 }
 
-fn copy_text(text: &Seq<u8>, alloc: Global) -> Result<Seq<u8>, Memory>
+/// An equal text.
+pub fn copy_text(text: &Seq<u8>, alloc: Global) -> Result<Seq<u8>, Memory>
     ensures { IfOk result (λ copy. copy ≡ text.now) }
 {
     Ok(Seq::from_vec(Vec::from_slice(alloc, text.as_slice())?))
