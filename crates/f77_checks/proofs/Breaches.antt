@@ -6,25 +6,25 @@ use Rattle.std.proofs.lemmas.Bool.Decides.{nat_tests}
 use Rattle.fv_tree.specs.declared.refusals.Refused.TheVariants as refused
 use Rattle.f77_grammar.specs.Statement77.{Labelled}
 use Rattle.f77_grammar.specs.program.Text.{Place, places, places_from}
-use Rattle.f77_grammar.specs.program.Program77.{Cause, ManyNames, ManyBlocks, ReversedBounds, ManyElements, BadConstant, number_of_cause, word_of_cause}
+use Rattle.fv_tree.specs.Causes.{refusal_at}
+use Rattle.fv_tree.specs.declared.refusals.Cause.{Cause}
+use Rattle.fv_tree.specs.declared.refusals.Cause.TheVariants.{ManyNames, ManyBlocks, ReversedBounds, ManyElements, BadConstant}
+use Rattle.fv_meaning.specs.Dialect.{fortran77}
+use Rattle.f77_grammar.specs.program.Program77.{holds_in}
 use Rattle.f77_syntax.specs.declared.statements.Labelled.{Labelled as Labelled'}
 use Rattle.f77_syntax.specs.Views.{labelled_of, text_of}
 use Rattle.f77_syntax.specs.First.{first_index, index_from}
-use Rattle.f77_checks.specs.declared.limits.Limit.{Limit}
-use Rattle.f77_checks.specs.declared.limits.Limit.TheVariants.{Names, Blocks, Bounds, Elements, Constants}
 use Rattle.f77_checks.specs.declared.limits.Breach.{Breach}
-use Rattle.f77_checks.specs.First.{holds_in}
-use Rattle.f77_checks.specs.Limits.{Found, limit_of, limits, found_of, here_or, found_from, sooner_found}
+use Rattle.f77_checks.specs.Limits.{limits, here_or, found_from, sooner_found}
 use Rattle.f77_checks.specs.Outcomes.{Passes}
-use Rattle.f77_checks.proofs.Passing.{same_parts}
 use Rattle.f77_checks.proofs.Indices.{index_of, index_within, statement_at}
 
 -- ---- one cause
 
-abbrev at : Cause → ℕ → Found
-at c i = record { index = i; cause = c }
+abbrev at : Cause → ℕ → Breach
+at c i = record { place = i; cause = c }
 
-one_step : (c : Cause) (b : Bool) (i : ℕ) (later : Option Found) (o : Option ℕ) → later ≡ option_map (at c) o
+one_step : (c : Cause) (b : Bool) (i : ℕ) (later : Option Breach) (o : Option ℕ) → later ≡ option_map (at c) o
     → here_or (cond b (Some c) None) i later ≡ option_map (at c) (cond b (Some i) o)
 one_step c true i later o h = refl
 one_step c false i later o h = h
@@ -33,25 +33,25 @@ pub found_one : (holds : Cause → Place → Bool) (c : Cause) (i : ℕ) (ps : L
 found_one holds c i [] = refl
 found_one holds c i (p ∷ ps) = one_step c (holds c p) i (found_from holds (c ∷ []) (suc i) ps) (index_from (holds c) (suc i) ps) (found_one holds c (suc i) ps)
 
-pub found_none : (text : List Labelled) (c : Cause) → None ≡ first_index (holds_in text c) text → None ≡ found_from (holds_in text) (c ∷ []) 0 (places text)
-found_none text c h = ap (option_map (at c)) h ∙ sym (found_one (holds_in text) c 0 (places text))
+pub found_none : (text : List Labelled) (c : Cause) → None ≡ first_index (holds_in fortran77 text c) text → None ≡ found_from (holds_in fortran77 text) (c ∷ []) 0 (places text)
+found_none text c h = ap (option_map (at c)) h ∙ sym (found_one (holds_in fortran77 text) c 0 (places text))
 
-pub found_some : (text : List Labelled) (c : Cause) (i : ℕ) → Some i ≡ first_index (holds_in text c) text → Some (record { index = i; cause = c }) ≡ found_from (holds_in text) (c ∷ []) 0 (places text)
-found_some text c i h = ap (option_map (at c)) h ∙ sym (found_one (holds_in text) c 0 (places text))
+pub found_some : (text : List Labelled) (c : Cause) (i : ℕ) → Some i ≡ first_index (holds_in fortran77 text c) text → Some (record { place = i; cause = c }) ≡ found_from (holds_in fortran77 text) (c ∷ []) 0 (places text)
+found_some text c i h = ap (option_map (at c)) h ∙ sym (found_one (holds_in fortran77 text) c 0 (places text))
 
 -- ---- one cause more
 
-above_step : (f : Option Cause) (i : ℕ) (later : Option Found) (x : Found) → here_or f i later ≡ Some x → (later ≡ Some x → suc i ≤ x.index) → i ≤ x.index
-above_step (Some c) i later x h ih = let same : at c i ≡ x = cc in omega (arith, ap (λ (y : Found). y.index) same)
-above_step None i later x h ih = let lt : suc i ≤ x.index = ih h in omega arith
+above_step : (f : Option Cause) (i : ℕ) (later : Option Breach) (x : Breach) → here_or f i later ≡ Some x → (later ≡ Some x → suc i ≤ x.place) → i ≤ x.place
+above_step (Some c) i later x h ih = let same : at c i ≡ x = cc in omega (arith, ap (λ (y : Breach). y.place) same)
+above_step None i later x h ih = let lt : suc i ≤ x.place = ih h in omega arith
 
-pub found_above : (holds : Cause → Place → Bool) (cs : List Cause) (i : ℕ) (ps : List Place) (x : Found) → found_from holds cs i ps ≡ Some x → i ≤ x.index
+pub found_above : (holds : Cause → Place → Bool) (cs : List Cause) (i : ℕ) (ps : List Place) (x : Breach) → found_from holds cs i ps ≡ Some x → i ≤ x.place
 found_above holds cs i [] x h = absurd (let no : None ≡ Some x = h in cc)
 found_above holds cs i (p ∷ ps) x h = above_step (find (λ c. holds c p) cs) i (found_from holds cs (suc i) ps) x h (found_above holds cs (suc i) ps x)
 
-keeps_here : (c : Cause) (i : ℕ) (b : Option Found) → ((x : Found) → b ≡ Some x → suc i ≤ x.index) → Some (at c i) ≡ sooner_found (Some (at c i)) b
+keeps_here : (c : Cause) (i : ℕ) (b : Option Breach) → ((x : Breach) → b ≡ Some x → suc i ≤ x.place) → Some (at c i) ≡ sooner_found (Some (at c i)) b
 keeps_here c i None h = refl
-keeps_here c i (Some x) h = ap (λ t. cond t (Some x) (Some (at c i))) (later i x.index (h x refl))
+keeps_here c i (Some x) h = ap (λ t. cond t (Some x) (Some (at c i))) (later i x.place (h x refl))
   where
     later : (i k : ℕ) → suc i ≤ k → false ≡ nat_lt k i
     later i k h = grind (arith, nat_tests)
@@ -62,15 +62,15 @@ both_here c d i = ap (λ t. cond t (Some (at d i)) (Some (at c i))) (itself i)
     itself : (i : ℕ) → false ≡ nat_lt i i
     itself i = grind (arith, nat_tests)
 
-takes_here : (d : Cause) (i : ℕ) (a : Option Found) → ((x : Found) → a ≡ Some x → suc i ≤ x.index) → Some (at d i) ≡ sooner_found a (Some (at d i))
+takes_here : (d : Cause) (i : ℕ) (a : Option Breach) → ((x : Breach) → a ≡ Some x → suc i ≤ x.place) → Some (at d i) ≡ sooner_found a (Some (at d i))
 takes_here d i None h = refl
-takes_here d i (Some x) h = ap (λ t. cond t (Some (at d i)) (Some x)) (sooner i x.index (h x refl))
+takes_here d i (Some x) h = ap (λ t. cond t (Some (at d i)) (Some x)) (sooner i x.place (h x refl))
   where
     sooner : (i k : ℕ) → suc i ≤ k → true ≡ nat_lt i k
     sooner i k h = grind (arith, nat_tests)
 
-more_step : (c : Cause) (t : Bool) (f : Option Cause) (i : ℕ) (all a b : Option Found) → all ≡ sooner_found a b
-    → ((x : Found) → a ≡ Some x → suc i ≤ x.index) → ((x : Found) → b ≡ Some x → suc i ≤ x.index)
+more_step : (c : Cause) (t : Bool) (f : Option Cause) (i : ℕ) (all a b : Option Breach) → all ≡ sooner_found a b
+    → ((x : Breach) → a ≡ Some x → suc i ≤ x.place) → ((x : Breach) → b ≡ Some x → suc i ≤ x.place)
     → here_or (cond t (Some c) f) i all ≡ sooner_found (here_or (cond t (Some c) None) i a) (here_or f i b)
 more_step c true None i all a b ih above below = keeps_here c i b below
 more_step c true (Some d) i all a b ih above below = both_here c d i
@@ -86,7 +86,7 @@ found_more holds c cs i (p ∷ ps) =
 
 -- ---- the limits
 
-abbrev one : (Cause → Place → Bool) → List Place → Cause → Option Found
+abbrev one : (Cause → Place → Bool) → List Place → Cause → Option Breach
 one holds ps c = found_from holds (c ∷ []) 0 ps
 
 limits_found : (holds : Cause → Place → Bool) (ps : List Place)
@@ -99,23 +99,16 @@ limits_found holds ps =
     ∙ ap (sooner_found (one holds ps ReversedBounds)) (found_more holds ManyElements (BadConstant ∷ []) 0 ps))))
 
 pub first_of_limits : (text : List Labelled) (n b r e v last later late all : Option Breach)
-    → option_map found_of n ≡ found_from (holds_in text) (ManyNames ∷ []) 0 (places text)
-    → option_map found_of b ≡ found_from (holds_in text) (ManyBlocks ∷ []) 0 (places text)
-    → option_map found_of r ≡ found_from (holds_in text) (ReversedBounds ∷ []) 0 (places text)
-    → option_map found_of e ≡ found_from (holds_in text) (ManyElements ∷ []) 0 (places text)
-    → option_map found_of v ≡ found_from (holds_in text) (BadConstant ∷ []) 0 (places text)
-    → option_map found_of last ≡ sooner_found (option_map found_of e) (option_map found_of v)
-    → option_map found_of later ≡ sooner_found (option_map found_of r) (option_map found_of last)
-    → option_map found_of late ≡ sooner_found (option_map found_of b) (option_map found_of later)
-    → option_map found_of all ≡ sooner_found (option_map found_of n) (option_map found_of late)
-    → option_map found_of all ≡ found_from (holds_in text) limits 0 (places text)
+    → n ≡ found_from (holds_in fortran77 text) (ManyNames ∷ []) 0 (places text)
+    → b ≡ found_from (holds_in fortran77 text) (ManyBlocks ∷ []) 0 (places text)
+    → r ≡ found_from (holds_in fortran77 text) (ReversedBounds ∷ []) 0 (places text)
+    → e ≡ found_from (holds_in fortran77 text) (ManyElements ∷ []) 0 (places text)
+    → v ≡ found_from (holds_in fortran77 text) (BadConstant ∷ []) 0 (places text)
+    → last ≡ sooner_found e v → later ≡ sooner_found r last → late ≡ sooner_found b later → all ≡ sooner_found n late
+    → all ≡ found_from (holds_in fortran77 text) limits 0 (places text)
 first_of_limits text n b r e v last later late all hn hb hr he hv h4 h3 h2 h1 =
     h1 ∙ ap₂ sooner_found hn (h2 ∙ ap₂ sooner_found hb (h3 ∙ ap₂ sooner_found hr (h4 ∙ ap₂ sooner_found he hv)))
-    ∙ limits_found (holds_in text) (places text)
-
-pub by_limit : {E : Type 0} (text : List Labelled) (l m : Limit) (o : Result (Option ℕ) E) → l ≡ m → IfOk o (λ place. place ≡ first_index (holds_in text (limit_of m)) text)
-    → IfOk o (λ place. place ≡ first_index (holds_in text (limit_of l)) text)
-by_limit text l m o e h = subst (λ k. IfOk o (λ place. place ≡ first_index (holds_in text (limit_of k)) text)) (sym e) h
+    ∙ limits_found (holds_in fortran77 text) (places text)
 
 -- ---- what the first breach says of the text
 
@@ -127,21 +120,21 @@ any_found test (c ∷ cs) = step (test c) (any_found test cs)
     step true h = refl
     step false h = h
 
-record FoundAt (holds : Cause → Place → Bool) (cs : List Cause) (ps : List Place) (x : Found) : Type 0 where
+record FoundAt (holds : Cause → Place → Bool) (cs : List Cause) (ps : List Place) (x : Breach) : Type 0 where
   place : Place
   first_place : find (λ p. list_any (λ c. holds c p) cs) ps ≡ Some place
   first_cause : find (λ c. holds c place) cs ≡ Some x.cause
-  index : x.index ≡ index_of place
+  index : x.place ≡ index_of place
 
-place_step : (holds : Cause → Place → Bool) (cs : List Cause) (p : Place) (ps : List Place) (later : Option Found) (x : Found) (f : Option Cause) → find (λ c. holds c p) cs ≡ f
+place_step : (holds : Cause → Place → Bool) (cs : List Cause) (p : Place) (ps : List Place) (later : Option Breach) (x : Breach) (f : Option Cause) → find (λ c. holds c p) cs ≡ f
     → here_or f (index_of p) later ≡ Some x → (later ≡ Some x → FoundAt holds cs ps x) → FoundAt holds cs (p ∷ ps) x
 place_step holds cs p ps later x (Some c) e h ih =
     let same : at c (index_of p) ≡ x = cc in
     record {
       place = p;
       first_place = (ap (λ b. cond b (Some p) (find (λ q. list_any (λ d. holds d q) cs) ps)) (any_found (λ d. holds d p) cs ∙ ap is_some e));
-      first_cause = (e ∙ ap (λ (y : Found). Some y.cause) same);
-      index = (ap (λ (y : Found). y.index) (sym same));
+      first_cause = (e ∙ ap (λ (y : Breach). Some y.cause) same);
+      index = (ap (λ (y : Breach). y.place) (sym same));
     }
 place_step holds cs p ps later x None e h ih =
     let rest : FoundAt holds cs ps x = ih h in
@@ -152,7 +145,7 @@ place_step holds cs p ps later x None e h ih =
       index = rest.index;
     }
 
-found_place : (holds : Cause → Place → Bool) (cs : List Cause) (before xs : List Labelled) (x : Found) → found_from holds cs (length before) (places_from before xs) ≡ Some x
+found_place : (holds : Cause → Place → Bool) (cs : List Cause) (before xs : List Labelled) (x : Breach) → found_from holds cs (length before) (places_from before xs) ≡ Some x
     → FoundAt holds cs (places_from before xs) x
 found_place holds cs before [] x h = absurd (let no : None ≡ Some x = h in cc)
 found_place holds cs before (y ∷ ys) x h =
@@ -160,39 +153,31 @@ found_place holds cs before (y ∷ ys) x h =
     place_step holds cs p (places_from (y ∷ before) ys) (found_from holds cs (suc (length before)) (places_from (y ∷ before) ys)) x (find (λ c. holds c p) cs) refl h
     (found_place holds cs (y ∷ before) ys x)
 
-pub breach_within : (xs : List Labelled') (b : Breach) → Some (found_of b) ≡ found_from (holds_in (text_of xs)) limits 0 (places (text_of xs)) → b.place < length xs
+pub breach_within : (xs : List Labelled') (b : Breach) → Some b ≡ found_from (holds_in fortran77 (text_of xs)) limits 0 (places (text_of xs)) → b.place < length xs
 breach_within xs b h =
-    let found : FoundAt (holds_in (text_of xs)) limits (places (text_of xs)) (found_of b) = found_place (holds_in (text_of xs)) limits [] (text_of xs) (found_of b) (sym h) in
-    omega (arith, index_within (λ p. list_any (λ c. holds_in (text_of xs) c p) limits) xs found.place found.first_place, found.index)
+    let found : FoundAt (holds_in fortran77 (text_of xs)) limits (places (text_of xs)) b = found_place (holds_in fortran77 (text_of xs)) limits [] (text_of xs) b (sym h) in
+    omega (arith, index_within (λ p. list_any (λ c. holds_in fortran77 (text_of xs) c p) limits) xs found.place found.first_place, found.index)
 
-limit_number : (l : Limit) → 18 ≡ number_of_cause (limit_of l)
-limit_number Names = refl
-limit_number Blocks = refl
-limit_number Bounds = refl
-limit_number Elements = refl
-limit_number Constants = refl
-
-pub breach_is_first : (xs : List Labelled') (b : Breach) (x : Labelled') (w : ℕ) → Some (found_of b) ≡ found_from (holds_in (text_of xs)) limits 0 (places (text_of xs))
-    → x ≡ get_or xs b.place x → w ≡ word_of_cause (limit_of b.limit)
-    → Passes limits (text_of xs) (Err (refused.Refusal (record { number = 18; line = x.line; word = w })))
-breach_is_first xs b x w h e k =
-    let found : FoundAt (holds_in (text_of xs)) limits (places (text_of xs)) (found_of b) = found_place (holds_in (text_of xs)) limits [] (text_of xs) (found_of b) (sym h) in
-    let stands : labelled_of x ≡ found.place.here = statement_at (λ p. list_any (λ c. holds_in (text_of xs) c p) limits) xs found.place x found.first_place (e ∙ ap (λ i. get_or xs i x) found.index) in
+pub breach_is_first : (xs : List Labelled') (b : Breach) (x : Labelled') → Some b ≡ found_from (holds_in fortran77 (text_of xs)) limits 0 (places (text_of xs))
+    → x ≡ get_or xs b.place x → Passes limits (text_of xs) (Err (refused.Refusal (refusal_at b.cause x.line)))
+breach_is_first xs b x h e =
+    let found : FoundAt (holds_in fortran77 (text_of xs)) limits (places (text_of xs)) b = found_place (holds_in fortran77 (text_of xs)) limits [] (text_of xs) b (sym h) in
+    let stands : labelled_of x ≡ found.place.here = statement_at (λ p. list_any (λ c. holds_in fortran77 (text_of xs) c p) limits) xs found.place x found.first_place (e ∙ ap (λ i. get_or xs i x) found.index) in
     let line : x.line ≡ found.place.here.line = ap (λ (y : Labelled). y.line) stands in
     record {
-      cause = limit_of b.limit;
+      cause = b.cause;
       place = found.place;
       first_place = found.first_place;
       first_cause = found.first_cause;
-      is = (same_parts 18 (number_of_cause (limit_of b.limit)) x.line found.place.here.line w (word_of_cause (limit_of b.limit)) (limit_number b.limit) line k);
+      is = ap (refusal_at b.cause) line;
     }
 
 -- ---- no breach
 
-sooner_none : (a b : Option Found) → sooner_found a b ≡ None → (a ≡ None) × (b ≡ None)
+sooner_none : (a b : Option Breach) → sooner_found a b ≡ None → (a ≡ None) × (b ≡ None)
 sooner_none None b h = (refl, h)
 sooner_none (Some a) None h = absurd (let no : Some a ≡ None = h in cc)
-sooner_none (Some a) (Some b) h = absurd (neither (nat_lt b.index a.index) h)
+sooner_none (Some a) (Some b) h = absurd (neither (nat_lt b.place a.place) h)
   where
     neither : (t : Bool) → cond t (Some b) (Some a) ≡ None → ⊥
     neither true h = let no : Some b ≡ None = h in cc
@@ -216,7 +201,7 @@ nowhere holds (c ∷ cs) ps h =
     let two : (found_from holds (c ∷ []) 0 ps ≡ None) × (found_from holds cs 0 ps ≡ None) = sooner_none (found_from holds (c ∷ []) 0 ps) (found_from holds cs 0 ps) (sym (found_more holds c cs 0 ps) ∙ h) in
     (index_none (holds c) 0 ps (unmapped c (index_from (holds c) 0 ps) (sym (found_one holds c 0 ps) ∙ two.0)), nowhere holds cs ps two.1)
 
-pub no_breach : (text : List Labelled) → None ≡ found_from (holds_in text) limits 0 (places text) → Passes limits text (Ok tt)
-no_breach text h = nowhere (holds_in text) limits (places text) (sym h)
+pub no_breach : (text : List Labelled) → None ≡ found_from (holds_in fortran77 text) limits 0 (places text) → Passes limits text (Ok tt)
+no_breach text h = nowhere (holds_in fortran77 text) limits (places text) (sym h)
 
 pub ruleset outcome_laws = (breach_within, breach_is_first, no_breach)

@@ -7,22 +7,27 @@ use Rattle.fv_tree.specs.declared.refusals.Refused.{Refused}
 use Rattle.fv_tree.specs.declared.refusals.Refused.TheVariants as refused
 use Rattle.f77_grammar.specs.Statement77.{Labelled}
 use Rattle.f77_grammar.specs.program.Text.{Place, places}
-use Rattle.f77_grammar.specs.program.Program77.{Cause, Label, Nesting, NoEnd, Declared, RealName, TypeClash, Jump, DoVariable, ManyNames, ManyBlocks, ReversedBounds, ManyElements, BadConstant, all_causes, number_of_cause, word_of_cause, finding, findings}
+use Rattle.fv_tree.specs.Causes.{number_of_cause, word_of_cause, refusal_at}
+use Rattle.fv_tree.specs.declared.refusals.Cause.{Cause}
+use Rattle.fv_tree.specs.declared.refusals.Cause.TheVariants.{Label, Nesting, NoEnd, Declared, RealName, TypeClash, Jump, DoVariable, ManyNames, ManyBlocks, ReversedBounds, ManyElements, BadConstant}
+use Rattle.fv_meaning.specs.Dialect.{fortran77}
+use Rattle.f77_grammar.specs.program.Program77.{program_causes, findings, holds_in}
 use Rattle.f77_syntax.specs.declared.statements.Labelled.{Labelled as Labelled'}
 use Rattle.f77_syntax.specs.Views.{labelled_of, text_of}
-use Rattle.f77_checks.specs.First.{holds_in, has_number, IsFoundAtPlace, IsFoundFirst}
+use Rattle.f77_checks.specs.First.{has_number, IsFoundAtPlace, IsFoundFirst}
 use Rattle.f77_checks.specs.Limits.{limits}
 use Rattle.f77_checks.specs.Outcomes.{IfRefusal, IsNowhere, IsFirstAmong, Passes, IsChecked}
-use Rattle.f77_checks.proofs.Found.{findings_by, every_cause, find_same, find_holds, nothing_found, found_among, found_there, least_number, every}
+use Rattle.f77_laws.proofs.Lists.{all_weaker}
+use Rattle.f77_checks.proofs.Found.{findings_by, every_cause, find_same, find_holds, nothing_found, found_among, found_there, least_number}
 use Rattle.f77_checks.proofs.Passing.{or_false}
 
 -- ---- what is found first
 
 found_here : (y : Labelled) (ys : List Labelled) (c : Cause) (p : Place) → (let text = y ∷ ys in
-    holds_in text c p ≡ true → find (has_number text (number_of_cause c)) (places text) ≡ Some p
-    → AllByRecursion (λ (other : Refusal). number_of_cause c ≤ other.number) (findings_by (holds_in text) (places text) all_causes)
-    → ((d : Cause) → number_of_cause d ≡ number_of_cause c → holds_in text d p ≡ true → word_of_cause c ≤ word_of_cause d)
-    → IsFoundAtPlace text (finding c p.here.line))
+    holds_in fortran77 text c p ≡ true → find (has_number text (number_of_cause c)) (places text) ≡ Some p
+    → AllByRecursion (λ (other : Refusal). number_of_cause c ≤ other.number) (findings_by (holds_in fortran77 text) (places text) program_causes)
+    → ((d : Cause) → number_of_cause d ≡ number_of_cause c → holds_in fortran77 text d p ≡ true → word_of_cause c ≤ word_of_cause d)
+    → IsFoundAtPlace text (refusal_at c p.here.line))
 found_here y ys c p h first least words =
     let text = y ∷ ys in
     record {
@@ -30,17 +35,17 @@ found_here y ys c p h first least words =
       place = p;
       is = refl;
       holds = h;
-      found_it = (found_among (holds_in text) (places text) all_causes c (finding c p.here.line) (every_cause c) (found_there (holds_in text) (has_number text (number_of_cause c)) c (places text) p first h));
+      found_it = (found_among (holds_in fortran77 text) (places text) program_causes c (refusal_at c p.here.line) (every_cause text p c h) (found_there (holds_in fortran77 text) (has_number text (number_of_cause c)) c (places text) p first h));
       least_number = least;
       first_place = first;
       least_word = words;
     }
 
 first_found : (text : List Labelled) (c : Cause) (p : Place) → 0 < length text
-    → holds_in text c p ≡ true → find (has_number text (number_of_cause c)) (places text) ≡ Some p
-    → AllByRecursion (λ (other : Refusal). number_of_cause c ≤ other.number) (findings_by (holds_in text) (places text) all_causes)
-    → ((d : Cause) → number_of_cause d ≡ number_of_cause c → holds_in text d p ≡ true → word_of_cause c ≤ word_of_cause d)
-    → IsFoundFirst text (finding c p.here.line)
+    → holds_in fortran77 text c p ≡ true → find (has_number text (number_of_cause c)) (places text) ≡ Some p
+    → AllByRecursion (λ (other : Refusal). number_of_cause c ≤ other.number) (findings_by (holds_in fortran77 text) (places text) program_causes)
+    → ((d : Cause) → number_of_cause d ≡ number_of_cause c → holds_in fortran77 text d p ≡ true → word_of_cause c ≤ word_of_cause d)
+    → IsFoundFirst text (refusal_at c p.here.line)
 first_found [] c p n h first least words = absurd (let no : 0 < 0 = n in omega arith)
 first_found (y ∷ ys) c p n h first least words = found_here y ys c p h first least words
 
@@ -51,23 +56,23 @@ one_cause c d true h = cc
 one_cause c d false h = absurd (let no : None ≡ Some d = h in cc)
 
 alone : (text : List Labelled) (c : Cause) (front back : List Cause) (r : Refusal) → 0 < length text → word_of_cause c ≡ 0
-    → ((p : Place) → has_number text (number_of_cause c) p ≡ (holds_in text c p || false))
-    → AllByRecursion (IsNowhere text) front → list_all (λ d. nat_le (number_of_cause c) (number_of_cause d)) (c ∷ back) ≡ true → front ++ (c ∷ back) ≡ all_causes
+    → ((p : Place) → has_number text (number_of_cause c) p ≡ (holds_in fortran77 text c p || false))
+    → AllByRecursion (IsNowhere text) front → list_all (λ d. nat_le (number_of_cause c) (number_of_cause d)) (c ∷ back) ≡ true → front ++ (c ∷ back) ≡ program_causes
     → IsFirstAmong (c ∷ []) text r → IsFoundFirst text r
 alone text c front back r n word number clean above whole first =
-    let same : c ≡ first.cause = one_cause c first.cause (holds_in text c first.place) first.first_cause in
-    let place : find (λ p. holds_in text c p || false) (places text) ≡ Some first.place = first.first_place in
-    let holds : holds_in text c first.place ≡ true = sym (or_false (holds_in text c first.place)) ∙ find_holds (λ p. holds_in text c p || false) (places text) first.place place in
-    let found : IsFoundFirst text (finding c first.place.here.line) =
+    let same : c ≡ first.cause = one_cause c first.cause (holds_in fortran77 text c first.place) first.first_cause in
+    let place : find (λ p. holds_in fortran77 text c p || false) (places text) ≡ Some first.place = first.first_place in
+    let holds : holds_in fortran77 text c first.place ≡ true = sym (or_false (holds_in fortran77 text c first.place)) ∙ find_holds (λ p. holds_in fortran77 text c p || false) (places text) first.place place in
+    let found : IsFoundFirst text (refusal_at c first.place.here.line) =
     first_found text c first.place n holds
-    (find_same (has_number text (number_of_cause c)) (λ p. holds_in text c p || false) (places text) number ∙ place)
-    (subst (λ cs. AllByRecursion (λ (other : Refusal). number_of_cause c ≤ other.number) (findings_by (holds_in text) (places text) cs)) whole (least_number (holds_in text) (places text) (number_of_cause c) front (c ∷ back) clean above))
+    (find_same (has_number text (number_of_cause c)) (λ p. holds_in fortran77 text c p || false) (places text) number ∙ place)
+    (subst (λ cs. AllByRecursion (λ (other : Refusal). number_of_cause c ≤ other.number) (findings_by (holds_in fortran77 text) (places text) cs)) whole (least_number (holds_in fortran77 text) (places text) (number_of_cause c) front (c ∷ back) clean above))
     (λ d e t. omega (arith, word)) in
-    subst (IsFoundFirst text) (ap (λ d. finding d first.place.here.line) same ∙ sym first.is) found
+    subst (IsFoundFirst text) (ap (λ d. refusal_at d first.place.here.line) same ∙ sym first.is) found
 
 refused_alone : (text : List Labelled) (c : Cause) (front back : List Cause) (e : Refused) → 0 < length text → word_of_cause c ≡ 0
-    → ((p : Place) → has_number text (number_of_cause c) p ≡ (holds_in text c p || false))
-    → AllByRecursion (IsNowhere text) front → list_all (λ d. nat_le (number_of_cause c) (number_of_cause d)) (c ∷ back) ≡ true → front ++ (c ∷ back) ≡ all_causes
+    → ((p : Place) → has_number text (number_of_cause c) p ≡ (holds_in fortran77 text c p || false))
+    → AllByRecursion (IsNowhere text) front → list_all (λ d. nat_le (number_of_cause c) (number_of_cause d)) (c ∷ back) ≡ true → front ++ (c ∷ back) ≡ program_causes
     → IfRefusal e (IsFirstAmong (c ∷ []) text) → IfRefusal e (IsFoundFirst text)
 refused_alone text c front back (refused.Refusal r) n word number clean above whole h = alone text c front back r n word number clean above whole h
 refused_alone text c front back refused.Memory n word number clean above whole h = tt
@@ -144,7 +149,7 @@ words_step : (test : Cause → Bool) (b : Bool) (d : Cause) (ds : List Cause) (c
     → AllByRecursion (λ x. test x ≡ true → word_of_cause c ≤ word_of_cause x) (d ∷ ds)
 words_step test true d ds c f e h a ih =
     let same : d ≡ c = cc in
-    subst (λ y. AllByRecursion (λ x. test x ≡ true → word_of_cause y ≤ word_of_cause x) (d ∷ ds)) same (every (λ x. word_of_cause d ≤ word_of_cause x) (λ x. test x ≡ true → word_of_cause d ≤ word_of_cause x) (λ x le t. le) (d ∷ ds) a)
+    subst (λ y. AllByRecursion (λ x. test x ≡ true → word_of_cause y ≤ word_of_cause x) (d ∷ ds)) same (all_weaker (λ x. word_of_cause d ≤ word_of_cause x) (λ x. test x ≡ true → word_of_cause d ≤ word_of_cause x) (λ x le t. le) (d ∷ ds) a)
 words_step test false d ds c f e h a ih = (λ t. absurd (let no : false ≡ true = sym e ∙ t in cc), ih h)
 
 least_words : (test : Cause → Bool) (cs : List Cause) (c : Cause) → Ascend cs → find test cs ≡ Some c → AllByRecursion (λ x. test x ≡ true → word_of_cause c ≤ word_of_cause x) cs
@@ -176,19 +181,12 @@ limit_numbers test (d ∷ ds) c a h = number_step test (test d) d c (find test d
 
 -- a cause with the number 18 is a limit
 word_among : (test : Cause → Bool) (c d : Cause) → AllByRecursion (λ x. test x ≡ true → word_of_cause c ≤ word_of_cause x) limits → number_of_cause d ≡ 18 → test d ≡ true → word_of_cause c ≤ word_of_cause d
-word_among test c Label a n t = absurd (let no : 10 ≡ 18 = n in omega arith)
-word_among test c Nesting a n t = absurd (let no : 11 ≡ 18 = n in omega arith)
-word_among test c NoEnd a n t = absurd (let no : 12 ≡ 18 = n in omega arith)
-word_among test c Declared a n t = absurd (let no : 13 ≡ 18 = n in omega arith)
-word_among test c RealName a n t = absurd (let no : 14 ≡ 18 = n in omega arith)
-word_among test c TypeClash a n t = absurd (let no : 15 ≡ 18 = n in omega arith)
-word_among test c Jump a n t = absurd (let no : 16 ≡ 18 = n in omega arith)
-word_among test c DoVariable a n t = absurd (let no : 17 ≡ 18 = n in omega arith)
 word_among test c ManyNames a n t = a.0 t
 word_among test c ManyBlocks a n t = a.1.0 t
 word_among test c ReversedBounds a n t = a.1.1.0 t
 word_among test c ManyElements a n t = a.1.1.1.0 t
 word_among test c BadConstant a n t = a.1.1.1.1.0 t
+word_among test c d a n t = absurd (omega (arith, n))
 
 abbrev before_limits : List Cause
 before_limits = Label ∷ Nesting ∷ NoEnd ∷ Declared ∷ RealName ∷ TypeClash ∷ Jump ∷ DoVariable ∷ []
@@ -197,14 +195,14 @@ limit_refused : (text : List Labelled) (r : Refusal) → 0 < length text → All
 limit_refused text r n clean first =
     let c = first.cause in
     let p = first.place in
-    let number : number_of_cause c ≡ 18 = limit_numbers (λ d. holds_in text d p) limits c (refl, (refl, (refl, (refl, (refl, tt))))) first.first_cause in
+    let number : number_of_cause c ≡ 18 = limit_numbers (λ d. holds_in fortran77 text d p) limits c (refl, (refl, (refl, (refl, (refl, tt))))) first.first_cause in
     let place : find (has_number text 18) (places text) ≡ Some p = first.first_place in
-    let found : IsFoundFirst text (finding c p.here.line) =
-    first_found text c p n (find_holds (λ d. holds_in text d p) limits c first.first_cause)
+    let found : IsFoundFirst text (refusal_at c p.here.line) =
+    first_found text c p n (find_holds (λ d. holds_in fortran77 text d p) limits c first.first_cause)
     (ap (λ k. find (has_number text k) (places text)) number ∙ place)
-    (subst (λ k. AllByRecursion (λ (other : Refusal). k ≤ other.number) (findings_by (holds_in text) (places text) all_causes)) (sym number)
-    (least_number (holds_in text) (places text) 18 before_limits limits clean refl))
-    (λ d e t. word_among (λ x. holds_in text x p) c d (least_words (λ x. holds_in text x p) limits c limits_ascend first.first_cause) (e ∙ number) t) in
+    (subst (λ k. AllByRecursion (λ (other : Refusal). k ≤ other.number) (findings_by (holds_in fortran77 text) (places text) program_causes)) (sym number)
+    (least_number (holds_in fortran77 text) (places text) 18 before_limits limits clean refl))
+    (λ d e t. word_among (λ x. holds_in fortran77 text x p) c d (least_words (λ x. holds_in fortran77 text x p) limits c limits_ascend first.first_cause) (e ∙ number) t) in
     subst (IsFoundFirst text) (sym first.is) found
 
 limits_refused : (text : List Labelled) (e : Refused) → 0 < length text → AllByRecursion (IsNowhere text) before_limits → IfRefusal e (IsFirstAmong limits text) → IfRefusal e (IsFoundFirst text)
@@ -213,9 +211,9 @@ limits_refused text refused.Memory n clean h = tt
 
 -- ---- nothing is found
 
-clean_text : (text : List Labelled) → 0 < length text → AllByRecursion (IsNowhere text) all_causes → findings text ≡ []
+clean_text : (text : List Labelled) → 0 < length text → AllByRecursion (IsNowhere text) program_causes → findings fortran77 text ≡ []
 clean_text [] n a = absurd (let no : 0 < 0 = n in omega arith)
-clean_text (y ∷ ys) n a = nothing_found (holds_in (y ∷ ys)) (places (y ∷ ys)) all_causes a
+clean_text (y ∷ ys) n a = nothing_found (holds_in fortran77 (y ∷ ys)) (places (y ∷ ys)) program_causes a
 
 limits_checked : (text : List Labelled) (o : Result (Unit {0}) Refused) → 0 < length text → AllByRecursion (IsNowhere text) before_limits → Passes limits text o → IsChecked text o
 limits_checked text (Ok u) n a h = clean_text text n (a.0, (a.1.0, (a.1.1.0, (a.1.1.1.0, (a.1.1.1.1.0, (a.1.1.1.1.1.0, (a.1.1.1.1.1.1.0, (a.1.1.1.1.1.1.1.0, h))))))))
@@ -230,7 +228,7 @@ rest_checked text o n a b c d f g i j h = limits_checked text o n (a.0, (b.0, (c
 pub statements_stand : (xs : List Labelled') → 0 < length xs → 0 < length (text_of xs)
 statements_stand xs h = omega (arith, h, length-map xs labelled_of)
 
-pub nothing_to_check : (xs : List Labelled') → length xs ≡ 0 → IsChecked (text_of xs) (Err (refused.Refusal (record { number = 12; line = 0; word = 0 })))
+pub nothing_to_check : (xs : List Labelled') → length xs ≡ 0 → IsChecked (text_of xs) (Err (refused.Refusal (refusal_at NoEnd 0)))
 nothing_to_check [] h = refl
 nothing_to_check (x ∷ xs) h = absurd (omega (arith, h))
 

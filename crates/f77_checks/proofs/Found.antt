@@ -6,23 +6,20 @@ use Rattle.std.proofs.lemmas.List.Elements.{Contains-append_left, Contains-appen
 use Rattle.fv_tree.specs.declared.refusals.Refusal.{Refusal}
 use Rattle.f77_grammar.specs.Statement77.{Labelled}
 use Rattle.f77_grammar.specs.program.Text.{Place, places_from}
-use Rattle.f77_grammar.specs.program.Program77.{Cause, Label, Nesting, NoEnd, Declared, RealName, TypeClash, Jump, DoVariable, ManyNames, ManyBlocks, ReversedBounds, ManyElements, BadConstant, all_causes, number_of_cause, finding}
+use Rattle.fv_tree.specs.Causes.{number_of_cause, refusal_at}
+use Rattle.fv_tree.specs.declared.refusals.Cause.{Cause}
+use Rattle.fv_tree.specs.declared.refusals.Cause.TheVariants.{Label, Nesting, NoEnd, Declared, RealName, TypeClash, Jump, DoVariable, ManyNames, ManyBlocks, ReversedBounds, ManyElements, BadConstant}
+use Rattle.fv_meaning.specs.Dialect.{fortran77}
+use Rattle.f77_grammar.specs.program.Program77.{program_causes, holds_in}
 use Rattle.f77_laws.specs.Source.{AreRising}
+use Rattle.f77_laws.proofs.Lists.{all_weaker, all_both, here, there}
 use Rattle.f77_checks.proofs.Indices.{placed}
 
 -- ---- lists
 
-pub every : {X : Type 0} (P Q : X → Type 0) → ((x : X) → P x → Q x) → (xs : List X) → AllByRecursion P xs → AllByRecursion Q xs
-every P Q h [] a = tt
-every P Q h (x ∷ xs) a = (h x a.0, every P Q h xs a.1)
-
 pub both : {X : Type 0} (P Q R : X → Type 0) → ((x : X) → P x → Q x → R x) → (xs : List X) → AllByRecursion P xs → AllByRecursion Q xs → AllByRecursion R xs
 both P Q R h [] a b = tt
 both P Q R h (x ∷ xs) a b = (h x a.0 b.0, both P Q R h xs a.1 b.1)
-
-pub all_append : {X : Type 0} (P : X → Type 0) (xs ys : List X) → AllByRecursion P xs → AllByRecursion P ys → AllByRecursion P (xs ++ ys)
-all_append P [] ys a b = b
-all_append P (x ∷ xs) ys a b = (a.0, all_append P xs ys a.1 b)
 
 pub each : {X : Type 0} (P : X → Type 0) → ((x : X) → P x) → (xs : List X) → AllByRecursion P xs
 each P h [] = tt
@@ -60,31 +57,31 @@ find_holds test (p ∷ ps) q h = holds_step test (test p) p q (find test ps) ref
 -- ---- findings
 
 abbrev pub findings_at : (Cause → Place → Bool) → List Place → Cause → List Refusal
-findings_at holds ps c = map (λ (p : Place). finding c p.here.line) (filter (holds c) ps)
+findings_at holds ps c = map (λ (p : Place). refusal_at c p.here.line) (filter (holds c) ps)
 
 abbrev pub findings_by : (Cause → Place → Bool) → List Place → List Cause → List Refusal
 findings_by holds ps cs = flat_map (findings_at holds ps) cs
 
-all_of_step : (P : Refusal → Type 0) (c : Cause) (b : Bool) (p : Place) (rest : List Place) → (b ≡ true → P (finding c p.here.line))
-    → AllByRecursion P (map (λ (q : Place). finding c q.here.line) rest)
-    → AllByRecursion P (map (λ (q : Place). finding c q.here.line) (cond b (p ∷ rest) rest))
+all_of_step : (P : Refusal → Type 0) (c : Cause) (b : Bool) (p : Place) (rest : List Place) → (b ≡ true → P (refusal_at c p.here.line))
+    → AllByRecursion P (map (λ (q : Place). refusal_at c q.here.line) rest)
+    → AllByRecursion P (map (λ (q : Place). refusal_at c q.here.line) (cond b (p ∷ rest) rest))
 all_of_step P c true p rest h a = (h refl, a)
 all_of_step P c false p rest h a = a
 
 pub all_of : (holds : Cause → Place → Bool) (P : Refusal → Type 0) (c : Cause) (ps : List Place)
-    → AllByRecursion (λ q. holds c q ≡ true → P (finding c q.here.line)) ps → AllByRecursion P (findings_at holds ps c)
+    → AllByRecursion (λ q. holds c q ≡ true → P (refusal_at c q.here.line)) ps → AllByRecursion P (findings_at holds ps c)
 all_of holds P c [] a = tt
 all_of holds P c (p ∷ ps) a = all_of_step P c (holds c p) p (filter (holds c) ps) a.0 (all_of holds P c ps a.1)
 
 pub all_by : (holds : Cause → Place → Bool) (P : Refusal → Type 0) (ps : List Place) (cs : List Cause)
-    → AllByRecursion (λ c. AllByRecursion (λ (q : Place). holds c q ≡ true → P (finding c q.here.line)) ps) cs → AllByRecursion P (findings_by holds ps cs)
+    → AllByRecursion (λ c. AllByRecursion (λ (q : Place). holds c q ≡ true → P (refusal_at c q.here.line)) ps) cs → AllByRecursion P (findings_by holds ps cs)
 all_by holds P ps [] a = tt
-all_by holds P ps (c ∷ cs) a = all_append P (findings_at holds ps c) (findings_by holds ps cs) (all_of holds P c ps a.0) (all_by holds P ps cs a.1)
+all_by holds P ps (c ∷ cs) a = all_both P (findings_at holds ps c) (findings_by holds ps cs) (all_of holds P c ps a.0) (all_by holds P ps cs a.1)
 
 pub nothing_found : (holds : Cause → Place → Bool) (ps : List Place) (cs : List Cause) → AllByRecursion (λ c. find (holds c) ps ≡ None) cs → findings_by holds ps cs ≡ []
 nothing_found holds ps [] a = refl
 nothing_found holds ps (c ∷ cs) a =
-    ap (λ qs. map (λ (p : Place). finding c p.here.line) qs ++ findings_by holds ps cs) (none_pass (holds c) ps (find_none (holds c) ps a.0)) ∙ nothing_found holds ps cs a.1
+    ap (λ qs. map (λ (p : Place). refusal_at c p.here.line) qs ++ findings_by holds ps cs) (none_pass (holds c) ps (find_none (holds c) ps a.0)) ∙ nothing_found holds ps cs a.1
 
 -- ---- a finding is among them
 
@@ -92,20 +89,22 @@ abbrev pub Among : List Cause → Cause → Type 0
 Among [] c = ⊥
 Among (d ∷ ds) c = (d ≡ c) ⊎ Among ds c
 
-pub every_cause : (c : Cause) → Among all_causes c
-every_cause Label = inl refl
-every_cause Nesting = inr (inl refl)
-every_cause NoEnd = inr (inr (inl refl))
-every_cause Declared = inr (inr (inr (inl refl)))
-every_cause RealName = inr (inr (inr (inr (inl refl))))
-every_cause TypeClash = inr (inr (inr (inr (inr (inl refl)))))
-every_cause Jump = inr (inr (inr (inr (inr (inr (inl refl))))))
-every_cause DoVariable = inr (inr (inr (inr (inr (inr (inr (inl refl)))))))
-every_cause ManyNames = inr (inr (inr (inr (inr (inr (inr (inr (inl refl))))))))
-every_cause ManyBlocks = inr (inr (inr (inr (inr (inr (inr (inr (inr (inl refl)))))))))
-every_cause ReversedBounds = inr (inr (inr (inr (inr (inr (inr (inr (inr (inr (inl refl))))))))))
-every_cause ManyElements = inr (inr (inr (inr (inr (inr (inr (inr (inr (inr (inr (inl refl)))))))))))
-every_cause BadConstant = inr (inr (inr (inr (inr (inr (inr (inr (inr (inr (inr (inr (inl refl))))))))))))
+-- what holds anywhere is a cause of a program's statements
+pub every_cause : (text : List Labelled) (p : Place) (c : Cause) → holds_in fortran77 text c p ≡ true → Among program_causes c
+every_cause text p Label h = inl refl
+every_cause text p Nesting h = inr (inl refl)
+every_cause text p NoEnd h = inr (inr (inl refl))
+every_cause text p Declared h = inr (inr (inr (inl refl)))
+every_cause text p RealName h = inr (inr (inr (inr (inl refl))))
+every_cause text p TypeClash h = inr (inr (inr (inr (inr (inl refl)))))
+every_cause text p Jump h = inr (inr (inr (inr (inr (inr (inl refl))))))
+every_cause text p DoVariable h = inr (inr (inr (inr (inr (inr (inr (inl refl)))))))
+every_cause text p ManyNames h = inr (inr (inr (inr (inr (inr (inr (inr (inl refl))))))))
+every_cause text p ManyBlocks h = inr (inr (inr (inr (inr (inr (inr (inr (inr (inl refl)))))))))
+every_cause text p ReversedBounds h = inr (inr (inr (inr (inr (inr (inr (inr (inr (inr (inl refl))))))))))
+every_cause text p ManyElements h = inr (inr (inr (inr (inr (inr (inr (inr (inr (inr (inr (inl refl)))))))))))
+every_cause text p BadConstant h = inr (inr (inr (inr (inr (inr (inr (inr (inr (inr (inr (inr (inl refl))))))))))))
+every_cause text p c h = absurd (let no : false ≡ true = h in cc)
 
 any_step : (test : Cause → Bool) (d : Cause) (ds : List Cause) (c : Cause) → (d ≡ c) ⊎ Among ds c → test c ≡ true → (Among ds c → list_any test ds ≡ true)
     → (test d || list_any test ds) ≡ true
@@ -120,31 +119,25 @@ pub any_true : (test : Cause → Bool) (cs : List Cause) (c : Cause) → Among c
 any_true test [] c m h = absurd m
 any_true test (d ∷ ds) c m h = any_step test d ds c m h (λ k. any_true test ds c k h)
 
-pub here : {X : Type 0} (x : X) (xs : List X) → Contains (x ∷ xs) x
-here x xs = Contains-get_or (x ∷ xs) 0 x (omega arith)
-
-there : {X : Type 0} (y : X) (xs : List X) (x : X) → Contains xs x → Contains (y ∷ xs) x
-there y xs x h = Contains-append_right (y ∷ []) xs x h
-
 contains_step : (c : Cause) (b : Bool) (p q : Place) (rest : List Place) (f : Option Place) → cond b (Some p) f ≡ Some q
-    → (f ≡ Some q → Contains (map (λ (x : Place). finding c x.here.line) rest) (finding c q.here.line))
-    → Contains (map (λ (x : Place). finding c x.here.line) (cond b (p ∷ rest) rest)) (finding c q.here.line)
+    → (f ≡ Some q → Contains (map (λ (x : Place). refusal_at c x.here.line) rest) (refusal_at c q.here.line))
+    → Contains (map (λ (x : Place). refusal_at c x.here.line) (cond b (p ∷ rest) rest)) (refusal_at c q.here.line)
 contains_step c true p q rest f h ih =
     let same : p ≡ q = cc in
-    subst (λ (x : Place). Contains (finding c p.here.line ∷ map (λ (x : Place). finding c x.here.line) rest) (finding c x.here.line)) same (here (finding c p.here.line) (map (λ (x : Place). finding c x.here.line) rest))
+    subst (λ (x : Place). Contains (refusal_at c p.here.line ∷ map (λ (x : Place). refusal_at c x.here.line) rest) (refusal_at c x.here.line)) same (here (refusal_at c p.here.line) (map (λ (x : Place). refusal_at c x.here.line) rest))
 contains_step c false p q rest f h ih = ih h
 
 -- the finding of a place at which the cause holds, which a test finds first
 found_step : (holds : Cause → Place → Bool) (c : Cause) (a b : Bool) (p q : Place) (rest : List Place) (f : Option Place) → holds c p ≡ b → holds c q ≡ true → cond a (Some p) f ≡ Some q
-    → (f ≡ Some q → Contains (map (λ (x : Place). finding c x.here.line) rest) (finding c q.here.line))
-    → Contains (map (λ (x : Place). finding c x.here.line) (cond b (p ∷ rest) rest)) (finding c q.here.line)
+    → (f ≡ Some q → Contains (map (λ (x : Place). refusal_at c x.here.line) rest) (refusal_at c q.here.line))
+    → Contains (map (λ (x : Place). refusal_at c x.here.line) (cond b (p ∷ rest) rest)) (refusal_at c q.here.line)
 found_step holds c true true p q rest f e k h ih = contains_step c true p q rest f h ih
 found_step holds c true false p q rest f e k h ih = absurd (let same : p ≡ q = cc in cc)
-found_step holds c false true p q rest f e k h ih = there (finding c p.here.line) (map (λ (x : Place). finding c x.here.line) rest) (finding c q.here.line) (ih h)
+found_step holds c false true p q rest f e k h ih = there (refusal_at c p.here.line) (map (λ (x : Place). refusal_at c x.here.line) rest) (refusal_at c q.here.line) (ih h)
 found_step holds c false false p q rest f e k h ih = ih h
 
 pub found_there : (holds : Cause → Place → Bool) (test : Place → Bool) (c : Cause) (ps : List Place) (q : Place) → find test ps ≡ Some q → holds c q ≡ true
-    → Contains (findings_at holds ps c) (finding c q.here.line)
+    → Contains (findings_at holds ps c) (refusal_at c q.here.line)
 found_there holds test c [] q h k = absurd (let no : None ≡ Some q = h in cc)
 found_there holds test c (p ∷ ps) q h k =
     found_step holds c (test p) (holds c p) p q (filter (holds c) ps) (find test ps) refl k h (λ e. found_there holds test c ps q e k)
@@ -161,8 +154,8 @@ found_among holds ps (d ∷ ds) c r m h = among_step holds ps d ds c r m h (λ k
 -- ---- no finding has a lesser number
 
 from_none : (holds : Cause → Place → Bool) (P : Refusal → Type 0) (c : Cause) (ps : List Place) → find (holds c) ps ≡ None
-    → AllByRecursion (λ (q : Place). holds c q ≡ true → P (finding c q.here.line)) ps
-from_none holds P c ps h = every (λ q. holds c q ≡ false) (λ (q : Place). holds c q ≡ true → P (finding c q.here.line)) (λ q e t. absurd (let no : false ≡ true = sym e ∙ t in cc)) ps (find_none (holds c) ps h)
+    → AllByRecursion (λ (q : Place). holds c q ≡ true → P (refusal_at c q.here.line)) ps
+from_none holds P c ps h = all_weaker (λ q. holds c q ≡ false) (λ (q : Place). holds c q ≡ true → P (refusal_at c q.here.line)) (λ q e t. absurd (let no : false ≡ true = sym e ∙ t in cc)) ps (find_none (holds c) ps h)
 
 numbers_from : (n : ℕ) (cs : List Cause) → list_all (λ c. nat_le n (number_of_cause c)) cs ≡ true → AllByRecursion (λ c. n ≤ number_of_cause c) cs
 numbers_from n [] h = tt
@@ -179,11 +172,11 @@ pub least_number : (holds : Cause → Place → Bool) (ps : List Place) (n : ℕ
     → list_all (λ c. nat_le n (number_of_cause c)) back ≡ true → AllByRecursion (λ (other : Refusal). n ≤ other.number) (findings_by holds ps (front ++ back))
 least_number holds ps n front back a h =
     let P : Refusal → Type 0 = λ (other : Refusal). n ≤ other.number in
-    let Q : Cause → Type 0 = λ c. AllByRecursion (λ (q : Place). holds c q ≡ true → P (finding c q.here.line)) ps in
+    let Q : Cause → Type 0 = λ c. AllByRecursion (λ (q : Place). holds c q ≡ true → P (refusal_at c q.here.line)) ps in
     all_by holds P ps (front ++ back)
-    (all_append Q front back
-    (every (λ c. find (holds c) ps ≡ None) Q (λ c e. from_none holds P c ps e) front a)
-    (every (λ c. n ≤ number_of_cause c) Q (λ c e. each (λ (q : Place). holds c q ≡ true → P (finding c q.here.line)) (λ q t. e) ps) back (numbers_from n back h)))
+    (all_both Q front back
+    (all_weaker (λ c. find (holds c) ps ≡ None) Q (λ c e. from_none holds P c ps e) front a)
+    (all_weaker (λ c. n ≤ number_of_cause c) Q (λ c e. each (λ (q : Place). holds c q ≡ true → P (refusal_at c q.here.line)) (λ q t. e) ps) back (numbers_from n back h)))
 
 -- ---- the first place has the least line
 
@@ -198,7 +191,7 @@ rising_step : (test : Place → Bool) (b : Bool) (p q : Place) (rest : List Plac
     → AllByRecursion (λ (x : Place). q.here.line < x.here.line) rest → (f ≡ Some p → AllByRecursion (IsNoLater test p) rest) → AllByRecursion (IsNoLater test p) (q ∷ rest)
 rising_step test true p q rest f e h a ih =
     let same : q ≡ p = cc in
-    (λ t. inl (sym same), every (λ (x : Place). q.here.line < x.here.line) (IsNoLater test p) (λ x lt t. inr (subst (λ (y : Place). y.here.line < x.here.line) same lt)) rest a)
+    (λ t. inl (sym same), all_weaker (λ (x : Place). q.here.line < x.here.line) (IsNoLater test p) (λ x lt t. inr (subst (λ (y : Place). y.here.line < x.here.line) same lt)) rest a)
 rising_step test false p q rest f e h a ih = (λ t. absurd (let no : false ≡ true = sym e ∙ t in cc), ih h)
 
 pub first_is_least : (test : Place → Bool) (before xs : List Labelled) (p : Place) → AreRising xs → find test (places_from before xs) ≡ Some p → AllByRecursion (IsNoLater test p) (places_from before xs)

@@ -101,3 +101,5 @@ beyond_by test xs i (Some q) f h e = let same : i ≡ index_of q = cc in omega (
 
 pub no_line_beyond : (test : Place → Bool) (xs : List Labelled') (i : ℕ) → length xs ≤ i → Some i ≡ first_index test (text_of xs) → None ≡ first_line test (text_of xs)
 no_line_beyond test xs i e h = absurd (beyond_by test xs i (find test (places (text_of xs))) refl (h ∙ first_index-place test (text_of xs)) e)
+
+pub ruleset line_laws = (line_of_none, line_of_index, no_line_beyond)

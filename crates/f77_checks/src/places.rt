@@ -7,7 +7,7 @@ ghost use Rattle.f77_syntax.specs.Views.{text_of};
 use f77_syntax::Labelled;
 
 /// The line of the statement at a place.
-#[tactic(auto, using(crate::proofs::Indices::line_of_none, crate::proofs::Indices::line_of_index, crate::proofs::Indices::no_line_beyond))]
+#[tactic(auto, using(crate::proofs::Indices::line_laws))]
 pub fn line_at(text: &[Labelled], place: Option<usize>) -> Option<u32>
     ensures { (test : Place → Bool) → place ≡ first_index test (text_of text.now)
         → result ≡ first_line test (text_of text.now) }

@@ -1,6 +1,6 @@
 //! What the rules say of small programs.
 use crate::check;
-use fv_tree::{Expr, Kind, Name, Ref, Refused, Seq, Sub};
+use fv_tree::{Cause, Expr, Kind, Name, Ref, Refusal, Refused, Seq, Sub};
 use f77_syntax::{Entity, Labelled, Stmt77};
 use std::alloc::Global;
 use std::test::Fail;
@@ -79,11 +79,11 @@ fn statement(alloc: Global, sample: Sample) -> Result<Stmt77, Fail> {
     }
 }
 
-// The number, the line and the word of the refusal of a program with these labels and statements, a line each.
+// The answer to a program with these labels and statements, a line each: its refusal, if it has one.
 fn refusal(
     alloc: Global,
     samples: &[(Option<u32>, Sample)],
-) -> Result<Option<(u8, u32, u8)>, Fail> {
+) -> Result<Option<Refusal>, Fail> {
     let mut text = Vec::new(alloc);
     let mut line: u32 = 0;
     for (label, sample) in samples {
@@ -96,8 +96,8 @@ fn refusal(
     }
     match check(alloc, &text) {
         Ok(()) => Ok(None),
-        Err(Refused::Refusal(refusal)) => Ok(Some((refusal.number, refusal.line, refusal.word))),
-        Err(Refused::Memory) => Ok(Some((0, 0, 0))),
+        Err(Refused::Refusal(refusal)) => Ok(Some(refusal)),
+        Err(Refused::Memory) => Err(Fail::from("no memory")),
     }
 }
 
@@ -106,7 +106,7 @@ fn refusal_of_two(
     alloc: Global,
     first: Sample,
     second: Sample,
-) -> Result<Option<(u8, u32, u8)>, Fail> {
+) -> Result<Option<Refusal>, Fail> {
     refusal(alloc, &[(None, first), (None, second), (None, Sample::End)])
 }
 
@@ -114,9 +114,9 @@ fn refusal_of_two(
 fn labels(rt: HostRuntime) -> Result<(), Fail> {
     for (target, second, expected) in [
         (10, 20, None),
-        (10, 0, Some((10, 3, 0))),
-        (10, 10, Some((10, 3, 0))),
-        (30, 20, Some((10, 1, 0))),
+        (10, 0, Some(Cause::Label.at(3))),
+        (10, 10, Some(Cause::Label.at(3))),
+        (30, 20, Some(Cause::Label.at(1))),
     ] {
         let text = [
             (None, Sample::Go(target)),
@@ -138,7 +138,7 @@ fn crossed_loops(rt: HostRuntime) -> Result<(), Fail> {
         (Some(20), Sample::Continue),
         (None, Sample::End),
     ];
-    assert_eq!(rt; refusal(rt.alloc(), &text)?, Some((11, 3, 0)));
+    assert_eq!(rt; refusal(rt.alloc(), &text)?, Some(Cause::Nesting.at(3)));
     Ok(())
 }
 
@@ -150,10 +150,10 @@ fn end_is_missing_or_early(rt: HostRuntime) -> Result<(), Fail> {
         (None, Sample::End),
     ];
     for (count, expected) in [
-        (0, Some((12, 0, 0))),
-        (1, Some((12, 1, 0))),
+        (0, Some(Cause::NoEnd.at(0))),
+        (1, Some(Cause::NoEnd.at(1))),
         (2, None),
-        (3, Some((12, 2, 0))),
+        (3, Some(Cause::NoEnd.at(2))),
     ] {
         assert_eq!(rt; refusal(rt.alloc(), &text[..count])?, expected);
     }
@@ -163,16 +163,16 @@ fn end_is_missing_or_early(rt: HostRuntime) -> Result<(), Fail> {
 #[test]
 fn two_statements(rt: HostRuntime) -> Result<(), Fail> {
     for (first, second, expected) in [
-        (Sample::Integer(b'I'), Sample::Integer(b'I'), (13, 2, 0)),
-        (Sample::Set(b'X'), Sample::Continue, (14, 1, 0)),
-        (Sample::SetCall, Sample::Continue, (15, 1, 0)),
-        (Sample::SetCall, Sample::Set(b'X'), (14, 2, 0)),
-        (Sample::Array(b'A', 2, 1), Sample::Continue, (18, 1, 43)),
-        (Sample::Constant(2147483648), Sample::Continue, (18, 1, 45)),
+        (Sample::Integer(b'I'), Sample::Integer(b'I'), Cause::Declared.at(2)),
+        (Sample::Set(b'X'), Sample::Continue, Cause::RealName.at(1)),
+        (Sample::SetCall, Sample::Continue, Cause::TypeClash.at(1)),
+        (Sample::SetCall, Sample::Set(b'X'), Cause::RealName.at(2)),
+        (Sample::Array(b'A', 2, 1), Sample::Continue, Cause::ReversedBounds.at(1)),
+        (Sample::Constant(2147483648), Sample::Continue, Cause::BadConstant.at(1)),
         (
             Sample::Array(b'A', 1, 5000000),
             Sample::Array(b'B', 2, 1),
-            (18, 1, 44),
+            Cause::ManyElements.at(1),
         ),
     ] {
         assert_eq!(rt; refusal_of_two(rt.alloc(), first, second)?, Some(expected));
@@ -189,14 +189,14 @@ fn jumps(rt: HostRuntime) -> Result<(), Fail> {
         (Some(20), Sample::Continue),
         (None, Sample::End),
     ];
-    assert_eq!(rt; refusal(rt.alloc(), &into_loop)?, Some((16, 1, 0)));
+    assert_eq!(rt; refusal(rt.alloc(), &into_loop)?, Some(Cause::Jump.at(1)));
     for target in [10, 20] {
         let backwards = [
             (Some(10), Sample::Continue),
             (Some(20), Sample::Go(target)),
             (None, Sample::End),
         ];
-        assert_eq!(rt; refusal(rt.alloc(), &backwards)?, Some((16, 2, 0)));
+        assert_eq!(rt; refusal(rt.alloc(), &backwards)?, Some(Cause::Jump.at(2)));
     }
     Ok(())
 }
@@ -209,7 +209,7 @@ fn do_variable_is_set(rt: HostRuntime) -> Result<(), Fail> {
         (Some(10), Sample::Continue),
         (None, Sample::End),
     ];
-    assert_eq!(rt; refusal(rt.alloc(), &text)?, Some((17, 2, 0)));
+    assert_eq!(rt; refusal(rt.alloc(), &text)?, Some(Cause::DoVariable.at(2)));
     Ok(())
 }
 
@@ -223,6 +223,6 @@ fn a_hundred_and_one_blocks(rt: HostRuntime) -> Result<(), Fail> {
         text.push((None, Sample::EndIf))?;
     }
     text.push((None, Sample::End))?;
-    assert_eq!(rt; refusal(rt.alloc(), &text)?, Some((18, 101, 42)));
+    assert_eq!(rt; refusal(rt.alloc(), &text)?, Some(Cause::ManyBlocks.at(101)));
     Ok(())
 }

@@ -8,7 +8,7 @@ use Rattle.fv_tree.specs.declared.ops.Value.{Value}
 use Rattle.fv_tree.specs.declared.ops.Value.TheVariants.{Int, Truth}
 use Rattle.fv_tree.specs.declared.functions.Fun.{Fun}
 use Rattle.fv_tree.specs.Plain as tree
-use Rattle.fv_tree.specs.Plain.{Expression, Number, Logic, Named, Unary, Binary, Subscript, Only, Subscripts, no_subscripts, subscript, Item, Single, Constant, ImpliedDo, Items, no_items, item}
+use Rattle.fv_tree.specs.Plain.{Expression, Number, Logic, Named, Unary, Binary, Subscript, Only, Section, Subscripts, no_subscripts, subscript, Item, Single, Constant, ImpliedDo, Items, no_items, item}
 use Rattle.fv_meaning.specs.Store.{Store}
 use Rattle.fv_tree.specs.Functions.{function_named, name_of_function}
 use Rattle.fv_tree.specs.OperatorTable.{operand_kind, result_kind_of, is_unary}
@@ -53,7 +53,10 @@ module _ (us : List Use) (s : Store) (P : List ℕ → Type 0) where
   arguments_called (subscript (Only e) ps) h =
       both (calls_in e) (calls_in_each (arguments_of ps)) (all_left P (calls_in e) (calls_in_subscripts ps) h)
       (arguments_called ps (all_right P (calls_in e) (calls_in_subscripts ps) h))
-  arguments_called (subscript p ps) h = arguments_called ps (all_right P (calls_in_subscript p) (calls_in_subscripts ps) h)
+  arguments_called (subscript (Section a b c) ps) h =
+      let k = all_left P (calls_in a ++ calls_in b ++ calls_in c) (calls_in_subscripts ps) h in
+      both (calls_in a) (calls_in_each (arguments_of ps)) (all_left P (calls_in a) (calls_in b) (all_left P (calls_in a ++ calls_in b) (calls_in c) k))
+      (arguments_called ps (all_right P (calls_in a ++ calls_in b ++ calls_in c) (calls_in_subscripts ps) h))
 
   function_called : (x : List ℕ) (f : Option Fun) (ps : Subscripts) → ((g : Fun) → f ≡ Some g → P (name_of_function g)) → All (calls_in_subscripts ps) → All (calls_in (call_of f x ps))
   function_called x None ps h k = k

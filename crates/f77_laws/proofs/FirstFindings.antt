@@ -13,7 +13,8 @@ use Rattle.fv_tree.specs.declared.refusals.Cause.TheVariants.{Label, Nesting, No
 use Rattle.f77_grammar.specs.program.Program77.{program_causes, findings_of, findings}
 use Rattle.f77_grammar.specs.Answered.{comes_before}
 use Rattle.f77_laws.specs.Source.{AreRising}
-use Rattle.f77_laws.specs.FirstFinding.{holds_in, HoldsFirst, RefusalIsFirst, FirstIsRefused}
+use Rattle.f77_grammar.specs.program.Program77.{holds_in}
+use Rattle.f77_laws.specs.FirstFinding.{HoldsFirst, RefusalIsFirst, FirstIsRefused}
 use Rattle.f77_laws.proofs.Lists.{here, there, nowhere, cases_of, not_both, all_at, in_flat, FromFlat, from_flat}
 use Rattle.f77_laws.proofs.Variables.{kept_by, Passed, passed_by}
 

@@ -9,7 +9,7 @@ use Rattle.fv_tree.specs.declared.ops.Kind.TheVariants.{Integer, Logical}
 use Rattle.fv_tree.specs.declared.ops.Value.{Value}
 use Rattle.fv_tree.specs.declared.ops.Value.TheVariants.{Int, Truth}
 use Rattle.fv_tree.specs.declared.functions.Fun.{Fun}
-use Rattle.fv_tree.specs.Plain.{Expression, Number, Logic, Named, Unary, Binary, Apply, Expressions, no_expressions, expression, Subscript, Only, Subscripts, no_subscripts, subscript, Declaration}
+use Rattle.fv_tree.specs.Plain.{Expression, Number, Logic, Named, Unary, Binary, Apply, Expressions, no_expressions, expression, Subscript, Only, Section, Subscripts, no_subscripts, subscript, Declaration}
 use Rattle.fv_meaning.specs.Store.{Store}
 use Rattle.fv_meaning.specs.Value.{is_in_range}
 use Rattle.fv_meaning.specs.Depths.{level, enclosed, left_least, right_least, depth_of, depth_of_each, depth_of_subscripts, depth_of_subscript}
@@ -131,7 +131,7 @@ as_many_arguments ds (subscript p ps) h = absurd h.0
 arguments_depth : (ps : Subscripts) → 1 + depth_of_each (arguments_of ps) ≤ max 1 (depth_of_subscripts ps)
 arguments_depth no_subscripts = omega arith
 arguments_depth (subscript (Only e) ps) = let h = arguments_depth ps in omega (arith, h)
-arguments_depth (subscript p ps) = let h = arguments_depth ps in omega (arith, h)
+arguments_depth (subscript (Section a b c) ps) = let h = arguments_depth ps in omega (arith, h)
 
 -- ---- kinds
 

@@ -1,21 +1,14 @@
 -- Which line a refusal has, where each statement stands on a later line than those before it.
-use Rattle.std.specs.Prelude.{◌≡◌, ℕ, Bool, false, Some, List, ◌∷◌}
+use Rattle.std.specs.Prelude.{◌≡◌, ℕ, false, Some, List, ◌∷◌}
 use Rattle.fv_tree.specs.declared.refusals.Refusal.{Refusal}
 use Rattle.fv_meaning.specs.Dialect.{Dialect}
 use Rattle.f77_grammar.specs.Answered.{comes_before}
 use Rattle.f77_grammar.specs.Statement77.{Labelled}
-use Rattle.f77_grammar.specs.program.Text.{Place}
-use Rattle.f77_grammar.specs.program.Uses.{uses_in_text}
-use Rattle.f77_grammar.specs.program.Limits.{constants_of}
 use Rattle.fv_tree.specs.Causes.{refusal_at}
 use Rattle.fv_tree.specs.declared.refusals.Cause.{Cause}
-use Rattle.f77_grammar.specs.program.Program77.{holds_at, RefusedStatements}
+use Rattle.f77_grammar.specs.program.Program77.{holds_in, RefusedStatements}
 use Rattle.f77_syntax.specs.First.{first_line}
 use Rattle.f77_laws.specs.Source.{AreRising}
-
--- the cause holds at a place of the text
-abbrev pub holds_in : Dialect → List Labelled → Cause → Place → Bool
-holds_in d text c p = holds_at d c text (uses_in_text text) (constants_of d text) p
 
 -- the cause holds at a statement of the line first
 abbrev pub HoldsFirst : Dialect → List Labelled → Cause → ℕ → Type 0

@@ -12,18 +12,22 @@ use Rattle.fv_tree.specs.declared.refusals.Refused.TheVariants as refused
 use Rattle.f77_grammar.specs.Cards.{PlainCard}
 use Rattle.f77_grammar.specs.Statement77.{Statement77, Labelled}
 use Rattle.f77_grammar.specs.statements.Reading.{IsRefusedBy}
-use Rattle.f77_grammar.specs.program.Program77.{comes_before, IsFirst, findings, RefusedStatements}
+use Rattle.fv_meaning.specs.Dialect.{Dialect, fortran77}
+use Rattle.f77_grammar.specs.Answered.{comes_before}
+use Rattle.f77_grammar.specs.program.Program77.{findings, RefusedStatements}
 use Rattle.f77_grammar.specs.program.Tree.{tree_of}
-use Rattle.f77_grammar.proofs.programs.Least.{one_first}
+use Rattle.f77_grammar.proofs.Answered.{one_answer}
+use Rattle.f77_grammar.proofs.programs.Least.{nothing_in}
+use Rattle.f77_checks.specs.Outcomes.{IfRefusal}
 use Rattle.f77_laws.specs.Source.{AreRising}
 use Rattle.f77_laws.specs.SourceCards.{AreRisingCards}
 use Rattle.f77_grammar.specs.Reading77.{IsReadFrom, AreReadFrom}
-use Rattle.f77_grammar.specs.Reading77.{ReadsProgram, HasCause, IsAnswered, RefusedProgram}
+use Rattle.f77_grammar.specs.Reading77.{ReadsProgram, HasCause, RefusedProgram}
 use Rattle.f77_grammar.specs.Reading77.HasCause.{AtCard, InText}
-use Rattle.f77_read.specs.Cards.{IfRefusal, IsReadAlone, AreReadAlone, IsNotBefore, IsRefusedFirst}
+use Rattle.f77_read.specs.Cards.{IsReadAlone, AreReadAlone, IsNotBefore, IsRefusedFirst}
 use Rattle.f77_read.specs.Outcomes.{IsRefusedText, IsTextBuilt, IsRefusalOf, AreCardsBuilt}
 use Rattle.f77_read.specs.Outcomes.IsRefusalOf.{OfCard, OfText}
-use Rattle.f77_read.proofs.CardLaws.{IsUnrefused, unrefused, not_before_itself}
+use Rattle.f77_read.proofs.CardLaws.{IsUnrefused, unrefused}
 use Rattle.f77_read.proofs.TextLaws.{number_of_finding}
 
 -- ---- the statements of cards
@@ -71,36 +75,25 @@ no_refusal_at cards text card n w a c h = All-contains IsUnrefused cards card (A
 refusal_of : ℕ → ℕ → ℕ → Refusal
 refusal_of n l w = record { number = n; line = l; word = w }
 
-pub answered_card : (cards : List PlainCard) (r : Refusal) → IsRefusedFirst cards r → RefusedProgram cards r
-answered_card cards r f = record {
-  holds = subst (λ l. HasCause cards (record { number = r.number; line = l; word = r.word })) (sym f.line) (AtCard f.card r.number r.word f.is_card f.refused);
+pub answered_card : (d : Dialect) (cards : List PlainCard) (r : Refusal) → IsRefusedFirst cards r → RefusedProgram d cards r
+answered_card d cards r f = record {
+  holds = subst (λ l. HasCause d cards (record { number = r.number; line = l; word = r.word })) (sym f.line) (AtCard f.card r.number r.word f.is_card f.refused);
   first = follows;
 }
   where
-    follows : (other : Refusal) → HasCause cards other → comes_before other r ≡ false
+    follows : (other : Refusal) → HasCause d cards other → comes_before other r ≡ false
     follows other (AtCard card n w c h) = All-contains (IsNotBefore r) cards card (All-from_recursion (IsNotBefore r) cards f.first) c n w h
     follows other (InText text o a c) = absurd (f.unread text a)
 
-pub answered_text : (cards : List PlainCard) (text : List Labelled) (r : Refusal) → AreReadAlone cards text → RefusedStatements text r → RefusedProgram cards r
-answered_text cards text r a f = record {
-  holds = InText text r (are_read cards text a) f.found_it;
+pub answered_text : (d : Dialect) (cards : List PlainCard) (text : List Labelled) (r : Refusal) → AreReadAlone cards text → RefusedStatements d text r → RefusedProgram d cards r
+answered_text d cards text r a f = record {
+  holds = InText text r (are_read cards text a) f.holds;
   first = follows;
 }
   where
-    follows : (other : Refusal) → HasCause cards other → comes_before other r ≡ false
+    follows : (other : Refusal) → HasCause d cards other → comes_before other r ≡ false
     follows other (AtCard card n w c h) = absurd (no_refusal_at cards text card n w a c h)
-    follows other (InText t o b c) =
-        let P : Refusal → Type 0 = λ (o : Refusal). comes_before o r ≡ false in
-        All-contains P (findings text) o (All-from_recursion P (findings text) f.first) (subst (λ ys. Contains (findings ys) o) (one_text cards text t a b) c)
-
-first_of_two : (r s : Refusal) → comes_before s r ≡ false → IsFirst (r ∷ s ∷ []) r
-first_of_two r s h = record { found_it = Contains-get_or (r ∷ s ∷ []) 0 r (omega arith); first = (not_before_itself r, (h, tt)) }
-
-second_of_two : (r s : Refusal) → comes_before r s ≡ false → IsFirst (r ∷ s ∷ []) s
-second_of_two r s h = record { found_it = Contains-get_or (r ∷ s ∷ []) 1 s (omega arith); first = (h, (not_before_itself s, tt)) }
-
-pub one_answer : (Holds : Refusal → Type 0) (r s : Refusal) → IsAnswered Holds r → IsAnswered Holds s → r ≡ s
-one_answer Holds r s f g = one_first (r ∷ s ∷ []) r s (first_of_two r s (f.first s g.holds)) (second_of_two r s (g.first r f.holds))
+    follows other (InText t o b c) = f.first o (subst (λ ys. Contains (findings d ys) o) (one_text cards text t a b) c)
 
 -- ---- the text of cards that are read
 
@@ -118,47 +111,44 @@ card_refused cards refused.Memory h = tt
 
 -- ---- the clauses
 
-pub program_if_ok : (cards : List PlainCard) (o : Result Program77 Refused) → AreCardsBuilt cards o → IfOk o (λ p. ReadsProgram cards (program_of p))
+pub program_if_ok : (cards : List PlainCard) (o : Result Program77 Refused) → AreCardsBuilt cards o → IfOk o (λ p. ReadsProgram fortran77 cards (program_of p))
 program_if_ok cards (Ok p) h = record { text = h.text; statements = are_read cards h.text h.statements; reads = h.reads }
 program_if_ok cards (Err e) h = tt
 
-answered_by : (cards : List PlainCard) (r : Refusal) → IsRefusalOf cards r → (10 ≤ r.number → AreRisingCards cards) → RefusedProgram cards r
-answered_by cards r (OfCard f) rising = answered_card cards r f
-answered_by cards r (OfText text a f) rising = answered_text cards text r a (f.first (rising_text cards text (are_read cards text a) (rising f.number)))
+answered_by : (cards : List PlainCard) (r : Refusal) → IsRefusalOf cards r → (10 ≤ r.number → AreRisingCards cards) → RefusedProgram fortran77 cards r
+answered_by cards r (OfCard f) rising = answered_card fortran77 cards r f
+answered_by cards r (OfText text a f) rising = answered_text fortran77 cards text r a (f.first (rising_text cards text (are_read cards text a) (rising f.number)))
 
 pub answered_if_refused : (cards : List PlainCard) (o : Result Program77 Refused) (r : Refusal) → AreCardsBuilt cards o → o ≡ Err (refused.Refusal r)
-    → (10 ≤ r.number → AreRisingCards cards) → RefusedProgram cards r
+    → (10 ≤ r.number → AreRisingCards cards) → RefusedProgram fortran77 cards r
 answered_if_refused cards o r h e rising = answered_by cards r (subst (AreCardsBuilt cards) e h) rising
 
-not_refused : (cards : List PlainCard) (r : Refusal) (p : Program) → IsRefusalOf cards r → ReadsProgram cards p → ⊥
+not_refused : (cards : List PlainCard) (r : Refusal) (p : Program) → IsRefusalOf cards r → ReadsProgram fortran77 cards p → ⊥
 not_refused cards r p (OfCard f) g = f.unread g.text g.statements
-not_refused cards r p (OfText text a f) g = f.unsound (subst (λ ys. findings ys ≡ []) (one_text cards text g.text a g.statements) g.reads.sound)
+not_refused cards r p (OfText text a f) g = f.unsound (subst (λ ys. findings fortran77 ys ≡ []) (one_text cards text g.text a g.statements) g.reads.sound)
 
-pub only_that_program : (cards : List PlainCard) (o : Result Program77 Refused) → AreCardsBuilt cards o → (p : Program) → ReadsProgram cards p
+pub only_that_program : (cards : List PlainCard) (o : Result Program77 Refused) → AreCardsBuilt cards o → (p : Program) → ReadsProgram fortran77 cards p
     → IsOkAnd o (λ built. program_of built ≡ p) ⊎ (o ≡ Err refused.Memory)
-only_that_program cards (Ok q) h p g = inl (h.reads.formed ∙ ap tree_of (sym (one_text cards h.text g.text h.statements g.statements)) ∙ sym g.reads.formed)
+only_that_program cards (Ok q) h p g = inl (h.reads.formed ∙ ap (tree_of fortran77) (sym (one_text cards h.text g.text h.statements g.statements)) ∙ sym g.reads.formed)
 only_that_program cards (Err (refused.Refusal r)) h p g = absurd (not_refused cards r p h g)
 only_that_program cards (Err refused.Memory) h p g = inr refl
 
-nothing_in : (r : Refusal) → Contains [] r → ⊥
-nothing_in r h = let lt : h.0 < 0 = h.1 in omega arith
-
-no_cause : (cards : List PlainCard) (text : List Labelled) (r : Refusal) → AreReadAlone cards text → findings text ≡ [] → HasCause cards r → ⊥
+no_cause : (cards : List PlainCard) (text : List Labelled) (r : Refusal) → AreReadAlone cards text → findings fortran77 text ≡ [] → HasCause fortran77 cards r → ⊥
 no_cause cards text r a e (AtCard card n w c h) = no_refusal_at cards text card n w a c h
-no_cause cards text r a e (InText t o b c) = nothing_in o (subst (λ xs. Contains xs o) e (subst (λ ys. Contains (findings ys) o) (one_text cards text t a b) c))
+no_cause cards text r a e (InText t o b c) = nothing_in o (subst (λ xs. Contains xs o) e (subst (λ ys. Contains (findings fortran77 ys) o) (one_text cards text t a b) c))
 
 -- what is answered of cards that are statements is a finding
-number_of_cause : (cards : List PlainCard) (text : List Labelled) (r : Refusal) → AreReadAlone cards text → HasCause cards r → 10 ≤ r.number
+number_of_cause : (cards : List PlainCard) (text : List Labelled) (r : Refusal) → AreReadAlone cards text → HasCause fortran77 cards r → 10 ≤ r.number
 number_of_cause cards text r a (AtCard card n w c h) = absurd (no_refusal_at cards text card n w a c h)
 number_of_cause cards text r a (InText t o b c) =
-    All-contains (λ (other : Refusal). 10 ≤ other.number) (findings t) o (All-from_recursion (λ (other : Refusal). 10 ≤ other.number) (findings t) (number_of_finding t)) c
+    All-contains (λ (other : Refusal). 10 ≤ other.number) (findings fortran77 t) o (All-from_recursion (λ (other : Refusal). 10 ≤ other.number) (findings fortran77 t) (number_of_finding t)) c
 
-same_answer : (cards : List PlainCard) (s r : Refusal) → IsRefusalOf cards s → RefusedProgram cards r → (10 ≤ r.number → AreRisingCards cards) → s ≡ r
-same_answer cards s r (OfCard f) g rising = one_answer (HasCause cards) s r (answered_card cards s f) g
+same_answer : (cards : List PlainCard) (s r : Refusal) → IsRefusalOf cards s → RefusedProgram fortran77 cards r → (10 ≤ r.number → AreRisingCards cards) → s ≡ r
+same_answer cards s r (OfCard f) g rising = one_answer (HasCause fortran77 cards) s r (answered_card fortran77 cards s f) g
 same_answer cards s r (OfText text a f) g rising =
-    one_answer (HasCause cards) s r (answered_by cards s (OfText text a f) (λ n. rising (number_of_cause cards text r a g.holds))) g
+    one_answer (HasCause fortran77 cards) s r (answered_by cards s (OfText text a f) (λ n. rising (number_of_cause cards text r a g.holds))) g
 
-pub only_that_refusal : (cards : List PlainCard) (o : Result Program77 Refused) → AreCardsBuilt cards o → (r : Refusal) → RefusedProgram cards r
+pub only_that_refusal : (cards : List PlainCard) (o : Result Program77 Refused) → AreCardsBuilt cards o → (r : Refusal) → RefusedProgram fortran77 cards r
     → (10 ≤ r.number → AreRisingCards cards) → (o ≡ Err (refused.Refusal r)) ⊎ (o ≡ Err refused.Memory)
 only_that_refusal cards (Ok p) h r g rising = absurd (no_cause cards h.text r h.statements h.reads.sound g.holds)
 only_that_refusal cards (Err (refused.Refusal s)) h r g rising = inl (ap (λ x. Err (refused.Refusal x)) (same_answer cards s r h g rising))

@@ -12,33 +12,17 @@ use Rattle.fv_tree.specs.declared.refusals.Refused.TheVariants as refused
 use Rattle.f77_grammar.specs.Cards.{PlainCard}
 use Rattle.f77_grammar.specs.Statement77.{Labelled, Statement77}
 use Rattle.f77_grammar.specs.statements.Reading.{ReadsStatement, IsRefusedBy}
-use Rattle.f77_grammar.specs.program.Program77.{comes_before}
-use Rattle.f77_checks.proofs.Found.{every, all_append}
+use Rattle.f77_grammar.specs.Answered.{comes_before}
+use Rattle.f77_grammar.proofs.Answered.{not_before_itself, not_before_sooner}
+use Rattle.f77_checks.specs.Outcomes.{IfRefusal}
+use Rattle.f77_laws.proofs.Lists.{all_weaker, all_both}
 use Rattle.f77_grammar.specs.Reading77.{AreReadFrom}
 use Rattle.fixed_form.specs.Card.{card_of}
 use Rattle.fixed_form.specs.declared.cards.Card.{Card}
 use Rattle.f77_syntax.specs.declared.statements.Labelled.{Labelled as Labelled'}
 use Rattle.f77_syntax.specs.declared.statements.Stmt77.{Stmt77}
 use Rattle.f77_syntax.specs.Views.{statement_of, labelled_of, text_of}
-use Rattle.f77_read.specs.Cards.{refusal_at, IfRefusal, IsReadAlone, IsRefusedAlone, AreReadAlone, IsNotBefore, IsRefusedFirst, AreTried, first_of}
-
--- ---- the order of refusals
-
-abbrev before : ℕ → ℕ → ℕ → ℕ → ℕ → ℕ → Bool
-before n l w m k v = nat_lt n m || (n == m && (nat_lt l k || (l == k && nat_lt w v)))
-
-numbers_alike : (n l w : ℕ) → before n l w n l w ≡ false
-numbers_alike n l w = grind (arith, nat_tests)
-
-pub not_before_itself : (r : Refusal) → comes_before r r ≡ false
-not_before_itself r = numbers_alike r.number r.line r.word
-
-numbers_before : (n l w n' l' w' m k v : ℕ) → before n l w n' l' w' ≡ false → before m k v n' l' w' ≡ true → before n l w m k v ≡ false
-numbers_before n l w n' l' w' m k v h g = grind (arith, nat_tests)
-
--- what isn't before r isn't before what is
-not_before_sooner : (o r s : Refusal) → comes_before o r ≡ false → comes_before s r ≡ true → comes_before o s ≡ false
-not_before_sooner o r s h g = numbers_before o.number o.line o.word r.number r.line r.word s.number s.line s.word h g
+use Rattle.f77_read.specs.Cards.{card_refusal, IsReadAlone, IsRefusedAlone, AreReadAlone, IsNotBefore, IsRefusedFirst, AreTried, first_of}
 
 -- ---- the answer to one card
 
@@ -49,7 +33,7 @@ abbrev pub ReadsOnly : PlainCard → Result Stmt77 Refused → Type 0
 ReadsOnly card o = (s : Statement77) → ReadsStatement card.chars s → IsOkAnd o (λ read. statement_of read ≡ s) ⊎ (o ≡ Err refused.Memory)
 
 abbrev pub RefusesOnly : PlainCard → Result Stmt77 Refused → Type 0
-RefusesOnly card o = (number word : ℕ) → IsRefusedBy card.chars number word → (o ≡ Err (refused.Refusal (refusal_at card number word))) ⊎ (o ≡ Err refused.Memory)
+RefusesOnly card o = (number word : ℕ) → IsRefusedBy card.chars number word → (o ≡ Err (refused.Refusal (card_refusal card number word))) ⊎ (o ≡ Err refused.Memory)
 
 abbrev answer : Refused → Result Stmt77 Refused
 answer e = Err e
@@ -63,7 +47,7 @@ card_refused card refused.Memory h f g = tt
 card_refused card (refused.Refusal r) h f g = record {
   line = (h r refl).0;
   refused = (h r refl).1;
-  only = (λ number word i. same_refusal r (refusal_at card number word) (g number word i));
+  only = (λ number word i. same_refusal r (card_refusal card number word) (g number word i));
   unread = (λ s i. other r (f s i));
 }
   where
@@ -76,7 +60,7 @@ pub card_read : (card : PlainCard) (s : Stmt77) → ReadsStatement card.chars (s
 card_read card s h f g = record {
   is_read = (record { label = refl; line = refl; reads = h });
   only = (λ t i. same t (f t i));
-  unrefused = (λ number word i. none (refusal_at card number word) (g number word i));
+  unrefused = (λ number word i. none (card_refusal card number word) (g number word i));
 }
   where
     same : (t : Statement77) → (statement_of s ≡ t) ⊎ (Ok s ≡ Err refused.Memory) → t ≡ statement_of s
@@ -127,29 +111,29 @@ refused_last cards card r f a = record {
   line = f.line;
   refused = f.refused;
   unread = (λ text h. let l = last_is_read cards card text h in f.unread l.0 l.1);
-  first = all_append (IsNotBefore r) cards (card ∷ []) a (itself_alone card r f, tt);
+  first = all_both (IsNotBefore r) cards (card ∷ []) a (itself_alone card r f, tt);
 }
 
-kept : (cards : List PlainCard) (card : PlainCard) (r : Refusal) → IsRefusedFirst cards r → IsNotBefore r card → IsRefusedFirst (cards ++ card ∷ []) r
+pub kept : (cards : List PlainCard) (card : PlainCard) (r : Refusal) → IsRefusedFirst cards r → IsNotBefore r card → IsRefusedFirst (cards ++ card ∷ []) r
 kept cards card r f h = record {
   card = f.card;
   is_card = Contains-append_left cards (card ∷ []) f.card f.is_card;
   line = f.line;
   refused = f.refused;
   unread = (λ text a. let t = front_is_read cards card text a in f.unread t.0 t.1);
-  first = all_append (IsNotBefore r) cards (card ∷ []) f.first (h, tt);
+  first = all_both (IsNotBefore r) cards (card ∷ []) f.first (h, tt);
 }
 
 -- of cards that were read
-first_refused : (cards : List PlainCard) (text : List Labelled) (card : PlainCard) (r : Refusal) → AreReadAlone cards text → IsRefusedAlone card r
+pub first_refused : (cards : List PlainCard) (text : List Labelled) (card : PlainCard) (r : Refusal) → AreReadAlone cards text → IsRefusedAlone card r
     → IsRefusedFirst (cards ++ card ∷ []) r
-first_refused cards text card r a f = refused_last cards card r f (every IsUnrefused (IsNotBefore r) (λ c u n w h. absurd (u n w h)) cards (unrefused cards text a))
+first_refused cards text card r a f = refused_last cards card r f (all_weaker IsUnrefused (IsNotBefore r) (λ c u n w h. absurd (u n w h)) cards (unrefused cards text a))
 
 -- of cards of which one is refused
-another_refused : (cards : List PlainCard) (card : PlainCard) (r s : Refusal) (t : Bool) → comes_before s r ≡ t → IsRefusedFirst cards r → IsRefusedAlone card s
+pub another_refused : (cards : List PlainCard) (card : PlainCard) (r s : Refusal) (t : Bool) → comes_before s r ≡ t → IsRefusedFirst cards r → IsRefusedAlone card s
     → IsRefusedFirst (cards ++ card ∷ []) (cond t s r)
 another_refused cards card r s true e f g =
-    refused_last cards card s g (every (IsNotBefore r) (IsNotBefore s) (λ c h n w i. not_before_sooner (refusal_at c n w) r s (h n w i) e) cards f.first)
+    refused_last cards card s g (all_weaker (IsNotBefore r) (IsNotBefore s) (λ c h n w i. not_before_sooner (card_refusal c n w) r s (h n w i) e) cards f.first)
 another_refused cards card r s false e f g =
     kept cards card r f (λ n w h. subst (λ (o : Refusal). comes_before o r ≡ false) (sym (g.only n w h)) e)
 

@@ -1,5 +1,5 @@
 -- What the answer to a source says, clause by clause.
-use Rattle.std.proofs.Common.{◌≡◌, ◌⊎◌, inl, inr, ℕ, ◌≤◌, Result, Ok, Err, IfOk, List, map, ap, subst}
+use Rattle.std.proofs.Common.{◌≡◌, ◌⊎◌, inl, inr, ℕ, ◌≤◌, Result, Ok, Err, IfOk, List, map, ap, subst, arith}
 use Rattle.std.specs.Prelude.{IsOkAnd}
 use Rattle.fv_tree.specs.Plain.{Program}
 use Rattle.fv_tree.specs.View.{program_of}
@@ -19,22 +19,23 @@ use Rattle.f77_laws.proofs.Cards.{read_source_has_cards}
 use Rattle.f77_laws.proofs.CardStatements.{read_cards_are_source}
 use Rattle.f77_grammar.specs.Reading77.{HasCause, ReadsProgram, RefusedProgram, Reads77, Refused77}
 use Rattle.f77_grammar.specs.Reading77.Refused77.{OfLines, OfCards}
-use Rattle.f77_read.proofs.Answers.{one_answer}
+use Rattle.f77_grammar.proofs.Answered.{one_answer}
+use Rattle.fv_meaning.specs.Dialect.{Dialect, fortran77}
 
-pub read_is_source_program : (source : List ℕ) (cards : List PlainCard) (p : Program) → ReadsCards source cards → ReadsProgram cards p → IsProgram77 p
-read_is_source_program source cards p c h =
+pub read_is_source_program : (d : Dialect) (source : List ℕ) (cards : List PlainCard) (p : Program) → d.bits ≤ 126 → ReadsCards source cards → ReadsProgram d cards p → IsProgram77 d p
+read_is_source_program d source cards p small c h =
     let s = read_cards_are_source source cards h.text c h.statements in
-    read_is_program h.text p h.reads s.statements s.few
+    read_is_program d h.text p small h.reads s.statements s.few
 
-pub program_of_source : (source : List ℕ) (cards : List PlainCard) (o : Result Program77 Refused) → ReadsCards source cards → IfOk o (λ p. ReadsProgram cards (program_of p))
-    → IfOk o (λ p. IsProgram77 (program_of p))
-program_of_source source cards (Ok p) c h = read_is_source_program source cards (program_of p) c h
+pub program_of_source : (source : List ℕ) (cards : List PlainCard) (o : Result Program77 Refused) → ReadsCards source cards → IfOk o (λ p. ReadsProgram fortran77 cards (program_of p))
+    → IfOk o (λ p. IsProgram77 fortran77 (program_of p))
+program_of_source source cards (Ok p) c h = read_is_source_program fortran77 source cards (program_of p) (omega arith) c h
 program_of_source source cards (Err e) c h = tt
 
 -- ---- the cards of the source are built
 
-pub source_read : (source : List ℕ) (cards : List PlainCard) (o : Result Program77 Refused) → ReadsCards source cards → IfOk o (λ p. ReadsProgram cards (program_of p))
-    → IfOk o (λ p. Reads77 source (program_of p))
+pub source_read : (source : List ℕ) (cards : List PlainCard) (o : Result Program77 Refused) → ReadsCards source cards → IfOk o (λ p. ReadsProgram fortran77 cards (program_of p))
+    → IfOk o (λ p. Reads77 fortran77 source (program_of p))
 source_read source cards (Ok p) c h = record { cards = cards; are_cards = c; program = h }
 source_read source cards (Err e) c h = tt
 
@@ -42,30 +43,30 @@ rising : (source : List ℕ) (cards : List PlainCard) → ReadsCards source card
 rising source cards c = (read_source_has_cards source cards c).rising
 
 abbrev pub RefusesCards : List PlainCard → Result Program77 Refused → Type 0
-RefusesCards cards o = (r : Refusal) → o ≡ Err (refused.Refusal r) → (10 ≤ r.number → AreRisingCards cards) → RefusedProgram cards r
+RefusesCards cards o = (r : Refusal) → o ≡ Err (refused.Refusal r) → (10 ≤ r.number → AreRisingCards cards) → RefusedProgram fortran77 cards r
 
 pub source_refused : (source : List ℕ) (cards : List PlainCard) (o : Result Program77 Refused) → ReadsCards source cards → RefusesCards cards o
-    → (r : Refusal) → o ≡ Err (refused.Refusal r) → Refused77 source r
+    → (r : Refusal) → o ≡ Err (refused.Refusal r) → Refused77 fortran77 source r
 source_refused source cards o c h r e = OfCards cards c (h r e (λ n. rising source cards c))
 
 one_list : (source : List ℕ) (a b : List PlainCard) → ReadsCards source a → ReadsCards source b → a ≡ b
 one_list source a b f g = one_reading source a b f.are_cards g.are_cards
 
 abbrev pub ReadsOnly : List PlainCard → Result Program77 Refused → Type 0
-ReadsOnly cards o = (p : Program) → ReadsProgram cards p → IsOkAnd o (λ built. program_of built ≡ p) ⊎ (o ≡ Err refused.Memory)
+ReadsOnly cards o = (p : Program) → ReadsProgram fortran77 cards p → IsOkAnd o (λ built. program_of built ≡ p) ⊎ (o ≡ Err refused.Memory)
 
 pub only_that_source : (source : List ℕ) (cards : List PlainCard) (o : Result Program77 Refused) → ReadsCards source cards → ReadsOnly cards o
-    → (p : Program) → Reads77 source p → IsOkAnd o (λ built. program_of built ≡ p) ⊎ (o ≡ Err refused.Memory)
-only_that_source source cards o c h p g = h p (subst (λ cs. ReadsProgram cs p) (one_list source g.cards cards g.are_cards c) g.program)
+    → (p : Program) → Reads77 fortran77 source p → IsOkAnd o (λ built. program_of built ≡ p) ⊎ (o ≡ Err refused.Memory)
+only_that_source source cards o c h p g = h p (subst (λ cs. ReadsProgram fortran77 cs p) (one_list source g.cards cards g.are_cards c) g.program)
 
 abbrev pub RefusesOnly : List PlainCard → Result Program77 Refused → Type 0
-RefusesOnly cards o = (r : Refusal) → RefusedProgram cards r → (10 ≤ r.number → AreRisingCards cards) → (o ≡ Err (refused.Refusal r)) ⊎ (o ≡ Err refused.Memory)
+RefusesOnly cards o = (r : Refusal) → RefusedProgram fortran77 cards r → (10 ≤ r.number → AreRisingCards cards) → (o ≡ Err (refused.Refusal r)) ⊎ (o ≡ Err refused.Memory)
 
 pub only_that_source_refusal : (source : List ℕ) (cards : List PlainCard) (o : Result Program77 Refused) → ReadsCards source cards → RefusesOnly cards o
-    → (r : Refusal) → Refused77 source r → (o ≡ Err (refused.Refusal r)) ⊎ (o ≡ Err refused.Memory)
+    → (r : Refusal) → Refused77 fortran77 source r → (o ≡ Err (refused.Refusal r)) ⊎ (o ≡ Err refused.Memory)
 only_that_source_refusal source cards o c h r (OfLines f) = absurd (not_both source cards r c f)
 only_that_source_refusal source cards o c h r (OfCards cs d f) =
-    h r (subst (λ xs. RefusedProgram xs r) (one_list source cs cards d c) f) (λ n. rising source cards c)
+    h r (subst (λ xs. RefusedProgram fortran77 xs r) (one_list source cs cards d c) f) (λ n. rising source cards c)
 
 -- ---- the source has no cards
 
@@ -89,21 +90,21 @@ is_refusal : (e : Refused) (r : Refusal) → (cards_answer e ≡ Err (refused.Re
 is_refusal e r (inl h) = inl (let same : e ≡ refused.Refusal r = cc in ap answer same)
 is_refusal e r (inr h) = inr (is_memory e (inr h))
 
-pub no_other_program : (source : List ℕ) (e : Refused) → CardsReadOnly source (Err e) → (p : Program) → Reads77 source p
+pub no_other_program : (source : List ℕ) (e : Refused) → CardsReadOnly source (Err e) → (p : Program) → Reads77 fortran77 source p
     → IsOkAnd (answer e) (λ read. program_of read ≡ p) ⊎ (answer e ≡ Err refused.Memory)
 no_other_program source e h p g = inr (is_memory e (h g.cards g.are_cards))
 
 pub no_other_refusal : (source : List ℕ) (e : Refused) → CardsReadOnly source (Err e) → CardsRefusedOnly source (Err e)
-    → (r : Refusal) → Refused77 source r → (answer e ≡ Err (refused.Refusal r)) ⊎ (answer e ≡ Err refused.Memory)
+    → (r : Refusal) → Refused77 fortran77 source r → (answer e ≡ Err (refused.Refusal r)) ⊎ (answer e ≡ Err refused.Memory)
 no_other_refusal source e h f r (OfLines g) = is_refusal e r (f r g)
 no_other_refusal source e h f r (OfCards cs d g) = inr (is_memory e (h cs d))
 
 -- ---- one refusal
 
-pub one_source_refusal : (source : List ℕ) (r s : Refusal) → Refused77 source r → Refused77 source s → r ≡ s
-one_source_refusal source r s (OfLines f) (OfLines g) = one_refusal source r s f g
-one_source_refusal source r s (OfLines f) (OfCards cs d g) = absurd (not_both source cs r d f)
-one_source_refusal source r s (OfCards cs d f) (OfLines g) = absurd (not_both source cs s d g)
-one_source_refusal source r s (OfCards cs d f) (OfCards xs e g) = one_answer (HasCause xs) r s (subst (λ ys. RefusedProgram ys r) (one_list source cs xs d e) f) g
+pub one_source_refusal : (d : Dialect) (source : List ℕ) (r s : Refusal) → Refused77 d source r → Refused77 d source s → r ≡ s
+one_source_refusal d source r s (OfLines f) (OfLines g) = one_refusal source r s f g
+one_source_refusal d source r s (OfLines f) (OfCards cs e g) = absurd (not_both source cs r e f)
+one_source_refusal d source r s (OfCards cs e f) (OfLines g) = absurd (not_both source cs s e g)
+one_source_refusal d source r s (OfCards cs e f) (OfCards xs i g) = one_answer (HasCause d xs) r s (subst (λ ys. RefusedProgram d ys r) (one_list source cs xs e i) f) g
 
 pub ruleset source_laws = (program_of_source, source_read, source_refused, only_that_source, only_that_source_refusal)

@@ -8,13 +8,15 @@ use Rattle.fv_tree.specs.declared.refusals.Refused.TheVariants as refused
 use Rattle.f77_grammar.specs.Statement77.{Labelled}
 use Rattle.f77_grammar.specs.program.Text.{Place, places}
 use Rattle.f77_grammar.specs.program.Limits.{constants_of, has_bad_constant}
-use Rattle.f77_grammar.specs.program.Program77.{all_causes, findings}
+use Rattle.f77_grammar.specs.program.Program77.{program_causes, findings}
 use Rattle.f77_syntax.specs.First.{index_from, first_index}
-use Rattle.f77_checks.specs.First.{holds_in, IsFoundFirst}
+use Rattle.f77_grammar.specs.program.Program77.{holds_in}
+use Rattle.f77_checks.specs.First.{IsFoundFirst}
 use Rattle.f77_checks.proofs.Answers.{is_first, sound_is_not_refused}
 use Rattle.f77_checks.proofs.Found.{least_number}
 use Rattle.f77_laws.proofs.Sound.{sound}
-use Rattle.f77_read.specs.Cards.{IfRefusal}
+use Rattle.f77_checks.specs.Outcomes.{IfRefusal}
+use Rattle.fv_meaning.specs.Dialect.{fortran77}
 use Rattle.f77_read.specs.Outcomes.{IsRefusedText}
 
 -- ---- a text without findings has no bad constant
@@ -27,19 +29,19 @@ none_from : (test : Place → Bool) (i : ℕ) (ps : List Place) → AllByRecursi
 none_from test i [] a = refl
 none_from test i (p ∷ ps) a = none_step (test p) i (index_from test (suc i) ps) a.0 (none_from test (suc i) ps a.1)
 
-pub no_bad_constant : (text : List Labelled) → findings text ≡ [] → first_index (has_bad_constant (constants_of text)) text ≡ None
-no_bad_constant text h = none_from (has_bad_constant (constants_of text)) 0 (places text) (sound text h).1.1.1.1.1.1.1.1.1.1.1.1.0
+pub no_bad_constant : (text : List Labelled) → findings fortran77 text ≡ [] → first_index (has_bad_constant fortran77 (constants_of fortran77 text)) text ≡ None
+no_bad_constant text h = none_from (has_bad_constant fortran77 (constants_of fortran77 text)) 0 (places text) (sound fortran77 text h).1.1.1.1.1.1.1.1.1.1.1.1.0
 
 -- ---- numbers of findings
 
-pub number_of_finding : (text : List Labelled) → AllByRecursion (λ (other : Refusal). 10 ≤ other.number) (findings text)
+pub number_of_finding : (text : List Labelled) → AllByRecursion (λ (other : Refusal). 10 ≤ other.number) (findings fortran77 text)
 number_of_finding [] = (omega arith, tt)
-number_of_finding (x ∷ xs) = least_number (holds_in (x ∷ xs)) (places (x ∷ xs)) 10 [] all_causes tt refl
+number_of_finding (x ∷ xs) = least_number (holds_in fortran77 (x ∷ xs)) (places (x ∷ xs)) 10 [] program_causes tt refl
 
 number_of_first : (text : List Labelled) (r : Refusal) → IsFoundFirst text r → 10 ≤ r.number
 number_of_first [] r f = subst (λ (n : ℕ). 10 ≤ n) (sym (ap (λ (o : Refusal). o.number) f)) (omega arith)
 number_of_first (x ∷ xs) r f =
-    All-contains (λ (other : Refusal). 10 ≤ other.number) (findings (x ∷ xs)) r (All-from_recursion (λ (other : Refusal). 10 ≤ other.number) (findings (x ∷ xs)) (number_of_finding (x ∷ xs))) f.found_it
+    All-contains (λ (other : Refusal). 10 ≤ other.number) (findings fortran77 (x ∷ xs)) r (All-from_recursion (λ (other : Refusal). 10 ≤ other.number) (findings fortran77 (x ∷ xs)) (number_of_finding (x ∷ xs))) f.found_it
 
 pub refused_text : (text : List Labelled) (r : Refusal) → IsFoundFirst text r → IsRefusedText text r
 refused_text text r f = record {

@@ -3,19 +3,19 @@ use Rattle.std.specs.Prelude.{◌≡◌, ℕ, false, if◌then◌else◌, Option
 use Rattle.std.specs.List.{Contains, AllByRecursion}
 use Rattle.fv_tree.specs.declared.refusals.Refusal.{Refusal}
 use Rattle.fv_tree.specs.declared.refusals.Refused.{Refused}
-use Rattle.fv_tree.specs.declared.refusals.Refused.TheVariants as refused
 use Rattle.f77_grammar.specs.Cards.{PlainCard}
 use Rattle.f77_grammar.specs.Statement77 as plain
 use Rattle.f77_grammar.specs.Statement77.{Statement77}
 use Rattle.f77_grammar.specs.statements.Reading.{ReadsStatement, IsRefusedBy}
-use Rattle.f77_grammar.specs.program.Program77.{comes_before}
+use Rattle.f77_grammar.specs.Answered.{comes_before}
+use Rattle.f77_checks.specs.Outcomes.{IfRefusal}
 use Rattle.f77_syntax.specs.declared.statements.Labelled.{Labelled}
 use Rattle.f77_syntax.specs.Views.{labelled_of, text_of}
 use Rattle.f77_read.specs.declared.cards.Tried.{Tried}
 use Rattle.f77_grammar.specs.Reading77.{IsReadFrom, AreReadFrom}
 
-abbrev pub refusal_at : PlainCard → ℕ → ℕ → Refusal
-refusal_at card number word = record { number = number; line = card.line; word = word }
+abbrev pub card_refusal : PlainCard → ℕ → ℕ → Refusal
+card_refusal card number word = record { number = number; line = card.line; word = word }
 
 -- ---- one card
 
@@ -29,12 +29,8 @@ pub record IsReadAlone (card : PlainCard) (x : plain.Labelled) : Type 0 where
 pub record IsRefusedAlone (card : PlainCard) (r : Refusal) : Type 0 where
   pub line : r.line ≡ card.line
   pub refused : IsRefusedBy card.chars r.number r.word
-  pub only : (number word : ℕ) → IsRefusedBy card.chars number word → refusal_at card number word ≡ r
+  pub only : (number word : ℕ) → IsRefusedBy card.chars number word → card_refusal card number word ≡ r
   pub unread : (s : Statement77) → ReadsStatement card.chars s → ⊥
-
-abbrev pub IfRefusal : Refused → (Refusal → Type 0) → Type 0
-IfRefusal (refused.Refusal r) P = P r
-IfRefusal refused.Memory P = Unit {0}
 
 abbrev pub IsCardRead : PlainCard → Result Labelled Refused → Type 0
 IsCardRead card (Ok x) = IsReadAlone card (labelled_of x)
@@ -51,7 +47,7 @@ AreReadAlone (card ∷ cards) [] = ⊥
 -- no refusal of the card comes before this one
 abbrev pub IsNotBefore : Refusal → PlainCard → Type 0
 IsNotBefore r card = (number word : ℕ) → IsRefusedBy card.chars number word
-    → comes_before (refusal_at card number word) r ≡ false
+    → comes_before (card_refusal card number word) r ≡ false
 
 -- the first of the refusals of cards, which aren't all read
 pub record IsRefusedFirst (cards : List PlainCard) (r : Refusal) : Type 0 where

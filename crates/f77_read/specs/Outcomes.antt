@@ -8,23 +8,25 @@ use Rattle.f77_grammar.specs.Cards.{PlainCard}
 use Rattle.f77_grammar.specs.Statement77.{Labelled}
 use Rattle.f77_grammar.specs.program.Program77.{findings, ReadsStatements, RefusedStatements}
 use Rattle.f77_laws.specs.Source.{AreRising}
-use Rattle.f77_read.specs.Cards.{AreReadAlone, IsRefusedFirst, IfRefusal}
+use Rattle.fv_meaning.specs.Dialect.{fortran77}
+use Rattle.f77_checks.specs.Outcomes.{IfRefusal}
+use Rattle.f77_read.specs.Cards.{AreReadAlone, IsRefusedFirst}
 
 -- something is found in the statements, and this refusal is the first where lines rise
 pub record IsRefusedText (text : List Labelled) (r : Refusal) : Type 0 where
   pub number : 10 ≤ r.number
-  pub unsound : findings text ≡ [] → ⊥
-  pub first : AreRising text → RefusedStatements text r
+  pub unsound : findings fortran77 text ≡ [] → ⊥
+  pub first : AreRising text → RefusedStatements fortran77 text r
 
 abbrev pub IsTextBuilt : List Labelled → Result Program77 Refused → Type 0
-IsTextBuilt text (Ok p) = ReadsStatements text (program_of p)
+IsTextBuilt text (Ok p) = ReadsStatements fortran77 text (program_of p)
 IsTextBuilt text (Err e) = IfRefusal e (IsRefusedText text)
 
 -- the program of the statements that the cards are read as
 pub record IsProgramOf (cards : List PlainCard) (p : Program77) : Type 0 where
   pub text : List Labelled
   pub statements : AreReadAlone cards text
-  pub reads : ReadsStatements text (program_of p)
+  pub reads : ReadsStatements fortran77 text (program_of p)
 
 -- a card is refused, or the text of the cards
 pub data IsRefusalOf (cards : List PlainCard) (r : Refusal) : Type 0 where

@@ -4,6 +4,7 @@ ghost use Rattle.fv_tree.specs.Plain.{Program};
 ghost use Rattle.fv_tree.specs.View.{program_of};
 ghost use Rattle.fv_tree.specs.declared.refusals.Refusal.{Refusal};
 ghost use Rattle.f77_grammar.specs.Cards.{ReadsCards};
+ghost use Rattle.fv_meaning.specs.Dialect.{fortran77};
 ghost use Rattle.fv_meaning.specs.Profile77.{IsProgram77};
 ghost use Rattle.fixed_form.specs.Card.{card_of};
 ghost use Rattle.f77_syntax.specs.Views.{text_of};
@@ -38,19 +39,19 @@ fn build_cards(alloc: Global, cards: &[Card]) -> Result<Program77, Refused>
 /// The cards are those of a whole source, and each of them is tried before a refusal is answered.
 #[tactic(auto, using(crate::proofs::Answers::answer_laws))]
 pub fn build(alloc: Global, cards: &Seq<Card>) -> Result<Program77, Refused>
-    ensures ok { IfOk result (λ p. ReadsProgram (map card_of cards.now) (program_of p)) }
+    ensures ok { IfOk result (λ p. ReadsProgram fortran77 (map card_of cards.now) (program_of p)) }
     ensures program { (source : List ℕ) → ReadsCards source (map card_of cards.now)
-        → IfOk result (λ p. IsProgram77 (program_of p)) }
+        → IfOk result (λ p. IsProgram77 fortran77 (program_of p)) }
 
     // From 10 on the numbers are those of findings in the statements, whose order is that of lines.
     ensures refused { (r : Refusal) → result ≡ Err (Refused.Refusal r)
         → (10 ≤ r.number → AreRisingCards (map card_of cards.now))
-        → RefusedProgram (map card_of cards.now) r }
+        → RefusedProgram fortran77 (map card_of cards.now) r }
 
     // Cards that are read, or refused, have no other answer, unless memory runs out.
-    ensures only_read { (p : Program) → ReadsProgram (map card_of cards.now) p
+    ensures only_read { (p : Program) → ReadsProgram fortran77 (map card_of cards.now) p
         → IsOkAnd result (λ built. program_of built ≡ p) ⊎ (result ≡ Err Refused.Memory) }
-    ensures only_refused { (r : Refusal) → RefusedProgram (map card_of cards.now) r
+    ensures only_refused { (r : Refusal) → RefusedProgram fortran77 (map card_of cards.now) r
         → (10 ≤ r.number → AreRisingCards (map card_of cards.now))
         → (result ≡ Err (Refused.Refusal r)) ⊎ (result ≡ Err Refused.Memory) }
 {

@@ -1,6 +1,6 @@
 //! Which of two refusals comes first.
 ghost use Rattle.std.specs.Prelude.{◌≡◌};
-ghost use Rattle.f77_grammar.specs.program.Program77 as plain;
+ghost use Rattle.f77_grammar.specs.Answered as plain;
 ghost use Rattle.f77_read.specs.Cards as cards;
 
 use fv_tree::Refusal;

@@ -3,6 +3,7 @@ ghost use Rattle.std.specs.Prelude.{◌≡◌, ◌⊎◌, IfOk, IsOkAnd};
 ghost use Rattle.fv_tree.specs.Plain.{Program};
 ghost use Rattle.fv_tree.specs.View.{program_of};
 ghost use Rattle.fv_tree.specs.declared.refusals.Refusal.{Refusal};
+ghost use Rattle.fv_meaning.specs.Dialect.{fortran77};
 ghost use Rattle.fv_meaning.specs.Profile77.{IsProgram77};
 ghost use Rattle.f77_grammar.specs.Reading77.{Reads77, Refused77};
 
@@ -14,14 +15,14 @@ use std::alloc::Global;
 /// The program that a source in fixed form is.
 #[tactic(auto, using(crate::proofs::SourceLaws::source_laws))]
 pub fn read77(alloc: Global, source: &[u8]) -> Result<Program77, Refused>
-    ensures ok { IfOk result (λ p. Reads77 source.now (program_of p)) }
-    ensures program { IfOk result (λ p. IsProgram77 (program_of p)) }
-    ensures refused { (r : Refusal) → result ≡ Err (Refused.Refusal r) → Refused77 source.now r }
+    ensures ok { IfOk result (λ p. Reads77 fortran77 source.now (program_of p)) }
+    ensures program { IfOk result (λ p. IsProgram77 fortran77 (program_of p)) }
+    ensures refused { (r : Refusal) → result ≡ Err (Refused.Refusal r) → Refused77 fortran77 source.now r }
 
     // A source that is read, or refused, has no other answer, unless memory runs out.
-    ensures only_read { (p : Program) → Reads77 source.now p
+    ensures only_read { (p : Program) → Reads77 fortran77 source.now p
         → IsOkAnd result (λ read. program_of read ≡ p) ⊎ (result ≡ Err Refused.Memory) }
-    ensures only_refused { (r : Refusal) → Refused77 source.now r
+    ensures only_refused { (r : Refusal) → Refused77 fortran77 source.now r
         → (result ≡ Err (Refused.Refusal r)) ⊎ (result ≡ Err Refused.Memory) }
 {
     let cards = statements(alloc, source)?;

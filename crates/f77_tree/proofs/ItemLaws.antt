@@ -6,13 +6,15 @@ use Rattle.fv_tree.specs.Plain.{items, item, Single, Constant, ImpliedDo, Named}
 use Rattle.fv_tree.specs.View.{expression_of, reference_of, item_of}
 use Rattle.fv_tree.specs.declared.ops.Op.{Op}
 use Rattle.fv_tree.specs.declared.functions.Fun.{Fun}
+use Rattle.fv_tree.specs.declared.functions.Red.{Red}
+use Rattle.fv_tree.specs.declared.exprs.Turn.{Turn}
 use Rattle.fv_tree.specs.declared.lists.Seq.{Seq}
 use Rattle.fv_tree.specs.declared.exprs.Expr.{Expr}
 use Rattle.fv_tree.specs.declared.exprs.Expr.TheVariants as exprs
 use Rattle.fv_tree.specs.declared.exprs.Ref.{Ref}
 use Rattle.fv_tree.specs.declared.stmts.Item.{Item}
 use Rattle.fv_tree.specs.declared.stmts.Item.TheVariants as variants
-use Rattle.fv_tree.proofs.Equations.{expression_of-int, expression_of-truth, expression_of-item, expression_of-un, expression_of-bin, expression_of-call, item_of-one, item_of-text, item_of-turns}
+use Rattle.fv_tree.proofs.Equations.{expression_of-int, expression_of-truth, expression_of-item, expression_of-un, expression_of-bin, expression_of-call, item_of-one, item_of-text, item_of-turns, expression_of-list, expression_of-spread, expression_of-transpose, expression_of-reshape, expression_of-reduce}
 use Rattle.fv_meaning.specs.Store.{Store}
 use Rattle.f77_grammar.specs.program.Uses.{Use}
 use Rattle.f77_grammar.specs.program.Tree as tree
@@ -38,7 +40,22 @@ read-bin us s o a b = ap (tree.resolved_input us s) (expression_of-bin o a b) �
 pub read-call : (us : List Use) (s : Store) (f : Fun) (es : Seq Expr) → tree.resolved_input us s (expression_of (exprs.Call f es)) ≡ tree.resolved us s (expression_of (exprs.Call f es))
 read-call us s f es = ap (tree.resolved_input us s) (expression_of-call f es) ∙ sym (ap (tree.resolved us s) (expression_of-call f es))
 
-pub ruleset read_laws = (expression_of-item, read-item, read-int, read-truth, read-un, read-bin, read-call)
+pub read-list : (us : List Use) (s : Store) (es : Seq Expr) (ls : Seq Turn) → tree.resolved_input us s (expression_of (exprs.List es ls)) ≡ tree.resolved us s (expression_of (exprs.List es ls))
+read-list us s es ls = ap (tree.resolved_input us s) (expression_of-list es ls) ∙ sym (ap (tree.resolved us s) (expression_of-list es ls))
+
+pub read-spread : (us : List Use) (s : Store) (a : Box Expr Global) (d : ℕ) (n : Box Expr Global) → tree.resolved_input us s (expression_of (exprs.Spread a d n)) ≡ tree.resolved us s (expression_of (exprs.Spread a d n))
+read-spread us s a d n = ap (tree.resolved_input us s) (expression_of-spread a d n) ∙ sym (ap (tree.resolved us s) (expression_of-spread a d n))
+
+pub read-transpose : (us : List Use) (s : Store) (a : Box Expr Global) → tree.resolved_input us s (expression_of (exprs.Transpose a)) ≡ tree.resolved us s (expression_of (exprs.Transpose a))
+read-transpose us s a = ap (tree.resolved_input us s) (expression_of-transpose a) ∙ sym (ap (tree.resolved us s) (expression_of-transpose a))
+
+pub read-reshape : (us : List Use) (s : Store) (a : Box Expr Global) (es : Seq Expr) → tree.resolved_input us s (expression_of (exprs.Reshape a es)) ≡ tree.resolved us s (expression_of (exprs.Reshape a es))
+read-reshape us s a es = ap (tree.resolved_input us s) (expression_of-reshape a es) ∙ sym (ap (tree.resolved us s) (expression_of-reshape a es))
+
+pub read-reduce : (us : List Use) (s : Store) (r : Red) (a : Box Expr Global) → tree.resolved_input us s (expression_of (exprs.Reduce r a)) ≡ tree.resolved us s (expression_of (exprs.Reduce r a))
+read-reduce us s r a = ap (tree.resolved_input us s) (expression_of-reduce r a) ∙ sym (ap (tree.resolved us s) (expression_of-reduce r a))
+
+pub ruleset read_laws = (expression_of-item, read-item, read-int, read-truth, read-un, read-bin, read-call, read-list, read-spread, read-transpose, read-reshape, read-reduce)
 
 -- ---- lists
 

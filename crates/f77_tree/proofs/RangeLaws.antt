@@ -6,7 +6,7 @@ use Rattle.fv_tree.specs.Steps.{◌>>=◌}
 use Rattle.fv_tree.specs.declared.ops.Value.{Value}
 use Rattle.fv_tree.specs.declared.ops.Fault.{Fault}
 use Rattle.fv_tree.specs.declared.ops.Fault.TheVariants.{Overflow}
-use Rattle.fv_meaning.specs.Sequential.{integer_bits}
+use Rattle.fv_meaning.specs.Dialect.{fortran77}
 use Rattle.fv_meaning.specs.Store.{Store, Cell}
 use Rattle.fv_meaning.specs.Value.{is_in_range, value_of}
 use Rattle.f77_grammar.specs.Statement77.{NamedConstant, Labelled}
@@ -16,31 +16,31 @@ use Rattle.f77_constants.specs.Constants.{AreValues}
 use Rattle.f77_tree.specs.Resolved.{AreInRange}
 
 abbrev HoldsInRange : Store → Type 0
-HoldsInRange s = (c : Cell) → is_in_range integer_bits (s.held c) ≡ true
+HoldsInRange s = (c : Cell) → is_in_range fortran77.bits (s.held c) ≡ true
 
-value_kept : (x : List ℕ) (v : Value) (s : Store) → is_in_range integer_bits v ≡ true → HoldsInRange s → HoldsInRange (with_value x (Ok v) s)
+value_kept : (x : List ℕ) (v : Value) (s : Store) → is_in_range fortran77.bits v ≡ true → HoldsInRange s → HoldsInRange (with_value x (Ok v) s)
 value_kept x v s h k c = cases (bytes_eq x c.name)
   where
-    cases : (b : Bool) → is_in_range integer_bits (cond b v (s.held c)) ≡ true
+    cases : (b : Bool) → is_in_range fortran77.bits (cond b v (s.held c)) ≡ true
     cases true = h
     cases false = k c
 
-kept_in_range : (x : List ℕ) (v : Value) (s : Store) → HoldsInRange s → HoldsInRange (with_value x (in_range v) s)
-kept_in_range x v s k = cases (is_in_range integer_bits v) refl
+kept_in_range : (x : List ℕ) (v : Value) (s : Store) → HoldsInRange s → HoldsInRange (with_value x (in_range fortran77 v) s)
+kept_in_range x v s k = cases (is_in_range fortran77.bits v) refl
   where
-    cases : (b : Bool) → is_in_range integer_bits v ≡ b → HoldsInRange (with_value x (cond b (Ok v) (Err Overflow)) s)
+    cases : (b : Bool) → is_in_range fortran77.bits v ≡ b → HoldsInRange (with_value x (cond b (Ok v) (Err Overflow)) s)
     cases true e = value_kept x v s e k
     cases false e = k
 
-checked_in_range : (x : List ℕ) (r : Result Value Fault) (s : Store) → HoldsInRange s → HoldsInRange (with_value x (r >>= in_range) s)
+checked_in_range : (x : List ℕ) (r : Result Value Fault) (s : Store) → HoldsInRange s → HoldsInRange (with_value x (r >>= in_range fortran77) s)
 checked_in_range x (Ok v) s k = kept_in_range x v s k
 checked_in_range x (Err fault) s k = k
 
-all_in_range : (ds : List NamedConstant) (s : Store) → HoldsInRange s → HoldsInRange (with_constants ds s)
+all_in_range : (ds : List NamedConstant) (s : Store) → HoldsInRange s → HoldsInRange (with_constants fortran77 ds s)
 all_in_range [] s k = k
-all_in_range (d ∷ ds) s k = all_in_range ds (with_constant d s) (checked_in_range d.name (value_of integer_bits d.value s) s k)
+all_in_range (d ∷ ds) s k = all_in_range ds (with_constant fortran77 d s) (checked_in_range d.name (value_of fortran77 d.value s) s k)
 
-pub table_in_range : (c : Constants) (text : List Labelled) → AreValues c (constants_of text) → AreInRange c
+pub table_in_range : (c : Constants) (text : List Labelled) → AreValues c (constants_of fortran77 text) → AreInRange c
 table_in_range c text are x =
-    ap (λ (s : Store). is_in_range integer_bits (s.held (record { name = x; subscripts = [] }))) (sym are.same)
+    ap (λ (s : Store). is_in_range fortran77.bits (s.held (record { name = x; subscripts = [] }))) (sym are.same)
     ∙ all_in_range (flat_map (λ (y : Labelled). definitions_of y.statement) text) no_values (λ c. refl) (record { name = x; subscripts = [] })

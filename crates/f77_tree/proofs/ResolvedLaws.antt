@@ -1,23 +1,25 @@
 -- What each kind of expression is resolved to.
-use Rattle.std.proofs.Common.{◌≡◌, ◌≢◌, ◌∙◌, ap, refl, ℕ, ℤ, Bool, true, false, cond, Option, Some, None, List, [], ◌∷◌, map}
+use Rattle.std.proofs.Common.{◌≡◌, ◌≢◌, ◌∙◌, ap, sym, refl, ℕ, ℤ, Bool, true, false, cond, Option, Some, None, List, [], ◌∷◌, map}
 use Rattle.std.specs.declared.boxed.Box.{Box}
 use Rattle.std.specs.declared.alloc.Global.{Global}
-use Rattle.fv_tree.specs.Plain.{Expression, expression, expressions, Subscript, Only, Subscripts, no_subscripts, subscript, subscripts, Reference, Number, Logic, Named, Unary, Binary, Apply}
+use Rattle.fv_tree.specs.Plain.{Expression, expression, expressions, Subscript, Only, Section, Subscripts, no_subscripts, subscript, subscripts, Reference, Number, Logic, Named, Unary, Binary, Apply}
 use Rattle.fv_tree.specs.View.{expression_of, subscript_of, reference_of}
 use Rattle.fv_tree.specs.declared.ops.Op.{Op}
 use Rattle.fv_tree.specs.declared.functions.Fun.{Fun}
+use Rattle.fv_tree.specs.declared.functions.Red.{Red}
+use Rattle.fv_tree.specs.declared.exprs.Turn.{Turn}
 use Rattle.fv_tree.specs.declared.lists.Seq.{Seq}
 use Rattle.fv_tree.specs.declared.exprs.Expr.{Expr}
 use Rattle.fv_tree.specs.declared.exprs.Expr.TheVariants as exprs
 use Rattle.fv_tree.specs.declared.exprs.Ref.{Ref, out-Ref, roll-Ref}
 use Rattle.fv_tree.specs.declared.exprs.Sub.{Sub}
 use Rattle.fv_tree.specs.declared.exprs.Sub.TheVariants as subs
-use Rattle.fv_tree.proofs.Equations.{expression_of-int, expression_of-truth, expression_of-item, expression_of-un, expression_of-bin, expression_of-call, subscript_of-one, reference_of-is, reference_of-made}
+use Rattle.fv_tree.proofs.Equations.{expression_of-int, expression_of-truth, expression_of-item, expression_of-un, expression_of-bin, expression_of-call, expression_of-list, expression_of-spread, expression_of-transpose, expression_of-reshape, expression_of-reduce, subscript_of-one, subscript_of-part, reference_of-is, reference_of-made}
 use Rattle.fv_meaning.specs.Store.{Store}
 use Rattle.fv_tree.specs.Functions.{function_named}
 use Rattle.f77_grammar.specs.program.Uses.{Use, is_array, is_constant}
 use Rattle.f77_grammar.specs.program.Tree as tree
-use Rattle.f77_tree.specs.Resolved.{only, called}
+use Rattle.f77_tree.specs.Resolved.{called}
 
 -- a reference as an expression
 pub item-is : (r : Ref) → expression_of (exprs.Item r) ≡ Named (out-Ref r).name (subscripts (map subscript_of (out-Ref r).subs))
@@ -50,15 +52,10 @@ pub subscripts_resolved : (us : List Use) (s : Store) (ps : List Sub)
 subscripts_resolved us s [] = refl
 subscripts_resolved us s (p ∷ ps) = ap (λ rest. subscript (tree.resolved_subscript us s (subscript_of p)) rest) (subscripts_resolved us s ps)
 
-first_only : (p : Subscript) (rest : Subscripts) → tree.arguments_of (subscript p rest) ≡ expression (only p) (tree.arguments_of rest)
-first_only (Only e) rest = refl
-
 pub arguments_only : (us : List Use) (s : Store) (ps : List Sub)
-    → tree.arguments_of (tree.resolved_subscripts us s (subscripts (map subscript_of ps))) ≡ expressions (map (λ p. only (tree.resolved_subscript us s (subscript_of p))) ps)
+    → tree.arguments_of (tree.resolved_subscripts us s (subscripts (map subscript_of ps))) ≡ expressions (map (λ p. tree.argument_of (tree.resolved_subscript us s (subscript_of p))) ps)
 arguments_only us s [] = refl
-arguments_only us s (p ∷ ps) =
-    first_only (tree.resolved_subscript us s (subscript_of p)) (tree.resolved_subscripts us s (subscripts (map subscript_of ps)))
-    ∙ ap (λ rest. expression (only (tree.resolved_subscript us s (subscript_of p))) rest) (arguments_only us s ps)
+arguments_only us s (p ∷ ps) = ap (λ rest. expression (tree.argument_of (tree.resolved_subscript us s (subscript_of p))) rest) (arguments_only us s ps)
 
 -- ---- expressions
 
@@ -84,13 +81,34 @@ pub resolved-item : (us : List Use) (s : Store) (r : Ref)
     → tree.resolved us s (expression_of (exprs.Item r)) ≡ tree.named us s (out-Ref r).name (subscripts (map (λ p. tree.resolved_subscript us s (subscript_of p)) (out-Ref r).subs))
 resolved-item us s r = ap (tree.resolved us s) (item-is r) ∙ ap (tree.named us s (out-Ref r).name) (subscripts_resolved us s (out-Ref r).subs)
 
-pub only-one : (us : List Use) (s : Store) (e : Expr) → only (tree.resolved_subscript us s (subscript_of (subs.One e))) ≡ tree.resolved us s (expression_of e)
-only-one us s e = ap (λ p. only (tree.resolved_subscript us s p)) (subscript_of-one e)
+pub resolved-list : (us : List Use) (s : Store) (es : Seq Expr) (ls : Seq Turn) → tree.resolved us s (expression_of (exprs.List es ls)) ≡ expression_of (exprs.List es ls)
+resolved-list us s es ls = ap (tree.resolved us s) (expression_of-list es ls) ∙ sym (expression_of-list es ls)
+
+pub resolved-spread : (us : List Use) (s : Store) (a : Box Expr Global) (d : ℕ) (n : Box Expr Global) → tree.resolved us s (expression_of (exprs.Spread a d n)) ≡ expression_of (exprs.Spread a d n)
+resolved-spread us s a d n = ap (tree.resolved us s) (expression_of-spread a d n) ∙ sym (expression_of-spread a d n)
+
+pub resolved-transpose : (us : List Use) (s : Store) (a : Box Expr Global) → tree.resolved us s (expression_of (exprs.Transpose a)) ≡ expression_of (exprs.Transpose a)
+resolved-transpose us s a = ap (tree.resolved us s) (expression_of-transpose a) ∙ sym (expression_of-transpose a)
+
+pub resolved-reshape : (us : List Use) (s : Store) (a : Box Expr Global) (es : Seq Expr) → tree.resolved us s (expression_of (exprs.Reshape a es)) ≡ expression_of (exprs.Reshape a es)
+resolved-reshape us s a es = ap (tree.resolved us s) (expression_of-reshape a es) ∙ sym (expression_of-reshape a es)
+
+pub resolved-reduce : (us : List Use) (s : Store) (r : Red) (a : Box Expr Global) → tree.resolved us s (expression_of (exprs.Reduce r a)) ≡ expression_of (exprs.Reduce r a)
+resolved-reduce us s r a = ap (tree.resolved us s) (expression_of-reduce r a) ∙ sym (expression_of-reduce r a)
+
+pub only-part : (us : List Use) (s : Store) (a b c : Expr) → tree.argument_of (tree.resolved_subscript us s (subscript_of (subs.Part a b c))) ≡ expression_of a
+only-part us s a b c = ap (λ p. tree.argument_of (tree.resolved_subscript us s p)) (subscript_of-part a b c)
+
+pub resolved-part : (us : List Use) (s : Store) (a b c : Expr) → tree.resolved_subscript us s (subscript_of (subs.Part a b c)) ≡ Section (expression_of a) (expression_of b) (expression_of c)
+resolved-part us s a b c = ap (tree.resolved_subscript us s) (subscript_of-part a b c)
+
+pub only-one : (us : List Use) (s : Store) (e : Expr) → tree.argument_of (tree.resolved_subscript us s (subscript_of (subs.One e))) ≡ tree.resolved us s (expression_of e)
+only-one us s e = ap (λ p. tree.argument_of (tree.resolved_subscript us s p)) (subscript_of-one e)
 
 pub resolved-one : (us : List Use) (s : Store) (e : Expr) → tree.resolved_subscript us s (subscript_of (subs.One e)) ≡ Only (tree.resolved us s (expression_of e))
 resolved-one us s e = ap (tree.resolved_subscript us s) (subscript_of-one e)
 
-pub ruleset resolved_laws = (expression_of-int, expression_of-truth, expression_of-un, expression_of-bin, expression_of-call, subscript_of-one, resolved-int, resolved-truth, resolved-un, resolved-bin, resolved-call, only-one, resolved-one)
+pub ruleset resolved_laws = (expression_of-int, expression_of-truth, expression_of-un, expression_of-bin, expression_of-call, subscript_of-one, subscript_of-part, resolved-int, resolved-truth, resolved-un, resolved-bin, resolved-call, resolved-list, resolved-spread, resolved-transpose, resolved-reshape, resolved-reduce, only-one, only-part, resolved-one, resolved-part)
 
 -- ---- references
 
@@ -115,7 +133,7 @@ item-listed us s r some = ap (tree.resolved us s) (item-is r) ∙ cases (out-Ref
     cases (p ∷ ps) more = by_called (is_array us (out-Ref r).name) (out-Ref r).name (tree.resolved_subscripts us s (subscripts (map subscript_of (p ∷ ps))))
 
 pub item-call : (us : List Use) (s : Store) (r : Ref) (f : Fun) → (out-Ref r).subs ≢ [] → called us (out-Ref r).name ≡ Some f
-    → tree.resolved us s (expression_of (exprs.Item r)) ≡ Apply f (expressions (map (λ p. only (tree.resolved_subscript us s (subscript_of p))) (out-Ref r).subs))
+    → tree.resolved us s (expression_of (exprs.Item r)) ≡ Apply f (expressions (map (λ p. tree.argument_of (tree.resolved_subscript us s (subscript_of p))) (out-Ref r).subs))
 item-call us s r f some h =
     item-listed us s r some
     ∙ ap (λ g. by_call g (out-Ref r).name (tree.resolved_subscripts us s (subscripts (map subscript_of (out-Ref r).subs)))) h

@@ -1,10 +1,10 @@
 -- What is said of parts of the tree.
 use Rattle.std.specs.Prelude.{◌≡◌, ℕ, true, Option, None, Some, List, [], ◌∷◌, if◌then◌else◌}
-use Rattle.fv_tree.specs.Plain.{Expression, Subscript, Only, Statement}
+use Rattle.fv_tree.specs.Plain.{Statement}
 use Rattle.fv_tree.specs.View.{statement_of}
 use Rattle.fv_tree.specs.declared.stmts.Stmt.{Stmt}
 use Rattle.fv_tree.specs.declared.functions.Fun.{Fun}
-use Rattle.fv_meaning.specs.Sequential.{integer_bits}
+use Rattle.fv_meaning.specs.Dialect.{fortran77}
 use Rattle.fv_meaning.specs.Value.{is_in_range}
 use Rattle.fv_tree.specs.Functions.{function_named}
 use Rattle.f77_grammar.specs.program.Uses.{Use, is_array}
@@ -13,11 +13,7 @@ use Rattle.f77_constants.specs.Constants.{value_in, value_or_nought}
 
 -- INTEGER has the values of all constants
 abbrev pub AreInRange : Constants → Type 0
-AreInRange c = (x : List ℕ) → is_in_range integer_bits (value_or_nought (value_in c x)) ≡ true
-
--- the expression that a subscript is
-abbrev pub only : Subscript → Expression
-only (Only e) = e
+AreInRange c = (x : List ℕ) → is_in_range fortran77.bits (value_or_nought (value_in c x)) ≡ true
 
 -- the function that a name with a list in parentheses calls
 abbrev pub called : List Use → List ℕ → Option Fun

@@ -26,7 +26,9 @@ made_by ps = flat_map (λ (p : tree.Piece). p.made) ps
 -- the pieces of a block, and the block IFs round it, the innermost first
 abbrev pub rest_with : List tree.Piece → List OpenIf → tree.Rest
 rest_with ps [] = tree.Outermost ps
-rest_with ps (f ∷ fs) = tree.InArm ps (arms (reverse (map tested_of f.later.items))) (block_of f.other) (rest_with (pieces_in f.after.items) fs)
+rest_with ps (f ∷ fs) =
+    tree.InArm ps (arms (reverse (map tested_of f.later.items))) (block_of f.other)
+        (rest_with (pieces_in f.after.items) fs)
 
 abbrev pub rest_of : Rest → tree.Rest
 rest_of r = rest_with (pieces_in r.pieces.items) (reverse r.ifs.items)
@@ -37,4 +39,8 @@ heading_of h body = plain.Do h.line h.var (expression_of h.first) (expression_of
 
 -- what a statement that opens and closes nothing becomes
 abbrev pub ordinary : List Use → Store → List ℕ → Labelled → tree.Piece
-ordinary us s named x = record { ends = x.label; made = tree.mark_of named x.label ++ tree.simple us s x.line x.statement }
+ordinary us s named x =
+    record {
+      ends = x.label;
+      made = tree.mark_of named x.label ++ tree.simple us s x.line x.statement;
+    }

@@ -5,6 +5,7 @@ ghost use Rattle.fv_tree.specs.Plain as plain;
 ghost use Rattle.f77_grammar.specs.program.Tree as tree;
 ghost use Rattle.f77_constants.specs.Constants.{store_of};
 ghost use Rattle.f77_names.specs.UsesView.{listed};
+ghost use Rattle.f77_tree.specs.Parts.{resolved_by};
 ghost use Rattle.f77_tree.specs.Resolved.{made};
 ghost use Rattle.f77_tree.specs.Rests.{piece_of, rest_of, heading_of, ordinary};
 ghost use Rattle.f77_syntax.specs.Views.{labelled_of, statement_of, text_of};
@@ -17,7 +18,8 @@ use f77_syntax::{Labelled, Stmt77};
 use std::alloc::Global;
 
 fn add(list: &mut Vec<Stmt>, statement: Option<Stmt>) -> Result<(), Memory>
-    ensures { OnOk result (map tree_statement_of list.new.items ≡ map tree_statement_of list.old.items ++ made statement) }
+    ensures { OnOk result (map tree_statement_of list.new.items
+        ≡ map tree_statement_of list.old.items ++ made statement) }
 {
     if let Some(statement) = statement {
         list.push(statement)?;
@@ -35,7 +37,9 @@ impl Resolver {
         last: &Expr,
         step: &Expr,
     ) -> Result<Heading, Memory>
-        ensures { IfOk result (λ heading. heading_of heading ≡ plain.Do line var (tree.resolved (listed self.now.uses) (store_of self.now.constants) (expression_of first.now)) (tree.resolved (listed self.now.uses) (store_of self.now.constants) (expression_of last.now)) (tree.resolved (listed self.now.uses) (store_of self.now.constants) (expression_of step.now))) }
+        ensures { IfOk result (λ heading.
+            heading_of heading ≡ plain.Do line var (resolved_by self.now first.now) (resolved_by self.now last.now)
+            (resolved_by self.now step.now)) }
     {
         Ok(Heading {
             line,
@@ -48,7 +52,9 @@ impl Resolver {
 
     // What a statement that opens and closes nothing has become.
     fn piece(&self, alloc: Global, targets: &Targets, statement: &Labelled) -> Result<Piece, Memory>
-        ensures { IfOk result (λ piece. piece_of piece ≡ ordinary (listed self.now.uses) (store_of self.now.constants) targets.now.list.items (labelled_of statement.now)) }
+        ensures { IfOk result (λ piece.
+            piece_of piece ≡ ordinary (listed self.now.uses) (store_of self.now.constants) targets.now.list.items
+            (labelled_of statement.now)) }
     {
         let mut made = targets.mark(alloc, statement.label)?;
         let simple = self.simple(alloc, statement.line, &statement.statement)?;
@@ -70,7 +76,10 @@ impl Rest {
         targets: &Targets,
         statement: &Labelled,
     ) -> Result<Rest, Memory>
-        ensures { IfOk result (λ rest. rest_of rest ≡ tree.begun (listed resolver.now.uses) (store_of resolver.now.constants) targets.now.list.items (labelled_of statement.now) (statement_of statement.now.statement) (rest_of self)) }
+        ensures { IfOk result (λ rest.
+            rest_of rest ≡ tree.begun (listed resolver.now.uses)
+            (store_of resolver.now.constants) targets.now.list.items (labelled_of statement.now)
+            (statement_of statement.now.statement) (rest_of self)) }
     {
         match &statement.statement {
             Stmt77::EndIf => self.end_arm(alloc),
@@ -112,7 +121,9 @@ pub fn rest_of_text(
     targets: &Targets,
     text: &[Labelled],
 ) -> Result<Rest, Memory>
-    ensures { IfOk result (λ rest. rest_of rest ≡ tree.rest_from (listed resolver.now.uses) (store_of resolver.now.constants) targets.now.list.items (text_of text.now)) }
+    ensures { IfOk result (λ rest.
+        rest_of rest ≡ tree.rest_from (listed resolver.now.uses)
+        (store_of resolver.now.constants) targets.now.list.items (text_of text.now)) }
 {
     let mut rest = Rest::new(alloc);
     let mut i = text.len();

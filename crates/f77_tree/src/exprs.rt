@@ -4,12 +4,13 @@ ghost use Rattle.fv_tree.specs.Plain.{subscripts, no_subscripts};
 ghost use Rattle.fv_tree.specs.View.{expression_of, subscript_of, reference_of};
 ghost use Rattle.fv_tree.specs.declared.exprs.Expr.TheVariants as exprs;
 ghost use Rattle.fv_tree.specs.declared.ops.Value.TheVariants as values;
-ghost use Rattle.fv_meaning.specs.Sequential.{integer_bits};
+ghost use Rattle.fv_meaning.specs.Dialect.{fortran77};
 ghost use Rattle.fv_meaning.specs.Value.{is_in_range};
 ghost use Rattle.f77_grammar.specs.program.Tree as tree;
 ghost use Rattle.f77_constants.specs.Constants.{store_of};
 ghost use Rattle.f77_names.specs.UsesView.{listed};
-ghost use Rattle.f77_tree.specs.Resolved.{only, called};
+ghost use Rattle.f77_tree.specs.Parts.{resolved_by, subscript_by, reference_by};
+ghost use Rattle.f77_tree.specs.Resolved.{called};
 
 use crate::resolver::Resolver;
 use fv_tree::{Expr, Fun, Memory, Name, Op, Ref, Seq, Sub, Value};
@@ -18,7 +19,7 @@ use std::alloc::Global;
 // A number as an expression, in which a literal isn't negative.
 #[tactic(auto, using(crate::proofs::LiteralLaws::literal_laws))]
 fn number(alloc: Global, number: i128) -> Result<Expr, Memory>
-    requires { is_in_range integer_bits (values.Int number) ≡ true }
+    requires { is_in_range fortran77.bits (values.Int number) ≡ true }
     ensures { IfOk result (λ expr. expression_of expr ≡ tree.literal (values.Int number)) }
 {
     if number >= 0 {
@@ -30,7 +31,7 @@ fn number(alloc: Global, number: i128) -> Result<Expr, Memory>
 
 #[tactic(auto, using(crate::proofs::LiteralLaws::literal_laws))]
 fn literal(alloc: Global, value: Value) -> Result<Expr, Memory>
-    requires { is_in_range integer_bits value ≡ true }
+    requires { is_in_range fortran77.bits value ≡ true }
     ensures { IfOk result (λ expr. expression_of expr ≡ tree.literal value) }
 {
     match value {
@@ -43,7 +44,8 @@ impl Resolver {
     // A name without subscripts.
     #[tactic(auto, using(crate::proofs::ResolvedLaws::name_laws))]
     fn name(&self, alloc: Global, name: Name) -> Result<Expr, Memory>
-        ensures { IfOk result (λ expr. expression_of expr ≡ tree.named (listed self.now.uses) (store_of self.now.constants) name no_subscripts) }
+        ensures { IfOk result (λ expr.
+            expression_of expr ≡ tree.named (listed self.now.uses) (store_of self.now.constants) name no_subscripts) }
     {
         if self.is_constant(name) {
             return literal(alloc, self.value(name));
@@ -68,7 +70,7 @@ impl Resolver {
     #[cycle(resolve)]
     #[tactic(auto, using(crate::proofs::ResolvedLaws::resolved_laws))]
     pub fn resolve(&self, alloc: Global, expr: &Expr) -> Result<Expr, Memory>
-        ensures { IfOk result (λ resolved. expression_of resolved ≡ tree.resolved (listed self.now.uses) (store_of self.now.constants) (expression_of expr.now)) }
+        ensures { IfOk result (λ resolved. expression_of resolved ≡ resolved_by self.now expr.now) }
     {
         match expr {
             Expr::Int(number) => Ok(Expr::Int(*number)),
@@ -83,12 +85,15 @@ impl Resolver {
             Expr::Call(function, arguments) => {
                 Ok(Expr::Call(*function, self.resolve_all(alloc, arguments)?))
             }
+            // FORTRAN 77 has no arrays as values.
+            Expr::List(..) | Expr::Spread(..) | Expr::Transpose(_) => expr.copy(alloc),
+            Expr::Reshape(..) | Expr::Reduce(..) => expr.copy(alloc),
         }
     }
 
     #[cycle(resolve)]
     fn resolve_box(&self, alloc: Global, expr: &Expr) -> Result<Box<Expr>, Memory>
-        ensures { IfOk result (λ resolved. expression_of resolved.value ≡ tree.resolved (listed self.now.uses) (store_of self.now.constants) (expression_of expr.now)) }
+        ensures { IfOk result (λ resolved. expression_of resolved.value ≡ resolved_by self.now expr.now) }
     {
         let resolved = self.resolve(alloc, expr)?;
         Ok(Box::new(alloc, resolved)?)
@@ -96,7 +101,7 @@ impl Resolver {
 
     #[cycle(resolve)]
     fn resolve_all(&self, alloc: Global, exprs: &Seq<Expr>) -> Result<Seq<Expr>, Memory>
-        ensures { IfOk result (λ resolved. map expression_of resolved ≡ map (λ e. tree.resolved (listed self.now.uses) (store_of self.now.constants) (expression_of e)) exprs.now) }
+        ensures { IfOk result (λ resolved. map expression_of resolved ≡ map (resolved_by self.now) exprs.now) }
     {
         let mut resolved = Seq::new(alloc);
         for expr in exprs.as_slice() {
@@ -109,7 +114,7 @@ impl Resolver {
     #[cycle(resolve)]
     #[tactic(auto, using(crate::proofs::ResolvedLaws::item_laws))]
     fn resolve_item(&self, alloc: Global, item: &Ref) -> Result<Expr, Memory>
-        ensures { IfOk result (λ resolved. expression_of resolved ≡ tree.resolved (listed self.now.uses) (store_of self.now.constants) (expression_of (exprs.Item item.now))) }
+        ensures { IfOk result (λ resolved. expression_of resolved ≡ resolved_by self.now (exprs.Item item.now)) }
     {
         if item.subs.is_empty() {
             return self.name(alloc, item.name);
@@ -123,17 +128,19 @@ impl Resolver {
     #[cycle(resolve)]
     #[tactic(auto, using(crate::proofs::ResolvedLaws::resolved_laws))]
     fn argument(&self, alloc: Global, sub: &Sub) -> Result<Expr, Memory>
-        ensures { IfOk result (λ argument. expression_of argument ≡ only (tree.resolved_subscript (listed self.now.uses) (store_of self.now.constants) (subscript_of sub.now))) }
+        ensures { IfOk result (λ argument. expression_of argument ≡ tree.argument_of (subscript_by self.now sub.now)) }
     {
         match sub {
             Sub::One(expr) => self.resolve(alloc, expr),
+            Sub::Part(first, _, _) => first.copy(alloc),
         }
     }
 
     // What stands in parentheses, as arguments.
     #[cycle(resolve)]
     fn arguments(&self, alloc: Global, subs: &Seq<Sub>) -> Result<Seq<Expr>, Memory>
-        ensures { IfOk result (λ arguments. map expression_of arguments ≡ map (λ p. only (tree.resolved_subscript (listed self.now.uses) (store_of self.now.constants) (subscript_of p))) subs.now) }
+        ensures { IfOk result (λ arguments. map expression_of arguments ≡ map (λ p.
+            tree.argument_of (subscript_by self.now p)) subs.now) }
     {
         let mut arguments = Seq::new(alloc);
         for sub in subs.as_slice() {
@@ -145,16 +152,21 @@ impl Resolver {
     #[cycle(resolve)]
     #[tactic(auto, using(crate::proofs::ResolvedLaws::resolved_laws))]
     fn resolve_sub(&self, alloc: Global, sub: &Sub) -> Result<Sub, Memory>
-        ensures { IfOk result (λ resolved. subscript_of resolved ≡ tree.resolved_subscript (listed self.now.uses) (store_of self.now.constants) (subscript_of sub.now)) }
+        ensures { IfOk result (λ resolved. subscript_of resolved ≡ subscript_by self.now sub.now) }
     {
         match sub {
             Sub::One(expr) => Ok(Sub::One(self.resolve(alloc, expr)?)),
+            Sub::Part(first, last, stride) => Ok(Sub::Part(
+                first.copy(alloc)?,
+                last.copy(alloc)?,
+                stride.copy(alloc)?,
+            )),
         }
     }
 
     #[cycle(resolve)]
     fn resolve_subs(&self, alloc: Global, subs: &Seq<Sub>) -> Result<Seq<Sub>, Memory>
-        ensures { IfOk result (λ resolved. map subscript_of resolved ≡ map (λ p. tree.resolved_subscript (listed self.now.uses) (store_of self.now.constants) (subscript_of p)) subs.now) }
+        ensures { IfOk result (λ resolved. map subscript_of resolved ≡ map (subscript_by self.now) subs.now) }
     {
         let mut resolved = Seq::new(alloc);
         for sub in subs.as_slice() {
@@ -167,7 +179,7 @@ impl Resolver {
     #[cycle(resolve)]
     #[tactic(auto, using(crate::proofs::ResolvedLaws::reference_laws))]
     pub fn resolve_reference(&self, alloc: Global, item: &Ref) -> Result<Ref, Memory>
-        ensures { IfOk result (λ resolved. reference_of resolved ≡ tree.resolved_reference (listed self.now.uses) (store_of self.now.constants) (reference_of item.now)) }
+        ensures { IfOk result (λ resolved. reference_of resolved ≡ reference_by self.now item.now) }
     {
         Ok(Ref {
             name: item.name,

@@ -1,9 +1,7 @@
 //! Input and output lists in which each name stands for what it is.
 ghost use Rattle.std.specs.Prelude.{◌≡◌, map, IfOk};
 ghost use Rattle.fv_tree.specs.View.{expression_of, item_of};
-ghost use Rattle.f77_grammar.specs.program.Tree as tree;
-ghost use Rattle.f77_constants.specs.Constants.{store_of};
-ghost use Rattle.f77_names.specs.UsesView.{listed};
+ghost use Rattle.f77_tree.specs.Parts.{read_by, output_by, input_by};
 
 use crate::resolver::Resolver;
 use fv_tree::{Expr, Item, Memory, Seq, copy_text};
@@ -13,7 +11,7 @@ impl Resolver {
     #[cycle(outputs)]
     #[tactic(auto, using(crate::proofs::ItemLaws::item_laws))]
     fn resolve_output(&self, alloc: Global, item: &Item) -> Result<Item, Memory>
-        ensures { IfOk result (λ resolved. item_of resolved ≡ tree.resolved_output_item (listed self.now.uses) (store_of self.now.constants) (item_of item.now)) }
+        ensures { IfOk result (λ resolved. item_of resolved ≡ output_by self.now item.now) }
     {
         match item {
             Item::One(expr) => Ok(Item::One(self.resolve(alloc, expr)?)),
@@ -31,7 +29,7 @@ impl Resolver {
     /// The items of an output list.
     #[cycle(outputs)]
     pub fn resolve_outputs(&self, alloc: Global, list: &Seq<Item>) -> Result<Seq<Item>, Memory>
-        ensures { IfOk result (λ resolved. map item_of resolved ≡ map (λ i. tree.resolved_output_item (listed self.now.uses) (store_of self.now.constants) (item_of i)) list.now) }
+        ensures { IfOk result (λ resolved. map item_of resolved ≡ map (output_by self.now) list.now) }
     {
         let mut resolved = Seq::new(alloc);
         for item in list.as_slice() {
@@ -43,7 +41,7 @@ impl Resolver {
     // What is read into keeps its name.
     #[tactic(auto, using(crate::proofs::ItemLaws::read_laws))]
     fn resolve_read(&self, alloc: Global, expr: &Expr) -> Result<Expr, Memory>
-        ensures { IfOk result (λ resolved. expression_of resolved ≡ tree.resolved_input (listed self.now.uses) (store_of self.now.constants) (expression_of expr.now)) }
+        ensures { IfOk result (λ resolved. expression_of resolved ≡ read_by self.now expr.now) }
     {
         match expr {
             Expr::Item(item) => Ok(Expr::Item(self.resolve_reference(alloc, item)?)),
@@ -52,13 +50,15 @@ impl Resolver {
             Expr::Un(..) => self.resolve(alloc, expr),
             Expr::Bin(..) => self.resolve(alloc, expr),
             Expr::Call(..) => self.resolve(alloc, expr),
+            Expr::List(..) | Expr::Spread(..) | Expr::Transpose(_) => self.resolve(alloc, expr),
+            Expr::Reshape(..) | Expr::Reduce(..) => self.resolve(alloc, expr),
         }
     }
 
     #[cycle(inputs)]
     #[tactic(auto, using(crate::proofs::ItemLaws::item_laws))]
     fn resolve_input(&self, alloc: Global, item: &Item) -> Result<Item, Memory>
-        ensures { IfOk result (λ resolved. item_of resolved ≡ tree.resolved_input_item (listed self.now.uses) (store_of self.now.constants) (item_of item.now)) }
+        ensures { IfOk result (λ resolved. item_of resolved ≡ input_by self.now item.now) }
     {
         match item {
             Item::One(expr) => Ok(Item::One(self.resolve_read(alloc, expr)?)),
@@ -76,7 +76,7 @@ impl Resolver {
     /// The items of an input list.
     #[cycle(inputs)]
     pub fn resolve_inputs(&self, alloc: Global, list: &Seq<Item>) -> Result<Seq<Item>, Memory>
-        ensures { IfOk result (λ resolved. map item_of resolved ≡ map (λ i. tree.resolved_input_item (listed self.now.uses) (store_of self.now.constants) (item_of i)) list.now) }
+        ensures { IfOk result (λ resolved. map item_of resolved ≡ map (input_by self.now) list.now) }
     {
         let mut resolved = Seq::new(alloc);
         for item in list.as_slice() {

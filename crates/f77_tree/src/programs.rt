@@ -6,6 +6,7 @@ ghost use Rattle.f77_grammar.specs.program.Tree.{tree_of, first_of_names};
 ghost use Rattle.f77_grammar.specs.program.Uses.{is_title, names_that};
 ghost use Rattle.f77_names.specs.UsesView.{plain_use};
 ghost use Rattle.f77_syntax.specs.First.{first_index};
+ghost use Rattle.fv_meaning.specs.Dialect.{fortran77};
 ghost use Rattle.f77_syntax.specs.Views.{text_of};
 
 use crate::begin::rest_of_text;
@@ -42,8 +43,9 @@ fn title(uses: &[Use]) -> Option<Name>
 /// The tree that the statements form of a program in which no symbolic constant and no bound faults or leaves the range
 /// of INTEGER.
 pub fn tree(alloc: Global, text: &[Labelled]) -> Result<Program77, Memory>
-    ensures { first_index (has_bad_constant (constants_of (text_of text.now))) (text_of text.now) ≡ None
-        → IfOk result (λ program. program_of program ≡ tree_of (text_of text.now)) }
+    ensures { first_index (has_bad_constant fortran77 (constants_of fortran77 (text_of text.now))) (text_of text.now)
+        ≡ None
+        → IfOk result (λ program. program_of program ≡ tree_of fortran77 (text_of text.now)) }
 {
     let resolver = Resolver::of_text(alloc, text)?;
     let targets = Targets::of_text(alloc, text)?;

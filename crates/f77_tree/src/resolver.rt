@@ -6,6 +6,7 @@ ghost use Rattle.f77_constants.specs.Constants.{AreValues, value_in, value_or_no
 ghost use Rattle.f77_names.specs.NameFacts.{AreNamesOf};
 ghost use Rattle.f77_names.specs.UsesView.{listed};
 ghost use Rattle.f77_tree.specs.Resolved.{AreInRange};
+ghost use Rattle.fv_meaning.specs.Dialect.{fortran77};
 ghost use Rattle.f77_syntax.specs.Views.{text_of};
 
 use f77_constants::{Constants, constants_of};
@@ -31,7 +32,8 @@ impl Resolver {
     /// The resolver of this program.
     pub fn of_text(alloc: Global, text: &[Labelled]) -> Result<Resolver, Memory>
         ensures uses { IfOk result (λ resolver. listed resolver.uses ≡ uses_in_text (text_of text.now)) }
-        ensures constants { IfOk result (λ resolver. AreValues resolver.constants (plain.constants_of (text_of text.now))) }
+        ensures constants { IfOk result (λ resolver.
+            AreValues resolver.constants (plain.constants_of fortran77 (text_of text.now))) }
     {
         let uses = uses_in_text(alloc, text)?;
         let names = names_of(alloc, uses.as_slice())?;

@@ -71,7 +71,8 @@ fn whole(alloc: Global, pieces: Vec<Piece>) -> Result<Block, Memory>
 
 // The statements of the pieces up to the one that ends with the label, which are taken out.
 fn take_loop(alloc: Global, pieces: &mut Vec<Piece>, label: u32) -> Result<Vec<Stmt>, Memory>
-    ensures body { IfOk result (λ stmts. map statement_of stmts.items ≡ made_by (tree.up_to label (pieces_in pieces.old.items))) }
+    ensures body { IfOk result (λ stmts.
+        map statement_of stmts.items ≡ made_by (tree.up_to label (pieces_in pieces.old.items))) }
     ensures rest { OnOk result (pieces_in pieces.new.items ≡ tree.beyond label (pieces_in pieces.old.items)) }
 {
     let mut stmts = Vec::new(alloc);
@@ -178,7 +179,8 @@ impl Rest {
         mark: Vec<Stmt>,
         test: Expr,
     ) -> Result<Rest, Memory>
-        ensures { IfOk result (λ rest. rest_of rest ≡ tree.if_begun line (map statement_of mark.items) (expression_of test) (rest_of self)) }
+        ensures { IfOk result (λ rest.
+            rest_of rest ≡ tree.if_begun line (map statement_of mark.items) (expression_of test) (rest_of self)) }
     {
         let Rest { pieces, mut ifs } = self;
         let Some(inner) = ifs.pop() else {
@@ -210,7 +212,8 @@ impl Rest {
         mark: Vec<Stmt>,
         heading: Heading,
     ) -> Result<Rest, Memory>
-        ensures { IfOk result (λ rest. rest_of rest ≡ tree.loop_begun (heading_of heading) (map statement_of mark.items) label (rest_of self)) }
+        ensures { IfOk result (λ rest.
+            rest_of rest ≡ tree.loop_begun (heading_of heading) (map statement_of mark.items) label (rest_of self)) }
     {
         let Rest { mut pieces, ifs } = self;
         let stmts = take_loop(alloc, &mut pieces, label)?;

@@ -5,6 +5,7 @@ ghost use Rattle.fv_tree.specs.Plain as plain;
 ghost use Rattle.f77_grammar.specs.program.Tree as tree;
 ghost use Rattle.f77_constants.specs.Constants.{store_of};
 ghost use Rattle.f77_names.specs.UsesView.{listed};
+ghost use Rattle.f77_tree.specs.Parts.{resolved_by, reference_by};
 ghost use Rattle.f77_tree.specs.Resolved.{made};
 ghost use Rattle.f77_syntax.specs.Views.{statement_of};
 
@@ -27,7 +28,9 @@ fn block(alloc: Global, statement: Option<Stmt>) -> Result<Block, Memory>
 impl Resolver {
     #[tactic(auto, using(crate::proofs::SimpleLaws::simple_laws))]
     fn assignment(&self, alloc: Global, line: u32, left: &Ref, right: &Expr) -> Result<Stmt, Memory>
-        ensures { IfOk result (λ assignment. tree_statement_of assignment ≡ plain.Assignment line None (tree.resolved_reference (listed self.now.uses) (store_of self.now.constants) (reference_of left.now)) (tree.resolved (listed self.now.uses) (store_of self.now.constants) (expression_of right.now))) }
+        ensures { IfOk result (λ assignment.
+            tree_statement_of assignment ≡ plain.Assignment line None (reference_by self.now left.now)
+            (resolved_by self.now right.now)) }
     {
         Ok(Stmt::Assign {
             line,
@@ -46,7 +49,9 @@ impl Resolver {
         condition: &Expr,
         inner: Option<Stmt>,
     ) -> Result<Stmt, Memory>
-        ensures { IfOk result (λ branch. tree_statement_of branch ≡ plain.If line (plain.arm (tree.resolved (listed self.now.uses) (store_of self.now.constants) (expression_of condition.now)) (plain.block (made inner)) plain.no_arms) plain.no_statements) }
+        ensures { IfOk result (λ branch.
+            tree_statement_of branch ≡ plain.If line (plain.arm (resolved_by self.now condition.now) (plain.block
+            (made inner)) plain.no_arms) plain.no_statements) }
     {
         let test = self.resolve(alloc, condition)?;
         let body = block(alloc, inner)?;
@@ -69,7 +74,9 @@ impl Resolver {
         line: u32,
         statement: &Stmt77,
     ) -> Result<Option<Stmt>, Memory>
-        ensures { IfOk result (λ became. made became ≡ tree.simple (listed self.now.uses) (store_of self.now.constants) line (statement_of statement.now)) }
+        ensures { IfOk result (λ became.
+            made became ≡ tree.simple (listed self.now.uses) (store_of self.now.constants) line
+            (statement_of statement.now)) }
     {
         match statement {
             Stmt77::Assign(left, right) => Ok(Some(self.assignment(alloc, line, left, right)?)),

@@ -33,7 +33,7 @@ program_causes =
     Label ∷ Nesting ∷ NoEnd ∷ Declared ∷ RealName ∷ TypeClash ∷ Jump ∷ DoVariable
     ∷ ManyNames ∷ ManyBlocks ∷ ReversedBounds ∷ ManyElements ∷ BadConstant ∷ []
 
--- the cause holds at a place of the text
+-- the cause holds at a place of the text, by all uses of names in it and the values of its symbolic constants
 abbrev pub holds_at : Dialect → Cause → List Labelled → List Use → Store → Place → Bool
 holds_at d Label text us s p = has_wrong_label text p
 holds_at d Nesting text us s p = is_nested_wrongly p || is_out_of_order p
@@ -50,10 +50,11 @@ holds_at d ManyElements text us s p = has_many_elements d s p
 holds_at d BadConstant text us s p = has_bad_constant d s p
 holds_at d _ text us s p = false
 
+abbrev pub holds_in : Dialect → List Labelled → Cause → Place → Bool
+holds_in d text c p = holds_at d c text (uses_in_text text) (constants_of d text) p
+
 abbrev pub findings_of : Dialect → List Labelled → Cause → List Refusal
-findings_of d text c =
-    map (λ (p : Place). refusal_at c p.here.line)
-    (filter (holds_at d c text (uses_in_text text) (constants_of d text)) (places text))
+findings_of d text c = map (λ (p : Place). refusal_at c p.here.line) (filter (holds_in d text c) (places text))
 
 -- a text without statements has no END, at line 0
 abbrev pub findings : Dialect → List Labelled → List Refusal

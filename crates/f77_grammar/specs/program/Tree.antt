@@ -7,7 +7,8 @@ use Rattle.std.specs.List.{list_any, filter, flat_map, fold}
 use Rattle.std.specs.Cmp.Lexicographic.{slice_cmp}
 use Rattle.std.specs.Ordering.{nat_cmp, match_ordering}
 use Rattle.fv_tree.specs.Plain.{Expression, Number, Logic, Named, Unary, Binary, Apply, Expressions, no_expressions}
-use Rattle.fv_tree.specs.Plain.{expression, Subscript, Only, Subscripts, no_subscripts, subscript, Reference, Item}
+use Rattle.fv_tree.specs.Plain.{expression, Subscript, Only, Section, Subscripts, no_subscripts, subscript, Reference}
+use Rattle.fv_tree.specs.Plain.{Item}
 use Rattle.fv_tree.specs.Plain.{Single, Constant, ImpliedDo, Items, no_items, item}
 use Rattle.fv_tree.specs.Plain as tree
 use Rattle.fv_tree.specs.declared.ops.Op.TheVariants.{Neg}
@@ -33,10 +34,14 @@ literal (Int (pos n)) = Number (pos n)
 literal (Int (negsuc n)) = Unary Neg (Number (pos (suc n)))
 literal (Truth b) = Logic b
 
+-- statements of FORTRAN 77 have no sections
+abbrev pub argument_of : Subscript → Expression
+argument_of (Only e) = e
+argument_of (Section a b c) = a
+
 abbrev pub arguments_of : Subscripts → Expressions
 arguments_of no_subscripts = no_expressions
-arguments_of (subscript (Only e) ps) = expression e (arguments_of ps)
-arguments_of (subscript p ps) = arguments_of ps
+arguments_of (subscript p ps) = expression (argument_of p) (arguments_of ps)
 
 abbrev pub call_of : Option Fun → List ℕ → Subscripts → Expression
 call_of None x ps = Named x ps

@@ -1,11 +1,21 @@
+use Rattle.std.proofs.Common.{List}
+use Rattle.fv_meaning.specs.Dialect.{fortran77}
+use Rattle.fv_meaning.specs.Store.{Store}
+use Rattle.f77_grammar.specs.Statement77.{Labelled}
+use Rattle.f77_grammar.specs.program.Limits.{constants_of}
 use Rattle.f77_syntax.specs.Views.{text_of}
 use Rattle.f77_checks.proofs.Breaches.{first_of_limits}
 use Rattle.f77_checks.proofs.limits.first_breach.Goals as goal
 
 pub returns : goal.returns
 returns c =
-    first_of_limits (text_of c.args.text.now) c.in_ok-names.names c.in_ok-blocks.blocks c.in_ok-bounds.bounds c.in_ok-elements.elements c.in_ok-values.values
+    let text : List Labelled = text_of c.args.text.now in
+    let s : Store = constants_of fortran77 (text_of c.args.text.now) in
+    first_of_limits (text_of c.args.text.now) c.breach_at-names.result c.breach_at-blocks.result c.breach_at-bounds.result c.breach_at-elements.result c.breach_at-values.result
     c.sooner.result c.sooner-2.result c.sooner-3.result c.sooner-4.result
-    (c.in_ok-names.ensures c.in_ok-constants.ensures) (c.in_ok-blocks.ensures c.in_ok-constants.ensures) (c.in_ok-bounds.ensures c.in_ok-constants.ensures)
-    (c.in_ok-elements.ensures c.in_ok-constants.ensures) (c.in_ok-values.ensures c.in_ok-constants.ensures)
+    (c.breach_at-names.ensures text c.in_ok-many_names.ensures)
+    (c.breach_at-blocks.ensures text c.in_ok-many_blocks.ensures)
+    (c.breach_at-bounds.ensures text (c.in_ok-reversed_bounds.ensures s c.in_ok-constants.ensures))
+    (c.breach_at-elements.ensures text (c.in_ok-many_elements.ensures s c.in_ok-constants.ensures))
+    (c.breach_at-values.ensures text (c.in_ok-bad_constant.ensures s c.in_ok-constants.ensures))
     c.sooner.ensures c.sooner-2.ensures c.sooner-3.ensures c.sooner-4.ensures

@@ -1,9 +1,7 @@
-use Rattle.std.proofs.Common.{sym, ap, ◌∙◌}
-use Rattle.std.specs.Option.{option_map}
+use Rattle.std.proofs.Common.{sym, ◌∙◌}
 use Rattle.f77_syntax.specs.Views.{text_of}
-use Rattle.f77_checks.specs.Limits.{found_of}
 use Rattle.f77_checks.proofs.Breaches.{no_breach}
 use Rattle.f77_checks.proofs.limits.refuse_breach.Goals as goal
 
 pub returns-in-None : goal.returns-in-None
-returns-in-None c = no_breach (text_of c.args.text.now) (ap (option_map found_of) (sym c.in-None.is) ∙ c.in_ok-first_breach.ensures)
+returns-in-None c = no_breach (text_of c.args.text.now) (sym c.in-None.is ∙ c.in_ok-first_breach.ensures)

@@ -2,7 +2,8 @@ use Rattle.std.proofs.Common.{◌≡◌, [], ◌∷◌, ◌++◌, sym, subst, ru
 use Rattle.fv_tree.specs.declared.refusals.Refused.TheVariants as refused
 use Rattle.fixed_form.specs.Card.{card_of}
 use Rattle.f77_syntax.specs.Views.{text_of}
-use Rattle.f77_read.specs.Cards.{IfRefusal, IsRefusedAlone, AreTried, IsRefusedFirst}
+use Rattle.f77_checks.specs.Outcomes.{IfRefusal}
+use Rattle.f77_read.specs.Cards.{IsRefusedAlone, AreTried, IsRefusedFirst}
 use Rattle.f77_read.proofs.CardLaws.{tried_read, tried_refused}
 use Rattle.f77_read.proofs.cards.Tried.try_card.Goals as goal
 
