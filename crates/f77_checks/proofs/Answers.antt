@@ -19,7 +19,8 @@ use Rattle.f77_grammar.proofs.programs.Least.{answered_among, least_is_first, no
 use Rattle.f77_laws.specs.Source.{AreRising}
 use Rattle.f77_checks.specs.First.{has_number, IsFoundAtPlace, IsFoundFirst}
 use Rattle.f77_checks.specs.Outcomes.{IsChecked}
-use Rattle.f77_checks.proofs.Found.{every_cause, any_true, every, both, each, here, all_by, first_is_least}
+use Rattle.f77_laws.proofs.Lists.{all_weaker, here}
+use Rattle.f77_checks.proofs.Found.{every_cause, any_true, both, each, all_by, first_is_least}
 
 -- ---- where lines rise, what is found first is the first finding
 
@@ -42,7 +43,7 @@ follow y ys r rising f =
     let text = y ∷ ys in
     all_by (holds_in fortran77 text) (FollowsIn r) (places text) program_causes
     (each (λ c. AllByRecursion (λ (q : Place). holds_in fortran77 text c q ≡ true → FollowsIn r (refusal_at c q.here.line)) (places text))
-    (λ c. every (λ (q : Place). has_number text r.number q ≡ true → (f.place ≡ q) ⊎ (f.place.here.line < q.here.line)) (λ (q : Place). holds_in fortran77 text c q ≡ true → FollowsIn r (refusal_at c q.here.line))
+    (λ c. all_weaker (λ (q : Place). has_number text r.number q ≡ true → (f.place ≡ q) ⊎ (f.place.here.line < q.here.line)) (λ (q : Place). holds_in fortran77 text c q ≡ true → FollowsIn r (refusal_at c q.here.line))
     (λ q later h e. by_place text r f c q e h (later (has_its_number text r.number c q e h)))
     (places text) (first_is_least (has_number text r.number) [] text f.place rising f.first_place)) program_causes)
 

@@ -17,7 +17,8 @@ use Rattle.f77_syntax.specs.Views.{labelled_of, text_of}
 use Rattle.f77_checks.specs.First.{has_number, IsFoundAtPlace, IsFoundFirst}
 use Rattle.f77_checks.specs.Limits.{limits}
 use Rattle.f77_checks.specs.Outcomes.{IfRefusal, IsNowhere, IsFirstAmong, Passes, IsChecked}
-use Rattle.f77_checks.proofs.Found.{findings_by, every_cause, find_same, find_holds, nothing_found, found_among, found_there, least_number, every}
+use Rattle.f77_laws.proofs.Lists.{all_weaker}
+use Rattle.f77_checks.proofs.Found.{findings_by, every_cause, find_same, find_holds, nothing_found, found_among, found_there, least_number}
 use Rattle.f77_checks.proofs.Passing.{or_false}
 
 -- ---- what is found first
@@ -148,7 +149,7 @@ words_step : (test : Cause → Bool) (b : Bool) (d : Cause) (ds : List Cause) (c
     → AllByRecursion (λ x. test x ≡ true → word_of_cause c ≤ word_of_cause x) (d ∷ ds)
 words_step test true d ds c f e h a ih =
     let same : d ≡ c = cc in
-    subst (λ y. AllByRecursion (λ x. test x ≡ true → word_of_cause y ≤ word_of_cause x) (d ∷ ds)) same (every (λ x. word_of_cause d ≤ word_of_cause x) (λ x. test x ≡ true → word_of_cause d ≤ word_of_cause x) (λ x le t. le) (d ∷ ds) a)
+    subst (λ y. AllByRecursion (λ x. test x ≡ true → word_of_cause y ≤ word_of_cause x) (d ∷ ds)) same (all_weaker (λ x. word_of_cause d ≤ word_of_cause x) (λ x. test x ≡ true → word_of_cause d ≤ word_of_cause x) (λ x le t. le) (d ∷ ds) a)
 words_step test false d ds c f e h a ih = (λ t. absurd (let no : false ≡ true = sym e ∙ t in cc), ih h)
 
 least_words : (test : Cause → Bool) (cs : List Cause) (c : Cause) → Ascend cs → find test cs ≡ Some c → AllByRecursion (λ x. test x ≡ true → word_of_cause c ≤ word_of_cause x) cs

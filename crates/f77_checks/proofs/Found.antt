@@ -12,21 +12,14 @@ use Rattle.fv_tree.specs.declared.refusals.Cause.TheVariants.{Label, Nesting, No
 use Rattle.fv_meaning.specs.Dialect.{fortran77}
 use Rattle.f77_grammar.specs.program.Program77.{program_causes, holds_in}
 use Rattle.f77_laws.specs.Source.{AreRising}
+use Rattle.f77_laws.proofs.Lists.{all_weaker, all_both, here, there}
 use Rattle.f77_checks.proofs.Indices.{placed}
 
 -- ---- lists
 
-pub every : {X : Type 0} (P Q : X → Type 0) → ((x : X) → P x → Q x) → (xs : List X) → AllByRecursion P xs → AllByRecursion Q xs
-every P Q h [] a = tt
-every P Q h (x ∷ xs) a = (h x a.0, every P Q h xs a.1)
-
 pub both : {X : Type 0} (P Q R : X → Type 0) → ((x : X) → P x → Q x → R x) → (xs : List X) → AllByRecursion P xs → AllByRecursion Q xs → AllByRecursion R xs
 both P Q R h [] a b = tt
 both P Q R h (x ∷ xs) a b = (h x a.0 b.0, both P Q R h xs a.1 b.1)
-
-pub all_append : {X : Type 0} (P : X → Type 0) (xs ys : List X) → AllByRecursion P xs → AllByRecursion P ys → AllByRecursion P (xs ++ ys)
-all_append P [] ys a b = b
-all_append P (x ∷ xs) ys a b = (a.0, all_append P xs ys a.1 b)
 
 pub each : {X : Type 0} (P : X → Type 0) → ((x : X) → P x) → (xs : List X) → AllByRecursion P xs
 each P h [] = tt
@@ -83,7 +76,7 @@ all_of holds P c (p ∷ ps) a = all_of_step P c (holds c p) p (filter (holds c) 
 pub all_by : (holds : Cause → Place → Bool) (P : Refusal → Type 0) (ps : List Place) (cs : List Cause)
     → AllByRecursion (λ c. AllByRecursion (λ (q : Place). holds c q ≡ true → P (refusal_at c q.here.line)) ps) cs → AllByRecursion P (findings_by holds ps cs)
 all_by holds P ps [] a = tt
-all_by holds P ps (c ∷ cs) a = all_append P (findings_at holds ps c) (findings_by holds ps cs) (all_of holds P c ps a.0) (all_by holds P ps cs a.1)
+all_by holds P ps (c ∷ cs) a = all_both P (findings_at holds ps c) (findings_by holds ps cs) (all_of holds P c ps a.0) (all_by holds P ps cs a.1)
 
 pub nothing_found : (holds : Cause → Place → Bool) (ps : List Place) (cs : List Cause) → AllByRecursion (λ c. find (holds c) ps ≡ None) cs → findings_by holds ps cs ≡ []
 nothing_found holds ps [] a = refl
@@ -126,12 +119,6 @@ pub any_true : (test : Cause → Bool) (cs : List Cause) (c : Cause) → Among c
 any_true test [] c m h = absurd m
 any_true test (d ∷ ds) c m h = any_step test d ds c m h (λ k. any_true test ds c k h)
 
-pub here : {X : Type 0} (x : X) (xs : List X) → Contains (x ∷ xs) x
-here x xs = Contains-get_or (x ∷ xs) 0 x (omega arith)
-
-there : {X : Type 0} (y : X) (xs : List X) (x : X) → Contains xs x → Contains (y ∷ xs) x
-there y xs x h = Contains-append_right (y ∷ []) xs x h
-
 contains_step : (c : Cause) (b : Bool) (p q : Place) (rest : List Place) (f : Option Place) → cond b (Some p) f ≡ Some q
     → (f ≡ Some q → Contains (map (λ (x : Place). refusal_at c x.here.line) rest) (refusal_at c q.here.line))
     → Contains (map (λ (x : Place). refusal_at c x.here.line) (cond b (p ∷ rest) rest)) (refusal_at c q.here.line)
@@ -168,7 +155,7 @@ found_among holds ps (d ∷ ds) c r m h = among_step holds ps d ds c r m h (λ k
 
 from_none : (holds : Cause → Place → Bool) (P : Refusal → Type 0) (c : Cause) (ps : List Place) → find (holds c) ps ≡ None
     → AllByRecursion (λ (q : Place). holds c q ≡ true → P (refusal_at c q.here.line)) ps
-from_none holds P c ps h = every (λ q. holds c q ≡ false) (λ (q : Place). holds c q ≡ true → P (refusal_at c q.here.line)) (λ q e t. absurd (let no : false ≡ true = sym e ∙ t in cc)) ps (find_none (holds c) ps h)
+from_none holds P c ps h = all_weaker (λ q. holds c q ≡ false) (λ (q : Place). holds c q ≡ true → P (refusal_at c q.here.line)) (λ q e t. absurd (let no : false ≡ true = sym e ∙ t in cc)) ps (find_none (holds c) ps h)
 
 numbers_from : (n : ℕ) (cs : List Cause) → list_all (λ c. nat_le n (number_of_cause c)) cs ≡ true → AllByRecursion (λ c. n ≤ number_of_cause c) cs
 numbers_from n [] h = tt
@@ -187,9 +174,9 @@ least_number holds ps n front back a h =
     let P : Refusal → Type 0 = λ (other : Refusal). n ≤ other.number in
     let Q : Cause → Type 0 = λ c. AllByRecursion (λ (q : Place). holds c q ≡ true → P (refusal_at c q.here.line)) ps in
     all_by holds P ps (front ++ back)
-    (all_append Q front back
-    (every (λ c. find (holds c) ps ≡ None) Q (λ c e. from_none holds P c ps e) front a)
-    (every (λ c. n ≤ number_of_cause c) Q (λ c e. each (λ (q : Place). holds c q ≡ true → P (refusal_at c q.here.line)) (λ q t. e) ps) back (numbers_from n back h)))
+    (all_both Q front back
+    (all_weaker (λ c. find (holds c) ps ≡ None) Q (λ c e. from_none holds P c ps e) front a)
+    (all_weaker (λ c. n ≤ number_of_cause c) Q (λ c e. each (λ (q : Place). holds c q ≡ true → P (refusal_at c q.here.line)) (λ q t. e) ps) back (numbers_from n back h)))
 
 -- ---- the first place has the least line
 
@@ -204,7 +191,7 @@ rising_step : (test : Place → Bool) (b : Bool) (p q : Place) (rest : List Plac
     → AllByRecursion (λ (x : Place). q.here.line < x.here.line) rest → (f ≡ Some p → AllByRecursion (IsNoLater test p) rest) → AllByRecursion (IsNoLater test p) (q ∷ rest)
 rising_step test true p q rest f e h a ih =
     let same : q ≡ p = cc in
-    (λ t. inl (sym same), every (λ (x : Place). q.here.line < x.here.line) (IsNoLater test p) (λ x lt t. inr (subst (λ (y : Place). y.here.line < x.here.line) same lt)) rest a)
+    (λ t. inl (sym same), all_weaker (λ (x : Place). q.here.line < x.here.line) (IsNoLater test p) (λ x lt t. inr (subst (λ (y : Place). y.here.line < x.here.line) same lt)) rest a)
 rising_step test false p q rest f e h a ih = (λ t. absurd (let no : false ≡ true = sym e ∙ t in cc), ih h)
 
 pub first_is_least : (test : Place → Bool) (before xs : List Labelled) (p : Place) → AreRising xs → find test (places_from before xs) ≡ Some p → AllByRecursion (IsNoLater test p) (places_from before xs)

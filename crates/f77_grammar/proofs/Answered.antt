@@ -50,7 +50,7 @@ not_before_itself r = before_itself r.number r.line r.word
 pub not_before_sooner : (o r s : Refusal) → comes_before o r ≡ false → comes_before s r ≡ true → comes_before o s ≡ false
 not_before_sooner o r s h g = before_sooner o.number o.line o.word r.number r.line r.word s.number s.line s.word h g
 
--- it has a later line, or no lesser word on the same line, where it has no greater number
+-- if it has the same number, it has a later line, or no lesser word on the same line
 abbrev pub FollowsIn : Refusal → Refusal → Type 0
 FollowsIn r other = other.number ≡ r.number → (r.line < other.line) ⊎ ((r.line ≡ other.line) × (r.word ≤ other.word))
 

@@ -12,7 +12,7 @@ use Rattle.fv_tree.specs.declared.refusals.Refused.TheVariants as refused
 use Rattle.f77_grammar.specs.Cards.{PlainCard}
 use Rattle.f77_grammar.specs.Statement77.{Statement77, Labelled}
 use Rattle.f77_grammar.specs.statements.Reading.{IsRefusedBy}
-use Rattle.fv_meaning.specs.Dialect.{fortran77}
+use Rattle.fv_meaning.specs.Dialect.{Dialect, fortran77}
 use Rattle.f77_grammar.specs.Answered.{comes_before}
 use Rattle.f77_grammar.specs.program.Program77.{findings, RefusedStatements}
 use Rattle.f77_grammar.specs.program.Tree.{tree_of}
@@ -75,25 +75,25 @@ no_refusal_at cards text card n w a c h = All-contains IsUnrefused cards card (A
 refusal_of : ℕ → ℕ → ℕ → Refusal
 refusal_of n l w = record { number = n; line = l; word = w }
 
-pub answered_card : (cards : List PlainCard) (r : Refusal) → IsRefusedFirst cards r → RefusedProgram fortran77 cards r
-answered_card cards r f = record {
-  holds = subst (λ l. HasCause fortran77 cards (record { number = r.number; line = l; word = r.word })) (sym f.line) (AtCard f.card r.number r.word f.is_card f.refused);
+pub answered_card : (d : Dialect) (cards : List PlainCard) (r : Refusal) → IsRefusedFirst cards r → RefusedProgram d cards r
+answered_card d cards r f = record {
+  holds = subst (λ l. HasCause d cards (record { number = r.number; line = l; word = r.word })) (sym f.line) (AtCard f.card r.number r.word f.is_card f.refused);
   first = follows;
 }
   where
-    follows : (other : Refusal) → HasCause fortran77 cards other → comes_before other r ≡ false
+    follows : (other : Refusal) → HasCause d cards other → comes_before other r ≡ false
     follows other (AtCard card n w c h) = All-contains (IsNotBefore r) cards card (All-from_recursion (IsNotBefore r) cards f.first) c n w h
     follows other (InText text o a c) = absurd (f.unread text a)
 
-pub answered_text : (cards : List PlainCard) (text : List Labelled) (r : Refusal) → AreReadAlone cards text → RefusedStatements fortran77 text r → RefusedProgram fortran77 cards r
-answered_text cards text r a f = record {
+pub answered_text : (d : Dialect) (cards : List PlainCard) (text : List Labelled) (r : Refusal) → AreReadAlone cards text → RefusedStatements d text r → RefusedProgram d cards r
+answered_text d cards text r a f = record {
   holds = InText text r (are_read cards text a) f.holds;
   first = follows;
 }
   where
-    follows : (other : Refusal) → HasCause fortran77 cards other → comes_before other r ≡ false
+    follows : (other : Refusal) → HasCause d cards other → comes_before other r ≡ false
     follows other (AtCard card n w c h) = absurd (no_refusal_at cards text card n w a c h)
-    follows other (InText t o b c) = f.first o (subst (λ ys. Contains (findings fortran77 ys) o) (one_text cards text t a b) c)
+    follows other (InText t o b c) = f.first o (subst (λ ys. Contains (findings d ys) o) (one_text cards text t a b) c)
 
 -- ---- the text of cards that are read
 
@@ -116,8 +116,8 @@ program_if_ok cards (Ok p) h = record { text = h.text; statements = are_read car
 program_if_ok cards (Err e) h = tt
 
 answered_by : (cards : List PlainCard) (r : Refusal) → IsRefusalOf cards r → (10 ≤ r.number → AreRisingCards cards) → RefusedProgram fortran77 cards r
-answered_by cards r (OfCard f) rising = answered_card cards r f
-answered_by cards r (OfText text a f) rising = answered_text cards text r a (f.first (rising_text cards text (are_read cards text a) (rising f.number)))
+answered_by cards r (OfCard f) rising = answered_card fortran77 cards r f
+answered_by cards r (OfText text a f) rising = answered_text fortran77 cards text r a (f.first (rising_text cards text (are_read cards text a) (rising f.number)))
 
 pub answered_if_refused : (cards : List PlainCard) (o : Result Program77 Refused) (r : Refusal) → AreCardsBuilt cards o → o ≡ Err (refused.Refusal r)
     → (10 ≤ r.number → AreRisingCards cards) → RefusedProgram fortran77 cards r
@@ -144,7 +144,7 @@ number_of_cause cards text r a (InText t o b c) =
     All-contains (λ (other : Refusal). 10 ≤ other.number) (findings fortran77 t) o (All-from_recursion (λ (other : Refusal). 10 ≤ other.number) (findings fortran77 t) (number_of_finding t)) c
 
 same_answer : (cards : List PlainCard) (s r : Refusal) → IsRefusalOf cards s → RefusedProgram fortran77 cards r → (10 ≤ r.number → AreRisingCards cards) → s ≡ r
-same_answer cards s r (OfCard f) g rising = one_answer (HasCause fortran77 cards) s r (answered_card cards s f) g
+same_answer cards s r (OfCard f) g rising = one_answer (HasCause fortran77 cards) s r (answered_card fortran77 cards s f) g
 same_answer cards s r (OfText text a f) g rising =
     one_answer (HasCause fortran77 cards) s r (answered_by cards s (OfText text a f) (λ n. rising (number_of_cause cards text r a g.holds))) g
 

@@ -15,7 +15,7 @@ use Rattle.f77_grammar.specs.statements.Reading.{ReadsStatement, IsRefusedBy}
 use Rattle.f77_grammar.specs.Answered.{comes_before}
 use Rattle.f77_grammar.proofs.Answered.{not_before_itself, not_before_sooner}
 use Rattle.f77_checks.specs.Outcomes.{IfRefusal}
-use Rattle.f77_checks.proofs.Found.{every, all_append}
+use Rattle.f77_laws.proofs.Lists.{all_weaker, all_both}
 use Rattle.f77_grammar.specs.Reading77.{AreReadFrom}
 use Rattle.fixed_form.specs.Card.{card_of}
 use Rattle.fixed_form.specs.declared.cards.Card.{Card}
@@ -111,29 +111,29 @@ refused_last cards card r f a = record {
   line = f.line;
   refused = f.refused;
   unread = (λ text h. let l = last_is_read cards card text h in f.unread l.0 l.1);
-  first = all_append (IsNotBefore r) cards (card ∷ []) a (itself_alone card r f, tt);
+  first = all_both (IsNotBefore r) cards (card ∷ []) a (itself_alone card r f, tt);
 }
 
-kept : (cards : List PlainCard) (card : PlainCard) (r : Refusal) → IsRefusedFirst cards r → IsNotBefore r card → IsRefusedFirst (cards ++ card ∷ []) r
+pub kept : (cards : List PlainCard) (card : PlainCard) (r : Refusal) → IsRefusedFirst cards r → IsNotBefore r card → IsRefusedFirst (cards ++ card ∷ []) r
 kept cards card r f h = record {
   card = f.card;
   is_card = Contains-append_left cards (card ∷ []) f.card f.is_card;
   line = f.line;
   refused = f.refused;
   unread = (λ text a. let t = front_is_read cards card text a in f.unread t.0 t.1);
-  first = all_append (IsNotBefore r) cards (card ∷ []) f.first (h, tt);
+  first = all_both (IsNotBefore r) cards (card ∷ []) f.first (h, tt);
 }
 
 -- of cards that were read
-first_refused : (cards : List PlainCard) (text : List Labelled) (card : PlainCard) (r : Refusal) → AreReadAlone cards text → IsRefusedAlone card r
+pub first_refused : (cards : List PlainCard) (text : List Labelled) (card : PlainCard) (r : Refusal) → AreReadAlone cards text → IsRefusedAlone card r
     → IsRefusedFirst (cards ++ card ∷ []) r
-first_refused cards text card r a f = refused_last cards card r f (every IsUnrefused (IsNotBefore r) (λ c u n w h. absurd (u n w h)) cards (unrefused cards text a))
+first_refused cards text card r a f = refused_last cards card r f (all_weaker IsUnrefused (IsNotBefore r) (λ c u n w h. absurd (u n w h)) cards (unrefused cards text a))
 
 -- of cards of which one is refused
-another_refused : (cards : List PlainCard) (card : PlainCard) (r s : Refusal) (t : Bool) → comes_before s r ≡ t → IsRefusedFirst cards r → IsRefusedAlone card s
+pub another_refused : (cards : List PlainCard) (card : PlainCard) (r s : Refusal) (t : Bool) → comes_before s r ≡ t → IsRefusedFirst cards r → IsRefusedAlone card s
     → IsRefusedFirst (cards ++ card ∷ []) (cond t s r)
 another_refused cards card r s true e f g =
-    refused_last cards card s g (every (IsNotBefore r) (IsNotBefore s) (λ c h n w i. not_before_sooner (card_refusal c n w) r s (h n w i) e) cards f.first)
+    refused_last cards card s g (all_weaker (IsNotBefore r) (IsNotBefore s) (λ c h n w i. not_before_sooner (card_refusal c n w) r s (h n w i) e) cards f.first)
 another_refused cards card r s false e f g =
     kept cards card r f (λ n w h. subst (λ (o : Refusal). comes_before o r ≡ false) (sym (g.only n w h)) e)
 

@@ -2,3 +2,4 @@ pub mod CardLaws
 pub mod TextLaws
 pub mod Answers
 pub mod SourceLaws
+pub mod Settled

@@ -1,5 +1,5 @@
 -- DO variables with their parameters.
-use Rattle.std.proofs.Common.{◌≡◌, ℕ, List, [], ◌∷◌, ap, ◌∙◌, refl, arith, pos, ◌<◌, length, append-nil}
+use Rattle.std.proofs.Common.{◌≡◌, List, [], ◌∷◌, ap, ◌∙◌, refl, arith, pos, ◌<◌, length, append-nil}
 use Rattle.std.specs.Prelude.{Option, Some, None}
 use Rattle.fv_tree.specs.View.{expression_of}
 use Rattle.fv_tree.specs.declared.exprs.Expr.TheVariants as exprs

@@ -1,5 +1,5 @@
 -- What is read of a statement and its parts, in the words of the grammar.
-use Rattle.std.specs.Prelude.{ℕ, ◌≡◌, Bool, true, false, Option, List, ◌∷◌, ◌++◌, Result, Ok, Err}
+use Rattle.std.specs.Prelude.{ℕ, ◌≡◌, Option, List, ◌∷◌, ◌++◌, Result, Ok, Err}
 use Rattle.fv_tree.specs.Plain.{Expression, Named, Reference}
 use Rattle.fv_tree.specs.View.{expression_of, reference_of}
 use Rattle.fv_tree.specs.declared.exprs.Ref.{Ref}
