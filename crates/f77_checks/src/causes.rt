@@ -8,12 +8,12 @@ ghost use Rattle.f77_syntax.specs.Views.{text_of};
 ghost use Rattle.f77_checks.specs.Outcomes.{Passes};
 
 use crate::places::line_at;
-use f77_structure::{wrong_end, wrong_label, wrong_nesting};
 use f77_jumps::{wrong_do_variable, wrong_jump};
 use f77_kinds::unsuited_kind;
 use f77_names::{real_name, wrong_declaration};
-use fv_tree::{Cause, Refused};
+use f77_structure::{wrong_end, wrong_label, wrong_nesting};
 use f77_syntax::Labelled;
+use fv_tree::{Cause, Refused};
 use std::alloc::Global;
 
 // Refuses a text at the line at which the cause holds first, if it holds.
@@ -52,7 +52,10 @@ pub fn check_end(text: &[Labelled]) -> Result<(), Refused>
 pub fn check_declarations(alloc: Global, text: &[Labelled]) -> Result<(), Refused>
     ensures { Passes (Cause.Declared ∷ []) (text_of text.now) result }
 {
-    refuse(Cause::Declared, line_at(text, wrong_declaration(alloc, text)?))
+    refuse(
+        Cause::Declared,
+        line_at(text, wrong_declaration(alloc, text)?),
+    )
 }
 
 /// Refuses a text with a variable that would be REAL.
@@ -80,5 +83,8 @@ pub fn check_jumps(alloc: Global, text: &[Labelled]) -> Result<(), Refused>
 pub fn check_do_variables(alloc: Global, text: &[Labelled]) -> Result<(), Refused>
     ensures { Passes (Cause.DoVariable ∷ []) (text_of text.now) result }
 {
-    refuse(Cause::DoVariable, line_at(text, wrong_do_variable(alloc, text)?))
+    refuse(
+        Cause::DoVariable,
+        line_at(text, wrong_do_variable(alloc, text)?),
+    )
 }

@@ -12,8 +12,8 @@ ghost use Rattle.f77_checks.specs.Outcomes.{Passes};
 use f77_constants::{bad_constant, constants_of, many_elements, reversed_bounds};
 use f77_jumps::many_blocks;
 use f77_names::many_names;
-use fv_tree::{Cause, Memory, Refused};
 use f77_syntax::Labelled;
+use fv_tree::{Cause, Memory, Refused};
 use std::alloc::Global;
 
 /// A limit that is broken, and the place of the first statement at which it is.
@@ -52,7 +52,10 @@ fn first_breach(alloc: Global, text: &[Labelled]) -> Result<Option<Breach>, Memo
     let constants = constants_of(alloc, text)?;
     let names = breach_at(Cause::ManyNames, many_names(alloc, text)?);
     let blocks = breach_at(Cause::ManyBlocks, many_blocks(alloc, text)?);
-    let bounds = breach_at(Cause::ReversedBounds, reversed_bounds(alloc, text, &constants)?);
+    let bounds = breach_at(
+        Cause::ReversedBounds,
+        reversed_bounds(alloc, text, &constants)?,
+    );
     let elements = breach_at(Cause::ManyElements, many_elements(alloc, text, &constants)?);
     let values = breach_at(Cause::BadConstant, bad_constant(alloc, text, &constants)?);
     Ok(sooner(

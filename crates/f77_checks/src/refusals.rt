@@ -13,8 +13,8 @@ use crate::causes::{
     check_nesting, check_real_names,
 };
 use crate::limits::refuse_breach;
-use fv_tree::{Cause, Refused};
 use f77_syntax::Labelled;
+use fv_tree::{Cause, Refused};
 use std::alloc::Global;
 
 // The causes come in the order of their numbers.

@@ -1,7 +1,7 @@
 //! What the rules say of small programs.
 use crate::check;
-use fv_tree::{Cause, Expr, Kind, Name, Ref, Refusal, Refused, Seq, Sub};
 use f77_syntax::{Entity, Labelled, Stmt77};
+use fv_tree::{Cause, Expr, Kind, Name, Ref, Refusal, Refused, Seq, Sub};
 use std::alloc::Global;
 use std::test::Fail;
 
@@ -80,10 +80,7 @@ fn statement(alloc: Global, sample: Sample) -> Result<Stmt77, Fail> {
 }
 
 // The answer to a program with these labels and statements, a line each: its refusal, if it has one.
-fn refusal(
-    alloc: Global,
-    samples: &[(Option<u32>, Sample)],
-) -> Result<Option<Refusal>, Fail> {
+fn refusal(alloc: Global, samples: &[(Option<u32>, Sample)]) -> Result<Option<Refusal>, Fail> {
     let mut text = Vec::new(alloc);
     let mut line: u32 = 0;
     for (label, sample) in samples {
@@ -102,11 +99,7 @@ fn refusal(
 }
 
 // Without labels, and with END behind.
-fn refusal_of_two(
-    alloc: Global,
-    first: Sample,
-    second: Sample,
-) -> Result<Option<Refusal>, Fail> {
+fn refusal_of_two(alloc: Global, first: Sample, second: Sample) -> Result<Option<Refusal>, Fail> {
     refusal(alloc, &[(None, first), (None, second), (None, Sample::End)])
 }
 
@@ -163,12 +156,24 @@ fn end_is_missing_or_early(rt: HostRuntime) -> Result<(), Fail> {
 #[test]
 fn two_statements(rt: HostRuntime) -> Result<(), Fail> {
     for (first, second, expected) in [
-        (Sample::Integer(b'I'), Sample::Integer(b'I'), Cause::Declared.at(2)),
+        (
+            Sample::Integer(b'I'),
+            Sample::Integer(b'I'),
+            Cause::Declared.at(2),
+        ),
         (Sample::Set(b'X'), Sample::Continue, Cause::RealName.at(1)),
         (Sample::SetCall, Sample::Continue, Cause::TypeClash.at(1)),
         (Sample::SetCall, Sample::Set(b'X'), Cause::RealName.at(2)),
-        (Sample::Array(b'A', 2, 1), Sample::Continue, Cause::ReversedBounds.at(1)),
-        (Sample::Constant(2147483648), Sample::Continue, Cause::BadConstant.at(1)),
+        (
+            Sample::Array(b'A', 2, 1),
+            Sample::Continue,
+            Cause::ReversedBounds.at(1),
+        ),
+        (
+            Sample::Constant(2147483648),
+            Sample::Continue,
+            Cause::BadConstant.at(1),
+        ),
         (
             Sample::Array(b'A', 1, 5000000),
             Sample::Array(b'B', 2, 1),
@@ -223,6 +228,9 @@ fn a_hundred_and_one_blocks(rt: HostRuntime) -> Result<(), Fail> {
         text.push((None, Sample::EndIf))?;
     }
     text.push((None, Sample::End))?;
-    assert_eq!(rt; refusal(rt.alloc(), &text)?, Some(Cause::ManyBlocks.at(101)));
+    assert_eq!(rt;
+        refusal(rt.alloc(), &text)?,
+        Some(Cause::ManyBlocks.at(101))
+    );
     Ok(())
 }

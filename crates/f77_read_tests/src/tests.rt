@@ -18,19 +18,34 @@ fn labels_and_blocks(rt: HostRuntime) -> Result<(), Fail> {
     for (deck, want) in [
         ("    0 I = 1\n      END\n", Some(Cause::Label.at(1))),
         ("   10 I = 1\n      END\n", None),
-        ("   10 I = 1\n   10 J = 1\n      END\n", Some(Cause::Label.at(2))),
+        (
+            "   10 I = 1\n   10 J = 1\n      END\n",
+            Some(Cause::Label.at(2)),
+        ),
         ("      GO TO 10\n      END\n", Some(Cause::Label.at(1))),
         ("      GO TO 10\n   10 I = 1\n      END\n", None),
-        ("      IF (I .EQ. 1) GO TO 10\n      END\n", Some(Cause::Label.at(1))),
-        ("      DO 10 I = 1, 2\n      END\n", Some(Cause::Label.at(1))),
-        ("      PROGRAM P\n      I = 1\n      END\n", None),
-        ("      I = 1\n      PROGRAM P\n      END\n", Some(Cause::Nesting.at(2))),
-        ("      I = 1\n      INTEGER J\n      END\n", Some(Cause::Nesting.at(2))),
-        ("      IF (I .EQ. 1) THEN\n      END\n", Some(Cause::Nesting.at(1))),
         (
-            "      IF (I .EQ. 1) THEN\n      END IF\n      END\n",
-            None,
+            "      IF (I .EQ. 1) GO TO 10\n      END\n",
+            Some(Cause::Label.at(1)),
         ),
+        (
+            "      DO 10 I = 1, 2\n      END\n",
+            Some(Cause::Label.at(1)),
+        ),
+        ("      PROGRAM P\n      I = 1\n      END\n", None),
+        (
+            "      I = 1\n      PROGRAM P\n      END\n",
+            Some(Cause::Nesting.at(2)),
+        ),
+        (
+            "      I = 1\n      INTEGER J\n      END\n",
+            Some(Cause::Nesting.at(2)),
+        ),
+        (
+            "      IF (I .EQ. 1) THEN\n      END\n",
+            Some(Cause::Nesting.at(1)),
+        ),
+        ("      IF (I .EQ. 1) THEN\n      END IF\n      END\n", None),
         ("      END IF\n      END\n", Some(Cause::Nesting.at(1))),
         (
             "      DO 10 I = 1, 3\n      DO 20 J = 1, 3\n   10 CONTINUE\n   20 CONTINUE\n      END\n",
@@ -44,7 +59,10 @@ fn labels_and_blocks(rt: HostRuntime) -> Result<(), Fail> {
             "      IF (I .EQ. 1) THEN\n      ELSE\n      ELSE\n      END IF\n      END\n",
             Some(Cause::Nesting.at(3)),
         ),
-        ("      DO 10 I = 1, 3\n   10 STOP\n      END\n", Some(Cause::Nesting.at(2))),
+        (
+            "      DO 10 I = 1, 3\n   10 STOP\n      END\n",
+            Some(Cause::Nesting.at(2)),
+        ),
         (
             "      DO 10 I = 1, 3\n   10 IF (I .EQ. 2) STOP\n      END\n",
             None,
@@ -70,7 +88,10 @@ fn labels_and_blocks(rt: HostRuntime) -> Result<(), Fail> {
 #[test]
 fn names(rt: HostRuntime) -> Result<(), Fail> {
     for (deck, want) in [
-        ("      INTEGER I\n      INTEGER I\n      END\n", Some(Cause::Declared.at(2))),
+        (
+            "      INTEGER I\n      INTEGER I\n      END\n",
+            Some(Cause::Declared.at(2)),
+        ),
         ("      INTEGER I\n      INTEGER J\n      END\n", None),
         (
             "      INTEGER A(2)\n      DIMENSION A(2)\n      A(1) = 1\n      END\n",
@@ -96,10 +117,7 @@ fn names(rt: HostRuntime) -> Result<(), Fail> {
             "      PROGRAM MAX\n      I = MAX(1, 2)\n      END\n",
             Some(Cause::Declared.at(2)),
         ),
-        (
-            "      PROGRAM MAX0\n      MAX = 1\n      END\n",
-            None,
-        ),
+        ("      PROGRAM MAX0\n      MAX = 1\n      END\n", None),
         (
             "      PROGRAM MAX\n      I = MAX0(1, 2)\n      END\n",
             Some(Cause::Declared.at(2)),
@@ -108,15 +126,12 @@ fn names(rt: HostRuntime) -> Result<(), Fail> {
             "      PROGRAM MAX0\n      I = MAX0(1, 2)\n      END\n",
             Some(Cause::Declared.at(2)),
         ),
+        ("      PROGRAM MAX0\n      I = MAX(1, 2)\n      END\n", None),
+        ("      PROGRAM P\n      I = MAX(1, 2)\n      END\n", None),
         (
-            "      PROGRAM MAX0\n      I = MAX(1, 2)\n      END\n",
-            None,
+            "      PROGRAM I\n      I = 1\n      END\n",
+            Some(Cause::Declared.at(2)),
         ),
-        (
-            "      PROGRAM P\n      I = MAX(1, 2)\n      END\n",
-            None,
-        ),
-        ("      PROGRAM I\n      I = 1\n      END\n", Some(Cause::Declared.at(2))),
         (
             "      INTEGER A(N)\n      PARAMETER (N = 2)\n      END\n",
             Some(Cause::Declared.at(1)),
@@ -125,7 +140,10 @@ fn names(rt: HostRuntime) -> Result<(), Fail> {
             "      PARAMETER (N = 2)\n      INTEGER A(N)\n      END\n",
             None,
         ),
-        ("      PARAMETER (N = M)\n      END\n", Some(Cause::Declared.at(1))),
+        (
+            "      PARAMETER (N = M)\n      END\n",
+            Some(Cause::Declared.at(1)),
+        ),
         ("      PARAMETER (M = 1, N = M)\n      END\n", None),
         ("      I = K(1)\n      END\n", Some(Cause::Declared.at(1))),
         ("      INTEGER K(3)\n      I = K(1)\n      END\n", None),
@@ -141,16 +159,22 @@ fn names(rt: HostRuntime) -> Result<(), Fail> {
             "      PARAMETER (N = 1)\n      READ *, N\n      END\n",
             Some(Cause::Declared.at(2)),
         ),
-        (
-            "      PARAMETER (N = 1)\n      I = N\n      END\n",
-            None,
-        ),
+        ("      PARAMETER (N = 1)\n      I = N\n      END\n", None),
         ("      A = 1\n      END\n", Some(Cause::RealName.at(1))),
         ("      I = 1\n      END\n", None),
         ("      INTEGER A\n      A = 1\n      END\n", None),
-        ("      PARAMETER (A = 1)\n      END\n", Some(Cause::RealName.at(1))),
-        ("      I = 1\n      DO10I = 1\n      END\n", Some(Cause::RealName.at(2))),
-        ("      INTEGER H\n      H = O\n      END\n", Some(Cause::RealName.at(2))),
+        (
+            "      PARAMETER (A = 1)\n      END\n",
+            Some(Cause::RealName.at(1)),
+        ),
+        (
+            "      I = 1\n      DO10I = 1\n      END\n",
+            Some(Cause::RealName.at(2)),
+        ),
+        (
+            "      INTEGER H\n      H = O\n      END\n",
+            Some(Cause::RealName.at(2)),
+        ),
         ("      I = N\n      END\n", None),
     ] {
         assert_eq!(rt; refusal(rt.alloc(), deck.as_bytes())?, want, "at {deck}");
@@ -161,33 +185,48 @@ fn names(rt: HostRuntime) -> Result<(), Fail> {
 #[test]
 fn kinds(rt: HostRuntime) -> Result<(), Fail> {
     for (deck, want) in [
-        ("      LOGICAL L\n      I = 1 + L\n      END\n", Some(Cause::TypeClash.at(2))),
         (
-            "      LOGICAL L\n      L = I .EQ. 1\n      END\n",
-            None,
+            "      LOGICAL L\n      I = 1 + L\n      END\n",
+            Some(Cause::TypeClash.at(2)),
         ),
-        ("      LOGICAL L\n      L = 1\n      END\n", Some(Cause::TypeClash.at(2))),
-        ("      IF (I) J = 1\n      END\n", Some(Cause::TypeClash.at(1))),
+        ("      LOGICAL L\n      L = I .EQ. 1\n      END\n", None),
+        (
+            "      LOGICAL L\n      L = 1\n      END\n",
+            Some(Cause::TypeClash.at(2)),
+        ),
+        (
+            "      IF (I) J = 1\n      END\n",
+            Some(Cause::TypeClash.at(1)),
+        ),
         ("      IF (I .EQ. 1) J = 1\n      END\n", None),
-        ("      INTEGER K(3)\n      K = 1\n      END\n", Some(Cause::TypeClash.at(2))),
         (
-            "      INTEGER K(3)\n      PRINT *, K\n      END\n",
-            None,
+            "      INTEGER K(3)\n      K = 1\n      END\n",
+            Some(Cause::TypeClash.at(2)),
         ),
-        ("      INTEGER K(3)\n      I = K\n      END\n", Some(Cause::TypeClash.at(2))),
-        ("      MAX(1, 2) = 3\n      END\n", Some(Cause::TypeClash.at(1))),
+        ("      INTEGER K(3)\n      PRINT *, K\n      END\n", None),
+        (
+            "      INTEGER K(3)\n      I = K\n      END\n",
+            Some(Cause::TypeClash.at(2)),
+        ),
+        (
+            "      MAX(1, 2) = 3\n      END\n",
+            Some(Cause::TypeClash.at(1)),
+        ),
         ("      I = MAX(1, 2)\n      END\n", None),
-        ("      I = MAX(1)\n      END\n", Some(Cause::TypeClash.at(1))),
-        ("      I = ABS(1, 2)\n      END\n", Some(Cause::TypeClash.at(1))),
+        (
+            "      I = MAX(1)\n      END\n",
+            Some(Cause::TypeClash.at(1)),
+        ),
+        (
+            "      I = ABS(1, 2)\n      END\n",
+            Some(Cause::TypeClash.at(1)),
+        ),
         ("      I = MOD(1, 2)\n      END\n", None),
         (
             "      INTEGER ABS\n      I = 1\n      I = IABS(I)\n      END\n",
             Some(Cause::TypeClash.at(3)),
         ),
-        (
-            "      I = ABS(I)\n      I = IABS(I)\n      END\n",
-            None,
-        ),
+        ("      I = ABS(I)\n      I = IABS(I)\n      END\n", None),
         (
             "      PARAMETER (MAX = 2)\n      I = MAX(1, 2)\n      END\n",
             Some(Cause::TypeClash.at(2)),
@@ -204,14 +243,23 @@ fn kinds(rt: HostRuntime) -> Result<(), Fail> {
             "      LOGICAL L, M\n      L = L .EQ. M\n      END\n",
             Some(Cause::TypeClash.at(2)),
         ),
+        ("      LOGICAL L, M\n      L = L .EQV. M\n      END\n", None),
         (
-            "      LOGICAL L, M\n      L = L .EQV. M\n      END\n",
-            None,
+            "      READ *, MAX(1, 2)\n      END\n",
+            Some(Cause::TypeClash.at(1)),
         ),
-        ("      READ *, MAX(1, 2)\n      END\n", Some(Cause::TypeClash.at(1))),
-        ("      INTEGER K(.TRUE.)\n      END\n", Some(Cause::TypeClash.at(1))),
-        ("      PARAMETER (N = .TRUE.)\n      END\n", Some(Cause::TypeClash.at(1))),
-        ("      PRINT *, -.TRUE.\n      END\n", Some(Cause::TypeClash.at(1))),
+        (
+            "      INTEGER K(.TRUE.)\n      END\n",
+            Some(Cause::TypeClash.at(1)),
+        ),
+        (
+            "      PARAMETER (N = .TRUE.)\n      END\n",
+            Some(Cause::TypeClash.at(1)),
+        ),
+        (
+            "      PRINT *, -.TRUE.\n      END\n",
+            Some(Cause::TypeClash.at(1)),
+        ),
     ] {
         assert_eq!(rt; refusal(rt.alloc(), deck.as_bytes())?, want, "at {deck}");
     }
@@ -221,7 +269,10 @@ fn kinds(rt: HostRuntime) -> Result<(), Fail> {
 #[test]
 fn jumps_and_loops(rt: HostRuntime) -> Result<(), Fail> {
     for (deck, want) in [
-        ("   10 I = 1\n      GO TO 10\n      END\n", Some(Cause::Jump.at(2))),
+        (
+            "   10 I = 1\n      GO TO 10\n      END\n",
+            Some(Cause::Jump.at(2)),
+        ),
         ("   10 GO TO 10\n      END\n", Some(Cause::Jump.at(1))),
         (
             "      GO TO 10\n      DO 20 I = 1, 3\n   10 CONTINUE\n   20 CONTINUE\n      END\n",
@@ -289,12 +340,18 @@ fn jumps_and_loops(rt: HostRuntime) -> Result<(), Fail> {
             "      PARAMETER (N = 1)\n      DO 10 N = 1, 3\n   10 CONTINUE\n      END\n",
             Some(Cause::DoVariable.at(2)),
         ),
-        ("      READ *, (I, I = 1, 2)\n      END\n", Some(Cause::DoVariable.at(1))),
+        (
+            "      READ *, (I, I = 1, 2)\n      END\n",
+            Some(Cause::DoVariable.at(1)),
+        ),
         (
             "      INTEGER K(3)\n      READ *, (K(I), I = 1, 3)\n      END\n",
             None,
         ),
-        ("      DO 10 I = 1, 3\n   10 I = 2\n      END\n", Some(Cause::DoVariable.at(2))),
+        (
+            "      DO 10 I = 1, 3\n   10 I = 2\n      END\n",
+            Some(Cause::DoVariable.at(2)),
+        ),
     ] {
         assert_eq!(rt; refusal(rt.alloc(), deck.as_bytes())?, want, "at {deck}");
     }
@@ -304,19 +361,34 @@ fn jumps_and_loops(rt: HostRuntime) -> Result<(), Fail> {
 #[test]
 fn limits(rt: HostRuntime) -> Result<(), Fail> {
     for (deck, want) in [
-        ("      INTEGER A(2:1)\n      END\n", Some(Cause::ReversedBounds.at(1))),
+        (
+            "      INTEGER A(2:1)\n      END\n",
+            Some(Cause::ReversedBounds.at(1)),
+        ),
         ("      INTEGER A(2:2)\n      END\n", None),
-        ("      INTEGER A(2048,2049)\n      END\n", Some(Cause::ManyElements.at(1))),
+        (
+            "      INTEGER A(2048,2049)\n      END\n",
+            Some(Cause::ManyElements.at(1)),
+        ),
         ("      INTEGER A(2048,2048)\n      END\n", None),
         (
             "      INTEGER A(2048,2048)\n      INTEGER B(1)\n      END\n",
             Some(Cause::ManyElements.at(2)),
         ),
-        ("      PARAMETER (N = 2147483648)\n      END\n", Some(Cause::BadConstant.at(1))),
+        (
+            "      PARAMETER (N = 2147483648)\n      END\n",
+            Some(Cause::BadConstant.at(1)),
+        ),
         ("      PARAMETER (N = 2147483647)\n      END\n", None),
         ("      PARAMETER (N = -2147483648)\n      END\n", None),
-        ("      PARAMETER (N = 1 / 0)\n      END\n", Some(Cause::BadConstant.at(1))),
-        ("      INTEGER A(1 / 0)\n      END\n", Some(Cause::BadConstant.at(1))),
+        (
+            "      PARAMETER (N = 1 / 0)\n      END\n",
+            Some(Cause::BadConstant.at(1)),
+        ),
+        (
+            "      INTEGER A(1 / 0)\n      END\n",
+            Some(Cause::BadConstant.at(1)),
+        ),
         (
             "      PARAMETER (N = 3)\n      INTEGER A(N:2)\n      END\n",
             Some(Cause::ReversedBounds.at(2)),
@@ -325,8 +397,14 @@ fn limits(rt: HostRuntime) -> Result<(), Fail> {
             "      INTEGER A(2:1), B(2048,2049)\n      END\n",
             Some(Cause::ReversedBounds.at(1)),
         ),
-        ("      INTEGER A(2147483648)\n      END\n", Some(Cause::ManyElements.at(1))),
-        ("      X = 1\n   10 GO TO 20\n      END\n", Some(Cause::Label.at(2))),
+        (
+            "      INTEGER A(2147483648)\n      END\n",
+            Some(Cause::ManyElements.at(1)),
+        ),
+        (
+            "      X = 1\n   10 GO TO 20\n      END\n",
+            Some(Cause::Label.at(2)),
+        ),
         (
             "      INTEGER A(2:1)\n      I = .TRUE.\n      END\n",
             Some(Cause::TypeClash.at(2)),
@@ -361,7 +439,10 @@ fn worked_decks(rt: HostRuntime) -> Result<(), Fail> {
             \x20    1+1\n     1+1\n     1+1\n     1+1\n      END\n",
             Some(Cause::ManyLines.at(21)),
         ),
-        ("      EQUIVALENCE (I, J)\n      END\n", Some(Cause::OutOfProfile(5).at(1))),
+        (
+            "      EQUIVALENCE (I, J)\n      END\n",
+            Some(Cause::OutOfProfile(5).at(1)),
+        ),
         ("C\n", Some(Cause::NoEnd.at(0))),
     ] {
         assert_eq!(rt; refusal(rt.alloc(), deck.as_bytes())?, want, "at {deck}");

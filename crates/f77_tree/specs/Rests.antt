@@ -28,7 +28,7 @@ abbrev pub rest_with : List tree.Piece → List OpenIf → tree.Rest
 rest_with ps [] = tree.Outermost ps
 rest_with ps (f ∷ fs) =
     tree.InArm ps (arms (reverse (map tested_of f.later.items))) (block_of f.other)
-        (rest_with (pieces_in f.after.items) fs)
+    (rest_with (pieces_in f.after.items) fs)
 
 abbrev pub rest_of : Rest → tree.Rest
 rest_of r = rest_with (pieces_in r.pieces.items) (reverse r.ifs.items)

@@ -13,8 +13,8 @@ ghost use Rattle.f77_syntax.specs.Views.{labelled_of, statement_of, text_of};
 use crate::resolver::Resolver;
 use crate::rests::{Heading, Piece, Rest};
 use crate::targets::Targets;
-use fv_tree::{Expr, Memory, Name, Stmt};
 use f77_syntax::{Labelled, Stmt77};
+use fv_tree::{Expr, Memory, Name, Stmt};
 use std::alloc::Global;
 
 fn add(list: &mut Vec<Stmt>, statement: Option<Stmt>) -> Result<(), Memory>

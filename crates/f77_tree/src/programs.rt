@@ -14,8 +14,8 @@ use crate::resolver::Resolver;
 use crate::targets::Targets;
 use f77_constants::declarations_of;
 use f77_names::{Role, Use};
-use fv_tree::{Memory, Name, Program77};
 use f77_syntax::Labelled;
+use fv_tree::{Memory, Name, Program77};
 use std::alloc::Global;
 
 fn is_title(used: &Use) -> bool

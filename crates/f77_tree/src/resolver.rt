@@ -11,8 +11,8 @@ ghost use Rattle.f77_syntax.specs.Views.{text_of};
 
 use f77_constants::{Constants, constants_of};
 use f77_names::{Names, Uses, names_of, uses_in_text};
-use fv_tree::{Memory, Name, Value};
 use f77_syntax::Labelled;
+use fv_tree::{Memory, Name, Value};
 use std::alloc::Global;
 
 /// What the names of a program stand for.

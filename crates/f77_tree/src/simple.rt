@@ -10,8 +10,8 @@ ghost use Rattle.f77_tree.specs.Resolved.{made};
 ghost use Rattle.f77_syntax.specs.Views.{statement_of};
 
 use crate::resolver::Resolver;
-use fv_tree::{Arm, Block, Expr, Memory, Ref, Seq, Stmt};
 use f77_syntax::Stmt77;
+use fv_tree::{Arm, Block, Expr, Memory, Ref, Seq, Stmt};
 use std::alloc::Global;
 
 #[tactic(auto, using(crate::proofs::SimpleLaws::block_laws))]

@@ -9,8 +9,8 @@ ghost use Rattle.f77_grammar.specs.program.Tree as tree;
 ghost use Rattle.f77_grammar.specs.program.Text.{action};
 ghost use Rattle.f77_syntax.specs.Views.{statement_of, text_of};
 
-use fv_tree::{Memory, Stmt};
 use f77_syntax::{Labelled, Stmt77};
+use fv_tree::{Memory, Stmt};
 use std::alloc::Global;
 use std::collections::BTreeSet;
 

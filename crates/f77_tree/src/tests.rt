@@ -1,7 +1,7 @@
 //! The trees of small programs.
 use crate::tree;
-use fv_tree::{Arm, Expr, Name, Op, Ref, Seq, Stmt};
 use f77_syntax::{Labelled, Stmt77};
+use fv_tree::{Arm, Expr, Name, Op, Ref, Seq, Stmt};
 use std::alloc::Global;
 use std::test::Fail;
 
