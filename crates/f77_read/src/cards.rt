@@ -6,9 +6,9 @@ ghost use Rattle.f77_read.specs.Cards.{IsCardRead, AreCardsRead, IsTried};
 
 use crate::refusals::first;
 use f77_stmt::parse;
+use f77_syntax::Labelled;
 use fixed_form::Card;
 use fv_tree::{Memory, Refusal, Refused, Seq};
-use f77_syntax::Labelled;
 use std::alloc::Global;
 
 /// What was found in the cards so far.

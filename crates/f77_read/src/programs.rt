@@ -14,10 +14,10 @@ ghost use Rattle.f77_read.specs.Outcomes.{IsTextBuilt, AreCardsBuilt};
 
 use crate::cards::read_cards;
 use f77_checks::check;
+use f77_syntax::Labelled;
 use f77_tree::tree;
 use fixed_form::Card;
 use fv_tree::{Program77, Refused, Seq};
-use f77_syntax::Labelled;
 use std::alloc::Global;
 
 fn build_text(alloc: Global, text: &[Labelled]) -> Result<Program77, Refused>

@@ -31,8 +31,16 @@ fn cards_are_refused(rt: HostRuntime) -> Result<(), Fail> {
             b"      I = 1\n      I = 1 +\n      END\n",
             Cause::Syntax.at(2),
         ),
-        ("a word", b"      REAL X\n      END\n", Cause::OutOfProfile(1).at(1)),
-        ("the first word", b"      SAVE\n      REAL X\n", Cause::OutOfProfile(8).at(1)),
+        (
+            "a word",
+            b"      REAL X\n      END\n",
+            Cause::OutOfProfile(1).at(1),
+        ),
+        (
+            "the first word",
+            b"      SAVE\n      REAL X\n",
+            Cause::OutOfProfile(8).at(1),
+        ),
         (
             "syntax behind words",
             b"      REAL X\n      SAVE\n      I = 1 +\n",
@@ -58,7 +66,11 @@ fn cards_are_refused(rt: HostRuntime) -> Result<(), Fail> {
 #[test]
 fn texts_are_refused(rt: HostRuntime) -> Result<(), Fail> {
     let decks: [(&str, &[u8], Refusal); 10] = [
-        ("no label", b"      GO TO 10\n      END\n", Cause::Label.at(1)),
+        (
+            "no label",
+            b"      GO TO 10\n      END\n",
+            Cause::Label.at(1),
+        ),
         ("no block", b"      ELSE\n      END\n", Cause::Nesting.at(1)),
         ("no END", b"C\n      CONTINUE\n", Cause::NoEnd.at(2)),
         ("no statement", b"", Cause::NoEnd.at(0)),
@@ -83,7 +95,11 @@ fn texts_are_refused(rt: HostRuntime) -> Result<(), Fail> {
             b"      DO 10 I = 1, 2\n      I = 1\n   10 CONTINUE\n      END\n",
             Cause::DoVariable.at(2),
         ),
-        ("bounds", b"      INTEGER A(2:1)\n      END\n", Cause::ReversedBounds.at(1)),
+        (
+            "bounds",
+            b"      INTEGER A(2:1)\n      END\n",
+            Cause::ReversedBounds.at(1),
+        ),
     ];
     for (name, deck, expected) in decks {
         assert_eq!(rt; refusal(rt.alloc(), deck)?, Some(expected), "{name}");

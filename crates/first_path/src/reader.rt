@@ -13,8 +13,7 @@ ghost use Rattle.first_path.specs.Progress.{progress_of, StopsAt, Stays, IsOrder
 use crate::statements::{Form, read_line};
 use fv_deck::{next_line, source_and_input};
 use fv_tree::{
-    Block, Decl, Expr, Extent, Item, Kind, Memory, Name, Program77, Refusal, Refused, Seq,
-    Stmt,
+    Block, Decl, Expr, Extent, Item, Kind, Memory, Name, Program77, Refusal, Refused, Seq, Stmt,
 };
 use indexmap::IndexSet;
 use std::alloc::Global;

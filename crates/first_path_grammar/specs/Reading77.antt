@@ -107,7 +107,7 @@ pub data RefusedThin (bytes : List ℕ) : Refusal → Type 0 where
   TooLong : (2 ^ 24 < length bytes) ⊎ (2 ^ 20 < length (source_of data_line77 bytes)) → RefusedThin bytes (refusal 1 0)
   NotBuilt : (k : ℕ) (forms : List Form) → IsWithinLimits bytes → k < length (lines_of bytes)
       → AreBuilt (lines_of bytes) k forms → ((more : List Form) → AreBuilt (lines_of bytes) (k + 1) more → ⊥)
-          → RefusedThin bytes (refusal 60 (k + 1))
+      → RefusedThin bytes (refusal 60 (k + 1))
   NoEnd : (n : ℕ) (forms : List Form) → IsWithinLimits bytes
       → AreBuilt (lines_of bytes) (length (lines_of bytes)) forms → end_fault 0 forms ≡ Some n
-          → RefusedThin bytes (refusal 12 n)
+      → RefusedThin bytes (refusal 12 n)

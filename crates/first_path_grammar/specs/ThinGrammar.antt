@@ -65,7 +65,7 @@ SpellsItems m text (item i (item j is)) = (first more : List ℕ) × (text ≡ f
 abbrev pub SpellsStatement : Spacing → ℕ → List ℕ → Statement → Type 0
 SpellsStatement m n text (Assignment line mark left e) = (right : List ℕ) × (text ≡ left.name ++ (m.becomes ++ right))
     × (line ≡ n) × (mark ≡ None) × (left.subscripts ≡ no_subscripts) × IsIntegerName left.name
-        × SpellsSum m.plus right e
+    × SpellsSum m.plus right e
 SpellsStatement m n text (Print line is) = (right : List ℕ) × (text ≡ m.print ++ right) × (line ≡ n)
     × SpellsItems m right is
 SpellsStatement m n text _ = ⊥

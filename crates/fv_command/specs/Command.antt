@@ -18,7 +18,7 @@ texts words = map (λ word. string_bytes word) words
 abbrev pub number_of : List ℕ → Option ℕ
 number_of word =
     if list_all is_ascii_digit word && nat_le 1 (length word) && nat_le (length word) 20
-        && nat_lt (digits_value 10 word) (2 ^ 64)
+    && nat_lt (digits_value 10 word) (2 ^ 64)
     then Some (digits_value 10 word) else None
 
 abbrev pub no_options : Options

@@ -64,7 +64,7 @@ module _ (ds : List Declaration) where
   abbrev pub IsAssignment : Reference → Expression → Surroundings → Type 0
   IsAssignment left right w =
       IsSomeAnd (declared ds left.name)
-        (λ d. IsWhole ds (Named left.name left.subscripts) d.kind × IsWhole ds right d.kind)
+      (λ d. IsWhole ds (Named left.name left.subscripts) d.kind × IsWhole ds right d.kind)
       × (Contains w.variables left.name → ⊥)
 
   abbrev mutual

@@ -20,13 +20,16 @@ use Rattle.fv_tool.specs.Headline.{Preserves, TranslationHolds}
 preserved : (p q : Program) (input : List ℕ) → SameButLines p q → sequential_run p input ≡ run fortran90 None p input → Preserves p q input
 preserved p q input same one =
     let alike : AlikeButLine (sequential_run p input) (array_run q input) =
-        subst (λ (s : State). AlikeButLine s (array_run q input)) (sym one) (relined fortran90 None p q input same)
+    subst (λ (s : State). AlikeButLine s (array_run q input)) (sym one) (relined fortran90 None p q input same)
     in
     record {
       ends = relined_ends_well (sequential_run p input) (array_run q input) alike;
       output = λ _. alike.written;
-      store = λ _. record { bounds = λ x _. ap (λ s. s.bounds x) alike.store; held = λ c _ _. ap (λ s. s.held c) alike.store;
-        kinds = λ c _. ap (λ s. nought_like (s.held c)) alike.store };
+      store = λ _. record {
+        bounds = λ x _. ap (λ s. s.bounds x) alike.store;
+        held = λ c _ _. ap (λ s. s.held c) alike.store;
+        kinds = λ c _. ap (λ s. nought_like (s.held c)) alike.store;
+      };
     }
 
 pub holds : (deck : List ℕ) (p : Program) → ReadsThin deck p → TranslationHolds deck (printed90 p)

@@ -31,9 +31,9 @@ mod tests;
 mod translation;
 
 use deck::read_deck;
+use fv_command::{Command, command};
 use fv_io::{Sink, Source};
 use fv_report::{Outcome, note, status};
-use fv_command::{Command, command};
 use running::run;
 use std::alloc::Global;
 use translation::vectorise;
@@ -46,10 +46,15 @@ fn perform<S: Source, K: Sink>(
     out: &mut K,
 ) -> Outcome
     ensures ends { Ends command (record {
-        left_before = S.left deck.old; left_now = S.left deck.new;
-        taken_before = K.taken out.old; taken_now = K.taken out.new;
-        deck_faults_before = S.faults deck.old; deck_faults_now = S.faults deck.new;
-        out_faults_before = K.faults out.old; out_faults_now = K.faults out.new }) result }
+      left_before = S.left deck.old;
+      left_now = S.left deck.new;
+      taken_before = K.taken out.old;
+      taken_now = K.taken out.new;
+      deck_faults_before = S.faults deck.old;
+      deck_faults_now = S.faults deck.new;
+      out_faults_before = K.faults out.old;
+      out_faults_now = K.faults out.new;
+    }) result }
     ensures deck_later { S.faults deck.old ≤ S.faults deck.new }
     ensures out_later { K.faults out.old ≤ K.faults out.new }
 {
@@ -66,10 +71,15 @@ fn perform<S: Source, K: Sink>(
 // Does what the words ask for.
 fn work<S: Source, K: Sink>(alloc: Global, words: &[String], deck: &mut S, out: &mut K) -> Outcome
     ensures ended { Ended (command_of (texts words.now)) (record {
-        left_before = S.left deck.old; left_now = S.left deck.new;
-        taken_before = K.taken out.old; taken_now = K.taken out.new;
-        deck_faults_before = S.faults deck.old; deck_faults_now = S.faults deck.new;
-        out_faults_before = K.faults out.old; out_faults_now = K.faults out.new }) result }
+      left_before = S.left deck.old;
+      left_now = S.left deck.new;
+      taken_before = K.taken out.old;
+      taken_now = K.taken out.new;
+      deck_faults_before = S.faults deck.old;
+      deck_faults_now = S.faults deck.new;
+      out_faults_before = K.faults out.old;
+      out_faults_now = K.faults out.new;
+    }) result }
     ensures unread { command_of (texts words.now) ≡ None → deck.new ≡ deck.old }
     ensures deck_later { S.faults deck.old ≤ S.faults deck.new }
     ensures out_later { K.faults out.old ≤ K.faults out.new }

@@ -12,11 +12,11 @@ ghost use Rattle.fv_tool.specs.Works.{Comes, Works};
 
 use crate::deck::unread;
 use f77_read::read77;
+use fv_command::Options;
 use fv_deck::source_and_input;
 use fv_io::Sink;
 use fv_meaning::End;
 use fv_report::Outcome;
-use fv_command::Options;
 use run77::Machine77;
 use std::alloc::Global;
 
@@ -29,8 +29,11 @@ fn run_machine<K: Sink>(
 ) -> Outcome
     ensures comes { (p : Program) → IsProgram77 fortran77 p → IsMachineOf p machine.old
         → let run = run_at fortran77 options.steps p input.now in Comes (ending run) (run_text options p run) (record {
-        before = K.taken out.old; now = K.taken out.new;
-        faults_before = K.faults out.old; faults_now = K.faults out.new }) result }
+          before = K.taken out.old;
+          now = K.taken out.new;
+          faults_before = K.faults out.old;
+          faults_now = K.faults out.new;
+        }) result }
     ensures later { K.faults out.old ≤ K.faults out.new }
 {
     match machine.run(input, out, options.steps) {
@@ -52,8 +55,11 @@ fn run_machine<K: Sink>(
 pub(crate) fn run<K: Sink>(alloc: Global, options: Options, deck: &[u8], out: &mut K) -> Outcome
     requires { length deck.now ≤ 2 ^ 24 }
     ensures works { Works (Run77 options) deck.now (record {
-        before = K.taken out.old; now = K.taken out.new;
-        faults_before = K.faults out.old; faults_now = K.faults out.new }) result }
+      before = K.taken out.old;
+      now = K.taken out.new;
+      faults_before = K.faults out.old;
+      faults_now = K.faults out.new;
+    }) result }
     ensures later { K.faults out.old ≤ K.faults out.new }
 {
     let (source, input) = source_and_input(deck);

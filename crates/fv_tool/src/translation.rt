@@ -13,8 +13,11 @@ use std::alloc::Global;
 pub(crate) fn vectorise<K: Sink>(alloc: Global, deck: &[u8], out: &mut K) -> Outcome
     requires { length deck.now ≤ 2 ^ 24 }
     ensures works { Works Vectorise deck.now (record {
-        before = K.taken out.old; now = K.taken out.new;
-        faults_before = K.faults out.old; faults_now = K.faults out.new }) result }
+      before = K.taken out.old;
+      now = K.taken out.new;
+      faults_before = K.faults out.old;
+      faults_now = K.faults out.new;
+    }) result }
     ensures later { K.faults out.old ≤ K.faults out.new }
 {
     let text = match translate(alloc, deck) {
