@@ -1,0 +1,2 @@
+pub mod FreeFormDecks
+pub mod PrintingLaws

@@ -1,0 +1,148 @@
+-- What a text of Fortran 90 is read as.
+use Rattle.std.specs.Prelude.{◌≡◌, ◌↔◌, ◌==◌, ◌||◌, ℤ, pos, neg_ℤ, if◌then◌else◌, ℕ, Bool, true, false}
+use Rattle.std.specs.Prelude.{Option, Some, None, List, [], ◌∷◌, ◌++◌, length, map, Contains}
+use Rattle.std.specs.Str.Lines.{lines}
+use Rattle.fv_tree.specs.Plain as tree
+use Rattle.fv_tree.specs.Plain.{Program, Declaration, Extent, Given, Later, Statement, Arms, Block}
+use Rattle.fv_tree.specs.declared.ops.Kind.{Kind}
+use Rattle.fv_tree.specs.OperatorTable.{Sign, Minus}
+use Rattle.std.specs.Str.{bytes_eq}
+use Rattle.std.specs.List.{list_any}
+use Rattle.fv_tree.specs.declared.stmts.Mark.{Mark}
+use Rattle.fv_tree.specs.Functions.{intrinsic_named}
+use Rattle.fv_meaning.specs.Names.{IsInByteOrder}
+use Rattle.f90_grammar.specs.FreeForm.{FreeStatement, AreStatements}
+use Rattle.f90_grammar.specs.Words.{Word, HasWords}
+use Rattle.f90_grammar.specs.Phrases.{value_of_digits}
+use Rattle.f90_grammar.specs.Forms as forms
+use Rattle.f90_grammar.specs.Forms.{Form, IsWritten}
+use Rattle.f90_grammar.specs.Blocks.{Placed, AreBlock}
+use Rattle.fv_tree.specs.declared.functions.Intrinsic.{Intrinsic}
+
+-- the mark that a statement takes is the last one since the assignment before it
+abbrev pub takes_mark : Form → Bool
+takes_mark (forms.Assign l r) = true
+takes_mark (forms.Where m l r) = true
+takes_mark (forms.Test p f) = takes_mark f
+takes_mark f = false
+
+abbrev pub last_of : Option Mark → List Mark → Option Mark
+last_of m [] = m
+last_of m (n ∷ ns) = last_of (Some n) ns
+
+abbrev pub if_taken : Bool → Option Mark → Option Mark
+if_taken true m = m
+if_taken false m = None
+
+abbrev pub left_over : Bool → Option Mark → Option Mark
+left_over true m = None
+left_over false m = m
+
+-- each statement of the text has its form; `pending` is the mark so far
+abbrev pub HaveForms : Option Mark → List FreeStatement → List Placed → Type 0
+HaveForms pending [] [] = Unit {0}
+HaveForms pending (s ∷ ss) (p ∷ ps) =
+    (p.line ≡ s.line)
+    × (p.mark ≡ if_taken (takes_mark p.form) (last_of pending s.ahead))
+    × ((ws : List Word) × HasWords s.chars ws × IsWritten p.form ws)
+    × HaveForms (last_of (left_over (takes_mark p.form) (last_of pending s.ahead)) s.within) ss ps
+HaveForms pending _ _ = ⊥
+
+-- The statements of a text: its lines are those of the statements, and each of these has a form
+pub record AreStatementsOf (text : List ℕ) (ps : List Placed) : Type 0 where
+  pub statements : List FreeStatement
+  pub of_lines : AreStatements 1 (lines text) statements
+  pub have_forms : HaveForms None statements ps
+
+-- ---- names and labels
+
+abbrev pub signed_value : Option Sign → ℕ → ℤ
+signed_value (Some Minus) n = neg_ℤ (pos n)
+signed_value s n = pos n
+
+abbrev pub declares : List Declaration → List ℕ → Bool
+declares ds x = list_any (λ (d : Declaration). bytes_eq d.name x) ds
+
+abbrev mutual
+  pub names_label : ℕ → Statement → Bool
+  names_label n (tree.GoTo line m) = n == m
+  names_label n (tree.If line arms other) = arms_name_label n arms || is_target_in other n
+  names_label n (tree.Do line x a b c body) = is_target_in body n
+  names_label n _ = false
+
+  pub arms_name_label : ℕ → Arms → Bool
+  arms_name_label n tree.no_arms = false
+  arms_name_label n (tree.arm test body more) = is_target_in body n || arms_name_label n more
+
+  -- a GO TO in the block names the label
+  pub is_target_in : Block → ℕ → Bool
+  is_target_in tree.no_statements n = false
+  is_target_in (tree.statement c cs) n = names_label n c || is_target_in cs n
+
+-- ---- the parts of a program
+
+abbrev pub opens_program : Form → Option (List ℕ) → Type 0
+opens_program (forms.Program x) name = name ≡ Some x
+opens_program _ name = ⊥
+
+pub data IsTitle : List Placed → Option (List ℕ) → Type 0 where
+  untitled : IsTitle [] None
+  titled : (line : ℕ) (x : List ℕ) → IsTitle (record { line = line; mark = None; form = forms.Program x } ∷ []) (Some x)
+
+pub data MayBeImplicitNone : List Placed → Type 0 where
+  absent : MayBeImplicitNone []
+  present : (line : ℕ) → MayBeImplicitNone (record { line = line; mark = None; form = forms.ImplicitNone } ∷ [])
+
+-- END, END PROGRAM, or END PROGRAM with the program's name
+pub data IsEnd : Form → Option (List ℕ) → Type 0 where
+  end : (name : Option (List ℕ)) → IsEnd forms.End name
+  end_program : (name : Option (List ℕ)) → IsEnd (forms.EndProgram None) name
+  end_named : (x : List ℕ) → IsEnd (forms.EndProgram (Some x)) (Some x)
+
+-- the names declared, each with its kind and extent, in the order of the text
+abbrev pub bound_value : forms.Bound → ℤ
+bound_value b = signed_value b.sign (value_of_digits b.digits)
+
+abbrev pub dimension_bounds : forms.Dimension → ℤ × ℤ
+dimension_bounds (forms.Upper b) = (pos 1, bound_value b)
+dimension_bounds (forms.Both a b) = (bound_value a, bound_value b)
+dimension_bounds forms.Deferred = (pos 1, pos 0)
+
+abbrev pub extent_of : Bool → List forms.Dimension → Extent
+extent_of true ds = Later (length ds)
+extent_of false ds = Given (map dimension_bounds ds)
+
+abbrev pub entity_declaration : Kind → Bool → forms.Entity → Declaration
+entity_declaration k a e = record { name = e.name; kind = k; extent = extent_of a e.dimensions }
+
+pub data AreDeclared : List Placed → List Declaration → Type 0 where
+  none : AreDeclared [] []
+  more : (line : ℕ) (k : Kind) (a : Bool) (es : List forms.Entity) (rest : List Placed) (ds : List Declaration)
+      → AreDeclared rest ds
+      → AreDeclared (record { line = line; mark = None; form = forms.Declare k a es }
+      ∷ rest) (map (entity_declaration k a) es ++ ds)
+
+-- a name is a function where it is the name of one and no declared name
+abbrev pub function_by : List Declaration → List ℕ → Option Intrinsic
+function_by ds x = if declares ds x then None else intrinsic_named x
+
+-- The statements are those of the program q: its title, IMPLICIT NONE, its declarations in any order, its block, its
+-- END
+pub record IsProgramOf (ps : List Placed) (q : Program) : Type 0 where
+  pub title : List Placed
+  pub implicit : List Placed
+  pub declared : List Placed
+  pub body : List Placed
+  pub last : Placed
+  pub same : ps ≡ title ++ (implicit ++ (declared ++ (body ++ last ∷ [])))
+  pub is_title : IsTitle title q.name
+  pub is_implicit : MayBeImplicitNone implicit
+  pub is_last : IsEnd last.form q.name
+  -- the declarations in the order of the text; the program has them in byte order of names
+  pub in_text : List Declaration
+  pub are_declared : AreDeclared declared in_text
+  pub sorted : IsInByteOrder (map (λ (d : Declaration). d.name) q.declarations)
+  pub each : (d : Declaration) → Contains in_text d ↔ Contains q.declarations d
+  pub once : length in_text ≡ length q.declarations
+  -- a label stands in the tree where a GO TO names it
+  pub block : AreBlock (function_by q.declarations) (is_target_in q.body) body q.body
