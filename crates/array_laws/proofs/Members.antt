@@ -1,7 +1,6 @@
 -- Members of lists.
-use Rattle.std.proofs.Common.{◌≡◌, ◌⊎◌, inl, inr, ℕ, ◌<◌, zero, suc, List, [], ◌∷◌, ◌++◌, map, get_or, arith, All, Contains}
-use Rattle.std.specs.List.{AllByRecursion}
-use Rattle.std.proofs.lemmas.List.Elements.{Contains-append_right, Contains-append_left, Contains-append_cases, Contains-get_or, All-contains_itself, All-weaker, recursion_from_All}
+use Rattle.std.proofs.Common.{◌≡◌, ◌⊎◌, inl, inr, ℕ, ◌<◌, zero, suc, List, [], ◌∷◌, get_or, arith, All, Contains}
+use Rattle.std.proofs.lemmas.List.Elements.{Contains-append_right, Contains-append_cases, Contains-get_or, All-contains_itself, All-weaker}
 
 pub here : {A : Type 0} → (x : A) (xs : List A) → Contains (x ∷ xs) x
 here x xs = Contains-get_or (x ∷ xs) 0 x (omega arith)

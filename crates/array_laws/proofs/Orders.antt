@@ -1,10 +1,10 @@
 -- The order of writes doesn't matter where no cell gets two values.
-use Rattle.std.proofs.Common.{◌≡◌, ◌≢◌, ◌↔◌, refl, sym, ap, ◌∙◌, subst, ◌⊎◌, inl, inr, Bool, true, false, cond, List, [], ◌∷◌, Contains}
+use Rattle.std.proofs.Common.{◌≡◌, refl, sym, ap, ◌∙◌, subst, ◌⊎◌, inl, inr, Bool, true, false, cond, List, [], ◌∷◌, Contains}
 use mathlib.Core.Path.{fun_ext}
 use Rattle.fv_tree.specs.declared.ops.Value.{Value}
 use Rattle.fv_meaning.specs.Store.{Store, Cell, put, same_cell}
-use Rattle.fv_meaning.proofs.Exchanges.{same_cell-same, same_cell-refl, unread}
-use Rattle.array_laws.specs.Instances.{puts, OneValueEach, WritesInAnyOrder}
+use Rattle.fv_meaning.proofs.Exchanges.{same_cell-same, same_cell-refl}
+use Rattle.array_laws.specs.Instances.{puts, WritesInAnyOrder}
 use Rattle.array_laws.proofs.Members.{here, there, nowhere, cases_of}
 
 -- writes leave the bounds, and cells that they don't write

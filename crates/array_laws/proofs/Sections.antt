@@ -1,19 +1,17 @@
 -- The cells that a reference selects, by their positions; and the element of a name at one of them.
-use Rattle.std.proofs.Common.{◌≡◌, refl, sym, ap, ◌∙◌, subst, ◌⊎◌, inl, inr, ℕ, zero, suc, ◌+◌, ◌*◌, ℤ, List, [], ◌∷◌, ◌++◌, map, length, Result, Ok, Err, Option, Some, None, arith, Contains}
+use Rattle.std.proofs.Common.{◌≡◌, refl, sym, ap, ◌∙◌, subst, ◌⊎◌, inl, inr, ℕ, zero, suc, ◌+◌, ℤ, List, [], ◌∷◌, ◌++◌, map, length, Result, Ok, Err, Option, Some, None, arith, Contains}
 use Rattle.std.specs.List.{flat_map}
 use mathlib.Core.Path.{ap₂}
-use Rattle.fv_tree.specs.Plain.{Subscripts, Named}
+use Rattle.fv_tree.specs.Plain.{Subscripts}
 use Rattle.fv_tree.specs.Steps.{◌>>=◌}
 use Rattle.fv_tree.specs.declared.ops.Fault.{Fault}
 use Rattle.fv_tree.specs.declared.ops.Value.{Value}
-use Rattle.fv_meaning.specs.ArrayStatements.{axes_named}
-use Rattle.fv_meaning.specs.ArrayValues.{Array, Elements, each, counted, positions, place_of, size, value_at, settled, in_whole}
-use Rattle.fv_meaning.specs.Dialect.{Dialect}
+use Rattle.fv_meaning.specs.ArrayValues.{Array, Elements, each, counted, positions, place_of, size, value_at, settled}
 use Rattle.fv_meaning.specs.Sections.{Axis, Fixed, Along, Selector, axes_selected, numbers_of, extents_of, cells_along}
-use Rattle.fv_meaning.specs.Store.{Store, Cell, column_major, bounds_in}
-use Rattle.fv_meaning.specs.Value.{array_of, selectors}
+use Rattle.fv_meaning.specs.Store.{Cell, column_major, bounds_in}
+use Rattle.fv_meaning.specs.Value.{selectors}
 use Rattle.fv_meaning.proofs.ArrayLaws.{places, settled-whole}
-use Rattle.array_laws.specs.Elements.{number_at, subscripts_at, cell_at_position, element_of, CellsByPosition, ElementOfSection}
+use Rattle.array_laws.specs.Elements.{number_at, subscripts_at, cell_at_position, CellsByPosition, ElementOfSection}
 use Rattle.array_laws.proofs.Members.{nowhere, cases_of}
 
 -- ---- lists

@@ -1,13 +1,13 @@
 -- Storing one by one equals storing all at once, where no instance reads what an earlier one has written.
-use Rattle.std.proofs.Common.{◌≡◌, refl, sym, ap, ◌∙◌, subst, ◌⊎◌, inl, inr, List, [], ◌∷◌, ◌++◌, Result, Ok, Err, Option, Some, None, All, Contains}
+use Rattle.std.proofs.Common.{◌≡◌, refl, sym, ap, ◌∙◌, subst, ◌⊎◌, inl, inr, List, [], ◌∷◌, ◌++◌, Result, Ok, Err, Option, Some, None, Contains}
 use Rattle.std.specs.List.{AllByRecursion}
 use Rattle.fv_tree.specs.Steps.{◌>>=◌}
 use Rattle.fv_tree.specs.declared.ops.Fault.{Fault}
 use Rattle.fv_tree.specs.declared.ops.Value.{Value}
 use Rattle.fv_meaning.specs.ArrayValues.{each}
-use Rattle.fv_meaning.specs.Store.{Store, Cell, put}
+use Rattle.fv_meaning.specs.Store.{Store, Cell}
 use Rattle.fv_meaning.proofs.Exchanges.{unread}
-use Rattle.array_laws.specs.Instances.{Instance, ComesFromReads, after, puts, writes_in, in_turn, at_once, cell_of, NoneReadsWritten, Spares, AreApart, InTurnIsAtOnce, ApartIsAtOnce}
+use Rattle.array_laws.specs.Instances.{Instance, ComesFromReads, after, puts, writes_in, in_turn, cell_of, NoneReadsWritten, Spares, AreApart, InTurnIsAtOnce, ApartIsAtOnce}
 use Rattle.array_laws.proofs.Members.{here, there, nowhere, cases_of, each_member}
 
 -- s differs from the store `base` in the cells `written` alone

@@ -1,5 +1,5 @@
 -- An array assignment, and WHERE, as assignments to single elements (ISO/IEC 1539:1991, section 7.5).
-use Rattle.std.specs.Prelude.{◌≡◌, Result, Ok, Err, Option, Some, None, ℕ, ◌+◌, Bool, true, false, List, [], ◌∷◌, ◌++◌}
+use Rattle.std.specs.Prelude.{◌≡◌, Result, Ok, Option, Some, None, ℕ, ◌+◌, Bool, true, false, List, [], ◌++◌}
 use Rattle.std.specs.Prelude.{map, length}
 use Rattle.fv_tree.specs.Operators.{as_truth}
 use Rattle.fv_tree.specs.Plain.{Expression, Reference}
@@ -7,7 +7,7 @@ use Rattle.fv_tree.specs.Steps.{◌>>=◌}
 use Rattle.fv_tree.specs.declared.ops.Fault.{Fault}
 use Rattle.fv_tree.specs.declared.ops.Value.{Value}
 use Rattle.fv_meaning.specs.ArrayStatements.{axes_named, storable, writes_of}
-use Rattle.fv_meaning.specs.ArrayValues.{positions, conform}
+use Rattle.fv_meaning.specs.ArrayValues.{each, positions, conform}
 use Rattle.fv_meaning.specs.Dialect.{Dialect}
 use Rattle.fv_meaning.specs.Reads.{cells_read_to_select}
 use Rattle.fv_meaning.specs.Run.{State, Going, array_assigns}
@@ -15,7 +15,7 @@ use Rattle.fv_meaning.specs.Sections.{Axis, extents_of}
 use Rattle.fv_meaning.specs.Store.{Store, Cell}
 use Rattle.fv_meaning.specs.Value.{array_of}
 use Rattle.array_laws.specs.Elements.{cell_at_position, element_of, cells_read_at}
-use Rattle.array_laws.specs.Instances.{Instance, puts, in_turn, NoneReadsWritten, AreApart}
+use Rattle.array_laws.specs.Instances.{Instance, puts, writes_in, in_turn, NoneReadsWritten, AreApart}
 
 module _ (d : Dialect) where
   -- the cell of the left side at a position
@@ -56,6 +56,23 @@ module _ (d : Dialect) where
     ns ← conform m.extents (extents_of axes)
     g ← array_of d right s
     conform ns g.extents
+
+-- What an array assignment stores is what its elements store, all of them looked at in the store before it
+abbrev pub WritesAreEffects : Type 0
+WritesAreEffects = (d : Dialect) (mask right : Expression) (left : Reference) (axes : List Axis) (s : Store)
+    (ws : List (Cell × Value))
+    → axes_named d left s ≡ Ok axes → writes_of d mask left right s ≡ Ok ws
+    → (effects : List (Option (Cell × Value)))
+    × (each (λ (i : Instance). i.effect s) (elements_assigned d mask left right axes) ≡ Ok effects)
+    × (writes_in effects ≡ ws)
+
+-- and where its extents conform and none of these meets a fault, it meets none
+abbrev pub EffectsAreWrites : Type 0
+EffectsAreWrites = (d : Dialect) (mask right : Expression) (left : Reference) (axes : List Axis) (ns : List ℕ) (s : Store)
+    (effects : List (Option (Cell × Value)))
+    → axes_named d left s ≡ Ok axes → shape_assigned d mask left right s ≡ Ok ns
+    → each (λ (i : Instance). i.effect s) (elements_assigned d mask left right axes) ≡ Ok effects
+    → writes_of d mask left right s ≡ Ok (writes_in effects)
 
 -- What an array assignment stores is what its elements store one by one, each by what it finds in the store that those
 -- before it have left, where no element reads the cell of an earlier one

@@ -2,7 +2,7 @@
 -- 7.1.5).
 use Rattle.std.specs.Prelude.{◌≡◌, Result, Ok, Err, ℕ, zero, suc, ℤ, pos, List, [], ◌∷◌, ◌++◌, map, All, Contains}
 use Rattle.fv_tree.specs.Plain.{Expression, Number, Logic, Named, Unary, Binary, Apply, Expressions, no_expressions}
-use Rattle.fv_tree.specs.Plain.{expression, Subscripts, Reference}
+use Rattle.fv_tree.specs.Plain.{expression, Subscripts}
 use Rattle.fv_tree.specs.Steps.{◌>>=◌}
 use Rattle.fv_tree.specs.declared.ops.Fault.{Fault}
 use Rattle.fv_tree.specs.declared.ops.Value.{Value}

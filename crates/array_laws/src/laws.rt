@@ -1,5 +1,6 @@
 //! Laws of array assignments. A law is a function without a body: its contract is what holds.
-ghost use Rattle.array_laws.specs.Assignments.{ArrayAssignmentInTurn, ArrayAssignmentStores, ElementsInTurnAtOnce};
+ghost use Rattle.array_laws.specs.Assignments.{ArrayAssignmentInTurn, ArrayAssignmentStores, EffectsAreWrites};
+ghost use Rattle.array_laws.specs.Assignments.{ElementsInTurnAtOnce, WritesAreEffects};
 ghost use Rattle.array_laws.specs.Elements.{CellsByPosition, ElementComesFromCellsRead, ElementOfSection};
 ghost use Rattle.array_laws.specs.Instances.{ApartIsAtOnce, InTurnIsAtOnce, WritesInAnyOrder};
 
@@ -22,6 +23,8 @@ pub fn array_elements()
 /// An array assignment stores what its elements store, assigned one by one in column-major order, where none of them
 /// reads a cell that an earlier one has written.
 pub fn array_assignment_in_turn()
+    ensures effects { WritesAreEffects }
+    ensures writes { EffectsAreWrites }
     ensures at_once { ArrayAssignmentInTurn }
     ensures in_turn { ElementsInTurnAtOnce }
     ensures run { ArrayAssignmentStores }
