@@ -1,6 +1,6 @@
-//! What the dialect does to a run: nothing, where there are no arrays as values.
+//! What the dialect and further declarations do to the run of a program of FORTRAN 77: nothing.
 #![tactic(auto)]
 
 mod laws;
 
-pub use laws::source_has_one_run;
+pub use laws::{made_names_keep_run, source_has_one_run};

@@ -1,2 +1,2 @@
 mod Words
-mod Reads
+mod ReadStatements

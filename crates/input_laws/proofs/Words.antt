@@ -1,6 +1,7 @@
 -- What stands before a word of the input.
 use Rattle.std.proofs.Common.{◌≡◌, ◌↔◌, refl, sym, ap, ◌∙◌, subst, ℕ, ◌+◌, ◌≤◌, ◌==◌, ◌||◌, Bool, true, false, cond, List, [], ◌∷◌, ◌++◌, Result, Ok, Err, arith}
 use Rattle.std.proofs.lemmas.Bool.Decides.{Decides-eqb}
+use Rattle.std.proofs.lemmas.List.Sums.{sum_by-cons}
 use Rattle.std.specs.List.{AllByRecursion}
 use Rattle.fv_tree.specs.declared.ops.Fault.{Fault}
 use Rattle.fv_tree.specs.declared.ops.Fault.TheVariants.{InputEnd, InputForm}
@@ -33,28 +34,24 @@ separates : (c : ℕ) (g t : Bool) → is_gap c ≡ g → (c == 44) ≡ t → is
 separates c g t p q = ap (λ b. b || (c == 44)) p ∙ ap (λ b. g || b) q
 
 counted : (c : ℕ) (t : Bool) (cs : List ℕ) → (c == 44) ≡ t → commas_in (c ∷ cs) ≡ cond t 1 0 + commas_in cs
-counted c t cs q = ap (λ b. cond b 1 0 + commas_in cs) q
+counted c t cs q = sum_by-cons (λ x. cond (x == 44) 1 0) c cs ∙ ap (λ b. cond b 1 0 + commas_in cs) q
 
 -- ---- the next value, by the first byte
 
 module _ (comma : Bool) (c : ℕ) (cs : List ℕ) where
-  step : Bool → Bool → Result (List ℕ) Fault
+  abbrev step : Bool → Bool → Result (List ℕ) Fault
   step g t = cond g (from_value comma cs) (cond t (cond comma (from_value false cs) (Err InputForm)) (Ok (c ∷ cs)))
 
   stepped : (g t : Bool) → is_gap c ≡ g → (c == 44) ≡ t → from_value comma (c ∷ cs) ≡ step g t
-  unfolding step
   stepped g t p q = ap (λ b. step b (c == 44)) p ∙ ap (λ b. step g b) q
 
 at_gap : (comma : Bool) (c : ℕ) (cs : List ℕ) → is_gap c ≡ true → from_value comma (c ∷ cs) ≡ from_value comma cs
-unfolding step
 at_gap comma c cs p = stepped comma c cs true (c == 44) p refl
 
 at_comma : (comma : Bool) (c : ℕ) (cs : List ℕ) → is_gap c ≡ false → (c == 44) ≡ true → from_value comma (c ∷ cs) ≡ cond comma (from_value false cs) (Err InputForm)
-unfolding step
 at_comma comma c cs p q = stepped comma c cs false true p q
 
 at_other : (comma : Bool) (c : ℕ) (cs : List ℕ) → is_gap c ≡ false → (c == 44) ≡ false → from_value comma (c ∷ cs) ≡ Ok (c ∷ cs)
-unfolding step
 at_other comma c cs p q = stepped comma c cs false false p q
 
 -- ---- one byte more before what separates
@@ -79,7 +76,7 @@ no_separator c p q h = let e : true ≡ false = sym h ∙ separates c false fals
 
 -- ---- a word is found
 
-Found : Bool → List ℕ → List ℕ → Type 0
+abbrev Found : Bool → List ℕ → List ℕ → Type 0
 Found comma text rest = (before : List ℕ) × (text ≡ before ++ rest) × IsSeparation comma before × BeginsWord rest
 
 nothing_before : (comma : Bool) → IsSeparation comma []
@@ -87,12 +84,10 @@ nothing_before true = record { separators = tt; commas = omega arith }
 nothing_before false = record { separators = tt; commas = omega arith }
 
 found : (comma : Bool) (text rest : List ℕ) → from_value comma text ≡ Ok rest → Found comma text rest
-unfolding Found
 found comma [] rest e = absurd cc
 found comma (c ∷ cs) rest e = by comma (sort c) e (found comma cs rest) (found false cs rest)
   where
     by : (comma : Bool) → Sort c → from_value comma (c ∷ cs) ≡ Ok rest → (from_value comma cs ≡ Ok rest → Found comma cs rest) → (from_value false cs ≡ Ok rest → Found false cs rest) → Found comma (c ∷ cs) rest
-    unfolding Found
     by comma (Gap p q) e more later = let h = more (sym (at_gap comma c cs p) ∙ e) in (c ∷ h.0, ap (λ t. c ∷ t) h.1, gap_more comma c h.0 p q h.2, h.3)
     by true (Comma p q) e more later = let h = later (sym (at_comma true c cs p q) ∙ e) in (c ∷ h.0, ap (λ t. c ∷ t) h.1, comma_more c h.0 p q h.2, h.3)
     by false (Comma p q) e more later = absurd (let no : ◌≡◌ {A = Result (List ℕ) Fault} (Err InputForm) (Ok rest) = sym (at_comma false c cs p q) ∙ e in cc)
@@ -118,7 +113,6 @@ behind comma (c ∷ before) rest h b = by comma (sort c) h (behind comma before 
     by comma (Other p q) h more later = absurd (no_separator c p q h.separators.0)
 
 pub next_word_is_separated : NextWordIsSeparated
-unfolding Found
 next_word_is_separated comma text rest = (found comma text rest, λ h. ap (from_value comma) h.1 ∙ behind comma h.0 rest h.2 h.3)
 
 -- ---- no word is left
@@ -148,16 +142,14 @@ input_ends_in_separation comma text = (ended comma text, all_separates comma tex
 
 -- ---- a comma too many
 
-Excess : Bool → List ℕ → Type 0
+abbrev Excess : Bool → List ℕ → Type 0
 Excess comma text = (before more : List ℕ) × (text ≡ before ++ 44 ∷ more) × AreSeparators before × (commas_in before ≡ most_commas comma)
 
 excess : (comma : Bool) (text : List ℕ) → from_value comma text ≡ Err InputForm → Excess comma text
-unfolding Excess
 excess comma [] e = absurd cc
 excess comma (c ∷ cs) e = by comma (sort c) e (excess comma cs) (excess false cs)
   where
     by : (comma : Bool) → Sort c → from_value comma (c ∷ cs) ≡ Err InputForm → (from_value comma cs ≡ Err InputForm → Excess comma cs) → (from_value false cs ≡ Err InputForm → Excess false cs) → Excess comma (c ∷ cs)
-    unfolding Excess
     by comma (Gap p q) e more later =
         let h = more (sym (at_gap comma c cs p) ∙ e) in
         (c ∷ h.0, h.1, ap (λ t. c ∷ t) h.2, (separates c true false p q, h.3), counted c false h.0 q ∙ (let z : 0 + commas_in h.0 ≡ commas_in h.0 = omega arith in z) ∙ h.4)
@@ -180,7 +172,6 @@ too_many comma (c ∷ before) more h n = by comma (sort c) n (too_many comma bef
     by comma (Other p q) n rest later = absurd (no_separator c p q h.0)
 
 pub second_comma_is_fault : SecondCommaIsFault
-unfolding Excess
 second_comma_is_fault comma text = (excess comma text, λ h. ap (from_value comma) h.2 ∙ too_many comma h.0 h.1 h.3 h.4)
 
 -- ---- words

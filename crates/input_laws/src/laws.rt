@@ -1,5 +1,5 @@
 //! Laws of the input. A law is a function without a body: its contract is what holds.
-ghost use Rattle.input_laws.specs.Reads.{FirstWordOfRead, ReadTakesWord};
+ghost use Rattle.input_laws.specs.ReadStatements.{FirstWordOfRead, ReadTakesWord};
 ghost use Rattle.input_laws.specs.Words.{InputEndsInSeparation, NextWordIsSeparated, SecondCommaIsFault, WordIsWhole};
 
 /// What stands before the next word of the input is blanks, tabs and line ends with at most one comma, and with none

@@ -1,4 +1,4 @@
-use Rattle.input_laws.proofs.Reads.{first_word_of_read, read_takes_word}
+use Rattle.input_laws.proofs.ReadStatements.{first_word_of_read, read_takes_word}
 use Rattle.input_laws.proofs.laws.words_of_read.Goals as goal
 
 pub returns-clause-begins : goal.returns-clause-begins
