@@ -1,10 +1,8 @@
 -- The words that a READ takes.
-use Rattle.std.proofs.Common.{◌≡◌, refl, sym, ap, ◌∙◌, subst, ℕ, Bool, true, false, List, ◌++◌, Result, Ok}
-use Rattle.fv_tree.specs.declared.ops.Fault.{Fault}
-use Rattle.fv_meaning.specs.Run.{State, Act, Going, while_going, begins_line, is_empty, takes_word, answered}
+use Rattle.std.proofs.Common.{◌≡◌, refl, sym, ap, ◌∙◌, subst, ℕ, true, false, List, ◌++◌, Ok}
+use Rattle.fv_meaning.specs.Run.{State, Act, Going, while_going, begins_line, is_empty, takes_word}
 use Rattle.fv_meaning.specs.Texts.{from_value, first_word, after_word}
 use Rattle.input_laws.specs.ReadStatements.{FirstWordOfRead, ReadTakesWord}
-use Rattle.input_laws.specs.Words.{IsSeparation, IsWord, EndsWord}
 use Rattle.input_laws.proofs.Words.{next_word_is_separated, word_is_whole, begins}
 
 abbrev ready : State → State

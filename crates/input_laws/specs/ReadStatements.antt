@@ -12,6 +12,6 @@ FirstWordOfRead = (line : ℕ) (s : State)
 -- one may
 abbrev pub ReadTakesWord : Type 0
 ReadTakesWord = (line : ℕ) (k : List ℕ → Act) (s : State) (before word more : List ℕ)
-    → s.way ≡ Going → s.input ≡ before ++ word ++ more
+    → s.way ≡ Going → s.input ≡ before ++ (word ++ more)
     → IsSeparation s.had_value before → IsWord word → EndsWord more
     → takes_word line k s ≡ k word (record s { input = more; had_value = true })
