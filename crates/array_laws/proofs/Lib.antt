@@ -1,0 +1,7 @@
+mod Members
+mod Turns
+mod Orders
+mod Sections
+mod Elements
+mod Stages
+mod Assignments

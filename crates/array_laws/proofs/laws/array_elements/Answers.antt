@@ -1,0 +1,12 @@
+use Rattle.array_laws.proofs.Elements.{element_comes_from_cells_read}
+use Rattle.array_laws.proofs.Sections.{cells_by_position, element_of_section}
+use Rattle.array_laws.proofs.laws.array_elements.Goals as goal
+
+pub returns-clause-read : goal.returns-clause-read
+returns-clause-read c = element_comes_from_cells_read
+
+pub returns-clause-cells : goal.returns-clause-cells
+returns-clause-cells c = cells_by_position
+
+pub returns-clause-section : goal.returns-clause-section
+returns-clause-section c = element_of_section

@@ -1,0 +1,6 @@
+//! What an array assignment stores: all at once, and element by element.
+#![tactic(auto)]
+
+mod laws;
+
+pub use laws::{array_assignment_in_turn, array_elements, stores_in_turn};

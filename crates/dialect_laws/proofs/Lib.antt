@@ -1,0 +1,5 @@
+mod Values
+mod Acts
+mod Runs
+mod NamesIn
+mod MadeNames
