@@ -1,0 +1,4 @@
+pub mod Acts
+pub mod Equations
+pub mod Values
+pub mod Rewriting

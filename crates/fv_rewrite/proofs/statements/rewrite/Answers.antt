@@ -1,0 +1,21 @@
+use Rattle.std.proofs.Common.{◌≡◌, ℕ, ℤ, List, sym, subst, Result, Ok, Err, IfOk}
+use Rattle.fv_tree.specs.View.{block_of}
+use Rattle.fv_tree.specs.declared.stmts.Block.{Block as Tree}
+use Rattle.fv_tree.specs.declared.lists.Memory.{Memory}
+use Rattle.fv_tree.specs.Plain.{Block}
+use Rattle.fv_meaning.specs.Store.{Store}
+use Rattle.fv_rewrite.specs.Following.{RunFollows, sequential}
+use Rattle.fv_rewrite.specs.Making.{Making, Suiting, made_block, SuitsBlock}
+use Rattle.fv_rewrite.specs.Rule.{IsRule}
+use Rattle.fv_rewrite.proofs.Rewriting.{made_block_follows}
+use Rattle.fv_rewrite.proofs.statements.rewrite.Goals as goal
+
+follows : (m : Making) (suits : Suiting) (like : ℕ → List ℤ → Store → Store → Type 0) → ((bits : ℕ) (turns : List ℤ) → IsRule (sequential bits) m suits (like bits turns)) → (b : Block) (r : Result Tree Memory)
+    → IfOk r (λ made. block_of made ≡ made_block m b) → IfOk r (λ made. (bits : ℕ) (turns : List ℤ) → SuitsBlock m suits b → RunFollows (sequential bits) (like bits turns) b (block_of made))
+follows m suits like keeps b (Ok made) e = λ bits turns h. subst (λ (c : Block). RunFollows (sequential bits) (like bits turns) b c) (sym e) (made_block_follows bits m suits (like bits turns) (keeps bits turns) b h)
+follows m suits like keeps b (Err e) h = h
+
+pub returns-clause-follows : goal.returns-clause-follows
+returns-clause-follows g c =
+    let rule = c.args.rule.now in
+    follows (g.R.Rule.making rule) (g.R.Rule.suits rule) (g.R.Rule.like rule) (g.met.R.Rule.keeps rule) (block_of c.args.tree.now) c.rewrite_block.result c.rewrite_block.ensures.made

@@ -1,0 +1,103 @@
+//! Items of input and output lists.
+ghost use Rattle.std.specs.Prelude.{◌≡◌, map, IfOk};
+ghost use Rattle.fv_tree.specs.View.{expression_of, item_of};
+ghost use Rattle.fv_tree.specs.Plain.{items};
+ghost use Rattle.fv_rewrite.specs.Making.{made_variable, made_input, made_inputs, made_output, made_outputs};
+
+use crate::Rule;
+use crate::expressions::{rewrite_expression, rewrite_parts};
+use fv_tree::{Expr, Item, Memory, Seq, copy_text};
+use std::alloc::Global;
+
+// An item of an input list keeps its name.
+#[tactic(auto, using(crate::proofs::Equations::input_equations))]
+fn rewrite_variable<R: Rule>(alloc: Global, expr: &Expr, rule: &mut R) -> Result<Item, Memory>
+    ensures made { IfOk result (λ new. item_of new ≡ made_variable (R.making rule.old) (expression_of expr.now)) }
+    ensures same { R.making rule.new ≡ R.making rule.old }
+{
+    match expr {
+        Expr::Int(_) => Ok(Item::One(expr.copy(alloc)?)),
+        Expr::Truth(_) => Ok(Item::One(expr.copy(alloc)?)),
+        Expr::Item(item) => Ok(Item::One(Expr::Item(rewrite_parts(alloc, item, rule)?))),
+        Expr::Un(..) => Ok(Item::One(expr.copy(alloc)?)),
+        Expr::Bin(..) => Ok(Item::One(expr.copy(alloc)?)),
+        Expr::Call(..) => Ok(Item::One(expr.copy(alloc)?)),
+        Expr::List(..) => Ok(Item::One(expr.copy(alloc)?)),
+        Expr::Spread(..) => Ok(Item::One(expr.copy(alloc)?)),
+        Expr::Transpose(_) => Ok(Item::One(expr.copy(alloc)?)),
+        Expr::Reshape(..) => Ok(Item::One(expr.copy(alloc)?)),
+        Expr::Reduce(..) => Ok(Item::One(expr.copy(alloc)?)),
+    }
+}
+
+#[cycle(inputs)]
+#[tactic(auto, using(crate::proofs::Equations::input_equations))]
+fn rewrite_input<R: Rule>(alloc: Global, item: &Item, rule: &mut R) -> Result<Item, Memory>
+    ensures made { IfOk result (λ new. item_of new ≡ made_input (R.making rule.old) (item_of item.now)) }
+    ensures same { R.making rule.new ≡ R.making rule.old }
+{
+    match item {
+        Item::One(expr) => rewrite_variable(alloc, expr, rule),
+        Item::Text(text) => Ok(Item::Text(copy_text(text, alloc)?)),
+        Item::Turns(items, var, first, last, step) => {
+            let items = rewrite_inputs(alloc, items, rule)?;
+            let first = rewrite_expression(alloc, first, rule)?;
+            let last = rewrite_expression(alloc, last, rule)?;
+            let step = rewrite_expression(alloc, step, rule)?;
+            Ok(Item::Turns(items, *var, first, last, step))
+        }
+    }
+}
+
+/// An input list.
+#[cycle(inputs)]
+pub fn rewrite_inputs<R: Rule>(
+    alloc: Global,
+    list: &Seq<Item>,
+    rule: &mut R,
+) -> Result<Seq<Item>, Memory>
+    ensures made { IfOk result (λ new. items (map item_of new) ≡ made_inputs (R.making rule.old) (items (map item_of list.now))) }
+    ensures same { R.making rule.new ≡ R.making rule.old }
+{
+    let mut made = Seq::new(alloc);
+    for item in list.as_slice() {
+        made.push(rewrite_input(alloc, item, rule)?)?;
+    }
+    Ok(made)
+}
+
+#[cycle(outputs)]
+#[tactic(auto, using(crate::proofs::Equations::output_equations))]
+fn rewrite_output<R: Rule>(alloc: Global, item: &Item, rule: &mut R) -> Result<Item, Memory>
+    ensures made { IfOk result (λ new. item_of new ≡ made_output (R.making rule.old) (item_of item.now)) }
+    ensures same { R.making rule.new ≡ R.making rule.old }
+{
+    match item {
+        Item::One(expr) => Ok(Item::One(rewrite_expression(alloc, expr, rule)?)),
+        Item::Text(text) => Ok(Item::Text(copy_text(text, alloc)?)),
+        Item::Turns(items, var, first, last, step) => {
+            let items = rewrite_outputs(alloc, items, rule)?;
+            let first = rewrite_expression(alloc, first, rule)?;
+            let last = rewrite_expression(alloc, last, rule)?;
+            let step = rewrite_expression(alloc, step, rule)?;
+            Ok(Item::Turns(items, *var, first, last, step))
+        }
+    }
+}
+
+/// An output list.
+#[cycle(outputs)]
+pub fn rewrite_outputs<R: Rule>(
+    alloc: Global,
+    list: &Seq<Item>,
+    rule: &mut R,
+) -> Result<Seq<Item>, Memory>
+    ensures made { IfOk result (λ new. items (map item_of new) ≡ made_outputs (R.making rule.old) (items (map item_of list.now))) }
+    ensures same { R.making rule.new ≡ R.making rule.old }
+{
+    let mut made = Seq::new(alloc);
+    for item in list.as_slice() {
+        made.push(rewrite_output(alloc, item, rule)?)?;
+    }
+    Ok(made)
+}

@@ -1,0 +1,187 @@
+//! Statements and blocks.
+ghost use Rattle.std.specs.Prelude.{◌≡◌, ℕ, ℤ, List, map, IfOk};
+ghost use Rattle.fv_tree.specs.View.{arms as plain_arms, block_of, reference_of, statement_of, tested_of};
+ghost use Rattle.fv_tree.specs.Plain.{block as plain_block};
+ghost use Rattle.fv_rewrite.specs.Following.{RunFollows, sequential};
+ghost use Rattle.fv_rewrite.specs.Making.{made_left, made_statement, made_arm, made_arms, made_block, SuitsBlock};
+
+use crate::Rule;
+use crate::expressions::{rewrite_all, rewrite_expression, rewrite_parts};
+use crate::items::{rewrite_inputs, rewrite_outputs};
+use fv_tree::{Arm, Block, Memory, Ref, Seq, Stmt};
+use std::alloc::Global;
+
+fn rewrite_left<R: Rule>(alloc: Global, left: &Ref, rule: &mut R) -> Result<Ref, Memory>
+    ensures made { IfOk result (λ new. reference_of new ≡ made_left (R.making rule.old) (reference_of left.now)) }
+    ensures same { R.making rule.new ≡ R.making rule.old }
+{
+    let left = rewrite_parts(alloc, left, rule)?;
+    rule.left(alloc, left)
+}
+
+#[cycle(blocks)]
+#[tactic(auto, using(fv_tree::proofs::Equations::statement_equations))]
+fn rewrite_statement<R: Rule>(alloc: Global, stmt: &Stmt, rule: &mut R) -> Result<Stmt, Memory>
+    ensures made { IfOk result (λ new. statement_of new ≡ made_statement (R.making rule.old) (statement_of stmt.now)) }
+    ensures same { R.making rule.new ≡ R.making rule.old }
+{
+    match stmt {
+        Stmt::Assign {
+            line,
+            mark,
+            left,
+            right,
+        } => {
+            let left = rewrite_left(alloc, left, rule)?;
+            let right = rewrite_expression(alloc, right, rule)?;
+            Ok(Stmt::Assign {
+                line: *line,
+                mark: *mark,
+                left,
+                right,
+            })
+        }
+        Stmt::Masked {
+            line,
+            mark,
+            mask,
+            left,
+            right,
+        } => {
+            let mask = rewrite_expression(alloc, mask, rule)?;
+            let left = rewrite_left(alloc, left, rule)?;
+            let right = rewrite_expression(alloc, right, rule)?;
+            Ok(Stmt::Masked {
+                line: *line,
+                mark: *mark,
+                mask,
+                left,
+                right,
+            })
+        }
+        Stmt::If { line, arms, other } => {
+            let arms = rewrite_arms(alloc, arms, rule)?;
+            let other = rewrite_block(alloc, other, rule)?;
+            Ok(Stmt::If {
+                line: *line,
+                arms,
+                other,
+            })
+        }
+        Stmt::Do {
+            line,
+            var,
+            first,
+            last,
+            step,
+            body,
+        } => {
+            let first = rewrite_expression(alloc, first, rule)?;
+            let last = rewrite_expression(alloc, last, rule)?;
+            let step = rewrite_expression(alloc, step, rule)?;
+            let body = rewrite_block(alloc, body, rule)?;
+            Ok(Stmt::Do {
+                line: *line,
+                var: *var,
+                first,
+                last,
+                step,
+                body,
+            })
+        }
+        Stmt::Label { number } => Ok(Stmt::Label { number: *number }),
+        Stmt::Go { line, number } => Ok(Stmt::Go {
+            line: *line,
+            number: *number,
+        }),
+        Stmt::Stop { line } => Ok(Stmt::Stop { line: *line }),
+        Stmt::Read { line, items } => {
+            let items = rewrite_inputs(alloc, items, rule)?;
+            Ok(Stmt::Read { line: *line, items })
+        }
+        Stmt::Print { line, items } => {
+            let items = rewrite_outputs(alloc, items, rule)?;
+            Ok(Stmt::Print { line: *line, items })
+        }
+        Stmt::Allocate {
+            line,
+            name,
+            extents,
+        } => {
+            let extents = rewrite_all(alloc, extents, rule)?;
+            Ok(Stmt::Allocate {
+                line: *line,
+                name: *name,
+                extents,
+            })
+        }
+        Stmt::Deallocate { line, name } => Ok(Stmt::Deallocate {
+            line: *line,
+            name: *name,
+        }),
+    }
+}
+
+#[cycle(blocks)]
+#[tactic(auto, using(fv_tree::proofs::Equations::statement_equations))]
+fn rewrite_arm<R: Rule>(alloc: Global, arm: &Arm, rule: &mut R) -> Result<Arm, Memory>
+    ensures made { IfOk result (λ new. tested_of new ≡ made_arm (R.making rule.old) (tested_of arm.now)) }
+    ensures same { R.making rule.new ≡ R.making rule.old }
+{
+    let test = rewrite_expression(alloc, &arm.test, rule)?;
+    let body = rewrite_block(alloc, &arm.body, rule)?;
+    Ok(Arm { test, body })
+}
+
+#[cycle(blocks)]
+fn rewrite_arms<R: Rule>(alloc: Global, arms: &Seq<Arm>, rule: &mut R) -> Result<Seq<Arm>, Memory>
+    ensures made { IfOk result (λ new. plain_arms (map tested_of new)
+        ≡ made_arms (R.making rule.old) (plain_arms (map tested_of arms.now))) }
+    ensures same { R.making rule.new ≡ R.making rule.old }
+{
+    let mut made = Seq::new(alloc);
+    for arm in arms.as_slice() {
+        made.push(rewrite_arm(alloc, arm, rule)?)?;
+    }
+    Ok(made)
+}
+
+#[cycle(blocks)]
+fn rewrite_statements<R: Rule>(
+    alloc: Global,
+    stmts: &Seq<Stmt>,
+    rule: &mut R,
+) -> Result<Seq<Stmt>, Memory>
+    ensures made { IfOk result (λ new. plain_block (map statement_of new)
+        ≡ made_block (R.making rule.old) (plain_block (map statement_of stmts.now))) }
+    ensures same { R.making rule.new ≡ R.making rule.old }
+{
+    let mut made = Seq::new(alloc);
+    for stmt in stmts.as_slice() {
+        made.push(rewrite_statement(alloc, stmt, rule)?)?;
+    }
+    Ok(made)
+}
+
+#[cycle(blocks)]
+#[tactic(auto, using(fv_tree::proofs::Equations::statement_equations))]
+fn rewrite_block<R: Rule>(alloc: Global, block: &Block, rule: &mut R) -> Result<Block, Memory>
+    ensures made { IfOk result (λ new. block_of new ≡ made_block (R.making rule.old) (block_of block.now)) }
+    ensures same { R.making rule.new ≡ R.making rule.old }
+{
+    let stmts = rewrite_statements(alloc, &block.stmts, rule)?;
+    Ok(Block { stmts })
+}
+
+/// What the rule makes of a tree. Where it suits each node, the run of what was made follows the run of the tree: if
+/// that meets no fault, both end the same way, with the same output and the same input left, and with stores that are
+/// alike.
+pub fn rewrite<R: Rule>(alloc: Global, tree: &Block, rule: &mut R) -> Result<Block, Memory>
+    ensures made { IfOk result (λ new. block_of new ≡ made_block (R.making rule.old) (block_of tree.now)) }
+    ensures same { R.making rule.new ≡ R.making rule.old }
+    ensures follows { IfOk result (λ new. (bits : ℕ) (turns : List ℤ)
+        → SuitsBlock (R.making rule.old) (R.suits rule.old) (block_of tree.now)
+        → RunFollows (sequential bits) (R.like rule.old bits turns) (block_of tree.now) (block_of new)) }
+{
+    rewrite_block(alloc, tree, rule)
+}
