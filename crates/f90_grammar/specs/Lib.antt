@@ -6,3 +6,11 @@ pub mod Forms
 pub mod Blocks
 pub mod Reading
 pub mod Printing
+pub mod LineCauses
+pub mod Contents
+pub mod Order
+pub mod Declared
+pub mod Suited
+pub mod Surroundings
+pub mod Bounds
+pub mod Refusals
