@@ -4,3 +4,6 @@ pub mod Decisions
 pub mod KindFacts
 pub mod Depths
 pub mod Sound
+pub mod Bodies
+pub mod Counts
+pub mod Targets

@@ -9,7 +9,7 @@ use Rattle.fv_tree.specs.Limits.{array_dimensions}
 use Rattle.fv_tree.specs.OperatorTable.{operand_kind, result_kind_of, is_unary}
 use Rattle.fv_meaning.specs.Typed.{number_of_arguments, number_of_subscripts, rank_of_extent, declared, IsLiteral}
 use Rattle.fv_meaning.specs.Typed90.{Conform, SuitsDimensions, SuitsLoops, IsFree, rank_of_name, rank_of, rank_of_each, rank_of_subscripts, rank_of_subscript, IsIntegerScalar, HasKind, AreArguments, AreScalars, AreSubscripts, IsSubscript, AreLoops, IsScalar, HasSomeKind, IsDoVariable}
-use Rattle.f90_laws.proofs.Decisions.{Decided, like, both, either, three, four, same_number, at_most, below, same_kind, some_and, is_none, is_true, contains, same_name, negated}
+use Rattle.f90_reading_laws.proofs.Decisions.{Decided, like, both, either, three, four, same_number, at_most, below, same_kind, some_and, is_none, is_true, contains, same_name, negated}
 
 literal : (n : ℤ) → Decided (IsLiteral n)
 literal (pos n) = below n (2 ^ 127)

@@ -11,7 +11,7 @@ use Rattle.std.specs.Prelude.{◌==◌}
 use Rattle.fv_tree.specs.declared.ops.Kind.{Kind}
 use Rattle.fv_tree.specs.declared.ops.Kind.TheVariants.{Integer, Logical}
 use Rattle.fv_tree.specs.Plain.{Extent, Given, Later}
-use Rattle.f90_laws.proofs.Lists.{cases_of, here, there, nowhere}
+use Rattle.f90_reading_laws.proofs.Lists.{cases_of, here, there, nowhere}
 
 abbrev pub Decided : Type 0 → Type 0
 Decided P = P ⊎ (P → ⊥)
