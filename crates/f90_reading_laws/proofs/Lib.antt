@@ -1,0 +1,9 @@
+pub mod Refusing
+pub mod Lists
+pub mod Decisions
+pub mod KindFacts
+pub mod Depths
+pub mod Sound
+pub mod Bodies
+pub mod Counts
+pub mod Targets
