@@ -1,1 +1,2 @@
+pub mod PrintedTrees
 pub mod PrintedWords
