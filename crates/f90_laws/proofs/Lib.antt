@@ -1,2 +1,3 @@
 pub mod PrintedTrees
+pub mod Spelling
 pub mod PrintedWords
