@@ -1,3 +1,4 @@
 pub mod PrintedTrees
 pub mod Spelling
+pub mod PhraseWords
 pub mod PrintedWords

@@ -174,7 +174,7 @@ word p q w cs are_plain spelled whole follows = record {
     follows = follows rest s.symbols };
   tidy = plain_tidy cs are_plain }
 
-stops_too : (p q : ℕ → Bool) → ((c : ℕ) → p c ≡ false → q c ≡ false) → (ss : List Symbol) → Stops p ss → Stops q ss
+pub stops_too : (p q : ℕ → Bool) → ((c : ℕ) → p c ≡ false → q c ≡ false) → (ss : List Symbol) → Stops p ss → Stops q ss
 stops_too p q f [] h = tt
 stops_too p q f (Char c ∷ ss) h = f c h
 stops_too p q f (Gap ∷ ss) h = tt
@@ -183,22 +183,22 @@ stops_too p q f (Text t ∷ ss) h = tt
 unjoint : (q : ℕ → Bool) → ((c : ℕ) → is_joint c ≡ false → q c ≡ false) → (rest : List ℕ) (ss : List Symbol) → Follows Start rest ss → Stops q ss
 unjoint q f rest ss h = stops_too is_joint q f ss h
 
-joint_41 : (c : ℕ) → is_joint c ≡ false → (c == 41) ≡ false
+pub joint_41 : (c : ℕ) → is_joint c ≡ false → (c == 41) ≡ false
 joint_41 c h = (or_parts (c == 41) _ h).0
 
-joint_42 : (c : ℕ) → is_joint c ≡ false → (c == 42) ≡ false
+pub joint_42 : (c : ℕ) → is_joint c ≡ false → (c == 42) ≡ false
 joint_42 c h = (or_parts (c == 42) _ (or_parts (c == 41) _ h).1).0
 
-joint_47 : (c : ℕ) → is_joint c ≡ false → (c == 47) ≡ false
+pub joint_47 : (c : ℕ) → is_joint c ≡ false → (c == 47) ≡ false
 joint_47 c h = (or_parts (c == 47) _ (or_parts (c == 42) _ (or_parts (c == 41) _ h).1).1).0
 
-joint_58 : (c : ℕ) → is_joint c ≡ false → (c == 58) ≡ false
+pub joint_58 : (c : ℕ) → is_joint c ≡ false → (c == 58) ≡ false
 joint_58 c h = (or_parts (c == 58) _ (or_parts (c == 47) _ (or_parts (c == 42) _ (or_parts (c == 41) _ h).1).1).1).0
 
-joint_61 : (c : ℕ) → is_joint c ≡ false → (c == 61) ≡ false
+pub joint_61 : (c : ℕ) → is_joint c ≡ false → (c == 61) ≡ false
 joint_61 c h = (or_parts (c == 58) (c == 61) (or_parts (c == 47) _ (or_parts (c == 42) _ (or_parts (c == 41) _ h).1).1).1).1
 
-no_open : (c : ℕ) (ss : List Symbol) → (c == 40) ≡ false → c ≡ 40 → (rest : List Symbol) × (ss ≡ Char 47 ∷ rest)
+pub no_open : (c : ℕ) (ss : List Symbol) → (c == 40) ≡ false → c ≡ 40 → (rest : List Symbol) × (ss ≡ Char 47 ∷ rest)
 no_open c ss h e = absurd (grind (arith, nat_tests))
 
 pub comma_word : Leads Start After (codes ", ") (words.Comma ∷ [])
