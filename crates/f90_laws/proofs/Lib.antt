@@ -1,4 +1,5 @@
 pub mod PrintedTrees
 pub mod Spelling
 pub mod PhraseWords
+pub mod PhraseLevels
 pub mod PrintedWords
