@@ -7,7 +7,7 @@ use Rattle.f90_grammar.specs.Words as words
 use Rattle.f90_grammar.specs.Words.{Word, Symbol, Char, IsName, IsDigits, truth_text}
 use Rattle.f90_grammar.specs.Phrases.{Phrase, Literal, Truth, Name, Listed, Paren, Signed, Joined, Values, Looped, Part, Value, Range, Strided, Parts, One, Then, Phrases, Sole, More, Turn, Innermost, Round, sign_word, written, written_part, written_parts, written_values, written_turn}
 use Rattle.f90_grammar.specs.PrintedText.{sign_text, phrase_text, part_text, parts_text, values_text, turn_text, in_parentheses, comma, loop_text}
-use Rattle.f90_laws.proofs.Spelling.{Place, Anywhere, Start, Named, After, Leads, join, loosen, word, start_blank, after_blank, named_blank, comma_word, colon_word, open_word, close_word, open_list, close_list, equals_word, name_word, digits_word, head_word, stops_too, joint_41, joint_42, joint_61, no_open, is_joint}
+use Rattle.f90_laws.proofs.Spelling.{Place, Anywhere, Start, Named, After, Leads, IsFirst, join, inside, loosen, word, start_blank, after_blank, named_blank, comma_word, colon_word, open_word, close_word, open_list, close_list, equals_word, name_word, digits_word, head_word, stops_too, joint_41, joint_42, joint_61, no_open, is_joint}
 use Rattle.std.proofs.lemmas.Bool.{or_from}
 
 -- ---- phrases whose names are names and whose literals are digits
@@ -85,9 +85,9 @@ truth_leads false = word After Start (words.Truth false) (codes ".FALSE.") refl 
 joined_text : (a o b : List ℕ) → a ++ ((codes " " ++ (o ++ codes " ")) ++ b) ≡ a ++ (32 ∷ (o ++ (32 ∷ b)))
 joined_text a o b = ap (λ t. a ++ (32 ∷ t)) (append_assoc o (codes " ") b)
 
-pub loop_leads : {p : Place} {a b : List ℕ} {us vs : List Word} (x : List ℕ) → IsName x → Leads After Start a us → Leads p Start b vs
-    → Leads p Start (loop_text x a b) (words.Name x ∷ (words.Equals ∷ (us ++ words.Comma ∷ vs)))
-loop_leads x h a b = join (name_word Start tt x h) (join equals_word (join a (join comma_word b)))
+pub loop_leads : {p : Place} {a b : List ℕ} {us vs : List Word} → (q : Place) → IsFirst q → (x : List ℕ) → IsName x → Leads After Start a us → Leads p Start b vs
+    → Leads p q (loop_text x a b) (words.Name x ∷ (words.Equals ∷ (us ++ words.Comma ∷ vs)))
+loop_leads q f x h a b = join (name_word q f x h) (join equals_word (join a (join comma_word b)))
 
 turn_words : (p a b : List Word) (x : List ℕ) → (p ++ words.Comma ∷ (words.Name x ∷ (words.Equals ∷ (a ++ words.Comma ∷ b)))) ++ words.Close ∷ []
     ≡ p ++ words.Comma ∷ (words.Name x ∷ (words.Equals ∷ (a ++ words.Comma ∷ (b ++ words.Close ∷ []))))
@@ -98,14 +98,14 @@ turn_leads_with : (p : List ℕ) (us : List Word) (x a b : List ℕ) (vs ws : Li
     (words.Open ∷ (us ++ words.Comma ∷ (words.Name x ∷ (words.Equals ∷ (vs ++ words.Comma ∷ (ws ++ words.Close ∷ []))))))
 turn_leads_with p us x a b vs ws k h l m =
     subst (λ t. Leads After Start (in_parentheses (p ++ (comma ++ loop_text x a b))) (words.Open ∷ t)) (turn_words us vs ws x)
-    (join open_word (join (join k (join comma_word (loop_leads x h l m))) close_word))
+    (join open_word (join (join k (join comma_word (loop_leads Start tt x h l m))) close_word))
 
 mutual
   pub phrase_leads : (p : Phrase) → IsWorded p → Leads After Start (phrase_text p) (written p)
   phrase_leads (Literal t) h = digits_word Start tt t h
   phrase_leads (Truth b) h = truth_leads b
   phrase_leads (Name x) h = name_word Start tt x h
-  phrase_leads (Listed x ps) h = head_word Start tt x h.0 (join (parts_lead ps h.1) close_word)
+  phrase_leads (Listed x ps) h = head_word Start tt x h.0 (inside (join (parts_lead ps h.1) close_word))
   phrase_leads (Paren p) h = join open_word (join (phrase_leads p h) close_word)
   phrase_leads (Signed s p) h = join (sign_leads s) (phrase_leads p h)
   phrase_leads (Joined o a b) h =

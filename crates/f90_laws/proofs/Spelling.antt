@@ -93,10 +93,13 @@ plain_tidy (c ∷ cs) h =
 -- ---- what may follow a word
 
 -- Anywhere asks nothing. At Start no character stands that a parenthesis, a colon or an operator before it takes to
--- itself, at Named no parenthesis, be it behind blanks; at After the word before ends, and has no parenthesis of its own
+-- itself, at Inside none that a parenthesis does, at Beyond none that a colon does. At Named no parenthesis stands, be it
+-- behind blanks; at After the word before ends, and has no parenthesis of its own
 pub data Place : Type 0 where
   Anywhere : Place
   Start : Place
+  Inside : Place
+  Beyond : Place
   Named : Place
   After : Place
 
@@ -106,6 +109,8 @@ is_joint c = (c == 41) || ((c == 42) || ((c == 47) || ((c == 58) || (c == 61))))
 abbrev pub Follows : Place → List ℕ → List Symbol → Type 0
 Follows Anywhere cs ss = Unit {0}
 Follows Start cs ss = Stops is_joint ss
+Follows Inside cs ss = Stops (λ c. c == 47) ss
+Follows Beyond cs ss = Stops (λ c. c == 58) ss
 Follows Named cs ss = HasNoParenthesis ss
 Follows After cs ss = IsEnded cs × Stops goes_on ss × HasNoParenthesis ss
 
@@ -201,8 +206,21 @@ joint_61 c h = (or_parts (c == 58) (c == 61) (or_parts (c == 47) _ (or_parts (c 
 pub no_open : (c : ℕ) (ss : List Symbol) → (c == 40) ≡ false → c ≡ 40 → (rest : List Symbol) × (ss ≡ Char 47 ∷ rest)
 no_open c ss h e = absurd (grind (arith, nat_tests))
 
-pub comma_word : Leads Start After (codes ", ") (words.Comma ∷ [])
-comma_word = join (word Start After words.Comma (codes ",") refl (codes ",", refl, refl) (λ rest ss f. tt) (λ rest ss. (refl, refl, no_open 44 ss refl))) start_blank
+pub inside : {p : Place} {cs : List ℕ} {ws : List Word} → Leads p Start cs ws → Leads p Inside cs ws
+inside l = record {
+  stands = λ rest more s. (let t = l.stands rest more s in record { symbols = t.symbols; are = t.are; in_words = t.in_words; follows = unjoint (λ c. c == 47) joint_47 rest t.symbols t.follows });
+  tidy = l.tidy }
+
+comma_follows : (q : Place) (rest : List ℕ) (ss : List Symbol) → Follows q (44 ∷ rest) (Char 44 ∷ ss)
+comma_follows Anywhere rest ss = tt
+comma_follows Start rest ss = refl
+comma_follows Inside rest ss = refl
+comma_follows Beyond rest ss = refl
+comma_follows Named rest ss = no_open 44 ss refl
+comma_follows After rest ss = (refl, refl, no_open 44 ss refl)
+
+pub comma_word : {p q : Place} → Leads p q (codes ", ") (words.Comma ∷ [])
+comma_word {p} {q} = join (word Start q words.Comma (codes ",") refl (codes ",", refl, refl) (λ rest ss f. tt) (λ rest ss. comma_follows q rest ss)) start_blank
 
 pub colon_word : Leads Start After (codes ":") (words.Colon ∷ [])
 colon_word = word Start After words.Colon (codes ":") refl (codes ":", refl, refl) (unjoint (λ c. c == 58) joint_58) (λ rest ss. (refl, refl, no_open 58 ss refl))
@@ -272,6 +290,8 @@ name_plain (c ∷ cs) h = and_from (is_plain c) (list_all is_plain cs) (goes_on_
 wordy_follows : (q : Place) → IsFirst q → (c : ℕ) (rest : List ℕ) (ss : List Symbol) → is_wordy c ≡ true → Follows q (c ∷ rest) (Char c ∷ ss)
 wordy_follows Anywhere f c rest ss h = tt
 wordy_follows Start f c rest ss h = wordy_joint c h
+wordy_follows Inside f c rest ss h = joint_47 c (wordy_joint c h)
+wordy_follows Beyond f c rest ss h = joint_58 c (wordy_joint c h)
 wordy_follows Named f c rest ss h = no_open c ss (wordy_open c h)
 wordy_follows After f c rest ss h = absurd f
 
@@ -291,7 +311,7 @@ digits_word q f (c ∷ cs) h =
 -- a name and the parenthesis behind it, with blanks between them
 head_with : (p q : Place) (bs : List ℕ) (gs : List Symbol) (x t : List ℕ) (us : List Word) → IsFirst q → AreGaps gs
     → ((cs : List ℕ) (ss : List Symbol) → Symbols cs ss → Symbols (bs ++ cs) (gs ++ ss))
-    → IsTidy (bs ++ 40 ∷ []) → IsName x → Leads p Start t us → Leads p q (x ++ (bs ++ (40 ∷ t))) (words.Head x ∷ us)
+    → IsTidy (bs ++ 40 ∷ []) → IsName x → Leads p Inside t us → Leads p q (x ++ (bs ++ (40 ∷ t))) (words.Head x ∷ us)
 head_with p q bs gs x t us f gaps blanks tidy h l = record {
   stands = λ rest more s. (let i = l.stands rest more s in record {
     symbols = chars x ++ (gs ++ (Char 40 ∷ i.symbols));
@@ -304,27 +324,32 @@ head_with p q bs gs x t us f gaps blanks tidy h l = record {
       same = sym (append_assoc (chars x) (gs ++ Char 40 ∷ []) i.symbols ∙ ap (λ r. chars x ++ r) (append_assoc gs (Char 40 ∷ []) i.symbols));
       are_gaps = tt;
       spelled = (gs, refl, h, gaps);
-      whole = unjoint (λ c. c == 47) joint_47 (t ++ rest) i.symbols i.follows }, i.in_words);
+      whole = i.follows }, i.in_words);
     follows =
       subst (λ cs. Follows q cs (chars x ++ (gs ++ (Char 40 ∷ i.symbols)))) (sym (append_assoc x (bs ++ (40 ∷ t)) rest))
       (name_follows q f x h ((bs ++ (40 ∷ t)) ++ rest) (gs ++ (Char 40 ∷ i.symbols))) });
   tidy = tidy_append x (bs ++ (40 ∷ t)) (plain_tidy x (name_plain x h)) (subst IsTidy (append_assoc bs (40 ∷ []) t) (tidy_append (bs ++ 40 ∷ []) t tidy l.tidy)) }
 
-pub head_word : {p : Place} {t : List ℕ} {us : List Word} → (q : Place) → IsFirst q → (x : List ℕ) → IsName x → Leads p Start t us → Leads p q (x ++ (40 ∷ t)) (words.Head x ∷ us)
+pub head_word : {p : Place} {t : List ℕ} {us : List Word} → (q : Place) → IsFirst q → (x : List ℕ) → IsName x → Leads p Inside t us → Leads p q (x ++ (40 ∷ t)) (words.Head x ∷ us)
 head_word {p} {t} {us} q f x h l = head_with p q [] [] x t us f tt (λ cs ss s. s) (plain_tidy (codes "(") refl) h l
 
-pub spaced_head : {p : Place} {t : List ℕ} {us : List Word} → (q : Place) → IsFirst q → (x : List ℕ) → IsName x → Leads p Start t us → Leads p q (x ++ (codes " (" ++ t)) (words.Head x ∷ us)
+pub spaced_head : {p : Place} {t : List ℕ} {us : List Word} → (q : Place) → IsFirst q → (x : List ℕ) → IsName x → Leads p Inside t us → Leads p q (x ++ (codes " (" ++ t)) (words.Head x ∷ us)
 spaced_head {p} {t} {us} q f x h l =
     head_with p q (codes " ") (Gap ∷ []) x t us f tt (λ cs ss s. blank s) (one_tidy 32 (codes "(") (omega arith, omega arith) refl refl (plain_tidy (codes "(") refl)) h l
 
 -- ---- a whole text
 
-ended : Stands After [] []
-ended = record { symbols = []; are = nothing; in_words = tt; follows = (tt, tt, tt) }
+end_follows : (p : Place) → Follows p [] []
+end_follows Anywhere = tt
+end_follows Start = tt
+end_follows Inside = tt
+end_follows Beyond = tt
+end_follows Named = tt
+end_follows After = (tt, tt, tt)
 
-pub has_words : {q : Place} {cs : List ℕ} {ws : List Word} → Leads After q cs ws → words.HasWords cs ws
-has_words {q} {cs} {ws} l =
-    let s = l.stands [] [] ended in
+pub has_words : {p q : Place} {cs : List ℕ} {ws : List Word} → Leads p q cs ws → words.HasWords cs ws
+has_words {p} {q} {cs} {ws} l =
+    let s = l.stands [] [] (record { symbols = []; are = nothing; in_words = tt; follows = end_follows p }) in
     let e = subst (λ t. Stands q t (ws ++ [])) (append-nil cs) s in
     let f = subst (λ u. Stands q cs u) (append-nil ws) e in
     (f.symbols, f.are, f.in_words)
