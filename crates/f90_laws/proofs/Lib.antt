@@ -2,4 +2,5 @@ pub mod PrintedTrees
 pub mod Spelling
 pub mod PhraseWords
 pub mod PhraseLevels
+pub mod ItemWords
 pub mod PrintedWords

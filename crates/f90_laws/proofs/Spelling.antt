@@ -145,6 +145,9 @@ lose l = record {
   stands = λ rest more s. (let t = l.stands rest more s in record { symbols = t.symbols; are = t.are; in_words = t.in_words; follows = tt });
   tidy = l.tidy }
 
+pub no_words : {p : Place} → Leads p p [] []
+no_words = record { stands = λ rest more s. s; tidy = nothing_tidy }
+
 -- ---- blanks
 
 gap_words : (ss : List Symbol) (ws : List Word) → Words ss ws → Words (Gap ∷ ss) ws
