@@ -3,4 +3,5 @@ pub mod Spelling
 pub mod PhraseWords
 pub mod PhraseLevels
 pub mod ItemWords
+pub mod FormWords
 pub mod PrintedWords

@@ -234,6 +234,9 @@ open_word = word Start Start words.Open (codes "(") refl (codes "(", refl, refl)
 pub close_word : {p : Place} → Leads p After (codes ")") (words.Close ∷ [])
 close_word {p} = word p After words.Close (codes ")") refl (codes ")", refl, refl) (λ rest ss f. tt) (λ rest ss. (refl, refl, no_open 41 ss refl))
 
+pub close_beyond : {p : Place} → Leads p Beyond (codes ")") (words.Close ∷ [])
+close_beyond {p} = word p Beyond words.Close (codes ")") refl (codes ")", refl, refl) (λ rest ss f. tt) (λ rest ss. refl)
+
 pub open_list : {p : Place} → Leads p Start (codes "(/ ") (words.OpenList ∷ [])
 open_list {p} = join (word Start Start words.OpenList (codes "(/") refl (codes "(/", refl, refl) (λ rest ss f. tt) (λ rest ss. refl)) start_blank
 
