@@ -1,1 +1,2 @@
+pub mod PrintedBlocksItems
 pub mod PrintedWords
