@@ -1,2 +1,3 @@
 pub mod PrintedBlocksItems
+pub mod PrintedBlocksPlaced
 pub mod PrintedWords
