@@ -1,3 +1,4 @@
+pub mod PrintedBlocks
 pub mod PrintedBlocksItems
 pub mod PrintedBlocksPlaced
 pub mod PrintedWords
