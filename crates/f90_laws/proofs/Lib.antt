@@ -4,4 +4,6 @@ pub mod PrintedBlocksItems
 pub mod PrintedBlocksPlaced
 pub mod PrintedBlocksProgram
 pub mod PrintedBlocksTargets
+pub mod PrintedLinesPieces
+pub mod PrintedLinesText
 pub mod PrintedWords
