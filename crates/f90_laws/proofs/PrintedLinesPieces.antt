@@ -1,7 +1,7 @@
 -- The lines of a printed statement are its pieces.
 use Rattle.std.proofs.Common.{◌≡◌, refl, ap, ap₂, ◌∙◌, sym, subst, ℕ, zero, suc, ◌+◌, ◌-◌, ◌*◌, ◌/◌, ◌<◌, ◌≤◌, ◌==◌, Bool, true, false, not, ◌&&◌, ◌||◌, cond, IsTrue, List, [], ◌∷◌, ◌++◌, length, take, drop, map, arith, append_assoc, append-nil, flat_map, take-append-drop, length-drop, length-append}
 use Rattle.std.specs.List.{list_all}
-use Rattle.std.proofs.lemmas.Bool.{or_right, or_parts, cond-false, not-true, not_from_false, and_left}
+use Rattle.std.proofs.lemmas.Bool.{or_right, or_parts, cond-false, not-true, not_from_false, and_left, and_right}
 use Rattle.f90_grammar.specs.FreeForm.{Piece, IsPiece, AreFurtherPieces, ArePieces, Block, written_piece, written_block, pieces_of, comments_of, characters, joint, is_blank, starts_with, ends_with, is_comment_line, is_open_behind, has_comment}
 use Rattle.f90_grammar.specs.PrintedText.{piece_length, further_pieces, continued, pieces, lines_of_text}
 
@@ -43,8 +43,111 @@ no_ampersand (c ∷ []) h =
     (and_left (c == 32) true (not-true (c == 32) r.0), not-true (c == 38) r.1)
 no_ampersand (c ∷ d ∷ cs) h =
     let r = no_ampersand (d ∷ cs) h in
-    (both_false (c == 32) (list_all is_blank (d ∷ cs)) r.0, cond-false (list_all is_blank (d ∷ cs)) (c == 38) (ends_with 38 (d ∷ cs)) r.0 ∙ r.1)
+    (and_right (c == 32) (list_all is_blank (d ∷ cs)) r.0, cond-false (list_all is_blank (d ∷ cs)) (c == 38) (ends_with 38 (d ∷ cs)) r.0 ∙ r.1)
+
+-- ---- comments and constants in two parts of a text
+
+comment-append : (o : Bool) (xs ys : List ℕ) → has_comment o (xs ++ ys) ≡ (has_comment o xs || has_comment (is_open_behind o xs) ys)
+comment-append o [] ys = refl
+comment-append o (c ∷ cs) ys =
+    ap (λ r. (not o && c == 33) || r) (comment-append (cond (c == 39) (not o) o) cs ys)
+    ∙ or-assoc (not o && c == 33) (has_comment (cond (c == 39) (not o) o) cs) (has_comment (is_open_behind (cond (c == 39) (not o) o) cs) ys)
   where
-    both_false : (x y : Bool) → y ≡ false → (x && y) ≡ false
-    both_false true y e = e
-    both_false false y e = refl
+    or-assoc : (x y z : Bool) → (x || (y || z)) ≡ ((x || y) || z)
+    or-assoc true y z = refl
+    or-assoc false y z = refl
+
+-- a text without a comment, that is cut
+cut_comment : (o : Bool) (n : ℕ) (t : List ℕ) → has_comment o t ≡ false
+    → (has_comment o (take n t) ≡ false) × (has_comment (is_open_behind o (take n t)) (drop n t) ≡ false)
+cut_comment o n t h =
+    or_parts (has_comment o (take n t)) (has_comment (is_open_behind o (take n t)) (drop n t))
+    (sym (comment-append o (take n t) (drop n t)) ∙ (ap (has_comment o) (take-append-drop n t) ∙ h))
+
+-- ---- pieces
+
+abbrev piece_of : Bool → List ℕ → Bool → Piece
+piece_of pulled t continues =
+    record { before = []; is_pulled = pulled; chars = t; is_continued = continues; is_single = false; behind = []; comment = [] }
+
+abbrev plain : Piece → Block
+plain p = record { comments = []; piece = p }
+
+-- behind the first line
+abbrev pub rest_blocks : ℕ → List ℕ → List Block
+rest_blocks zero t = plain (piece_of true t false) ∷ []
+rest_blocks (suc n) t = plain (piece_of true (take piece_length t) true) ∷ rest_blocks n (drop piece_length t)
+
+abbrev pub first_piece : ℕ → List ℕ → Piece
+first_piece zero t = piece_of false t false
+first_piece (suc n) t = piece_of false (take piece_length t) true
+
+abbrev pub further_blocks : ℕ → List ℕ → List Block
+further_blocks zero t = []
+further_blocks (suc n) t = rest_blocks n (drop piece_length t)
+
+rest-written : (n : ℕ) (t : List ℕ) → flat_map written_block (rest_blocks n t) ≡ continued n t
+rest-written zero t = ap (λ cs. (38 ∷ cs) ∷ []) (append-nil t)
+rest-written (suc n) t = ap (λ ls. (38 ∷ (take piece_length t ++ 38 ∷ [])) ∷ ls) (rest-written n (drop piece_length t))
+
+pieces-written : (n : ℕ) (t : List ℕ) → written_piece (first_piece n t) ∷ flat_map written_block (further_blocks n t) ≡ pieces n t
+pieces-written zero t = ap (λ cs. cs ∷ []) (append-nil t)
+pieces-written (suc n) t = ap (λ ls. (take piece_length t ++ 38 ∷ []) ∷ ls) (rest-written n (drop piece_length t))
+
+rest-characters : (n : ℕ) (t : List ℕ) → flat_map joint (pieces_of (rest_blocks n t)) ≡ t
+rest-characters zero t = append-nil t
+rest-characters (suc n) t = ap (λ cs. take piece_length t ++ cs) (rest-characters n (drop piece_length t)) ∙ take-append-drop piece_length t
+
+pieces-characters : (n : ℕ) (t : List ℕ) → characters (first_piece n t ∷ pieces_of (further_blocks n t)) ≡ t
+pieces-characters zero t = append-nil t
+pieces-characters (suc n) t = ap (λ cs. take piece_length t ++ cs) (rest-characters n (drop piece_length t)) ∙ take-append-drop piece_length t
+
+rest-comments : (n : ℕ) (t : List ℕ) → comments_of (rest_blocks n t) ≡ []
+rest-comments zero t = refl
+rest-comments (suc n) t = rest-comments n (drop piece_length t)
+
+further-comments : (n : ℕ) (t : List ℕ) → comments_of (further_blocks n t) ≡ []
+further-comments zero t = refl
+further-comments (suc n) t = rest-comments n (drop piece_length t)
+
+-- ---- each is a piece
+
+continues : (o : Bool) (t : List ℕ) → has_comment o t ≡ false → IsPiece o (piece_of true t true)
+continues o t h = record {
+  blanks = refl;
+  comment = not_from_false (has_comment o t) h;
+  in_constant = or_right (not (is_open_behind o t)) true refl;
+  leading = refl;
+  final = refl;
+  single = refl;
+  is_line = refl;
+}
+
+closes : (o : Bool) (t : List ℕ) → has_comment o t ≡ false → ends_well t ≡ true → IsPiece o (piece_of true t false)
+closes o t h e =
+    let r = no_ampersand t e in
+    record {
+      blanks = refl;
+      comment = not_from_false (has_comment o t) h;
+      in_constant = or_right (not (is_open_behind o t)) true refl;
+      leading = refl;
+      final = not_from_false (ends_with 38 (38 ∷ t)) (cond-false (list_all is_blank t) true (ends_with 38 t) r.0 ∙ r.1);
+      single = refl;
+      is_line = refl;
+    }
+
+go_on : (o : Bool) (p : Piece) (ps : List Piece) → IsPiece o p → p.is_continued ≡ true → AreFurtherPieces (is_open_behind o p.chars) ps
+    → AreFurtherPieces o (p ∷ ps)
+go_on o p [] h c k = absurd k
+go_on o p (q ∷ qs) h c k = (h, c, k)
+
+rest_are : (o : Bool) (n : ℕ) (t : List ℕ) → has_comment o t ≡ false → ends_well t ≡ true → n * piece_length < length t
+    → AreFurtherPieces o (pieces_of (rest_blocks n t))
+rest_are o zero t h e l = (closes o t h e, refl)
+rest_are o (suc n) t h e l =
+    let r = cut_comment o piece_length t h in
+    let k : suc n * 130 < length t = l in
+    let m : piece_length < length t = omega arith in
+    let g : n * piece_length < length (drop piece_length t) = omega (arith, length-drop piece_length t) in
+    go_on o (piece_of true (take piece_length t) true) (pieces_of (rest_blocks n (drop piece_length t))) (continues o (take piece_length t) r.0) refl
+    (rest_are (is_open_behind o (take piece_length t)) n (drop piece_length t) r.1 (end_of_drop piece_length t m e) g)
