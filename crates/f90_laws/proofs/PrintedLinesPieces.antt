@@ -1,7 +1,7 @@
 -- The lines of a printed statement are its pieces.
-use Rattle.std.proofs.Common.{◌≡◌, refl, ap, ap₂, ◌∙◌, sym, subst, ℕ, zero, suc, ◌+◌, ◌-◌, ◌*◌, ◌/◌, ◌<◌, ◌≤◌, ◌==◌, Bool, true, false, not, ◌&&◌, ◌||◌, cond, IsTrue, List, [], ◌∷◌, ◌++◌, length, take, drop, map, arith, append_assoc, append-nil, flat_map, take-append-drop, length-drop, length-append}
+use Rattle.std.proofs.Common.{◌≡◌, refl, ap, ap₂, ◌∙◌, sym, subst, ℕ, zero, suc, ◌+◌, ◌-◌, ◌*◌, ◌/◌, ◌<◌, ◌≤◌, ◌==◌, Bool, true, false, not, ◌&&◌, ◌||◌, cond, IsTrue, List, [], ◌∷◌, ◌++◌, length, take, drop, map, arith, append_assoc, append-nil, flat_map, take-append-drop, length-drop, div-mul-le_self}
 use Rattle.std.specs.List.{list_all}
-use Rattle.std.proofs.lemmas.Bool.{or_right, or_parts, cond-false, not-true, not_from_false, and_left, and_right}
+use Rattle.std.proofs.lemmas.Bool.{or_right, or_parts, cond-false, not-true, not_from_false, and_left, and_right, or_from}
 use Rattle.f90_grammar.specs.FreeForm.{Piece, IsPiece, AreFurtherPieces, ArePieces, Block, written_piece, written_block, pieces_of, comments_of, characters, joint, is_blank, starts_with, ends_with, is_comment_line, is_open_behind, has_comment}
 use Rattle.f90_grammar.specs.PrintedText.{piece_length, further_pieces, continued, pieces, lines_of_text}
 
@@ -151,3 +151,86 @@ rest_are o (suc n) t h e l =
     let g : n * piece_length < length (drop piece_length t) = omega (arith, length-drop piece_length t) in
     go_on o (piece_of true (take piece_length t) true) (pieces_of (rest_blocks n (drop piece_length t))) (continues o (take piece_length t) r.0) refl
     (rest_are (is_open_behind o (take piece_length t)) n (drop piece_length t) r.1 (end_of_drop piece_length t m e) g)
+
+-- ---- the first one
+
+begins_line : (c : ℕ) (cs more : List ℕ) → begins_well (c ∷ cs) ≡ true → (starts_with 38 (c ∷ more) ≡ false) × (is_comment_line (c ∷ more) ≡ false)
+begins_line c cs more h =
+    let r = and_true (not (c == 32)) (not (c == 33) && not (c == 38)) h in
+    let q = and_true (not (c == 33)) (not (c == 38)) r.1 in
+    let blank : (c == 32) ≡ false = not-true (c == 32) r.0 in
+    (cond-false (c == 32) (starts_with 38 more) (c == 38) blank ∙ not-true (c == 38) q.1,
+    or_from (list_all is_blank (c ∷ more)) (starts_with 33 (c ∷ more)) (and_left (c == 32) (list_all is_blank more) blank)
+    (cond-false (c == 32) (starts_with 33 more) (c == 33) blank ∙ not-true (c == 33) q.0))
+
+opens : (c : ℕ) (cs : List ℕ) → has_comment false (c ∷ cs) ≡ false → begins_well (c ∷ cs) ≡ true → IsPiece false (piece_of false (c ∷ cs) true)
+opens c cs h b =
+    let r = begins_line c cs (cs ++ 38 ∷ []) b in
+    record {
+      blanks = refl;
+      comment = not_from_false (has_comment false (c ∷ cs)) h;
+      in_constant = or_right (not (is_open_behind false (c ∷ cs))) true refl;
+      leading = not_from_false (starts_with 38 (c ∷ (cs ++ 38 ∷ []))) r.0;
+      final = refl;
+      single = refl;
+      is_line = r.1;
+    }
+
+stands_alone : (c : ℕ) (cs : List ℕ) → has_comment false (c ∷ cs) ≡ false → begins_well (c ∷ cs) ≡ true → ends_well (c ∷ cs) ≡ true
+    → IsPiece false (piece_of false (c ∷ cs) false)
+stands_alone c cs h b e =
+    let r = begins_line c cs (cs ++ []) b in
+    record {
+      blanks = refl;
+      comment = not_from_false (has_comment false (c ∷ cs)) h;
+      in_constant = or_right (not (is_open_behind false (c ∷ cs))) true refl;
+      leading = not_from_false (starts_with 38 (c ∷ (cs ++ []))) r.0;
+      final = not_from_false (ends_with 38 (c ∷ cs)) (no_ampersand (c ∷ cs) e).1;
+      single = refl;
+      is_line = r.1;
+    }
+
+first_are : (n : ℕ) (t : List ℕ) → has_comment false t ≡ false → begins_well t ≡ true → ends_well t ≡ true → n * piece_length < length t
+    → ArePieces (first_piece n t ∷ pieces_of (further_blocks n t))
+first_are n [] h b e l = let q : false ≡ true = b in absurd cc
+first_are zero (c ∷ cs) h b e l = (refl, (stands_alone c cs h b e, refl))
+first_are (suc n) (c ∷ cs) h b e l =
+    let r = cut_comment false piece_length (c ∷ cs) h in
+    let k : suc n * 130 < length (c ∷ cs) = l in
+    let m : piece_length < length (c ∷ cs) = omega arith in
+    let g : n * piece_length < length (drop piece_length (c ∷ cs)) = omega (arith, length-drop piece_length (c ∷ cs)) in
+    (refl, go_on false (piece_of false (take piece_length (c ∷ cs)) true) (pieces_of (rest_blocks n (drop piece_length (c ∷ cs)))) (opens c (take 129 cs) r.0 b) refl
+    (rest_are (is_open_behind false (take piece_length (c ∷ cs))) n (drop piece_length (c ∷ cs)) r.1 (end_of_drop piece_length (c ∷ cs) m e) g))
+
+enough : (n : ℕ) → 0 < n → ((n - 1) / piece_length) * piece_length < n
+enough n h = let d : ((n - 1) / 130) * 130 ≤ n - 1 = div-mul-le_self (n - 1) 130 in omega arith
+
+some_character : (t : List ℕ) → ends_well t ≡ true → 0 < length t
+some_character [] e = let q : false ≡ true = e in absurd cc
+some_character (c ∷ cs) e = omega arith
+
+-- a text that may be cut into lines
+pub record IsText (t : List ℕ) : Type 0 where
+  pub no_comment : has_comment false t ≡ false
+  pub begins : begins_well t ≡ true
+  pub ends : ends_well t ≡ true
+
+-- its blocks, with comments before the first line
+abbrev pub first_block : List (List ℕ) → List ℕ → Block
+first_block comments t = record { comments = comments; piece = first_piece (further_pieces t) t }
+
+abbrev pub text_blocks : List ℕ → List Block
+text_blocks t = further_blocks (further_pieces t) t
+
+pub text_pieces : (t : List ℕ) → IsText t → ArePieces (first_piece (further_pieces t) t ∷ pieces_of (text_blocks t))
+text_pieces t h = first_are (further_pieces t) t h.no_comment h.begins h.ends (enough (length t) (some_character t h.ends))
+
+pub text-written : (comments : List (List ℕ)) (t : List ℕ) → flat_map written_block (first_block comments t ∷ text_blocks t) ≡ comments ++ lines_of_text t
+text-written comments t =
+    append_assoc comments _ (flat_map written_block (text_blocks t)) ∙ ap (λ ls. comments ++ ls) (pieces-written (further_pieces t) t)
+
+pub text-characters : (t : List ℕ) → characters (first_piece (further_pieces t) t ∷ pieces_of (text_blocks t)) ≡ t
+text-characters t = pieces-characters (further_pieces t) t
+
+pub text-comments : (t : List ℕ) → comments_of (text_blocks t) ≡ []
+text-comments t = further-comments (further_pieces t) t
