@@ -4,6 +4,8 @@ pub mod PrintedBlocksItems
 pub mod PrintedBlocksPlaced
 pub mod PrintedBlocksProgram
 pub mod PrintedBlocksTargets
+pub mod PrintedLines
+pub mod PrintedLinesMarks
 pub mod PrintedLinesPieces
 pub mod PrintedLinesText
 pub mod PrintedWords
