@@ -5,7 +5,9 @@ pub mod PrintedBlocksPlaced
 pub mod PrintedBlocksProgram
 pub mod PrintedBlocksTargets
 pub mod PrintedLines
+pub mod PrintedLinesEnds
 pub mod PrintedLinesMarks
 pub mod PrintedLinesPieces
+pub mod PrintedLinesTaken
 pub mod PrintedLinesText
 pub mod PrintedWords
