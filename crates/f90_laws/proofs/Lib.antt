@@ -1,4 +1,5 @@
 pub mod PrintedBlocks
+pub mod PrintedBlocksBack
 pub mod PrintedBlocksDeclared
 pub mod PrintedBlocksItems
 pub mod PrintedBlocksPlaced
