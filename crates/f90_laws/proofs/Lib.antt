@@ -11,4 +11,10 @@ pub mod PrintedLinesMarks
 pub mod PrintedLinesPieces
 pub mod PrintedLinesTaken
 pub mod PrintedLinesText
+pub mod PrintedTrees
+pub mod Spelling
+pub mod PhraseWords
+pub mod PhraseLevels
+pub mod ItemWords
+pub mod FormWords
 pub mod PrintedWords
