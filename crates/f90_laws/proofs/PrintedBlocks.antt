@@ -1,7 +1,6 @@
 -- The printed statements of a block, on any lines, are that block with other numbers of lines.
-use Rattle.std.proofs.Common.{◌≡◌, refl, ap, ap₂, ◌∙◌, sym, ℕ, ◌<◌, ◌+◌, Bool, true, false, Option, Some, None, List, [], ◌∷◌, ◌++◌, arith, decimal, Contains, IsSomeAnd}
+use Rattle.std.proofs.Common.{◌≡◌, refl, ap, ap₂, ◌∙◌, sym, ℕ, ◌<◌, Bool, true, false, Option, Some, None, List, [], ◌∷◌, ◌++◌, arith, decimal, IsSomeAnd}
 use Rattle.std.specs.List.{AllByRecursion}
-use Rattle.std.specs.Str.Parse.{digits_value}
 use Rattle.std.proofs.lemmas.Fmt.{decimal_is_IsNumeral_wide}
 use Rattle.std.proofs.lemmas.List.Elements.{All-contains, All-from_recursion}
 use Rattle.fv_tree.specs.Plain as tree
@@ -14,7 +13,7 @@ use Rattle.f90_grammar.specs.Phrases.{Phrase, tree_of, value_of_digits}
 use Rattle.f90_grammar.specs.Items.{item_trees}
 use Rattle.f90_grammar.specs.Forms as forms
 use Rattle.f90_grammar.specs.Printing.{phrase_of}
-use Rattle.f90_grammar.specs.PrintedForms.{Printed, unmarked, reference_phrase, phrases_of, item_phrases, printed_statement, printed_block, printed_arms, printed_else}
+use Rattle.f90_grammar.specs.PrintedForms.{unmarked, reference_phrase, phrases_of, item_phrases, printed_statement, printed_block, printed_arms, printed_else}
 use Rattle.f90_grammar.specs.Blocks.{Placed, reference_in, trees}
 use Rattle.f90_grammar.specs.Blocks.IsSimple.{assigns, masks, goes, stops, reads, reads_nothing, prints, prints_nothing, allocates, deallocates}
 use Rattle.f90_grammar.specs.Blocks.AreBlock.{nothing, label}

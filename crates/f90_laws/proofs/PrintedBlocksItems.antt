@@ -1,5 +1,5 @@
 -- The expressions, steps and items of a printed statement stand for those of the tree.
-use Rattle.std.proofs.Common.{◌≡◌, ◌⊎◌, ⊎_elim, refl, sym, ap, ap₂, ◌∙◌, ℕ, pos, Bool, true, false, IsTrue, Option, Some, None, List, [], ◌∷◌, ◌++◌, append_assoc, append-nil}
+use Rattle.std.proofs.Common.{◌≡◌, ⊎_elim, refl, sym, ap, ap₂, ◌∙◌, ℕ, pos, true, IsTrue, Some, None, List, [], ◌∷◌, ◌++◌, append_assoc, append-nil}
 use Rattle.std.proofs.lemmas.Bool.{cond_both}
 use Rattle.std.proofs.lemmas.Bool.Decides.{Decides-int_eq}
 use Rattle.fv_tree.specs.Plain as tree
@@ -9,8 +9,8 @@ use Rattle.fv_tree.specs.declared.ops.Kind.TheVariants.{Integer, Logical}
 use Rattle.fv_meaning.specs.Typed.{has_item}
 use Rattle.fv_meaning.specs.Typed90.{HasKind, AreScalars, HasSomeKind, IsInput, IsOutputItem, AreOutputItems, IsInputItem, AreInputItems}
 use Rattle.fv_meaning.specs.Value.{named}
-use Rattle.f90_grammar.specs.Phrases.{Phrase, tree_of}
-use Rattle.f90_grammar.specs.Items.{ItemPhrase, ItemPhrases, Sole, More, item_tree, item_trees, step_tree}
+use Rattle.f90_grammar.specs.Phrases.{tree_of}
+use Rattle.f90_grammar.specs.Items.{ItemPhrases, Sole, More, item_tree, item_trees, step_tree}
 use Rattle.f90_grammar.specs.Printing.{phrase_of, is_one}
 use Rattle.f90_grammar.specs.PrintedForms.{reference_phrase, phrases_of, step_phrase, item_phrase, item_phrases, more_items}
 use Rattle.f90_grammar.specs.Blocks.{reference_in, trees}

@@ -3,7 +3,7 @@ use Rattle.std.proofs.Common.{◌≡◌, refl, ap, ap₂, ◌∙◌, sym, subst,
 use Rattle.fv_tree.specs.Plain as tree
 use Rattle.fv_tree.specs.Plain.{Expression, Statement, Arms, Block}
 use Rattle.fv_tree.specs.declared.functions.Intrinsic.{Intrinsic}
-use Rattle.f90_grammar.specs.Phrases.{Phrase, tree_of}
+use Rattle.f90_grammar.specs.Phrases.{tree_of}
 use Rattle.f90_grammar.specs.Forms as forms
 use Rattle.f90_grammar.specs.Printing.{phrase_of}
 use Rattle.f90_grammar.specs.PrintedForms.{Printed, unmarked, step_phrase, printed_statement, printed_block, printed_arms, printed_else, printed_if}
@@ -117,7 +117,7 @@ module _ (function : List ℕ → Option Intrinsic) (is_target : ℕ → Bool) w
   arm_back test body more o e first rest _ (next n s {ps = ps} h) =
       let t : List Printed = printed_else o ++ unmarked forms.EndIf ∷ [] in
       let g : ArePlaced (printed_block body ++ (printed_arms more ++ t)) ps =
-          subst (λ (ss : List Printed). ArePlaced ss ps) (append_assoc (printed_block body) (printed_arms more) t) h in
+      subst (λ (ss : List Printed). ArePlaced ss ps) (append_assoc (printed_block body) (printed_arms more) t) h in
       arm_parts n test body more o e first rest (divide (printed_block body) (printed_arms more ++ t) g)
 
   -- its ELSE part

@@ -1,12 +1,11 @@
 -- The printed statements of a program, on any lines, are that program but for the numbers of lines.
-use Rattle.std.proofs.Common.{◌≡◌, refl, ap, ◌∙◌, sym, subst, ℕ, Bool, Option, Some, None, List, [], ◌∷◌, ◌++◌, map}
+use Rattle.std.proofs.Common.{◌≡◌, refl, subst, ℕ, Bool, Some, None, List, [], ◌∷◌, ◌++◌, map}
 use mathlib.Core.Path.{fun_ext}
-use Rattle.fv_tree.specs.Plain as tree
 use Rattle.fv_tree.specs.Plain.{Block, Program}
 use Rattle.fv_meaning.specs.Blocks.{outermost}
 use Rattle.fv_meaning.specs.Profile90.{IsProgram90}
 use Rattle.f90_grammar.specs.Forms as forms
-use Rattle.f90_grammar.specs.PrintedForms.{Printed, unmarked, title_of, printed_declaration, printed_block, printed_program}
+use Rattle.f90_grammar.specs.PrintedForms.{unmarked, title_of, printed_declaration, printed_block, printed_program}
 use Rattle.f90_grammar.specs.Blocks.{Placed, at, AreBlock}
 use Rattle.f90_grammar.specs.Reading.{is_target_in, function_by, IsProgramOf}
 use Rattle.f90_grammar.specs.Reading.IsTitle.{titled}

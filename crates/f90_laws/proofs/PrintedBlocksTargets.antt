@@ -2,7 +2,6 @@
 use Rattle.std.proofs.Common.{◌≡◌, refl, ap, ap₂, ◌∙◌, sym, ℕ, Bool, true, false, ◌||◌, ◌==◌, List, [], ◌∷◌, Contains, get_or, eq-eqb}
 use Rattle.std.specs.List.{AllByRecursion, list_any}
 use Rattle.std.proofs.lemmas.List.Folds.{list_any-append, list_any_at}
-
 use Rattle.fv_tree.specs.Plain as tree
 use Rattle.fv_tree.specs.Plain.{Statement, Arms, Block}
 use Rattle.fv_meaning.specs.Blocks.{targets_of, targets_in_arms, targets_in, all_labels_in}

@@ -1,18 +1,17 @@
 -- The lines of a printed program are its statements, each with its mark.
-use Rattle.std.proofs.Common.{◌≡◌, refl, ap, ◌∙◌, sym, subst, ℕ, ◌+◌, ◌≤◌, ◌==◌, nat_le, Bool, true, false, ◌||◌, not, IsTrue, Option, Some, None, IfSome, List, [], ◌∷◌, ◌++◌, length, map, flat_map, arith, append_assoc, append-nil, ne_eqb}
-use Rattle.std.specs.List.{AllByRecursion, list_all}
-use Rattle.std.specs.Str.Lines.{lines}
+use Rattle.std.proofs.Common.{◌≡◌, refl, ap, ◌∙◌, sym, subst, ℕ, ◌+◌, ◌==◌, Bool, true, false, ◌||◌, not, IsTrue, Option, Some, None, IfSome, List, [], ◌∷◌, ◌++◌, length, map, flat_map, append_assoc, append-nil, ne_eqb}
+use Rattle.std.specs.List.{AllByRecursion}
 use Rattle.std.proofs.lemmas.Bool.{and_from, not_from_false}
 use Rattle.fv_tree.specs.Plain.{Program}
 use Rattle.fv_tree.specs.declared.stmts.Mark.{Mark}
 use Rattle.fv_meaning.specs.Names.{is_letter, is_digit, begins_with}
 use Rattle.fv_meaning.specs.Profile90 as profile
-use Rattle.f90_grammar.specs.FreeForm.{FreeStatement, AreStatements, AreComments, AreMarks, statement_at, is_comment_line, characters, pieces_of, written_block}
+use Rattle.f90_grammar.specs.FreeForm.{FreeStatement, AreStatements, AreComments, AreMarks, statement_at, characters, pieces_of}
 use Rattle.f90_grammar.specs.FreeForm.AreStatements.{ends, begins}
 use Rattle.f90_grammar.specs.FreeForm.AreMarks.{none as no_marks}
 use Rattle.f90_grammar.specs.Forms as forms
 use Rattle.f90_grammar.specs.PrintedForms.{Printed, unmarked, title_of, printed_declaration, printed_block, printed_program}
-use Rattle.f90_grammar.specs.PrintedText.{form_text, lines_of_text, mark_lines, printed_lines, program_lines, printed90, IsNote, with_line_feed}
+use Rattle.f90_grammar.specs.PrintedText.{form_text, lines_of_text, mark_lines, printed_lines, program_lines, printed90, IsNote}
 use Rattle.f90_grammar.specs.Blocks.{Placed, at}
 use Rattle.f90_grammar.specs.Reading.{takes_mark, last_of, if_taken, left_over, HaveForms, AreStatementsOf}
 use Rattle.f90_laws.specs.Spelled.{IsSpelled}
@@ -52,11 +51,11 @@ one_statement : (n : ℕ) (comments : List (List ℕ)) (ahead : List Mark) (t : 
 one_statement n comments ahead t rest more c m h k =
     let all : AreComments (comments ++ []) = subst (λ (ls : List (List ℕ)). AreComments ls) (sym (append-nil comments)) c in
     let whole = begins n (first_block comments t) (text_blocks t) ahead [] rest more
-        (subst (λ (ls : List (List ℕ)). AreComments (comments ++ ls)) (sym (text-comments t)) all)
-        (text_pieces t h) m (subst (λ (ls : List (List ℕ)). AreMarks ls []) (sym (text-comments t)) no_marks)
-        (subst (λ (ls : List (List ℕ)). AreStatements (n + length ls) rest more) (sym (text-written comments t)) k) in
+    (subst (λ (ls : List (List ℕ)). AreComments (comments ++ ls)) (sym (text-comments t)) all)
+    (text_pieces t h) m (subst (λ (ls : List (List ℕ)). AreMarks ls []) (sym (text-comments t)) no_marks)
+    (subst (λ (ls : List (List ℕ)). AreStatements (n + length ls) rest more) (sym (text-written comments t)) k) in
     let written = subst (λ (ls : List (List ℕ)). AreStatements n (ls ++ rest)
-        (statement_at (n + length comments) ahead (characters (pieces_of (first_block comments t ∷ text_blocks t))) [] ∷ more)) (text-written comments t) whole in
+    (statement_at (n + length comments) ahead (characters (pieces_of (first_block comments t ∷ text_blocks t))) [] ∷ more)) (text-written comments t) whole in
     subst (λ (cs : List ℕ). AreStatements n ((comments ++ lines_of_text t) ++ rest) (statement_at (n + length comments) ahead cs [] ∷ more)) (text-characters t) written
 
 -- ---- statements one after another
@@ -83,8 +82,12 @@ one_more n comments ahead s rest ss c m e h r =
       statements = statement_at (n + length comments) ahead (form_text s.form) [] ∷ r.statements;
       placed = at (n + length comments) s.mark s.form ∷ r.placed;
       are = one_statement n comments ahead (form_text s.form) rest r.statements c m (readable_text s h) r.are;
-      have_forms = (refl, t.0 ∙ ap (if_taken (takes_mark s.form)) (sym e), (w.in_words, w.has_words, w.is_written),
-          subst (λ (o : Option Mark). HaveForms o r.statements r.placed) (sym (ap (left_over (takes_mark s.form)) e ∙ t.1)) r.have_forms);
+      have_forms = (
+        refl,
+        t.0 ∙ ap (if_taken (takes_mark s.form)) (sym e),
+        (w.in_words, w.has_words, w.is_written),
+        subst (λ (o : Option Mark). HaveForms o r.statements r.placed) (sym (ap (left_over (takes_mark s.form)) e ∙ t.1)) r.have_forms,
+      );
       places = next (n + length comments) s r.places;
     }
 
@@ -123,7 +126,7 @@ module _ (p : Program) (notes : List (List ℕ)) (good : AllByRecursion IsNote n
   program_placed =
       let t : List (List ℕ) = lines_of_text (form_text title.form) in
       let r = one_more 1 notes [] title (flat_map printed_lines behind_title) behind_title (notes_comments notes good) (notes_are notes good) refl h.0
-          (all_placed (1 + length (notes ++ t)) behind_title h.1) in
+      (all_placed (1 + length (notes ++ t)) behind_title h.1) in
       subst (λ (ls : List (List ℕ)). Placing 1 ls (printed_program p)) (append_assoc notes t (flat_map printed_lines behind_title)) r
 
   -- the text's statements are those that are printed, each on a line

@@ -1,5 +1,5 @@
 -- The text of a statement ends in a character of its last word.
-use Rattle.std.proofs.Common.{◌≡◌, refl, ap, ◌∙◌, sym, subst, inl, inr, ℕ, ◌==◌, Bool, true, false, not, ◌&&◌, Option, Some, None, List, [], ◌∷◌, ◌++◌, append-nil, ne_eqb, codes}
+use Rattle.std.proofs.Common.{◌≡◌, refl, ap, ◌∙◌, sym, subst, inl, inr, ℕ, ◌==◌, Bool, true, false, not, Option, Some, None, List, [], ◌∷◌, ◌++◌, append-nil, ne_eqb, codes}
 use Rattle.std.specs.List.{AllByRecursion}
 use Rattle.std.proofs.lemmas.Bool.{and_from, not_from_false, or_left}
 use Rattle.fv_tree.specs.OperatorTable.{spelling90_of}

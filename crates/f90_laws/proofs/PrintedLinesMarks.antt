@@ -1,17 +1,16 @@
 -- The lines of marks, and the notes before a program: they are comments, and those of marks alone are marks.
-use Rattle.std.proofs.Common.{◌≡◌, refl, ap, ◌∙◌, sym, subst, ℕ, zero, suc, ◌+◌, ◌<◌, ◌≤◌, ◌^◌, ◌==◌, Bool, true, false, IsTrue, Option, Some, None, IfSome, List, [], ◌∷◌, ◌++◌, length, take, drop, get_or, arith, codes, decimal, ne_eqb}
+use Rattle.std.proofs.Common.{◌≡◌, refl, ap, ◌∙◌, sym, ℕ, zero, suc, ◌<◌, ◌≤◌, ◌^◌, Option, Some, None, IfSome, List, [], ◌∷◌, ◌++◌, take, drop, get_or, arith, decimal, ne_eqb}
 use Rattle.std.specs.Char.{digit_value}
 use Rattle.std.specs.List.{AllByRecursion, list_all}
 use Rattle.std.specs.Str.Parse.{AllDigits}
-use Rattle.std.proofs.lemmas.Bool.{cond-true, and_from}
+use Rattle.std.proofs.lemmas.Bool.{and_from}
 use Rattle.std.proofs.lemmas.Fmt.{decimal_is_IsNumeral_wide, length-decimal-le_wide}
 use Rattle.fv_tree.specs.declared.stmts.Mark.{Mark}
 use Rattle.fv_meaning.specs.Profile90 as profile
 use Rattle.f90_grammar.specs.FreeForm.{IsMarkNumber, IsMark, AreMarks, AreComments, is_comment_line}
 use Rattle.f90_grammar.specs.FreeForm.AreMarks.{none, mark, other}
-use Rattle.f90_grammar.specs.PrintedForms.{Printed}
 use Rattle.f90_grammar.specs.PrintedText.{IsNote, mark_text, mark_lines, piece_length, further_pieces, pieces, continued, lines_of_text}
-use Rattle.f90_laws.proofs.PrintedLinesText.{IsInside, IsLine, lines_both}
+use Rattle.f90_laws.proofs.PrintedLinesText.{IsLine, lines_both}
 
 -- ---- characters that stand in lines
 
@@ -35,15 +34,17 @@ AreLines ls = AllByRecursion IsLine ls
 
 continued_lines : (n : ℕ) (t : List ℕ) → IsLine t → AreLines (continued n t)
 continued_lines zero t h = (((refl, refl), h), tt)
-continued_lines (suc n) t h =
-    (((refl, refl), lines_both (take piece_length t) (38 ∷ []) (taken_line piece_length t h) ((refl, refl), tt)),
-    continued_lines n (drop piece_length t) (dropped_line piece_length t h))
+continued_lines (suc n) t h = (
+  ((refl, refl), lines_both (take piece_length t) (38 ∷ []) (taken_line piece_length t h) ((refl, refl), tt)),
+  continued_lines n (drop piece_length t) (dropped_line piece_length t h),
+)
 
 pieces_lines : (n : ℕ) (t : List ℕ) → IsLine t → AreLines (pieces n t)
 pieces_lines zero t h = (h, tt)
-pieces_lines (suc n) t h =
-    (lines_both (take piece_length t) (38 ∷ []) (taken_line piece_length t h) ((refl, refl), tt),
-    continued_lines n (drop piece_length t) (dropped_line piece_length t h))
+pieces_lines (suc n) t h = (
+  lines_both (take piece_length t) (38 ∷ []) (taken_line piece_length t h) ((refl, refl), tt),
+  continued_lines n (drop piece_length t) (dropped_line piece_length t h),
+)
 
 pub text_lines : (t : List ℕ) → IsLine t → AreLines (lines_of_text t)
 text_lines t h = pieces_lines (further_pieces t) t h
@@ -83,10 +84,20 @@ decimal_line : (n : ℕ) → n < 2 ^ 32 → IsLine (decimal n)
 decimal_line n h = digits_line (decimal n) (decimal_is_IsNumeral_wide n (omega arith)).0.1
 
 mark_line : (m : Mark) → profile.IsMark m → IsLine (mark_text m)
-mark_line m h =
-    ((refl, refl), ((refl, refl), ((refl, refl), lines_both (decimal m.nest) (32 ∷ (decimal m.stmt ++ (32 ∷ decimal m.level))) (decimal_line m.nest h.nest)
-    ((refl, refl), lines_both (decimal m.stmt) (32 ∷ decimal m.level) (decimal_line m.stmt h.statement)
-    ((refl, refl), decimal_line m.level h.level)))))
+mark_line m h = (
+  (refl, refl),
+  (
+    (refl, refl),
+    (
+      (refl, refl),
+      lines_both (decimal m.nest) (32 ∷ (decimal m.stmt ++ (32 ∷ decimal m.level))) (decimal_line m.nest h.nest) (
+        (refl, refl),
+        lines_both (decimal m.stmt) (32 ∷ decimal m.level) (decimal_line m.stmt h.statement)
+            ((refl, refl), decimal_line m.level h.level),
+      ),
+    ),
+  ),
+)
 
 -- the marks before a statement
 abbrev pub marks_of : Option Mark → List Mark

@@ -1,5 +1,5 @@
 -- The lines of a printed statement are its pieces.
-use Rattle.std.proofs.Common.{◌≡◌, refl, ap, ap₂, ◌∙◌, sym, subst, ℕ, zero, suc, ◌+◌, ◌-◌, ◌*◌, ◌/◌, ◌<◌, ◌≤◌, ◌==◌, Bool, true, false, not, ◌&&◌, ◌||◌, cond, IsTrue, List, [], ◌∷◌, ◌++◌, length, take, drop, map, arith, append_assoc, append-nil, flat_map, take-append-drop, length-drop, div-mul-le_self}
+use Rattle.std.proofs.Common.{◌≡◌, refl, ap, ◌∙◌, sym, ℕ, zero, suc, ◌-◌, ◌*◌, ◌/◌, ◌<◌, ◌≤◌, ◌==◌, Bool, true, false, not, ◌&&◌, ◌||◌, cond, List, [], ◌∷◌, ◌++◌, length, take, drop, arith, append_assoc, append-nil, flat_map, take-append-drop, length-drop, div-mul-le_self}
 use Rattle.std.specs.List.{list_all}
 use Rattle.std.proofs.lemmas.Bool.{or_right, or_parts, cond-false, not-true, not_from_false, and_left, and_right, or_from}
 use Rattle.f90_grammar.specs.FreeForm.{Piece, IsPiece, AreFurtherPieces, ArePieces, Block, written_piece, written_block, pieces_of, comments_of, characters, joint, is_blank, starts_with, ends_with, is_comment_line, is_open_behind, has_comment}
@@ -158,10 +158,11 @@ begins_line : (c : ℕ) (cs more : List ℕ) → begins_well (c ∷ cs) ≡ true
 begins_line c cs more h =
     let r = and_true (not (c == 32)) (not (c == 33) && not (c == 38)) h in
     let q = and_true (not (c == 33)) (not (c == 38)) r.1 in
-    let blank : (c == 32) ≡ false = not-true (c == 32) r.0 in
-    (cond-false (c == 32) (starts_with 38 more) (c == 38) blank ∙ not-true (c == 38) q.1,
-    or_from (list_all is_blank (c ∷ more)) (starts_with 33 (c ∷ more)) (and_left (c == 32) (list_all is_blank more) blank)
-    (cond-false (c == 32) (starts_with 33 more) (c == 33) blank ∙ not-true (c == 33) q.0))
+    let blank : (c == 32) ≡ false = not-true (c == 32) r.0 in (
+      cond-false (c == 32) (starts_with 38 more) (c == 38) blank ∙ not-true (c == 38) q.1,
+      or_from (list_all is_blank (c ∷ more)) (starts_with 33 (c ∷ more)) (and_left (c == 32) (list_all is_blank more) blank)
+          (cond-false (c == 32) (starts_with 33 more) (c == 33) blank ∙ not-true (c == 33) q.0),
+    )
 
 opens : (c : ℕ) (cs : List ℕ) → has_comment false (c ∷ cs) ≡ false → begins_well (c ∷ cs) ≡ true → IsPiece false (piece_of false (c ∷ cs) true)
 opens c cs h b =
@@ -198,9 +199,11 @@ first_are (suc n) (c ∷ cs) h b e l =
     let r = cut_comment false piece_length (c ∷ cs) h in
     let k : suc n * 130 < length (c ∷ cs) = l in
     let m : piece_length < length (c ∷ cs) = omega arith in
-    let g : n * piece_length < length (drop piece_length (c ∷ cs)) = omega (arith, length-drop piece_length (c ∷ cs)) in
-    (refl, go_on false (piece_of false (take piece_length (c ∷ cs)) true) (pieces_of (rest_blocks n (drop piece_length (c ∷ cs)))) (opens c (take 129 cs) r.0 b) refl
-    (rest_are (is_open_behind false (take piece_length (c ∷ cs))) n (drop piece_length (c ∷ cs)) r.1 (end_of_drop piece_length (c ∷ cs) m e) g))
+    let g : n * piece_length < length (drop piece_length (c ∷ cs)) = omega (arith, length-drop piece_length (c ∷ cs)) in (
+      refl,
+      go_on false (piece_of false (take piece_length (c ∷ cs)) true) (pieces_of (rest_blocks n (drop piece_length (c ∷ cs)))) (opens c (take 129 cs) r.0 b) refl
+          (rest_are (is_open_behind false (take piece_length (c ∷ cs))) n (drop piece_length (c ∷ cs)) r.1 (end_of_drop piece_length (c ∷ cs) m e) g),
+    )
 
 enough : (n : ℕ) → 0 < n → ((n - 1) / piece_length) * piece_length < n
 enough n h = let d : ((n - 1) / 130) * 130 ≤ n - 1 = div-mul-le_self (n - 1) 130 in omega arith

@@ -1,5 +1,5 @@
 -- A mark of a printed program stands before a statement that takes it.
-use Rattle.std.proofs.Common.{◌≡◌, refl, ℕ, Bool, true, false, Option, None, IfSome, List, [], ◌∷◌, ◌++◌, map}
+use Rattle.std.proofs.Common.{◌≡◌, refl, false, None, IfSome, List, [], ◌∷◌, ◌++◌, map}
 use Rattle.std.specs.List.{AllByRecursion}
 use Rattle.fv_tree.specs.Plain as tree
 use Rattle.fv_tree.specs.Plain.{Statement, Arms, Block, Declaration, Program}
@@ -8,7 +8,7 @@ use Rattle.fv_meaning.specs.Profile90 as profile
 use Rattle.fv_meaning.specs.Profile90.{IsStatement, AreArms, IsBlock, IsProgram90}
 use Rattle.f90_grammar.specs.Forms as forms
 use Rattle.f90_grammar.specs.Forms.{Form}
-use Rattle.f90_grammar.specs.PrintedForms.{Printed, unmarked, printed_statement, printed_if, printed_arms, printed_else, printed_block, printed_declaration, printed_program}
+use Rattle.f90_grammar.specs.PrintedForms.{Printed, unmarked, printed_statement, printed_arms, printed_else, printed_block, printed_declaration, printed_program}
 use Rattle.f90_grammar.specs.Reading.{takes_mark}
 
 pub record MarkSuits (s : Printed) : Type 0 where
@@ -38,10 +38,12 @@ module _ (ds : List Declaration) where
     statement_suits (tree.Assignment line mark left right) w h = (record { is_mark = h.0.1; taken = λ e. absurd cc }, tt)
     statement_suits (tree.Where line mark mask left right) w h = (record { is_mark = h.0.1; taken = λ e. absurd cc }, tt)
     statement_suits (tree.If line tree.no_arms other) w h = tt
-    statement_suits (tree.If line (tree.arm test body more) other) w h =
-        (unmarked_suits _, each_of_both (printed_block body) _ (block_suits body w h.2.1)
-        (each_of_both (printed_arms more) _ (arms_suit more w h.2.2)
-        (each_of_both (printed_else other) _ (else_suits other (block_suits other w h.3)) (end_suits forms.EndIf))))
+    statement_suits (tree.If line (tree.arm test body more) other) w h = (
+      unmarked_suits _,
+      each_of_both (printed_block body) _ (block_suits body w h.2.1)
+          (each_of_both (printed_arms more) _ (arms_suit more w h.2.2)
+          (each_of_both (printed_else other) _ (else_suits other (block_suits other w h.3)) (end_suits forms.EndIf))),
+    )
     statement_suits (tree.Do line x a b c body) w h =
         (unmarked_suits _, each_of_both (printed_block body) _ (block_suits body (within_loop x w) h.5) (end_suits forms.EndDo))
     statement_suits (tree.Label n) w h = end_suits _
@@ -67,6 +69,11 @@ declarations_suit [] = tt
 declarations_suit (d ∷ ds) = (unmarked_suits _, declarations_suit ds)
 
 pub program_suits : (p : Program) → IsProgram90 p → AllByRecursion MarkSuits (printed_program p)
-program_suits p h =
-    (unmarked_suits _, (unmarked_suits _, each_of_both (map printed_declaration p.declarations) _ (declarations_suit p.declarations)
-    (each_of_both (printed_block p.body) _ (block_suits p.declarations p.body outermost h.statements) (end_suits forms.End))))
+program_suits p h = (
+  unmarked_suits _,
+  (
+    unmarked_suits _,
+    each_of_both (map printed_declaration p.declarations) _ (declarations_suit p.declarations)
+        (each_of_both (printed_block p.body) _ (block_suits p.declarations p.body outermost h.statements) (end_suits forms.End)),
+  ),
+)

@@ -1,5 +1,5 @@
 -- The text of a printed program is read back as the program, but for the numbers of its lines.
-use Rattle.std.specs.Prelude.{◌≡◌, Option, Some, ℕ, List}
+use Rattle.std.specs.Prelude.{◌≡◌, Some, ℕ, List}
 use Rattle.std.specs.List.{AllByRecursion}
 use Rattle.fv_tree.specs.Plain.{Statement, Assignment, Where, If, Do, Label, GoTo, Stop, Read, Print, Allocate}
 use Rattle.fv_tree.specs.Plain.{Deallocate, Arms, no_arms, arm, Block, no_statements, statement, Program}
