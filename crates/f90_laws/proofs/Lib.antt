@@ -1,3 +1,16 @@
+pub mod PrintedBlocks
+pub mod PrintedBlocksBack
+pub mod PrintedBlocksDeclared
+pub mod PrintedBlocksItems
+pub mod PrintedBlocksPlaced
+pub mod PrintedBlocksProgram
+pub mod PrintedBlocksTargets
+pub mod PrintedLines
+pub mod PrintedLinesEnds
+pub mod PrintedLinesMarks
+pub mod PrintedLinesPieces
+pub mod PrintedLinesTaken
+pub mod PrintedLinesText
 pub mod PrintedTrees
 pub mod Spelling
 pub mod PhraseWords
