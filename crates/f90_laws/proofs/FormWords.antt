@@ -1,5 +1,5 @@
 -- The text of each form that is printed has words in which the form is written.
-use Rattle.std.proofs.Common.{◌≡◌, inl, refl, sym, ap, subst, ◌∙◌, arith, ℕ, zero, suc, ◌+◌, ◌<◌, ◌≤◌, ◌^◌, ℤ, pos, negsuc, Bool, true, false, ◌&&◌, ◌||◌, cond, IsTrue, Option, Some, None, List, [], ◌∷◌, ◌++◌, append_assoc, append-nil, codes, length, map}
+use Rattle.std.proofs.Common.{◌≡◌, inl, refl, sym, subst, arith, ℕ, zero, suc, ◌+◌, ◌≤◌, ℤ, pos, negsuc, Bool, true, false, ◌&&◌, ◌||◌, IsTrue, Option, List, [], ◌∷◌, ◌++◌, append_assoc, append-nil, codes, length, map}
 use Rattle.std.specs.Prelude.{nat_le, decimal, replicate, FitsSigned}
 use Rattle.std.specs.Int.{w64}
 use Rattle.std.specs.Ordering.{int_eq}
@@ -17,13 +17,13 @@ use Rattle.std.proofs.lemmas.List.{length-map, length-replicate}
 use Rattle.f90_grammar.specs.Words as words
 use Rattle.f90_grammar.specs.Words.{Word, IsName, IsDigits, is_letter, goes_on}
 use Rattle.f90_grammar.specs.Phrases.{Phrase, Name, Listed, IsExpression, written}
-use Rattle.f90_grammar.specs.Items.{IsReference, Input, Output, ItemPhrases, written_items, written_bounds}
+use Rattle.f90_grammar.specs.Items.{IsReference, Input, Output, ItemPhrases}
 use Rattle.f90_grammar.specs.Forms as forms
 use Rattle.f90_grammar.specs.Forms.{Form, Bound, Dimension, Entity, IsWritten, IsList, IsBound, SuitsAllocatable, has_dimensions, keyword_of, attribute, separated, written_bound, written_dimension, written_dimensions, written_entity, written_extent}
 use Rattle.f90_grammar.specs.PrintedForms.{bound, dimension, dimensions_of, is_allocatable}
 use Rattle.f90_grammar.specs.PrintedText.{form_text, phrase_text, assignment_text, attribute_text, bound_text, dimension_text, dimensions_text, entity_text, extent_text, separated_text, comma}
 use Rattle.f90_laws.specs.Spelled.{IsSpelled}
-use Rattle.f90_laws.proofs.Spelling.{Place, Anywhere, Start, Inside, Beyond, Named, After, IsFirst, Leads, join, inside, loosen, word, no_words, start_blank, after_blank, comma_word, colon_word, close_word, close_beyond, equals_word, colons_word, name_word, digits_word, head_word, spaced_head, stops_too, joint_42, no_open, has_words, no_comment, closed}
+use Rattle.f90_laws.proofs.Spelling.{Place, Start, Inside, Beyond, Named, After, IsFirst, Leads, join, inside, word, start_blank, after_blank, comma_word, colon_word, close_word, close_beyond, equals_word, colons_word, name_word, digits_word, head_word, spaced_head, stops_too, joint_42, no_open, has_words, no_comment, closed}
 use Rattle.f90_laws.proofs.PhraseWords.{IsWorded, phrase_leads, sign_leads}
 use Rattle.f90_laws.proofs.PhraseLevels.{IsGood, text_name, decimal_digits}
 use Rattle.f90_laws.proofs.ItemWords.{StepIsGood, bounds_lead, ItemsAreGood, items_lead}
@@ -41,7 +41,8 @@ spelled {p} {q} {ws} f l w b = record {
   printable = l.tidy.printable;
   no_comment = no_comment l.tidy;
   closed = closed l.tidy;
-  begins = b }
+  begins = b;
+}
 
 -- ---- keywords
 

@@ -1,5 +1,5 @@
 -- The text of a list of PRINT or READ has the words that it is written in.
-use Rattle.std.proofs.Common.{◌≡◌, ◌⊎◌, inl, inr, refl, sym, ap, subst, ◌∙◌, arith, ℕ, ◌+◌, ◌≤◌, Bool, true, false, not, ◌&&◌, ◌||◌, cond, IsTrue, Option, Some, None, List, [], ◌∷◌, ◌++◌, append_assoc, codes}
+use Rattle.std.proofs.Common.{◌≡◌, inl, inr, refl, sym, ap, subst, ◌∙◌, arith, ℕ, ◌≤◌, Bool, true, false, cond, Option, Some, None, List, [], ◌∷◌, ◌++◌, append_assoc}
 use Rattle.std.specs.Prelude.{◌==◌}
 use Rattle.std.specs.List.{AllByRecursion}
 use Rattle.std.proofs.lemmas.Bool.{cond_both, eqb-true}
@@ -8,17 +8,17 @@ use Rattle.fv_tree.specs.declared.ops.Kind.TheVariants.{Integer, Logical}
 use Rattle.fv_tree.specs.Plain as tree
 use Rattle.fv_tree.specs.Plain.{Expression, Subscript, Subscripts, Item, Items, Declaration}
 use Rattle.fv_meaning.specs.Profile90.{IsDeclaration}
-use Rattle.fv_meaning.specs.Typed.{has_item, IsText}
-use Rattle.fv_meaning.specs.Typed90.{HasSomeKind, IsInput, IsInputItem, AreInputItems, IsOutputItem, AreOutputItems, IsScalar, rank_of_subscript, rank_of_subscripts}
+use Rattle.fv_meaning.specs.Typed.{IsText}
+use Rattle.fv_meaning.specs.Typed90.{HasSomeKind, IsInputItem, AreInputItems, IsOutputItem, AreOutputItems, rank_of_subscript, rank_of_subscripts}
 use Rattle.f90_grammar.specs.FreeForm.{has_comment, is_open_behind}
 use Rattle.f90_grammar.specs.Words as words
 use Rattle.f90_grammar.specs.Words.{Word, Symbol, Symbols, IsName, IsInLine, IsEnded, doubled, doubled_one}
 use Rattle.f90_grammar.specs.Words.Symbols.{constant}
-use Rattle.f90_grammar.specs.Phrases.{Phrase, Parts, One, Then, Part, IsExpression, AreValues, written}
-use Rattle.f90_grammar.specs.Items.{ItemPhrase, Of, Text, Loop, ItemPhrases, Sole, More, Direction, Input, Output, MayStand, IsVariable, IsStep, IsItem, AreItems, written_step, written_bounds, written_item, written_items}
+use Rattle.f90_grammar.specs.Phrases.{Phrase, Parts, One, Then, AreValues, written}
+use Rattle.f90_grammar.specs.Items.{ItemPhrase, Of, Text, Loop, ItemPhrases, Sole, More, Direction, Input, Output, IsVariable, IsStep, IsItem, AreItems, written_step, written_bounds, written_item, written_items}
 use Rattle.f90_grammar.specs.Printing.{is_one, phrase_of, part_of, more_parts}
 use Rattle.f90_grammar.specs.PrintedForms.{step_phrase, item_phrase, item_phrases, more_items}
-use Rattle.f90_grammar.specs.PrintedText.{phrase_text, comma, loop_text, step_text, bounds_text, constant_text, item_text, items_text, in_parentheses}
+use Rattle.f90_grammar.specs.PrintedText.{step_text, bounds_text, constant_text, item_text, items_text}
 use Rattle.f90_laws.proofs.Spelling.{Place, Start, After, IsFirst, Leads, join, open_word, close_word, comma_word, no_words, IsTidy, IsPrintable, all_append}
 use Rattle.f90_laws.proofs.PhraseWords.{IsWorded, phrase_leads, loop_leads}
 use Rattle.f90_laws.proofs.PhraseLevels.{IsGood, good, declared_name}
@@ -63,7 +63,8 @@ constant_tidy : (t : List ℕ) → AllByRecursion IsPrintable t → IsTidy (cons
 constant_tidy t h = record {
   printable = ((omega arith, omega arith), all_append IsPrintable (doubled t) (39 ∷ []) (doubled_printable t h) ((omega arith, omega arith), tt));
   comment = λ rest. ap (has_comment true) (append_assoc (doubled t) (39 ∷ []) rest) ∙ doubled_comment t rest;
-  open_behind = λ rest. ap (is_open_behind true) (append_assoc (doubled t) (39 ∷ []) rest) ∙ doubled_open t rest }
+  open_behind = λ rest. ap (is_open_behind true) (append_assoc (doubled t) (39 ∷ []) rest) ∙ doubled_open t rest;
+}
 
 constant_leads : (t : List ℕ) → IsText t → Leads After Start (constant_text t) (words.Constant t ∷ [])
 constant_leads [] h = absurd h
@@ -72,8 +73,10 @@ constant_leads (c ∷ cs) h = record {
     symbols = words.Text (c ∷ cs) ∷ s.symbols;
     are = subst (λ r. Symbols (39 ∷ r) (words.Text (c ∷ cs) ∷ s.symbols)) (sym (append_assoc (doubled (c ∷ cs)) (39 ∷ []) rest)) (constant c cs (in_line (c ∷ cs) h) s.follows.0 s.are);
     in_words = (s.symbols, record { gaps = []; front = words.Text (c ∷ cs) ∷ []; same = refl; are_gaps = tt; spelled = refl; whole = tt }, s.in_words);
-    follows = tt };
-  tidy = constant_tidy (c ∷ cs) h }
+    follows = tt;
+  };
+  tidy = constant_tidy (c ∷ cs) h;
+}
 
 -- ---- items whose names are names
 

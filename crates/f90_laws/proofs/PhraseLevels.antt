@@ -1,6 +1,6 @@
 -- What is printed for an expression whose kinds suit is an expression by the levels of its operators, and its names and
 -- literals are words.
-use Rattle.std.proofs.Common.{◌≡◌, refl, sym, ap, subst, ◌∙◌, arith, ℕ, ◌+◌, ◌<◌, ◌≤◌, ◌^◌, ℤ, pos, negsuc, Bool, true, false, not, ◌||◌, cond, IsTrue, Option, Some, None, List, [], ◌∷◌, ◌++◌, codes, length}
+use Rattle.std.proofs.Common.{◌≡◌, refl, subst, arith, ℕ, ◌+◌, ◌<◌, ◌≤◌, ◌^◌, ℤ, pos, negsuc, Bool, true, false, not, ◌||◌, cond, IsTrue, Some, List, [], ◌∷◌, ◌++◌, codes, length}
 use Rattle.std.specs.Prelude.{nat_le, decimal, ◌==◌, ◌%◌}
 use Rattle.std.specs.Option.{IsSomeAnd}
 use Rattle.std.specs.List.{AllByRecursion, list_all}
@@ -14,18 +14,17 @@ use Rattle.fv_tree.specs.declared.functions.Fun.TheVariants.{Abs, Mod, Max, Min}
 use Rattle.fv_tree.specs.declared.functions.Red.{Red}
 use Rattle.fv_tree.specs.declared.functions.Red.TheVariants.{Sum, MaxVal, MinVal}
 use Rattle.fv_tree.specs.declared.ops.Op.{Op}
-use Rattle.fv_tree.specs.declared.ops.Op.TheVariants.{Pow, Mul, Div, Neg, Add, Sub, Lt, Le, Eq, Ne, Gt, Ge, Not, And, Or, Eqv, Neqv}
+use Rattle.fv_tree.specs.declared.ops.Op.TheVariants.{Pow, Neg, Sub, Lt, Le, Eq, Ne, Gt, Ge, Not, And, Or, Eqv, Neqv}
 use Rattle.fv_tree.specs.declared.ops.Kind.{Kind}
 use Rattle.fv_tree.specs.declared.ops.Kind.TheVariants.{Integer, Logical}
-use Rattle.fv_tree.specs.Functions.{name_of_function, name_of_reduction, suits_number}
+use Rattle.fv_tree.specs.Functions.{name_of_function, name_of_reduction}
 use Rattle.fv_tree.specs.OperatorTable.{stands_between, is_unary, operand_kind, result_kind_of, left_least, right_least, may_follow}
 use Rattle.fv_tree.specs.Plain as tree
 use Rattle.fv_tree.specs.Plain.{Expression, Expressions, Subscript, Subscripts, Loops, Declaration}
-use Rattle.fv_meaning.specs.Names.{IsLongName, begins_with, is_letter}
+use Rattle.fv_meaning.specs.Names.{IsLongName, is_letter}
 use Rattle.fv_meaning.specs.Profile90.{IsDeclaration}
 use Rattle.fv_meaning.specs.Typed.{declared, number_of_arguments, IsLiteral}
 use Rattle.fv_meaning.specs.Typed90.{HasKind, AreArguments, AreScalars, AreSubscripts, IsSubscript, AreLoops}
-use Rattle.f90_grammar.specs.Words as words
 use Rattle.f90_grammar.specs.Words.{IsName, IsDigits, Pass, is_digit, goes_on}
 use Rattle.f90_grammar.specs.Phrases.{Phrase, Paren, Joined, Value, Part, Parts, One, Then, Phrases, Sole, More, Turn, Innermost, Round, level, begins_with_sign, IsExpression, IsPart, AreParts, AreExpressions, IsTurn}
 use Rattle.f90_grammar.specs.Printing.{fit, unary_phrase, digits_of, is_one, section, phrase_of, part_of, more_parts, more_arguments, more_values, rounds}
@@ -202,10 +201,17 @@ module _ (ds : List Declaration) (names : AllByRecursion IsDeclaration ds) where
         unary_good o (phrase_of a) h.0 (λ e. unsigned ds a (subst (HasKind ds a) e h.2)) (good a (operand_kind o) h.2)
     good (tree.Binary o a b) k h =
         let l = fit_good (left_least o) (phrase_of a) (good a (operand_kind o) h.2) in
-        let r = fit_good (right_least o) (phrase_of b) (good b (operand_kind o) h.3) in
-        ((between o h.0, fit_level (left_least o) (phrase_of a) (left_within o), fit_level (right_least o) (phrase_of b) (right_within o),
-        may o (begins_with_sign (fit (right_least o) (phrase_of b))) (λ e. fit_unsigned (right_least o) (phrase_of b) (unsigned ds b (subst (HasKind ds b) e h.3))),
-        l.0, r.0), (between o h.0, l.1, r.1))
+        let r = fit_good (right_least o) (phrase_of b) (good b (operand_kind o) h.3) in (
+          (
+            between o h.0,
+            fit_level (left_least o) (phrase_of a) (left_within o),
+            fit_level (right_least o) (phrase_of b) (right_within o),
+            may o (begins_with_sign (fit (right_least o) (phrase_of b))) (λ e. fit_unsigned (right_least o) (phrase_of b) (unsigned ds b (subst (HasKind ds b) e h.3))),
+            l.0,
+            r.0,
+          ),
+          (between o h.0, l.1, r.1),
+        )
     good (tree.Apply f tree.no_expressions) k h = (tt, function_name f)
     good (tree.Apply f (tree.expression e es)) k h =
         let g = arguments_good (One (Value (phrase_of e))) es (good e Integer h.3.0) h.3.2 in

@@ -1,5 +1,5 @@
 -- The text of a phrase has the words that it is written in.
-use Rattle.std.proofs.Common.{◌≡◌, refl, sym, ap, subst, ◌∙◌, ℕ, Bool, true, false, IsTrue, List, [], ◌∷◌, ◌++◌, append_assoc, codes, inl}
+use Rattle.std.proofs.Common.{◌≡◌, refl, ap, subst, ◌∙◌, ℕ, Bool, true, false, IsTrue, List, [], ◌∷◌, ◌++◌, append_assoc, codes, inl}
 use Rattle.fv_tree.specs.declared.ops.Op.{Op}
 use Rattle.fv_tree.specs.declared.ops.Op.TheVariants.{Pow, Mul, Div, Neg, Add, Sub, Lt, Le, Eq, Ne, Gt, Ge, Not, And, Or, Eqv, Neqv}
 use Rattle.fv_tree.specs.OperatorTable.{Sign, Plus, Minus, Negation, stands_between, spelling90_of}
@@ -7,7 +7,7 @@ use Rattle.f90_grammar.specs.Words as words
 use Rattle.f90_grammar.specs.Words.{Word, Symbol, Char, IsName, IsDigits, truth_text}
 use Rattle.f90_grammar.specs.Phrases.{Phrase, Literal, Truth, Name, Listed, Paren, Signed, Joined, Values, Looped, Part, Value, Range, Strided, Parts, One, Then, Phrases, Sole, More, Turn, Innermost, Round, sign_word, written, written_part, written_parts, written_values, written_turn}
 use Rattle.f90_grammar.specs.PrintedText.{sign_text, phrase_text, part_text, parts_text, values_text, turn_text, in_parentheses, comma, loop_text}
-use Rattle.f90_laws.proofs.Spelling.{Place, Anywhere, Start, Named, After, Leads, IsFirst, join, inside, loosen, word, start_blank, after_blank, named_blank, comma_word, colon_word, open_word, close_word, open_list, close_list, equals_word, name_word, digits_word, head_word, stops_too, joint_41, joint_42, joint_61, no_open, is_joint}
+use Rattle.f90_laws.proofs.Spelling.{Place, Start, Named, After, Leads, IsFirst, join, inside, word, start_blank, after_blank, comma_word, colon_word, open_word, close_word, open_list, close_list, equals_word, name_word, digits_word, head_word, stops_too, joint_41, joint_42, joint_61, no_open, is_joint}
 use Rattle.std.proofs.lemmas.Bool.{or_from}
 
 -- ---- phrases whose names are names and whose literals are digits
@@ -46,8 +46,8 @@ abbrev mutual
 operator : (p : Place) (w : Word) (cs : List ℕ) → Leads Start Named cs (w ∷ []) → Leads p After (codes " " ++ (cs ++ codes " ")) (w ∷ [])
 operator p w cs l = join after_blank (join l start_blank)
 
-star_slash : (c : ℕ) → is_joint c ≡ false → words.Whole (words.Operator Div) (Char c ∷ [])
-star_slash c h = or_from _ _ (joint_61 c h) (joint_41 c h)
+unjoint_slash : (c : ℕ) → is_joint c ≡ false → words.Whole (words.Operator Div) (Char c ∷ [])
+unjoint_slash c h = or_from _ _ (joint_61 c h) (joint_41 c h)
 
 stops : (q : ℕ → Bool) → ((c : ℕ) → is_joint c ≡ false → q c ≡ false) → (ss : List Symbol) → words.Stops is_joint ss → words.Stops q ss
 stops q f ss h = stops_too is_joint q f ss h
@@ -55,7 +55,7 @@ stops q f ss h = stops_too is_joint q f ss h
 between : (p : Place) (o : Op) → IsTrue (stands_between o) → Leads p After (codes " " ++ (spelling90_of o ++ codes " ")) (words.Operator o ∷ [])
 between p Pow h = operator p (words.Operator Pow) (codes "**") (word Start Named (words.Operator Pow) (codes "**") refl (codes "**", refl, inl refl) (λ rest ss f. tt) (λ rest ss. no_open 42 _ refl))
 between p Mul h = operator p (words.Operator Mul) (codes "*") (word Start Named (words.Operator Mul) (codes "*") refl (codes "*", refl, inl refl) (λ rest ss f. stops _ joint_42 ss f) (λ rest ss. no_open 42 _ refl))
-between p Div h = operator p (words.Operator Div) (codes "/") (word Start Named (words.Operator Div) (codes "/") refl (codes "/", refl, inl refl) (λ rest ss f. stops _ star_slash ss f) (λ rest ss. no_open 47 _ refl))
+between p Div h = operator p (words.Operator Div) (codes "/") (word Start Named (words.Operator Div) (codes "/") refl (codes "/", refl, inl refl) (λ rest ss f. stops _ unjoint_slash ss f) (λ rest ss. no_open 47 _ refl))
 between p Add h = operator p (words.Operator Add) (codes "+") (word Start Named (words.Operator Add) (codes "+") refl (codes "+", refl, inl refl) (λ rest ss f. tt) (λ rest ss. no_open 43 _ refl))
 between p Sub h = operator p (words.Operator Sub) (codes "-") (word Start Named (words.Operator Sub) (codes "-") refl (codes "-", refl, inl refl) (λ rest ss f. tt) (λ rest ss. no_open 45 _ refl))
 between p Lt h = operator p (words.Operator Lt) (codes "<") (word Start Named (words.Operator Lt) (codes "<") refl (codes "<", refl, inl refl) (λ rest ss f. stops _ joint_61 ss f) (λ rest ss. no_open 60 _ refl))

@@ -1,12 +1,11 @@
 -- What is printed for an expression whose kinds suit stands for it, with arguments that may stand there, and is as deep
 -- as it.
-use Rattle.std.proofs.Common.{◌≡◌, refl, sym, ap, subst, ◌∙◌, arith, ℕ, ◌+◌, ◌<◌, ◌≤◌, ◌^◌, max, ℤ, pos, negsuc, Bool, true, false, not, ◌||◌, cond, IsTrue, Option, Some, None, List, [], ◌∷◌, codes}
-use Rattle.std.specs.Prelude.{nat_le, decimal}
+use Rattle.std.proofs.Common.{◌≡◌, refl, sym, ap, subst, ◌∙◌, arith, ℕ, ◌+◌, ◌≤◌, max, ℤ, pos, negsuc, Bool, true, false, not, ◌||◌, cond, IsTrue, Option, Some, None, List, [], ◌∷◌, codes}
+use Rattle.std.specs.Prelude.{nat_le}
 use Rattle.std.specs.Option.{IsSomeAnd, is_some}
 use Rattle.std.specs.Str.{bytes_eq}
 use Rattle.std.proofs.lemmas.Bool.{cond_both}
 use mathlib.Core.Path.{ap₂}
-use Rattle.std.proofs.lemmas.Bool.Decides.{Decides-int_eq}
 use Rattle.fv_tree.specs.declared.functions.Fun.{Fun}
 use Rattle.fv_tree.specs.declared.functions.Fun.TheVariants.{Abs, Mod, Max, Min}
 use Rattle.fv_tree.specs.declared.functions.Red.{Red}
@@ -27,7 +26,7 @@ use Rattle.fv_meaning.specs.Typed90 as kinds
 use Rattle.fv_meaning.specs.Typed90.{HasKind, AreArguments, AreScalars, AreSubscripts, IsSubscript, AreLoops}
 use Rattle.fv_meaning.specs.Depths as depths
 use Rattle.fv_meaning.specs.Depths.{depth_of, depth_of_each, depth_of_subscripts, depth_of_subscript, depth_under, enclosed}
-use Rattle.f90_grammar.specs.Phrases.{Phrase, Paren, Value, Part, Parts, One, Then, Phrases, Sole, More, Turn, Innermost, Round, level, depth, depth_of_part, depth_of_parts, depth_of_values, depth_of_turn}
+use Rattle.f90_grammar.specs.Phrases.{Phrase, Paren, Value, Parts, One, Then, Phrases, Sole, More, Turn, Innermost, Round, level, depth, depth_of_part, depth_of_parts, depth_of_values, depth_of_turn}
 use Rattle.f90_grammar.specs.Phrases.{tree_of, length_of_values, AreValues, SuitsFunction, SuitsCalls, PartSuitsCalls, PartsSuitCalls, ValuesSuitCalls, TurnSuitsCalls}
 use Rattle.f90_grammar.specs.Printing.{fit, unary_phrase, is_one, section, part_of, more_parts, more_arguments, more_values, rounds}
 use Rattle.f90_grammar.specs.Printing.{phrase_of, IsLiteral, is_negating, HasSome, SuitsLoops, IsOpen, IsSource, EachIsSource, IsSourceSubscript, AreSource, LoopsAreSource}
@@ -157,7 +156,7 @@ typed_reads_back ds e k h = back (function_by ds) e (source ds e k h)
 
 -- ---- depth
 
-one_depth : (e : Expression) → is_one e ≡ true → depth_of e ≡ 0
+pub one_depth : (e : Expression) → is_one e ≡ true → depth_of e ≡ 0
 one_depth (tree.Number n) h = refl
 one_depth (tree.Logic b) h = refl
 one_depth e h = absurd cc
@@ -320,9 +319,11 @@ module _ (ds : List Declaration) where
     printed_suits (tree.Binary o a b) k h =
         (fit_suits (left_least o) (phrase_of a) (printed_suits a (operand_kind o) h.2), fit_suits (right_least o) (phrase_of b) (printed_suits b (operand_kind o) h.3))
     printed_suits (tree.Apply f tree.no_expressions) k h = tt
-    printed_suits (tree.Apply f (tree.expression e es)) k h =
-        (known_call (function_by ds (name_of_function f)) (Elemental f) (more_arguments (One (Value (phrase_of e))) es) (called ds (name_of_function f) (Elemental f) h.1 (function_is f))
-        (argument_values (One (Value (phrase_of e))) es tt), arguments_suit (One (Value (phrase_of e))) es (printed_suits e Integer h.3.0) h.3.2)
+    printed_suits (tree.Apply f (tree.expression e es)) k h = (
+      known_call (function_by ds (name_of_function f)) (Elemental f) (more_arguments (One (Value (phrase_of e))) es) (called ds (name_of_function f) (Elemental f) h.1 (function_is f))
+          (argument_values (One (Value (phrase_of e))) es tt),
+      arguments_suit (One (Value (phrase_of e))) es (printed_suits e Integer h.3.0) h.3.2,
+    )
     printed_suits (tree.Constructor tree.no_expressions tree.no_loops) k h = tt
     printed_suits (tree.Constructor (tree.expression e es) tree.no_loops) k h = values_suit (Sole (phrase_of e)) es k (printed_suits e k h.0.0.0) h.0.1
     printed_suits (tree.Constructor tree.no_expressions (tree.loop x a b ls)) k h = absurd (under_loops (tree.loop x a b ls) tree.no_expressions h.1)
@@ -334,9 +335,11 @@ module _ (ds : List Declaration) where
         (known_call (function_by ds (codes "SPREAD")) _ _ (called ds (codes "SPREAD") _ h.0 refl) (tt, tt), ((printed_suits a k h.4, tt), printed_suits n Integer h.5))
     printed_suits (tree.Transpose a) k h = (known_call (function_by ds (codes "TRANSPOSE")) _ _ (called ds (codes "TRANSPOSE") _ h.0 refl) tt, printed_suits a k h.2)
     printed_suits (tree.Reshape a tree.no_expressions) k h = absurd (some tree.no_expressions h.2)
-    printed_suits (tree.Reshape a (tree.expression e es)) k h =
-        (known_call (function_by ds (codes "RESHAPE")) _ _ (called ds (codes "RESHAPE") _ h.0 refl)
-        (tt, omega (arith, number_of_values (Sole (phrase_of e)) es, h.3)), (printed_suits a k h.4, values_suit (Sole (phrase_of e)) es Integer (printed_suits e Integer h.5.0.0) h.5.1))
+    printed_suits (tree.Reshape a (tree.expression e es)) k h = (
+      known_call (function_by ds (codes "RESHAPE")) _ _ (called ds (codes "RESHAPE") _ h.0 refl)
+          (tt, omega (arith, number_of_values (Sole (phrase_of e)) es, h.3)),
+      (printed_suits a k h.4, values_suit (Sole (phrase_of e)) es Integer (printed_suits e Integer h.5.0.0) h.5.1),
+    )
     printed_suits (tree.Reduce r a) k h =
         (known_call (function_by ds (name_of_reduction r)) (Reduction r) _ (called ds (name_of_reduction r) (Reduction r) h.0 (reduction_is r)) tt, printed_suits a Integer h.3)
 

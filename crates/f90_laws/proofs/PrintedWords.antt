@@ -1,5 +1,5 @@
 -- Each statement of a printed program has the words of its form.
-use Rattle.std.proofs.Common.{◌≡◌, refl, subst, arith, ℕ, ◌+◌, ◌<◌, ◌≤◌, Bool, true, false, cond, Option, Some, None, List, [], ◌∷◌, ◌++◌, length, map, codes, Contains}
+use Rattle.std.proofs.Common.{◌≡◌, refl, subst, arith, ℕ, ◌<◌, ◌≤◌, Bool, true, false, cond, Option, Some, None, List, [], ◌∷◌, ◌++◌, length, map, codes, Contains}
 use Rattle.std.specs.Option.{IfSome, IsSomeAnd}
 use Rattle.std.specs.List.{AllByRecursion}
 use Rattle.std.specs.Str.{bytes_eq}
@@ -16,9 +16,8 @@ use Rattle.fv_meaning.specs.Typed.{declared, number_of_arguments}
 use Rattle.fv_meaning.specs.Typed90.{AreScalars, AreOutputItems, AreInputItems}
 use Rattle.fv_meaning.specs.Value.{named}
 use Rattle.fv_meaning.specs.Blocks.{Surroundings, outermost, within_loop, before_labels, label_of, labels_of, IsLabel}
-use Rattle.fv_meaning.specs.Profile90.{IsDeclaration, IsExtent, IsProgram90, IsAssignment, IsAllocation, IsAllocatable, IsStatement, IsBlock, AreArms}
+use Rattle.fv_meaning.specs.Profile90.{IsDeclaration, IsExtent, IsAssignment, IsAllocation, IsStatement, IsBlock, AreArms}
 use Rattle.f90_grammar.specs.Words.{IsName}
-use Rattle.f90_grammar.specs.Phrases.{Phrase}
 use Rattle.f90_grammar.specs.Items.{IsReference}
 use Rattle.f90_grammar.specs.Forms as forms
 use Rattle.f90_grammar.specs.Printing.{phrase_of}
@@ -115,9 +114,10 @@ module _ (ds : List Declaration) (each : AllByRecursion IsDeclaration ds) where
     statement (tree.Where line mark mask left right) w a h =
         (where_spelled (phrase_of mask) (reference_phrase left) (phrase_of right) (good ds each mask Logical h.1.0.suits) (is_reference left left.subscripts) (left_good left right w h.2) (right_good left right w h.2), tt)
     statement (tree.If line arms other) w a h = first_arm arms (printed_else other) w a h.2 (otherwise other w a h.3)
-    statement (tree.Do line x f t s body) w a h =
-        (do_spelled x (phrase_of f) (phrase_of t) (step_phrase s) (declared_name ds x _ each h.1.integer) (good ds each f Integer h.2.suits.0) (good ds each t Integer h.3.suits.0) (step_good s (good ds each s Integer h.4.suits.0)),
-        both (printed_block body) _ (block body (within_loop x w) a h.5) (end_do, tt))
+    statement (tree.Do line x f t s body) w a h = (
+      do_spelled x (phrase_of f) (phrase_of t) (step_phrase s) (declared_name ds x _ each h.1.integer) (good ds each f Integer h.2.suits.0) (good ds each t Integer h.3.suits.0) (step_good s (good ds each s Integer h.4.suits.0)),
+      both (printed_block body) _ (block body (within_loop x w) a h.5) (end_do, tt),
+    )
     statement (tree.Label n) w a h = (continue_spelled (decimal n) (decimal_digits n (omega (arith, h.1))) (label_length n h.1), tt)
     statement (tree.GoTo line n) w a h =
         let l = is_label w.ahead n a h.1 in
@@ -130,9 +130,10 @@ module _ (ds : List Declaration) (each : AllByRecursion IsDeclaration ds) where
 
     first_arm : (arms : Arms) (other : List Printed) (w : Surroundings) → AllByRecursion IsLabel w.ahead → AreArms ds arms w → AreSpelled other → AreSpelled (printed_if arms other)
     first_arm tree.no_arms other w a h g = tt
-    first_arm (tree.arm test body more) other w a h g =
-        (if_spelled (phrase_of test) (good ds each test Logical h.0.suits.0),
-        both (printed_block body) _ (block body w a h.1) (both (printed_arms more) _ (further_arms more w a h.2) (both other _ g (end_if, tt))))
+    first_arm (tree.arm test body more) other w a h g = (
+      if_spelled (phrase_of test) (good ds each test Logical h.0.suits.0),
+      both (printed_block body) _ (block body w a h.1) (both (printed_arms more) _ (further_arms more w a h.2) (both other _ g (end_if, tt))),
+    )
 
     further_arms : (arms : Arms) (w : Surroundings) → AllByRecursion IsLabel w.ahead → AreArms ds arms w → AreSpelled (printed_arms arms)
     further_arms tree.no_arms w a h = tt
@@ -141,11 +142,12 @@ module _ (ds : List Declaration) (each : AllByRecursion IsDeclaration ds) where
 
     otherwise : (b : Block) (w : Surroundings) → AllByRecursion IsLabel w.ahead → IsBlock ds b w → AreSpelled (printed_else b)
     otherwise tree.no_statements w a h = tt
-    otherwise (tree.statement c cs) w a h =
-        (else_spelled,
-        both (printed_statement c) (printed_block cs)
-        (statement c (before_labels (labels_of cs) w) (all_append IsLabel (labels_of cs) w.ahead (labels_good ds cs w h.1) a) h.0)
-        (block cs w a h.1))
+    otherwise (tree.statement c cs) w a h = (
+      else_spelled,
+      both (printed_statement c) (printed_block cs)
+          (statement c (before_labels (labels_of cs) w) (all_append IsLabel (labels_of cs) w.ahead (labels_good ds cs w h.1) a) h.0)
+          (block cs w a h.1),
+    )
 
     block : (b : Block) (w : Surroundings) → AllByRecursion IsLabel w.ahead → IsBlock ds b w → AreSpelled (printed_block b)
     block tree.no_statements w a h = tt
@@ -165,8 +167,11 @@ declarations [] h = tt
 declarations (d ∷ ds) h = (declaration_spelled d.kind d.name d.extent (long_name d.name h.0.name) h.0.extent, declarations ds h.1)
 
 pub printed_is_spelled : PrintedIsSpelled
-printed_is_spelled p h =
-    (program_spelled (title_of p.name) (title_name p.name h.name),
-    (implicit_none,
+printed_is_spelled p h = (
+  program_spelled (title_of p.name) (title_name p.name h.name),
+  (
+    implicit_none,
     both (map printed_declaration p.declarations) _ (declarations p.declarations h.declarations.each)
-    (both (printed_block p.body) _ (block p.declarations h.declarations.each p.body outermost tt h.statements) (end_spelled, tt))))
+        (both (printed_block p.body) _ (block p.declarations h.declarations.each p.body outermost tt h.statements) (end_spelled, tt)),
+  ),
+)

@@ -1,9 +1,8 @@
 -- How words follow one another in a text, in which they end where the next one lets them.
-use Rattle.std.proofs.Common.{◌≡◌, refl, sym, ap, subst, ◌∙◌, arith, ℕ, ◌<◌, ◌≤◌, ◌-◌, Bool, true, false, not, ◌&&◌, ◌||◌, cond, IsTrue, List, [], ◌∷◌, ◌++◌, append_assoc, append-nil, codes, length, inl, inr}
+use Rattle.std.proofs.Common.{◌≡◌, refl, sym, ap, subst, ◌∙◌, arith, ℕ, ◌≤◌, Bool, true, false, not, ◌&&◌, ◌||◌, cond, IsTrue, List, [], ◌∷◌, ◌++◌, append_assoc, append-nil, codes}
 use Rattle.std.specs.Prelude.{nat_le, ◌==◌}
 use Rattle.std.specs.List.{AllByRecursion, list_all}
-use Rattle.std.proofs.lemmas.List.Folds.{list_all-append}
-use Rattle.std.proofs.lemmas.Bool.{and_parts, and_from, or_parts, cond-false}
+use Rattle.std.proofs.lemmas.Bool.{and_parts, and_from, or_parts}
 use Rattle.std.proofs.lemmas.Bool.Decides.{nat_tests}
 use Rattle.f90_grammar.specs.FreeForm.{has_comment, is_open_behind}
 use Rattle.f90_grammar.specs.Words as words
@@ -61,7 +60,8 @@ pub tidy_append : (xs ys : List ℕ) → IsTidy xs → IsTidy ys → IsTidy (xs 
 tidy_append xs ys h g = record {
   printable = all_append IsPrintable xs ys h.printable g.printable;
   comment = λ rest. ap (has_comment false) (append_assoc xs ys rest) ∙ (h.comment (ys ++ rest) ∙ g.comment rest);
-  open_behind = λ rest. ap (is_open_behind false) (append_assoc xs ys rest) ∙ (h.open_behind (ys ++ rest) ∙ g.open_behind rest) }
+  open_behind = λ rest. ap (is_open_behind false) (append_assoc xs ys rest) ∙ (h.open_behind (ys ++ rest) ∙ g.open_behind rest);
+}
 
 pub nothing_tidy : IsTidy []
 nothing_tidy = record { printable = tt; comment = λ rest. refl; open_behind = λ rest. refl }
@@ -79,7 +79,8 @@ pub one_tidy : (c : ℕ) (cs : List ℕ) → IsPrintable c → (c == 33) ≡ fal
 one_tidy c cs p m a h = record {
   printable = (p, h.printable);
   comment = λ rest. one_comment c (cs ++ rest) (c == 33) (c == 39) m a ∙ h.comment rest;
-  open_behind = λ rest. one_open (cs ++ rest) (c == 39) a ∙ h.open_behind rest }
+  open_behind = λ rest. one_open (cs ++ rest) (c == 39) a ∙ h.open_behind rest;
+}
 
 pub plain_tidy : (cs : List ℕ) → list_all is_plain cs ≡ true → IsTidy cs
 plain_tidy [] h = nothing_tidy
@@ -130,20 +131,11 @@ pub record Leads (from to : Place) (cs : List ℕ) (ws : List Word) : Type 0 whe
 pub join : {a b c : Place} {f g : List ℕ} {us vs : List Word} → Leads b c f us → Leads a b g vs → Leads a c (f ++ g) (us ++ vs)
 join {a} {b} {c} {f} {g} {us} {vs} k l = record {
   stands = λ rest more s.
-    subst (λ cs. Stands c cs ((us ++ vs) ++ more)) (sym (append_assoc f g rest))
-    (subst (λ ws. Stands c (f ++ (g ++ rest)) ws) (sym (append_assoc us vs more))
-    (k.stands (g ++ rest) (vs ++ more) (l.stands rest more s)));
-  tidy = tidy_append f g k.tidy l.tidy }
-
-pub loosen : {p q : Place} {cs : List ℕ} {ws : List Word} → Leads Anywhere q cs ws → Leads p q cs ws
-loosen l = record {
-  stands = λ rest more s. l.stands rest more (record { symbols = s.symbols; are = s.are; in_words = s.in_words; follows = tt });
-  tidy = l.tidy }
-
-pub lose : {p q : Place} {cs : List ℕ} {ws : List Word} → Leads p q cs ws → Leads p Anywhere cs ws
-lose l = record {
-  stands = λ rest more s. (let t = l.stands rest more s in record { symbols = t.symbols; are = t.are; in_words = t.in_words; follows = tt });
-  tidy = l.tidy }
+      subst (λ cs. Stands c cs ((us ++ vs) ++ more)) (sym (append_assoc f g rest))
+      (subst (λ ws. Stands c (f ++ (g ++ rest)) ws) (sym (append_assoc us vs more))
+      (k.stands (g ++ rest) (vs ++ more) (l.stands rest more s)));
+  tidy = tidy_append f g k.tidy l.tidy;
+}
 
 pub no_words : {p : Place} → Leads p p [] []
 no_words = record { stands = λ rest more s. s; tidy = nothing_tidy }
@@ -158,16 +150,14 @@ gap_words ss (w ∷ ws) h =
 spaced : (p q : Place) → ((rest : List ℕ) (ss : List Symbol) → Follows p rest ss → Follows q (32 ∷ rest) (Gap ∷ ss)) → Leads p q (codes " ") []
 spaced p q f = record {
   stands = λ rest more s. record { symbols = Gap ∷ s.symbols; are = blank s.are; in_words = gap_words s.symbols more s.in_words; follows = f rest s.symbols s.follows };
-  tidy = one_tidy 32 [] (omega arith, omega arith) refl refl nothing_tidy }
+  tidy = one_tidy 32 [] (omega arith, omega arith) refl refl nothing_tidy;
+}
 
 pub start_blank : {p : Place} → Leads p Start (codes " ") []
 start_blank {p} = spaced p Start (λ rest ss f. tt)
 
 pub after_blank : Leads Named After (codes " ") []
 after_blank = spaced Named After (λ rest ss f. (refl, tt, f))
-
-pub named_blank : Leads Named Named (codes " ") []
-named_blank = spaced Named Named (λ rest ss f. f)
 
 -- ---- words
 
@@ -179,8 +169,10 @@ word p q w cs are_plain spelled whole follows = record {
     symbols = chars cs ++ s.symbols;
     are = plain_symbols cs rest s.symbols are_plain s.are;
     in_words = (s.symbols, record { gaps = []; front = chars cs; same = refl; are_gaps = tt; spelled = spelled; whole = whole rest s.symbols s.follows }, s.in_words);
-    follows = follows rest s.symbols };
-  tidy = plain_tidy cs are_plain }
+    follows = follows rest s.symbols;
+  };
+  tidy = plain_tidy cs are_plain;
+}
 
 pub stops_too : (p q : ℕ → Bool) → ((c : ℕ) → p c ≡ false → q c ≡ false) → (ss : List Symbol) → Stops p ss → Stops q ss
 stops_too p q f [] h = tt
@@ -212,7 +204,8 @@ no_open c ss h e = absurd (grind (arith, nat_tests))
 pub inside : {p : Place} {cs : List ℕ} {ws : List Word} → Leads p Start cs ws → Leads p Inside cs ws
 inside l = record {
   stands = λ rest more s. (let t = l.stands rest more s in record { symbols = t.symbols; are = t.are; in_words = t.in_words; follows = unjoint (λ c. c == 47) joint_47 rest t.symbols t.follows });
-  tidy = l.tidy }
+  tidy = l.tidy;
+}
 
 comma_follows : (q : Place) (rest : List ℕ) (ss : List Symbol) → Follows q (44 ∷ rest) (Char 44 ∷ ss)
 comma_follows Anywhere rest ss = tt
@@ -322,19 +315,26 @@ head_with p q bs gs x t us f gaps blanks tidy h l = record {
   stands = λ rest more s. (let i = l.stands rest more s in record {
     symbols = chars x ++ (gs ++ (Char 40 ∷ i.symbols));
     are =
-      subst (λ cs. Symbols cs (chars x ++ (gs ++ (Char 40 ∷ i.symbols)))) (sym (append_assoc x (bs ++ (40 ∷ t)) rest ∙ ap (λ r. x ++ r) (append_assoc bs (40 ∷ t) rest)))
-      (plain_symbols x (bs ++ (40 ∷ (t ++ rest))) (gs ++ (Char 40 ∷ i.symbols)) (name_plain x h) (blanks _ _ (character 40 refl refl refl i.are)));
-    in_words = (i.symbols, record {
-      gaps = [];
-      front = chars x ++ (gs ++ Char 40 ∷ []);
-      same = sym (append_assoc (chars x) (gs ++ Char 40 ∷ []) i.symbols ∙ ap (λ r. chars x ++ r) (append_assoc gs (Char 40 ∷ []) i.symbols));
-      are_gaps = tt;
-      spelled = (gs, refl, h, gaps);
-      whole = i.follows }, i.in_words);
+        subst (λ cs. Symbols cs (chars x ++ (gs ++ (Char 40 ∷ i.symbols)))) (sym (append_assoc x (bs ++ (40 ∷ t)) rest ∙ ap (λ r. x ++ r) (append_assoc bs (40 ∷ t) rest)))
+        (plain_symbols x (bs ++ (40 ∷ (t ++ rest))) (gs ++ (Char 40 ∷ i.symbols)) (name_plain x h) (blanks _ _ (character 40 refl refl refl i.are)));
+    in_words = (
+      i.symbols,
+      record {
+        gaps = [];
+        front = chars x ++ (gs ++ Char 40 ∷ []);
+        same = sym (append_assoc (chars x) (gs ++ Char 40 ∷ []) i.symbols ∙ ap (λ r. chars x ++ r) (append_assoc gs (Char 40 ∷ []) i.symbols));
+        are_gaps = tt;
+        spelled = (gs, refl, h, gaps);
+        whole = i.follows;
+      },
+      i.in_words,
+    );
     follows =
-      subst (λ cs. Follows q cs (chars x ++ (gs ++ (Char 40 ∷ i.symbols)))) (sym (append_assoc x (bs ++ (40 ∷ t)) rest))
-      (name_follows q f x h ((bs ++ (40 ∷ t)) ++ rest) (gs ++ (Char 40 ∷ i.symbols))) });
-  tidy = tidy_append x (bs ++ (40 ∷ t)) (plain_tidy x (name_plain x h)) (subst IsTidy (append_assoc bs (40 ∷ []) t) (tidy_append (bs ++ 40 ∷ []) t tidy l.tidy)) }
+        subst (λ cs. Follows q cs (chars x ++ (gs ++ (Char 40 ∷ i.symbols)))) (sym (append_assoc x (bs ++ (40 ∷ t)) rest))
+        (name_follows q f x h ((bs ++ (40 ∷ t)) ++ rest) (gs ++ (Char 40 ∷ i.symbols)));
+  });
+  tidy = tidy_append x (bs ++ (40 ∷ t)) (plain_tidy x (name_plain x h)) (subst IsTidy (append_assoc bs (40 ∷ []) t) (tidy_append (bs ++ 40 ∷ []) t tidy l.tidy));
+}
 
 pub head_word : {p : Place} {t : List ℕ} {us : List Word} → (q : Place) → IsFirst q → (x : List ℕ) → IsName x → Leads p Inside t us → Leads p q (x ++ (40 ∷ t)) (words.Head x ∷ us)
 head_word {p} {t} {us} q f x h l = head_with p q [] [] x t us f tt (λ cs ss s. s) (plain_tidy (codes "(") refl) h l

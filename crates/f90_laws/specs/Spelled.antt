@@ -1,5 +1,5 @@
 -- Texts that are statements in free form without comments, and the law that those of a printed program are.
-use Rattle.std.specs.Prelude.{◌≡◌, ℕ, ◌≤◌, Bool, false, ◌||◌, IsTrue, List}
+use Rattle.std.specs.Prelude.{◌≡◌, ◌≤◌, false, ◌||◌, IsTrue, List}
 use Rattle.std.specs.List.{AllByRecursion}
 use Rattle.fv_tree.specs.Plain.{Program}
 use Rattle.fv_meaning.specs.Names.{is_letter, is_digit, begins_with}
@@ -23,4 +23,5 @@ pub record IsSpelled (f : Form) : Type 0 where
 
 -- so it is with each statement of a printed program
 abbrev pub PrintedIsSpelled : Type 0
-PrintedIsSpelled = (p : Program) → IsProgram90 p → AllByRecursion (λ (s : Printed). IsSpelled s.form) (printed_program p)
+PrintedIsSpelled = (p : Program) → IsProgram90 p
+    → AllByRecursion (λ (s : Printed). IsSpelled s.form) (printed_program p)
