@@ -21,6 +21,8 @@ use Rattle.f90_laws.proofs.PrintedBlocksPlaced.ArePlaced.{none, next}
 use Rattle.f90_laws.proofs.PrintedLinesText.{lines_again}
 use Rattle.f90_laws.proofs.PrintedLinesPieces.{ends_well, begins_well, IsText, first_block, text_blocks, text_pieces, text-written, text-characters, text-comments}
 use Rattle.f90_laws.proofs.PrintedLinesMarks.{AreFree, inside_lines, text_free, marks_of, marks_are, mark_lines_free, marks_comments, notes_are, notes_comments, notes_free}
+use Rattle.f90_laws.specs.ReadBack.{IsFreeLine}
+use Rattle.f90_laws.proofs.Spelling.{all_append}
 
 -- a statement that can be read: it has its words, and its mark, if it has one, is one that it takes
 pub record IsReadable (s : Printed) : Type 0 where
@@ -102,15 +104,11 @@ all_placed n (s ∷ ss) h =
     one_more n (mark_lines s.mark) (marks_of s.mark) s (flat_map printed_lines ss) ss (marks_comments s.mark) (marks_are s.mark h.0.mark) (last-marks s.mark) h.0
     (all_placed (n + length (printed_lines s)) ss h.1)
 
-free_both : (xs ys : List (List ℕ)) → AreFree xs → AreFree ys → AreFree (xs ++ ys)
-free_both [] ys a b = b
-free_both (x ∷ xs) ys a b = (a.0, free_both xs ys a.1 b)
-
 all_free : (ss : List Printed) → AllByRecursion IsReadable ss → AreFree (flat_map printed_lines ss)
 all_free [] k = tt
 all_free (s ∷ ss) k =
-    free_both (mark_lines s.mark ++ lines_of_text (form_text s.form)) (flat_map printed_lines ss)
-    (free_both (mark_lines s.mark) (lines_of_text (form_text s.form)) (mark_lines_free s.mark k.0.mark) (text_free (form_text s.form) k.0.spelled.printable))
+    all_append IsFreeLine (mark_lines s.mark ++ lines_of_text (form_text s.form)) (flat_map printed_lines ss)
+    (all_append IsFreeLine (mark_lines s.mark) (lines_of_text (form_text s.form)) (mark_lines_free s.mark k.0.mark) (text_free (form_text s.form) k.0.spelled.printable))
     (all_free ss k.1)
 
 -- ---- the lines of a program
@@ -130,7 +128,7 @@ module _ (p : Program) (notes : List (List ℕ)) (good : AllByRecursion IsNote n
       subst (λ (ls : List (List ℕ)). Placing 1 ls (printed_program p)) (append_assoc notes t (flat_map printed_lines behind_title)) r
 
   program_free : AreFree (program_lines p notes)
-  program_free = free_both notes (flat_map printed_lines (printed_program p)) (notes_free notes good) (all_free (printed_program p) h)
+  program_free = all_append IsFreeLine notes (flat_map printed_lines (printed_program p)) (notes_free notes good) (all_free (printed_program p) h)
 
   same_lines : lines (printed90 p notes) ≡ program_lines p notes
   same_lines = lines_again (program_lines p notes) (inside_lines (program_lines p notes) program_free)

@@ -13,6 +13,7 @@ use Rattle.f90_grammar.specs.FreeForm.AreMarks.{none, mark, other}
 use Rattle.f90_grammar.specs.PrintedText.{IsNote, mark_text, mark_lines, piece_length, further_pieces, pieces, continued, lines_of_text}
 use Rattle.f90_laws.specs.ReadBack.{IsFreeLine}
 use Rattle.f90_laws.proofs.PrintedLinesText.{IsLine}
+use Rattle.f90_laws.proofs.Spelling.{all_append}
 
 -- ---- printable characters
 
@@ -24,10 +25,6 @@ ArePrintable t = AllByRecursion IsPrintable t
 
 abbrev pub AreFree : List (List ℕ) → Type 0
 AreFree ls = AllByRecursion IsFreeLine ls
-
-printable_both : (xs ys : List ℕ) → ArePrintable xs → ArePrintable ys → ArePrintable (xs ++ ys)
-printable_both [] ys h k = k
-printable_both (x ∷ xs) ys h k = (h.0, printable_both xs ys h.1 k)
 
 printable_take : (n : ℕ) (t : List ℕ) → ArePrintable t → ArePrintable (take n t)
 printable_take zero t h = tt
@@ -57,7 +54,7 @@ ampersand_printable = ((lit≤ tt, lit≤ tt), tt)
 cut_line : (t : List ℕ) → ArePrintable t → (length (take piece_length t ++ 38 ∷ []) ≤ 131) × ArePrintable (take piece_length t ++ 38 ∷ [])
 cut_line t h =
     let l : length (take 130 t ++ 38 ∷ []) ≤ 131 = omega (arith, length-append (take 130 t) (38 ∷ []), length-take 130 t) in
-    (l, printable_both (take piece_length t) (38 ∷ []) (printable_take piece_length t h) ampersand_printable)
+    (l, all_append IsPrintable (take piece_length t) (38 ∷ []) (printable_take piece_length t h) ampersand_printable)
 
 continued_free : (n : ℕ) (t : List ℕ) → ArePrintable t → length t ≤ suc n * 130 → AreFree (continued n t)
 continued_free zero t h l =
@@ -137,8 +134,8 @@ mark_free m h =
           (lit≤ tt, lit≤ tt),
           (
             blank,
-            printable_both (decimal m.nest) (32 ∷ last) (decimal_printable m.nest h.nest)
-                (blank, printable_both (decimal m.stmt) (32 ∷ decimal m.level) (decimal_printable m.stmt h.statement) (blank, decimal_printable m.level h.level)),
+            all_append IsPrintable (decimal m.nest) (32 ∷ last) (decimal_printable m.nest h.nest)
+                (blank, all_append IsPrintable (decimal m.stmt) (32 ∷ decimal m.level) (decimal_printable m.stmt h.statement) (blank, decimal_printable m.level h.level)),
           ),
         ),
       );
