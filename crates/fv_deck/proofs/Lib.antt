@@ -1,3 +1,4 @@
+pub mod Cuts
 pub mod FirstLines
 pub mod Parts
-pub mod Pieces
+pub mod WholeLines

@@ -5,8 +5,7 @@ use Rattle.std.specs.List.{position_or_len, AllByRecursion}
 use Rattle.std.proofs.lemmas.Bool.{ltb-true, ltb-false, eqb-true, eqb-false}
 use Rattle.std.proofs.lemmas.List.Sums.{split_at_first, fails_before_first, passes_at_first}
 use Rattle.std.proofs.lemmas.List.{take_rest, get_or-take, length-take-le}
-use Rattle.first_path_grammar.specs.ThinReader.{pieces}
-use Rattle.first_path_grammar.proofs.ThinFound.{Lacks, pieces_none, pieces_first}
+use Rattle.fv_deck.proofs.WholeLines.{Lacks}
 
 some_inj : {A : Type 0} (x y : A) → ◌≡◌ {A = Option A} (Some x) (Some y) → x ≡ y
 some_inj x y e = cc
@@ -22,13 +21,6 @@ by_position false n k e = absurd (cc)
 by_none : (b : Bool) (n : ℕ) → ◌≡◌ {A = Option ℕ} (cond b (Some n) None) None → b ≡ false
 by_none true n e = absurd (cc)
 by_none false n e = refl
-
-pub pieces_uncut : (c : ℕ) (text : List ℕ) → position (λ b. b == c) text ≡ None → pieces c text ≡ text ∷ []
-pieces_uncut c text e =
-    let p : ℕ → Bool = λ b. b == c in
-    let n = position_or_len p text in
-    let l = ltb-false n (length text) (by_none (nat_lt n (length text)) n e) in
-    pieces_none c text (lacks_from c text (λ k h. fails_before_first p text k 0 (omega arith)))
 
 -- the text at the first such byte
 at_first : (c : ℕ) (text : List ℕ) (at : ℕ) → position (λ b. b == c) text ≡ Some at
@@ -48,13 +40,6 @@ at_first c text at e =
       subst (λ (m : ℕ). Lacks c (take m text)) same lacks,
       omega (arith, l, same),
     )
-
-pub pieces_cut : (c : ℕ) (text : List ℕ) (at : ℕ) → position (λ b. b == c) text ≡ Some at
-    → pieces c text ≡ take at text ∷ pieces c (take (length text - (at + 1)) (drop (at + 1) text))
-pieces_cut c text at e =
-    let r = at_first c text at e in
-    ap (pieces c) r.0 ∙ pieces_first c (take at text) (drop (at + 1) text) r.1
-    ∙ ap (λ t. take at text ∷ pieces c t) (sym (take_rest text (at + 1)))
 
 pub whole_cut : (c : ℕ) (text : List ℕ) (at : ℕ) → position (λ b. b == c) text ≡ Some at
     → text ≡ take at text ++ c ∷ take (length text - (at + 1)) (drop (at + 1) text)
@@ -78,4 +63,4 @@ left_of None = 0
 left_of (Some rest) = length rest + 1
 
 -- what `cut` leaves to be shown
-pub ruleset cut_laws = (pieces_uncut, pieces_cut, whole_cut, none_uncut, none_cut)
+pub ruleset cut_laws = (whole_cut, none_uncut, none_cut)
