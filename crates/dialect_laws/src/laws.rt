@@ -1,0 +1,9 @@
+//! Laws of dialects. A law is a function without a body: its contract is what holds.
+ghost use Rattle.dialect_laws.specs.OneRun.{SequentialRunIsArrayRun, SourceHasOneRun};
+
+/// A program of FORTRAN 77 has one and the same run in FORTRAN 77 and in Fortran 90, whatever its input and its limit of
+/// steps: store, output, faults and their lines are the same.
+pub fn source_has_one_run()
+    ensures dialects { SourceHasOneRun }
+    ensures sequential { SequentialRunIsArrayRun }
+{}
