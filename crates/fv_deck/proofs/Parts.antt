@@ -18,7 +18,7 @@ joined_one b text true e rest = ap (λ t. 10 ∷ t) rest ∙ ap (λ c. c ∷ tex
 joined_one b text false e rest = joined_first b (whole_lines text) ∙ ap (λ t. b ∷ t) rest
 
 -- the lines with their ends are the whole text
-joined_lines : (text : List ℕ) → joined (whole_lines text) ≡ text
+pub joined_lines : (text : List ℕ) → joined (whole_lines text) ≡ text
 joined_lines [] = refl
 joined_lines (b ∷ text) = joined_one b text (b == 10) refl (joined_lines text)
 
@@ -73,16 +73,16 @@ pub input_at_data : (d : DataLine) (deck rest line after : List ℕ) → IsPasse
     → after ≡ input_of (characters d) deck
 input_at_data d deck rest line after p l e =
     let m : List ℕ = characters d in sym (
-      p.input ∙ ap (λ ls. joined (lines_after m ls)) l.whole_lines_are
-      ∙ ap joined (cond-true (is_line m l.whole) (whole_lines after) (lines_after m (whole_lines after)) (l.is_data d ∙ e))
-      ∙ joined_lines after)
+    p.input ∙ ap (λ ls. joined (lines_after m ls)) l.whole_lines_are
+    ∙ ap joined (cond-true (is_line m l.whole) (whole_lines after) (lines_after m (whole_lines after)) (l.is_data d ∙ e))
+    ∙ joined_lines after)
 
 pub there_at_data : (d : DataLine) (deck rest line after : List ℕ) → IsPassed d deck rest → IsFirstLine rest line after → bytes_eq line (characters d) ≡ true
     → true ≡ has_data (characters d) deck
 there_at_data d deck rest line after p l e =
     let m : List ℕ = characters d in sym (
-      p.there ∙ ap (has_line m) l.whole_lines_are
-      ∙ cond-true (is_line m l.whole) true (has_line m (whole_lines after)) (l.is_data d ∙ e))
+    p.there ∙ ap (has_line m) l.whole_lines_are
+    ∙ cond-true (is_line m l.whole) true (has_line m (whole_lines after)) (l.is_data d ∙ e))
 
 -- all lines are passed
 pub source_at_end : (d : DataLine) (deck rest : List ℕ) → IsPassed d deck rest → rest ≡ [] → deck ≡ source_of (characters d) deck

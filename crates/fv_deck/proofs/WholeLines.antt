@@ -68,4 +68,3 @@ whole-ended (b ∷ bs) = by (b == 10) (whole-ended bs) (pieces_some 10 bs)
         → cond q ((10 ∷ []) ∷ whole_lines bs) (onto_first b (whole_lines bs)) ≡ ended (cond q ([] ∷ pieces 10 bs) (onto b (pieces 10 bs)))
     by true e r = ap (λ t. (10 ∷ []) ∷ t) (e ∙ ap ended r.2) ∙ ap (λ ps. ended ([] ∷ ps)) (sym r.2)
     by false e r = ap (onto_first b) (e ∙ ap ended r.2) ∙ ended-onto b r.0 r.1 ∙ ap (λ ps. ended (onto b ps)) (sym r.2)
-

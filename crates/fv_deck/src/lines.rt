@@ -86,3 +86,13 @@ pub fn source_and_input(deck: &[u8], data_line: DataLine) -> (&[u8], Option<&[u8
     }
     (deck, None)
 }
+
+/// The bytes of the input, none where there is no input.
+pub fn bytes_of(input: Option<&[u8]>) -> &[u8]
+    ensures { result.now ≡ bytes_in (option_copied input.entry) }
+{
+    match input {
+        Some(bytes) => bytes,
+        None => &[],
+    }
+}
