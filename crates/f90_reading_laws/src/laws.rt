@@ -1,5 +1,5 @@
 //! Laws of texts that are read or refused. A law is a function without a body: its contract is what holds.
-ghost use Rattle.f90_laws.specs.Refusing.{OneRefusal, ReadIsRefusedForNames, ReadWithinNamesIsNotRefused};
+ghost use Rattle.f90_reading_laws.specs.Refusing.{OneRefusal, ReadIsRefusedForNames, ReadWithinNamesIsNotRefused};
 
 /// A text has at most one refusal.
 pub fn text_has_one_refusal()

@@ -1,5 +1,5 @@
-use Rattle.f90_laws.proofs.Refusing.{read_for_names, read_within}
-use Rattle.f90_laws.proofs.laws.read_text_is_not_refused.Goals as goal
+use Rattle.f90_reading_laws.proofs.Refusing.{read_for_names, read_within}
+use Rattle.f90_reading_laws.proofs.laws.read_text_is_not_refused.Goals as goal
 
 pub returns-clause-names : goal.returns-clause-names
 returns-clause-names c = read_for_names
