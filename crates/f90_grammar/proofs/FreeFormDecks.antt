@@ -44,8 +44,8 @@ statement n t = record { line = n; ahead = []; chars = t; within = [] }
 
 two_statements : AreStatements 1 (codes "A = &" ∷ codes "  &B" ∷ codes "PRINT *, 'X! & " ∷ codes "&Y' ! end" ∷ codes " ! done" ∷ []) (statement 1 (codes "A = B") ∷ statement 3 (codes "PRINT *, 'X! Y' ") ∷ [])
 two_statements =
-    begins 1 (plain first) (plain second ∷ []) [] [] _ _ refl (refl, (is_first, refl, (is_second, refl))) none none
-    (begins 3 (plain third) (plain fourth ∷ []) [] [] _ _ refl (refl, (is_third, refl, (is_fourth, refl))) none none
+    begins 1 (plain first) (plain second ∷ []) [] [] _ _ refl (is_first, refl, (is_second, refl)) none none
+    (begins 3 (plain third) (plain fourth ∷ []) [] [] _ _ refl (is_third, refl, (is_fourth, refl)) none none
     (ends 5 (codes " ! done" ∷ []) refl))
 
 -- A = B &
@@ -65,4 +65,4 @@ sum_last = record { before = []; is_pulled = true; chars = codes " + C"; is_cont
 
 lone_ampersand : AreStatements 1 (codes "A = B &" ∷ codes "&" ∷ codes "& + C" ∷ []) (statement 1 (codes "A = B  + C") ∷ [])
 lone_ampersand = begins 1 (plain sum_first) (plain lone ∷ plain sum_last ∷ []) [] [] _ _ refl
-    (refl, (record { blanks = refl; comment = refl; in_constant = refl; leading = refl; final = refl; single = refl; is_line = refl }, refl, (is_lone, refl, (record { blanks = refl; comment = refl; in_constant = refl; leading = refl; final = refl; single = refl; is_line = refl }, refl)))) none none (ends 4 [] refl)
+    (record { blanks = refl; comment = refl; in_constant = refl; leading = refl; final = refl; single = refl; is_line = refl }, refl, (is_lone, refl, (record { blanks = refl; comment = refl; in_constant = refl; leading = refl; final = refl; single = refl; is_line = refl }, refl))) none none (ends 4 [] refl)

@@ -71,7 +71,7 @@ pub record IsPiece (o : Bool) (p : Piece) : Type 0 where
   pub single : IsTrue (not p.is_single || (p.is_pulled && (p.is_continued && is_nothing p.chars)))
   pub is_line : is_comment_line (written_piece p) ≡ false
 
--- all lines of a statement but the last are continued; the first one has no leading ampersand
+-- all lines of a statement but the last are continued
 abbrev pub AreFurtherPieces : Bool → List Piece → Type 0
 AreFurtherPieces o [] = ⊥
 AreFurtherPieces o (p ∷ []) = IsPiece o p × (p.is_continued ≡ false)
@@ -79,16 +79,16 @@ AreFurtherPieces o (p ∷ q ∷ ps) = IsPiece o p × (p.is_continued ≡ true)
     × AreFurtherPieces (is_open_behind o p.chars) (q ∷ ps)
 
 abbrev pub ArePieces : List Piece → Type 0
-ArePieces [] = ⊥
-ArePieces (p ∷ ps) = (p.is_pulled ≡ false) × AreFurtherPieces false (p ∷ ps)
+ArePieces ps = AreFurtherPieces false ps
 
 -- a line without leading ampersand is set off from the one before
 abbrev pub joint : Piece → List ℕ
 joint p = if p.is_pulled then p.chars else 10 ∷ p.chars
 
+-- no statement goes on with the first line, so a leading ampersand there is one of its characters
 abbrev pub characters : List Piece → List ℕ
 characters [] = []
-characters (p ∷ ps) = p.chars ++ flat_map joint ps
+characters (p ∷ ps) = ampersand p.is_pulled ++ (p.chars ++ flat_map joint ps)
 
 -- ---- marks
 

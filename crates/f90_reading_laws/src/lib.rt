@@ -1,0 +1,6 @@
+//! What is read of a text of Fortran 90 is a program of the profile, and a text that is read isn't refused.
+#![tactic(auto)]
+
+mod laws;
+
+pub use laws::{read_text_is_not_refused, text_has_one_refusal};
