@@ -2,5 +2,7 @@
 #![tactic(auto)]
 
 mod laws;
+mod reading_back;
 
 pub use laws::printed_is_spelled;
+pub use reading_back::printed_program_is_read_back;
