@@ -4,7 +4,6 @@
 ghost use Rattle.std.specs.Prelude.{◌≡◌, IfOk, map};
 ghost use Rattle.fv_tree.specs.View.{program_of_90};
 ghost use Rattle.fv_tree.specs.declared.programs.Line.{Line as TreeLine};
-ghost use Rattle.fv_meaning.specs.Profile90.{IsProgram90};
 ghost use Rattle.f90_grammar.specs.PrintedText.{printed90};
 
 use fv_tree::{Line, Memory, Program90, Seq};
@@ -12,8 +11,7 @@ use std::alloc::Global;
 
 /// Stub.
 pub fn print90(alloc: Global, p: &Program90, notes: &Seq<Line>) -> Result<Vec<u8>, Memory>
-    ensures { IfOk result (λ text. IsProgram90 (program_of_90 p.now)
-        → text.items ≡ printed90 (program_of_90 p.now) (map (λ (l : TreeLine). l.text) notes.now)) }
+    ensures { IfOk result (λ text. text.items ≡ printed90 (program_of_90 p.now) (map (λ (l : TreeLine). l.text) notes.now)) }
 {
     Err(Memory)
 }

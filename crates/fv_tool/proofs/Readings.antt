@@ -10,9 +10,6 @@ use Rattle.fv_tree.specs.declared.refusals.Refused.TheVariants as refused
 use Rattle.fv_io.specs.Causes.{Rose}
 use Rattle.fv_io.specs.Streams.{Gives, GivesPart}
 use Rattle.fv_meaning.specs.Deck.{source_of, input_of, has_data, data_line77}
-use Rattle.fv_meaning.specs.Profile77.{IsProgram77}
-use Rattle.fv_meaning.specs.Profile90.{IsProgram90}
-use Rattle.profile_laws.proofs.Programs.{source_is_target}
 use Rattle.f90_grammar.specs.PrintedText.{printed90}
 use Rattle.fv_deck.specs.Parts.{is_there, bytes_in}
 use mathlib.Core.Path.{ap₂}
@@ -130,14 +127,14 @@ pub record IsTranslated (deck text : List ℕ) : Type 0 where
 
 pub translated : (deck source : List ℕ) (input : Option (List ℕ)) (o : Result Program77 Refused) (p : Program77) (text items : List ℕ) → length deck ≤ 2 ^ 24
     → source ≡ source_of data_line77 deck → bytes_in input ≡ input_of data_line77 deck → is_there input ≡ has_data data_line77 deck
-    → o ≡ Ok p → Reads77 fortran77 source (program_of p) → IsProgram77 fortran77 (program_of p) → OnlyReads source o → OnlyRefuses source o
-    → (IsProgram90 (program_of p) → items ≡ printed90 (program_of p) [] ++ data_part (is_there input) (bytes_in input)) → text ≡ items
+    → o ≡ Ok p → Reads77 fortran77 source (program_of p) → OnlyReads source o → OnlyRefuses source o
+    → items ≡ printed90 (program_of p) [] ++ data_part (is_there input) (bytes_in input) → text ≡ items
     → IsTranslated deck text
-translated deck source input o p text items within at after there e reads profile only_reads only_refuses printed same = record {
+translated deck source input o p text items within at after there e reads only_reads only_refuses printed same = record {
   program = program_of p;
   read = read_as Vectorise deck o p within e (subst (λ (t : List ℕ). Reads77 fortran77 t (program_of p)) at reads) (subst (λ (t : List ℕ). OnlyReads t o) at only_reads)
       (subst (λ (t : List ℕ). OnlyRefuses t o) at only_refuses);
-  text_is = same ∙ printed (source_is_target fortran77 (program_of p) (omega arith) profile)
+  text_is = same ∙ printed
       ∙ ap₂ (λ b t. printed90 (program_of p) [] ++ data_part b t) there after;
 }
 

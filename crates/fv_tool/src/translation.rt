@@ -2,7 +2,6 @@
 ghost use Rattle.std.specs.Prelude.{◌≡◌, ◌^◌, ◌≤◌, ◌++◌, [], length, IfOk, OnOk};
 ghost use Rattle.std.specs.Option.{option_copied};
 ghost use Rattle.fv_tree.specs.View.{program_of};
-ghost use Rattle.fv_meaning.specs.Profile90.{IsProgram90};
 ghost use Rattle.f90_grammar.specs.PrintedText.{printed90};
 ghost use Rattle.fv_command.specs.declared.commands.Command.TheVariants.{Vectorise};
 ghost use Rattle.fv_deck.specs.Parts.{is_there, bytes_in};
@@ -39,8 +38,7 @@ fn translation(
     program: Program77,
     input: Option<&[u8]>,
 ) -> Result<Vec<u8>, Memory>
-    ensures { IfOk result (λ text. IsProgram90 (program_of program)
-        → text.items ≡ printed90 (program_of program) []
+    ensures { IfOk result (λ text. text.items ≡ printed90 (program_of program) []
         ++ data_part (is_there (option_copied input.entry)) (bytes_in (option_copied input.entry))) }
 {
     let Program77 { name, decls, body } = program;
