@@ -21,6 +21,7 @@ use Rattle.f90_laws.specs.ReadBack.{IsReadBack}
 use Rattle.f90_laws.proofs.PrintedBlocksBack.{text_back}
 use Rattle.f90_laws.proofs.PrintedTrees.{typed_reads_back}
 use Rattle.f90_laws.proofs.PrintedWords.{printed_is_spelled}
+use Rattle.fv_tool.proofs.Renumbered.{same_but_lines}
 use Rattle.fv_tool.proofs.SourceLines.{program_lines_are_source}
 use Rattle.fv_deck.proofs.Written.{IsSourceLine, source_alone, input_alone, source_before_data, input_after_data, no_input}
 use Rattle.fv_tool.specs.Decks.{ReadsDeck77}
@@ -61,13 +62,12 @@ holds deck p h =
     let plain : AllByRecursion IsSourceLine ls = program_lines_are_source p [] target tt in
     let there : Bool = has_data data_line77 deck in
     let input : List ℕ = input_of data_line77 deck in
-    let same : SameButLines p back.program = same_but_lines p back.program back.same in
-    let at = sym (source_behind ls plain there input) in
+    let read : IsReadBack p (source_of data_line90 (translation_text deck p)) = subst (IsReadBack p) (sym (source_behind ls plain there input)) back in
     record {
       program = p;
       reads = h;
       printed = refl;
-      read_back = subst (IsReadBack p) at back;
+      read_back = read;
       input = input_behind ls plain there input (no_input data_line77 deck);
-      preserves = preserved p (subst (IsReadBack p) at back).program input ? (sequential_run_is_array_run fortran77 p input source);
+      preserves = preserved p read.program input (same_but_lines p read.program read.same) (sequential_run_is_array_run fortran77 p input source);
     }

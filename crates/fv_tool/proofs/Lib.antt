@@ -1,6 +1,7 @@
 pub mod Headline
 pub mod Limits
 pub mod Readings
+pub mod Renumbered
 pub mod Runs
 pub mod SourceLines
 pub mod Statuses

@@ -1,5 +1,5 @@
 -- The lines of a printed program belong to the source of a deck: none of them is the line before the input.
-use Rattle.std.proofs.Common.{◌≡◌, ℕ, zero, suc, ◌≤◌, ◌==◌, ◌&&◌, ◌||◌, ◌⊎◌, Bool, false, IsTrue, Option, None, Some, List, [], ◌∷◌, ◌++◌, take, drop, refl, ap, sym, ◌∙◌, arith, inl, inr, codes, ne_eqb, flat_map}
+use Rattle.std.proofs.Common.{◌≡◌, ℕ, zero, suc, ◌≤◌, ◌==◌, ◌&&◌, ◌||◌, ◌⊎◌, Bool, false, IsTrue, Option, None, Some, List, [], ◌∷◌, ◌++◌, take, drop, refl, ap, sym, ◌∙◌, subst, arith, codes, ne_eqb, flat_map}
 use Rattle.std.specs.Str.{bytes_eq}
 use Rattle.std.specs.List.{AllByRecursion}
 use Rattle.std.proofs.lemmas.Bool.{eqb-false}
@@ -48,7 +48,7 @@ pieces_others (suc n) c cs h = (other_first c ((take 129 cs ++ 38 ∷ []) ++ 10 
 
 -- a letter or a digit is no exclamation mark
 no_mark : (c : ℕ) → IsTrue (is_letter c || is_digit c) → c ≡ 33 → ⊥
-no_mark c h e = ?
+no_mark c h e = let f : IsTrue (is_letter 33 || is_digit 33) = subst (λ (n : ℕ). IsTrue (is_letter n || is_digit n)) e h in cc
 
 text_others : (t : List ℕ) → IsTrue (begins_with (λ c. is_letter c || is_digit c) t) → AreOthers (lines_of_text t)
 text_others [] h = absurd (cc)
