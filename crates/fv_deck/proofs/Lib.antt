@@ -1,3 +1,5 @@
+pub mod Cuts
 pub mod FirstLines
 pub mod Parts
-pub mod Pieces
+pub mod WholeLines
+pub mod Written

@@ -4,8 +4,9 @@ use Rattle.std.specs.Prelude.{◌==◌}
 use Rattle.std.specs.Str.{bytes_eq}
 use Rattle.std.proofs.lemmas.Bool.{cond-true, cond-false, eqb-true}
 use Rattle.std.proofs.Math.Seq.{take-append_seam}
-use Rattle.fv_meaning.specs.Deck.{whole_lines, onto_first, is_line, joined, lines_before, lines_after, source_of, input_of, data_line77}
-use Rattle.fv_deck.specs.FirstLine.{IsFirstLine}
+use Rattle.fv_meaning.specs.Deck.{whole_lines, onto_first, is_line, joined, lines_before, lines_after, has_line, source_of, input_of, has_data}
+use Rattle.fv_deck.specs.declared.lines.DataLine.{DataLine}
+use Rattle.fv_deck.specs.FirstLine.{IsFirstLine, characters}
 
 joined_first : (b : ℕ) (ls : List (List ℕ)) → joined (onto_first b ls) ≡ b ∷ joined ls
 joined_first b [] = refl
@@ -17,63 +18,81 @@ joined_one b text true e rest = ap (λ t. 10 ∷ t) rest ∙ ap (λ c. c ∷ tex
 joined_one b text false e rest = joined_first b (whole_lines text) ∙ ap (λ t. b ∷ t) rest
 
 -- the lines with their ends are the whole text
-joined_lines : (text : List ℕ) → joined (whole_lines text) ≡ text
+pub joined_lines : (text : List ℕ) → joined (whole_lines text) ≡ text
 joined_lines [] = refl
 joined_lines (b ∷ text) = joined_one b text (b == 10) refl (joined_lines text)
 
 -- what stands before the rest belongs to the source
-pub record IsPassed (deck rest : List ℕ) : Type 0 where
+pub record IsPassed (d : DataLine) (deck rest : List ℕ) : Type 0 where
   pub front : List ℕ
   pub text_is : deck ≡ front ++ rest
-  pub source : source_of data_line77 deck ≡ front ++ source_of data_line77 rest
-  pub input : input_of data_line77 deck ≡ input_of data_line77 rest
+  pub source : source_of (characters d) deck ≡ front ++ source_of (characters d) rest
+  pub input : input_of (characters d) deck ≡ input_of (characters d) rest
+  pub there : has_data (characters d) deck ≡ has_data (characters d) rest
 
-pub none_passed : (deck : List ℕ) → IsPassed deck deck
-none_passed deck = record { front = []; text_is = refl; source = refl; input = refl }
+pub none_passed : (d : DataLine) (deck : List ℕ) → IsPassed d deck deck
+none_passed d deck = record { front = []; text_is = refl; source = refl; input = refl; there = refl }
 
 -- the first line of the rest is no data line
-pub line_passed : (deck rest line after : List ℕ) → IsPassed deck rest → IsFirstLine rest line after → bytes_eq line data_line77 ≡ false → IsPassed deck after
-line_passed deck rest line after p l e = record {
-  front = p.front ++ l.whole;
-  text_is = p.text_is ∙ ap (λ t. p.front ++ t) l.text_is ∙ sym (append_assoc p.front l.whole after);
-  source =
-      p.source ∙ ap (λ t. p.front ++ t)
-      (ap (λ ls. joined (lines_before data_line77 ls)) l.whole_lines_are
-      ∙ ap joined (cond-false (is_line data_line77 l.whole) [] (l.whole ∷ lines_before data_line77 (whole_lines after)) (l.is_data ∙ e)))
-      ∙ sym (append_assoc p.front l.whole (source_of data_line77 after));
-  input =
-      p.input ∙ ap (λ ls. joined (lines_after data_line77 ls)) l.whole_lines_are
-      ∙ ap joined (cond-false (is_line data_line77 l.whole) (whole_lines after) (lines_after data_line77 (whole_lines after)) (l.is_data ∙ e));
-}
+pub line_passed : (d : DataLine) (deck rest line after : List ℕ) → IsPassed d deck rest → IsFirstLine rest line after → bytes_eq line (characters d) ≡ false → IsPassed d deck after
+line_passed d deck rest line after p l e =
+    let m : List ℕ = characters d in
+    let other : is_line m l.whole ≡ false = l.is_data d ∙ e in
+    record {
+      front = p.front ++ l.whole;
+      text_is = p.text_is ∙ ap (λ t. p.front ++ t) l.text_is ∙ sym (append_assoc p.front l.whole after);
+      source =
+          p.source ∙ ap (λ t. p.front ++ t)
+          (ap (λ ls. joined (lines_before m ls)) l.whole_lines_are
+          ∙ ap joined (cond-false (is_line m l.whole) [] (l.whole ∷ lines_before m (whole_lines after)) other))
+          ∙ sym (append_assoc p.front l.whole (source_of m after));
+      input =
+          p.input ∙ ap (λ ls. joined (lines_after m ls)) l.whole_lines_are
+          ∙ ap joined (cond-false (is_line m l.whole) (whole_lines after) (lines_after m (whole_lines after)) other);
+      there =
+          p.there ∙ ap (has_line m) l.whole_lines_are ∙ cond-false (is_line m l.whole) true (has_line m (whole_lines after)) other;
+    }
 
-pub rest_is_shorter : (deck rest : List ℕ) → IsPassed deck rest → length rest ≤ length deck
-rest_is_shorter deck rest p = omega (arith, ap length p.text_is, length-append p.front rest)
+pub rest_is_shorter : (d : DataLine) (deck rest : List ℕ) → IsPassed d deck rest → length rest ≤ length deck
+rest_is_shorter d deck rest p = omega (arith, ap length p.text_is, length-append p.front rest)
 
 -- it is a data line: the source stands before it, and the input after it
-pub source_at_data : (deck rest line after : List ℕ) → IsPassed deck rest → IsFirstLine rest line after → bytes_eq line data_line77 ≡ true
-    → take (length deck - length rest) deck ≡ source_of data_line77 deck
-source_at_data deck rest line after p l e =
+pub source_at_data : (d : DataLine) (deck rest line after : List ℕ) → IsPassed d deck rest → IsFirstLine rest line after → bytes_eq line (characters d) ≡ true
+    → take (length deck - length rest) deck ≡ source_of (characters d) deck
+source_at_data d deck rest line after p l e =
+    let m : List ℕ = characters d in
     let sizes : length deck ≡ length p.front + length rest = ap length p.text_is ∙ length-append p.front rest in
     let cut : length deck - length rest ≡ length p.front = omega (arith, sizes) in
-    let none : source_of data_line77 rest ≡ [] =
-    ap (λ ls. joined (lines_before data_line77 ls)) l.whole_lines_are
-    ∙ ap joined (cond-true (is_line data_line77 l.whole) [] (l.whole ∷ lines_before data_line77 (whole_lines after)) (l.is_data ∙ e)) in
+    let none : source_of m rest ≡ [] =
+    ap (λ ls. joined (lines_before m ls)) l.whole_lines_are
+    ∙ ap joined (cond-true (is_line m l.whole) [] (l.whole ∷ lines_before m (whole_lines after)) (l.is_data d ∙ e)) in
     ap (λ n. take n deck) cut ∙ ap (take (length p.front)) p.text_is ∙ take-append_seam p.front rest
     ∙ sym (p.source ∙ ap (λ t. p.front ++ t) none ∙ append-nil p.front)
 
-pub input_at_data : (deck rest line after : List ℕ) → IsPassed deck rest → IsFirstLine rest line after → bytes_eq line data_line77 ≡ true
-    → after ≡ input_of data_line77 deck
-input_at_data deck rest line after p l e = sym (
-    p.input ∙ ap (λ ls. joined (lines_after data_line77 ls)) l.whole_lines_are
-    ∙ ap joined (cond-true (is_line data_line77 l.whole) (whole_lines after) (lines_after data_line77 (whole_lines after)) (l.is_data ∙ e))
+pub input_at_data : (d : DataLine) (deck rest line after : List ℕ) → IsPassed d deck rest → IsFirstLine rest line after → bytes_eq line (characters d) ≡ true
+    → after ≡ input_of (characters d) deck
+input_at_data d deck rest line after p l e =
+    let m : List ℕ = characters d in sym (
+    p.input ∙ ap (λ ls. joined (lines_after m ls)) l.whole_lines_are
+    ∙ ap joined (cond-true (is_line m l.whole) (whole_lines after) (lines_after m (whole_lines after)) (l.is_data d ∙ e))
     ∙ joined_lines after)
 
--- all lines are passed
-pub source_at_end : (deck rest : List ℕ) → IsPassed deck rest → rest ≡ [] → deck ≡ source_of data_line77 deck
-source_at_end deck rest p e = p.text_is ∙ ap (λ t. p.front ++ t) e ∙ sym (p.source ∙ ap (λ t. p.front ++ source_of data_line77 t) e)
+pub there_at_data : (d : DataLine) (deck rest line after : List ℕ) → IsPassed d deck rest → IsFirstLine rest line after → bytes_eq line (characters d) ≡ true
+    → true ≡ has_data (characters d) deck
+there_at_data d deck rest line after p l e =
+    let m : List ℕ = characters d in sym (
+    p.there ∙ ap (has_line m) l.whole_lines_are
+    ∙ cond-true (is_line m l.whole) true (has_line m (whole_lines after)) (l.is_data d ∙ e))
 
-pub input_at_end : (deck rest : List ℕ) → IsPassed deck rest → rest ≡ [] → [] ≡ input_of data_line77 deck
-input_at_end deck rest p e = sym (p.input ∙ ap (input_of data_line77) e)
+-- all lines are passed
+pub source_at_end : (d : DataLine) (deck rest : List ℕ) → IsPassed d deck rest → rest ≡ [] → deck ≡ source_of (characters d) deck
+source_at_end d deck rest p e = p.text_is ∙ ap (λ t. p.front ++ t) e ∙ sym (p.source ∙ ap (λ t. p.front ++ source_of (characters d) t) e)
+
+pub input_at_end : (d : DataLine) (deck rest : List ℕ) → IsPassed d deck rest → rest ≡ [] → [] ≡ input_of (characters d) deck
+input_at_end d deck rest p e = sym (p.input ∙ ap (input_of (characters d)) e)
+
+pub there_at_end : (d : DataLine) (deck rest : List ℕ) → IsPassed d deck rest → rest ≡ [] → false ≡ has_data (characters d) deck
+there_at_end d deck rest p e = sym (p.there ∙ ap (has_data (characters d)) e)
 
 -- what `source_and_input` leaves to be shown
-pub ruleset part_laws = (none_passed, source_at_end, input_at_end)
+pub ruleset part_laws = (none_passed, source_at_end, input_at_end, there_at_end)

@@ -3,4 +3,4 @@
 
 mod lines;
 
-pub use lines::{cut, next_line, source_and_input};
+pub use lines::{DataLine, bytes_of, next_line, source_and_input};

@@ -37,9 +37,9 @@ fault_name Allocated = codes "Allocated"
 
 -- ---- refusals
 
--- the name of its cause; `vectorise` has one refusal of its own as long as it reads less than `run77`
+-- the name of its cause
 abbrev pub name_of_refusal : ℕ → List ℕ
-name_of_refusal number = if number == 60 then codes "NotBuilt" else refusal_name number
+name_of_refusal number = refusal_name number
 
 -- ---- words of refusals
 

@@ -43,10 +43,6 @@ pub(crate) fn refusal_name(refusal: Refusal) -> &'static str
     ensures name { result.now ≡ name_of_refusal refusal.number }
     ensures short { length result.now ≤ 12 }
 {
-    // As long as `vectorise` reads less than `run77`.
-    if refusal.number == 60 {
-        return "NotBuilt";
-    }
     refusal.name()
 }
 

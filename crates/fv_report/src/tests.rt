@@ -99,7 +99,6 @@ const REFUSALS: &[Refused] = &[
     (16, 5, 0, b"fvec: line 5: refused 16 Jump\n"),
     (17, 5, 0, b"fvec: line 5: refused 17 DoVariable\n"),
     (18, 5, 0, b"fvec: line 5: refused 18 Limit\n"),
-    (60, 5, 0, b"fvec: line 5: refused 60 NotBuilt\n"),
 ];
 
 // A refusal that is neither OutOfProfile nor Limit has no word, and they have none but their own.

@@ -1,20 +1,31 @@
 -- A deck that is read has its printing as a translation.
-use Rattle.std.proofs.Common.{◌≡◌, List, ℕ, refl, ap, sym, ◌∙◌, subst}
-use Rattle.std.specs.Prelude.{None}
+use Rattle.std.proofs.Common.{◌≡◌, Bool, true, false, List, [], ◌++◌, ℕ, refl, ap, sym, ◌∙◌, subst, arith, append-nil}
+use Rattle.std.specs.Prelude.{None, flat_map}
+use Rattle.std.specs.List.{AllByRecursion}
 use Rattle.fv_tree.specs.Plain.{Program}
-use Rattle.fv_meaning.specs.Deck.{input_of, data_line77}
+use Rattle.fv_meaning.specs.Deck.{source_of, input_of, has_data, data_line77, data_line90}
 use Rattle.fv_meaning.specs.Sequential.{sequential_run}
-use Rattle.fv_meaning.specs.Dialect.{fortran90}
+use Rattle.fv_meaning.specs.Dialect.{fortran77, fortran90}
 use Rattle.fv_meaning.specs.Store.{nought_like}
 use Rattle.fv_meaning.specs.Run.{State, run}
 use Rattle.fv_meaning.specs.Array.{array_run}
 use Rattle.fv_meaning.specs.Relined.{SameButLines, AlikeButLine}
-use Rattle.first_path_grammar.specs.Reading77.{ReadsThin}
-use Rattle.first_path_grammar.specs.Reading90.{Reads90}
-use Rattle.first_path_grammar.specs.Printing90.{printed90}
+use Rattle.fv_meaning.specs.Profile77.{IsProgram77}
+use Rattle.fv_meaning.specs.Profile90.{IsProgram90}
 use Rattle.fv_meaning.proofs.Relines.{relined, relined_ends_well}
-use Rattle.first_path_grammar.proofs.ThinReads.{translated, same_but_lines, source_back, input_back, reads_back, input_none_there}
-use Rattle.first_path.proofs.OneRun.{thin_run}
+use Rattle.profile_laws.proofs.Programs.{source_is_target}
+use Rattle.dialect_laws.proofs.Runs.{sequential_run_is_array_run}
+use Rattle.f77_read.proofs.SourceLaws.{read_is_source_program}
+use Rattle.f90_grammar.specs.PrintedText.{with_line_feed, program_lines}
+use Rattle.f90_laws.specs.ReadBack.{IsReadBack}
+use Rattle.f90_laws.proofs.PrintedBlocksBack.{text_back}
+use Rattle.f90_laws.proofs.PrintedTrees.{typed_reads_back}
+use Rattle.f90_laws.proofs.PrintedWords.{printed_is_spelled}
+use Rattle.fv_tool.proofs.Renumbered.{same_but_lines}
+use Rattle.fv_tool.proofs.SourceLines.{program_lines_are_source}
+use Rattle.fv_deck.proofs.Written.{IsSourceLine, source_alone, input_alone, source_before_data, input_after_data, no_input}
+use Rattle.fv_tool.specs.Decks.{ReadsDeck77}
+use Rattle.fv_tool.specs.Translation.{data_part, translation_text}
 use Rattle.fv_tool.specs.Headline.{Preserves, TranslationHolds}
 
 preserved : (p q : Program) (input : List ℕ) → SameButLines p q → sequential_run p input ≡ run fortran90 None p input → Preserves p q input
@@ -32,17 +43,31 @@ preserved p q input same one =
       };
     }
 
-pub holds : (deck : List ℕ) (p : Program) → ReadsThin deck p → TranslationHolds deck (printed90 p)
+-- the text is read back where the program stands alone
+module _ (ls : List (List ℕ)) (plain : AllByRecursion IsSourceLine ls) where
+  source_behind : (b : Bool) (input : List ℕ) → source_of data_line90 (flat_map with_line_feed ls ++ data_part b input) ≡ flat_map with_line_feed ls
+  source_behind false input = source_alone ls plain
+  source_behind true input = source_before_data ls input plain
+
+  input_behind : (b : Bool) (input : List ℕ) → (b ≡ false → input ≡ []) → input_of data_line90 (flat_map with_line_feed ls ++ data_part b input) ≡ input
+  input_behind false input none = input_alone ls plain ∙ sym (none refl)
+  input_behind true input none = input_after_data ls input plain
+
+pub holds : (deck : List ℕ) (p : Program) → ReadsDeck77 deck p → TranslationHolds deck (translation_text deck p)
 holds deck p h =
-    let q : Program = translated h.program.names h.statements in
+    let source : IsProgram77 fortran77 p = read_is_source_program fortran77 (source_of data_line77 deck) h.source.cards p (omega arith) h.source.are_cards h.source.program in
+    let target : IsProgram90 p = source_is_target fortran77 p (omega arith) source in
+    let ls : List (List ℕ) = program_lines p [] in
+    let back : IsReadBack p (flat_map with_line_feed ls) = text_back p [] target tt (printed_is_spelled p target) (typed_reads_back p.declarations) in
+    let plain : AllByRecursion IsSourceLine ls = program_lines_are_source p [] target tt in
+    let there : Bool = has_data data_line77 deck in
+    let input : List ℕ = input_of data_line77 deck in
+    let read : IsReadBack p (source_of data_line90 (translation_text deck p)) = subst (IsReadBack p) (sym (source_behind ls plain there input)) back in
     record {
       program = p;
       reads = h;
       printed = refl;
-      translated = q;
-      reads_back = subst (λ (text : List ℕ). Reads90 text q) (sym (source_back deck p h)) (reads_back deck p h);
-      input = input_back deck p h ∙ sym (input_none_there deck p h);
-      preserves = preserved p q (input_of data_line77 deck)
-          (subst (λ (r : Program). SameButLines r q) (sym h.program.program) (same_but_lines h.program.names h.statements))
-          (thin_run deck p h (input_of data_line77 deck));
+      read_back = read;
+      input = input_behind ls plain there input (no_input data_line77 deck);
+      preserves = preserved p read.program input (same_but_lines p read.program read.same) (sequential_run_is_array_run fortran77 p input source);
     }

@@ -1,7 +1,9 @@
 pub mod Headline
 pub mod Limits
 pub mod Readings
+pub mod Renumbered
 pub mod Runs
+pub mod SourceLines
 pub mod Statuses
 pub mod Top
 pub mod Worked

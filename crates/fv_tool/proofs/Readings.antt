@@ -1,5 +1,5 @@
 -- What the answer to a deck's source says of the deck.
-use Rattle.std.proofs.Common.{◌≡◌, ◌≤◌, ◌⊎◌, ◌^◌, ℕ, List, length, Result, Ok, Err, inl, inr, refl, sym, ◌∙◌, subst, arith}
+use Rattle.std.proofs.Common.{◌≡◌, ◌≤◌, ◌⊎◌, ◌^◌, ℕ, List, length, [], ◌++◌, Option, Result, Ok, Err, inl, inr, ap, refl, sym, ◌∙◌, subst, arith}
 use Rattle.std.specs.Prelude.{IsOkAnd}
 use Rattle.fv_tree.specs.Plain.{Program}
 use Rattle.fv_tree.specs.View.{program_of}
@@ -9,21 +9,23 @@ use Rattle.fv_tree.specs.declared.refusals.Refused.{Refused}
 use Rattle.fv_tree.specs.declared.refusals.Refused.TheVariants as refused
 use Rattle.fv_io.specs.Causes.{Rose}
 use Rattle.fv_io.specs.Streams.{Gives, GivesPart}
-use Rattle.fv_meaning.specs.Deck.{source_of, input_of, data_line77}
+use Rattle.fv_meaning.specs.Deck.{source_of, input_of, has_data, data_line77}
+use Rattle.f90_grammar.specs.PrintedText.{printed90}
+use Rattle.fv_deck.specs.Parts.{is_there, bytes_in}
+use mathlib.Core.Path.{ap₂}
 use Rattle.fv_meaning.specs.Run.{run}
 use Rattle.fv_meaning.specs.Sequential.{ending}
 use Rattle.fv_meaning.specs.Dialect.{fortran77}
-use Rattle.first_path_grammar.proofs.ThinLaws.{none_is_both, each_is_read_once}
-use Rattle.first_path.specs.Progress.{IsRefusedAs}
-use Rattle.first_path.specs.Translation.{IsPrintingOf}
 use Rattle.f77_grammar.specs.Reading77.{Reads77, Refused77}
 use Rattle.fv_command.specs.declared.commands.Options.{Options}
+use Rattle.fv_command.specs.declared.commands.Command.{Command}
 use Rattle.fv_command.specs.declared.commands.Command.TheVariants.{Vectorise, Run77}
 use Rattle.fv_report.specs.declared.outcome.Outcome.{Outcome}
 use Rattle.fv_report.specs.declared.outcome.Outcome.TheVariants.{Done, Usage, Refused as Denied, Faulted, StepLimit, ReadFault, WriteFault, OutOfMemory}
-use Rattle.fv_tool.specs.Decks.{RefusedDeck77}
+use Rattle.fv_tool.specs.Decks.{ReadsDeck77, RefusedDeck77}
 use Rattle.fv_tool.specs.Decks.RefusedDeck77.{TooLong, OfSource}
-use Rattle.fv_tool.specs.Endings.{IsReadAs}
+use Rattle.fv_tool.specs.Endings.{IsReadAs, IsRefusedFor}
+use Rattle.fv_tool.specs.Translation.{data_part, translation_text}
 use Rattle.fv_tool.specs.Unread.{outcome_for}
 use Rattle.fv_tool.specs.Running.{run_text}
 use Rattle.fv_tool.specs.Works.{Writing, Works, Comes, ComesFor}
@@ -54,13 +56,17 @@ not_refused : (deck : List ℕ) (r : Refusal) → length deck ≤ 2 ^ 24 → ((r
 not_refused deck _ within h (TooLong long) = omega (arith, within, long)
 not_refused deck r within h (OfSource _ _ refused) = h r refused
 
-read_as : (options : Options) (deck : List ℕ) (o : Result Program77 Refused) (p : Program77) → length deck ≤ 2 ^ 24 → o ≡ Ok p → Reads77 fortran77 (source_of data_line77 deck) (program_of p)
-    → OnlyReads (source_of data_line77 deck) o → OnlyRefuses (source_of data_line77 deck) o → IsReadAs (Run77 options) deck (program_of p)
-read_as options deck o p within e reads only_reads only_refuses = record {
-  reads = record { within = within; source = reads };
-  only = λ q other. ok_only (source_of data_line77 deck) o p e only_reads q other.source;
-  accepted = λ r. not_refused deck r within (ok_not_refused (source_of data_line77 deck) o p e only_refuses);
-}
+read_by : (c : Command) (deck : List ℕ) (p : Program) → ReadsDeck77 deck p → ((q : Program) → ReadsDeck77 deck q → q ≡ p) → ((r : Refusal) → RefusedDeck77 deck r → ⊥)
+    → IsReadAs c deck p
+read_by Vectorise deck p reads only accepted = record { reads = reads; only = only; accepted = accepted }
+read_by (Run77 options) deck p reads only accepted = record { reads = reads; only = only; accepted = accepted }
+
+read_as : (c : Command) (deck : List ℕ) (o : Result Program77 Refused) (p : Program77) → length deck ≤ 2 ^ 24 → o ≡ Ok p → Reads77 fortran77 (source_of data_line77 deck) (program_of p)
+    → OnlyReads (source_of data_line77 deck) o → OnlyRefuses (source_of data_line77 deck) o → IsReadAs c deck (program_of p)
+read_as c deck o p within e reads only_reads only_refuses =
+    read_by c deck (program_of p) (record { within = within; source = reads })
+    (λ q other. ok_only (source_of data_line77 deck) o p e only_reads q other.source)
+    (λ r. not_refused deck r within (ok_not_refused (source_of data_line77 deck) o p e only_refuses))
 
 refused_unread : (source : List ℕ) (o : Result Program77 Refused) (r : Refusal) → o ≡ Err (refused.Refusal r) → OnlyReads source o → (p : Program) → Reads77 fortran77 source p → ⊥
 refused_unread source o r e only p reads = by (subst (OnlyReads source) e only p reads)
@@ -69,18 +75,20 @@ refused_unread source o r e only p reads = by (subst (OnlyReads source) e only p
     by (inl none) = none
     by (inr other) = cc
 
+refused_by : (c : Command) (deck : List ℕ) (r : Refusal) → RefusedDeck77 deck r → ((p : Program) → ReadsDeck77 deck p → ⊥) → IsRefusedFor c r deck
+refused_by Vectorise deck r refused unread = record { refused = refused; unread = unread }
+refused_by (Run77 options) deck r refused unread = record { refused = refused; unread = unread }
+
 -- a deck whose source isn't read
-pub run_unread : (options : Options) (deck source : List ℕ) (w : Writing) (o : Result Program77 Refused) (x : Refused) → length deck ≤ 2 ^ 24 → source ≡ source_of data_line77 deck → o ≡ Err x
+pub not_worked : (c : Command) (deck source : List ℕ) (w : Writing) (o : Result Program77 Refused) (x : Refused) → length deck ≤ 2 ^ 24 → source ≡ source_of data_line77 deck → o ≡ Err x
     → ((r : Refusal) → o ≡ Err (refused.Refusal r) → Refused77 fortran77 source r) → OnlyReads source o → w.now ≡ w.before
-    → Works (Run77 options) deck w (outcome_for x)
-run_unread options deck source w o (refused.Refusal r) within at e refuses only same = (
-  record {
-    refused = OfSource r within (subst (λ (t : List ℕ). Refused77 fortran77 t r) at (refuses r e));
-    unread = λ p reads. refused_unread source o r e only p (subst (λ (t : List ℕ). Reads77 fortran77 t p) (sym at) reads.source);
-  },
+    → Works c deck w (outcome_for x)
+not_worked c deck source w o (refused.Refusal r) within at e refuses only same = (
+  refused_by c deck r (OfSource r within (subst (λ (t : List ℕ). Refused77 fortran77 t r) at (refuses r e)))
+      (λ p reads. refused_unread source o r e only p (subst (λ (t : List ℕ). Reads77 fortran77 t p) (sym at) reads.source)),
   same,
 )
-run_unread options deck source w o refused.Memory within at e refuses only same = same
+not_worked c deck source w o refused.Memory within at e refuses only same = same
 
 -- its machine is run
 abbrev RunComes : Options → List ℕ → Program → Writing → Outcome → Type 0
@@ -106,32 +114,40 @@ pub run_comes : (options : Options) (deck source input : List ℕ) (w : Writing)
     → RunComes options input (program_of p) w x → Works (Run77 options) deck w x
 run_comes options deck source input w o p x within at after e reads only_reads only_refuses h =
     run_works options deck input w (program_of p) x
-    (read_as options deck o p within e (subst (λ (t : List ℕ). Reads77 fortran77 t (program_of p)) at reads) (subst (λ (t : List ℕ). OnlyReads t o) at only_reads) (subst (λ (t : List ℕ). OnlyRefuses t o) at only_refuses))
+    (read_as (Run77 options) deck o p within e (subst (λ (t : List ℕ). Reads77 fortran77 t (program_of p)) at reads) (subst (λ (t : List ℕ). OnlyReads t o) at only_reads) (subst (λ (t : List ℕ). OnlyRefuses t o) at only_refuses))
     after h
 
--- ---- a deck of the first path
+-- ---- its translation is written
 
-pub translation_unread : (deck : List ℕ) (w : Writing) (x : Refused) → IsRefusedAs deck x → w.now ≡ w.before → Works Vectorise deck w (outcome_for x)
-translation_unread deck w (refused.Refusal r) h same = (record { refused = h; unread = λ p reads. none_is_both deck p r reads h }, same)
-translation_unread deck w refused.Memory h same = same
+-- the deck was read as the program, whose translation is this text
+pub record IsTranslated (deck text : List ℕ) : Type 0 where
+  pub program : Program
+  pub read : IsReadAs Vectorise deck program
+  pub text_is : text ≡ translation_text deck program
 
-translation_read : (deck text : List ℕ) (h : IsPrintingOf deck text) → IsReadAs Vectorise deck h.program
-translation_read deck text h = record {
-  reads = h.reads;
-  only = λ q other. each_is_read_once deck q h.program other h.reads;
-  accepted = λ r refused. none_is_both deck h.program r h.reads refused;
+pub translated : (deck source : List ℕ) (input : Option (List ℕ)) (o : Result Program77 Refused) (p : Program77) (text items : List ℕ) → length deck ≤ 2 ^ 24
+    → source ≡ source_of data_line77 deck → bytes_in input ≡ input_of data_line77 deck → is_there input ≡ has_data data_line77 deck
+    → o ≡ Ok p → Reads77 fortran77 source (program_of p) → OnlyReads source o → OnlyRefuses source o
+    → items ≡ printed90 (program_of p) [] ++ data_part (is_there input) (bytes_in input) → text ≡ items
+    → IsTranslated deck text
+translated deck source input o p text items within at after there e reads only_reads only_refuses printed same = record {
+  program = program_of p;
+  read = read_as Vectorise deck o p within e (subst (λ (t : List ℕ). Reads77 fortran77 t (program_of p)) at reads) (subst (λ (t : List ℕ). OnlyReads t o) at only_reads)
+      (subst (λ (t : List ℕ). OnlyRefuses t o) at only_refuses);
+  text_is = same ∙ printed
+      ∙ ap₂ (λ b t. printed90 (program_of p) [] ++ data_part b t) there after;
 }
 
-pub translation_given : (deck items text : List ℕ) (w : Writing) → IsPrintingOf deck items → text ≡ items → Gives w.before text w.now → ComesFor Vectorise deck w Done
-translation_given deck items text w h e given = record {
+pub translation_given : (deck text : List ℕ) (w : Writing) → IsTranslated deck text → Gives w.before text w.now → ComesFor Vectorise deck w Done
+translation_given deck text w h given = record {
   program = h.program;
-  read = translation_read deck items h;
-  comes = record { ending_is = refl; all = subst (λ (t : List ℕ). Gives w.before t w.now) (e ∙ h.text_is) given };
+  read = h.read;
+  comes = record { ending_is = refl; all = subst (λ (t : List ℕ). Gives w.before t w.now) h.text_is given };
 }
 
-pub translation_cut : (deck items text : List ℕ) (w : Writing) → IsPrintingOf deck items → text ≡ items → Rose w.faults_before w.faults_now → GivesPart w.before text w.now → ComesFor Vectorise deck w WriteFault
-translation_cut deck items text w h e fault given = record {
+pub translation_cut : (deck text : List ℕ) (w : Writing) → IsTranslated deck text → Rose w.faults_before w.faults_now → GivesPart w.before text w.now → ComesFor Vectorise deck w WriteFault
+translation_cut deck text w h fault given = record {
   program = h.program;
-  read = translation_read deck items h;
-  comes = record { fault = fault; front = subst (λ (t : List ℕ). GivesPart w.before t w.now) (e ∙ h.text_is) given };
+  read = h.read;
+  comes = record { fault = fault; front = subst (λ (t : List ℕ). GivesPart w.before t w.now) h.text_is given };
 }

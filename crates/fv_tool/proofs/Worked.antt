@@ -8,8 +8,8 @@ use Rattle.fv_io.specs.Streams.{Takes, TakesMoreThan}
 use Rattle.fv_io.proofs.Told.{takes_all, had_more_than}
 use Rattle.fv_meaning.specs.declared.End.{End}
 use Rattle.fv_meaning.specs.declared.End.TheVariants as end
-use Rattle.first_path_grammar.specs.Reading77.{refusal}
-use Rattle.first_path_grammar.specs.Reading77.RefusedThin.{TooLong as thin_too_long}
+use Rattle.fv_tree.specs.Causes.{refusal_at}
+use Rattle.fv_tree.specs.declared.refusals.Cause.TheVariants as cause
 use Rattle.fv_command.specs.declared.commands.Command.{Command}
 use Rattle.fv_command.specs.declared.commands.Command.TheVariants.{Vectorise, Run77}
 use Rattle.fv_report.specs.declared.outcome.Outcome.{Outcome}
@@ -81,15 +81,15 @@ worked_for k asked left now w d d' items bytes o e same t at h =
 
 -- ---- the bytes weren't read
 
-too_long : (k : Command) (deck : List ℕ) → 2 ^ 24 < length deck → IsRefused k deck (refusal 1 0)
-too_long Vectorise deck h = thin_too_long (inl h)
+too_long : (k : Command) (deck : List ℕ) → 2 ^ 24 < length deck → IsRefused k deck (refusal_at cause.TooLong 0)
+too_long Vectorise deck h = deck_too_long h
 too_long (Run77 options) deck h = deck_too_long h
 
 not_read : (k : Command) (deck : List ℕ) → 2 ^ 24 < length deck → (p : Program) → Reads k deck p → ⊥
-not_read Vectorise deck h p reads = omega (arith, h, reads.within.deck)
+not_read Vectorise deck h p reads = omega (arith, h, reads.within)
 not_read (Run77 options) deck h p reads = omega (arith, h, reads.within)
 
-passed : (k : Command) (left now : Option (List ℕ)) → TakesMoreThan (2 ^ 24) left now → IfSome left (IsRefusedFor k (refusal 1 0))
+passed : (k : Command) (left now : Option (List ℕ)) → TakesMoreThan (2 ^ 24) left now → IfSome left (IsRefusedFor k (refusal_at cause.TooLong 0))
 passed k None now h = tt
 passed k (Some deck) now h =
     let long : 2 ^ 24 < length deck = had_more_than deck (2 ^ 24) now h in

@@ -3,13 +3,14 @@ use Rattle.std.specs.Prelude.{◌^◌, ◌<◌, ◌≤◌, ℕ, List, length}
 use Rattle.fv_tree.specs.declared.refusals.Refusal.{Refusal}
 use Rattle.fv_tree.specs.Plain.{Program}
 use Rattle.fv_meaning.specs.Deck.{source_of, data_line77}
-use Rattle.first_path_grammar.specs.Reading77.{ReadsThin, RefusedThin, refusal}
+use Rattle.fv_tree.specs.Causes.{refusal_at}
+use Rattle.fv_tree.specs.declared.refusals.Cause.TheVariants.{TooLong as TooLong'}
 use Rattle.f77_grammar.specs.Reading77.{Reads77, Refused77}
 use Rattle.fv_command.specs.declared.commands.Command.{Command}
 use Rattle.fv_command.specs.declared.commands.Command.TheVariants.{Vectorise, Run77}
 use Rattle.fv_meaning.specs.Dialect.{fortran77}
 
--- ---- a deck of the whole language
+-- ---- a deck of FORTRAN 77
 
 -- within the limit of bytes, and its source is read as the program
 pub record ReadsDeck77 (deck : List ℕ) (p : Program) : Type 0 where
@@ -18,16 +19,16 @@ pub record ReadsDeck77 (deck : List ℕ) (p : Program) : Type 0 where
 
 -- It is too long, or else its source is refused.
 pub data RefusedDeck77 (deck : List ℕ) : Refusal → Type 0 where
-  TooLong : 2 ^ 24 < length deck → RefusedDeck77 deck (refusal 1 0)
+  TooLong : 2 ^ 24 < length deck → RefusedDeck77 deck (refusal_at TooLong' 0)
   OfSource : (r : Refusal) → length deck ≤ 2 ^ 24 → Refused77 fortran77 (source_of data_line77 deck) r
       → RefusedDeck77 deck r
 
--- ---- by command: so far `vectorise` reads less than `run77`
+-- ---- by command
 
 abbrev pub Reads : Command → List ℕ → Program → Type 0
-Reads Vectorise = ReadsThin
+Reads Vectorise = ReadsDeck77
 Reads (Run77 options) = ReadsDeck77
 
 abbrev pub IsRefused : Command → List ℕ → Refusal → Type 0
-IsRefused Vectorise = RefusedThin
+IsRefused Vectorise = RefusedDeck77
 IsRefused (Run77 options) = RefusedDeck77

@@ -3,7 +3,6 @@ use Rattle.std.specs.Prelude.{ℕ, ◌^◌, ◌≡◌, ◌⊎◌, List, Option, 
 use Rattle.std.specs.Io.KnownBytes.{IsAtEnd}
 use Rattle.fv_tree.specs.declared.refusals.Refusal.{Refusal}
 use Rattle.fv_tree.specs.Plain.{Program}
-use Rattle.first_path_grammar.specs.Printing90.{printed90}
 use Rattle.fv_meaning.specs.Sequential.{ending}
 use Rattle.fv_meaning.specs.declared.End.{End}
 use Rattle.fv_meaning.specs.declared.End.TheVariants as end
@@ -16,6 +15,7 @@ use Rattle.fv_report.specs.declared.outcome.Outcome.TheVariants.{Done, Usage, Re
 use Rattle.fv_report.specs.declared.outcome.Outcome.TheVariants.{WriteFault, OutOfMemory}
 use Rattle.fv_tool.specs.Decks.{Reads, IsRefused}
 use Rattle.fv_tool.specs.Running.{run_of, run_text}
+use Rattle.fv_tool.specs.Translation.{translation_text}
 
 -- the bytes left in the deck, the bytes in the sink, and both counts of faults, before the call and after it
 pub record Call : Type 0 where
@@ -48,7 +48,7 @@ ending_of Vectorise deck p = Some end.Done
 ending_of (Run77 options) deck p = ending (run_of options deck p)
 
 abbrev pub text_of : Command → List ℕ → Program → List ℕ
-text_of Vectorise deck p = printed90 p
+text_of Vectorise deck p = translation_text deck p
 text_of (Run77 options) deck p = run_text options p (run_of options deck p)
 
 -- the deck is read as this program and as no other, and it isn't refused

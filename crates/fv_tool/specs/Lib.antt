@@ -4,5 +4,6 @@ pub mod Decks
 pub mod Endings
 pub mod Headline
 pub mod Running
+pub mod Translation
 pub mod Works
 pub mod Unread

@@ -2,7 +2,8 @@
 use Rattle.std.specs.Prelude.{ℕ, ◌^◌, ◌≡◌, List, Option}
 use Rattle.fv_tree.specs.declared.refusals.Refused.{Refused as Unreadable}
 use Rattle.fv_tree.specs.declared.refusals.Refused.TheVariants as refused
-use Rattle.first_path_grammar.specs.Reading77.{refusal}
+use Rattle.fv_tree.specs.Causes.{refusal_at}
+use Rattle.fv_tree.specs.declared.refusals.Cause.TheVariants.{TooLong}
 use Rattle.fv_io.specs.Causes.{Rose}
 use Rattle.fv_io.specs.Streams.{TakesMoreThan}
 use Rattle.fv_report.specs.declared.outcome.Outcome.{Outcome}
@@ -11,7 +12,7 @@ use Rattle.fv_report.specs.declared.outcome.Outcome.TheVariants.{Refused, ReadFa
 -- The source failed, the deck is too long, or there was no memory.
 abbrev pub IsUnread : Option (List ℕ) → Option (List ℕ) → ℕ → ℕ → Outcome → Type 0
 IsUnread before now faults_before faults_now ReadFault = Rose faults_before faults_now
-IsUnread before now faults_before faults_now (Refused r) = (r ≡ refusal 1 0) × TakesMoreThan (2 ^ 24) before now
+IsUnread before now faults_before faults_now (Refused r) = (r ≡ refusal_at TooLong 0) × TakesMoreThan (2 ^ 24) before now
 IsUnread before now faults_before faults_now OutOfMemory = Unit {0}
 IsUnread before now faults_before faults_now _ = ⊥
 

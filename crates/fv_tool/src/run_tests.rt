@@ -1061,16 +1061,3 @@ fn the_greatest_deck_runs(rt: HostRuntime) -> Result<(), Fail> {
     );
     Ok(())
 }
-
-#[test]
-fn no_deck_with_input_is_vectorised(rt: HostRuntime) -> Result<(), Fail> {
-    let deck = text_of(rt.alloc(), &["      PRINT *, 7", "      END", "*DATA", "1"])?;
-    let done = call(rt.alloc(), &["vectorise"], deck, &WILLING)?;
-    assert_eq!(rt; done.status, 2);
-    assert_eq!(rt; done.out.len(), 0);
-    assert_eq!(rt;
-        done.notes.as_slice(),
-        b"fvec: line 3: refused 60 NotBuilt\n".as_slice()
-    );
-    Ok(())
-}

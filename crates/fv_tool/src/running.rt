@@ -13,7 +13,7 @@ ghost use Rattle.fv_tool.specs.Works.{Comes, Works};
 use crate::deck::unread;
 use f77_read::read77;
 use fv_command::Options;
-use fv_deck::source_and_input;
+use fv_deck::{DataLine, bytes_of, source_and_input};
 use fv_io::Sink;
 use fv_meaning::End;
 use fv_report::Outcome;
@@ -62,13 +62,13 @@ pub(crate) fn run<K: Sink>(alloc: Global, options: Options, deck: &[u8], out: &m
     }) result }
     ensures later { K.faults out.old ≤ K.faults out.new }
 {
-    let (source, input) = source_and_input(deck);
+    let (source, input) = source_and_input(deck, DataLine::Fortran77);
     let program = match read77(alloc, source) {
         Ok(program) => program,
         Err(refused) => return unread(refused),
     };
     match Machine77::new(alloc, program) {
-        Ok(mut machine) => run_machine(&mut machine, options, input, out),
+        Ok(mut machine) => run_machine(&mut machine, options, bytes_of(input), out),
         Err(_) => Outcome::OutOfMemory,
     }
 }

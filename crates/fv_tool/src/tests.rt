@@ -39,18 +39,48 @@ const ROWS: &[Row] = &[
         deck: b"      X = 1\n      END\n",
         status: 2,
         out: b"",
-        notes: b"fvec: line 1: refused 60 NotBuilt\n",
+        notes: b"fvec: line 1: refused 14 RealName\n",
     },
     Row {
         deck: b"      I = 170141183460469231731687303715884105728\n      END\n",
         status: 2,
         out: b"",
-        notes: b"fvec: line 1: refused 60 NotBuilt\n",
+        notes: b"fvec: line 1: refused 8 WideLiteral\n",
     },
     Row {
         deck: b"      I = 170141183460469231731687303715884105727\n      END\n",
         status: 0,
         out: b"PROGRAM FV_PROGRAM\nIMPLICIT NONE\nINTEGER :: I\nI = 170141183460469231731687303715884105727\nEND\n",
+        notes: b"",
+    },
+    Row {
+        deck: b"      INTEGER DO10I\n      DO10I=1\n      DO 10 I = 1, 3\n   10 DO10I = DO10I + I\n      PRINT *, DO10I, I\n      END\n",
+        status: 0,
+        out: b"PROGRAM FV_PROGRAM\nIMPLICIT NONE\nINTEGER :: DO10I\nINTEGER :: I\nDO10I = 1\nDO I = 1, 3\nDO10I = DO10I + I\nEND DO\nPRINT *, DO10I, I\nEND\n",
+        notes: b"",
+    },
+    Row {
+        deck: b"      I = 2\n      J = -(I - 2) * 3\n      PRINT *, I + J\n      END\n",
+        status: 0,
+        out: b"PROGRAM FV_PROGRAM\nIMPLICIT NONE\nINTEGER :: I\nINTEGER :: J\nI = 2\nJ = -(I - 2) * 3\nPRINT *, I + J\nEND\n",
+        notes: b"",
+    },
+    Row {
+        deck: b"      INTEGER A(5)\n      A(3) = 7\n      DO 20 I = 1, 5\n      IF (A(I) .EQ. 7) GO TO 30\n   20 CONTINUE\n   30 PRINT *, I\n      END\n",
+        status: 0,
+        out: b"PROGRAM FV_PROGRAM\nIMPLICIT NONE\nINTEGER :: A(5)\nINTEGER :: I\nA(3) = 7\nDO I = 1, 5\nIF (A(I) == 7) THEN\nGO TO 30\nEND IF\nEND DO\n30 CONTINUE\nPRINT *, I\nEND\n",
+        notes: b"",
+    },
+    Row {
+        deck: b"      LOGICAL L\n      READ *, L, I\n      PRINT *, 'L =', L, -I / 2 ** 2, MOD(-7, 3)\n      END\n*DATA\n.TRUE., 9\n",
+        status: 0,
+        out: b"PROGRAM FV_PROGRAM\nIMPLICIT NONE\nINTEGER :: I\nLOGICAL :: L\nREAD *, L, I\nPRINT *, 'L =', L, -I / 2 ** 2, MOD(-7, 3)\nEND\n!DATA\n.TRUE., 9\n",
+        notes: b"",
+    },
+    Row {
+        deck: b"      INTEGER SUM, SPREAD(2)\n      MERGE = 3\n      SUM = SPREAD(1) + MERGE\n      END\n*DATA",
+        status: 0,
+        out: b"PROGRAM FV_PROGRAM\nIMPLICIT NONE\nINTEGER :: MERGE\nINTEGER :: SPREAD(2)\nINTEGER :: SUM\nMERGE = 3\nSUM = SPREAD(1) + MERGE\nEND\n!DATA\n",
         notes: b"",
     },
     Row {
@@ -239,7 +269,7 @@ fn the_greatest_decks_are_accepted(rt: HostRuntime) -> Result<(), Fail> {
     let done = vectorised(rt.alloc(), deck.as_slice(), &WILLING)?;
     assert_eq!(rt;
         done.notes.as_slice(),
-        b"fvec: line 1001: refused 60 NotBuilt\n".as_slice()
+        b"fvec: line 1001: refused 18 Limit NAMES\n".as_slice()
     );
 
     let mut deck = great_deck(rt.alloc(), 1)?;

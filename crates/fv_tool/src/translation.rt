@@ -1,15 +1,54 @@
 //! `vectorise`: the translation of a deck.
-ghost use Rattle.std.specs.Prelude.{◌^◌, ◌≤◌, length};
+ghost use Rattle.std.specs.Prelude.{◌≡◌, ◌^◌, ◌≤◌, ◌++◌, [], length, IfOk, OnOk};
+ghost use Rattle.std.specs.Option.{option_copied};
+ghost use Rattle.fv_tree.specs.View.{program_of};
+ghost use Rattle.f90_grammar.specs.PrintedText.{printed90};
 ghost use Rattle.fv_command.specs.declared.commands.Command.TheVariants.{Vectorise};
+ghost use Rattle.fv_deck.specs.Parts.{is_there, bytes_in};
+ghost use Rattle.fv_tool.specs.Translation.{data_part};
 ghost use Rattle.fv_tool.specs.Works.{Works};
 
 use crate::deck::unread;
-use first_path::translate;
+use f77_read::read77;
+use f90_print::print90;
+use fv_deck::{DataLine, source_and_input};
 use fv_io::{Sink, write_all};
 use fv_report::Outcome;
+use fv_tree::{Memory, Program77, Program90, Seq};
 use std::alloc::Global;
 
-/// Translates the deck, which has at most 2^24 bytes. Nothing is written before it is known that the deck is read.
+// Adds the data line and the input, where there is one.
+fn push_data(text: &mut Vec<u8>, input: Option<&[u8]>) -> Result<(), Memory>
+    ensures { OnOk result
+        (text.new.items ≡ text.old.items ++ data_part (is_there (option_copied input.entry)) (bytes_in (option_copied input.entry))) }
+{
+    match input {
+        None => Ok(()),
+        Some(input) => {
+            text.extend_from_slice(b"!DATA\n".as_slice())?;
+            text.extend_from_slice(input)?;
+            Ok(())
+        }
+    }
+}
+
+// The text of the program, and the input behind it.
+fn translation(
+    alloc: Global,
+    program: Program77,
+    input: Option<&[u8]>,
+) -> Result<Vec<u8>, Memory>
+    ensures { IfOk result (λ text. text.items ≡ printed90 (program_of program) []
+        ++ data_part (is_there (option_copied input.entry)) (bytes_in (option_copied input.entry))) }
+{
+    let Program77 { name, decls, body } = program;
+    let program = Program90 { name, decls, body };
+    let mut text = print90(alloc, &program, &Seq::new(alloc))?;
+    push_data(&mut text, input)?;
+    Ok(text)
+}
+
+/// Translates the deck, which has at most 2^24 bytes. Nothing is written before the whole text is there.
 pub(crate) fn vectorise<K: Sink>(alloc: Global, deck: &[u8], out: &mut K) -> Outcome
     requires { length deck.now ≤ 2 ^ 24 }
     ensures works { Works Vectorise deck.now (record {
@@ -20,9 +59,13 @@ pub(crate) fn vectorise<K: Sink>(alloc: Global, deck: &[u8], out: &mut K) -> Out
     }) result }
     ensures later { K.faults out.old ≤ K.faults out.new }
 {
-    let text = match translate(alloc, deck) {
-        Ok(text) => text,
+    let (source, input) = source_and_input(deck, DataLine::Fortran77);
+    let program = match read77(alloc, source) {
+        Ok(program) => program,
         Err(refused) => return unread(refused),
+    };
+    let Ok(text) = translation(alloc, program, input) else {
+        return Outcome::OutOfMemory;
     };
     match write_all(out, text.as_slice()) {
         Ok(()) => Outcome::Done,

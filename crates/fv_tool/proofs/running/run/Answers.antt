@@ -1,18 +1,18 @@
-use Rattle.std.proofs.Common.{sym, subst, refl}
+use Rattle.std.proofs.Common.{sym, ◌∙◌, subst, refl}
 use Rattle.fv_report.specs.declared.outcome.Outcome.{Outcome}
 use Rattle.fv_command.specs.declared.commands.Command.TheVariants.{Run77}
 use Rattle.fv_tool.specs.Works.{Works}
-use Rattle.fv_tool.proofs.Readings.{run_unread, run_comes}
+use Rattle.fv_tool.proofs.Readings.{not_worked, run_comes}
 use Rattle.fv_tool.proofs.running.run.Goals as goal
 
 pub returns-in-Err-clause-works : goal.returns-in-Err-clause-works
 returns-in-Err-clause-works g c =
     subst (λ (o : Outcome). Works (Run77 c.args.options) c.args.deck.now (record { before = g.K.Sink.taken c.args.out.now; now = g.K.Sink.taken c.args.out.now; faults_before = g.K.Sink.faults c.args.out.now; faults_now = g.K.Sink.faults c.args.out.now }) o)
     (sym c.unread.ensures)
-    (run_unread c.args.options c.args.deck.now c.source_and_input.result.0.now _ c.read77.result c.in-Err.refused c.requires c.source_and_input.ensures.source c.in-Err.is c.read77.ensures.refused c.read77.ensures.only_read refl)
+    (not_worked (Run77 c.args.options) c.args.deck.now c.source_and_input.result.0.now _ c.read77.result c.in-Err.refused c.requires c.source_and_input.ensures.source c.in-Err.is c.read77.ensures.refused c.read77.ensures.only_read refl)
 
 pub returns-in-Ok-new-clause-works : goal.returns-in-Ok-new-clause-works
 returns-in-Ok-new-clause-works g c =
     run_comes c.args.options c.args.deck.now c.source_and_input.result.0.now c.source_and_input.result.1.now _ c.read77.result c.in-Ok.program c.run_machine.result c.requires
-    c.source_and_input.ensures.source c.source_and_input.ensures.input c.in-Ok.is c.in-Ok.ensures.ok c.read77.ensures.only_read c.read77.ensures.only_refused
+    c.source_and_input.ensures.source (c.bytes_of.ensures ∙ c.source_and_input.ensures.input) c.in-Ok.is c.in-Ok.ensures.ok c.read77.ensures.only_read c.read77.ensures.only_refused
     (c.run_machine.ensures.comes _ c.in-Ok.ensures.program c.in-Ok-new.ensures.machine)

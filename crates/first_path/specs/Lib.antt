@@ -1,4 +1,0 @@
-pub mod Forms
-pub mod Progress
-pub mod Shape
-pub mod Translation

@@ -1,9 +1,0 @@
-pub mod ByteOrder
-pub mod ThinBack
-pub mod ThinForms
-pub mod ThinFound
-pub mod ThinLaws
-pub mod ThinLines
-pub mod ThinReads
-pub mod ThinTests
-pub mod ThinText

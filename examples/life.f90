@@ -1,0 +1,34 @@
+PROGRAM LIFE
+IMPLICIT NONE
+INTEGER :: CELL(0:7, 0:7)
+INTEGER :: I
+INTEGER :: IGEN
+INTEGER :: J
+INTEGER :: NEAR(6, 6)
+CELL(1, 2) = 1
+CELL(2, 3) = 1
+DO J = 1, 3
+CELL(3, J) = 1
+END DO
+DO IGEN = 0, 4
+PRINT *, 'GENERATION', IGEN
+DO I = 1, 6
+PRINT *, (CELL(I, J), J = 1, 6)
+END DO
+DO J = 1, 6
+DO I = 1, 6
+NEAR(I, J) = CELL(I - 1, J - 1) + CELL(I - 1, J) + CELL(I - 1, J + 1) + CELL(I, J - 1) + CELL(I, J + 1) + CELL(I + 1, J - 1) + CEL&
+&L(I + 1, J) + CELL(I + 1, J + 1)
+END DO
+END DO
+DO J = 1, 6
+DO I = 1, 6
+IF (NEAR(I, J) == 3) THEN
+CELL(I, J) = 1
+ELSE IF (NEAR(I, J) /= 2) THEN
+CELL(I, J) = 0
+END IF
+END DO
+END DO
+END DO
+END
