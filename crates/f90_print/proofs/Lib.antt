@@ -3,4 +3,5 @@ pub mod ExpressionTexts
 pub mod ItemTexts
 pub mod LineTexts
 pub mod Lists
+pub mod ProgramTexts
 pub mod StatementTexts

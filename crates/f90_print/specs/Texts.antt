@@ -1,6 +1,6 @@
 -- Texts of the parts of expressions and of statements.
 use Rattle.std.specs.Prelude.{ℕ, List, [], ◌∷◌, ◌++◌, flat_map}
-use Rattle.fv_tree.specs.Plain.{Expression, Subscript, Statement, Block}
+use Rattle.fv_tree.specs.Plain.{Expression, Subscript, Statement, Block, Declaration}
 use Rattle.fv_tree.specs.View.{ConstructorLoop, Tested}
 use Rattle.fv_tree.specs.declared.ops.Op.{Op}
 use Rattle.fv_tree.specs.declared.ops.Op.TheVariants.{Not}
@@ -9,7 +9,7 @@ use Rattle.f90_grammar.specs.Printing.{phrase_of, part_of, fit}
 use Rattle.f90_grammar.specs.PrintedText.{phrase_text, part_text, comma, expression_text, separated_text}
 use Rattle.f90_grammar.specs.PrintedText.{in_parentheses, loop_text, with_line_feed, lines_of_text, form_text}
 use Rattle.f90_grammar.specs.PrintedText.{printed_lines}
-use Rattle.f90_grammar.specs.PrintedForms.{Printed, printed_statement, printed_block, printed_else}
+use Rattle.f90_grammar.specs.PrintedForms.{Printed, printed_declaration, printed_statement, printed_block, printed_else}
 use Rattle.f90_grammar.specs.Forms.{Form, ElseIf}
 
 abbrev pub subscript_text : Subscript → List ℕ
@@ -41,7 +41,8 @@ loop_end_text l = comma ++ (loop_text l.variable (expression_text l.first) (expr
 abbrev pub lines_text : List (List ℕ) → List ℕ
 lines_text lines = flat_map with_line_feed lines
 
-abbrev pub statement_lines : List ℕ → List ℕ
+-- the lines of a statement's text, each with its end
+unfoldable pub statement_lines : List ℕ → List ℕ
 statement_lines t = lines_text (lines_of_text t)
 
 abbrev pub form_lines : Form → List ℕ
@@ -62,3 +63,6 @@ else_text b = flat_map printed_text (printed_else b)
 -- of an arm that isn't the first one
 abbrev pub arm_text : Tested → List ℕ
 arm_text t = form_lines (ElseIf (phrase_of t.test)) ++ block_text t.body
+
+abbrev pub declaration_lines : Declaration → List ℕ
+declaration_lines d = form_lines (printed_declaration d).form

@@ -2,9 +2,9 @@
 ghost use Rattle.std.specs.Prelude.{◌≡◌, ◌++◌, OnOk, map, flat_map, replicate};
 ghost use Rattle.fv_tree.specs.View.{bounds_of, extent_of, declaration_of};
 ghost use Rattle.f90_grammar.specs.Forms.{Deferred, keyword_of};
-ghost use Rattle.f90_grammar.specs.PrintedForms.{bound, dimension, dimensions_of, is_allocatable, printed_declaration};
+ghost use Rattle.f90_grammar.specs.PrintedForms.{bound, dimension, dimensions_of, is_allocatable};
 ghost use Rattle.f90_grammar.specs.PrintedText.{bound_text, dimension_text, dimensions_text, attribute_text};
-ghost use Rattle.f90_print.specs.Texts.{printed_text, form_lines};
+ghost use Rattle.f90_print.specs.Texts.{declaration_lines};
 
 use crate::lines::push_lines;
 use crate::texts::push;
@@ -90,7 +90,7 @@ fn push_attribute(text: &mut Vec<u8>, extent: &Extent) -> Result<(), Memory>
 }
 
 fn print_declaration(out: &mut Vec<u8>, line: &mut Vec<u8>, decl: &Decl) -> Result<(), Memory>
-    ensures { OnOk result (out.new.items ≡ out.old.items ++ printed_text (printed_declaration (declaration_of decl.now))) }
+    ensures { OnOk result (out.new.items ≡ out.old.items ++ declaration_lines (declaration_of decl.now)) }
 {
     line.clear();
     push(line, keyword(decl.kind).as_bytes())?;
@@ -103,7 +103,7 @@ fn print_declaration(out: &mut Vec<u8>, line: &mut Vec<u8>, decl: &Decl) -> Resu
 
 pub(crate) fn print_declarations(out: &mut Vec<u8>, line: &mut Vec<u8>, decls: &[Decl]) -> Result<(), Memory>
     ensures { OnOk result
-        (out.new.items ≡ out.old.items ++ flat_map printed_text (map printed_declaration (map declaration_of decls.now))) }
+        (out.new.items ≡ out.old.items ++ flat_map declaration_lines (map declaration_of decls.now)) }
 {
     for decl in decls {
         print_declaration(out, line, decl)?;

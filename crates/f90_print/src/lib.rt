@@ -10,4 +10,7 @@ mod printer;
 mod statements;
 mod texts;
 
+#[cfg(test)]
+mod tests;
+
 pub use printer::{print_assign, print_expr, print90};

@@ -15,9 +15,10 @@ pub(crate) fn push_lines(out: &mut Vec<u8>, text: &[u8]) -> Result<(), Memory>
 {
     let mut rest = text;
     'pieces: while rest.len() > PIECE_LENGTH {
-        push(out, &rest[..PIECE_LENGTH])?;
+        let (piece, others) = rest.split_at(PIECE_LENGTH);
+        push(out, piece)?;
         push(out, b"&\n&")?;
-        rest = &rest[PIECE_LENGTH..];
+        rest = others;
     }
     push(out, rest)?;
     push(out, b"\n")

@@ -50,6 +50,7 @@ fn print_title(out: &mut Vec<u8>, line: &mut Vec<u8>, name: Option<Name>) -> Res
 ///
 /// A statement of more than 130 characters is continued. What no text of Fortran 90 has, such as an IF without an arm or
 /// a literal below 0, is printed as the definition says, though not so that it could be read again.
+#[tactic(auto, using(crate::proofs::ProgramTexts::program_texts))]
 pub fn print90(alloc: Global, p: &Program90, notes: &Seq<Line>) -> Result<Vec<u8>, Memory>
     ensures { IfOk result (λ text. text.items ≡ printed90 (program_of_90 p.now) (map text_of notes.now)) }
 {
@@ -75,7 +76,7 @@ pub fn print_expr(alloc: Global, e: &Expr) -> Result<Seq<u8>, Memory>
 }
 
 fn push_guard(text: &mut Vec<u8>, guard: Option<&Expr>) -> Result<(), Memory>
-    ensures { OnOk result (text.new.items ≡ text.old.items ++ guard_text (guard_of (option_copied guard))) }
+    ensures { OnOk result (text.new.items ≡ text.old.items ++ guard_text (guard_of (option_copied guard.entry))) }
 {
     match guard {
         None => Ok(()),
@@ -91,7 +92,7 @@ fn push_guard(text: &mut Vec<u8>, guard: Option<&Expr>) -> Result<(), Memory>
 /// it, where there is one.
 pub fn print_assign(alloc: Global, guard: Option<&Expr>, left: &Ref, right: &Expr) -> Result<Seq<u8>, Memory>
     ensures { IfOk result (λ text. text
-        ≡ guarded_assignment_text (guard_of (option_copied guard)) (reference_of left.now) (expression_of right.now)) }
+        ≡ guarded_assignment_text (guard_of (option_copied guard.entry)) (reference_of left.now) (expression_of right.now)) }
 {
     let mut text = Vec::new(alloc);
     push_guard(&mut text, guard)?;
