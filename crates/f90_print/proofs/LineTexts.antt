@@ -23,4 +23,3 @@ long-lines t h =
     ∙ ap (λ u. ((take 130 t ++ 38 ∷ []) ++ 10 ∷ []) ++ u) (continued-lines ((length rest - 1) / 130) rest)
     ∙ joined (take 130 t) (statement_lines rest)
 
-pub ruleset line_texts = (short-lines, long-lines)

@@ -35,5 +35,3 @@ pub program-text : (p : Program90) (notes : List (List ℕ))
 program-text p notes =
     flat_map-append with_line_feed notes (flat_map printed_lines (printed_program (program_of_90 p)))
     ∙ ap (λ t. lines_text notes ++ t) (printed-each (printed_program (program_of_90 p)) ∙ body-text (program_of_90 p))
-
-pub ruleset program_texts = (program-text)

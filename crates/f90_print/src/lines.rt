@@ -9,7 +9,6 @@ use fv_tree::Memory;
 const PIECE_LENGTH: usize = 130;
 
 // The lines of a statement's text, each with its end.
-#[tactic(auto, using(crate::proofs::LineTexts::line_texts))]
 pub(crate) fn push_lines(out: &mut Vec<u8>, text: &[u8]) -> Result<(), Memory>
     ensures { OnOk result (out.new.items ≡ out.old.items ++ statement_lines text.now) }
 {

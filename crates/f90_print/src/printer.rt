@@ -50,7 +50,6 @@ fn print_title(out: &mut Vec<u8>, line: &mut Vec<u8>, name: Option<Name>) -> Res
 ///
 /// A statement of more than 130 characters is continued. What no text of Fortran 90 has, such as an IF without an arm or
 /// a literal below 0, is printed as the definition says, though not so that it could be read again.
-#[tactic(auto, using(crate::proofs::ProgramTexts::program_texts))]
 pub fn print90(alloc: Global, p: &Program90, notes: &Seq<Line>) -> Result<Vec<u8>, Memory>
     ensures { IfOk result (λ text. text.items ≡ printed90 (program_of_90 p.now) (map text_of notes.now)) }
 {

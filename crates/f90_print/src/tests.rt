@@ -462,7 +462,7 @@ END
 // The lines of a PRINT with a constant of so many characters, whose text has eleven more.
 fn long(alloc: Global, characters: usize) -> Result<Vec<u8>, Fail> {
     let mut text = Vec::new(alloc);
-    for _written in 0..characters {
+    for _ in 0..characters {
         text.push(b'X')?;
     }
     let items = seq(alloc, [Item::Text(Seq::from_vec(text))])?;
@@ -485,5 +485,24 @@ fn continues_long_statements(rt: HostRuntime) -> Result<(), Fail> {
     }
     let text = long(alloc, 120)?;
     assert!(rt; text.as_slice().ends_with(b"XX&\n&'\nEND\n"));
+    Ok(())
+}
+
+#[test]
+fn prints_deep_trees(rt: HostRuntime) -> Result<(), Fail> {
+    let alloc = rt.alloc();
+    let mut deep = read(alloc, "I")?;
+    for _ in 0..1000 {
+        deep = Expr::Un(Op::Neg, Box::new(alloc, deep)?);
+    }
+    let text = print_expr(alloc, &deep)?;
+    assert_eq!(rt; text.len(), 2999);
+    let mut stmts = Seq::new(alloc);
+    for _ in 0..300 {
+        let outer = counted("I", 1, 3, 1, stmts)?;
+        stmts = seq(alloc, [outer])?;
+    }
+    let text = printed(alloc, &program(Seq::new(alloc), stmts), "")?;
+    assert_eq!(rt; text.len(), 37 + 300 * 19);
     Ok(())
 }
