@@ -1,0 +1,13 @@
+-- What the printer is given, as the definitions of printing take it.
+use Rattle.std.specs.Prelude.{ℕ, List, Option, Some, None}
+use Rattle.fv_tree.specs.declared.exprs.Expr.{Expr}
+use Rattle.fv_tree.specs.declared.programs.Line.{Line}
+use Rattle.fv_tree.specs.Plain.{Expression}
+use Rattle.fv_tree.specs.View.{expression_of}
+
+abbrev pub text_of : Line → List ℕ
+text_of l = l.text
+
+abbrev pub guard_of : Option Expr → Option Expression
+guard_of None = None
+guard_of (Some e) = Some (expression_of e)
