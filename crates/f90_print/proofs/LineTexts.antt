@@ -22,4 +22,3 @@ long-lines t h =
     ap (λ n. lines_text (pieces n t)) z
     ∙ ap (λ u. ((take 130 t ++ 38 ∷ []) ++ 10 ∷ []) ++ u) (continued-lines ((length rest - 1) / 130) rest)
     ∙ joined (take 130 t) (statement_lines rest)
-

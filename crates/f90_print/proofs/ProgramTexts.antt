@@ -35,3 +35,8 @@ pub program-text : (p : Program90) (notes : List (List ℕ))
 program-text p notes =
     flat_map-append with_line_feed notes (flat_map printed_lines (printed_program (program_of_90 p)))
     ∙ ap (λ t. lines_text notes ++ t) (printed-each (printed_program (program_of_90 p)) ∙ body-text (program_of_90 p))
+
+-- texts that are written one after another
+pub joined : (m0 m1 m2 m3 m4 m5 m6 a b c d e f : List ℕ) → m0 ≡ [] → m1 ≡ m0 ++ a → m2 ≡ m1 ++ b → m3 ≡ m2 ++ c → m4 ≡ m3 ++ d → m5 ≡ m4 ++ e
+    → m6 ≡ m5 ++ f → m6 ≡ a ++ (b ++ (c ++ (d ++ (e ++ f))))
+joined m0 m1 m2 m3 m4 m5 m6 a b c d e f e0 e1 e2 e3 e4 e5 e6 = rw (e6, e5, e4, e3, e2, e1, e0) (simp append_assoc)

@@ -62,7 +62,7 @@ fn push_deferred(text: &mut Vec<u8>, count: usize) -> Result<(), Memory>
         return Ok(());
     }
     push(text, b"(:")?;
-    for written in 0..count - 1 {
+    for _written in 0..count - 1 {
         push(text, b", :")?;
     }
     push(text, b")")
@@ -101,7 +101,11 @@ fn print_declaration(out: &mut Vec<u8>, line: &mut Vec<u8>, decl: &Decl) -> Resu
     push_lines(out, line.as_slice())
 }
 
-pub(crate) fn print_declarations(out: &mut Vec<u8>, line: &mut Vec<u8>, decls: &[Decl]) -> Result<(), Memory>
+pub(crate) fn print_declarations(
+    out: &mut Vec<u8>,
+    line: &mut Vec<u8>,
+    decls: &[Decl],
+) -> Result<(), Memory>
     ensures { OnOk result
         (out.new.items ≡ out.old.items ++ flat_map declaration_lines (map declaration_of decls.now)) }
 {

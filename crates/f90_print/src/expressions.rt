@@ -257,7 +257,7 @@ fn print_first_value(text: &mut Vec<u8>, list: &[Expr]) -> Result<(), Memory>
 fn push_openings(text: &mut Vec<u8>, count: usize) -> Result<(), Memory>
     ensures { OnOk result (text.new.items ≡ text.old.items ++ replicate count 40) }
 {
-    for written in 0..count {
+    for _written in 0..count {
         push(text, b"(")?;
     }
     Ok(())

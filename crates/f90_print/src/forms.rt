@@ -44,7 +44,12 @@ pub(crate) fn print_mark(out: &mut Vec<u8>, mark: Option<Mark>) -> Result<(), Me
     }
 }
 
-pub(crate) fn print_assignment(out: &mut Vec<u8>, line: &mut Vec<u8>, left: &Ref, right: &Expr) -> Result<(), Memory>
+pub(crate) fn print_assignment(
+    out: &mut Vec<u8>,
+    line: &mut Vec<u8>,
+    left: &Ref,
+    right: &Expr,
+) -> Result<(), Memory>
     ensures { OnOk result (out.new.items ≡ out.old.items
         ++ form_lines (forms.Assign (reference_phrase (reference_of left.now)) (phrase_of (expression_of right.now)))) }
 {
@@ -71,7 +76,11 @@ pub(crate) fn print_where(
     push_lines(out, line.as_slice())
 }
 
-pub(crate) fn print_if_then(out: &mut Vec<u8>, line: &mut Vec<u8>, test: &Expr) -> Result<(), Memory>
+pub(crate) fn print_if_then(
+    out: &mut Vec<u8>,
+    line: &mut Vec<u8>,
+    test: &Expr,
+) -> Result<(), Memory>
     ensures { OnOk result (out.new.items ≡ out.old.items ++ form_lines (forms.If (phrase_of (expression_of test.now)))) }
 {
     line.clear();
@@ -81,7 +90,11 @@ pub(crate) fn print_if_then(out: &mut Vec<u8>, line: &mut Vec<u8>, test: &Expr) 
     push_lines(out, line.as_slice())
 }
 
-pub(crate) fn print_else_if(out: &mut Vec<u8>, line: &mut Vec<u8>, test: &Expr) -> Result<(), Memory>
+pub(crate) fn print_else_if(
+    out: &mut Vec<u8>,
+    line: &mut Vec<u8>,
+    test: &Expr,
+) -> Result<(), Memory>
     ensures { OnOk result
         (out.new.items ≡ out.old.items ++ form_lines (forms.ElseIf (phrase_of (expression_of test.now)))) }
 {
@@ -109,7 +122,11 @@ pub(crate) fn print_do(
     push_lines(out, line.as_slice())
 }
 
-pub(crate) fn print_continue(out: &mut Vec<u8>, line: &mut Vec<u8>, label: u32) -> Result<(), Memory>
+pub(crate) fn print_continue(
+    out: &mut Vec<u8>,
+    line: &mut Vec<u8>,
+    label: u32,
+) -> Result<(), Memory>
     ensures { OnOk result (out.new.items ≡ out.old.items ++ form_lines (forms.Continue (decimal label))) }
 {
     line.clear();
@@ -139,7 +156,11 @@ pub(crate) fn print_read(out: &mut Vec<u8>, line: &mut Vec<u8>, list: &[Item]) -
     push_lines(out, line.as_slice())
 }
 
-pub(crate) fn print_print(out: &mut Vec<u8>, line: &mut Vec<u8>, list: &[Item]) -> Result<(), Memory>
+pub(crate) fn print_print(
+    out: &mut Vec<u8>,
+    line: &mut Vec<u8>,
+    list: &[Item],
+) -> Result<(), Memory>
     ensures { OnOk result (out.new.items ≡ out.old.items ++ form_lines (print_form (items (map item_of list.now)))) }
 {
     if list.is_empty() {
@@ -186,7 +207,11 @@ pub(crate) fn print_allocate(
     push_lines(out, line.as_slice())
 }
 
-pub(crate) fn print_deallocate(out: &mut Vec<u8>, line: &mut Vec<u8>, name: Name) -> Result<(), Memory>
+pub(crate) fn print_deallocate(
+    out: &mut Vec<u8>,
+    line: &mut Vec<u8>,
+    name: Name,
+) -> Result<(), Memory>
     ensures { OnOk result (out.new.items ≡ out.old.items ++ form_lines (forms.Deallocate name)) }
 {
     line.clear();

@@ -51,7 +51,13 @@ fn push_step(text: &mut Vec<u8>, step: &Expr) -> Result<(), Memory>
 }
 
 // A loop's variable and its bounds.
-pub(crate) fn push_bounds(text: &mut Vec<u8>, var: Name, first: &Expr, last: &Expr, step: &Expr) -> Result<(), Memory>
+pub(crate) fn push_bounds(
+    text: &mut Vec<u8>,
+    var: Name,
+    first: &Expr,
+    last: &Expr,
+    step: &Expr,
+) -> Result<(), Memory>
     ensures { OnOk result (text.new.items ≡ text.old.items ++ bounds_text var (phrase_of (expression_of first.now))
         (phrase_of (expression_of last.now)) (step_phrase (expression_of step.now))) }
 {

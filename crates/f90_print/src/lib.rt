@@ -8,9 +8,8 @@ mod items;
 mod lines;
 mod printer;
 mod statements;
-mod texts;
-
 #[cfg(test)]
 mod tests;
+mod texts;
 
 pub use printer::{print_assign, print_expr, print90};

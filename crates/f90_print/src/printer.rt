@@ -89,7 +89,12 @@ fn push_guard(text: &mut Vec<u8>, guard: Option<&Expr>) -> Result<(), Memory>
 
 /// The text of one assignment (ISO/IEC 1539:1991, section 7.5.1), with the condition under which it is performed before
 /// it, where there is one.
-pub fn print_assign(alloc: Global, guard: Option<&Expr>, left: &Ref, right: &Expr) -> Result<Seq<u8>, Memory>
+pub fn print_assign(
+    alloc: Global,
+    guard: Option<&Expr>,
+    left: &Ref,
+    right: &Expr,
+) -> Result<Seq<u8>, Memory>
     ensures { IfOk result (λ text. text
         ≡ guarded_assignment_text (guard_of (option_copied guard.entry)) (reference_of left.now) (expression_of right.now)) }
 {

@@ -17,7 +17,10 @@ fn print_statement(out: &mut Vec<u8>, line: &mut Vec<u8>, statement: &Stmt) -> R
 {
     match statement {
         Stmt::Assign {
-            mark, left, right, ..
+            mark,
+            left,
+            right,
+            ..
         } => {
             print_mark(out, *mark)?;
             print_assignment(out, line, left, right)
@@ -68,7 +71,11 @@ fn print_statement(out: &mut Vec<u8>, line: &mut Vec<u8>, statement: &Stmt) -> R
 
 #[cycle(stmt)]
 #[tactic(auto, using(crate::proofs::StatementTexts::statement_texts))]
-pub(crate) fn print_block(out: &mut Vec<u8>, line: &mut Vec<u8>, block: &Block) -> Result<(), Memory>
+pub(crate) fn print_block(
+    out: &mut Vec<u8>,
+    line: &mut Vec<u8>,
+    block: &Block,
+) -> Result<(), Memory>
     ensures { OnOk result (out.new.items ≡ out.old.items ++ block_text (block_of block.now)) }
 {
     for statement in block.stmts.as_slice() {

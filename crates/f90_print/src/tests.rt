@@ -76,12 +76,18 @@ fn sets_parentheses_by_levels(rt: HostRuntime) -> Result<(), Fail> {
         ("A neg B +", "-A + B"),
         ("A B neg +", "A + (-B)"),
         ("I 1 + J 2 * >", "I + 1 > J * 2"),
-        ("I 1 + J 2 * > not L not .AND. L .OR.", ".NOT. I + 1 > J * 2 .AND. .NOT. L .OR. L"),
+        (
+            "I 1 + J 2 * > not L not .AND. L .OR.",
+            ".NOT. I + 1 > J * 2 .AND. .NOT. L .OR. L",
+        ),
         ("L not not", ".NOT. (.NOT. L)"),
         ("L M .AND. not", ".NOT. (L .AND. M)"),
         ("L M N .AND. .AND.", "L .AND. (M .AND. N)"),
         ("L M .EQV. N L .EQV. .NEQV.", "L .EQV. M .NEQV. (N .EQV. L)"),
-        ("170141183460469231731687303715884105727 I /=", "170141183460469231731687303715884105727 /= I"),
+        (
+            "170141183460469231731687303715884105727 I /=",
+            "170141183460469231731687303715884105727 /= I",
+        ),
     ] {
         let text = print_expr(alloc, &read(alloc, tree)?)?;
         assert_eq!(rt; text.as_slice(), want.as_bytes(), "{tree}");
@@ -136,7 +142,10 @@ fn indices(alloc: Global) -> Result<Expr, Fail> {
 // RESHAPE((/ ((I * J, I = 1, 2), J = 1, 3) /), (/ 2, 3 /))
 fn reshaped(alloc: Global) -> Result<Expr, Fail> {
     let value = read(alloc, "I J *")?;
-    let values = Expr::List(seq(alloc, [value])?, seq(alloc, [turn("I", 2)?, turn("J", 3)?])?);
+    let values = Expr::List(
+        seq(alloc, [value])?,
+        seq(alloc, [turn("I", 2)?, turn("J", 3)?])?,
+    );
     let extents = seq(alloc, [Expr::Int(2), Expr::Int(3)])?;
     Ok(Expr::Reshape(Box::new(alloc, values)?, extents))
 }
@@ -153,17 +162,37 @@ fn calls(alloc: Global) -> Result<Expr, Fail> {
 fn prints_arrays(rt: HostRuntime) -> Result<(), Fail> {
     let alloc = rt.alloc();
     for (tree, want) in [
-        (spread(alloc)?, "TRANSPOSE(B(1:2, 3)) + SPREAD(C(1:3), 2, 2)"),
-        (indices(alloc)?, "-3 * (/ (FV_LOOP_1, FV_LOOP_1 = 1, 4) /) + 13"),
-        (reshaped(alloc)?, "RESHAPE((/ ((I * J, I = 1, 2), J = 1, 3) /), (/ 2, 3 /))"),
+        (
+            spread(alloc)?,
+            "TRANSPOSE(B(1:2, 3)) + SPREAD(C(1:3), 2, 2)",
+        ),
+        (
+            indices(alloc)?,
+            "-3 * (/ (FV_LOOP_1, FV_LOOP_1 = 1, 4) /) + 13",
+        ),
+        (
+            reshaped(alloc)?,
+            "RESHAPE((/ ((I * J, I = 1, 2), J = 1, 3) /), (/ 2, 3 /))",
+        ),
         (calls(alloc)?, "MAX(I, SUM(A(1:7:3))) - MOD(I, 3)"),
-        (Expr::List(seq(alloc, [Expr::Int(4), Expr::Truth(false)])?, Seq::new(alloc)), "(/ 4, .FALSE. /)"),
+        (
+            Expr::List(
+                seq(alloc, [Expr::Int(4), Expr::Truth(false)])?,
+                Seq::new(alloc),
+            ),
+            "(/ 4, .FALSE. /)",
+        ),
     ] {
         let text = print_expr(alloc, &tree)?;
         assert_eq!(rt; text.as_slice(), want.as_bytes());
     }
     let guard = read(alloc, "I 5 <")?;
-    let text = print_assign(alloc, Some(&guard), &whole(alloc, "J")?, &read(alloc, "J neg")?)?;
+    let text = print_assign(
+        alloc,
+        Some(&guard),
+        &whole(alloc, "J")?,
+        &read(alloc, "J neg")?,
+    )?;
     assert_eq!(rt; text.as_slice(), b"IF (I < 5) J = -J".as_slice());
     let text = print_assign(alloc, None, &whole(alloc, "J")?, &Expr::Int(7))?;
     assert_eq!(rt; text.as_slice(), b"J = 7".as_slice());
@@ -282,7 +311,13 @@ fn search(alloc: Global) -> Result<Program90, Fail> {
     ];
     let found = Expr::Item(element(alloc, "A", [read(alloc, "I")?])?);
     let test = binary(alloc, Op::Eq, found, Expr::Int(7))?;
-    let jump = seq(alloc, [Stmt::Go { line: 1, number: 30 }])?;
+    let jump = seq(
+        alloc,
+        [Stmt::Go {
+            line: 1,
+            number: 30,
+        }],
+    )?;
     let body = [branch(seq(alloc, [arm(test, jump)])?, Seq::new(alloc))];
     let stmts = [
         Stmt::Assign {
@@ -311,7 +346,11 @@ fn printed(alloc: Global, p: &Program90, note: &str) -> Result<Vec<u8>, Fail> {
 fn prints_programs(rt: HostRuntime) -> Result<(), Fail> {
     let alloc = rt.alloc();
     for (p, note, want) in [
-        (seven(alloc)?, "", "PROGRAM FV_PROGRAM\nIMPLICIT NONE\nPRINT *, 7\nEND\n"),
+        (
+            seven(alloc)?,
+            "",
+            "PROGRAM FV_PROGRAM\nIMPLICIT NONE\nPRINT *, 7\nEND\n",
+        ),
         (
             sum(alloc)?,
             "",
@@ -335,12 +374,24 @@ IF (A(I) == 7) THEN\nGO TO 30\nEND IF\nEND DO\n30 CONTINUE\nPRINT *, I\nEND\n",
 fn lists(alloc: Global) -> Result<[Stmt; 4], Fail> {
     let two = Item::One(Expr::Item(element(alloc, "A", [read(alloc, "I")?, Expr::Int(2)])?));
     let one = Item::One(Expr::Item(element(alloc, "B", [read(alloc, "J")?])?));
-    let inner = Item::Turns(seq(alloc, [one])?, name("J")?, Expr::Int(1), Expr::Int(3), Expr::Int(2));
+    let inner = Item::Turns(
+        seq(alloc, [one])?,
+        name("J")?,
+        Expr::Int(1),
+        Expr::Int(3),
+        Expr::Int(2),
+    );
     let within = seq(alloc, [two, constant(alloc, "X")?, inner])?;
     let outer = Item::Turns(within, name("I")?, Expr::Int(0), Expr::Int(4), Expr::Int(1));
     let out = seq(alloc, [constant(alloc, "IT'S")?, outer, value(alloc, "I")?])?;
     let read = Item::One(Expr::Item(element(alloc, "A", [read(alloc, "I")?, Expr::Int(1)])?));
-    let turns = Item::Turns(seq(alloc, [read])?, name("I")?, Expr::Int(0), Expr::Int(9), Expr::Int(1));
+    let turns = Item::Turns(
+        seq(alloc, [read])?,
+        name("I")?,
+        Expr::Int(0),
+        Expr::Int(9),
+        Expr::Int(1),
+    );
     Ok([
         Stmt::Read {
             line: 1,
@@ -358,8 +409,14 @@ fn lists(alloc: Global) -> Result<[Stmt; 4], Fail> {
 // A block IF with all its parts, and a loop that counts down.
 fn blocks(alloc: Global) -> Result<[Stmt; 2], Fail> {
     let arms = [
-        arm(read(alloc, "I 1 ==")?, seq(alloc, [assign(alloc, "I", "2")?])?),
-        arm(read(alloc, "I 3 <")?, seq(alloc, [assign(alloc, "I", "3")?])?),
+        arm(
+            read(alloc, "I 1 ==")?,
+            seq(alloc, [assign(alloc, "I", "2")?])?,
+        ),
+        arm(
+            read(alloc, "I 3 <")?,
+            seq(alloc, [assign(alloc, "I", "3")?])?,
+        ),
     ];
     let chosen = branch(seq(alloc, arms)?, seq(alloc, [Stmt::Stop { line: 1 }])?);
     Ok([chosen, counted("I", 10, 1, 3, Seq::new(alloc))?])
@@ -428,7 +485,9 @@ fn prints_statements(rt: HostRuntime) -> Result<(), Fail> {
     let mut p = program(decls(alloc)?, body);
     p.name = Some(name("MASKS")?);
     let text = printed(alloc, &p, "")?;
-    assert_eq!(rt; text.as_slice(), b"PROGRAM MASKS
+    assert_eq!(rt;
+        text.as_slice(),
+        b"PROGRAM MASKS
 IMPLICIT NONE
 INTEGER :: A(0:9, 5)
 INTEGER :: B(-3:-1)
@@ -455,7 +514,9 @@ FV_MASK_1 = B /= 0
 WHERE (FV_MASK_1(1:5)) A = C / B
 DEALLOCATE (FV_MASK_1)
 END
-".as_slice());
+"
+            .as_slice()
+    );
     Ok(())
 }
 
@@ -466,7 +527,11 @@ fn long(alloc: Global, characters: usize) -> Result<Vec<u8>, Fail> {
         text.push(b'X')?;
     }
     let items = seq(alloc, [Item::Text(Seq::from_vec(text))])?;
-    printed(alloc, &program(Seq::new(alloc), seq(alloc, [print(items)])?), "")
+    printed(
+        alloc,
+        &program(Seq::new(alloc), seq(alloc, [print(items)])?),
+        "",
+    )
 }
 
 #[test]

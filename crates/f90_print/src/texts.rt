@@ -33,5 +33,9 @@ pub(crate) fn push_literal(text: &mut Vec<u8>, number: i128) -> Result<(), Memor
 pub(crate) fn push_truth(text: &mut Vec<u8>, truth: bool) -> Result<(), Memory>
     ensures { OnOk result (text.new.items ≡ text.old.items ++ truth_text truth) }
 {
-    if truth { push(text, b".TRUE.") } else { push(text, b".FALSE.") }
+    if truth {
+        push(text, b".TRUE.")
+    } else {
+        push(text, b".FALSE.")
+    }
 }

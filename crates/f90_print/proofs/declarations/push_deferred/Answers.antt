@@ -4,7 +4,7 @@ use Rattle.f90_print.proofs.DeclarationTexts.{colons, colons-more}
 use Rattle.f90_print.proofs.declarations.push_deferred.Goals as goal
 
 pub loop-written-preserved : goal.loop-written-preserved
-loop-written-preserved c = let e = colons-more c.loop-written.written in grind (arith, common_steps)
+loop-written-preserved c = let e = colons-more c.loop-written._written in grind (arith, common_steps)
 
 pub returns : goal.returns
 returns c =

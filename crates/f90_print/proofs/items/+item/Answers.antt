@@ -9,8 +9,8 @@ use Rattle.f90_print.proofs.items.+item.Goals as goal
 pub print_item-returns-in_ok-push_bounds-in-Turns : goal.print_item-returns-in_ok-push_bounds-in-Turns
 print_item-returns-in_ok-push_bounds-in-Turns t c =
     let e =
-        ap (λ x. item_text (item_phrase (item_of x))) c.in-Turns.is
-        ∙ turns-text c.in-Turns.list c.in-Turns.var c.in-Turns.first c.in-Turns.last c.in-Turns.step in
+    ap (λ x. item_text (item_phrase (item_of x))) c.in-Turns.is
+    ∙ turns-text c.in-Turns.list c.in-Turns.var c.in-Turns.first c.in-Turns.last c.in-Turns.step in
     grind (arith, common_steps)
 
 pub print_items-returns : goal.print_items-returns

@@ -31,28 +31,28 @@ print_statement-returns-in_default t c =
 pub print_statement-returns-in_ok-print_mark-in-Assign : goal.print_statement-returns-in_ok-print_mark-in-Assign
 print_statement-returns-in_ok-print_mark-in-Assign t c =
     let e =
-        ap (λ x. statement_text (statement_of x)) c.in-Assign.is
-        ∙ texts.assign-text c.in-Assign.line c.in-Assign.mark c.in-Assign.left c.in-Assign.right in
+    ap (λ x. statement_text (statement_of x)) c.in-Assign.is
+    ∙ texts.assign-text c.in-Assign.line c.in-Assign.mark c.in-Assign.left c.in-Assign.right in
     grind (arith, common_steps)
 
 pub print_statement-returns-in_ok-print_mark-in-Masked : goal.print_statement-returns-in_ok-print_mark-in-Masked
 print_statement-returns-in_ok-print_mark-in-Masked t c =
     let e =
-        ap (λ x. statement_text (statement_of x)) c.in-Masked.is
-        ∙ texts.where-text c.in-Masked.line c.in-Masked.mark c.in-Masked.mask c.in-Masked.left c.in-Masked.right in
+    ap (λ x. statement_text (statement_of x)) c.in-Masked.is
+    ∙ texts.where-text c.in-Masked.line c.in-Masked.mark c.in-Masked.mask c.in-Masked.left c.in-Masked.right in
     grind (arith, common_steps)
 
 pub print_statement-returns-in_ok-print_else-in-If : goal.print_statement-returns-in_ok-print_else-in-If
 print_statement-returns-in_ok-print_else-in-If t c =
     let there : c.in-Some.first.now ∷ c.in-Some.rest.now ≡ c.in-If.arms = search rules in
     let e =
-        ap (λ x. statement_text (statement_of x)) c.in-If.is
-        ∙ texts.if-text c.in-If.line c.in-Some.first.now c.in-Some.rest.now c.in-If.arms c.in-If.other there in
+    ap (λ x. statement_text (statement_of x)) c.in-If.is
+    ∙ texts.if-text c.in-If.line c.in-Some.first.now c.in-Some.rest.now c.in-If.arms c.in-If.other there in
     grind (arith, common_steps)
 
 pub print_statement-returns-in_ok-print_block-in-Do : goal.print_statement-returns-in_ok-print_block-in-Do
 print_statement-returns-in_ok-print_block-in-Do t c =
     let e =
-        ap (λ x. statement_text (statement_of x)) c.in-Do.is
-        ∙ texts.do-text c.in-Do.line c.in-Do.var c.in-Do.first c.in-Do.last c.in-Do.step c.in-Do.body in
+    ap (λ x. statement_text (statement_of x)) c.in-Do.is
+    ∙ texts.do-text c.in-Do.line c.in-Do.var c.in-Do.first c.in-Do.last c.in-Do.step c.in-Do.body in
     grind (arith, common_steps)
