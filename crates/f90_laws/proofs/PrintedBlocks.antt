@@ -21,12 +21,9 @@ use Rattle.f90_grammar.specs.Reading.{function_by}
 use Rattle.f90_laws.proofs.PrintedBlocksItems.{EachReadsBack, reference_back, scalars_back, step_back, output_back, input_back}
 use Rattle.f90_laws.proofs.PrintedBlocksPlaced.{ArePlaced, divide, ReadBlock, ReadStatement, ReadArms, simple_back, if_back, arm_back, else_back, do_back, behind}
 use Rattle.f90_laws.proofs.PrintedBlocksPlaced.ArePlaced.{none, next}
+use Rattle.f90_laws.proofs.Spelling.{all_append}
 
 -- ---- labels
-
-all_both : (P : ℕ → Type 0) (xs ys : List ℕ) → AllByRecursion P xs → AllByRecursion P ys → AllByRecursion P (xs ++ ys)
-all_both P [] ys h k = k
-all_both P (x ∷ xs) ys h k = (h.0, all_both P xs ys h.1 k)
 
 all_left : (P : ℕ → Type 0) (xs ys : List ℕ) → AllByRecursion P (xs ++ ys) → AllByRecursion P xs
 all_left P [] ys h = tt
@@ -142,7 +139,7 @@ module _ (ds : List Declaration) (back : EachReadsBack ds) (is_target : ℕ → 
     block_back tree.no_statements w h a t _ none = record { block = tree.no_statements; are = nothing; same = refl }
     block_back (tree.statement c cs) w h a t ps p =
         behind (function_by ds) is_target c cs
-        (λ qs q. statement_back c (before_labels (labels_of cs) w) h.0 (all_both IsLabel (labels_of cs) w.ahead (labels_good ds cs w h.1) a)
+        (λ qs q. statement_back c (before_labels (labels_of cs) w) h.0 (all_append IsLabel (labels_of cs) w.ahead (labels_good ds cs w h.1) a)
         (all_left IsTarget (all_labels_of c) (all_labels_in cs) t) qs q)
         (λ qs q. block_back cs w h.1 a (all_right IsTarget (all_labels_of c) (all_labels_in cs) t) qs q)
         (divide (printed_statement c) (printed_block cs) p)

@@ -1,15 +1,16 @@
 -- The text of a printed program is read back as that program.
 use Rattle.std.proofs.Common.{ℕ, List, [], ◌∷◌}
 use Rattle.std.specs.List.{AllByRecursion}
+use Rattle.std.specs.Str.Lines.{lines}
 use Rattle.fv_tree.specs.Plain.{Program}
 use Rattle.fv_meaning.specs.Profile90.{IsProgram90}
 use Rattle.f90_grammar.specs.PrintedForms.{Printed, printed_program}
 use Rattle.f90_grammar.specs.PrintedText.{IsNote, printed90}
 use Rattle.f90_laws.specs.Spelled.{IsSpelled}
-use Rattle.f90_laws.specs.ReadBack.{IsReadBack}
+use Rattle.f90_laws.specs.ReadBack.{IsReadBack, IsFreeLine}
 use Rattle.f90_laws.proofs.PrintedBlocksItems.{EachReadsBack}
 use Rattle.f90_laws.proofs.PrintedBlocksProgram.{program_back}
-use Rattle.f90_laws.proofs.PrintedLines.{IsReadable, text_read}
+use Rattle.f90_laws.proofs.PrintedLines.{IsReadable, text_read, lines_free}
 use Rattle.f90_laws.proofs.PrintedLinesEnds.{spelled_end}
 use Rattle.f90_laws.proofs.PrintedLinesTaken.{MarkSuits, program_suits}
 
@@ -32,3 +33,7 @@ text_back p notes h good spelled back =
       title = r.title;
       same = r.same;
     }
+
+pub text_lines_free : (p : Program) (notes : List (List ℕ)) → IsProgram90 p → AllByRecursion IsNote notes
+    → AllByRecursion (λ (s : Printed). IsSpelled s.form) (printed_program p) → AllByRecursion IsFreeLine (lines (printed90 p notes))
+text_lines_free p notes h good spelled = lines_free p notes good (each_readable (printed_program p) spelled (program_suits p h))

@@ -1,6 +1,7 @@
 -- The lines of a printed program are its statements, each with its mark.
 use Rattle.std.proofs.Common.{◌≡◌, refl, ap, ◌∙◌, sym, subst, ℕ, ◌+◌, ◌==◌, Bool, true, false, ◌||◌, not, IsTrue, Option, Some, None, IfSome, List, [], ◌∷◌, ◌++◌, length, map, flat_map, append_assoc, append-nil, ne_eqb}
 use Rattle.std.specs.List.{AllByRecursion}
+use Rattle.std.specs.Str.Lines.{lines}
 use Rattle.std.proofs.lemmas.Bool.{and_from, not_from_false}
 use Rattle.fv_tree.specs.Plain.{Program}
 use Rattle.fv_tree.specs.declared.stmts.Mark.{Mark}
@@ -17,9 +18,11 @@ use Rattle.f90_grammar.specs.Reading.{takes_mark, last_of, if_taken, left_over, 
 use Rattle.f90_laws.specs.Spelled.{IsSpelled}
 use Rattle.f90_laws.proofs.PrintedBlocksPlaced.{ArePlaced}
 use Rattle.f90_laws.proofs.PrintedBlocksPlaced.ArePlaced.{none, next}
-use Rattle.f90_laws.proofs.PrintedLinesText.{IsLine, lines_again}
+use Rattle.f90_laws.proofs.PrintedLinesText.{lines_again}
 use Rattle.f90_laws.proofs.PrintedLinesPieces.{ends_well, begins_well, IsText, first_block, text_blocks, text_pieces, text-written, text-characters, text-comments}
-use Rattle.f90_laws.proofs.PrintedLinesMarks.{printable_line, text_lines, marks_of, marks_are, mark_lines_are, marks_comments, notes_are, notes_comments, notes_lines}
+use Rattle.f90_laws.proofs.PrintedLinesMarks.{AreFree, inside_lines, text_free, marks_of, marks_are, mark_lines_free, marks_comments, notes_are, notes_comments, notes_free}
+use Rattle.f90_laws.specs.ReadBack.{IsFreeLine}
+use Rattle.f90_laws.proofs.Spelling.{all_append}
 
 -- a statement that can be read: it has its words, and its mark, if it has one, is one that it takes
 pub record IsReadable (s : Printed) : Type 0 where
@@ -101,17 +104,12 @@ all_placed n (s ∷ ss) h =
     one_more n (mark_lines s.mark) (marks_of s.mark) s (flat_map printed_lines ss) ss (marks_comments s.mark) (marks_are s.mark h.0.mark) (last-marks s.mark) h.0
     (all_placed (n + length (printed_lines s)) ss h.1)
 
-lines_of_both : (xs ys : List (List ℕ)) → AllByRecursion IsLine xs → AllByRecursion IsLine ys → AllByRecursion IsLine (xs ++ ys)
-lines_of_both [] ys a b = b
-lines_of_both (x ∷ xs) ys a b = (a.0, lines_of_both xs ys a.1 b)
-
-all_lines : (ss : List Printed) → AllByRecursion IsReadable ss → AllByRecursion IsLine (flat_map printed_lines ss)
-all_lines [] k = tt
-all_lines (s ∷ ss) k =
-    lines_of_both (mark_lines s.mark ++ lines_of_text (form_text s.form)) (flat_map printed_lines ss)
-    (lines_of_both (mark_lines s.mark) (lines_of_text (form_text s.form)) (mark_lines_are s.mark k.0.mark)
-    (text_lines (form_text s.form) (printable_line (form_text s.form) k.0.spelled.printable)))
-    (all_lines ss k.1)
+all_free : (ss : List Printed) → AllByRecursion IsReadable ss → AreFree (flat_map printed_lines ss)
+all_free [] k = tt
+all_free (s ∷ ss) k =
+    all_append IsFreeLine (mark_lines s.mark ++ lines_of_text (form_text s.form)) (flat_map printed_lines ss)
+    (all_append IsFreeLine (mark_lines s.mark) (lines_of_text (form_text s.form)) (mark_lines_free s.mark k.0.mark) (text_free (form_text s.form) k.0.spelled.printable))
+    (all_free ss k.1)
 
 -- ---- the lines of a program
 
@@ -129,6 +127,15 @@ module _ (p : Program) (notes : List (List ℕ)) (good : AllByRecursion IsNote n
       (all_placed (1 + length (notes ++ t)) behind_title h.1) in
       subst (λ (ls : List (List ℕ)). Placing 1 ls (printed_program p)) (append_assoc notes t (flat_map printed_lines behind_title)) r
 
+  program_free : AreFree (program_lines p notes)
+  program_free = all_append IsFreeLine notes (flat_map printed_lines (printed_program p)) (notes_free notes good) (all_free (printed_program p) h)
+
+  same_lines : lines (printed90 p notes) ≡ program_lines p notes
+  same_lines = lines_again (program_lines p notes) (inside_lines (program_lines p notes) program_free)
+
+  pub lines_free : AreFree (lines (printed90 p notes))
+  lines_free = subst AreFree (sym same_lines) program_free
+
   -- the text's statements are those that are printed, each on a line
   pub record ReadText : Type 0 where
     pub placed : List Placed
@@ -138,12 +145,11 @@ module _ (p : Program) (notes : List (List ℕ)) (good : AllByRecursion IsNote n
   pub text_read : ReadText
   text_read =
       let r = program_placed in
-      let e = lines_again (program_lines p notes) (lines_of_both notes (flat_map printed_lines (printed_program p)) (notes_lines notes good) (all_lines (printed_program p) h)) in
       record {
         placed = r.placed;
         of_text = record {
           statements = r.statements;
-          of_lines = subst (λ (ls : List (List ℕ)). AreStatements 1 ls r.statements) (sym e) r.are;
+          of_lines = subst (λ (ls : List (List ℕ)). AreStatements 1 ls r.statements) (sym same_lines) r.are;
           have_forms = r.have_forms;
         };
         places = r.places;

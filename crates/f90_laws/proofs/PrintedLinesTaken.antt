@@ -1,5 +1,5 @@
 -- A mark of a printed program stands before a statement that takes it.
-use Rattle.std.proofs.Common.{◌≡◌, refl, false, None, IfSome, List, [], ◌∷◌, ◌++◌, map}
+use Rattle.std.proofs.Common.{◌≡◌, refl, false, None, IfSome, List, [], ◌∷◌, map}
 use Rattle.std.specs.List.{AllByRecursion}
 use Rattle.fv_tree.specs.Plain as tree
 use Rattle.fv_tree.specs.Plain.{Statement, Arms, Block, Declaration, Program}
@@ -10,6 +10,7 @@ use Rattle.f90_grammar.specs.Forms as forms
 use Rattle.f90_grammar.specs.Forms.{Form}
 use Rattle.f90_grammar.specs.PrintedForms.{Printed, unmarked, printed_statement, printed_arms, printed_else, printed_block, printed_declaration, printed_program}
 use Rattle.f90_grammar.specs.Reading.{takes_mark}
+use Rattle.f90_laws.proofs.Spelling.{all_append}
 
 pub record MarkSuits (s : Printed) : Type 0 where
   pub is_mark : IfSome s.mark profile.IsMark
@@ -20,10 +21,6 @@ unmarked_suits f = record { is_mark = tt; taken = λ e. refl }
 
 abbrev EachSuits : List Printed → Type 0
 EachSuits ss = AllByRecursion MarkSuits ss
-
-each_of_both : (xs ys : List Printed) → EachSuits xs → EachSuits ys → EachSuits (xs ++ ys)
-each_of_both [] ys h k = k
-each_of_both (x ∷ xs) ys h k = (h.0, each_of_both xs ys h.1 k)
 
 end_suits : (f : Form) → EachSuits (unmarked f ∷ [])
 end_suits f = (unmarked_suits f, tt)
@@ -40,12 +37,12 @@ module _ (ds : List Declaration) where
     statement_suits (tree.If line tree.no_arms other) w h = tt
     statement_suits (tree.If line (tree.arm test body more) other) w h = (
       unmarked_suits _,
-      each_of_both (printed_block body) _ (block_suits body w h.2.1)
-          (each_of_both (printed_arms more) _ (arms_suit more w h.2.2)
-          (each_of_both (printed_else other) _ (else_suits other (block_suits other w h.3)) (end_suits forms.EndIf))),
+      all_append MarkSuits (printed_block body) _ (block_suits body w h.2.1)
+          (all_append MarkSuits (printed_arms more) _ (arms_suit more w h.2.2)
+          (all_append MarkSuits (printed_else other) _ (else_suits other (block_suits other w h.3)) (end_suits forms.EndIf))),
     )
     statement_suits (tree.Do line x a b c body) w h =
-        (unmarked_suits _, each_of_both (printed_block body) _ (block_suits body (within_loop x w) h.5) (end_suits forms.EndDo))
+        (unmarked_suits _, all_append MarkSuits (printed_block body) _ (block_suits body (within_loop x w) h.5) (end_suits forms.EndDo))
     statement_suits (tree.Label n) w h = end_suits _
     statement_suits (tree.GoTo line n) w h = end_suits _
     statement_suits (tree.Stop line) w h = end_suits _
@@ -57,12 +54,12 @@ module _ (ds : List Declaration) where
     arms_suit : (m : Arms) (w : Surroundings) → AreArms ds m w → EachSuits (printed_arms m)
     arms_suit tree.no_arms w h = tt
     arms_suit (tree.arm test body more) w h =
-        (unmarked_suits _, each_of_both (printed_block body) _ (block_suits body w h.1) (arms_suit more w h.2))
+        (unmarked_suits _, all_append MarkSuits (printed_block body) _ (block_suits body w h.1) (arms_suit more w h.2))
 
     block_suits : (b : Block) (w : Surroundings) → IsBlock ds b w → EachSuits (printed_block b)
     block_suits tree.no_statements w h = tt
     block_suits (tree.statement c cs) w h =
-        each_of_both (printed_statement c) _ (statement_suits c (before_labels (labels_of cs) w) h.0) (block_suits cs w h.1)
+        all_append MarkSuits (printed_statement c) _ (statement_suits c (before_labels (labels_of cs) w) h.0) (block_suits cs w h.1)
 
 declarations_suit : (ds : List Declaration) → EachSuits (map printed_declaration ds)
 declarations_suit [] = tt
@@ -73,7 +70,7 @@ program_suits p h = (
   unmarked_suits _,
   (
     unmarked_suits _,
-    each_of_both (map printed_declaration p.declarations) _ (declarations_suit p.declarations)
-        (each_of_both (printed_block p.body) _ (block_suits p.declarations p.body outermost h.statements) (end_suits forms.End)),
+    all_append MarkSuits (map printed_declaration p.declarations) _ (declarations_suit p.declarations)
+        (all_append MarkSuits (printed_block p.body) _ (block_suits p.declarations p.body outermost h.statements) (end_suits forms.End)),
   ),
 )

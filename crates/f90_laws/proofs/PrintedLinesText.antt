@@ -14,10 +14,6 @@ IsInside c = ((c == 10) ≡ false) × ((c == 13) ≡ false)
 abbrev pub IsLine : List ℕ → Type 0
 IsLine line = AllByRecursion IsInside line
 
-pub lines_both : (xs ys : List ℕ) → IsLine xs → IsLine ys → IsLine (xs ++ ys)
-lines_both [] ys h k = k
-lines_both (x ∷ xs) ys h k = (h.0, lines_both xs ys h.1 k)
-
 abbrev parts : List ℕ → List (List ℕ)
 parts text = slice_split (λ b. b == 10) text
 

@@ -1,6 +1,7 @@
 -- The text of a printed program is read back as the program, but for the numbers of its lines.
-use Rattle.std.specs.Prelude.{◌≡◌, Some, ℕ, List}
+use Rattle.std.specs.Prelude.{◌≡◌, ◌≤◌, Some, ℕ, List, length}
 use Rattle.std.specs.List.{AllByRecursion}
+use Rattle.std.specs.Str.Lines.{lines}
 use Rattle.fv_tree.specs.Plain.{Statement, Assignment, Where, If, Do, Label, GoTo, Stop, Read, Print, Allocate}
 use Rattle.fv_tree.specs.Plain.{Deallocate, Arms, no_arms, arm, Block, no_statements, statement, Program}
 use Rattle.fv_meaning.specs.Profile90.{IsProgram90}
@@ -55,3 +56,14 @@ pub record IsReadBack (p : Program) (text : List ℕ) : Type 0 where
 abbrev pub PrintedProgramIsReadBack : Type 0
 PrintedProgramIsReadBack = (p : Program) (notes : List (List ℕ)) → IsProgram90 p → AllByRecursion IsNote notes
     → IsReadBack p (printed90 p notes)
+
+-- ---- the lines of the text
+
+-- a line of free form (ISO/IEC 1539:1991, section 3.3.1)
+pub record IsFreeLine (line : List ℕ) : Type 0 where
+  pub within : length line ≤ 132
+  pub printable : AllByRecursion (λ c. (32 ≤ c) × (c ≤ 126)) line
+
+abbrev pub PrintedLinesAreFree : Type 0
+PrintedLinesAreFree = (p : Program) (notes : List (List ℕ)) → IsProgram90 p → AllByRecursion IsNote notes
+    → AllByRecursion IsFreeLine (lines (printed90 p notes))

@@ -5,4 +5,4 @@ mod laws;
 mod reading_back;
 
 pub use laws::printed_is_spelled;
-pub use reading_back::printed_program_is_read_back;
+pub use reading_back::{printed_lines_are_free, printed_program_is_read_back};
