@@ -14,7 +14,7 @@ use Rattle.f90_laws.proofs.PrintedLines.{IsReadable, text_read, lines_free}
 use Rattle.f90_laws.proofs.PrintedLinesEnds.{spelled_end}
 use Rattle.f90_laws.proofs.PrintedLinesTaken.{MarkSuits, program_suits}
 
-each_readable : (ss : List Printed) → AllByRecursion (λ (s : Printed). IsSpelled s.form) ss → AllByRecursion MarkSuits ss → AllByRecursion IsReadable ss
+pub each_readable : (ss : List Printed) → AllByRecursion (λ (s : Printed). IsSpelled s.form) ss → AllByRecursion MarkSuits ss → AllByRecursion IsReadable ss
 each_readable [] h k = tt
 each_readable (s ∷ ss) h k =
     (record { spelled = h.0; ends = spelled_end s.form h.0; mark = k.0.is_mark; taken = k.0.taken }, each_readable ss h.1 k.1)

@@ -130,7 +130,7 @@ module _ (p : Program) (notes : List (List ℕ)) (good : AllByRecursion IsNote n
   program_free : AreFree (program_lines p notes)
   program_free = all_append IsFreeLine notes (flat_map printed_lines (printed_program p)) (notes_free notes good) (all_free (printed_program p) h)
 
-  same_lines : lines (printed90 p notes) ≡ program_lines p notes
+  pub same_lines : lines (printed90 p notes) ≡ program_lines p notes
   same_lines = lines_again (program_lines p notes) (inside_lines (program_lines p notes) program_free)
 
   pub lines_free : AreFree (lines (printed90 p notes))

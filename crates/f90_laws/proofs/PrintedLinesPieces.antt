@@ -194,16 +194,14 @@ stands_alone c cs h b e =
 first_are : (n : ℕ) (t : List ℕ) → has_comment false t ≡ false → begins_well t ≡ true → ends_well t ≡ true → n * piece_length < length t
     → ArePieces (first_piece n t ∷ pieces_of (further_blocks n t))
 first_are n [] h b e l = let q : false ≡ true = b in absurd cc
-first_are zero (c ∷ cs) h b e l = (refl, (stands_alone c cs h b e, refl))
+first_are zero (c ∷ cs) h b e l = (stands_alone c cs h b e, refl)
 first_are (suc n) (c ∷ cs) h b e l =
     let r = cut_comment false piece_length (c ∷ cs) h in
     let k : suc n * 130 < length (c ∷ cs) = l in
     let m : piece_length < length (c ∷ cs) = omega arith in
-    let g : n * piece_length < length (drop piece_length (c ∷ cs)) = omega (arith, length-drop piece_length (c ∷ cs)) in (
-      refl,
-      go_on false (piece_of false (take piece_length (c ∷ cs)) true) (pieces_of (rest_blocks n (drop piece_length (c ∷ cs)))) (opens c (take 129 cs) r.0 b) refl
-          (rest_are (is_open_behind false (take piece_length (c ∷ cs))) n (drop piece_length (c ∷ cs)) r.1 (end_of_drop piece_length (c ∷ cs) m e) g),
-    )
+    let g : n * piece_length < length (drop piece_length (c ∷ cs)) = omega (arith, length-drop piece_length (c ∷ cs)) in
+    go_on false (piece_of false (take piece_length (c ∷ cs)) true) (pieces_of (rest_blocks n (drop piece_length (c ∷ cs)))) (opens c (take 129 cs) r.0 b) refl
+    (rest_are (is_open_behind false (take piece_length (c ∷ cs))) n (drop piece_length (c ∷ cs)) r.1 (end_of_drop piece_length (c ∷ cs) m e) g)
 
 enough : (n : ℕ) → 0 < n → ((n - 1) / piece_length) * piece_length < n
 enough n h = let d : ((n - 1) / 130) * 130 ≤ n - 1 = div-mul-le_self (n - 1) 130 in omega arith
