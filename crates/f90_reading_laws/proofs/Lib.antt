@@ -7,3 +7,6 @@ pub mod Sound
 pub mod Bodies
 pub mod Counts
 pub mod Targets
+pub mod FreeLines
+pub mod WordFacts
+pub mod FormFacts
