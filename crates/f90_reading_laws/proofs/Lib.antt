@@ -10,3 +10,6 @@ pub mod Targets
 pub mod FreeLines
 pub mod WordFacts
 pub mod FormFacts
+pub mod Tables
+pub mod PlaceFacts
+pub mod SurroundingFacts
