@@ -89,7 +89,7 @@ module _ (ds : List Declaration) where
 -- ---- each name is declared alike by two lists
 
 module _ (ds es : List Declaration) (alike : (x : List ℕ) → declared ds x ≡ declared es x) where
-  some : (P : Declaration → Type 0) (x : List ℕ) → IsSomeAnd (declared ds x) P → IsSomeAnd (declared es x) P
+  pub some : (P : Declaration → Type 0) (x : List ℕ) → IsSomeAnd (declared ds x) P → IsSomeAnd (declared es x) P
   some P x = subst (λ o. IsSomeAnd o P) (alike x)
 
   pub integer_scalar_too : (x : List ℕ) → IsIntegerScalar ds x → IsIntegerScalar es x

@@ -7,3 +7,9 @@ pub mod Sound
 pub mod Bodies
 pub mod Counts
 pub mod Targets
+pub mod FreeLines
+pub mod WordFacts
+pub mod FormFacts
+pub mod Tables
+pub mod PlaceFacts
+pub mod SurroundingFacts
