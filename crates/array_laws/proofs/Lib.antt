@@ -5,3 +5,4 @@ mod Sections
 mod Elements
 mod Stages
 mod Assignments
+mod Forms

@@ -1,3 +1,4 @@
 pub mod Instances
 pub mod Elements
 pub mod Assignments
+pub mod Forms

@@ -2,6 +2,7 @@
 ghost use Rattle.array_laws.specs.Assignments.{ArrayAssignmentInTurn, ArrayAssignmentStores, EffectsAreWrites};
 ghost use Rattle.array_laws.specs.Assignments.{ElementsInTurnAtOnce, WritesAreEffects};
 ghost use Rattle.array_laws.specs.Elements.{CellsByPosition, ElementComesFromCellsRead, ElementOfSection};
+ghost use Rattle.array_laws.specs.Forms.{ArrayFormIsInstances};
 ghost use Rattle.array_laws.specs.Instances.{ApartIsAtOnce, InTurnIsAtOnce, WritesInAnyOrder};
 
 /// Instances that store one after another store what they store all at once, where none reads a cell that an earlier
@@ -28,4 +29,10 @@ pub fn array_assignment_in_turn()
     ensures at_once { ArrayAssignmentInTurn }
     ensures in_turn { ElementsInTurnAtOnce }
     ensures run { ArrayAssignmentStores }
+{}
+
+/// An array assignment that stands for instances of a statement, none of which reads a cell that an earlier one has
+/// written, leaves the store that they leave one after another.
+pub fn array_form_is_instances()
+    ensures form { ArrayFormIsInstances }
 {}

@@ -3,4 +3,4 @@
 
 mod laws;
 
-pub use laws::{array_assignment_in_turn, array_elements, stores_in_turn};
+pub use laws::{array_assignment_in_turn, array_elements, array_form_is_instances, stores_in_turn};
