@@ -6,3 +6,5 @@ mod Elements
 mod Stages
 mod Assignments
 mod Forms
+mod Scalars
+mod Structure

@@ -1,7 +1,8 @@
 //! Laws of array assignments. A law is a function without a body: its contract is what holds.
 ghost use Rattle.array_laws.specs.Assignments.{ArrayAssignmentInTurn, ArrayAssignmentStores, EffectsAreWrites};
 ghost use Rattle.array_laws.specs.Assignments.{ElementsInTurnAtOnce, WritesAreEffects};
-ghost use Rattle.array_laws.specs.Elements.{CellsByPosition, ElementComesFromCellsRead, ElementOfSection};
+ghost use Rattle.array_laws.specs.Elements.{CellsByPosition, ElementComesFromCellsRead, ElementOfCall, ElementOfOperation};
+ghost use Rattle.array_laws.specs.Elements.{ElementOfSection, ElementOfUnary, NumberOfTriplet, ScalarIsItsElement};
 ghost use Rattle.array_laws.specs.Forms.{ArrayFormIsInstances};
 ghost use Rattle.array_laws.specs.Instances.{ApartIsAtOnce, InTurnIsAtOnce, WritesInAnyOrder};
 
@@ -19,6 +20,16 @@ pub fn array_elements()
     ensures read { ElementComesFromCellsRead }
     ensures cells { CellsByPosition }
     ensures section { ElementOfSection }
+    ensures triplet { NumberOfTriplet }
+{}
+
+/// The element of an expression at a position, by structure of the expression: a scalar is its own element, and an
+/// operation or a function is left to each position.
+pub fn elements_by_structure()
+    ensures scalar { ScalarIsItsElement }
+    ensures unary { ElementOfUnary }
+    ensures operation { ElementOfOperation }
+    ensures call { ElementOfCall }
 {}
 
 /// An array assignment stores what its elements store, assigned one by one in column-major order, where none of them
@@ -34,5 +45,5 @@ pub fn array_assignment_in_turn()
 /// An array assignment that stands for instances of a statement, none of which reads a cell that an earlier one has
 /// written, leaves the store that they leave one after another.
 pub fn array_form_is_instances()
-    ensures form { ArrayFormIsInstances }
+    ensures { ArrayFormIsInstances }
 {}
