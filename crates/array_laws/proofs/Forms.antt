@@ -33,7 +33,7 @@ effect_of s (y ∷ ys) os e x c =
     by p (inr k) more = let o = more k in (o.0, o.1, subst (λ zs. Contains zs o.0) p.are (there p.one p.others o.0 o.2))
 
 -- and each of these is a member's
-whose_effect : (s : Store) (xs : List Instance) (os : List (Option (Cell × Value))) → each (effect_in s) xs ≡ Ok os → (o : Option (Cell × Value)) → Contains os o → (x : Instance) × Contains xs x × (x.effect s ≡ Ok o)
+pub whose_effect : (s : Store) (xs : List Instance) (os : List (Option (Cell × Value))) → each (effect_in s) xs ≡ Ok os → (o : Option (Cell × Value)) → Contains os o → (x : Instance) × Contains xs x × (x.effect s ≡ Ok o)
 whose_effect s [] os e o c = absurd (nowhere o (subst (λ zs. Contains zs o) (sym (same_answer [] os e)) c))
 whose_effect s (y ∷ ys) os e o c =
     let p = split (effect_in s) y ys os e in
@@ -56,7 +56,7 @@ write_in (Some u ∷ os) w c = by (cases_of (Some u) os (Some w) c) (write_in os
     by (inl q) more = let same : u ≡ w = cc in subst (Contains (u ∷ writes_in os)) same (here u (writes_in os))
     by (inr k) more = there u (writes_in os) w (more k)
 
-of_write : (os : List (Option (Cell × Value))) (w : Cell × Value) → Contains (writes_in os) w → Contains os (Some w)
+pub of_write : (os : List (Option (Cell × Value))) (w : Cell × Value) → Contains (writes_in os) w → Contains os (Some w)
 of_write [] w c = absurd (nowhere w c)
 of_write (None ∷ os) w c = there None os (Some w) (of_write os w c)
 of_write (Some u ∷ os) w c = by (cases_of u (writes_in os) w c) (of_write os w)

@@ -8,3 +8,4 @@ mod Assignments
 mod Forms
 mod Scalars
 mod Structure
+mod OneToOne
