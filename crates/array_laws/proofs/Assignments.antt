@@ -4,21 +4,22 @@ use Rattle.std.proofs.lemmas.List.Elements.{recursion_from_All}
 use Rattle.std.specs.List.{AllByRecursion, zip}
 use mathlib.Core.Path.{ap₂}
 use Rattle.fv_tree.specs.Operators.{as_truth}
-use Rattle.fv_tree.specs.Plain.{Expression, Reference}
+use Rattle.fv_tree.specs.Plain.{Expression, Logic, Reference, Assignment, Where}
 use Rattle.fv_tree.specs.Steps.{◌>>=◌}
 use Rattle.fv_tree.specs.declared.ops.Fault.{Fault}
 use Rattle.fv_tree.specs.declared.ops.Value.{Value}
 use Rattle.fv_tree.specs.declared.ops.Value.TheVariants.{Int, Truth}
+use Rattle.fv_tree.specs.declared.stmts.Mark.{Mark}
 use Rattle.fv_meaning.specs.ArrayStatements.{second, where_true, axes_named, storable, writes_of}
 use Rattle.fv_meaning.specs.ArrayValues.{Elements, each, positions, conform}
 use Rattle.fv_meaning.specs.Dialect.{Dialect}
 use Rattle.fv_meaning.specs.Reads.{names_in, names_in_subscripts, cells_read_to_select}
-use Rattle.fv_meaning.specs.Run.{State, Going, for_each, while_going, evaluates, counts_step, stores, stores_element, array_assigns}
+use Rattle.fv_meaning.specs.Run.{State, Going, nothing, either, does, for_each, while_going, evaluates, counts_step, stores, stores_element, array_assigns}
 use Rattle.fv_meaning.specs.Sections.{Axis, extents_of, cells_along}
 use Rattle.fv_meaning.specs.Store.{Store, Cell, put}
-use Rattle.fv_meaning.specs.Value.{array_of}
+use Rattle.fv_meaning.specs.Value.{array_of, is_array, named}
 use Rattle.fv_meaning.proofs.CellFrame.{first_part, second_part}
-use Rattle.array_laws.specs.Assignments.{assigned_if, element_assigned, elements_assigned, shape_assigned, WritesAreEffects, EffectsAreWrites, ArrayAssignmentInTurn, ElementsInTurnAtOnce, ArrayAssignmentStores}
+use Rattle.array_laws.specs.Assignments.{assigned_if, element_assigned, elements_assigned, shape_assigned, WritesAreEffects, EffectsAreWrites, ArrayAssignmentInTurn, ElementsInTurnAtOnce, ArrayAssignmentStores, ArrayStatementStores, WhereStores}
 use Rattle.array_laws.specs.Elements.{cell_at_position, element_of, cells_read_at}
 use Rattle.array_laws.specs.Instances.{Instance, ComesFromReads, puts, writes_in}
 use Rattle.array_laws.proofs.Elements.{axes_same, element_same}
@@ -209,3 +210,29 @@ assigned_ready d line mask right left s ws e = rw e (each_stored d ws s)
 pub array_assignment_stores : ArrayAssignmentStores
 array_assignment_stores d line mask right left s ws going e =
     subst (λ (t : State). array_assigns d None line mask left right t ≡ record t { store = puts ws t.store; steps = t.steps + length ws }) (λ i. let t : State = record s { way = sym going i } in t) (assigned_ready d line mask right left s ws e)
+
+-- at a moment that goes on
+at_going : (P : State → Type 0) (s : State) → s.way ≡ Going → P (ready s) → P s
+at_going P s going h = subst P (λ i. let t : State = record s { way = sym going i } in t) h
+
+statement_ready : (d : Dialect) (line : ℕ) (mark : Option Mark) (right : Expression) (left : Reference) (s : State) (ws : List (Cell × Value)) → is_array d (named left) s.store ≡ true → writes_of d (Logic true) left right s.store ≡ Ok ws
+    → does d None (Assignment line mark left right) (ready s) ≡ record s { store = puts ws s.store; steps = s.steps + 1 + length ws; way = Going }
+unfolding counts_step while_going
+statement_ready d line mark right left s ws a e = rw a (assigned_ready d line (Logic true) right left (record s { steps = s.steps + 1 }) ws e)
+
+where_ready : (d : Dialect) (line : ℕ) (mark : Option Mark) (mask right : Expression) (left : Reference) (s : State) (ws : List (Cell × Value)) → d.arrays ≡ true → writes_of d mask left right s.store ≡ Ok ws
+    → does d None (Where line mark mask left right) (ready s) ≡ record s { store = puts ws s.store; steps = s.steps + 1 + length ws; way = Going }
+unfolding counts_step while_going
+where_ready d line mark mask right left s ws a e =
+    ap (λ b. either b (counts_step d None (array_assigns d None line mask left right)) nothing (ready s)) a
+    ∙ assigned_ready d line mask right left (record s { steps = s.steps + 1 }) ws e
+
+pub array_statement_stores : ArrayStatementStores
+array_statement_stores d line mark right left s ws going a e =
+    at_going (λ (t : State). is_array d (named left) t.store ≡ true → writes_of d (Logic true) left right t.store ≡ Ok ws → does d None (Assignment line mark left right) t ≡ record t { store = puts ws t.store; steps = t.steps + 1 + length ws }) s going
+    (statement_ready d line mark right left s ws) a e
+
+pub where_stores : WhereStores
+where_stores d line mark mask right left s ws going a e =
+    at_going (λ (t : State). writes_of d mask left right t.store ≡ Ok ws → does d None (Where line mark mask left right) t ≡ record t { store = puts ws t.store; steps = t.steps + 1 + length ws }) s going
+    (where_ready d line mark mask right left s ws a) e

@@ -5,3 +5,7 @@ mod Sections
 mod Elements
 mod Stages
 mod Assignments
+mod Forms
+mod Scalars
+mod Structure
+mod OneToOne

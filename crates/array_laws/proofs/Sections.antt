@@ -1,5 +1,6 @@
 -- The cells that a reference selects, by their positions; and the element of a name at one of them.
-use Rattle.std.proofs.Common.{◌≡◌, refl, sym, ap, ◌∙◌, subst, ◌⊎◌, inl, inr, ℕ, zero, suc, ◌+◌, ℤ, List, [], ◌∷◌, ◌++◌, map, length, Result, Ok, Err, Option, Some, None, arith, Contains}
+use Rattle.std.proofs.Common.{◌≡◌, refl, sym, ap, ◌∙◌, subst, ◌⊎◌, inl, inr, ℕ, zero, suc, ◌+◌, ◌<◌, ℤ, pos, ◌+ℤ◌, ◌*ℤ◌, List, [], ◌∷◌, ◌++◌, map, length, Result, Ok, Err, Option, Some, None, arith, Contains}
+use Rattle.std.proofs.Math.IntN.{zero-*ℤ, suc_ℤ-*ℤ, +ℤ_assoc, +ℤ_comm, +ℤ_idr}
 use Rattle.std.specs.List.{flat_map}
 use mathlib.Core.Path.{ap₂}
 use Rattle.fv_tree.specs.Plain.{Subscripts}
@@ -11,7 +12,7 @@ use Rattle.fv_meaning.specs.Sections.{Axis, Fixed, Along, Selector, axes_selecte
 use Rattle.fv_meaning.specs.Store.{Cell, column_major, bounds_in}
 use Rattle.fv_meaning.specs.Value.{selectors}
 use Rattle.fv_meaning.proofs.ArrayLaws.{places, settled-whole}
-use Rattle.array_laws.specs.Elements.{number_at, subscripts_at, cell_at_position, CellsByPosition, ElementOfSection}
+use Rattle.array_laws.specs.Elements.{number_at, subscripts_at, cell_at_position, CellsByPosition, ElementOfSection, NumberOfTriplet}
 use Rattle.array_laws.proofs.Members.{nowhere, cases_of}
 
 -- ---- lists
@@ -127,3 +128,16 @@ pub element_of_section : ElementOfSection
 element_of_section d x ps s axes is e k =
     ap (λ (r : Result (Elements Value) Fault). do g ← r; g.at is) (section_of s.held x ps axes (selectors d ps s) (s.bounds x) e)
     ∙ held_there x axes s.held is k
+
+-- ---- the numbers of a triplet
+
+first_of_triplet : (z k : ℤ) → z ≡ z +ℤ pos 0 *ℤ k
+first_of_triplet z k = sym (ap (λ y. z +ℤ y) (zero-*ℤ k) ∙ +ℤ_idr z)
+
+next_of_triplet : (z k : ℤ) (i : ℕ) → z +ℤ k +ℤ pos i *ℤ k ≡ z +ℤ pos (suc i) *ℤ k
+next_of_triplet z k i = +ℤ_assoc z k (pos i *ℤ k) ∙ ap (λ y. z +ℤ y) (+ℤ_comm k (pos i *ℤ k) ∙ sym (suc_ℤ-*ℤ (pos i) k))
+
+pub number_of_triplet : NumberOfTriplet
+number_of_triplet z k i zero l = absurd (omega (arith, l))
+number_of_triplet z k zero (suc n) l = first_of_triplet z k
+number_of_triplet z k (suc i) (suc n) l = number_of_triplet (z +ℤ k) k i n (omega (arith, l)) ∙ next_of_triplet z k i

@@ -23,14 +23,14 @@ pub same_answer : {A : Type 0} (x y : A) → ◌≡◌ {A = Result A Fault} (Ok 
 same_answer x y e = cc
 
 -- of each in a list that begins with x
-record Split {A B : Type 0} (f : A → Result B Fault) (x : A) (xs : List A) (zs : List B) : Type 0 where
-  one : B
-  others : List B
-  first : f x ≡ Ok one
-  later : each f xs ≡ Ok others
-  are : one ∷ others ≡ zs
+pub record Split {A B : Type 0} (f : A → Result B Fault) (x : A) (xs : List A) (zs : List B) : Type 0 where
+  pub one : B
+  pub others : List B
+  pub first : f x ≡ Ok one
+  pub later : each f xs ≡ Ok others
+  pub are : one ∷ others ≡ zs
 
-split : {A B : Type 0} (f : A → Result B Fault) (x : A) (xs : List A) (zs : List B) → each f (x ∷ xs) ≡ Ok zs → Split f x xs zs
+pub split : {A B : Type 0} (f : A → Result B Fault) (x : A) (xs : List A) (zs : List B) → each f (x ∷ xs) ≡ Ok zs → Split f x xs zs
 split {A} {B} f x xs zs e = by (f x) refl (each f xs) refl e
   where
     by : (r : Result B Fault) → f x ≡ r → (q : Result (List B) Fault) → each f xs ≡ q → (do y ← r; ys ← q; Ok (y ∷ ys)) ≡ Ok zs → Split f x xs zs
@@ -38,7 +38,7 @@ split {A} {B} f x xs zs e = by (f x) refl (each f xs) refl e
     by (Ok y) p (Err k) q e = absurd cc
     by (Err k) p r q e = absurd cc
 
-joined : {A B : Type 0} (f : A → Result B Fault) (x : A) (xs : List A) (y : B) (ys : List B) → f x ≡ Ok y → each f xs ≡ Ok ys → each f (x ∷ xs) ≡ Ok (y ∷ ys)
+pub joined : {A B : Type 0} (f : A → Result B Fault) (x : A) (xs : List A) (y : B) (ys : List B) → f x ≡ Ok y → each f xs ≡ Ok ys → each f (x ∷ xs) ≡ Ok (y ∷ ys)
 joined f x xs y ys e h = ap₂ (λ r q. do y ← r; ys ← q; Ok (y ∷ ys)) e h
 
 -- ---- where mask, cells and right side are known

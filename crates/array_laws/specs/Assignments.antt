@@ -2,18 +2,19 @@
 use Rattle.std.specs.Prelude.{◌≡◌, Result, Ok, Option, Some, None, ℕ, ◌+◌, Bool, true, false, List, [], ◌++◌}
 use Rattle.std.specs.Prelude.{map, length}
 use Rattle.fv_tree.specs.Operators.{as_truth}
-use Rattle.fv_tree.specs.Plain.{Expression, Reference}
+use Rattle.fv_tree.specs.Plain.{Expression, Logic, Reference, Assignment, Where}
 use Rattle.fv_tree.specs.Steps.{◌>>=◌}
 use Rattle.fv_tree.specs.declared.ops.Fault.{Fault}
 use Rattle.fv_tree.specs.declared.ops.Value.{Value}
+use Rattle.fv_tree.specs.declared.stmts.Mark.{Mark}
 use Rattle.fv_meaning.specs.ArrayStatements.{axes_named, storable, writes_of}
 use Rattle.fv_meaning.specs.ArrayValues.{each, positions, conform}
 use Rattle.fv_meaning.specs.Dialect.{Dialect}
 use Rattle.fv_meaning.specs.Reads.{cells_read_to_select}
-use Rattle.fv_meaning.specs.Run.{State, Going, array_assigns}
+use Rattle.fv_meaning.specs.Run.{State, Going, array_assigns, does}
 use Rattle.fv_meaning.specs.Sections.{Axis, extents_of}
 use Rattle.fv_meaning.specs.Store.{Store, Cell}
-use Rattle.fv_meaning.specs.Value.{array_of}
+use Rattle.fv_meaning.specs.Value.{array_of, is_array, named}
 use Rattle.array_laws.specs.Elements.{cell_at_position, element_of, cells_read_at}
 use Rattle.array_laws.specs.Instances.{Instance, puts, writes_in, in_turn, NoneReadsWritten, AreApart}
 
@@ -92,10 +93,25 @@ ElementsInTurnAtOnce = (d : Dialect) (mask right : Expression) (left : Reference
     → in_turn (elements_assigned d mask left right axes) s ≡ Ok t
     → (ws : List (Cell × Value)) × (writes_of d mask left right s ≡ Ok ws) × (puts ws s ≡ t)
 
--- a run that goes on stores these values, and counts a step for each
+-- A run that goes on stores these values, and counts a step for each of them
 abbrev pub ArrayAssignmentStores : Type 0
 ArrayAssignmentStores = (d : Dialect) (line : ℕ) (mask right : Expression) (left : Reference) (s : State)
     (ws : List (Cell × Value))
     → s.way ≡ Going → writes_of d mask left right s.store ≡ Ok ws
     → array_assigns d None line mask left right s
     ≡ record s { store = puts ws s.store; steps = s.steps + length ws }
+
+-- and one more as the statement begins
+abbrev pub ArrayStatementStores : Type 0
+ArrayStatementStores = (d : Dialect) (line : ℕ) (mark : Option Mark) (right : Expression) (left : Reference) (s : State)
+    (ws : List (Cell × Value))
+    → s.way ≡ Going → is_array d (named left) s.store ≡ true → writes_of d (Logic true) left right s.store ≡ Ok ws
+    → does d None (Assignment line mark left right) s
+    ≡ record s { store = puts ws s.store; steps = s.steps + 1 + length ws }
+
+abbrev pub WhereStores : Type 0
+WhereStores = (d : Dialect) (line : ℕ) (mark : Option Mark) (mask right : Expression) (left : Reference) (s : State)
+    (ws : List (Cell × Value))
+    → s.way ≡ Going → d.arrays ≡ true → writes_of d mask left right s.store ≡ Ok ws
+    → does d None (Where line mark mask left right) s
+    ≡ record s { store = puts ws s.store; steps = s.steps + 1 + length ws }

@@ -1,18 +1,22 @@
 -- One element of an array, at a position: its value, and the cells that it reads (ISO/IEC 1539:1991, sections 6.2.2 and
 -- 7.1.5).
-use Rattle.std.specs.Prelude.{◌≡◌, Result, Ok, Err, ℕ, zero, suc, ℤ, pos, List, [], ◌∷◌, ◌++◌, map, All, Contains}
+use Rattle.std.specs.Prelude.{◌≡◌, Result, Ok, Err, ℕ, zero, suc, ◌<◌, ℤ, pos, ◌+ℤ◌, ◌*ℤ◌, true, List, [], ◌∷◌, ◌++◌}
+use Rattle.std.specs.Prelude.{map, All, Contains}
+use Rattle.fv_tree.specs.Operators.{apply, call}
 use Rattle.fv_tree.specs.Plain.{Expression, Number, Logic, Named, Unary, Binary, Apply, Expressions, no_expressions}
 use Rattle.fv_tree.specs.Plain.{expression, Subscripts}
 use Rattle.fv_tree.specs.Steps.{◌>>=◌}
+use Rattle.fv_tree.specs.declared.functions.Fun.{Fun}
 use Rattle.fv_tree.specs.declared.ops.Fault.{Fault}
+use Rattle.fv_tree.specs.declared.ops.Op.{Op}
 use Rattle.fv_tree.specs.declared.ops.Value.{Value}
 use Rattle.fv_meaning.specs.ArrayStatements.{axes_named}
-use Rattle.fv_meaning.specs.ArrayValues.{positions, place_of}
+use Rattle.fv_meaning.specs.ArrayValues.{Elements, positions, place_of}
 use Rattle.fv_meaning.specs.Dialect.{Dialect}
 use Rattle.fv_meaning.specs.Reads.{names_in, cells_read_to_select, array_cells_read}
-use Rattle.fv_meaning.specs.Sections.{Axis, Fixed, Along, extents_of, cells_along}
+use Rattle.fv_meaning.specs.Sections.{Axis, Fixed, Along, extents_of, cells_along, steps_from}
 use Rattle.fv_meaning.specs.Store.{Store, Cell}
-use Rattle.fv_meaning.specs.Value.{array_of}
+use Rattle.fv_meaning.specs.Value.{value_of, array_of, is_scalar}
 
 -- ---- positions, counted from 0 along each dimension
 
@@ -87,3 +91,44 @@ ElementOfSection = (d : Dialect) (x : List ℕ) (ps : Subscripts) (s : Store) (a
     → axes_named d (record { name = x; subscripts = ps }) s ≡ Ok axes
     → Contains (positions (extents_of axes)) is
     → element_of d (Named x ps) is s ≡ Ok (s.held (cell_at_position x axes is))
+
+-- the element of an operation is what it makes of its operands' elements, where these conform
+abbrev pub ElementOfOperation : Type 0
+ElementOfOperation = (d : Dialect) (o : Op) (a b : Expression) (is : List ℕ) (s : Store) (g : Elements Value)
+    → array_of d (Binary o a b) s ≡ Ok g
+    → element_of d (Binary o a b) is s ≡ (do
+      x ← element_of d a is s
+      y ← element_of d b is s
+      apply o x y)
+
+-- of an operation on one operand
+abbrev pub ElementOfUnary : Type 0
+ElementOfUnary = (d : Dialect) (o : Op) (a : Expression) (is : List ℕ) (s : Store)
+    → element_of d (Unary o a) is s ≡ (do
+      x ← element_of d a is s
+      apply o x x)
+
+-- of a function what it makes of its arguments' elements
+abbrev pub elements_of : Dialect → Expressions → List ℕ → Store → Result (List Value) Fault
+elements_of d no_expressions is s = Ok []
+elements_of d (expression e es) is s = do
+  x ← element_of d e is s
+  xs ← elements_of d es is s
+  Ok (x ∷ xs)
+
+abbrev pub ElementOfCall : Type 0
+ElementOfCall = (d : Dialect) (f : Fun) (es : Expressions) (is : List ℕ) (s : Store) (g : Elements Value)
+    → array_of d (Apply f es) s ≡ Ok g
+    → element_of d (Apply f es) is s ≡ (do
+      xs ← elements_of d es is s
+      call f xs)
+
+-- a scalar that has a value has it as its element at each position
+abbrev pub ScalarIsItsElement : Type 0
+ScalarIsItsElement = (d : Dialect) (e : Expression) (is : List ℕ) (s : Store) (v : Value)
+    → is_scalar e s.bounds ≡ true → value_of d e s ≡ Ok v → element_of d e is s ≡ Ok v
+
+-- the i-th number of a triplet is its first one and i strides
+abbrev pub NumberOfTriplet : Type 0
+NumberOfTriplet = (first stride : ℤ) (i n : ℕ) → i < n
+    → number_at (steps_from first stride n) i ≡ first +ℤ pos i *ℤ stride

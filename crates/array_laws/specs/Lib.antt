@@ -1,3 +1,5 @@
 pub mod Instances
 pub mod Elements
 pub mod Assignments
+pub mod Forms
+pub mod OneToOne

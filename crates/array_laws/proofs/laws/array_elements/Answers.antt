@@ -1,5 +1,5 @@
 use Rattle.array_laws.proofs.Elements.{element_comes_from_cells_read}
-use Rattle.array_laws.proofs.Sections.{cells_by_position, element_of_section}
+use Rattle.array_laws.proofs.Sections.{cells_by_position, element_of_section, number_of_triplet}
 use Rattle.array_laws.proofs.laws.array_elements.Goals as goal
 
 pub returns-clause-read : goal.returns-clause-read
@@ -10,3 +10,6 @@ returns-clause-cells c = cells_by_position
 
 pub returns-clause-section : goal.returns-clause-section
 returns-clause-section c = element_of_section
+
+pub returns-clause-triplet : goal.returns-clause-triplet
+returns-clause-triplet c = number_of_triplet
