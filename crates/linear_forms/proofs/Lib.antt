@@ -5,3 +5,6 @@ pub mod Storeless
 pub mod Linear
 pub mod Faultless
 pub mod Expressed
+pub mod Sums
+pub mod Merges
+pub mod Combining

@@ -1,3 +1,6 @@
 pub mod Linear
 pub mod Expressed
 pub mod Laws
+pub mod Places
+pub mod Merging
+pub mod Parts

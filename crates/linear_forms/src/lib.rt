@@ -2,5 +2,7 @@
 #![tactic(auto)]
 
 mod laws;
+mod terms;
 
 pub use laws::{linear_value, text_value};
+pub use terms::{Terms, ZERO, combined, constant_form};
