@@ -1,1 +1,5 @@
-
+pub mod Terms
+pub mod Places
+pub mod Alone
+pub mod Putting
+pub mod Regions
