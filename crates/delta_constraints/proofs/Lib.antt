@@ -3,3 +3,4 @@ pub mod Places
 pub mod Alone
 pub mod Putting
 pub mod Regions
+pub mod Holding

@@ -23,21 +23,21 @@ pub record IsPutUpTo (c : Constraints) (p : Pairing) (r : Reduced) (k : ℕ) : T
   pub first : All (λ a. unsigned_abs a ≤ 2 ^ 41) r.pairing.from.loops
   pub second : All (λ b. unsigned_abs b ≤ 2 ^ 41) r.pairing.to.loops
   pub constant : unsigned_abs r.constant ≤ 2 ^ 41 + k * 2 ^ 90
-  pub first_long : length r.pairing.from.loops ≡ 7
-  pub second_long : length r.pairing.to.loops ≡ 7
+  pub first_long : length r.pairing.from.loops ≡ length p.from.loops
+  pub second_long : length r.pairing.to.loops ≡ length p.to.loops
   pub first_later : (m : ℕ) → k ≤ m → at_place r.pairing.from.loops m ≡ at_place p.from.loops m
   pub second_later : (m : ℕ) → k ≤ m → at_place r.pairing.to.loops m ≡ at_place p.to.loops m
   pub same : (v : ℕ → ℤ) (x y : List ℤ) → AreKept c x y → difference p v x y ≡ reduced_difference r v x y
 
-pub begun : (c : Constraints) (p : Pairing) (constant : ℤ) → IsPairing p → length p.from.loops ≡ 7 → length p.to.loops ≡ 7 → constant ≡ p.from.constant -ℤ p.to.constant
+pub begun : (c : Constraints) (p : Pairing) (constant : ℤ) → IsPairing p → constant ≡ p.from.constant -ℤ p.to.constant
     → IsPutUpTo c p (record { pairing = p; constant = constant }) 0
-begun c p constant h f t e = record {
+begun c p constant h e = record {
   alike = record { known = refl; common = refl; from_spans = refl; to_spans = refl; from_symbols = refl; to_symbols = refl };
   first = λ k q l. let s = h.from.small_loops k q l in omega arith;
   second = λ k q l. let s = h.to.small_loops k q l in omega arith;
   constant = omega (arith, ints, ap unsigned_abs e, h.from.small_constant, h.to.small_constant);
-  first_long = f;
-  second_long = t;
+  first_long = refl;
+  second_long = refl;
   first_later = λ m l. refl;
   second_later = λ m l. refl;
   same = λ v x y k. sym (difference_is p v x y) ∙ ap (λ (z : ℤ). reduced_difference (record { pairing = p; constant = z }) v x y) (sym e);
@@ -54,10 +54,10 @@ swapped l m s c a b f g t x y l' m' e h k =
 other : (xs ys : List ℤ) (k m : ℕ) (b : ℤ) → ((n : ℕ) → k ≤ n → at_place xs n ≡ at_place ys n) → k + 1 ≤ m → at_place (set xs k b) m ≡ at_place ys m
 other xs ys k m b h l = let u : m ≢ k = λ e. absurd (omega arith) in rw get_or-set_other (h m (omega arith))
 
-pub put_one : (c : Constraints) (p : Pairing) (r : Reduced) (k : ℕ) (t : Term) → k < 7 → IsPutUpTo c p r k
+pub put_one : (c : Constraints) (p : Pairing) (r : Reduced) (k : ℕ) (t : Term) → k < length p.from.loops → k < length p.to.loops → IsPutUpTo c p r k
     → ((x y : List ℤ) → AreKept c x y → at_place p.from.loops k *ℤ at_place x k -ℤ at_place p.to.loops k *ℤ at_place y k ≡ term_value t (at_place x k) (at_place y k))
     → unsigned_abs t.first ≤ 2 ^ 41 → unsigned_abs t.second ≤ 2 ^ 41 → unsigned_abs t.constant ≤ 2 ^ 90 → IsPutUpTo c p (with_term r k t) (k + 1)
-put_one c p r k t b h v sf ss sc = record {
+put_one c p r k t b d h v sf ss sc = record {
   alike = record { known = h.alike.known; common = h.alike.common; from_spans = h.alike.from_spans; to_spans = h.alike.to_spans; from_symbols = h.alike.from_symbols; to_symbols = h.alike.to_symbols };
   first = All-set (λ a. unsigned_abs a ≤ 2 ^ 41) r.pairing.from.loops k t.first sf h.first;
   second = All-set (λ a. unsigned_abs a ≤ 2 ^ 41) r.pairing.to.loops k t.second ss h.second;

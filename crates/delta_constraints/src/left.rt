@@ -114,8 +114,11 @@ pub fn left_of(r: &Reduced) -> Left
     if !r.pairing.symbols_cancel() {
         return Left::More;
     }
+    if are_zero(&r.pairing.from.loops) && are_zero(&r.pairing.to.loops) {
+        return Left::Constant(r.constant);
+    }
     match first_mattering(&r.pairing) {
         Some(at) => left_along(r, at),
-        None => Left::Constant(r.constant),
+        None => Left::More,
     }
 }

@@ -1,5 +1,5 @@
-use Rattle.std.proofs.Common.{rules, ◌≡◌, ◌≤◌, ◌^◌, ◌∙◌, ap, arith, not}
-use Rattle.std.specs.Prelude.{ℤ, pos, ◌-ℤ◌, FitsSigned, IsTrue, unsigned_abs}
+use Rattle.std.proofs.Common.{rules, ◌≡◌, ◌≤◌, ◌^◌, ◌∙◌, ap, arith, refl}
+use Rattle.std.specs.Prelude.{ℤ, pos, ◌-ℤ◌, FitsSigned, unsigned_abs}
 use Rattle.std.proofs.lemmas.Int.{ints, to_z-of_z, fits_signed_from_abs}
 use mir.Syntax.{w64, w128}
 use Rattle.loop_lines.specs.Places.{loop_at}
@@ -20,4 +20,7 @@ returns c =
     let z : unsigned_abs c.args.r.now.constant ≤ 2 ^ 41 = omega arith in
     let ha : FitsSigned w128 (pos 0 -ℤ c.from-2.result) = fits_signed_from_abs w128 _ (omega (arith, ints)) in
     let hb : FitsSigned w128 (pos 0 -ℤ c.args.r.now.constant) = fits_signed_from_abs w128 _ (omega (arith, ints)) in
-    ?
+    simp to_z-of_z (
+      left_line c.args.r.now (loop_at c.args.at) c.from.result (pos 0 -ℤ c.from-2.result) (pos 0 -ℤ c.args.r.now.constant) c.requires.sized c.requires.cancels c.requires.place c.requires.matters
+      (c.is_alone.ensures (search rules)) z ea (ap (λ (t : ℤ). pos 0 -ℤ t) eb) refl
+    )
