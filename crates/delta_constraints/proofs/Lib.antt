@@ -4,3 +4,4 @@ pub mod Alone
 pub mod Putting
 pub mod Regions
 pub mod Holding
+pub mod Refuting

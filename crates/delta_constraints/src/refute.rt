@@ -60,6 +60,7 @@ fn is_refuted(constraints: &Constraints, p: &Pairing, d: &Dirs) -> bool
 fn one_is_refuted(constraints: &Constraints, ps: &[Pairing], d: &Dirs) -> bool
     requires constraints { AreConstraints constraints.now }
     requires members { AreMembers ps.now d.now }
+    requires linear { All (λ p. IsTrue p.known) ps.now }
     ensures { IsTrue result → (x y : List ℤ) → AreKept constraints.now x y → IsPairOfAll ps.now d.now x y → ⊥ }
 {
     for p in ps {
