@@ -39,7 +39,8 @@ fn members_of(groups: &Groups, number: usize, count: usize) -> Members {
     };
     for (place, of) in groups.of.iter().enumerate() {
         if place < count && usize::from(*of) == number {
-            if let Some(at) = members.at.get_mut(usize::from(members.count)) {
+            let next = usize::from(members.count);
+            if let Some(at) = members.at.get_mut(next) {
                 *at = place as u8;
                 members.count = members.count.saturating_add(1);
             }
@@ -144,8 +145,27 @@ fn push_answer(
     push_verdict(out, alloc, verdict, (p.from_depth, p.to_depth))
 }
 
-/// What Banerjee's test and the test of the pairing's group say, where the pairing is the group's first.
-fn push_tests(
+/// The line that Banerjee's test refutes a pairing, if it does.
+fn push_range(
+    out: &mut String,
+    alloc: Global,
+    p: &Pairing,
+    d: &Dirs,
+    place: usize,
+) -> Result<(), AllocError>
+    requires pairing { IsPairing p.now }
+    requires dirs { AreDirsOf p.now d.now }
+{
+    if p.known && range_refutes(p, d) {
+        out.push_str("  range refutes ")?;
+        push_number(out, alloc, place)?;
+        out.push_str("\n")?;
+    }
+    Ok(())
+}
+
+/// What the test of the pairing's group says, where the pairing is the group's first.
+fn push_test(
     out: &mut String,
     alloc: Global,
     ps: &[Pairing],
@@ -158,11 +178,6 @@ fn push_tests(
     requires place { place < length ps.now }
 {
     let p = &ps[place];
-    if p.known && range_refutes(p, d) {
-        out.push_str("  range refutes ")?;
-        push_number(out, alloc, place)?;
-        out.push_str("\n")?;
-    }
     let members = members_of(groups, place, ps.len());
     if members.count > 1 {
         if let Some(group) = group_of(ps, &members) {
@@ -188,11 +203,14 @@ fn answers_for(alloc: Global, ps: &[Pairing], d: &Dirs) -> Result<String, AllocE
 {
     let mut out = String::new(alloc);
     let groups = partition(ps);
-    for place in 0..ps.len() {
-        push_pair(&mut out, alloc, &ps[place], place, groups.of[place])?;
+    for (place, p) in ps.iter().enumerate() {
+        push_pair(&mut out, alloc, p, place, groups.of[place])?;
+    }
+    for (place, p) in ps.iter().enumerate() {
+        push_range(&mut out, alloc, p, d, place)?;
     }
     for place in 0..ps.len() {
-        push_tests(&mut out, alloc, ps, d, &groups, place)?;
+        push_test(&mut out, alloc, ps, d, &groups, place)?;
     }
     Ok(out)
 }

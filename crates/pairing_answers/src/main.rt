@@ -16,7 +16,7 @@ mod side;
 mod words;
 
 use answers::answers;
-use question::question;
+use question::read_question;
 use std::io::{self, BufRead, BufReader, BufWriter, Write};
 
 fn main(rt: HostRuntime) -> io::Result<()> {
@@ -24,7 +24,7 @@ fn main(rt: HostRuntime) -> io::Result<()> {
     let mut out = BufWriter::new(rt.alloc(), io::writer(&rt))?;
     for line in lines.lines(rt.alloc()) {
         let line = line?;
-        let text = match question(line.as_str()) {
+        let text = match read_question(line.as_str()) {
             Some(asked) => answers(rt.alloc(), &asked)?,
             None => format!(in rt.alloc(); "  no question\n")?,
         };

@@ -49,10 +49,11 @@ fn span(word: &str) -> Option<Span> {
 }
 
 /// The spans of a list, behind those that are there.
-fn spans(before: Spans, text: &str) -> Option<Spans> {
+fn spans_behind(before: Spans, text: &str) -> Option<Spans> {
     let mut all = before;
     for word in text.split_whitespace() {
-        *all.at.get_mut(usize::from(all.count))? = span(word)?;
+        let place = usize::from(all.count);
+        *all.at.get_mut(place)? = span(word)?;
         all.count = all.count.saturating_add(1);
     }
     Some(all)
@@ -71,7 +72,8 @@ fn directions(text: &str) -> Option<Dirs> {
             b' ' | b',' => continue,
             _ => return None,
         };
-        *dirs.at.get_mut(usize::from(dirs.len))? = dir;
+        let place = usize::from(dirs.len);
+        *dirs.at.get_mut(place)? = dir;
         dirs.len = dirs.len.saturating_add(1);
     }
     Some(dirs)
@@ -84,9 +86,9 @@ fn loops(text: &str) -> Option<Pairing> {
         count: 0,
         at: [ONCE; 7],
     };
-    let common = spans(none, lists.next()?)?;
-    let from = spans(common, lists.next().unwrap_or(""))?;
-    let to = spans(common, lists.next().unwrap_or(""))?;
+    let common = spans_behind(none, lists.next()?)?;
+    let from = spans_behind(common, lists.next().unwrap_or(""))?;
+    let to = spans_behind(common, lists.next().unwrap_or(""))?;
     Some(Pairing {
         from: NO_FORM,
         to: NO_FORM,
@@ -123,7 +125,7 @@ fn pair(loops: &Pairing, text: &str) -> Option<Pairing> {
 }
 
 /// The question of a line, or None where it is none.
-pub fn question(line: &str) -> Option<Question> {
+pub fn read_question(line: &str) -> Option<Question> {
     let mut parts = line.split(';');
     let dirs = directions(parts.next()?)?;
     let loops = loops(parts.next()?)?;
@@ -133,7 +135,8 @@ pub fn question(line: &str) -> Option<Question> {
         pairs: [loops; 7],
     };
     for part in parts {
-        *asked.pairs.get_mut(usize::from(asked.count))? = pair(&loops, part)?;
+        let place = usize::from(asked.count);
+        *asked.pairs.get_mut(place)? = pair(&loops, part)?;
         asked.count = asked.count.saturating_add(1);
     }
     Some(asked)
