@@ -1,10 +1,9 @@
 -- One loop alone has coefficients: its line.
-use Rattle.std.proofs.Common.{◌≡◌, ℕ, ◌<◌, ◌≤◌, ◌^◌, List, [], ◌∷◌, length, get_or, zero, suc, refl, ap, arith, sym, ◌∙◌}
+use Rattle.std.proofs.Common.{◌≡◌, ℕ, ◌<◌, ◌≤◌, ◌^◌, List, [], ◌∷◌, length, get_or, zero, suc, ap, arith, sym, ◌∙◌}
 use Rattle.std.specs.Prelude.{ℤ, pos, ◌+ℤ◌, ◌-ℤ◌, ◌*ℤ◌, All, unsigned_abs}
 use Rattle.std.proofs.lemmas.Int.{ints}
 use Rattle.std.proofs.lemmas.List.Elements.{All-head, All-tail}
 use Rattle.line_points.proofs.Ring.{linear}
-use Rattle.line_points.specs.Crossings.{IsSmallLine}
 use Rattle.line_points.specs.declared.points.Line.{Line}
 use Rattle.loop_lines.proofs.Crossings.{on_line}
 use Rattle.loop_lines.proofs.Indexed.{over_none}

@@ -1,6 +1,6 @@
 -- One more constraint on a loop.
-use Rattle.std.proofs.Common.{◌≡◌, ◌≢◌, ◌↔◌, ℕ, ◌<◌, List, length, get_or, set, get_or-set_same, get_or-set_other, refl, ap, subst, arith, sym, inl, inr}
-use Rattle.std.specs.Prelude.{ℤ, pos}
+use Rattle.std.proofs.Common.{◌≢◌, ℕ, ◌<◌, List, length, get_or, set, get_or-set_same, get_or-set_other, subst, sym, inl, inr}
+use Rattle.std.specs.Prelude.{ℤ}
 use Rattle.std.proofs.lemmas.Bool.{cases_eq}
 use Rattle.loop_constraints.specs.Constraints.{Allows, IsMeet}
 use Rattle.loop_constraints.specs.declared.constraint.Constraint.{Constraint}

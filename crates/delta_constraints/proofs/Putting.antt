@@ -1,6 +1,6 @@
 -- Points and distances put in place by place.
-use Rattle.std.proofs.Common.{◌≡◌, ◌≢◌, ℕ, ◌+◌, ◌*◌, ◌<◌, ◌≤◌, ◌^◌, List, length, get_or, set, length-set, get_or-set_other, refl, ap, arith, sym, ◌∙◌}
-use Rattle.std.specs.Prelude.{ℤ, pos, ◌+ℤ◌, ◌-ℤ◌, ◌*ℤ◌, All, unsigned_abs}
+use Rattle.std.proofs.Common.{◌≡◌, ◌≢◌, ℕ, ◌+◌, ◌*◌, ◌<◌, ◌≤◌, ◌^◌, List, length, set, length-set, get_or-set_other, refl, ap, arith, sym, ◌∙◌}
+use Rattle.std.specs.Prelude.{ℤ, ◌+ℤ◌, ◌-ℤ◌, ◌*ℤ◌, All, unsigned_abs}
 use Rattle.std.proofs.lemmas.Int.{ints}
 use Rattle.std.proofs.lemmas.List.Elements.{All-set}
 use Rattle.line_points.proofs.Ring.{ring, linear}
@@ -8,10 +8,10 @@ use Rattle.line_points.proofs.Steps.{abs_sum}
 use Rattle.gcd_banerjee.proofs.Gcds.{difference_is}
 use Rattle.subscripts.specs.Classes.{at_place}
 use Rattle.subscripts.specs.Forms.{difference, over_loops, over_symbols}
-use Rattle.subscripts.specs.Shapes.{IsPairing, IsSmall}
+use Rattle.subscripts.specs.Shapes.{IsPairing}
 use Rattle.subscripts.specs.declared.pairing.Pairing.{Pairing}
 use Rattle.delta_constraints.specs.Kept.{AreKept}
-use Rattle.delta_constraints.specs.Reductions.{IsAlike, IsReducedTo, IsSized, reduced_difference, term_value, with_term}
+use Rattle.delta_constraints.specs.Reductions.{IsAlike, IsReducedTo, reduced_difference, term_value, with_term}
 use Rattle.delta_constraints.specs.declared.constraints.Constraints.{Constraints}
 use Rattle.delta_constraints.specs.declared.put.Reduced.{Reduced}
 use Rattle.delta_constraints.specs.declared.put.Term.{Term}
@@ -69,10 +69,10 @@ put_one c p r k t b d h v sf ss sc = record {
   same = λ w x y a.
       h.same w x y a
       ∙ swapped (over_loops r.pairing.from.loops x) (over_loops r.pairing.to.loops y) (over_symbols r.pairing.from.syms w -ℤ over_symbols r.pairing.to.syms w) r.constant
-          (at_place r.pairing.from.loops k) (at_place r.pairing.to.loops k) t.first t.second t.constant (at_place x k) (at_place y k)
-          (over_loops (set r.pairing.from.loops k t.first) x) (over_loops (set r.pairing.to.loops k t.second) y)
-          (over_set r.pairing.from.loops x k t.first (omega (arith, h.first_long))) (over_set r.pairing.to.loops y k t.second (omega (arith, h.second_long)))
-          (rw (h.first_later k (omega arith), h.second_later k (omega arith)) (v x y a));
+      (at_place r.pairing.from.loops k) (at_place r.pairing.to.loops k) t.first t.second t.constant (at_place x k) (at_place y k)
+      (over_loops (set r.pairing.from.loops k t.first) x) (over_loops (set r.pairing.to.loops k t.second) y)
+      (over_set r.pairing.from.loops x k t.first (omega (arith, h.first_long))) (over_set r.pairing.to.loops y k t.second (omega (arith, h.second_long)))
+      (rw (h.first_later k (omega arith), h.second_later k (omega arith)) (v x y a));
 }
 
 pub all_put : (c : Constraints) (p : Pairing) (r : Reduced) (k : ℕ) → k ≤ 7 → IsPutUpTo c p r k → IsReducedTo c p r

@@ -1,21 +1,18 @@
 -- A constraint that leaves no iterations of its loop leaves none of the region.
-use Rattle.std.proofs.Common.{◌≡◌, ℕ, ◌<◌, ◌≤◌, List, length, get_or, refl, ap, subst, arith, sym, ◌∙◌, Option, Some, None}
+use Rattle.std.proofs.Common.{◌≡◌, ℕ, ◌<◌, length, get_or, subst, arith, sym, Option, Some, None}
 use Rattle.std.specs.Prelude.{ℤ, pos, ◌≤ℤ◌, IfSome}
 use Rattle.std.proofs.lemmas.Int.{ints}
 use Rattle.std.proofs.lemmas.List.{get_or_default}
-use Rattle.loop_constraints.specs.Constraints.{Allows}
 use Rattle.loop_constraints.specs.Left.{IsNoneUpTo}
-use Rattle.loop_constraints.specs.declared.constraint.Constraint.{Constraint}
 use Rattle.loop_lines.proofs.Indexed.{same_length, within_at, related_at}
-use Rattle.subscripts.specs.Classes.{Loop, Shared, First, Second, at_place}
-use Rattle.subscripts.specs.Forms.{IsInRegion}
+use Rattle.subscripts.specs.Classes.{Shared, First, Second, at_place}
 use Rattle.subscripts.specs.Iterations.{WithinSpan, once}
 use Rattle.subscripts.specs.declared.affine.Dir.{Dir}
 use Rattle.subscripts.specs.declared.affine.Dir.TheVariants.{Any}
 use Rattle.subscripts.specs.declared.affine.Dirs.{Dirs}
 use Rattle.subscripts.specs.declared.affine.Span.{Span}
 use Rattle.subscripts.specs.declared.pairing.Pairing.{Pairing}
-use Rattle.delta_constraints.specs.Kept.{AreKept, constraint_on}
+use Rattle.delta_constraints.specs.Kept.{constraint_on}
 use Rattle.delta_constraints.specs.Members.{LeavesNoRegion}
 use Rattle.delta_constraints.specs.declared.constraints.Constraints.{Constraints}
 

@@ -1,5 +1,5 @@
 -- What a loop adds to the difference of both sides, with points and distances put in.
-use Rattle.std.proofs.Common.{◌≡◌, ap, arith, sym, ◌∙◌, ◌≤◌}
+use Rattle.std.proofs.Common.{◌≡◌, ap, arith, ◌∙◌, ◌≤◌}
 use Rattle.std.specs.Prelude.{ℤ, pos, ◌+ℤ◌, ◌-ℤ◌, ◌*ℤ◌, unsigned_abs}
 use Rattle.std.proofs.Math.IntN.{zero-*ℤ}
 use Rattle.line_points.proofs.Ring.{ring, linear, times_plus}

@@ -1,5 +1,5 @@
 -- What subscript pairs say of their loops' iterations.
-use Rattle.std.specs.Prelude.{◌≡◌, ℤ, pos, List, All, ◌*ℤ◌, ◌≤◌, ◌^◌, unsigned_abs}
+use Rattle.std.specs.Prelude.{◌≡◌, ℤ, List, ◌*ℤ◌, ◌≤◌, ◌^◌, unsigned_abs}
 use Rattle.line_points.specs.Lines.{OnLine}
 use Rattle.line_points.specs.declared.points.Line.{Line}
 use Rattle.loop_constraints.specs.Constraints.{Allows}

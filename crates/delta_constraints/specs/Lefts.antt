@@ -18,7 +18,7 @@ abbrev pub IsAlone : Pairing → Loop → Type 0
 IsAlone p l =
     (x y : List ℤ)
     → (over_loops p.from.loops x -ℤ over_loops p.to.loops y)
-      ≡ (first_of p l *ℤ first_at l x -ℤ second_of p l *ℤ second_at l y)
+    ≡ (first_of p l *ℤ first_at l x -ℤ second_of p l *ℤ second_at l y)
 
 -- a loop that stands round one reference alone has no coefficient on the other side
 abbrev pub IsOwnLine : Loop → Line → Type 0

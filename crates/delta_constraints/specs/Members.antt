@@ -1,5 +1,5 @@
 -- Pairings of the same two references, tested together.
-use Rattle.std.specs.Prelude.{◌≡◌, ◌<◌, ℕ, ℤ, pos, List, All, IsTrue, length}
+use Rattle.std.specs.Prelude.{◌≡◌, ◌<◌, ℕ, ℤ, pos, List, All, length}
 use Rattle.subscripts.specs.Forms.{IsInRegion, difference}
 use Rattle.subscripts.specs.Groups.{IsPairOfAll}
 use Rattle.subscripts.specs.Shapes.{IsPairing, AreDirsOf, IsBeside}

@@ -27,7 +27,9 @@ impl Constraints {
         ensures kept { (x y : List ℤ) → AreKept result x y }
     {
         let anywhere = Constraint::Anywhere;
-        let all = [anywhere, anywhere, anywhere, anywhere, anywhere, anywhere, anywhere];
+        let all = [
+            anywhere, anywhere, anywhere, anywhere, anywhere, anywhere, anywhere,
+        ];
         Constraints {
             shared: all,
             first: all,

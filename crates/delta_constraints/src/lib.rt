@@ -5,13 +5,13 @@
 #![tactic(auto)]
 
 mod constraints;
-mod left;
 mod learn;
+mod left;
 mod put;
 mod refute;
 
 pub use constraints::Constraints;
-pub use put::{Reduced, reduced_by};
 pub use learn::learned_of_all;
 pub use left::{Left, left_of};
+pub use put::{Reduced, reduced_by};
 pub use refute::constraints_refute;

@@ -21,7 +21,11 @@ fn leaves_none_at(constraints: &Constraints, p: &Pairing, d: &Dirs, place: usize
     ensures { IsTrue result → LeavesNoRegion constraints.now p.now d.now }
 {
     if place < usize::from(p.common) {
-        return leaves_none(constraints.shared[place], p.from_spans[place].last, d.at[place]);
+        return leaves_none(
+            constraints.shared[place],
+            p.from_spans[place].last,
+            d.at[place],
+        );
     }
     leaves_none(constraints.first[place], p.from_spans[place].last, Dir::Any)
         || leaves_none(constraints.second[place], p.to_spans[place].last, Dir::Any)

@@ -1,5 +1,5 @@
-use Rattle.std.proofs.Common.{rules, ◌≡◌, ◌∙◌, ℕ, List, ap, arith, refl, sym}
-use Rattle.std.specs.Prelude.{ℤ, pos, ◌+ℤ◌, ◌*ℤ◌, FitsSigned}
+use Rattle.std.proofs.Common.{rules, ◌≡◌, ◌∙◌, ap, arith, refl}
+use Rattle.std.specs.Prelude.{ℤ, pos, ◌*ℤ◌, FitsSigned}
 use Rattle.std.proofs.lemmas.Int.{to_z-of_z}
 use Rattle.std.proofs.Math.IntN.{zero-*ℤ}
 use mir.Syntax.{w128}
@@ -8,8 +8,6 @@ use Rattle.line_points.specs.Lines.{OnLine}
 use Rattle.line_points.specs.declared.points.Line.{Line}
 use Rattle.loop_lines.specs.OneLoop.{first_at, second_at}
 use Rattle.loop_lines.specs.Places.{loop_at}
-use Rattle.subscripts.specs.Classes.{Loop, First, Second}
-use Rattle.delta_constraints.specs.Lefts.{IsOwnLine}
 use Rattle.delta_constraints.specs.Learned.{IsValue}
 use Rattle.delta_constraints.proofs.learn.constraint_along.Goals as goal
 

@@ -1,4 +1,4 @@
-use Rattle.std.proofs.Common.{◌≡◌, arith}
+use Rattle.std.proofs.Common.{arith}
 use Rattle.delta_constraints.proofs.learn.learned_once.Goals as goal
 
 pub loop-p-init : goal.loop-p-init

@@ -1,4 +1,3 @@
-use Rattle.std.proofs.Common.{refl}
 use Rattle.delta_constraints.proofs.Alone.{alone_shared, alone_first, alone_second}
 use Rattle.delta_constraints.proofs.left.is_alone.Goals as goal
 

@@ -21,6 +21,6 @@ returns c =
     let ha : FitsSigned w128 (pos 0 -ℤ c.from-2.result) = fits_signed_from_abs w128 _ (omega (arith, ints)) in
     let hb : FitsSigned w128 (pos 0 -ℤ c.args.r.now.constant) = fits_signed_from_abs w128 _ (omega (arith, ints)) in
     simp to_z-of_z (
-      left_line c.args.r.now (loop_at c.args.at) c.from.result (pos 0 -ℤ c.from-2.result) (pos 0 -ℤ c.args.r.now.constant) c.requires.sized c.requires.cancels c.requires.place c.requires.matters
-      (c.is_alone.ensures (search rules)) z ea (ap (λ (t : ℤ). pos 0 -ℤ t) eb) refl
+    left_line c.args.r.now (loop_at c.args.at) c.from.result (pos 0 -ℤ c.from-2.result) (pos 0 -ℤ c.args.r.now.constant) c.requires.sized c.requires.cancels c.requires.place c.requires.matters
+    (c.is_alone.ensures (search rules)) z ea (ap (λ (t : ℤ). pos 0 -ℤ t) eb) refl
     )

@@ -1,5 +1,5 @@
-use Rattle.std.proofs.Common.{rules, ◌≡◌, ◌∙◌, sym, not}
-use Rattle.std.specs.Prelude.{pos, FitsSigned, IsTrue}
+use Rattle.std.proofs.Common.{rules}
+use Rattle.std.specs.Prelude.{pos, FitsSigned}
 use Rattle.std.proofs.lemmas.Int.{to_z-of_z}
 use mir.Syntax.{w128}
 use Rattle.subscripts.specs.Classes.{Cancels}

@@ -1,11 +1,9 @@
-use Rattle.std.proofs.Common.{rules, ◌≡◌, ◌<◌, ◌∙◌, ◌+◌, ap, arith, sym, get_or}
+use Rattle.std.proofs.Common.{rules, ◌≡◌, ◌∙◌, ap, arith, get_or}
 use Rattle.std.specs.Prelude.{ℤ, pos, ◌-ℤ◌, FitsSigned}
 use Rattle.std.proofs.lemmas.Int.{ints, to_z-of_z, fits_signed_from_abs}
 use mir.Syntax.{w64, w128}
 use Rattle.subscripts.proofs.Sizes.{small_fits, place_fits}
-use Rattle.delta_constraints.specs.Reductions.{with_term}
-use Rattle.delta_constraints.specs.declared.put.Reduced.{Reduced}
-use Rattle.delta_constraints.proofs.Putting.{IsPutUpTo, begun, put_one, all_put}
+use Rattle.delta_constraints.proofs.Putting.{begun, put_one, all_put}
 use Rattle.delta_constraints.proofs.put.reduced_by.Goals as goal
 
 pub loop-place-init : goal.loop-place-init

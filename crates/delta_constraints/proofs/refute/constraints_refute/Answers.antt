@@ -1,4 +1,3 @@
-use Rattle.std.proofs.Common.{◌≡◌, arith}
 use Rattle.delta_constraints.proofs.Refuting.{equal_sides}
 use Rattle.delta_constraints.proofs.refute.constraints_refute.Goals as goal
 

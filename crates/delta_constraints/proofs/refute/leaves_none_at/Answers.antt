@@ -1,5 +1,4 @@
-use Rattle.std.proofs.Common.{◌<◌, ◌≡◌, get_or, arith, length}
-use Rattle.subscripts.specs.Iterations.{once}
+use Rattle.std.proofs.Common.{◌<◌, arith}
 use Rattle.delta_constraints.proofs.Regions.{none_shared, none_first, none_second}
 use Rattle.delta_constraints.proofs.refute.leaves_none_at.Goals as goal
 

@@ -1,4 +1,4 @@
-use Rattle.std.proofs.Common.{◌≡◌, arith}
+use Rattle.std.proofs.Common.{arith}
 use Rattle.delta_constraints.proofs.refute.one_is_refuted.Goals as goal
 
 pub returns-then-is_refuted : goal.returns-then-is_refuted

@@ -1,8 +1,8 @@
-use Rattle.std.proofs.Common.{◌≡◌, ◌<◌, length, arith}
-use Rattle.std.specs.Prelude.{ℤ, pos}
+use Rattle.std.proofs.Common.{◌<◌, arith}
+use Rattle.std.specs.Prelude.{pos}
 use Rattle.std.proofs.lemmas.List.Elements.{All-set}
 use Rattle.loop_constraints.specs.Constraints.{Allows, IsConstraint}
-use Rattle.subscripts.specs.Classes.{Loop, Shared, First, Second, at_place}
+use Rattle.subscripts.specs.Classes.{Shared, First, Second, at_place}
 use Rattle.delta_constraints.specs.Kept.{constraint_on}
 use Rattle.loop_lines.specs.OneLoop.{first_at, second_at}
 use Rattle.delta_constraints.proofs.Holding.{kept_set}
