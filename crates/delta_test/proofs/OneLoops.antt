@@ -19,7 +19,8 @@ use Rattle.loop_constraints.specs.declared.constraint.Constraint.{Constraint}
 use Rattle.loop_lines.specs.OneLoop.{first_at, second_at, dir_of, first_point, second_point, HasSevenLists, HasSevenPlaces, IsLineOf}
 use Rattle.loop_lines.proofs.Crossings.{within_seven}
 use Rattle.loop_lines.proofs.Pairs.{pair_point, cut_point, point_pair, points_in_order, IsPointOfPair, IsPointOfCut}
-use Rattle.delta_test.specs.Groups.{AreMembers, HasOneLoopOfAll, OnAllLines, HasNoneOfAll, IsLeastOfAll, line_at}
+use Rattle.delta_constraints.specs.Members.{AreMembers}
+use Rattle.delta_test.specs.Groups.{HasOneLoopOfAll, OnAllLines, HasNoneOfAll, IsLeastOfAll, line_at}
 
 own_line : (p : Pairing) (l : Loop) → IsLineOf p l (line_at l p)
 own_line p l = record { first = refl; second = refl; constant = refl }

@@ -4,20 +4,13 @@ use Rattle.subscripts.specs.Classes.{Loop, HasOneLoop, first_of, second_of, span
 use Rattle.subscripts.specs.Cuts.{cut}
 use Rattle.subscripts.specs.Groups.{IsPairOfAll, IsLeastPairOfAll, group_dirs}
 use Rattle.subscripts.specs.Refutations.{IsRefutedByGcd, IsOneSided}
-use Rattle.subscripts.specs.Shapes.{IsPairing, AreDirsOf, IsBeside}
 use Rattle.subscripts.specs.declared.affine.Dirs.{Dirs}
 use Rattle.subscripts.specs.declared.pairing.Pairing.{Pairing}
 use Rattle.subscripts.specs.declared.verdict.Test.{Test}
 use Rattle.subscripts.specs.declared.verdict.Test.TheVariants.{Delta}
+use Rattle.delta_constraints.specs.Members.{HasNoPairOfAll}
 use Rattle.line_points.specs.Lines.{OnLine}
 use Rattle.line_points.specs.declared.points.Line.{Line}
-
--- pairings of the same two references, and directions of theirs
-pub record AreMembers (ps : List Pairing) (d : Dirs) : Type 0 where
-  pub some : 0 < length ps
-  pub pairings : All IsPairing ps
-  pub beside : All (λ p. All (IsBeside p) ps) ps
-  pub dirs : All (λ p. AreDirsOf p d) ps
 
 -- all have this one loop
 abbrev pub HasOneLoopOfAll : List Pairing → Loop → Type 0
@@ -36,11 +29,7 @@ line_at l p =
 abbrev pub OnAllLines : Loop → List Pairing → ℤ → ℤ → Type 0
 OnAllLines l ps i j = All (λ p. OnLine (line_at l p) i j) ps
 
--- no pair of iterations of all
-abbrev pub HasNoPairOfAll : List Pairing → Dirs → Type 0
-HasNoPairOfAll ps d = (x y : List ℤ) → IsPairOfAll ps d x y → ⊥
-
--- nor of the loop that matters
+-- no pair of iterations of all, cut to the loop that matters
 abbrev pub HasNoCutPairOfAll : List Pairing → Dirs → Type 0
 HasNoCutPairOfAll ps d = HasNoPairOfAll (map cut ps) (group_dirs ps d)
 

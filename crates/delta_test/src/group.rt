@@ -5,10 +5,11 @@ ghost use Rattle.subscripts.specs.Groups.{IsExactGroup};
 ghost use Rattle.subscripts.specs.Shapes.{IsGroup, AreDirsOf, members};
 ghost use Rattle.loop_lines.specs.Places.{loop_at};
 ghost use Rattle.loop_lines.specs.Verdicts.{OnNever, IfPair, OnAssumed, test_of};
-ghost use Rattle.delta_test.specs.Groups.{AreMembers, AreNotRefuted, IsExactWith, delta_word};
-ghost use Rattle.delta_test.specs.Groups.{HasNoPairOfAll, HasNoCutPairOfAll, IsLeastOfAll};
+ghost use Rattle.delta_constraints.specs.Members.{AreMembers, HasNoPairOfAll};
+ghost use Rattle.delta_test.specs.Groups.{AreNotRefuted, HasNoCutPairOfAll, IsExactWith, IsLeastOfAll, delta_word};
 
 use crate::one_loop::{least_pair_of_all, loop_of_all};
+use delta_constraints::constraints_refute;
 use gcd_banerjee::{gcd_refutes, range_refutes};
 use loop_lines::{LoopPlace, bounds_at, constant_trip};
 use subscripts::{Dirs, Group, Pairing, Test, Verdict};
@@ -41,7 +42,8 @@ fn one_is_refuted(ps: &[Pairing], d: &Dirs) -> bool
     false
 }
 
-/// Tests a group. Where all members have one and the same loop, with a constant trip, that loop alone decides.
+/// Tests a group. Where all members have one and the same loop, with a constant trip, that loop alone decides. Elsewhere
+/// the group is refuted by the GCD test or Banerjee's on a member as it is, or by what the members say of their loops.
 pub fn test_group(g: &Group, d: &Dirs) -> Verdict
     requires group { IsGroup g.now }
     requires dirs { All (λ p. AreDirsOf p d.now) (members g.now) }
@@ -59,6 +61,9 @@ pub fn test_group(g: &Group, d: &Dirs) -> Verdict
         };
     }
     if one_is_refuted(ps, d) {
+        return Verdict::Never(Test::Delta);
+    }
+    if constraints_refute(ps, d) {
         return Verdict::Never(Test::Delta);
     }
     Verdict::Assumed(Test::Delta)

@@ -28,7 +28,7 @@ pub struct Bounds {
 }
 
 /// A loop at this place that has a coefficient.
-fn mattering_at(p: &Pairing, place: usize) -> Option<LoopPlace>
+pub fn mattering_at(p: &Pairing, place: usize) -> Option<LoopPlace>
     requires { place < 7 }
     ensures { MatchOption result (HasNoneAt p.now place) (λ l. Matters p.now (loop_at l)) }
 {

@@ -1,12 +1,14 @@
-//! Whether pairings and directions keep what callers have to keep.
+//! Whether pairings, directions and groups keep what callers have to keep.
 ghost use Rattle.std.specs.List.Sorted.{IsStrictlyIncreasing};
 ghost use Rattle.std.specs.Prelude.{◌≡◌, ◌≢◌, ℕ, ◌≤◌, ◌<◌, ◌↔◌, All, IsSome, IsTrue, length, map, pos};
 ghost use Rattle.std.specs.Prelude.{slice_index_or};
 ghost use Rattle.subscripts.specs.Iterations.{once};
-ghost use Rattle.subscripts.specs.Shapes.{AreDirsOf, AreSpans, AreSymbols, IsForm, IsPairing, IsSmall};
+ghost use Rattle.subscripts.specs.Classes.{IsZiv};
+ghost use Rattle.subscripts.specs.Shapes.{AreDirsOf, AreSpans, AreSymbols, IsBeside, IsForm, IsGroup, IsPairing, IsSmall};
 
 use crate::affine::{Affine, Dir, Dirs, Span};
-use crate::pairing::Pairing;
+use crate::classes::classify;
+use crate::pairing::{Class, Group, Pairing};
 
 // The size that no coefficient and no constant is above.
 const LARGEST: u64 = 1 << 40;
@@ -158,6 +160,57 @@ impl Dirs {
         }
         for (place, direction) in self.at.iter().enumerate() {
             if place >= usize::from(p.common) && *direction != Dir::Any {
+                return false;
+            }
+        }
+        true
+    }
+}
+
+// A member of a group: a valid pairing of an SIV class or Miv.
+fn is_member(p: &Pairing) -> bool
+    ensures pairing { IsTrue result → IsPairing p.now }
+    ensures linear { IsTrue result → IsTrue p.now.known }
+    ensures not_ziv { IsTrue result → IsZiv p.now → ⊥ }
+{
+    if !p.is_valid() {
+        return false;
+    }
+    match classify(p) {
+        Class::Ziv | Class::Unknown => false,
+        Class::Strong | Class::WeakZero | Class::WeakCrossing | Class::GeneralSiv | Class::Miv => true,
+    }
+}
+
+// The same loops stand round the references.
+fn are_beside(p: &Pairing, q: &Pairing) -> bool
+    ensures { IsTrue result → IsBeside p.now q.now }
+{
+    if p.common != q.common {
+        return false;
+    }
+    if p.from_depth != q.from_depth {
+        return false;
+    }
+    if p.to_depth != q.to_depth {
+        return false;
+    }
+    are_same(&p.from_spans, &q.from_spans, 7) && are_same(&p.to_spans, &q.to_spans, 7)
+}
+
+impl Group {
+    /// Whether it keeps what each group has to: from one to seven valid pairings of the same two references, each of an
+    /// SIV class or Miv.
+    pub fn is_valid(&self) -> bool
+        ensures { IsTrue result → IsGroup self.now }
+    {
+        let count = usize::from(self.count);
+        if count < 1 || count > 7 {
+            return false;
+        }
+        let members = &self.at[..count];
+        for member in members {
+            if !is_member(member) || !are_beside(&members[0], member) {
                 return false;
             }
         }

@@ -1,0 +1,5 @@
+pub mod Kept
+pub mod Reductions
+pub mod Lefts
+pub mod Members
+pub mod Learned
