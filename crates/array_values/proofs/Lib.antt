@@ -4,3 +4,7 @@ pub mod Steps
 pub mod Values
 pub mod Calls
 pub mod ExtentLaws
+pub mod Numbers
+pub mod Masks
+pub mod Triplets
+pub mod AxisLaws

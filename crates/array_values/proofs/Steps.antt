@@ -1,6 +1,10 @@
 -- Answers of steps, one after the other, and of a list's elements in turn.
-use Rattle.std.proofs.Common.{◌≡◌, refl, sym, ap, ◌∙◌, subst, zero, suc, ℕ, ◌+◌, ◌-◌, ◌<◌, ◌≤◌, List, [], ◌∷◌, ◌++◌, map, drop, length, Result, Ok, Err, arith, append_assoc}
-use Rattle.std.proofs.lemmas.List.{append-nil}
+use Rattle.std.proofs.Common.{◌≡◌, refl, sym, ap, ◌∙◌, subst, zero, suc, ℕ, ◌+◌, ◌-◌, ◌<◌, ◌≤◌, List, [], ◌∷◌, ◌++◌, map, drop, length, get_or, Result, Ok, Err, arith, append_assoc}
+use Rattle.std.proofs.lemmas.List.{append-nil, at_drop_more, at_drop_all}
+use Rattle.std.proofs.Common.{ℤ, SFits, to_z, of_z}
+use Rattle.std.specs.Int.{w128}
+use Rattle.std.proofs.lemmas.Int.{to_z-of_z}
+use Rattle.std.specs.Prelude.{All}
 use Rattle.std.specs.Result.{IsErrAnd}
 use Rattle.fv_tree.specs.Steps.{◌>>=◌}
 use Rattle.fv_tree.specs.declared.ops.Fault.{Fault}
@@ -84,3 +88,22 @@ module _ {A B : Type 0} (f : A → Result B Fault) (p : ℕ → A) (n : ℕ) whe
 
     pub places_done : n ≤ k → whole ≡ Ok done
     places_done l = so_far ∙ ap (λ ks. left_of f done (map p ks)) (counted_none k n l) ∙ left_done f done
+
+-- the same for a list from a place in it on
+module _ {A B : Type 0} (f : A → Result B Fault) (whole : Result (List B) Fault) (done : List B) (xs : List A) (i : ℕ) (so_far : whole ≡ left_of f done (drop i xs)) where
+  pub list_fault : (d : A) (e : Fault) → i < length xs → f (get_or xs i d) ≡ Err e → whole ≡ Err e
+  list_fault d e l k = so_far ∙ at_drop_more (left_of f done) xs i d l ∙ left_fault f done (get_or xs i d) (drop (i + 1) xs) e k
+
+  pub list_more : (d : A) (y : B) → i < length xs → f (get_or xs i d) ≡ Ok y → whole ≡ left_of f (done ++ y ∷ []) (drop (i + 1) xs)
+  list_more d y l k = so_far ∙ at_drop_more (left_of f done) xs i d l ∙ left_more f done (get_or xs i d) (drop (i + 1) xs) y k
+
+  pub list_done : length xs ≤ i → whole ≡ Ok done
+  list_done l = so_far ∙ at_drop_all (left_of f done) xs i l ∙ left_done f done
+
+-- a number of 128 bits, written and read back
+pub settled : (z : ℤ) → SFits w128 z → to_z w128 (of_z w128 z) ≡ z
+settled z h = to_z-of_z w128 z h
+
+pub all_of_one : {A : Type 0} (P : A → Type 0) (x : A) → P x → All P (x ∷ [])
+all_of_one P x p zero d h = p
+all_of_one P x p (suc k) d h = absurd (omega arith)

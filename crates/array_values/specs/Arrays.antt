@@ -1,10 +1,11 @@
 -- The arrays that stand for those of a program's meaning.
 use Rattle.std.specs.Prelude.{Result, Ok, Err, ℕ, List, [], ◌∷◌}
 use Rattle.fv_tree.specs.Steps.{◌>>=◌}
-use Rattle.fv_tree.specs.Operators.{apply, call}
+use Rattle.fv_tree.specs.Operators.{apply, call, as_numbers, reduced}
 use Rattle.fv_tree.specs.declared.ops.Value.{Value}
 use Rattle.fv_tree.specs.declared.ops.Fault.{Fault}
 use Rattle.fv_tree.specs.declared.functions.Fun.{Fun}
+use Rattle.fv_tree.specs.declared.functions.Red.{Red}
 use Rattle.fv_meaning.specs.ArrayValues.{Array, Elements, settled, mapped, without_dimension, swapped}
 use Rattle.array_values.specs.declared.known.Known.{Known as Known'}
 use Rattle.array_values.specs.declared.prepared.Prepared.{Prepared, fold-Prepared}
@@ -35,6 +36,12 @@ abbrev pub called_at : Fun → List (Elements Value) → List ℕ → Result Val
 called_at f gs is = do
   xs ← all_at gs is
   call f xs
+
+-- the number that a reduction gathers
+abbrev pub reduced_values : ℕ → Red → List Value → Result Value Fault
+reduced_values bits r vs = do
+  zs ← as_numbers vs
+  reduced bits r zs
 
 -- one layer, over its parts
 abbrev pub prepared_step : Prepared-F (Elements Value) → Elements Value

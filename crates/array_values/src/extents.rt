@@ -35,7 +35,8 @@ pub fn count(extents: &[u128]) -> Option<usize>
     usize::try_from(saturated_size(extents)).ok()
 }
 
-fn saturated_size(extents: &[u128]) -> u128
+/// How many elements there are, or 2^128 - 1 where they are more.
+pub fn saturated_size(extents: &[u128]) -> u128
     ensures { result ≡ min (size extents.now) (2 ^ 128 - 1) }
 {
     match extents.split_first() {

@@ -6,7 +6,10 @@ mod extents;
 mod failure;
 mod known;
 mod prepared;
+mod sections;
 
+pub use extents::check_conform;
 pub use failure::Failure;
 pub use known::Known;
-pub use prepared::Prepared;
+pub use prepared::{Prepared, common_extents};
+pub use sections::{Axis, Selector, axes, extents_of};

@@ -1,7 +1,10 @@
 //! Arrays whose elements are computed when they are asked for.
-ghost use Rattle.std.specs.Prelude.{◌≡◌, map, [], IfOk, List};
+ghost use Rattle.std.specs.Prelude.{◌≡◌, ◌<◌, map, [], IfOk, List, ℕ, All};
 ghost use Rattle.fv_tree.specs.Operators.{apply};
-ghost use Rattle.fv_meaning.specs.ArrayValues.{in_whole, each, positions, mapped, paired, settled, without_dimension, swapped};
+ghost use Rattle.fv_meaning.specs.ArrayValues.{in_whole, each, positions, mapped, paired, settled, without_dimension};
+ghost use Rattle.fv_meaning.specs.ArrayValues.{swapped, spread, transposed, with_extent, size};
+ghost use Rattle.array_values.specs.Positions.{position_at};
+ghost use Rattle.array_values.specs.Masks.{true_places};
 ghost use Rattle.array_values.specs.Arrays.{array_in, elements_in, extents_together, called_at};
 ghost use Rattle.array_values.specs.Answers.{Answers};
 
@@ -95,7 +98,7 @@ impl Prepared {
                 }
                 own
             }
-            Prepared::Call(_, parts) => extents_of(parts.as_slice()),
+            Prepared::Call(_, parts) => common_extents(parts.as_slice()),
             Prepared::Spread(extents, ..) => extents.as_slice(),
             Prepared::Transposed(extents, _) => extents.as_slice(),
         }
@@ -143,9 +146,9 @@ impl Prepared {
     }
 }
 
-// The extents of arguments that conform.
+/// The extents of arrays that conform.
 #[cycle(extents)]
-fn extents_of(parts: &[Prepared]) -> &[u128]
+pub fn common_extents(parts: &[Prepared]) -> &[u128]
     ensures { result.now ≡ extents_together [] (map elements_in parts.now) }
 {
     for part in parts {
@@ -161,4 +164,98 @@ fn copy(alloc: Global, numbers: &[u128]) -> Result<Seq<u128>, Memory>
     ensures { IfOk result (λ copy. copy ≡ numbers.now) }
 {
     Ok(Seq::from_vec(Vec::from_slice(alloc, numbers)?))
+}
+
+impl Prepared {
+    /// As many copies of the array as `count` says, along a new dimension. Dimensions count from 1.
+    #[tactic(auto, using(crate::proofs::Equations::prepared_laws))]
+    pub fn spread(
+        alloc: Global,
+        array: Known,
+        dimension: usize,
+        count: u128,
+    ) -> Result<Prepared, Memory>
+        ensures { IfOk result (λ p. elements_in p ≡ spread dimension count (array_in array)) }
+    {
+        let extents = with_extent(alloc, array.extents.as_slice(), dimension, count)?;
+        Ok(Prepared::Spread(extents, dimension, array))
+    }
+
+    /// The array with its first two dimensions exchanged.
+    #[tactic(auto, using(crate::proofs::Equations::prepared_laws))]
+    pub fn transposed(alloc: Global, array: Known) -> Result<Prepared, Memory>
+        ensures { IfOk result (λ p. elements_in p ≡ transposed (array_in array)) }
+    {
+        let extents = swapped(alloc, array.extents.as_slice())?;
+        Ok(Prepared::Transposed(extents, array))
+    }
+
+    /// The places within these extents, in order, at which the mask is true.
+    pub fn true_places(&self, alloc: Global, extents: &[u128]) -> Result<Seq<usize>, Failure>
+        ensures places { Answers (λ (ks : List ℕ). ks) (true_places (elements_in self.now) extents.now) result }
+        ensures within { IfOk result (λ ks. All (λ k. k < size extents.now) ks) }
+    {
+        let Some(count) = count(extents) else {
+            return Err(Failure::Memory);
+        };
+        let mut places = Seq::new(alloc);
+        let mut position = Vec::new(alloc);
+        for place in 0..count {
+            set_position(&mut position, extents, place)?;
+            if self.at(&position)?.as_truth()? {
+                places.push(place)?;
+            }
+        }
+        Ok(places)
+    }
+
+    /// The elements at these places within these extents.
+    pub fn values_at(
+        &self,
+        alloc: Global,
+        extents: &[u128],
+        places: &[usize],
+    ) -> Result<Seq<Value>, Failure>
+        requires { All (λ k. k < size extents.now) places.now }
+        ensures { Answers (λ (vs : List Value). vs)
+            (each (λ k. (elements_in self.now).at (position_at extents.now k)) places.now) result }
+    {
+        let mut values = Seq::from_vec(Vec::with_capacity(alloc, places.len())?);
+        let mut position = Vec::new(alloc);
+        for place in places {
+            set_position(&mut position, extents, *place)?;
+            values.push(self.at(&position)?)?;
+        }
+        Ok(values)
+    }
+}
+
+fn with_extent(
+    alloc: Global,
+    extents: &[u128],
+    dimension: usize,
+    count: u128,
+) -> Result<Seq<u128>, Memory>
+    ensures { IfOk result (λ ns. ns ≡ with_extent dimension count extents.now) }
+{
+    let before = dimension.saturating_sub(1).min(extents.len());
+    let mut all = Vec::from_slice(alloc, &extents[..before])?;
+    all.push(count)?;
+    all.extend_from_slice(&extents[before..])?;
+    Ok(Seq::from_vec(all))
+}
+
+fn swapped(alloc: Global, extents: &[u128]) -> Result<Seq<u128>, Memory>
+    ensures { IfOk result (λ ns. ns ≡ swapped extents.now) }
+{
+    match extents {
+        [rows, columns, more @ ..] => {
+            let mut all = Vec::new(alloc);
+            all.push(*columns)?;
+            all.push(*rows)?;
+            all.extend_from_slice(more)?;
+            Ok(Seq::from_vec(all))
+        }
+        _ => copy(alloc, extents),
+    }
 }
