@@ -46,11 +46,7 @@ pub fn saturated_size(extents: &[u128]) -> u128
 }
 
 /// Puts the position at this place among those of these extents, in column-major order.
-pub fn set_position(
-    position: &mut Vec<u128>,
-    extents: &[u128],
-    place: usize,
-) -> Result<(), Memory>
+pub fn set_position(position: &mut Vec<u128>, extents: &[u128], place: usize) -> Result<(), Memory>
     requires { place < size extents.now }
     ensures { OnOk result (position.new.items ≡ position_at extents.now place) }
 {

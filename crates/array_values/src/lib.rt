@@ -7,6 +7,8 @@ mod failure;
 mod known;
 mod prepared;
 mod sections;
+#[cfg(test)]
+mod tests;
 
 pub use extents::check_conform;
 pub use failure::Failure;

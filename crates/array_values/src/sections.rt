@@ -79,13 +79,7 @@ fn first_number(lower: i128, upper: i128, stride: i128) -> Option<i128>
 }
 
 // The numbers of a triplet, of which there may be none.
-fn triplet(
-    alloc: Global,
-    dim: Dim,
-    lower: i128,
-    upper: i128,
-    stride: i128,
-) -> Result<Axis, Failure>
+fn triplet(alloc: Global, dim: Dim, lower: i128, upper: i128, stride: i128) -> Result<Axis, Failure>
     requires { stride ≡ pos 0 → ⊥ }
     ensures { Answers axis_in (along (bounds_of dim) (triplet_numbers lower upper stride)) result }
 {

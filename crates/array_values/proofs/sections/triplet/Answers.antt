@@ -34,7 +34,7 @@ returns-in_err-bounded c =
     let small : SFits w128 z = search rules in
     let goes : goes_on z u s ≡ true = subst (λ o. IfSome o (λ z. goes_on z u s ≡ true)) c.in-Some.is c.loop-next.invariant.goes in
     let left : each f (triplet_numbers l u s) ≡ left_of f c.loop-next.selected (triplet_numbers z u s)
-        = subst (λ o. each f (triplet_numbers l u s) ≡ left_of f c.loop-next.selected (left_numbers o u s)) c.in-Some.is c.loop-next.invariant.so_far in
+    = subst (λ o. each f (triplet_numbers l u s) ≡ left_of f c.loop-next.selected (left_numbers o u s)) c.in-Some.is c.loop-next.invariant.so_far in
     let e = triplet_fault f u s z (each f (triplet_numbers l u s)) c.loop-next.selected nonzero goes left c.in_err-bounded.field-0.0 (sym (c.in_err-bounded.ensures ∙ ap f (settled z small))) in
     rw (residual c.from_residual.ensures.1)
     (along_fault (bounds_of c.args.dim) (triplet_numbers c.args.lower c.args.upper c.args.stride) c.in_err-bounded.field-0.0
@@ -64,7 +64,7 @@ loop-next-preserved c =
     let fits : SFits w64 y = search rules in
     let goes : goes_on z u s ≡ true = subst (λ o. IfSome o (λ z. goes_on z u s ≡ true)) c.in-Some.is c.loop-next.invariant.goes in
     let left : each f (triplet_numbers l u s) ≡ left_of f c.loop-next.selected (triplet_numbers z u s)
-        = subst (λ o. each f (triplet_numbers l u s) ≡ left_of f c.loop-next.selected (left_numbers o u s)) c.in-Some.is c.loop-next.invariant.so_far in
+    = subst (λ o. each f (triplet_numbers l u s) ≡ left_of f c.loop-next.selected (left_numbers o u s)) c.in-Some.is c.loop-next.invariant.so_far in
     let e = triplet_more f u s z (each f (triplet_numbers l u s)) c.loop-next.selected nonzero goes left y (sym (c.in_ok-bounded.ensures ∙ ap f (settled z small))) in
     let after = subst (λ y. MatchOption c.next_number-next.result (goes_on (y +ℤ s) u s ≡ false) (λ x. (x ≡ y +ℤ s) × (goes_on x u s ≡ true))) (settled z small) c.next_number-next.ensures in
     record {
@@ -82,7 +82,7 @@ returns c =
     let s = to_z w128 (of_z w128 c.args.stride) in
     let ends : c.loop-next.next ≡ None = search rules in
     let left : each f (triplet_numbers l u s) ≡ left_of f c.loop-next.selected []
-        = subst (λ o. each f (triplet_numbers l u s) ≡ left_of f c.loop-next.selected (left_numbers o u s)) ends c.loop-next.invariant.so_far in
+    = subst (λ o. each f (triplet_numbers l u s) ≡ left_of f c.loop-next.selected (left_numbers o u s)) ends c.loop-next.invariant.so_far in
     along_is (bounds_of c.args.dim) (triplet_numbers c.args.lower c.args.upper c.args.stride) c.loop-next.selected
     (ap (each f) (triplet_same c.args.lower c.args.upper c.args.stride l u s (settled c.args.lower c.ranges.lower) (settled c.args.upper c.ranges.upper) (settled c.args.stride c.ranges.stride))
     ∙ left ∙ left_done f c.loop-next.selected)

@@ -35,19 +35,20 @@ pub loop-place-preserved : goal.loop-place-preserved
 loop-place-preserved c =
     let g = elements_in c.args.self.now in
     elim c.if-branch.branch [
-      then-branch+in_ok-push w ↦ (rw (w.places-is, w.in_ok-push.ensures.ok) (record {
+      | then-branch+in_ok-push w ↦ (rw (w.places-is, w.in_ok-push.ensures.ok) (record {
         so_far = mask_true g c.args.extents.now c.in-Some.count _ c.loop-place.places c.loop-place.place c.loop-place.invariant.so_far
             c.in_ok-at.field-0 (omega arith) (sym (c.in_ok-at.ensures ∙ ap g.at (c.deref.ensures.value ∙ c.in_ok-set_position.ensures)))
             (sym c.in_ok-as_truth.ensures ∙ ap (λ b. let r : Result Bool Fault = Ok b in r) w.if-branch.true);
         within = All-append (λ k. k < size c.args.extents.now) c.loop-place.places (c.loop-place.place ∷ []) c.loop-place.invariant.within
             (all_of_one (λ k. k < size c.args.extents.now) c.loop-place.place (let e : size c.args.extents.now ≡ c.in-Some.count = c.in-Some.ensures in omega arith));
       }))
-    | else-branch w ↦ (rw w.places-is (record {
+      | else-branch w ↦ (rw w.places-is (record {
         so_far = mask_false g c.args.extents.now c.in-Some.count _ c.loop-place.places c.loop-place.place c.loop-place.invariant.so_far
             c.in_ok-at.field-0 (omega arith) (sym (c.in_ok-at.ensures ∙ ap g.at (c.deref.ensures.value ∙ c.in_ok-set_position.ensures)))
             (sym c.in_ok-as_truth.ensures ∙ ap (λ b. let r : Result Bool Fault = Ok b in r) w.if-branch.false);
         within = c.loop-place.invariant.within;
-      })) ]
+      }))
+    ]
 
 pub returns-clause-places : goal.returns-clause-places
 returns-clause-places c =
