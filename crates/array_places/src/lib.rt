@@ -1,0 +1,9 @@
+//! The places of elements and of what references select, among the elements of arrays in column-major order (ISO/IEC
+//! 1539:1991, section 6.2.2.2).
+#![tactic(auto)]
+
+mod elements;
+mod selected;
+
+pub use elements::{count, extents, place, size};
+pub use selected::{places, values_at};

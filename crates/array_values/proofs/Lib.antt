@@ -1,0 +1,10 @@
+pub mod Equations
+pub mod Positions
+pub mod Steps
+pub mod Values
+pub mod Calls
+pub mod ExtentLaws
+pub mod Numbers
+pub mod Masks
+pub mod Triplets
+pub mod AxisLaws

@@ -1,0 +1,32 @@
+use Rattle.std.proofs.Common.{◌≡◌, refl, sym, ap, subst, ◌∙◌, arith, rules, pos}
+use Rattle.fv_tree.specs.declared.ops.Value.TheVariants.{Int}
+use Rattle.fv_tree.specs.declared.gathered.Gathered.{Gathered}
+use Rattle.fv_tree.specs.declared.gathered.Gathered.TheVariants.{Nothing}
+use Rattle.fv_tree.specs.Gathered.{gathered, added}
+use Rattle.fv_tree.proofs.Reductions.{whole-of}
+use Rattle.array_values.specs.Arrays.{reduced_values}
+use Rattle.array_values.proofs.Steps.{residual, settled}
+use Rattle.array_values.proofs.Numbers.{left_to_reduce, reduce_begun, reduce_fault, reduce_more, reduce_done}
+use Rattle.array_values.proofs.known.Known.reduce.Goals as goal
+
+pub loop-value-init : goal.loop-value-init
+loop-value-init c =
+    let begun = reduce_begun c.args.bits c.args.reduction (λ zs. whole-of c.args.bits c.args.reduction (gathered c.args.reduction zs) zs refl) c.args.self.now.values in
+    subst (λ vs. reduced_values c.args.bits c.args.reduction c.args.self.now.values ≡ left_to_reduce c.args.bits c.args.reduction Nothing vs) (sym c.as_slice-value-items.ensures) begun
+
+pub returns-in_err-as_number : goal.returns-in_err-as_number
+returns-in_err-as_number c =
+    residual c.from_residual.ensures.1
+    ∙ sym (reduce_fault c.args.bits c.args.reduction _ c.loop-value.gathered c.as_slice-value-items.result.now c.loop-value.value-index c.loop-value.invariant
+    (Int (pos 0)) c.in_err-as_number.field-0.0 (omega arith) (sym c.in_err-as_number.ensures))
+
+pub loop-value-preserved : goal.loop-value-preserved
+loop-value-preserved c =
+    let e = reduce_more c.args.bits c.args.reduction _ c.loop-value.gathered c.as_slice-value-items.result.now c.loop-value.value-index c.loop-value.invariant
+    (Int (pos 0)) c.in_ok-as_number.field-0 (omega arith) (sym c.in_ok-as_number.ensures) in
+    rw c.with-gathered.ensures (rw (settled c.in_ok-as_number.field-0 (search rules)) e)
+
+pub returns : goal.returns
+returns c =
+    c.reduce.ensures.value
+    ∙ sym (reduce_done c.args.bits c.args.reduction _ c.loop-value.gathered c.as_slice-value-items.result.now c.loop-value.value-index c.loop-value.invariant (omega arith))

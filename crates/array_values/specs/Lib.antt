@@ -1,0 +1,5 @@
+pub mod Answers
+pub mod Positions
+pub mod Arrays
+pub mod Masks
+pub mod Selections
