@@ -1,6 +1,5 @@
 -- Worked array assignments, all at once and one by one.
-use Rattle.std.proofs.Common.{◌≡◌, refl, ℕ, ℤ, pos, ◌*ℤ◌, List, [], ◌∷◌, map, Result, Ok, Err, Some}
-use lib.Chars.{codes}
+use Rattle.std.proofs.Common.{◌≡◌, refl, ℕ, ℤ, pos, ◌*ℤ◌, List, [], ◌∷◌, map, Result, Ok, Some}
 use Rattle.fv_tree.specs.Plain.{Expression, Logic, Reference, Binary, Section, Subscript}
 use Rattle.fv_tree.specs.Steps.{◌>>=◌}
 use Rattle.fv_tree.specs.declared.ops.Fault.{Fault}
@@ -10,7 +9,7 @@ use Rattle.fv_tree.specs.declared.ops.Value.TheVariants.{Int}
 use Rattle.std.specs.Prelude.{true}
 use Rattle.fv_meaning.specs.ArrayStatements.{axes_named, writes_of}
 use Rattle.fv_meaning.specs.Dialect.{fortran90}
-use Rattle.fv_meaning.specs.Store.{Store, Cell}
+use Rattle.fv_meaning.specs.Store.{Store}
 use Rattle.fv_meaning.proofs.DeckWords.{n, at, part, to_part, cell}
 use Rattle.array_laws.specs.Assignments.{elements_assigned}
 use Rattle.array_laws.specs.Elements.{cells_read_at}
