@@ -10,10 +10,10 @@ use Rattle.fv_tree.specs.declared.ops.Op.{Op}
 use Rattle.fv_tree.specs.declared.ops.Op.TheVariants.{Neg, Not}
 use Rattle.fv_tree.specs.Plain as tree
 use Rattle.fv_tree.specs.Plain.{Expression, Expressions, Subscript, Subscripts, Loops}
-use Rattle.fv_tree.specs.OperatorTable.{left_least, right_least, may_follow}
-use Rattle.f90_grammar.specs.Phrases.{Phrase, Literal, Paren, Value, Parts, One, Then, Phrases, Sole, More, Turn, Innermost, Round, level, begins_with_sign, called, argument_of, arguments_of, tree_of, tree_of_part, trees_of_parts, trees_of_values, looped}
+use Rattle.fv_tree.specs.OperatorTable.{left_least, right_least}
+use Rattle.f90_grammar.specs.Phrases.{Phrase, Literal, Paren, Value, Parts, One, Then, Phrases, Sole, More, Turn, Innermost, Round, level, called, argument_of, arguments_of, tree_of, tree_of_part, trees_of_parts, trees_of_values, looped}
 use Rattle.fv_tree.specs.Functions.{name_of_function, name_of_reduction}
-use Rattle.f90_grammar.specs.Printing.{fit, behind, unary_phrase, digits_of, is_one, section, phrase_of, part_of, more_parts, more_arguments, more_values, rounds, IsLiteral, is_negating, IsSource, EachIsSource, IsSourceSubscript, AreSource, LoopsAreSource}
+use Rattle.f90_grammar.specs.Printing.{fit, unary_phrase, digits_of, is_one, section, phrase_of, part_of, more_parts, more_arguments, more_values, rounds, IsLiteral, is_negating, IsSource, EachIsSource, IsSourceSubscript, AreSource, LoopsAreSource}
 use Rattle.fv_tree.specs.declared.functions.Intrinsic.{Intrinsic}
 
 -- ---- lists
@@ -58,12 +58,9 @@ module _ (function : List ℕ → Option Intrinsic) where
   fit_tree : (n : ℕ) (p : Phrase) → tree_of function (fit n p) ≡ tree_of function p
   fit_tree n p = cond_both (nat_le n (level p)) p (Paren p) (λ q. tree_of function q ≡ tree_of function p) (λ e. refl) (λ e. refl)
 
-  behind_tree : (o : Op) (p : Phrase) → tree_of function (behind o p) ≡ tree_of function p
-  behind_tree o p = cond_both (may_follow o (begins_with_sign p)) p (Paren p) (λ q. tree_of function q ≡ tree_of function p) (λ e. refl) (λ e. refl)
-
   unary_tree : (o : Op) (p : Phrase) → IsTrue (is_negating o) → tree_of function (unary_phrase o p) ≡ tree.Unary o (tree_of function p)
   unary_tree Neg p h = ap (tree.Unary Neg) (fit_tree 8 p)
-  unary_tree Not p h = ap (tree.Unary Not) (fit_tree 6 (behind Not p) ∙ behind_tree Not p)
+  unary_tree Not p h = ap (tree.Unary Not) (fit_tree 6 p)
   unary_tree o p h = cc
 
   literal_tree : (n : ℤ) → IsLiteral n → tree_of function (Literal (digits_of n)) ≡ tree.Number n
@@ -86,7 +83,7 @@ module _ (function : List ℕ → Option Intrinsic) where
         ∙ ap (λ ts. tree.Named x (tree.subscript s ts)) (subscripts-list ss)
     back (tree.Unary o a) h = unary_tree o (phrase_of a) h.0 ∙ ap (tree.Unary o) (back a h.1)
     back (tree.Binary o a b) h =
-        ap₂ (tree.Binary o) (fit_tree (left_least o) (phrase_of a) ∙ back a h.1) (fit_tree (right_least o) (behind o (phrase_of b)) ∙ (behind_tree o (phrase_of b) ∙ back b h.2))
+        ap₂ (tree.Binary o) (fit_tree (left_least o) (phrase_of a) ∙ back a h.1) (fit_tree (right_least o) (phrase_of b) ∙ back b h.2)
     back (tree.Apply f tree.no_expressions) h = absurd h.1
     back (tree.Apply f (tree.expression e es)) h =
         ap (λ g. called g (name_of_function f) (trees_of_parts function (more_arguments (One (Value (phrase_of e))) es))) h.0

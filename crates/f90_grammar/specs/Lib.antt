@@ -1,8 +1,10 @@
-pub mod FreeForm
-pub mod Words
-pub mod Phrases
-pub mod Items
-pub mod Forms
 pub mod Blocks
-pub mod Reading
+pub mod Forms
+pub mod FreeForm
+pub mod Items
+pub mod Phrases
+pub mod PrintedForms
+pub mod PrintedText
 pub mod Printing
+pub mod Reading
+pub mod Words

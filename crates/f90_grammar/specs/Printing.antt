@@ -1,4 +1,5 @@
--- How an expression of Fortran 90 is written by the printer: with the parentheses that it needs.
+-- How an expression of Fortran 90 is written by the printer: with the parentheses that the levels of its operators need
+-- (ISO/IEC 1539:1991, section 7.3).
 use Rattle.std.specs.Prelude.{◌≡◌, ℕ, ◌^◌, ◌<◌, ℤ, pos, negsuc, nat_le, Bool, true, false, IsTrue, Option, Some}
 use Rattle.std.specs.Prelude.{None, List, [], codes, decimal, if◌then◌else◌}
 use Rattle.std.specs.Ordering.{int_eq}
@@ -6,10 +7,10 @@ use Rattle.fv_tree.specs.declared.ops.Op.{Op}
 use Rattle.fv_tree.specs.declared.ops.Op.TheVariants.{Neg, Not}
 use Rattle.fv_tree.specs.Plain as tree
 use Rattle.fv_tree.specs.Plain.{Expression, Expressions, Subscript, Subscripts, Loops}
-use Rattle.fv_tree.specs.OperatorTable.{Minus, Negation, left_least, right_least, stands_between, may_follow}
+use Rattle.fv_tree.specs.OperatorTable.{Minus, Negation, left_least, right_least, stands_between}
 use Rattle.f90_grammar.specs.Phrases.{Phrase, Literal, Truth, Name, Listed, Paren, Signed, Joined, Values, Looped, Part}
 use Rattle.f90_grammar.specs.Phrases.{Value, Range, Strided, Parts, One, Then, Phrases, Sole, More, Turn, Innermost}
-use Rattle.f90_grammar.specs.Phrases.{Round, level, begins_with_sign}
+use Rattle.f90_grammar.specs.Phrases.{Round, level}
 use Rattle.fv_tree.specs.Functions.{name_of_function, name_of_reduction}
 use Rattle.fv_tree.specs.declared.functions.Intrinsic.{Intrinsic}
 use Rattle.fv_tree.specs.declared.functions.Intrinsic.TheVariants.{Elemental, Reduction, Spread, Transpose, Reshape}
@@ -17,11 +18,8 @@ use Rattle.fv_tree.specs.declared.functions.Intrinsic.TheVariants.{Elemental, Re
 abbrev pub fit : ℕ → Phrase → Phrase
 fit n p = if nat_le n (level p) then p else Paren p
 
-abbrev pub behind : Op → Phrase → Phrase
-behind o p = if may_follow o (begins_with_sign p) then p else Paren p
-
 abbrev pub unary_phrase : Op → Phrase → Phrase
-unary_phrase Not p = Signed Negation (fit 6 (behind Not p))
+unary_phrase Not p = Signed Negation (fit 6 p)
 unary_phrase o p = Signed Minus (fit 8 p)
 
 abbrev pub digits_of : ℤ → List ℕ
@@ -56,7 +54,7 @@ abbrev mutual
   phrase_of (tree.Named x ss) = listed x (parts_of ss)
   phrase_of (tree.Unary o a) = unary_phrase o (phrase_of a)
   phrase_of (tree.Binary o a b) =
-      Joined o (fit (left_least o) (phrase_of a)) (fit (right_least o) (behind o (phrase_of b)))
+      Joined o (fit (left_least o) (phrase_of a)) (fit (right_least o) (phrase_of b))
   phrase_of (tree.Apply f es) = listed (name_of_function f) (arguments es)
   phrase_of (tree.Constructor es ls) = constructed ls (list_of es)
   phrase_of (tree.Spread a d n) =
