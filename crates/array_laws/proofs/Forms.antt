@@ -1,14 +1,12 @@
 -- An array assignment that stands for instances stores what they store.
-use Rattle.std.proofs.Common.{◌≡◌, refl, sym, ap, ◌∙◌, subst, ◌⊎◌, inl, inr, ℕ, List, [], ◌∷◌, ◌++◌, map, Result, Ok, Err, Option, Some, None, Contains}
-use Rattle.std.specs.List.{AllByRecursion}
-use Rattle.fv_tree.specs.Steps.{◌>>=◌}
+use Rattle.std.proofs.Common.{◌≡◌, refl, sym, ap, ◌∙◌, subst, ◌⊎◌, inl, inr, List, [], ◌∷◌, Result, Ok, Option, Some, None, Contains}
 use Rattle.fv_tree.specs.declared.ops.Fault.{Fault}
 use Rattle.fv_tree.specs.declared.ops.Value.{Value}
 use Rattle.fv_meaning.specs.ArrayValues.{each, positions}
 use Rattle.fv_meaning.specs.Sections.{extents_of}
 use Rattle.fv_meaning.specs.Store.{Store, Cell}
 use Rattle.array_laws.specs.Assignments.{element_assigned, elements_assigned}
-use Rattle.array_laws.specs.Forms.{StandsFor, StoreApart, ArrayFormIsInstances}
+use Rattle.array_laws.specs.Forms.{ArrayFormIsInstances}
 use Rattle.array_laws.specs.Instances.{Instance, puts, writes_in}
 use Rattle.array_laws.proofs.Assignments.{effects_are_writes}
 use Rattle.array_laws.proofs.Members.{here, there, nowhere, cases_of, in_map, of_map}

@@ -9,3 +9,4 @@ mod Forms
 mod Scalars
 mod Structure
 mod OneToOne
+mod WorkedAssignments

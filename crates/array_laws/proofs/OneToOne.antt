@@ -1,5 +1,5 @@
 -- Different positions have different cells, where no number is selected twice.
-use Rattle.std.proofs.Common.{◌≡◌, ◌≢◌, refl, sym, ap, ◌∙◌, subst, ◌⊎◌, inl, inr, ℕ, zero, suc, ◌+◌, ◌*◌, ◌/◌, ◌<◌, ◌≤◌, ℤ, pos, negsuc, neg_ℤ, ◌+ℤ◌, ◌-ℤ◌, ◌*ℤ◌, Bool, true, false, List, [], ◌∷◌, ◌++◌, map, length, Result, Ok, Err, Option, Some, None, arith, Contains}
+use Rattle.std.proofs.Common.{◌≡◌, ◌≢◌, refl, sym, ap, ◌∙◌, subst, ◌⊎◌, inl, inr, ℕ, zero, suc, ◌+◌, ◌*◌, ◌/◌, ◌<◌, ℤ, pos, negsuc, neg_ℤ, ◌+ℤ◌, ◌-ℤ◌, ◌*ℤ◌, Bool, true, false, List, [], ◌∷◌, map, length, Result, Ok, Option, Some, arith, Contains}
 use Rattle.std.proofs.Math.IntN.{+ℤ_comm, +ℤ-neg_ℤ_cancel, pos-*ℤ-negsuc}
 use Rattle.std.proofs.Math.Nat.{mul-div_cancel}
 use Rattle.std.proofs.lemmas.List.Elements.{Contains-append_cases}
@@ -16,7 +16,7 @@ use Rattle.fv_meaning.specs.Dialect.{Dialect}
 use Rattle.fv_meaning.specs.Sections.{Axis, Fixed, Along, extents_of, steps_from}
 use Rattle.fv_meaning.specs.Store.{Store, Cell, numbers_from}
 use Rattle.array_laws.specs.Assignments.{cell_selected, assigned_if, element_assigned, elements_assigned}
-use Rattle.array_laws.specs.Elements.{number_at, subscripts_at, cell_at_position, element_of}
+use Rattle.array_laws.specs.Elements.{subscripts_at, cell_at_position, element_of}
 use Rattle.array_laws.specs.OneToOne.{AreDifferent, SelectOnce, TripletSelectsOnce, DimensionSelectsOnce, PositionsAreOneToOne, NoCellTwice}
 use Rattle.array_laws.proofs.Assignments.{writes_are_effects}
 use Rattle.array_laws.proofs.Forms.{whose_effect, of_write}

@@ -11,10 +11,10 @@ use Rattle.fv_tree.specs.declared.ops.Value.{Value}
 use Rattle.fv_tree.specs.declared.ops.Fault.TheVariants.{Bounds}
 use Rattle.fv_meaning.specs.ArrayValues.{Array, Elements, settled, scalar, in_whole, conform, mapped, paired}
 use Rattle.fv_meaning.specs.Dialect.{Dialect}
-use Rattle.fv_meaning.specs.Sections.{Axis, Fixed, Selector, Index, stands_in, axis_on, axes_on, axes_selected, extents_of, cells_along, numbers_of}
+use Rattle.fv_meaning.specs.Sections.{Axis, Fixed, Selector, Index, axes_on, axes_selected, extents_of, cells_along, numbers_of}
 use Rattle.fv_meaning.specs.Store.{Store, Cell, bounds_in, cell_in, cell_at, is_within, column_major}
-use Rattle.fv_meaning.specs.Value.{value_of, values_of, subscript_value, subscript_values, array_of, arguments_of, selectors, selector, is_scalar, are_scalar, are_indices, is_index, is_bare, name_is_scalar, evaluated, selector_of, numbered, with_arrays, together}
-use Rattle.array_laws.specs.Elements.{element_of, ScalarIsItsElement}
+use Rattle.fv_meaning.specs.Value.{value_of, values_of, subscript_value, subscript_values, array_of, arguments_of, selectors, selector, is_scalar, are_scalar, are_indices, is_index, is_bare, evaluated, selector_of, with_arrays, together}
+use Rattle.array_laws.specs.Elements.{ScalarIsItsElement}
 use Rattle.array_laws.proofs.Stages.{bound, same_answer}
 
 -- an array without dimensions, with this one element

@@ -2,7 +2,7 @@
 use Rattle.std.proofs.Common.{◌≡◌, refl, sym, ap, ◌∙◌, ℕ, List, [], ◌∷◌, Result, Ok, Err}
 use mathlib.Core.Path.{ap₂}
 use Rattle.fv_tree.specs.Operators.{apply, call}
-use Rattle.fv_tree.specs.Plain.{Expression, Expressions, no_expressions, expression}
+use Rattle.fv_tree.specs.Plain.{Expressions, no_expressions, expression}
 use Rattle.fv_tree.specs.Steps.{◌>>=◌}
 use Rattle.fv_tree.specs.declared.ops.Fault.{Fault}
 use Rattle.fv_tree.specs.declared.ops.Value.{Value}
@@ -10,7 +10,7 @@ use Rattle.fv_meaning.specs.ArrayValues.{Elements, conform, mapped, paired}
 use Rattle.fv_meaning.specs.Dialect.{Dialect}
 use Rattle.fv_meaning.specs.Store.{Store}
 use Rattle.fv_meaning.specs.Value.{array_of, arguments_of, together}
-use Rattle.array_laws.specs.Elements.{element_of, elements_of, ElementOfUnary, ElementOfOperation, ElementOfCall}
+use Rattle.array_laws.specs.Elements.{elements_of, ElementOfUnary, ElementOfOperation, ElementOfCall}
 use Rattle.array_laws.proofs.Stages.{bound}
 
 abbrev at_position : {A : Type 0} → List ℕ → Result (Elements A) Fault → Result A Fault

@@ -69,8 +69,8 @@ WritesAreEffects = (d : Dialect) (mask right : Expression) (left : Reference) (a
 
 -- and where its extents conform and none of these meets a fault, it meets none
 abbrev pub EffectsAreWrites : Type 0
-EffectsAreWrites = (d : Dialect) (mask right : Expression) (left : Reference) (axes : List Axis) (ns : List ℕ) (s : Store)
-    (effects : List (Option (Cell × Value)))
+EffectsAreWrites = (d : Dialect) (mask right : Expression) (left : Reference) (axes : List Axis) (ns : List ℕ)
+    (s : Store) (effects : List (Option (Cell × Value)))
     → axes_named d left s ≡ Ok axes → shape_assigned d mask left right s ≡ Ok ns
     → each (λ (i : Instance). i.effect s) (elements_assigned d mask left right axes) ≡ Ok effects
     → writes_of d mask left right s ≡ Ok (writes_in effects)
@@ -87,7 +87,8 @@ ArrayAssignmentInTurn = (d : Dialect) (mask right : Expression) (left : Referenc
 -- And the other way round: where its extents conform, and its elements meet no fault one by one, of which none reads a
 -- cell that an earlier one has written, the array assignment meets no fault, and leaves the store that they leave
 abbrev pub ElementsInTurnAtOnce : Type 0
-ElementsInTurnAtOnce = (d : Dialect) (mask right : Expression) (left : Reference) (axes : List Axis) (ns : List ℕ) (s t : Store)
+ElementsInTurnAtOnce = (d : Dialect) (mask right : Expression) (left : Reference) (axes : List Axis) (ns : List ℕ)
+    (s t : Store)
     → axes_named d left s ≡ Ok axes → shape_assigned d mask left right s ≡ Ok ns
     → NoneReadsWritten [] (elements_assigned d mask left right axes) s
     → in_turn (elements_assigned d mask left right axes) s ≡ Ok t

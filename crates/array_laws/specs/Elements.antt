@@ -72,8 +72,8 @@ module _ (d : Dialect) where
 
 -- ---- laws
 
--- Two stores in which the names of an expression have the same bounds, and the cells that the element at a position reads
--- hold the same values, give it one element there, or one fault
+-- Two stores in which the names of an expression have the same bounds, and the cells that the element at a position
+-- reads hold the same values, give it one element there, or one fault
 abbrev pub ElementComesFromCellsRead : Type 0
 ElementComesFromCellsRead = (d : Dialect) (e : Expression) (is : List ℕ) (s t : Store)
     → All (λ x. s.bounds x ≡ t.bounds x) (names_in e)

@@ -11,10 +11,10 @@ use Rattle.fv_meaning.specs.Store.{Store, Cell}
 use Rattle.array_laws.specs.Assignments.{element_assigned, shape_assigned}
 use Rattle.array_laws.specs.Instances.{Instance, ComesFromReads, puts, in_turn, NoneReadsWritten}
 
--- In the store s each position of the left side stands for an instance, and each instance has a position: what is stored
--- there is what the instance stores
-pub record StandsFor (d : Dialect) (mask : Expression) (left : Reference) (right : Expression) (axes : List Axis) (s : Store)
-    (xs : List Instance) : Type 0 where
+-- In the store s each position of the left side stands for an instance, and each instance has a position: what is
+-- stored there is what the instance stores
+pub record StandsFor (d : Dialect) (mask : Expression) (left : Reference) (right : Expression) (axes : List Axis)
+    (s : Store) (xs : List Instance) : Type 0 where
   pub instance_of : (is : List ℕ) → Contains (positions (extents_of axes)) is
       → (x : Instance) × Contains xs x × ((element_assigned d mask left right is).effect s ≡ x.effect s)
   pub position_of : (x : Instance) → Contains xs x
@@ -27,8 +27,8 @@ StoreApart s xs = (x y : Instance) (c : Cell) (v w : Value) → Contains xs x �
     → x.effect s ≡ Ok (Some (c, v)) → y.effect s ≡ Ok (Some (c, w)) → v ≡ w
 
 -- Where instances, one after another in whatever order, take s to t without fault, none of them reading a cell that an
--- earlier one has written, an array assignment that stands for them and whose extents conform stores all at once, without
--- fault, and takes s to t
+-- earlier one has written, an array assignment that stands for them and whose extents conform stores all at once,
+-- without fault, and takes s to t
 abbrev pub ArrayFormIsInstances : Type 0
 ArrayFormIsInstances = (d : Dialect) (mask right : Expression) (left : Reference) (axes : List Axis) (ns : List ℕ)
     (xs : List Instance) (s t : Store)

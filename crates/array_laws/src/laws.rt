@@ -1,11 +1,13 @@
 //! Laws of array assignments. A law is a function without a body: its contract is what holds.
 ghost use Rattle.array_laws.specs.Assignments.{ArrayAssignmentInTurn, ArrayAssignmentStores, ArrayStatementStores};
 ghost use Rattle.array_laws.specs.Assignments.{EffectsAreWrites, ElementsInTurnAtOnce, WhereStores, WritesAreEffects};
-ghost use Rattle.array_laws.specs.Elements.{CellsByPosition, ElementComesFromCellsRead, ElementOfCall, ElementOfOperation};
-ghost use Rattle.array_laws.specs.Elements.{ElementOfSection, ElementOfUnary, NumberOfTriplet, ScalarIsItsElement};
+ghost use Rattle.array_laws.specs.Elements.{CellsByPosition, ElementComesFromCellsRead, ElementOfCall};
+ghost use Rattle.array_laws.specs.Elements.{ElementOfOperation, ElementOfSection, ElementOfUnary, NumberOfTriplet};
+ghost use Rattle.array_laws.specs.Elements.{ScalarIsItsElement};
 ghost use Rattle.array_laws.specs.Forms.{ArrayFormIsInstances};
 ghost use Rattle.array_laws.specs.Instances.{ApartIsAtOnce, InTurnIsAtOnce, WritesInAnyOrder};
-ghost use Rattle.array_laws.specs.OneToOne.{DimensionSelectsOnce, NoCellTwice, PositionsAreOneToOne, TripletSelectsOnce};
+ghost use Rattle.array_laws.specs.OneToOne.{DimensionSelectsOnce, NoCellTwice, PositionsAreOneToOne};
+ghost use Rattle.array_laws.specs.OneToOne.{TripletSelectsOnce};
 
 /// Instances that store one after another store what they store all at once, where none reads a cell that an earlier
 /// one has written; and the order of writes doesn't matter where no cell gets two values.

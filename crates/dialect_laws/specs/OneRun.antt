@@ -7,8 +7,8 @@ use Rattle.fv_meaning.specs.Profile77.{IsProgram77}
 use Rattle.fv_meaning.specs.Run.{run}
 use Rattle.fv_meaning.specs.Sequential.{sequential_run}
 
--- Two dialects with one range of INTEGER give it the same run: at the same limit of steps the same store, output, rest of
--- the input, number of steps and way of ending. It may be a program of the profile of any dialect
+-- Two dialects with one range of INTEGER give it the same run: at the same limit of steps the same store, output, rest
+-- of the input, number of steps and way of ending. It may be a program of the profile of any dialect
 abbrev pub SourceHasOneRun : Type 0
 SourceHasOneRun = (lang other own : Dialect) (limit : Option ℕ) (p : Program) (input : List ℕ)
     → lang.bits ≡ other.bits → IsProgram77 own p → run lang limit p input ≡ run other limit p input

@@ -2,8 +2,8 @@
 ghost use Rattle.dialect_laws.specs.MadeNames.{ArrayRunWithMadeNames, MadeNamesKeepRun};
 ghost use Rattle.dialect_laws.specs.OneRun.{SequentialRunIsArrayRun, SourceHasOneRun};
 
-/// A program of FORTRAN 77 has one and the same run in FORTRAN 77 and in Fortran 90, whatever its input and its limit of
-/// steps: store, output, faults and their lines are the same.
+/// A program of FORTRAN 77 has one and the same run in FORTRAN 77 and in Fortran 90, whatever its input and its limit
+/// of steps: store, output, faults and their lines are the same.
 pub fn source_has_one_run()
     ensures dialects { SourceHasOneRun }
     ensures sequential { SequentialRunIsArrayRun }

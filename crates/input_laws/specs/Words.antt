@@ -46,13 +46,15 @@ NextWordIsSeparated = (comma : Bool) (text rest : List ℕ)
 
 -- exactly where nothing else is left, the input has ended
 abbrev pub InputEndsInSeparation : Type 0
-InputEndsInSeparation = (comma : Bool) (text : List ℕ) → (from_value comma text ≡ Err InputEnd) ↔ IsSeparation comma text
+InputEndsInSeparation = (comma : Bool) (text : List ℕ)
+    → (from_value comma text ≡ Err InputEnd) ↔ IsSeparation comma text
 
 -- exactly where a comma stands that none may, its form is a fault
 abbrev pub SecondCommaIsFault : Type 0
 SecondCommaIsFault = (comma : Bool) (text : List ℕ)
     → (from_value comma text ≡ Err InputForm)
-    ↔ ((before more : List ℕ) × (text ≡ before ++ 44 ∷ more) × AreSeparators before × (commas_in before ≡ most_commas comma))
+    ↔ ((before more : List ℕ)
+    × (text ≡ before ++ 44 ∷ more) × AreSeparators before × (commas_in before ≡ most_commas comma))
 
 -- a word is all bytes up to the next separator, or to the end
 abbrev pub WordIsWhole : Type 0

@@ -3,7 +3,8 @@ ghost use Rattle.input_laws.specs.ReadStatements.{FirstWordOfRead, ReadTakesWord
 ghost use Rattle.input_laws.specs.Words.{InputEndsInSeparation, NextWordIsSeparated, SecondCommaIsFault, WordIsWhole};
 
 /// What stands before the next word of the input is blanks, tabs and line ends with at most one comma, and with none
-/// before the first word; the input ends there where no word follows, and its form is a fault where a further comma does.
+/// before the first word; the input ends there where no word follows, and its form is a fault where a further comma
+/// does.
 pub fn words_of_input()
     ensures next { NextWordIsSeparated }
     ensures end { InputEndsInSeparation }
