@@ -1,2 +1,3 @@
 pub mod FreeFormDecks
 pub mod PrintingLaws
+pub mod RefusalDecks

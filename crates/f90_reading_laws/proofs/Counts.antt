@@ -32,11 +32,11 @@ abbrev pub OpensWithin : ℕ → List Opened → List Placed → Type 0
 OpensWithin n os [] = Unit {0}
 OpensWithin n os (p ∷ ps) = (opens_block p.form ≡ true → length os < n) × OpensWithin n (opened_by p.form os) ps
 
-within_left : (n : ℕ) (os : List Opened) (xs ys : List Placed) → OpensWithin n os (xs ++ ys) → OpensWithin n os xs
+pub within_left : (n : ℕ) (os : List Opened) (xs ys : List Placed) → OpensWithin n os (xs ++ ys) → OpensWithin n os xs
 within_left n os [] ys h = tt
 within_left n os (x ∷ xs) ys h = (h.0, within_left n (opened_by x.form os) xs ys h.1)
 
-within_right : (n : ℕ) (os : List Opened) (xs ys : List Placed) → OpensWithin n os (xs ++ ys) → OpensWithin n (opened_behind os xs) ys
+pub within_right : (n : ℕ) (os : List Opened) (xs ys : List Placed) → OpensWithin n os (xs ++ ys) → OpensWithin n (opened_behind os xs) ys
 within_right n os [] ys h = h
 within_right n os (x ∷ xs) ys h = within_right n (opened_by x.form os) xs ys h.1
 

@@ -33,7 +33,7 @@ use Rattle.f90_reading_laws.proofs.Sound.{IsFilled, AreFilled, IsWordless, AreWo
 use Rattle.f90_reading_laws.proofs.Bodies.{IsGoodForm}
 use Rattle.f90_reading_laws.proofs.WordFacts.{HasTexts, HaveTexts, IsWell}
 
-abbrev deepest : ℕ
+abbrev pub deepest : ℕ
 deepest = limits.expression_depth90
 
 -- ---- kinds and ranks of a statement can be decided
@@ -114,7 +114,7 @@ not_deep n h = by (leb_tells (deepest + 1) n)
     by (inl t) = cc
     by (inr t) = let lt = t.1 in omega arith
 
-each_shallow : (ps : List Phrase) → list_any is_deep ps ≡ false → AllByRecursion (λ p. depth p ≤ deepest) ps
+pub each_shallow : (ps : List Phrase) → list_any is_deep ps ≡ false → AllByRecursion (λ p. depth p ≤ deepest) ps
 each_shallow [] h = tt
 each_shallow (p ∷ ps) h = (not_deep (depth p) (left_false (is_deep p) (list_any is_deep ps) h), each_shallow ps (right_false (is_deep p) (list_any is_deep ps) h))
 

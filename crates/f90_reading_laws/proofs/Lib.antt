@@ -13,3 +13,4 @@ pub mod FormFacts
 pub mod Tables
 pub mod PlaceFacts
 pub mod SurroundingFacts
+pub mod Programs

@@ -1,4 +1,5 @@
 //! Laws of texts that are read or refused. A law is a function without a body: its contract is what holds.
+ghost use Rattle.f90_reading_laws.specs.Reading.{ReadTextIsProgram};
 ghost use Rattle.f90_reading_laws.specs.Refusing.{OneRefusal, ReadIsRefusedForNames, ReadWithinNamesIsNotRefused};
 
 /// A text has at most one refusal.
@@ -10,4 +11,9 @@ pub fn text_has_one_refusal()
 pub fn read_text_is_not_refused()
     ensures names { ReadIsRefusedForNames }
     ensures within { ReadWithinNamesIsNotRefused }
+{}
+
+/// What a text is read as is a program of the profile.
+pub fn read_text_is_program()
+    ensures { ReadTextIsProgram }
 {}

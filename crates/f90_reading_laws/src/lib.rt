@@ -3,4 +3,4 @@
 
 mod laws;
 
-pub use laws::{read_text_is_not_refused, text_has_one_refusal};
+pub use laws::{read_text_is_not_refused, read_text_is_program, text_has_one_refusal};
