@@ -130,7 +130,7 @@ abbrev elements : List Declaration → ℕ
 elements ds = sum (map (λ (d : Declaration). array_elements (dimensions d.extent)) ds)
 
 elements_both : (xs ys : List Declaration) → elements (xs ++ ys) ≡ elements xs + elements ys
-elements_both [] ys = refl
+elements_both [] ys = omega arith
 elements_both (x ∷ xs) ys = let e = elements_both xs ys in let n = array_elements (dimensions x.extent) in omega arith
 
 pub few_elements : (ps : List Placed) (p : Place) → IsPlaceIn ps p → elements (declared_up_to p) ≤ elements (declarations_of ps)

@@ -10,3 +10,4 @@ pub mod Declarations
 pub mod Order
 pub mod Labels
 pub mod UniqueBlocks
+pub mod Surrounded

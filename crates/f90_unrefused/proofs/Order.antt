@@ -115,10 +115,10 @@ ends_well (p ∷ ps) last h e = (behind p.form ps last ∙ h.0, ends_well ps las
 abbrev AreNamed : Option (List ℕ) → List Placed → Type 0
 AreNamed title ps = AllByRecursion (λ (p : Placed). is_misnamed title p.form ≡ false) ps
 
-last_named : (f : Form) (title : List Placed) (name : Option (List ℕ)) (more : List Placed) → IsEnd f name → IsTitle title name → is_misnamed (title_of (title ++ more)) f ≡ false
-last_named f title name more (end o) t = refl
-last_named f title name more (end_program o) t = refl
-last_named f title name more (end_named x) (titled line y) = ap not ((bytes_eq-Decides x x).1 refl)
+last_named : (f : Form) (title : List Placed) (name : Option (List ℕ)) (rest : List Placed) → IsEnd f name → IsTitle title name → is_misnamed (title_of (title ++ rest)) f ≡ false
+last_named f title name rest (end o) t = refl
+last_named f title name rest (end_program o) t = refl
+last_named f title name rest (end_named x) (titled line y) = ap not ((bytes_eq-Decides x x).1 refl)
 
 last_ends : (f : Form) (name : Option (List ℕ)) → IsEnd f name → is_end f ≡ true
 last_ends f name (end o) = refl
@@ -216,8 +216,9 @@ module _ (ps : List Placed) (q : Program) (h : IsProgramOf ps q) where
       (block_closed (function_by q.declarations) (is_target_in q.body) h.body q.body h.block (h.last ∷ []) (last_quiet.stays [], tt)))
 
   pub in_order : (p : Place) → IsPlaceIn ps p → is_disordered ps p ≡ false
-  in_order p e =
-      both_false _ _ (all_right (λ (s : Placed). is_misnamed (title_of ps) s.form ≡ false) p.before (p.here ∷ p.after) (subst (AreNamed (title_of ps)) e named)).0
-      (both_false _ _ (timely_at [] p.before p.here p.after (subst (AreTimely []) e timely))
-      (both_false _ _ (end_at p.before p.here p.after (subst EndWell e end_well))
-      (both_false _ _ (close_at [] p.before p.here p.after (subst (Close []) e closes)) (closed_at p.before p.here p.after (subst AreClosed e closed)))))
+in_order p e =
+      both_false _ _ (both_false _ _ (both_false _ _ (both_false _ _
+      (all_right (λ (s : Placed). is_misnamed (title_of ps) s.form ≡ false) p.before (p.here ∷ p.after) (subst (AreNamed (title_of ps)) e named)).0
+      (timely_at [] p.before p.here p.after (subst (AreTimely []) e timely)))
+      (end_at p.before p.here p.after (subst EndWell e end_well)))
+      (close_at [] p.before p.here p.after (subst (Close []) e closes))) (closed_at p.before p.here p.after (subst AreClosed e closed))

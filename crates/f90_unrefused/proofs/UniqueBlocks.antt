@@ -374,13 +374,3 @@ module _ (function : List ℕ → Option Intrinsic) (is_target : ℕ → Bool) w
 
   pub one_block : (ps : List Placed) (b c : Block) → AreBlock function is_target ps b → AreBlock function is_target ps c → b ≡ c
   one_block ps b c h k = (same_block ps b h ps c k [] [] refl tt tt).block
-
--- ---- which labels a block names doesn't depend on which labels stand in it
-
-abbrev form_names : ℕ → Form → Bool
-form_names n (forms.Go digits) = n == value_of_digits digits
-form_names n (forms.Test p f) = form_names n f
-form_names n f = false
-
-abbrev pub name_label : ℕ → List Placed → Bool
-name_label n ps = list_any (λ (p : Placed). form_names n p.form) ps

@@ -10,6 +10,7 @@ use Rattle.f90_unrefused.proofs.Declarations.{declared_once}
 use Rattle.f90_unrefused.proofs.Order.{in_order}
 use Rattle.f90_unrefused.proofs.Labels.{labels_right}
 use Rattle.f90_unrefused.proofs.UniqueBlocks.{one_block}
+use Rattle.f90_unrefused.proofs.Surrounded.{suits_in}
 use Rattle.f90_unrefused.proofs.laws.printed_program_is_read_well.Goals as goal
 
 pub returns : goal.returns
