@@ -129,9 +129,12 @@ has_bounds ps h p place =
 abbrev elements : List Declaration → ℕ
 elements ds = sum (map (λ (d : Declaration). array_elements (dimensions d.extent)) ds)
 
+regroup : (a b c : ℕ) → a + (b + c) ≡ (a + b) + c
+regroup a b c = omega arith
+
 elements_both : (xs ys : List Declaration) → elements (xs ++ ys) ≡ elements xs + elements ys
 elements_both [] ys = omega arith
-elements_both (x ∷ xs) ys = let e = elements_both xs ys in let n = array_elements (dimensions x.extent) in omega arith
+elements_both (x ∷ xs) ys = ap (λ n. array_elements (dimensions x.extent) + n) (elements_both xs ys) ∙ regroup (array_elements (dimensions x.extent)) (elements xs) (elements ys)
 
 pub few_elements : (ps : List Placed) (p : Place) → IsPlaceIn ps p → elements (declared_up_to p) ≤ elements (declarations_of ps)
 few_elements ps p place =

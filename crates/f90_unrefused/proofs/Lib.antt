@@ -11,3 +11,4 @@ pub mod Order
 pub mod Labels
 pub mod UniqueBlocks
 pub mod Surrounded
+pub mod Unrefused

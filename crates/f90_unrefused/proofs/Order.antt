@@ -1,7 +1,9 @@
 -- The statements of a program are in order.
-use Rattle.std.proofs.Common.{◌≡◌, refl, sym, ap, subst, ◌∙◌, ℕ, Bool, true, false, not, ◌||◌, Option, None, Some, List, [], ◌∷◌, ◌++◌, append_assoc, append-nil}
+use Rattle.std.proofs.Common.{◌≡◌, refl, sym, ap, ap₂, subst, ◌∙◌, ℕ, Bool, true, false, not, ◌||◌, Option, None, Some, List, [], ◌∷◌, ◌++◌, append_assoc, append-nil, filter, ◌≤◌, ◌+◌, length, arith}
 use Rattle.std.specs.List.{AllByRecursion, list_any, list_all}
 use Rattle.std.specs.Str.{bytes_eq}
+use Rattle.std.proofs.lemmas.Bool.{cond-true, cond-false}
+use Rattle.std.proofs.lemmas.List.Elements.{filter-append}
 use Rattle.std.proofs.lemmas.List.Folds.{list_any-append}
 use Rattle.std.proofs.lemmas.Slice.Eq.{bytes_eq-Decides}
 use Rattle.fv_tree.specs.Plain.{Declaration, Block, Program}
@@ -14,10 +16,13 @@ use Rattle.f90_grammar.specs.Reading.IsTitle.{untitled, titled}
 use Rattle.f90_grammar.specs.Reading.MayBeImplicitNone.{absent, present}
 use Rattle.f90_grammar.specs.Reading.IsEnd.{end, end_program, end_named}
 use Rattle.f90_grammar.specs.Reading.AreDeclared.{none as nothing, more}
+use Rattle.f90_grammar.specs.Declared.{declarations_in, declarations_of}
+use Rattle.fv_meaning.specs.Blocks.{blocks_in}
 use Rattle.f90_grammar.specs.Order.{Place, IsPlaceIn, is_title, is_end, is_executable, title_of, bears, is_misnamed, is_late, ends_wrongly, closes_wrongly, stays_open, opened_behind, is_disordered}
-use Rattle.f90_reading_laws.proofs.Counts.{executable, block_keeps}
+use Rattle.f90_reading_laws.proofs.Counts.{executable, OpensWithin}
 use Rattle.f90_reading_laws.proofs.Lists.{both_false, all_left, all_right, all_both, all_weaker}
-use Rattle.f90_unrefused.proofs.Blocks.{IsQuiet, AreQuiet, Close, AreClosed, close_both, close_at, closed_at, quiet_close, quiet_closed, block_closes, block_closed}
+use Rattle.f90_unrefused.proofs.Blocks.{IsQuiet, AreQuiet, Close, AreClosed, close_both, close_at, closed_at, quiet_close, quiet_closed, quiet_within, within_both, block_closes, block_closed, block_within}
+use Rattle.f90_unrefused.proofs.Declarations.{DeclareNothing, nothing_declared, all_declared, declared_both}
 
 -- ---- the parts of a program
 
@@ -152,6 +157,56 @@ declared_inside : (ps : List Placed) (ds : List Declaration) → AreDeclared ps 
 declared_inside ps ds nothing = tt
 declared_inside ps ds (more line k a es rest others h) = (refl, declared_inside rest others h)
 
+-- ---- which of them are executable, and which declare
+
+executable_declares : (f : Form) → is_executable f ≡ true → declarations_in f ≡ []
+executable_declares (forms.Declare k a es) h = absurd cc
+executable_declares f h = refl
+
+title_declares : (title : List Placed) (name : Option (List ℕ)) → IsTitle title name → DeclareNothing title
+title_declares title name untitled = tt
+title_declares title name (titled line x) = (refl, tt)
+
+implicit_declares : (ps : List Placed) → MayBeImplicitNone ps → DeclareNothing ps
+implicit_declares ps absent = tt
+implicit_declares ps (present line) = (refl, tt)
+
+last_declares : (f : Form) (name : Option (List ℕ)) → IsEnd f name → declarations_in f ≡ []
+last_declares f name (end o) = refl
+last_declares f name (end_program o) = refl
+last_declares f name (end_named x) = refl
+
+abbrev is_executed : Placed → Bool
+is_executed p = is_executable p.form
+
+abbrev NoneExecuted : List Placed → Type 0
+NoneExecuted ps = AllByRecursion (λ (p : Placed). is_executable p.form ≡ false) ps
+
+title_executed : (title : List Placed) (name : Option (List ℕ)) → IsTitle title name → NoneExecuted title
+title_executed title name untitled = tt
+title_executed title name (titled line x) = (refl, tt)
+
+implicit_executed : (ps : List Placed) → MayBeImplicitNone ps → NoneExecuted ps
+implicit_executed ps absent = tt
+implicit_executed ps (present line) = (refl, tt)
+
+declared_executed : (ps : List Placed) (ds : List Declaration) → AreDeclared ps ds → NoneExecuted ps
+declared_executed ps ds nothing = tt
+declared_executed ps ds (more line k a es rest others h) = (refl, declared_executed rest others h)
+
+last_executed : (f : Form) (name : Option (List ℕ)) → IsEnd f name → is_executable f ≡ false
+last_executed f name (end o) = refl
+last_executed f name (end_program o) = refl
+last_executed f name (end_named x) = refl
+
+none_executed : (ps : List Placed) → NoneExecuted ps → filter is_executed ps ≡ []
+none_executed [] h = refl
+none_executed (p ∷ ps) h = cond-false (is_executable p.form) (p ∷ filter is_executed ps) (filter is_executed ps) h.0 ∙ none_executed ps h.1
+
+all_executed : (ps : List Placed) → AllByRecursion (λ (p : Placed). is_executable p.form ≡ true) ps → filter is_executed ps ≡ ps
+all_executed [] h = refl
+all_executed (p ∷ ps) h = cond-true (is_executable p.form) (p ∷ filter is_executed ps) (filter is_executed ps) h.0 ∙ ap (λ qs. p ∷ qs) (all_executed ps h.1)
+
 abbrev IsQuietPlaced : Placed → Type 0
 IsQuietPlaced p = IsQuiet p.form
 
@@ -170,6 +225,12 @@ module _ (ps : List Placed) (q : Program) (h : IsProgramOf ps q) where
 
   body_executable : AllByRecursion (λ (p : Placed). is_executable p.form ≡ true) h.body
   body_executable = executable (function_by q.declarations) (is_target_in q.body) h.body q.body h.block
+
+  body_declares : DeclareNothing (h.body ++ h.last ∷ [])
+  body_declares =
+      all_both (λ (p : Placed). declarations_in p.form ≡ []) h.body (h.last ∷ [])
+      (all_weaker (λ (p : Placed). is_executable p.form ≡ true) (λ (p : Placed). declarations_in p.form ≡ []) (λ (p : Placed) e. executable_declares p.form e) h.body body_executable)
+      (last_declares h.last.form q.name h.is_last, tt)
 
   all_inside : AllByRecursion IsInside (h.title ++ (h.implicit ++ (h.declared ++ h.body)))
   all_inside =
@@ -216,9 +277,34 @@ module _ (ps : List Placed) (q : Program) (h : IsProgramOf ps q) where
       (block_closed (function_by q.declarations) (is_target_in q.body) h.body q.body h.block (h.last ∷ []) (last_quiet.stays [], tt)))
 
   pub in_order : (p : Place) → IsPlaceIn ps p → is_disordered ps p ≡ false
-in_order p e =
+  in_order p e =
       both_false _ _ (both_false _ _ (both_false _ _ (both_false _ _
       (all_right (λ (s : Placed). is_misnamed (title_of ps) s.form ≡ false) p.before (p.here ∷ p.after) (subst (AreNamed (title_of ps)) e named)).0
       (timely_at [] p.before p.here p.after (subst (AreTimely []) e timely)))
       (end_at p.before p.here p.after (subst EndWell e end_well)))
       (close_at [] p.before p.here p.after (subst (Close []) e closes))) (closed_at p.before p.here p.after (subst AreClosed e closed))
+
+  -- ---- the statements of its block, its declarations, and how deep its blocks stand
+
+  pub blocks_open : (n : ℕ) → blocks_in q.body ≤ n → OpensWithin n [] ps
+  blocks_open n l =
+      subst (OpensWithin n []) (sym same_front) (quiet_within n [] (h.title ++ (h.implicit ++ h.declared)) (h.body ++ h.last ∷ []) front_quiet
+      (within_both n [] h.body (h.last ∷ []) (block_within (function_by q.declarations) (is_target_in q.body) n h.body q.body [] h.block (omega arith))
+      (quiet_within n (opened_behind [] h.body) (h.last ∷ []) [] (last_quiet, tt) tt)))
+
+  pub declarations_are : declarations_of ps ≡ h.in_text
+  declarations_are =
+      ap declarations_of h.same ∙ (declared_both h.title (h.implicit ++ (h.declared ++ (h.body ++ h.last ∷ [])))
+      ∙ (ap₂ (λ u v. u ++ v) (nothing_declared h.title (title_declares h.title q.name h.is_title)) (declared_both h.implicit (h.declared ++ (h.body ++ h.last ∷ []))
+      ∙ ap₂ (λ u v. u ++ v) (nothing_declared h.implicit (implicit_declares h.implicit h.is_implicit)) (declared_both h.declared (h.body ++ h.last ∷ [])
+      ∙ ap₂ (λ u v. u ++ v) (all_declared h.declared h.in_text h.are_declared) (nothing_declared (h.body ++ h.last ∷ []) body_declares)))
+      ∙ append-nil h.in_text))
+
+  pub body_is : filter (λ (p : Placed). is_executable p.form) ps ≡ h.body
+  body_is =
+      ap (filter is_executed) h.same ∙ (filter-append is_executed h.title _
+      ∙ (ap₂ (λ u v. u ++ v) (none_executed h.title (title_executed h.title q.name h.is_title)) (filter-append is_executed h.implicit _
+      ∙ ap₂ (λ u v. u ++ v) (none_executed h.implicit (implicit_executed h.implicit h.is_implicit)) (filter-append is_executed h.declared _
+      ∙ ap₂ (λ u v. u ++ v) (none_executed h.declared (declared_executed h.declared h.in_text h.are_declared)) (filter-append is_executed h.body (h.last ∷ [])
+      ∙ ap₂ (λ u v. u ++ v) (all_executed h.body body_executable) (none_executed (h.last ∷ []) (last_executed h.last.form q.name h.is_last, tt)))))
+      ∙ append-nil h.body))
