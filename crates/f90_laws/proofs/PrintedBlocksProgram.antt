@@ -23,6 +23,7 @@ use Rattle.f90_laws.proofs.PrintedBlocksDeclared.{declared_back}
 pub record ReadProgram (p : Program) (ps : List Placed) : Type 0 where
   pub program : Program
   pub are : IsProgramOf ps program
+  pub declared : are.in_text ≡ p.declarations
   pub title : program.name ≡ Some (title_of p.name)
   pub same : SameButNumbers p program
 
@@ -58,6 +59,7 @@ module _ (p : Program) (h : IsProgram90 p) (back : EachReadsBack p.declarations)
           once = refl;
           block = subst (λ (t : ℕ → Bool). AreBlock (function_by p.declarations) t ps x.block) same_targets x.are;
         };
+        declared = refl;
         title = refl;
         same = record { declarations = refl; body = x.same };
       }

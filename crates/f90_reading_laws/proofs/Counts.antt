@@ -23,7 +23,7 @@ use Rattle.f90_reading_laws.proofs.Lists.{all_left, all_right, all_both}
 
 -- ---- the blocks that are open
 
-opened-append : (os : List Opened) (xs ys : List Placed) → opened_behind os (xs ++ ys) ≡ opened_behind (opened_behind os xs) ys
+pub opened-append : (os : List Opened) (xs ys : List Placed) → opened_behind os (xs ++ ys) ≡ opened_behind (opened_behind os xs) ys
 opened-append os [] ys = refl
 opened-append os (x ∷ xs) ys = opened-append (opened_by x.form os) xs ys
 
@@ -133,7 +133,7 @@ module _ (function : List ℕ → Option Intrinsic) (is_target : ℕ → Bool) w
         opened-append (InDo x ∷ os) body (at end None forms.EndDo ∷ rest) ∙ (ap (λ o. opened_behind o (at end None forms.EndDo ∷ rest)) (block_keeps body inner (InDo x ∷ os) i)
         ∙ block_keeps rest more os h)
 
-    arms_keep : (ps : List Placed) (ars : Arms) (b : Block) (os : List Opened) → AreArms function is_target ps ars b → opened_behind (InIf ∷ os) ps ≡ os
+    pub arms_keep : (ps : List Placed) (ars : Arms) (b : Block) (os : List Opened) → AreArms function is_target ps ars b → opened_behind (InIf ∷ os) ps ≡ os
     arms_keep ps ars b os (ends line) = refl
     arms_keep ps ars b os (other line end body more i) =
         opened-append (InElse ∷ os) body (at end None forms.EndIf ∷ []) ∙ ap (λ o. opened_behind o (at end None forms.EndIf ∷ [])) (block_keeps body more (InElse ∷ os) i)

@@ -1,3 +1,14 @@
 pub mod Lines
 pub mod PrintedForms
 pub mod Literals
+pub mod Depths
+pub mod Calls
+pub mod Suited
+pub mod Names
+pub mod Blocks
+pub mod Declarations
+pub mod Order
+pub mod Labels
+pub mod UniqueBlocks
+pub mod Surrounded
+pub mod Unrefused

@@ -252,7 +252,7 @@ narrow_forms ds = record {
       none_wide (phrase_of a ∷ phrase_of b ∷ (step_expressions (step_phrase c) ++ []))
       (typed_narrow ds a Integer g.suits.0, (typed_narrow ds b Integer h.suits.0, all_both IsNarrow (step_expressions (step_phrase c)) [] (step_narrow ds c Integer k.suits.0) tt));
   ends_do = refl;
-  labels = λ n. refl;
+  labels = λ n h. refl;
   goes = λ n. refl;
   stops = refl;
   reads_nothing = refl;

@@ -9,7 +9,7 @@ use Rattle.fv_tree.specs.Plain.{Expression, Expressions, Reference, Item, Items,
 use Rattle.fv_meaning.specs.Depths.{depth_of_items}
 use Rattle.fv_meaning.specs.Typed.{declared}
 use Rattle.fv_meaning.specs.Typed90.{AreInputItems, AreOutputItems, IsDoVariable}
-use Rattle.fv_meaning.specs.Blocks.{Surroundings, outermost, within_loop, before_labels, labels_of}
+use Rattle.fv_meaning.specs.Blocks.{Surroundings, outermost, within_loop, before_labels, labels_of, IsLabel}
 use Rattle.fv_meaning.specs.Profile90.{IsDeclaration, IsAllocatable, IsWholeScalar, IsAssignment, IsMasked, IsAllocation, IsStatement, AreArms, IsBlock, IsProgram90}
 use Rattle.f90_grammar.specs.Forms as forms
 use Rattle.f90_grammar.specs.Forms.{Form}
@@ -32,7 +32,7 @@ pub record EachForm (ds : List Declaration) (Good : Form → Type 0) : Type 0 wh
   pub loops : (x : List ℕ) (a b c : Expression) → IsWholeScalar ds a Integer → IsWholeScalar ds b Integer → IsWholeScalar ds c Integer
       → Good (forms.Do x (phrase_of a) (phrase_of b) (step_phrase c))
   pub ends_do : Good forms.EndDo
-  pub labels : (n : ℕ) → Good (forms.Continue (decimal n))
+  pub labels : (n : ℕ) → IsLabel n → Good (forms.Continue (decimal n))
   pub goes : (n : ℕ) → Good (forms.Go (decimal n))
   pub stops : Good forms.Stop
   pub reads_nothing : Good forms.ReadNothing
@@ -70,7 +70,7 @@ module _ (Good : Form → Type 0) where
       )
       statement_forms (tree.Do line x a b c body) w h =
           (each.loops x a b c h.2 h.3 h.4, all_both IsGood (printed_block body) _ (block_forms body (within_loop x w) h.5) (each.ends_do, tt))
-      statement_forms (tree.Label n) w h = (each.labels n, tt)
+      statement_forms (tree.Label n) w h = (each.labels n h, tt)
       statement_forms (tree.GoTo line n) w h = (each.goes n, tt)
       statement_forms (tree.Stop line) w h = (each.stops, tt)
       statement_forms (tree.Read line tree.no_items) w h = (each.reads_nothing, tt)

@@ -1,5 +1,5 @@
--- The text of a printed program isn't refused: no cause holds in its lines, and none in its statements but the number of
--- names.
+-- The text of a printed program isn't refused: no cause holds in its lines, and none in its statements but the number
+-- of names.
 use Rattle.std.specs.Prelude.{ℕ, List}
 use Rattle.std.specs.List.{AllByRecursion}
 use Rattle.fv_tree.specs.declared.refusals.Cause.{Cause}
@@ -14,13 +14,16 @@ use Rattle.f90_grammar.specs.LineCauses.{HasLineCause}
 use Rattle.f90_grammar.specs.Refusals.{HoldsIn}
 use Rattle.f90_laws.specs.ReadBack.{IsReadBack}
 
+-- each call among the statements has arguments that may stand there
+abbrev pub CallsSuit : List Placed → Type 0
+CallsSuit ps = AllByRecursion (λ (s : Placed). SuitsCallsIn (functions_in ps) s.form) ps
+
 -- The text is read back as the program. Each line is within its length, has printable characters alone, and the last
--- one ends a statement; each call among the statements has arguments that may stand there; the statements are in order,
--- and what each says suits
+-- one ends a statement; the statements are in order, and what each says suits, its calls too
 pub record IsReadWell (p : Program) (text : List ℕ) : Type 0 where
   pub read_back : IsReadBack p text
   pub lines : (r : Refusal) → HasLineCause text r → ⊥
-  pub calls : AllByRecursion (λ (s : Placed). SuitsCallsIn (functions_in read_back.statements) s.form) read_back.statements
+  pub calls : CallsSuit read_back.statements
   pub causes : (c : Cause) (line : ℕ) → HoldsIn read_back.statements c line → ⊥
 
 -- with any notes before it
