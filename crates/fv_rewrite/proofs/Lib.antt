@@ -2,3 +2,4 @@ pub mod Acts
 pub mod Equations
 pub mod Values
 pub mod Rewriting
+pub mod Substituted

@@ -1,3 +1,4 @@
 pub mod Making
 pub mod Following
 pub mod Rule
+pub mod Substituting

@@ -8,7 +8,11 @@ mod expressions;
 mod items;
 mod rule;
 mod statements;
+mod substitution;
+#[cfg(test)]
+mod tests;
 
 pub use expressions::rewrite_expression;
 pub use rule::Rule;
 pub use statements::rewrite;
+pub use substitution::substitute;

@@ -19,7 +19,7 @@ use Rattle.fv_meaning.specs.Store.{Store, cell_in}
 use Rattle.fv_meaning.specs.Value.{value_of}
 use Rattle.linear_forms.specs.Laws.{AreSized, LinearHasValue}
 use Rattle.linear_forms.specs.Linear.{Form, weighted, number_at, HaveValues, sum, multiple, constant_form, limited, is_limited, constant_of, unit, with_no_constant, form_of_name, form_of_sign, form_of_product, form_of_two, form_of_pair, constant_or, linear}
-use Rattle.linear_forms.proofs.Linear.{number_at-sum, number_at-multiple, minus, limited-is, constant-value, unit-is}
+use Rattle.linear_forms.proofs.LinearLaws.{number_at-sum, number_at-multiple, minus, limited-is, constant-value, unit-is}
 use Rattle.linear_forms.proofs.Sizes.{limited_fits}
 
 limited-holds : (loops : ℕ) (o : Option Form) (f : Form) → limited loops o ≡ Some f → is_limited loops f ≡ true

@@ -2,9 +2,12 @@ pub mod Parts
 pub mod Ring
 pub mod Sizes
 pub mod Storeless
-pub mod Linear
+pub mod LinearLaws
 pub mod Faultless
 pub mod Expressed
 pub mod Sums
 pub mod Merges
 pub mod Combining
+pub mod ConstantLaws
+pub mod PartLaws
+pub mod Units

@@ -25,3 +25,7 @@ abbrev pub IsFound : ℕ → Option Form → Option Affine → Type 0
 IsFound n None None = Unit {0}
 IsFound n (Some f) (Some a) = IsAffineOf n f a
 IsFound n _ _ = ⊥
+
+-- 1 for one place, 0 for all others
+abbrev pub unit_form : ℕ → Form
+unit_form k = record { coefficients = replicate k (pos 0) ++ pos 1 ∷ []; constant = pos 0 }

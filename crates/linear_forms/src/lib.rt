@@ -1,8 +1,12 @@
 //! Linear forms of expressions, and their canonical text.
 #![tactic(auto)]
 
+mod constants;
+mod forms;
 mod laws;
 mod terms;
 
+pub use constants::constant_value;
+pub use forms::{Part, linear};
 pub use laws::{linear_value, text_value};
 pub use terms::{Terms, ZERO, combined, constant_form};

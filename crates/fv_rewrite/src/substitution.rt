@@ -1,0 +1,82 @@
+//! A scalar variable replaced by an expression.
+ghost use Rattle.std.specs.Prelude.{◌≡◌, ℕ, IfOk};
+ghost use Rattle.fv_tree.specs.View.{expression_of};
+ghost use Rattle.fv_tree.specs.declared.exprs.Expr.TheVariants as exprs;
+ghost use Rattle.fv_meaning.specs.Store.{Store};
+ghost use Rattle.fv_meaning.specs.Value.{value_of};
+ghost use Rattle.fv_rewrite.specs.Following.{sequential};
+ghost use Rattle.fv_rewrite.specs.Substituting.{is_scalar, substituted, StandsFor};
+
+use crate::Rule;
+use crate::expressions::rewrite_expression;
+use fv_tree::{Expr, Memory, Name, Ref};
+use std::alloc::Global;
+
+// A scalar variable, and the expression that stands for it.
+#[derive(Drop)]
+pub(crate) struct Substitution {
+    pub variable: Name,
+    pub by: Expr,
+}
+
+fn is_scalar_named(item: &Ref, name: Name) -> bool
+    ensures { result ≡ is_scalar name (expression_of (exprs.Item item.now)) }
+{
+    item.subs.is_empty() && item.name == name
+}
+
+#[tactic(auto, using(fv_tree::proofs::Equations::expression_equations))]
+fn is_variable(expr: &Expr, name: Name) -> bool
+    ensures { result ≡ is_scalar name (expression_of expr.now) }
+{
+    match expr {
+        Expr::Int(_) => false,
+        Expr::Truth(_) => false,
+        Expr::Item(item) => is_scalar_named(item, name),
+        Expr::Un(..) => false,
+        Expr::Bin(..) => false,
+        Expr::Call(..) => false,
+        Expr::List(..) => false,
+        Expr::Spread(..) => false,
+        Expr::Transpose(_) => false,
+        Expr::Reshape(..) => false,
+        Expr::Reduce(..) => false,
+    }
+}
+
+impl Rule for Substitution {
+    ghost use Rattle.fv_tree.specs.View.{expression_of};
+    ghost use Rattle.fv_rewrite.specs.Substituting.{substituting, nothing_suits, NeverAlike, never_alike};
+
+    ghost making = { λ r. substituting r.variable (expression_of r.by) };
+
+    ghost suits = { λ r. nothing_suits };
+
+    ghost like = { λ r bits turns. NeverAlike };
+
+    ghost keeps = { λ r bits turns. never_alike bits (substituting r.variable (expression_of r.by)) };
+
+    fn expression(&mut self, alloc: Global, expr: Expr) -> Result<Expr, Memory> {
+        if is_variable(&expr, self.variable) {
+            return self.by.copy(alloc);
+        }
+        Ok(expr)
+    }
+
+    fn left(&mut self, _alloc: Global, left: Ref) -> Result<Ref, Memory> {
+        Ok(left)
+    }
+}
+
+/// The expression with each reference to a scalar variable replaced. Where the variable and its replacement have one
+/// value, the expression keeps its value, or its fault.
+pub fn substitute(alloc: Global, expr: Expr, name: Name, by: &Expr) -> Result<Expr, Memory>
+    ensures made { IfOk result (λ new. expression_of new ≡ substituted name (expression_of by.now) (expression_of expr)) }
+    ensures value {
+        IfOk result (λ new. (bits : ℕ) (s : Store) → StandsFor bits name (expression_of by.now) s
+            → value_of (sequential bits) (expression_of new) s ≡ value_of (sequential bits) (expression_of expr) s)
+    }
+{
+    let mut rule = Substitution { variable: name, by: by.copy(alloc)? };
+    rewrite_expression(alloc, &expr, &mut rule)
+}

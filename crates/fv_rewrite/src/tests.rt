@@ -1,0 +1,72 @@
+//! A rule that renames a scalar, on statements and lists.
+
+use crate::substitution::Substitution;
+use crate::{rewrite, substitute};
+use fv_tree::{Block, Expr, Item, Name, Op, Ref, Seq, Stmt, Sub};
+use std::alloc::Global;
+use std::test::Fail;
+
+fn named(alloc: Global, text: &[u8]) -> Result<Ref, Fail> {
+    let name = Name::read(text).ok_or("name")?;
+    Ok(Ref {
+        name,
+        subs: Seq::new(alloc),
+    })
+}
+
+fn scalar(alloc: Global, text: &[u8]) -> Result<Expr, Fail> {
+    Ok(Expr::Item(named(alloc, text)?))
+}
+
+// The element of A with this scalar as its subscript.
+fn element(alloc: Global, subscript: &[u8]) -> Result<Ref, Fail> {
+    let mut item = named(alloc, b"A")?;
+    item.subs.push(Sub::One(scalar(alloc, subscript)?))?;
+    Ok(item)
+}
+
+// READ *, T, A(x); A(x) = y
+fn statements(alloc: Global, x: &[u8], y: &[u8]) -> Result<Block, Fail> {
+    let mut items = Seq::new(alloc);
+    items.push(Item::One(scalar(alloc, b"T")?))?;
+    items.push(Item::One(Expr::Item(element(alloc, x)?)))?;
+    let mut stmts = Seq::new(alloc);
+    stmts.push(Stmt::Read { line: 1, items })?;
+    stmts.push(Stmt::Assign {
+        line: 2,
+        mark: None,
+        left: element(alloc, x)?,
+        right: scalar(alloc, y)?,
+    })?;
+    Ok(Block { stmts })
+}
+
+// Input items keep their names, and have their subscripts rewritten.
+#[test]
+fn renames_in_subscripts(rt: HostRuntime) -> Result<(), Fail> {
+    let mut rule = Substitution {
+        variable: Name::read(b"T").ok_or("T")?,
+        by: scalar(rt.alloc(), b"T_1")?,
+    };
+    let tree = statements(rt.alloc(), b"T", b"T")?;
+    let made = rewrite(rt.alloc(), &tree, &mut rule)?;
+    let wanted = statements(rt.alloc(), b"T_1", b"T_1")?;
+    let text = format!(in rt.alloc(); "{made:?}")?;
+    assert_eq!(rt; text, format!(in rt.alloc(); "{wanted:?}")?);
+    Ok(())
+}
+
+// A + A(T) with 7 for A is 7 + A(T), since an element keeps its name.
+#[test]
+fn replaces_scalars(rt: HostRuntime) -> Result<(), Fail> {
+    let alloc = rt.alloc();
+    let right = Expr::Item(element(alloc, b"T")?);
+    let expr = Expr::Bin(Op::Add, Box::new(alloc, scalar(alloc, b"A")?)?, Box::new(alloc, right)?);
+    let name = Name::read(b"A").ok_or("A")?;
+    let made = substitute(alloc, expr, name, &Expr::Int(7))?;
+    let right = Expr::Item(element(alloc, b"T")?);
+    let wanted = Expr::Bin(Op::Add, Box::new(alloc, Expr::Int(7))?, Box::new(alloc, right)?);
+    let text = format!(in rt.alloc(); "{made:?}")?;
+    assert_eq!(rt; text, format!(in rt.alloc(); "{wanted:?}")?);
+    Ok(())
+}
