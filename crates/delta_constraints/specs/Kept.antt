@@ -22,3 +22,8 @@ pub record AreConstraints (c : Constraints) : Type 0 where
   pub shared : All IsConstraint c.shared
   pub first : All IsConstraint c.first
   pub second : All IsConstraint c.second
+
+-- where the constraints are kept, and so is one more on a loop, so are the others
+abbrev pub IsKeptWith : Constraints → Loop → Constraint → Constraints → Type 0
+IsKeptWith c l one more =
+    (x y : List ℤ) → AreKept c x y → Allows one (first_at l x) (second_at l y) → AreKept more x y

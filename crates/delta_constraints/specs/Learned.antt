@@ -48,3 +48,7 @@ HaveNoSolution ps = (x y : List ℤ) → HaveEqualSides ps x y → ⊥
 -- iterations that make the sides of all equal keep the constraints
 abbrev pub IsKeptBySolutions : List Pairing → Constraints → Type 0
 IsKeptBySolutions ps c = (x y : List ℤ) → HaveEqualSides ps x y → AreKept c x y
+
+pub record IsLearnedBySolutions (ps : List Pairing) (c : Constraints) : Type 0 where
+  pub constraints : AreConstraints c
+  pub kept : IsKeptBySolutions ps c

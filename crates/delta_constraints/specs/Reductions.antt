@@ -1,5 +1,6 @@
 -- A pairing into which iterations have been put.
 use Rattle.std.specs.Prelude.{◌≡◌, ℕ, ℤ, List, All, ◌+ℤ◌, ◌-ℤ◌, ◌*ℤ◌, ◌≤◌, ◌^◌, slice_set, unsigned_abs}
+use Rattle.subscripts.specs.Classes.{at_place}
 use Rattle.subscripts.specs.Forms.{difference}
 use Rattle.subscripts.specs.declared.pairing.Pairing.{Pairing}
 use Rattle.gcd_banerjee.specs.Extremes.{difference_with}
@@ -11,6 +12,12 @@ use Rattle.delta_constraints.specs.declared.put.Term.{Term}
 -- what a term is worth
 abbrev pub term_value : Term → ℤ → ℤ → ℤ
 term_value t i j = (t.first *ℤ i -ℤ t.second *ℤ j) +ℤ t.constant
+
+-- where the constraints are kept, what the loops in a place with these coefficients add is worth the term
+abbrev pub IsTermAt : Constraints → ℕ → ℤ → ℤ → Term → Type 0
+IsTermAt c k a b t =
+    (x y : List ℤ) → AreKept c x y
+    → a *ℤ at_place x k -ℤ b *ℤ at_place y k ≡ term_value t (at_place x k) (at_place y k)
 
 -- the first side less the second, at some iterations
 abbrev pub reduced_difference : Reduced → (ℕ → ℤ) → List ℤ → List ℤ → ℤ

@@ -1,9 +1,9 @@
 //! A constraint for each loop.
-ghost use Rattle.std.specs.Prelude.{◌≡◌, List, ℤ};
-ghost use Rattle.loop_constraints.specs.Constraints.{Allows, IsConstraint};
-ghost use Rattle.loop_lines.specs.OneLoop.{IsWithinPlaces, first_at, second_at};
+ghost use Rattle.std.specs.Prelude.{List, ℤ};
+ghost use Rattle.loop_constraints.specs.Constraints.{IsConstraint};
+ghost use Rattle.loop_lines.specs.OneLoop.{IsWithinPlaces};
 ghost use Rattle.loop_lines.specs.Places.{loop_at};
-ghost use Rattle.delta_constraints.specs.Kept.{AreConstraints, AreKept};
+ghost use Rattle.delta_constraints.specs.Kept.{AreConstraints, AreKept, IsKeptWith};
 
 use loop_constraints::{Constraint, meet_of};
 use loop_lines::LoopPlace;
@@ -43,7 +43,7 @@ impl Constraints {
         requires at { IsWithinPlaces (loop_at at) }
         requires constraint { IsConstraint constraint }
         ensures constraints { AreConstraints result }
-        ensures kept { (x y : List ℤ) → AreKept self x y → Allows constraint (first_at (loop_at at) x) (second_at (loop_at at) y) → AreKept result x y }
+        ensures kept { IsKeptWith self (loop_at at) constraint result }
     {
         let mut all = self;
         match at {

@@ -5,8 +5,8 @@ ghost use Rattle.line_points.specs.Crossings.{IsSmallLine};
 ghost use Rattle.loop_constraints.specs.Constraints.{IsConstraint};
 ghost use Rattle.loop_lines.specs.Places.{loop_at};
 ghost use Rattle.delta_constraints.specs.Kept.{AreConstraints};
-ghost use Rattle.delta_constraints.specs.Learned.{AreNeverEqual, HasNoValue, HaveNoSolution, IsKeptBySolutions, IsLearned};
-ghost use Rattle.delta_constraints.specs.Learned.{IsLearnedOfAll, IsNeverEqual, IsSaidBy, IsValue};
+ghost use Rattle.delta_constraints.specs.Learned.{AreNeverEqual, HasNoValue, HaveNoSolution, IsLearned};
+ghost use Rattle.delta_constraints.specs.Learned.{IsLearnedBySolutions, IsLearnedOfAll, IsNeverEqual, IsSaidBy, IsValue};
 ghost use Rattle.delta_constraints.specs.Lefts.{IsOwnLine};
 
 use crate::constraints::Constraints;
@@ -82,11 +82,11 @@ fn learned_once(constraints: Constraints, ps: &[Pairing]) -> Option<Constraints>
     Some(learned)
 }
 
-/// What subscript pairs say of their loops' iterations, or None where no iterations make the sides of all equal. They are
-/// gone through as many times as there are pairs, so that what one says gets to the others.
+/// What subscript pairs say of their loops' iterations, or None where no iterations make the sides of all equal. They
+/// are gone through as many times as there are pairs, so that what one says gets to the others.
 pub fn learned_of_all(ps: &[Pairing]) -> Option<Constraints>
     requires { All IsPairing ps.now }
-    ensures { MatchOption result (HaveNoSolution ps.now) (λ learned. AreConstraints learned × IsKeptBySolutions ps.now learned) }
+    ensures { MatchOption result (HaveNoSolution ps.now) (λ learned. IsLearnedBySolutions ps.now learned) }
 {
     let mut learned = Constraints::nothing();
     for _ in ps {

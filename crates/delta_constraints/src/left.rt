@@ -1,9 +1,8 @@
 //! What is left of a subscript pair once iterations have been put in.
-ghost use Rattle.std.specs.Prelude.{◌≡◌, ◌<◌, ◌≤◌, ◌^◌, ◌↔◌, ℕ, ℤ, pos, All, IsTrue, MatchOption, slice_index_or, length, unsigned_abs};
+ghost use Rattle.std.specs.Prelude.{◌≡◌, ◌<◌, ◌≤◌, ◌↔◌, ℕ, pos, All, IsTrue, MatchOption, length};
 ghost use Rattle.subscripts.specs.Classes.{Cancels, Matters, first_of, second_of, at_place};
 ghost use Rattle.subscripts.specs.Shapes.{HasSmallSymbols};
-ghost use Rattle.line_points.specs.Crossings.{IsSmallLine};
-ghost use Rattle.loop_lines.specs.OneLoop.{HasNoneAt, IsWithinPlaces, HasSevenLists};
+ghost use Rattle.loop_lines.specs.OneLoop.{HasNoneAt, IsWithinPlaces};
 ghost use Rattle.loop_lines.specs.Places.{loop_at};
 ghost use Rattle.delta_constraints.specs.Lefts.{IsAlone, IsLeft};
 ghost use Rattle.delta_constraints.specs.Reductions.{IsSized};

@@ -1,7 +1,7 @@
-//! What the Delta test learns of the loops of coupled subscript pairs: a constraint for each loop, which the pairs' lines
-//! give, and the pairs with points and distances put in (Goff, Kennedy and Tseng, "Practical Dependence Testing", PLDI
-//! 1991, section 5: the constraints are propagated into the other subscripts; Allen and Kennedy, "Optimizing Compilers
-//! for Modern Architectures", section 3.4).
+//! What the Delta test learns of the loops of coupled subscript pairs: a constraint for each loop, which the lines of
+//! pairs give, and the pairs with points and distances put in (Goff, Kennedy and Tseng, "Practical Dependence Testing",
+//! PLDI 1991, section 5: constraints are propagated into the other subscripts; Allen and Kennedy, "Optimizing
+//! Compilers for Modern Architectures", chapter 3).
 #![tactic(auto)]
 
 mod constraints;

@@ -1,10 +1,9 @@
 //! Points and distances put into a subscript pair.
-ghost use Rattle.std.specs.Prelude.{◌≡◌, ◌≤◌, ◌<◌, ◌^◌, ◌↔◌, ℤ, List, IsTrue, ◌-ℤ◌, ◌+ℤ◌, ◌*ℤ◌, pos, unsigned_abs};
-ghost use Rattle.subscripts.specs.Classes.{at_place};
+ghost use Rattle.std.specs.Prelude.{◌≡◌, ◌≤◌, ◌<◌, ◌^◌, ℤ, ◌-ℤ◌, ◌*ℤ◌, pos, unsigned_abs};
 ghost use Rattle.subscripts.specs.Shapes.{IsPairing, IsSmall};
 ghost use Rattle.loop_constraints.specs.Constraints.{Allows, IsConstraint};
-ghost use Rattle.delta_constraints.specs.Kept.{AreConstraints, AreKept};
-ghost use Rattle.delta_constraints.specs.Reductions.{IsReducedTo, term_value, with_term};
+ghost use Rattle.delta_constraints.specs.Kept.{AreConstraints};
+ghost use Rattle.delta_constraints.specs.Reductions.{IsReducedTo, IsTermAt, term_value, with_term};
 
 use crate::constraints::Constraints;
 use line_points::times;
@@ -109,7 +108,7 @@ fn term_at(constraints: &Constraints, place: usize, first: i64, second: i64) -> 
     requires place { place < 7 }
     requires first { IsSmall first }
     requires second { IsSmall second }
-    ensures value { (x y : List ℤ) → AreKept constraints.now x y → first *ℤ at_place x place -ℤ second *ℤ at_place y place ≡ term_value result (at_place x place) (at_place y place) }
+    ensures value { IsTermAt constraints.now place first second result }
     ensures first { unsigned_abs result.first ≤ 2 ^ 41 }
     ensures second { unsigned_abs result.second ≤ 2 ^ 41 }
     ensures size { unsigned_abs result.constant ≤ 2 ^ 90 }

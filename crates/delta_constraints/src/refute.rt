@@ -75,9 +75,9 @@ fn one_is_refuted(constraints: &Constraints, ps: &[Pairing], d: &Dirs) -> bool
     false
 }
 
-/// Whether what the members of a group say of each loop's iterations leaves none: two constraints of a loop don't meet, a
-/// constraint leaves no iterations of its loop in the direction, or a member with points and distances put in is refuted
-/// by the GCD test or Banerjee's (Goff, Kennedy and Tseng 1991, section 5).
+/// Whether what the members of a group say of each loop's iterations leaves none: two constraints of a loop don't meet,
+/// a constraint leaves no iterations of its loop in the direction, or a member with points and distances put in is
+/// refuted by the GCD test or Banerjee's (Goff, Kennedy and Tseng 1991, section 5).
 pub fn constraints_refute(ps: &[Pairing], d: &Dirs) -> bool
     requires members { AreMembers ps.now d.now }
     requires linear { All (λ p. IsTrue p.known) ps.now }

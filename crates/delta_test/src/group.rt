@@ -42,8 +42,8 @@ fn one_is_refuted(ps: &[Pairing], d: &Dirs) -> bool
     false
 }
 
-/// Tests a group. Where all members have one and the same loop, with a constant trip, that loop alone decides. Elsewhere
-/// the group is refuted by the GCD test or Banerjee's on a member as it is, or by what the members say of their loops.
+/// Tests a group. Where all members have one and the same loop, with a constant trip, that loop alone decides.
+/// Elsewhere the GCD test or Banerjee's refutes a member as it is, or what the members say of their loops leaves none.
 pub fn test_group(g: &Group, d: &Dirs) -> Verdict
     requires group { IsGroup g.now }
     requires dirs { All (λ p. AreDirsOf p d.now) (members g.now) }

@@ -1,5 +1,5 @@
-//! Groups as tables, whose answers are worked by hand or come from another program, and groups against a decision by trying
-//! all iterations.
+//! Groups as tables, whose answers are worked by hand or come from another program, and groups against a decision by
+//! trying all iterations.
 ghost use Rattle.std.specs.Prelude.{All, IsTrue, ◌<◌};
 ghost use Rattle.subscripts.specs.Shapes.{AreDirsOf};
 
@@ -167,6 +167,8 @@ fn over_loops(from: [i64; 3], to: [i64; 3], constant: i64) -> Pair {
     Pair { from, to, constant }
 }
 
+const FAR: i64 = 1 << 40;
+
 // The answers are those of another program.
 #[test]
 fn several_loops(rt: HostRuntime) {
@@ -174,7 +176,7 @@ fn several_loops(rt: HostRuntime) {
     let fifth = over_loops([0, 0, 0], [1, 0, 0], 5);
     let next = over_loops([1, 0, 0], [1, 0, 0], 1);
     let second = over_loops([1, 0, 0], [1, 0, 0], 2);
-    let far = over_loops([1, 0, 0], [1, 0, 0], 1 << 40);
+    let far = over_loops([1, 0, 0], [1, 0, 0], FAR);
     let open = [OPEN, OPEN, OPEN];
     let ends = [OPEN, OPEN, trip(3)];
     let table = [
@@ -195,7 +197,7 @@ fn several_loops(rt: HostRuntime) {
         ([next, over_loops([1, 0, 0], [1, 0, 2], 5), next], 2, ends, Dir::Eq, ASSUMED),
         ([next, over_loops([1, 0, 0], [1, 0, 2], 6), next], 2, ends, Dir::Eq, NEVER),
         // large numbers
-        ([far, over_loops([1, 0, 0], [2, 0, 0], 1 << 40), over_loops([1, 1, 0], [2, 1, 0], 0)], 3, open, Dir::Eq, NEVER),
+        ([far, over_loops([1, 0, 0], [2, 0, 0], FAR), over_loops([1, 1, 0], [2, 1, 0], 0)], 3, open, Dir::Eq, NEVER),
     ];
     for (pairs, count, spans, inner, expected) in table {
         let loops = Loops {
@@ -322,6 +324,11 @@ impl Random {
         (self.seed >> 16) & mask
     }
 
+    /// A number of members.
+    fn count(&mut self) -> u8 {
+        if self.bits(1) == 0 { 2 } else { 3 }
+    }
+
     fn coefficient(&mut self) -> i64 {
         match self.bits(7) {
             0 | 1 => 0,
@@ -371,7 +378,7 @@ fn one_loop_agrees_with_trying(rt: HostRuntime) {
     let mut random = Random { seed: 1 };
     for _ in 0..10000 {
         let pairs = [random.pair(1), random.pair(1), random.pair(1)];
-        let count = 2 + (random.bits(1) as u8);
+        let count = random.count();
         let loops = alone(trip(i64::from(random.bits(3)).wrapping_add(1)), random.dir());
         if let Some(given) = answer(&pairs, count, &loops) {
             let expected = match least_tried(&pairs, count, &loops) {
@@ -393,7 +400,7 @@ fn never_only_where_trying_finds_none(rt: HostRuntime) {
     let mut random = Random { seed: 2 };
     for _ in 0..5000 {
         let pairs = [random.pair(3), random.pair(3), random.pair(2)];
-        let count = 2 + (random.bits(1) as u8);
+        let count = random.count();
         let loops = Loops {
             spans: [random.span(), random.span(), random.span()],
             dirs: [random.dir(), random.dir()],

@@ -229,6 +229,49 @@ fn small(seed: u32, shift: u32) -> i64
     i64::from((seed >> shift) & 15) - 6
 }
 
+/// The opposite number.
+fn opposite(z: i64) -> i64
+    requires { IsSmall z }
+    ensures { IsSmall result }
+{
+    -z
+}
+
+/// The direction of the references exchanged.
+fn reversed(dir: Dir) -> Dir {
+    match dir {
+        Dir::Lt => Dir::Gt,
+        Dir::Eq => Dir::Eq,
+        Dir::Gt => Dir::Lt,
+        Dir::Any => Dir::Any,
+    }
+}
+
+/// Whether the answer is the same with both sides negated, and the same but for the pair with the references exchanged.
+fn is_even_handed(
+    first: (i64, i64),
+    second: (i64, i64),
+    last: Option<i64>,
+    dir: Dir,
+) -> bool
+    requires a { IsSmall first.0 }
+    requires b { IsSmall first.1 }
+    requires c { IsSmall second.0 }
+    requires e { IsSmall second.1 }
+{
+    let given = answer(first, second, last, dir);
+    let minus_first = (opposite(first.0), opposite(first.1));
+    let minus_second = (opposite(second.0), opposite(second.1));
+    if answer(minus_first, minus_second, last, dir) != given {
+        return false;
+    }
+    match (given, answer(second, first, last, reversed(dir))) {
+        (Some(one), Some(other)) => one.0 == other.0 && one.3 == other.3,
+        (None, None) => true,
+        _ => false,
+    }
+}
+
 #[test]
 fn agrees_with_trying(rt: HostRuntime) {
     let mut seed: u32 = 1;
@@ -243,6 +286,8 @@ fn agrees_with_trying(rt: HostRuntime) {
             2 => Dir::Gt,
             _ => Dir::Any,
         };
+        assert!(rt; is_even_handed(first, second, Some(i64::from(trip)), dir));
+        assert!(rt; is_even_handed(first, second, None, dir));
         if let Some((kind, i, j, _)) = answer(first, second, Some(i64::from(trip)), dir) {
             let expected = tried(first, second, trip, dir);
             let same = match expected {

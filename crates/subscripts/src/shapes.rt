@@ -4,7 +4,8 @@ ghost use Rattle.std.specs.Prelude.{◌≡◌, ◌≢◌, ℕ, ◌≤◌, ◌<�
 ghost use Rattle.std.specs.Prelude.{slice_index_or};
 ghost use Rattle.subscripts.specs.Iterations.{once};
 ghost use Rattle.subscripts.specs.Classes.{IsZiv};
-ghost use Rattle.subscripts.specs.Shapes.{AreDirsOf, AreSpans, AreSymbols, IsBeside, IsForm, IsGroup, IsPairing, IsSmall};
+ghost use Rattle.subscripts.specs.Shapes.{AreDirsOf, AreSpans, AreSymbols, IsBeside, IsForm, IsGroup, IsPairing};
+ghost use Rattle.subscripts.specs.Shapes.{IsSmall};
 
 use crate::affine::{Affine, Dir, Dirs, Span};
 use crate::classes::classify;
@@ -178,7 +179,8 @@ fn is_member(p: &Pairing) -> bool
     }
     match classify(p) {
         Class::Ziv | Class::Unknown => false,
-        Class::Strong | Class::WeakZero | Class::WeakCrossing | Class::GeneralSiv | Class::Miv => true,
+        Class::Strong | Class::WeakZero | Class::WeakCrossing | Class::GeneralSiv | Class::Miv =>
+            true,
     }
 }
 

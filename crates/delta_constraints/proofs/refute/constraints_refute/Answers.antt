@@ -6,10 +6,10 @@ returns-in-None c = λ t x y r. c.in-None.ensures x y (equal_sides c.args.ps.now
 
 pub returns-then-one_leaves_none : goal.returns-then-one_leaves_none
 returns-then-one_leaves_none c = λ t x y r.
-    let k = c.in-Some.ensures.1 x y (equal_sides c.args.ps.now c.args.d.now x y c.requires.linear r) in
+    let k = c.in-Some.ensures.kept x y (equal_sides c.args.ps.now c.args.d.now x y c.requires.linear r) in
     c.one_leaves_none.ensures c.if-one_leaves_none.true x y k (r 0 _ c.requires.members.some).region
 
 pub returns-else-one_leaves_none : goal.returns-else-one_leaves_none
 returns-else-one_leaves_none c = λ t x y r.
-    let k = c.in-Some.ensures.1 x y (equal_sides c.args.ps.now c.args.d.now x y c.requires.linear r) in
+    let k = c.in-Some.ensures.kept x y (equal_sides c.args.ps.now c.args.d.now x y c.requires.linear r) in
     c.one_is_refuted.ensures t x y k r
