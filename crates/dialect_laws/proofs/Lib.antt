@@ -1,5 +1,5 @@
 mod Values
 mod Acts
-mod Runs
+pub mod Runs
 mod NamesIn
 mod MadeNames

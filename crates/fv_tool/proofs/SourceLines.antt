@@ -11,7 +11,7 @@ use Rattle.fv_meaning.specs.Profile90.{IsProgram90}
 use Rattle.f90_grammar.specs.PrintedForms.{Printed, printed_program}
 use Rattle.f90_grammar.specs.PrintedText.{IsNote, form_text, further_pieces, piece_length, pieces, continued, lines_of_text, mark_lines, printed_lines, program_lines, with_line_feed}
 use Rattle.f90_laws.specs.Spelled.{IsSpelled}
-use Rattle.f90_laws.proofs.PrintedLinesMarks.{printable_line, text_lines, mark_lines_are, notes_lines}
+use Rattle.f90_laws.proofs.PrintedLinesMarks.{inside_lines, text_free, mark_lines_free, notes_free}
 use Rattle.f90_laws.proofs.PrintedLinesTaken.{MarkSuits, program_suits}
 use Rattle.f90_laws.proofs.PrintedLinesText.{IsLine}
 use Rattle.f90_laws.proofs.PrintedWords.{printed_is_spelled}
@@ -82,7 +82,7 @@ statements_lines : (ss : List Printed) → AllByRecursion (λ (s : Printed). IsS
 statements_lines [] h k = tt
 statements_lines (s ∷ ss) h k =
     lines_both (printed_lines s) (flat_map printed_lines ss)
-    (lines_both (mark_lines s.mark) (lines_of_text (form_text s.form)) (mark_lines_are s.mark k.0.is_mark) (text_lines (form_text s.form) (printable_line (form_text s.form) h.0.printable)))
+    (lines_both (mark_lines s.mark) (lines_of_text (form_text s.form)) (inside_lines (mark_lines s.mark) (mark_lines_free s.mark k.0.is_mark)) (inside_lines (lines_of_text (form_text s.form)) (text_free (form_text s.form) h.0.printable)))
     (statements_lines ss h.1 k.1)
 
 no_feed : (line : List ℕ) → IsLine line → Lacks 10 line
@@ -97,5 +97,5 @@ pub program_lines_are_source : (p : Program) (notes : List (List ℕ)) → IsPro
 program_lines_are_source p notes h good =
     let spelled = printed_is_spelled p h in
     both (program_lines p notes)
-    (lines_both notes (flat_map printed_lines (printed_program p)) (notes_lines notes good) (statements_lines (printed_program p) spelled (program_suits p h)))
+    (lines_both notes (flat_map printed_lines (printed_program p)) (inside_lines notes (notes_free notes good)) (statements_lines (printed_program p) spelled (program_suits p h)))
     (others_both notes (flat_map printed_lines (printed_program p)) (notes_others notes good) (statements_others (printed_program p) spelled))

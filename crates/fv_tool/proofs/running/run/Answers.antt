@@ -13,6 +13,6 @@ returns-in-Err-clause-works g c =
 
 pub returns-in-Ok-new-clause-works : goal.returns-in-Ok-new-clause-works
 returns-in-Ok-new-clause-works g c =
-    run_comes c.args.options c.args.deck.now c.source_and_input.result.0.now c.source_and_input.result.1.now _ c.read77.result c.in-Ok.program c.run_machine.result c.requires
+    run_comes c.args.options c.args.deck.now c.source_and_input.result.0.now c.bytes_of.result.now _ c.read77.result c.in-Ok.program c.run_machine.result c.requires
     c.source_and_input.ensures.source (c.bytes_of.ensures ∙ c.source_and_input.ensures.input) c.in-Ok.is c.in-Ok.ensures.ok c.read77.ensures.only_read c.read77.ensures.only_refused
     (c.run_machine.ensures.comes _ c.in-Ok.ensures.program c.in-Ok-new.ensures.machine)
