@@ -301,3 +301,188 @@ END
     );
     Ok(())
 }
+
+fn add_decl(decls: &mut Seq<Decl>, text: &str, kind: Kind, extent: Extent) -> Result<(), Fail> {
+    let name = name(text)?;
+    decls.push(Decl { name, kind, extent })?;
+    Ok(())
+}
+
+// Two dimensions, the second one from 1 to 5.
+fn fixed(alloc: Global, lower: i64, upper: i64) -> Result<Extent, Fail> {
+    let mut dims = Seq::new(alloc);
+    dims.push(Dim { lower, upper })?;
+    dims.push(Dim { lower: 1, upper: 5 })?;
+    Ok(Extent::Fixed(dims))
+}
+
+fn decls(alloc: Global) -> Result<Seq<Decl>, Fail> {
+    let mut decls = Seq::new(alloc);
+    let extent = fixed(alloc, -9, -1)?;
+    add_decl(&mut decls, "A", Kind::Integer, extent)?;
+    add_decl(&mut decls, "I", Kind::Integer, Extent::Scalar)?;
+    add_decl(&mut decls, "M", Kind::Logical, Extent::Later(2))?;
+    add_decl(&mut decls, "V", Kind::Logical, Extent::Later(1))?;
+    Ok(decls)
+}
+
+fn add_lists(stmts: &mut Seq<Stmt>, alloc: Global) -> Result<(), Fail> {
+    let mut within = Seq::new(alloc);
+    add_value(&mut within, alloc, "I")?;
+    add_constant(&mut within, alloc, "X")?;
+    let mut outer = Seq::new(alloc);
+    add_constant(&mut outer, alloc, "IT'S")?;
+    outer.push(turns(within, 2)?)?;
+    stmts.push(print(outer))?;
+    let mut read = Seq::new(alloc);
+    add_value(&mut read, alloc, "K")?;
+    let mut items = Seq::new(alloc);
+    items.push(turns(read, 1)?)?;
+    stmts.push(Stmt::Read { line: 1, items })?;
+    stmts.push(print(Seq::new(alloc)))?;
+    Ok(())
+}
+
+// A block IF with all its parts.
+fn add_branches(stmts: &mut Seq<Stmt>, alloc: Global) -> Result<(), Fail> {
+    let mut arms = Seq::new(alloc);
+    add_arm(&mut arms, alloc, "I 1 ==", "2")?;
+    add_arm(&mut arms, alloc, "I 3 <", "3")?;
+    let mut last = Seq::new(alloc);
+    last.push(Stmt::Go {
+        line: 1,
+        number: 30,
+    })?;
+    stmts.push(Stmt::If {
+        line: 1,
+        arms,
+        other: Block { stmts: last },
+    })?;
+    stmts.push(Stmt::Label { number: 30 })?;
+    stmts.push(Stmt::Stop { line: 1 })?;
+    Ok(())
+}
+
+fn add_mask(stmts: &mut Seq<Stmt>, alloc: Global) -> Result<(), Fail> {
+    let name = name("M")?;
+    let mut extents = Seq::new(alloc);
+    extents.push(Expr::Int(5))?;
+    extents.push(read(alloc, "N")?)?;
+    stmts.push(Stmt::Allocate {
+        line: 1,
+        name,
+        extents,
+    })?;
+    let mask = read(alloc, "M")?;
+    let left = whole(alloc, "A")?;
+    let right = read(alloc, "C B /")?;
+    stmts.push(Stmt::Masked {
+        line: 1,
+        mark: Some(Mark {
+            nest: 1,
+            stmt: 2,
+            level: 13,
+        }),
+        mask,
+        left,
+        right,
+    })?;
+    stmts.push(Stmt::Deallocate { line: 1, name })?;
+    Ok(())
+}
+
+#[test]
+fn prints_statements(rt: HostRuntime) -> Result<(), Fail> {
+    let alloc = rt.alloc();
+    let mut stmts = Seq::new(alloc);
+    add_lists(&mut stmts, alloc)?;
+    add_branches(&mut stmts, alloc)?;
+    add_mask(&mut stmts, alloc)?;
+    let p = Program90 {
+        name: Some(name("ALL")?),
+        decls: decls(alloc)?,
+        body: Block { stmts },
+    };
+    let text = print90(alloc, &p, &Seq::new(alloc))?;
+    assert_eq!(rt;
+        text.as_slice(),
+        b"PROGRAM ALL
+IMPLICIT NONE
+INTEGER :: A(-9:-1, 5)
+INTEGER :: I
+LOGICAL, ALLOCATABLE :: M(:, :)
+LOGICAL, ALLOCATABLE :: V(:)
+PRINT *, 'IT''S', (I, 'X', I = 0, 4, 2)
+READ *, (K, I = 0, 4)
+PRINT *
+IF (I == 1) THEN
+I = 2
+ELSE IF (I < 3) THEN
+I = 3
+ELSE
+GO TO 30
+END IF
+30 CONTINUE
+STOP
+ALLOCATE (M(1:5, 1:N))
+!S 1 2 13
+WHERE (M) A = C / B
+DEALLOCATE (M)
+END
+"
+            .as_slice()
+    );
+    Ok(())
+}
+
+// A PRINT with a constant of so many characters, whose text has eleven more.
+fn long(alloc: Global, characters: usize) -> Result<Vec<u8>, Fail> {
+    let mut text = Vec::new(alloc);
+    for _ in 0..characters {
+        text.push(b'X')?;
+    }
+    let mut items = Seq::new(alloc);
+    items.push(Item::Text(Seq::from_vec(text)))?;
+    let mut stmts = Seq::new(alloc);
+    stmts.push(print(items))?;
+    printed(alloc, stmts, "!G")
+}
+
+#[test]
+fn continues_long_statements(rt: HostRuntime) -> Result<(), Fail> {
+    let alloc = rt.alloc();
+    for (characters, want) in [
+        (119, [130, 3, 0]),
+        (120, [131, 2, 3]),
+        (249, [131, 131, 3]),
+        (250, [131, 132, 2]),
+    ] {
+        let text = long(alloc, characters)?;
+        let lengths = text.split(|byte| *byte == b'\n').map(|line| line.len());
+        let lengths: Vec<usize> = lengths.skip(3).take(3).collect(alloc)?;
+        assert_eq!(rt; lengths.as_slice(), want.as_slice(), "{characters}");
+    }
+    let text = long(alloc, 120)?;
+    assert!(rt; text.as_slice().ends_with(b"XX&\n&'\nEND\n"));
+    Ok(())
+}
+
+#[test]
+fn prints_deep_trees(rt: HostRuntime) -> Result<(), Fail> {
+    let alloc = rt.alloc();
+    let mut deep = Expr::Int(1);
+    for _ in 0..1000 {
+        deep = Expr::Un(Op::Neg, Box::new(alloc, deep)?);
+    }
+    let text = print_expr(alloc, &deep)?;
+    assert_eq!(rt; text.len(), 2999);
+    let mut stmts = Seq::new(alloc);
+    for _ in 0..300 {
+        let outer = counted(stmts, 1)?;
+        stmts = Seq::new(alloc);
+        stmts.push(outer)?;
+    }
+    let text = printed(alloc, stmts, "!G")?;
+    assert_eq!(rt; text.len(), 40 + 300 * 19);
+    Ok(())
+}
