@@ -1,5 +1,5 @@
 -- The text of the dimensions of an array, and of the extents of one that is allocated.
-use Rattle.std.proofs.Common.{◌≡◌, ℕ, zero, suc, ◌+◌, ◌-◌, List, [], ◌∷◌, ◌++◌, map, refl, ap, sym, ◌∙◌, append-nil, append_assoc, codes, replicate, arith}
+use Rattle.std.proofs.Common.{◌≡◌, ℕ, zero, suc, ◌+◌, ◌-◌, List, [], ◌∷◌, ◌++◌, map, refl, ap, sym, ◌∙◌, append_assoc, codes, replicate, arith}
 use Rattle.std.specs.Prelude.{flat_map}
 use Rattle.std.proofs.lemmas.Grind.{flat_map-append}
 use Rattle.std.proofs.lemmas.List.{replicate_more}
@@ -8,7 +8,6 @@ use Rattle.fv_tree.specs.declared.programs.Dim.{Dim}
 use Rattle.fv_tree.specs.Plain as P
 use Rattle.fv_tree.specs.View.{expression_of, bounds_of}
 use Rattle.f90_grammar.specs.Forms.{Dimension, Deferred}
-use Rattle.f90_grammar.specs.Phrases.{Phrase}
 use Rattle.f90_grammar.specs.Printing.{phrase_of}
 use Rattle.f90_grammar.specs.PrintedForms.{dimension, phrases_of}
 use Rattle.f90_grammar.specs.PrintedText.{dimension_text, dimensions_text, separated_text, extent_text, expression_text}

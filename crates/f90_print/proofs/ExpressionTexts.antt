@@ -18,11 +18,11 @@ use Rattle.fv_tree.specs.declared.exprs.Turn.{Turn, out-Turn}
 use Rattle.fv_tree.specs.Plain as P
 use Rattle.fv_tree.specs.View.{expression_of, subscript_of, reference_of, loop_of, loops, ConstructorLoop}
 use Rattle.fv_tree.specs.Functions.{name_of_function, name_of_reduction}
-use Rattle.fv_tree.specs.OperatorTable.{level_of, left_least, right_least, spelling90_of, sign_level, Sign}
+use Rattle.fv_tree.specs.OperatorTable.{left_least, right_least, spelling90_of, sign_level}
 use Rattle.fv_tree.proofs.Equations.{expression_of-int, expression_of-truth, expression_of-item, expression_of-un, expression_of-bin, expression_of-call, expression_of-list, expression_of-spread, expression_of-transpose, expression_of-reshape, expression_of-reduce, subscript_of-one, subscript_of-part, reference_of-is, loop_of-is}
 use Rattle.f90_grammar.specs.Words.{truth_text}
-use Rattle.f90_grammar.specs.Phrases.{Phrase, Literal, Truth, Name, Listed, Signed, Value, Parts, One, Then, Phrases, Sole, More, Turn as Turns, Innermost, Round, level}
-use Rattle.f90_grammar.specs.Printing.{phrase_of, part_of, parts_of, more_parts, arguments, more_arguments, list_of, more_values, values, first_value, constructed, rounds, listed, is_one, section, fit, unary_phrase, digits_of}
+use Rattle.f90_grammar.specs.Phrases.{Phrase, Signed, Value, Parts, One, Then, Phrases, Sole, More, Turn as Turns, Innermost, Round, level}
+use Rattle.f90_grammar.specs.Printing.{phrase_of, part_of, more_parts, more_arguments, list_of, more_values, values, first_value, constructed, rounds, is_one, section, fit, unary_phrase, digits_of}
 use Rattle.f90_grammar.specs.PrintedForms.{reference_phrase}
 use Rattle.f90_grammar.specs.PrintedText.{phrase_text, part_text, parts_text, values_text, turn_text, expression_text, separated_text, comma, in_parentheses, loop_text, sign_text}
 use Rattle.f90_print.specs.Texts.{operand_text, subscript_text, listed_text, after_comma, loop_end_text, sign_of}

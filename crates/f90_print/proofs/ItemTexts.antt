@@ -1,5 +1,5 @@
 -- The text of each kind of item.
-use Rattle.std.proofs.Common.{◌≡◌, ℕ, Bool, true, false, List, [], ◌∷◌, ◌++◌, map, refl, ap, sym, ◌∙◌, append-nil, append_assoc, codes}
+use Rattle.std.proofs.Common.{◌≡◌, ℕ, List, [], ◌∷◌, ◌++◌, map, refl, ap, sym, ◌∙◌, append-nil, append_assoc, codes}
 use Rattle.std.specs.Prelude.{flat_map, ◌==◌}
 use Rattle.fv_tree.specs.declared.lists.Seq.{Seq}
 use Rattle.fv_tree.specs.declared.exprs.Expr.{Expr}

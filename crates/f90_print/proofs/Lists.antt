@@ -1,5 +1,5 @@
 -- Lists of texts.
-use Rattle.std.proofs.Common.{◌≡◌, ℕ, List, [], ◌∷◌, ◌++◌, map, refl, ap, sym, ◌∙◌, append-nil, append_assoc}
+use Rattle.std.proofs.Common.{◌≡◌, ℕ, List, [], ◌∷◌, ◌++◌, ap, sym, ◌∙◌, append-nil, append_assoc}
 use Rattle.std.specs.Prelude.{flat_map}
 use Rattle.f90_grammar.specs.PrintedText.{separated_text, comma, in_parentheses}
 use Rattle.f90_print.specs.Texts.{listed_text, after_comma}

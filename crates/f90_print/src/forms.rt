@@ -81,7 +81,8 @@ pub(crate) fn print_if_then(
     line: &mut Vec<u8>,
     test: &Expr,
 ) -> Result<(), Memory>
-    ensures { OnOk result (out.new.items ≡ out.old.items ++ form_lines (forms.If (phrase_of (expression_of test.now)))) }
+    ensures { OnOk result
+        (out.new.items ≡ out.old.items ++ form_lines (forms.If (phrase_of (expression_of test.now)))) }
 {
     line.clear();
     push(line, b"IF (")?;
@@ -113,8 +114,9 @@ pub(crate) fn print_do(
     last: &Expr,
     step: &Expr,
 ) -> Result<(), Memory>
-    ensures { OnOk result (out.new.items ≡ out.old.items ++ form_lines (forms.Do var (phrase_of (expression_of first.now))
-        (phrase_of (expression_of last.now)) (step_phrase (expression_of step.now)))) }
+    ensures { OnOk result (out.new.items ≡ out.old.items ++ form_lines (forms.Do var
+        (phrase_of (expression_of first.now)) (phrase_of (expression_of last.now))
+        (step_phrase (expression_of step.now)))) }
 {
     line.clear();
     push(line, b"DO ")?;

@@ -45,11 +45,10 @@ fn print_title(out: &mut Vec<u8>, line: &mut Vec<u8>, name: Option<Name>) -> Res
     push_lines(out, line.as_slice())
 }
 
-/// The text of a program (ISO/IEC 1539:1991, sections 3.3.1, 5, 8, 9 and 11.1), behind the notes, which are comment lines
-/// of their own.
+/// The text of a program (ISO/IEC 1539:1991, sections 3.3.1, 5, 8, 9 and 11.1), behind the notes, a line each.
 ///
-/// A statement of more than 130 characters is continued. What no text of Fortran 90 has, such as an IF without an arm or
-/// a literal below 0, is printed as the definition says, though not so that it could be read again.
+/// A statement of more than 130 characters is continued. What no text of Fortran 90 has, such as an IF without an
+/// arm or a literal below 0, is printed too, as the definition has it, but isn't read back as itself.
 pub fn print90(alloc: Global, p: &Program90, notes: &Seq<Line>) -> Result<Vec<u8>, Memory>
     ensures { IfOk result (λ text. text.items ≡ printed90 (program_of_90 p.now) (map text_of notes.now)) }
 {
@@ -95,8 +94,8 @@ pub fn print_assign(
     left: &Ref,
     right: &Expr,
 ) -> Result<Seq<u8>, Memory>
-    ensures { IfOk result (λ text. text
-        ≡ guarded_assignment_text (guard_of (option_copied guard.entry)) (reference_of left.now) (expression_of right.now)) }
+    ensures { IfOk result (λ text. text ≡ guarded_assignment_text (guard_of (option_copied guard.entry))
+        (reference_of left.now) (expression_of right.now)) }
 {
     let mut text = Vec::new(alloc);
     push_guard(&mut text, guard)?;

@@ -1,15 +1,11 @@
 //! Trees and their texts.
 use crate::{print_assign, print_expr, print90};
 use fv_tree::{
-    Arm, Block, Decl, Dim, Expr, Extent, Fun, Item, Kind, Line, Mark, Memory, Name, Op, Program90,
-    Red, Ref, Seq, Stmt, Sub, Turn,
+    Arm, Block, Decl, Dim, Expr, Extent, Fun, Item, Kind, Line, Mark, Name, Op, Program90, Red,
+    Ref, Seq, Stmt, Sub, Turn,
 };
 use std::alloc::Global;
 use std::test::Fail;
-
-fn seq<T: Drop, const N: usize>(alloc: Global, items: [T; N]) -> Result<Seq<T>, Fail> {
-    Ok(Seq::from_vec(Vec::from_array(alloc, items)?))
-}
 
 fn name(text: &str) -> Result<Name, Fail> {
     Ok(Name::read(text.as_bytes()).ok_or("a name")?)
@@ -22,12 +18,88 @@ fn whole(alloc: Global, text: &str) -> Result<Ref, Fail> {
     })
 }
 
+// ---- expressions, each operator behind its operands
+
 fn operand(alloc: Global, operands: &mut Vec<Expr>) -> Result<Box<Expr>, Fail> {
     let expr = operands.pop().ok_or("an operand")?;
     Ok(Box::new(alloc, expr)?)
 }
 
-// The expression of a word, which takes the operands that stand last.
+fn two(alloc: Global, operands: &mut Vec<Expr>) -> Result<Seq<Expr>, Fail> {
+    let second = operands.pop().ok_or("an operand")?;
+    let mut list = Seq::new(alloc);
+    list.push(operands.pop().ok_or("an operand")?)?;
+    list.push(second)?;
+    Ok(list)
+}
+
+// A section of an array, whose stride stands last.
+fn section(alloc: Global, operands: &mut Vec<Expr>, array: &str) -> Result<Expr, Fail> {
+    let name = name(array)?;
+    let stride = operands.pop().ok_or("a stride")?;
+    let upper = operands.pop().ok_or("a bound")?;
+    let lower = operands.pop().ok_or("a bound")?;
+    let mut subs = Seq::new(alloc);
+    subs.push(Sub::Part(lower, upper, stride))?;
+    Ok(Expr::Item(Ref { name, subs }))
+}
+
+fn add_loop(loops: &mut Seq<Turn>, var: &str, last: i128) -> Result<(), Fail> {
+    loops.push(Turn {
+        var: name(var)?,
+        first: Expr::Int(1),
+        last: Expr::Int(last),
+    })?;
+    Ok(())
+}
+
+// One value under two loops.
+fn looped(alloc: Global, operands: &mut Vec<Expr>) -> Result<Expr, Fail> {
+    let mut values = Seq::new(alloc);
+    values.push(operands.pop().ok_or("a value")?)?;
+    let mut loops = Seq::new(alloc);
+    add_loop(&mut loops, "I", 2)?;
+    add_loop(&mut loops, "J", 3)?;
+    Ok(Expr::List(values, loops))
+}
+
+fn array_of(alloc: Global, operands: &mut Vec<Expr>, word: &str) -> Result<Option<Expr>, Fail> {
+    if word == "sum" {
+        return Ok(Some(Expr::Reduce(Red::Sum, operand(alloc, operands)?)));
+    }
+    if word == "transpose" {
+        return Ok(Some(Expr::Transpose(operand(alloc, operands)?)));
+    }
+    if word == "spread" {
+        let extent = operand(alloc, operands)?;
+        return Ok(Some(Expr::Spread(operand(alloc, operands)?, 2, extent)));
+    }
+    if word == "reshape" {
+        let extents = two(alloc, operands)?;
+        return Ok(Some(Expr::Reshape(operand(alloc, operands)?, extents)));
+    }
+    if word == "looped" {
+        return Ok(Some(looped(alloc, operands)?));
+    }
+    Ok(None)
+}
+
+fn value_of(alloc: Global, operands: &mut Vec<Expr>, word: &str) -> Result<Expr, Fail> {
+    if word == "max" {
+        return Ok(Expr::Call(Fun::Max, two(alloc, operands)?));
+    }
+    if word == "pair" {
+        return Ok(Expr::List(two(alloc, operands)?, Seq::new(alloc)));
+    }
+    if let Some(array) = word.strip_suffix("::") {
+        return section(alloc, operands, array);
+    }
+    if let Ok(number) = word.parse::<i128>() {
+        return Ok(Expr::Int(number));
+    }
+    Ok(Expr::Item(whole(alloc, word)?))
+}
+
 fn apply(alloc: Global, operands: &mut Vec<Expr>, word: &str) -> Result<Expr, Fail> {
     if word == "neg" {
         return Ok(Expr::Un(Op::Neg, operand(alloc, operands)?));
@@ -37,16 +109,14 @@ fn apply(alloc: Global, operands: &mut Vec<Expr>, word: &str) -> Result<Expr, Fa
     }
     if let Some(op) = Op::read90(word.as_bytes(), true) {
         let right = operand(alloc, operands)?;
-        let left = operand(alloc, operands)?;
-        return Ok(Expr::Bin(op, left, right));
+        return Ok(Expr::Bin(op, operand(alloc, operands)?, right));
     }
-    if let Ok(number) = word.parse::<i128>() {
-        return Ok(Expr::Int(number));
+    if let Some(array) = array_of(alloc, operands, word)? {
+        return Ok(array);
     }
-    Ok(Expr::Item(whole(alloc, word)?))
+    value_of(alloc, operands, word)
 }
 
-// An expression, each operator behind its operands.
 fn read(alloc: Global, text: &str) -> Result<Expr, Fail> {
     let mut operands = Vec::new(alloc);
     for word in text.split_whitespace() {
@@ -88,6 +158,16 @@ fn sets_parentheses_by_levels(rt: HostRuntime) -> Result<(), Fail> {
             "170141183460469231731687303715884105727 I /=",
             "170141183460469231731687303715884105727 /= I",
         ),
+        (
+            "1 2 1 B:: transpose 1 3 1 C:: 2 spread +",
+            "TRANSPOSE(B(1:2)) + SPREAD(C(1:3), 2, 2)",
+        ),
+        (
+            "I J * looped 2 3 reshape",
+            "RESHAPE((/ ((I * J, I = 1, 2), J = 1, 3) /), (/ 2, 3 /))",
+        ),
+        ("I 1 7 3 A:: sum max", "MAX(I, SUM(A(1:7:3)))"),
+        ("100 51 1 neg A:: 4 I pair *", "A(100:51:-1) * (/ 4, I /)"),
     ] {
         let text = print_expr(alloc, &read(alloc, tree)?)?;
         assert_eq!(rt; text.as_slice(), want.as_bytes(), "{tree}");
@@ -95,116 +175,80 @@ fn sets_parentheses_by_levels(rt: HostRuntime) -> Result<(), Fail> {
     Ok(())
 }
 
-// An array's section by its name, its bounds and its stride.
-fn section(alloc: Global, array: &str, bounds: [i128; 3]) -> Result<Expr, Fail> {
-    let [lower, upper, stride] = bounds;
-    let part = Sub::Part(Expr::Int(lower), Expr::Int(upper), Expr::Int(stride));
-    Ok(Expr::Item(Ref {
-        name: name(array)?,
-        subs: seq(alloc, [part])?,
-    }))
-}
-
-fn turn(var: &str, last: i128) -> Result<Turn, Fail> {
-    Ok(Turn {
-        var: name(var)?,
-        first: Expr::Int(1),
-        last: Expr::Int(last),
-    })
-}
-
-fn binary(alloc: Global, op: Op, left: Expr, right: Expr) -> Result<Expr, Fail> {
-    Ok(Expr::Bin(op, Box::new(alloc, left)?, Box::new(alloc, right)?))
-}
-
-// TRANSPOSE(B(1:2, 3)) + SPREAD(C(1:3), 2, 2)
-fn spread(alloc: Global) -> Result<Expr, Fail> {
-    let part = Sub::Part(Expr::Int(1), Expr::Int(2), Expr::Int(1));
-    let array = Expr::Item(Ref {
-        name: name("B")?,
-        subs: seq(alloc, [part, Sub::One(Expr::Int(3))])?,
-    });
-    let left = Expr::Transpose(Box::new(alloc, array)?);
-    let vector = Box::new(alloc, section(alloc, "C", [1, 3, 1])?)?;
-    let right = Expr::Spread(vector, 2, Box::new(alloc, Expr::Int(2))?);
-    binary(alloc, Op::Add, left, right)
-}
-
-// -3 * (/ (FV_LOOP_1, FV_LOOP_1 = 1, 4) /) + 13
-fn indices(alloc: Global) -> Result<Expr, Fail> {
-    let value = Expr::Item(whole(alloc, "FV_LOOP_1")?);
-    let values = Expr::List(seq(alloc, [value])?, seq(alloc, [turn("FV_LOOP_1", 4)?])?);
-    let product = binary(alloc, Op::Mul, Expr::Int(3), values)?;
-    let negative = Expr::Un(Op::Neg, Box::new(alloc, product)?);
-    binary(alloc, Op::Add, negative, Expr::Int(13))
-}
-
-// RESHAPE((/ ((I * J, I = 1, 2), J = 1, 3) /), (/ 2, 3 /))
-fn reshaped(alloc: Global) -> Result<Expr, Fail> {
-    let value = read(alloc, "I J *")?;
-    let values = Expr::List(
-        seq(alloc, [value])?,
-        seq(alloc, [turn("I", 2)?, turn("J", 3)?])?,
-    );
-    let extents = seq(alloc, [Expr::Int(2), Expr::Int(3)])?;
-    Ok(Expr::Reshape(Box::new(alloc, values)?, extents))
-}
-
-// MAX(I, SUM(A(1:7:3))) and MOD(I, 3)
-fn calls(alloc: Global) -> Result<Expr, Fail> {
-    let sum = Expr::Reduce(Red::Sum, Box::new(alloc, section(alloc, "A", [1, 7, 3])?)?);
-    let greatest = Expr::Call(Fun::Max, seq(alloc, [read(alloc, "I")?, sum])?);
-    let rest = Expr::Call(Fun::Mod, seq(alloc, [read(alloc, "I")?, Expr::Int(3)])?);
-    binary(alloc, Op::Sub, greatest, rest)
-}
-
 #[test]
-fn prints_arrays(rt: HostRuntime) -> Result<(), Fail> {
+fn prints_assignments(rt: HostRuntime) -> Result<(), Fail> {
     let alloc = rt.alloc();
-    for (tree, want) in [
-        (
-            spread(alloc)?,
-            "TRANSPOSE(B(1:2, 3)) + SPREAD(C(1:3), 2, 2)",
-        ),
-        (
-            indices(alloc)?,
-            "-3 * (/ (FV_LOOP_1, FV_LOOP_1 = 1, 4) /) + 13",
-        ),
-        (
-            reshaped(alloc)?,
-            "RESHAPE((/ ((I * J, I = 1, 2), J = 1, 3) /), (/ 2, 3 /))",
-        ),
-        (calls(alloc)?, "MAX(I, SUM(A(1:7:3))) - MOD(I, 3)"),
-        (
-            Expr::List(
-                seq(alloc, [Expr::Int(4), Expr::Truth(false)])?,
-                Seq::new(alloc),
-            ),
-            "(/ 4, .FALSE. /)",
-        ),
-    ] {
-        let text = print_expr(alloc, &tree)?;
-        assert_eq!(rt; text.as_slice(), want.as_bytes());
-    }
+    let left = whole(alloc, "J")?;
+    let right = read(alloc, "J neg")?;
+    let text = print_assign(alloc, None, &left, &right)?;
+    assert_eq!(rt; text.as_slice(), b"J = -J".as_slice());
     let guard = read(alloc, "I 5 <")?;
-    let text = print_assign(
-        alloc,
-        Some(&guard),
-        &whole(alloc, "J")?,
-        &read(alloc, "J neg")?,
-    )?;
+    let text = print_assign(alloc, Some(&guard), &left, &right)?;
     assert_eq!(rt; text.as_slice(), b"IF (I < 5) J = -J".as_slice());
-    let text = print_assign(alloc, None, &whole(alloc, "J")?, &Expr::Int(7))?;
-    assert_eq!(rt; text.as_slice(), b"J = 7".as_slice());
     Ok(())
 }
 
-fn assign(alloc: Global, left: &str, right: &str) -> Result<Stmt, Fail> {
-    Ok(Stmt::Assign {
+// ---- statements
+
+fn add_assignment(
+    stmts: &mut Seq<Stmt>,
+    alloc: Global,
+    left: &str,
+    right: &str,
+) -> Result<(), Fail> {
+    let left = whole(alloc, left)?;
+    let right = read(alloc, right)?;
+    stmts.push(Stmt::Assign {
         line: 1,
         mark: None,
-        left: whole(alloc, left)?,
-        right: read(alloc, right)?,
+        left,
+        right,
+    })?;
+    Ok(())
+}
+
+fn add_arm(arms: &mut Seq<Arm>, alloc: Global, test: &str, value: &str) -> Result<(), Fail> {
+    let test = read(alloc, test)?;
+    let mut stmts = Seq::new(alloc);
+    add_assignment(&mut stmts, alloc, "I", value)?;
+    arms.push(Arm {
+        test,
+        body: Block { stmts },
+    })?;
+    Ok(())
+}
+
+fn add_value(items: &mut Seq<Item>, alloc: Global, value: &str) -> Result<(), Fail> {
+    items.push(Item::One(read(alloc, value)?))?;
+    Ok(())
+}
+
+fn add_constant(items: &mut Seq<Item>, alloc: Global, text: &str) -> Result<(), Fail> {
+    let text = Vec::from_slice(alloc, text.as_bytes())?;
+    items.push(Item::Text(Seq::from_vec(text)))?;
+    Ok(())
+}
+
+// The items for I from 0 to 4.
+fn turns(items: Seq<Item>, step: i128) -> Result<Item, Fail> {
+    Ok(Item::Turns(
+        items,
+        name("I")?,
+        Expr::Int(0),
+        Expr::Int(4),
+        Expr::Int(step),
+    ))
+}
+
+// The statements for I from 1 to 3.
+fn counted(stmts: Seq<Stmt>, step: i128) -> Result<Stmt, Fail> {
+    Ok(Stmt::Do {
+        line: 1,
+        var: name("I")?,
+        first: Expr::Int(1),
+        last: Expr::Int(3),
+        step: Expr::Int(step),
+        body: Block { stmts },
     })
 }
 
@@ -212,307 +256,45 @@ fn print(items: Seq<Item>) -> Stmt {
     Stmt::Print { line: 1, items }
 }
 
-fn constant(alloc: Global, text: &str) -> Result<Item, Fail> {
-    Ok(Item::Text(Seq::from_vec(Vec::from_slice(alloc, text.as_bytes())?)))
-}
-
-fn value(alloc: Global, text: &str) -> Result<Item, Fail> {
-    Ok(Item::One(read(alloc, text)?))
-}
-
-// An element of an array by its subscripts.
-fn element<const N: usize>(alloc: Global, array: &str, subs: [Expr; N]) -> Result<Ref, Fail> {
-    let mut list = Seq::new(alloc);
-    for sub in Vec::from_array(alloc, subs)? {
-        list.push(Sub::One(sub))?;
-    }
-    Ok(Ref {
-        name: name(array)?,
-        subs: list,
-    })
-}
-
-fn counted(var: &str, first: i128, last: i128, step: i128, stmts: Seq<Stmt>) -> Result<Stmt, Fail> {
-    Ok(Stmt::Do {
-        line: 1,
-        var: name(var)?,
-        first: Expr::Int(first),
-        last: Expr::Int(last),
-        step: Expr::Int(step),
-        body: Block { stmts },
-    })
-}
-
-fn arm(test: Expr, stmts: Seq<Stmt>) -> Arm {
-    Arm {
-        test,
-        body: Block { stmts },
-    }
-}
-
-fn branch(arms: Seq<Arm>, other: Seq<Stmt>) -> Stmt {
-    Stmt::If {
-        line: 1,
-        arms,
-        other: Block { stmts: other },
-    }
-}
-
-fn decl(text: &str, kind: Kind, extent: Extent) -> Result<Decl, Fail> {
-    Ok(Decl {
-        name: name(text)?,
-        kind,
-        extent,
-    })
-}
-
-fn fixed<const N: usize>(alloc: Global, bounds: [(i64, i64); N]) -> Result<Extent, Fail> {
-    let mut dims = Seq::new(alloc);
-    for (lower, upper) in Vec::from_array(alloc, bounds)? {
-        dims.push(Dim { lower, upper })?;
-    }
-    Ok(Extent::Fixed(dims))
-}
-
-fn program(decls: Seq<Decl>, stmts: Seq<Stmt>) -> Program90 {
-    Program90 {
+fn printed(alloc: Global, stmts: Seq<Stmt>, note: &str) -> Result<Vec<u8>, Fail> {
+    let mut notes = Seq::new(alloc);
+    let text = Seq::from_vec(Vec::from_slice(alloc, note.as_bytes())?);
+    notes.push(Line { text })?;
+    let p = Program90 {
         name: None,
-        decls,
+        decls: Seq::new(alloc),
         body: Block { stmts },
-    }
-}
-
-fn seven(alloc: Global) -> Result<Program90, Fail> {
-    let items = seq(alloc, [Item::One(Expr::Int(7))])?;
-    Ok(program(Seq::new(alloc), seq(alloc, [print(items)])?))
+    };
+    Ok(print90(alloc, &p, &notes)?)
 }
 
 // A loop whose sum is named like the beginning of a loop.
-fn sum(alloc: Global) -> Result<Program90, Fail> {
-    let decls = [
-        decl("DO10I", Kind::Integer, Extent::Scalar)?,
-        decl("I", Kind::Integer, Extent::Scalar)?,
-    ];
-    let body = seq(alloc, [assign(alloc, "DO10I", "DO10I I +")?])?;
-    let items = seq(alloc, [value(alloc, "DO10I")?, value(alloc, "I")?])?;
-    let stmts = [
-        assign(alloc, "DO10I", "1")?,
-        counted("I", 1, 3, 1, body)?,
-        print(items),
-    ];
-    Ok(program(seq(alloc, decls)?, seq(alloc, stmts)?))
-}
-
-// A loop that is left by GO TO.
-fn search(alloc: Global) -> Result<Program90, Fail> {
-    let decls = [
-        decl("A", Kind::Integer, fixed(alloc, [(1, 5)])?)?,
-        decl("I", Kind::Integer, Extent::Scalar)?,
-    ];
-    let found = Expr::Item(element(alloc, "A", [read(alloc, "I")?])?);
-    let test = binary(alloc, Op::Eq, found, Expr::Int(7))?;
-    let jump = seq(
-        alloc,
-        [Stmt::Go {
-            line: 1,
-            number: 30,
-        }],
-    )?;
-    let body = [branch(seq(alloc, [arm(test, jump)])?, Seq::new(alloc))];
-    let stmts = [
-        Stmt::Assign {
-            line: 1,
-            mark: None,
-            left: element(alloc, "A", [Expr::Int(3)])?,
-            right: Expr::Int(7),
-        },
-        counted("I", 1, 5, 1, seq(alloc, body)?)?,
-        Stmt::Label { number: 30 },
-        print(seq(alloc, [value(alloc, "I")?])?),
-    ];
-    Ok(program(seq(alloc, decls)?, seq(alloc, stmts)?))
-}
-
-fn printed(alloc: Global, p: &Program90, note: &str) -> Result<Vec<u8>, Fail> {
-    let mut notes = Seq::new(alloc);
-    if !note.is_empty() {
-        let text = Seq::from_vec(Vec::from_slice(alloc, note.as_bytes())?);
-        notes.push(Line { text })?;
-    }
-    Ok(print90(alloc, p, &notes)?)
-}
-
-#[test]
-fn prints_programs(rt: HostRuntime) -> Result<(), Fail> {
-    let alloc = rt.alloc();
-    for (p, note, want) in [
-        (
-            seven(alloc)?,
-            "",
-            "PROGRAM FV_PROGRAM\nIMPLICIT NONE\nPRINT *, 7\nEND\n",
-        ),
-        (
-            sum(alloc)?,
-            "",
-            "PROGRAM FV_PROGRAM\nIMPLICIT NONE\nINTEGER :: DO10I\nINTEGER :: I\nDO10I = 1\nDO I = 1, 3\nDO10I = DO10I + I
-END DO\nPRINT *, DO10I, I\nEND\n",
-        ),
-        (
-            search(alloc)?,
-            "!G KEEP 3 EXIT",
-            "!G KEEP 3 EXIT\nPROGRAM FV_PROGRAM\nIMPLICIT NONE\nINTEGER :: A(5)\nINTEGER :: I\nA(3) = 7\nDO I = 1, 5
-IF (A(I) == 7) THEN\nGO TO 30\nEND IF\nEND DO\n30 CONTINUE\nPRINT *, I\nEND\n",
-        ),
-    ] {
-        let text = printed(alloc, &p, note)?;
-        assert_eq!(rt; text.as_slice(), want.as_bytes());
-    }
-    Ok(())
-}
-
-// READ and PRINT with implied DO lists and constants.
-fn lists(alloc: Global) -> Result<[Stmt; 4], Fail> {
-    let two = Item::One(Expr::Item(element(alloc, "A", [read(alloc, "I")?, Expr::Int(2)])?));
-    let one = Item::One(Expr::Item(element(alloc, "B", [read(alloc, "J")?])?));
-    let inner = Item::Turns(
-        seq(alloc, [one])?,
-        name("J")?,
-        Expr::Int(1),
-        Expr::Int(3),
-        Expr::Int(2),
-    );
-    let within = seq(alloc, [two, constant(alloc, "X")?, inner])?;
-    let outer = Item::Turns(within, name("I")?, Expr::Int(0), Expr::Int(4), Expr::Int(1));
-    let out = seq(alloc, [constant(alloc, "IT'S")?, outer, value(alloc, "I")?])?;
-    let read = Item::One(Expr::Item(element(alloc, "A", [read(alloc, "I")?, Expr::Int(1)])?));
-    let turns = Item::Turns(
-        seq(alloc, [read])?,
-        name("I")?,
-        Expr::Int(0),
-        Expr::Int(9),
-        Expr::Int(1),
-    );
-    Ok([
-        Stmt::Read {
-            line: 1,
-            items: seq(alloc, [turns, value(alloc, "L")?])?,
-        },
-        Stmt::Read {
-            line: 2,
-            items: Seq::new(alloc),
-        },
-        print(out),
-        print(Seq::new(alloc)),
-    ])
-}
-
-// A block IF with all its parts, and a loop that counts down.
-fn blocks(alloc: Global) -> Result<[Stmt; 2], Fail> {
-    let arms = [
-        arm(
-            read(alloc, "I 1 ==")?,
-            seq(alloc, [assign(alloc, "I", "2")?])?,
-        ),
-        arm(
-            read(alloc, "I 3 <")?,
-            seq(alloc, [assign(alloc, "I", "3")?])?,
-        ),
-    ];
-    let chosen = branch(seq(alloc, arms)?, seq(alloc, [Stmt::Stop { line: 1 }])?);
-    Ok([chosen, counted("I", 10, 1, 3, Seq::new(alloc))?])
-}
-
-// A mask and what it allows.
-fn masked(alloc: Global) -> Result<[Stmt; 4], Fail> {
-    let mark = Mark {
-        nest: 1,
-        stmt: 2,
-        level: 13,
-    };
-    let mask = section(alloc, "FV_MASK_1", [1, 5, 1])?;
-    Ok([
-        Stmt::Allocate {
-            line: 1,
-            name: name("FV_MASK_1")?,
-            extents: seq(alloc, [Expr::Int(5), read(alloc, "N")?])?,
-        },
-        Stmt::Assign {
-            line: 1,
-            mark: Some(mark),
-            left: whole(alloc, "FV_MASK_1")?,
-            right: read(alloc, "B 0 /=")?,
-        },
-        Stmt::Masked {
-            line: 1,
-            mark: Some(mark),
-            mask,
-            left: whole(alloc, "A")?,
-            right: read(alloc, "C B /")?,
-        },
-        Stmt::Deallocate {
-            line: 1,
-            name: name("FV_MASK_1")?,
-        },
-    ])
-}
-
-fn decls(alloc: Global) -> Result<Seq<Decl>, Fail> {
-    seq(
-        alloc,
-        [
-            decl("A", Kind::Integer, fixed(alloc, [(0, 9), (1, 5)])?)?,
-            decl("B", Kind::Integer, fixed(alloc, [(-3, -1)])?)?,
-            decl("FV_MASK_1", Kind::Logical, Extent::Later(1))?,
-            decl("FV_MASK_2", Kind::Logical, Extent::Later(2))?,
-            decl("L", Kind::Logical, Extent::Scalar)?,
-        ],
-    )
-}
-
-#[test]
-fn prints_statements(rt: HostRuntime) -> Result<(), Fail> {
-    let alloc = rt.alloc();
+fn sum(alloc: Global) -> Result<Seq<Stmt>, Fail> {
     let mut body = Seq::new(alloc);
-    for stmt in Vec::from_array(alloc, lists(alloc)?)? {
-        body.push(stmt)?;
-    }
-    for stmt in Vec::from_array(alloc, blocks(alloc)?)? {
-        body.push(stmt)?;
-    }
-    for stmt in Vec::from_array(alloc, masked(alloc)?)? {
-        body.push(stmt)?;
-    }
-    let mut p = program(decls(alloc)?, body);
-    p.name = Some(name("MASKS")?);
-    let text = printed(alloc, &p, "")?;
+    add_assignment(&mut body, alloc, "DO10I", "DO10I I +")?;
+    let mut items = Seq::new(alloc);
+    add_value(&mut items, alloc, "DO10I")?;
+    add_value(&mut items, alloc, "I")?;
+    let mut stmts = Seq::new(alloc);
+    add_assignment(&mut stmts, alloc, "DO10I", "1")?;
+    stmts.push(counted(body, 1)?)?;
+    stmts.push(print(items))?;
+    Ok(stmts)
+}
+
+#[test]
+fn prints_a_loop(rt: HostRuntime) -> Result<(), Fail> {
+    let text = printed(rt.alloc(), sum(rt.alloc())?, "!G KEEP 3 EXIT")?;
     assert_eq!(rt;
         text.as_slice(),
-        b"PROGRAM MASKS
+        b"!G KEEP 3 EXIT
+PROGRAM FV_PROGRAM
 IMPLICIT NONE
-INTEGER :: A(0:9, 5)
-INTEGER :: B(-3:-1)
-LOGICAL, ALLOCATABLE :: FV_MASK_1(:)
-LOGICAL, ALLOCATABLE :: FV_MASK_2(:, :)
-LOGICAL :: L
-READ *, (A(I, 1), I = 0, 9), L
-READ *
-PRINT *, 'IT''S', (A(I, 2), 'X', (B(J), J = 1, 3, 2), I = 0, 4), I
-PRINT *
-IF (I == 1) THEN
-I = 2
-ELSE IF (I < 3) THEN
-I = 3
-ELSE
-STOP
-END IF
-DO I = 10, 1, 3
+DO10I = 1
+DO I = 1, 3
+DO10I = DO10I + I
 END DO
-ALLOCATE (FV_MASK_1(1:5, 1:N))
-!S 1 2 13
-FV_MASK_1 = B /= 0
-!S 1 2 13
-WHERE (FV_MASK_1(1:5)) A = C / B
-DEALLOCATE (FV_MASK_1)
+PRINT *, DO10I, I
 END
 "
             .as_slice()
@@ -520,18 +302,150 @@ END
     Ok(())
 }
 
-// The lines of a PRINT with a constant of so many characters, whose text has eleven more.
+fn add_decl(decls: &mut Seq<Decl>, text: &str, kind: Kind, extent: Extent) -> Result<(), Fail> {
+    let name = name(text)?;
+    decls.push(Decl { name, kind, extent })?;
+    Ok(())
+}
+
+// Two dimensions, the second one from 1 to 5.
+fn fixed(alloc: Global, lower: i64, upper: i64) -> Result<Extent, Fail> {
+    let mut dims = Seq::new(alloc);
+    dims.push(Dim { lower, upper })?;
+    dims.push(Dim { lower: 1, upper: 5 })?;
+    Ok(Extent::Fixed(dims))
+}
+
+fn decls(alloc: Global) -> Result<Seq<Decl>, Fail> {
+    let mut decls = Seq::new(alloc);
+    let extent = fixed(alloc, -9, -1)?;
+    add_decl(&mut decls, "A", Kind::Integer, extent)?;
+    add_decl(&mut decls, "I", Kind::Integer, Extent::Scalar)?;
+    add_decl(&mut decls, "M", Kind::Logical, Extent::Later(2))?;
+    add_decl(&mut decls, "V", Kind::Logical, Extent::Later(1))?;
+    Ok(decls)
+}
+
+fn add_lists(stmts: &mut Seq<Stmt>, alloc: Global) -> Result<(), Fail> {
+    let mut within = Seq::new(alloc);
+    add_value(&mut within, alloc, "I")?;
+    add_constant(&mut within, alloc, "X")?;
+    let mut outer = Seq::new(alloc);
+    add_constant(&mut outer, alloc, "IT'S")?;
+    outer.push(turns(within, 2)?)?;
+    stmts.push(print(outer))?;
+    let mut read = Seq::new(alloc);
+    add_value(&mut read, alloc, "K")?;
+    let mut items = Seq::new(alloc);
+    items.push(turns(read, 1)?)?;
+    stmts.push(Stmt::Read { line: 1, items })?;
+    stmts.push(print(Seq::new(alloc)))?;
+    Ok(())
+}
+
+// A block IF with all its parts.
+fn add_branches(stmts: &mut Seq<Stmt>, alloc: Global) -> Result<(), Fail> {
+    let mut arms = Seq::new(alloc);
+    add_arm(&mut arms, alloc, "I 1 ==", "2")?;
+    add_arm(&mut arms, alloc, "I 3 <", "3")?;
+    let mut last = Seq::new(alloc);
+    last.push(Stmt::Go {
+        line: 1,
+        number: 30,
+    })?;
+    stmts.push(Stmt::If {
+        line: 1,
+        arms,
+        other: Block { stmts: last },
+    })?;
+    stmts.push(Stmt::Label { number: 30 })?;
+    stmts.push(Stmt::Stop { line: 1 })?;
+    Ok(())
+}
+
+fn add_mask(stmts: &mut Seq<Stmt>, alloc: Global) -> Result<(), Fail> {
+    let name = name("M")?;
+    let mut extents = Seq::new(alloc);
+    extents.push(Expr::Int(5))?;
+    extents.push(read(alloc, "N")?)?;
+    stmts.push(Stmt::Allocate {
+        line: 1,
+        name,
+        extents,
+    })?;
+    let mask = read(alloc, "M")?;
+    let left = whole(alloc, "A")?;
+    let right = read(alloc, "C B /")?;
+    stmts.push(Stmt::Masked {
+        line: 1,
+        mark: Some(Mark {
+            nest: 1,
+            stmt: 2,
+            level: 13,
+        }),
+        mask,
+        left,
+        right,
+    })?;
+    stmts.push(Stmt::Deallocate { line: 1, name })?;
+    Ok(())
+}
+
+#[test]
+fn prints_statements(rt: HostRuntime) -> Result<(), Fail> {
+    let alloc = rt.alloc();
+    let mut stmts = Seq::new(alloc);
+    add_lists(&mut stmts, alloc)?;
+    add_branches(&mut stmts, alloc)?;
+    add_mask(&mut stmts, alloc)?;
+    let p = Program90 {
+        name: Some(name("ALL")?),
+        decls: decls(alloc)?,
+        body: Block { stmts },
+    };
+    let text = print90(alloc, &p, &Seq::new(alloc))?;
+    assert_eq!(rt;
+        text.as_slice(),
+        b"PROGRAM ALL
+IMPLICIT NONE
+INTEGER :: A(-9:-1, 5)
+INTEGER :: I
+LOGICAL, ALLOCATABLE :: M(:, :)
+LOGICAL, ALLOCATABLE :: V(:)
+PRINT *, 'IT''S', (I, 'X', I = 0, 4, 2)
+READ *, (K, I = 0, 4)
+PRINT *
+IF (I == 1) THEN
+I = 2
+ELSE IF (I < 3) THEN
+I = 3
+ELSE
+GO TO 30
+END IF
+30 CONTINUE
+STOP
+ALLOCATE (M(1:5, 1:N))
+!S 1 2 13
+WHERE (M) A = C / B
+DEALLOCATE (M)
+END
+"
+            .as_slice()
+    );
+    Ok(())
+}
+
+// A PRINT with a constant of so many characters, whose text has eleven more.
 fn long(alloc: Global, characters: usize) -> Result<Vec<u8>, Fail> {
     let mut text = Vec::new(alloc);
     for _ in 0..characters {
         text.push(b'X')?;
     }
-    let items = seq(alloc, [Item::Text(Seq::from_vec(text))])?;
-    printed(
-        alloc,
-        &program(Seq::new(alloc), seq(alloc, [print(items)])?),
-        "",
-    )
+    let mut items = Seq::new(alloc);
+    items.push(Item::Text(Seq::from_vec(text)))?;
+    let mut stmts = Seq::new(alloc);
+    stmts.push(print(items))?;
+    printed(alloc, stmts, "!G")
 }
 
 #[test]
@@ -545,7 +459,7 @@ fn continues_long_statements(rt: HostRuntime) -> Result<(), Fail> {
     ] {
         let text = long(alloc, characters)?;
         let lengths = text.split(|byte| *byte == b'\n').map(|line| line.len());
-        let lengths: Vec<usize> = lengths.skip(2).take(3).collect(alloc)?;
+        let lengths: Vec<usize> = lengths.skip(3).take(3).collect(alloc)?;
         assert_eq!(rt; lengths.as_slice(), want.as_slice(), "{characters}");
     }
     let text = long(alloc, 120)?;
@@ -556,7 +470,7 @@ fn continues_long_statements(rt: HostRuntime) -> Result<(), Fail> {
 #[test]
 fn prints_deep_trees(rt: HostRuntime) -> Result<(), Fail> {
     let alloc = rt.alloc();
-    let mut deep = read(alloc, "I")?;
+    let mut deep = Expr::Int(1);
     for _ in 0..1000 {
         deep = Expr::Un(Op::Neg, Box::new(alloc, deep)?);
     }
@@ -564,10 +478,11 @@ fn prints_deep_trees(rt: HostRuntime) -> Result<(), Fail> {
     assert_eq!(rt; text.len(), 2999);
     let mut stmts = Seq::new(alloc);
     for _ in 0..300 {
-        let outer = counted("I", 1, 3, 1, stmts)?;
-        stmts = seq(alloc, [outer])?;
+        let outer = counted(stmts, 1)?;
+        stmts = Seq::new(alloc);
+        stmts.push(outer)?;
     }
-    let text = printed(alloc, &program(Seq::new(alloc), stmts), "")?;
-    assert_eq!(rt; text.len(), 37 + 300 * 19);
+    let text = printed(alloc, stmts, "!G")?;
+    assert_eq!(rt; text.len(), 40 + 300 * 19);
     Ok(())
 }
