@@ -1,5 +1,5 @@
 //! The canonical text of a form.
-ghost use Rattle.std.specs.Prelude.{◌≡◌, IfOk, option_copied, pos};
+ghost use Rattle.std.specs.Prelude.{◌≡◌, IfOk, pos, slice_get};
 ghost use Rattle.fv_tree.specs.Plain.{Binary, Unary, Number};
 ghost use Rattle.fv_tree.specs.declared.ops.Op.TheVariants.{Neg};
 ghost use Rattle.fv_tree.specs.View.{expression_of};
@@ -100,15 +100,21 @@ fn more_loops(alloc: Global, so_far: Option<Expr>, times: &[i64], names: &[Name]
     more_loops(alloc, so_far, times, names)
 }
 
-fn at_place(alloc: Global, so_far: Option<Expr>, times: i64, name: Option<&Name>) -> Result<Option<Expr>, Memory>
+fn at_place(alloc: Global, so_far: Option<Expr>, times: i64, name: Option<Name>) -> Result<Option<Expr>, Memory>
     ensures {
-        IfOk result (λ o. text_so_far o ≡ with_place (text_so_far so_far) times (option_copied name))
+        IfOk result (λ o. text_so_far o ≡ with_place (text_so_far so_far) times name)
     }
 {
     match name {
-        Some(name) => more(alloc, so_far, times, *name),
+        Some(name) => more(alloc, so_far, times, name),
         None => Ok(so_far),
     }
+}
+
+fn name_at(names: &[Name], place: u16) -> Option<Name>
+    ensures { result ≡ slice_get names.now place }
+{
+    names.get(usize::from(place)).copied()
 }
 
 fn more_symbols(
@@ -122,7 +128,7 @@ fn more_symbols(
     let Some((term, terms)) = terms.split_first() else {
         return Ok(so_far);
     };
-    let so_far = at_place(alloc, so_far, term.1, names.get(usize::from(term.0)))?;
+    let so_far = at_place(alloc, so_far, term.1, name_at(names, term.0))?;
     more_symbols(alloc, so_far, terms, names)
 }
 
