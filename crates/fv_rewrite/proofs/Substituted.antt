@@ -1,13 +1,11 @@
 -- What a variable is replaced by keeps the value of an expression.
-use Rattle.std.proofs.Common.{◌≡◌, refl, sym, ap, ◌∙◌, subst, ℕ, ℤ, Bool, true, false, cond, List, [], ◌∷◌, map, Result, Ok, Err}
+use Rattle.std.proofs.Common.{◌≡◌, refl, sym, ap, ◌∙◌, ℕ, Bool, true, false, cond, List, [], ◌∷◌, map, Result, Ok, Err}
 use Rattle.std.specs.Prelude.{IfOk}
 use Rattle.std.specs.Str.{bytes_eq}
 use Rattle.std.proofs.lemmas.Slice.Eq.{bytes_eq-Decides}
 use mathlib.Core.Path.{ap₂}
 use Rattle.fv_tree.specs.Operators.{apply, call, as_number}
 use Rattle.fv_tree.specs.Steps.{◌>>=◌}
-use Rattle.fv_tree.specs.declared.ops.Fault.{Fault}
-use Rattle.fv_tree.specs.declared.ops.Value.{Value}
 use Rattle.fv_tree.specs.declared.exprs.Expr.{Expr}
 use Rattle.fv_tree.specs.declared.exprs.Expr.TheVariants as exprs
 use Rattle.fv_tree.specs.declared.exprs.Sub.{Sub}
@@ -19,7 +17,7 @@ use Rattle.fv_tree.specs.Plain.{Expression, Number, Logic, Named, Unary, Binary,
 use Rattle.fv_meaning.specs.Store.{Store, cell_at}
 use Rattle.fv_meaning.specs.Value.{value_of, values_of, subscript_values, subscript_value}
 use Rattle.fv_rewrite.specs.Following.{sequential}
-use Rattle.fv_rewrite.specs.Making.{made, made_expressions, made_subscripts, made_subscript}
+use Rattle.fv_rewrite.specs.Making.{made_expressions, made_subscripts, made_subscript}
 use Rattle.fv_rewrite.specs.Substituting.{is_scalar, substituting, substituted, StandsFor}
 
 module _ (bits : ℕ) (x : List ℕ) (by : Expression) (s : Store) (stands : StandsFor bits x by s) where

@@ -1,5 +1,5 @@
 -- A scalar variable that an expression stands for.
-use Rattle.std.specs.Prelude.{◌≡◌, ℕ, ℤ, Bool, true, false, if◌then◌else◌, List}
+use Rattle.std.specs.Prelude.{◌≡◌, ℕ, Bool, false, if◌then◌else◌, List}
 use Rattle.std.specs.Str.{bytes_eq}
 use Rattle.fv_tree.specs.Plain.{Expression, Named, no_subscripts, subscript}
 use Rattle.fv_meaning.specs.Store.{Store}

@@ -72,11 +72,12 @@ impl Rule for Substitution {
 /// value, the expression keeps its value, or its fault.
 pub fn substitute(alloc: Global, expr: Expr, name: Name, by: &Expr) -> Result<Expr, Memory>
     ensures made { IfOk result (λ new. expression_of new ≡ substituted name (expression_of by.now) (expression_of expr)) }
-    ensures value {
-        IfOk result (λ new. (bits : ℕ) (s : Store) → StandsFor bits name (expression_of by.now) s
-            → value_of (sequential bits) (expression_of new) s ≡ value_of (sequential bits) (expression_of expr) s)
-    }
+    ensures value { IfOk result (λ new. (bits : ℕ) (s : Store) → StandsFor bits name (expression_of by.now) s
+        → value_of (sequential bits) (expression_of new) s ≡ value_of (sequential bits) (expression_of expr) s) }
 {
-    let mut rule = Substitution { variable: name, by: by.copy(alloc)? };
+    let mut rule = Substitution {
+        variable: name,
+        by: by.copy(alloc)?,
+    };
     rewrite_expression(alloc, &expr, &mut rule)
 }

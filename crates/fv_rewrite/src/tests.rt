@@ -61,11 +61,19 @@ fn renames_in_subscripts(rt: HostRuntime) -> Result<(), Fail> {
 fn replaces_scalars(rt: HostRuntime) -> Result<(), Fail> {
     let alloc = rt.alloc();
     let right = Expr::Item(element(alloc, b"T")?);
-    let expr = Expr::Bin(Op::Add, Box::new(alloc, scalar(alloc, b"A")?)?, Box::new(alloc, right)?);
+    let expr = Expr::Bin(
+        Op::Add,
+        Box::new(alloc, scalar(alloc, b"A")?)?,
+        Box::new(alloc, right)?,
+    );
     let name = Name::read(b"A").ok_or("A")?;
     let made = substitute(alloc, expr, name, &Expr::Int(7))?;
     let right = Expr::Item(element(alloc, b"T")?);
-    let wanted = Expr::Bin(Op::Add, Box::new(alloc, Expr::Int(7))?, Box::new(alloc, right)?);
+    let wanted = Expr::Bin(
+        Op::Add,
+        Box::new(alloc, Expr::Int(7))?,
+        Box::new(alloc, right)?,
+    );
     let text = format!(in rt.alloc(); "{made:?}")?;
     assert_eq!(rt; text, format!(in rt.alloc(); "{wanted:?}")?);
     Ok(())

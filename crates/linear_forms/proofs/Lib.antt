@@ -11,3 +11,4 @@ pub mod Combining
 pub mod ConstantLaws
 pub mod PartLaws
 pub mod Units
+pub mod TextLaws

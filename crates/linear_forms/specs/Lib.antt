@@ -4,3 +4,4 @@ pub mod Laws
 pub mod Places
 pub mod Merging
 pub mod Parts
+pub mod Texts

@@ -5,8 +5,10 @@ mod constants;
 mod forms;
 mod laws;
 mod terms;
+mod texts;
 
 pub use constants::constant_value;
 pub use forms::{Part, linear};
 pub use laws::{linear_value, text_value};
 pub use terms::{Terms, ZERO, combined, constant_form};
+pub use texts::express;
