@@ -1,9 +1,9 @@
 -- The places of what is selected (ISO/IEC 1539:1991, sections 6.2.2.2 and 6.2.2.3).
-use Rattle.std.specs.Prelude.{◌≡◌, true, ℕ, ◌+◌, ◌*◌, ℤ, pos, ◌-ℤ◌, nat_abs, Option, Some, List, [], ◌∷◌, map, get_or}
+use Rattle.std.specs.Prelude.{◌≡◌, true, ℕ, ◌+◌, ◌*◌, ℤ, pos, ◌-ℤ◌, nat_abs, Option, Some, None, if◌then◌else◌, List, [], ◌∷◌, map, get_or}
 use Rattle.fv_tree.specs.declared.ops.Value.{Value}
 use Rattle.fv_tree.specs.declared.ops.Value.TheVariants.{Int}
 use Rattle.fv_meaning.specs.Store.{size_of}
-use Rattle.fv_meaning.specs.Sections.{Axis, numbers_of, all_stand_in}
+use Rattle.fv_meaning.specs.Sections.{Axis, numbers_of, stands_in, all_stand_in}
 
 -- what is selected along each dimension stands within its bounds
 abbrev pub AxesStand : List (ℤ × ℤ) → List Axis → Type 0
@@ -23,3 +23,10 @@ somes ks = map (λ k. let o : Option ℕ = Some k in o) ks
 
 abbrev pub values_there : List Value → List ℕ → List Value
 values_there vs ks = map (λ k. get_or vs k (Int (pos 0))) ks
+
+-- how far a number is behind the lower bound, where it stands within both
+abbrev pub index_in : ℤ × ℤ → ℤ → Option ℕ
+index_in b z = if stands_in b z then Some (nat_abs (z -ℤ b.0)) else None
+
+abbrev pub places_there : List ℕ → List ℕ → List ℕ
+places_there ks at = map (λ k. get_or ks k 0) at

@@ -1,10 +1,11 @@
 //! The places of elements. A dimension whose upper bound is below the lower one has none.
-ghost use Rattle.std.specs.Prelude.{◌≡◌, ◌<◌, ◌≤◌, ◌-◌, ◌^◌, ℕ, [], Some, map, min, IfOk, IfSome, MatchOption};
+ghost use Rattle.std.specs.Prelude.{◌≡◌, ◌<◌, ◌≤◌, ◌+◌, ◌-◌, ◌*◌, ◌^◌, ℕ, [], Some, map, min, IfOk, IfSome, MatchOption};
 ghost use Rattle.std.specs.Option.{option_map};
 ghost use Rattle.fv_tree.specs.View.{bounds_of};
 ghost use Rattle.fv_meaning.specs.Store.{size_of};
 ghost use Rattle.fv_meaning.specs.Profile77.{elements_of};
 ghost use Rattle.fv_machine.specs.Storage.{offset, joined, bounds_list};
+ghost use Rattle.array_places.specs.Places.{index_in};
 
 use fv_tree::{Dim, Memory, Seq};
 use std::alloc::Global;
@@ -47,16 +48,31 @@ pub fn extents(alloc: Global, dims: &[Dim]) -> Result<Seq<u128>, Memory>
     Ok(extents)
 }
 
-// The place of an element, by its first subscript and the place that the others give.
-fn join(dim: Dim, number: i128, rest: u128) -> Option<u128>
-    ensures { (k : ℕ) → rest ≡ min k (2 ^ 128 - 1)
-        → result ≡ option_map (λ j. min j (2 ^ 128 - 1)) (joined (bounds_of dim) number (Some k)) }
+// How far the number is behind the lower bound, where it stands within both.
+pub fn index(dim: Dim, number: i128) -> Option<u128>
+    ensures { result ≡ index_in (bounds_of dim) number }
 {
     if number < i128::from(dim.lower) || i128::from(dim.upper) < number {
         return None;
     }
-    let index = (number - i128::from(dim.lower)) as u128;
-    Some(index.saturating_add(size(dim).saturating_mul(rest)))
+    Some((number - i128::from(dim.lower)) as u128)
+}
+
+// The first index, and what stands behind it in order.
+fn stacked(index: u128, size: u128, rest: u128) -> u128
+    ensures { (k : ℕ) → rest ≡ min k (2 ^ 128 - 1) → result ≡ min (index + size * k) (2 ^ 128 - 1) }
+{
+    index.saturating_add(size.saturating_mul(rest))
+}
+
+// The place of an element, by its first subscript and the place that the others give.
+#[tactic(auto, using(crate::proofs::Rows::joined_none, crate::proofs::Rows::joined_some))]
+fn join(dim: Dim, number: i128, rest: u128) -> Option<u128>
+    ensures { (k : ℕ) → rest ≡ min k (2 ^ 128 - 1)
+        → result ≡ option_map (λ j. min j (2 ^ 128 - 1)) (joined (bounds_of dim) number (Some k)) }
+{
+    let index = index(dim, number)?;
+    Some(stacked(index, size(dim), rest))
 }
 
 fn no_dimension(numbers: &[i128]) -> Option<u128>

@@ -4,6 +4,12 @@
 
 mod elements;
 mod selected;
+mod selection;
+#[cfg(test)]
+mod tests;
+mod writes;
 
 pub use elements::{count, extents, place, size};
 pub use selected::{places, values_at};
+pub use selection::{Selection, select, select_all};
+pub use writes::{Writes, writes_under};

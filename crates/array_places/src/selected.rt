@@ -1,5 +1,5 @@
 //! The places of what references select.
-ghost use Rattle.std.specs.Prelude.{◌≡◌, ◌<◌, ◌≤◌, ◌+◌, ◌*◌, ◌++◌, ◌∷◌, [], ◌^◌, true, ℕ, map, length, All, IfOk, OnOk};
+ghost use Rattle.std.specs.Prelude.{◌≡◌, ◌<◌, ◌≤◌, ◌+◌, ◌*◌, ◌++◌, ◌∷◌, [], ◌^◌, ◌-ℤ◌, nat_abs, true, ℕ, map, length, All, IfOk, OnOk};
 ghost use Rattle.fv_tree.specs.View.{bounds_of};
 ghost use Rattle.fv_meaning.specs.Store.{size_of, column_major};
 ghost use Rattle.fv_meaning.specs.Sections.{numbers_of, stands_in, all_stand_in};
@@ -8,18 +8,31 @@ ghost use Rattle.fv_machine.specs.Storage.{offset, bounds_list};
 ghost use Rattle.array_values.specs.Selections.{axis_in};
 ghost use Rattle.array_places.specs.Places.{AxesStand, place_in, row, somes, values_there};
 
-use crate::elements::size;
+use crate::elements::{index, size};
 use array_values::Axis;
 use fv_tree::{Dim, Memory, Seq, Value};
 use std::alloc::Global;
+
+// How far the number is behind the lower bound.
+#[tactic(auto, using(crate::proofs::Rows::index_stands, crate::proofs::Rows::index_within))]
+fn behind(dim: Dim, number: i64) -> u128
+    requires { stands_in (bounds_of dim) number ≡ true }
+    ensures value { result ≡ nat_abs (number -ℤ (bounds_of dim).0) }
+    ensures within { result < size_of (bounds_of dim) }
+{
+    match index(dim, i128::from(number)) {
+        Some(index) => index,
+        None => unreachable!(),
+    }
+}
 
 fn push_place(all: &mut Seq<usize>, dim: Dim, number: i64, rest: usize) -> Result<(), Memory>
     requires stands { stands_in (bounds_of dim) number ≡ true }
     requires few { size_of (bounds_of dim) * (rest + 1) < 2 ^ 64 }
     ensures { OnOk result (all.new ≡ all.old ++ place_in (bounds_of dim) rest number ∷ []) }
 {
-    let index = (i128::from(number) - i128::from(dim.lower)) as usize;
-    all.push(index + size(dim) as usize * rest)
+    let place = behind(dim, number) + size(dim) * rest as u128;
+    all.push(place as usize)
 }
 
 // The places of what is selected along the first dimension, behind those of the others.
@@ -34,12 +47,7 @@ fn push_row(all: &mut Seq<usize>, dim: Dim, axis: &Axis, rest: usize) -> Result<
     }
 }
 
-fn push_numbers(
-    all: &mut Seq<usize>,
-    dim: Dim,
-    numbers: &[i64],
-    rest: usize,
-) -> Result<(), Memory>
+fn push_numbers(all: &mut Seq<usize>, dim: Dim, numbers: &[i64], rest: usize) -> Result<(), Memory>
     requires stands { all_stand_in (bounds_of dim) numbers.now ≡ true }
     requires few { size_of (bounds_of dim) * (rest + 1) < 2 ^ 64 }
     ensures { OnOk result (all.new ≡ all.old ++ row (bounds_of dim) numbers.now rest) }

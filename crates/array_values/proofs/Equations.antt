@@ -1,20 +1,18 @@
 -- What a prepared array is, by its form.
-use Rattle.std.proofs.Common.{◌≡◌, ◌∙◌, ap, sym, ℕ, List, map, rules, [], ◌∷◌, Result, Ok, Err}
+use Rattle.std.proofs.Common.{◌≡◌, ℕ, List, map, rules, []}
 use Rattle.std.specs.declared.boxed.Box.{Box}
 use Rattle.std.specs.declared.alloc.Global.{Global}
 use Rattle.fv_tree.specs.Steps.{◌>>=◌}
 use Rattle.fv_tree.specs.Operators.{apply, call}
 use Rattle.fv_tree.specs.declared.ops.Op.{Op}
-use Rattle.fv_tree.specs.declared.ops.Value.{Value}
-use Rattle.fv_tree.specs.declared.ops.Fault.{Fault}
 use Rattle.fv_tree.specs.declared.functions.Fun.{Fun}
 use Rattle.fv_tree.specs.declared.lists.Seq.{Seq}
-use Rattle.fv_meaning.specs.ArrayValues.{Elements, settled, mapped, without_dimension, swapped}
+use Rattle.fv_meaning.specs.ArrayValues.{settled, mapped, without_dimension, swapped}
 use Rattle.array_values.specs.declared.known.Known.{Known}
 use Rattle.array_values.specs.declared.prepared.Prepared.{Prepared, the_lemmas}
 use Rattle.array_values.specs.declared.prepared.Prepared.TheVariants as prepared
 use Rattle.array_values.specs.Positions.{wider}
-use Rattle.array_values.specs.Arrays.{array_in, elements_in, together_all, called_at}
+use Rattle.array_values.specs.Arrays.{array_in, elements_in, together_all}
 
 pub known_is : (a : Known) → elements_in (prepared.Known a) ≡ settled (array_in a)
 unfolding elements_in

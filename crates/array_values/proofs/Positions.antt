@@ -1,15 +1,13 @@
 -- Positions are those at the places, one after the other.
-use Rattle.std.proofs.Common.{◌≡◌, refl, sym, ap, ◌∙◌, zero, suc, ℕ, ◌+◌, ◌-◌, ◌*◌, ◌<◌, ◌≤◌, List, [], ◌∷◌, ◌++◌, map, drop, get_or, length, Option, Some, None, Result, Ok, Err, arith, add-zero, append_assoc}
-use Rattle.std.specs.Prelude.{◌/◌, ◌%◌}
+use Rattle.std.proofs.Common.{◌≡◌, refl, sym, ap, ◌∙◌, zero, suc, ℕ, ◌+◌, ◌*◌, ◌<◌, ◌≤◌, List, [], ◌∷◌, ◌++◌, map, arith}
 use Rattle.std.specs.List.{flat_map}
 use mathlib.Core.Path.{ap₂}
 use Rattle.std.proofs.lemmas.Nat.{div-mul-add, mod-mul-add}
-use Rattle.std.proofs.lemmas.List.{map-append, at_drop_more, at_drop_all}
-use Rattle.fv_meaning.specs.Store.{column_major}
+use Rattle.std.proofs.lemmas.List.{map-append}
 use Rattle.fv_meaning.specs.ArrayValues.{counted, positions, size}
 use Rattle.array_values.specs.Positions.{position_at}
 
-counted_append : (a m n : ℕ) → counted a m ++ counted (a + m) n ≡ counted a (m + n)
+pub counted_append : (a m n : ℕ) → counted a m ++ counted (a + m) n ≡ counted a (m + n)
 counted_append a zero n = ap₂ counted (let e : a + 0 ≡ a = omega arith in e) (let e : n ≡ 0 + n = omega arith in e)
 counted_append a (suc m) n =
     ap (λ k. a ∷ (counted (a + 1) m ++ counted k n)) (let e : a + suc m ≡ a + 1 + m = omega arith in e)

@@ -1,5 +1,5 @@
 -- The arrays that stand for those of a program's meaning.
-use Rattle.std.specs.Prelude.{Result, Ok, Err, ℕ, List, [], ◌∷◌}
+use Rattle.std.specs.Prelude.{Result, Ok, ℕ, List, [], ◌∷◌}
 use Rattle.fv_tree.specs.Steps.{◌>>=◌}
 use Rattle.fv_tree.specs.Operators.{apply, call, as_numbers, reduced}
 use Rattle.fv_tree.specs.declared.ops.Value.{Value}

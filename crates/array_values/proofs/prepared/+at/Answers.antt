@@ -1,4 +1,4 @@
-use Rattle.std.proofs.Common.{◌≡◌, ap, sym, subst, ◌∙◌, ◌++◌, [], ℕ, List, map, rules, arith}
+use Rattle.std.proofs.Common.{◌≡◌, ap, sym, subst, ◌∙◌, map, arith}
 use Rattle.std.proofs.lemmas.List.{append-nil}
 use Rattle.fv_meaning.specs.ArrayValues.{Elements, settled}
 use Rattle.fv_tree.specs.declared.ops.Value.{Value}

@@ -1,4 +1,4 @@
-use Rattle.std.proofs.Common.{◌≡◌, refl, sym, ap, subst, ◌∙◌, arith, rules, [], ◌∷◌, ◌++◌, pos, map, Result, Ok, Err, get_or, drop, ◌+◌}
+use Rattle.std.proofs.Common.{◌≡◌, sym, ap, subst, ◌∙◌, arith, [], ◌∷◌, pos, map, Ok, Err, get_or, drop, ◌+◌}
 use Rattle.array_values.specs.Answers.{Answers}
 use Rattle.array_values.specs.declared.sections.Selector.TheVariants.{Index}
 use Rattle.std.proofs.lemmas.List.{map-append}
@@ -6,7 +6,7 @@ use Rattle.fv_tree.specs.View.{bounds_of}
 use Rattle.fv_meaning.specs.Sections.{axes_on, axis_on}
 use Rattle.array_values.specs.Selections.{selector_in, axis_in}
 use Rattle.array_values.proofs.Steps.{residual}
-use Rattle.array_values.proofs.AxisLaws.{left_axes, axes_begun, axes_fault, axes_more, axes_few, axes_many, axes_end, axes_failed}
+use Rattle.array_values.proofs.AxisLaws.{left_axes, axes_begun, axes_more, axes_few, axes_many, axes_end, axes_failed}
 use Rattle.array_values.proofs.sections.axes.Goals as goal
 
 pub loop-place-init : goal.loop-place-init

@@ -1,4 +1,4 @@
-use Rattle.std.proofs.Common.{◌≡◌, refl, sym, ap, subst, ◌∙◌, arith, rules, ℤ, [], ◌∷◌, ◌++◌, pos, ◌+ℤ◌, true, false, length, SFits, to_z, of_z, Option, Some, None}
+use Rattle.std.proofs.Common.{◌≡◌, sym, ap, subst, ◌∙◌, rules, [], ◌∷◌, ◌++◌, pos, ◌+ℤ◌, true, false, SFits, to_z, of_z, None}
 use Rattle.std.specs.Prelude.{IfSome, MatchOption}
 use Rattle.std.specs.Int.{w64, w128}
 use Rattle.std.proofs.lemmas.Int.{to_z-of_z}

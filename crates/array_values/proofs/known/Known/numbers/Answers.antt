@@ -1,4 +1,4 @@
-use Rattle.std.proofs.Common.{◌≡◌, refl, sym, ap, subst, ◌∙◌, arith, rules, [], drop, pos}
+use Rattle.std.proofs.Common.{◌≡◌, sym, subst, ◌∙◌, arith, rules, [], pos}
 use Rattle.fv_tree.specs.declared.ops.Value.TheVariants.{Int}
 use Rattle.fv_tree.specs.Operators.{as_number, as_numbers}
 use Rattle.array_values.proofs.Steps.{residual, settled, left_of, left_begun, list_fault, list_more, list_done}

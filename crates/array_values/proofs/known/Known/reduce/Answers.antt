@@ -1,8 +1,7 @@
-use Rattle.std.proofs.Common.{◌≡◌, refl, sym, ap, subst, ◌∙◌, arith, rules, pos}
+use Rattle.std.proofs.Common.{◌≡◌, refl, sym, subst, ◌∙◌, arith, rules, pos}
 use Rattle.fv_tree.specs.declared.ops.Value.TheVariants.{Int}
-use Rattle.fv_tree.specs.declared.gathered.Gathered.{Gathered}
 use Rattle.fv_tree.specs.declared.gathered.Gathered.TheVariants.{Nothing}
-use Rattle.fv_tree.specs.Gathered.{gathered, added}
+use Rattle.fv_tree.specs.Gathered.{gathered}
 use Rattle.fv_tree.proofs.Reductions.{whole-of}
 use Rattle.array_values.specs.Arrays.{reduced_values}
 use Rattle.array_values.proofs.Steps.{residual, settled}

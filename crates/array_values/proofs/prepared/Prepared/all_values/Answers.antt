@@ -1,4 +1,4 @@
-use Rattle.std.proofs.Common.{◌≡◌, ap, sym, subst, ◌∙◌, ◌-◌, arith, ℕ, List, [], map}
+use Rattle.std.proofs.Common.{◌≡◌, ap, sym, subst, ◌∙◌, ◌-◌, arith, map}
 use Rattle.fv_meaning.specs.ArrayValues.{each, positions, size, counted}
 use Rattle.array_values.specs.Arrays.{elements_in}
 use Rattle.array_values.specs.Positions.{position_at}

@@ -1,4 +1,4 @@
-use Rattle.std.proofs.Common.{◌≡◌, ap, sym, ◌∙◌, Result, Ok}
+use Rattle.std.proofs.Common.{ap, sym, ◌∙◌, Result, Ok}
 use mathlib.Core.Path.{ap₂}
 use Rattle.fv_tree.specs.Steps.{◌>>=◌}
 use Rattle.fv_tree.specs.Operators.{apply}

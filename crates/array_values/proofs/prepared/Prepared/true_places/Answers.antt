@@ -1,4 +1,4 @@
-use Rattle.std.proofs.Common.{◌≡◌, ◌<◌, refl, sym, ap, subst, ◌∙◌, ◌-◌, arith, rules, [], ◌∷◌, ℕ, Result, Ok, Bool}
+use Rattle.std.proofs.Common.{◌≡◌, ◌<◌, sym, ap, subst, ◌∙◌, ◌-◌, arith, [], ◌∷◌, Result, Ok, Bool}
 use Rattle.std.proofs.lemmas.List.Elements.{All-append}
 use Rattle.fv_tree.specs.declared.ops.Fault.{Fault}
 use Rattle.fv_meaning.specs.ArrayValues.{size, counted}

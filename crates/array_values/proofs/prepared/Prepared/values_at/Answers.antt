@@ -1,4 +1,4 @@
-use Rattle.std.proofs.Common.{◌≡◌, refl, sym, ap, subst, ◌∙◌, arith, rules, [], ℕ}
+use Rattle.std.proofs.Common.{◌≡◌, sym, ap, subst, ◌∙◌, arith, ℕ}
 use Rattle.fv_meaning.specs.ArrayValues.{each}
 use Rattle.array_values.specs.Positions.{position_at}
 use Rattle.array_values.specs.Arrays.{elements_in}
