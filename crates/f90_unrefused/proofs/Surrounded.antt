@@ -18,7 +18,7 @@ use Rattle.f90_grammar.specs.Blocks as blocks
 use Rattle.f90_grammar.specs.Blocks.{Placed, at, IsSimple, AreBlock}
 use Rattle.f90_grammar.specs.Blocks.IsSimple.{assigns, masks, goes, stops, reads, reads_nothing, prints, prints_nothing, allocates, deallocates}
 use Rattle.f90_grammar.specs.Blocks.AreBlock.{nothing, label, unnamed, simple, test, branch, loop}
-use Rattle.f90_grammar.specs.Blocks.AreArms.{ends, other, further as further_arm}
+use Rattle.f90_grammar.specs.Blocks.AreArms.{ends, other as other_arm, further as further_arm}
 use Rattle.f90_grammar.specs.Reading.{names_label, arms_name_label, is_target_in}
 use Rattle.f90_grammar.specs.Surroundings.{StandsIn, StandsWithin, StandsInArms, KeepsVariables, ItemKeepsVariables, ItemsKeepVariables, SuitsSurroundings}
 use Rattle.f90_grammar.specs.Surroundings.StandsIn.{itself, further, inside}
@@ -78,7 +78,7 @@ module _ (function : List ℕ → Option Intrinsic) (is_target : ℕ → Bool) (
 
     arms_names : (ps : List Placed) (m : Arms) (b : Block) → blocks.AreArms function is_target ps m b → (arms_name_label n m || is_target_in b n) ≡ name_label n ps
     arms_names ps m b (ends line) = refl
-    arms_names ps m b (other line end body d h) =
+    arms_names ps m b (other_arm line end body d h) =
         block_names body d h ∙ (sym (or-false (name_label n body)) ∙ sym (name_both n body (at end None forms.EndIf ∷ [])))
     arms_names ps m b (further_arm line p body rest d o more h a) =
         or-assoc (is_target_in d n) (arms_name_label n more) (is_target_in o n)
