@@ -10,5 +10,6 @@ pub mod Declarations
 pub mod Order
 pub mod Labels
 pub mod UniqueBlocks
+pub mod NamedLabels
 pub mod Surrounded
 pub mod Unrefused

@@ -54,7 +54,8 @@ use Rattle.f90_unrefused.proofs.Declarations.{declared_once, has_bounds, few_ele
 use Rattle.f90_unrefused.proofs.Order.{in_order, blocks_open, declarations_are, body_is}
 use Rattle.f90_unrefused.proofs.Labels.{placed_forms, labels_right}
 use Rattle.f90_unrefused.proofs.UniqueBlocks.{one_block}
-use Rattle.f90_unrefused.proofs.Surrounded.{BlockSuits, block_names, block_suits, renumbered_suits, suits_in}
+use Rattle.f90_unrefused.proofs.NamedLabels.{block_names}
+use Rattle.f90_unrefused.proofs.Surrounded.{BlockSuits, block_suits, renumbered_suits, suits_in}
 
 -- what holds of each printed form holds at each place
 at_each : (Good : Form → Type 0) (p : Program) (h : IsProgram90 p) (ps : List Placed) → ArePlaced (printed_program p) ps → EachForm p.declarations Good
