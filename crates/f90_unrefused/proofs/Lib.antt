@@ -1,5 +1,6 @@
 pub mod Lines
 pub mod PrintedForms
+pub mod EachPhrase
 pub mod Literals
 pub mod Depths
 pub mod Calls
