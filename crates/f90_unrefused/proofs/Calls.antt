@@ -6,6 +6,7 @@ use Rattle.fv_tree.specs.Plain.{Declaration}
 use Rattle.f90_grammar.specs.Phrases as phrases
 use Rattle.f90_grammar.specs.Phrases.{Phrase, SuitsCalls}
 use Rattle.f90_grammar.specs.Contents.{VariableSuitsCalls}
+use Rattle.f90_grammar.specs.Printing.{phrase_of}
 use Rattle.f90_grammar.specs.Reading.{function_by}
 use Rattle.f90_laws.proofs.PrintedTrees.{printed_suits}
 use Rattle.f90_unrefused.proofs.PrintedForms.{EachForm}
@@ -20,5 +21,5 @@ variable_suits function p h = tt
 pub called_forms : (ds : List Declaration) → EachForm ds (HasGoodPhrases (SuitsCalls (function_by ds)) (VariableSuitsCalls (function_by ds)))
 called_forms ds = phrase_forms (SuitsCalls (function_by ds)) (VariableSuitsCalls (function_by ds)) ds (record {
   value = λ e k h. printed_suits ds e k h;
-  variable = λ x ss k h. variable_suits (function_by ds) _ (printed_suits ds (tree.Named x ss) k h);
+  variable = λ x ss k h. variable_suits (function_by ds) (phrase_of (tree.Named x ss)) (printed_suits ds (tree.Named x ss) k h);
 })

@@ -170,9 +170,9 @@ module _ (ds : List Declaration) where
   flat_variables [] h = tt
   flat_variables (p ∷ ps) h = known_both (uses_in_variable (function_by ds) p) _ h.0 (flat_variables ps h.1)
 
-  all_known : (f : Form) → AreKnown (array_use f) → HasGoodPhrases IsKnownPhrase IsKnownVariable f → HasKnownNames ds f
+  all_known : (f : Form) → AreKnown (array_use (function_by ds) f) → HasGoodPhrases IsKnownPhrase IsKnownVariable f → HasKnownNames ds f
   all_known f a h =
-      known_three (array_use f) (flat_map (uses_in (function_by ds)) (expressions_of f)) _ a (flat_known (expressions_of f) h.expressions) (flat_variables (variables_of f) h.variables)
+      known_three (array_use (function_by ds) f) (flat_map (uses_in (function_by ds)) (expressions_of f)) _ a (flat_known (expressions_of f) h.expressions) (flat_variables (variables_of f) h.variables)
 
   each_known : EachPhrase ds IsKnownPhrase IsKnownVariable
   each_known = record { value = λ e k h. known e k h; variable = λ x ss k h. variable_known x ss k h }
