@@ -8,6 +8,8 @@ use Rattle.std.specs.Cmp.Lexicographic.{slice_cmp}
 use Rattle.std.specs.Ordering.{nat_cmp, is_eq}
 use Rattle.std.specs.declared.cmp.Ordering.TheVariants.{Less}
 use Rattle.std.proofs.lemmas.Grind.{flat_map-append}
+use Rattle.std.proofs.lemmas.List.{map-append}
+use Rattle.std.proofs.lemmas.List.Sums.{sum_by-append}
 use Rattle.std.proofs.lemmas.Map.Text.{is_eq-slice_cmp}
 use Rattle.std.proofs.lemmas.Slice.Eq.{bytes_eq-Decides}
 use Rattle.fv_tree.specs.Limits as limits
@@ -129,12 +131,10 @@ has_bounds ps h p place =
 abbrev elements : List Declaration → ℕ
 elements ds = sum (map (λ (d : Declaration). array_elements (dimensions d.extent)) ds)
 
-regroup : (a b c : ℕ) → a + (b + c) ≡ (a + b) + c
-regroup a b c = omega arith
-
 elements_both : (xs ys : List Declaration) → elements (xs ++ ys) ≡ elements xs + elements ys
-elements_both [] ys = omega arith
-elements_both (x ∷ xs) ys = ap (λ n. array_elements (dimensions x.extent) + n) (elements_both xs ys) ∙ regroup (array_elements (dimensions x.extent)) (elements xs) (elements ys)
+elements_both xs ys =
+    let f : Declaration → ℕ = λ d. array_elements (dimensions d.extent) in
+    ap sum (map-append f xs ys) ∙ sum_by-append (λ n. n) (map f xs) (map f ys)
 
 pub few_elements : (ps : List Placed) (p : Place) → IsPlaceIn ps p → elements (declared_up_to p) ≤ elements (declarations_of ps)
 few_elements ps p place =

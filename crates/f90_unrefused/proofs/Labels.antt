@@ -23,7 +23,7 @@ use Rattle.f90_laws.proofs.PrintedBlocksPlaced.{ArePlaced}
 use Rattle.f90_laws.proofs.PrintedBlocksPlaced.ArePlaced.{none, next}
 use Rattle.f90_reading_laws.proofs.Counts.{label_values, flat_labels}
 use Rattle.f90_reading_laws.proofs.Lists.{here, both_false, all_right}
-use Rattle.f90_unrefused.proofs.PrintedForms.{EachForm, program_forms}
+use Rattle.f90_unrefused.proofs.PrintedForms.{EachForm, at_each}
 
 -- ---- labels that are printed
 
@@ -125,11 +125,6 @@ positive_forms ds = record {
   ends = tt;
 }
 
-pub placed_forms : (Good : Form → Type 0) (ss : List Printed) (ps : List Placed) → ArePlaced ss ps → AllByRecursion (λ (s : Printed). Good s.form) ss
-    → AllByRecursion (λ (p : Placed). Good p.form) ps
-placed_forms Good ss ps none h = tt
-placed_forms Good ss ps (next line s k) h = (h.0, placed_forms Good _ _ k h.1)
-
 -- ---- none stands twice
 
 bears : (n : ℕ) (f : Form) → bears_label n (label_in f) ≡ list_any (λ m. n == m) (label_values f)
@@ -171,6 +166,5 @@ labels_right p h ps q place e =
     let same : flat_labels ps ≡ all_labels_in p.body = placed_labels (printed_program p) ps q ∙ program_labels p h in
     let parts : flat_labels ps ≡ flat_labels place.before ++ (label_values place.here.form ++ flat_labels place.after) =
     ap flat_labels e ∙ flat_map-append (λ (s : Placed). label_values s.form) place.before (place.here ∷ place.after) in
-    let good = placed_forms HasPositiveLabel (printed_program p) ps q (program_forms HasPositiveLabel p.declarations (positive_forms p.declarations) p refl h) in
     wrong_label place.before place.here.form (flat_labels place.after) (subst IsWithoutRepeats (sym same ∙ parts) h.labels)
-    (all_right (λ (s : Placed). HasPositiveLabel s.form) place.before (place.here ∷ place.after) (subst (λ (ss : List Placed). AllByRecursion (λ (s : Placed). HasPositiveLabel s.form) ss) e good)).0
+    (at_each HasPositiveLabel p h ps q (positive_forms p.declarations) place e)

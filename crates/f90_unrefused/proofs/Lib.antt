@@ -1,5 +1,6 @@
 pub mod Lines
 pub mod PrintedForms
+pub mod EachPhrase
 pub mod Literals
 pub mod Depths
 pub mod Calls
@@ -10,5 +11,6 @@ pub mod Declarations
 pub mod Order
 pub mod Labels
 pub mod UniqueBlocks
+pub mod NamedLabels
 pub mod Surrounded
 pub mod Unrefused

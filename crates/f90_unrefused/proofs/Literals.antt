@@ -24,11 +24,12 @@ use Rattle.f90_grammar.specs.Printing.{fit, unary_phrase, is_one, section, digit
 use Rattle.f90_grammar.specs.PrintedForms.{reference_phrase, phrases_of, step_phrase, item_phrase, item_phrases, more_items, bound, dimension, dimensions_of, printed_declaration}
 use Rattle.f90_grammar.specs.Forms as forms
 use Rattle.f90_grammar.specs.Forms.{Form}
-use Rattle.f90_grammar.specs.Contents.{is_wide, has_wide_literal, part_has_wide_literal, parts_have_wide_literal, values_have_wide_literal, turn_has_wide_literal, is_wide_dimension, has_wide_literal_in, step_expressions, item_expressions, items_expressions, item_variables, items_variables}
+use Rattle.f90_grammar.specs.Contents.{is_wide, has_wide_literal, part_has_wide_literal, parts_have_wide_literal, values_have_wide_literal, turn_has_wide_literal, is_wide_dimension, is_declared_wide, has_wide_literal_in, expressions_of, variables_of}
 use Rattle.f90_grammar.specs.Reading.{function_by}
 use Rattle.f90_laws.proofs.PrintedTrees.{source}
 use Rattle.f90_reading_laws.proofs.Lists.{both_false, all_both}
 use Rattle.f90_unrefused.proofs.PrintedForms.{EachForm}
+use Rattle.f90_unrefused.proofs.EachPhrase.{EachPhrase, HasGoodPhrases, phrase_forms}
 
 decimal_narrow : (n : ℕ) → n < 2 ^ 127 → is_wide (decimal n) ≡ false
 decimal_narrow n h =
@@ -108,104 +109,25 @@ module _ (function : List ℕ → Option Intrinsic) where
         turn_narrow (Round t x (phrase_of a) (phrase_of b)) ls
         (three_false (turn_has_wide_literal t) (has_wide_literal (phrase_of a)) (has_wide_literal (phrase_of b)) g (narrow a h.0) (narrow b h.1)) h.2
 
--- ---- items
+-- ---- statements
 
 abbrev IsNarrow : Phrase → Type 0
 IsNarrow p = has_wide_literal p ≡ false
 
-abbrev AreNarrow : List Phrase → Type 0
-AreNarrow ps = AllByRecursion IsNarrow ps
+each_narrow : (ds : List Declaration) → EachPhrase ds IsNarrow IsNarrow
+each_narrow ds = record {
+  value = λ e k h. narrow (function_by ds) e (source ds e k h);
+  variable = λ x ss k h. narrow (function_by ds) (tree.Named x ss) (source ds (tree.Named x ss) k h);
+}
 
-module _ (ds : List Declaration) where
-  typed_narrow : (e : Expression) (k : Kind) → HasKind ds e k → IsNarrow (phrase_of e)
-  typed_narrow e k h = narrow (function_by ds) e (source ds e k h)
-
-  some_narrow : (e : Expression) → HasSomeKind ds e → IsNarrow (phrase_of e)
-  some_narrow e h = ⊎_elim (typed_narrow e Integer) (typed_narrow e Logical) h
-
-  step_narrow : (e : Expression) (k : Kind) → HasKind ds e k → AreNarrow (step_expressions (step_phrase e))
-  step_narrow e k h = cond_both (is_one e) None (Some (phrase_of e)) (λ p. AreNarrow (step_expressions p)) (λ q. tt) (λ q. (typed_narrow e k h, tt))
-
-  -- each expression in it is narrow
-  abbrev mutual
-    ItemIsNarrow : ItemPhrase → Type 0
-    ItemIsNarrow (Of p) = IsNarrow p
-    ItemIsNarrow (Text t) = Unit {0}
-    ItemIsNarrow (Loop is x a b c) = ItemsAreNarrow is × IsNarrow a × IsNarrow b × AreNarrow (step_expressions c)
-
-    ItemsAreNarrow : ItemPhrases → Type 0
-    ItemsAreNarrow (items.Sole i) = ItemIsNarrow i
-    ItemsAreNarrow (items.More is i) = ItemsAreNarrow is × ItemIsNarrow i
-
-  mutual
-    item_expressions_narrow : (d : Direction) (i : ItemPhrase) → ItemIsNarrow i → AreNarrow (item_expressions d i)
-    item_expressions_narrow Output (Of p) h = (h, tt)
-    item_expressions_narrow Input (Of p) h = tt
-    item_expressions_narrow d (Text t) h = tt
-    item_expressions_narrow d (Loop is x a b c) h = all_both IsNarrow (items_expressions d is) _ (items_expressions_narrow d is h.0) (h.1, (h.2, h.3))
-
-    items_expressions_narrow : (d : Direction) (is : ItemPhrases) → ItemsAreNarrow is → AreNarrow (items_expressions d is)
-    items_expressions_narrow d (items.Sole i) h = item_expressions_narrow d i h
-    items_expressions_narrow d (items.More is i) h =
-        all_both IsNarrow (items_expressions d is) (item_expressions d i) (items_expressions_narrow d is h.0) (item_expressions_narrow d i h.1)
-
-  mutual
-    item_variables_narrow : (i : ItemPhrase) → ItemIsNarrow i → AreNarrow (item_variables i)
-    item_variables_narrow (Of p) h = (h, tt)
-    item_variables_narrow (Text t) h = tt
-    item_variables_narrow (Loop is x a b c) h = items_variables_narrow is h.0
-
-    items_variables_narrow : (is : ItemPhrases) → ItemsAreNarrow is → AreNarrow (items_variables is)
-    items_variables_narrow (items.Sole i) h = item_variables_narrow i h
-    items_variables_narrow (items.More is i) h =
-        all_both IsNarrow (items_variables is) (item_variables i) (items_variables_narrow is h.0) (item_variables_narrow i h.1)
-
-  mutual
-    output_narrow : (i : Item) (around : List (List ℕ)) → IsOutputItem ds i around → ItemIsNarrow (item_phrase i)
-    output_narrow (tree.Single e) w h = some_narrow e h
-    output_narrow (tree.Constant t) w h = tt
-    output_narrow (tree.ImpliedDo is x a b c) w h =
-        (outputs_narrow is (x ∷ w) h.5, typed_narrow a Integer h.2.0, typed_narrow b Integer h.3.0, step_narrow c Integer h.4.0)
-
-    outputs_narrow : (is : Items) (around : List (List ℕ)) → AreOutputItems ds is around → ItemsAreNarrow (item_phrases is)
-    outputs_narrow tree.no_items w h = tt
-    outputs_narrow (tree.item i is) w h = more_outputs_narrow (items.Sole (item_phrase i)) is w (output_narrow i w h.0) h.1
-
-    more_outputs_narrow : (ps : ItemPhrases) (is : Items) (around : List (List ℕ)) → ItemsAreNarrow ps → AreOutputItems ds is around → ItemsAreNarrow (more_items ps is)
-    more_outputs_narrow ps tree.no_items w g h = g
-    more_outputs_narrow ps (tree.item i is) w g h = more_outputs_narrow (items.More ps (item_phrase i)) is w (g, output_narrow i w h.0) h.1
-
-  mutual
-    input_narrow : (i : Item) (around : List (List ℕ)) → IsInputItem ds i around → ItemIsNarrow (item_phrase i)
-    input_narrow (tree.Single (tree.Named x ss)) w h = some_narrow (tree.Named x ss) h.0
-    input_narrow (tree.Single (tree.Number n)) w h = absurd h
-    input_narrow (tree.Single e) w h = absurd h
-    input_narrow (tree.Constant t) w h = absurd h
-    input_narrow (tree.ImpliedDo is x a b c) w h =
-        (inputs_narrow is (x ∷ w) h.5, typed_narrow a Integer h.2.0, typed_narrow b Integer h.3.0, step_narrow c Integer h.4.0)
-
-    inputs_narrow : (is : Items) (around : List (List ℕ)) → AreInputItems ds is around → ItemsAreNarrow (item_phrases is)
-    inputs_narrow tree.no_items w h = tt
-    inputs_narrow (tree.item i is) w h = more_inputs_narrow (items.Sole (item_phrase i)) is w (input_narrow i w h.0) h.1
-
-    more_inputs_narrow : (ps : ItemPhrases) (is : Items) (around : List (List ℕ)) → ItemsAreNarrow ps → AreInputItems ds is around → ItemsAreNarrow (more_items ps is)
-    more_inputs_narrow ps tree.no_items w g h = g
-    more_inputs_narrow ps (tree.item i is) w g h = more_inputs_narrow (items.More ps (item_phrase i)) is w (g, input_narrow i w h.0) h.1
-
-  scalars_narrow : (es : Expressions) (k : Kind) → AreScalars ds es k → AreNarrow (phrases_of es)
-  scalars_narrow tree.no_expressions k h = tt
-  scalars_narrow (tree.expression e es) k h = (typed_narrow e k h.0.0, scalars_narrow es k h.1)
-
-  -- ---- statements
-
-  assigned : (left : Reference) (right : Expression) (o : Option Declaration) → IsSomeAnd o (λ (d : Declaration). IsWhole ds (named left) d.kind × IsWhole ds right d.kind)
-      → IsNarrow (reference_phrase left) × IsNarrow (phrase_of right)
-  assigned left right None h = absurd h
-  assigned left right (Some d) h = (typed_narrow (named left) d.kind h.0.suits, typed_narrow right d.kind h.1.suits)
-
-none_wide : (ps : List Phrase) → AreNarrow ps → list_any has_wide_literal ps ≡ false
+none_wide : (ps : List Phrase) → AllByRecursion IsNarrow ps → list_any has_wide_literal ps ≡ false
 none_wide [] h = refl
 none_wide (p ∷ ps) h = both_false (has_wide_literal p) (list_any has_wide_literal ps) h.0 (none_wide ps h.1)
+
+no_literal : (f : Form) → is_declared_wide f ≡ false → HasGoodPhrases IsNarrow IsNarrow f → has_wide_literal_in f ≡ false
+no_literal f e h =
+    both_false (is_declared_wide f) (list_any has_wide_literal (expressions_of f ++ variables_of f)) e
+    (none_wide (expressions_of f ++ variables_of f) (all_both IsNarrow (expressions_of f) (variables_of f) h.expressions h.variables))
 
 -- ---- bounds
 
@@ -236,36 +158,28 @@ abbrev pub HasNarrowLiterals : Form → Type 0
 HasNarrowLiterals f = has_wide_literal_in f ≡ false
 
 pub narrow_forms : (ds : List Declaration) → EachForm ds HasNarrowLiterals
-narrow_forms ds = record {
-  titles = λ x. refl;
-  implicit = refl;
-  declares = λ d h. both_false _ false (both_false _ false (extent_narrow d.extent h.extent) refl) refl;
-  assigns = λ left right w h. let k = assigned ds left right _ h.0 in none_wide (phrase_of right ∷ reference_phrase left ∷ []) (k.1, (k.0, tt));
-  masks = λ mask left right w g h.
-      let k = assigned ds left right _ h.0 in
-      none_wide (phrase_of mask ∷ phrase_of right ∷ reference_phrase left ∷ []) (typed_narrow ds mask Logical g.0.suits, (k.1, (k.0, tt)));
-  tests = λ e h. none_wide (phrase_of e ∷ []) (typed_narrow ds e Logical h.suits.0, tt);
-  other_tests = λ e h. none_wide (phrase_of e ∷ []) (typed_narrow ds e Logical h.suits.0, tt);
-  others = refl;
-  ends_if = refl;
-  loops = λ x a b c g h k.
-      none_wide (phrase_of a ∷ phrase_of b ∷ (step_expressions (step_phrase c) ++ []))
-      (typed_narrow ds a Integer g.suits.0, (typed_narrow ds b Integer h.suits.0, all_both IsNarrow (step_expressions (step_phrase c)) [] (step_narrow ds c Integer k.suits.0) tt));
-  ends_do = refl;
-  labels = λ n h. refl;
-  goes = λ n. refl;
-  stops = refl;
-  reads_nothing = refl;
-  reads = λ i is around h l.
-      let k = inputs_narrow ds (tree.item i is) around h in
-      none_wide _ (all_both IsNarrow (items_expressions Input (item_phrases (tree.item i is))) (items_variables (item_phrases (tree.item i is)))
-      (items_expressions_narrow ds Input (item_phrases (tree.item i is)) k) (items_variables_narrow ds (item_phrases (tree.item i is)) k));
-  prints_nothing = refl;
-  prints = λ i is around h l.
-      let k = outputs_narrow ds (tree.item i is) around h in
-      none_wide _ (all_both IsNarrow (items_expressions Output (item_phrases (tree.item i is))) []
-      (items_expressions_narrow ds Output (item_phrases (tree.item i is)) k) tt);
-  allocates = λ x es h. none_wide _ (all_both IsNarrow (phrases_of es) [] (scalars_narrow ds es Integer h.1) tt);
-  deallocates = λ x h. refl;
-  ends = refl;
-}
+narrow_forms ds =
+    let each = phrase_forms IsNarrow IsNarrow ds (each_narrow ds) in
+    record {
+      titles = λ x. refl;
+      implicit = refl;
+      declares = λ d h. both_false _ false (both_false _ false (extent_narrow d.extent h.extent) refl) refl;
+      assigns = λ left right w h. no_literal _ refl (each.assigns left right w h);
+      masks = λ mask left right w g h. no_literal _ refl (each.masks mask left right w g h);
+      tests = λ e h. no_literal _ refl (each.tests e h);
+      other_tests = λ e h. no_literal _ refl (each.other_tests e h);
+      others = refl;
+      ends_if = refl;
+      loops = λ x a b c g h k. no_literal _ refl (each.loops x a b c g h k);
+      ends_do = refl;
+      labels = λ n h. refl;
+      goes = λ n. refl;
+      stops = refl;
+      reads_nothing = refl;
+      reads = λ i is around h l. no_literal _ refl (each.reads i is around h l);
+      prints_nothing = refl;
+      prints = λ i is around h l. no_literal _ refl (each.prints i is around h l);
+      allocates = λ x es h. no_literal _ refl (each.allocates x es h);
+      deallocates = λ x h. refl;
+      ends = refl;
+    }

@@ -18,16 +18,17 @@ use Rattle.fv_meaning.specs.Typed90.{HasKind, HasSomeKind, AreArguments, AreScal
 use Rattle.fv_meaning.specs.Profile90.{IsWhole, IsAllocatable}
 use Rattle.f90_grammar.specs.Phrases as phrases
 use Rattle.f90_grammar.specs.Phrases.{Phrase, Paren, Value, Part, Parts, One, Then, Phrases, Turn, Innermost, Round, level, length_of_parts}
-use Rattle.f90_grammar.specs.Items as items
-use Rattle.f90_grammar.specs.Items.{ItemPhrase, Of, Text, Loop, ItemPhrases, Direction, Input, Output}
 use Rattle.f90_grammar.specs.Printing.{fit, unary_phrase, is_one, section, phrase_of, part_of, more_parts, more_arguments, more_values, rounds}
-use Rattle.f90_grammar.specs.PrintedForms.{reference_phrase, phrases_of, step_phrase, item_phrase, item_phrases, more_items}
-use Rattle.f90_grammar.specs.Contents.{step_expressions, item_expressions, items_expressions, item_variables, items_variables}
 use Rattle.f90_grammar.specs.Reading.{function_by}
-use Rattle.f90_grammar.specs.Declared.{Use, use_of, use_unless_function, uses_in, uses_in_part, uses_in_parts, uses_in_values, uses_in_turn, uses_in_variable, IsKnown, HasKnownNames}
+use Rattle.f90_grammar.specs.Declared.{Use, use_of, use_unless_function, uses_in, uses_in_part, uses_in_parts, uses_in_values, uses_in_turn, uses_in_variable, array_use, IsKnown, HasKnownNames}
 use Rattle.f90_laws.proofs.PrintedTrees.{source}
 use Rattle.f90_reading_laws.proofs.Lists.{all_both}
 use Rattle.f90_unrefused.proofs.PrintedForms.{EachForm}
+use Rattle.f90_unrefused.proofs.EachPhrase.{EachPhrase, HasGoodPhrases, phrase_forms}
+use Rattle.f90_grammar.specs.Forms as forms
+use Rattle.f90_grammar.specs.Forms.{Form}
+use Rattle.f90_grammar.specs.Contents.{expressions_of, variables_of}
+use Rattle.f90_grammar.specs.PrintedForms.{phrases_of}
 
 more_length : (ps : Parts) (ss : Subscripts) → length_of_parts (more_parts ps ss) ≡ length_of_parts ps + number_of_subscripts ss
 more_length ps tree.no_subscripts = omega arith
@@ -153,7 +154,7 @@ module _ (ds : List Declaration) where
   variable_known x tree.no_subscripts k h = (name_known x (declared ds x) _ h.0, tt)
   variable_known x (tree.subscript s ss) k h = (use_known x s ss k h, parts_known (One (part_of s)) ss (part_known s h.1.0) h.1.1)
 
-  -- ---- items
+  -- ---- statements
 
   abbrev IsKnownPhrase : Phrase → Type 0
   IsKnownPhrase p = AreKnown (uses_in (function_by ds) p)
@@ -161,143 +162,44 @@ module _ (ds : List Declaration) where
   abbrev IsKnownVariable : Phrase → Type 0
   IsKnownVariable p = AreKnown (uses_in_variable (function_by ds) p)
 
-  abbrev AreKnownPhrases : List Phrase → Type 0
-  AreKnownPhrases ps = AllByRecursion IsKnownPhrase ps
-
-  abbrev AreKnownVariables : List Phrase → Type 0
-  AreKnownVariables ps = AllByRecursion IsKnownVariable ps
-
-  flat_known : (ps : List Phrase) → AreKnownPhrases ps → AreKnown (flat_map (uses_in (function_by ds)) ps)
+  flat_known : (ps : List Phrase) → AllByRecursion IsKnownPhrase ps → AreKnown (flat_map (uses_in (function_by ds)) ps)
   flat_known [] h = tt
   flat_known (p ∷ ps) h = known_both (uses_in (function_by ds) p) _ h.0 (flat_known ps h.1)
 
-  flat_variables : (ps : List Phrase) → AreKnownVariables ps → AreKnown (flat_map (uses_in_variable (function_by ds)) ps)
+  flat_variables : (ps : List Phrase) → AllByRecursion IsKnownVariable ps → AreKnown (flat_map (uses_in_variable (function_by ds)) ps)
   flat_variables [] h = tt
   flat_variables (p ∷ ps) h = known_both (uses_in_variable (function_by ds) p) _ h.0 (flat_variables ps h.1)
 
-  -- all names of a statement that declares, allocates and deallocates nothing
-  both_known : (es vs : List Phrase) → AreKnownPhrases es → AreKnownVariables vs → AreKnown (flat_map (uses_in (function_by ds)) es ++ flat_map (uses_in_variable (function_by ds)) vs)
-  both_known es vs h k = known_both (flat_map (uses_in (function_by ds)) es) _ (flat_known es h) (flat_variables vs k)
+  all_known : (f : Form) → AreKnown (array_use (function_by ds) f) → HasGoodPhrases IsKnownPhrase IsKnownVariable f → HasKnownNames ds f
+  all_known f a h =
+      known_three (array_use (function_by ds) f) (flat_map (uses_in (function_by ds)) (expressions_of f)) _ a (flat_known (expressions_of f) h.expressions) (flat_variables (variables_of f) h.variables)
 
-  some_known : (e : Expression) → HasSomeKind ds e → IsKnownPhrase (phrase_of e)
-  some_known e h = ⊎_elim (known e Integer) (known e Logical) h
-
-  some_variable : (x : List ℕ) (ss : Subscripts) → HasSomeKind ds (tree.Named x ss) → IsKnownVariable (phrase_of (tree.Named x ss))
-  some_variable x ss h = ⊎_elim (variable_known x ss Integer) (variable_known x ss Logical) h
-
-  step_known : (e : Expression) (k : Kind) → HasKind ds e k → AreKnownPhrases (step_expressions (step_phrase e))
-  step_known e k h = cond_both (is_one e) None (Some (phrase_of e)) (λ p. AreKnownPhrases (step_expressions p)) (λ q. tt) (λ q. (known e k h, tt))
-
-  abbrev MayStand : Direction → Phrase → Type 0
-  MayStand Output p = IsKnownPhrase p
-  MayStand Input p = IsKnownVariable p
-
-  abbrev mutual
-    ItemIsKnown : Direction → ItemPhrase → Type 0
-    ItemIsKnown d (Of p) = MayStand d p
-    ItemIsKnown d (Text t) = Unit {0}
-    ItemIsKnown d (Loop is x a b c) = ItemsAreKnown d is × IsKnownPhrase a × IsKnownPhrase b × AreKnownPhrases (step_expressions c)
-
-    ItemsAreKnown : Direction → ItemPhrases → Type 0
-    ItemsAreKnown d (items.Sole i) = ItemIsKnown d i
-    ItemsAreKnown d (items.More is i) = ItemsAreKnown d is × ItemIsKnown d i
-
-  mutual
-    item_expressions_known : (d : Direction) (i : ItemPhrase) → ItemIsKnown d i → AreKnownPhrases (item_expressions d i)
-    item_expressions_known Output (Of p) h = (h, tt)
-    item_expressions_known Input (Of p) h = tt
-    item_expressions_known d (Text t) h = tt
-    item_expressions_known d (Loop is x a b c) h =
-        all_both IsKnownPhrase (items_expressions d is) (a ∷ b ∷ step_expressions c) (items_expressions_known d is h.0) (h.1, (h.2, h.3))
-
-    items_expressions_known : (d : Direction) (is : ItemPhrases) → ItemsAreKnown d is → AreKnownPhrases (items_expressions d is)
-    items_expressions_known d (items.Sole i) h = item_expressions_known d i h
-    items_expressions_known d (items.More is i) h =
-        all_both IsKnownPhrase (items_expressions d is) (item_expressions d i) (items_expressions_known d is h.0) (item_expressions_known d i h.1)
-
-  mutual
-    item_variables_known : (i : ItemPhrase) → ItemIsKnown Input i → AreKnownVariables (item_variables i)
-    item_variables_known (Of p) h = (h, tt)
-    item_variables_known (Text t) h = tt
-    item_variables_known (Loop is x a b c) h = items_variables_known is h.0
-
-    items_variables_known : (is : ItemPhrases) → ItemsAreKnown Input is → AreKnownVariables (items_variables is)
-    items_variables_known (items.Sole i) h = item_variables_known i h
-    items_variables_known (items.More is i) h =
-        all_both IsKnownVariable (items_variables is) (item_variables i) (items_variables_known is h.0) (item_variables_known i h.1)
-
-  mutual
-    output_known : (i : Item) (around : List (List ℕ)) → IsOutputItem ds i around → ItemIsKnown Output (item_phrase i)
-    output_known (tree.Single e) w h = some_known e h
-    output_known (tree.Constant t) w h = tt
-    output_known (tree.ImpliedDo is x a b c) w h = (outputs_known is (x ∷ w) h.5, known a Integer h.2.0, known b Integer h.3.0, step_known c Integer h.4.0)
-
-    outputs_known : (is : Items) (around : List (List ℕ)) → AreOutputItems ds is around → ItemsAreKnown Output (item_phrases is)
-    outputs_known tree.no_items w h = tt
-    outputs_known (tree.item i is) w h = more_outputs_known (items.Sole (item_phrase i)) is w (output_known i w h.0) h.1
-
-    more_outputs_known : (ps : ItemPhrases) (is : Items) (around : List (List ℕ)) → ItemsAreKnown Output ps → AreOutputItems ds is around → ItemsAreKnown Output (more_items ps is)
-    more_outputs_known ps tree.no_items w g h = g
-    more_outputs_known ps (tree.item i is) w g h = more_outputs_known (items.More ps (item_phrase i)) is w (g, output_known i w h.0) h.1
-
-  mutual
-    input_known : (i : Item) (around : List (List ℕ)) → IsInputItem ds i around → ItemIsKnown Input (item_phrase i)
-    input_known (tree.Single (tree.Named x ss)) w h = some_variable x ss h.0
-    input_known (tree.Single (tree.Number n)) w h = absurd h
-    input_known (tree.Single e) w h = absurd h
-    input_known (tree.Constant t) w h = absurd h
-    input_known (tree.ImpliedDo is x a b c) w h = (inputs_known is (x ∷ w) h.5, known a Integer h.2.0, known b Integer h.3.0, step_known c Integer h.4.0)
-
-    inputs_known : (is : Items) (around : List (List ℕ)) → AreInputItems ds is around → ItemsAreKnown Input (item_phrases is)
-    inputs_known tree.no_items w h = tt
-    inputs_known (tree.item i is) w h = more_inputs_known (items.Sole (item_phrase i)) is w (input_known i w h.0) h.1
-
-    more_inputs_known : (ps : ItemPhrases) (is : Items) (around : List (List ℕ)) → ItemsAreKnown Input ps → AreInputItems ds is around → ItemsAreKnown Input (more_items ps is)
-    more_inputs_known ps tree.no_items w g h = g
-    more_inputs_known ps (tree.item i is) w g h = more_inputs_known (items.More ps (item_phrase i)) is w (g, input_known i w h.0) h.1
-
-  scalars_known : (es : Expressions) (k : Kind) → AreScalars ds es k → AreKnownPhrases (phrases_of es)
-  scalars_known tree.no_expressions k h = tt
-  scalars_known (tree.expression e es) k h = (known e k h.0.0, scalars_known es k h.1)
-
-  -- ---- statements
-
-  assigned : (left : Reference) (right : Expression) (o : Option Declaration) → IsSomeAnd o (λ (d : Declaration). IsWhole ds (named left) d.kind × IsWhole ds right d.kind)
-      → IsKnownVariable (reference_phrase left) × IsKnownPhrase (phrase_of right)
-  assigned left right None h = absurd h
-  assigned left right (Some d) h = (variable_known left.name left.subscripts d.kind h.0.suits, known right d.kind h.1.suits)
+  each_known : EachPhrase ds IsKnownPhrase IsKnownVariable
+  each_known = record { value = λ e k h. known e k h; variable = λ x ss k h. variable_known x ss k h }
 
 pub known_forms : (ds : List Declaration) → EachForm ds (HasKnownNames ds)
-known_forms ds = record {
-  titles = λ x. tt;
-  implicit = tt;
-  declares = λ d h. tt;
-  assigns = λ left right w h. let k = assigned ds left right _ h.0 in both_known ds (phrase_of right ∷ []) (reference_phrase left ∷ []) (k.1, tt) (k.0, tt);
-  masks = λ mask left right w g h.
-      let k = assigned ds left right _ h.0 in
-      both_known ds (phrase_of mask ∷ phrase_of right ∷ []) (reference_phrase left ∷ []) (known ds mask Logical g.0.suits, (k.1, tt)) (k.0, tt);
-  tests = λ e h. both_known ds (phrase_of e ∷ []) [] (known ds e Logical h.suits.0, tt) tt;
-  other_tests = λ e h. both_known ds (phrase_of e ∷ []) [] (known ds e Logical h.suits.0, tt) tt;
-  others = tt;
-  ends_if = tt;
-  loops = λ x a b c g h k.
-      both_known ds (phrase_of a ∷ phrase_of b ∷ step_expressions (step_phrase c)) []
-      (known ds a Integer g.suits.0, (known ds b Integer h.suits.0, step_known ds c Integer k.suits.0)) tt;
-  ends_do = tt;
-  labels = λ n h. tt;
-  goes = λ n. tt;
-  stops = tt;
-  reads_nothing = tt;
-  reads = λ i is around h l.
-      let k = inputs_known ds (tree.item i is) around h in
-      both_known ds (items_expressions Input (item_phrases (tree.item i is))) (items_variables (item_phrases (tree.item i is)))
-      (items_expressions_known ds Input (item_phrases (tree.item i is)) k) (items_variables_known ds (item_phrases (tree.item i is)) k);
-  prints_nothing = tt;
-  prints = λ i is around h l.
-      both_known ds (items_expressions Output (item_phrases (tree.item i is))) []
-      (items_expressions_known ds Output (item_phrases (tree.item i is)) (outputs_known ds (tree.item i is) around h)) tt;
-  allocates = λ x es h.
-      (name_known ds x (declared ds x) _ h.0, both_known ds (phrases_of es) [] (scalars_known ds es Integer h.1) tt);
-  deallocates = λ x h. (name_known ds x (declared ds x) _ h, tt);
-  ends = tt;
-}
+known_forms ds =
+    let each = phrase_forms (IsKnownPhrase ds) (IsKnownVariable ds) ds (each_known ds) in
+    record {
+      titles = λ x. tt;
+      implicit = tt;
+      declares = λ d h. tt;
+      assigns = λ left right w h. all_known ds _ tt (each.assigns left right w h);
+      masks = λ mask left right w g h. all_known ds _ tt (each.masks mask left right w g h);
+      tests = λ e h. all_known ds _ tt (each.tests e h);
+      other_tests = λ e h. all_known ds _ tt (each.other_tests e h);
+      others = tt;
+      ends_if = tt;
+      loops = λ x a b c g h k. all_known ds _ tt (each.loops x a b c g h k);
+      ends_do = tt;
+      labels = λ n h. tt;
+      goes = λ n. tt;
+      stops = tt;
+      reads_nothing = tt;
+      reads = λ i is around h l. all_known ds _ tt (each.reads i is around h l);
+      prints_nothing = tt;
+      prints = λ i is around h l. all_known ds _ tt (each.prints i is around h l);
+      allocates = λ x es h. all_known ds (forms.Allocate x (phrases_of es)) (name_known ds x (declared ds x) _ h.0, tt) (each.allocates x es h);
+      deallocates = λ x h. (name_known ds x (declared ds x) _ h, tt);
+      ends = tt;
+    }

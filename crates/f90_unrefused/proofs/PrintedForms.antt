@@ -1,5 +1,5 @@
 -- What holds of the forms that are printed for each kind of statement holds of all statements of a printed program.
-use Rattle.std.proofs.Common.{◌≡◌, subst, ℕ, decimal, List, [], ◌∷◌, ◌++◌, map, Some, None, true, false, IsTrue, IsSomeAnd}
+use Rattle.std.proofs.Common.{◌≡◌, refl, subst, ℕ, decimal, List, [], ◌∷◌, ◌++◌, map, Some, None, true, false, IsTrue, IsSomeAnd}
 use Rattle.std.specs.List.{AllByRecursion}
 use Rattle.fv_tree.specs.declared.ops.Kind.TheVariants.{Integer, Logical}
 use Rattle.fv_tree.specs.Limits.{expression_depth90}
@@ -15,7 +15,11 @@ use Rattle.f90_grammar.specs.Forms as forms
 use Rattle.f90_grammar.specs.Forms.{Form}
 use Rattle.f90_grammar.specs.Printing.{phrase_of}
 use Rattle.f90_grammar.specs.PrintedForms.{Printed, unmarked, reference_phrase, phrases_of, step_phrase, item_phrases, title_of, printed_statement, printed_arms, printed_else, printed_block, printed_declaration, printed_program}
-use Rattle.f90_reading_laws.proofs.Lists.{all_both}
+use Rattle.f90_grammar.specs.Blocks.{Placed}
+use Rattle.f90_grammar.specs.Order.{Place, IsPlaceIn}
+use Rattle.f90_laws.proofs.PrintedBlocksPlaced.{ArePlaced}
+use Rattle.f90_laws.proofs.PrintedBlocksPlaced.ArePlaced.{none, next}
+use Rattle.f90_reading_laws.proofs.Lists.{all_both, all_right}
 
 -- of each form that is printed for a part of a program with these declarations
 pub record EachForm (ds : List Declaration) (Good : Form → Type 0) : Type 0 where
@@ -103,3 +107,17 @@ module _ (Good : Form → Type 0) where
             (all_both IsGood (printed_block p.body) _ (block_forms p.body outermost (subst (λ (es : List Declaration). IsBlock es p.body outermost) e h.statements)) (each.ends, tt)),
       ),
     )
+
+-- ---- statements on lines
+
+pub placed_forms : (Good : Form → Type 0) (ss : List Printed) (ps : List Placed) → ArePlaced ss ps → AllByRecursion (λ (s : Printed). Good s.form) ss
+    → AllByRecursion (λ (p : Placed). Good p.form) ps
+placed_forms Good ss ps none h = tt
+placed_forms Good ss ps (next line s k) h = (h.0, placed_forms Good _ _ k h.1)
+
+-- what holds of each printed form holds at each place
+pub at_each : (Good : Form → Type 0) (p : Program) (h : IsProgram90 p) (ps : List Placed) → ArePlaced (printed_program p) ps → EachForm p.declarations Good
+    → (place : Place) → IsPlaceIn ps place → Good place.here.form
+at_each Good p h ps q each place e =
+    let good = placed_forms Good (printed_program p) ps q (program_forms Good p.declarations each p refl h) in
+    (all_right (λ (s : Placed). Good s.form) place.before (place.here ∷ place.after) (subst (λ (ss : List Placed). AllByRecursion (λ (s : Placed). Good s.form) ss) e good)).0

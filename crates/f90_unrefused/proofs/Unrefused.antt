@@ -21,7 +21,8 @@ use Rattle.f90_grammar.specs.PrintedText.{IsNote, printed90}
 use Rattle.f90_grammar.specs.Blocks.{Placed, AreBlock}
 use Rattle.f90_grammar.specs.Reading.{IsProgramOf, is_target_in, function_by}
 use Rattle.f90_grammar.specs.Order.{Place, IsPlaceIn, is_executable, blocks_round}
-use Rattle.f90_grammar.specs.Contents.{SuitsCallsIn}
+use Rattle.f90_grammar.specs.Phrases.{SuitsCalls}
+use Rattle.f90_grammar.specs.Contents.{VariableSuitsCalls, SuitsCallsIn}
 use Rattle.f90_grammar.specs.Declared.{declarations_of, names_of, functions_in, declares_again, HasKnownNames}
 use Rattle.f90_grammar.specs.Suited.{Suits}
 use Rattle.f90_grammar.specs.Surroundings.{AreBody, IsMisplaced, StandsIn, SuitsSurroundings}
@@ -40,11 +41,12 @@ use Rattle.f90_laws.proofs.PrintedLinesTaken.{program_suits}
 use Rattle.f90_laws.proofs.PrintedTrees.{typed_reads_back}
 use Rattle.f90_laws.proofs.PrintedWords.{printed_is_spelled}
 use Rattle.f90_reading_laws.proofs.Counts.{OpensWithin}
-use Rattle.f90_reading_laws.proofs.Lists.{all_right, left_true, right_true}
-use Rattle.f90_unrefused.specs.Unrefused.{PrintedProgramIsReadWell}
+use Rattle.f90_reading_laws.proofs.Lists.{all_right, all_weaker, left_true, right_true}
+use Rattle.f90_unrefused.specs.Unrefused.{CallsSuit, PrintedProgramIsReadWell}
 use Rattle.f90_unrefused.proofs.Blocks.{within_at}
 use Rattle.f90_unrefused.proofs.Lines.{no_line_cause}
-use Rattle.f90_unrefused.proofs.PrintedForms.{EachForm, program_forms}
+use Rattle.f90_unrefused.proofs.PrintedForms.{program_forms, placed_forms, at_each}
+use Rattle.f90_unrefused.proofs.EachPhrase.{HasGoodPhrases}
 use Rattle.f90_unrefused.proofs.Literals.{HasNarrowLiterals, narrow_forms}
 use Rattle.f90_unrefused.proofs.Depths.{IsShallow, shallow_forms}
 use Rattle.f90_unrefused.proofs.Calls.{called_forms}
@@ -52,16 +54,10 @@ use Rattle.f90_unrefused.proofs.Suited.{suited_forms}
 use Rattle.f90_unrefused.proofs.Names.{known_forms}
 use Rattle.f90_unrefused.proofs.Declarations.{declared_once, has_bounds, few_elements}
 use Rattle.f90_unrefused.proofs.Order.{in_order, blocks_open, declarations_are, body_is}
-use Rattle.f90_unrefused.proofs.Labels.{placed_forms, labels_right}
+use Rattle.f90_unrefused.proofs.Labels.{labels_right}
 use Rattle.f90_unrefused.proofs.UniqueBlocks.{one_block}
-use Rattle.f90_unrefused.proofs.Surrounded.{BlockSuits, block_names, block_suits, renumbered_suits, suits_in}
-
--- what holds of each printed form holds at each place
-at_each : (Good : Form → Type 0) (p : Program) (h : IsProgram90 p) (ps : List Placed) → ArePlaced (printed_program p) ps → EachForm p.declarations Good
-    → (place : Place) → IsPlaceIn ps place → Good place.here.form
-at_each Good p h ps q each place e =
-    let good = placed_forms Good (printed_program p) ps q (program_forms Good p.declarations each p refl h) in
-    (all_right (λ (s : Placed). Good s.form) place.before (place.here ∷ place.after) (subst (λ (ss : List Placed). AllByRecursion (λ (s : Placed). Good s.form) ss) e good)).0
+use Rattle.f90_unrefused.proofs.NamedLabels.{block_names}
+use Rattle.f90_unrefused.proofs.Surrounded.{BlockSuits, block_suits, renumbered_suits, suits_in}
 
 -- ---- how deep blocks stand in each other doesn't depend on the numbers of lines
 
@@ -100,11 +96,15 @@ module _ (p : Program) (h : IsProgram90 p) (ps : List Placed) (q : ArePlaced (pr
   all_declarations : declarations_of ps ≡ p.declarations
   all_declarations = declarations_are ps r are ∙ declared
 
-  pub calls_suit : AllByRecursion (λ (s : Placed). SuitsCallsIn (functions_in ps) s.form) ps
+  abbrev HasGoodCalls : Placed → Type 0
+  HasGoodCalls s = HasGoodPhrases (SuitsCalls (function_by p.declarations)) (VariableSuitsCalls (function_by p.declarations)) s.form
+
+  pub calls_suit : CallsSuit ps
   calls_suit =
       subst (λ (ds : List Declaration). AllByRecursion (λ (s : Placed). SuitsCallsIn (function_by ds) s.form) ps) (sym all_declarations)
-      (placed_forms (SuitsCallsIn (function_by p.declarations)) (printed_program p) ps q
-      (program_forms (SuitsCallsIn (function_by p.declarations)) p.declarations (called_forms p.declarations) p refl h))
+      (all_weaker HasGoodCalls (λ (s : Placed). SuitsCallsIn (function_by p.declarations) s.form) (λ (s : Placed) k. (k.expressions, k.variables)) ps
+      (placed_forms (HasGoodPhrases (SuitsCalls (function_by p.declarations)) (VariableSuitsCalls (function_by p.declarations))) (printed_program p) ps q
+      (program_forms (HasGoodPhrases (SuitsCalls (function_by p.declarations)) (VariableSuitsCalls (function_by p.declarations))) p.declarations (called_forms p.declarations) p refl h)))
 
   block_limit : (place : Place) → IsPlaceIn ps place → IsTrue (opens_block place.here.form && nat_le 300 (length (blocks_round place))) → ⊥
   block_limit place e t =
