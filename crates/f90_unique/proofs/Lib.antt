@@ -1,0 +1,5 @@
+mod Machine
+mod Complete
+pub mod Phrase
+pub mod Lists
+pub mod Items

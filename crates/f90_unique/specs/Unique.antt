@@ -1,0 +1,22 @@
+-- No list of words is written for two statements of Fortran 90, nor for two expressions (ISO/IEC 1539:1991, sections 3
+-- and 7.1).
+use Rattle.std.specs.Prelude.{◌≡◌, List, [], ◌∷◌, ◌++◌, false}
+use Rattle.fv_tree.specs.OperatorTable.{stands_between}
+use Rattle.f90_grammar.specs.Words as words
+use Rattle.f90_grammar.specs.Words.{Word}
+use Rattle.f90_grammar.specs.Phrases.{Phrase, IsExpression, written}
+use Rattle.f90_grammar.specs.Items.{Direction, ItemPhrases, AreItems, written_items}
+
+-- no operator that stands between two operands, so these words don't go on an expression
+abbrev pub EndsExpression : List Word → Type 0
+EndsExpression (words.Operator o ∷ ws) = stands_between o ≡ false
+EndsExpression ws = Unit {0}
+
+-- of two expressions that have the same words, each with words behind it, both are one, and so is what stands behind
+abbrev pub OnePhrase : Type 0
+OnePhrase = (p q : Phrase) (rest others : List Word) → IsExpression p → IsExpression q → EndsExpression rest
+    → EndsExpression others → written p ++ rest ≡ written q ++ others → (p ≡ q) × (rest ≡ others)
+
+-- two lists of PRINT or READ that have the same words are one
+abbrev pub OneItems : Type 0
+OneItems = (d e : Direction) (is js : ItemPhrases) → AreItems d is → AreItems e js → written_items is ≡ written_items js → is ≡ js
