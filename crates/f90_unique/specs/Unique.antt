@@ -1,11 +1,12 @@
 -- No list of words is written for two statements of Fortran 90, nor for two expressions (ISO/IEC 1539:1991, sections 3
 -- and 7.1).
-use Rattle.std.specs.Prelude.{◌≡◌, List, [], ◌∷◌, ◌++◌, false}
+use Rattle.std.specs.Prelude.{◌≡◌, ℕ, List, [], ◌∷◌, ◌++◌, false}
 use Rattle.fv_tree.specs.OperatorTable.{stands_between}
 use Rattle.f90_grammar.specs.Words as words
-use Rattle.f90_grammar.specs.Words.{Word}
+use Rattle.f90_grammar.specs.Words.{Word, HasWords}
 use Rattle.f90_grammar.specs.Phrases.{Phrase, IsExpression, written}
 use Rattle.f90_grammar.specs.Items.{Direction, ItemPhrases, AreItems, written_items}
+use Rattle.f90_grammar.specs.Forms.{Form, IsWritten}
 
 -- no operator that stands between two operands, so these words don't go on an expression
 abbrev pub EndsExpression : List Word → Type 0
@@ -19,4 +20,13 @@ OnePhrase = (p q : Phrase) (rest others : List Word) → IsExpression p → IsEx
 
 -- two lists of PRINT or READ that have the same words are one
 abbrev pub OneItems : Type 0
-OneItems = (d e : Direction) (is js : ItemPhrases) → AreItems d is → AreItems e js → written_items is ≡ written_items js → is ≡ js
+OneItems = (d e : Direction) (is js : ItemPhrases) → AreItems d is → AreItems e js
+    → written_items is ≡ written_items js → is ≡ js
+
+-- two statements that have the same words are one
+abbrev pub OneForm : Type 0
+OneForm = (f g : Form) (ws : List Word) → IsWritten f ws → IsWritten g ws → f ≡ g
+
+-- the characters of a statement have one list of words
+abbrev pub OneWords : Type 0
+OneWords = (cs : List ℕ) (ws vs : List Word) → HasWords cs ws → HasWords cs vs → ws ≡ vs
