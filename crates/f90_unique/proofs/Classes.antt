@@ -1,5 +1,5 @@
 -- Which statement words are, told from its keyword and from what stands behind the parenthesis that closes its first one.
-use Rattle.std.proofs.Common.{◌≡◌, ℕ, zero, Bool, List, [], ◌∷◌, ◌++◌, refl, ap, ◌∙◌, Option, codes}
+use Rattle.std.proofs.Common.{ℕ, List, [], ◌∷◌, codes}
 use Rattle.std.specs.Prelude.{if◌then◌else◌}
 use Rattle.std.specs.Str.{bytes_eq}
 use Rattle.fv_tree.specs.declared.ops.Kind.{Kind}

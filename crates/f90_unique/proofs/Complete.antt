@@ -1,5 +1,5 @@
 -- Every expression is read.
-use Rattle.std.proofs.Common.{arith, ◌≡◌, ◌<◌, ◌≤◌, ℕ, ◌+◌, List, [], ◌∷◌, ◌++◌, refl, ap, ◌∙◌, Bool, true, false, IsTrue, append_assoc, ◌⊎◌, inl, inr, Option, Some, None}
+use Rattle.std.proofs.Common.{arith, ◌≡◌, ◌<◌, ◌≤◌, ℕ, List, [], ◌∷◌, ◌++◌, refl, ap, ◌∙◌, Bool, true, false, IsTrue, append_assoc, ◌⊎◌, inl, inr, Option, Some, None}
 use Rattle.std.proofs.lemmas.Bool.Decides.{nat_tests}
 use Rattle.fv_tree.specs.declared.ops.Op.{Op}
 use Rattle.fv_tree.specs.declared.ops.Op.TheVariants.{Pow}
@@ -7,7 +7,7 @@ use Rattle.fv_tree.specs.OperatorTable.{Sign, Plus, Minus, Negation, level_of, l
 use Rattle.f90_grammar.specs.Words.{Word}
 use Rattle.f90_grammar.specs.Words as words
 use Rattle.f90_grammar.specs.Phrases.{Phrase, Literal, Truth, Name, Listed, Paren, Signed, Joined, Values, Looped, Part, Value, Range, Strided, Parts, One, Then, Phrases, Sole, More, Turn, Innermost, Round, level, written, written_part, written_parts, written_values, written_turn, IsExpression, IsPart, AreParts, AreExpressions, IsTurn, sign_word}
-use Rattle.f90_unique.proofs.Machine.{Frame, Before, After, Within, Among, From, By, Items, First, Last, Body, Of, Nested, closed_turn, State, Wants, Has, HasTurn, WantsName, WantsEquals, Step, Go, Held, run, went, step, begin, go_on, close, halted, least, frame_least, join, into, with_part, with_value}
+use Rattle.f90_unique.proofs.Machine.{Frame, Before, After, Within, Among, From, By, Items, First, Last, Body, Of, Nested, closed_turn, State, Wants, Has, HasTurn, Step, Go, run, went, begin, go_on, close, halted, least, frame_least, join, into, with_part, with_value}
 
 -- what follows doesn't go on where an operand of this level stands
 abbrev pub Follows : ℕ → List Word → Type 0
@@ -49,8 +49,10 @@ ends : (n : ℕ) (f : Frame) (fs : List Frame) (b : Phrase) (r : List Word) → 
     → ((p : Op) → left_least p ≤ n → level_of p < frame_least f) → run r (Has (f ∷ fs) b) ≡ run r (Has fs (into f b))
 ends n f fs b [] h z a = rw (closes 0 f fs b z) refl
 ends n f fs b (words.Operator p ∷ r) h z a = ap (λ (s : Step). went s (words.Operator p) r (run r))
-    (elim (told (stands_between p)) [ inl j ↦ rw j (ap (join p) (closes (level_of p) f fs b (a p (h j))))
-    | inr e ↦ rw e (ap halted (closes 0 f fs b z)) ])
+    (elim (told (stands_between p)) [
+      | inl j ↦ rw j (ap (join p) (closes (level_of p) f fs b (a p (h j))))
+      | inr e ↦ rw e (ap halted (closes 0 f fs b z))
+    ])
 ends n f fs b (words.Close ∷ r) h z a = rw (closes 0 f fs b z) refl
 ends n f fs b (words.CloseList ∷ r) h z a = rw (closes 0 f fs b z) refl
 ends n f fs b (words.Comma ∷ r) h z a = rw (closes 0 f fs b z) refl

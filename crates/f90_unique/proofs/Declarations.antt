@@ -5,8 +5,8 @@ use Rattle.std.specs.List.{AllByRecursion}
 use Rattle.fv_tree.specs.OperatorTable.{Sign, Plus, Minus, Negation}
 use Rattle.f90_grammar.specs.Words.{Word}
 use Rattle.f90_grammar.specs.Words as words
-use Rattle.f90_grammar.specs.Forms.{Bound, IsBound, Dimension, Upper, Both, Deferred, SuitsAllocatable, Entity, IsEntity, has_dimensions, separated, followed, IsList, written_sign, written_bound, written_dimension, written_dimensions, written_entity}
-use Rattle.f90_unique.proofs.Lists.{EndsItem, Single, NoMore, list_once}
+use Rattle.f90_grammar.specs.Forms.{Bound, IsBound, Dimension, Upper, Both, Deferred, SuitsAllocatable, Entity, IsEntity, has_dimensions, separated, IsList, written_sign, written_bound, written_dimension, written_dimensions, written_entity}
+use Rattle.f90_unique.proofs.Lists.{EndsItem, list_once}
 
 pub record SameSign (s t : Option Sign) (c d : List ℕ) (r q : List Word) : Type 0 where
   pub sign : s ≡ t
@@ -69,7 +69,7 @@ dimension_once false (Both b c) (Upper a) r s h k p q e =
     let t = bound_once a b s (words.Colon ∷ (written_bound c ++ r)) k h.0 (sym e ∙ both_rest b c r) in absurd (not_colon s _ q t.1)
 dimension_once false (Both a b) (Both c d) r s h k p q e =
     let t = bound_once a c (words.Colon ∷ (written_bound b ++ r)) (words.Colon ∷ (written_bound d ++ s)) h.0 k.0
-        (sym (both_rest a b r) ∙ (e ∙ both_rest c d s)) in
+    (sym (both_rest a b r) ∙ (e ∙ both_rest c d s)) in
     let w : written_bound b ++ r ≡ written_bound d ++ s = cc t.1 in
     let u = bound_once b d r s h.1 k.1 w in
     (ap₂ (λ (x y : Bound). Both x y) t.0 u.0, u.1)
@@ -97,10 +97,10 @@ dimensions_once f x y [] (d ∷ ds) r s h k e = absurd (cc)
 dimensions_once f x y (d ∷ ds) [] r s h k e = absurd (cc)
 dimensions_once f x y (c ∷ cs) (d ∷ ds) r s h k e =
     let w : words.Head x ∷ (separated written_dimension (c ∷ cs) ++ words.Close ∷ r) ≡ words.Head y ∷ (separated written_dimension (d ∷ ds) ++ words.Close ∷ s)
-        = sym (dimensions_rest x c cs r) ∙ (e ∙ dimensions_rest y d ds s) in
+    = sym (dimensions_rest x c cs r) ∙ (e ∙ dimensions_rest y d ds s) in
     let v : separated written_dimension (c ∷ cs) ++ words.Close ∷ r ≡ separated written_dimension (d ∷ ds) ++ words.Close ∷ s = cc w in
     let t = list_once written_dimension (SuitsAllocatable f) (c ∷ cs) (d ∷ ds) (words.Close ∷ r) (words.Close ∷ s)
-        (λ a g b p q m i j z. dimension_once f a b p q g m i j z) h k tt tt (λ b p m i z. cc) (λ b p m i z. cc) v in
+    (λ a g b p q m i j z. dimension_once f a b p q g m i j z) h k tt tt (λ b p m i z. cc) (λ b p m i z. cc) v in
     record { name = cc w; dimensions = t.0; rest = cc t.1 }
 
 abbrev entity_of : List ℕ → List Dimension → Entity

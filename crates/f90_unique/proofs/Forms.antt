@@ -1,14 +1,13 @@
 -- No words are those of two forms.
-use Rattle.std.proofs.Common.{◌≡◌, ℕ, Bool, true, false, List, [], ◌∷◌, ◌++◌, refl, sym, ap, subst, ◌∙◌, append_assoc, Option, Some, None, codes}
+use Rattle.std.proofs.Common.{◌≡◌, ℕ, Bool, true, false, List, [], ◌∷◌, ◌++◌, refl, sym, ap, subst, ◌∙◌, Option, Some, None}
 use mathlib.Core.Path.{ap₂}
-use Rattle.std.specs.List.{AllByRecursion}
 use Rattle.fv_tree.specs.declared.ops.Kind.{Kind}
 use Rattle.f90_grammar.specs.Words.{Word}
 use Rattle.f90_grammar.specs.Words as words
 use Rattle.f90_grammar.specs.Phrases.{Phrase, IsExpression, written}
-use Rattle.f90_grammar.specs.Items.{Input, Output, IsStep, written_bounds}
-use Rattle.f90_grammar.specs.Forms.{Form, Program, Declare, Assign, Where, Test, If, ElseIf, Do, Go, Read, Print, Allocate, Deallocate, EndProgram, IsInner, IsWritten, IsList, IsEntity, Entity, attribute, separated, written_entity, written_extent, IsNamed}
-use Rattle.f90_unique.specs.Unique.{EndsExpression, OneForm}
+use Rattle.f90_grammar.specs.Items.{Input, Output, written_bounds}
+use Rattle.f90_grammar.specs.Forms.{Form, Declare, Assign, Where, Test, If, ElseIf, Do, Go, Read, Print, Allocate, Deallocate, EndProgram, IsInner, IsWritten, IsList, IsEntity, Entity, attribute, separated, written_entity, written_extent, IsNamed}
+use Rattle.f90_unique.specs.Unique.{OneForm}
 use Rattle.f90_unique.proofs.Phrase.{one_phrase}
 use Rattle.f90_unique.proofs.Lists.{EndsItem, ends_expression, list_once}
 use Rattle.f90_unique.proofs.Items.{one_items, bounds_once}

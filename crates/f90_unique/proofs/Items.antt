@@ -7,7 +7,7 @@ use Rattle.fv_tree.specs.OperatorTable.{Plus, Minus, Negation}
 use Rattle.f90_grammar.specs.Words.{Word}
 use Rattle.f90_grammar.specs.Words as words
 use Rattle.f90_grammar.specs.Phrases.{Phrase, Literal, Truth, Name, Listed, Paren, Signed, Joined, Values, Looped, written, written_parts, written_values, written_turn, IsExpression}
-use Rattle.f90_grammar.specs.Items.{ItemPhrase, ItemPhrases, Of, Text, Loop, Sole, More, Direction, Output, Input, IsItem, AreItems, IsStep, written_item, written_items, written_step, written_bounds}
+use Rattle.f90_grammar.specs.Items.{ItemPhrase, ItemPhrases, Of, Text, Loop, Sole, More, Direction, Output, IsItem, AreItems, IsStep, written_item, written_items, written_step, written_bounds}
 use Rattle.f90_grammar.specs.Forms.{followed}
 use Rattle.f90_unique.specs.Unique.{EndsExpression, OneItems}
 use Rattle.f90_unique.proofs.Phrase.{one_phrase}
@@ -183,7 +183,7 @@ pub bounds_once : (a b a' b' : Phrase) (c c' : Option Phrase) (r s : List Word) 
     → written_bounds a b c ++ r ≡ written_bounds a' b' c' ++ s → SameBounds a b a' b' c c' r s
 bounds_once a b a' b' c c' r s ha hb hc ka kb kc er es e =
     let f = one_phrase a a' (words.Comma ∷ (written b ++ (written_step c ++ r))) (words.Comma ∷ (written b' ++ (written_step c' ++ s)))
-        ha ka tt tt (sym (bounds_rest a b c r) ∙ (e ∙ bounds_rest a' b' c' s)) in
+    ha ka tt tt (sym (bounds_rest a b c r) ∙ (e ∙ bounds_rest a' b' c' s)) in
     let d : written b ++ (written_step c ++ r) ≡ written b' ++ (written_step c' ++ s) = cc f.1 in
     let g = one_phrase b b' (written_step c ++ r) (written_step c' ++ s) hb kb (step_end c r er) (step_end c' s es) d in
     let t = step_once c c' r s hc kc er es g.1 in
@@ -217,7 +217,7 @@ mutual
   only_phrase (Loop js y c d f) p r s h k a b e =
       let q = closes p r (written_item (first js) ++ (followed written_item (others js) ++ loop_end y c d f s)) h (e ∙ loop_rest js y c d f s) in
       let t = only_first js q.phrase (words.Close ∷ q.rest) (followed written_item (others js) ++ loop_end y c d f s)
-          q.good k.0 tt (ends_followed written_item Good (others js) (loop_end y c d f s) tt) (sym q.same) in
+      q.good k.0 tt (ends_followed written_item Good (others js) (loop_end y c d f s) tt) (sym q.same) in
       let w : words.Close ≡ words.Comma = comma_first (others js) words.Close _ q.rest (sym t) in
       absurd (cc)
 
@@ -256,14 +256,14 @@ mutual
   item_once (Loop is x a b c) (Text u) r s h k er es e = absurd (cc)
   item_once (Loop is x a b c) (Loop js y a' b' c') r s h k er es e =
       let d : words.Open ∷ (written_item (first is) ++ (followed written_item (others is) ++ loop_end x a b c r))
-          ≡ words.Open ∷ (written_item (first js) ++ (followed written_item (others js) ++ loop_end y a' b' c' s))
-          = sym (loop_rest is x a b c r) ∙ (e ∙ loop_rest js y a' b' c' s) in
+      ≡ words.Open ∷ (written_item (first js) ++ (followed written_item (others js) ++ loop_end y a' b' c' s))
+      = sym (loop_rest is x a b c r) ∙ (e ∙ loop_rest js y a' b' c' s) in
       let f = first_once is h.0 (first js) (followed written_item (others is) ++ loop_end x a b c r)
-          (followed written_item (others js) ++ loop_end y a' b' c' s) (first_good js k.0)
-          (ends_followed written_item Good (others is) (loop_end x a b c r) tt) (ends_followed written_item Good (others js) (loop_end y a' b' c' s) tt)
-          (cc d) in
+      (followed written_item (others js) ++ loop_end y a' b' c' s) (first_good js k.0)
+      (ends_followed written_item Good (others is) (loop_end x a b c r) tt) (ends_followed written_item Good (others js) (loop_end y a' b' c' s) tt)
+      (cc d) in
       let g = followed_once written_item Good (others is) (others js) (loop_end x a b c r) (loop_end y a' b' c' s) (others_once is h.0)
-          (others_good is h.0) (others_good js k.0) tt tt (no_item x a b c r) (no_item y a' b' c' s) f.1 in
+      (others_good is h.0) (others_good js k.0) tt tt (no_item x a b c r) (no_item y a' b' c' s) f.1 in
       let n : x ≡ y = cc g.1 in
       let w : written_bounds a b c ++ words.Close ∷ r ≡ written_bounds a' b' c' ++ words.Close ∷ s = cc g.1 in
       let t = bounds_once a b a' b' c c' (words.Close ∷ r) (words.Close ∷ s) h.1 h.2 h.3 k.1 k.2 k.3 tt tt w in
@@ -283,8 +283,8 @@ one_items d e is js h k w =
     let hi = outputs d is h in
     let kj = outputs e js k in
     let f = first_once is hi (first js) (followed written_item (others is) ++ []) (followed written_item (others js) ++ []) (first_good js kj)
-        (ends_followed written_item Good (others is) [] tt) (ends_followed written_item Good (others js) [] tt)
-        (sym (items_rest is []) ∙ (ap (λ (ws : List Word). ws ++ []) w ∙ items_rest js [])) in
+    (ends_followed written_item Good (others is) [] tt) (ends_followed written_item Good (others js) [] tt)
+    (sym (items_rest is []) ∙ (ap (λ (ws : List Word). ws ++ []) w ∙ items_rest js [])) in
     let g = followed_once written_item Good (others is) (others js) [] [] (others_once is hi) (others_good is hi) (others_good js kj)
-        tt tt (λ y s q b z. cc) (λ y s q b z. cc) f.1 in
+    tt tt (λ y s q b z. cc) (λ y s q b z. cc) f.1 in
     items_once is js f.0 g.0

@@ -10,3 +10,4 @@ pub mod Told
 pub mod Forms
 mod Symbols
 pub mod Tokens
+pub mod Statements

@@ -1,5 +1,5 @@
 -- Lists with commas between their elements: no words are those of two lists whose elements are told apart.
-use Rattle.std.proofs.Common.{◌≡◌, List, [], ◌∷◌, ◌++◌, refl, sym, ap, ◌∙◌, append_assoc, append-nil}
+use Rattle.std.proofs.Common.{◌≡◌, List, [], ◌∷◌, ◌++◌, refl, sym, ap, ◌∙◌, append_assoc}
 use mathlib.Core.Path.{ap₂}
 use Rattle.std.specs.List.{AllByRecursion}
 use Rattle.f90_grammar.specs.Words.{Word}
@@ -54,7 +54,7 @@ module _ {A : Type 0} (write : A → List Word) (Good : A → Type 0) where
   followed_once (x ∷ xs) (y ∷ ys) r s h g k a b m n e =
       let d : (write x ++ followed write xs) ++ r ≡ (write y ++ followed write ys) ++ s = cc in
       let f = h.0 y (followed write xs ++ r) (followed write ys ++ s) k.0 (ends_followed xs r a) (ends_followed ys s b)
-          (sym (flat x xs r) ∙ (d ∙ flat y ys s)) in
+      (sym (flat x xs r) ∙ (d ∙ flat y ys s)) in
       let t = followed_once xs ys r s h.1 g.1 k.1 a b m n f.1 in
       (ap₂ (λ (z : A) (zs : List A). z ∷ zs) f.0 t.0, t.1)
 
@@ -64,7 +64,7 @@ module _ {A : Type 0} (write : A → List Word) (Good : A → Type 0) where
   list_once (x ∷ xs) [] r s one g k a b m n e = absurd k
   list_once (x ∷ xs) (y ∷ ys) r s one g k a b m n e =
       let f = one x g.0 y (followed write xs ++ r) (followed write ys ++ s) k.0 (ends_followed xs r a) (ends_followed ys s b)
-          (sym (flat x xs r) ∙ (e ∙ flat y ys s)) in
+      (sym (flat x xs r) ∙ (e ∙ flat y ys s)) in
       let t = followed_once xs ys r s (all one xs g.1) g.1 k.1 a b m n f.1 in
       (ap₂ (λ (z : A) (zs : List A). z ∷ zs) f.0 t.0, t.1)
     where

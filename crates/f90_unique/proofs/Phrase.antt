@@ -1,6 +1,5 @@
 -- No words are those of two expressions.
-use Rattle.std.proofs.Common.{◌≡◌, ℕ, List, [], ◌∷◌, ◌++◌, refl, sym, ap, ◌∙◌, Option, Some, None, false, arith}
-use Rattle.fv_tree.specs.OperatorTable.{stands_between}
+use Rattle.std.proofs.Common.{◌≡◌, ℕ, List, [], ◌∷◌, ◌++◌, refl, sym, ap, ◌∙◌, Option, Some, None, arith}
 use Rattle.f90_grammar.specs.Words.{Word}
 use Rattle.f90_grammar.specs.Words as words
 use Rattle.f90_grammar.specs.Phrases.{Phrase, level, written, IsExpression}

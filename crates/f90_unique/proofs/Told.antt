@@ -1,5 +1,5 @@
 -- The class of a form's words tells the form.
-use Rattle.std.proofs.Common.{◌≡◌, ◌≤◌, ℕ, zero, suc, Bool, true, false, List, [], ◌∷◌, ◌++◌, refl, sym, ap, subst, ◌∙◌, append_assoc, append-nil, Option, Some, None, codes, ◌⊎◌, inl, inr}
+use Rattle.std.proofs.Common.{◌≡◌, ℕ, Bool, true, false, List, [], ◌∷◌, ◌++◌, refl, sym, ap, subst, ◌∙◌, append_assoc, append-nil, Option, Some, None, codes, ◌⊎◌, inl, inr}
 use Rattle.fv_tree.specs.declared.ops.Kind.{Kind}
 use Rattle.fv_tree.specs.declared.ops.Kind.TheVariants.{Integer, Logical}
 use Rattle.fv_tree.specs.declared.ops.Op.TheVariants.{Mul}
@@ -11,7 +11,7 @@ use Rattle.f90_grammar.specs.Items as items
 use Rattle.f90_grammar.specs.Items.{ItemPhrase, ItemPhrases, Input, Output, AreItems, IsReference, IsStep, written_item, written_items, written_bounds}
 use Rattle.f90_grammar.specs.Forms.{Form, Program, ImplicitNone, Declare, Assign, Where, Test, If, ElseIf, Else, EndIf, Do, EndDo, Continue, Go, Stop, Read, ReadNothing, Print, PrintNothing, Allocate, Deallocate, End, EndProgram, IsInner, IsWritten, IsList, IsEntity, Entity, attribute, separated, written_entity, written_extent, IsNamed, keyword_of, labelled}
 use Rattle.f90_unique.proofs.Balanced.{after, passes, passes_parts, passes_extents}
-use Rattle.f90_unique.proofs.Classes.{Class, Titled, Untyped, Declared, Assigned, Masked, Tested, BeginsIf, BeginsElseIf, BeginsElse, EndsIf, BeginsDo, EndsDo, Continued, Goes, Stopped, ReadsItems, ReadsNothing, PrintsItems, PrintsNothing, Allocates, Deallocates, Ends, EndsProgram, Unknown, class_of, unless_equals, head_class, if_class, keyword, reads_class, prints_class}
+use Rattle.f90_unique.proofs.Classes.{Class, Titled, Untyped, Declared, Assigned, Masked, Tested, BeginsIf, BeginsElseIf, BeginsElse, EndsIf, BeginsDo, EndsDo, Continued, Goes, Stopped, ReadsItems, ReadsNothing, PrintsItems, PrintsNothing, Allocates, Deallocates, Ends, EndsProgram, Unknown, class_of, unless_equals, head_class, keyword}
 use Rattle.f90_unique.proofs.Items.{starts, starts_not}
 
 abbrev pub then_word : List Word

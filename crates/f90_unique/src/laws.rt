@@ -1,5 +1,5 @@
 //! Laws of words. A law is a function without a body: its contract is what holds.
-ghost use Rattle.f90_unique.specs.Unique.{OneForm, OneItems, OnePhrase, OneWords};
+ghost use Rattle.f90_unique.specs.Unique.{OneForm, OneItems, OnePhrase, OneReading, OneStatement, OneWords};
 
 /// No words are those of two expressions, whatever follows that can't go on an expression (ISO/IEC 1539:1991, section
 /// 7.1).
@@ -22,4 +22,11 @@ pub fn one_form()
 /// section 3.2).
 pub fn one_words()
     ensures { OneWords }
+{}
+
+/// A statement of a text has one form, and so the statements of a text are read in one way: with these forms, the
+/// numbers of their lines and their marks.
+pub fn one_reading()
+    ensures statement { OneStatement }
+    ensures statements { OneReading }
 {}
