@@ -1,0 +1,6 @@
+//! Laws of the grammar of Fortran 90: no list of words is written for two forms.
+#![tactic(auto)]
+
+mod laws;
+
+pub use laws::{one_form, one_items, one_phrase, one_reading, one_words};
