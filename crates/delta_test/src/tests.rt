@@ -50,7 +50,15 @@ fn form(loops: [i64; 3], constant: i64) -> Affine {
 
 fn pairing(pair: &Pair, loops: &Loops) -> Pairing {
     let once = trip(1);
-    let spans = [loops.spans[0], loops.spans[1], loops.spans[2], once, once, once, once];
+    let spans = [
+        loops.spans[0],
+        loops.spans[1],
+        loops.spans[2],
+        once,
+        once,
+        once,
+        once,
+    ];
     Pairing {
         from: form(pair.from, pair.constant),
         to: form(pair.to, 0),
@@ -158,7 +166,10 @@ fn one_loop(rt: HostRuntime) {
         (next, outer((1, 0), (-1, 8)), OPEN, Dir::Lt, NEVER),
     ];
     for (first, second, span, dir, expected) in table {
-        assert_eq!(rt; answer(&[first, second, first], 2, &alone(span, dir)), Some(expected));
+        assert_eq!(rt;
+            answer(&[first, second, first], 2, &alone(span, dir)),
+            Some(expected)
+        );
     }
 }
 
@@ -181,23 +192,119 @@ fn several_loops(rt: HostRuntime) {
     let ends = [OPEN, OPEN, trip(3)];
     let table = [
         // refuted only after the point is put into the third one
-        ([third, fifth, over_loops([2, 1, 0], [2, 1, 0], 0)], 3, open, Dir::Eq, NEVER),
-        ([third, fifth, over_loops([1, 1, 0], [1, 1, 0], 1)], 3, open, Dir::Gt, ASSUMED),
+        (
+            [third, fifth, over_loops([2, 1, 0], [2, 1, 0], 0)],
+            3,
+            open,
+            Dir::Eq,
+            NEVER,
+        ),
+        (
+            [third, fifth, over_loops([1, 1, 0], [1, 1, 0], 1)],
+            3,
+            open,
+            Dir::Gt,
+            ASSUMED,
+        ),
         // a distance put into the second
-        ([second, over_loops([1, 1, 0], [1, 1, 0], 2), second], 2, open, Dir::Eq, ASSUMED),
-        ([second, over_loops([1, 1, 0], [1, 1, 0], 3), second], 2, open, Dir::Eq, NEVER),
-        ([second, over_loops([1, 2, 0], [1, 2, 0], 3), second], 2, open, Dir::Lt, NEVER),
-        ([second, over_loops([1, 2, 0], [1, 2, 0], 4), second], 2, open, Dir::Lt, ASSUMED),
+        (
+            [second, over_loops([1, 1, 0], [1, 1, 0], 2), second],
+            2,
+            open,
+            Dir::Eq,
+            ASSUMED,
+        ),
+        (
+            [second, over_loops([1, 1, 0], [1, 1, 0], 3), second],
+            2,
+            open,
+            Dir::Eq,
+            NEVER,
+        ),
+        (
+            [second, over_loops([1, 2, 0], [1, 2, 0], 3), second],
+            2,
+            open,
+            Dir::Lt,
+            NEVER,
+        ),
+        (
+            [second, over_loops([1, 2, 0], [1, 2, 0], 4), second],
+            2,
+            open,
+            Dir::Lt,
+            ASSUMED,
+        ),
         // values of a loop round one reference alone: they meet or not, are past the end, or aren't whole
-        ([next, over_loops([1, 0, 1], [1, 0, 0], -2), over_loops([1, 0, 2], [1, 0, 0], -5)], 3, open, Dir::Eq, ASSUMED),
-        ([next, over_loops([1, 0, 1], [1, 0, 0], -2), over_loops([1, 0, 2], [1, 0, 0], -3)], 3, open, Dir::Eq, NEVER),
-        ([next, over_loops([1, 0, 2], [1, 0, 0], -5), next], 2, ends, Dir::Eq, ASSUMED),
-        ([next, over_loops([1, 0, 2], [1, 0, 0], -9), next], 2, ends, Dir::Eq, NEVER),
-        ([next, over_loops([1, 0, 2], [1, 0, 0], -4), next], 2, ends, Dir::Eq, NEVER),
-        ([next, over_loops([1, 0, 0], [1, 0, 2], 5), next], 2, ends, Dir::Eq, ASSUMED),
-        ([next, over_loops([1, 0, 0], [1, 0, 2], 6), next], 2, ends, Dir::Eq, NEVER),
+        (
+            [
+                next,
+                over_loops([1, 0, 1], [1, 0, 0], -2),
+                over_loops([1, 0, 2], [1, 0, 0], -5),
+            ],
+            3,
+            open,
+            Dir::Eq,
+            ASSUMED,
+        ),
+        (
+            [
+                next,
+                over_loops([1, 0, 1], [1, 0, 0], -2),
+                over_loops([1, 0, 2], [1, 0, 0], -3),
+            ],
+            3,
+            open,
+            Dir::Eq,
+            NEVER,
+        ),
+        (
+            [next, over_loops([1, 0, 2], [1, 0, 0], -5), next],
+            2,
+            ends,
+            Dir::Eq,
+            ASSUMED,
+        ),
+        (
+            [next, over_loops([1, 0, 2], [1, 0, 0], -9), next],
+            2,
+            ends,
+            Dir::Eq,
+            NEVER,
+        ),
+        (
+            [next, over_loops([1, 0, 2], [1, 0, 0], -4), next],
+            2,
+            ends,
+            Dir::Eq,
+            NEVER,
+        ),
+        (
+            [next, over_loops([1, 0, 0], [1, 0, 2], 5), next],
+            2,
+            ends,
+            Dir::Eq,
+            ASSUMED,
+        ),
+        (
+            [next, over_loops([1, 0, 0], [1, 0, 2], 6), next],
+            2,
+            ends,
+            Dir::Eq,
+            NEVER,
+        ),
         // large numbers
-        ([far, over_loops([1, 0, 0], [2, 0, 0], FAR), over_loops([1, 1, 0], [2, 1, 0], 0)], 3, open, Dir::Eq, NEVER),
+        (
+            [
+                far,
+                over_loops([1, 0, 0], [2, 0, 0], FAR),
+                over_loops([1, 1, 0], [2, 1, 0], 0),
+            ],
+            3,
+            open,
+            Dir::Eq,
+            NEVER,
+        ),
     ];
     for (pairs, count, spans, inner, expected) in table {
         let loops = Loops {
@@ -288,7 +395,11 @@ fn least_tried(pairs: &[Pair; 3], count: u8, loops: &Loops) -> Option<(i64, i64)
 }
 
 fn opposite(numbers: [i64; 3]) -> [i64; 3] {
-    [numbers[0].wrapping_neg(), numbers[1].wrapping_neg(), numbers[2].wrapping_neg()]
+    [
+        numbers[0].wrapping_neg(),
+        numbers[1].wrapping_neg(),
+        numbers[2].wrapping_neg(),
+    ]
 }
 
 /// Both sides negated.
@@ -379,7 +490,10 @@ fn one_loop_agrees_with_trying(rt: HostRuntime) {
     for _ in 0..10000 {
         let pairs = [random.pair(1), random.pair(1), random.pair(1)];
         let count = random.count();
-        let loops = alone(trip(i64::from(random.bits(3)).wrapping_add(1)), random.dir());
+        let loops = alone(
+            trip(i64::from(random.bits(3)).wrapping_add(1)),
+            random.dir(),
+        );
         if let Some(given) = answer(&pairs, count, &loops) {
             let expected = match least_tried(&pairs, count, &loops) {
                 Some((i, j)) => ('P', i, j),
@@ -388,7 +502,11 @@ fn one_loop_agrees_with_trying(rt: HostRuntime) {
             assert!(rt; given == expected);
             let opposites = [negated(&pairs[0]), negated(&pairs[1]), negated(&pairs[2])];
             assert!(rt; answer(&opposites, count, &loops) == Some(given));
-            let turned = [exchanged(&pairs[0]), exchanged(&pairs[1]), exchanged(&pairs[2])];
+            let turned = [
+                exchanged(&pairs[0]),
+                exchanged(&pairs[1]),
+                exchanged(&pairs[2]),
+            ];
             let back = alone(loops.spans[0], reversed(loops.dirs[0]));
             assert!(rt; answer(&turned, count, &back).map(|short| short.0) == Some(given.0));
         }

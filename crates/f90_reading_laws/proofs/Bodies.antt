@@ -72,9 +72,10 @@ module _ (function : List ℕ → Option Intrinsic) (is_target : ℕ → Bool) (
     sound_block ps b (test line m p f inner more rest i h) g =
         ((g.0.line, refl, (g.0.form.0, sound_block (at line m f ∷ []) inner i (record { line = g.0.line; mark = g.0.mark; form = g.0.form.1 }, tt), tt), tt), sound_block rest more h g.1)
     sound_block ps b (branch line p body arms rest first otherwise more more_arms i a h) g =
-        let behind = all_right IsGood body (arms ++ rest) g.1 in
-        ((g.0.line, refl, (g.0.form, sound_block body first i (all_left IsGood body (arms ++ rest) g.1), (sound_arms arms more_arms otherwise a (all_left IsGood arms rest behind)).0), (sound_arms arms more_arms otherwise a (all_left IsGood arms rest behind)).1),
-        sound_block rest more h (all_right IsGood arms rest behind))
+        let behind = all_right IsGood body (arms ++ rest) g.1 in (
+          (g.0.line, refl, (g.0.form, sound_block body first i (all_left IsGood body (arms ++ rest) g.1), (sound_arms arms more_arms otherwise a (all_left IsGood arms rest behind)).0), (sound_arms arms more_arms otherwise a (all_left IsGood arms rest behind)).1),
+          sound_block rest more h (all_right IsGood arms rest behind),
+        )
     sound_block ps b (loop line end x p q r body rest inner more i h) g =
         let behind = all_right IsGood body (at end None forms.EndDo ∷ rest) g.1 in
         ((g.0.line, g.0.form, sound_block body inner i (all_left IsGood body (at end None forms.EndDo ∷ rest) g.1)), sound_block rest more h behind.1)

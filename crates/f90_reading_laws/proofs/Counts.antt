@@ -176,13 +176,20 @@ module _ (function : List ℕ → Option Intrinsic) (is_target : ℕ → Bool) w
         let behind = subst (λ o. OpensWithin n o (arms ++ rest)) (block_keeps body first (InIf ∷ os) i) (within_right n (InIf ∷ os) body (arms ++ rest) w.1) in
         let last = subst (λ o. OpensWithin n o rest) (arms_keep arms more_arms otherwise os a) (within_right n (InIf ∷ os) arms rest behind) in
         let good = all_right HasInner body (arms ++ rest) g.1 in
-        omega (arith, blocks_within n body first (InIf ∷ os) i (all_left HasInner body (arms ++ rest) g.1) (omega arith) (within_left n (InIf ∷ os) body (arms ++ rest) w.1),
-            arms_within n arms more_arms otherwise os a (all_left HasInner arms rest good) less (within_left n (InIf ∷ os) arms rest behind), blocks_within n rest more os h (all_right HasInner arms rest good) l last)
+        omega (
+          arith,
+          blocks_within n body first (InIf ∷ os) i (all_left HasInner body (arms ++ rest) g.1) (omega arith) (within_left n (InIf ∷ os) body (arms ++ rest) w.1),
+          arms_within n arms more_arms otherwise os a (all_left HasInner arms rest good) less (within_left n (InIf ∷ os) arms rest behind),
+          blocks_within n rest more os h (all_right HasInner arms rest good) l last,
+        )
     blocks_within n ps b os (loop line end x p q r body rest inner more i h) g l w =
         let less : length os < n = w.0 refl in
         let behind = subst (λ o. OpensWithin n o (at end None forms.EndDo ∷ rest)) (block_keeps body inner (InDo x ∷ os) i) (within_right n (InDo x ∷ os) body (at end None forms.EndDo ∷ rest) w.1) in
-        omega (arith, blocks_within n body inner (InDo x ∷ os) i (all_left HasInner body (at end None forms.EndDo ∷ rest) g.1) (omega arith) (within_left n (InDo x ∷ os) body (at end None forms.EndDo ∷ rest) w.1),
-            blocks_within n rest more os h (all_right HasInner body (at end None forms.EndDo ∷ rest) g.1).1 l behind.1)
+        omega (
+          arith,
+          blocks_within n body inner (InDo x ∷ os) i (all_left HasInner body (at end None forms.EndDo ∷ rest) g.1) (omega arith) (within_left n (InDo x ∷ os) body (at end None forms.EndDo ∷ rest) w.1),
+          blocks_within n rest more os h (all_right HasInner body (at end None forms.EndDo ∷ rest) g.1).1 l behind.1,
+        )
 
     arms_within : (n : ℕ) (ps : List Placed) (ars : Arms) (b : Block) (os : List Opened) → AreArms function is_target ps ars b → AllByRecursion HasInner ps → length os < n → OpensWithin n (InIf ∷ os) ps
         → length os + (1 + max (blocks_in_arms ars) (blocks_in b)) ≤ n
@@ -205,11 +212,21 @@ module _ (function : List ℕ → Option Intrinsic) (is_target : ℕ → Bool) w
         omega (arith, plain_count (at line m f ∷ []) inner i (g.0, tt), count rest more h g.1)
     count ps b (branch line p body arms rest first otherwise more more_arms i a h) g =
         let good = all_right HasInner body (arms ++ rest) g.1 in
-        omega (arith, count body first i (all_left HasInner body (arms ++ rest) g.1), arms_count arms more_arms otherwise a (all_left HasInner arms rest good),
-            count rest more h (all_right HasInner arms rest good), length-append body (arms ++ rest), length-append arms rest)
+        omega (
+          arith,
+          count body first i (all_left HasInner body (arms ++ rest) g.1),
+          arms_count arms more_arms otherwise a (all_left HasInner arms rest good),
+          count rest more h (all_right HasInner arms rest good),
+          length-append body (arms ++ rest),
+          length-append arms rest,
+        )
     count ps b (loop line end x p q r body rest inner more i h) g =
-        omega (arith, count body inner i (all_left HasInner body (at end None forms.EndDo ∷ rest) g.1), count rest more h (all_right HasInner body (at end None forms.EndDo ∷ rest) g.1).1,
-            length-append body (at end None forms.EndDo ∷ rest))
+        omega (
+          arith,
+          count body inner i (all_left HasInner body (at end None forms.EndDo ∷ rest) g.1),
+          count rest more h (all_right HasInner body (at end None forms.EndDo ∷ rest) g.1).1,
+          length-append body (at end None forms.EndDo ∷ rest),
+        )
 
     arms_count : (ps : List Placed) (ars : Arms) (b : Block) → AreArms function is_target ps ars b → AllByRecursion HasInner ps → statements_in_arms ars + statements_in b ≤ 2 * length ps
     arms_count ps ars b (ends line) g = omega arith
@@ -270,8 +287,8 @@ module _ (function : List ℕ → Option Intrinsic) (is_target : ℕ → Bool) w
           append_assoc (all_labels_in first ++ all_labels_in_arms more_arms) (all_labels_in otherwise) (all_labels_in more)
           ∙ (append_assoc (all_labels_in first) (all_labels_in_arms more_arms) (all_labels_in otherwise ++ all_labels_in more)
           ∙ (ap₂ (λ xs ys. xs ++ ys) (labels_are body first i (all_left HasInner body (arms ++ rest) g.1))
-              (sym (append_assoc (all_labels_in_arms more_arms) (all_labels_in otherwise) (all_labels_in more))
-              ∙ (ap₂ (λ xs ys. xs ++ ys) (arms_labels arms more_arms otherwise a (all_left HasInner arms rest good)) (labels_are rest more h (all_right HasInner arms rest good)) ∙ sym (split arms rest)))
+          (sym (append_assoc (all_labels_in_arms more_arms) (all_labels_in otherwise) (all_labels_in more))
+          ∙ (ap₂ (λ xs ys. xs ++ ys) (arms_labels arms more_arms otherwise a (all_left HasInner arms rest good)) (labels_are rest more h (all_right HasInner arms rest good)) ∙ sym (split arms rest)))
           ∙ sym (split body (arms ++ rest))))
       labels_are ps b (loop line end x p q r body rest inner more i h) g =
           ap₂ (λ xs ys. xs ++ ys) (labels_are body inner i (all_left HasInner body (at end None forms.EndDo ∷ rest) g.1)) (labels_are rest more h (all_right HasInner body (at end None forms.EndDo ∷ rest) g.1).1)
@@ -309,9 +326,11 @@ module _ (function : List ℕ → Option Intrinsic) (is_target : ℕ → Bool) w
     executable ps b (unnamed line digits rest more t h) = (refl, executable rest more h)
     executable ps b (simple p c rest more s h) = (simple_executable p c s, executable rest more h)
     executable ps b (test line m p f inner more rest i h) = (refl, executable rest more h)
-    executable ps b (branch line p body arms rest first otherwise more more_arms i a h) =
-        (refl, all_both (λ (p : Placed). is_executable p.form ≡ true) body (arms ++ rest) (executable body first i)
-        (all_both (λ (p : Placed). is_executable p.form ≡ true) arms rest (arms_executable arms more_arms otherwise a) (executable rest more h)))
+    executable ps b (branch line p body arms rest first otherwise more more_arms i a h) = (
+      refl,
+      all_both (λ (p : Placed). is_executable p.form ≡ true) body (arms ++ rest) (executable body first i)
+          (all_both (λ (p : Placed). is_executable p.form ≡ true) arms rest (arms_executable arms more_arms otherwise a) (executable rest more h)),
+    )
     executable ps b (loop line end x p q r body rest inner more i h) =
         (refl, all_both (λ (p : Placed). is_executable p.form ≡ true) body (at end None forms.EndDo ∷ rest) (executable body inner i) (refl, executable rest more h))
 

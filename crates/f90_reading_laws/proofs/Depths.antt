@@ -163,9 +163,11 @@ module _ (function : List ℕ → Option Intrinsic) where
         }
     fits (Joined o a b) h c = let f = fits a h.4 c.0 in let g = fits b h.5 c.1 in
         record {
-          within = omega (arith,
-              enclosed-le (left_least o) (depths.level (tree_of function a)) (depth_of (tree_of function a)) (depth a) (level a) h.1 f.within f.room,
-              enclosed-le (right_least o) (depths.level (tree_of function b)) (depth_of (tree_of function b)) (depth b) (level b) h.2 g.within g.room);
+          within = omega (
+            arith,
+            enclosed-le (left_least o) (depths.level (tree_of function a)) (depth_of (tree_of function a)) (depth a) (level a) h.1 f.within f.room,
+            enclosed-le (right_least o) (depths.level (tree_of function b)) (depth_of (tree_of function b)) (depth b) (level b) h.2 g.within g.room,
+          );
           room = λ l. absurd (omega (arith, l));
         }
     fits (Values ps) h c = fits_top (depth_of_values ps + 1) (tree_of function (Values ps)) refl (omega (arith, values_fit ps h c))

@@ -177,14 +177,23 @@ module _ (ds : List Declaration) where
     output_shallow (Text t) h c = omega arith
     output_shallow (Loop is x a b s) h c =
         let behind = all_right (SuitsCalls function) (items_expressions Output is) (a ∷ (b ∷ step_expressions s)) c in
-        omega (arith, outputs_shallow is h.0 (all_left (SuitsCalls function) (items_expressions Output is) (a ∷ (b ∷ step_expressions s)) c),
-            shallow function a h.1 behind.0, shallow function b h.2 behind.1.0, step_shallow s h.3 behind.1.1)
+        omega (
+          arith,
+          outputs_shallow is h.0 (all_left (SuitsCalls function) (items_expressions Output is) (a ∷ (b ∷ step_expressions s)) c),
+          shallow function a h.1 behind.0,
+          shallow function b h.2 behind.1.0,
+          step_shallow s h.3 behind.1.1,
+        )
 
     outputs_shallow : (is : ItemPhrases) → AreItems Output is → Calls (items_expressions Output is) → depth_of_items (tree.items (item_trees function is)) ≤ items_depth is
     outputs_shallow (Sole i) h c = omega (arith, output_shallow i h c)
     outputs_shallow (More is i) h c =
-        omega (arith, items_append (item_trees function is) (item_tree function i), outputs_shallow is h.0 (all_left (SuitsCalls function) (items_expressions Output is) (item_expressions Output i) c),
-            output_shallow i h.1 (all_right (SuitsCalls function) (items_expressions Output is) (item_expressions Output i) c))
+        omega (
+          arith,
+          items_append (item_trees function is) (item_tree function i),
+          outputs_shallow is h.0 (all_left (SuitsCalls function) (items_expressions Output is) (item_expressions Output i) c),
+          output_shallow i h.1 (all_right (SuitsCalls function) (items_expressions Output is) (item_expressions Output i) c),
+        )
 
   mutual
     input_item_shallow : (i : ItemPhrase) → IsItem Input i → Calls (item_expressions Input i) → Variables (item_variables i) → SuitsItem ds Input (item_tree function i) → depth_of_item (item_tree function i) ≤ item_depth i
@@ -192,17 +201,25 @@ module _ (ds : List Declaration) where
     input_item_shallow (Text t) h c v s = absurd h
     input_item_shallow (Loop is x a b t) h c v s =
         let behind = all_right (SuitsCalls function) (items_expressions Input is) (a ∷ (b ∷ step_expressions t)) c in
-        omega (arith, inputs_shallow is h.0 (all_left (SuitsCalls function) (items_expressions Input is) (a ∷ (b ∷ step_expressions t)) c) v s.0,
-            shallow function a h.1 behind.0, shallow function b h.2 behind.1.0, step_shallow t h.3 behind.1.1)
+        omega (
+          arith,
+          inputs_shallow is h.0 (all_left (SuitsCalls function) (items_expressions Input is) (a ∷ (b ∷ step_expressions t)) c) v s.0,
+          shallow function a h.1 behind.0,
+          shallow function b h.2 behind.1.0,
+          step_shallow t h.3 behind.1.1,
+        )
 
     inputs_shallow : (is : ItemPhrases) → AreItems Input is → Calls (items_expressions Input is) → Variables (items_variables is) → SuitsItems ds Input (tree.items (item_trees function is))
         → depth_of_items (tree.items (item_trees function is)) ≤ items_depth is
     inputs_shallow (Sole i) h c v s = omega (arith, input_item_shallow i h c v s.0)
     inputs_shallow (More is i) h c v s =
         let parts = items_suit Input (item_trees function is) (item_tree function i) s in
-        omega (arith, items_append (item_trees function is) (item_tree function i),
-            inputs_shallow is h.0 (all_left (SuitsCalls function) (items_expressions Input is) (item_expressions Input i) c) (all_left (VariableSuitsCalls function) (items_variables is) (item_variables i) v) parts.0,
-            input_item_shallow i h.1 (all_right (SuitsCalls function) (items_expressions Input is) (item_expressions Input i) c) (all_right (VariableSuitsCalls function) (items_variables is) (item_variables i) v) parts.1)
+        omega (
+          arith,
+          items_append (item_trees function is) (item_tree function i),
+          inputs_shallow is h.0 (all_left (SuitsCalls function) (items_expressions Input is) (item_expressions Input i) c) (all_left (VariableSuitsCalls function) (items_variables is) (item_variables i) v) parts.0,
+          input_item_shallow i h.1 (all_right (SuitsCalls function) (items_expressions Input is) (item_expressions Input i) c) (all_right (VariableSuitsCalls function) (items_variables is) (item_variables i) v) parts.1,
+        )
 
   -- ---- texts
 
@@ -326,12 +343,14 @@ module _ (ds : List Declaration) where
     -- but for labels, whose values have no part in this
     pub good_form : (f : Form) (ws : List words.Word) → IsWritten f ws → IsFit f → ((n : ℕ) → is_target n ≡ true → 0 < n) → IsGoodForm function is_target qs f
     good_form (forms.Assign l r) ws w h z = sound_assignment l r w.1 w.2 w.3 h.calls.1.0 h.calls.0.0 h.variables.0 h.expressions.0 h.kinds
-    good_form (forms.Where m l r) ws w h z =
-        (record { suits = mask_too (tree_of function m) (reference_in (tree_of function l)) h.kinds.0; depth = le _ _ (shallow function m w.1 h.calls.0.0) h.expressions.0 },
-        sound_assignment l r w.2 w.3 w.4 h.calls.1.0 h.calls.0.1.0 h.variables.0 h.expressions.1.0 h.kinds.1)
-    good_form (forms.Test p f) ws w h z =
-        (record { suits = scalar_too ds qs alike (tree_of function p) Logical h.kinds.0; depth = le _ _ (shallow function p w.2 h.calls.0.0) h.expressions.0 },
-        good_form f w.0 w.3 (record { calls = (h.calls.0.1, h.calls.1); kinds = h.kinds.1; lists = h.lists; expressions = h.expressions.1; variables = h.variables; well = h.well }) z)
+    good_form (forms.Where m l r) ws w h z = (
+      record { suits = mask_too (tree_of function m) (reference_in (tree_of function l)) h.kinds.0; depth = le _ _ (shallow function m w.1 h.calls.0.0) h.expressions.0 },
+      sound_assignment l r w.2 w.3 w.4 h.calls.1.0 h.calls.0.1.0 h.variables.0 h.expressions.1.0 h.kinds.1,
+    )
+    good_form (forms.Test p f) ws w h z = (
+      record { suits = scalar_too ds qs alike (tree_of function p) Logical h.kinds.0; depth = le _ _ (shallow function p w.2 h.calls.0.0) h.expressions.0 },
+      good_form f w.0 w.3 (record { calls = (h.calls.0.1, h.calls.1); kinds = h.kinds.1; lists = h.lists; expressions = h.expressions.1; variables = h.variables; well = h.well }) z,
+    )
     good_form (forms.If p) ws w h z = record { suits = scalar_too ds qs alike (tree_of function p) Logical h.kinds; depth = le _ _ (shallow function p w.1 h.calls.0.0) h.expressions.0 }
     good_form (forms.ElseIf p) ws w h z = record { suits = scalar_too ds qs alike (tree_of function p) Logical h.kinds; depth = le _ _ (shallow function p w.1 h.calls.0.0) h.expressions.0 }
     good_form (forms.Do x a b c) ws w h z =
@@ -346,12 +365,14 @@ module _ (ds : List Declaration) where
         step_within None s c d = omega arith
         step_within (Some p) s c d = let l : depth p ≤ deepest = d.0 in omega (arith, shallow function p s c.0)
     good_form (forms.Read is) ws w h z =
-        let t = items_textless is w.1 in
-        (t.1, record {
-          suits = items_too Input (tree.items (item_trees function is)) h.kinds;
-          filled = t.0;
-          depth = le _ _ (inputs_shallow is w.1 h.calls.0 h.calls.1 h.kinds) (not_deep (items_depth is) h.lists);
-        })
+        let t = items_textless is w.1 in (
+          t.1,
+          record {
+            suits = items_too Input (tree.items (item_trees function is)) h.kinds;
+            filled = t.0;
+            depth = le _ _ (inputs_shallow is w.1 h.calls.0 h.calls.1 h.kinds) (not_deep (items_depth is) h.lists);
+          },
+        )
     good_form (forms.Print is) ws w h z =
         record {
           suits = items_too Output (tree.items (item_trees function is)) h.kinds;

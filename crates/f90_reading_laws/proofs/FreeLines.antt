@@ -156,7 +156,7 @@ module _ (full : List (List ℕ)) (free_of_bad : (front back : List (List ℕ)) 
       let n = length (front ++ b.comments) + 1 in
       let within = Within (initial_line n s) (is_open_behind (is_in_constant s) b.piece.chars) in
       let more = read_blocks (d ∷ bs) (front ++ written_block b) within rest (same ∙ sym (append_assoc front (written_block b) (behind ++ rest)))
-          (subst (λ t. LeadTo (front ++ written_block b) t) (continued n s b.piece p.1) (behind_block front s b (behind ++ rest) same l cs.0 p.0)) cs.1 p.2 in
+      (subst (λ t. LeadTo (front ++ written_block b) t) (continued n s b.piece p.1) (behind_block front s b (behind ++ rest) same l cs.0 p.0)) cs.1 p.2 in
       record {
         plain = (piece_plain front s b (behind ++ rest) same l cs.0 p.0, more.plain);
         leads = subst (λ ls. LeadTo ls Between) (append_assoc front (written_block b) behind) more.leads;
@@ -213,13 +213,13 @@ module _ (full : List (List ℕ)) (free_of_bad : (front back : List (List ℕ)) 
       let r = read_blocks full free_of_bad (b ∷ bs) front Between rest e l c p in
       let tail = good_statements (k + length own) rest more (front ++ own) h (e ∙ sym (append_assoc front own rest)) r.leads in
       let size : length own ≡ length b.comments + (1 + length (flat_map written_block bs)) =
-          omega (arith, length-append (b.comments ++ written_piece b.piece ∷ []) (flat_map written_block bs), length-append b.comments (written_piece b.piece ∷ [])) in
+      omega (arith, length-append (b.comments ++ written_piece b.piece ∷ []) (flat_map written_block bs), length-append b.comments (written_piece b.piece ∷ [])) in
       let whole : length (own ++ rest) ≡ length own + length rest = length-append own rest in
       let total : (k + length own) + length rest ≡ k + length (own ++ rest) = omega (arith, whole) in
       record {
         each = (
-            record { low = omega arith; high = omega (arith, whole, size); ahead = good_marks b.comments ahead a; within = good_marks (comments_of bs) within w; plain = characters_plain (b ∷ bs) r.plain },
-            lower k (k + length own) (k + length (own ++ rest)) more (omega arith) (subst (λ t. AllByRecursion (IsGoodStatement (k + length own) t) more) total tail.each)
+          record { low = omega arith; high = omega (arith, whole, size); ahead = good_marks b.comments ahead a; within = good_marks (comments_of bs) within w; plain = characters_plain (b ∷ bs) r.plain },
+          lower k (k + length own) (k + length (own ++ rest)) more (omega arith) (subst (λ t. AllByRecursion (IsGoodStatement (k + length own) t) more) total tail.each),
         );
         few = omega (arith, tail.few, whole, size);
       }
@@ -248,9 +248,9 @@ formed n m o (s ∷ ss) [] g a h = absurd h
 formed n m o (s ∷ ss) (p ∷ ps) g a h =
     let pending = last_of o s.ahead in
     let good = last_good o s.ahead g a.0.ahead in
-    let tail = formed n m (last_of (left_over (takes_mark p.form) pending) s.within) ss ps (last_good (left_over (takes_mark p.form) pending) s.within (left_good (takes_mark p.form) pending good) a.0.within) a.1 h.3 in
-    (
-        (record {
+    let tail = formed n m (last_of (left_over (takes_mark p.form) pending) s.within) ss ps (last_good (left_over (takes_mark p.form) pending) s.within (left_good (takes_mark p.form) pending good) a.0.within) a.1 h.3 in (
+      (
+        record {
           low = subst (λ l. n ≤ l) (sym h.0) a.0.low;
           high = subst (λ l. l < m) (sym h.0) a.0.high;
           mark = subst (λ t. IfSome t IsMark) (sym h.1) (taken_good (takes_mark p.form) pending good);
@@ -259,6 +259,8 @@ formed n m o (s ∷ ss) (p ∷ ps) g a h =
           words = h.2.0;
           has_words = h.2.1;
           written = h.2.2;
-        }, tail.0),
-        omega (arith, tail.1)
+        },
+        tail.0,
+      ),
+      omega (arith, tail.1),
     )

@@ -48,9 +48,10 @@ roomy true n m h e = by (leb_tells n m)
 
 opens_behind : (front rest : List Placed) → ((p : Place) → IsPlaceIn (front ++ rest) p → IsRoomy p) → OpensWithin limits.block_depth90 (opened_behind [] front) rest
 opens_behind front [] h = tt
-opens_behind front (x ∷ xs) h =
-    (roomy (opens_block x.form) limits.block_depth90 (length (opened_behind [] front)) (h (at_place front x xs) refl),
-    subst (λ o. OpensWithin limits.block_depth90 o xs) (behind_one [] front x) (opens_behind (front ++ x ∷ []) xs (λ p e. h p (sym (append_assoc front (x ∷ []) xs) ∙ e))))
+opens_behind front (x ∷ xs) h = (
+  roomy (opens_block x.form) limits.block_depth90 (length (opened_behind [] front)) (h (at_place front x xs) refl),
+  subst (λ o. OpensWithin limits.block_depth90 o xs) (behind_one [] front x) (opens_behind (front ++ x ∷ []) xs (λ p e. h p (sym (append_assoc front (x ∷ []) xs) ∙ e))),
+)
 
 pub opens_within : (ps : List Placed) → ((p : Place) → IsPlaceIn ps p → IsRoomy p) → OpensWithin limits.block_depth90 [] ps
 opens_within ps h = opens_behind [] ps h

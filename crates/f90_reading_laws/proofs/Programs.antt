@@ -219,9 +219,9 @@ module _ (text : List ℕ) (q : Program) (short : length text ≤ limits.deck_by
 
   ordered : IsInOrder ps
   ordered = record {
-      some = some_statements ps (λ e. reads.unrefused (refusal_at Structure 0) (InStatements ps Structure 0 reads.of_text (HasNoStatement e)));
-      none = λ p i. not_true (is_disordered ps p) (λ t. unfound Structure p i t);
-    }
+    some = some_statements ps (λ e. reads.unrefused (refusal_at Structure 0) (InStatements ps Structure 0 reads.of_text (HasNoStatement e)));
+    none = λ p i. not_true (is_disordered ps p) (λ t. unfound Structure p i t);
+  }
 
   misplaced : (line : ℕ) → IsMisplaced ps line → ⊥
   misplaced line m = reads.unrefused (refusal_at Structure line) (InStatements ps Structure line reads.of_text (IsWrongInBlocks line ordered m))
@@ -320,9 +320,9 @@ module _ (text : List ℕ) (q : Program) (short : length text ≤ limits.deck_by
       let n = limits.block_depth90 in
       let all = subst (OpensWithin n []) is.same (opens_within ps (λ pl i t. unfound Limit90 pl i (OfBlocks t))) in
       let a = subst (λ o. OpensWithin n o (is.implicit ++ (is.declared ++ (is.body ++ is.last ∷ [])))) (title_opens is.title q.name [] is.is_title)
-          (within_right n [] is.title (is.implicit ++ (is.declared ++ (is.body ++ is.last ∷ []))) all) in
+      (within_right n [] is.title (is.implicit ++ (is.declared ++ (is.body ++ is.last ∷ []))) all) in
       let b = subst (λ o. OpensWithin n o (is.declared ++ (is.body ++ is.last ∷ []))) (implicit_opens is.implicit [] is.is_implicit)
-          (within_right n [] is.implicit (is.declared ++ (is.body ++ is.last ∷ [])) a) in
+      (within_right n [] is.implicit (is.declared ++ (is.body ++ is.last ∷ [])) a) in
       let c = subst (λ o. OpensWithin n o (is.body ++ is.last ∷ [])) (declared_opens is.declared is.in_text [] is.are_declared) (within_right n [] is.declared (is.body ++ is.last ∷ []) b) in
       within_left n [] is.body (is.last ∷ []) c
 
@@ -338,8 +338,14 @@ module _ (text : List ℕ) (q : Program) (short : length text ≤ limits.deck_by
   labels_same = labels_are (function_by ds) is_target zero_free is.body q.body block (in_body HasInner inners)
 
   body_short : length is.body ≤ length ps
-  body_short = omega (arith, ap length is.same, length-append is.title (is.implicit ++ (is.declared ++ (is.body ++ is.last ∷ []))), length-append is.implicit (is.declared ++ (is.body ++ is.last ∷ [])),
-      length-append is.declared (is.body ++ is.last ∷ []), length-append is.body (is.last ∷ []))
+  body_short = omega (
+    arith,
+    ap length is.same,
+    length-append is.title (is.implicit ++ (is.declared ++ (is.body ++ is.last ∷ []))),
+    length-append is.implicit (is.declared ++ (is.body ++ is.last ∷ [])),
+    length-append is.declared (is.body ++ is.last ∷ []),
+    length-append is.body (is.last ∷ []),
+  )
 
   -- ---- declarations
 
@@ -360,15 +366,15 @@ module _ (text : List ℕ) (q : Program) (short : length text ≤ limits.deck_by
   few_elements : size ds ≤ limits.array_elements
   few_elements = affirmed (at_most (size ds) limits.array_elements)
       (λ n. unfound Limit90 (at_place front is.last []) at_last (OfElements (above limits.array_elements (size (declarations_of (front ++ is.last ∷ [])))
-          (λ l. n (subst (λ xs. size (declarations_of xs) ≤ limits.array_elements) (sym at_last) l)))))
+      (λ l. n (subst (λ xs. size (declarations_of xs) ≤ limits.array_elements) (sym at_last) l)))))
 
   pub read_program : IsProgram90 q
   read_program = record {
-      name = title_name is.title q.name is.is_title (all_left Well is.title (is.implicit ++ (is.declared ++ (is.body ++ is.last ∷ []))) (subst (AllByRecursion Well) is.same wells));
-      declarations = are_declarations ps q is each_declared few_elements;
-      statements = is_block q.declarations q.body outermost (sound_block (function_by ds) is_target q.declarations is.body q.body block (in_body Good goods)) suit;
-      blocks = omega (arith, blocks_within (function_by ds) is_target limits.block_depth90 is.body q.body [] block (in_body HasInner inners) (omega arith) body_opens);
-      labels = subst IsWithoutRepeats (sym labels_same) (sub_repeats is_target (flat_labels is.body) body_labels);
-      named = subst (AllByRecursion (Contains (targets_in q.body))) (sym labels_same) (each_target is_target (Contains (targets_in q.body)) (λ n t. named_in n q.body t) (flat_labels is.body));
-      few = omega (arith, count (function_by ds) is_target is.body q.body block (in_body HasInner inners), body_short, all_formed.1, good.few, lines-le text, short);
-    }
+    name = title_name is.title q.name is.is_title (all_left Well is.title (is.implicit ++ (is.declared ++ (is.body ++ is.last ∷ []))) (subst (AllByRecursion Well) is.same wells));
+    declarations = are_declarations ps q is each_declared few_elements;
+    statements = is_block q.declarations q.body outermost (sound_block (function_by ds) is_target q.declarations is.body q.body block (in_body Good goods)) suit;
+    blocks = omega (arith, blocks_within (function_by ds) is_target limits.block_depth90 is.body q.body [] block (in_body HasInner inners) (omega arith) body_opens);
+    labels = subst IsWithoutRepeats (sym labels_same) (sub_repeats is_target (flat_labels is.body) body_labels);
+    named = subst (AllByRecursion (Contains (targets_in q.body))) (sym labels_same) (each_target is_target (Contains (targets_in q.body)) (λ n t. named_in n q.body t) (flat_labels is.body));
+    few = omega (arith, count (function_by ds) is_target is.body q.body block (in_body HasInner inners), body_short, all_formed.1, good.few, lines-le text, short);
+  }

@@ -136,9 +136,12 @@ module _ (ds : List Declaration) where
   whole_left P Q (Some d) f h = f d h
 
   assignment : (left : Reference) (right : Expression) (w : Surroundings) → IsSoundAssignment left right → (Contains w.variables left.name → ⊥) → IsAssignment ds left right w
-  assignment left right w h free =
-      (whole_left (λ d. HasKind ds (named left) d.kind × HasKind ds right d.kind) (λ d. IsWhole ds (named left) d.kind × IsWhole ds right d.kind) (declared ds left.name)
-      (λ d k. (record { suits = k.0; depth = h.left_depth }, record { suits = k.1; depth = h.right_depth })) h.suits.0, h.suits.1, free)
+  assignment left right w h free = (
+    whole_left (λ d. HasKind ds (named left) d.kind × HasKind ds right d.kind) (λ d. IsWhole ds (named left) d.kind × IsWhole ds right d.kind) (declared ds left.name)
+        (λ d k. (record { suits = k.0; depth = h.left_depth }, record { suits = k.1; depth = h.right_depth })) h.suits.0,
+    h.suits.1,
+    free,
+  )
 
   mask : (e : Expression) (left : Reference) → IsSoundMask e left → IsMasked ds e left
   mask e left h = (record { suits = h.suits.0; depth = h.depth }, h.suits.1, h.suits.2)
@@ -158,9 +161,14 @@ module _ (ds : List Declaration) where
     is_statement (tree.Where line mark m left right) w h s i = (h.0, mask m left h.1, assignment left right w h.2 s)
     is_statement (tree.If line arms other) w h s i =
         (h.0, h.1, are_arms arms w h.2 (λ d v p. i d v (in_arm line arms other w d v p)), is_block other w h.3 (λ d v p. i d v (in_else line arms other w d v p)))
-    is_statement (tree.Do line x a b c body) w h s i =
-        (h.0, s, record { suits = h.1.suits.0; depth = h.1.first }, record { suits = h.1.suits.1; depth = h.1.second }, record { suits = h.1.suits.2; depth = h.1.third },
-        is_block body (within_loop x w) h.2 (λ d v p. i d v (in_loop line x a b c body w d v p)))
+    is_statement (tree.Do line x a b c body) w h s i = (
+      h.0,
+      s,
+      record { suits = h.1.suits.0; depth = h.1.first },
+      record { suits = h.1.suits.1; depth = h.1.second },
+      record { suits = h.1.suits.2; depth = h.1.third },
+      is_block body (within_loop x w) h.2 (λ d v p. i d v (in_loop line x a b c body w d v p)),
+    )
     is_statement (tree.Label n) w h s i = h
     is_statement (tree.GoTo line n) w h s i = (h, s.1)
     is_statement (tree.Stop line) w h s i = h

@@ -234,7 +234,7 @@ same_sum {A} f (q ∷ qs) ds a c l =
     let s = split_at ds q (c q (here q qs)) in
     let fewer : length (s.front ++ s.back) ≡ length qs = omega (arith, l, ap length s.same, length-append s.front (q ∷ s.back), length-append s.front s.back) in
     let inside : (x : A) → Contains qs x → Contains (s.front ++ s.back) x =
-        λ x h. without s.front s.back q x (subst (λ zs. Contains zs x) s.same (c x (there q qs x h))) (λ e. a.0 (subst (λ z. Contains qs z) (sym e) h)) in
+    λ x h. without s.front s.back q x (subst (λ zs. Contains zs x) s.same (c x (there q qs x h))) (λ e. a.0 (subst (λ z. Contains qs z) (sym e) h)) in
     ap (λ zs. sum (map f zs)) s.same ∙ (sum_around f s.front s.back q ∙ (ap (λ n. f q + n) (same_sum f qs (s.front ++ s.back) a.1 inside fewer) ∙ sym (sum-cons (f q) (map f qs))))
 
 -- in byte order none stands twice

@@ -59,9 +59,9 @@ module _ (ds : List Declaration) where
     statement_labels (tree.If line (tree.arm test body more) other) w h =
         labels_both (printed_block body) (printed_arms more ++ (printed_else other ++ unmarked forms.EndIf ∷ []))
         ∙ (ap₂ (λ xs ys. xs ++ ys) (block_labels body w h.2.1)
-            (labels_both (printed_arms more) (printed_else other ++ unmarked forms.EndIf ∷ [])
-            ∙ ap₂ (λ xs ys. xs ++ ys) (arms_labels more w h.2.2)
-                (labels_both (printed_else other) (unmarked forms.EndIf ∷ []) ∙ (append-nil (printed_labels (printed_else other)) ∙ else_labels other (block_labels other w h.3))))
+        (labels_both (printed_arms more) (printed_else other ++ unmarked forms.EndIf ∷ [])
+        ∙ ap₂ (λ xs ys. xs ++ ys) (arms_labels more w h.2.2)
+        (labels_both (printed_else other) (unmarked forms.EndIf ∷ []) ∙ (append-nil (printed_labels (printed_else other)) ∙ else_labels other (block_labels other w h.3))))
         ∙ sym (append_assoc (all_labels_in body) (all_labels_in_arms more) (all_labels_in other)))
     statement_labels (tree.Do line x a b c body) w h =
         labels_both (printed_block body) (unmarked forms.EndDo ∷ []) ∙ (append-nil (printed_labels (printed_block body)) ∙ block_labels body (within_loop x w) h.5)

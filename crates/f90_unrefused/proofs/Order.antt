@@ -81,16 +81,20 @@ has_executable ps = list_any (λ (p : Placed). is_executable p.form) ps
 declared_timely : (front ps rest : List Placed) (ds : List Declaration) → AreDeclared ps ds → has_executable front ≡ false
     → ((before : List Placed) → AreTimely before rest) → AreTimely front (ps ++ rest)
 declared_timely front ps rest ds nothing h behind = behind front
-declared_timely front ps rest ds (more line k a es others xs d) h behind =
-    (h, declared_timely (front ++ at line None (forms.Declare k a es) ∷ []) others rest xs d
-    (list_any-append (λ (p : Placed). is_executable p.form) front (at line None (forms.Declare k a es) ∷ []) ∙ both_false (has_executable front) false h refl) behind)
+declared_timely front ps rest ds (more line k a es others xs d) h behind = (
+  h,
+  declared_timely (front ++ at line None (forms.Declare k a es) ∷ []) others rest xs d
+      (list_any-append (λ (p : Placed). is_executable p.form) front (at line None (forms.Declare k a es) ∷ []) ∙ both_false (has_executable front) false h refl) behind,
+)
 
 implicit_timely : (front ps ds rest : List Placed) (xs : List Declaration) → MayBeImplicitNone ps → AreDeclared ds xs → list_all (λ (p : Placed). is_title p.form) front ≡ true
     → has_executable front ≡ false → ((before : List Placed) → AreTimely before rest) → AreTimely front (ps ++ (ds ++ rest))
 implicit_timely front ps ds rest xs absent d t h behind = declared_timely front ds rest xs d h behind
-implicit_timely front ps ds rest xs (present line) d t h behind =
-    (ap not t, declared_timely (front ++ at line None forms.ImplicitNone ∷ []) ds rest xs d
-    (list_any-append (λ (p : Placed). is_executable p.form) front (at line None forms.ImplicitNone ∷ []) ∙ both_false (has_executable front) false h refl) behind)
+implicit_timely front ps ds rest xs (present line) d t h behind = (
+  ap not t,
+  declared_timely (front ++ at line None forms.ImplicitNone ∷ []) ds rest xs d
+      (list_any-append (λ (p : Placed). is_executable p.form) front (at line None forms.ImplicitNone ∷ []) ∙ both_false (has_executable front) false h refl) behind,
+)
 
 title_timely : (title ps ds rest : List Placed) (name : Option (List ℕ)) (xs : List Declaration) → IsTitle title name → MayBeImplicitNone ps → AreDeclared ds xs
     → ((before : List Placed) → AreTimely before rest) → AreTimely [] (title ++ (ps ++ (ds ++ rest)))

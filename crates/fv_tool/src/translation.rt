@@ -33,11 +33,7 @@ fn push_data(text: &mut Vec<u8>, input: Option<&[u8]>) -> Result<(), Memory>
 }
 
 // The text of the program, and the input behind it.
-fn translation(
-    alloc: Global,
-    program: Program77,
-    input: Option<&[u8]>,
-) -> Result<Vec<u8>, Memory>
+fn translation(alloc: Global, program: Program77, input: Option<&[u8]>) -> Result<Vec<u8>, Memory>
     ensures { IfOk result (λ text. text.items ≡ printed90 (program_of program) []
         ++ data_part (is_there (option_copied input.entry)) (bytes_in (option_copied input.entry))) }
 {

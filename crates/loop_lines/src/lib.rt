@@ -6,6 +6,6 @@
 mod one_loop;
 
 pub use one_loop::{
-    Bounds, LoopPlace, bounds_at, coefficients_at, constant_trip, line_of, mattering_at, one_loop_of,
-    only_loop_of, points_at,
+    Bounds, LoopPlace, bounds_at, coefficients_at, constant_trip, line_of, mattering_at,
+    one_loop_of, only_loop_of, points_at,
 };

@@ -122,7 +122,11 @@ fn push_pair(
     out.push_str(", group of ")?;
     push_number(out, alloc, usize::from(group))?;
     if p.known {
-        out.push_str(if gcd_refutes(p) { ", gcd refutes" } else { ", gcd doesn't refute" })?;
+        out.push_str(if gcd_refutes(p) {
+            ", gcd refutes"
+        } else {
+            ", gcd doesn't refute"
+        })?;
     }
     out.push_str("\n")?;
     Ok(())

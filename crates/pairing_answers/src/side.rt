@@ -50,19 +50,32 @@ impl Term {
         let mut term = self;
         if character.is_ascii_digit() {
             let digit = i64::from(character - b'0');
-            term.number = Some(self.number.unwrap_or(0).checked_mul(10)?.checked_add(digit)?);
+            term.number = Some(
+                self.number
+                    .unwrap_or(0)
+                    .checked_mul(10)?
+                    .checked_add(digit)?,
+            );
             return Some(term);
         }
         if character.is_ascii_alphabetic() {
             term.letter = Some(character);
             return Some(term);
         }
-        if character == b'*' || character == b' ' { Some(term) } else { None }
+        if character == b'*' || character == b' ' {
+            Some(term)
+        } else {
+            None
+        }
     }
 
     fn coefficient(self) -> i64 {
         let number = self.number.unwrap_or(1);
-        if self.negative { number.saturating_neg() } else { number }
+        if self.negative {
+            number.saturating_neg()
+        } else {
+            number
+        }
     }
 }
 

@@ -1,6 +1,6 @@
 //! How classes and verdicts are written.
-use subscripts::{Class, Point, Test, Verdict};
 use std::alloc::{AllocError, Global};
+use subscripts::{Class, Point, Test, Verdict};
 
 pub fn class_name(class: Class) -> &'static str {
     match class {

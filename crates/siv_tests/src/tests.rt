@@ -248,12 +248,7 @@ fn reversed(dir: Dir) -> Dir {
 }
 
 /// Whether the answer is the same with both sides negated, and the same but for the pair with the references exchanged.
-fn is_even_handed(
-    first: (i64, i64),
-    second: (i64, i64),
-    last: Option<i64>,
-    dir: Dir,
-) -> bool
+fn is_even_handed(first: (i64, i64), second: (i64, i64), last: Option<i64>, dir: Dir) -> bool
     requires a { IsSmall first.0 }
     requires b { IsSmall first.1 }
     requires c { IsSmall second.0 }
