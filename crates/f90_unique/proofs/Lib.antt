@@ -11,3 +11,5 @@ pub mod Forms
 mod Symbols
 pub mod Tokens
 pub mod Statements
+pub mod Pieces
+pub mod Lines

@@ -10,7 +10,7 @@ use Rattle.f90_grammar.specs.Items.{Direction, ItemPhrases, AreItems, written_it
 use Rattle.f90_grammar.specs.Forms.{Form, IsWritten}
 use Rattle.f90_grammar.specs.FreeForm.{FreeStatement}
 use Rattle.f90_grammar.specs.Blocks.{Placed}
-use Rattle.f90_grammar.specs.Reading.{HaveForms}
+use Rattle.f90_grammar.specs.Reading.{AreStatementsOf, HaveForms}
 use Rattle.f90_grammar.specs.Refusals.{IsFormOf}
 
 -- no operator that stands between two operands, so these words don't go on an expression
@@ -44,3 +44,7 @@ OneStatement = (s : FreeStatement) (f g : Form) → IsFormOf s f → IsFormOf s 
 abbrev pub OneReading : Type 0
 OneReading = (pending : Option Mark) (ss : List FreeStatement) (ps qs : List Placed) → HaveForms pending ss ps
     → HaveForms pending ss qs → ps ≡ qs
+
+-- the lines of a text have their statements, and these their forms, in one way
+abbrev pub OneText : Type 0
+OneText = (text : List ℕ) (ps qs : List Placed) → AreStatementsOf text ps → AreStatementsOf text qs → ps ≡ qs

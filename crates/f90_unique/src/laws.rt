@@ -1,5 +1,6 @@
 //! Laws of words. A law is a function without a body: its contract is what holds.
-ghost use Rattle.f90_unique.specs.Unique.{OneForm, OneItems, OnePhrase, OneReading, OneStatement, OneWords};
+ghost use Rattle.f90_unique.specs.Unique.{OneForm, OneItems, OnePhrase, OneReading, OneStatement};
+ghost use Rattle.f90_unique.specs.Unique.{OneText, OneWords};
 
 /// No words are those of two expressions, whatever follows that can't go on an expression (ISO/IEC 1539:1991, section
 /// 7.1).
@@ -29,4 +30,10 @@ pub fn one_words()
 pub fn one_reading()
     ensures statement { OneStatement }
     ensures statements { OneReading }
+{}
+
+/// The lines of a text are those of one list of statements (ISO/IEC 1539:1991, section 3.3.1): which lines are comments
+/// and which are continued, and where the characters of a statement begin and end, can be told in one way.
+pub fn one_text()
+    ensures { OneText }
 {}

@@ -3,4 +3,4 @@
 
 mod laws;
 
-pub use laws::{one_form, one_items, one_phrase, one_reading, one_words};
+pub use laws::{one_form, one_items, one_phrase, one_reading, one_text, one_words};
