@@ -1,13 +1,13 @@
 -- What surrounds each statement of a printed program suits, whatever the numbers of its lines.
-use Rattle.std.proofs.Common.{◌≡◌, refl, sym, ap, ap₂, subst, ◌∙◌, ℕ, ◌<◌, List, [], ◌∷◌, ◌++◌, Contains}
+use Rattle.std.proofs.Common.{◌≡◌, refl, sym, ap₂, subst, ℕ, ◌<◌, List, ◌∷◌, ◌++◌, Contains}
 use Rattle.std.specs.List.{AllByRecursion}
 use Rattle.std.proofs.lemmas.List.Elements.{All-contains, All-from_recursion}
 use Rattle.fv_tree.specs.Plain as tree
 use Rattle.fv_tree.specs.Plain.{Statement, Arms, Block, Declaration, Item, Items, Program}
 use Rattle.fv_meaning.specs.Typed90.{IsDoVariable, IsInput, IsOutputItem, AreOutputItems, IsInputItem, AreInputItems}
-use Rattle.fv_meaning.specs.Blocks.{Surroundings, outermost, within_loop, before_labels, label_of, labels_of, IsLabel}
+use Rattle.fv_meaning.specs.Blocks.{Surroundings, within_loop, before_labels, label_of, labels_of, IsLabel}
 use Rattle.fv_meaning.specs.Profile90.{IsStatement, AreArms, IsBlock}
-use Rattle.f90_grammar.specs.Items.{Direction, Input, Output}
+use Rattle.f90_grammar.specs.Items.{Input, Output}
 use Rattle.f90_grammar.specs.Surroundings.{StandsIn, StandsWithin, StandsInArms, KeepsVariables, ItemKeepsVariables, ItemsKeepVariables, SuitsSurroundings}
 use Rattle.f90_grammar.specs.Surroundings.StandsIn.{itself, further, inside}
 use Rattle.f90_grammar.specs.Surroundings.StandsWithin.{in_loop, in_arm, in_else}
@@ -131,9 +131,10 @@ module _ (ds : List Declaration) where
 
     block_without : (b : Block) (w : Surroundings) → BlockSuits b w → BlockSuits (block_without_numbers b) w
     block_without tree.no_statements w h = tt
-    block_without (tree.statement c cs) w h =
-        (subst (λ (ns : List ℕ). StatementSuits (without_numbers c) (before_labels ns w)) (sym (labels-renumbered cs)) (statement_without c (before_labels (labels_of cs) w) h.0),
-        block_without cs w h.1)
+    block_without (tree.statement c cs) w h = (
+      subst (λ (ns : List ℕ). StatementSuits (without_numbers c) (before_labels ns w)) (sym (labels-renumbered cs)) (statement_without c (before_labels (labels_of cs) w) h.0),
+      block_without cs w h.1,
+    )
 
   mutual
     statement_with : (c : Statement) (w : Surroundings) → StatementSuits (without_numbers c) w → StatementSuits c w
@@ -155,9 +156,10 @@ module _ (ds : List Declaration) where
 
     block_with : (b : Block) (w : Surroundings) → BlockSuits (block_without_numbers b) w → BlockSuits b w
     block_with tree.no_statements w h = tt
-    block_with (tree.statement c cs) w h =
-        (statement_with c (before_labels (labels_of cs) w) (subst (λ (ns : List ℕ). StatementSuits (without_numbers c) (before_labels ns w)) (labels-renumbered cs) h.0),
-        block_with cs w h.1)
+    block_with (tree.statement c cs) w h = (
+      statement_with c (before_labels (labels_of cs) w) (subst (λ (ns : List ℕ). StatementSuits (without_numbers c) (before_labels ns w)) (labels-renumbered cs) h.0),
+      block_with cs w h.1,
+    )
 
   pub renumbered_suits : (b c : Block) (w : Surroundings) → block_without_numbers b ≡ block_without_numbers c → BlockSuits b w → BlockSuits c w
   renumbered_suits b c w e h = block_with c w (subst (λ (d : Block). BlockSuits d w) e (block_without b w h))
