@@ -1,11 +1,10 @@
 -- The statements of a block are in order: what is opened is closed, each block part stands in its block, and blocks
 -- stand as deep in each other as those of the tree.
-use Rattle.std.proofs.Common.{◌≡◌, refl, sym, ap, subst, ◌∙◌, ℕ, zero, suc, ◌+◌, ◌<◌, ◌≤◌, max, arith, Bool, true, false, not, Option, None, Some, List, [], ◌∷◌, ◌++◌, length, append_assoc}
+use Rattle.std.proofs.Common.{◌≡◌, refl, sym, ap, subst, ◌∙◌, ℕ, suc, ◌+◌, ◌<◌, ◌≤◌, max, arith, Bool, true, false, not, Option, None, List, [], ◌∷◌, ◌++◌, length, append_assoc}
 use Rattle.std.specs.List.{AllByRecursion}
-use Rattle.fv_tree.specs.Plain as tree
 use Rattle.fv_tree.specs.Plain.{Statement, Arms, Block}
 use Rattle.fv_tree.specs.declared.functions.Intrinsic.{Intrinsic}
-use Rattle.fv_meaning.specs.Blocks.{blocks_of, blocks_in_arms, blocks_in}
+use Rattle.fv_meaning.specs.Blocks.{blocks_in_arms, blocks_in}
 use Rattle.f90_grammar.specs.Forms as forms
 use Rattle.f90_grammar.specs.Forms.{Form}
 use Rattle.f90_grammar.specs.Blocks.{Placed, at, IsSimple, AreBlock, AreArms}

@@ -10,7 +10,7 @@ use Rattle.f90_grammar.specs.Printing.{phrase_of}
 use Rattle.f90_grammar.specs.Reading.{function_by}
 use Rattle.f90_laws.proofs.PrintedTrees.{printed_suits}
 use Rattle.f90_unrefused.proofs.PrintedForms.{EachForm}
-use Rattle.f90_unrefused.proofs.EachPhrase.{EachPhrase, HasGoodPhrases, phrase_forms}
+use Rattle.f90_unrefused.proofs.EachPhrase.{HasGoodPhrases, phrase_forms}
 
 -- what stores into no function, and suits as an expression, suits
 variable_suits : (function : List ℕ → Option Intrinsic) (p : Phrase) → SuitsCalls function p → VariableSuitsCalls function p

@@ -1,8 +1,8 @@
 -- The declarations among the statements of a printed program are those of the tree: none comes again, and their limits
 -- are kept.
-use Rattle.std.proofs.Common.{◌≡◌, refl, sym, ap, subst, ◌∙◌, ℕ, ◌+◌, ◌<◌, ◌≤◌, arith, Bool, true, false, ◌||◌, Option, None, Some, List, [], ◌∷◌, ◌++◌, map, length, append_assoc, append-nil}
-use Rattle.std.specs.Prelude.{sum, flat_map}
-use Rattle.std.specs.List.{AllByRecursion, list_any}
+use Rattle.std.proofs.Common.{◌≡◌, refl, sym, ap, subst, ◌∙◌, ℕ, ◌+◌, ◌≤◌, arith, Bool, true, false, List, [], ◌∷◌, ◌++◌, map, append_assoc}
+use Rattle.std.specs.Prelude.{sum}
+use Rattle.std.specs.List.{AllByRecursion}
 use Rattle.std.specs.Str.{bytes_eq}
 use Rattle.std.specs.Cmp.Lexicographic.{slice_cmp}
 use Rattle.std.specs.Ordering.{nat_cmp, is_eq}
@@ -12,16 +12,12 @@ use Rattle.std.proofs.lemmas.List.{map-append}
 use Rattle.std.proofs.lemmas.List.Sums.{sum_by-append}
 use Rattle.std.proofs.lemmas.Map.Text.{is_eq-slice_cmp}
 use Rattle.std.proofs.lemmas.Slice.Eq.{bytes_eq-Decides}
-use Rattle.fv_tree.specs.Limits as limits
-use Rattle.fv_tree.specs.Plain.{Declaration, Extent, Given, Later, Program}
+use Rattle.fv_tree.specs.Plain.{Declaration, Extent, Given, Later}
 use Rattle.fv_meaning.specs.Names.{is_among, IsInByteOrder}
 use Rattle.fv_meaning.specs.Typed.{dimensions}
 use Rattle.fv_meaning.specs.Profile77.{array_elements}
-use Rattle.fv_meaning.specs.Profile90.{IsDimension, IsDeclaration, IsExtent, AreDeclarations}
-use Rattle.f90_grammar.specs.Forms as forms
-use Rattle.f90_grammar.specs.Forms.{Form}
-use Rattle.f90_grammar.specs.PrintedForms.{Printed, printed_declaration, printed_block, printed_program}
-use Rattle.f90_grammar.specs.Blocks.{Placed, at}
+use Rattle.fv_meaning.specs.Profile90.{IsDimension, IsDeclaration, IsExtent}
+use Rattle.f90_grammar.specs.Blocks.{Placed}
 use Rattle.f90_grammar.specs.Reading.{entity_declaration, AreDeclared}
 use Rattle.f90_grammar.specs.Reading.AreDeclared.{none as nothing, more}
 use Rattle.f90_grammar.specs.Declared.{declarations_in, declarations_of, names_of, is_repeated, declares_again}

@@ -1,26 +1,26 @@
 -- No expression of a printed program is too deep.
 use Rattle.std.specs.Prelude.{nat_lt}
-use Rattle.std.proofs.Common.{◌≡◌, refl, ap, ◌∙◌, ⊎_elim, ℕ, ◌+◌, ◌<◌, ◌≤◌, max, arith, decimal, Bool, true, false, ◌||◌, Option, None, Some, IsSomeAnd, List, [], ◌∷◌, ◌++◌}
+use Rattle.std.proofs.Common.{◌≡◌, refl, ℕ, ◌≤◌, arith, false, Option, None, Some, IsSomeAnd, List, [], ◌∷◌, ◌++◌}
 use Rattle.std.specs.List.{AllByRecursion, list_any}
-use Rattle.std.proofs.lemmas.Bool.{cond_both, le-ltb}
+use Rattle.std.proofs.lemmas.Bool.{le-ltb}
 use Rattle.fv_tree.specs.declared.ops.Kind.{Kind}
 use Rattle.fv_tree.specs.declared.ops.Kind.TheVariants.{Integer, Logical}
 use Rattle.fv_tree.specs.Limits.{expression_depth90}
 use Rattle.fv_tree.specs.Plain as tree
 use Rattle.fv_tree.specs.Plain.{Expression, Expressions, Item, Items, Reference, Declaration}
-use Rattle.fv_meaning.specs.Depths.{depth_of, depth_of_each, depth_of_items}
+use Rattle.fv_meaning.specs.Depths.{depth_of, depth_of_each}
 use Rattle.fv_meaning.specs.Value.{named}
 use Rattle.fv_meaning.specs.Typed90.{HasKind, AreScalars}
-use Rattle.fv_meaning.specs.Profile90.{IsWhole, IsWholeScalar}
+use Rattle.fv_meaning.specs.Profile90.{IsWhole}
 use Rattle.f90_grammar.specs.Phrases.{Phrase, depth}
 use Rattle.f90_grammar.specs.Items as items
 use Rattle.f90_grammar.specs.Items.{ItemPhrase, Of, Text, Loop, ItemPhrases, Direction, Input, Output, item_depth, items_depth, step_depth}
-use Rattle.f90_grammar.specs.Printing.{phrase_of, is_one}
+use Rattle.f90_grammar.specs.Printing.{phrase_of}
 use Rattle.f90_grammar.specs.PrintedForms.{reference_phrase, phrases_of, step_phrase, item_phrases}
 use Rattle.f90_grammar.specs.Forms.{Form}
 use Rattle.f90_grammar.specs.Contents.{is_deep, has_deep_expression, step_expressions, item_expressions, items_expressions, item_variables, items_variables}
 use Rattle.f90_laws.proofs.ItemTrees.{typed_depth, typed_step_depth, printed_outputs_depth, printed_inputs_depth}
-use Rattle.f90_reading_laws.proofs.Lists.{both_false, all_both, all_weaker}
+use Rattle.f90_reading_laws.proofs.Lists.{both_false, all_both}
 use Rattle.f90_unrefused.proofs.PrintedForms.{EachForm}
 
 abbrev IsWithin : ℕ → Phrase → Type 0

@@ -1,6 +1,6 @@
 -- What holds of the phrase of each expression whose kinds suit holds of all expressions in a printed statement, and so it
 -- is with the variables that a statement stores into.
-use Rattle.std.proofs.Common.{◌≡◌, ⊎_elim, ℕ, Option, None, Some, IsSomeAnd, List, [], ◌∷◌, ◌++◌}
+use Rattle.std.proofs.Common.{⊎_elim, ℕ, Option, None, Some, IsSomeAnd, List, ◌∷◌}
 use Rattle.std.specs.List.{AllByRecursion}
 use Rattle.std.proofs.lemmas.Bool.{cond_both}
 use Rattle.fv_tree.specs.declared.ops.Kind.{Kind}
@@ -8,7 +8,7 @@ use Rattle.fv_tree.specs.declared.ops.Kind.TheVariants.{Integer, Logical}
 use Rattle.fv_tree.specs.Plain as tree
 use Rattle.fv_tree.specs.Plain.{Expression, Expressions, Subscripts, Reference, Item, Items, Declaration}
 use Rattle.fv_meaning.specs.Value.{named}
-use Rattle.fv_meaning.specs.Typed90.{HasKind, HasSomeKind, AreScalars, IsOutputItem, AreOutputItems, IsInputItem, AreInputItems}
+use Rattle.fv_meaning.specs.Typed90.{HasKind, AreScalars, IsOutputItem, AreOutputItems, IsInputItem, AreInputItems}
 use Rattle.fv_meaning.specs.Profile90.{IsWhole}
 use Rattle.f90_grammar.specs.Phrases.{Phrase}
 use Rattle.f90_grammar.specs.Items.{ItemPhrase, Of, Text, Loop, ItemPhrases, Sole, More, Direction, Input, Output}

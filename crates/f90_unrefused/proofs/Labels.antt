@@ -1,5 +1,5 @@
 -- The labels of a printed program are those of the tree, so none is 0 or stands twice.
-use Rattle.std.proofs.Common.{◌≡◌, refl, sym, ap, ap₂, subst, ◌∙◌, ℕ, ◌<◌, ◌==◌, arith, decimal, Bool, true, false, ◌||◌, Option, None, Some, List, [], ◌∷◌, ◌++◌, map, append_assoc, append-nil, Contains, ne_eqb}
+use Rattle.std.proofs.Common.{◌≡◌, refl, sym, ap, ap₂, subst, ◌∙◌, ℕ, ◌<◌, ◌==◌, arith, decimal, Bool, true, false, ◌||◌, List, [], ◌∷◌, ◌++◌, map, append_assoc, append-nil, Contains, ne_eqb}
 use Rattle.std.specs.Prelude.{flat_map}
 use Rattle.std.specs.List.{AllByRecursion, list_any}
 use Rattle.std.proofs.lemmas.Fmt.{decimal_is_IsNumeral_wide}
@@ -15,14 +15,14 @@ use Rattle.f90_grammar.specs.Phrases.{value_of_digits}
 use Rattle.f90_grammar.specs.Forms as forms
 use Rattle.f90_grammar.specs.Forms.{Form}
 use Rattle.f90_grammar.specs.PrintedForms.{Printed, unmarked, printed_statement, printed_arms, printed_else, printed_block, printed_declaration, printed_program}
-use Rattle.f90_grammar.specs.Blocks.{Placed, at}
+use Rattle.f90_grammar.specs.Blocks.{Placed}
 use Rattle.f90_grammar.specs.Order.{Place, IsPlaceIn}
 use Rattle.f90_grammar.specs.Surroundings.{label_in, bears_label, is_wrong_label}
 use Rattle.f90_laws.proofs.PhraseLevels.{decimal_digits}
 use Rattle.f90_laws.proofs.PrintedBlocksPlaced.{ArePlaced}
 use Rattle.f90_laws.proofs.PrintedBlocksPlaced.ArePlaced.{none, next}
 use Rattle.f90_reading_laws.proofs.Counts.{label_values, flat_labels}
-use Rattle.f90_reading_laws.proofs.Lists.{here, both_false, all_right}
+use Rattle.f90_reading_laws.proofs.Lists.{here, both_false}
 use Rattle.f90_unrefused.proofs.PrintedForms.{EachForm, at_each}
 
 -- ---- labels that are printed

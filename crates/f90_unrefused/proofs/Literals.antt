@@ -1,27 +1,20 @@
 -- No literal of a printed program is too great.
 use Rattle.std.specs.Prelude.{nat_lt, nat_le, ◌||◌}
-use Rattle.std.proofs.Common.{◌≡◌, refl, ap, ◌∙◌, ⊎_elim, ℕ, ◌+◌, ◌<◌, ◌≤◌, ◌^◌, ◌-◌, arith, decimal, ℤ, pos, negsuc, Bool, true, false, Option, None, Some, IsSomeAnd, List, [], ◌∷◌, ◌++◌, map, FitsSigned, w64, replicate, zero, suc}
+use Rattle.std.proofs.Common.{◌≡◌, refl, ap, ◌∙◌, ℕ, ◌+◌, ◌<◌, ◌^◌, ◌-◌, arith, decimal, ℤ, pos, negsuc, Bool, true, false, Option, List, [], ◌∷◌, ◌++◌, map, FitsSigned, w64, replicate, zero, suc}
 use Rattle.std.specs.List.{AllByRecursion, list_any}
 use Rattle.std.specs.Ordering.{int_eq}
 use Rattle.std.proofs.lemmas.Bool.{cond_both, le-ltb}
 use Rattle.std.proofs.lemmas.Fmt.{decimal_is_IsNumeral_wide}
-use Rattle.std.proofs.lemmas.List.Folds.{list_any-append}
 use Rattle.fv_tree.specs.declared.ops.Op.{Op}
-use Rattle.fv_tree.specs.declared.ops.Op.TheVariants.{Neg, Not}
-use Rattle.fv_tree.specs.declared.ops.Kind.{Kind}
-use Rattle.fv_tree.specs.declared.ops.Kind.TheVariants.{Integer, Logical}
+use Rattle.fv_tree.specs.declared.ops.Op.TheVariants.{Not}
 use Rattle.fv_tree.specs.declared.functions.Intrinsic.{Intrinsic}
 use Rattle.fv_tree.specs.OperatorTable.{left_least, right_least}
 use Rattle.fv_tree.specs.Plain as tree
 use Rattle.fv_tree.specs.Plain.{Expression, Expressions, Subscript, Subscripts, Loops, Item, Items, Reference, Extent, Given, Later, Declaration}
-use Rattle.fv_meaning.specs.Value.{named}
-use Rattle.fv_meaning.specs.Typed90.{HasKind, HasSomeKind, AreScalars, AreOutputItems, AreInputItems, IsOutputItem, IsInputItem, IsInput}
-use Rattle.fv_meaning.specs.Profile90.{IsDimension, IsDeclaration, IsExtent, IsWhole}
-use Rattle.f90_grammar.specs.Phrases.{Phrase, Literal, Paren, Value, Parts, One, Then, Phrases, Sole, More, Turn, Innermost, Round, level, value_of_digits}
-use Rattle.f90_grammar.specs.Items as items
-use Rattle.f90_grammar.specs.Items.{ItemPhrase, Of, Text, Loop, ItemPhrases, Direction, Input, Output}
+use Rattle.fv_meaning.specs.Profile90.{IsDimension, IsExtent}
+use Rattle.f90_grammar.specs.Phrases.{Phrase, Paren, Value, Parts, One, Then, Phrases, Sole, More, Turn, Innermost, Round, level, value_of_digits}
 use Rattle.f90_grammar.specs.Printing.{fit, unary_phrase, is_one, section, digits_of, phrase_of, part_of, more_parts, more_arguments, more_values, rounds, IsLiteral, IsSource, EachIsSource, IsSourceSubscript, AreSource, LoopsAreSource}
-use Rattle.f90_grammar.specs.PrintedForms.{reference_phrase, phrases_of, step_phrase, item_phrase, item_phrases, more_items, bound, dimension, dimensions_of, printed_declaration}
+use Rattle.f90_grammar.specs.PrintedForms.{bound, dimension, dimensions_of}
 use Rattle.f90_grammar.specs.Forms as forms
 use Rattle.f90_grammar.specs.Forms.{Form}
 use Rattle.f90_grammar.specs.Contents.{is_wide, has_wide_literal, part_has_wide_literal, parts_have_wide_literal, values_have_wide_literal, turn_has_wide_literal, is_wide_dimension, is_declared_wide, has_wide_literal_in, expressions_of, variables_of}

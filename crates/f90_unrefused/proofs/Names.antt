@@ -1,21 +1,19 @@
 -- Each name of a printed program is declared, with a dimension for each part in its parentheses.
-use Rattle.std.proofs.Common.{◌≡◌, ◌⊎◌, inl, inr, refl, sym, ap, ◌∙◌, subst, ⊎_elim, ℕ, ◌+◌, arith, Bool, true, false, Option, None, Some, IsSomeAnd, List, [], ◌∷◌, ◌++◌, append-nil, codes}
+use Rattle.std.proofs.Common.{◌≡◌, ◌⊎◌, inl, inr, refl, sym, subst, ℕ, ◌+◌, arith, Bool, true, false, Option, None, Some, IsSomeAnd, List, [], ◌∷◌, ◌++◌, codes}
 use Rattle.std.specs.Prelude.{nat_le, flat_map}
 use Rattle.std.specs.List.{AllByRecursion}
 use Rattle.std.proofs.lemmas.Bool.{cond_both}
 use Rattle.fv_tree.specs.declared.ops.Op.{Op}
-use Rattle.fv_tree.specs.declared.ops.Op.TheVariants.{Neg, Not}
+use Rattle.fv_tree.specs.declared.ops.Op.TheVariants.{Not}
 use Rattle.fv_tree.specs.declared.ops.Kind.{Kind}
-use Rattle.fv_tree.specs.declared.ops.Kind.TheVariants.{Integer, Logical}
+use Rattle.fv_tree.specs.declared.ops.Kind.TheVariants.{Integer}
 use Rattle.fv_tree.specs.OperatorTable.{left_least, right_least, operand_kind}
 use Rattle.fv_tree.specs.declared.functions.Intrinsic.{Intrinsic}
 use Rattle.fv_tree.specs.Functions.{name_of_function, name_of_reduction}
 use Rattle.fv_tree.specs.Plain as tree
 use Rattle.fv_tree.specs.Plain.{Expression, Expressions, Subscript, Subscripts, Loops, Item, Items, Reference, Extent, Declaration}
-use Rattle.fv_meaning.specs.Value.{named}
 use Rattle.fv_meaning.specs.Typed.{declared, rank_of_extent, number_of_subscripts}
-use Rattle.fv_meaning.specs.Typed90.{HasKind, HasSomeKind, AreArguments, AreScalars, AreSubscripts, IsSubscript, AreLoops, IsIntegerScalar, IsOutputItem, AreOutputItems, IsInputItem, AreInputItems}
-use Rattle.fv_meaning.specs.Profile90.{IsWhole, IsAllocatable}
+use Rattle.fv_meaning.specs.Typed90.{HasKind, AreArguments, AreScalars, AreSubscripts, IsSubscript, AreLoops}
 use Rattle.f90_grammar.specs.Phrases as phrases
 use Rattle.f90_grammar.specs.Phrases.{Phrase, Paren, Value, Part, Parts, One, Then, Phrases, Turn, Innermost, Round, level, length_of_parts}
 use Rattle.f90_grammar.specs.Printing.{fit, unary_phrase, is_one, section, phrase_of, part_of, more_parts, more_arguments, more_values, rounds}

@@ -1,16 +1,14 @@
 -- The statements of a program are in order.
-use Rattle.std.proofs.Common.{◌≡◌, refl, sym, ap, ap₂, subst, ◌∙◌, ℕ, Bool, true, false, not, ◌||◌, Option, None, Some, List, [], ◌∷◌, ◌++◌, append_assoc, append-nil, filter, ◌≤◌, ◌+◌, length, arith}
+use Rattle.std.proofs.Common.{◌≡◌, refl, sym, ap, ap₂, subst, ◌∙◌, ℕ, Bool, true, false, not, Option, None, List, [], ◌∷◌, ◌++◌, append_assoc, append-nil, filter, ◌≤◌, arith}
 use Rattle.std.specs.List.{AllByRecursion, list_any, list_all}
-use Rattle.std.specs.Str.{bytes_eq}
 use Rattle.std.proofs.lemmas.Bool.{cond-true, cond-false}
 use Rattle.std.proofs.lemmas.List.Elements.{filter-append}
 use Rattle.std.proofs.lemmas.List.Folds.{list_any-append}
 use Rattle.std.proofs.lemmas.Slice.Eq.{bytes_eq-Decides}
-use Rattle.fv_tree.specs.Plain.{Declaration, Block, Program}
-use Rattle.fv_tree.specs.declared.functions.Intrinsic.{Intrinsic}
+use Rattle.fv_tree.specs.Plain.{Declaration, Program}
 use Rattle.f90_grammar.specs.Forms as forms
 use Rattle.f90_grammar.specs.Forms.{Form}
-use Rattle.f90_grammar.specs.Blocks.{Placed, at, AreBlock}
+use Rattle.f90_grammar.specs.Blocks.{Placed, at}
 use Rattle.f90_grammar.specs.Reading.{IsTitle, MayBeImplicitNone, IsEnd, AreDeclared, IsProgramOf, is_target_in, function_by}
 use Rattle.f90_grammar.specs.Reading.IsTitle.{untitled, titled}
 use Rattle.f90_grammar.specs.Reading.MayBeImplicitNone.{absent, present}
@@ -18,9 +16,9 @@ use Rattle.f90_grammar.specs.Reading.IsEnd.{end, end_program, end_named}
 use Rattle.f90_grammar.specs.Reading.AreDeclared.{none as nothing, more}
 use Rattle.f90_grammar.specs.Declared.{declarations_in, declarations_of}
 use Rattle.fv_meaning.specs.Blocks.{blocks_in}
-use Rattle.f90_grammar.specs.Order.{Place, IsPlaceIn, is_title, is_end, is_executable, title_of, bears, is_misnamed, is_late, ends_wrongly, closes_wrongly, stays_open, opened_behind, is_disordered}
+use Rattle.f90_grammar.specs.Order.{Place, IsPlaceIn, is_title, is_end, is_executable, title_of, is_misnamed, is_late, ends_wrongly, opened_behind, is_disordered}
 use Rattle.f90_reading_laws.proofs.Counts.{executable, OpensWithin}
-use Rattle.f90_reading_laws.proofs.Lists.{both_false, all_left, all_right, all_both, all_weaker}
+use Rattle.f90_reading_laws.proofs.Lists.{both_false, all_right, all_both, all_weaker}
 use Rattle.f90_unrefused.proofs.Blocks.{IsQuiet, AreQuiet, Close, AreClosed, close_both, close_at, closed_at, quiet_close, quiet_closed, quiet_within, within_both, block_closes, block_closed, block_within}
 use Rattle.f90_unrefused.proofs.Declarations.{DeclareNothing, nothing_declared, all_declared, declared_both}
 

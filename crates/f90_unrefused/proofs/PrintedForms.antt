@@ -1,5 +1,5 @@
 -- What holds of the forms that are printed for each kind of statement holds of all statements of a printed program.
-use Rattle.std.proofs.Common.{◌≡◌, refl, subst, ℕ, decimal, List, [], ◌∷◌, ◌++◌, map, Some, None, true, false, IsTrue, IsSomeAnd}
+use Rattle.std.proofs.Common.{◌≡◌, refl, subst, ℕ, decimal, List, [], ◌∷◌, map, IsSomeAnd}
 use Rattle.std.specs.List.{AllByRecursion}
 use Rattle.fv_tree.specs.declared.ops.Kind.TheVariants.{Integer, Logical}
 use Rattle.fv_tree.specs.Limits.{expression_depth90}
@@ -8,13 +8,13 @@ use Rattle.fv_tree.specs.Plain as tree
 use Rattle.fv_tree.specs.Plain.{Expression, Expressions, Reference, Item, Items, Statement, Arms, Block, Declaration, Program}
 use Rattle.fv_meaning.specs.Depths.{depth_of_items}
 use Rattle.fv_meaning.specs.Typed.{declared}
-use Rattle.fv_meaning.specs.Typed90.{AreInputItems, AreOutputItems, IsDoVariable}
+use Rattle.fv_meaning.specs.Typed90.{AreInputItems, AreOutputItems}
 use Rattle.fv_meaning.specs.Blocks.{Surroundings, outermost, within_loop, before_labels, labels_of, IsLabel}
 use Rattle.fv_meaning.specs.Profile90.{IsDeclaration, IsAllocatable, IsWholeScalar, IsAssignment, IsMasked, IsAllocation, IsStatement, AreArms, IsBlock, IsProgram90}
 use Rattle.f90_grammar.specs.Forms as forms
 use Rattle.f90_grammar.specs.Forms.{Form}
 use Rattle.f90_grammar.specs.Printing.{phrase_of}
-use Rattle.f90_grammar.specs.PrintedForms.{Printed, unmarked, reference_phrase, phrases_of, step_phrase, item_phrases, title_of, printed_statement, printed_arms, printed_else, printed_block, printed_declaration, printed_program}
+use Rattle.f90_grammar.specs.PrintedForms.{Printed, reference_phrase, phrases_of, step_phrase, item_phrases, title_of, printed_statement, printed_arms, printed_else, printed_block, printed_declaration, printed_program}
 use Rattle.f90_grammar.specs.Blocks.{Placed}
 use Rattle.f90_grammar.specs.Order.{Place, IsPlaceIn}
 use Rattle.f90_laws.proofs.PrintedBlocksPlaced.{ArePlaced}

@@ -1,21 +1,20 @@
 -- Kinds and ranks suit in each statement of a printed program.
-use Rattle.std.proofs.Common.{◌≡◌, refl, sym, ap, ap₂, ◌∙◌, subst, ℕ, Option, None, Some, IsSomeAnd, List, [], ◌∷◌}
+use Rattle.std.proofs.Common.{◌≡◌, sym, subst, ℕ, Option, None, Some, IsSomeAnd, List, ◌∷◌}
 use Rattle.fv_tree.specs.declared.ops.Kind.{Kind}
 use Rattle.fv_tree.specs.declared.ops.Kind.TheVariants.{Integer, Logical}
 use Rattle.fv_tree.specs.Plain as tree
 use Rattle.fv_tree.specs.Plain.{Expression, Expressions, Item, Items, Reference, Declaration, Later}
 use Rattle.fv_meaning.specs.Value.{named}
-use Rattle.fv_meaning.specs.Typed.{declared}
 use Rattle.fv_meaning.specs.Typed90.{HasKind, IsScalar, IsInput, IsOutputItem, AreOutputItems, IsInputItem, AreInputItems}
-use Rattle.fv_meaning.specs.Profile90.{IsWhole, IsWholeScalar, IsAssignment, IsMasked}
+use Rattle.fv_meaning.specs.Profile90.{IsWhole, IsAssignment, IsMasked}
 use Rattle.fv_meaning.specs.Blocks.{Surroundings}
 use Rattle.f90_grammar.specs.Phrases.{tree_of}
-use Rattle.f90_grammar.specs.Items.{Input, Output, step_tree, item_trees}
+use Rattle.f90_grammar.specs.Items.{Input, Output, step_tree}
 use Rattle.f90_grammar.specs.Printing.{phrase_of}
-use Rattle.f90_grammar.specs.PrintedForms.{reference_phrase, phrases_of, step_phrase, item_phrases}
-use Rattle.f90_grammar.specs.Blocks.{reference_in, trees}
+use Rattle.f90_grammar.specs.PrintedForms.{reference_phrase, step_phrase}
+use Rattle.f90_grammar.specs.Blocks.{reference_in}
 use Rattle.f90_grammar.specs.Reading.{function_by}
-use Rattle.f90_grammar.specs.Suited.{SuitsAssignment, SuitsMask, SuitsList, SuitsItem, SuitsItems, SuitsAllocation, AreNumbers, Suits}
+use Rattle.f90_grammar.specs.Suited.{SuitsAssignment, SuitsMask, SuitsList, SuitsItem, SuitsItems, SuitsAllocation, Suits}
 use Rattle.f90_laws.proofs.PrintedTrees.{typed_reads_back}
 use Rattle.f90_laws.proofs.PrintedBlocksItems.{EachReadsBack, reference_back, scalars_back, step_back, output_back, input_back}
 use Rattle.f90_unrefused.proofs.PrintedForms.{EachForm}

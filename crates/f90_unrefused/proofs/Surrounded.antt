@@ -1,13 +1,13 @@
 -- What surrounds each statement of a printed program suits, whatever the numbers of its lines.
-use Rattle.std.proofs.Common.{◌≡◌, refl, sym, ap, ap₂, subst, ◌∙◌, ℕ, ◌<◌, List, [], ◌∷◌, ◌++◌, Contains}
+use Rattle.std.proofs.Common.{◌≡◌, refl, sym, ap₂, subst, ℕ, ◌<◌, List, ◌∷◌, ◌++◌, Contains}
 use Rattle.std.specs.List.{AllByRecursion}
 use Rattle.std.proofs.lemmas.List.Elements.{All-contains, All-from_recursion}
 use Rattle.fv_tree.specs.Plain as tree
 use Rattle.fv_tree.specs.Plain.{Statement, Arms, Block, Declaration, Item, Items, Program}
 use Rattle.fv_meaning.specs.Typed90.{IsDoVariable, IsInput, IsOutputItem, AreOutputItems, IsInputItem, AreInputItems}
-use Rattle.fv_meaning.specs.Blocks.{Surroundings, outermost, within_loop, before_labels, label_of, labels_of, IsLabel}
+use Rattle.fv_meaning.specs.Blocks.{Surroundings, within_loop, before_labels, label_of, labels_of, IsLabel}
 use Rattle.fv_meaning.specs.Profile90.{IsStatement, AreArms, IsBlock}
-use Rattle.f90_grammar.specs.Items.{Direction, Input, Output}
+use Rattle.f90_grammar.specs.Items.{Input, Output}
 use Rattle.f90_grammar.specs.Surroundings.{StandsIn, StandsWithin, StandsInArms, KeepsVariables, ItemKeepsVariables, ItemsKeepVariables, SuitsSurroundings}
 use Rattle.f90_grammar.specs.Surroundings.StandsIn.{itself, further, inside}
 use Rattle.f90_grammar.specs.Surroundings.StandsWithin.{in_loop, in_arm, in_else}

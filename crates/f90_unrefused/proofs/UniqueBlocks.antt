@@ -1,7 +1,5 @@
 -- Statements form one block at most.
-use Rattle.std.proofs.Common.{◌≡◌, ◌⊎◌, inl, inr, refl, sym, ap, ap₂, subst, ◌∙◌, ℕ, ◌==◌, Bool, true, false, ◌||◌, Option, None, Some, List, [], ◌∷◌, ◌++◌, append_assoc, append-nil}
-use Rattle.std.specs.List.{list_any}
-use Rattle.std.proofs.lemmas.List.Folds.{list_any-append}
+use Rattle.std.proofs.Common.{◌≡◌, ◌⊎◌, inl, inr, refl, sym, ap, ap₂, subst, ◌∙◌, ℕ, Bool, true, false, Option, None, List, [], ◌∷◌, ◌++◌, append_assoc}
 use Rattle.fv_tree.specs.Plain as tree
 use Rattle.fv_tree.specs.Plain.{Expression, Statement, Arms, Block}
 use Rattle.fv_tree.specs.declared.stmts.Mark.{Mark}
@@ -14,7 +12,6 @@ use Rattle.f90_grammar.specs.Blocks.{Placed, at, reference_in, trees, IsSimple, 
 use Rattle.f90_grammar.specs.Blocks.IsSimple.{assigns, masks, goes, stops, reads, reads_nothing, prints, prints_nothing, allocates, deallocates}
 use Rattle.f90_grammar.specs.Blocks.AreBlock.{nothing, label, unnamed, simple, test, branch, loop}
 use Rattle.f90_grammar.specs.Blocks.AreArms.{ends, other, further}
-use Rattle.f90_grammar.specs.Reading.{names_label, arms_name_label, is_target_in}
 
 -- ---- what can't begin a block
 

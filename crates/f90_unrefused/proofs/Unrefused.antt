@@ -1,31 +1,28 @@
 -- The text of a printed program isn't refused.
-use Rattle.std.proofs.Common.{◌≡◌, ◌⊎◌, inl, inr, refl, sym, ap, ap₂, subst, ◌∙◌, ℕ, ◌+◌, ◌<◌, ◌≤◌, max, arith, Bool, true, false, not, ◌&&◌, ◌||◌, IsTrue, Option, None, Some, List, [], ◌∷◌, ◌++◌, map, length, append-nil}
+use Rattle.std.proofs.Common.{◌≡◌, ◌⊎◌, inl, inr, refl, sym, ap, ap₂, subst, ◌∙◌, ℕ, ◌+◌, ◌<◌, ◌≤◌, max, arith, Bool, true, ◌&&◌, IsTrue, List, [], ◌∷◌, map, length}
 use Rattle.std.specs.Prelude.{nat_le, sum}
-use Rattle.std.specs.List.{AllByRecursion, filter}
+use Rattle.std.specs.List.{AllByRecursion}
 use Rattle.std.proofs.lemmas.Bool.{leb-true}
 use mathlib.Core.Path.{fun_ext}
 use Rattle.fv_tree.specs.Limits as limits
 use Rattle.fv_tree.specs.Plain as tree
 use Rattle.fv_tree.specs.Plain.{Statement, Arms, Block, Declaration, Program}
-use Rattle.fv_tree.specs.declared.functions.Intrinsic.{Intrinsic}
 use Rattle.fv_tree.specs.declared.refusals.Cause.{Cause}
 use Rattle.fv_tree.specs.declared.refusals.Cause.TheVariants.{WideLiteral90, Deep90, Structure, Declared90, TypeClash90, Limit90}
-use Rattle.fv_meaning.specs.Blocks.{Surroundings, outermost, blocks_of, blocks_in_arms, blocks_in}
+use Rattle.fv_meaning.specs.Blocks.{outermost, blocks_of, blocks_in_arms, blocks_in}
 use Rattle.fv_meaning.specs.Profile90.{IsProgram90, IsDeclaration}
 use Rattle.fv_meaning.specs.Profile77.{array_elements}
 use Rattle.fv_meaning.specs.Names.{IsInByteOrder}
 use Rattle.fv_meaning.specs.Typed.{dimensions}
-use Rattle.f90_grammar.specs.Forms.{Form}
 use Rattle.f90_grammar.specs.PrintedForms.{Printed, printed_program}
-use Rattle.f90_grammar.specs.PrintedText.{IsNote, printed90}
 use Rattle.f90_grammar.specs.Blocks.{Placed, AreBlock}
 use Rattle.f90_grammar.specs.Reading.{IsProgramOf, is_target_in, function_by}
-use Rattle.f90_grammar.specs.Order.{Place, IsPlaceIn, is_executable, blocks_round}
+use Rattle.f90_grammar.specs.Order.{Place, IsPlaceIn, blocks_round}
 use Rattle.f90_grammar.specs.Phrases.{SuitsCalls}
 use Rattle.f90_grammar.specs.Contents.{VariableSuitsCalls, SuitsCallsIn}
 use Rattle.f90_grammar.specs.Declared.{declarations_of, names_of, functions_in, declares_again, HasKnownNames}
 use Rattle.f90_grammar.specs.Suited.{Suits}
-use Rattle.f90_grammar.specs.Surroundings.{AreBody, IsMisplaced, StandsIn, SuitsSurroundings}
+use Rattle.f90_grammar.specs.Surroundings.{AreBody, IsMisplaced, SuitsSurroundings}
 use Rattle.f90_grammar.specs.Surroundings.IsMisplaced.{HasWrongLabel, HasWrongSurroundings}
 use Rattle.f90_grammar.specs.Bounds.{PassesLimit, opens_block}
 use Rattle.f90_grammar.specs.Bounds.PassesLimit.{OfBlocks, OfBounds, OfElements}
@@ -33,7 +30,7 @@ use Rattle.f90_grammar.specs.Refusals.{HoldsAt, HoldsIn}
 use Rattle.f90_grammar.specs.Refusals.HoldsIn.{AtPlace, HasNoStatement, IsWrongInBlocks}
 use Rattle.f90_laws.specs.ReadBack.{without_numbers, arms_without_numbers, block_without_numbers, SameButNumbers}
 use Rattle.f90_laws.proofs.PrintedBlocksPlaced.{ArePlaced}
-use Rattle.f90_laws.proofs.PrintedBlocksPlaced.ArePlaced.{none, next}
+use Rattle.f90_laws.proofs.PrintedBlocksPlaced.ArePlaced.{next}
 use Rattle.f90_laws.proofs.PrintedBlocksBack.{each_readable}
 use Rattle.f90_laws.proofs.PrintedBlocksProgram.{program_back}
 use Rattle.f90_laws.proofs.PrintedLines.{text_read}
@@ -41,7 +38,7 @@ use Rattle.f90_laws.proofs.PrintedLinesTaken.{program_suits}
 use Rattle.f90_laws.proofs.PrintedTrees.{typed_reads_back}
 use Rattle.f90_laws.proofs.PrintedWords.{printed_is_spelled}
 use Rattle.f90_reading_laws.proofs.Counts.{OpensWithin}
-use Rattle.f90_reading_laws.proofs.Lists.{all_right, all_weaker, left_true, right_true}
+use Rattle.f90_reading_laws.proofs.Lists.{all_weaker, left_true, right_true}
 use Rattle.f90_unrefused.specs.Unrefused.{CallsSuit, PrintedProgramIsReadWell}
 use Rattle.f90_unrefused.proofs.Blocks.{within_at}
 use Rattle.f90_unrefused.proofs.Lines.{no_line_cause}
