@@ -1,4 +1,5 @@
--- What a rule makes of a tree, from the leaves up: the parts of a node have become what they become before the node does.
+-- What a rule makes of a tree, from the leaves up: the parts of a node have become what they become before the node
+-- does.
 use Rattle.std.specs.Prelude.{Bool, IsTrue, List, ℕ}
 use Rattle.fv_tree.specs.Plain.{Expression, Number, Logic, Named, Unary, Binary, Apply, Constructor, Spread, Transpose}
 use Rattle.fv_tree.specs.Plain.{Reshape, Reduce, Expressions, no_expressions, expression, Subscript, Only, Section}

@@ -91,7 +91,8 @@ fn rewrite_turns<R: Rule>(
     turns: &Seq<Turn>,
     rule: &mut R,
 ) -> Result<Seq<Turn>, Memory>
-    ensures made { IfOk result (λ new. loops (map loop_of new) ≡ made_loops (R.making rule.old) (loops (map loop_of turns.now))) }
+    ensures made { IfOk result (λ new. loops (map loop_of new)
+        ≡ made_loops (R.making rule.old) (loops (map loop_of turns.now))) }
     ensures same { R.making rule.new ≡ R.making rule.old }
 {
     let mut made = Seq::new(alloc);

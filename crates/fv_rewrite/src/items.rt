@@ -56,7 +56,8 @@ pub fn rewrite_inputs<R: Rule>(
     list: &Seq<Item>,
     rule: &mut R,
 ) -> Result<Seq<Item>, Memory>
-    ensures made { IfOk result (λ new. items (map item_of new) ≡ made_inputs (R.making rule.old) (items (map item_of list.now))) }
+    ensures made { IfOk result (λ new. items (map item_of new)
+        ≡ made_inputs (R.making rule.old) (items (map item_of list.now))) }
     ensures same { R.making rule.new ≡ R.making rule.old }
 {
     let mut made = Seq::new(alloc);
@@ -92,7 +93,8 @@ pub fn rewrite_outputs<R: Rule>(
     list: &Seq<Item>,
     rule: &mut R,
 ) -> Result<Seq<Item>, Memory>
-    ensures made { IfOk result (λ new. items (map item_of new) ≡ made_outputs (R.making rule.old) (items (map item_of list.now))) }
+    ensures made { IfOk result (λ new. items (map item_of new)
+        ≡ made_outputs (R.making rule.old) (items (map item_of list.now))) }
     ensures same { R.making rule.new ≡ R.making rule.old }
 {
     let mut made = Seq::new(alloc);

@@ -71,7 +71,8 @@ impl Rule for Substitution {
 /// The expression with each reference to a scalar variable replaced. Where the variable and its replacement have one
 /// value, the expression keeps its value, or its fault.
 pub fn substitute(alloc: Global, expr: Expr, name: Name, by: &Expr) -> Result<Expr, Memory>
-    ensures made { IfOk result (λ new. expression_of new ≡ substituted name (expression_of by.now) (expression_of expr)) }
+    ensures made { IfOk result (λ new. expression_of new
+        ≡ substituted name (expression_of by.now) (expression_of expr)) }
     ensures value { IfOk result (λ new. (bits : ℕ) (s : Store) → StandsFor bits name (expression_of by.now) s
         → value_of (sequential bits) (expression_of new) s ≡ value_of (sequential bits) (expression_of expr) s) }
 {

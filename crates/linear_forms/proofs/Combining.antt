@@ -1,7 +1,6 @@
 -- The affine form of a sum with a multiple.
-use Rattle.std.proofs.Common.{◌≡◌, refl, sym, ap, ◌∙◌, subst, ℕ, zero, suc, ◌+◌, ◌-◌, ◌≤◌, ◌<◌, ℤ, pos, ◌+ℤ◌, ◌*ℤ◌, Bool, true, false, cond, ◌&&◌, List, [], ◌∷◌, ◌++◌, map, take, drop, length, get_or, replicate, Option, Some, None, ◌⊎◌, inl, inr, arith}
+use Rattle.std.proofs.Common.{◌≡◌, refl, sym, ap, ◌∙◌, subst, ℕ, zero, suc, ◌+◌, ◌-◌, ◌≤◌, ◌<◌, ℤ, pos, ◌+ℤ◌, ◌*ℤ◌, Bool, true, false, cond, ◌&&◌, List, [], ◌∷◌, map, take, drop, length, get_or, replicate, Option, Some, None, ◌⊎◌, inl, inr, arith}
 use Rattle.std.specs.Prelude.{nat_le}
-use Rattle.std.specs.Ordering.{int_eq}
 use Rattle.std.proofs.lemmas.Bool.{leb-true, le-leb}
 use Rattle.std.proofs.lemmas.Int.{ints}
 use Rattle.std.proofs.Math.IntN.{*ℤ-zero, +ℤ_idl}
@@ -9,9 +8,9 @@ use mathlib.Core.Path.{ap₂}
 use Rattle.subscripts.specs.declared.affine.Affine.{Affine}
 use Rattle.linear_forms.specs.Linear.{Form, is_small, all_small, not_zero, added, sum, multiple, is_limited, limited}
 use Rattle.linear_forms.specs.Merging.{IsCombined, IsTooLarge, merged, all_pushed, front_used}
-use Rattle.linear_forms.specs.Places.{terms_from, padded, IsAffineOf, IsFound}
+use Rattle.linear_forms.specs.Places.{terms_from, IsAffineOf, IsFound}
 use Rattle.linear_forms.specs.declared.terms.Terms.{Terms}
-use Rattle.linear_forms.proofs.Merges.{Term, merged_terms, used_terms, Holds, Outcome, pushes}
+use Rattle.linear_forms.proofs.Merges.{merged_terms, used_terms, Holds, Outcome, pushes}
 
 -- ---- lists place by place
 

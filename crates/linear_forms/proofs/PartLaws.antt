@@ -1,15 +1,13 @@
 -- The forms of parts of an expression.
-use Rattle.std.proofs.Common.{◌≡◌, refl, sym, ap, ◌∙◌, subst, ℕ, zero, suc, ◌+◌, ◌≤◌, ◌<◌, ℤ, pos, negsuc, ◌+ℤ◌, ◌*ℤ◌, Bool, true, false, cond, List, [], ◌∷◌, ◌++◌, map, take, drop, length, get_or, replicate, Option, Some, None, arith}
+use Rattle.std.proofs.Common.{◌≡◌, refl, sym, ap, ◌∙◌, subst, ℕ, zero, suc, ◌≤◌, ℤ, pos, negsuc, ◌*ℤ◌, Bool, true, false, List, [], ◌∷◌, map, take, drop, get_or, replicate, Option, Some, None, arith}
 use Rattle.std.specs.Prelude.{is_some}
-use Rattle.std.specs.Str.{bytes_eq}
 use Rattle.std.proofs.lemmas.Int.{ints}
 use Rattle.std.proofs.Math.IntN.{+ℤ_idl}
 use Rattle.fv_tree.specs.declared.ops.Op.{Op}
-use Rattle.fv_tree.specs.declared.ops.Op.TheVariants.{Pow, Mul, Div, Neg, Add, Sub, Lt, Le, Eq, Ne, Gt, Ge, Not, And, Or, Eqv, Neqv}
-use Rattle.fv_tree.specs.declared.ops.Value.{Value}
+use Rattle.fv_tree.specs.declared.ops.Op.TheVariants.{Mul, Neg, Add, Sub}
 use Rattle.fv_tree.specs.Plain.{Expression, Number, Logic, Named, Unary, Binary, Apply, Constructor, Spread, Transpose, Reshape, Reduce}
 use Rattle.subscripts.specs.declared.affine.Affine.{Affine}
-use Rattle.linear_forms.specs.Linear.{Form, added, sum, multiple, constant_form, is_limited, limited, linear, constant_value, as_constant, constant_of, constant_or, form_of_sign, form_of_product, form_of_two, form_of_pair, form_of_name}
+use Rattle.linear_forms.specs.Linear.{Form, sum, multiple, constant_form, limited, linear, constant_value, as_constant, constant_of, constant_or, form_of_sign, form_of_product, form_of_two, form_of_pair, form_of_name}
 use Rattle.std.specs.declared.boxed.Box.{Box}
 use Rattle.std.specs.declared.alloc.Global.{Global}
 use Rattle.fv_tree.specs.Plain.{Expressions, expressions}

@@ -1,5 +1,5 @@
 -- The parts of a text by the signs of their numbers.
-use Rattle.std.proofs.Common.{◌≡◌, refl, sym, ap, ◌∙◌, subst, ℕ, zero, suc, ◌+◌, ◌<◌, ◌≤◌, ℤ, pos, negsuc, Option, Some, None, List, [], ◌∷◌, ◌≤ℤ◌, ◌<ℤ◌, arith}
+use Rattle.std.proofs.Common.{◌≡◌, refl, sym, ap, ◌∙◌, subst, ℕ, zero, suc, ℤ, pos, negsuc, Option, Some, None, List, [], ◌∷◌, ◌≤ℤ◌, ◌<ℤ◌, arith}
 use Rattle.std.proofs.Common.{Result, Ok, Err}
 use Rattle.std.specs.Prelude.{unsigned_abs, IfOk, slice_get}
 use Rattle.fv_tree.specs.declared.exprs.Expr.{Expr}

@@ -1,18 +1,17 @@
 -- The form of a name by itself.
-use Rattle.std.proofs.Common.{◌≡◌, refl, sym, ap, ◌∙◌, subst, ℕ, zero, suc, ◌+◌, ◌-◌, ◌≤◌, ◌<◌, ℤ, pos, Bool, true, false, cond, ◌&&◌, not, List, [], ◌∷◌, ◌++◌, map, take, drop, length, get_or, set, replicate, Option, Some, None, arith, append-nil}
+use Rattle.std.proofs.Common.{◌≡◌, refl, sym, ap, ◌∙◌, subst, ℕ, zero, suc, ◌+◌, ◌≤◌, ◌<◌, ℤ, pos, Bool, true, false, cond, ◌&&◌, not, List, [], ◌∷◌, ◌++◌, map, take, drop, length, get_or, set, replicate, Option, Some, None, arith, append-nil}
 use Rattle.std.specs.Prelude.{nat_le, nat_lt}
 use Rattle.std.specs.List.{position, position_or_len}
 use Rattle.std.specs.Str.{bytes_eq}
 use Rattle.std.proofs.lemmas.Bool.{le-leb, ltb-false}
 use Rattle.std.proofs.lemmas.Bool.Decides.{Decides-ltb}
-use Rattle.subscripts.specs.declared.affine.Affine.{Affine}
 use Rattle.fv_tree.specs.Plain.{Reference, subscripts}
 use Rattle.fv_tree.specs.View.{reference_of, subscript_of}
 use Rattle.fv_tree.specs.declared.exprs.Sub.{Sub}
 use Rattle.fv_tree.specs.declared.exprs.Ref.{Ref, out-Ref}
 use Rattle.fv_tree.proofs.Equations.{reference_of-is}
-use Rattle.linear_forms.specs.Linear.{Form, is_small, all_small, not_zero, is_limited, limited, unit, with_zero, with_no_constant, form_of_name}
-use Rattle.linear_forms.specs.Places.{terms_from, padded, unit_form, IsAffineOf, IsFound}
+use Rattle.linear_forms.specs.Linear.{is_small, all_small, not_zero, is_limited, limited, unit, with_zero, with_no_constant, form_of_name}
+use Rattle.linear_forms.specs.Places.{terms_from, padded, unit_form, IsFound}
 use Rattle.linear_forms.proofs.Combining.{found}
 
 zeros_at : (m k : ℕ) → get_or (replicate m (pos 0)) k (pos 0) ≡ pos 0

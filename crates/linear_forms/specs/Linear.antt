@@ -1,5 +1,5 @@
--- Linear forms of expressions (Allen and Kennedy, "Optimizing Compilers for Modern Architectures", section 2.3): a sum of
--- variables with whole coefficients, and a constant.
+-- Linear forms of expressions (Allen and Kennedy, "Optimizing Compilers for Modern Architectures", section 2.3): a sum
+-- of variables with whole coefficients, and a constant.
 use Rattle.std.specs.Prelude.{◌≡◌, Result, Ok, Err, Option, Some, None, ℕ, suc, nat_le, ℤ, pos, negsuc, ◌+ℤ◌}
 use Rattle.std.specs.Prelude.{◌*ℤ◌, nat_abs, Bool, true, ◌&&◌, if◌then◌else◌, List, [], ◌∷◌, ◌++◌, map, drop, length}
 use Rattle.std.specs.Ordering.{int_eq}

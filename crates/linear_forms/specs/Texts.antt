@@ -22,4 +22,5 @@ with_symbols o (t ∷ ts) names = with_symbols (with_place o t.1 (slice_get name
 
 -- the loop terms from the outside in, the symbols, the constant
 abbrev pub text_of : List (List ℕ) → List (List ℕ) → Affine → Expression
-text_of loops symbols a = with_constant (with_symbols (with_terms None a.loops (variables loops)) a.syms symbols) a.constant
+text_of loops symbols a =
+    with_constant (with_symbols (with_terms None a.loops (variables loops)) a.syms symbols) a.constant

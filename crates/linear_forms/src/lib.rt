@@ -5,6 +5,8 @@ mod constants;
 mod forms;
 mod laws;
 mod terms;
+#[cfg(test)]
+mod tests;
 mod texts;
 
 pub use constants::constant_value;

@@ -1,4 +1,4 @@
-use Rattle.std.proofs.Common.{◌≡◌, ◌∙◌, ap, sym, map, Option, Some, None, arith, rules}
+use Rattle.std.proofs.Common.{◌≡◌, ◌∙◌, ap, sym, map, Some, None, arith, rules}
 use Rattle.fv_tree.specs.Plain.{Apply, expressions}
 use Rattle.fv_tree.specs.View.{expression_of}
 use Rattle.linear_forms.specs.Linear.{constant_value, known}

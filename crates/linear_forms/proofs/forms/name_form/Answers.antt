@@ -1,6 +1,4 @@
-use Rattle.std.proofs.Common.{◌≡◌, ◌∙◌, ◌++◌, ◌<◌, ◌^◌, sym, subst, true, false, [], Some, None, length, rules, arith}
-use Rattle.std.specs.List.{position}
-use Rattle.std.specs.Str.{bytes_eq}
+use Rattle.std.proofs.Common.{◌≡◌, ◌∙◌, ◌++◌, sym, subst, true, false, [], None, length, rules, arith}
 use Rattle.fv_tree.specs.declared.exprs.Ref.{out-Ref}
 use Rattle.linear_forms.specs.Linear.{limited}
 use Rattle.linear_forms.specs.Places.{IsFound}

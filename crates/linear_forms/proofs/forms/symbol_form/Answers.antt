@@ -1,4 +1,4 @@
-use Rattle.std.proofs.Common.{◌≡◌, ◌+◌, sym, subst, ℕ, pos, set, replicate, Some, rules}
+use Rattle.std.proofs.Common.{◌≡◌, ◌+◌, sym, subst, pos, set, replicate, Some, rules}
 use Rattle.linear_forms.specs.Linear.{limited}
 use Rattle.linear_forms.specs.Places.{IsFound, unit_form}
 use Rattle.linear_forms.proofs.Units.{symbol_found}

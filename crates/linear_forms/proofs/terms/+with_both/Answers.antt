@@ -1,4 +1,4 @@
-use Rattle.std.proofs.Common.{◌≡◌, ◌∙◌, sym, ap, ◌+ℤ◌, ◌*ℤ◌, Option, Some, None, List, ◌∷◌, rules}
+use Rattle.std.proofs.Common.{◌≡◌, ◌∙◌, sym, ap, ◌+ℤ◌, ◌*ℤ◌, Option, ◌∷◌, rules}
 use Rattle.linear_forms.specs.Merging.{merged, pushed, then_pushed, all_pushed}
 use Rattle.linear_forms.specs.declared.terms.Terms.{Terms}
 use Rattle.linear_forms.proofs.Merges.{merged_equal}

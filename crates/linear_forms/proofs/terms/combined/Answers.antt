@@ -1,12 +1,10 @@
-use Rattle.std.proofs.Common.{◌≡◌, ◌∙◌, sym, ap, subst, ◌+ℤ◌, ◌*ℤ◌, ℤ, List, Option, Some, None, true, rules, SFits, to_z, of_z, arith}
+use Rattle.std.proofs.Common.{◌≡◌, ◌∙◌, sym, subst, ◌+ℤ◌, ◌*ℤ◌, ℤ, List, Option, Some, None, rules, SFits}
 use Rattle.std.specs.Prelude.{MatchOption}
 use Rattle.std.specs.Int.{w64}
 use Rattle.std.proofs.lemmas.Int.{to_z-of_z}
-use Rattle.linear_forms.specs.Linear.{is_small}
 use Rattle.linear_forms.specs.Merging.{small_or_none, IsCombined, IsTooLarge, merged, all_pushed, front_used}
-use Rattle.linear_forms.specs.declared.terms.Terms.{Terms}
 use Rattle.linear_forms.proofs.Sums.{small_is}
-use Rattle.linear_forms.proofs.Combining.{lost_loops, lost_terms, lost_constant, kept, nothing_yet}
+use Rattle.linear_forms.proofs.Combining.{lost_loops, lost_terms, kept, nothing_yet}
 use Rattle.linear_forms.proofs.terms.combined.Goals as goal
 
 pub returns-in_default : goal.returns-in_default

@@ -1,5 +1,5 @@
 -- the coefficients so far are combined, and the others are 0
-use Rattle.std.proofs.Common.{◌≡◌, ◌≤◌, ◌<◌, ◌+ℤ◌, ◌*ℤ◌, ℕ, pos, true, get_or, length}
+use Rattle.std.proofs.Common.{◌≡◌, ◌<◌, ◌+ℤ◌, ◌*ℤ◌, ℕ, pos, true, get_or, length}
 use Rattle.linear_forms.specs.Linear.{is_small}
 use Rattle.linear_forms.proofs.terms.combined_loops.Given as goal
 

@@ -1,4 +1,4 @@
-use Rattle.std.proofs.Common.{◌≡◌, ◌∷◌, Ok, rules, arith, SFits, to_z, of_z, subst}
+use Rattle.std.proofs.Common.{◌≡◌, ◌∷◌, Ok, rules, arith, SFits, subst}
 use Rattle.std.specs.Prelude.{slice_get, IfOk}
 use Rattle.std.specs.Int.{w64}
 use Rattle.std.proofs.lemmas.Int.{to_z-of_z}
