@@ -1,6 +1,6 @@
 -- The places of what is selected, row by row.
 use Rattle.std.proofs.Common.{◌≡◌, refl, sym, ap, ◌∙◌, subst, zero, suc, ℕ, ℤ, ◌+◌, ◌*◌, ◌^◌, ◌-◌, ◌<◌, ◌≤◌, ◌-ℤ◌, Bool, true, false, cond, List, [], ◌∷◌, ◌++◌, map, length, get_or, Option, Some, None, arith}
-use Rattle.std.specs.Prelude.{All, min, int_le, ◌&&◌, nat_abs}
+use Rattle.std.specs.Prelude.{All, min, nat_abs}
 use Rattle.std.specs.List.{flat_map}
 use Rattle.std.specs.Option.{option_map}
 use mathlib.Core.Path.{ap₂}
@@ -11,7 +11,7 @@ use Rattle.fv_meaning.specs.Sections.{Axis, numbers_of, stands_in, all_stand_in}
 use Rattle.fv_meaning.specs.Profile77.{elements_of}
 use Rattle.fv_machine.specs.Storage.{offset, joined}
 use Rattle.fv_machine.proofs.StoreLaws.{both_true, number_inside, offset_below}
-use Rattle.array_places.specs.Places.{AxesStand, place_in, row, somes, index_in}
+use Rattle.array_places.specs.Places.{AxesStand, row, somes, index_in}
 
 one_row : (b : ℤ × ℤ) (bs : List (ℤ × ℤ)) (r : List ℤ) (k : ℕ) (zs : List ℤ) → all_stand_in b zs ≡ true → offset bs r ≡ Some k
     → map (offset (b ∷ bs)) (map (λ x. x ∷ r) zs) ≡ somes (row b zs k)

@@ -1,5 +1,5 @@
 -- The later stages of an array assignment, by places.
-use Rattle.std.proofs.Common.{◌≡◌, refl, sym, ap, ◌∙◌, subst, zero, suc, ℕ, ℤ, ◌+◌, ◌*◌, ◌<◌, ◌≤◌, Bool, true, false, cond, List, [], ◌∷◌, ◌++◌, map, length, get_or, Option, Some, None, Result, Ok, Err, arith}
+use Rattle.std.proofs.Common.{◌≡◌, refl, sym, ap, ◌∙◌, zero, suc, ℕ, ℤ, ◌+◌, ◌*◌, ◌<◌, ◌≤◌, Bool, true, false, cond, List, [], ◌∷◌, ◌++◌, map, length, get_or, Option, Some, Result, Ok, Err, arith}
 use Rattle.std.specs.Prelude.{All}
 use Rattle.std.proofs.Common.{take}
 use Rattle.fv_tree.specs.declared.ops.Fault.TheVariants.{Overflow}

@@ -1,11 +1,10 @@
 -- What is selected stands within the bounds.
-use Rattle.std.proofs.Common.{◌≡◌, refl, sym, ap, ◌∙◌, subst, ℕ, ℤ, pos, ◌+ℤ◌, Bool, true, false, cond, List, [], ◌∷◌, Result, Ok, Err}
-use Rattle.std.specs.Prelude.{int_le, ◌&&◌}
+use Rattle.std.proofs.Common.{◌≡◌, refl, ap, subst, ℤ, pos, Bool, true, false, cond, List, [], ◌∷◌, Result, Ok, Err}
+use Rattle.std.specs.Prelude.{◌&&◌}
 use Rattle.std.specs.Ordering.{int_eq}
 use Rattle.fv_tree.specs.Steps.{◌>>=◌}
 use Rattle.fv_tree.specs.declared.ops.Fault.{Fault}
 use Rattle.fv_tree.specs.declared.ops.Fault.TheVariants.{Bounds, ZeroStep}
-use Rattle.fv_meaning.specs.Store.{size_of, numbers_from}
 use Rattle.fv_meaning.specs.Sections.{Axis, Fixed, Along, Selector, Index, Triplet, Vector, numbers_of, stands_in, all_stand_in, along, axis_on, axes_on, triplet_numbers}
 use Rattle.array_values.specs.declared.failure.Failure.{Failure}
 use Rattle.array_values.specs.declared.failure.Failure.TheVariants as failure

@@ -1,16 +1,15 @@
 -- All elements of an array, in order.
-use Rattle.std.proofs.Common.{◌≡◌, refl, sym, ap, ◌∙◌, subst, zero, suc, ℕ, ℤ, pos, negsuc, ◌+◌, ◌*◌, ◌<◌, ◌≤◌, ◌+ℤ◌, ◌-ℤ◌, ◌≤ℤ◌, Bool, true, false, cond, List, [], ◌∷◌, ◌++◌, map, length, get_or, Option, Some, None, arith}
-use Rattle.std.specs.Prelude.{int_le, ◌&&◌, nat_abs, All}
+use Rattle.std.proofs.Common.{◌≡◌, refl, sym, ap, ◌∙◌, zero, suc, ℕ, ℤ, pos, negsuc, ◌+◌, ◌*◌, ◌<◌, ◌≤◌, ◌+ℤ◌, ◌-ℤ◌, ◌≤ℤ◌, true, List, [], ◌∷◌, ◌++◌, map, length, arith}
+use Rattle.std.specs.Prelude.{◌&&◌, nat_abs, All}
 use Rattle.std.specs.List.{flat_map}
 use mathlib.Core.Path.{ap₂}
 use Rattle.std.proofs.lemmas.Int.{ints}
-use Rattle.std.proofs.lemmas.List.{map-append}
 use Rattle.fv_meaning.specs.Store.{size_of, numbers_from, column_major}
 use Rattle.fv_meaning.specs.ArrayValues.{counted}
-use Rattle.fv_meaning.specs.Sections.{Axis, Along, numbers_of, stands_in, all_stand_in, whole_axes, extents_of}
+use Rattle.fv_meaning.specs.Sections.{numbers_of, stands_in, all_stand_in, whole_axes, extents_of}
 use Rattle.fv_meaning.specs.Profile77.{elements_of}
 use Rattle.fv_machine.specs.Storage.{offset}
-use Rattle.array_places.specs.Places.{place_in, row, somes}
+use Rattle.array_places.specs.Places.{row, somes}
 use Rattle.array_places.proofs.Rows.{all_rows}
 use Rattle.array_values.proofs.Positions.{counted_append}
 

@@ -1,5 +1,6 @@
 -- The places of what is selected (ISO/IEC 1539:1991, sections 6.2.2.2 and 6.2.2.3).
-use Rattle.std.specs.Prelude.{◌≡◌, true, ℕ, ◌+◌, ◌*◌, ℤ, pos, ◌-ℤ◌, nat_abs, Option, Some, None, if◌then◌else◌, List, [], ◌∷◌, map, get_or}
+use Rattle.std.specs.Prelude.{◌≡◌, true, ℕ, ◌+◌, ◌*◌, ℤ, pos, ◌-ℤ◌, nat_abs}
+use Rattle.std.specs.Prelude.{Option, Some, None, if◌then◌else◌, List, [], ◌∷◌, map, get_or}
 use Rattle.fv_tree.specs.declared.ops.Value.{Value}
 use Rattle.fv_tree.specs.declared.ops.Value.TheVariants.{Int}
 use Rattle.fv_meaning.specs.Store.{size_of}

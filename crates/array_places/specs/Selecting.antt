@@ -1,5 +1,5 @@
 -- What a reference selects (ISO/IEC 1539:1991, section 6.2.2).
-use Rattle.std.specs.Prelude.{◌≡◌, Result, Ok, Err, ℕ, ◌<◌, ℤ, List, map, length, All}
+use Rattle.std.specs.Prelude.{◌≡◌, Result, Ok, Err, ◌<◌, ℤ, List, map, length, All}
 use Rattle.fv_tree.specs.declared.ops.Fault.{Fault}
 use Rattle.fv_meaning.specs.Store.{column_major}
 use Rattle.fv_meaning.specs.ArrayValues.{size}

@@ -16,7 +16,8 @@ use Rattle.array_places.specs.declared.writes.Writes.{Writes}
 use Rattle.array_places.specs.Places.{somes}
 
 -- the later stages of an array assignment to what is selected of the name x, under a mask
-abbrev pub stored_under : Dialect → Elements Value → List ℕ → List Axis → Elements Value → Result (List (Cell × Value)) Fault
+abbrev pub stored_under : Dialect → Elements Value → List ℕ → List Axis → Elements Value
+    → Result (List (Cell × Value)) Fault
 stored_under d mask x axes g = do
   chosen ← where_true mask (zip (positions (extents_of axes)) (cells_along x axes))
   xs ← each (λ p. g.at p.0) chosen
@@ -29,7 +30,8 @@ pub record AreWrites (bs : List (ℤ × ℤ)) (x : List ℕ) (w : Writes) (ws : 
   pub places : map (λ (p : Cell × Value). offset bs p.0.subscripts) ws ≡ somes w.places
   pub values : map second ws ≡ w.values
 
-pub record StoresThese (bs : List (ℤ × ℤ)) (x : List ℕ) (q : Result (List (Cell × Value)) Fault) (w : Writes) : Type 0 where
+pub record StoresThese (bs : List (ℤ × ℤ)) (x : List ℕ) (q : Result (List (Cell × Value)) Fault) (w : Writes)
+    : Type 0 where
   pub writes : List (Cell × Value)
   pub are : q ≡ Ok writes
   pub stored : AreWrites bs x w writes

@@ -1,5 +1,6 @@
 //! The places of elements. A dimension whose upper bound is below the lower one has none.
-ghost use Rattle.std.specs.Prelude.{◌≡◌, ◌<◌, ◌≤◌, ◌+◌, ◌-◌, ◌*◌, ◌^◌, ℕ, [], Some, map, min, IfOk, IfSome, MatchOption};
+ghost use Rattle.std.specs.Prelude.{◌≡◌, ◌<◌, ◌≤◌, ◌+◌, ◌-◌, ◌*◌, ◌^◌};
+ghost use Rattle.std.specs.Prelude.{ℕ, [], Some, map, min, IfOk, IfSome, MatchOption};
 ghost use Rattle.std.specs.Option.{option_map};
 ghost use Rattle.fv_tree.specs.View.{bounds_of};
 ghost use Rattle.fv_meaning.specs.Store.{size_of};
@@ -32,7 +33,8 @@ fn saturated_elements(dims: &[Dim]) -> u128
 
 /// How many elements there are within the bounds, unless they are more than any memory holds.
 pub fn count(dims: &[Dim]) -> Option<usize>
-    ensures { MatchOption result (2 ^ 64 ≤ elements_of (bounds_list dims.now)) (λ n. elements_of (bounds_list dims.now) ≡ n) }
+    ensures { MatchOption result (2 ^ 64 ≤ elements_of (bounds_list dims.now))
+        (λ n. elements_of (bounds_list dims.now) ≡ n) }
 {
     usize::try_from(saturated_elements(dims)).ok()
 }

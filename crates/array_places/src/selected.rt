@@ -1,5 +1,6 @@
 //! The places of what references select.
-ghost use Rattle.std.specs.Prelude.{◌≡◌, ◌<◌, ◌≤◌, ◌+◌, ◌*◌, ◌++◌, ◌∷◌, [], ◌^◌, ◌-ℤ◌, nat_abs, true, ℕ, map, length, All, IfOk, OnOk};
+ghost use Rattle.std.specs.Prelude.{◌≡◌, ◌<◌, ◌≤◌, ◌+◌, ◌*◌, ◌++◌, ◌∷◌, [], ◌^◌, ◌-ℤ◌};
+ghost use Rattle.std.specs.Prelude.{nat_abs, true, ℕ, map, length, All, IfOk, OnOk};
 ghost use Rattle.fv_tree.specs.View.{bounds_of};
 ghost use Rattle.fv_meaning.specs.Store.{size_of, column_major};
 ghost use Rattle.fv_meaning.specs.Sections.{numbers_of, stands_in, all_stand_in};

@@ -1,5 +1,6 @@
 //! The extents of arrays, positions within them, and their places in column-major order.
-ghost use Rattle.std.specs.Prelude.{◌≡◌, ◌<◌, ◌≤◌, ◌+◌, ◌*◌, ◌-◌, ◌^◌, ◌++◌, ℕ, min, length, MatchOption, MatchResult, OnOk};
+ghost use Rattle.std.specs.Prelude.{◌≡◌, ◌<◌, ◌≤◌, ◌+◌, ◌*◌, ◌-◌, ◌^◌, ◌++◌};
+ghost use Rattle.std.specs.Prelude.{ℕ, min, length, MatchOption, MatchResult, OnOk};
 ghost use Rattle.fv_meaning.specs.ArrayValues.{size, place_of, conform};
 ghost use Rattle.array_values.specs.Positions.{position_at, wider};
 

@@ -1,4 +1,4 @@
-use Rattle.std.proofs.Common.{arith, length}
+use Rattle.std.proofs.Common.{arith}
 use Rattle.fv_meaning.specs.Profile77.{elements_of}
 use Rattle.fv_machine.specs.Storage.{offset, bounds_list}
 use Rattle.fv_machine.proofs.StoreLaws.{offset_below}

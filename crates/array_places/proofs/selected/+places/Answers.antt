@@ -1,8 +1,8 @@
-use Rattle.std.proofs.Common.{◌≡◌, sym, ap, subst, ◌∙◌, arith, ℕ, List, [], ◌∷◌, ◌++◌, map, length}
+use Rattle.std.proofs.Common.{◌≡◌, sym, ap, subst, ◌∙◌, arith, [], ◌∷◌, ◌++◌, map}
 use Rattle.std.proofs.lemmas.List.{append-nil, at_drop_all}
 use Rattle.std.specs.List.{flat_map}
 use Rattle.fv_tree.specs.View.{bounds_of}
-use Rattle.fv_meaning.specs.Store.{size_of, column_major}
+use Rattle.fv_meaning.specs.Store.{column_major}
 use Rattle.fv_meaning.specs.Sections.{numbers_of}
 use Rattle.fv_machine.specs.Storage.{offset, bounds_list}
 use Rattle.array_values.specs.Selections.{axis_in}

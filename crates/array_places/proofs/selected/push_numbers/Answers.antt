@@ -1,4 +1,4 @@
-use Rattle.std.proofs.Common.{◌≡◌, sym, ap, ◌∙◌, subst, true, arith, rules, pos, get_or, drop, ◌++◌, ◌∷◌, [], ◌+◌, append_assoc, SFits}
+use Rattle.std.proofs.Common.{sym, ap, ◌∙◌, arith, rules, pos, get_or, drop, ◌++◌, ◌∷◌, [], ◌+◌, append_assoc, SFits}
 use Rattle.std.specs.Int.{w64}
 use Rattle.std.proofs.lemmas.Int.{to_z-of_z}
 use Rattle.std.proofs.lemmas.List.{at_drop_more}

@@ -1,4 +1,4 @@
-use Rattle.std.proofs.Common.{◌≡◌, sym, ap, subst, ◌∙◌, arith, map, length, List}
+use Rattle.std.proofs.Common.{◌≡◌, sym, ap, subst, ◌∙◌, map, List}
 use Rattle.array_values.specs.declared.sections.Axis.{Axis}
 use Rattle.fv_meaning.specs.ArrayValues.{size}
 use Rattle.fv_meaning.specs.Sections.{axes_on, numbers_of, extents_of}
@@ -8,7 +8,7 @@ use Rattle.array_values.specs.Selections.{selector_in, axis_in}
 use Rattle.array_values.proofs.Steps.{residual}
 use Rattle.array_places.specs.Places.{AxesStand, somes}
 use Rattle.array_places.proofs.Standing.{axes_stand, not_selected}
-use Rattle.array_places.proofs.Stages.{selected_length, places_count}
+use Rattle.array_places.proofs.Stages.{places_count}
 use Rattle.array_places.proofs.selection.select.Goals as goal
 
 pub returns-in_err-axes : goal.returns-in_err-axes

@@ -1,4 +1,4 @@
-use Rattle.std.proofs.Common.{◌≡◌, sym, ap, subst, ◌∙◌, arith, ℕ, length, ◌++◌, ◌∷◌, [], ◌<◌, map}
+use Rattle.std.proofs.Common.{◌≡◌, sym, ap, subst, ◌∙◌, arith, ◌++◌, ◌∷◌, [], ◌<◌, map}
 use Rattle.std.specs.Prelude.{All}
 use Rattle.fv_meaning.specs.Store.{column_major}
 use Rattle.fv_meaning.specs.Sections.{numbers_of, extents_of, whole_axes}

@@ -1,9 +1,8 @@
-use Rattle.std.proofs.Common.{◌≡◌, sym, ap, subst, ◌∙◌, arith, pos, ◌+◌, get_or, take, drop, List, Result, Ok}
+use Rattle.std.proofs.Common.{sym, ap, ◌∙◌, arith, pos, ◌+◌, get_or, take, drop, List, Result, Ok}
 use Rattle.fv_tree.specs.declared.ops.Value.{Value}
 use Rattle.fv_tree.specs.declared.ops.Fault.{Fault}
 use Rattle.fv_tree.specs.declared.ops.Value.TheVariants.{Int}
 use Rattle.fv_meaning.specs.Dialect.{fortran90}
-use Rattle.fv_meaning.specs.ArrayValues.{each}
 use Rattle.fv_meaning.specs.ArrayStatements.{storable}
 use Rattle.array_values.proofs.Steps.{residual, left_of, left_begun, list_fault, list_more, list_done}
 use Rattle.array_places.proofs.Stages.{take_more, take_whole, out_of_range, in_range}
