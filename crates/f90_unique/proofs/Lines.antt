@@ -242,7 +242,7 @@ ended n ls ts c (no_more e k) = sym e
 ended n ls ts c (one_more d ds front inner tail others e t k q i j r) =
     absurd (no_comments false d ds tail q (ap (list_all is_comment_line) (sym e) ∙ c))
 
-statements_once : {n : ℕ} {ls : List (List ℕ)} {ss : List FreeStatement} → AreStatements n ls ss → (ts : List FreeStatement)
+pub statements_once : {n : ℕ} {ls : List (List ℕ)} {ss : List FreeStatement} → AreStatements n ls ss → (ts : List FreeStatement)
     → AreStatements n ls ts → ss ≡ ts
 statements_once (ends n cs c) ts k = ended n cs ts c (seen k)
 statements_once (begins n b bs ahead within rest more c p m w r) ts k =
