@@ -1,5 +1,5 @@
 -- No lines are those of two lists of statements.
-use Rattle.std.proofs.Common.{arith, ◌≡◌, ℕ, ◌+◌, ◌<◌, Bool, true, false, ◌&&◌, cond, List, [], ◌∷◌, ◌++◌, length, flat_map, refl, sym, ap, subst, ◌∙◌, append_assoc, length-append, codes}
+use Rattle.std.proofs.Common.{arith, ◌≡◌, ℕ, ◌+◌, ◌<◌, Bool, true, false, cond, List, [], ◌∷◌, ◌++◌, length, flat_map, refl, sym, ap, subst, ◌∙◌, append_assoc, length-append}
 use mathlib.Core.Path.{ap₂}
 use Rattle.std.specs.List.{list_all}
 use Rattle.std.specs.Char.{digit_value}
@@ -10,10 +10,8 @@ use Rattle.fv_tree.specs.declared.stmts.Mark.{Mark}
 use Rattle.f90_grammar.specs.FreeForm.{Piece, IsPiece, AreFurtherPieces, ArePieces, ampersand, written_piece, joint, characters, IsMark, AreMarks, FreeStatement, statement_at, Block, written_block, pieces_of, comments_of, is_comment_line, is_open_behind, AreStatements}
 use Rattle.f90_grammar.specs.FreeForm.AreMarks.{none, mark, other}
 use Rattle.f90_grammar.specs.FreeForm.AreStatements.{ends, begins}
-use Rattle.f90_grammar.specs.Reading.{AreStatementsOf, HaveForms}
-use Rattle.f90_grammar.specs.Blocks.{Placed}
-use Rattle.std.specs.Prelude.{Option, None}
-use Rattle.std.specs.Str.Lines.{lines}
+use Rattle.f90_grammar.specs.Reading.{HaveForms}
+use Rattle.std.specs.Prelude.{None}
 use Rattle.f90_unique.specs.Unique.{OneText}
 use Rattle.f90_unique.proofs.Pieces.{SamePiece, piece_once}
 use Rattle.f90_unique.proofs.Statements.{one_reading}
@@ -77,7 +75,7 @@ marks_once (mark line m {ls} {ms} i r) ns k = by (λ us j. marks_once r us j) (s
         let w : first ≡ line = cc in
         let t : more ≡ ls = cc in
         ap₂ (λ (x : Mark) (xs : List Mark). x ∷ xs) (mark_once line m n i (subst (λ (u : List ℕ). IsMark u n) w j))
-            (ih rest (subst (λ (us : List (List ℕ)). AreMarks us rest) t q)) ∙ sym b
+        (ih rest (subst (λ (us : List (List ℕ)). AreMarks us rest) t q)) ∙ sym b
     by ih (is_other first more a j q) = let w : line ≡ first = cc in absurd (j m (subst (λ (u : List ℕ). IsMark u m) w i))
 marks_once (other line {ls} {ms} i r) ns k = by (λ us j. marks_once r us j) (seen_marks k)
   where
@@ -110,7 +108,7 @@ fronts_once (c ∷ cs) (d ∷ ds) p q xs ys h k a b e =
     let w : c ≡ d = cc in
     let t : cs ++ p ∷ xs ≡ ds ++ q ∷ ys = cc in
     let f = fronts_once cs ds p q xs ys (and_parts (is_comment_line c) (list_all is_comment_line cs) h).1
-        (and_parts (is_comment_line d) (list_all is_comment_line ds) k).1 a b t in
+    (and_parts (is_comment_line d) (list_all is_comment_line ds) k).1 a b t in
     record { comments = ap₂ (λ (u : List ℕ) (us : List (List ℕ)). u ∷ us) w f.comments; line = f.line; rest = f.rest }
 
 -- ---- the lines of a statement
@@ -118,7 +116,6 @@ fronts_once (c ∷ cs) (d ∷ ds) p q xs ys h k a b e =
 block_front : (b : Block) (bs : List Block) (r : List (List ℕ))
     → flat_map written_block (b ∷ bs) ++ r ≡ b.comments ++ written_piece b.piece ∷ (flat_map written_block bs ++ r)
 block_front b bs r = simp append_assoc
-
 
 split_comments : (b : Block) (bs : List Block) → list_all is_comment_line (comments_of (b ∷ bs)) ≡ true
     → (list_all is_comment_line b.comments ≡ true) × (list_all is_comment_line (comments_of bs) ≡ true)
@@ -173,7 +170,7 @@ blocks_once o b (a ∷ others) c (d ∷ ds) r s h k p q e =
     let x = piece_once o b.piece c.piece p.0 q.0 f.line in
     let more = subst (λ (t : List ℕ). AreFurtherPieces (is_open_behind o t) (pieces_of (d ∷ ds))) (sym x.chars) q.2 in
     let y = blocks_once (is_open_behind o b.piece.chars) a others d ds r s (split_comments b (a ∷ others) h).1 (split_comments c (d ∷ ds) k).1
-        p.2 more f.rest in
+    p.2 more f.rest in
     record {
       comments = f.comments;
       further = ap₂ (λ (u v : List (List ℕ)). u ++ v) y.comments y.further;
@@ -201,7 +198,7 @@ no_comments : (o : Bool) (b : Block) (bs : List Block) (r : List (List ℕ)) →
 no_comments o b bs r p h =
     let all = ap (list_all is_comment_line) (sym (block_front b bs r)) ∙ h in
     let two = and_parts (list_all is_comment_line b.comments) (list_all is_comment_line (written_piece b.piece ∷ (flat_map written_block bs ++ r)))
-        (sym (list_all-append is_comment_line b.comments (written_piece b.piece ∷ (flat_map written_block bs ++ r))) ∙ all) in
+    (sym (list_all-append is_comment_line b.comments (written_piece b.piece ∷ (flat_map written_block bs ++ r))) ∙ all) in
     let line = and_parts (is_comment_line (written_piece b.piece)) (list_all is_comment_line (flat_map written_block bs ++ r)) two.1 in
     clash (is_comment_line (written_piece b.piece)) line.0 (first_piece o b bs p).is_line
 
@@ -226,15 +223,15 @@ module _ (n : ℕ) (b : Block) (bs : List Block) (ahead within : List Mark) (res
       let l : length x + length rest ≡ length y + length tail = sym (length-append x rest) ∙ (ap length e ∙ length-append y tail) in
       let g : length x ≡ length y = omega (arith, l, ap length s.rest) in
       let z : AreStatements (n + length x) rest others
-          = subst (λ (us : List (List ℕ)). AreStatements (n + length x) us others) (sym s.rest)
-          (subst (λ (u : ℕ). AreStatements (n + u) tail others) (sym g) r) in
+      = subst (λ (us : List (List ℕ)). AreStatements (n + length x) us others) (sym s.rest)
+      (subst (λ (u : ℕ). AreStatements (n + u) tail others) (sym g) r) in
       let same = same_statement (n + length b.comments) (n + length d.comments) ahead front (characters (pieces_of (b ∷ bs)))
-          (characters (pieces_of (d ∷ ds))) within inner
-          (ap (λ (us : List (List ℕ)). n + length us) s.comments)
-          (marks_once m front (subst (λ (us : List (List ℕ)). AreMarks us front) (sym s.comments) i))
-          (same_characters b.piece.is_pulled d.piece.is_pulled b.piece.chars d.piece.chars (flat_map joint (pieces_of bs))
-          (flat_map joint (pieces_of ds)) s.piece.pulled s.piece.chars s.joints)
-          (marks_once w inner (subst (λ (us : List (List ℕ)). AreMarks us inner) (sym s.further) j)) in
+      (characters (pieces_of (d ∷ ds))) within inner
+      (ap (λ (us : List (List ℕ)). n + length us) s.comments)
+      (marks_once m front (subst (λ (us : List (List ℕ)). AreMarks us front) (sym s.comments) i))
+      (same_characters b.piece.is_pulled d.piece.is_pulled b.piece.chars d.piece.chars (flat_map joint (pieces_of bs))
+      (flat_map joint (pieces_of ds)) s.piece.pulled s.piece.chars s.joints)
+      (marks_once w inner (subst (λ (us : List (List ℕ)). AreMarks us inner) (sym s.further) j)) in
       ap₂ (λ (u : FreeStatement) (us : List FreeStatement). u ∷ us) same (ih others z) ∙ sym t
 
 ended : (n : ℕ) (ls : List (List ℕ)) (ts : List FreeStatement) → list_all is_comment_line ls ≡ true → Seen n ls ts → [] ≡ ts

@@ -18,7 +18,6 @@ nothing : (xs : List ℕ) → is_nothing xs ≡ true → xs ≡ []
 nothing [] h = refl
 nothing (c ∷ cs) h = absurd (cc)
 
-
 -- ---- the ampersand before the characters
 
 abbrev rest_of : List ℕ → List ℕ
@@ -155,12 +154,12 @@ front_taken o p h =
     let trail = quiet_both (ampersand (p.is_continued && not p.is_single)) p.behind (quiet_ampersand (p.is_continued && not p.is_single)) (quiet_blanks p.behind bs.1) in
     let tail_words = ampersand (p.is_continued && not p.is_single) ++ p.behind in
     let regroup : (p.before ++ ampersand p.is_pulled) ++ (p.chars ++ tail_words) ≡ front_of p
-        = append_assoc p.before (ampersand p.is_pulled) (p.chars ++ tail_words) in
+    = append_assoc p.before (ampersand p.is_pulled) (p.chars ++ tail_words) in
     let none : has_comment o (front_of p) ≡ false
-        = ap (has_comment o) (sym regroup) ∙ (lead.comment o (p.chars ++ tail_words)
-        ∙ behind_comment o p.chars tail_words trail (not_false (has_comment o p.chars) cs.1)) in
+    = ap (has_comment o) (sym regroup) ∙ (lead.comment o (p.chars ++ tail_words)
+    ∙ behind_comment o p.chars tail_words trail (not_false (has_comment o p.chars) cs.1)) in
     let same : is_open_behind o (front_of p) ≡ is_open_behind o p.chars
-        = ap (is_open_behind o) (sym regroup) ∙ (lead.constant o (p.chars ++ tail_words) ∙ behind_open o p.chars tail_words trail) in
+    = ap (is_open_behind o) (sym regroup) ∙ (lead.constant o (p.chars ++ tail_words) ∙ behind_open o p.chars tail_words trail) in
     ap (without_comment o) (written_front p)
     ∙ uncommented o (front_of p) p.comment none cs.0 (ap (λ (b : Bool). not b || is_nothing p.comment) same ∙ h.in_constant)
 
@@ -194,7 +193,7 @@ says before chars behind pulled false single a b n f s =
     }
 says before chars behind pulled true false a b n f s =
     let regroup : before ++ (ampersand pulled ++ (chars ++ 38 ∷ behind)) ≡ (before ++ (ampersand pulled ++ chars)) ++ 38 ∷ behind
-        = simp append_assoc in
+    = simp append_assoc in
     record {
       is_continued = ap (ends_with 38) regroup ∙ ends_ampersand (before ++ (ampersand pulled ++ chars)) behind b;
       chars_are = ap before_last (unpulled_is pulled before (chars ++ 38 ∷ behind) a n) ∙ before_ampersand chars behind b;
@@ -231,11 +230,13 @@ piece_once o p q h k e =
   where
     pull : (p : Piece) → IsPiece o p → starts_with 38 (written_piece p) ≡ p.is_pulled
     pull p h = pulled_is p.is_pulled p.before (written_piece p) _ (and_parts (list_all is_blank p.before) (list_all is_blank p.behind) h.blanks).0 refl h.leading
+
     say : (p : Piece) → IsPiece o p → Says (front_of p) p.is_pulled p.is_continued p.chars
     say p h =
         let bs = and_parts (list_all is_blank p.before) (list_all is_blank p.behind) h.blanks in
         says p.before p.chars p.behind p.is_pulled p.is_continued p.is_single bs.0 bs.1
         (unled p.is_pulled p.before (not (starts_with 38 (written_piece p))) h.leading) h.final h.single
+
     three : (c d a b : Bool) (x y : List ℕ) → c ≡ d → a ≡ b → x ≡ y
         → cond c (before_last (unpulled a x)) (unpulled a x) ≡ cond d (before_last (unpulled b y)) (unpulled b y)
     three c d a b x y e f g = rw (e, f, g) refl
