@@ -110,8 +110,8 @@ module _ (n : ℕ) (p q : Form) (f g : Affine) (k : ℤ) (a : IsAffineOf n p f) 
   symbols-of : (s : Terms) → all_pushed (merged k (front_used f.syms) (front_used g.syms)) s ≡ all_pushed (terms_from 0 (drop n whole.coefficients)) s
   symbols-of s =
       ap₂ (λ ts us. all_pushed (merged k ts us) s)
-        (ap front_used a.symbols ∙ used_terms 0 (drop n p.coefficients) (8 - length (terms_from 0 (drop n p.coefficients))))
-        (ap front_used b.symbols ∙ used_terms 0 (drop n q.coefficients) (8 - length (terms_from 0 (drop n q.coefficients))))
+      (ap front_used a.symbols ∙ used_terms 0 (drop n p.coefficients) (8 - length (terms_from 0 (drop n p.coefficients))))
+      (ap front_used b.symbols ∙ used_terms 0 (drop n q.coefficients) (8 - length (terms_from 0 (drop n q.coefficients))))
       ∙ (merged_terms k 0 (drop n p.coefficients) (drop n q.coefficients) s
       ∙ ap (λ l. all_pushed (terms_from 0 l) s) (sym (drop-added n p.coefficients (map (λ d. k *ℤ d) q.coefficients) ∙ ap (added (drop n p.coefficients)) (drop-scaled k n q.coefficients))))
 
@@ -161,8 +161,8 @@ module _ (n : ℕ) (p q : Form) (f g : Affine) (k : ℤ) (a : IsAffineOf n p f) 
       let front = all_small-true (take n whole.coefficients) (λ j. ap is_small (loops-of j ∙ sym (h j).0) ∙ (h j).1) in
       let all : all_small whole.coefficients ≡ true = all_small-split n whole.coefficients ∙ (ap (λ b. b && all_small (drop n whole.coefficients)) front ∙ o.1) in
       let within : is_limited n whole ≡ true =
-          ap (λ b. b && (is_small whole.constant && nat_le (not_zero (drop n whole.coefficients)) 8)) all
-          ∙ (ap (λ b. b && nat_le (not_zero (drop n whole.coefficients)) 8) (ap is_small (constant-of ∙ sym c) ∙ s) ∙ up_to_eight (not_zero (drop n whole.coefficients)) few) in
+      ap (λ b. b && (is_small whole.constant && nat_le (not_zero (drop n whole.coefficients)) 8)) all
+      ∙ (ap (λ b. b && nat_le (not_zero (drop n whole.coefficients)) 8) (ap is_small (constant-of ∙ sym c) ∙ s) ∙ up_to_eight (not_zero (drop n whole.coefficients)) few) in
       found n whole (record { loops = loops; syms = t.at; constant = z }) within (record {
         loops = λ j. (h j).0 ∙ sym (loops-of j);
         symbols = o.0.at;

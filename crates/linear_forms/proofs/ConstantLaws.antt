@@ -164,7 +164,7 @@ pub call_more : (f : Fun) (given : Arguments) (e : Expr) (es : List Expr) (x : V
 unfolding left_to_call
 call_more f given e es x h =
     ap (λ (r : Result Value Fault). known (do xs ← (do x ← r; xs ← values_of fortran77 (P.expressions (map expression_of es)) no_store; Ok (x ∷ xs)); finished f (fold (added f) given xs)))
-      (known_some (value_of fortran77 (expression_of e) no_store) x h)
+    (known_some (value_of fortran77 (expression_of e) no_store) x h)
     ∙ ap known (taken_on f given x (values_of fortran77 (P.expressions (map expression_of es)) no_store))
 
 pub ruleset call_laws = (call_begun, call_done, call_fault, call_more)

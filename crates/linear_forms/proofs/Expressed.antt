@@ -123,7 +123,7 @@ module _ (lang : Dialect) (s : Store) where
       let parts = both (all_small f.coefficients) (is_small f.constant && nat_le (not_zero (drop loops f.coefficients)) 8) h in
       let more = both (is_small f.constant) (nat_le (not_zero (drop loops f.coefficients)) 8) parts.1 in
       let count : not_zero f.coefficients ≤ 15 =
-          let all = dropped loops f.coefficients in let eight = leb-true (not_zero (drop loops f.coefficients)) 8 more.1 in omega (arith, all, eight, few) in
+      let all = dropped loops f.coefficients in let eight = leb-true (not_zero (drop loops f.coefficients)) 8 more.1 in omega (arith, all, eight, few) in
       let most : not_zero f.coefficients * (2 ^ 40 * 2 ^ 63) ≤ 15 * (2 ^ 40 * 2 ^ 63) = mul-le-mul_right (2 ^ 40 * 2 ^ 63) count in
       let sums = with_terms-is (15 * (2 ^ 40 * 2 ^ 63)) None (pos 0) f.coefficients terms xs v z parts.0 refl (omega (arith, most)) (omega arith) in
       let whole : pos 0 +ℤ weighted f.coefficients xs ≡ weighted f.coefficients xs = +ℤ_idl (weighted f.coefficients xs) in
@@ -131,7 +131,7 @@ module _ (lang : Dialect) (s : Store) where
       let size = weighted-size f.coefficients xs parts.0 z in
       let all = abs-sum (weighted f.coefficients xs) f.constant in
       constant-is (with_terms None f.coefficients terms) (weighted f.coefficients xs) f.constant (subst (λ w. Sum (with_terms None f.coefficients terms) w) whole sums)
-        (omega (arith, constant)) (omega (arith, size, most, constant, all))
+      (omega (arith, constant)) (omega (arith, size, most, constant, all))
 
 pub text_has_value : TextHasValue
 text_has_value lang loops terms f s xs few h v z = expressed_is_number lang s loops few terms f xs h v z

@@ -88,7 +88,7 @@ module _ (lang : Dialect) (loops : ℕ) (few : loops ≤ 7) (names : List (List 
   two-number Sub k l f g h p q a b e m i j =
       let same : sum f (multiple (negsuc 0) g) ≡ h = cc in
       fitting (p -ℤ q) (number_at h xs) (ap₂ (λ p q. p -ℤ q) i j ∙ (ap (λ z. number_at f xs +ℤ z) (sym (number_at-multiple (negsuc 0) g xs ∙ minus (number_at g xs))) ∙ (sym (number_at-sum f (multiple (negsuc 0) g) xs) ∙ ap (λ f. number_at f xs) same)))
-        (limited_fits loops h xs few m sized)
+      (limited_fits loops h xs few m sized)
   two-number Mul k l f g h p q a b e m i j = product-number k l f g h p q a b e m i j
   two-number o k l f g h p q a b e m i j = cc
 

@@ -195,8 +195,8 @@ module _ (lang : Dialect) (loops : ℕ) (names : List (List ℕ)) (s : Store) (x
       let x = number_at f1 xs in
       let y = number_at g1 xs in
       two-number o (constant_of a) (constant_of b) f1 g1 f x y v
-          (constant-is a x (p.first ∙ ap Ok one)) (constant-is b y (q.first ∙ ap Ok two)) e refl refl
-          (ap₂ (λ x y. apply o x y) (sym one) (sym two) ∙ q.second)
+      (constant-is a x (p.first ∙ ap Ok one)) (constant-is b y (q.first ∙ ap Ok two)) e refl refl
+      (ap₂ (λ x y. apply o x y) (sym one) (sym two) ∙ q.second)
   pair-formed o a b left right f v k (Some f1) None i j e = cc
   pair-formed o a b left right f v k None r i j e = cc
 

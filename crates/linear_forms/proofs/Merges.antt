@@ -148,9 +148,9 @@ one_pushed done t x h l =
     let none : Term = (0, pos 0) in
     record {
       at = ap (λ l. set l t.used x) (h.at ∙ ap (λ n. done ++ replicate n (0, pos 0)) room)
-        ∙ (ap (λ n. set (done ++ (0, pos 0) ∷ replicate (8 - suc (length done)) (0, pos 0)) n x) h.used
-        ∙ (set_behind done (replicate (8 - suc (length done)) (0, pos 0)) (0, pos 0) x
-        ∙ (sym (append_assoc done (x ∷ []) (replicate (8 - suc (length done)) (0, pos 0))) ∙ ap (λ n. (done ++ x ∷ []) ++ replicate (8 - n) (0, pos 0)) (sym len))));
+          ∙ (ap (λ n. set (done ++ (0, pos 0) ∷ replicate (8 - suc (length done)) (0, pos 0)) n x) h.used
+          ∙ (set_behind done (replicate (8 - suc (length done)) (0, pos 0)) (0, pos 0) x
+          ∙ (sym (append_assoc done (x ∷ []) (replicate (8 - suc (length done)) (0, pos 0))) ∙ ap (λ n. (done ++ x ∷ []) ++ replicate (8 - n) (0, pos 0)) (sym len))));
       used = ap (λ n. n + 1) h.used ∙ (omega arith ∙ sym len);
     }
 
@@ -193,7 +193,7 @@ pushes o (c ∷ es) done t h l = by (λ d u h l. pushes (suc o) es d u h l) (int
         let room : length done < 8 = subst (λ n. n < 8) h.used ((Decides-ltb t.used 8).0 g) in
         let len : length (done ++ (o, c) ∷ []) ≡ suc (length done) = length-append done ((o, c) ∷ []) ∙ omega arith in
         behind (all_pushed (terms_from (suc o) es) (record { at = set t.at t.used (o, c); used = t.used + 1 })) e
-          (more (done ++ (o, c) ∷ []) (record { at = set t.at t.used (o, c); used = t.used + 1 }) (one_pushed done t (o, c) h room) (omega (arith, len, room)))
+        (more (done ++ (o, c) ∷ []) (record { at = set t.at t.used (o, c); used = t.used + 1 }) (one_pushed done t (o, c) h room) (omega (arith, len, room)))
     chosen more true e false g =
         let full : 8 ≤ t.used = ltb-false t.used 8 g in
         let same = h.used in

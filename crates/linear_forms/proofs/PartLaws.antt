@@ -276,7 +276,7 @@ pair_part op a b made h c n names d e few i j =
     record {
       constant = value;
       form = subst (λ v. IsFound n (limited n (constant_or (as_constant v) (form_of_pair op (constant_of d) (constant_of e) (linear n names d) (linear n names e)))) made.form) value
-        (subst (λ v. IsFound n (limited n (constant_or (as_constant made.constant) (form_of_pair op (as_constant v) (constant_of e) (linear n names d) (linear n names e)))) made.form) i.constant
-        (subst (λ v. IsFound n (limited n (constant_or (as_constant made.constant) (form_of_pair op (as_constant a.constant) (as_constant v) (linear n names d) (linear n names e)))) made.form) j.constant
+          (subst (λ v. IsFound n (limited n (constant_or (as_constant made.constant) (form_of_pair op (as_constant v) (constant_of e) (linear n names d) (linear n names e)))) made.form) i.constant
+          (subst (λ v. IsFound n (limited n (constant_or (as_constant made.constant) (form_of_pair op (as_constant a.constant) (as_constant v) (linear n names d) (linear n names e)))) made.form) j.constant
           (c n (linear n names d) (linear n names e) few i.form j.form first second)));
     }

@@ -35,7 +35,7 @@ pub weighted-size : (cs xs : List ℤ) → all_small cs ≡ true → AreSized xs
 weighted-size [] xs h k = omega arith
 weighted-size (c ∷ cs) [] h k = omega arith
 weighted-size (c ∷ cs) (x ∷ xs) h k = by (int_eq c (pos 0)) refl
-  (weighted-size cs xs (both (is_small c) (all_small cs) h).1 k.1)
+    (weighted-size cs xs (both (is_small c) (all_small cs) h).1 k.1)
   where
     by : (b : Bool) → int_eq c (pos 0) ≡ b → nat_abs (weighted cs xs) ≤ not_zero cs * (2 ^ 40 * 2 ^ 63)
         → nat_abs (c *ℤ x +ℤ weighted cs xs) ≤ cond b (not_zero cs) (suc (not_zero cs)) * (2 ^ 40 * 2 ^ 63)
@@ -67,7 +67,7 @@ limited_fits loops f xs few h k =
     let parts = both (all_small f.coefficients) (is_small f.constant && nat_le (not_zero (drop loops f.coefficients)) 8) h in
     let more = both (is_small f.constant) (nat_le (not_zero (drop loops f.coefficients)) 8) parts.1 in
     let count : not_zero f.coefficients ≤ 15 =
-        let all = dropped loops f.coefficients in let eight = leb-true (not_zero (drop loops f.coefficients)) 8 more.1 in omega (arith, all, eight, few) in
+    let all = dropped loops f.coefficients in let eight = leb-true (not_zero (drop loops f.coefficients)) 8 more.1 in omega (arith, all, eight, few) in
     let terms = weighted-size f.coefficients xs parts.0 k in
     let most : not_zero f.coefficients * (2 ^ 40 * 2 ^ 63) ≤ 15 * (2 ^ 40 * 2 ^ 63) = mul-le-mul_right (2 ^ 40 * 2 ^ 63) count in
     let constant = leb-true (nat_abs f.constant) (2 ^ 40) more.0 in

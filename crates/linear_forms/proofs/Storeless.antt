@@ -26,11 +26,10 @@ module _ (lang : Dialect) (s : Store) where
         let p = parted (value_of fortran77 a no_store) (λ x. do y ← value_of fortran77 b no_store; apply o x y) v h in
         let q = parted (value_of fortran77 b no_store) (λ y. apply o p.part y) v p.second in
         joined (value_of lang a s) (λ x. do y ← value_of lang b s; apply o x y) p.part v (storeless a p.part p.first)
-          (joined (value_of lang b s) (λ y. apply o p.part y) q.part v (storeless b q.part q.first) q.second)
+        (joined (value_of lang b s) (λ y. apply o p.part y) q.part v (storeless b q.part q.first) q.second)
     storeless (Apply f es) v h =
         let p = parted (values_of fortran77 es no_store) (λ xs. call f xs) v h in
         joined (values_of lang es s) (λ xs. call f xs) p.part v (storeless_each es p.part p.first) p.second
-
     storeless (Constructor es ls) v h = cc
     storeless (Spread a k b) v h = cc
     storeless (Transpose a) v h = cc
@@ -43,4 +42,4 @@ module _ (lang : Dialect) (s : Store) where
         let p = parted (value_of fortran77 e no_store) (λ x. do xs ← values_of fortran77 es no_store; Ok (x ∷ xs)) vs h in
         let q = parted (values_of fortran77 es no_store) (λ xs. Ok (p.part ∷ xs)) vs p.second in
         joined (value_of lang e s) (λ x. do xs ← values_of lang es s; Ok (x ∷ xs)) p.part vs (storeless e p.part p.first)
-          (joined (values_of lang es s) (λ xs. Ok (p.part ∷ xs)) q.part vs (storeless_each es q.part q.first) q.second)
+        (joined (values_of lang es s) (λ xs. Ok (p.part ∷ xs)) q.part vs (storeless_each es q.part q.first) q.second)

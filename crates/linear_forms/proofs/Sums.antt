@@ -20,14 +20,14 @@ pub one_more : (fs gs hs : List ℤ) (k : ℤ) (at : ℕ) (v : ℤ) → at < len
     → (v ≡ get_or fs at (pos 0) +ℤ k *ℤ get_or gs at (pos 0)) → is_small v ≡ true
     → (j : ℕ) → j < at + 1 → (get_or (set hs at v) j (pos 0) ≡ get_or fs j (pos 0) +ℤ k *ℤ get_or gs j (pos 0)) × (is_small (get_or (set hs at v) j (pos 0)) ≡ true)
 one_more fs gs hs k at v inside done e small j h = elim (cases_eq j at) [
-      | inl same ↦
-        let here : get_or (set hs at v) j (pos 0) ≡ v = ap (λ i. get_or (set hs at v) i (pos 0)) same ∙ get_or-set_same hs at v (pos 0) inside in
-        (here ∙ (e ∙ ap (λ i. get_or fs i (pos 0) +ℤ k *ℤ get_or gs i (pos 0)) (sym same)), ap is_small here ∙ small)
-      | inr other ↦
-        let there = get_or-set_other hs at j v (pos 0) other in
-        let before : j < at = omega (arith, h, other) in
-        (there ∙ (done j before).0, ap is_small there ∙ (done j before).1)
-    ]
+  | inl same ↦
+      let here : get_or (set hs at v) j (pos 0) ≡ v = ap (λ i. get_or (set hs at v) i (pos 0)) same ∙ get_or-set_same hs at v (pos 0) inside in
+      (here ∙ (e ∙ ap (λ i. get_or fs i (pos 0) +ℤ k *ℤ get_or gs i (pos 0)) (sym same)), ap is_small here ∙ small)
+  | inr other ↦
+      let there = get_or-set_other hs at j v (pos 0) other in
+      let before : j < at = omega (arith, h, other) in
+      (there ∙ (done j before).0, ap is_small there ∙ (done j before).1)
+]
 
 pub small_is : (z v : ℤ) → Some v ≡ small_or_none z → (v ≡ z) × (is_small v ≡ true)
 small_is z v e = by (is_small z) refl e

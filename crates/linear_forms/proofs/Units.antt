@@ -177,9 +177,10 @@ module _ (x : List ℕ) where
   pub symbol_named : (loops symbols : List (List ℕ)) (k : ℕ) → None ≡ position (λ y. bytes_eq y x) loops → Some k ≡ position (λ y. bytes_eq y x) symbols
       → (with_no_constant (unit (loops ++ symbols) x) ≡ Some (unit_form (length loops + k))) × (k < length symbols)
   symbol_named loops symbols k h g =
-      let p = place_some symbols k g in
-      (ap with_no_constant (unit_back loops symbols (place_none loops h) ∙ (ap (shifted (length loops)) (unit_only symbols p.1 ∙ ap (λ k. Some (replicate k (pos 0) ++ pos 1 ∷ [])) (sym p.0)) ∙ shifted-unit (length loops) k)),
-       subst (λ m. m < length symbols) (sym p.0) p.1)
+      let p = place_some symbols k g in (
+        ap with_no_constant (unit_back loops symbols (place_none loops h) ∙ (ap (shifted (length loops)) (unit_only symbols p.1 ∙ ap (λ k. Some (replicate k (pos 0) ++ pos 1 ∷ [])) (sym p.0)) ∙ shifted-unit (length loops) k)),
+        subst (λ m. m < length symbols) (sym p.0) p.1,
+      )
 
   pub neither_named : (loops symbols : List (List ℕ)) → None ≡ position (λ y. bytes_eq y x) loops → None ≡ position (λ y. bytes_eq y x) symbols
       → with_no_constant (unit (loops ++ symbols) x) ≡ None

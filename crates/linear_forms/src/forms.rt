@@ -33,10 +33,8 @@ fn integer(value: Option<Value>) -> Option<i128>
 
 // A product, of which one factor is constant.
 fn product_form(k: Option<i128>, l: Option<i128>, f: &Affine, g: &Affine) -> Option<Affine>
-    ensures {
-        (n : ℕ) (p q : Form) → n ≤ 7 → IsAffineOf n p f.now → IsAffineOf n q g.now → HasConstant k p → HasConstant l q
-        → IsFound n (limited n (form_of_product k l p q)) result
-    }
+    ensures { (n : ℕ) (p q : Form) → n ≤ 7 → IsAffineOf n p f.now → IsAffineOf n q g.now → HasConstant k p → HasConstant l q
+        → IsFound n (limited n (form_of_product k l p q)) result }
 {
     if k.is_some() {
         return combined(&ZERO, g, f.constant);
@@ -49,10 +47,8 @@ fn product_form(k: Option<i128>, l: Option<i128>, f: &Affine, g: &Affine) -> Opt
 
 // Where the whole is constant it is `whole`.
 fn sign_form(op: Op, whole: Option<i128>, form: Option<Affine>) -> Option<Affine>
-    ensures {
-        (n : ℕ) (o : Option Form) → n ≤ 7 → IsFound n o form
-        → IsFound n (limited n (constant_or whole (form_of_sign op o))) result
-    }
+    ensures { (n : ℕ) (o : Option Form) → n ≤ 7 → IsFound n o form
+        → IsFound n (limited n (constant_or whole (form_of_sign op o))) result }
 {
     if let Some(number) = whole {
         return constant_form(number);
@@ -83,13 +79,11 @@ fn sign_form(op: Op, whole: Option<i128>, form: Option<Affine>) -> Option<Affine
 
 // The same of two operands, whose values are k and l where they are constant.
 fn pair_form(op: Op, whole: Option<i128>, a: Part, b: Part) -> Option<Affine>
-    ensures {
-        (n : ℕ) (p q : Option Form) → n ≤ 7 → IsFound n p a.form → IsFound n q b.form
+    ensures { (n : ℕ) (p q : Option Form) → n ≤ 7 → IsFound n p a.form → IsFound n q b.form
         → ((f : Form) → p ≡ Some f → HasConstant (as_constant a.constant) f)
         → ((g : Form) → q ≡ Some g → HasConstant (as_constant b.constant) g)
         → IsFound n (limited n (constant_or whole
-            (form_of_pair op (as_constant a.constant) (as_constant b.constant) p q))) result
-    }
+        (form_of_pair op (as_constant a.constant) (as_constant b.constant) p q))) result }
 {
     if let Some(number) = whole {
         return constant_form(number);
@@ -129,11 +123,9 @@ fn place(names: &[Name], name: Name) -> Option<usize>
 
 // A bare name is 1 times the loop or the symbol that it names.
 fn name_form(item: &Ref, loops: &[Name], symbols: &[Name]) -> Option<Affine>
-    ensures {
-        length loops.now ≤ 7 → length symbols.now ≤ 2 ^ 16
+    ensures { length loops.now ≤ 7 → length symbols.now ≤ 2 ^ 16
         → IsFound (length loops.now) (limited (length loops.now) (form_of_name (loops.now ++ symbols.now)
-            (reference_of item.now).name (reference_of item.now).subscripts)) result
-    }
+        (reference_of item.now).name (reference_of item.now).subscripts)) result }
 {
     if !item.subs.is_empty() {
         return None;
@@ -155,7 +147,11 @@ fn loop_form(at: usize) -> Option<Affine>
     }
     let mut loops = [0; 7];
     loops[at] = 1;
-    Some(Affine { loops, syms: [(0, 0); 8], constant: 0 })
+    Some(Affine {
+        loops,
+        syms: [(0, 0); 8],
+        constant: 0,
+    })
 }
 
 fn symbol_form(at: usize) -> Option<Affine>
@@ -166,7 +162,11 @@ fn symbol_form(at: usize) -> Option<Affine>
     };
     let mut syms = [(0, 0); 8];
     syms[0] = (place, 1);
-    Some(Affine { loops: [0; 7], syms, constant: 0 })
+    Some(Affine {
+        loops: [0; 7],
+        syms,
+        constant: 0,
+    })
 }
 
 fn sign_value(op: Op, x: Option<Value>) -> Option<Value>
@@ -179,9 +179,7 @@ fn sign_value(op: Op, x: Option<Value>) -> Option<Value>
 }
 
 fn pair_value(op: Op, x: Option<Value>, y: Option<Value>) -> Option<Value>
-    ensures {
-        (d e : Expression) → x ≡ constant_value d → y ≡ constant_value e → result ≡ constant_value (Binary op d e)
-    }
+    ensures { (d e : Expression) → x ≡ constant_value d → y ≡ constant_value e → result ≡ constant_value (Binary op d e) }
 {
     let Some(x) = x else {
         return None;
@@ -193,10 +191,8 @@ fn pair_value(op: Op, x: Option<Value>, y: Option<Value>) -> Option<Value>
 }
 
 fn sign_part(op: Op, a: Part) -> Part
-    ensures {
-        (n : ℕ) (names : List (List ℕ)) (e : Expression) → n ≤ 7 → IsPartOf n names e a
-        → IsPartOf n names (Unary op e) result
-    }
+    ensures { (n : ℕ) (names : List (List ℕ)) (e : Expression) → n ≤ 7 → IsPartOf n names e a
+        → IsPartOf n names (Unary op e) result }
 {
     let constant = sign_value(op, a.constant);
     let form = sign_form(op, integer(constant), a.form);
@@ -204,10 +200,8 @@ fn sign_part(op: Op, a: Part) -> Part
 }
 
 fn pair_part(op: Op, a: Part, b: Part) -> Part
-    ensures {
-        (n : ℕ) (names : List (List ℕ)) (d e : Expression) → n ≤ 7 → IsPartOf n names d a → IsPartOf n names e b
-        → IsPartOf n names (Binary op d e) result
-    }
+    ensures { (n : ℕ) (names : List (List ℕ)) (d e : Expression) → n ≤ 7 → IsPartOf n names d a → IsPartOf n names e b
+        → IsPartOf n names (Binary op d e) result }
 {
     let constant = pair_value(op, a.constant, b.constant);
     let form = pair_form(op, integer(constant), a, b);
@@ -217,9 +211,7 @@ fn pair_part(op: Op, a: Part, b: Part) -> Part
 // What is known where an expression has no form but as a constant.
 fn constant_part(constant: Option<Value>) -> Part
     ensures constant { result.constant ≡ constant }
-    ensures form {
-        (n : ℕ) → IsFound n (limited n (constant_or (as_constant constant) None)) result.form
-    }
+    ensures form { (n : ℕ) → IsFound n (limited n (constant_or (as_constant constant) None)) result.form }
 {
     let form = match integer(constant) {
         Some(number) => constant_form(number),
@@ -230,26 +222,45 @@ fn constant_part(constant: Option<Value>) -> Part
 
 #[tactic(auto, using(crate::proofs::PartLaws::part_laws))]
 fn part_of(expr: &Expr, loops: &[Name], symbols: &[Name]) -> Part
-    ensures {
-        length loops.now ≤ 7 → length symbols.now ≤ 2 ^ 16
-        → IsPartOf (length loops.now) (loops.now ++ symbols.now) (expression_of expr.now) result
-    }
+    ensures { length loops.now ≤ 7 → length symbols.now ≤ 2 ^ 16
+        → IsPartOf (length loops.now) (loops.now ++ symbols.now) (expression_of expr.now) result }
 {
     match expr {
         Expr::Int(number) => constant_part(Some(Value::Int(*number))),
-        Expr::Truth(truth) => Part { constant: Some(Value::Truth(*truth)), form: None },
-        Expr::Item(item) => Part { constant: None, form: name_form(item, loops, symbols) },
+        Expr::Truth(truth) => Part {
+            constant: Some(Value::Truth(*truth)),
+            form: None,
+        },
+        Expr::Item(item) => Part {
+            constant: None,
+            form: name_form(item, loops, symbols),
+        },
         Expr::Un(op, a) => sign_part(*op, part_of(a, loops, symbols)),
         Expr::Bin(op, a, b) => {
             let left = part_of(a, loops, symbols);
             pair_part(*op, left, part_of(b, loops, symbols))
         }
         Expr::Call(..) => constant_part(constant_value(expr)),
-        Expr::List(..) => Part { constant: None, form: None },
-        Expr::Spread(..) => Part { constant: None, form: None },
-        Expr::Transpose(_) => Part { constant: None, form: None },
-        Expr::Reshape(..) => Part { constant: None, form: None },
-        Expr::Reduce(..) => Part { constant: None, form: None },
+        Expr::List(..) => Part {
+            constant: None,
+            form: None,
+        },
+        Expr::Spread(..) => Part {
+            constant: None,
+            form: None,
+        },
+        Expr::Transpose(_) => Part {
+            constant: None,
+            form: None,
+        },
+        Expr::Reshape(..) => Part {
+            constant: None,
+            form: None,
+        },
+        Expr::Reduce(..) => Part {
+            constant: None,
+            form: None,
+        },
     }
 }
 

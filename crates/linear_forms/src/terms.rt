@@ -10,7 +10,11 @@ ghost use Rattle.linear_forms.specs.Places.{IsAffineOf, IsFound, padded, terms_f
 use subscripts::Affine;
 
 /// The form 0.
-pub const ZERO: Affine = Affine { loops: [0; 7], syms: [(0, 0); 8], constant: 0 };
+pub const ZERO: Affine = Affine {
+    loops: [0; 7],
+    syms: [(0, 0); 8],
+    constant: 0,
+};
 
 const LIMIT: u128 = 1 << 40;
 
@@ -73,7 +77,10 @@ impl Terms {
         }
         let mut at = self.at;
         at[self.used] = (place, number);
-        Some(Terms { at, used: self.used + 1 })
+        Some(Terms {
+            at,
+            used: self.used + 1,
+        })
     }
 }
 
@@ -142,14 +149,15 @@ fn with_both(terms: &[(u16, i64)], others: &[(u16, i64)], k: i64, sum: Terms) ->
     }
 }
 
-const NONE: Terms = Terms { at: [(0, 0); 8], used: 0 };
+const NONE: Terms = Terms {
+    at: [(0, 0); 8],
+    used: 0,
+};
 
 /// f and k times g, where that is within the limits.
 pub fn combined(f: &Affine, g: &Affine, k: i64) -> Option<Affine>
-    ensures {
-        (n : ℕ) (p q : Form) → n ≤ 7 → IsAffineOf n p f.now → IsAffineOf n q g.now
-        → IsFound n (limited n (Some (sum p (multiple k q)))) result
-    }
+    ensures { (n : ℕ) (p q : Form) → n ≤ 7 → IsAffineOf n p f.now → IsAffineOf n q g.now
+        → IsFound n (limited n (Some (sum p (multiple k q)))) result }
 {
     let Some(loops) = combined_loops(&f.loops, &g.loops, k) else {
         return None;
@@ -161,7 +169,11 @@ pub fn combined(f: &Affine, g: &Affine, k: i64) -> Option<Affine>
         return None;
     };
     let syms = terms.at;
-    Some(Affine { loops, syms, constant })
+    Some(Affine {
+        loops,
+        syms,
+        constant,
+    })
 }
 
 /// A constant, where it is within the limits.
@@ -171,5 +183,9 @@ pub fn constant_form(number: i128) -> Option<Affine>
     let Some(constant) = small(number) else {
         return None;
     };
-    Some(Affine { loops: [0; 7], syms: [(0, 0); 8], constant })
+    Some(Affine {
+        loops: [0; 7],
+        syms: [(0, 0); 8],
+        constant,
+    })
 }

@@ -15,7 +15,10 @@ use subscripts::Affine;
 fn bare(alloc: Global, name: Name) -> Expr
     ensures { expression_of result ≡ variable name }
 {
-    Expr::Item(Ref { name, subs: Seq::new(alloc) })
+    Expr::Item(Ref {
+        name,
+        subs: Seq::new(alloc),
+    })
 }
 
 #[tactic(auto, using(fv_tree::proofs::Equations::expression_equations))]
@@ -87,7 +90,12 @@ fn more(alloc: Global, so_far: Option<Expr>, times: i64, name: Name) -> Result<O
     Ok(Some(sum))
 }
 
-fn more_loops(alloc: Global, so_far: Option<Expr>, times: &[i64], names: &[Name]) -> Result<Option<Expr>, Memory>
+fn more_loops(
+    alloc: Global,
+    so_far: Option<Expr>,
+    times: &[i64],
+    names: &[Name],
+) -> Result<Option<Expr>, Memory>
     ensures { IfOk result (λ o. text_so_far o ≡ with_terms (text_so_far so_far) times.now (variables names.now)) }
 {
     let Some((first, times)) = times.split_first() else {
@@ -100,10 +108,13 @@ fn more_loops(alloc: Global, so_far: Option<Expr>, times: &[i64], names: &[Name]
     more_loops(alloc, so_far, times, names)
 }
 
-fn at_place(alloc: Global, so_far: Option<Expr>, times: i64, name: Option<Name>) -> Result<Option<Expr>, Memory>
-    ensures {
-        IfOk result (λ o. text_so_far o ≡ with_place (text_so_far so_far) times name)
-    }
+fn at_place(
+    alloc: Global,
+    so_far: Option<Expr>,
+    times: i64,
+    name: Option<Name>,
+) -> Result<Option<Expr>, Memory>
+    ensures { IfOk result (λ o. text_so_far o ≡ with_place (text_so_far so_far) times name) }
 {
     match name {
         Some(name) => more(alloc, so_far, times, name),
@@ -156,7 +167,12 @@ fn last(alloc: Global, so_far: Option<Expr>, constant: i64) -> Result<Expr, Memo
 
 /// The canonical text of a form: its loop terms from the outside in, its symbols by their places, its constant. What
 /// has no name in the lists is left out.
-pub fn express(alloc: Global, form: &Affine, loops: &[Name], symbols: &Seq<Name>) -> Result<Expr, Memory>
+pub fn express(
+    alloc: Global,
+    form: &Affine,
+    loops: &[Name],
+    symbols: &Seq<Name>,
+) -> Result<Expr, Memory>
     ensures { IfOk result (λ e. expression_of e ≡ text_of loops.now symbols.now form.now) }
 {
     let sum = more_loops(alloc, None, &form.loops, loops)?;

@@ -33,17 +33,17 @@ returns-in-Un t c =
     let names = c.args.loops.now ++ c.args.symbols.now in
     let n = length c.args.loops.now in
     λ few many. subst (λ e. IsPartOf n names (expression_of e) c.sign_part.result) (sym c.in-Un.is)
-      (un_part n names c.in-Un.op c.in-Un.a c.sign_part.result (c.sign_part.ensures n names (expression_of c.in-Un.a.value) few
-        (subst (λ e. IsPartOf n names (expression_of e) c.part_of.result) c.deref.ensures (c.part_of.ensures few many))))
+    (un_part n names c.in-Un.op c.in-Un.a c.sign_part.result (c.sign_part.ensures n names (expression_of c.in-Un.a.value) few
+    (subst (λ e. IsPartOf n names (expression_of e) c.part_of.result) c.deref.ensures (c.part_of.ensures few many))))
 
 pub returns-in-Bin : goal.returns-in-Bin
 returns-in-Bin t c =
     let names = c.args.loops.now ++ c.args.symbols.now in
     let n = length c.args.loops.now in
     λ few many. subst (λ e. IsPartOf n names (expression_of e) c.pair_part.result) (sym c.in-Bin.is)
-      (bin_part n names c.in-Bin.op c.in-Bin.a c.in-Bin.b c.pair_part.result (c.pair_part.ensures n names (expression_of c.in-Bin.a.value) (expression_of c.in-Bin.b.value) few
-        (subst (λ e. IsPartOf n names (expression_of e) c.part_of-left.result) c.deref-in-Bin.ensures (c.part_of-left.ensures few many))
-        (subst (λ e. IsPartOf n names (expression_of e) c.part_of-in-Bin.result) c.deref-in-Bin-2.ensures (c.part_of-in-Bin.ensures few many))))
+    (bin_part n names c.in-Bin.op c.in-Bin.a c.in-Bin.b c.pair_part.result (c.pair_part.ensures n names (expression_of c.in-Bin.a.value) (expression_of c.in-Bin.b.value) few
+    (subst (λ e. IsPartOf n names (expression_of e) c.part_of-left.result) c.deref-in-Bin.ensures (c.part_of-left.ensures few many))
+    (subst (λ e. IsPartOf n names (expression_of e) c.part_of-in-Bin.result) c.deref-in-Bin-2.ensures (c.part_of-in-Bin.ensures few many))))
 
 pub returns-in-List : goal.returns-in-List
 returns-in-List t c =

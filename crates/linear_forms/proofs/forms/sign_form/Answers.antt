@@ -6,4 +6,4 @@ pub returns-in-Neg : goal.returns-in-Neg
 returns-in-Neg c =
     let none : c.args.whole ≡ None = search rules in
     subst (λ op. SignClause op c.args.whole c.args.form c.combined.result) (sym c.in-Neg.is)
-      (sign_neg c.args.whole c.args.form c.in-Some-form.form c.combined.result none c.in-Some-form.is c.combined.ensures)
+    (sign_neg c.args.whole c.args.form c.in-Some-form.form c.combined.result none c.in-Some-form.is c.combined.ensures)

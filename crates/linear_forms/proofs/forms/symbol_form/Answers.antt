@@ -8,4 +8,4 @@ pub returns : goal.returns
 returns c =
     let same : c.in-Ok.place ≡ c.args.at = search rules in
     λ n h. subst (λ k. IsFound n (limited n (Some (unit_form (n + c.args.at)))) (Some (record { loops = replicate 7 (pos 0); syms = set (replicate 8 (0, pos 0)) 0 (k, pos 1); constant = pos 0 })))
-      (sym same) (symbol_found n c.args.at)
+    (sym same) (symbol_found n c.args.at)

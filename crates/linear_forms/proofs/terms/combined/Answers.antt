@@ -38,4 +38,4 @@ returns c =
     let is = small_is c.coefficient.result c.in-Some-small.constant (sym c.in-Some-small.is ∙ got) in
     let fits_constant : SFits w64 c.in-Some-small.constant = search rules in
     rw (to_z-of_z w64 c.in-Some-small.constant fits_constant)
-      (λ n p q few a b. kept n p q f g c.args.k a b c.in-Some.loops c.in-Some-with_both.terms c.in-Some-small.constant loops terms (is.0 ∙ exact) is.1)
+    (λ n p q few a b. kept n p q f g c.args.k a b c.in-Some.loops c.in-Some-with_both.terms c.in-Some-small.constant loops terms (is.0 ∙ exact) is.1)

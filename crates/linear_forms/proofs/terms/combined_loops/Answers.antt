@@ -19,7 +19,7 @@ loop-at-preserved c =
     let fits : SFits w64 c.in-Some.number = search rules in
     let inside : at < length c.loop-at.loops = omega (arith, c.loop-at.invariant.len, c.loop-at-test.true) in
     rw (to_z-of_z w64 c.in-Some.number fits)
-      (record {
-        done = one_more f g c.loop-at.loops k at c.in-Some.number inside c.loop-at.invariant.done (is.0 ∙ exact) is.1;
-        len = search rules;
-      })
+    (record {
+      done = one_more f g c.loop-at.loops k at c.in-Some.number inside c.loop-at.invariant.done (is.0 ∙ exact) is.1;
+      len = search rules;
+    })
