@@ -76,7 +76,10 @@ fn counts_symbols_and_loops(rt: HostRuntime) -> Result<(), Fail> {
     let alloc = rt.alloc();
     let mut symbols = Seq::new(alloc);
     let mut sum = Expr::Int(0);
-    for (at, text) in [b"A", b"B", b"C", b"D", b"E", b"F", b"G", b"H", b"K"].iter().enumerate() {
+    for (at, text) in [b"A", b"B", b"C", b"D", b"E", b"F", b"G", b"H", b"K"]
+        .iter()
+        .enumerate()
+    {
         symbols.push(name(text.as_slice())?)?;
         sum = two(alloc, Op::Add, sum, variable(alloc, text.as_slice())?)?;
         assert_eq!(rt; linear(&sum, &[], &symbols).is_some(), at < 8);
