@@ -17,10 +17,8 @@ use Rattle.profile_laws.proofs.Programs.{source_is_target}
 use Rattle.dialect_laws.proofs.Runs.{sequential_run_is_array_run}
 use Rattle.f77_read.proofs.SourceLaws.{read_is_source_program}
 use Rattle.f90_grammar.specs.PrintedText.{with_line_feed, program_lines}
-use Rattle.f90_laws.specs.ReadBack.{IsReadBack}
-use Rattle.f90_laws.proofs.PrintedBlocksBack.{text_back}
-use Rattle.f90_laws.proofs.PrintedTrees.{typed_reads_back}
-use Rattle.f90_laws.proofs.PrintedWords.{printed_is_spelled}
+use Rattle.f90_read_back.specs.ReadBack.{IsReadAs as IsTextOf}
+use Rattle.f90_read_back.proofs.PrintedIsRead.{printed_is_read}
 use Rattle.fv_tool.proofs.Renumbered.{same_but_lines}
 use Rattle.fv_tool.proofs.SourceLines.{program_lines_are_source}
 use Rattle.fv_deck.proofs.Written.{IsSourceLine, source_alone, input_alone, source_before_data, input_after_data, no_input}
@@ -58,11 +56,11 @@ holds deck p h =
     let source : IsProgram77 fortran77 p = read_is_source_program fortran77 (source_of data_line77 deck) h.source.cards p (omega arith) h.source.are_cards h.source.program in
     let target : IsProgram90 p = source_is_target fortran77 p (omega arith) source in
     let ls : List (List ℕ) = program_lines p [] in
-    let back : IsReadBack p (flat_map with_line_feed ls) = text_back p [] target tt (printed_is_spelled p target) (typed_reads_back p.declarations) in
+    let back : IsTextOf p (flat_map with_line_feed ls) = printed_is_read p [] target tt in
     let plain : AllByRecursion IsSourceLine ls = program_lines_are_source p [] target tt in
     let there : Bool = has_data data_line77 deck in
     let input : List ℕ = input_of data_line77 deck in
-    let read : IsReadBack p (source_of data_line90 (translation_text deck p)) = subst (IsReadBack p) (sym (source_behind ls plain there input)) back in
+    let read : IsTextOf p (source_of data_line90 (translation_text deck p)) = subst (IsTextOf p) (sym (source_behind ls plain there input)) back in
     record {
       program = p;
       reads = h;

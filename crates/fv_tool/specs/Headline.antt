@@ -5,7 +5,7 @@ use Rattle.fv_meaning.specs.Deck.{source_of, input_of, data_line77, data_line90}
 use Rattle.fv_meaning.specs.Store.{Agree}
 use Rattle.fv_meaning.specs.Sequential.{sequential_run, EndsWell}
 use Rattle.fv_meaning.specs.Array.{array_run}
-use Rattle.f90_laws.specs.ReadBack.{IsReadBack}
+use Rattle.f90_read_back.specs.ReadBack.{IsReadAs as IsTextOf}
 use Rattle.fv_io.specs.Streams.{Gives, GivesPart}
 use Rattle.fv_tool.specs.Decks.{ReadsDeck77}
 use Rattle.fv_tool.specs.Translation.{translation_text}
@@ -24,7 +24,7 @@ pub record TranslationHolds (deck text : List ℕ) : Type 0 where
   pub program : Program
   pub reads : ReadsDeck77 deck program
   pub printed : text ≡ translation_text deck program
-  pub read_back : IsReadBack program (source_of data_line90 text)
+  pub read_back : IsTextOf program (source_of data_line90 text)
   pub input : input_of data_line90 text ≡ input_of data_line77 deck
   pub preserves : Preserves program read_back.program (input_of data_line77 deck)
 
