@@ -1,2 +1,3 @@
 pub mod DeclaredNames
 pub mod PrintedIsRead
+pub mod OneProgram

@@ -1,4 +1,4 @@
--- The text of a printed program is read as the program.
+-- The text of a printed program is read as the program, and no text is read as two programs.
 use Rattle.std.specs.Prelude.{◌≡◌, Some, ℕ, List}
 use Rattle.std.specs.List.{AllByRecursion}
 use Rattle.fv_tree.specs.Plain.{Program}
@@ -20,3 +20,7 @@ pub record IsReadAs (p : Program) (text : List ℕ) : Type 0 where
 abbrev pub PrintedProgramIsRead : Type 0
 PrintedProgramIsRead = (p : Program) (notes : List (List ℕ)) → IsProgram90 p → AllByRecursion IsNote notes
     → IsReadAs p (printed90 p notes)
+
+-- a text is read as one program
+abbrev pub OneProgram : Type 0
+OneProgram = (text : List ℕ) (q r : Program) → Reads90 text q → Reads90 text r → q ≡ r
