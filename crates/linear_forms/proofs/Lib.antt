@@ -12,3 +12,4 @@ pub mod ConstantLaws
 pub mod PartLaws
 pub mod Units
 pub mod TextLaws
+pub mod AffineTexts

@@ -1,12 +1,15 @@
 -- Laws of linear forms.
-use Rattle.std.specs.Prelude.{◌≡◌, Ok, Some, ℕ, ◌≤◌, ◌^◌, ℤ, nat_abs, IsTrue, List, [], ◌∷◌, ◌++◌}
+use Rattle.std.specs.Prelude.{◌≡◌, Ok, Some, ℕ, ◌≤◌, ◌^◌, ℤ, nat_abs, IsTrue, List, [], ◌∷◌, ◌++◌, length}
 use Rattle.fv_tree.specs.Plain.{Expression}
 use Rattle.fv_tree.specs.declared.ops.Value.TheVariants.{Int}
 use Rattle.fv_meaning.specs.Dialect.{Dialect}
 use Rattle.fv_meaning.specs.Store.{Store}
 use Rattle.fv_meaning.specs.Value.{value_of}
+use Rattle.subscripts.specs.declared.affine.Affine.{Affine}
 use Rattle.linear_forms.specs.Linear.{Form, number_at, HaveValues, is_limited, form_of}
-use Rattle.linear_forms.specs.Expressed.{expressed}
+use Rattle.linear_forms.specs.Expressed.{variables, expressed}
+use Rattle.linear_forms.specs.Places.{IsAffineOf}
+use Rattle.linear_forms.specs.Texts.{text_of}
 
 -- numbers of 64 bits, as INTEGER has at most
 abbrev pub AreSized : List ℤ → Type 0
@@ -30,3 +33,16 @@ abbrev pub TextHasValue : Type 0
 TextHasValue = (lang : Dialect) (loops : ℕ) (terms : List Expression) (f : Form) (s : Store) (xs : List ℤ)
     → loops ≤ 7 → IsTrue (is_limited loops f) → EachHasValue lang terms s xs → AreSized xs
     → value_of lang (expressed terms f) s ≡ Ok (Int (number_at f xs))
+
+-- the text of an affine form over the names of its loops and symbols is the canonical text of the form
+abbrev pub AffineHasText : Type 0
+AffineHasText = (loops symbols : List (List ℕ)) (f : Form) (a : Affine)
+    → IsAffineOf (length loops) f a → text_of loops symbols a ≡ expressed (variables (loops ++ symbols)) f
+
+-- so, within the limits, it has the form's number as its value
+abbrev pub AffineTextHasValue : Type 0
+AffineTextHasValue =
+    (lang : Dialect) (loops symbols : List (List ℕ)) (f : Form) (a : Affine) (s : Store) (xs : List ℤ)
+    → length loops ≤ 7 → IsTrue (is_limited (length loops) f) → IsAffineOf (length loops) f a
+    → HaveValues (loops ++ symbols) s xs → AreSized xs
+    → value_of lang (text_of loops symbols a) s ≡ Ok (Int (number_at f xs))

@@ -1,5 +1,6 @@
 //! Laws of linear forms. A law is a function without a body: its contract is what holds.
-ghost use Rattle.linear_forms.specs.Laws.{LinearHasValue, TextHasValue};
+ghost use Rattle.linear_forms.specs.Laws.{LinearHasValue, TextHasValue, AffineHasText};
+ghost use Rattle.linear_forms.specs.Laws.{AffineTextHasValue};
 
 /// An expression with a linear form has exactly the form's number as its value, without fault, wherever its names hold
 /// numbers of 64 bits.
@@ -11,4 +12,18 @@ pub fn linear_value()
 /// So has the canonical text of a form, whose terms are names or divided trips.
 pub fn text_value()
     ensures { TextHasValue }
+{}
+
+/// The text of an affine form is the canonical text of the linear form that it stands for, by the names of the loops
+/// and the symbols.
+#[tactic(auto, using(crate::proofs::AffineTexts::affine_has_text))]
+pub fn affine_text()
+    ensures { AffineHasText }
+{}
+
+/// So, within the limits and with at most seven loops, its value is the form's number, without fault, wherever those
+/// names hold numbers of 64 bits.
+#[tactic(auto, using(crate::proofs::AffineTexts::affine_text_has_value))]
+pub fn affine_text_value()
+    ensures { AffineTextHasValue }
 {}

@@ -11,6 +11,6 @@ mod texts;
 
 pub use constants::constant_value;
 pub use forms::{Part, linear};
-pub use laws::{linear_value, text_value};
+pub use laws::{affine_text, affine_text_value, linear_value, text_value};
 pub use terms::{Terms, ZERO, combined, constant_form};
 pub use texts::express;
