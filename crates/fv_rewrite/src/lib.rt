@@ -6,13 +6,17 @@
 
 mod expressions;
 mod items;
+mod names;
 mod rule;
+mod statement_uses;
 mod statements;
 mod substitution;
 #[cfg(test)]
 mod tests;
+mod uses;
 
 pub use expressions::rewrite_expression;
+pub use names::{names_read, names_written};
 pub use rule::Rule;
 pub use statements::rewrite;
 pub use substitution::substitute;
