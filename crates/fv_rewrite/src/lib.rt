@@ -2,6 +2,8 @@
 //!
 //! A rule says what becomes of one node, and its laws speak of one node. That the run of what was made follows the run
 //! of the tree is proved once, for every rule.
+//!
+//! Also the names that a tree reads and those that it writes.
 #![tactic(auto)]
 
 mod expressions;
