@@ -147,7 +147,8 @@ impl Uses {
 
     #[cycle(uses)]
     pub fn add_subs(&mut self, subs: &Seq<Sub>) -> Result<(), Memory>
-        ensures { OnOk result (self.new.list ≡ self.old.list ++ flat_map uses_in_subscript (map subscript_of subs.now)) }
+        ensures { OnOk result (self.new.list ≡ self.old.list
+            ++ flat_map uses_in_subscript (map subscript_of subs.now)) }
     {
         for sub in subs.as_slice() {
             self.add_sub(sub)?;
