@@ -3,3 +3,6 @@ pub mod Equations
 pub mod Values
 pub mod Rewriting
 pub mod Substituted
+pub mod UseLaws
+pub mod StatementUseLaws
+pub mod NameLaws

@@ -2,3 +2,4 @@ pub mod Making
 pub mod Following
 pub mod Rule
 pub mod Substituting
+pub mod Names

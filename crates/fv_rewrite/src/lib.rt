@@ -2,17 +2,23 @@
 //!
 //! A rule says what becomes of one node, and its laws speak of one node. That the run of what was made follows the run
 //! of the tree is proved once, for every rule.
+//!
+//! Also the names that a tree reads and those that it writes.
 #![tactic(auto)]
 
 mod expressions;
 mod items;
+mod names;
 mod rule;
+mod statement_uses;
 mod statements;
 mod substitution;
 #[cfg(test)]
 mod tests;
+mod uses;
 
 pub use expressions::rewrite_expression;
+pub use names::{names_read, names_written};
 pub use rule::Rule;
 pub use statements::rewrite;
 pub use substitution::substitute;

@@ -1,7 +1,7 @@
-//! A rule that renames a scalar, on statements and lists.
+//! A rule that renames a scalar, on statements and lists; the names of a block.
 
 use crate::substitution::Substitution;
-use crate::{rewrite, substitute};
+use crate::{names_read, names_written, rewrite, substitute};
 use fv_tree::{Block, Expr, Item, Name, Op, Ref, Seq, Stmt, Sub};
 use std::alloc::Global;
 use std::test::Fail;
@@ -76,5 +76,38 @@ fn replaces_scalars(rt: HostRuntime) -> Result<(), Fail> {
     );
     let text = format!(in rt.alloc(); "{made:?}")?;
     assert_eq!(rt; text, format!(in rt.alloc(); "{wanted:?}")?);
+    Ok(())
+}
+
+// DO I = K, N, 1; READ *, T, A(I); A(I) = K; END DO
+fn counted(alloc: Global) -> Result<Block, Fail> {
+    let mut stmts = Seq::new(alloc);
+    stmts.push(Stmt::Do {
+        line: 1,
+        var: Name::read(b"I").ok_or("I")?,
+        first: scalar(alloc, b"K")?,
+        last: scalar(alloc, b"N")?,
+        step: Expr::Int(1),
+        body: statements(alloc, b"I", b"K")?,
+    })?;
+    Ok(Block { stmts })
+}
+
+#[test]
+fn lists_names(rt: HostRuntime) -> Result<(), Fail> {
+    let block = counted(rt.alloc())?;
+    let read = names_read(rt.alloc(), &block)?;
+    let written = names_written(rt.alloc(), &block)?;
+    let table = [
+        (read, [b"K".as_slice(), b"N".as_slice(), b"I".as_slice()]),
+        (written, [b"I".as_slice(), b"T".as_slice(), b"A".as_slice()]),
+    ];
+    for (names, wanted) in table.iter() {
+        assert_eq!(rt; names.len(), 3);
+        for i in 0..3 {
+            let name = names.get(i).ok_or("name")?;
+            assert_eq!(rt; name.text(), wanted[i]);
+        }
+    }
     Ok(())
 }

@@ -1,0 +1,55 @@
+//! The names that a block reads, and those that it writes.
+ghost use Rattle.std.specs.Prelude.{◌≡◌, IfOk, OnOk};
+ghost use Rattle.fv_tree.specs.View.{block_of};
+ghost use Rattle.fv_rewrite.specs.Names.{uses_in_block, names_standing, without_repeats, names_read_in};
+ghost use Rattle.fv_rewrite.specs.Names.{names_written_in, with_use};
+
+use crate::uses::{Use, Uses, Way};
+use fv_tree::{Block, Memory, Name, Seq};
+use indexmap::IndexSet;
+use std::alloc::Global;
+
+fn insert_standing(names: &mut IndexSet<Name>, used: Use, way: Way) -> Result<(), Memory>
+    ensures { OnOk result (names.new.keys ≡ with_use way names.old.keys used) }
+{
+    if used.way.is(way) {
+        names.insert(used.name)?;
+    }
+    Ok(())
+}
+
+fn names_standing(alloc: Global, uses: &[Use], way: Way) -> Result<IndexSet<Name>, Memory>
+    ensures { IfOk result (λ names. names.keys ≡ without_repeats (names_standing way uses.now)) }
+{
+    let mut names = IndexSet::new(alloc);
+    for used in uses {
+        insert_standing(&mut names, *used, way)?;
+    }
+    Ok(names)
+}
+
+fn names_in(alloc: Global, block: &Block, way: Way) -> Result<Seq<Name>, Memory>
+    ensures { IfOk result (λ names. names
+        ≡ without_repeats (names_standing way (uses_in_block (block_of block.now)))) }
+{
+    let mut uses = Uses::new(alloc);
+    uses.add_block(block)?;
+    let names = names_standing(alloc, uses.list.as_slice(), way)?;
+    Ok(Seq::from_vec(Vec::from_slice(alloc, names.as_slice())?))
+}
+
+/// The names that the block reads, each once, in the order in which they stand first: those in right sides, masks,
+/// conditions, subscripts, section bounds, bounds of loops, extents and output items.
+pub fn names_read(alloc: Global, block: &Block) -> Result<Seq<Name>, Memory>
+    ensures { IfOk result (λ names. names ≡ names_read_in (block_of block.now)) }
+{
+    names_in(alloc, block, Way::Reads)
+}
+
+/// The names that the block writes, each once, in the order in which they stand first: those that are assigned or read
+/// into, variables of DO and of implied DO lists, and arrays that are allocated or deallocated.
+pub fn names_written(alloc: Global, block: &Block) -> Result<Seq<Name>, Memory>
+    ensures { IfOk result (λ names. names ≡ names_written_in (block_of block.now)) }
+{
+    names_in(alloc, block, Way::Writes)
+}
