@@ -12,7 +12,8 @@ use Rattle.fv_report.specs.declared.outcome.Outcome.TheVariants.{Refused, ReadFa
 -- The source failed, the deck is too long, or there was no memory.
 abbrev pub IsUnread : Option (List ℕ) → Option (List ℕ) → ℕ → ℕ → Outcome → Type 0
 IsUnread before now faults_before faults_now ReadFault = Rose faults_before faults_now
-IsUnread before now faults_before faults_now (Refused r) = (r ≡ refusal_at TooLong 0) × TakesMoreThan (2 ^ 24) before now
+IsUnread before now faults_before faults_now (Refused r) =
+    (r ≡ refusal_at TooLong 0) × TakesMoreThan (2 ^ 24) before now
 IsUnread before now faults_before faults_now OutOfMemory = Unit {0}
 IsUnread before now faults_before faults_now _ = ⊥
 

@@ -16,7 +16,8 @@ pub(crate) fn read_deck<S: Source>(alloc: Global, deck: &mut S) -> Result<Vec<u8
     ensures whole { IfOk result (λ bytes. Takes (S.left deck.old) bytes.items (S.left deck.new)) }
     ensures end { OnOk result (IsAtEnd (S.left deck.new)) }
     ensures within { IfOk result (λ bytes. length bytes.items ≤ 2 ^ 24) }
-    ensures unread { IfErr result (IsUnread (S.left deck.old) (S.left deck.new) (S.faults deck.old) (S.faults deck.new)) }
+    ensures unread { IfErr result
+        (IsUnread (S.left deck.old) (S.left deck.new) (S.faults deck.old) (S.faults deck.new)) }
     ensures later { S.faults deck.old ≤ S.faults deck.new }
 {
     match read_all(alloc, deck, DECK_BYTES) {

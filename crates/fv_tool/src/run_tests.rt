@@ -1,5 +1,5 @@
 //! Rows of `run77` over memory: words and a deck, and the status, the text and the note that answer them.
-use super::tests::{Objects, SEVEN, WILLING, call, great_deck};
+use super::tests::{Objects, SEVEN, WILLING, call, great_deck, text_of};
 use std::alloc::{AllocError, Global};
 use std::process::Abort;
 use std::test::Fail;
@@ -852,15 +852,6 @@ const NO_COMMANDS: &[&[&str]] = &[
 ];
 
 // The bytes of these lines.
-fn text_of(alloc: Global, lines: &[&str]) -> Result<Vec<u8>, AllocError> {
-    let mut text = Vec::new(alloc);
-    for line in lines {
-        text.extend_from_slice(line.as_bytes())?;
-        text.push(b'\n')?;
-    }
-    Ok(text)
-}
-
 fn check_rows(rt: &impl Abort, alloc: Global, rows: &[Row]) -> Result<(), Fail> {
     for row in rows {
         let what = row.what;

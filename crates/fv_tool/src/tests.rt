@@ -8,98 +8,214 @@ pub(super) const SEVEN: &[u8] = b"      PRINT *, 7\n      END\n";
 
 const SEVEN90: &[u8] = b"PROGRAM FV_PROGRAM\nIMPLICIT NONE\nPRINT *, 7\nEND\n";
 
-// A deck, and what is written for it: the status, the text and the note.
+// The lines of a deck, and what is written for it: the status, and the lines of the text and of the note.
 struct Row {
-    deck: &'static [u8],
+    deck: &'static [&'static str],
     status: u8,
-    out: &'static [u8],
-    notes: &'static [u8],
+    out: &'static [&'static str],
+    notes: &'static [&'static str],
 }
 
 const ROWS: &[Row] = &[
     Row {
-        deck: SEVEN,
+        deck: &["      PRINT *, 7", "      END"],
         status: 0,
-        out: SEVEN90,
-        notes: b"",
+        out: &["PROGRAM FV_PROGRAM", "IMPLICIT NONE", "PRINT *, 7", "END"],
+        notes: &[],
     },
     Row {
-        deck: b"      I = 2\n      J = I + 3\n      PRINT *, I + J\n      END\n",
+        deck: &["      I = 2", "      J = I + 3", "      PRINT *, I + J", "      END"],
         status: 0,
-        out: b"PROGRAM FV_PROGRAM\nIMPLICIT NONE\nINTEGER :: I\nINTEGER :: J\nI = 2\nJ = I + 3\nPRINT *, I + J\nEND\n",
-        notes: b"",
+        out: &[
+            "PROGRAM FV_PROGRAM",
+            "IMPLICIT NONE",
+            "INTEGER :: I",
+            "INTEGER :: J",
+            "I = 2",
+            "J = I + 3",
+            "PRINT *, I + J",
+            "END",
+        ],
+        notes: &[],
     },
     Row {
-        deck: b"      N1=0 07\r\n      LAST=N1+1+K\n      PRINT*,LAST,1,N1+2\n      E N D",
-        status: 0,
-        out: b"PROGRAM FV_PROGRAM\nIMPLICIT NONE\nINTEGER :: K\nINTEGER :: LAST\nINTEGER :: N1\nN1 = 7\nLAST = N1 + 1 + K\nPRINT *, LAST, 1, N1 + 2\nEND\n",
-        notes: b"",
-    },
-    Row {
-        deck: b"      X = 1\n      END\n",
+        deck: &["      X = 1", "      END"],
         status: 2,
-        out: b"",
-        notes: b"fvec: line 1: refused 14 RealName\n",
+        out: &[],
+        notes: &["fvec: line 1: refused 14 RealName"],
     },
     Row {
-        deck: b"      I = 170141183460469231731687303715884105728\n      END\n",
+        deck: &["      I = 170141183460469231731687303715884105728", "      END"],
         status: 2,
-        out: b"",
-        notes: b"fvec: line 1: refused 8 WideLiteral\n",
+        out: &[],
+        notes: &["fvec: line 1: refused 8 WideLiteral"],
     },
     Row {
-        deck: b"      I = 170141183460469231731687303715884105727\n      END\n",
+        deck: &["      I = 170141183460469231731687303715884105727", "      END"],
         status: 0,
-        out: b"PROGRAM FV_PROGRAM\nIMPLICIT NONE\nINTEGER :: I\nI = 170141183460469231731687303715884105727\nEND\n",
-        notes: b"",
+        out: &[
+            "PROGRAM FV_PROGRAM",
+            "IMPLICIT NONE",
+            "INTEGER :: I",
+            "I = 170141183460469231731687303715884105727",
+            "END",
+        ],
+        notes: &[],
     },
     Row {
-        deck: b"      INTEGER DO10I\n      DO10I=1\n      DO 10 I = 1, 3\n   10 DO10I = DO10I + I\n      PRINT *, DO10I, I\n      END\n",
+        deck: &[
+            "      INTEGER DO10I",
+            "      DO10I=1",
+            "      DO 10 I = 1, 3",
+            "   10 DO10I = DO10I + I",
+            "      PRINT *, DO10I, I",
+            "      END",
+        ],
         status: 0,
-        out: b"PROGRAM FV_PROGRAM\nIMPLICIT NONE\nINTEGER :: DO10I\nINTEGER :: I\nDO10I = 1\nDO I = 1, 3\nDO10I = DO10I + I\nEND DO\nPRINT *, DO10I, I\nEND\n",
-        notes: b"",
+        out: &[
+            "PROGRAM FV_PROGRAM",
+            "IMPLICIT NONE",
+            "INTEGER :: DO10I",
+            "INTEGER :: I",
+            "DO10I = 1",
+            "DO I = 1, 3",
+            "DO10I = DO10I + I",
+            "END DO",
+            "PRINT *, DO10I, I",
+            "END",
+        ],
+        notes: &[],
     },
     Row {
-        deck: b"      I = 2\n      J = -(I - 2) * 3\n      PRINT *, I + J\n      END\n",
+        deck: &["      I = 2", "      J = -(I - 2) * 3", "      PRINT *, I + J", "      END"],
         status: 0,
-        out: b"PROGRAM FV_PROGRAM\nIMPLICIT NONE\nINTEGER :: I\nINTEGER :: J\nI = 2\nJ = -(I - 2) * 3\nPRINT *, I + J\nEND\n",
-        notes: b"",
+        out: &[
+            "PROGRAM FV_PROGRAM",
+            "IMPLICIT NONE",
+            "INTEGER :: I",
+            "INTEGER :: J",
+            "I = 2",
+            "J = -(I - 2) * 3",
+            "PRINT *, I + J",
+            "END",
+        ],
+        notes: &[],
     },
     Row {
-        deck: b"      INTEGER A(5)\n      A(3) = 7\n      DO 20 I = 1, 5\n      IF (A(I) .EQ. 7) GO TO 30\n   20 CONTINUE\n   30 PRINT *, I\n      END\n",
+        deck: &[
+            "      INTEGER A(5)",
+            "      A(3) = 7",
+            "      DO 20 I = 1, 5",
+            "      IF (A(I) .EQ. 7) GO TO 30",
+            "   20 CONTINUE",
+            "   30 PRINT *, I",
+            "      END",
+        ],
         status: 0,
-        out: b"PROGRAM FV_PROGRAM\nIMPLICIT NONE\nINTEGER :: A(5)\nINTEGER :: I\nA(3) = 7\nDO I = 1, 5\nIF (A(I) == 7) THEN\nGO TO 30\nEND IF\nEND DO\n30 CONTINUE\nPRINT *, I\nEND\n",
-        notes: b"",
+        out: &[
+            "PROGRAM FV_PROGRAM",
+            "IMPLICIT NONE",
+            "INTEGER :: A(5)",
+            "INTEGER :: I",
+            "A(3) = 7",
+            "DO I = 1, 5",
+            "IF (A(I) == 7) THEN",
+            "GO TO 30",
+            "END IF",
+            "END DO",
+            "30 CONTINUE",
+            "PRINT *, I",
+            "END",
+        ],
+        notes: &[],
     },
     Row {
-        deck: b"      LOGICAL L\n      READ *, L, I\n      PRINT *, 'L =', L, -I / 2 ** 2, MOD(-7, 3)\n      END\n*DATA\n.TRUE., 9\n",
+        deck: &[
+            "      LOGICAL L",
+            "      READ *, L, I",
+            "      PRINT *, 'L =', L, -I / 2 ** 2, MOD(-7, 3)",
+            "      END",
+            "*DATA",
+            ".TRUE., 9",
+        ],
         status: 0,
-        out: b"PROGRAM FV_PROGRAM\nIMPLICIT NONE\nINTEGER :: I\nLOGICAL :: L\nREAD *, L, I\nPRINT *, 'L =', L, -I / 2 ** 2, MOD(-7, 3)\nEND\n!DATA\n.TRUE., 9\n",
-        notes: b"",
+        out: &[
+            "PROGRAM FV_PROGRAM",
+            "IMPLICIT NONE",
+            "INTEGER :: I",
+            "LOGICAL :: L",
+            "READ *, L, I",
+            "PRINT *, 'L =', L, -I / 2 ** 2, MOD(-7, 3)",
+            "END",
+            "!DATA",
+            ".TRUE., 9",
+        ],
+        notes: &[],
     },
     Row {
-        deck: b"      INTEGER SUM, SPREAD(2)\n      MERGE = 3\n      SUM = SPREAD(1) + MERGE\n      END\n*DATA",
-        status: 0,
-        out: b"PROGRAM FV_PROGRAM\nIMPLICIT NONE\nINTEGER :: MERGE\nINTEGER :: SPREAD(2)\nINTEGER :: SUM\nMERGE = 3\nSUM = SPREAD(1) + MERGE\nEND\n!DATA\n",
-        notes: b"",
-    },
-    Row {
-        deck: b"      PRINT *, 7\n",
+        deck: &["      PRINT *, 7"],
         status: 2,
-        out: b"",
-        notes: b"fvec: line 1: refused 12 NoEnd\n",
+        out: &[],
+        notes: &["fvec: line 1: refused 12 NoEnd"],
     },
     Row {
-        deck: b"",
+        deck: &[],
         status: 2,
-        out: b"",
-        notes: b"fvec: line 0: refused 12 NoEnd\n",
+        out: &[],
+        notes: &["fvec: line 0: refused 12 NoEnd"],
     },
     Row {
-        deck: b"      END\n      I = 1\n",
+        deck: &["      END", "      I = 1"],
         status: 2,
-        out: b"",
-        notes: b"fvec: line 1: refused 12 NoEnd\n",
+        out: &[],
+        notes: &["fvec: line 1: refused 12 NoEnd"],
+    },
+];
+
+// Decks whose last line lacks its end.
+const UNENDED: &[Row] = &[
+    Row {
+        deck: &[
+            "      N1=0 07\r",
+            "      LAST=N1+1+K",
+            "      PRINT*,LAST,1,N1+2",
+            "      E N D",
+        ],
+        status: 0,
+        out: &[
+            "PROGRAM FV_PROGRAM",
+            "IMPLICIT NONE",
+            "INTEGER :: K",
+            "INTEGER :: LAST",
+            "INTEGER :: N1",
+            "N1 = 7",
+            "LAST = N1 + 1 + K",
+            "PRINT *, LAST, 1, N1 + 2",
+            "END",
+        ],
+        notes: &[],
+    },
+    Row {
+        deck: &[
+            "      INTEGER SUM, SPREAD(2)",
+            "      MERGE = 3",
+            "      SUM = SPREAD(1) + MERGE",
+            "      END",
+            "*DATA",
+        ],
+        status: 0,
+        out: &[
+            "PROGRAM FV_PROGRAM",
+            "IMPLICIT NONE",
+            "INTEGER :: MERGE",
+            "INTEGER :: SPREAD(2)",
+            "INTEGER :: SUM",
+            "MERGE = 3",
+            "SUM = SPREAD(1) + MERGE",
+            "END",
+            "!DATA",
+        ],
+        notes: &[],
     },
 ];
 
@@ -163,13 +279,41 @@ fn vectorised(alloc: Global, deck: &[u8], objects: &Objects) -> Result<Done, All
     call(alloc, &["vectorise"], deck, objects)
 }
 
+// The lines, each with its end.
+pub(super) fn text_of(alloc: Global, lines: &[&str]) -> Result<Vec<u8>, AllocError> {
+    let mut text = Vec::new(alloc);
+    for line in lines {
+        text.extend_from_slice(line.as_bytes())?;
+        text.push(b'\n')?;
+    }
+    Ok(text)
+}
+
+fn check_row(rt: &impl Abort, alloc: Global, deck: &[u8], row: &Row) -> Result<(), Fail> {
+    let done = vectorised(alloc, deck, &WILLING)?;
+    let out = text_of(alloc, row.out)?;
+    let notes = text_of(alloc, row.notes)?;
+    assert_eq!(rt; done.status, row.status);
+    assert_eq!(rt; done.out.as_slice(), out.as_slice());
+    assert_eq!(rt; done.notes.as_slice(), notes.as_slice());
+    Ok(())
+}
+
 #[test]
 fn rows_are_answered(rt: HostRuntime) -> Result<(), Fail> {
     for row in ROWS {
-        let done = vectorised(rt.alloc(), row.deck, &WILLING)?;
-        assert_eq!(rt; done.status, row.status);
-        assert_eq!(rt; done.out.as_slice(), row.out);
-        assert_eq!(rt; done.notes.as_slice(), row.notes);
+        let deck = text_of(rt.alloc(), row.deck)?;
+        check_row(&rt, rt.alloc(), deck.as_slice(), row)?;
+    }
+    Ok(())
+}
+
+#[test]
+fn the_last_line_may_lack_its_end(rt: HostRuntime) -> Result<(), Fail> {
+    for row in UNENDED {
+        let mut deck = text_of(rt.alloc(), row.deck)?;
+        deck.pop();
+        check_row(&rt, rt.alloc(), deck.as_slice(), row)?;
     }
     Ok(())
 }
