@@ -1,10 +1,12 @@
 //! The program `fvec`: the real words, stdin for the deck, stdout for the text and stderr for the notes.
 #![tactic(auto)]
 
-ghost use Rattle.std.specs.Prelude.{◌≡◌, ◌⊎◌, IfErr};
+ghost use Rattle.std.specs.Prelude.{◌≡◌, ◌⊎◌, IfErr, IfOk, drop};
+ghost use Rattle.std.specs.Vec.Iter.{into_iter_items};
 
 use fv_io::{StdSink, StdSource};
 use fv_tool::run_tool;
+use std::alloc::{AllocError, Global};
 use std::env;
 use std::io::ErrorKind;
 use std::process::ExitCode;
@@ -15,22 +17,22 @@ const NO_MEMORY: u8 = 7;
 /// The system refused the words for another cause.
 const NO_WORDS: u8 = 8;
 
-// The words after the program's name, or the status that says why there are none.
+// The words after the program's name.
+fn after_name(alloc: Global, args: env::Args) -> Result<Vec<String>, AllocError>
+    ensures words { IfOk result (λ words. words.items ≡ drop 1 (into_iter_items args)) }
+{
+    args.skip(1).collect(alloc)
+}
+
+// The words, or the status that says why there are none.
 fn words(rt: &HostRuntime) -> Result<Vec<String>, u8>
     ensures { IfErr result (λ status. (status ≡ 7) ⊎ (status ≡ 8)) }
 {
-    let mut words = Vec::new(rt.alloc());
-    let args = match env::args(rt) {
-        Ok(args) => args,
-        Err(error) if error.kind() == ErrorKind::OutOfMemory => return Err(NO_MEMORY),
-        Err(_) => return Err(NO_WORDS),
-    };
-    for word in args.skip(1) {
-        if words.push(word).is_err() {
-            return Err(NO_MEMORY);
-        }
+    match env::args(rt) {
+        Ok(args) => after_name(rt.alloc(), args).map_err(|_| NO_MEMORY),
+        Err(error) if error.kind() == ErrorKind::OutOfMemory => Err(NO_MEMORY),
+        Err(_) => Err(NO_WORDS),
     }
-    Ok(words)
 }
 
 fn main(rt: HostRuntime) -> ExitCode {
