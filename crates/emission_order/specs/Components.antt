@@ -1,7 +1,7 @@
 -- The classes that recursive emission of a nest asks for, as the strongly connected components of a relation of numbers
 -- (Allen and Kennedy, "Optimizing Compilers for Modern Architectures", section 2.4; Tarjan, "Depth-first search and
 -- linear graph algorithms", 1972).
-use Rattle.std.specs.Prelude.{◌↔◌, ◌<◌, ℕ, suc, List, length, slice_index}
+use Rattle.std.specs.Prelude.{◌↔◌, ◌<◌, ℕ, List, length, slice_index}
 use Rattle.components.specs.Emission.{statements_of}
 use Rattle.components.specs.Lists.{In}
 use Rattle.components.specs.Orders.{IsOrder}

@@ -1,0 +1,17 @@
+pub mod Alike
+pub mod Counting
+pub mod Deciding
+pub mod Dialects
+pub mod Ending
+pub mod Framing
+pub mod Going
+pub mod Holding
+pub mod OneByOne
+pub mod Orders
+pub mod Passing
+pub mod Quieting
+pub mod Results
+pub mod Runs
+pub mod Touching
+pub mod Translating
+pub mod Variables
