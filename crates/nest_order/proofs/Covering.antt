@@ -1,6 +1,6 @@
 -- In a complete graph an edge asks for the sequential order of two instances that touch a common cell.
 use Rattle.std.proofs.Common.{◌≡◌, refl, sym, ap, ◌∙◌, subst, ◌⊎◌, inl, inr, ℕ, zero, suc, ◌+◌, ◌<◌, ◌≤◌, List, [], ◌∷◌, ◌++◌, map, length, arith}
-use Rattle.nest_order.specs.Graphs.{Any, Arc, Candidate, Covers, Direction, Graph, Greater, HasLevel, IsComplete, IsInstanceAt, Just, Less, MayBegin, Meet, Place, Related, Same, Sign, StandsFor, edge_of, level_after}
+use Rattle.nest_order.specs.Graphs.{Any, Arc, Candidate, Covers, Direction, Greater, HasLevel, IsComplete, IsInstanceAt, Just, Less, MayBegin, Meet, Place, Related, Same, Sign, StandsFor, edge_of, level_after}
 use Rattle.nest_order.specs.Lists.{Each, In}
 use Rattle.nest_order.specs.Nests.{Carried, Depends, DependsAt, Independent, IsEdge, LeadsInNest, Level, Precedes, Remains}
 use Rattle.nest_order.specs.Shapes.{Instance, LessAt, SameUpTo, Shape, Within, common_of}
@@ -130,16 +130,16 @@ module _ {V X : Type 0} (loops_of : ℕ → List ℕ) (trip : V → ℕ → List
   depends_at x y Independent h = h
 
   -- an edge from the one reference to the other asks for the order
-  pub record Arced (g : Graph) (p q : ℕ) (x y : Instance) : Type 0 where
+  pub record Arced (arcs : List Arc) (p q : ℕ) (x y : Instance) : Type 0 where
     pub arc : Arc
-    pub listed : In arc g.edges
+    pub listed : In arc arcs
     pub from : arc.from ≡ record { statement = x.statement; reference = p }
     pub to : arc.to ≡ record { statement = y.statement; reference = q }
     pub asks : DependsAt common (level_after 0 arc.signs) x y
 
-  pub complete_arc : (g : Graph) → IsComplete loops_of common trip references Touches t g → (v : V) (x y : Instance) → IsInstanceAt loops_of common trip references Touches t v x → IsInstanceAt loops_of common trip references Touches t v y
-      → Precedes common x y → (meet : Meet loops_of common trip references Touches t v x y) → Arced g meet.0 meet.1 x y
-  complete_arc g complete v x y a b before meet =
+  pub complete_arc : (arcs : List Arc) → IsComplete loops_of common trip references Touches t arcs → (v : V) (x y : Instance) → IsInstanceAt loops_of common trip references Touches t v x → IsInstanceAt loops_of common trip references Touches t v y
+      → Precedes common x y → (meet : Meet loops_of common trip references Touches t v x y) → Arced arcs meet.0 meet.1 x y
+  complete_arc arcs complete v x y a b before meet =
       let n = common x.statement y.statement in
       let le : n ≤ length (loops_of x.statement) = common_left (loops_of x.statement) (loops_of y.statement) in
       let re : n ≤ length (loops_of y.statement) = common_right (loops_of x.statement) (loops_of y.statement) in
@@ -150,26 +150,25 @@ module _ {V X : Type 0} (loops_of : ℕ → List ℕ) (trip : V → ℕ → List
       let c = candidate meet.0 meet.1 x y in
       let len = vector-length n x.iterations y.iterations long_x long_y in
       let related = vector-related n x.iterations y.iterations long_x long_y in
-      by len related (complete.covered c ((a.0, meet.4), (b.0, meet.5), meet.3, len, begins x y before))
+      by len related (complete.covered c ((a.0, meet.4), (b.0, meet.5), meet.3, len, begins x y before)
+      (record { values = v; first = x; second = y; cell = meet.2; first_is = (a, refl); second_is = (b, refl); related = related; touched = (meet.6, meet.7) }))
     where
       by : length (vector (common x.statement y.statement) x.iterations y.iterations) ≡ common x.statement y.statement
           → Related (vector (common x.statement y.statement) x.iterations y.iterations) x.iterations y.iterations
-          → ((a : Arc) × In a g.edges × StandsFor a (candidate meet.0 meet.1 x y)) ⊎ ((a : Arc) × In a g.dropped × StandsFor a (candidate meet.0 meet.1 x y)) → Arced g meet.0 meet.1 x y
-      by len related (inl h) = record {
+          → (a : Arc) × In a arcs × StandsFor a (candidate meet.0 meet.1 x y) → Arced arcs meet.0 meet.1 x y
+      by len related h = record {
         arc = h.0;
         listed = h.1;
         from = h.2.0;
         to = h.2.1;
         asks = depends_at x y (level_after 0 h.0.signs) (by_level 0 (common x.statement y.statement) x.iterations y.iterations h.0.signs (vector (common x.statement y.statement) x.iterations y.iterations) len (complete.level h.0 h.1) h.2.2 related);
       }
-      by len related (inr h) = absurd (complete.dropped (candidate meet.0 meet.1 x y) h.0 h.1 h.2
-          (record { values = v; first = x; second = y; cell = meet.2; first_is = (a, refl); second_is = (b, refl); related = related; touched = (meet.6, meet.7) }))
 
-  pub complete_covers : (g : Graph) → IsComplete loops_of common trip references Touches t g → (v : V) (x y : Instance) → IsInstanceAt loops_of common trip references Touches t v x → IsInstanceAt loops_of common trip references Touches t v y
-      → Precedes common x y → Meet loops_of common trip references Touches t v x y → Depends common (map edge_of g.edges) x y
-  complete_covers g complete v x y a b before meet =
-      let r = complete_arc g complete v x y a b before meet in
-      (edge_of r.arc, map-In edge_of r.arc g.edges r.listed, (ap (λ (p : Place). p.statement) r.from, ap (λ (p : Place). p.statement) r.to, r.asks))
+  pub complete_covers : (arcs : List Arc) → IsComplete loops_of common trip references Touches t arcs → (v : V) (x y : Instance) → IsInstanceAt loops_of common trip references Touches t v x → IsInstanceAt loops_of common trip references Touches t v y
+      → Precedes common x y → Meet loops_of common trip references Touches t v x y → Depends common (map edge_of arcs) x y
+  complete_covers arcs complete v x y a b before meet =
+      let r = complete_arc arcs complete v x y a b before meet in
+      (edge_of r.arc, map-In edge_of r.arc arcs r.listed, (ap (λ (p : Place). p.statement) r.from, ap (λ (p : Place). p.statement) r.to, r.asks))
 
   -- ---- the edges are what emission asks of them
 
@@ -184,9 +183,9 @@ module _ {V X : Type 0} (loops_of : ℕ → List ℕ) (trip : V → ℕ → List
   may_lead n s r c (Just Same ∷ signs) (d ∷ ds) len p v b =
       may_lead (suc n) s r c signs ds (let e : n + suc (length ds) ≡ c = len in omega arith) p v.1 (subst (λ e. MayBegin (e ∷ ds) s r) (sym v.0) b)
 
-  pub edges_may_be : (g : Graph) → IsComplete loops_of common trip references Touches t g → Each (IsEdge loops_of) (map edge_of g.edges)
-  edges_may_be g complete = Each-from (IsEdge loops_of) (map edge_of g.edges) (λ e i.
-      let o = In-map edge_of e g.edges i in
+  pub edges_may_be : (arcs : List Arc) → IsComplete loops_of common trip references Touches t arcs → Each (IsEdge loops_of) (map edge_of arcs)
+  edges_may_be arcs complete = Each-from (IsEdge loops_of) (map edge_of arcs) (λ e i.
+      let o = In-map edge_of e arcs i in
       let s = complete.stands o.it o.inside in
       let from : s.0.from.statement ≡ o.it.from.statement = ap (λ (p : Place). p.statement) (sym s.2.0) in
       let to : s.0.to.statement ≡ o.it.to.statement = ap (λ (p : Place). p.statement) (sym s.2.1) in
@@ -200,17 +199,16 @@ module _ {V X : Type 0} (loops_of : ℕ → List ℕ) (trip : V → ℕ → List
       same s r (Carried m) h = h
       same s r Independent h = h
 
-  -- ---- a statement with no flow edge on itself within a loop
+  -- ---- instances at the same iterations of the first d loops
 
-  -- a later instance, at the same iterations of the first d loops, reads no cell that the earlier one may write
-  pub none_reads_written : (g : Graph) → IsComplete loops_of common trip references Touches t g → (d s : ℕ)
-      → ((a : Arc) → In a g.edges → a.from ≡ record { statement = s; reference = 0 } → a.to.statement ≡ s → ¬ (a.to.reference ≡ 0) → ¬ (Remains d (level_after 0 a.signs)))
-      → (v : V) (x y : Instance) → IsInstanceAt loops_of common trip references Touches t v x → IsInstanceAt loops_of common trip references Touches t v y → x.statement ≡ s → y.statement ≡ s
-      → SameUpTo d x.iterations y.iterations → Precedes common x y → 0 < references x.statement → (q : ℕ) (c : X) → ¬ (q ≡ 0) → q < references y.statement → Touches v 0 x c → ¬ (Touches v q y c)
-  none_reads_written g complete d s none v x y a b is_x is_y same before have q c read less w r =
-      let arc = complete_arc g complete v x y a b before (0, q, c, inl refl, have, less, w, r) in
-      none arc.arc arc.listed (subst (λ k. arc.arc.from ≡ record { statement = k; reference = 0 }) is_x arc.from) (ap (λ (p : Place). p.statement) arc.to ∙ is_y) (λ e. read (sym (ap (λ (p : Place). p.reference) arc.to) ∙ e))
-      (reached (level_after 0 arc.arc.signs) arc.asks)
+  -- where they meet, an edge that none of these loops carries leads from the one reference to the other
+  pub meets_by_arc : (arcs : List Arc) → IsComplete loops_of common trip references Touches t arcs → (d : ℕ) (v : V) (x y : Instance)
+      → IsInstanceAt loops_of common trip references Touches t v x → IsInstanceAt loops_of common trip references Touches t v y
+      → SameUpTo d x.iterations y.iterations → Precedes common x y → (meet : Meet loops_of common trip references Touches t v x y)
+      → (a : Arc) × In a arcs × (a.from ≡ record { statement = x.statement; reference = meet.0 }) × (a.to ≡ record { statement = y.statement; reference = meet.1 }) × Remains d (level_after 0 a.signs)
+  meets_by_arc arcs complete d v x y a b same before meet =
+      let arc = complete_arc arcs complete v x y a b before meet in
+      (arc.arc, arc.listed, arc.from, arc.to, reached (level_after 0 arc.arc.signs) arc.asks)
     where
       deep : (d m : ℕ) (is js : List ℕ) → SameUpTo d is js → LessAt m is js → d ≤ m
       deep zero m is js h l = omega arith

@@ -1,4 +1,4 @@
--- Dependence graphs of nests: candidates for a dependence, and what an order of instances needs of a graph (Allen and
+-- Dependence graphs of nests: candidates for a dependence, and what an order of instances needs of the edges (Allen and
 -- Kennedy, sections 2.2 and 3.2; Goff, Kennedy and Tseng, "Practical dependence testing", PLDI 1991).
 use Rattle.std.specs.Prelude.{◌≡◌, ◌⊎◌, ⊤, ℕ, suc, ◌<◌, List, [], ◌∷◌, length}
 use Rattle.nest_order.specs.Lists.{In}
@@ -74,14 +74,10 @@ HasLevel _ = ⊥
 abbrev pub edge_of : Arc → Edge
 edge_of a = record { from = a.from.statement; to = a.to.statement; level = level_after 0 a.signs }
 
-pub record Graph : Type 0 where
-  pub edges : List Arc
-  pub dropped : List Arc
-
 -- V: values of the symbols, on which trips depend; common: how many loops stand round two statements both; references:
 -- how many a statement has; Touches v r x c: the reference r of the instance x may name the cell c
-module _ {V X : Type 0} (loops_of : ℕ → List ℕ) (common : ℕ → ℕ → ℕ) (trip : V → ℕ → List ℕ → ℕ) (references : ℕ → ℕ)
-    (Touches : V → ℕ → Instance → X → Type 0) (t : Shape) where
+module _ {V X : Type 0} (loops_of : ℕ → List ℕ) (common : ℕ → ℕ → ℕ) (trip : V → ℕ → List ℕ → ℕ)
+    (references : ℕ → ℕ) (Touches : V → ℕ → Instance → X → Type 0) (t : Shape) where
   abbrev pub IsInstanceAt : V → Instance → Type 0
   IsInstanceAt v x = In x.statement (statements t) × Within (trip v) [] (loops_of x.statement) x.iterations
 
@@ -106,15 +102,12 @@ module _ {V X : Type 0} (loops_of : ℕ → List ℕ) (common : ℕ → ℕ → 
     pub related : Related c.vector first.iterations second.iterations
     pub touched : Touches values c.from.reference first cell × Touches values c.to.reference second cell
 
-  -- what orders need of a graph: each candidate stands in an edge or among the dropped; what is dropped has no pair; each
-  -- edge has a level, and stands for a candidate
-  pub record IsComplete (g : Graph) : Type 0 where
-    pub covered :
-        (c : Candidate) → IsCandidate c
-        → ((a : Arc) × In a g.edges × StandsFor a c) ⊎ ((a : Arc) × In a g.dropped × StandsFor a c)
-    pub dropped : (c : Candidate) (a : Arc) → In a g.dropped → StandsFor a c → ¬ (Pair c)
-    pub level : (a : Arc) → In a g.edges → HasLevel a.signs
-    pub stands : (a : Arc) → In a g.edges → (c : Candidate) × IsCandidate c × StandsFor a c
+  -- what orders need of the edges that are listed: each candidate that has a pair stands in one; and each has a level, and
+  -- stands for a candidate
+  pub record IsComplete (arcs : List Arc) : Type 0 where
+    pub covered : (c : Candidate) → IsCandidate c → Pair c → (a : Arc) × In a arcs × StandsFor a c
+    pub level : (a : Arc) → In a arcs → HasLevel a.signs
+    pub stands : (a : Arc) → In a arcs → (c : Candidate) × IsCandidate c × StandsFor a c
 
   -- x and y touch a common cell, and one of them by its left side
   abbrev pub Meet : V → Instance → Instance → Type 0

@@ -76,7 +76,8 @@ module _ (trip : ℕ → List ℕ → ℕ) where
   abbrev mutual
     pub instances : Shape → List ℕ → List Instance
     instances (Single s) before = record { statement = s; iterations = [] } ∷ []
-    instances (Loop l ts) before = turns 1 (trip l before) (λ i. map (within_turn i) (instances_in ts (before ++ i ∷ [])))
+    instances (Loop l ts) before =
+        turns 1 (trip l before) (λ i. map (within_turn i) (instances_in ts (before ++ i ∷ [])))
 
     pub instances_in : Shapes → List ℕ → List Instance
     instances_in no_shapes before = []

@@ -11,6 +11,7 @@ use Rattle.nest_order.specs.Lists.{In}
 use Rattle.nest_order.specs.Shapes.{Shape, Single, Loop, Shapes, no_shapes, shape, statements, loops, Stands, StandsIn, Instance, instances_in, Within}
 use Rattle.nest_order.proofs.Common.{statement_stands}
 use Rattle.nest_order.proofs.Membership.{In-map}
+use Rattle.nest_runs.specs.Alone.{inside}
 use Rattle.nest_runs.specs.Blocks.{Layout, nest_block, nest_statement}
 use Rattle.nest_runs.specs.Forms.{AreCounted, AreCountedIn, IsCounted}
 use Rattle.nest_runs.specs.Guarded.{sequential, variable_cell}

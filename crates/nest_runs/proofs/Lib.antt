@@ -1,4 +1,5 @@
 pub mod Alike
+pub mod Alone
 pub mod Counting
 pub mod Deciding
 pub mod Dialects

@@ -3,16 +3,17 @@ use Rattle.std.proofs.Common.{◌≡◌, refl, ◌⊎◌, inl, inr, ℕ, List, [
 use Rattle.fv_tree.specs.declared.ops.Value.{Value}
 use Rattle.fv_tree.specs.declared.ops.Fault.{Fault}
 use Rattle.fv_meaning.specs.Store.{Store, Cell, put}
-use Rattle.nest_order.specs.Graphs.{Graph, edge_of}
+use Rattle.nest_order.specs.Graphs.{Arc, edge_of}
 use Rattle.nest_order.specs.Nests.{IsInstance, Depends, Precedes, Ordered, common}
 use Rattle.nest_order.specs.Orders.{MayPass}
 use Rattle.nest_order.specs.Shapes.{Instance, instances, loops}
 use Rattle.nest_order.proofs.Covering.{complete_covers}
 use Rattle.nest_order.proofs.Theorems.{any_order}
+use Rattle.nest_runs.specs.Alone.{inside}
 use Rattle.nest_runs.specs.Guarded.{sequential}
 use Rattle.nest_runs.specs.Nests.{Nest, acts, effect_of}
 use Rattle.nest_runs.specs.Stores.{HoldsNest, IsNestIn, Setting}
-use Rattle.nest_runs.specs.Touched.{IsGraphOf, MayMeet, Touches, references_of}
+use Rattle.nest_runs.specs.Touched.{AreEdgesOf, MayMeet, Touches, references_of}
 use Rattle.nest_runs.specs.Laws.{InstancesMayPass, AnyOrderGivesStore}
 use Rattle.nest_runs.proofs.Deciding.{depends_or_not}
 use Rattle.nest_runs.proofs.Holding.{instance_inside}
@@ -42,22 +43,22 @@ module _ (bits : ℕ) (n : Nest) (w : Setting) (ok : IsNestIn bits n w) where
   pub passes : (x y : Instance) → IsIt x → IsIt y → ¬ (MayMeet n w.values x y) → MayPass (acts n (sequential bits)) (HoldsNest bits n w) x y
   passes x y is_x is_y apart = may_pass (sequential bits) n IsIt Reads Writes (HoldsNest bits n w) (reading bits n w ok) (writing bits n w ok) kept x y is_x is_y (λ c. apart (meets x y c))
 
-  ordered : (g : Graph) → IsGraphOf n g → Ordered n.loops_of (n.turns_of w.values) n.shape (acts n (sequential bits)) (HoldsNest bits n w) (map edge_of g.edges)
-  ordered g complete x y a b p = by (depends_or_not (common n.loops_of) x y (map edge_of g.edges))
+  ordered : (arcs : List Arc) → AreEdgesOf n arcs → Ordered n.loops_of (n.turns_of w.values) n.shape (acts n (sequential bits)) (HoldsNest bits n w) (map edge_of arcs)
+  ordered arcs complete x y a b p = by (depends_or_not (common n.loops_of) x y (map edge_of arcs))
     where
-      by : Depends (common n.loops_of) (map edge_of g.edges) x y ⊎ ¬ (Depends (common n.loops_of) (map edge_of g.edges) x y)
-          → Depends (common n.loops_of) (map edge_of g.edges) x y ⊎ MayPass (acts n (sequential bits)) (HoldsNest bits n w) x y
+      by : Depends (common n.loops_of) (map edge_of arcs) x y ⊎ ¬ (Depends (common n.loops_of) (map edge_of arcs) x y)
+          → Depends (common n.loops_of) (map edge_of arcs) x y ⊎ MayPass (acts n (sequential bits)) (HoldsNest bits n w) x y
       by (inl h) = inl h
-      by (inr none) = inr (passes x y a b (λ m. none (complete_covers n.loops_of n.turns_of (λ s. length (references_of n s)) (Touches n) n.shape g complete w.values x y a b p m)))
+      by (inr none) = inr (passes x y a b (λ m. none (complete_covers n.loops_of n.turns_of (λ s. length (references_of n s)) (Touches n) n.shape arcs complete w.values x y a b p m)))
 
-  pub order_gives_store : (g : Graph) → IsGraphOf n g → (order : List Instance) → Rattle.nest_order.specs.Nests.KeepsEdges n.loops_of (n.turns_of w.values) n.shape (map edge_of g.edges) order → (s u : Store)
+  pub order_gives_store : (arcs : List Arc) → AreEdgesOf n arcs → (order : List Instance) → Rattle.nest_order.specs.Nests.KeepsEdges n.loops_of (n.turns_of w.values) n.shape (map edge_of arcs) order → (s u : Store)
       → HoldsNest bits n w s → Rattle.nest_order.specs.Orders.runs (acts n (sequential bits)) (instances (n.turns_of w.values) n.shape []) s ≡ Ok u
       → Rattle.nest_order.specs.Orders.runs (acts n (sequential bits)) order s ≡ Ok u
-  order_gives_store g complete order keeps s u inside e = any_order n.loops_of (n.turns_of w.values) n.shape ok.text.nest (map edge_of g.edges) Store Fault (acts n (sequential bits)) (HoldsNest bits n w)
-      (invariant (sequential bits) n IsIt Reads Writes (HoldsNest bits n w) (reading bits n w ok) (writing bits n w ok) kept) (ordered g complete) order keeps s u inside e
+  order_gives_store arcs complete order keeps s u inside e = any_order n.loops_of (n.turns_of w.values) n.shape ok.text.nest (map edge_of arcs) Store Fault (acts n (sequential bits)) (HoldsNest bits n w)
+      (invariant (sequential bits) n IsIt Reads Writes (HoldsNest bits n w) (reading bits n w ok) (writing bits n w ok) kept) (ordered arcs complete) order keeps s u inside e
 
 pub instances_may_pass : InstancesMayPass
 instances_may_pass bits n w x y ok is_x is_y apart = passes bits n w ok x y is_x is_y apart
 
 pub any_order_gives_store : AnyOrderGivesStore
-any_order_gives_store bits n w g order s u ok complete keeps inside e = order_gives_store bits n w ok g complete order keeps s u inside e
+any_order_gives_store bits n w arcs order s u ok complete keeps inside e = order_gives_store bits n w ok arcs complete order keeps s u inside e

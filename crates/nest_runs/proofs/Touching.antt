@@ -13,6 +13,7 @@ use Rattle.nest_order.specs.Lists.{In}
 use Rattle.nest_order.specs.Nests.{IsInstance}
 use Rattle.nest_order.specs.Shapes.{Instance, loops}
 use Rattle.nest_order.proofs.Lists.{In-left, In-right, In-append}
+use Rattle.nest_runs.specs.Alone.{inside}
 use Rattle.nest_runs.specs.Guarded.{Guarded, at_iterations, read_by_guard, reads, sequential, variable_cell}
 use Rattle.nest_runs.specs.Nests.{Nest, effect_of, is_variable, reads_of, variable_of, variables_round}
 use Rattle.nest_runs.specs.Stores.{HoldsNest, IsNestIn, Setting}

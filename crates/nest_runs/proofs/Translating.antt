@@ -13,7 +13,7 @@ use Rattle.fv_meaning.specs.Store.{Store, Cell, put, cell_at}
 use Rattle.fv_meaning.specs.Value.{number_of, is_in_range, exact}
 use Rattle.array_laws.specs.Instances.{after}
 use Rattle.nest_order.specs.Emission.{IsEmitted}
-use Rattle.nest_order.specs.Graphs.{Graph, edge_of}
+use Rattle.nest_order.specs.Graphs.{edge_of}
 use Rattle.nest_order.specs.Lists.{In}
 use Rattle.nest_order.specs.Nests.{IsInstance}
 use Rattle.nest_order.specs.Orders.{and_then, runs}
@@ -212,22 +212,22 @@ module _ (bits : ℕ) (arrays : Bool) (n : Nest) (w : Setting) (ok : IsNestIn bi
           written_back_in ts round before (lies_rest bits n w ok k ts round lies) placed counted.1 a.0 u (does (dialect bits arrays) None (written n z form round k) s) b.near b.holds b.inside b.way a.2
 
 pub translation_keeps_meaning : TranslationKeepsMeaning
-translation_keeps_meaning bits arrays n w g ts y z form s wide ok complete emitted equal inside go =
+translation_keeps_meaning bits arrays n w arcs ts y z form s wide ok complete emitted equal inside go =
     let turns_here : ℕ → List ℕ → ℕ = n.turns_of w.values in
     let way = statement_from bits n w ok y n.shape [] s go in
     let a = statement_run bits n w ok y n.shape [] [] (nest_lies bits n w ok) (outermost bits n w ok) s.store s (Near-same n s.store) tt inside go in
     let counted = statement_counted bits n w ok y n.shape [] [] (nest_lies bits n w ok) (outermost bits n w ok) s.store s (Near-same n s.store) tt inside go in
-    let may = edges_may_be n.loops_of n.turns_of (λ r. length (references_of n r)) (Touches n) n.shape g complete in
-    let whole = arranged n.loops_of turns_here n.shape ok.text.nest (map edge_of g.edges) may ts emitted in
+    let may = edges_may_be n.loops_of n.turns_of (λ r. length (references_of n r)) (Touches n) n.shape arcs complete in
+    let whole = arranged n.loops_of turns_here n.shape ok.text.nest (map edge_of arcs) may ts emitted in
     let lies = emission_lies bits n w ok ts whole in
-    let keeps = emission_keeps n.loops_of turns_here n.shape ok.text.nest (map edge_of g.edges) may ts emitted in
-    let run = order_gives_store bits n w ok g complete (instances_in turns_here ts []) keeps s.store a.store inside a.ran in
+    let keeps = emission_keeps n.loops_of turns_here n.shape ok.text.nest (map edge_of arcs) may ts emitted in
+    let run = order_gives_store bits n w ok arcs complete (instances_in turns_here ts []) keeps s.store a.store inside a.ran in
     let b = written_back_in bits arrays n w ok wide z form equal ts [] [] lies (outermost bits n w ok) (other_counted_in bits n w ok counted ts [] [] lies tt) s.store a.store s (Near-same n s.store) tt inside way run in
     record { way = b.way; near = record { bounds = λ x. sym (a.near.bounds x) ∙ b.near.bounds x; held = λ c e. sym (a.near.held c e) ∙ b.near.held c e } }
 
 pub emission_keeps_meaning : EmissionKeepsMeaning
-emission_keeps_meaning bits arrays n w g ts y z s wide ok complete emitted inside go =
-    translation_keeps_meaning bits arrays n w g ts y z (λ r u. None) s wide ok complete emitted (λ round before t c s u f. no_form c f) inside go
+emission_keeps_meaning bits arrays n w arcs ts y z s wide ok complete emitted inside go =
+    translation_keeps_meaning bits arrays n w arcs ts y z (λ r u. None) s wide ok complete emitted (λ round before t c s u f. no_form c f) inside go
   where
     no_form : {A : Type 0} (c : Statement) → ◌≡◌ {A = Option Statement} None (Some c) → A
     no_form c f = absurd (some_none f)

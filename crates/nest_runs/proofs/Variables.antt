@@ -9,6 +9,7 @@ use Rattle.fv_meaning.proofs.Exchanges.{same_cell-same, same_cell-refl, unread}
 use Rattle.nest_order.specs.Lists.{In}
 use Rattle.nest_order.specs.Shapes.{loops, Within}
 use Rattle.nest_order.proofs.Membership.{In-map, map-In}
+use Rattle.nest_runs.specs.Alone.{inside}
 use Rattle.nest_runs.specs.Guarded.{at_iterations, variable_cell}
 use Rattle.nest_runs.specs.Nests.{AreAt, Near, Nest, is_one_of, is_variable, variable_of}
 use Rattle.nest_runs.proofs.Results.{true_false}

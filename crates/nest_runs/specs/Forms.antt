@@ -7,7 +7,8 @@ use Rattle.fv_meaning.specs.Store.{Store}
 use Rattle.fv_meaning.specs.Value.{number_of, trip_count}
 use Rattle.nest_order.specs.Lists.{In}
 use Rattle.nest_order.specs.Orders.{runs}
-use Rattle.nest_order.specs.Shapes.{Shape, Single, Loop, Shapes, no_shapes, shape, statements, Stands, Instance, instances, Within}
+use Rattle.nest_order.specs.Shapes.{Shape, Single, Loop, Shapes, no_shapes, shape, statements, Stands, Instance}
+use Rattle.nest_order.specs.Shapes.{instances, Within}
 use Rattle.nest_runs.specs.Guarded.{dialect, sequential}
 use Rattle.nest_runs.specs.Nests.{Nest, AreAt, acts}
 use Rattle.nest_runs.specs.Stores.{Setting, HoldsNest}
@@ -39,7 +40,8 @@ module _ (bits : ℕ) (n : Nest) (w : Setting) where
 
   -- an instance of a shape in loops that are at the iterations `before`
   abbrev pub acts_at : List ℕ → Instance → Store → Result Store Fault
-  acts_at before x s = acts n (sequential bits) (record { statement = x.statement; iterations = before ++ x.iterations }) s
+  acts_at before x s =
+      acts n (sequential bits) (record { statement = x.statement; iterations = before ++ x.iterations }) s
 
   -- Where the loops round it are within their trips and its instances, one after another, lead without fault to the
   -- store u, the form goes on and leaves u. A form may be an array statement, with arrays as values

@@ -8,7 +8,7 @@ use Rattle.fv_meaning.specs.Store.{Store}
 use Rattle.array_laws.specs.Instances.{in_turn, ComesFromReads}
 use Rattle.array_laws.specs.Instances as arrays
 use Rattle.nest_order.specs.Emission.{IsEmitted}
-use Rattle.nest_order.specs.Graphs.{Graph, edge_of}
+use Rattle.nest_order.specs.Graphs.{Arc, edge_of}
 use Rattle.nest_order.specs.Nests.{IsInstance, KeepsEdges}
 use Rattle.nest_order.specs.Orders.{runs, MayPass}
 use Rattle.nest_order.specs.Shapes.{Shape, Shapes, statements, Instance, instances}
@@ -17,7 +17,7 @@ use Rattle.nest_runs.specs.Forms.{FormsAreInstances}
 use Rattle.nest_runs.specs.Guarded.{dialect, sequential}
 use Rattle.nest_runs.specs.Nests.{Nest, Near, acts, effect_of, reads_of}
 use Rattle.nest_runs.specs.Stores.{Setting, HoldsNest, IsNestIn}
-use Rattle.nest_runs.specs.Touched.{MayMeet, IsGraphOf}
+use Rattle.nest_runs.specs.Touched.{MayMeet, AreEdgesOf}
 
 -- Two instances may be exchanged where they can touch no common cell of which one is written
 abbrev pub InstancesMayPass : Type 0
@@ -28,13 +28,13 @@ InstancesMayPass = (bits : ℕ) (n : Nest) (w : Setting) (x y : Instance)
     → MayPass (acts n (sequential bits)) (HoldsNest bits n w) x y
 
 -- From a store from which the instances of a nest, in sequential order, meet no fault, they meet none in any order that
--- keeps the edges of the nest's graph, and leave the same store. Of the graph no more is asked than that it has each
--- candidate in an edge, but for those that have no pair of iterations
+-- keeps the edges of the nest's graph, and leave the same store. Of the edges no more is asked than that one stands for
+-- each candidate that has a pair of iterations
 abbrev pub AnyOrderGivesStore : Type 0
 AnyOrderGivesStore =
-    (bits : ℕ) (n : Nest) (w : Setting) (g : Graph) (order : List Instance) (s u : Store)
-    → IsNestIn bits n w → IsGraphOf n g
-    → KeepsEdges n.loops_of (n.turns_of w.values) n.shape (map edge_of g.edges) order
+    (bits : ℕ) (n : Nest) (w : Setting) (arcs : List Arc) (order : List Instance) (s u : Store)
+    → IsNestIn bits n w → AreEdgesOf n arcs
+    → KeepsEdges n.loops_of (n.turns_of w.values) n.shape (map edge_of arcs) order
     → HoldsNest bits n w s
     → runs (acts n (sequential bits)) (instances (n.turns_of w.values) n.shape []) s ≡ Ok u
     → runs (acts n (sequential bits)) order s ≡ Ok u
@@ -53,13 +53,13 @@ pub record GoesOnNear (n : Nest) (s t : State) : Type 0 where
   pub way : t.way ≡ Going
   pub near : Near n s.store t.store
 
--- Where the sequential run of a nest goes on, what is emitted for it by a graph goes on and leaves the same store, but
+-- Where the sequential run of a nest goes on, what is emitted for it by its graph goes on and leaves the same store, but
 -- for the loop variables: as loops
 abbrev pub EmissionKeepsMeaning : Type 0
 EmissionKeepsMeaning =
-    (bits : ℕ) (arrays : Bool) (n : Nest) (w : Setting) (g : Graph) (ts : Shapes) (y z : Layout) (s : State)
-    → 31 ≤ bits → IsNestIn bits n w → IsGraphOf n g
-    → IsEmitted n.loops_of (map edge_of g.edges) 0 (statements n.shape) ts
+    (bits : ℕ) (arrays : Bool) (n : Nest) (w : Setting) (arcs : List Arc) (ts : Shapes) (y z : Layout) (s : State)
+    → 31 ≤ bits → IsNestIn bits n w → AreEdgesOf n arcs
+    → IsEmitted n.loops_of (map edge_of arcs) 0 (statements n.shape) ts
     → HoldsNest bits n w s.store → (does (sequential bits) None (nest_statement n y [] n.shape) s).way ≡ Going
     → GoesOnNear n (does (sequential bits) None (nest_statement n y [] n.shape) s)
     (does_all (dialect bits arrays) None (nest_block n z [] ts) s)
@@ -67,10 +67,10 @@ EmissionKeepsMeaning =
 -- and where forms stand in the place of some loops, that do what the instances in those loops do
 abbrev pub TranslationKeepsMeaning : Type 0
 TranslationKeepsMeaning =
-    (bits : ℕ) (arrays : Bool) (n : Nest) (w : Setting) (g : Graph) (ts : Shapes) (y z : Layout)
+    (bits : ℕ) (arrays : Bool) (n : Nest) (w : Setting) (arcs : List Arc) (ts : Shapes) (y z : Layout)
     (form : List ℕ → Shape → Option Statement) (s : State)
-    → 31 ≤ bits → IsNestIn bits n w → IsGraphOf n g
-    → IsEmitted n.loops_of (map edge_of g.edges) 0 (statements n.shape) ts
+    → 31 ≤ bits → IsNestIn bits n w → AreEdgesOf n arcs
+    → IsEmitted n.loops_of (map edge_of arcs) 0 (statements n.shape) ts
     → FormsAreInstances bits n w arrays form
     → HoldsNest bits n w s.store → (does (sequential bits) None (nest_statement n y [] n.shape) s).way ≡ Going
     → GoesOnNear n (does (sequential bits) None (nest_statement n y [] n.shape) s)

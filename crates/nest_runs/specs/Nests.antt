@@ -60,10 +60,12 @@ module _ (n : Nest) where
   module _ (lang : Dialect) where
     -- an instance reads and stores what its statement does where the loops round it are at its iterations
     abbrev pub effect_of : Instance → Store → Result (Option (Cell × Value)) Fault
-    effect_of x s = effect lang (n.statement_at x.statement) (at_iterations (variables_round x.statement) x.iterations s)
+    effect_of x s =
+        effect lang (n.statement_at x.statement) (at_iterations (variables_round x.statement) x.iterations s)
 
     abbrev pub reads_of : Instance → Store → List Cell
-    reads_of x s = reads lang (n.statement_at x.statement) (at_iterations (variables_round x.statement) x.iterations s)
+    reads_of x s =
+        reads lang (n.statement_at x.statement) (at_iterations (variables_round x.statement) x.iterations s)
 
     abbrev pub acts : Instance → Store → Result Store Fault
     acts x s = do

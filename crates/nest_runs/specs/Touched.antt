@@ -4,7 +4,7 @@ use Rattle.std.specs.Prelude.{filter, length, if◌then◌else◌}
 use Rattle.fv_tree.specs.Plain.{Expression, Number, Logic, Named, Unary, Binary, Apply, Expressions, no_expressions}
 use Rattle.fv_tree.specs.Plain.{expression, Subscript, Only, Subscripts, no_subscripts, subscript, Reference}
 use Rattle.fv_meaning.specs.Store.{Cell}
-use Rattle.nest_order.specs.Graphs.{Graph, IsComplete, Meet}
+use Rattle.nest_order.specs.Graphs.{Arc, IsComplete, Meet}
 use Rattle.nest_order.specs.Nests.{common}
 use Rattle.nest_order.specs.Shapes.{Instance}
 use Rattle.nest_runs.specs.Guarded.{Guarded, variable_cell}
@@ -115,7 +115,7 @@ module _ (n : Nest) where
   MayMeet v x y =
       Meet n.loops_of (common n.loops_of) n.turns_of (λ s. length (references_of s)) Touches n.shape v x y
 
-  -- the graph has what an order of the nest's instances needs
-  abbrev pub IsGraphOf : Graph → Type 0
-  IsGraphOf g =
-      IsComplete n.loops_of (common n.loops_of) n.turns_of (λ s. length (references_of s)) Touches n.shape g
+  -- the edges have what an order of the nest's instances needs of its graph
+  abbrev pub AreEdgesOf : List Arc → Type 0
+  AreEdgesOf arcs =
+      IsComplete n.loops_of (common n.loops_of) n.turns_of (λ s. length (references_of s)) Touches n.shape arcs

@@ -1,4 +1,5 @@
 //! Laws of the runs of nests. A law is a function without a body: its contract is what holds.
+ghost use Rattle.nest_runs.specs.Alone.{InnerInstancesAreApart};
 ghost use Rattle.nest_runs.specs.Laws.{AnyOrderGivesStore, EmissionKeepsMeaning, InstancesComeFromReads};
 ghost use Rattle.nest_runs.specs.Laws.{InstancesMayPass, RunIsInstances, TranslationKeepsMeaning};
 ghost use Rattle.nest_runs.specs.Quiet.{QuietStatementsKeepLines};
@@ -30,6 +31,13 @@ pub fn emission()
 /// earlier one has written.
 pub fn instances_one_by_one()
     ensures { InstancesComeFromReads }
+{}
+
+/// Where no edge that leads from a statement's left side to the statement itself is carried by one of its inner loops,
+/// its instances in these loops may store all at once: none reads what an earlier one has written, and no two store
+/// different values in one cell.
+pub fn statement_alone()
+    ensures { InnerInstancesAreApart }
 {}
 
 /// Statements without READ and PRINT leave the output, the input and its place as they were.
