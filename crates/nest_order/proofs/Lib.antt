@@ -1,0 +1,12 @@
+pub mod Common
+pub mod Covering
+pub mod Emission
+pub mod Forward
+pub mod Keeping
+pub mod Lists
+pub mod Membership
+pub mod Once
+pub mod Order
+pub mod Sequence
+pub mod Theorems
+pub mod WorkedShapes

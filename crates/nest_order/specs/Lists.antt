@@ -1,0 +1,23 @@
+-- Words on lists, by recursion.
+use Rattle.std.specs.Prelude.{◌≡◌, ◌⊎◌, ⊤, List, [], ◌∷◌}
+
+abbrev pub In : {X : Type 0} → X → List X → Type 0
+In x [] = ⊥
+In x (y ∷ ys) = (x ≡ y) ⊎ In x ys
+
+abbrev pub Each : {X : Type 0} → (X → Type 0) → List X → Type 0
+Each P [] = ⊤
+Each P (x ∷ xs) = P x × Each P xs
+
+-- R holds of each element and each later one
+abbrev pub Pairwise : {X : Type 0} → (X → X → Type 0) → List X → Type 0
+Pairwise R [] = ⊤
+Pairwise R (x ∷ xs) = Each (R x) xs × Pairwise R xs
+
+-- none stands twice
+abbrev pub Distinct : {X : Type 0} → List X → Type 0
+Distinct xs = Pairwise (λ x y. ¬ (x ≡ y)) xs
+
+-- no element stands before one that has to come first
+abbrev pub Keeps : {X : Type 0} → (X → X → Type 0) → List X → Type 0
+Keeps ComesFirst xs = Pairwise (λ x y. ¬ (ComesFirst y x)) xs

@@ -1,0 +1,46 @@
+//! Laws of the runs of nests. A law is a function without a body: its contract is what holds.
+ghost use Rattle.nest_runs.specs.Alone.{InnerInstancesAreApart};
+ghost use Rattle.nest_runs.specs.Laws.{AnyOrderGivesStore, EmissionKeepsMeaning, InstancesComeFromReads};
+ghost use Rattle.nest_runs.specs.Laws.{InstancesMayPass, RunIsInstances, TranslationKeepsMeaning};
+ghost use Rattle.nest_runs.specs.Quiet.{QuietStatementsKeepLines};
+
+/// A sequential run of a nest that ends without fault is its instances one after another, but for the loop variables.
+pub fn run_of_nest()
+    ensures { RunIsInstances }
+{}
+
+/// Two instances may be exchanged where they touch no common cell of which one is written.
+pub fn exchanged_instances()
+    ensures { InstancesMayPass }
+{}
+
+/// The fundamental theorem of dependence (Allen and Kennedy, section 2.2): any order of a nest's instances that keeps
+/// the edges of its graph leaves the sequential store, whichever test found the edges.
+pub fn any_order()
+    ensures { AnyOrderGivesStore }
+{}
+
+/// Recursive emission keeps the meaning of a nest: all in loops, and where other statements that do what the instances
+/// in a loop do stand in the loop's place. The store is the same but for the loop variables.
+pub fn emission()
+    ensures loops { EmissionKeepsMeaning }
+    ensures forms { TranslationKeepsMeaning }
+{}
+
+/// The instances of a nest are instances for which storing one by one is storing all at once, where none reads what an
+/// earlier one has written.
+pub fn instances_one_by_one()
+    ensures { InstancesComeFromReads }
+{}
+
+/// Where no edge that leads from a statement's left side to the statement itself is carried by one of its inner loops,
+/// its instances in these loops may store all at once: none reads what an earlier one has written, and no two store
+/// different values in one cell.
+pub fn statement_alone()
+    ensures { InnerInstancesAreApart }
+{}
+
+/// Statements without READ and PRINT leave the output, the input and its place as they were.
+pub fn quiet_statements()
+    ensures { QuietStatementsKeepLines }
+{}

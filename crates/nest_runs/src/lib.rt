@@ -1,0 +1,9 @@
+//! What the run of a nest does, by its instances, and that any order of them that keeps the nest's edges does the same.
+#![tactic(auto)]
+
+mod laws;
+
+pub use laws::{
+    any_order, emission, exchanged_instances, instances_one_by_one, quiet_statements, run_of_nest,
+    statement_alone,
+};
