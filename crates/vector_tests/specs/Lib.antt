@@ -1,0 +1,5 @@
+pub mod Refs
+pub mod Pairs
+pub mod Ways
+pub mod Words
+pub mod Places
