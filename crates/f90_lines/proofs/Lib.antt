@@ -1,0 +1,4 @@
+pub mod MarkLaws
+pub mod PartLaws
+pub mod StandingLaws
+pub mod StatementLaws

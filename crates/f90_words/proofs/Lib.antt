@@ -1,0 +1,5 @@
+pub mod ScanningLaws
+pub mod RunLaws
+pub mod LexingLaws
+pub mod WordsLaws
+pub mod CharsLaws
