@@ -6,3 +6,5 @@ pub mod Substituted
 pub mod UseLaws
 pub mod StatementUseLaws
 pub mod NameLaws
+pub mod Profiles
+pub mod ProfileBlocks

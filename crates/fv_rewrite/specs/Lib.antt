@@ -3,3 +3,4 @@ pub mod Following
 pub mod Rule
 pub mod Substituting
 pub mod Names
+pub mod Profile
