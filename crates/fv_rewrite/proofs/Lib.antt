@@ -8,3 +8,4 @@ pub mod StatementUseLaws
 pub mod NameLaws
 pub mod Profiles
 pub mod ProfileBlocks
+pub mod Replacing

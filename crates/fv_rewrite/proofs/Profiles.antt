@@ -107,9 +107,9 @@ module _ (ds es : List Declaration) (also : DeclaresAlso ds es) where
 
     -- the node that was made, and what it becomes
     node : (e f : Expression) (k : Kind) → IsTrue (suits.expression f) → HasKind es f k → rank_of es f ≡ rank_of ds e
-        → level f ≡ level e → depth_of f ≤ depth_of e + raise → Becomes e (m.expression f) k
+        → level f ≡ level e → depth_of f ≤ depth_of e + raise → Becomes e (m.expression e f) k
     node e f k h kind rank own depth =
-        let t = keeps.expression f k h kind in
+        let t = keeps.expression e f k h kind in
         record {
           kind = t.kind;
           rank = t.rank ∙ rank;

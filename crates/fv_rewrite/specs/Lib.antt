@@ -4,3 +4,4 @@ pub mod Rule
 pub mod Substituting
 pub mod Names
 pub mod Profile
+pub mod Replacing

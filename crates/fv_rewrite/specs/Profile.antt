@@ -31,8 +31,8 @@ module _ (es : List Declaration) (raise : ℕ) where
 
   -- of nodes that suit, each takes the place of what it is made of; a left side gets no name that a DO variable has
   pub record KeepsProfile (m : Making) (suits : Suiting) : Type 0 where
-    pub expression : (e : Expression) (k : Kind) → IsTrue (suits.expression e) → HasKind es e k
-        → TakesPlace e (m.expression e) k
+    pub expression : (first e : Expression) (k : Kind) → IsTrue (suits.expression e) → HasKind es e k
+        → TakesPlace e (m.expression first e) k
     pub left : (r : Reference) (k : Kind) → IsTrue (suits.left r) → HasKind es (named r) k
         → TakesPlace (named r) (named (m.left r)) k
     pub target : (r : Reference) → IsTrue (suits.left r)
