@@ -7,7 +7,7 @@ use Rattle.fv_rewrite.specs.Making.{Making, made, made_inside, made_expressions,
 
 -- of a node, and of a list, each one by itself
 module _ (m : Making) where
-  pub made_is : (e : Expression) → made m e ≡ m.expression (made_inside m e)
+  pub made_is : (e : Expression) → made m e ≡ m.expression e (made_inside m e)
   made_is (Number n) = refl
   made_is (Logic b) = refl
   made_is (Named x ps) = refl

@@ -6,3 +6,6 @@ pub mod Substituted
 pub mod UseLaws
 pub mod StatementUseLaws
 pub mod NameLaws
+pub mod Profiles
+pub mod ProfileBlocks
+pub mod Replacing

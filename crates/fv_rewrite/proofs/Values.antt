@@ -66,24 +66,24 @@ single_item bits (Reduce r b) u v h = cc
 module _ (bits : ℕ) (m : Making) (suits : Suiting) (like : Store → Store → Type 0) (rule : IsRule (sequential bits) m suits like) (s u : Store) (a : like s u) where
   mutual
     pub made-value : (e : Expression) → Suits m suits e → (v : Value) → value_of (sequential bits) e s ≡ Ok v → value_of (sequential bits) (made m e) u ≡ Ok v
-    made-value (Number n) h v e = rule.value (Number n) s u v h a e
-    made-value (Logic b) h v e = rule.value (Logic b) s u v h a e
+    made-value (Number n) h v e = rule.value (Number n) (Number n) s u v h a e
+    made-value (Logic b) h v e = rule.value (Logic b) (Logic b) s u v h a e
     made-value (Named x ps) h v e =
         let p = parted (subscript_values (sequential bits) ps s) (λ is. do c ← cell_at x is s; Ok (s.held c)) v e in
-        rule.value (Named x (made_subscripts m ps)) s u v h.0 a
+        rule.value (Named x ps) (Named x (made_subscripts m ps)) s u v h.0 a
         (joined (subscript_values (sequential bits) (made_subscripts m ps) u) (λ is. do c ← cell_at x is s; Ok (s.held c)) p.part v (made-subscripts ps h.1 p.part p.first) p.second)
     made-value (Unary o b) h v e =
         let p = parted (value_of (sequential bits) b s) (λ x. apply o x x) v e in
-        rule.value (Unary o (made m b)) s u v h.0 a (joined (value_of (sequential bits) (made m b) u) (λ x. apply o x x) p.part v (made-value b h.1 p.part p.first) p.second)
+        rule.value (Unary o b) (Unary o (made m b)) s u v h.0 a (joined (value_of (sequential bits) (made m b) u) (λ x. apply o x x) p.part v (made-value b h.1 p.part p.first) p.second)
     made-value (Binary o b c) h v e =
         let p = parted (value_of (sequential bits) b s) (λ x. do y ← value_of (sequential bits) c s; apply o x y) v e in
         let q = parted (value_of (sequential bits) c s) (λ y. apply o p.part y) v p.second in
-        rule.value (Binary o (made m b) (made m c)) s u v h.0 a
+        rule.value (Binary o b c) (Binary o (made m b) (made m c)) s u v h.0 a
         (joined (value_of (sequential bits) (made m b) u) (λ x. do y ← value_of (sequential bits) (made m c) u; apply o x y) p.part v (made-value b h.1 p.part p.first)
         (joined (value_of (sequential bits) (made m c) u) (λ y. apply o p.part y) q.part v (made-value c h.2 q.part q.first) q.second))
     made-value (Apply f es) h v e =
         let p = parted (values_of (sequential bits) es s) (λ xs. call f xs) v e in
-        rule.value (Apply f (made_expressions m es)) s u v h.0 a (joined (values_of (sequential bits) (made_expressions m es) u) (λ xs. call f xs) p.part v (made-values es h.1 p.part p.first) p.second)
+        rule.value (Apply f es) (Apply f (made_expressions m es)) s u v h.0 a (joined (values_of (sequential bits) (made_expressions m es) u) (λ xs. call f xs) p.part v (made-values es h.1 p.part p.first) p.second)
     made-value (Constructor es ls) h v e = cc
     made-value (Spread b k c) h v e = cc
     made-value (Transpose b) h v e = cc

@@ -3,3 +3,5 @@ pub mod Following
 pub mod Rule
 pub mod Substituting
 pub mod Names
+pub mod Profile
+pub mod Replacing

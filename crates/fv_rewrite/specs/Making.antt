@@ -9,9 +9,10 @@ use Rattle.fv_tree.specs.Plain.{Statement, Assignment, Where, If, Do, Label, GoT
 use Rattle.fv_tree.specs.Plain.{Deallocate, Arms, no_arms, arm, Block, no_statements, statement}
 use Rattle.fv_tree.specs.View.{ConstructorLoop, Tested}
 
--- what becomes of an expression, and of the left side of an assignment
+-- What becomes of an expression, as it is first written and as it is when its parts have become what they become; and
+-- of the left side of an assignment
 pub record Making : Type 0 where
-  pub expression : Expression → Expression
+  pub expression : Expression → Expression → Expression
   pub left : Reference → Reference
 
 -- the tests of what a rule suits: an expression, a left side, and a name that is the variable of a DO or of an implied
@@ -24,17 +25,17 @@ pub record Suiting : Type 0 where
 module _ (m : Making) where
   abbrev mutual
     pub made : Expression → Expression
-    made (Number n) = m.expression (Number n)
-    made (Logic b) = m.expression (Logic b)
-    made (Named x ps) = m.expression (Named x (made_subscripts ps))
-    made (Unary o a) = m.expression (Unary o (made a))
-    made (Binary o a b) = m.expression (Binary o (made a) (made b))
-    made (Apply f es) = m.expression (Apply f (made_expressions es))
-    made (Constructor es ls) = m.expression (Constructor (made_expressions es) (made_loops ls))
-    made (Spread a d n) = m.expression (Spread (made a) d (made n))
-    made (Transpose a) = m.expression (Transpose (made a))
-    made (Reshape a es) = m.expression (Reshape (made a) (made_expressions es))
-    made (Reduce r a) = m.expression (Reduce r (made a))
+    made (Number n) = m.expression (Number n) (Number n)
+    made (Logic b) = m.expression (Logic b) (Logic b)
+    made (Named x ps) = m.expression (Named x ps) (Named x (made_subscripts ps))
+    made (Unary o a) = m.expression (Unary o a) (Unary o (made a))
+    made (Binary o a b) = m.expression (Binary o a b) (Binary o (made a) (made b))
+    made (Apply f es) = m.expression (Apply f es) (Apply f (made_expressions es))
+    made (Constructor es ls) = m.expression (Constructor es ls) (Constructor (made_expressions es) (made_loops ls))
+    made (Spread a d n) = m.expression (Spread a d n) (Spread (made a) d (made n))
+    made (Transpose a) = m.expression (Transpose a) (Transpose (made a))
+    made (Reshape a es) = m.expression (Reshape a es) (Reshape (made a) (made_expressions es))
+    made (Reduce r a) = m.expression (Reduce r a) (Reduce r (made a))
 
     pub made_expressions : Expressions → Expressions
     made_expressions no_expressions = no_expressions

@@ -1,7 +1,8 @@
 -- The names that a block reads, and those that it writes (ISO/IEC 1539:1991, section 14.7.5).
 use Rattle.std.specs.Prelude.{ℕ, Bool, true, false, not, if◌then◌else◌, List, [], ◌∷◌, ◌++◌, map}
 use Rattle.std.specs.Str.{bytes_eq}
-use Rattle.std.specs.List.{filter}
+use Rattle.std.specs.List.{filter, list_any}
+use Rattle.fv_meaning.specs.Names.{is_among}
 use Rattle.indexmap.specs.IndexSet.{insert_key}
 use Rattle.fv_tree.specs.Plain.{Expression, Number, Logic, Named, Unary, Binary, Apply, Constructor, Spread, Transpose}
 use Rattle.fv_tree.specs.Plain.{Reshape, Reduce, Expressions, no_expressions, expression, Subscript, Only, Section}
@@ -111,6 +112,10 @@ abbrev mutual
 
 abbrev pub uses_in_arm : Tested → List Use
 uses_in_arm t = uses_in t.test ++ uses_in_block t.body
+
+-- one of the names stands in the expression
+abbrev pub mentions : List (List ℕ) → Expression → Bool
+mentions names e = list_any (λ (u : Use). is_among names u.name) (uses_in e)
 
 -- ---- the names
 

@@ -37,12 +37,12 @@ pub record Assigned (lang : Dialect) (like : Store → Store → Type 0) (s u : 
 
 pub record IsRule (lang : Dialect) (m : Making) (suits : Suiting) (like : Store → Store → Type 0) : Type 0 where
   -- a value is kept where there is one, so that no fault comes that wasn't there
-  pub value : (e : Expression) (s u : Store) (v : Value) → IsTrue (suits.expression e) → like s u
-      → value_between lang e s u ≡ Ok v → value_of lang (m.expression e) u ≡ Ok v
+  pub value : (first e : Expression) (s u : Store) (v : Value) → IsTrue (suits.expression e) → like s u
+      → value_between lang e s u ≡ Ok v → value_of lang (m.expression first e) u ≡ Ok v
   -- so are the values of a bare name in an output list, which may be an array
   pub printed : (x : List ℕ) (s u : Store) (vs : List Value) → IsTrue (suits.expression (Named x no_subscripts))
       → like s u → item_values lang (Named x no_subscripts) s ≡ Ok vs
-      → item_values lang (m.expression (Named x no_subscripts)) u ≡ Ok vs
+      → item_values lang (m.expression (Named x no_subscripts) (Named x no_subscripts)) u ≡ Ok vs
   -- where a left side lands
   pub assigned : (r : Reference) (s u : Store) (is : List ℤ) (c : Cell) → IsTrue (suits.left r) → like s u
       → subscript_values lang r.subscripts u ≡ Ok is → cell_at r.name is s ≡ Ok c

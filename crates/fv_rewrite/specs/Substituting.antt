@@ -19,7 +19,7 @@ module _ (x : List ℕ) (by : Expression) where
   replaced e = if is_scalar x e then by else e
 
   abbrev pub substituting : Making
-  substituting = record { expression = replaced; left = λ l. l }
+  substituting = record { expression = λ first e. replaced e; left = λ l. l }
 
   -- each reference to the scalar x has become the expression; a name with subscripts stays, and its subscripts are
   -- looked at
@@ -40,7 +40,7 @@ nothing_suits = record { expression = λ e. false; left = λ l. false; variable 
 
 pub never_alike : (bits : ℕ) (m : Making) → IsRule (sequential bits) m nothing_suits NeverAlike
 never_alike bits m = record {
-  value = λ e s u v h a. absurd a;
+  value = λ first e s u v h a. absurd a;
   printed = λ x s u vs h a. absurd a;
   assigned = λ r s u is c h a. absurd a;
   variable = λ x s u h a. absurd a;

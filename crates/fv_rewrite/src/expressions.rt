@@ -17,7 +17,7 @@ pub fn rewrite_expression<R: Rule>(alloc: Global, expr: &Expr, rule: &mut R) -> 
     ensures same { R.making rule.new ≡ R.making rule.old }
 {
     let node = rewrite_inside(alloc, expr, rule)?;
-    rule.expression(alloc, node)
+    rule.expression(alloc, expr, node)
 }
 
 // The same node over what the rule makes of its parts.

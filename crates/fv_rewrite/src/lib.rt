@@ -18,7 +18,7 @@ mod tests;
 mod uses;
 
 pub use expressions::rewrite_expression;
-pub use names::{names_read, names_written};
+pub use names::{mentions, names_read, names_written};
 pub use rule::Rule;
 pub use statements::rewrite;
 pub use substitution::substitute;

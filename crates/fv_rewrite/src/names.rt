@@ -1,11 +1,14 @@
 //! The names that a block reads, and those that it writes.
 ghost use Rattle.std.specs.Prelude.{◌≡◌, IfOk, OnOk};
-ghost use Rattle.fv_tree.specs.View.{block_of};
+ghost use Rattle.std.specs.List.{list_any};
+ghost use Rattle.fv_meaning.specs.Names.{is_among};
+ghost use Rattle.fv_tree.specs.View.{block_of, expression_of};
+ghost use Rattle.fv_rewrite.specs.declared.uses.Use.{Use};
 ghost use Rattle.fv_rewrite.specs.Names.{uses_in_block, names_standing, without_repeats, names_read_in};
-ghost use Rattle.fv_rewrite.specs.Names.{names_written_in, with_use};
+ghost use Rattle.fv_rewrite.specs.Names.{names_written_in, with_use, mentions};
 
 use crate::uses::{Use, Uses, Way};
-use fv_tree::{Block, Memory, Name, Seq};
+use fv_tree::{Block, Expr, Memory, Name, Seq};
 use indexmap::IndexSet;
 use std::alloc::Global;
 
@@ -52,4 +55,25 @@ pub fn names_written(alloc: Global, block: &Block) -> Result<Seq<Name>, Memory>
     ensures { IfOk result (λ names. names ≡ names_written_in (block_of block.now)) }
 {
     names_in(alloc, block, Way::Writes)
+}
+
+fn is_among(name: Name, names: &[Name]) -> bool
+    ensures { result ≡ is_among names.now name }
+{
+    names.iter().any(|one| name == *one)
+}
+
+fn is_used(uses: &[Use], names: &[Name]) -> bool
+    ensures { result ≡ list_any (λ (used : Use). is_among names.now used.name) uses.now }
+{
+    uses.iter().any(|used| is_among(used.name, names))
+}
+
+/// Whether one of the names stands in the expression.
+pub fn mentions(alloc: Global, expr: &Expr, names: &[Name]) -> Result<bool, Memory>
+    ensures { IfOk result (λ found. found ≡ mentions names.now (expression_of expr.now)) }
+{
+    let mut uses = Uses::new(alloc);
+    uses.add_expr(expr)?;
+    Ok(is_used(uses.list.as_slice(), names))
 }

@@ -21,9 +21,10 @@ pub trait Rule {
     /// the loops round the tree. A variable may stand for something else at each turn, and for one thing in it.
     ghost like: { Self → ℕ → List ℤ → Store → Store → Type 0 };
 
-    /// An expression.
-    fn expression(&mut self, alloc: Global, expr: Expr) -> Result<Expr, Memory>
-        ensures made { IfOk result (λ made. expression_of made ≡ (making self.old).expression (expression_of expr)) }
+    /// An expression, with what it was as first written.
+    fn expression(&mut self, alloc: Global, first: &Expr, expr: Expr) -> Result<Expr, Memory>
+        ensures made { IfOk result (λ made. expression_of made
+            ≡ (making self.old).expression (expression_of first.now) (expression_of expr)) }
         ensures same { making self.new ≡ making self.old };
 
     /// The left side of an assignment.

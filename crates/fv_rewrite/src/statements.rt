@@ -3,6 +3,7 @@ ghost use Rattle.std.specs.Prelude.{◌≡◌, ℕ, ℤ, List, map, IfOk};
 ghost use Rattle.fv_tree.specs.View.{arms as plain_arms, block_of, reference_of, statement_of, tested_of};
 ghost use Rattle.fv_tree.specs.Plain.{block as plain_block};
 ghost use Rattle.fv_rewrite.specs.Following.{RunFollows, sequential};
+ghost use Rattle.fv_rewrite.specs.Profile.{MakesProfile};
 ghost use Rattle.fv_rewrite.specs.Making.{made_left, made_statement, made_arm, made_arms, made_block, SuitsBlock};
 
 use crate::Rule;
@@ -176,12 +177,17 @@ fn rewrite_block<R: Rule>(alloc: Global, block: &Block, rule: &mut R) -> Result<
 /// What the rule makes of a tree. Where it suits each node, the run of what was made follows the run of the tree: if
 /// that meets no fault, both end the same way, with the same output and the same input left, and with stores that are
 /// alike.
+///
+/// Where the rule keeps kinds, and the names that are declared, what was made of the block of a program is the block of
+/// a program; no expression has become deeper than the rule may raise a depth.
 pub fn rewrite<R: Rule>(alloc: Global, tree: &Block, rule: &mut R) -> Result<Block, Memory>
     ensures made { IfOk result (λ new. block_of new ≡ made_block (R.making rule.old) (block_of tree.now)) }
     ensures same { R.making rule.new ≡ R.making rule.old }
     ensures follows { IfOk result (λ new. (bits : ℕ) (turns : List ℤ)
         → SuitsBlock (R.making rule.old) (R.suits rule.old) (block_of tree.now)
         → RunFollows (sequential bits) (R.like rule.old bits turns) (block_of tree.now) (block_of new)) }
+    ensures profile { IfOk result (λ new.
+        MakesProfile (R.making rule.old) (block_of tree.now) (block_of new)) }
 {
     rewrite_block(alloc, tree, rule)
 }

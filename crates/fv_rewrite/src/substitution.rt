@@ -56,7 +56,7 @@ impl Rule for Substitution {
 
     ghost keeps = { λ r bits turns. never_alike bits (substituting r.variable (expression_of r.by)) };
 
-    fn expression(&mut self, alloc: Global, expr: Expr) -> Result<Expr, Memory> {
+    fn expression(&mut self, alloc: Global, _first: &Expr, expr: Expr) -> Result<Expr, Memory> {
         if is_variable(&expr, self.variable) {
             return self.by.copy(alloc);
         }

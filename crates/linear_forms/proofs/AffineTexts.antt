@@ -86,7 +86,7 @@ affine_has_text loops symbols f a h =
     ∙ symbols_are so_far 0 (8 - length (terms_from 0 (drop n f.coefficients))) (drop n f.coefficients) symbols symbols (λ i. let same : 0 + i ≡ i = omega arith in ap (slice_get symbols) same) in
     ap₂ with_constant (ap (λ p. with_symbols p a.syms symbols) front ∙ (rest ∙ sym (loops_first None f.coefficients loops symbols))) h.constant
 
-names_have_values : (lang : Dialect) (names : List (List ℕ)) (s : Store) (xs : List ℤ) → HaveValues names s xs → EachHasValue lang (variables names) s xs
+pub names_have_values : (lang : Dialect) (names : List (List ℕ)) (s : Store) (xs : List ℤ) → HaveValues names s xs → EachHasValue lang (variables names) s xs
 names_have_values lang [] s [] h = tt
 names_have_values lang (y ∷ ys) s (x ∷ xs) h = (ap (λ b. do c ← cell_in b y []; Ok (s.held c)) h.0 ∙ ap Ok h.1, names_have_values lang ys s xs h.2)
 names_have_values lang [] s (x ∷ xs) h = absurd h

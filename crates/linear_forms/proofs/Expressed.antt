@@ -54,6 +54,20 @@ module _ (lang : Dialect) (s : Store) where
   Sum None p = p ≡ pos 0
   Sum (Some e) p = Is e p
 
+  -- each expression whose coefficient isn't 0 has its value
+  abbrev pub EachIsWhere : List ℤ → List Expression → List ℤ → Type 0
+  EachIsWhere [] ts xs = Unit {0}
+  EachIsWhere (c ∷ cs) [] [] = Unit {0}
+  EachIsWhere (c ∷ cs) (t ∷ ts) (x ∷ xs) = ((c ≡ pos 0 → ⊥) → Is t x) × EachIsWhere cs ts xs
+  EachIsWhere (c ∷ cs) _ _ = ⊥
+
+  pub each_where : (cs : List ℤ) (ts : List Expression) (xs : List ℤ) → EachHasValue lang ts s xs → EachIsWhere cs ts xs
+  each_where [] ts xs h = tt
+  each_where (c ∷ cs) [] [] h = tt
+  each_where (c ∷ cs) (t ∷ ts) (x ∷ xs) h = (λ n. h.0, each_where cs ts xs h.1)
+  each_where (c ∷ cs) [] (x ∷ xs) h = absurd h
+  each_where (c ∷ cs) (t ∷ ts) [] h = absurd h
+
   fitting : (z : ℤ) → nat_abs z < 2 ^ 127 → ◌≡◌ {A = Result Value Fault} (number z) (Ok (Int z))
   fitting z h = ap (λ b. cond b (Ok (Int z)) (Err Overflow)) (within_fits z h)
 
@@ -83,19 +97,19 @@ module _ (lang : Dialect) (s : Store) where
   negated : (n : ℕ) (p z : ℤ) → p -ℤ pos (suc n) *ℤ z ≡ p +ℤ negsuc n *ℤ z
   negated n p z = ap (λ w. p +ℤ w) (sym (neg_times (pos (suc n)) z))
 
-  with_term-is : (o : Option Expression) (p : ℤ) (c : ℤ) (x : Expression) (z : ℤ) → Sum o p → Is x z → nat_abs (c *ℤ z) < 2 ^ 127 → nat_abs (p +ℤ c *ℤ z) < 2 ^ 127 → Sum (with_term o c x) (p +ℤ c *ℤ z)
+  with_term-is : (o : Option Expression) (p : ℤ) (c : ℤ) (x : Expression) (z : ℤ) → Sum o p → ((c ≡ pos 0 → ⊥) → Is x z) → nat_abs (c *ℤ z) < 2 ^ 127 → nat_abs (p +ℤ c *ℤ z) < 2 ^ 127 → Sum (with_term o c x) (p +ℤ c *ℤ z)
   with_term-is o p (pos zero) x z h k m n =
       let same : p +ℤ pos 0 *ℤ z ≡ p = omega (arith, ints) in
       subst (λ q. Sum o q) (sym same) h
-  with_term-is o p (pos (suc i)) x z h k m n = plus-is o p (term (suc i) x) (pos (suc i) *ℤ z) h (term-is (suc i) x z k m) n
+  with_term-is o p (pos (suc i)) x z h k m n = plus-is o p (term (suc i) x) (pos (suc i) *ℤ z) h (term-is (suc i) x z (k (λ e. cc)) m) n
   with_term-is o p (negsuc i) x z h k m n =
       let size : nat_abs (pos (suc i) *ℤ z) ≡ nat_abs (negsuc i *ℤ z) = abs-product (pos (suc i)) z ∙ sym (abs-product (negsuc i) z) in
       let other = negated i p z in
-      minus-is o p (term (suc i) x) (pos (suc i) *ℤ z) h (term-is (suc i) x z k (subst (λ w. w < 2 ^ 127) (sym size) m)) (subst (λ w. nat_abs w < 2 ^ 127) (sym other) n)
+      minus-is o p (term (suc i) x) (pos (suc i) *ℤ z) h (term-is (suc i) x z (k (λ e. cc)) (subst (λ w. w < 2 ^ 127) (sym size) m)) (subst (λ w. nat_abs w < 2 ^ 127) (sym other) n)
       ∙ ap (λ w. Ok (Int w)) other
 
   -- room is left for all terms to come
-  with_terms-is : (room : ℕ) (o : Option Expression) (p : ℤ) (cs : List ℤ) (ts : List Expression) (xs : List ℤ) → EachHasValue lang ts s xs → AreSized xs → all_small cs ≡ true
+  with_terms-is : (room : ℕ) (o : Option Expression) (p : ℤ) (cs : List ℤ) (ts : List Expression) (xs : List ℤ) → EachIsWhere cs ts xs → AreSized xs → all_small cs ≡ true
       → Sum o p → nat_abs p + not_zero cs * (2 ^ 40 * 2 ^ 63) ≤ room → room < 2 ^ 127 → Sum (with_terms o cs ts) (p +ℤ weighted cs xs)
   with_terms-is room o p [] ts xs v z a h n r = let same : p +ℤ pos 0 ≡ p = omega (arith, ints) in subst (λ q. Sum o q) (sym same) h
   with_terms-is room o p (c ∷ cs) [] [] v z a h n r = let same : p +ℤ pos 0 ≡ p = omega (arith, ints) in subst (λ q. Sum o q) (sym same) h
@@ -117,7 +131,7 @@ module _ (lang : Dialect) (s : Store) where
   constant-is (Some e) p (pos (suc i)) h m n = two (λ p q. p) e (Number (pos (suc i))) p (pos (suc i)) h refl n
   constant-is (Some e) p (negsuc i) h m n = less e (Number (pos (suc i))) p (pos (suc i)) h refl n
 
-  pub expressed_is_number : (loops : ℕ) → loops ≤ 7 → (terms : List Expression) (f : Form) (xs : List ℤ) → is_limited loops f ≡ true → EachHasValue lang terms s xs → AreSized xs
+  pub expressed_is_number : (loops : ℕ) → loops ≤ 7 → (terms : List Expression) (f : Form) (xs : List ℤ) → is_limited loops f ≡ true → EachIsWhere f.coefficients terms xs → AreSized xs
       → value_of lang (expressed terms f) s ≡ Ok (Int (number_at f xs))
   expressed_is_number loops few terms f xs h v z =
       let parts = both (all_small f.coefficients) (is_small f.constant && nat_le (not_zero (drop loops f.coefficients)) 8) h in
@@ -134,4 +148,4 @@ module _ (lang : Dialect) (s : Store) where
       (omega (arith, constant)) (omega (arith, size, most, constant, all))
 
 pub text_has_value : TextHasValue
-text_has_value lang loops terms f s xs few h v z = expressed_is_number lang s loops few terms f xs h v z
+text_has_value lang loops terms f s xs few h v z = expressed_is_number lang s loops few terms f xs h (each_where lang s f.coefficients terms xs v) z

@@ -22,7 +22,7 @@ use Rattle.linear_forms.specs.Linear.{Form, weighted, number_at, HaveValues, sum
 use Rattle.linear_forms.proofs.LinearLaws.{number_at-sum, number_at-multiple, minus, limited-is, constant-value, unit-is}
 use Rattle.linear_forms.proofs.Sizes.{limited_fits}
 
-limited-holds : (loops : ℕ) (o : Option Form) (f : Form) → limited loops o ≡ Some f → is_limited loops f ≡ true
+pub limited-holds : (loops : ℕ) (o : Option Form) (f : Form) → limited loops o ≡ Some f → is_limited loops f ≡ true
 limited-holds loops None f h = cc
 limited-holds loops (Some g) f h = by (is_limited loops g) refl h
   where

@@ -13,3 +13,5 @@ pub mod PartLaws
 pub mod Units
 pub mod TextLaws
 pub mod AffineTexts
+pub mod TextsKeep
+pub mod CanonicalRule

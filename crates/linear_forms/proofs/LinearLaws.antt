@@ -61,7 +61,7 @@ limited-is loops (Some g) f h = by (is_limited loops g) h
     by true e = e
     by false e = cc
 
-number-is : (z : ℤ) (v : Value) → number z ≡ Ok v → v ≡ Int z
+pub number-is : (z : ℤ) (v : Value) → number z ≡ Ok v → v ≡ Int z
 number-is z v h = by (fits 127 z) h
   where
     by : (b : Bool) → ◌≡◌ {A = Result Value Fault} (cond b (Ok (Int z)) (Err Overflow)) (Ok v) → v ≡ Int z

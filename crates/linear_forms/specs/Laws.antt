@@ -1,9 +1,10 @@
 -- Laws of linear forms.
 use Rattle.std.specs.Prelude.{◌≡◌, Ok, Some, ℕ, ◌≤◌, ◌^◌, ℤ, nat_abs, IsTrue, List, [], ◌∷◌, ◌++◌, length}
 use Rattle.fv_tree.specs.Plain.{Expression}
+use Rattle.fv_tree.specs.declared.ops.Value.{Value}
 use Rattle.fv_tree.specs.declared.ops.Value.TheVariants.{Int}
 use Rattle.fv_meaning.specs.Dialect.{Dialect}
-use Rattle.fv_meaning.specs.Store.{Store}
+use Rattle.fv_meaning.specs.Store.{Store, Cell}
 use Rattle.fv_meaning.specs.Value.{value_of}
 use Rattle.subscripts.specs.declared.affine.Affine.{Affine}
 use Rattle.linear_forms.specs.Linear.{Form, number_at, HaveValues, is_limited, form_of}
@@ -46,3 +47,13 @@ AffineTextHasValue =
     → length loops ≤ 7 → IsTrue (is_limited (length loops) f) → IsAffineOf (length loops) f a
     → HaveValues (loops ++ symbols) s xs → AreSized xs
     → value_of lang (text_of loops symbols a) s ≡ Ok (Int (number_at f xs))
+
+-- each number that a store holds is one of 64 bits
+abbrev pub HoldsSized : Store → Type 0
+HoldsSized s = (c : Cell) (z : ℤ) → s.held c ≡ Int z → nat_abs z ≤ 2 ^ 63
+
+-- where an expression has a value, the canonical text of its form has the same, whatever the names hold
+abbrev pub TextKeepsValue : Type 0
+TextKeepsValue = (lang : Dialect) (loops symbols : List (List ℕ)) (e : Expression) (f : Form) (s : Store) (v : Value)
+    → form_of loops symbols e ≡ Some f → HoldsSized s → value_of lang e s ≡ Ok v
+    → value_of lang (expressed (variables (loops ++ symbols)) f) s ≡ Ok v

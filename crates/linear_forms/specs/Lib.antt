@@ -5,3 +5,4 @@ pub mod Places
 pub mod Merging
 pub mod Parts
 pub mod Texts
+pub mod Canonical

@@ -1,6 +1,6 @@
 //! Laws of linear forms. A law is a function without a body: its contract is what holds.
 ghost use Rattle.linear_forms.specs.Laws.{LinearHasValue, TextHasValue, AffineHasText};
-ghost use Rattle.linear_forms.specs.Laws.{AffineTextHasValue};
+ghost use Rattle.linear_forms.specs.Laws.{AffineTextHasValue, TextKeepsValue};
 
 /// An expression with a linear form has exactly the form's number as its value, without fault, wherever its names hold
 /// numbers of 64 bits.
@@ -26,4 +26,10 @@ pub fn affine_text()
 #[tactic(auto, using(crate::proofs::AffineTexts::affine_text_has_value))]
 pub fn affine_text_value()
     ensures { AffineTextHasValue }
+{}
+
+/// Where an expression with a form has a value, the canonical text of the form has the same value, in each store whose
+/// numbers have at most 64 bits, whatever the names hold there.
+pub fn text_kept_value()
+    ensures { TextKeepsValue }
 {}

@@ -1,6 +1,7 @@
 //! Linear forms of expressions, and their canonical text.
 #![tactic(auto)]
 
+mod canonical;
 mod constants;
 mod forms;
 mod laws;
@@ -9,8 +10,9 @@ mod terms;
 mod tests;
 mod texts;
 
+pub use canonical::canonical_text;
 pub use constants::constant_value;
 pub use forms::{Part, linear};
-pub use laws::{affine_text, affine_text_value, linear_value, text_value};
+pub use laws::{affine_text, affine_text_value, linear_value, text_kept_value, text_value};
 pub use terms::{Terms, ZERO, combined, constant_form};
 pub use texts::express;
