@@ -1,0 +1,6 @@
+pub mod Searches
+pub mod Places
+pub mod PlaceLaws
+pub mod PartLaws
+pub mod OpeningLaws
+pub mod AllocationLaws

@@ -1,0 +1,23 @@
+use Rattle.std.proofs.Common.{◌≡◌, subst, ◌∙◌, map, arith}
+use Rattle.std.specs.Prelude.{All, ◌<◌, length}
+use mathlib.Core.Path.{ap₂}
+use Rattle.fv_meaning.specs.Sections.{axes_on}
+use Rattle.fv_machine.specs.Storage.{bounds_list}
+use Rattle.fv_tree.specs.declared.programs.Dim.{Dim}
+use Rattle.array_values.specs.Selections.{selector_in}
+use Rattle.array_places.specs.Places.{values_there}
+use Rattle.array_places.specs.Selecting.{SelectsThese}
+use Rattle.array_storage.proofs.PartLaws.{part_is}
+use Rattle.array_storage.proofs.slots.Slot.part.Goals as goal
+
+pub returns : goal.returns
+returns c =
+    let v = c.args.self.now in
+    let zs = map selector_in c.args.selectors.now in
+    let t = c.in_ok-extents.field-0 in
+    let h : SelectsThese (bounds_list v.dims) (axes_on (bounds_list v.dims) zs) t = rw c.as_slice.ensures at c.in_ok-extents.ensures in
+    let f = v.filled in
+    let o = v.values.ok.0 in
+    let within : All (λ k. k < length v.values.items) t.places = λ k d l. omega (arith, h.selected.within k d l) in
+    part_is v zs t c.in_ok-values.values c.if-not-self.false h within
+    (c.in_ok-values.ensures ∙ ap₂ values_there c.deref.ensures.value c.as_slice-2.ensures)

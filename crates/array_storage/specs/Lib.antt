@@ -1,0 +1,6 @@
+pub mod Names
+pub mod Slots
+pub mod Stored
+pub mod Parts
+pub mod Opening
+pub mod Allocation
