@@ -18,6 +18,7 @@ use Rattle.nest_order.proofs.Membership.{In-map, Pairwise-map, instance_stands}
 use Rattle.nest_order.proofs.Once.{Pairwise-left, Pairwise-right}
 use Rattle.nest_order.proofs.Sequence.{PrecedesFrom, sequence}
 use Rattle.nest_runs.specs.Alone.{HasNoOwnEdge, InnerInstancesAreApart, chain, inner_instances, inside}
+use Rattle.nest_runs.specs.Blocks.{written}
 use Rattle.nest_runs.specs.Guarded.{effect, sequential}
 use Rattle.nest_runs.specs.Nests.{Nest, effect_of, reads_of}
 use Rattle.nest_runs.specs.Stores.{HoldsNest, IsNestIn, Setting}

@@ -16,3 +16,4 @@ pub mod Runs
 pub mod Touching
 pub mod Translating
 pub mod Variables
+pub mod WorkedNest

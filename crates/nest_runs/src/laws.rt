@@ -2,7 +2,7 @@
 ghost use Rattle.nest_runs.specs.Alone.{InnerInstancesAreApart};
 ghost use Rattle.nest_runs.specs.Laws.{AnyOrderGivesStore, EmissionKeepsMeaning, InstancesComeFromReads};
 ghost use Rattle.nest_runs.specs.Laws.{InstancesMayPass, RunIsInstances, TranslationKeepsMeaning};
-ghost use Rattle.nest_runs.specs.Quiet.{QuietStatementsKeepLines};
+ghost use Rattle.nest_runs.specs.Quiet.{NestsAreQuiet, QuietStatementsKeepLines};
 
 /// A sequential run of a nest that ends without fault is its instances one after another, but for the loop variables.
 pub fn run_of_nest()
@@ -40,7 +40,9 @@ pub fn statement_alone()
     ensures { InnerInstancesAreApart }
 {}
 
-/// Statements without READ and PRINT leave the output, the input and its place as they were.
+/// Statements without READ and PRINT leave the output, the input and its place as they were. Such are nests, and what is
+/// emitted for them.
 pub fn quiet_statements()
-    ensures { QuietStatementsKeepLines }
+    ensures lines { QuietStatementsKeepLines }
+    ensures nests { NestsAreQuiet }
 {}
