@@ -41,7 +41,8 @@ worked = record {
   variable_at = λ l. v;
   trip_at = λ l. Number (pos 3);
   turns_of = λ u l is. 3;
-  symbols = [] }
+  symbols = [];
+}
 
 abbrev declarations : List Declaration
 declarations = record { name = v; kind = Integer; extent = Given [] } ∷ record { name = a; kind = Integer; extent = Given ((pos 1, pos 3) ∷ []) } ∷ []
@@ -50,7 +51,8 @@ abbrev setting : Setting
 setting = record {
   program = record { name = None; declarations = declarations; body = no_statements };
   bounds = opening_bounds declarations;
-  values = λ k. pos 0 }
+  values = λ k. pos 0;
+}
 
 apart : ◌≡◌ {A = List ℕ} a v → ⊥
 apart e = by (ap head e)
@@ -84,7 +86,8 @@ worked_text = record {
   symbols = λ s x i j. absurd j;
   others = λ l x i j. absurd j;
   trips = λ round l x h i. absurd i;
-  plain = λ s i. (tt, tt, (tt, tt)) }
+  plain = λ s i. (tt, tt, (tt, tt));
+}
 
 number_known : (z : ℤ) → ◌≡◌ {A = Result ℤ Fault} (Ok (pos 3)) (Ok z) → pos 3 ≡ z
 number_known z e = ok_same {F = Fault} (pos 3) z e
@@ -108,13 +111,14 @@ worked_nest = record {
   integer = λ l i. refl;
   symbols = λ x i. absurd i;
   typed = λ x t c u is h e. (
-    let there : Store = at_iterations (variables_round worked x.statement) x.iterations t in
-    let st = effect_stored 31 stores_two there c u e in
-    let name : c.name ≡ a = named_cell 31 stores_two.left there c st.place in
-    subst (λ y. IfSome (declared declarations y) (λ (d : Declaration). kind_of u ≡ d.kind)) (sym name)
+      let there : Store = at_iterations (variables_round worked x.statement) x.iterations t in
+      let st = effect_stored 31 stores_two there c u e in
+      let name : c.name ≡ a = named_cell 31 stores_two.left there c st.place in
+      subst (λ y. IfSome (declared declarations y) (λ (d : Declaration). kind_of u ≡ d.kind)) (sym name)
       (ap kind_of (sym (two_known u st.gives))));
   trips = λ round l before t z k lies within h at g e. count_known k (subst (λ y. trip_count (pos 1) y (pos 1) ≡ Ok k) (sym (number_known z g)) e);
-  linear = λ x t e f z is h g. no_form f g }
+  linear = λ x t e f z is h g. no_form f g;
+}
 
 -- ---- its edges: what isn't linear may have any value, so each instance may depend on each earlier one
 
@@ -145,7 +149,8 @@ pub worked_edges : AreEdgesOf worked (carried ∷ [])
 worked_edges = record {
   covered = λ c h p. (carried, inl refl, covered c h.0 h.1 h.3 h.4);
   level = λ z i. level z i;
-  stands = λ z i. (record { from = left_side; to = left_side; vector = Less ∷ [] }, ((inl refl, omega arith), (inl refl, omega arith), inl refl, refl, tt), stands z i) }
+  stands = λ z i. (record { from = left_side; to = left_side; vector = Less ∷ [] }, ((inl refl, omega arith), (inl refl, omega arith), inl refl, refl, tt), stands z i);
+}
   where
     level : (z : Arc) → (z ≡ carried) ⊎ ⊥ → Rattle.nest_order.specs.Graphs.HasLevel z.signs
     level z (inl e) = subst (λ (y : Arc). Rattle.nest_order.specs.Graphs.HasLevel y.signs) (sym e) tt
