@@ -7,6 +7,7 @@ pub mod Ending
 pub mod Framing
 pub mod Going
 pub mod Holding
+pub mod Lone
 pub mod OneByOne
 pub mod Orders
 pub mod Passing

@@ -3,6 +3,7 @@ pub mod Blocks
 pub mod Forms
 pub mod Guarded
 pub mod Laws
+pub mod LoneForms
 pub mod Nests
 pub mod Quiet
 pub mod Stores

@@ -2,6 +2,7 @@
 ghost use Rattle.nest_runs.specs.Alone.{InnerInstancesAreApart};
 ghost use Rattle.nest_runs.specs.Laws.{AnyOrderGivesStore, EmissionKeepsMeaning, InstancesComeFromReads};
 ghost use Rattle.nest_runs.specs.Laws.{InstancesMayPass, RunIsInstances, TranslationKeepsMeaning};
+ghost use Rattle.nest_runs.specs.LoneForms.{LoneFormsAreInstances, LoneFormsKeepMeaning};
 ghost use Rattle.nest_runs.specs.Quiet.{NestsAreQuiet, QuietStatementsKeepLines};
 
 /// A sequential run of a nest that ends without fault is its instances one after another, but for the loop variables.
@@ -25,6 +26,13 @@ pub fn any_order()
 pub fn emission()
     ensures loops { EmissionKeepsMeaning }
     ensures forms { TranslationKeepsMeaning }
+{}
+
+/// Forms of statements that don't depend on themselves within their outer loops, each of which equals its instances where
+/// these may store all at once, keep the meaning of the nest in the place of the statements' inner loops.
+pub fn lone_forms()
+    ensures instances { LoneFormsAreInstances }
+    ensures meaning { LoneFormsKeepMeaning }
 {}
 
 /// The instances of a nest are instances for which storing one by one is storing all at once, where none reads what an
