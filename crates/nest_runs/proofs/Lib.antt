@@ -8,6 +8,7 @@ pub mod Framing
 pub mod Going
 pub mod Holding
 pub mod Lone
+pub mod Loops
 pub mod OneByOne
 pub mod Orders
 pub mod Passing
