@@ -41,13 +41,14 @@ counted (negsuc k) = 0
 abbrev pub HasTrip : List (List ℕ) → List (List ℕ) → Expression → (List ℤ → ℤ) → Type 0
 HasTrip round symbols e z =
     ((f : Form) × (form_of round symbols e ≡ Some f) × ((xs : List ℤ) → z xs ≡ number_at f xs))
-    ⊎ ((f : Form) × (a : Expression) × (b : ℕ) × (e ≡ Binary Div a (Number (pos b))) × (form_of round symbols a ≡ Some f)
+    ⊎ ((f : Form) × (a : Expression) × (b : ℕ) × (e ≡ Binary Div a (Number (pos b)))
+    × (form_of round symbols a ≡ Some f)
     × ((xs : List ℤ) → z xs ≡ int_div (number_at f xs) (pos b)))
 
 -- ---- all facts
 
--- bits: as many as INTEGER has. The statements assign expressions of the kind of their left side; linear expressions and
--- trips are what their forms say; symbols are numbers of 64 bits, and no loop has more turns than can be counted
+-- bits: as many as INTEGER has. The statements assign expressions of the kind of their left side; linear expressions
+-- and trips are what their forms say; symbols are numbers of 64 bits, and no loop has more turns than can be counted
 pub record HasFacts (bits : ℕ) (n : Nest) (w : Setting) : Type 0 where
   pub text : IsNestText n
   pub wide : 31 ≤ bits

@@ -1,5 +1,6 @@
 pub mod Alike
 pub mod Alone
+pub mod Arrays
 pub mod Counting
 pub mod Deciding
 pub mod Dialects

@@ -1,4 +1,5 @@
 pub mod Alone
+pub mod Arrays
 pub mod Blocks
 pub mod Forms
 pub mod Guarded

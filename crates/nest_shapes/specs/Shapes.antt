@@ -62,7 +62,8 @@ loop_numbered (l ∷ ls) k = if l.number == k then Some l else loop_numbered ls 
 
 abbrev pub guarded_of : Option Standing → Guarded
 guarded_of (Some x) = record { guard = x.statement.guard; left = x.statement.left; right = x.statement.right }
-guarded_of None = record { guard = None; left = record { name = []; subscripts = no_subscripts }; right = Number (pos 0) }
+guarded_of None =
+    record { guard = None; left = record { name = []; subscripts = no_subscripts }; right = Number (pos 0) }
 
 abbrev pub line_of : Option Standing → ℕ
 line_of (Some x) = x.statement.line
