@@ -1,0 +1,10 @@
+mod Rows
+mod Names
+mod Iterations
+mod Coefficients
+mod Bounds
+mod Singles
+mod Axes
+mod Forming
+mod Positions
+mod Values
