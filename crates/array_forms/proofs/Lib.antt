@@ -8,3 +8,5 @@ mod Axes
 mod Forming
 mod Positions
 mod Values
+mod Orders
+mod Whole

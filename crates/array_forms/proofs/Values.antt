@@ -65,7 +65,7 @@ fitting lang a D s xs k t = record {
 
 -- ---- positions and iterations
 
-same_length : (xs : List ℤ) (ls : List Loop) → length (counts_of xs ls) ≡ length ls
+pub same_length : (xs : List ℤ) (ls : List Loop) → length (counts_of xs ls) ≡ length ls
 same_length xs [] = refl
 same_length xs (l ∷ ls) = ap (λ n. suc n) (same_length xs ls)
 

@@ -5,16 +5,19 @@ use Rattle.fv_tree.specs.Plain.{Expression, Reference}
 use Rattle.fv_tree.specs.declared.ops.Value.{Value}
 use Rattle.fv_tree.specs.declared.stmts.Mark.{Mark}
 use Rattle.fv_meaning.specs.ArrayValues.{Elements, positions}
-use Rattle.fv_meaning.specs.Dialect.{Dialect}
+use Rattle.fv_meaning.specs.Dialect.{Dialect, fortran90}
 use Rattle.fv_meaning.specs.Reads.{names_in}
+use Rattle.fv_meaning.specs.Run.{State, Going, does_all}
 use Rattle.fv_meaning.specs.Store.{Store}
 use Rattle.fv_meaning.specs.Value.{value_of, array_of}
 use Rattle.linear_forms.specs.Laws.{AreSized}
 use Rattle.linear_forms.specs.Linear.{HaveValues, is_limited}
-use Rattle.array_forms.specs.Following.{has_none, is_straightforward}
+use Rattle.array_forms.specs.Following.{has_none, are_moved, is_straightforward}
 use Rattle.array_forms.specs.Forms.{form}
-use Rattle.array_forms.specs.Instances.{at_iterations, count_of, counts_of}
+use Rattle.array_forms.specs.Instances.{at_iterations, count_of, counts_of, instances_of}
 use Rattle.array_forms.specs.Loops.{Loop, Surroundings, variables_of, names_of, AreDistinct, loops_among}
+use Rattle.array_forms.specs.Statements.{loops_from, hold_at, loops_assigned, array_form_of}
+use Rattle.array_laws.specs.Instances.{Instance, in_turn, NoneReadsWritten}
 
 -- The trip of a loop is a linear form over the names, maybe divided, and the loop turns: at least once, and as often as
 -- a loop can
@@ -62,3 +65,22 @@ abbrev pub FormHasInstanceValues : Type 0
 FormHasInstanceValues = (lang : Dialect) (a : Surroundings) (D : List Loop) (e : Expression) (s : Store) (xs : List ℤ)
     → AreKnown a s xs → AreTurning a D xs → is_straightforward a D e ≡ true → HasValues lang xs D e s
     → HasInstanceValues lang xs D e (form a D e) s
+
+-- the instances of an assignment, by the iterations of the loops from the level k on
+abbrev pub instances_from : Dialect → Surroundings → ℕ → List ℤ → Reference → Expression → List Instance
+instances_from d a k xs left right = instances_of d (loops_from a k) (counts_of xs (loops_from a k)) left right
+
+-- Let no loop from the level k on forbid the array form of an assignment whose right side is built so, and let each of
+-- these loops turn. Where its instances, one after another in the order of a sequential run, take the store of a run
+-- that goes on to the store t without fault, none of them reading a cell that an earlier one has written, the array
+-- form ends without fault in t, and the run goes on
+abbrev pub ArrayFormStoresInstances : Type 0
+ArrayFormStoresInstances = (a : Surroundings) (k line : ℕ) (mark : Option Mark) (left : Reference) (right : Expression)
+    (s : State) (t : Store) (xs : List ℤ)
+    → s.way ≡ Going → AreKnown a s.store xs → ((l : Loop) → Contains (loops_from a k) l → Turns a xs l)
+    → has_none (loops_from a k) ≡ false → hold_at a k left ≡ None
+    → are_moved a (loops_assigned a k left) left.subscripts ≡ true
+    → is_straightforward a (loops_assigned a k left) right ≡ true
+    → NoneReadsWritten [] (instances_from fortran90 a k xs left right) s.store
+    → in_turn (instances_from fortran90 a k xs left right) s.store ≡ Ok t
+    → (n : ℕ) × (does_all fortran90 None (array_form_of a k line mark left right) s ≡ record s { store = t; steps = n })

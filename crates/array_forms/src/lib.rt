@@ -3,4 +3,4 @@
 
 mod laws;
 
-pub use laws::form_values;
+pub use laws::{array_form_stores, form_values};
