@@ -474,7 +474,7 @@ module _ (d : Dialect) (a : Surroundings) (s : Store) (xs : List ℤ) (few : len
     cell_there ι w = same_answer _ _ (sym (element ι w).known ∙ picks.at ι w)
 
     -- it has subscripts, so it is no loop variable
-    unchanged : (ι : List ℕ → ℕ) → (w : Within D ι) → s.held (record { name = x; subscripts = (element ι w).numbers }) ≡ (nf ι w).0
+    pub unchanged : (ι : List ℕ → ℕ) → (w : Within D ι) → s.held (record { name = x; subscripts = (element ι w).numbers }) ≡ (nf ι w).0
     unchanged ι w =
         let t = at_those ι D s in
         let m = element ι w in
@@ -482,15 +482,3 @@ module _ (d : Dialect) (a : Surroundings) (s : Store) (xs : List ℤ) (few : len
         let is = bound (subscript_values d ps t) (λ is. Ok (i.0 ∷ is)) m.numbers i.2 in
         let cons : i.0 ∷ is.0 ≡ m.numbers = same_answer (i.0 ∷ is.0) m.numbers is.2 in
         ap (λ zs. s.held (record { name = x; subscripts = zs })) (sym cons) ∙ (sym (element_at ι D s x i.0 is.0) ∙ (ap (λ zs. t.held (record { name = x; subscripts = zs })) cons ∙ m.held))
-
-    pub straight : D ≡ loops_in_order D whole → has_none (loops_among D (names_in (Named x whole))) ≡ false → has_none D ≡ false → Takes D (Named x whole) (Named x formed)
-    straight order some some_D = record {
-      array = settled (record { extents = extents_of picks.axes; values = map s.held (cells_along x picks.axes) });
-      known = section_of s.held x formed picks.axes (selectors d formed s) (s.bounds x) axes_there;
-      extents = picks.extents ∙ (ap (counts_of xs) (sym order) ∙ ap (λ b. cond b [] (counts_of xs D)) (sym some));
-      scalar = picks.indices ∙ (ap has_none (sym order) ∙ (some_D ∙ sym some));
-      at = λ ι w.
-          sym (ap (λ (r : Result (Elements Value) Fault). do g ← r; g.at (places ι D)) (section_of s.held x formed picks.axes (selectors d formed s) (s.bounds x) axes_there))
-          ∙ (element_of_section d x formed s picks.axes (places ι D) axes_there (subst (λ ns. Contains (positions ns) (places ι D)) (sym (picks.extents ∙ ap (counts_of xs) (sym order))) (contained D ι w))
-          ∙ (ap (λ zs. Ok (s.held (record { name = x; subscripts = zs }))) (ap (λ ls. subscripts_at picks.axes (places ι ls)) order ∙ sym (cell_there ι w)) ∙ (ap Ok (unchanged ι w) ∙ sym (nf ι w).1)));
-    }

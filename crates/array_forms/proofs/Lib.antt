@@ -10,3 +10,6 @@ mod Positions
 mod Values
 mod Orders
 mod Whole
+mod Constructing
+mod Placing
+mod Taking

@@ -1,6 +1,8 @@
 -- The loops of a statement in the order of its left subscripts.
-use Rattle.std.proofs.Common.{◌≡◌, refl, sym, ap, ◌∙◌, subst, ◌⊎◌, inl, inr, ℕ, zero, suc, ◌+◌, ◌-◌, ◌≤◌, ◌<◌, ◌==◌, Bool, true, false, cond, ◌&&◌, ◌||◌, List, [], ◌∷◌, ◌++◌, map, drop, length, filter, arith, Contains, Option, Some, None, nat_le, not}
-use Rattle.std.specs.List.{list_all}
+use Rattle.std.proofs.Common.{◌≡◌, ◌≢◌, refl, sym, ap, ◌∙◌, subst, ◌⊎◌, inl, inr, ℕ, zero, suc, ◌+◌, ◌-◌, ◌≤◌, ◌<◌, ◌==◌, Bool, true, false, cond, ◌&&◌, ◌||◌, List, [], ◌∷◌, ◌++◌, map, drop, length, filter, arith, Contains, Option, Some, None, nat_le, not, pos}
+use Rattle.std.specs.List.{list_all, list_any}
+use Rattle.std.specs.Ordering.{int_eq}
+use Rattle.std.proofs.lemmas.Bool.Decides.{Decides-int_eq}
 use Rattle.std.specs.Str.{bytes_eq}
 use Rattle.std.proofs.lemmas.Bool.{eqb-true, le-leb}
 use Rattle.std.proofs.lemmas.List.Elements.{Contains-append_left, Contains-append_right, Contains-append_cases}
@@ -10,8 +12,8 @@ use Rattle.fv_tree.specs.Plain.{Reference, Subscript, Subscripts, no_subscripts,
 use Rattle.fv_meaning.specs.Reads.{names_in_subscript}
 use Rattle.array_laws.proofs.Members.{here, there, nowhere, cases_of}
 use Rattle.linear_forms.proofs.Sizes.{both}
-use Rattle.array_forms.specs.Loops.{Loop, Surroundings, variables_of, names_of, is_among, AreDistinct, loops_among, loops_in_order, one_each, same_loops}
-use Rattle.array_forms.specs.Statements.{Hold, loops_from, occurrences, is_linear, are_formed, has_form, is_triangle, hold_at, loops_assigned}
+use Rattle.array_forms.specs.Loops.{Loop, Surroundings, variables_of, names_of, is_among, AreDistinct, loops_among, loops_in_order, one_each, same_loops, coefficient}
+use Rattle.array_forms.specs.Statements.{Hold, loops_from, occurrences, is_linear, are_formed, has_form, depends_on, is_triangle, hold_at, loops_assigned}
 use Rattle.array_forms.proofs.Names.{among, among_is}
 use Rattle.array_forms.proofs.Values.{variable_in}
 
@@ -59,14 +61,14 @@ unless false h = refl
 
 -- ---- distinct loops
 
-filter_among : (t : Loop → Bool) (ls : List Loop) (x : List ℕ) → is_among (variables_of ls) x ≡ false → is_among (variables_of (filter t ls)) x ≡ false
+pub filter_among : (t : Loop → Bool) (ls : List Loop) (x : List ℕ) → is_among (variables_of ls) x ≡ false → is_among (variables_of (filter t ls)) x ≡ false
 filter_among t ls x h = unless (is_among (variables_of (filter t ls)) x) (λ e.
   let l = loop_of (filter t ls) x e in
   let m = of_filter t ls l.0 l.1 in
   let found = among (variables_of ls) l.0.variable (variable_in ls l.0 m.0) in
   let bad : false ≡ true = sym h ∙ (ap (is_among (variables_of ls)) (sym l.2) ∙ found) in absurd cc)
 
-filter_distinct : (t : Loop → Bool) (ls : List Loop) → AreDistinct (variables_of ls) → AreDistinct (variables_of (filter t ls))
+pub filter_distinct : (t : Loop → Bool) (ls : List Loop) → AreDistinct (variables_of ls) → AreDistinct (variables_of (filter t ls))
 filter_distinct t [] d = tt
 filter_distinct t (l ∷ ls) d = by (t l) (filter_distinct t ls d.1)
   where
@@ -273,3 +275,45 @@ ordered_loops a k left d h =
     let onto : (l : Loop) → Contains mine l → Contains D l = λ l c. let e = once l c in in_order mine ps l c (omega (arith, e)) in
     let few = formed_few a mine ps D distinct into onto form.1 in
     record { distinct = distinct; into = into; onto = onto; same = same_order D mine distinct into onto ps few; ones = one_each_of D mine distinct into onto ps few }
+
+-- ---- no trip has the variable of another loop
+
+no_depending : (a : Surroundings) (l : Loop) (ms : List Loop) → list_any (depends_on a l) ms ≡ false → (m : Loop) → Contains ms m → l.variable ≢ m.variable → coefficient (names_of a) m.variable l.trip.form.coefficients ≡ pos 0
+no_depending a l [] h m c n = absurd (nowhere m c)
+no_depending a l (j ∷ ms) h m c n = by (neither (depends_on a l j) (list_any (depends_on a l) ms) h) (cases_of j ms m c) (λ g k. no_depending a l ms g m k n)
+  where
+    neither : (p q : Bool) → (p || q) ≡ false → (p ≡ false) × (q ≡ false)
+    neither true q h = absurd cc
+    neither false q h = (refl, h)
+
+    itself : (j : Loop) → l.variable ≢ j.variable → depends_on a l j ≡ false → coefficient (names_of a) j.variable l.trip.form.coefficients ≡ pos 0
+    itself j n e = of (bytes_eq l.variable j.variable) refl (int_eq (coefficient (names_of a) j.variable l.trip.form.coefficients) (pos 0)) refl e
+      where
+        of : (p : Bool) → bytes_eq l.variable j.variable ≡ p → (q : Bool) → int_eq (coefficient (names_of a) j.variable l.trip.form.coefficients) (pos 0) ≡ q → (not p && not q) ≡ false
+            → coefficient (names_of a) j.variable l.trip.form.coefficients ≡ pos 0
+        of true f q g h = absurd (n ((bytes_eq-Decides l.variable j.variable).0 f))
+        of false f true g h = (Decides-int_eq (coefficient (names_of a) j.variable l.trip.form.coefficients) (pos 0)).0 g
+        of false f false g h = absurd cc
+
+    by : (depends_on a l j ≡ false) × (list_any (depends_on a l) ms ≡ false) → (j ≡ m) ⊎ Contains ms m → (list_any (depends_on a l) ms ≡ false → Contains ms m → coefficient (names_of a) m.variable l.trip.form.coefficients ≡ pos 0)
+        → coefficient (names_of a) m.variable l.trip.form.coefficients ≡ pos 0
+    by p (inl e) more = subst (λ (i : Loop). coefficient (names_of a) i.variable l.trip.form.coefficients ≡ pos 0) e (itself j (λ q. n (q ∙ ap (λ (i : Loop). i.variable) e)) p.0)
+    by p (inr g) more = more p.1 g
+
+none_depends : (a : Surroundings) (ls ms : List Loop) → list_any (λ (l : Loop). list_any (depends_on a l) ms) ls ≡ false → (l : Loop) → Contains ls l → list_any (depends_on a l) ms ≡ false
+none_depends a [] ms h l c = absurd (nowhere l c)
+none_depends a (j ∷ ls) ms h l c = by (list_any (depends_on a j) ms) refl h (cases_of j ls l c) (λ g k. none_depends a ls ms g l k)
+  where
+    by : (p : Bool) → list_any (depends_on a j) ms ≡ p → (p || list_any (λ (l : Loop). list_any (depends_on a l) ms) ls) ≡ false → (j ≡ l) ⊎ Contains ls l
+        → (list_any (λ (l : Loop). list_any (depends_on a l) ms) ls ≡ false → Contains ls l → list_any (depends_on a l) ms ≡ false) → list_any (depends_on a l) ms ≡ false
+    by true e h c more = absurd cc
+    by false e h (inl q) more = subst (λ (i : Loop). list_any (depends_on a i) ms ≡ false) q e
+    by false e h (inr g) more = more h g
+
+pub no_triangle : (a : Surroundings) (k : ℕ) (left : Reference) → hold_at a k left ≡ None → (l m : Loop) → Contains (loops_from a k) l → Contains (loops_from a k) m → l.variable ≢ m.variable
+    → coefficient (names_of a) m.variable l.trip.form.coefficients ≡ pos 0
+no_triangle a k left h l m p q n = no_depending a l (loops_from a k) (none_depends a (loops_from a k) (loops_from a k) (by (is_triangle a (loops_from a k)) refl) l p) m q n
+  where
+    by : (b : Bool) → is_triangle a (loops_from a k) ≡ b → b ≡ false
+    by false e = refl
+    by true e = absurd (let bad : Some Hold.TriangleHold ≡ None = ap₂ (λ b c. cond (not b) (Some Hold.FormHold) (cond c (Some Hold.TriangleHold) None)) (sym (no_hold_form a k left h)) (sym e) ∙ h in cc)

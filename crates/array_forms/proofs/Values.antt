@@ -1,4 +1,4 @@
--- The forms of expressions have the values of the instances.
+-- Instances by the positions that they have.
 use Rattle.std.proofs.Common.{◌≡◌, refl, sym, ap, ◌∙◌, subst, ◌⊎◌, inl, inr, ℕ, zero, suc, ◌+◌, ◌-◌, ◌≤◌, ◌<◌, ℤ, Bool, true, false, cond, List, [], ◌∷◌, ◌++◌, map, length, Result, Ok, arith, Contains}
 use Rattle.std.specs.Str.{bytes_eq}
 use Rattle.std.proofs.lemmas.Slice.Eq.{bytes_eq-Decides}
@@ -11,13 +11,10 @@ use Rattle.fv_meaning.specs.Dialect.{Dialect}
 use Rattle.fv_meaning.specs.Store.{Store}
 use Rattle.fv_meaning.specs.Value.{value_of}
 use Rattle.array_laws.proofs.Members.{here, there, nowhere, cases_of}
-use Rattle.array_forms.specs.Following.{is_straightforward}
-use Rattle.array_forms.specs.Forms.{form}
 use Rattle.array_forms.specs.Instances.{at_iterations, count_of, counts_of}
 use Rattle.array_forms.specs.Laws.{Turns, AreKnown, AreTurning, store_at, HasValues, HasInstanceValues, FormHasInstanceValues}
 use Rattle.array_forms.specs.Loops.{Loop, Surroundings, variables_of, names_of, is_among, AreDistinct}
 use Rattle.array_forms.proofs.Axes.{Fit, Within, places, NoFault}
-use Rattle.array_forms.proofs.Forming.{takes}
 use Rattle.array_forms.proofs.Iterations.{iterations, at_those}
 use Rattle.array_forms.proofs.Names.{among}
 use Rattle.array_forms.proofs.Positions.{AreFrom, positions_from, from_positions, iteration_of, iterations_are}
@@ -95,7 +92,7 @@ bounded_by xs low (m ∷ ls) (i ∷ is) ι e h l c =
     by (inl p) f more = subst (λ (k : Loop). (low ≤ ι k.variable) × (ι k.variable < low + count_of xs k)) p (subst (λ j. (low ≤ j) × (j < low + count_of xs m)) (sym f) h.0)
     by (inr k) f more = more k
 
-next : (ns is : List ℕ) → AreFrom 0 ns is → AreFrom 1 ns (map suc is)
+pub next : (ns is : List ℕ) → AreFrom 0 ns is → AreFrom 1 ns (map suc is)
 next [] [] h = tt
 next [] (i ∷ is) h = absurd h
 next (n ∷ ns) [] h = absurd h
@@ -108,7 +105,7 @@ pub record By (lang : Dialect) (a : Surroundings) (D : List Loop) (s : Store) (x
   pub iterations_are : iterations ι D ≡ map suc is
   pub places_are : places lang a s xs k.few k.values k.sized k.distinct ι D ≡ is
 
-before : (f : Loop → ℕ) (ls : List Loop) (is : List ℕ) → map f ls ≡ map suc is → map (λ (l : Loop). f l - 1) ls ≡ is
+pub before : (f : Loop → ℕ) (ls : List Loop) (is : List ℕ) → map f ls ≡ map suc is → map (λ (l : Loop). f l - 1) ls ≡ is
 before f [] [] e = refl
 before f [] (i ∷ is) e = absurd cc
 before f (l ∷ ls) [] e = absurd cc
@@ -128,38 +125,3 @@ by_position lang a D s xs k t is c =
       iterations_are = are;
       places_are = before (λ (l : Loop). ι l.variable) D is are;
     }
-
--- ---- the law
-
-pub form_has_instance_values : FormHasInstanceValues
-form_has_instance_values lang a D e s xs k t straight has =
-    let fit = fitting lang a D s xs k t in
-    let h = takes lang a s xs k.few k.values k.sized k.distinct D fit e straight safe in
-    record {
-      array = h.array;
-      known = h.known;
-      extents = h.extents;
-      at = λ is c.
-        let b = by_position lang a D s xs k t is c in
-        ap h.array.at (sym b.places_are) ∙ (h.at b.ι b.within ∙ ap (λ js. value_of lang e (at_iterations D js s)) b.iterations_are);
-    }
-  where
-    to_positions : (ι : List ℕ → ℕ) → Within lang a s xs k.few k.values k.sized k.distinct D ι → (ls : List Loop) → ((l : Loop) → Contains ls l → Contains D l) → AreFrom 0 (counts_of xs ls) (map (λ (l : Loop). ι l.variable - 1) ls)
-    to_positions ι w [] h = tt
-    to_positions ι w (l ∷ ls) h =
-        let b = w l (h l (here l ls)) in
-        let low = b.0 in
-        let high = b.1 in
-        ((omega arith, omega (arith, low, high)), to_positions ι w ls (λ m g. h m (there l ls m g)))
-
-    after : (ι : List ℕ → ℕ) → Within lang a s xs k.few k.values k.sized k.distinct D ι → (ls : List Loop) → ((l : Loop) → Contains ls l → Contains D l) → map suc (map (λ (l : Loop). ι l.variable - 1) ls) ≡ iterations ι ls
-    after ι w [] h = refl
-    after ι w (l ∷ ls) h =
-        let low = (w l (h l (here l ls))).0 in
-        ap₂ (λ (x : ℕ) (ys : List ℕ). x ∷ ys) (omega (arith, low)) (after ι w ls (λ m g. h m (there l ls m g)))
-
-    safe : NoFault lang a s xs k.few k.values k.sized k.distinct D e
-    safe ι w =
-        let is = map (λ (l : Loop). ι l.variable - 1) D in
-        let v = has is (from_positions (counts_of xs D) is (to_positions ι w D (λ l g. g))) in
-        (v.0, ap (λ js. value_of lang e (at_iterations D js s)) (sym (after ι w D (λ l g. g))) ∙ v.1)

@@ -32,7 +32,7 @@ use Rattle.array_laws.proofs.Members.{here, there, nowhere, cases_of, in_map, of
 use Rattle.array_laws.proofs.OneToOne.{positions_are_one_to_one}
 use Rattle.array_laws.proofs.Stages.{bound, same_answer, Split, split}
 use Rattle.array_laws.proofs.Turns.{in_turn_is_at_once}
-use Rattle.array_forms.specs.Following.{has_none, are_moved, is_straightforward}
+use Rattle.array_forms.specs.Following.{has_none, are_moved, is_regular}
 use Rattle.array_forms.specs.Forms.{trip_text, form, subscript_forms}
 use Rattle.array_forms.specs.Instances.{at_iterations, count_of, counts_of, in_sequence, instance_at, instances_of}
 use Rattle.array_forms.specs.Laws.{Turns, AreKnown, AreTurning, ArrayFormStoresInstances}
@@ -41,10 +41,11 @@ use Rattle.array_forms.specs.Statements.{Hold, loops_from, hold_at, loops_assign
 use Rattle.array_forms.proofs.Axes as axes
 use Rattle.array_forms.proofs.Axes.{Fit, Within, NoFault, Takes, places}
 use Rattle.array_forms.proofs.Bounds.{trip_known}
-use Rattle.array_forms.proofs.Forming.{takes, conforming}
+use Rattle.array_forms.proofs.Forming.{conforming}
 use Rattle.array_forms.proofs.Iterations.{is_variable, variable_cell, iterations, at_those, bounds_at, any_order}
-use Rattle.array_forms.proofs.Orders.{Ordered, ordered_loops, of_drop, distinct_front, distinct_drop}
+use Rattle.array_forms.proofs.Orders.{Ordered, ordered_loops, no_triangle, of_drop, distinct_front, distinct_drop}
 use Rattle.array_forms.proofs.Positions.{AreFrom, from_sequence, sequence_from, iteration_of, iterations_are}
+use Rattle.array_forms.proofs.Taking.{takes}
 use Rattle.array_forms.proofs.Values.{fitting, bounded_by, same_length, By, by_position}
 
 -- ---- an instance depends on the cells that it reads alone
@@ -138,10 +139,10 @@ from_within xs ι (l ∷ ls) h = let b = h l (here l ls) in let low = b.0 in let
 
 -- ---- the assignment to an element with subscripts
 
-module _ (d : Dialect) (a : Surroundings) (k : ℕ) (s : Store) (xs : List ℤ) (known : AreKnown a s xs) (turns : (l : Loop) → Contains (loops_from a k) l → Turns a xs l)
+module _ (d : Dialect) (bits : d.bits ≡ 31) (a : Surroundings) (k : ℕ) (s : Store) (xs : List ℤ) (known : AreKnown a s xs) (turns : (l : Loop) → Contains (loops_from a k) l → Turns a xs l)
     (x : List ℕ) (e : Expression) (ps : Subscripts) (right : Expression) (no_hold : hold_at a k (record { name = x; subscripts = subscript (Only e) ps }) ≡ None)
     (moved : are_moved a (loops_assigned a k (record { name = x; subscripts = subscript (Only e) ps })) (subscript (Only e) ps) ≡ true)
-    (straight : is_straightforward a (loops_assigned a k (record { name = x; subscripts = subscript (Only e) ps })) right ≡ true)
+    (straight : is_regular a (loops_assigned a k (record { name = x; subscripts = subscript (Only e) ps })) right ≡ true)
     (t : Store) where
   abbrev left : Reference
   left = record { name = x; subscripts = subscript (Only e) ps }
@@ -165,7 +166,7 @@ module _ (d : Dialect) (a : Surroundings) (k : ℕ) (s : Store) (xs : List ℤ) 
   order = ordered_loops a k left known.distinct no_hold
 
   turning : AreTurning a D xs
-  turning = record { loops = λ l c. of_drop (k - 1) a.loops l (order.into l c); once = order.distinct; turns = λ l c. turns l (order.into l c) }
+  turning = record { loops = λ l c. of_drop (k - 1) a.loops l (order.into l c); once = order.distinct; turns = λ l c. turns l (order.into l c); apart = λ l m p q n. no_triangle a k left no_hold l m (order.into l p) (order.into m q) n }
 
   fit : Fit d a s xs known.few known.values known.sized known.distinct D
   fit = fitting d a D s xs known turning
@@ -211,7 +212,7 @@ module _ (d : Dialect) (a : Surroundings) (k : ℕ) (s : Store) (xs : List ℤ) 
         (u.held done.cell, value_of_cell (subscript_values d (subscript (Only e) ps) u) (λ is. cell_at x is u) u.held done.cell done.left_known)
 
     R_values : Takes d a s xs known.few known.values known.sized known.distinct D right R
-    R_values = takes d a s xs known.few known.values known.sized known.distinct D fit right straight right_safe
+    R_values = takes d bits a D s xs known turning right straight right_safe
 
     module _ (bs : List (ℤ × ℤ)) (bounds : s.bounds x ≡ Some bs) where
       abbrev picked : axes.SelectsAll d a s xs known.few known.values known.sized known.distinct D (subscript (Only e) ps) (subscript_forms a D (subscript (Only e) ps)) bs (loops_in_order D (subscript (Only e) ps))
@@ -396,17 +397,17 @@ module _ (a : Surroundings) (k line : ℕ) (mark : Option Mark) (s : State) (t :
   Result_of left right = (n : ℕ) × (does_all fortran90 None (array_form_of a k line mark left right) (ready s) ≡ record s { store = t; steps = n; way = Going })
 
   with_subscripts : (x : List ℕ) (e : Expression) (ps : Subscripts) (right : Expression) → let left : Reference = record { name = x; subscripts = subscript (Only e) ps } in hold_at a k left ≡ None
-      → are_moved a (loops_assigned a k left) (subscript (Only e) ps) ≡ true → is_straightforward a (loops_assigned a k left) right ≡ true
+      → are_moved a (loops_assigned a k left) (subscript (Only e) ps) ≡ true → is_regular a (loops_assigned a k left) right ≡ true
       → NoneReadsWritten [] (instances_of fortran90 (loops_from a k) (counts_of xs (loops_from a k)) left right) s.store
       → in_turn (instances_of fortran90 (loops_from a k) (counts_of xs (loops_from a k)) left right) s.store ≡ Ok t → Result_of left right
   with_subscripts x e ps right no_hold moved straight none run =
-      let w = written fortran90 a k s.store xs known turns x e ps right no_hold moved straight t refl some none run in
+      let w = written fortran90 refl a k s.store xs known turns x e ps right no_hold moved straight t refl some none run in
       let left : Reference = record { name = x; subscripts = subscript (Only e) ps } in
       let g = guarded fortran90 line (tests_of (names_of a) (loops_from a k)) (statement (Assignment line mark (left_form a k left) (right_form a k left right)) no_statements) s (tests_true fortran90 a s.store xs known (loops_from a k) turns) in
       (g.0 + 1 + length w.writes, g.1 ∙ (array_statement_stores fortran90 line mark (right_form a k left right) (left_form a k left) (ready (record s { steps = g.0 })) w.writes refl w.is_array_there w.writes_known
         ∙ ap (λ (u : Store). let r : State = record s { store = u; steps = g.0 + 1 + length w.writes; way = Going } in r) w.are))
 
-  pub stores_instances : (left : Reference) (right : Expression) → hold_at a k left ≡ None → are_moved a (loops_assigned a k left) left.subscripts ≡ true → is_straightforward a (loops_assigned a k left) right ≡ true
+  pub stores_instances : (left : Reference) (right : Expression) → hold_at a k left ≡ None → are_moved a (loops_assigned a k left) left.subscripts ≡ true → is_regular a (loops_assigned a k left) right ≡ true
       → NoneReadsWritten [] (instances_of fortran90 (loops_from a k) (counts_of xs (loops_from a k)) left right) s.store
       → in_turn (instances_of fortran90 (loops_from a k) (counts_of xs (loops_from a k)) left right) s.store ≡ Ok t → Result_of left right
   stores_instances left right no_hold moved straight none run = by left.subscripts refl
@@ -432,7 +433,7 @@ module _ (a : Surroundings) (k line : ℕ) (mark : Option Mark) (s : State) (t :
           subst (λ (r : Reference). Result_of r right) (sym same) (with_subscripts left.name i ps right
           (subst (λ (r : Reference). hold_at a k r ≡ None) same no_hold)
           (subst (λ (r : Reference). are_moved a (loops_assigned a k r) r.subscripts ≡ true) same moved)
-          (subst (λ (r : Reference). is_straightforward a (loops_assigned a k r) right ≡ true) same straight)
+          (subst (λ (r : Reference). is_regular a (loops_assigned a k r) right ≡ true) same straight)
           (subst (λ (r : Reference). NoneReadsWritten [] (instances_of fortran90 (loops_from a k) (counts_of xs (loops_from a k)) r right) s.store) same none)
           (subst (λ (r : Reference). in_turn (instances_of fortran90 (loops_from a k) (counts_of xs (loops_from a k)) r right) s.store ≡ Ok t) same run))
 

@@ -7,8 +7,7 @@ use Rattle.fv_tree.specs.Plain.{Reshape, Reduce, Expressions, no_expressions, ex
 use Rattle.fv_tree.specs.Plain.{Subscripts, no_subscripts, subscript}
 use Rattle.fv_meaning.specs.Reads.{names_in}
 use Rattle.linear_forms.specs.Linear.{Form, form_of}
-use Rattle.array_forms.specs.Loops.{Loop, Surroundings, variables_of, names_of, loops_among, loops_in_order, one_each}
-use Rattle.array_forms.specs.Loops.{same_loops, coefficient}
+use Rattle.array_forms.specs.Loops.{Loop, Surroundings, variables_of, names_of, loops_among, one_each, coefficient}
 
 abbrev pub has_none : List Loop → Bool
 has_none [] = true
@@ -27,24 +26,24 @@ module _ (a : Surroundings) (D : List Loop) where
       is_moved a (loops_among D (names_in e)) (form_of (variables_of a.loops) a.symbols e) && are_moved ps
   are_moved (subscript (Section b c e) ps) = false
 
-  -- an element whose subscripts have all loops, in their order, each in a subscript of its own
-  abbrev pub is_straight : Subscripts → Bool
-  is_straight no_subscripts = false
-  is_straight (subscript p ps) = one_each D (subscript p ps)
-      && (same_loops D (loops_in_order D (subscript p ps)) && are_moved (subscript p ps))
+  -- where no subscript has two loops, each subscript in which a loop stands is linear; any other element is listed as it
+  -- stands
+  abbrev pub is_regular_reference : Subscripts → Bool
+  is_regular_reference no_subscripts = true
+  is_regular_reference (subscript p ps) = not (one_each D (subscript p ps)) || are_moved (subscript p ps)
 
-  -- built by operators and functions of such elements, and of parts without loops
+  -- built by operators and functions of references, and without array values
   abbrev mutual
-    pub is_straightforward : Expression → Bool
-    is_straightforward (Number n) = true
-    is_straightforward (Logic b) = true
-    is_straightforward (Named x ps) = has_none (loops_among D (names_in (Named x ps))) || is_straight ps
-    is_straightforward (Unary o e) = is_straightforward e
-    is_straightforward (Binary o e f) = is_straightforward e && is_straightforward f
-    is_straightforward (Apply f es) = are_straightforward es
-    is_straightforward (Reduce r e) = has_none (loops_among D (names_in e))
-    is_straightforward _ = false
+    pub is_regular : Expression → Bool
+    is_regular (Number n) = true
+    is_regular (Logic b) = true
+    is_regular (Named x ps) = has_none (loops_among D (names_in (Named x ps))) || is_regular_reference ps
+    is_regular (Unary o e) = is_regular e
+    is_regular (Binary o e f) = is_regular e && is_regular f
+    is_regular (Apply f es) = are_regular es
+    is_regular (Reduce r e) = has_none (loops_among D (names_in e))
+    is_regular _ = false
 
-    pub are_straightforward : Expressions → Bool
-    are_straightforward no_expressions = true
-    are_straightforward (expression e es) = is_straightforward e && are_straightforward es
+    pub are_regular : Expressions → Bool
+    are_regular no_expressions = true
+    are_regular (expression e es) = is_regular e && are_regular es

@@ -1,5 +1,5 @@
 -- Laws of array forms.
-use Rattle.std.specs.Prelude.{◌≡◌, Ok, Option, Some, None, ℕ, suc, ◌≤◌, ℤ, Bool, true, false, if◌then◌else◌, List, []}
+use Rattle.std.specs.Prelude.{◌≡◌, ◌≢◌, Ok, Option, Some, None, ℕ, suc, ◌≤◌, ℤ, pos, Bool, true, false, if◌then◌else◌, List, []}
 use Rattle.std.specs.Prelude.{map, length, Contains}
 use Rattle.fv_tree.specs.Plain.{Expression, Reference}
 use Rattle.fv_tree.specs.declared.ops.Value.{Value}
@@ -12,10 +12,10 @@ use Rattle.fv_meaning.specs.Store.{Store}
 use Rattle.fv_meaning.specs.Value.{value_of, array_of}
 use Rattle.linear_forms.specs.Laws.{AreSized}
 use Rattle.linear_forms.specs.Linear.{HaveValues, is_limited}
-use Rattle.array_forms.specs.Following.{has_none, are_moved, is_straightforward}
+use Rattle.array_forms.specs.Following.{has_none, are_moved, is_regular}
 use Rattle.array_forms.specs.Forms.{form}
 use Rattle.array_forms.specs.Instances.{at_iterations, count_of, counts_of, instances_of}
-use Rattle.array_forms.specs.Loops.{Loop, Surroundings, variables_of, names_of, AreDistinct, loops_among}
+use Rattle.array_forms.specs.Loops.{Loop, Surroundings, variables_of, names_of, AreDistinct, loops_among, coefficient}
 use Rattle.array_forms.specs.Statements.{loops_from, hold_at, loops_assigned, array_form_of}
 use Rattle.array_laws.specs.Instances.{Instance, in_turn, NoneReadsWritten}
 
@@ -35,11 +35,13 @@ pub record AreKnown (a : Surroundings) (s : Store) (xs : List ℤ) : Type 0 wher
   pub values : HaveValues (names_of a) s xs
   pub sized : AreSized xs
 
--- D are some of the loops, each of them once, and each of them turns
+-- D are some of the loops, each of them once; each of them turns, and no trip has the variable of another one
 pub record AreTurning (a : Surroundings) (D : List Loop) (xs : List ℤ) : Type 0 where
   pub loops : (l : Loop) → Contains D l → Contains a.loops l
   pub once : AreDistinct (variables_of D)
   pub turns : (l : Loop) → Contains D l → Turns a xs l
+  pub apart : (l m : Loop) → Contains D l → Contains D m → l.variable ≢ m.variable
+      → coefficient (names_of a) m.variable l.trip.form.coefficients ≡ pos 0
 
 -- the store of the instance that has a position, where positions count from 0 and iterations from 1
 abbrev pub store_at : List Loop → List ℕ → Store → Store
@@ -59,18 +61,18 @@ pub record HasInstanceValues (lang : Dialect) (xs : List ℤ) (D : List Loop) (e
   pub at : (is : List ℕ) → Contains (positions (counts_of xs D)) is
       → array.at is ≡ value_of lang e (store_at D is s)
 
--- The form of an expression has the values that the expression has in the instances, without fault where these meet
--- none: for operators and functions, parts without loops, and elements that have all loops in order
+-- The form of a regular expression has the values that the expression has in the instances, without fault where these
+-- meet none
 abbrev pub FormHasInstanceValues : Type 0
 FormHasInstanceValues = (lang : Dialect) (a : Surroundings) (D : List Loop) (e : Expression) (s : Store) (xs : List ℤ)
-    → AreKnown a s xs → AreTurning a D xs → is_straightforward a D e ≡ true → HasValues lang xs D e s
+    → lang.bits ≡ 31 → AreKnown a s xs → AreTurning a D xs → is_regular a D e ≡ true → HasValues lang xs D e s
     → HasInstanceValues lang xs D e (form a D e) s
 
 -- the instances of an assignment, by the iterations of the loops from the level k on
 abbrev pub instances_from : Dialect → Surroundings → ℕ → List ℤ → Reference → Expression → List Instance
 instances_from d a k xs left right = instances_of d (loops_from a k) (counts_of xs (loops_from a k)) left right
 
--- Let no loop from the level k on forbid the array form of an assignment whose right side is built so, and let each of
+-- Let no loop from the level k on forbid the array form of an assignment with a regular right side, and let each of
 -- these loops turn. Where its instances, one after another in the order of a sequential run, take the store of a run
 -- that goes on to the store t without fault, none of them reading a cell that an earlier one has written, the array
 -- form ends without fault in t, and the run goes on
@@ -80,7 +82,7 @@ ArrayFormStoresInstances = (a : Surroundings) (k line : ℕ) (mark : Option Mark
     → s.way ≡ Going → AreKnown a s.store xs → ((l : Loop) → Contains (loops_from a k) l → Turns a xs l)
     → has_none (loops_from a k) ≡ false → hold_at a k left ≡ None
     → are_moved a (loops_assigned a k left) left.subscripts ≡ true
-    → is_straightforward a (loops_assigned a k left) right ≡ true
+    → is_regular a (loops_assigned a k left) right ≡ true
     → NoneReadsWritten [] (instances_from fortran90 a k xs left right) s.store
     → in_turn (instances_from fortran90 a k xs left right) s.store ≡ Ok t
     → (n : ℕ) × (does_all fortran90 None (array_form_of a k line mark left right) s ≡ record s { store = t; steps = n })
