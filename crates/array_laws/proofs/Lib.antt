@@ -1,12 +1,12 @@
-mod Members
-mod Turns
-mod Orders
-mod Sections
-mod Elements
-mod Stages
-mod Assignments
-mod Forms
-mod Scalars
-mod Structure
-mod OneToOne
-mod WorkedAssignments
+pub mod Members
+pub mod Turns
+pub mod Orders
+pub mod Sections
+pub mod Elements
+pub mod Stages
+pub mod Assignments
+pub mod Forms
+pub mod Scalars
+pub mod Structure
+pub mod OneToOne
+pub mod WorkedAssignments

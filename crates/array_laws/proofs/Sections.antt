@@ -25,7 +25,7 @@ map_map : {A B C : Type 0} (f : B → C) (g : A → B) (xs : List A) → map f (
 map_map f g [] = refl
 map_map f g (x ∷ xs) = ap (λ zs. f (g x) ∷ zs) (map_map f g xs)
 
-length_map : {A B : Type 0} (f : A → B) (xs : List A) → length (map f xs) ≡ length xs
+pub length_map : {A B : Type 0} (f : A → B) (xs : List A) → length (map f xs) ≡ length xs
 length_map f [] = refl
 length_map f (x ∷ xs) = ap (λ n. suc n) (length_map f xs)
 
@@ -78,7 +78,7 @@ length_counted : (k n : ℕ) → length (counted k n) ≡ n
 length_counted k zero = refl
 length_counted k (suc n) = ap (λ m. suc m) (length_counted (k + 1) n)
 
-number_of_positions : (ns : List ℕ) → length (positions ns) ≡ size ns
+pub number_of_positions : (ns : List ℕ) → length (positions ns) ≡ size ns
 number_of_positions ns = sym (length_map (place_of ns) (positions ns)) ∙ (ap length (places ns) ∙ length_counted 0 (size ns))
 
 -- what is known of all is known of each
@@ -103,7 +103,7 @@ values_known ns (Ok ws) vs e = ap Ok (ap values_in e)
 values_known ns (Err f) vs e = absurd cc
 
 -- values in the order of the positions
-value_there : (ns : List ℕ) (v : List ℕ → Value) (is : List ℕ) → Contains (positions ns) is → value_at (map v (positions ns)) (place_of ns is) ≡ Ok (v is)
+pub value_there : (ns : List ℕ) (v : List ℕ → Value) (is : List ℕ) → Contains (positions ns) is → value_at (map v (positions ns)) (place_of ns is) ≡ Ok (v is)
 value_there ns v is k =
     let vs = map v (positions ns) in
     let all = values_known ns (each (λ js. value_at vs (place_of ns js)) (positions ns)) vs (settled-whole ns vs (length_map v (positions ns) ∙ number_of_positions ns)) in

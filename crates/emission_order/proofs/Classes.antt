@@ -1,15 +1,15 @@
 -- The components of a relation of places are classes of recursive emission.
-use Rattle.std.proofs.Common.{◌≡◌, refl, sym, ap, ◌∙◌, subst, ◌⊎◌, ◌↔◌, inl, inr, ℕ, ◌<◌, ◌≤◌, nat_le, Bool, true, false, cond, List, [], ◌∷◌, ◌++◌, length, map, slice_index, arith}
+use Rattle.std.proofs.Common.{◌≡◌, refl, sym, ap, subst, inl, inr, ℕ, nat_le, Bool, true, false, cond, List, [], ◌∷◌, slice_index, arith}
 use Rattle.std.specs.List.{concat}
 use Rattle.components.specs.Emission.{WalkWithin, ReachesWithin, ArePlaces, statements_of}
 use Rattle.components.specs.Emission as given
 use Rattle.components.specs.Lists as lists
-use Rattle.components.specs.Orders.{IsOrder, NoneBack}
+use Rattle.components.specs.Orders.{NoneBack}
 use Rattle.components.proofs.Places.{order_has_components}
 use Rattle.nest_order.specs.Emission.{Leap, Walk, Leads, NoneFrom, Components}
-use Rattle.nest_order.specs.Lists.{In, Each, Pairwise, Distinct}
+use Rattle.nest_order.specs.Lists.{In, Each, Pairwise}
 use Rattle.nest_order.specs.Nests.{Level, Carried, Independent, Edge, Remains}
-use Rattle.emission_order.specs.Components.{ArePairsOf, OrderIsComponents}
+use Rattle.emission_order.specs.Components.{OrderIsComponents}
 
 -- ---- the words on lists are the same in both crates
 

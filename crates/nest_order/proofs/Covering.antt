@@ -1,5 +1,5 @@
 -- In a complete graph an edge asks for the sequential order of two instances that touch a common cell.
-use Rattle.std.proofs.Common.{◌≡◌, refl, sym, ap, ◌∙◌, subst, ◌⊎◌, inl, inr, ℕ, zero, suc, ◌+◌, ◌<◌, ◌≤◌, List, [], ◌∷◌, ◌++◌, map, length, arith}
+use Rattle.std.proofs.Common.{◌≡◌, refl, sym, ap, subst, ◌⊎◌, inl, inr, ℕ, zero, suc, ◌+◌, ◌<◌, ◌≤◌, List, [], ◌∷◌, ◌++◌, map, length, arith}
 use Rattle.nest_order.specs.Graphs.{Any, Arc, Candidate, Covers, Direction, Greater, HasLevel, IsComplete, IsInstanceAt, Just, Less, MayBegin, Meet, Place, Related, Same, Sign, StandsFor, edge_of, level_after}
 use Rattle.nest_order.specs.Lists.{Each, In}
 use Rattle.nest_order.specs.Nests.{Carried, Depends, DependsAt, Independent, IsEdge, LeadsInNest, Level, Precedes, Remains}

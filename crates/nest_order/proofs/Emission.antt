@@ -1,6 +1,6 @@
 -- Recursive emission puts the statements of a nest into their own loops, so that no edge that is at work leads back.
 use Rattle.std.specs.List.{concat}
-use Rattle.std.proofs.Common.{◌≡◌, refl, sym, ap, ◌∙◌, subst, ◌⊎◌, inl, inr, ℕ, zero, suc, ◌<◌, ◌≤◌, List, [], ◌∷◌, ◌++◌, length, drop, arith, append_assoc, append-nil}
+use Rattle.std.proofs.Common.{◌≡◌, refl, sym, ap, ◌∙◌, subst, ◌⊎◌, inl, inr, ℕ, zero, suc, ◌<◌, ◌≤◌, List, [], ◌∷◌, ◌++◌, length, drop, arith, append_assoc}
 use Rattle.nest_order.specs.Emission.{AreEmittedFor, Components, HasStatements, HaveStatements, IsEmitted, IsEmittedFor, Leads, Leap, NoneFrom, Walk}
 use Rattle.nest_order.specs.Lists.{Distinct, Each, In, Pairwise}
 use Rattle.nest_order.specs.Nests.{Carried, Edge, Independent, IsEdge, LeadsInNest, Level, Remains, common}
@@ -9,7 +9,6 @@ use Rattle.nest_order.proofs.Forward.{Forward, ForwardIn}
 use Rattle.nest_order.proofs.Lists.{Each-In, In-left, In-right, In-append, Pairwise-append}
 use Rattle.nest_order.proofs.Once.{Pairwise-left, Pairwise-right, Pairwise-across}
 use Rattle.nest_order.proofs.Common.{common-sym, common-trans, next_common, statement_stands, statement_stands_in}
-use Rattle.nest_order.proofs.Sequence.{common_left}
 
 dropped : (round rest : List ℕ) → drop (length round) (round ++ rest) ≡ rest
 dropped [] rest = refl

@@ -1,6 +1,6 @@
 -- Shapes in which no edge that remains leads back.
 use Rattle.std.specs.Prelude.{⊤}
-use Rattle.std.proofs.Common.{◌≡◌, ℕ, suc, List}
+use Rattle.std.proofs.Common.{ℕ, suc, List}
 use Rattle.nest_order.specs.Lists.{In}
 use Rattle.nest_order.specs.Nests.{Edge, Remains}
 use Rattle.nest_order.specs.Shapes.{Loop, Shape, Shapes, Single, no_shapes, shape, statements, statements_in}

@@ -2,7 +2,7 @@
 use Rattle.std.proofs.Common.{◌≡◌, refl, sym, ap, ◌∙◌, subst, inl, inr, ℕ, zero, suc, ◌+◌, ◌-◌, ◌<◌, ◌≤◌, ◌==◌, true, cond, List, [], ◌∷◌, ◌++◌, map, length, arith, append_assoc}
 use Rattle.nest_order.specs.Lists.{In, Keeps}
 use Rattle.nest_order.specs.Nests.{Carried, Edge, Independent, Level, Remains}
-use Rattle.nest_order.specs.Shapes.{Fits, FitsIn, Instance, LessAt, Loop, SameUpTo, Shape, Shapes, Single, StandsIn, common_of, instances, instances_in, loops, no_shapes, shape, statements, statements_in, within_turn}
+use Rattle.nest_order.specs.Shapes.{Fits, FitsIn, Instance, LessAt, Loop, SameUpTo, Shape, Shapes, Single, StandsIn, common_of, instances, instances_in, no_shapes, shape, statements, statements_in, within_turn}
 use Rattle.nest_order.proofs.Forward.{Forward, ForwardIn}
 use Rattle.nest_order.proofs.Lists.{Pairwise-append}
 use Rattle.nest_order.proofs.Membership.{In-map, Pairwise-turns, Pairwise-map, instance_stands_in}

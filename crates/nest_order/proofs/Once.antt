@@ -1,7 +1,7 @@
 -- No instance of a shape comes twice, where no statement stands twice.
 use Rattle.std.proofs.Common.{◌≡◌, sym, ap, ◌∙◌, subst, inl, inr, ℕ, List, [], ◌∷◌, ◌++◌, map, arith}
 use Rattle.nest_order.specs.Lists.{Distinct, In, Pairwise}
-use Rattle.nest_order.specs.Shapes.{Instance, Loop, Shape, Shapes, Single, Stands, StandsIn, instances, instances_in, loops, no_shapes, shape, statements, statements_in, within_turn}
+use Rattle.nest_order.specs.Shapes.{Instance, Loop, Shape, Shapes, Single, Stands, StandsIn, instances, instances_in, no_shapes, shape, statements, statements_in, within_turn}
 use Rattle.nest_order.proofs.Lists.{Each-In, Each-left, Each-right, Pairwise-append, In-left, In-right}
 use Rattle.nest_order.proofs.Membership.{In-map, Pairwise-turns, Pairwise-map, instance_stands, instance_stands_in}
 

@@ -1,10 +1,10 @@
 -- The sequential order and that of recursive emission keep the edges, and each order that keeps the edges gives the sequential store.
-use Rattle.std.proofs.Common.{◌≡◌, refl, sym, subst, ◌⊎◌, inl, inr, ℕ, zero, suc, ◌+◌, ◌-◌, ◌<◌, List, [], ◌∷◌, length, arith, Result, Ok}
+use Rattle.std.proofs.Common.{◌≡◌, refl, sym, subst, ◌⊎◌, inl, inr, ℕ, zero, suc, ◌+◌, ◌-◌, ◌<◌, List, [], ◌∷◌, arith, Result, Ok}
 use Rattle.nest_order.specs.Emission.{IsArranged, IsEmitted}
 use Rattle.nest_order.specs.Lists.{Distinct, Each, In, Pairwise}
 use Rattle.nest_order.specs.Nests.{AreInstances, Carried, Depends, DependsAt, Edge, Independent, IsEdge, IsInstance, IsNest, KeepsEdges, LeadsInNest, Level, Ordered, Precedes, common}
 use Rattle.nest_order.specs.Orders.{Invariant, MayPass, runs}
-use Rattle.nest_order.specs.Shapes.{Instance, LessAt, SameUpTo, Shape, Shapes, Within, common_of, instances, instances_in, loops, statements}
+use Rattle.nest_order.specs.Shapes.{Instance, LessAt, SameUpTo, Shape, Shapes, Within, common_of, instances, instances_in, statements}
 use Rattle.nest_order.specs.Laws.{InstancesInSequence, EdgesFollowSequence, SequenceKeepsEdges, EmissionArranges, EmissionKeepsEdges}
 use Rattle.nest_order.proofs.Lists.{Each-In, Each-from}
 use Rattle.nest_order.proofs.Membership.{instance_stands, instance_stands_in, stands_instance, stands_instance_in}

@@ -4,7 +4,7 @@ use Rattle.std.specs.Prelude.{◌≡◌, ◌↔◌, ⊤, ℕ, suc, List, [], ◌
 use Rattle.std.specs.List.{concat}
 use Rattle.nest_order.specs.Lists.{In, Each, Pairwise, Distinct}
 use Rattle.nest_order.specs.Nests.{Edge, Remains}
-use Rattle.nest_order.specs.Shapes.{Shape, Single, Loop, Shapes, no_shapes, shape, statements, statements_in, StandsIn}
+use Rattle.nest_order.specs.Shapes.{Shape, Single, Loop, Shapes, no_shapes, shape, statements_in, StandsIn}
 
 module _ (edges : List Edge) (d : ℕ) where
   abbrev pub Leap : ℕ → ℕ → Type 0

@@ -102,8 +102,8 @@ module _ {V X : Type 0} (loops_of : ℕ → List ℕ) (common : ℕ → ℕ → 
     pub related : Related c.vector first.iterations second.iterations
     pub touched : Touches values c.from.reference first cell × Touches values c.to.reference second cell
 
-  -- what orders need of the edges that are listed: each candidate that has a pair stands in one; and each has a level, and
-  -- stands for a candidate
+  -- what orders need of the edges that are listed: each candidate that has a pair stands in one; and each has a level,
+  -- and stands for a candidate
   pub record IsComplete (arcs : List Arc) : Type 0 where
     pub covered : (c : Candidate) → IsCandidate c → Pair c → (a : Arc) × In a arcs × StandsFor a c
     pub level : (a : Arc) → In a arcs → HasLevel a.signs

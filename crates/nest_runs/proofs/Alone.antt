@@ -18,6 +18,7 @@ use Rattle.nest_order.proofs.Membership.{In-map, Pairwise-map, instance_stands}
 use Rattle.nest_order.proofs.Once.{Pairwise-left, Pairwise-right}
 use Rattle.nest_order.proofs.Sequence.{PrecedesFrom, sequence}
 use Rattle.nest_runs.specs.Alone.{HasNoOwnEdge, InnerInstancesAreApart, chain, inner_instances, inside}
+use Rattle.nest_runs.specs.Blocks.{written}
 use Rattle.nest_runs.specs.Guarded.{effect, sequential}
 use Rattle.nest_runs.specs.Nests.{Nest, effect_of, reads_of}
 use Rattle.nest_runs.specs.Stores.{HoldsNest, IsNestIn, Setting}
@@ -82,7 +83,7 @@ module _ (s : ℕ) where
 
 -- no loop stands twice round a statement
 mutual
-  stands_loops : (t : Shape) (s : ℕ) (ls : List ℕ) → Stands t s ls → (m : ℕ) → In m ls → In m (loops t)
+  pub stands_loops : (t : Shape) (s : ℕ) (ls : List ℕ) → Stands t s ls → (m : ℕ) → In m ls → In m (loops t)
   stands_loops (Single r) s [] h m i = absurd i
   stands_loops (Single r) s (l ∷ ls) h m i = absurd h
   stands_loops (Loop k ts) s [] h m i = absurd h
@@ -95,7 +96,7 @@ mutual
   stands_loops_in (shape t ts) s ls (inr h) m i = In-right m (loops t) (loops_in ts) (stands_loops_in ts s ls h m i)
 
 mutual
-  stands_once : (t : Shape) (s : ℕ) (ls : List ℕ) → Stands t s ls → Distinct (loops t) → Distinct ls
+  pub stands_once : (t : Shape) (s : ℕ) (ls : List ℕ) → Stands t s ls → Distinct (loops t) → Distinct ls
   stands_once (Single r) s [] h d = tt
   stands_once (Single r) s (l ∷ ls) h d = absurd h
   stands_once (Loop k ts) s [] h d = absurd h

@@ -164,7 +164,7 @@ by_one : (z : ℤ) → int_div z (pos 1) ≡ z
 by_one (pos n) = ap pos (div-one n)
 by_one (negsuc n) = ap (λ k. neg_ℤ (pos k)) (div-one (suc n))
 
-count_from_one : (z : ℤ) (n : ℕ) → trip_count (pos 1) z (pos 1) ≡ Ok n → n ≡ turns_to z
+pub count_from_one : (z : ℤ) (n : ℕ) → trip_count (pos 1) z (pos 1) ≡ Ok n → n ≡ turns_to z
 count_from_one z n e = by (exact (z -ℤ pos 1)) refl e
   where
     last : (q : Result ℤ Fault) (w : ℤ) → exact w ≡ q → w ≡ z → (results.◌>>=◌ q as_count) ≡ Ok n → n ≡ turns_to z

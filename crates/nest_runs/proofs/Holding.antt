@@ -25,7 +25,7 @@ use Rattle.nest_runs.specs.Touched.{nth_of}
 use Rattle.nest_runs.proofs.Results.{ok_same, both_ok}
 use Rattle.nest_runs.proofs.Variables.{var, cell_name}
 
-some_map : {A : Type 0} (o : Option A) (P Q : A → Type 0) → ((x : A) → P x → Q x) → IfSome o P → IfSome o Q
+pub some_map : {A : Type 0} (o : Option A) (P Q : A → Type 0) → ((x : A) → P x → Q x) → IfSome o P → IfSome o Q
 some_map None P Q f h = tt
 some_map (Some x) P Q f h = f x h
 
@@ -37,7 +37,7 @@ nth-In {X = X} (y ∷ xs) zero x e = inl (same e)
     same e = cc
 nth-In (y ∷ xs) (suc k) x e = inr (nth-In xs k x e)
 
-HoldsProgram-put : (lang : Dialect) (p : Program) (c : Cell) (v : Value) (s : Store) → HoldsProgram lang p s
+pub HoldsProgram-put : (lang : Dialect) (p : Program) (c : Cell) (v : Value) (s : Store) → HoldsProgram lang p s
     → IfSome (declared p.declarations c.name) (λ (d : Declaration). kind_of v ≡ d.kind) → is_in_range lang.bits v ≡ true → HoldsProgram lang p (put c v s)
 HoldsProgram-put lang p c v s h kind range = record { bounds = h.bounds; kinds = λ d. by d (same_cell c d) refl }
   where

@@ -1,5 +1,6 @@
 pub mod Alike
 pub mod Alone
+pub mod Arrays
 pub mod Counting
 pub mod Deciding
 pub mod Dialects
@@ -7,6 +8,8 @@ pub mod Ending
 pub mod Framing
 pub mod Going
 pub mod Holding
+pub mod Lone
+pub mod Loops
 pub mod OneByOne
 pub mod Orders
 pub mod Passing
@@ -16,3 +19,4 @@ pub mod Runs
 pub mod Touching
 pub mod Translating
 pub mod Variables
+pub mod WorkedNest

@@ -47,7 +47,7 @@ module _ (n : Nest) (lang : Dialect) where
   each_comes [] = tt
   each_comes (x ∷ xs) = (comes x, each_comes xs)
 
-  one_by_one : (xs : List Instance) (s : Store) → runs (acts n lang) xs s ≡ in_turn (map (as_instance n lang) xs) s
+  pub one_by_one : (xs : List Instance) (s : Store) → runs (acts n lang) xs s ≡ in_turn (map (as_instance n lang) xs) s
   one_by_one [] s = refl
   one_by_one (x ∷ xs) s = by (effect_of n lang x s) (λ t. one_by_one xs t)
     where

@@ -1,18 +1,21 @@
 -- Statements without READ and PRINT read and write no lines.
-use Rattle.std.proofs.Common.{◌≡◌, refl, ◌∙◌, ℕ, zero, suc, ◌+◌, ℤ, pos, Bool, true, false, List, [], ◌∷◌, Result, Ok, Err, Option, Some, None}
+use Rattle.std.proofs.Common.{◌≡◌, refl, ◌∙◌, ℕ, zero, suc, ◌+◌, ℤ, pos, Bool, true, false, List, [], ◌∷◌, ◌++◌, Result, Ok, Err, Option, Some, None}
 use Rattle.fv_tree.specs.Plain.{Expression, Number, Logic, Reference, Statement, Assignment, Where, If, Do, Label, GoTo, Stop, Read, Print, Allocate, Deallocate, Arms, no_arms, arm, Block, no_statements, statement}
 use Rattle.fv_tree.specs.declared.ops.Value.{Value}
 use Rattle.fv_tree.specs.declared.ops.Value.TheVariants.{Int}
 use Rattle.fv_tree.specs.declared.ops.Fault.{Fault}
 use Rattle.fv_tree.specs.declared.ops.Fault.TheVariants.{Overflow}
 use Rattle.fv_tree.specs.declared.stmts.Mark.{Mark}
+use Rattle.nest_order.specs.Shapes.{Shape, Single, Loop, Shapes, no_shapes, shape}
 use Rattle.fv_meaning.specs.Dialect.{Dialect}
 use Rattle.fv_meaning.specs.Store.{Store, Cell, put, cell_at, allocated, with_bounds, bounds_of}
 use Rattle.fv_meaning.specs.Value.{value_of, truth_of, number_of, cell_named, is_array, named, is_in_range, increment_of}
 use Rattle.fv_meaning.specs.ArrayStatements.{writes_of, allocated_bounds}
 use Rattle.fv_meaning.specs.Run.{State, Way, Going, Jumping, Stopped, Failed, Cut, Act, does, does_all, chooses, on_way, answered, goes, either, then, nothing, repeated, for_each, while_going, evaluates, counts_step, stores, stores_element, checks_range, assigns, array_assigns, sets_variable, increases, turn, loops, is_allowed, arrives, allocates, deallocates}
-use Rattle.nest_runs.specs.Blocks.{written}
-use Rattle.nest_runs.specs.Quiet.{AreQuiet, AreQuietArms, IsQuiet, QuietStatementsKeepLines, SameLines}
+use Rattle.nest_runs.specs.Blocks.{Layout, guarded_statement, loop_of, or_statement, written, written_in}
+use Rattle.nest_runs.specs.Guarded.{Guarded}
+use Rattle.nest_runs.specs.Nests.{Nest}
+use Rattle.nest_runs.specs.Quiet.{AreQuiet, AreQuietArms, IsQuiet, NestsAreQuiet, QuietStatementsKeepLines, SameLines}
 
 abbrev Quiet : Act → Type 0
 Quiet k = (s : State) → SameLines s (k s)
@@ -126,3 +129,29 @@ module _ (lang : Dialect) (limit : Option ℕ) where
 
 pub quiet_statements_keep_lines : QuietStatementsKeepLines
 quiet_statements_keep_lines lang limit cs s h = block_quiet lang limit cs h s
+
+-- ---- nests
+
+guarded_quiet : (line : ℕ) (m : Option Mark) (g : Guarded) → IsQuiet (guarded_statement line m g)
+guarded_quiet line m g = by g.guard
+  where
+    by : (o : Option Expression) → IsQuiet (guarded_statement line m (record { guard = o; left = g.left; right = g.right }))
+    by None = tt
+    by (Some e) = (((tt, tt), tt), tt)
+
+module _ (n : Nest) (y : Layout) (form : List ℕ → Shape → Option Statement) (forms : (outer : List ℕ) (t : Shape) (c : Statement) → form outer t ≡ Some c → IsQuiet c) where
+  either_form : (round : List ℕ) (t : Shape) (c : Statement) (o : Option Statement) → form round t ≡ o → IsQuiet c → IsQuiet (or_statement o c)
+  either_form round t c None e h = h
+  either_form round t c (Some b) e h = forms round t b e
+
+  mutual
+    written_quiet : (t : Shape) (round : List ℕ) → IsQuiet (written n y form round t)
+    written_quiet (Single s) round = guarded_quiet (y.line_at s) (y.mark_at s) (n.statement_at s)
+    written_quiet (Loop l ts) round = either_form round (Loop l ts) (loop_of n y l (written_in n y form (round ++ l ∷ []) ts)) (form round (Loop l ts)) refl (all_written_quiet ts (round ++ l ∷ []))
+
+    all_written_quiet : (ts : Shapes) (round : List ℕ) → AreQuiet (written_in n y form round ts)
+    all_written_quiet no_shapes round = tt
+    all_written_quiet (shape t ts) round = (written_quiet t round, all_written_quiet ts round)
+
+pub nests_are_quiet : NestsAreQuiet
+nests_are_quiet n y form round ts forms = all_written_quiet n y form forms ts round

@@ -28,6 +28,7 @@ use Rattle.nest_runs.proofs.Results.{ok_same, true_false, runs-append, runs-map}
 use Rattle.nest_runs.proofs.Variables.{var, variable_is, AreAt-more, AreAt-last, AreAt-put, Near-same, Near-put, Near-variable, Within-more, put_there, scalar_place}
 use Rattle.nest_runs.proofs.Alike.{effect_there}
 use Rattle.nest_runs.proofs.Ending.{turns_to, assigned, Chosen, chosen, looped, turned}
+use Rattle.nest_runs.proofs.Loops.{loop_in, outer_loop}
 use Rattle.nest_runs.proofs.Holding.{variable_inside, instance_inside, written_elsewhere}
 
 -- ---- a guarded assignment
@@ -114,34 +115,6 @@ module _ (bits : ℕ) (n : Nest) (w : Setting) (ok : IsNestIn bits n w) where
 
   pub lies_rest : (t : Shape) (ts : Shapes) (round : List ℕ) → LieIn round (shape t ts) → LieIn round ts
   lies_rest t ts round h = record { statements_there = λ s ls k. h.statements_there s ls (inr k); loops_there = λ ls l k. h.loops_there ls l (inr k) }
-
-  mutual
-    loop_in : (t : Shape) (round : List ℕ) (l : ℕ) → LoopStands t round l → In l (loops t)
-    loop_in (Single s) round l h = absurd h
-    loop_in (Loop m ts) [] l h = inl (sym h)
-    loop_in (Loop m ts) (k ∷ round) l h = inr (loop_in_all ts round l h.1)
-
-    loop_in_all : (ts : Shapes) (round : List ℕ) (l : ℕ) → LoopStandsIn ts round l → In l (Rattle.nest_order.specs.Shapes.loops_in ts)
-    loop_in_all no_shapes round l h = absurd h
-    loop_in_all (shape t ts) round l (inl h) = In-left l (loops t) (Rattle.nest_order.specs.Shapes.loops_in ts) (loop_in t round l h)
-    loop_in_all (shape t ts) round l (inr h) = In-right l (loops t) (Rattle.nest_order.specs.Shapes.loops_in ts) (loop_in_all ts round l h)
-
-  mutual
-    outer_loop : (t : Shape) (round : List ℕ) (l m : ℕ) → Rattle.nest_order.specs.Lists.Distinct (loops t) → LoopStands t round l → In m round → In m (loops t) × (¬ (m ≡ l))
-    outer_loop (Single s) round l m d h i = absurd h
-    outer_loop (Loop k ts) [] l m d h i = absurd i
-    outer_loop (Loop k ts) (j ∷ round) l m d h (inl e) =
-        (inl (e ∙ sym h.0), λ f. Rattle.nest_order.proofs.Lists.Each-In (λ y. ¬ (k ≡ y)) (Rattle.nest_order.specs.Shapes.loops_in ts) d.0 l (loop_in_all ts round l h.1) (h.0 ∙ (sym e ∙ f)))
-    outer_loop (Loop k ts) (j ∷ round) l m d h (inr i) = let r = outer_loop_in ts round l m d.1 h.1 i in (inr r.0, r.1)
-
-    outer_loop_in : (ts : Shapes) (round : List ℕ) (l m : ℕ) → Rattle.nest_order.specs.Lists.Distinct (Rattle.nest_order.specs.Shapes.loops_in ts) → LoopStandsIn ts round l → In m round → In m (Rattle.nest_order.specs.Shapes.loops_in ts) × (¬ (m ≡ l))
-    outer_loop_in no_shapes round l m d h i = absurd h
-    outer_loop_in (shape t ts) round l m d (inl h) i =
-        let r = outer_loop t round l m (Rattle.nest_order.proofs.Once.Pairwise-left (λ x y. ¬ (x ≡ y)) (loops t) (Rattle.nest_order.specs.Shapes.loops_in ts) d) h i in
-        (In-left m (loops t) (Rattle.nest_order.specs.Shapes.loops_in ts) r.0, r.1)
-    outer_loop_in (shape t ts) round l m d (inr h) i =
-        let r = outer_loop_in ts round l m (Rattle.nest_order.proofs.Once.Pairwise-right (λ x y. ¬ (x ≡ y)) (loops t) (Rattle.nest_order.specs.Shapes.loops_in ts) d) h i in
-        (In-right m (loops t) (Rattle.nest_order.specs.Shapes.loops_in ts) r.0, r.1)
 
   -- of a loop of the nest
   pub there : (round : List ℕ) (l : ℕ) → LoopStands n.shape round l → In l (loops n.shape)

@@ -1,9 +1,10 @@
 -- The variables of a nest's loops.
-use Rattle.std.proofs.Common.{◌≡◌, refl, sym, ap, ◌∙◌, subst, ◌⊎◌, inl, inr, ℕ, zero, suc, ◌≤◌, ℤ, pos, Bool, true, false, cond, ◌||◌, List, [], ◌∷◌, ◌++◌, map, length, Ok, Err, Option, Some, None, append_assoc, append-nil, arith}
+use Rattle.std.proofs.Common.{◌≡◌, refl, sym, ap, ◌∙◌, subst, ◌⊎◌, inl, inr, ℕ, zero, suc, ◌≤◌, ℤ, pos, Bool, true, false, cond, ◌||◌, List, [], ◌∷◌, ◌++◌, map, length, Ok, Err, Option, Some, None, append_assoc, append-nil, arith, Contains}
 use Rattle.fv_tree.specs.declared.ops.Value.{Value}
 use Rattle.fv_tree.specs.declared.ops.Value.TheVariants.{Int}
 use Rattle.fv_tree.specs.declared.ops.Fault.TheVariants.{Bounds}
-use Rattle.fv_meaning.specs.Store.{Store, Cell, put, same_cell, cell_at, cell_in}
+use Rattle.fv_tree.specs.Plain.{Program}
+use Rattle.fv_meaning.specs.Store.{Store, Cell, Agree, names_of, nought_like, put, same_cell, cell_at, cell_in}
 use Rattle.fv_meaning.specs.Value.{bound_to}
 use Rattle.fv_meaning.proofs.Exchanges.{same_cell-same, same_cell-refl, unread}
 use Rattle.nest_order.specs.Lists.{In}
@@ -159,3 +160,14 @@ module _ (n : Nest) where
 
   pub Near-variable : (c : Cell) (v : Value) (t s : Store) → is_variable n c ≡ true → Near n t s → Near n t (put c v s)
   Near-variable c v t s y h = record { bounds = h.bounds; held = λ d e. h.held d e ∙ unread c d v s (λ f. true_false (sym y ∙ (ap (is_variable n) f ∙ e))) }
+
+  pub near_stores_agree : (p : Program) (s t : Store) → ((l : ℕ) → In l (loops n.shape) → ¬ Contains (names_of p) (n.variable_at l)) → Near n s t → Agree p s t
+  near_stores_agree p s t free near = record {
+    bounds = λ x i. near.bounds x;
+    held = λ c i is. near.held c (by c i (is_variable n c) refl);
+    kinds = λ c i. ap nought_like (near.held c (by c i (is_variable n c) refl));
+  }
+    where
+      by : (c : Cell) → Contains (names_of p) c.name → (b : Bool) → is_variable n c ≡ b → is_variable n c ≡ false
+      by c i true e = let v = variable_from c e in absurd (free v.0 v.1 (subst (Contains (names_of p)) (ap (λ (d : Cell). d.name) v.2) i))
+      by c i false e = e

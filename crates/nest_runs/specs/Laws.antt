@@ -1,17 +1,18 @@
 -- Laws of the runs of nests, and of the orders of their instances.
-use Rattle.std.specs.Prelude.{◌≡◌, Result, Ok, Option, Some, None, ℕ, ◌≤◌, Bool, List, [], map}
+use Rattle.std.specs.Prelude.{◌≡◌, Result, Ok, Option, Some, None, ℕ, ◌≤◌, Bool, List, [], map, Contains}
 use Rattle.std.specs.List.{AllByRecursion}
-use Rattle.fv_tree.specs.Plain.{Statement}
+use Rattle.fv_tree.specs.Plain.{Statement, Program}
 use Rattle.fv_meaning.specs.Dialect.{Dialect}
 use Rattle.fv_meaning.specs.Run.{State, Going, does, does_all}
-use Rattle.fv_meaning.specs.Store.{Store}
+use Rattle.fv_meaning.specs.Store.{Store, Agree, names_of}
 use Rattle.array_laws.specs.Instances.{in_turn, ComesFromReads}
 use Rattle.array_laws.specs.Instances as arrays
 use Rattle.nest_order.specs.Emission.{IsEmitted}
 use Rattle.nest_order.specs.Graphs.{Arc, edge_of}
 use Rattle.nest_order.specs.Nests.{IsInstance, KeepsEdges}
 use Rattle.nest_order.specs.Orders.{runs, MayPass}
-use Rattle.nest_order.specs.Shapes.{Shape, Shapes, statements, Instance, instances}
+use Rattle.nest_order.specs.Lists.{In}
+use Rattle.nest_order.specs.Shapes.{Shape, Shapes, statements, loops, Instance, instances}
 use Rattle.nest_runs.specs.Blocks.{Layout, nest_statement, nest_block, written_in}
 use Rattle.nest_runs.specs.Forms.{FormsAreInstances}
 use Rattle.nest_runs.specs.Guarded.{dialect, sequential}
@@ -53,8 +54,8 @@ pub record GoesOnNear (n : Nest) (s t : State) : Type 0 where
   pub way : t.way ≡ Going
   pub near : Near n s.store t.store
 
--- Where the sequential run of a nest goes on, what is emitted for it by its graph goes on and leaves the same store, but
--- for the loop variables: as loops
+-- Where the sequential run of a nest goes on, what is emitted for it by its graph goes on and leaves the same store,
+-- but for the loop variables: as loops
 abbrev pub EmissionKeepsMeaning : Type 0
 EmissionKeepsMeaning =
     (bits : ℕ) (arrays : Bool) (n : Nest) (w : Setting) (arcs : List Arc) (ts : Shapes) (y z : Layout) (s : State)
@@ -75,6 +76,11 @@ TranslationKeepsMeaning =
     → HoldsNest bits n w s.store → (does (sequential bits) None (nest_statement n y [] n.shape) s).way ≡ Going
     → GoesOnNear n (does (sequential bits) None (nest_statement n y [] n.shape) s)
     (does_all (dialect bits arrays) None (written_in n z form [] ts) s)
+
+-- Stores that are near agree on a program that declares no variable of the nest's loops
+abbrev pub NearStoresAgree : Type 0
+NearStoresAgree = (n : Nest) (p : Program) (s t : Store)
+    → ((l : ℕ) → In l (loops n.shape) → ¬ Contains (names_of p) (n.variable_at l)) → Near n s t → Agree p s t
 
 -- ---- instances as what stores at most one value
 

@@ -1,8 +1,10 @@
 pub mod Alone
+pub mod Arrays
 pub mod Blocks
 pub mod Forms
 pub mod Guarded
 pub mod Laws
+pub mod LoneForms
 pub mod Nests
 pub mod Quiet
 pub mod Stores

@@ -1,9 +1,12 @@
 -- Statements that read and write no lines.
-use Rattle.std.specs.Prelude.{◌≡◌, ⊤, Option, ℕ}
+use Rattle.std.specs.Prelude.{◌≡◌, ⊤, Option, Some, ℕ, List}
 use Rattle.fv_tree.specs.Plain.{Statement, Assignment, Where, If, Do, Label, GoTo, Stop, Read, Print, Allocate}
 use Rattle.fv_tree.specs.Plain.{Deallocate, Arms, no_arms, arm, Block, no_statements, statement}
 use Rattle.fv_meaning.specs.Dialect.{Dialect}
 use Rattle.fv_meaning.specs.Run.{State, does_all}
+use Rattle.nest_order.specs.Shapes.{Shape, Shapes}
+use Rattle.nest_runs.specs.Blocks.{Layout, written_in}
+use Rattle.nest_runs.specs.Nests.{Nest}
 
 -- no READ and no PRINT stands in them
 abbrev mutual
@@ -31,3 +34,9 @@ pub record SameLines (s t : State) : Type 0 where
 abbrev pub QuietStatementsKeepLines : Type 0
 QuietStatementsKeepLines = (lang : Dialect) (limit : Option ℕ) (cs : Block) (s : State)
     → AreQuiet cs → SameLines s (does_all lang limit cs s)
+
+-- of such are nests, and what is emitted for them where the forms in it are
+abbrev pub NestsAreQuiet : Type 0
+NestsAreQuiet = (n : Nest) (y : Layout) (form : List ℕ → Shape → Option Statement) (round : List ℕ) (ts : Shapes)
+    → ((outer : List ℕ) (t : Shape) (c : Statement) → form outer t ≡ Some c → IsQuiet c)
+    → AreQuiet (written_in n y form round ts)

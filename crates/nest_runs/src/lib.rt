@@ -4,6 +4,6 @@
 mod laws;
 
 pub use laws::{
-    any_order, emission, exchanged_instances, instances_one_by_one, quiet_statements, run_of_nest,
-    statement_alone,
+    any_order, emission, exchanged_instances, inner_iterations, instances_one_by_one, lone_forms,
+    near_stores, quiet_statements, run_of_nest, statement_alone, with_arrays,
 };

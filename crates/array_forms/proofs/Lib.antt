@@ -1,0 +1,15 @@
+mod Rows
+mod Names
+mod Iterations
+mod Coefficients
+mod Bounds
+mod Singles
+mod Axes
+mod Forming
+mod Positions
+mod Values
+mod Orders
+mod Whole
+mod Constructing
+mod Placing
+mod Taking

@@ -1,0 +1,6 @@
+pub mod Loops
+pub mod Forms
+pub mod Statements
+pub mod Instances
+pub mod Following
+pub mod Laws

@@ -1,0 +1,6 @@
+//! What is seen of a nest without running it suffices for the laws of its runs and orders.
+#![tactic(auto)]
+
+mod laws;
+
+pub use laws::facts_of_nest;
