@@ -43,6 +43,7 @@ use Rattle.array_forms.proofs.Axes.{Fit, Within, NoFault, Takes, places}
 use Rattle.array_forms.proofs.Bounds.{trip_known}
 use Rattle.array_forms.proofs.Forming.{conforming}
 use Rattle.array_forms.proofs.Iterations.{is_variable, variable_cell, iterations, at_those, bounds_at, any_order}
+use Rattle.array_forms.proofs.NoTurns.{all_or_one, nothing_done, no_sequence}
 use Rattle.array_forms.proofs.Orders.{Ordered, ordered_loops, no_triangle, of_drop, distinct_front, distinct_drop}
 use Rattle.array_forms.proofs.Positions.{AreFrom, from_sequence, sequence_from, iteration_of, iterations_are}
 use Rattle.array_forms.proofs.Taking.{takes}
@@ -438,6 +439,20 @@ module _ (a : Surroundings) (k line : ℕ) (mark : Option Mark) (s : State) (t :
           (subst (λ (r : Reference). in_turn (instances_of fortran90 (loops_from a k) (counts_of xs (loops_from a k)) r right) s.store ≡ Ok t) same run))
 
 pub array_form_stores_instances : ArrayFormStoresInstances
-array_form_stores_instances a k line mark left right s t xs going known turns some no_hold moved straight none run =
-    let r = stores_instances a k line mark s t xs known turns some left right no_hold moved straight none run in
-    (r.0, subst (λ (u : State). does_all fortran90 None (array_form_of a k line mark left right) u ≡ record u { store = t; steps = r.0 }) (λ i. let u : State = record s { way = sym going i } in u) r.1)
+array_form_stores_instances a k line mark left right s t xs going known trips some no_hold moved regular none run = by (all_or_one xs (loops_from a k))
+  where
+    Outcome : Type 0
+    Outcome = (n : ℕ) × (does_all fortran90 None (array_form_of a k line mark left right) s ≡ record s { store = t; steps = n })
+
+    at_going : (u : Store) → u ≡ t → (n : ℕ) → does_all fortran90 None (array_form_of a k line mark left right) (ready s) ≡ record s { store = u; steps = n; way = Going } → Outcome
+    at_going u e n h = (n, subst (λ (v : State). does_all fortran90 None (array_form_of a k line mark left right) v ≡ record v { store = t; steps = n }) (λ i. let v : State = record s { way = sym going i } in v)
+      (h ∙ ap (λ (v : Store). let r : State = record s { store = v; steps = n; way = Going } in r) e))
+
+    by : ((l : Loop) → Contains (loops_from a k) l → 1 ≤ count_of xs l) ⊎ ((l : Loop) × Contains (loops_from a k) l × (count_of xs l ≡ 0)) → Outcome
+    by (inl turn) =
+        let r = stores_instances a k line mark s t xs known (λ l c. record { trip = trips l c; least = turn l c }) some left right no_hold moved regular none run in
+        at_going t refl r.0 r.1
+    by (inr one) =
+        let r = nothing_done fortran90 a line (statement (Assignment line mark (left_form a k left) (right_form a k left right)) no_statements) s xs known (loops_from a k) trips one.0 one.1 one.2 in
+        let stays = ap (λ iss. in_turn (map (instance_at fortran90 (loops_from a k) left right) iss) s.store) (sym (no_sequence xs (loops_from a k) one.0 one.1 one.2)) ∙ run in
+        at_going s.store (same_answer s.store t stays) r.0 r.1

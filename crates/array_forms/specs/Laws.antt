@@ -1,6 +1,6 @@
 -- Laws of array forms.
-use Rattle.std.specs.Prelude.{◌≡◌, ◌≢◌, Ok, Option, Some, None, ℕ, suc, ◌≤◌, ℤ, pos, Bool, true, false, if◌then◌else◌, List, []}
-use Rattle.std.specs.Prelude.{map, length, Contains}
+use Rattle.std.specs.Prelude.{◌≡◌, ◌≢◌, Ok, Option, None, ℕ, suc, ◌≤◌, ℤ, pos, true, false, if◌then◌else◌, List}
+use Rattle.std.specs.Prelude.{[], map, length, Contains}
 use Rattle.fv_tree.specs.Plain.{Expression, Reference}
 use Rattle.fv_tree.specs.declared.ops.Value.{Value}
 use Rattle.fv_tree.specs.declared.stmts.Mark.{Mark}
@@ -19,14 +19,18 @@ use Rattle.array_forms.specs.Loops.{Loop, Surroundings, variables_of, names_of, 
 use Rattle.array_forms.specs.Statements.{loops_from, hold_at, loops_assigned, array_form_of}
 use Rattle.array_laws.specs.Instances.{Instance, in_turn, NoneReadsWritten}
 
--- The trip of a loop is a linear form over the names, maybe divided, and the loop turns: at least once, and as often as
--- a loop can
-pub record Turns (a : Surroundings) (xs : List ℤ) (l : Loop) : Type 0 where
+-- The trip of a loop is a linear form over the names, maybe divided, and is at most what a loop can count
+pub record HasTrip (a : Surroundings) (xs : List ℤ) (l : Loop) : Type 0 where
   pub limits : is_limited (length a.loops) l.trip.form ≡ true
   pub short : length l.trip.form.coefficients ≤ length (names_of a)
   pub divisor : 1 ≤ l.trip.divisor
-  pub least : 1 ≤ count_of xs l
   pub most : count_of xs l ≤ 2147483646
+
+-- and the loop turns at least once
+pub record Turns (a : Surroundings) (xs : List ℤ) (l : Loop) : Type 0 where
+  pub trip : HasTrip a xs l
+  pub open trip use *
+  pub least : 1 ≤ count_of xs l
 
 -- In the store s the loop variables and symbols, no two of one name, are INTEGER scalars that hold the numbers xs
 pub record AreKnown (a : Surroundings) (s : Store) (xs : List ℤ) : Type 0 where
@@ -54,7 +58,8 @@ HasValues lang xs D e s = (is : List ℕ) → Contains (positions (counts_of xs 
 
 -- F is a scalar, or an array with an element for each instance, and has at each position the value that e has in the
 -- instance of the position
-pub record HasInstanceValues (lang : Dialect) (xs : List ℤ) (D : List Loop) (e F : Expression) (s : Store) : Type 0 where
+pub record HasInstanceValues (lang : Dialect) (xs : List ℤ) (D : List Loop) (e F : Expression)
+    (s : Store) : Type 0 where
   pub array : Elements Value
   pub known : array_of lang F s ≡ Ok array
   pub extents : array.extents ≡ (if has_none (loops_among D (names_in e)) then [] else counts_of xs D)
@@ -72,14 +77,14 @@ FormHasInstanceValues = (lang : Dialect) (a : Surroundings) (D : List Loop) (e :
 abbrev pub instances_from : Dialect → Surroundings → ℕ → List ℤ → Reference → Expression → List Instance
 instances_from d a k xs left right = instances_of d (loops_from a k) (counts_of xs (loops_from a k)) left right
 
--- Let no loop from the level k on forbid the array form of an assignment with a regular right side, and let each of
--- these loops turn. Where its instances, one after another in the order of a sequential run, take the store of a run
--- that goes on to the store t without fault, none of them reading a cell that an earlier one has written, the array
--- form ends without fault in t, and the run goes on
+-- Let no loop from the level k on forbid the array form of an assignment with a regular right side. Where its
+-- instances, one after another in the order of a sequential run, take the store of a run that goes on to the store t
+-- without fault, none of them reading a cell that an earlier one has written, the array form ends without fault in t,
+-- and the run goes on
 abbrev pub ArrayFormStoresInstances : Type 0
 ArrayFormStoresInstances = (a : Surroundings) (k line : ℕ) (mark : Option Mark) (left : Reference) (right : Expression)
     (s : State) (t : Store) (xs : List ℤ)
-    → s.way ≡ Going → AreKnown a s.store xs → ((l : Loop) → Contains (loops_from a k) l → Turns a xs l)
+    → s.way ≡ Going → AreKnown a s.store xs → ((l : Loop) → Contains (loops_from a k) l → HasTrip a xs l)
     → has_none (loops_from a k) ≡ false → hold_at a k left ≡ None
     → are_moved a (loops_assigned a k left) left.subscripts ≡ true
     → is_regular a (loops_assigned a k left) right ≡ true
