@@ -307,13 +307,13 @@ module _ (r : RefPair) (d : Dirs) (k : ℕ) (before same after answers : List An
       let ec = last_of d (get_or after i q).0 k Gt h.prefix.vector.places inside uc.prefix in
       let j : IsJoined r (get_or before i q).0 (get_or same i q).0 (get_or after i q).0 (with_dir (get_or before i q).0 k Any) =
       record {
-          apart = λ v n. covered_apart r (get_or before i q).0 (get_or same i q).0 (get_or after i q).0 v k ua.vector ub.vector uc.vector h.common ea eb ec hb hc n;
-          first = λ v n. covered_up r (get_or before i q).0 (get_or before i q).0 v k ua.vector h.common inside (λ m o. refl) n;
-          second = λ v n. covered_up r (get_or before i q).0 (get_or same i q).0 v k ua.vector h.common inside hb n;
-          third = λ v n. covered_up r (get_or before i q).0 (get_or after i q).0 v k ua.vector h.common inside hc n;
+        apart = λ v n. covered_apart r (get_or before i q).0 (get_or same i q).0 (get_or after i q).0 v k ua.vector ub.vector uc.vector h.common ea eb ec hb hc n;
+        first = λ v n. covered_up r (get_or before i q).0 (get_or before i q).0 v k ua.vector h.common inside (λ m o. refl) n;
+        second = λ v n. covered_up r (get_or before i q).0 (get_or same i q).0 v k ua.vector h.common inside hb n;
+        third = λ v n. covered_up r (get_or before i q).0 (get_or after i q).0 v k ua.vector h.common inside hc n;
       } in
       let right = united_right r (get_or before i q).0 (get_or same i q).0 (get_or after i q).0 (with_dir (get_or before i q).0 k Any) j (get_or before i q).1 (get_or same i q).1 (get_or after i q).1 (get_or answers i q).1
-          sb.kind sc.kind t.verdict ua.right ub.right uc.right in
+      sb.kind sc.kind t.verdict ua.right ub.right uc.right in
       record {
         vector = subst (λ (z : Dirs). IsVectorOf r z) (sym t.dirs) (put_vector r (get_or before i q).0 k Any ua.vector h.common);
         prefix = λ m l. ap (λ (z : Dirs). dir_at z m) t.dirs ∙ other_dir (get_or before i q).0 k m Any (λ s. omega arith) ∙ pa m l;
@@ -384,13 +384,16 @@ module _ (r : RefPair) (d : Dirs) (k : ℕ) (led rest : List Answer) (h : AreLed
       record {
         under = record { vector = n.vector; prefix = pre; right = n.right };
         candidates = λ v p c. record {
-            vector = p.vector;
-            plain = p.plain;
-            led = inl (k, record {
+          vector = p.vector;
+          plain = p.plain;
+          led = inl (
+            k,
+            record {
               common = h.common;
               before = λ m l. plain_same r (get_or led i q).0 v m Eq (let w = h.common in omega arith) (pre m l ∙ h.prefix.equal m l) equal_plain c;
               less = plain_same r (get_or led i q).0 v k Lt h.common (last_of d (get_or led i q).0 k Lt h.prefix.vector.places here n.prefix) less_plain c;
-            });
+            },
+          );
         };
       }
 

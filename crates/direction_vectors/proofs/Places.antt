@@ -37,7 +37,7 @@ same_vector r d v a b h =
     let e : d.len ≡ v.len = a.len ∙ sym b.len in
     let f : d.at ≡ v.at =
     ext_get_or Any d.at v.at (a.places ∙ sym b.places)
-        (λ m l. elim (cases_lt m r.common) [ inl x ↦ h m x | inr x ↦ a.past_len m x ∙ sym (b.past_len m x) ]) in
+    (λ m l. elim (cases_lt m r.common) [ inl x ↦ h m x | inr x ↦ a.past_len m x ∙ sym (b.past_len m x) ]) in
     ap (λ (n : ℕ). record { len = n; at = d.at }) e ∙ ap (λ (ds : List Dir). record { len = v.len; at = ds }) f
 
 -- a plain vector covers itself alone

@@ -20,7 +20,11 @@ fn listed(alloc: Global, refs: &RefPair, d: &Dirs, place: usize) -> Result<Vec<A
     ensures { IfOk result (λ answers. AreListedUnder refs.now d.now place answers.items) }
 {
     if place == usize::from(refs.common) {
-        return if refs.same_turn { one_answer(alloc, refs, d) } else { Ok(Vec::new(alloc)) };
+        return if refs.same_turn {
+            one_answer(alloc, refs, d)
+        } else {
+            Ok(Vec::new(alloc))
+        };
     }
     let mut answers = merged(alloc, refs, &with_dir(d, place, Dir::Lt), place + 1)?;
     let rest = listed(alloc, refs, &with_dir(d, place, Dir::Eq), place + 1)?;

@@ -63,7 +63,11 @@ fn lesser_of(x: &Point, y: &Point, i: &Point, j: &Point) -> (Point, Point)
     ensures first { IsPointPair (x.now, y.now) }
     ensures second { IsPointPair (i.now, j.now) }
 {
-    if is_no_later(x, y, i, j) { (*x, *y) } else { (*i, *j) }
+    if is_no_later(x, y, i, j) {
+        (*x, *y)
+    } else {
+        (*i, *j)
+    }
 }
 
 // The verdict on all that three alike ones are about.

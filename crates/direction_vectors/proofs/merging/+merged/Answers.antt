@@ -25,15 +25,15 @@ returns t c =
     let common = c.requires.refs.from_common in
     let parts : AreParts r d k c.in_ok-before.before.items c.in_ok-same.same.items c.in_ok-after.after.items =
     record {
-        prefix = c.requires.prefix;
-        common = omega arith;
-        seven = omega arith;
-        before_under = subst (λ (z : Dirs). AreUnder r z (k + 1) c.in_ok-before.before.items) c.with_dir.ensures c.in_ok-before.ensures;
-        same_under = subst (λ (z : Dirs). AreUnder r z (k + 1) c.in_ok-same.same.items) c.with_dir-2.ensures c.in_ok-same.ensures;
-        after_under = subst (λ (z : Dirs). AreUnder r z (k + 1) c.in_ok-after.after.items) c.with_dir-3.ensures c.in_ok-after.ensures;
+      prefix = c.requires.prefix;
+      common = omega arith;
+      seven = omega arith;
+      before_under = subst (λ (z : Dirs). AreUnder r z (k + 1) c.in_ok-before.before.items) c.with_dir.ensures c.in_ok-before.ensures;
+      same_under = subst (λ (z : Dirs). AreUnder r z (k + 1) c.in_ok-same.same.items) c.with_dir-2.ensures c.in_ok-same.ensures;
+      after_under = subst (λ (z : Dirs). AreUnder r z (k + 1) c.in_ok-after.after.items) c.with_dir-3.ensures c.in_ok-after.ensures;
     } in
     if_ok c.merged_of.result (λ answers. IsMergedOf c.in_ok-before.before.items c.as_slice.result.now c.as_slice-2.result.now k answers.items) (λ answers. AreUnder r d k answers.items)
     (λ answers m. merged_under r d k c.in_ok-before.before.items c.in_ok-same.same.items c.in_ok-after.after.items answers.items parts
-        (subst (λ (xs : List Answer). IsMergedOf c.in_ok-before.before.items xs c.in_ok-after.after.items k answers.items) c.as_slice.ensures.value
-        (subst (λ (ys : List Answer). IsMergedOf c.in_ok-before.before.items c.as_slice.result.now ys k answers.items) c.as_slice-2.ensures.value m)))
+    (subst (λ (xs : List Answer). IsMergedOf c.in_ok-before.before.items xs c.in_ok-after.after.items k answers.items) c.as_slice.ensures.value
+    (subst (λ (ys : List Answer). IsMergedOf c.in_ok-before.before.items c.as_slice.result.now ys k answers.items) c.as_slice-2.ensures.value m)))
     c.merged_of.ensures
