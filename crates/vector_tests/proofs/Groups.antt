@@ -242,14 +242,14 @@ module _ (ps : List Pairing) (of' : List ℕ) (d : Dirs) (at : ℕ) (n : IsNumbe
       let t = known_trip (get_or ps at q) l (a.pairings at q n.within) (lists_of (get_or ps at q) d (a.places at q n.within)) mine.0 mine.1 in
       let trips : EachGrouped ps at (λ p. (span_of p l).last ≡ Some t.0) =
       λ j p g e. subst (λ (z : Pairing). (span_of z l).last ≡ Some t.0) (get_or_from_slice_get ps j p p e)
-          (ap (λ (s : Span). s.last) (same_span (get_or ps at q) (get_or ps j p) l (a.beside at q n.within j p (slice_get_within ps j p e))) ∙ t.1) in
+      (ap (λ (s : Span). s.last) (same_span (get_or ps at q) (get_or ps j p) l (a.beside at q n.within j p (slice_get_within ps j p e))) ∙ t.1) in
       let on : EachGrouped ps at (IsMemberOn d l t.0) =
       λ j p g e. record {
-          pairing = each_of_all IsPairing ps at a.pairings j p g e;
-          dirs = each_of_all (λ z. AreDirsOf z d) ps at a.dirs j p g e;
-          places = each_of_all (λ z. HasSevenPlaces z d) ps at a.places j p g e;
-          one = (each j p g e).0;
-          ends = trips j p g e;
+        pairing = each_of_all IsPairing ps at a.pairings j p g e;
+        dirs = each_of_all (λ z. AreDirsOf z d) ps at a.dirs j p g e;
+        places = each_of_all (λ z. HasSevenPlaces z d) ps at a.places j p g e;
+        one = (each j p g e).0;
+        ends = trips j p g e;
       } in
       let long = n.long in
       let few = n.count in
@@ -270,7 +270,7 @@ module _ (ps : List Pairing) (of' : List ℕ) (d : Dirs) (at : ℕ) (n : IsNumbe
       let linear' = all_from (λ p. IsTrue p.known) ps of' at n (λ j p h f. coupled_linear ps j p (not_alone ps at j s h) f) in
       let loops = all_from (λ p. IsZiv p → ⊥) ps of' at n (λ j p h f. coupled_not_ziv ps j p (not_alone ps at j s h) f) in
       let beside = all_from (λ p. All (IsBeside p) (picked (slice_index of' at) of' ps)) ps of' at n
-          (λ j p h f. all_from (IsBeside p) ps of' at n (each_of_all (IsBeside p) ps at (each_of_all (λ z. All (IsBeside z) ps) ps at a.beside j p h f))) in
+      (λ j p h f. all_from (IsBeside p) ps of' at n (each_of_all (IsBeside p) ps at (each_of_all (λ z. All (IsBeside z) ps) ps at a.beside j p h f))) in
       record {
         some = counted g some;
         count = c;
@@ -279,4 +279,3 @@ module _ (ps : List Pairing) (of' : List ℕ) (d : Dirs) (at : ℕ) (n : IsNumbe
         not_ziv = subst (λ (ms : List Pairing). All (λ p. IsZiv p → ⊥) ms) (sym e) loops;
         beside = subst (λ (ms : List Pairing). All (λ p. All (IsBeside p) ms) ms) (sym e) beside;
       }
-

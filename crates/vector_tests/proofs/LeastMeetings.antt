@@ -136,13 +136,18 @@ turns_of r d (Shared k) c v b n a =
     let t = turns_in_places r d c v (λ h. n (inl h)) in
     let u = c.from_common in
     let w = c.from_depth in
-    let s : k < 7 = omega arith in
-    (first_turn (get_or d.at k Any), (second_turn (get_or d.at k Any), record {
-      first = t.first k s;
-      second = subst (λ (z : Span). WithinSpan z (second_turn (get_or d.at k Any))) (sym (c.common_spans k b)) (t.second k s);
-      related = t.related k s;
-      solves = λ m q h o. absurd (a m q h o);
-    }))
+    let s : k < 7 = omega arith in (
+      first_turn (get_or d.at k Any),
+      (
+        second_turn (get_or d.at k Any),
+        record {
+          first = t.first k s;
+          second = subst (λ (z : Span). WithinSpan z (second_turn (get_or d.at k Any))) (sym (c.common_spans k b)) (t.second k s);
+          related = t.related k s;
+          solves = λ m q h o. absurd (a m q h o);
+        },
+      ),
+    )
 turns_of r d (First k) c v b n a =
     let w : WithinSpan (get_or r.from_spans k once) (pos 1) = one_within (get_or r.from_spans k once) (λ e. n (inl (k, (b, inl e)))) in
     (pos 1, (pos 1, record { first = w; second = w; related = tt; solves = λ m q h o. absurd (a m q h o) }))
@@ -154,23 +159,23 @@ pub some_solution : (r : RefPair) (d : Dirs) (l : Loop) → IsRefPair r → IsVe
 some_solution r d l c v x b n none =
     elim (find_loop r.subs l x.subscripts) [
       | inl f ↦ n (inr (inr (record {
-            at = f.at;
-            some = (f.pairing, f.is_at);
-            loop = l;
-            each = λ j q g e.
-                let h = along_chain r.subs f.at g.0 j l f.pairing q x.subscripts f.is_at f.one g.1 e in
-                (h, subst (λ (z : Span). IsTrue z.fixed) (sym (span_is r q l (subscript_at r j q c e))) (loop_fixed r l x));
-            none = λ i j each.
-                let mine = each f.at f.pairing (alone r.subs f.at) f.is_at in
-                let same = span_is r f.pairing l (subscript_at r f.at f.pairing c f.is_at) in
-                none i j (record {
-                  first = subst (λ (z : Span). WithinSpan z i) same mine.first;
-                  second = subst (λ (z : Span). WithinSpan z j) same mine.second;
-                  related = mine.related;
-                  solves = λ k q h o.
-                      (each k (get_or r.subs k q) (with_loop r.subs f.at k l f.pairing (get_or r.subs k q) f.is_at (slice_get-get_or r.subs k q h) f.one o) (slice_get-get_or r.subs k q h)).equal;
-                });
-          })))
+        at = f.at;
+        some = (f.pairing, f.is_at);
+        loop = l;
+        each = λ j q g e.
+            let h = along_chain r.subs f.at g.0 j l f.pairing q x.subscripts f.is_at f.one g.1 e in
+            (h, subst (λ (z : Span). IsTrue z.fixed) (sym (span_is r q l (subscript_at r j q c e))) (loop_fixed r l x));
+        none = λ i j each.
+            let mine = each f.at f.pairing (alone r.subs f.at) f.is_at in
+            let same = span_is r f.pairing l (subscript_at r f.at f.pairing c f.is_at) in
+            none i j (record {
+              first = subst (λ (z : Span). WithinSpan z i) same mine.first;
+              second = subst (λ (z : Span). WithinSpan z j) same mine.second;
+              related = mine.related;
+              solves = λ k q h o.
+                  (each k (get_or r.subs k q) (with_loop r.subs f.at k l f.pairing (get_or r.subs k q) f.is_at (slice_get-get_or r.subs k q h) f.one o) (slice_get-get_or r.subs k q h)).equal;
+            });
+      })))
       | inr a ↦ let t = turns_of r d l c v b n a in none t.0 t.1.0 t.1.1
     ]
 
@@ -225,10 +230,10 @@ shared_allowed r d k i j c b s = record {
     solves = λ l e. shared_solves r k i j l c b s.solution.solves e;
   };
   least = λ i' j' a. s.least i' j' (record {
-      first = a.first;
-      second = subst (λ (z : Span). WithinSpan z j') (sym (c.common_spans k b)) a.second;
-      related = a.related;
-      solves = a.solves (Shared k) refl;
+    first = a.first;
+    second = subst (λ (z : Span). WithinSpan z j') (sym (c.common_spans k b)) a.second;
+    related = a.related;
+    solves = a.solves (Shared k) refl;
   });
 }
 
@@ -372,8 +377,8 @@ same_constants r d i p s e z n =
     by_lt_z p.from.constant p.to.constant
     (λ b. refuted (inr (λ v x y h. below_none p.from.constant p.to.constant (difference p v x y) (ziv_difference p v x y z s.places) b)))
     (λ k. by_lt_z p.to.constant p.from.constant
-        (λ b. refuted (inl (λ v x y h. above_none p.from.constant p.to.constant (difference p v x y) (ziv_difference p v x y z s.places) b)))
-        (λ l. omega (arith, ints)))
+    (λ b. refuted (inl (λ v x y h. above_none p.from.constant p.to.constant (difference p v x y) (ziv_difference p v x y z s.places) b)))
+    (λ l. omega (arith, ints)))
 
 pub allowed_meets : (r : RefPair) (d : Dirs) (x y : List ℤ) → IsRefPair r → IsVectorOf r d → IsExactClass r → (IsRefutedVector r d → ⊥) → length x ≡ 7 → length y ≡ 7
     → ((k : ℕ) → k < 7 → IsAllowedAt r d k (at_place x k) (at_place y k)) → IsMeeting r d x y

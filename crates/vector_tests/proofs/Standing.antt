@@ -331,19 +331,19 @@ module _ (r : RefPair) (d : Dirs) (c : IsRefPair r) (v : IsVectorOf r d) (u : Is
       let b = slice_get_within r.subs h.at h.pairing h.is_at in
       let several : IsSeparable r.subs h.at → ⊥ =
       λ s. refuted_not h.pairing d
-          (u.miv h.at b h.pairing h.is_at s
-          (record {
-            known = h.linear;
-            not_ziv = λ z. ziv_stands h.at h.pairing h.is_at z h.refuted;
-            not_siv = λ l o. one_stands h.at h.pairing l h.is_at s o h.refuted;
-          })) h.refuted in
+      (u.miv h.at b h.pairing h.is_at s
+      (record {
+        known = h.linear;
+        not_ziv = λ z. ziv_stands h.at h.pairing h.is_at z h.refuted;
+        not_siv = λ l o. one_stands h.at h.pairing l h.is_at s o h.refuted;
+      })) h.refuted in
       let left = u.groups h.at b several in
       refuted_not h.pairing d
       (left.ways
       (λ l x. let n = left.loop l x in
       refuted_not h.pairing d
-          (left_by_solution r d c v u.trips h.pairing l n.0 n.1.0 (subscript_at r h.at h.pairing c h.is_at) (x h.at h.pairing (alone r.subs h.at) h.is_at).0
-          (n.1.1 h.at h.pairing (alone r.subs h.at) h.is_at)) h.refuted)
+      (left_by_solution r d c v u.trips h.pairing l n.0 n.1.0 (subscript_at r h.at h.pairing c h.is_at) (x h.at h.pairing (alone r.subs h.at) h.is_at).0
+      (n.1.1 h.at h.pairing (alone r.subs h.at) h.is_at)) h.refuted)
       h.at h.pairing (alone r.subs h.at) h.is_at) h.refuted
 
   loop_stands : IsRefutedByOneLoop r d → ⊥
@@ -354,8 +354,8 @@ module _ (r : RefPair) (d : Dirs) (c : IsRefPair r) (v : IsVectorOf r d) (u : Is
       let mine = h.each h.at p (alone r.subs h.at) e in
       let several : IsSeparable r.subs h.at → ⊥ =
       λ s.
-          let n = (u.siv h.at b p h.loop e s mine.0).loop h.loop mine.0 mine.1 in
-          h.none n.0 n.1.0 (λ j q g f. only_one r.subs h.at j p q d h.loop n.0 n.1.0 s g e f n.1.1) in
+      let n = (u.siv h.at b p h.loop e s mine.0).loop h.loop mine.0 mine.1 in
+      h.none n.0 n.1.0 (λ j q g f. only_one r.subs h.at j p q d h.loop n.0 n.1.0 s g e f n.1.1) in
       let n = (u.groups h.at b several).loop h.loop h.each in
       h.none n.0 n.1.0 n.1.1
 

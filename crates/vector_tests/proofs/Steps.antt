@@ -63,7 +63,7 @@ member_more n ns ps k c at p q a b r e f h =
     ∙ ap (λ (xs : List Pairing). xs ++ (p ∷ [])) h
     ∙ ap (λ (z : Pairing). picked n ns (take k ps) ++ (z ∷ [])) f
     ∙ sym (ap (λ (m : ℕ). picked n ns (take m ps)) (add-one k) ∙ picked_more n ns ps k q a b
-        ∙ ap (λ (t : Bool). picked n ns (take k ps) ++ cond t (get_or ps k q ∷ []) []) (eq-eqb (get_or ns k 0) n e))
+    ∙ ap (λ (t : Bool). picked n ns (take k ps) ++ cond t (get_or ps k q ∷ []) []) (eq-eqb (get_or ns k 0) n e))
 
 pub member_still : (n : ℕ) (ns : List ℕ) (ps : List Pairing) (k c : ℕ) (at : List Pairing) → k < length ps → k < length ns → (get_or ns k 0 ≡ n → ⊥) → take c at ≡ picked n ns (take k ps)
     → take c at ≡ picked n ns (take (k + 1) ps)
@@ -71,8 +71,8 @@ member_still n ns ps k c at a b u h =
     let q = some_pairing ps (omega arith) in
     h
     ∙ sym (ap (λ (m : ℕ). picked n ns (take m ps)) (add-one k) ∙ picked_more n ns ps k q a b
-        ∙ ap (λ (t : Bool). picked n ns (take k ps) ++ cond t (get_or ps k q ∷ []) []) (ne_eqb (get_or ns k 0) n u)
-        ∙ append-nil (picked n ns (take k ps)))
+    ∙ ap (λ (t : Bool). picked n ns (take k ps) ++ cond t (get_or ps k q ∷ []) []) (ne_eqb (get_or ns k 0) n u)
+    ∙ append-nil (picked n ns (take k ps)))
 
 -- ---- what the test of a pair of one loop leaves
 

@@ -39,7 +39,7 @@ abbrev pub LacksTripAt : RefPair → Dirs → ℕ → Type 0
 LacksTripAt r d k =
     EndsBefore (pos 1) (slice_index_or r.from_spans k once)
     ⊎ (EndsBefore (pos 1) (slice_index_or r.to_spans k once)
-       ⊎ (IsCarrying (slice_index_or d.at k Any) × EndsBefore (pos 2) (slice_index_or r.from_spans k once)))
+    ⊎ (IsCarrying (slice_index_or d.at k Any) × EndsBefore (pos 2) (slice_index_or r.from_spans k once)))
 
 -- a loop round a reference has no iteration, or one where two are asked for; places past the loops have one
 abbrev pub HasNoTrip : RefPair → Dirs → Type 0

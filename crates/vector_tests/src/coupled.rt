@@ -40,10 +40,8 @@ fn group_refutes(ps: &[Pairing], d: &Dirs, groups: &Groups, place: usize) -> boo
     requires places { All (λ p. HasSevenPlaces p d.now) ps.now }
     requires place { place < length ps.now }
     ensures sound { IsTrue result → HasRefutedGroup ps.now d.now }
-    ensures complete {
-        result ≡ false → slice_index groups.now.of place ≡ place → (IsSeparable ps.now place → ⊥)
-        → IsGroupLeft ps.now d.now place
-    }
+    ensures complete { result ≡ false → slice_index groups.now.of place ≡ place → (IsSeparable ps.now place → ⊥)
+        → IsGroupLeft ps.now d.now place }
 {
     let number = groups.of[place];
     if usize::from(number) != place || is_separable(ps, place) {
@@ -63,9 +61,7 @@ pub fn a_group_refutes(ps: &[Pairing], d: &Dirs) -> bool
     requires dirs { All (λ p. AreDirsOf p d.now) ps.now }
     requires places { All (λ p. HasSevenPlaces p d.now) ps.now }
     ensures sound { IsTrue result → HasRefutedGroup ps.now d.now }
-    ensures complete {
-        result ≡ false → (k : ℕ) → k < length ps.now → (IsSeparable ps.now k → ⊥) → IsGroupLeft ps.now d.now k
-    }
+    ensures complete { result ≡ false → (k : ℕ) → k < length ps.now → (IsSeparable ps.now k → ⊥) → IsGroupLeft ps.now d.now k }
 {
     let groups = partition(ps);
     for place in 0..ps.len() {

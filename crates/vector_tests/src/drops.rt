@@ -16,10 +16,8 @@ impl RefPair {
     pub fn drop_word(&self, d: &Dirs) -> Option<Test>
         requires refs { IsRefPair self.now }
         requires vector { IsVectorOf self.now d.now }
-        ensures {
-            MatchOption result (IsRefutedVector self.now d.now → ⊥)
-            (λ w. NeverMeet self.now d.now × IsDropWord self.now d.now w)
-        }
+        ensures { MatchOption result (IsRefutedVector self.now d.now → ⊥)
+            (λ w. NeverMeet self.now d.now × IsDropWord self.now d.now w) }
     {
         let subs = self.subs.as_slice();
         if self.has_no_trip(d) {

@@ -56,8 +56,12 @@ impl RefPair {
         ensures { IsLeastSolution self.now d.now (loop_at at) result.0 result.1 }
     {
         let left = left_at(self.subs.as_slice(), at);
-        let Some(trip) = span.last else { unreachable!() };
-        let Some(both) = least_left(left, i128::from(trip), dir) else { unreachable!() };
+        let Some(trip) = span.last else {
+            unreachable!()
+        };
+        let Some(both) = least_left(left, i128::from(trip), dir) else {
+            unreachable!()
+        };
         (both.i as i64, both.j as i64)
     }
 

@@ -7,6 +7,7 @@ mod coupled;
 mod drops;
 mod least;
 mod refs;
+mod shapes;
 mod siv;
 mod trips;
 mod vector;

@@ -105,14 +105,16 @@ fn miv_word_at(ps: &[Pairing], d: &Dirs, place: usize) -> Option<Test>
     requires dirs { All (λ p. AreDirsOf p d.now) ps.now }
     requires places { All (λ p. HasSevenPlaces p d.now) ps.now }
     requires place { place < length ps.now }
-    ensures {
-        MatchOption result (IsMivLeft ps.now d.now place) (λ w. IsRefutedIn ps.now (λ p. IsSeveralRefuted p d.now w))
-    }
+    ensures { MatchOption result (IsMivLeft ps.now d.now place) (λ w. IsRefutedIn ps.now (λ p. IsSeveralRefuted p d.now w)) }
 {
     if !is_separable(ps, place) {
         return None;
     }
-    if is_miv(&ps[place]) { refuted_miv(&ps[place], d) } else { None }
+    if is_miv(&ps[place]) {
+        refuted_miv(&ps[place], d)
+    } else {
+        None
+    }
 }
 
 /// The word of the first separable pair of one loop that is refuted.
@@ -120,10 +122,8 @@ pub fn siv_word(ps: &[Pairing], d: &Dirs) -> Option<Test>
     requires pairings { All IsPairing ps.now }
     requires dirs { All (λ p. AreDirsOf p d.now) ps.now }
     requires places { All (λ p. HasSevenPlaces p d.now) ps.now }
-    ensures {
-        MatchOption result ((k : ℕ) → k < length ps.now → IsSivLeft ps.now d.now k)
-        (λ w. IsRefutedIn ps.now (λ p. IsOneRefuted p d.now w))
-    }
+    ensures { MatchOption result ((k : ℕ) → k < length ps.now → IsSivLeft ps.now d.now k)
+        (λ w. IsRefutedIn ps.now (λ p. IsOneRefuted p d.now w)) }
 {
     for place in 0..ps.len() {
         if let Some(word) = siv_word_at(ps, d, place) {
@@ -138,10 +138,8 @@ pub fn miv_word(ps: &[Pairing], d: &Dirs) -> Option<Test>
     requires pairings { All IsPairing ps.now }
     requires dirs { All (λ p. AreDirsOf p d.now) ps.now }
     requires places { All (λ p. HasSevenPlaces p d.now) ps.now }
-    ensures {
-        MatchOption result ((k : ℕ) → k < length ps.now → IsMivLeft ps.now d.now k)
-        (λ w. IsRefutedIn ps.now (λ p. IsSeveralRefuted p d.now w))
-    }
+    ensures { MatchOption result ((k : ℕ) → k < length ps.now → IsMivLeft ps.now d.now k)
+        (λ w. IsRefutedIn ps.now (λ p. IsSeveralRefuted p d.now w)) }
 {
     for place in 0..ps.len() {
         if let Some(word) = miv_word_at(ps, d, place) {

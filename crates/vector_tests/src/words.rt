@@ -43,8 +43,16 @@ pub fn edge_word(ps: &[Pairing]) -> Test
 {
     for place in 0..ps.len() {
         if let Some(word) = class_word(classify(&ps[place])) {
-            return if is_separable(ps, place) { word } else { Test::Delta };
+            return if is_separable(ps, place) {
+                word
+            } else {
+                Test::Delta
+            };
         }
     }
-    if ps.is_empty() { Test::Scalar } else { Test::Ziv }
+    if ps.is_empty() {
+        Test::Scalar
+    } else {
+        Test::Ziv
+    }
 }

@@ -42,9 +42,9 @@ returns-in-Never-clause-sound c =
     let never : HasNoPairOfAll (picked (slice_index c.args.groups.now.of c.args.place) c.args.groups.now.of c.args.ps.now) c.args.d.now =
     subst (λ (ms : List Pairing). HasNoPairOfAll ms c.args.d.now) c.group_of.ensures.members c.in-Never.ensures.never in
     λ t. record {
-        at = c.args.place;
-        several = λ s. both_ways c.is_separable.result c.if-is_separable.false (c.is_separable.ensures.1 s);
-        none = λ x y each. never x y (all_from (λ p. IsPairOf p c.args.d.now x y) c.args.ps.now c.args.groups.now.of c.args.place n each);
+      at = c.args.place;
+      several = λ s. both_ways c.is_separable.result c.if-is_separable.false (c.is_separable.ensures.1 s);
+      none = λ x y each. never x y (all_from (λ p. IsPairOf p c.args.d.now x y) c.args.ps.now c.args.groups.now.of c.args.place n each);
     }
 
 pub returns-in-Pair : goal.returns-in-Pair

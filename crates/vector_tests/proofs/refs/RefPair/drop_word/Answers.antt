@@ -16,8 +16,8 @@ pub returns-in-Some : goal.returns-in-Some
 returns-in-Some c =
     let later : IsLater c.args.self.now c.args.d.now =
     record {
-        trips = c.has_no_trip.ensures.complete c.if-has_no_trip.false;
-        constants = subst (λ (ps : List Pairing). HasUnequalConstants ps → ⊥) c.as_slice-subs.ensures (c.has_unequal_constants.ensures.complete c.if-has_unequal_constants.false);
+      trips = c.has_no_trip.ensures.complete c.if-has_no_trip.false;
+      constants = subst (λ (ps : List Pairing). HasUnequalConstants ps → ⊥) c.as_slice-subs.ensures (c.has_unequal_constants.ensures.complete c.if-has_unequal_constants.false);
     } in
     let h = subst (λ (ps : List Pairing). IsRefutedIn ps (λ p. IsOneRefuted p c.args.d.now c.in-Some.word)) c.as_slice-subs.ensures c.in-Some.ensures in
     (one_never c.args.self.now c.args.d.now c.in-Some.word c.requires.refs c.requires.vector h, one_word c.args.self.now c.args.d.now c.in-Some.word later h)
@@ -26,8 +26,8 @@ pub returns-then-a_group_refutes : goal.returns-then-a_group_refutes
 returns-then-a_group_refutes c =
     let later : IsLater c.args.self.now c.args.d.now =
     record {
-        trips = c.has_no_trip.ensures.complete c.if-has_no_trip.false;
-        constants = subst (λ (ps : List Pairing). HasUnequalConstants ps → ⊥) c.as_slice-subs.ensures (c.has_unequal_constants.ensures.complete c.if-has_unequal_constants.false);
+      trips = c.has_no_trip.ensures.complete c.if-has_no_trip.false;
+      constants = subst (λ (ps : List Pairing). HasUnequalConstants ps → ⊥) c.as_slice-subs.ensures (c.has_unequal_constants.ensures.complete c.if-has_unequal_constants.false);
     } in
     let h = subst (λ (ps : List Pairing). HasRefutedGroup ps c.args.d.now) c.as_slice-subs.ensures (c.a_group_refutes.ensures.sound c.if-a_group_refutes.true) in
     (group_never c.args.self.now c.args.d.now c.requires.refs c.requires.vector h, (later, h))
@@ -38,8 +38,8 @@ returns c =
     let same = c.as_slice-subs.ensures in
     let later : IsLater c.args.self.now c.args.d.now =
     record {
-        trips = c.has_no_trip.ensures.complete c.if-has_no_trip.false;
-        constants = subst (λ (ps : List Pairing). HasUnequalConstants ps → ⊥) same (c.has_unequal_constants.ensures.complete c.if-has_unequal_constants.false);
+      trips = c.has_no_trip.ensures.complete c.if-has_no_trip.false;
+      constants = subst (λ (ps : List Pairing). HasUnequalConstants ps → ⊥) same (c.has_unequal_constants.ensures.complete c.if-has_unequal_constants.false);
     } in
     last_word c.args.self.now c.args.d.now c.miv_word.result c.requires.refs c.requires.vector later
     (subst (λ (ps : List Pairing). (k : ℕ) → k < length ps → IsSivLeft ps d k) same c.in_default.ensures)

@@ -47,6 +47,6 @@ returns c =
     let gj : FitsSigned w64 c.in-Some-least_left.both.j = iteration_fits c.in-Some.trip c.in-Some-least_left.both.j ft (subst (λ (z : ℤ). WithinTrip z c.in-Some-least_left.both.j) et least.within.second) in
     let there : IsLeastSolution r c.args.d.now l c.in-Some-least_left.both.i c.in-Some-least_left.both.j =
     least_solution r c.args.d.now l c.left_at-left.result c.in-Some.trip c.in-Some-least_left.both.i c.in-Some-least_left.both.j same ends
-        (subst (λ (z : ℤ). IsLeastLeft c.left_at-left.result z (dir_of c.args.d.now l) c.in-Some-least_left.both.i c.in-Some-least_left.both.j) et
-        (subst (λ (z : Dir). IsLeastLeft c.left_at-left.result c.from.result z c.in-Some-least_left.both.i c.in-Some-least_left.both.j) c.requires.dir least)) in
+    (subst (λ (z : ℤ). IsLeastLeft c.left_at-left.result z (dir_of c.args.d.now l) c.in-Some-least_left.both.i c.in-Some-least_left.both.j) et
+    (subst (λ (z : Dir). IsLeastLeft c.left_at-left.result c.from.result z c.in-Some-least_left.both.i c.in-Some-least_left.both.j) c.requires.dir least)) in
     simp to_z-of_z there
