@@ -1,0 +1,10 @@
+use Rattle.std.proofs.Common.{◌≡◌, map, take}
+use Rattle.std.specs.List.{filter}
+use Rattle.fv_tree.specs.Plain.{Declaration}
+use Rattle.fv_tree.specs.View.{declaration_of, block_of}
+use Rattle.fv_rewrite.specs.Names.{names_written_in}
+use Rattle.nest_reasons.specs.Symbols.{is_symbol, symbols_of}
+use Rattle.nest_reasons.proofs.symbols.symbols_of.Given as goal
+
+abbrev pub invariant-loop-decl : goal.invariant-loop-decl
+invariant-loop-decl l = l.symbols ≡ symbols_of (map declaration_of (take l.decl-index l.decl-items)) l.variable (block_of l.body)

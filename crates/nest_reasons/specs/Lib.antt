@@ -1,0 +1,7 @@
+pub mod Flaws
+pub mod Increments
+pub mod Loops
+pub mod Marks
+pub mod Sizes
+pub mod Standing
+pub mod Symbols
