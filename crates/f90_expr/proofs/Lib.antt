@@ -1,0 +1,6 @@
+pub mod Stacks
+pub mod Complete
+pub mod Placing
+pub mod Sound
+pub mod ReadingLaws
+pub mod LiteralLaws

@@ -1,0 +1,5 @@
+pub mod Flat
+pub mod Machine
+pub mod Views
+pub mod Reading
+pub mod Literals
