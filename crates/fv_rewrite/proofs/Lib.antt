@@ -9,3 +9,4 @@ pub mod NameLaws
 pub mod Profiles
 pub mod ProfileBlocks
 pub mod Replacing
+pub mod ReplacedProfile

@@ -1,13 +1,17 @@
 -- A scalar variable that an expression stands for, where only one of two runs knows the variable.
-use Rattle.std.specs.Prelude.{◌≡◌, Ok, Some, ℕ, Bool, true, false, not, ◌&&◌, ◌||◌, List, []}
+use Rattle.std.specs.Prelude.{◌≡◌, Ok, Some, ℕ, ◌+◌, Bool, true, false, not, ◌&&◌, ◌||◌, List, []}
 use Rattle.std.specs.Str.{bytes_eq}
-use Rattle.fv_tree.specs.Plain.{Expression, Named, no_subscripts, subscript}
+use Rattle.fv_tree.specs.declared.ops.Kind.TheVariants.{Integer}
+use Rattle.fv_tree.specs.Plain.{Expression, Named, no_subscripts, subscript, Declaration}
+use Rattle.fv_meaning.specs.Depths.{depth_of}
 use Rattle.fv_meaning.specs.Names.{is_among}
 use Rattle.fv_meaning.specs.Reads.{names_in}
 use Rattle.fv_meaning.specs.Store.{Store, Cell}
+use Rattle.fv_meaning.specs.Typed90.{IsScalar, IsIntegerScalar}
 use Rattle.fv_meaning.specs.Value.{value_of}
 use Rattle.fv_rewrite.specs.Following.{sequential}
 use Rattle.fv_rewrite.specs.Making.{Making, Suiting}
+use Rattle.fv_rewrite.specs.Profile.{KeepsProfile}
 use Rattle.fv_rewrite.specs.Substituting.{substituting}
 
 -- `by` stands for the variable; `news` are further names that the first run doesn't know, `fixed` further ones that
@@ -47,3 +51,10 @@ module _ (r : Replacing) where
     pub held : (c : Cell) → is_own c.name ≡ false → s.held c ≡ u.held c
     pub scalar : s.bounds r.variable ≡ Some []
     pub value : value_of (sequential bits) r.by u ≡ Ok (s.held (record { name = r.variable; subscripts = [] }))
+
+-- Where the variable and the expression are INTEGER scalars by the declarations, the replacement keeps the profile, and
+-- raises a depth by that of the expression in parentheses at most
+abbrev pub ReplacingKeepsProfile : Type 0
+ReplacingKeepsProfile = (r : Replacing) (es : List Declaration)
+    → IsIntegerScalar es r.variable → IsScalar es r.by Integer
+    → KeepsProfile es (1 + depth_of r.by) (replacing r) (replacing_suits r)

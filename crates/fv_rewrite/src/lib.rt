@@ -8,6 +8,7 @@
 
 mod expressions;
 mod items;
+mod laws;
 mod names;
 mod rule;
 mod statement_uses;
@@ -18,6 +19,7 @@ mod tests;
 mod uses;
 
 pub use expressions::rewrite_expression;
+pub use laws::replaced_profile;
 pub use names::{mentions, names_read, names_written};
 pub use rule::Rule;
 pub use statements::rewrite;

@@ -1,0 +1,10 @@
+//! Rules of a normal loop: its variable becomes a linear form, and linear forms are brought into canonical text.
+#![tactic(auto)]
+
+mod canonical;
+mod replacement;
+#[cfg(test)]
+mod tests;
+
+pub use canonical::Canonical;
+pub use replacement::Replacement;

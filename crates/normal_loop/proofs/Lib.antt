@@ -1,0 +1,6 @@
+pub mod Turns
+pub mod Loops
+pub mod OneLoop
+pub mod Counted
+pub mod Trips
+pub mod NormalLoops
