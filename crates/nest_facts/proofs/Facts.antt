@@ -1,20 +1,18 @@
 -- The facts of a nest suffice.
-use Rattle.std.proofs.Common.{◌≡◌, refl, sym, ap, ◌∙◌, subst, ◌⊎◌, inl, inr, ℕ, zero, suc, ◌+◌, ◌^◌, ◌<◌, ◌≤◌, nat_le, nat_lt, ℤ, pos, negsuc, int_div, Bool, true, false, cond, List, [], ◌∷◌, ◌++◌, map, Result, Ok, Err, Option, Some, None, arith}
+use Rattle.std.proofs.Common.{◌≡◌, refl, sym, ap, ◌∙◌, subst, inl, inr, ℕ, suc, ◌+◌, ◌^◌, ◌≤◌, nat_le, nat_lt, ℤ, pos, negsuc, int_div, Bool, true, false, cond, List, [], ◌∷◌, ◌++◌, map, Result, Ok, Err, Option, Some, None, arith}
 use Rattle.std.specs.Prelude.{IfSome, nat_abs}
 use Rattle.std.specs.Ordering.{int_eq}
 use Rattle.std.proofs.Math.Pow.{pow_mono}
-use Rattle.fv_tree.specs.Steps.{◌>>=◌}
 use Rattle.fv_tree.specs.Operators.{kind_of, as_number, quotient, number, fits, apply}
 use Rattle.fv_tree.specs.Plain.{Expression, Number, Binary, Declaration}
-use Rattle.fv_tree.specs.declared.ops.Kind.{Kind}
 use Rattle.fv_tree.specs.declared.ops.Kind.TheVariants.{Integer}
 use Rattle.fv_tree.specs.declared.ops.Op.TheVariants.{Div}
 use Rattle.fv_tree.specs.declared.ops.Value.{Value}
 use Rattle.fv_tree.specs.declared.ops.Value.TheVariants.{Int, Truth}
 use Rattle.fv_tree.specs.declared.ops.Fault.{Fault}
-use Rattle.fv_tree.specs.declared.ops.Fault.TheVariants.{Overflow, ZeroDivide, TripCount}
+use Rattle.fv_tree.specs.declared.ops.Fault.TheVariants.{Overflow, ZeroDivide}
 use Rattle.fv_meaning.specs.Holding.{HoldsProgram}
-use Rattle.fv_meaning.specs.Store.{Store, Cell, put, cell_at}
+use Rattle.fv_meaning.specs.Store.{Store, Cell}
 use Rattle.fv_meaning.specs.Typed.{declared}
 use Rattle.fv_meaning.specs.Value.{value_of, number_of, is_in_range, bound_to, trip_count}
 use Rattle.fv_meaning.proofs.Exchanges.{unread}
@@ -26,10 +24,9 @@ use Rattle.nest_order.specs.Nests.{IsInstance}
 use Rattle.nest_order.specs.Shapes.{Instance, Within, loops, statements}
 use Rattle.nest_order.proofs.Common.{statement_stands}
 use Rattle.nest_order.proofs.Lists.{Each-In}
-use Rattle.nest_order.proofs.Membership.{In-map}
 use Rattle.nest_runs.specs.Guarded.{sequential, variable_cell, at_iterations}
 use Rattle.nest_runs.specs.Nests.{Nest, AreAt, LoopStands, effect_of, variables_round}
-use Rattle.nest_runs.specs.Stores.{Setting, HoldsNest, IsNestIn, IsNestText}
+use Rattle.nest_runs.specs.Stores.{Setting, HoldsNest}
 use Rattle.nest_runs.specs.Touched.{nth_of}
 use Rattle.nest_runs.proofs.Alone.{stands_loops, stands_once}
 use Rattle.nest_runs.proofs.Ending.{turns_to, count_from_one}

@@ -1,0 +1,8 @@
+//! Laws of array forms of a nest's statements. A law is a function without a body: its contract is what holds.
+ghost use Rattle.lone_array_forms.specs.Instances.{InstancesOfArrayForms};
+
+/// Where the instances of a statement in its inner loops may store all at once, its instances as the laws of array forms
+/// have them do the same.
+pub fn instances_in_inner_loops()
+    ensures { InstancesOfArrayForms }
+{}
