@@ -3,4 +3,4 @@
 
 mod laws;
 
-pub use laws::instances_in_inner_loops;
+pub use laws::{instances_in_inner_loops, known_numbers};

@@ -40,17 +40,17 @@ use Rattle.nest_facts.specs.Facts.{values_from, places_of, number_by, counted, H
 
 -- ---- lists of names with their values
 
-have-append : (ys zs : List (List ℕ)) (s : Store) (xs us : List ℤ) → HaveValues ys s xs → HaveValues zs s us → HaveValues (ys ++ zs) s (xs ++ us)
+pub have-append : (ys zs : List (List ℕ)) (s : Store) (xs us : List ℤ) → HaveValues ys s xs → HaveValues zs s us → HaveValues (ys ++ zs) s (xs ++ us)
 have-append [] zs s [] us h g = g
 have-append [] zs s (x ∷ xs) us h g = absurd h
 have-append (y ∷ ys) zs s [] us h g = absurd h
 have-append (y ∷ ys) zs s (x ∷ xs) us h g = (h.0, h.1, have-append ys zs s xs us h.2 g)
 
-sized-append : (xs us : List ℤ) → AreSized xs → AreSized us → AreSized (xs ++ us)
+pub sized-append : (xs us : List ℤ) → AreSized xs → AreSized us → AreSized (xs ++ us)
 sized-append [] us h g = g
 sized-append (x ∷ xs) us h g = (h.0, sized-append xs us h.1 g)
 
-small_sized : (is : List ℕ) → Each (λ i. i ≤ 2147483646) is → AreSized (map pos is)
+pub small_sized : (is : List ℕ) → Each (λ i. i ≤ 2147483646) is → AreSized (map pos is)
 small_sized [] h = tt
 small_sized (i ∷ is) h = (let a : i ≤ 2147483646 = h.0 in small i a, small_sized is h.1)
   where
@@ -58,7 +58,7 @@ small_sized (i ∷ is) h = (let a : i ≤ 2147483646 = h.0 in small i a, small_s
     small i h = let e : i ≤ 9223372036854775808 = omega arith in e
 
 module _ (v : ℕ → ℤ) (s : Store) where
-  symbols-have : (xs : List (List ℕ)) (k : ℕ) → ((x : List ℕ) → In x xs → s.bounds x ≡ Some []) → ((j : ℕ) (x : List ℕ) → nth_of xs j ≡ Some x → s.held (variable_cell x) ≡ Int (v (k + j)))
+  pub symbols-have : (xs : List (List ℕ)) (k : ℕ) → ((x : List ℕ) → In x xs → s.bounds x ≡ Some []) → ((j : ℕ) (x : List ℕ) → nth_of xs j ≡ Some x → s.held (variable_cell x) ≡ Int (v (k + j)))
       → HaveValues xs s (values_from v k xs)
   symbols-have [] k b h = tt
   symbols-have (x ∷ xs) k b h = (
@@ -67,7 +67,7 @@ module _ (v : ℕ → ℤ) (s : Store) where
     symbols-have xs (suc k) (λ y i. b y (inr i)) (λ j y e. subst (λ m. s.held (variable_cell y) ≡ Int (v m)) (let f : k + suc j ≡ suc k + j = omega arith in f) (h (suc j) y e)),
   )
 
-  symbols-sized : (xs : List (List ℕ)) (k : ℕ) → ((j : ℕ) (x : List ℕ) → nth_of xs j ≡ Some x → nat_abs (v (k + j)) ≤ 2 ^ 63) → AreSized (values_from v k xs)
+  pub symbols-sized : (xs : List (List ℕ)) (k : ℕ) → ((j : ℕ) (x : List ℕ) → nth_of xs j ≡ Some x → nat_abs (v (k + j)) ≤ 2 ^ 63) → AreSized (values_from v k xs)
   symbols-sized [] k h = tt
   symbols-sized (x ∷ xs) k h = (
     subst (λ j. nat_abs (v j) ≤ 2 ^ 63) (let e : k + 0 ≡ k = omega arith in e) (h 0 x refl),
@@ -111,7 +111,7 @@ module _ (bits : ℕ) (n : Nest) (w : Setting) (facts : HasFacts bits n w) where
 
   -- ---- iterations of loops of the nest can be counted
 
-  small_iterations : (ls is before : List ℕ) → ((m : ℕ) → In m ls → In m (loops n.shape)) → Within turns before ls is → Each (λ i. i ≤ 2147483646) is
+  pub small_iterations : (ls is before : List ℕ) → ((m : ℕ) → In m ls → In m (loops n.shape)) → Within turns before ls is → Each (λ i. i ≤ 2147483646) is
   small_iterations [] [] before known v = tt
   small_iterations [] (i ∷ is) before known v = absurd v
   small_iterations (l ∷ ls) [] before known v = absurd v
@@ -158,7 +158,7 @@ module _ (bits : ℕ) (n : Nest) (w : Setting) (facts : HasFacts bits n w) where
 
   -- ---- values of the places of a form
 
-  loops_have : (ls is : List ℕ) (s : Store) → ((m : ℕ) → In m ls → s.bounds (n.variable_at m) ≡ Some []) → AreAt n ls is s → HaveValues (map n.variable_at ls) s (map pos is)
+  pub loops_have : (ls is : List ℕ) (s : Store) → ((m : ℕ) → In m ls → s.bounds (n.variable_at m) ≡ Some []) → AreAt n ls is s → HaveValues (map n.variable_at ls) s (map pos is)
   loops_have [] [] s b h = tt
   loops_have [] (i ∷ is) s b h = absurd h
   loops_have (l ∷ ls) [] s b h = absurd h
