@@ -36,7 +36,7 @@ use Rattle.array_forms.proofs.Coefficients.{as_long, weighted_front, weighted_la
 
 -- ---- sizes
 
-number_size : (loops : ℕ) (f : Form) (xs : List ℤ) → loops ≤ 7 → is_limited loops f ≡ true → AreSized xs → nat_abs (number_at f xs) ≤ 15 * (2 ^ 40 * 2 ^ 63) + 2 ^ 40
+pub number_size : (loops : ℕ) (f : Form) (xs : List ℤ) → loops ≤ 7 → is_limited loops f ≡ true → AreSized xs → nat_abs (number_at f xs) ≤ 15 * (2 ^ 40 * 2 ^ 63) + 2 ^ 40
 number_size loops f xs few h k =
     let parts = both (all_small f.coefficients) (is_small f.constant && nat_le (not_zero (drop loops f.coefficients)) 8) h in
     let more = both (is_small f.constant) (nat_le (not_zero (drop loops f.coefficients)) 8) parts.1 in
@@ -78,7 +78,7 @@ by_stride n (negsuc m) h = ap (λ z. not_negative (int_div z (negsuc m))) (pos-*
 
 -- ---- texts
 
-names_have : (d : Dialect) (names : List (List ℕ)) (s : Store) (xs : List ℤ) → HaveValues names s xs → EachHasValue d (variables names) s xs
+pub names_have : (d : Dialect) (names : List (List ℕ)) (s : Store) (xs : List ℤ) → HaveValues names s xs → EachHasValue d (variables names) s xs
 names_have d [] s [] h = tt
 names_have d (y ∷ ys) s (x ∷ xs) h = (ap (λ b. do c ← cell_in b y []; Ok (s.held c)) h.0 ∙ ap Ok h.1, names_have d ys s xs h.2)
 names_have d [] s (x ∷ xs) h = absurd h

@@ -151,7 +151,7 @@ module _ (d : Dialect) (a : Surroundings) where
       let same = same_count s xs k l m i h e in
       let low = t.least in
       let high = t.most in
-      record { limits = t.limits; short = t.short; divisor = t.divisor; least = omega (arith, low, same); most = omega (arith, high, same) }
+      record { trip = record { limits = t.limits; short = t.short; divisor = t.divisor; most = omega (arith, high, same) }; least = omega (arith, low, same) }
 
   -- numbers that a loop variable can hold
   abbrev AreSmall : List ℕ → Type 0

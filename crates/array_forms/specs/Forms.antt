@@ -39,11 +39,16 @@ abbrev pub sum_text : ℕ → List Expression → Expression → Form → Form �
 sum_text loops terms first f r =
     if is_limited loops (sum f r) then expressed terms (sum f r) else Binary Add first (expressed terms r)
 
+abbrev pub lower_text : ℕ → List (List ℕ) → Loop → ℤ → Form → Expression
+lower_text loops names l a r = sum_text loops (terms_with names l.trip) (number_text a) (constant_form a) r
+
+abbrev pub upper_text : ℕ → List (List ℕ) → Loop → ℤ → Form → Expression
+upper_text loops names l a r = sum_text loops (terms_with names l.trip)
+    (Binary Mul (number_text a) (trip_text names l.trip)) (multiple a (trip_form names l.trip)) r
+
 abbrev pub section_from : ℕ → List (List ℕ) → Loop → ℤ → Form → Subscript
-section_from loops names l a r = Section
-    (sum_text loops (terms_with names l.trip) (number_text a) (constant_form a) r)
-    (sum_text loops (terms_with names l.trip) (Binary Mul (number_text a) (trip_text names l.trip)) (multiple a (trip_form names l.trip)) r)
-    (number_text a)
+section_from loops names l a r =
+    Section (lower_text loops names l a r) (upper_text loops names l a r) (number_text a)
 
 abbrev pub section : Surroundings → Loop → Form → Subscript
 section a l f = section_from (length a.loops) (names_of a) l (coefficient (names_of a) l.variable f.coefficients)
@@ -94,7 +99,8 @@ name_form a D [] x ps formed = Named x ps
 name_form a D (l ∷ ls) x no_subscripts formed =
     placed a D (l ∷ ls) (constructed (names_of a) (l ∷ ls) (Named x no_subscripts)) (Named x no_subscripts)
 name_form a D (l ∷ ls) x (subscript p ps) formed =
-    if one_each D (subscript p ps) then placed a D (loops_in_order D (subscript p ps)) (Named x formed) (Named x (subscript p ps))
+    if one_each D (subscript p ps)
+    then placed a D (loops_in_order D (subscript p ps)) (Named x formed) (Named x (subscript p ps))
     else constructed (names_of a) D (Named x (subscript p ps))
 
 module _ (a : Surroundings) where
@@ -115,5 +121,6 @@ module _ (a : Surroundings) where
     pub subscript_forms : List Loop → Subscripts → Subscripts
     subscript_forms D no_subscripts = no_subscripts
     subscript_forms D (subscript (Only e) ps) =
-        subscript (subscript_form a (loops_among D (names_in e)) e (form (loops_among D (names_in e)) e)) (subscript_forms D ps)
+        subscript (subscript_form a (loops_among D (names_in e)) e (form (loops_among D (names_in e)) e))
+        (subscript_forms D ps)
     subscript_forms D (subscript (Section b c d) ps) = subscript (Section b c d) (subscript_forms D ps)

@@ -1,4 +1,5 @@
--- The loops round a statement of a nest, in which each loop goes from 1 to its trip by 1, and what of them stands where.
+-- The loops round a statement of a nest, in which each loop goes from 1 to its trip by 1, and which of them stand
+-- where.
 use Rattle.std.specs.Prelude.{◌≡◌, ℕ, suc, ◌==◌, ℤ, pos, nat_le, int_le, int_div, Bool, true, false, ◌&&◌, not}
 use Rattle.std.specs.Prelude.{if◌then◌else◌, List, [], ◌∷◌, ◌++◌, map, length, filter}
 use Rattle.std.specs.Cmp.Lexicographic.{pointwise}
