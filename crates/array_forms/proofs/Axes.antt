@@ -18,10 +18,10 @@ use Rattle.fv_tree.specs.declared.ops.Fault.TheVariants.{Bounds, ZeroStep}
 use Rattle.fv_tree.specs.declared.ops.Value.{Value}
 use Rattle.fv_tree.specs.declared.ops.Value.TheVariants.{Int, Truth}
 use Rattle.fv_meaning.specs.ArrayStatements.{axes_named}
-use Rattle.fv_meaning.specs.ArrayValues.{Elements, settled, counted, positions}
+use Rattle.fv_meaning.specs.ArrayValues.{Array, Elements, settled, in_whole, counted, positions}
 use Rattle.fv_meaning.specs.Dialect.{Dialect}
 use Rattle.fv_meaning.specs.Reads.{names_in, names_in_subscript}
-use Rattle.fv_meaning.specs.Sections.{Selector, Index, Triplet, Axis, Fixed, Along, not_negative, steps_from, stands_in, all_stand_in, along, axis_on, axes_on, axes_selected, extents_of, cells_along}
+use Rattle.fv_meaning.specs.Sections.{Selector, Index, Triplet, Vector, Axis, Fixed, Along, not_negative, steps_from, stands_in, all_stand_in, along, axis_on, axes_on, axes_selected, extents_of, cells_along}
 use Rattle.fv_meaning.specs.Store.{Store, Cell, is_within, bounds_in, cell_in, cell_at}
 use Rattle.fv_meaning.specs.Value.{value_of, array_of, subscript_value, subscript_values, selector, selectors, is_scalar, is_index, are_indices, numbered, evaluated, selector_of, bound_to}
 use Rattle.array_laws.proofs.OneToOne.{triplet_selects_once}
@@ -36,13 +36,15 @@ use Rattle.linear_forms.specs.Linear.{Form, HaveValues, constant_form, multiple,
 use Rattle.linear_forms.specs.Linear as forms
 use Rattle.linear_forms.proofs.Faultless.{linear_has_value}
 use Rattle.linear_forms.proofs.Sizes.{both}
-use Rattle.array_forms.specs.Following.{has_none, is_moved, are_moved}
+use Rattle.array_forms.specs.Following.{has_none, is_moved, are_moved, is_regular, are_regular_subscripts}
 use Rattle.array_forms.specs.Forms.{number_text, trip_text, trip_form, terms_with, sum_text, section, subscript_with, subscript_form, subscript_forms, form}
 use Rattle.array_forms.specs.Instances.{at_iterations, count_of, counts_of}
 use Rattle.array_forms.specs.Laws.{Turns}
 use Rattle.array_forms.specs.Loops.{Loop, Surroundings, variables_of, names_of, is_among, AreDistinct, loops_among, loops_in_order, one_each, same_loops, coefficient, form_without}
 use Rattle.array_forms.proofs.Bounds.{by_stride, number_known, lower_known, upper_known}
 use Rattle.array_forms.proofs.Coefficients.{Found, found_form, replaced, replaced_sized, replaced_have, number_replaced, as_long, without_limited, without_short, coefficient_small}
+use Rattle.array_forms.proofs.Constructing.{Full, whole_full}
+use Rattle.array_forms.proofs.Positions.{AreFrom, positions_from}
 use Rattle.array_forms.proofs.Iterations.{at_those, bounds_at, element_at, value_part}
 use Rattle.array_forms.proofs.Singles.{scalar_of}
 
@@ -81,6 +83,33 @@ number_of_value : (v : Value) (z : ℤ) → as_number v ≡ Ok z → v ≡ Int z
 number_of_value (Int y) z h = ap Int (same_answer y z h)
 number_of_value (Truth b) z h = absurd cc
 
+-- numbers of values, and of one dimension
+abbrev number_in : Result Value Fault → ℤ
+number_in (Ok (Int z)) = z
+number_in (Ok (Truth b)) = pos 0
+number_in (Err f) = pos 0
+
+abbrev first_place : List ℕ → ℕ
+first_place [] = 0
+first_place (i ∷ is) = i
+
+numbers_of_map : (g : List ℕ → ℤ) (iss : List (List ℕ)) → as_numbers (map (λ is. Int (g is)) iss) ≡ Ok (map g iss)
+numbers_of_map g [] = refl
+numbers_of_map g (is ∷ iss) = ap (λ (r : Result (List ℤ) Fault). let q : Result (List ℤ) Fault = (do zs ← r; Ok (g is ∷ zs)) in q) (numbers_of_map g iss)
+
+one_dimension : (f : ℕ → ℤ) (ks : List ℕ) → map (λ is. f (first_place is)) (map (λ i. i ∷ []) ks ++ []) ≡ map f ks
+one_dimension f [] = refl
+one_dimension f (k ∷ ks) = ap (λ zs. f k ∷ zs) (one_dimension f ks)
+
+counted_long : (f : ℕ → ℤ) (k n : ℕ) → length (map f (counted k n)) ≡ n
+counted_long f k zero = refl
+counted_long f k (suc n) = ap (λ m. suc m) (counted_long f (k + 1) n)
+
+number_counted : (f : ℕ → ℤ) (k n i : ℕ) → i < n → number_at (map f (counted k n)) i ≡ f (k + i)
+number_counted f k zero i h = absurd (omega (arith, h))
+number_counted f k (suc n) zero h = ap f (let e : k ≡ k + 0 = omega arith in e)
+number_counted f k (suc n) (suc i) h = number_counted f (k + 1) n i (omega (arith, h)) ∙ ap f (let e : k + 1 + i ≡ k + suc i = omega arith in e)
+
 module _ (d : Dialect) (a : Surroundings) (s : Store) (xs : List ℤ) (few : length a.loops ≤ 7) (values : HaveValues (names_of a) s xs) (sized : AreSized xs) (distinct : AreDistinct (names_of a)) where
   -- loops whose names have places, and that turn
   pub record Fit (D : List Loop) : Type 0 where
@@ -100,13 +129,13 @@ module _ (d : Dialect) (a : Surroundings) (s : Store) (xs : List ℤ) (few : len
   firsts D fit l m = let t = (fit.turns l m).least in (omega arith, t)
 
   -- one loop at its i-th iteration, all others at their first
-  abbrev only : Loop → ℕ → List ℕ → ℕ
+  abbrev pub only : Loop → ℕ → List ℕ → ℕ
   only l i x = cond (bytes_eq l.variable x) i 1
 
-  only_itself : (l : Loop) (i : ℕ) → only l i l.variable ≡ i
+  pub only_itself : (l : Loop) (i : ℕ) → only l i l.variable ≡ i
   only_itself l i = ap (λ b. cond b i 1) ((bytes_eq-Decides l.variable l.variable).1 refl)
 
-  only_within : (D : List Loop) → Fit D → (l : Loop) → Contains D l → (i : ℕ) → 1 ≤ i → i ≤ count_of xs l → Within D (only l i)
+  pub only_within : (D : List Loop) → Fit D → (l : Loop) → Contains D l → (i : ℕ) → 1 ≤ i → i ≤ count_of xs l → Within D (only l i)
   only_within D fit l here i low high m there = by (bytes_eq l.variable m.variable) refl
     where
       by : (b : Bool) → bytes_eq l.variable m.variable ≡ b → (1 ≤ cond b i 1) × (cond b i 1 ≤ count_of xs m)
@@ -133,7 +162,7 @@ module _ (d : Dialect) (a : Surroundings) (s : Store) (xs : List ℤ) (few : len
     pub on : axis_on b selected ≡ Ok (Along numbers)
     pub count : length numbers ≡ count_of xs l
     pub index : is_index p s.bounds ≡ false
-    pub differ : AreDifferent numbers
+    pub differ : (form_of (variables_of a.loops) a.symbols e ≡ None → ⊥) → AreDifferent numbers
     pub at : (ι : List ℕ → ℕ) → Within D ι → value_of d e (at_those ι D s) ≡ Ok (Int (number_at numbers (ι l.variable - 1)))
 
   abbrev pub Selects : List Loop → Expression → Subscript → ℤ × ℤ → List Loop → Type 0
@@ -195,7 +224,7 @@ module _ (d : Dialect) (a : Surroundings) (s : Store) (xs : List ℤ) (few : len
           ∙ (ap (λ n. along b (steps_from (factor +ℤ rest) factor n)) turns_so_often ∙ ap (λ q. let r : Result Axis Fault = cond q (Ok (Along selected_numbers)) (Err Bounds) in r) all);
       count = length_steps (factor +ℤ rest) factor (count_of xs l);
       index = refl;
-      differ = triplet_selects_once (factor +ℤ rest) factor (count_of xs l) nonzero.1;
+      differ = λ n. triplet_selects_once (factor +ℤ rest) factor (count_of xs l) nonzero.1;
       at = moved_at;
     }
       where
@@ -249,40 +278,40 @@ module _ (d : Dialect) (a : Surroundings) (s : Store) (xs : List ℤ) (few : len
     pub on : axes_on bs selected ≡ Ok axes
     pub extents : extents_of axes ≡ counts_of xs ls
     pub indices : are_indices qs s.bounds ≡ has_none ls
-    pub once : SelectOnce axes
+    pub once : are_moved a D ps ≡ true → SelectOnce axes
     pub at : (ι : List ℕ → ℕ) → Within D ι → subscript_values d ps (at_those ι D s) ≡ Ok (subscripts_at axes (places ι ls))
 
   one_before : (D : List Loop) (e : Expression) (p : Subscript) (b : ℤ × ℤ) (ps qs : Subscripts) (bs : List (ℤ × ℤ)) (ls : List Loop)
-      → SelectsOne D e p b → SelectsAll D ps qs bs ls → SelectsAll D (subscript (Only e) ps) (subscript p qs) (b ∷ bs) ls
-  one_before D e p b ps qs bs ls o m = record {
+      → (are_moved a D (subscript (Only e) ps) ≡ true → (is_moved a [] (form_of (variables_of a.loops) a.symbols e) false ≡ true) × (are_moved a D ps ≡ true)) → SelectsOne D e p b → SelectsAll D ps qs bs ls → SelectsAll D (subscript (Only e) ps) (subscript p qs) (b ∷ bs) ls
+  one_before D e p b ps qs bs ls split_moved o m = record {
     selected = Index o.number ∷ m.selected;
     axes = Fixed o.number ∷ m.axes;
     known = ap₂ (λ (r : Result Selector Fault) (q : Result (List Selector) Fault). do z ← r; zs ← q; Ok (z ∷ zs)) o.known m.known;
     on = ap₂ (λ (r : Result Axis Fault) (q : Result (List Axis) Fault). do z ← r; zs ← q; Ok (z ∷ zs)) (ap (λ q. let r : Result Axis Fault = cond q (Ok (Fixed o.number)) (Err Bounds) in r) o.stands) m.on;
     extents = m.extents;
     indices = ap₂ (λ p q. p && q) o.index m.indices;
-    once = m.once;
+    once = λ h. m.once (split_moved h).1;
     at = λ ι w. ap₂ (λ (r : Result Value Fault) (q : Result (List ℤ) Fault). do i ← (do x ← r; as_number x); is ← q; Ok (i ∷ is)) (o.at ι w) (m.at ι w);
   }
 
   many_before : (D : List Loop) (e : Expression) (p : Subscript) (b : ℤ × ℤ) (ps qs : Subscripts) (bs : List (ℤ × ℤ)) (l : Loop) (ls : List Loop)
-      → SelectsMany D e p b l → SelectsAll D ps qs bs ls → SelectsAll D (subscript (Only e) ps) (subscript p qs) (b ∷ bs) (l ∷ ls)
-  many_before D e p b ps qs bs l ls o m = record {
+      → (are_moved a D (subscript (Only e) ps) ≡ true → (is_moved a (l ∷ []) (form_of (variables_of a.loops) a.symbols e) false ≡ true) × (are_moved a D ps ≡ true)) → SelectsMany D e p b l → SelectsAll D ps qs bs ls → SelectsAll D (subscript (Only e) ps) (subscript p qs) (b ∷ bs) (l ∷ ls)
+  many_before D e p b ps qs bs l ls split_moved o m = record {
     selected = o.selected ∷ m.selected;
     axes = Along o.numbers ∷ m.axes;
     known = ap₂ (λ (r : Result Selector Fault) (q : Result (List Selector) Fault). do z ← r; zs ← q; Ok (z ∷ zs)) o.known m.known;
     on = ap₂ (λ (r : Result Axis Fault) (q : Result (List Axis) Fault). do z ← r; zs ← q; Ok (z ∷ zs)) o.on m.on;
     extents = ap₂ (λ (n : ℕ) (ns : List ℕ). n ∷ ns) o.count m.extents;
     indices = ap₂ (λ p q. p && q) o.index m.indices;
-    once = (o.differ, m.once);
+    once = λ h. (o.differ (λ n. let bad : false ≡ true = ap (λ f. is_moved a (l ∷ []) f false) (sym n) ∙ (split_moved h).0 in absurd cc), m.once (split_moved h).1);
     at = λ ι w. ap₂ (λ (r : Result Value Fault) (q : Result (List ℤ) Fault). do i ← (do x ← r; as_number x); is ← q; Ok (i ∷ is)) (o.at ι w) (m.at ι w);
   }
 
   before : (D : List Loop) (e : Expression) (p : Subscript) (b : ℤ × ℤ) (ps qs : Subscripts) (bs : List (ℤ × ℤ)) (hs ls : List Loop)
-      → Selects D e p b hs → SelectsAll D ps qs bs ls → SelectsAll D (subscript (Only e) ps) (subscript p qs) (b ∷ bs) (hs ++ ls)
-  before D e p b ps qs bs [] ls o m = one_before D e p b ps qs bs ls o m
-  before D e p b ps qs bs (l ∷ []) ls o m = many_before D e p b ps qs bs l ls o m
-  before D e p b ps qs bs (l ∷ k ∷ hs) ls o m = absurd o
+      → (are_moved a D (subscript (Only e) ps) ≡ true → (is_moved a hs (form_of (variables_of a.loops) a.symbols e) false ≡ true) × (are_moved a D ps ≡ true)) → Selects D e p b hs → SelectsAll D ps qs bs ls → SelectsAll D (subscript (Only e) ps) (subscript p qs) (b ∷ bs) (hs ++ ls)
+  before D e p b ps qs bs [] ls h o m = one_before D e p b ps qs bs ls h o m
+  before D e p b ps qs bs (l ∷ []) ls h o m = many_before D e p b ps qs bs l ls h o m
+  before D e p b ps qs bs (l ∷ k ∷ hs) ls h o m = absurd o
 
   -- at each instance they are numbers within bounds
   abbrev pub AreWithin : List Loop → Subscripts → List (ℤ × ℤ) → Type 0
@@ -313,34 +342,111 @@ module _ (d : Dialect) (a : Surroundings) (s : Store) (xs : List ℤ) (few : len
           either_one (inr k) = there l ls m (more k)
       by false h more = there l ls m (more h)
 
-  selects_here : (D : List Loop) → Fit D → (e formed : Expression) (b : ℤ × ℤ) (hs : List Loop) → loops_among D (names_in e) ≡ hs → nat_le (length hs) 1 ≡ true
-      → (o : Option Form) → form_of (variables_of a.loops) a.symbols e ≡ o → is_moved a hs o ≡ true → IsWithin D e b → Selects D e (subscript_with a hs e formed o) b hs
-  selects_here D fit e formed b [] none one o linear moves h = selects_one D fit e b none h
-  selects_here D fit e formed b (l ∷ []) only_one one (Some f) linear moves h =
-      selects_section D fit l (among_all (λ (m : Loop). is_among (names_in e) m.variable) D l (subst (λ ls. Contains ls l) (sym only_one) (here l []))) e only_one f linear b moves h
-  selects_here D fit e formed b (l ∷ []) only_one one None linear moves h = absurd cc
-  selects_here D fit e formed b (l ∷ m ∷ hs) two one o linear moves h = absurd (let few : suc (suc (length hs)) ≤ 1 = leb-true (suc (suc (length hs))) 1 one in omega (arith, few))
+  -- ---- a subscript of one loop that isn't linear: its form has rank one
 
-  pub selects_all : (D : List Loop) → Fit D → (ps : Subscripts) (bs : List (ℤ × ℤ)) → one_each D ps ≡ true → are_moved a D ps ≡ true → AreWithin D ps bs
+  pub record IsVector (l : Loop) (e F : Expression) : Type 0 where
+    pub array : Elements Value
+    pub known : array_of d F s ≡ Ok array
+    pub extents : array.extents ≡ count_of xs l ∷ []
+    pub scalar : is_scalar F s.bounds ≡ false
+    pub at : (i : ℕ) → i < count_of xs l → array.at (i ∷ []) ≡ value_of d e (bound_to l.variable (pos (suc i)) s)
+
+  module _ (D : List Loop) (fit : Fit D) (l : Loop) (among : Contains D l) (e F : Expression) (only_one : loops_among D (names_in e) ≡ l ∷ []) (not_linear : form_of (variables_of a.loops) a.symbols e ≡ None) (v : IsVector l e F) (b : ℤ × ℤ) (h : IsWithin D e b) where
+    abbrev number_there_is : ℕ → ℤ
+    number_there_is i = number_in (value_of d e (bound_to l.variable (pos (suc i)) s))
+
+    abbrev count_there : ℕ
+    count_there = count_of xs l
+
+    of_instance : (ι : List ℕ → ℕ) → value_of d e (at_those ι D s) ≡ value_of d e (bound_to l.variable (pos (ι l.variable)) s)
+    of_instance ι = value_part ι d D e s ∙ ap (λ ls. value_of d e (at_those ι ls s)) only_one
+
+    at_number : (i : ℕ) → i < count_there → (value_of d e (bound_to l.variable (pos (suc i)) s) ≡ Ok (Int (number_there_is i))) × (stands_in b (number_there_is i) ≡ true)
+    at_number i low =
+        let w = only_within D fit l among (suc i) (omega arith) (omega (arith, low)) in
+        let z = h (only l (suc i)) w in
+        let now : value_of d e (bound_to l.variable (pos (suc i)) s) ≡ Ok (Int z.0) = ap (λ j. value_of d e (bound_to l.variable (pos j) s)) (sym (only_itself l (suc i))) ∙ (sym (of_instance (only l (suc i))) ∙ z.1) in
+        let same : z.0 ≡ number_there_is i = sym (ap number_in now) in
+        (now ∙ ap (λ y. Ok (Int y)) same, ap (stands_in b) (sym same) ∙ z.2)
+
+    abbrev numbers_there : List ℤ
+    numbers_there = map number_there_is (counted 0 count_there)
+
+    vector_full : Full v.array (count_there ∷ []) (λ is. Int (number_there_is (first_place is)))
+    vector_full = record { extents = v.extents; at = λ is c. by is (positions_from (count_there ∷ []) is c) }
+      where
+        by : (is : List ℕ) → AreFrom 0 (count_there ∷ []) is → v.array.at is ≡ Ok (Int (number_there_is (first_place is)))
+        by [] f = absurd f
+        by (i ∷ []) f = let low = f.0.1 in let below : i < count_there = omega (arith, low) in v.at i below ∙ (at_number i below).0
+        by (i ∷ j ∷ is) f = absurd f.1
+
+    vector_numbers : as_numbers (map (λ is. Int (number_there_is (first_place is))) (positions (count_there ∷ []))) ≡ Ok numbers_there
+    vector_numbers = numbers_of_map (λ is. number_there_is (first_place is)) (positions (count_there ∷ [])) ∙ ap Ok (one_dimension number_there_is (counted 0 count_there))
+
+    pub selects_vector : SelectsMany D e (Only F) b l
+    selects_vector = record {
+      selected = Vector numbers_there;
+      numbers = numbers_there;
+      known = ap (λ q. do w ← evaluated q (value_of d F s) (array_of d F s); zs ← as_numbers w.values; Ok (selector_of w.extents zs)) v.scalar
+          ∙ (ap (λ (r : Result (Elements Value) Fault). do w ← (do g ← r; in_whole g); zs ← as_numbers w.values; Ok (selector_of w.extents zs)) v.known
+          ∙ (ap (λ (r : Result Array Fault). do w ← r; zs ← as_numbers w.values; Ok (selector_of w.extents zs)) (whole_full v.array (count_there ∷ []) (λ is. Int (number_there_is (first_place is))) vector_full)
+          ∙ ap (λ (r : Result (List ℤ) Fault). do zs ← r; Ok (selector_of (count_there ∷ []) zs)) vector_numbers));
+      on = ap (λ q. let r : Result Axis Fault = cond q (Ok (Along numbers_there)) (Err Bounds) in r) (each_stands b numbers_there (λ i low.
+        let below : i < count_there = (let long = counted_long number_there_is 0 count_there in omega (arith, low, long)) in
+        ap (stands_in b) (number_counted number_there_is 0 count_there i below) ∙ (let same : 0 + i ≡ i = omega arith in ap (λ j. stands_in b (number_there_is j)) same ∙ (at_number i below).1)));
+      count = counted_long number_there_is 0 count_there;
+      index = v.scalar;
+      differ = λ n. absurd (n not_linear);
+      at = λ ι w.
+        let low = (w l among).0 in
+        let high = (w l among).1 in
+        let below : ι l.variable - 1 < count_there = omega (arith, low, high) in
+        let same : 0 + (ι l.variable - 1) ≡ ι l.variable - 1 = omega arith in
+        let next : suc (ι l.variable - 1) ≡ ι l.variable = omega (arith, low) in
+        of_instance ι ∙ (ap (λ j. value_of d e (bound_to l.variable (pos j) s)) (sym next) ∙ ((at_number (ι l.variable - 1) below).0
+        ∙ ap (λ z. Ok (Int z)) (ap number_there_is (sym same) ∙ sym (number_counted number_there_is 0 count_there (ι l.variable - 1) below))));
+    }
+
+  -- the forms of the subscripts that aren't linear
+  abbrev pub VectorFor : List Loop → Expression → Option Form → Type 0
+  VectorFor (l ∷ []) e None = IsVector l e (form a (l ∷ []) e)
+  VectorFor hs e f = Unit {0}
+
+  abbrev pub Vectors : List Loop → Subscripts → Type 0
+  Vectors D no_subscripts = Unit {0}
+  Vectors D (subscript (Only e) ps) = VectorFor (loops_among D (names_in e)) e (form_of (variables_of a.loops) a.symbols e) × Vectors D ps
+  Vectors D (subscript (Section i j k) ps) = Unit {0}
+
+  selects_here : (D : List Loop) → Fit D → (e : Expression) (b : ℤ × ℤ) (hs : List Loop) → loops_among D (names_in e) ≡ hs → nat_le (length hs) 1 ≡ true
+      → (o : Option Form) (other : Bool) → form_of (variables_of a.loops) a.symbols e ≡ o → is_moved a hs o other ≡ true → VectorFor hs e o → IsWithin D e b → Selects D e (subscript_with a hs e (form a hs e) o) b hs
+  selects_here D fit e b [] none one o other linear moves v h = selects_one D fit e b none h
+  selects_here D fit e b (l ∷ []) only_one one (Some f) other linear moves v h =
+      selects_section D fit l (among_all (λ (m : Loop). is_among (names_in e) m.variable) D l (subst (λ ls. Contains ls l) (sym only_one) (here l []))) e only_one f linear b moves h
+  selects_here D fit e b (l ∷ []) only_one one None other linear moves v h =
+      selects_vector D fit l (among_all (λ (m : Loop). is_among (names_in e) m.variable) D l (subst (λ ls. Contains ls l) (sym only_one) (here l []))) e (form a (l ∷ []) e) only_one linear v b h
+  selects_here D fit e b (l ∷ m ∷ hs) two one o other linear moves v h = absurd (let few : suc (suc (length hs)) ≤ 1 = leb-true (suc (suc (length hs))) 1 one in omega (arith, few))
+
+  pub selects_all : (D : List Loop) → Fit D → (ps : Subscripts) (bs : List (ℤ × ℤ)) → one_each D ps ≡ true → are_regular_subscripts a D ps ≡ true → Vectors D ps → AreWithin D ps bs
       → SelectsAll D ps (subscript_forms a D ps) bs (loops_in_order D ps)
-  selects_all D fit no_subscripts [] one moves h = record { selected = []; axes = []; known = refl; on = refl; extents = refl; indices = refl; once = tt; at = λ ι w. refl }
-  selects_all D fit no_subscripts (b ∷ bs) one moves h =
-      let v = h (λ x. 1) (firsts D fit) in
-      absurd (let bad : false ≡ true = ap (is_within (b ∷ bs)) (same_answer [] v.0 v.1) ∙ v.2 in cc)
-  selects_all D fit (subscript (Section i j k) ps) bs one moves h = absurd cc
-  selects_all D fit (subscript (Only e) ps) [] one moves h =
-      let v = h (λ x. 1) (firsts D fit) in
-      let i = bound (subscript_value d (Only e) (at_those (λ x. 1) D s)) (λ i. do is ← subscript_values d ps (at_those (λ x. 1) D s); Ok (i ∷ is)) v.0 v.1 in
-      let is = bound (subscript_values d ps (at_those (λ x. 1) D s)) (λ is. Ok (i.0 ∷ is)) v.0 i.2 in
-      absurd (let bad : false ≡ true = ap (is_within []) (same_answer (i.0 ∷ is.0) v.0 is.2) ∙ v.2 in cc)
-  selects_all D fit (subscript (Only e) ps) (b ∷ bs) one moves h =
+  selects_all D fit no_subscripts [] one moves v h = record { selected = []; axes = []; known = refl; on = refl; extents = refl; indices = refl; once = λ h. tt; at = λ ι w. refl }
+  selects_all D fit no_subscripts (b ∷ bs) one moves v h =
+      let w = h (λ x. 1) (firsts D fit) in
+      absurd (let bad : false ≡ true = ap (is_within (b ∷ bs)) (same_answer [] w.0 w.1) ∙ w.2 in cc)
+  selects_all D fit (subscript (Section i j k) ps) bs one moves v h = absurd cc
+  selects_all D fit (subscript (Only e) ps) [] one moves v h =
+      let w = h (λ x. 1) (firsts D fit) in
+      let i = bound (subscript_value d (Only e) (at_those (λ x. 1) D s)) (λ i. do is ← subscript_values d ps (at_those (λ x. 1) D s); Ok (i ∷ is)) w.0 w.1 in
+      let is = bound (subscript_values d ps (at_those (λ x. 1) D s)) (λ is. Ok (i.0 ∷ is)) w.0 i.2 in
+      absurd (let bad : false ≡ true = ap (is_within []) (same_answer (i.0 ∷ is.0) w.0 is.2) ∙ w.2 in cc)
+  selects_all D fit (subscript (Only e) ps) (b ∷ bs) one moves v h =
       let hs = loops_among D (names_in e) in
       let o = form_of (variables_of a.loops) a.symbols e in
       let ones = both (nat_le (length hs) 1) (one_each D ps) one in
-      let moved = both (is_moved a hs o) (are_moved a D ps) moves in
-      before D e (subscript_form a hs e (form a hs e)) b ps (subscript_forms a D ps) bs hs (loops_in_order D ps)
-      (selects_here D fit e (form a hs e) b hs refl ones.0 o refl moved.0 (λ ι w. let v = h ι w in let p = parted (at_those ι D s) e ps b bs v.0 v.1 v.2 in (p.0, p.2, p.4)))
-      (selects_all D fit ps bs ones.1 moved.1 (λ ι w. let v = h ι w in let p = parted (at_those ι D s) e ps b bs v.0 v.1 v.2 in (p.1, p.3, p.5)))
+      let other = is_regular a hs e in
+      let moved = both (is_moved a hs o other) (are_regular_subscripts a D ps) moves in
+      before D e (subscript_form a hs e (form a hs e)) b ps (subscript_forms a D ps) bs hs (loops_in_order D ps) (both (is_moved a hs o false) (are_moved a D ps))
+      (selects_here D fit e b hs refl ones.0 o other refl moved.0 v.0 (λ ι w. let u = h ι w in let p = parted (at_those ι D s) e ps b bs u.0 u.1 u.2 in (p.0, p.2, p.4)))
+      (selects_all D fit ps bs ones.1 moved.1 v.1 (λ ι w. let u = h ι w in let p = parted (at_those ι D s) e ps b bs u.0 u.1 u.2 in (p.1, p.3, p.5)))
 
   -- ---- positions
 
@@ -450,7 +556,7 @@ module _ (d : Dialect) (a : Surroundings) (s : Store) (xs : List ℤ) (few : len
       record { numbers = zs.0; known = zs.1; within = f.0; held = f.1 }
 
   module _ (D : List Loop) (fit : Fit D) (x : List ℕ) (e : Expression) (ps : Subscripts) (bs : List (ℤ × ℤ)) (bounds : s.bounds x ≡ Some bs) (one : one_each D (subscript (Only e) ps) ≡ true)
-      (moves : are_moved a D (subscript (Only e) ps) ≡ true) (nf : NoFault D (Named x (subscript (Only e) ps))) where
+      (moves : are_regular_subscripts a D (subscript (Only e) ps) ≡ true) (vectors : Vectors D (subscript (Only e) ps)) (nf : NoFault D (Named x (subscript (Only e) ps))) where
     abbrev pub whole : Subscripts
     whole = subscript (Only e) ps
 
@@ -464,7 +570,7 @@ module _ (d : Dialect) (a : Surroundings) (s : Store) (xs : List ℤ) (few : len
     element ι w = element_there x whole bs (at_those ι D s) (nf ι w).0 (bounds_there ι) (nf ι w).1
 
     pub picks : SelectsAll D whole formed bs (loops_in_order D whole)
-    picks = selects_all D fit whole bs one moves (λ ι w. let m = element ι w in (m.numbers, m.known, m.within))
+    picks = selects_all D fit whole bs one moves vectors (λ ι w. let m = element ι w in (m.numbers, m.known, m.within))
 
     pub axes_there : axes_named d (record { name = x; subscripts = formed }) s ≡ Ok picks.axes
     axes_there = ap₂ (λ (r : Result (List Selector) Fault) (o : Option (List (ℤ × ℤ))). do zs ← r; b ← bounds_in o; axes_selected formed b zs) picks.known bounds ∙ picks.on

@@ -1,9 +1,18 @@
 -- Worked array forms.
-use Rattle.std.proofs.Common.{◌≡◌, refl, ℕ, ℤ, pos, negsuc, Bool, true, false, List, [], ◌∷◌, Option, Some, None, map}
+use Rattle.std.proofs.Common.{◌≡◌, refl, ℕ, ℤ, pos, negsuc, ◌*ℤ◌, Bool, true, false, if◌then◌else◌, List, [], ◌∷◌, Option, Some, None, Result, Ok, map}
+use Rattle.std.specs.Str.{bytes_eq}
 use Prim.Native.String.{String}
 use Rattle.fv_tree.specs.Plain.{Expression, Number, Named, Unary, Binary, Constructor, Spread, Transpose, Reshape, Subscript, Only, Section, expressions, no_expressions, expression, subscripts, Loops, no_loops, loop, Reference, Assignment, If, no_arms, arm, Block, no_statements, statement}
 use Rattle.fv_tree.specs.declared.ops.Op.TheVariants.{Mul, Div, Neg, Add, Sub, Ge, And}
-use Rattle.fv_meaning.proofs.DeckWords.{n, v, at, part, to_part, to_element, name}
+use Rattle.fv_tree.specs.Steps.{◌>>=◌}
+use Rattle.fv_tree.specs.declared.ops.Fault.{Fault}
+use Rattle.fv_tree.specs.declared.ops.Value.{Value}
+use Rattle.fv_tree.specs.declared.ops.Value.TheVariants.{Int}
+use Rattle.fv_meaning.specs.Dialect.{fortran90}
+use Rattle.fv_meaning.specs.Store.{Store}
+use Rattle.fv_meaning.proofs.DeckWords.{n, v, at, part, to_part, to_element, name, cell}
+use Rattle.array_laws.specs.Instances.{in_turn}
+use Rattle.array_forms.specs.Instances.{in_sequence, instances_of}
 use Rattle.linear_forms.specs.Linear.{Form}
 use Rattle.array_forms.specs.Loops.{Trip, Loop, Surroundings}
 use Rattle.array_forms.specs.Statements.{Hold, FormHold, TriangleHold, hold_at, array_form_of}
@@ -155,3 +164,33 @@ triangle_inside = refl
 
 no_hold : hold_at (within three_by_two) 1 (to_element "A" (v "I" ∷ v "J" ∷ [])) ≡ None
 no_hold = refl
+
+-- ---- instances
+
+-- the outermost loop is the slowest one
+in_a_sequential_run : in_sequence (2 ∷ 3 ∷ []) ≡ (1 ∷ 1 ∷ []) ∷ (1 ∷ 2 ∷ []) ∷ (1 ∷ 3 ∷ []) ∷ (2 ∷ 1 ∷ []) ∷ (2 ∷ 2 ∷ []) ∷ (2 ∷ 3 ∷ []) ∷ []
+in_a_sequential_run = refl
+
+-- A(1:4) holds 10, 20, 30 and 40
+abbrev first_of : List ℤ → ℤ
+first_of [] = pos 0
+first_of (z ∷ zs) = z
+
+abbrev tens : Store
+tens = record { bounds = λ x. if bytes_eq x (name "A") then Some ((pos 1, pos 4) ∷ []) else Some []; held = λ c. Int (pos 10 *ℤ first_of c.subscripts) }
+
+abbrev held_in_turn : Reference → Expression → Result (List Value) Fault
+held_in_turn left right = do
+  s ← in_turn (instances_of fortran90 (through "I" 3 ∷ []) (3 ∷ []) left right) tens
+  Ok (map (λ z. s.held (cell "A" (z ∷ []))) (pos 1 ∷ pos 2 ∷ pos 3 ∷ pos 4 ∷ []))
+
+abbrev values : List ℕ → List Value
+values ks = map (λ k. Int (pos k)) ks
+
+-- A(I) = A(I+1): no instance reads what an earlier one has written
+forward : held_in_turn (to_element "A" (v "I" ∷ [])) (at "A" (Binary Add (v "I") (n 1) ∷ [])) ≡ Ok (values (20 ∷ 30 ∷ 40 ∷ 40 ∷ []))
+forward = refl
+
+-- A(I+1) = A(I): each reads what the one before it has written
+backward : held_in_turn (to_element "A" (Binary Add (v "I") (n 1) ∷ [])) (at "A" (v "I" ∷ [])) ≡ Ok (values (10 ∷ 10 ∷ 10 ∷ 10 ∷ []))
+backward = refl

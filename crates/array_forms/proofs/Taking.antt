@@ -1,10 +1,10 @@
 -- Every form has, position by position, the values of its expression.
-use Rattle.std.proofs.Common.{◌≡◌, refl, sym, ap, ◌∙◌, subst, ◌⊎◌, inl, inr, ℕ, zero, suc, ◌+◌, ◌-◌, ◌≤◌, ◌<◌, ℤ, Bool, true, false, cond, ◌&&◌, ◌||◌, not, List, [], ◌∷◌, ◌++◌, map, length, Result, Ok, Err, Option, Some, None, arith, Contains}
+use Rattle.std.proofs.Common.{◌≡◌, refl, sym, ap, ◌∙◌, subst, ◌⊎◌, inl, inr, ℕ, zero, suc, ◌+◌, ◌-◌, ◌≤◌, ◌<◌, ℤ, pos, Bool, true, false, cond, ◌&&◌, ◌||◌, not, List, [], ◌∷◌, ◌++◌, map, length, Result, Ok, Err, Option, Some, None, arith, Contains}
 use Rattle.std.specs.Str.{bytes_eq}
 use Rattle.std.proofs.lemmas.List.Elements.{Contains-append_cases}
 use Rattle.std.proofs.lemmas.Slice.Eq.{bytes_eq-Decides}
 use mathlib.Core.Path.{ap₂}
-use Rattle.fv_tree.specs.Operators.{apply, call}
+use Rattle.fv_tree.specs.Operators.{apply, call, as_number}
 use Rattle.fv_tree.specs.Plain.{Expression, Number, Logic, Named, Unary, Binary, Apply, Constructor, Spread, Transpose, Reshape, Reduce, Expressions, no_expressions, expression, Subscript, Only, Section, Subscripts, no_subscripts, subscript}
 use Rattle.fv_tree.specs.Steps.{◌>>=◌}
 use Rattle.fv_tree.specs.declared.ops.Fault.{Fault}
@@ -16,20 +16,20 @@ use Rattle.fv_meaning.specs.Dialect.{Dialect}
 use Rattle.fv_meaning.specs.Reads.{names_in, names_in_each, names_in_subscripts, names_in_subscript}
 use Rattle.fv_meaning.specs.Sections.{extents_of, cells_along}
 use Rattle.fv_meaning.specs.Store.{Store, Cell, cell_in, cell_at, is_within}
-use Rattle.fv_meaning.specs.Value.{value_of, values_of, subscript_value, subscript_values, array_of, selectors, is_scalar}
+use Rattle.fv_meaning.specs.Value.{value_of, values_of, subscript_value, subscript_values, array_of, selectors, is_scalar, bound_to}
 use Rattle.array_laws.specs.Elements.{subscripts_at}
 use Rattle.array_laws.proofs.Members.{here, there, nowhere, cases_of}
 use Rattle.array_laws.proofs.Sections.{section_of, element_of_section}
 use Rattle.array_laws.proofs.Stages.{bound, same_answer}
-use Rattle.linear_forms.specs.Linear.{HaveValues}
+use Rattle.linear_forms.specs.Linear.{Form, HaveValues, form_of}
 use Rattle.linear_forms.proofs.Sizes.{both}
-use Rattle.array_forms.specs.Following.{has_none, are_moved, is_regular, are_regular, is_regular_reference}
+use Rattle.array_forms.specs.Following.{has_none, is_moved, is_regular, are_regular, are_regular_subscripts}
 use Rattle.array_forms.specs.Forms.{placed, constructed, name_form, form, forms, subscript_forms}
 use Rattle.array_forms.specs.Instances.{at_iterations, count_of, counts_of}
 use Rattle.array_forms.specs.Laws.{Turns, AreKnown, AreTurning, store_at, HasValues, HasInstanceValues, FormHasInstanceValues}
 use Rattle.array_forms.specs.Loops.{Loop, Surroundings, variables_of, names_of, is_among, AreDistinct, loops_among, loops_in_order, one_each}
 use Rattle.array_forms.proofs.Axes as axes
-use Rattle.array_forms.proofs.Axes.{Fit, Within, NoFault, Takes, places, stays}
+use Rattle.array_forms.proofs.Axes.{Fit, Within, NoFault, Takes, Vectors, places, stays}
 use Rattle.array_forms.proofs.Forming.{unary, binary, HasEach, no_arguments, one_argument, applied, none_append}
 use Rattle.array_forms.proofs.Iterations.{iterations, at_those, bounds_at, element_at, value_part}
 use Rattle.array_forms.proofs.Names.{among, among_is}
@@ -86,6 +86,9 @@ module _ (d : Dialect) (bits : d.bits ≡ 31) (a : Surroundings) (D : List Loop)
   abbrev OverThese : List Loop → Expression → ((List ℕ → ℕ) → Value) → Type 0
   OverThese ls F V = Over d bits a D s xs k t ls F V
 
+  abbrev pub Vecs : Subscripts → Type 0
+  Vecs ps = Vectors d a s xs k.few k.values k.sized k.distinct D ps
+
   abbrev value : Expression → (List ℕ → ℕ) → Value
   value e = value_there d bits a D s xs k t e
 
@@ -111,7 +114,7 @@ module _ (d : Dialect) (bits : d.bits ≡ 31) (a : Surroundings) (D : List Loop)
   -- ---- an element whose subscripts have one loop each at most
 
   module _ (x : List ℕ) (e : Expression) (ps : Subscripts) (bs : List (ℤ × ℤ)) (bounds : s.bounds x ≡ Some bs) (one : one_each D (subscript (Only e) ps) ≡ true)
-      (moves : are_moved a D (subscript (Only e) ps) ≡ true) (safe : Safe (Named x (subscript (Only e) ps))) where
+      (moves : are_regular_subscripts a D (subscript (Only e) ps) ≡ true) (vectors : Vectors d a s xs k.few k.values k.sized k.distinct D (subscript (Only e) ps)) (safe : Safe (Named x (subscript (Only e) ps))) where
     abbrev whole : Subscripts
     whole = subscript (Only e) ps
 
@@ -122,10 +125,10 @@ module _ (d : Dialect) (bits : d.bits ≡ 31) (a : Surroundings) (D : List Loop)
     ls = loops_in_order D whole
 
     abbrev picked : axes.SelectsAll d a s xs k.few k.values k.sized k.distinct D whole formed bs ls
-    picked = axes.picks d a s xs k.few k.values k.sized k.distinct D fits x e ps bs bounds one moves safe
+    picked = axes.picks d a s xs k.few k.values k.sized k.distinct D fits x e ps bs bounds one moves vectors safe
 
     there' : axes_named d (record { name = x; subscripts = formed }) s ≡ Ok picked.axes
-    there' = axes.axes_there d a s xs k.few k.values k.sized k.distinct D fits x e ps bs bounds one moves safe
+    there' = axes.axes_there d a s xs k.few k.values k.sized k.distinct D fits x e ps bs bounds one moves vectors safe
 
     -- the array is no loop variable
     has_some : no_loops_in (Named x whole) ≡ false → has_none ls ≡ false
@@ -138,7 +141,7 @@ module _ (d : Dialect) (bits : d.bits ≡ 31) (a : Surroundings) (D : List Loop)
             let l = first_loop (loops_among D (names_in (Named x whole))) h in
             let m = of_filter (λ (n : Loop). is_among (names_in (Named x whole)) n.variable) D l.0 l.1 in
             let none : has_none (loops_among D (names_in_subscripts whole)) ≡ true = sym (none_in_order D whole) ∙ p in
-            let el = axes.element d a s xs k.few k.values k.sized k.distinct D fits x e ps bs bounds one moves safe ι (axes.firsts d a s xs k.few k.values k.sized k.distinct D fits) in
+            let el = axes.element d a s xs k.few k.values k.sized k.distinct D fits x e ps bs bounds one moves vectors safe ι (axes.firsts d a s xs k.few k.values k.sized k.distinct D fits) in
             let i = bound (subscript_value d (Only e) (at_those ι D s)) (λ i. do is ← subscript_values d ps (at_those ι D s); Ok (i ∷ is)) el.numbers el.known in
             let is = bound (subscript_values d ps (at_those ι D s)) (λ is. Ok (i.0 ∷ is)) el.numbers i.2 in
             either_name l.0 m.0 i.0 is.0 none (cases_of x (names_in_subscripts whole) l.0.variable (among_is (names_in (Named x whole)) l.0.variable m.1)) (ap (is_within bs) (same_answer (i.0 ∷ is.0) el.numbers is.2) ∙ el.within)
@@ -163,14 +166,14 @@ module _ (d : Dialect) (bits : d.bits ≡ 31) (a : Surroundings) (D : List Loop)
       at = λ ι w.
           sym (ap (λ (r : Result (Elements Value) Fault). do g ← r; g.at (spots ι ls)) (section_of s.held x formed picked.axes (selectors d formed s) (s.bounds x) there'))
           ∙ (element_of_section d x formed s picked.axes (spots ι ls) there' (subst (λ ns. Contains (positions ns) (spots ι ls)) (sym picked.extents) (axes.contained d a s xs k.few k.values k.sized k.distinct ls ι (λ l h. w l (all_of_mine D whole l h))))
-          ∙ (ap (λ zs. Ok (s.held (record { name = x; subscripts = zs }))) (sym (axes.cell_there d a s xs k.few k.values k.sized k.distinct D fits x e ps bs bounds one moves safe ι w))
-          ∙ (ap Ok (axes.unchanged d a s xs k.few k.values k.sized k.distinct D fits x e ps bs bounds one moves safe ι w) ∙ (sym (safe ι w).1 ∙ has_value d bits a D s xs k t (Named x whole) safe ι w))));
+          ∙ (ap (λ zs. Ok (s.held (record { name = x; subscripts = zs }))) (sym (axes.cell_there d a s xs k.few k.values k.sized k.distinct D fits x e ps bs bounds one moves vectors safe ι w))
+          ∙ (ap Ok (axes.unchanged d a s xs k.few k.values k.sized k.distinct D fits x e ps bs bounds one moves vectors safe ι w) ∙ (sym (safe ι w).1 ∙ has_value d bits a D s xs k t (Named x whole) safe ι w))));
     }
 
   -- ---- a reference
 
-  reference_over : (x : List ℕ) (ps : Subscripts) → no_loops_in (Named x ps) ≡ false → is_regular_reference a D ps ≡ true → Safe (Named x ps) → OverThese D (form a D (Named x ps)) (value (Named x ps))
-  reference_over x no_subscripts some h safe = by (loops_among D (x ∷ [])) refl some
+  reference_over : (x : List ℕ) (ps : Subscripts) → no_loops_in (Named x ps) ≡ false → (not (one_each D ps) || are_regular_subscripts a D ps) ≡ true → (are_regular_subscripts a D ps ≡ true → Vecs ps) → Safe (Named x ps) → OverThese D (form a D (Named x ps)) (value (Named x ps))
+  reference_over x no_subscripts some h vectors safe = by (loops_among D (x ∷ [])) refl some
     where
       among_these : (ls : List Loop) → loops_among D (x ∷ []) ≡ ls → (l : Loop) → Contains ls l → Contains D l
       among_these ls e l c = (of_filter (λ (m : Loop). is_among (x ∷ []) m.variable) D l (subst (λ ms. Contains ms l) (sym e) c)).0
@@ -181,7 +184,7 @@ module _ (d : Dialect) (bits : d.bits ≡ 31) (a : Surroundings) (D : List Loop)
           placed_over d bits a D s xs k t (l ∷ ls) (constructed (names_of a) (l ∷ ls) (Named x no_subscripts)) (Named x no_subscripts) (among_these (l ∷ ls) e) safe (some_D (x ∷ []) some)
           (constructed_over d bits a D s xs k t (l ∷ ls) (among_these (l ∷ ls) e) (subst (λ ms. AreDistinct (variables_of ms)) e (filter_distinct (λ (m : Loop). is_among (x ∷ []) m.variable) D t.once)) (Named x no_subscripts) safe
           (λ ι. ap (λ ms. value_of d (Named x no_subscripts) (at_those ι ms s)) (sym e) ∙ sym (value_part ι d D (Named x no_subscripts) s)) refl)
-  reference_over x (subscript p ps) some h safe =
+  reference_over x (subscript p ps) some h vectors safe =
       subst (λ F. OverThese D F (value (Named x whole))) (sym (by_loops (loops_among D (names_in (Named x whole))) some)) (by (one_each D whole) refl h)
     where
       whole : Subscripts
@@ -192,25 +195,25 @@ module _ (d : Dialect) (bits : d.bits ≡ 31) (a : Surroundings) (D : List Loop)
       by_loops [] h = absurd cc
       by_loops (l ∷ ls) h = refl
 
-      by : (b : Bool) → one_each D (subscript p ps) ≡ b → (not b || are_moved a D (subscript p ps)) ≡ true
+      by : (b : Bool) → one_each D (subscript p ps) ≡ b → (not b || are_regular_subscripts a D (subscript p ps)) ≡ true
           → OverThese D (cond b (placed a D (loops_in_order D (subscript p ps)) (Named x (subscript_forms a D (subscript p ps))) (Named x (subscript p ps))) (constructed (names_of a) D (Named x (subscript p ps)))) (value (Named x (subscript p ps)))
       by false e h = constructed_over d bits a D s xs k t D (λ l c. c) t.once (Named x (subscript p ps)) safe (λ ι. refl) (some_D (names_in (Named x (subscript p ps))) some)
       by true e h =
           placed_over d bits a D s xs k t (loops_in_order D (subscript p ps)) (Named x (subscript_forms a D (subscript p ps))) (Named x (subscript p ps)) (all_of_mine D (subscript p ps)) safe (some_D (names_in (Named x (subscript p ps))) some) (plain p refl e h)
         where
-          plain : (q : Subscript) → p ≡ q → one_each D (subscript p ps) ≡ true → are_moved a D (subscript p ps) ≡ true → OverThese (loops_in_order D (subscript p ps)) (Named x (subscript_forms a D (subscript p ps))) (value (Named x (subscript p ps)))
-          plain (Section i j n) e o m = absurd (let bad : false ≡ true = ap (λ r. are_moved a D (subscript r ps)) (sym e) ∙ m in cc)
+          plain : (q : Subscript) → p ≡ q → one_each D (subscript p ps) ≡ true → are_regular_subscripts a D (subscript p ps) ≡ true → OverThese (loops_in_order D (subscript p ps)) (Named x (subscript_forms a D (subscript p ps))) (value (Named x (subscript p ps)))
+          plain (Section i j n) e o m = absurd (let bad : false ≡ true = ap (λ r. are_regular_subscripts a D (subscript r ps)) (sym e) ∙ m in cc)
           plain (Only i) e o m =
               subst (λ (r : Subscript). OverThese (loops_in_order D (subscript r ps)) (Named x (subscript_forms a D (subscript r ps))) (value (Named x (subscript r ps)))) (sym e)
-              (at_element i (subst (λ (r : Subscript). no_loops_in (Named x (subscript r ps)) ≡ false) e some) (ap (λ r. one_each D (subscript r ps)) (sym e) ∙ o) (ap (λ r. are_moved a D (subscript r ps)) (sym e) ∙ m)
+              (at_element i (subst (λ (r : Subscript). no_loops_in (Named x (subscript r ps)) ≡ false) e some) (ap (λ r. one_each D (subscript r ps)) (sym e) ∙ o) (ap (λ r. are_regular_subscripts a D (subscript r ps)) (sym e) ∙ m) (subst (λ (r : Subscript). Vecs (subscript r ps)) e (vectors m))
               (subst (λ (r : Subscript). Safe (Named x (subscript r ps))) e safe))
             where
-              at_element : (i : Expression) → no_loops_in (Named x (subscript (Only i) ps)) ≡ false → one_each D (subscript (Only i) ps) ≡ true → are_moved a D (subscript (Only i) ps) ≡ true → Safe (Named x (subscript (Only i) ps))
+              at_element : (i : Expression) → no_loops_in (Named x (subscript (Only i) ps)) ≡ false → one_each D (subscript (Only i) ps) ≡ true → are_regular_subscripts a D (subscript (Only i) ps) ≡ true → Vecs (subscript (Only i) ps) → Safe (Named x (subscript (Only i) ps))
                   → OverThese (loops_in_order D (subscript (Only i) ps)) (Named x (subscript_forms a D (subscript (Only i) ps))) (value (Named x (subscript (Only i) ps)))
-              at_element i some o m safe = by_bounds (s.bounds x) refl
+              at_element i some o m vs safe = by_bounds (s.bounds x) refl
                 where
                   by_bounds : (b : Option (List (ℤ × ℤ))) → s.bounds x ≡ b → OverThese (loops_in_order D (subscript (Only i) ps)) (Named x (subscript_forms a D (subscript (Only i) ps))) (value (Named x (subscript (Only i) ps)))
-                  by_bounds (Some bs) b = element_over x i ps bs b o m safe some
+                  by_bounds (Some bs) b = element_over x i ps bs b o m vs safe some
                   by_bounds None b =
                       let ι : List ℕ → ℕ = λ y. 1 in
                       let u = at_those ι D s in
@@ -227,66 +230,159 @@ module _ (d : Dialect) (bits : d.bits ≡ 31) (a : Surroundings) (D : List Loop)
   still : (e : Expression) → no_loops_in e ≡ true → Safe e → Has e e
   still e none safe = stays d a s xs k.few k.values k.sized k.distinct D fits e none safe
 
-  reference : (x : List ℕ) (ps : Subscripts) → (no_loops_in (Named x ps) || is_regular_reference a D ps) ≡ true → Safe (Named x ps) → Has (Named x ps) (form a D (Named x ps))
-  reference x ps h safe = by (or_cases (no_loops_in (Named x ps)) (is_regular_reference a D ps) h)
+  reference : (x : List ℕ) (ps : Subscripts) → (no_loops_in (Named x ps) || (not (one_each D ps) || are_regular_subscripts a D ps)) ≡ true → (are_regular_subscripts a D ps ≡ true → Vecs ps) → Safe (Named x ps) → Has (Named x ps) (form a D (Named x ps))
+  reference x ps h vectors safe = by (or_cases (no_loops_in (Named x ps)) ((not (one_each D ps) || are_regular_subscripts a D ps)) h)
     where
       without_loops : (ls : List Loop) → has_none ls ≡ true → name_form a D ls x ps (subscript_forms a D ps) ≡ Named x ps
       without_loops [] e = refl
       without_loops (l ∷ ls) e = absurd cc
 
-      by : (no_loops_in (Named x ps) ≡ true) ⊎ ((no_loops_in (Named x ps) ≡ false) × (is_regular_reference a D ps ≡ true)) → Has (Named x ps) (form a D (Named x ps))
+      by : (no_loops_in (Named x ps) ≡ true) ⊎ ((no_loops_in (Named x ps) ≡ false) × ((not (one_each D ps) || are_regular_subscripts a D ps) ≡ true)) → Has (Named x ps) (form a D (Named x ps))
       by (inl none) = subst (Has (Named x ps)) (sym (without_loops (loops_among D (names_in (Named x ps))) none)) (still (Named x ps) none safe)
-      by (inr some) = from_over (Named x ps) (form a D (Named x ps)) safe some.0 (reference_over x ps some.0 some.1 safe)
+      by (inr some) = from_over (Named x ps) (form a D (Named x ps)) safe some.0 (reference_over x ps some.0 some.1 vectors safe)
 
-  -- ---- all of it
+  -- a subscript of one loop by its form
+  vector : (l : Loop) → Contains D l → (e : Expression) → loops_among D (names_in e) ≡ l ∷ [] → Takes d a s xs k.few k.values k.sized k.distinct (l ∷ []) e (form a (l ∷ []) e) → axes.IsVector d a s xs k.few k.values k.sized k.distinct l e (form a (l ∷ []) e)
+  vector l c e only_one h = record {
+    array = h.array;
+    known = h.known;
+    extents = h.extents ∙ ap (λ b. cond b [] (count_of xs l ∷ [])) some;
+    scalar = h.scalar ∙ some;
+    at = λ i low. ap (λ j. h.array.at (j ∷ [])) (let same : i ≡ suc i - 1 = omega arith in same) ∙ h.at (λ y. suc i) (λ m g. within i low m (sole m g));
+  }
+    where
+      stands : is_among (names_in e) l.variable ≡ true
+      stands = (of_filter (λ (m : Loop). is_among (names_in e) m.variable) D l (subst (λ ms. Contains ms l) (sym only_one) (here l []))).1
 
-  nothing : (ls : List Loop) → has_none (loops_among ls []) ≡ true
-  nothing [] = refl
-  nothing (l ∷ ls) = nothing ls
+      some : has_none (loops_among (l ∷ []) (names_in e)) ≡ false
+      some = ap (λ b. has_none (cond b (l ∷ []) [])) stands
 
-  abbrev SafeEach : Expressions → Type 0
-  SafeEach es = (ι : List ℕ → ℕ) → In ι → (vs : List Value) × (values_of d es (at_those ι D s) ≡ Ok vs)
+      sole : (m : Loop) → Contains (l ∷ []) m → l ≡ m
+      sole m g = of (cases_of l [] m g)
+        where
+          of : (l ≡ m) ⊎ Contains [] m → l ≡ m
+          of (inl q) = q
+          of (inr n) = absurd (nowhere m n)
 
-  abbrev Each : Expressions → Expressions → Bool → Type 0
-  Each es Fs b = HasEach d a s xs k.few k.values k.sized k.distinct D fits es Fs b
+      within : (i : ℕ) → i < count_of xs l → (m : Loop) → l ≡ m → (1 ≤ suc i) × (suc i ≤ count_of xs m)
+      within i low m q = (omega arith, subst (λ (n : Loop). suc i ≤ count_of xs n) q (omega (arith, low)))
+
+  -- one loop alone
+  one_turning : (l : Loop) → Contains D l → AreTurning a (l ∷ []) xs
+  one_turning l c = record {
+    loops = λ m g. t.loops m (to_D m g);
+    once = (refl, tt);
+    turns = λ m g. t.turns m (to_D m g);
+    apart = λ m n g h ne. t.apart m n (to_D m g) (to_D n h) ne;
+  }
+    where
+      to_D : (m : Loop) → Contains (l ∷ []) m → Contains D m
+      to_D m g = of (cases_of l [] m g)
+        where
+          of : (l ≡ m) ⊎ Contains [] m → Contains D m
+          of (inl q) = subst (Contains D) q c
+          of (inr n) = absurd (nowhere m n)
+
+  -- at each iteration of its loop it has a value
+  one_safe : (l : Loop) → Contains D l → (e : Expression) → loops_among D (names_in e) ≡ l ∷ [] → Safe e → NoFault d a s xs k.few k.values k.sized k.distinct (l ∷ []) e
+  one_safe l c e only_one safe ι w =
+      let b = w l (here l []) in
+      let κ = axes.only d a s xs k.few k.values k.sized k.distinct l (ι l.variable) in
+      let v = safe κ (axes.only_within d a s xs k.few k.values k.sized k.distinct D fits l c (ι l.variable) b.0 b.1) in
+      (v.0, ap (λ i. value_of d e (bound_to l.variable (pos i) s)) (sym (axes.only_itself d a s xs k.few k.values k.sized k.distinct l (ι l.variable)))
+        ∙ (sym (value_part κ d D e s ∙ ap (λ ms. value_of d e (at_those κ ms s)) only_one) ∙ v.1))
+
+-- ---- all of it
+
+nothing : (ls : List Loop) → has_none (loops_among ls []) ≡ true
+nothing [] = refl
+nothing (l ∷ ls) = nothing ls
+
+module _ (d : Dialect) (bits : d.bits ≡ 31) (a : Surroundings) (s : Store) (xs : List ℤ) (k : AreKnown a s xs) where
+  abbrev InD : List Loop → (List ℕ → ℕ) → Type 0
+  InD D ι = Within d a s xs k.few k.values k.sized k.distinct D ι
+
+  abbrev SafeD : List Loop → Expression → Type 0
+  SafeD D e = NoFault d a s xs k.few k.values k.sized k.distinct D e
+
+  abbrev HasD : List Loop → Expression → Expression → Type 0
+  HasD D e F = Takes d a s xs k.few k.values k.sized k.distinct D e F
+
+  abbrev SafeEach : List Loop → Expressions → Type 0
+  SafeEach D es = (ι : List ℕ → ℕ) → InD D ι → (vs : List Value) × (values_of d es (at_those ι D s) ≡ Ok vs)
+
+  abbrev SafeSubscripts : List Loop → Subscripts → Type 0
+  SafeSubscripts D ps = (ι : List ℕ → ℕ) → InD D ι → (zs : List ℤ) × (subscript_values d ps (at_those ι D s) ≡ Ok zs)
+
+  abbrev fitD : (D : List Loop) → AreTurning a D xs → Fit d a s xs k.few k.values k.sized k.distinct D
+  fitD D t = fit d bits a D s xs k t
+
+  -- a subscript's vector, where it needs one
+  vector_for : (D : List Loop) (t : AreTurning a D xs) (e : Expression) (hs : List Loop) → loops_among D (names_in e) ≡ hs → (o : Option Form) → is_moved a hs o (is_regular a hs e) ≡ true
+      → ((l : Loop) → hs ≡ l ∷ [] → is_regular a hs e ≡ true → HasD (l ∷ []) e (form a (l ∷ []) e)) → axes.VectorFor d a s xs k.few k.values k.sized k.distinct hs e o
+  vector_for D t e [] p o h f = tt
+  vector_for D t e (l ∷ []) p (Some g) h f = tt
+  vector_for D t e (l ∷ []) p None h f = vector d bits a D s xs k t l (of_filter (λ (m : Loop). is_among (names_in e) m.variable) D l (subst (λ ms. Contains ms l) (sym p) (here l []))).0 e p (f l refl h)
+  vector_for D t e (l ∷ m ∷ hs) p o h f = tt
 
   mutual
-    pub takes : (e : Expression) → is_regular a D e ≡ true → Safe e → Has e (form a D e)
-    takes (Number n) h safe = still (Number n) (nothing D) safe
-    takes (Logic b) h safe = still (Logic b) (nothing D) safe
-    takes (Named x ps) h safe = reference x ps h safe
-    takes (Unary o e) h safe = unary d a s xs k.few k.values k.sized k.distinct D fits o e (form a D e) (takes e h (λ ι w. let v = safe ι w in let x = bound (value_of d e (at_those ι D s)) (λ x. apply o x x) v.0 v.1 in (x.0, x.1)))
-    takes (Binary o e f) h safe =
+    pub takes : (e : Expression) (D : List Loop) (t : AreTurning a D xs) → is_regular a D e ≡ true → SafeD D e → HasD D e (form a D e)
+    takes (Number n) D t h safe = still d bits a D s xs k t (Number n) (nothing D) safe
+    takes (Logic b) D t h safe = still d bits a D s xs k t (Logic b) (nothing D) safe
+    takes (Named x ps) D t h safe = reference d bits a D s xs k t x ps h
+        (λ regular. vectors ps D t regular (λ ι w. let v = safe ι w in let zs = bound (subscript_values d ps (at_those ι D s)) (λ is. do c ← cell_at x is (at_those ι D s); Ok ((at_those ι D s).held c)) v.0 v.1 in (zs.0, zs.1))) safe
+    takes (Unary o e) D t h safe = unary d a s xs k.few k.values k.sized k.distinct D (fitD D t) o e (form a D e) (takes e D t h (λ ι w. let v = safe ι w in let x = bound (value_of d e (at_those ι D s)) (λ x. apply o x x) v.0 v.1 in (x.0, x.1)))
+    takes (Binary o e f) D t h safe =
         let parts = both (is_regular a D e) (is_regular a D f) h in
-        binary d a s xs k.few k.values k.sized k.distinct D fits o e f (form a D e) (form a D f)
-        (takes e parts.0 (λ ι w. let v = safe ι w in let x = bound (value_of d e (at_those ι D s)) (λ x. do y ← value_of d f (at_those ι D s); apply o x y) v.0 v.1 in (x.0, x.1)))
-        (takes f parts.1 (λ ι w.
+        binary d a s xs k.few k.values k.sized k.distinct D (fitD D t) o e f (form a D e) (form a D f)
+        (takes e D t parts.0 (λ ι w. let v = safe ι w in let x = bound (value_of d e (at_those ι D s)) (λ x. do y ← value_of d f (at_those ι D s); apply o x y) v.0 v.1 in (x.0, x.1)))
+        (takes f D t parts.1 (λ ι w.
           let v = safe ι w in
           let x = bound (value_of d e (at_those ι D s)) (λ x. do y ← value_of d f (at_those ι D s); apply o x y) v.0 v.1 in
           let y = bound (value_of d f (at_those ι D s)) (λ y. apply o x.0 y) v.0 x.2 in (y.0, y.1)))
-    takes (Apply f es) h safe = applied d a s xs k.few k.values k.sized k.distinct D fits f es (forms a D es) (takes_each es true h (λ ι w. let v = safe ι w in let x = bound (values_of d es (at_those ι D s)) (λ ys. call f ys) v.0 v.1 in (x.0, x.1)))
-    takes (Reduce r e) h safe = still (Reduce r e) h safe
-    takes (Constructor es ls) h safe = absurd cc
-    takes (Spread e n f) h safe = absurd cc
-    takes (Transpose e) h safe = absurd cc
-    takes (Reshape e es) h safe = absurd cc
+    takes (Apply f es) D t h safe = applied d a s xs k.few k.values k.sized k.distinct D (fitD D t) f es (forms a D es)
+        (takes_each es D t true h (λ ι w. let v = safe ι w in let x = bound (values_of d es (at_those ι D s)) (λ ys. call f ys) v.0 v.1 in (x.0, x.1)))
+    takes (Reduce r e) D t h safe = still d bits a D s xs k t (Reduce r e) h safe
+    takes (Constructor es ls) D t h safe = absurd cc
+    takes (Spread e n f) D t h safe = absurd cc
+    takes (Transpose e) D t h safe = absurd cc
+    takes (Reshape e es) D t h safe = absurd cc
 
-    takes_each : (es : Expressions) (b : Bool) → are_regular a D es ≡ true → SafeEach es → Each es (forms a D es) b
-    takes_each no_expressions b h safe = no_arguments d a s xs k.few k.values k.sized k.distinct D fits b
-    takes_each (expression e es) b h safe =
+    takes_each : (es : Expressions) (D : List Loop) (t : AreTurning a D xs) (b : Bool) → are_regular a D es ≡ true → SafeEach D es → HasEach d a s xs k.few k.values k.sized k.distinct D (fitD D t) es (forms a D es) b
+    takes_each no_expressions D t b h safe = no_arguments d a s xs k.few k.values k.sized k.distinct D (fitD D t) b
+    takes_each (expression e es) D t b h safe =
         let parts = both (is_regular a D e) (are_regular a D es) h in
-        one_argument d a s xs k.few k.values k.sized k.distinct D fits e (form a D e) es (forms a D es) b
-        (takes e parts.0 (λ ι w. let v = safe ι w in let x = bound (value_of d e (at_those ι D s)) (λ x. do ys ← values_of d es (at_those ι D s); Ok (x ∷ ys)) v.0 v.1 in (x.0, x.1)))
-        (takes_each es (b && no_loops_in e) parts.1 (λ ι w.
+        one_argument d a s xs k.few k.values k.sized k.distinct D (fitD D t) e (form a D e) es (forms a D es) b
+        (takes e D t parts.0 (λ ι w. let v = safe ι w in let x = bound (value_of d e (at_those ι D s)) (λ x. do ys ← values_of d es (at_those ι D s); Ok (x ∷ ys)) v.0 v.1 in (x.0, x.1)))
+        (takes_each es D t (b && has_none (loops_among D (names_in e))) parts.1 (λ ι w.
           let v = safe ι w in
           let x = bound (value_of d e (at_those ι D s)) (λ x. do ys ← values_of d es (at_those ι D s); Ok (x ∷ ys)) v.0 v.1 in
           let ys = bound (values_of d es (at_those ι D s)) (λ ys. Ok (x.0 ∷ ys)) v.0 x.2 in (ys.0, ys.1)))
+
+    vectors : (ps : Subscripts) (D : List Loop) (t : AreTurning a D xs) → are_regular_subscripts a D ps ≡ true → SafeSubscripts D ps → Vectors d a s xs k.few k.values k.sized k.distinct D ps
+    vectors no_subscripts D t h safe = tt
+    vectors (subscript (Section i j n) ps) D t h safe = tt
+    vectors (subscript (Only e) ps) D t h safe =
+        let hs = loops_among D (names_in e) in
+        let o = form_of (variables_of a.loops) a.symbols e in
+        let parts = both (is_moved a hs o (is_regular a hs e)) (are_regular_subscripts a D ps) h in
+        let one : SafeD D e = λ ι w.
+          let v = safe ι w in
+          let i = bound (subscript_value d (Only e) (at_those ι D s)) (λ i. do is ← subscript_values d ps (at_those ι D s); Ok (i ∷ is)) v.0 v.1 in
+          let x = bound (value_of d e (at_those ι D s)) (λ x. as_number x) i.0 i.1 in (x.0, x.1) in
+        (vector_for D t e hs refl o parts.0 (λ l p regular.
+          let c = (of_filter (λ (m : Loop). is_among (names_in e) m.variable) D l (subst (λ ms. Contains ms l) (sym p) (here l []))).0 in
+          takes e (l ∷ []) (one_turning d bits a D s xs k t l c) (ap (λ ms. is_regular a ms e) (sym p) ∙ regular) (one_safe d bits a D s xs k t l c e p one)),
+        vectors ps D t parts.1 (λ ι w.
+          let v = safe ι w in
+          let i = bound (subscript_value d (Only e) (at_those ι D s)) (λ i. do is ← subscript_values d ps (at_those ι D s); Ok (i ∷ is)) v.0 v.1 in
+          let is = bound (subscript_values d ps (at_those ι D s)) (λ is. Ok (i.0 ∷ is)) v.0 i.2 in (is.0, is.1)))
 
 -- ---- the law
 
 pub form_has_instance_values : FormHasInstanceValues
 form_has_instance_values lang a D e s xs bits k t regular has =
-    let h = takes lang bits a D s xs k t e regular safe in
+    let h = takes lang bits a s xs k e D t regular safe in
     record {
       array = h.array;
       known = h.known;

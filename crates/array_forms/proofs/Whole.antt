@@ -32,10 +32,12 @@ use Rattle.array_laws.proofs.Members.{here, there, nowhere, cases_of, in_map, of
 use Rattle.array_laws.proofs.OneToOne.{positions_are_one_to_one}
 use Rattle.array_laws.proofs.Stages.{bound, same_answer, Split, split}
 use Rattle.array_laws.proofs.Turns.{in_turn_is_at_once}
-use Rattle.array_forms.specs.Following.{has_none, are_moved, is_regular}
+use Rattle.linear_forms.specs.Linear.{Form, form_of}
+use Rattle.linear_forms.proofs.Sizes.{both}
+use Rattle.array_forms.specs.Following.{has_none, is_moved, are_moved, is_regular, are_regular_subscripts}
 use Rattle.array_forms.specs.Forms.{trip_text, form, subscript_forms}
 use Rattle.array_forms.specs.Instances.{at_iterations, count_of, counts_of, in_sequence, instance_at, instances_of}
-use Rattle.array_forms.specs.Laws.{Turns, AreKnown, AreTurning, ArrayFormStoresInstances}
+use Rattle.array_forms.specs.Laws.{Turns, AreKnown, AreTurning, instances_from, OwnCells, InstancesHaveOwnCells, ArrayFormStoresInstances}
 use Rattle.array_forms.specs.Loops.{Loop, Surroundings, variables_of, names_of, AreDistinct, is_positive_constant, loops_in_order, same_loops, loops_among}
 use Rattle.array_forms.specs.Statements.{Hold, loops_from, hold_at, loops_assigned, left_form, right_form, tests_of, and_all, guarded_by, array_form_of}
 use Rattle.array_forms.proofs.Axes as axes
@@ -138,12 +140,42 @@ from_within : (xs : List ℤ) (ι : List ℕ → ℕ) (ls : List Loop) → ((l :
 from_within xs ι [] h = tt
 from_within xs ι (l ∷ ls) h = let b = h l (here l ls) in let low = b.0 in let high = b.1 in ((low, omega (arith, high)), from_within xs ι ls (λ m g. h m (there l ls m g)))
 
+-- ---- linear subscripts
+
+linear_one : (a : Surroundings) (hs : List Loop) (o : Option Form) (other : Bool) → is_moved a hs o false ≡ true → is_moved a hs o other ≡ true
+linear_one a [] o other h = refl
+linear_one a (l ∷ hs) (Some f) other h = h
+linear_one a (l ∷ hs) None other h = absurd cc
+
+linear_regular : (a : Surroundings) (D : List Loop) (ps : Subscripts) → are_moved a D ps ≡ true → are_regular_subscripts a D ps ≡ true
+linear_regular a D no_subscripts h = refl
+linear_regular a D (subscript (Section i j k) ps) h = absurd cc
+linear_regular a D (subscript (Only e) ps) h =
+    let hs = loops_among D (names_in e) in
+    let o = form_of (variables_of a.loops) a.symbols e in
+    let parts = both (is_moved a hs o false) (are_moved a D ps) h in
+    ap₂ (λ p q. p && q) (linear_one a hs o (is_regular a hs e) parts.0) (linear_regular a D ps parts.1)
+
+no_vector : (d : Dialect) (a : Surroundings) (s : Store) (xs : List ℤ) (k : AreKnown a s xs) (e : Expression) (hs : List Loop) (o : Option Form) → is_moved a hs o false ≡ true → axes.VectorFor d a s xs k.few k.values k.sized k.distinct hs e o
+no_vector d a s xs k e [] o h = tt
+no_vector d a s xs k e (l ∷ []) (Some f) h = tt
+no_vector d a s xs k e (l ∷ []) None h = absurd cc
+no_vector d a s xs k e (l ∷ m ∷ hs) o h = tt
+
+linear_vectors : (d : Dialect) (a : Surroundings) (s : Store) (xs : List ℤ) (k : AreKnown a s xs) (D : List Loop) (ps : Subscripts) → are_moved a D ps ≡ true → axes.Vectors d a s xs k.few k.values k.sized k.distinct D ps
+linear_vectors d a s xs k D no_subscripts h = tt
+linear_vectors d a s xs k D (subscript (Section i j l) ps) h = tt
+linear_vectors d a s xs k D (subscript (Only e) ps) h =
+    let hs = loops_among D (names_in e) in
+    let o = form_of (variables_of a.loops) a.symbols e in
+    let parts = both (is_moved a hs o false) (are_moved a D ps) h in
+    (no_vector d a s xs k e hs o parts.0, linear_vectors d a s xs k D ps parts.1)
+
 -- ---- the assignment to an element with subscripts
 
 module _ (d : Dialect) (bits : d.bits ≡ 31) (a : Surroundings) (k : ℕ) (s : Store) (xs : List ℤ) (known : AreKnown a s xs) (turns : (l : Loop) → Contains (loops_from a k) l → Turns a xs l)
     (x : List ℕ) (e : Expression) (ps : Subscripts) (right : Expression) (no_hold : hold_at a k (record { name = x; subscripts = subscript (Only e) ps }) ≡ None)
     (moved : are_moved a (loops_assigned a k (record { name = x; subscripts = subscript (Only e) ps })) (subscript (Only e) ps) ≡ true)
-    (straight : is_regular a (loops_assigned a k (record { name = x; subscripts = subscript (Only e) ps })) right ≡ true)
     (t : Store) where
   abbrev left : Reference
   left = record { name = x; subscripts = subscript (Only e) ps }
@@ -212,15 +244,19 @@ module _ (d : Dialect) (bits : d.bits ≡ 31) (a : Surroundings) (k : ℕ) (s : 
         let done = all_done ι w in
         (u.held done.cell, value_of_cell (subscript_values d (subscript (Only e) ps) u) (λ is. cell_at x is u) u.held done.cell done.left_known)
 
-    R_values : Takes d a s xs known.few known.values known.sized known.distinct D right R
-    R_values = takes d bits a D s xs known turning right straight right_safe
+    -- each left subscript with a loop is linear
+    left_regular : are_regular_subscripts a D (subscript (Only e) ps) ≡ true
+    left_regular = linear_regular a D (subscript (Only e) ps) moved
+
+    left_vectors : axes.Vectors d a s xs known.few known.values known.sized known.distinct D (subscript (Only e) ps)
+    left_vectors = linear_vectors d a s xs known D (subscript (Only e) ps) moved
 
     module _ (bs : List (ℤ × ℤ)) (bounds : s.bounds x ≡ Some bs) where
       abbrev picked : axes.SelectsAll d a s xs known.few known.values known.sized known.distinct D (subscript (Only e) ps) (subscript_forms a D (subscript (Only e) ps)) bs (loops_in_order D (subscript (Only e) ps))
-      picked = axes.picks d a s xs known.few known.values known.sized known.distinct D fit x e ps bs bounds order.ones moved left_safe
+      picked = axes.picks d a s xs known.few known.values known.sized known.distinct D fit x e ps bs bounds order.ones left_regular left_vectors left_safe
 
       L_axes : axes_named d L s ≡ Ok picked.axes
-      L_axes = axes.axes_there d a s xs known.few known.values known.sized known.distinct D fit x e ps bs bounds order.ones moved left_safe
+      L_axes = axes.axes_there d a s xs known.few known.values known.sized known.distinct D fit x e ps bs bounds order.ones left_regular left_vectors left_safe
 
       L_extents : extents_of picked.axes ≡ counts_of xs D
       L_extents = picked.extents ∙ ap (counts_of xs) order.same
@@ -229,7 +265,7 @@ module _ (d : Dialect) (bits : d.bits ≡ 31) (a : Surroundings) (k : ℕ) (s : 
       cell_is : (ι : List ℕ → ℕ) → (w : In ι) → (all_done ι w).cell ≡ cell_at_position x picked.axes (spots ι)
       cell_is ι w =
           let u = at_those ι D s in
-          let m = axes.element d a s xs known.few known.values known.sized known.distinct D fit x e ps bs bounds order.ones moved left_safe ι w in
+          let m = axes.element d a s xs known.few known.values known.sized known.distinct D fit x e ps bs bounds order.ones left_regular left_vectors left_safe ι w in
           let c : Cell = record { name = x; subscripts = m.numbers } in
           let there' : u.bounds x ≡ Some bs = ap (λ (b : List ℕ → Option (List (ℤ × ℤ))). b x) (bounds_at ι D s) ∙ bounds in
           let found : cell_named d left u ≡ Ok c =
@@ -237,15 +273,7 @@ module _ (d : Dialect) (bits : d.bits ≡ 31) (a : Surroundings) (k : ℕ) (s : 
           ∙ ap (λ b. let r : Result Cell Fault = cond b (Ok c) (Err Bounds) in r) m.within in
           same_answer (all_done ι w).cell c (sym (all_done ι w).left_known ∙ found)
           ∙ ap (λ zs. let c : Cell = record { name = x; subscripts = zs } in c)
-          (axes.cell_there d a s xs known.few known.values known.sized known.distinct D fit x e ps bs bounds order.ones moved left_safe ι w ∙ ap (λ ls. subscripts_at picked.axes (places d a s xs known.few known.values known.sized known.distinct ι ls)) order.same)
-
-      -- what is stored there is what the instance stores
-      element_effect : (ι : List ℕ → ℕ) → (w : In ι) → (element_assigned d (Logic true) L R (spots ι)).effect s ≡ Ok (Some (cell_at_position x picked.axes (spots ι), (all_done ι w).stored))
-      element_effect ι w =
-          let done = all_done ι w in
-          ap₂ (λ (r : Result (List Axis) Fault) (q : Result Value Fault). do c ← (do axes ← r; Ok (cell_at_position x axes (spots ι))); v ← q; z ← storable d v; Ok (Some (c, z))) L_axes
-          (ap (λ (r : Result (Elements Value) Fault). do g ← r; g.at (spots ι)) R_values.known ∙ (R_values.at ι w ∙ done.right_known))
-          ∙ ap (λ (r : Result Value Fault). do z ← r; Ok (Some (cell_at_position x picked.axes (spots ι), z))) done.stored_known
+          (axes.cell_there d a s xs known.few known.values known.sized known.distinct D fit x e ps bs bounds order.ones left_regular left_vectors left_safe ι w ∙ ap (λ ls. subscripts_at picked.axes (places d a s xs known.few known.values known.sized known.distinct ι ls)) order.same)
 
       instance_effect : (ι : List ℕ → ℕ) → (w : In ι) → (instance_at d mine left right (iterations ι mine)).effect s ≡ Ok (Some (cell_at_position x picked.axes (spots ι), (all_done ι w).stored))
       instance_effect ι w =
@@ -275,41 +303,95 @@ module _ (d : Dialect) (bits : d.bits ≡ 31) (a : Surroundings) (k : ℕ) (s : 
             is = ap (instance_at d mine left right) are ∙ js.2;
           }
 
-      stands : StandsFor d (Logic true) L R picked.axes s instances
-      stands = record {
-        instance_of = λ is c.
-          let b = by_position d a D s xs known turning is (subst (λ ns. Contains (positions ns) is) L_extents c) in
-          (instance_at d mine left right (iterations b.ι mine), in_instances b.ι b.within,
-            ap (λ js. (element_assigned d (Logic true) L R js).effect s) (sym b.places_are) ∙ (element_effect b.ι b.within ∙ sym (instance_effect b.ι b.within)));
-        position_of = λ y c.
-          let n = numbered y c in
-          (spots n.ι, in_extents n.ι n.within, element_effect n.ι n.within ∙ (sym (instance_effect n.ι n.within) ∙ ap (λ (i : Instance). i.effect s) n.is));
-      }
-
       pair_same : (c c' : Cell) (v v' : Value) → ◌≡◌ {A = Result (Option (Cell × Value)) Fault} (Ok (Some (c, v))) (Ok (Some (c', v'))) → (c ≡ c') × (v ≡ v')
       pair_same c c' v v' h = let same : ◌≡◌ {A = Cell × Value} (c, v) (c', v') = cc in (ap (λ (p : Cell × Value). p.0) same, ap (λ (p : Cell × Value). p.1) same)
 
+      -- the names of iterations
+      record Listed (is : List ℕ) : Type 0 where
+        ι : List ℕ → ℕ
+        within : In ι
+        are : iterations ι mine ≡ is
+
+      listed : (is : List ℕ) → Contains (in_sequence (counts_of xs mine)) is → Listed is
+      listed is c =
+          let from = sequence_from (counts_of xs mine) is c in
+          let ι = iteration_of mine is in
+          let are = iterations_are 1 mine (counts_of xs mine) is (distinct_drop (k - 1) a.loops (distinct_front (variables_of a.loops) a.symbols known.distinct)) (same_length xs mine) from in
+          record { ι = ι; within = λ l h. let b = bounded_by xs 1 mine is ι are from l (order.into l h) in let low = b.0 in let high = b.1 in (low, omega (arith, high)); are = are }
+
+      at_member : (f g : Loop → ℕ) (ls : List Loop) → map f ls ≡ map g ls → (l : Loop) → Contains ls l → f l ≡ g l
+      at_member f g [] e l c = absurd (nowhere l c)
+      at_member f g (m ∷ ls) e l c =
+          let first : f m ≡ g m = cc in
+          let others : map f ls ≡ map g ls = cc in
+          by first (cases_of m ls l c) (at_member f g ls others l)
+        where
+          by : f m ≡ g m → (m ≡ l) ⊎ Contains ls l → (Contains ls l → f l ≡ g l) → f l ≡ g l
+          by p (inl q) more = subst (λ (i : Loop). f i ≡ g i) q p
+          by p (inr h) more = more h
+
+      same_on : (ι κ : List ℕ → ℕ) → In ι → In κ → spots ι ≡ spots κ → (ls : List Loop) → ((l : Loop) → Contains ls l → Contains D l) → iterations ι ls ≡ iterations κ ls
+      same_on ι κ v w e [] h = refl
+      same_on ι κ v w e (l ∷ ls) h =
+          let c = h l (here l ls) in
+          let low = (v l c).0 in
+          let low' = (w l c).0 in
+          let same = at_member (λ (m : Loop). ι m.variable - 1) (λ (m : Loop). κ m.variable - 1) D e l c in
+          ap₂ (λ (i : ℕ) (is : List ℕ). i ∷ is) (omega (arith, low, low', same)) (same_on ι κ v w e ls (λ m g. h m (there l ls m g)))
+
+      -- instances with one cell are one
+      own_cells : (is js : List ℕ) (c : Cell) (v w : Value) → Contains (in_sequence (counts_of xs mine)) is → Contains (in_sequence (counts_of xs mine)) js
+          → (instance_at d mine left right is).effect s ≡ Ok (Some (c, v)) → (instance_at d mine left right js).effect s ≡ Ok (Some (c, w)) → is ≡ js
+      own_cells is js c v w hi hj ei ej =
+          let m = listed is hi in
+          let n = listed js hj in
+          let p = pair_same (cell_at_position x picked.axes (spots m.ι)) c (all_done m.ι m.within).stored v (sym (instance_effect m.ι m.within) ∙ (ap (λ ks. (instance_at d mine left right ks).effect s) m.are ∙ ei)) in
+          let q = pair_same (cell_at_position x picked.axes (spots n.ι)) c (all_done n.ι n.within).stored w (sym (instance_effect n.ι n.within) ∙ (ap (λ ks. (instance_at d mine left right ks).effect s) n.are ∙ ej)) in
+          let one = positions_are_one_to_one x picked.axes (spots m.ι) (spots n.ι) (picked.once moved) (in_extents m.ι m.within) (in_extents n.ι n.within) (p.0 ∙ sym q.0) in
+          sym m.are ∙ (same_on m.ι n.ι m.within n.within one mine order.onto ∙ n.are)
+
       apart : StoreApart s instances
       apart y z c v w hy hz ey ez =
-          let m = numbered y hy in
-          let n = numbered z hz in
-          let p = pair_same (cell_at_position x picked.axes (spots m.ι)) c (all_done m.ι m.within).stored v (sym (instance_effect m.ι m.within) ∙ (ap (λ (i : Instance). i.effect s) m.is ∙ ey)) in
-          let q = pair_same (cell_at_position x picked.axes (spots n.ι)) c (all_done n.ι n.within).stored w (sym (instance_effect n.ι n.within) ∙ (ap (λ (i : Instance). i.effect s) n.is ∙ ez)) in
-          let one = positions_are_one_to_one x picked.axes (spots m.ι) (spots n.ι) picked.once (in_extents m.ι m.within) (in_extents n.ι n.within) (p.0 ∙ sym q.0) in
-          let same = pair_same (cell_at_position x picked.axes (spots m.ι)) (cell_at_position x picked.axes (spots n.ι)) (all_done m.ι m.within).stored (all_done n.ι n.within).stored
-          (sym (element_effect m.ι m.within) ∙ (ap (λ js. (element_assigned d (Logic true) L R js).effect s) one ∙ element_effect n.ι n.within)) in
-          sym p.1 ∙ (same.1 ∙ q.1)
-
-      shape : shape_assigned d (Logic true) L R s ≡ Ok (counts_of xs D)
-      shape =
-          ap₂ (λ (ra : Result (List Axis) Fault) (rg : Result (Elements Value) Fault). do axes ← ra; g ← rg; conform (extents_of axes) g.extents) L_axes R_values.known
-          ∙ (ap₂ conform L_extents R_values.extents ∙ conforming false (has_none (loops_among D (names_in right))) (counts_of xs D))
-
-      writes_there : NoneReadsWritten [] instances s → in_turn instances s ≡ Ok t → (ws : List (Cell × Value)) × (writes_of d (Logic true) L R s ≡ Ok ws) × (puts ws s ≡ t)
-      writes_there none run = array_form_is_instances d (Logic true) R L picked.axes (counts_of xs D) instances s t L_axes shape (all_from_reads d mine left right (in_sequence (counts_of xs mine))) none run stands apart
+          let m = of_map (instance_at d mine left right) (in_sequence (counts_of xs mine)) y hy in
+          let n = of_map (instance_at d mine left right) (in_sequence (counts_of xs mine)) z hz in
+          let one = own_cells m.0 n.0 c v w m.1 n.1 (ap (λ (i : Instance). i.effect s) m.2 ∙ ey) (ap (λ (i : Instance). i.effect s) n.2 ∙ ez) in
+          let same : y ≡ z = sym m.2 ∙ (ap (instance_at d mine left right) one ∙ n.2) in
+          (pair_same c c v w (sym ey ∙ (ap (λ (i : Instance). i.effect s) same ∙ ez))).1
 
       left_is_array : d.arrays ≡ true → has_none D ≡ false → is_array d (named L) s ≡ true
       left_is_array arrays some = ap₂ (λ p q. p && not q) arrays (picked.indices ∙ (ap has_none order.same ∙ some))
+
+      -- a regular right side
+      module _ (regular : is_regular a D right ≡ true) where
+        R_values : Takes d a s xs known.few known.values known.sized known.distinct D right R
+        R_values = takes d bits a s xs known right D turning regular right_safe
+
+        -- what is stored there is what the instance stores
+        element_effect : (ι : List ℕ → ℕ) → (w : In ι) → (element_assigned d (Logic true) L R (spots ι)).effect s ≡ Ok (Some (cell_at_position x picked.axes (spots ι), (all_done ι w).stored))
+        element_effect ι w =
+            let done = all_done ι w in
+            ap₂ (λ (r : Result (List Axis) Fault) (q : Result Value Fault). do c ← (do axes ← r; Ok (cell_at_position x axes (spots ι))); v ← q; z ← storable d v; Ok (Some (c, z))) L_axes
+            (ap (λ (r : Result (Elements Value) Fault). do g ← r; g.at (spots ι)) R_values.known ∙ (R_values.at ι w ∙ done.right_known))
+            ∙ ap (λ (r : Result Value Fault). do z ← r; Ok (Some (cell_at_position x picked.axes (spots ι), z))) done.stored_known
+
+        stands : StandsFor d (Logic true) L R picked.axes s instances
+        stands = record {
+          instance_of = λ is c.
+            let b = by_position d a D s xs known turning is (subst (λ ns. Contains (positions ns) is) L_extents c) in
+            (instance_at d mine left right (iterations b.ι mine), in_instances b.ι b.within,
+              ap (λ js. (element_assigned d (Logic true) L R js).effect s) (sym b.places_are) ∙ (element_effect b.ι b.within ∙ sym (instance_effect b.ι b.within)));
+          position_of = λ y c.
+            let n = numbered y c in
+            (spots n.ι, in_extents n.ι n.within, element_effect n.ι n.within ∙ (sym (instance_effect n.ι n.within) ∙ ap (λ (i : Instance). i.effect s) n.is));
+        }
+
+        shape : shape_assigned d (Logic true) L R s ≡ Ok (counts_of xs D)
+        shape =
+            ap₂ (λ (ra : Result (List Axis) Fault) (rg : Result (Elements Value) Fault). do axes ← ra; g ← rg; conform (extents_of axes) g.extents) L_axes R_values.known
+            ∙ (ap₂ conform L_extents R_values.extents ∙ conforming false (has_none (loops_among D (names_in right))) (counts_of xs D))
+
+        writes_there : NoneReadsWritten [] instances s → in_turn instances s ≡ Ok t → (ws : List (Cell × Value)) × (writes_of d (Logic true) L R s ≡ Ok ws) × (puts ws s ≡ t)
+        writes_there none run = array_form_is_instances d (Logic true) R L picked.axes (counts_of xs D) instances s t L_axes shape (all_from_reads d mine left right (in_sequence (counts_of xs mine))) none run stands apart
 
   -- all instances are done where they go through in turn
   all_done_in_turn : NoneReadsWritten [] instances s → in_turn instances s ≡ Ok t → (ι : List ℕ → ℕ) → In ι → Done ι
@@ -340,22 +422,37 @@ module _ (d : Dialect) (bits : d.bits ≡ 31) (a : Surroundings) (k : ℕ) (s : 
     are : puts writes s ≡ t
     is_array_there : is_array d (named L) s ≡ true
 
-  written : d.arrays ≡ true → has_none mine ≡ false → NoneReadsWritten [] instances s → in_turn instances s ≡ Ok t → Written
-  written arrays some none run = by (s.bounds x) refl
+  no_bounds : NoneReadsWritten [] instances s → in_turn instances s ≡ Ok t → s.bounds x ≡ None → ⊥
+  no_bounds none run b =
+      let ι : List ℕ → ℕ = λ y. 1 in
+      let u = at_those ι D s in
+      let done = all_done_in_turn none run ι (axes.firsts d a s xs known.few known.values known.sized known.distinct D fit) in
+      let zs = bound (subscript_values d (subscript (Only e) ps) u) (λ is. cell_at x is u) done.cell done.left_known in
+      let nowhere' : u.bounds x ≡ None = ap (λ (b : List ℕ → Option (List (ℤ × ℤ))). b x) (bounds_at ι D s) ∙ b in
+      let bad : ◌≡◌ {A = Result Cell Fault} (Err Allocated) (Ok done.cell) = ap (λ o. cell_in o x zs.0) (sym nowhere') ∙ zs.2 in
+      cc
+
+  written : is_regular a D right ≡ true → d.arrays ≡ true → has_none mine ≡ false → NoneReadsWritten [] instances s → in_turn instances s ≡ Ok t → Written
+  written regular arrays some none run = by (s.bounds x) refl
     where
       by : (o : Option (List (ℤ × ℤ))) → s.bounds x ≡ o → Written
       by (Some bs) b =
           let done = all_done_in_turn none run in
-          let w = writes_there done bs b none run in
+          let w = writes_there done bs b regular none run in
           record { writes = w.0; writes_known = w.1; are = w.2; is_array_there = left_is_array done bs b arrays (some_D some) }
-      by None b =
-          let ι : List ℕ → ℕ = λ y. 1 in
-          let u = at_those ι D s in
-          let done = all_done_in_turn none run ι (axes.firsts d a s xs known.few known.values known.sized known.distinct D fit) in
-          let zs = bound (subscript_values d (subscript (Only e) ps) u) (λ is. cell_at x is u) done.cell done.left_known in
-          let nowhere' : u.bounds x ≡ None = ap (λ (b : List ℕ → Option (List (ℤ × ℤ))). b x) (bounds_at ι D s) ∙ b in
-          let bad : ◌≡◌ {A = Result Cell Fault} (Err Allocated) (Ok done.cell) = ap (λ o. cell_in o x zs.0) (sym nowhere') ∙ zs.2 in
-          absurd cc
+      by None b = absurd (no_bounds none run b)
+
+-- ---- what they store in is their own
+
+module _ (d : Dialect) (bits : d.bits ≡ 31) (a : Surroundings) (k : ℕ) (s t : Store) (xs : List ℤ) (known : AreKnown a s xs) (turns : (l : Loop) → Contains (loops_from a k) l → Turns a xs l) where
+  element_own : (x : List ℕ) (e : Expression) (ps : Subscripts) (right : Expression) → let left : Reference = record { name = x; subscripts = subscript (Only e) ps } in hold_at a k left ≡ None
+      → are_moved a (loops_assigned a k left) (subscript (Only e) ps) ≡ true → NoneReadsWritten [] (instances_from d a k xs left right) s → in_turn (instances_from d a k xs left right) s ≡ Ok t
+      → OwnCells d a k xs left right s
+  element_own x e ps right no_hold moved none run = by (s.bounds x) refl
+    where
+      by : (o : Option (List (ℤ × ℤ))) → s.bounds x ≡ o → OwnCells d a k xs (record { name = x; subscripts = subscript (Only e) ps }) right s
+      by (Some bs) b = own_cells d bits a k s xs known turns x e ps right no_hold moved t (all_done_in_turn d bits a k s xs known turns x e ps right no_hold moved t none run) bs b
+      by None b = absurd (no_bounds d bits a k s xs known turns x e ps right no_hold moved t none run b)
 
 -- ---- the IF on the trips
 
@@ -391,6 +488,17 @@ guarded d line [] body s h = (s.steps, refl)
 guarded d line (e ∷ es) body s h =
     (s.steps + 1, chosen d line (and_all e es) body no_statements s (ap (λ (r : Result Value Fault). do x ← r; as_truth x) (joined_true d s.store e es h.0 h.1)))
 
+-- a left side in which loops stand has subscripts
+unsubscripted : (a : Surroundings) (k : ℕ) (left : Reference) → AreDistinct (names_of a) → has_none (loops_from a k) ≡ false → hold_at a k left ≡ None → left.subscripts ≡ no_subscripts → ⊥
+unsubscripted a k left distinct some no_hold e =
+    let order = ordered_loops a k left distinct no_hold in
+    let empty : loops_assigned a k left ≡ [] = ap (loops_in_order (loops_from a k)) e in
+    one_of (loops_from a k) some (λ l c. nowhere l (subst (λ ls. Contains ls l) empty (order.onto l c)))
+  where
+    one_of : (ls : List Loop) → has_none ls ≡ false → ((l : Loop) → Contains ls l → ⊥) → ⊥
+    one_of [] h f = absurd cc
+    one_of (l ∷ ls) h f = f l (here l ls)
+
 -- ---- the whole
 
 module _ (a : Surroundings) (k line : ℕ) (mark : Option Mark) (s : State) (t : Store) (xs : List ℤ) (known : AreKnown a s.store xs) (turns : (l : Loop) → Contains (loops_from a k) l → Turns a xs l) (some : has_none (loops_from a k) ≡ false) where
@@ -401,8 +509,8 @@ module _ (a : Surroundings) (k line : ℕ) (mark : Option Mark) (s : State) (t :
       → are_moved a (loops_assigned a k left) (subscript (Only e) ps) ≡ true → is_regular a (loops_assigned a k left) right ≡ true
       → NoneReadsWritten [] (instances_of fortran90 (loops_from a k) (counts_of xs (loops_from a k)) left right) s.store
       → in_turn (instances_of fortran90 (loops_from a k) (counts_of xs (loops_from a k)) left right) s.store ≡ Ok t → Result_of left right
-  with_subscripts x e ps right no_hold moved straight none run =
-      let w = written fortran90 refl a k s.store xs known turns x e ps right no_hold moved straight t refl some none run in
+  with_subscripts x e ps right no_hold moved regular none run =
+      let w = written fortran90 refl a k s.store xs known turns x e ps right no_hold moved t regular refl some none run in
       let left : Reference = record { name = x; subscripts = subscript (Only e) ps } in
       let g = guarded fortran90 line (tests_of (names_of a) (loops_from a k)) (statement (Assignment line mark (left_form a k left) (right_form a k left right)) no_statements) s (tests_true fortran90 a s.store xs known (loops_from a k) turns) in
       (g.0 + 1 + length w.writes, g.1 ∙ (array_statement_stores fortran90 line mark (right_form a k left right) (left_form a k left) (ready (record s { steps = g.0 })) w.writes refl w.is_array_there w.writes_known
@@ -411,32 +519,43 @@ module _ (a : Surroundings) (k line : ℕ) (mark : Option Mark) (s : State) (t :
   pub stores_instances : (left : Reference) (right : Expression) → hold_at a k left ≡ None → are_moved a (loops_assigned a k left) left.subscripts ≡ true → is_regular a (loops_assigned a k left) right ≡ true
       → NoneReadsWritten [] (instances_of fortran90 (loops_from a k) (counts_of xs (loops_from a k)) left right) s.store
       → in_turn (instances_of fortran90 (loops_from a k) (counts_of xs (loops_from a k)) left right) s.store ≡ Ok t → Result_of left right
-  stores_instances left right no_hold moved straight none run = by left.subscripts refl
+  stores_instances left right no_hold moved regular none run = by left.subscripts refl
     where
       again : (qs : Subscripts) → left.subscripts ≡ qs → left ≡ record { name = left.name; subscripts = qs }
       again qs e = ap (λ rs. let r : Reference = record { name = left.name; subscripts = rs } in r) e
 
-      no_loops : left.subscripts ≡ no_subscripts → ⊥
-      no_loops e =
-          let order = ordered_loops a k left known.distinct no_hold in
-          let empty : loops_assigned a k left ≡ [] = ap (loops_in_order (loops_from a k)) e in
-          one_of (loops_from a k) some (λ l c. nowhere l (subst (λ ls. Contains ls l) empty (order.onto l c)))
-        where
-          one_of : (ls : List Loop) → has_none ls ≡ false → ((l : Loop) → Contains ls l → ⊥) → ⊥
-          one_of [] h f = absurd cc
-          one_of (l ∷ ls) h f = f l (here l ls)
-
       by : (qs : Subscripts) → left.subscripts ≡ qs → Result_of left right
-      by no_subscripts e = absurd (no_loops e)
+      by no_subscripts e = absurd (unsubscripted a k left known.distinct some no_hold e)
       by (subscript (Section i j l) ps) e = absurd (let bad : false ≡ true = ap (are_moved a (loops_assigned a k left)) (sym e) ∙ moved in cc)
       by (subscript (Only i) ps) e =
           let same = again (subscript (Only i) ps) e in
           subst (λ (r : Reference). Result_of r right) (sym same) (with_subscripts left.name i ps right
           (subst (λ (r : Reference). hold_at a k r ≡ None) same no_hold)
           (subst (λ (r : Reference). are_moved a (loops_assigned a k r) r.subscripts ≡ true) same moved)
-          (subst (λ (r : Reference). is_regular a (loops_assigned a k r) right ≡ true) same straight)
+          (subst (λ (r : Reference). is_regular a (loops_assigned a k r) right ≡ true) same regular)
           (subst (λ (r : Reference). NoneReadsWritten [] (instances_of fortran90 (loops_from a k) (counts_of xs (loops_from a k)) r right) s.store) same none)
           (subst (λ (r : Reference). in_turn (instances_of fortran90 (loops_from a k) (counts_of xs (loops_from a k)) r right) s.store ≡ Ok t) same run))
+
+pub instances_have_own_cells : InstancesHaveOwnCells
+instances_have_own_cells lang a k left right s t xs bits known trips some no_hold moved none run = by (all_or_one xs (loops_from a k))
+  where
+    again : (qs : Subscripts) → left.subscripts ≡ qs → left ≡ record { name = left.name; subscripts = qs }
+    again qs e = ap (λ rs. let r : Reference = record { name = left.name; subscripts = rs } in r) e
+
+    by_subscripts : ((l : Loop) → Contains (loops_from a k) l → Turns a xs l) → (qs : Subscripts) → left.subscripts ≡ qs → OwnCells lang a k xs left right s
+    by_subscripts turns no_subscripts e = absurd (unsubscripted a k left known.distinct some no_hold e)
+    by_subscripts turns (subscript (Section i j l) ps) e = absurd (let bad : false ≡ true = ap (are_moved a (loops_assigned a k left)) (sym e) ∙ moved in cc)
+    by_subscripts turns (subscript (Only i) ps) e =
+        let same = again (subscript (Only i) ps) e in
+        subst (λ (r : Reference). OwnCells lang a k xs r right s) (sym same) (element_own lang bits a k s t xs known turns left.name i ps right
+        (subst (λ (r : Reference). hold_at a k r ≡ None) same no_hold)
+        (subst (λ (r : Reference). are_moved a (loops_assigned a k r) r.subscripts ≡ true) same moved)
+        (subst (λ (r : Reference). NoneReadsWritten [] (instances_from lang a k xs r right) s) same none)
+        (subst (λ (r : Reference). in_turn (instances_from lang a k xs r right) s ≡ Ok t) same run))
+
+    by : ((l : Loop) → Contains (loops_from a k) l → 1 ≤ count_of xs l) ⊎ ((l : Loop) × Contains (loops_from a k) l × (count_of xs l ≡ 0)) → OwnCells lang a k xs left right s
+    by (inl turn) = by_subscripts (λ l c. record { trip = trips l c; least = turn l c }) left.subscripts refl
+    by (inr one) = λ is js c v w hi hj ei ej. absurd (nowhere is (subst (λ iss. Contains iss is) (no_sequence xs (loops_from a k) one.0 one.1 one.2) hi))
 
 pub array_form_stores_instances : ArrayFormStoresInstances
 array_form_stores_instances a k line mark left right s t xs going known trips some no_hold moved regular none run = by (all_or_one xs (loops_from a k))

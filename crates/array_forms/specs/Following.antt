@@ -12,37 +12,42 @@ abbrev pub has_none : List Loop → Bool
 has_none [] = true
 has_none (l ∷ ls) = false
 
--- a subscript in which a loop stands is linear, and moves with the loop
-abbrev pub is_moved : Surroundings → List Loop → Option Form → Bool
-is_moved a [] f = true
-is_moved a (l ∷ ls) (Some f) = not (int_eq (coefficient (names_of a) l.variable f.coefficients) (pos 0))
-is_moved a (l ∷ ls) None = false
+-- A subscript in which a loop stands moves with the loop where it is linear; `other` says what is asked of one that
+-- isn't
+abbrev pub is_moved : Surroundings → List Loop → Option Form → Bool → Bool
+is_moved a [] f other = true
+is_moved a (l ∷ ls) (Some f) other = not (int_eq (coefficient (names_of a) l.variable f.coefficients) (pos 0))
+is_moved a (l ∷ ls) None other = other
 
-module _ (a : Surroundings) (D : List Loop) where
-  abbrev pub are_moved : Subscripts → Bool
-  are_moved no_subscripts = true
-  are_moved (subscript (Only e) ps) =
-      is_moved a (loops_among D (names_in e)) (form_of (variables_of a.loops) a.symbols e) && are_moved ps
-  are_moved (subscript (Section b c e) ps) = false
+module _ (a : Surroundings) where
+  -- each subscript in which a loop stands is linear
+  abbrev pub are_moved : List Loop → Subscripts → Bool
+  are_moved D no_subscripts = true
+  are_moved D (subscript (Only e) ps) =
+      is_moved a (loops_among D (names_in e)) (form_of (variables_of a.loops) a.symbols e) false && are_moved D ps
+  are_moved D (subscript (Section b c e) ps) = false
 
-  -- where no subscript has two loops, each subscript in which a loop stands is linear; any other element is listed as it
-  -- stands
-  abbrev pub is_regular_reference : Subscripts → Bool
-  is_regular_reference no_subscripts = true
-  is_regular_reference (subscript p ps) = not (one_each D (subscript p ps)) || are_moved (subscript p ps)
-
-  -- built by operators and functions of references, and without array values
+  -- An expression as a nest has it: built by operators and functions of references, without array values. Where no
+  -- subscript of a reference has two loops, each has a form of rank one
   abbrev mutual
-    pub is_regular : Expression → Bool
-    is_regular (Number n) = true
-    is_regular (Logic b) = true
-    is_regular (Named x ps) = has_none (loops_among D (names_in (Named x ps))) || is_regular_reference ps
-    is_regular (Unary o e) = is_regular e
-    is_regular (Binary o e f) = is_regular e && is_regular f
-    is_regular (Apply f es) = are_regular es
-    is_regular (Reduce r e) = has_none (loops_among D (names_in e))
-    is_regular _ = false
+    pub is_regular : List Loop → Expression → Bool
+    is_regular D (Number n) = true
+    is_regular D (Logic b) = true
+    is_regular D (Named x ps) = has_none (loops_among D (names_in (Named x ps)))
+        || (not (one_each D ps) || are_regular_subscripts D ps)
+    is_regular D (Unary o e) = is_regular D e
+    is_regular D (Binary o e f) = is_regular D e && is_regular D f
+    is_regular D (Apply f es) = are_regular D es
+    is_regular D (Reduce r e) = has_none (loops_among D (names_in e))
+    is_regular D _ = false
 
-    pub are_regular : Expressions → Bool
-    are_regular no_expressions = true
-    are_regular (expression e es) = is_regular e && are_regular es
+    pub are_regular : List Loop → Expressions → Bool
+    are_regular D no_expressions = true
+    are_regular D (expression e es) = is_regular D e && are_regular D es
+
+    pub are_regular_subscripts : List Loop → Subscripts → Bool
+    are_regular_subscripts D no_subscripts = true
+    are_regular_subscripts D (subscript (Only e) ps) =
+        is_moved a (loops_among D (names_in e)) (form_of (variables_of a.loops) a.symbols e)
+        (is_regular (loops_among D (names_in e)) e) && are_regular_subscripts D ps
+    are_regular_subscripts D (subscript (Section b c e) ps) = false

@@ -1,5 +1,5 @@
 -- Laws of array forms.
-use Rattle.std.specs.Prelude.{◌≡◌, ◌≢◌, Ok, Option, None, ℕ, suc, ◌≤◌, ℤ, pos, true, false, if◌then◌else◌, List}
+use Rattle.std.specs.Prelude.{◌≡◌, ◌≢◌, Ok, Option, Some, None, ℕ, suc, ◌≤◌, ℤ, pos, true, false, if◌then◌else◌, List}
 use Rattle.std.specs.Prelude.{[], map, length, Contains}
 use Rattle.fv_tree.specs.Plain.{Expression, Reference}
 use Rattle.fv_tree.specs.declared.ops.Value.{Value}
@@ -8,13 +8,14 @@ use Rattle.fv_meaning.specs.ArrayValues.{Elements, positions}
 use Rattle.fv_meaning.specs.Dialect.{Dialect, fortran90}
 use Rattle.fv_meaning.specs.Reads.{names_in}
 use Rattle.fv_meaning.specs.Run.{State, Going, does_all}
-use Rattle.fv_meaning.specs.Store.{Store}
+use Rattle.fv_meaning.specs.Store.{Store, Cell}
 use Rattle.fv_meaning.specs.Value.{value_of, array_of}
 use Rattle.linear_forms.specs.Laws.{AreSized}
 use Rattle.linear_forms.specs.Linear.{HaveValues, is_limited}
 use Rattle.array_forms.specs.Following.{has_none, are_moved, is_regular}
 use Rattle.array_forms.specs.Forms.{form}
-use Rattle.array_forms.specs.Instances.{at_iterations, count_of, counts_of, instances_of}
+use Rattle.array_forms.specs.Instances.{at_iterations, count_of, counts_of, in_sequence, instance_at}
+use Rattle.array_forms.specs.Instances.{instances_of}
 use Rattle.array_forms.specs.Loops.{Loop, Surroundings, variables_of, names_of, AreDistinct, loops_among, coefficient}
 use Rattle.array_forms.specs.Statements.{loops_from, hold_at, loops_assigned, array_form_of}
 use Rattle.array_laws.specs.Instances.{Instance, in_turn, NoneReadsWritten}
@@ -76,6 +77,25 @@ FormHasInstanceValues = (lang : Dialect) (a : Surroundings) (D : List Loop) (e :
 -- the instances of an assignment, by the iterations of the loops from the level k on
 abbrev pub instances_from : Dialect → Surroundings → ℕ → List ℤ → Reference → Expression → List Instance
 instances_from d a k xs left right = instances_of d (loops_from a k) (counts_of xs (loops_from a k)) left right
+
+-- instances that store in one cell have the same iterations
+abbrev pub OwnCells : Dialect → Surroundings → ℕ → List ℤ → Reference → Expression → Store → Type 0
+OwnCells lang a k xs left right s = (is js : List ℕ) (c : Cell) (v w : Value)
+    → Contains (in_sequence (counts_of xs (loops_from a k))) is
+    → Contains (in_sequence (counts_of xs (loops_from a k))) js
+    → (instance_at lang (loops_from a k) left right is).effect s ≡ Ok (Some (c, v))
+    → (instance_at lang (loops_from a k) left right js).effect s ≡ Ok (Some (c, w)) → is ≡ js
+
+-- Where no loop from the level k on forbids the array form of an assignment, and its instances meet no fault one after
+-- another, none of them reading a cell that an earlier one has written, different instances store in different cells
+abbrev pub InstancesHaveOwnCells : Type 0
+InstancesHaveOwnCells = (lang : Dialect) (a : Surroundings) (k : ℕ) (left : Reference) (right : Expression)
+    (s t : Store) (xs : List ℤ)
+    → lang.bits ≡ 31 → AreKnown a s xs → ((l : Loop) → Contains (loops_from a k) l → HasTrip a xs l)
+    → has_none (loops_from a k) ≡ false → hold_at a k left ≡ None
+    → are_moved a (loops_assigned a k left) left.subscripts ≡ true
+    → NoneReadsWritten [] (instances_from lang a k xs left right) s
+    → in_turn (instances_from lang a k xs left right) s ≡ Ok t → OwnCells lang a k xs left right s
 
 -- Let no loop from the level k on forbid the array form of an assignment with a regular right side. Where its
 -- instances, one after another in the order of a sequential run, take the store of a run that goes on to the store t

@@ -1,5 +1,5 @@
 -- The array form of an assignment at a level, and what forbids it (Allen and Kennedy, "Optimizing Compilers for Modern
--- Architectures", sections 2.4.4 and 13.3).
+-- Architectures", section 2.4).
 use Rattle.std.specs.Prelude.{◌==◌, ℕ, ◌+◌, ◌-◌, ℤ, pos, Bool, true, false, ◌&&◌, ◌||◌, not, if◌then◌else◌, Option}
 use Rattle.std.specs.Prelude.{Some, None, List, [], ◌∷◌, length, filter, drop, nat_le}
 use Rattle.std.specs.List.{list_all, list_any}

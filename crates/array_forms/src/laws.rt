@@ -1,5 +1,5 @@
 //! Laws of array forms. A law is a function without a body: its contract is what holds.
-ghost use Rattle.array_forms.specs.Laws.{ArrayFormStoresInstances, FormHasInstanceValues};
+ghost use Rattle.array_forms.specs.Laws.{ArrayFormStoresInstances, FormHasInstanceValues, InstancesHaveOwnCells};
 
 /// The form of a regular expression has at each position the value of the expression in the instance of that position.
 pub fn form_values()
@@ -10,4 +10,9 @@ pub fn form_values()
 /// where none of its instances reads a cell that an earlier one has written.
 pub fn array_form_stores()
     ensures { ArrayFormStoresInstances }
+{}
+
+/// Different instances of an assignment whose array form no loop forbids store in different cells.
+pub fn instances_apart()
+    ensures { InstancesHaveOwnCells }
 {}

@@ -3,4 +3,4 @@
 
 mod laws;
 
-pub use laws::{array_form_stores, form_values};
+pub use laws::{array_form_stores, form_values, instances_apart};

@@ -1,20 +1,18 @@
 -- The facts of a nest suffice.
-use Rattle.std.proofs.Common.{◌≡◌, refl, sym, ap, ◌∙◌, subst, ◌⊎◌, inl, inr, ℕ, zero, suc, ◌+◌, ◌^◌, ◌<◌, ◌≤◌, nat_le, nat_lt, ℤ, pos, negsuc, int_div, Bool, true, false, cond, List, [], ◌∷◌, ◌++◌, map, Result, Ok, Err, Option, Some, None, arith}
+use Rattle.std.proofs.Common.{◌≡◌, refl, sym, ap, ◌∙◌, subst, inl, inr, ℕ, suc, ◌+◌, ◌^◌, ◌≤◌, nat_le, nat_lt, ℤ, pos, negsuc, int_div, Bool, true, false, cond, List, [], ◌∷◌, ◌++◌, map, Result, Ok, Err, Option, Some, None, arith}
 use Rattle.std.specs.Prelude.{IfSome, nat_abs}
 use Rattle.std.specs.Ordering.{int_eq}
 use Rattle.std.proofs.Math.Pow.{pow_mono}
-use Rattle.fv_tree.specs.Steps.{◌>>=◌}
 use Rattle.fv_tree.specs.Operators.{kind_of, as_number, quotient, number, fits, apply}
 use Rattle.fv_tree.specs.Plain.{Expression, Number, Binary, Declaration}
-use Rattle.fv_tree.specs.declared.ops.Kind.{Kind}
 use Rattle.fv_tree.specs.declared.ops.Kind.TheVariants.{Integer}
 use Rattle.fv_tree.specs.declared.ops.Op.TheVariants.{Div}
 use Rattle.fv_tree.specs.declared.ops.Value.{Value}
 use Rattle.fv_tree.specs.declared.ops.Value.TheVariants.{Int, Truth}
 use Rattle.fv_tree.specs.declared.ops.Fault.{Fault}
-use Rattle.fv_tree.specs.declared.ops.Fault.TheVariants.{Overflow, ZeroDivide, TripCount}
+use Rattle.fv_tree.specs.declared.ops.Fault.TheVariants.{Overflow, ZeroDivide}
 use Rattle.fv_meaning.specs.Holding.{HoldsProgram}
-use Rattle.fv_meaning.specs.Store.{Store, Cell, put, cell_at}
+use Rattle.fv_meaning.specs.Store.{Store, Cell}
 use Rattle.fv_meaning.specs.Typed.{declared}
 use Rattle.fv_meaning.specs.Value.{value_of, number_of, is_in_range, bound_to, trip_count}
 use Rattle.fv_meaning.proofs.Exchanges.{unread}
@@ -26,10 +24,9 @@ use Rattle.nest_order.specs.Nests.{IsInstance}
 use Rattle.nest_order.specs.Shapes.{Instance, Within, loops, statements}
 use Rattle.nest_order.proofs.Common.{statement_stands}
 use Rattle.nest_order.proofs.Lists.{Each-In}
-use Rattle.nest_order.proofs.Membership.{In-map}
 use Rattle.nest_runs.specs.Guarded.{sequential, variable_cell, at_iterations}
 use Rattle.nest_runs.specs.Nests.{Nest, AreAt, LoopStands, effect_of, variables_round}
-use Rattle.nest_runs.specs.Stores.{Setting, HoldsNest, IsNestIn, IsNestText}
+use Rattle.nest_runs.specs.Stores.{Setting, HoldsNest}
 use Rattle.nest_runs.specs.Touched.{nth_of}
 use Rattle.nest_runs.proofs.Alone.{stands_loops, stands_once}
 use Rattle.nest_runs.proofs.Ending.{turns_to, count_from_one}
@@ -43,17 +40,17 @@ use Rattle.nest_facts.specs.Facts.{values_from, places_of, number_by, counted, H
 
 -- ---- lists of names with their values
 
-have-append : (ys zs : List (List ℕ)) (s : Store) (xs us : List ℤ) → HaveValues ys s xs → HaveValues zs s us → HaveValues (ys ++ zs) s (xs ++ us)
+pub have-append : (ys zs : List (List ℕ)) (s : Store) (xs us : List ℤ) → HaveValues ys s xs → HaveValues zs s us → HaveValues (ys ++ zs) s (xs ++ us)
 have-append [] zs s [] us h g = g
 have-append [] zs s (x ∷ xs) us h g = absurd h
 have-append (y ∷ ys) zs s [] us h g = absurd h
 have-append (y ∷ ys) zs s (x ∷ xs) us h g = (h.0, h.1, have-append ys zs s xs us h.2 g)
 
-sized-append : (xs us : List ℤ) → AreSized xs → AreSized us → AreSized (xs ++ us)
+pub sized-append : (xs us : List ℤ) → AreSized xs → AreSized us → AreSized (xs ++ us)
 sized-append [] us h g = g
 sized-append (x ∷ xs) us h g = (h.0, sized-append xs us h.1 g)
 
-small_sized : (is : List ℕ) → Each (λ i. i ≤ 2147483646) is → AreSized (map pos is)
+pub small_sized : (is : List ℕ) → Each (λ i. i ≤ 2147483646) is → AreSized (map pos is)
 small_sized [] h = tt
 small_sized (i ∷ is) h = (let a : i ≤ 2147483646 = h.0 in small i a, small_sized is h.1)
   where
@@ -61,7 +58,7 @@ small_sized (i ∷ is) h = (let a : i ≤ 2147483646 = h.0 in small i a, small_s
     small i h = let e : i ≤ 9223372036854775808 = omega arith in e
 
 module _ (v : ℕ → ℤ) (s : Store) where
-  symbols-have : (xs : List (List ℕ)) (k : ℕ) → ((x : List ℕ) → In x xs → s.bounds x ≡ Some []) → ((j : ℕ) (x : List ℕ) → nth_of xs j ≡ Some x → s.held (variable_cell x) ≡ Int (v (k + j)))
+  pub symbols-have : (xs : List (List ℕ)) (k : ℕ) → ((x : List ℕ) → In x xs → s.bounds x ≡ Some []) → ((j : ℕ) (x : List ℕ) → nth_of xs j ≡ Some x → s.held (variable_cell x) ≡ Int (v (k + j)))
       → HaveValues xs s (values_from v k xs)
   symbols-have [] k b h = tt
   symbols-have (x ∷ xs) k b h = (
@@ -70,7 +67,7 @@ module _ (v : ℕ → ℤ) (s : Store) where
     symbols-have xs (suc k) (λ y i. b y (inr i)) (λ j y e. subst (λ m. s.held (variable_cell y) ≡ Int (v m)) (let f : k + suc j ≡ suc k + j = omega arith in f) (h (suc j) y e)),
   )
 
-  symbols-sized : (xs : List (List ℕ)) (k : ℕ) → ((j : ℕ) (x : List ℕ) → nth_of xs j ≡ Some x → nat_abs (v (k + j)) ≤ 2 ^ 63) → AreSized (values_from v k xs)
+  pub symbols-sized : (xs : List (List ℕ)) (k : ℕ) → ((j : ℕ) (x : List ℕ) → nth_of xs j ≡ Some x → nat_abs (v (k + j)) ≤ 2 ^ 63) → AreSized (values_from v k xs)
   symbols-sized [] k h = tt
   symbols-sized (x ∷ xs) k h = (
     subst (λ j. nat_abs (v j) ≤ 2 ^ 63) (let e : k + 0 ≡ k = omega arith in e) (h 0 x refl),
@@ -114,7 +111,7 @@ module _ (bits : ℕ) (n : Nest) (w : Setting) (facts : HasFacts bits n w) where
 
   -- ---- iterations of loops of the nest can be counted
 
-  small_iterations : (ls is before : List ℕ) → ((m : ℕ) → In m ls → In m (loops n.shape)) → Within turns before ls is → Each (λ i. i ≤ 2147483646) is
+  pub small_iterations : (ls is before : List ℕ) → ((m : ℕ) → In m ls → In m (loops n.shape)) → Within turns before ls is → Each (λ i. i ≤ 2147483646) is
   small_iterations [] [] before known v = tt
   small_iterations [] (i ∷ is) before known v = absurd v
   small_iterations (l ∷ ls) [] before known v = absurd v
@@ -161,7 +158,7 @@ module _ (bits : ℕ) (n : Nest) (w : Setting) (facts : HasFacts bits n w) where
 
   -- ---- values of the places of a form
 
-  loops_have : (ls is : List ℕ) (s : Store) → ((m : ℕ) → In m ls → s.bounds (n.variable_at m) ≡ Some []) → AreAt n ls is s → HaveValues (map n.variable_at ls) s (map pos is)
+  pub loops_have : (ls is : List ℕ) (s : Store) → ((m : ℕ) → In m ls → s.bounds (n.variable_at m) ≡ Some []) → AreAt n ls is s → HaveValues (map n.variable_at ls) s (map pos is)
   loops_have [] [] s b h = tt
   loops_have [] (i ∷ is) s b h = absurd h
   loops_have (l ∷ ls) [] s b h = absurd h

@@ -1,6 +1,6 @@
 -- What can be seen of a nest without running it: the linear forms of its subscripts and trips, and the kinds of its
 -- statements.
-use Rattle.std.specs.Prelude.{◌≡◌, ◌⊎◌, ℕ, suc, ◌^◌, ◌<◌, ◌≤◌, nat_le, ℤ, pos, negsuc, nat_abs, int_div, Option, Some}
+use Rattle.std.specs.Prelude.{◌≡◌, ◌⊎◌, ℕ, suc, ◌^◌, ◌≤◌, nat_le, ℤ, pos, negsuc, nat_abs, int_div, Option, Some}
 use Rattle.std.specs.Prelude.{None, IfSome, if◌then◌else◌, List, [], ◌∷◌, ◌++◌, map}
 use Rattle.fv_tree.specs.Plain.{Expression, Number, Binary, Declaration}
 use Rattle.fv_tree.specs.declared.ops.Kind.{Kind}

@@ -1,8 +1,8 @@
 -- What a guarded assignment stores depends on the cells of its names.
-use Rattle.std.proofs.Common.{◌≡◌, refl, sym, ap, ap₂, ◌∙◌, ◌⊎◌, inl, inr, subst, ℕ, ℤ, Bool, true, false, cond, List, [], ◌∷◌, ◌++◌, map, length, Result, Ok, Err, Option, Some, None}
+use Rattle.std.proofs.Common.{◌≡◌, refl, sym, ap, ap₂, ◌∙◌, ◌⊎◌, inl, inr, subst, ℕ, ℤ, Bool, true, false, cond, List, ◌∷◌, ◌++◌, map, length, Result, Ok, Err, Option, Some, None}
+use Rattle.fv_tree.specs.Steps.{◌>>=◌}
 use mathlib.Core.Path.{fun_ext}
 use Rattle.std.specs.List.{AllByRecursion}
-use Rattle.fv_tree.specs.Steps.{◌>>=◌}
 use Rattle.fv_tree.specs.Operators.{apply, call, as_number, as_truth}
 use Rattle.fv_tree.specs.Plain.{Expression, Number, Logic, Named, Unary, Binary, Apply, Constructor, Spread, Transpose, Reshape, Reduce, Expressions, no_expressions, expression, Subscript, Only, Section, Subscripts, no_subscripts, subscript, Reference}
 use Rattle.fv_tree.specs.declared.ops.Value.{Value}
@@ -13,7 +13,7 @@ use Rattle.fv_meaning.specs.Store.{Store, Cell, cell_at, cell_in}
 use Rattle.fv_meaning.specs.Value.{value_of, values_of, subscript_value, subscript_values, number_of, cell_named, is_in_range}
 use Rattle.fv_meaning.proofs.CellFrame.{first_part, second_part}
 use Rattle.nest_order.specs.Lists.{In}
-use Rattle.nest_order.specs.Shapes.{statements, loops}
+use Rattle.nest_order.specs.Shapes.{statements}
 use Rattle.nest_order.proofs.Membership.{map-In}
 use Rattle.nest_runs.specs.Guarded.{Guarded, assigned_if, at_iterations, effect, guard_holds, names_of, names_of_guard, sequential}
 use Rattle.nest_runs.specs.Nests.{AreAt, Near, Nest, is_variable, variables_round}

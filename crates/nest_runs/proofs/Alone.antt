@@ -1,5 +1,5 @@
 -- The instances of a statement that doesn't depend on itself within its outer loops may store all at once.
-use Rattle.std.proofs.Common.{◌≡◌, refl, sym, ap, ap₂, ◌∙◌, subst, ◌⊎◌, inl, inr, ℕ, zero, suc, ◌+◌, ◌<◌, ◌≤◌, List, [], ◌∷◌, ◌++◌, map, length, Result, Ok, Err, Option, Some, None, Contains, append-nil, arith}
+use Rattle.std.proofs.Common.{◌≡◌, refl, sym, ap, ap₂, ◌∙◌, subst, ◌⊎◌, inl, inr, ℕ, suc, ◌+◌, ◌<◌, List, [], ◌∷◌, ◌++◌, map, length, Ok, Option, Some, None, Contains, append-nil, arith}
 use Rattle.std.proofs.lemmas.List.Elements.{All-contains, All-from_recursion}
 use Rattle.fv_tree.specs.declared.ops.Value.{Value}
 use Rattle.fv_tree.specs.declared.ops.Fault.{Fault}
@@ -7,7 +7,7 @@ use Rattle.fv_meaning.specs.Store.{Store, Cell, put}
 use Rattle.array_laws.specs.Forms.{StoreApart}
 use Rattle.array_laws.specs.Instances.{NoneReadsWritten, after, cell_of}
 use Rattle.array_laws.specs.Instances as arrays
-use Rattle.nest_order.specs.Graphs.{Arc, Place, Meet}
+use Rattle.nest_order.specs.Graphs.{Arc, Place}
 use Rattle.nest_order.specs.Lists.{In, Pairwise, Distinct}
 use Rattle.nest_order.specs.Nests.{IsInstance, Precedes, common}
 use Rattle.nest_order.specs.Shapes.{Shape, Single, Loop, Shapes, no_shapes, shape, statements, loops, loops_in, Stands, StandsIn, Instance, instances, Within, Fits, LessAt, SameUpTo, common_of}
@@ -63,7 +63,7 @@ same_behind (i ∷ front) is js = (refl, same_behind front is js)
 -- ---- a statement by itself
 
 module _ (s : ℕ) where
-  chain_stands : (ls : List ℕ) (r : ℕ) (ms : List ℕ) → Stands (chain ls s) r ms → (r ≡ s) × (ms ≡ ls)
+  pub chain_stands : (ls : List ℕ) (r : ℕ) (ms : List ℕ) → Stands (chain ls s) r ms → (r ≡ s) × (ms ≡ ls)
   chain_stands [] r [] h = (sym h, refl)
   chain_stands [] r (m ∷ ms) h = absurd h
   chain_stands (l ∷ ls) r [] h = absurd h

@@ -1,14 +1,14 @@
 -- FORTRAN 77's expressions with arrays as values.
-use Rattle.std.proofs.Common.{◌≡◌, refl, sym, ap, ap₂, ◌∙◌, ℕ, ℤ, pos, Bool, true, false, cond, List, [], ◌∷◌, ◌++◌, map, Result, Ok, Err, Option, Some, None}
-use mathlib.Core.Path.{fun_ext}
+use Rattle.std.proofs.Common.{◌≡◌, refl, sym, ap, ap₂, ◌∙◌, ℕ, pos, Bool, true, false, cond, [], ◌∷◌, ◌++◌, map, Ok}
 use Rattle.fv_tree.specs.Steps.{◌>>=◌}
+use mathlib.Core.Path.{fun_ext}
 use Rattle.fv_tree.specs.Operators.{apply, call, as_number}
-use Rattle.fv_tree.specs.Plain.{Expression, Number, Logic, Named, Unary, Binary, Apply, Constructor, Spread, Transpose, Reshape, Reduce, Expressions, no_expressions, expression, Subscript, Only, Section, Subscripts, no_subscripts, subscript, Reference}
+use Rattle.fv_tree.specs.Plain.{Expression, Number, Logic, Named, Unary, Binary, Apply, Constructor, Spread, Transpose, Reshape, Reduce, Expressions, no_expressions, expression, Subscript, Only, Section, Subscripts, no_subscripts, subscript}
 use Rattle.fv_tree.specs.declared.ops.Value.{Value}
 use Rattle.fv_tree.specs.declared.ops.Value.TheVariants.{Int}
 use Rattle.fv_meaning.specs.Reads.{cells_read, cells_read_by_each, cells_read_by, cells_read_by_subscript, found}
 use Rattle.fv_meaning.specs.Store.{Store, Cell, cell_at, put, same_cell}
-use Rattle.fv_meaning.specs.Value.{value_of, values_of, subscript_value, subscript_values, cell_named, bound_to}
+use Rattle.fv_meaning.specs.Value.{value_of, values_of, subscript_value, subscript_values}
 use Rattle.fv_meaning.proofs.Exchanges.{same_cell-same}
 use Rattle.nest_runs.specs.Arrays.{CellIsKept, OuterIterationsHold, SameCellsAreRead, SubscriptsReadSame, ValueIsKept}
 use Rattle.nest_runs.specs.Guarded.{at_iterations, dialect, sequential, variable_cell}

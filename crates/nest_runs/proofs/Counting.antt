@@ -1,14 +1,14 @@
 -- A sequential run that goes on has counted the trips of all loops that it came to, and these are the loops of what is
 -- emitted.
-use Rattle.std.proofs.Common.{◌≡◌, refl, sym, ap, ◌∙◌, subst, ◌⊎◌, inl, inr, ℕ, zero, suc, ◌+◌, ◌≤◌, ◌<◌, ℤ, pos, List, [], ◌∷◌, ◌++◌, map, length, Ok, None, Some, append_assoc, append-nil, arith, eq-or-lt_of_le}
+use Rattle.std.proofs.Common.{◌≡◌, sym, ap, ◌∙◌, subst, ◌⊎◌, inl, inr, ℕ, zero, suc, ◌+◌, ◌≤◌, ◌<◌, ℤ, pos, List, [], ◌∷◌, ◌++◌, map, Ok, None, append_assoc, append-nil, arith, eq-or-lt_of_le}
 use Rattle.fv_tree.specs.declared.ops.Value.TheVariants.{Int}
 use Rattle.fv_meaning.specs.Reads.{names_in}
 use Rattle.fv_meaning.specs.Run.{State, Going, Act, does, does_all, repeated, turn}
-use Rattle.fv_meaning.specs.Store.{Store, Cell, put, cell_at}
+use Rattle.fv_meaning.specs.Store.{Store, Cell, cell_at}
 use Rattle.fv_meaning.specs.Value.{number_of}
 use Rattle.nest_order.specs.Emission.{IsArranged, HasStatements, HaveStatements}
 use Rattle.nest_order.specs.Lists.{In}
-use Rattle.nest_order.specs.Shapes.{Shape, Single, Loop, Shapes, no_shapes, shape, statements, loops, Stands, StandsIn, Instance, instances_in, Within}
+use Rattle.nest_order.specs.Shapes.{Shape, Single, Loop, Shapes, no_shapes, shape, statements, Stands, StandsIn, Instance, instances_in, Within}
 use Rattle.nest_order.proofs.Common.{statement_stands}
 use Rattle.nest_order.proofs.Membership.{In-map}
 use Rattle.nest_runs.specs.Alone.{inside}
@@ -22,7 +22,7 @@ use Rattle.nest_runs.proofs.Variables.{var, variable_is, AreAt-put, Near-variabl
 use Rattle.nest_runs.proofs.Alike.{Alike, number_alike}
 use Rattle.nest_runs.proofs.Holding.{variable_inside}
 use Rattle.nest_runs.proofs.Touching.{number_in}
-use Rattle.nest_runs.proofs.Runs.{trip, Inside, Bridged, Lies, LieIn, lies_body, lies_first, lies_rest, loop_of_lying, there, rounds, fresh, Placed, placed_more, Entered, entered, one_turn, turns_from, statement_run, block_run, statement_from, block_from}
+use Rattle.nest_runs.proofs.Runs.{trip, Inside, Bridged, Lies, LieIn, lies_body, lies_first, lies_rest, loop_of_lying, there, rounds, fresh, Placed, placed_more, entered, one_turn, turns_from, statement_run, block_run, block_from}
 
 -- ---- loops and the statements in them
 

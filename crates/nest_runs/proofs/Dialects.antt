@@ -1,13 +1,12 @@
 -- What has a value without arrays as values has the same one with them, and is a scalar.
-use Rattle.std.proofs.Common.{◌≡◌, refl, sym, ap, ap₂, ◌∙◌, ℕ, ℤ, Bool, true, false, ◌&&◌, cond, List, [], ◌∷◌, Result, Ok, Err, Option, Some, None}
+use Rattle.std.proofs.Common.{◌≡◌, refl, ap, ◌∙◌, ℕ, ℤ, Bool, true, false, ◌&&◌, List, [], ◌∷◌, Result, Ok, Option, Some, None}
 use Rattle.fv_tree.specs.Steps.{◌>>=◌}
 use Rattle.fv_tree.specs.Operators.{apply, call, as_number, as_truth}
 use Rattle.fv_tree.specs.Plain.{Expression, Number, Logic, Named, Unary, Binary, Apply, Constructor, Spread, Transpose, Reshape, Reduce, Expressions, no_expressions, expression, Subscript, Only, Section, Subscripts, no_subscripts, subscript, Reference}
 use Rattle.fv_tree.specs.declared.ops.Value.{Value}
 use Rattle.fv_tree.specs.declared.ops.Fault.{Fault}
-use Rattle.fv_tree.specs.declared.ops.Fault.TheVariants.{Overflow}
 use Rattle.fv_meaning.specs.Store.{Store, Cell, cell_at, cell_in}
-use Rattle.fv_meaning.specs.Value.{value_of, values_of, subscript_value, subscript_values, number_of, truth_of, cell_named, is_in_range, is_scalar, are_scalar, are_indices, is_index, name_is_scalar, is_bare, is_array, named}
+use Rattle.fv_meaning.specs.Value.{value_of, values_of, subscript_value, subscript_values, number_of, truth_of, cell_named, is_scalar, are_scalar, are_indices, is_index, name_is_scalar, is_bare, is_array, named}
 use Rattle.nest_runs.specs.Guarded.{dialect, sequential}
 use Rattle.nest_runs.proofs.Results.{both_ok, after_ok}
 

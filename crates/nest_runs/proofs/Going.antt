@@ -1,7 +1,6 @@
 -- What statements do where nothing hinders them.
-use Rattle.std.proofs.Common.{◌≡◌, refl, sym, ap, ◌∙◌, ℕ, ◌+◌, ◌≤◌, ◌<◌, ◌^◌, nat_le, nat_lt, ℤ, pos, negsuc, ◌+ℤ◌, ◌-ℤ◌, int_div, Bool, true, false, cond, List, [], Result, Ok, Err, Option, Some, None, arith}
+use Rattle.std.proofs.Common.{◌≡◌, refl, ap, ◌∙◌, ℕ, ◌+◌, ◌≤◌, ◌^◌, nat_le, nat_lt, ℤ, pos, negsuc, ◌+ℤ◌, ◌-ℤ◌, int_div, Bool, true, false, cond, List, [], Result, Ok, Err, Option, Some, None, arith}
 use Rattle.fv_tree.specs.Steps.{◌>>=◌}
-use Rattle.fv_tree.specs.Operators.{fits}
 use Rattle.fv_tree.specs.Plain.{Expression, Number, Reference, Assignment, If, Do, no_arms, arm, Block, no_statements, statement}
 use Rattle.fv_tree.specs.declared.ops.Value.{Value}
 use Rattle.fv_tree.specs.declared.ops.Value.TheVariants.{Int}

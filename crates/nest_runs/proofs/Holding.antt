@@ -1,7 +1,7 @@
 -- A store in which a nest may be run stays one.
-use Rattle.std.proofs.Common.{◌≡◌, refl, sym, ap, ◌∙◌, subst, ◌⊎◌, inl, inr, ℕ, zero, suc, ℤ, pos, Bool, true, false, cond, List, [], ◌∷◌, Result, Ok, Err, Option, Some, None}
-use Rattle.std.specs.Prelude.{IfSome}
+use Rattle.std.proofs.Common.{◌≡◌, refl, sym, ap, ◌∙◌, subst, inl, inr, ℕ, zero, suc, ℤ, Bool, true, false, cond, List, [], ◌∷◌, Result, Ok, Err, Option, Some, None}
 use Rattle.fv_tree.specs.Steps.{◌>>=◌}
+use Rattle.std.specs.Prelude.{IfSome}
 use Rattle.fv_tree.specs.Operators.{kind_of}
 use Rattle.fv_tree.specs.Plain.{Declaration, Program, Reference, Expression}
 use Rattle.fv_tree.specs.declared.ops.Kind.TheVariants.{Integer}
@@ -17,7 +17,7 @@ use Rattle.fv_meaning.specs.Value.{value_of, cell_named, subscript_values, is_in
 use Rattle.fv_meaning.proofs.Exchanges.{same_cell-same, unread}
 use Rattle.nest_order.specs.Lists.{In}
 use Rattle.nest_order.specs.Nests.{IsInstance}
-use Rattle.nest_order.specs.Shapes.{Instance, loops, statements}
+use Rattle.nest_order.specs.Shapes.{Instance, loops}
 use Rattle.nest_runs.specs.Guarded.{Guarded, assigned_if, at_iterations, effect, guard_holds, sequential, variable_cell}
 use Rattle.nest_runs.specs.Nests.{Nest, effect_of, variables_round}
 use Rattle.nest_runs.specs.Stores.{HoldsNest, IsNestIn, Setting}

@@ -1,17 +1,12 @@
 -- Array forms of statements that don't depend on themselves do what the instances do.
-use Rattle.std.proofs.Common.{◌≡◌, refl, sym, ap, ◌∙◌, subst, inl, ℕ, List, [], ◌∷◌, ◌++◌, map, length, Ok, Option, Some}
-use Rattle.fv_tree.specs.Plain.{Statement}
-use Rattle.fv_meaning.specs.Run.{State, Going, does}
-use Rattle.fv_meaning.specs.Store.{Store}
-use Rattle.array_laws.specs.Instances.{in_turn}
+use Rattle.std.proofs.Common.{◌≡◌, refl, sym, ◌∙◌, subst, inl, ℕ, List, [], ◌∷◌, map, Ok}
 use Rattle.nest_order.specs.Orders.{runs}
-use Rattle.nest_order.specs.Shapes.{Shape, Stands, instances}
+use Rattle.nest_order.specs.Shapes.{Stands, instances}
 use Rattle.nest_runs.specs.Alone.{chain, inside}
 use Rattle.nest_runs.specs.Forms.{AreCounted, IsPart, acts_at}
 use Rattle.nest_runs.specs.Guarded.{sequential}
 use Rattle.nest_runs.specs.LoneForms.{LoneFormsAreInstances, LoneFormsKeepMeaning}
 use Rattle.nest_runs.specs.Nests.{acts}
-use Rattle.nest_runs.specs.Laws.{as_instance}
 use Rattle.nest_runs.proofs.Alone.{inner_apart}
 use Rattle.nest_runs.proofs.OneByOne.{one_by_one}
 use Rattle.nest_runs.proofs.Results.{runs-map}

@@ -1,5 +1,5 @@
 -- Loops of a shape, and the loops round them.
-use Rattle.std.proofs.Common.{◌≡◌, refl, sym, ◌∙◌, ◌⊎◌, inl, inr, ℕ, List, [], ◌∷◌}
+use Rattle.std.proofs.Common.{◌≡◌, sym, ◌∙◌, inl, inr, ℕ, List, [], ◌∷◌}
 use Rattle.nest_order.specs.Lists.{In, Distinct}
 use Rattle.nest_order.specs.Shapes.{Shape, Single, Loop, Shapes, no_shapes, shape, loops, loops_in}
 use Rattle.nest_order.proofs.Lists.{Each-In, In-left, In-right}

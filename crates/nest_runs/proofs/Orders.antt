@@ -4,9 +4,9 @@ use Rattle.fv_tree.specs.declared.ops.Value.{Value}
 use Rattle.fv_tree.specs.declared.ops.Fault.{Fault}
 use Rattle.fv_meaning.specs.Store.{Store, Cell, put}
 use Rattle.nest_order.specs.Graphs.{Arc, edge_of}
-use Rattle.nest_order.specs.Nests.{IsInstance, Depends, Precedes, Ordered, common}
+use Rattle.nest_order.specs.Nests.{IsInstance, Depends, Ordered, common}
 use Rattle.nest_order.specs.Orders.{MayPass}
-use Rattle.nest_order.specs.Shapes.{Instance, instances, loops}
+use Rattle.nest_order.specs.Shapes.{Instance, instances}
 use Rattle.nest_order.proofs.Covering.{complete_covers}
 use Rattle.nest_order.proofs.Theorems.{any_order}
 use Rattle.nest_runs.specs.Alone.{inside}

@@ -1,7 +1,7 @@
 -- A sequential run of a nest is, but for the variables of its loops, its instances one after another.
-use Rattle.std.proofs.Common.{◌≡◌, refl, sym, ap, ap₂, ◌∙◌, subst, ◌⊎◌, inl, inr, ℕ, zero, suc, ◌+◌, ◌≤◌, ◌<◌, ℤ, pos, ◌+ℤ◌, Bool, true, false, cond, List, [], ◌∷◌, ◌++◌, map, Result, Ok, Err, Option, Some, None, append_assoc, append-nil, arith}
-use Rattle.std.proofs.Math.IntN.{pos-+ℤ-pos}
+use Rattle.std.proofs.Common.{◌≡◌, refl, sym, ap, ap₂, ◌∙◌, subst, ◌⊎◌, inl, inr, ℕ, zero, suc, ◌+◌, ◌≤◌, ◌<◌, ℤ, pos, ◌+ℤ◌, Bool, true, false, List, [], ◌∷◌, ◌++◌, map, Result, Ok, Option, Some, None, append_assoc, append-nil, arith}
 use Rattle.fv_tree.specs.Steps.{◌>>=◌}
+use Rattle.std.proofs.Math.IntN.{pos-+ℤ-pos}
 use Rattle.fv_tree.specs.Operators.{as_number}
 use Rattle.fv_tree.specs.Plain.{Expression, Assignment, no_statements, statement}
 use Rattle.fv_tree.specs.declared.ops.Value.{Value}
@@ -9,7 +9,7 @@ use Rattle.fv_tree.specs.declared.ops.Value.TheVariants.{Int}
 use Rattle.fv_tree.specs.declared.ops.Fault.{Fault}
 use Rattle.fv_tree.specs.declared.stmts.Mark.{Mark}
 use Rattle.fv_meaning.specs.Run.{State, Going, Act, does, does_all, either, nothing, repeated, turn}
-use Rattle.fv_meaning.specs.Store.{Store, Cell, put, cell_at}
+use Rattle.fv_meaning.specs.Store.{Store, Cell, put}
 use Rattle.fv_meaning.specs.Value.{value_of, truth_of, cell_named, is_in_range, trip_count}
 use Rattle.array_laws.specs.Instances.{after}
 use Rattle.nest_order.specs.Lists.{In}
@@ -17,14 +17,13 @@ use Rattle.nest_order.specs.Nests.{IsInstance}
 use Rattle.nest_order.specs.Orders.{and_then, runs}
 use Rattle.nest_order.specs.Shapes.{Shape, Single, Loop, Shapes, no_shapes, shape, statements, loops, Stands, StandsIn, Instance, within_turn, turns, instances, instances_in, Within}
 use Rattle.nest_runs.specs.Laws.{RunIsInstances}
-use Rattle.nest_order.proofs.Lists.{In-left, In-right}
 use Rattle.nest_order.proofs.Once.{stands_in_statements}
 use Rattle.nest_runs.specs.Blocks.{Layout, guarded_statement, nest_block, nest_statement, statement_of}
 use Rattle.nest_runs.specs.Forms.{acts_at}
 use Rattle.nest_runs.specs.Guarded.{Guarded, assigned_if, at_iterations, effect, sequential}
 use Rattle.nest_runs.specs.Nests.{AreAt, LoopStands, LoopStandsIn, Near, Nest, acts, effect_of, variables_round}
 use Rattle.nest_runs.specs.Stores.{HoldsNest, IsNestIn, Setting}
-use Rattle.nest_runs.proofs.Results.{ok_same, true_false, runs-append, runs-map}
+use Rattle.nest_runs.proofs.Results.{runs-append, runs-map}
 use Rattle.nest_runs.proofs.Variables.{var, variable_is, AreAt-more, AreAt-last, AreAt-put, Near-same, Near-put, Near-variable, Within-more, put_there, scalar_place}
 use Rattle.nest_runs.proofs.Alike.{effect_there}
 use Rattle.nest_runs.proofs.Ending.{turns_to, assigned, Chosen, chosen, looped, turned}

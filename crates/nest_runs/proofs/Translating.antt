@@ -1,22 +1,18 @@
 -- Recursive emission keeps the meaning of a nest, with its loops as loops or with other statements in their place.
-use Rattle.std.proofs.Common.{◌≡◌, refl, sym, ap, ◌∙◌, subst, ◌⊎◌, inl, inr, ℕ, zero, suc, ◌+◌, ◌≤◌, ◌<◌, ◌^◌, nat_lt, ℤ, pos, ◌+ℤ◌, Bool, true, false, List, [], ◌∷◌, ◌++◌, map, length, Result, Ok, Err, Option, Some, None, append_assoc, append-nil, arith}
+use Rattle.std.proofs.Common.{◌≡◌, refl, sym, ap, ◌∙◌, subst, inl, inr, ℕ, zero, suc, ◌+◌, ◌≤◌, ◌<◌, ◌^◌, nat_lt, ℤ, pos, ◌+ℤ◌, Bool, true, List, [], ◌∷◌, ◌++◌, map, length, Ok, Option, Some, None, append_assoc, append-nil, arith}
 use Rattle.std.proofs.Math.Pow.{pow_mono}
-use Rattle.std.specs.List.{AllByRecursion}
-use Rattle.fv_tree.specs.Steps.{◌>>=◌}
-use Rattle.fv_tree.specs.Plain.{Statement, no_statements, statement}
+use Rattle.fv_tree.specs.Plain.{Statement, statement}
 use Rattle.fv_tree.specs.declared.ops.Value.{Value}
 use Rattle.fv_tree.specs.declared.ops.Value.TheVariants.{Int}
 use Rattle.fv_tree.specs.declared.ops.Fault.{Fault}
-use Rattle.fv_meaning.specs.Dialect.{Dialect}
 use Rattle.fv_meaning.specs.Run.{State, Going, Act, does, does_all, repeated, turn}
-use Rattle.fv_meaning.specs.Store.{Store, Cell, put, cell_at}
-use Rattle.fv_meaning.specs.Value.{number_of, is_in_range, exact}
+use Rattle.fv_meaning.specs.Store.{Store, Cell, put}
+use Rattle.fv_meaning.specs.Value.{is_in_range, exact}
 use Rattle.array_laws.specs.Instances.{after}
-use Rattle.nest_order.specs.Emission.{IsEmitted}
 use Rattle.nest_order.specs.Graphs.{edge_of}
 use Rattle.nest_order.specs.Lists.{In}
 use Rattle.nest_order.specs.Nests.{IsInstance}
-use Rattle.nest_order.specs.Orders.{and_then, runs}
+use Rattle.nest_order.specs.Orders.{runs}
 use Rattle.nest_order.specs.Shapes.{Shape, Single, Loop, Shapes, no_shapes, shape, statements, loops, Instance, within_turn, turns, instances, instances_in, Within}
 use Rattle.nest_order.proofs.Covering.{edges_may_be}
 use Rattle.nest_order.proofs.Membership.{instance_stands}
@@ -28,7 +24,7 @@ use Rattle.nest_runs.specs.Guarded.{at_iterations, dialect, effect, sequential}
 use Rattle.nest_runs.specs.Nests.{AreAt, LoopStands, Near, Nest, acts, effect_of, variables_round}
 use Rattle.nest_runs.specs.Stores.{IsNestIn, Setting}
 use Rattle.nest_runs.specs.Touched.{Touches, references_of}
-use Rattle.nest_runs.specs.Laws.{EmissionKeepsMeaning, TranslationKeepsMeaning, GoesOnNear}
+use Rattle.nest_runs.specs.Laws.{EmissionKeepsMeaning, TranslationKeepsMeaning}
 use Rattle.nest_runs.proofs.Results.{ok_same, runs-split, runs-map}
 use Rattle.nest_runs.proofs.Variables.{var, variable_is, AreAt-more, AreAt-last, AreAt-put, Near-same, Near-put, Near-variable, Within-length, Within-both, put_there, place_of}
 use Rattle.nest_runs.proofs.Alike.{effect_there, effect_near}

@@ -1,20 +1,19 @@
 -- A worked nest: DO V = 1, 3 with A(V) = 2 in it, where A has the bounds 1 and 3. What is asked of a nest and its edges
 -- can be met.
-use Rattle.std.proofs.Common.{◌≡◌, refl, sym, ap, ◌∙◌, subst, ◌⊎◌, inl, inr, ℕ, zero, suc, ◌<◌, ℤ, pos, List, [], ◌∷◌, ◌++◌, length, Result, Ok, Err, Option, Some, None, arith}
+use Rattle.std.proofs.Common.{◌≡◌, refl, sym, ap, ◌∙◌, subst, ◌⊎◌, inl, inr, ℕ, suc, ◌<◌, ℤ, pos, List, [], ◌∷◌, length, Result, Ok, Option, Some, None, arith}
 use Rattle.std.specs.Prelude.{IfSome}
-use Rattle.std.specs.Str.{bytes_eq}
 use Rattle.fv_tree.specs.Operators.{kind_of}
-use Rattle.fv_tree.specs.Plain.{Number, Named, Only, no_subscripts, subscript, Reference, Given, Declaration, Program, no_statements}
+use Rattle.fv_tree.specs.Plain.{Number, Named, Only, no_subscripts, subscript, Given, Declaration, no_statements}
 use Rattle.fv_tree.specs.declared.ops.Kind.TheVariants.{Integer}
 use Rattle.fv_tree.specs.declared.ops.Value.{Value}
 use Rattle.fv_tree.specs.declared.ops.Value.TheVariants.{Int}
 use Rattle.fv_tree.specs.declared.ops.Fault.{Fault}
-use Rattle.fv_meaning.specs.Store.{Store, Cell, opening_bounds}
+use Rattle.fv_meaning.specs.Store.{Store, opening_bounds}
 use Rattle.fv_meaning.specs.Typed.{declared}
 use Rattle.fv_meaning.specs.Value.{trip_count}
-use Rattle.nest_order.specs.Graphs.{Arc, Candidate, Direction, Less, Same, Greater, Sign, Just, Place}
+use Rattle.nest_order.specs.Graphs.{Arc, Candidate, Direction, Less, Same, Greater, Just, Place}
 use Rattle.nest_order.specs.Lists.{In}
-use Rattle.nest_order.specs.Shapes.{Shape, Single, Loop, no_shapes, shape, Stands, StandsIn}
+use Rattle.nest_order.specs.Shapes.{Single, Loop, no_shapes, shape, Stands}
 use Rattle.nest_runs.specs.Guarded.{Guarded, at_iterations}
 use Rattle.nest_runs.specs.Nests.{Nest, variables_round}
 use Rattle.nest_runs.specs.Stores.{IsNestIn, IsNestText, Setting}

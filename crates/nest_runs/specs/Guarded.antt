@@ -1,8 +1,8 @@
 -- Guarded assignments: what one stores, and which cells it reads.
-use Rattle.std.specs.Prelude.{Result, Ok, Err, Option, Some, None, ℕ, ℤ, pos, Bool, true, false, if◌then◌else◌}
+use Rattle.std.specs.Prelude.{Result, Ok, Err, Option, Some, None, ℕ, pos, Bool, true, false, if◌then◌else◌}
+use Rattle.fv_tree.specs.Steps.{◌>>=◌}
 use Rattle.std.specs.Prelude.{List, [], ◌∷◌, ◌++◌}
 use Rattle.fv_tree.specs.Plain.{Expression, Reference}
-use Rattle.fv_tree.specs.Steps.{◌>>=◌}
 use Rattle.fv_tree.specs.declared.ops.Fault.{Fault}
 use Rattle.fv_tree.specs.declared.ops.Fault.TheVariants.{Overflow}
 use Rattle.fv_tree.specs.declared.ops.Value.{Value}

@@ -1,5 +1,5 @@
 -- Laws of the runs of nests, and of the orders of their instances.
-use Rattle.std.specs.Prelude.{◌≡◌, Result, Ok, Option, Some, None, ℕ, ◌≤◌, Bool, List, [], map, Contains}
+use Rattle.std.specs.Prelude.{◌≡◌, Ok, Option, None, ℕ, ◌≤◌, Bool, List, [], map, Contains}
 use Rattle.std.specs.List.{AllByRecursion}
 use Rattle.fv_tree.specs.Plain.{Statement, Program}
 use Rattle.fv_meaning.specs.Dialect.{Dialect}

@@ -1,7 +1,7 @@
 -- Nests of loops from 1 by 1 with guarded assignments in them, and what their instances do to a store.
 use Rattle.std.specs.Prelude.{◌≡◌, ◌⊎◌, Result, Ok, Option, ℕ, ℤ, pos, Bool, false, ◌||◌, List, [], ◌∷◌, map}
-use Rattle.fv_tree.specs.Plain.{Expression}
 use Rattle.fv_tree.specs.Steps.{◌>>=◌}
+use Rattle.fv_tree.specs.Plain.{Expression}
 use Rattle.fv_tree.specs.declared.ops.Fault.{Fault}
 use Rattle.fv_tree.specs.declared.ops.Value.{Value}
 use Rattle.fv_tree.specs.declared.ops.Value.TheVariants.{Int}

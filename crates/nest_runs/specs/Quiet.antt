@@ -1,7 +1,7 @@
 -- Statements that read and write no lines.
 use Rattle.std.specs.Prelude.{◌≡◌, ⊤, Option, Some, ℕ, List}
-use Rattle.fv_tree.specs.Plain.{Statement, Assignment, Where, If, Do, Label, GoTo, Stop, Read, Print, Allocate}
-use Rattle.fv_tree.specs.Plain.{Deallocate, Arms, no_arms, arm, Block, no_statements, statement}
+use Rattle.fv_tree.specs.Plain.{Statement, If, Do, Read, Print}
+use Rattle.fv_tree.specs.Plain.{Arms, no_arms, arm, Block, no_statements, statement}
 use Rattle.fv_meaning.specs.Dialect.{Dialect}
 use Rattle.fv_meaning.specs.Run.{State, does_all}
 use Rattle.nest_order.specs.Shapes.{Shape, Shapes}

@@ -1,0 +1,6 @@
+//! Array forms in the place of a nest's inner loops.
+#![tactic(auto)]
+
+mod laws;
+
+pub use laws::{instances_in_inner_loops, known_numbers};
