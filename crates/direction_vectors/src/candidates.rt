@@ -32,8 +32,8 @@ fn listed(alloc: Global, refs: &RefPair, d: &Dirs, place: usize) -> Result<Vec<A
     Ok(answers)
 }
 
-/// The vectors in which two references are tested, each with what the tests say of it. One with `*` stands for the three
-/// with `<`, `=` and `>` there. Vectors stand in order, `<` before `=` before `>`.
+/// The vectors in which two references are tested, each with what the tests say of it. One with `*` stands for the
+/// three with `<`, `=` and `>` there. Vectors stand in order, `<` before `=` before `>`.
 pub fn vectors(alloc: Global, refs: &RefPair) -> Result<Seq<(Dirs, Verdict)>, Memory>
     requires { IsRefPair refs.now }
     ensures covered { IfOk result (λ answers. CoversEach refs.now answers) }

@@ -6,7 +6,8 @@ use std::test::Fail;
 use subscripts::{Affine, Dir, Pairing, Span, Verdict};
 use vector_tests::RefPair;
 
-/// A subscript pair: the coefficients of three loops on each side, the constant and a symbol's coefficient on the first.
+/// A subscript pair: the coefficients of three loops on each side, and the constant and a symbol's coefficient on the
+/// first.
 #[derive(Clone, Copy)]
 struct Sides {
     from: [i64; 3],

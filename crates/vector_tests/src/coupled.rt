@@ -61,7 +61,8 @@ pub fn a_group_refutes(ps: &[Pairing], d: &Dirs) -> bool
     requires dirs { All (λ p. AreDirsOf p d.now) ps.now }
     requires places { All (λ p. HasSevenPlaces p d.now) ps.now }
     ensures sound { IsTrue result → HasRefutedGroup ps.now d.now }
-    ensures complete { result ≡ false → (k : ℕ) → k < length ps.now → (IsSeparable ps.now k → ⊥) → IsGroupLeft ps.now d.now k }
+    ensures complete { result ≡ false → (k : ℕ) → k < length ps.now → (IsSeparable ps.now k → ⊥)
+        → IsGroupLeft ps.now d.now k }
 {
     let groups = partition(ps);
     for place in 0..ps.len() {

@@ -84,7 +84,8 @@ impl RefPair {
         (i, j)
     }
 
-    /// The least pair of iterations at which the references meet, where the tests are exact and none refutes the vector.
+    /// The least pair of iterations at which the references meet, where the tests are exact and none refutes the
+    /// vector.
     pub fn least_meeting(&self, d: &Dirs) -> (Point, Point)
         requires refs { IsRefPair self.now }
         requires vector { IsVectorOf self.now d.now }

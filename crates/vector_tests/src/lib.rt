@@ -1,5 +1,5 @@
-//! Whether two references meet in a direction vector: all their subscripts are tested together (Goff, Kennedy and Tseng,
-//! "Practical Dependence Testing", PLDI 1991, section 4; Allen and Kennedy, "Optimizing Compilers for Modern
+//! Whether two references meet in a direction vector: all their subscripts are tested together (Goff, Kennedy and
+//! Tseng, "Practical Dependence Testing", PLDI 1991, section 4; Allen and Kennedy, "Optimizing Compilers for Modern
 //! Architectures", chapter 3).
 #![tactic(auto)]
 

@@ -88,7 +88,8 @@ fn siv_word_at(ps: &[Pairing], d: &Dirs, place: usize) -> Option<Test>
     requires dirs { All (λ p. AreDirsOf p d.now) ps.now }
     requires places { All (λ p. HasSevenPlaces p d.now) ps.now }
     requires place { place < length ps.now }
-    ensures { MatchOption result (IsSivLeft ps.now d.now place) (λ w. IsRefutedIn ps.now (λ p. IsOneRefuted p d.now w)) }
+    ensures { MatchOption result (IsSivLeft ps.now d.now place)
+        (λ w. IsRefutedIn ps.now (λ p. IsOneRefuted p d.now w)) }
 {
     if !is_separable(ps, place) {
         return None;
@@ -105,7 +106,8 @@ fn miv_word_at(ps: &[Pairing], d: &Dirs, place: usize) -> Option<Test>
     requires dirs { All (λ p. AreDirsOf p d.now) ps.now }
     requires places { All (λ p. HasSevenPlaces p d.now) ps.now }
     requires place { place < length ps.now }
-    ensures { MatchOption result (IsMivLeft ps.now d.now place) (λ w. IsRefutedIn ps.now (λ p. IsSeveralRefuted p d.now w)) }
+    ensures { MatchOption result (IsMivLeft ps.now d.now place)
+        (λ w. IsRefutedIn ps.now (λ p. IsSeveralRefuted p d.now w)) }
 {
     if !is_separable(ps, place) {
         return None;
