@@ -26,7 +26,10 @@ part_array x zs s = do
 -- ---- the same of one slot
 
 abbrev pub array_here : Slot → List Axis → Array
-array_here v axes = record { extents = extents_of axes; values = map (held_here v) (column_major (map numbers_of axes)) }
+array_here v axes = record {
+  extents = extents_of axes;
+  values = map (held_here v) (column_major (map numbers_of axes));
+}
 
 abbrev pub whole_here : Slot → Result Array Fault
 whole_here v = do

@@ -61,7 +61,8 @@ behind p = record { slot = p.slot + 1; at = p.at }
 -- where the value of a cell stands
 abbrev pub place_among : List Slot → List ℕ → List ℤ → Option Place
 place_among [] x is = None
-place_among (v ∷ vs) x is = if bytes_eq v.name x then option_map (λ k. record { slot = 0; at = k }) (offset (bounds_list v.dims) is)
+place_among (v ∷ vs) x is =
+    if bytes_eq v.name x then option_map (λ k. record { slot = 0; at = k }) (offset (bounds_list v.dims) is)
     else option_map behind (place_among vs x is)
 
 -- a value stands at the place
@@ -75,7 +76,8 @@ pub record IsNamed (vs : List Slot) (x : List ℕ) (i : ℕ) (v : Slot) : Type 0
   pub bounds : bounds_among vs x ≡ bounds_now v
   pub kind : kind_among vs x ≡ Some v.kind
   pub held : (is : List ℤ) → held_among vs x is ≡ held_here v is
-  pub place : (is : List ℤ) → place_among vs x is ≡ option_map (λ k. record { slot = i; at = k }) (offset (bounds_list v.dims) is)
+  pub place : (is : List ℤ)
+      → place_among vs x is ≡ option_map (λ k. record { slot = i; at = k }) (offset (bounds_list v.dims) is)
 
 -- the slot at the place i is that of the name x
 pub record Has (vs : List Slot) (x : List ℕ) (i : ℕ) : Type 0 where

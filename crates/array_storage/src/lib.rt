@@ -1,5 +1,5 @@
-//! The store of a Fortran 90 program: the values of its names, in one list for each, of arrays that come and go (ISO/IEC
-//! 1539:1991, sections 2.4, 6.2 and 6.3).
+//! The store of a Fortran 90 program: the values of its names, in one list for each, with arrays that come and go
+//! (ISO/IEC 1539:1991, sections 2.4, 6.2 and 6.3).
 #![tactic(auto)]
 
 mod allocation;

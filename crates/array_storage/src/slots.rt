@@ -18,8 +18,8 @@ pub struct Slot {
     ghost filled: { vec_len values ≡ elements_of (bounds_list dims) },
 }
 
-/// Where a scalar's or an element's value stands: the name's place in the order of declarations, and the element's among
-/// those of the name.
+/// Where a scalar's or an element's value stands: the name's place in the order of declarations, and the element's
+/// among those of the name.
 #[derive(Clone, Copy, Debug, PartialEq, Eq)]
 pub struct Place {
     pub slot: usize,

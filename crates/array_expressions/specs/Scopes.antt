@@ -1,0 +1,95 @@
+-- Parts of values, over the store that a scope stands for.
+use Rattle.std.specs.Prelude.{Result, Ok, Option, ℕ, ℤ, Bool, List, [], ◌∷◌, map, length}
+use Rattle.fv_tree.specs.Steps.{◌>>=◌}
+use Rattle.fv_tree.specs.Operators.{call, as_numbers, reduced}
+use Rattle.fv_tree.specs.Plain.{Expression, Expressions, Subscripts, Loops, Reference}
+use Rattle.fv_tree.specs.declared.functions.Fun.{Fun}
+use Rattle.fv_tree.specs.declared.functions.Red.{Red}
+use Rattle.fv_tree.specs.declared.ops.Value.{Value}
+use Rattle.fv_tree.specs.declared.ops.Fault.{Fault}
+use Rattle.fv_meaning.specs.ArrayValues.{Array, Elements, in_whole}
+use Rattle.fv_meaning.specs.Dialect.{fortran90}
+use Rattle.fv_meaning.specs.Sections.{axes_selected, extents_of, cells_along, not_negative}
+use Rattle.fv_meaning.specs.Store.{Store, cell_at, bounds_of}
+use Rattle.fv_meaning.specs.Value.{value_of, values_of, array_of, subscript_values, selectors, evaluated, is_scalar}
+use Rattle.fv_meaning.specs.Value.{name_is_scalar, are_indices, numbered, under}
+use Rattle.array_storage.specs.Stored.{store_in}
+use Rattle.array_storage.specs.Parts.{array_along}
+use Rattle.array_expressions.specs.declared.locals.Local.{Local}
+use Rattle.array_expressions.specs.declared.scope.Scope.{Scope}
+use Rattle.array_expressions.specs.Locals.{bound_all}
+
+-- ---- the store
+
+-- with the variables of the loops that are being gone through
+abbrev pub store_at : Scope → List Local → Store
+store_at m ls = bound_all ls (store_in m.storage.now)
+
+abbrev pub bounds_at : Scope → List ℕ → Option (List (ℤ × ℤ))
+bounds_at m = (store_in m.storage.now).bounds
+
+-- ---- scalars
+
+-- what the cell of the name x with these subscripts holds
+abbrev pub held_at : List ℕ → List ℤ → Store → Result Value Fault
+held_at x is s = do
+  c ← cell_at x is s
+  Ok (s.held c)
+
+abbrev pub element_of : Reference → Store → Result Value Fault
+element_of r s = do
+  is ← subscript_values fortran90 r.subscripts s
+  held_at r.name is s
+
+abbrev pub call_of : Fun → Expressions → Store → Result Value Fault
+call_of f es s = do
+  xs ← values_of fortran90 es s
+  call f xs
+
+abbrev pub number_at : Expression → Store → Result ℤ Fault
+number_at e s = numbered (value_of fortran90 e s)
+
+-- SUM, MAXVAL or MINVAL of an array
+abbrev pub reduction_of : Red → Expression → Store → Result Value Fault
+reduction_of r e s = do
+  g ← array_of fortran90 e s
+  v ← in_whole g
+  zs ← as_numbers v.values
+  reduced 31 r zs
+
+-- ---- arrays
+
+abbrev pub is_scalar_reference : Reference → (List ℕ → Option (List (ℤ × ℤ))) → Bool
+is_scalar_reference r bounds = name_is_scalar r.subscripts (bounds r.name) (are_indices r.subscripts bounds)
+
+-- what a reference selects
+abbrev pub selected_by : Reference → Store → Result Array Fault
+selected_by r s = do
+  zs ← selectors fortran90 r.subscripts s
+  bs ← bounds_of r.name s
+  axes ← axes_selected r.subscripts bs zs
+  Ok (array_along r.name axes s)
+
+-- in whole: a scalar's value, or all elements of an array
+abbrev pub known_of : Expression → Store → Result Array Fault
+known_of e s = evaluated (is_scalar e s.bounds) (value_of fortran90 e s) (array_of fortran90 e s)
+
+-- an array of rank one
+abbrev pub listed : List Value → Array
+listed vs = record { extents = length vs ∷ []; values = vs }
+
+abbrev pub constructed : Expressions → Loops → Store → Result (List Value) Fault
+constructed es ls s = under fortran90 ls (values_of fortran90 es) s
+
+-- the extents that RESHAPE is given
+abbrev pub extents_at : Expressions → Store → Result (List ℕ) Fault
+extents_at es s = do
+  xs ← values_of fortran90 es s
+  zs ← as_numbers xs
+  Ok (map not_negative zs)
+
+-- all elements of an array
+abbrev pub whole_of : Expression → Store → Result Array Fault
+whole_of e s = do
+  g ← array_of fortran90 e s
+  in_whole g

@@ -1,0 +1,12 @@
+//! What expressions of Fortran 90 are evaluated over: what names hold, also the variables of constructors' loops, which
+//! expressions are scalars, and what values are used for (ISO/IEC 1539:1991, sections 4.5, 6.2 and 7.1).
+#![tactic(auto)]
+
+mod locals;
+mod numbers;
+mod ranks;
+mod scope;
+
+pub use locals::{Local, number_of};
+pub use numbers::{all_numbers, call, counts, listed, not_negative, selector_of};
+pub use scope::Scope;
