@@ -1,5 +1,5 @@
 -- The plain tree of each kind of part.
-use Rattle.std.proofs.Common.{◌≡◌, ℕ, List, map, rules}
+use Rattle.std.proofs.Common.{◌≡◌, ℕ, map, rules}
 use Rattle.fv_tree.specs.declared.exprs.Expr.{Expr}
 use Rattle.fv_tree.specs.declared.lists.Seq.{Seq}
 use Rattle.fv_tree.specs.View.{expression_of}

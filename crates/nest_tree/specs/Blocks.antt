@@ -3,7 +3,7 @@ use Rattle.std.specs.Prelude.{ℕ, suc, ℤ, pos, negsuc, Option, Some, None, Li
 use Rattle.fv_tree.specs.Plain.{Expression, Number, Unary, expressions, Statement, Assignment, If, Do, Label as Label'}
 use Rattle.fv_tree.specs.Plain.{GoTo, Allocate, Deallocate, Arms, no_arms, arm, Block, no_statements, statement}
 use Rattle.fv_tree.specs.declared.ops.Op.TheVariants.{Neg}
-use Rattle.nest_tree.specs.Plain.{Loop, Guarded, Part, Run, Turns, Choice, Label, Jump, Parts, no_parts, part}
+use Rattle.nest_tree.specs.Plain.{Guarded, Part, Run, Turns, Choice, Label, Jump, Parts, no_parts, part}
 use Rattle.nest_tree.specs.Plain.{Branches, no_branches, branch, Made, Nest}
 
 -- a number as an expression, whose literals aren't negative
