@@ -1,5 +1,5 @@
 -- Where a text stands behind its first lines, and why its lines are refused.
-use Rattle.std.proofs.Common.{arith, ◌≡◌, ℕ, ◌+◌, ◌<◌, ◌≤◌, List, [], ◌∷◌, ◌++◌, length, Bool, true, false, not, ◌&&◌, ◌||◌, cond, refl, ap, sym, subst, ◌∙◌, append_assoc, append-nil, length-append, Option, Some, None, IsTrue}
+use Rattle.std.proofs.Common.{arith, ◌≡◌, ℕ, ◌+◌, ◌<◌, ◌≤◌, List, [], ◌∷◌, ◌++◌, length, Bool, true, false, not, ◌&&◌, ◌||◌, cond, refl, ap, sym, subst, ◌∙◌, append_assoc, append-nil, length-append, Option, Some, None}
 use Rattle.std.specs.Prelude.{◌==◌, nat_lt, IfNone}
 use Rattle.std.specs.List.{list_any}
 use Rattle.std.specs.Str.Lines.{lines}
@@ -8,14 +8,14 @@ use Rattle.fv_tree.specs.Causes.{refusal_at}
 use Rattle.fv_tree.specs.declared.refusals.Cause.TheVariants.{BadByte90, LongLine, Continuation}
 use Rattle.fv_tree.specs.declared.refusals.Refusal.{Refusal}
 use Rattle.refusal_order.specs.Answered.{comes_before, IsAnswered}
-use Rattle.f90_grammar.specs.FreeForm.{Piece, IsPiece, written_piece, is_comment_line, is_open_behind}
-use Rattle.f90_grammar.specs.LineCauses.{Standing, Between, Within, is_in_constant, initial_line, behind_piece, LeadTo, is_bad_byte, line_characters, HasLineCause}
+use Rattle.f90_grammar.specs.FreeForm.{Piece, IsPiece, written_piece, is_comment_line}
+use Rattle.f90_grammar.specs.LineCauses.{Standing, Between, Within, is_in_constant, behind_piece, LeadTo, is_bad_byte, line_characters, HasLineCause}
 use Rattle.f90_grammar.specs.LineCauses.LeadTo.{nothing, comment, piece}
 use Rattle.f90_grammar.specs.LineCauses.HasLineCause.{HoldsBadByte, IsLong, EndsWithin}
-use Rattle.f90_unique.proofs.Pieces.{SamePiece, piece_once}
+use Rattle.f90_unique.proofs.Pieces.{piece_once}
 use Rattle.f90_lines.specs.Parts.{Part, part, part_of}
 use Rattle.f90_lines.specs.Standings.{behind_part, behind_line, behind_lines, has_bad_byte, first_bad, is_long, first_long, initial_of}
-use Rattle.f90_lines.proofs.PartLaws.{IsPartOf, has_part}
+use Rattle.f90_lines.proofs.PartLaws.{has_part}
 
 clash : {P : Type 0} (b : Bool) → b ≡ true → b ≡ false → P
 clash b h k = absurd (cc)

@@ -1,23 +1,22 @@
 -- What is read line by line are the statements of the lines.
-use Rattle.std.proofs.Common.{arith, ◌≡◌, ◌⊎◌, inl, inr, ℕ, ◌+◌, List, [], ◌∷◌, ◌++◌, length, flat_map, Bool, true, false, cond, refl, ap, sym, subst, ◌∙◌, append_assoc, append-nil, length-append, Option, Some, None, IsTrue}
+use Rattle.std.proofs.Common.{arith, ◌≡◌, ℕ, ◌+◌, List, [], ◌∷◌, ◌++◌, length, flat_map, Bool, true, false, cond, refl, ap, sym, subst, ◌∙◌, append_assoc, append-nil, length-append, Option, Some, None}
 use mathlib.Core.Path.{ap₂}
-use Rattle.std.specs.Prelude.{option_to_list, map}
+use Rattle.std.specs.Prelude.{option_to_list}
 use Rattle.std.specs.List.{list_all}
 use Rattle.std.specs.Str.Lines.{lines}
 use Rattle.std.proofs.lemmas.Bool.{cond-true, cond-false, and_from}
 use Rattle.std.proofs.lemmas.List.Folds.{list_all-append}
 use Rattle.fv_tree.specs.declared.stmts.Mark.{Mark}
 use Rattle.fv_tree.specs.declared.refusals.Refusal.{Refusal}
-use Rattle.f90_grammar.specs.FreeForm as free
-use Rattle.f90_grammar.specs.FreeForm.{Piece, IsPiece, ampersand, written_piece, is_comment_line, is_open_behind, AreFurtherPieces, ArePieces, joint, characters, AreMarks, FreeStatement, statement_at, Block, written_block, pieces_of, comments_of, AreComments, AreStatements}
+use Rattle.f90_grammar.specs.FreeForm.{Piece, ampersand, written_piece, is_comment_line, is_open_behind, AreFurtherPieces, joint, characters, AreMarks, FreeStatement, statement_at, Block, written_block, pieces_of, comments_of, AreComments, AreStatements}
 use Rattle.f90_grammar.specs.FreeForm.AreMarks.{none, mark, other}
 use Rattle.f90_grammar.specs.FreeForm.AreStatements.{ends, begins}
 use Rattle.f90_grammar.specs.LineCauses.{Standing, Between, Within, is_in_constant, initial_line, HasLineCause}
 use Rattle.f90_unique.proofs.Lines.{statements_once}
 use Rattle.f90_lines.specs.Marks.{mark_in}
 use Rattle.f90_lines.specs.Parts.{Part, part, part_of, first_chars, further_chars}
-use Rattle.f90_lines.specs.Standings.{behind_part, behind_line, behind_lines}
-use Rattle.f90_lines.specs.Readings.{Reading, Ahead, Inside, with_mark, mark_within, statement_with, behind, on_line, statements_of}
+use Rattle.f90_lines.specs.Standings.{behind_lines}
+use Rattle.f90_lines.specs.Readings.{Ahead, Inside, with_mark, mark_within, behind, statements_of}
 use Rattle.f90_lines.proofs.MarkLaws.{mark_sound, mark_complete}
 use Rattle.f90_lines.proofs.PartLaws.{IsPartOf, has_part}
 use Rattle.f90_lines.proofs.StandingLaws.{behind_comment, behind_other, ends_between}

@@ -1,6 +1,5 @@
 -- What the code holds, in the words of the definitions.
 use Rattle.std.specs.Prelude.{List, map}
-use Rattle.fv_tree.specs.declared.stmts.Mark.{Mark}
 use Rattle.f90_grammar.specs.FreeForm as free
 use Rattle.f90_grammar.specs.LineCauses as grammar
 use Rattle.f90_lines.specs.declared.parts.Part.{Part}

@@ -1,1 +1,2 @@
 pub mod BuildingLaws
+pub mod CallLaws

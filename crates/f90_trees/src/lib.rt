@@ -3,4 +3,4 @@
 
 mod laws;
 
-pub use laws::list_makes_tree;
+pub use laws::{list_makes_tree, list_tells_calls};

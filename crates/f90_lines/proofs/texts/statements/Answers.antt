@@ -1,4 +1,4 @@
-use Rattle.std.proofs.Common.{◌≡◌, None, sym, subst, ◌∙◌, inl}
+use Rattle.std.proofs.Common.{sym, subst, ◌∙◌, inl}
 use Rattle.std.specs.Str.Lines.{lines}
 use Rattle.fv_tree.specs.declared.refusals.Refusal.{Refusal}
 use Rattle.f90_grammar.specs.FreeForm.{AreStatements}
