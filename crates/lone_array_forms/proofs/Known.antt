@@ -72,7 +72,8 @@ module _ (n : Nest) (w : Setting) (facts : HasFacts 31 n w) (t : Store) (holds :
         numbers = z.0 ∷ rest.numbers;
         as_many = ap suc rest.as_many;
         have = (holds.bounds (n.variable_at l) ∙ facts.variables l (known l (inl refl)), z.1, rest.have);
-        sized = (sized z.0 range, rest.sized) }
+        sized = (sized z.0 range, rest.sized);
+      }
 
 pub numbers_are_known : NumbersAreKnown
 numbers_are_known n w s a outer inner before t facts in_nest fits variables symbols few distinct are within holds at =
@@ -87,15 +88,20 @@ numbers_are_known n w s a outer inner before t facts in_nest fits variables symb
     let syms_sized = symbols-sized w.values t n.symbols 0 (λ j x f. subst (λ m. nat_abs (w.values m) ≤ 2 ^ 63) (zero_plus j) (facts.values j x f)) in
     let outs = loops_have 31 n w facts outer before t (λ m j. holds.bounds (n.variable_at m) ∙ facts.variables m (out m j)) at in
     let all = have-append (map n.variable_at outer) (map n.variable_at inner ++ n.symbols) t (map pos before) (h.numbers ++ vals) outs
-          (have-append (map n.variable_at inner) n.symbols t h.numbers vals h.have syms) in
+    (have-append (map n.variable_at inner) n.symbols t h.numbers vals h.have syms) in
     let names : map n.variable_at outer ++ (map n.variable_at inner ++ n.symbols) ≡ names_of a
-        = sym (append_assoc (map n.variable_at outer) (map n.variable_at inner) n.symbols)
-          ∙ (ap (λ xs. xs ++ n.symbols) (sym (map-append n.variable_at outer inner))
-          ∙ (ap (λ xs. xs ++ n.symbols) (sym variables) ∙ ap (λ ys. variables_of a.loops ++ ys) (sym symbols))) in
-    (h.numbers, h.as_many, record {
-      few = few; distinct = distinct;
-      values = subst (λ xs. HaveValues xs t (map pos before ++ (h.numbers ++ vals))) names all;
-      sized = sized-append (map pos before) (h.numbers ++ vals) (small_sized before (small_iterations 31 n w facts outer before [] out within)) (sized-append h.numbers vals h.sized syms_sized) })
+    = sym (append_assoc (map n.variable_at outer) (map n.variable_at inner) n.symbols)
+    ∙ (ap (λ xs. xs ++ n.symbols) (sym (map-append n.variable_at outer inner))
+    ∙ (ap (λ xs. xs ++ n.symbols) (sym variables) ∙ ap (λ ys. variables_of a.loops ++ ys) (sym symbols))) in (
+      h.numbers,
+      h.as_many,
+      record {
+        few = few;
+        distinct = distinct;
+        values = subst (λ xs. HaveValues xs t (map pos before ++ (h.numbers ++ vals))) names all;
+        sized = sized-append (map pos before) (h.numbers ++ vals) (small_sized before (small_iterations 31 n w facts outer before [] out within)) (sized-append h.numbers vals h.sized syms_sized);
+      },
+    )
   where
     zero_plus : (j : ℕ) → j ≡ 0 + j
     zero_plus j = omega arith

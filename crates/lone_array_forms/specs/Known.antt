@@ -22,7 +22,7 @@ NumbersAreKnown =
     → variables_of a.loops ≡ map n.variable_at (outer ++ inner) → a.symbols ≡ n.symbols
     → length a.loops ≤ 7 → AreDistinct (names_of a)
     → ((l : ℕ) → In l inner
-      → (d : Declaration) × (declared w.program.declarations (n.variable_at l) ≡ Some d) × (d.kind ≡ Integer))
+    → (d : Declaration) × (declared w.program.declarations (n.variable_at l) ≡ Some d) × (d.kind ≡ Integer))
     → Within (n.turns_of w.values) [] outer before → HoldsNest 31 n w t → AreAt n outer before t
     → (zs : List ℤ) × (length zs ≡ length inner)
     × AreKnown a t (map pos before ++ (zs ++ values_from w.values 0 n.symbols))

@@ -1,6 +1,9 @@
 //! Laws of array forms of a nest's statements. A law is a function without a body: its contract is what holds.
+ghost use Rattle.lone_array_forms.specs.Composed.{ArrayFormIsForm};
 ghost use Rattle.lone_array_forms.specs.Instances.{InstancesOfArrayForms};
 ghost use Rattle.lone_array_forms.specs.Known.{NumbersAreKnown};
+
+use array_forms::array_form_stores;
 
 /// Where the instances of a statement in its inner loops may store all at once, its instances as the laws of array
 /// forms have them do the same.
@@ -13,3 +16,11 @@ pub fn instances_in_inner_loops()
 pub fn known_numbers()
     ensures { NumbersAreKnown }
 {}
+
+/// The array form of a statement of a nest, where nothing in its inner loops forbids it, is one of the forms that may
+/// stand in the place of these loops.
+pub fn array_form_in_nest()
+    ensures { ArrayFormIsForm }
+{
+    array_form_stores();
+}

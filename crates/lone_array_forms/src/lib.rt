@@ -3,4 +3,4 @@
 
 mod laws;
 
-pub use laws::{instances_in_inner_loops, known_numbers};
+pub use laws::{array_form_in_nest, instances_in_inner_loops, known_numbers};
