@@ -1,26 +1,27 @@
 -- The values of trips and of the bounds of sections.
-use Rattle.std.proofs.Common.{◌≡◌, ◌≢◌, refl, sym, ap, ◌∙◌, subst, ℕ, zero, suc, ◌+◌, ◌*◌, ◌/◌, ◌^◌, ◌≤◌, ◌<◌, ◌==◌, ℤ, pos, negsuc, neg_ℤ, ◌+ℤ◌, ◌*ℤ◌, int_div, Bool, true, false, cond, ◌&&◌, List, [], ◌∷◌, ◌++◌, drop, length, replicate, Result, Ok, Err, arith, nat_le, nat_abs}
+use Rattle.std.proofs.Common.{◌≡◌, ◌≢◌, refl, sym, ap, ◌∙◌, subst, ℕ, zero, suc, ◌+◌, ◌*◌, ◌/◌, ◌^◌, ◌≤◌, ◌<◌, ◌==◌, ℤ, pos, negsuc, neg_ℤ, ◌+ℤ◌, ◌-ℤ◌, ◌*ℤ◌, int_div, Bool, true, false, cond, ◌&&◌, List, [], ◌∷◌, ◌++◌, map, drop, length, replicate, Result, Ok, Err, Option, Some, None, arith, nat_le, nat_abs}
 use Rattle.std.specs.Ordering.{int_eq}
-use Rattle.std.proofs.lemmas.Bool.{leb-true}
+use Rattle.std.proofs.lemmas.Bool.{leb-true, le-leb}
 use Rattle.std.proofs.lemmas.Int.{ints}
-use Rattle.std.proofs.Math.IntN.{+ℤ_idl, pos-*ℤ-negsuc}
+use Rattle.std.proofs.Math.IntN.{+ℤ_idl, *ℤ_comm, pos-*ℤ-negsuc}
 use Rattle.std.proofs.Math.Nat.{mul-div_cancel, mul-le-mul_right}
-use Rattle.std.proofs.lemmas.Nat.{div-mul-add}
+use Rattle.std.proofs.lemmas.Nat.{div-mul-add, div-add-mod'}
 use mathlib.Core.Path.{ap₂}
 use Rattle.std.proofs.lemmas.Bool.Decides.{Decides-int_eq}
 use Rattle.fv_tree.specs.Operators.{fits, apply, ranged}
-use Rattle.fv_tree.specs.Plain.{Expression, Number, Binary}
+use Rattle.fv_tree.specs.Plain.{Expression, Number, Unary, Binary}
 use Rattle.fv_tree.specs.Steps.{◌>>=◌}
 use Rattle.fv_tree.specs.declared.ops.Fault.{Fault}
 use Rattle.fv_tree.specs.declared.ops.Fault.TheVariants.{Overflow, ZeroDivide}
+use Rattle.fv_tree.specs.declared.ops.Op.{Op}
 use Rattle.fv_tree.specs.declared.ops.Op.TheVariants.{Mul, Div, Add}
 use Rattle.fv_tree.specs.declared.ops.Value.{Value}
 use Rattle.fv_tree.specs.declared.ops.Value.TheVariants.{Int}
 use Rattle.fv_meaning.specs.Dialect.{Dialect}
 use Rattle.fv_meaning.specs.Sections.{not_negative}
-use Rattle.fv_meaning.specs.Store.{Store, cell_in}
+use Rattle.fv_meaning.specs.Store.{Store, cell_in, cell_at}
 use Rattle.fv_meaning.specs.Value.{value_of}
-use Rattle.linear_forms.specs.Expressed.{expressed, variables}
+use Rattle.linear_forms.specs.Expressed.{expressed, variables, variable}
 use Rattle.linear_forms.specs.Laws.{AreSized, EachHasValue}
 use Rattle.linear_forms.specs.Linear.{Form, weighted, number_at, HaveValues, sum, multiple, constant_form, is_small, all_small, not_zero, is_limited}
 use Rattle.linear_forms.specs.Places.{unit_form}
@@ -29,13 +30,13 @@ use Rattle.linear_forms.proofs.LinearLaws.{number_at-sum, number_at-multiple}
 use Rattle.linear_forms.proofs.Sizes.{abs-sum, abs-product, smaller, both, weighted-size, dropped, within_fits}
 use Rattle.array_forms.specs.Forms.{number_text, divided_text, trip_text, trip_form, terms_with, sum_text}
 use Rattle.array_forms.specs.Instances.{count_of}
-use Rattle.array_forms.specs.Laws.{Turns}
-use Rattle.array_forms.specs.Loops.{Loop, Surroundings, names_of, divided, trip_number}
+use Rattle.array_forms.specs.Laws.{HasTrip, Turns}
+use Rattle.array_forms.specs.Loops.{Trip, Loop, Surroundings, names_of, divided, trip_number}
 use Rattle.array_forms.proofs.Coefficients.{as_long, weighted_front, weighted_last}
 
 -- ---- sizes
 
-pub number_size : (loops : ℕ) (f : Form) (xs : List ℤ) → loops ≤ 7 → is_limited loops f ≡ true → AreSized xs → nat_abs (number_at f xs) ≤ 15 * (2 ^ 40 * 2 ^ 63) + 2 ^ 40
+number_size : (loops : ℕ) (f : Form) (xs : List ℤ) → loops ≤ 7 → is_limited loops f ≡ true → AreSized xs → nat_abs (number_at f xs) ≤ 15 * (2 ^ 40 * 2 ^ 63) + 2 ^ 40
 number_size loops f xs few h k =
     let parts = both (all_small f.coefficients) (is_small f.constant && nat_le (not_zero (drop loops f.coefficients)) 8) h in
     let more = both (is_small f.constant) (nat_le (not_zero (drop loops f.coefficients)) 8) parts.1 in
@@ -55,6 +56,17 @@ fitting z h = ap (λ b. let r : Result Value Fault = cond b (Ok (Int z)) (Err Ov
 
 product_size : (a : ℤ) (n : ℕ) → nat_abs a ≤ 2 ^ 40 → n ≤ 2147483646 → nat_abs (a *ℤ pos n) ≤ 2 ^ 40 * 2147483646
 product_size a n h k = subst (λ m. m ≤ 2 ^ 40 * 2147483646) (sym (abs-product a (pos n))) (smaller (nat_abs a) (2 ^ 40) n 2147483646 h k)
+
+no_more : (a b : ℕ) → 0 < b → a / b ≤ a
+no_more a b h = let e = div-add-mod' a b in let m : a / b ≤ (a / b) * b = grind (arith, h) in omega (arith, e, m)
+
+quotient_size : (z : ℤ) (n : ℕ) → 0 < n → nat_abs (int_div z (pos n)) ≤ nat_abs z
+quotient_size (pos a) n h = no_more a n h
+quotient_size (negsuc a) n h = negative (suc a / n) (suc a) (no_more (suc a) n h)
+  where
+    negative : (q m : ℕ) → q ≤ m → nat_abs (neg_ℤ (pos q)) ≤ m
+    negative zero m h = omega arith
+    negative (suc q) m h = h
 
 -- ---- a count
 
@@ -77,7 +89,7 @@ by_stride n (negsuc m) h = ap (λ z. not_negative (int_div z (negsuc m))) (pos-*
 
 -- ---- texts
 
-pub names_have : (d : Dialect) (names : List (List ℕ)) (s : Store) (xs : List ℤ) → HaveValues names s xs → EachHasValue d (variables names) s xs
+names_have : (d : Dialect) (names : List (List ℕ)) (s : Store) (xs : List ℤ) → HaveValues names s xs → EachHasValue d (variables names) s xs
 names_have d [] s [] h = tt
 names_have d (y ∷ ys) s (x ∷ xs) h = (ap (λ b. do c ← cell_in b y []; Ok (s.held c)) h.0 ∙ ap Ok h.1, names_have d ys s xs h.2)
 names_have d [] s (x ∷ xs) h = absurd h
@@ -98,8 +110,8 @@ module _ (d : Dialect) (s : Store) where
   pub number_known : (a : ℤ) → is_small a ≡ true → value_of d (number_text a) s ≡ Ok (Int a)
   number_known a h = text_has_value d 0 [] (constant_form a) s [] (omega arith) (ap₂ (λ p q. p && q) h refl) tt tt ∙ ap (λ z. Ok (Int z)) (+ℤ_idl a)
 
-  divided_known : (n : ℕ) (z : ℤ) (e : Expression) (k : ℕ) → value_of d e s ≡ Ok (Int z) → divided n z ≡ pos k → 1 ≤ n → k ≤ 2147483646 → value_of d (divided_text n e) s ≡ Ok (Int (pos k))
-  divided_known n z e k h g least most = by (n == 1) g
+  quotient_known : (n : ℕ) (z : ℤ) (e : Expression) → value_of d e s ≡ Ok (Int z) → 1 ≤ n → nat_abs z < 2 ^ 127 → value_of d (divided_text n e) s ≡ Ok (Int (divided n z))
+  quotient_known n z e h least size = by (n == 1)
     where
       not_nought : int_eq (pos n) (pos 0) ≡ false
       not_nought = by_test (int_eq (pos n) (pos 0)) refl
@@ -108,12 +120,12 @@ module _ (d : Dialect) (s : Store) where
           by_test false p = refl
           by_test true p = let same = (Decides-int_eq (pos n) (pos 0)).0 p in let none : n ≡ 0 = cc in absurd (omega (arith, none, least))
 
-      by : (b : Bool) → cond b z (int_div z (pos n)) ≡ pos k → value_of d (cond b e (Binary Div e (Number (pos n)))) s ≡ Ok (Int (pos k))
-      by true g = h ∙ ap (λ w. Ok (Int w)) g
-      by false g =
+      by : (b : Bool) → value_of d (cond b e (Binary Div e (Number (pos n)))) s ≡ Ok (Int (cond b z (int_div z (pos n))))
+      by true = h
+      by false =
           ap (λ (r : Result Value Fault). do x ← r; apply Div x (Int (pos n))) h
           ∙ (ap (λ b. ranged (cond b (Err ZeroDivide) (Ok (int_div z (pos n))))) not_nought
-          ∙ (ap (λ w. let r : Result Value Fault = cond (fits 127 w) (Ok (Int w)) (Err Overflow) in r) g ∙ fitting (pos k) (omega (arith, most))))
+          ∙ fitting (int_div z (pos n)) (let q = quotient_size z n (omega (arith, least)) in omega (arith, q, size)))
 
   -- a sum of two forms
   sum_known : (loops : ℕ) (terms : List Expression) (vs : List ℤ) (first : Expression) (f r : Form) (z : ℤ) → loops ≤ 7 → EachHasValue d terms s vs → AreSized vs → is_limited loops r ≡ true
@@ -128,13 +140,20 @@ module _ (d : Dialect) (s : Store) where
           ap₂ (λ (p q : Result Value Fault). do x ← p; y ← q; apply Add x y) one (text_has_value d loops terms r s vs few limits values sized)
           ∙ fitting (z +ℤ number_at r vs) (omega (arith, rest, whole, size))
 
+
 module _ (d : Dialect) (a : Surroundings) (s : Store) (xs : List ℤ) (few : length a.loops ≤ 7) (values : HaveValues (names_of a) s xs) (sized : AreSized xs) where
   pub trip_is : (l : Loop) → Turns a xs l → trip_number l.trip xs ≡ pos (count_of xs l)
   trip_is l t = counted_by (trip_number l.trip xs) t.least
 
+  -- the value of a trip, whether the loop turns or not
+  pub trip_value : (l : Loop) → HasTrip a xs l → value_of d (trip_text (names_of a) l.trip) s ≡ Ok (Int (trip_number l.trip xs))
+  trip_value l t =
+      let size = number_size (length a.loops) l.trip.form xs few t.limits sized in
+      quotient_known d s l.trip.divisor (number_at l.trip.form xs) (expressed (variables (names_of a)) l.trip.form)
+      (text_has_value d (length a.loops) (variables (names_of a)) l.trip.form s xs few t.limits (names_have d (names_of a) s xs values) sized) t.divisor (omega (arith, size))
+
   pub trip_known : (l : Loop) → Turns a xs l → value_of d (trip_text (names_of a) l.trip) s ≡ Ok (Int (pos (count_of xs l)))
-  trip_known l t = divided_known d s l.trip.divisor (number_at l.trip.form xs) (expressed (variables (names_of a)) l.trip.form) (count_of xs l)
-      (text_has_value d (length a.loops) (variables (names_of a)) l.trip.form s xs few t.limits (names_have d (names_of a) s xs values) sized) (trip_is l t) t.divisor t.most
+  trip_known l t = trip_value l t.trip ∙ ap (λ z. Ok (Int z)) (trip_is l t)
 
   -- the names and the trip
   abbrev pub with_trip : Loop → List ℤ

@@ -13,4 +13,4 @@ mod Whole
 mod Constructing
 mod Placing
 mod Taking
-mod NoTurns
+mod Tests

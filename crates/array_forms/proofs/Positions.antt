@@ -1,5 +1,5 @@
 -- Iterations by position: each list of iterations is that of names.
-use Rattle.std.proofs.Common.{◌≡◌, refl, sym, ap, ◌∙◌, subst, ◌⊎◌, inl, inr, ℕ, zero, suc, ◌+◌, ◌≤◌, ◌<◌, Bool, true, false, cond, List, [], ◌∷◌, ◌++◌, map, length, flat_map, arith, Contains, ◌==◌}
+use Rattle.std.proofs.Common.{◌≡◌, refl, sym, ap, ◌∙◌, subst, ◌⊎◌, inl, inr, ℕ, zero, suc, ◌+◌, ◌-◌, ◌≤◌, ◌<◌, Bool, true, false, cond, List, [], ◌∷◌, ◌++◌, map, length, filter, flat_map, arith, Contains, ◌==◌, pred}
 use Rattle.std.specs.Str.{bytes_eq}
 use Rattle.std.proofs.lemmas.Bool.{eqb-true, eqb-false}
 use Rattle.std.proofs.lemmas.List.Elements.{Contains-append_left, Contains-append_right, Contains-append_cases}
@@ -7,9 +7,11 @@ use Rattle.std.proofs.lemmas.Slice.Eq.{bytes_eq-Decides}
 use mathlib.Core.Path.{ap₂}
 use Rattle.fv_meaning.specs.ArrayValues.{counted, positions}
 use Rattle.array_laws.proofs.Members.{here, there, nowhere, cases_of, in_map, of_map}
+use Rattle.array_laws.proofs.OneToOne.{of_flat_map}
 use Rattle.array_forms.specs.Instances.{in_sequence}
 use Rattle.array_forms.specs.Loops.{Loop, variables_of, is_among, AreDistinct}
 use Rattle.array_forms.proofs.Iterations.{iterations}
+use Rattle.array_forms.proofs.Names.{among}
 
 -- ---- lists of lists
 
@@ -20,14 +22,6 @@ in_flat_map f (x ∷ ys) y z h k = by (cases_of x ys y h) (λ g. in_flat_map f y
     by : (x ≡ y) ⊎ Contains ys y → (Contains ys y → Contains (flat_map f ys) z) → Contains (f x ++ flat_map f ys) z
     by (inl e) more = Contains-append_left (f x) (flat_map f ys) z (subst (λ w. Contains (f w) z) (sym e) k)
     by (inr g) more = Contains-append_right (f x) (flat_map f ys) z (more g)
-
-of_flat_map : {A B : Type 0} (f : A → List B) (ys : List A) (z : B) → Contains (flat_map f ys) z → (y : A) × Contains ys y × Contains (f y) z
-of_flat_map f [] z c = absurd (nowhere z c)
-of_flat_map {A} f (y ∷ ys) z c = by (Contains-append_cases (f y) (flat_map f ys) z c) (of_flat_map f ys z)
-  where
-    by : Contains (f y) z ⊎ Contains (flat_map f ys) z → (Contains (flat_map f ys) z → (x : A) × Contains ys x × Contains (f x) z) → (x : A) × Contains (y ∷ ys) x × Contains (f x) z
-    by (inl h) more = (y, here y ys, h)
-    by (inr h) more = let x = more h in (x.0, there y ys x.0 x.1, x.2)
 
 in_counted : (k n i : ℕ) → k ≤ i → i < k + n → Contains (counted k n) i
 in_counted k zero i h g = absurd (omega (arith, h, g))

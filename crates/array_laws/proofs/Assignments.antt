@@ -34,7 +34,7 @@ masked (Ok (Truth b)) f k h = h b
 masked (Ok (Int z)) f k h = refl
 masked (Err e) f k h = refl
 
-bounds_alike : (s t : Store) → s.bounds ≡ t.bounds → (xs : List (List ℕ)) → AllByRecursion (λ x. s.bounds x ≡ t.bounds x) xs
+pub bounds_alike : (s t : Store) → s.bounds ≡ t.bounds → (xs : List (List ℕ)) → AllByRecursion (λ x. s.bounds x ≡ t.bounds x) xs
 bounds_alike s t e [] = tt
 bounds_alike s t e (x ∷ xs) = (ap (λ (b : List ℕ → _). b x) e, bounds_alike s t e xs)
 

@@ -14,13 +14,13 @@ use Rattle.array_laws.proofs.Orders.{writes_in_any_order}
 use Rattle.array_laws.proofs.Stages.{bound, same_answer, Split, split, joined}
 use Rattle.array_laws.proofs.Turns.{in_turn_is_at_once}
 
-abbrev effect_in : Store → Instance → Result (Option (Cell × Value)) Fault
+abbrev pub effect_in : Store → Instance → Result (Option (Cell × Value)) Fault
 effect_in s x = x.effect s
 
 -- ---- whose effect a write is
 
 -- the effect of each has a member's
-effect_of : (s : Store) (xs : List Instance) (os : List (Option (Cell × Value))) → each (effect_in s) xs ≡ Ok os → (x : Instance) → Contains xs x → (o : Option (Cell × Value)) × (x.effect s ≡ Ok o) × Contains os o
+pub effect_of : (s : Store) (xs : List Instance) (os : List (Option (Cell × Value))) → each (effect_in s) xs ≡ Ok os → (x : Instance) → Contains xs x → (o : Option (Cell × Value)) × (x.effect s ≡ Ok o) × Contains os o
 effect_of s [] os e x c = absurd (nowhere x c)
 effect_of s (y ∷ ys) os e x c =
     let p = split (effect_in s) y ys os e in

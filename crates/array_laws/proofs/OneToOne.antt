@@ -26,7 +26,7 @@ use Rattle.array_laws.proofs.Stages.{bound, same_answer}
 
 -- ---- numbers
 
-length_steps : (z k : ℤ) (n : ℕ) → length (steps_from z k n) ≡ n
+pub length_steps : (z k : ℤ) (n : ℕ) → length (steps_from z k n) ≡ n
 length_steps z k zero = refl
 length_steps z k (suc n) = ap (λ m. suc m) (length_steps (z +ℤ k) k n)
 
@@ -70,7 +70,7 @@ dimension_selects_once z n = subst AreDifferent (sym (all_numbers z n)) (triplet
 -- ---- positions
 
 -- a member of what each of a list gives
-of_flat_map : {A B : Type 0} (f : A → List B) (xs : List A) (z : B) → Contains (flat_map f xs) z → (x : A) × Contains xs x × Contains (f x) z
+pub of_flat_map : {A B : Type 0} (f : A → List B) (xs : List A) (z : B) → Contains (flat_map f xs) z → (x : A) × Contains xs x × Contains (f x) z
 of_flat_map f [] z c = absurd (nowhere z c)
 of_flat_map {A} f (y ∷ ys) z c = by (Contains-append_cases (f y) (flat_map f ys) z c) (of_flat_map f ys z)
   where

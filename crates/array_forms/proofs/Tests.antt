@@ -1,13 +1,15 @@
--- Loops of which one doesn't turn: no instance, and the IF on the trips passes over the array form.
-use Rattle.std.proofs.Common.{◌≡◌, refl, sym, ap, ◌∙◌, subst, ◌⊎◌, inl, inr, ℕ, zero, suc, ◌+◌, ◌*◌, ◌/◌, ◌^◌, ◌≤◌, ◌<◌, ◌==◌, ℤ, pos, negsuc, neg_ℤ, ◌+ℤ◌, ◌*ℤ◌, int_div, int_le, Bool, true, false, cond, ◌&&◌, List, [], ◌∷◌, ◌++◌, map, length, flat_map, Result, Ok, Err, None, arith, Contains, nat_abs}
+-- The IF on the trips: it runs its block where each loop turns; where one doesn't, it passes over it, and there is no
+-- instance.
+use Rattle.std.proofs.Common.{◌≡◌, refl, sym, ap, ◌∙◌, subst, ◌⊎◌, inl, inr, ℕ, zero, suc, ◌+◌, ◌-◌, ◌*◌, ◌/◌, ◌^◌, ◌≤◌, ◌<◌, ◌==◌, ℤ, pos, negsuc, neg_ℤ, ◌+ℤ◌, ◌*ℤ◌, int_div, int_le, Bool, true, false, cond, ◌&&◌, List, [], ◌∷◌, ◌++◌, map, length, flat_map, Result, Ok, Err, Option, Some, None, arith, Contains, nat_abs}
 use Rattle.std.specs.Ordering.{int_eq}
-use Rattle.std.proofs.lemmas.Bool.{leb-true, eqb-true}
+use Rattle.std.proofs.lemmas.Bool.{leb-true, le-leb, eqb-true}
 use Rattle.std.proofs.lemmas.Bool.Decides.{Decides-int_eq}
+use Rattle.std.proofs.lemmas.Int.{ints}
 use Rattle.std.proofs.lemmas.Nat.{div-add-mod'}
 use Rattle.std.proofs.Math.IntN.{zero-*ℤ, +ℤ_idl}
 use mathlib.Core.Path.{ap₂}
 use Rattle.fv_tree.specs.Operators.{apply, as_truth, fits, ranged}
-use Rattle.fv_tree.specs.Plain.{Expression, Number, Binary, Block, If, no_arms, arm, no_statements}
+use Rattle.fv_tree.specs.Plain.{Expression, Number, Binary, Block, If, no_arms, arm, no_statements, statement}
 use Rattle.fv_tree.specs.Steps.{◌>>=◌}
 use Rattle.fv_tree.specs.declared.ops.Fault.{Fault}
 use Rattle.fv_tree.specs.declared.ops.Fault.TheVariants.{Overflow, ZeroDivide}
@@ -22,56 +24,16 @@ use Rattle.fv_meaning.specs.Store.{Store}
 use Rattle.fv_meaning.specs.Value.{value_of, truth_of}
 use Rattle.array_laws.proofs.Members.{here, there, nowhere, cases_of}
 use Rattle.linear_forms.specs.Expressed.{expressed, variables}
-use Rattle.linear_forms.specs.Linear.{weighted, number_at, not_zero}
+use Rattle.linear_forms.specs.Linear.{Form, weighted, number_at, not_zero, is_limited}
 use Rattle.linear_forms.proofs.Expressed.{text_has_value}
 use Rattle.linear_forms.proofs.Sizes.{within_fits}
 use Rattle.array_forms.specs.Forms.{divided_text, trip_text}
 use Rattle.array_forms.specs.Instances.{count_of, counts_of, in_sequence}
-use Rattle.array_forms.specs.Laws.{HasTrip, AreKnown}
-use Rattle.array_forms.specs.Loops.{Loop, Surroundings, names_of, divided, trip_number, is_positive_constant}
+use Rattle.array_forms.specs.Laws.{HasTrip, Turns, AreKnown}
+use Rattle.array_forms.specs.Loops.{Trip, Loop, Surroundings, names_of, divided, trip_number, is_positive_constant}
 use Rattle.array_forms.specs.Statements.{tests_of, and_all, guarded_by}
-use Rattle.array_forms.proofs.Bounds.{names_have, number_size}
+use Rattle.array_forms.proofs.Bounds.{trip_value, trip_is}
 use Rattle.linear_forms.proofs.Sizes.{both}
-
--- ---- a trip's value, whether the loop turns or not
-
-no_more : (a b : ℕ) → 0 < b → a / b ≤ a
-no_more a b h = let e = div-add-mod' a b in let m : a / b ≤ (a / b) * b = grind (arith, h) in omega (arith, e, m)
-
-quotient_size : (z : ℤ) (n : ℕ) → 0 < n → nat_abs (int_div z (pos n)) ≤ nat_abs z
-quotient_size (pos a) n h = no_more a n h
-quotient_size (negsuc a) n h = negative (suc a / n) (suc a) (no_more (suc a) n h)
-  where
-    negative : (q m : ℕ) → q ≤ m → nat_abs (neg_ℤ (pos q)) ≤ m
-    negative zero m h = omega arith
-    negative (suc q) m h = h
-
-fitting : (z : ℤ) → nat_abs z < 2 ^ 127 → ◌≡◌ {A = Result Value Fault} (cond (fits 127 z) (Ok (Int z)) (Err Overflow)) (Ok (Int z))
-fitting z h = ap (λ b. let r : Result Value Fault = cond b (Ok (Int z)) (Err Overflow) in r) (within_fits z h)
-
-module _ (d : Dialect) (s : Store) where
-  quotient_known : (n : ℕ) (z : ℤ) (e : Expression) → value_of d e s ≡ Ok (Int z) → 1 ≤ n → nat_abs z < 2 ^ 127 → value_of d (divided_text n e) s ≡ Ok (Int (divided n z))
-  quotient_known n z e h least size = by (n == 1)
-    where
-      not_nought : int_eq (pos n) (pos 0) ≡ false
-      not_nought = by_test (int_eq (pos n) (pos 0)) refl
-        where
-          by_test : (b : Bool) → int_eq (pos n) (pos 0) ≡ b → b ≡ false
-          by_test false p = refl
-          by_test true p = let same = (Decides-int_eq (pos n) (pos 0)).0 p in let none : n ≡ 0 = cc in absurd (omega (arith, none, least))
-
-      by : (b : Bool) → value_of d (cond b e (Binary Div e (Number (pos n)))) s ≡ Ok (Int (cond b z (int_div z (pos n))))
-      by true = h
-      by false =
-          ap (λ (r : Result Value Fault). do x ← r; apply Div x (Int (pos n))) h
-          ∙ (ap (λ b. ranged (cond b (Err ZeroDivide) (Ok (int_div z (pos n))))) not_nought
-          ∙ fitting (int_div z (pos n)) (let q = quotient_size z n (omega (arith, least)) in omega (arith, q, size)))
-
-pub trip_value : (d : Dialect) (a : Surroundings) (s : Store) (xs : List ℤ) → AreKnown a s xs → (l : Loop) → HasTrip a xs l → value_of d (trip_text (names_of a) l.trip) s ≡ Ok (Int (trip_number l.trip xs))
-trip_value d a s xs k l t =
-    let size = number_size (length a.loops) l.trip.form xs k.few t.limits k.sized in
-    quotient_known d s l.trip.divisor (number_at l.trip.form xs) (expressed (variables (names_of a)) l.trip.form)
-    (text_has_value d (length a.loops) (variables (names_of a)) l.trip.form s xs k.few t.limits (names_have d (names_of a) s xs k.values) k.sized) t.divisor (omega (arith, size))
 
 -- ---- tests
 
@@ -101,7 +63,21 @@ test_truths d a s xs k (l ∷ ls) t = by (is_positive_constant l.trip) (test_tru
     by : (b : Bool) → AreTruths d s (tests_of (names_of a) ls) (truths xs ls)
         → AreTruths d s (cond b (tests_of (names_of a) ls) (Binary Ge (trip_text (names_of a) l.trip) (Number (pos 1)) ∷ tests_of (names_of a) ls)) (cond b (truths xs ls) (int_le (pos 1) (trip_number l.trip xs) ∷ truths xs ls))
     by true more = more
-    by false more = (ap (λ (r : Result Value Fault). do x ← r; apply Ge x (Int (pos 1))) (trip_value d a s xs k l (t l (here l ls))), more)
+    by false more = (ap (λ (r : Result Value Fault). do x ← r; apply Ge x (Int (pos 1))) (trip_value d a s xs k.few k.values k.sized l (t l (here l ls))), more)
+
+-- ---- all of them are true
+
+turns_once : (z : ℤ) → 1 ≤ not_negative z → int_le (pos 1) z ≡ true
+turns_once (pos n) h = le-leb 1 n h
+turns_once (negsuc n) h = absurd (omega (arith, h))
+
+all_true : (xs : List ℤ) (ls : List Loop) → ((l : Loop) → Contains ls l → 1 ≤ count_of xs l) → and_of true (truths xs ls) ≡ true
+all_true xs [] h = refl
+all_true xs (l ∷ ls) h = by (is_positive_constant l.trip) (all_true xs ls (λ m c. h m (there l ls m c)))
+  where
+    by : (b : Bool) → and_of true (truths xs ls) ≡ true → and_of true (cond b (truths xs ls) (int_le (pos 1) (trip_number l.trip xs) ∷ truths xs ls)) ≡ true
+    by true more = more
+    by false more = ap (λ b. and_of b (truths xs ls)) (turns_once (trip_number l.trip xs) (h l (here l ls))) ∙ more
 
 -- ---- one of them is false
 
@@ -166,10 +142,27 @@ all_false b (x ∷ bs) c = by (cases_of b (x ∷ bs) false c) (λ p. all_false (
         of (inl e) = subst (λ c. Contains (c ∷ bs) false) (sym (ap (λ y. b && y) e ∙ second b)) (here false bs)
         of (inr g) = there (b && x) bs false g
 
--- ---- the IF passes over its block
+-- ---- the IF
 
-abbrev ready : State → State
+abbrev pub ready : State → State
 ready s = record s { way = Going }
+
+taken : (d : Dialect) (line : ℕ) (test : Expression) (body : Block) (s : State) → truth_of d test s.store ≡ Ok true
+    → does d None (If line (arm test body no_arms) no_statements) (ready s) ≡ does_all d None body (ready (record s { steps = s.steps + 1 }))
+unfolding counts_step while_going evaluates
+taken d line test body s h = ap (λ r. answered line r (λ b. either b (does_all d None body) (does_all d None no_statements)) (record s { steps = s.steps + 1; way = Going })) h
+
+run_by : (d : Dialect) (line : ℕ) (tests : List Expression) (bs : List Bool) (body : Block) (s : State) → AreTruths d s.store tests bs → and_of true bs ≡ true
+    → (n : ℕ) × (does_all d None (guarded_by line tests body) (ready s) ≡ does_all d None body (ready (record s { steps = n })))
+run_by d line [] [] body s h c = (s.steps, refl)
+run_by d line [] (b ∷ bs) body s h c = absurd h
+run_by d line (e ∷ es) [] body s h c = absurd h
+run_by d line (e ∷ es) (b ∷ bs) body s h c =
+    (s.steps + 1, taken d line (and_all e es) body s (ap (λ (r : Result Value Fault). do x ← r; as_truth x) (joined_truth d s.store e b es bs h.0 h.1) ∙ ap Ok c))
+
+pub block_done : (d : Dialect) (a : Surroundings) (line : ℕ) (body : Block) (s : State) (xs : List ℤ) → AreKnown a s.store xs → (ls : List Loop) → ((l : Loop) → Contains ls l → Turns a xs l)
+    → (n : ℕ) × (does_all d None (guarded_by line (tests_of (names_of a) ls) body) (ready s) ≡ does_all d None body (ready (record s { steps = n })))
+block_done d a line body s xs k ls t = run_by d line (tests_of (names_of a) ls) (truths xs ls) body s (test_truths d a s.store xs k ls (λ l c. (t l c).trip)) (all_true xs ls (λ l c. (t l c).least))
 
 passed : (d : Dialect) (line : ℕ) (test : Expression) (body : Block) (s : State) → truth_of d test s.store ≡ Ok false
     → does d None (If line (arm test body no_arms) no_statements) (ready s) ≡ ready (record s { steps = s.steps + 1 })
