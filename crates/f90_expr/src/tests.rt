@@ -31,9 +31,12 @@ fn shown(node: &Node) -> &'static str {
     }
 }
 
+// An expression, its depth, how many words are left, and its list.
+type Row = (&'static str, u16, usize, &'static [&'static str]);
+
 #[test]
 fn expressions_are_read(rt: HostRuntime) -> Result<(), Fail> {
-    let rows: [(&str, u16, usize, &[&str]); 12] = [
+    let rows: [Row; 12] = [
         ("A + 2 * B", 2, 0, &["X", "1", "X", "*", "+"]),
         ("-A*B", 2, 0, &["X", "X", "*", "u-"]),
         ("A - B - C", 2, 0, &["X", "X", "-", "X", "-"]),

@@ -1,7 +1,7 @@
 -- The words of a statement's characters are those of its symbols.
 use Rattle.std.proofs.Common.{◌≡◌, ℕ, List, sym, ap, subst, ◌∙◌, Some, None, Ok, Err, Result}
 use Rattle.std.specs.Prelude.{IfOk, Option}
-use Rattle.f90_grammar.specs.Words.{Word, Symbol, Symbols, Words, HasWords}
+use Rattle.f90_grammar.specs.Words.{Word, Symbol, Words, HasWords}
 use Rattle.f90_words.specs.declared.symbols.Symbol as code
 use Rattle.f90_words.specs.declared.tokens.Stop.{Stop}
 use Rattle.f90_words.specs.declared.tokens.Stop.TheVariants.{Syntax, Memory}

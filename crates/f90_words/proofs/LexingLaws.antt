@@ -1,15 +1,13 @@
 -- The word at the front of a text is the one that is found.
-use Rattle.std.proofs.Common.{arith, ◌≡◌, ◌<◌, ◌≤◌, ℕ, suc, Bool, true, false, not, ◌||◌, cond, IsTrue, List, [], ◌∷◌, ◌++◌, length, refl, ap, sym, ◌∙◌, subst, codes, append_assoc, append-nil, inl, inr, ◌⊎◌}
+use Rattle.std.proofs.Common.{arith, ◌≡◌, ◌≤◌, ℕ, Bool, true, false, not, ◌||◌, cond, IsTrue, List, [], ◌∷◌, ◌++◌, length, refl, ap, sym, ◌∙◌, subst, codes, append_assoc, inl, inr, ◌⊎◌}
 use Rattle.std.specs.Prelude.{Option, Some, None, ◌==◌, nat_lt}
-use Rattle.std.specs.List.{list_any}
 use Rattle.std.proofs.lemmas.Bool.{cond_both, ltb-false, eqb-true, le-ltb, not-true, not_from_false, or_parts, or_from, cond-true, cond-false}
 use Rattle.std.proofs.lemmas.Bool.Decides.{nat_tests}
-use Rattle.fv_tree.specs.declared.ops.Op.TheVariants.{Pow, Mul, Div, Neg, Add, Sub, Lt, Le, Eq, Ne, Gt, Ge, Not, And, Or, Eqv, Neqv}
+use Rattle.fv_tree.specs.declared.ops.Op.TheVariants.{Pow, Mul, Div, Neg, Lt, Gt}
 use Rattle.fv_tree.specs.declared.ops.Op.{Op}
-use Rattle.fv_tree.specs.OperatorTable.{spelling77_of, spelling90_of}
 use Rattle.f90_grammar.specs.Words.{Symbol, Char, Gap, Text, is_digit, is_letter, goes_on, Pass, IsDigits, IsName, IsOperator, chars, AreGaps, SpelledBy, Spelled, Stops, HasNoParenthesis, Whole, Begins}
 use Rattle.f90_grammar.specs.Words.{Word, Digits, Truth, Name, Head, Operator, Open, Close, OpenList, CloseList, Comma, Equals, Colon, Colons, Constant}
-use Rattle.f90_words.specs.Lexing.{Run, run, longer, run_of, stops, skip, Front, some, number, parenthesised, named_by, named, name, strip, Fixed, fixed, is_among, unless_barred, behind_fixed, or_else, first_of, marks, signs, dotted, either, fixed_word, word_by, word}
+use Rattle.f90_words.specs.Lexing.{Run, run, longer, run_of, stops, skip, Front, some, number, parenthesised, named_by, named, name, strip, Fixed, is_among, unless_barred, behind_fixed, or_else, first_of, marks, signs, dotted, either, fixed_word, word_by, word}
 
 -- ---- tests
 

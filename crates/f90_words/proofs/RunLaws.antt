@@ -6,7 +6,7 @@ use Rattle.std.specs.Char.{is_ascii_alphabetic}
 use Rattle.std.proofs.lemmas.Bool.{cond_both}
 use Rattle.std.proofs.lemmas.Bool.Decides.{nat_tests}
 use Rattle.fv_tree.specs.Names as names
-use Rattle.f90_grammar.specs.Words.{Symbol, Char, is_digit, is_letter, goes_on, Pass, Stops}
+use Rattle.f90_grammar.specs.Words.{Symbol, Char, is_letter, goes_on, Pass, Stops}
 use Rattle.f90_words.specs.Fronts.{BeginsWithLetter, IsOther}
 use Rattle.f90_words.specs.Lexing.{Run, run, run_of, longer, strip}
 

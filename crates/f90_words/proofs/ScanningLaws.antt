@@ -1,13 +1,13 @@
 -- The scan finds the symbols, and no others.
-use Rattle.std.proofs.Common.{arith, ◌≡◌, ◌≤◌, ℕ, length, drop, get_or, ◌<◌, ◌+◌, Bool, true, false, cond, Option, Some, None, List, [], ◌∷◌, ◌++◌, refl, ap, sym, ◌∙◌, subst, append_assoc, append-nil}
+use Rattle.std.proofs.Common.{arith, ◌≡◌, ℕ, length, drop, get_or, ◌<◌, ◌+◌, Bool, true, false, cond, Option, Some, None, List, [], ◌∷◌, ◌++◌, refl, ap, sym, ◌∙◌, subst, append_assoc, append-nil}
 use Rattle.std.specs.Prelude.{◌==◌}
-use Rattle.std.proofs.lemmas.Bool.{eqb-true, cond-true, cond-false}
-use Rattle.std.proofs.lemmas.List.{drop_all, drop_more, map_push}
+use Rattle.std.proofs.lemmas.Bool.{eqb-true, cond-false}
+use Rattle.std.proofs.lemmas.List.{drop_more, map_push}
 use Rattle.f90_grammar.specs.Words.{Symbol, Char, Gap, Text, Symbols, upper, doubled, doubled_one, IsEnded, IsInLine}
 use Rattle.f90_grammar.specs.Words.Symbols.{nothing, blank, line_end, character, constant}
 use Rattle.f90_words.specs.declared.symbols.Symbol as code
 use Rattle.f90_words.specs.Symbols.{symbol_of, symbols_of}
-use Rattle.f90_words.specs.Scanning.{Mode, Out, In, Closing, shown, with_front, scan_out, scan_in, closed, scan_closing, scan_one, scan_end, scan}
+use Rattle.f90_words.specs.Scanning.{Mode, Out, In, Closing, shown, with_front, scan_out, closed, scan_closing, scan_one, scan_end, scan}
 
 -- ---- symbols before the rest
 

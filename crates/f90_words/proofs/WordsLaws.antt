@@ -1,8 +1,8 @@
 -- The words of a text, one after the other.
 use Rattle.std.proofs.Common.{arith, ◌≡◌, ℕ, List, [], ◌∷◌, ◌++◌, refl, ap, sym, ◌∙◌, subst, append_assoc, append-nil, ◌<◌, ◌≤◌, length, length-append, true, false, inl, inr}
-use Rattle.std.specs.Prelude.{Some, None, Err, Option, ◌==◌}
+use Rattle.std.specs.Prelude.{Some, None, Err}
 use Rattle.std.proofs.lemmas.List.{map_push, length-map, nil_from_length}
-use Rattle.f90_grammar.specs.Words.{Symbol, Char, Gap, Text, Words, AreGaps, Begins, SpelledBy, Spelled, IsName, IsDigits, chars}
+use Rattle.f90_grammar.specs.Words.{Symbol, Char, Gap, Text, Words, AreGaps, SpelledBy, Spelled, IsName, IsDigits, chars}
 use Rattle.f90_grammar.specs.Words.{Word, Digits, Truth, Name, Head, Operator, Constant}
 use Rattle.fv_tree.specs.declared.ops.Op.TheVariants.{Neg}
 use Rattle.f90_words.specs.declared.tokens.Token.{Token}
@@ -13,7 +13,7 @@ use Rattle.f90_words.specs.Lexing.{Front, skip, word}
 use Rattle.f90_words.specs.Symbols.{symbol_of, symbols_of}
 use Rattle.f90_words.specs.Fronts.{FrontResult, GivesWords}
 use Rattle.f90_words.specs.Tokens.{word_of, words_of}
-use Rattle.f90_words.proofs.LexingLaws.{begun, is_word, shown_skip, gaps_skip}
+use Rattle.f90_words.proofs.LexingLaws.{begun, is_word}
 
 -- ---- gaps
 

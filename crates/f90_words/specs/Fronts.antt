@@ -1,7 +1,6 @@
 -- What the functions of the lexer return.
-use Rattle.std.specs.Prelude.{ℕ, ◌≡◌, ◌==◌, ◌<◌, ◌≤◌, length, Bool, false, IsTrue, List, ◌∷◌, ◌++◌, Option, Some, None}
+use Rattle.std.specs.Prelude.{ℕ, ◌≡◌, ◌==◌, ◌<◌, ◌≤◌, length, Bool, false, IsTrue, List, ◌∷◌, Option, Some, None}
 use Rattle.std.specs.Prelude.{Result, Ok, Err}
-use Rattle.fv_tree.specs.declared.lists.Seq.{Seq}
 use Rattle.std.specs.Borrow.{Bor}
 use Rattle.f90_grammar.specs.Words as words
 use Rattle.f90_grammar.specs.Words.{Word, Char, Stops, is_letter, HasWords}

@@ -25,9 +25,12 @@ fn is_word(token: &Token, want: &str) -> bool {
     }
 }
 
+// A statement and its words.
+type Row = (&'static str, &'static [&'static str]);
+
 #[test]
 fn statements_have_words(rt: HostRuntime) -> Result<(), Fail> {
-    let rows: [(&str, &[&str]); 12] = [
+    let rows: [Row; 12] = [
         ("", &[]),
         (" \n ", &[]),
         ("a = b**2", &["A", "=", "B", "**", "2"]),
