@@ -388,19 +388,19 @@ module _ (d : Dialect) (a : Surroundings) (s : Store) (xs : List ℤ) (few : len
           ∙ (ap (λ (r : Result Array Fault). do w ← r; zs ← as_numbers w.values; Ok (selector_of w.extents zs)) (whole_full v.array (count_there ∷ []) (λ is. Int (number_there_is (first_place is))) vector_full)
           ∙ ap (λ (r : Result (List ℤ) Fault). do zs ← r; Ok (selector_of (count_there ∷ []) zs)) vector_numbers));
       on = ap (λ q. let r : Result Axis Fault = cond q (Ok (Along numbers_there)) (Err Bounds) in r) (each_stands b numbers_there (λ i low.
-        let below : i < count_there = (let long = counted_long number_there_is 0 count_there in omega (arith, low, long)) in
-        ap (stands_in b) (number_counted number_there_is 0 count_there i below) ∙ (let same : 0 + i ≡ i = omega arith in ap (λ j. stands_in b (number_there_is j)) same ∙ (at_number i below).1)));
+          let below : i < count_there = (let long = counted_long number_there_is 0 count_there in omega (arith, low, long)) in
+          ap (stands_in b) (number_counted number_there_is 0 count_there i below) ∙ (let same : 0 + i ≡ i = omega arith in ap (λ j. stands_in b (number_there_is j)) same ∙ (at_number i below).1)));
       count = counted_long number_there_is 0 count_there;
       index = v.scalar;
       differ = λ n. absurd (n not_linear);
       at = λ ι w.
-        let low = (w l among).0 in
-        let high = (w l among).1 in
-        let below : ι l.variable - 1 < count_there = omega (arith, low, high) in
-        let same : 0 + (ι l.variable - 1) ≡ ι l.variable - 1 = omega arith in
-        let next : suc (ι l.variable - 1) ≡ ι l.variable = omega (arith, low) in
-        of_instance ι ∙ (ap (λ j. value_of d e (bound_to l.variable (pos j) s)) (sym next) ∙ ((at_number (ι l.variable - 1) below).0
-        ∙ ap (λ z. Ok (Int z)) (ap number_there_is (sym same) ∙ sym (number_counted number_there_is 0 count_there (ι l.variable - 1) below))));
+          let low = (w l among).0 in
+          let high = (w l among).1 in
+          let below : ι l.variable - 1 < count_there = omega (arith, low, high) in
+          let same : 0 + (ι l.variable - 1) ≡ ι l.variable - 1 = omega arith in
+          let next : suc (ι l.variable - 1) ≡ ι l.variable = omega (arith, low) in
+          of_instance ι ∙ (ap (λ j. value_of d e (bound_to l.variable (pos j) s)) (sym next) ∙ ((at_number (ι l.variable - 1) below).0
+          ∙ ap (λ z. Ok (Int z)) (ap number_there_is (sym same) ∙ sym (number_counted number_there_is 0 count_there (ι l.variable - 1) below))));
     }
 
   -- the forms of the subscripts that aren't linear

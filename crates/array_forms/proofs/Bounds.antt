@@ -140,7 +140,6 @@ module _ (d : Dialect) (s : Store) where
           ap₂ (λ (p q : Result Value Fault). do x ← p; y ← q; apply Add x y) one (text_has_value d loops terms r s vs few limits values sized)
           ∙ fitting (z +ℤ number_at r vs) (omega (arith, rest, whole, size))
 
-
 module _ (d : Dialect) (a : Surroundings) (s : Store) (xs : List ℤ) (few : length a.loops ≤ 7) (values : HaveValues (names_of a) s xs) (sized : AreSized xs) where
   pub trip_is : (l : Loop) → Turns a xs l → trip_number l.trip xs ≡ pos (count_of xs l)
   trip_is l t = counted_by (trip_number l.trip xs) t.least

@@ -100,7 +100,7 @@ commutes x z (l ∷ ls) (i ∷ is) s h = by (bytes_eq l.variable x) refl h (comm
         → bound_to x z (at_iterations ls is (bound_to l.variable (pos i) s)) ≡ at_iterations ls is (bound_to l.variable (pos i) (bound_to x z s))
     by true e h more = absurd cc
     by false e h more = more h ∙ ap (at_iterations ls is) (put-put (variable_cell x) (variable_cell l.variable) (Int z) (Int (pos i)) s (λ q.
-      let same : l.variable ≡ x = sym (ap (λ (c : Cell). c.name) q) in let bad : false ≡ true = sym e ∙ (bytes_eq-Decides l.variable x).1 same in absurd cc))
+        let same : l.variable ≡ x = sym (ap (λ (c : Cell). c.name) q) in let bad : false ≡ true = sym e ∙ (bytes_eq-Decides l.variable x).1 same in absurd cc))
 
 -- ---- trips that don't depend on a name
 
@@ -208,18 +208,18 @@ module _ (d : Dialect) (a : Surroundings) where
       (λ t. (do lo ← numbered (value_of d (Number (pos 1)) t); u ← numbered (value_of d (trip_text (names_of a) l.trip) t); for_numbers d.bits l.variable lo u f t))
       (λ is. flat_map (λ i. h (i ∷ is)) (counted 0 (count_of xs l)))
       (λ is from.
-        let n = count_of xs l in
-        let t = at_iterations ls (map suc is) s in
-        let turn = turns l (here l ls) in
-        let most = turn.most in
-        let trip = trip_there ls (map suc is) s xs k (small_next xs ls is (λ m c. (turns m (there l ls m c)).most) from) l turn separate.1 in
-        ap (λ (r : Result Value Fault). do u ← numbered r; for_numbers d.bits l.variable (pos 1) u f t) trip
-        ∙ (ap (λ zs. let r : Result (List Value) Fault = (do vss ← each (λ z. cond (fits d.bits z) (f (bound_to l.variable z t)) (Err Overflow)) zs; Ok (joined vss)) in r)
-          (ap (λ m. numbers_from (pos 1) m) (so_many n) ∙ numbers_counted 0 n)
-        ∙ (ap (λ (r : Result (List (List Value)) Fault). let q : Result (List Value) Fault = (do vss ← r; Ok (joined vss)) in q)
-          (turned l.variable f t (λ i. h (i ∷ is)) 0 n bits (omega (arith, most)) (λ i low.
-            ap f (commutes l.variable (pos (suc i)) ls (map suc is) s separate.0) ∙ known (i ∷ is) ((omega arith, low), from)))
-        ∙ ap Ok (joined_flat (λ i. h (i ∷ is)) (counted 0 n)))))
+      let n = count_of xs l in
+      let t = at_iterations ls (map suc is) s in
+      let turn = turns l (here l ls) in
+      let most = turn.most in
+      let trip = trip_there ls (map suc is) s xs k (small_next xs ls is (λ m c. (turns m (there l ls m c)).most) from) l turn separate.1 in
+      ap (λ (r : Result Value Fault). do u ← numbered r; for_numbers d.bits l.variable (pos 1) u f t) trip
+      ∙ (ap (λ zs. let r : Result (List Value) Fault = (do vss ← each (λ z. cond (fits d.bits z) (f (bound_to l.variable z t)) (Err Overflow)) zs; Ok (joined vss)) in r)
+      (ap (λ m. numbers_from (pos 1) m) (so_many n) ∙ numbers_counted 0 n)
+      ∙ (ap (λ (r : Result (List (List Value)) Fault). let q : Result (List Value) Fault = (do vss ← r; Ok (joined vss)) in q)
+      (turned l.variable f t (λ i. h (i ∷ is)) 0 n bits (omega (arith, most)) (λ i low.
+      ap f (commutes l.variable (pos (suc i)) ls (map suc is) s separate.0) ∙ known (i ∷ is) ((omega arith, low), from)))
+      ∙ ap Ok (joined_flat (λ i. h (i ∷ is)) (counted 0 n)))))
 
   collect_flat : (ns : List ℕ) (h : List ℕ → List Value) → collect ns h ≡ flat_map h (positions ns)
   collect_flat [] h = sym (appended (h []))

@@ -63,10 +63,10 @@ unless false h = refl
 
 pub filter_among : (t : Loop → Bool) (ls : List Loop) (x : List ℕ) → is_among (variables_of ls) x ≡ false → is_among (variables_of (filter t ls)) x ≡ false
 filter_among t ls x h = unless (is_among (variables_of (filter t ls)) x) (λ e.
-  let l = loop_of (filter t ls) x e in
-  let m = of_filter t ls l.0 l.1 in
-  let found = among (variables_of ls) l.0.variable (variable_in ls l.0 m.0) in
-  let bad : false ≡ true = sym h ∙ (ap (is_among (variables_of ls)) (sym l.2) ∙ found) in absurd cc)
+    let l = loop_of (filter t ls) x e in
+    let m = of_filter t ls l.0 l.1 in
+    let found = among (variables_of ls) l.0.variable (variable_in ls l.0 m.0) in
+    let bad : false ≡ true = sym h ∙ (ap (is_among (variables_of ls)) (sym l.2) ∙ found) in absurd cc)
 
 pub filter_distinct : (t : Loop → Bool) (ls : List Loop) → AreDistinct (variables_of ls) → AreDistinct (variables_of (filter t ls))
 filter_distinct t [] d = tt
@@ -149,9 +149,9 @@ module _ (mine : List Loop) where
       by : (b : Bool) → is_among (names_in_subscript p) x ≡ b → cond b 1 0 + occurrences x ps ≡ 0 → is_among (variables_of (loops_among mine (names_in_subscript p))) x ≡ false
       by true e h = absurd (omega (arith, h))
       by false e h = unless (is_among (variables_of (loops_among mine (names_in_subscript p))) x) (λ f.
-        let l = loop_of (loops_among mine (names_in_subscript p)) x f in
-        let m = of_filter (stands_in_names (names_in_subscript p)) mine l.0 l.1 in
-        let bad : false ≡ true = sym e ∙ (ap (is_among (names_in_subscript p)) (sym l.2) ∙ m.1) in absurd cc)
+          let l = loop_of (loops_among mine (names_in_subscript p)) x f in
+          let m = of_filter (stands_in_names (names_in_subscript p)) mine l.0 l.1 in
+          let bad : false ≡ true = sym e ∙ (ap (is_among (names_in_subscript p)) (sym l.2) ∙ m.1) in absurd cc)
 
   pub order_distinct : AreDistinct (variables_of mine) → (ps : Subscripts) → ((l : Loop) → Contains mine l → occurrences l.variable ps ≤ 1) → AreDistinct (variables_of (loops_in_order mine ps))
   order_distinct d no_subscripts h = tt

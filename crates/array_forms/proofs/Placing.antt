@@ -279,17 +279,17 @@ module _ (d : Dialect) (bits : d.bits ≡ 31) (a : Surroundings) (D : List Loop)
       → ((ι : List ℕ → ℕ) → value_of d e (at_those ι ls s) ≡ value_of d e (at_those ι D s)) → has_none ls ≡ false → Over ls (constructed (names_of a) ls e) (value_there e)
   constructed_over ls part distinct e safe same some =
       let made = constructed_full d a ls s xs k bits (λ l h. t.turns l (part l h)) (separate ls part distinct) e (of_position ls (value_there e)) (λ is from.
-        let r = along ls part distinct is from in
-        ap (λ js. value_of d e (at_iterations ls js s)) (sym r.turned) ∙ (same (iteration_of ls (map suc is)) ∙ has_value e safe (iteration_of ls (map suc is)) r.within)) in
+      let r = along ls part distinct is from in
+      ap (λ js. value_of d e (at_iterations ls js s)) (sym r.turned) ∙ (same (iteration_of ls (map suc is)) ∙ has_value e safe (iteration_of ls (map suc is)) r.within)) in
       record {
         array = made.array;
         known = made.known;
         extents = made.full.extents;
         scalar = no_scalar ls some;
         at = λ ι w.
-          let c = from_positions (counts_of xs ls) (spots ι ls) (to_from ι w ls part) in
-          let r = along ls part distinct (spots ι ls) (to_from ι w ls part) in
-          made.full.at (spots ι ls) c ∙ ap Ok (ap value_in (sym (same (iteration_of ls (map suc (spots ι ls)))) ∙ (ap (λ js. value_of d e (at_iterations ls js s)) (r.turned ∙ after ι w ls part) ∙ same ι)));
+            let c = from_positions (counts_of xs ls) (spots ι ls) (to_from ι w ls part) in
+            let r = along ls part distinct (spots ι ls) (to_from ι w ls part) in
+            made.full.at (spots ι ls) c ∙ ap Ok (ap value_in (sym (same (iteration_of ls (map suc (spots ι ls)))) ∙ (ap (λ js. value_of d e (at_iterations ls js s)) (r.turned ∙ after ι w ls part) ∙ same ι)));
       }
     where
       no_scalar : (ls : List Loop) → has_none ls ≡ false → is_scalar (constructed (names_of a) ls e) s.bounds ≡ false

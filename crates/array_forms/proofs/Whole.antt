@@ -69,15 +69,17 @@ bounds_kept (l ∷ ls) (i ∷ is) s t e = bounds_kept ls is (bound_to l.variable
 
 module _ (d : Dialect) (ls : List Loop) (left : Reference) (right : Expression) where
   from_reads : (is : List ℕ) → ComesFromReads (instance_at d ls left right is)
-  from_reads is = record { same = λ s t e m.
-    let u = at_iterations ls is s in
-    let v = at_iterations ls is t in
-    let read = cells_read d right u in
-    let all = held_kept ls is s t (read ++ cells_read_by d left.subscripts u) (recursion_from_All (λ c. s.held c ≡ t.held c) (read ++ cells_read_by d left.subscripts u) m) in
-    let b = bounds_kept ls is s t e in
-    ap₂ (λ (r : Result Value Fault) (q : Result Cell Fault). do x ← r; c ← q; w ← storable d x; Ok (Some (c, w)))
-    (value_of-same d u v right (bounds_alike u v b (names_in right)) (first_part (λ c. u.held c ≡ v.held c) read (cells_read_by d left.subscripts u) all))
-    (cell_named-same d u v left (ap (λ (f : List ℕ → Option (List (ℤ × ℤ))). f left.name) b) (bounds_alike u v b (names_in_subscripts left.subscripts)) (second_part (λ c. u.held c ≡ v.held c) read (cells_read_by d left.subscripts u) all)) }
+  from_reads is = record {
+    same = λ s t e m.
+        let u = at_iterations ls is s in
+        let v = at_iterations ls is t in
+        let read = cells_read d right u in
+        let all = held_kept ls is s t (read ++ cells_read_by d left.subscripts u) (recursion_from_All (λ c. s.held c ≡ t.held c) (read ++ cells_read_by d left.subscripts u) m) in
+        let b = bounds_kept ls is s t e in
+        ap₂ (λ (r : Result Value Fault) (q : Result Cell Fault). do x ← r; c ← q; w ← storable d x; Ok (Some (c, w)))
+        (value_of-same d u v right (bounds_alike u v b (names_in right)) (first_part (λ c. u.held c ≡ v.held c) read (cells_read_by d left.subscripts u) all))
+        (cell_named-same d u v left (ap (λ (f : List ℕ → Option (List (ℤ × ℤ))). f left.name) b) (bounds_alike u v b (names_in_subscripts left.subscripts)) (second_part (λ c. u.held c ≡ v.held c) read (cells_read_by d left.subscripts u) all));
+  }
 
   all_from_reads : (iss : List (List ℕ)) → AllByRecursion ComesFromReads (map (instance_at d ls left right) iss)
   all_from_reads [] = tt
@@ -361,12 +363,14 @@ module _ (d : Dialect) (bits : d.bits ≡ 31) (a : Surroundings) (k : ℕ) (s : 
         stands : StandsFor d (Logic true) L R picked.axes s instances
         stands = record {
           instance_of = λ is c.
-            let b = by_position d a D s xs known turning is (subst (λ ns. Contains (positions ns) is) L_extents c) in
-            (instance_at d mine left right (iterations b.ι mine), in_instances b.ι b.within,
-              ap (λ js. (element_assigned d (Logic true) L R js).effect s) (sym b.places_are) ∙ (element_effect b.ι b.within ∙ sym (instance_effect b.ι b.within)));
+              let b = by_position d a D s xs known turning is (subst (λ ns. Contains (positions ns) is) L_extents c) in (
+                instance_at d mine left right (iterations b.ι mine),
+                in_instances b.ι b.within,
+                ap (λ js. (element_assigned d (Logic true) L R js).effect s) (sym b.places_are) ∙ (element_effect b.ι b.within ∙ sym (instance_effect b.ι b.within)),
+              );
           position_of = λ y c.
-            let n = numbered y c in
-            (spots n.ι, in_extents n.ι n.within, element_effect n.ι n.within ∙ (sym (instance_effect n.ι n.within) ∙ ap (λ (i : Instance). i.effect s) n.is));
+              let n = numbered y c in
+              (spots n.ι, in_extents n.ι n.within, element_effect n.ι n.within ∙ (sym (instance_effect n.ι n.within) ∙ ap (λ (i : Instance). i.effect s) n.is));
         }
 
         shape : shape_assigned d (Logic true) L R s ≡ Ok (counts_of xs D)
@@ -462,9 +466,11 @@ module _ (a : Surroundings) (k line : ℕ) (mark : Option Mark) (s : State) (t :
   with_subscripts x e ps right no_hold moved regular none run =
       let w = written fortran90 refl a k s.store xs known turns x e ps right no_hold moved t regular refl some none run in
       let left : Reference = record { name = x; subscripts = subscript (Only e) ps } in
-      let g = block_done fortran90 a line (statement (Assignment line mark (left_form a k left) (right_form a k left right)) no_statements) s xs known (loops_from a k) turns in
-      (g.0 + 1 + length w.writes, g.1 ∙ (array_statement_stores fortran90 line mark (right_form a k left right) (left_form a k left) (ready (record s { steps = g.0 })) w.writes refl w.is_array_there w.writes_known
-        ∙ ap (λ (u : Store). let r : State = record s { store = u; steps = g.0 + 1 + length w.writes; way = Going } in r) w.are))
+      let g = block_done fortran90 a line (statement (Assignment line mark (left_form a k left) (right_form a k left right)) no_statements) s xs known (loops_from a k) turns in (
+        g.0 + 1 + length w.writes,
+        g.1 ∙ (array_statement_stores fortran90 line mark (right_form a k left right) (left_form a k left) (ready (record s { steps = g.0 })) w.writes refl w.is_array_there w.writes_known
+            ∙ ap (λ (u : Store). let r : State = record s { store = u; steps = g.0 + 1 + length w.writes; way = Going } in r) w.are),
+      )
 
   pub stores_instances : (left : Reference) (right : Expression) → hold_at a k left ≡ None → are_moved a (loops_assigned a k left) left.subscripts ≡ true → is_regular a (loops_assigned a k left) right ≡ true
       → NoneReadsWritten [] (instances_of fortran90 (loops_from a k) (counts_of xs (loops_from a k)) left right) s.store
@@ -514,8 +520,11 @@ array_form_stores_instances a k line mark left right s t xs going known trips so
     Outcome = (n : ℕ) × (does_all fortran90 None (array_form_of a k line mark left right) s ≡ record s { store = t; steps = n })
 
     at_going : (u : Store) → u ≡ t → (n : ℕ) → does_all fortran90 None (array_form_of a k line mark left right) (ready s) ≡ record s { store = u; steps = n; way = Going } → Outcome
-    at_going u e n h = (n, subst (λ (v : State). does_all fortran90 None (array_form_of a k line mark left right) v ≡ record v { store = t; steps = n }) (λ i. let v : State = record s { way = sym going i } in v)
-      (h ∙ ap (λ (v : Store). let r : State = record s { store = v; steps = n; way = Going } in r) e))
+    at_going u e n h = (
+      n,
+      subst (λ (v : State). does_all fortran90 None (array_form_of a k line mark left right) v ≡ record v { store = t; steps = n }) (λ i. let v : State = record s { way = sym going i } in v)
+          (h ∙ ap (λ (v : Store). let r : State = record s { store = v; steps = n; way = Going } in r) e),
+    )
 
     by : ((l : Loop) → Contains (loops_from a k) l → 1 ≤ count_of xs l) ⊎ ((l : Loop) × Contains (loops_from a k) l × (count_of xs l ≡ 0)) → Outcome
     by (inl turn) =

@@ -24,7 +24,12 @@ const ROWS: &[Row] = &[
         notes: &[],
     },
     Row {
-        deck: &["      I = 2", "      J = I + 3", "      PRINT *, I + J", "      END"],
+        deck: &[
+            "      I = 2",
+            "      J = I + 3",
+            "      PRINT *, I + J",
+            "      END",
+        ],
         status: 0,
         out: &[
             "PROGRAM FV_PROGRAM",
@@ -45,13 +50,19 @@ const ROWS: &[Row] = &[
         notes: &["fvec: line 1: refused 14 RealName"],
     },
     Row {
-        deck: &["      I = 170141183460469231731687303715884105728", "      END"],
+        deck: &[
+            "      I = 170141183460469231731687303715884105728",
+            "      END",
+        ],
         status: 2,
         out: &[],
         notes: &["fvec: line 1: refused 8 WideLiteral"],
     },
     Row {
-        deck: &["      I = 170141183460469231731687303715884105727", "      END"],
+        deck: &[
+            "      I = 170141183460469231731687303715884105727",
+            "      END",
+        ],
         status: 0,
         out: &[
             "PROGRAM FV_PROGRAM",
@@ -87,7 +98,12 @@ const ROWS: &[Row] = &[
         notes: &[],
     },
     Row {
-        deck: &["      I = 2", "      J = -(I - 2) * 3", "      PRINT *, I + J", "      END"],
+        deck: &[
+            "      I = 2",
+            "      J = -(I - 2) * 3",
+            "      PRINT *, I + J",
+            "      END",
+        ],
         status: 0,
         out: &[
             "PROGRAM FV_PROGRAM",

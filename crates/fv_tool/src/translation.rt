@@ -21,7 +21,7 @@ use std::alloc::Global;
 fn push_data(text: &mut Vec<u8>, input: Option<&[u8]>) -> Result<(), Memory>
     ensures { OnOk result
         (text.new.items ≡ text.old.items
-            ++ data_part (is_there (option_copied input.entry)) (bytes_in (option_copied input.entry))) }
+        ++ data_part (is_there (option_copied input.entry)) (bytes_in (option_copied input.entry))) }
 {
     match input {
         None => Ok(()),

@@ -6,9 +6,9 @@ ghost use Rattle.nest_reasons.specs.Flaws.{jumps_over_loop, passes_loop, is_loop
 
 use crate::marks::Mark;
 
-/// What keeps a loop from being in a nest: it is left, or halts or does input or output; a loop in it stands in an IF or
-/// between a GO TO and its label; a bound of it isn't linear; its increment isn't a suitable constant; too many loops
-/// stand round it.
+/// What keeps a loop from being in a nest: it is left, or halts or does input or output; a loop in it stands in an IF
+/// or between a GO TO and its label; a bound of it isn't linear; its increment isn't a suitable constant; too many
+/// loops stand round it.
 #[derive(Clone, Copy, Debug, PartialEq, Eq)]
 pub enum Flaw {
     Exit,

@@ -1,5 +1,5 @@
-//! Why a loop is no nest: what stands in it that keeps it from being vectorised (Allen and Kennedy, "Optimizing Compilers
-//! for Modern Architectures", sections 2.2 and 4.2).
+//! Why a loop is no nest: what stands in it that keeps it from being vectorised (Allen and Kennedy, "Optimizing
+//! Compilers for Modern Architectures", sections 2.2 and 4.2).
 #![tactic(auto)]
 
 mod flaws;

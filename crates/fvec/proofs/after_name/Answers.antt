@@ -6,7 +6,9 @@ use Rattle.fvec.proofs.after_name.Goals as goal
 
 -- the words are those of the system without the first
 pub returns : goal.returns
-returns c = record { words = items_from_collect _ c.collect.ensures.ran
-    (YieldsList-from_skip 1 (YieldsList-from_vec (into_iter_items c.args.args)
+returns c = record {
+  words = items_from_collect _ c.collect.ensures.ran
+      (YieldsList-from_skip 1 (YieldsList-from_vec (into_iter_items c.args.args)
       (ap into_iter_items c.skip.ensures.source)
-      (ap into_iter_len c.skip.ensures.source ∙ c.args.args.rest.ok.0)) c.skip.ensures.count) }
+      (ap into_iter_len c.skip.ensures.source ∙ c.args.args.rest.ok.0)) c.skip.ensures.count);
+}
