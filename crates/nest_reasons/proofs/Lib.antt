@@ -1,4 +1,6 @@
 pub mod Lists
+pub mod Sets
+pub mod LabelLaws
 pub mod MarkLaws
 pub mod NameLaws
 pub mod LoopLaws

@@ -1,5 +1,5 @@
 -- One item more of a list that is gone through.
-use Rattle.std.proofs.Common.{◌≡◌, ℕ, ◌+◌, ◌<◌, Bool, true, false, ◌||◌, cond, List, [], ◌∷◌, ◌++◌, map, take, length, get_or, refl, sym, ap, ◌∙◌, append_assoc, add-one}
+use Rattle.std.proofs.Common.{◌≡◌, ℕ, ◌+◌, ◌<◌, Bool, true, false, ◌||◌, cond, List, [], ◌∷◌, ◌++◌, map, take, length, get_or, refl, sym, ap, ◌∙◌, append_assoc, add-one, subst, drop, drop-cons}
 use Rattle.std.specs.List.{flat_map, list_any, filter}
 use Rattle.std.proofs.Math.Seq.{take-suc}
 use Rattle.std.proofs.lemmas.Grind.{flat_map-append}
@@ -24,7 +24,7 @@ more f view list i x first old new h e before now =
     now ∙ ap (λ us. us ++ f (view x)) before ∙ append_assoc first (flat_map f (map view (take i list))) (f (view x))
     ∙ ap (λ us. first ++ us) (sym (flat_more f view list i x h e))
 
-or_false : (b : Bool) → (b || false) ≡ b
+pub or_false : (b : Bool) → (b || false) ≡ b
 or_false true = refl
 or_false false = refl
 
@@ -44,6 +44,10 @@ any_more f view list i x h e =
     ap (λ xs. list_any f (map view xs)) (one_more list i x h e)
     ∙ ap (list_any f) (map-append view (take i list) (x ∷ []))
     ∙ any-append f (map view (take i list)) (view x)
+
+-- one item more in front of what is left
+pub one_before : {A : Type 0} (xs : List A) (j i : ℕ) (d : A) → j + 1 ≡ i → j < length xs → get_or xs j d ∷ drop i xs ≡ drop j xs
+one_before xs j i d e l = subst (λ n. get_or xs j d ∷ drop n xs ≡ drop j xs) (sym (add-one j) ∙ e) (sym (drop-cons xs j d l))
 
 -- ---- those that pass a test
 

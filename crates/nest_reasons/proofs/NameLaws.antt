@@ -1,9 +1,9 @@
 -- Names of lists of expressions, of subscripts and of loops.
-use Rattle.std.proofs.Common.{◌≡◌, List, [], ◌∷◌, ◌++◌, map, refl, sym, ap, ◌∙◌, append_assoc}
+use Rattle.std.proofs.Common.{◌≡◌, List, [], ◌∷◌, ◌++◌, map, refl, ap, ◌∙◌, append_assoc}
 use Rattle.std.specs.List.{flat_map}
 use Rattle.std.proofs.lemmas.List.{append-nil}
 use Rattle.fv_tree.specs.Plain.{Expression, Subscript, Reference, subscripts, expressions}
-use Rattle.fv_tree.specs.View.{expression_of, subscript_of, reference_of, loop_of, loops, ConstructorLoop}
+use Rattle.fv_tree.specs.View.{subscript_of, reference_of, loops, ConstructorLoop}
 use Rattle.fv_tree.specs.declared.exprs.Ref.{Ref, out-Ref}
 use Rattle.fv_tree.proofs.Equations.{expression_equations, reference_of-is}
 use Rattle.fv_meaning.specs.Reads.{names_in, names_in_each, names_in_subscript, names_in_subscripts, names_in_loops}

@@ -7,7 +7,7 @@ use Rattle.nest_reasons.specs.declared.marks.Mark.TheVariants.{Halts, Jumps, Arr
 abbrev pub arrives : ℕ → Mark → Bool
 arrives n Halts = false
 arrives n (Jumps m) = false
-arrives n (Arrives m) = m == n
+arrives n (Arrives m) = n == m
 arrives n (Turns b) = false
 
 -- it halts or does input or output, or is a GO TO whose label isn't among the loop's own marks

@@ -1,5 +1,6 @@
 pub mod Flaws
 pub mod Increments
+pub mod Labels
 pub mod Loops
 pub mod Marks
 pub mod Sizes

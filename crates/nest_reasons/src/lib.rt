@@ -4,6 +4,7 @@
 
 mod flaws;
 mod increments;
+mod labels;
 mod loops;
 mod marks;
 mod names;
@@ -12,8 +13,9 @@ mod symbols;
 #[cfg(test)]
 mod tests;
 
-pub use flaws::{Flaw, exits, jumps_over_loop, loop_in_if};
+pub use flaws::{Flaw, loop_in_if};
 pub use increments::step_of;
+pub use labels::{exits, jumps_over_loop};
 pub use loops::Check;
 pub use marks::{Mark, marks_of};
 pub use names::{names_in_expr, names_in_ref, standing};

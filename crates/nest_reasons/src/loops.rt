@@ -4,8 +4,9 @@ ghost use Rattle.std.specs.List.{list_any};
 ghost use Rattle.fv_tree.specs.View.{expression_of, statement_of, tested_of, block_of};
 ghost use Rattle.nest_reasons.specs.Loops.{is_linear, has_flaw, any_loop, any_in_arm, any_in_block};
 
-use crate::flaws::{Flaw, exits, jumps_over_loop, loop_in_if};
+use crate::flaws::{Flaw, loop_in_if};
 use crate::increments::step_of;
+use crate::labels::{exits, jumps_over_loop};
 use crate::marks::marks_of;
 use crate::names::standing;
 use fv_tree::{Arm, Block, Expr, Memory, NEST_DEPTH, Name, Seq, Stmt};
@@ -74,11 +75,12 @@ impl Check {
         match self.flaw {
             Flaw::Exit => {
                 let marks = marks_of(alloc, body)?;
-                Ok(exits(marks.as_slice()))
+                exits(alloc, marks.as_slice())
             }
             Flaw::InnerIf => {
                 let marks = marks_of(alloc, body)?;
-                Ok(loop_in_if(marks.as_slice()) || jumps_over_loop(marks.as_slice()))
+                let passed = jumps_over_loop(alloc, marks.as_slice())?;
+                Ok(loop_in_if(marks.as_slice()) || passed)
             }
             Flaw::Bound => self.has_other_bound(alloc, around, first, last),
             Flaw::Step => Ok(step_of(step).is_none()),

@@ -1,5 +1,5 @@
 //! How large a loop is: assignments, and occurrences of variables other than those of loops.
-ghost use Rattle.std.specs.Prelude.{◌≡◌, ◌≤◌, ◌++◌, ◌∷◌, [], length, map, OnOk, IfOk};
+ghost use Rattle.std.specs.Prelude.{◌≡◌, ◌++◌, ◌∷◌, [], length, map, OnOk, IfOk};
 ghost use Rattle.std.specs.List.{flat_map, filter, list_any};
 ghost use Rattle.fv_tree.specs.View.{expression_of, reference_of, statement_of, tested_of, block_of};
 ghost use Rattle.fv_meaning.specs.Reads.{names_in, names_in_subscripts};

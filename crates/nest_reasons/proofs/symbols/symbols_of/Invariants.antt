@@ -1,9 +1,6 @@
 use Rattle.std.proofs.Common.{◌≡◌, map, take}
-use Rattle.std.specs.List.{filter}
-use Rattle.fv_tree.specs.Plain.{Declaration}
 use Rattle.fv_tree.specs.View.{declaration_of, block_of}
-use Rattle.fv_rewrite.specs.Names.{names_written_in}
-use Rattle.nest_reasons.specs.Symbols.{is_symbol, symbols_of}
+use Rattle.nest_reasons.specs.Symbols.{symbols_of}
 use Rattle.nest_reasons.proofs.symbols.symbols_of.Given as goal
 
 abbrev pub invariant-loop-decl : goal.invariant-loop-decl
