@@ -1,8 +1,8 @@
 -- What a nest stands for is what its shape stands for.
-use Rattle.std.proofs.Common.{◌≡◌, refl, sym, ap, ap₂, ◌∙◌, subst, ◌⊎◌, inl, inr, ℕ, ◌+◌, ◌<◌, ◌≤◌, ◌==◌, ℤ, pos, true, false, cond, List, [], ◌∷◌, ◌++◌, map, length, Option, Some, None, append_assoc, append-nil, arith}
-use Rattle.fv_tree.specs.Plain.{Expression, Number, Assignment, Do, Block, statement}
+use Rattle.std.proofs.Common.{◌≡◌, refl, sym, ap, ap₂, ◌∙◌, subst, ◌⊎◌, inl, inr, ℕ, zero, suc, ◌+◌, ◌<◌, ◌≤◌, ◌==◌, ℤ, pos, Bool, true, false, cond, List, [], ◌∷◌, ◌++◌, map, length, Option, Some, None, append_assoc, append-nil, arith}
+use Rattle.fv_tree.specs.Plain.{Expression, Number, Statement, Assignment, Do, Block, statement}
 use Rattle.nest_order.specs.Lists.{In, Each, Pairwise, Distinct}
-use Rattle.nest_order.specs.Shapes.{Loop, statements, statements_in, loops, loops_in, Stands, StandsIn}
+use Rattle.nest_order.specs.Shapes.{Shape, Single, Loop, Shapes, no_shapes, shape, statements, statements_in, loops, loops_in, Stands, StandsIn}
 use Rattle.nest_order.proofs.Lists.{Each-In, Each-from, In-left, In-right, In-append, Pairwise-append}
 use Rattle.nest_order.proofs.Membership.{map-In}
 use Rattle.nest_runs.specs.Blocks.{Layout, guarded_statement, nest_statement, nest_block}
@@ -12,7 +12,7 @@ use Rattle.nest_tree.specs.Blocks.{statement_of_part, block_of_parts, under_guar
 use Rattle.nest_tree.specs.Bodies.{Standing, statements_in as standing_in, statements_in_parts, statements_of, loops_of, loops_in_parts}
 use Rattle.nest_tree.specs.Plain.{Part, Run, Turns, Choice, Label, Jump, Parts, no_parts, part}
 use Rattle.nest_tree.specs.Plain as tree
-use Rattle.nest_shapes.specs.Shapes.{IsPlain, ArePlain, size_of, sizes_of, shape_of, shapes_of, numbers_of, loop_numbered, guarded_of, line_of, loops_round, variable_of_loop, trip_of_loop, nest_of, layout_of, StatementIsOfShape, ShapeIsNest}
+use Rattle.nest_shapes.specs.Shapes.{IsNormal, IsPlain, ArePlain, size_of, sizes_of, shape_of, shapes_of, numbers_of, loop_numbered, guarded_of, line_of, loops_round, variable_of_loop, trip_of_loop, nest_of, layout_of, StatementIsOfShape, ShapeIsNest}
 
 -- ---- lists
 

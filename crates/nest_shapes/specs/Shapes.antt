@@ -10,7 +10,7 @@ use Rattle.nest_runs.specs.Nests.{Nest}
 use Rattle.nest_runs.specs.Touched.{nth_of}
 use Rattle.nest_tree.specs.Blocks.{statement_of_part}
 use Rattle.nest_tree.specs.Bodies.{Standing, statements_of, loops_of}
-use Rattle.nest_tree.specs.Plain.{Part, Run, Turns, Parts, no_parts, part}
+use Rattle.nest_tree.specs.Plain.{Part, Run, Turns, Choice, Label, Jump, Parts, no_parts, part}
 use Rattle.nest_tree.specs.Plain as tree
 
 -- the loop goes from 1 by 1
