@@ -1,12 +1,11 @@
 -- Every expression is read.
-use Rattle.std.proofs.Common.{arith, ◌≡◌, ◌<◌, ◌≤◌, ℕ, ◌+◌, List, [], ◌∷◌, ◌++◌, refl, sym, ap, ◌∙◌, Bool, true, false, ◌&&◌, IsTrue, append_assoc, ◌⊎◌, inl, inr, Option, Some, None, max, min}
+use Rattle.std.proofs.Common.{arith, ◌≡◌, ◌<◌, ◌≤◌, ℕ, ◌+◌, List, [], ◌∷◌, ◌++◌, refl, sym, ap, ◌∙◌, Bool, true, false, ◌&&◌, IsTrue, append_assoc, ◌⊎◌, inl, inr, max}
 use mathlib.Core.Path.{ap₂}
 use Rattle.std.proofs.lemmas.Bool.{cond-true, le-leb}
-use Rattle.std.proofs.lemmas.Bool.Decides.{nat_tests}
-use Rattle.std.specs.Prelude.{nat_le, if◌then◌else◌}
+use Rattle.std.specs.Prelude.{nat_le}
 use Rattle.fv_tree.specs.declared.ops.Op.{Op}
 use Rattle.fv_tree.specs.declared.ops.Op.TheVariants.{Pow}
-use Rattle.fv_tree.specs.OperatorTable.{Sign, Plus, Minus, Negation, level_of, left_least, right_least, stands_between, sign_level, is_relation, may_follow}
+use Rattle.fv_tree.specs.OperatorTable.{Sign, Plus, Minus, Negation, level_of, left_least, right_least, stands_between, sign_level}
 use Rattle.f90_grammar.specs.Words.{Word}
 use Rattle.f90_grammar.specs.Words as words
 use Rattle.f90_grammar.specs.Phrases as phrases
@@ -14,7 +13,7 @@ use Rattle.f90_grammar.specs.Phrases.{Phrase, Part, Value, Range, Strided, Parts
 use Rattle.f90_unique.specs.Unique.{EndsExpression}
 use Rattle.f90_expr.specs.Flat as flats
 use Rattle.f90_expr.specs.Flat.{Node, flat, flat_part, flat_parts, flat_values, flat_turn, placed, placed_part, placed_parts, placed_values, placed_turn}
-use Rattle.f90_expr.specs.Machine.{Info, info, counted, deeper, info_of, primary, signed, joined, enclosed, Frame, Before, After, Within, Among, From, By, Items, First, Last, State, Wants, Has, HasTurn, WantsName, WantsEquals, Step, Go, run, went, begin, go_on, close, held, halted, least, frame_least, join, into, emitted, answer, turn_node}
+use Rattle.f90_expr.specs.Machine.{Info, info, counted, deeper, info_of, signed, joined, enclosed, Frame, Before, After, Within, Among, From, By, Items, First, Last, State, Wants, Has, HasTurn, Step, Go, run, went, begin, go_on, close, halted, least, frame_least, join, into, emitted, answer, turn_node}
 use Rattle.f90_expr.proofs.Stacks.{stays, closes}
 
 -- ---- what is known of a phrase

@@ -1,7 +1,7 @@
 -- An expression but for where its signs stand.
-use Rattle.std.proofs.Common.{◌≡◌, ◌≤◌, ◌+◌, Bool, true, ◌&&◌, IsTrue, refl}
+use Rattle.std.proofs.Common.{◌≡◌, ◌≤◌, ◌+◌, true, ◌&&◌, IsTrue, refl}
 use Rattle.std.proofs.lemmas.Bool.{and_parts, and_from}
-use Rattle.fv_tree.specs.OperatorTable.{level_of, left_least, right_least, stands_between, sign_level, may_follow}
+use Rattle.fv_tree.specs.OperatorTable.{left_least, right_least, stands_between, sign_level, may_follow}
 use Rattle.f90_grammar.specs.Phrases as phrases
 use Rattle.f90_grammar.specs.Phrases.{Phrase, Part, Value, Range, Strided, Parts, Phrases, Turn, level, begins_with_sign, sign_word, IsExpression, IsPart, AreParts, AreExpressions, IsTurn}
 use Rattle.f90_expr.specs.Flat.{placed, placed_part, placed_parts, placed_values, placed_turn}

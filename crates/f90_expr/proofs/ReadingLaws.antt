@@ -1,7 +1,7 @@
 -- Reading by the machine, in the words of the grammar.
-use Rattle.std.proofs.Common.{◌≡◌, ℕ, List, [], ◌∷◌, ◌++◌, Bool, true, false, refl, ap, sym, ◌∙◌, subst, Some, None, Ok, Err}
+use Rattle.std.proofs.Common.{◌≡◌, List, [], ◌++◌, Bool, true, false, ap, sym, ◌∙◌, subst, Some, None, Err}
 use Rattle.std.specs.Prelude.{Option}
-use Rattle.f90_grammar.specs.Phrases.{Phrase, IsExpression, written, depth}
+use Rattle.f90_grammar.specs.Phrases.{Phrase, IsExpression, written}
 use Rattle.f90_grammar.specs.Words.{Word}
 use Rattle.f90_unique.specs.Unique.{EndsExpression}
 use Rattle.f90_words.specs.declared.tokens.Stop.{Stop}
@@ -9,8 +9,8 @@ use Rattle.f90_words.specs.declared.tokens.Stop.TheVariants.{Syntax, Memory}
 use Rattle.f90_expr.specs.declared.nodes.Node as code
 use Rattle.f90_expr.specs.declared.nodes.Expression.{Expression}
 use Rattle.f90_expr.specs.declared.operands.Operand.{Operand}
-use Rattle.f90_expr.specs.Flat.{Node, flat, placed}
-use Rattle.f90_expr.specs.Machine.{Info, Read, Wants, run, answer, info_of, counted}
+use Rattle.f90_expr.specs.Flat.{Node, flat}
+use Rattle.f90_expr.specs.Machine.{Info, Read, Wants, run, answer, info_of}
 use Rattle.f90_expr.specs.Reading.{IsMadeOf, Begins, Gives}
 use Rattle.f90_expr.specs.Views.{info_seen, nodes_seen, Lacks}
 use Rattle.f90_expr.proofs.Complete.{is_run}

@@ -1,7 +1,7 @@
 -- What is read is an expression.
-use Rattle.std.proofs.Common.{arith, ◌≡◌, ◌≤◌, ◌<◌, ℕ, ◌+◌, Bool, true, false, List, [], ◌∷◌, ◌++◌, inl, inr, max, min, refl, ap, sym, ◌∙◌, subst, IsTrue, append_assoc, append-nil, cond}
+use Rattle.std.proofs.Common.{arith, ◌≡◌, ◌≤◌, ℕ, ◌+◌, Bool, true, false, List, [], ◌∷◌, ◌++◌, inl, inr, max, refl, ap, sym, ◌∙◌, subst, IsTrue, append_assoc, cond}
 use mathlib.Core.Path.{ap₂}
-use Rattle.std.specs.Prelude.{Option, Some, None, ◌&&◌, nat_le, is_some, if◌then◌else◌}
+use Rattle.std.specs.Prelude.{Option, Some, None, ◌&&◌, nat_le, is_some}
 use Rattle.std.proofs.lemmas.Bool.{cond_both, cases_lt, leb-true}
 use Rattle.fv_tree.specs.declared.ops.Op.{Op}
 use Rattle.fv_tree.specs.declared.ops.Op.TheVariants.{Pow, Add, Sub, Not}
@@ -12,7 +12,7 @@ use Rattle.f90_grammar.specs.Phrases as phrases
 use Rattle.f90_grammar.specs.Phrases.{Phrase, Part, Value, Range, Strided, Parts, Phrases, Turn, level, depth, written, written_part, written_parts, written_values, written_turn, IsExpression, sign_word, depth_of_part, depth_of_parts, depth_of_values, depth_of_turn}
 use Rattle.f90_expr.specs.Flat as flats
 use Rattle.f90_expr.specs.Flat.{Node, flat, flat_part, flat_parts, flat_values, flat_turn, placed, placed_part, placed_parts, placed_values, placed_turn}
-use Rattle.f90_expr.specs.Machine.{Info, info, counted, deeper, info_of, primary, signed, joined, enclosed, Frame, Before, After, Within, Among, From, By, Items, First, Last, State, Wants, Has, HasTurn, WantsName, WantsEquals, Step, Go, Stop, Fail, Read, run, step, went, stopped, begin, begin_sign, sign_of, go_on, after_turn, loop_round, end_looped, take_name, take_equals, close, Held, held, halted, halt, least, frame_least, join, into, emitted, answer, turn_node, shut, part, colon, shut_list, if_placed, read}
+use Rattle.f90_expr.specs.Machine.{Info, counted, deeper, info_of, primary, signed, joined, enclosed, Frame, Before, After, Within, Among, From, By, Items, First, Last, State, Wants, Has, HasTurn, WantsName, WantsEquals, Step, Go, Stop, Fail, Read, run, step, went, stopped, begin, begin_sign, sign_of, go_on, after_turn, loop_round, end_looped, take_name, take_equals, close, Held, halted, halt, least, join, turn_node, shut, part, colon, shut_list}
 use Rattle.f90_expr.proofs.Stacks.{stays, closes}
 use Rattle.f90_expr.proofs.Complete.{signed_is, joined_is, enclosed_is, counted_max}
 use Rattle.f90_expr.proofs.Placing.{IsGrouped, IsGroupedPart, AreGroupedParts, AreGroupedValues, IsGroupedTurn, is_expression}

@@ -2,7 +2,6 @@
 use Rattle.std.specs.Prelude.{◌≡◌, false, List, [], ◌∷◌, map, reverse, Option, Some, None, Result, Ok, Err}
 use Rattle.std.specs.Borrow.{Bor}
 use Rattle.fv_tree.specs.OperatorTable as table
-use Rattle.f90_grammar.specs.Words.{Word}
 use Rattle.f90_words.specs.Tokens.{words_of}
 use Rattle.f90_words.specs.declared.tokens.Token.{Token}
 use Rattle.f90_words.specs.declared.tokens.Stop.{Stop}
