@@ -31,7 +31,8 @@ impl Scope<'_> {
         }
     }
 
-    /// Whether a reference is a scalar: a name where it has no dimensions, and with subscripts where each of these is one.
+    /// Whether a reference is a scalar: a name where it has no dimensions, and with subscripts where each of these is
+    /// one.
     #[cycle(ranks)]
     #[tactic(auto, using(crate::proofs::RankLaws::item_laws))]
     pub fn is_scalar_item(&self, item: &Ref) -> bool
