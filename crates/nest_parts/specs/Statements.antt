@@ -1,5 +1,5 @@
--- The parts of a nest that statements are, by the number of the last loop before them in the program. Statements that no nest
--- has are left out.
+-- The parts of a nest that statements are, by the number of the last loop before them in the program. Statements that
+-- no nest has are left out.
 use Rattle.std.specs.Prelude.{ℕ, ℤ, pos, Option, Some, None, List, [], ◌∷◌, ◌++◌}
 use Rattle.fv_tree.specs.Plain.{Expression, Statement, Assignment, Where, If, Do, Label, GoTo, Stop, Read, Print}
 use Rattle.fv_tree.specs.Plain.{Allocate, Deallocate, Arms, no_arms, arm, Block, no_statements, statement}
