@@ -1,5 +1,5 @@
 -- The list of an expression makes its tree.
-use Rattle.std.proofs.Common.{◌≡◌, ℕ, List, [], ◌∷◌, ◌++◌, refl, ap, sym, ◌∙◌, append_assoc, append-nil, Option, Some, None}
+use Rattle.std.proofs.Common.{◌≡◌, ℕ, List, [], ◌∷◌, ◌++◌, refl, ap, sym, ◌∙◌, append_assoc, append-nil, Option}
 use Rattle.fv_tree.specs.declared.functions.Intrinsic.{Intrinsic}
 use Rattle.fv_tree.specs.Plain as tree
 use Rattle.fv_tree.specs.Plain.{Expression, Subscript, Loops}
@@ -8,7 +8,7 @@ use Rattle.f90_grammar.specs.Phrases as phrases
 use Rattle.f90_grammar.specs.Phrases.{Phrase, tree_of, tree_of_part, trees_of_parts, trees_of_values, looped, called}
 use Rattle.f90_expr.specs.Flat as flats
 use Rattle.f90_expr.specs.Flat.{Node, flat, flat_part, flat_parts, flat_values, flat_turn}
-use Rattle.f90_trees.specs.Building.{MakesTree, Entry, Value, Part, Mark, Turn, loop_of, Parts, parts_above, Values, values_above, constructed, listed, build, built_on, build_all}
+use Rattle.f90_trees.specs.Building.{MakesTree, Entry, Value, Part, Mark, Turn, loop_of, Parts, parts_above, Values, values_above, constructed, listed, built_on, build_all}
 
 -- ---- parts and values on the stack, the last one above
 
