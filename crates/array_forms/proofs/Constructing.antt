@@ -1,37 +1,36 @@
 -- Constructors over loops: they have the values of all iterations, the first loop running fastest.
-use Rattle.std.proofs.Common.{◌≡◌, ◌≢◌, refl, sym, ap, ◌∙◌, subst, ◌⊎◌, inl, inr, ℕ, zero, suc, ◌+◌, ◌-◌, ◌*◌, ◌^◌, ◌≤◌, ◌<◌, ℤ, pos, negsuc, ◌+ℤ◌, ◌-ℤ◌, ◌*ℤ◌, Bool, true, false, cond, ◌&&◌, List, [], ◌∷◌, ◌++◌, map, length, flat_map, Result, Ok, Err, Option, Some, None, arith, Contains, nat_le}
+use Rattle.std.proofs.Common.{◌≡◌, refl, sym, ap, ◌∙◌, ℕ, zero, suc, ◌+◌, ◌*◌, ◌^◌, ◌≤◌, ◌<◌, ℤ, pos, ◌+ℤ◌, ◌-ℤ◌, ◌*ℤ◌, Bool, true, false, cond, List, [], ◌∷◌, ◌++◌, map, length, flat_map, Result, Ok, Err, arith, Contains}
 use Rattle.std.specs.Str.{bytes_eq}
 use Rattle.std.proofs.lemmas.Bool.{le-leb, lt-ltb}
 use Rattle.std.proofs.lemmas.Int.{ints}
 use Rattle.std.proofs.lemmas.Slice.Eq.{bytes_eq-Decides}
 use Rattle.std.proofs.Math.IntN.{zero-*ℤ, +ℤ_idl}
 use mathlib.Core.Path.{ap₂}
-use Rattle.fv_tree.specs.Operators.{fits, as_number, as_numbers}
-use Rattle.fv_tree.specs.Plain.{Expression, Number, Constructor, Reshape, Expressions, no_expressions, expression, expressions}
+use Rattle.fv_tree.specs.Operators.{fits, as_numbers}
+use Rattle.fv_tree.specs.Plain.{Expression, Number, Constructor, Reshape, no_expressions, expression, expressions}
 use Rattle.fv_tree.specs.Steps.{◌>>=◌}
 use Rattle.fv_tree.specs.declared.ops.Fault.{Fault}
 use Rattle.fv_tree.specs.declared.ops.Fault.TheVariants.{Overflow, Shape}
 use Rattle.fv_tree.specs.declared.ops.Value.{Value}
-use Rattle.fv_tree.specs.declared.ops.Value.TheVariants.{Int, Truth}
-use Rattle.fv_meaning.specs.ArrayValues.{Array, Elements, each, counted, positions, place_of, size, settled, in_whole, reshaped}
+use Rattle.fv_tree.specs.declared.ops.Value.TheVariants.{Int}
+use Rattle.fv_meaning.specs.ArrayValues.{Array, Elements, each, counted, positions, size, settled, in_whole, reshaped}
 use Rattle.fv_meaning.specs.Dialect.{Dialect}
 use Rattle.fv_meaning.specs.Sections.{not_negative}
-use Rattle.fv_meaning.specs.Store.{Store, Cell, same_cell, numbers_from}
+use Rattle.fv_meaning.specs.Store.{Store, Cell, numbers_from}
 use Rattle.fv_meaning.specs.Value.{value_of, values_of, array_of, under, for_numbers, joined, numbered, bound_to}
 use Rattle.fv_meaning.proofs.ArrayLaws.{settled-whole}
 use Rattle.fv_meaning.proofs.Exchanges.{put-put}
-use Rattle.array_laws.proofs.Members.{here, there, nowhere, cases_of}
+use Rattle.array_laws.proofs.Members.{here, there}
 use Rattle.array_laws.proofs.Sections.{value_there, number_of_positions, length_map}
-use Rattle.linear_forms.specs.Laws.{AreSized}
-use Rattle.linear_forms.specs.Linear.{Form, weighted, number_at, HaveValues}
-use Rattle.array_forms.specs.Forms.{trip_text, loops_over, shaped, constructed}
+use Rattle.linear_forms.specs.Linear.{Form, weighted, number_at}
+use Rattle.array_forms.specs.Forms.{trip_text, loops_over, constructed}
 use Rattle.array_forms.specs.Instances.{at_iterations, count_of, counts_of}
 use Rattle.array_forms.specs.Laws.{Turns, AreKnown}
-use Rattle.array_forms.specs.Loops.{Trip, Loop, Surroundings, variables_of, names_of, is_among, AreDistinct, divided, trip_number, coefficient, without}
+use Rattle.array_forms.specs.Loops.{Loop, Surroundings, variables_of, names_of, is_among, divided, coefficient, without}
 use Rattle.array_forms.proofs.Bounds.{trip_known}
 use Rattle.array_forms.proofs.Coefficients.{replaced, replaced_sized, replaced_have, number_replaced, as_long}
 use Rattle.array_forms.proofs.Iterations.{variable_cell}
-use Rattle.array_forms.proofs.Positions.{AreFrom, positions_from, from_positions}
+use Rattle.array_forms.proofs.Positions.{AreFrom}
 
 -- ---- arrays of which each element is known
 
@@ -100,7 +99,7 @@ commutes x z (l ∷ ls) (i ∷ is) s h = by (bytes_eq l.variable x) refl h (comm
         → bound_to x z (at_iterations ls is (bound_to l.variable (pos i) s)) ≡ at_iterations ls is (bound_to l.variable (pos i) (bound_to x z s))
     by true e h more = absurd cc
     by false e h more = more h ∙ ap (at_iterations ls is) (put-put (variable_cell x) (variable_cell l.variable) (Int z) (Int (pos i)) s (λ q.
-      let same : l.variable ≡ x = sym (ap (λ (c : Cell). c.name) q) in let bad : false ≡ true = sym e ∙ (bytes_eq-Decides l.variable x).1 same in absurd cc))
+        let same : l.variable ≡ x = sym (ap (λ (c : Cell). c.name) q) in let bad : false ≡ true = sym e ∙ (bytes_eq-Decides l.variable x).1 same in absurd cc))
 
 -- ---- trips that don't depend on a name
 
@@ -208,18 +207,18 @@ module _ (d : Dialect) (a : Surroundings) where
       (λ t. (do lo ← numbered (value_of d (Number (pos 1)) t); u ← numbered (value_of d (trip_text (names_of a) l.trip) t); for_numbers d.bits l.variable lo u f t))
       (λ is. flat_map (λ i. h (i ∷ is)) (counted 0 (count_of xs l)))
       (λ is from.
-        let n = count_of xs l in
-        let t = at_iterations ls (map suc is) s in
-        let turn = turns l (here l ls) in
-        let most = turn.most in
-        let trip = trip_there ls (map suc is) s xs k (small_next xs ls is (λ m c. (turns m (there l ls m c)).most) from) l turn separate.1 in
-        ap (λ (r : Result Value Fault). do u ← numbered r; for_numbers d.bits l.variable (pos 1) u f t) trip
-        ∙ (ap (λ zs. let r : Result (List Value) Fault = (do vss ← each (λ z. cond (fits d.bits z) (f (bound_to l.variable z t)) (Err Overflow)) zs; Ok (joined vss)) in r)
-          (ap (λ m. numbers_from (pos 1) m) (so_many n) ∙ numbers_counted 0 n)
-        ∙ (ap (λ (r : Result (List (List Value)) Fault). let q : Result (List Value) Fault = (do vss ← r; Ok (joined vss)) in q)
-          (turned l.variable f t (λ i. h (i ∷ is)) 0 n bits (omega (arith, most)) (λ i low.
-            ap f (commutes l.variable (pos (suc i)) ls (map suc is) s separate.0) ∙ known (i ∷ is) ((omega arith, low), from)))
-        ∙ ap Ok (joined_flat (λ i. h (i ∷ is)) (counted 0 n)))))
+      let n = count_of xs l in
+      let t = at_iterations ls (map suc is) s in
+      let turn = turns l (here l ls) in
+      let most = turn.most in
+      let trip = trip_there ls (map suc is) s xs k (small_next xs ls is (λ m c. (turns m (there l ls m c)).most) from) l turn separate.1 in
+      ap (λ (r : Result Value Fault). do u ← numbered r; for_numbers d.bits l.variable (pos 1) u f t) trip
+      ∙ (ap (λ zs. let r : Result (List Value) Fault = (do vss ← each (λ z. cond (fits d.bits z) (f (bound_to l.variable z t)) (Err Overflow)) zs; Ok (joined vss)) in r)
+      (ap (λ m. numbers_from (pos 1) m) (so_many n) ∙ numbers_counted 0 n)
+      ∙ (ap (λ (r : Result (List (List Value)) Fault). let q : Result (List Value) Fault = (do vss ← r; Ok (joined vss)) in q)
+      (turned l.variable f t (λ i. h (i ∷ is)) 0 n bits (omega (arith, most)) (λ i low.
+      ap f (commutes l.variable (pos (suc i)) ls (map suc is) s separate.0) ∙ known (i ∷ is) ((omega arith, low), from)))
+      ∙ ap Ok (joined_flat (λ i. h (i ∷ is)) (counted 0 n)))))
 
   collect_flat : (ns : List ℕ) (h : List ℕ → List Value) → collect ns h ≡ flat_map h (positions ns)
   collect_flat [] h = sym (appended (h []))

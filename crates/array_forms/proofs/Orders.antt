@@ -1,5 +1,5 @@
 -- The loops of a statement in the order of its left subscripts.
-use Rattle.std.proofs.Common.{◌≡◌, ◌≢◌, refl, sym, ap, ◌∙◌, subst, ◌⊎◌, inl, inr, ℕ, zero, suc, ◌+◌, ◌-◌, ◌≤◌, ◌<◌, ◌==◌, Bool, true, false, cond, ◌&&◌, ◌||◌, List, [], ◌∷◌, ◌++◌, map, drop, length, filter, arith, Contains, Option, Some, None, nat_le, not, pos}
+use Rattle.std.proofs.Common.{◌≡◌, ◌≢◌, refl, sym, ap, ◌∙◌, subst, ◌⊎◌, inl, inr, ℕ, zero, suc, ◌+◌, ◌-◌, ◌≤◌, ◌==◌, Bool, true, false, cond, ◌&&◌, ◌||◌, List, [], ◌∷◌, ◌++◌, drop, length, filter, arith, Contains, Some, None, nat_le, not, pos}
 use Rattle.std.specs.List.{list_all, list_any}
 use Rattle.std.specs.Ordering.{int_eq}
 use Rattle.std.proofs.lemmas.Bool.Decides.{Decides-int_eq}
@@ -8,13 +8,13 @@ use Rattle.std.proofs.lemmas.Bool.{eqb-true, le-leb}
 use Rattle.std.proofs.lemmas.List.Elements.{Contains-append_left, Contains-append_right, Contains-append_cases}
 use Rattle.std.proofs.lemmas.Slice.Eq.{bytes_eq-Decides}
 use mathlib.Core.Path.{ap₂}
-use Rattle.fv_tree.specs.Plain.{Reference, Subscript, Subscripts, no_subscripts, subscript}
+use Rattle.fv_tree.specs.Plain.{Reference, Subscripts, no_subscripts, subscript}
 use Rattle.fv_meaning.specs.Reads.{names_in_subscript}
 use Rattle.array_laws.proofs.Members.{here, there, nowhere, cases_of}
 use Rattle.linear_forms.proofs.Sizes.{both}
-use Rattle.array_forms.specs.Loops.{Loop, Surroundings, variables_of, names_of, is_among, AreDistinct, loops_among, loops_in_order, one_each, same_loops, coefficient}
+use Rattle.array_forms.specs.Loops.{Loop, Surroundings, variables_of, names_of, is_among, AreDistinct, loops_among, loops_in_order, one_each, coefficient}
 use Rattle.array_forms.specs.Statements.{Hold, loops_from, occurrences, is_linear, are_formed, has_form, depends_on, is_triangle, hold_at, loops_assigned}
-use Rattle.array_forms.proofs.Names.{among, among_is}
+use Rattle.array_forms.proofs.Names.{among}
 use Rattle.array_forms.proofs.Values.{variable_in}
 
 -- ---- members of a filtered list
@@ -63,10 +63,10 @@ unless false h = refl
 
 pub filter_among : (t : Loop → Bool) (ls : List Loop) (x : List ℕ) → is_among (variables_of ls) x ≡ false → is_among (variables_of (filter t ls)) x ≡ false
 filter_among t ls x h = unless (is_among (variables_of (filter t ls)) x) (λ e.
-  let l = loop_of (filter t ls) x e in
-  let m = of_filter t ls l.0 l.1 in
-  let found = among (variables_of ls) l.0.variable (variable_in ls l.0 m.0) in
-  let bad : false ≡ true = sym h ∙ (ap (is_among (variables_of ls)) (sym l.2) ∙ found) in absurd cc)
+    let l = loop_of (filter t ls) x e in
+    let m = of_filter t ls l.0 l.1 in
+    let found = among (variables_of ls) l.0.variable (variable_in ls l.0 m.0) in
+    let bad : false ≡ true = sym h ∙ (ap (is_among (variables_of ls)) (sym l.2) ∙ found) in absurd cc)
 
 pub filter_distinct : (t : Loop → Bool) (ls : List Loop) → AreDistinct (variables_of ls) → AreDistinct (variables_of (filter t ls))
 filter_distinct t [] d = tt
@@ -149,9 +149,9 @@ module _ (mine : List Loop) where
       by : (b : Bool) → is_among (names_in_subscript p) x ≡ b → cond b 1 0 + occurrences x ps ≡ 0 → is_among (variables_of (loops_among mine (names_in_subscript p))) x ≡ false
       by true e h = absurd (omega (arith, h))
       by false e h = unless (is_among (variables_of (loops_among mine (names_in_subscript p))) x) (λ f.
-        let l = loop_of (loops_among mine (names_in_subscript p)) x f in
-        let m = of_filter (stands_in_names (names_in_subscript p)) mine l.0 l.1 in
-        let bad : false ≡ true = sym e ∙ (ap (is_among (names_in_subscript p)) (sym l.2) ∙ m.1) in absurd cc)
+          let l = loop_of (loops_among mine (names_in_subscript p)) x f in
+          let m = of_filter (stands_in_names (names_in_subscript p)) mine l.0 l.1 in
+          let bad : false ≡ true = sym e ∙ (ap (is_among (names_in_subscript p)) (sym l.2) ∙ m.1) in absurd cc)
 
   pub order_distinct : AreDistinct (variables_of mine) → (ps : Subscripts) → ((l : Loop) → Contains mine l → occurrences l.variable ps ≤ 1) → AreDistinct (variables_of (loops_in_order mine ps))
   order_distinct d no_subscripts h = tt

@@ -1,7 +1,6 @@
 -- Every form has, position by position, the values of its expression.
-use Rattle.std.proofs.Common.{◌≡◌, refl, sym, ap, ◌∙◌, subst, ◌⊎◌, inl, inr, ℕ, zero, suc, ◌+◌, ◌-◌, ◌≤◌, ◌<◌, ℤ, pos, Bool, true, false, cond, ◌&&◌, ◌||◌, not, List, [], ◌∷◌, ◌++◌, map, length, Result, Ok, Err, Option, Some, None, arith, Contains}
+use Rattle.std.proofs.Common.{◌≡◌, refl, sym, ap, ◌∙◌, subst, ◌⊎◌, inl, inr, ℕ, suc, ◌-◌, ◌≤◌, ◌<◌, ℤ, pos, Bool, true, false, cond, ◌&&◌, ◌||◌, not, List, [], ◌∷◌, ◌++◌, map, Result, Ok, Err, Option, Some, None, arith, Contains}
 use Rattle.std.specs.Str.{bytes_eq}
-use Rattle.std.proofs.lemmas.List.Elements.{Contains-append_cases}
 use Rattle.std.proofs.lemmas.Slice.Eq.{bytes_eq-Decides}
 use mathlib.Core.Path.{ap₂}
 use Rattle.fv_tree.specs.Operators.{apply, call, as_number}
@@ -13,11 +12,10 @@ use Rattle.fv_tree.specs.declared.ops.Value.{Value}
 use Rattle.fv_meaning.specs.ArrayStatements.{axes_named}
 use Rattle.fv_meaning.specs.ArrayValues.{Elements, settled, positions}
 use Rattle.fv_meaning.specs.Dialect.{Dialect}
-use Rattle.fv_meaning.specs.Reads.{names_in, names_in_each, names_in_subscripts, names_in_subscript}
+use Rattle.fv_meaning.specs.Reads.{names_in, names_in_subscripts, names_in_subscript}
 use Rattle.fv_meaning.specs.Sections.{extents_of, cells_along}
-use Rattle.fv_meaning.specs.Store.{Store, Cell, cell_in, cell_at, is_within}
-use Rattle.fv_meaning.specs.Value.{value_of, values_of, subscript_value, subscript_values, array_of, selectors, is_scalar, bound_to}
-use Rattle.array_laws.specs.Elements.{subscripts_at}
+use Rattle.fv_meaning.specs.Store.{Store, cell_in, cell_at, is_within}
+use Rattle.fv_meaning.specs.Value.{value_of, values_of, subscript_value, subscript_values, selectors, bound_to}
 use Rattle.array_laws.proofs.Members.{here, there, nowhere, cases_of}
 use Rattle.array_laws.proofs.Sections.{section_of, element_of_section}
 use Rattle.array_laws.proofs.Stages.{bound, same_answer}
@@ -26,17 +24,16 @@ use Rattle.linear_forms.proofs.Sizes.{both}
 use Rattle.array_forms.specs.Following.{has_none, is_moved, is_regular, are_regular, are_regular_subscripts}
 use Rattle.array_forms.specs.Forms.{placed, constructed, name_form, form, forms, subscript_forms}
 use Rattle.array_forms.specs.Instances.{at_iterations, count_of, counts_of}
-use Rattle.array_forms.specs.Laws.{Turns, AreKnown, AreTurning, store_at, HasValues, HasInstanceValues, FormHasInstanceValues}
+use Rattle.array_forms.specs.Laws.{AreKnown, AreTurning, FormHasInstanceValues}
 use Rattle.array_forms.specs.Loops.{Loop, Surroundings, variables_of, names_of, is_among, AreDistinct, loops_among, loops_in_order, one_each}
 use Rattle.array_forms.proofs.Axes as axes
 use Rattle.array_forms.proofs.Axes.{Fit, Within, NoFault, Takes, Vectors, places, stays}
 use Rattle.array_forms.proofs.Forming.{unary, binary, HasEach, no_arguments, one_argument, applied, none_append}
-use Rattle.array_forms.proofs.Iterations.{iterations, at_those, bounds_at, element_at, value_part}
+use Rattle.array_forms.proofs.Iterations.{iterations, at_those, bounds_at, value_part}
 use Rattle.array_forms.proofs.Names.{among, among_is}
 use Rattle.array_forms.proofs.Orders.{in_filter, of_filter, filter_distinct, all_of_mine}
 use Rattle.array_forms.proofs.Placing.{fit, Over, value_there, has_value, constructed_over, placed_over}
-use Rattle.array_forms.proofs.Positions.{AreFrom, from_positions}
-use Rattle.array_forms.proofs.Values.{By, by_position}
+use Rattle.array_forms.proofs.Values.{by_position}
 
 scalar_name : (names : List (List ℕ)) (s : Store) (xs : List ℤ) (x : List ℕ) → HaveValues names s xs → is_among names x ≡ true → s.bounds x ≡ Some []
 scalar_name [] s xs x h e = absurd cc
@@ -288,9 +285,11 @@ module _ (d : Dialect) (bits : d.bits ≡ 31) (a : Surroundings) (D : List Loop)
   one_safe l c e only_one safe ι w =
       let b = w l (here l []) in
       let κ = axes.only d a s xs k.few k.values k.sized k.distinct l (ι l.variable) in
-      let v = safe κ (axes.only_within d a s xs k.few k.values k.sized k.distinct D fits l c (ι l.variable) b.0 b.1) in
-      (v.0, ap (λ i. value_of d e (bound_to l.variable (pos i) s)) (sym (axes.only_itself d a s xs k.few k.values k.sized k.distinct l (ι l.variable)))
-        ∙ (sym (value_part κ d D e s ∙ ap (λ ms. value_of d e (at_those κ ms s)) only_one) ∙ v.1))
+      let v = safe κ (axes.only_within d a s xs k.few k.values k.sized k.distinct D fits l c (ι l.variable) b.0 b.1) in (
+        v.0,
+        ap (λ i. value_of d e (bound_to l.variable (pos i) s)) (sym (axes.only_itself d a s xs k.few k.values k.sized k.distinct l (ι l.variable)))
+            ∙ (sym (value_part κ d D e s ∙ ap (λ ms. value_of d e (at_those κ ms s)) only_one) ∙ v.1),
+      )
 
 -- ---- all of it
 
@@ -337,9 +336,9 @@ module _ (d : Dialect) (bits : d.bits ≡ 31) (a : Surroundings) (s : Store) (xs
         binary d a s xs k.few k.values k.sized k.distinct D (fitD D t) o e f (form a D e) (form a D f)
         (takes e D t parts.0 (λ ι w. let v = safe ι w in let x = bound (value_of d e (at_those ι D s)) (λ x. do y ← value_of d f (at_those ι D s); apply o x y) v.0 v.1 in (x.0, x.1)))
         (takes f D t parts.1 (λ ι w.
-          let v = safe ι w in
-          let x = bound (value_of d e (at_those ι D s)) (λ x. do y ← value_of d f (at_those ι D s); apply o x y) v.0 v.1 in
-          let y = bound (value_of d f (at_those ι D s)) (λ y. apply o x.0 y) v.0 x.2 in (y.0, y.1)))
+        let v = safe ι w in
+        let x = bound (value_of d e (at_those ι D s)) (λ x. do y ← value_of d f (at_those ι D s); apply o x y) v.0 v.1 in
+        let y = bound (value_of d f (at_those ι D s)) (λ y. apply o x.0 y) v.0 x.2 in (y.0, y.1)))
     takes (Apply f es) D t h safe = applied d a s xs k.few k.values k.sized k.distinct D (fitD D t) f es (forms a D es)
         (takes_each es D t true h (λ ι w. let v = safe ι w in let x = bound (values_of d es (at_those ι D s)) (λ ys. call f ys) v.0 v.1 in (x.0, x.1)))
     takes (Reduce r e) D t h safe = still d bits a D s xs k t (Reduce r e) h safe
@@ -355,9 +354,9 @@ module _ (d : Dialect) (bits : d.bits ≡ 31) (a : Surroundings) (s : Store) (xs
         one_argument d a s xs k.few k.values k.sized k.distinct D (fitD D t) e (form a D e) es (forms a D es) b
         (takes e D t parts.0 (λ ι w. let v = safe ι w in let x = bound (value_of d e (at_those ι D s)) (λ x. do ys ← values_of d es (at_those ι D s); Ok (x ∷ ys)) v.0 v.1 in (x.0, x.1)))
         (takes_each es D t (b && has_none (loops_among D (names_in e))) parts.1 (λ ι w.
-          let v = safe ι w in
-          let x = bound (value_of d e (at_those ι D s)) (λ x. do ys ← values_of d es (at_those ι D s); Ok (x ∷ ys)) v.0 v.1 in
-          let ys = bound (values_of d es (at_those ι D s)) (λ ys. Ok (x.0 ∷ ys)) v.0 x.2 in (ys.0, ys.1)))
+        let v = safe ι w in
+        let x = bound (value_of d e (at_those ι D s)) (λ x. do ys ← values_of d es (at_those ι D s); Ok (x ∷ ys)) v.0 v.1 in
+        let ys = bound (values_of d es (at_those ι D s)) (λ ys. Ok (x.0 ∷ ys)) v.0 x.2 in (ys.0, ys.1)))
 
     vectors : (ps : Subscripts) (D : List Loop) (t : AreTurning a D xs) → are_regular_subscripts a D ps ≡ true → SafeSubscripts D ps → Vectors d a s xs k.few k.values k.sized k.distinct D ps
     vectors no_subscripts D t h safe = tt
@@ -367,16 +366,17 @@ module _ (d : Dialect) (bits : d.bits ≡ 31) (a : Surroundings) (s : Store) (xs
         let o = form_of (variables_of a.loops) a.symbols e in
         let parts = both (is_moved a hs o (is_regular a hs e)) (are_regular_subscripts a D ps) h in
         let one : SafeD D e = λ ι w.
-          let v = safe ι w in
-          let i = bound (subscript_value d (Only e) (at_those ι D s)) (λ i. do is ← subscript_values d ps (at_those ι D s); Ok (i ∷ is)) v.0 v.1 in
-          let x = bound (value_of d e (at_those ι D s)) (λ x. as_number x) i.0 i.1 in (x.0, x.1) in
-        (vector_for D t e hs refl o parts.0 (λ l p regular.
-          let c = (of_filter (λ (m : Loop). is_among (names_in e) m.variable) D l (subst (λ ms. Contains ms l) (sym p) (here l []))).0 in
-          takes e (l ∷ []) (one_turning d bits a D s xs k t l c) (ap (λ ms. is_regular a ms e) (sym p) ∙ regular) (one_safe d bits a D s xs k t l c e p one)),
-        vectors ps D t parts.1 (λ ι w.
-          let v = safe ι w in
-          let i = bound (subscript_value d (Only e) (at_those ι D s)) (λ i. do is ← subscript_values d ps (at_those ι D s); Ok (i ∷ is)) v.0 v.1 in
-          let is = bound (subscript_values d ps (at_those ι D s)) (λ is. Ok (i.0 ∷ is)) v.0 i.2 in (is.0, is.1)))
+        let v = safe ι w in
+        let i = bound (subscript_value d (Only e) (at_those ι D s)) (λ i. do is ← subscript_values d ps (at_those ι D s); Ok (i ∷ is)) v.0 v.1 in
+        let x = bound (value_of d e (at_those ι D s)) (λ x. as_number x) i.0 i.1 in (x.0, x.1) in (
+          vector_for D t e hs refl o parts.0 (λ l p regular.
+              let c = (of_filter (λ (m : Loop). is_among (names_in e) m.variable) D l (subst (λ ms. Contains ms l) (sym p) (here l []))).0 in
+              takes e (l ∷ []) (one_turning d bits a D s xs k t l c) (ap (λ ms. is_regular a ms e) (sym p) ∙ regular) (one_safe d bits a D s xs k t l c e p one)),
+          vectors ps D t parts.1 (λ ι w.
+              let v = safe ι w in
+              let i = bound (subscript_value d (Only e) (at_those ι D s)) (λ i. do is ← subscript_values d ps (at_those ι D s); Ok (i ∷ is)) v.0 v.1 in
+              let is = bound (subscript_values d ps (at_those ι D s)) (λ is. Ok (i.0 ∷ is)) v.0 i.2 in (is.0, is.1)),
+        )
 
 -- ---- the law
 
@@ -388,8 +388,8 @@ form_has_instance_values lang a D e s xs bits k t regular has =
       known = h.known;
       extents = h.extents;
       at = λ is c.
-        let b = by_position lang a D s xs k t is c in
-        ap h.array.at (sym b.places_are) ∙ (h.at b.ι b.within ∙ ap (λ js. value_of lang e (at_iterations D js s)) b.iterations_are);
+          let b = by_position lang a D s xs k t is c in
+          ap h.array.at (sym b.places_are) ∙ (h.at b.ι b.within ∙ ap (λ js. value_of lang e (at_iterations D js s)) b.iterations_are);
     }
   where
     after : (ι : List ℕ → ℕ) → Within lang a s xs k.few k.values k.sized k.distinct D ι → (ls : List Loop) → ((l : Loop) → Contains ls l → Contains D l) → map suc (map (λ (l : Loop). ι l.variable - 1) ls) ≡ iterations ι ls

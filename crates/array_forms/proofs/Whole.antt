@@ -1,55 +1,51 @@
 -- The array form of an assignment stores what its instances store.
-use Rattle.std.proofs.Common.{◌≡◌, refl, sym, ap, ◌∙◌, subst, ◌⊎◌, inl, inr, ℕ, zero, suc, ◌+◌, ◌-◌, ◌≤◌, ◌<◌, ℤ, pos, Bool, true, false, cond, ◌&&◌, not, List, [], ◌∷◌, ◌++◌, map, length, Result, Ok, Err, Option, Some, None, arith, Contains, leb}
-use Rattle.std.specs.List.{All, AllByRecursion}
-use Rattle.std.proofs.lemmas.Bool.{le-leb}
+use Rattle.std.proofs.Common.{◌≡◌, refl, sym, ap, ◌∙◌, subst, ◌⊎◌, inl, inr, ℕ, ◌+◌, ◌-◌, ◌≤◌, ℤ, pos, Bool, true, false, cond, ◌&&◌, not, List, [], ◌∷◌, ◌++◌, map, length, Result, Ok, Err, Option, Some, None, arith, Contains}
+use Rattle.std.specs.List.{AllByRecursion}
 use Rattle.std.proofs.lemmas.List.Elements.{recursion_from_All}
 use mathlib.Core.Path.{ap₂}
-use Rattle.fv_tree.specs.Operators.{apply, as_truth}
-use Rattle.fv_tree.specs.Plain.{Expression, Number, Logic, Named, Binary, Subscript, Only, Section, Subscripts, no_subscripts, subscript, Reference, Statement, Assignment, If, no_arms, arm, Block, no_statements, statement}
+use Rattle.fv_tree.specs.Plain.{Expression, Logic, Named, Only, Section, Subscripts, no_subscripts, subscript, Reference, Assignment, no_statements, statement}
 use Rattle.fv_tree.specs.Steps.{◌>>=◌}
 use Rattle.fv_tree.specs.declared.ops.Fault.{Fault}
 use Rattle.fv_tree.specs.declared.ops.Fault.TheVariants.{Allocated, Bounds}
-use Rattle.fv_tree.specs.declared.ops.Op.TheVariants.{And, Ge}
 use Rattle.fv_tree.specs.declared.ops.Value.{Value}
-use Rattle.fv_tree.specs.declared.ops.Value.TheVariants.{Int, Truth}
+use Rattle.fv_tree.specs.declared.ops.Value.TheVariants.{Int}
 use Rattle.fv_tree.specs.declared.stmts.Mark.{Mark}
 use Rattle.fv_meaning.specs.ArrayStatements.{axes_named, storable, writes_of}
 use Rattle.fv_meaning.specs.ArrayValues.{Elements, each, positions, conform}
 use Rattle.fv_meaning.specs.Dialect.{Dialect, fortran90}
 use Rattle.fv_meaning.specs.Reads.{names_in, names_in_subscripts, cells_read, cells_read_by}
-use Rattle.fv_meaning.specs.Run.{State, Going, does, does_all, chooses, either, answered, while_going, evaluates, counts_step}
+use Rattle.fv_meaning.specs.Run.{State, Going, does_all}
 use Rattle.fv_meaning.specs.Sections.{Axis, extents_of}
 use Rattle.fv_meaning.specs.Store.{Store, Cell, same_cell, cell_at, cell_in}
-use Rattle.fv_meaning.specs.Value.{value_of, subscript_values, array_of, cell_named, truth_of, bound_to, is_array, named}
+use Rattle.fv_meaning.specs.Value.{value_of, subscript_values, cell_named, bound_to, is_array, named}
 use Rattle.fv_meaning.proofs.CellFrame.{first_part, second_part, value_of-same, cell_named-same}
-use Rattle.array_laws.specs.Assignments.{element_assigned, cell_selected, shape_assigned}
-use Rattle.array_laws.specs.Elements.{cell_at_position, element_of, subscripts_at}
+use Rattle.array_laws.specs.Assignments.{element_assigned, shape_assigned}
+use Rattle.array_laws.specs.Elements.{cell_at_position, subscripts_at}
 use Rattle.array_laws.specs.Forms.{StandsFor, StoreApart}
 use Rattle.array_laws.specs.Instances.{Instance, ComesFromReads, puts, writes_in, in_turn, NoneReadsWritten}
 use Rattle.array_laws.proofs.Assignments.{bounds_alike, array_statement_stores}
 use Rattle.array_laws.proofs.Forms.{effect_of, array_form_is_instances}
 use Rattle.array_laws.proofs.Members.{here, there, nowhere, cases_of, in_map, of_map}
 use Rattle.array_laws.proofs.OneToOne.{positions_are_one_to_one}
-use Rattle.array_laws.proofs.Stages.{bound, same_answer, Split, split}
+use Rattle.array_laws.proofs.Stages.{bound, same_answer}
 use Rattle.array_laws.proofs.Turns.{in_turn_is_at_once}
 use Rattle.linear_forms.specs.Linear.{Form, form_of}
 use Rattle.linear_forms.proofs.Sizes.{both}
 use Rattle.array_forms.specs.Following.{has_none, is_moved, are_moved, is_regular, are_regular_subscripts}
-use Rattle.array_forms.specs.Forms.{trip_text, form, subscript_forms}
+use Rattle.array_forms.specs.Forms.{subscript_forms}
 use Rattle.array_forms.specs.Instances.{at_iterations, count_of, counts_of, in_sequence, instance_at, instances_of}
 use Rattle.array_forms.specs.Laws.{Turns, AreKnown, AreTurning, instances_from, OwnCells, InstancesHaveOwnCells, ArrayFormStoresInstances}
-use Rattle.array_forms.specs.Loops.{Loop, Surroundings, variables_of, names_of, AreDistinct, is_positive_constant, loops_in_order, same_loops, loops_among}
-use Rattle.array_forms.specs.Statements.{Hold, loops_from, hold_at, loops_assigned, left_form, right_form, tests_of, and_all, guarded_by, array_form_of}
+use Rattle.array_forms.specs.Loops.{Loop, Surroundings, variables_of, names_of, AreDistinct, loops_in_order, loops_among}
+use Rattle.array_forms.specs.Statements.{loops_from, hold_at, loops_assigned, left_form, right_form, array_form_of}
 use Rattle.array_forms.proofs.Axes as axes
 use Rattle.array_forms.proofs.Axes.{Fit, Within, NoFault, Takes, places}
-use Rattle.array_forms.proofs.Bounds.{trip_known}
 use Rattle.array_forms.proofs.Forming.{conforming}
 use Rattle.array_forms.proofs.Iterations.{is_variable, variable_cell, iterations, at_those, bounds_at, any_order}
 use Rattle.array_forms.proofs.Tests.{ready, block_done, all_or_one, nothing_done, no_sequence}
 use Rattle.array_forms.proofs.Orders.{Ordered, ordered_loops, no_triangle, of_drop, distinct_front, distinct_drop}
 use Rattle.array_forms.proofs.Positions.{AreFrom, from_sequence, sequence_from, iteration_of, iterations_are}
 use Rattle.array_forms.proofs.Taking.{takes}
-use Rattle.array_forms.proofs.Values.{fitting, bounded_by, same_length, By, by_position}
+use Rattle.array_forms.proofs.Values.{fitting, bounded_by, same_length, by_position}
 
 -- ---- an instance depends on the cells that it reads alone
 
@@ -69,15 +65,17 @@ bounds_kept (l ∷ ls) (i ∷ is) s t e = bounds_kept ls is (bound_to l.variable
 
 module _ (d : Dialect) (ls : List Loop) (left : Reference) (right : Expression) where
   from_reads : (is : List ℕ) → ComesFromReads (instance_at d ls left right is)
-  from_reads is = record { same = λ s t e m.
-    let u = at_iterations ls is s in
-    let v = at_iterations ls is t in
-    let read = cells_read d right u in
-    let all = held_kept ls is s t (read ++ cells_read_by d left.subscripts u) (recursion_from_All (λ c. s.held c ≡ t.held c) (read ++ cells_read_by d left.subscripts u) m) in
-    let b = bounds_kept ls is s t e in
-    ap₂ (λ (r : Result Value Fault) (q : Result Cell Fault). do x ← r; c ← q; w ← storable d x; Ok (Some (c, w)))
-    (value_of-same d u v right (bounds_alike u v b (names_in right)) (first_part (λ c. u.held c ≡ v.held c) read (cells_read_by d left.subscripts u) all))
-    (cell_named-same d u v left (ap (λ (f : List ℕ → Option (List (ℤ × ℤ))). f left.name) b) (bounds_alike u v b (names_in_subscripts left.subscripts)) (second_part (λ c. u.held c ≡ v.held c) read (cells_read_by d left.subscripts u) all)) }
+  from_reads is = record {
+    same = λ s t e m.
+        let u = at_iterations ls is s in
+        let v = at_iterations ls is t in
+        let read = cells_read d right u in
+        let all = held_kept ls is s t (read ++ cells_read_by d left.subscripts u) (recursion_from_All (λ c. s.held c ≡ t.held c) (read ++ cells_read_by d left.subscripts u) m) in
+        let b = bounds_kept ls is s t e in
+        ap₂ (λ (r : Result Value Fault) (q : Result Cell Fault). do x ← r; c ← q; w ← storable d x; Ok (Some (c, w)))
+        (value_of-same d u v right (bounds_alike u v b (names_in right)) (first_part (λ c. u.held c ≡ v.held c) read (cells_read_by d left.subscripts u) all))
+        (cell_named-same d u v left (ap (λ (f : List ℕ → Option (List (ℤ × ℤ))). f left.name) b) (bounds_alike u v b (names_in_subscripts left.subscripts)) (second_part (λ c. u.held c ≡ v.held c) read (cells_read_by d left.subscripts u) all));
+  }
 
   all_from_reads : (iss : List (List ℕ)) → AllByRecursion ComesFromReads (map (instance_at d ls left right) iss)
   all_from_reads [] = tt
@@ -361,12 +359,14 @@ module _ (d : Dialect) (bits : d.bits ≡ 31) (a : Surroundings) (k : ℕ) (s : 
         stands : StandsFor d (Logic true) L R picked.axes s instances
         stands = record {
           instance_of = λ is c.
-            let b = by_position d a D s xs known turning is (subst (λ ns. Contains (positions ns) is) L_extents c) in
-            (instance_at d mine left right (iterations b.ι mine), in_instances b.ι b.within,
-              ap (λ js. (element_assigned d (Logic true) L R js).effect s) (sym b.places_are) ∙ (element_effect b.ι b.within ∙ sym (instance_effect b.ι b.within)));
+              let b = by_position d a D s xs known turning is (subst (λ ns. Contains (positions ns) is) L_extents c) in (
+                instance_at d mine left right (iterations b.ι mine),
+                in_instances b.ι b.within,
+                ap (λ js. (element_assigned d (Logic true) L R js).effect s) (sym b.places_are) ∙ (element_effect b.ι b.within ∙ sym (instance_effect b.ι b.within)),
+              );
           position_of = λ y c.
-            let n = numbered y c in
-            (spots n.ι, in_extents n.ι n.within, element_effect n.ι n.within ∙ (sym (instance_effect n.ι n.within) ∙ ap (λ (i : Instance). i.effect s) n.is));
+              let n = numbered y c in
+              (spots n.ι, in_extents n.ι n.within, element_effect n.ι n.within ∙ (sym (instance_effect n.ι n.within) ∙ ap (λ (i : Instance). i.effect s) n.is));
         }
 
         shape : shape_assigned d (Logic true) L R s ≡ Ok (counts_of xs D)
@@ -462,9 +462,11 @@ module _ (a : Surroundings) (k line : ℕ) (mark : Option Mark) (s : State) (t :
   with_subscripts x e ps right no_hold moved regular none run =
       let w = written fortran90 refl a k s.store xs known turns x e ps right no_hold moved t regular refl some none run in
       let left : Reference = record { name = x; subscripts = subscript (Only e) ps } in
-      let g = block_done fortran90 a line (statement (Assignment line mark (left_form a k left) (right_form a k left right)) no_statements) s xs known (loops_from a k) turns in
-      (g.0 + 1 + length w.writes, g.1 ∙ (array_statement_stores fortran90 line mark (right_form a k left right) (left_form a k left) (ready (record s { steps = g.0 })) w.writes refl w.is_array_there w.writes_known
-        ∙ ap (λ (u : Store). let r : State = record s { store = u; steps = g.0 + 1 + length w.writes; way = Going } in r) w.are))
+      let g = block_done fortran90 a line (statement (Assignment line mark (left_form a k left) (right_form a k left right)) no_statements) s xs known (loops_from a k) turns in (
+        g.0 + 1 + length w.writes,
+        g.1 ∙ (array_statement_stores fortran90 line mark (right_form a k left right) (left_form a k left) (ready (record s { steps = g.0 })) w.writes refl w.is_array_there w.writes_known
+            ∙ ap (λ (u : Store). let r : State = record s { store = u; steps = g.0 + 1 + length w.writes; way = Going } in r) w.are),
+      )
 
   pub stores_instances : (left : Reference) (right : Expression) → hold_at a k left ≡ None → are_moved a (loops_assigned a k left) left.subscripts ≡ true → is_regular a (loops_assigned a k left) right ≡ true
       → NoneReadsWritten [] (instances_of fortran90 (loops_from a k) (counts_of xs (loops_from a k)) left right) s.store
@@ -514,8 +516,11 @@ array_form_stores_instances a k line mark left right s t xs going known trips so
     Outcome = (n : ℕ) × (does_all fortran90 None (array_form_of a k line mark left right) s ≡ record s { store = t; steps = n })
 
     at_going : (u : Store) → u ≡ t → (n : ℕ) → does_all fortran90 None (array_form_of a k line mark left right) (ready s) ≡ record s { store = u; steps = n; way = Going } → Outcome
-    at_going u e n h = (n, subst (λ (v : State). does_all fortran90 None (array_form_of a k line mark left right) v ≡ record v { store = t; steps = n }) (λ i. let v : State = record s { way = sym going i } in v)
-      (h ∙ ap (λ (v : Store). let r : State = record s { store = v; steps = n; way = Going } in r) e))
+    at_going u e n h = (
+      n,
+      subst (λ (v : State). does_all fortran90 None (array_form_of a k line mark left right) v ≡ record v { store = t; steps = n }) (λ i. let v : State = record s { way = sym going i } in v)
+          (h ∙ ap (λ (v : Store). let r : State = record s { store = v; steps = n; way = Going } in r) e),
+    )
 
     by : ((l : Loop) → Contains (loops_from a k) l → 1 ≤ count_of xs l) ⊎ ((l : Loop) × Contains (loops_from a k) l × (count_of xs l ≡ 0)) → Outcome
     by (inl turn) =

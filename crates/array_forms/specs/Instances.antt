@@ -1,7 +1,5 @@
 -- The instances of an assignment in loops: what it does where the loop variables hold their iterations.
-use Rattle.std.specs.Prelude.{◌≡◌, Result, Ok, Option, Some, ℕ, suc, ◌≤◌, ℤ, pos, List, [], ◌∷◌, ◌++◌, map, flat_map}
-use Rattle.std.specs.Prelude.{Contains}
-use Rattle.std.specs.List.{AllByRecursion}
+use Rattle.std.specs.Prelude.{Ok, Some, ℕ, ℤ, pos, List, [], ◌∷◌, ◌++◌, map, flat_map}
 use Rattle.fv_tree.specs.Plain.{Expression, Reference}
 use Rattle.fv_tree.specs.Steps.{◌>>=◌}
 use Rattle.fv_meaning.specs.ArrayStatements.{storable}
@@ -35,13 +33,13 @@ in_sequence (n ∷ ns) = flat_map (λ i. map (λ is. i ∷ is) (in_sequence ns))
 -- one instance: the right side's value, if INTEGER can hold it, is stored in the cell of the left side
 abbrev pub instance_at : Dialect → List Loop → Reference → Expression → List ℕ → Instance
 instance_at d ls left right is = record {
-    effect = λ s. (do
-      v ← value_of d right (at_iterations ls is s)
-      c ← cell_named d left (at_iterations ls is s)
-      w ← storable d v
-      Ok (Some (c, w)));
-    reads = λ s. cells_read d right (at_iterations ls is s) ++ cells_read_by d left.subscripts (at_iterations ls is s);
-  }
+  effect = λ s. (do
+    v ← value_of d right (at_iterations ls is s)
+    c ← cell_named d left (at_iterations ls is s)
+    w ← storable d v
+    Ok (Some (c, w)));
+  reads = λ s. cells_read d right (at_iterations ls is s) ++ cells_read_by d left.subscripts (at_iterations ls is s);
+}
 
 abbrev pub instances_of : Dialect → List Loop → List ℕ → Reference → Expression → List Instance
 instances_of d ls ns left right = map (instance_at d ls left right) (in_sequence ns)
