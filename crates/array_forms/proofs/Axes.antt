@@ -1,10 +1,10 @@
 -- What the subscripts of a form select, position by position.
-use Rattle.std.proofs.Common.{◌≡◌, ◌≢◌, refl, sym, ap, ◌∙◌, subst, ◌⊎◌, inl, inr, ℕ, zero, suc, ◌+◌, ◌-◌, ◌^◌, ◌≤◌, ◌<◌, ℤ, pos, negsuc, ◌+ℤ◌, ◌-ℤ◌, ◌*ℤ◌, int_div, int_le, Bool, true, false, cond, ◌&&◌, not, List, [], ◌∷◌, ◌++◌, map, drop, length, filter, flat_map, Result, Ok, Err, Option, Some, None, arith, Contains, nat_le, ◌==◌}
+use Rattle.std.proofs.Common.{◌≡◌, ◌≢◌, refl, sym, ap, ◌∙◌, subst, ◌⊎◌, inl, inr, ℕ, zero, suc, ◌+◌, ◌-◌, ◌≤◌, ◌<◌, ℤ, pos, ◌+ℤ◌, ◌-ℤ◌, ◌*ℤ◌, int_div, int_le, Bool, true, false, cond, ◌&&◌, not, List, [], ◌∷◌, ◌++◌, map, drop, length, filter, Result, Ok, Err, Option, Some, None, arith, Contains, nat_le}
 use Rattle.std.specs.Ordering.{int_eq}
 use Rattle.std.specs.Str.{bytes_eq}
-use Rattle.std.proofs.lemmas.Bool.{leb-true, eqb-true, eqb-false}
+use Rattle.std.proofs.lemmas.Bool.{leb-true}
 use Rattle.std.proofs.lemmas.Bool.Decides.{Decides-int_eq}
-use Rattle.std.proofs.lemmas.List.Elements.{Contains-append_left, Contains-append_right, Contains-append_cases}
+use Rattle.std.proofs.lemmas.List.Elements.{Contains-append_cases}
 use Rattle.std.proofs.lemmas.Int.{ints}
 use Rattle.std.proofs.lemmas.Slice.Eq.{bytes_eq-Decides}
 use Rattle.std.proofs.Math.IntN.{*ℤ_comm, suc_ℤ-*ℤ}
@@ -18,18 +18,18 @@ use Rattle.fv_tree.specs.declared.ops.Fault.TheVariants.{Bounds, ZeroStep}
 use Rattle.fv_tree.specs.declared.ops.Value.{Value}
 use Rattle.fv_tree.specs.declared.ops.Value.TheVariants.{Int, Truth}
 use Rattle.fv_meaning.specs.ArrayStatements.{axes_named}
-use Rattle.fv_meaning.specs.ArrayValues.{Array, Elements, settled, in_whole, counted, positions}
+use Rattle.fv_meaning.specs.ArrayValues.{Array, Elements, in_whole, counted, positions}
 use Rattle.fv_meaning.specs.Dialect.{Dialect}
 use Rattle.fv_meaning.specs.Reads.{names_in, names_in_subscript}
-use Rattle.fv_meaning.specs.Sections.{Selector, Index, Triplet, Vector, Axis, Fixed, Along, not_negative, steps_from, stands_in, all_stand_in, along, axis_on, axes_on, axes_selected, extents_of, cells_along}
+use Rattle.fv_meaning.specs.Sections.{Selector, Index, Triplet, Vector, Axis, Fixed, Along, not_negative, steps_from, stands_in, all_stand_in, along, axis_on, axes_on, axes_selected, extents_of}
 use Rattle.fv_meaning.specs.Store.{Store, Cell, is_within, bounds_in, cell_in, cell_at}
 use Rattle.fv_meaning.specs.Value.{value_of, array_of, subscript_value, subscript_values, selector, selectors, is_scalar, is_index, are_indices, numbered, evaluated, selector_of, bound_to}
 use Rattle.array_laws.proofs.OneToOne.{length_steps, triplet_selects_once}
 use Rattle.array_laws.specs.Elements.{number_at, subscripts_at}
 use Rattle.array_laws.specs.OneToOne.{AreDifferent, SelectOnce}
-use Rattle.array_laws.proofs.Members.{here, there, nowhere, cases_of, in_map}
+use Rattle.array_laws.proofs.Members.{here, there, nowhere, cases_of}
 use Rattle.array_laws.proofs.Scalars.{single}
-use Rattle.array_laws.proofs.Sections.{number_of_triplet, section_of, element_of_section}
+use Rattle.array_laws.proofs.Sections.{number_of_triplet}
 use Rattle.array_laws.proofs.Stages.{bound, same_answer}
 use Rattle.linear_forms.specs.Laws.{AreSized}
 use Rattle.linear_forms.specs.Linear.{Form, HaveValues, constant_form, multiple, is_limited, all_small, is_small, not_zero, form_of}
@@ -38,7 +38,7 @@ use Rattle.linear_forms.proofs.Faultless.{linear_has_value}
 use Rattle.linear_forms.proofs.Sizes.{both}
 use Rattle.array_forms.specs.Following.{has_none, is_moved, are_moved, is_regular, are_regular_subscripts}
 use Rattle.array_forms.specs.Forms.{number_text, trip_text, trip_form, terms_with, sum_text, section, subscript_with, subscript_form, subscript_forms, form}
-use Rattle.array_forms.specs.Instances.{at_iterations, count_of, counts_of}
+use Rattle.array_forms.specs.Instances.{count_of, counts_of}
 use Rattle.array_forms.specs.Laws.{Turns}
 use Rattle.array_forms.specs.Loops.{Loop, Surroundings, variables_of, names_of, is_among, AreDistinct, loops_among, loops_in_order, one_each, same_loops, coefficient, form_without}
 use Rattle.array_forms.proofs.Bounds.{by_stride, number_known, lower_known, upper_known}

@@ -1,27 +1,26 @@
 -- The values of trips and of the bounds of sections.
-use Rattle.std.proofs.Common.{◌≡◌, ◌≢◌, refl, sym, ap, ◌∙◌, subst, ℕ, zero, suc, ◌+◌, ◌*◌, ◌/◌, ◌^◌, ◌≤◌, ◌<◌, ◌==◌, ℤ, pos, negsuc, neg_ℤ, ◌+ℤ◌, ◌-ℤ◌, ◌*ℤ◌, int_div, Bool, true, false, cond, ◌&&◌, List, [], ◌∷◌, ◌++◌, map, drop, length, replicate, Result, Ok, Err, Option, Some, None, arith, nat_le, nat_abs}
+use Rattle.std.proofs.Common.{◌≡◌, ◌≢◌, refl, sym, ap, ◌∙◌, subst, ℕ, zero, suc, ◌+◌, ◌*◌, ◌/◌, ◌^◌, ◌≤◌, ◌<◌, ◌==◌, ℤ, pos, negsuc, neg_ℤ, ◌+ℤ◌, ◌*ℤ◌, int_div, Bool, true, false, cond, ◌&&◌, List, [], ◌∷◌, ◌++◌, drop, length, replicate, Result, Ok, Err, arith, nat_le, nat_abs}
 use Rattle.std.specs.Ordering.{int_eq}
-use Rattle.std.proofs.lemmas.Bool.{leb-true, le-leb}
+use Rattle.std.proofs.lemmas.Bool.{leb-true}
 use Rattle.std.proofs.lemmas.Int.{ints}
-use Rattle.std.proofs.Math.IntN.{+ℤ_idl, *ℤ_comm, pos-*ℤ-negsuc}
+use Rattle.std.proofs.Math.IntN.{+ℤ_idl, pos-*ℤ-negsuc}
 use Rattle.std.proofs.Math.Nat.{mul-div_cancel, mul-le-mul_right}
 use Rattle.std.proofs.lemmas.Nat.{div-mul-add, div-add-mod'}
 use mathlib.Core.Path.{ap₂}
 use Rattle.std.proofs.lemmas.Bool.Decides.{Decides-int_eq}
 use Rattle.fv_tree.specs.Operators.{fits, apply, ranged}
-use Rattle.fv_tree.specs.Plain.{Expression, Number, Unary, Binary}
+use Rattle.fv_tree.specs.Plain.{Expression, Number, Binary}
 use Rattle.fv_tree.specs.Steps.{◌>>=◌}
 use Rattle.fv_tree.specs.declared.ops.Fault.{Fault}
 use Rattle.fv_tree.specs.declared.ops.Fault.TheVariants.{Overflow, ZeroDivide}
-use Rattle.fv_tree.specs.declared.ops.Op.{Op}
 use Rattle.fv_tree.specs.declared.ops.Op.TheVariants.{Mul, Div, Add}
 use Rattle.fv_tree.specs.declared.ops.Value.{Value}
 use Rattle.fv_tree.specs.declared.ops.Value.TheVariants.{Int}
 use Rattle.fv_meaning.specs.Dialect.{Dialect}
 use Rattle.fv_meaning.specs.Sections.{not_negative}
-use Rattle.fv_meaning.specs.Store.{Store, cell_in, cell_at}
+use Rattle.fv_meaning.specs.Store.{Store, cell_in}
 use Rattle.fv_meaning.specs.Value.{value_of}
-use Rattle.linear_forms.specs.Expressed.{expressed, variables, variable}
+use Rattle.linear_forms.specs.Expressed.{expressed, variables}
 use Rattle.linear_forms.specs.Laws.{AreSized, EachHasValue}
 use Rattle.linear_forms.specs.Linear.{Form, weighted, number_at, HaveValues, sum, multiple, constant_form, is_small, all_small, not_zero, is_limited}
 use Rattle.linear_forms.specs.Places.{unit_form}
@@ -31,7 +30,7 @@ use Rattle.linear_forms.proofs.Sizes.{abs-sum, abs-product, smaller, both, weigh
 use Rattle.array_forms.specs.Forms.{number_text, divided_text, trip_text, trip_form, terms_with, sum_text}
 use Rattle.array_forms.specs.Instances.{count_of}
 use Rattle.array_forms.specs.Laws.{HasTrip, Turns}
-use Rattle.array_forms.specs.Loops.{Trip, Loop, Surroundings, names_of, divided, trip_number}
+use Rattle.array_forms.specs.Loops.{Loop, Surroundings, names_of, divided, trip_number}
 use Rattle.array_forms.proofs.Coefficients.{as_long, weighted_front, weighted_last}
 
 -- ---- sizes

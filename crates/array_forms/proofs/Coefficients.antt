@@ -1,5 +1,5 @@
 -- A linear form by one of its names: its coefficient, and the form without it.
-use Rattle.std.proofs.Common.{◌≡◌, refl, sym, ap, ◌∙◌, subst, ◌⊎◌, inl, inr, ℕ, zero, suc, ◌+◌, ◌*◌, ◌^◌, ◌≤◌, ◌<◌, ℤ, pos, negsuc, ◌+ℤ◌, ◌-ℤ◌, ◌*ℤ◌, Bool, true, false, cond, ◌&&◌, List, [], ◌∷◌, ◌++◌, map, drop, length, replicate, Option, Some, None, arith, nat_le, nat_abs}
+use Rattle.std.proofs.Common.{◌≡◌, refl, sym, ap, ◌∙◌, subst, ℕ, zero, suc, ◌^◌, ◌≤◌, ℤ, pos, negsuc, ◌+ℤ◌, ◌*ℤ◌, Bool, true, false, cond, ◌&&◌, List, [], ◌∷◌, ◌++◌, map, drop, length, replicate, Option, Some, None, arith, nat_le, nat_abs}
 use Rattle.std.specs.Ordering.{int_eq}
 use Rattle.std.specs.Str.{bytes_eq}
 use Rattle.std.proofs.lemmas.Bool.{leb-true, le-leb}
@@ -10,13 +10,12 @@ use mathlib.Core.Path.{ap₂}
 use Rattle.fv_tree.specs.Plain.{Expression, Number, Logic, Named, Unary, Binary, Apply, Constructor, Spread, Transpose, Reshape, Reduce, Subscripts, no_subscripts, subscript}
 use Rattle.fv_tree.specs.declared.ops.Op.{Op}
 use Rattle.fv_tree.specs.declared.ops.Op.TheVariants.{Mul, Neg, Add, Sub}
-use Rattle.fv_tree.specs.declared.ops.Value.{Value}
 use Rattle.fv_tree.specs.declared.ops.Value.TheVariants.{Int}
 use Rattle.fv_meaning.specs.Store.{Store, Cell, same_cell}
 use Rattle.fv_meaning.specs.Value.{bound_to}
 use Rattle.fv_meaning.proofs.Exchanges.{same_cell-same}
 use Rattle.linear_forms.specs.Laws.{AreSized}
-use Rattle.linear_forms.specs.Linear.{Form, weighted, number_at, HaveValues, added, sum, multiple, constant_form, is_small, all_small, not_zero, is_limited, limited, constant_of, with_zero, unit, with_no_constant, form_of_name, form_of_sign, form_of_product, form_of_two, form_of_pair, constant_or, linear, form_of}
+use Rattle.linear_forms.specs.Linear.{Form, weighted, number_at, HaveValues, added, multiple, is_small, all_small, not_zero, is_limited, limited, constant_of, with_zero, unit, with_no_constant, form_of_name, form_of_sign, form_of_product, form_of_two, form_of_pair, constant_or, linear, form_of}
 use Rattle.linear_forms.proofs.Sizes.{both}
 use Rattle.array_forms.specs.Loops.{is_among, AreDistinct, coefficient, without, form_without}
 

@@ -1,37 +1,36 @@
 -- Constructors over loops: they have the values of all iterations, the first loop running fastest.
-use Rattle.std.proofs.Common.{◌≡◌, ◌≢◌, refl, sym, ap, ◌∙◌, subst, ◌⊎◌, inl, inr, ℕ, zero, suc, ◌+◌, ◌-◌, ◌*◌, ◌^◌, ◌≤◌, ◌<◌, ℤ, pos, negsuc, ◌+ℤ◌, ◌-ℤ◌, ◌*ℤ◌, Bool, true, false, cond, ◌&&◌, List, [], ◌∷◌, ◌++◌, map, length, flat_map, Result, Ok, Err, Option, Some, None, arith, Contains, nat_le}
+use Rattle.std.proofs.Common.{◌≡◌, refl, sym, ap, ◌∙◌, ℕ, zero, suc, ◌+◌, ◌*◌, ◌^◌, ◌≤◌, ◌<◌, ℤ, pos, ◌+ℤ◌, ◌-ℤ◌, ◌*ℤ◌, Bool, true, false, cond, List, [], ◌∷◌, ◌++◌, map, length, flat_map, Result, Ok, Err, arith, Contains}
 use Rattle.std.specs.Str.{bytes_eq}
 use Rattle.std.proofs.lemmas.Bool.{le-leb, lt-ltb}
 use Rattle.std.proofs.lemmas.Int.{ints}
 use Rattle.std.proofs.lemmas.Slice.Eq.{bytes_eq-Decides}
 use Rattle.std.proofs.Math.IntN.{zero-*ℤ, +ℤ_idl}
 use mathlib.Core.Path.{ap₂}
-use Rattle.fv_tree.specs.Operators.{fits, as_number, as_numbers}
-use Rattle.fv_tree.specs.Plain.{Expression, Number, Constructor, Reshape, Expressions, no_expressions, expression, expressions}
+use Rattle.fv_tree.specs.Operators.{fits, as_numbers}
+use Rattle.fv_tree.specs.Plain.{Expression, Number, Constructor, Reshape, no_expressions, expression, expressions}
 use Rattle.fv_tree.specs.Steps.{◌>>=◌}
 use Rattle.fv_tree.specs.declared.ops.Fault.{Fault}
 use Rattle.fv_tree.specs.declared.ops.Fault.TheVariants.{Overflow, Shape}
 use Rattle.fv_tree.specs.declared.ops.Value.{Value}
-use Rattle.fv_tree.specs.declared.ops.Value.TheVariants.{Int, Truth}
-use Rattle.fv_meaning.specs.ArrayValues.{Array, Elements, each, counted, positions, place_of, size, settled, in_whole, reshaped}
+use Rattle.fv_tree.specs.declared.ops.Value.TheVariants.{Int}
+use Rattle.fv_meaning.specs.ArrayValues.{Array, Elements, each, counted, positions, size, settled, in_whole, reshaped}
 use Rattle.fv_meaning.specs.Dialect.{Dialect}
 use Rattle.fv_meaning.specs.Sections.{not_negative}
-use Rattle.fv_meaning.specs.Store.{Store, Cell, same_cell, numbers_from}
+use Rattle.fv_meaning.specs.Store.{Store, Cell, numbers_from}
 use Rattle.fv_meaning.specs.Value.{value_of, values_of, array_of, under, for_numbers, joined, numbered, bound_to}
 use Rattle.fv_meaning.proofs.ArrayLaws.{settled-whole}
 use Rattle.fv_meaning.proofs.Exchanges.{put-put}
-use Rattle.array_laws.proofs.Members.{here, there, nowhere, cases_of}
+use Rattle.array_laws.proofs.Members.{here, there}
 use Rattle.array_laws.proofs.Sections.{value_there, number_of_positions, length_map}
-use Rattle.linear_forms.specs.Laws.{AreSized}
-use Rattle.linear_forms.specs.Linear.{Form, weighted, number_at, HaveValues}
-use Rattle.array_forms.specs.Forms.{trip_text, loops_over, shaped, constructed}
+use Rattle.linear_forms.specs.Linear.{Form, weighted, number_at}
+use Rattle.array_forms.specs.Forms.{trip_text, loops_over, constructed}
 use Rattle.array_forms.specs.Instances.{at_iterations, count_of, counts_of}
 use Rattle.array_forms.specs.Laws.{Turns, AreKnown}
-use Rattle.array_forms.specs.Loops.{Trip, Loop, Surroundings, variables_of, names_of, is_among, AreDistinct, divided, trip_number, coefficient, without}
+use Rattle.array_forms.specs.Loops.{Loop, Surroundings, variables_of, names_of, is_among, divided, coefficient, without}
 use Rattle.array_forms.proofs.Bounds.{trip_known}
 use Rattle.array_forms.proofs.Coefficients.{replaced, replaced_sized, replaced_have, number_replaced, as_long}
 use Rattle.array_forms.proofs.Iterations.{variable_cell}
-use Rattle.array_forms.proofs.Positions.{AreFrom, positions_from, from_positions}
+use Rattle.array_forms.proofs.Positions.{AreFrom}
 
 -- ---- arrays of which each element is known
 

@@ -1,30 +1,28 @@
 -- The forms of operators and functions have the values of these where their operands' forms have theirs.
-use Rattle.std.proofs.Common.{◌≡◌, refl, sym, ap, ◌∙◌, subst, ◌⊎◌, inl, inr, ℕ, ◌≤◌, ℤ, Bool, true, false, cond, ◌&&◌, ◌||◌, List, [], ◌∷◌, ◌++◌, map, length, Result, Ok, Err, Option, Some, None}
+use Rattle.std.proofs.Common.{◌≡◌, refl, sym, ap, ◌∙◌, ℕ, ◌≤◌, ℤ, Bool, true, false, cond, ◌&&◌, List, [], ◌∷◌, ◌++◌, length, Result, Ok, Err}
 use Rattle.std.specs.Str.{bytes_eq}
 use Rattle.std.proofs.lemmas.Slice.Eq.{bytes_eq-Decides}
 use mathlib.Core.Path.{ap₂}
 use Rattle.fv_tree.specs.Operators.{apply, call}
-use Rattle.fv_tree.specs.Plain.{Expression, Number, Logic, Named, Unary, Binary, Apply, Constructor, Spread, Transpose, Reshape, Reduce, Expressions, no_expressions, expression, Subscript, Only, Section, Subscripts, no_subscripts, subscript}
+use Rattle.fv_tree.specs.Plain.{Expression, Unary, Binary, Apply, Expressions, no_expressions, expression}
 use Rattle.fv_tree.specs.Steps.{◌>>=◌}
 use Rattle.fv_tree.specs.declared.functions.Fun.{Fun}
 use Rattle.fv_tree.specs.declared.ops.Fault.{Fault}
-use Rattle.fv_tree.specs.declared.ops.Fault.TheVariants.{Shape, Allocated}
+use Rattle.fv_tree.specs.declared.ops.Fault.TheVariants.{Shape}
 use Rattle.fv_tree.specs.declared.ops.Op.{Op}
 use Rattle.fv_tree.specs.declared.ops.Value.{Value}
 use Rattle.fv_meaning.specs.ArrayValues.{Elements, conform, mapped, paired}
 use Rattle.fv_meaning.specs.Dialect.{Dialect}
 use Rattle.fv_meaning.specs.Reads.{names_in, names_in_each}
-use Rattle.fv_meaning.specs.Store.{Store, Cell, cell_in, cell_at}
-use Rattle.fv_meaning.specs.Value.{value_of, values_of, subscript_values, array_of, arguments_of, are_scalar, is_scalar, together}
-use Rattle.array_laws.proofs.Stages.{bound}
+use Rattle.fv_meaning.specs.Store.{Store}
+use Rattle.fv_meaning.specs.Value.{values_of, arguments_of, are_scalar, together}
 use Rattle.linear_forms.specs.Laws.{AreSized}
 use Rattle.linear_forms.specs.Linear.{HaveValues}
-use Rattle.linear_forms.proofs.Sizes.{both}
 use Rattle.array_forms.specs.Following.{has_none}
 use Rattle.array_forms.specs.Instances.{counts_of}
-use Rattle.array_forms.specs.Loops.{Loop, Surroundings, names_of, is_among, AreDistinct, loops_among, loops_in_order, one_each, same_loops, is_part_of, is_exchange_of}
+use Rattle.array_forms.specs.Loops.{Loop, Surroundings, names_of, is_among, AreDistinct, loops_among}
 use Rattle.array_forms.proofs.Axes.{Fit, Within, places, Takes}
-use Rattle.array_forms.proofs.Iterations.{at_those, bounds_at}
+use Rattle.array_forms.proofs.Iterations.{at_those}
 
 -- ---- which loops stand in parts
 

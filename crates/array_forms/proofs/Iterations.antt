@@ -1,18 +1,17 @@
 -- Stores in which loop variables hold iterations, given by the variables' names.
-use Rattle.std.proofs.Common.{◌≡◌, refl, sym, ap, ◌∙◌, subst, ◌⊎◌, inl, inr, ℕ, ℤ, pos, Bool, true, false, cond, ◌&&◌, List, [], ◌∷◌, ◌++◌, map, Result, Ok, Option, Some, None, Contains}
+use Rattle.std.proofs.Common.{◌≡◌, refl, sym, ap, ◌∙◌, subst, ℕ, ℤ, pos, Bool, true, false, cond, ◌&&◌, List, [], ◌∷◌, map, Contains}
 use Rattle.std.specs.Str.{bytes_eq}
 use mathlib.Core.Path.{fun_ext}
-use Rattle.fv_tree.specs.Plain.{Expression, Subscripts, Reference}
-use Rattle.fv_tree.specs.declared.ops.Value.{Value}
+use Rattle.fv_tree.specs.Plain.{Expression}
 use Rattle.fv_tree.specs.declared.ops.Value.TheVariants.{Int}
 use Rattle.fv_meaning.specs.Dialect.{Dialect}
-use Rattle.fv_meaning.specs.Reads.{names_in, names_in_subscripts}
+use Rattle.fv_meaning.specs.Reads.{names_in}
 use Rattle.fv_meaning.specs.Store.{Store, Cell, same_cell}
-use Rattle.fv_meaning.specs.Value.{value_of, subscript_values, bound_to}
-use Rattle.fv_meaning.proofs.Exchanges.{same_cell-same, same_cell-refl}
+use Rattle.fv_meaning.specs.Value.{value_of, bound_to}
+use Rattle.fv_meaning.proofs.Exchanges.{same_cell-same}
 use Rattle.array_forms.specs.Instances.{at_iterations}
 use Rattle.array_forms.specs.Loops.{Loop, is_among, loops_among}
-use Rattle.array_forms.proofs.Names.{among, Alike, value_alike, subscripts_alike}
+use Rattle.array_forms.proofs.Names.{among, Alike, value_alike}
 
 abbrev pub variable_cell : List ℕ → Cell
 variable_cell x = record { name = x; subscripts = [] }

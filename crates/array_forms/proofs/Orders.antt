@@ -1,5 +1,5 @@
 -- The loops of a statement in the order of its left subscripts.
-use Rattle.std.proofs.Common.{◌≡◌, ◌≢◌, refl, sym, ap, ◌∙◌, subst, ◌⊎◌, inl, inr, ℕ, zero, suc, ◌+◌, ◌-◌, ◌≤◌, ◌<◌, ◌==◌, Bool, true, false, cond, ◌&&◌, ◌||◌, List, [], ◌∷◌, ◌++◌, map, drop, length, filter, arith, Contains, Option, Some, None, nat_le, not, pos}
+use Rattle.std.proofs.Common.{◌≡◌, ◌≢◌, refl, sym, ap, ◌∙◌, subst, ◌⊎◌, inl, inr, ℕ, zero, suc, ◌+◌, ◌-◌, ◌≤◌, ◌==◌, Bool, true, false, cond, ◌&&◌, ◌||◌, List, [], ◌∷◌, ◌++◌, drop, length, filter, arith, Contains, Some, None, nat_le, not, pos}
 use Rattle.std.specs.List.{list_all, list_any}
 use Rattle.std.specs.Ordering.{int_eq}
 use Rattle.std.proofs.lemmas.Bool.Decides.{Decides-int_eq}
@@ -8,13 +8,13 @@ use Rattle.std.proofs.lemmas.Bool.{eqb-true, le-leb}
 use Rattle.std.proofs.lemmas.List.Elements.{Contains-append_left, Contains-append_right, Contains-append_cases}
 use Rattle.std.proofs.lemmas.Slice.Eq.{bytes_eq-Decides}
 use mathlib.Core.Path.{ap₂}
-use Rattle.fv_tree.specs.Plain.{Reference, Subscript, Subscripts, no_subscripts, subscript}
+use Rattle.fv_tree.specs.Plain.{Reference, Subscripts, no_subscripts, subscript}
 use Rattle.fv_meaning.specs.Reads.{names_in_subscript}
 use Rattle.array_laws.proofs.Members.{here, there, nowhere, cases_of}
 use Rattle.linear_forms.proofs.Sizes.{both}
-use Rattle.array_forms.specs.Loops.{Loop, Surroundings, variables_of, names_of, is_among, AreDistinct, loops_among, loops_in_order, one_each, same_loops, coefficient}
+use Rattle.array_forms.specs.Loops.{Loop, Surroundings, variables_of, names_of, is_among, AreDistinct, loops_among, loops_in_order, one_each, coefficient}
 use Rattle.array_forms.specs.Statements.{Hold, loops_from, occurrences, is_linear, are_formed, has_form, depends_on, is_triangle, hold_at, loops_assigned}
-use Rattle.array_forms.proofs.Names.{among, among_is}
+use Rattle.array_forms.proofs.Names.{among}
 use Rattle.array_forms.proofs.Values.{variable_in}
 
 -- ---- members of a filtered list

@@ -1,5 +1,5 @@
 -- References whose loops are some of all loops, or these in another order: SPREAD, TRANSPOSE and constructors.
-use Rattle.std.proofs.Common.{◌≡◌, ◌≢◌, refl, sym, ap, ◌∙◌, subst, ◌⊎◌, inl, inr, ℕ, zero, suc, ◌+◌, ◌-◌, ◌≤◌, ◌<◌, ℤ, pos, Bool, true, false, cond, ◌&&◌, List, [], ◌∷◌, ◌++◌, map, length, take, drop, filter, Result, Ok, Err, Option, Some, None, arith, Contains}
+use Rattle.std.proofs.Common.{◌≡◌, refl, sym, ap, ◌∙◌, subst, ◌⊎◌, inl, inr, ℕ, suc, ◌+◌, ◌-◌, ◌≤◌, ℤ, Bool, true, false, cond, ◌&&◌, List, [], ◌∷◌, ◌++◌, map, length, take, drop, filter, Result, Ok, Err, arith, Contains}
 use Rattle.std.specs.Str.{bytes_eq}
 use Rattle.std.proofs.lemmas.List.Elements.{Contains-append_left, Contains-append_right, Contains-append_cases}
 use Rattle.std.proofs.lemmas.Slice.Eq.{bytes_eq-Decides}
@@ -8,24 +8,23 @@ use Rattle.fv_tree.specs.Plain.{Expression, Spread, Transpose}
 use Rattle.fv_tree.specs.Steps.{◌>>=◌}
 use Rattle.fv_tree.specs.declared.ops.Fault.{Fault}
 use Rattle.fv_tree.specs.declared.ops.Value.{Value}
-use Rattle.fv_tree.specs.declared.ops.Value.TheVariants.{Int, Truth}
-use Rattle.fv_meaning.specs.ArrayValues.{Array, Elements, positions, place_of, value_at, settled, in_whole, spread, transposed, with_extent, without_dimension, swapped}
+use Rattle.fv_tree.specs.declared.ops.Value.TheVariants.{Truth}
+use Rattle.fv_meaning.specs.ArrayValues.{Array, Elements, settled, in_whole, spread, transposed, without_dimension}
 use Rattle.fv_meaning.specs.Dialect.{Dialect}
 use Rattle.fv_meaning.specs.Sections.{not_negative}
 use Rattle.fv_meaning.specs.Store.{Store}
 use Rattle.fv_meaning.specs.Value.{value_of, array_of, is_scalar, numbered, evaluated}
 use Rattle.array_laws.proofs.Members.{here, there, nowhere, cases_of}
-use Rattle.array_laws.proofs.Stages.{same_answer}
 use Rattle.array_forms.specs.Following.{has_none}
 use Rattle.array_forms.specs.Forms.{trip_text, spread_over, placed, constructed}
 use Rattle.array_forms.specs.Instances.{at_iterations, count_of, counts_of}
-use Rattle.array_forms.specs.Laws.{Turns, AreKnown, AreTurning}
-use Rattle.array_forms.specs.Loops.{Loop, Surroundings, variables_of, names_of, is_among, AreDistinct, loops_among, same_loops, is_part_of, is_exchange_of, coefficient}
+use Rattle.array_forms.specs.Laws.{AreKnown, AreTurning}
+use Rattle.array_forms.specs.Loops.{Loop, Surroundings, variables_of, names_of, is_among, AreDistinct, loops_among, same_loops, is_part_of, is_exchange_of}
 use Rattle.array_forms.proofs.Axes.{Fit, Within, places, NoFault, from_there, same_lists}
 use Rattle.array_forms.proofs.Bounds.{trip_known}
-use Rattle.array_forms.proofs.Constructing.{Full, filled, whole_full, settled_full, Apart, AreSeparate, Made, constructed_full}
+use Rattle.array_forms.proofs.Constructing.{Full, filled, whole_full, settled_full, Apart, AreSeparate, constructed_full}
 use Rattle.array_forms.proofs.Iterations.{iterations, at_those}
-use Rattle.array_forms.proofs.Orders.{of_filter, filter_among, loop_of, filter_distinct}
+use Rattle.array_forms.proofs.Orders.{of_filter, filter_among, loop_of}
 use Rattle.array_forms.proofs.Positions.{AreFrom, positions_from, from_positions, iteration_of, iterations_are}
 use Rattle.array_forms.proofs.Values.{fitting, bounded_by, same_length, next, before}
 

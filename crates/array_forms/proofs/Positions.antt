@@ -1,8 +1,8 @@
 -- Iterations by position: each list of iterations is that of names.
-use Rattle.std.proofs.Common.{◌≡◌, refl, sym, ap, ◌∙◌, subst, ◌⊎◌, inl, inr, ℕ, zero, suc, ◌+◌, ◌-◌, ◌≤◌, ◌<◌, Bool, true, false, cond, List, [], ◌∷◌, ◌++◌, map, length, filter, flat_map, arith, Contains, ◌==◌, pred}
+use Rattle.std.proofs.Common.{◌≡◌, refl, sym, ap, ◌∙◌, subst, ◌⊎◌, inl, inr, ℕ, zero, suc, ◌+◌, ◌≤◌, ◌<◌, Bool, true, false, cond, List, [], ◌∷◌, ◌++◌, map, length, flat_map, arith, Contains, ◌==◌}
 use Rattle.std.specs.Str.{bytes_eq}
 use Rattle.std.proofs.lemmas.Bool.{eqb-true, eqb-false}
-use Rattle.std.proofs.lemmas.List.Elements.{Contains-append_left, Contains-append_right, Contains-append_cases}
+use Rattle.std.proofs.lemmas.List.Elements.{Contains-append_left, Contains-append_right}
 use Rattle.std.proofs.lemmas.Slice.Eq.{bytes_eq-Decides}
 use mathlib.Core.Path.{ap₂}
 use Rattle.fv_meaning.specs.ArrayValues.{counted, positions}
@@ -11,7 +11,6 @@ use Rattle.array_laws.proofs.OneToOne.{of_flat_map}
 use Rattle.array_forms.specs.Instances.{in_sequence}
 use Rattle.array_forms.specs.Loops.{Loop, variables_of, is_among, AreDistinct}
 use Rattle.array_forms.proofs.Iterations.{iterations}
-use Rattle.array_forms.proofs.Names.{among}
 
 -- ---- lists of lists
 

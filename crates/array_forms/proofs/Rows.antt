@@ -1,8 +1,8 @@
 -- Worked array forms.
-use Rattle.std.proofs.Common.{◌≡◌, refl, ℕ, ℤ, pos, negsuc, ◌*ℤ◌, Bool, true, false, if◌then◌else◌, List, [], ◌∷◌, Option, Some, None, Result, Ok, map}
+use Rattle.std.proofs.Common.{◌≡◌, refl, ℕ, ℤ, pos, ◌*ℤ◌, true, false, if◌then◌else◌, List, [], ◌∷◌, Some, None, Result, Ok, map}
 use Rattle.std.specs.Str.{bytes_eq}
 use Prim.Native.String.{String}
-use Rattle.fv_tree.specs.Plain.{Expression, Number, Named, Unary, Binary, Constructor, Spread, Transpose, Reshape, Subscript, Only, Section, expressions, no_expressions, expression, subscripts, Loops, no_loops, loop, Reference, Assignment, If, no_arms, arm, Block, no_statements, statement}
+use Rattle.fv_tree.specs.Plain.{Expression, Unary, Binary, Constructor, Spread, Transpose, Reshape, Subscript, Only, Section, expressions, no_loops, loop, Reference, Assignment, If, no_arms, arm, Block, no_statements, statement}
 use Rattle.fv_tree.specs.declared.ops.Op.TheVariants.{Mul, Div, Neg, Add, Sub, Ge, And}
 use Rattle.fv_tree.specs.Steps.{◌>>=◌}
 use Rattle.fv_tree.specs.declared.ops.Fault.{Fault}
@@ -13,9 +13,8 @@ use Rattle.fv_meaning.specs.Store.{Store}
 use Rattle.fv_meaning.proofs.DeckWords.{n, v, at, part, to_part, to_element, name, cell}
 use Rattle.array_laws.specs.Instances.{in_turn}
 use Rattle.array_forms.specs.Instances.{in_sequence, instances_of}
-use Rattle.linear_forms.specs.Linear.{Form}
 use Rattle.array_forms.specs.Loops.{Trip, Loop, Surroundings}
-use Rattle.array_forms.specs.Statements.{Hold, FormHold, TriangleHold, hold_at, array_form_of}
+use Rattle.array_forms.specs.Statements.{FormHold, TriangleHold, hold_at, array_form_of}
 
 -- ---- words
 

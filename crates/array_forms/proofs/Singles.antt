@@ -1,14 +1,12 @@
 -- What has a value is a scalar.
-use Rattle.std.proofs.Common.{◌≡◌, refl, sym, ap, ◌∙◌, subst, ℕ, ℤ, Bool, true, false, cond, ◌&&◌, List, [], ◌∷◌, Result, Ok, Err, Option, Some, None, int_le}
+use Rattle.std.proofs.Common.{◌≡◌, refl, ℕ, ℤ, true, ◌&&◌, List, [], ◌∷◌, Ok, Option, Some, None}
 use mathlib.Core.Path.{ap₂}
 use Rattle.fv_tree.specs.Operators.{apply, call, as_number}
 use Rattle.fv_tree.specs.Plain.{Expression, Number, Logic, Named, Unary, Binary, Apply, Constructor, Spread, Transpose, Reshape, Reduce, Expressions, no_expressions, expression, Subscript, Only, Section, Subscripts, no_subscripts, subscript}
 use Rattle.fv_tree.specs.Steps.{◌>>=◌}
-use Rattle.fv_tree.specs.declared.ops.Fault.{Fault}
-use Rattle.fv_tree.specs.declared.ops.Fault.TheVariants.{Bounds}
 use Rattle.fv_tree.specs.declared.ops.Value.{Value}
 use Rattle.fv_meaning.specs.Dialect.{Dialect}
-use Rattle.fv_meaning.specs.Store.{Store, Cell, cell_in, cell_at, is_within}
+use Rattle.fv_meaning.specs.Store.{Store, Cell, cell_in, cell_at}
 use Rattle.fv_meaning.specs.Value.{value_of, values_of, subscript_value, subscript_values, is_scalar, are_scalar, are_indices, is_index, is_bare}
 use Rattle.array_laws.proofs.Stages.{bound}
 

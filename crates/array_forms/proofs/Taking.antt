@@ -1,7 +1,6 @@
 -- Every form has, position by position, the values of its expression.
-use Rattle.std.proofs.Common.{◌≡◌, refl, sym, ap, ◌∙◌, subst, ◌⊎◌, inl, inr, ℕ, zero, suc, ◌+◌, ◌-◌, ◌≤◌, ◌<◌, ℤ, pos, Bool, true, false, cond, ◌&&◌, ◌||◌, not, List, [], ◌∷◌, ◌++◌, map, length, Result, Ok, Err, Option, Some, None, arith, Contains}
+use Rattle.std.proofs.Common.{◌≡◌, refl, sym, ap, ◌∙◌, subst, ◌⊎◌, inl, inr, ℕ, suc, ◌-◌, ◌≤◌, ◌<◌, ℤ, pos, Bool, true, false, cond, ◌&&◌, ◌||◌, not, List, [], ◌∷◌, ◌++◌, map, Result, Ok, Err, Option, Some, None, arith, Contains}
 use Rattle.std.specs.Str.{bytes_eq}
-use Rattle.std.proofs.lemmas.List.Elements.{Contains-append_cases}
 use Rattle.std.proofs.lemmas.Slice.Eq.{bytes_eq-Decides}
 use mathlib.Core.Path.{ap₂}
 use Rattle.fv_tree.specs.Operators.{apply, call, as_number}
@@ -13,11 +12,10 @@ use Rattle.fv_tree.specs.declared.ops.Value.{Value}
 use Rattle.fv_meaning.specs.ArrayStatements.{axes_named}
 use Rattle.fv_meaning.specs.ArrayValues.{Elements, settled, positions}
 use Rattle.fv_meaning.specs.Dialect.{Dialect}
-use Rattle.fv_meaning.specs.Reads.{names_in, names_in_each, names_in_subscripts, names_in_subscript}
+use Rattle.fv_meaning.specs.Reads.{names_in, names_in_subscripts, names_in_subscript}
 use Rattle.fv_meaning.specs.Sections.{extents_of, cells_along}
-use Rattle.fv_meaning.specs.Store.{Store, Cell, cell_in, cell_at, is_within}
-use Rattle.fv_meaning.specs.Value.{value_of, values_of, subscript_value, subscript_values, array_of, selectors, is_scalar, bound_to}
-use Rattle.array_laws.specs.Elements.{subscripts_at}
+use Rattle.fv_meaning.specs.Store.{Store, cell_in, cell_at, is_within}
+use Rattle.fv_meaning.specs.Value.{value_of, values_of, subscript_value, subscript_values, selectors, bound_to}
 use Rattle.array_laws.proofs.Members.{here, there, nowhere, cases_of}
 use Rattle.array_laws.proofs.Sections.{section_of, element_of_section}
 use Rattle.array_laws.proofs.Stages.{bound, same_answer}
@@ -26,17 +24,16 @@ use Rattle.linear_forms.proofs.Sizes.{both}
 use Rattle.array_forms.specs.Following.{has_none, is_moved, is_regular, are_regular, are_regular_subscripts}
 use Rattle.array_forms.specs.Forms.{placed, constructed, name_form, form, forms, subscript_forms}
 use Rattle.array_forms.specs.Instances.{at_iterations, count_of, counts_of}
-use Rattle.array_forms.specs.Laws.{Turns, AreKnown, AreTurning, store_at, HasValues, HasInstanceValues, FormHasInstanceValues}
+use Rattle.array_forms.specs.Laws.{AreKnown, AreTurning, FormHasInstanceValues}
 use Rattle.array_forms.specs.Loops.{Loop, Surroundings, variables_of, names_of, is_among, AreDistinct, loops_among, loops_in_order, one_each}
 use Rattle.array_forms.proofs.Axes as axes
 use Rattle.array_forms.proofs.Axes.{Fit, Within, NoFault, Takes, Vectors, places, stays}
 use Rattle.array_forms.proofs.Forming.{unary, binary, HasEach, no_arguments, one_argument, applied, none_append}
-use Rattle.array_forms.proofs.Iterations.{iterations, at_those, bounds_at, element_at, value_part}
+use Rattle.array_forms.proofs.Iterations.{iterations, at_those, bounds_at, value_part}
 use Rattle.array_forms.proofs.Names.{among, among_is}
 use Rattle.array_forms.proofs.Orders.{in_filter, of_filter, filter_distinct, all_of_mine}
 use Rattle.array_forms.proofs.Placing.{fit, Over, value_there, has_value, constructed_over, placed_over}
-use Rattle.array_forms.proofs.Positions.{AreFrom, from_positions}
-use Rattle.array_forms.proofs.Values.{By, by_position}
+use Rattle.array_forms.proofs.Values.{by_position}
 
 scalar_name : (names : List (List ℕ)) (s : Store) (xs : List ℤ) (x : List ℕ) → HaveValues names s xs → is_among names x ≡ true → s.bounds x ≡ Some []
 scalar_name [] s xs x h e = absurd cc

@@ -1,19 +1,16 @@
 -- The IF on the trips: it runs its block where each loop turns; where one doesn't, it passes over it, and there is no
 -- instance.
-use Rattle.std.proofs.Common.{◌≡◌, refl, sym, ap, ◌∙◌, subst, ◌⊎◌, inl, inr, ℕ, zero, suc, ◌+◌, ◌-◌, ◌*◌, ◌/◌, ◌^◌, ◌≤◌, ◌<◌, ◌==◌, ℤ, pos, negsuc, neg_ℤ, ◌+ℤ◌, ◌*ℤ◌, int_div, int_le, Bool, true, false, cond, ◌&&◌, List, [], ◌∷◌, ◌++◌, map, length, flat_map, Result, Ok, Err, Option, Some, None, arith, Contains, nat_abs}
+use Rattle.std.proofs.Common.{◌≡◌, refl, sym, ap, ◌∙◌, subst, ◌⊎◌, inl, inr, ℕ, zero, suc, ◌+◌, ◌≤◌, ◌==◌, ℤ, pos, negsuc, ◌+ℤ◌, ◌*ℤ◌, int_div, int_le, Bool, true, false, cond, ◌&&◌, List, [], ◌∷◌, ◌++◌, map, flat_map, Result, Ok, None, arith, Contains}
 use Rattle.std.specs.Ordering.{int_eq}
 use Rattle.std.proofs.lemmas.Bool.{leb-true, le-leb, eqb-true}
 use Rattle.std.proofs.lemmas.Bool.Decides.{Decides-int_eq}
-use Rattle.std.proofs.lemmas.Int.{ints}
-use Rattle.std.proofs.lemmas.Nat.{div-add-mod'}
 use Rattle.std.proofs.Math.IntN.{zero-*ℤ, +ℤ_idl}
 use mathlib.Core.Path.{ap₂}
-use Rattle.fv_tree.specs.Operators.{apply, as_truth, fits, ranged}
-use Rattle.fv_tree.specs.Plain.{Expression, Number, Binary, Block, If, no_arms, arm, no_statements, statement}
+use Rattle.fv_tree.specs.Operators.{apply, as_truth}
+use Rattle.fv_tree.specs.Plain.{Expression, Number, Binary, Block, If, no_arms, arm, no_statements}
 use Rattle.fv_tree.specs.Steps.{◌>>=◌}
 use Rattle.fv_tree.specs.declared.ops.Fault.{Fault}
-use Rattle.fv_tree.specs.declared.ops.Fault.TheVariants.{Overflow, ZeroDivide}
-use Rattle.fv_tree.specs.declared.ops.Op.TheVariants.{And, Ge, Div}
+use Rattle.fv_tree.specs.declared.ops.Op.TheVariants.{And, Ge}
 use Rattle.fv_tree.specs.declared.ops.Value.{Value}
 use Rattle.fv_tree.specs.declared.ops.Value.TheVariants.{Int, Truth}
 use Rattle.fv_meaning.specs.ArrayValues.{counted}
@@ -23,16 +20,13 @@ use Rattle.fv_meaning.specs.Sections.{not_negative}
 use Rattle.fv_meaning.specs.Store.{Store}
 use Rattle.fv_meaning.specs.Value.{value_of, truth_of}
 use Rattle.array_laws.proofs.Members.{here, there, nowhere, cases_of}
-use Rattle.linear_forms.specs.Expressed.{expressed, variables}
-use Rattle.linear_forms.specs.Linear.{Form, weighted, number_at, not_zero, is_limited}
-use Rattle.linear_forms.proofs.Expressed.{text_has_value}
-use Rattle.linear_forms.proofs.Sizes.{within_fits}
-use Rattle.array_forms.specs.Forms.{divided_text, trip_text}
+use Rattle.linear_forms.specs.Linear.{weighted, number_at, not_zero}
+use Rattle.array_forms.specs.Forms.{trip_text}
 use Rattle.array_forms.specs.Instances.{count_of, counts_of, in_sequence}
 use Rattle.array_forms.specs.Laws.{HasTrip, Turns, AreKnown}
-use Rattle.array_forms.specs.Loops.{Trip, Loop, Surroundings, names_of, divided, trip_number, is_positive_constant}
+use Rattle.array_forms.specs.Loops.{Loop, Surroundings, names_of, trip_number, is_positive_constant}
 use Rattle.array_forms.specs.Statements.{tests_of, and_all, guarded_by}
-use Rattle.array_forms.proofs.Bounds.{trip_value, trip_is}
+use Rattle.array_forms.proofs.Bounds.{trip_value}
 use Rattle.linear_forms.proofs.Sizes.{both}
 
 -- ---- tests

@@ -1,23 +1,18 @@
 -- Instances by the positions that they have.
-use Rattle.std.proofs.Common.{◌≡◌, refl, sym, ap, ◌∙◌, subst, ◌⊎◌, inl, inr, ℕ, zero, suc, ◌+◌, ◌-◌, ◌≤◌, ◌<◌, ℤ, Bool, true, false, cond, List, [], ◌∷◌, ◌++◌, map, length, Result, Ok, arith, Contains}
+use Rattle.std.proofs.Common.{◌≡◌, refl, sym, ap, ◌∙◌, subst, ◌⊎◌, inl, inr, ℕ, suc, ◌+◌, ◌-◌, ◌≤◌, ◌<◌, ℤ, Bool, true, false, cond, List, [], ◌∷◌, ◌++◌, map, length, arith, Contains}
 use Rattle.std.specs.Str.{bytes_eq}
-use Rattle.std.proofs.lemmas.Slice.Eq.{bytes_eq-Decides}
 use mathlib.Core.Path.{ap₂}
-use Rattle.fv_tree.specs.Plain.{Expression}
-use Rattle.fv_tree.specs.declared.ops.Fault.{Fault}
-use Rattle.fv_tree.specs.declared.ops.Value.{Value}
 use Rattle.fv_meaning.specs.ArrayValues.{positions}
 use Rattle.fv_meaning.specs.Dialect.{Dialect}
 use Rattle.fv_meaning.specs.Store.{Store}
-use Rattle.fv_meaning.specs.Value.{value_of}
 use Rattle.array_laws.proofs.Members.{here, there, nowhere, cases_of}
-use Rattle.array_forms.specs.Instances.{at_iterations, count_of, counts_of}
-use Rattle.array_forms.specs.Laws.{Turns, AreKnown, AreTurning, store_at, HasValues, HasInstanceValues, FormHasInstanceValues}
-use Rattle.array_forms.specs.Loops.{Loop, Surroundings, variables_of, names_of, is_among, AreDistinct}
-use Rattle.array_forms.proofs.Axes.{Fit, Within, places, NoFault}
-use Rattle.array_forms.proofs.Iterations.{iterations, at_those}
+use Rattle.array_forms.specs.Instances.{count_of, counts_of}
+use Rattle.array_forms.specs.Laws.{AreKnown, AreTurning}
+use Rattle.array_forms.specs.Loops.{Loop, Surroundings, variables_of, is_among, AreDistinct}
+use Rattle.array_forms.proofs.Axes.{Fit, Within, places}
+use Rattle.array_forms.proofs.Iterations.{iterations}
 use Rattle.array_forms.proofs.Names.{among}
-use Rattle.array_forms.proofs.Positions.{AreFrom, positions_from, from_positions, iteration_of, iterations_are}
+use Rattle.array_forms.proofs.Positions.{AreFrom, positions_from, iteration_of, iterations_are}
 
 -- ---- loops by their names
 

@@ -1,55 +1,51 @@
 -- The array form of an assignment stores what its instances store.
-use Rattle.std.proofs.Common.{◌≡◌, refl, sym, ap, ◌∙◌, subst, ◌⊎◌, inl, inr, ℕ, zero, suc, ◌+◌, ◌-◌, ◌≤◌, ◌<◌, ℤ, pos, Bool, true, false, cond, ◌&&◌, not, List, [], ◌∷◌, ◌++◌, map, length, Result, Ok, Err, Option, Some, None, arith, Contains, leb}
-use Rattle.std.specs.List.{All, AllByRecursion}
-use Rattle.std.proofs.lemmas.Bool.{le-leb}
+use Rattle.std.proofs.Common.{◌≡◌, refl, sym, ap, ◌∙◌, subst, ◌⊎◌, inl, inr, ℕ, ◌+◌, ◌-◌, ◌≤◌, ℤ, pos, Bool, true, false, cond, ◌&&◌, not, List, [], ◌∷◌, ◌++◌, map, length, Result, Ok, Err, Option, Some, None, arith, Contains}
+use Rattle.std.specs.List.{AllByRecursion}
 use Rattle.std.proofs.lemmas.List.Elements.{recursion_from_All}
 use mathlib.Core.Path.{ap₂}
-use Rattle.fv_tree.specs.Operators.{apply, as_truth}
-use Rattle.fv_tree.specs.Plain.{Expression, Number, Logic, Named, Binary, Subscript, Only, Section, Subscripts, no_subscripts, subscript, Reference, Statement, Assignment, If, no_arms, arm, Block, no_statements, statement}
+use Rattle.fv_tree.specs.Plain.{Expression, Logic, Named, Only, Section, Subscripts, no_subscripts, subscript, Reference, Assignment, no_statements, statement}
 use Rattle.fv_tree.specs.Steps.{◌>>=◌}
 use Rattle.fv_tree.specs.declared.ops.Fault.{Fault}
 use Rattle.fv_tree.specs.declared.ops.Fault.TheVariants.{Allocated, Bounds}
-use Rattle.fv_tree.specs.declared.ops.Op.TheVariants.{And, Ge}
 use Rattle.fv_tree.specs.declared.ops.Value.{Value}
-use Rattle.fv_tree.specs.declared.ops.Value.TheVariants.{Int, Truth}
+use Rattle.fv_tree.specs.declared.ops.Value.TheVariants.{Int}
 use Rattle.fv_tree.specs.declared.stmts.Mark.{Mark}
 use Rattle.fv_meaning.specs.ArrayStatements.{axes_named, storable, writes_of}
 use Rattle.fv_meaning.specs.ArrayValues.{Elements, each, positions, conform}
 use Rattle.fv_meaning.specs.Dialect.{Dialect, fortran90}
 use Rattle.fv_meaning.specs.Reads.{names_in, names_in_subscripts, cells_read, cells_read_by}
-use Rattle.fv_meaning.specs.Run.{State, Going, does, does_all, chooses, either, answered, while_going, evaluates, counts_step}
+use Rattle.fv_meaning.specs.Run.{State, Going, does_all}
 use Rattle.fv_meaning.specs.Sections.{Axis, extents_of}
 use Rattle.fv_meaning.specs.Store.{Store, Cell, same_cell, cell_at, cell_in}
-use Rattle.fv_meaning.specs.Value.{value_of, subscript_values, array_of, cell_named, truth_of, bound_to, is_array, named}
+use Rattle.fv_meaning.specs.Value.{value_of, subscript_values, cell_named, bound_to, is_array, named}
 use Rattle.fv_meaning.proofs.CellFrame.{first_part, second_part, value_of-same, cell_named-same}
-use Rattle.array_laws.specs.Assignments.{element_assigned, cell_selected, shape_assigned}
-use Rattle.array_laws.specs.Elements.{cell_at_position, element_of, subscripts_at}
+use Rattle.array_laws.specs.Assignments.{element_assigned, shape_assigned}
+use Rattle.array_laws.specs.Elements.{cell_at_position, subscripts_at}
 use Rattle.array_laws.specs.Forms.{StandsFor, StoreApart}
 use Rattle.array_laws.specs.Instances.{Instance, ComesFromReads, puts, writes_in, in_turn, NoneReadsWritten}
 use Rattle.array_laws.proofs.Assignments.{bounds_alike, array_statement_stores}
 use Rattle.array_laws.proofs.Forms.{effect_of, array_form_is_instances}
 use Rattle.array_laws.proofs.Members.{here, there, nowhere, cases_of, in_map, of_map}
 use Rattle.array_laws.proofs.OneToOne.{positions_are_one_to_one}
-use Rattle.array_laws.proofs.Stages.{bound, same_answer, Split, split}
+use Rattle.array_laws.proofs.Stages.{bound, same_answer}
 use Rattle.array_laws.proofs.Turns.{in_turn_is_at_once}
 use Rattle.linear_forms.specs.Linear.{Form, form_of}
 use Rattle.linear_forms.proofs.Sizes.{both}
 use Rattle.array_forms.specs.Following.{has_none, is_moved, are_moved, is_regular, are_regular_subscripts}
-use Rattle.array_forms.specs.Forms.{trip_text, form, subscript_forms}
+use Rattle.array_forms.specs.Forms.{subscript_forms}
 use Rattle.array_forms.specs.Instances.{at_iterations, count_of, counts_of, in_sequence, instance_at, instances_of}
 use Rattle.array_forms.specs.Laws.{Turns, AreKnown, AreTurning, instances_from, OwnCells, InstancesHaveOwnCells, ArrayFormStoresInstances}
-use Rattle.array_forms.specs.Loops.{Loop, Surroundings, variables_of, names_of, AreDistinct, is_positive_constant, loops_in_order, same_loops, loops_among}
-use Rattle.array_forms.specs.Statements.{Hold, loops_from, hold_at, loops_assigned, left_form, right_form, tests_of, and_all, guarded_by, array_form_of}
+use Rattle.array_forms.specs.Loops.{Loop, Surroundings, variables_of, names_of, AreDistinct, loops_in_order, loops_among}
+use Rattle.array_forms.specs.Statements.{loops_from, hold_at, loops_assigned, left_form, right_form, array_form_of}
 use Rattle.array_forms.proofs.Axes as axes
 use Rattle.array_forms.proofs.Axes.{Fit, Within, NoFault, Takes, places}
-use Rattle.array_forms.proofs.Bounds.{trip_known}
 use Rattle.array_forms.proofs.Forming.{conforming}
 use Rattle.array_forms.proofs.Iterations.{is_variable, variable_cell, iterations, at_those, bounds_at, any_order}
 use Rattle.array_forms.proofs.Tests.{ready, block_done, all_or_one, nothing_done, no_sequence}
 use Rattle.array_forms.proofs.Orders.{Ordered, ordered_loops, no_triangle, of_drop, distinct_front, distinct_drop}
 use Rattle.array_forms.proofs.Positions.{AreFrom, from_sequence, sequence_from, iteration_of, iterations_are}
 use Rattle.array_forms.proofs.Taking.{takes}
-use Rattle.array_forms.proofs.Values.{fitting, bounded_by, same_length, By, by_position}
+use Rattle.array_forms.proofs.Values.{fitting, bounded_by, same_length, by_position}
 
 -- ---- an instance depends on the cells that it reads alone
 

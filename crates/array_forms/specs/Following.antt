@@ -1,8 +1,8 @@
 -- Which expressions the laws on array forms speak of.
 use Rattle.std.specs.Prelude.{pos, Bool, true, false, ◌&&◌, ◌||◌, not, Option, Some, None, List, [], ◌∷◌}
 use Rattle.std.specs.Ordering.{int_eq}
-use Rattle.fv_tree.specs.Plain.{Expression, Number, Logic, Named, Unary, Binary, Apply, Constructor, Spread, Transpose}
-use Rattle.fv_tree.specs.Plain.{Reshape, Reduce, Expressions, no_expressions, expression, Subscript, Only, Section}
+use Rattle.fv_tree.specs.Plain.{Expression, Number, Logic, Named, Unary, Binary, Apply}
+use Rattle.fv_tree.specs.Plain.{Reduce, Expressions, no_expressions, expression, Only, Section}
 use Rattle.fv_tree.specs.Plain.{Subscripts, no_subscripts, subscript}
 use Rattle.fv_meaning.specs.Reads.{names_in}
 use Rattle.linear_forms.specs.Linear.{Form, form_of}

@@ -1,6 +1,6 @@
 -- The array form of an expression: with the loops D instead of their iterations, it has at each position the value that
 -- the expression has at the iterations of that position (ISO/IEC 1539:1991, sections 4.5, 6.2.2 and 13.13).
-use Rattle.std.specs.Prelude.{◌==◌, ℕ, ◌+◌, ℤ, pos, Bool, true, false, ◌&&◌, if◌then◌else◌, Option, Some, None}
+use Rattle.std.specs.Prelude.{◌==◌, ℕ, ◌+◌, ℤ, pos, ◌&&◌, if◌then◌else◌, Option, Some, None}
 use Rattle.std.specs.Prelude.{List, [], ◌∷◌, ◌++◌, map, length}
 use Rattle.fv_tree.specs.Plain.{Expression, Number, Logic, Named, Unary, Binary, Apply, Constructor, Spread, Transpose}
 use Rattle.fv_tree.specs.Plain.{Reshape, Expressions, no_expressions, expression, expressions, Subscript, Only, Section}

@@ -1,7 +1,5 @@
 -- The instances of an assignment in loops: what it does where the loop variables hold their iterations.
-use Rattle.std.specs.Prelude.{◌≡◌, Result, Ok, Option, Some, ℕ, suc, ◌≤◌, ℤ, pos, List, [], ◌∷◌, ◌++◌, map, flat_map}
-use Rattle.std.specs.Prelude.{Contains}
-use Rattle.std.specs.List.{AllByRecursion}
+use Rattle.std.specs.Prelude.{Ok, Some, ℕ, ℤ, pos, List, [], ◌∷◌, ◌++◌, map, flat_map}
 use Rattle.fv_tree.specs.Plain.{Expression, Reference}
 use Rattle.fv_tree.specs.Steps.{◌>>=◌}
 use Rattle.fv_meaning.specs.ArrayStatements.{storable}

@@ -1,9 +1,8 @@
 -- The loops round a statement of a nest, in which each loop goes from 1 to its trip by 1, and which of them stand
 -- where.
-use Rattle.std.specs.Prelude.{◌≡◌, ℕ, suc, ◌==◌, ℤ, pos, nat_le, int_le, int_div, Bool, true, false, ◌&&◌, not}
+use Rattle.std.specs.Prelude.{◌≡◌, ℕ, ◌==◌, ℤ, pos, nat_le, int_le, int_div, Bool, true, false, ◌&&◌}
 use Rattle.std.specs.Prelude.{if◌then◌else◌, List, [], ◌∷◌, ◌++◌, map, length, filter}
 use Rattle.std.specs.Cmp.Lexicographic.{pointwise}
-use Rattle.std.specs.Ordering.{int_eq}
 use Rattle.std.specs.Str.{bytes_eq}
 use Rattle.fv_tree.specs.Plain.{Subscripts, no_subscripts, subscript}
 use Rattle.fv_meaning.specs.Reads.{names_in_subscript}

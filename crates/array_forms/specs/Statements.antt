@@ -1,17 +1,17 @@
 -- The array form of an assignment at a level, and what forbids it (Allen and Kennedy, "Optimizing Compilers for Modern
 -- Architectures", section 2.4).
-use Rattle.std.specs.Prelude.{◌==◌, ℕ, ◌+◌, ◌-◌, ℤ, pos, Bool, true, false, ◌&&◌, ◌||◌, not, if◌then◌else◌, Option}
-use Rattle.std.specs.Prelude.{Some, None, List, [], ◌∷◌, length, filter, drop, nat_le}
+use Rattle.std.specs.Prelude.{◌==◌, ℕ, ◌+◌, ◌-◌, pos, Bool, true, false, ◌&&◌, ◌||◌, not, if◌then◌else◌, Option}
+use Rattle.std.specs.Prelude.{Some, None, List, [], ◌∷◌, length, drop}
 use Rattle.std.specs.List.{list_all, list_any}
 use Rattle.std.specs.Ordering.{int_eq}
 use Rattle.std.specs.Str.{bytes_eq}
 use Rattle.fv_tree.specs.Plain.{Expression, Number, Binary, Reference, Subscript, Only, Section, Subscripts}
-use Rattle.fv_tree.specs.Plain.{no_subscripts, subscript, Statement, Assignment, If, no_arms, arm, Block}
+use Rattle.fv_tree.specs.Plain.{no_subscripts, subscript, Assignment, If, no_arms, arm, Block}
 use Rattle.fv_tree.specs.Plain.{no_statements, statement}
 use Rattle.fv_tree.specs.declared.ops.Op.TheVariants.{Ge, And}
 use Rattle.fv_tree.specs.declared.stmts.Mark.{Mark}
 use Rattle.fv_meaning.specs.Reads.{names_in_subscript}
-use Rattle.linear_forms.specs.Linear.{Form, form_of}
+use Rattle.linear_forms.specs.Linear.{form_of}
 use Rattle.array_forms.specs.Loops.{Loop, Surroundings, variables_of, names_of, is_positive_constant, is_among}
 use Rattle.array_forms.specs.Loops.{loops_among, loops_in_order, coefficient}
 use Rattle.array_forms.specs.Forms.{trip_text, form, subscript_forms}
