@@ -4,7 +4,7 @@ ghost use Rattle.direction_vectors.specs.Answers.{OnAssumed, OnKept, OnNever, On
 ghost use Rattle.direction_vectors.specs.Candidates.{CoversCandidates, CoversEach};
 ghost use Rattle.direction_vectors.specs.Merged.{AreMerged};
 ghost use Rattle.direction_vectors.specs.Parts.{AreListedUnder, IsEqualPrefix};
-ghost use Rattle.vector_tests.specs.Refs.{IsRefPair};
+ghost use Rattle.vector_tests.specs.Refs.{IsRefPair, IsVectorOf};
 
 use crate::dirs::{Answer, with_dir};
 use crate::merging::{merged, one_answer};
@@ -36,6 +36,7 @@ fn listed(alloc: Global, refs: &RefPair, d: &Dirs, place: usize) -> Result<Vec<A
 /// three with `<`, `=` and `>` there. Vectors stand in order, `<` before `=` before `>`.
 pub fn vectors(alloc: Global, refs: &RefPair) -> Result<Seq<(Dirs, Verdict)>, Memory>
     requires { IsRefPair refs.now }
+    ensures vectors { IfOk result (λ answers. All (λ a. IsVectorOf refs.now a.0) answers) }
     ensures covered { IfOk result (λ answers. CoversEach refs.now answers) }
     ensures candidates { IfOk result (λ answers. All (CoversCandidates refs.now) answers) }
     ensures never { IfOk result (λ answers. All (λ a. OnNever refs.now a.0 a.1) answers) }
