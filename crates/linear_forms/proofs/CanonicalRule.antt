@@ -1,5 +1,5 @@
 -- That nodes become their canonical text keeps the laws of a rule.
-use Rattle.std.proofs.Common.{◌≡◌, refl, sym, ap, ◌∙◌, subst, ℕ, suc, ◌^◌, ◌<◌, ◌≤◌, ℤ, pos, negsuc, Bool, true, false, cond, List, [], ◌∷◌, ◌++◌, map, length, Result, Ok, Err, Option, Some, None, arith}
+use Rattle.std.proofs.Common.{◌≡◌, refl, sym, ap, ◌∙◌, subst, ℕ, suc, ◌^◌, ◌<◌, ◌≤◌, ℤ, pos, negsuc, Bool, true, false, cond, List, [], ◌∷◌, ◌++◌, map, length, Result, Ok, Err, Option, Some, None, append-nil, arith}
 use Rattle.std.specs.Prelude.{IsTrue, IfOk, nat_abs, nat_le}
 use Rattle.std.specs.List.{AllByRecursion}
 use Rattle.std.proofs.lemmas.Bool.Decides.{Decides-ltb}
@@ -32,8 +32,8 @@ use Rattle.linear_forms.proofs.TextsKeep.{text_keeps_value, name_text}
 
 -- ---- what was found
 
-pub text-found : (loops symbols : List (List ℕ)) (e : Expression) (o : Option Form) (a : Affine) → IsFound (length loops) o (Some a) → text_or loops symbols o e ≡ text_of loops symbols a
-text-found loops symbols e (Some f) a h = sym (affine_has_text loops symbols f a h)
+pub text-found : (loops symbols : List (List ℕ)) (e : Expression) (o : Option Form) (a : Affine) → IsFound (length loops) o (Some a) → text_or loops symbols o e ≡ text_of loops symbols [] a
+text-found loops symbols e (Some f) a h = ap (λ (ts : List Expression). expressed ts f) (sym (append-nil (variables (loops ++ symbols)))) ∙ sym (affine_has_text loops symbols [] f a h)
 text-found loops symbols e None a h = absurd h
 
 pub text-missing : (loops symbols : List (List ℕ)) (e : Expression) (o : Option Form) → IsFound (length loops) o None → text_or loops symbols o e ≡ e
@@ -41,7 +41,7 @@ text-missing loops symbols e None h = refl
 text-missing loops symbols e (Some f) h = absurd h
 
 pub text-expressed : (loops symbols : List (List ℕ)) (e : Expression) (a : Affine) (r : Result Expr Memory) → IsFound (length loops) (form_of loops symbols e) (Some a)
-    → IfOk r (λ x. expression_of x ≡ text_of loops symbols a) → IfOk r (λ x. expression_of x ≡ canonical_text loops symbols e)
+    → IfOk r (λ x. expression_of x ≡ text_of loops symbols [] a) → IfOk r (λ x. expression_of x ≡ canonical_text loops symbols e)
 text-expressed loops symbols e a (Ok x) h k = k ∙ sym (text-found loops symbols e (form_of loops symbols e) a h)
 text-expressed loops symbols e a (Err m) h k = k
 

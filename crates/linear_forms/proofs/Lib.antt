@@ -15,3 +15,6 @@ pub mod TextLaws
 pub mod AffineTexts
 pub mod TextsKeep
 pub mod CanonicalRule
+pub mod CanonicalTwice
+pub mod CanonicalStays
+pub mod CanonicalBlocks

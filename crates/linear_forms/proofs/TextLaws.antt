@@ -4,9 +4,9 @@ use Rattle.std.proofs.Common.{Result, Ok, Err}
 use Rattle.std.specs.Prelude.{unsigned_abs, IfOk, slice_get}
 use Rattle.fv_tree.specs.declared.exprs.Expr.{Expr}
 use Rattle.fv_tree.specs.declared.lists.Memory.{Memory}
-use Rattle.linear_forms.specs.Texts.{text_so_far, with_place, with_symbols}
+use Rattle.linear_forms.specs.Texts.{text_so_far, with_place, with_symbols, places_behind}
 use Rattle.std.proofs.lemmas.Int.{ints}
-use Rattle.std.proofs.Common.{map}
+use Rattle.std.proofs.Common.{map, length, ◌-◌}
 use Rattle.fv_tree.specs.Plain.{Expression, Number, Unary, Binary, Named, Reference, subscripts}
 use Rattle.fv_tree.specs.View.{expression_of, subscript_of}
 use Rattle.fv_tree.specs.declared.lists.Seq.{Seq}
@@ -60,10 +60,37 @@ bare_is x ss e =
     expression_of-item (roll-Ref (record { name = x; subs = ss })) ∙ (ap (λ (t : Reference). Named t.name t.subscripts) (reference_of-made x ss)
     ∙ ap (λ (ss : List Part). Named x (subscripts (map subscript_of ss))) e)
 
-pub symbols_more : (r : Result (Option Expr) Memory) (o p : Option Expression) (terms ts : List (ℕ × ℤ)) (t : ℕ × ℤ) (names : List (List ℕ)) → terms ≡ t ∷ ts
-    → p ≡ with_place o t.1 (slice_get names t.0) → IfOk r (λ x. text_so_far x ≡ with_symbols p ts names) → IfOk r (λ x. text_so_far x ≡ with_symbols o terms names)
-symbols_more (Ok x) o p terms ts t names e g h = h ∙ (ap (λ q. with_symbols q ts names) g ∙ sym (ap (λ l. with_symbols o l names) e))
-symbols_more (Err m) o p terms ts t names e g h = h
+pub symbols_more : (r : Result (Option Expr) Memory) (o p : Option Expression) (terms ts : List (ℕ × ℤ)) (t : ℕ × ℤ) (all : List Expression) → terms ≡ t ∷ ts
+    → p ≡ with_place o t.1 (slice_get all t.0) → IfOk r (λ x. text_so_far x ≡ with_symbols p ts all) → IfOk r (λ x. text_so_far x ≡ with_symbols o terms all)
+symbols_more (Ok x) o p terms ts t all e g h = h ∙ (ap (λ q. with_symbols q ts all) g ∙ sym (ap (λ l. with_symbols o l all) e))
+symbols_more (Err m) o p terms ts t all e g h = h
 
-pub placed : (r : Result (Option Expr) Memory) (x : Option Expr) (o : Option Expression) (c : ℤ) (n m : Option (List ℕ)) → r ≡ Ok x → n ≡ m → IfOk r (λ x. text_so_far x ≡ with_place o c n) → text_so_far x ≡ with_place o c m
+pub placed : (r : Result (Option Expr) Memory) (x : Option Expr) (o : Option Expression) (c : ℤ) (n m : Option Expression) → r ≡ Ok x → n ≡ m → IfOk r (λ x. text_so_far x ≡ with_place o c n) → text_so_far x ≡ with_place o c m
 placed r x o c n m e g h = subst (λ (r : Result (Option Expr) Memory). IfOk r (λ x. text_so_far x ≡ with_place o c n)) e h ∙ ap (with_place o c) g
+
+-- ---- what stands for a place
+
+pub named-place : (ns : List (List ℕ)) (ts : List Expression) (k : ℕ) (x : List ℕ) → slice_get ns k ≡ Some x → slice_get (places_behind ns ts) k ≡ Some (variable x)
+named-place [] ts k x h = cc
+named-place (n ∷ ns) ts zero x h = let same : n ≡ x = cc in ap (λ x. Some (variable x)) same
+named-place (n ∷ ns) ts (suc k) x h = named-place ns ts k x h
+
+pub trip-place : (ns : List (List ℕ)) (ts : List Expression) (k : ℕ) → slice_get ns k ≡ None → slice_get (places_behind ns ts) k ≡ slice_get ts (k - length ns)
+trip-place [] ts k h = let same : k ≡ k - 0 = omega arith in ap (slice_get ts) same
+trip-place (n ∷ ns) ts zero h = cc
+trip-place (n ∷ ns) ts (suc k) h = let same : k - length ns ≡ suc k - suc (length ns) = omega arith in trip-place ns ts k h ∙ ap (slice_get ts) same
+
+pub mapped-place : (ts : List Expr) (k : ℕ) → slice_get (map expression_of ts) k ≡ text_so_far (slice_get ts k)
+mapped-place [] k = refl
+mapped-place (t ∷ ts) zero = refl
+mapped-place (t ∷ ts) (suc k) = mapped-place ts k
+
+-- the place of a symbol, of a trip, or of neither
+pub place_named : (ns : List (List ℕ)) (ts : List Expr) (k : ℕ) (x : List ℕ) (e : Expr) → slice_get ns k ≡ Some x → expression_of e ≡ variable x
+    → text_so_far (Some e) ≡ slice_get (places_behind ns (map expression_of ts)) k
+place_named ns ts k x e h g = ap Some g ∙ sym (named-place ns (map expression_of ts) k x h)
+
+pub place_of_trip : (ns : List (List ℕ)) (ts : List Expr) (k : ℕ) (r : Result (Option Expr) Memory) → slice_get ns k ≡ None
+    → IfOk r (λ o. text_so_far o ≡ text_so_far (slice_get ts (k - length ns))) → IfOk r (λ o. text_so_far o ≡ slice_get (places_behind ns (map expression_of ts)) k)
+place_of_trip ns ts k (Ok o) h g = g ∙ (sym (mapped-place ts (k - length ns)) ∙ sym (trip-place ns (map expression_of ts) k h))
+place_of_trip ns ts k (Err m) h g = g

@@ -56,6 +56,22 @@ name_text loops names x no_subscripts f h = by (unit names x) refl (limited-is l
     by None g k = cc
 name_text loops names x (subscript p ps) f h = let e = limited-is loops None f h in cc
 
+-- ---- a form is within its limits
+
+module _ (loops : ℕ) (names : List (List ℕ)) where
+  pub text_limited : (e : Expression) (f : Form) → linear loops names e ≡ Some f → is_limited loops f ≡ true
+  text_limited (Number n) f h = limited-holds loops (constant_or (constant_of (Number n)) None) f h
+  text_limited (Logic b) f h = cc
+  text_limited (Named x ps) f h = limited-holds loops (form_of_name names x ps) f h
+  text_limited (Unary o a) f h = limited-holds loops (constant_or (constant_of (Unary o a)) (form_of_sign o (linear loops names a))) f h
+  text_limited (Binary o a b) f h = limited-holds loops (constant_or (constant_of (Binary o a b)) (form_of_pair o (constant_of a) (constant_of b) (linear loops names a) (linear loops names b))) f h
+  text_limited (Apply c es) f h = limited-holds loops (constant_or (constant_of (Apply c es)) None) f h
+  text_limited (Constructor es ls) f h = cc
+  text_limited (Spread a i b) f h = cc
+  text_limited (Transpose a) f h = cc
+  text_limited (Reshape a es) f h = cc
+  text_limited (Reduce r a) f h = cc
+
 -- ---- what an operation takes and gives
 
 record Takes (x y : Value) : Type 0 where
@@ -357,24 +373,11 @@ module _ (lang : Dialect) (s : Store) (sized : HoldsSized s) where
     truth_text (Reshape a es) f b h v = cc
     truth_text (Reduce r a) f b h v = cc
 
-    text_limited : (e : Expression) (f : Form) → linear loops names e ≡ Some f → is_limited loops f ≡ true
-    text_limited (Number n) f h = limited-holds loops (constant_or (constant_of (Number n)) None) f h
-    text_limited (Logic b) f h = cc
-    text_limited (Named x ps) f h = limited-holds loops (form_of_name names x ps) f h
-    text_limited (Unary o a) f h = limited-holds loops (constant_or (constant_of (Unary o a)) (form_of_sign o (linear loops names a))) f h
-    text_limited (Binary o a b) f h = limited-holds loops (constant_or (constant_of (Binary o a b)) (form_of_pair o (constant_of a) (constant_of b) (linear loops names a) (linear loops names b))) f h
-    text_limited (Apply c es) f h = limited-holds loops (constant_or (constant_of (Apply c es)) None) f h
-    text_limited (Constructor es ls) f h = cc
-    text_limited (Spread a i b) f h = cc
-    text_limited (Transpose a) f h = cc
-    text_limited (Reshape a es) f h = cc
-    text_limited (Reduce r a) f h = cc
-
     kept : loops ≤ 7 → (e : Expression) (f : Form) (v : Value) → linear loops names e ≡ Some f → value_of lang e s ≡ Ok v → value_of lang (expressed (variables names) f) s ≡ Ok v
     kept few e f (Truth b) h v = truth_text e f b h v
     kept few e f (Int z) h v =
         let is = formed e f z h v in
-        expressed_is_number lang s loops few (variables names) f (numbers names) (text_limited e f h) (where_covered f.coefficients names is.covered) (all-sized names)
+        expressed_is_number lang s loops few (variables names) f (numbers names) (text_limited loops names e f h) (where_covered f.coefficients names is.covered) (all-sized names)
         ∙ ap (λ z. Ok (Int z)) (sym is.value)
 
 pub text_keeps_value : TextKeepsValue

@@ -1,9 +1,11 @@
 -- Canonical text as what a rule makes of each node.
-use Rattle.std.specs.Prelude.{◌≡◌, Option, Some, None, ℕ, ◌≤◌, IsTrue, Bool, true, if◌then◌else◌, List, ◌++◌}
-use Rattle.fv_tree.specs.Plain.{Expression}
+use Rattle.std.specs.Prelude.{◌≡◌, Option, Some, None, ℕ, ◌≤◌, IsTrue, Bool, true, false, if◌then◌else◌, List, []}
+use Rattle.std.specs.Prelude.{◌∷◌, ◌++◌, length}
+use Rattle.fv_tree.specs.Plain.{Expression, Block}
+use Rattle.fv_meaning.specs.Names.{is_among}
 use Rattle.fv_meaning.specs.Store.{Store, Cell}
 use Rattle.fv_meaning.specs.Value.{is_in_range}
-use Rattle.fv_rewrite.specs.Making.{Making, Suiting}
+use Rattle.fv_rewrite.specs.Making.{Making, Suiting, made, made_block}
 use Rattle.fv_rewrite.specs.Names.{mentions}
 use Rattle.linear_forms.specs.Linear.{Form, form_of}
 use Rattle.linear_forms.specs.Expressed.{expressed, variables}
@@ -35,3 +37,18 @@ pub record SameSized (bits : ℕ) (s u : Store) : Type 0 where
   pub held : (c : Cell) → s.held c ≡ u.held c
   pub few : bits ≤ 63
   pub within : (c : Cell) → IsTrue (is_in_range bits (u.held c))
+
+-- no name stands twice
+abbrev pub AreDistinct : List (List ℕ) → Type 0
+AreDistinct [] = Unit {0}
+AreDistinct (x ∷ xs) = (is_among xs x ≡ false) × AreDistinct xs
+
+-- what was brought into canonical text once stays as it is
+abbrev pub CanonicalTextStays : Type 0
+CanonicalTextStays = (loops symbols : List (List ℕ)) (e : Expression) → length loops ≤ 7 → AreDistinct (loops ++ symbols)
+    → made (canonising loops symbols) (made (canonising loops symbols) e) ≡ made (canonising loops symbols) e
+
+abbrev pub CanonicalBlockStays : Type 0
+CanonicalBlockStays = (loops symbols : List (List ℕ)) (b : Block) → length loops ≤ 7 → AreDistinct (loops ++ symbols)
+    → made_block (canonising loops symbols) (made_block (canonising loops symbols) b)
+    ≡ made_block (canonising loops symbols) b

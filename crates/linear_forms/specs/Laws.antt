@@ -35,18 +35,19 @@ TextHasValue = (lang : Dialect) (loops : ℕ) (terms : List Expression) (f : For
     → loops ≤ 7 → IsTrue (is_limited loops f) → EachHasValue lang terms s xs → AreSized xs
     → value_of lang (expressed terms f) s ≡ Ok (Int (number_at f xs))
 
--- the text of an affine form over the names of its loops and symbols is the canonical text of the form
+-- The text of an affine form over the names of its loops and symbols, and divided trips behind them, is the canonical
+-- text of the form
 abbrev pub AffineHasText : Type 0
-AffineHasText = (loops symbols : List (List ℕ)) (f : Form) (a : Affine)
-    → IsAffineOf (length loops) f a → text_of loops symbols a ≡ expressed (variables (loops ++ symbols)) f
+AffineHasText = (loops symbols : List (List ℕ)) (trips : List Expression) (f : Form) (a : Affine)
+    → IsAffineOf (length loops) f a → text_of loops symbols trips a ≡ expressed (variables (loops ++ symbols) ++ trips) f
 
 -- so, within the limits, it has the form's number as its value
 abbrev pub AffineTextHasValue : Type 0
 AffineTextHasValue =
-    (lang : Dialect) (loops symbols : List (List ℕ)) (f : Form) (a : Affine) (s : Store) (xs : List ℤ)
-    → length loops ≤ 7 → IsTrue (is_limited (length loops) f) → IsAffineOf (length loops) f a
-    → HaveValues (loops ++ symbols) s xs → AreSized xs
-    → value_of lang (text_of loops symbols a) s ≡ Ok (Int (number_at f xs))
+    (lang : Dialect) (loops symbols : List (List ℕ)) (trips : List Expression) (f : Form) (a : Affine) (s : Store)
+    (xs ys : List ℤ) → length loops ≤ 7 → IsTrue (is_limited (length loops) f) → IsAffineOf (length loops) f a
+    → HaveValues (loops ++ symbols) s xs → EachHasValue lang trips s ys → AreSized xs → AreSized ys
+    → value_of lang (text_of loops symbols trips a) s ≡ Ok (Int (number_at f (xs ++ ys)))
 
 -- each number that a store holds is one of 64 bits
 abbrev pub HoldsSized : Store → Type 0

@@ -19,7 +19,7 @@ pub fn canonical_text(
     ensures { IfOk result (λ e. expression_of e ≡ canonical_text loops.now symbols.now (expression_of expr)) }
 {
     match linear(&expr, loops, symbols) {
-        Some(form) => express(alloc, &form, loops, symbols),
+        Some(form) => express(alloc, &form, loops, symbols, &[]),
         None => Ok(expr),
     }
 }

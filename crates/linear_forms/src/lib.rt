@@ -13,6 +13,9 @@ mod texts;
 pub use canonical::canonical_text;
 pub use constants::constant_value;
 pub use forms::{Part, linear};
-pub use laws::{affine_text, affine_text_value, linear_value, text_kept_value, text_value};
+pub use laws::{
+    affine_text, affine_text_value, canonical_block_stays, canonical_text_stays, linear_value,
+    text_kept_value, text_value,
+};
 pub use terms::{Terms, ZERO, combined, constant_form};
 pub use texts::express;

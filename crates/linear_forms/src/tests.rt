@@ -33,7 +33,7 @@ fn text(alloc: Global, expr: &Expr) -> Result<Option<Expr>, Fail> {
     let mut symbols = Seq::new(alloc);
     symbols.push(name(b"N")?)?;
     match linear(expr, &[name(b"I")?, name(b"J")?], &symbols) {
-        Some(form) => Ok(Some(express(alloc, &form, &[name(b"FV_LOOP_1")?], &symbols)?)),
+        Some(form) => Ok(Some(express(alloc, &form, &[name(b"FV_LOOP_1")?], &symbols, &[])?)),
         None => Ok(None),
     }
 }
@@ -87,5 +87,25 @@ fn counts_symbols_and_loops(rt: HostRuntime) -> Result<(), Fail> {
     let loops = [name(b"I")?; 8];
     assert!(rt; linear(&i(alloc)?, &loops[..7], &symbols).is_some());
     assert!(rt; linear(&i(alloc)?, &loops, &symbols).is_none());
+    Ok(())
+}
+
+// A divided trip stands behind the symbols: N + 3 * ((N - 1) / 2) + 1.
+#[test]
+fn writes_divided_trips(rt: HostRuntime) -> Result<(), Fail> {
+    let alloc = rt.alloc();
+    let mut symbols = Seq::new(alloc);
+    symbols.push(name(b"N")?)?;
+    let mut form = linear(&Expr::Int(1), &[], &symbols).ok_or("form")?;
+    form.syms[0] = (0, 1);
+    form.syms[1] = (1, 3);
+    let less = two(alloc, Op::Sub, n(alloc)?, Expr::Int(1))?;
+    let trip = two(alloc, Op::Div, less, Expr::Int(2))?;
+    let times = two(alloc, Op::Mul, Expr::Int(3), trip.copy(alloc)?)?;
+    let made = express(alloc, &form, &[], &symbols, &[trip])?;
+    let sum = two(alloc, Op::Add, n(alloc)?, times)?;
+    let wanted = two(alloc, Op::Add, sum, Expr::Int(1))?;
+    let text = format!(in rt.alloc(); "{made:?}")?;
+    assert_eq!(rt; text, format!(in rt.alloc(); "{wanted:?}")?);
     Ok(())
 }

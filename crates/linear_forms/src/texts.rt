@@ -1,11 +1,11 @@
 //! The canonical text of a form.
-ghost use Rattle.std.specs.Prelude.{◌≡◌, IfOk, pos, slice_get};
+ghost use Rattle.std.specs.Prelude.{◌≡◌, IfOk, pos, map, slice_get};
 ghost use Rattle.fv_tree.specs.Plain.{Binary, Unary, Number};
 ghost use Rattle.fv_tree.specs.declared.ops.Op.TheVariants.{Neg};
 ghost use Rattle.fv_tree.specs.View.{expression_of};
 ghost use Rattle.linear_forms.specs.Expressed.{term, plus_term, minus_term, with_term, with_terms, with_constant};
 ghost use Rattle.linear_forms.specs.Expressed.{variable, variables};
-ghost use Rattle.linear_forms.specs.Texts.{text_so_far, with_place, with_symbols, text_of};
+ghost use Rattle.linear_forms.specs.Texts.{text_so_far, with_place, with_symbols, places_behind, text_of};
 
 use fv_tree::{Expr, Memory, Name, Op, Ref, Seq};
 use std::alloc::Global;
@@ -46,14 +46,13 @@ fn number(size: u64) -> Expr
 }
 
 // A coefficient 1 isn't written.
-fn whole_term(alloc: Global, size: u64, name: Name) -> Result<Expr, Memory>
-    ensures { IfOk result (λ e. expression_of e ≡ term size (variable name)) }
+fn whole_term(alloc: Global, size: u64, part: Expr) -> Result<Expr, Memory>
+    ensures { IfOk result (λ e. expression_of e ≡ term size (expression_of part)) }
 {
-    let name = bare(alloc, name);
     if size == 1 {
-        return Ok(name);
+        return Ok(part);
     }
-    two(alloc, Op::Mul, number(size), name)
+    two(alloc, Op::Mul, number(size), part)
 }
 
 fn plus(alloc: Global, so_far: Option<Expr>, term: Expr) -> Result<Expr, Memory>
@@ -75,19 +74,31 @@ fn minus(alloc: Global, so_far: Option<Expr>, term: Expr) -> Result<Expr, Memory
 }
 
 #[tactic(auto, using(crate::proofs::TextLaws::term_laws))]
-fn more(alloc: Global, so_far: Option<Expr>, times: i64, name: Name) -> Result<Option<Expr>, Memory>
-    ensures { IfOk result (λ o. text_so_far o ≡ with_term (text_so_far so_far) times (variable name)) }
+fn more(alloc: Global, so_far: Option<Expr>, times: i64, part: Expr) -> Result<Option<Expr>, Memory>
+    ensures { IfOk result (λ o. text_so_far o ≡ with_term (text_so_far so_far) times (expression_of part)) }
 {
     if times == 0 {
         return Ok(so_far);
     }
-    let term = whole_term(alloc, times.unsigned_abs(), name)?;
+    let term = whole_term(alloc, times.unsigned_abs(), part)?;
     let sum = if times > 0 {
         plus(alloc, so_far, term)?
     } else {
         minus(alloc, so_far, term)?
     };
     Ok(Some(sum))
+}
+
+// One more term of a name.
+fn more_of(
+    alloc: Global,
+    so_far: Option<Expr>,
+    times: i64,
+    name: Name,
+) -> Result<Option<Expr>, Memory>
+    ensures { IfOk result (λ o. text_so_far o ≡ with_term (text_so_far so_far) times (variable name)) }
+{
+    more(alloc, so_far, times, bare(alloc, name))
 }
 
 fn more_loops(
@@ -104,7 +115,7 @@ fn more_loops(
     let Some((name, names)) = names.split_first() else {
         return Ok(so_far);
     };
-    let so_far = more(alloc, so_far, *first, *name)?;
+    let so_far = more_of(alloc, so_far, *first, *name)?;
     more_loops(alloc, so_far, times, names)
 }
 
@@ -112,35 +123,63 @@ fn at_place(
     alloc: Global,
     so_far: Option<Expr>,
     times: i64,
-    name: Option<Name>,
+    part: Option<Expr>,
 ) -> Result<Option<Expr>, Memory>
-    ensures { IfOk result (λ o. text_so_far o ≡ with_place (text_so_far so_far) times name) }
+    ensures { IfOk result (λ o. text_so_far o ≡ with_place (text_so_far so_far) times (text_so_far part)) }
 {
-    match name {
-        Some(name) => more(alloc, so_far, times, name),
+    match part {
+        Some(part) => more(alloc, so_far, times, part),
         None => Ok(so_far),
     }
 }
 
-fn name_at(names: &[Name], place: u16) -> Option<Name>
+fn name_at(names: &[Name], place: usize) -> Option<Name>
     ensures { result ≡ slice_get names.now place }
 {
-    names.get(usize::from(place)).copied()
+    names.get(place).copied()
+}
+
+fn trip_at(alloc: Global, trips: &[Expr], place: usize) -> Result<Option<Expr>, Memory>
+    ensures { IfOk result (λ o. text_so_far o ≡ text_so_far (slice_get trips.now place)) }
+{
+    match trips.get(place) {
+        Some(trip) => Ok(Some(trip.copy(alloc)?)),
+        None => Ok(None),
+    }
+}
+
+// What stands for a place behind those of the loops.
+fn part_at(
+    alloc: Global,
+    symbols: &[Name],
+    trips: &[Expr],
+    place: usize,
+) -> Result<Option<Expr>, Memory>
+    ensures { IfOk result (λ o. text_so_far o
+        ≡ slice_get (places_behind symbols.now (map expression_of trips.now)) place) }
+{
+    match name_at(symbols, place) {
+        Some(name) => Ok(Some(bare(alloc, name))),
+        None => trip_at(alloc, trips, place.saturating_sub(symbols.len())),
+    }
 }
 
 fn more_symbols(
     alloc: Global,
     so_far: Option<Expr>,
     terms: &[(u16, i64)],
-    names: &[Name],
+    symbols: &[Name],
+    trips: &[Expr],
 ) -> Result<Option<Expr>, Memory>
-    ensures { IfOk result (λ o. text_so_far o ≡ with_symbols (text_so_far so_far) terms.now names.now) }
+    ensures { IfOk result (λ o. text_so_far o
+        ≡ with_symbols (text_so_far so_far) terms.now (places_behind symbols.now (map expression_of trips.now))) }
 {
     let Some((term, terms)) = terms.split_first() else {
         return Ok(so_far);
     };
-    let so_far = at_place(alloc, so_far, term.1, name_at(names, term.0))?;
-    more_symbols(alloc, so_far, terms, names)
+    let part = part_at(alloc, symbols, trips, usize::from(term.0))?;
+    let so_far = at_place(alloc, so_far, term.1, part)?;
+    more_symbols(alloc, so_far, terms, symbols, trips)
 }
 
 #[tactic(auto, using(crate::proofs::TextLaws::constant_laws))]
@@ -165,17 +204,19 @@ fn last(alloc: Global, so_far: Option<Expr>, constant: i64) -> Result<Expr, Memo
     }
 }
 
-/// The canonical text of a form: its loop terms from the outside in, its symbols by their places, its constant. What
-/// has no name in the lists is left out.
+/// The canonical text of a form: its loop terms from the outside in, its symbols by their places, its divided trips, its
+/// constant. A divided trip has a place behind those of the symbols. What has nothing that stands for it is left out.
 pub fn express(
     alloc: Global,
     form: &Affine,
     loops: &[Name],
     symbols: &Seq<Name>,
+    trips: &[Expr],
 ) -> Result<Expr, Memory>
-    ensures { IfOk result (λ e. expression_of e ≡ text_of loops.now symbols.now form.now) }
+    ensures { IfOk result (λ e. expression_of e
+        ≡ text_of loops.now symbols.now (map expression_of trips.now) form.now) }
 {
     let sum = more_loops(alloc, None, &form.loops, loops)?;
-    let sum = more_symbols(alloc, sum, &form.syms, symbols.as_slice())?;
+    let sum = more_symbols(alloc, sum, &form.syms, symbols.as_slice(), trips)?;
     last(alloc, sum, form.constant)
 }

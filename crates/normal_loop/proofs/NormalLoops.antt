@@ -5,7 +5,7 @@ use Rattle.std.specs.Str.{bytes_eq}
 use Rattle.std.proofs.lemmas.Bool.Decides.{Decides-ltb}
 use Rattle.std.proofs.lemmas.Int.{ints}
 use Rattle.std.proofs.Math.Nat.{pow-le-pow_right}
-use Rattle.fv_tree.specs.Operators.{fits}
+use Rattle.fv_tree.specs.Operators.{fits, as_number}
 use Rattle.fv_tree.specs.Steps.{◌>>=◌}
 use Rattle.fv_tree.specs.declared.ops.Fault.{Fault}
 use Rattle.fv_tree.specs.declared.ops.Fault.TheVariants.{Overflow}
@@ -21,8 +21,9 @@ use Rattle.fv_rewrite.specs.Replacing.{Replacing, is_own, replacing, replacing_s
 use Rattle.fv_rewrite.proofs.Acts.{Answers}
 use Rattle.fv_rewrite.proofs.Values.{parted}
 use Rattle.fv_rewrite.proofs.Replacing.{either_false}
-use Rattle.linear_forms.specs.Linear.{is_limited}
-use Rattle.normal_loop.specs.NormalLoop.{NormalForm, form, counted, given_loop, normal_loop, IsOther, IsNormalFormIn, GoesOn, Ended, NormalLoopRuns}
+use Rattle.linear_forms.specs.Linear.{is_limited, weighted, number_at}
+use Rattle.linear_forms.proofs.Faultless.{linear_has_value}
+use Rattle.normal_loop.specs.NormalLoop.{NormalForm, form, counted, given_loop, normal_loop, IsOther, IsNormalFormIn, GoesOn, Ended, NormalLoopRuns, FirstValueIsForm}
 use Rattle.normal_loop.proofs.Turns.{Led, Leads, alone}
 use Rattle.normal_loop.proofs.Loops.{SameTrip}
 use Rattle.normal_loop.proofs.OneLoop.{IsCounter, On, Starts, Ends, loop_is_normalised}
@@ -158,3 +159,15 @@ normal_loop_runs l bits loops line beside low high few limited apart suits goes_
     (ended l bits low high loops few limited apart suits goes_on s.store t.store xs alike.store _ _
     ((leads l bits low high loops few limited apart suits goes_on s.store t.store xs alike.store line beside).at s t.store t.steps going
     (starts l bits low high loops few limited apart suits goes_on s.store t.store xs alike.store) sound))
+
+-- ---- what is asked of the first value
+
+pub first_value_is_form : FirstValueIsForm
+first_value_is_form bits loops symbols e f s xs a d h values sized n =
+    let is = linear_has_value (sequential bits) loops symbols e f s xs h values sized in
+    let number : ◌≡◌ {A = Result ℤ Fault} (Ok (number_at f xs)) (Ok a) = sym (ap (λ r. do v ← r; as_number v) is) ∙ n in
+    let same : number_at f xs ≡ a = cc in
+    ap (λ k. weighted f.coefficients xs +ℤ k) (whole f.constant d) ∙ same
+  where
+    whole : (k d : ℤ) → (k -ℤ d) +ℤ d ≡ k
+    whole k d = omega (arith, ints)

@@ -1,7 +1,7 @@
 -- A DO loop, and the loop from 1 by 1 that stands for it (Allen and Kennedy, section 4.3; ISO/IEC 1539:1991, section
 -- 8.1.4.4).
-use Rattle.std.specs.Prelude.{◌≡◌, Ok, Some, ℕ, ◌+◌, ◌≤◌, ℤ, pos, ◌+ℤ◌, ◌-ℤ◌, ◌*ℤ◌, int_div, IsTrue, Bool, false, None}
-use Rattle.std.specs.Prelude.{List, [], ◌∷◌}
+use Rattle.std.specs.Prelude.{◌≡◌, Ok, Some, ℕ, ◌+◌, ◌≤◌, ℤ, pos, ◌+ℤ◌, ◌-ℤ◌, ◌*ℤ◌, neg_ℤ, int_div, IsTrue, Bool, false}
+use Rattle.std.specs.Prelude.{None, List, [], ◌∷◌, ◌++◌}
 use Rattle.std.specs.Str.{bytes_eq}
 use Rattle.fv_tree.specs.Operators.{fits}
 use Rattle.fv_tree.specs.declared.ops.Value.TheVariants.{Int}
@@ -15,7 +15,7 @@ use Rattle.fv_rewrite.specs.Making.{made_block, SuitsBlock}
 use Rattle.fv_rewrite.specs.Replacing.{Replacing, replacing, replacing_suits}
 use Rattle.linear_forms.specs.Expressed.{expressed, variables}
 use Rattle.linear_forms.specs.Laws.{AreSized}
-use Rattle.linear_forms.specs.Linear.{Form, weighted, HaveValues, is_limited}
+use Rattle.linear_forms.specs.Linear.{Form, form_of, weighted, HaveValues, is_limited}
 
 -- a loop; the counter of its normal form; the names, other than the counter, of the form that stands for the variable,
 -- with their coefficients, and its constant; the increment; and the trip
@@ -110,3 +110,14 @@ NormalLoopRuns = (l : NormalForm) (bits loops line beside : ℕ) → 31 ≤ bits
     → IsSound (does (sequential bits) None (given_loop l line) s).way
     → Ended l bits s.store (does (sequential bits) None (given_loop l line) s)
     (does (sequential bits) None (normal_loop l beside) t)
+
+-- where the first value has a linear form, the variable's is that form less the increment, and the increment times the
+-- counter
+abbrev pub FirstValueIsForm : Type 0
+FirstValueIsForm = (bits : ℕ) (loops symbols : List (List ℕ)) (e : Expression) (f : Form) (s : Store) (xs : List ℤ)
+    (a d : ℤ) → form_of loops symbols e ≡ Some f → HaveValues (loops ++ symbols) s xs → AreSized xs
+    → number_of (sequential bits) e s ≡ Ok a → weighted f.coefficients xs +ℤ ((f.constant -ℤ d) +ℤ d) ≡ a
+
+-- for a negative increment the trip is the quotient of what is turned round
+abbrev pub TripIsTurned : Type 0
+TripIsTurned = (a b d : ℤ) → int_div ((a -ℤ b) -ℤ d) (neg_ℤ d) ≡ int_div ((b -ℤ a) +ℤ d) d

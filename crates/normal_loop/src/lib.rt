@@ -3,4 +3,4 @@
 
 mod laws;
 
-pub use laws::normal_loop_runs;
+pub use laws::{first_value_is_form, normal_loop_runs, trip_is_turned};
