@@ -111,8 +111,8 @@ same_candidate n p q r u v a b c =
       vector = record { places = c.vector.places; len = c.vector.len ∙ e; past_len = λ k h. c.vector.past_len k (omega arith) };
       plain = λ m h. c.plain m (omega arith);
       led = elim c.led [
-          | inl l ↦ inl (l.0, (let k : l.0 < r.common = l.1.common in record { common = omega arith; before = l.1.before; less = l.1.less }))
-          | inr t ↦ inr (b.same_turn.1 (a.same_turn.0 t.0), λ m h. t.1 m (omega arith))
+        | inl l ↦ inl (l.0, (let k : l.0 < r.common = l.1.common in record { common = omega arith; before = l.1.before; less = l.1.less }))
+        | inr t ↦ inr (b.same_turn.1 (a.same_turn.0 t.0), λ m h. t.1 m (omega arith))
       ];
     }
 
@@ -171,15 +171,15 @@ covered_by n g h c i =
     let allowed = allowed_by f.couple.refs o.answer.0 c.vector v.vector o.covers in
     elim (answer_gives f.couple o.answer.0 o.answer.1) [
       | inl e ↦ inl (record {
-            edge = e.edge;
-            among = subst (λ (es : List Edge). In e.edge es) (sym h.edges) (couple_edges h.couples f.at f.couple e.edge f.is_at (in_edges f.couple o.answer e.edge f.couple.answers o.among e.is));
-            stands = record { from = e.from ∙ f.from_is; to = e.to ∙ f.to_is; kind = e.kind ∙ kind; dirs = subst (λ (z : Dirs). IsAllowed z c.vector) (sym e.dirs) allowed };
-          })
+        edge = e.edge;
+        among = subst (λ (es : List Edge). In e.edge es) (sym h.edges) (couple_edges h.couples f.at f.couple e.edge f.is_at (in_edges f.couple o.answer e.edge f.couple.answers o.among e.is));
+        stands = record { from = e.from ∙ f.from_is; to = e.to ∙ f.to_is; kind = e.kind ∙ kind; dirs = subst (λ (z : Dirs). IsAllowed z c.vector) (sym e.dirs) allowed };
+      })
       | inr e ↦ inr (record {
-            drop = e.drop;
-            among = subst (λ (es : List Dropped). In e.drop es) (sym h.dropped) (couple_drops h.couples f.at f.couple e.drop f.is_at (in_drops f.couple o.answer e.drop f.couple.answers o.among e.is));
-            stands = record { from = e.from ∙ f.from_is; to = e.to ∙ f.to_is; kind = e.kind ∙ kind; dirs = subst (λ (z : Dirs). IsAllowed z c.vector) (sym e.dirs) allowed };
-          })
+        drop = e.drop;
+        among = subst (λ (es : List Dropped). In e.drop es) (sym h.dropped) (couple_drops h.couples f.at f.couple e.drop f.is_at (in_drops f.couple o.answer e.drop f.couple.answers o.among e.is));
+        stands = record { from = e.from ∙ f.from_is; to = e.to ∙ f.to_is; kind = e.kind ∙ kind; dirs = subst (λ (z : Dirs). IsAllowed z c.vector) (sym e.dirs) allowed };
+      })
     ]
 
 -- ---- where a drop comes from
@@ -214,15 +214,15 @@ here_or_later c d (Assumed w) e as' h = inr h
 here_or_later c d (Never w) e as' h =
     elim h [
       | inl f ↦ inl (record {
-            at = zero;
-            within = omega arith;
-            word = w;
-            is_never = refl;
-            from = ap (λ (z : Dropped). z.from) f;
-            to = ap (λ (z : Dropped). z.to) f;
-            kind = ap (λ (z : Dropped). z.kind) f;
-            dirs = ap (λ (z : Dropped). z.dirs) f;
-          })
+        at = zero;
+        within = omega arith;
+        word = w;
+        is_never = refl;
+        from = ap (λ (z : Dropped). z.from) f;
+        to = ap (λ (z : Dropped). z.to) f;
+        kind = ap (λ (z : Dropped). z.kind) f;
+        dirs = ap (λ (z : Dropped). z.dirs) f;
+      })
       | inr r ↦ inr r
     ]
 
@@ -239,8 +239,8 @@ answers_drop c (a ∷ as') e h =
 same_as : (c : Couple) (d : Candidate) → c.from ≡ d.from → c.to ≡ d.to → c.kind ≡ d.kind → d ≡ candidate_of c d.vector
 same_as c d e f k =
     sym (ap (λ (z : Place). record { from = z; to = c.to; kind = c.kind; vector = d.vector }) e
-        ∙ ap (λ (z : Place). record { from = d.from; to = z; kind = c.kind; vector = d.vector }) f
-        ∙ ap (λ (z : Dep). record { from = d.from; to = d.to; kind = z; vector = d.vector }) k)
+    ∙ ap (λ (z : Place). record { from = d.from; to = z; kind = c.kind; vector = d.vector }) f
+    ∙ ap (λ (z : Dep). record { from = d.from; to = d.to; kind = z; vector = d.vector }) k)
 
 without_pair : (n : Nest) (c : Couple) (d : Dirs) (v : Verdict) (w : Test) → v ≡ Never w → IsDroppedRight n c d v → IsDroppedRight n c d (Never w)
 without_pair n c d v w e h = subst (λ (z : Verdict). IsDroppedRight n c d z) e h

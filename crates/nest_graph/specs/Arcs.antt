@@ -37,12 +37,25 @@ abbrev pub edge_of : Couple → Dirs → Verdict → Option Edge
 edge_of c d (Never w) = None
 edge_of c d (Pair x y w) =
     Some (record {
-      from = c.from; to = c.to; kind = c.kind; array = c.array; dirs = d; level = level_of d; test = w;
+      from = c.from;
+      to = c.to;
+      kind = c.kind;
+      array = c.array;
+      dirs = d;
+      level = level_of d;
+      test = w;
       pair = Some (x, y);
     })
 edge_of c d (Assumed w) =
     Some (record {
-      from = c.from; to = c.to; kind = c.kind; array = c.array; dirs = d; level = level_of d; test = w; pair = None;
+      from = c.from;
+      to = c.to;
+      kind = c.kind;
+      array = c.array;
+      dirs = d;
+      level = level_of d;
+      test = w;
+      pair = None;
     })
 
 abbrev pub drop_of : Couple → Dirs → Verdict → Option Dropped

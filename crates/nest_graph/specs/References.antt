@@ -62,4 +62,4 @@ references_of s =
     let loops = variables_round s in
     s.statement.left
     ∷ (references_in_guard loops s.statement.guard
-       ++ (references_in_subscripts loops s.statement.left.subscripts ++ references_in loops s.statement.right))
+    ++ (references_in_subscripts loops s.statement.left.subscripts ++ references_in loops s.statement.right))
