@@ -47,7 +47,8 @@ fn jumped_over(alloc: Global, inner: Stmt, label: u32) -> Result<Stmt, Fail> {
 }
 
 fn has(alloc: Global, flaw: Flaw, stmt: &Stmt) -> Result<bool, Fail> {
-    let symbols = one(alloc, name(b"N")?)?;
+    let mut symbols = Seq::new(alloc);
+    symbols.push(name(b"N")?)?;
     let check = Check { flaw, symbols };
     Ok(check.any_in_stmt(alloc, &[], stmt)?)
 }
