@@ -1,4 +1,4 @@
-use Rattle.std.proofs.Common.{◌≡◌, map, arith, rules}
+use Rattle.std.proofs.Common.{◌≡◌, arith, rules}
 use Rattle.fv_meaning.specs.Reads.{names_in, names_in_subscript}
 use Rattle.fv_tree.specs.View.{expression_of, loop_of, subscript_of}
 use Rattle.statement_loops.specs.Standings.{is_among, names_in_loop}
