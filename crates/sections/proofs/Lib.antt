@@ -1,0 +1,7 @@
+pub mod AmongLaws
+pub mod TripLaws
+pub mod LinearLaws
+pub mod FormLaws
+pub mod HoldLaws
+pub mod Asked
+pub mod Standing

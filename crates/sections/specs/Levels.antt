@@ -1,0 +1,23 @@
+-- The loops of a statement from a level on.
+use Rattle.std.specs.Prelude.{◌≡◌, ℕ, ◌<◌, ◌==◌, Bool, true, ◌&&◌, ◌||◌, List, length, map, drop, slice_index_or}
+use Rattle.fv_tree.specs.Plain.{Subscript}
+use Rattle.fv_meaning.specs.Reads.{names_in_subscript}
+use Rattle.array_forms.specs.Loops as forms
+use Rattle.array_forms.specs.Statements.{is_linear}
+use Rattle.sections.specs.Surroundings.{counted_of, loop_names}
+use Rattle.sections.specs.declared.loops.Counted.{Counted}
+use Rattle.sections.specs.declared.loops.Surroundings.{Surroundings}
+
+-- each of these is one of the loops
+abbrev pub AreWithin : Surroundings → List Counted → Type 0
+AreWithin a ls = (k : ℕ) (l : Counted) → k < length ls → forms.is_among (loop_names a.loops) (slice_index_or ls k l).var ≡ true
+
+-- those from a place on, which counts from 0
+abbrev pub loops_from_place : Surroundings → ℕ → List forms.Loop
+loops_from_place a from = map (counted_of (length a.loops)) (drop from a.loops)
+
+-- a subscript with one of the loops is linear, and has no other one
+abbrev pub is_formed : forms.Surroundings → List forms.Loop → Subscript → Bool
+is_formed a loops p =
+    (length (forms.loops_among loops (names_in_subscript p)) == 0)
+    || ((length (forms.loops_among loops (names_in_subscript p)) == 1) && is_linear a p)

@@ -1,0 +1,4 @@
+pub mod Surroundings
+pub mod Statements
+pub mod Levels
+pub mod Holds

@@ -1,0 +1,2 @@
+pub mod AmongLaws
+pub mod StandingLaws
