@@ -10,7 +10,8 @@ use Rattle.sections.specs.declared.loops.Surroundings.{Surroundings}
 
 -- each of these is one of the loops
 abbrev pub AreWithin : Surroundings → List Counted → Type 0
-AreWithin a ls = (k : ℕ) (l : Counted) → k < length ls → forms.is_among (loop_names a.loops) (slice_index_or ls k l).var ≡ true
+AreWithin a ls = (k : ℕ) (l : Counted) → k < length ls
+    → forms.is_among (loop_names a.loops) (slice_index_or ls k l).var ≡ true
 
 -- those from a place on, which counts from 0
 abbrev pub loops_from_place : Surroundings → ℕ → List forms.Loop

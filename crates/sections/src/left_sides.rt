@@ -87,7 +87,8 @@ fn are_formed(alloc: Global, a: &Surroundings, from: usize, subs: &Seq<Sub>) -> 
 
 // Whether each of the loops stands in exactly one subscript.
 fn occur_once(loops: &[Counted], subs: &Seq<Sub>) -> bool
-    ensures { result ≡ list_all (λ (l : Counted). occurrences l.var (subscripts (map subscript_of subs.now)) == 1) loops.now }
+    ensures { result
+        ≡ list_all (λ (l : Counted). occurrences l.var (subscripts (map subscript_of subs.now)) == 1) loops.now }
 {
     for turns in loops {
         if occurrences(turns.var, subs) != 1 {

@@ -31,7 +31,8 @@ pub fn stands_in(expr: &Expr, name: Name) -> bool
 #[cycle(stands)]
 #[tactic(auto, using(crate::proofs::AmongLaws::among_laws))]
 fn stands_in_ref(item: &Ref, name: Name) -> bool
-    ensures { result ≡ is_among ((reference_of item.now).name ∷ names_in_subscripts (reference_of item.now).subscripts) name }
+    ensures { result
+        ≡ is_among ((reference_of item.now).name ∷ names_in_subscripts (reference_of item.now).subscripts) name }
 {
     item.name == name || stands_in_subs(&item.subs, name)
 }
