@@ -5,8 +5,6 @@ mod declarations;
 mod nests;
 mod parts;
 mod references;
-#[cfg(test)]
-mod tests;
 
 pub use declarations::{copy_decl, copy_decls};
 pub use nests::{Made, Nest};
