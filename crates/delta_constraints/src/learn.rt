@@ -6,7 +6,8 @@ ghost use Rattle.loop_constraints.specs.Constraints.{IsConstraint};
 ghost use Rattle.loop_lines.specs.Places.{loop_at};
 ghost use Rattle.delta_constraints.specs.Kept.{AreConstraints};
 ghost use Rattle.delta_constraints.specs.Learned.{AreNeverEqual, HasNoValue, HaveNoSolution, IsLearned};
-ghost use Rattle.delta_constraints.specs.Learned.{IsLearnedBySolutions, IsLearnedOfAll, IsNeverEqual, IsSaidBy, IsValue};
+ghost use Rattle.delta_constraints.specs.Learned.{IsLearnedBySolutions, IsLearnedOfAll};
+ghost use Rattle.delta_constraints.specs.Learned.{IsNeverEqual, IsSaidBy, IsValue};
 ghost use Rattle.delta_constraints.specs.Lefts.{IsOwnLine};
 
 use crate::constraints::Constraints;

@@ -1,5 +1,5 @@
--- The text of printed statements: how words are set off from one another, and how a long statement is continued (ISO/IEC
--- 1539:1991, section 3.3.1).
+-- The text of printed statements: how words are set off from one another, and how a long statement is continued
+-- (ISO/IEC 1539:1991, section 3.3.1).
 use Rattle.std.specs.Prelude.{◌≡◌, ℕ, zero, suc, ◌-◌, ◌≤◌, ◌/◌, Bool, true, false, Option, Some, None, List, []}
 use Rattle.std.specs.Prelude.{◌∷◌, ◌++◌, map, flat_map, length, take, drop, codes, decimal}
 use Rattle.std.specs.List.{AllByRecursion, list_all}
@@ -65,7 +65,8 @@ abbrev mutual
   values_text (phrases.More ps p) = values_text ps ++ (comma ++ phrase_text p)
 
   pub turn_text : Turn → List ℕ
-  turn_text (Innermost p x a b) = in_parentheses (phrase_text p ++ (comma ++ loop_text x (phrase_text a) (phrase_text b)))
+  turn_text (Innermost p x a b) =
+      in_parentheses (phrase_text p ++ (comma ++ loop_text x (phrase_text a) (phrase_text b)))
   turn_text (Round t x a b) = in_parentheses (turn_text t ++ (comma ++ loop_text x (phrase_text a) (phrase_text b)))
 
 abbrev pub step_text : Option Phrase → List ℕ
@@ -149,7 +150,8 @@ form_text (forms.Read is) = codes "READ *, " ++ items_text is
 form_text forms.ReadNothing = codes "READ *"
 form_text (forms.Print is) = codes "PRINT *, " ++ items_text is
 form_text forms.PrintNothing = codes "PRINT *"
-form_text (forms.Allocate x es) = codes "ALLOCATE " ++ in_parentheses (x ++ in_parentheses (separated_text extent_text es))
+form_text (forms.Allocate x es) =
+    codes "ALLOCATE " ++ in_parentheses (x ++ in_parentheses (separated_text extent_text es))
 form_text (forms.Deallocate x) = codes "DEALLOCATE " ++ in_parentheses x
 form_text forms.End = codes "END"
 form_text (forms.EndProgram x) = codes "END PROGRAM" ++ named_text x

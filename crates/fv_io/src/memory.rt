@@ -190,7 +190,9 @@ impl Sink for MemSink {
         requires { 0 < length piece.now }
         ensures bytes { GivesFront (Some self.old.taken) result piece.now (Some self.new.taken) }
         ensures count { GivesCount result piece.now }
-        ensures size { GivesExactly (min self.old.piece (min (self.old.room - length self.old.taken) (length piece.now))) result }
+        ensures size { GivesExactly
+            (min self.old.piece (min (self.old.room - length self.old.taken) (length piece.now)))
+            result }
 
         // It fails at the listed calls and where no room is left, and at no other, and the count changes there alone.
         ensures listed { result ≡ Gave.Failed ↔ (Contains self.old.fails self.new.calls

@@ -68,7 +68,9 @@ after_word (c ∷ cs) = if is_separator c then c ∷ cs else after_word cs
 -- the first value of a READ no comma: `comma` says whether one may still come
 abbrev pub from_value : Bool → List ℕ → Result (List ℕ) Fault
 from_value comma [] = Err InputEnd
-from_value comma (c ∷ cs) = if is_gap c then from_value comma cs else (if c == 44 then (if comma then from_value false cs else Err InputForm) else Ok (c ∷ cs))
+from_value comma (c ∷ cs) =
+    if is_gap c then from_value comma cs
+    else (if c == 44 then (if comma then from_value false cs else Err InputForm) else Ok (c ∷ cs))
 
 abbrev pub after_line : List ℕ → List ℕ
 after_line [] = []
@@ -91,7 +93,9 @@ unsigned_number (c ∷ cs) = do
 -- an optional sign and digits
 abbrev pub signed_number : List ℕ → Result ℤ Fault
 signed_number [] = Err InputForm
-signed_number (c ∷ cs) = if c == 43 then unsigned_number cs else (if c == 45 then (do z ← unsigned_number cs; Ok (neg_ℤ z)) else unsigned_number (c ∷ cs))
+signed_number (c ∷ cs) =
+    if c == 43 then unsigned_number cs
+    else (if c == 45 then (do z ← unsigned_number cs; Ok (neg_ℤ z)) else unsigned_number (c ∷ cs))
 
 abbrev pub has_slash : List ℕ → Bool
 has_slash [] = false

@@ -1,6 +1,6 @@
-//! Whole points of lines over the two iterations of one loop: all of a line, those of two lines, and the least one that is
-//! a pair of iterations of the loop in a direction. Everything is solved, nothing is tried. Coefficients go up to 2^44, and
-//! trips up to 2^64.
+//! Whole points of lines over the two iterations of one loop: all of a line, those of two lines, and the least one
+//! that is a pair of iterations of the loop in a direction. Everything is solved, nothing is tried. Coefficients go up
+//! to 2^44, and trips up to 2^64.
 #![tactic(auto)]
 
 mod bezout;

@@ -1,11 +1,12 @@
-//! The least iterations of a loop on a line. A strong SIV pair's line runs along the diagonal, a weak-zero SIV pair's along
-//! an axis, and a weak-crossing SIV pair's across the diagonal; a general SIV pair's needs Euclid's algorithm. All four go
-//! one way (Goff, Kennedy and Tseng, "Practical Dependence Testing", PLDI 1991, section 4.2).
+//! The least iterations of a loop on a line. A strong SIV pair's line runs along the diagonal, a weak-zero SIV pair's
+//! along an axis, and a weak-crossing SIV pair's across the diagonal; a general SIV pair's needs Euclid's algorithm.
+//! All four go one way (Goff, Kennedy and Tseng, "Practical Dependence Testing", PLDI 1991, section 4.2).
 ghost use Rattle.std.specs.Prelude.{◌≡◌, ◌≤◌, ◌^◌, ◌↔◌, ℤ, pos, ◌+ℤ◌, ◌*ℤ◌, ◌≤ℤ◌, unsigned_abs, MatchOption};
 ghost use Rattle.subscripts.specs.Iterations.{IsRelated};
 ghost use Rattle.line_points.specs.Lines.{IsLine, IsPointAt};
 ghost use Rattle.line_points.specs.Stretch.{IsIn, IsShort};
-ghost use Rattle.line_points.specs.Least.{WithinTrip, IsWithin, IsAtMost, HasNone, IsLeast, IsRelatedAt, IsWithinAt, IsAtMostAt};
+ghost use Rattle.line_points.specs.Least.{WithinTrip, IsWithin, IsAtMost, HasNone, IsLeast};
+ghost use Rattle.line_points.specs.Least.{IsRelatedAt, IsWithinAt, IsAtMostAt};
 
 use crate::points::{Line, Points, points_of};
 use crate::stretch::{Stretch, at_least};

@@ -6,8 +6,8 @@ ghost use Rattle.loop_constraints.specs.Constraints.{IsConstraint, Allows, IsMee
 
 use line_points::{Crossing, Line, common_points, times};
 
-/// What is known of the two iterations of one loop: nothing, both of them, how far the second is after the first, a line,
-/// or that there are none.
+/// What is known of the two iterations of one loop: nothing, both of them, how far the second is after the first, a
+/// line, or that there are none.
 #[derive(Clone, Copy, Debug)]
 pub enum Constraint {
     Anywhere,

@@ -1,6 +1,6 @@
-//! The one loop of a pairing, and its line. With `first * i + b = second * j + d` at the iterations i and j, the line is
-//! `first * i - second * j = d - b`. A loop that stands round one reference alone has no iteration round the other one;
-//! there 1 stands for it, with the coefficient 0.
+//! The one loop of a pairing, and its line. With `first * i + b = second * j + d` at the iterations i and j, the line
+//! is `first * i - second * j = d - b`. A loop that stands round one reference alone has no iteration round the other
+//! one; there 1 stands for it, with the coefficient 0.
 ghost use Rattle.std.specs.Prelude.{◌≡◌, ℕ, ◌<◌, ◌≤◌, ◌^◌, pos, Some, false, unsigned_abs, IsTrue, IsSome, MatchOption};
 ghost use Rattle.subscripts.specs.Classes.{Loop, IsLoopOf, Matters, HasOneLoop, first_of, second_of, span_of};
 ghost use Rattle.subscripts.specs.Shapes.{IsPairing, AreDirsOf};

@@ -57,4 +57,5 @@ pub record AreGroupedUpTo (ps : List Pairing) (groups : List ℕ) (n m : ℕ) : 
   pub grouped : (k : ℕ) → k < 7 → AreGrouped ps k (slice_index groups k)
   pub no_later : (k : ℕ) → k < 7 → slice_index groups k ≤ k
   pub same :
-      (i j : ℕ) → i < j → (j < n) ⊎ ((j ≡ n) × (i < m)) → AreCoupled ps i j → slice_index groups i ≡ slice_index groups j
+      (i j : ℕ) → i < j → (j < n) ⊎ ((j ≡ n) × (i < m)) → AreCoupled ps i j
+      → slice_index groups i ≡ slice_index groups j
