@@ -1,7 +1,7 @@
 //! Canonical text as a rule.
 ghost use Rattle.std.specs.Prelude.{◌≤◌, ◌^◌, length};
 
-use fv_rewrite::{Rule, mentions};
+use fv_rewrite::{NodeRule, Rule, mentions, rewrite_expression, rewrite_parts};
 use fv_tree::{Expr, Memory, Name, Ref, Seq};
 use linear_forms::canonical_text;
 use std::alloc::Global;
@@ -17,6 +17,19 @@ pub struct Canonical {
     ghost few: { length symbols ≤ 2 ^ 16 },
 }
 
+impl NodeRule for Canonical {
+    ghost use Rattle.linear_forms.specs.Canonical.{canonising};
+
+    ghost making = { λ r. canonising r.loops r.symbols };
+
+    fn node(&mut self, alloc: Global, first: &Expr, node: Expr) -> Result<Expr, Memory> {
+        if mentions(alloc, first, self.loops.as_slice())? {
+            return canonical_text(alloc, node, self.loops.as_slice(), &self.symbols);
+        }
+        Ok(node)
+    }
+}
+
 impl Rule for Canonical {
     ghost use Rattle.linear_forms.specs.Canonical.{canonising, all_suit, SameSized};
     ghost use Rattle.linear_forms.proofs.CanonicalRule.{canonising_is_rule};
@@ -29,11 +42,12 @@ impl Rule for Canonical {
 
     ghost keeps = { λ r bits turns. canonising_is_rule bits r.loops r.symbols };
 
-    fn expression(&mut self, alloc: Global, first: &Expr, expr: Expr) -> Result<Expr, Memory> {
-        if mentions(alloc, first, self.loops.as_slice())? {
-            return canonical_text(alloc, expr, self.loops.as_slice(), &self.symbols);
-        }
-        Ok(expr)
+    fn expression(&mut self, alloc: Global, expr: &Expr) -> Result<Expr, Memory> {
+        rewrite_expression(alloc, expr, self)
+    }
+
+    fn parts(&mut self, alloc: Global, item: &Ref) -> Result<Ref, Memory> {
+        rewrite_parts(alloc, item, self)
     }
 
     fn left(&mut self, _alloc: Global, left: Ref) -> Result<Ref, Memory> {

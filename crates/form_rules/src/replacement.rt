@@ -1,10 +1,5 @@
 //! A scalar variable replaced by an expression.
-ghost use Rattle.std.specs.Prelude.{◌≡◌};
-ghost use Rattle.fv_tree.specs.View.{expression_of};
-ghost use Rattle.fv_tree.specs.declared.exprs.Expr.TheVariants as exprs;
-ghost use Rattle.fv_rewrite.specs.Substituting.{is_scalar};
-
-use fv_rewrite::Rule;
+use fv_rewrite::{NodeRule, Rule, is_variable, rewrite_expression, rewrite_parts};
 use fv_tree::{Expr, Memory, Name, Ref, Seq};
 use std::alloc::Global;
 
@@ -20,28 +15,17 @@ pub struct Replacement {
     pub fixed: Seq<Name>,
 }
 
-fn is_scalar_named(item: &Ref, name: Name) -> bool
-    ensures { result ≡ is_scalar name (expression_of (exprs.Item item.now)) }
-{
-    item.subs.is_empty() && item.name == name
-}
+impl NodeRule for Replacement {
+    ghost use Rattle.fv_rewrite.specs.Replacing.{replacing};
+    ghost use Rattle.form_rules.specs.Replacement.{replacing_of};
 
-#[tactic(auto, using(fv_tree::proofs::Equations::expression_equations))]
-fn is_variable(expr: &Expr, name: Name) -> bool
-    ensures { result ≡ is_scalar name (expression_of expr.now) }
-{
-    match expr {
-        Expr::Int(_) => false,
-        Expr::Truth(_) => false,
-        Expr::Item(item) => is_scalar_named(item, name),
-        Expr::Un(..) => false,
-        Expr::Bin(..) => false,
-        Expr::Call(..) => false,
-        Expr::List(..) => false,
-        Expr::Spread(..) => false,
-        Expr::Transpose(_) => false,
-        Expr::Reshape(..) => false,
-        Expr::Reduce(..) => false,
+    ghost making = { λ r. replacing (replacing_of r) };
+
+    fn node(&mut self, alloc: Global, _first: &Expr, node: Expr) -> Result<Expr, Memory> {
+        if is_variable(&node, self.variable) {
+            return self.by.copy(alloc);
+        }
+        Ok(node)
     }
 }
 
@@ -57,11 +41,12 @@ impl Rule for Replacement {
 
     ghost keeps = { replacement_keeps };
 
-    fn expression(&mut self, alloc: Global, _first: &Expr, expr: Expr) -> Result<Expr, Memory> {
-        if is_variable(&expr, self.variable) {
-            return self.by.copy(alloc);
-        }
-        Ok(expr)
+    fn expression(&mut self, alloc: Global, expr: &Expr) -> Result<Expr, Memory> {
+        rewrite_expression(alloc, expr, self)
+    }
+
+    fn parts(&mut self, alloc: Global, item: &Ref) -> Result<Ref, Memory> {
+        rewrite_parts(alloc, item, self)
     }
 
     fn left(&mut self, _alloc: Global, left: Ref) -> Result<Ref, Memory> {

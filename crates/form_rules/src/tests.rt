@@ -1,7 +1,7 @@
 //! Canonical text, node by node, and a loop's variable replaced.
 
 use crate::{Canonical, Replacement};
-use fv_rewrite::rewrite_expression;
+use fv_rewrite::{Rule, rewrite_expression};
 use fv_tree::{Expr, Name, Op, Ref, Seq};
 use std::alloc::Global;
 use std::test::Fail;
@@ -44,7 +44,7 @@ fn canonical(alloc: Global, expr: &Expr) -> Result<Expr, Fail> {
     let mut symbols = Seq::new(alloc);
     symbols.push(name(b"N")?)?;
     let mut rule = Canonical { loops, symbols };
-    Ok(rewrite_expression(alloc, expr, &mut rule)?)
+    Ok(rule.expression(alloc, expr)?)
 }
 
 // I - I + 3 is 3, (I - I + 3) * N + I is I + 3 * N, and 1 + 2 stays, since no variable of a loop stands in it.

@@ -15,7 +15,7 @@ use Rattle.fv_rewrite.specs.Profile.{TakesPlace, KeepsProfile}
 use Rattle.fv_rewrite.specs.Replacing.{Replacing, replacing, replacing_suits, ReplacingKeepsProfile}
 use Rattle.fv_rewrite.specs.Substituting.{replaced}
 
-in_parentheses : (least own a : ℕ) → enclosed least own a ≤ 1 + a
+pub in_parentheses : (least own a : ℕ) → enclosed least own a ≤ 1 + a
 in_parentheses least own a = by (nat_le least own)
   where
     by : (b : Bool) → cond b a (1 + a) ≤ 1 + a
@@ -25,11 +25,11 @@ in_parentheses least own a = by (nat_le least own)
 below_max : (a b c : ℕ) → a ≤ c → a ≤ max b c
 below_max a b c h = omega arith
 
-kind_of : (o : Option Declaration) (k : Kind) (P : Declaration → Type 0) → IsSomeAnd o (λ d. (k ≡ d.kind) × P d) → IsSomeAnd o (λ d. (d.kind ≡ Integer) × (rank_of_extent d.extent ≡ 0)) → k ≡ Integer
+pub kind_of : (o : Option Declaration) (k : Kind) (P : Declaration → Type 0) → IsSomeAnd o (λ d. (k ≡ d.kind) × P d) → IsSomeAnd o (λ d. (d.kind ≡ Integer) × (rank_of_extent d.extent ≡ 0)) → k ≡ Integer
 kind_of (Some d) k P h i = h.0 ∙ i.0
 kind_of None k P h i = absurd h
 
-no_rank : (o : Option Declaration) → IsSomeAnd o (λ d. (d.kind ≡ Integer) × (rank_of_extent d.extent ≡ 0)) → ◌≡◌ {A = ℕ} (elim o [ None ↦ 0 | Some d ↦ rank_of_extent d.extent ]) 0
+pub no_rank : (o : Option Declaration) → IsSomeAnd o (λ d. (d.kind ≡ Integer) × (rank_of_extent d.extent ≡ 0)) → ◌≡◌ {A = ℕ} (elim o [ None ↦ 0 | Some d ↦ rank_of_extent d.extent ]) 0
 no_rank (Some d) i = i.1
 no_rank None i = absurd i
 

@@ -5,8 +5,7 @@ use Rattle.fv_tree.specs.Plain.{Expression, Named, no_subscripts, subscript}
 use Rattle.fv_meaning.specs.Store.{Store}
 use Rattle.fv_meaning.specs.Value.{value_of}
 use Rattle.fv_rewrite.specs.Following.{sequential}
-use Rattle.fv_rewrite.specs.Making.{Making, Suiting, made}
-use Rattle.fv_rewrite.specs.Rule.{IsRule}
+use Rattle.fv_rewrite.specs.Making.{Making, made}
 
 -- the expression is the variable x by itself
 abbrev pub is_scalar : List ℕ → Expression → Bool
@@ -29,19 +28,3 @@ module _ (x : List ℕ) (by : Expression) where
 -- in this store the variable and the expression have one value, or one fault
 abbrev pub StandsFor : ℕ → List ℕ → Expression → Store → Type 0
 StandsFor bits x by s = value_of (sequential bits) by s ≡ value_of (sequential bits) (Named x no_subscripts) s
-
--- ---- as a rule for expressions by themselves: no two stores need to have anything in common
-
-abbrev pub NeverAlike : Store → Store → Type 0
-NeverAlike s u = ⊥
-
-abbrev pub nothing_suits : Suiting
-nothing_suits = record { expression = λ e. false; left = λ l. false; variable = λ x. false }
-
-pub never_alike : (bits : ℕ) (m : Making) → IsRule (sequential bits) m nothing_suits NeverAlike
-never_alike bits m = record {
-  value = λ first e s u v h a. absurd a;
-  printed = λ x s u vs h a. absurd a;
-  assigned = λ r s u is c h a. absurd a;
-  variable = λ x s u h a. absurd a;
-}

@@ -1,29 +1,33 @@
-//! Expressions.
+//! Expressions, node by node.
 ghost use Rattle.std.specs.Prelude.{◌≡◌, map, IfOk};
 ghost use Rattle.fv_tree.specs.View.{expression_of, subscript_of, reference_of, loop_of, loops};
 ghost use Rattle.fv_tree.specs.Plain.{expressions, subscripts};
 ghost use Rattle.fv_rewrite.specs.Making.{made, made_expressions, made_subscripts, made_subscript, made_loops};
 ghost use Rattle.fv_rewrite.specs.Making.{made_inside, made_loop, made_parts};
 
-use crate::Rule;
+use crate::NodeRule;
 use fv_tree::{Expr, Memory, Ref, Seq, Sub, Turn};
 use std::alloc::Global;
 
-/// What the rule makes of an expression.
+/// What a rule of nodes makes of an expression.
 #[cycle(rewriting)]
 #[tactic(auto, using(crate::proofs::Equations::made_is))]
-pub fn rewrite_expression<R: Rule>(alloc: Global, expr: &Expr, rule: &mut R) -> Result<Expr, Memory>
+pub fn rewrite_expression<R: NodeRule>(
+    alloc: Global,
+    expr: &Expr,
+    rule: &mut R,
+) -> Result<Expr, Memory>
     ensures made { IfOk result (λ new. expression_of new ≡ made (R.making rule.old) (expression_of expr.now)) }
     ensures same { R.making rule.new ≡ R.making rule.old }
 {
     let node = rewrite_inside(alloc, expr, rule)?;
-    rule.expression(alloc, expr, node)
+    rule.node(alloc, expr, node)
 }
 
 // The same node over what the rule makes of its parts.
 #[cycle(rewriting)]
 #[tactic(auto, using(fv_tree::proofs::Equations::expression_equations))]
-fn rewrite_inside<R: Rule>(alloc: Global, expr: &Expr, rule: &mut R) -> Result<Expr, Memory>
+fn rewrite_inside<R: NodeRule>(alloc: Global, expr: &Expr, rule: &mut R) -> Result<Expr, Memory>
     ensures made { IfOk result (λ new. expression_of new ≡ made_inside (R.making rule.old) (expression_of expr.now)) }
     ensures same { R.making rule.new ≡ R.making rule.old }
 {
@@ -59,7 +63,7 @@ fn rewrite_inside<R: Rule>(alloc: Global, expr: &Expr, rule: &mut R) -> Result<E
 }
 
 #[cycle(rewriting)]
-fn rewrite_box<R: Rule>(alloc: Global, expr: &Expr, rule: &mut R) -> Result<Box<Expr>, Memory>
+fn rewrite_box<R: NodeRule>(alloc: Global, expr: &Expr, rule: &mut R) -> Result<Box<Expr>, Memory>
     ensures made { IfOk result (λ new. expression_of new.value ≡ made (R.making rule.old) (expression_of expr.now)) }
     ensures same { R.making rule.new ≡ R.making rule.old }
 {
@@ -67,9 +71,8 @@ fn rewrite_box<R: Rule>(alloc: Global, expr: &Expr, rule: &mut R) -> Result<Box<
     Ok(Box::new(alloc, made)?)
 }
 
-/// A list of expressions, each by itself.
 #[cycle(rewriting)]
-pub fn rewrite_all<R: Rule>(
+fn rewrite_all<R: NodeRule>(
     alloc: Global,
     exprs: &Seq<Expr>,
     rule: &mut R,
@@ -86,7 +89,7 @@ pub fn rewrite_all<R: Rule>(
 }
 
 #[cycle(rewriting)]
-fn rewrite_turns<R: Rule>(
+fn rewrite_turns<R: NodeRule>(
     alloc: Global,
     turns: &Seq<Turn>,
     rule: &mut R,
@@ -104,7 +107,7 @@ fn rewrite_turns<R: Rule>(
 
 #[cycle(rewriting)]
 #[tactic(auto, using(fv_tree::proofs::Equations::expression_equations))]
-fn rewrite_turn<R: Rule>(alloc: Global, turn: &Turn, rule: &mut R) -> Result<Turn, Memory>
+fn rewrite_turn<R: NodeRule>(alloc: Global, turn: &Turn, rule: &mut R) -> Result<Turn, Memory>
     ensures made { IfOk result (λ new. loop_of new ≡ made_loop (R.making rule.old) (loop_of turn.now)) }
     ensures same { R.making rule.new ≡ R.making rule.old }
 {
@@ -120,7 +123,7 @@ fn rewrite_turn<R: Rule>(alloc: Global, turn: &Turn, rule: &mut R) -> Result<Tur
 /// A reference with its subscripts rewritten, which keeps its name.
 #[cycle(rewriting)]
 #[tactic(auto, using(fv_tree::proofs::Equations::expression_equations))]
-pub fn rewrite_parts<R: Rule>(alloc: Global, item: &Ref, rule: &mut R) -> Result<Ref, Memory>
+pub fn rewrite_parts<R: NodeRule>(alloc: Global, item: &Ref, rule: &mut R) -> Result<Ref, Memory>
     ensures made { IfOk result (λ new. reference_of new ≡ made_parts (R.making rule.old) (reference_of item.now)) }
     ensures same { R.making rule.new ≡ R.making rule.old }
 {
@@ -132,7 +135,7 @@ pub fn rewrite_parts<R: Rule>(alloc: Global, item: &Ref, rule: &mut R) -> Result
 }
 
 #[cycle(rewriting)]
-fn rewrite_subscripts<R: Rule>(
+fn rewrite_subscripts<R: NodeRule>(
     alloc: Global,
     subs: &Seq<Sub>,
     rule: &mut R,
@@ -150,7 +153,7 @@ fn rewrite_subscripts<R: Rule>(
 
 #[cycle(rewriting)]
 #[tactic(auto, using(fv_tree::proofs::Equations::expression_equations))]
-fn rewrite_subscript<R: Rule>(alloc: Global, sub: &Sub, rule: &mut R) -> Result<Sub, Memory>
+fn rewrite_subscript<R: NodeRule>(alloc: Global, sub: &Sub, rule: &mut R) -> Result<Sub, Memory>
     ensures made { IfOk result (λ new. subscript_of new ≡ made_subscript (R.making rule.old) (subscript_of sub.now)) }
     ensures same { R.making rule.new ≡ R.making rule.old }
 {

@@ -5,7 +5,6 @@ ghost use Rattle.fv_tree.specs.Plain.{items};
 ghost use Rattle.fv_rewrite.specs.Making.{made_variable, made_input, made_inputs, made_output, made_outputs};
 
 use crate::Rule;
-use crate::expressions::{rewrite_expression, rewrite_parts};
 use fv_tree::{Expr, Item, Memory, Seq, copy_text};
 use std::alloc::Global;
 
@@ -18,7 +17,7 @@ fn rewrite_variable<R: Rule>(alloc: Global, expr: &Expr, rule: &mut R) -> Result
     match expr {
         Expr::Int(_) => Ok(Item::One(expr.copy(alloc)?)),
         Expr::Truth(_) => Ok(Item::One(expr.copy(alloc)?)),
-        Expr::Item(item) => Ok(Item::One(Expr::Item(rewrite_parts(alloc, item, rule)?))),
+        Expr::Item(item) => Ok(Item::One(Expr::Item(rule.parts(alloc, item)?))),
         Expr::Un(..) => Ok(Item::One(expr.copy(alloc)?)),
         Expr::Bin(..) => Ok(Item::One(expr.copy(alloc)?)),
         Expr::Call(..) => Ok(Item::One(expr.copy(alloc)?)),
@@ -41,9 +40,9 @@ fn rewrite_input<R: Rule>(alloc: Global, item: &Item, rule: &mut R) -> Result<It
         Item::Text(text) => Ok(Item::Text(copy_text(text, alloc)?)),
         Item::Turns(items, var, first, last, step) => {
             let items = rewrite_inputs(alloc, items, rule)?;
-            let first = rewrite_expression(alloc, first, rule)?;
-            let last = rewrite_expression(alloc, last, rule)?;
-            let step = rewrite_expression(alloc, step, rule)?;
+            let first = rule.expression(alloc, first)?;
+            let last = rule.expression(alloc, last)?;
+            let step = rule.expression(alloc, step)?;
             Ok(Item::Turns(items, *var, first, last, step))
         }
     }
@@ -74,13 +73,13 @@ fn rewrite_output<R: Rule>(alloc: Global, item: &Item, rule: &mut R) -> Result<I
     ensures same { R.making rule.new ≡ R.making rule.old }
 {
     match item {
-        Item::One(expr) => Ok(Item::One(rewrite_expression(alloc, expr, rule)?)),
+        Item::One(expr) => Ok(Item::One(rule.expression(alloc, expr)?)),
         Item::Text(text) => Ok(Item::Text(copy_text(text, alloc)?)),
         Item::Turns(items, var, first, last, step) => {
             let items = rewrite_outputs(alloc, items, rule)?;
-            let first = rewrite_expression(alloc, first, rule)?;
-            let last = rewrite_expression(alloc, last, rule)?;
-            let step = rewrite_expression(alloc, step, rule)?;
+            let first = rule.expression(alloc, first)?;
+            let last = rule.expression(alloc, last)?;
+            let step = rule.expression(alloc, step)?;
             Ok(Item::Turns(items, *var, first, last, step))
         }
     }

@@ -1,7 +1,7 @@
 //! Rewriting of trees by a rule, from the leaves up.
 //!
 //! A rule says what becomes of one node, and its laws speak of one node. That the run of what was made follows the run
-//! of the tree is proved once, for every rule.
+//! of the tree is proved once, for every rule. A rule rewrites an expression node by node (`NodeRule`), or all at once.
 //!
 //! Also the names that a tree reads and those that it writes.
 #![tactic(auto)]
@@ -18,9 +18,9 @@ mod substitution;
 mod tests;
 mod uses;
 
-pub use expressions::rewrite_expression;
+pub use expressions::{rewrite_expression, rewrite_parts};
 pub use laws::replaced_profile;
 pub use names::{mentions, names_read, names_written};
-pub use rule::Rule;
+pub use rule::{NodeRule, Rule};
 pub use statements::rewrite;
-pub use substitution::substitute;
+pub use substitution::{is_variable, substitute};

@@ -1,23 +1,39 @@
 //! Statements and blocks.
 ghost use Rattle.std.specs.Prelude.{◌≡◌, ℕ, ℤ, List, map, IfOk};
-ghost use Rattle.fv_tree.specs.View.{arms as plain_arms, block_of, reference_of, statement_of, tested_of};
-ghost use Rattle.fv_tree.specs.Plain.{block as plain_block};
+ghost use Rattle.fv_tree.specs.View.{arms as plain_arms, block_of, expression_of, reference_of, statement_of, tested_of};
+ghost use Rattle.fv_tree.specs.Plain.{block as plain_block, expressions};
 ghost use Rattle.fv_rewrite.specs.Following.{RunFollows, sequential};
 ghost use Rattle.fv_rewrite.specs.Profile.{MakesProfile};
-ghost use Rattle.fv_rewrite.specs.Making.{made_left, made_statement, made_arm, made_arms, made_block, SuitsBlock};
+ghost use Rattle.fv_rewrite.specs.Making.{made_expressions, made_left, made_statement, made_arm, made_arms, made_block};
+ghost use Rattle.fv_rewrite.specs.Making.{SuitsBlock};
 
 use crate::Rule;
-use crate::expressions::{rewrite_all, rewrite_expression, rewrite_parts};
 use crate::items::{rewrite_inputs, rewrite_outputs};
-use fv_tree::{Arm, Block, Memory, Ref, Seq, Stmt};
+use fv_tree::{Arm, Block, Expr, Memory, Ref, Seq, Stmt};
 use std::alloc::Global;
 
 fn rewrite_left<R: Rule>(alloc: Global, left: &Ref, rule: &mut R) -> Result<Ref, Memory>
     ensures made { IfOk result (λ new. reference_of new ≡ made_left (R.making rule.old) (reference_of left.now)) }
     ensures same { R.making rule.new ≡ R.making rule.old }
 {
-    let left = rewrite_parts(alloc, left, rule)?;
+    let left = rule.parts(alloc, left)?;
     rule.left(alloc, left)
+}
+
+fn rewrite_extents<R: Rule>(
+    alloc: Global,
+    extents: &Seq<Expr>,
+    rule: &mut R,
+) -> Result<Seq<Expr>, Memory>
+    ensures made { IfOk result (λ new. expressions (map expression_of new)
+        ≡ made_expressions (R.making rule.old) (expressions (map expression_of extents.now))) }
+    ensures same { R.making rule.new ≡ R.making rule.old }
+{
+    let mut made = Seq::new(alloc);
+    for extent in extents.as_slice() {
+        made.push(rule.expression(alloc, extent)?)?;
+    }
+    Ok(made)
 }
 
 #[cycle(blocks)]
@@ -34,7 +50,7 @@ fn rewrite_statement<R: Rule>(alloc: Global, stmt: &Stmt, rule: &mut R) -> Resul
             right,
         } => {
             let left = rewrite_left(alloc, left, rule)?;
-            let right = rewrite_expression(alloc, right, rule)?;
+            let right = rule.expression(alloc, right)?;
             Ok(Stmt::Assign {
                 line: *line,
                 mark: *mark,
@@ -49,9 +65,9 @@ fn rewrite_statement<R: Rule>(alloc: Global, stmt: &Stmt, rule: &mut R) -> Resul
             left,
             right,
         } => {
-            let mask = rewrite_expression(alloc, mask, rule)?;
+            let mask = rule.expression(alloc, mask)?;
             let left = rewrite_left(alloc, left, rule)?;
-            let right = rewrite_expression(alloc, right, rule)?;
+            let right = rule.expression(alloc, right)?;
             Ok(Stmt::Masked {
                 line: *line,
                 mark: *mark,
@@ -77,9 +93,9 @@ fn rewrite_statement<R: Rule>(alloc: Global, stmt: &Stmt, rule: &mut R) -> Resul
             step,
             body,
         } => {
-            let first = rewrite_expression(alloc, first, rule)?;
-            let last = rewrite_expression(alloc, last, rule)?;
-            let step = rewrite_expression(alloc, step, rule)?;
+            let first = rule.expression(alloc, first)?;
+            let last = rule.expression(alloc, last)?;
+            let step = rule.expression(alloc, step)?;
             let body = rewrite_block(alloc, body, rule)?;
             Ok(Stmt::Do {
                 line: *line,
@@ -109,7 +125,7 @@ fn rewrite_statement<R: Rule>(alloc: Global, stmt: &Stmt, rule: &mut R) -> Resul
             name,
             extents,
         } => {
-            let extents = rewrite_all(alloc, extents, rule)?;
+            let extents = rewrite_extents(alloc, extents, rule)?;
             Ok(Stmt::Allocate {
                 line: *line,
                 name: *name,
@@ -129,7 +145,7 @@ fn rewrite_arm<R: Rule>(alloc: Global, arm: &Arm, rule: &mut R) -> Result<Arm, M
     ensures made { IfOk result (λ new. tested_of new ≡ made_arm (R.making rule.old) (tested_of arm.now)) }
     ensures same { R.making rule.new ≡ R.making rule.old }
 {
-    let test = rewrite_expression(alloc, &arm.test, rule)?;
+    let test = rule.expression(alloc, &arm.test)?;
     let body = rewrite_block(alloc, &arm.body, rule)?;
     Ok(Arm { test, body })
 }

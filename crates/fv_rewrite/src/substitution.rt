@@ -7,16 +7,16 @@ ghost use Rattle.fv_meaning.specs.Value.{value_of};
 ghost use Rattle.fv_rewrite.specs.Following.{sequential};
 ghost use Rattle.fv_rewrite.specs.Substituting.{is_scalar, substituted, StandsFor};
 
-use crate::Rule;
+use crate::NodeRule;
 use crate::expressions::rewrite_expression;
 use fv_tree::{Expr, Memory, Name, Ref};
 use std::alloc::Global;
 
 // A scalar variable, and the expression that stands for it.
 #[derive(Drop)]
-pub(crate) struct Substitution {
-    pub variable: Name,
-    pub by: Expr,
+struct Substitution {
+    variable: Name,
+    by: Expr,
 }
 
 fn is_scalar_named(item: &Ref, name: Name) -> bool
@@ -25,8 +25,9 @@ fn is_scalar_named(item: &Ref, name: Name) -> bool
     item.subs.is_empty() && item.name == name
 }
 
+/// Whether the expression is the scalar variable of this name.
 #[tactic(auto, using(fv_tree::proofs::Equations::expression_equations))]
-fn is_variable(expr: &Expr, name: Name) -> bool
+pub fn is_variable(expr: &Expr, name: Name) -> bool
     ensures { result ≡ is_scalar name (expression_of expr.now) }
 {
     match expr {
@@ -44,27 +45,17 @@ fn is_variable(expr: &Expr, name: Name) -> bool
     }
 }
 
-impl Rule for Substitution {
+impl NodeRule for Substitution {
     ghost use Rattle.fv_tree.specs.View.{expression_of};
-    ghost use Rattle.fv_rewrite.specs.Substituting.{substituting, nothing_suits, NeverAlike, never_alike};
+    ghost use Rattle.fv_rewrite.specs.Substituting.{substituting};
 
     ghost making = { λ r. substituting r.variable (expression_of r.by) };
 
-    ghost suits = { λ r. nothing_suits };
-
-    ghost like = { λ r bits turns. NeverAlike };
-
-    ghost keeps = { λ r bits turns. never_alike bits (substituting r.variable (expression_of r.by)) };
-
-    fn expression(&mut self, alloc: Global, _first: &Expr, expr: Expr) -> Result<Expr, Memory> {
-        if is_variable(&expr, self.variable) {
+    fn node(&mut self, alloc: Global, _first: &Expr, node: Expr) -> Result<Expr, Memory> {
+        if is_variable(&node, self.variable) {
             return self.by.copy(alloc);
         }
-        Ok(expr)
-    }
-
-    fn left(&mut self, _alloc: Global, left: Ref) -> Result<Ref, Memory> {
-        Ok(left)
+        Ok(node)
     }
 }
 

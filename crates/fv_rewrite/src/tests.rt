@@ -1,7 +1,6 @@
-//! A rule that renames a scalar, on statements and lists; the names of a block.
+//! A scalar replaced in an expression; the names of a block.
 
-use crate::substitution::Substitution;
-use crate::{names_read, names_written, rewrite, substitute};
+use crate::{names_read, names_written, substitute};
 use fv_tree::{Block, Expr, Item, Name, Op, Ref, Seq, Stmt, Sub};
 use std::alloc::Global;
 use std::test::Fail;
@@ -39,21 +38,6 @@ fn statements(alloc: Global, x: &[u8], y: &[u8]) -> Result<Block, Fail> {
         right: scalar(alloc, y)?,
     })?;
     Ok(Block { stmts })
-}
-
-// Input items keep their names, and have their subscripts rewritten.
-#[test]
-fn renames_in_subscripts(rt: HostRuntime) -> Result<(), Fail> {
-    let mut rule = Substitution {
-        variable: Name::read(b"T").ok_or("T")?,
-        by: scalar(rt.alloc(), b"T_1")?,
-    };
-    let tree = statements(rt.alloc(), b"T", b"T")?;
-    let made = rewrite(rt.alloc(), &tree, &mut rule)?;
-    let wanted = statements(rt.alloc(), b"T_1", b"T_1")?;
-    let text = format!(in rt.alloc(); "{made:?}")?;
-    assert_eq!(rt; text, format!(in rt.alloc(); "{wanted:?}")?);
-    Ok(())
 }
 
 // A + A(T) with 7 for A is 7 + A(T), since an element keeps its name.

@@ -18,3 +18,5 @@ pub mod CanonicalRule
 pub mod CanonicalTwice
 pub mod CanonicalStays
 pub mod CanonicalBlocks
+pub mod AllSuit
+pub mod CanonicalProfile

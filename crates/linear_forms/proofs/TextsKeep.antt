@@ -1,5 +1,5 @@
 -- The canonical text of a form keeps the value of the expression, where it has one.
-use Rattle.std.proofs.Common.{◌≡◌, refl, sym, ap, ◌∙◌, subst, ℕ, zero, suc, ◌^◌, ◌≤◌, ℤ, pos, negsuc, ◌+ℤ◌, ◌-ℤ◌, ◌*ℤ◌, neg_ℤ, Bool, true, false, cond, List, [], ◌∷◌, ◌++◌, map, length, Result, Ok, Err, Option, Some, None, arith}
+use Rattle.std.proofs.Common.{◌≡◌, refl, sym, ap, ◌∙◌, subst, ℕ, zero, suc, ◌^◌, ◌≤◌, ℤ, pos, negsuc, ◌+ℤ◌, ◌-ℤ◌, ◌*ℤ◌, neg_ℤ, Bool, true, false, cond, List, [], ◌∷◌, ◌++◌, map, length, Result, Ok, Option, Some, None, arith}
 use Rattle.std.specs.Prelude.{nat_abs, nat_le}
 use Rattle.std.specs.Str.{bytes_eq}
 use Rattle.std.proofs.lemmas.Bool.{leb-true}
@@ -7,7 +7,7 @@ use Rattle.std.proofs.lemmas.Int.{ints}
 use Rattle.std.proofs.lemmas.Slice.Eq.{bytes_eq-Decides}
 use Rattle.std.proofs.Math.IntN.{*ℤ_comm, *ℤ-zero, +ℤ_idl, zero-*ℤ}
 use mathlib.Core.Path.{ap₂}
-use Rattle.fv_tree.specs.Operators.{apply, number}
+use Rattle.fv_tree.specs.Operators.{apply}
 use Rattle.fv_tree.specs.Steps.{◌>>=◌}
 use Rattle.fv_tree.specs.declared.ops.Op.{Op}
 use Rattle.fv_tree.specs.declared.ops.Op.TheVariants.{Mul, Neg, Add, Sub}
@@ -16,12 +16,12 @@ use Rattle.fv_tree.specs.declared.ops.Value.{Value}
 use Rattle.fv_tree.specs.declared.ops.Value.TheVariants.{Int, Truth}
 use Rattle.fv_tree.specs.Plain.{Expression, Number, Logic, Named, Unary, Binary, Apply, Constructor, Spread, Transpose, Reshape, Reduce, Subscripts, no_subscripts, subscript}
 use Rattle.fv_meaning.specs.Dialect.{Dialect, fortran77}
-use Rattle.fv_meaning.specs.Store.{Store, Cell, cell_at, cell_in}
-use Rattle.fv_meaning.specs.Value.{value_of, subscript_values}
+use Rattle.fv_meaning.specs.Store.{Store, Cell, cell_in}
+use Rattle.fv_meaning.specs.Value.{value_of}
 use Rattle.linear_forms.proofs.Parts.{parted}
 use Rattle.linear_forms.specs.Laws.{AreSized, HoldsSized, TextKeepsValue}
-use Rattle.linear_forms.specs.Linear.{Form, weighted, number_at, added, sum, multiple, constant_form, limited, is_limited, no_store, constant_of, unit, with_zero, with_no_constant, form_of_name, form_of_sign, form_of_product, form_of_two, form_of_pair, constant_or, linear}
-use Rattle.linear_forms.specs.Expressed.{expressed, with_term, with_terms, with_constant, variable, variables}
+use Rattle.linear_forms.specs.Linear.{Form, weighted, number_at, added, sum, multiple, constant_form, is_limited, no_store, constant_of, unit, with_zero, with_no_constant, form_of_name, form_of_sign, form_of_product, form_of_two, form_of_pair, constant_or, linear}
+use Rattle.linear_forms.specs.Expressed.{expressed, with_terms, with_constant, variable, variables}
 use Rattle.linear_forms.proofs.LinearLaws.{number_at-sum, number_at-multiple, minus, limited-is, as_constant-is, number-is}
 use Rattle.linear_forms.proofs.Storeless.{storeless}
 use Rattle.linear_forms.proofs.Faultless.{limited-holds}

@@ -1,12 +1,16 @@
 -- Canonical text as what a rule makes of each node.
-use Rattle.std.specs.Prelude.{◌≡◌, Option, Some, None, ℕ, ◌≤◌, IsTrue, Bool, true, false, if◌then◌else◌, List, []}
+use Rattle.std.specs.Prelude.{◌≡◌, Option, Some, None, ℕ, ◌+◌, ◌≤◌, IsTrue, true, false, if◌then◌else◌, List, []}
 use Rattle.std.specs.Prelude.{◌∷◌, ◌++◌, length}
-use Rattle.fv_tree.specs.Plain.{Expression, Block}
+use Rattle.fv_tree.specs.Limits.{expression_depth90}
+use Rattle.fv_tree.specs.Plain.{Expression, Block, Declaration, Program}
 use Rattle.fv_meaning.specs.Names.{is_among}
+use Rattle.fv_meaning.specs.Profile90.{AreDeclarations, IsProgram90}
 use Rattle.fv_meaning.specs.Store.{Store, Cell}
+use Rattle.fv_meaning.specs.Typed90.{IsIntegerScalar}
 use Rattle.fv_meaning.specs.Value.{is_in_range}
 use Rattle.fv_rewrite.specs.Making.{Making, Suiting, made, made_block}
 use Rattle.fv_rewrite.specs.Names.{mentions}
+use Rattle.fv_rewrite.specs.Profile.{KeepsProfile, DeclaresAlso, deepest_in, with_block}
 use Rattle.linear_forms.specs.Linear.{Form, form_of}
 use Rattle.linear_forms.specs.Expressed.{expressed, variables}
 
@@ -52,3 +56,23 @@ abbrev pub CanonicalBlockStays : Type 0
 CanonicalBlockStays = (loops symbols : List (List ℕ)) (b : Block) → length loops ≤ 7 → AreDistinct (loops ++ symbols)
     → made_block (canonising loops symbols) (made_block (canonising loops symbols) b)
     ≡ made_block (canonising loops symbols) b
+
+-- each name is that of an INTEGER scalar, by the declarations
+abbrev pub AreIntegerScalars : List Declaration → List (List ℕ) → Type 0
+AreIntegerScalars es [] = Unit {0}
+AreIntegerScalars es (x ∷ xs) = IsIntegerScalar es x × AreIntegerScalars es xs
+
+-- Where loops and symbols are INTEGER scalars, canonical text keeps the profile. It has 15 terms and a constant at most,
+-- so that it is no deeper than 17, or 18 in parentheses
+abbrev pub CanonisingKeepsProfile : Type 0
+CanonisingKeepsProfile = (loops symbols : List (List ℕ)) (es : List Declaration) → AreIntegerScalars es (loops ++ symbols)
+    → KeepsProfile es 18 (canonising loops symbols) all_suit
+
+-- So a block of a program of the profile is brought into one again, in which no depth has risen by more
+abbrev pub CanonicalBlockKeepsProfile : Type 0
+CanonicalBlockKeepsProfile = (loops symbols : List (List ℕ)) (p : Program) (es : List Declaration) (b : Block)
+    → AreIntegerScalars es (loops ++ symbols)
+    → IsProgram90 (with_block p p.declarations b) → DeclaresAlso p.declarations es → AreDeclarations es
+    → deepest_in b + 18 ≤ expression_depth90
+    → let c = made_block (canonising loops symbols) b in
+    IsProgram90 (with_block p es c) × (deepest_in c ≤ deepest_in b + 18)

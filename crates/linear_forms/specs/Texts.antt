@@ -5,7 +5,7 @@ use Rattle.fv_tree.specs.Plain.{Expression}
 use Rattle.fv_tree.specs.View.{expression_of}
 use Rattle.fv_tree.specs.declared.exprs.Expr.{Expr}
 use Rattle.subscripts.specs.declared.affine.Affine.{Affine}
-use Rattle.linear_forms.specs.Expressed.{with_term, with_terms, with_constant, variable, variables}
+use Rattle.linear_forms.specs.Expressed.{with_term, with_terms, with_constant, variables}
 
 -- what stands so far, if anything does
 abbrev pub text_so_far : Option Expr → Option Expression

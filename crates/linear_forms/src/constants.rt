@@ -6,7 +6,8 @@ ghost use Rattle.linear_forms.specs.Linear.{constant_value, known};
 
 use fv_tree::{Arguments, Expr, Fault, Fun, Seq, Value};
 
-pub(crate) fn known(given: Result<Value, Fault>) -> Option<Value>
+/// The value, where there is one.
+pub fn known(given: Result<Value, Fault>) -> Option<Value>
     ensures { result ≡ known given }
 {
     match given {

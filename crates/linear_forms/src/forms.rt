@@ -121,8 +121,8 @@ fn place(names: &[Name], name: Name) -> Option<usize>
     names.iter().position(|other| *other == name)
 }
 
-// A bare name is 1 times the loop or the symbol that it names.
-fn name_form(item: &Ref, loops: &[Name], symbols: &[Name]) -> Option<Affine>
+/// The form of a reference: a bare name is 1 times the loop or the symbol that it names.
+pub fn name_form(item: &Ref, loops: &[Name], symbols: &[Name]) -> Option<Affine>
     ensures { length loops.now ≤ 7 → length symbols.now ≤ 2 ^ 16
         → IsFound (length loops.now) (limited (length loops.now) (form_of_name (loops.now ++ symbols.now)
         (reference_of item.now).name (reference_of item.now).subscripts)) result }
@@ -190,7 +190,8 @@ fn pair_value(op: Op, x: Option<Value>, y: Option<Value>) -> Option<Value>
     known(op.apply(x, y))
 }
 
-fn sign_part(op: Op, a: Part) -> Part
+/// What is known of an operator's expression with one operand, by what is known of the operand.
+pub fn sign_part(op: Op, a: Part) -> Part
     ensures { (n : ℕ) (names : List (List ℕ)) (e : Expression) → n ≤ 7 → IsPartOf n names e a
         → IsPartOf n names (Unary op e) result }
 {
@@ -199,7 +200,8 @@ fn sign_part(op: Op, a: Part) -> Part
     Part { constant, form }
 }
 
-fn pair_part(op: Op, a: Part, b: Part) -> Part
+/// The same with two operands.
+pub fn pair_part(op: Op, a: Part, b: Part) -> Part
     ensures { (n : ℕ) (names : List (List ℕ)) (d e : Expression) → n ≤ 7 → IsPartOf n names d a → IsPartOf n names e b
         → IsPartOf n names (Binary op d e) result }
 {
@@ -208,8 +210,8 @@ fn pair_part(op: Op, a: Part, b: Part) -> Part
     Part { constant, form }
 }
 
-// What is known where an expression has no form but as a constant.
-fn constant_part(constant: Option<Value>) -> Part
+/// What is known where an expression has no form but as a constant.
+pub fn constant_part(constant: Option<Value>) -> Part
     ensures constant { result.constant ≡ constant }
     ensures form { (n : ℕ) → IsFound n (limited n (constant_or (as_constant constant) None)) result.form }
 {
@@ -220,8 +222,9 @@ fn constant_part(constant: Option<Value>) -> Part
     Part { constant, form }
 }
 
+/// What is known of an expression, over at most seven loops.
 #[tactic(auto, using(crate::proofs::PartLaws::part_laws))]
-fn part_of(expr: &Expr, loops: &[Name], symbols: &[Name]) -> Part
+pub fn part_of(expr: &Expr, loops: &[Name], symbols: &[Name]) -> Part
     ensures { length loops.now ≤ 7 → length symbols.now ≤ 2 ^ 16
         → IsPartOf (length loops.now) (loops.now ++ symbols.now) (expression_of expr.now) result }
 {

@@ -1,5 +1,6 @@
 //! Laws of linear forms. A law is a function without a body: its contract is what holds.
-ghost use Rattle.linear_forms.specs.Canonical.{CanonicalTextStays, CanonicalBlockStays};
+ghost use Rattle.linear_forms.specs.Canonical.{CanonicalTextStays, CanonicalBlockStays, CanonisingKeepsProfile};
+ghost use Rattle.linear_forms.specs.Canonical.{CanonicalBlockKeepsProfile};
 ghost use Rattle.linear_forms.specs.Laws.{LinearHasValue, TextHasValue, AffineHasText};
 ghost use Rattle.linear_forms.specs.Laws.{AffineTextHasValue, TextKeepsValue};
 
@@ -44,4 +45,10 @@ pub fn canonical_text_stays()
 /// So it is for a block.
 pub fn canonical_block_stays()
     ensures { CanonicalBlockStays }
+{}
+
+/// Canonical text keeps the profile, where loops and symbols are INTEGER scalars, and raises a depth by at most 18.
+pub fn canonical_profile()
+    ensures node { CanonisingKeepsProfile }
+    ensures block { CanonicalBlockKeepsProfile }
 {}
