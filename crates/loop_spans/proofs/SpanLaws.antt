@@ -361,25 +361,26 @@ span_unique outer t s p h =
           elim (cases_Bool (has_no_symbol t)) [
             | inr n ↦ let k : HasNoSymbol t → ⊥ = λ k. differ (has_no_symbol t) (is_no_symbol t k) n in h.open_trip k ∙ sym (this.open_trip k)
             | inl n ↦ elim (cases_Bool (list_any is_open outer)) [
-                | inl o ↦ let k = open_is outer o in h.open_loop varies k ∙ sym (this.open_loop varies k)
-                | inr o ↦ let k = no_symbol_is t n in let closed : Any (λ o. o.last ≡ None) outer → ⊥ = λ a. differ (list_any is_open outer) (is_open_by outer a) o in
-                    elim (cases_Bool (list_any has_no_turn outer)) [
-                      | inl e ↦ let a = empty_is outer e in h.empty varies k closed a ∙ sym (this.empty varies k closed a)
-                      | inr e ↦ let g = is_greatest outer t p k (all_end outer o e) in
-                          elim (order (greatest_trip outer t)) [
-                            | inl n ↦ h.negative _ varies k closed g n ∙ sym (this.negative _ varies k closed g n)
-                            | inr w ↦ elim w [
-                                | inl n ↦ h.greatest _ varies k closed g n.0 n.1 ∙ sym (this.greatest _ varies k closed g n.0 n.1)
-                                | inr n ↦ h.too_great _ varies k closed g n ∙ sym (this.too_great _ varies k closed g n)
-                              ]
+              | inl o ↦ let k = open_is outer o in h.open_loop varies k ∙ sym (this.open_loop varies k)
+              | inr o ↦ let k = no_symbol_is t n in let closed : Any (λ o. o.last ≡ None) outer → ⊥ = λ a. differ (list_any is_open outer) (is_open_by outer a) o in
+                  elim (cases_Bool (list_any has_no_turn outer)) [
+                    | inl e ↦ let a = empty_is outer e in h.empty varies k closed a ∙ sym (this.empty varies k closed a)
+                    | inr e ↦ let g = is_greatest outer t p k (all_end outer o e) in
+                        elim (order (greatest_trip outer t)) [
+                          | inl n ↦ h.negative _ varies k closed g n ∙ sym (this.negative _ varies k closed g n)
+                          | inr w ↦ elim w [
+                            | inl n ↦ h.greatest _ varies k closed g n.0 n.1 ∙ sym (this.greatest _ varies k closed g n.0 n.1)
+                            | inr n ↦ h.too_great _ varies k closed g n ∙ sym (this.too_great _ varies k closed g n)
                           ]
-                    ]
-              ]
+                        ]
+                  ]
+            ]
           ]
     ]
   where
     differ : (b : Bool) → b ≡ true → b ≡ false → ⊥
     differ b e f = cc
+
     order : (m : ℤ) → (m <ℤ pos 0) ⊎ (((pos 0 ≤ℤ m) × (m ≤ℤ pos (2 ^ 40))) ⊎ (pos (2 ^ 40) <ℤ m))
     order (negsuc n) = inl (omega (arith, ints))
     order (pos n) = elim (cases_lt (2 ^ 40) n) [

@@ -32,20 +32,21 @@ last_high outer t values before i p w h =
     elim (cases_Bool (has_no_symbol t)) [
       | inr s ↦ unknown (last_open_trip outer t s)
       | inl s ↦ elim (cases_Bool (list_any is_open outer)) [
-          | inl o ↦ unknown (last_open_loop outer t o)
-          | inr o ↦ elim (cases_Bool (list_any has_no_turn outer)) [
-              | inl e ↦ absurd (none_within outer before e w)
-              | inr e ↦
-                  let k = no_symbol_is t s in let g = is_greatest outer t p k (all_end outer o e) in
-                  subst (λ (l : Option ℤ). IfSome l (λ (n : ℤ). i ≤ℤ n)) (sym (last_closed outer t s o ∙ cond-false (list_any has_no_turn outer) _ _ e))
-                  (capped_high (greatest_trip outer t) i
-                  (most (subst (λ (z : ℤ). i ≤ℤ z) (same_trip t values before k) h) (g.no_greater before w)))
-            ]
+        | inl o ↦ unknown (last_open_loop outer t o)
+        | inr o ↦ elim (cases_Bool (list_any has_no_turn outer)) [
+          | inl e ↦ absurd (none_within outer before e w)
+          | inr e ↦
+              let k = no_symbol_is t s in let g = is_greatest outer t p k (all_end outer o e) in
+              subst (λ (l : Option ℤ). IfSome l (λ (n : ℤ). i ≤ℤ n)) (sym (last_closed outer t s o ∙ cond-false (list_any has_no_turn outer) _ _ e))
+              (capped_high (greatest_trip outer t) i
+              (most (subst (λ (z : ℤ). i ≤ℤ z) (same_trip t values before k) h) (g.no_greater before w)))
         ]
+      ]
     ]
   where
     unknown : last_after outer t ≡ None → IfSome (last_after outer t) (λ (n : ℤ). i ≤ℤ n)
     unknown e = subst (λ (l : Option ℤ). IfSome l (λ (n : ℤ). i ≤ℤ n)) (sym e) tt
+
     most : {a b c : ℤ} → a ≤ℤ b → b ≤ℤ c → a ≤ℤ c
     most e f = omega (arith, ints)
 
@@ -111,9 +112,10 @@ fixed_turns d values outer before [] [] (i ∷ x) p h f w = absurd w
 fixed_turns d values outer before [] (s ∷ ss) x p h f w = absurd h
 fixed_turns d values outer before (l ∷ ls) [] x p h f w = absurd h
 fixed_turns d values outer before (l ∷ ls) (s ∷ ss) [] p h f w = absurd w
-fixed_turns d values outer before (l ∷ ls) (s ∷ ss) (i ∷ x) p h f w =
-    (fixed_turn d outer l.trip s values before i p.0 h.0 (All-head (λ (r : Span). IsTrue r.fixed) s ss f) w.0,
-    fixed_turns (suc d) values (outer ++ s ∷ []) (before ++ i ∷ []) ls ss x p.1 h.1 (All-tail (λ (r : Span). IsTrue r.fixed) s ss f) w.1)
+fixed_turns d values outer before (l ∷ ls) (s ∷ ss) (i ∷ x) p h f w = (
+  fixed_turn d outer l.trip s values before i p.0 h.0 (All-head (λ (r : Span). IsTrue r.fixed) s ss f) w.0,
+  fixed_turns (suc d) values (outer ++ s ∷ []) (before ++ i ∷ []) ls ss x p.1 h.1 (All-tail (λ (r : Span). IsTrue r.fixed) s ss f) w.1,
+)
 
 pub spans_length : (outer : List Span) (ls : List Loop) (ss : List Span) → AreSpansOf outer ls ss → length ss ≡ length ls
 spans_length outer [] [] h = refl
@@ -147,12 +149,14 @@ same_spans d outer (a ∷ ls) (b ∷ ms) (s ∷ ss) (t ∷ ts) p h g f k l =
   where
     counted : (c : Bool) → eqb a.number b.number ≡ c → common_of (a ∷ ls) (b ∷ ms) ≡ cond c (suc (common_of ls ms)) 0
     counted c e = ap (λ x. cond x (suc (common_of ls ms)) 0) e
+
     at : AreSameWithin (outer ++ s ∷ []) ls ms ss ts → (j : ℕ) → common_of (a ∷ ls) (b ∷ ms) ≡ suc (common_of ls ms) → a ≡ b → j < common_of (a ∷ ls) (b ∷ ms) → get_or (s ∷ ss) j once ≡ get_or (t ∷ ts) j once
     at rest zero c e i = one_span d d outer a.trip s t p.0 h.0 (subst (λ (m : Loop). IsSpanOf outer m.trip t) (sym e) g.0)
     at rest (suc j) c e i =
         let u : s ≡ t = one_span d d outer a.trip s t p.0 h.0 (subst (λ (m : Loop). IsSpanOf outer m.trip t) (sym e) g.0) in
         rest (subst (λ (r : Span). AreSpansOf (outer ++ r ∷ []) ms ts) (sym u) g.1)
         (λ n m. f (suc n) (omega arith)) j (omega arith)
+
     by : (c : Bool) → eqb a.number b.number ≡ c → AreSameWithin (outer ++ s ∷ []) ls ms ss ts → get_or (s ∷ ss) k once ≡ get_or (t ∷ ts) k once
     by false e rest = let z = counted false e in absurd (omega arith)
     by true e rest =

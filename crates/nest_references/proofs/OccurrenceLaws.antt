@@ -112,9 +112,10 @@ order_from : (symbols : List (List ℕ)) (number : ℕ) (s : Standing) (k : ℕ)
 order_from symbols number s k [] [] h = tt
 order_from symbols number s k [] (o ∷ os) h = absurd h
 order_from symbols number s k (r ∷ rs) [] h = absurd h
-order_from symbols number s k (r ∷ rs) (o ∷ os) h =
-    (each-map (IsAt number (suc k)) (IsEarlierPlace o.place) (map place_in os) (λ q a. earlier q a) (all_at symbols number s (suc k) rs os h.2),
-    order_from symbols number s (suc k) rs os h.2)
+order_from symbols number s k (r ∷ rs) (o ∷ os) h = (
+  each-map (IsAt number (suc k)) (IsEarlierPlace o.place) (map place_in os) (λ q a. earlier q a) (all_at symbols number s (suc k) rs os h.2),
+  order_from symbols number s (suc k) rs os h.2,
+)
   where
     earlier : (q : Place) → IsAt number (suc k) q → IsEarlierPlace o.place q
     earlier q a =

@@ -132,6 +132,7 @@ own_other ls r h =
   where
     made : Reference
     made = record { name = (out-Ref r).name; subscripts = subscripts (map subscript_of (out-Ref r).subs) }
+
     same : (b : Bool) → cond b (made ∷ []) (made ∷ []) ≡ made ∷ []
     same true = refl
     same false = refl

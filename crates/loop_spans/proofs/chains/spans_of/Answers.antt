@@ -21,7 +21,7 @@ loop-turns-preserved c =
     let i = c.loop-turns.turns-index in let span = c.span_of-span.result in
     let pushed : c.push.new.self ≡ c.loop-turns.spans ++ span ∷ [] = c.in_ok-push.ensures.ok in
     let inner : IsSpanOf c.loop-turns.spans c.turns-item.result.trip span =
-        subst (λ (o : List Span). IsSpanOf o c.turns-item.result.trip span) c.as_slice.ensures c.span_of-span.ensures.span in
+    subst (λ (o : List Span). IsSpanOf o c.turns-item.result.trip span) c.as_slice.ensures c.span_of-span.ensures.span in
     record {
       spans = subst (λ (ss : List Span). AreSpansOf [] (map loop_of (take (i + 1) c.as_slice-turns-items.result.now)) ss) (sym pushed)
           (spans_more c.as_slice-turns-items.result.now i c.turns-item.result c.loop-turns.spans span (omega arith) c.turns-item.is c.loop-turns.invariant.spans inner);
