@@ -1,5 +1,6 @@
 //! The span of one loop, by those of the loops round it.
-ghost use Rattle.std.specs.Prelude.{◌≡◌, ℕ, int_div, ℤ, pos, ◌+◌, ◌*◌, ◌≤◌, ◌≤ℤ◌, ◌^◌, All, IsTrue, length, unsigned_abs, ◌+ℤ◌, ◌*ℤ◌, Some, true};
+ghost use Rattle.std.specs.Prelude.{◌≡◌, ℕ, int_div, ℤ, pos, ◌+◌, ◌*◌, ◌≤◌, ◌≤ℤ◌, ◌^◌, All, length, unsigned_abs};
+ghost use Rattle.std.specs.Prelude.{◌+ℤ◌, ◌*ℤ◌, Some, true};
 ghost use Rattle.std.specs.List.{list_all, list_any};
 ghost use Rattle.std.specs.Ordering.{int_eq};
 ghost use Rattle.subscripts.specs.Shapes.{IsForm, IsSmall};
