@@ -2,6 +2,7 @@ pub mod References
 pub mod Instances
 pub mod Touched
 pub mod Tested
+pub mod Ready
 pub mod Pair
 pub mod Arcs
 pub mod Graph

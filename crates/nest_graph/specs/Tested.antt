@@ -1,8 +1,9 @@
 -- Two references of a nest, as they are tested.
 use Rattle.std.specs.Prelude.{◌≡◌, ◌⊎◌, ◌↔◌, ℕ, zero, suc, ◌==◌, ◌<◌, ◌^◌, ℤ, pos, ◌≤ℤ◌, ◌<ℤ◌, int_div, true, false}
-use Rattle.std.specs.Prelude.{if◌then◌else◌, IsTrue, IsSome, IsSomeAnd, IfSome, Any, Option, Some, None}
+use Rattle.std.specs.Prelude.{if◌then◌else◌, IsTrue, IsSome, IsSomeAnd, IfSome, All, Any}
+use Rattle.std.specs.Prelude.{Option, Some, None}
 use Rattle.std.specs.Prelude.{List, [], ◌∷◌, ◌++◌, length, slice_get, slice_index_or}
-use Rattle.subscripts.specs.Forms.{WithinSpans, over_symbols}
+use Rattle.subscripts.specs.Forms.{WithinSpans}
 use Rattle.subscripts.specs.declared.affine.Affine.{Affine}
 use Rattle.subscripts.specs.declared.affine.Span.{Span}
 use Rattle.subscripts.specs.declared.pairing.Pairing.{Pairing}
@@ -20,13 +21,14 @@ use Rattle.nest_graph.specs.References.{references_of, variables_round}
 
 -- ---- spans
 
--- no loop has a coefficient, and no symbol
-pub record IsConstant (t : Trip) : Type 0 where
-  pub loops : (k : ℕ) → slice_index_or t.top.loops k (pos 0) ≡ pos 0
-  pub symbols : (values : ℕ → ℤ) → over_symbols t.top.syms values ≡ pos 0
-
+-- no symbol has a coefficient
 abbrev pub HasNoSymbol : Trip → Type 0
-HasNoSymbol t = (values : ℕ → ℤ) → over_symbols t.top.syms values ≡ pos 0
+HasNoSymbol t = All (λ s. s.1 ≡ pos 0) t.top.syms
+
+-- no loop has one, and no symbol
+pub record IsConstant (t : Trip) : Type 0 where
+  pub loops : All (λ a. a ≡ pos 0) t.top.loops
+  pub symbols : HasNoSymbol t
 
 abbrev pub no_values : ℕ → ℤ
 no_values s = pos 0

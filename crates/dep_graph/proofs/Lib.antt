@@ -1,0 +1,10 @@
+pub mod Places
+pub mod FormValues
+pub mod Shapes
+pub mod Lists
+pub mod Meetings
+pub mod Couples
+pub mod SameLoops
+pub mod Joining
+pub mod PairLaws
+pub mod GraphLaws

@@ -1,0 +1,12 @@
+//! The dependence graph of a nest: each two references of one name, of which one is written, are tested in all their
+//! direction vectors (Allen and Kennedy, "Optimizing Compilers for Modern Architectures", chapters 2 and 3).
+#![tactic(auto)]
+
+mod graphs;
+mod lines;
+mod pairs;
+#[cfg(test)]
+mod tests;
+mod vectors;
+
+pub use graphs::graph;

@@ -1,0 +1,4 @@
+pub mod SpanLaws
+pub mod ChainLaws
+pub mod TurnLaws
+pub mod Worked

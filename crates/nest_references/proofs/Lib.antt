@@ -1,0 +1,3 @@
+pub mod ReferenceLaws
+pub mod FormLaws
+pub mod OccurrenceLaws

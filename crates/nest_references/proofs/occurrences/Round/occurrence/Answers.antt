@@ -1,0 +1,18 @@
+use Rattle.std.proofs.Common.{◌≡◌, ℕ, [], List, subst, sym, ap, ◌∙◌}
+use Rattle.fv_tree.specs.Plain.{Reference}
+use Rattle.fv_tree.specs.View.{reference_of}
+use Rattle.fv_tree.proofs.Equations.{reference_of-is}
+use Rattle.subscripts.specs.declared.affine.Span.{Span}
+use Rattle.nest_graph.specs.Tested.{AreSpansOf}
+use Rattle.nest_references.specs.Occurrences.{AreFormsIn}
+use Rattle.nest_references.proofs.occurrences.Round.occurrence.Goals as goal
+
+pub returns-clause-kept : goal.returns-clause-kept
+returns-clause-kept c = λ s r. record {
+  name = sym (ap (λ (q : Reference). q.name) (reference_of-is c.args.item.now));
+  loops = c.in_ok-copy_numbers.ensures ∙ r.loops;
+  spans = subst (λ (ss : List Span). AreSpansOf [] s.loops ss) (sym c.in_ok-copy_spans.ensures) r.spans;
+  forms = subst (λ (names : List (List ℕ)). AreFormsIn names c.args.symbols.now (reference_of c.args.item.now).subscripts c.in_ok-forms_of.field-0) (c.as_slice.ensures ∙ r.names)
+      c.in_ok-forms_of.ensures.forms;
+  seven = c.in_ok-forms_of.ensures.seven;
+}
