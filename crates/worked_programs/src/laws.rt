@@ -1,6 +1,7 @@
 //! Worked programs. A law is a function without a body: its contract is what holds.
 ghost use Rattle.std.specs.Prelude.{[], ◌∷◌};
-ghost use Rattle.fv_tree.specs.declared.ops.Fault.TheVariants.{Allocated, Bounds, Overflow, Shape, ZeroDivide, ZeroStep};
+ghost use Rattle.fv_tree.specs.declared.ops.Fault.TheVariants.{Allocated, Bounds, Overflow, Shape};
+ghost use Rattle.fv_tree.specs.declared.ops.Fault.TheVariants.{ZeroDivide, ZeroStep};
 ghost use Rattle.fv_meaning.specs.declared.End.TheVariants.{Done, Fault};
 ghost use Rattle.worked_programs.specs.Words.{lines};
 ghost use Rattle.worked_programs.specs.Comes.{Comes};
