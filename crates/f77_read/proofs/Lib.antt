@@ -2,4 +2,3 @@ pub mod CardLaws
 pub mod TextLaws
 pub mod Answers
 pub mod SourceLaws
-pub mod Settled

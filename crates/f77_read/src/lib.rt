@@ -9,6 +9,6 @@ mod sources;
 #[cfg(test)]
 mod tests;
 
-pub use laws::{one_refusal, read_source_is_program, source_is_read_or_refused};
+pub use laws::{one_refusal, read_source_is_program};
 pub use programs::build;
 pub use sources::read77;

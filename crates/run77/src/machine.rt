@@ -1,5 +1,5 @@
 //! A program that can be run, and its final store.
-ghost use Rattle.std.specs.Prelude.{◌≡◌, ◌≤◌, IfOk, OnErr, map};
+ghost use Rattle.std.specs.Prelude.{◌≡◌, ◌≤◌, [], IfOk, OnErr, map};
 ghost use Rattle.fv_io.specs.Causes.{Rose};
 ghost use Rattle.fv_tree.specs.Plain.{Program};
 ghost use Rattle.fv_tree.specs.View.{program_of, declaration_of, block_of};
@@ -81,6 +81,10 @@ impl Machine77 {
         ensures unwritten { (p : Program) → IsProgram77 fortran77 p → IsMachineOf p self.old → result ≡ End.WriteFault
             → IsLeftAt fortran77 limit p input.now (store_left self.new) (K.taken out.old) (K.taken out.new) }
         ensures machine { (p : Program) → IsProgram77 fortran77 p → IsMachineOf p self.old → IsMachineOf p self.new }
+
+        // Where the run writes nothing, the sink is as it was, whether it tells its bytes or not.
+        ensures untouched { (p : Program) → IsProgram77 fortran77 p → IsMachineOf p self.old
+            → (run fortran77 limit p input.now).written ≡ [] → out.new ≡ out.old }
         ensures fault { result ≡ End.WriteFault → Rose (K.faults out.old) (K.faults out.new) }
         ensures later { K.faults out.old ≤ K.faults out.new }
     {

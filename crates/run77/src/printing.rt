@@ -8,6 +8,7 @@ ghost use Rattle.fv_machine.specs.Acts.{Runs};
 ghost use Rattle.fv_machine.specs.Printing.{prints_value, prints, plain_items};
 ghost use Rattle.run77.specs.Moments.{seen};
 ghost use Rattle.run77.specs.Printing.{IsOneValue, AreAllValues};
+ghost use Rattle.run77.specs.Told.{IsTold};
 
 use crate::moment::Moment;
 use fv_io::{Sink, write_all};
@@ -42,12 +43,18 @@ impl Moment {
     fn print_value<K: Sink>(&self, line: u32, expr: &Expr, out: &mut K) -> Result<(), Left>
         ensures run { (input : List ℕ) → Runs (λ limit. prints_value fortran77 line (expression_of expr.now)) input
             (seen self.now) (K.taken out.old) (seen self.now) (K.taken out.new) result }
+        ensures told { (input bytes : List ℕ) → IsTold (λ before now.
+            Runs (λ limit. prints_value fortran77 line (expression_of expr.now)) input
+            (seen self.now) before (seen self.now) now result) (out.new ≡ out.old) bytes }
         ensures fault { result ≡ Err Left.Unwritten → Rose (K.faults out.old) (K.faults out.new) }
         ensures later { K.faults out.old ≤ K.faults out.new }
     {
         match whole_name(expr) {
             Some(name) => {
                 let values = at(line, self.storage.all(name))?;
+                if values.is_empty() {
+                    return Ok(());
+                }
                 write_outputs(values, out)?;
                 Ok(())
             }
@@ -63,6 +70,9 @@ impl Moment {
     fn print_item<K: Sink>(&mut self, line: u32, item: &Item, out: &mut K) -> Result<(), Left>
         ensures run { (input : List ℕ) → Runs (λ limit. prints_item fortran77 limit (item_of item.now) line) input
             (seen self.old) (K.taken out.old) (seen self.new) (K.taken out.new) result }
+        ensures told { (input bytes : List ℕ) → IsTold (λ before now.
+            Runs (λ limit. prints_item fortran77 limit (item_of item.now) line) input
+            (seen self.old) before (seen self.new) now result) (out.new ≡ out.old) bytes }
         ensures fault { result ≡ Err Left.Unwritten → Rose (K.faults out.old) (K.faults out.new) }
         ensures later { K.faults out.old ≤ K.faults out.new }
     {
@@ -90,6 +100,9 @@ impl Moment {
     ) -> Result<(), Left>
         ensures run { (input : List ℕ) → Runs (λ limit. prints_items fortran77 limit (plain_items items.now) line) input
             (seen self.old) (K.taken out.old) (seen self.new) (K.taken out.new) result }
+        ensures told { (input bytes : List ℕ) → IsTold (λ before now.
+            Runs (λ limit. prints_items fortran77 limit (plain_items items.now) line) input
+            (seen self.old) before (seen self.new) now result) (out.new ≡ out.old) bytes }
         ensures fault { result ≡ Err Left.Unwritten → Rose (K.faults out.old) (K.faults out.new) }
         ensures later { K.faults out.old ≤ K.faults out.new }
     {
@@ -103,6 +116,9 @@ impl Moment {
     pub fn print<K: Sink>(&mut self, line: u32, items: &Seq<Item>, out: &mut K) -> Result<(), Left>
         ensures run { (input : List ℕ) → Runs (λ limit. prints fortran77 limit line (plain_items items.now)) input
             (seen self.old) (K.taken out.old) (seen self.new) (K.taken out.new) result }
+        ensures told { (input bytes : List ℕ) → IsTold (λ before now.
+            Runs (λ limit. prints fortran77 limit line (plain_items items.now)) input
+            (seen self.old) before (seen self.new) now result) (out.new ≡ out.old) bytes }
         ensures fault { result ≡ Err Left.Unwritten → Rose (K.faults out.old) (K.faults out.new) }
         ensures later { K.faults out.old ≤ K.faults out.new }
     {

@@ -11,6 +11,7 @@ ghost use Rattle.fv_machine.specs.Printing.{plain_items, prints};
 ghost use Rattle.fv_machine.specs.Statements.{HasArms, ArmsHaveArms, BlockHasArms, plain_arms, Chooses, DoesOver};
 ghost use Rattle.fv_machine.specs.Statements.{reads};
 ghost use Rattle.run77.specs.Moments.{seen};
+ghost use Rattle.run77.specs.Told.{IsTold};
 ghost use Rattle.fv_machine.specs.Jumps.{arrived, passed, caught, landed};
 
 use crate::moment::Moment;
@@ -128,6 +129,9 @@ impl Moment {
         ensures run { (input : List ℕ)
             → Runs (λ limit. counts_step fortran77 limit (prints fortran77 limit line (plain_items items.now))) input
             (seen self.old) (K.taken out.old) (seen self.new) (K.taken out.new) result }
+        ensures told { (input bytes : List ℕ) → IsTold (λ before now.
+            Runs (λ limit. counts_step fortran77 limit (prints fortran77 limit line (plain_items items.now))) input
+            (seen self.old) before (seen self.new) now result) (out.new ≡ out.old) bytes }
         ensures fault { result ≡ Err Left.Unwritten → Rose (K.faults out.old) (K.faults out.new) }
         ensures later { K.faults out.old ≤ K.faults out.new }
     {
@@ -140,6 +144,9 @@ impl Moment {
         ensures run { HasArms (statement_of stmt.now)
             → Runs (λ limit. does fortran77 limit (statement_of stmt.now)) input.now
             (seen self.old) (K.taken out.old) (seen self.new) (K.taken out.new) result }
+        ensures told { HasArms (statement_of stmt.now) → (bytes : List ℕ) → IsTold (λ before now.
+            Runs (λ limit. does fortran77 limit (statement_of stmt.now)) input.now
+            (seen self.old) before (seen self.new) now result) (out.new ≡ out.old) bytes }
         ensures fault { result ≡ Err Left.Unwritten → Rose (K.faults out.old) (K.faults out.new) }
         ensures later { K.faults out.old ≤ K.faults out.new }
     {
@@ -195,6 +202,9 @@ impl Moment {
     ) -> Result<bool, Left>
         ensures run { ArmsHaveArms (plain_arms arms.now) → Chooses fortran77 line (plain_arms arms.now) input.now
             (seen self.old) (K.taken out.old) (seen self.new) (K.taken out.new) result }
+        ensures told { ArmsHaveArms (plain_arms arms.now) → (bytes : List ℕ) → IsTold (λ before now.
+            Chooses fortran77 line (plain_arms arms.now) input.now
+            (seen self.old) before (seen self.new) now result) (out.new ≡ out.old) bytes }
         ensures fault { result ≡ Err Left.Unwritten → Rose (K.faults out.old) (K.faults out.new) }
         ensures later { K.faults out.old ≤ K.faults out.new }
     {
@@ -215,6 +225,9 @@ impl Moment {
         ensures run { BlockHasArms (block_of block.now)
             → Runs (λ limit. does_all fortran77 limit (block_of block.now)) input.now
             (seen self.old) (K.taken out.old) (seen self.new) (K.taken out.new) result }
+        ensures told { BlockHasArms (block_of block.now) → (bytes : List ℕ) → IsTold (λ before now.
+            Runs (λ limit. does_all fortran77 limit (block_of block.now)) input.now
+            (seen self.old) before (seen self.new) now result) (out.new ≡ out.old) bytes }
         ensures fault { result ≡ Err Left.Unwritten → Rose (K.faults out.old) (K.faults out.new) }
         ensures later { K.faults out.old ≤ K.faults out.new }
     {

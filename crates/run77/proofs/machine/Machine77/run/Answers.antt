@@ -1,8 +1,9 @@
 use Rattle.fv_meaning.specs.Dialect.{fortran77}
-use Rattle.std.proofs.Common.{sym, ◌∙◌, subst}
+use Rattle.std.proofs.Common.{sym, ◌∙◌, subst, [], Some}
 use Rattle.fv_tree.specs.Plain.{Program}
 use Rattle.fv_tree.specs.View.{block_of}
 use Rattle.fv_meaning.specs.Profile77.{IsProgram77}
+use Rattle.fv_meaning.specs.Run.{run}
 use Rattle.fv_meaning.specs.Blocks.{outermost}
 use Rattle.run77.specs.declared.machine.Machine77.{Machine77}
 use Rattle.fv_machine.specs.Statements.{BlockHasArms}
@@ -11,6 +12,7 @@ use Rattle.run77.specs.Moments.{seen}
 use Rattle.run77.proofs.JumpLaws.{jumps_forward}
 use Rattle.run77.proofs.ProgramLaws.{block_has_arms}
 use Rattle.fv_machine.proofs.MachineLaws.{runs_to_end, keeps_names, left_at}
+use Rattle.run77.proofs.Telling.{nothing_given}
 use Rattle.run77.proofs.machine.Machine77.run.Goals as goal
 
 has_arms : (p : Program) (m : Machine77) → IsProgram77 fortran77 p → IsMachineOf p m → BlockHasArms (block_of m.body)
@@ -36,3 +38,11 @@ returns-clause-unwritten g c = λ p h is e.
     left_at fortran77 p c.args.limit c.args.input.now (seen c.begin.new.self) (seen c.block.new.self) (block_of c.args.self.now.body) (g.K.Sink.taken c.args.out.now)
     (g.K.Sink.taken c.block.new.out) c.block.result (c.begin.ensures.names ∙ is.names) is.body c.begin.ensures.opening
     (c.block.ensures.run (has_arms p c.args.self.now h is)) (sym c.ended.ensures ∙ e)
+
+pub returns-clause-untouched : goal.returns-clause-untouched
+returns-clause-untouched g c = λ p h is w.
+    let k = c.block.ensures.told (has_arms p c.args.self.now h is) [] in
+    k.untouched
+    (nothing_given p.declarations (run fortran77 c.args.limit p c.args.input.now) (seen c.block.new.self) k.after _ w
+    (runs_to_end fortran77 p c.args.limit c.args.input.now (seen c.begin.new.self) (seen c.block.new.self) (block_of c.args.self.now.body) (Some []) (Some k.after) c.block.result
+    (c.begin.ensures.names ∙ is.names) is.body (jumps_forward p h) c.begin.ensures.opening k.does))

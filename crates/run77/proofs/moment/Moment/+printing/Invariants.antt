@@ -1,4 +1,4 @@
-use Rattle.std.proofs.Common.{ℕ, ◌-◌, ◌≤◌, List, Option, Result, drop}
+use Rattle.std.proofs.Common.{◌≡◌, ℕ, ◌-◌, ◌≤◌, List, Option, Result, drop}
 use Rattle.fv_tree.specs.View.{item_of}
 use Rattle.fv_meaning.specs.Dialect.{fortran77}
 use Rattle.fv_meaning.specs.Run.{repeated, turn, prints_item, prints_items}
@@ -7,6 +7,7 @@ use Rattle.fv_machine.specs.declared.progress.Left.{Left}
 use Rattle.fv_machine.specs.Acts.{Runs}
 use Rattle.fv_machine.specs.Printing.{plain_items}
 use Rattle.run77.specs.Moments.{seen}
+use Rattle.run77.specs.Told.{IsTold}
 use Rattle.run77.proofs.moment.Moment.+printing.Given as goal
 
 -- what is done with the turns or the items that are left is done with all
@@ -16,6 +17,9 @@ invariant-print_item-loop g l =
     → Runs (λ limit. repeated (l.end - l.counter) (turn fortran77 limit l.line l.name l.turns.step (prints_items fortran77 limit (plain_items l.items) l.line))) input (seen l.self) (g.K.Sink.taken l.out) last now r
     → Runs (λ limit. prints_item fortran77 limit (item_of l.fn.item) l.line) input (seen l.fn.self) (g.K.Sink.taken l.fn.out) last now r)
     × (g.K.Sink.faults l.fn.out ≤ g.K.Sink.faults l.out)
+    × ((input bytes : List ℕ) → IsTold (λ before mid. (now : Option (List ℕ)) (last : Seen) (r : Result (Unit {0}) Left)
+    → Runs (λ limit. repeated (l.end - l.counter) (turn fortran77 limit l.line l.name l.turns.step (prints_items fortran77 limit (plain_items l.items) l.line))) input (seen l.self) mid last now r
+    → Runs (λ limit. prints_item fortran77 limit (item_of l.fn.item) l.line) input (seen l.fn.self) before last now r) (l.out ≡ l.fn.out) bytes)
 
 abbrev pub invariant-print_items-loop-item : goal.invariant-print_items-loop-item
 invariant-print_items-loop-item g l =
@@ -23,3 +27,6 @@ invariant-print_items-loop-item g l =
     → Runs (λ limit. prints_items fortran77 limit (plain_items (drop l.item-index l.item-items)) l.line) input (seen l.self) (g.K.Sink.taken l.out) last now r
     → Runs (λ limit. prints_items fortran77 limit (plain_items l.items) l.line) input (seen l.fn.self) (g.K.Sink.taken l.fn.out) last now r)
     × (g.K.Sink.faults l.fn.out ≤ g.K.Sink.faults l.out)
+    × ((input bytes : List ℕ) → IsTold (λ before mid. (now : Option (List ℕ)) (last : Seen) (r : Result (Unit {0}) Left)
+    → Runs (λ limit. prints_items fortran77 limit (plain_items (drop l.item-index l.item-items)) l.line) input (seen l.self) mid last now r
+    → Runs (λ limit. prints_items fortran77 limit (plain_items l.items) l.line) input (seen l.fn.self) before last now r) (l.out ≡ l.fn.out) bytes)

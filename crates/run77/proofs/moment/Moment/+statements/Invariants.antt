@@ -1,4 +1,4 @@
-use Rattle.std.proofs.Common.{ℕ, ◌-◌, ◌≤◌, List, Option, Result, drop, map}
+use Rattle.std.proofs.Common.{◌≡◌, ℕ, ◌-◌, ◌≤◌, List, Option, Result, drop, map}
 use Rattle.fv_tree.specs.Plain.{block}
 use Rattle.fv_tree.specs.View.{statement_of, block_of}
 use Rattle.fv_meaning.specs.Dialect.{fortran77}
@@ -10,6 +10,7 @@ use Rattle.fv_machine.specs.Statements.{HasArms, ArmsHaveArms, BlockHasArms, pla
 use Rattle.fv_machine.specs.Jumps.{way_at}
 use Rattle.fv_machine.proofs.BlockLaws.{RunsOn, left_of_block, left_of_arms}
 use Rattle.run77.specs.Moments.{seen}
+use Rattle.run77.specs.Told.{IsTold}
 use Rattle.run77.proofs.moment.Moment.+statements.Given as goal
 
 -- what is done with the turns, the arms or the statements that are left is done with all
@@ -19,6 +20,9 @@ invariant-statement-loop g l =
     → Runs (λ limit. repeated (l.end - l.counter) (turn fortran77 limit l.line l.var l.turns.step (does_all fortran77 limit (block_of l.body)))) l.input (seen l.self) (g.K.Sink.taken l.out) last now r
     → Runs (λ limit. does fortran77 limit (statement_of l.fn.stmt)) l.input (seen l.fn.self) (g.K.Sink.taken l.fn.out) last now r)
     × (g.K.Sink.faults l.fn.out ≤ g.K.Sink.faults l.out)
+    × (HasArms (statement_of l.fn.stmt) → (bytes : List ℕ) → IsTold (λ before mid. (now : Option (List ℕ)) (last : Seen) (r : Result (Unit {0}) Left)
+    → Runs (λ limit. repeated (l.end - l.counter) (turn fortran77 limit l.line l.var l.turns.step (does_all fortran77 limit (block_of l.body)))) l.input (seen l.self) mid last now r
+    → Runs (λ limit. does fortran77 limit (statement_of l.fn.stmt)) l.input (seen l.fn.self) before last now r) (l.out ≡ l.fn.out) bytes)
 
 abbrev pub invariant-branch-loop-arm : goal.invariant-branch-loop-arm
 invariant-branch-loop-arm g l =
@@ -27,6 +31,9 @@ invariant-branch-loop-arm g l =
     → Runs (left_of_arms fortran77 l.line other l.arms) l.input (seen l.fn.self) (g.K.Sink.taken l.fn.out) last now r)
     × (ArmsHaveArms (plain_arms l.arms) → ArmsHaveArms (plain_arms (drop l.arm-index l.arm-items)))
     × (g.K.Sink.faults l.fn.out ≤ g.K.Sink.faults l.out)
+    × ((bytes : List ℕ) → IsTold (λ before mid. (other : LimitedAct) (now : Option (List ℕ)) (last : Seen) (r : Result (Unit {0}) Left)
+    → Runs (left_of_arms fortran77 l.line other (drop l.arm-index l.arm-items)) l.input (seen l.self) mid last now r
+    → Runs (left_of_arms fortran77 l.line other l.arms) l.input (seen l.fn.self) before last now r) (l.out ≡ l.fn.out) bytes)
 
 abbrev pub invariant-block-loop-stmt : goal.invariant-block-loop-stmt
 invariant-block-loop-stmt g l =
@@ -35,3 +42,6 @@ invariant-block-loop-stmt g l =
     → RunsOn (way_at l.jump) (left_of_block fortran77 (drop l.stmt-index l.stmt-items)) l.input (seen l.self) (g.K.Sink.taken l.out) last now r
     → Runs (λ limit. does_all fortran77 limit (block_of l.block)) l.input (seen l.fn.self) (g.K.Sink.taken l.fn.out) last now r))
     × (g.K.Sink.faults l.fn.out ≤ g.K.Sink.faults l.out)
+    × (BlockHasArms (block_of l.block) → (bytes : List ℕ) → IsTold (λ before mid. (now : Option (List ℕ)) (last : Seen) (r : Result (Unit {0}) Left)
+    → RunsOn (way_at l.jump) (left_of_block fortran77 (drop l.stmt-index l.stmt-items)) l.input (seen l.self) mid last now r
+    → Runs (λ limit. does_all fortran77 limit (block_of l.block)) l.input (seen l.fn.self) before last now r) (l.out ≡ l.fn.out) bytes)

@@ -17,7 +17,7 @@ use Rattle.f77_grammar.proofs.Grouping.{one_reading}
 use Rattle.f77_grammar.proofs.programs.Least.{none_or_first, nothing_in}
 use Rattle.f77_laws.proofs.Lists.{nowhere, cases_of}
 use Rattle.f77_read.specs.Cards.{card_refusal, IsReadAlone, IsRefusedAlone, AreReadAlone, IsRefusedFirst, AreTried}
-use Rattle.f77_read.specs.Settled.{IsSettled, AllAreSettled}
+use Rattle.f77_settled.specs.Settled.{IsSettled, AllAreSettled}
 use Rattle.f77_read.proofs.CardLaws.{read_last, kept, first_refused, another_refused}
 use Rattle.f77_read.proofs.Answers.{are_read, answered_card, answered_text}
 

@@ -1,0 +1,11 @@
+mod Fronts
+mod Parts
+mod Symbols
+mod Whole
+mod Items
+mod Keywords
+mod KeywordLaws
+mod LeftOut
+mod Statements
+mod Settled
+mod Sources

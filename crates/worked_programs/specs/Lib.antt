@@ -1,0 +1,8 @@
+pub mod Words
+pub mod Comes
+pub mod Sections
+pub mod Masks
+pub mod ArrayFunctions
+pub mod Constructors
+pub mod Allocations
+pub mod Stages
