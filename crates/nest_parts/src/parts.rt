@@ -1,6 +1,7 @@
 //! Statements of a program as parts of a nest.
 ghost use Rattle.std.specs.Prelude.{◌≡◌, ◌++◌, map, OnOk, IfOk};
 ghost use Rattle.fv_tree.specs.View.{expression_of, statement_of, tested_of, block_of};
+ghost use Rattle.nest_tree.specs.Plain.{Turns, parts};
 ghost use Rattle.nest_tree.specs.View.{part_of, branch_of, loop_of};
 ghost use Rattle.nest_parts.specs.Numbers.{next, after, after_block, after_each, after_list};
 ghost use Rattle.nest_parts.specs.Statements.{parts_of, parts_of_block, branch_at, branch_list};
@@ -136,6 +137,34 @@ impl Numbering {
             Stmt::Allocate { .. } => Ok(()),
             Stmt::Deallocate { .. } => Ok(()),
         }
+    }
+
+    /// A loop as a part.
+    #[tactic(auto, using(crate::proofs::PartLaws::part_laws))]
+    pub fn turns(
+        &mut self,
+        alloc: Global,
+        var: Name,
+        first: &Expr,
+        last: &Expr,
+        step: &Expr,
+        body: &Block,
+    ) -> Result<Part, Memory>
+        ensures part { IfOk result (λ part. part_of part
+            ≡ Turns (source_loop (next self.old.loops) var (expression_of first.now) (expression_of last.now)
+            (expression_of step.now)) (parts (parts_of_block (next self.old.loops) (block_of body.now)))) }
+        ensures loops { OnOk result (self.new.loops ≡ after_block (next self.old.loops) (block_of body.now)) }
+    {
+        self.loops = next(self.loops);
+        let turns = source_loop(alloc, self.loops, var, first, last, step)?;
+        Ok(Part::Turns(turns, self.block(alloc, body)?))
+    }
+
+    /// Passes over a loop, but not over those in it.
+    pub fn pass_over(&mut self)
+        ensures { self.new.loops ≡ next self.old.loops }
+    {
+        self.loops = next(self.loops);
     }
 
     #[cycle(parts)]

@@ -1,0 +1,5 @@
+pub mod Lists
+pub mod SizeLaws
+pub mod AroundLaws
+pub mod LimitLaws
+pub mod WalkLaws
