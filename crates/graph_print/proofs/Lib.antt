@@ -1,0 +1,4 @@
+pub mod GraphLines
+pub mod LoopLines
+pub mod PieceLines
+pub mod StatementLines
