@@ -1,0 +1,3 @@
+pub mod SearchLaws
+pub mod Outermost
+pub mod FoundLaws

@@ -1,0 +1,42 @@
+-- What is known of what is found.
+use Rattle.std.specs.Prelude.{◌≡◌, ℕ, Option, Some, None, true, false, List, [], Contains}
+use Rattle.fv_tree.specs.Plain.{Program, Statement}
+use Rattle.nest_tree.specs.Plain.{Nest}
+use Rattle.find_nests.specs.declared.reasons.Reason.{Reason}
+use Rattle.find_nests.specs.Reasons.{has_reason, reason_over}
+use Rattle.find_nests.specs.Loops.{Placed, loops_in_block, is_in_no_nest, reason_of}
+use Rattle.find_nests.specs.Found.{InNest, Kept, found_in, nest_of_loop}
+
+-- a loop of the program without a reason, each loop round it being kept
+pub record IsFoundNest (p : Program) (n : Nest) : Type 0 where
+  pub loop : Placed
+  pub stands : Contains (loops_in_block 0 [] p.body) loop
+  pub outermost : is_in_no_nest p.declarations loop ≡ true
+  pub no_reason : reason_of p.declarations loop.loop.loop ≡ None
+  pub is : n ≡ nest_of_loop p n.number loop.loop
+
+-- the same of a kept loop, by its line and its reason
+pub record IsFoundKept (p : Program) (line : ℕ) (r : Reason) : Type 0 where
+  pub loop : Placed
+  pub stands : Contains (loops_in_block 0 [] p.body) loop
+  pub outermost : is_in_no_nest p.declarations loop ≡ true
+  pub reason : reason_of p.declarations loop.loop.loop ≡ Some r
+  pub at : line ≡ loop.loop.loop.line
+
+-- each nest that is found is such a loop
+abbrev pub FoundNestIsLoop : Type 0
+FoundNestIsLoop = (p : Program) (n : Nest) → Contains (found_in p) (InNest n) → IsFoundNest p n
+
+-- so is each kept loop
+abbrev pub KeptIsLoop : Type 0
+KeptIsLoop = (p : Program) (line : ℕ) (r : Reason) → Contains (found_in p) (Kept line r) → IsFoundKept p line r
+
+-- where no reason is given none holds
+abbrev pub NoReasonHolds : Type 0
+NoReasonHolds = (symbols : List (List ℕ)) (c : Statement) (r : Reason) → reason_over symbols c ≡ None
+    → has_reason r symbols c ≡ false
+
+-- the reason that is given holds
+abbrev pub ReasonHolds : Type 0
+ReasonHolds = (symbols : List (List ℕ)) (c : Statement) (r : Reason) → reason_over symbols c ≡ Some r
+    → has_reason r symbols c ≡ true

@@ -1,0 +1,5 @@
+pub mod Reasons
+pub mod Loops
+pub mod Found
+pub mod Walk
+pub mod Laws

@@ -1,0 +1,72 @@
+-- The loops of a program, in the order of the text.
+use Rattle.std.specs.Prelude.{ℕ, Option, Bool, is_some, List, [], ◌∷◌, ◌++◌, map}
+use Rattle.std.specs.List.{filter, list_all}
+use Rattle.fv_tree.specs.Plain.{Expression, Statement, Assignment, Where, If, Do, Label, GoTo, Stop, Read, Print}
+use Rattle.fv_tree.specs.Plain.{Allocate, Deallocate, Arms, no_arms, arm, Block, no_statements, statement, Declaration}
+use Rattle.nest_reasons.specs.Symbols.{symbols_of}
+use Rattle.nest_parts.specs.Numbers.{next, after, after_arms, after_block}
+use Rattle.find_nests.specs.declared.reasons.Reason.{Reason}
+use Rattle.find_nests.specs.Reasons.{reason_over}
+
+pub record SourceLoop : Type 0 where
+  pub line : ℕ
+  pub variable : List ℕ
+  pub first : Expression
+  pub last : Expression
+  pub step : Expression
+  pub body : Block
+
+abbrev pub as_statement : SourceLoop → Statement
+as_statement l = Do l.line l.variable l.first l.last l.step l.body
+
+-- a loop with the number of the last loop before it
+pub record Numbered : Type 0 where
+  pub before : ℕ
+  pub loop : SourceLoop
+
+-- a loop with the loops round it, from the outside in
+pub record Placed : Type 0 where
+  pub around : List SourceLoop
+  pub loop : Numbered
+
+-- each loop before those in it, by the number of the last loop before
+abbrev mutual
+  pub loops_in : ℕ → List SourceLoop → Statement → List Placed
+  loops_in k around (Assignment line mark left right) = []
+  loops_in k around (Where line mark mask left right) = []
+  loops_in k around (If line arms other) = loops_in_arms k around arms ++ loops_in_block (after_arms k arms) around other
+  loops_in k around (Do line x a b c body) =
+      let l : SourceLoop = record { line = line; variable = x; first = a; last = b; step = c; body = body } in
+      record { around = around; loop = record { before = k; loop = l } } ∷ loops_in_block (next k) (around ++ l ∷ []) body
+  loops_in k around (Label n) = []
+  loops_in k around (GoTo line n) = []
+  loops_in k around (Stop line) = []
+  loops_in k around (Read line is) = []
+  loops_in k around (Print line is) = []
+  loops_in k around (Allocate line x es) = []
+  loops_in k around (Deallocate line x) = []
+
+  pub loops_in_arms : ℕ → List SourceLoop → Arms → List Placed
+  loops_in_arms k around no_arms = []
+  loops_in_arms k around (arm test body arms) =
+      loops_in_block k around body ++ loops_in_arms (after_block k body) around arms
+
+  pub loops_in_block : ℕ → List SourceLoop → Block → List Placed
+  loops_in_block k around no_statements = []
+  loops_in_block k around (statement c cs) = loops_in k around c ++ loops_in_block (after k c) around cs
+
+module _ (ds : List Declaration) where
+  -- the first reason that holds of a loop, if one does
+  abbrev pub reason_of : SourceLoop → Option Reason
+  reason_of l = reason_over (symbols_of ds l.variable l.body) (as_statement l)
+
+  abbrev pub is_kept : SourceLoop → Bool
+  is_kept l = is_some (reason_of l)
+
+  -- A loop stands in no nest where each loop round it has a reason
+  abbrev pub is_in_no_nest : Placed → Bool
+  is_in_no_nest p = list_all is_kept p.around
+
+  -- the loops that stand in no nest
+  abbrev pub looked_at : Block → List Numbered
+  looked_at body = map (λ (p : Placed). p.loop) (filter is_in_no_nest (loops_in_block 0 [] body))

@@ -1,0 +1,26 @@
+//! Laws of nests and reasons. A law is a function without a body: its contract is what holds.
+ghost use Rattle.find_nests.specs.Laws.{FoundNestIsLoop, KeptIsLoop, NoReasonHolds, ReasonHolds};
+
+/// Each nest that is found is a loop of the program of which no reason holds, and each loop round it is kept.
+#[tactic(auto, using(crate::proofs::FoundLaws::found_nest_is_loop))]
+pub fn found_nest()
+    ensures { FoundNestIsLoop }
+{}
+
+/// Each loop that is kept is one of the program, with its first reason, and each loop round it is kept.
+#[tactic(auto, using(crate::proofs::FoundLaws::kept_is_loop))]
+pub fn found_kept()
+    ensures { KeptIsLoop }
+{}
+
+/// Where no reason is given none holds.
+#[tactic(auto, using(crate::proofs::FoundLaws::no_reason_holds))]
+pub fn no_reason()
+    ensures { NoReasonHolds }
+{}
+
+/// The reason that is given holds.
+#[tactic(auto, using(crate::proofs::FoundLaws::reason_holds))]
+pub fn reason_given()
+    ensures { ReasonHolds }
+{}

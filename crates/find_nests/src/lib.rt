@@ -1,0 +1,13 @@
+//! The nests of a program, and the loops that are kept as they are (Allen and Kennedy, "Optimizing Compilers for Modern
+//! Architectures", section 4.2).
+#![tactic(auto)]
+
+mod laws;
+mod reasons;
+mod search;
+#[cfg(test)]
+mod tests;
+
+pub use laws::{found_kept, found_nest, no_reason, reason_given};
+pub use reasons::Reason;
+pub use search::{Found, find_nests};
