@@ -15,8 +15,8 @@ pub record IsRound (s : Standing) (r : Round) : Type 0 where
   pub spans : AreSpansOf [] s.loops r.spans
 
 -- those of these references of a statement
-pub record IsAdded (symbols : List (List ℕ)) (number : ℕ) (s : Standing) (rs : List Reference) (old new : List Occurrence) :
-    Type 0 where
+pub record IsAdded (symbols : List (List ℕ)) (number : ℕ) (s : Standing) (rs : List Reference)
+    (old new : List Occurrence) : Type 0 where
   pub first : List Occurrence
   pub is : new ≡ old ++ first
   pub are : AreOccurrencesFrom symbols number s 0 rs first

@@ -1,5 +1,5 @@
 -- The references of a nest, with what is known of each.
-use Rattle.std.specs.Prelude.{◌≡◌, ◌⊎◌, ℕ, suc, All, IfSome, Option, Some, None, List, [], ◌∷◌, ◌++◌, length, map, slice_get}
+use Rattle.std.specs.Prelude.{◌≡◌, ℕ, suc, All, IfSome, Option, Some, None, List, [], ◌∷◌, ◌++◌, length, map}
 use Rattle.fv_tree.specs.Plain.{Expression, Only, Section, Subscript, Subscripts, no_subscripts, subscript, Reference}
 use Rattle.subscripts.specs.declared.affine.Affine.{Affine}
 use Rattle.linear_forms.specs.Linear.{form_of}
@@ -69,5 +69,6 @@ pub record IsOccurrence (n : Nest) (o : Occurrence) : Type 0 where
 -- each reference of the nest once, in their order
 pub record AreOccurrences (n : Nest) (os : List Occurrence) : Type 0 where
   pub each : All (IsOccurrence n) os
-  pub every : (p : Place) (s : Standing) (r : Reference) → IsReference n p s r → In p (map (λ (o : Occurrence). o.place) os)
+  pub every : (p : Place) (s : Standing) (r : Reference) → IsReference n p s r
+      → In p (map (λ (o : Occurrence). o.place) os)
   pub in_order : Pairwise IsEarlierPlace (map (λ (o : Occurrence). o.place) os)

@@ -1,5 +1,5 @@
 //! Which statements may be asked about.
-ghost use Rattle.std.specs.Prelude.{IfOk, IsTrue};
+ghost use Rattle.std.specs.Prelude.{◌↔◌, IfOk, IsTrue};
 ghost use Rattle.nest_tree.specs.View.{nest_of};
 ghost use Rattle.sections.specs.Statements.{IsPlainStatement};
 
@@ -11,7 +11,7 @@ use std::alloc::Global;
 /// Whether there is a statement with this number, in at most seven loops and without a guard, in a nest of at most
 /// 65536 symbols.
 pub fn is_plain_statement(alloc: Global, s: u32, nest: &Nest) -> Result<bool, Memory>
-    ensures { IfOk result (λ b. IsTrue b → IsPlainStatement (nest_of nest.now) s) }
+    ensures { IfOk result (λ b. IsTrue b ↔ IsPlainStatement (nest_of nest.now) s) }
 {
     let all = statements_of(alloc, nest)?;
     let place = s as usize;
