@@ -1,5 +1,5 @@
 -- What a line of a listing says, and its text.
-use Rattle.std.specs.Prelude.{ℕ, zero, suc, ℤ, Option, Some, None, List, [], ◌∷◌, ◌++◌, codes}
+use Rattle.std.specs.Prelude.{ℕ, zero, suc, ◌+◌, ℤ, Option, Some, None, List, [], ◌∷◌, ◌++◌, codes}
 use Rattle.std.specs.Fmt.{decimal, signed_decimal}
 use Rattle.std.specs.List.{flat_map}
 use Rattle.subscripts.specs.declared.affine.Dir.{Dir}
@@ -54,8 +54,9 @@ tuple_text text (x ∷ xs) = codes "(" ++ (text x ++ (flat_map (λ y. codes "," 
 abbrev pub statement_name : ℕ → List ℕ
 statement_name s = codes "S" ++ decimal s
 
+-- the statements of a graph are numbered from 0, and those of a listing from 1
 abbrev pub place_text : Place → List ℕ
-place_text p = statement_name p.stmt ++ (codes "." ++ decimal p.at)
+place_text p = statement_name (p.stmt + 1) ++ (codes "." ++ decimal p.at)
 
 abbrev pub dependence_text : Dependence → List ℕ
 dependence_text d =

@@ -59,9 +59,9 @@ statement_entries s (t ∷ ts) = statement_entry s t ∷ statement_entries (suc 
 
 -- ---- dependences
 
--- how many loops are round a statement
+-- how many loops are round the statement with this number, from 0
 abbrev pub depth_of : List Standing → ℕ → ℕ
-depth_of ts s = elim (slice_get ts (s - 1)) [ Some t ↦ length t.loops | None ↦ 0 ]
+depth_of ts s = elim (slice_get ts s) [ Some t ↦ length t.loops | None ↦ 0 ]
 
 abbrev pub meeting_of : List Standing → Edge → Option Meeting
 meeting_of ts e = elim e.pair [

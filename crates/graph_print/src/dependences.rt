@@ -17,7 +17,7 @@ use subscripts::{Dirs, Point};
 fn push_place(text: &mut Vec<u8>, place: Place) -> Result<(), Memory>
     ensures { OnOk result (text.new.items ≡ text.old.items ++ place_text place) }
 {
-    push_statement(text, place.stmt as usize)?;
+    push_statement(text, place.stmt as usize + 1)?;
     push(text, b".")?;
     push_count(text, place.at as usize)
 }
@@ -75,11 +75,11 @@ fn push_level(text: &mut Vec<u8>, level: u8) -> Result<(), Memory>
     }
 }
 
-// How many loops are round a statement.
+// How many loops are round the statement with this number, from 0.
 fn depth_of(standings: &Seq<Standing>, s: u32) -> usize
     ensures { result ≡ depth_of (map standing_of standings.now) s }
 {
-    match standings.as_slice().get(s.saturating_sub(1) as usize) {
+    match standings.as_slice().get(s as usize) {
         Some(standing) => standing.loops.len(),
         None => 0,
     }

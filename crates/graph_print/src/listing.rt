@@ -96,8 +96,8 @@ impl Lines {
 }
 
 /// The listing of a nest with this number, its dependence graph, its holds and its cycles. The trip of a loop is its
-/// last iteration, since the loops of the nest go from 1 by 1; that of an edge's pair are those of the loops round its
-/// statements.
+/// last iteration, since the loops of the nest go from 1 by 1. The iterations of an edge's pair are those of the loops
+/// round its statements. Statements are numbered from 1; those of the graph are numbered from 0.
 pub fn lines(
     alloc: Global,
     nest: &Nest,

@@ -56,8 +56,9 @@ fn point(first: i64) -> Point {
     Point { at }
 }
 
+// A reference of the statement that is listed with this number.
 fn place(stmt: u32, at: u32) -> Place {
-    Place { stmt, at }
+    Place { stmt: stmt - 1, at }
 }
 
 // DO FV_LOOP_1 = 1, 9 with DO FV_LOOP_2 = 1, N in it, and a statement behind that one.
