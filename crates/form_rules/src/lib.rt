@@ -2,9 +2,11 @@
 #![tactic(auto)]
 
 mod canonical;
+mod nodes;
 mod replacement;
 #[cfg(test)]
 mod tests;
+mod trees;
 
 pub use canonical::Canonical;
 pub use replacement::Replacement;

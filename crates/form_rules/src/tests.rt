@@ -1,8 +1,8 @@
 //! Canonical text, node by node, and a loop's variable replaced.
 
 use crate::{Canonical, Replacement};
-use fv_rewrite::{Rule, rewrite_expression};
-use fv_tree::{Expr, Name, Op, Ref, Seq};
+use fv_rewrite::{Rule, rewrite, rewrite_expression};
+use fv_tree::{Block, Expr, Item, Name, Op, Ref, Seq, Stmt, Sub};
 use std::alloc::Global;
 use std::test::Fail;
 
@@ -90,6 +90,43 @@ fn replaces_a_variable(rt: HostRuntime) -> Result<(), Fail> {
     let made = canonical(alloc, &rewrite_expression(alloc, &written, &mut rule)?)?;
     let first = two(alloc, Op::Mul, Expr::Int(2), variable(alloc, b"I")?)?;
     let wanted = two(alloc, Op::Add, first, variable(alloc, b"N")?)?;
+    let text = format!(in rt.alloc(); "{made:?}")?;
+    assert_eq!(rt; text, format!(in rt.alloc(); "{wanted:?}")?);
+    Ok(())
+}
+
+// The element of A with this scalar as its subscript.
+fn element(alloc: Global, subscript: &[u8]) -> Result<Expr, Fail> {
+    let mut subs = Seq::new(alloc);
+    subs.push(Sub::One(variable(alloc, subscript)?))?;
+    Ok(Expr::Item(Ref {
+        name: name(b"A")?,
+        subs,
+    }))
+}
+
+// READ *, T, A(x)
+fn input(alloc: Global, x: &[u8]) -> Result<Block, Fail> {
+    let mut items = Seq::new(alloc);
+    items.push(Item::One(variable(alloc, b"T")?))?;
+    items.push(Item::One(element(alloc, x)?))?;
+    let mut stmts = Seq::new(alloc);
+    stmts.push(Stmt::Read { line: 1, items })?;
+    Ok(Block { stmts })
+}
+
+// With T_1 for T it is READ *, T, A(T_1): an item keeps its name.
+#[test]
+fn keeps_the_names_of_items(rt: HostRuntime) -> Result<(), Fail> {
+    let alloc = rt.alloc();
+    let mut rule = Replacement {
+        variable: name(b"T")?,
+        by: variable(alloc, b"T_1")?,
+        new: name(b"T_1")?,
+        fixed: Seq::new(alloc),
+    };
+    let made = rewrite(alloc, &input(alloc, b"T")?, &mut rule)?;
+    let wanted = input(alloc, b"T_1")?;
     let text = format!(in rt.alloc(); "{made:?}")?;
     assert_eq!(rt; text, format!(in rt.alloc(); "{wanted:?}")?);
     Ok(())
