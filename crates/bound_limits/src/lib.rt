@@ -7,8 +7,6 @@ mod forms;
 mod limits;
 mod numbers;
 mod places;
-#[cfg(test)]
-mod tests;
 mod walk;
 
 pub use around::Outer;
