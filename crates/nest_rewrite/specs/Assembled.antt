@@ -1,0 +1,8 @@
+-- A nest with other parts.
+use Rattle.std.specs.Prelude.{List}
+use Rattle.fv_tree.specs.Plain.{Block}
+use Rattle.nest_tree.specs.Plain.{Part, Made, Nest}
+
+-- another body, other made arrays, and another block after it
+unfoldable pub with_parts : Nest → Part → List Made → Block → Nest
+with_parts n p as' b = record n { body = p; made = as'; after = b }

@@ -1,0 +1,9 @@
+//! Rewriting of nests by a rule, as that of trees.
+#![tactic(auto)]
+
+mod expressions;
+mod nests;
+mod parts;
+
+pub use nests::rewrite_nest;
+pub use parts::{rewrite_part, rewrite_parts, rewrite_stmt, rewrite_test};

@@ -1,0 +1,6 @@
+pub mod Steps
+pub mod Combinations
+pub mod NormalLoops
+pub mod LastValues
+pub mod Texts
+pub mod Numbers
