@@ -1,0 +1,13 @@
+pub mod LoopLaws
+pub mod AffineLaws
+pub mod TextLaws
+pub mod ConstructorLaws
+pub mod SectionLaws
+pub mod SubscriptLaws
+pub mod PlacingLaws
+pub mod FormLaws
+pub mod ConditionLaws
+pub mod StatementLaws
+pub mod SurroundingLaws
+pub mod AskedLaws
+pub mod AnswerLaws

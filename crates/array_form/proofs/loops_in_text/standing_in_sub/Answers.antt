@@ -1,0 +1,12 @@
+use Rattle.std.proofs.Common.{◌∙◌, arith}
+use Rattle.fv_meaning.specs.Reads.{names_in_subscript}
+use Rattle.fv_tree.specs.View.{subscript_of}
+use Rattle.sections.proofs.AmongLaws.{among-is}
+use Rattle.array_form.proofs.LoopLaws.{standing_more}
+use Rattle.array_form.proofs.loops_in_text.standing_in_sub.Goals as goal
+
+pub loop-turns-preserved : goal.loop-turns-preserved
+loop-turns-preserved c =
+    let names = names_in_subscript (subscript_of c.args.sub.now) in
+    standing_more names c.args.loops.now c.loop-turns.turns-index c.turns-item.result c.loop-turns.those c.push_if.new.those c.stands_in_sub.result
+    (omega arith) c.turns-item.is (c.stands_in_sub.ensures ∙ among-is names c.turns-item.result.var) c.in_ok-push_if.ensures c.loop-turns.invariant

@@ -1,0 +1,9 @@
+-- The loops so far.
+use Rattle.std.proofs.Common.{◌≡◌, take}
+use Rattle.fv_meaning.specs.Reads.{names_in_subscript}
+use Rattle.fv_tree.specs.View.{subscript_of}
+use Rattle.array_form.specs.Loops.{standing_in}
+use Rattle.array_form.proofs.loops_in_text.standing_in_sub.Given as goal
+
+abbrev pub invariant-loop-turns : goal.invariant-loop-turns
+invariant-loop-turns l = l.those ≡ standing_in (take l.turns-index l.loops) (names_in_subscript (subscript_of l.sub))

@@ -1,0 +1,16 @@
+//! The array form of a statement of a nest (Allen and Kennedy, "Optimizing Compilers for Modern Architectures",
+//! section 2.4).
+#![tactic(auto)]
+
+mod conditions;
+mod constructors;
+mod expressions;
+mod loops_in_text;
+mod placing;
+mod section_bounds;
+mod statements;
+mod surroundings;
+mod trips;
+
+pub use statements::{array_form, statement_form};
+pub use surroundings::surroundings_in;

@@ -1,0 +1,118 @@
+//! Array forms of statements.
+ghost use Rattle.std.specs.Prelude.{◌≡◌, ◌≤◌, ◌<◌, ◌+◌, IfOk, Some, length};
+ghost use Rattle.std.specs.Option.{option_map};
+ghost use Rattle.fv_tree.specs.Plain.{Assignment};
+ghost use Rattle.fv_tree.specs.View.{block_of, expression_of, reference_of, statement_of};
+ghost use Rattle.nest_tree.specs.View.{nest_of};
+ghost use Rattle.array_forms.specs.Statements.{array_form_of, left_form, right_form};
+ghost use Rattle.sections.specs.Surroundings.{surroundings_view};
+ghost use Rattle.array_form.specs.Loops.{AreLoopsOf, HasPlaces};
+ghost use Rattle.array_form.specs.Statement.{HasArrayForm, array_form_at, block_of_one, under_condition};
+
+use crate::conditions::with_tests;
+use crate::expressions::{form, subscript_forms};
+use crate::loops_in_text::loops_in_order;
+use crate::surroundings::surroundings_in;
+use fv_tree::{Arm, Block, Expr, Mark, Memory, Ref, Seq, Stmt};
+use nest_tree::{GuardedStmt, Nest};
+use sections::Surroundings;
+use statement_loops::statements_of;
+use std::alloc::Global;
+
+#[tactic(auto, using(crate::proofs::StatementLaws::one_block))]
+fn block_of_one(alloc: Global, stmt: Stmt) -> Result<Block, Memory>
+    ensures { IfOk result (λ b. block_of b ≡ block_of_one (statement_of stmt)) }
+{
+    let mut stmts = Seq::new(alloc);
+    stmts.push(stmt)?;
+    Ok(Block { stmts })
+}
+
+#[tactic(auto, using(fv_tree::proofs::Equations::statement_equations))]
+fn under_condition(
+    alloc: Global,
+    line: u32,
+    condition: Option<Expr>,
+    body: Block,
+) -> Result<Block, Memory>
+    ensures { IfOk result (λ b. block_of b
+        ≡ under_condition line (option_map expression_of condition) (block_of body)) }
+{
+    match condition {
+        None => Ok(body),
+        Some(test) => {
+            let mut arms = Seq::new(alloc);
+            arms.push(Arm { test, body })?;
+            let other = Block {
+                stmts: Seq::new(alloc),
+            };
+            block_of_one(alloc, Stmt::If { line, arms, other })
+        }
+    }
+}
+
+// The assignment with the loops from this place on, counted from 0, in array form.
+fn formed_assignment(
+    alloc: Global,
+    a: &Surroundings,
+    from: usize,
+    mark: Mark,
+    stmt: &GuardedStmt,
+) -> Result<Stmt, Memory>
+    requires places { HasPlaces a.now }
+    requires loops { AreLoopsOf a.now a.now.loops }
+    requires from { from ≤ length a.now.loops }
+    ensures { IfOk result (λ c. statement_of c ≡ Assignment stmt.now.line (Some mark)
+        (left_form (surroundings_view a.now) (from + 1) (reference_of stmt.now.left))
+        (right_form (surroundings_view a.now) (from + 1) (reference_of stmt.now.left) (expression_of stmt.now.right))) }
+{
+    let over = loops_in_order(alloc, &a.loops.as_slice()[from..], &stmt.left.subs)?;
+    let left = Ref {
+        name: stmt.left.name,
+        subs: subscript_forms(alloc, a, over.as_slice(), &stmt.left.subs)?,
+    };
+    let right = form(alloc, a, over.as_slice(), &stmt.right)?;
+    Ok(Stmt::Assign {
+        line: stmt.line,
+        mark: Some(mark),
+        left,
+        right,
+    })
+}
+
+/// An assignment in array form with its loops from this place on, which counts from 0. Its guard isn't looked at.
+pub fn statement_form(
+    alloc: Global,
+    a: &Surroundings,
+    from: usize,
+    mark: Mark,
+    stmt: &GuardedStmt,
+) -> Result<Block, Memory>
+    requires places { HasPlaces a.now }
+    requires loops { AreLoopsOf a.now a.now.loops }
+    requires from { from ≤ length a.now.loops }
+    ensures { IfOk result (λ b. block_of b ≡ array_form_of (surroundings_view a.now) (from + 1) stmt.now.line
+        (Some mark) (reference_of stmt.now.left) (expression_of stmt.now.right)) }
+{
+    let body = block_of_one(alloc, formed_assignment(alloc, a, from, mark, stmt)?)?;
+    let condition = with_tests(alloc, a, None, &a.loops.as_slice()[from..])?;
+    under_condition(alloc, stmt.line, condition, body)
+}
+
+/// The array form of a statement of a nest at a level, which counts its loops from the outside in from 1: the loops from
+/// there on become array sections, constructors and array functions (ISO/IEC 1539:1991, sections 4.5, 6.2.2 and 13.13),
+/// under an IF on those of their trips that aren't positive constants.
+pub fn array_form(alloc: Global, s: u32, nest: &Nest, level: usize) -> Result<Block, Memory>
+    requires { HasArrayForm (nest_of nest.now) s level }
+    ensures { IfOk result (λ b. block_of b ≡ array_form_at (nest_of nest.now) s level) }
+{
+    let all = statements_of(alloc, nest)?;
+    let standing = &all.as_slice()[s as usize - 1];
+    let a = surroundings_in(alloc, nest, &standing.loops)?;
+    let mark = Mark {
+        nest: nest.number,
+        stmt: s,
+        level: level as u32,
+    };
+    statement_form(alloc, &a, level - 1, mark, &standing.stmt)
+}

@@ -1,0 +1,3 @@
+pub mod Lists
+pub mod Emitted
+pub mod Ordered

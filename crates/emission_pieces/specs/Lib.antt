@@ -1,0 +1,6 @@
+pub mod Levels
+pub mod Nests
+pub mod Pieces
+pub mod Emission
+pub mod Shapes
+pub mod Laws
