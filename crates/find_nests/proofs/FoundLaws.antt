@@ -1,14 +1,14 @@
 -- What is found, loop by loop.
-use Rattle.std.proofs.Common.{◌≡◌, ℕ, zero, suc, ◌<◌, Bool, true, false, cond, ◌||◌, ◌&&◌, not, Option, Some, None, List, [], ◌∷◌, map, filter, length, get_or, Contains, refl, sym, ap, ◌∙◌, subst, arith}
+use Rattle.std.proofs.Common.{◌≡◌, ℕ, zero, suc, ◌<◌, Bool, true, false, cond, Option, Some, None, List, [], ◌∷◌, map, filter, length, get_or, Contains, refl, sym, ap, ◌∙◌, arith}
 use Rattle.fv_tree.specs.Plain.{Program, Statement, Declaration}
 use Rattle.nest_tree.specs.Plain.{Nest}
 use Rattle.nest_parts.specs.Numbers.{next}
 use Rattle.find_nests.specs.declared.reasons.Reason.{Reason}
 use Rattle.find_nests.specs.declared.reasons.Reason.TheVariants.{Exit, InnerIf, Bound, Step, Deep, Large}
-use Rattle.find_nests.specs.Reasons.{has_reason, first_that_holds, reasons, reason_over}
+use Rattle.find_nests.specs.Reasons.{has_reason, first_that_holds, reasons}
 use Rattle.find_nests.specs.Loops.{Numbered, Placed, loops_in_block, is_in_no_nest, reason_of, looked_at}
-use Rattle.find_nests.specs.Found.{Found, InNest, Kept, found_as, nests_with, found_among, found_in, nest_of_loop}
-use Rattle.find_nests.specs.Laws.{IsFoundNest, IsFoundKept, FoundNestIsLoop, KeptIsLoop, NoReasonHolds, ReasonHolds}
+use Rattle.find_nests.specs.Found.{InNest, Kept, found_as, nests_with, found_among, nest_of_loop}
+use Rattle.find_nests.specs.Laws.{FoundNestIsLoop, KeptIsLoop, NoReasonHolds, ReasonHolds}
 
 later : {A : Type 0} (x y : A) (xs : List A) → Contains xs y → Contains (x ∷ xs) y
 later x y xs h = (suc h.0, omega (arith, h.1), h.2)

@@ -1,5 +1,5 @@
 -- What is known of what is found.
-use Rattle.std.specs.Prelude.{◌≡◌, ℕ, Option, Some, None, true, false, List, [], Contains}
+use Rattle.std.specs.Prelude.{◌≡◌, ℕ, Some, None, true, false, List, [], Contains}
 use Rattle.fv_tree.specs.Plain.{Program, Statement}
 use Rattle.nest_tree.specs.Plain.{Nest}
 use Rattle.find_nests.specs.declared.reasons.Reason.{Reason}

@@ -34,10 +34,12 @@ abbrev mutual
   pub loops_in : ℕ → List SourceLoop → Statement → List Placed
   loops_in k around (Assignment line mark left right) = []
   loops_in k around (Where line mark mask left right) = []
-  loops_in k around (If line arms other) = loops_in_arms k around arms ++ loops_in_block (after_arms k arms) around other
+  loops_in k around (If line arms other) =
+      loops_in_arms k around arms ++ loops_in_block (after_arms k arms) around other
   loops_in k around (Do line x a b c body) =
       let l : SourceLoop = record { line = line; variable = x; first = a; last = b; step = c; body = body } in
-      record { around = around; loop = record { before = k; loop = l } } ∷ loops_in_block (next k) (around ++ l ∷ []) body
+      record { around = around; loop = record { before = k; loop = l } }
+      ∷ loops_in_block (next k) (around ++ l ∷ []) body
   loops_in k around (Label n) = []
   loops_in k around (GoTo line n) = []
   loops_in k around (Stop line) = []

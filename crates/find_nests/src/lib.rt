@@ -5,8 +5,6 @@
 mod laws;
 mod reasons;
 mod search;
-#[cfg(test)]
-mod tests;
 
 pub use laws::{found_kept, found_nest, no_reason, reason_given};
 pub use reasons::Reason;

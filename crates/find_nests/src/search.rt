@@ -14,7 +14,7 @@ use nest_reasons::symbols_of;
 use nest_tree::{Nest, copy_decls};
 use std::alloc::Global;
 
-/// What is found of a loop that stands in no nest: a nest, or a kept loop with its line and the first reason that holds.
+/// What is found of a loop that stands in no nest: a nest, or a kept loop by its line and the first reason that holds.
 #[derive(Debug, Drop)]
 pub enum Found {
     Nest(Nest),

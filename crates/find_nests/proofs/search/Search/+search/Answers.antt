@@ -1,4 +1,4 @@
-use Rattle.std.proofs.Common.{◌≡◌, ◌∙◌, ◌+◌, ◌≤◌, ap, sym, map, length, Option, Some, None, List, [], ◌∷◌, ◌++◌, rules, arith}
+use Rattle.std.proofs.Common.{◌≡◌, ◌∙◌, ◌≤◌, ap, sym, map, length, Some, None, [], ◌∷◌, ◌++◌, rules, arith}
 use Rattle.std.proofs.lemmas.List.{length-map}
 use Rattle.fv_tree.specs.View.{expression_of, declaration_of, statement_of, block_of, program_of}
 use Rattle.fv_tree.specs.declared.stmts.Stmt.TheVariants as stmts

@@ -1,0 +1,6 @@
+//! Laws of nests and the loops that they come from.
+#![tactic(auto)]
+
+mod laws;
+
+pub use laws::{nest_of_loop, parts_of_statements};
