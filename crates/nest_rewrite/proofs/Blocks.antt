@@ -76,6 +76,6 @@ module _ (m : Making) where
   block_of_rewritten n h =
       let rest = ap (block_then (made_block m n.after)) (deallocations_made n.line n.made) ∙ then_made n.after (deallocations n.line n.made) in
       let all = ap (λ c. statement c (block_then (made_block m n.after) (deallocations n.line (map (rewritten_array m) n.made)))) (part_made n.line n.body h)
-          ∙ ap (statement (made_statement m (statement_of_part n.line n.body))) rest in
+      ∙ ap (statement (made_statement m (statement_of_part n.line n.body))) rest in
       ap (allocations_then n.line (map (rewritten_array m) n.made)) all
       ∙ allocations_made n.line n.made (statement (statement_of_part n.line n.body) (block_then n.after (deallocations n.line n.made)))

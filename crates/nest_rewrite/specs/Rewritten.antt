@@ -1,4 +1,4 @@
--- What a rule makes of a nest: of each expression in it and of each left side, with loops, labels and jumps as they are.
+-- What a rule makes of a nest: of each expression and each left side in it, with loops, labels and jumps as they are.
 use Rattle.std.specs.Prelude.{◌≡◌, ℕ, List, map}
 use Rattle.std.specs.Option.{option_map}
 use Rattle.fv_tree.specs.Plain.{Declaration, Program}
