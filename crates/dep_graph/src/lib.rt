@@ -5,8 +5,6 @@
 mod graphs;
 mod lines;
 mod pairs;
-#[cfg(test)]
-mod tests;
 mod vectors;
 
 pub use graphs::graph;
