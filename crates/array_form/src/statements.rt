@@ -99,9 +99,9 @@ pub fn statement_form(
     under_condition(alloc, stmt.line, condition, body)
 }
 
-/// The array form of a statement of a nest at a level, which counts its loops from the outside in from 1: the loops from
-/// there on become array sections, constructors and array functions (ISO/IEC 1539:1991, sections 4.5, 6.2.2 and 13.13),
-/// under an IF on those of their trips that aren't positive constants.
+/// The array form of a statement of a nest at a level, which counts its loops from the outside in from 1: the loops
+/// from there on become array sections, constructors and array functions (ISO/IEC 1539:1991, sections 4.5, 6.2.2 and
+/// 13.13), under an IF on those of their trips that aren't positive constants.
 pub fn array_form(alloc: Global, s: u32, nest: &Nest, level: usize) -> Result<Block, Memory>
     requires { HasArrayForm (nest_of nest.now) s level }
     ensures { IfOk result (λ b. block_of b ≡ array_form_at (nest_of nest.now) s level) }

@@ -1,6 +1,6 @@
 -- Which dependences are at work at a level, and the components of statements there (Allen and Kennedy, "Optimizing
--- Compilers for Modern Architectures", section 2.4). Statements are counted from 0 in the order of the text, levels from
--- 1 from the outside in; the level of a loop independent edge is 0.
+-- Compilers for Modern Architectures", section 2.4). Statements are counted from 0 in the order of the text, levels
+-- from 1 from the outside in; the level of a loop independent edge is 0.
 use Rattle.std.specs.Prelude.{◌≡◌, ◌↔◌, ◌<◌, ◌+◌, ℕ, ◌==◌, nat_le, Bool, true, false, not, ◌&&◌, ◌||◌, List, length}
 use Rattle.std.specs.Prelude.{slice_index}
 use Rattle.std.specs.List.{list_any}
