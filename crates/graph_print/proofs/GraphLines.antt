@@ -1,14 +1,14 @@
 -- The lines of edges and drops.
-use Rattle.std.proofs.Common.{◌≡◌, ℕ, suc, ◌+◌, ◌<◌, ◌≤◌, Bool, true, false, if◌then◌else◌, List, [], ◌∷◌, ◌++◌, map, take, drop, length, get_or, refl, sym, ap, ◌∙◌, append_assoc, add-one}
+use Rattle.std.proofs.Common.{◌≡◌, ℕ, suc, ◌+◌, ◌<◌, ◌≤◌, true, false, if◌then◌else◌, List, [], ◌∷◌, ◌++◌, map, take, drop, length, get_or, refl, sym, ap, ◌∙◌, append_assoc, add-one}
 use Rattle.std.proofs.Math.Seq.{drop-cons}
-use Rattle.std.proofs.lemmas.List.{append-nil, drop_all, map-append}
+use Rattle.std.proofs.lemmas.List.{drop_all, map-append}
 use Rattle.components.specs.declared.graphs.Dropped.{Dropped}
 use Rattle.components.specs.declared.graphs.Edge.{Edge}
 use Rattle.components.specs.declared.graphs.Graph.{Graph}
 use Rattle.nest_tree.specs.Bodies.{Standing}
-use Rattle.graph_print.specs.Lines.{Entry, entry_text}
+use Rattle.graph_print.specs.Lines.{entry_text}
 use Rattle.graph_print.specs.Listing.{answer_entry, dependence_entries, drop_entry, edge_entry, lines_of_entries, lines_of_entry, lines_of_text}
-use Rattle.graph_print.specs.Order.{Answered, Found, RuledOut, before, not_before, comes_before, in_order}
+use Rattle.graph_print.specs.Order.{Found, RuledOut, before, not_before, comes_before, in_order}
 use Rattle.graph_print.proofs.LoopLines.{entries-append, one_more}
 
 next-drop : (ds : List Dropped) (k : ℕ) (d : Dropped) → k < length ds → d ≡ get_or ds k d → drop k ds ≡ d ∷ drop (k + 1) ds

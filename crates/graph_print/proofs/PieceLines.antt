@@ -1,5 +1,5 @@
 -- How a text is cut into lines.
-use Rattle.std.proofs.Common.{◌≡◌, ℕ, suc, ◌-◌, ◌/◌, ◌<◌, ◌≤◌, List, [], ◌∷◌, ◌++◌, length, take, drop, refl, ap, ◌∙◌, arith, codes, length-drop}
+use Rattle.std.proofs.Common.{◌≡◌, ℕ, suc, ◌-◌, ◌/◌, ◌<◌, ◌≤◌, List, [], ◌∷◌, ◌++◌, length, take, drop, ap, arith, codes, length-drop}
 use Rattle.graph_print.specs.Listing.{pieces, lines_from}
 
 pub short-lines : (first t : List ℕ) → length t ≤ 120 → lines_from first t ≡ (first ++ t) ∷ []

@@ -56,9 +56,9 @@ fn point(first: i64) -> Point {
     Point { at }
 }
 
-// A reference of the statement that is listed with this number.
+// Statements are counted from 0 here.
 fn place(stmt: u32, at: u32) -> Place {
-    Place { stmt: stmt - 1, at }
+    Place { stmt, at }
 }
 
 // DO FV_LOOP_1 = 1, 9 with DO FV_LOOP_2 = 1, N in it, and a statement behind that one.
@@ -87,8 +87,8 @@ fn nest(alloc: Global) -> Result<Nest, Fail> {
 fn graph(alloc: Global) -> Result<Graph, Fail> {
     let mut edges = Seq::new(alloc);
     edges.push(Edge {
-        from: place(1, 0),
-        to: place(2, 2),
+        from: place(0, 0),
+        to: place(1, 2),
         kind: Dep::Flow,
         array: name(b"A")?,
         dirs: dirs(1, Dir::Eq, Dir::Any),
@@ -97,8 +97,8 @@ fn graph(alloc: Global) -> Result<Graph, Fail> {
         pair: None,
     })?;
     edges.push(Edge {
-        from: place(2, 0),
-        to: place(2, 1),
+        from: place(1, 0),
+        to: place(1, 1),
         kind: Dep::Flow,
         array: name(b"B")?,
         dirs: dirs(1, Dir::Lt, Dir::Any),
@@ -108,16 +108,16 @@ fn graph(alloc: Global) -> Result<Graph, Fail> {
     })?;
     let mut dropped = Seq::new(alloc);
     dropped.push(Dropped {
-        from: place(1, 1),
-        to: place(1, 0),
+        from: place(0, 1),
+        to: place(0, 0),
         kind: Dep::Anti,
         array: name(b"A")?,
         dirs: dirs(2, Dir::Lt, Dir::Any),
         test: Test::Delta,
     })?;
     dropped.push(Dropped {
-        from: place(2, 1),
-        to: place(2, 0),
+        from: place(1, 1),
+        to: place(1, 0),
         kind: Dep::Anti,
         array: name(b"B")?,
         dirs: dirs(1, Dir::Lt, Dir::Any),

@@ -1,5 +1,5 @@
 -- Each entry is read from its text.
-use Rattle.std.proofs.Common.{◌≡◌, ℕ, zero, suc, ◌<◌, ℤ, Bool, true, false, Option, Some, None, List, [], ◌∷◌, ◌++◌, map, length, refl, sym, ap, subst, ◌∙◌, append_assoc, codes, decimal, arith}
+use Rattle.std.proofs.Common.{◌≡◌, ℕ, ℤ, Option, Some, None, List, [], ◌∷◌, ◌++◌, refl, sym, ap, subst, ◌∙◌, append_assoc, codes, decimal, arith}
 use Rattle.std.specs.Fmt.{signed_decimal}
 use Rattle.std.specs.List.{AllByRecursion, flat_map}
 use Rattle.subscripts.specs.declared.affine.Dir.{Dir}
@@ -13,11 +13,11 @@ use Rattle.components.specs.declared.graphs.Hold.{Hold}
 use Rattle.components.specs.declared.graphs.HoldReason.{HoldReason}
 use Rattle.components.specs.declared.graphs.HoldReason.TheVariants.{Form, Triangle, Bounds}
 use Rattle.graph_print.specs.Words.{kind_word, test_word, hold_word, sign_of}
-use Rattle.graph_print.specs.Lines.{Dependence, Meeting, Entry, NestEntry, LoopEntry, StatementEntry, EdgeEntry, DropEntry, HoldEntry, CycleEntry, KeepEntry, entry_text, tuple_text, statement_name, place_text, dependence_text, level_text, meeting_text, walk_text, blank_then}
+use Rattle.graph_print.specs.Lines.{Dependence, Meeting, NestEntry, LoopEntry, StatementEntry, EdgeEntry, DropEntry, HoldEntry, CycleEntry, KeepEntry, entry_text, tuple_text, statement_name, place_text, dependence_text, level_text, meeting_text, walk_text}
 use Rattle.std.proofs.lemmas.List.{append-nil}
-use Rattle.listing_reader.specs.Listable.{IsSmall, IsSmallInteger, Lacks, IsWord, IsListable, IsListableDependence, IsListableHold, IsListablePair}
+use Rattle.listing_reader.specs.Listable.{IsSmall, IsSmallInteger, Lacks, IsWord, IsListableDependence, IsListableHold, IsListablePair}
 use Rattle.listing_reader.specs.Laws.{EntryIsRead}
-use Rattle.listing_reader.specs.Reader.{word, rest, last_word, before_last, tuple, number, signed_number, named, kinds, tests, reasons, sign, statement_number, place, level, meeting, dependence, behind_dependence, kind_in, edge_with, drop_with, hold_with, nest_in, loop_in, statement_in, edge_in, drop_in, hold_in, cycle_in, keep_in, walk_in, read_entry}
+use Rattle.listing_reader.specs.Reader.{word, rest, last_word, before_last, tuple, number, signed_number, named, kinds, tests, reasons, sign, statement_number, place, level, meeting, dependence, behind_dependence, kind_in, edge_with, drop_with, hold_with, nest_in, loop_in, statement_in, edge_in, drop_in, hold_in, cycle_in, keep_in, walk_in}
 use Rattle.listing_reader.proofs.Parts.{IsReadBetween, until-then, until-all, behind-then, behind-all, lacks-append, last-word, before-last, split-list, tuple-read}
 use Rattle.listing_reader.proofs.Numbers.{number-lacks, number-read, number-between, signed-between, statement-lacks, statement-read, statement-between, place-lacks, place-read, level-read, level-lacks}
 

@@ -1,14 +1,14 @@
 -- Numbers are read from their texts.
-use Rattle.std.proofs.Common.{◌≡◌, ℕ, zero, suc, ◌+◌, ◌-◌, ◌<◌, ◌≤◌, ◌==◌, ◌^◌, ℤ, pos, negsuc, neg_ℤ, nat_abs, Bool, true, false, if◌then◌else◌, List, [], ◌∷◌, ◌++◌, length, get_or, refl, sym, ap, subst, ◌∙◌, codes, decimal, arith}
+use Rattle.std.proofs.Common.{◌≡◌, ℕ, zero, suc, ◌+◌, ◌-◌, ◌<◌, ℤ, pos, negsuc, neg_ℤ, if◌then◌else◌, List, [], ◌∷◌, length, refl, ap, ◌∙◌, decimal, arith}
 use Rattle.std.proofs.lemmas.Bool.{ne_eqb}
 use Rattle.std.proofs.lemmas.Fmt.{decimal_is_IsNumeral}
 use Rattle.std.proofs.lemmas.Str.Parse.{digit_at}
 use Rattle.std.specs.Fmt.{signed_decimal}
-use Rattle.std.specs.Str.Parse.{AllDigits, digits_value}
+use Rattle.std.specs.Str.Parse.{AllDigits}
 use Rattle.components.specs.declared.graphs.Place.{Place}
 use Rattle.graph_print.specs.Lines.{statement_name, place_text, level_text}
-use Rattle.listing_reader.specs.Listable.{IsSmall, IsSmallInteger, Lacks, IsWord, IsListablePlace}
-use Rattle.listing_reader.specs.Reader.{until, behind, number, signed_number, statement_number, place, level}
+use Rattle.listing_reader.specs.Listable.{IsSmall, IsSmallInteger, Lacks, IsListablePlace}
+use Rattle.listing_reader.specs.Reader.{behind, number, signed_number, statement_number, place, level}
 use Rattle.listing_reader.proofs.Parts.{IsReadBetween, until-then, behind-then, lacks-append}
 
 digits-lack : (b : ℕ) (ds : List ℕ) → b < 48 → AllDigits 10 ds → Lacks b ds

@@ -1,12 +1,12 @@
 -- Texts in parts, and their parts.
-use Rattle.std.proofs.Common.{◌≡◌, ℕ, zero, suc, ◌+◌, ◌-◌, ◌<◌, ◌==◌, Bool, true, false, if◌then◌else◌, List, [], ◌∷◌, ◌++◌, map, take, drop, length, reverse, refl, sym, ap, subst, ◌∙◌, append_assoc, codes, arith}
+use Rattle.std.proofs.Common.{◌≡◌, ℕ, ◌<◌, ◌==◌, true, if◌then◌else◌, List, [], ◌∷◌, ◌++◌, map, take, length, reverse, refl, sym, ap, subst, ◌∙◌, append_assoc, codes, arith}
 use Rattle.std.proofs.lemmas.Bool.Decides.{nat_tests}
 use Rattle.std.proofs.Math.Seq.{take-append_seam}
 use Rattle.std.proofs.lemmas.List.{append-nil, length-append, reverse-append}
 use Rattle.std.specs.List.{AllByRecursion, flat_map}
 use Rattle.graph_print.specs.Lines.{tuple_text}
 use Rattle.listing_reader.specs.Listable.{Lacks, IsWord}
-use Rattle.listing_reader.specs.Reader.{until, behind, word, rest, last_word, before_last, onto, split, or_nothing, inner, tuple}
+use Rattle.listing_reader.specs.Reader.{until, behind, last_word, before_last, onto, split, or_nothing, inner, tuple}
 
 pub same : (c : ℕ) → (c == c) ≡ true
 same c = grind (arith, nat_tests)

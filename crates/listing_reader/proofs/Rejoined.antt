@@ -1,12 +1,12 @@
 -- The lines of a text are one text again.
-use Rattle.std.proofs.Common.{◌≡◌, ℕ, zero, suc, ◌==◌, Bool, true, false, ◌&&◌, if◌then◌else◌, Some, List, [], ◌∷◌, ◌++◌, map, take, drop, codes, refl, sym, ap, ◌∙◌, append_assoc}
+use Rattle.std.proofs.Common.{◌≡◌, ℕ, zero, suc, ◌==◌, true, false, ◌&&◌, if◌then◌else◌, Some, List, [], ◌∷◌, ◌++◌, map, take, drop, codes, refl, sym, ap, ◌∙◌, append_assoc}
 use Rattle.std.proofs.lemmas.List.{append-nil, take-append-drop}
-use Rattle.std.specs.List.{AllByRecursion, flat_map}
+use Rattle.std.specs.List.{AllByRecursion}
 use Rattle.graph_print.specs.Lines.{Entry, NestEntry, LoopEntry, StatementEntry, EdgeEntry, DropEntry, HoldEntry, CycleEntry, KeepEntry, entry_text}
 use Rattle.graph_print.specs.Listing.{pieces, lines_from, lines_of_entry, lines_of_entries}
 use Rattle.listing_reader.specs.Laws.{ListingIsRead}
 use Rattle.listing_reader.specs.Listable.{IsListable}
-use Rattle.listing_reader.specs.Reader.{more_of, texts_of, read_entry, read_listing}
+use Rattle.listing_reader.specs.Reader.{more_of, texts_of, read_entry}
 use Rattle.listing_reader.proofs.Entries.{entry-is-read}
 
 more-further : (n : ℕ) (t : List ℕ) (rest : List (List ℕ)) → more_of (pieces (codes "!G + ") n t ++ rest) ≡ t ++ more_of rest

@@ -5,7 +5,6 @@ use Rattle.components.specs.declared.graphs.Hold.{Hold}
 use Rattle.components.specs.declared.graphs.Place.{Place}
 use Rattle.graph_print.specs.Lines.{Dependence, Meeting, Entry, NestEntry, LoopEntry, StatementEntry, EdgeEntry}
 use Rattle.graph_print.specs.Lines.{DropEntry, HoldEntry, CycleEntry, KeepEntry}
-use Rattle.subscripts.specs.declared.affine.Dir.{Dir}
 
 abbrev pub IsSmall : ℕ → Type 0
 IsSmall n = n < 2 ^ 63

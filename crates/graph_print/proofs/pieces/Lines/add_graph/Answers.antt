@@ -1,9 +1,7 @@
-use Rattle.std.proofs.Common.{map, arith, ap, sym, ◌∙◌}
+use Rattle.std.proofs.Common.{map, arith}
 use Rattle.f90_print.specs.Notes.{text_of}
 use Rattle.statement_loops.specs.Standings.{standing_of}
-use Rattle.graph_print.specs.Listing.{drop_entry, lines_of_entries, lines_from, edge_entry, answer_entry}
-use Rattle.graph_print.specs.Lines.{entry_text}
-use Rattle.graph_print.proofs.GraphLines.{edge-taken, edges-taken, with-drops}
+use Rattle.graph_print.proofs.GraphLines.{edges-taken, with-drops}
 use Rattle.graph_print.proofs.pieces.Lines.add_graph.Goals as goal
 
 pub loop-edge-preserved : goal.loop-edge-preserved
