@@ -4,3 +4,6 @@ pub mod HeldLaws
 pub mod ValueLaws
 pub mod ArrayLaws
 pub mod TurnLaws
+pub mod Weights
+pub mod EvaluationLaws
+pub mod NodeLaws

@@ -51,7 +51,7 @@ module _ (x : List ℕ) (f : Run) (s : Store) where
   unfolding turn
   joined_fault z zs g e = ap (λ (q : Result (List Value) Fault). do vss ← (do v ← q; vs ← each (λ z. cond (fits 31 z) (f (bound_to x z s)) (Err Overflow)) zs; Ok (v ∷ vs)); Ok (joined vss)) e
 
-  count_more : (z u : ℤ) → z ≤ℤ u → not_negative (u -ℤ z +ℤ pos 1) ≡ suc (not_negative (u -ℤ (z +ℤ pos 1) +ℤ pos 1))
+  pub count_more : (z u : ℤ) → z ≤ℤ u → not_negative (u -ℤ z +ℤ pos 1) ≡ suc (not_negative (u -ℤ (z +ℤ pos 1) +ℤ pos 1))
   count_more z u l = by (u -ℤ z +ℤ pos 1) (u -ℤ (z +ℤ pos 1) +ℤ pos 1) (omega (arith, ints)) (omega (arith, ints))
     where
       by : (n m : ℤ) → n ≡ m +ℤ pos 1 → pos 0 ≤ℤ m → not_negative n ≡ suc (not_negative m)

@@ -7,7 +7,7 @@ use Rattle.fv_tree.specs.declared.functions.Fun.{Fun}
 use Rattle.fv_tree.specs.declared.functions.Red.{Red}
 use Rattle.fv_tree.specs.declared.ops.Value.{Value}
 use Rattle.fv_tree.specs.declared.ops.Fault.{Fault}
-use Rattle.fv_meaning.specs.ArrayValues.{Array, Elements, in_whole}
+use Rattle.fv_meaning.specs.ArrayValues.{Array, Elements, in_whole, reshaped}
 use Rattle.fv_meaning.specs.Dialect.{fortran90}
 use Rattle.fv_meaning.specs.Sections.{axes_selected, extents_of, cells_along, not_negative}
 use Rattle.fv_meaning.specs.Store.{Store, cell_at, bounds_of}
@@ -87,6 +87,12 @@ extents_at es s = do
   xs ← values_of fortran90 es s
   zs ← as_numbers xs
   Ok (map not_negative zs)
+
+-- the array with the extents that these values are
+abbrev pub reshaped_to : List Value → Array → Result (Elements Value) Fault
+reshaped_to vs a = do
+  zs ← as_numbers vs
+  reshaped (map not_negative zs) a
 
 -- all elements of an array
 abbrev pub whole_of : Expression → Store → Result Array Fault
