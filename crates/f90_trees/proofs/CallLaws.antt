@@ -11,12 +11,12 @@ use Rattle.f90_trees.specs.Calls.{Shape, Listing, Other, shape_of, Entry, Value,
 
 -- ---- the shapes of parts
 
-abbrev part_shape : phrases.Part → Option Shape
+abbrev pub part_shape : phrases.Part → Option Shape
 part_shape (phrases.Value p) = Some (shape_of p)
 part_shape (phrases.Range a b) = None
 part_shape (phrases.Strided a b c) = None
 
-abbrev part_shapes : phrases.Parts → List (Option Shape)
+abbrev pub part_shapes : phrases.Parts → List (Option Shape)
 part_shapes (phrases.One p) = part_shape p ∷ []
 part_shapes (phrases.Then ps p) = part_shapes ps ++ part_shape p ∷ []
 
@@ -160,7 +160,7 @@ suit_function (Some (Reduction g)) ps h = suit_values ps h
 
 -- ---- the stack
 
-abbrev parts_on : List (Option Shape) → List Entry → List Entry
+abbrev pub parts_on : List (Option Shape) → List Entry → List Entry
 parts_on [] st = st
 parts_on (s ∷ ss) st = parts_on ss (Part s ∷ st)
 
@@ -190,7 +190,7 @@ within a x y e = ap (λ (o : Option _). cond a o None) e
 
 module _ (f : List ℕ → Option Intrinsic) where
   abbrev mutual
-    good : Phrase → Bool
+    pub good : Phrase → Bool
     good (phrases.Literal t) = true
     good (phrases.Truth b) = true
     good (phrases.Name x) = true
@@ -206,7 +206,7 @@ module _ (f : List ℕ → Option Intrinsic) where
     good_part (phrases.Range a b) = good a && good b
     good_part (phrases.Strided a b c) = good a && (good b && good c)
 
-    good_parts : phrases.Parts → Bool
+    pub good_parts : phrases.Parts → Bool
     good_parts (phrases.One p) = good_part p
     good_parts (phrases.Then ps p) = good_parts ps && good_part p
 
@@ -229,7 +229,7 @@ module _ (f : List ℕ → Option Intrinsic) where
   ends_list : (x : List ℕ) (ss : List (Option Shape)) (r : List Node) (st : List Entry)
       → check_all f (flats.Listed x ∷ r) (parts_on ss (Mark ∷ st)) ≡ cond (suits (f x) ss) (check_all f r (Value Other ∷ st)) None
   ends_list x ss r st =
-      ap (λ (o : Option Parts). checked_on f (listed f x o) (check_all f r)) (parts_taken ss [] (Mark ∷ st))
+      ap (λ (o : Option Parts). checked_on f (listed (f x) o) (check_all f r)) (parts_taken ss [] (Mark ∷ st))
       ∙ (ap (λ (q : List (Option Shape)). checked_on f (cond (suits (f x) q) (Some (Value Other ∷ st)) None) (check_all f r)) (append-nil ss)
       ∙ ends_by (suits (f x) ss) r st)
 
@@ -305,7 +305,7 @@ module _ (f : List ℕ → Option Intrinsic) where
   -- ---- which calls suit
 
   mutual
-    suit : (p : Phrase) → good p ≡ true → SuitsCalls f p
+    pub suit : (p : Phrase) → good p ≡ true → SuitsCalls f p
     suit (phrases.Literal t) h = tt
     suit (phrases.Truth b) h = tt
     suit (phrases.Name x) h = tt
@@ -324,7 +324,7 @@ module _ (f : List ℕ → Option Intrinsic) where
         let k = and_parts (good a) (good b && good c) h in
         let m = and_parts (good b) (good c) k.1 in (suit a k.0, suit b m.0, suit c m.1)
 
-    suit_parts : (ps : phrases.Parts) → good_parts ps ≡ true → PartsSuitCalls f ps
+    pub suit_parts : (ps : phrases.Parts) → good_parts ps ≡ true → PartsSuitCalls f ps
     suit_parts (phrases.One p) h = suit_part p h
     suit_parts (phrases.Then ps p) h = let k = and_parts (good_parts ps) (good_part p) h in (suit_parts ps k.0, suit_part p k.1)
 
@@ -341,7 +341,7 @@ module _ (f : List ℕ → Option Intrinsic) where
         let m = and_parts (good a) (good b) k.1 in (suit_turn t k.0, suit a m.0, suit b m.1)
 
   mutual
-    is_good : (p : Phrase) → SuitsCalls f p → good p ≡ true
+    pub is_good : (p : Phrase) → SuitsCalls f p → good p ≡ true
     is_good (phrases.Literal t) h = refl
     is_good (phrases.Truth b) h = refl
     is_good (phrases.Name x) h = refl
@@ -358,7 +358,7 @@ module _ (f : List ℕ → Option Intrinsic) where
     part_good (phrases.Strided a b c) h =
         and_from (good a) (good b && good c) (is_good a h.0) (and_from (good b) (good c) (is_good b h.1) (is_good c h.2))
 
-    are_good : (ps : phrases.Parts) → PartsSuitCalls f ps → good_parts ps ≡ true
+    pub are_good : (ps : phrases.Parts) → PartsSuitCalls f ps → good_parts ps ≡ true
     are_good (phrases.One p) h = part_good p h
     are_good (phrases.Then ps p) h = and_from (good_parts ps) (good_part p) (are_good ps h.0) (part_good p h.1)
 
@@ -372,7 +372,7 @@ module _ (f : List ℕ → Option Intrinsic) where
     turn_good (phrases.Round t x a b) h =
         and_from (good_turn t) (good a && good b) (turn_good t h.0) (and_from (good a) (good b) (is_good a h.1) (is_good b h.2))
 
-  told : (p : Phrase) → check_all f (flat p) [] ≡ cond (good p) (Some (Value (shape_of p) ∷ [])) None
+  pub told : (p : Phrase) → check_all f (flat p) [] ≡ cond (good p) (Some (Value (shape_of p) ∷ [])) None
   told p = ap (λ (q : List Node). check_all f q []) (sym (append-nil (flat p))) ∙ tells p [] []
 
   unsuited : (b : Bool) (p : Phrase) → good p ≡ b → (SuitsCalls f p → ⊥) → good p ≡ false
@@ -384,3 +384,7 @@ list_tells f p = record {
   suit = λ h. told f p ∙ cond-true (good f p) (Some (Value (shape_of p) ∷ [])) None (is_good f p h);
   others = λ n. told f p ∙ cond-false (good f p) (Some (Value (shape_of p) ∷ [])) None (unsuited f (good f p) p refl n);
 }
+
+pub parts_told : (f : List ℕ → Option Intrinsic) (ps : phrases.Parts)
+    → check_all f (flats.Begin ∷ flat_parts ps) [] ≡ cond (good_parts f ps) (Some (parts_on (part_shapes ps) (Mark ∷ []))) None
+parts_told f ps = ap (λ (q : List Node). check_all f q (Mark ∷ [])) (sym (append-nil (flat_parts ps))) ∙ tells_parts f ps [] (Mark ∷ [])

@@ -84,29 +84,73 @@ suits (Some Spread) ss = are_values ss && has_dimension ss
 suits (Some Reshape) ss = are_values ss && has_shape ss
 suits (Some f) ss = are_values ss
 
-module _ (function : List ℕ → Option Intrinsic) where
-  abbrev pub listed : List ℕ → Option Parts → Option (List Entry)
-  listed x (Some p) = if suits (function x) p.parts then Some (Value Other ∷ p.under) else None
-  listed x None = None
+-- ---- the value on top, the two values on top, and what lies under them
 
-  -- what one part of the list does; nothing is left where a call has other arguments
+abbrev pub with_value : List Entry → (Shape → List Entry → Option (List Entry)) → Option (List Entry)
+with_value (Value s ∷ st) on = on s st
+with_value st on = None
+
+abbrev pub with_two : List Entry → (List Entry → Option (List Entry)) → Option (List Entry)
+with_two st on = with_value st (λ b more. with_value more (λ a under. on under))
+
+abbrev pub with_turn : List Entry → (List Entry → Option (List Entry)) → Option (List Entry)
+with_turn (Turn ∷ st) on = on st
+with_turn st on = None
+
+abbrev pub with_mark : List Entry → (List Entry → Option (List Entry)) → Option (List Entry)
+with_mark (Mark ∷ st) on = on st
+with_mark st on = None
+
+-- ---- what one part of the list does; nothing is left where a call has other arguments
+
+abbrev pub valued : Shape → List Entry → Option (List Entry)
+valued s st = Some (Value s ∷ st)
+
+abbrev pub enclosed : List Entry → Option (List Entry)
+enclosed st = with_value st (λ s under. valued Other under)
+
+abbrev pub infixed : List Entry → Option (List Entry)
+infixed st = with_two st (λ under. valued Other under)
+
+abbrev pub single : List Entry → Option (List Entry)
+single st = with_value st (λ s under. Some (Part (Some s) ∷ under))
+
+abbrev pub bounded : List Entry → Option (List Entry)
+bounded st = with_two st (λ under. Some (Part None ∷ under))
+
+abbrev pub strided : List Entry → Option (List Entry)
+strided st = with_value st (λ s more. with_two more (λ under. Some (Part None ∷ under)))
+
+abbrev pub turned : List Entry → Option (List Entry)
+turned st = with_two st (λ more. with_value more (λ s under. Some (Turn ∷ under)))
+
+abbrev pub turned_round : List Entry → Option (List Entry)
+turned_round st = with_two st (λ more. with_turn more (λ under. Some (Turn ∷ under)))
+
+abbrev pub looped : List Entry → Option (List Entry)
+looped st = with_turn st (λ more. with_mark more (λ under. valued Other under))
+
+abbrev pub listed : Option Intrinsic → Option Parts → Option (List Entry)
+listed f (Some p) = if suits f p.parts then valued Other p.under else None
+listed f None = None
+
+module _ (function : List ℕ → Option Intrinsic) where
   abbrev pub check : Node → List Entry → Option (List Entry)
-  check (flats.Digits t) st = Some (Value Literal ∷ st)
-  check (flats.Truth b) st = Some (Value Other ∷ st)
-  check (flats.Name x) st = Some (Value Other ∷ st)
-  check flats.Parenthesis (Value s ∷ st) = Some (Value Other ∷ st)
-  check (flats.Prefix o) (Value s ∷ st) = Some (Value Other ∷ st)
-  check (flats.Infix o) (Value s ∷ Value t ∷ st) = Some (Value Other ∷ st)
-  check flats.One (Value s ∷ st) = Some (Part (Some s) ∷ st)
-  check flats.Bounds (Value s ∷ Value t ∷ st) = Some (Part None ∷ st)
-  check flats.Stride (Value s ∷ Value t ∷ Value u ∷ st) = Some (Part None ∷ st)
+  check (flats.Digits t) st = valued Literal st
+  check (flats.Truth b) st = valued Other st
+  check (flats.Name x) st = valued Other st
+  check flats.Parenthesis st = enclosed st
+  check (flats.Prefix o) st = enclosed st
+  check (flats.Infix o) st = infixed st
+  check flats.One st = single st
+  check flats.Bounds st = bounded st
+  check flats.Stride st = strided st
   check flats.Begin st = Some (Mark ∷ st)
-  check (flats.Listed x) st = listed x (parts_above st [])
+  check (flats.Listed x) st = listed (function x) (parts_above st [])
   check flats.Values st = counted (count_above st 0)
-  check (flats.Inner x) (Value s ∷ Value t ∷ Value u ∷ st) = Some (Turn ∷ st)
-  check (flats.Outer x) (Value s ∷ Value t ∷ Turn ∷ st) = Some (Turn ∷ st)
-  check flats.Looped (Turn ∷ Mark ∷ st) = Some (Value Other ∷ st)
-  check n st = None
+  check (flats.Inner x) st = turned st
+  check (flats.Outer x) st = turned_round st
+  check flats.Looped st = looped st
 
   abbrev pub checked_on : Option (List Entry) → (List Entry → Option (List Entry)) → Option (List Entry)
   checked_on (Some st) on = on st

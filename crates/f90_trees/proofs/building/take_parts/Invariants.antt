@@ -1,0 +1,10 @@
+use Rattle.std.proofs.Common.{◌≡◌, [], vec_len}
+use Rattle.f90_trees.specs.Building.{parts_above}
+use Rattle.f90_trees.specs.Views.{stack, parts_seen}
+use Rattle.f90_trees.proofs.building.take_parts.Given as goal
+
+abbrev pub invariant-taking : goal.invariant-taking
+invariant-taking l = parts_above (stack l.initial.entries.items) [] ≡ parts_above (stack l.entries.items) (parts_seen l.parts.items)
+
+abbrev pub decreases-taking : goal.decreases-taking
+decreases-taking l = vec_len l.entries
