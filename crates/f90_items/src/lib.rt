@@ -1,0 +1,11 @@
+//! Lists of PRINT and READ in Fortran 90, from their words (ISO/IEC 1539:1991, section 9.4.2).
+#![tactic(auto)]
+
+mod commas;
+mod depths;
+mod nodes;
+mod reader;
+#[cfg(test)]
+mod tests;
+
+pub use nodes::{Direction, ItemList, Node};
