@@ -2,6 +2,7 @@
 //! are scalars and elements of arrays.
 #![tactic(auto)]
 
+mod forms;
 mod numbers;
 mod ready;
 mod references;

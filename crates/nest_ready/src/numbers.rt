@@ -1,5 +1,5 @@
 //! The numbers of loops.
-ghost use Rattle.std.specs.Prelude.{◌≡◌, ◌++◌, ◌∷◌, [], IfOk, IsTrue, OnOk, map, ℕ};
+ghost use Rattle.std.specs.Prelude.{◌≡◌, ◌++◌, ◌∷◌, ◌↔◌, [], IfOk, IsTrue, OnOk, map, ℕ};
 ghost use Rattle.std.specs.List.{flat_map};
 ghost use Rattle.components.specs.Lists.{Distinct, Each};
 ghost use Rattle.nest_tree.specs.Bodies.{loops_of, nest_loops};
@@ -80,7 +80,7 @@ pub fn numbers_of(alloc: Global, nest: &Nest) -> Result<Seq<u32>, Memory>
 }
 
 fn is_other(number: u32, others: &[u32]) -> bool
-    ensures { IsTrue result → Each (λ other. number ≡ other → ⊥) others.now }
+    ensures { IsTrue result ↔ Each (λ other. number ≡ other → ⊥) others.now }
 {
     let Some((first, rest)) = others.split_first() else {
         return true;
@@ -90,7 +90,7 @@ fn is_other(number: u32, others: &[u32]) -> bool
 
 /// Whether all numbers differ.
 pub fn are_distinct(numbers: &[u32]) -> bool
-    ensures { IsTrue result → Distinct numbers.now }
+    ensures { IsTrue result ↔ Distinct numbers.now }
 {
     let Some((first, rest)) = numbers.split_first() else {
         return true;

@@ -1,9 +1,10 @@
 //! Whether a nest can be tested.
-ghost use Rattle.std.specs.Prelude.{All, IfOk, IsTrue};
+ghost use Rattle.std.specs.Prelude.{◌↔◌, All, IfOk, IsTrue};
 ghost use Rattle.nest_tree.specs.View.{nest_of};
 ghost use Rattle.nest_graph.specs.Ready.{IsReady, IsReadyStatement};
 ghost use Rattle.statement_loops.specs.Standings.{standing_of};
 
+use crate::forms::{all_true, both_true};
 use crate::numbers::{are_distinct, numbers_of};
 use crate::references::{all_elements, all_references, have_ranks};
 use crate::trips::have_trips;
@@ -13,14 +14,8 @@ use nest_tree::Nest;
 use statement_loops::{Standing, statements_of};
 use std::alloc::Global;
 
-fn both_true(first: bool, second: bool) -> bool
-    ensures { IsTrue result → IsTrue first × IsTrue second }
-{
-    first && second
-}
-
 fn is_ready_statement(alloc: Global, standing: &Standing) -> Result<bool, Memory>
-    ensures { IfOk result (λ b. IsTrue b → IsReadyStatement (standing_of standing.now)) }
+    ensures { IfOk result (λ b. IsTrue b ↔ IsReadyStatement (standing_of standing.now)) }
 {
     if standing.loops.len() > 7 {
         return Ok(false);
@@ -32,7 +27,7 @@ fn is_ready_statement(alloc: Global, standing: &Standing) -> Result<bool, Memory
 }
 
 fn are_ready(alloc: Global, all: &[Standing]) -> Result<bool, Memory>
-    ensures { IfOk result (λ b. IsTrue b → All (λ s. IsReadyStatement (standing_of s)) all.now) }
+    ensures { IfOk result (λ b. IsTrue b ↔ All (λ s. IsReadyStatement (standing_of s)) all.now) }
 {
     for standing in all {
         if !is_ready_statement(alloc, standing)? {
@@ -42,17 +37,11 @@ fn are_ready(alloc: Global, all: &[Standing]) -> Result<bool, Memory>
     Ok(true)
 }
 
-fn all_true(first: bool, second: bool, third: bool) -> bool
-    ensures { IsTrue result → IsTrue first × IsTrue second × IsTrue third }
-{
-    first && second && third
-}
-
 /// Whether a nest can be tested for dependences: its loops go from 1 by 1 to linear trips, at most seven in one another
 /// and each with a number of its own; its references are scalars and elements of arrays of at most seven dimensions,
 /// one name always with as many subscripts; and it has at most 65536 symbols.
 pub fn is_ready(alloc: Global, nest: &Nest) -> Result<bool, Memory>
-    ensures { IfOk result (λ b. IsTrue b → IsReady (nest_of nest.now)) }
+    ensures { IfOk result (λ b. IsTrue b ↔ IsReady (nest_of nest.now)) }
 {
     let all = statements_of(alloc, nest)?;
     let numbers = numbers_of(alloc, nest)?;

@@ -1,5 +1,5 @@
 //! The references of a nest.
-ghost use Rattle.std.specs.Prelude.{◌≡◌, ◌++◌, All, IfOk, IsTrue, OnOk, map};
+ghost use Rattle.std.specs.Prelude.{◌≡◌, ◌++◌, ◌↔◌, All, IfOk, IsTrue, OnOk, map};
 ghost use Rattle.fv_tree.specs.View.{reference_of, subscript_of};
 ghost use Rattle.fv_tree.specs.Plain.{subscripts};
 ghost use Rattle.nest_graph.specs.Ready.{AreElements, IsElement};
@@ -7,6 +7,7 @@ ghost use Rattle.nest_graph.specs.References.{references_of};
 ghost use Rattle.nest_ready.specs.Gathered.{HaveSameRank, all_references};
 ghost use Rattle.statement_loops.specs.Standings.{standing_of};
 
+use crate::forms::both_true;
 use fv_tree::{Memory, Ref, Seq, Sub};
 use nest_references::references_of;
 use nest_tree::copy_ref;
@@ -15,7 +16,7 @@ use std::alloc::Global;
 
 #[tactic(auto, using(crate::proofs::RankLaws::element_laws))]
 fn are_elements(subs: &[Sub]) -> bool
-    ensures { IsTrue result → AreElements (subscripts (map subscript_of subs.now)) }
+    ensures { IsTrue result ↔ AreElements (subscripts (map subscript_of subs.now)) }
 {
     let Some((sub, rest)) = subs.split_first() else {
         return true;
@@ -29,14 +30,14 @@ fn are_elements(subs: &[Sub]) -> bool
 // A scalar, or an element of an array of at most seven dimensions.
 #[tactic(auto, using(crate::proofs::RankLaws::is_element_by))]
 fn is_element(item: &Ref) -> bool
-    ensures { IsTrue result → IsElement (reference_of item.now) }
+    ensures { IsTrue result ↔ IsElement (reference_of item.now) }
 {
-    item.subs.len() <= 7 && are_elements(item.subs.as_slice())
+    both_true(item.subs.len() <= 7, are_elements(item.subs.as_slice()))
 }
 
 /// Whether each is a scalar, or an element of an array of at most seven dimensions.
 pub fn all_elements(items: &[Ref]) -> bool
-    ensures { IsTrue result → All (λ r. IsElement (reference_of r)) items.now }
+    ensures { IsTrue result ↔ All (λ r. IsElement (reference_of r)) items.now }
 {
     for item in items {
         if !is_element(item) {
@@ -48,7 +49,7 @@ pub fn all_elements(items: &[Ref]) -> bool
 
 #[tactic(auto, using(crate::proofs::RankLaws::rank_by))]
 fn has_rank_of(one: &Ref, other: &Ref) -> bool
-    ensures { IsTrue result → HaveSameRank (reference_of one.now) (reference_of other.now) }
+    ensures { IsTrue result ↔ HaveSameRank (reference_of one.now) (reference_of other.now) }
 {
     if one.name != other.name {
         return true;
@@ -57,7 +58,7 @@ fn has_rank_of(one: &Ref, other: &Ref) -> bool
 }
 
 fn have_rank_of(one: &Ref, others: &[Ref]) -> bool
-    ensures { IsTrue result → All (λ r. HaveSameRank (reference_of one.now) (reference_of r)) others.now }
+    ensures { IsTrue result ↔ All (λ r. HaveSameRank (reference_of one.now) (reference_of r)) others.now }
 {
     for other in others {
         if !has_rank_of(one, other) {
@@ -70,7 +71,7 @@ fn have_rank_of(one: &Ref, others: &[Ref]) -> bool
 /// Whether those of one name have as many subscripts.
 pub fn have_ranks(items: &[Ref]) -> bool
     ensures { IsTrue result
-        → All (λ q. All (λ r. HaveSameRank (reference_of q) (reference_of r)) items.now) items.now }
+        ↔ All (λ q. All (λ r. HaveSameRank (reference_of q) (reference_of r)) items.now) items.now }
 {
     for item in items {
         if !have_rank_of(item, items) {

@@ -1,4 +1,4 @@
-use Rattle.std.proofs.Common.{arith, rules}
+use Rattle.std.proofs.Common.{refl, arith, rules}
 use Rattle.std.specs.Prelude.{IsTrue}
 use Rattle.nest_graph.specs.Ready.{IsReadyStatement}
 use Rattle.statement_loops.specs.Standings.{standing_of}
@@ -10,7 +10,7 @@ pub loop-standing-preserved : goal.loop-standing-preserved
 loop-standing-preserved c =
     let t : IsTrue c.in_ok-is_ready_statement.field-0 = first_of (cc, search rules) in
     list_more (λ (s : Standing). IsReadyStatement (standing_of s)) c.args.all.now c.loop-standing.standing-index c.standing-item.result (omega arith) c.standing-item.is
-    c.loop-standing.invariant (c.in_ok-is_ready_statement.ensures t)
+    c.loop-standing.invariant (c.in_ok-is_ready_statement.ensures.0 t)
 
 pub returns : goal.returns
-returns c = λ t. list_all (λ (s : Standing). IsReadyStatement (standing_of s)) c.args.all.now c.loop-standing.standing-index (omega arith) c.loop-standing.invariant
+returns c = (λ t. list_all (λ (s : Standing). IsReadyStatement (standing_of s)) c.args.all.now c.loop-standing.standing-index (omega arith) c.loop-standing.invariant, λ _. refl)

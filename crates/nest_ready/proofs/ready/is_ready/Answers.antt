@@ -1,23 +1,40 @@
-use Rattle.std.proofs.Common.{arith, subst, ap, ◌∙◌, List, map}
+use Rattle.std.proofs.Common.{arith, subst, sym, ap, ◌∙◌, List, map}
 use Rattle.std.specs.Prelude.{All}
 use Rattle.fv_tree.specs.View.{reference_of}
 use Rattle.fv_tree.specs.declared.exprs.Ref.{Ref}
+use Rattle.components.specs.Lists.{Distinct}
 use Rattle.nest_graph.specs.Ready.{IsReadyStatement}
-use Rattle.nest_ready.specs.Gathered.{HaveSameRank}
+use Rattle.nest_tree.specs.View.{nest_of}
 use Rattle.statement_loops.specs.Standings.{standing_of}
 use Rattle.statement_loops.specs.declared.standings.Standing.{Standing}
-use Rattle.components.specs.Lists.{Distinct}
-use Rattle.nest_tree.specs.View.{nest_of}
-use Rattle.nest_ready.specs.Gathered.{all_references}
-use Rattle.nest_ready.proofs.RankLaws.{ready_nest}
+use Rattle.nest_ready.specs.Gathered.{HaveSameRank, all_references}
+use Rattle.nest_ready.proofs.RankLaws.{each_rank, each_unmapped, ready_nest}
+use Rattle.std.proofs.lemmas.List.Elements.{All-same}
 use Rattle.nest_ready.proofs.ready.is_ready.Goals as goal
 
+abbrev HaveRanks : List Ref → Type 0
+HaveRanks xs = All (λ (q : Ref). All (λ (r : Ref). HaveSameRank (reference_of q) (reference_of r)) xs) xs
+
+abbrev AreReady : List Standing → Type 0
+AreReady xs = All (λ (s : Standing). IsReadyStatement (standing_of s)) xs
+
 pub returns : goal.returns
-returns c = λ t.
-    let b = c.all_true.ensures t in let n = nest_of c.args.nest.now in let all = c.in_ok-all.all in let items = c.in_ok-items.items in
+returns c =
+    let n = nest_of c.args.nest.now in
+    let all = c.in_ok-all.all in
+    let items = c.in_ok-items.items in
     let numbers = c.in_ok-numbers.numbers in
-    ready_nest n all numbers items c.in_ok-all.ensures c.in_ok-numbers.ensures
-    (c.in_ok-items.ensures ∙ ap (λ (xs : List Standing). all_references (map standing_of xs)) c.as_slice.ensures) (omega arith)
-    (subst Distinct c.as_slice-2.ensures (c.are_distinct-distinct.ensures b.0))
-    (subst (λ (xs : List Ref). All (λ (q : Ref). All (λ (r : Ref). HaveSameRank (reference_of q) (reference_of r)) xs) xs) c.as_slice-3.ensures (c.have_ranks-ranks.ensures b.1))
-    (subst (λ (xs : List Standing). All (λ (s : Standing). IsReadyStatement (standing_of s)) xs) c.as_slice-4.ensures (c.in_ok-ready.ensures b.2))
+    let gathered = c.in_ok-items.ensures ∙ ap (λ (xs : List Standing). all_references (map standing_of xs)) c.as_slice.ensures in (
+      λ t.
+          let b = c.all_true.ensures.0 t in
+          ready_nest n all numbers items c.in_ok-all.ensures c.in_ok-numbers.ensures gathered (omega arith)
+          (subst Distinct c.as_slice-2.ensures (c.are_distinct-distinct.ensures.0 b.0))
+          (subst HaveRanks c.as_slice-3.ensures (c.have_ranks-ranks.ensures.0 b.1))
+          (subst AreReady c.as_slice-4.ensures (c.in_ok-ready.ensures.0 b.2)),
+      λ h.
+          c.all_true.ensures.1 (
+            c.are_distinct-distinct.ensures.1 (subst Distinct (sym c.as_slice-2.ensures) (subst Distinct (sym c.in_ok-numbers.ensures) h.loops)),
+            c.have_ranks-ranks.ensures.1 (subst HaveRanks (sym c.as_slice-3.ensures) (each_rank n items (gathered ∙ ap all_references c.in_ok-all.ensures) h.ranks)),
+            c.in_ok-ready.ensures.1 (subst AreReady (sym c.as_slice-4.ensures) (each_unmapped all (All-same IsReadyStatement (map standing_of all) _ c.in_ok-all.ensures h.statements))),
+          ),
+    )
