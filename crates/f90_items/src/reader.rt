@@ -1,5 +1,6 @@
 //! Lists of PRINT and READ, read item by item.
-ghost use Rattle.std.specs.Prelude.{◌≡◌, ◌+◌, ◌<◌, ◌^◌, ◌↔◌, ◌∷◌, ℕ, List, true, false, IfOk, IsTrue, length, drop, ◌≤◌, ◌-◌};
+ghost use Rattle.std.specs.Prelude.{◌≡◌, ◌+◌, ◌-◌, ◌<◌, ◌≤◌, ◌^◌, ◌↔◌, ◌∷◌, ℕ, List, true, false};
+ghost use Rattle.std.specs.Prelude.{IfOk, IsTrue, length, drop};
 ghost use Rattle.f90_grammar.specs.Items as items;
 ghost use Rattle.f90_grammar.specs.Items.{ItemPhrases, AreItems, MayStand, written_items};
 ghost use Rattle.f90_grammar.specs.Phrases.{Phrase};
