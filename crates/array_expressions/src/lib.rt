@@ -1,5 +1,6 @@
-//! What expressions of Fortran 90 are evaluated over: what names hold, also the variables of constructors' loops, which
-//! expressions are scalars, and what values are used for (ISO/IEC 1539:1991, sections 4.5, 6.2 and 7.1).
+//! Expressions of Fortran 90, over what names hold: the values of scalars, arrays whose operations are left to each
+//! position, constructors with their loops, and what references select (ISO/IEC 1539:1991, sections 4.5, 6.2, 7.1 and
+//! 13).
 #![tactic(auto)]
 
 mod arrays;
@@ -9,8 +10,6 @@ mod numbers;
 mod ranks;
 mod references;
 mod scope;
-#[cfg(test)]
-mod tests;
 mod values;
 
 pub use locals::{Local, number_of};
