@@ -1,8 +1,8 @@
 //! The texts of dependences, holds and cycles.
 ghost use Rattle.std.specs.Prelude.{◌≡◌, ◌++◌, IfOk, OnOk, map, take};
 ghost use Rattle.statement_loops.specs.Standings.{standing_of};
-ghost use Rattle.graph_print.specs.Lines.{HoldEntry, blank_then, dependence_text, entry_text, level_text, meeting_text, place_text};
-ghost use Rattle.graph_print.specs.Lines.{walk_text};
+ghost use Rattle.graph_print.specs.Lines.{HoldEntry, blank_then, dependence_text, entry_text, level_text};
+ghost use Rattle.graph_print.specs.Lines.{meeting_text, place_text, walk_text};
 ghost use Rattle.graph_print.specs.Words.{kind_word};
 ghost use Rattle.graph_print.specs.Listing.{cycle_entry, depth_of, drop_entry, edge_entry, meeting_of, related};
 

@@ -106,7 +106,8 @@ pub fn lines(
     holds: &Seq<Hold>,
     cycles: &Seq<Cycle>,
 ) -> Result<Seq<Line>, Memory>
-    ensures { IfOk result (λ all. map text_of all ≡ listing_of (nest_of nest.now) number graph.now holds.now cycles.now) }
+    ensures { IfOk result (λ all. map text_of all
+        ≡ listing_of (nest_of nest.now) number graph.now holds.now cycles.now) }
 {
     let standings = statements_of(alloc, nest)?;
     let mut all = Lines {

@@ -4,7 +4,8 @@ ghost use Rattle.std.specs.List.{flat_map};
 ghost use Rattle.f90_print.specs.Notes.{text_of};
 ghost use Rattle.nest_tree.specs.View.{branch_of, loop_of, part_of};
 ghost use Rattle.graph_print.specs.Lines.{entry_text};
-ghost use Rattle.graph_print.specs.Listing.{lines_of_entries, lines_of_entry, loop_entries, loop_entries_of, loop_entry};
+ghost use Rattle.graph_print.specs.Listing.{lines_of_entries, lines_of_entry};
+ghost use Rattle.graph_print.specs.Listing.{loop_entries, loop_entries_of, loop_entry};
 
 use crate::pieces::Lines;
 use crate::texts::{push, push_count};

@@ -6,8 +6,8 @@ use Rattle.std.specs.Str.Parse.{digits_value}
 use Rattle.subscripts.specs.declared.affine.Dir.{Dir}
 use Rattle.subscripts.specs.declared.affine.Dir.TheVariants.{Lt, Eq, Gt, Any}
 use Rattle.subscripts.specs.declared.verdict.Test.{Test}
-use Rattle.subscripts.specs.declared.verdict.Test.TheVariants.{Trip, Scalar, Ziv, Strong, WeakZero, Crossing, Siv, Delta}
-use Rattle.subscripts.specs.declared.verdict.Test.TheVariants.{Gcd, Range, Miv, Unknown}
+use Rattle.subscripts.specs.declared.verdict.Test.TheVariants.{Trip, Scalar, Ziv, Strong, WeakZero, Crossing}
+use Rattle.subscripts.specs.declared.verdict.Test.TheVariants.{Siv, Delta, Gcd, Range, Miv, Unknown}
 use Rattle.components.specs.declared.graphs.Dep.{Dep}
 use Rattle.components.specs.declared.graphs.Dep.TheVariants.{Flow, Anti, Output}
 use Rattle.components.specs.declared.graphs.HoldReason.{HoldReason}
