@@ -148,12 +148,14 @@ written_extent p = words.Digits (codes "1") ∷ (words.Colon ∷ written p)
 abbrev pub IsTransfer : List ℕ → List ℕ → List Word → List Word → Type 0
 IsTransfer short long list ws =
     (ws ≡ name short ∷ (words.Operator Mul ∷ (words.Comma ∷ list)))
-    ⊎ (ws ≡ words.Head long ∷ (words.Operator Mul ∷ (words.Comma ∷ (words.Operator Mul ∷ (words.Close ∷ list)))))
+    ⊎ (ws
+    ≡ words.Head long ∷ (words.Operator Mul ∷ (words.Comma ∷ (words.Operator Mul ∷ (words.Close ∷ list)))))
 
 abbrev pub IsEmptyTransfer : List ℕ → List ℕ → List Word → Type 0
 IsEmptyTransfer short long ws =
     (ws ≡ name short ∷ (words.Operator Mul ∷ []))
-    ⊎ (ws ≡ words.Head long ∷ (words.Operator Mul ∷ (words.Comma ∷ (words.Operator Mul ∷ (words.Close ∷ [])))))
+    ⊎ (ws
+    ≡ words.Head long ∷ (words.Operator Mul ∷ (words.Comma ∷ (words.Operator Mul ∷ (words.Close ∷ [])))))
 
 abbrev pub IsNamed : Option (List ℕ) → List Word
 IsNamed None = []
@@ -166,7 +168,8 @@ labelled (c ∷ cs) ws = words.Digits (c ∷ cs) ∷ ws
 abbrev pub IsWritten : Form → List Word → Type 0
 IsWritten (Program x) ws = ws ≡ name (codes "PROGRAM") ∷ (name x ∷ [])
 IsWritten ImplicitNone ws = ws ≡ name (codes "IMPLICIT") ∷ (name (codes "NONE") ∷ [])
-IsWritten (Declare k a es) ws = (ws ≡ name (keyword_of k) ∷ (attribute a ++ words.Colons ∷ separated written_entity es))
+IsWritten (Declare k a es) ws =
+    (ws ≡ name (keyword_of k) ∷ (attribute a ++ words.Colons ∷ separated written_entity es))
     × IsList (IsEntity a) es
 IsWritten (Assign l r) ws = (ws ≡ written l ++ words.Equals ∷ written r) × IsReference l × IsExpression l
     × IsExpression r
@@ -178,7 +181,8 @@ IsWritten (Test p f) ws = (rest : List Word) × (ws ≡ words.Head (codes "IF") 
 IsWritten (If p) ws = (ws ≡ words.Head (codes "IF") ∷ (written p ++ words.Close ∷ (name (codes "THEN") ∷ [])))
     × IsExpression p
 IsWritten (ElseIf p) ws =
-    EitherHead (codes "ELSE") (codes "IF") (written p ++ words.Close ∷ (name (codes "THEN") ∷ [])) ws × IsExpression p
+    EitherHead (codes "ELSE") (codes "IF") (written p ++ words.Close ∷ (name (codes "THEN") ∷ [])) ws
+    × IsExpression p
 IsWritten Else ws = ws ≡ name (codes "ELSE") ∷ []
 IsWritten EndIf ws = Either (codes "END") (codes "IF") [] ws
 IsWritten (Do x a b c) ws = (ws ≡ name (codes "DO") ∷ (name x ∷ (words.Equals ∷ written_bounds a b c))) × IsExpression a

@@ -1,5 +1,6 @@
 -- What the code holds while it makes a tree, as what lies on the stack.
-use Rattle.std.specs.Prelude.{◌≡◌, Bool, true, false, List, [], ◌∷◌, map, reverse, Option, Some, None, Result, Ok, Err}
+use Rattle.std.specs.Prelude.{◌≡◌, Bool, true, false, List, [], ◌∷◌, map, reverse}
+use Rattle.std.specs.Prelude.{Option, Some, None, Result, Ok, Err}
 use Rattle.fv_tree.specs.declared.exprs.Expr.{Expr}
 use Rattle.fv_tree.specs.declared.exprs.Sub.{Sub}
 use Rattle.fv_tree.specs.declared.exprs.Turn as exprs
@@ -38,7 +39,8 @@ TakesValue None old new =
 abbrev pub TakesTwo : Option (Expr × Expr) → List building.Entry → List building.Entry → Type 0
 TakesTwo (Some r) old new = old ≡ building.Value (expression_of r.1) ∷ (building.Value (expression_of r.0) ∷ new)
 TakesTwo None old new =
-    (on : Expression → Expression → List building.Entry → Option (List building.Entry)) → building.with_two old on ≡ None
+    (on : Expression → Expression → List building.Entry → Option (List building.Entry))
+    → building.with_two old on ≡ None
 
 abbrev pub TakesTurn : Option (Expr × List exprs.Turn) → List building.Entry → List building.Entry → Type 0
 TakesTurn (Some r) old new = old ≡ building.Turn (expression_of r.0) (map loop_of r.1) ∷ new

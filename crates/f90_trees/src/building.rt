@@ -277,7 +277,8 @@ fn looped(alloc: Global, entries: &mut Vec<Entry>) -> Result<bool, Memory>
 
 #[tactic(auto, using(crate::proofs::BuildLaws::steps))]
 fn constructed(alloc: Global, entries: &mut Vec<Entry>) -> Result<bool, Memory>
-    ensures { Builds result entries.new.items (building.constructed (building.values_above (stack entries.old.items) [])) }
+    ensures { Builds result entries.new.items
+        (building.constructed (building.values_above (stack entries.old.items) [])) }
 {
     let Some(values) = take_values(alloc, entries)? else {
         return Ok(false);

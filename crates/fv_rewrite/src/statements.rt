@@ -1,6 +1,7 @@
 //! Statements and blocks.
 ghost use Rattle.std.specs.Prelude.{◌≡◌, ℕ, ℤ, List, map, IfOk};
-ghost use Rattle.fv_tree.specs.View.{arms as plain_arms, block_of, expression_of, reference_of, statement_of, tested_of};
+ghost use Rattle.fv_tree.specs.View.{arms as plain_arms, block_of, expression_of};
+ghost use Rattle.fv_tree.specs.View.{reference_of, statement_of, tested_of};
 ghost use Rattle.fv_tree.specs.Plain.{block as plain_block, expressions};
 ghost use Rattle.fv_rewrite.specs.Following.{RunFollows, sequential};
 ghost use Rattle.fv_rewrite.specs.Profile.{MakesProfile};

@@ -1,5 +1,6 @@
 -- Canonical text as what a rule makes of each node.
-use Rattle.std.specs.Prelude.{◌≡◌, Option, Some, None, ℕ, ◌+◌, ◌≤◌, IsTrue, true, false, if◌then◌else◌, List, []}
+use Rattle.std.specs.Prelude.{◌≡◌, Option, Some, None, ℕ, ◌+◌, ◌≤◌, IsTrue, true, false}
+use Rattle.std.specs.Prelude.{if◌then◌else◌, List, []}
 use Rattle.std.specs.Prelude.{◌∷◌, ◌++◌, length}
 use Rattle.fv_tree.specs.Limits.{expression_depth90}
 use Rattle.fv_tree.specs.Plain.{Expression, Block, Declaration, Program}
@@ -49,11 +50,13 @@ AreDistinct (x ∷ xs) = (is_among xs x ≡ false) × AreDistinct xs
 
 -- what was brought into canonical text once stays as it is
 abbrev pub CanonicalTextStays : Type 0
-CanonicalTextStays = (loops symbols : List (List ℕ)) (e : Expression) → length loops ≤ 7 → AreDistinct (loops ++ symbols)
+CanonicalTextStays =
+    (loops symbols : List (List ℕ)) (e : Expression) → length loops ≤ 7 → AreDistinct (loops ++ symbols)
     → made (canonising loops symbols) (made (canonising loops symbols) e) ≡ made (canonising loops symbols) e
 
 abbrev pub CanonicalBlockStays : Type 0
-CanonicalBlockStays = (loops symbols : List (List ℕ)) (b : Block) → length loops ≤ 7 → AreDistinct (loops ++ symbols)
+CanonicalBlockStays =
+    (loops symbols : List (List ℕ)) (b : Block) → length loops ≤ 7 → AreDistinct (loops ++ symbols)
     → made_block (canonising loops symbols) (made_block (canonising loops symbols) b)
     ≡ made_block (canonising loops symbols) b
 
@@ -62,10 +65,11 @@ abbrev pub AreIntegerScalars : List Declaration → List (List ℕ) → Type 0
 AreIntegerScalars es [] = Unit {0}
 AreIntegerScalars es (x ∷ xs) = IsIntegerScalar es x × AreIntegerScalars es xs
 
--- Where loops and symbols are INTEGER scalars, canonical text keeps the profile. It has 15 terms and a constant at most,
--- so that it is no deeper than 17, or 18 in parentheses
+-- Where loops and symbols are INTEGER scalars, canonical text keeps the profile. It has 15 terms and a constant at
+-- most, so that it is no deeper than 17, or 18 in parentheses
 abbrev pub CanonisingKeepsProfile : Type 0
-CanonisingKeepsProfile = (loops symbols : List (List ℕ)) (es : List Declaration) → AreIntegerScalars es (loops ++ symbols)
+CanonisingKeepsProfile =
+    (loops symbols : List (List ℕ)) (es : List Declaration) → AreIntegerScalars es (loops ++ symbols)
     → KeepsProfile es 18 (canonising loops symbols) all_suit
 
 -- So a block of a program of the profile is brought into one again, in which no depth has risen by more

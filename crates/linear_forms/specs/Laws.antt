@@ -1,5 +1,6 @@
 -- Laws of linear forms.
-use Rattle.std.specs.Prelude.{◌≡◌, Ok, Some, ℕ, ◌≤◌, ◌^◌, ℤ, nat_abs, IsTrue, List, [], ◌∷◌, ◌++◌, length}
+use Rattle.std.specs.Prelude.{◌≡◌, Ok, Some, ℕ, ◌≤◌, ◌^◌, ℤ, nat_abs, IsTrue}
+use Rattle.std.specs.Prelude.{List, [], ◌∷◌, ◌++◌, length}
 use Rattle.fv_tree.specs.Plain.{Expression}
 use Rattle.fv_tree.specs.declared.ops.Value.{Value}
 use Rattle.fv_tree.specs.declared.ops.Value.TheVariants.{Int}
@@ -25,7 +26,8 @@ EachHasValue lang _ s _ = ⊥
 
 -- an expression with a linear form has the form's number as its value, and meets no fault
 abbrev pub LinearHasValue : Type 0
-LinearHasValue = (lang : Dialect) (loops symbols : List (List ℕ)) (e : Expression) (f : Form) (s : Store) (xs : List ℤ)
+LinearHasValue =
+    (lang : Dialect) (loops symbols : List (List ℕ)) (e : Expression) (f : Form) (s : Store) (xs : List ℤ)
     → form_of loops symbols e ≡ Some f → HaveValues (loops ++ symbols) s xs → AreSized xs
     → value_of lang e s ≡ Ok (Int (number_at f xs))
 
@@ -39,7 +41,8 @@ TextHasValue = (lang : Dialect) (loops : ℕ) (terms : List Expression) (f : For
 -- text of the form
 abbrev pub AffineHasText : Type 0
 AffineHasText = (loops symbols : List (List ℕ)) (trips : List Expression) (f : Form) (a : Affine)
-    → IsAffineOf (length loops) f a → text_of loops symbols trips a ≡ expressed (variables (loops ++ symbols) ++ trips) f
+    → IsAffineOf (length loops) f a
+    → text_of loops symbols trips a ≡ expressed (variables (loops ++ symbols) ++ trips) f
 
 -- so, within the limits, it has the form's number as its value
 abbrev pub AffineTextHasValue : Type 0

@@ -33,7 +33,8 @@ fn integer(value: Option<Value>) -> Option<i128>
 
 // A product, of which one factor is constant.
 fn product_form(k: Option<i128>, l: Option<i128>, f: &Affine, g: &Affine) -> Option<Affine>
-    ensures { (n : ℕ) (p q : Form) → n ≤ 7 → IsAffineOf n p f.now → IsAffineOf n q g.now → HasConstant k p → HasConstant l q
+    ensures { (n : ℕ) (p q : Form) → n ≤ 7 → IsAffineOf n p f.now → IsAffineOf n q g.now
+        → HasConstant k p → HasConstant l q
         → IsFound n (limited n (form_of_product k l p q)) result }
 {
     if k.is_some() {
@@ -179,7 +180,8 @@ fn sign_value(op: Op, x: Option<Value>) -> Option<Value>
 }
 
 fn pair_value(op: Op, x: Option<Value>, y: Option<Value>) -> Option<Value>
-    ensures { (d e : Expression) → x ≡ constant_value d → y ≡ constant_value e → result ≡ constant_value (Binary op d e) }
+    ensures { (d e : Expression) → x ≡ constant_value d → y ≡ constant_value e
+        → result ≡ constant_value (Binary op d e) }
 {
     let Some(x) = x else {
         return None;

@@ -1,7 +1,8 @@
 -- Loops of a nest as loops from 1 by 1 (Allen and Kennedy, "Optimizing Compilers for Modern Architectures", section
 -- 4.2, loop normalization).
-use Rattle.std.specs.Prelude.{Option, Some, None, ℕ, ◌+◌, nat_lt, ◌==◌, ℤ, pos, negsuc, neg_ℤ, int_lt, nat_abs}
-use Rattle.std.specs.Prelude.{int_div, Bool, not, ◌&&◌, if◌then◌else◌, List, [], ◌∷◌, ◌++◌, map, length, codes, decimal}
+use Rattle.std.specs.Prelude.{Option, Some, None, ℕ, ◌+◌, nat_lt, ◌==◌, ℤ, pos, negsuc, neg_ℤ}
+use Rattle.std.specs.Prelude.{int_lt, nat_abs, int_div, Bool, not, ◌&&◌, if◌then◌else◌}
+use Rattle.std.specs.Prelude.{List, [], ◌∷◌, ◌++◌, map, length, codes, decimal}
 use Rattle.std.specs.List.{list_all}
 use Rattle.std.specs.Ordering.{int_eq}
 use Rattle.fv_tree.specs.Plain.{Expression}

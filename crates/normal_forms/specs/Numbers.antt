@@ -1,6 +1,7 @@
 -- The number that a form is, where its loops are at these iterations and its symbols and divided trips have these
 -- values.
-use Rattle.std.specs.Prelude.{◌≡◌, Some, ℕ, zero, suc, ◌+◌, ℤ, pos, ◌+ℤ◌, ◌-ℤ◌, ◌*ℤ◌, nat_abs, int_div, List, [], ◌∷◌}
+use Rattle.std.specs.Prelude.{◌≡◌, Some, ℕ, zero, suc, ◌+◌, ℤ, pos, ◌+ℤ◌, ◌-ℤ◌, ◌*ℤ◌}
+use Rattle.std.specs.Prelude.{nat_abs, int_div, List, [], ◌∷◌}
 use Rattle.std.specs.Prelude.{◌++◌, map, length}
 use Rattle.fv_tree.specs.Plain.{Expression}
 use Rattle.linear_forms.specs.Linear.{Form, form_of, number_at}
@@ -31,7 +32,9 @@ module _ (n : ℕ) (iterations values : ℕ → ℤ) where
 
 -- a combination is, as a number, the sum of so many times each number
 abbrev pub CombinationHasNumber : Type 0
-CombinationHasNumber = (n : ℕ) (ts : List Multiple) (a : Affine) (iterations values : ℕ → ℤ) → combination n ts ≡ Some a
+CombinationHasNumber =
+    (n : ℕ) (ts : List Multiple) (a : Affine) (iterations values : ℕ → ℤ)
+    → combination n ts ≡ Some a
     → number_of_form n iterations values a ≡ sum_of_numbers n iterations values ts
 
 -- ---- bounds of loops
@@ -49,7 +52,8 @@ variable_numbers n iterations values rs = map (λ (r : NormalLoop). number_of_fo
 -- have the numbers of their forms, and the numbers of the further multiples
 abbrev pub BoundHasNumber : Type 0
 BoundHasNumber =
-    (symbols : List (List ℕ)) (round : List NormalLoop) (e : Expression) (more : List Multiple) (f : Form) (a : Affine)
+    (symbols : List (List ℕ)) (round : List NormalLoop) (e : Expression) (more : List Multiple)
+    (f : Form) (a : Affine)
     (iterations values : ℕ → ℤ) → form_of (variables_of round) symbols e ≡ Some f
     → bound_form symbols round e more ≡ Some a
     → number_of_form (length symbols) iterations values a
@@ -68,12 +72,14 @@ trip_number n iterations values t = int_div (number_of_form n iterations values 
 pub record LoopNumbers (n d : ℕ) (iterations values : ℕ → ℤ) (r : NormalLoop) (m1 m2 m3 : ℤ) : Type 0 where
   pub first : number_of_form n iterations values r.first ≡ m1
   pub value : number_of_form n iterations values r.value ≡ m1 +ℤ m3 *ℤ (iterations d -ℤ pos 1)
-  pub trip : trip_number n iterations values r.trip ≡ int_div (sign_of m3 *ℤ ((m2 -ℤ m1) +ℤ m3)) (pos (nat_abs m3))
+  pub trip :
+      trip_number n iterations values r.trip ≡ int_div (sign_of m3 *ℤ ((m2 -ℤ m1) +ℤ m3)) (pos (nat_abs m3))
 
 abbrev pub NormalLoopHasNumbers : Type 0
 NormalLoopHasNumbers =
     (symbols : List (List ℕ)) (round : List NormalLoop) (l : Loop) (r : NormalLoop) (f g : Form)
     (iterations values : ℕ → ℤ) → normal_loop symbols round l ≡ Some r
-    → form_of (variables_of round) symbols l.first ≡ Some f → form_of (variables_of round) symbols l.last ≡ Some g
+    → form_of (variables_of round) symbols l.first ≡ Some f
+    → form_of (variables_of round) symbols l.last ≡ Some g
     → let xs = variable_numbers (length symbols) iterations values round ++ values_from (length symbols) 0 values in
     LoopNumbers (length symbols) (length round) iterations values r (number_at f xs) (number_at g xs) l.step
