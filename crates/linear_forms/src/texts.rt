@@ -205,7 +205,8 @@ fn last(alloc: Global, so_far: Option<Expr>, constant: i64) -> Result<Expr, Memo
 }
 
 /// The canonical text of a form: its loop terms from the outside in, its symbols by their places, its divided trips,
-/// its constant. A divided trip has a place behind those of the symbols. What has nothing that stands for it is left out.
+/// its constant. A divided trip has a place behind those of the symbols. What has nothing that stands for it is left
+/// out.
 pub fn express(
     alloc: Global,
     form: &Affine,
