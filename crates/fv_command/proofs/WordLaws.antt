@@ -6,7 +6,7 @@ use Rattle.std.specs.Str.{bytes_eq}
 use Rattle.std.proofs.Math.Dec.{eqb-suc-zero}
 use Rattle.fv_command.specs.declared.commands.Options.{Options}
 use Rattle.fv_command.specs.declared.commands.Command.{Command}
-use Rattle.fv_command.specs.declared.commands.Command.TheVariants.{Vectorise, Run77}
+use Rattle.fv_command.specs.declared.commands.Command.TheVariants.{Vectorise, Graph, Run77}
 use Rattle.fv_command.specs.Command.{number_of, attached_number, and_final, and_steps, and_option, options_of, command_of}
 use Rattle.fv_command.proofs.Joined.{made, options_of-option}
 
@@ -37,7 +37,9 @@ command_of-append a b more others x y e f [] = f
 command_of-append a b more others x y e f (w ∷ front) =
     cond_both (bytes_eq w (codes "vectorise")) _ _ _ _
     (ap (λ t. cond t (Some Vectorise) None) (some_more front more a ∙ sym (some_more front others b)))
-    (ap (λ o. cond (bytes_eq w (codes "run77")) (option_map Run77 o) None) (options_of-append a b more others x y e front))
+    (cond_both (bytes_eq w (codes "graph")) _ _ _ _
+    (ap (λ t. cond t (Some Graph) None) (some_more front more a ∙ sym (some_more front others b)))
+    (ap (λ o. cond (bytes_eq w (codes "run77")) (option_map Run77 o) None) (options_of-append a b more others x y e front)))
 
 pub command_of-attached : (front words : List (List ℕ)) (number : List ℕ)
     → command_of (front ++ ((codes "--steps=" ++ number) ∷ words)) ≡ command_of (front ++ (codes "--steps" ∷ number ∷ words))
@@ -132,18 +134,24 @@ few_options : (k : ℕ) (r : Option Options) (c : Command) → TakeAtLeast k r �
 few_options k None c h e = absurd (cc)
 few_options k (Some o) c h e = omega (arith, few_words o)
 
-command-length : (a b : Bool) (k : ℕ) (r : Option Options) (c : Command) → TakeAtLeast k r
-    → cond a (cond (k == 0) (Some Vectorise) None) (cond b (option_map Run77 r) None) ≡ Some c → k ≤ 3
-command-length true b zero r c h e = omega arith
-command-length true b (suc k) r c h e =
-    let none : ◌≡◌ {A = Option Command} None (Some c) = ap (λ t. cond t (Some Vectorise) None) (sym (eqb-suc-zero k)) ∙ e in absurd (cc)
-command-length false true k r c h e = few_options k r c h e
-command-length false false k r c h e = absurd (cc)
+-- a command that stands alone
+none_follow : (k : ℕ) (a c : Command) → cond (k == 0) (Some a) None ≡ Some c → k ≤ 3
+none_follow zero a c e = omega arith
+none_follow (suc k) a c e =
+    let none : ◌≡◌ {A = Option Command} None (Some c) = ap (λ t. cond t (Some a) None) (sym (eqb-suc-zero k)) ∙ e in absurd (cc)
+
+command-length : (a g b : Bool) (k : ℕ) (r : Option Options) (c : Command) → TakeAtLeast k r
+    → cond a (cond (k == 0) (Some Vectorise) None) (cond g (cond (k == 0) (Some Graph) None) (cond b (option_map Run77 r) None)) ≡ Some c → k ≤ 3
+command-length true g b k r c h e = none_follow k Vectorise c e
+command-length false true b k r c h e = none_follow k Graph c e
+command-length false false true k r c h e = few_options k r c h e
+command-length false false false k r c h e = absurd (cc)
 
 pub length-command : (words : List (List ℕ)) (c : Command) → command_of words ≡ Some c → length words ≤ 4
 length-command [] c e = omega arith
 length-command (w ∷ words) c e =
     let vectorises = bytes_eq w (codes "vectorise") in
+    let lists = bytes_eq w (codes "graph") in
     let runs = bytes_eq w (codes "run77") in
-    let k : length words ≤ 3 = command-length vectorises runs (length words) (options_of words) c (take_all words) e in
+    let k : length words ≤ 3 = command-length vectorises lists runs (length words) (options_of words) c (take_all words) e in
     omega arith

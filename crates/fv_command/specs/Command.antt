@@ -9,7 +9,7 @@ use Rattle.std.specs.Str.Parse.{digits_value}
 use Rattle.std.specs.declared.alloc.Global.{Global}
 use Rattle.fv_command.specs.declared.commands.Options.{Options}
 use Rattle.fv_command.specs.declared.commands.Command.{Command}
-use Rattle.fv_command.specs.declared.commands.Command.TheVariants.{Vectorise, Run77}
+use Rattle.fv_command.specs.declared.commands.Command.TheVariants.{Vectorise, Graph, Run77}
 
 abbrev pub texts : List (String Global) → List (List ℕ)
 texts words = map (λ word. string_bytes word) words
@@ -53,9 +53,14 @@ options_of (word ∷ number ∷ words) =
     if bytes_eq word (codes "--steps") then and_steps (number_of number) (options_of words)
     else and_option word (options_of (number ∷ words))
 
+-- a command without options, which no words follow
+abbrev pub alone : Command → List (List ℕ) → Option Command
+alone command words = if length words == 0 then Some command else None
+
 -- the command of these words, or none
 abbrev pub command_of : List (List ℕ) → Option Command
 command_of [] = None
 command_of (word ∷ words) =
-    if bytes_eq word (codes "vectorise") then (if length words == 0 then Some Vectorise else None)
+    if bytes_eq word (codes "vectorise") then alone Vectorise words
+    else if bytes_eq word (codes "graph") then alone Graph words
     else (if bytes_eq word (codes "run77") then option_map Run77 (options_of words) else None)

@@ -18,6 +18,8 @@ pub struct Options {
 pub enum Command {
     /// The deck is translated.
     Vectorise,
+    /// The dependences of its loops are listed.
+    Graph,
     /// The deck is run as it stands.
     Run77(Options),
 }

@@ -32,7 +32,10 @@ const NO_COMMANDS: &[&[&str]] = &[
     &["--"],
     &["-h"],
     &["--help"],
-    &["graph"],
+    &["Graph"],
+    &["graph", "graph"],
+    &["graph", "--final"],
+    &["graph", ""],
     &["run"],
     &["run770"],
     &["RUN77"],
@@ -105,6 +108,13 @@ fn words_of_runs(rt: HostRuntime) -> Result<(), Fail> {
         let found = command_of(rt.alloc(), words)?;
         assert_eq!(rt; found, Some(Command::Run77(options)), "{words:?}");
     }
+    Ok(())
+}
+
+#[test]
+fn the_word_of_a_listing(rt: HostRuntime) -> Result<(), Fail> {
+    let found = command_of(rt.alloc(), &["graph"])?;
+    assert_eq!(rt; found, Some(Command::Graph));
     Ok(())
 }
 

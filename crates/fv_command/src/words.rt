@@ -30,6 +30,7 @@ pub fn command(words: &[String]) -> Option<Command>
     let (name, rest) = words.split_first()?;
     match name.as_str() {
         "vectorise" if rest.is_empty() => Some(Command::Vectorise),
+        "graph" if rest.is_empty() => Some(Command::Graph),
         "run77" => Some(Command::Run77(options(rest)?)),
         _ => None,
     }

@@ -16,18 +16,20 @@ use mathlib.Core.Path.{ap₂}
 use Rattle.fv_meaning.specs.Run.{run}
 use Rattle.fv_meaning.specs.Sequential.{ending}
 use Rattle.fv_meaning.specs.Dialect.{fortran77}
+use Rattle.fv_meaning.specs.declared.End.TheVariants as end
 use Rattle.f77_grammar.specs.Reading77.{Reads77, Refused77}
 use Rattle.fv_command.specs.declared.commands.Options.{Options}
 use Rattle.fv_command.specs.declared.commands.Command.{Command}
-use Rattle.fv_command.specs.declared.commands.Command.TheVariants.{Vectorise, Run77}
+use Rattle.fv_command.specs.declared.commands.Command.TheVariants.{Vectorise, Graph, Run77}
 use Rattle.fv_report.specs.declared.outcome.Outcome.{Outcome}
 use Rattle.fv_report.specs.declared.outcome.Outcome.TheVariants.{Done, Usage, Refused as Denied, Faulted, StepLimit, ReadFault, WriteFault, OutOfMemory}
+use Rattle.program_listing.specs.Listing.{IsListingText}
 use Rattle.fv_tool.specs.Decks.{ReadsDeck77, RefusedDeck77}
 use Rattle.fv_tool.specs.Decks.RefusedDeck77.{TooLong, OfSource}
-use Rattle.fv_tool.specs.Endings.{IsReadAs, IsRefusedFor}
+use Rattle.fv_tool.specs.Endings.{IsReadAs, IsRefusedFor, HasText, ending_of}
 use Rattle.fv_tool.specs.Translation.{data_part, translation_text}
 use Rattle.fv_tool.specs.Unread.{outcome_for}
-use Rattle.fv_tool.specs.Running.{run_text}
+use Rattle.fv_tool.specs.Running.{run_of, run_text}
 use Rattle.fv_tool.specs.Works.{Writing, Works, Comes, ComesFor}
 
 -- ---- a source of the whole language
@@ -59,6 +61,7 @@ not_refused deck r within h (OfSource _ _ refused) = h r refused
 read_by : (c : Command) (deck : List ℕ) (p : Program) → ReadsDeck77 deck p → ((q : Program) → ReadsDeck77 deck q → q ≡ p) → ((r : Refusal) → RefusedDeck77 deck r → ⊥)
     → IsReadAs c deck p
 read_by Vectorise deck p reads only accepted = record { reads = reads; only = only; accepted = accepted }
+read_by Graph deck p reads only accepted = record { reads = reads; only = only; accepted = accepted }
 read_by (Run77 options) deck p reads only accepted = record { reads = reads; only = only; accepted = accepted }
 
 read_as : (c : Command) (deck : List ℕ) (o : Result Program77 Refused) (p : Program77) → length deck ≤ 2 ^ 24 → o ≡ Ok p → Reads77 fortran77 (source_of data_line77 deck) (program_of p)
@@ -77,6 +80,7 @@ refused_unread source o r e only p reads = by (subst (OnlyReads source) e only p
 
 refused_by : (c : Command) (deck : List ℕ) (r : Refusal) → RefusedDeck77 deck r → ((p : Program) → ReadsDeck77 deck p → ⊥) → IsRefusedFor c r deck
 refused_by Vectorise deck r refused unread = record { refused = refused; unread = unread }
+refused_by Graph deck r refused unread = record { refused = refused; unread = unread }
 refused_by (Run77 options) deck r refused unread = record { refused = refused; unread = unread }
 
 -- a deck whose source isn't read
@@ -96,7 +100,13 @@ RunComes options input p w x = Comes (ending (run fortran77 options.steps p inpu
 
 run_for : (options : Options) (deck input : List ℕ) (w : Writing) (p : Program) (x : Outcome) → IsReadAs (Run77 options) deck p → input ≡ input_of data_line77 deck
     → RunComes options input p w x → ComesFor (Run77 options) deck w x
-run_for options deck input w p x read at h = record { program = p; read = read; comes = subst (λ (t : List ℕ). RunComes options t p w x) at h }
+run_for options deck input w p x read at h = record {
+  program = p;
+  read = read;
+  text = run_text options p (run_of options deck p);
+  has_text = refl;
+  comes = subst (λ (t : List ℕ). RunComes options t p w x) at h;
+}
 
 run_works : (options : Options) (deck input : List ℕ) (w : Writing) (p : Program) (x : Outcome) → IsReadAs (Run77 options) deck p → input ≡ input_of data_line77 deck
     → RunComes options input p w x → Works (Run77 options) deck w x
@@ -117,37 +127,56 @@ run_comes options deck source input w o p x within at after e reads only_reads o
     (read_as (Run77 options) deck o p within e (subst (λ (t : List ℕ). Reads77 fortran77 t (program_of p)) at reads) (subst (λ (t : List ℕ). OnlyReads t o) at only_reads) (subst (λ (t : List ℕ). OnlyRefuses t o) at only_refuses))
     after h
 
--- ---- its translation is written
+-- ---- a text is written that needs no run
 
--- the deck was read as the program, whose translation is this text
-pub record IsTranslated (deck text : List ℕ) : Type 0 where
+-- the deck was read as a program of which the command writes this text, and nothing else is left to do
+pub record IsTextFor (c : Command) (deck text : List ℕ) : Type 0 where
   pub program : Program
-  pub read : IsReadAs Vectorise deck program
-  pub text_is : text ≡ translation_text deck program
+  pub read : IsReadAs c deck program
+  pub ends : ending_of c deck program ≡ Some end.Done
+  pub has_text : HasText c deck program text
 
 pub translated : (deck source : List ℕ) (input : Option (List ℕ)) (o : Result Program77 Refused) (p : Program77) (text items : List ℕ) → length deck ≤ 2 ^ 24
     → source ≡ source_of data_line77 deck → bytes_in input ≡ input_of data_line77 deck → is_there input ≡ has_data data_line77 deck
     → o ≡ Ok p → Reads77 fortran77 source (program_of p) → OnlyReads source o → OnlyRefuses source o
     → items ≡ printed90 (program_of p) [] ++ data_part (is_there input) (bytes_in input) → text ≡ items
-    → IsTranslated deck text
+    → IsTextFor Vectorise deck text
 translated deck source input o p text items within at after there e reads only_reads only_refuses printed same = record {
   program = program_of p;
   read = read_as Vectorise deck o p within e (subst (λ (t : List ℕ). Reads77 fortran77 t (program_of p)) at reads) (subst (λ (t : List ℕ). OnlyReads t o) at only_reads)
       (subst (λ (t : List ℕ). OnlyRefuses t o) at only_refuses);
-  text_is = same ∙ printed
+  ends = refl;
+  has_text = same ∙ printed
       ∙ ap₂ (λ b t. printed90 (program_of p) [] ++ data_part b t) there after;
 }
 
-pub translation_given : (deck text : List ℕ) (w : Writing) → IsTranslated deck text → Gives w.before text w.now → ComesFor Vectorise deck w Done
-translation_given deck text w h given = record {
-  program = h.program;
-  read = h.read;
-  comes = record { ending_is = refl; all = subst (λ (t : List ℕ). Gives w.before t w.now) h.text_is given };
+pub listed : (deck source : List ℕ) (o : Result Program77 Refused) (p : Program77) (text items : List ℕ) → length deck ≤ 2 ^ 24
+    → source ≡ source_of data_line77 deck
+    → o ≡ Ok p → Reads77 fortran77 source (program_of p) → OnlyReads source o → OnlyRefuses source o
+    → IsListingText (program_of p) items → text ≡ items
+    → IsTextFor Graph deck text
+listed deck source o p text items within at e reads only_reads only_refuses listing same = record {
+  program = program_of p;
+  read = read_as Graph deck o p within e (subst (λ (t : List ℕ). Reads77 fortran77 t (program_of p)) at reads) (subst (λ (t : List ℕ). OnlyReads t o) at only_reads)
+      (subst (λ (t : List ℕ). OnlyRefuses t o) at only_refuses);
+  ends = refl;
+  has_text = subst (IsListingText (program_of p)) (sym same) listing;
 }
 
-pub translation_cut : (deck text : List ℕ) (w : Writing) → IsTranslated deck text → Rose w.faults_before w.faults_now → GivesPart w.before text w.now → ComesFor Vectorise deck w WriteFault
-translation_cut deck text w h fault given = record {
+pub text_given : (c : Command) (deck text : List ℕ) (w : Writing) → IsTextFor c deck text → Gives w.before text w.now → ComesFor c deck w Done
+text_given c deck text w h given = record {
   program = h.program;
   read = h.read;
-  comes = record { fault = fault; front = subst (λ (t : List ℕ). GivesPart w.before t w.now) h.text_is given };
+  text = text;
+  has_text = h.has_text;
+  comes = record { ending_is = h.ends; all = given };
+}
+
+pub text_cut : (c : Command) (deck text : List ℕ) (w : Writing) → IsTextFor c deck text → Rose w.faults_before w.faults_now → GivesPart w.before text w.now → ComesFor c deck w WriteFault
+text_cut c deck text w h fault given = record {
+  program = h.program;
+  read = h.read;
+  text = text;
+  has_text = h.has_text;
+  comes = record { fault = fault; front = given };
 }

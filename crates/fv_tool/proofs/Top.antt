@@ -15,14 +15,16 @@ use Rattle.fv_meaning.specs.declared.End.TheVariants as end
 use Rattle.fv_command.specs.Command.{texts, command_of}
 use Rattle.fv_command.specs.declared.commands.Options.{Options}
 use Rattle.fv_command.specs.declared.commands.Command.{Command}
-use Rattle.fv_command.specs.declared.commands.Command.TheVariants.{Vectorise, Run77}
+use Rattle.fv_command.specs.declared.commands.Command.TheVariants.{Vectorise, Graph, Run77}
 use Rattle.fv_report.specs.declared.outcome.Outcome.{Outcome}
 use Rattle.fv_report.specs.declared.outcome.Outcome.TheVariants.{Done, Usage, Refused, Faulted, StepLimit, ReadFault, WriteFault, OutOfMemory}
 use Rattle.fv_report.specs.Notes.{status_of, note_of}
 use Rattle.fv_tool.specs.Answers.{IsOneOf, IsTrueOf, NoteFor, HasFault}
 use Rattle.fv_tool.specs.Decks.{Reads, IsRefused, ReadsDeck77}
-use Rattle.fv_tool.specs.Endings.{Call, Ends, Ended, EndsAt, IsRun, IsReadOrPassed, IsReadFor, IsRefusedFor, GivesAll, GivesFront, ending_of}
+use Rattle.fv_tool.specs.Endings.{Call, Ends, Ended, EndsAt, IsRun, IsReadOrPassed, IsReadFor, IsRefusedFor, IsReadAs, GivesAll, GivesFront, ending_of}
 use Rattle.fv_tool.specs.Headline.{GivesTranslation, GivesTranslationPart}
+use Rattle.fv_tool.specs.Listings.{IsListingOf, GivesListing, GivesListingPart}
+use Rattle.program_listing.specs.Listing.{IsListingText}
 use Rattle.fv_tool.specs.Running.{GivesRun, GivesRunPart, IsExceeded, run_of}
 use Rattle.fv_tool.proofs.Headline.{holds}
 use Rattle.fv_tool.proofs.Limits.{exceeded, limited}
@@ -139,22 +141,48 @@ never_done k c OutOfMemory s e h = always c.left_before (λ deck r refused still
 -- ---- what was given
 
 translation : (before now : Option (List ℕ)) (deck : List ℕ) → GivesAll Vectorise end.Done before now deck → GivesTranslation before now deck
-translation before now deck g = (_, holds deck g.program g.read.reads, g.text)
+translation before now deck g =
+    (_, holds deck g.program g.read.reads, subst (λ (t : List ℕ). Gives before t now) g.has_text g.given)
 
 translation_part : (before now : Option (List ℕ)) (deck : List ℕ) → GivesFront Vectorise before now deck → GivesTranslationPart before now deck
-translation_part before now deck g = (_, holds deck g.program g.read.reads, g.text)
+translation_part before now deck g =
+    (_, holds deck g.program g.read.reads, subst (λ (t : List ℕ). GivesPart before t now) g.has_text g.given)
+
+listed_as : (deck text : List ℕ) (p : Program) → IsReadAs Graph deck p → IsListingText p text → IsListingOf deck text
+listed_as deck text p read listing = record { program = p; reads = read.reads; listing = listing }
+
+listing_given : (before now : Option (List ℕ)) (deck : List ℕ) → GivesAll Graph end.Done before now deck → GivesListing before now deck
+listing_given before now deck g = (g.text, listed_as deck g.text g.program g.read g.has_text, g.given)
+
+listing_part : (before now : Option (List ℕ)) (deck : List ℕ) → GivesFront Graph before now deck → GivesListingPart before now deck
+listing_part before now deck g = (g.text, listed_as deck g.text g.program g.read g.has_text, g.given)
 
 run_given : (options : Options) (e : End) (before now : Option (List ℕ)) (deck : List ℕ) → GivesAll (Run77 options) e before now deck → GivesRun options e before now deck
-run_given options e before now deck g = record { program = g.program; reads = g.read.reads; ending = g.ending; text = g.text }
+run_given options e before now deck g = record {
+  program = g.program;
+  reads = g.read.reads;
+  ending = g.ending;
+  text = subst (λ (t : List ℕ). Gives before t now) g.has_text g.given;
+}
 
 run_part_given : (options : Options) (before now : Option (List ℕ)) (deck : List ℕ) → GivesFront (Run77 options) before now deck → GivesRunPart options before now deck
-run_part_given options before now deck g = record { program = g.program; reads = g.read.reads; text = g.text }
+run_part_given options before now deck g = record {
+  program = g.program;
+  reads = g.read.reads;
+  text = subst (λ (t : List ℕ). GivesPart before t now) g.has_text g.given;
+}
 
 pub translated : (c : Call) (o : Outcome) (s : ℕ) → s ≡ status_of o → Ends Vectorise c o → s ≡ 0 → IfSome c.left_before (GivesTranslation c.taken_before c.taken_now)
 translated c o s e h q = map_some c.left_before (translation c.taken_before c.taken_now) (at_outcome Vectorise c o Done (tells.is_done o s e q) h).1
 
 pub part : (c : Call) (o : Outcome) (s : ℕ) → s ≡ status_of o → Ends Vectorise c o → s ≡ 6 → IfSome c.left_before (GivesTranslationPart c.taken_before c.taken_now)
 part c o s e h q = map_some c.left_before (translation_part c.taken_before c.taken_now) (at_outcome Vectorise c o WriteFault (tells.is_write_fault o s e q) h).2
+
+pub listed : (c : Call) (o : Outcome) (s : ℕ) → s ≡ status_of o → Ends Graph c o → s ≡ 0 → IfSome c.left_before (GivesListing c.taken_before c.taken_now)
+listed c o s e h q = map_some c.left_before (listing_given c.taken_before c.taken_now) (at_outcome Graph c o Done (tells.is_done o s e q) h).1
+
+pub listed_part : (c : Call) (o : Outcome) (s : ℕ) → s ≡ status_of o → Ends Graph c o → s ≡ 6 → IfSome c.left_before (GivesListingPart c.taken_before c.taken_now)
+listed_part c o s e h q = map_some c.left_before (listing_part c.taken_before c.taken_now) (at_outcome Graph c o WriteFault (tells.is_write_fault o s e q) h).2
 
 pub ran : (options : Options) (c : Call) (o : Outcome) (s : ℕ) → s ≡ status_of o → Ends (Run77 options) c o → s ≡ 0 → IfSome c.left_before (GivesRun options end.Done c.taken_before c.taken_now)
 ran options c o s e h q = map_some c.left_before (run_given options end.Done c.taken_before c.taken_now) (at_outcome (Run77 options) c o Done (tells.is_done o s e q) h).1
@@ -166,6 +194,7 @@ run_part options c o s e h q = map_some c.left_before (run_part_given options c.
 run_for : (k : Option Command) (c : Call) (a : Command) (e : End) → k ≡ Some a → IsRun a → EndsAt a c e
     → (options : Options) × (k ≡ Some (Run77 options)) × IfSome c.left_before (GivesRun options e c.taken_before c.taken_now)
 run_for k c Vectorise e q run at = absurd run
+run_for k c Graph e q run at = absurd run
 run_for k c (Run77 options) e q run at = (options, q, map_some c.left_before (run_given options e c.taken_before c.taken_now) at.1)
 
 pub faulted : (k : Option Command) (c : Call) (o : Outcome) (s : ℕ) → s ≡ status_of o → Ended k c o → s ≡ 3
@@ -272,6 +301,7 @@ over_limit options c o s q h e =
 
 has_fault : (k : Command) (c : Call) (fault : Kind) (line : ℕ) → IsRun k → IfSome c.left_before (GivesAll k (end.Fault fault line) c.taken_before c.taken_now) → IfSome c.left_before (HasFault k fault line)
 has_fault Vectorise c fault line run h = absurd run
+has_fault Graph c fault line run h = absurd run
 has_fault (Run77 options) c fault line run h =
     map_some c.left_before (λ deck (g : GivesAll (Run77 options) (end.Fault fault line) c.taken_before c.taken_now deck). (g.program, g.read.reads, g.ending)) h
 

@@ -11,7 +11,7 @@ use Rattle.fv_meaning.specs.declared.End.TheVariants as end
 use Rattle.fv_tree.specs.Causes.{refusal_at}
 use Rattle.fv_tree.specs.declared.refusals.Cause.TheVariants as cause
 use Rattle.fv_command.specs.declared.commands.Command.{Command}
-use Rattle.fv_command.specs.declared.commands.Command.TheVariants.{Vectorise, Run77}
+use Rattle.fv_command.specs.declared.commands.Command.TheVariants.{Vectorise, Graph, Run77}
 use Rattle.fv_report.specs.declared.outcome.Outcome.{Outcome}
 use Rattle.fv_report.specs.declared.outcome.Outcome.TheVariants.{Done, Usage, Refused, Faulted, StepLimit, ReadFault, WriteFault, OutOfMemory}
 use Rattle.fv_tool.specs.Decks.{Reads, IsRefused}
@@ -32,9 +32,10 @@ abbrev IsWell : End → Type 0
 IsWell end.Done = Unit {0}
 IsWell _ = ⊥
 
--- a translation ends well
+-- a translation ends well, and so does a listing
 is_run : (k : Command) (deck : List ℕ) (p : Program) (e : End) → ending_of k deck p ≡ Some e → (IsWell e → ⊥) → IsRun k
 is_run Vectorise deck p e q n = absurd (n (subst IsWell (some_inj end.Done e q) tt))
+is_run Graph deck p e q n = absurd (n (subst IsWell (some_inj end.Done e q) tt))
 is_run (Run77 options) deck p e q n = tt
 
 -- ---- all bytes were read
@@ -44,7 +45,7 @@ pub worked : (k : Command) (left now : Option (List ℕ)) (w : Writing) (d d' : 
 worked k left now w d d' bytes Done t at h = (
   at,
   told (GivesAll k end.Done w.before w.now) left bytes now t at
-      (record { program = h.program; read = h.read; ending = h.comes.ending_is; text = h.comes.all }),
+      (record { program = h.program; read = h.read; ending = h.comes.ending_is; text = h.text; has_text = h.has_text; given = h.comes.all }),
 )
 worked k left now w d d' bytes Usage t at h = absurd h
 worked k left now w d d' bytes (Refused r) t at h = (told (IsRefusedFor k r) left bytes now t at h.0, (inl at, λ _. at), h.1)
@@ -53,7 +54,7 @@ worked k left now w d d' bytes (Faulted fault line) t at h = (
   (
     at,
     told (GivesAll k (end.Fault fault line) w.before w.now) left bytes now t at
-        (record { program = h.program; read = h.read; ending = h.comes.ending_is; text = h.comes.all }),
+        (record { program = h.program; read = h.read; ending = h.comes.ending_is; text = h.text; has_text = h.has_text; given = h.comes.all }),
   ),
 )
 worked k left now w d d' bytes StepLimit t at h = (
@@ -61,7 +62,7 @@ worked k left now w d d' bytes StepLimit t at h = (
   (
     at,
     told (GivesAll k end.StepLimit w.before w.now) left bytes now t at
-        (record { program = h.program; read = h.read; ending = h.comes.ending_is; text = h.comes.all }),
+        (record { program = h.program; read = h.read; ending = h.comes.ending_is; text = h.text; has_text = h.has_text; given = h.comes.all }),
   ),
 )
 worked k left now w d d' bytes ReadFault t at h = absurd h
@@ -69,7 +70,7 @@ worked k left now w d d' bytes WriteFault t at h = (
   h.comes.fault,
   at,
   told (GivesFront k w.before w.now) left bytes now t at
-      (record { program = h.program; read = h.read; text = h.comes.front }),
+      (record { program = h.program; read = h.read; text = h.text; has_text = h.has_text; given = h.comes.front }),
 )
 worked k left now w d d' bytes OutOfMemory t at h = h
 
@@ -83,10 +84,12 @@ worked_for k asked left now w d d' items bytes o e same t at h =
 
 too_long : (k : Command) (deck : List ℕ) → 2 ^ 24 < length deck → IsRefused k deck (refusal_at cause.TooLong 0)
 too_long Vectorise deck h = deck_too_long h
+too_long Graph deck h = deck_too_long h
 too_long (Run77 options) deck h = deck_too_long h
 
 not_read : (k : Command) (deck : List ℕ) → 2 ^ 24 < length deck → (p : Program) → Reads k deck p → ⊥
 not_read Vectorise deck h p reads = omega (arith, h, reads.within)
+not_read Graph deck h p reads = omega (arith, h, reads.within)
 not_read (Run77 options) deck h p reads = omega (arith, h, reads.within)
 
 passed : (k : Command) (left now : Option (List ℕ)) → TakesMoreThan (2 ^ 24) left now → IfSome left (IsRefusedFor k (refusal_at cause.TooLong 0))

@@ -5,7 +5,7 @@ use Rattle.fv_tree.specs.Plain.{Program}
 use Rattle.fv_meaning.specs.Sequential.{ending}
 use Rattle.fv_meaning.specs.declared.End.TheVariants.{Fault}
 use Rattle.fv_command.specs.declared.commands.Command.{Command}
-use Rattle.fv_command.specs.declared.commands.Command.TheVariants.{Vectorise, Run77}
+use Rattle.fv_command.specs.declared.commands.Command.TheVariants.{Vectorise, Graph, Run77}
 use Rattle.fv_report.specs.declared.outcome.Outcome.{Outcome}
 use Rattle.fv_report.specs.declared.outcome.Outcome.TheVariants.{Refused, Faulted}
 use Rattle.fv_report.specs.Notes.{status_of, note_of}
@@ -21,6 +21,7 @@ IsOneOf (n ∷ m ∷ ns) status = (status ≡ n) ⊎ IsOneOf (m ∷ ns) status
 -- the deck's run ends in this fault at this line
 abbrev pub HasFault : Command → Kind → ℕ → List ℕ → Type 0
 HasFault Vectorise fault line deck = ⊥
+HasFault Graph fault line deck = ⊥
 HasFault (Run77 options) fault line deck = (p : Program) × ReadsDeck77 deck p
     × (ending (run_of options deck p) ≡ Some (Fault fault line))
 

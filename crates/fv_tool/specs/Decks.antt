@@ -7,7 +7,7 @@ use Rattle.fv_tree.specs.Causes.{refusal_at}
 use Rattle.fv_tree.specs.declared.refusals.Cause.TheVariants.{TooLong as TooLong'}
 use Rattle.f77_grammar.specs.Reading77.{Reads77, Refused77}
 use Rattle.fv_command.specs.declared.commands.Command.{Command}
-use Rattle.fv_command.specs.declared.commands.Command.TheVariants.{Vectorise, Run77}
+use Rattle.fv_command.specs.declared.commands.Command.TheVariants.{Vectorise, Graph, Run77}
 use Rattle.fv_meaning.specs.Dialect.{fortran77}
 
 -- ---- a deck of FORTRAN 77
@@ -27,8 +27,10 @@ pub data RefusedDeck77 (deck : List ℕ) : Refusal → Type 0 where
 
 abbrev pub Reads : Command → List ℕ → Program → Type 0
 Reads Vectorise = ReadsDeck77
+Reads Graph = ReadsDeck77
 Reads (Run77 options) = ReadsDeck77
 
 abbrev pub IsRefused : Command → List ℕ → Refusal → Type 0
 IsRefused Vectorise = RefusedDeck77
+IsRefused Graph = RefusedDeck77
 IsRefused (Run77 options) = RefusedDeck77

@@ -9,10 +9,11 @@ use Rattle.fv_meaning.specs.declared.End.TheVariants as end
 use Rattle.fv_io.specs.Causes.{Rose}
 use Rattle.fv_io.specs.Streams.{TakesMoreThan, Gives, GivesPart}
 use Rattle.fv_command.specs.declared.commands.Command.{Command}
-use Rattle.fv_command.specs.declared.commands.Command.TheVariants.{Vectorise, Run77}
+use Rattle.fv_command.specs.declared.commands.Command.TheVariants.{Vectorise, Graph, Run77}
 use Rattle.fv_report.specs.declared.outcome.Outcome.{Outcome}
 use Rattle.fv_report.specs.declared.outcome.Outcome.TheVariants.{Done, Usage, Refused, Faulted, StepLimit, ReadFault}
 use Rattle.fv_report.specs.declared.outcome.Outcome.TheVariants.{WriteFault, OutOfMemory}
+use Rattle.program_listing.specs.Listing.{IsListingText}
 use Rattle.fv_tool.specs.Decks.{Reads, IsRefused}
 use Rattle.fv_tool.specs.Running.{run_of, run_text}
 use Rattle.fv_tool.specs.Translation.{translation_text}
@@ -42,14 +43,17 @@ IsRefusedAfter c before now bytes = (r : Refusal) × IsRefused c bytes r × IsRe
 
 -- ---- what a command comes to with a deck and its program
 
--- a translation needs no run
+-- a translation needs no run, nor does a listing
 abbrev pub ending_of : Command → List ℕ → Program → Option End
 ending_of Vectorise deck p = Some end.Done
+ending_of Graph deck p = Some end.Done
 ending_of (Run77 options) deck p = ending (run_of options deck p)
 
-abbrev pub text_of : Command → List ℕ → Program → List ℕ
-text_of Vectorise deck p = translation_text deck p
-text_of (Run77 options) deck p = run_text options p (run_of options deck p)
+-- a text that it may write: a translation and the text of a run are one, and a listing is any one of the program
+abbrev pub HasText : Command → List ℕ → Program → List ℕ → Type 0
+HasText Vectorise deck p text = text ≡ translation_text deck p
+HasText Graph deck p text = IsListingText p text
+HasText (Run77 options) deck p text = text ≡ run_text options p (run_of options deck p)
 
 -- the deck is read as this program and as no other, and it isn't refused
 pub record IsReadAs (c : Command) (deck : List ℕ) (p : Program) : Type 0 where
@@ -67,19 +71,24 @@ pub record GivesAll (c : Command) (e : End) (before now : Option (List ℕ)) (de
   pub program : Program
   pub read : IsReadAs c deck program
   pub ending : ending_of c deck program ≡ Some e
-  pub text : Gives before (text_of c deck program) now
+  pub text : List ℕ
+  pub has_text : HasText c deck program text
+  pub given : Gives before text now
 
 -- the command has given a front of its text
 pub record GivesFront (c : Command) (before now : Option (List ℕ)) (deck : List ℕ) : Type 0 where
   pub program : Program
   pub read : IsReadAs c deck program
-  pub text : GivesPart before (text_of c deck program) now
+  pub text : List ℕ
+  pub has_text : HasText c deck program text
+  pub given : GivesPart before text now
 
 -- ---- how a call ends
 
 -- a run alone ends by a fault or at a limit of steps
 abbrev pub IsRun : Command → Type 0
 IsRun Vectorise = ⊥
+IsRun Graph = ⊥
 IsRun (Run77 options) = Unit {0}
 
 abbrev pub EndsAt : Command → Call → End → Type 0

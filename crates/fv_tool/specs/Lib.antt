@@ -3,6 +3,7 @@ pub mod Asked
 pub mod Decks
 pub mod Endings
 pub mod Headline
+pub mod Listings
 pub mod Running
 pub mod Translation
 pub mod Works

@@ -9,7 +9,7 @@ use Rattle.fv_command.specs.declared.commands.Command.{Command}
 use Rattle.fv_report.specs.declared.outcome.Outcome.{Outcome}
 use Rattle.fv_report.specs.declared.outcome.Outcome.TheVariants.{Done, Usage, Refused, Faulted, StepLimit, ReadFault}
 use Rattle.fv_report.specs.declared.outcome.Outcome.TheVariants.{WriteFault, OutOfMemory}
-use Rattle.fv_tool.specs.Endings.{IsReadAs, IsRefusedFor, ending_of, text_of}
+use Rattle.fv_tool.specs.Endings.{IsReadAs, IsRefusedFor, HasText, ending_of}
 
 -- the bytes in the sink and its count of faults, before and after
 pub record Writing : Type 0 where
@@ -39,7 +39,9 @@ Comes ending text w _ = ⊥
 pub record ComesFor (c : Command) (deck : List ℕ) (w : Writing) (o : Outcome) : Type 0 where
   pub program : Program
   pub read : IsReadAs c deck program
-  pub comes : Comes (ending_of c deck program) (text_of c deck program) w o
+  pub text : List ℕ
+  pub has_text : HasText c deck program text
+  pub comes : Comes (ending_of c deck program) text w o
 
 abbrev pub Works : Command → List ℕ → Writing → Outcome → Type 0
 Works c deck w Done = ComesFor c deck w Done

@@ -14,15 +14,17 @@ ghost use Rattle.fv_meaning.specs.declared.End.TheVariants.{Done, Fault, StepLim
 ghost use Rattle.fv_command.specs.Command.{texts, command_of};
 ghost use Rattle.fv_command.specs.declared.commands.Options.{Options};
 ghost use Rattle.fv_command.specs.declared.commands.Command.{Command as Asked};
-ghost use Rattle.fv_command.specs.declared.commands.Command.TheVariants.{Vectorise, Run77};
+ghost use Rattle.fv_command.specs.declared.commands.Command.TheVariants.{Vectorise, Graph, Run77};
 ghost use Rattle.fv_tool.specs.Answers.{IsOneOf, NoteFor};
 ghost use Rattle.fv_tool.specs.Asked.{Asks, HasNotFailed, IfTold};
 ghost use Rattle.fv_tool.specs.Decks.{Reads, IsRefused, ReadsDeck77};
 ghost use Rattle.fv_tool.specs.Endings.{Ends, Ended, IsReadOrPassed, IsRefusedAfter, ending_of};
 ghost use Rattle.fv_tool.specs.Headline.{GivesTranslation, GivesTranslationPart};
+ghost use Rattle.fv_tool.specs.Listings.{GivesListing, GivesListingPart};
 ghost use Rattle.fv_tool.specs.Running.{GivesRun, GivesFaultedRun, GivesRunPart, IsExceeded, run_of};
 
 mod deck;
+mod listing;
 #[cfg(test)]
 mod run_tests;
 mod running;
@@ -34,6 +36,7 @@ use deck::read_deck;
 use fv_command::{Command, command};
 use fv_io::{Sink, Source};
 use fv_report::{Outcome, note, status};
+use listing::graph;
 use running::run;
 use std::alloc::Global;
 use translation::vectorise;
@@ -64,6 +67,7 @@ fn perform<S: Source, K: Sink>(
     };
     match command {
         Command::Vectorise => vectorise(alloc, bytes.as_slice(), out),
+        Command::Graph => graph(alloc, bytes.as_slice(), out),
         Command::Run77(options) => run(alloc, options, bytes.as_slice(), out),
     }
 }
@@ -127,6 +131,12 @@ pub fn run_tool<S: Source, K: Sink, E: Sink>(
         → IfTold (S.left deck.old) (GivesTranslation (K.taken out.old) (K.taken out.new)) }
     ensures part { Asks words.now.items Vectorise → result ≡ 6
         → IfTold (S.left deck.old) (GivesTranslationPart (K.taken out.old) (K.taken out.new)) }
+
+    // `graph` gives a listing of the deck's program at 0, and a front of one at 6.
+    ensures listed { Asks words.now.items Graph → result ≡ 0
+        → IfTold (S.left deck.old) (GivesListing (K.taken out.old) (K.taken out.new)) }
+    ensures listed_part { Asks words.now.items Graph → result ≡ 6
+        → IfTold (S.left deck.old) (GivesListingPart (K.taken out.old) (K.taken out.new)) }
 
     // `run77` gives all of the run's text: at 0 the run ended without fault, at 3 by a fault, at 4 since its steps
     // exceed the limit. At 6 it gives a front.

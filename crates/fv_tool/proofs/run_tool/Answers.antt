@@ -30,6 +30,12 @@ returns-clause-translated g c k = top.translated _ c.work-outcome.result c.statu
 pub returns-clause-part : goal.returns-clause-part
 returns-clause-part g c k = top.part _ c.work-outcome.result c.status.result c.status.ensures (for_command _ _ _ _ k (for_words _ _ _ _ c.as_slice.ensures.value c.work-outcome.ensures.ended))
 
+pub returns-clause-listed : goal.returns-clause-listed
+returns-clause-listed g c k = top.listed _ c.work-outcome.result c.status.result c.status.ensures (for_command _ _ _ _ k (for_words _ _ _ _ c.as_slice.ensures.value c.work-outcome.ensures.ended))
+
+pub returns-clause-listed_part : goal.returns-clause-listed_part
+returns-clause-listed_part g c k = top.listed_part _ c.work-outcome.result c.status.result c.status.ensures (for_command _ _ _ _ k (for_words _ _ _ _ c.as_slice.ensures.value c.work-outcome.ensures.ended))
+
 pub returns-clause-ran : goal.returns-clause-ran
 returns-clause-ran g c o k = top.ran o _ c.work-outcome.result c.status.result c.status.ensures (for_command _ _ _ _ k (for_words _ _ _ _ c.as_slice.ensures.value c.work-outcome.ensures.ended))
 

@@ -3,7 +3,7 @@ use Rattle.std.specs.Option.{option_copied}
 use Rattle.fv_report.specs.declared.outcome.Outcome.{Outcome}
 use Rattle.fv_command.specs.declared.commands.Command.TheVariants.{Vectorise}
 use Rattle.fv_tool.specs.Works.{Works}
-use Rattle.fv_tool.proofs.Readings.{not_worked, translated, translation_given, translation_cut}
+use Rattle.fv_tool.proofs.Readings.{not_worked, translated, text_given, text_cut}
 use Rattle.fv_tool.proofs.translation.vectorise.Goals as goal
 
 pub returns-in-Err-clause-works : goal.returns-in-Err-clause-works
@@ -14,7 +14,7 @@ returns-in-Err-clause-works g c =
 
 pub returns-in-Ok-write_all-clause-works : goal.returns-in-Ok-write_all-clause-works
 returns-in-Ok-write_all-clause-works g c =
-    translation_given c.args.deck.now _ _
+    text_given Vectorise c.args.deck.now _ _
     (translated c.args.deck.now c.source_and_input.result.0.now (option_copied c.source_and_input.result.1) c.read77.result c.in-Ok.program _ _ c.requires
     c.source_and_input.ensures.source c.source_and_input.ensures.input c.source_and_input.ensures.there c.in-Ok.is c.in-Ok.ensures.ok c.read77.ensures.only_read c.read77.ensures.only_refused
     c.in-Ok-translation.ensures c.as_slice.ensures.value)
@@ -22,7 +22,7 @@ returns-in-Ok-write_all-clause-works g c =
 
 pub returns-clause-works : goal.returns-clause-works
 returns-clause-works g c =
-    translation_cut c.args.deck.now _ _
+    text_cut Vectorise c.args.deck.now _ _
     (translated c.args.deck.now c.source_and_input.result.0.now (option_copied c.source_and_input.result.1) c.read77.result c.in-Ok.program _ _ c.requires
     c.source_and_input.ensures.source c.source_and_input.ensures.input c.source_and_input.ensures.there c.in-Ok.is c.in-Ok.ensures.ok c.read77.ensures.only_read c.read77.ensures.only_refused
     c.in-Ok-translation.ensures c.as_slice.ensures.value)

@@ -1,0 +1,50 @@
+//! `graph`: the listing of a deck.
+ghost use Rattle.std.specs.Prelude.{◌≡◌, ◌^◌, ◌≤◌, length, IfOk};
+ghost use Rattle.fv_tree.specs.View.{program_of};
+ghost use Rattle.fv_meaning.specs.Dialect.{fortran77};
+ghost use Rattle.fv_meaning.specs.Profile77.{IsProgram77};
+ghost use Rattle.fv_command.specs.declared.commands.Command.TheVariants.{Graph};
+ghost use Rattle.program_listing.specs.Listing.{IsListingText};
+ghost use Rattle.fv_tool.specs.Works.{Works};
+
+use crate::deck::unread;
+use f77_read::read77;
+use fv_deck::{DataLine, source_and_input};
+use fv_io::{Sink, write_all};
+use fv_report::Outcome;
+use fv_tree::{Memory, Program77};
+use program_listing::listing_text;
+use std::alloc::Global;
+
+// Such a program has few declarations.
+fn whole_listing(alloc: Global, program: &Program77) -> Result<Vec<u8>, Memory>
+    requires { IsProgram77 fortran77 (program_of program.now) }
+    ensures { IfOk result (λ text. IsListingText (program_of program.now) text.items) }
+{
+    listing_text(alloc, program)
+}
+
+/// Lists the dependences of the deck, which has at most 2^24 bytes. Nothing is written before the whole text is there.
+pub(crate) fn graph<K: Sink>(alloc: Global, deck: &[u8], out: &mut K) -> Outcome
+    requires { length deck.now ≤ 2 ^ 24 }
+    ensures works { Works Graph deck.now (record {
+      before = K.taken out.old;
+      now = K.taken out.new;
+      faults_before = K.faults out.old;
+      faults_now = K.faults out.new;
+    }) result }
+    ensures later { K.faults out.old ≤ K.faults out.new }
+{
+    let (source, _) = source_and_input(deck, DataLine::Fortran77);
+    let program = match read77(alloc, source) {
+        Ok(program) => program,
+        Err(refused) => return unread(refused),
+    };
+    let Ok(text) = whole_listing(alloc, &program) else {
+        return Outcome::OutOfMemory;
+    };
+    match write_all(out, text.as_slice()) {
+        Ok(()) => Outcome::Done,
+        Err(_) => Outcome::WriteFault,
+    }
+}

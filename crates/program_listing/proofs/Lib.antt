@@ -1,0 +1,4 @@
+pub mod Entries
+pub mod Plain
+pub mod Straight
+pub mod Symbols

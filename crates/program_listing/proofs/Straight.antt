@@ -1,0 +1,48 @@
+-- What stands in a nest without an IF, a guard, a label and a jump.
+use Rattle.std.proofs.Common.{◌≡◌, Bool, true, false, not, ◌&&◌, Option, Some, None, List, [], ◌∷◌, map, refl, sym, ap, ◌∙◌, ℕ}
+use Rattle.std.specs.Prelude.{is_none, is_some}
+use Rattle.std.specs.List.{list_all}
+use Rattle.std.specs.Option.{option_map}
+use Rattle.fv_tree.specs.Plain.{Expression}
+use Rattle.fv_tree.specs.View.{expression_of}
+use Rattle.fv_tree.specs.declared.exprs.Expr.{Expr}
+use Rattle.fv_tree.specs.declared.lists.Seq.{Seq}
+use Rattle.nest_tree.specs.declared.parts.Loop.{Loop}
+use Rattle.nest_tree.specs.declared.parts.GuardedStmt.{GuardedStmt}
+use Rattle.nest_tree.specs.declared.parts.NestArm.{NestArm}
+use Rattle.nest_tree.specs.declared.parts.Part.{Part}
+use Rattle.nest_tree.specs.declared.parts.Part.TheVariants as variants
+use Rattle.nest_tree.specs.Plain as P
+use Rattle.nest_tree.specs.View.{guarded_of, part_of}
+use Rattle.nest_tree.proofs.Equations.{part_of-run, part_of-turns, part_of-choice, part_of-label, part_of-jump}
+use Rattle.program_listing.specs.Testable.{is_straight, are_straight}
+
+none_of : (o : Option Expr) (b : Bool) → is_some o ≡ not b → b ≡ is_none (option_map expression_of o)
+none_of None true e = refl
+none_of None false e = absurd (cc)
+none_of (Some x) true e = absurd (cc)
+none_of (Some x) false e = refl
+
+pub unguarded_by : (s : GuardedStmt) (b : Bool) → is_some s.guard ≡ not b → b ≡ is_none (guarded_of s).guard
+unguarded_by s b e = none_of s.guard b e
+
+each_part : (ps : List P.Part) → are_straight (P.parts ps) ≡ list_all is_straight ps
+each_part [] = refl
+each_part (p ∷ ps) = ap (λ b. is_straight p && b) (each_part ps)
+
+pub straight-run : (s : GuardedStmt) → is_straight (part_of (variants.Run s)) ≡ is_none (guarded_of s).guard
+straight-run s = ap is_straight (part_of-run s)
+
+pub straight-turns : (l : Loop) (ps : Seq Part) → is_straight (part_of (variants.Turns l ps)) ≡ list_all is_straight (map part_of ps)
+straight-turns l ps = ap is_straight (part_of-turns l ps) ∙ each_part (map part_of ps)
+
+pub straight-choice : (bs : Seq NestArm) (ps : Seq Part) → is_straight (part_of (variants.Choice bs ps)) ≡ false
+straight-choice bs ps = ap is_straight (part_of-choice bs ps)
+
+pub straight-label : (n : ℕ) → is_straight (part_of (variants.Label n)) ≡ false
+straight-label n = ap is_straight (part_of-label n)
+
+pub straight-jump : (n : ℕ) → is_straight (part_of (variants.Jump n)) ≡ false
+straight-jump n = ap is_straight (part_of-jump n)
+
+pub ruleset straight_laws = (straight-run, straight-turns, straight-choice, straight-label, straight-jump)

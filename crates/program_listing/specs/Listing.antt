@@ -1,0 +1,82 @@
+-- The listing of a program: its kept loops with their reasons, and its nests with their dependences and holds.
+use Rattle.std.specs.Prelude.{◌≡◌, ◌≤◌, ◌⊎◌, ℕ, Option, None, Some, List, [], ◌∷◌, ◌++◌, length, codes}
+use Rattle.std.specs.List.{flat_map}
+use Rattle.fv_tree.specs.Plain.{Program}
+use Rattle.fv_meaning.specs.ArrayValues.{counted}
+use Rattle.nest_tree.specs.Bodies.{nest_statements}
+use Rattle.nest_tree.specs.Plain.{Nest}
+use Rattle.find_nests.specs.Found.{Found, InNest, Kept, found_in}
+use Rattle.find_nests.specs.declared.reasons.Reason.{Reason}
+use Rattle.find_nests.specs.declared.reasons.Reason.TheVariants.{Exit, InnerIf, Bound, Step, Deep, Large}
+use Rattle.loop_normal.specs.Normalised.{normalised}
+use Rattle.components.specs.declared.graphs.Graph.{Graph}
+use Rattle.components.specs.declared.graphs.Hold.{Hold}
+use Rattle.nest_graph.specs.Graph.{IsGraphOf}
+use Rattle.sections.specs.Holds.{holds_of}
+use Rattle.f90_grammar.specs.PrintedText.{with_line_feed}
+use Rattle.graph_print.specs.Lines.{Entry, KeepEntry}
+use Rattle.graph_print.specs.Listing.{entries_of, lines_of_entries}
+use Rattle.program_listing.specs.Testable.{IsTestable}
+
+-- why a loop is kept
+abbrev pub reason_word : Reason → List ℕ
+reason_word Exit = codes "EXIT"
+reason_word InnerIf = codes "INNERIF"
+reason_word Bound = codes "BOUND"
+reason_word Step = codes "STEP"
+reason_word Deep = codes "DEEP"
+reason_word Large = codes "LARGE"
+
+-- ---- nests
+
+-- the holds of all statements, which are numbered from 1, in their order
+abbrev pub all_holds : Nest → List Hold
+all_holds n = flat_map (holds_of n) (counted 1 (length (nest_statements n)))
+
+-- with this number, a graph of the nest and its holds; cycles aren't listed so far
+abbrev pub HasGraphEntries : ℕ → Nest → List Entry → Type 0
+HasGraphEntries number n entries =
+    (g : Graph) × IsGraphOf n g × (entries ≡ entries_of n number g (all_holds n) [])
+
+-- a nest that isn't tested so far
+abbrev pub not_built : Nest → List Entry
+not_built n = KeepEntry n.line (codes "NOTBUILT") ∷ []
+
+-- A nest whose loops were made to go from 1 by 1 is listed so exactly where its dependences can be tested
+abbrev pub HasNestEntries : Nest → Option Nest → List Entry → Type 0
+HasNestEntries found None entries = entries ≡ not_built found
+HasNestEntries found (Some n) entries =
+    (IsTestable n × HasGraphEntries found.number n entries) ⊎ ((IsTestable n → ⊥) × (entries ≡ not_built found))
+
+-- ---- programs
+
+-- no more symbols than a program has names
+abbrev pub HasFewSymbols : Found → Type 0
+HasFewSymbols (InNest n) = length n.symbols ≤ 1000
+HasFewSymbols (Kept line r) = Unit {0}
+
+abbrev pub HasEntries : Found → List Entry → Type 0
+HasEntries (InNest n) entries = HasNestEntries n (normalised n) entries
+HasEntries (Kept line r) entries = entries ≡ KeepEntry line (reason_word r) ∷ []
+
+-- one after the other
+abbrev pub HaveEntries : List Found → List Entry → Type 0
+HaveEntries [] entries = entries ≡ []
+HaveEntries (f ∷ fs) entries =
+    (first : List Entry) × (rest : List Entry) × (entries ≡ first ++ rest) × HasEntries f first × HaveEntries fs rest
+
+-- lines of entries of which this holds
+pub record AreLinesOf (P : List Entry → Type 0) (lines : List (List ℕ)) : Type 0 where
+  pub entries : List Entry
+  pub are : P entries
+  pub lines_are : lines ≡ lines_of_entries entries
+
+-- each loop of the program that stands in no nest, in the order of the text
+abbrev pub IsListing : Program → List (List ℕ) → Type 0
+IsListing p lines = AreLinesOf (HaveEntries (found_in p)) lines
+
+-- a line feed ends each line
+pub record IsListingText (p : Program) (text : List ℕ) : Type 0 where
+  pub lines : List (List ℕ)
+  pub listing : IsListing p lines
+  pub text_is : text ≡ flat_map with_line_feed lines

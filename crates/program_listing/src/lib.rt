@@ -1,0 +1,12 @@
+//! The listing of a program: which loops are kept and why, and the dependences and holds of each nest.
+#![tactic(auto)]
+
+mod listing;
+mod lists;
+mod nests;
+mod straight;
+mod texts;
+mod words;
+
+pub use listing::list;
+pub use texts::listing_text;

@@ -1,0 +1,74 @@
+//! The lines of a nest.
+ghost use Rattle.std.specs.Prelude.{◌≡◌, ◌≤◌, IfOk, Some, length, map};
+ghost use Rattle.f90_print.specs.Notes.{text_of};
+ghost use Rattle.graph_print.specs.Listing.{lines_of_entries};
+ghost use Rattle.loop_normal.specs.Normalised.{normalised};
+ghost use Rattle.nest_tree.specs.Bodies.{nest_statements};
+ghost use Rattle.nest_tree.specs.View.{nest_of};
+ghost use Rattle.program_listing.specs.Listing.{AreLinesOf, HasGraphEntries, HasNestEntries, all_holds, not_built};
+ghost use Rattle.program_listing.specs.Testable.{IsTestable};
+
+use crate::lists::add;
+use crate::straight::is_testable;
+use components::Hold;
+use dep_graph::graph;
+use fv_tree::{Line, Memory, Seq};
+use graph_print::{kept_lines, lines};
+use loop_normal::normalise;
+use nest_tree::Nest;
+use sections::holds;
+use std::alloc::Global;
+
+// The holds of all statements of a nest that has so many.
+fn all_holds(alloc: Global, nest: &Nest, count: u32) -> Result<Seq<Hold>, Memory>
+    requires testable { IsTestable (nest_of nest.now) }
+    requires count { count ≡ length (nest_statements (nest_of nest.now)) }
+    ensures { IfOk result (λ all. all ≡ all_holds (nest_of nest.now)) }
+{
+    let mut all = Vec::new(alloc);
+    for before in 0..count {
+        add(&mut all, holds(alloc, before + 1, nest)?)?;
+    }
+    Ok(Seq::from_vec(all))
+}
+
+// The lines of a nest with this number, with its graph and its holds.
+fn graph_lines(alloc: Global, number: u32, nest: &Nest) -> Result<Seq<Line>, Memory>
+    requires { IsTestable (nest_of nest.now) }
+    ensures { IfOk result (λ all. AreLinesOf (HasGraphEntries number (nest_of nest.now)) (map text_of all)) }
+{
+    let graph = graph(alloc, nest)?;
+    let holds = all_holds(alloc, nest, graph.stmts)?;
+    lines(alloc, nest, number, &graph, &holds, &Seq::new(alloc))
+}
+
+// The line of a nest that isn't tested so far.
+fn not_built(alloc: Global, nest: &Nest) -> Result<Seq<Line>, Memory>
+    ensures { IfOk result (λ all. map text_of all ≡ lines_of_entries (not_built (nest_of nest.now))) }
+{
+    kept_lines(alloc, nest.line, b"NOTBUILT")
+}
+
+// The lines of a nest that was found as this one, once its loops go from 1 by 1.
+fn normal_lines(alloc: Global, found: &Nest, nest: &Nest) -> Result<Seq<Line>, Memory>
+    ensures { IfOk result (λ all.
+        AreLinesOf (HasNestEntries (nest_of found.now) (Some (nest_of nest.now))) (map text_of all)) }
+{
+    if is_testable(alloc, nest)? {
+        graph_lines(alloc, found.number, nest)
+    } else {
+        not_built(alloc, found)
+    }
+}
+
+/// The lines of a nest that was found.
+pub(crate) fn nest_lines(alloc: Global, found: &Nest) -> Result<Seq<Line>, Memory>
+    requires { length found.now.symbols ≤ 1000 }
+    ensures { IfOk result (λ all.
+        AreLinesOf (HasNestEntries (nest_of found.now) (normalised (nest_of found.now))) (map text_of all)) }
+{
+    match normalise(alloc, found)? {
+        Some(nest) => normal_lines(alloc, found, &nest),
+        None => not_built(alloc, found),
+    }
+}

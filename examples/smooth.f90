@@ -1,0 +1,19 @@
+PROGRAM SMOOTH
+IMPLICIT NONE
+INTEGER :: A(0:9)
+INTEGER :: B(8)
+INTEGER :: I
+INTEGER :: K
+READ *, (A(I), I = 1, 8)
+DO K = 1, 3
+DO I = 1, 8
+B(I) = (A(I - 1) + 2 * A(I) + A(I + 1)) / 4
+END DO
+DO I = 1, 8
+A(I) = B(I)
+END DO
+END DO
+PRINT *, (A(I), I = 1, 8)
+END
+!DATA
+0 0 0 64 64 0 0 0

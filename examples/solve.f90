@@ -1,0 +1,20 @@
+PROGRAM SOLVE
+IMPLICIT NONE
+INTEGER :: B(4)
+INTEGER :: I
+INTEGER :: J
+INTEGER :: L(4, 4)
+READ *, ((L(I, J), J = 1, 4), I = 1, 4), B
+DO I = 2, 4
+DO J = 1, I - 1
+B(I) = B(I) - L(I, J) * B(J)
+END DO
+END DO
+PRINT *, B
+END
+!DATA
+1 0 0 0
+2 1 0 0
+-1 3 1 0
+4 0 -2 1
+1 5 11 -3
