@@ -818,7 +818,7 @@ const STEPS: &[Row] = &[
 const NO_COMMANDS: &[&[&str]] = &[
     &[],
     &[""],
-    &["graph"],
+    &["graph", "--final"],
     &["run"],
     &["RUN77"],
     &["run77 "],

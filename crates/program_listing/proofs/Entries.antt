@@ -1,52 +1,77 @@
 -- What is listed of nests and kept loops, one after the other.
-use Rattle.std.proofs.Common.{◌≡◌, ℕ, ◌+◌, ◌<◌, Option, Some, None, Result, Ok, Err, List, [], ◌∷◌, ◌++◌, map, take, length, get_or, refl, sym, ap, ◌∙◌, subst, append_assoc, inl, inr}
+use Rattle.std.proofs.Common.{◌≡◌, ℕ, ◌+◌, ◌<◌, ◌≤◌, Option, Some, None, Result, Ok, Err, List, [], ◌∷◌, ◌++◌, map, take, length, get_or, codes, refl, sym, ap, ◌∙◌, subst, append_assoc, inl, inr}
 use Rattle.std.specs.Prelude.{IfOk}
-use Rattle.std.proofs.lemmas.List.{append-nil, map-append}
+use Rattle.std.proofs.lemmas.List.{append-nil, map-append, take_all}
 use Rattle.components.specs.declared.graphs.Cycle.{Cycle}
 use Rattle.components.specs.declared.graphs.Graph.{Graph}
 use Rattle.components.specs.declared.graphs.Hold.{Hold}
+use Rattle.fv_tree.specs.declared.programs.Line.{Line}
+use Rattle.fv_tree.specs.Plain.{Program}
+use Rattle.f90_print.specs.Notes.{text_of}
 use Rattle.nest_tree.specs.Plain.{Nest}
 use Rattle.nest_graph.specs.Graph.{IsGraphOf}
 use Rattle.find_nests.specs.declared.search.Found.{Found as Found'}
-use Rattle.find_nests.specs.Found.{Found, found_of}
-use Rattle.graph_print.specs.Lines.{Entry}
+use Rattle.find_nests.specs.Found.{Found, found_in, found_of}
+use Rattle.graph_print.specs.Lines.{Entry, KeepEntry}
 use Rattle.graph_print.specs.Listing.{entries_of, lines_of_entries, lines_of_entry, listing_of}
 use Rattle.graph_print.proofs.LoopLines.{entries-append, one_more}
-use Rattle.program_listing.specs.Listing.{AreLinesOf, HasEntries, HasGraphEntries, HasNestEntries, HaveEntries, all_holds, not_built}
+use Rattle.program_listing.specs.Listing.{AreLinesOf, HasEntries, HasGraphEntries, HasNestEntries, HaveEntries, IsListing, all_holds, not_built}
 use Rattle.program_listing.specs.Testable.{IsTestable}
 
-pub if_ok : {A E : Type 0} {P Q : A → Type 0} (r : Result A E) → ((x : A) → P x → Q x) → IfOk r P → IfOk r Q
-if_ok (Ok x) f h = f x h
-if_ok (Err e) f h = tt
+-- an answer with lines of such entries
+abbrev pub GivesLines : {E : Type 0} → Result (List Line) E → (List Entry → Type 0) → Type 0
+GivesLines r P = IfOk r (λ all. AreLinesOf P (map text_of all))
 
-pub one_entry : (e : Entry) (lines : List (List ℕ)) → lines ≡ lines_of_entry e → lines ≡ lines_of_entries (e ∷ [])
-one_entry e lines h = h ∙ sym (append-nil (lines_of_entry e))
-
--- lines of some entries are lines of such entries
-pub lines_of : {P Q : List Entry → Type 0} (lines : List (List ℕ)) → ((es : List Entry) → P es → Q es) → AreLinesOf P lines → AreLinesOf Q lines
-lines_of lines f h = record { entries = h.entries; are = f h.entries h.are; lines_are = h.lines_are }
-
-pub lines_with : {P : List Entry → Type 0} (lines : List (List ℕ)) (es : List Entry) → P es → lines ≡ lines_of_entries es → AreLinesOf P lines
-lines_with lines es h e = record { entries = es; are = h; lines_are = e }
+abbrev GivesTexts : {E : Type 0} → Result (List Line) E → List (List ℕ) → Type 0
+GivesTexts r lines = IfOk r (λ all. map text_of all ≡ lines)
 
 -- ---- a nest
 
-pub graph_entries : (number : ℕ) (n : Nest) (g : Graph) (holds : List Hold) (cycles : List Cycle) (lines : List (List ℕ)) → IsGraphOf n g → holds ≡ all_holds n → cycles ≡ []
-    → lines ≡ listing_of n number g holds cycles → AreLinesOf (HasGraphEntries number n) lines
-graph_entries number n g holds cycles lines graph h e l = record {
+pub graph_entries : {E : Type 0} (r : Result (List Line) E) (number : ℕ) (n : Nest) (g : Graph) (holds : List Hold) (cycles : List Cycle) → IsGraphOf n g → holds ≡ all_holds n → cycles ≡ []
+    → GivesTexts r (listing_of n number g holds cycles) → GivesLines r (HasGraphEntries number n)
+graph_entries (Err e) number n g holds cycles graph h none l = tt
+graph_entries (Ok all) number n g holds cycles graph h none l = record {
   entries = entries_of n number g (all_holds n) [];
   are = (g, graph, refl);
-  lines_are = l ∙ ap (λ hs. listing_of n number g hs cycles) h ∙ ap (λ cs. listing_of n number g (all_holds n) cs) e;
+  lines_are = l ∙ ap (λ hs. listing_of n number g hs cycles) h ∙ ap (λ cs. listing_of n number g (all_holds n) cs) none;
 }
 
-pub tested : (found n : Nest) (lines : List (List ℕ)) → IsTestable n → AreLinesOf (HasGraphEntries found.number n) lines → AreLinesOf (HasNestEntries found (Some n)) lines
-tested found n lines t h = record { entries = h.entries; are = inl (t, h.are); lines_are = h.lines_are }
+pub not_built_entries : {E : Type 0} (r : Result (List Line) E) (n : Nest) (word : List ℕ) → word ≡ codes "NOTBUILT" → GivesTexts r (lines_of_entry (KeepEntry n.line word))
+    → GivesTexts r (lines_of_entries (not_built n))
+not_built_entries (Err e) n word w h = tt
+not_built_entries (Ok all) n word w h =
+    h ∙ ap (λ (t : List ℕ). lines_of_entry (KeepEntry n.line t)) w ∙ sym (append-nil (lines_of_entry (KeepEntry n.line (codes "NOTBUILT"))))
 
-pub untested : (found n : Nest) (lines : List (List ℕ)) → (IsTestable n → ⊥) → lines ≡ lines_of_entries (not_built found) → AreLinesOf (HasNestEntries found (Some n)) lines
-untested found n lines t h = record { entries = not_built found; are = inr (t, refl); lines_are = h }
+pub tested : {E : Type 0} (r : Result (List Line) E) (found n : Nest) → IsTestable n → GivesLines r (HasGraphEntries found.number n) → GivesLines r (HasNestEntries found (Some n))
+tested (Err e) found n t h = tt
+tested (Ok all) found n t h = record { entries = h.entries; are = inl (t, h.are); lines_are = h.lines_are }
 
-pub not_normal : (found : Nest) (lines : List (List ℕ)) → lines ≡ lines_of_entries (not_built found) → AreLinesOf (HasNestEntries found None) lines
-not_normal found lines h = record { entries = not_built found; are = refl; lines_are = h }
+pub untested : {E : Type 0} (r : Result (List Line) E) (found n : Nest) → (IsTestable n → ⊥) → GivesTexts r (lines_of_entries (not_built found))
+    → GivesLines r (HasNestEntries found (Some n))
+untested (Err e) found n t h = tt
+untested (Ok all) found n t h = record { entries = not_built found; are = inr (t, refl); lines_are = h }
+
+pub not_normal : {E : Type 0} (r : Result (List Line) E) (found : Nest) (o : Option Nest) → o ≡ None → GivesTexts r (lines_of_entries (not_built found)) → GivesLines r (HasNestEntries found o)
+not_normal (Err e) found o n h = tt
+not_normal (Ok all) found o n h =
+    subst (λ (o : Option Nest). AreLinesOf (HasNestEntries found o) (map text_of all)) (sym n) (record { entries = not_built found; are = refl; lines_are = h })
+
+pub normal : {E : Type 0} (r : Result (List Line) E) (found : Nest) (o p : Option Nest) → o ≡ p → GivesLines r (HasNestEntries found o) → GivesLines r (HasNestEntries found p)
+normal r found o p e h = subst (λ (o : Option Nest). GivesLines r (HasNestEntries found o)) e h
+
+-- ---- one that was found
+
+pub found_entries : {E : Type 0} (r : Result (List Line) E) (f : Found) (g : Found) → g ≡ f → GivesLines r (HasEntries f) → GivesLines r (HasEntries g)
+found_entries r f g e h = subst (λ (f : Found). GivesLines r (HasEntries f)) (sym e) h
+
+pub kept_entries : {E : Type 0} (r : Result (List Line) E) (line : ℕ) (word wanted : List ℕ) → word ≡ wanted → GivesTexts r (lines_of_entry (KeepEntry line word))
+    → GivesLines r (λ entries. entries ≡ KeepEntry line wanted ∷ [])
+kept_entries (Err e) line word wanted w h = tt
+kept_entries (Ok all) line word wanted w h = record {
+  entries = KeepEntry line wanted ∷ [];
+  are = refl;
+  lines_are = h ∙ ap (λ (t : List ℕ). lines_of_entry (KeepEntry line t)) w ∙ sym (append-nil (lines_of_entry (KeepEntry line wanted)));
+}
 
 -- ---- one more
 
@@ -63,10 +88,23 @@ lines_more fs f old new more h k e = record {
   lines_are = e ∙ ap (λ u. u ++ more) h.lines_are ∙ ap (λ u. lines_of_entries h.entries ++ u) k.lines_are ∙ sym (entries-append h.entries k.entries);
 }
 
-pub listed_more : (items : List Found') (i : ℕ) (x : Found') (old new more : List (List ℕ)) → i < length items → x ≡ get_or items i x
-    → AreLinesOf (HaveEntries (map found_of (take i items))) old → AreLinesOf (HasEntries (found_of x)) more → new ≡ old ++ more
-    → AreLinesOf (HaveEntries (map found_of (take (i + 1) items))) new
+pub listed_none : (items : List Found') → AreLinesOf (HaveEntries (map found_of (take 0 items))) []
+listed_none items = record { entries = []; are = refl; lines_are = refl }
+
+pub listed_more : (items : List Found') (i : ℕ) (x : Found') (old new more : List Line) → i < length items → x ≡ get_or items i x
+    → AreLinesOf (HaveEntries (map found_of (take i items))) (map text_of old) → AreLinesOf (HasEntries (found_of x)) (map text_of more) → new ≡ old ++ more
+    → AreLinesOf (HaveEntries (map found_of (take (i + 1) items))) (map text_of new)
 listed_more items i x old new more h is before this now =
     let one : map found_of (take (i + 1) items) ≡ map found_of (take i items) ++ found_of x ∷ [] =
     ap (map found_of) (one_more items i x h is) ∙ map-append found_of (take i items) (x ∷ []) in
-    subst (λ (fs : List Found). AreLinesOf (HaveEntries fs) new) (sym one) (lines_more (map found_of (take i items)) (found_of x) old new more before this now)
+    let lines : map text_of new ≡ map text_of old ++ map text_of more = ap (map text_of) now ∙ map-append text_of old more in
+    subst (λ (fs : List Found). AreLinesOf (HaveEntries fs) (map text_of new)) (sym one)
+    (lines_more (map found_of (take i items)) (found_of x) (map text_of old) (map text_of new) (map text_of more) before this lines)
+
+-- all that was found
+pub listed_all : (p : Program) (items : List Found') (i : ℕ) (all lines : List Line) → map found_of items ≡ found_in p → length items ≤ i
+    → AreLinesOf (HaveEntries (map found_of (take i items))) (map text_of all) → lines ≡ all → IsListing p (map text_of lines)
+listed_all p items i all lines is h k e =
+    let whole : map found_of (take i items) ≡ found_in p = ap (map found_of) (take_all i items h) ∙ is in
+    subst (λ (fs : List Found). AreLinesOf (HaveEntries fs) (map text_of lines)) whole
+    (subst (λ (l : List Line). AreLinesOf (HaveEntries (map found_of (take i items))) (map text_of l)) (sym e) k)

@@ -54,11 +54,10 @@ fn normal_lines(alloc: Global, found: &Nest, nest: &Nest) -> Result<Seq<Line>, M
     ensures { IfOk result (λ all.
         AreLinesOf (HasNestEntries (nest_of found.now) (Some (nest_of nest.now))) (map text_of all)) }
 {
-    if is_testable(alloc, nest)? {
-        graph_lines(alloc, found.number, nest)
-    } else {
-        not_built(alloc, found)
+    if !is_testable(alloc, nest)? {
+        return not_built(alloc, found);
     }
+    graph_lines(alloc, found.number, nest)
 }
 
 /// The lines of a nest that was found.
@@ -67,8 +66,8 @@ pub(crate) fn nest_lines(alloc: Global, found: &Nest) -> Result<Seq<Line>, Memor
     ensures { IfOk result (λ all.
         AreLinesOf (HasNestEntries (nest_of found.now) (normalised (nest_of found.now))) (map text_of all)) }
 {
-    match normalise(alloc, found)? {
-        Some(nest) => normal_lines(alloc, found, &nest),
-        None => not_built(alloc, found),
-    }
+    let Some(nest) = normalise(alloc, found)? else {
+        return not_built(alloc, found);
+    };
+    normal_lines(alloc, found, &nest)
 }
