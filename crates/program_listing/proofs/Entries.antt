@@ -1,12 +1,14 @@
 -- What is listed of nests and kept loops, one after the other.
 use Rattle.std.proofs.Common.{◌≡◌, ℕ, ◌+◌, ◌<◌, ◌≤◌, Option, Some, None, Result, Ok, Err, List, [], ◌∷◌, ◌++◌, map, take, length, get_or, codes, refl, sym, ap, ◌∙◌, subst, append_assoc, inl, inr}
 use Rattle.std.specs.Prelude.{IfOk}
+use Rattle.std.specs.List.{flat_map}
 use Rattle.std.proofs.lemmas.List.{append-nil, map-append, take_all}
 use Rattle.components.specs.declared.graphs.Cycle.{Cycle}
 use Rattle.components.specs.declared.graphs.Graph.{Graph}
 use Rattle.components.specs.declared.graphs.Hold.{Hold}
 use Rattle.fv_tree.specs.declared.programs.Line.{Line}
 use Rattle.fv_tree.specs.Plain.{Program}
+use Rattle.f90_grammar.specs.PrintedText.{with_line_feed}
 use Rattle.f90_print.specs.Notes.{text_of}
 use Rattle.nest_tree.specs.Plain.{Nest}
 use Rattle.nest_graph.specs.Graph.{IsGraphOf}
@@ -15,7 +17,7 @@ use Rattle.find_nests.specs.Found.{Found, found_in, found_of}
 use Rattle.graph_print.specs.Lines.{Entry, KeepEntry}
 use Rattle.graph_print.specs.Listing.{entries_of, lines_of_entries, lines_of_entry, listing_of}
 use Rattle.graph_print.proofs.LoopLines.{entries-append, one_more}
-use Rattle.program_listing.specs.Listing.{AreLinesOf, HasEntries, HasGraphEntries, HasNestEntries, HaveEntries, IsListing, all_holds, not_built}
+use Rattle.program_listing.specs.Listing.{AreLinesOf, HasEntries, HasGraphEntries, HasNestEntries, HaveEntries, IsListing, IsListingText, all_holds, not_built}
 use Rattle.program_listing.specs.Testable.{IsTestable}
 
 -- an answer with lines of such entries
@@ -108,3 +110,14 @@ listed_all p items i all lines is h k e =
     let whole : map found_of (take i items) ≡ found_in p = ap (map found_of) (take_all i items h) ∙ is in
     subst (λ (fs : List Found). AreLinesOf (HaveEntries fs) (map text_of lines)) whole
     (subst (λ (l : List Line). AreLinesOf (HaveEntries (map found_of (take i items))) (map text_of l)) (sym e) k)
+
+-- ---- the text
+
+pub text_given : {A E : Type 0} (r : Result A E) (items : A → List ℕ) (p : Program) (lines given : List Line) → given ≡ lines → IsListing p (map text_of lines)
+    → IfOk r (λ a. items a ≡ flat_map with_line_feed (map text_of given)) → IfOk r (λ a. IsListingText p (items a))
+text_given (Err e) items p lines given same h k = tt
+text_given (Ok a) items p lines given same h k = record {
+  lines = map text_of lines;
+  listing = h;
+  text_is = k ∙ ap (λ (l : List Line). flat_map with_line_feed (map text_of l)) same;
+}

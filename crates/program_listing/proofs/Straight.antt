@@ -1,6 +1,6 @@
 -- What stands in a nest without an IF, a guard, a label and a jump.
-use Rattle.std.proofs.Common.{◌≡◌, Bool, true, false, not, ◌&&◌, Option, Some, None, List, [], ◌∷◌, map, refl, sym, ap, ◌∙◌, ℕ}
-use Rattle.std.specs.Prelude.{is_none, is_some}
+use Rattle.std.proofs.Common.{◌≡◌, Bool, true, false, not, ◌&&◌, Option, Some, None, List, [], ◌∷◌, map, Result, Ok, Err, refl, sym, ap, ◌∙◌, ℕ}
+use Rattle.std.specs.Prelude.{◌↔◌, IfOk, IsTrue, is_none, is_some}
 use Rattle.std.specs.List.{list_all}
 use Rattle.std.specs.Option.{option_map}
 use Rattle.fv_tree.specs.Plain.{Expression}
@@ -15,7 +15,9 @@ use Rattle.nest_tree.specs.declared.parts.Part.TheVariants as variants
 use Rattle.nest_tree.specs.Plain as P
 use Rattle.nest_tree.specs.View.{guarded_of, part_of}
 use Rattle.nest_tree.proofs.Equations.{part_of-run, part_of-turns, part_of-choice, part_of-label, part_of-jump}
-use Rattle.program_listing.specs.Testable.{is_straight, are_straight}
+use Rattle.nest_graph.specs.Ready.{IsReady}
+use Rattle.nest_tree.specs.Plain.{Nest}
+use Rattle.program_listing.specs.Testable.{IsTestable, is_straight, are_straight}
 
 none_of : (o : Option Expr) (b : Bool) → is_some o ≡ not b → b ≡ is_none (option_map expression_of o)
 none_of None true e = refl
@@ -46,3 +48,12 @@ pub straight-jump : (n : ℕ) → is_straight (part_of (variants.Jump n)) ≡ fa
 straight-jump n = ap is_straight (part_of-jump n)
 
 pub ruleset straight_laws = (straight-run, straight-turns, straight-choice, straight-label, straight-jump)
+
+-- ---- whether a nest can be tested
+
+pub not_straight : (n : Nest) (b : Bool) → b ≡ is_straight n.body → b ≡ false → IsTrue false ↔ IsTestable n
+not_straight n b e f = (λ t. absurd (cc), λ h. let s : is_straight n.body ≡ true = h.straight in cc)
+
+pub when_ready : {E : Type 0} (r : Result Bool E) (n : Nest) (b : Bool) → b ≡ is_straight n.body → b ≡ true → IfOk r (λ t. IsTrue t ↔ IsReady n) → IfOk r (λ t. IsTrue t ↔ IsTestable n)
+when_ready (Err x) n b e t h = tt
+when_ready (Ok y) n b e t h = (λ k. record { straight = sym e ∙ t; ready = h.0 k }, λ k. h.1 k.ready)

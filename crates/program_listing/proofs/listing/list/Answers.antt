@@ -1,4 +1,4 @@
-use Rattle.std.proofs.Common.{◌≡◌, ◌≤◌, map, length, sym, ap, ◌∙◌, arith, rules}
+use Rattle.std.proofs.Common.{◌≡◌, ◌≤◌, map, length, sym, ap, ◌∙◌, subst, arith}
 use Rattle.std.proofs.lemmas.List.{length-map}
 use Rattle.fv_tree.specs.View.{declaration_of, program_of}
 use Rattle.find_nests.specs.Found.{found_in, found_of}
@@ -10,10 +10,18 @@ pub loop-found-init : goal.loop-found-init
 loop-found-init c = ?
 
 pub lines_of-requires : goal.lines_of-requires
-lines_of-requires c = ?
+lines_of-requires c =
+    let few : length (map declaration_of c.args.program.now.decls) ≤ 1000 = omega (arith, length-map c.args.program.now.decls declaration_of) in
+    let found : map found_of c.as_slice-found-items.result.now ≡ found_in (program_of c.args.program.now) = ap (map found_of) c.as_slice-found-items.ensures ∙ c.in_ok-find_nests.ensures in
+    few_at (program_of c.args.program.now) c.as_slice-found-items.result.now c.loop-found.found-index c.found-item.result few found (omega arith) c.found-item.is
 
 pub loop-found-preserved : goal.loop-found-preserved
-loop-found-preserved c = ?
+loop-found-preserved c =
+    listed_more c.as_slice-found-items.result.now c.loop-found.found-index c.found-item.result c.loop-found.all.items c.add.new.all.items c.in_ok-lines_of.field-0
+    (omega arith) c.found-item.is c.loop-found.invariant c.in_ok-lines_of.ensures c.in_ok-add.ensures
 
 pub returns : goal.returns
-returns c = ?
+returns c =
+    let found : map found_of c.as_slice-found-items.result.now ≡ found_in (program_of c.args.program.now) = ap (map found_of) c.as_slice-found-items.ensures ∙ c.in_ok-find_nests.ensures in
+    listed_all (program_of c.args.program.now) c.as_slice-found-items.result.now c.loop-found.found-index c.loop-found.all.items c.from_vec.result found (omega arith)
+    c.loop-found.invariant c.from_vec.ensures
