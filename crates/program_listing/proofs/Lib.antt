@@ -1,4 +1,4 @@
 pub mod Entries
 pub mod Plain
-pub mod Straight
+pub mod StraightLaws
 pub mod Symbols

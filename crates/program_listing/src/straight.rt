@@ -9,7 +9,7 @@ use nest_ready::is_ready;
 use nest_tree::{GuardedStmt, Nest, Part};
 use std::alloc::Global;
 
-#[tactic(auto, using(crate::proofs::Straight::unguarded_by))]
+#[tactic(auto, using(crate::proofs::StraightLaws::unguarded_by))]
 fn is_unguarded(stmt: &GuardedStmt) -> bool
     ensures { result ≡ is_none (guarded_of stmt.now).guard }
 {
@@ -17,7 +17,7 @@ fn is_unguarded(stmt: &GuardedStmt) -> bool
 }
 
 #[cycle(straight)]
-#[tactic(auto, using(crate::proofs::Straight::straight_laws))]
+#[tactic(auto, using(crate::proofs::StraightLaws::straight_laws))]
 fn is_straight(part: &Part) -> bool
     ensures { result ≡ is_straight (part_of part.now) }
 {

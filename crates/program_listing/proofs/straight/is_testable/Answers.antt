@@ -1,5 +1,5 @@
 use Rattle.nest_tree.specs.View.{nest_of}
-use Rattle.program_listing.proofs.Straight.{not_straight, when_ready}
+use Rattle.program_listing.proofs.StraightLaws.{not_straight, when_ready}
 use Rattle.program_listing.proofs.straight.is_testable.Goals as goal
 
 pub returns-then-not-is_straight : goal.returns-then-not-is_straight
