@@ -1,0 +1,87 @@
+//! Nests in which each loop goes from 1 by 1.
+ghost use Rattle.std.specs.Prelude.{◌≡◌, ◌≤◌, ◌++◌, [], All, length, map, IfOk, OnOk};
+ghost use Rattle.std.specs.Option.{option_map};
+ghost use Rattle.fv_tree.specs.View.{block_of, statement_of};
+ghost use Rattle.fv_tree.specs.Plain.{block};
+ghost use Rattle.nest_tree.specs.Blocks.{block_then};
+ghost use Rattle.nest_tree.specs.View.{nest_of, part_of};
+ghost use Rattle.last_values.specs.Behind.{IsNested};
+ghost use Rattle.loop_normal.specs.Normalised.{normalised, with_bodies, with_body, with_loops};
+
+use crate::bodies::add_part;
+use crate::loops::{is_normal, nested_loops};
+use fv_tree::{Block, Memory, Seq};
+use last_values::{NestedLoop, values_behind};
+use nest_tree::{Nest, Part};
+use std::alloc::Global;
+
+// A block and another one behind it.
+fn block_then(alloc: Global, first: &Block, more: Block) -> Result<Block, Memory>
+    ensures { IfOk result (λ both. block_of both ≡ block_then (block_of first.now) (block_of more)) }
+{
+    let mut both = first.copy(alloc)?;
+    for stmt in more.stmts.into_vec() {
+        both.stmts.push(stmt)?;
+    }
+    Ok(both)
+}
+
+// The nest with another body, and more behind what comes after it.
+#[tactic(auto, unfolding(crate::specs::Normalised::with_body))]
+fn with_body(alloc: Global, nest: &Nest, more: Block, body: Part) -> Result<Nest, Memory>
+    ensures { IfOk result (λ new. nest_of new ≡ with_body (nest_of nest.now) (block_of more) (part_of body)) }
+{
+    let mut new = nest.copy(alloc)?;
+    new.body = body;
+    new.after = block_then(alloc, &nest.after, more)?;
+    Ok(new)
+}
+
+fn with_bodies(
+    alloc: Global,
+    nest: &Nest,
+    more: Block,
+    mut bodies: Seq<Part>,
+) -> Result<Option<Nest>, Memory>
+    ensures { IfOk result (λ new. option_map nest_of new
+        ≡ with_bodies (nest_of nest.now) (block_of more) (map part_of bodies)) }
+{
+    if bodies.len() > 1 {
+        return Ok(None);
+    }
+    let Some(body) = bodies.pop() else {
+        return Ok(None);
+    };
+    Ok(Some(with_body(alloc, nest, more, body)?))
+}
+
+#[tactic(auto, unfolding(crate::specs::Normalised::with_loops))]
+fn with_loops(
+    alloc: Global,
+    nest: &Nest,
+    loops: &Seq<NestedLoop>,
+) -> Result<Option<Nest>, Memory>
+    requires symbols { length nest.now.symbols ≤ 1000 }
+    requires nested { All IsNested loops.now }
+    ensures { IfOk result (λ new. option_map nest_of new ≡ with_loops (nest_of nest.now) loops.now) }
+{
+    let mut bodies = Seq::new(alloc);
+    add_part(alloc, nest, loops, &[], &nest.body, &mut bodies)?;
+    let more = values_behind(alloc, &nest.symbols, nest.line, loops, &nest.body)?;
+    with_bodies(alloc, nest, more, bodies)
+}
+
+/// The nest with each loop from 1 by 1. The variable of a loop becomes a linear form of the counters; its last value
+/// stands after the nest, or in place where it isn't known there or is wanted before. None where a loop's forms are out
+/// of the limits, which those of a nest that was found aren't.
+#[tactic(auto, unfolding(crate::specs::Normalised::normalised))]
+pub fn normalise(alloc: Global, nest: &Nest) -> Result<Option<Nest>, Memory>
+    requires { length nest.now.symbols ≤ 1000 }
+    ensures { IfOk result (λ new. option_map nest_of new ≡ normalised (nest_of nest.now)) }
+{
+    if !is_normal(alloc, &nest.symbols, &[], &nest.body)? {
+        return Ok(None);
+    }
+    let loops = nested_loops(alloc, &nest.symbols, &nest.body)?;
+    with_loops(alloc, nest, &loops)
+}
