@@ -1,6 +1,7 @@
 -- A nest in which each loop goes from 1 by 1 (Allen and Kennedy, "Optimizing Compilers for Modern Architectures",
 -- section 4.2, loop normalization).
 use Rattle.std.specs.Prelude.{Option, Some, None, if◌then◌else◌, List, [], ◌∷◌}
+use Rattle.std.specs.Option.{option_map}
 use Rattle.fv_tree.specs.Plain.{Block}
 use Rattle.nest_tree.specs.Blocks.{block_then}
 use Rattle.nest_tree.specs.Plain.{Part, Nest}
@@ -13,15 +14,16 @@ use Rattle.loop_normal.specs.Loops.{is_normal, nested_loops}
 unfoldable pub with_body : Nest → Block → Part → Nest
 with_body n more p = record n { body = p; after = block_then n.after more }
 
--- The body is one part: the last value of the outermost variable never stands in place
-abbrev pub with_bodies : Nest → Block → List Part → Option Nest
-with_bodies n more [] = None
-with_bodies n more (p ∷ []) = Some (with_body n more p)
-with_bodies n more (p ∷ q ∷ ps) = None
+-- the part where there is just one
+abbrev pub only_one : List Part → Option Part
+only_one [] = None
+only_one (p ∷ []) = Some p
+only_one (p ∷ q ∷ ps) = None
 
--- by its loops
+-- By its loops. The body is one part: the last value of the outermost variable never stands in place
 unfoldable pub with_loops : Nest → List NestedLoop → Option Nest
-with_loops n ls = with_bodies n (values_behind n.symbols n.line ls n.body) (normal_part n ls [] n.body)
+with_loops n ls =
+    option_map (with_body n (values_behind n.symbols n.line ls n.body)) (only_one (normal_part n ls [] n.body))
 
 -- The nest with each loop from 1 by 1, where the forms of each of them are within the limits. The variable of a loop
 -- has become a linear form of the counters; it gets its last value after the nest, or in place where this isn't known

@@ -68,12 +68,12 @@ fn are_normal(
     requires { length symbols.now ≤ 1000 }
     ensures { IfOk result (λ normal. normal ≡ list_all (is_normal symbols.now round.now) (map part_of parts.now)) }
 {
+    let mut all = true;
     for part in parts.as_slice() {
-        if !is_normal(alloc, symbols, round, part)? {
-            return Ok(false);
-        }
+        let here = is_normal(alloc, symbols, round, part)?;
+        all = all && here;
     }
-    Ok(true)
+    Ok(all)
 }
 
 #[cycle(forms)]
@@ -101,12 +101,12 @@ fn are_normal_arms(
     ensures { IfOk result (λ normal. normal
         ≡ list_all (is_normal_branch symbols.now round.now) (map branch_of arms.now)) }
 {
+    let mut all = true;
     for arm in arms.as_slice() {
-        if !is_normal_arm(alloc, symbols, round, arm)? {
-            return Ok(false);
-        }
+        let here = is_normal_arm(alloc, symbols, round, arm)?;
+        all = all && here;
     }
-    Ok(true)
+    Ok(all)
 }
 
 // Looks at the loops of a nest, each before those in it.

@@ -2,28 +2,35 @@
 ghost use Rattle.std.specs.Prelude.{◌≡◌, ◌≤◌, ◌++◌, [], All, length, map, IfOk, OnOk};
 ghost use Rattle.std.specs.Option.{option_map};
 ghost use Rattle.fv_tree.specs.View.{block_of, statement_of};
-ghost use Rattle.fv_tree.specs.Plain.{block};
 ghost use Rattle.nest_tree.specs.Blocks.{block_then};
 ghost use Rattle.nest_tree.specs.View.{nest_of, part_of};
 ghost use Rattle.last_values.specs.Behind.{IsNested};
-ghost use Rattle.loop_normal.specs.Normalised.{normalised, with_bodies, with_body, with_loops};
+ghost use Rattle.loop_normal.specs.Normalised.{normalised, only_one, with_body, with_loops};
 
 use crate::bodies::add_part;
 use crate::loops::{is_normal, nested_loops};
-use fv_tree::{Block, Memory, Seq};
+use fv_tree::{Block, Memory, Seq, Stmt};
 use last_values::{NestedLoop, values_behind};
 use nest_tree::{Nest, Part};
 use std::alloc::Global;
 
+fn add_all(stmts: &mut Seq<Stmt>, more: Seq<Stmt>) -> Result<(), Memory>
+    ensures { OnOk result (map statement_of stmts.new ≡ map statement_of stmts.old ++ map statement_of more) }
+{
+    for stmt in more.into_vec() {
+        stmts.push(stmt)?;
+    }
+    Ok(())
+}
+
 // A block and another one behind it.
+#[tactic(auto, using(crate::proofs::BlockLaws::block_laws))]
 fn block_then(alloc: Global, first: &Block, more: Block) -> Result<Block, Memory>
     ensures { IfOk result (λ both. block_of both ≡ block_then (block_of first.now) (block_of more)) }
 {
-    let mut both = first.copy(alloc)?;
-    for stmt in more.stmts.into_vec() {
-        both.stmts.push(stmt)?;
-    }
-    Ok(both)
+    let Block { mut stmts } = first.copy(alloc)?;
+    add_all(&mut stmts, more.stmts)?;
+    Ok(Block { stmts })
 }
 
 // The nest with another body, and more behind what comes after it.
@@ -37,22 +44,15 @@ fn with_body(alloc: Global, nest: &Nest, more: Block, body: Part) -> Result<Nest
     Ok(new)
 }
 
-fn with_bodies(
-    alloc: Global,
-    nest: &Nest,
-    more: Block,
-    mut bodies: Seq<Part>,
-) -> Result<Option<Nest>, Memory>
-    ensures { IfOk result (λ new. option_map nest_of new
-        ≡ with_bodies (nest_of nest.now) (block_of more) (map part_of bodies)) }
+// The part where there is just one.
+#[tactic(auto, using(crate::proofs::NestLaws::one_laws))]
+fn only_one(mut parts: Seq<Part>) -> Option<Part>
+    ensures { option_map part_of result ≡ only_one (map part_of parts) }
 {
-    if bodies.len() > 1 {
-        return Ok(None);
+    if parts.len() > 1 {
+        return None;
     }
-    let Some(body) = bodies.pop() else {
-        return Ok(None);
-    };
-    Ok(Some(with_body(alloc, nest, more, body)?))
+    parts.pop()
 }
 
 #[tactic(auto, unfolding(crate::specs::Normalised::with_loops))]
@@ -67,8 +67,11 @@ fn with_loops(
 {
     let mut bodies = Seq::new(alloc);
     add_part(alloc, nest, loops, &[], &nest.body, &mut bodies)?;
+    let Some(body) = only_one(bodies) else {
+        return Ok(None);
+    };
     let more = values_behind(alloc, &nest.symbols, nest.line, loops, &nest.body)?;
-    with_bodies(alloc, nest, more, bodies)
+    Ok(Some(with_body(alloc, nest, more, body)?))
 }
 
 /// The nest with each loop from 1 by 1. The variable of a loop becomes a linear form of the counters; its last value

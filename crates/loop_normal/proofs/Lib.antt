@@ -1,0 +1,4 @@
+pub mod LoopLaws
+pub mod BodyLaws
+pub mod BlockLaws
+pub mod NestLaws
