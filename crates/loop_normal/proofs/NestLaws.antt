@@ -1,5 +1,5 @@
 -- The only part of a body, and nests with other bodies.
-use Rattle.std.proofs.Common.{◌≡◌, ◌<◌, ◌≤◌, Option, Some, None, List, [], ◌∷◌, ◌++◌, ◌+◌, map, length, refl, ap, ◌∙◌, absurd, arith, sym, length-append}
+use Rattle.std.proofs.Common.{◌≡◌, ◌<◌, ◌≤◌, Option, Some, None, List, [], ◌∷◌, ◌++◌, ◌+◌, map, length, refl, ap, ◌∙◌, arith, sym, length-append}
 use Rattle.fv_tree.specs.Plain as F
 use Rattle.fv_tree.specs.View.{block_of}
 use Rattle.fv_tree.specs.declared.stmts.Block.{Block}

@@ -2,3 +2,4 @@ pub mod Values
 pub mod Loops
 pub mod Bodies
 pub mod Normalised
+pub mod Laws

@@ -3,8 +3,12 @@
 #![tactic(auto)]
 
 mod bodies;
+mod laws;
 mod loops;
 mod nests;
+#[cfg(test)]
+mod tests;
 mod values;
 
+pub use laws::counts_by_one;
 pub use nests::normalise;

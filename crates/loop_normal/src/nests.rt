@@ -3,15 +3,15 @@ ghost use Rattle.std.specs.Prelude.{◌≡◌, ◌≤◌, ◌++◌, [], All, len
 ghost use Rattle.std.specs.Option.{option_map};
 ghost use Rattle.fv_tree.specs.View.{block_of, statement_of};
 ghost use Rattle.nest_tree.specs.Blocks.{block_then};
-ghost use Rattle.nest_tree.specs.View.{nest_of, part_of};
+ghost use Rattle.nest_tree.specs.View.{made_of, nest_of, part_of};
 ghost use Rattle.last_values.specs.Behind.{IsNested};
 ghost use Rattle.loop_normal.specs.Normalised.{normalised, only_one, with_body, with_loops};
 
 use crate::bodies::add_part;
 use crate::loops::{is_normal, nested_loops};
-use fv_tree::{Block, Memory, Seq, Stmt};
+use fv_tree::{Block, Memory, Name, Seq, Stmt};
 use last_values::{NestedLoop, values_behind};
-use nest_tree::{Nest, Part};
+use nest_tree::{Made, Nest, Part, copy_decls};
 use std::alloc::Global;
 
 fn add_all(stmts: &mut Seq<Stmt>, more: Seq<Stmt>) -> Result<(), Memory>
@@ -33,15 +33,43 @@ fn block_then(alloc: Global, first: &Block, more: Block) -> Result<Block, Memory
     Ok(Block { stmts })
 }
 
+fn copy_made(alloc: Global, made: &Seq<Made>) -> Result<Seq<Made>, Memory>
+    ensures { IfOk result (λ copies. map made_of copies ≡ map made_of made.now) }
+{
+    let mut copies = Seq::new(alloc);
+    for array in made.as_slice() {
+        copies.push(array.copy(alloc)?)?;
+    }
+    Ok(copies)
+}
+
+fn copy_names(alloc: Global, names: &Seq<Name>) -> Result<Seq<Name>, Memory>
+    ensures { IfOk result (λ copies. copies ≡ names.now) }
+{
+    Ok(Seq::from_vec(Vec::from_slice(alloc, names.as_slice())?))
+}
+
 // The nest with another body, and more behind what comes after it.
 #[tactic(auto, unfolding(crate::specs::Normalised::with_body))]
 fn with_body(alloc: Global, nest: &Nest, more: Block, body: Part) -> Result<Nest, Memory>
     ensures { IfOk result (λ new. nest_of new ≡ with_body (nest_of nest.now) (block_of more) (part_of body)) }
 {
-    let mut new = nest.copy(alloc)?;
-    new.body = body;
-    new.after = block_then(alloc, &nest.after, more)?;
-    Ok(new)
+    let decls = copy_decls(&nest.decls, alloc)?;
+    let symbols = copy_names(alloc, &nest.symbols)?;
+    let made = copy_made(alloc, &nest.made)?;
+    let after = block_then(alloc, &nest.after, more)?;
+    Ok(Nest {
+        number: nest.number,
+        line: nest.line,
+        title: nest.title,
+        body,
+        decls,
+        symbols,
+        made,
+        after,
+        masks: nest.masks,
+        copies: nest.copies,
+    })
 }
 
 // The part where there is just one.
@@ -52,7 +80,10 @@ fn only_one(mut parts: Seq<Part>) -> Option<Part>
     if parts.len() > 1 {
         return None;
     }
-    parts.pop()
+    let Some(part) = parts.pop() else {
+        return None;
+    };
+    Some(part)
 }
 
 #[tactic(auto, unfolding(crate::specs::Normalised::with_loops))]
