@@ -1,4 +1,6 @@
 //! Last values of a nest DO I = 1, N; DO J = .., in the ways that the trip of J allows.
+ghost use Rattle.std.specs.Prelude.{◌≡◌, [], ◌∷◌, pos, ◌<ℤ◌, All, length, IfOk};
+ghost use Rattle.last_values.specs.Behind.{IsNested};
 
 use crate::{
     NestedLoop, add_parts_before, add_parts_behind, after_block, occurs_only_within, stands_behind,
@@ -29,13 +31,17 @@ fn two(alloc: Global, op: Op, left: Expr, right: Expr) -> Result<Expr, Fail> {
     Ok(Expr::Bin(op, Box::new(alloc, left)?, Box::new(alloc, right)?))
 }
 
-fn one<T: Drop>(alloc: Global, item: T) -> Result<Seq<T>, Memory> {
+fn one<T: Drop>(alloc: Global, item: T) -> Result<Seq<T>, Memory>
+    ensures { IfOk result (λ list. list ≡ item ∷ []) }
+{
     let mut list = Seq::new(alloc);
     list.push(item)?;
     Ok(list)
 }
 
-fn pair<T: Drop>(alloc: Global, first: T, second: T) -> Result<Seq<T>, Memory> {
+fn pair<T: Drop>(alloc: Global, first: T, second: T) -> Result<Seq<T>, Memory>
+    ensures { IfOk result (λ list. list ≡ first ∷ second ∷ []) }
+{
     let mut list = one(alloc, first)?;
     list.push(second)?;
     Ok(list)
@@ -52,21 +58,34 @@ fn source_loop(number: u32, text: &[u8], last: Expr) -> Result<Loop, Fail> {
     })
 }
 
-fn symbols(alloc: Global) -> Result<Seq<Name>, Fail> {
+fn symbols(alloc: Global) -> Result<Seq<Name>, Fail>
+    ensures { IfOk result (λ names. length names ≡ 1) }
+{
     Ok(one(alloc, name(b"N")?)?)
 }
 
 // DO I = 1, N.
-fn outer(alloc: Global) -> Result<NormalLoop, Fail> {
+fn outer(alloc: Global) -> Result<NormalLoop, Fail>
+    ensures { IfOk result (λ turns. pos 0 <ℤ turns.trip.by) }
+{
     let turns = source_loop(1, b"I", variable(alloc, b"N")?)?;
-    Ok(normal_loop(alloc, &symbols(alloc)?, &[], &turns)?.ok_or("outer")?)
+    let symbols = symbols(alloc)?;
+    match normal_loop(alloc, &symbols, &[], &turns)? {
+        Some(normal) => Ok(normal),
+        None => Err(Fail::new("outer")),
+    }
 }
 
 // DO J = 1, last in it.
-fn inner(alloc: Global, last: Expr) -> Result<NormalLoop, Fail> {
+fn inner(alloc: Global, last: Expr) -> Result<NormalLoop, Fail>
+    ensures { IfOk result (λ turns. pos 0 <ℤ turns.trip.by) }
+{
     let turns = source_loop(2, b"J", last)?;
-    let round = [outer(alloc)?];
-    Ok(normal_loop(alloc, &symbols(alloc)?, &round, &turns)?.ok_or("inner")?)
+    let (round, symbols) = ([outer(alloc)?], symbols(alloc)?);
+    match normal_loop(alloc, &symbols, &round, &turns)? {
+        Some(normal) => Ok(normal),
+        None => Err(Fail::new("inner")),
+    }
 }
 
 fn assign(alloc: Global, text: &[u8], right: Expr) -> Result<Stmt, Fail> {
@@ -114,9 +133,9 @@ fn plus_one(alloc: Global, text: &[u8]) -> Result<Expr, Fail> {
 
 // The last value of J behind all loops.
 fn after(alloc: Global, last: Expr) -> Result<Option<Block>, Fail> {
-    let round = [outer(alloc)?];
-    let made = after_block(alloc, &symbols(alloc)?, 7, &round, &inner(alloc, last)?)?;
-    Ok(made)
+    let (round, symbols) = ([outer(alloc)?], symbols(alloc)?);
+    let turns = inner(alloc, last)?;
+    Ok(after_block(alloc, &symbols, 7, &round, &turns)?)
 }
 
 // DO I = 1, N has nothing round it: I = 1; IF (N >= 1) THEN; I = N + 1.
@@ -129,7 +148,8 @@ fn outer_after(alloc: Global) -> Result<Seq<Stmt>, Fail> {
 #[test]
 fn outermost_loop(rt: HostRuntime) -> Result<(), Fail> {
     let alloc = rt.alloc();
-    let made = after_block(alloc, &symbols(alloc)?, 7, &[], &outer(alloc)?)?;
+    let (turns, symbols) = (outer(alloc)?, symbols(alloc)?);
+    let made = after_block(alloc, &symbols, 7, &[], &turns)?;
     let made = format!(in rt.alloc(); "{made:?}")?;
     let wanted = Some(Block {
         stmts: outer_after(alloc)?,
@@ -200,7 +220,10 @@ fn body(alloc: Global, last: Expr, parts: Seq<Part>, more: Part) -> Result<Part,
     Ok(Part::Turns(outer, pair(alloc, inner, more)?))
 }
 
-fn nested(alloc: Global, last: Expr) -> Result<Seq<NestedLoop>, Fail> {
+#[tactic(auto, using(crate::proofs::LoopLaws::two_nested))]
+fn nested(alloc: Global, last: Expr) -> Result<Seq<NestedLoop>, Fail>
+    ensures { IfOk result (λ loops. All IsNested loops) }
+{
     let first = NestedLoop {
         round: Seq::new(alloc),
         turns: outer(alloc)?,
@@ -223,7 +246,8 @@ fn occurs_within(rt: HostRuntime) -> Result<(), Fail> {
     assert!(rt; !occurs_only_within(&body, name(b"K")?));
     let loops = nested(alloc, Expr::Int(0))?;
     assert!(rt; stands_behind(alloc, 1, &loops, &body, name(b"J")?)?);
-    let made = values_behind(alloc, &symbols(alloc)?, 7, &loops, &body)?;
+    let symbols = symbols(alloc)?;
+    let made = values_behind(alloc, &symbols, 7, &loops, &body)?;
     let mut stmts = outer_after(alloc)?;
     let first = assign(alloc, b"J", Expr::Int(1))?;
     stmts.push(entered(alloc, b"N", one(alloc, first)?)?)?;
@@ -242,7 +266,8 @@ fn occurs_outside(rt: HostRuntime) -> Result<(), Fail> {
     assert!(rt; !occurs_only_within(&body, name(b"J")?));
     let loops = nested(alloc, Expr::Int(0))?;
     assert!(rt; !stands_behind(alloc, 1, &loops, &body, name(b"J")?)?);
-    let made = values_behind(alloc, &symbols(alloc)?, 7, &loops, &body)?;
+    let symbols = symbols(alloc)?;
+    let made = values_behind(alloc, &symbols, 7, &loops, &body)?;
     let wanted = Block {
         stmts: outer_after(alloc)?,
     };
