@@ -31,7 +31,10 @@ impl NestedLoop {
         if !have_plain_trips(round) {
             return Ok(false);
         }
-        Ok(last_forms(alloc, count, round, &self.turns)?.is_some())
+        match last_forms(alloc, count, round, &self.turns)? {
+            Some(_) => Ok(true),
+            None => Ok(false),
+        }
     }
 
     fn may_end_behind(&self, alloc: Global, count: u16, variable: Name) -> Result<bool, Memory>
