@@ -1,5 +1,5 @@
 //! The variables whose last values stand behind all loops.
-ghost use Rattle.std.specs.Prelude.{◌≡◌, ◌≤◌, ◌++◌, All, length, map, IfOk, OnOk};
+ghost use Rattle.std.specs.Prelude.{◌≡◌, ◌≤◌, All, length, map, IfOk};
 ghost use Rattle.std.specs.List.{list_all};
 ghost use Rattle.fv_tree.specs.View.{statement_of, block_of};
 ghost use Rattle.nest_tree.specs.View.{part_of};
@@ -31,7 +31,10 @@ impl NestedLoop {
         if !have_plain_trips(round) {
             return Ok(false);
         }
-        Ok(last_forms(alloc, count, round, &self.turns)?.is_some())
+        match last_forms(alloc, count, round, &self.turns)? {
+            Some(_) => Ok(true),
+            None => Ok(false),
+        }
     }
 
     fn may_end_behind(&self, alloc: Global, count: u16, variable: Name) -> Result<bool, Memory>
@@ -66,6 +69,7 @@ fn all_end_behind(
 
 /// Whether the last values of a variable of the loops of this nest stand behind all loops, and not in place; `count`
 /// is how many symbols there are.
+#[tactic(auto, unfolding(crate::specs::Behind::stands_behind))]
 pub fn stands_behind(
     alloc: Global,
     count: u16,
@@ -90,35 +94,27 @@ fn left_behind(
     loops: &Seq<NestedLoop>,
     body: &Part,
     nested: &NestedLoop,
-) -> Result<Seq<Stmt>, Memory>
+) -> Result<Vec<Stmt>, Memory>
     requires symbols { length symbols.now ≤ 1000 }
     requires nested { All IsNested loops.now }
     requires within { IsNested nested.now }
-    ensures { IfOk result (λ stmts. map statement_of stmts
+    ensures { IfOk result (λ stmts. map statement_of stmts.items
         ≡ left_behind symbols.now line loops.now (part_of body.now) nested.now) }
 {
     let count = symbols.len() as u16;
     if !stands_behind(alloc, count, loops, body, nested.turns.variable)? {
-        return Ok(Seq::new(alloc));
+        return Ok(Vec::new(alloc));
     }
     let round = nested.round.as_slice();
     match after_statements(alloc, symbols, line, round, &nested.turns)? {
-        Some(stmts) => Ok(stmts),
-        None => Ok(Seq::new(alloc)),
+        Some(stmts) => Ok(stmts.into_vec()),
+        None => Ok(Vec::new(alloc)),
     }
-}
-
-fn add_all(stmts: &mut Seq<Stmt>, more: Seq<Stmt>) -> Result<(), Memory>
-    ensures { OnOk result (map statement_of stmts.new ≡ map statement_of stmts.old ++ map statement_of more) }
-{
-    for stmt in more.into_vec() {
-        stmts.push(stmt)?;
-    }
-    Ok(())
 }
 
 /// The last values of the variables of these loops of a nest, as far as they stand behind all loops, in the order of
 /// the loops.
+#[tactic(auto, using(fv_tree::proofs::Equations::statement_equations), unfolding(crate::specs::Behind::values_behind))]
 pub fn values_behind(
     alloc: Global,
     symbols: &Seq<Name>,
@@ -131,10 +127,12 @@ pub fn values_behind(
     ensures { IfOk result (λ made. block_of made
         ≡ values_behind symbols.now line loops.now (part_of body.now)) }
 {
-    let mut stmts = Seq::new(alloc);
+    let mut stmts = Vec::new(alloc);
     for nested in loops.as_slice() {
-        let left = left_behind(alloc, symbols, line, loops, body, nested)?;
-        add_all(&mut stmts, left)?;
+        let mut left = left_behind(alloc, symbols, line, loops, body, nested)?;
+        stmts.append(&mut left)?;
     }
-    Ok(Block { stmts })
+    Ok(Block {
+        stmts: Seq::from_vec(stmts),
+    })
 }

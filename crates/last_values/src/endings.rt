@@ -1,5 +1,5 @@
 //! Last values behind all loops.
-ghost use Rattle.std.specs.Prelude.{◌≡◌, ◌≤◌, pos, ◌<ℤ◌, length, map, IfOk};
+ghost use Rattle.std.specs.Prelude.{◌≡◌, ◌≤◌, [], ◌∷◌, pos, ◌<ℤ◌, length, map, IfOk};
 ghost use Rattle.std.specs.Option.{option_map};
 ghost use Rattle.fv_tree.specs.Plain.{Binary};
 ghost use Rattle.fv_tree.specs.declared.ops.Op.TheVariants.{And};
@@ -16,6 +16,7 @@ use normal_forms::{
 };
 use std::alloc::Global;
 
+#[tactic(auto, using(fv_tree::proofs::Equations::expression_equations))]
 pub(crate) fn scalar(alloc: Global, variable: Name) -> Ref
     ensures { reference_of result ≡ scalar variable }
 {
@@ -25,6 +26,7 @@ pub(crate) fn scalar(alloc: Global, variable: Name) -> Ref
     }
 }
 
+#[tactic(auto, using(fv_tree::proofs::Equations::statement_equations))]
 fn assigned(alloc: Global, line: u32, variable: Name, value: Expr) -> Stmt
     ensures { statement_of result ≡ assigned line variable (expression_of value) }
 {
@@ -37,6 +39,7 @@ fn assigned(alloc: Global, line: u32, variable: Name, value: Expr) -> Stmt
 }
 
 // A block IF without an ELSE part.
+#[tactic(auto, using(fv_tree::proofs::Equations::statement_equations))]
 fn only_where(alloc: Global, line: u32, test: Expr, stmts: Seq<Stmt>) -> Result<Stmt, Memory>
     ensures { IfOk result (λ stmt. statement_of stmt
         ≡ only_where line (expression_of test) (map statement_of stmts)) }
@@ -50,6 +53,7 @@ fn only_where(alloc: Global, line: u32, test: Expr, stmts: Seq<Stmt>) -> Result<
     Ok(Stmt::If { line, arms, other })
 }
 
+#[tactic(auto, using(fv_tree::proofs::Equations::expression_equations))]
 fn both(alloc: Global, left: Expr, right: Expr) -> Result<Expr, Memory>
     ensures { IfOk result (λ e. expression_of e ≡ Binary And (expression_of left) (expression_of right)) }
 {
@@ -151,6 +155,7 @@ fn ending_behind(
 
 /// The last value of the variable of a loop behind all loops, where the loop's last turn is known and its forms are
 /// within the limits.
+#[tactic(auto, unfolding(crate::specs::Endings::after_statements))]
 pub(crate) fn after_statements(
     alloc: Global,
     symbols: &Seq<Name>,
@@ -175,6 +180,7 @@ pub(crate) fn after_statements(
 
 /// The last value of the variable of a loop behind all loops, where the loop's last turn is known and its forms are
 /// within the limits. The loops round it stand from the outside in; the line is that of the statements.
+#[tactic(auto, using(fv_tree::proofs::Equations::statement_equations))]
 pub fn after_block(
     alloc: Global,
     symbols: &Seq<Name>,

@@ -2,6 +2,7 @@
 ghost use Rattle.std.specs.Prelude.{◌≡◌, ◌++◌, ◌∷◌, [], map, IfOk, OnOk};
 ghost use Rattle.fv_tree.specs.View.{expression_of};
 ghost use Rattle.nest_tree.specs.View.{part_of};
+ghost use Rattle.normal_forms.specs.Texts.{at_least_one};
 ghost use Rattle.last_values.specs.InPlace.{first_text, own_trip_text, end_text, assigned_part, only_where_part};
 ghost use Rattle.last_values.specs.InPlace.{end_part, parts_before, parts_behind};
 
@@ -56,6 +57,7 @@ fn end_text(
     )
 }
 
+#[tactic(auto, using(nest_tree::proofs::Equations::part_equations))]
 fn assigned_part(alloc: Global, line: u32, variable: Name, value: Expr) -> Part
     ensures { part_of result ≡ assigned_part line variable (expression_of value) }
 {
@@ -68,6 +70,7 @@ fn assigned_part(alloc: Global, line: u32, variable: Name, value: Expr) -> Part
 }
 
 // An IF without an ELSE part.
+#[tactic(auto, using(nest_tree::proofs::Equations::part_equations))]
 fn only_where_part(alloc: Global, test: Expr, body: Seq<Part>) -> Result<Part, Memory>
     ensures { IfOk result (λ part. part_of part ≡ only_where_part (expression_of test) (map part_of body)) }
 {
@@ -91,6 +94,7 @@ fn end_part(
 
 /// Adds what stands before a loop for its variable's last value in place. The loops round it stand from the outside
 /// in; the line is that of the statements.
+#[tactic(auto, unfolding(crate::specs::InPlace::parts_before))]
 pub fn add_parts_before(
     alloc: Global,
     symbols: &Seq<Name>,
@@ -127,6 +131,7 @@ fn end_if_entered(
 }
 
 /// Adds what stands behind a loop for its variable's last value in place.
+#[tactic(auto, unfolding(crate::specs::InPlace::parts_behind))]
 pub fn add_parts_behind(
     alloc: Global,
     symbols: &Seq<Name>,

@@ -2,12 +2,14 @@
 ghost use Rattle.std.specs.Prelude.{◌≡◌, map};
 ghost use Rattle.std.specs.List.{list_any};
 ghost use Rattle.std.specs.Option.{option_map};
-ghost use Rattle.fv_tree.specs.View.{expression_of, reference_of};
+ghost use Rattle.fv_meaning.specs.Reads.{names_in_subscript};
+ghost use Rattle.fv_tree.specs.View.{expression_of, reference_of, subscript_of};
 ghost use Rattle.nest_tree.specs.View.{branch_of, guarded_of, loop_of, part_of};
+ghost use Rattle.statement_loops.specs.Standings.{is_among};
 ghost use Rattle.last_values.specs.Occurrences.{stands_in_guard, stands_in_left, stands_in_statement, stands_in_bounds};
 ghost use Rattle.last_values.specs.Occurrences.{stands_outside, stands_outside_in_branch, occurs_only_within};
 
-use fv_tree::{Expr, Name, Ref, Seq};
+use fv_tree::{Expr, Name, Ref, Seq, Sub};
 use nest_tree::{GuardedStmt, Loop, NestArm, Part};
 use statement_loops::{stands_in, stands_in_sub};
 
@@ -20,18 +22,22 @@ fn stands_in_guard(guard: &Option<Expr>, name: Name) -> bool
     }
 }
 
-fn stands_in_left(left: &Ref, name: Name) -> bool
-    ensures { result ≡ stands_in_left name (reference_of left.now) }
+fn stands_in_subs(subs: &Seq<Sub>, name: Name) -> bool
+    ensures { result ≡ list_any (λ p. is_among (names_in_subscript p) name) (map subscript_of subs.now) }
 {
-    if left.name == name {
-        return true;
-    }
-    for sub in left.subs.as_slice() {
+    for sub in subs.as_slice() {
         if stands_in_sub(sub, name) {
             return true;
         }
     }
     false
+}
+
+#[tactic(auto, using(statement_loops::proofs::AmongLaws::among_laws))]
+fn stands_in_left(left: &Ref, name: Name) -> bool
+    ensures { result ≡ stands_in_left name (reference_of left.now) }
+{
+    left.name == name || stands_in_subs(&left.subs, name)
 }
 
 fn stands_in_stmt(stmt: &GuardedStmt, name: Name) -> bool
@@ -49,6 +55,7 @@ fn stands_in_bounds(turns: &Loop, name: Name) -> bool
 }
 
 #[cycle(outside)]
+#[tactic(auto, using(crate::proofs::OutsideLaws::outside_laws))]
 fn stands_outside(part: &Part, name: Name) -> bool
     ensures { result ≡ stands_outside name (part_of part.now) }
 {
@@ -79,6 +86,7 @@ fn stands_outside_in_parts(parts: &Seq<Part>, name: Name) -> bool
 }
 
 #[cycle(outside)]
+#[tactic(auto, using(crate::proofs::OutsideLaws::outside_laws))]
 fn stands_outside_in_arm(arm: &NestArm, name: Name) -> bool
     ensures { result ≡ stands_outside_in_branch name (branch_of arm.now) }
 {
