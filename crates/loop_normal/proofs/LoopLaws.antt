@@ -1,5 +1,5 @@
 -- The loops of a nest, part by part.
-use Rattle.std.proofs.Common.{◌≡◌, ℕ, Bool, true, ◌&&◌, is_some, All, List, [], ◌∷◌, ◌++◌, map, refl, sym, subst, ap, ap₂, ◌∙◌, append_assoc}
+use Rattle.std.proofs.Common.{◌≡◌, ℕ, ◌<◌, ◌≤◌, Bool, true, false, ◌&&◌, is_some, Option, Some, None, ℤ, pos, ◌<ℤ◌, All, length, arith, List, [], ◌∷◌, ◌++◌, map, refl, sym, subst, ap, ap₂, ◌∙◌, append_assoc}
 use Rattle.std.specs.List.{flat_map, list_all}
 use Rattle.std.proofs.lemmas.List.{append-nil}
 use Rattle.std.proofs.lemmas.List.Elements.{All-nil, All-push}
@@ -71,20 +71,28 @@ module _ (symbols : List (List ℕ)) (round : List NormalLoop) where
   pub loop-arm : (a : NestArm) → nested_in_branch symbols round (branch_of a) ≡ flat_map (nested_loops symbols round) (map part_of (out-NestArm a).body)
   loop-arm a = ap (nested_in_branch symbols round) (branch_of-is a) ∙ each_part (map part_of (out-NestArm a).body)
 
-module _ (symbols : List (List ℕ)) (round : List NormalLoop) where
-  pub form-turns : (l : Loop) (ps : Seq Part) → is_normal symbols round (part_of (variants.Turns l ps))
-      ≡ (is_some (normal_loop symbols round (loop_of l)) && list_all (is_normal symbols (with_loop round (normal_loop symbols round (loop_of l)))) (map part_of ps))
-  form-turns l ps =
-      ap (is_normal symbols round) (part_of-turns l ps)
-      ∙ ap (λ b. is_some (normal_loop symbols round (loop_of l)) && b) (all_parts symbols (with_loop round (normal_loop symbols round (loop_of l))) (map part_of ps))
+module _ (symbols : List (List ℕ)) (round : List NormalLoop) (l : Loop) (ps : Seq Part) where
+  abbrev form : Option NormalLoop
+  form = normal_loop symbols round (loop_of l)
 
-  pub loop-turns : (l : Loop) (ps : Seq Part) → nested_loops symbols round (part_of (variants.Turns l ps))
-      ≡ nested round (normal_loop symbols round (loop_of l)) ++ flat_map (nested_loops symbols (with_loop round (normal_loop symbols round (loop_of l)))) (map part_of ps)
-  loop-turns l ps =
-      ap (nested_loops symbols round) (part_of-turns l ps)
-      ∙ ap (λ ls. nested round (normal_loop symbols round (loop_of l)) ++ ls) (each_part symbols (with_loop round (normal_loop symbols round (loop_of l))) (map part_of ps))
+  abbrev with_form : Option NormalLoop → Bool
+  with_form o = is_some o && list_all (is_normal symbols (with_loop round o)) (map part_of ps)
 
-pub ruleset form_laws = (form-run, form-turns, form-choice, form-label, form-jump, form-arm)
+  form-is : is_normal symbols round (part_of (variants.Turns l ps)) ≡ with_form form
+  form-is = ap (is_normal symbols round) (part_of-turns l ps) ∙ ap (λ b. is_some form && b) (all_parts symbols (with_loop round form) (map part_of ps))
+
+  pub form-none : form ≡ None → is_normal symbols round (part_of (variants.Turns l ps)) ≡ false
+  form-none e = form-is ∙ ap with_form e
+
+  pub form-some : (r : NormalLoop) → form ≡ Some r
+      → is_normal symbols round (part_of (variants.Turns l ps)) ≡ list_all (is_normal symbols (round ++ r ∷ [])) (map part_of ps)
+  form-some r e = form-is ∙ ap with_form e
+
+  pub loop-turns : nested_loops symbols round (part_of (variants.Turns l ps))
+      ≡ nested round form ++ flat_map (nested_loops symbols (with_loop round form)) (map part_of ps)
+  loop-turns = ap (nested_loops symbols round) (part_of-turns l ps) ∙ ap (λ ls. nested round form ++ ls) (each_part symbols (with_loop round form) (map part_of ps))
+
+pub ruleset form_laws = (form-run, form-none, form-some, form-choice, form-label, form-jump, form-arm)
 
 pub ruleset loop_laws = (loop-run, loop-turns, loop-choice, loop-label, loop-jump, loop-arm, append_assoc, append-nil)
 
@@ -93,5 +101,9 @@ pub ruleset loop_laws = (loop-run, loop-turns, loop-choice, loop-label, loop-jum
 pub nested-none : (ls : List NestedLoop) → ls ≡ [] → All IsNested ls
 nested-none ls e = subst (All IsNested) (sym e) (All-nil IsNested)
 
-pub nested-push : (ls : List NestedLoop) (l : NestedLoop) → All IsNested ls → IsNested l → All IsNested (ls ++ l ∷ [])
-nested-push ls l h i = All-push IsNested ls l h i
+pub nested-more : (ls : List NestedLoop) (round : List NormalLoop) (r : NormalLoop) → All IsNested ls → length round < 7 → pos 0 <ℤ r.trip.by
+    → All IsNested (ls ++ record { round = round; turns = r } ∷ [])
+nested-more ls round r h deep divisor =
+    All-push IsNested ls (record { round = round; turns = r }) h (record { deep = omega (arith, deep); divisor = divisor })
+
+pub ruleset nested_laws = (nested-none, nested-more)

@@ -14,7 +14,7 @@ use normal_forms::{NormalLoop, counters_of, normal_loop, trip_text};
 use std::alloc::Global;
 
 // The loop, which counts from 1 to its trip by 1.
-#[tactic(auto, unfolding(crate::specs::Bodies::counting))]
+#[tactic(auto, using(fv_tree::proofs::Equations::expression_equations), unfolding(crate::specs::Bodies::counting))]
 fn counting(
     alloc: Global,
     symbols: &Seq<Name>,
@@ -77,6 +77,7 @@ fn add_placed(
 }
 
 // A loop with these parts in it.
+#[tactic(auto, using(nest_tree::proofs::Equations::part_equations))]
 fn add_turns(
     alloc: Global,
     nest: &Nest,

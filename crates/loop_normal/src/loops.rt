@@ -1,5 +1,5 @@
 //! The loops of a nest, each with its form from 1 by 1.
-ghost use Rattle.std.specs.Prelude.{◌≡◌, ◌≤◌, ◌<◌, ◌<ℤ◌, ◌++◌, [], All, length, map, pos, IfOk, IfSome, OnOk, OnSome};
+ghost use Rattle.std.specs.Prelude.{◌≡◌, ◌≤◌, ◌<◌, ◌<ℤ◌, ◌++◌, ◌∷◌, [], All, length, map, pos, IfOk, IfSome, OnOk, OnSome};
 ghost use Rattle.std.specs.List.{flat_map, list_all};
 ghost use Rattle.nest_tree.specs.View.{branch_of, part_of};
 ghost use Rattle.last_values.specs.Behind.{IsNested};
@@ -11,6 +11,18 @@ use nest_tree::{NestArm, Part};
 use normal_forms::{NormalLoop, normal_loop};
 use std::alloc::Global;
 
+fn pushed(
+    alloc: Global,
+    round: &[NormalLoop],
+    turns: &NormalLoop,
+) -> Result<Vec<NormalLoop>, Memory>
+    ensures { IfOk result (λ inner. inner.items ≡ round.now ++ turns.now ∷ []) }
+{
+    let mut inner = Vec::from_slice(alloc, round)?;
+    inner.push(*turns)?;
+    Ok(inner)
+}
+
 /// The loops round what stands in a loop.
 pub(crate) fn with_loop(
     alloc: Global,
@@ -19,11 +31,10 @@ pub(crate) fn with_loop(
 ) -> Result<Vec<NormalLoop>, Memory>
     ensures { IfOk result (λ inner. inner.items ≡ with_loop round.now turns.now) }
 {
-    let mut inner = Vec::from_slice(alloc, round)?;
-    if let Some(turns) = turns {
-        inner.push(*turns)?;
-    }
-    Ok(inner)
+    let Some(turns) = turns else {
+        return Ok(Vec::from_slice(alloc, round)?);
+    };
+    pushed(alloc, round, turns)
 }
 
 /// Whether each loop of a part under these loops has a form from 1 by 1, within the limits.
@@ -41,11 +52,10 @@ pub(crate) fn is_normal(
     match part {
         Part::Run(_) => Ok(true),
         Part::Turns(turns, body) => {
-            let normal = normal_loop(alloc, symbols, round, turns)?;
-            if normal.is_none() {
+            let Some(normal) = normal_loop(alloc, symbols, round, turns)? else {
                 return Ok(false);
-            }
-            let inner = with_loop(alloc, round, &normal)?;
+            };
+            let inner = pushed(alloc, round, &normal)?;
             are_normal(alloc, symbols, inner.as_slice(), body)
         }
         Part::Choice(arms, other) => {
@@ -116,6 +126,7 @@ struct Loops {
 }
 
 impl Loops {
+    #[tactic(auto, using(crate::proofs::LoopLaws::nested_laws))]
     fn add(
         &mut self,
         alloc: Global,
@@ -230,6 +241,7 @@ impl Loops {
 }
 
 /// The loops of a nest, each before those in it.
+#[tactic(auto, using(crate::proofs::LoopLaws::nested_laws))]
 pub(crate) fn nested_loops(
     alloc: Global,
     symbols: &Seq<Name>,

@@ -1,7 +1,7 @@
 //! Nests in which each loop goes from 1 by 1.
-ghost use Rattle.std.specs.Prelude.{◌≡◌, ◌≤◌, ◌++◌, [], All, length, map, IfOk, OnOk};
+ghost use Rattle.std.specs.Prelude.{◌≡◌, ◌≤◌, [], All, length, map, IfOk};
 ghost use Rattle.std.specs.Option.{option_map};
-ghost use Rattle.fv_tree.specs.View.{block_of, statement_of};
+ghost use Rattle.fv_tree.specs.View.{block_of};
 ghost use Rattle.nest_tree.specs.Blocks.{block_then};
 ghost use Rattle.nest_tree.specs.View.{made_of, nest_of, part_of};
 ghost use Rattle.last_values.specs.Behind.{IsNested};
@@ -9,28 +9,28 @@ ghost use Rattle.loop_normal.specs.Normalised.{normalised, only_one, with_body, 
 
 use crate::bodies::add_part;
 use crate::loops::{is_normal, nested_loops};
-use fv_tree::{Block, Memory, Name, Seq, Stmt};
+use fv_tree::{Block, Memory, Name, Seq};
 use last_values::{NestedLoop, values_behind};
 use nest_tree::{Made, Nest, Part, copy_decls};
 use std::alloc::Global;
 
-fn add_all(stmts: &mut Seq<Stmt>, more: Seq<Stmt>) -> Result<(), Memory>
-    ensures { OnOk result (map statement_of stmts.new ≡ map statement_of stmts.old ++ map statement_of more) }
-{
-    for stmt in more.into_vec() {
-        stmts.push(stmt)?;
-    }
-    Ok(())
-}
-
 // A block and another one behind it.
 #[tactic(auto, using(crate::proofs::BlockLaws::block_laws))]
+fn joined(first: Block, more: Block) -> Result<Block, Memory>
+    ensures { IfOk result (λ both. block_of both ≡ block_then (block_of first) (block_of more)) }
+{
+    let mut stmts = first.stmts.into_vec();
+    let mut rest = more.stmts.into_vec();
+    stmts.append(&mut rest)?;
+    Ok(Block {
+        stmts: Seq::from_vec(stmts),
+    })
+}
+
 fn block_then(alloc: Global, first: &Block, more: Block) -> Result<Block, Memory>
     ensures { IfOk result (λ both. block_of both ≡ block_then (block_of first.now) (block_of more)) }
 {
-    let Block { mut stmts } = first.copy(alloc)?;
-    add_all(&mut stmts, more.stmts)?;
-    Ok(Block { stmts })
+    joined(first.copy(alloc)?, more)
 }
 
 fn copy_made(alloc: Global, made: &Seq<Made>) -> Result<Seq<Made>, Memory>
