@@ -1,0 +1,3 @@
+pub mod OutsideLaws
+pub mod LoopLaws
+pub mod MadeLaws

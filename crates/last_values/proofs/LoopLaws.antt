@@ -1,0 +1,39 @@
+-- Lists of loops that are gone through.
+use Rattle.std.proofs.Common.{◌≡◌, ℕ, ◌+◌, ◌<◌, ◌≤◌, pos, Bool, false, List, [], ◌∷◌, ◌++◌, map, take, length, get_or, ap, sym, ◌∙◌}
+use Rattle.std.proofs.lemmas.Grind.{flat_map-append}
+use Rattle.std.proofs.lemmas.List.{append-nil, map-append}
+use Rattle.std.proofs.lemmas.List.Elements.{All-cons, All-nil}
+use Rattle.std.proofs.lemmas.List.Folds.{list_all_at}
+use Rattle.std.specs.List.{flat_map, list_all}
+use Rattle.std.specs.Prelude.{All, ◌<ℤ◌}
+use Rattle.fv_tree.specs.Plain.{Statement}
+use Rattle.fv_tree.specs.View.{statement_of}
+use Rattle.fv_tree.specs.declared.stmts.Stmt.{Stmt}
+use Rattle.statement_loops.proofs.StandingLaws.{one_more}
+use Rattle.last_values.specs.declared.behind.NestedLoop.{NestedLoop}
+use Rattle.last_values.specs.Behind.{IsNested}
+
+-- one of them fails
+pub fails_at : {A : Type 0} (p : A → Bool) (list all : List A) (i : ℕ) (x : A) (r : Bool)
+    → list ≡ all → i < length list → x ≡ get_or list i x → r ≡ p x → r ≡ false → false ≡ list_all p all
+fails_at p list all i x r same h e is f =
+    sym (ap (list_all p) (sym same) ∙ list_all_at p list i x h (ap p (sym e) ∙ sym is ∙ f))
+
+flat_more : {A B : Type 0} (f : A → List B) (list : List A) (i : ℕ) (x : A) → i < length list → x ≡ get_or list i x
+    → flat_map f (take (i + 1) list) ≡ flat_map f (take i list) ++ f x
+flat_more f list i x h e =
+    ap (flat_map f) (one_more list i x h e) ∙ flat_map-append f (take i list) (x ∷ [])
+    ∙ ap (λ us. flat_map f (take i list) ++ us) (append-nil (f x))
+
+-- the statements of one more are added
+pub statements_more : {A : Type 0} (f : A → List Statement) (list : List A) (i : ℕ) (x : A) (old new left : List Stmt)
+    → i < length list → x ≡ get_or list i x → map statement_of old ≡ flat_map f (take i list)
+    → map statement_of left ≡ f x → new ≡ old ++ left → map statement_of new ≡ flat_map f (take (i + 1) list)
+statements_more f list i x old new left h e before here now =
+    ap (map statement_of) now ∙ map-append statement_of old left ∙ ap (λ us. us ++ map statement_of left) before
+    ∙ ap (λ us. flat_map f (take i list) ++ us) here ∙ sym (flat_more f list i x h e)
+
+-- a list of two loops
+pub two_nested : (a b : NestedLoop) → length a.round ≤ 6 → pos 0 <ℤ a.turns.trip.by → length b.round ≤ 6 → pos 0 <ℤ b.turns.trip.by → All IsNested (a ∷ b ∷ [])
+two_nested a b f g h k =
+    All-cons IsNested a (b ∷ []) (record { deep = f; divisor = g }) (All-cons IsNested b [] (record { deep = h; divisor = k }) (All-nil IsNested))

@@ -1,0 +1,4 @@
+pub mod Endings
+pub mod InPlace
+pub mod Occurrences
+pub mod Behind

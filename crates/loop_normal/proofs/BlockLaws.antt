@@ -1,0 +1,16 @@
+-- Blocks one behind the other.
+use Rattle.std.proofs.Common.{◌≡◌, List, [], ◌∷◌, ◌++◌, map, refl, ap, ap₂, ◌∙◌, sym}
+use Rattle.fv_tree.specs.Plain as P
+use Rattle.fv_tree.specs.View.{block_of, statement_of}
+use Rattle.fv_tree.specs.declared.stmts.Block.{Block, out-Block}
+use Rattle.fv_tree.proofs.Equations.{block_of-is, block_of-made}
+use Rattle.nest_tree.specs.Blocks.{block_then}
+
+one_behind : (cs ds : List P.Statement) → block_then (P.block cs) (P.block ds) ≡ P.block (cs ++ ds)
+one_behind [] ds = refl
+one_behind (c ∷ cs) ds = ap (P.statement c) (one_behind cs ds)
+
+pub then-is : (a b : Block) → block_then (block_of a) (block_of b) ≡ P.block (map statement_of (out-Block a).stmts ++ map statement_of (out-Block b).stmts)
+then-is a b = ap₂ block_then (block_of-is a) (block_of-is b) ∙ one_behind (map statement_of (out-Block a).stmts) (map statement_of (out-Block b).stmts)
+
+pub ruleset block_laws = (then-is, block_of-is, block_of-made)

@@ -1,0 +1,52 @@
+-- What stands for the parts of a nest, part by part.
+use Rattle.std.proofs.Common.{◌≡◌, ℕ, List, [], ◌∷◌, ◌++◌, map, refl, ap, ap₂, ◌∙◌, append_assoc}
+use Rattle.std.specs.List.{flat_map}
+use Rattle.std.proofs.lemmas.List.{append-nil, map-append}
+use Rattle.fv_tree.specs.declared.lists.Seq.{Seq}
+use Rattle.nest_tree.specs.Plain as P
+use Rattle.nest_tree.specs.View.{Branch, branch_of, branches, guarded_of, loop_of, part_of}
+use Rattle.nest_tree.specs.declared.parts.GuardedStmt.{GuardedStmt}
+use Rattle.nest_tree.specs.declared.parts.Loop.{Loop}
+use Rattle.nest_tree.specs.declared.parts.NestArm.{NestArm, out-NestArm}
+use Rattle.nest_tree.specs.declared.parts.Part.{Part}
+use Rattle.nest_tree.specs.declared.parts.Part.TheVariants as variants
+use Rattle.nest_tree.proofs.Equations.{part_of-run, part_of-turns, part_of-choice, part_of-label, part_of-jump, branch_of-is, part_equations}
+use Rattle.normal_forms.specs.NormalLoops.{normal_loop}
+use Rattle.normal_forms.specs.declared.loops.NormalLoop.{NormalLoop}
+use Rattle.last_values.specs.declared.behind.NestedLoop.{NestedLoop}
+use Rattle.loop_normal.specs.Loops.{with_loop}
+use Rattle.loop_normal.specs.Bodies.{normal_turns, normal_part, normal_parts, normal_branches, normal_branch}
+use Rattle.loop_normal.specs.Values.{normal_statement}
+
+module _ (n : P.Nest) (ls : List NestedLoop) where
+  pub each_part : (round : List NormalLoop) (ps : List P.Part) → normal_parts n ls round (P.parts ps) ≡ flat_map (normal_part n ls round) ps
+  each_part round [] = refl
+  each_part round (p ∷ ps) = ap (λ qs. normal_part n ls round p ++ qs) (each_part round ps)
+
+  module _ (round : List NormalLoop) where
+    each_branch : (bs : List Branch) → normal_branches n ls round (branches bs) ≡ branches (map (normal_branch n ls round) bs)
+    each_branch [] = refl
+    each_branch (b ∷ bs) = ap (P.branch (normal_branch n ls round b).test (normal_branch n ls round b).body) (each_branch bs)
+
+    pub body-run : (s : GuardedStmt) → normal_part n ls round (part_of (variants.Run s)) ≡ P.Run (normal_statement n.symbols round (guarded_of s)) ∷ []
+    body-run s = ap (normal_part n ls round) (part_of-run s)
+
+    pub body-turns : (l : Loop) (ps : Seq Part) → normal_part n ls round (part_of (variants.Turns l ps))
+        ≡ normal_turns n ls round (loop_of l) (normal_loop n.symbols round (loop_of l)) (flat_map (normal_part n ls (with_loop round (normal_loop n.symbols round (loop_of l)))) (map part_of ps))
+    body-turns l ps =
+        ap (normal_part n ls round) (part_of-turns l ps)
+        ∙ ap (normal_turns n ls round (loop_of l) (normal_loop n.symbols round (loop_of l))) (each_part (with_loop round (normal_loop n.symbols round (loop_of l))) (map part_of ps))
+
+    pub body-choice : (bs : Seq NestArm) (ps : Seq Part) → normal_part n ls round (part_of (variants.Choice bs ps))
+        ≡ P.Choice (branches (map (normal_branch n ls round) (map branch_of bs))) (P.parts (flat_map (normal_part n ls round) (map part_of ps))) ∷ []
+    body-choice bs ps =
+        ap (normal_part n ls round) (part_of-choice bs ps)
+        ∙ ap₂ (λ a b. P.Choice a (P.parts b) ∷ []) (each_branch (map branch_of bs)) (each_part round (map part_of ps))
+
+    pub body-label : (k : ℕ) → normal_part n ls round (part_of (variants.Label k)) ≡ P.Label k ∷ []
+    body-label k = ap (normal_part n ls round) (part_of-label k)
+
+    pub body-jump : (k : ℕ) → normal_part n ls round (part_of (variants.Jump k)) ≡ P.Jump k ∷ []
+    body-jump k = ap (normal_part n ls round) (part_of-jump k)
+
+pub ruleset body_laws = (body-run, body-turns, body-choice, body-label, body-jump, part_equations, each_part)
