@@ -22,7 +22,8 @@ use Rattle.f90_read_back.proofs.PrintedIsRead.{printed_is_read}
 use Rattle.fv_tool.proofs.Renumbered.{same_but_lines}
 use Rattle.fv_tool.proofs.SourceLines.{program_lines_are_source}
 use Rattle.fv_deck.proofs.Written.{IsSourceLine, source_alone, input_alone, source_before_data, input_after_data, no_input}
-use Rattle.fv_tool.specs.Decks.{ReadsDeck77}
+use Rattle.fv_command.specs.declared.commands.Command.TheVariants.{Vectorise}
+use Rattle.fv_tool.specs.Decks.{IsReadAs}
 use Rattle.fv_tool.specs.Translation.{data_part, translation_text}
 use Rattle.fv_tool.specs.Headline.{Preserves, TranslationHolds}
 
@@ -51,9 +52,9 @@ module _ (ls : List (List ℕ)) (plain : AllByRecursion IsSourceLine ls) where
   input_behind false input none = input_alone ls plain ∙ sym (none refl)
   input_behind true input none = input_after_data ls input plain
 
-pub holds : (deck : List ℕ) (p : Program) → ReadsDeck77 deck p → TranslationHolds deck (translation_text deck p)
+pub holds : (deck : List ℕ) (p : Program) → IsReadAs Vectorise deck p → TranslationHolds deck (translation_text deck p)
 holds deck p h =
-    let source : IsProgram77 fortran77 p = read_is_source_program fortran77 (source_of data_line77 deck) h.source.cards p (omega arith) h.source.are_cards h.source.program in
+    let source : IsProgram77 fortran77 p = read_is_source_program fortran77 (source_of data_line77 deck) h.reads.source.cards p (omega arith) h.reads.source.are_cards h.reads.source.program in
     let target : IsProgram90 p = source_is_target fortran77 p (omega arith) source in
     let ls : List (List ℕ) = program_lines p [] in
     let back : IsTextOf p (flat_map with_line_feed ls) = printed_is_read p [] target tt in
@@ -63,7 +64,7 @@ holds deck p h =
     let read : IsTextOf p (source_of data_line90 (translation_text deck p)) = subst (IsTextOf p) (sym (source_behind ls plain there input)) back in
     record {
       program = p;
-      reads = h;
+      read = h;
       printed = refl;
       read_back = read;
       input = input_behind ls plain there input (no_input data_line77 deck);

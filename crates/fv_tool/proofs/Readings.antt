@@ -24,9 +24,9 @@ use Rattle.fv_command.specs.declared.commands.Command.TheVariants.{Vectorise, Gr
 use Rattle.fv_report.specs.declared.outcome.Outcome.{Outcome}
 use Rattle.fv_report.specs.declared.outcome.Outcome.TheVariants.{Done, Usage, Refused as Denied, Faulted, StepLimit, ReadFault, WriteFault, OutOfMemory}
 use Rattle.program_listing.specs.Listing.{IsListingText}
-use Rattle.fv_tool.specs.Decks.{ReadsDeck77, RefusedDeck77}
+use Rattle.fv_tool.specs.Decks.{IsReadAs, IsRefusedFor, ReadsDeck77, RefusedDeck77}
 use Rattle.fv_tool.specs.Decks.RefusedDeck77.{TooLong, OfSource}
-use Rattle.fv_tool.specs.Endings.{IsReadAs, IsRefusedFor, HasText, ending_of}
+use Rattle.fv_tool.specs.Endings.{HasText, ending_of}
 use Rattle.fv_tool.specs.Translation.{data_part, translation_text}
 use Rattle.fv_tool.specs.Unread.{outcome_for}
 use Rattle.fv_tool.specs.Running.{run_of, run_text}

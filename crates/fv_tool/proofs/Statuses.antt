@@ -1,11 +1,12 @@
 -- Which outcome a status tells of.
-use Rattle.std.proofs.Common.{◌≡◌, ℕ, [], ◌∷◌, refl, arith, inl, inr}
+use Rattle.std.proofs.Common.{◌≡◌, ℕ, true, [], ◌∷◌, refl, sym, ◌∙◌, arith, inl, inr}
 use Rattle.fv_tree.specs.declared.ops.Fault.{Fault}
 use Rattle.fv_tree.specs.declared.refusals.Refusal.{Refusal}
 use Rattle.fv_report.specs.declared.outcome.Outcome.{Outcome}
 use Rattle.fv_report.specs.declared.outcome.Outcome.TheVariants.{Done, Usage, Refused, Faulted, StepLimit, ReadFault, WriteFault, OutOfMemory}
 use Rattle.fv_report.specs.Notes.{status_of}
 use Rattle.fv_tool.specs.Answers.{IsOneOf}
+use Rattle.fv_tool.specs.Endings.{is_silent}
 
 pub is_done : (o : Outcome) (s : ℕ) → s ≡ status_of o → s ≡ 0 → o ≡ Done
 is_done Done s e q = refl
@@ -86,3 +87,21 @@ answers StepLimit s e = inr (inr (inr (inr (inl e))))
 answers ReadFault s e = inr (inr (inr (inr (inr (inl e)))))
 answers WriteFault s e = inr (inr (inr (inr (inr (inr (inl e))))))
 answers OutOfMemory s e = inr (inr (inr (inr (inr (inr (inr (e)))))))
+
+-- ---- nothing was written
+
+none_silent : (s n : ℕ) → s ≡ n → (n ≡ 1 → ⊥) → (n ≡ 2 → ⊥) → (n ≡ 5 → ⊥) → (n ≡ 7 → ⊥) → IsOneOf (1 ∷ 2 ∷ 5 ∷ 7 ∷ []) s → ⊥
+none_silent s n e a b c d (inl q) = a (sym e ∙ q)
+none_silent s n e a b c d (inr (inl q)) = b (sym e ∙ q)
+none_silent s n e a b c d (inr (inr (inl q))) = c (sym e ∙ q)
+none_silent s n e a b c d (inr (inr (inr q))) = d (sym e ∙ q)
+
+pub silent : (o : Outcome) (s : ℕ) → s ≡ status_of o → IsOneOf (1 ∷ 2 ∷ 5 ∷ 7 ∷ []) s → is_silent o ≡ true
+silent Done s e m = absurd (none_silent s 0 e (λ q. omega (arith, q)) (λ q. omega (arith, q)) (λ q. omega (arith, q)) (λ q. omega (arith, q)) m)
+silent Usage s e m = refl
+silent (Refused r) s e m = refl
+silent (Faulted fault line) s e m = absurd (none_silent s 3 e (λ q. omega (arith, q)) (λ q. omega (arith, q)) (λ q. omega (arith, q)) (λ q. omega (arith, q)) m)
+silent StepLimit s e m = absurd (none_silent s 4 e (λ q. omega (arith, q)) (λ q. omega (arith, q)) (λ q. omega (arith, q)) (λ q. omega (arith, q)) m)
+silent ReadFault s e m = refl
+silent WriteFault s e m = absurd (none_silent s 6 e (λ q. omega (arith, q)) (λ q. omega (arith, q)) (λ q. omega (arith, q)) (λ q. omega (arith, q)) m)
+silent OutOfMemory s e m = refl

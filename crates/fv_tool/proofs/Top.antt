@@ -20,8 +20,8 @@ use Rattle.fv_report.specs.declared.outcome.Outcome.{Outcome}
 use Rattle.fv_report.specs.declared.outcome.Outcome.TheVariants.{Done, Usage, Refused, Faulted, StepLimit, ReadFault, WriteFault, OutOfMemory}
 use Rattle.fv_report.specs.Notes.{status_of, note_of}
 use Rattle.fv_tool.specs.Answers.{IsOneOf, IsTrueOf, NoteFor, HasFault}
-use Rattle.fv_tool.specs.Decks.{Reads, IsRefused, ReadsDeck77}
-use Rattle.fv_tool.specs.Endings.{Call, Ends, Ended, EndsAt, IsRun, IsReadOrPassed, IsReadFor, IsRefusedFor, IsReadAs, GivesAll, GivesFront, ending_of}
+use Rattle.fv_tool.specs.Decks.{Reads, IsRefused, IsReadAs, IsRefusedFor, ReadsDeck77}
+use Rattle.fv_tool.specs.Endings.{Call, Ends, Ended, EndsAt, IsRun, IsReadOrPassed, IsReadFor, GivesAll, GivesFront, ending_of}
 use Rattle.fv_tool.specs.Headline.{GivesTranslation, GivesTranslationPart}
 use Rattle.fv_tool.specs.Listings.{IsListingOf, GivesListing, GivesListingPart}
 use Rattle.program_listing.specs.Listing.{IsListingText}
@@ -142,14 +142,14 @@ never_done k c OutOfMemory s e h = always c.left_before (λ deck r refused still
 
 translation : (before now : Option (List ℕ)) (deck : List ℕ) → GivesAll Vectorise end.Done before now deck → GivesTranslation before now deck
 translation before now deck g =
-    (_, holds deck g.program g.read.reads, subst (λ (t : List ℕ). Gives before t now) g.has_text g.given)
+    (_, holds deck g.program g.read, subst (λ (t : List ℕ). Gives before t now) g.has_text g.given)
 
 translation_part : (before now : Option (List ℕ)) (deck : List ℕ) → GivesFront Vectorise before now deck → GivesTranslationPart before now deck
 translation_part before now deck g =
-    (_, holds deck g.program g.read.reads, subst (λ (t : List ℕ). GivesPart before t now) g.has_text g.given)
+    (_, holds deck g.program g.read, subst (λ (t : List ℕ). GivesPart before t now) g.has_text g.given)
 
 listed_as : (deck text : List ℕ) (p : Program) → IsReadAs Graph deck p → IsListingText p text → IsListingOf deck text
-listed_as deck text p read listing = record { program = p; reads = read.reads; listing = listing }
+listed_as deck text p read listing = record { program = p; read = read; listing = listing }
 
 listing_given : (before now : Option (List ℕ)) (deck : List ℕ) → GivesAll Graph end.Done before now deck → GivesListing before now deck
 listing_given before now deck g = (g.text, listed_as deck g.text g.program g.read g.has_text, g.given)
@@ -160,7 +160,7 @@ listing_part before now deck g = (g.text, listed_as deck g.text g.program g.read
 run_given : (options : Options) (e : End) (before now : Option (List ℕ)) (deck : List ℕ) → GivesAll (Run77 options) e before now deck → GivesRun options e before now deck
 run_given options e before now deck g = record {
   program = g.program;
-  reads = g.read.reads;
+  read = g.read;
   ending = g.ending;
   text = subst (λ (t : List ℕ). Gives before t now) g.has_text g.given;
 }
@@ -168,7 +168,7 @@ run_given options e before now deck g = record {
 run_part_given : (options : Options) (before now : Option (List ℕ)) (deck : List ℕ) → GivesFront (Run77 options) before now deck → GivesRunPart options before now deck
 run_part_given options before now deck g = record {
   program = g.program;
-  reads = g.read.reads;
+  read = g.read;
   text = subst (λ (t : List ℕ). GivesPart before t now) g.has_text g.given;
 }
 
@@ -210,28 +210,6 @@ pub at_limit : (k : Option Command) (c : Call) (o : Outcome) (s : ℕ) → s ≡
 at_limit k c o s e h q =
     let g = asked k c o StepLimit h (tells.is_limited o s e q) (λ z. omega (arith, z)) in
     run_for k c g.0 end.StepLimit g.1 g.2.0 g.2.1
-
--- ---- nothing was given
-
-none_silent : (s n : ℕ) → s ≡ n → (n ≡ 1 → ⊥) → (n ≡ 2 → ⊥) → (n ≡ 5 → ⊥) → (n ≡ 7 → ⊥) → IsOneOf (1 ∷ 2 ∷ 5 ∷ 7 ∷ []) s → ⊥
-none_silent s n e a b c d (inl q) = a (sym e ∙ q)
-none_silent s n e a b c d (inr (inl q)) = b (sym e ∙ q)
-none_silent s n e a b c d (inr (inr (inl q))) = c (sym e ∙ q)
-none_silent s n e a b c d (inr (inr (inr q))) = d (sym e ∙ q)
-
-nothing_for : (k : Command) (c : Call) (o : Outcome) (s : ℕ) → s ≡ status_of o → Ends k c o → IsOneOf (1 ∷ 2 ∷ 5 ∷ 7 ∷ []) s → c.taken_now ≡ c.taken_before
-nothing_for k c Done s e h m = absurd (none_silent s 0 e (λ q. omega (arith, q)) (λ q. omega (arith, q)) (λ q. omega (arith, q)) (λ q. omega (arith, q)) m)
-nothing_for k c Usage s e h m = absurd h
-nothing_for k c (Refused r) s e h m = h.2
-nothing_for k c (Faulted fault line) s e h m = absurd (none_silent s 3 e (λ q. omega (arith, q)) (λ q. omega (arith, q)) (λ q. omega (arith, q)) (λ q. omega (arith, q)) m)
-nothing_for k c StepLimit s e h m = absurd (none_silent s 4 e (λ q. omega (arith, q)) (λ q. omega (arith, q)) (λ q. omega (arith, q)) (λ q. omega (arith, q)) m)
-nothing_for k c ReadFault s e h m = h.1
-nothing_for k c WriteFault s e h m = absurd (none_silent s 6 e (λ q. omega (arith, q)) (λ q. omega (arith, q)) (λ q. omega (arith, q)) (λ q. omega (arith, q)) m)
-nothing_for k c OutOfMemory s e h m = h
-
-pub nothing : (k : Option Command) (c : Call) (o : Outcome) (s : ℕ) → s ≡ status_of o → Ended k c o → IsOneOf (1 ∷ 2 ∷ 5 ∷ 7 ∷ []) s → c.taken_now ≡ c.taken_before
-nothing None c o s e h m = h.1
-nothing (Some a) c o s e h m = nothing_for a c o s e h m
 
 -- ---- a deck that is read
 
@@ -303,7 +281,7 @@ has_fault : (k : Command) (c : Call) (fault : Kind) (line : ℕ) → IsRun k →
 has_fault Vectorise c fault line run h = absurd run
 has_fault Graph c fault line run h = absurd run
 has_fault (Run77 options) c fault line run h =
-    map_some c.left_before (λ deck (g : GivesAll (Run77 options) (end.Fault fault line) c.taken_before c.taken_now deck). (g.program, g.read.reads, g.ending)) h
+    map_some c.left_before (λ deck (g : GivesAll (Run77 options) (end.Fault fault line) c.taken_before c.taken_now deck). (g.program, g.read, g.ending)) h
 
 true_for : (k : Command) (c : Call) (o : Outcome) → Ends k c o → IsTrueOf (Some k) c.left_before o
 true_for k c Done h = tt

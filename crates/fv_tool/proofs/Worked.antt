@@ -14,9 +14,9 @@ use Rattle.fv_command.specs.declared.commands.Command.{Command}
 use Rattle.fv_command.specs.declared.commands.Command.TheVariants.{Vectorise, Graph, Run77}
 use Rattle.fv_report.specs.declared.outcome.Outcome.{Outcome}
 use Rattle.fv_report.specs.declared.outcome.Outcome.TheVariants.{Done, Usage, Refused, Faulted, StepLimit, ReadFault, WriteFault, OutOfMemory}
-use Rattle.fv_tool.specs.Decks.{Reads, IsRefused}
+use Rattle.fv_tool.specs.Decks.{Reads, IsRefused, IsRefusedFor}
 use Rattle.fv_tool.specs.Decks.RefusedDeck77.{TooLong as deck_too_long}
-use Rattle.fv_tool.specs.Endings.{Ends, IsRun, IsReadFor, IsRefusedFor, GivesAll, GivesFront, ending_of}
+use Rattle.fv_tool.specs.Endings.{Ends, IsRun, IsReadFor, GivesAll, GivesFront, ending_of}
 use Rattle.fv_tool.specs.Unread.{IsUnread}
 use Rattle.fv_tool.specs.Works.{Writing, Works}
 

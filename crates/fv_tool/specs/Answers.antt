@@ -9,7 +9,7 @@ use Rattle.fv_command.specs.declared.commands.Command.TheVariants.{Vectorise, Gr
 use Rattle.fv_report.specs.declared.outcome.Outcome.{Outcome}
 use Rattle.fv_report.specs.declared.outcome.Outcome.TheVariants.{Refused, Faulted}
 use Rattle.fv_report.specs.Notes.{status_of, note_of}
-use Rattle.fv_tool.specs.Decks.{IsRefused, ReadsDeck77}
+use Rattle.fv_tool.specs.Decks.{IsRefused, IsReadAs}
 use Rattle.fv_tool.specs.Running.{run_of}
 
 -- the status is one of these
@@ -22,7 +22,7 @@ IsOneOf (n ∷ m ∷ ns) status = (status ≡ n) ⊎ IsOneOf (m ∷ ns) status
 abbrev pub HasFault : Command → Kind → ℕ → List ℕ → Type 0
 HasFault Vectorise fault line deck = ⊥
 HasFault Graph fault line deck = ⊥
-HasFault (Run77 options) fault line deck = (p : Program) × ReadsDeck77 deck p
+HasFault (Run77 options) fault line deck = (p : Program) × IsReadAs (Run77 options) deck p
     × (ending (run_of options deck p) ≡ Some (Fault fault line))
 
 -- a refusal is one of the deck's, and a fault is that of its run, where the deck is told

@@ -1,5 +1,5 @@
 -- Which program each command reads from a deck, and why it refuses one.
-use Rattle.std.specs.Prelude.{◌^◌, ◌<◌, ◌≤◌, ℕ, List, length}
+use Rattle.std.specs.Prelude.{◌≡◌, ◌^◌, ◌<◌, ◌≤◌, ℕ, List, length}
 use Rattle.fv_tree.specs.declared.refusals.Refusal.{Refusal}
 use Rattle.fv_tree.specs.Plain.{Program}
 use Rattle.fv_meaning.specs.Deck.{source_of, data_line77}
@@ -34,3 +34,14 @@ abbrev pub IsRefused : Command → List ℕ → Refusal → Type 0
 IsRefused Vectorise = RefusedDeck77
 IsRefused Graph = RefusedDeck77
 IsRefused (Run77 options) = RefusedDeck77
+
+-- the deck is read as this program and as no other, and it isn't refused
+pub record IsReadAs (c : Command) (deck : List ℕ) (p : Program) : Type 0 where
+  pub reads : Reads c deck p
+  pub only : (q : Program) → Reads c deck q → q ≡ p
+  pub accepted : (r : Refusal) → IsRefused c deck r → ⊥
+
+-- the deck is refused so, and isn't read
+pub record IsRefusedFor (c : Command) (r : Refusal) (deck : List ℕ) : Type 0 where
+  pub refused : IsRefused c deck r
+  pub unread : (p : Program) → Reads c deck p → ⊥

@@ -1,5 +1,5 @@
 -- What a call of the tool did with its deck and its sink, by the command and by how it ended.
-use Rattle.std.specs.Prelude.{ℕ, ◌^◌, ◌≡◌, ◌⊎◌, List, Option, None, Some, IfSome}
+use Rattle.std.specs.Prelude.{ℕ, ◌^◌, ◌≡◌, ◌⊎◌, Bool, true, false, List, Option, None, Some, IfSome}
 use Rattle.std.specs.Io.KnownBytes.{IsAtEnd}
 use Rattle.fv_tree.specs.declared.refusals.Refusal.{Refusal}
 use Rattle.fv_tree.specs.Plain.{Program}
@@ -14,7 +14,7 @@ use Rattle.fv_report.specs.declared.outcome.Outcome.{Outcome}
 use Rattle.fv_report.specs.declared.outcome.Outcome.TheVariants.{Done, Usage, Refused, Faulted, StepLimit, ReadFault}
 use Rattle.fv_report.specs.declared.outcome.Outcome.TheVariants.{WriteFault, OutOfMemory}
 use Rattle.program_listing.specs.Listing.{IsListingText}
-use Rattle.fv_tool.specs.Decks.{Reads, IsRefused}
+use Rattle.fv_tool.specs.Decks.{IsRefused, IsReadAs, IsRefusedFor}
 use Rattle.fv_tool.specs.Running.{run_of, run_text}
 use Rattle.fv_tool.specs.Translation.{translation_text}
 
@@ -55,17 +55,6 @@ HasText Vectorise deck p text = text ≡ translation_text deck p
 HasText Graph deck p text = IsListingText p text
 HasText (Run77 options) deck p text = text ≡ run_text options p (run_of options deck p)
 
--- the deck is read as this program and as no other, and it isn't refused
-pub record IsReadAs (c : Command) (deck : List ℕ) (p : Program) : Type 0 where
-  pub reads : Reads c deck p
-  pub only : (q : Program) → Reads c deck q → q ≡ p
-  pub accepted : (r : Refusal) → IsRefused c deck r → ⊥
-
--- the deck is refused so, and isn't read
-pub record IsRefusedFor (c : Command) (r : Refusal) (deck : List ℕ) : Type 0 where
-  pub refused : IsRefused c deck r
-  pub unread : (p : Program) → Reads c deck p → ⊥
-
 -- the command has come to this end, and has given all of its text
 pub record GivesAll (c : Command) (e : End) (before now : Option (List ℕ)) (deck : List ℕ) : Type 0 where
   pub program : Program
@@ -105,6 +94,17 @@ Ends k c ReadFault = Rose c.deck_faults_before c.deck_faults_now × (c.taken_now
 Ends k c WriteFault = Rose c.out_faults_before c.out_faults_now × IsAtEnd c.left_now
     × IfSome c.left_before (GivesFront k c.taken_before c.taken_now)
 Ends k c OutOfMemory = c.taken_now ≡ c.taken_before
+
+-- a call that ends so has written nothing
+abbrev pub is_silent : Outcome → Bool
+is_silent Done = false
+is_silent Usage = true
+is_silent (Refused r) = true
+is_silent (Faulted fault line) = false
+is_silent StepLimit = false
+is_silent ReadFault = true
+is_silent WriteFault = false
+is_silent OutOfMemory = true
 
 -- words that are no command do nothing
 abbrev pub Ended : Option Command → Call → Outcome → Type 0

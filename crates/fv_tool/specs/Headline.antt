@@ -7,7 +7,8 @@ use Rattle.fv_meaning.specs.Sequential.{sequential_run, EndsWell}
 use Rattle.fv_meaning.specs.Array.{array_run}
 use Rattle.f90_read_back.specs.ReadBack.{IsReadAs as IsTextOf}
 use Rattle.fv_io.specs.Streams.{Gives, GivesPart}
-use Rattle.fv_tool.specs.Decks.{ReadsDeck77}
+use Rattle.fv_command.specs.declared.commands.Command.TheVariants.{Vectorise}
+use Rattle.fv_tool.specs.Decks.{IsReadAs}
 use Rattle.fv_tool.specs.Translation.{translation_text}
 
 -- Where the sequential run of p ends without fault, so does the array run of q, with the same output, and the stores
@@ -22,7 +23,7 @@ pub record Preserves (p q : Program) (input : List ℕ) : Type 0 where
 -- first one does on it
 pub record TranslationHolds (deck text : List ℕ) : Type 0 where
   pub program : Program
-  pub reads : ReadsDeck77 deck program
+  pub read : IsReadAs Vectorise deck program
   pub printed : text ≡ translation_text deck program
   pub read_back : IsTextOf program (source_of data_line90 text)
   pub input : input_of data_line90 text ≡ input_of data_line77 deck

@@ -3,12 +3,13 @@ use Rattle.std.specs.Prelude.{ℕ, List, Option}
 use Rattle.fv_tree.specs.Plain.{Program}
 use Rattle.fv_io.specs.Streams.{Gives, GivesPart}
 use Rattle.program_listing.specs.Listing.{IsListingText}
-use Rattle.fv_tool.specs.Decks.{ReadsDeck77}
+use Rattle.fv_command.specs.declared.commands.Command.TheVariants.{Graph}
+use Rattle.fv_tool.specs.Decks.{IsReadAs}
 
 -- the deck is read as a program of which this is the text of a listing
 pub record IsListingOf (deck text : List ℕ) : Type 0 where
   pub program : Program
-  pub reads : ReadsDeck77 deck program
+  pub read : IsReadAs Graph deck program
   pub listing : IsListingText program text
 
 -- a listing of the deck was given whole, and nothing else

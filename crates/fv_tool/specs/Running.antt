@@ -10,8 +10,9 @@ use Rattle.fv_meaning.specs.declared.End.{End}
 use Rattle.fv_meaning.specs.declared.End.TheVariants.{Done, Fault}
 use Rattle.fv_tree.specs.declared.ops.Fault.{Fault as Kind}
 use Rattle.fv_io.specs.Streams.{Gives, GivesPart}
+use Rattle.fv_command.specs.declared.commands.Command.TheVariants.{Run77}
 use Rattle.fv_command.specs.declared.commands.Options.{Options}
-use Rattle.fv_tool.specs.Decks.{ReadsDeck77}
+use Rattle.fv_tool.specs.Decks.{IsReadAs}
 
 -- the sequential run of the program on the deck's input, cut at the limit of steps where one is given
 abbrev pub run_of : Options → List ℕ → Program → State
@@ -34,7 +35,7 @@ IsExceeded (Some n) p input = n < steps_of p input
 -- The deck is read, its run ends so, and all of its text was given.
 pub record GivesRun (options : Options) (end : End) (before now : Option (List ℕ)) (deck : List ℕ) : Type 0 where
   pub program : Program
-  pub reads : ReadsDeck77 deck program
+  pub read : IsReadAs (Run77 options) deck program
   pub ending : ending (run_of options deck program) ≡ Some end
   pub text : Gives before (run_text options program (run_of options deck program)) now
 
@@ -46,5 +47,5 @@ GivesFaultedRun options before now deck = (fault : Kind) × (line : ℕ)
 -- The deck is read, and a front of its run's text was given.
 pub record GivesRunPart (options : Options) (before now : Option (List ℕ)) (deck : List ℕ) : Type 0 where
   pub program : Program
-  pub reads : ReadsDeck77 deck program
+  pub read : IsReadAs (Run77 options) deck program
   pub text : GivesPart before (run_text options program (run_of options deck program)) now

@@ -9,7 +9,8 @@ use Rattle.fv_command.specs.declared.commands.Command.{Command}
 use Rattle.fv_report.specs.declared.outcome.Outcome.{Outcome}
 use Rattle.fv_report.specs.declared.outcome.Outcome.TheVariants.{Done, Usage, Refused, Faulted, StepLimit, ReadFault}
 use Rattle.fv_report.specs.declared.outcome.Outcome.TheVariants.{WriteFault, OutOfMemory}
-use Rattle.fv_tool.specs.Endings.{IsReadAs, IsRefusedFor, HasText, ending_of}
+use Rattle.fv_tool.specs.Decks.{IsReadAs, IsRefusedFor}
+use Rattle.fv_tool.specs.Endings.{HasText, ending_of}
 
 -- the bytes in the sink and its count of faults, before and after
 pub record Writing : Type 0 where

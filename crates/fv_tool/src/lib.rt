@@ -1,7 +1,7 @@
 //! The top call: words, the deck, the text and the notes.
 #![tactic(auto)]
 
-ghost use Rattle.std.specs.Prelude.{◌≡◌, ◌≤◌, ◌↔◌, [], ◌∷◌, List, None, Some, ℕ};
+ghost use Rattle.std.specs.Prelude.{◌≡◌, ◌≤◌, ◌↔◌, [], ◌∷◌, List, None, Some, true, ℕ};
 ghost use Rattle.std.specs.Io.KnownBytes.{IsAtEnd};
 ghost use Rattle.fv_tree.specs.Plain.{Program};
 ghost use Rattle.fv_tree.specs.declared.ops.Fault.{Fault as Kind};
@@ -18,7 +18,7 @@ ghost use Rattle.fv_command.specs.declared.commands.Command.TheVariants.{Vectori
 ghost use Rattle.fv_tool.specs.Answers.{IsOneOf, NoteFor};
 ghost use Rattle.fv_tool.specs.Asked.{Asks, HasNotFailed, IfTold};
 ghost use Rattle.fv_tool.specs.Decks.{Reads, IsRefused, ReadsDeck77};
-ghost use Rattle.fv_tool.specs.Endings.{Ends, Ended, IsReadOrPassed, IsRefusedAfter, ending_of};
+ghost use Rattle.fv_tool.specs.Endings.{Ends, Ended, IsReadOrPassed, IsRefusedAfter, ending_of, is_silent};
 ghost use Rattle.fv_tool.specs.Headline.{GivesTranslation, GivesTranslationPart};
 ghost use Rattle.fv_tool.specs.Listings.{GivesListing, GivesListingPart};
 ghost use Rattle.fv_tool.specs.Running.{GivesRun, GivesFaultedRun, GivesRunPart, IsExceeded, run_of};
@@ -60,6 +60,7 @@ fn perform<S: Source, K: Sink>(
       out_faults_before = K.faults out.old;
       out_faults_now = K.faults out.new;
     }) result }
+    ensures untouched { is_silent result ≡ true → out.new ≡ out.old }
     ensures deck_later { S.faults deck.old ≤ S.faults deck.new }
     ensures out_later { K.faults out.old ≤ K.faults out.new }
 {
@@ -87,6 +88,7 @@ fn work<S: Source, K: Sink>(alloc: Global, words: &[String], deck: &mut S, out: 
       out_faults_now = K.faults out.new;
     }) result }
     ensures unread { command_of (texts words.now) ≡ None → deck.new ≡ deck.old }
+    ensures untouched { is_silent result ≡ true → out.new ≡ out.old }
     ensures deck_later { S.faults deck.old ≤ S.faults deck.new }
     ensures out_later { K.faults out.old ≤ K.faults out.new }
 {
@@ -152,7 +154,7 @@ pub fn run_tool<S: Source, K: Sink, E: Sink>(
         → IfTold (S.left deck.old) (GivesRunPart o (K.taken out.old) (K.taken out.new)) }
 
     // Otherwise nothing is given.
-    ensures nothing { IsOneOf (1 ∷ 2 ∷ 5 ∷ 7 ∷ []) result → K.taken out.new ≡ K.taken out.old }
+    ensures nothing { IsOneOf (1 ∷ 2 ∷ 5 ∷ 7 ∷ []) result → out.new ≡ out.old }
 
     // Completeness: where nothing failed, a deck that is read gets 3 where its run faults within the limit, 4 where
     // its steps exceed the limit, and 0 otherwise, unless memory runs out.

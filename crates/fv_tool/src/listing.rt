@@ -1,10 +1,11 @@
 //! `graph`: the listing of a deck.
-ghost use Rattle.std.specs.Prelude.{◌≡◌, ◌^◌, ◌≤◌, length, IfOk};
+ghost use Rattle.std.specs.Prelude.{◌≡◌, ◌^◌, ◌≤◌, true, length, IfOk};
 ghost use Rattle.fv_tree.specs.View.{program_of};
 ghost use Rattle.fv_meaning.specs.Dialect.{fortran77};
 ghost use Rattle.fv_meaning.specs.Profile77.{IsProgram77};
 ghost use Rattle.fv_command.specs.declared.commands.Command.TheVariants.{Graph};
 ghost use Rattle.program_listing.specs.Listing.{IsListingText};
+ghost use Rattle.fv_tool.specs.Endings.{is_silent};
 ghost use Rattle.fv_tool.specs.Works.{Works};
 
 use crate::deck::unread;
@@ -33,6 +34,7 @@ pub(crate) fn graph<K: Sink>(alloc: Global, deck: &[u8], out: &mut K) -> Outcome
       faults_before = K.faults out.old;
       faults_now = K.faults out.new;
     }) result }
+    ensures untouched { is_silent result ≡ true → out.new ≡ out.old }
     ensures later { K.faults out.old ≤ K.faults out.new }
 {
     let (source, _) = source_and_input(deck, DataLine::Fortran77);

@@ -1,5 +1,5 @@
 //! `run77`: the sequential run of a deck.
-ghost use Rattle.std.specs.Prelude.{◌^◌, ◌≤◌, length};
+ghost use Rattle.std.specs.Prelude.{◌≡◌, ◌^◌, ◌≤◌, true, length};
 ghost use Rattle.fv_tree.specs.Plain.{Program};
 ghost use Rattle.fv_meaning.specs.Run.{run as run_at};
 ghost use Rattle.fv_meaning.specs.Sequential.{ending};
@@ -8,6 +8,7 @@ ghost use Rattle.fv_meaning.specs.Profile77.{IsProgram77};
 ghost use Rattle.fv_command.specs.declared.commands.Command.TheVariants.{Run77};
 ghost use Rattle.run77.specs.Machine.{IsMachineOf};
 ghost use Rattle.fv_tool.specs.Running.{run_text};
+ghost use Rattle.fv_tool.specs.Endings.{is_silent};
 ghost use Rattle.fv_tool.specs.Works.{Comes, Works};
 
 use crate::deck::unread;
@@ -34,6 +35,7 @@ fn run_machine<K: Sink>(
           faults_before = K.faults out.old;
           faults_now = K.faults out.new;
         }) result }
+    ensures untouched { is_silent result ≡ true → out.new ≡ out.old }
     ensures later { K.faults out.old ≤ K.faults out.new }
 {
     match machine.run(input, out, options.steps) {
@@ -60,6 +62,7 @@ pub(crate) fn run<K: Sink>(alloc: Global, options: Options, deck: &[u8], out: &m
       faults_before = K.faults out.old;
       faults_now = K.faults out.new;
     }) result }
+    ensures untouched { is_silent result ≡ true → out.new ≡ out.old }
     ensures later { K.faults out.old ≤ K.faults out.new }
 {
     let (source, input) = source_and_input(deck, DataLine::Fortran77);

@@ -1,11 +1,12 @@
 //! `vectorise`: the translation of a deck.
-ghost use Rattle.std.specs.Prelude.{◌≡◌, ◌^◌, ◌≤◌, ◌++◌, [], length, IfOk, OnOk};
+ghost use Rattle.std.specs.Prelude.{◌≡◌, ◌^◌, ◌≤◌, ◌++◌, [], true, length, IfOk, OnOk};
 ghost use Rattle.std.specs.Option.{option_copied};
 ghost use Rattle.fv_tree.specs.View.{program_of};
 ghost use Rattle.f90_grammar.specs.PrintedText.{printed90};
 ghost use Rattle.fv_command.specs.declared.commands.Command.TheVariants.{Vectorise};
 ghost use Rattle.fv_deck.specs.Parts.{is_there, bytes_in};
 ghost use Rattle.fv_tool.specs.Translation.{data_part};
+ghost use Rattle.fv_tool.specs.Endings.{is_silent};
 ghost use Rattle.fv_tool.specs.Works.{Works};
 
 use crate::deck::unread;
@@ -54,6 +55,7 @@ pub(crate) fn vectorise<K: Sink>(alloc: Global, deck: &[u8], out: &mut K) -> Out
       faults_before = K.faults out.old;
       faults_now = K.faults out.new;
     }) result }
+    ensures untouched { is_silent result ≡ true → out.new ≡ out.old }
     ensures later { K.faults out.old ≤ K.faults out.new }
 {
     let (source, input) = source_and_input(deck, DataLine::Fortran77);

@@ -1,5 +1,6 @@
 use Rattle.fv_report.specs.Notes.{note_of}
 use Rattle.fv_tool.proofs.Top.{for_words, for_command, part_or_whole, note_given}
+use Rattle.fv_tool.proofs.Statuses.{silent}
 use Rattle.fv_tool.proofs.Top as top
 use Rattle.fv_tool.proofs.run_tool.Goals as goal
 
@@ -49,7 +50,7 @@ pub returns-clause-run_part : goal.returns-clause-run_part
 returns-clause-run_part g c o k = top.run_part o _ c.work-outcome.result c.status.result c.status.ensures (for_command _ _ _ _ k (for_words _ _ _ _ c.as_slice.ensures.value c.work-outcome.ensures.ended))
 
 pub returns-clause-nothing : goal.returns-clause-nothing
-returns-clause-nothing g c = top.nothing _ _ c.work-outcome.result c.status.result c.status.ensures c.work-outcome.ensures.ended
+returns-clause-nothing g c m = c.work-outcome.ensures.untouched (silent c.work-outcome.result c.status.result c.status.ensures m)
 
 pub returns-clause-faults : goal.returns-clause-faults
 returns-clause-faults g c o k = top.faults o _ c.work-outcome.result c.status.result c.status.ensures (for_command _ _ _ _ k (for_words _ _ _ _ c.as_slice.ensures.value c.work-outcome.ensures.ended))
