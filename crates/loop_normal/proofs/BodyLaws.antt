@@ -1,5 +1,5 @@
 -- What stands for the parts of a nest, part by part.
-use Rattle.std.proofs.Common.{◌≡◌, ℕ, List, [], ◌∷◌, ◌++◌, map, refl, ap, ap₂, ◌∙◌, append_assoc}
+use Rattle.std.proofs.Common.{◌≡◌, ℕ, Option, None, List, [], ◌∷◌, ◌++◌, map, refl, sym, ap, ap₂, ◌∙◌, append_assoc}
 use Rattle.std.specs.List.{flat_map}
 use Rattle.std.proofs.lemmas.List.{append-nil, map-append}
 use Rattle.fv_tree.specs.declared.lists.Seq.{Seq}
@@ -48,5 +48,14 @@ module _ (n : P.Nest) (ls : List NestedLoop) where
 
     pub body-jump : (k : ℕ) → normal_part n ls round (part_of (variants.Jump k)) ≡ P.Jump k ∷ []
     body-jump k = ap (normal_part n ls round) (part_of-jump k)
+
+-- a loop without a form from 1 by 1 stays
+pub loop-stays : (n : P.Nest) (ls : List NestedLoop) (round : List NormalLoop) (o : Option NormalLoop) (l k : Loop) (ps : Seq Part) (old new : List Part)
+    → o ≡ None → loop_of k ≡ loop_of l → new ≡ old ++ variants.Turns k ps ∷ []
+    → map part_of new ≡ map part_of old ++ normal_turns n ls round (loop_of l) o (map part_of ps)
+loop-stays n ls round o l k ps old new e same now =
+    ap (map part_of) now ∙ map-append part_of old (variants.Turns k ps ∷ [])
+    ∙ ap (λ p. map part_of old ++ p ∷ []) (part_of-turns k ps ∙ ap (λ q. P.Turns q (P.parts (map part_of ps))) same)
+    ∙ ap (λ q. map part_of old ++ normal_turns n ls round (loop_of l) q (map part_of ps)) (sym e)
 
 pub ruleset body_laws = (body-run, body-turns, body-choice, body-label, body-jump, part_equations, each_part)
