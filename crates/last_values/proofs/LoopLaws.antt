@@ -1,17 +1,21 @@
 -- Lists of loops that are gone through.
-use Rattle.std.proofs.Common.{◌≡◌, ℕ, ◌+◌, ◌<◌, ◌≤◌, pos, Bool, false, List, [], ◌∷◌, ◌++◌, map, take, length, get_or, ap, sym, ◌∙◌}
+use Rattle.std.proofs.Common.{◌≡◌, ℕ, ◌+◌, ◌<◌, ◌≤◌, pos, Bool, false, List, [], ◌∷◌, ◌++◌, map, take, length, get_or, refl, ap, sym, ◌∙◌}
 use Rattle.std.proofs.lemmas.Grind.{flat_map-append}
-use Rattle.std.proofs.lemmas.List.{append-nil, map-append}
+use Rattle.std.proofs.lemmas.List.{append-nil, map-append, take_all}
 use Rattle.std.proofs.lemmas.List.Elements.{All-cons, All-nil}
 use Rattle.std.proofs.lemmas.List.Folds.{list_all_at}
 use Rattle.std.specs.List.{flat_map, list_all}
 use Rattle.std.specs.Prelude.{All, ◌<ℤ◌}
-use Rattle.fv_tree.specs.Plain.{Statement}
-use Rattle.fv_tree.specs.View.{statement_of}
+use Rattle.fv_tree.specs.Plain.{Statement, block}
+use Rattle.fv_tree.specs.View.{statement_of, block_of}
+use Rattle.fv_tree.specs.declared.lists.Seq.{Seq}
+use Rattle.fv_tree.specs.declared.stmts.Block.{roll-Block}
+use Rattle.fv_tree.proofs.Equations.{block_of-made}
+use Rattle.nest_tree.specs.Plain.{Part}
 use Rattle.fv_tree.specs.declared.stmts.Stmt.{Stmt}
 use Rattle.statement_loops.proofs.StandingLaws.{one_more}
 use Rattle.last_values.specs.declared.behind.NestedLoop.{NestedLoop}
-use Rattle.last_values.specs.Behind.{IsNested}
+use Rattle.last_values.specs.Behind.{IsNested, left_behind, values_behind}
 
 -- one of them fails
 pub fails_at : {A : Type 0} (p : A → Bool) (list all : List A) (i : ℕ) (x : A) (r : Bool)
@@ -32,6 +36,18 @@ pub statements_more : {A : Type 0} (f : A → List Statement) (list : List A) (i
 statements_more f list i x old new left h e before here now =
     ap (map statement_of) now ∙ map-append statement_of old left ∙ ap (λ us. us ++ map statement_of left) before
     ∙ ap (λ us. flat_map f (take i list) ++ us) here ∙ sym (flat_more f list i x h e)
+
+-- the block of all statements that were added
+pub block_behind : {A : Type 0} (f : A → List Statement) (list all : List A) (i : ℕ) (ss : List Stmt) (ts : Seq Stmt)
+    → list ≡ all → length list ≤ i → map statement_of ss ≡ flat_map f (take i list) → ts ≡ ss
+    → block_of (roll-Block (record { stmts = ts })) ≡ block (flat_map f all)
+block_behind f list all i ss ts same h before now =
+    block_of-made ts ∙ ap (λ (us : List Stmt). block (map statement_of us)) now
+    ∙ ap block (before ∙ ap (flat_map f) (take_all i list h ∙ same))
+
+pub values_behind_is : (symbols : List (List ℕ)) (line : ℕ) (ls : List NestedLoop) (p : Part) → values_behind symbols line ls p ≡ block (flat_map (left_behind symbols line ls p) ls)
+unfolding values_behind
+values_behind_is symbols line ls p = refl
 
 -- a list of two loops
 pub two_nested : (a b : NestedLoop) → length a.round ≤ 6 → pos 0 <ℤ a.turns.trip.by → length b.round ≤ 6 → pos 0 <ℤ b.turns.trip.by → All IsNested (a ∷ b ∷ [])

@@ -114,7 +114,6 @@ fn left_behind(
 
 /// The last values of the variables of these loops of a nest, as far as they stand behind all loops, in the order of
 /// the loops.
-#[tactic(auto, using(fv_tree::proofs::Equations::statement_equations), unfolding(crate::specs::Behind::values_behind))]
 pub fn values_behind(
     alloc: Global,
     symbols: &Seq<Name>,

@@ -1,8 +1,10 @@
 -- Blocks one behind the other.
 use Rattle.std.proofs.Common.{◌≡◌, List, [], ◌∷◌, ◌++◌, map, refl, ap, ap₂, ◌∙◌, sym}
+use Rattle.std.proofs.lemmas.List.{map-append}
 use Rattle.fv_tree.specs.Plain as P
 use Rattle.fv_tree.specs.View.{block_of, statement_of}
-use Rattle.fv_tree.specs.declared.stmts.Block.{Block, out-Block}
+use Rattle.fv_tree.specs.declared.stmts.Block.{Block, out-Block, roll-Block}
+use Rattle.fv_tree.specs.declared.stmts.Stmt.{Stmt}
 use Rattle.fv_tree.proofs.Equations.{block_of-is, block_of-made}
 use Rattle.nest_tree.specs.Blocks.{block_then}
 
@@ -13,4 +15,10 @@ one_behind (c ∷ cs) ds = ap (P.statement c) (one_behind cs ds)
 pub then-is : (a b : Block) → block_then (block_of a) (block_of b) ≡ P.block (map statement_of (out-Block a).stmts ++ map statement_of (out-Block b).stmts)
 then-is a b = ap₂ block_then (block_of-is a) (block_of-is b) ∙ one_behind (map statement_of (out-Block a).stmts) (map statement_of (out-Block b).stmts)
 
-pub ruleset block_laws = (then-is, block_of-is, block_of-made)
+pub joined-is : (a b : Block) (ss : List Stmt) → ss ≡ (out-Block a).stmts ++ (out-Block b).stmts
+    → block_of (roll-Block (record { stmts = ss })) ≡ block_then (block_of a) (block_of b)
+joined-is a b ss e =
+    block_of-made ss ∙ ap (λ us. P.block (map statement_of us)) e
+    ∙ ap P.block (map-append statement_of (out-Block a).stmts (out-Block b).stmts) ∙ sym (then-is a b)
+
+pub ruleset block_laws = (joined-is, then-is, block_of-is, block_of-made)

@@ -1,5 +1,5 @@
 -- What stands for the parts of a nest, part by part.
-use Rattle.std.proofs.Common.{◌≡◌, ℕ, List, [], ◌∷◌, ◌++◌, map, refl, ap, ap₂, ◌∙◌, append_assoc}
+use Rattle.std.proofs.Common.{◌≡◌, ℕ, Option, None, Result, Ok, Err, OnOk, List, [], ◌∷◌, ◌++◌, map, refl, sym, ap, ap₂, ◌∙◌, append_assoc}
 use Rattle.std.specs.List.{flat_map}
 use Rattle.std.proofs.lemmas.List.{append-nil, map-append}
 use Rattle.fv_tree.specs.declared.lists.Seq.{Seq}
@@ -48,5 +48,43 @@ module _ (n : P.Nest) (ls : List NestedLoop) where
 
     pub body-jump : (k : ℕ) → normal_part n ls round (part_of (variants.Jump k)) ≡ P.Jump k ∷ []
     body-jump k = ap (normal_part n ls round) (part_of-jump k)
+
+-- ---- one part more
+
+pub kept : {A E : Type 0} {P Q : Type 0} (r : Result A E) → (P → Q) → OnOk r P → OnOk r Q
+kept (Ok x) f h = f h
+kept (Err e) f h = h
+
+push-part : (made new : List Part) (x : Part) (q : P.Part) → part_of x ≡ q → new ≡ made ++ x ∷ [] → map part_of new ≡ map part_of made ++ q ∷ []
+push-part made new x q e now =
+    ap (map part_of) now ∙ map-append part_of made (x ∷ []) ∙ ap (λ (p : P.Part). map part_of made ++ p ∷ []) e
+
+module _ (n : P.Nest) (ls : List NestedLoop) (round : List NormalLoop) (made new : List Part) where
+  pub run-is : (s k : GuardedStmt) → guarded_of k ≡ normal_statement n.symbols round (guarded_of s) → new ≡ made ++ variants.Run k ∷ []
+      → map part_of new ≡ map part_of made ++ normal_part n ls round (part_of (variants.Run s))
+  run-is s k e now =
+      push-part made new (variants.Run k) (P.Run (normal_statement n.symbols round (guarded_of s))) (part_of-run k ∙ ap P.Run e) now
+      ∙ ap (λ (q : List P.Part). map part_of made ++ q) (sym (body-run n ls round s))
+
+  pub choice-is : (bs cs : Seq NestArm) (ps qs : Seq Part) → map branch_of cs ≡ map (normal_branch n ls round) (map branch_of bs)
+      → map part_of qs ≡ flat_map (normal_part n ls round) (map part_of ps) → new ≡ made ++ variants.Choice cs qs ∷ []
+      → map part_of new ≡ map part_of made ++ normal_part n ls round (part_of (variants.Choice bs ps))
+  choice-is bs cs ps qs e f now =
+      push-part made new (variants.Choice cs qs) (P.Choice (branches (map (normal_branch n ls round) (map branch_of bs))) (P.parts (flat_map (normal_part n ls round) (map part_of ps))))
+      (part_of-choice cs qs ∙ ap₂ (λ (x : List Branch) (y : List P.Part). P.Choice (branches x) (P.parts y)) e f) now
+      ∙ ap (λ (q : List P.Part). map part_of made ++ q) (sym (body-choice n ls round bs ps))
+
+  pub label-is : (k : ℕ) → new ≡ made ++ variants.Label k ∷ [] → map part_of new ≡ map part_of made ++ normal_part n ls round (part_of (variants.Label k))
+  label-is k now = push-part made new (variants.Label k) (P.Label k) (part_of-label k) now ∙ ap (λ (q : List P.Part). map part_of made ++ q) (sym (body-label n ls round k))
+
+  pub jump-is : (k : ℕ) → new ≡ made ++ variants.Jump k ∷ [] → map part_of new ≡ map part_of made ++ normal_part n ls round (part_of (variants.Jump k))
+  jump-is k now = push-part made new (variants.Jump k) (P.Jump k) (part_of-jump k) now ∙ ap (λ (q : List P.Part). map part_of made ++ q) (sym (body-jump n ls round k))
+
+  -- a loop without a form from 1 by 1 stays
+  pub loop-stays : (o : Option NormalLoop) (l k : Loop) (ps : Seq Part) → o ≡ None → loop_of k ≡ loop_of l → new ≡ made ++ variants.Turns k ps ∷ []
+      → map part_of new ≡ map part_of made ++ normal_turns n ls round (loop_of l) o (map part_of ps)
+  loop-stays o l k ps e same now =
+      push-part made new (variants.Turns k ps) (P.Turns (loop_of l) (P.parts (map part_of ps))) (part_of-turns k ps ∙ ap (λ (q : P.Loop). P.Turns q (P.parts (map part_of ps))) same) now
+      ∙ ap (λ (q : Option NormalLoop). map part_of made ++ normal_turns n ls round (loop_of l) q (map part_of ps)) (sym e)
 
 pub ruleset body_laws = (body-run, body-turns, body-choice, body-label, body-jump, part_equations, each_part)

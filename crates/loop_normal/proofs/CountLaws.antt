@@ -121,14 +121,13 @@ module _ (n : Nest) (ls : List NestedLoop) where
 
 -- ---- the nest
 
-body_or : Part → Option Nest → Part
-body_or p None = p
-body_or p (Some m) = m.body
-
 module _ (n : Nest) (more : Block) (m : Nest) where
-  body-is : (p : Part) → Some (with_body n more p) ≡ Some m → p ≡ m.body
+  its-body : (p : Part) → (with_body n more p).body ≡ p
   unfolding with_body
-  body-is p e = ap (body_or p) e
+  its-body p = refl
+
+  body-is : (p : Part) → Some (with_body n more p) ≡ Some m → p ≡ m.body
+  body-is p e = let same : with_body n more p ≡ m = cc in sym (its-body p) ∙ ap (λ (k : Nest). k.body) same
 
   by-one : (ps : List Part) → option_map (with_body n more) (only_one ps) ≡ Some m → AreCounting ps → All CountsByOne (loops_of m.body)
   by-one [] e h = absurd (true≢false (sym (ap is_some e)))

@@ -18,7 +18,7 @@ one-many (p ∷ q ∷ ps) h = refl
 pub one-none : (ps : List Part) → ps ≡ [] → only_one (map part_of ps) ≡ None
 one-none ps e = ap (λ qs. only_one (map part_of qs)) e
 
-last-one : (xs ps : List Part) (x : Part) → ps ≡ xs ++ x ∷ [] → length ps ≤ 1 → only_one (map part_of ps) ≡ Some (part_of x)
+pub last-one : (xs ps : List Part) (x : Part) → ps ≡ xs ++ x ∷ [] → length ps ≤ 1 → only_one (map part_of ps) ≡ Some (part_of x)
 last-one [] ps x e h = ap (λ qs. only_one (map part_of qs)) e
 last-one (y ∷ xs) ps x e h =
     let count : length ps ≡ length (y ∷ xs) + 1 = ap length e ∙ length-append (y ∷ xs) (x ∷ []) in

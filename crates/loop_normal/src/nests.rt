@@ -87,11 +87,7 @@ fn only_one(mut parts: Seq<Part>) -> Option<Part>
 }
 
 #[tactic(auto, unfolding(crate::specs::Normalised::with_loops))]
-fn with_loops(
-    alloc: Global,
-    nest: &Nest,
-    loops: &Seq<NestedLoop>,
-) -> Result<Option<Nest>, Memory>
+fn with_loops(alloc: Global, nest: &Nest, loops: &Seq<NestedLoop>) -> Result<Option<Nest>, Memory>
     requires symbols { length nest.now.symbols ≤ 1000 }
     requires nested { All IsNested loops.now }
     ensures { IfOk result (λ new. option_map nest_of new ≡ with_loops (nest_of nest.now) loops.now) }

@@ -113,12 +113,7 @@ fn element(alloc: Global, subscript: Expr, right: Expr) -> Result<Part, Fail> {
 
 // -3 * FV_LOOP_1 + 13
 fn value(alloc: Global) -> Result<Expr, Fail> {
-    let times = two(
-        alloc,
-        Op::Mul,
-        Expr::Int(3),
-        variable(alloc, b"FV_LOOP_1")?,
-    )?;
+    let times = two(alloc, Op::Mul, Expr::Int(3), variable(alloc, b"FV_LOOP_1")?)?;
     two(alloc, Op::Add, negated(alloc, times)?, Expr::Int(13))
 }
 
@@ -133,14 +128,7 @@ fn is_same(alloc: Global, made: Option<Nest>, wanted: Nest) -> Result<bool, Fail
 fn counts_down(rt: HostRuntime) -> Result<(), Fail> {
     let alloc = rt.alloc();
     let stmt = element(alloc, variable(alloc, b"I")?, variable(alloc, b"I")?)?;
-    let body = source(
-        1,
-        b"I",
-        Expr::Int(10),
-        Expr::Int(1),
-        -3,
-        list(alloc, stmt)?,
-    )?;
+    let body = source(1, b"I", Expr::Int(10), Expr::Int(1), -3, list(alloc, stmt)?)?;
     let given = nest(alloc, body, Seq::new(alloc));
     let four = Affine {
         loops: [0; 7],

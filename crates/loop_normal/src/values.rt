@@ -35,11 +35,7 @@ fn value_rule(
 }
 
 // The rule that brings what has counters of these loops into canonical text.
-fn text_rule(
-    alloc: Global,
-    symbols: &Seq<Name>,
-    round: &[NormalLoop],
-) -> Result<Canonical, Memory>
+fn text_rule(alloc: Global, symbols: &Seq<Name>, round: &[NormalLoop]) -> Result<Canonical, Memory>
     requires { length symbols.now ≤ 1000 }
     ensures loops { IfOk result (λ rule. rule.loops ≡ counters_of round.now) }
     ensures symbols { IfOk result (λ rule. rule.symbols ≡ symbols.now) }
