@@ -1,11 +1,9 @@
 -- Lists of loops that are gone through.
-use Rattle.std.proofs.Common.{◌≡◌, ℕ, ◌+◌, ◌<◌, ◌≤◌, pos, Bool, false, List, [], ◌∷◌, ◌++◌, map, take, length, get_or, refl, ap, sym, ◌∙◌}
+use Rattle.std.proofs.Common.{◌≡◌, ℕ, ◌+◌, ◌<◌, ◌≤◌, Bool, false, List, [], ◌∷◌, ◌++◌, map, take, length, get_or, refl, ap, sym, ◌∙◌}
 use Rattle.std.proofs.lemmas.Grind.{flat_map-append}
 use Rattle.std.proofs.lemmas.List.{append-nil, map-append, take_all}
-use Rattle.std.proofs.lemmas.List.Elements.{All-cons, All-nil}
 use Rattle.std.proofs.lemmas.List.Folds.{list_all_at}
 use Rattle.std.specs.List.{flat_map, list_all}
-use Rattle.std.specs.Prelude.{All, ◌<ℤ◌}
 use Rattle.fv_tree.specs.Plain.{Statement, block}
 use Rattle.fv_tree.specs.View.{statement_of, block_of}
 use Rattle.fv_tree.specs.declared.lists.Seq.{Seq}
@@ -15,7 +13,7 @@ use Rattle.nest_tree.specs.Plain.{Part}
 use Rattle.fv_tree.specs.declared.stmts.Stmt.{Stmt}
 use Rattle.statement_loops.proofs.StandingLaws.{one_more}
 use Rattle.last_values.specs.declared.behind.NestedLoop.{NestedLoop}
-use Rattle.last_values.specs.Behind.{IsNested, left_behind, values_behind}
+use Rattle.last_values.specs.Behind.{left_behind, values_behind}
 
 -- one of them fails
 pub fails_at : {A : Type 0} (p : A → Bool) (list all : List A) (i : ℕ) (x : A) (r : Bool)
@@ -48,8 +46,3 @@ block_behind f list all i ss ts same h before now =
 pub values_behind_is : (symbols : List (List ℕ)) (line : ℕ) (ls : List NestedLoop) (p : Part) → values_behind symbols line ls p ≡ block (flat_map (left_behind symbols line ls p) ls)
 unfolding values_behind
 values_behind_is symbols line ls p = refl
-
--- a list of two loops
-pub two_nested : (a b : NestedLoop) → length a.round ≤ 6 → pos 0 <ℤ a.turns.trip.by → length b.round ≤ 6 → pos 0 <ℤ b.turns.trip.by → All IsNested (a ∷ b ∷ [])
-two_nested a b f g h k =
-    All-cons IsNested a (b ∷ []) (record { deep = f; divisor = g }) (All-cons IsNested b [] (record { deep = h; divisor = k }) (All-nil IsNested))

@@ -66,7 +66,8 @@ abbrev pub ending_behind : List (List ℕ) → ℕ → List NormalLoop → Norma
 ending_behind symbols line round r f =
     where_all_hold line (tests_of symbols round) (ending line r.variable f.trip (last_texts symbols round f))
 
-abbrev pub with_last_forms : List (List ℕ) → ℕ → List NormalLoop → NormalLoop → Option LastForms → Option (List Statement)
+abbrev pub with_last_forms :
+    List (List ℕ) → ℕ → List NormalLoop → NormalLoop → Option LastForms → Option (List Statement)
 with_last_forms symbols line round r None = None
 with_last_forms symbols line round r (Some f) = Some (ending_behind symbols line round r f)
 

@@ -6,8 +6,6 @@ mod behind;
 mod endings;
 mod in_place;
 mod occurrences;
-#[cfg(test)]
-mod tests;
 
 pub use behind::{NestedLoop, stands_behind, values_behind};
 pub use endings::after_block;
