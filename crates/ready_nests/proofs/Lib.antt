@@ -1,0 +1,12 @@
+pub mod Lists
+pub mod FoundNumbers
+pub mod Made
+pub mod NormalNumbers
+pub mod Sums
+pub mod LoopForms
+pub mod Walk
+pub mod NormalTrips
+pub mod Ranks
+pub mod SourceRanks
+pub mod NormalRanks
+pub mod NormalReady
