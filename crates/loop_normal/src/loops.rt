@@ -1,9 +1,11 @@
 //! The loops of a nest, each with its form from 1 by 1.
-ghost use Rattle.std.specs.Prelude.{◌≡◌, ◌≤◌, ◌<◌, ◌<ℤ◌, ◌++◌, ◌∷◌, [], All, length, map, pos, IfOk, IfSome, OnOk, OnSome};
+ghost use Rattle.std.specs.Prelude.{◌≡◌, ◌≤◌, ◌<◌, ◌<ℤ◌, ◌++◌, ◌∷◌, [], All, length, map, pos, IfOk, IfSome, OnOk};
+ghost use Rattle.std.specs.Prelude.{OnSome};
 ghost use Rattle.std.specs.List.{flat_map, list_all};
 ghost use Rattle.nest_tree.specs.View.{branch_of, part_of};
 ghost use Rattle.last_values.specs.Behind.{IsNested};
-ghost use Rattle.loop_normal.specs.Loops.{is_normal, is_normal_branch, nested, nested_in_branch, nested_loops, with_loop};
+ghost use Rattle.loop_normal.specs.Loops.{is_normal, is_normal_branch, nested, nested_in_branch, nested_loops};
+ghost use Rattle.loop_normal.specs.Loops.{with_loop};
 
 use fv_tree::{Memory, Name, Seq};
 use last_values::NestedLoop;
