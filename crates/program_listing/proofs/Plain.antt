@@ -13,7 +13,6 @@ use Rattle.nest_tree.specs.Bodies.{Standing, nest_statements, statements_in, sta
 use Rattle.nest_tree.specs.Plain.{Loop, Nest, Part, Run, Turns, Choice, Label, Jump, Parts, no_parts, part}
 use Rattle.sections.specs.Statements.{IsPlainStatement, no_statement, statement_at}
 use Rattle.sections.specs.Holds.{holds_of}
-use Rattle.sections.proofs.HoldLaws.{counted_more}
 use Rattle.program_listing.specs.Listing.{all_holds}
 use Rattle.program_listing.specs.Testable.{IsTestable, are_straight, is_straight}
 
@@ -53,6 +52,15 @@ plain n s h k =
       unguarded = All-from_recursion IsUnguarded (nest_statements n) (unguarded [] n.body h.straight) ((s + 1) - 1) no_statement there;
       symbols = h.ready.symbols;
     }
+
+counted_suc : (k n : ℕ) → counted k (suc n) ≡ counted k n ++ (k + n) ∷ []
+counted_suc k zero = ap (λ m. m ∷ []) (sym (add-zero k))
+counted_suc k (suc n) =
+    ap (λ ms. k ∷ ms) (counted_suc (k + 1) n)
+    ∙ (let e : (k + 1) + n ≡ k + suc n = omega arith in ap (λ m. k ∷ counted (k + 1) n ++ m ∷ []) e)
+
+counted_more : (k n : ℕ) → counted k (n + 1) ≡ counted k n ++ (k + n) ∷ []
+counted_more k n = ap (counted k) (add-one n) ∙ counted_suc k n
 
 -- the holds of one more statement
 pub holds_more : (n : Nest) (s : ℕ) (old new more : List Hold) → old ≡ flat_map (holds_of n) (counted 1 s) → more ≡ holds_of n (s + 1) → new ≡ old ++ more
