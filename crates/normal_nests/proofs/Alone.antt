@@ -1,11 +1,9 @@
 -- A loop from 1 by 1 under no other has its forms behind all loops.
 use mathlib.Core.Path.{ap₂}
-use Rattle.std.proofs.Common.{◌≡◌, refl, sym, ap, ◌∙◌, subst, ℕ, zero, suc, ◌+◌, ◌≤◌, ◌<◌, ℤ, pos, negsuc, neg_ℤ, ◌+ℤ◌, ◌*ℤ◌, Bool, true, false, cond, not, ◌&&◌, List, [], ◌∷◌, ◌++◌, length, replicate, Option, Some, None, arith}
+use Rattle.std.proofs.Common.{◌≡◌, refl, ap, ◌∙◌, subst, ℕ, ◌+◌, ◌≤◌, ◌<◌, ℤ, pos, negsuc, neg_ℤ, ◌+ℤ◌, ◌*ℤ◌, Bool, true, false, cond, not, ◌&&◌, List, [], ◌∷◌, ◌++◌, length, replicate, Option, Some, None, arith}
 use Rattle.std.specs.Prelude.{nat_abs, int_div, nat_lt, ◌==◌}
-use Rattle.std.specs.List.{list_all}
 use Rattle.std.specs.Ordering.{int_eq}
 use Rattle.std.proofs.lemmas.Bool.{eqb-true}
-use Rattle.std.proofs.lemmas.Int.{ints}
 use Rattle.fv_tree.specs.Plain.{Expression}
 use Rattle.subscripts.specs.declared.affine.Affine.{Affine}
 use Rattle.linear_forms.specs.Linear.{Form, is_small, form_of}
@@ -17,12 +15,12 @@ use Rattle.normal_forms.specs.declared.combinations.Multiple.{Multiple}
 use Rattle.normal_forms.specs.declared.loops.NormalLoop.{NormalLoop}
 use Rattle.normal_forms.specs.declared.places.Place.TheVariants as place
 use Rattle.normal_forms.specs.Steps.{◌>>=◌}
-use Rattle.normal_forms.specs.Combinations.{coefficient_in, at, combined_at, combination, affine_of, number_form, times, has_small_factor}
+use Rattle.normal_forms.specs.Combinations.{coefficient_in, at, combination, affine_of, number_form, times}
 use Rattle.normal_forms.specs.NormalLoops.{variables_of, with_counters, bound_form, loop_form, symbol_form, is_zero, is_constant, trip_of, trip_form, is_suitable, plus_number, plus_multiple, sign_of, trip_by, with_forms, forms_by_trip, forms_by_first, forms_of, normal_loop}
 use Rattle.normal_forms.proofs.Numbers.{none_among_zeros}
-use Rattle.ready_nests.proofs.LoopForms.{HaveZeros, Step, step, bound_zeros, number_at, after_first, after_below, after_value, after_top, after_trip, after_end, from_first}
+use Rattle.ready_nests.proofs.LoopForms.{step, bound_zeros, number_at, after_first, after_below, after_value, after_top, after_trip, after_end, from_first}
 use Rattle.ready_nests.proofs.Sums.{Zero, sum_has_zeros, sum_small, small_quotient}
-use Rattle.normal_nests.proofs.Combined.{HasSum, sum_past}
+use Rattle.normal_nests.proofs.Combined.{sum_past}
 use Rattle.normal_nests.proofs.LastForms.{IsPlain, HasForms, sum_plain, number_plain, sum_with_more, trip_again, forms_alone}
 
 -- a bound under no loop is a sum

@@ -1,25 +1,24 @@
 -- The form of a bound, over the loops that stand in it and over the counters of all loops.
 use mathlib.Core.Path.{ap₂}
-use Rattle.std.proofs.Common.{◌≡◌, refl, sym, ap, ◌∙◌, subst, ℕ, zero, suc, ◌+◌, ◌-◌, ◌≤◌, ◌<◌, ℤ, pos, ◌+ℤ◌, ◌*ℤ◌, Bool, true, false, cond, ◌&&◌, ◌||◌, List, [], ◌∷◌, ◌++◌, map, filter, take, drop, length, get_or, replicate, Option, Some, None, arith}
+use Rattle.std.proofs.Common.{◌≡◌, refl, sym, ap, ◌∙◌, subst, ℕ, zero, suc, ◌+◌, ◌-◌, ◌≤◌, ◌<◌, ℤ, pos, ◌+ℤ◌, ◌*ℤ◌, Bool, true, false, cond, ◌&&◌, ◌||◌, List, [], ◌∷◌, ◌++◌, map, filter, take, drop, length, Option, Some, None, arith}
 use Rattle.std.specs.Prelude.{nat_le}
 use Rattle.std.specs.List.{list_all, list_any}
 use Rattle.std.specs.Option.{option_map}
 use Rattle.std.specs.Str.{bytes_eq}
 use Rattle.std.proofs.lemmas.Int.{ints}
-use Rattle.std.proofs.lemmas.List.{append-nil, get_or-take, length-map}
+use Rattle.std.proofs.lemmas.List.{get_or-take, length-map}
 use Rattle.std.proofs.lemmas.Slice.Eq.{bytes_eq-Decides}
 use Rattle.std.proofs.Math.IntN.{zero-*ℤ, *ℤ-zero}
 use Rattle.fv_tree.specs.Plain.{Expression}
 use Rattle.fv_meaning.specs.Reads.{names_in}
 use Rattle.subscripts.specs.declared.affine.Affine.{Affine}
-use Rattle.linear_forms.specs.Linear.{Form, sum, multiple, is_small, all_small, not_zero, is_limited, linear, form_of}
-use Rattle.linear_forms.specs.Places.{padded, terms_from}
+use Rattle.linear_forms.specs.Linear.{Form, sum, multiple, is_small, all_small, not_zero, linear, form_of}
+use Rattle.linear_forms.specs.Places.{terms_from}
 use Rattle.linear_forms.proofs.Sizes.{both}
 use Rattle.linear_forms.proofs.TextsKeep.{text_limited}
 use Rattle.components.specs.Lists.{Each}
 use Rattle.bound_limits.specs.Composed as outer
 use Rattle.bound_limits.specs.Composed.{Outer, filled, with_multiples, composed, is_among, those_in}
-use Rattle.normal_forms.specs.declared.combinations.Multiple.{Multiple}
 use Rattle.normal_forms.specs.declared.loops.NormalLoop.{NormalLoop}
 use Rattle.normal_forms.specs.declared.places.Place.{Place}
 use Rattle.normal_forms.specs.declared.places.Place.TheVariants as place
@@ -28,7 +27,7 @@ use Rattle.normal_forms.specs.NormalLoops.{variables_of, values_from, with_count
 use Rattle.normal_forms.proofs.Numbers.{looked_up}
 use Rattle.ready_nests.proofs.LoopForms.{without_at}
 use Rattle.normal_nests.proofs.Combined.{IsSame, AddsUpTo, joined_at, sum_at}
-use Rattle.normal_nests.proofs.Spread.{At, after_one, small_at, Spread, Spreads, passing, spread_rest, Whole, Passes, whole_form}
+use Rattle.normal_nests.proofs.Spread.{At, after_one, small_at, Spread, Spreads, passing, spread_rest, whole_form}
 
 -- ---- sums over loops
 

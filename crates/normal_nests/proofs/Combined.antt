@@ -1,18 +1,17 @@
 -- Sums of multiples of forms, beside the same sums of plain forms.
 use mathlib.Core.Path.{ap₂}
-use Rattle.std.proofs.Common.{◌≡◌, refl, sym, ap, ◌∙◌, subst, inl, inr, ◌⊎◌, ℕ, zero, suc, ◌+◌, ◌-◌, ◌≤◌, ◌<◌, ℤ, pos, negsuc, ◌+ℤ◌, ◌*ℤ◌, Bool, true, false, cond, ◌&&◌, List, [], ◌∷◌, ◌++◌, map, take, drop, length, get_or, replicate, Option, Some, None, arith}
-use Rattle.std.specs.Prelude.{nat_le, ◌==◌}
+use Rattle.std.proofs.Common.{◌≡◌, refl, sym, ap, ◌∙◌, inl, inr, ◌⊎◌, ℕ, zero, suc, ◌+◌, ◌-◌, ◌≤◌, ◌<◌, ℤ, pos, ◌+ℤ◌, ◌*ℤ◌, Bool, true, false, cond, ◌&&◌, List, [], ◌∷◌, ◌++◌, map, take, drop, length, Option, Some, None, arith}
+use Rattle.std.specs.Prelude.{nat_le}
 use Rattle.std.specs.List.{list_all}
 use Rattle.std.specs.Ordering.{int_eq}
 use Rattle.std.proofs.lemmas.Bool.{cases_lt, leb-true}
-use Rattle.std.proofs.lemmas.Bool.Decides.{Decides-int_eq}
 use Rattle.std.proofs.lemmas.Int.{ints}
 use Rattle.subscripts.specs.declared.affine.Affine.{Affine}
-use Rattle.linear_forms.specs.Linear.{Form, added, sum, multiple, is_small, all_small, not_zero}
+use Rattle.linear_forms.specs.Linear.{Form, sum, multiple, is_small, all_small, not_zero}
 use Rattle.linear_forms.specs.Merging.{small_or_none, all_pushed}
-use Rattle.linear_forms.specs.Places.{padded, terms_from}
+use Rattle.linear_forms.specs.Places.{terms_from}
 use Rattle.linear_forms.specs.declared.terms.Terms.{Terms}
-use Rattle.linear_forms.proofs.Merges.{Holds, Outcome, pushes}
+use Rattle.linear_forms.proofs.Merges.{Outcome, pushes}
 use Rattle.linear_forms.proofs.Sizes.{both}
 use Rattle.bound_limits.specs.Limits.{keeps_limits}
 use Rattle.bound_limits.proofs.Lists.{get_or-added, get_or-scaled}
@@ -22,8 +21,7 @@ use Rattle.normal_forms.specs.declared.places.Place.TheVariants as place
 use Rattle.normal_forms.specs.Combinations.{coefficient_in, at, combined_at, with_number, all_within, seven, no_terms, with_symbols, form_with, has_small_factor, combination, times}
 use Rattle.normal_forms.specs.Numbers.{values_from}
 use Rattle.normal_forms.proofs.Numbers.{places_of, looked_up}
-use Rattle.ready_nests.proofs.LoopForms.{seven-at}
-use Rattle.ready_nests.proofs.Sums.{IsSum, sum_of, symbols-pushed}
+use Rattle.ready_nests.proofs.Sums.{sum_of, symbols-pushed}
 use Rattle.normal_nests.proofs.Spread.{At, small_at, small_from, alike_not_zero}
 
 -- ---- where there is a sum

@@ -1,18 +1,16 @@
 -- The forms behind all loops of a loop under no other.
 use mathlib.Core.Path.{ap₂}
-use Rattle.std.proofs.Common.{◌≡◌, refl, sym, ap, ◌∙◌, subst, inl, inr, ◌⊎◌, ℕ, zero, suc, ◌+◌, ◌-◌, ◌≤◌, ◌<◌, ℤ, pos, negsuc, ◌+ℤ◌, ◌*ℤ◌, Bool, true, false, cond, ◌&&◌, not, List, [], ◌∷◌, ◌++◌, take, length, get_or, replicate, Option, Some, None, arith}
-use Rattle.std.specs.Prelude.{nat_abs, int_div, int_rem, unsigned_abs, ◌==◌, nat_lt}
+use Rattle.std.proofs.Common.{◌≡◌, refl, sym, ap, ◌∙◌, inl, inr, ◌⊎◌, ℕ, zero, suc, ◌+◌, ◌-◌, ◌≤◌, ◌<◌, ℤ, pos, negsuc, ◌+ℤ◌, ◌*ℤ◌, Bool, true, false, cond, List, [], ◌∷◌, take, length, Option, Some, arith}
+use Rattle.std.specs.Prelude.{int_div, int_rem, unsigned_abs}
 use Rattle.std.specs.List.{list_all}
 use Rattle.std.specs.Ordering.{int_eq}
 use Rattle.std.proofs.lemmas.Bool.{cases_lt}
-use Rattle.std.proofs.lemmas.Bool.Decides.{Decides-int_eq, Decides-ltb}
+use Rattle.std.proofs.lemmas.Bool.Decides.{Decides-int_eq}
 use Rattle.std.proofs.lemmas.Int.{ints, quot-rem, rem_below}
 use Rattle.std.proofs.lemmas.List.{get_or_past}
 use Rattle.subscripts.specs.declared.affine.Affine.{Affine}
 use Rattle.linear_forms.specs.Linear.{is_small, all_small, not_zero}
 use Rattle.linear_forms.specs.Places.{padded, terms_from}
-use Rattle.linear_forms.proofs.Sizes.{both}
-use Rattle.nest_tree.specs.Plain.{Loop}
 use Rattle.nest_tree.specs.declared.parts.Trip.{Trip}
 use Rattle.normal_forms.specs.declared.combinations.Multiple.{Multiple}
 use Rattle.normal_forms.specs.declared.last.LastForms.{LastForms}
@@ -25,9 +23,9 @@ use Rattle.normal_forms.specs.LastValues.{with_trips, last_forms}
 use Rattle.normal_forms.specs.Numbers.{values_from}
 use Rattle.normal_forms.proofs.Numbers.{looked_up, places_of}
 use Rattle.ready_nests.proofs.LoopForms.{seven-at, without_at, number_at}
-use Rattle.ready_nests.proofs.Sums.{Zero, IsSum, sum_of, small_quotient}
-use Rattle.normal_nests.proofs.Combined.{HasSum, KeepsLimits, has_sum, values_front, sum_past}
-use Rattle.normal_nests.proofs.Spread.{At, small_at, small_from, alike_not_zero}
+use Rattle.ready_nests.proofs.Sums.{Zero, sum_of}
+use Rattle.normal_nests.proofs.Combined.{HasSum, KeepsLimits, has_sum}
+use Rattle.normal_nests.proofs.Spread.{At, small_at, alike_not_zero}
 
 -- ---- forms without loops, by their symbols
 

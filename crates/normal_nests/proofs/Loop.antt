@@ -1,6 +1,6 @@
 -- A loop whose forms keep the limits has a loop from 1 by 1.
 use mathlib.Core.Path.{ap₂}
-use Rattle.std.proofs.Common.{◌≡◌, ◌≢◌, refl, sym, ap, ◌∙◌, subst, inl, inr, ◌⊎◌, ℕ, zero, suc, ◌+◌, ◌-◌, ◌≤◌, ◌<◌, ◌^◌, ℤ, pos, negsuc, neg_ℤ, ◌+ℤ◌, ◌*ℤ◌, Bool, true, false, cond, ◌&&◌, not, List, [], ◌∷◌, ◌++◌, map, take, drop, length, get_or, replicate, Option, Some, None, arith}
+use Rattle.std.proofs.Common.{◌≡◌, ◌≢◌, refl, sym, ap, ◌∙◌, subst, inl, inr, ◌⊎◌, ℕ, zero, suc, ◌+◌, ◌-◌, ◌≤◌, ◌<◌, ◌^◌, ℤ, pos, negsuc, neg_ℤ, ◌+ℤ◌, ◌*ℤ◌, Bool, true, false, cond, ◌&&◌, not, List, [], ◌∷◌, ◌++◌, map, take, drop, length, replicate, Option, Some, None, arith}
 use Rattle.std.specs.Prelude.{nat_abs, nat_le, nat_lt, int_div, int_lt, int_le, ◌==◌}
 use Rattle.std.specs.List.{list_all}
 use Rattle.std.specs.Ordering.{int_eq}
@@ -9,9 +9,8 @@ use Rattle.std.proofs.lemmas.Bool.Decides.{Decides-int_eq, Decides-ltb}
 use Rattle.std.proofs.Math.IntN.{*ℤ-zero}
 use Rattle.std.proofs.lemmas.Int.{ints}
 use Rattle.std.proofs.lemmas.List.{append-nil, get_or_past}
-use Rattle.fv_tree.specs.Plain.{Expression}
 use Rattle.subscripts.specs.declared.affine.Affine.{Affine}
-use Rattle.linear_forms.specs.Linear.{Form, added, sum, multiple, constant_form, is_small, all_small, not_zero, form_of}
+use Rattle.linear_forms.specs.Linear.{Form, sum, multiple, constant_form, is_small, all_small, not_zero}
 use Rattle.linear_forms.specs.Places.{padded, terms_from, unit_form}
 use Rattle.linear_forms.proofs.Sizes.{both}
 use Rattle.nest_tree.specs.Plain.{Loop}
@@ -19,7 +18,7 @@ use Rattle.nest_tree.specs.declared.parts.Trip.{Trip}
 use Rattle.bound_limits.specs.Composed as outer
 use Rattle.bound_limits.specs.Composed.{Outer}
 use Rattle.bound_limits.specs.Limits.{keeps_limits, plus_constant, difference, is_constant, dividend, folded, end_keeps_limits, normal, all_keep_limits}
-use Rattle.bound_limits.proofs.Lists.{get_or-added, get_or-scaled, added-nil}
+use Rattle.bound_limits.proofs.Lists.{get_or-scaled, added-nil}
 use Rattle.bound_limits.proofs.LimitLaws.{abs-neg}
 use Rattle.normal_forms.specs.declared.combinations.Multiple.{Multiple}
 use Rattle.normal_forms.specs.declared.loops.NormalLoop.{NormalLoop}
@@ -31,9 +30,9 @@ use Rattle.normal_forms.specs.NormalLoops.{variables_of, with_counters, bound_fo
 use Rattle.normal_forms.specs.Numbers.{values_from}
 use Rattle.normal_forms.proofs.Numbers.{none_among_zeros, places_of}
 use Rattle.ready_nests.proofs.LoopForms.{HaveZeros, bound_zeros, number_at, seven-at, after_first, after_below, after_value, after_top, after_trip, after_end}
-use Rattle.ready_nests.proofs.Sums.{Zero, IsSum, sum_of}
-use Rattle.normal_nests.proofs.Bounds.{AllStand, Stands, IsBound, bound_is, same_length}
-use Rattle.normal_nests.proofs.Combined.{IsSame, AddsUpTo, IsWithin, KeepsLimits, HasSum, IsMade, IsAlike, has_sum, sum_within, sum_made, sum_past, kept_within, front_alike, adds_alike, one_adds, two_add, joined_add, sum_at, keeps_more, values_front}
+use Rattle.ready_nests.proofs.Sums.{sum_of}
+use Rattle.normal_nests.proofs.Bounds.{AllStand, IsBound, bound_is}
+use Rattle.normal_nests.proofs.Combined.{IsSame, AddsUpTo, IsWithin, HasSum, IsMade, IsAlike, has_sum, sum_within, sum_made, sum_past, kept_within, front_alike, adds_alike, one_adds, two_add, joined_add, sum_at, keeps_more, values_front}
 use Rattle.normal_nests.proofs.Spread.{At, small_at, no_zero, alike_not_zero}
 
 -- ---- simple forms
@@ -336,9 +335,6 @@ symbol_is n = record {
 }
 
 module _ (n : ℕ) (step : ℤ) (ts : List Multiple) (first : Affine) (f : Form) (is : combination n ts ≡ Some first) (same : IsSame n first f) (small : is_small step ≡ true) where
-  abbrev ends : Affine → List Multiple
-  ends t = times (pos 1) first ∷ times step t ∷ []
-
   factors : (t : Affine) → list_all has_small_factor (times (pos 1) first ∷ times step t ∷ []) ≡ true
   factors t = ap (λ b. b && true) small
 

@@ -1,21 +1,19 @@
 -- Which names stand in an expression with a linear form.
-use Rattle.std.proofs.Common.{◌≡◌, refl, sym, ap, ◌∙◌, subst, ℕ, ℤ, Bool, true, false, cond, ◌||◌, List, [], ◌∷◌, ◌++◌, Option, Some, None, Ok, pos}
-use Rattle.std.specs.Prelude.{nat_le}
-use Rattle.std.specs.List.{list_any}
+use Rattle.std.proofs.Common.{◌≡◌, refl, sym, ap, ◌∙◌, ℕ, ℤ, Bool, true, false, cond, ◌||◌, List, [], ◌∷◌, ◌++◌, Option, Some, None, Ok, pos}
 use Rattle.std.specs.Str.{bytes_eq}
 use Rattle.std.proofs.lemmas.Slice.Eq.{bytes_eq-Decides}
 use Rattle.fv_tree.specs.Operators.{apply, call}
 use Rattle.fv_tree.specs.Steps.{◌>>=◌}
 use Rattle.fv_tree.specs.declared.ops.Op.{Op}
-use Rattle.fv_tree.specs.declared.ops.Op.TheVariants.{Mul, Neg, Add, Sub}
+use Rattle.fv_tree.specs.declared.ops.Op.TheVariants.{Neg}
 use Rattle.fv_tree.specs.declared.ops.Value.{Value}
 use Rattle.fv_tree.specs.declared.ops.Value.TheVariants.{Int}
-use Rattle.fv_tree.specs.Plain.{Expression, Number, Logic, Named, Unary, Binary, Apply, Constructor, Spread, Transpose, Reshape, Reduce, Expressions, no_expressions, expression, Subscripts, no_subscripts, subscript}
+use Rattle.fv_tree.specs.Plain.{Expression, Number, Logic, Named, Unary, Binary, Apply, Constructor, Spread, Transpose, Reshape, Reduce, Expressions, no_expressions, expression, no_subscripts, subscript}
 use Rattle.fv_meaning.specs.Dialect.{fortran77}
 use Rattle.fv_meaning.specs.Reads.{names_in, names_in_each}
 use Rattle.fv_meaning.specs.Store.{cell_at}
 use Rattle.fv_meaning.specs.Value.{value_of, values_of, subscript_values}
-use Rattle.linear_forms.specs.Linear.{Form, no_store, limited, unit, with_zero, with_no_constant, form_of_name, form_of_sign, form_of_two, form_of_pair, constant_of, constant_or, linear, form_of}
+use Rattle.linear_forms.specs.Linear.{Form, no_store, limited, unit, with_zero, with_no_constant, form_of_sign, form_of_pair, constant_of, constant_or, linear, form_of}
 use Rattle.linear_forms.proofs.LinearLaws.{limited-is, as_constant-is}
 use Rattle.linear_forms.proofs.Parts.{parted}
 use Rattle.statement_loops.specs.Standings.{is_among}
@@ -58,9 +56,6 @@ mutual
 -- ---- a linear expression has names of its places alone
 
 module _ (loops : ℕ) (names : List (List ℕ)) (v : List ℕ) (free : is_among names v ≡ false) where
-  abbrev Free : Expression → Type 0
-  Free e = is_among (names_in e) v ≡ false
-
   free_joined : (xs ys : List (List ℕ)) → is_among xs v ≡ false → is_among ys v ≡ false → is_among (xs ++ ys) v ≡ false
   free_joined [] ys h k = k
   free_joined (x ∷ xs) ys h k = by (bytes_eq x v) h (λ g. free_joined xs ys g k)

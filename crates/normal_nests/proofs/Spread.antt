@@ -1,10 +1,9 @@
 -- The form of an expression over some loops, of which its names are, and its form over all loops.
 use mathlib.Core.Path.{ap₂}
-use Rattle.std.proofs.Common.{◌≡◌, refl, sym, ap, ◌∙◌, subst, ℕ, zero, suc, ◌+◌, ◌≤◌, ℤ, pos, negsuc, ◌+ℤ◌, ◌*ℤ◌, Bool, true, false, cond, ◌&&◌, List, [], ◌∷◌, ◌++◌, map, filter, drop, length, get_or, Option, Some, None, arith}
+use Rattle.std.proofs.Common.{◌≡◌, refl, sym, ap, ◌∙◌, subst, ℕ, zero, suc, ◌≤◌, ℤ, pos, negsuc, ◌+ℤ◌, ◌*ℤ◌, Bool, true, false, cond, ◌&&◌, List, [], ◌∷◌, ◌++◌, map, filter, drop, length, get_or, Option, Some, None, arith}
 use Rattle.std.specs.Prelude.{nat_le}
 use Rattle.std.specs.Ordering.{int_eq}
 use Rattle.std.specs.Str.{bytes_eq}
-use Rattle.std.proofs.Math.IntN.{*ℤ-zero}
 use Rattle.std.proofs.lemmas.Bool.{le-leb}
 use Rattle.std.proofs.lemmas.Bool.Decides.{Decides-int_eq}
 use Rattle.fv_tree.specs.Plain.{Expression, Number, Logic, Named, Unary, Binary, Apply, Constructor, Spread as Spread', Transpose, Reshape, Reduce, Subscripts, no_subscripts, subscript}
@@ -87,9 +86,6 @@ spread_sum (false ∷ bs) few more all whole h k = (
   get_or-added all whole 0 ∙ ap₂ (λ x y. x +ℤ y) h.0 k.0,
   subst (Spread bs (added few more)) (sym (drop_added all whole)) (spread_sum bs few more (drop 1 all) (drop 1 whole) h.1 k.1),
 )
-
-nothing : (k : ℤ) → k *ℤ pos 0 ≡ pos 0
-nothing k = *ℤ-zero k
 
 spread_scaled : (bs : List Bool) (k : ℤ) (few all : List ℤ) → Spread bs few all → Spread bs (map (λ a. k *ℤ a) few) (map (λ a. k *ℤ a) all)
 spread_scaled [] k few all h = λ j. get_or-scaled k all j ∙ ap (λ x. k *ℤ x) (h j) ∙ sym (get_or-scaled k few j)
@@ -294,9 +290,6 @@ module _ (asked : Outer → Bool) (symbols : List (List ℕ)) where
   count_all (r ∷ rs) = ap suc (count_all rs)
 
   module _ (rs : List Outer) where
-    abbrev bs : List Bool
-    bs = marks rs
-
     whole_name : (x : List ℕ) (ps : Subscripts) (g : Form) → Passes x → form_of_name (few_names rs) x ps ≡ Some g → Whole (marks rs) (form_of_name (all_names rs) x ps) g
     whole_name x (subscript s ss) g p h = let no : ⊥ = cc in absurd no
     whole_name x no_subscripts g p h = by (unit (few_names rs) x) refl h
@@ -308,15 +301,6 @@ module _ (asked : Outer → Bool) (symbols : List (List ℕ)) where
             let f : Form = record { coefficients = cs; constant = pos 0 } in
             let f' : Form = record { coefficients = w.list; constant = pos 0 } in
             subst (λ o. Whole (marks rs) (with_no_constant o) g) (sym w.is) (made (marks rs) f g f' k (record { coefficients = w.spread; constant = refl }))
-
-    abbrev Few : Expression → Option Form
-    Few e = linear (passing (marks rs)) (few_names rs) e
-
-    abbrev All' : Expression → Option Form
-    All' e = linear (length (marks rs)) (all_names rs) e
-
-    abbrev AllPass : Expression → Type 0
-    AllPass e = Each (λ (x : List ℕ). Passes x) (names_in e)
 
     left_pass : (xs ys : List (List ℕ)) → Each (λ (x : List ℕ). Passes x) (xs ++ ys) → Each (λ (x : List ℕ). Passes x) xs
     left_pass [] ys h = tt

@@ -1,18 +1,15 @@
 -- Each nest that was found has a nest with loops from 1 by 1.
 use mathlib.Core.Path.{ap₂}
-use Rattle.std.proofs.Common.{◌≡◌, refl, sym, ap, ◌∙◌, subst, inl, inr, ◌⊎◌, ℕ, zero, suc, Bool, true, false, cond, not, ◌&&◌, ◌||◌, List, [], ◌∷◌, ◌++◌, map, filter, length, Option, Some, None, Contains}
+use Rattle.std.proofs.Common.{◌≡◌, refl, sym, ap, ◌∙◌, subst, ℕ, Bool, true, false, cond, not, ◌&&◌, ◌||◌, List, [], ◌∷◌, ◌++◌, map, filter, length, Option, Some, None, Contains}
 use Rattle.std.specs.Prelude.{IsSome, is_some}
 use Rattle.std.specs.List.{list_all, list_any}
 use Rattle.std.specs.Option.{option_map}
 use Rattle.std.specs.Str.{bytes_eq}
 use Rattle.std.proofs.lemmas.Slice.Eq.{bytes_eq-Decides}
-use Rattle.fv_tree.specs.Plain.{Program, Expression, Statement, Assignment, Where, If, Do, Label as Label', GoTo, Stop, Read, Print, Allocate, Deallocate, Arms, no_arms, arm, Block, no_statements, statement, Declaration}
+use Rattle.fv_tree.specs.Plain.{Program, Statement, Assignment, Where, If, Do, Label as Label', GoTo, Stop, Read, Print, Allocate, Deallocate, Arms, no_arms, arm, Block, no_statements, statement, Declaration}
 use Rattle.fv_meaning.specs.Blocks.{Surroundings, outermost, within_loop, before_labels, labels_of}
-use Rattle.fv_meaning.specs.Dialect.{Dialect}
-use Rattle.fv_meaning.specs.Profile77.{IsProgram77, IsStatement, AreArms, IsBlock}
-use Rattle.fv_meaning.specs.Reads.{names_in}
+use Rattle.fv_meaning.specs.Profile77.{IsStatement, AreArms, IsBlock}
 use Rattle.fv_rewrite.specs.Names.{names_written_in}
-use Rattle.linear_forms.specs.Linear.{Form, form_of}
 use Rattle.linear_forms.proofs.Sizes.{both}
 use Rattle.profile_laws.proofs.Lists.{here, there}
 use Rattle.components.specs.Lists.{Each}
@@ -27,14 +24,13 @@ use Rattle.find_nests.specs.declared.reasons.Reason.{Reason}
 use Rattle.find_nests.specs.declared.reasons.Reason.TheVariants.{Bound, Step as Step', Deep}
 use Rattle.find_nests.specs.Reasons.{has_flawed, has_reason}
 use Rattle.find_nests.specs.Loops.{SourceLoop, Numbered, Placed, as_statement, loops_in, loops_in_arms, loops_in_block, reason_of}
-use Rattle.find_nests.specs.Found.{InNest, found_in, body_of, nest_of_loop}
+use Rattle.find_nests.specs.Found.{body_of, nest_of_loop}
 use Rattle.find_nests.proofs.FoundLaws.{found_nest_is_loop, no_reason_holds}
-use Rattle.normal_forms.specs.NormalLoops.{variables_of, bound_form, normal_loop}
-use Rattle.normal_forms.specs.LastValues.{last_forms, have_plain_trips}
-use Rattle.normal_forms.specs.declared.last.LastForms.{LastForms}
+use Rattle.normal_forms.specs.NormalLoops.{normal_loop}
+use Rattle.normal_forms.specs.LastValues.{have_plain_trips}
 use Rattle.normal_forms.specs.declared.loops.NormalLoop.{NormalLoop}
 use Rattle.statement_loops.specs.Standings.{is_among}
-use Rattle.last_values.specs.Occurrences.{stands_in, stands_in_bounds, stands_outside, stands_outside_in_each, occurs_only_within}
+use Rattle.last_values.specs.Occurrences.{stands_in, stands_outside_in_each, occurs_only_within}
 use Rattle.last_values.specs.Behind.{are_within, ends_behind, may_end_behind, stands_behind, values_behind}
 use Rattle.last_values.specs.InPlace.{parts_before, parts_behind}
 use Rattle.last_values.specs.declared.behind.NestedLoop.{NestedLoop}
@@ -42,7 +38,7 @@ use Rattle.loop_normal.specs.Bodies.{counting, normal_turns, normal_part, normal
 use Rattle.loop_normal.specs.Loops.{with_loop, nested, is_normal, are_normal, nested_loops, nested_in_parts, nested_in_branches}
 use Rattle.loop_normal.specs.Normalised.{with_body, only_one, with_loops, normalised}
 use Rattle.ready_nests.proofs.Lists.{Each-Contains}
-use Rattle.ready_nests.proofs.LoopForms.{HaveZeros, HaveZeros-later, IsNormalLoop, normal_loop_is}
+use Rattle.ready_nests.proofs.LoopForms.{HaveZeros, normal_loop_is}
 use Rattle.ready_nests.proofs.NormalTrips.{zeros_more}
 use Rattle.ready_nests.proofs.Walk.{EachIn, EachInParts, EachInBranches}
 use Rattle.normal_nests.specs.There.{NormalisedIsThere}
@@ -139,9 +135,6 @@ all_joined p [] ys h k = k
 all_joined p (x ∷ xs) ys h k = let b = both (p x) (list_all p xs) h in ap (λ t. t && list_all p (xs ++ ys)) b.0 ∙ all_joined p xs ys b.1 k
 
 module _ (symbols : List (List ℕ)) (v : List ℕ) where
-  abbrev May : NestedLoop → Bool
-  May l = may_end_behind (length symbols) v l
-
   others_may : (round : List NormalLoop) (l : Loop) (o : Option NormalLoop) → normal_loop symbols round l ≡ o → HaveZeros (length round) round → bytes_eq l.variable v ≡ false
       → list_all (may_end_behind (length symbols) v) (nested round o) ≡ true
   others_may round l None e z h = refl

@@ -1,15 +1,14 @@
 -- Each loop of a nest that was found has a loop from 1 by 1.
 use mathlib.Core.Path.{ap₂}
-use Rattle.std.proofs.Common.{◌≡◌, ◌≢◌, refl, sym, ap, ◌∙◌, subst, ℕ, zero, suc, ◌+◌, ◌^◌, ◌≤◌, ◌<◌, ℤ, pos, Bool, true, false, cond, not, ◌&&◌, ◌||◌, List, [], ◌∷◌, ◌++◌, length, length-append, get_or, Option, Some, None, arith}
+use Rattle.std.proofs.Common.{◌≡◌, refl, sym, ap, ◌∙◌, subst, ℕ, suc, ◌+◌, ◌^◌, ◌<◌, ℤ, pos, Bool, true, false, cond, not, ◌&&◌, ◌||◌, List, [], ◌∷◌, ◌++◌, length, length-append, Option, Some, None, arith}
 use Rattle.std.specs.Prelude.{is_some, nat_le, nat_abs}
 use Rattle.std.specs.Ordering.{int_eq}
 use Rattle.std.proofs.lemmas.Bool.{leb-true, leb-false, le-leb}
 use Rattle.fv_tree.specs.Plain.{Expression, Statement, Assignment, Where, If, Do, Label, GoTo, Stop, Read, Print, Allocate, Deallocate, Arms, no_arms, arm, Block, no_statements, statement}
-use Rattle.components.specs.Lists.{Each}
 use Rattle.components.proofs.ListLaws.{Each-append}
 use Rattle.linear_forms.specs.Linear.{Form, is_small, constant_of}
 use Rattle.linear_forms.proofs.Sizes.{both}
-use Rattle.nest_tree.specs.Plain.{Loop, Part, parts}
+use Rattle.nest_tree.specs.Plain.{Part, parts}
 use Rattle.nest_reasons.specs.declared.flaws.Flaw.TheVariants.{Deep}
 use Rattle.nest_reasons.specs.Increments.{step_of, suitable, suitable_or_none}
 use Rattle.nest_reasons.specs.Increments as increments
@@ -22,10 +21,10 @@ use Rattle.bound_limits.specs.Loops.{leaves_with, leaves_limits, normal_or_zero,
 use Rattle.normal_forms.specs.NormalLoops.{normal_loop, is_zero}
 use Rattle.normal_forms.specs.declared.loops.NormalLoop.{NormalLoop}
 use Rattle.loop_normal.specs.Loops.{with_loop, is_normal, are_normal, are_normal_branches}
-use Rattle.ready_nests.proofs.LoopForms.{HaveZeros, HaveZeros-later, IsNormalLoop, normal_loop_is}
+use Rattle.ready_nests.proofs.LoopForms.{HaveZeros, HaveZeros-later, normal_loop_is}
 use Rattle.ready_nests.proofs.Sums.{Zero}
 use Rattle.normal_nests.proofs.Bounds.{AllStand, Stands, same_length}
-use Rattle.normal_nests.proofs.Loop.{IsTurned, loop_turned}
+use Rattle.normal_nests.proofs.Loop.{loop_turned}
 
 neither : (a b : Bool) → (a || b) ≡ false → (a ≡ false) × (b ≡ false)
 neither true b h = let no : ⊥ = cc in absurd no
