@@ -1,13 +1,12 @@
 -- The numbers of the loops of a nest that is found.
-use Rattle.std.proofs.Common.{◌≡◌, refl, sym, ap, ◌∙◌, subst, ℕ, zero, suc, ◌+◌, ◌^◌, ◌<◌, ◌≤◌, Bool, true, false, cond, List, [], ◌∷◌, ◌++◌, append_assoc, map, arith}
+use Rattle.std.proofs.Common.{◌≡◌, sym, ap, ◌∙◌, subst, ℕ, suc, ◌+◌, ◌<◌, ◌≤◌, Bool, true, false, cond, List, [], ◌∷◌, ◌++◌, arith}
 use Rattle.std.specs.Prelude.{nat_lt}
 use Rattle.std.proofs.lemmas.Bool.Decides.{Decides-ltb}
-use Rattle.std.proofs.lemmas.List.{append-nil, map-append}
-use Rattle.fv_tree.specs.Plain.{Program, Statement, Assignment, Where, If, Do, Label, GoTo, Stop, Read, Print, Allocate, Deallocate, Arms, no_arms, arm, Block, no_statements, statement}
+use Rattle.fv_tree.specs.Plain.{Statement, Assignment, Where, If, Do, Label, GoTo, Stop, Read, Print, Allocate, Deallocate, Arms, no_arms, arm, Block, no_statements, statement}
 use Rattle.fv_meaning.specs.Blocks.{statements_of, statements_in_arms, statements_in}
 use Rattle.components.specs.Lists.{Each, Distinct}
 use Rattle.components.proofs.ListLaws.{Each-append}
-use Rattle.nest_tree.specs.Plain.{Loop, Nest, Part, parts}
+use Rattle.nest_tree.specs.Plain.{Nest, parts}
 use Rattle.nest_tree.specs.Bodies.{loops_of, loops_in_parts, loops_in_branches, nest_loops}
 use Rattle.nest_parts.specs.Numbers.{next, after, after_arms, after_block}
 use Rattle.nest_parts.specs.Statements.{parts_of, branches_of, parts_of_block}

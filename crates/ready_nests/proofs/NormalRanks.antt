@@ -2,9 +2,9 @@
 use Rattle.std.proofs.Common.{◌≡◌, refl, sym, ap, ◌∙◌, subst, ℕ, ℤ, pos, Bool, true, false, cond, List, [], ◌∷◌, ◌++◌, map, Option, Some, None}
 use Rattle.std.specs.Option.{option_map}
 use Rattle.std.specs.Ordering.{int_eq}
-use Rattle.fv_tree.specs.Plain.{Expression, Number, Binary, Reference, no_subscripts}
+use Rattle.fv_tree.specs.Plain.{Expression, Number, Binary, Reference}
 use Rattle.fv_tree.specs.declared.ops.Op.TheVariants.{Div}
-use Rattle.fv_rewrite.specs.Making.{Making, made, made_parts, made_left}
+use Rattle.fv_rewrite.specs.Making.{Making, made, made_parts}
 use Rattle.linear_forms.specs.Texts.{text_of}
 use Rattle.components.specs.Lists.{Each}
 use Rattle.components.proofs.ListLaws.{Each-append}
@@ -18,7 +18,6 @@ use Rattle.normal_forms.specs.NormalLoops.{counter_name, counters_of, normal_loo
 use Rattle.normal_forms.specs.Texts.{quotient, trip_text, counter_first, value_text}
 use Rattle.normal_forms.specs.declared.loops.NormalLoop.{NormalLoop}
 use Rattle.last_values.specs.InPlace.{first_text, own_trip_text, end_text}
-use Rattle.loop_normal.specs.Bodies.{counting}
 use Rattle.loop_normal.specs.Values.{with_value, in_text, statement_with_values, normal_statement}
 use Rattle.ready_nests.proofs.LoopForms.{normal_loop_is}
 use Rattle.ready_nests.proofs.Made.{IsMadeOf}

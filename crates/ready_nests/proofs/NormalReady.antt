@@ -1,5 +1,5 @@
 -- What is made of a nest that was found may be tested for dependences.
-use Rattle.std.proofs.Common.{◌≡◌, refl, sym, ap, ◌∙◌, subst, ℕ, zero, suc, ◌≤◌, ◌^◌, List, [], ◌∷◌, length, Option, Some, None, Contains, arith}
+use Rattle.std.proofs.Common.{◌≡◌, sym, ap, ◌∙◌, subst, ℕ, zero, suc, ◌≤◌, List, [], ◌∷◌, length, Some, Contains, arith}
 use Rattle.std.specs.Prelude.{slice_get}
 use Rattle.fv_tree.specs.Plain.{Program, Reference, Declaration}
 use Rattle.fv_meaning.specs.Blocks.{outermost}
@@ -7,20 +7,18 @@ use Rattle.fv_meaning.specs.Dialect.{Dialect}
 use Rattle.fv_meaning.specs.Profile77.{IsProgram77}
 use Rattle.components.specs.Lists.{Each, Distinct}
 use Rattle.nest_tree.specs.Plain.{Nest}
-use Rattle.nest_tree.specs.Bodies.{Standing, nest_statements, nest_loops}
+use Rattle.nest_tree.specs.Bodies.{Standing, nest_statements}
 use Rattle.nest_parts.specs.Numbers.{next}
-use Rattle.nest_graph.specs.Ready.{IsElement, IsReadyStatement, IsReady, HaveEqualRank}
+use Rattle.nest_graph.specs.Ready.{IsElement, IsReadyStatement, HaveEqualRank}
 use Rattle.nest_graph.specs.References.{references_of}
-use Rattle.find_nests.specs.Found.{InNest, found_in, nest_of_loop}
-use Rattle.find_nests.specs.Laws.{IsFoundNest}
+use Rattle.find_nests.specs.Found.{InNest, found_in}
 use Rattle.find_nests.specs.Loops.{loops_in_block}
 use Rattle.find_nests.proofs.FoundLaws.{found_nest_is_loop}
-use Rattle.loop_normal.specs.Normalised.{normalised}
 use Rattle.ready_nests.specs.Ready.{NormalNestIsReady}
 use Rattle.ready_nests.specs.Trips.{IsInTrips}
 use Rattle.ready_nests.proofs.FoundNumbers.{found_loops_are_distinct}
 use Rattle.ready_nests.proofs.Lists.{Each-Contains, Each-All, Each-weaker}
-use Rattle.ready_nests.proofs.Made.{IsMadeOf, made_of}
+use Rattle.ready_nests.proofs.Made.{made_of}
 use Rattle.ready_nests.proofs.NormalNumbers.{normal_loops_are_those}
 use Rattle.ready_nests.proofs.NormalRanks.{AllFit, references_of_made}
 use Rattle.ready_nests.proofs.NormalTrips.{trips_of}

@@ -1,11 +1,9 @@
 -- The loops round the statements of what is made of a nest.
-use Rattle.std.proofs.Common.{◌≡◌, refl, sym, ap, ◌∙◌, subst, ℕ, zero, suc, ◌+◌, ◌≤◌, ◌<◌, List, [], ◌∷◌, ◌++◌, length, length-append, Option, Some, None, arith}
-use Rattle.std.specs.Prelude.{IsSomeAnd}
+use Rattle.std.proofs.Common.{◌≡◌, refl, sym, ap, ◌∙◌, subst, ℕ, suc, ◌+◌, ◌≤◌, List, [], ◌∷◌, ◌++◌, length, length-append, Some, arith}
 use Rattle.components.specs.Lists.{Each}
 use Rattle.components.proofs.ListLaws.{Each-append}
 use Rattle.nest_tree.specs.Plain.{Loop, Guarded, Part, Run, Turns, Choice, Label, Jump, Parts, no_parts, part, Branches, no_branches, branch, Nest}
-use Rattle.nest_tree.specs.Bodies.{Standing, nest_statements}
-use Rattle.nest_tree.specs.declared.parts.Trip.{Trip}
+use Rattle.nest_tree.specs.Bodies.{nest_statements}
 use Rattle.nest_graph.specs.Ready.{IsTripIn, HasTrip, HaveTrips}
 use Rattle.normal_forms.specs.NormalLoops.{normal_loop}
 use Rattle.normal_forms.specs.declared.loops.NormalLoop.{NormalLoop}
@@ -14,7 +12,7 @@ use Rattle.loop_normal.specs.Bodies.{counting}
 use Rattle.loop_normal.specs.Values.{normal_statement}
 use Rattle.ready_nests.specs.Trips.{IsInTrips, NormalTripsAreForms}
 use Rattle.ready_nests.proofs.Lists.{Each-All}
-use Rattle.ready_nests.proofs.LoopForms.{HaveZeros, HaveZeros-later, IsNormalLoop, normal_loop_is}
+use Rattle.ready_nests.proofs.LoopForms.{HaveZeros, HaveZeros-later, normal_loop_is}
 use Rattle.ready_nests.proofs.Made.{IsMadeOf, made_of}
 use Rattle.ready_nests.proofs.Sums.{Zero}
 use Rattle.ready_nests.proofs.Walk.{EachIn, EachInParts, EachInBranches, Steps, assigning, each_statement}

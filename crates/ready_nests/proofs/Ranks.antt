@@ -1,23 +1,20 @@
 -- Expressions in which each name has as many subscripts as dimensions.
-use Rattle.std.proofs.Common.{◌≡◌, refl, sym, ap, ◌∙◌, subst, ℕ, zero, suc, ◌+◌, ◌≤◌, ℤ, pos, negsuc, Bool, true, false, cond, List, [], ◌∷◌, ◌++◌, map, Option, Some, None, arith}
+use Rattle.std.proofs.Common.{◌≡◌, refl, sym, ap, ◌∙◌, subst, ℕ, zero, suc, ℤ, pos, negsuc, Bool, true, false, cond, List, [], ◌∷◌, ◌++◌, Option, Some, None}
 use Rattle.std.specs.Prelude.{slice_get, ◌==◌}
-use Rattle.std.specs.Ordering.{int_eq}
-use Rattle.std.specs.Option.{option_map}
-use Rattle.std.specs.Str.{bytes_eq}
 use Rattle.fv_tree.specs.Plain.{Expression, Number, Logic, Named, Unary, Binary, Apply, Constructor, Spread, Transpose, Reshape, Reduce, Expressions, no_expressions, expression, Subscript, Only, Section, Subscripts, no_subscripts, subscript, Reference}
-use Rattle.fv_tree.specs.declared.ops.Op.TheVariants.{Div, Mul, Neg, Add, Sub}
+use Rattle.fv_tree.specs.declared.ops.Op.TheVariants.{Mul}
 use Rattle.subscripts.specs.declared.affine.Affine.{Affine}
 use Rattle.linear_forms.specs.Linear.{Form, form_of}
-use Rattle.linear_forms.specs.Expressed.{term, plus_term, minus_term, with_term, with_terms, with_constant, expressed, variable, variables}
+use Rattle.linear_forms.specs.Expressed.{term, plus_term, minus_term, with_term, with_terms, with_constant, variables}
 use Rattle.linear_forms.specs.Texts.{with_place, with_symbols, places_behind, text_of}
-use Rattle.linear_forms.specs.Canonical.{text_or, canonical_text, canonical_node, canonising}
+use Rattle.linear_forms.specs.Canonical.{text_or, canonical_text, canonising}
 use Rattle.fv_rewrite.specs.Making.{Making, made, made_expressions, made_loops, made_subscripts, made_subscript}
 use Rattle.fv_rewrite.specs.Names.{mentions}
-use Rattle.fv_rewrite.specs.Substituting.{is_scalar, replaced, substituting}
+use Rattle.fv_rewrite.specs.Substituting.{is_scalar, substituting}
 use Rattle.components.specs.Lists.{Each}
 use Rattle.components.proofs.ListLaws.{Each-append}
 use Rattle.nest_graph.specs.Ready.{AreElements, subscript_count}
-use Rattle.nest_graph.specs.References.{is_among, has_none, own_reference, references_in, references_in_all, references_in_subscript, references_in_subscripts, references_in_guard}
+use Rattle.nest_graph.specs.References.{is_among, has_none, own_reference, references_in, references_in_all, references_in_subscript, references_in_subscripts}
 
 module _ (rank : List ℕ → ℕ) where
   -- each name has as many subscripts as its rank, of which none is a section

@@ -1,7 +1,7 @@
 -- Names of a program in FORTRAN 77 have as many subscripts as dimensions.
-use Rattle.std.proofs.Common.{◌≡◌, refl, sym, ap, ◌∙◌, subst, ℕ, zero, suc, ◌+◌, ◌≤◌, Bool, true, false, cond, ◌&&◌, not, List, [], ◌∷◌, ◌++◌, map, filter, length, length-append, Option, Some, None, Contains, arith}
+use Rattle.std.proofs.Common.{◌≡◌, refl, sym, ap, ◌∙◌, ℕ, ◌≤◌, Bool, true, false, cond, ◌&&◌, not, List, [], ◌∷◌, ◌++◌, map, filter, length, length-append, Option, Some, None, Contains, arith}
 use Rattle.std.specs.Prelude.{IsSomeAnd, codes, decimal}
-use Rattle.std.specs.List.{AllByRecursion, list_any}
+use Rattle.std.specs.List.{list_any}
 use Rattle.std.specs.Str.{bytes_eq}
 use Rattle.fv_tree.specs.Plain.{Expression, Number, Logic, Named, Unary, Binary, Apply, Constructor, Spread, Transpose, Reshape, Reduce, Expressions, no_expressions, expression, Subscript, Only, Section, Subscripts, no_subscripts, subscript, Reference}
 use Rattle.fv_tree.specs.Plain.{Statement, Assignment, Where, If, Do, Label, GoTo, Stop, Read, Print, Allocate, Deallocate, Arms, no_arms, arm, Block, no_statements, statement, Extent, Given, Later, Declaration}
@@ -17,7 +17,7 @@ use Rattle.profile_laws.proofs.Lists.{here, there, all_at}
 use Rattle.profile_laws.proofs.Names.{found, once}
 use Rattle.components.specs.Lists.{Each}
 use Rattle.components.proofs.ListLaws.{Each-append}
-use Rattle.nest_tree.specs.Plain.{Loop, Guarded, Part, Parts, part, parts}
+use Rattle.nest_tree.specs.Plain.{Loop, Guarded, Part, parts}
 use Rattle.nest_reasons.specs.Symbols.{is_integer, is_scalar, is_integer_scalar, is_symbol, symbols_of}
 use Rattle.fv_rewrite.specs.Names.{names_written_in}
 use Rattle.nest_parts.specs.Numbers.{next, after, after_arms, after_block}
@@ -26,7 +26,7 @@ use Rattle.find_nests.specs.Loops.{SourceLoop, Placed, loops_in, loops_in_arms, 
 use Rattle.nest_graph.specs.Ready.{subscript_count}
 use Rattle.normal_forms.specs.NormalLoops.{counter_name}
 use Rattle.ready_nests.proofs.Ranks.{HasRanks, HaveRanksEach, HaveRanks, IsRanked, AreScalars}
-use Rattle.ready_nests.proofs.Walk.{EachIn, EachInParts, EachInBranches}
+use Rattle.ready_nests.proofs.Walk.{EachInParts, EachInBranches}
 
 -- ---- ranks by the declarations
 
@@ -92,12 +92,6 @@ module _ (ds : List Declaration) where
     ranked_one (Section a b s) h = absurd h
 
   -- ---- statements
-
-  abbrev Source : Guarded → Type 0
-  Source = IsRankedStatement (rank_in ds)
-
-  abbrev Fair : Loop → Type 0
-  Fair = HasScalar (rank_in ds)
 
   assigned : (line : ℕ) (left : Reference) (right : Expression) (w : Surroundings) → IsAssignment ds left right w
       → IsRankedStatement (rank_in ds) (record { line = line; guard = None; left = left; right = right })

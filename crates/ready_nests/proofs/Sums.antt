@@ -1,6 +1,6 @@
 -- A sum of multiples of forms is a form.
 use mathlib.Core.Path.{ap₂}
-use Rattle.std.proofs.Common.{◌≡◌, refl, sym, ap, ◌∙◌, subst, inl, inr, ◌⊎◌, ℕ, zero, suc, ◌+◌, ◌^◌, ◌≤◌, ◌<◌, ℤ, pos, ◌+ℤ◌, ◌*ℤ◌, Bool, true, false, cond, ◌&&◌, List, [], ◌∷◌, ◌++◌, take, drop, length, get_or, set, replicate, Option, Some, None, arith}
+use Rattle.std.proofs.Common.{◌≡◌, refl, sym, ap, ◌∙◌, subst, inl, inr, ◌⊎◌, ℕ, zero, suc, ◌+◌, ◌^◌, ◌≤◌, ◌<◌, ℤ, pos, ◌+ℤ◌, ◌*ℤ◌, Bool, true, false, cond, ◌&&◌, List, [], ◌∷◌, ◌++◌, take, drop, length, get_or, set, Option, Some, None, arith}
 use Rattle.std.specs.Prelude.{nat_abs, nat_le, nat_lt, int_div}
 use Rattle.std.specs.List.{list_all}
 use Rattle.std.specs.Ordering.{int_eq}
@@ -14,7 +14,7 @@ use Rattle.linear_forms.specs.Linear.{Form, is_small, all_small, not_zero, is_li
 use Rattle.linear_forms.specs.Merging.{small_or_none, pushed, then_pushed, all_pushed}
 use Rattle.linear_forms.specs.Places.{padded, terms_from}
 use Rattle.linear_forms.specs.declared.terms.Terms.{Terms}
-use Rattle.linear_forms.proofs.Merges.{Holds, Outcome, pushes, then_same}
+use Rattle.linear_forms.proofs.Merges.{Outcome, pushes, then_same}
 use Rattle.linear_forms.proofs.Sizes.{both}
 use Rattle.bound_limits.proofs.LimitLaws.{abs-quotient}
 use Rattle.dep_graph.proofs.Shapes.{affine_is_form}

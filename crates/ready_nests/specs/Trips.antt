@@ -1,5 +1,5 @@
 -- The loops round the statements of what is made of a nest.
-use Rattle.std.specs.Prelude.{◌≡◌, ℕ, ◌≤◌, Some, All, length}
+use Rattle.std.specs.Prelude.{◌≡◌, ◌≤◌, Some, All, length}
 use Rattle.nest_tree.specs.Plain.{Nest}
 use Rattle.nest_tree.specs.Bodies.{Standing, nest_statements}
 use Rattle.nest_graph.specs.Ready.{HaveTrips}

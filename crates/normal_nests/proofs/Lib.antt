@@ -1,0 +1,9 @@
+pub mod Spread
+pub mod Combined
+pub mod Bounds
+pub mod Loop
+pub mod Walks
+pub mod LastForms
+pub mod Names
+pub mod Alone
+pub mod There
