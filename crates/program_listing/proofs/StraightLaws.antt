@@ -1,5 +1,7 @@
 -- What stands in a nest without an IF, a guard, a label and a jump.
-use Rattle.std.proofs.Common.{◌≡◌, Bool, true, false, not, ◌&&◌, Option, Some, None, List, [], ◌∷◌, map, Result, Ok, Err, refl, sym, ap, ◌∙◌, ℕ}
+use Rattle.std.proofs.Common.{◌≡◌, Bool, true, false, not, ◌&&◌, Option, Some, None, List, [], ◌∷◌, map, length, get_or, Result, Ok, Err, refl, sym, ap, ◌∙◌, ℕ, ◌<◌, arith}
+use Rattle.std.proofs.lemmas.List.{get_or-map, length-map}
+use Rattle.std.proofs.lemmas.List.Folds.{list_all_at}
 use Rattle.std.specs.Prelude.{◌↔◌, IfOk, IsTrue, is_none, is_some}
 use Rattle.std.specs.List.{list_all}
 use Rattle.std.specs.Option.{option_map}
@@ -57,3 +59,13 @@ not_straight n b e f = (λ t. absurd (cc), λ h. let s : is_straight n.body ≡ 
 pub when_ready : {E : Type 0} (r : Result Bool E) (n : Nest) (b : Bool) → b ≡ is_straight n.body → b ≡ true → IfOk r (λ t. IsTrue t ↔ IsReady n) → IfOk r (λ t. IsTrue t ↔ IsTestable n)
 when_ready (Err x) n b e t h = tt
 when_ready (Ok y) n b e t h = (λ k. record { straight = sym e ∙ t; ready = h.0 k }, λ k. h.1 k.ready)
+
+-- one of the parts isn't straight
+pub one_fails : (items body : List Part) (i : ℕ) (x : Part) (r : Bool) → items ≡ body → i < length items → x ≡ get_or items i x → r ≡ is_straight (part_of x) → r ≡ false
+    → false ≡ list_all is_straight (map part_of body)
+one_fails items body i x r same h is e f =
+    let size : length (map part_of items) ≡ length items = length-map items part_of in
+    let within : i < length (map part_of items) = omega arith in
+    let at : get_or (map part_of items) i (part_of x) ≡ part_of x = get_or-map part_of items i x (part_of x) h ∙ ap part_of (sym is) in
+    let fails : is_straight (get_or (map part_of items) i (part_of x)) ≡ false = ap is_straight at ∙ sym e ∙ f in
+    sym (ap (λ (ps : List Part). list_all is_straight (map part_of ps)) (sym same) ∙ list_all_at is_straight (map part_of items) i (part_of x) within fails)
