@@ -6,8 +6,6 @@ mod bodies;
 mod laws;
 mod loops;
 mod nests;
-#[cfg(test)]
-mod tests;
 mod values;
 
 pub use laws::counts_by_one;
