@@ -4,3 +4,4 @@ pub mod PlaceLaws
 pub mod PartLaws
 pub mod OpeningLaws
 pub mod AllocationLaws
+pub mod TargetLaws

@@ -4,3 +4,4 @@ pub mod Stored
 pub mod Parts
 pub mod Opening
 pub mod Allocation
+pub mod Targets

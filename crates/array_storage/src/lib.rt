@@ -8,8 +8,10 @@ mod opening;
 mod selected;
 mod slots;
 mod storage;
+mod targets;
 #[cfg(test)]
 mod tests;
 
 pub use slots::{Place, Slot};
 pub use storage::Storage;
+pub use targets::Target;
