@@ -2,7 +2,7 @@ ghost use Rattle.std.specs.Prelude.{IfOk, map};
 ghost use Rattle.fv_tree.specs.View.{declaration_of};
 ghost use Rattle.fv_machine.specs.Storage.{AreDistinct};
 
-use crate::{Place, Storage, Target};
+use crate::{Place, Storage};
 use array_values::{Failure, Known, Selector};
 use fv_tree::{Decl, Dim, Extent, Fault, Kind, Name, Seq, Value};
 use std::alloc::Global;
@@ -46,36 +46,6 @@ fn row(alloc: Global, storage: &Storage, name: Name) -> Result<Known, Failure> {
         name,
         &[Selector::Index(2), Selector::Triplet(1, 3, 1)],
     )
-}
-
-// M(2, 1:3)
-fn target(alloc: Global, storage: &Storage, name: Name) -> Result<Target, Failure> {
-    storage.target_part(
-        alloc,
-        name,
-        &[Selector::Index(2), Selector::Triplet(1, 3, 1)],
-    )
-}
-
-#[test]
-fn selects_places(rt: HostRuntime) -> Result<(), Fail> {
-    let alloc = rt.alloc();
-    let mut storage = Storage::new(alloc, declarations(alloc)?.as_slice())?;
-    let name = Name::read(b"M").ok_or("M")?;
-    let missing = storage.target(alloc, name);
-    assert_eq!(rt; fault_of(missing), Some(Failure::Fault(Fault::Allocated)));
-    storage.allocate(alloc, name, &[2, 3]).map_err(failed)?;
-    let row = target(alloc, &storage, name).map_err(failed)?;
-    assert_eq!(rt; row.slot, 1);
-    assert_eq!(rt; row.selected.extents.as_slice(), [3].as_slice());
-    assert_eq!(rt; row.selected.places.as_slice(), [1, 3, 5].as_slice());
-    let all = storage.target(alloc, name).map_err(failed)?;
-    assert_eq!(rt; all.selected.extents.as_slice(), [2, 3].as_slice());
-    assert_eq!(rt;
-        all.selected.places.as_slice(),
-        [0, 1, 2, 3, 4, 5].as_slice()
-    );
-    Ok(())
 }
 
 #[test]
