@@ -39,7 +39,9 @@ fn graph_lines(alloc: Global, number: u32, nest: &Nest) -> Result<Seq<Line>, Mem
 {
     let graph = graph(alloc, nest)?;
     let holds = all_holds(alloc, nest, graph.stmts)?;
-    lines(alloc, nest, number, &graph, &holds, &Seq::new(alloc))
+    let cycles = Seq::new(alloc);
+    let all = lines(alloc, nest, number, &graph, &holds, &cycles)?;
+    Ok(all)
 }
 
 // The line of a nest that isn't tested so far.
