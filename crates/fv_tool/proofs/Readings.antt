@@ -1,5 +1,5 @@
 -- What the answer to a deck's source says of the deck.
-use Rattle.std.proofs.Common.{◌≡◌, ◌≤◌, ◌⊎◌, ◌^◌, ℕ, List, length, [], ◌++◌, Option, Result, Ok, Err, inl, inr, ap, refl, sym, ◌∙◌, subst, arith}
+use Rattle.std.proofs.Common.{◌≡◌, ◌≤◌, ◌⊎◌, ◌^◌, ℕ, List, length, [], ◌++◌, Option, Some, Result, Ok, Err, inl, inr, ap, refl, sym, ◌∙◌, subst, arith}
 use Rattle.std.specs.Prelude.{IsOkAnd}
 use Rattle.fv_tree.specs.Plain.{Program}
 use Rattle.fv_tree.specs.View.{program_of}

@@ -7,9 +7,9 @@ use Rattle.program_listing.proofs.listing.lines_of.Goals as goal
 
 pub returns-in-Nest : goal.returns-in-Nest
 returns-in-Nest c =
-    found_entries c.nest_lines.result (InNest (nest_of c.in-Nest.nest.now)) (found_of c.args.found.now) (ap found_of c.in-Nest.is) c.nest_lines.ensures
+    found_entries c.nest_lines.result (InNest (nest_of c.in-Nest.nest)) (found_of c.args.found.now) (ap found_of c.in-Nest.is) c.nest_lines.ensures
 
-pub returns : goal.returns
-returns c =
-    found_entries c.kept_lines.result (Kept c.in-Kept.line.now c.in-Kept.reason.now) (found_of c.args.found.now) (ap found_of c.in-Kept.is)
-    (kept_entries c.kept_lines.result c.in-Kept.line.now c.reason_word.result.now (reason_word c.in-Kept.reason.now) c.reason_word.ensures c.kept_lines.ensures)
+pub returns-in-Kept : goal.returns-in-Kept
+returns-in-Kept c =
+    found_entries c.kept_lines.result (Kept c.in-Kept.line c.in-Kept.reason) (found_of c.args.found.now) (ap found_of c.in-Kept.is)
+    (kept_entries c.kept_lines.result c.in-Kept.line c.reason_word.result.now (reason_word c.in-Kept.reason) c.reason_word.ensures c.kept_lines.ensures)

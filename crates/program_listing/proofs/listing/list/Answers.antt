@@ -1,13 +1,16 @@
-use Rattle.std.proofs.Common.{◌≡◌, ◌≤◌, map, length, sym, ap, ◌∙◌, subst, arith}
+use Rattle.std.proofs.Common.{◌≡◌, ◌≤◌, List, [], map, length, sym, ap, ◌∙◌, subst, arith}
 use Rattle.std.proofs.lemmas.List.{length-map}
 use Rattle.fv_tree.specs.View.{declaration_of, program_of}
+use Rattle.fv_tree.specs.declared.programs.Line.{Line}
+use Rattle.f90_print.specs.Notes.{text_of}
+use Rattle.program_listing.specs.Listing.{AreLinesOf, HaveEntries}
 use Rattle.find_nests.specs.Found.{found_in, found_of}
 use Rattle.program_listing.proofs.Entries.{listed_all, listed_more, listed_none}
 use Rattle.program_listing.proofs.Symbols.{few_at}
 use Rattle.program_listing.proofs.listing.list.Goals as goal
 
 pub loop-found-init : goal.loop-found-init
-loop-found-init c = ?
+loop-found-init c = subst (λ (l : List Line). AreLinesOf (HaveEntries []) (map text_of l)) (sym c.new-all.ensures.items) (listed_none [])
 
 pub lines_of-requires : goal.lines_of-requires
 lines_of-requires c =
