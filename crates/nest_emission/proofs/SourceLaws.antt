@@ -1,0 +1,88 @@
+-- The statements of a source, and how its classes are emitted.
+use Rattle.std.proofs.Common.{◌≡◌, ◌⊎◌, inl, inr, refl, sym, ap, subst, ◌∙◌, ℕ, suc, ◌-◌, ◌<◌, ◌≤◌, Bool, true, false, List, [], ◌∷◌, length, get_or, map, Option, Some, arith}
+use Rattle.std.specs.Prelude.{All, slice_get}
+use Rattle.std.specs.Option.{option_map}
+use Rattle.std.proofs.lemmas.List.{get_or-map, length-map}
+use Rattle.std.proofs.lemmas.Option.{slice_get-map}
+use Rattle.components.specs.Lists.{In}
+use Rattle.emission_pieces.specs.Emission.{IsLoopOf}
+use Rattle.emission_pieces.specs.Levels.{may_be_formed}
+use Rattle.emission_pieces.specs.Nests.{loops_at, standing_at}
+use Rattle.nest_tree.specs.Bodies as bodies
+use Rattle.nest_tree.specs.Bodies.{nest_statements}
+use Rattle.nest_tree.specs.Plain.{Loop, Nest}
+use Rattle.nest_tree.specs.View.{loop_of}
+use Rattle.nest_tree.specs.declared.parts.Loop.{Loop as Loop'}
+use Rattle.sections.specs.Statements.{no_statement}
+use Rattle.sections.proofs.Asked.{as_many}
+use Rattle.statement_loops.specs.Standings.{standing_of}
+use Rattle.statement_loops.specs.declared.standings.Standing.{Standing}
+use Rattle.nest_emission.specs.Given.{AreInside, HasLoop, HasLoopForms, IsClass, IsSource, IsWay, nest_in}
+use Rattle.nest_emission.specs.declared.source.Source.{Source}
+use Rattle.nest_emission.specs.declared.source.Way.TheVariants.{Turning}
+use Rattle.nest_emission.proofs.Lists.{get_in, in_all}
+
+-- as many loops round it as the nest has there
+pub loops_many : (y : bodies.Standing) (x : Standing) → standing_of x ≡ y → length x.loops ≡ length y.loops
+loops_many y x e = sym (length-map x.loops loop_of) ∙ ap (λ (z : bodies.Standing). length z.loops) e
+
+module _ (source : Source) (h : IsSource source) where
+  pub in_range : (s : ℕ) → s < length (nest_statements (nest_in source)) → s < length source.statements.now
+  in_range s inside = let many = as_many (nest_in source) source.statements.now h.all in omega arith
+
+  pub statement_is : (s : ℕ) (x : Standing) → s < length (nest_statements (nest_in source)) → x ≡ get_or source.statements.now s x
+      → standing_of x ≡ standing_at (nest_in source) s
+  statement_is s x inside is =
+      ap standing_of is ∙ sym (get_or-map standing_of source.statements.now s x no_statement (in_range s inside))
+      ∙ ap (λ (ys : List bodies.Standing). get_or ys s no_statement) h.all
+
+  pub forms_at : (s : ℕ) → s < length (nest_statements (nest_in source)) → HasLoopForms (standing_at (nest_in source) s)
+  forms_at s inside = h.forms s no_statement inside
+
+  pub level_few : (k : ℕ) (c : List ℕ) → AreInside (nest_in source) c → HasLoop (nest_in source) k c → k ≤ 7
+  level_few k c inside g =
+      let few : length (loops_at (nest_in source) g.0) ≤ 7 = (forms_at g.0 (in_all (λ s. s < length (nest_statements (nest_in source))) c inside g.0 g.1)).few in
+      let deep : k ≤ length (loops_at (nest_in source) g.0) = g.2 in
+      omega arith
+
+  -- ---- how a class is emitted
+
+  pub one_inside : (k : ℕ) (c : List ℕ) (s : ℕ) → IsClass (nest_in source) k c → c ≡ s ∷ [] → s < length (nest_statements (nest_in source))
+  one_inside k c s g e = in_all (λ s. s < length (nest_statements (nest_in source))) c g.inside s (subst (In s) (sym e) (inl refl))
+
+  pub way_many : (k : ℕ) (c : List ℕ) → IsClass (nest_in source) k c → (length c ≡ 1 → ⊥) → IsWay (nest_in source) source.edges.now source.holds.now k c Turning
+  way_many k c g other = ((λ s e. absurd (other (ap length e))), there g.loop)
+    where
+      there : ((s : ℕ) × (c ≡ s ∷ [])) ⊎ HasLoop (nest_in source) k c → HasLoop (nest_in source) k c
+      there (inl e) = absurd (other (ap length e.1))
+      there (inr l) = l
+
+  pub way_one : (k : ℕ) (c : List ℕ) (s : ℕ) → c ≡ s ∷ [] → k ≤ length (loops_at (nest_in source) s) → may_be_formed source.edges.now source.holds.now k s ≡ false
+      → IsWay (nest_in source) source.edges.now source.holds.now k c Turning
+  way_one k c s e deep no =
+      ((λ r f. (let same : s ≡ r = cc in subst (λ z. may_be_formed source.edges.now source.holds.now k z ≡ false) same no)), (s, subst (In s) (sym e) (inl refl), deep))
+
+  -- ---- the loop of a class
+
+  pub loop_is : (k : ℕ) (c : List ℕ) (i s : ℕ) (x : Standing) (turns : Loop') → i < length c → s ≡ get_or c i 0 → standing_of x ≡ standing_at (nest_in source) s
+      → Some turns ≡ slice_get x.loops (k - 1) → IsLoopOf (nest_in source) source.edges.now source.holds.now k c (loop_of turns)
+  loop_is k c i s x turns inside is e f = record {
+    statement = s;
+    among = subst (λ z. In z c) (sym is) (get_in c i 0 inside);
+    loop =
+        ap (λ (y : bodies.Standing). slice_get y.loops (k - 1)) (sym e)
+        ∙ (slice_get-map loop_of x.loops (k - 1) ∙ ap (option_map loop_of) (sym f));
+  }
+
+in_place : (xs : List ℕ) (x : ℕ) → In x xs → (i : ℕ) × (i < length xs) × (x ≡ get_or xs i 0)
+in_place [] x i = absurd i
+in_place (y ∷ xs) x (inl e) = (0, omega arith, e)
+in_place (y ∷ xs) x (inr i) = let k = in_place xs x i in (suc k.0, (let h : k.0 < length xs = k.1 in omega arith), k.2)
+
+-- where no member has the loop, the class has none
+pub no_loop : (n : Nest) (k : ℕ) (c : List ℕ) → ((i : ℕ) → i < length c → length (loops_at n (get_or c i 0)) < k) → HasLoop n k c → ⊥
+no_loop n k c none h =
+    let at = in_place c h.0 h.1 in
+    let few : length (loops_at n (get_or c at.0 0)) < k = none at.0 at.1 in
+    let deep : k ≤ length (loops_at n (get_or c at.0 0)) = subst (λ s. k ≤ length (loops_at n s)) at.2 h.2 in
+    omega arith
