@@ -1,13 +1,14 @@
 -- Blocks put one behind the other, and the pieces that they are.
-use Rattle.std.proofs.Common.{◌≡◌, refl, sym, ap, subst, ◌∙◌, ℕ, suc, ◌+◌, ◌<◌, List, [], ◌∷◌, ◌++◌, length, get_or, map, take, Result, Ok, Err, add-one, arith}
+use Rattle.std.proofs.Common.{◌≡◌, refl, sym, ap, subst, ◌∙◌, ℕ, suc, ◌+◌, ◌<◌, ◌≤◌, List, [], ◌∷◌, ◌++◌, length, get_or, map, take, Result, Ok, Err, add-one, arith}
 use Rattle.std.specs.Prelude.{IfOk}
 use mathlib.Core.Path.{ap₂}
-use Rattle.std.proofs.lemmas.List.{map-append, take_more}
+use Rattle.std.proofs.lemmas.List.{map-append, take_all, take_more}
 use Rattle.fv_tree.specs.Plain.{Statement, Block, no_statements, statement, block}
 use Rattle.fv_tree.specs.View.{block_of, statement_of}
-use Rattle.fv_tree.specs.declared.stmts.Block.{Block as Block', out-Block}
+use Rattle.fv_tree.specs.declared.lists.Memory.{Memory}
+use Rattle.fv_tree.specs.declared.stmts.Block.{Block as Block', out-Block, roll-Block}
 use Rattle.fv_tree.specs.declared.stmts.Stmt.{Stmt}
-use Rattle.fv_tree.proofs.Equations.{block_of-is}
+use Rattle.fv_tree.proofs.Equations.{block_of-is, block_of-made}
 use Rattle.components.specs.declared.graphs.Edge.{Edge}
 use Rattle.components.specs.declared.graphs.Hold.{Hold}
 use Rattle.array_form.specs.Statement.{block_of_one}
@@ -94,12 +95,27 @@ module _ (n : Nest) (edges : List Edge) (holds : List Hold) (k : ℕ) where
     block = h.block ∙ ap (λ body. block_of_one (turning_statement n h.loop body)) h.part.block;
   }
 
-  pub looped : (c : List ℕ) (turns : Loop) (body b : Block) → IsLoopOf n edges holds k c turns → IsBlockOfPart n edges holds (k + 1) c body
-      → b ≡ block_of_one (turning_statement n turns body) → IsBlockInLoop n edges holds k c b
-  looped c turns body b is h e = record {
-    loop = turns;
-    is_loop = is;
-    body = body;
-    part = subst (λ j. IsBlockOfPart n edges holds j c body) (add-one k) h;
-    block = e;
-  }
+  -- ---- as the calls answer them
+
+  pub kept_class : (c : List ℕ) (s : ℕ) (r : Result Block' Memory) → IsEmittedFor n edges holds k c (Kept s) → IfOk r (λ b. block_of b ≡ block_of_one (kept_statement n s))
+      → IfOk r (λ b. IsBlockFor n edges holds k c (block_of b))
+  kept_class c s (Ok b) h e = kept c s (block_of b) h e
+  kept_class c s (Err f) h e = e
+
+  pub formed_class : (c : List ℕ) (s : ℕ) (r : Result Block' Memory) → IsEmittedFor n edges holds k c (Formed s) → IfOk r (λ b. block_of b ≡ formed_block n k s)
+      → IfOk r (λ b. IsBlockFor n edges holds k c (block_of b))
+  formed_class c s (Ok b) h e = formed c s (block_of b) h e
+  formed_class c s (Err f) h e = e
+
+  pub turning_class : (c : List ℕ) (r : Result Block' Memory) → HasToTurn n edges holds k c → IfOk r (λ b. IsBlockInLoop n edges holds k c (block_of b))
+      → IfOk r (λ b. IsBlockFor n edges holds k c (block_of b))
+  turning_class c (Ok b) turns h = in_loop c (block_of b) turns h
+  turning_class c (Err f) turns h = h
+
+  pub part_done : (part : List ℕ) (classes items : List (List ℕ)) (i : ℕ) (ss made : List Stmt) → AreComponents edges k part classes → items ≡ classes → length items ≤ i
+      → IsBlockForAll n edges holds k (take i items) (block (map statement_of ss)) → made ≡ ss
+      → IsBlockOfPart n edges holds k part (block_of (roll-Block (record { stmts = made })))
+  part_done part classes items i ss made h same past g e =
+      subst (IsBlockOfPart n edges holds k part) (sym (block_of-made made ∙ ap (λ (cs : List Stmt). block (map statement_of cs)) e))
+      (of_part part classes (block (map statement_of ss)) h
+      (subst (λ cs. IsBlockForAll n edges holds k cs (block (map statement_of ss))) (take_all i items past ∙ same) g))

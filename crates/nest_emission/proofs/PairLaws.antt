@@ -33,24 +33,6 @@ joining k s r e f t w =
 -- ---- one edge
 
 module _ (k : ℕ) (part : List ℕ) (e : Edge) (old : List (ℕ × ℕ)) where
-  none_joined : ((i j : ℕ) → i < length part → j < length part → Joined k (slice_index part i) (slice_index part j) e → ⊥)
-      → AddsPairOf k part e old old
-  none_joined no i j = ((λ m. inl m), back)
-    where
-      back : In (i, j) old ⊎ ((i < length part) × (j < length part) × (joins k (slice_index part i) (slice_index part j) e ≡ true))
-          → In (i, j) old
-      back (inl m) = m
-      back (inr g) = absurd (no i j g.0 g.1 (joined k (slice_index part i) (slice_index part j) e g.2))
-
-  pub not_at_work : is_at_work k e.level ≡ false → AddsPairOf k part e old old
-  not_at_work w = none_joined (λ i j g h it. both_ways (is_at_work k e.level) w it.at_work)
-
-  pub no_from : ((i : ℕ) → i < length part → slice_index part i ≢ e.from.stmt) → AddsPairOf k part e old old
-  no_from no = none_joined (λ i j g h it. no i g (sym it.from))
-
-  pub no_to : ((i : ℕ) → i < length part → slice_index part i ≢ e.to.stmt) → AddsPairOf k part e old old
-  no_to no = none_joined (λ i j g h it. no j h (sym it.to))
-
   pub both_found : (new : List (ℕ × ℕ)) (from to : ℕ) → Distinct part → is_at_work k e.level ≡ true
       → from < length part → slice_index part from ≡ e.from.stmt → to < length part → slice_index part to ≡ e.to.stmt
       → new ≡ old ++ (from, to) ∷ [] → AddsPairOf k part e old new
@@ -81,9 +63,6 @@ module _ (k : ℕ) (part : List ℕ) (e : Edge) (old : List (ℕ × ℕ)) where
           subst (In (i, j)) (sym n) (In-right (i, j) old ((from, to) ∷ []) (inl (ap₂ (λ (a b : ℕ). let p : ℕ × ℕ = (a, b) in p) i-is j-is)))
 
 -- ---- all edges
-
-pub no_pairs : (k : ℕ) (part : List ℕ) → ArePairsAt [] k part []
-no_pairs k part i j = ((λ h. absurd h), (λ h. let e : false ≡ true = h.2 in cc))
 
 pub pairs_more : (edges : List Edge) (n : ℕ) (e : Edge) (k : ℕ) (part : List ℕ) (old new : List (ℕ × ℕ)) → n < length edges → e ≡ get_or edges n e
     → ArePairsAt (take n edges) k part old → AddsPairOf k part e old new → ArePairsAt (take (n + 1) edges) k part new

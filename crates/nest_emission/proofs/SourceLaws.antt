@@ -1,4 +1,4 @@
--- The statements of a source, and how its classes are emitted.
+-- The loops of a source's statements, and the loop of a class.
 use Rattle.std.proofs.Common.{◌≡◌, ◌⊎◌, inl, inr, refl, sym, ap, subst, ◌∙◌, ℕ, suc, ◌-◌, ◌<◌, ◌≤◌, Bool, true, false, List, [], ◌∷◌, length, get_or, map, Option, Some, arith}
 use Rattle.std.specs.Prelude.{All, slice_get}
 use Rattle.std.specs.Option.{option_map}
@@ -22,47 +22,9 @@ use Rattle.nest_emission.specs.declared.source.Source.{Source}
 use Rattle.nest_emission.specs.declared.source.Way.TheVariants.{Turning}
 use Rattle.nest_emission.proofs.Lists.{get_in, in_all}
 
--- as many loops round it as the nest has there
-pub loops_many : (y : bodies.Standing) (x : Standing) → standing_of x ≡ y → length x.loops ≡ length y.loops
-loops_many y x e = sym (length-map x.loops loop_of) ∙ ap (λ (z : bodies.Standing). length z.loops) e
-
 module _ (source : Source) (h : IsSource source) where
-  pub in_range : (s : ℕ) → s < length (nest_statements (nest_in source)) → s < length source.statements.now
-  in_range s inside = let many = as_many (nest_in source) source.statements.now h.all in omega arith
-
-  pub statement_is : (s : ℕ) (x : Standing) → s < length (nest_statements (nest_in source)) → x ≡ get_or source.statements.now s x
-      → standing_of x ≡ standing_at (nest_in source) s
-  statement_is s x inside is =
-      ap standing_of is ∙ sym (get_or-map standing_of source.statements.now s x no_statement (in_range s inside))
-      ∙ ap (λ (ys : List bodies.Standing). get_or ys s no_statement) h.all
-
   pub forms_at : (s : ℕ) → s < length (nest_statements (nest_in source)) → HasLoopForms (standing_at (nest_in source) s)
   forms_at s inside = h.forms s no_statement inside
-
-  pub level_few : (k : ℕ) (c : List ℕ) → AreInside (nest_in source) c → HasLoop (nest_in source) k c → k ≤ 7
-  level_few k c inside g =
-      let few : length (loops_at (nest_in source) g.0) ≤ 7 = (forms_at g.0 (in_all (λ s. s < length (nest_statements (nest_in source))) c inside g.0 g.1)).few in
-      let deep : k ≤ length (loops_at (nest_in source) g.0) = g.2 in
-      omega arith
-
-  -- ---- how a class is emitted
-
-  pub one_inside : (k : ℕ) (c : List ℕ) (s : ℕ) → IsClass (nest_in source) k c → c ≡ s ∷ [] → s < length (nest_statements (nest_in source))
-  one_inside k c s g e = in_all (λ s. s < length (nest_statements (nest_in source))) c g.inside s (subst (In s) (sym e) (inl refl))
-
-  pub way_many : (k : ℕ) (c : List ℕ) → IsClass (nest_in source) k c → (length c ≡ 1 → ⊥) → IsWay (nest_in source) source.edges.now source.holds.now k c Turning
-  way_many k c g other = ((λ s e. absurd (other (ap length e))), there g.loop)
-    where
-      there : ((s : ℕ) × (c ≡ s ∷ [])) ⊎ HasLoop (nest_in source) k c → HasLoop (nest_in source) k c
-      there (inl e) = absurd (other (ap length e.1))
-      there (inr l) = l
-
-  pub way_one : (k : ℕ) (c : List ℕ) (s : ℕ) → c ≡ s ∷ [] → k ≤ length (loops_at (nest_in source) s) → may_be_formed source.edges.now source.holds.now k s ≡ false
-      → IsWay (nest_in source) source.edges.now source.holds.now k c Turning
-  way_one k c s e deep no =
-      ((λ r f. (let same : s ≡ r = cc in subst (λ z. may_be_formed source.edges.now source.holds.now k z ≡ false) same no)), (s, subst (In s) (sym e) (inl refl), deep))
-
-  -- ---- the loop of a class
 
   pub loop_is : (k : ℕ) (c : List ℕ) (i s : ℕ) (x : Standing) (turns : Loop') → i < length c → s ≡ get_or c i 0 → standing_of x ≡ standing_at (nest_in source) s
       → Some turns ≡ slice_get x.loops (k - 1) → IsLoopOf (nest_in source) source.edges.now source.holds.now k c (loop_of turns)

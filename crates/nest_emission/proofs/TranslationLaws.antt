@@ -32,14 +32,6 @@ use Rattle.nest_emission.proofs.Lists.{all_in}
 
 -- ---- one made array
 
-pub no_allocation : (line : ℕ) (m : Made') (old : List Stmt) → m.extents ≡ [] → map statement_of old ≡ map statement_of old ++ allocation line (made_of m)
-no_allocation line m old e =
-    sym (append-nil (map statement_of old)) ∙ ap (λ (es : List Expr). map statement_of old ++ allocation_with line m.name (map expression_of es)) (sym e)
-
-pub no_deallocation : (line : ℕ) (m : Made') (old : List Stmt) → m.extents ≡ [] → map statement_of old ≡ map statement_of old ++ deallocation line (made_of m)
-no_deallocation line m old e =
-    sym (append-nil (map statement_of old)) ∙ ap (λ (es : List Expr). map statement_of old ++ deallocation_with line m.name (map expression_of es)) (sym e)
-
 some_allocation : (line : ℕ) (x : List ℕ) (es : List Expr) → (es ≡ [] → ⊥) → Allocate line x (expressions (map expression_of es)) ∷ [] ≡ allocation_with line x (map expression_of es)
 some_allocation line x [] some = absurd (some refl)
 some_allocation line x (e ∷ es) some = refl
@@ -124,20 +116,3 @@ pub all_inside : (n : Nest) (part : List ℕ) (m : ℕ) → part ≡ range_with_
 all_inside n part m e many =
     subst (AreInside n) (sym e)
     (all_in (λ s. s < length (nest_statements n)) (range_with_len 0 m) (λ s i. (let h : s < 0 + m = (range_within 0 m s i).1 in omega arith)))
-
--- ---- the nest
-
-pub emission_is : (n : Nest) (g : Graph) (edges : List Edge) (holds given : List Hold) (part : List ℕ) (body b : Block) (m : ℕ)
-    → edges ≡ g.edges → given ≡ holds → part ≡ range_with_len 0 m → m ≡ length (nest_statements n)
-    → IsBlockOfPart n edges given 1 part body → b ≡ translation_of n body → IsEmission n g holds b
-emission_is n g edges holds given part body b m same_edges same_holds numbers many h e = record {
-  pieces = moved.pieces;
-  emitted = moved.emitted;
-  block = e ∙ ap (translation_of n) moved.block;
-}
-  where
-    moved : IsBlockOfPart n g.edges holds 1 (range_with_len 0 (length (nest_statements n))) body
-    moved =
-        subst (λ es. IsBlockOfPart n es holds 1 (range_with_len 0 (length (nest_statements n))) body) same_edges
-        (subst (λ hs. IsBlockOfPart n edges hs 1 (range_with_len 0 (length (nest_statements n))) body) same_holds
-        (subst (λ p. IsBlockOfPart n edges given 1 p body) (numbers ∙ ap (range_with_len 0) many) h))

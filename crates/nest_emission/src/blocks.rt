@@ -47,11 +47,14 @@ impl Source<'_> {
         ensures { IfOk result (λ b. block_of b ≡ block_of_one (kept_statement (nest_in self.now) number)) }
     {
         let standing = self.statement(number);
+        let mark = self.mark(number, standing.loops.len() + 1);
+        let left = copy_ref(&standing.stmt.left, self.alloc)?;
+        let right = standing.stmt.right.copy(self.alloc)?;
         let assignment = Stmt::Assign {
             line: standing.stmt.line,
-            mark: Some(self.mark(number, standing.loops.len() + 1)),
-            left: copy_ref(&standing.stmt.left, self.alloc)?,
-            right: standing.stmt.right.copy(self.alloc)?,
+            mark: Some(mark),
+            left,
+            right,
         };
         block_of_one(self.alloc, assignment)
     }

@@ -19,9 +19,7 @@ fn is_at_work(level: usize, carried: u8) -> bool
 pub fn joins(level: usize, from: usize, to: usize, edge: &Edge) -> bool
     ensures { result ≡ joins level from to edge.now }
 {
-    edge.from.stmt as usize == from
-        && edge.to.stmt as usize == to
-        && is_at_work(level, edge.level)
+    edge.from.stmt as usize == from && edge.to.stmt as usize == to && is_at_work(level, edge.level)
 }
 
 fn place_of(part: &[usize], statement: usize) -> Option<usize>
