@@ -1,5 +1,5 @@
 -- Blocks put one behind the other, and the pieces that they are.
-use Rattle.std.proofs.Common.{◌≡◌, refl, sym, ap, subst, ◌∙◌, ℕ, suc, ◌+◌, ◌<◌, ◌≤◌, List, [], ◌∷◌, ◌++◌, length, get_or, map, take, Result, Ok, Err, add-one, arith}
+use Rattle.std.proofs.Common.{◌≡◌, refl, sym, ap, subst, ◌∙◌, ℕ, ◌+◌, ◌<◌, ◌≤◌, List, [], ◌∷◌, ◌++◌, length, get_or, map, take, Result, Ok, Err}
 use Rattle.std.specs.Prelude.{IfOk}
 use mathlib.Core.Path.{ap₂}
 use Rattle.std.proofs.lemmas.List.{map-append, take_all, take_more}
@@ -12,11 +12,11 @@ use Rattle.fv_tree.proofs.Equations.{block_of-is, block_of-made}
 use Rattle.components.specs.declared.graphs.Edge.{Edge}
 use Rattle.components.specs.declared.graphs.Hold.{Hold}
 use Rattle.array_form.specs.Statement.{block_of_one}
-use Rattle.emission_pieces.specs.Emission.{AreEmittedFor, HasToTurn, IsEmittedFor, IsLoopOf}
+use Rattle.emission_pieces.specs.Emission.{AreEmittedFor, HasToTurn, IsEmittedFor}
 use Rattle.emission_pieces.specs.Levels.{AreComponents}
 use Rattle.emission_pieces.specs.Pieces.{Piece, Kept, Formed, Turning, Pieces, no_pieces, piece, block_of_piece, block_of_pieces, formed_block, kept_statement, turning_statement}
 use Rattle.nest_tree.specs.Blocks.{block_then}
-use Rattle.nest_tree.specs.Plain.{Loop, Nest}
+use Rattle.nest_tree.specs.Plain.{Nest}
 use Rattle.nest_emission.specs.Blocks.{IsBlockFor, IsBlockForAll, IsBlockInLoop, IsBlockOfPart}
 
 pub weaker : {X E : Type 0} (P Q : X → Type 0) → ((x : X) → P x → Q x) → (r : Result X E) → IfOk r P → IfOk r Q

@@ -1,20 +1,19 @@
 -- The classes of a part at a level: a class is one statement, or one of its statements stands in a loop of the level.
 -- Who comes back to a statement has gone along an edge that this loop or an inner one carries, since all others lead
 -- forward in the text.
-use Rattle.std.proofs.Common.{◌≡◌, ◌⊎◌, inl, inr, refl, sym, ap, subst, ◌∙◌, ℕ, zero, suc, ◌+◌, ◌<◌, ◌≤◌, ◌==◌, Bool, true, false, cond, ◌&&◌, ◌||◌, List, [], ◌∷◌, length, get_or, map, arith}
+use Rattle.std.proofs.Common.{◌≡◌, ◌⊎◌, inl, inr, refl, sym, ap, subst, ℕ, suc, ◌<◌, ◌≤◌, ◌==◌, Bool, true, false, cond, ◌||◌, List, [], ◌∷◌, length, get_or, map, arith}
 use Rattle.std.specs.Prelude.{All, nat_le, slice_index}
-use Rattle.std.specs.List.{concat}
 use Rattle.std.proofs.lemmas.Bool.{leb-true}
 use Rattle.std.proofs.lemmas.Bool.Decides.{Decides-eqb}
 use Rattle.components.specs.Emission.{statements_of}
-use Rattle.components.specs.Lists.{In, Each, Pairwise, Distinct}
+use Rattle.components.specs.Lists.{In, Each, Distinct}
 use Rattle.components.specs.Orders.{IsComponent, IsOrder}
 use Rattle.components.specs.Reachability.{AreMutual, Reaches, Walk}
 use Rattle.components.specs.declared.graphs.Edge.{Edge}
 use Rattle.components.proofs.ClassLaws.{In-concat}
-use Rattle.components.proofs.ListLaws.{Each-In, Each-from}
+use Rattle.components.proofs.ListLaws.{Each-In}
 use Rattle.components.proofs.Walks.{Reaches-trans}
-use Rattle.emission_pieces.specs.Levels.{AreComponents, ArePairsAt, is_at_work, joins, leads}
+use Rattle.emission_pieces.specs.Levels.{AreComponents, ArePairsAt, is_at_work, joins}
 use Rattle.emission_pieces.specs.Nests.{AreEdgesOf, IsEdgeOf, common_of, loops_at}
 use Rattle.emission_pieces.proofs.Lists.{any_in}
 use Rattle.nest_tree.specs.Bodies.{nest_statements}

@@ -2,8 +2,8 @@
 use Rattle.std.proofs.Common.{◌≡◌, inl, inr, refl, sym, ap, subst, ℕ, zero, suc, ◌<◌, List, [], ◌∷◌, ◌++◌, length, get_or, map, arith}
 use Rattle.std.specs.Prelude.{All}
 use Rattle.std.specs.List.{concat}
-use Rattle.components.specs.Lists.{In, Each, Pairwise, Distinct}
-use Rattle.components.proofs.ListLaws.{Each-In, Each-get}
+use Rattle.components.specs.Lists.{In, Each, Distinct}
+use Rattle.components.proofs.ListLaws.{Each-In}
 use Rattle.components.proofs.ClassLaws.{In-concat}
 
 pub get_in : {X : Type 0} (xs : List X) (i : ℕ) (d : X) → i < length xs → In (get_or xs i d) xs

@@ -1,11 +1,11 @@
 -- The pairs of the places of a part's statements.
-use Rattle.std.proofs.Common.{◌≡◌, ◌≢◌, ◌⊎◌, inl, inr, refl, sym, ap, subst, ◌∙◌, ℕ, ◌+◌, ◌<◌, ◌==◌, Bool, true, false, ◌&&◌, ◌||◌, List, [], ◌∷◌, ◌++◌, length, get_or, take, arith}
+use Rattle.std.proofs.Common.{◌≡◌, ◌⊎◌, inl, inr, sym, ap, subst, ◌∙◌, ℕ, ◌+◌, ◌<◌, ◌==◌, true, ◌&&◌, ◌||◌, List, [], ◌∷◌, ◌++◌, length, get_or, take}
 use mathlib.Core.Path.{ap₂}
 use Rattle.std.specs.Prelude.{slice_index}
-use Rattle.std.proofs.lemmas.Bool.{and_parts, both_ways, or_cases, or_left, or_right}
+use Rattle.std.proofs.lemmas.Bool.{and_parts, or_cases, or_left, or_right}
 use Rattle.std.proofs.lemmas.Bool.Decides.{Decides-eqb}
 use Rattle.std.proofs.lemmas.List.Folds.{list_any_more}
-use Rattle.components.specs.Lists.{In, Each, Distinct}
+use Rattle.components.specs.Lists.{In, Distinct}
 use Rattle.components.specs.Reachability.{AreBelow}
 use Rattle.components.specs.declared.graphs.Edge.{Edge}
 use Rattle.components.proofs.ListLaws.{Each-from, In-append, In-left, In-right}

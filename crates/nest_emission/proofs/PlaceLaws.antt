@@ -1,5 +1,5 @@
 -- The classes of a part, by the places of its statements.
-use Rattle.std.proofs.Common.{◌≡◌, sym, ap, subst, ◌∙◌, ℕ, List, length}
+use Rattle.std.proofs.Common.{◌≡◌, ap, subst, ◌∙◌, ℕ, List, length}
 use Rattle.components.specs.Emission.{statements_of}
 use Rattle.components.specs.Orders.{IsOrder}
 use Rattle.components.specs.declared.graphs.Edge.{Edge}

@@ -1,26 +1,22 @@
 -- The loops of a source's statements, and the loop of a class.
-use Rattle.std.proofs.Common.{◌≡◌, ◌⊎◌, inl, inr, refl, sym, ap, subst, ◌∙◌, ℕ, suc, ◌-◌, ◌<◌, ◌≤◌, Bool, true, false, List, [], ◌∷◌, length, get_or, map, Option, Some, arith}
-use Rattle.std.specs.Prelude.{All, slice_get}
+use Rattle.std.proofs.Common.{◌≡◌, inl, inr, sym, ap, subst, ◌∙◌, ℕ, suc, ◌-◌, ◌<◌, ◌≤◌, List, [], ◌∷◌, length, get_or, Some, arith}
+use Rattle.std.specs.Prelude.{slice_get}
 use Rattle.std.specs.Option.{option_map}
-use Rattle.std.proofs.lemmas.List.{get_or-map, length-map}
 use Rattle.std.proofs.lemmas.Option.{slice_get-map}
 use Rattle.components.specs.Lists.{In}
 use Rattle.emission_pieces.specs.Emission.{IsLoopOf}
-use Rattle.emission_pieces.specs.Levels.{may_be_formed}
 use Rattle.emission_pieces.specs.Nests.{loops_at, standing_at}
 use Rattle.nest_tree.specs.Bodies as bodies
 use Rattle.nest_tree.specs.Bodies.{nest_statements}
-use Rattle.nest_tree.specs.Plain.{Loop, Nest}
+use Rattle.nest_tree.specs.Plain.{Nest}
 use Rattle.nest_tree.specs.View.{loop_of}
 use Rattle.nest_tree.specs.declared.parts.Loop.{Loop as Loop'}
 use Rattle.sections.specs.Statements.{no_statement}
-use Rattle.sections.proofs.Asked.{as_many}
 use Rattle.statement_loops.specs.Standings.{standing_of}
 use Rattle.statement_loops.specs.declared.standings.Standing.{Standing}
-use Rattle.nest_emission.specs.Given.{AreInside, HasLoop, HasLoopForms, IsClass, IsSource, IsWay, nest_in}
+use Rattle.nest_emission.specs.Given.{HasLoop, HasLoopForms, IsSource, nest_in}
 use Rattle.nest_emission.specs.declared.source.Source.{Source}
-use Rattle.nest_emission.specs.declared.source.Way.TheVariants.{Turning}
-use Rattle.nest_emission.proofs.Lists.{get_in, in_all}
+use Rattle.nest_emission.proofs.Lists.{get_in}
 
 module _ (source : Source) (h : IsSource source) where
   pub forms_at : (s : ℕ) → s < length (nest_statements (nest_in source)) → HasLoopForms (standing_at (nest_in source) s)

@@ -1,30 +1,22 @@
 -- The statements round what is emitted, and the numbers of all statements.
 use Rattle.std.proofs.Common.{◌≡◌, refl, sym, ap, subst, ◌∙◌, inl, inr, ℕ, zero, suc, ◌+◌, ◌<◌, ◌≤◌, List, [], ◌∷◌, ◌++◌, length, map, arith}
-use Rattle.std.specs.Prelude.{All}
 use Rattle.std.specs.List.{flat_map, range_with_len}
-use Rattle.std.proofs.lemmas.List.{append-nil, map-append, map-id}
+use Rattle.std.proofs.lemmas.List.{map-append, map-id}
 use Rattle.std.proofs.lemmas.List.FromFn.{map-range_with_len_more}
 use Rattle.fv_tree.specs.Plain.{Allocate, Deallocate, Block, Expression, Statement, block, expressions, statement}
-use Rattle.fv_tree.specs.View.{block_of, expression_of, statement_of}
+use Rattle.fv_tree.specs.View.{expression_of, statement_of}
 use Rattle.fv_tree.specs.declared.exprs.Expr.{Expr}
 use Rattle.fv_tree.specs.declared.lists.Seq.{Seq}
-use Rattle.fv_tree.specs.declared.stmts.Block.{Block as Block'}
 use Rattle.fv_tree.specs.declared.stmts.Stmt.{Stmt}
 use Rattle.fv_tree.specs.declared.stmts.Stmt.TheVariants as stmts
 use Rattle.fv_tree.proofs.Equations.{statement_of-allocate, statement_of-deallocate}
 use Rattle.components.specs.Lists.{In, Distinct}
-use Rattle.components.specs.declared.graphs.Edge.{Edge}
-use Rattle.components.specs.declared.graphs.Graph.{Graph}
-use Rattle.components.specs.declared.graphs.Hold.{Hold}
 use Rattle.components.proofs.ListLaws.{Each-from}
-use Rattle.emission_pieces.specs.Emission.{IsEmission}
-use Rattle.emission_pieces.specs.Pieces.{translation}
 use Rattle.nest_tree.specs.Blocks.{allocation_then, allocations_then, block_then, deallocation_then, deallocations}
 use Rattle.nest_tree.specs.Bodies.{nest_statements}
 use Rattle.nest_tree.specs.Plain.{Made, Nest}
 use Rattle.nest_tree.specs.View.{made_of}
 use Rattle.nest_tree.specs.declared.nests.Made.{Made as Made'}
-use Rattle.nest_emission.specs.Blocks.{IsBlockOfPart}
 use Rattle.nest_emission.specs.Given.{AreInside}
 use Rattle.nest_emission.specs.Translations.{allocation, allocation_with, deallocation, deallocation_with, translation_of}
 use Rattle.nest_emission.proofs.BlockLaws.{block-append, then_assoc}
