@@ -8,7 +8,7 @@ use Rattle.fv_tree.specs.View.{block_of, statement_of}
 use Rattle.fv_tree.specs.declared.lists.Memory.{Memory}
 use Rattle.fv_tree.specs.declared.stmts.Block.{Block as Block', out-Block, roll-Block}
 use Rattle.fv_tree.specs.declared.stmts.Stmt.{Stmt}
-use Rattle.fv_tree.proofs.Equations.{block_of-is, block_of-made}
+use Rattle.fv_tree.proofs.Equations.{block_of-is, block_of-made, expression_equations, statement_equations}
 use Rattle.components.specs.declared.graphs.Edge.{Edge}
 use Rattle.components.specs.declared.graphs.Hold.{Hold}
 use Rattle.array_form.specs.Statement.{block_of_one}
@@ -119,3 +119,5 @@ module _ (n : Nest) (edges : List Edge) (holds : List Hold) (k : ℕ) where
       subst (IsBlockOfPart n edges holds k part) (sym (block_of-made made ∙ ap (λ (cs : List Stmt). block (map statement_of cs)) e))
       (of_part part classes (block (map statement_of ss)) h
       (subst (λ cs. IsBlockForAll n edges holds k cs (block (map statement_of ss))) (take_all i items past ∙ same) g))
+
+pub ruleset tree_equations = (statement_equations, expression_equations)

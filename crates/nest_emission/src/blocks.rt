@@ -74,7 +74,7 @@ impl Source<'_> {
     }
 
     // The block in this loop, which goes from 1 by 1.
-    #[tactic(auto, using(fv_tree::proofs::Equations::statement_equations, fv_tree::proofs::Equations::expression_equations))]
+    #[tactic(auto, using(crate::proofs::BlockLaws::tree_equations))]
     fn loop_block(&self, turns: &Loop, body: Block) -> Result<Block, Memory>
         ensures { IfOk result (λ b. block_of b
             ≡ block_of_one (turning_statement (nest_in self.now) (loop_of turns.now) (block_of body))) }
@@ -97,8 +97,8 @@ impl Source<'_> {
         requires from_one { 1 ≤ level }
         requires class { IsClass (nest_in self.now) level class.now }
         requires loop_there { HasLoop (nest_in self.now) level class.now }
-        ensures { IfOk result (λ b. IsBlockInLoop (nest_in self.now) self.now.edges.now self.now.holds.now level class.now
-            (block_of b)) }
+        ensures { IfOk result (λ b. IsBlockInLoop (nest_in self.now) self.now.edges.now self.now.holds.now level
+            class.now (block_of b)) }
     {
         let turns = self.loop_round(level, class);
         let body = self.part_block(level + 1, class)?;
@@ -129,8 +129,8 @@ impl Source<'_> {
         requires level { level ≤ 8 }
         requires once { Distinct part.now }
         requires inside { AreInside (nest_in self.now) part.now }
-        ensures { IfOk result (λ b. IsBlockOfPart (nest_in self.now) self.now.edges.now self.now.holds.now level part.now
-            (block_of b)) }
+        ensures { IfOk result (λ b. IsBlockOfPart (nest_in self.now) self.now.edges.now self.now.holds.now level
+            part.now (block_of b)) }
     {
         let classes = classes_at(self.alloc, part, self.edges, level)?;
         let mut stmts = Vec::new(self.alloc);

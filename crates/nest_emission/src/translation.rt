@@ -101,8 +101,8 @@ fn numbers_below(alloc: Global, count: usize) -> Result<Vec<usize>, Memory>
     Ok(numbers)
 }
 
-/// What is emitted for a nest by its graph and its holds: at each level the classes of its statements one after another,
-/// a statement by itself as it is or in array form, any other class in its loop; each assignment has its mark.
+/// What is emitted for a nest by its graph and its holds: at each level the classes of its statements one after
+/// another, a statement by itself as it is or in array form, any other class in its loop; each assignment has its mark.
 pub fn emit(alloc: Global, nest: &Nest, graph: &Graph, holds: &Seq<Hold>) -> Result<Block, Memory>
     requires { MayBeEmitted (nest_of nest.now) graph.now }
     ensures { IfOk result (λ b. IsEmission (nest_of nest.now) graph.now holds.now (block_of b)) }
