@@ -1,0 +1,4 @@
+pub mod Pairs
+pub mod Given
+pub mod Blocks
+pub mod Translations
