@@ -26,8 +26,6 @@ ghost use Rattle.fv_tool.specs.Running.{GivesRun, GivesFaultedRun, GivesRunPart,
 mod deck;
 mod listing;
 #[cfg(test)]
-mod listing_tests;
-#[cfg(test)]
 mod run_tests;
 mod running;
 #[cfg(test)]
