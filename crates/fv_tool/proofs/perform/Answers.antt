@@ -1,4 +1,4 @@
-use Rattle.fv_command.specs.declared.commands.Command.TheVariants.{Run77}
+use Rattle.fv_command.specs.declared.commands.Command.TheVariants.{Graph, Run77}
 use Rattle.fv_tool.proofs.Worked.{unread, worked_for}
 use Rattle.fv_tool.proofs.perform.Goals as goal
 
@@ -9,3 +9,8 @@ pub returns-clause-ends : goal.returns-clause-ends
 returns-clause-ends g c =
     worked_for (Run77 c.in-Run77.options) c.args.command _ _ _ _ _ c.as_slice-in-Run77.result.now c.in-Ok.bytes.items c.run.result c.in-Run77.is c.as_slice-in-Run77.ensures.value
     c.in-Ok.ensures.whole c.in-Ok.ensures.end c.run.ensures.works
+
+pub returns-in-Graph-clause-ends : goal.returns-in-Graph-clause-ends
+returns-in-Graph-clause-ends g c =
+    worked_for Graph c.args.command _ _ _ _ _ c.as_slice-in-Graph.result.now c.in-Ok.bytes.items c.graph.result c.in-Graph.is c.as_slice-in-Graph.ensures.value
+    c.in-Ok.ensures.whole c.in-Ok.ensures.end c.graph.ensures.works
