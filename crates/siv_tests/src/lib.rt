@@ -2,7 +2,8 @@
 //! PLDI 1991, sections 4.1 and 4.2; Allen and Kennedy, "Optimizing Compilers for Modern Architectures", chapter 3).
 //!
 //! The papers' strong, weak-zero and weak-crossing SIV tests are one here: a pair of one loop is a line over that
-//! loop's two iterations, and the least point of it within the trip is solved for. The word of the answer tells them apart.
+//! loop's two iterations, and the least point of it within the trip is solved for. The word of the answer tells them
+//! apart.
 #![tactic(auto)]
 
 mod siv;
