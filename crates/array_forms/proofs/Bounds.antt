@@ -144,11 +144,14 @@ module _ (d : Dialect) (a : Surroundings) (s : Store) (xs : List ℤ) (few : len
   trip_is l t = counted_by (trip_number l.trip xs) t.least
 
   -- the value of a trip, whether the loop turns or not
-  pub trip_value : (l : Loop) → HasTrip a xs l → value_of d (trip_text (names_of a) l.trip) s ≡ Ok (Int (trip_number l.trip xs))
-  trip_value l t =
-      let size = number_size (length a.loops) l.trip.form xs few t.limits sized in
+  pub text_value : (l : Loop) → is_limited (length a.loops) l.trip.form ≡ true → 1 ≤ l.trip.divisor → value_of d (trip_text (names_of a) l.trip) s ≡ Ok (Int (trip_number l.trip xs))
+  text_value l limits least =
+      let size = number_size (length a.loops) l.trip.form xs few limits sized in
       quotient_known d s l.trip.divisor (number_at l.trip.form xs) (expressed (variables (names_of a)) l.trip.form)
-      (text_has_value d (length a.loops) (variables (names_of a)) l.trip.form s xs few t.limits (names_have d (names_of a) s xs values) sized) t.divisor (omega (arith, size))
+      (text_has_value d (length a.loops) (variables (names_of a)) l.trip.form s xs few limits (names_have d (names_of a) s xs values) sized) least (omega (arith, size))
+
+  pub trip_value : (l : Loop) → HasTrip a xs l → value_of d (trip_text (names_of a) l.trip) s ≡ Ok (Int (trip_number l.trip xs))
+  trip_value l t = text_value l t.limits t.divisor
 
   pub trip_known : (l : Loop) → Turns a xs l → value_of d (trip_text (names_of a) l.trip) s ≡ Ok (Int (pos (count_of xs l)))
   trip_known l t = trip_value l t.trip ∙ ap (λ z. Ok (Int z)) (trip_is l t)

@@ -1,16 +1,16 @@
 mod Rows
-mod Names
-mod Iterations
-mod Coefficients
-mod Bounds
-mod Singles
-mod Axes
-mod Forming
-mod Positions
-mod Values
-mod Orders
-mod Whole
-mod Constructing
-mod Placing
-mod Taking
-mod Tests
+pub mod Names
+pub mod Iterations
+pub mod Coefficients
+pub mod Bounds
+pub mod Singles
+pub mod Axes
+pub mod Forming
+pub mod Positions
+pub mod Values
+pub mod Orders
+pub mod Whole
+pub mod Constructing
+pub mod Placing
+pub mod Taking
+pub mod Tests

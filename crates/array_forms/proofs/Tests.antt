@@ -1,32 +1,33 @@
 -- The IF on the trips: it runs its block where each loop turns; where one doesn't, it passes over it, and there is no
 -- instance.
-use Rattle.std.proofs.Common.{◌≡◌, refl, sym, ap, ◌∙◌, subst, ◌⊎◌, inl, inr, ℕ, zero, suc, ◌+◌, ◌≤◌, ◌==◌, ℤ, pos, negsuc, ◌+ℤ◌, ◌*ℤ◌, int_div, int_le, Bool, true, false, cond, ◌&&◌, List, [], ◌∷◌, ◌++◌, map, flat_map, Result, Ok, None, arith, Contains}
+use Rattle.std.proofs.Common.{◌≡◌, refl, sym, ap, ◌∙◌, subst, ◌⊎◌, inl, inr, ℕ, zero, suc, ◌+◌, ◌≤◌, ◌==◌, ℤ, pos, negsuc, ◌+ℤ◌, ◌*ℤ◌, int_div, int_le, Bool, true, false, cond, ◌&&◌, List, [], ◌∷◌, ◌++◌, map, flat_map, length, Result, Ok, Option, None, arith, Contains}
 use Rattle.std.specs.Ordering.{int_eq}
 use Rattle.std.proofs.lemmas.Bool.{leb-true, le-leb, eqb-true}
 use Rattle.std.proofs.lemmas.Bool.Decides.{Decides-int_eq}
 use Rattle.std.proofs.Math.IntN.{zero-*ℤ, +ℤ_idl}
 use mathlib.Core.Path.{ap₂}
 use Rattle.fv_tree.specs.Operators.{apply, as_truth}
-use Rattle.fv_tree.specs.Plain.{Expression, Number, Binary, Block, If, no_arms, arm, no_statements}
+use Rattle.fv_tree.specs.Plain.{Expression, Number, Binary, Reference, Assignment, Block, If, no_arms, arm, no_statements, statement}
 use Rattle.fv_tree.specs.Steps.{◌>>=◌}
 use Rattle.fv_tree.specs.declared.ops.Fault.{Fault}
 use Rattle.fv_tree.specs.declared.ops.Op.TheVariants.{And, Ge}
 use Rattle.fv_tree.specs.declared.ops.Value.{Value}
 use Rattle.fv_tree.specs.declared.ops.Value.TheVariants.{Int, Truth}
 use Rattle.fv_meaning.specs.ArrayValues.{counted}
+use Rattle.fv_tree.specs.declared.stmts.Mark.{Mark}
 use Rattle.fv_meaning.specs.Dialect.{Dialect}
 use Rattle.fv_meaning.specs.Run.{State, Going, does, does_all, either, answered, while_going, evaluates, counts_step}
 use Rattle.fv_meaning.specs.Sections.{not_negative}
 use Rattle.fv_meaning.specs.Store.{Store}
 use Rattle.fv_meaning.specs.Value.{value_of, truth_of}
 use Rattle.array_laws.proofs.Members.{here, there, nowhere, cases_of}
-use Rattle.linear_forms.specs.Linear.{weighted, number_at, not_zero}
+use Rattle.linear_forms.specs.Linear.{weighted, number_at, not_zero, is_limited}
 use Rattle.array_forms.specs.Forms.{trip_text}
 use Rattle.array_forms.specs.Instances.{count_of, counts_of, in_sequence}
-use Rattle.array_forms.specs.Laws.{HasTrip, Turns, AreKnown}
+use Rattle.array_forms.specs.Laws.{Turns, AreKnown}
 use Rattle.array_forms.specs.Loops.{Loop, Surroundings, names_of, trip_number, is_positive_constant}
-use Rattle.array_forms.specs.Statements.{tests_of, and_all, guarded_by}
-use Rattle.array_forms.proofs.Bounds.{trip_value}
+use Rattle.array_forms.specs.Statements.{tests_of, and_all, guarded_by, loops_from, left_form, right_form, array_form_of}
+use Rattle.array_forms.proofs.Bounds.{text_value}
 use Rattle.linear_forms.proofs.Sizes.{both}
 
 -- ---- tests
@@ -50,14 +51,18 @@ joined_truth d s e b (f ∷ es) (c ∷ cs) h k = joined_truth d s (Binary And e 
 joined_truth d s e b [] (c ∷ cs) h k = absurd k
 joined_truth d s e b (f ∷ es) [] h k = absurd k
 
-test_truths : (d : Dialect) (a : Surroundings) (s : Store) (xs : List ℤ) → AreKnown a s xs → (ls : List Loop) → ((l : Loop) → Contains ls l → HasTrip a xs l) → AreTruths d s (tests_of (names_of a) ls) (truths xs ls)
+-- the trip of a loop has a value, whether it can be counted or not
+abbrev pub HasText : Surroundings → Loop → Type 0
+HasText a l = (is_limited (length a.loops) l.trip.form ≡ true) × (1 ≤ l.trip.divisor)
+
+test_truths : (d : Dialect) (a : Surroundings) (s : Store) (xs : List ℤ) → AreKnown a s xs → (ls : List Loop) → ((l : Loop) → Contains ls l → HasText a l) → AreTruths d s (tests_of (names_of a) ls) (truths xs ls)
 test_truths d a s xs k [] t = tt
 test_truths d a s xs k (l ∷ ls) t = by (is_positive_constant l.trip) (test_truths d a s xs k ls (λ m c. t m (there l ls m c)))
   where
     by : (b : Bool) → AreTruths d s (tests_of (names_of a) ls) (truths xs ls)
         → AreTruths d s (cond b (tests_of (names_of a) ls) (Binary Ge (trip_text (names_of a) l.trip) (Number (pos 1)) ∷ tests_of (names_of a) ls)) (cond b (truths xs ls) (int_le (pos 1) (trip_number l.trip xs) ∷ truths xs ls))
     by true more = more
-    by false more = (ap (λ (r : Result Value Fault). do x ← r; apply Ge x (Int (pos 1))) (trip_value d a s xs k.few k.values k.sized l (t l (here l ls))), more)
+    by false more = (ap (λ (r : Result Value Fault). do x ← r; apply Ge x (Int (pos 1))) (text_value d a s xs k.few k.values k.sized l (t l (here l ls)).0 (t l (here l ls)).1), more)
 
 -- ---- all of them are true
 
@@ -156,7 +161,7 @@ run_by d line (e ∷ es) (b ∷ bs) body s h c =
 
 pub block_done : (d : Dialect) (a : Surroundings) (line : ℕ) (body : Block) (s : State) (xs : List ℤ) → AreKnown a s.store xs → (ls : List Loop) → ((l : Loop) → Contains ls l → Turns a xs l)
     → (n : ℕ) × (does_all d None (guarded_by line (tests_of (names_of a) ls) body) (ready s) ≡ does_all d None body (ready (record s { steps = n })))
-block_done d a line body s xs k ls t = run_by d line (tests_of (names_of a) ls) (truths xs ls) body s (test_truths d a s.store xs k ls (λ l c. (t l c).trip)) (all_true xs ls (λ l c. (t l c).least))
+block_done d a line body s xs k ls t = run_by d line (tests_of (names_of a) ls) (truths xs ls) body s (test_truths d a s.store xs k ls (λ l c. let h = (t l c).trip in (h.limits, h.divisor))) (all_true xs ls (λ l c. (t l c).least))
 
 passed : (d : Dialect) (line : ℕ) (test : Expression) (body : Block) (s : State) → truth_of d test s.store ≡ Ok false
     → does d None (If line (arm test body no_arms) no_statements) (ready s) ≡ ready (record s { steps = s.steps + 1 })
@@ -171,9 +176,17 @@ passed_over d line (e ∷ es) [] body s h c = absurd h
 passed_over d line (e ∷ es) (b ∷ bs) body s h c =
     (s.steps + 1, passed d line (and_all e es) body s (ap (λ (r : Result Value Fault). do x ← r; as_truth x) (joined_truth d s.store e b es bs h.0 h.1) ∙ ap Ok (all_false b bs c)))
 
-pub nothing_done : (d : Dialect) (a : Surroundings) (line : ℕ) (body : Block) (s : State) (xs : List ℤ) → AreKnown a s.store xs → (ls : List Loop) → ((l : Loop) → Contains ls l → HasTrip a xs l) → (l : Loop) → Contains ls l → count_of xs l ≡ 0
+pub nothing_done : (d : Dialect) (a : Surroundings) (line : ℕ) (body : Block) (s : State) (xs : List ℤ) → AreKnown a s.store xs → (ls : List Loop) → ((l : Loop) → Contains ls l → HasText a l) → (l : Loop) → Contains ls l → count_of xs l ≡ 0
     → (n : ℕ) × (does_all d None (guarded_by line (tests_of (names_of a) ls) body) (ready s) ≡ ready (record s { steps = n }))
 nothing_done d a line body s xs k ls t l c h = passed_over d line (tests_of (names_of a) ls) (truths xs ls) body s (test_truths d a s.store xs k ls t) (has_false xs ls l c h)
+
+-- where a loop doesn't turn, an array form stores nothing, whether the other trips can be counted or not
+pub form_passes : (d : Dialect) (a : Surroundings) (k line : ℕ) (mark : Option Mark) (left : Reference) (right : Expression) (s : State) (xs : List ℤ) → s.way ≡ Going → AreKnown a s.store xs
+    → ((l : Loop) → Contains (loops_from a k) l → HasText a l) → (l : Loop) → Contains (loops_from a k) l → count_of xs l ≡ 0
+    → (n : ℕ) × (does_all d None (array_form_of a k line mark left right) s ≡ record s { steps = n })
+form_passes d a k line mark left right s xs going known texts l c none =
+    let r = nothing_done d a line (statement (Assignment line mark (left_form a k left) (right_form a k left right)) no_statements) s xs known (loops_from a k) texts l c none in
+    (r.0, subst (λ (v : State). does_all d None (array_form_of a k line mark left right) v ≡ record v { steps = r.0 }) (λ i. let v : State = record s { way = sym going i } in v) r.1)
 
 -- ---- and there is no instance
 

@@ -527,6 +527,6 @@ array_form_stores_instances a k line mark left right s t xs going known trips so
         let r = stores_instances a k line mark s t xs known (λ l c. record { trip = trips l c; least = turn l c }) some left right no_hold moved regular none run in
         at_going t refl r.0 r.1
     by (inr one) =
-        let r = nothing_done fortran90 a line (statement (Assignment line mark (left_form a k left) (right_form a k left right)) no_statements) s xs known (loops_from a k) trips one.0 one.1 one.2 in
+        let r = nothing_done fortran90 a line (statement (Assignment line mark (left_form a k left) (right_form a k left right)) no_statements) s xs known (loops_from a k) (λ l c. let h = trips l c in (h.limits, h.divisor)) one.0 one.1 one.2 in
         let stays = ap (λ iss. in_turn (map (instance_at fortran90 (loops_from a k) left right) iss) s.store) (sym (no_sequence xs (loops_from a k) one.0 one.1 one.2)) ∙ run in
         at_going s.store (same_answer s.store t stays) r.0 r.1

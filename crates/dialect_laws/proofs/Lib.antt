@@ -1,5 +1,5 @@
-mod Values
-mod Acts
+pub mod Values
+pub mod Acts
 pub mod Runs
-mod NamesIn
-mod MadeNames
+pub mod NamesIn
+pub mod MadeNames

@@ -48,7 +48,7 @@ opening_value_by (d ∷ ds) x = by (bytes_eq d.name x) (opening_value_by ds x)
     by false more = more
 
 -- a name that is declared is found
-is_declared : (ds : List Declaration) (x : List ℕ) → Contains (map (λ (d : Declaration). d.name) ds) x → (d : Declaration) × (declared ds x ≡ Some d)
+pub is_declared : (ds : List Declaration) (x : List ℕ) → Contains (map (λ (d : Declaration). d.name) ds) x → (d : Declaration) × (declared ds x ≡ Some d)
 is_declared [] x c = absurd (nowhere x c)
 is_declared (d ∷ ds) x c = by (bytes_eq d.name x) refl (is_declared ds x) (cases_of d.name (map (λ (d : Declaration). d.name) ds) x c)
   where
@@ -71,7 +71,7 @@ module _ (p : Program) (es : List Declaration) (add : AddMadeNames p.declaration
   one_value : (x : List ℕ) → Contains (names_of p) x → opening_value p.declarations x ≡ opening_value es x
   one_value x c = opening_value_by p.declarations x ∙ (ap value_by (one_declaration x c) ∙ sym (opening_value_by es x))
 
-  opening_agrees : Agree p (opening_store p) (opening_store q)
+  pub opening_agrees : Agree p (opening_store p) (opening_store q)
   opening_agrees = record {
     bounds = one_bound;
     held = λ c n i. one_value c.name n;

@@ -21,7 +21,7 @@ joined P (x ∷ xs) ys h k = (h.0, joined P xs ys h.1 k)
 abbrev names : List Declaration → List (List ℕ)
 names ds = map (λ (d : Declaration). d.name) ds
 
-among : (ds : List Declaration) (x : List ℕ) (Q : Declaration → Type 0) → IsSomeAnd (declared ds x) Q → Contains (names ds) x
+pub among : (ds : List Declaration) (x : List ℕ) (Q : Declaration → Type 0) → IsSomeAnd (declared ds x) Q → Contains (names ds) x
 among [] x Q h = absurd h
 among (d ∷ ds) x Q h = by (bytes_eq d.name x) refl (among ds x Q) h
   where
@@ -37,7 +37,7 @@ module _ (ds : List Declaration) where
   both = joined (Contains (names ds))
 
   mutual
-    expression_known : (e : Expression) (k : Kind) → HasKind ds e k → Known (names_in e)
+    pub expression_known : (e : Expression) (k : Kind) → HasKind ds e k → Known (names_in e)
     expression_known (Number n) k h = tt
     expression_known (Logic b) k h = tt
     expression_known (Named x ps) k h = (among ds x _ h.0, subscripts_known ps h.1)
@@ -128,7 +128,7 @@ module _ (ds : List Declaration) where
   assignment_known x ps right (Some d) h = (among ds x _ h.0.suits.0, both (names_in_subscripts ps) (names_in right) (subscripts_known ps h.0.suits.1) (expression_known right d.kind h.1.suits))
 
   mutual
-    statement_known : (c : Statement) (w : Surroundings) → IsStatement ds c w → Known (names_in_statement c)
+    pub statement_known : (c : Statement) (w : Surroundings) → IsStatement ds c w → Known (names_in_statement c)
     statement_known (Assignment line m left right) w h = assignment_known left.name left.subscripts right (declared ds left.name) h.2.0
     statement_known (If line arms other) w h = both (names_in_arms arms) (names_in_block other) (arms_known arms w h.2) (block_known other w h.3)
     statement_known (Do line x a b c body) w h = loop_known x w.variables a b c (names_in_block body) h.1 h.2.suits h.3.suits h.4.suits (block_known body (within_loop x w) h.5)

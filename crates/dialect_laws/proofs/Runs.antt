@@ -180,7 +180,7 @@ module _ (n : ℕ) (limit : Option ℕ) (ds : List Declaration) (fixed : AllFixe
     Same-chooses line (arm test body arms) w f g p h = Same-counts_step bs n limit _ _ (Same-evaluates bs line (truth_of scalars test) (truth_of arrays test) _ _
         (λ s b. ap (λ r. do x ← r; as_truth x) (value_same n ds test Logical p.0.suits s)) (λ b. Same-either bs b (Same-does_all body w p.1) (Same-chooses line arms w f g p.2 h)))
 
-    Same-does_all : (cs : Block) (w : Surroundings) → IsBlock ds cs w → Same bs (does_all scalars limit cs) (does_all arrays limit cs)
+    pub Same-does_all : (cs : Block) (w : Surroundings) → IsBlock ds cs w → Same bs (does_all scalars limit cs) (does_all arrays limit cs)
     Same-does_all no_statements w h = Same-nothing bs
     Same-does_all (statement c cs) w h = Same-then bs _ _ _ _ (Same-does c (before_labels (labels_of cs) w) h.0) (Same-does_all cs w h.1)
 
