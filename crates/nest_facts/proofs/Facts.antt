@@ -34,7 +34,7 @@ use Rattle.nest_runs.proofs.Going.{trip_bounded}
 use Rattle.nest_runs.proofs.Holding.{HoldsProgram-put, nth-In, some_map, effect_stored, named_cell}
 use Rattle.nest_runs.proofs.Results.{both_ok, ok_same}
 use Rattle.nest_runs.proofs.Loops.{outer_loop}
-use Rattle.nest_runs.proofs.Variables.{var, bounds_there, put_there}
+use Rattle.nest_runs.proofs.Variables.{Within-length, var, bounds_there, put_there}
 use Rattle.profile_laws.proofs.ValueKinds.{value_has_kind}
 use Rattle.nest_facts.specs.Facts.{values_from, places_of, number_by, counted, HasTrip, HasFacts, FactsSuffice}
 
@@ -240,7 +240,7 @@ module _ (bits : ℕ) (n : Nest) (w : Setting) (facts : HasFacts bits n w) where
       let sized = places_sized before t small in
       let d = facts.trips round l lies in
       let number : z ≡ d.0 (places_of w.values n.symbols before) = by have sized d.0 d.1 in
-      counted_is z k (count_from_one z k count) (trip_bounded z k count) ∙ (ap counted number ∙ sym (d.2 before))
+      counted_is z k (count_from_one z k count) (trip_bounded z k count) ∙ (ap counted number ∙ sym (d.2 before (sym (Within-length turns [] round before v))))
     where
       -- the value of an expression with a linear form
       of_form : HaveValues (map n.variable_at round ++ n.symbols) t (places_of w.values n.symbols before) → AreSized (places_of w.values n.symbols before) → (a : Expression) (f : Form) (x : Value) → form_of (map n.variable_at round) n.symbols a ≡ Some f → value_of (sequential bits) a t ≡ Ok x

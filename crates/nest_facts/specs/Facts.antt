@@ -1,7 +1,7 @@
 -- What can be seen of a nest without running it: the linear forms of its subscripts and trips, and the kinds of its
 -- statements.
 use Rattle.std.specs.Prelude.{◌≡◌, ◌⊎◌, ℕ, suc, ◌^◌, ◌≤◌, nat_le, ℤ, pos, negsuc, nat_abs, int_div, Option, Some}
-use Rattle.std.specs.Prelude.{None, IfSome, if◌then◌else◌, List, [], ◌∷◌, ◌++◌, map}
+use Rattle.std.specs.Prelude.{None, IfSome, if◌then◌else◌, List, [], ◌∷◌, ◌++◌, map, length}
 use Rattle.fv_tree.specs.Plain.{Expression, Number, Binary, Declaration}
 use Rattle.fv_tree.specs.declared.ops.Kind.{Kind}
 use Rattle.fv_tree.specs.declared.ops.Kind.TheVariants.{Integer}
@@ -64,7 +64,8 @@ pub record HasFacts (bits : ℕ) (n : Nest) (w : Setting) : Type 0 where
       → n.linear s e ≡ number_by n.symbols (form_of (variables_round n s) n.symbols e)
   pub trips : (round : List ℕ) (l : ℕ) → LoopStands n.shape round l
       → (z : List ℤ → ℤ) × HasTrip (map n.variable_at round) n.symbols (n.trip_at l) z
-      × ((before : List ℕ) → n.turns_of w.values l before ≡ counted (z (places_of w.values n.symbols before)))
+      × ((before : List ℕ) → length before ≡ length round
+      → n.turns_of w.values l before ≡ counted (z (places_of w.values n.symbols before)))
   pub bounded : (l : ℕ) (before : List ℕ) → In l (loops n.shape) → n.turns_of w.values l before ≤ 2147483646
 
 -- a nest with these facts is one of which runs and orders have their laws

@@ -1,0 +1,12 @@
+pub mod LoneShapes
+pub mod WrittenTables
+pub mod WrittenPieces
+pub mod FormsComposed
+pub mod FormsCounted
+pub mod FormsGiven
+pub mod FormsLimits
+pub mod FormsLone
+pub mod FormsShapes
+pub mod FormsTurns
+pub mod OwnEdges
+pub mod Surroundings

@@ -1,0 +1,9 @@
+pub mod Lists
+pub mod Counters
+pub mod Symbols
+pub mod PlainNames
+pub mod Sound
+pub mod Numbers
+pub mod Walk
+pub mod FoundSources
+pub mod PlainNests

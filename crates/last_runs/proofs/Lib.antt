@@ -1,0 +1,13 @@
+pub mod Loops
+pub mod Pieces
+pub mod Stores
+pub mod Sources
+pub mod Forms
+pub mod LastNumbers
+pub mod Listed
+pub mod Made
+pub mod LeftNames
+pub mod Texts
+pub mod Endings
+pub mod Behind
+pub mod LastValues

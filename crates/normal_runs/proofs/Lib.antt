@@ -1,0 +1,12 @@
+pub mod Running
+pub mod Held
+pub mod Numbers
+pub mod Stores
+pub mod Names
+pub mod Moments
+pub mod Turns
+pub mod Trips
+pub mod Places
+pub mod Statements
+pub mod OneLoop
+pub mod Body

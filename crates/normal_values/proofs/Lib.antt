@@ -1,0 +1,14 @@
+pub mod Replaced
+pub mod Mixed
+pub mod Points
+pub mod Affine
+pub mod Combined
+pub mod Steps
+pub mod Forms
+pub mod ValueTexts
+pub mod Counters
+pub mod Chains
+pub mod Statements
+pub mod Quotients
+pub mod Bounds
+pub mod LastValues

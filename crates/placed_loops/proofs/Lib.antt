@@ -1,0 +1,4 @@
+pub mod Passing
+pub mod Steady
+pub mod Beside
+pub mod Placing
