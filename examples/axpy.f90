@@ -6,9 +6,9 @@ INTEGER :: X(6)
 INTEGER :: Y(6)
 INTEGER :: Z(6)
 READ *, A, X, Y
-DO I = 1, 6
-Z(I) = A * X(I) + Y(I)
-END DO
+!S 1 1 1
+Z(1:6) = A * X(1:6) + Y(1:6)
+I = 7
 PRINT *, Z
 END
 !DATA

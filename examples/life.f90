@@ -7,20 +7,19 @@ INTEGER :: J
 INTEGER :: NEAR(6, 6)
 CELL(1, 2) = 1
 CELL(2, 3) = 1
-DO J = 1, 3
-CELL(3, J) = 1
-END DO
+!S 1 1 1
+CELL(3, 1:3) = 1
+J = 4
 DO IGEN = 0, 4
 PRINT *, 'GENERATION', IGEN
 DO I = 1, 6
 PRINT *, (CELL(I, J), J = 1, 6)
 END DO
-DO J = 1, 6
-DO I = 1, 6
-NEAR(I, J) = CELL(I - 1, J - 1) + CELL(I - 1, J) + CELL(I - 1, J + 1) + CELL(I, J - 1) + CELL(I, J + 1) + CELL(I + 1, J - 1) + CEL&
-&L(I + 1, J) + CELL(I + 1, J + 1)
-END DO
-END DO
+!S 2 1 1
+NEAR(1:6, 1:6) = CELL(0:5, 0:5) + CELL(0:5, 1:6) + CELL(0:5, 2:7) + CELL(1:6, 0:5) + CELL(1:6, 2:7) + CELL(2:7, 0:5) + CELL(2:7, 1&
+&:6) + CELL(2:7, 2:7)
+J = 7
+I = 7
 DO J = 1, 6
 DO I = 1, 6
 IF (NEAR(I, J) == 3) THEN

@@ -3,18 +3,25 @@ IMPLICIT NONE
 INTEGER :: A(3, 4)
 INTEGER :: B(4, 2)
 INTEGER :: C(3, 2)
+INTEGER :: FV_LOOP_1
+INTEGER :: FV_LOOP_2
+INTEGER :: FV_LOOP_3
 INTEGER :: I
 INTEGER :: J
 INTEGER :: K
 READ *, ((A(I, K), K = 1, 4), I = 1, 3)
 READ *, ((B(K, J), J = 1, 2), K = 1, 4)
-DO I = 1, 3
-DO J = 1, 2
-DO K = 1, 4
-C(I, J) = C(I, J) + A(I, K) * B(K, J)
+DO FV_LOOP_1 = 1, 3
+DO FV_LOOP_2 = 1, 2
+DO FV_LOOP_3 = 1, 4
+!S 1 1 4
+C(FV_LOOP_1, FV_LOOP_2) = C(FV_LOOP_1, FV_LOOP_2) + A(FV_LOOP_1, FV_LOOP_3) * B(FV_LOOP_3, FV_LOOP_2)
 END DO
 END DO
 END DO
+I = 4
+J = 3
+K = 5
 DO I = 1, 3
 PRINT *, (C(I, J), J = 1, 2)
 END DO

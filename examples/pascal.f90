@@ -6,9 +6,14 @@ INTEGER :: ROW(0:10)
 ROW(0) = 1
 PRINT *, ROW(0)
 DO I = 1, 10
-DO J = I, 1, -1
-ROW(J) = ROW(J) + ROW(J - 1)
-END DO
+IF (I >= 1) THEN
+!S 1 1 1
+ROW(I:1:-1) = ROW(I:1:-1) + ROW(I - 1:0:-1)
+END IF
+J = I
+IF (I >= 1) THEN
+J = 0
+END IF
 PRINT *, (ROW(J), J = 0, I)
 END DO
 END

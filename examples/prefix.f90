@@ -1,15 +1,20 @@
 PROGRAM PREFIX
 IMPLICIT NONE
 INTEGER :: A(10)
+INTEGER :: FV_LOOP_1
+INTEGER :: FV_LOOP_2
 INTEGER :: I
 INTEGER :: S(0:10)
-DO I = 1, 10
-A(I) = I * I * (-1) ** I
-END DO
+!S 1 1 1
+A(1:10) = (/ (FV_LOOP_1, FV_LOOP_1 = 1, 10) /) * (/ (FV_LOOP_1, FV_LOOP_1 = 1, 10) /) * (-1) ** (/ (FV_LOOP_1, FV_LOOP_1 = 1, 10) &
+&/)
+I = 11
 S(0) = 0
-DO I = 1, 10
-S(I) = S(I - 1) + A(I)
+DO FV_LOOP_2 = 1, 10
+!S 2 1 2
+S(FV_LOOP_2) = S(FV_LOOP_2 - 1) + A(FV_LOOP_2)
 END DO
+I = 11
 PRINT *, A
 PRINT *, S
 PRINT *, 'FROM THE FOURTH TO THE SEVENTH:', S(7) - S(3)

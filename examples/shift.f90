@@ -3,9 +3,9 @@ IMPLICIT NONE
 INTEGER :: A(8)
 INTEGER :: I
 READ *, A
-DO I = 1, 8 - 1
-A(I) = A(I + 1)
-END DO
+!S 1 1 1
+A(1:7) = A(2:8)
+I = 8
 PRINT *, A
 END
 !DATA

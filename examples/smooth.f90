@@ -2,17 +2,19 @@ PROGRAM SMOOTH
 IMPLICIT NONE
 INTEGER :: A(0:9)
 INTEGER :: B(8)
+INTEGER :: FV_LOOP_1
 INTEGER :: I
 INTEGER :: K
 READ *, (A(I), I = 1, 8)
-DO K = 1, 3
-DO I = 1, 8
-B(I) = (A(I - 1) + 2 * A(I) + A(I + 1)) / 4
+DO FV_LOOP_1 = 1, 3
+!S 1 1 2
+B(1:8) = (A(0:7) + 2 * A(1:8) + A(2:9)) / 4
+!S 1 2 2
+A(1:8) = B(1:8)
 END DO
-DO I = 1, 8
-A(I) = B(I)
-END DO
-END DO
+K = 4
+I = 9
+I = 9
 PRINT *, (A(I), I = 1, 8)
 END
 !DATA

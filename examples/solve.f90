@@ -1,15 +1,20 @@
 PROGRAM SOLVE
 IMPLICIT NONE
 INTEGER :: B(4)
+INTEGER :: FV_LOOP_1
+INTEGER :: FV_LOOP_2
 INTEGER :: I
 INTEGER :: J
 INTEGER :: L(4, 4)
 READ *, ((L(I, J), J = 1, 4), I = 1, 4), B
-DO I = 2, 4
-DO J = 1, I - 1
-B(I) = B(I) - L(I, J) * B(J)
+DO FV_LOOP_1 = 1, 3
+DO FV_LOOP_2 = 1, FV_LOOP_1
+!S 1 1 3
+B(FV_LOOP_1 + 1) = B(FV_LOOP_1 + 1) - L(FV_LOOP_1 + 1, FV_LOOP_2) * B(FV_LOOP_2)
 END DO
 END DO
+I = 5
+J = 4
 PRINT *, B
 END
 !DATA

@@ -1,13 +1,14 @@
 PROGRAM TABLE
 IMPLICIT NONE
+INTEGER :: FV_LOOP_1
+INTEGER :: FV_LOOP_2
 INTEGER :: I
 INTEGER :: J
 INTEGER :: T(6, 6)
-DO J = 1, 6
-DO I = 1, 6
-T(I, J) = I * J
-END DO
-END DO
+!S 1 1 1
+T(1:6, 1:6) = SPREAD((/ (FV_LOOP_2, FV_LOOP_2 = 1, 6) /), 2, 6) * SPREAD((/ (FV_LOOP_1, FV_LOOP_1 = 1, 6) /), 1, 6)
+J = 7
+I = 7
 PRINT *, 'PRODUCTS UP TO', 6
 PRINT *, 'TIMES', (J, J = 1, 6)
 DO I = 1, 6

@@ -1,13 +1,13 @@
--- A deck that is read has its printing as a translation.
-use Rattle.std.proofs.Common.{◌≡◌, Bool, true, false, List, [], ◌++◌, ℕ, refl, ap, sym, ◌∙◌, subst, arith, append-nil}
+-- What a deck that is read is translated to is a translation of it.
+use Rattle.std.proofs.Common.{◌≡◌, Bool, true, false, List, [], ◌++◌, ℕ, refl, ap, sym, ◌∙◌, subst, arith, append-nil, inl, inr}
 use Rattle.std.specs.Prelude.{None, flat_map}
 use Rattle.std.specs.List.{AllByRecursion}
 use Rattle.fv_tree.specs.Plain.{Program}
 use Rattle.fv_meaning.specs.Deck.{source_of, input_of, has_data, data_line77, data_line90}
-use Rattle.fv_meaning.specs.Sequential.{sequential_run}
+use Rattle.fv_meaning.specs.Sequential.{sequential_run, EndsWell}
 use Rattle.fv_meaning.specs.Dialect.{fortran77, fortran90}
-use Rattle.fv_meaning.specs.Store.{nought_like}
-use Rattle.fv_meaning.specs.Run.{State, run}
+use Rattle.fv_meaning.specs.Store.{Store, Agree}
+use Rattle.fv_meaning.specs.Run.{State}
 use Rattle.fv_meaning.specs.Array.{array_run}
 use Rattle.fv_meaning.specs.Relined.{SameButLines, AlikeButLine}
 use Rattle.fv_meaning.specs.Profile77.{IsProgram77}
@@ -24,23 +24,40 @@ use Rattle.fv_tool.proofs.SourceLines.{program_lines_are_source}
 use Rattle.fv_deck.proofs.Written.{IsSourceLine, source_alone, input_alone, source_before_data, input_after_data, no_input}
 use Rattle.fv_command.specs.declared.commands.Command.TheVariants.{Vectorise}
 use Rattle.fv_tool.specs.Decks.{IsReadAs}
-use Rattle.fv_tool.specs.Translation.{data_part, translation_text}
-use Rattle.fv_tool.specs.Headline.{Preserves, TranslationHolds}
+use Rattle.placed_loops.specs.Laws.{KeepsMeaning}
+use Rattle.program_translation.specs.Translated.{IsGoodTranslation}
+use Rattle.program_translation.proofs.Good.{translation_is_good}
+use Rattle.f90_translation.specs.Translated.{IsTranslated}
+use Rattle.fv_tool.specs.Translation.{data_part, IsTranslationText}
+use Rattle.fv_tool.specs.Headline.{TranslationHolds}
 
-preserved : (p q : Program) (input : List ℕ) → SameButLines p q → sequential_run p input ≡ run fortran90 None p input → Preserves p q input
-preserved p q input same one =
-    let alike : AlikeButLine (sequential_run p input) (array_run q input) =
-    subst (λ (s : State). AlikeButLine s (array_run q input)) (sym one) (relined fortran90 None p q input same)
-    in
+-- a program keeps the meaning of another one where it is read with other line numbers, too
+relined_keeps : (p q r : Program) (input : List ℕ) → SameButLines q r → KeepsMeaning p q input → KeepsMeaning p r input
+relined_keeps p q r input same keeps =
+    let alike : AlikeButLine (array_run q input) (array_run r input) = relined fortran90 None q r input same in
     record {
-      ends = relined_ends_well (sequential_run p input) (array_run q input) alike;
-      output = λ _. alike.written;
-      store = λ _. record {
-        bounds = λ x _. ap (λ s. s.bounds x) alike.store;
-        held = λ c _ _. ap (λ s. s.held c) alike.store;
-        kinds = λ c _. ap (λ s. nought_like (s.held c)) alike.store;
-      };
+      ends = λ well. relined_ends_well (array_run q input) (array_run r input) alike (keeps.ends well);
+      output = λ well. keeps.output well ∙ alike.written;
+      store = λ well. subst (Agree p (sequential_run p input).store) alike.store (keeps.store well);
     }
+
+same_store_agrees : (p : Program) (s : Store) → Agree p s s
+same_store_agrees p s = record { bounds = λ x _. refl; held = λ c _ _. refl; kinds = λ c _. refl }
+
+-- a program of FORTRAN 77 keeps its own meaning as one of Fortran 90
+keeps_itself : (p : Program) (input : List ℕ) → IsProgram77 fortran77 p → KeepsMeaning p p input
+keeps_itself p input source =
+    let one : sequential_run p input ≡ array_run p input = sequential_run_is_array_run fortran77 p input source in
+    record {
+      ends = λ well. subst EndsWell one well;
+      output = λ _. ap (λ (s : State). s.written) one;
+      store = λ _. subst (λ (s : State). Agree p (sequential_run p input).store s.store) one (same_store_agrees p (sequential_run p input).store);
+    }
+
+translated_is_good : (p q : Program) → IsProgram77 fortran77 p → IsTranslated p q → IsGoodTranslation p q
+translated_is_good p q source (inl full) = translation_is_good p q source full.translation full.limits
+translated_is_good p q source (inr stayed) =
+    subst (IsGoodTranslation p) (sym stayed.same) (record { program = source_is_target fortran77 p (omega arith) source; keeps = λ input. keeps_itself p input source })
 
 -- the text is read back where the program stands alone
 module _ (ls : List (List ℕ)) (plain : AllByRecursion IsSourceLine ls) where
@@ -52,21 +69,23 @@ module _ (ls : List (List ℕ)) (plain : AllByRecursion IsSourceLine ls) where
   input_behind false input none = input_alone ls plain ∙ sym (none refl)
   input_behind true input none = input_after_data ls input plain
 
-pub holds : (deck : List ℕ) (p : Program) → IsReadAs Vectorise deck p → TranslationHolds deck (translation_text deck p)
-holds deck p h =
+pub holds : (deck text : List ℕ) (p : Program) → IsReadAs Vectorise deck p → IsTranslationText p (has_data data_line77 deck) (input_of data_line77 deck) text → TranslationHolds deck text
+holds deck text p h written =
     let source : IsProgram77 fortran77 p = read_is_source_program fortran77 (source_of data_line77 deck) h.reads.source.cards p (omega arith) h.reads.source.are_cards h.reads.source.program in
-    let target : IsProgram90 p = source_is_target fortran77 p (omega arith) source in
-    let ls : List (List ℕ) = program_lines p [] in
-    let back : IsTextOf p (flat_map with_line_feed ls) = printed_is_read p [] target tt in
-    let plain : AllByRecursion IsSourceLine ls = program_lines_are_source p [] target tt in
+    let q : Program = written.translated in
+    let good : IsGoodTranslation p q = translated_is_good p q source written.is in
+    let ls : List (List ℕ) = program_lines q [] in
+    let back : IsTextOf q (flat_map with_line_feed ls) = printed_is_read q [] good.program tt in
+    let plain : AllByRecursion IsSourceLine ls = program_lines_are_source q [] good.program tt in
     let there : Bool = has_data data_line77 deck in
     let input : List ℕ = input_of data_line77 deck in
-    let read : IsTextOf p (source_of data_line90 (translation_text deck p)) = subst (IsTextOf p) (sym (source_behind ls plain there input)) back in
+    let read : IsTextOf q (source_of data_line90 text) =
+    subst (IsTextOf q) (sym (ap (source_of data_line90) written.printed ∙ source_behind ls plain there input)) back in
     record {
       program = p;
       read = h;
-      printed = refl;
+      written = written;
       read_back = read;
-      input = input_behind ls plain there input (no_input data_line77 deck);
-      preserves = preserved p read.program input (same_but_lines p read.program read.same) (sequential_run_is_array_run fortran77 p input source);
+      input = ap (input_of data_line90) written.printed ∙ input_behind ls plain there input (no_input data_line77 deck);
+      keeps = relined_keeps p q read.program input (same_but_lines q read.program read.same) (good.keeps input);
     }

@@ -27,7 +27,7 @@ use Rattle.program_listing.specs.Listing.{IsListingText}
 use Rattle.fv_tool.specs.Decks.{IsReadAs, IsRefusedFor, ReadsDeck77, RefusedDeck77}
 use Rattle.fv_tool.specs.Decks.RefusedDeck77.{TooLong, OfSource}
 use Rattle.fv_tool.specs.Endings.{HasText, ending_of}
-use Rattle.fv_tool.specs.Translation.{data_part, translation_text}
+use Rattle.fv_tool.specs.Translation.{data_part, IsTranslationText}
 use Rattle.fv_tool.specs.Unread.{outcome_for}
 use Rattle.fv_tool.specs.Running.{run_of, run_text}
 use Rattle.fv_tool.specs.Works.{Writing, Works, Comes, ComesFor}
@@ -139,15 +139,18 @@ pub record IsTextFor (c : Command) (deck text : List ℕ) : Type 0 where
 pub translated : (deck source : List ℕ) (input : Option (List ℕ)) (o : Result Program77 Refused) (p : Program77) (text items : List ℕ) → length deck ≤ 2 ^ 24
     → source ≡ source_of data_line77 deck → bytes_in input ≡ input_of data_line77 deck → is_there input ≡ has_data data_line77 deck
     → o ≡ Ok p → Reads77 fortran77 source (program_of p) → OnlyReads source o → OnlyRefuses source o
-    → items ≡ printed90 (program_of p) [] ++ data_part (is_there input) (bytes_in input) → text ≡ items
+    → IsTranslationText (program_of p) (is_there input) (bytes_in input) items → text ≡ items
     → IsTextFor Vectorise deck text
-translated deck source input o p text items within at after there e reads only_reads only_refuses printed same = record {
+translated deck source input o p text items within at after there e reads only_reads only_refuses written same = record {
   program = program_of p;
   read = read_as Vectorise deck o p within e (subst (λ (t : List ℕ). Reads77 fortran77 t (program_of p)) at reads) (subst (λ (t : List ℕ). OnlyReads t o) at only_reads)
       (subst (λ (t : List ℕ). OnlyRefuses t o) at only_refuses);
   ends = refl;
-  has_text = same ∙ printed
-      ∙ ap₂ (λ b t. printed90 (program_of p) [] ++ data_part b t) there after;
+  has_text = record {
+    translated = written.translated;
+    is = written.is;
+    printed = same ∙ written.printed ∙ ap₂ (λ b t. printed90 written.translated [] ++ data_part b t) there after;
+  };
 }
 
 pub listed : (deck source : List ℕ) (o : Result Program77 Refused) (p : Program77) (text items : List ℕ) → length deck ≤ 2 ^ 24

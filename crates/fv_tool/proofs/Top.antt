@@ -142,11 +142,11 @@ never_done k c OutOfMemory s e h = always c.left_before (λ deck r refused still
 
 translation : (before now : Option (List ℕ)) (deck : List ℕ) → GivesAll Vectorise end.Done before now deck → GivesTranslation before now deck
 translation before now deck g =
-    (_, holds deck g.program g.read, subst (λ (t : List ℕ). Gives before t now) g.has_text g.given)
+    (g.text, holds deck g.text g.program g.read g.has_text, g.given)
 
 translation_part : (before now : Option (List ℕ)) (deck : List ℕ) → GivesFront Vectorise before now deck → GivesTranslationPart before now deck
 translation_part before now deck g =
-    (_, holds deck g.program g.read, subst (λ (t : List ℕ). GivesPart before t now) g.has_text g.given)
+    (g.text, holds deck g.text g.program g.read g.has_text, g.given)
 
 listed_as : (deck text : List ℕ) (p : Program) → IsReadAs Graph deck p → IsListingText p text → IsListingOf deck text
 listed_as deck text p read listing = record { program = p; read = read; listing = listing }

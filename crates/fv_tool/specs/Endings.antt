@@ -3,6 +3,7 @@ use Rattle.std.specs.Prelude.{ℕ, ◌^◌, ◌≡◌, ◌⊎◌, Bool, true, fa
 use Rattle.std.specs.Io.KnownBytes.{IsAtEnd}
 use Rattle.fv_tree.specs.declared.refusals.Refusal.{Refusal}
 use Rattle.fv_tree.specs.Plain.{Program}
+use Rattle.fv_meaning.specs.Deck.{has_data, input_of, data_line77}
 use Rattle.fv_meaning.specs.Sequential.{ending}
 use Rattle.fv_meaning.specs.declared.End.{End}
 use Rattle.fv_meaning.specs.declared.End.TheVariants as end
@@ -16,7 +17,7 @@ use Rattle.fv_report.specs.declared.outcome.Outcome.TheVariants.{WriteFault, Out
 use Rattle.program_listing.specs.Listing.{IsListingText}
 use Rattle.fv_tool.specs.Decks.{IsRefused, IsReadAs, IsRefusedFor}
 use Rattle.fv_tool.specs.Running.{run_of, run_text}
-use Rattle.fv_tool.specs.Translation.{translation_text}
+use Rattle.fv_tool.specs.Translation.{IsTranslationText}
 
 -- the bytes left in the deck, the bytes in the sink, and both counts of faults, before the call and after it
 pub record Call : Type 0 where
@@ -49,9 +50,9 @@ ending_of Vectorise deck p = Some end.Done
 ending_of Graph deck p = Some end.Done
 ending_of (Run77 options) deck p = ending (run_of options deck p)
 
--- a text that it may write: a translation and the text of a run are one, and a listing is any one of the program
+-- a text that it may write: that of a run is one, a translation and a listing are any of the program
 abbrev pub HasText : Command → List ℕ → Program → List ℕ → Type 0
-HasText Vectorise deck p text = text ≡ translation_text deck p
+HasText Vectorise deck p text = IsTranslationText p (has_data data_line77 deck) (input_of data_line77 deck) text
 HasText Graph deck p text = IsListingText p text
 HasText (Run77 options) deck p text = text ≡ run_text options p (run_of options deck p)
 

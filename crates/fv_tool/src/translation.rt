@@ -1,21 +1,23 @@
 //! `vectorise`: the translation of a deck.
-ghost use Rattle.std.specs.Prelude.{◌≡◌, ◌^◌, ◌≤◌, ◌++◌, [], true, length, IfOk, OnOk};
+ghost use Rattle.std.specs.Prelude.{◌≡◌, ◌^◌, ◌≤◌, ◌++◌, true, length, IfOk, OnOk};
 ghost use Rattle.std.specs.Option.{option_copied};
 ghost use Rattle.fv_tree.specs.View.{program_of};
-ghost use Rattle.f90_grammar.specs.PrintedText.{printed90};
+ghost use Rattle.fv_meaning.specs.Dialect.{fortran77};
+ghost use Rattle.fv_meaning.specs.Profile77.{IsProgram77};
 ghost use Rattle.fv_command.specs.declared.commands.Command.TheVariants.{Vectorise};
 ghost use Rattle.fv_deck.specs.Parts.{is_there, bytes_in};
-ghost use Rattle.fv_tool.specs.Translation.{data_part};
+ghost use Rattle.fv_tool.specs.Translation.{data_part, IsTranslationText};
 ghost use Rattle.fv_tool.specs.Endings.{is_silent};
 ghost use Rattle.fv_tool.specs.Works.{Works};
 
 use crate::deck::unread;
 use f77_read::read77;
 use f90_print::print90;
+use f90_translation::translate;
 use fv_deck::{DataLine, source_and_input};
 use fv_io::{Sink, write_all};
 use fv_report::Outcome;
-use fv_tree::{Memory, Program77, Program90, Seq};
+use fv_tree::{Memory, Program77, Seq};
 use std::alloc::Global;
 
 // Adds the data line and the input, where there is one.
@@ -34,13 +36,13 @@ fn push_data(text: &mut Vec<u8>, input: Option<&[u8]>) -> Result<(), Memory>
     }
 }
 
-// The text of the program, and the input behind it.
+// The text of what the program is translated to, and the input behind it.
 fn translation(alloc: Global, program: Program77, input: Option<&[u8]>) -> Result<Vec<u8>, Memory>
-    ensures { IfOk result (λ text. text.items ≡ printed90 (program_of program) []
-        ++ data_part (is_there (option_copied input.entry)) (bytes_in (option_copied input.entry))) }
+    requires { IsProgram77 fortran77 (program_of program) }
+    ensures { IfOk result (λ text. IsTranslationText (program_of program)
+        (is_there (option_copied input.entry)) (bytes_in (option_copied input.entry)) text.items) }
 {
-    let Program77 { name, decls, body } = program;
-    let program = Program90 { name, decls, body };
+    let program = translate(alloc, program)?;
     let mut text = print90(alloc, &program, &Seq::new(alloc))?;
     push_data(&mut text, input)?;
     Ok(text)

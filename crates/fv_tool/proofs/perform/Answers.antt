@@ -1,4 +1,4 @@
-use Rattle.fv_command.specs.declared.commands.Command.TheVariants.{Graph, Run77}
+use Rattle.fv_command.specs.declared.commands.Command.TheVariants.{Vectorise, Graph, Run77}
 use Rattle.fv_tool.proofs.Worked.{unread, worked_for}
 use Rattle.fv_tool.proofs.perform.Goals as goal
 
@@ -14,3 +14,8 @@ pub returns-in-Graph-clause-ends : goal.returns-in-Graph-clause-ends
 returns-in-Graph-clause-ends g c =
     worked_for Graph c.args.command _ _ _ _ _ c.as_slice-in-Graph.result.now c.in-Ok.bytes.items c.graph.result c.in-Graph.is c.as_slice-in-Graph.ensures.value
     c.in-Ok.ensures.whole c.in-Ok.ensures.end c.graph.ensures.works
+
+pub returns-in-Vectorise-clause-ends : goal.returns-in-Vectorise-clause-ends
+returns-in-Vectorise-clause-ends g c =
+    worked_for Vectorise c.args.command _ _ _ _ _ c.as_slice.result.now c.in-Ok.bytes.items c.vectorise.result c.in-Vectorise.is c.as_slice.ensures.value
+    c.in-Ok.ensures.whole c.in-Ok.ensures.end c.vectorise.ensures.works

@@ -1,0 +1,5 @@
+pub mod Texts
+pub mod Among
+pub mod Placed
+pub mod Formed
+pub mod Assigned

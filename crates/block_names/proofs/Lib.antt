@@ -1,0 +1,2 @@
+pub mod ExpressionNames
+pub mod StatementNames

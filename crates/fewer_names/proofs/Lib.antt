@@ -1,0 +1,2 @@
+pub mod FewerKinds
+pub mod FewerStatements

@@ -1,0 +1,7 @@
+//! What stands in the place of the nests of a program.
+#![tactic(auto)]
+
+mod blocks;
+mod places;
+
+pub use blocks::nest_blocks;

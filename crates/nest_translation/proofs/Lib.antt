@@ -1,0 +1,7 @@
+pub mod Cleaned
+pub mod Straight
+pub mod Endings
+pub mod Pieces
+pub mod Counters
+pub mod Symbols
+pub mod Translation

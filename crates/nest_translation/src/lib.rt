@@ -1,0 +1,6 @@
+//! What stands in the place of a nest does what the nest's loop does.
+#![tactic(auto)]
+
+mod laws;
+
+pub use laws::translation_does_as_loop;

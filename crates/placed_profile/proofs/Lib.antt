@@ -1,0 +1,3 @@
+pub mod Labels
+pub mod Placing
+pub mod SourceNames

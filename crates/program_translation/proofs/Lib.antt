@@ -1,0 +1,10 @@
+pub mod Placing
+pub mod Translating
+pub mod Lists
+pub mod Sources
+pub mod Named
+pub mod Numbered
+pub mod Counted
+pub mod Unlabelled
+pub mod Good
+pub mod Standing

@@ -1,0 +1,3 @@
+pub mod AloneLaws
+pub mod Holds
+pub mod Translations
