@@ -1,5 +1,6 @@
 -- Kinds, ranks and depths of array forms.
-use Rattle.std.specs.Prelude.{◌≡◌, ℕ, ◌≤◌, ◌+◌, None, true, false, Option, IfSome, if◌then◌else◌, List, length, Contains}
+use Rattle.std.specs.Prelude.{◌≡◌, ℕ, ◌≤◌, ◌+◌, None, true, false, Option, IfSome, if◌then◌else◌}
+use Rattle.std.specs.Prelude.{List, length, Contains}
 use Rattle.fv_tree.specs.Limits.{expression_depth90}
 use Rattle.fv_tree.specs.Plain.{Declaration, Expression, Reference}
 use Rattle.fv_tree.specs.declared.ops.Kind.{Kind}

@@ -1,16 +1,13 @@
 -- What a slot that is put in another one's place gives.
-use Rattle.std.proofs.Common.{◌≡◌, refl, sym, ap, ◌∙◌, subst, zero, suc, ℕ, ℤ, ◌+◌, ◌<◌, Bool, true, false, cond, List, [], ◌∷◌, map, length, set, get_or, Option, Some, None, MatchOption, Result, Ok, Err, arith, pos}
+use Rattle.std.proofs.Common.{◌≡◌, refl, sym, ap, ◌∙◌, subst, zero, suc, ℕ, ℤ, ◌<◌, Bool, true, false, cond, List, [], ◌∷◌, length, set, get_or, Some, None, MatchOption, Result, Ok, Err, arith}
 use Rattle.std.specs.Prelude.{position}
 use Rattle.std.specs.Str.{bytes_eq}
-use Rattle.std.proofs.Math.Path.{fun_ext}
-use Rattle.std.proofs.lemmas.List.{get_or-set_same, get_or_default, length-set}
+use Rattle.std.proofs.lemmas.List.{get_or-set_same, get_or_default}
 use Rattle.std.proofs.lemmas.Slice.Eq.{bytes_eq-Decides}
-use Rattle.std.proofs.lemmas.Bool.{false≢true}
 use mathlib.Core.Path.{ap₂}
 use Rattle.fv_tree.specs.declared.ops.Kind.{Kind}
 use Rattle.fv_tree.specs.declared.ops.Fault.{Fault}
 use Rattle.fv_tree.specs.declared.ops.Fault.TheVariants.{Allocated}
-use Rattle.fv_tree.specs.declared.ops.Value.{Value}
 use Rattle.fv_meaning.specs.Store.{Store, Cell, nought, nought_like, allocated, with_bounds, bounds_in, bounds_of}
 use Rattle.fv_meaning.specs.ArrayStatements.{free}
 use Rattle.fv_machine.specs.Storage.{bounds_list}
@@ -21,7 +18,7 @@ use Rattle.array_storage.specs.Names.{own_names}
 use Rattle.array_storage.specs.Slots.{store_among, bounds_among, held_among, kind_among, bounds_now, held_here, IsNamed, IsMissing, Has}
 use Rattle.array_storage.specs.Allocation.{from_one, OpensAs, Opens, ClosesAs, Closes, HoldsKind, Allocates, Deallocates}
 use Rattle.array_storage.proofs.Searches.{searched}
-use Rattle.array_storage.proofs.PlaceLaws.{store-bounds, store-held}
+use Rattle.array_storage.proofs.PlaceLaws.{store-bounds}
 use Rattle.array_storage.proofs.Places.{store-is}
 
 -- ---- the other names

@@ -5,3 +5,4 @@ pub mod PartLaws
 pub mod OpeningLaws
 pub mod AllocationLaws
 pub mod TargetLaws
+pub mod ShowLaws

@@ -6,21 +6,19 @@ use Rattle.std.specs.List.{list_any, AllByRecursion}
 use Rattle.std.specs.Str.{bytes_eq}
 use Rattle.std.specs.Cmp.Lexicographic.{nat_list_eq_equiv}
 use Rattle.std.proofs.Math.Path.{fun_ext}
-use Rattle.std.proofs.lemmas.List.{map-append, append-nil, take_all}
+use Rattle.std.proofs.lemmas.List.{map-append, take_all}
 use mathlib.Core.Path.{ap₂}
 use Rattle.fv_tree.specs.Plain.{Extent, Given, Later, Declaration}
-use Rattle.fv_tree.specs.View.{declaration_of, bounds_of, extent_of}
+use Rattle.fv_tree.specs.View.{declaration_of}
 use Rattle.fv_tree.specs.declared.ops.Kind.{Kind}
 use Rattle.fv_tree.specs.declared.ops.Value.{Value}
 use Rattle.fv_tree.specs.declared.programs.Decl.{Decl}
-use Rattle.fv_tree.specs.declared.programs.Dim.{Dim}
-use Rattle.fv_tree.specs.declared.programs.Extent.{Extent as Extent'}
 use Rattle.fv_meaning.specs.Store.{Store, Cell, opening_bounds, opening_value, nought}
 use Rattle.fv_meaning.specs.Typed.{declared, dimensions}
 use Rattle.fv_machine.specs.Storage.{AreDistinct, opening_of, offset, bounds_list, value_at}
 use Rattle.array_storage.specs.declared.slots.Slot.{Slot}
 use Rattle.array_storage.specs.Names.{own_names}
-use Rattle.array_storage.specs.Slots.{store_among, bounds_among, held_among, kind_among, bounds_now, held_here}
+use Rattle.array_storage.specs.Slots.{store_among, bounds_among, held_among, kind_among}
 use Rattle.array_storage.specs.Opening.{IsOpened, is_given, given, KindsAreDeclared}
 
 -- ---- one name

@@ -1,5 +1,5 @@
 -- The values of arrays and of parts of them.
-use Rattle.std.proofs.Common.{◌≡◌, refl, sym, ap, ◌∙◌, subst, zero, suc, ℕ, ℤ, ◌+◌, ◌<◌, Bool, true, false, cond, List, [], ◌∷◌, length, map, get_or, Option, Some, None, Result, Ok, Err, arith, pos}
+use Rattle.std.proofs.Common.{◌≡◌, refl, sym, ap, ◌∙◌, suc, ℕ, ℤ, ◌<◌, Bool, true, false, cond, List, [], ◌∷◌, length, map, Some, None, Result, Ok, Err, arith, pos}
 use Rattle.std.specs.Prelude.{All, IsTrue, ◌↔◌}
 use Rattle.fv_tree.specs.declared.programs.Dim.{Dim}
 use Rattle.std.proofs.lemmas.List.{get_or_default}
@@ -9,22 +9,22 @@ use Rattle.fv_tree.specs.declared.ops.Value.{Value}
 use Rattle.fv_tree.specs.declared.ops.Value.TheVariants.{Int}
 use Rattle.fv_tree.specs.declared.ops.Fault.{Fault}
 use Rattle.fv_tree.specs.declared.ops.Fault.TheVariants.{Allocated}
-use Rattle.fv_meaning.specs.Store.{Store, Cell, bounds_in, bounds_of, column_major, nought}
+use Rattle.fv_meaning.specs.Store.{Cell, bounds_in, bounds_of, column_major, nought}
 use Rattle.fv_meaning.specs.ArrayValues.{Array}
-use Rattle.fv_meaning.specs.Sections.{Axis, Selector, axes_on, whole_axes, extents_of, numbers_of, cells_along}
+use Rattle.fv_meaning.specs.Sections.{Axis, Selector, axes_on, whole_axes, extents_of, numbers_of}
 use Rattle.fv_meaning.specs.Value.{is_bare}
 use Rattle.fv_machine.specs.Storage.{offset, bounds_list, value_at}
 use Rattle.array_places.specs.declared.selection.Selection.{Selection}
 use Rattle.array_places.specs.Selecting.{IsSelection, SelectsThese}
 use Rattle.array_places.specs.Places.{somes, values_there}
 use Rattle.array_storage.specs.declared.slots.Slot.{Slot}
-use Rattle.array_storage.specs.Slots.{store_among, bounds_among, held_among, bounds_now, held_here, IsNamed}
+use Rattle.array_storage.specs.Slots.{store_among, bounds_among, bounds_now, held_here, IsNamed}
 use Rattle.array_storage.specs.Parts.{array_along, whole_array, part_array, array_here, whole_here, part_here}
 use Rattle.array_storage.proofs.PlaceLaws.{store-bounds, store-held}
 
 -- ---- one slot
 
-rows_held : (v : Slot) (rs : List (List ℤ)) (ks : List ℕ) → map (offset (bounds_list v.dims)) rs ≡ somes ks → All (λ k. k < length v.values.items) ks
+pub rows_held : (v : Slot) (rs : List (List ℤ)) (ks : List ℕ) → map (offset (bounds_list v.dims)) rs ≡ somes ks → All (λ k. k < length v.values.items) ks
     → map (held_here v) rs ≡ values_there v.values.items ks
 rows_held v [] [] e h = refl
 rows_held v [] (k ∷ ks) e h = cc
@@ -65,7 +65,7 @@ bare_is v b t h = by v.dims refl b h ∙ ap (λ t. is_bare (cond t (Some (bounds
 -- ---- a name
 
 module _ (vs : List Slot) (x : List ℕ) where
-  rows_named : (v : Slot) (i : ℕ) → IsNamed vs x i v → (rs : List (List ℤ))
+  pub rows_named : (v : Slot) (i : ℕ) → IsNamed vs x i v → (rs : List (List ℤ))
       → map (store_among vs).held (map (λ (is : List ℤ). let c : Cell = record { name = x; subscripts = is } in c) rs) ≡ map (held_here v) rs
   rows_named v i h [] = refl
   rows_named v i h (r ∷ rs) = ap₂ (λ (y : Value) ys. y ∷ ys) (store-held vs (record { name = x; subscripts = r }) ∙ h.held r) (rows_named v i h rs)

@@ -1,16 +1,15 @@
 -- The place of a name's element.
-use Rattle.std.proofs.Common.{◌≡◌, refl, sym, ap, ◌∙◌, subst, ℕ, ℤ, ◌<◌, Bool, true, false, cond, List, Result, Ok, Err, Option, Some, None, length, get_or}
+use Rattle.std.proofs.Common.{◌≡◌, refl, sym, ap, ◌∙◌, subst, ℕ, ℤ, Bool, true, false, cond, List, Result, Ok, Err, Option, Some, None}
 use Rattle.std.specs.Prelude.{is_some}
 use Rattle.std.specs.Option.{option_map}
 use Rattle.fv_tree.specs.declared.ops.Fault.{Fault}
 use Rattle.fv_tree.specs.declared.ops.Fault.TheVariants.{Bounds, Allocated}
-use Rattle.fv_tree.specs.declared.ops.Value.{Value}
-use Rattle.fv_meaning.specs.Store.{Store, Cell, cell_at, cell_in, is_within}
+use Rattle.fv_meaning.specs.Store.{Cell, cell_at, cell_in, is_within}
 use Rattle.fv_machine.specs.Storage.{offset, bounds_list}
 use Rattle.fv_machine.proofs.StoreLaws.{within_offset}
 use Rattle.array_storage.specs.declared.slots.Slot.{Slot}
 use Rattle.array_storage.specs.declared.slots.Place.{Place}
-use Rattle.array_storage.specs.Slots.{store_among, bounds_among, held_among, place_among, bounds_now, place_here, inside, IsNamed, Has, Finds, IsWithin}
+use Rattle.array_storage.specs.Slots.{store_among, bounds_among, held_among, place_here, inside, IsNamed, Finds}
 
 pub store-bounds : (vs : List Slot) (x : List ℕ) → (store_among vs).bounds x ≡ bounds_among vs x
 unfolding store_among

@@ -1,5 +1,5 @@
 -- Arrays that come and go (ISO/IEC 1539:1991, section 6.3).
-use Rattle.std.specs.Prelude.{◌≡◌, Result, Ok, Err, Some, None, ℕ, ℤ, pos, true, false, List, map}
+use Rattle.std.specs.Prelude.{◌≡◌, Result, Ok, Err, None, ℕ, ℤ, pos, true, false, List, map}
 use Rattle.fv_tree.specs.declared.ops.Kind.{Kind}
 use Rattle.fv_tree.specs.declared.ops.Fault.{Fault}
 use Rattle.fv_tree.specs.declared.ops.Fault.TheVariants.{Allocated}

@@ -1,8 +1,7 @@
 -- The names as they are when a run begins.
-use Rattle.std.specs.Prelude.{◌≡◌, Option, Some, None, ℕ, ℤ, Bool, true, false, List, [], ◌∷◌}
+use Rattle.std.specs.Prelude.{◌≡◌, Option, Some, None, ℕ, ℤ, Bool, true, false, List}
 use Rattle.std.specs.Option.{option_map}
 use Rattle.fv_tree.specs.Plain.{Extent, Given, Later, Declaration}
-use Rattle.fv_tree.specs.declared.ops.Kind.{Kind}
 use Rattle.fv_meaning.specs.Store.{nought}
 use Rattle.fv_meaning.specs.Typed.{declared}
 use Rattle.array_storage.specs.declared.slots.Slot.{Slot}

@@ -1,5 +1,5 @@
 -- The arrays that references to a name stand for (ISO/IEC 1539:1991, section 6.2.2).
-use Rattle.std.specs.Prelude.{Result, Ok, ℕ, ℤ, List, map}
+use Rattle.std.specs.Prelude.{Result, Ok, ℕ, List, map}
 use Rattle.fv_tree.specs.Steps.{◌>>=◌}
 use Rattle.fv_tree.specs.declared.ops.Fault.{Fault}
 use Rattle.fv_meaning.specs.Store.{Store, bounds_in, bounds_of, column_major}

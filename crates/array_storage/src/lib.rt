@@ -6,6 +6,7 @@ mod allocation;
 mod cells;
 mod opening;
 mod selected;
+mod showing;
 mod slots;
 mod storage;
 mod targets;

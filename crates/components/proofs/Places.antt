@@ -10,12 +10,12 @@ use Rattle.components.proofs.ListLaws.{Each-In}
 use Rattle.components.proofs.ClassLaws.{In-concat}
 
 module _ {X Y : Type 0} (f : X → Y) where
-  In-map : (xs : List X) (x : X) → In x xs → In (f x) (map f xs)
+  pub In-map : (xs : List X) (x : X) → In x xs → In (f x) (map f xs)
   In-map [] x i = absurd i
   In-map (y ∷ ys) x (inl e) = inl (ap f e)
   In-map (y ∷ ys) x (inr i) = inr (In-map ys x i)
 
-  map-In : (xs : List X) (y : Y) → In y (map f xs) → (x : X) × In x xs × (y ≡ f x)
+  pub map-In : (xs : List X) (y : Y) → In y (map f xs) → (x : X) × In x xs × (y ≡ f x)
   map-In [] y i = absurd i
   map-In (x ∷ xs) y (inl e) = (x, inl refl, e)
   map-In (x ∷ xs) y (inr i) = let k = map-In xs y i in (k.0, inr k.1, k.2)
@@ -39,17 +39,17 @@ map-nil f (x ∷ xs) e = cc
 
 -- ---- places
 
-get_or-In : (xs : List ℕ) (i : ℕ) → i < length xs → In (get_or xs i 0) xs
+pub get_or-In : (xs : List ℕ) (i : ℕ) → i < length xs → In (get_or xs i 0) xs
 get_or-In [] i h = absurd (omega arith)
 get_or-In (x ∷ xs) zero h = inl refl
 get_or-In (x ∷ xs) (suc i) h = inr (get_or-In xs i (omega arith))
 
-In-get_or : (xs : List ℕ) (x : ℕ) → In x xs → (i : ℕ) × (i < length xs) × (x ≡ get_or xs i 0)
+pub In-get_or : (xs : List ℕ) (x : ℕ) → In x xs → (i : ℕ) × (i < length xs) × (x ≡ get_or xs i 0)
 In-get_or [] x i = absurd i
 In-get_or (y ∷ ys) x (inl e) = (0, omega arith, e)
 In-get_or (y ∷ ys) x (inr i) = let k = In-get_or ys x i in (suc k.0, (let h : k.0 < length ys = k.1 in omega arith), k.2)
 
-Distinct-get_or : (xs : List ℕ) → Distinct xs → (i j : ℕ) → i < length xs → j < length xs → get_or xs i 0 ≡ get_or xs j 0 → i ≡ j
+pub Distinct-get_or : (xs : List ℕ) → Distinct xs → (i j : ℕ) → i < length xs → j < length xs → get_or xs i 0 ≡ get_or xs j 0 → i ≡ j
 Distinct-get_or [] d i j h k e = absurd (omega arith)
 Distinct-get_or (x ∷ xs) d zero zero h k e = refl
 Distinct-get_or (x ∷ xs) d zero (suc j) h k e = absurd (Each-In (λ y. ¬ (x ≡ y)) xs d.0 (get_or xs j 0) (get_or-In xs j (omega arith)) e)

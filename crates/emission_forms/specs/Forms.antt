@@ -1,6 +1,6 @@
 -- The array forms of a nest's statements, in the place of loops that have nothing else in them.
-use Rattle.std.specs.Prelude.{◌≡◌, ◌⊎◌, ℕ, suc, ◌<◌, ◌≤◌, ◌+◌, nat_lt, Bool, true, ◌&&◌, if◌then◌else◌, Option, Some, None}
-use Rattle.std.specs.Prelude.{All, List, [], ◌∷◌, ◌++◌, length}
+use Rattle.std.specs.Prelude.{◌≡◌, ◌⊎◌, ℕ, suc, ◌<◌, ◌≤◌, ◌+◌, nat_lt, Bool, true, ◌&&◌, if◌then◌else◌}
+use Rattle.std.specs.Prelude.{Option, Some, None, All, List, [], ◌∷◌, ◌++◌, length}
 use Rattle.std.specs.Str.{bytes_eq}
 use Rattle.fv_tree.specs.Plain.{Statement, Block, no_statements, statement}
 use Rattle.array_forms.specs.Following.{are_moved, is_regular}
@@ -48,7 +48,8 @@ AreUnguarded n = All (λ (s : Standing). s.statement.guard ≡ None) (nest_state
 abbrev pub surroundings_at : Nest → ℕ → Surroundings
 surroundings_at n s = surroundings_of n (loops_at n s)
 
--- with the loops from the level k on, a left subscript moves with a loop that stands in it, and the right side is regular
+-- with the loops from the level k on, a left subscript moves with a loop that stands in it, and the right side is
+-- regular
 pub record IsRegularAt (n : Nest) (k s : ℕ) : Type 0 where
   pub left : let a = surroundings_at n s in let r = (standing_at n s).statement.left in
       are_moved a (loops_assigned a k r) r.subscripts ≡ true

@@ -1,19 +1,14 @@
--- What a program is translated to.
-use Rattle.std.specs.Prelude.{◌≡◌, ◌⊎◌}
-use Rattle.fv_tree.specs.Plain.{Program}
+-- What a program is translated to, and its listing.
+use Rattle.std.specs.Prelude.{ℕ, Option, List}
+use Rattle.fv_tree.specs.Plain.{Block, Program}
+use Rattle.nest_blocks.specs.Answers.{AreAnswersFor}
 use Rattle.placed_profile.specs.Laws.{IsWithinLimits}
-use Rattle.program_translation.specs.Translated.{IsTranslation}
+use Rattle.program_translation.specs.Translated.{IsPlacedBy}
 
-pub record IsFull (p q : Program) : Type 0 where
-  pub translation : IsTranslation p q
+-- The lines are a listing of p; and q is p with the blocks in the place of its nests that are emitted by the graphs
+-- that are listed, within the limits of Fortran 90
+pub record IsVectorised (p : Program) (lines : List (List ℕ)) (q : Program) : Type 0 where
+  pub blocks : List (Option Block)
+  pub answers : AreAnswersFor p lines blocks
+  pub placed : IsPlacedBy p blocks q
   pub limits : IsWithinLimits q.body
-
--- the loops of p have stayed, since a translation of it passes the limits
-pub record HasStayed (p q : Program) : Type 0 where
-  pub same : q ≡ p
-  pub other : Program
-  pub translation : IsTranslation p other
-  pub passes : IsWithinLimits other.body → ⊥
-
-abbrev pub IsTranslated : Program → Program → Type 0
-IsTranslated p q = IsFull p q ⊎ HasStayed p q

@@ -7,4 +7,4 @@ mod names;
 mod number;
 mod translating;
 
-pub use translating::translate;
+pub use translating::{Translation, translate};

@@ -1,8 +1,8 @@
 -- The elements of an array in column-major order, and their values one after the other.
-use Rattle.std.proofs.Common.{◌≡◌, refl, sym, ap, ◌∙◌, subst, zero, suc, ℕ, ℤ, pos, ◌+◌, ◌*◌, ◌<◌, ◌≤◌, ◌+ℤ◌, ◌-ℤ◌, ◌≤ℤ◌, Bool, true, false, cond, List, [], ◌∷◌, ◌++◌, length, map, take, drop, get_or, Option, Some, None, arith}
+use Rattle.std.proofs.Common.{◌≡◌, refl, sym, ap, ◌∙◌, subst, zero, suc, ℕ, ℤ, pos, negsuc, ◌+◌, ◌*◌, ◌<◌, ◌≤◌, ◌+ℤ◌, ◌-ℤ◌, ◌≤ℤ◌, Bool, true, false, cond, List, [], ◌∷◌, ◌++◌, length, map, take, drop, get_or, Option, Some, None, arith}
 use Rattle.std.specs.Prelude.{int_le, ◌&&◌, nat_abs}
 use Rattle.std.specs.Option.{option_map}
-use Rattle.std.specs.List.{AllByRecursion, flat_map, range_with_len}
+use Rattle.std.specs.List.{flat_map, range_with_len}
 use mathlib.Core.Path.{ap₂}
 use Rattle.std.proofs.lemmas.Int.{ints}
 use Rattle.std.proofs.Math.Dec.{T}
@@ -12,7 +12,7 @@ use Rattle.fv_tree.specs.declared.ops.Value.{Value}
 use Rattle.fv_meaning.specs.Store.{Cell, numbers_from, size_of, column_major, cells_of, opening_value}
 use Rattle.fv_meaning.specs.Profile77.{elements_of}
 use Rattle.fv_machine.specs.declared.variables.Variable.{Variable}
-use Rattle.fv_machine.specs.Storage.{store_of, place, offset, joined, value_at, IsBounded}
+use Rattle.fv_machine.specs.Storage.{store_of, place, offset, joined, value_at}
 use Rattle.fv_machine.specs.Stored.{IsOf, bounds_here}
 use Rattle.fv_machine.proofs.StoreLaws.{store-held, size_is}
 
@@ -37,8 +37,16 @@ le_true a b h = by (int_le a b) refl
     by true e = e
     by false e = absurd (subst T e h.le)
 
-joined_inside : (b : ℤ × ℤ) (z : ℤ) (i k : ℕ) → b.0 ≤ℤ b.1 → z ≡ b.0 +ℤ pos i → i < size_of b → joined b z (Some k) ≡ Some (size_of b * k + i)
-joined_inside b z i k h e l =
+ordered : (b : ℤ × ℤ) → 0 < size_of b → b.0 ≤ℤ b.1
+ordered b l = by (b.1 -ℤ b.0) refl l
+  where
+    by : (d : ℤ) → b.1 -ℤ b.0 ≡ d → 0 < elim d as (λ _. ℕ) [ pos n ↦ n + 1 | negsuc n ↦ 0 ] → b.0 ≤ℤ b.1
+    by (pos n) e l = omega (arith, ints)
+    by (negsuc n) e l = absurd (omega (arith, l))
+
+joined_inside : (b : ℤ × ℤ) (z : ℤ) (i k : ℕ) → z ≡ b.0 +ℤ pos i → i < size_of b → joined b z (Some k) ≡ Some (size_of b * k + i)
+joined_inside b z i k e l =
+    let h : b.0 ≤ℤ b.1 = ordered b (omega (arith, l)) in
     let size = size_is b h in
     let low : b.0 ≤ℤ z = omega (arith, ints) in
     let high : z ≤ℤ b.1 = omega (arith, ints) in
@@ -47,18 +55,18 @@ joined_inside b z i k h e l =
     ∙ ap (λ n. let o : Option ℕ = Some n in o) (let s : nat_abs (z -ℤ b.0) + size_of b * k ≡ size_of b * k + i = omega arith in s)
 
 -- the places of a row
-row : (b : ℤ × ℤ) (z : ℤ) (i n k : ℕ) → b.0 ≤ℤ b.1 → z ≡ b.0 +ℤ pos i → i + n ≡ size_of b → map (λ x. joined b x (Some k)) (numbers_from z n) ≡ somes (range_with_len (size_of b * k + i) n)
-row b z i zero k h e l = refl
-row b z i (suc n) k h e l = ap₂ (λ o os. o ∷ os) (joined_inside b z i k h e (omega arith))
-    (row b (z +ℤ pos 1) (i + 1) n k h (omega (arith, ints)) (omega arith)
+row : (b : ℤ × ℤ) (z : ℤ) (i n k : ℕ) → z ≡ b.0 +ℤ pos i → i + n ≡ size_of b → map (λ x. joined b x (Some k)) (numbers_from z n) ≡ somes (range_with_len (size_of b * k + i) n)
+row b z i zero k e l = refl
+row b z i (suc n) k e l = ap₂ (λ o os. o ∷ os) (joined_inside b z i k e (omega arith))
+    (row b (z +ℤ pos 1) (i + 1) n k (omega (arith, ints)) (omega arith)
     ∙ ap (λ a. somes (range_with_len a n)) (let s : size_of b * k + (i + 1) ≡ size_of b * k + i + 1 = omega arith in s))
 
 -- all rows
-rows_of : (b : ℤ × ℤ) (j n : ℕ) → b.0 ≤ℤ b.1
+rows_of : (b : ℤ × ℤ) (j n : ℕ)
     → flat_map (λ o. map (λ x. joined b x o) (numbers_from b.0 (size_of b))) (somes (range_with_len j n)) ≡ somes (range_with_len (size_of b * j) (size_of b * n))
-rows_of b j zero h = ap (λ n. somes (range_with_len (size_of b * j) n)) (let e : 0 ≡ size_of b * 0 = grind arith in e)
-rows_of b j (suc n) h =
-    ap₂ (λ xs ys. xs ++ ys) (row b b.0 0 (size_of b) j h (omega (arith, ints)) (omega arith)) (rows_of b (j + 1) n h)
+rows_of b j zero = ap (λ n. somes (range_with_len (size_of b * j) n)) (let e : 0 ≡ size_of b * 0 = grind arith in e)
+rows_of b j (suc n) =
+    ap₂ (λ xs ys. xs ++ ys) (row b b.0 0 (size_of b) j (omega (arith, ints)) (omega arith)) (rows_of b (j + 1) n)
     ∙ ap₂ (λ a c. somes (range_with_len a (size_of b)) ++ somes (range_with_len c (size_of b * n))) (let e : size_of b * j + 0 ≡ size_of b * j = omega arith in e) (let e : size_of b * (j + 1) ≡ size_of b * j + size_of b = grind arith in e)
     ∙ sym (map-append (λ k. let o : Option ℕ = Some k in o) (range_with_len (size_of b * j) (size_of b)) (range_with_len (size_of b * j + size_of b) (size_of b * n)))
     ∙ ap somes (range_append (size_of b * j) (size_of b) (size_of b * n))
@@ -76,13 +84,13 @@ spread b bs xs (r ∷ rs) =
     map-append (offset (b ∷ bs)) (map (λ x. x ∷ r) xs) (flat_map (λ rest. map (λ x. x ∷ rest) xs) rs)
     ∙ ap₂ (λ os ps. os ++ ps) (one_row b bs xs r) (spread b bs xs rs)
 
-pub elements_in_order : (bs : List (ℤ × ℤ)) → AllByRecursion IsBounded bs
+pub elements_in_order : (bs : List (ℤ × ℤ))
     → map (offset bs) (column_major (map (λ (b : ℤ × ℤ). numbers_from b.0 (size_of b)) bs)) ≡ somes (range_with_len 0 (elements_of bs))
-elements_in_order [] h = refl
-elements_in_order (b ∷ bs) h =
+elements_in_order [] = refl
+elements_in_order (b ∷ bs) =
     spread b bs (numbers_from b.0 (size_of b)) (column_major (map (λ (b : ℤ × ℤ). numbers_from b.0 (size_of b)) bs))
-    ∙ ap (flat_map (λ o. map (λ x. joined b x o) (numbers_from b.0 (size_of b)))) (elements_in_order bs h.1)
-    ∙ rows_of b 0 (elements_of bs) h.0.ordered
+    ∙ ap (flat_map (λ o. map (λ x. joined b x o) (numbers_from b.0 (size_of b)))) (elements_in_order bs)
+    ∙ rows_of b 0 (elements_of bs)
     ∙ ap (λ a. somes (range_with_len a (size_of b * elements_of bs))) (let e : size_of b * 0 ≡ 0 = grind arith in e)
 
 -- ---- their values
@@ -109,7 +117,7 @@ pub all_held : (ds : List Declaration) (vs : List Value) (x : List ℕ) (v : Var
     → map (store_of ds vs).held (cells_of x (bounds_here v)) ≡ take (elements_of (bounds_here v)) (drop v.start vs)
 all_held ds vs x v h l =
     held_each ds vs x v.start (bounds_here v) h.place (column_major (map (λ (b : ℤ × ℤ). numbers_from b.0 (size_of b)) (bounds_here v)))
-    ∙ ap (map (λ o. value_at vs (opening_value ds x) (option_map (λ k. v.start + k) o))) (elements_in_order (bounds_here v) h.sound.each)
+    ∙ ap (map (λ o. value_at vs (opening_value ds x) (option_map (λ k. v.start + k) o))) (elements_in_order (bounds_here v))
     ∙ some_each vs (opening_value ds x) v.start (range_with_len 0 (elements_of (bounds_here v)))
     ∙ values_from vs v.start 0 (elements_of (bounds_here v)) (opening_value ds x) (omega arith)
     ∙ ap (λ k. take (elements_of (bounds_here v)) (drop k vs)) (let e : v.start + 0 ≡ v.start = omega arith in e)

@@ -1,7 +1,7 @@
 -- The elements of an array by their places: their cells and their lines.
 use Rattle.std.proofs.Common.{◌≡◌, refl, sym, ap, ◌∙◌, subst, zero, suc, ℕ, ℤ, pos, ◌+◌, ◌*◌, ◌<◌, ◌+ℤ◌, ◌-ℤ◌, ◌≤ℤ◌, Bool, true, false, cond, List, [], ◌∷◌, ◌++◌, map, get_or, Option, Some, None, arith}
 use Rattle.std.specs.Prelude.{int_le, ◌&&◌, nat_abs, ◌/◌, ◌%◌}
-use Rattle.std.specs.List.{AllByRecursion, flat_map, range_with_len}
+use Rattle.std.specs.List.{flat_map, range_with_len}
 use mathlib.Core.Path.{ap₂}
 use Rattle.std.proofs.lemmas.Int.{ints}
 use Rattle.std.proofs.lemmas.Float.{T_from_true}
@@ -14,7 +14,7 @@ use Rattle.fv_meaning.specs.Store.{Store, Cell, numbers_from, size_of, column_ma
 use Rattle.fv_meaning.specs.Texts.{final_line}
 use Rattle.fv_meaning.specs.Steps.{lines_of_cells}
 use Rattle.fv_meaning.specs.Profile77.{elements_of}
-use Rattle.fv_machine.specs.Storage.{offset, joined, IsBounded}
+use Rattle.fv_machine.specs.Storage.{offset, joined}
 use Rattle.fv_machine.specs.Showing.{subscripts_at, element, element_line, value_line}
 use Rattle.fv_machine.proofs.StoreLaws.{both_true, number_inside}
 use Rattle.fv_machine.proofs.ColumnMajor.{elements_in_order}
@@ -55,13 +55,13 @@ each_at bs (r ∷ rs) (k ∷ ks) e =
     let more : map (offset bs) rs ≡ map (λ k. let o : Option ℕ = Some k in o) ks = cc in
     ap₂ (λ s ss. s ∷ ss) (subscripts_are bs r k first) (each_at bs rs ks more)
 
-in_order : (bs : List (ℤ × ℤ)) → AllByRecursion IsBounded bs → column_major (map (λ (b : ℤ × ℤ). numbers_from b.0 (size_of b)) bs) ≡ map (subscripts_at bs) (range_with_len 0 (elements_of bs))
-in_order bs h = each_at bs (column_major (map (λ (b : ℤ × ℤ). numbers_from b.0 (size_of b)) bs)) (range_with_len 0 (elements_of bs)) (elements_in_order bs h)
+in_order : (bs : List (ℤ × ℤ)) → column_major (map (λ (b : ℤ × ℤ). numbers_from b.0 (size_of b)) bs) ≡ map (subscripts_at bs) (range_with_len 0 (elements_of bs))
+in_order bs = each_at bs (column_major (map (λ (b : ℤ × ℤ). numbers_from b.0 (size_of b)) bs)) (range_with_len 0 (elements_of bs)) (elements_in_order bs)
 
 -- the lines of a name are those of its elements, one after the other
-pub lines_are : (x : List ℕ) (bs : List (ℤ × ℤ)) (s : Store) → AllByRecursion IsBounded bs → lines_of_cells x (Some bs) s ≡ flat_map (element_line x bs s) (range_with_len 0 (elements_of bs))
-lines_are x bs s h =
-    ap (λ rs. flat_map (λ c. final_line c (s.held c)) (map (λ is. let c : Cell = record { name = x; subscripts = is } in c) rs)) (in_order bs h)
+pub lines_are : (x : List ℕ) (bs : List (ℤ × ℤ)) (s : Store) → lines_of_cells x (Some bs) s ≡ flat_map (element_line x bs s) (range_with_len 0 (elements_of bs))
+lines_are x bs s =
+    ap (λ rs. flat_map (λ c. final_line c (s.held c)) (map (λ is. let c : Cell = record { name = x; subscripts = is } in c) rs)) (in_order bs)
     ∙ flat_map-map (λ c. final_line c (s.held c)) (λ is. let c : Cell = record { name = x; subscripts = is } in c) (map (subscripts_at bs) (range_with_len 0 (elements_of bs)))
     ∙ flat_map-map (λ is. let c : Cell = record { name = x; subscripts = is } in final_line c (s.held c)) (subscripts_at bs) (range_with_len 0 (elements_of bs))
 
@@ -81,16 +81,16 @@ lines_alike f g a (suc n) h = ap₂ (λ xs ys. xs ++ ys)
     (lines_alike f g (a + 1) n (λ k l. subst (λ j. f j ≡ g j) (let e : a + suc k ≡ a + 1 + k = omega arith in e)
     (h (suc k) (omega arith))))
 
-pub lines_held : (x : List ℕ) (bs : List (ℤ × ℤ)) (vs : List Value) (s : Store) → AllByRecursion IsBounded bs
+pub lines_held : (x : List ℕ) (bs : List (ℤ × ℤ)) (vs : List Value) (s : Store)
     → map s.held (cells_of x bs) ≡ vs → lines_of_cells x (Some bs) s ≡ flat_map (value_line x bs vs) (range_with_len 0 (elements_of bs))
-lines_held x bs vs s h e =
+lines_held x bs vs s e =
     let ks = range_with_len 0 (elements_of bs) in
     let cells : cells_of x bs ≡ map (element x bs) ks =
-    ap (λ rs. map (λ is. let c : Cell = record { name = x; subscripts = is } in c) rs) (in_order bs h)
+    ap (λ rs. map (λ is. let c : Cell = record { name = x; subscripts = is } in c) rs) (in_order bs)
     ∙ map-map (λ is. let c : Cell = record { name = x; subscripts = is } in c) (subscripts_at bs) ks in
     let values : map (λ k. s.held (element x bs k)) ks ≡ vs =
     sym (map-map s.held (element x bs) ks) ∙ ap (map s.held) (sym cells) ∙ e in
-    lines_are x bs s h
+    lines_are x bs s
     ∙ lines_alike (element_line x bs s) (value_line x bs vs) 0 (elements_of bs) (λ k l.
     ap (final_line (element x bs (0 + k))) (sym (ap (λ j. get_or vs j (Int (pos 0))) (let e : 0 + k ≡ k = omega arith in e)
     ∙ ap (λ ws. get_or ws k (Int (pos 0))) (sym values)

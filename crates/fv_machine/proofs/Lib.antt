@@ -22,5 +22,7 @@ pub mod MachineLaws
 pub mod OpeningLaws
 pub mod OpeningStore
 pub mod ShowLaws
+pub mod RowLaws
 pub mod LineLaws
 pub mod SourceNames
+pub mod Telling

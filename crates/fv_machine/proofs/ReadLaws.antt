@@ -201,7 +201,7 @@ Stays-takes_word line k limit s h e = ended_way (λ s. answered line (from_value
 Stays-reads_into : (lang : Dialect) (line : ℕ) (c : Cell) → Stays (λ limit. reads_into lang limit line c)
 Stays-reads_into lang line c = Stays-takes_word line (λ w limit. evaluates line (λ s. read_value (s.held c) w) (λ v. checks_range lang limit line v (counts_step lang limit (stores c v))))
 
-Stays-cells : (lang : Dialect) (line : ℕ) (cs : List Cell) → Stays (λ limit. for_each cs (reads_into lang limit line))
+pub Stays-cells : (lang : Dialect) (line : ℕ) (cs : List Cell) → Stays (λ limit. for_each cs (reads_into lang limit line))
 Stays-cells lang line [] limit s h e = refl
 Stays-cells lang line (c ∷ cs) limit s h e = ap (for_each cs (reads_into lang limit line)) (Stays-reads_into lang line c limit s h e) ∙ Stays-cells lang line cs limit s h e
 
@@ -244,11 +244,11 @@ all_in_order x bs (r ∷ rs) a (suc n) e = ap suc (all_in_order x bs rs (a + 1) 
 
 module _ (ds : List Declaration) (x : List ℕ) (v : Variable) (h : IsOf ds x v) where
   pub cells_count : length (cells_of x (bounds_here v)) ≡ elements_of (bounds_here v)
-  cells_count = all_in_order x (bounds_here v) _ 0 (elements_of (bounds_here v)) (elements_in_order (bounds_here v) h.sound.each)
+  cells_count = all_in_order x (bounds_here v) _ 0 (elements_of (bounds_here v)) (elements_in_order (bounds_here v))
 
   pub cell_place : (k : ℕ) (d : Cell) → k < elements_of (bounds_here v) → place ds (get_or (cells_of x (bounds_here v)) k d).name (get_or (cells_of x (bounds_here v)) k d).subscripts ≡ Some (v.start + k)
   cell_place k d l =
-      let c = in_order x (bounds_here v) _ 0 (elements_of (bounds_here v)) k d (elements_in_order (bounds_here v) h.sound.each) l in
+      let c = in_order x (bounds_here v) _ 0 (elements_of (bounds_here v)) k d (elements_in_order (bounds_here v)) l in
       ap (λ (c : Cell). place ds c.name c.subscripts) c.1 ∙ h.place c.0 ∙ ap (option_map (λ k. v.start + k)) (c.2 ∙ ap (λ k. let o : Option ℕ = Some k in o) (let f : 0 + k ≡ k = omega arith in f))
 
 pub all_missing : (line : ℕ) (ds : List Declaration) (vs : List Value) (x : List ℕ) → opening_bounds ds x ≡ None → Err (Fault' Allocated line) ≡ located line (all_cells x (store_of ds vs))
@@ -364,7 +364,7 @@ Stays-reads_item lang (Single (Reduce r a)) line = λ limit s h e. refl
 Stays-reads_item lang (Constant t) line = λ limit s h e. refl
 Stays-reads_item lang (ImpliedDo is x a b c) line = Stays-evaluates line (number_of lang a) _
 
-Stays-reads_items : (lang : Dialect) (is : P.Items) (line : ℕ) → Stays (λ limit. reads_items lang limit is line)
+pub Stays-reads_items : (lang : Dialect) (is : P.Items) (line : ℕ) → Stays (λ limit. reads_items lang limit is line)
 Stays-reads_items lang P.no_items line limit s h e = refl
 Stays-reads_items lang (P.item i is) line limit s h e = ap (reads_items lang limit is line) (Stays-reads_item lang i line limit s h e) ∙ Stays-reads_items lang is line limit s h e
 

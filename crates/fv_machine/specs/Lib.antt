@@ -11,3 +11,4 @@ pub mod Jumps
 pub mod Reading
 pub mod Endings
 pub mod Showing
+pub mod Told

@@ -1,5 +1,5 @@
 //! The lines of the final store.
-ghost use Rattle.std.specs.Prelude.{◌≡◌, ◌<◌, ◌≤◌, ◌+ℤ◌, ◌%◌, pos, Some, OnErr, map, length};
+ghost use Rattle.std.specs.Prelude.{◌≡◌, ◌<◌, ◌≤◌, ◌+ℤ◌, ◌/◌, ◌%◌, ◌^◌, pos, Some, OnErr, MatchOption, map, length};
 ghost use Rattle.std.specs.List.{flat_map};
 ghost use Rattle.std.specs.Fmt.{signed_decimal};
 ghost use Rattle.fv_io.specs.Causes.{Rose};
@@ -9,14 +9,14 @@ ghost use Rattle.fv_meaning.specs.Store.{Store, size_of, cells_of};
 ghost use Rattle.fv_meaning.specs.Texts.{subscripts_text, final_line};
 ghost use Rattle.fv_meaning.specs.Steps.{lines_of_cells, lines_of_name};
 ghost use Rattle.fv_meaning.specs.Profile77.{elements_of};
-ghost use Rattle.fv_machine.specs.Storage.{AreBounds, bounds_list, IsBounded};
+ghost use Rattle.fv_machine.specs.Storage.{bounds_list};
 ghost use Rattle.fv_machine.specs.Stored.{names_in, store_in, IsOf, bounds_here};
 ghost use Rattle.fv_machine.specs.Texts.{WritesText};
 ghost use Rattle.fv_machine.specs.Showing.{subscripts_at, element, behind_commas, held_text};
 
 use crate::storage::Storage;
 use crate::texts::write_value;
-use crate::variables::{Variable, dims_of, elements, size};
+use crate::variables::{Variable, dims_of, elements};
 use fv_io::{Sink, WriteFault, write_all};
 use fv_tree::{Dim, Name, Value};
 
@@ -76,8 +76,7 @@ pub fn write_lines<K: Sink>(
     values: &[Value],
     out: &mut K,
 ) -> Result<(), WriteFault>
-    requires bounds { AreBounds (bounds_list dims.now) }
-    requires all { length values.now ≡ elements_of (bounds_list dims.now) }
+    requires { length values.now ≡ elements_of (bounds_list dims.now) }
     ensures text { (s : Store) → map s.held (cells_of name (bounds_list dims.now)) ≡ values.now
         → WritesText (K.taken out.old) (lines_of_cells name (Some (bounds_list dims.now)) s) (K.taken out.new) result }
     ensures fault { OnErr result (Rose (K.faults out.old) (K.faults out.new)) }
@@ -97,7 +96,7 @@ fn write_line<K: Sink>(
     value: Value,
     out: &mut K,
 ) -> Result<(), WriteFault>
-    requires { AreBounds (bounds_list dims.now) }
+    requires { place < elements_of (bounds_list dims.now) }
     ensures text { WritesText (K.taken out.old) (final_line (element name (bounds_list dims.now) place) value)
         (K.taken out.new) result }
     ensures fault { OnErr result (Rose (K.faults out.old) (K.faults out.new)) }
@@ -119,8 +118,9 @@ fn write_held<K: Sink>(value: Value, out: &mut K) -> Result<(), WriteFault>
 }
 
 // The subscripts of the element at this place among those of its array. A scalar has none.
+#[tactic(auto, using(crate::proofs::RowLaws::row_laws))]
 fn write_subscripts<K: Sink>(dims: &[Dim], place: usize, out: &mut K) -> Result<(), WriteFault>
-    requires { AreBounds (bounds_list dims.now) }
+    requires { place < elements_of (bounds_list dims.now) }
     ensures text { WritesText (K.taken out.old) (subscripts_text (subscripts_at (bounds_list dims.now) place))
         (K.taken out.new) result }
     ensures fault { OnErr result (Rose (K.faults out.old) (K.faults out.new)) }
@@ -131,13 +131,14 @@ fn write_subscripts<K: Sink>(dims: &[Dim], place: usize, out: &mut K) -> Result<
     };
     write_all(out, b"(")?;
     write_subscript(*dim, place, out)?;
-    write_more(inner, place / size(*dim), out)?;
+    write_more(inner, row(*dim, place), out)?;
     write_all(out, b")")
 }
 
 // The subscripts behind the first one.
+#[tactic(auto, using(crate::proofs::RowLaws::row_laws))]
 fn write_more<K: Sink>(dims: &[Dim], place: usize, out: &mut K) -> Result<(), WriteFault>
-    requires { AreBounds (bounds_list dims.now) }
+    requires { place < elements_of (bounds_list dims.now) }
     ensures text { WritesText (K.taken out.old) (behind_commas (subscripts_at (bounds_list dims.now) place))
         (K.taken out.new) result }
     ensures fault { OnErr result (Rose (K.faults out.old) (K.faults out.new)) }
@@ -148,17 +149,51 @@ fn write_more<K: Sink>(dims: &[Dim], place: usize, out: &mut K) -> Result<(), Wr
     };
     write_all(out, b",")?;
     write_subscript(*dim, place, out)?;
-    write_more(inner, place / size(*dim), out)
+    write_more(inner, row(*dim, place), out)
 }
 
 fn write_subscript<K: Sink>(dim: Dim, place: usize, out: &mut K) -> Result<(), WriteFault>
-    requires { IsBounded (bounds_of dim) }
+    requires { 0 < size_of (bounds_of dim) }
     ensures text { WritesText (K.taken out.old)
         (signed_decimal ((bounds_of dim).0 +ℤ pos (place % size_of (bounds_of dim))))
         (K.taken out.new) result }
     ensures fault { OnErr result (Rose (K.faults out.old) (K.faults out.new)) }
     ensures later { K.faults out.old ≤ K.faults out.new }
 {
-    let behind = place % size(dim);
+    let behind = column(dim, place);
     write_value(Value::Int(i128::from(dim.lower) + behind as i128), out)
+}
+
+// How many numbers the dimension has, unless they are more than the elements that any memory holds.
+fn bounded_size(dim: Dim) -> Option<usize>
+    ensures { MatchOption result (2 ^ 64 ≤ size_of (bounds_of dim)) (λ n. size_of (bounds_of dim) ≡ n) }
+{
+    if dim.upper < dim.lower {
+        return Some(0);
+    }
+    usize::try_from(i128::from(dim.upper) - i128::from(dim.lower) + 1).ok()
+}
+
+// The place, among the elements of the other dimensions, of the row in which the element stands.
+#[tactic(auto, using(crate::proofs::RowLaws::first_row))]
+fn row(dim: Dim, place: usize) -> usize
+    requires { 0 < size_of (bounds_of dim) }
+    ensures { result ≡ place / size_of (bounds_of dim) }
+{
+    match bounded_size(dim) {
+        None => 0,
+        Some(size) => place / size,
+    }
+}
+
+// The place of the element in its row.
+#[tactic(auto, using(crate::proofs::RowLaws::first_row))]
+fn column(dim: Dim, place: usize) -> usize
+    requires { 0 < size_of (bounds_of dim) }
+    ensures { result ≡ place % size_of (bounds_of dim) }
+{
+    match bounded_size(dim) {
+        None => place,
+        Some(size) => place % size,
+    }
 }

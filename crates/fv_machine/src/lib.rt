@@ -5,6 +5,7 @@
 mod cells;
 mod final_store;
 mod input;
+mod jumps;
 mod opening;
 mod progress;
 mod steps;
@@ -15,6 +16,7 @@ mod variables;
 
 pub use final_store::write_lines;
 pub use input::read_value;
+pub use jumps::passed;
 pub use progress::{Halt, Left, Progress, ended};
 pub use steps::{Turns, add, at, check_range, increment, trip_count};
 pub use storage::Storage;

@@ -1,3 +1,5 @@
 pub mod NumberLaws
-pub mod Adding
-pub mod Found
+pub mod Placed
+pub mod SoFar
+pub mod Listed
+pub mod Blocks

@@ -8,7 +8,7 @@ use Rattle.nest_tree.specs.declared.parts.Part.{Part}
 use Rattle.nest_tree.specs.declared.parts.Part.TheVariants as variants
 use Rattle.nest_tree.specs.View.{part_of}
 use Rattle.nest_tree.proofs.Equations.{part_of-run, part_of-turns, part_of-choice, part_of-label, part_of-jump}
-use Rattle.nest_blocks.specs.Blocks.{number_of_part}
+use Rattle.loop_numbers.specs.Numbers.{number_of_part}
 
 pub number-run : (s : GuardedStmt) → number_of_part (part_of (variants.Run s)) ≡ 0
 number-run s = ap number_of_part (part_of-run s)

@@ -4,20 +4,10 @@ use Rattle.fv_tree.specs.Plain.{Block, Program}
 use Rattle.find_nests.specs.Found.{InNest, found_in}
 use Rattle.found_sources.specs.Laws.{HasLoopsAlone}
 use Rattle.loop_normal.specs.Normalised.{normalised}
+use Rattle.loop_numbers.specs.Numbers.{loop_number}
 use Rattle.loop_placing.specs.Placing.{block_at}
 use Rattle.nest_translation.specs.Laws.{IsTranslatedNest}
-use Rattle.nest_tree.specs.Plain.{Nest, Part, Run, Turns, Choice, Label, Jump}
-
--- the number of the outermost loop
-abbrev pub number_of_part : Part → ℕ
-number_of_part (Run s) = 0
-number_of_part (Turns l ps) = l.number
-number_of_part (Choice bs ps) = 0
-number_of_part (Label k) = 0
-number_of_part (Jump k) = 0
-
-abbrev pub loop_number : Nest → ℕ
-loop_number n = number_of_part n.body
+use Rattle.nest_tree.specs.Plain.{Nest}
 
 -- a nest of the program whose outermost loop has this number, and its translation
 pub record IsBlockOfLoop (p : Program) (k : ℕ) (b : Block) : Type 0 where

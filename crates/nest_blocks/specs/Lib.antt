@@ -1,3 +1,3 @@
-pub mod Added
+pub mod Answers
 pub mod Blocks
 pub mod Places

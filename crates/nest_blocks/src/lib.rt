@@ -1,7 +1,9 @@
-//! What stands in the place of the nests of a program.
+//! The listing of a program, and what stands in the place of its nests.
 #![tactic(auto)]
 
-mod blocks;
+mod answers;
+mod laws;
 mod places;
 
-pub use blocks::nest_blocks;
+pub use answers::{Answers, program_answers};
+pub use laws::{answers_are_blocks, answers_are_listed};

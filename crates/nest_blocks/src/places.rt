@@ -1,7 +1,7 @@
 //! Blocks in the places of loops.
 ghost use Rattle.std.specs.Prelude.{◌≡◌, ◌<◌, OnOk};
 ghost use Rattle.nest_tree.specs.View.{nest_of};
-ghost use Rattle.nest_blocks.specs.Blocks.{loop_number};
+ghost use Rattle.loop_numbers.specs.Numbers.{loop_number};
 ghost use Rattle.nest_blocks.specs.Places.{IsPut, HasRoom};
 
 use fv_tree::{Block, Memory};

@@ -41,12 +41,12 @@ in_class s (c ∷ cs) i = by (In-append s c (concat cs) i) (in_class s cs)
     by (inl j) f = (c, inl refl, j)
     by (inr j) f = let k = f j in (k.0, inr k.1, k.2)
 
-class_in : (s : ℕ) (c : List ℕ) (cs : List (List ℕ)) → In c cs → In s c → In s (concat cs)
+pub class_in : (s : ℕ) (c : List ℕ) (cs : List (List ℕ)) → In c cs → In s c → In s (concat cs)
 class_in s c [] i j = absurd i
 class_in s c (b ∷ cs) (inl e) j = In-left s b (concat cs) (subst (In s) e j)
 class_in s c (b ∷ cs) (inr i) j = In-right s b (concat cs) (class_in s c cs i j)
 
-class_once : (c : List ℕ) (cs : List (List ℕ)) → In c cs → Distinct (concat cs) → Distinct c
+pub class_once : (c : List ℕ) (cs : List (List ℕ)) → In c cs → Distinct (concat cs) → Distinct c
 class_once c [] i d = absurd i
 class_once c (b ∷ cs) (inl e) d = subst Distinct (sym e) (Pairwise-left (λ x y. ¬ (x ≡ y)) b (concat cs) d)
 class_once c (b ∷ cs) (inr i) d = class_once c cs i (Pairwise-right (λ x y. ¬ (x ≡ y)) b (concat cs) d)

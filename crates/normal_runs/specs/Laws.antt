@@ -26,7 +26,8 @@ BodyBeside =
     → All (λ x. t.store.bounds x ≡ Some []) (counters_in n)
     → GoOnBeside n.symbols values (apart_within n []) [] [] s t
     → (does (sequential bits) None (statement_of_part n.line n.body) s).way ≡ Going
-    → GoOnBeside n.symbols values (apart_within n []) [] [] (does (sequential bits) None (statement_of_part n.line n.body) s)
+    → GoOnBeside n.symbols values (apart_within n []) [] []
+    (does (sequential bits) None (statement_of_part n.line n.body) s)
     (does (sequential bits) None (statement_of_part n.line body) t)
     × KeepsBehind n t.store (does (sequential bits) None (statement_of_part n.line body) t).store
     × KeepsBounds t.store (does (sequential bits) None (statement_of_part n.line body) t).store

@@ -46,8 +46,8 @@ StatementBeside =
     → GoOnBeside symbols values apart round is (does (sequential bits) None (guarded_statement g) s)
     (does (sequential bits) None (guarded_statement (normal_statement symbols round g)) t)
 
--- The loop from a to b turns k times. Its form from 1 by 1, which is r, has the trip top, which gives as many turns, and
--- in the turn i the form of its variable is the variable's value
+-- The loop from a to b turns k times. Its form from 1 by 1, which is r, has the trip top, which gives as many turns,
+-- and in the turn i the form of its variable is the variable's value
 pub record HasNormalBounds (bits : ℕ) (symbols : List (List ℕ)) (values : ℕ → ℤ) (round : List NormalLoop)
     (is : List ℕ) (t : Store) (step : ℤ) (r : NormalLoop) (a : ℤ) (k : ℕ) : Type 0 where
   pub top : ℤ

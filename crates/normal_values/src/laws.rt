@@ -2,7 +2,8 @@
 //! the loops. A law is a function without a body: its contract is what holds.
 ghost use Rattle.normal_values.specs.Laws.{BoundsBeside, ExpressionBeside, LastValueInPlace, StatementBeside};
 
-/// Where an expression has a value, its normal form, in which forms of the counters stand for the variables, has it too.
+/// Where an expression has a value, its normal form, in which forms of the counters stand for the variables, has it
+/// too.
 pub fn expression_beside()
     ensures { ExpressionBeside }
 {}

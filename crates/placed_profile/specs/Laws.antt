@@ -21,8 +21,8 @@ pub record IsWithoutLabels (b : Block) : Type 0 where
 abbrev pub AreSourceNames : List (List ℕ) → Type 0
 AreSourceNames xs = (x : List ℕ) → Contains xs x → IsSourceName x
 
--- wherever the loop is a statement of p's profile, in loops with variables that FORTRAN 77 has, the block is one of q's;
--- neither has labels and jumps
+-- wherever the loop is a statement of p's profile, in loops with variables that FORTRAN 77 has, the block is one of
+-- q's; neither has labels and jumps
 pub record SuitsLoop (p q : Program) (l : Placed) (b : Block) : Type 0 where
   pub profile : (w : Surroundings) → AreSourceNames w.variables
       → IsStatement p.declarations (as_statement l.loop.loop) w → IsBlock q.declarations b w

@@ -12,12 +12,14 @@ use Rattle.f90_grammar.specs.PrintedText.{with_line_feed}
 use Rattle.f90_print.specs.Notes.{text_of}
 use Rattle.nest_tree.specs.Plain.{Nest}
 use Rattle.nest_graph.specs.Graph.{IsGraphOf}
+use Rattle.find_nests.specs.declared.reasons.Reason.{Reason}
 use Rattle.find_nests.specs.declared.search.Found.{Found as Found'}
 use Rattle.find_nests.specs.Found.{Found, found_in, found_of}
 use Rattle.graph_print.specs.Lines.{Entry, KeepEntry}
 use Rattle.graph_print.specs.Listing.{entries_of, lines_of_entries, lines_of_entry, listing_of}
 use Rattle.graph_print.proofs.LoopLines.{entries-append, one_more}
-use Rattle.program_listing.specs.Listing.{AreLinesOf, HasEntries, HasGraphEntries, HasNestEntries, HaveEntries, IsListing, IsListingText, all_holds, not_built}
+use Rattle.program_listing.specs.Listing.{AreLinesOf, AreTestsOf, HasEntries, HasNestEntries, HaveEntries, IsListing, IsListingText}
+use Rattle.program_listing.specs.Listing.{all_holds, kept, not_built, reason_word, tested_entries}
 use Rattle.program_listing.specs.Testable.{IsTestable}
 
 -- an answer with lines of such entries
@@ -29,12 +31,12 @@ GivesTexts r lines = IfOk r (λ all. map text_of all ≡ lines)
 
 -- ---- a nest
 
-pub graph_entries : {E : Type 0} (r : Result (List Line) E) (number : ℕ) (n : Nest) (g : Graph) (holds : List Hold) (cycles : List Cycle) → IsGraphOf n g → holds ≡ all_holds n → cycles ≡ []
-    → GivesTexts r (listing_of n number g holds cycles) → GivesLines r (HasGraphEntries number n)
-graph_entries (Err e) number n g holds cycles graph h none l = tt
-graph_entries (Ok all) number n g holds cycles graph h none l = record {
-  entries = entries_of n number g (all_holds n) [];
-  are = (g, graph, refl);
+pub tests_of : (number : ℕ) (n : Nest) (g : Graph) (holds : List Hold) (cycles : List Cycle) (lines : List Line)
+    → IsGraphOf n g → holds ≡ all_holds n → cycles ≡ []
+    → map text_of lines ≡ listing_of n number g holds cycles → AreTestsOf number n g holds (map text_of lines)
+tests_of number n g holds cycles lines graph h none l = record {
+  graph = graph;
+  holds_are = h;
   lines_are = l ∙ ap (λ hs. listing_of n number g hs cycles) h ∙ ap (λ cs. listing_of n number g (all_holds n) cs) none;
 }
 
@@ -44,9 +46,13 @@ not_built_entries (Err e) n word w h = tt
 not_built_entries (Ok all) n word w h =
     h ∙ ap (λ (t : List ℕ). lines_of_entry (KeepEntry n.line t)) w ∙ sym (append-nil (lines_of_entry (KeepEntry n.line (codes "NOTBUILT"))))
 
-pub tested : {E : Type 0} (r : Result (List Line) E) (found n : Nest) → IsTestable n → GivesLines r (HasGraphEntries found.number n) → GivesLines r (HasNestEntries found (Some n))
-tested (Err e) found n t h = tt
-tested (Ok all) found n t h = record { entries = h.entries; are = inl (t, h.are); lines_are = h.lines_are }
+pub tested : (found n : Nest) (g : Graph) (holds : List Hold) (lines : List (List ℕ)) → IsTestable n
+    → AreTestsOf found.number n g holds lines → AreLinesOf (HasNestEntries found (Some n)) lines
+tested found n g holds lines t h = record {
+  entries = tested_entries found.number n g;
+  are = inl (t, (g, h.graph, refl));
+  lines_are = h.lines_are;
+}
 
 pub untested : {E : Type 0} (r : Result (List Line) E) (found n : Nest) → (IsTestable n → ⊥) → GivesTexts r (lines_of_entries (not_built found))
     → GivesLines r (HasNestEntries found (Some n))
@@ -66,14 +72,18 @@ normal r found o p e h = subst (λ (o : Option Nest). GivesLines r (HasNestEntri
 pub found_entries : {E : Type 0} (r : Result (List Line) E) (f : Found) (g : Found) → g ≡ f → GivesLines r (HasEntries f) → GivesLines r (HasEntries g)
 found_entries r f g e h = subst (λ (f : Found). GivesLines r (HasEntries f)) (sym e) h
 
-pub kept_entries : {E : Type 0} (r : Result (List Line) E) (line : ℕ) (word wanted : List ℕ) → word ≡ wanted → GivesTexts r (lines_of_entry (KeepEntry line word))
-    → GivesLines r (λ entries. entries ≡ KeepEntry line wanted ∷ [])
-kept_entries (Err e) line word wanted w h = tt
-kept_entries (Ok all) line word wanted w h = record {
-  entries = KeepEntry line wanted ∷ [];
-  are = refl;
-  lines_are = h ∙ ap (λ (t : List ℕ). lines_of_entry (KeepEntry line t)) w ∙ sym (append-nil (lines_of_entry (KeepEntry line wanted)));
-}
+pub kept_texts : {E : Type 0} (r : Result (List Line) E) (line : ℕ) (reason : Reason) (word : List ℕ)
+    → word ≡ reason_word reason → GivesTexts r (lines_of_entry (KeepEntry line word))
+    → GivesTexts r (lines_of_entries (kept line reason))
+kept_texts (Err e) line reason word w h = tt
+kept_texts (Ok all) line reason word w h =
+    h ∙ ap (λ (t : List ℕ). lines_of_entry (KeepEntry line t)) w
+    ∙ sym (append-nil (lines_of_entry (KeepEntry line (reason_word reason))))
+
+pub kept_entries : {E : Type 0} (r : Result (List Line) E) (line : ℕ) (reason : Reason)
+    → GivesTexts r (lines_of_entries (kept line reason)) → GivesLines r (λ entries. entries ≡ kept line reason)
+kept_entries (Err e) line reason h = tt
+kept_entries (Ok all) line reason h = record { entries = kept line reason; are = refl; lines_are = h }
 
 -- ---- one more
 

@@ -33,10 +33,18 @@ reason_word Large = codes "LARGE"
 abbrev pub all_holds : Nest → List Hold
 all_holds n = flat_map (holds_of n) (counted 1 (length (nest_statements n)))
 
--- with this number, a graph of the nest and its holds; cycles aren't listed so far
+-- with this number, by its graph and all its holds; cycles aren't listed so far
+abbrev pub tested_entries : ℕ → Nest → Graph → List Entry
+tested_entries number n g = entries_of n number g (all_holds n) []
+
 abbrev pub HasGraphEntries : ℕ → Nest → List Entry → Type 0
-HasGraphEntries number n entries =
-    (g : Graph) × IsGraphOf n g × (entries ≡ entries_of n number g (all_holds n) [])
+HasGraphEntries number n entries = (g : Graph) × IsGraphOf n g × (entries ≡ tested_entries number n g)
+
+-- a graph of the nest, all its holds, and the lines that say so
+pub record AreTestsOf (number : ℕ) (n : Nest) (g : Graph) (holds : List Hold) (lines : List (List ℕ)) : Type 0 where
+  pub graph : IsGraphOf n g
+  pub holds_are : holds ≡ all_holds n
+  pub lines_are : lines ≡ lines_of_entries (tested_entries number n g)
 
 -- a nest that isn't tested so far
 abbrev pub not_built : Nest → List Entry
@@ -48,6 +56,10 @@ HasNestEntries found None entries = entries ≡ not_built found
 HasNestEntries found (Some n) entries =
     (IsTestable n × HasGraphEntries found.number n entries) ⊎ ((IsTestable n → ⊥) × (entries ≡ not_built found))
 
+-- a kept loop
+abbrev pub kept : ℕ → Reason → List Entry
+kept line r = KeepEntry line (reason_word r) ∷ []
+
 -- ---- programs
 
 -- no more symbols than a program has names
@@ -57,7 +69,7 @@ HasFewSymbols (Kept line r) = Unit {0}
 
 abbrev pub HasEntries : Found → List Entry → Type 0
 HasEntries (InNest n) entries = HasNestEntries n (normalised n) entries
-HasEntries (Kept line r) entries = entries ≡ KeepEntry line (reason_word r) ∷ []
+HasEntries (Kept line r) entries = entries ≡ kept line r
 
 -- one after the other
 abbrev pub HaveEntries : List Found → List Entry → Type 0

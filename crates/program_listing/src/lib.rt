@@ -8,5 +8,6 @@ mod straight;
 mod texts;
 mod words;
 
-pub use listing::list;
+pub use listing::{kept_loop, list};
+pub use nests::{Tests, not_built, test};
 pub use texts::listing_text;

@@ -1,17 +1,25 @@
 //! The lines of a program.
-ghost use Rattle.std.specs.Prelude.{◌≤◌, IfOk, length, map};
+ghost use Rattle.std.specs.Prelude.{◌≡◌, ◌≤◌, IfOk, length, map};
 ghost use Rattle.f90_print.specs.Notes.{text_of};
 ghost use Rattle.find_nests.specs.Found.{found_of};
 ghost use Rattle.fv_tree.specs.View.{program_of};
-ghost use Rattle.program_listing.specs.Listing.{AreLinesOf, HasEntries, HasFewSymbols, IsListing};
+ghost use Rattle.graph_print.specs.Listing.{lines_of_entries};
+ghost use Rattle.program_listing.specs.Listing.{AreLinesOf, HasEntries, HasFewSymbols, IsListing, kept};
 
 use crate::lists::add;
 use crate::nests::nest_lines;
 use crate::words::reason_word;
-use find_nests::{Found, find_nests};
+use find_nests::{Found, Reason, find_nests};
 use fv_tree::{Line, Memory, Program77, Seq};
 use graph_print::kept_lines;
 use std::alloc::Global;
+
+/// The line of a kept loop.
+pub fn kept_loop(alloc: Global, line: u32, reason: Reason) -> Result<Seq<Line>, Memory>
+    ensures { IfOk result (λ all. map text_of all ≡ lines_of_entries (kept line reason)) }
+{
+    kept_lines(alloc, line, reason_word(reason))
+}
 
 fn lines_of(alloc: Global, found: &Found) -> Result<Seq<Line>, Memory>
     requires { HasFewSymbols (found_of found.now) }
@@ -19,7 +27,7 @@ fn lines_of(alloc: Global, found: &Found) -> Result<Seq<Line>, Memory>
 {
     match found {
         Found::Nest(nest) => nest_lines(alloc, nest),
-        Found::Kept(line, reason) => kept_lines(alloc, *line, reason_word(*reason)),
+        Found::Kept(line, reason) => kept_loop(alloc, *line, *reason),
     }
 }
 

@@ -5,12 +5,12 @@ ghost use Rattle.graph_print.specs.Listing.{lines_of_entries};
 ghost use Rattle.loop_normal.specs.Normalised.{normalised};
 ghost use Rattle.nest_tree.specs.Bodies.{nest_statements};
 ghost use Rattle.nest_tree.specs.View.{nest_of};
-ghost use Rattle.program_listing.specs.Listing.{AreLinesOf, HasGraphEntries, HasNestEntries, all_holds, not_built};
+ghost use Rattle.program_listing.specs.Listing.{AreLinesOf, AreTestsOf, HasNestEntries, all_holds, not_built};
 ghost use Rattle.program_listing.specs.Testable.{IsTestable};
 
 use crate::lists::add;
 use crate::straight::is_testable;
-use components::Hold;
+use components::{Graph, Hold};
 use dep_graph::graph;
 use fv_tree::{Line, Memory, Seq};
 use graph_print::{kept_lines, lines};
@@ -18,6 +18,14 @@ use loop_normal::normalise;
 use nest_tree::Nest;
 use sections::holds;
 use std::alloc::Global;
+
+/// What tests say of a nest: its graph, the holds of all its statements, and its lines in a listing.
+#[derive(Debug, Drop)]
+pub struct Tests {
+    pub graph: Graph,
+    pub holds: Seq<Hold>,
+    pub lines: Seq<Line>,
+}
 
 // The holds of all statements of a nest that has so many.
 fn all_holds(alloc: Global, nest: &Nest, count: u32) -> Result<Seq<Hold>, Memory>
@@ -32,20 +40,23 @@ fn all_holds(alloc: Global, nest: &Nest, count: u32) -> Result<Seq<Hold>, Memory
     Ok(Seq::from_vec(all))
 }
 
-// The lines of a nest with this number, with its graph and its holds.
-fn graph_lines(alloc: Global, number: u32, nest: &Nest) -> Result<Seq<Line>, Memory>
+/// Tests a nest that bears this number in the listing. Cycles aren't listed so far.
+pub fn test(alloc: Global, number: u32, nest: &Nest) -> Result<Tests, Memory>
     requires { IsTestable (nest_of nest.now) }
-    ensures { IfOk result (λ all. AreLinesOf (HasGraphEntries number (nest_of nest.now)) (map text_of all)) }
+    ensures { IfOk result (λ t. AreTestsOf number (nest_of nest.now) t.graph t.holds (map text_of t.lines)) }
 {
     let graph = graph(alloc, nest)?;
     let holds = all_holds(alloc, nest, graph.stmts)?;
-    let cycles = Seq::new(alloc);
-    let all = lines(alloc, nest, number, &graph, &holds, &cycles)?;
-    Ok(all)
+    let lines = lines(alloc, nest, number, &graph, &holds, &Seq::new(alloc))?;
+    Ok(Tests {
+        graph,
+        holds,
+        lines,
+    })
 }
 
-// The line of a nest that isn't tested so far.
-fn not_built(alloc: Global, nest: &Nest) -> Result<Seq<Line>, Memory>
+/// The line of a nest that isn't tested so far.
+pub fn not_built(alloc: Global, nest: &Nest) -> Result<Seq<Line>, Memory>
     ensures { IfOk result (λ all. map text_of all ≡ lines_of_entries (not_built (nest_of nest.now))) }
 {
     kept_lines(alloc, nest.line, b"NOTBUILT")
@@ -59,7 +70,7 @@ fn normal_lines(alloc: Global, found: &Nest, nest: &Nest) -> Result<Seq<Line>, M
     if !is_testable(alloc, nest)? {
         return not_built(alloc, found);
     }
-    graph_lines(alloc, found.number, nest)
+    Ok(test(alloc, found.number, nest)?.lines)
 }
 
 /// The lines of a nest that was found.

@@ -24,11 +24,15 @@ use Rattle.fv_meaning.specs.Typed.{declared}
 use Rattle.fv_meaning.specs.Typed90.{IsFree}
 use Rattle.fv_tree.specs.Names.{IsSourceName}
 use Rattle.fv_tree.specs.Plain.{Block, Declaration, Program}
+use Rattle.loop_numbers.proofs.Behind.{next_from_one}
+use Rattle.loop_numbers.proofs.Nests.{nest_number}
+use Rattle.loop_numbers.proofs.Order.{same_loop}
+use Rattle.loop_numbers.specs.Numbers.{loop_number}
 use Rattle.loop_placing.specs.Placing.{block_at}
 use Rattle.made_declarations.proofs.Made.{made_names}
 use Rattle.made_declarations.specs.Declaring.{integer_scalar, with_integers}
 use Rattle.made_declarations.specs.Laws.{AreWith, IsMadeName, WithMadeNames}
-use Rattle.nest_blocks.specs.Blocks.{IsBlockOfLoop, loop_number}
+use Rattle.nest_blocks.specs.Blocks.{AreNestBlocks, IsBlockOfLoop}
 use Rattle.nest_parts.specs.Numbers.{next}
 use Rattle.nest_profile.proofs.Law.{translation_is_of_profile}
 use Rattle.nest_profile.specs.Laws.{TranslationIsOfProfile}
@@ -50,13 +54,12 @@ use Rattle.profile_laws.specs.Profiles.{AddMadeNames}
 use Rattle.program_translation.proofs.Counted.{IsNumbered, IsOneOf, counter_among, each_numbered, each_of}
 use Rattle.program_translation.proofs.Counted.{every_counter, numbered_is_made, variables_numbered}
 use Rattle.program_translation.proofs.Named.{block_known}
-use Rattle.program_translation.proofs.Numbered.{nest_number, next_from_one, same_loop}
 use Rattle.program_translation.proofs.Sources.{name_among}
 use Rattle.program_translation.proofs.Standing.{Stands, loop_stands}
 use Rattle.program_translation.proofs.Translating.{translation_keeps}
 use Rattle.program_translation.proofs.Unlabelled.{endings_unlabelled, source_unlabelled, translation_unlabelled}
 use Rattle.program_translation.specs.Laws.{AreTranslations}
-use Rattle.program_translation.specs.Translated.{IsGoodTranslation, IsMadeIn, IsTranslation, TranslationIsGood}
+use Rattle.program_translation.specs.Translated.{IsGoodTranslation, IsMadeIn, IsPlacedBy, TranslationIsGood}
 
 -- what is declared bears a declared name
 name_of_declared : (ds : List Declaration) (e : Declaration) (x : List ℕ) → declared ds x ≡ Some e → Contains (map (λ (d : Declaration). d.name) ds) x
@@ -79,7 +82,8 @@ other_transpose = other_letter (codes "TRANSPOSE") (λ e. omega (arith, e))
 other_reshape : IsNumbered (codes "RESHAPE") → ⊥
 other_reshape = other_letter (codes "RESHAPE") (λ e. omega (arith, e))
 
-module _ (within : WithMadeNames) (profile : TranslationIsOfProfile) (p q : Program) (program : IsProgram77 fortran77 p) (t : IsTranslation p q) where
+module _ (within : WithMadeNames) (profile : TranslationIsOfProfile) (p q : Program) (blocks : List (Option Block))
+    (program : IsProgram77 fortran77 p) (are : AreNestBlocks p blocks) (t : IsPlacedBy p blocks q) where
   -- ---- all counters besides the names of the program
 
   abbrev rs : List Declaration
@@ -122,9 +126,9 @@ module _ (within : WithMadeNames) (profile : TranslationIsOfProfile) (p q : Prog
 
   -- ---- a block
 
-  module _ (k : ℕ) (b : Block) (from : 1 ≤ k) (e : block_at t.blocks k ≡ Some b) where
+  module _ (k : ℕ) (b : Block) (from : 1 ≤ k) (e : block_at blocks k ≡ Some b) where
     is_block : IsBlockOfLoop p k b
-    is_block = t.are.only k b from e
+    is_block = are.only k b from e
 
     found_nest : IsFoundNest p is_block.nest
     found_nest = found_nest_is_loop p is_block.nest is_block.among
@@ -191,11 +195,11 @@ module _ (within : WithMadeNames) (profile : TranslationIsOfProfile) (p q : Prog
   -- ---- the made names
 
   -- the block at 0 is that at 1
-  known_at : (k : ℕ) (b : Block) → block_at t.blocks k ≡ Some b → (x : List ℕ) → Contains (names_in_block b) x → Contains (names_of p) x ⊎ IsNumbered x
+  known_at : (k : ℕ) (b : Block) → block_at blocks k ≡ Some b → (x : List ℕ) → Contains (names_in_block b) x → Contains (names_of p) x ⊎ IsNumbered x
   known_at zero b e x c = own_or_counter 1 b (omega arith) e x c
   known_at (suc k) b e x c = own_or_counter (suc k) b (omega arith) e x c
 
-  stands_numbered : (x : List ℕ) → IsMadeIn t.blocks x → IsNumbered x
+  stands_numbered : (x : List ℕ) → IsMadeIn blocks x → IsNumbered x
   stands_numbered x h = by (known_at h.stands.number h.stands.block h.stands.is x h.stands.among)
     where
       by : Contains (names_of p) x ⊎ IsNumbered x → IsNumbered x
@@ -232,7 +236,7 @@ module _ (within : WithMadeNames) (profile : TranslationIsOfProfile) (p q : Prog
       made : (e : Declaration) → Contains rs e → Contains qs e ⊎ (IsSourceName e.name → ⊥)
       made e c = by e (with_counters.more.made e c)
 
-  names_declared : (k : ℕ) (b : Block) → block_at t.blocks k ≡ Some b → (x : List ℕ) → Contains (names_in_block b) x → Contains (map (λ (d : Declaration). d.name) qs) x
+  names_declared : (k : ℕ) (b : Block) → block_at blocks k ≡ Some b → (x : List ℕ) → Contains (names_in_block b) x → Contains (map (λ (d : Declaration). d.name) qs) x
   names_declared k b e x c = by (known_at k b e x c)
     where
       by : Contains (names_of p) x ⊎ IsNumbered x → Contains (map (λ (d : Declaration). d.name) qs) x
@@ -244,10 +248,10 @@ module _ (within : WithMadeNames) (profile : TranslationIsOfProfile) (p q : Prog
           let m : Contains t.made x = (t.made_are x).1 (record { stands = record { number = k; block = b; is = e; among = c }; made = numbered_long x n }) in
           name_of_declared qs (integer_scalar x) x (with_made.declared x m)
 
-  all_declared : (k : ℕ) (b : Block) → block_at t.blocks k ≡ Some b → All (Contains (map (λ (d : Declaration). d.name) qs)) (names_in_block b)
+  all_declared : (k : ℕ) (b : Block) → block_at blocks k ≡ Some b → All (Contains (map (λ (d : Declaration). d.name) qs)) (names_in_block b)
   all_declared k b e = λ j d i. names_declared k b e _ (Contains-get_or (names_in_block b) j d i)
 
-  fewer : (k : ℕ) (b : Block) (w : Surroundings) → block_at t.blocks k ≡ Some b → IsBlock rs b w → IsBlock qs b w
+  fewer : (k : ℕ) (b : Block) (w : Surroundings) → block_at blocks k ≡ Some b → IsBlock rs b w → IsBlock qs b w
   fewer k b w e h = block_with_fewer_names qs rs b w with_made.more.are with_counters.more.are some (all_declared k b e) h
 
   -- ---- by the declarations of q
@@ -258,13 +262,13 @@ module _ (within : WithMadeNames) (profile : TranslationIsOfProfile) (p q : Prog
   counters_more : AddMadeNames q.declarations r.declarations
   counters_more = subst (λ (ds : List Declaration). AddMadeNames ds rs) (sym t.declarations) more
 
-  block_is : (k : ℕ) (b : Block) (w : Surroundings) → block_at t.blocks k ≡ Some b → IsBlock rs b w → IsBlock q.declarations b w
+  block_is : (k : ℕ) (b : Block) (w : Surroundings) → block_at blocks k ≡ Some b → IsBlock rs b w → IsBlock q.declarations b w
   block_is k b w e h = subst (λ (ds : List Declaration). IsBlock ds b w) (sym t.declarations) (fewer k b w e h)
 
-  names_are : (k : ℕ) (b : Block) → block_at t.blocks k ≡ Some b → All (Contains (names_of q)) (names_in_block b)
+  names_are : (k : ℕ) (b : Block) → block_at blocks k ≡ Some b → All (Contains (names_of q)) (names_in_block b)
   names_are k b e = subst (λ (ds : List Declaration). All (Contains (map (λ (d : Declaration). d.name) ds)) (names_in_block b)) (sym t.declarations) (all_declared k b e)
 
-  translations : AreTranslations p q r t.blocks
+  translations : AreTranslations p q r blocks
   translations l b i e =
       let k = next l.loop.before in
       let from = next_from_one l.loop.before in
@@ -282,7 +286,7 @@ module _ (within : WithMadeNames) (profile : TranslationIsOfProfile) (p q : Prog
         profile = block_is k b (stands k b from e).round e (of_profile k b from e (stands k b from e).round (stands k b from e).named (stands k b from e).is);
       }
 
-  suits : SuitLoops p q t.blocks
+  suits : SuitLoops p q blocks
   suits l b i e =
       let k = next l.loop.before in
       let from = next_from_one l.loop.before in
@@ -295,12 +299,12 @@ module _ (within : WithMadeNames) (profile : TranslationIsOfProfile) (p q : Prog
 
   good : PlacedProgramIsProgram → IsWithinLimits q.body → IsGoodTranslation p q
   good placed limits =
-      let target = placed p q t.blocks program own_more t.name t.body suits limits in
+      let target = placed p q blocks program own_more t.name t.body suits limits in
       record {
         program = target;
-        keeps = λ input. translation_keeps translation_does_as_loop p q r t.blocks input program target own_more counters_more translations t.body;
+        keeps = λ input. translation_keeps translation_does_as_loop p q r blocks input program target own_more counters_more translations t.body;
       }
 
 pub translation_is_good : TranslationIsGood
-translation_is_good p q program t limits =
-    good made_names translation_is_of_profile p q program t placed_program_is_program limits
+translation_is_good p q blocks program are placed limits =
+    good made_names translation_is_of_profile p q blocks program are placed placed_program_is_program limits

@@ -3,7 +3,6 @@ pub mod Translating
 pub mod Lists
 pub mod Sources
 pub mod Named
-pub mod Numbered
 pub mod Counted
 pub mod Unlabelled
 pub mod Good

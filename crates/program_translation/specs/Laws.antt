@@ -36,7 +36,8 @@ pub record IsTranslationOf (p q r : Program) (l : Placed) (b : Block) : Type 0 w
 -- each block stands for the loop with its number
 abbrev pub AreTranslations : Program → Program → Program → List (Option Block) → Type 0
 AreTranslations p q r blocks = (l : Placed) (b : Block)
-    → Contains (loops_in_block 0 [] p.body) l → block_at blocks (next l.loop.before) ≡ Some b → IsTranslationOf p q r l b
+    → Contains (loops_in_block 0 [] p.body) l → block_at blocks (next l.loop.before) ≡ Some b
+    → IsTranslationOf p q r l b
 
 abbrev pub TranslationKeepsMeaning : Type 0
 TranslationKeepsMeaning = (p q r : Program) (blocks : List (Option Block)) (input : List ℕ)

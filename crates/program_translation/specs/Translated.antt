@@ -24,11 +24,9 @@ pub record IsMadeIn (blocks : List (Option Block)) (x : List ℕ) : Type 0 where
   pub stands : StandsInBlocks blocks x
   pub made : IsSourceName x → ⊥
 
--- In the place of each nest that is loops and statements alone, once its loops go from 1 by 1, stands what is emitted for
--- it; and each made name that stands in one of these blocks is declared as an INTEGER scalar, and no other one
-pub record IsTranslation (p q : Program) : Type 0 where
-  pub blocks : List (Option Block)
-  pub are : AreNestBlocks p blocks
+-- q is p with each of these blocks in the place of its loop; and each made name that stands in one of them is declared
+-- as an INTEGER scalar, and no other one
+pub record IsPlacedBy (p : Program) (blocks : List (Option Block)) (q : Program) : Type 0 where
   pub name : q.name ≡ p.name
   pub body : q.body ≡ block (placed_in blocks 0 p.body)
   pub made : List (List ℕ)
@@ -40,6 +38,8 @@ pub record IsGoodTranslation (p q : Program) : Type 0 where
   pub program : IsProgram90 q
   pub keeps : (input : List ℕ) → KeepsMeaning p q input
 
+-- where what was emitted for the nests of p that are loops and statements alone, once their loops go from 1 by 1,
+-- stands in their place
 abbrev pub TranslationIsGood : Type 0
-TranslationIsGood = (p q : Program) → IsProgram77 fortran77 p → IsTranslation p q → IsWithinLimits q.body
-    → IsGoodTranslation p q
+TranslationIsGood = (p q : Program) (blocks : List (Option Block)) → IsProgram77 fortran77 p → AreNestBlocks p blocks
+    → IsPlacedBy p blocks q → IsWithinLimits q.body → IsGoodTranslation p q

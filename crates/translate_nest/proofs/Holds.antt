@@ -18,31 +18,14 @@ use Rattle.fv_tree.specs.Plain.{Reference}
 use Rattle.nest_tree.specs.Bodies.{Standing, nest_statements}
 use Rattle.nest_tree.specs.Plain.{Nest}
 use Rattle.sections.specs.Holds.{hold_at_level, hold_with, holds_of, reason_of}
-use Rattle.sections.specs.Statements.{IsPlainStatement, no_statement, statement_at}
+use Rattle.program_listing.specs.Listing.{all_holds}
+use Rattle.sections.specs.Statements.{no_statement, statement_at}
 use Rattle.sections.specs.Surroundings.{surroundings_of}
-use Rattle.translate_nest.specs.Normal.{MayBeBlock}
 
 -- what forbids the array form of a statement at a level is among the holds
 abbrev IsListedAt : Nest → List Hold → ℕ → ℕ → Type 0
 IsListedAt n holds k s =
     forms.hold_at (surroundings_at n s) k (standing_at n s).statement.left ≡ None ⊎ (is_held holds k s ≡ true)
-
--- so it is for the first statements
-abbrev pub AreHoldsBefore : Nest → ℕ → List Hold → Type 0
-AreHoldsBefore n before holds = (k s : ℕ) → IsLevelOf n k s → s < before → IsListedAt n holds k s
-
--- ---- a statement may be asked for its holds
-
-pub plain : (n : Nest) (s : ℕ) → MayBeBlock n → s < length (nest_statements n) → IsPlainStatement n (s + 1)
-plain n s h k =
-    let there : (s + 1) - 1 < length (nest_statements n) = omega arith in
-    record {
-      from_one = omega arith;
-      place = omega arith;
-      few_loops = (h.ready.statements ((s + 1) - 1) no_statement there).depth;
-      unguarded = h.unguarded ((s + 1) - 1) no_statement there;
-      symbols = h.ready.symbols;
-    }
 
 -- ---- the holds of one statement
 
@@ -118,27 +101,30 @@ listed_of n k s level =
     subst (λ holds. IsListedAt n holds k s) (ap (holds_in n (s + 1)) (sym (same_statement n s)))
     (listed_from (surroundings_at n s) (standing_at n s).statement.left k s (length (loops_at n s)) 1 from within)
 
-pub holds_more : (n : Nest) (before : ℕ) (old new more : List Hold) → AreHoldsBefore n before old
-    → more ≡ holds_of n (before + 1) → new ≡ old ++ more → AreHoldsBefore n (before + 1) new
-holds_more n before old new more h is now k s level less =
-    subst (λ holds. IsListedAt n holds k s) (sym now) (by (cases_eq s before))
+-- among those of the statements from this one on
+listed_among : (n : Nest) (k s count first : ℕ) → IsLevelOf n k s → first ≤ s + 1 → s + 1 < first + count
+    → IsListedAt n (flat_map (holds_of n) (counted first count)) k s
+listed_among n k s zero first level h g = let no : ⊥ = omega arith in absurd no
+listed_among n k s (suc count) first level h g =
+    by (cases_eq (s + 1) first) (λ after within. listed_among n k s count (first + 1) level after within)
   where
-    by : (s ≡ before) ⊎ (s ≡ before → ⊥) → IsListedAt n (old ++ more) k s
-    by (inl e) =
-        listed_right (surroundings_at n s) (standing_at n s).statement.left k s old more
-        (subst (λ holds. IsListedAt n holds k s) (ap (λ i. holds_of n (i + 1)) e ∙ sym is) (listed_of n k s level))
-    by (inr e) =
-        let earlier : s < before = omega (arith, e) in
-        listed_left (surroundings_at n s) (standing_at n s).statement.left k s old more (h k s level earlier)
+    by : (s + 1 ≡ first) ⊎ (s + 1 ≡ first → ⊥)
+        → (first + 1 ≤ s + 1 → s + 1 < (first + 1) + count
+        → IsListedAt n (flat_map (holds_of n) (counted (first + 1) count)) k s)
+        → IsListedAt n (flat_map (holds_of n) (counted first (suc count))) k s
+    by (inl e) later =
+        listed_left (surroundings_at n s) (standing_at n s).statement.left k s (holds_of n first)
+        (flat_map (holds_of n) (counted (first + 1) count))
+        (subst (λ i. IsListedAt n (holds_of n i) k s) e (listed_of n k s level))
+    by (inr e) later =
+        let after : first + 1 ≤ s + 1 = omega (arith, e) in
+        let within : s + 1 < (first + 1) + count = omega arith in
+        listed_right (surroundings_at n s) (standing_at n s).statement.left k s (holds_of n first)
+        (flat_map (holds_of n) (counted (first + 1) count)) (later after within)
 
--- those of no statement
-pub holds_none : (n : Nest) (holds : List Hold) → AreHoldsBefore n 0 holds
-holds_none n holds k s level less = let no : ⊥ = omega (arith, less) in absurd no
-
--- those of all statements
-pub holds_all : (n : Nest) (before : ℕ) (holds all : List Hold) → length (nest_statements n) ≤ before
-    → AreHoldsBefore n before holds → all ≡ holds → AreAllHolds n all
-holds_all n before holds all most h is k s level =
+pub all_are_holds : (n : Nest) → AreAllHolds n (all_holds n)
+all_are_holds n k s level =
     let there : s < length (nest_statements n) = level.0 in
-    let less : s < before = omega arith in
-    subst (λ (hs : List Hold). IsListedAt n hs k s) (sym is) (h k s level less)
+    let from : 1 ≤ s + 1 = omega arith in
+    let within : s + 1 < 1 + length (nest_statements n) = omega arith in
+    listed_among n k s (length (nest_statements n)) 1 level from within

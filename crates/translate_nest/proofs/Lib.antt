@@ -1,3 +1,4 @@
 pub mod AloneLaws
 pub mod Holds
-pub mod Translations
+pub mod Straight
+pub mod Answering

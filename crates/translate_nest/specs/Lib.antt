@@ -1,3 +1,3 @@
 pub mod Alone
-pub mod Normal
-pub mod Translated
+pub mod Answers
+pub mod Sources

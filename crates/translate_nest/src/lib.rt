@@ -1,7 +1,7 @@
-//! The translation of a nest: array assignments and loops in its place.
+//! The listing of a nest, and its translation: array assignments and loops in its place.
 #![tactic(auto)]
 
 mod alone;
-mod translating;
+mod answers;
 
-pub use translating::nest_block;
+pub use answers::{Answer, answer_to};

@@ -1,4 +1,4 @@
-use Rattle.std.proofs.Common.{◌≡◌, map, take}
+use Rattle.std.proofs.Common.{◌≡◌, take}
 use Rattle.fv_machine.specs.Storage.{bounds_list}
 use Rattle.array_storage.specs.Allocation.{from_one}
 use Rattle.array_storage.proofs.allocation.from_one.Given as goal

@@ -25,4 +25,4 @@ returns-in_err-write_subscript-clause-text g t c =
 pub returns-clause-text : goal.returns-clause-text
 returns-clause-text g t c =
     subst (λ x. WritesText (g.K.Sink.taken c.args.out.now) x (g.K.Sink.taken c.write_more.new.out) c.write_more.result) (sym (rest_is c.args.dims.now c.in-Some.dim.now c.in-Some.inner.now c.args.place c.in-Some.ensures.cases.0))
-    (both_written (g.K.Sink.taken c.args.out.now) _ _ (44 ∷ []) ((number_text c.in-Some.dim.now c.args.place) ++ (rest_text c.in-Some.inner.now (c.args.place / size_of (bounds_of c.in-Some.dim.now)))) _ c.in_ok-write_all.ensures.ok (both_written _ _ _ (number_text c.in-Some.dim.now c.args.place) (rest_text c.in-Some.inner.now (c.args.place / size_of (bounds_of c.in-Some.dim.now))) _ c.in_ok-write_subscript.ensures.text (subst (λ n. WritesText (g.K.Sink.taken c.write_subscript.new.out) (rest_text c.in-Some.inner.now (c.args.place / n)) (g.K.Sink.taken c.write_more.new.out) c.write_more.result) c.size.ensures c.write_more.ensures.text)))
+    (both_written (g.K.Sink.taken c.args.out.now) _ _ (44 ∷ []) ((number_text c.in-Some.dim.now c.args.place) ++ (rest_text c.in-Some.inner.now (c.args.place / size_of (bounds_of c.in-Some.dim.now)))) _ c.in_ok-write_all.ensures.ok (both_written _ _ _ (number_text c.in-Some.dim.now c.args.place) (rest_text c.in-Some.inner.now (c.args.place / size_of (bounds_of c.in-Some.dim.now))) _ c.in_ok-write_subscript.ensures.text (subst (λ n. WritesText (g.K.Sink.taken c.write_subscript.new.out) (rest_text c.in-Some.inner.now n) (g.K.Sink.taken c.write_more.new.out) c.write_more.result) c.row.ensures c.write_more.ensures.text)))

@@ -18,8 +18,8 @@ returns-in_err-write_line-clause-text g c = λ s e.
     let line = value_line c.args.name bs c.args.values.now in
     rw (residual c.from_residual.ensures.1)
     (subst (λ x. GivesPart (g.K.Sink.taken c.args.out.now) x (g.K.Sink.taken c.write_line.new.out))
-    (sym (lines_held c.args.name bs c.args.values.now s c.requires.bounds.each e
-    ∙ ap (λ n. flat_map line (range_with_len 0 n)) (sym c.requires.all)))
+    (sym (lines_held c.args.name bs c.args.values.now s e
+    ∙ ap (λ n. flat_map line (range_with_len 0 n)) (sym c.requires)))
     (range_part line (length c.args.values.now) c.loop-place.place _ _ _ (omega arith) c.loop-place.invariant.0
     (subst (λ v. GivesPart (g.K.Sink.taken c.loop-place.out) (final_line (element c.args.name bs c.loop-place.place) v)
     (g.K.Sink.taken c.write_line.new.out)) (get_or_default c.args.values.now c.loop-place.place _ (Int (pos 0)) (omega arith))
@@ -41,7 +41,7 @@ returns-clause-text g c = λ s e.
     let bs = bounds_list c.args.dims.now in
     let line = value_line c.args.name bs c.args.values.now in
     subst (λ x. Gives (g.K.Sink.taken c.args.out.now) x (g.K.Sink.taken c.loop-place.out))
-    (sym (lines_held c.args.name bs c.args.values.now s c.requires.bounds.each e
-    ∙ ap (λ n. flat_map line (range_with_len 0 n)) (sym c.requires.all)))
+    (sym (lines_held c.args.name bs c.args.values.now s e
+    ∙ ap (λ n. flat_map line (range_with_len 0 n)) (sym c.requires)))
     (lines_all line (range_with_len 0 (length c.args.values.now)) c.loop-place.place _ _
     (omega (arith, length-range_with_len 0 (length c.args.values.now))) c.loop-place.invariant.0)

@@ -26,9 +26,9 @@ pub returns-in_err-write_more-clause-text : goal.returns-in_err-write_more-claus
 returns-in_err-write_more-clause-text g c =
     rw (residual c.from_residual-in_err-write_more.ensures.1)
     (subst (λ x. GivesPart (g.K.Sink.taken c.args.out.now) x (g.K.Sink.taken c.write_more.new.out)) (sym (subscripts_is c.args.dims.now c.in-Some.dim.now c.in-Some.inner.now c.args.place c.in-Some.ensures.cases.0))
-    (part_after (g.K.Sink.taken c.args.out.now) _ _ (40 ∷ []) ((number_text c.in-Some.dim.now c.args.place) ++ ((rest_text c.in-Some.inner.now (c.args.place / size_of (bounds_of c.in-Some.dim.now))) ++ (41 ∷ []))) c.in_ok-write_all.ensures.ok (part_after _ _ _ (number_text c.in-Some.dim.now c.args.place) ((rest_text c.in-Some.inner.now (c.args.place / size_of (bounds_of c.in-Some.dim.now))) ++ (41 ∷ [])) c.in_ok-write_subscript.ensures.text (part_before _ _ (rest_text c.in-Some.inner.now (c.args.place / size_of (bounds_of c.in-Some.dim.now))) (41 ∷ []) (subst (λ n. GivesPart (g.K.Sink.taken c.write_subscript.new.out) (rest_text c.in-Some.inner.now (c.args.place / n)) (g.K.Sink.taken c.write_more.new.out)) c.size.ensures c.in_err-write_more.ensures.text)))))
+    (part_after (g.K.Sink.taken c.args.out.now) _ _ (40 ∷ []) ((number_text c.in-Some.dim.now c.args.place) ++ ((rest_text c.in-Some.inner.now (c.args.place / size_of (bounds_of c.in-Some.dim.now))) ++ (41 ∷ []))) c.in_ok-write_all.ensures.ok (part_after _ _ _ (number_text c.in-Some.dim.now c.args.place) ((rest_text c.in-Some.inner.now (c.args.place / size_of (bounds_of c.in-Some.dim.now))) ++ (41 ∷ [])) c.in_ok-write_subscript.ensures.text (part_before _ _ (rest_text c.in-Some.inner.now (c.args.place / size_of (bounds_of c.in-Some.dim.now))) (41 ∷ []) (subst (λ n. GivesPart (g.K.Sink.taken c.write_subscript.new.out) (rest_text c.in-Some.inner.now n) (g.K.Sink.taken c.write_more.new.out)) c.row.ensures c.in_err-write_more.ensures.text)))))
 
 pub returns-clause-text : goal.returns-clause-text
 returns-clause-text g c =
     subst (λ x. WritesText (g.K.Sink.taken c.args.out.now) x (g.K.Sink.taken c.write_all-2.new.to) c.write_all-2.result) (sym (subscripts_is c.args.dims.now c.in-Some.dim.now c.in-Some.inner.now c.args.place c.in-Some.ensures.cases.0))
-    (both_written (g.K.Sink.taken c.args.out.now) _ _ (40 ∷ []) ((number_text c.in-Some.dim.now c.args.place) ++ ((rest_text c.in-Some.inner.now (c.args.place / size_of (bounds_of c.in-Some.dim.now))) ++ (41 ∷ []))) _ c.in_ok-write_all.ensures.ok (both_written _ _ _ (number_text c.in-Some.dim.now c.args.place) ((rest_text c.in-Some.inner.now (c.args.place / size_of (bounds_of c.in-Some.dim.now))) ++ (41 ∷ [])) _ c.in_ok-write_subscript.ensures.text (both_written _ _ _ (rest_text c.in-Some.inner.now (c.args.place / size_of (bounds_of c.in-Some.dim.now))) (41 ∷ []) _ (subst (λ n. Gives (g.K.Sink.taken c.write_subscript.new.out) (rest_text c.in-Some.inner.now (c.args.place / n)) (g.K.Sink.taken c.write_more.new.out)) c.size.ensures c.in_ok-write_more.ensures.text) (written _ _ (41 ∷ []) _ c.write_all-2.ensures.ok c.write_all-2.ensures.part))))
+    (both_written (g.K.Sink.taken c.args.out.now) _ _ (40 ∷ []) ((number_text c.in-Some.dim.now c.args.place) ++ ((rest_text c.in-Some.inner.now (c.args.place / size_of (bounds_of c.in-Some.dim.now))) ++ (41 ∷ []))) _ c.in_ok-write_all.ensures.ok (both_written _ _ _ (number_text c.in-Some.dim.now c.args.place) ((rest_text c.in-Some.inner.now (c.args.place / size_of (bounds_of c.in-Some.dim.now))) ++ (41 ∷ [])) _ c.in_ok-write_subscript.ensures.text (both_written _ _ _ (rest_text c.in-Some.inner.now (c.args.place / size_of (bounds_of c.in-Some.dim.now))) (41 ∷ []) _ (subst (λ n. Gives (g.K.Sink.taken c.write_subscript.new.out) (rest_text c.in-Some.inner.now n) (g.K.Sink.taken c.write_more.new.out)) c.row.ensures c.in_ok-write_more.ensures.text) (written _ _ (41 ∷ []) _ c.write_all-2.ensures.ok c.write_all-2.ensures.part))))

@@ -7,14 +7,16 @@ use Rattle.program_listing.proofs.nests.normal_lines.Goals as goal
 pub returns-then-not-branch : goal.returns-then-not-branch
 returns-then-not-branch c =
     untested c.not_built.result (nest_of c.args.found.now) (nest_of c.args.nest.now)
-    (λ h. let t : IsTrue c.in_ok-is_testable.field-0 = c.in_ok-is_testable.ensures.1 h in first_of (cc, grind arith)) c.not_built.ensures
+    (λ h. let t : IsTrue c.in_ok-is_testable.field-0 = c.in_ok-is_testable.ensures.1 h in first_of (cc, grind arith))
+    c.not_built.ensures
 
-pub graph_lines-requires : goal.graph_lines-requires
-graph_lines-requires c =
+pub test-requires : goal.test-requires
+test-requires c =
     let t : IsTrue c.in_ok-is_testable.field-0 = first_of (cc, search rules) in
     c.in_ok-is_testable.ensures.0 t
 
 pub returns : goal.returns
 returns c =
     let t : IsTrue c.in_ok-is_testable.field-0 = first_of (cc, search rules) in
-    tested c.graph_lines.result (nest_of c.args.found.now) (nest_of c.args.nest.now) (c.in_ok-is_testable.ensures.0 t) c.graph_lines.ensures
+    tested (nest_of c.args.found.now) (nest_of c.args.nest.now) _ _ _ (c.in_ok-is_testable.ensures.0 t)
+    c.in_ok-test.ensures

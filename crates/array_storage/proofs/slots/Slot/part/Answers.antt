@@ -1,9 +1,8 @@
-use Rattle.std.proofs.Common.{◌≡◌, subst, ◌∙◌, map, arith}
+use Rattle.std.proofs.Common.{◌∙◌, map, arith}
 use Rattle.std.specs.Prelude.{All, ◌<◌, length}
 use mathlib.Core.Path.{ap₂}
 use Rattle.fv_meaning.specs.Sections.{axes_on}
 use Rattle.fv_machine.specs.Storage.{bounds_list}
-use Rattle.fv_tree.specs.declared.programs.Dim.{Dim}
 use Rattle.array_values.specs.Selections.{selector_in}
 use Rattle.array_places.specs.Places.{values_there}
 use Rattle.array_places.specs.Selecting.{SelectsThese}

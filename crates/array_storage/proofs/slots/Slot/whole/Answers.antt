@@ -1,4 +1,4 @@
-use Rattle.std.proofs.Common.{◌≡◌, subst, ◌∙◌, map, arith}
+use Rattle.std.proofs.Common.{◌∙◌, arith}
 use Rattle.std.specs.Prelude.{All, ◌<◌, length}
 use mathlib.Core.Path.{ap₂}
 use Rattle.fv_meaning.specs.Sections.{whole_axes}

@@ -1,5 +1,4 @@
-use Rattle.std.proofs.Common.{◌≡◌, refl, sym, ◌∙◌, Some, None}
-use Rattle.array_storage.specs.Slots.{kind_among}
+use Rattle.std.proofs.Common.{◌≡◌, sym, ◌∙◌, Some, None}
 use Rattle.array_storage.specs.Stored.{slots_in}
 use Rattle.array_storage.proofs.AllocationLaws.{opened, opened_parts, slot_names, slot_kinds}
 use Rattle.array_storage.proofs.storage.Storage.allocate.Goals as goal

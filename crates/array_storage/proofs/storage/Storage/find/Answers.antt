@@ -1,4 +1,4 @@
-use Rattle.std.proofs.Common.{◌≡◌, sym, ap, ◌∙◌, subst, None, MatchOption}
+use Rattle.std.proofs.Common.{sym, ap, ◌∙◌, subst, MatchOption}
 use Rattle.std.specs.List.{position}
 use Rattle.std.specs.Str.{bytes_eq}
 use Rattle.array_storage.specs.Slots.{IsMissing, Has}

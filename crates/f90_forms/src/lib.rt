@@ -1,0 +1,10 @@
+//! The forms of the statements of a text (ISO/IEC 1539:1991, section 3.3.1).
+#![tactic(auto)]
+
+mod placing;
+mod reading;
+#[cfg(test)]
+mod tests;
+
+pub use placing::{Placed, places};
+pub use reading::forms;

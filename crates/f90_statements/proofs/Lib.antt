@@ -1,0 +1,14 @@
+pub mod TokenLaws
+pub mod LabelLaws
+pub mod ListLaws
+pub mod BoundLaws
+pub mod EntityLaws
+pub mod PartLaws
+pub mod FrontLaws
+pub mod ActionLaws
+pub mod GroupLaws
+pub mod OuterLaws
+pub mod DeclarationLaws
+pub mod BlockLaws
+pub mod ArrayLaws
+pub mod AnyLaws

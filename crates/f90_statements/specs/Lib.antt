@@ -1,0 +1,5 @@
+pub mod Fronts
+pub mod Views
+pub mod Reading
+pub mod Kinds
+pub mod Contents

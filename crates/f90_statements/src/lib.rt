@@ -1,0 +1,14 @@
+//! Statements of Fortran 90, from their words (ISO/IEC 1539:1991, sections 5, 6.3, 7.5, 8 and 9).
+#![tactic(auto)]
+
+mod actions;
+mod contents;
+mod declarations;
+mod fronts;
+mod nodes;
+mod parts;
+mod statements;
+#[cfg(test)]
+mod tests;
+
+pub use nodes::{Action, Bound, Dimension, Entity, Statement};

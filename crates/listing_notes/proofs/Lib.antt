@@ -1,0 +1,8 @@
+pub mod Printable
+pub mod Notes
+pub mod Phrases
+pub mod Found
+pub mod Made
+pub mod Arrays
+pub mod Entries
+pub mod Listed
