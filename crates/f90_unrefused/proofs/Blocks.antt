@@ -184,7 +184,7 @@ module _ (function : List ℕ → Option Intrinsic) (is_target : ℕ → Bool) w
   -- ---- what is opened is closed
 
   mutual
-    block_end_if : (ps : List Placed) (b : Block) → AreBlock function is_target ps b → (n : ℕ) (more : List Placed) → has_end_if (ps ++ more) n ≡ has_end_if more n
+    pub block_end_if : (ps : List Placed) (b : Block) → AreBlock function is_target ps b → (n : ℕ) (more : List Placed) → has_end_if (ps ++ more) n ≡ has_end_if more n
     block_end_if ps b nothing n more = refl
     block_end_if ps b (label line digits rest d t h) n more = block_end_if rest d h n more
     block_end_if ps b (unnamed line digits rest d t h) n more = block_end_if rest d h n more
@@ -212,7 +212,7 @@ module _ (function : List ℕ → Option Intrinsic) (is_target : ℕ → Bool) w
       ap (λ xs. has_end_if xs 0) (append_assoc body rest more) ∙ (block_end_if body first i 0 (rest ++ more) ∙ arms_end rest d otherwise a more)
 
   mutual
-    block_end_do : (ps : List Placed) (b : Block) → AreBlock function is_target ps b → (n : ℕ) (more : List Placed) → has_end_do (ps ++ more) n ≡ has_end_do more n
+    pub block_end_do : (ps : List Placed) (b : Block) → AreBlock function is_target ps b → (n : ℕ) (more : List Placed) → has_end_do (ps ++ more) n ≡ has_end_do more n
     block_end_do ps b nothing n more = refl
     block_end_do ps b (label line digits rest d t h) n more = block_end_do rest d h n more
     block_end_do ps b (unnamed line digits rest d t h) n more = block_end_do rest d h n more

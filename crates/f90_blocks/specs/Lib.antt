@@ -1,0 +1,3 @@
+pub mod Treed
+pub mod Targets
+pub mod Rests

@@ -1,0 +1,17 @@
+-- What the code holds of statements.
+use Rattle.std.specs.Prelude.{◌≡◌, ℕ, false, Option, None, List}
+use Rattle.fv_tree.specs.declared.functions.Intrinsic.{Intrinsic}
+use Rattle.f90_grammar.specs.Blocks.{Placed}
+use Rattle.f90_grammar.specs.Order.{Place, IsPlaceIn}
+use Rattle.f90_grammar.specs.Reading.{takes_mark}
+use Rattle.f90_statement_trees.specs.Trees.{IsTreeIn}
+use Rattle.f90_blocks.specs.declared.nodes.Treed.{Treed}
+
+-- `function` says which names are functions
+pub record IsTreedOf (function : List ℕ → Option Intrinsic) (t : Treed) (p : Placed) : Type 0 where
+  pub line : t.line ≡ p.line
+  pub is : IsTreeIn function t.tree p
+
+-- no statement has a mark but those that take one
+abbrev pub MarksAreTaken : List Placed → Type 0
+MarksAreTaken ps = (p : Place) → IsPlaceIn ps p → takes_mark p.here.form ≡ false → p.here.mark ≡ None

@@ -1,0 +1,9 @@
+//! Statements with their lines.
+use f90_statement_trees::StatementTree;
+
+/// A statement with its line; none where it isn't executable.
+#[derive(Debug, Drop)]
+pub struct Treed {
+    pub line: u32,
+    pub tree: Option<StatementTree>,
+}

@@ -1,0 +1,227 @@
+//! Blocks, as they are put together from the last statement of a program back to the first.
+ghost use Rattle.std.specs.Prelude.{◌≡◌, List, [], ◌∷◌, IfOk};
+ghost use Rattle.fv_tree.specs.Plain as plain;
+ghost use Rattle.fv_tree.specs.Plain.{Arms, Block as PlainBlock};
+ghost use Rattle.fv_tree.specs.View.{expression_of, statement_of, block_of};
+ghost use Rattle.f90_blocks.specs.Rests.{Ended, EndedIf, EndedDo, Shows, block_seen, opens_seen};
+
+use fv_tree::{Arm, Block, Expr, Memory, Name, Seq, Stmt};
+use std::alloc::Global;
+
+/// A block whose end has been read and whose first line is still to come, with the statements behind its end, the last
+/// one first. A block IF has its later arms, the last one first, and its ELSE part.
+#[derive(Drop)]
+pub enum Open {
+    If {
+        later: Vec<Arm>,
+        other: Block,
+        behind: Vec<Stmt>,
+    },
+    Do {
+        behind: Vec<Stmt>,
+    },
+}
+
+/// What the statements from one on have become: those of the block in which it stands, the last one first, and the
+/// blocks round it, the innermost last.
+#[derive(Drop)]
+pub struct Rest {
+    stmts: Vec<Stmt>,
+    open: Vec<Open>,
+}
+
+// The block of statements of which the last one stands first.
+fn turned(stmts: Vec<Stmt>) -> Block
+    ensures { block_of result ≡ block_seen stmts.items }
+{
+    let mut stmts = stmts;
+    stmts.reverse();
+    Block {
+        stmts: Seq::from_vec(stmts),
+    }
+}
+
+impl Rest {
+    /// Nothing comes after the last statement.
+    pub fn new(alloc: Global) -> Rest
+        ensures { Shows result plain.no_statements [] }
+    {
+        Rest {
+            stmts: Vec::new(alloc),
+            open: Vec::new(alloc),
+        }
+    }
+
+    /// With a statement before all that.
+    pub fn precede(self, stmt: Stmt) -> Result<Rest, Memory>
+        ensures { IfOk result (λ rest. Shows rest
+            (plain.statement (statement_of stmt) (block_seen self.stmts.items)) (opens_seen self.open.items)) }
+    {
+        let Rest { mut stmts, open } = self;
+        stmts.push(stmt)?;
+        Ok(Rest { stmts, open })
+    }
+
+    /// At END IF.
+    pub fn end_if(self, alloc: Global) -> Result<Rest, Memory>
+        ensures { IfOk result (λ rest. Shows rest plain.no_statements
+            (EndedIf plain.no_arms plain.no_statements (block_seen self.stmts.items) ∷ opens_seen self.open.items)) }
+    {
+        let Rest {
+            stmts: behind,
+            mut open,
+        } = self;
+        let later = Vec::new(alloc);
+        let other = turned(Vec::new(alloc));
+        open.push(Open::If {
+            later,
+            other,
+            behind,
+        })?;
+        let stmts = Vec::new(alloc);
+        Ok(Rest { stmts, open })
+    }
+
+    /// At END DO.
+    pub fn end_do(self, alloc: Global) -> Result<Rest, Memory>
+        ensures { IfOk result (λ rest. Shows rest plain.no_statements
+            (EndedDo (block_seen self.stmts.items) ∷ opens_seen self.open.items)) }
+    {
+        let Rest {
+            stmts: behind,
+            mut open,
+        } = self;
+        open.push(Open::Do { behind })?;
+        let stmts = Vec::new(alloc);
+        Ok(Rest { stmts, open })
+    }
+
+    /// At ELSE: the block so far is the ELSE part.
+    pub fn begin_else(self, alloc: Global) -> Result<Rest, Memory>
+        ensures { (later : Arms) (other behind : PlainBlock) (es : List Ended)
+            → opens_seen self.open.items ≡ EndedIf later other behind ∷ es
+            → IfOk result (λ rest. Shows rest plain.no_statements
+            (EndedIf later (block_seen self.stmts.items) behind ∷ es)) }
+    {
+        let Rest { stmts, mut open } = self;
+        let Some(ended) = open.pop() else {
+            return Ok(Rest { stmts, open });
+        };
+        let Open::If {
+            later,
+            other: _,
+            behind,
+        } = ended
+        else {
+            return Ok(Rest { stmts, open });
+        };
+        let other = turned(stmts);
+        open.push(Open::If {
+            later,
+            other,
+            behind,
+        })?;
+        let stmts = Vec::new(alloc);
+        Ok(Rest { stmts, open })
+    }
+
+    /// At ELSE IF: the block so far is an arm.
+    pub fn begin_arm(self, alloc: Global, test: Expr) -> Result<Rest, Memory>
+        ensures { (later : Arms) (other behind : PlainBlock) (es : List Ended)
+            → opens_seen self.open.items ≡ EndedIf later other behind ∷ es
+            → IfOk result (λ rest. Shows rest plain.no_statements
+            (EndedIf (plain.arm (expression_of test) (block_seen self.stmts.items) later) other behind ∷ es)) }
+    {
+        let Rest { stmts, mut open } = self;
+        let Some(ended) = open.pop() else {
+            return Ok(Rest { stmts, open });
+        };
+        let Open::If {
+            mut later,
+            other,
+            behind,
+        } = ended
+        else {
+            return Ok(Rest { stmts, open });
+        };
+        let body = turned(stmts);
+        later.push(Arm { test, body })?;
+        open.push(Open::If {
+            later,
+            other,
+            behind,
+        })?;
+        let stmts = Vec::new(alloc);
+        Ok(Rest { stmts, open })
+    }
+
+    /// At the first line of a block IF: the block so far is its first arm, and it is whole.
+    pub fn begin_if(self, line: u32, test: Expr) -> Result<Rest, Memory>
+        ensures { (later : Arms) (other behind : PlainBlock) (es : List Ended)
+            → opens_seen self.open.items ≡ EndedIf later other behind ∷ es
+            → IfOk result (λ rest. Shows rest (plain.statement
+            (plain.If line (plain.arm (expression_of test) (block_seen self.stmts.items) later) other) behind) es) }
+    {
+        let Rest { stmts, mut open } = self;
+        let Some(ended) = open.pop() else {
+            return Ok(Rest { stmts, open });
+        };
+        let Open::If {
+            mut later,
+            other,
+            behind,
+        } = ended
+        else {
+            return Ok(Rest { stmts, open });
+        };
+        let body = turned(stmts);
+        later.push(Arm { test, body })?;
+        later.reverse();
+        let arms = Seq::from_vec(later);
+        let mut stmts = behind;
+        stmts.push(Stmt::If { line, arms, other })?;
+        Ok(Rest { stmts, open })
+    }
+
+    /// At DO: the block so far is the loop's, which is whole.
+    pub fn begin_do(
+        self,
+        line: u32,
+        var: Name,
+        first: Expr,
+        last: Expr,
+        step: Expr,
+    ) -> Result<Rest, Memory>
+        ensures { (behind : PlainBlock) (es : List Ended) → opens_seen self.open.items ≡ EndedDo behind ∷ es
+            → IfOk result (λ rest. Shows rest (plain.statement
+            (plain.Do line var (expression_of first) (expression_of last) (expression_of step)
+            (block_seen self.stmts.items)) behind) es) }
+    {
+        let Rest { stmts, mut open } = self;
+        let Some(ended) = open.pop() else {
+            return Ok(Rest { stmts, open });
+        };
+        let Open::Do { behind } = ended else {
+            return Ok(Rest { stmts, open });
+        };
+        let body = turned(stmts);
+        let mut stmts = behind;
+        stmts.push(Stmt::Do {
+            line,
+            var,
+            first,
+            last,
+            step,
+            body,
+        })?;
+        Ok(Rest { stmts, open })
+    }
+
+    /// The block of all that.
+    pub fn finish(self) -> Block
+        ensures { block_of result ≡ block_seen self.stmts.items }
+    {
+        let Rest { stmts, open: _ } = self;
+        turned(stmts)
+    }
+}

@@ -1,0 +1,3 @@
+pub mod HidingLaws
+pub mod CallLaws
+pub mod FormlessLaws

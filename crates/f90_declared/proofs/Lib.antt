@@ -1,0 +1,5 @@
+pub mod BoundLaws
+pub mod EntryLaws
+pub mod OrderLaws
+pub mod PlaceLaws
+pub mod SizeLaws

@@ -1,0 +1,4 @@
+pub mod Bounds
+pub mod Declarations
+pub mod Entries
+pub mod Names

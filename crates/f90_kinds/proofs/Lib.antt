@@ -1,0 +1,6 @@
+pub mod Counts
+pub mod Exact
+pub mod FoundNameLaws
+pub mod KindLaws
+pub mod KnownLaws
+pub mod StatementLaws

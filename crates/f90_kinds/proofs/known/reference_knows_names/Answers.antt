@@ -1,0 +1,14 @@
+use Rattle.std.proofs.Common.{ℕ, List, Option}
+use Rattle.std.proofs.lemmas.Bool.Decides.{Decides-at}
+use Rattle.fv_tree.specs.View.{reference_of}
+use Rattle.f90_declared.specs.declared.names.Declared.{Declared}
+use Rattle.f90_declared.specs.Names.{found}
+use Rattle.f90_kinds.specs.FoundNames.{knows_reference}
+use Rattle.f90_kinds.proofs.FoundNameLaws.{reference-is_known}
+use Rattle.f90_kinds.proofs.known.reference_knows_names.Goals as goal
+
+pub returns : goal.returns
+returns c ds t =
+    let known : List ℕ → Option Declared = found c.args.names.now in
+    Decides-at c.knows_reference.result (knows_reference known (reference_of c.args.reference.now)) (cc)
+    (reference-is_known ds known t (reference_of c.args.reference.now))

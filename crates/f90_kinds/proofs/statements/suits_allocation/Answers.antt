@@ -1,0 +1,15 @@
+use Rattle.std.proofs.Common.{ℕ, List, Option, map}
+use Rattle.std.proofs.lemmas.Bool.Decides.{Decides-at}
+use Rattle.fv_tree.specs.Plain.{expressions}
+use Rattle.fv_tree.specs.View.{expression_of}
+use Rattle.f90_declared.specs.declared.names.Declared.{Declared}
+use Rattle.f90_declared.specs.Names.{found}
+use Rattle.f90_kinds.specs.Found.{allocates}
+use Rattle.f90_kinds.proofs.StatementLaws.{allocation-is}
+use Rattle.f90_kinds.proofs.statements.suits_allocation.Goals as goal
+
+pub returns : goal.returns
+returns c ds t =
+    let known : List ℕ → Option Declared = found c.args.names.now in
+    Decides-at c.allocates.result (allocates known c.args.name (expressions (map expression_of c.args.extents.now)))
+    (cc) (allocation-is ds known t c.args.name (expressions (map expression_of c.args.extents.now)))

@@ -1,0 +1,5 @@
+pub mod Directions
+pub mod Found
+pub mod FoundNames
+pub mod Kinds
+pub mod Known

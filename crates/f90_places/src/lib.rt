@@ -1,0 +1,12 @@
+//! The places of a text's statements: the first at which something holds, and their lines.
+#![tactic(auto)]
+
+mod choice;
+mod first;
+mod laws;
+mod lines;
+
+pub use choice::earlier;
+pub use first::{first_deep, first_wide};
+pub use laws::statements_rise;
+pub use lines::line_at;

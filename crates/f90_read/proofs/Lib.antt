@@ -1,0 +1,7 @@
+pub mod NumberLaws
+pub mod StatementLaws
+pub mod CheckLaws
+pub mod TextLaws
+pub mod HiddenLaws
+pub mod PartLaws
+pub mod ProgramLaws

@@ -1,0 +1,186 @@
+-- The program that statements in order are.
+use Rattle.std.proofs.Common.{◌≡◌, inl, inr, ℕ, ◌<◌, ◌≤◌, ◌==◌, Bool, true, false, cond, ◌||◌, Option}
+use Rattle.std.proofs.Common.{List, [], ◌∷◌, ◌++◌, filter, length, Contains, refl, sym, ap, subst, ◌∙◌}
+use Rattle.std.proofs.Common.{arith}
+use mathlib.Core.Path.{fun_ext}
+use Rattle.std.specs.Prelude.{◌↔◌}
+use Rattle.std.specs.List.{AllByRecursion}
+use Rattle.std.proofs.lemmas.Bool.Decides.{nat_tests}
+use Rattle.fv_tree.specs.Causes.{refusal_at}
+use Rattle.fv_tree.specs.Plain as tree
+use Rattle.fv_tree.specs.Plain.{Declaration, Program, Block}
+use Rattle.fv_tree.specs.declared.functions.Intrinsic.{Intrinsic}
+use Rattle.fv_tree.specs.declared.refusals.Cause.TheVariants.{Structure, Declared90, Limit90}
+use Rattle.fv_meaning.specs.Blocks.{Surroundings}
+use Rattle.fv_meaning.specs.Typed.{declared}
+use Rattle.f90_grammar.specs.Blocks.{Placed, AreBlock}
+use Rattle.f90_grammar.specs.Blocks.AreBlock.{nothing}
+use Rattle.f90_grammar.specs.Bounds.PassesLimit.{OfBounds}
+use Rattle.f90_grammar.specs.Declared.{declarations_of, functions_in}
+use Rattle.f90_grammar.specs.Forms as forms
+use Rattle.f90_grammar.specs.Forms.{Form}
+use Rattle.f90_grammar.specs.Order.{Place, IsPlaceIn, IsInOrder, is_executable, title_of}
+use Rattle.f90_grammar.specs.Phrases.{value_of_digits}
+use Rattle.f90_grammar.specs.Reading.{AreStatementsOf, IsTitle, IsEnd, IsProgramOf, function_by, is_target_in}
+use Rattle.f90_grammar.specs.Refusals.HoldsIn.{IsWrongInBlocks}
+use Rattle.f90_grammar.specs.Refusals.HasCause.{InStatements}
+use Rattle.f90_grammar.specs.Refusals.IsRefusable.{For}
+use Rattle.f90_block_laws.specs.Blocks.{goes_to, name_target}
+use Rattle.f90_block_laws.specs.Places.{SuitsPlace, surroundings_of, IsWrongAt}
+use Rattle.f90_block_laws.proofs.Bodies.{targets_named}
+use Rattle.f90_block_laws.proofs.Misplaced.{misplaced_at_place}
+use Rattle.f90_blocks.specs.Treed.{MarksAreTaken}
+use Rattle.f90_declared.specs.Declarations.{AreAccepted, AreInOrder}
+use Rattle.f90_reading_laws.proofs.PlaceFacts.{each_place}
+use Rattle.f90_reading_laws.proofs.Tables.{in_text_is, alike_in, same_functions}
+use Rattle.f90_statement_trees.specs.Executable.{IsMarked}
+use Rattle.f90_read.specs.Checks.{IsClearBelow}
+use Rattle.f90_read.proofs.NumberLaws.{holds_nowhere}
+use Rattle.f90_read.proofs.PartLaws.{HasParts, parts}
+use Rattle.f90_read.proofs.StatementLaws.{at_place, marked, in_order, not_true}
+
+-- ---- labels that are named
+
+executables_name : (ps : List Placed) (n : ℕ) → name_target (filter (λ (p : Placed). is_executable p.form) ps)
+    n ≡ name_target ps n
+executables_name [] n = refl
+executables_name (p ∷ ps) n = by (is_executable p.form) refl (executables_name ps n)
+  where
+    idle : (f : Form) → is_executable f ≡ false → goes_to n f ≡ false
+    idle (forms.Program x) e = refl
+    idle forms.ImplicitNone e = refl
+    idle (forms.Declare k a es) e = refl
+    idle forms.End e = refl
+    idle (forms.EndProgram x) e = refl
+    idle f e = absurd (cc)
+
+    by : (b : Bool) → is_executable p.form ≡ b → name_target (filter (λ (p : Placed). is_executable p.form) ps)
+        n ≡ name_target ps n
+        → name_target (cond b (p ∷ filter (λ (p : Placed). is_executable p.form) ps)
+        (filter (λ (p : Placed). is_executable p.form) ps)) n ≡ name_target (p ∷ ps) n
+    by true e h = ap (λ b. goes_to n p.form || b) h
+    by false e h = h ∙ sym (ap (λ b. b || name_target ps n) (idle p.form e))
+
+not_zero : (v : ℕ) → (0 == v) ≡ true → 0 < v → ⊥
+not_zero v e l = grind (arith, nat_tests)
+
+no_zero : (ds : List Declaration) (function : List ℕ → Option Intrinsic) (f : Form) (w : Surroundings)
+    → goes_to 0 f ≡ true → SuitsPlace ds function f w → ⊥
+no_zero ds function (forms.Go label) w e s = not_zero (value_of_digits label) e s.0
+no_zero ds function (forms.Test p f) w e s = no_zero ds function f w e s
+no_zero ds function f w e s = let k : false ≡ true = e in cc
+
+none_names : (ps : List Placed) → AllByRecursion (λ (p : Placed). goes_to 0 p.form ≡ false) ps
+    → name_target ps 0 ≡ false
+none_names [] h = refl
+none_names (p ∷ ps) h = ap (λ b. b || name_target ps 0) h.0 ∙ none_names ps h.1
+
+-- ---- statements of a text that is clear
+
+module _ (text : List ℕ) (ps : List Placed) (t : AreStatementsOf text ps) (clear : IsClearBelow text 41) where
+  below : (n : ℕ) → n ≤ 41 → IsClearBelow text n
+  below n l r h = let k = clear r h in omega (arith, k)
+
+  pub order : IsInOrder ps
+  order = in_order text ps t (below 38 (omega arith))
+
+  pub accepted : AreAccepted ps
+  accepted = record {
+    bounds = λ p i h. holds_nowhere text ps 41 Limit90 t clear (omega arith) p i (OfBounds h);
+    once = λ p i h. holds_nowhere text ps 41 Declared90 t clear (omega arith) p i (inl h);
+  }
+
+  pub marks_taken : MarksAreTaken ps
+  marks_taken p i = at_place IsMarked ps p (marked text ps t) i
+
+  not_misplaced : (p : Place) → IsPlaceIn ps p → IsWrongAt ps p → ⊥
+  not_misplaced p i w =
+      let m = (misplaced_at_place text ps p.here.line t order).1 (p, i, w, refl) in
+      let r = refusal_at Structure p.here.line in
+      let k : 41 ≤ 37 = clear r (For r (InStatements ps Structure p.here.line t
+      (IsWrongInBlocks p.here.line order m))) in
+      omega arith
+
+  pub no_target_zero : name_target ps 0 ≡ false
+  no_target_zero = none_names ps (each_place (λ (p : Placed). goes_to 0 p.form ≡ false) ps
+      (λ p i. not_true (goes_to 0 p.here.form) (λ e. not_misplaced p i
+      (inr (no_zero (declarations_of ps) (functions_in ps) p.here.form (surroundings_of p) e)))))
+
+  module _ (ds : List Declaration) (b : Block) (function : List ℕ → Option Intrinsic)
+      (o : AreInOrder (declarations_of ps) ds)
+      (same : (x : List ℕ) → function x ≡ functions_in ps x)
+      (is_block : AreBlock function (name_target ps) (filter (λ (p : Placed). is_executable p.form) ps) b) where
+    has : HasParts ps
+    has = parts ps order (marked text ps t)
+
+    each_in_text : (d : Declaration) → Contains has.in_text d ↔ Contains ds d
+    each_in_text d = subst (λ (es : List Declaration). Contains es d ↔ Contains ds d) has.declarations (o.each d)
+
+    once_in_text : length has.in_text ≡ length ds
+    once_in_text = subst (λ (es : List Declaration). length es ≡ length ds) has.declarations o.once
+
+    -- the same statements but for their body
+    abbrev bodiless : List Placed
+    bodiless = has.title ++ (has.implicit ++ (has.declared ++ has.last ∷ []))
+
+    abbrev empty : Program
+    empty = record { name = title_of ps; declarations = ds; body = tree.no_statements }
+
+    is_bodiless : IsProgramOf bodiless empty
+    is_bodiless = record {
+      title = has.title;
+      implicit = has.implicit;
+      declared = has.declared;
+      body = [];
+      last = has.last;
+      same = refl;
+      is_title = has.is_title;
+      is_implicit = has.is_implicit;
+      is_last = has.is_end;
+      in_text = has.in_text;
+      are_declared = has.are_declared;
+      sorted = o.sorted;
+      each = each_in_text;
+      once = once_in_text;
+      block = nothing;
+    }
+
+    alike : (x : List ℕ) → declared (declarations_of ps) x ≡ declared ds x
+    unfolding has is_bodiless
+    alike x =
+        ap (λ (es : List Declaration). declared es x) (has.declarations ∙ sym (in_text_is bodiless empty is_bodiless))
+        ∙ alike_in bodiless empty is_bodiless x
+
+    functions_same : function ≡ function_by ds
+    functions_same = fun_ext same ∙ same_functions (declarations_of ps) ds alike
+
+    targets_same : name_target ps ≡ is_target_in b
+    targets_same = fun_ext (λ n.
+        sym (targets_named function (name_target ps) (filter (λ (p : Placed). is_executable p.form) ps) b n is_block
+        ∙ executables_name ps n))
+
+    body_block : AreBlock (function_by ds) (is_target_in b) has.body b
+    body_block =
+        subst (λ qs. AreBlock (function_by ds) (is_target_in b) qs b) has.executed
+        (subst (λ g. AreBlock g (is_target_in b) (filter (λ (p : Placed). is_executable p.form) ps) b) functions_same
+        (subst (λ g. AreBlock function g (filter (λ (p : Placed). is_executable p.form) ps) b) targets_same is_block))
+
+    pub is_program : (name : Option (List ℕ)) → name ≡ title_of ps
+        → IsProgramOf ps (record { name = name; declarations = ds; body = b })
+    is_program name e = record {
+      title = has.title;
+      implicit = has.implicit;
+      declared = has.declared;
+      body = has.body;
+      last = has.last;
+      same = has.same;
+      is_title = subst (IsTitle has.title) (sym e) has.is_title;
+      is_implicit = has.is_implicit;
+      is_last = subst (IsEnd has.last.form) (sym e) has.is_end;
+      in_text = has.in_text;
+      are_declared = has.are_declared;
+      sorted = o.sorted;
+      each = each_in_text;
+      once = once_in_text;
+      block = body_block;
+    }

@@ -1,0 +1,12 @@
+use Rattle.std.proofs.Common.{◌≡◌, ℕ, List, Some, ap, sym, subst, ◌∙◌, OnOk}
+use Rattle.f90_statements.specs.declared.nodes.Statement.{Statement}
+use Rattle.f90_calls.specs.Hiding.{Hides, declared_by, names_of}
+use Rattle.f90_read.proofs.making.hide_declared.Goals as goal
+
+pub returns-in-Declare : goal.returns-in-Declare
+returns-in-Declare c =
+    let e : declared_by (Some c.args.statement.now) ≡ names_of c.in-Declare.entities =
+    ap (λ (s : Statement). declared_by (Some s)) c.in-Declare.is in
+    subst (λ (names : List (List ℕ)). OnOk c.hide_names.result
+    (Hides names c.args.functions.now c.hide_names.new.functions))
+    (ap names_of c.as_slice.ensures ∙ sym e) c.hide_names.ensures

@@ -1,0 +1,9 @@
+pub mod LoopLaws
+pub mod ListLaws
+pub mod ReferenceLaws
+pub mod DeedLaws
+pub mod FormLaws
+pub mod WholeLaws
+pub mod FitLaws
+pub mod NarrowLaws
+pub mod PartLaws

@@ -1,0 +1,3 @@
+pub mod Earlier
+pub mod OpenBlocks
+pub mod Walks

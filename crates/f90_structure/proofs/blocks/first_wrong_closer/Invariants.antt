@@ -1,0 +1,13 @@
+use Rattle.std.proofs.Common.{List}
+use Rattle.f90_grammar.specs.Blocks.{Placed}
+use Rattle.f90_grammar.specs.Order.{Place, blocks_round, closes_wrongly}
+use Rattle.f90_forms.specs.Places.{IsPlacedOf}
+use Rattle.f90_statements.specs.Views.{AreOf}
+use Rattle.f90_structure.proofs.OpenBlocks.{AreOpenBehind}
+use Rattle.f90_structure.proofs.Walks.{IsWalked}
+use Rattle.f90_structure.proofs.blocks.first_wrong_closer.Given as goal
+
+abbrev pub invariant-loop-i : goal.invariant-loop-i
+invariant-loop-i l =
+    (ps : List Placed) → AreOf IsPlacedOf l.text ps
+    → IsWalked (λ (p : Place). closes_wrongly p.here.form (blocks_round p)) (AreOpenBehind l.blocks) ps l.i

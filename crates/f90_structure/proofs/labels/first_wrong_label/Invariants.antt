@@ -1,0 +1,14 @@
+use Rattle.std.proofs.Common.{List}
+use Rattle.f90_grammar.specs.Blocks.{Placed}
+use Rattle.f90_grammar.specs.Order.{Place}
+use Rattle.f90_forms.specs.Places.{IsPlacedOf}
+use Rattle.f90_statements.specs.Views.{AreOf}
+use Rattle.f90_grammar.specs.Surroundings.{label_in, is_wrong_label}
+use Rattle.f90_structure.specs.Labels.{AreLabels}
+use Rattle.f90_structure.proofs.Walks.{IsWalked}
+use Rattle.f90_structure.proofs.labels.first_wrong_label.Given as goal
+
+abbrev pub invariant-loop-i : goal.invariant-loop-i
+invariant-loop-i l =
+    (ps : List Placed) → AreOf IsPlacedOf l.text ps
+    → IsWalked (λ (p : Place). is_wrong_label p.before (label_in p.here.form)) (AreLabels l.labels) ps l.i

@@ -1,0 +1,4 @@
+pub mod Blocks
+pub mod Ends
+pub mod Labels
+pub mod Order

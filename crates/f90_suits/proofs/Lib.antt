@@ -1,0 +1,6 @@
+mod HeldNames
+mod NamedForms
+mod StayedForms
+mod SuitedForms
+mod Texts
+mod Walks

@@ -1,0 +1,16 @@
+use Rattle.std.proofs.Common.{List}
+use Rattle.fv_tree.specs.Plain.{Declaration}
+use Rattle.f90_declared.specs.Names.{AreNamesOf}
+use Rattle.f90_forms.specs.Places.{IsPlacedOf}
+use Rattle.f90_grammar.specs.Blocks as grammar
+use Rattle.f90_grammar.specs.Suited.{Suits}
+use Rattle.f90_statements.specs.Views.{AreOf}
+use Rattle.f90_suits.specs.Ready.{AreReady}
+use Rattle.f90_suits.proofs.Walks.{AreGood}
+use Rattle.f90_suits.proofs.suited.first_unsuited.Given as goal
+
+abbrev pub invariant-loop-place : goal.invariant-loop-place
+invariant-loop-place l =
+    (ps : List grammar.Placed) (ds : List Declaration) → AreOf IsPlacedOf l.text ps → AreNamesOf l.names ds
+    → AreReady l.functions ds ps
+    → AreGood ps (Suits ds) l.place

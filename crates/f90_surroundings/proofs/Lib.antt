@@ -1,0 +1,9 @@
+mod PlaceLaws
+mod ListLaws
+mod LabelLaws
+mod PassLaws
+mod LoopLaws
+mod JumpLaws
+mod NameLaws
+mod SuitLaws
+mod FoundLaws

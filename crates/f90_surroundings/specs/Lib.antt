@@ -1,0 +1,4 @@
+pub mod Lists
+pub mod Misuses
+pub mod Jumps
+pub mod Misplaced
