@@ -6,7 +6,7 @@ use Rattle.std.specs.Str.{bytes_eq}
 use Rattle.std.proofs.Math.Dec.{eqb-suc-zero}
 use Rattle.fv_command.specs.declared.commands.Options.{Options}
 use Rattle.fv_command.specs.declared.commands.Command.{Command}
-use Rattle.fv_command.specs.declared.commands.Command.TheVariants.{Vectorise, Graph, Run77}
+use Rattle.fv_command.specs.declared.commands.Command.TheVariants.{Vectorise, Graph, Run77, Run90}
 use Rattle.fv_command.specs.Command.{number_of, attached_number, and_final, and_steps, and_option, options_of, command_of}
 use Rattle.fv_command.proofs.Joined.{made, options_of-option}
 
@@ -39,7 +39,8 @@ command_of-append a b more others x y e f (w ∷ front) =
     (ap (λ t. cond t (Some Vectorise) None) (some_more front more a ∙ sym (some_more front others b)))
     (cond_both (bytes_eq w (codes "graph")) _ _ _ _
     (ap (λ t. cond t (Some Graph) None) (some_more front more a ∙ sym (some_more front others b)))
-    (ap (λ o. cond (bytes_eq w (codes "run77")) (option_map Run77 o) None) (options_of-append a b more others x y e front)))
+    (ap (λ o. cond (bytes_eq w (codes "run77")) (option_map Run77 o)
+    (cond (bytes_eq w (codes "run90")) (option_map Run90 o) None)) (options_of-append a b more others x y e front)))
 
 pub command_of-attached : (front words : List (List ℕ)) (number : List ℕ)
     → command_of (front ++ ((codes "--steps=" ++ number) ∷ words)) ≡ command_of (front ++ (codes "--steps" ∷ number ∷ words))
@@ -130,9 +131,10 @@ few_words o = parts o.final_store (is_some o.steps)
     parts false true = omega arith
     parts false false = omega arith
 
-few_options : (k : ℕ) (r : Option Options) (c : Command) → TakeAtLeast k r → option_map Run77 r ≡ Some c → k ≤ 3
-few_options k None c h e = absurd (cc)
-few_options k (Some o) c h e = omega (arith, few_words o)
+few_options : (run : Options → Command) (k : ℕ) (r : Option Options) (c : Command) → TakeAtLeast k r
+    → option_map run r ≡ Some c → k ≤ 3
+few_options run k None c h e = absurd (cc)
+few_options run k (Some o) c h e = omega (arith, few_words o)
 
 -- a command that stands alone
 none_follow : (k : ℕ) (a c : Command) → cond (k == 0) (Some a) None ≡ Some c → k ≤ 3
@@ -140,12 +142,14 @@ none_follow zero a c e = omega arith
 none_follow (suc k) a c e =
     let none : ◌≡◌ {A = Option Command} None (Some c) = ap (λ t. cond t (Some a) None) (sym (eqb-suc-zero k)) ∙ e in absurd (cc)
 
-command-length : (a g b : Bool) (k : ℕ) (r : Option Options) (c : Command) → TakeAtLeast k r
-    → cond a (cond (k == 0) (Some Vectorise) None) (cond g (cond (k == 0) (Some Graph) None) (cond b (option_map Run77 r) None)) ≡ Some c → k ≤ 3
-command-length true g b k r c h e = none_follow k Vectorise c e
-command-length false true b k r c h e = none_follow k Graph c e
-command-length false false true k r c h e = few_options k r c h e
-command-length false false false k r c h e = absurd (cc)
+command-length : (a g b d : Bool) (k : ℕ) (r : Option Options) (c : Command) → TakeAtLeast k r
+    → cond a (cond (k == 0) (Some Vectorise) None) (cond g (cond (k == 0) (Some Graph) None)
+    (cond b (option_map Run77 r) (cond d (option_map Run90 r) None))) ≡ Some c → k ≤ 3
+command-length true g b d k r c h e = none_follow k Vectorise c e
+command-length false true b d k r c h e = none_follow k Graph c e
+command-length false false true d k r c h e = few_options Run77 k r c h e
+command-length false false false true k r c h e = few_options Run90 k r c h e
+command-length false false false false k r c h e = absurd (cc)
 
 pub length-command : (words : List (List ℕ)) (c : Command) → command_of words ≡ Some c → length words ≤ 4
 length-command [] c e = omega arith
@@ -153,5 +157,7 @@ length-command (w ∷ words) c e =
     let vectorises = bytes_eq w (codes "vectorise") in
     let lists = bytes_eq w (codes "graph") in
     let runs = bytes_eq w (codes "run77") in
-    let k : length words ≤ 3 = command-length vectorises lists runs (length words) (options_of words) c (take_all words) e in
+    let runs_later = bytes_eq w (codes "run90") in
+    let k : length words ≤ 3 =
+    command-length vectorises lists runs runs_later (length words) (options_of words) c (take_all words) e in
     omega arith

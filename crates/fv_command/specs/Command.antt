@@ -9,7 +9,7 @@ use Rattle.std.specs.Str.Parse.{digits_value}
 use Rattle.std.specs.declared.alloc.Global.{Global}
 use Rattle.fv_command.specs.declared.commands.Options.{Options}
 use Rattle.fv_command.specs.declared.commands.Command.{Command}
-use Rattle.fv_command.specs.declared.commands.Command.TheVariants.{Vectorise, Graph, Run77}
+use Rattle.fv_command.specs.declared.commands.Command.TheVariants.{Vectorise, Graph, Run77, Run90}
 
 abbrev pub texts : List (String Global) → List (List ℕ)
 texts words = map (λ word. string_bytes word) words
@@ -63,4 +63,5 @@ command_of [] = None
 command_of (word ∷ words) =
     if bytes_eq word (codes "vectorise") then alone Vectorise words
     else if bytes_eq word (codes "graph") then alone Graph words
-    else (if bytes_eq word (codes "run77") then option_map Run77 (options_of words) else None)
+    else if bytes_eq word (codes "run77") then option_map Run77 (options_of words)
+    else (if bytes_eq word (codes "run90") then option_map Run90 (options_of words) else None)

@@ -20,8 +20,10 @@ pub enum Command {
     Vectorise,
     /// The dependences of its loops are listed.
     Graph,
-    /// The deck is run as it stands.
+    /// The deck of FORTRAN 77 is run.
     Run77(Options),
+    /// The deck of Fortran 90 is run.
+    Run90(Options),
 }
 
 impl Options {

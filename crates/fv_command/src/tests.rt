@@ -2,25 +2,21 @@ use super::*;
 use std::alloc::{AllocError, Global};
 use std::test::Fail;
 
-// Words of a run, whether the final store is written, and the most steps.
+// Words behind that of a run, whether the final store is written, and the most steps.
 const RUNS: &[(&[&str], bool, Option<u64>)] = &[
-    (&["run77"], false, None),
-    (&["run77", "--final"], true, None),
-    (&["run77", "--steps", "3"], false, Some(3)),
-    (&["run77", "--steps=3"], false, Some(3)),
-    (&["run77", "--final", "--steps", "3"], true, Some(3)),
-    (&["run77", "--final", "--steps=3"], true, Some(3)),
-    (&["run77", "--steps", "3", "--final"], true, Some(3)),
-    (&["run77", "--steps=3", "--final"], true, Some(3)),
-    (&["run77", "--steps", "0"], false, Some(0)),
-    (&["run77", "--steps=00000000000000000007"], false, Some(7)),
+    (&[], false, None),
+    (&["--final"], true, None),
+    (&["--steps", "3"], false, Some(3)),
+    (&["--steps=3"], false, Some(3)),
+    (&["--final", "--steps", "3"], true, Some(3)),
+    (&["--final", "--steps=3"], true, Some(3)),
+    (&["--steps", "3", "--final"], true, Some(3)),
+    (&["--steps=3", "--final"], true, Some(3)),
+    (&["--steps", "0"], false, Some(0)),
+    (&["--steps=00000000000000000007"], false, Some(7)),
+    (&["--steps", "00000000000000000007"], false, Some(7)),
     (
-        &["run77", "--steps", "00000000000000000007"],
-        false,
-        Some(7),
-    ),
-    (
-        &["run77", "--steps", "18446744073709551615"],
+        &["--steps", "18446744073709551615"],
         false,
         Some(18446744073709551615),
     ),
@@ -38,6 +34,9 @@ const NO_COMMANDS: &[&[&str]] = &[
     &["graph", ""],
     &["run"],
     &["run770"],
+    &["run9"],
+    &["run90", "run77"],
+    &["run90", "--final", "--final"],
     &["RUN77"],
     &["Vectorise"],
     &["vectorise", "vectorise"],
@@ -90,8 +89,9 @@ const NO_COMMANDS: &[&[&str]] = &[
     &["run77", "--steps=000000000000000000007"],
 ];
 
-fn command_of(alloc: Global, words: &[&str]) -> Result<Option<Command>, AllocError> {
+fn command_of(alloc: Global, first: &str, words: &[&str]) -> Result<Option<Command>, AllocError> {
     let mut texts = Vec::new(alloc);
+    texts.push(String::from_str(alloc, first)?)?;
     for word in words {
         texts.push(String::from_str(alloc, word)?)?;
     }
@@ -105,22 +105,24 @@ fn words_of_runs(rt: HostRuntime) -> Result<(), Fail> {
             final_store: *final_store,
             steps: *steps,
         };
-        let found = command_of(rt.alloc(), words)?;
+        let found = command_of(rt.alloc(), "run77", words)?;
         assert_eq!(rt; found, Some(Command::Run77(options)), "{words:?}");
+        let found = command_of(rt.alloc(), "run90", words)?;
+        assert_eq!(rt; found, Some(Command::Run90(options)), "{words:?}");
     }
     Ok(())
 }
 
 #[test]
 fn the_word_of_a_listing(rt: HostRuntime) -> Result<(), Fail> {
-    let found = command_of(rt.alloc(), &["graph"])?;
+    let found = command_of(rt.alloc(), "graph", &[])?;
     assert_eq!(rt; found, Some(Command::Graph));
     Ok(())
 }
 
 #[test]
 fn the_word_of_a_translation(rt: HostRuntime) -> Result<(), Fail> {
-    let found = command_of(rt.alloc(), &["vectorise"])?;
+    let found = command_of(rt.alloc(), "vectorise", &[])?;
     assert_eq!(rt; found, Some(Command::Vectorise));
     Ok(())
 }
@@ -128,7 +130,11 @@ fn the_word_of_a_translation(rt: HostRuntime) -> Result<(), Fail> {
 #[test]
 fn other_words(rt: HostRuntime) -> Result<(), Fail> {
     for words in NO_COMMANDS {
-        let found = command_of(rt.alloc(), words)?;
+        let Some((first, rest)) = words.split_first() else {
+            assert_eq!(rt; command(&[]), None);
+            continue;
+        };
+        let found = command_of(rt.alloc(), first, rest)?;
         assert_eq!(rt; found, None, "{words:?}");
     }
     Ok(())

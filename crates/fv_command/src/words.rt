@@ -32,6 +32,7 @@ pub fn command(words: &[String]) -> Option<Command>
         "vectorise" if rest.is_empty() => Some(Command::Vectorise),
         "graph" if rest.is_empty() => Some(Command::Graph),
         "run77" => Some(Command::Run77(options(rest)?)),
+        "run90" => Some(Command::Run90(options(rest)?)),
         _ => None,
     }
 }

@@ -16,7 +16,7 @@ use Rattle.fv_meaning.proofs.Relines.{relined, relined_ends_well}
 use Rattle.profile_laws.proofs.Programs.{source_is_target}
 use Rattle.dialect_laws.proofs.Runs.{sequential_run_is_array_run}
 use Rattle.f77_read.proofs.SourceLaws.{read_is_source_program}
-use Rattle.f90_grammar.specs.PrintedText.{with_line_feed, program_lines}
+use Rattle.f90_grammar.specs.PrintedText.{IsNote, with_line_feed, program_lines}
 use Rattle.f90_read_back.specs.ReadBack.{IsReadAs as IsTextOf}
 use Rattle.f90_read_back.proofs.PrintedIsRead.{printed_is_read}
 use Rattle.fv_tool.proofs.Renumbered.{same_but_lines}
@@ -27,7 +27,12 @@ use Rattle.fv_tool.specs.Decks.{IsReadAs}
 use Rattle.placed_loops.specs.Laws.{KeepsMeaning}
 use Rattle.program_translation.specs.Translated.{IsGoodTranslation}
 use Rattle.program_translation.proofs.Good.{translation_is_good}
-use Rattle.f90_translation.specs.Translated.{IsTranslated}
+use Rattle.f90_translation.specs.Translated.{IsVectorised}
+use Rattle.listing_notes.proofs.Listed.{listing_lines_are_notes}
+use Rattle.nest_blocks.proofs.Blocks.{answers_are_blocks}
+use Rattle.nest_blocks.proofs.Listed.{answers_are_listed}
+use Rattle.program_listing.specs.Listing.{IsListing}
+use Rattle.program_marks.proofs.Law.{translation_is_marked}
 use Rattle.fv_tool.specs.Translation.{data_part, IsTranslationText}
 use Rattle.fv_tool.specs.Headline.{TranslationHolds}
 
@@ -41,24 +46,6 @@ relined_keeps p q r input same keeps =
       store = λ well. subst (Agree p (sequential_run p input).store) alike.store (keeps.store well);
     }
 
-same_store_agrees : (p : Program) (s : Store) → Agree p s s
-same_store_agrees p s = record { bounds = λ x _. refl; held = λ c _ _. refl; kinds = λ c _. refl }
-
--- a program of FORTRAN 77 keeps its own meaning as one of Fortran 90
-keeps_itself : (p : Program) (input : List ℕ) → IsProgram77 fortran77 p → KeepsMeaning p p input
-keeps_itself p input source =
-    let one : sequential_run p input ≡ array_run p input = sequential_run_is_array_run fortran77 p input source in
-    record {
-      ends = λ well. subst EndsWell one well;
-      output = λ _. ap (λ (s : State). s.written) one;
-      store = λ _. subst (λ (s : State). Agree p (sequential_run p input).store s.store) one (same_store_agrees p (sequential_run p input).store);
-    }
-
-translated_is_good : (p q : Program) → IsProgram77 fortran77 p → IsTranslated p q → IsGoodTranslation p q
-translated_is_good p q source (inl full) = translation_is_good p q source full.translation full.limits
-translated_is_good p q source (inr stayed) =
-    subst (IsGoodTranslation p) (sym stayed.same) (record { program = source_is_target fortran77 p (omega arith) source; keeps = λ input. keeps_itself p input source })
-
 -- the text is read back where the program stands alone
 module _ (ls : List (List ℕ)) (plain : AllByRecursion IsSourceLine ls) where
   source_behind : (b : Bool) (input : List ℕ) → source_of data_line90 (flat_map with_line_feed ls ++ data_part b input) ≡ flat_map with_line_feed ls
@@ -69,14 +56,20 @@ module _ (ls : List (List ℕ)) (plain : AllByRecursion IsSourceLine ls) where
   input_behind false input none = input_alone ls plain ∙ sym (none refl)
   input_behind true input none = input_after_data ls input plain
 
-pub holds : (deck text : List ℕ) (p : Program) → IsReadAs Vectorise deck p → IsTranslationText p (has_data data_line77 deck) (input_of data_line77 deck) text → TranslationHolds deck text
+pub holds : (deck text : List ℕ) (p : Program) → IsReadAs Vectorise deck p
+    → IsTranslationText p (has_data data_line77 deck) (input_of data_line77 deck) text → TranslationHolds deck text
 holds deck text p h written =
     let source : IsProgram77 fortran77 p = read_is_source_program fortran77 (source_of data_line77 deck) h.reads.source.cards p (omega arith) h.reads.source.are_cards h.reads.source.program in
     let q : Program = written.translated in
-    let good : IsGoodTranslation p q = translated_is_good p q source written.is in
-    let ls : List (List ℕ) = program_lines q [] in
-    let back : IsTextOf q (flat_map with_line_feed ls) = printed_is_read q [] good.program tt in
-    let plain : AllByRecursion IsSourceLine ls = program_lines_are_source q [] good.program tt in
+    let notes : List (List ℕ) = written.notes in
+    let v : IsVectorised p notes q = written.is in
+    let listing : IsListing p notes = answers_are_listed p notes v.blocks source v.answers in
+    let good : IsGoodTranslation p q =
+    translation_is_good p q v.blocks source (answers_are_blocks p notes v.blocks source v.answers) v.placed v.limits in
+    let are_notes : AllByRecursion IsNote notes = listing_lines_are_notes p notes source listing in
+    let ls : List (List ℕ) = program_lines q notes in
+    let back : IsTextOf q (flat_map with_line_feed ls) = printed_is_read q notes good.program are_notes in
+    let plain : AllByRecursion IsSourceLine ls = program_lines_are_source q notes good.program are_notes in
     let there : Bool = has_data data_line77 deck in
     let input : List ℕ = input_of data_line77 deck in
     let read : IsTextOf q (source_of data_line90 text) =
@@ -85,6 +78,8 @@ holds deck text p h written =
       program = p;
       read = h;
       written = written;
+      listing = listing;
+      marked = translation_is_marked p q v.answers.answers v.blocks source v.answers.are v.answers.placed v.placed;
       read_back = read;
       input = ap (input_of data_line90) written.printed ∙ input_behind ls plain there input (no_input data_line77 deck);
       keeps = relined_keeps p q read.program input (same_but_lines q read.program read.same) (good.keeps input);

@@ -10,13 +10,27 @@ use Rattle.fv_meaning.specs.Run.{State}
 use Rattle.fv_meaning.specs.Sequential.{ending}
 use Rattle.fv_meaning.specs.Steps.{final_lines}
 use Rattle.fv_meaning.specs.Store.{Store}
+use Rattle.fv_meaning.specs.declared.End.{End}
 use Rattle.fv_meaning.specs.declared.End.TheVariants as end
 use Rattle.fv_machine.specs.Moments.{Seen}
 use Rattle.fv_machine.specs.Acts.{HasFront}
-use Rattle.fv_machine.specs.Endings.{EndsWith}
+use Rattle.fv_machine.specs.Endings.{Ends, EndsWith}
+use Rattle.run90.specs.Machine.{HasFrontOf}
 use Rattle.fv_command.specs.declared.commands.Options.{Options}
 use Rattle.fv_tool.specs.Running.{run_text, final_part}
 use Rattle.fv_tool.specs.Works.{Writing, GaveAll, GaveFront}
+
+pub ends_at : (names : List Declaration) (s : State) (m : Seen) (before now : Option (List ℕ)) (e e' : End) → e ≡ e' → Ends names s m before now e → Ends names s m before now e'
+ends_at names s m before now e e' q h = subst (λ (e : End). Ends names s m before now e) q h
+
+-- there was no memory in the run
+pub run_stopped : (options : Options) (p : Program) (s : State) (before now : Option (List ℕ)) → HasFrontOf s.written before now → GivesPart before (run_text options p s) now
+run_stopped options p s before now h = (
+  h.front,
+  h.rest ++ final_part options p s (ending s),
+  ap (λ t. t ++ final_part options p s (ending s)) h.whole ∙ append_assoc h.front h.rest (final_part options p s (ending s)),
+  h.taken,
+)
 
 -- a write failed in the run
 pub run_cut : (options : Options) (p : Program) (s : State) (names : List Declaration) (m : Seen) (w : Writing) → HasFront names w.before m w.now s → Rose w.faults_before w.faults_now

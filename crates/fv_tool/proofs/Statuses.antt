@@ -1,12 +1,14 @@
 -- Which outcome a status tells of.
-use Rattle.std.proofs.Common.{◌≡◌, ℕ, true, [], ◌∷◌, refl, sym, ◌∙◌, arith, inl, inr}
+use Rattle.std.proofs.Common.{◌≡◌, ℕ, true, false, [], ◌∷◌, Option, refl, ap, sym, ◌∙◌, arith, inl, inr}
+use Rattle.std.specs.Prelude.{not}
 use Rattle.fv_tree.specs.declared.ops.Fault.{Fault}
 use Rattle.fv_tree.specs.declared.refusals.Refusal.{Refusal}
+use Rattle.fv_command.specs.declared.commands.Command.{Command}
 use Rattle.fv_report.specs.declared.outcome.Outcome.{Outcome}
 use Rattle.fv_report.specs.declared.outcome.Outcome.TheVariants.{Done, Usage, Refused, Faulted, StepLimit, ReadFault, WriteFault, OutOfMemory}
 use Rattle.fv_report.specs.Notes.{status_of}
 use Rattle.fv_tool.specs.Answers.{IsOneOf}
-use Rattle.fv_tool.specs.Endings.{is_silent}
+use Rattle.fv_tool.specs.Endings.{is_silent, writes_early}
 
 pub is_done : (o : Outcome) (s : ℕ) → s ≡ status_of o → s ≡ 0 → o ≡ Done
 is_done Done s e q = refl
@@ -78,6 +80,16 @@ is_write_fault ReadFault s e q = absurd (omega (arith, e, q))
 is_write_fault WriteFault s e q = refl
 is_write_fault OutOfMemory s e q = absurd (omega (arith, e, q))
 
+pub is_out_of_memory : (o : Outcome) (s : ℕ) → s ≡ status_of o → s ≡ 7 → o ≡ OutOfMemory
+is_out_of_memory Done s e q = absurd (omega (arith, e, q))
+is_out_of_memory Usage s e q = absurd (omega (arith, e, q))
+is_out_of_memory (Refused r) s e q = absurd (omega (arith, e, q))
+is_out_of_memory (Faulted f l) s e q = absurd (omega (arith, e, q))
+is_out_of_memory StepLimit s e q = absurd (omega (arith, e, q))
+is_out_of_memory ReadFault s e q = absurd (omega (arith, e, q))
+is_out_of_memory WriteFault s e q = absurd (omega (arith, e, q))
+is_out_of_memory OutOfMemory s e q = refl
+
 pub answers : (o : Outcome) (s : ℕ) → s ≡ status_of o → IsOneOf (0 ∷ 1 ∷ 2 ∷ 3 ∷ 4 ∷ 5 ∷ 6 ∷ 7 ∷ []) s
 answers Done s e = inl e
 answers Usage s e = inr (inl e)
@@ -90,18 +102,20 @@ answers OutOfMemory s e = inr (inr (inr (inr (inr (inr (inr (e)))))))
 
 -- ---- nothing was written
 
-none_silent : (s n : ℕ) → s ≡ n → (n ≡ 1 → ⊥) → (n ≡ 2 → ⊥) → (n ≡ 5 → ⊥) → (n ≡ 7 → ⊥) → IsOneOf (1 ∷ 2 ∷ 5 ∷ 7 ∷ []) s → ⊥
-none_silent s n e a b c d (inl q) = a (sym e ∙ q)
-none_silent s n e a b c d (inr (inl q)) = b (sym e ∙ q)
-none_silent s n e a b c d (inr (inr (inl q))) = c (sym e ∙ q)
-none_silent s n e a b c d (inr (inr (inr q))) = d (sym e ∙ q)
+none_silent : (s n : ℕ) → s ≡ n → (n ≡ 1 → ⊥) → (n ≡ 2 → ⊥) → (n ≡ 5 → ⊥) → IsOneOf (1 ∷ 2 ∷ 5 ∷ []) s → ⊥
+none_silent s n e a b c (inl q) = a (sym e ∙ q)
+none_silent s n e a b c (inr (inl q)) = b (sym e ∙ q)
+none_silent s n e a b c (inr (inr q)) = c (sym e ∙ q)
 
-pub silent : (o : Outcome) (s : ℕ) → s ≡ status_of o → IsOneOf (1 ∷ 2 ∷ 5 ∷ 7 ∷ []) s → is_silent o ≡ true
-silent Done s e m = absurd (none_silent s 0 e (λ q. omega (arith, q)) (λ q. omega (arith, q)) (λ q. omega (arith, q)) (λ q. omega (arith, q)) m)
-silent Usage s e m = refl
-silent (Refused r) s e m = refl
-silent (Faulted fault line) s e m = absurd (none_silent s 3 e (λ q. omega (arith, q)) (λ q. omega (arith, q)) (λ q. omega (arith, q)) (λ q. omega (arith, q)) m)
-silent StepLimit s e m = absurd (none_silent s 4 e (λ q. omega (arith, q)) (λ q. omega (arith, q)) (λ q. omega (arith, q)) (λ q. omega (arith, q)) m)
-silent ReadFault s e m = refl
-silent WriteFault s e m = absurd (none_silent s 6 e (λ q. omega (arith, q)) (λ q. omega (arith, q)) (λ q. omega (arith, q)) (λ q. omega (arith, q)) m)
-silent OutOfMemory s e m = refl
+pub silent : (k : Option Command) (o : Outcome) (s : ℕ) → s ≡ status_of o → IsOneOf (1 ∷ 2 ∷ 5 ∷ []) s → is_silent k o ≡ true
+silent k Done s e m = absurd (none_silent s 0 e (λ q. omega (arith, q)) (λ q. omega (arith, q)) (λ q. omega (arith, q)) m)
+silent k Usage s e m = refl
+silent k (Refused r) s e m = refl
+silent k (Faulted fault line) s e m = absurd (none_silent s 3 e (λ q. omega (arith, q)) (λ q. omega (arith, q)) (λ q. omega (arith, q)) m)
+silent k StepLimit s e m = absurd (none_silent s 4 e (λ q. omega (arith, q)) (λ q. omega (arith, q)) (λ q. omega (arith, q)) m)
+silent k ReadFault s e m = refl
+silent k WriteFault s e m = absurd (none_silent s 6 e (λ q. omega (arith, q)) (λ q. omega (arith, q)) (λ q. omega (arith, q)) m)
+silent k OutOfMemory s e m = absurd (none_silent s 7 e (λ q. omega (arith, q)) (λ q. omega (arith, q)) (λ q. omega (arith, q)) m)
+
+pub silent_without_memory : (k : Option Command) (o : Outcome) (s : ℕ) → s ≡ status_of o → writes_early k ≡ false → s ≡ 7 → is_silent k o ≡ true
+silent_without_memory k o s e late q = ap (is_silent k) (is_out_of_memory o s e q) ∙ ap not late

@@ -1,5 +1,5 @@
 -- What a status says of the call, by how the call ended.
-use Rattle.std.proofs.Common.{◌≡◌, ℕ, List, [], ◌∷◌, Option, None, Some, Result, Ok, Err, append-nil, refl, ap, sym, ◌∙◌, subst, arith, inl, inr}
+use Rattle.std.proofs.Common.{◌≡◌, ℕ, false, List, [], ◌∷◌, Option, None, Some, Result, Ok, Err, append-nil, refl, ap, sym, ◌∙◌, subst, arith, inl, inr}
 use Rattle.std.specs.Prelude.{String, IfSome, OnOk, OnErr}
 use Rattle.std.specs.declared.alloc.Global.{Global}
 use Rattle.std.specs.Io.KnownBytes.{IsAtEnd}
@@ -8,26 +8,25 @@ use Rattle.fv_tree.specs.declared.refusals.Refusal.{Refusal}
 use Rattle.fv_tree.specs.Plain.{Program}
 use Rattle.fv_io.specs.Causes.{Rose}
 use Rattle.fv_io.specs.Streams.{Gives, GivesPart}
-use Rattle.fv_meaning.specs.Deck.{input_of, data_line77}
 use Rattle.fv_meaning.specs.Sequential.{ending}
 use Rattle.fv_meaning.specs.declared.End.{End}
 use Rattle.fv_meaning.specs.declared.End.TheVariants as end
 use Rattle.fv_command.specs.Command.{texts, command_of}
-use Rattle.fv_command.specs.declared.commands.Options.{Options}
 use Rattle.fv_command.specs.declared.commands.Command.{Command}
-use Rattle.fv_command.specs.declared.commands.Command.TheVariants.{Vectorise, Graph, Run77}
+use Rattle.fv_command.specs.declared.commands.Command.TheVariants.{Vectorise, Graph, Run77, Run90}
 use Rattle.fv_report.specs.declared.outcome.Outcome.{Outcome}
 use Rattle.fv_report.specs.declared.outcome.Outcome.TheVariants.{Done, Usage, Refused, Faulted, StepLimit, ReadFault, WriteFault, OutOfMemory}
 use Rattle.fv_report.specs.Notes.{status_of, note_of}
 use Rattle.fv_tool.specs.Answers.{IsOneOf, IsTrueOf, NoteFor, HasFault}
-use Rattle.fv_tool.specs.Decks.{Reads, IsRefused, IsReadAs, IsRefusedFor, ReadsDeck77}
-use Rattle.fv_tool.specs.Endings.{Call, Ends, Ended, EndsAt, IsRun, IsReadOrPassed, IsReadFor, GivesAll, GivesFront, ending_of}
+use Rattle.fv_tool.specs.Decks.{Reads, IsRefused, IsReadAs, IsRefusedFor, most_bytes}
+use Rattle.fv_tool.specs.Endings.{Call, Ends, Ended, EndsAt, IsReadOrPassed, IsReadFor, IsRefusedAfter, GivesAll, GivesFront, GivesLittle, ending_of, writes_early}
 use Rattle.fv_tool.specs.Headline.{GivesTranslation, GivesTranslationPart}
 use Rattle.fv_tool.specs.Listings.{IsListingOf, GivesListing, GivesListingPart}
 use Rattle.program_listing.specs.Listing.{IsListingText}
-use Rattle.fv_tool.specs.Running.{GivesRun, GivesRunPart, IsExceeded, run_of}
+use Rattle.fv_tool.specs.Running.{IsRun, GivesRun, GivesFaultedRun, GivesRunPart, GivesAtMostPart, IsExceeded, options_in, dialect_of, input_for, run_of}
 use Rattle.fv_tool.proofs.Headline.{holds}
 use Rattle.fv_tool.proofs.Limits.{exceeded, limited}
+use Rattle.fv_tool.proofs.Readings.{run_ends}
 use Rattle.fv_tool.proofs.Statuses as tells
 
 -- ---- words
@@ -47,6 +46,9 @@ for_command k a c o e h = subst (λ (k : Option Command). Ended k c o) e h
 -- the same of equal words
 pub for_words : (ws ws' : List (String Global)) (c : Call) (o : Outcome) → ws ≡ ws' → Ended (command_of (texts ws)) c o → Ended (command_of (texts ws')) c o
 for_words ws ws' c o e h = subst (λ (ws : List (String Global)). Ended (command_of (texts ws)) c o) e h
+
+pub same_words_late : (ws ws' : List (String Global)) → ws ≡ ws' → writes_early (command_of (texts ws')) ≡ false → writes_early (command_of (texts ws)) ≡ false
+same_words_late ws ws' e h = subst (λ (ws : List (String Global)). writes_early (command_of (texts ws)) ≡ false) (sym e) h
 
 at_outcome : (a : Command) (c : Call) (o o' : Outcome) → o ≡ o' → Ends a c o → Ends a c o'
 at_outcome a c o o' e h = subst (Ends a c) e h
@@ -89,11 +91,11 @@ asked : (k : Option Command) (c : Call) (o o' : Outcome) → Ended k c o → o �
 asked None c o o' h e n = absurd (n (ap status_of (sym e ∙ h.0)))
 asked (Some a) c o o' h e n = (a, refl, at_outcome a c o o' e h)
 
-pub whole_refused : (k : Option Command) (c : Call) (o : Outcome) (s : ℕ) → s ≡ status_of o → Ended k c o → s ≡ 2 → IsReadOrPassed c.left_before c.left_now
+pub whole_refused : (k : Command) (c : Call) (o : Outcome) (s : ℕ) → s ≡ status_of o → Ends k c o → s ≡ 2 → IsReadOrPassed (most_bytes k) c.left_before c.left_now
 whole_refused k c o s e h q =
     let r = tells.is_refused o s e q in
-    let g = asked k c o (Refused r.0) h r.1 (λ z. omega (arith, z)) in
-    g.2.1.0
+    let g : Ends k c (Refused r.0) = at_outcome k c o (Refused r.0) r.1 h in
+    g.1.0
 
 pub read_fault : (k : Option Command) (c : Call) (o : Outcome) (s : ℕ) → s ≡ status_of o → Ended k c o → s ≡ 5 → Rose c.deck_faults_before c.deck_faults_now
 read_fault k c o s e h q = (asked k c o ReadFault h (tells.is_read_fault o s e q) (λ z. omega (arith, z))).2.0
@@ -103,12 +105,12 @@ write_fault k c o s e h q = (asked k c o WriteFault h (tells.is_write_fault o s 
 
 -- ---- refusals
 
-with_reading : (k : Command) (c : Call) (r : Refusal) → IfSome c.left_before (IsRefusedFor k r) → IsReadFor c.left_before c.left_now r
-    → IfSome c.left_before (λ deck. (r : Refusal) × IsRefused k deck r × IsReadFor c.left_before c.left_now r)
+with_reading : (k : Command) (c : Call) (r : Refusal) → IfSome c.left_before (IsRefusedFor k r) → IsReadFor (most_bytes k) c.left_before c.left_now r
+    → IfSome c.left_before (IsRefusedAfter k c.left_before c.left_now)
 with_reading k c r h reading = map_some c.left_before (λ deck for. (r, for.refused, reading)) h
 
 pub refused : (k : Command) (c : Call) (o : Outcome) (s : ℕ) → s ≡ status_of o → Ends k c o → s ≡ 2
-    → IfSome c.left_before (λ deck. (r : Refusal) × IsRefused k deck r × IsReadFor c.left_before c.left_now r)
+    → IfSome c.left_before (IsRefusedAfter k c.left_before c.left_now)
 refused k c o s e h q =
     let r = tells.is_refused o s e q in
     let g : Ends k c (Refused r.0) = at_outcome k c o (Refused r.0) r.1 h in
@@ -157,16 +159,31 @@ listing_given before now deck g = (g.text, listed_as deck g.text g.program g.rea
 listing_part : (before now : Option (List ℕ)) (deck : List ℕ) → GivesFront Graph before now deck → GivesListingPart before now deck
 listing_part before now deck g = (g.text, listed_as deck g.text g.program g.read g.has_text, g.given)
 
-run_given : (options : Options) (e : End) (before now : Option (List ℕ)) (deck : List ℕ) → GivesAll (Run77 options) e before now deck → GivesRun options e before now deck
-run_given options e before now deck g = record {
+run_given : (k : Command) → IsRun k → (e : End) (before now : Option (List ℕ)) (deck : List ℕ) → GivesAll k e before now deck → GivesRun k e before now deck
+run_given Vectorise run e before now deck g = absurd run
+run_given Graph run e before now deck g = absurd run
+run_given (Run77 options) run e before now deck g = record {
+  program = g.program;
+  read = g.read;
+  ending = g.ending;
+  text = subst (λ (t : List ℕ). Gives before t now) g.has_text g.given;
+}
+run_given (Run90 options) run e before now deck g = record {
   program = g.program;
   read = g.read;
   ending = g.ending;
   text = subst (λ (t : List ℕ). Gives before t now) g.has_text g.given;
 }
 
-run_part_given : (options : Options) (before now : Option (List ℕ)) (deck : List ℕ) → GivesFront (Run77 options) before now deck → GivesRunPart options before now deck
-run_part_given options before now deck g = record {
+run_part_given : (k : Command) → IsRun k → (before now : Option (List ℕ)) (deck : List ℕ) → GivesFront k before now deck → GivesRunPart k before now deck
+run_part_given Vectorise run before now deck g = absurd run
+run_part_given Graph run before now deck g = absurd run
+run_part_given (Run77 options) run before now deck g = record {
+  program = g.program;
+  read = g.read;
+  text = subst (λ (t : List ℕ). GivesPart before t now) g.has_text g.given;
+}
+run_part_given (Run90 options) run before now deck g = record {
   program = g.program;
   read = g.read;
   text = subst (λ (t : List ℕ). GivesPart before t now) g.has_text g.given;
@@ -184,32 +201,40 @@ listed c o s e h q = map_some c.left_before (listing_given c.taken_before c.take
 pub listed_part : (c : Call) (o : Outcome) (s : ℕ) → s ≡ status_of o → Ends Graph c o → s ≡ 6 → IfSome c.left_before (GivesListingPart c.taken_before c.taken_now)
 listed_part c o s e h q = map_some c.left_before (listing_part c.taken_before c.taken_now) (at_outcome Graph c o WriteFault (tells.is_write_fault o s e q) h).2
 
-pub ran : (options : Options) (c : Call) (o : Outcome) (s : ℕ) → s ≡ status_of o → Ends (Run77 options) c o → s ≡ 0 → IfSome c.left_before (GivesRun options end.Done c.taken_before c.taken_now)
-ran options c o s e h q = map_some c.left_before (run_given options end.Done c.taken_before c.taken_now) (at_outcome (Run77 options) c o Done (tells.is_done o s e q) h).1
+pub ran : (k : Command) → IsRun k → (c : Call) (o : Outcome) (s : ℕ) → s ≡ status_of o → Ends k c o → s ≡ 0 → IfSome c.left_before (GivesRun k end.Done c.taken_before c.taken_now)
+ran k run c o s e h q = map_some c.left_before (run_given k run end.Done c.taken_before c.taken_now) (at_outcome k c o Done (tells.is_done o s e q) h).1
 
-pub run_part : (options : Options) (c : Call) (o : Outcome) (s : ℕ) → s ≡ status_of o → Ends (Run77 options) c o → s ≡ 6 → IfSome c.left_before (GivesRunPart options c.taken_before c.taken_now)
-run_part options c o s e h q = map_some c.left_before (run_part_given options c.taken_before c.taken_now) (at_outcome (Run77 options) c o WriteFault (tells.is_write_fault o s e q) h).2
+pub run_part : (k : Command) → IsRun k → (c : Call) (o : Outcome) (s : ℕ) → s ≡ status_of o → Ends k c o → s ≡ 6 → IfSome c.left_before (GivesRunPart k c.taken_before c.taken_now)
+run_part k run c o s e h q = map_some c.left_before (run_part_given k run c.taken_before c.taken_now) (at_outcome k c o WriteFault (tells.is_write_fault o s e q) h).2
 
 -- the command of a run that ended so
 run_for : (k : Option Command) (c : Call) (a : Command) (e : End) → k ≡ Some a → IsRun a → EndsAt a c e
-    → (options : Options) × (k ≡ Some (Run77 options)) × IfSome c.left_before (GivesRun options e c.taken_before c.taken_now)
-run_for k c Vectorise e q run at = absurd run
-run_for k c Graph e q run at = absurd run
-run_for k c (Run77 options) e q run at = (options, q, map_some c.left_before (run_given options e c.taken_before c.taken_now) at.1)
+    → (a : Command) × IsRun a × (k ≡ Some a) × IfSome c.left_before (GivesRun a e c.taken_before c.taken_now)
+run_for k c a e q run at = (a, run, q, map_some c.left_before (run_given a run e c.taken_before c.taken_now) at.1)
 
 pub faulted : (k : Option Command) (c : Call) (o : Outcome) (s : ℕ) → s ≡ status_of o → Ended k c o → s ≡ 3
-    → (options : Options) × (k ≡ Some (Run77 options)) × IfSome c.left_before (λ deck. (fault : Kind) × (line : ℕ) × GivesRun options (end.Fault fault line) c.taken_before c.taken_now deck)
+    → (a : Command) × IsRun a × (k ≡ Some a) × IfSome c.left_before (GivesFaultedRun a c.taken_before c.taken_now)
 faulted k c o s e h q =
     let f = tells.is_faulted o s e q in
     let g = asked k c o (Faulted f.0 f.1) h f.2 (λ z. omega (arith, z)) in
     let r = run_for k c g.0 (end.Fault f.0 f.1) g.1 g.2.0 g.2.1 in
-    (r.0, r.1, map_some c.left_before (λ deck given. (f.0, f.1, given)) r.2)
+    (r.0, r.1, r.2, map_some c.left_before (λ deck given. (f.0, f.1, given)) r.3)
 
 pub at_limit : (k : Option Command) (c : Call) (o : Outcome) (s : ℕ) → s ≡ status_of o → Ended k c o → s ≡ 4
-    → (options : Options) × (k ≡ Some (Run77 options)) × IfSome c.left_before (GivesRun options end.StepLimit c.taken_before c.taken_now)
+    → (a : Command) × IsRun a × (k ≡ Some a) × IfSome c.left_before (GivesRun a end.StepLimit c.taken_before c.taken_now)
 at_limit k c o s e h q =
     let g = asked k c o StepLimit h (tells.is_limited o s e q) (λ z. omega (arith, z)) in
     run_for k c g.0 end.StepLimit g.1 g.2.0 g.2.1
+
+little_given : (k : Command) → IsRun k → (c : Call) → GivesLittle k c → IfSome c.left_before (GivesAtMostPart k c.taken_before c.taken_now)
+little_given Vectorise run c h = absurd run
+little_given Graph run c h = absurd run
+little_given (Run77 options) run c h = always c.left_before (λ deck. inl h)
+little_given (Run90 options) run c (inl h) = always c.left_before (λ deck. inl h)
+little_given (Run90 options) run c (inr h) = map_some c.left_before (λ deck g. inr (run_part_given (Run90 options) run c.taken_before c.taken_now deck g)) h
+
+pub part_without_memory : (k : Command) → IsRun k → (c : Call) (o : Outcome) (s : ℕ) → s ≡ status_of o → Ends k c o → s ≡ 7 → IfSome c.left_before (GivesAtMostPart k c.taken_before c.taken_now)
+part_without_memory k run c o s e h q = little_given k run c (at_outcome k c o OutOfMemory (tells.is_out_of_memory o s e q) h)
 
 -- ---- a deck that is read
 
@@ -250,30 +275,31 @@ pub done : (k : Command) (c : Call) (o : Outcome) (s : ℕ) → s ≡ status_of 
     → (Rose c.deck_faults_before c.deck_faults_now → ⊥) → (Rose c.out_faults_before c.out_faults_now → ⊥) → IsOneOf (0 ∷ 7 ∷ []) s)
 done k c o s q h = complete k c o s end.Done q h
 
-pub faults : (options : Options) (c : Call) (o : Outcome) (s : ℕ) → s ≡ status_of o → Ends (Run77 options) c o
-    → IfSome c.left_before (λ deck. (p : Program) → ReadsDeck77 deck p → (fault : Kind) (line : ℕ) → ending (run_of options deck p) ≡ Some (end.Fault fault line)
+pub faults : (k : Command) → IsRun k → (c : Call) (o : Outcome) (s : ℕ) → s ≡ status_of o → Ends k c o
+    → IfSome c.left_before (λ deck. (p : Program) → Reads k deck p → (fault : Kind) (line : ℕ) → ending (run_of k deck p) ≡ Some (end.Fault fault line)
     → (Rose c.deck_faults_before c.deck_faults_now → ⊥) → (Rose c.out_faults_before c.out_faults_now → ⊥) → IsOneOf (3 ∷ 7 ∷ []) s)
-faults options c o s q h = by c.left_before (λ fault line. complete (Run77 options) c o s (end.Fault fault line) q h)
+faults k run c o s q h = by c.left_before (λ fault line. complete k c o s (end.Fault fault line) q h)
   where
-    by : (left : Option (List ℕ)) → ((fault : Kind) (line : ℕ) → IfSome left (IsComplete (Run77 options) c s (end.Fault fault line)))
-        → IfSome left (λ deck. (p : Program) → ReadsDeck77 deck p → (fault : Kind) (line : ℕ) → ending (run_of options deck p) ≡ Some (end.Fault fault line)
+    by : (left : Option (List ℕ)) → ((fault : Kind) (line : ℕ) → IfSome left (IsComplete k c s (end.Fault fault line)))
+        → IfSome left (λ deck. (p : Program) → Reads k deck p → (fault : Kind) (line : ℕ) → ending (run_of k deck p) ≡ Some (end.Fault fault line)
         → (Rose c.deck_faults_before c.deck_faults_now → ⊥) → (Rose c.out_faults_before c.out_faults_now → ⊥) → IsOneOf (3 ∷ 7 ∷ []) s)
     by None f = tt
-    by (Some deck) f = λ p reads fault line e. f fault line p reads e
+    by (Some deck) f = λ p reads fault line e. f fault line p reads (sym (run_ends k deck p run) ∙ e)
 
-pub limits : (options : Options) (c : Call) (o : Outcome) (s : ℕ) → s ≡ status_of o → Ends (Run77 options) c o
-    → IfSome c.left_before (λ deck. (p : Program) → ReadsDeck77 deck p → IsExceeded options.steps p (input_of data_line77 deck)
+pub limits : (k : Command) → IsRun k → (c : Call) (o : Outcome) (s : ℕ) → s ≡ status_of o → Ends k c o
+    → IfSome c.left_before (λ deck. (p : Program) → Reads k deck p → IsExceeded k deck p
     → (Rose c.deck_faults_before c.deck_faults_now → ⊥) → (Rose c.out_faults_before c.out_faults_now → ⊥) → IsOneOf (4 ∷ 7 ∷ []) s)
-limits options c o s q h =
-    map_some c.left_before (λ deck (f : IsComplete (Run77 options) c s end.StepLimit deck) p reads over. f p reads (limited options.steps p (input_of data_line77 deck) over))
-    (complete (Run77 options) c o s end.StepLimit q h)
+limits k run c o s q h =
+    map_some c.left_before (λ deck (f : IsComplete k c s end.StepLimit deck) p reads over.
+    f p reads (sym (run_ends k deck p run) ∙ limited (dialect_of k) (options_in k).steps p (input_for k deck) over))
+    (complete k c o s end.StepLimit q h)
 
-pub over_limit : (options : Options) (c : Call) (o : Outcome) (s : ℕ) → s ≡ status_of o → Ends (Run77 options) c o → s ≡ 4
-    → IfSome c.left_before (λ deck. (p : Program) → ReadsDeck77 deck p → IsExceeded options.steps p (input_of data_line77 deck))
-over_limit options c o s q h e =
-    map_some c.left_before (λ deck (g : GivesAll (Run77 options) end.StepLimit c.taken_before c.taken_now deck) p reads.
-    exceeded options.steps p (input_of data_line77 deck) (ap (ending_of (Run77 options) deck) (g.read.only p reads) ∙ g.ending))
-    (at_outcome (Run77 options) c o StepLimit (tells.is_limited o s q e) h).1.1
+pub over_limit : (k : Command) → IsRun k → (c : Call) (o : Outcome) (s : ℕ) → s ≡ status_of o → Ends k c o → s ≡ 4
+    → IfSome c.left_before (λ deck. (p : Program) → Reads k deck p → IsExceeded k deck p)
+over_limit k run c o s q h e =
+    map_some c.left_before (λ deck (g : GivesAll k end.StepLimit c.taken_before c.taken_now deck) p reads.
+    exceeded (dialect_of k) (options_in k).steps p (input_for k deck) (run_ends k deck p run ∙ ap (ending_of k deck) (g.read.only p reads) ∙ g.ending))
+    (at_outcome k c o StepLimit (tells.is_limited o s q e) h).1.1
 
 -- ---- the notes
 
@@ -282,6 +308,8 @@ has_fault Vectorise c fault line run h = absurd run
 has_fault Graph c fault line run h = absurd run
 has_fault (Run77 options) c fault line run h =
     map_some c.left_before (λ deck (g : GivesAll (Run77 options) (end.Fault fault line) c.taken_before c.taken_now deck). (g.program, g.read, g.ending)) h
+has_fault (Run90 options) c fault line run h =
+    map_some c.left_before (λ deck (g : GivesAll (Run90 options) (end.Fault fault line) c.taken_before c.taken_now deck). (g.program, g.read, g.ending)) h
 
 true_for : (k : Command) (c : Call) (o : Outcome) → Ends k c o → IsTrueOf (Some k) c.left_before o
 true_for k c Done h = tt

@@ -1,5 +1,5 @@
 -- What a command does with the bytes of a deck, as what the call did.
-use Rattle.std.proofs.Common.{◌≡◌, ℕ, List, ◌^◌, ◌<◌, length, refl, sym, subst, arith, Option, None, Some, inl, inr}
+use Rattle.std.proofs.Common.{◌≡◌, ℕ, List, ◌≤◌, ◌<◌, length, refl, sym, subst, arith, Option, None, Some, inl, inr}
 use Rattle.std.specs.Prelude.{IfSome}
 use Rattle.std.specs.Io.KnownBytes.{IsAtEnd}
 use Rattle.fv_tree.specs.declared.refusals.Refusal.{Refusal}
@@ -11,14 +11,16 @@ use Rattle.fv_meaning.specs.declared.End.TheVariants as end
 use Rattle.fv_tree.specs.Causes.{refusal_at}
 use Rattle.fv_tree.specs.declared.refusals.Cause.TheVariants as cause
 use Rattle.fv_command.specs.declared.commands.Command.{Command}
-use Rattle.fv_command.specs.declared.commands.Command.TheVariants.{Vectorise, Graph, Run77}
+use Rattle.fv_command.specs.declared.commands.Command.TheVariants.{Vectorise, Graph, Run77, Run90}
 use Rattle.fv_report.specs.declared.outcome.Outcome.{Outcome}
 use Rattle.fv_report.specs.declared.outcome.Outcome.TheVariants.{Done, Usage, Refused, Faulted, StepLimit, ReadFault, WriteFault, OutOfMemory}
-use Rattle.fv_tool.specs.Decks.{Reads, IsRefused, IsRefusedFor}
-use Rattle.fv_tool.specs.Decks.RefusedDeck77.{TooLong as deck_too_long}
-use Rattle.fv_tool.specs.Endings.{Ends, IsRun, IsReadFor, GivesAll, GivesFront, ending_of}
+use Rattle.fv_tool.specs.Decks.{Reads, IsRefused, IsRefusedFor, most_bytes}
+use Rattle.fv_tool.specs.Decks.RefusedDeck77.{TooLong as too_long77}
+use Rattle.fv_tool.specs.Decks.RefusedDeck90.{TooLong as too_long90}
+use Rattle.fv_tool.specs.Endings.{Call, Ends, GivesLittle, IsReadFor, GivesAll, GivesFront, ending_of}
+use Rattle.fv_tool.specs.Running.{IsRun}
 use Rattle.fv_tool.specs.Unread.{IsUnread}
-use Rattle.fv_tool.specs.Works.{Writing, Works}
+use Rattle.fv_tool.specs.Works.{Writing, WithoutMemory, Works}
 
 -- what holds of the bytes that were taken holds of the deck, where that is told
 told : (P : List ℕ → Type 0) (left : Option (List ℕ)) (bytes : List ℕ) (now : Option (List ℕ)) → Takes left bytes now → IsAtEnd now → P bytes → IfSome left P
@@ -37,8 +39,19 @@ is_run : (k : Command) (deck : List ℕ) (p : Program) (e : End) → ending_of k
 is_run Vectorise deck p e q n = absurd (n (subst IsWell (some_inj end.Done e q) tt))
 is_run Graph deck p e q n = absurd (n (subst IsWell (some_inj end.Done e q) tt))
 is_run (Run77 options) deck p e q n = tt
+is_run (Run90 options) deck p e q n = tt
 
 -- ---- all bytes were read
+
+little : (k : Command) (left now : Option (List ℕ)) (w : Writing) (d d' : ℕ) (bytes : List ℕ) → Takes left bytes now → IsAtEnd now → WithoutMemory k bytes w
+    → GivesLittle k (record { left_before = left; left_now = now; taken_before = w.before; taken_now = w.now; deck_faults_before = d; deck_faults_now = d'; out_faults_before = w.faults_before; out_faults_now = w.faults_now })
+little Vectorise left now w d d' bytes t at h = h
+little Graph left now w d d' bytes t at h = h
+little (Run77 options) left now w d d' bytes t at h = h
+little (Run90 options) left now w d d' bytes t at (inl same) = inl same
+little (Run90 options) left now w d d' bytes t at (inr h) =
+    inr (told (GivesFront (Run90 options) w.before w.now) left bytes now t at
+    (record { program = h.program; read = h.read; text = h.text; has_text = h.has_text; given = h.front }))
 
 pub worked : (k : Command) (left now : Option (List ℕ)) (w : Writing) (d d' : ℕ) (bytes : List ℕ) (o : Outcome) → Takes left bytes now → IsAtEnd now → Works k bytes w o
     → Ends k (record { left_before = left; left_now = now; taken_before = w.before; taken_now = w.now; deck_faults_before = d; deck_faults_now = d'; out_faults_before = w.faults_before; out_faults_now = w.faults_now }) o
@@ -72,7 +85,7 @@ worked k left now w d d' bytes WriteFault t at h = (
   told (GivesFront k w.before w.now) left bytes now t at
       (record { program = h.program; read = h.read; text = h.text; has_text = h.has_text; given = h.comes.front }),
 )
-worked k left now w d d' bytes OutOfMemory t at h = h
+worked k left now w d d' bytes OutOfMemory t at h = little k left now w d d' bytes t at h
 
 -- the same of the command that was asked for
 pub worked_for : (k asked : Command) (left now : Option (List ℕ)) (w : Writing) (d d' : ℕ) (items bytes : List ℕ) (o : Outcome) → asked ≡ k → items ≡ bytes → Takes left bytes now → IsAtEnd now → Works k items w o
@@ -82,30 +95,55 @@ worked_for k asked left now w d d' items bytes o e same t at h =
 
 -- ---- the bytes weren't read
 
-too_long : (k : Command) (deck : List ℕ) → 2 ^ 24 < length deck → IsRefused k deck (refusal_at cause.TooLong 0)
-too_long Vectorise deck h = deck_too_long h
-too_long Graph deck h = deck_too_long h
-too_long (Run77 options) deck h = deck_too_long h
+too_long : (k : Command) (deck : List ℕ) → most_bytes k < length deck → IsRefused k deck (refusal_at cause.TooLong 0)
+too_long Vectorise deck h = too_long77 h
+too_long Graph deck h = too_long77 h
+too_long (Run77 options) deck h = too_long77 h
+too_long (Run90 options) deck h = too_long90 h
 
-not_read : (k : Command) (deck : List ℕ) → 2 ^ 24 < length deck → (p : Program) → Reads k deck p → ⊥
-not_read Vectorise deck h p reads = omega (arith, h, reads.within)
-not_read Graph deck h p reads = omega (arith, h, reads.within)
-not_read (Run77 options) deck h p reads = omega (arith, h, reads.within)
+within : (k : Command) (deck : List ℕ) (p : Program) → Reads k deck p → length deck ≤ most_bytes k
+within Vectorise deck p reads = reads.within
+within Graph deck p reads = reads.within
+within (Run77 options) deck p reads = reads.within
+within (Run90 options) deck p reads = reads.within
 
-passed : (k : Command) (left now : Option (List ℕ)) → TakesMoreThan (2 ^ 24) left now → IfSome left (IsRefusedFor k (refusal_at cause.TooLong 0))
+not_both : (n m : ℕ) → n ≤ m → m < n → ⊥
+not_both n m a b = omega (arith, a, b)
+
+not_read : (k : Command) (deck : List ℕ) → most_bytes k < length deck → (p : Program) → Reads k deck p → ⊥
+not_read k deck h p reads = not_both (length deck) (most_bytes k) (within k deck p reads) h
+
+passed : (k : Command) (left now : Option (List ℕ)) → TakesMoreThan (most_bytes k) left now → IfSome left (IsRefusedFor k (refusal_at cause.TooLong 0))
 passed k None now h = tt
 passed k (Some deck) now h =
-    let long : 2 ^ 24 < length deck = had_more_than deck (2 ^ 24) now h in
+    let long : most_bytes k < length deck = had_more_than deck (most_bytes k) now h in
     record { refused = too_long k deck long; unread = not_read k deck long }
 
-pub unread : (k : Command) (left now taken : Option (List ℕ)) (d d' f f' : ℕ) (o : Outcome) → IsUnread left now d d' o
+-- nothing was given
+still : (k : Command) (c : Call) → c.taken_now ≡ c.taken_before → GivesLittle k c
+still Vectorise c e = e
+still Graph c e = e
+still (Run77 options) c e = e
+still (Run90 options) c e = inl e
+
+unread_of : (k : Command) (left now taken : Option (List ℕ)) (d d' f f' : ℕ) (o : Outcome) → IsUnread (most_bytes k) left now d d' o
     → Ends k (record { left_before = left; left_now = now; taken_before = taken; taken_now = taken; deck_faults_before = d; deck_faults_now = d'; out_faults_before = f; out_faults_now = f' }) o
-unread k left now taken d d' f f' Done h = absurd h
-unread k left now taken d d' f f' Usage h = absurd h
-unread k left now taken d d' f f' (Refused r) h =
-    subst (λ (r : Refusal). IfSome left (IsRefusedFor k r) × IsReadFor left now r × (taken ≡ taken)) (sym h.0) (passed k left now h.1, (inr h.1, λ other. absurd (other refl)), refl)
-unread k left now taken d d' f f' (Faulted fault line) h = absurd h
-unread k left now taken d d' f f' StepLimit h = absurd h
-unread k left now taken d d' f f' ReadFault h = (h, refl)
-unread k left now taken d d' f f' WriteFault h = absurd h
-unread k left now taken d d' f f' OutOfMemory h = refl
+unread_of k left now taken d d' f f' Done h = absurd h
+unread_of k left now taken d d' f f' Usage h = absurd h
+unread_of k left now taken d d' f f' (Refused r) h =
+    subst (λ (r : Refusal). IfSome left (IsRefusedFor k r) × IsReadFor (most_bytes k) left now r × (taken ≡ taken)) (sym h.0) (passed k left now h.1, (inr h.1, λ other. absurd (other refl)), refl)
+unread_of k left now taken d d' f f' (Faulted fault line) h = absurd h
+unread_of k left now taken d d' f f' StepLimit h = absurd h
+unread_of k left now taken d d' f f' ReadFault h = (h, refl)
+unread_of k left now taken d d' f f' WriteFault h = absurd h
+unread_of k left now taken d d' f f' OutOfMemory h =
+    still k (record { left_before = left; left_now = now; taken_before = taken; taken_now = taken; deck_faults_before = d; deck_faults_now = d'; out_faults_before = f; out_faults_now = f' }) refl
+
+pub unread : (k : Command) (most : ℕ) (left now taken : Option (List ℕ)) (d d' f f' : ℕ) (o : Outcome) → most ≡ most_bytes k → IsUnread most left now d d' o
+    → Ends k (record { left_before = left; left_now = now; taken_before = taken; taken_now = taken; deck_faults_before = d; deck_faults_now = d'; out_faults_before = f; out_faults_now = f' }) o
+unread k most left now taken d d' f f' o e h = unread_of k left now taken d d' f f' o (subst (λ (most : ℕ). IsUnread most left now d d' o) e h)
+
+-- no more bytes are handed to the command than its deck may have
+pub fits : (k asked : Command) (most : ℕ) (items bytes : List ℕ) → most ≡ most_bytes asked → asked ≡ k → items ≡ bytes → length bytes ≤ most → length items ≤ most_bytes k
+fits k asked most items bytes e q same h =
+    subst (λ (bytes : List ℕ). length bytes ≤ most_bytes k) (sym same) (subst (λ (k : Command). length bytes ≤ most_bytes k) q (subst (λ (most : ℕ). length bytes ≤ most) e h))

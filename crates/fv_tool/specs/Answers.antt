@@ -5,7 +5,7 @@ use Rattle.fv_tree.specs.Plain.{Program}
 use Rattle.fv_meaning.specs.Sequential.{ending}
 use Rattle.fv_meaning.specs.declared.End.TheVariants.{Fault}
 use Rattle.fv_command.specs.declared.commands.Command.{Command}
-use Rattle.fv_command.specs.declared.commands.Command.TheVariants.{Vectorise, Graph, Run77}
+use Rattle.fv_command.specs.declared.commands.Command.TheVariants.{Vectorise, Graph, Run77, Run90}
 use Rattle.fv_report.specs.declared.outcome.Outcome.{Outcome}
 use Rattle.fv_report.specs.declared.outcome.Outcome.TheVariants.{Refused, Faulted}
 use Rattle.fv_report.specs.Notes.{status_of, note_of}
@@ -18,12 +18,15 @@ IsOneOf [] status = ⊥
 IsOneOf (n ∷ []) status = status ≡ n
 IsOneOf (n ∷ m ∷ ns) status = (status ≡ n) ⊎ IsOneOf (m ∷ ns) status
 
+abbrev pub RunFaults : Command → Kind → ℕ → List ℕ → Type 0
+RunFaults c fault line deck = (p : Program) × IsReadAs c deck p × (ending (run_of c deck p) ≡ Some (Fault fault line))
+
 -- the deck's run ends in this fault at this line
 abbrev pub HasFault : Command → Kind → ℕ → List ℕ → Type 0
 HasFault Vectorise fault line deck = ⊥
 HasFault Graph fault line deck = ⊥
-HasFault (Run77 options) fault line deck = (p : Program) × IsReadAs (Run77 options) deck p
-    × (ending (run_of options deck p) ≡ Some (Fault fault line))
+HasFault (Run77 options) fault line deck = RunFaults (Run77 options) fault line deck
+HasFault (Run90 options) fault line deck = RunFaults (Run90 options) fault line deck
 
 -- a refusal is one of the deck's, and a fault is that of its run, where the deck is told
 abbrev pub IsTrueOf : Option Command → Option (List ℕ) → Outcome → Type 0

@@ -1,5 +1,5 @@
 -- What a call of the tool did with its deck and its sink, by the command and by how it ended.
-use Rattle.std.specs.Prelude.{ℕ, ◌^◌, ◌≡◌, ◌⊎◌, Bool, true, false, List, Option, None, Some, IfSome}
+use Rattle.std.specs.Prelude.{ℕ, ◌≡◌, ◌⊎◌, Bool, true, false, not, List, Option, None, Some, IfSome}
 use Rattle.std.specs.Io.KnownBytes.{IsAtEnd}
 use Rattle.fv_tree.specs.declared.refusals.Refusal.{Refusal}
 use Rattle.fv_tree.specs.Plain.{Program}
@@ -10,13 +10,13 @@ use Rattle.fv_meaning.specs.declared.End.TheVariants as end
 use Rattle.fv_io.specs.Causes.{Rose}
 use Rattle.fv_io.specs.Streams.{TakesMoreThan, Gives, GivesPart}
 use Rattle.fv_command.specs.declared.commands.Command.{Command}
-use Rattle.fv_command.specs.declared.commands.Command.TheVariants.{Vectorise, Graph, Run77}
+use Rattle.fv_command.specs.declared.commands.Command.TheVariants.{Vectorise, Graph, Run77, Run90}
 use Rattle.fv_report.specs.declared.outcome.Outcome.{Outcome}
 use Rattle.fv_report.specs.declared.outcome.Outcome.TheVariants.{Done, Usage, Refused, Faulted, StepLimit, ReadFault}
 use Rattle.fv_report.specs.declared.outcome.Outcome.TheVariants.{WriteFault, OutOfMemory}
 use Rattle.program_listing.specs.Listing.{IsListingText}
-use Rattle.fv_tool.specs.Decks.{IsRefused, IsReadAs, IsRefusedFor}
-use Rattle.fv_tool.specs.Running.{run_of, run_text}
+use Rattle.fv_tool.specs.Decks.{IsRefused, IsReadAs, IsRefusedFor, most_bytes}
+use Rattle.fv_tool.specs.Running.{IsRun, run_of, text_of_run}
 use Rattle.fv_tool.specs.Translation.{IsTranslationText}
 
 -- the bytes left in the deck, the bytes in the sink, and both counts of faults, before the call and after it
@@ -30,17 +30,17 @@ pub record Call : Type 0 where
   pub out_faults_before : ℕ
   pub out_faults_now : ℕ
 
--- to its end, or past the limit
-abbrev pub IsReadOrPassed : Option (List ℕ) → Option (List ℕ) → Type 0
-IsReadOrPassed before now = IsAtEnd now ⊎ TakesMoreThan (2 ^ 24) before now
+-- to its end, or past the limit of bytes
+abbrev pub IsReadOrPassed : ℕ → Option (List ℕ) → Option (List ℕ) → Type 0
+IsReadOrPassed most before now = IsAtEnd now ⊎ TakesMoreThan most before now
 
 -- Only where a limit of bytes is passed, the deck may not have been read to its end.
-abbrev pub IsReadFor : Option (List ℕ) → Option (List ℕ) → Refusal → Type 0
-IsReadFor before now r = IsReadOrPassed before now × ((r.number ≡ 1 → ⊥) → IsAtEnd now)
+abbrev pub IsReadFor : ℕ → Option (List ℕ) → Option (List ℕ) → Refusal → Type 0
+IsReadFor most before now r = IsReadOrPassed most before now × ((r.number ≡ 1 → ⊥) → IsAtEnd now)
 
 -- The deck is refused for the command, and so far it was read.
 abbrev pub IsRefusedAfter : Command → Option (List ℕ) → Option (List ℕ) → List ℕ → Type 0
-IsRefusedAfter c before now bytes = (r : Refusal) × IsRefused c bytes r × IsReadFor before now r
+IsRefusedAfter c before now bytes = (r : Refusal) × IsRefused c bytes r × IsReadFor (most_bytes c) before now r
 
 -- ---- what a command comes to with a deck and its program
 
@@ -48,13 +48,15 @@ IsRefusedAfter c before now bytes = (r : Refusal) × IsRefused c bytes r × IsRe
 abbrev pub ending_of : Command → List ℕ → Program → Option End
 ending_of Vectorise deck p = Some end.Done
 ending_of Graph deck p = Some end.Done
-ending_of (Run77 options) deck p = ending (run_of options deck p)
+ending_of (Run77 options) deck p = ending (run_of (Run77 options) deck p)
+ending_of (Run90 options) deck p = ending (run_of (Run90 options) deck p)
 
 -- a text that it may write: that of a run is one, a translation and a listing are any of the program
 abbrev pub HasText : Command → List ℕ → Program → List ℕ → Type 0
 HasText Vectorise deck p text = IsTranslationText p (has_data data_line77 deck) (input_of data_line77 deck) text
 HasText Graph deck p text = IsListingText p text
-HasText (Run77 options) deck p text = text ≡ run_text options p (run_of options deck p)
+HasText (Run77 options) deck p text = text ≡ text_of_run (Run77 options) deck p
+HasText (Run90 options) deck p text = text ≡ text_of_run (Run90 options) deck p
 
 -- the command has come to this end, and has given all of its text
 pub record GivesAll (c : Command) (e : End) (before now : Option (List ℕ)) (deck : List ℕ) : Type 0 where
@@ -75,11 +77,14 @@ pub record GivesFront (c : Command) (before now : Option (List ℕ)) (deck : Lis
 
 -- ---- how a call ends
 
--- a run alone ends by a fault or at a limit of steps
-abbrev pub IsRun : Command → Type 0
-IsRun Vectorise = ⊥
-IsRun Graph = ⊥
-IsRun (Run77 options) = Unit {0}
+-- where there is no memory, nothing was given; but the array machine takes memory while it runs
+abbrev pub GivesLittle : Command → Call → Type 0
+GivesLittle Vectorise c = c.taken_now ≡ c.taken_before
+GivesLittle Graph c = c.taken_now ≡ c.taken_before
+GivesLittle (Run77 options) c = c.taken_now ≡ c.taken_before
+GivesLittle (Run90 options) c =
+    (c.taken_now ≡ c.taken_before)
+    ⊎ IfSome c.left_before (GivesFront (Run90 options) c.taken_before c.taken_now)
 
 abbrev pub EndsAt : Command → Call → End → Type 0
 EndsAt k c e = IsAtEnd c.left_now × IfSome c.left_before (GivesAll k e c.taken_before c.taken_now)
@@ -87,25 +92,30 @@ EndsAt k c e = IsAtEnd c.left_now × IfSome c.left_before (GivesAll k e c.taken_
 abbrev pub Ends : Command → Call → Outcome → Type 0
 Ends k c Done = EndsAt k c end.Done
 Ends k c Usage = ⊥
-Ends k c (Refused r) = IfSome c.left_before (IsRefusedFor k r) × IsReadFor c.left_before c.left_now r
+Ends k c (Refused r) = IfSome c.left_before (IsRefusedFor k r) × IsReadFor (most_bytes k) c.left_before c.left_now r
     × (c.taken_now ≡ c.taken_before)
 Ends k c (Faulted fault line) = IsRun k × EndsAt k c (end.Fault fault line)
 Ends k c StepLimit = IsRun k × EndsAt k c end.StepLimit
 Ends k c ReadFault = Rose c.deck_faults_before c.deck_faults_now × (c.taken_now ≡ c.taken_before)
 Ends k c WriteFault = Rose c.out_faults_before c.out_faults_now × IsAtEnd c.left_now
     × IfSome c.left_before (GivesFront k c.taken_before c.taken_now)
-Ends k c OutOfMemory = c.taken_now ≡ c.taken_before
+Ends k c OutOfMemory = GivesLittle k c
+
+-- `run90` alone takes memory when it may have written
+abbrev pub writes_early : Option Command → Bool
+writes_early (Some (Run90 options)) = true
+writes_early c = false
 
 -- a call that ends so has written nothing
-abbrev pub is_silent : Outcome → Bool
-is_silent Done = false
-is_silent Usage = true
-is_silent (Refused r) = true
-is_silent (Faulted fault line) = false
-is_silent StepLimit = false
-is_silent ReadFault = true
-is_silent WriteFault = false
-is_silent OutOfMemory = true
+abbrev pub is_silent : Option Command → Outcome → Bool
+is_silent c Done = false
+is_silent c Usage = true
+is_silent c (Refused r) = true
+is_silent c (Faulted fault line) = false
+is_silent c StepLimit = false
+is_silent c ReadFault = true
+is_silent c WriteFault = false
+is_silent c OutOfMemory = not (writes_early c)
 
 -- words that are no command do nothing
 abbrev pub Ended : Option Command → Call → Outcome → Type 0

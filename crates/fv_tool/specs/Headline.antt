@@ -7,15 +7,20 @@ use Rattle.fv_io.specs.Streams.{Gives, GivesPart}
 use Rattle.fv_command.specs.declared.commands.Command.TheVariants.{Vectorise}
 use Rattle.fv_tool.specs.Decks.{IsReadAs}
 use Rattle.placed_loops.specs.Laws.{KeepsMeaning}
+use Rattle.program_listing.specs.Listing.{IsListing}
+use Rattle.program_marks.specs.Marks.{IsMarkedAsListed}
 use Rattle.fv_tool.specs.Translation.{IsTranslationText}
 
--- The text is a translation of the deck: the deck is read as the program, the text is the printing of what that is
--- translated to, with the input behind it, and as a Fortran 90 deck it has the same input and is read as a program that
--- keeps the meaning of the first one on it
+-- The text is a translation of the deck: the deck is read as the program, and the text is the printing of what that is
+-- translated to, with a listing of the program before it and the input behind it. As a Fortran 90 deck it has the same
+-- input and is read as a program that keeps the meaning of the first one on it. In it the statements of the nests that
+-- are listed with a graph are marked as array statements just where the graph and the holds leave them alone
 pub record TranslationHolds (deck text : List ℕ) : Type 0 where
   pub program : Program
   pub read : IsReadAs Vectorise deck program
   pub written : IsTranslationText program (has_data data_line77 deck) (input_of data_line77 deck) text
+  pub listing : IsListing program written.notes
+  pub marked : IsMarkedAsListed written.is.answers.answers written.translated.body
   pub read_back : IsTextOf written.translated (source_of data_line90 text)
   pub input : input_of data_line90 text ≡ input_of data_line77 deck
   pub keeps : KeepsMeaning program read_back.program (input_of data_line77 deck)

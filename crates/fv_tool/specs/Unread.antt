@@ -1,5 +1,5 @@
 -- Why a deck wasn't read.
-use Rattle.std.specs.Prelude.{ℕ, ◌^◌, ◌≡◌, List, Option}
+use Rattle.std.specs.Prelude.{ℕ, ◌≡◌, List, Option}
 use Rattle.fv_tree.specs.declared.refusals.Refused.{Refused as Unreadable}
 use Rattle.fv_tree.specs.declared.refusals.Refused.TheVariants as refused
 use Rattle.fv_tree.specs.Causes.{refusal_at}
@@ -9,13 +9,13 @@ use Rattle.fv_io.specs.Streams.{TakesMoreThan}
 use Rattle.fv_report.specs.declared.outcome.Outcome.{Outcome}
 use Rattle.fv_report.specs.declared.outcome.Outcome.TheVariants.{Refused, ReadFault, OutOfMemory}
 
--- The source failed, the deck is too long, or there was no memory.
-abbrev pub IsUnread : Option (List ℕ) → Option (List ℕ) → ℕ → ℕ → Outcome → Type 0
-IsUnread before now faults_before faults_now ReadFault = Rose faults_before faults_now
-IsUnread before now faults_before faults_now (Refused r) =
-    (r ≡ refusal_at TooLong 0) × TakesMoreThan (2 ^ 24) before now
-IsUnread before now faults_before faults_now OutOfMemory = Unit {0}
-IsUnread before now faults_before faults_now _ = ⊥
+-- The source failed, the deck has more bytes than it may have, or there was no memory.
+abbrev pub IsUnread : ℕ → Option (List ℕ) → Option (List ℕ) → ℕ → ℕ → Outcome → Type 0
+IsUnread most before now faults_before faults_now ReadFault = Rose faults_before faults_now
+IsUnread most before now faults_before faults_now (Refused r) =
+    (r ≡ refusal_at TooLong 0) × TakesMoreThan most before now
+IsUnread most before now faults_before faults_now OutOfMemory = Unit {0}
+IsUnread most before now faults_before faults_now _ = ⊥
 
 -- how a call ends on whose deck this was answered
 abbrev pub outcome_for : Unreadable → Outcome

@@ -1,11 +1,12 @@
 -- What a command does with the bytes of a deck.
-use Rattle.std.specs.Prelude.{ℕ, ◌≡◌, List, Option, Some}
+use Rattle.std.specs.Prelude.{ℕ, ◌≡◌, ◌⊎◌, List, Option, Some}
 use Rattle.fv_tree.specs.Plain.{Program}
 use Rattle.fv_meaning.specs.declared.End.{End}
 use Rattle.fv_meaning.specs.declared.End.TheVariants as end
 use Rattle.fv_io.specs.Causes.{Rose}
 use Rattle.fv_io.specs.Streams.{Gives, GivesPart}
 use Rattle.fv_command.specs.declared.commands.Command.{Command}
+use Rattle.fv_command.specs.declared.commands.Command.TheVariants.{Run90}
 use Rattle.fv_report.specs.declared.outcome.Outcome.{Outcome}
 use Rattle.fv_report.specs.declared.outcome.Outcome.TheVariants.{Done, Usage, Refused, Faulted, StepLimit, ReadFault}
 use Rattle.fv_report.specs.declared.outcome.Outcome.TheVariants.{WriteFault, OutOfMemory}
@@ -36,6 +37,11 @@ Comes ending text w StepLimit = GaveAll ending text w end.StepLimit
 Comes ending text w WriteFault = GaveFront text w
 Comes ending text w _ = ⊥
 
+-- or there was no memory, and a front of the text was given
+abbrev pub ComesOrStops : Option End → List ℕ → Writing → Outcome → Type 0
+ComesOrStops ending text w OutOfMemory = GivesPart w.before text w.now
+ComesOrStops ending text w o = Comes ending text w o
+
 -- with the program that the deck is read as
 pub record ComesFor (c : Command) (deck : List ℕ) (w : Writing) (o : Outcome) : Type 0 where
   pub program : Program
@@ -43,6 +49,19 @@ pub record ComesFor (c : Command) (deck : List ℕ) (w : Writing) (o : Outcome) 
   pub text : List ℕ
   pub has_text : HasText c deck program text
   pub comes : Comes (ending_of c deck program) text w o
+
+-- with the program that the deck is read as, a front of the command's text was given
+pub record FrontFor (c : Command) (deck : List ℕ) (w : Writing) : Type 0 where
+  pub program : Program
+  pub read : IsReadAs c deck program
+  pub text : List ℕ
+  pub has_text : HasText c deck program text
+  pub front : GivesPart w.before text w.now
+
+-- there was no memory: nothing was given, but that the array machine takes memory while it runs
+abbrev pub WithoutMemory : Command → List ℕ → Writing → Type 0
+WithoutMemory (Run90 options) deck w = (w.now ≡ w.before) ⊎ FrontFor (Run90 options) deck w
+WithoutMemory c deck w = w.now ≡ w.before
 
 abbrev pub Works : Command → List ℕ → Writing → Outcome → Type 0
 Works c deck w Done = ComesFor c deck w Done
@@ -52,4 +71,4 @@ Works c deck w (Faulted fault line) = ComesFor c deck w (Faulted fault line)
 Works c deck w StepLimit = ComesFor c deck w StepLimit
 Works c deck w ReadFault = ⊥
 Works c deck w WriteFault = ComesFor c deck w WriteFault
-Works c deck w OutOfMemory = w.now ≡ w.before
+Works c deck w OutOfMemory = WithoutMemory c deck w

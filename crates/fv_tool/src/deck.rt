@@ -1,26 +1,46 @@
 //! The bytes of a deck.
-ghost use Rattle.std.specs.Prelude.{◌≡◌, ◌^◌, ◌≤◌, length, IfOk, IfErr, OnOk};
+ghost use Rattle.std.specs.Prelude.{◌≡◌, ◌≤◌, length, IfOk, IfErr, OnOk};
 ghost use Rattle.std.specs.Io.KnownBytes.{IsAtEnd};
 ghost use Rattle.fv_io.specs.Streams.{Takes};
+ghost use Rattle.fv_tool.specs.Decks.{most_bytes};
 ghost use Rattle.fv_tool.specs.Unread.{IsUnread, outcome_for};
 
+use fv_command::Command;
 use fv_io::{ReadEnd, Source, read_all};
 use fv_report::Outcome;
 use fv_tree::{Cause, Refused};
 use std::alloc::Global;
 
-const DECK_BYTES: usize = 1 << 24;
+const DECK_BYTES_77: usize = 1 << 24;
 
-/// All bytes of the deck, or how the call ends without them.
-pub(crate) fn read_deck<S: Source>(alloc: Global, deck: &mut S) -> Result<Vec<u8>, Outcome>
+const DECK_BYTES_90: usize = 1 << 28;
+
+/// How many bytes a deck of the command may have.
+pub(crate) fn most_bytes(command: Command) -> usize
+    ensures { result ≡ most_bytes command }
+{
+    match command {
+        Command::Vectorise => DECK_BYTES_77,
+        Command::Graph => DECK_BYTES_77,
+        Command::Run77(_) => DECK_BYTES_77,
+        Command::Run90(_) => DECK_BYTES_90,
+    }
+}
+
+/// All bytes of the deck, of which there may be so many, or how the call ends without them.
+pub(crate) fn read_deck<S: Source>(
+    alloc: Global,
+    deck: &mut S,
+    most: usize,
+) -> Result<Vec<u8>, Outcome>
     ensures whole { IfOk result (λ bytes. Takes (S.left deck.old) bytes.items (S.left deck.new)) }
     ensures end { OnOk result (IsAtEnd (S.left deck.new)) }
-    ensures within { IfOk result (λ bytes. length bytes.items ≤ 2 ^ 24) }
+    ensures within { IfOk result (λ bytes. length bytes.items ≤ most) }
     ensures unread { IfErr result
-        (IsUnread (S.left deck.old) (S.left deck.new) (S.faults deck.old) (S.faults deck.new)) }
+        (IsUnread most (S.left deck.old) (S.left deck.new) (S.faults deck.old) (S.faults deck.new)) }
     ensures later { S.faults deck.old ≤ S.faults deck.new }
 {
-    match read_all(alloc, deck, DECK_BYTES) {
+    match read_all(alloc, deck, most) {
         Ok(bytes) => Ok(bytes),
         Err(ReadEnd::Fault) => Err(Outcome::ReadFault),
         Err(ReadEnd::TooLong) => Err(Outcome::Refused(Cause::TooLong.at(0))),

@@ -1,30 +1,32 @@
 //! The top call: words, the deck, the text and the notes.
 #![tactic(auto)]
 
-ghost use Rattle.std.specs.Prelude.{◌≡◌, ◌≤◌, ◌↔◌, [], ◌∷◌, List, None, Some, true, ℕ};
+ghost use Rattle.std.specs.Prelude.{◌≡◌, ◌≤◌, ◌↔◌, [], ◌∷◌, List, None, Some, true, false, ℕ};
 ghost use Rattle.std.specs.Io.KnownBytes.{IsAtEnd};
 ghost use Rattle.fv_tree.specs.Plain.{Program};
 ghost use Rattle.fv_tree.specs.declared.ops.Fault.{Fault as Kind};
 ghost use Rattle.fv_tree.specs.declared.refusals.Refusal.{Refusal};
 ghost use Rattle.fv_io.specs.Causes.{Rose};
 ghost use Rattle.fv_io.specs.Streams.{Gives, GivesPart};
-ghost use Rattle.fv_meaning.specs.Deck.{input_of, data_line77};
 ghost use Rattle.fv_meaning.specs.Sequential.{ending};
 ghost use Rattle.fv_meaning.specs.declared.End.TheVariants.{Done, Fault, StepLimit};
 ghost use Rattle.fv_command.specs.Command.{texts, command_of};
-ghost use Rattle.fv_command.specs.declared.commands.Options.{Options};
 ghost use Rattle.fv_command.specs.declared.commands.Command.{Command as Asked};
-ghost use Rattle.fv_command.specs.declared.commands.Command.TheVariants.{Vectorise, Graph, Run77};
+ghost use Rattle.fv_command.specs.declared.commands.Command.TheVariants.{Vectorise, Graph};
 ghost use Rattle.fv_tool.specs.Answers.{IsOneOf, NoteFor};
 ghost use Rattle.fv_tool.specs.Asked.{Asks, HasNotFailed, IfTold};
-ghost use Rattle.fv_tool.specs.Decks.{Reads, IsRefused, ReadsDeck77};
+ghost use Rattle.fv_tool.specs.Decks.{Reads, IsRefused, most_bytes};
 ghost use Rattle.fv_tool.specs.Endings.{Ends, Ended, IsReadOrPassed, IsRefusedAfter, ending_of, is_silent};
+ghost use Rattle.fv_tool.specs.Endings.{writes_early};
 ghost use Rattle.fv_tool.specs.Headline.{GivesTranslation, GivesTranslationPart};
 ghost use Rattle.fv_tool.specs.Listings.{GivesListing, GivesListingPart};
-ghost use Rattle.fv_tool.specs.Running.{GivesRun, GivesFaultedRun, GivesRunPart, IsExceeded, run_of};
+ghost use Rattle.fv_tool.specs.Running.{IsRun, GivesRun, GivesFaultedRun, GivesRunPart, GivesAtMostPart};
+ghost use Rattle.fv_tool.specs.Running.{IsExceeded, run_of};
 
 mod deck;
 mod listing;
+#[cfg(test)]
+mod run90_tests;
 #[cfg(test)]
 mod run_tests;
 mod running;
@@ -32,12 +34,12 @@ mod running;
 mod tests;
 mod translation;
 
-use deck::read_deck;
+use deck::{most_bytes, read_deck};
 use fv_command::{Command, command};
 use fv_io::{Sink, Source};
 use fv_report::{Outcome, note, status};
 use listing::graph;
-use running::run;
+use running::{run77, run90};
 use std::alloc::Global;
 use translation::vectorise;
 
@@ -58,18 +60,19 @@ fn perform<S: Source, K: Sink>(
       out_faults_before = K.faults out.old;
       out_faults_now = K.faults out.new;
     }) result }
-    ensures untouched { is_silent result ≡ true → out.new ≡ out.old }
+    ensures untouched { is_silent (Some command) result ≡ true → out.new ≡ out.old }
     ensures deck_later { S.faults deck.old ≤ S.faults deck.new }
     ensures out_later { K.faults out.old ≤ K.faults out.new }
 {
-    let bytes = match read_deck(alloc, deck) {
+    let bytes = match read_deck(alloc, deck, most_bytes(command)) {
         Ok(bytes) => bytes,
         Err(outcome) => return outcome,
     };
     match command {
         Command::Vectorise => vectorise(alloc, bytes.as_slice(), out),
         Command::Graph => graph(alloc, bytes.as_slice(), out),
-        Command::Run77(options) => run(alloc, options, bytes.as_slice(), out),
+        Command::Run77(options) => run77(alloc, options, bytes.as_slice(), out),
+        Command::Run90(options) => run90(alloc, options, bytes.as_slice(), out),
     }
 }
 
@@ -86,7 +89,7 @@ fn work<S: Source, K: Sink>(alloc: Global, words: &[String], deck: &mut S, out: 
       out_faults_now = K.faults out.new;
     }) result }
     ensures unread { command_of (texts words.now) ≡ None → deck.new ≡ deck.old }
-    ensures untouched { is_silent result ≡ true → out.new ≡ out.old }
+    ensures untouched { is_silent (command_of (texts words.now)) result ≡ true → out.new ≡ out.old }
     ensures deck_later { S.faults deck.old ≤ S.faults deck.new }
     ensures out_later { K.faults out.old ≤ K.faults out.new }
 {
@@ -112,7 +115,8 @@ pub fn run_tool<S: Source, K: Sink, E: Sink>(
 
     // Reading: the deck was read to its end, but where a limit of bytes is passed.
     ensures whole { IsOneOf (0 ∷ 3 ∷ 4 ∷ 6 ∷ []) result → IsAtEnd (S.left deck.new) }
-    ensures whole_refused { result ≡ 2 → IsReadOrPassed (S.left deck.old) (S.left deck.new) }
+    ensures whole_refused { (c : Asked) → Asks words.now.items c → result ≡ 2
+        → IsReadOrPassed (most_bytes c) (S.left deck.old) (S.left deck.new) }
 
     // Refusals: 2 comes only where the deck is refused for the command. Where it is and reading didn't fail, there is
     // nothing but 2, or 7.
@@ -140,35 +144,38 @@ pub fn run_tool<S: Source, K: Sink, E: Sink>(
     ensures listed_part { Asks words.now.items Graph → result ≡ 6
         → IfTold (S.left deck.old) (GivesListingPart (K.taken out.old) (K.taken out.new)) }
 
-    // `run77` gives all of the run's text: at 0 the run ended without fault, at 3 by a fault, at 4 since its steps
-    // exceed the limit. At 6 it gives a front.
-    ensures ran { (o : Options) → Asks words.now.items (Run77 o) → result ≡ 0
-        → IfTold (S.left deck.old) (GivesRun o Done (K.taken out.old) (K.taken out.new)) }
-    ensures faulted { result ≡ 3 → (o : Options) × Asks words.now.items (Run77 o)
-        × IfTold (S.left deck.old) (GivesFaultedRun o (K.taken out.old) (K.taken out.new)) }
-    ensures limited { result ≡ 4 → (o : Options) × Asks words.now.items (Run77 o)
-        × IfTold (S.left deck.old) (GivesRun o StepLimit (K.taken out.old) (K.taken out.new)) }
-    ensures run_part { (o : Options) → Asks words.now.items (Run77 o) → result ≡ 6
-        → IfTold (S.left deck.old) (GivesRunPart o (K.taken out.old) (K.taken out.new)) }
+    // `run77` and `run90` give all of the run's text: at 0 the run ended without fault, at 3 by a fault, at 4 since its
+    // steps exceed the limit. At 6 they give a front.
+    ensures ran { (c : Asked) → IsRun c → Asks words.now.items c → result ≡ 0
+        → IfTold (S.left deck.old) (GivesRun c Done (K.taken out.old) (K.taken out.new)) }
+    ensures faulted { result ≡ 3 → (c : Asked) × IsRun c × Asks words.now.items c
+        × IfTold (S.left deck.old) (GivesFaultedRun c (K.taken out.old) (K.taken out.new)) }
+    ensures limited { result ≡ 4 → (c : Asked) × IsRun c × Asks words.now.items c
+        × IfTold (S.left deck.old) (GivesRun c StepLimit (K.taken out.old) (K.taken out.new)) }
+    ensures run_part { (c : Asked) → IsRun c → Asks words.now.items c → result ≡ 6
+        → IfTold (S.left deck.old) (GivesRunPart c (K.taken out.old) (K.taken out.new)) }
 
-    // Otherwise nothing is given.
-    ensures nothing { IsOneOf (1 ∷ 2 ∷ 5 ∷ 7 ∷ []) result → out.new ≡ out.old }
+    // Otherwise nothing is given, but that `run90` may have given a front where there is no memory.
+    ensures nothing { IsOneOf (1 ∷ 2 ∷ 5 ∷ []) result → out.new ≡ out.old }
+    ensures nothing_without_memory { writes_early (command_of (texts words.now.items)) ≡ false → result ≡ 7
+        → out.new ≡ out.old }
+    ensures part_without_memory { (c : Asked) → IsRun c → Asks words.now.items c → result ≡ 7
+        → IfTold (S.left deck.old) (GivesAtMostPart c (K.taken out.old) (K.taken out.new)) }
 
     // Completeness: where nothing failed, a deck that is read gets 3 where its run faults within the limit, 4 where
     // its steps exceed the limit, and 0 otherwise, unless memory runs out.
-    ensures faults { (o : Options) → Asks words.now.items (Run77 o)
-        → IfTold (S.left deck.old) (λ bytes. (p : Program) → ReadsDeck77 bytes p
-        → (fault : Kind) (line : ℕ) → ending (run_of o bytes p) ≡ Some (Fault fault line)
+    ensures faults { (c : Asked) → IsRun c → Asks words.now.items c
+        → IfTold (S.left deck.old) (λ bytes. (p : Program) → Reads c bytes p
+        → (fault : Kind) (line : ℕ) → ending (run_of c bytes p) ≡ Some (Fault fault line)
         → HasNotFailed (S.faults deck.old) (S.faults deck.new) → HasNotFailed (K.faults out.old) (K.faults out.new)
         → IsOneOf (3 ∷ 7 ∷ []) result) }
-    ensures limits { (o : Options) → Asks words.now.items (Run77 o)
-        → IfTold (S.left deck.old) (λ bytes. (p : Program) → ReadsDeck77 bytes p
-        → IsExceeded o.steps p (input_of data_line77 bytes)
+    ensures limits { (c : Asked) → IsRun c → Asks words.now.items c
+        → IfTold (S.left deck.old) (λ bytes. (p : Program) → Reads c bytes p
+        → IsExceeded c bytes p
         → HasNotFailed (S.faults deck.old) (S.faults deck.new) → HasNotFailed (K.faults out.old) (K.faults out.new)
         → IsOneOf (4 ∷ 7 ∷ []) result) }
-    ensures exceeded { (o : Options) → Asks words.now.items (Run77 o) → result ≡ 4
-        → IfTold (S.left deck.old) (λ bytes. (p : Program) → ReadsDeck77 bytes p
-        → IsExceeded o.steps p (input_of data_line77 bytes)) }
+    ensures exceeded { (c : Asked) → IsRun c → Asks words.now.items c → result ≡ 4
+        → IfTold (S.left deck.old) (λ bytes. (p : Program) → Reads c bytes p → IsExceeded c bytes p) }
     ensures done { (c : Asked) → Asks words.now.items c
         → IfTold (S.left deck.old) (λ bytes. (p : Program) → Reads c bytes p → ending_of c bytes p ≡ Some Done
         → HasNotFailed (S.faults deck.old) (S.faults deck.new) → HasNotFailed (K.faults out.old) (K.faults out.new)

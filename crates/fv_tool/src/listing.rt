@@ -1,5 +1,6 @@
 //! `graph`: the listing of a deck.
-ghost use Rattle.std.specs.Prelude.{◌≡◌, ◌^◌, ◌≤◌, true, length, IfOk};
+ghost use Rattle.std.specs.Prelude.{◌≡◌, ◌≤◌, true, length, Some, IfOk};
+ghost use Rattle.fv_tree.specs.Limits.{deck_bytes};
 ghost use Rattle.fv_tree.specs.View.{program_of};
 ghost use Rattle.fv_meaning.specs.Dialect.{fortran77};
 ghost use Rattle.fv_meaning.specs.Profile77.{IsProgram77};
@@ -27,14 +28,14 @@ fn whole_listing(alloc: Global, program: &Program77) -> Result<Vec<u8>, Memory>
 
 /// Lists the dependences of the deck, which has at most 2^24 bytes. Nothing is written before the whole text is there.
 pub(crate) fn graph<K: Sink>(alloc: Global, deck: &[u8], out: &mut K) -> Outcome
-    requires { length deck.now ≤ 2 ^ 24 }
+    requires { length deck.now ≤ deck_bytes }
     ensures works { Works Graph deck.now (record {
       before = K.taken out.old;
       now = K.taken out.new;
       faults_before = K.faults out.old;
       faults_now = K.faults out.new;
     }) result }
-    ensures untouched { is_silent result ≡ true → out.new ≡ out.old }
+    ensures untouched { is_silent (Some Graph) result ≡ true → out.new ≡ out.old }
     ensures later { K.faults out.old ≤ K.faults out.new }
 {
     let (source, _) = source_and_input(deck, DataLine::Fortran77);

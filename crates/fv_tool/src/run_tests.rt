@@ -5,13 +5,13 @@ use std::process::Abort;
 use std::test::Fail;
 
 // Words and the lines of a deck, and what answers them.
-struct Row {
-    what: &'static str,
-    words: &'static [&'static str],
-    deck: &'static [&'static str],
-    status: u8,
-    out: &'static str,
-    notes: &'static str,
+pub(super) struct Row {
+    pub(super) what: &'static str,
+    pub(super) words: &'static [&'static str],
+    pub(super) deck: &'static [&'static str],
+    pub(super) status: u8,
+    pub(super) out: &'static str,
+    pub(super) notes: &'static str,
 }
 
 const RUN: &[&str] = &["run77"];
@@ -851,8 +851,7 @@ const NO_COMMANDS: &[&[&str]] = &[
     &["vectorise", "--final"],
 ];
 
-// The bytes of these lines.
-fn check_rows(rt: &impl Abort, alloc: Global, rows: &[Row]) -> Result<(), Fail> {
+pub(super) fn check_rows(rt: &impl Abort, alloc: Global, rows: &[Row]) -> Result<(), Fail> {
     for row in rows {
         let what = row.what;
         let deck = text_of(alloc, row.deck)?;

@@ -84,6 +84,13 @@ const ROWS: &[Row] = &[
         ],
         status: 0,
         out: &[
+            "!G NEST 1 LINE 3",
+            "!G LOOP 1 FV_LOOP_1 TRIP 3 IN 0",
+            "!G STMT S1 (1) DO10I = DO10I + FV_LOOP_1",
+            "!G EDGE S1.0 S1.0 OUTPUT DO10I (<) 1 SCALAR (1) (2)",
+            "!G EDGE S1.0 S1.1 FLOW DO10I (<) 1 SCALAR (1) (2)",
+            "!G EDGE S1.1 S1.0 ANTI DO10I (<) 1 SCALAR (1) (2)",
+            "!G HOLD S1 1 FORM",
             "PROGRAM FV_PROGRAM",
             "IMPLICIT NONE",
             "INTEGER :: DO10I",
@@ -131,6 +138,10 @@ const ROWS: &[Row] = &[
         ],
         status: 0,
         out: &[
+            "!G NEST 1 LINE 3",
+            "!G LOOP 1 FV_LOOP_1 TRIP 9 IN 0",
+            "!G STMT S1 (1) A(FV_LOOP_1 + 1) = B(FV_LOOP_1 + 1) + B(FV_LOOP_1)",
+            "!G DROP S1.0 S1.0 OUTPUT A (<) STRONG",
             "PROGRAM FV_PROGRAM",
             "IMPLICIT NONE",
             "INTEGER :: A(10)",
@@ -157,6 +168,7 @@ const ROWS: &[Row] = &[
         ],
         status: 0,
         out: &[
+            "!G KEEP 3 EXIT",
             "PROGRAM FV_PROGRAM",
             "IMPLICIT NONE",
             "INTEGER :: A(5)",
@@ -333,6 +345,19 @@ pub(super) fn text_of(alloc: Global, lines: &[&str]) -> Result<Vec<u8>, AllocErr
     Ok(text)
 }
 
+// The lines of a listing among these, each with its end.
+fn listing_among(alloc: Global, lines: &[&str]) -> Result<Vec<u8>, AllocError> {
+    let mut text = Vec::new(alloc);
+    for line in lines {
+        if line.as_bytes().starts_with(b"!G ".as_slice()) {
+            text.extend_from_slice(line.as_bytes())?;
+            text.push(b'\n')?;
+        }
+    }
+    Ok(text)
+}
+
+// The listing before a translation is what `graph` writes.
 fn check_row(rt: &impl Abort, alloc: Global, deck: &[u8], row: &Row) -> Result<(), Fail> {
     let done = vectorised(alloc, deck, &WILLING)?;
     let out = text_of(alloc, row.out)?;
@@ -340,6 +365,9 @@ fn check_row(rt: &impl Abort, alloc: Global, deck: &[u8], row: &Row) -> Result<(
     assert_eq!(rt; done.status, row.status);
     assert_eq!(rt; done.out.as_slice(), out.as_slice());
     assert_eq!(rt; done.notes.as_slice(), notes.as_slice());
+    let listed = call(alloc, &["graph"], Vec::from_slice(alloc, deck)?, &WILLING)?;
+    let listing = listing_among(alloc, row.out)?;
+    assert_eq!(rt; listed.out.as_slice(), listing.as_slice());
     Ok(())
 }
 

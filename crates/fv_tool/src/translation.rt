@@ -1,6 +1,7 @@
 //! `vectorise`: the translation of a deck.
-ghost use Rattle.std.specs.Prelude.{◌≡◌, ◌^◌, ◌≤◌, ◌++◌, true, length, IfOk, OnOk};
+ghost use Rattle.std.specs.Prelude.{◌≡◌, ◌≤◌, ◌++◌, true, length, Some, IfOk, OnOk};
 ghost use Rattle.std.specs.Option.{option_copied};
+ghost use Rattle.fv_tree.specs.Limits.{deck_bytes};
 ghost use Rattle.fv_tree.specs.View.{program_of};
 ghost use Rattle.fv_meaning.specs.Dialect.{fortran77};
 ghost use Rattle.fv_meaning.specs.Profile77.{IsProgram77};
@@ -13,11 +14,11 @@ ghost use Rattle.fv_tool.specs.Works.{Works};
 use crate::deck::unread;
 use f77_read::read77;
 use f90_print::print90;
-use f90_translation::translate;
+use f90_translation::{Translation, translate};
 use fv_deck::{DataLine, source_and_input};
 use fv_io::{Sink, write_all};
 use fv_report::Outcome;
-use fv_tree::{Memory, Program77, Seq};
+use fv_tree::{Memory, Program77};
 use std::alloc::Global;
 
 // Adds the data line and the input, where there is one.
@@ -36,28 +37,28 @@ fn push_data(text: &mut Vec<u8>, input: Option<&[u8]>) -> Result<(), Memory>
     }
 }
 
-// The text of what the program is translated to, and the input behind it.
+// The listing of the program, the text of what it is translated to, and the input behind it.
 fn translation(alloc: Global, program: Program77, input: Option<&[u8]>) -> Result<Vec<u8>, Memory>
     requires { IsProgram77 fortran77 (program_of program) }
     ensures { IfOk result (λ text. IsTranslationText (program_of program)
         (is_there (option_copied input.entry)) (bytes_in (option_copied input.entry)) text.items) }
 {
-    let program = translate(alloc, program)?;
-    let mut text = print90(alloc, &program, &Seq::new(alloc))?;
+    let Translation { listing, program } = translate(alloc, program)?;
+    let mut text = print90(alloc, &program, &listing)?;
     push_data(&mut text, input)?;
     Ok(text)
 }
 
 /// Translates the deck, which has at most 2^24 bytes. Nothing is written before the whole text is there.
 pub(crate) fn vectorise<K: Sink>(alloc: Global, deck: &[u8], out: &mut K) -> Outcome
-    requires { length deck.now ≤ 2 ^ 24 }
+    requires { length deck.now ≤ deck_bytes }
     ensures works { Works Vectorise deck.now (record {
       before = K.taken out.old;
       now = K.taken out.new;
       faults_before = K.faults out.old;
       faults_now = K.faults out.new;
     }) result }
-    ensures untouched { is_silent result ≡ true → out.new ≡ out.old }
+    ensures untouched { is_silent (Some Vectorise) result ≡ true → out.new ≡ out.old }
     ensures later { K.faults out.old ≤ K.faults out.new }
 {
     let (source, input) = source_and_input(deck, DataLine::Fortran77);

@@ -2,4 +2,3 @@ pub mod ValueLaws
 pub mod ItemLaws
 pub mod JumpLaws
 pub mod ProgramLaws
-pub mod Telling

@@ -1,5 +1,4 @@
 pub mod Moments
 pub mod Values
 pub mod Printing
-pub mod Told
 pub mod Machine

@@ -8,7 +8,7 @@ ghost use Rattle.fv_machine.specs.Acts.{Runs};
 ghost use Rattle.fv_machine.specs.Printing.{prints_value, prints, plain_items};
 ghost use Rattle.run77.specs.Moments.{seen};
 ghost use Rattle.run77.specs.Printing.{IsOneValue, AreAllValues};
-ghost use Rattle.run77.specs.Told.{IsTold};
+ghost use Rattle.fv_machine.specs.Told.{IsTold};
 
 use crate::moment::Moment;
 use fv_io::{Sink, write_all};

@@ -11,12 +11,12 @@ ghost use Rattle.fv_machine.specs.Printing.{plain_items, prints};
 ghost use Rattle.fv_machine.specs.Statements.{HasArms, ArmsHaveArms, BlockHasArms, plain_arms, Chooses, DoesOver};
 ghost use Rattle.fv_machine.specs.Statements.{reads};
 ghost use Rattle.run77.specs.Moments.{seen};
-ghost use Rattle.run77.specs.Told.{IsTold};
-ghost use Rattle.fv_machine.specs.Jumps.{arrived, passed, caught, landed};
+ghost use Rattle.fv_machine.specs.Told.{IsTold};
+ghost use Rattle.fv_machine.specs.Jumps.{caught, landed};
 
 use crate::moment::Moment;
 use fv_io::Sink;
-use fv_machine::{Halt, Left, at};
+use fv_machine::{Halt, Left, at, passed};
 use fv_tree::{Arm, Block, Expr, Fault, Item, Ref, Seq, Stmt};
 
 fn left(answer: Result<(), Halt>) -> Result<(), Left>
@@ -48,35 +48,6 @@ fn landed(answer: Result<(), Left>) -> Result<Option<u32>, Left>
         Ok(()) => Ok(None),
         Err(Left::Halted(halt)) => caught(halt),
         Err(Left::Unwritten) => Err(Left::Unwritten),
-    }
-}
-
-fn arrived(number: u32, label: u32) -> Option<u32>
-    ensures { result ≡ arrived number label }
-{
-    if label == number {
-        return None;
-    }
-    Some(label)
-}
-
-// What is left of a jump to the label behind the statement.
-#[tactic(auto, using(fv_tree::proofs::Equations::statement_equations))]
-fn passed(stmt: &Stmt, label: u32) -> Option<u32>
-    ensures { result ≡ passed (statement_of stmt.now) label }
-{
-    match stmt {
-        Stmt::Label { number } => arrived(*number, label),
-        Stmt::Assign { .. } => Some(label),
-        Stmt::Masked { .. } => Some(label),
-        Stmt::If { .. } => Some(label),
-        Stmt::Do { .. } => Some(label),
-        Stmt::Go { .. } => Some(label),
-        Stmt::Stop { .. } => Some(label),
-        Stmt::Read { .. } => Some(label),
-        Stmt::Print { .. } => Some(label),
-        Stmt::Allocate { .. } => Some(label),
-        Stmt::Deallocate { .. } => Some(label),
     }
 }
 

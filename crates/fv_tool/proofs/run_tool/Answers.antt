@@ -1,6 +1,6 @@
 use Rattle.fv_report.specs.Notes.{note_of}
 use Rattle.fv_tool.proofs.Top.{for_words, for_command, part_or_whole, note_given}
-use Rattle.fv_tool.proofs.Statuses.{silent}
+use Rattle.fv_tool.proofs.Statuses.{silent, silent_without_memory}
 use Rattle.fv_tool.proofs.Top as top
 use Rattle.fv_tool.proofs.run_tool.Goals as goal
 
@@ -8,7 +8,7 @@ pub returns-clause-whole : goal.returns-clause-whole
 returns-clause-whole g c = top.whole _ _ c.work-outcome.result c.status.result c.status.ensures c.work-outcome.ensures.ended
 
 pub returns-clause-whole_refused : goal.returns-clause-whole_refused
-returns-clause-whole_refused g c = top.whole_refused _ _ c.work-outcome.result c.status.result c.status.ensures c.work-outcome.ensures.ended
+returns-clause-whole_refused g c a k = top.whole_refused a _ c.work-outcome.result c.status.result c.status.ensures (for_command _ a _ _ k (for_words _ _ _ _ c.as_slice.ensures.value c.work-outcome.ensures.ended))
 
 pub returns-clause-refused : goal.returns-clause-refused
 returns-clause-refused g c a k = top.refused a _ c.work-outcome.result c.status.result c.status.ensures (for_command _ a _ _ k (for_words _ _ _ _ c.as_slice.ensures.value c.work-outcome.ensures.ended))
@@ -38,7 +38,7 @@ pub returns-clause-listed_part : goal.returns-clause-listed_part
 returns-clause-listed_part g c k = top.listed_part _ c.work-outcome.result c.status.result c.status.ensures (for_command _ _ _ _ k (for_words _ _ _ _ c.as_slice.ensures.value c.work-outcome.ensures.ended))
 
 pub returns-clause-ran : goal.returns-clause-ran
-returns-clause-ran g c o k = top.ran o _ c.work-outcome.result c.status.result c.status.ensures (for_command _ _ _ _ k (for_words _ _ _ _ c.as_slice.ensures.value c.work-outcome.ensures.ended))
+returns-clause-ran g c a run k = top.ran a run _ c.work-outcome.result c.status.result c.status.ensures (for_command _ a _ _ k (for_words _ _ _ _ c.as_slice.ensures.value c.work-outcome.ensures.ended))
 
 pub returns-clause-faulted : goal.returns-clause-faulted
 returns-clause-faulted g c = top.faulted _ _ c.work-outcome.result c.status.result c.status.ensures (for_words _ _ _ _ c.as_slice.ensures.value c.work-outcome.ensures.ended)
@@ -47,19 +47,26 @@ pub returns-clause-limited : goal.returns-clause-limited
 returns-clause-limited g c = top.at_limit _ _ c.work-outcome.result c.status.result c.status.ensures (for_words _ _ _ _ c.as_slice.ensures.value c.work-outcome.ensures.ended)
 
 pub returns-clause-run_part : goal.returns-clause-run_part
-returns-clause-run_part g c o k = top.run_part o _ c.work-outcome.result c.status.result c.status.ensures (for_command _ _ _ _ k (for_words _ _ _ _ c.as_slice.ensures.value c.work-outcome.ensures.ended))
+returns-clause-run_part g c a run k = top.run_part a run _ c.work-outcome.result c.status.result c.status.ensures (for_command _ a _ _ k (for_words _ _ _ _ c.as_slice.ensures.value c.work-outcome.ensures.ended))
+
+pub returns-clause-part_without_memory : goal.returns-clause-part_without_memory
+returns-clause-part_without_memory g c a run k = top.part_without_memory a run _ c.work-outcome.result c.status.result c.status.ensures (for_command _ a _ _ k (for_words _ _ _ _ c.as_slice.ensures.value c.work-outcome.ensures.ended))
 
 pub returns-clause-nothing : goal.returns-clause-nothing
-returns-clause-nothing g c m = c.work-outcome.ensures.untouched (silent c.work-outcome.result c.status.result c.status.ensures m)
+returns-clause-nothing g c m = c.work-outcome.ensures.untouched (silent _ c.work-outcome.result c.status.result c.status.ensures m)
+
+pub returns-clause-nothing_without_memory : goal.returns-clause-nothing_without_memory
+returns-clause-nothing_without_memory g c late q =
+    c.work-outcome.ensures.untouched (silent_without_memory _ c.work-outcome.result c.status.result c.status.ensures (top.same_words_late _ _ c.as_slice.ensures.value late) q)
 
 pub returns-clause-faults : goal.returns-clause-faults
-returns-clause-faults g c o k = top.faults o _ c.work-outcome.result c.status.result c.status.ensures (for_command _ _ _ _ k (for_words _ _ _ _ c.as_slice.ensures.value c.work-outcome.ensures.ended))
+returns-clause-faults g c a run k = top.faults a run _ c.work-outcome.result c.status.result c.status.ensures (for_command _ a _ _ k (for_words _ _ _ _ c.as_slice.ensures.value c.work-outcome.ensures.ended))
 
 pub returns-clause-limits : goal.returns-clause-limits
-returns-clause-limits g c o k = top.limits o _ c.work-outcome.result c.status.result c.status.ensures (for_command _ _ _ _ k (for_words _ _ _ _ c.as_slice.ensures.value c.work-outcome.ensures.ended))
+returns-clause-limits g c a run k = top.limits a run _ c.work-outcome.result c.status.result c.status.ensures (for_command _ a _ _ k (for_words _ _ _ _ c.as_slice.ensures.value c.work-outcome.ensures.ended))
 
 pub returns-clause-exceeded : goal.returns-clause-exceeded
-returns-clause-exceeded g c o k = top.over_limit o _ c.work-outcome.result c.status.result c.status.ensures (for_command _ _ _ _ k (for_words _ _ _ _ c.as_slice.ensures.value c.work-outcome.ensures.ended))
+returns-clause-exceeded g c a run k = top.over_limit a run _ c.work-outcome.result c.status.result c.status.ensures (for_command _ a _ _ k (for_words _ _ _ _ c.as_slice.ensures.value c.work-outcome.ensures.ended))
 
 pub returns-clause-done : goal.returns-clause-done
 returns-clause-done g c a k = top.done a _ c.work-outcome.result c.status.result c.status.ensures (for_command _ a _ _ k (for_words _ _ _ _ c.as_slice.ensures.value c.work-outcome.ensures.ended))

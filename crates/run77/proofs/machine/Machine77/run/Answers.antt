@@ -12,7 +12,7 @@ use Rattle.run77.specs.Moments.{seen}
 use Rattle.run77.proofs.JumpLaws.{jumps_forward}
 use Rattle.run77.proofs.ProgramLaws.{block_has_arms}
 use Rattle.fv_machine.proofs.MachineLaws.{runs_to_end, keeps_names, left_at}
-use Rattle.run77.proofs.Telling.{nothing_given}
+use Rattle.fv_machine.proofs.Telling.{nothing_given}
 use Rattle.run77.proofs.machine.Machine77.run.Goals as goal
 
 has_arms : (p : Program) (m : Machine77) → IsProgram77 fortran77 p → IsMachineOf p m → BlockHasArms (block_of m.body)

@@ -12,7 +12,7 @@ use Rattle.fv_machine.proofs.Residuals.{residual, settled}
 use Rattle.fv_machine.proofs.ItemLaws.{one_runs, turns_run, text_runs, items_left, items_more, items_done}
 use Rattle.fv_machine.proofs.TurnLaws.{Extends-prints_items, turn_cut, turn_left, turn_stuck, turn_done, at_turn, no_turn}
 use Rattle.run77.specs.Moments.{seen}
-use Rattle.run77.proofs.Telling.{still, kept, both, given, taken_whole}
+use Rattle.fv_machine.proofs.Telling.{still, kept, both, given, taken_whole}
 use Rattle.run77.proofs.moment.Moment.+printing.Goals as goal
 
 pub print_item-returns-in_err-write_all-in-Text-clause-run : goal.print_item-returns-in_err-write_all-in-Text-clause-run

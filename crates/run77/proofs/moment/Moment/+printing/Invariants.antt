@@ -7,7 +7,7 @@ use Rattle.fv_machine.specs.declared.progress.Left.{Left}
 use Rattle.fv_machine.specs.Acts.{Runs}
 use Rattle.fv_machine.specs.Printing.{plain_items}
 use Rattle.run77.specs.Moments.{seen}
-use Rattle.run77.specs.Told.{IsTold}
+use Rattle.fv_machine.specs.Told.{IsTold}
 use Rattle.run77.proofs.moment.Moment.+printing.Given as goal
 
 -- what is done with the turns or the items that are left is done with all

@@ -16,7 +16,7 @@ use Rattle.fv_machine.proofs.Residuals.{residual, settled}
 use Rattle.fv_machine.proofs.TurnLaws.{turn_cut, turn_left, turn_stuck, turn_done, at_turn, no_turn}
 use Rattle.fv_machine.proofs.BlockLaws.{Extends-does_all, RunsOn, left_of_block, left_of_arms, block_arms, block_begins, has_arms_here, block_more, block_left, block_passed, block_done, block_jumped, has_arms_on, arm_cut, arm_fault, arm_true, arm_false, arms_done, at_statement, none_left, label_runs}
 use Rattle.run77.specs.Moments.{seen}
-use Rattle.run77.proofs.Telling.{still, kept, both}
+use Rattle.fv_machine.proofs.Telling.{still, kept, both}
 use Rattle.run77.proofs.moment.Moment.+statements.Goals as goal
 
 pub statement-returns-in-Assign-clause-run : goal.statement-returns-in-Assign-clause-run

@@ -10,7 +10,7 @@ use Rattle.fv_machine.specs.Statements.{HasArms, ArmsHaveArms, BlockHasArms, pla
 use Rattle.fv_machine.specs.Jumps.{way_at}
 use Rattle.fv_machine.proofs.BlockLaws.{RunsOn, left_of_block, left_of_arms}
 use Rattle.run77.specs.Moments.{seen}
-use Rattle.run77.specs.Told.{IsTold}
+use Rattle.fv_machine.specs.Told.{IsTold}
 use Rattle.run77.proofs.moment.Moment.+statements.Given as goal
 
 -- what is done with the turns, the arms or the statements that are left is done with all

@@ -9,7 +9,7 @@ use Rattle.fv_machine.proofs.ActLaws.{Runs-then}
 use Rattle.fv_machine.proofs.TurnLaws.{Runs-left, Stays-then, Stays-writes, Stays-prints_items, Extends-then, Extends-writes, Extends-prints_items}
 use Rattle.fv_machine.proofs.WriteLaws.{Runs-writes}
 use Rattle.run77.specs.Moments.{seen}
-use Rattle.run77.proofs.Telling.{given, behind_text, between_texts, taken_whole}
+use Rattle.fv_machine.proofs.Telling.{given, behind_text, between_texts, taken_whole}
 use Rattle.run77.proofs.moment.Moment.print.Goals as goal
 
 pub returns-in_err-write_all-clause-run : goal.returns-in_err-write_all-clause-run

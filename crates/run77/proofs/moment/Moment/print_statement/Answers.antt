@@ -3,7 +3,7 @@ use Rattle.fv_meaning.specs.Dialect.{fortran77}
 use Rattle.fv_machine.proofs.Residuals.{residual}
 use Rattle.fv_machine.proofs.ActLaws.{Runs-counts_step, Runs-cut}
 use Rattle.run77.specs.Moments.{seen}
-use Rattle.run77.proofs.Telling.{still, kept}
+use Rattle.fv_machine.proofs.Telling.{still, kept}
 use Rattle.run77.proofs.moment.Moment.print_statement.Goals as goal
 
 pub returns-in_err-count_step-clause-run : goal.returns-in_err-count_step-clause-run

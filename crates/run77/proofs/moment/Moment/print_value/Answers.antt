@@ -11,7 +11,7 @@ use Rattle.fv_machine.proofs.WriteLaws.{prints_values, prints_fault, one_written
 use Rattle.run77.proofs.ItemLaws.{all_fault, all_ok, one_fault, one_ok}
 use Rattle.fv_meaning.specs.Texts.{output_text}
 use Rattle.run77.specs.Moments.{seen}
-use Rattle.run77.proofs.Telling.{still, given, taken_whole, some_output, one_output, no_values, values_there, no_output}
+use Rattle.fv_machine.proofs.Telling.{still, given, taken_whole, some_output, one_output, no_values, values_there, no_output}
 use Rattle.run77.proofs.moment.Moment.print_value.Goals as goal
 
 pub returns-in_err-values-in-Some-clause-run : goal.returns-in_err-values-in-Some-clause-run

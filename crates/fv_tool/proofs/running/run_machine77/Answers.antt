@@ -1,6 +1,6 @@
 use Rattle.std.proofs.Common.{refl}
 use Rattle.fv_tool.proofs.Runs.{run_cut, store_shown, store_cut}
-use Rattle.fv_tool.proofs.running.run_machine.Goals as goal
+use Rattle.fv_tool.proofs.running.run_machine77.Goals as goal
 
 pub returns-in-WriteFault-clause-comes : goal.returns-in-WriteFault-clause-comes
 returns-in-WriteFault-clause-comes g c p profile machine =

@@ -2,8 +2,8 @@ use Rattle.std.proofs.Common.{sym, ◌∙◌, subst, refl}
 use Rattle.fv_report.specs.declared.outcome.Outcome.{Outcome}
 use Rattle.fv_command.specs.declared.commands.Command.TheVariants.{Run77}
 use Rattle.fv_tool.specs.Works.{Works}
-use Rattle.fv_tool.proofs.Readings.{not_worked, run_comes}
-use Rattle.fv_tool.proofs.running.run.Goals as goal
+use Rattle.fv_tool.proofs.Readings.{not_worked, run_comes77}
+use Rattle.fv_tool.proofs.running.run77.Goals as goal
 
 pub returns-in-Err-clause-works : goal.returns-in-Err-clause-works
 returns-in-Err-clause-works g c =
@@ -13,6 +13,6 @@ returns-in-Err-clause-works g c =
 
 pub returns-in-Ok-new-clause-works : goal.returns-in-Ok-new-clause-works
 returns-in-Ok-new-clause-works g c =
-    run_comes c.args.options c.args.deck.now c.source_and_input.result.0.now c.bytes_of.result.now _ c.read77.result c.in-Ok.program c.run_machine.result c.requires
+    run_comes77 c.args.options c.args.deck.now c.source_and_input.result.0.now c.bytes_of.result.now _ c.read77.result c.in-Ok.program c.run_machine77.result c.requires
     c.source_and_input.ensures.source (c.bytes_of.ensures ∙ c.source_and_input.ensures.input) c.in-Ok.is c.in-Ok.ensures.ok c.read77.ensures.only_read c.read77.ensures.only_refused
-    (c.run_machine.ensures.comes _ c.in-Ok.ensures.program c.in-Ok-new.ensures.machine)
+    (c.run_machine77.ensures.comes _ c.in-Ok.ensures.program c.in-Ok-new.ensures.machine)

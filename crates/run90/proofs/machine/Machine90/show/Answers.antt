@@ -1,0 +1,46 @@
+use Rattle.std.proofs.Common.{◌≡◌, sym, ap, ◌∙◌, subst, length, map, List, arith}
+use Rattle.std.specs.List.{flat_map}
+use Rattle.std.proofs.lemmas.List.Folds.{flat_map-map}
+use Rattle.fv_io.specs.Streams.{Gives, GivesPart}
+use Rattle.fv_io.proofs.Chained.{gives_none}
+use Rattle.fv_tree.specs.Plain.{Declaration, Program}
+use Rattle.fv_tree.specs.View.{declaration_of}
+use Rattle.fv_tree.specs.declared.programs.Decl.{Decl}
+use Rattle.fv_meaning.specs.Steps.{lines_of_name, final_lines}
+use Rattle.fv_machine.proofs.Residuals.{residual}
+use Rattle.fv_machine.proofs.LineLaws.{lines_more, lines_part, lines_all}
+use Rattle.run90.specs.declared.machine.Machine90.{Machine90}
+use Rattle.run90.specs.Machine.{IsMachineOf, store_left}
+use Rattle.run90.proofs.machine.Machine90.show.Goals as goal
+
+-- the lines of the program's names are those of the declarations here
+all_lines : (p : Program) (m : Machine90) (ds : List Decl) → ds ≡ m.decls → IsMachineOf p m → final_lines p (store_left m) ≡ flat_map (λ (d : Decl). lines_of_name d.name (store_left m)) ds
+all_lines p m ds e is =
+    ap (flat_map (λ (d : Declaration). lines_of_name d.name (store_left m))) (sym is.names)
+    ∙ flat_map-map (λ (d : Declaration). lines_of_name d.name (store_left m)) declaration_of m.decls
+    ∙ ap (flat_map (λ (d : Decl). lines_of_name d.name (store_left m))) (sym e)
+
+pub returns-in_err-show_name-clause-text : goal.returns-in_err-show_name-clause-text
+returns-in_err-show_name-clause-text g c = λ p is.
+    let m = c.args.self.now in
+    let ds = c.as_slice-decl-items.result.now in
+    rw (residual c.from_residual.ensures.1)
+    (subst (λ t. GivesPart (g.K.Sink.taken c.args.out.now) t (g.K.Sink.taken c.show_name.new.out)) (sym (all_lines p m ds c.as_slice-decl-items.ensures is))
+    (lines_part (λ (d : Decl). lines_of_name d.name (store_left m)) ds c.loop-decl.decl-index c.decl-item.result _ _ _ (omega (arith, c.loop-decl-test.true)) c.decl-item.is c.loop-decl.invariant.0 c.in_err-show_name.ensures.text))
+
+pub loop-decl-init : goal.loop-decl-init
+loop-decl-init g c = (gives_none (g.K.Sink.taken c.args.out.now), omega arith)
+
+pub loop-decl-preserved : goal.loop-decl-preserved
+loop-decl-preserved g c =
+    let m = c.args.self.now in (
+      lines_more (λ (d : Decl). lines_of_name d.name (store_left m)) c.as_slice-decl-items.result.now c.loop-decl.decl-index c.decl-item.result _ _ _ (omega (arith, c.loop-decl-test.true)) c.decl-item.is c.loop-decl.invariant.0 c.in_ok-show_name.ensures.text,
+      omega (arith, c.loop-decl.invariant.1, c.show_name.ensures.later),
+    )
+
+pub returns-clause-text : goal.returns-clause-text
+returns-clause-text g c = λ p is.
+    let m = c.args.self.now in
+    let ds = c.as_slice-decl-items.result.now in
+    subst (λ t. Gives (g.K.Sink.taken c.args.out.now) t (g.K.Sink.taken c.loop-decl.out)) (sym (all_lines p m ds c.as_slice-decl-items.ensures is))
+    (lines_all (λ (d : Decl). lines_of_name d.name (store_left m)) ds c.loop-decl.decl-index _ _ (omega (arith, c.loop-decl-test.false)) c.loop-decl.invariant.0)

@@ -1,0 +1,5 @@
+pub mod Propositions
+pub mod Opening
+pub mod Suiting
+pub mod Statements
+pub mod Machine

@@ -1,0 +1,35 @@
+-- The machine of a program, and the store that it has.
+use Rattle.std.specs.Prelude.{◌≡◌, ◌++◌, Result, Ok, Err, Option, ℕ, List, map}
+use Rattle.std.specs.Io.KnownBytes.{append_known}
+use Rattle.fv_tree.specs.Plain.{Program}
+use Rattle.fv_tree.specs.View.{block_of, declaration_of}
+use Rattle.fv_meaning.specs.Store.{Store}
+use Rattle.fv_tree.specs.declared.lists.Memory.{Memory}
+use Rattle.fv_meaning.specs.declared.End.{End}
+use Rattle.fv_machine.specs.Endings.{ended}
+use Rattle.array_storage.specs.Stored.{store_in}
+use Rattle.array_transfers.specs.declared.unfinished.Unfinished.{Unfinished}
+use Rattle.array_transfers.specs.declared.unfinished.Unfinished.TheVariants.{Left, Memory as Lacking}
+use Rattle.run90.specs.declared.machine.Machine90.{Machine90}
+
+-- the machine has the names and the statements of the program
+pub record IsMachineOf (p : Program) (m : Machine90) : Type 0 where
+  pub names : map declaration_of m.decls ≡ p.declarations
+  pub body : block_of m.body ≡ p.body
+
+-- the store of the last run, or the opening store where there was none
+abbrev pub store_left : Machine90 → Store
+store_left m = store_in m.moment.storage
+
+-- a sink has a front of a text
+pub record HasFrontOf (text : List ℕ) (before now : Option (List ℕ)) : Type 0 where
+  pub front : List ℕ
+  pub rest : List ℕ
+  pub whole : text ≡ front ++ rest
+  pub taken : now ≡ append_known before front
+
+-- how a run ended whose statements gave this answer
+abbrev pub ending_of : Result (Unit {0}) Unfinished → Result End Memory
+ending_of (Ok x) = Ok (ended (Ok x))
+ending_of (Err (Left l)) = Ok (ended (Err l))
+ending_of (Err Lacking) = Err (record {})

@@ -1,0 +1,48 @@
+//! ALLOCATE and DEALLOCATE (ISO/IEC 1539:1991, sections 6.3.1 and 6.3.3).
+ghost use Rattle.std.specs.Prelude.{◌≡◌, Some, map};
+ghost use Rattle.fv_tree.specs.Plain.{Allocate, Deallocate, expressions};
+ghost use Rattle.fv_tree.specs.View.{expression_of};
+ghost use Rattle.fv_tree.specs.declared.ops.Kind.{Kind as Kind'};
+ghost use Rattle.fv_meaning.specs.Dialect.{fortran90};
+ghost use Rattle.fv_meaning.specs.Run.{does};
+ghost use Rattle.array_storage.specs.Slots.{kind_among};
+ghost use Rattle.array_storage.specs.Allocation.{HoldsKind};
+ghost use Rattle.array_assignments.specs.Causes.{Does};
+ghost use Rattle.array_assignments.specs.Moments.{seen, slots_of};
+
+use array_assignments::{Moment, Stuck, at};
+use array_expressions::all_numbers;
+use fv_machine::at as located;
+use fv_tree::{Expr, Name, Seq};
+
+/// The extents are evaluated, and then the array has elements, each of them 0 or `.FALSE.`.
+pub fn allocate(
+    moment: &mut Moment,
+    line: u32,
+    name: Name,
+    extents: &Seq<Expr>,
+) -> Result<(), Stuck>
+    ensures { (k : Kind') → kind_among (slots_of moment.old) name ≡ Some k → HoldsKind k name (slots_of moment.old)
+        → Does (λ limit. does fortran90 limit (Allocate line name (expressions (map expression_of extents.now))))
+        (seen moment.old) (seen moment.new) result }
+{
+    moment.count_step()?;
+    let values = at(line, moment.scope().values(extents, &[]))?;
+    let numbers = at(line, all_numbers(moment.alloc, values))?;
+    at(
+        line,
+        moment
+            .storage
+            .allocate(moment.alloc, name, numbers.as_slice()),
+    )?;
+    Ok(())
+}
+
+/// The array has no elements from now on.
+pub fn deallocate(moment: &mut Moment, line: u32, name: Name) -> Result<(), Stuck>
+    ensures { Does (λ limit. does fortran90 limit (Deallocate line name)) (seen moment.old) (seen moment.new) result }
+{
+    moment.count_step()?;
+    located(line, moment.storage.deallocate(name))?;
+    Ok(())
+}

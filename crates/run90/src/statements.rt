@@ -1,0 +1,215 @@
+//! Statements, block IFs, loops and jumps (ANSI X3.9-1978, sections 10 and 11; ISO/IEC 1539:1991, section 8.1).
+ghost use Rattle.std.specs.Prelude.{◌≡◌, ◌≤◌, Err, List, ℕ, Bool};
+ghost use Rattle.fv_io.specs.Causes.{Rose};
+ghost use Rattle.fv_tree.specs.Plain.{Program};
+ghost use Rattle.fv_tree.specs.View.{expression_of, statement_of, block_of};
+ghost use Rattle.fv_machine.specs.declared.progress.Left.TheVariants.{Unwritten};
+ghost use Rattle.fv_meaning.specs.Blocks.{Surroundings};
+ghost use Rattle.fv_meaning.specs.Dialect.{fortran90};
+ghost use Rattle.fv_meaning.specs.Profile90.{IsStatement, AreArms, IsBlock};
+ghost use Rattle.fv_meaning.specs.Run.{does, does_all, counts_step, goes, Jumping, Stopped};
+ghost use Rattle.fv_meaning.specs.Value.{truth_of};
+ghost use Rattle.fv_machine.specs.Acts.{Runs};
+ghost use Rattle.fv_machine.specs.Statements.{plain_arms};
+ghost use Rattle.fv_machine.specs.Told.{IsTold};
+ghost use Rattle.array_storage.specs.Stored.{store_in};
+ghost use Rattle.array_assignments.specs.Causes.{AnswersAt, Does};
+ghost use Rattle.array_assignments.specs.Moments.{seen};
+ghost use Rattle.array_transfers.specs.Unfinished.{ended_by};
+ghost use Rattle.run90.specs.Statements.{unfinished, caught, landed, Chooses};
+ghost use Rattle.run90.specs.Suiting.{Suits};
+
+use crate::allocation::{allocate, deallocate};
+use array_assignments::{Moment, Stuck, at};
+use array_transfers::{Unfinished, print_statement, read_statement};
+use fv_io::Sink;
+use fv_machine::{Halt, Left, at as located, passed};
+use fv_tree::{Arm, Block, Expr, Seq, Stmt};
+
+fn left(answer: Result<(), Stuck>) -> Result<(), Unfinished>
+    ensures { result ≡ unfinished answer }
+{
+    Ok(answer?)
+}
+
+// A jump goes on to its label.
+fn caught(halt: Halt) -> Result<Option<u32>, Unfinished>
+    ensures { result ≡ caught halt }
+{
+    match halt {
+        Halt::Jump(label) => Ok(Some(label)),
+        Halt::Stop => Err(Unfinished::Left(Left::Halted(Halt::Stop))),
+        Halt::Fault(fault, line) => {
+            Err(Unfinished::Left(Left::Halted(Halt::Fault(fault, line))))
+        }
+        Halt::Limit => Err(Unfinished::Left(Left::Halted(Halt::Limit))),
+    }
+}
+
+// The label that has to be reached before statements are done again, or why no more are.
+fn landed(answer: Result<(), Unfinished>) -> Result<Option<u32>, Unfinished>
+    ensures { result ≡ landed answer }
+{
+    match answer {
+        Ok(()) => Ok(None),
+        Err(Unfinished::Left(Left::Halted(halt))) => caught(halt),
+        Err(Unfinished::Left(Left::Unwritten)) => Err(Unfinished::Left(Left::Unwritten)),
+        Err(Unfinished::Memory) => Err(Unfinished::Memory),
+    }
+}
+
+fn truth(moment: &Moment, line: u32, test: &Expr) -> Result<bool, Stuck>
+    ensures { AnswersAt line (λ (b : Bool). b)
+        (truth_of fortran90 (expression_of test.now) (store_in moment.now.storage)) result }
+{
+    let value = at(line, moment.scope().value(test, &[]))?;
+    let truth = located(line, value.as_truth())?;
+    Ok(truth)
+}
+
+fn go(moment: &mut Moment, label: u32) -> Result<(), Stuck>
+    ensures { Does (λ limit. counts_step fortran90 limit (goes (Jumping label)))
+        (seen moment.old) (seen moment.new) result }
+{
+    moment.count_step()?;
+    Err(Stuck::Halted(Halt::Jump(label)))
+}
+
+fn stop(moment: &mut Moment) -> Result<(), Stuck>
+    ensures { Does (λ limit. counts_step fortran90 limit (goes Stopped)) (seen moment.old) (seen moment.new) result }
+{
+    moment.count_step()?;
+    Err(Stuck::Halted(Halt::Stop))
+}
+
+#[cycle(statements)]
+fn statement<K: Sink>(
+    moment: &mut Moment,
+    stmt: &Stmt,
+    input: &[u8],
+    out: &mut K,
+) -> Result<(), Unfinished>
+    ensures run { (p : Program) (w : Surroundings) → IsStatement p.declarations (statement_of stmt.now) w
+        → Suits p (seen moment.old)
+        → Runs (λ limit. does fortran90 limit (statement_of stmt.now)) input.now
+        (seen moment.old) (K.taken out.old) (seen moment.new) (K.taken out.new) (ended_by result) }
+    ensures told { (p : Program) (w : Surroundings) → IsStatement p.declarations (statement_of stmt.now) w
+        → Suits p (seen moment.old) → (bytes : List ℕ) → IsTold (λ before now.
+        Runs (λ limit. does fortran90 limit (statement_of stmt.now)) input.now
+        (seen moment.old) before (seen moment.new) now (ended_by result)) (out.new ≡ out.old) bytes }
+    ensures fault { result ≡ Err (Unfinished.Left Unwritten) → Rose (K.faults out.old) (K.faults out.new) }
+    ensures later { K.faults out.old ≤ K.faults out.new }
+{
+    match stmt {
+        Stmt::Assign {
+            line,
+            left: target,
+            right,
+            ..
+        } => left(moment.assignment(*line, target, right)),
+        Stmt::Masked {
+            line,
+            mask,
+            left: target,
+            right,
+            ..
+        } => left(moment.masked_assignment(*line, mask, target, right)),
+        Stmt::If { line, arms, other } => {
+            let done = choose(moment, *line, arms, input, out)?;
+            if done {
+                return Ok(());
+            }
+            block(moment, other, input, out)
+        }
+        Stmt::Do {
+            line,
+            var,
+            first,
+            last,
+            step,
+            body,
+        } => {
+            let turns = moment.begin_loop(*line, *var, first, last, step)?;
+            for _ in 0..turns.count {
+                moment.count_step()?;
+                block(moment, body, input, out)?;
+                moment.increase(*line, *var, turns.step)?;
+            }
+            Ok(())
+        }
+        Stmt::Label { .. } => Ok(()),
+        Stmt::Go { number, .. } => left(go(moment, *number)),
+        Stmt::Stop { .. } => left(stop(moment)),
+        Stmt::Read { line, items } => left(read_statement(moment, *line, items, input)),
+        Stmt::Print { line, items } => print_statement(moment, *line, items, out),
+        Stmt::Allocate {
+            line,
+            name,
+            extents,
+        } => left(allocate(moment, *line, *name, extents)),
+        Stmt::Deallocate { line, name } => left(deallocate(moment, *line, *name)),
+    }
+}
+
+// Does the first arm whose condition is true, and says whether there is one.
+#[cycle(statements)]
+fn choose<K: Sink>(
+    moment: &mut Moment,
+    line: u32,
+    arms: &Seq<Arm>,
+    input: &[u8],
+    out: &mut K,
+) -> Result<bool, Unfinished>
+    ensures run { (p : Program) (w : Surroundings) → AreArms p.declarations (plain_arms arms.now) w
+        → Suits p (seen moment.old) → Chooses line (plain_arms arms.now) input.now
+        (seen moment.old) (K.taken out.old) (seen moment.new) (K.taken out.new) result }
+    ensures told { (p : Program) (w : Surroundings) → AreArms p.declarations (plain_arms arms.now) w
+        → Suits p (seen moment.old) → (bytes : List ℕ) → IsTold (λ before now.
+        Chooses line (plain_arms arms.now) input.now
+        (seen moment.old) before (seen moment.new) now result) (out.new ≡ out.old) bytes }
+    ensures fault { result ≡ Err (Unfinished.Left Unwritten) → Rose (K.faults out.old) (K.faults out.new) }
+    ensures later { K.faults out.old ≤ K.faults out.new }
+{
+    for arm in arms.as_slice() {
+        moment.count_step()?;
+        let holds = truth(moment, line, &arm.test)?;
+        if holds {
+            block(moment, &arm.body, input, out)?;
+            return Ok(true);
+        }
+    }
+    Ok(false)
+}
+
+/// One statement after the other. A jump passes over those up to its label, and leaves a block that hasn't it.
+#[cycle(statements)]
+pub fn block<K: Sink>(
+    moment: &mut Moment,
+    block: &Block,
+    input: &[u8],
+    out: &mut K,
+) -> Result<(), Unfinished>
+    ensures run { (p : Program) (w : Surroundings) → IsBlock p.declarations (block_of block.now) w
+        → Suits p (seen moment.old)
+        → Runs (λ limit. does_all fortran90 limit (block_of block.now)) input.now
+        (seen moment.old) (K.taken out.old) (seen moment.new) (K.taken out.new) (ended_by result) }
+    ensures told { (p : Program) (w : Surroundings) → IsBlock p.declarations (block_of block.now) w
+        → Suits p (seen moment.old) → (bytes : List ℕ) → IsTold (λ before now.
+        Runs (λ limit. does_all fortran90 limit (block_of block.now)) input.now
+        (seen moment.old) before (seen moment.new) now (ended_by result)) (out.new ≡ out.old) bytes }
+    ensures fault { result ≡ Err (Unfinished.Left Unwritten) → Rose (K.faults out.old) (K.faults out.new) }
+    ensures later { K.faults out.old ≤ K.faults out.new }
+{
+    let mut jump = None;
+    for stmt in block.stmts.as_slice() {
+        if let Some(label) = jump {
+            jump = passed(stmt, label);
+            continue;
+        }
+        jump = landed(statement(moment, stmt, input, out))?;
+    }
+    match jump {
+        None => Ok(()),
+        Some(label) => Err(Unfinished::Left(Left::Halted(Halt::Jump(label)))),
+    }
+}
