@@ -6,7 +6,8 @@ use Rattle.std.specs.Str.{bytes_eq}
 use Rattle.fv_tree.specs.Plain.{Declaration}
 use Rattle.fv_machine.specs.Storage.{AreDistinct}
 
-apart-prop : (x : List ℕ) (ds : List Declaration) → IsProp (AllByRecursion (λ (e : Declaration). bytes_eq x e.name ≡ false) ds)
+apart-prop : (x : List ℕ) (ds : List Declaration)
+    → IsProp (AllByRecursion (λ (e : Declaration). bytes_eq x e.name ≡ false) ds)
 apart-prop x [] = hlevel []
 apart-prop x (d ∷ ds) = let set = Coded-set coded_bool in let more = apart-prop x ds in hlevel (set, more)
 
