@@ -5,8 +5,6 @@
 mod elements;
 mod selected;
 mod selection;
-#[cfg(test)]
-mod tests;
 mod writes;
 
 pub use elements::{count, extents, place, size};

@@ -10,8 +10,6 @@ mod showing;
 mod slots;
 mod storage;
 mod targets;
-#[cfg(test)]
-mod tests;
 
 pub use slots::{Place, Slot};
 pub use storage::Storage;

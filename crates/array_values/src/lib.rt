@@ -7,8 +7,6 @@ mod failure;
 mod known;
 mod prepared;
 mod sections;
-#[cfg(test)]
-mod tests;
 
 pub use extents::check_conform;
 pub use failure::Failure;

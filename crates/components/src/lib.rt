@@ -5,8 +5,6 @@ mod classes;
 mod graphs;
 mod laws;
 mod reach;
-#[cfg(test)]
-mod tests;
 
 pub use classes::{Order, components};
 pub use graphs::{Cycle, Dep, Dropped, Edge, Graph, Hold, HoldReason, Place};

@@ -6,8 +6,6 @@
 mod candidates;
 mod dirs;
 mod merging;
-#[cfg(test)]
-mod tests;
 
 pub use candidates::vectors;
 pub use vector_tests::RefPair;

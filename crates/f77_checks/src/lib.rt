@@ -5,7 +5,5 @@ mod causes;
 mod limits;
 mod places;
 mod refusals;
-#[cfg(test)]
-mod tests;
 
 pub use refusals::check;

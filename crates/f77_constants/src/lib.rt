@@ -9,8 +9,6 @@ mod constants;
 mod declarations;
 mod operations;
 mod parts;
-#[cfg(test)]
-mod tests;
 mod values;
 
 pub use checks::{bad_constant, many_elements, reversed_bounds};

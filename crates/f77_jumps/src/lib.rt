@@ -7,8 +7,6 @@ mod blocks;
 mod do_variables;
 mod jumps;
 mod targets;
-#[cfg(test)]
-mod tests;
 
 pub use blocks::many_blocks;
 pub use do_variables::wrong_do_variable;

@@ -11,8 +11,6 @@ mod forms_left_out;
 mod fronts;
 mod outside;
 mod parentheses;
-#[cfg(test)]
-mod tests;
 mod words_left_out;
 
 pub use conditions::conditional;

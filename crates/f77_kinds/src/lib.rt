@@ -8,8 +8,6 @@ mod items;
 mod kind_check;
 mod operators;
 mod statements;
-#[cfg(test)]
-mod tests;
 mod unsuited;
 
 pub use unsuited::unsuited_kind;

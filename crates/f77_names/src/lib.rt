@@ -12,8 +12,6 @@ mod names;
 mod real_names;
 mod statement_parts;
 mod statement_uses;
-#[cfg(test)]
-mod tests;
 mod uses;
 
 pub use counts::many_names;

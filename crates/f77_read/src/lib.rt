@@ -6,8 +6,6 @@ mod laws;
 mod programs;
 mod refusals;
 mod sources;
-#[cfg(test)]
-mod tests;
 
 pub use laws::{one_refusal, read_source_is_program};
 pub use programs::build;

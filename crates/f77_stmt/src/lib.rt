@@ -9,7 +9,5 @@ mod formed;
 mod forms;
 mod keywords;
 mod statements;
-#[cfg(test)]
-mod tests;
 
 pub use cards::parse;

@@ -11,8 +11,6 @@ mod labels_check;
 mod nesting;
 mod openings;
 mod order;
-#[cfg(test)]
-mod tests;
 
 pub use forms::Form;
 pub use label_places::LabelPlaces;

@@ -11,7 +11,5 @@ mod resolver;
 mod rests;
 mod simple;
 mod targets;
-#[cfg(test)]
-mod tests;
 
 pub use programs::tree;

@@ -5,8 +5,6 @@ mod literals;
 mod nodes;
 mod operands;
 mod reader;
-#[cfg(test)]
-mod tests;
 
 pub use literals::literal;
 pub use nodes::{Expression, Node, Sign};

@@ -3,8 +3,6 @@
 
 mod placing;
 mod reading;
-#[cfg(test)]
-mod tests;
 
 pub use placing::{Placed, places};
 pub use reading::forms;

@@ -5,7 +5,5 @@ mod commas;
 mod depths;
 mod nodes;
 mod reader;
-#[cfg(test)]
-mod tests;
 
 pub use nodes::{Direction, ItemList, Node};

@@ -6,8 +6,6 @@ mod marks;
 mod parts;
 mod readings;
 mod refusals;
-#[cfg(test)]
-mod tests;
 mod texts;
 
 pub use readings::Statement;

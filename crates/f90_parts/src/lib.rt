@@ -3,8 +3,6 @@
 
 mod bounds;
 mod fronts;
-#[cfg(test)]
-mod tests;
 mod variables;
 
 pub use bounds::Bounds;

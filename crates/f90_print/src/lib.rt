@@ -8,8 +8,6 @@ mod items;
 mod lines;
 mod printer;
 mod statements;
-#[cfg(test)]
-mod tests;
 mod texts;
 
 pub use printer::{print_assign, print_expr, print90};

@@ -3,8 +3,6 @@
 
 mod causes;
 mod making;
-#[cfg(test)]
-mod tests;
 mod texts;
 
 pub use texts::read90;

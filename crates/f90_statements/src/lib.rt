@@ -8,7 +8,5 @@ mod fronts;
 mod nodes;
 mod parts;
 mod statements;
-#[cfg(test)]
-mod tests;
 
 pub use nodes::{Action, Bound, Dimension, Entity, Statement};

@@ -5,8 +5,6 @@ mod building;
 mod calls;
 mod functions;
 mod laws;
-#[cfg(test)]
-mod tests;
 mod trees;
 
 pub use functions::Functions;

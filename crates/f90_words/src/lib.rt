@@ -3,8 +3,6 @@
 
 mod lexer;
 mod symbols;
-#[cfg(test)]
-mod tests;
 mod tokens;
 
 pub use lexer::words;

@@ -4,7 +4,5 @@
 mod cards;
 mod refusals;
 mod source;
-#[cfg(test)]
-mod tests;
 
 pub use cards::{Card, statements};

@@ -4,8 +4,6 @@
 mod canonical;
 mod nodes;
 mod replacement;
-#[cfg(test)]
-mod tests;
 mod trees;
 
 pub use canonical::Canonical;

@@ -9,6 +9,3 @@ mod words;
 pub use commands::{Command, Options};
 pub use laws::{at_most_four_words, number_attached_or_apart, options_in_any_order};
 pub use words::command;
-
-#[cfg(test)]
-mod tests;

@@ -18,6 +18,3 @@ pub use sink::{Gave, Sink};
 pub use source::{Source, Took};
 pub use standard::{StdSink, StdSource};
 pub use transfer::{read_all, write_all};
-
-#[cfg(test)]
-mod tests;

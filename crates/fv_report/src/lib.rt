@@ -6,6 +6,3 @@ mod names;
 mod outcome;
 
 pub use outcome::{Outcome, note, status};
-
-#[cfg(test)]
-mod tests;

@@ -14,8 +14,6 @@ mod rule;
 mod statement_uses;
 mod statements;
 mod substitution;
-#[cfg(test)]
-mod tests;
 mod uses;
 
 pub use expressions::{rewrite_expression, rewrite_parts};

@@ -25,13 +25,7 @@ ghost use Rattle.fv_tool.specs.Running.{IsExceeded, run_of};
 
 mod deck;
 mod listing;
-#[cfg(test)]
-mod run90_tests;
-#[cfg(test)]
-mod run_tests;
 mod running;
-#[cfg(test)]
-mod tests;
 mod translation;
 
 use deck::{most_bytes, read_deck};

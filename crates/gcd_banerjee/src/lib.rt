@@ -11,8 +11,6 @@ mod gcd_test;
 mod least;
 mod range_test;
 mod terms;
-#[cfg(test)]
-mod tests;
 
 pub use gcd_test::{gcd_refutes, gcd_refutes_with};
 pub use range_test::{range_refutes, range_refutes_with};

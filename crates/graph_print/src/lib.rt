@@ -8,8 +8,6 @@ mod loops;
 mod order;
 mod pieces;
 mod statements;
-#[cfg(test)]
-mod tests;
 mod texts;
 mod words;
 

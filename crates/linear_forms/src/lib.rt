@@ -6,8 +6,6 @@ mod constants;
 mod forms;
 mod laws;
 mod terms;
-#[cfg(test)]
-mod tests;
 mod texts;
 
 pub use canonical::canonical_text;

@@ -10,8 +10,6 @@ mod marks;
 mod names;
 mod sizes;
 mod symbols;
-#[cfg(test)]
-mod tests;
 
 pub use flaws::{Flaw, loop_in_if};
 pub use increments::step_of;

@@ -8,8 +8,6 @@ mod printing;
 mod reading;
 mod statements;
 mod stores;
-#[cfg(test)]
-mod tests;
 mod values;
 
 pub use machine::Machine77;

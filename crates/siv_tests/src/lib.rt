@@ -7,8 +7,6 @@
 #![tactic(auto)]
 
 mod siv;
-#[cfg(test)]
-mod tests;
 mod ziv;
 
 pub use siv::test_siv;

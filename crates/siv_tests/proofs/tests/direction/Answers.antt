@@ -1,5 +1,0 @@
-use Rattle.siv_tests.proofs.Literals.{dirs_of_one}
-use Rattle.siv_tests.proofs.tests.direction.Goals as goal
-
-pub returns : goal.returns
-returns c = λ p e. dirs_of_one p c.args.dir e
