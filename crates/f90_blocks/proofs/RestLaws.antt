@@ -87,22 +87,22 @@ module _ (all os : List Open) (l : Vec Arm Global) (o : Block) (v : Vec Stmt Glo
 
   pub else_shows : (r : Rest) (p : Block) (b : plain.Block) → all ≡ os ++ opens.If l o v ∷ []
       → opens_seen all ≡ EndedIf later other behind ∷ es
-      → block_of p ≡ b → r.open.items ≡ os ++ opens.If l p v ∷ [] → r.stmts.items ≡ []
+      → block_of p ≡ b → r.opened.items ≡ os ++ opens.If l p v ∷ [] → r.stmts.items ≡ []
       → Shows r plain.no_statements (EndedIf later b behind ∷ es)
   else_shows r p b q h g k n =
       let i = is_if q h in
       let a = i.later_is in
       let c = i.behind_is in
       let d = i.rest in
-      let f : opens_seen r.open.items
+      let f : opens_seen r.opened.items
       ≡ EndedIf (arms (reverse (map tested_of l.items))) (block_of p) (block_seen v.items) ∷ opens_seen os =
-      one_opened os r.open.items (opens.If l p v) k in
+      one_opened os r.opened.items (opens.If l p v) k in
       record { block = none_seen r.stmts.items n; round = cc }
 
   pub arm_shows : (r : Rest) (p : Block) (b : plain.Block) (m : Vec Arm Global) (c : Expr)
       → all ≡ os ++ opens.If l o v ∷ [] → opens_seen all ≡ EndedIf later other behind ∷ es
       → block_of p ≡ b → m.items ≡ l.items ++ roll-Arm (record { test = c; body = p }) ∷ []
-      → r.open.items ≡ os ++ opens.If m o v ∷ [] → r.stmts.items ≡ []
+      → r.opened.items ≡ os ++ opens.If m o v ∷ [] → r.stmts.items ≡ []
       → Shows r plain.no_statements (EndedIf (plain.arm (expression_of c) b later) other behind ∷ es)
   arm_shows r p b m c q h g j k n =
       let i = is_if q h in
@@ -111,16 +111,16 @@ module _ (all os : List Open) (l : Vec Arm Global) (o : Block) (v : Vec Stmt Glo
       let y = i.other_is in
       let d = i.rest in
       let w = arm_before l.items m.items c p b j g in
-      let f : opens_seen r.open.items
+      let f : opens_seen r.opened.items
       ≡ EndedIf (arms (reverse (map tested_of m.items))) (block_of o) (block_seen v.items) ∷ opens_seen os =
-      one_opened os r.open.items (opens.If m o v) k in
+      one_opened os r.opened.items (opens.If m o v) k in
       record { block = none_seen r.stmts.items n; round = cc }
 
   pub if_shows : (r : Rest) (p : Block) (b : plain.Block) (line : ℕ) (more turned : List Arm) (ts : Seq Arm) (c : Expr)
       → all ≡ os ++ opens.If l o v ∷ []
       → opens_seen all ≡ EndedIf later other behind ∷ es → block_of p ≡ b
       → more ≡ l.items ++ roll-Arm (record { test = c; body = p }) ∷ [] → turned ≡ reverse more → ts ≡ turned
-      → r.stmts.items ≡ v.items ++ stmts.If line ts o ∷ [] → r.open.items ≡ os
+      → r.stmts.items ≡ v.items ++ stmts.If line ts o ∷ [] → r.opened.items ≡ os
       → Shows r (plain.statement (plain.If line (plain.arm (expression_of c) b later) other) behind) es
   if_shows r p b line more turned ts c q h g j t s k n =
       let i = is_if q h in
@@ -137,7 +137,7 @@ module _ (all os : List Open) (l : Vec Arm Global) (o : Block) (v : Vec Stmt Glo
 pub do_shows : (all os : List Open) (v : Vec Stmt Global) (behind : plain.Block) (es : List Ended) (r : Rest)
     (p : Block) (b : plain.Block) (line : ℕ) (x : List ℕ) (f g s : Expr)
     → all ≡ os ++ opens.Do v ∷ [] → opens_seen all ≡ EndedDo behind ∷ es → block_of p ≡ b
-    → r.stmts.items ≡ v.items ++ stmts.Do line x f g s p ∷ [] → r.open.items ≡ os
+    → r.stmts.items ≡ v.items ++ stmts.Do line x f g s p ∷ [] → r.opened.items ≡ os
     → Shows r (plain.statement (plain.Do line x (expression_of f) (expression_of g) (expression_of s) b) behind) es
 do_shows all os v behind es r p b line x f g s q h k n m =
     let i = innermost all os (opens.Do v) (EndedDo behind) es q h in
@@ -147,12 +147,12 @@ do_shows all os v behind es r p b line x f g s q h k n m =
     record { block = cc; round = ap opens_seen m ∙ i.rest }
 
 pub end_if_shows : (r : Rest) (ss : List Stmt) (os : List Open) (l : Vec Arm Global) (o : Block) (v : Vec Stmt Global)
-    → r.open.items ≡ os ++ opens.If l o v ∷ [] → l.items ≡ []
+    → r.opened.items ≡ os ++ opens.If l o v ∷ [] → l.items ≡ []
     → block_of o ≡ plain.no_statements → v.items ≡ ss → r.stmts.items ≡ []
     → Shows r plain.no_statements (EndedIf plain.no_arms plain.no_statements (block_seen ss) ∷ opens_seen os)
 end_if_shows r ss os l o v e none g s n = record {
   block = none_seen r.stmts.items n;
-  round = one_opened os r.open.items (opens.If l o v) e
+  round = one_opened os r.opened.items (opens.If l o v) e
       ∙ ap (λ (ts : List Arm). EndedIf (arms (reverse (map tested_of ts))) (block_of o)
       (block_seen v.items) ∷ opens_seen os) none
       ∙ ap (λ b. EndedIf plain.no_arms b (block_seen v.items) ∷ opens_seen os) g
@@ -160,12 +160,12 @@ end_if_shows r ss os l o v e none g s n = record {
 }
 
 pub end_do_shows : (r : Rest) (ss : List Stmt) (os : List Open) (v : Vec Stmt Global)
-    → r.open.items ≡ os ++ opens.Do v ∷ [] → v.items ≡ ss → r.stmts.items ≡ []
+    → r.opened.items ≡ os ++ opens.Do v ∷ [] → v.items ≡ ss → r.stmts.items ≡ []
     → Shows r plain.no_statements (EndedDo (block_seen ss) ∷ opens_seen os)
 end_do_shows r ss os v e s n =
     record {
       block = none_seen r.stmts.items n;
-      round = one_opened os r.open.items (opens.Do v) e
+      round = one_opened os r.opened.items (opens.Do v) e
           ∙ ap (λ us. EndedDo (block_seen us) ∷ opens_seen os) s;
     }
 

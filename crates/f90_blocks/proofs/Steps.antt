@@ -41,7 +41,7 @@ module _ (function : List ℕ → Option Intrinsic) (is_target : ℕ → Bool) w
 
   pub shown : (os : List Opened) (ps : List Placed) (b : Block) (es : List Ended) (x : Rest) → IsRestOf os ps b es
       → Shows x b es → StandsOf os ps x
-  shown os ps b es x h s = subst (λ c. IsRestOf os ps c (opens_seen x.open.items)) (sym s.block)
+  shown os ps b es x h s = subst (λ c. IsRestOf os ps c (opens_seen x.opened.items)) (sym s.block)
       (subst (λ k. IsRestOf os ps b k) (sym s.round) h)
 
   made : (os : List Opened) (ps : List Placed) (b : Block) (es : List Ended) (r : Result Rest Memory)
@@ -75,10 +75,10 @@ module _ (function : List ℕ → Option Intrinsic) (is_target : ℕ → Bool) w
       (s : Stmt) → IsNext function os line (trees.Simple s) p
       → StandsOf (opened_by p.form os) ps self
       → IfOk r (λ x. Shows x (tree.statement (statement_of s) (block_seen self.stmts.items))
-      (opens_seen self.open.items)) → Made r os (p ∷ ps)
+      (opens_seen self.opened.items)) → Made r os (p ∷ ps)
   simple_step os p ps self r line s next h told =
       let b = block_seen self.stmts.items in
-      let es = opens_seen self.open.items in
+      let es = opens_seen self.opened.items in
       let i = simple_by function is_target (λ n. false) p (statement_of s) next.is in
       made os (p ∷ ps) (tree.statement (statement_of s) b) es r
       (with_simple function is_target os ps b es p (statement_of s) i
@@ -100,11 +100,11 @@ module _ (function : List ℕ → Option Intrinsic) (is_target : ℕ → Bool) w
       → is_target 0 ≡ false → IsNext function os line (trees.Test e done) p → StandsOf (opened_by p.form os) ps self
       → IfOk r (λ x. Shows x (tree.statement
       (tree.If line (tree.arm (expression_of e) (done_seen done) tree.no_arms) tree.no_statements)
-      (block_seen self.stmts.items)) (opens_seen self.open.items))
+      (block_seen self.stmts.items)) (opens_seen self.opened.items))
       → Made r os (p ∷ ps)
   test_step os p ps self r line e done z next h told =
       let b = block_seen self.stmts.items in
-      let es = opens_seen self.open.items in
+      let es = opens_seen self.opened.items in
       let i = next.is in
       let q = i.0 in
       let f = i.1 in
@@ -138,10 +138,10 @@ module _ (function : List ℕ → Option Intrinsic) (is_target : ℕ → Bool) w
       → p ≡ at p.line None (forms.Continue digits) → StandsOf (opened_by p.form os) ps self
       → IsRestOf os (p ∷ ps) (cond t
       (tree.statement (tree.Label (value_of_digits digits)) (block_seen self.stmts.items))
-      (block_seen self.stmts.items)) (opens_seen self.open.items)
+      (block_seen self.stmts.items)) (opens_seen self.opened.items)
   label_digits os p ps self digits t e i h =
       let b = block_seen self.stmts.items in
-      let es = opens_seen self.open.items in
+      let es = opens_seen self.opened.items in
       subst (λ (x : Placed). IsRestOf os (x ∷ ps) (cond t (tree.statement (tree.Label (value_of_digits digits)) b) b)
       es) (sym i)
       (continued os ps b es p.line digits t e
@@ -150,14 +150,14 @@ module _ (function : List ℕ → Option Intrinsic) (is_target : ℕ → Bool) w
   pub label_step : (os : List Opened) (p : Placed) (ps : List Placed) (self : Rest) (r : Result Rest Memory) (line : ℕ)
       (label : Option ℕ) (has : ℕ → Bool) → ((n : ℕ) → has n ≡ is_target n)
       → is_target 0 ≡ false → IsNext function os line (trees.Continue label) p → StandsOf (opened_by p.form os) ps self
-      → IfOk r (λ x. Shows x (with_label has label (block_seen self.stmts.items)) (opens_seen self.open.items))
+      → IfOk r (λ x. Shows x (with_label has label (block_seen self.stmts.items)) (opens_seen self.opened.items))
       → Made r os (p ∷ ps)
   label_step os p ps self r line None has same z next h told =
-      made os (p ∷ ps) (block_seen self.stmts.items) (opens_seen self.open.items) r
+      made os (p ∷ ps) (block_seen self.stmts.items) (opens_seen self.opened.items) r
       (label_digits os p ps self [] false z next.is h) told
   label_step os p ps self r line (Some n) has same z next h told =
       let b = block_seen self.stmts.items in
-      let es = opens_seen self.open.items in
+      let es = opens_seen self.opened.items in
       let i = next.is in
       let stood = label_digits os p ps self (i.0 ∷ i.1) (has n) (ap is_target (sym i.3) ∙ sym (same n)) i.2 h in
       made os (p ∷ ps) (cond (has n) (tree.statement (tree.Label n) b) b) es r
@@ -273,20 +273,20 @@ module _ (function : List ℕ → Option Intrinsic) (is_target : ℕ → Bool) w
   pub if_step : (os : List Opened) (p : Placed) (ps : List Placed) (self : Rest) (r : Result Rest Memory) (line : ℕ)
       (e : Expr) → IsNext function os line (trees.If e) p
       → StandsOf (opened_by p.form os) ps self
-      → ToldOfIf r (opens_seen self.open.items)
+      → ToldOfIf r (opens_seen self.opened.items)
       (λ later o behind more x. Shows x
       (tree.statement (tree.If line (tree.arm (expression_of e) (block_seen self.stmts.items) later) o) behind) more)
       → Made r os (p ∷ ps)
   if_step os p ps self r line e next h told =
       let i = next.is in
       as_is os p ps r line (forms.If i.0) next.on_line i.1
-      (if_rest os ps (block_seen self.stmts.items) (opens_seen self.open.items) line i.0 (expression_of e) r i.2
+      (if_rest os ps (block_seen self.stmts.items) (opens_seen self.opened.items) line i.0 (expression_of e) r i.2
       (opened_as os ps self p.form (forms.If i.0) (form_is p (forms.If i.0) i.1) h) told)
 
   pub arm_step : (os : List Opened) (p : Placed) (ps : List Placed) (self : Rest) (r : Result Rest Memory) (line : ℕ)
       (e : Expr) → IsNext function os line (trees.ElseIf e) p
       → StandsOf (opened_by p.form os) ps self
-      → ToldOfIf r (opens_seen self.open.items)
+      → ToldOfIf r (opens_seen self.opened.items)
       (λ later o behind more x. Shows x tree.no_statements
       (EndedIf (tree.arm (expression_of e) (block_seen self.stmts.items) later) o behind ∷ more))
       → Made r os (p ∷ ps)
@@ -294,49 +294,49 @@ module _ (function : List ℕ → Option Intrinsic) (is_target : ℕ → Bool) w
       let i = next.is in
       let form = form_is p (forms.ElseIf i.0) i.1 in
       as_is os p ps r line (forms.ElseIf i.0) next.on_line i.1
-      (arm_rest os ps (block_seen self.stmts.items) (opens_seen self.open.items) line i.0 (expression_of e) r i.2
+      (arm_rest os ps (block_seen self.stmts.items) (opens_seen self.opened.items) line i.0 (expression_of e) r i.2
       (fits_as os p.form (forms.ElseIf i.0) form next.fits)
       (opened_as os ps self p.form (forms.ElseIf i.0) form h) told)
 
   pub else_step : (os : List Opened) (p : Placed) (ps : List Placed) (self : Rest) (r : Result Rest Memory) (line : ℕ)
       → IsNext function os line trees.Else p
       → StandsOf (opened_by p.form os) ps self
-      → ToldOfIf r (opens_seen self.open.items)
+      → ToldOfIf r (opens_seen self.opened.items)
       (λ later o behind more x. Shows x tree.no_statements (EndedIf later (block_seen self.stmts.items) behind ∷ more))
       → Made r os (p ∷ ps)
   else_step os p ps self r line next h told =
       let form = form_is p forms.Else next.is in
       as_is os p ps r line forms.Else next.on_line next.is
-      (else_rest os ps (block_seen self.stmts.items) (opens_seen self.open.items) line r
+      (else_rest os ps (block_seen self.stmts.items) (opens_seen self.opened.items) line r
       (fits_as os p.form forms.Else form next.fits) (opened_as os ps self p.form forms.Else form h) told)
 
   pub end_if_step : (os : List Opened) (p : Placed) (ps : List Placed) (self : Rest) (r : Result Rest Memory) (line : ℕ)
       → IsNext function os line trees.EndIf p
       → StandsOf (opened_by p.form os) ps self
       → IfOk r (λ x. Shows x tree.no_statements
-      (EndedIf tree.no_arms tree.no_statements (block_seen self.stmts.items) ∷ opens_seen self.open.items))
+      (EndedIf tree.no_arms tree.no_statements (block_seen self.stmts.items) ∷ opens_seen self.opened.items))
       → Made r os (p ∷ ps)
   end_if_step os p ps self r line next h told =
       let form = form_is p forms.EndIf next.is in
       as_is os p ps r line forms.EndIf next.on_line next.is
-      (end_if_rest os ps (block_seen self.stmts.items) (opens_seen self.open.items) line r
+      (end_if_rest os ps (block_seen self.stmts.items) (opens_seen self.opened.items) line r
       (fits_as os p.form forms.EndIf form next.fits) (opened_as os ps self p.form forms.EndIf form h) told)
 
   pub end_do_step : (os : List Opened) (p : Placed) (ps : List Placed) (self : Rest) (r : Result Rest Memory) (line : ℕ)
       → IsNext function os line trees.EndDo p
       → StandsOf (opened_by p.form os) ps self
-      → IfOk r (λ x. Shows x tree.no_statements (EndedDo (block_seen self.stmts.items) ∷ opens_seen self.open.items))
+      → IfOk r (λ x. Shows x tree.no_statements (EndedDo (block_seen self.stmts.items) ∷ opens_seen self.opened.items))
       → Made r os (p ∷ ps)
   end_do_step os p ps self r line next h told =
       let form = form_is p forms.EndDo next.is in
       as_is os p ps r line forms.EndDo next.on_line next.is
-      (end_do_rest os ps (block_seen self.stmts.items) (opens_seen self.open.items) line r
+      (end_do_rest os ps (block_seen self.stmts.items) (opens_seen self.opened.items) line r
       (fits_as os p.form forms.EndDo form next.fits) (opened_as os ps self p.form forms.EndDo form h) told)
 
   pub do_step : (os : List Opened) (p : Placed) (ps : List Placed) (self : Rest) (r : Result Rest Memory) (line : ℕ)
       (x : List ℕ) (a b d : Expr) → IsNext function os line (trees.Do x a b d) p
       → StandsOf (opened_by p.form os) ps self
-      → ((behind : Block) (more : List Ended) → opens_seen self.open.items ≡ EndedDo behind ∷ more
+      → ((behind : Block) (more : List Ended) → opens_seen self.opened.items ≡ EndedDo behind ∷ more
       → IfOk r (λ y. Shows y (tree.statement
       (tree.Do line x (expression_of a) (expression_of b) (expression_of d) (block_seen self.stmts.items)) behind)
       more)) → Made r os (p ∷ ps)
@@ -344,7 +344,7 @@ module _ (function : List ℕ → Option Intrinsic) (is_target : ℕ → Bool) w
       let i = next.is in
       let form = form_is p (forms.Do x i.0 i.1 i.2) i.3 in
       as_is os p ps r line (forms.Do x i.0 i.1 i.2) next.on_line i.3
-      (do_rest os ps (block_seen self.stmts.items) (opens_seen self.open.items) line x i.0 i.1 i.2 (expression_of a)
+      (do_rest os ps (block_seen self.stmts.items) (opens_seen self.opened.items) line x i.0 i.1 i.2 (expression_of a)
       (expression_of b) (expression_of d) r i.4 i.5 i.6
       (opened_as os ps self p.form (forms.Do x i.0 i.1 i.2) form h) told)
 

@@ -211,4 +211,4 @@ walks_end all ts r b e g walks function ps are order marks z =
     let stands = subst (λ qs. Stands function (name_target ps) [] (executables qs) r) all_behind
     (subst (λ qs. Stands function (name_target ps) (opened_behind [] qs) (executables w.behind) r) none w.stands) in
     subst (λ c. AreBlock function (name_target ps) (executables ps) c) (sym g)
-    (outermost function (name_target ps) (executables ps) (block_seen r.stmts.items) (opens_seen r.open.items) stands)
+    (outermost function (name_target ps) (executables ps) (block_seen r.stmts.items) (opens_seen r.opened.items) stands)

@@ -48,7 +48,7 @@ opens_seen os = reverse (map open_seen os)
 -- the block so far, and the blocks round it
 pub record Shows (r : Rest) (b : Block) (es : List Ended) : Type 0 where
   pub block : block_seen r.stmts.items ≡ b
-  pub round : opens_seen r.open.items ≡ es
+  pub round : opens_seen r.opened.items ≡ es
 
 -- `function` says which names are functions, `is_target` which labels a GO TO names
 module _ (function : List ℕ → Option Intrinsic) (is_target : ℕ → Bool) where
@@ -82,7 +82,7 @@ module _ (function : List ℕ → Option Intrinsic) (is_target : ℕ → Bool) w
   IsRest os ps b es = ⊥
 
   abbrev pub Stands : List Opened → List Placed → Rest → Type 0
-  Stands os ps r = IsRest os ps (block_seen r.stmts.items) (opens_seen r.open.items)
+  Stands os ps r = IsRest os ps (block_seen r.stmts.items) (opens_seen r.opened.items)
 
 -- a statement with its line, where these blocks are open before it
 pub record IsNext (function : List ℕ → Option Intrinsic) (os : List Opened) (line : ℕ) (t : StatementTree) (p : Placed)

@@ -61,7 +61,7 @@ impl Rest {
     ) -> Result<Rest, Memory>
         ensures { IfOk result (λ rest. Shows rest
             (plain.statement (plain.If line (plain.arm (expression_of test) (done_seen done) plain.no_arms)
-            plain.no_statements) (block_seen self.stmts.items)) (opens_seen self.open.items)) }
+            plain.no_statements) (block_seen self.stmts.items)) (opens_seen self.opened.items)) }
     {
         let stmt = logical_if(alloc, line, test, done)?;
         self.precede(stmt)
@@ -72,7 +72,7 @@ impl Rest {
     fn begin_label(self, targets: &BTreeSet<u32>, label: Option<u32>) -> Result<Rest, Memory>
         ensures { IfOk result (λ rest. Shows rest
             (with_label (contains nat_cmp targets.now) label (block_seen self.stmts.items))
-            (opens_seen self.open.items)) }
+            (opens_seen self.opened.items)) }
     {
         let Some(number) = label else {
             return Ok(self);

@@ -27,7 +27,7 @@ pub enum Open {
 #[derive(Drop)]
 pub struct Rest {
     stmts: Vec<Stmt>,
-    open: Vec<Open>,
+    opened: Vec<Open>,
 }
 
 // The block of statements of which the last one stands first.
@@ -48,64 +48,64 @@ impl Rest {
     {
         Rest {
             stmts: Vec::new(alloc),
-            open: Vec::new(alloc),
+            opened: Vec::new(alloc),
         }
     }
 
     /// With a statement before all that.
     pub fn precede(self, stmt: Stmt) -> Result<Rest, Memory>
         ensures { IfOk result (λ rest. Shows rest
-            (plain.statement (statement_of stmt) (block_seen self.stmts.items)) (opens_seen self.open.items)) }
+            (plain.statement (statement_of stmt) (block_seen self.stmts.items)) (opens_seen self.opened.items)) }
     {
-        let Rest { mut stmts, open } = self;
+        let Rest { mut stmts, opened } = self;
         stmts.push(stmt)?;
-        Ok(Rest { stmts, open })
+        Ok(Rest { stmts, opened })
     }
 
     /// At END IF.
     pub fn end_if(self, alloc: Global) -> Result<Rest, Memory>
         ensures { IfOk result (λ rest. Shows rest plain.no_statements
-            (EndedIf plain.no_arms plain.no_statements (block_seen self.stmts.items) ∷ opens_seen self.open.items)) }
+            (EndedIf plain.no_arms plain.no_statements (block_seen self.stmts.items) ∷ opens_seen self.opened.items)) }
     {
         let Rest {
             stmts: behind,
-            mut open,
+            mut opened,
         } = self;
         let later = Vec::new(alloc);
         let other = turned(Vec::new(alloc));
-        open.push(Open::If {
+        opened.push(Open::If {
             later,
             other,
             behind,
         })?;
         let stmts = Vec::new(alloc);
-        Ok(Rest { stmts, open })
+        Ok(Rest { stmts, opened })
     }
 
     /// At END DO.
     pub fn end_do(self, alloc: Global) -> Result<Rest, Memory>
         ensures { IfOk result (λ rest. Shows rest plain.no_statements
-            (EndedDo (block_seen self.stmts.items) ∷ opens_seen self.open.items)) }
+            (EndedDo (block_seen self.stmts.items) ∷ opens_seen self.opened.items)) }
     {
         let Rest {
             stmts: behind,
-            mut open,
+            mut opened,
         } = self;
-        open.push(Open::Do { behind })?;
+        opened.push(Open::Do { behind })?;
         let stmts = Vec::new(alloc);
-        Ok(Rest { stmts, open })
+        Ok(Rest { stmts, opened })
     }
 
     /// At ELSE: the block so far is the ELSE part.
     pub fn begin_else(self, alloc: Global) -> Result<Rest, Memory>
         ensures { (later : Arms) (other behind : PlainBlock) (es : List Ended)
-            → opens_seen self.open.items ≡ EndedIf later other behind ∷ es
+            → opens_seen self.opened.items ≡ EndedIf later other behind ∷ es
             → IfOk result (λ rest. Shows rest plain.no_statements
             (EndedIf later (block_seen self.stmts.items) behind ∷ es)) }
     {
-        let Rest { stmts, mut open } = self;
-        let Some(ended) = open.pop() else {
-            return Ok(Rest { stmts, open });
+        let Rest { stmts, mut opened } = self;
+        let Some(ended) = opened.pop() else {
+            return Ok(Rest { stmts, opened });
         };
         let Open::If {
             later,
@@ -113,28 +113,28 @@ impl Rest {
             behind,
         } = ended
         else {
-            return Ok(Rest { stmts, open });
+            return Ok(Rest { stmts, opened });
         };
         let other = turned(stmts);
-        open.push(Open::If {
+        opened.push(Open::If {
             later,
             other,
             behind,
         })?;
         let stmts = Vec::new(alloc);
-        Ok(Rest { stmts, open })
+        Ok(Rest { stmts, opened })
     }
 
     /// At ELSE IF: the block so far is an arm.
     pub fn begin_arm(self, alloc: Global, test: Expr) -> Result<Rest, Memory>
         ensures { (later : Arms) (other behind : PlainBlock) (es : List Ended)
-            → opens_seen self.open.items ≡ EndedIf later other behind ∷ es
+            → opens_seen self.opened.items ≡ EndedIf later other behind ∷ es
             → IfOk result (λ rest. Shows rest plain.no_statements
             (EndedIf (plain.arm (expression_of test) (block_seen self.stmts.items) later) other behind ∷ es)) }
     {
-        let Rest { stmts, mut open } = self;
-        let Some(ended) = open.pop() else {
-            return Ok(Rest { stmts, open });
+        let Rest { stmts, mut opened } = self;
+        let Some(ended) = opened.pop() else {
+            return Ok(Rest { stmts, opened });
         };
         let Open::If {
             mut later,
@@ -142,29 +142,29 @@ impl Rest {
             behind,
         } = ended
         else {
-            return Ok(Rest { stmts, open });
+            return Ok(Rest { stmts, opened });
         };
         let body = turned(stmts);
         later.push(Arm { test, body })?;
-        open.push(Open::If {
+        opened.push(Open::If {
             later,
             other,
             behind,
         })?;
         let stmts = Vec::new(alloc);
-        Ok(Rest { stmts, open })
+        Ok(Rest { stmts, opened })
     }
 
     /// At the first line of a block IF: the block so far is its first arm, and it is whole.
     pub fn begin_if(self, line: u32, test: Expr) -> Result<Rest, Memory>
         ensures { (later : Arms) (other behind : PlainBlock) (es : List Ended)
-            → opens_seen self.open.items ≡ EndedIf later other behind ∷ es
+            → opens_seen self.opened.items ≡ EndedIf later other behind ∷ es
             → IfOk result (λ rest. Shows rest (plain.statement
             (plain.If line (plain.arm (expression_of test) (block_seen self.stmts.items) later) other) behind) es) }
     {
-        let Rest { stmts, mut open } = self;
-        let Some(ended) = open.pop() else {
-            return Ok(Rest { stmts, open });
+        let Rest { stmts, mut opened } = self;
+        let Some(ended) = opened.pop() else {
+            return Ok(Rest { stmts, opened });
         };
         let Open::If {
             mut later,
@@ -172,7 +172,7 @@ impl Rest {
             behind,
         } = ended
         else {
-            return Ok(Rest { stmts, open });
+            return Ok(Rest { stmts, opened });
         };
         let body = turned(stmts);
         later.push(Arm { test, body })?;
@@ -180,7 +180,7 @@ impl Rest {
         let arms = Seq::from_vec(later);
         let mut stmts = behind;
         stmts.push(Stmt::If { line, arms, other })?;
-        Ok(Rest { stmts, open })
+        Ok(Rest { stmts, opened })
     }
 
     /// At DO: the block so far is the loop's, which is whole.
@@ -192,17 +192,17 @@ impl Rest {
         last: Expr,
         step: Expr,
     ) -> Result<Rest, Memory>
-        ensures { (behind : PlainBlock) (es : List Ended) → opens_seen self.open.items ≡ EndedDo behind ∷ es
+        ensures { (behind : PlainBlock) (es : List Ended) → opens_seen self.opened.items ≡ EndedDo behind ∷ es
             → IfOk result (λ rest. Shows rest (plain.statement
             (plain.Do line var (expression_of first) (expression_of last) (expression_of step)
             (block_seen self.stmts.items)) behind) es) }
     {
-        let Rest { stmts, mut open } = self;
-        let Some(ended) = open.pop() else {
-            return Ok(Rest { stmts, open });
+        let Rest { stmts, mut opened } = self;
+        let Some(ended) = opened.pop() else {
+            return Ok(Rest { stmts, opened });
         };
         let Open::Do { behind } = ended else {
-            return Ok(Rest { stmts, open });
+            return Ok(Rest { stmts, opened });
         };
         let body = turned(stmts);
         let mut stmts = behind;
@@ -214,14 +214,14 @@ impl Rest {
             step,
             body,
         })?;
-        Ok(Rest { stmts, open })
+        Ok(Rest { stmts, opened })
     }
 
     /// The block of all that.
     pub fn finish(self) -> Block
         ensures { block_of result ≡ block_seen self.stmts.items }
     {
-        let Rest { stmts, open: _ } = self;
+        let Rest { stmts, opened: _ } = self;
         turned(stmts)
     }
 }

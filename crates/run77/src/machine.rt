@@ -53,7 +53,7 @@ impl Machine77 {
     }
 
     /// The machine of a program with these declarations and statements.
-    pub(crate) fn of_parts(
+    fn of_parts(
         alloc: Global,
         decls: Seq<Decl>,
         body: Block,

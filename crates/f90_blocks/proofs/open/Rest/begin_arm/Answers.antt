@@ -6,7 +6,7 @@ use Rattle.f90_blocks.proofs.open.Rest.begin_arm.Goals as goal
 
 pub returns : goal.returns
 returns c later other behind es h =
-    arm_shows c.args.self.open.items c.pop.new.self.items c.in-If.later c.in-If.other c.in-If.behind later other behind
+    arm_shows c.args.self.opened.items c.pop.new.self.items c.in-If.later c.in-If.other c.in-If.behind later other behind
     es _ c.turned-body.result (block_seen c.args.self.stmts.items)
     c.push.new.self c.args.test (c.in-Some.ensures.items ∙ ap (λ (x : Open). c.pop.new.self.items ++ x ∷ []) c.in-If.is)
     h c.turned-body.ensures c.in_ok-push.ensures.items

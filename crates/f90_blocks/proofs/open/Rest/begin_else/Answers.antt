@@ -6,7 +6,7 @@ use Rattle.f90_blocks.proofs.open.Rest.begin_else.Goals as goal
 
 pub returns : goal.returns
 returns c later other behind es h =
-    else_shows c.args.self.open.items c.pop.new.self.items c.in-If.later _ c.in-If.behind later other behind es _
+    else_shows c.args.self.opened.items c.pop.new.self.items c.in-If.later _ c.in-If.behind later other behind es _
     c.turned-other.result (block_seen c.args.self.stmts.items)
     (c.in-Some.ensures.items ∙ ap (λ (x : Open). c.pop.new.self.items ++ x ∷ []) c.in-If.is) h c.turned-other.ensures
     c.in_ok-push.ensures.items c.new-stmts.ensures.items

@@ -11,5 +11,5 @@ returns c =
     let named : contains nat_cmp c.args.targets.now c.in-Some.number ≡ true =
     first_of (search rules, cc, grind (arith, common_steps)) in
     label_shows (λ n. contains nat_cmp c.args.targets.now n) c.args.label c.in-Some.number
-    (block_seen c.args.self.stmts.items) (opens_seen c.args.self.open.items) c.precede.result c.in-Some.is named
+    (block_seen c.args.self.stmts.items) (opens_seen c.args.self.opened.items) c.precede.result c.in-Some.is named
     c.precede.ensures
