@@ -2,14 +2,14 @@
 #![tactic(auto)]
 
 #[cfg(test)]
-mod components;
+mod classes;
 #[cfg(test)]
-mod delta_test;
+mod groups;
 #[cfg(test)]
-mod direction_vectors;
+mod order;
 #[cfg(test)]
-mod gcd_banerjee;
+mod refutations;
 #[cfg(test)]
-mod siv_tests;
+mod single;
 #[cfg(test)]
-mod subscripts;
+mod vectors;

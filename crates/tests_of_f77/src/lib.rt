@@ -2,30 +2,30 @@
 #![tactic(auto)]
 
 #[cfg(test)]
+mod cards;
+#[cfg(test)]
+mod checks;
+#[cfg(test)]
+mod constants;
+#[cfg(test)]
 mod decks;
 #[cfg(test)]
-mod f77_checks;
+mod expressions;
 #[cfg(test)]
-mod f77_constants;
+mod jumps;
 #[cfg(test)]
-mod f77_expr;
+mod keywords;
 #[cfg(test)]
-mod f77_jumps;
+mod kinds;
 #[cfg(test)]
-mod f77_keywords;
+mod lists;
 #[cfg(test)]
-mod f77_kinds;
+mod names;
 #[cfg(test)]
-mod f77_lists;
+mod sources;
 #[cfg(test)]
-mod f77_names;
+mod statements;
 #[cfg(test)]
-mod f77_read;
+mod structure;
 #[cfg(test)]
-mod f77_stmt;
-#[cfg(test)]
-mod f77_structure;
-#[cfg(test)]
-mod f77_tree;
-#[cfg(test)]
-mod fixed_form;
+mod trees;

@@ -2,22 +2,22 @@
 #![tactic(auto)]
 
 #[cfg(test)]
-mod f90_expr;
+mod expressions;
 #[cfg(test)]
-mod f90_forms;
+mod forms;
 #[cfg(test)]
-mod f90_items;
+mod items;
 #[cfg(test)]
-mod f90_lines;
+mod lines;
 #[cfg(test)]
-mod f90_parts;
+mod parts;
 #[cfg(test)]
-mod f90_print;
+mod printing;
 #[cfg(test)]
-mod f90_read;
+mod sources;
 #[cfg(test)]
-mod f90_statements;
+mod statements;
 #[cfg(test)]
-mod f90_trees;
+mod trees;
 #[cfg(test)]
-mod f90_words;
+mod words;

@@ -2,14 +2,14 @@
 #![tactic(auto)]
 
 #[cfg(test)]
-mod form_rules;
+mod linear;
 #[cfg(test)]
-mod fv_rewrite;
+mod listing;
 #[cfg(test)]
-mod graph_print;
+mod parts;
 #[cfg(test)]
-mod linear_forms;
+mod reasons;
 #[cfg(test)]
-mod nest_parts;
+mod rewriting;
 #[cfg(test)]
-mod nest_reasons;
+mod rules;

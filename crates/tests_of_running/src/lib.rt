@@ -2,10 +2,10 @@
 #![tactic(auto)]
 
 #[cfg(test)]
-mod array_places;
+mod machine;
 #[cfg(test)]
-mod array_storage;
+mod places;
 #[cfg(test)]
-mod array_values;
+mod stores;
 #[cfg(test)]
-mod run77;
+mod values;

@@ -2,12 +2,12 @@
 #![tactic(auto)]
 
 #[cfg(test)]
-mod fv_command;
+mod notes;
 #[cfg(test)]
-mod fv_report;
+mod run77_rows;
+#[cfg(test)]
+mod run90_rows;
 #[cfg(test)]
 mod tool;
 #[cfg(test)]
-mod tool_run77;
-#[cfg(test)]
-mod tool_run90;
+mod words;

@@ -1,5 +1,5 @@
 use Rattle.siv_tests.proofs.Literals.{dirs_of_one}
-use Rattle.tests_of_dependence.proofs.siv_tests.direction.Goals as goal
+use Rattle.tests_of_dependence.proofs.single.direction.Goals as goal
 
 pub returns : goal.returns
 returns c = λ p e. dirs_of_one p c.args.dir e

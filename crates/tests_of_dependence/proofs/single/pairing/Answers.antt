@@ -3,7 +3,7 @@ use Rattle.std.specs.Prelude.{FitsSigned}
 use Rattle.std.proofs.lemmas.Int.{to_z-of_z}
 use mir.Syntax.{w64}
 use Rattle.siv_tests.proofs.Literals.{pairing_of_one}
-use Rattle.tests_of_dependence.proofs.siv_tests.pairing.Goals as goal
+use Rattle.tests_of_dependence.proofs.single.pairing.Goals as goal
 
 pub returns-clause-pairing : goal.returns-clause-pairing
 returns-clause-pairing c =

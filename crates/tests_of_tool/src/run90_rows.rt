@@ -1,6 +1,6 @@
 //! Rows of `run90` over memory: words and a deck of Fortran 90, and the status, the text and the note that answer them.
+use crate::run77_rows::{Row, check_rows};
 use crate::tool::{WILLING, call, text_of};
-use crate::tool_run77::{Row, check_rows};
 use std::test::Fail;
 
 const RUN: &[&str] = &["run90"];
