@@ -1,4 +1,3 @@
 pub mod Answering
 pub mod WordLaws
 pub mod Zivs
-pub mod Literals

@@ -1,4 +1,4 @@
-use Rattle.siv_tests.proofs.Literals.{dirs_of_one}
+use Rattle.tests_of_dependence.proofs.Literals.{dirs_of_one}
 use Rattle.tests_of_dependence.proofs.single.direction.Goals as goal
 
 pub returns : goal.returns

@@ -2,7 +2,7 @@ use Rattle.std.proofs.Common.{rules}
 use Rattle.std.specs.Prelude.{FitsSigned}
 use Rattle.std.proofs.lemmas.Int.{to_z-of_z}
 use mir.Syntax.{w64}
-use Rattle.siv_tests.proofs.Literals.{pairing_of_one}
+use Rattle.tests_of_dependence.proofs.Literals.{pairing_of_one}
 use Rattle.tests_of_dependence.proofs.single.pairing.Goals as goal
 
 pub returns-clause-pairing : goal.returns-clause-pairing
