@@ -2,6 +2,8 @@
 #![tactic(auto)]
 
 #[cfg(test)]
+mod listing_rows;
+#[cfg(test)]
 mod notes;
 #[cfg(test)]
 mod run77_rows;
@@ -9,5 +11,7 @@ mod run77_rows;
 mod run90_rows;
 #[cfg(test)]
 mod tool;
+#[cfg(test)]
+mod translation_rows;
 #[cfg(test)]
 mod words;
