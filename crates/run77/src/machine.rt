@@ -53,11 +53,7 @@ impl Machine77 {
     }
 
     /// The machine of a program with these declarations and statements.
-    fn of_parts(
-        alloc: Global,
-        decls: Seq<Decl>,
-        body: Block,
-    ) -> Result<Machine77, Memory>
+    fn of_parts(alloc: Global, decls: Seq<Decl>, body: Block) -> Result<Machine77, Memory>
         requires sound { AreArrays (map declaration_of decls) }
         requires distinct { AreDistinct (map declaration_of decls) }
         ensures names { IfOk result (λ m. names_in m.moment.storage ≡ map declaration_of decls) }
