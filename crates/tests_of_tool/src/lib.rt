@@ -12,6 +12,4 @@ mod run90_rows;
 #[cfg(test)]
 mod tool;
 #[cfg(test)]
-mod translation_rows;
-#[cfg(test)]
 mod words;
