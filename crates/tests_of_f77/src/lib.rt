@@ -1,31 +1,7 @@
-//! The reader of FORTRAN 77: tests alone.
+//! The reader of FORTRAN 77 on whole decks: tests alone.
 #![tactic(auto)]
 
 #[cfg(test)]
-mod cards;
-#[cfg(test)]
-mod checks;
-#[cfg(test)]
-mod constants;
-#[cfg(test)]
 mod decks;
 #[cfg(test)]
-mod expressions;
-#[cfg(test)]
-mod jumps;
-#[cfg(test)]
-mod keywords;
-#[cfg(test)]
-mod kinds;
-#[cfg(test)]
-mod lists;
-#[cfg(test)]
-mod names;
-#[cfg(test)]
 mod sources;
-#[cfg(test)]
-mod statements;
-#[cfg(test)]
-mod structure;
-#[cfg(test)]
-mod trees;
