@@ -2,8 +2,6 @@
 #![tactic(auto)]
 
 #[cfg(test)]
-mod listing_rows;
-#[cfg(test)]
 mod notes;
 #[cfg(test)]
 mod run77_rows;

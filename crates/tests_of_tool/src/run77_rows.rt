@@ -1,18 +1,8 @@
 //! Rows of `run77` over memory: words and a deck, and the status, the text and the note that answer them.
-use crate::tool::{Objects, SEVEN, WILLING, call, great_deck, text_of};
+use crate::tool::{SEVEN, great_deck};
 use std::alloc::{AllocError, Global};
-use std::process::Abort;
 use std::test::Fail;
-
-// Words and the lines of a deck, and what answers them.
-pub(super) struct Row {
-    pub(super) what: &'static str,
-    pub(super) words: &'static [&'static str],
-    pub(super) deck: &'static [&'static str],
-    pub(super) status: u8,
-    pub(super) out: &'static str,
-    pub(super) notes: &'static str,
-}
+use tool_in_memory::{Objects, Row, WILLING, call, check_rows, text_of};
 
 const RUN: &[&str] = &["run77"];
 
@@ -850,18 +840,6 @@ const NO_COMMANDS: &[&[&str]] = &[
     &["run77", "--steps", "000000000000000000007"],
     &["vectorise", "--final"],
 ];
-
-pub(super) fn check_rows(rt: &impl Abort, alloc: Global, rows: &[Row]) -> Result<(), Fail> {
-    for row in rows {
-        let what = row.what;
-        let deck = text_of(alloc, row.deck)?;
-        let done = call(alloc, row.words, deck, &WILLING)?;
-        assert_eq!(rt; done.out.as_slice(), row.out.as_bytes(), "at {what}");
-        assert_eq!(rt; done.notes.as_slice(), row.notes.as_bytes(), "at {what}");
-        assert_eq!(rt; done.status, row.status, "at {what}");
-    }
-    Ok(())
-}
 
 #[test]
 fn decks_run_to_their_end(rt: HostRuntime) -> Result<(), Fail> {

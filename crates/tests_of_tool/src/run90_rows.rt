@@ -1,7 +1,6 @@
 //! Rows of `run90` over memory: words and a deck of Fortran 90, and the status, the text and the note that answer them.
-use crate::run77_rows::{Row, check_rows};
-use crate::tool::{WILLING, call, text_of};
 use std::test::Fail;
+use tool_in_memory::{Row, WILLING, call, check_rows, text_of};
 
 const RUN: &[&str] = &["run90"];
 
@@ -90,6 +89,56 @@ const DONE: &[Row] = &[
         out: " 1 4 9 9\n",
         notes: "",
     },
+    Row {
+        what: "sections of nothing",
+        words: RUN,
+        deck: &[
+            "INTEGER :: A(3)",
+            "A(3:2) = 1",
+            "A(1:3:-1) = 2",
+            "PRINT *, A, A(2:1)",
+            "END",
+        ],
+        status: 0,
+        out: " 0 0 0\n",
+        notes: "",
+    },
+    Row {
+        what: "an array whose bounds are reversed",
+        words: RUN,
+        deck: &["INTEGER :: A(2:1)", "A = 5", "PRINT *, A, SUM(A)", "END"],
+        status: 0,
+        out: " 0\n",
+        notes: "",
+    },
+    Row {
+        what: "an array of LOGICAL in whole",
+        words: RUN,
+        deck: &[
+            "LOGICAL :: L(2, 2)",
+            "READ *, L",
+            "PRINT *, L, L(1:2, 1)",
+            "END",
+            "!DATA",
+            "T, F, .TRUE., .FALSE.",
+        ],
+        status: 0,
+        out: " T F T F T F\n",
+        notes: "",
+    },
+    Row {
+        what: "a store of an element named twice",
+        words: RUN,
+        deck: &[
+            "INTEGER :: A(3)",
+            "A((/ 2, 2, 3 /)) = (/ 7, 8, 9 /)",
+            "PRINT *, A",
+            "END",
+        ],
+        status: 0,
+        out: " 0 8 9\n",
+        notes: "",
+    },
 ];
 
 const FAULTS: &[Row] = &[
@@ -171,6 +220,51 @@ const FAULTS: &[Row] = &[
         out: "",
         notes: "fvec: line 2: fault 3 Bounds\n",
     },
+    Row {
+        what: "bounds of a section beside nothing",
+        words: RUN,
+        deck: &["INTEGER :: M(2, 3)", "PRINT *, 1", "M(3, 2:1) = 4", "END"],
+        status: 3,
+        out: " 1\n",
+        notes: "fvec: line 3: fault 3 Bounds\n",
+    },
+    Row {
+        what: "a sum past 128 bits",
+        words: RUN,
+        deck: &[
+            "PRINT *, SUM((/ 170141183460469231731687303715884105727, 1, -1 /))",
+            "END",
+        ],
+        status: 3,
+        out: "",
+        notes: "fvec: line 1: fault 1 Overflow\n",
+    },
+    Row {
+        what: "a constructor's variable past the range",
+        words: RUN,
+        deck: &[
+            "INTEGER :: I",
+            "PRINT *, (/ (I, I = 9223372036854775807, 9223372036854775808) /)",
+            "END",
+        ],
+        status: 3,
+        out: "",
+        notes: "fvec: line 2: fault 1 Overflow\n",
+    },
+    Row {
+        what: "a subscript before the mask",
+        words: RUN,
+        deck: &[
+            "INTEGER :: A(2)",
+            "INTEGER :: K",
+            "K = 3",
+            "WHERE ((/ 1, 2 /) / 0 > 0) A(K:K + 1) = 1",
+            "END",
+        ],
+        status: 3,
+        out: "",
+        notes: "fvec: line 4: fault 3 Bounds\n",
+    },
 ];
 
 const REFUSED: &[Row] = &[
@@ -213,6 +307,68 @@ const REFUSED: &[Row] = &[
         status: 2,
         out: "",
         notes: "fvec: line 0: refused 37 Structure\n",
+    },
+    Row {
+        what: "a name declared twice",
+        words: RUN,
+        deck: &["INTEGER :: A(3)", "INTEGER :: A", "END"],
+        status: 2,
+        out: "",
+        notes: "fvec: line 2: refused 38 Declared\n",
+    },
+    Row {
+        what: "a subscript too many",
+        words: RUN,
+        deck: &["INTEGER :: A(3)", "A(1, 1) = 2", "END"],
+        status: 2,
+        out: "",
+        notes: "fvec: line 2: refused 38 Declared\n",
+    },
+    Row {
+        what: "a label that stands twice",
+        words: RUN,
+        deck: &["10 CONTINUE", "10 CONTINUE", "END"],
+        status: 2,
+        out: "",
+        notes: "fvec: line 2: refused 37 Structure\n",
+    },
+    Row {
+        what: "the label 0",
+        words: RUN,
+        deck: &["0 CONTINUE", "END"],
+        status: 2,
+        out: "",
+        notes: "fvec: line 1: refused 37 Structure\n",
+    },
+    Row {
+        what: "a jump backwards",
+        words: RUN,
+        deck: &["10 CONTINUE", "GO TO 10", "END"],
+        status: 2,
+        out: "",
+        notes: "fvec: line 2: refused 37 Structure\n",
+    },
+    Row {
+        what: "a jump into a block",
+        words: RUN,
+        deck: &[
+            "GO TO 10",
+            "IF (1 > 2) THEN",
+            "10 CONTINUE",
+            "END IF",
+            "END",
+        ],
+        status: 2,
+        out: "",
+        notes: "fvec: line 1: refused 37 Structure\n",
+    },
+    Row {
+        what: "a DO variable that is set",
+        words: RUN,
+        deck: &["INTEGER :: I", "DO I = 1, 3", "I = 2", "END DO", "END"],
+        status: 2,
+        out: "",
+        notes: "fvec: line 3: refused 37 Structure\n",
     },
 ];
 

@@ -1,8 +1,7 @@
-use fv_io::{MemSink, MemSource};
-use fv_tool::run_tool;
 use std::alloc::{AllocError, Global};
 use std::process::Abort;
 use std::test::Fail;
+use tool_in_memory::{Done, Objects, WILLING, call, text_of};
 
 pub(super) const SEVEN: &[u8] = b"      PRINT *, 7\n      END\n";
 
@@ -275,74 +274,10 @@ const UNENDED: &[Row] = &[
     },
 ];
 
-// A call over memory, and what it did.
-#[derive(Drop)]
-pub(super) struct Done {
-    pub(super) status: u8,
-    pub(super) out: Vec<u8>,
-    pub(super) notes: Vec<u8>,
-}
-
-// How the objects of a call behave: the size of their pieces, and the numbers of the calls that fail; no call has
-// number 0.
-#[derive(Clone, Copy)]
-pub(super) struct Objects {
-    pub(super) piece: usize,
-    pub(super) deck_fails: u64,
-    pub(super) out_fails: u64,
-    pub(super) notes_fails: u64,
-}
-
-pub(super) const WILLING: Objects = Objects {
-    piece: 4096,
-    deck_fails: 0,
-    out_fails: 0,
-    notes_fails: 0,
-};
-
-pub(super) fn call(
-    alloc: Global,
-    words: &[&str],
-    deck: Vec<u8>,
-    objects: &Objects,
-) -> Result<Done, AllocError> {
-    let mut texts = Vec::new(alloc);
-    for word in words {
-        texts.push(String::from_str(alloc, word)?)?;
-    }
-    let piece = objects.piece.max(1);
-    let fails = Vec::from_slice(alloc, &[objects.deck_fails])?;
-    let mut deck = MemSource::new(deck, piece, fails);
-    let fails = Vec::from_slice(alloc, &[objects.out_fails])?;
-    let Ok(mut out) = MemSink::new(alloc, 1 << 20, piece, fails) else {
-        return Err(AllocError);
-    };
-    let fails = Vec::from_slice(alloc, &[objects.notes_fails])?;
-    let Ok(mut notes) = MemSink::new(alloc, 200, 200, fails) else {
-        return Err(AllocError);
-    };
-    let status = run_tool(alloc, &texts, &mut deck, &mut out, &mut notes);
-    Ok(Done {
-        status,
-        out: Vec::from_slice(alloc, out.bytes())?,
-        notes: Vec::from_slice(alloc, notes.bytes())?,
-    })
-}
-
 // Calls with the word `vectorise`.
 fn vectorised(alloc: Global, deck: &[u8], objects: &Objects) -> Result<Done, AllocError> {
     let deck = Vec::from_slice(alloc, deck)?;
     call(alloc, &["vectorise"], deck, objects)
-}
-
-// The lines, each with its end.
-pub(super) fn text_of(alloc: Global, lines: &[&str]) -> Result<Vec<u8>, AllocError> {
-    let mut text = Vec::new(alloc);
-    for line in lines {
-        text.extend_from_slice(line.as_bytes())?;
-        text.push(b'\n')?;
-    }
-    Ok(text)
 }
 
 // The lines of a listing among these, each with its end.

@@ -1,6 +1,6 @@
 //! Rows of `graph` over memory: a deck, and its listing as another program writes it.
-use crate::run77_rows::{Row, check_rows};
 use std::test::Fail;
+use tool_in_memory::{Row, check_rows};
 
 const GRAPH: &[&str] = &["graph"];
 

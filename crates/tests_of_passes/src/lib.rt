@@ -1,0 +1,9 @@
+//! The passes on whole decks: what is found, what is made of it, its graph and its holds: tests alone.
+#![tactic(auto)]
+
+#[cfg(test)]
+mod decks;
+#[cfg(test)]
+mod graph_rows;
+#[cfg(test)]
+mod normal_rows;
