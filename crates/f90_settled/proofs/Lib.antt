@@ -1,0 +1,6 @@
+mod Unanswered
+mod DeclaredNames
+mod SuitedForms
+mod ByteOrder
+mod ManyNames
+mod Settled
