@@ -1,0 +1,14 @@
+pub mod Lists
+pub mod Words
+pub mod Counts
+pub mod Sizes
+pub mod Texts
+pub mod Found
+pub mod Many
+pub mod Made
+pub mod Meetings
+pub mod Arcs
+pub mod Entries
+pub mod Listed
+pub mod Sources
+pub mod SourceListings

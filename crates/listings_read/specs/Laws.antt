@@ -1,0 +1,29 @@
+-- The listing of a program can be read back from its lines.
+use Rattle.std.specs.Prelude.{◌≡◌, ℕ, Some, List, map}
+use Rattle.f77_grammar.specs.Reading77.{Reads77}
+use Rattle.fv_meaning.specs.Dialect.{fortran77}
+use Rattle.fv_meaning.specs.Profile77.{IsProgram77}
+use Rattle.fv_tree.specs.Plain.{Program}
+use Rattle.listing_reader.specs.Reader.{read_listing}
+use Rattle.program_listing.specs.Listing.{IsListing}
+use Rattle.listings_read.specs.Uses.{IsShort}
+
+-- from the lines of a program's listing its entries are read, in their order
+abbrev pub ProgramListingIsRead : Type 0
+ProgramListingIsRead = (p : Program) (lines : List (List ℕ)) → IsProgram77 fortran77 p → IsShort p
+    → (listing : IsListing p lines) → read_listing lines ≡ map Some listing.entries
+
+-- what is read from a source is short
+abbrev pub SourceIsShort : Type 0
+SourceIsShort = (source : List ℕ) (p : Program) → Reads77 fortran77 source p → IsShort p
+
+-- so the listing of a source is read
+abbrev pub SourceListingIsRead : Type 0
+SourceListingIsRead = (source : List ℕ) (p : Program) (lines : List (List ℕ)) → Reads77 fortran77 source p
+    → (listing : IsListing p lines) → read_listing lines ≡ map Some listing.entries
+
+-- and two listings with the same lines have the same entries
+abbrev pub SameLinesListTheSame : Type 0
+SameLinesListTheSame = (source other : List ℕ) (p q : Program) (lines : List (List ℕ)) → Reads77 fortran77 source p
+    → Reads77 fortran77 other q → (listing : IsListing p lines) (others : IsListing q lines)
+    → listing.entries ≡ others.entries

@@ -1,0 +1,24 @@
+//! Laws of the listings of programs. A law is a function without a body: its contract is what holds.
+ghost use Rattle.listings_read.specs.Laws.{ProgramListingIsRead, SameLinesListTheSame, SourceIsShort};
+ghost use Rattle.listings_read.specs.Laws.{SourceListingIsRead};
+
+/// From the lines of a program's listing all its entries are read: its nests with their loops, statements, dependences
+/// and holds, and its kept loops. This is so for each program in whose assignments fewer than 2^31 names stand.
+pub fn listing_of_program_is_read()
+    ensures { ProgramListingIsRead }
+{}
+
+/// The program that is read from a FORTRAN 77 source has fewer names than that.
+pub fn source_is_short()
+    ensures { SourceIsShort }
+{}
+
+/// So from the lines that are listed of a FORTRAN 77 source all their entries are read.
+pub fn listing_of_source_is_read()
+    ensures { SourceListingIsRead }
+{}
+
+/// Where the listings of two sources have the same lines, they have the same entries.
+pub fn same_lines_list_the_same()
+    ensures { SameLinesListTheSame }
+{}
