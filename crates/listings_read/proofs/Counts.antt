@@ -1,33 +1,25 @@
 -- How many names stand in what is made of a statement of a nest.
-use Rattle.std.proofs.Common.{◌≡◌, ◌⊎◌, inl, inr, refl, sym, ap, subst, ◌∙◌, ℕ, zero, suc, ◌+◌, ◌*◌, ◌≤◌, ℤ, pos, negsuc}
+use Rattle.std.proofs.Common.{◌≡◌, ◌⊎◌, inl, inr, refl, ap, subst, ◌∙◌, ℕ, zero, suc, ◌+◌, ◌*◌, ◌≤◌, ℤ, pos, negsuc}
 use Rattle.std.proofs.Common.{Bool, true, false, cond, List, [], ◌∷◌, ◌++◌, length, Option, Some, None, arith}
 use Rattle.std.proofs.Common.{length-append}
 use Rattle.std.proofs.lemmas.Bool.Decides.{Decides-int_eq}
-use Rattle.std.proofs.lemmas.Bool.{and_parts, leb-true}
-use Rattle.std.specs.List.{list_any}
 use Rattle.std.specs.Option.{option_map}
 use Rattle.std.specs.Ordering.{int_eq}
-use Rattle.std.specs.Prelude.{slice_get, nat_le, ◌==◌, ◌&&◌, drop}
-use Rattle.array_forms.proofs.Coefficients.{found_form}
-use Rattle.components.proofs.ListLaws.{Each-append}
+use Rattle.std.specs.Prelude.{slice_get, ◌==◌}
 use Rattle.components.specs.Lists.{Each}
-use Rattle.fv_meaning.specs.Names.{is_among}
 use Rattle.fv_rewrite.specs.Making.{Making, made, made_expressions, made_subscripts, made_subscript, made_loops, made_parts}
 use Rattle.fv_rewrite.specs.Making.{made_left}
 use Rattle.fv_rewrite.specs.Names.{uses_in, uses_in_expressions, uses_in_subscripts, uses_in_subscript, uses_in_loops}
-use Rattle.fv_rewrite.specs.Names.{uses_in_target, mentions}
-use Rattle.fv_rewrite.specs.Substituting.{is_scalar, substituting}
+use Rattle.fv_rewrite.specs.Names.{uses_in_target}
 use Rattle.fv_rewrite.specs.declared.uses.Use.{Use}
 use Rattle.fv_tree.specs.Plain.{Expression, Number, Logic, Named, Unary, Binary, Apply, Constructor, Spread, Transpose}
 use Rattle.fv_tree.specs.Plain.{Reshape, Reduce, Expressions, no_expressions, expression, Subscript, Only, Section}
 use Rattle.fv_tree.specs.Plain.{Subscripts, no_subscripts, subscript, Loops, no_loops, loop, Reference}
-use Rattle.fv_tree.specs.declared.ops.Op.TheVariants.{Add, Mul, Neg, Sub, Div}
-use Rattle.linear_forms.proofs.Sizes.{dropped}
-use Rattle.linear_forms.specs.Canonical.{canonising, text_or}
-use Rattle.linear_forms.specs.Expressed.{expressed, term, plus_term, minus_term, with_term, with_terms, with_constant}
+use Rattle.fv_tree.specs.declared.ops.Op.TheVariants.{Mul}
+use Rattle.linear_forms.specs.Expressed.{term, plus_term, minus_term, with_term, with_terms, with_constant}
 use Rattle.linear_forms.specs.Expressed.{variable, variables}
-use Rattle.linear_forms.specs.Linear.{Form, form_of, is_small, all_small, not_zero, is_limited}
-use Rattle.linear_forms.specs.Texts.{places_behind, text_of, with_place, with_symbols}
+use Rattle.linear_forms.specs.Linear.{not_zero}
+use Rattle.linear_forms.specs.Texts.{with_place, with_symbols}
 use Rattle.nest_graph.specs.References.{is_among as is_round, has_none, own_reference, references_in, references_in_all}
 use Rattle.nest_graph.specs.References.{references_in_subscript, references_in_subscripts, references_of}
 use Rattle.nest_graph.specs.References.{variables_round, references_in_guard}

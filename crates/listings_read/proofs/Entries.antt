@@ -1,25 +1,22 @@
 -- What a listing says of a nest of a program can be listed.
-use Rattle.std.proofs.Common.{◌≡◌, refl, sym, subst, ℕ, zero, suc, ◌+◌, ◌<◌, ◌≤◌, ◌^◌, Bool, true, false, cond, Option, Some}
+use Rattle.std.proofs.Common.{sym, subst, ℕ, zero, suc, ◌+◌, ◌<◌, ◌≤◌, ◌^◌, Bool, true, false, cond, Option, Some}
 use Rattle.std.proofs.Common.{None, List, [], ◌∷◌, ◌++◌, map, length, arith, flat_map}
 use Rattle.std.proofs.lemmas.Bool.{cases_lt}
 use Rattle.std.proofs.lemmas.List.{get_or_past}
 use Rattle.std.specs.List.{AllByRecursion}
 use Rattle.std.specs.Prelude.{◌⊎◌, ◌-◌, slice_index_or}
 use Rattle.std.proofs.Common.{inl, inr}
-use Rattle.array_forms.specs.Loops.{Surroundings}
 use Rattle.array_forms.specs.Statements as forms
 use Rattle.components.specs.declared.graphs.Dropped.{Dropped}
 use Rattle.components.specs.declared.graphs.Edge.{Edge}
 use Rattle.components.specs.declared.graphs.Graph.{Graph}
 use Rattle.components.specs.declared.graphs.Hold.{Hold}
 use Rattle.components.specs.declared.graphs.HoldReason.{HoldReason}
-use Rattle.f90_grammar.specs.PrintedText.{guarded_assignment_text}
 use Rattle.fv_meaning.specs.ArrayValues.{counted}
-use Rattle.fv_tree.specs.Plain.{Reference}
 use Rattle.graph_print.specs.Lines.{Entry}
-use Rattle.graph_print.specs.Listing.{loop_entries, loop_entries_in, loop_entries_under, loop_numbers}
-use Rattle.graph_print.specs.Listing.{statement_entries, answer_entry, edge_entry, drop_entry, dependence_entries}
-use Rattle.graph_print.specs.Listing.{hold_entries, entries_of}
+use Rattle.graph_print.specs.Listing.{loop_entries, loop_entries_in, loop_entries_under}
+use Rattle.graph_print.specs.Listing.{statement_entries, answer_entry, edge_entry, dependence_entries}
+use Rattle.graph_print.specs.Listing.{hold_entries}
 use Rattle.graph_print.specs.Order.{Answered, Found, RuledOut, comes_before, before, not_before, in_order}
 use Rattle.listings_read.proofs.Lists.{joined}
 use Rattle.listing_reader.specs.Listable.{IsSmall, IsListable, IsListableHold}
@@ -32,7 +29,7 @@ use Rattle.normal_facts.proofs.LoopWalk.{EachLoop, EachLoopIn, EachLoopUnder}
 use Rattle.program_listing.specs.Listing.{all_holds, tested_entries}
 use Rattle.sections.specs.Holds.{reason_of, hold_with, hold_at_level, holds_of}
 use Rattle.sections.specs.Statements.{no_statement, statement_at, surroundings_at}
-use Rattle.listings_read.proofs.Arcs.{IsListableEdge, IsListableDrop, graph_edges, graph_drops}
+use Rattle.listings_read.proofs.Arcs.{IsListableDrop, graph_edges, graph_drops}
 use Rattle.listings_read.proofs.Made.{IsTidy, IsTidyIn, IsTidyNest}
 
 abbrev pub AreListable : List Entry → Type 0

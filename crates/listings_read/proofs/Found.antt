@@ -1,5 +1,5 @@
 -- The nests of a program: their names have no blanks, and their numbers and statements are small.
-use Rattle.std.proofs.Common.{◌≡◌, ◌⊎◌, inl, inr, refl, sym, ap, subst, ℕ, ◌+◌, ◌<◌, ◌≤◌, ◌^◌, Bool, true, false, cond}
+use Rattle.std.proofs.Common.{◌≡◌, ◌⊎◌, inl, inr, refl, sym, subst, ℕ, ◌+◌, ◌<◌, ◌≤◌, ◌^◌, Bool, true, false, cond}
 use Rattle.std.proofs.Common.{Option, Some, None, List, [], ◌∷◌, ◌++◌, Contains, arith}
 use Rattle.std.proofs.lemmas.Bool.Decides.{Decides-ltb}
 use Rattle.std.specs.Option.{IsSomeAnd}
@@ -7,7 +7,7 @@ use Rattle.std.specs.Prelude.{nat_lt}
 use Rattle.components.proofs.ListLaws.{Each-append}
 use Rattle.components.specs.Lists.{Each}
 use Rattle.find_nests.proofs.FoundLaws.{found_nest_is_loop, kept_is_loop}
-use Rattle.find_nests.specs.Found.{Found, InNest, Kept, found_in, found_among, found_as, nests_with, nest_of_loop}
+use Rattle.find_nests.specs.Found.{InNest, Kept, found_in, found_among, found_as, nests_with, nest_of_loop}
 use Rattle.find_nests.specs.Loops.{SourceLoop, Numbered, Placed, as_statement, loops_in, loops_in_arms, loops_in_block}
 use Rattle.find_nests.specs.Loops.{looked_at, reason_of}
 use Rattle.find_nests.specs.declared.reasons.Reason.{Reason}
@@ -41,7 +41,7 @@ use Rattle.ready_nests.proofs.Lists.{Each-Contains}
 use Rattle.ready_nests.proofs.Walk.{EachIn, EachInParts, EachInBranches}
 use Rattle.listings_read.proofs.Counts.{count_of}
 use Rattle.listings_read.proofs.Words.{name}
-use Rattle.listings_read.specs.Uses.{IsShort, uses_of, uses_assigned, uses_assigned_in_arms, uses_assigned_in}
+use Rattle.listings_read.specs.Uses.{IsShort, uses_assigned, uses_assigned_in_arms, uses_assigned_in}
 
 -- a number of a loop or a nest
 abbrev pub IsNumber : ℕ → Type 0

@@ -1,6 +1,6 @@
 -- The entries of the listing of a program can be listed, so that they are read from its lines.
-use Rattle.std.proofs.Common.{◌≡◌, inl, inr, refl, sym, ap, ◌∙◌, subst, ℕ, suc, ◌*◌, ◌<◌, ◌≤◌, ◌^◌, Option, Some, None, List, []}
-use Rattle.std.proofs.Common.{◌∷◌, map, length, codes, Contains, arith}
+use Rattle.std.proofs.Common.{◌≡◌, inl, inr, refl, sym, ap, ◌∙◌, subst, suc, ◌*◌, ◌<◌, ◌≤◌, ◌^◌, Option, Some, None, List, []}
+use Rattle.std.proofs.Common.{◌∷◌, length, Contains, arith}
 use Rattle.find_nests.proofs.FoundLaws.{found_nest_is_loop}
 use Rattle.find_nests.specs.Found.{Found, InNest, Kept, found_in}
 use Rattle.find_nests.specs.Loops.{loops_in_block}
@@ -11,13 +11,13 @@ use Rattle.fv_tree.specs.Plain.{Program}
 use Rattle.graph_print.specs.Lines.{Entry}
 use Rattle.listings_read.proofs.Lists.{joined}
 use Rattle.listing_reader.proofs.Rejoined.{listing-is-read}
-use Rattle.listing_reader.specs.Listable.{IsSmall, IsListable}
+use Rattle.listing_reader.specs.Listable.{IsListable}
 use Rattle.listing_reader.specs.Reader.{read_listing}
 use Rattle.loop_normal.specs.Normalised.{normalised}
 use Rattle.nest_tree.specs.Bodies.{nest_statements}
 use Rattle.nest_tree.specs.Plain.{Nest}
 use Rattle.profile_laws.proofs.Lists.{here, there}
-use Rattle.program_listing.specs.Listing.{HasGraphEntries, HasNestEntries, HasEntries, HaveEntries, not_built, IsListing}
+use Rattle.program_listing.specs.Listing.{HasGraphEntries, HasNestEntries, HasEntries, HaveEntries, not_built}
 use Rattle.ready_nests.proofs.Lists.{Each-Contains}
 use Rattle.ready_nests.proofs.Made.{made_of}
 use Rattle.ready_nests.proofs.NormalReady.{normal_nest_is_ready}

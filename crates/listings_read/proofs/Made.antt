@@ -1,10 +1,10 @@
 -- What is made of a nest of a program: its loops, and its statements with their references.
-use Rattle.std.proofs.Common.{◌≡◌, refl, sym, ap, ◌∙◌, subst, ℕ, ◌<◌, ◌≤◌, ◌^◌, List, [], ◌∷◌, ◌++◌, map, length, Some, None}
-use Rattle.std.proofs.Common.{Option, Bool, true, false, cond, arith}
+use Rattle.std.proofs.Common.{◌≡◌, refl, sym, ap, ◌∙◌, subst, ◌≤◌, ◌^◌, List, [], ◌∷◌, ◌++◌, length, Some, None}
+use Rattle.std.proofs.Common.{Bool, true, false, cond, arith}
 use Rattle.std.specs.List.{AllByRecursion}
 use Rattle.components.proofs.ListLaws.{Each-append}
 use Rattle.components.specs.Lists.{Each}
-use Rattle.fv_tree.specs.Plain.{Block, Expression, no_subscripts}
+use Rattle.fv_tree.specs.Plain.{Block, Expression}
 use Rattle.graph_print.specs.Listing.{loop_numbers}
 use Rattle.last_values.specs.Behind.{values_behind}
 use Rattle.last_values.specs.InPlace.{first_text, end_text}
@@ -19,15 +19,15 @@ use Rattle.nest_tree.specs.Bodies.{Standing, nest_statements}
 use Rattle.nest_tree.specs.Plain.{Loop, Guarded, Nest, Part}
 use Rattle.normal_facts.proofs.LoopWalk.{LoopSteps, EachLoop, each_loop}
 use Rattle.normal_facts.proofs.Texts.{IsOver, IsStatementOver, CountersAre, normal_over, first_over, end_over}
-use Rattle.normal_forms.specs.NormalLoops.{counter_name, normal_loop}
+use Rattle.normal_forms.specs.NormalLoops.{normal_loop}
 use Rattle.normal_forms.specs.declared.loops.NormalLoop.{NormalLoop}
 use Rattle.ready_nests.proofs.LoopForms.{normal_loop_is}
-use Rattle.ready_nests.proofs.Made.{IsMadeOf, made_of}
+use Rattle.ready_nests.proofs.Made.{made_of}
 use Rattle.ready_nests.proofs.NormalTrips.{AreLoops, loop_more, no_loops}
 use Rattle.ready_nests.proofs.Walk.{Steps, assigning, standing, each_statement}
 use Rattle.std.specs.Option.{option_map}
 use Rattle.listings_read.proofs.Counts.{few_references}
-use Rattle.listings_read.proofs.Found.{IsFairLoop, IsFairStatement, IsFairNest, IsNumber}
+use Rattle.listings_read.proofs.Found.{IsFairLoop, IsFairStatement, IsFairNest}
 use Rattle.listings_read.proofs.Sizes.{HasSizes, loop_sized}
 use Rattle.listings_read.proofs.Texts.{normal_count, normal_unguarded, first_count, end_count}
 use Rattle.listings_read.proofs.Words.{counter}

@@ -1,5 +1,5 @@
 -- How many statements a nest with loops from 1 by 1 has.
-use Rattle.std.proofs.Common.{◌≡◌, refl, sym, ap, ◌∙◌, subst, ℕ, suc, ◌+◌, ◌*◌, ◌≤◌, ◌<◌, ◌^◌, Bool, true, false, cond}
+use Rattle.std.proofs.Common.{◌≡◌, ap, ◌∙◌, ℕ, suc, ◌+◌, ◌*◌, ◌≤◌, Bool, true, false, cond}
 use Rattle.std.proofs.Common.{List, [], ◌∷◌, ◌++◌, length, Option, Some, None, arith, length-append}
 use Rattle.find_nests.specs.Loops.{SourceLoop, Placed, as_statement, loops_in, loops_in_arms, loops_in_block}
 use Rattle.fv_meaning.specs.Blocks.{statements_of, statements_in_arms, statements_in as statements_in_block}

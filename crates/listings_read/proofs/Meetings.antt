@@ -1,5 +1,5 @@
 -- The iterations of a pair that an edge shows are small.
-use Rattle.std.proofs.Common.{◌≡◌, refl, sym, ap, ◌∙◌, subst, ℕ, zero, suc, ◌+◌, ◌<◌, ◌≤◌, ◌^◌, true, List, [], ◌∷◌, ◌++◌}
+use Rattle.std.proofs.Common.{◌≡◌, sym, ap, ◌∙◌, subst, ℕ, suc, ◌≤◌, ◌^◌, true, List, [], ◌∷◌, ◌++◌}
 use Rattle.std.proofs.Common.{length, take, Option, Some, None, arith}
 use Rattle.std.proofs.lemmas.Int.{ints}
 use Rattle.std.proofs.lemmas.List.Elements.{All-head, All-tail}
@@ -7,15 +7,13 @@ use Rattle.std.proofs.lemmas.Option.{slice_get_within, get_or_from_slice_get}
 use Rattle.std.specs.List.{AllByRecursion}
 use Rattle.std.specs.Prelude.{ℤ, pos, negsuc, ◌≤ℤ◌, int_div, nat_abs, unsigned_abs, All, IsSomeAnd, IfSome, IsTrue, slice_get}
 use Rattle.bound_limits.proofs.LimitLaws.{abs-quotient}
-use Rattle.components.specs.declared.graphs.Place.{Place}
-use Rattle.fv_tree.specs.Plain.{Reference}
 use Rattle.graph_print.specs.Listing.{depth_of}
 use Rattle.listing_reader.specs.Listable.{IsSmallInteger}
 use Rattle.loop_spans.proofs.SpanLaws.{fixed_is_constant}
 use Rattle.loop_spans.proofs.TurnLaws.{turns_within, spans_length}
 use Rattle.nest_graph.specs.Instances.{IsInstance, AreTurns}
 use Rattle.nest_graph.specs.Ready.{IsReady, IsReadyStatement, HaveTrips, IsTripIn}
-use Rattle.nest_graph.specs.Tested.{AreSpansOf, IsSpanOf, IsReference}
+use Rattle.nest_graph.specs.Tested.{AreSpansOf, IsSpanOf}
 use Rattle.nest_tree.specs.Bodies.{Standing, nest_statements}
 use Rattle.nest_tree.specs.Plain.{Loop, Nest}
 use Rattle.nest_tree.specs.declared.parts.Trip.{Trip}

@@ -1,5 +1,5 @@
 -- From the lines that are listed of a source its entries are read.
-use Rattle.std.proofs.Common.{◌≡◌, refl, sym, ◌∙◌, ℕ, ◌≤◌, Some, List, [], ◌∷◌, map, arith, ap₂}
+use Rattle.std.proofs.Common.{◌≡◌, refl, sym, ◌∙◌, ℕ, Some, List, [], ◌∷◌, map, arith, ap₂}
 use Rattle.f77_grammar.specs.Reading77.{Reads77}
 use Rattle.f77_laws.proofs.CardStatements.{read_cards_are_source}
 use Rattle.f77_laws.proofs.Programs.{read_is_program}

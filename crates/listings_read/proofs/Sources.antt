@@ -1,6 +1,6 @@
 -- A program that is read from a FORTRAN 77 source has no more names than its source has characters.
-use Rattle.std.proofs.Common.{◌≡◌, ◌⊎◌, inl, inr, refl, sym, ap, ◌∙◌, subst, ℕ, zero, suc, ◌+◌, ◌*◌, ◌≤◌, ◌<◌, ◌^◌, Bool, true, false}
-use Rattle.std.proofs.Common.{cond, not, Option, Some, None, List, [], ◌∷◌, ◌++◌, map, filter, length, drop, take, arith, flat_map}
+use Rattle.std.proofs.Common.{◌≡◌, refl, ap, ◌∙◌, subst, ℕ, suc, ◌+◌, ◌*◌, ◌≤◌, ◌^◌, Bool, true, false}
+use Rattle.std.proofs.Common.{cond, not, Option, Some, None, List, [], ◌∷◌, ◌++◌, map, filter, length, arith, flat_map}
 use Rattle.std.proofs.Common.{length-append}
 use Rattle.std.proofs.lemmas.List.{length-take, length-drop, length-map}
 use Rattle.std.specs.List.{AllByRecursion}
@@ -11,7 +11,7 @@ use Rattle.f77_grammar.proofs.CardLaws.{unrefused, unrefused_short}
 use Rattle.f77_grammar.proofs.FirstLine.{lines-le}
 use Rattle.f77_grammar.specs.Cards.{Line, StatementLines, PlainCard, ReadsCards, all_lines, card_in, columns_of, is_comment}
 use Rattle.f77_grammar.specs.Cards.{numbered, statement_field, statement_lines, statement_lines_from}
-use Rattle.f77_grammar.specs.Reading77.{Reads77, AreReadFrom}
+use Rattle.f77_grammar.specs.Reading77.{AreReadFrom}
 use Rattle.f77_grammar.specs.Statement77.{Labelled, Statement77, Assign, Test}
 use Rattle.f77_grammar.specs.expressions.Phrases.{Phrase, Literal, WideLiteral, Truth, Name, Listed, Paren, Signed, Joined}
 use Rattle.f77_grammar.specs.expressions.Phrases.{Phrases, One, Then, written, written_list, tree, trees}
@@ -23,7 +23,7 @@ use Rattle.f77_grammar.specs.expressions.Words.{Word}
 use Rattle.f77_grammar.specs.program.Limits.{constants_of}
 use Rattle.f77_grammar.specs.program.Tree.{Rest, Outermost, InArm, argument_of, arguments_of, call_of, element_or_call}
 use Rattle.f77_grammar.specs.program.Tree.{value_or_name, literal, resolved, resolved_arguments, resolved_subscripts}
-use Rattle.f77_grammar.specs.program.Tree.{resolved_subscript, resolved_reference, named, simple, mark_of, targets, begun}
+use Rattle.f77_grammar.specs.program.Tree.{resolved_subscript, named, simple, mark_of, targets}
 use Rattle.f77_grammar.specs.program.Tree.{rest_from, outermost_block}
 use Rattle.f77_grammar.specs.program.Uses.{Use, uses_in_text, is_constant, is_array}
 use Rattle.f77_grammar.specs.statements.Forms as forms
@@ -32,9 +32,9 @@ use Rattle.f77_grammar.specs.statements.Reading.{ReadsStatement}
 use Rattle.f77_laws.proofs.Measures.{Measure, in_rest, at_most}
 use Rattle.fv_meaning.specs.Dialect.{fortran77}
 use Rattle.fv_meaning.specs.Store.{Store}
-use Rattle.fv_rewrite.specs.Names.{uses_in, uses_in_expressions, uses_in_subscripts, uses_in_subscript, uses_in_target}
+use Rattle.fv_rewrite.specs.Names.{uses_in, uses_in_expressions, uses_in_subscripts, uses_in_subscript}
 use Rattle.fv_tree.specs.Functions.{function_named}
-use Rattle.fv_tree.specs.OperatorTable.{Sign, Plus, Minus, Negation}
+use Rattle.fv_tree.specs.OperatorTable.{Plus, Minus, Negation}
 use Rattle.fv_tree.specs.Plain as tree'
 use Rattle.fv_tree.specs.Plain.{Expression, Number, Logic, Named, Unary, Binary, Apply, Constructor, Spread, Transpose}
 use Rattle.fv_tree.specs.Plain.{Reshape, Reduce, Expressions, no_expressions, expression, Subscript, Only, Section}
@@ -42,11 +42,10 @@ use Rattle.fv_tree.specs.Plain.{Subscripts, no_subscripts, subscript, subscripts
 use Rattle.fv_tree.specs.declared.functions.Fun.{Fun}
 use Rattle.fv_tree.specs.declared.ops.Value.TheVariants.{Int, Truth as TruthValue}
 use Rattle.fv_tree.specs.declared.ops.Value.{Value}
-use Rattle.fv_tree.specs.OperatorTable as table
-use Rattle.std.specs.Prelude.{ℤ, pos, negsuc}
+use Rattle.std.specs.Prelude.{pos, negsuc}
 use Rattle.listings_read.proofs.Counts.{count, count_each, count_in, count_one, two}
 use Rattle.listings_read.specs.Laws.{SourceIsShort}
-use Rattle.listings_read.specs.Uses.{uses_of, uses_assigned, uses_assigned_in, uses_assigned_in_arms}
+use Rattle.listings_read.specs.Uses.{uses_of, uses_assigned_in, uses_assigned_in_arms}
 
 -- ---- names among words
 

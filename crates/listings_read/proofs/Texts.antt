@@ -1,5 +1,5 @@
 -- How many names stand in the texts of loops from 1 by 1, and in a statement in such loops.
-use Rattle.std.proofs.Common.{◌≡◌, ◌⊎◌, inl, inr, refl, ap, ◌∙◌, ℕ, zero, suc, ◌+◌, ◌*◌, ◌≤◌, ◌<◌, ◌^◌, ℤ, pos, Bool, true, false}
+use Rattle.std.proofs.Common.{◌≡◌, inl, inr, refl, ap, ℕ, zero, suc, ◌+◌, ◌*◌, ◌≤◌, ◌<◌, ◌^◌, ℤ, pos, Bool, true, false}
 use Rattle.std.proofs.Common.{cond, List, [], ◌∷◌, ◌++◌, length, Option, Some, None, arith, length-append}
 use Rattle.std.proofs.lemmas.Bool.{leb-true}
 use Rattle.std.specs.List.{list_any}
@@ -13,13 +13,13 @@ use Rattle.fv_rewrite.specs.Names.{uses_in, mentions}
 use Rattle.fv_rewrite.specs.Substituting.{is_scalar, substituting}
 use Rattle.fv_rewrite.specs.declared.uses.Use.{Use}
 use Rattle.fv_tree.specs.Plain.{Expression, Number, Logic, Named, Unary, Binary, Apply, Constructor, Spread, Transpose}
-use Rattle.fv_tree.specs.Plain.{Reshape, Reduce, no_subscripts, subscript}
+use Rattle.fv_tree.specs.Plain.{Reshape, Reduce}
 use Rattle.fv_tree.specs.declared.ops.Op.TheVariants.{Div}
 use Rattle.last_values.specs.InPlace.{first_text, own_trip_text, end_text}
 use Rattle.linear_forms.proofs.Sizes.{both, dropped}
 use Rattle.linear_forms.specs.Canonical.{canonising, text_or}
-use Rattle.linear_forms.specs.Expressed.{with_terms, with_constant, variables}
-use Rattle.linear_forms.specs.Linear.{Form, form_of, is_small, all_small, not_zero, is_limited}
+use Rattle.linear_forms.specs.Expressed.{with_terms, variables}
+use Rattle.linear_forms.specs.Linear.{Form, form_of, is_small, all_small, not_zero}
 use Rattle.linear_forms.specs.Texts.{places_behind, text_of, with_symbols}
 use Rattle.loop_normal.specs.Values.{with_value, in_text, statement_with_values, normal_statement}
 use Rattle.nest_rewrite.specs.Rewritten.{rewritten_statement}
@@ -29,7 +29,7 @@ use Rattle.normal_forms.specs.NormalLoops.{counters_of}
 use Rattle.normal_forms.specs.Texts.{quotient, trip_text, counter_first, value_text}
 use Rattle.normal_forms.specs.declared.loops.NormalLoop.{NormalLoop}
 use Rattle.subscripts.specs.declared.affine.Affine.{Affine}
-use Rattle.listings_read.proofs.Counts.{count, count_of, Growth, Grows, statement_grown, unguarded, so_far, terms_count}
+use Rattle.listings_read.proofs.Counts.{count, count_of, Growth, Grows, statement_grown, unguarded, terms_count}
 use Rattle.listings_read.proofs.Counts.{constant_count, total, total_least, AreFew, symbols_count}
 use Rattle.listings_read.proofs.Sizes.{IsSized, HasSizes}
 

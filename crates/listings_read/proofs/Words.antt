@@ -1,13 +1,13 @@
 -- The names of a program, and those of counters, have no blanks.
-use Rattle.std.proofs.Common.{◌≡◌, refl, ℕ, ◌<◌, ◌≤◌, ◌==◌, Bool, true, false, cond, not, ◌&&◌, ◌||◌, List, [], ◌∷◌}
-use Rattle.std.proofs.Common.{◌++◌, codes, decimal, arith, lit<}
+use Rattle.std.proofs.Common.{◌≡◌, refl, ℕ, ◌<◌, ◌≤◌, ◌==◌, Bool, true, false, not, ◌&&◌, ◌||◌, List, [], ◌∷◌}
+use Rattle.std.proofs.Common.{codes, decimal, arith, lit<}
 use Rattle.std.proofs.lemmas.Bool.{and_parts, leb-true, ne_eqb}
 use Rattle.std.specs.List.{list_all}
 use Rattle.std.specs.Prelude.{nat_le}
 use Rattle.fv_meaning.specs.Names.{IsSymbolicName, is_letter, is_digit}
 use Rattle.listing_reader.proofs.Numbers.{number-lacks}
 use Rattle.listing_reader.proofs.Parts.{lacks-append}
-use Rattle.listing_reader.specs.Listable.{IsWord, Lacks}
+use Rattle.listing_reader.specs.Listable.{IsWord}
 use Rattle.normal_forms.specs.NormalLoops.{counter_name}
 
 above : (low high c : ℕ) → 32 < low → (nat_le low c && nat_le c high) ≡ true → (c == 32) ≡ false
