@@ -1,5 +1,6 @@
 -- The edges and drops of the graph of a nest can be listed.
-use Rattle.std.proofs.Common.{◌≡◌, refl, sym, subst, ℕ, zero, suc, ◌+◌, ◌≤◌, ◌^◌, Bool, true, false, cond, Option, Some, None}
+use Rattle.std.proofs.Common.{◌≡◌, refl, sym, subst, ℕ, zero, suc, ◌+◌, ◌≤◌, ◌^◌, Bool, true, false, cond, Option, Some}
+use Rattle.std.proofs.Common.{None}
 use Rattle.std.proofs.Common.{List, [], ◌∷◌, ◌++◌, length, take, arith}
 use Rattle.std.proofs.lemmas.List.Elements.{All-head, All-tail}
 use Rattle.std.proofs.lemmas.Option.{slice_get_within}
@@ -62,7 +63,8 @@ module _ (loops : List (List ℕ)) where
     named : (e : Expression) → IsOver IsWord e → AreNamed (references_in loops e)
     named (Number n) h = tt
     named (Logic b) h = tt
-    named (Named x ss) h = several (own_reference loops x ss) (references_in_subscripts loops ss) (own x ss h.0) (named_subscripts ss h.1)
+    named (Named x ss) h = several (own_reference loops x ss) (references_in_subscripts loops ss) (own x ss h.0)
+        (named_subscripts ss h.1)
     named (Unary o a) h = named a h
     named (Binary o a b) h = several (references_in loops a) (references_in loops b) (named a h.0) (named b h.1)
     named (Apply f es) h = named_each es h
@@ -74,12 +76,14 @@ module _ (loops : List (List ℕ)) where
 
     named_each : (es : Expressions) → EachIsOver IsWord es → AreNamed (references_in_all loops es)
     named_each no_expressions h = tt
-    named_each (expression e es) h = several (references_in loops e) (references_in_all loops es) (named e h.0) (named_each es h.1)
+    named_each (expression e es) h = several (references_in loops e) (references_in_all loops es) (named e h.0)
+        (named_each es h.1)
 
     named_subscripts : (ss : Subscripts) → AreOver IsWord ss → AreNamed (references_in_subscripts loops ss)
     named_subscripts no_subscripts h = tt
     named_subscripts (subscript s ss) h =
-        several (references_in_subscript loops s) (references_in_subscripts loops ss) (named_subscript s h.0) (named_subscripts ss h.1)
+        several (references_in_subscript loops s) (references_in_subscripts loops ss) (named_subscript s h.0)
+            (named_subscripts ss h.1)
 
     named_subscript : (s : Subscript) → OneIsOver IsWord s → AreNamed (references_in_subscript loops s)
     named_subscript (Only e) h = named e h
@@ -96,8 +100,10 @@ references_named s t =
     let left = references_in_subscripts loops s.statement.left.subscripts in
     let right = references_in loops s.statement.right in (
       h.name,
-      several (references_in_guard loops s.statement.guard) (left ++ right) (named_guard loops s.statement.guard h.guard)
-          (several left right (named_subscripts loops s.statement.left.subscripts h.left) (named loops s.statement.right h.right)),
+      several (references_in_guard loops s.statement.guard) (left ++ right)
+          (named_guard loops s.statement.guard h.guard)
+          (several left right (named_subscripts loops s.statement.left.subscripts h.left)
+              (named loops s.statement.right h.right)),
     )
 
 -- ---- levels
@@ -116,7 +122,8 @@ at P [] k x h e = let no : ⊥ = cc in absurd no
 at P (y ∷ xs) zero x h e = let same : y ≡ x = cc in subst P same h.0
 at P (y ∷ xs) (suc k) x h e = at P xs k x h.1 e
 
-with_one : {A : Type 0} (P : A → Type 0) (o : Option A) (xs : List A) → ((x : A) → o ≡ Some x → P x) → AllByRecursion P xs → AllByRecursion P (with_some o xs)
+with_one : {A : Type 0} (P : A → Type 0) (o : Option A) (xs : List A) → ((x : A) → o ≡ Some x → P x)
+    → AllByRecursion P xs → AllByRecursion P (with_some o xs)
 with_one P None xs h k = k
 with_one P (Some x) xs h k = (h x refl, k)
 
@@ -149,29 +156,38 @@ module _ (m : Nest) (ready : IsReady m) (tidy : IsTidyNest m) (few : length (nes
       record {
         from = place c.from h.refs.first h.refs.first_reference first;
         to = place c.to h.refs.second h.refs.second_reference h.refs.second_is;
-        array = subst IsWord (sym h.array) (at HasWord (references_of h.refs.first) c.from.at h.refs.first_reference (references_named h.refs.first t) first.reference);
+        array = subst IsWord (sym h.array) (at HasWord (references_of h.refs.first) c.from.at h.refs.first_reference
+            (references_named h.refs.first t) first.reference);
       }
 
   module _ (c : Couple) (is : IsCouple m c) where
-    edge : (d : Dirs) (v : Verdict) (e : Edge) → IsVectorOf c.refs d → IsEdgeRight m c d v → edge_of c d v ≡ Some e → IsListableEdge e
+    edge : (d : Dirs) (v : Verdict) (e : Edge) → IsVectorOf c.refs d → IsEdgeRight m c d v → edge_of c d v ≡ Some e
+        → IsListableEdge e
     edge d (Never w) e h k g = let no : ⊥ = cc in absurd no
     edge d (Assumed w) e h k g =
         let l = couple c is in
         let places = h.places in
         let most = level_most 0 d.at in
-        let same : e ≡ record { from = c.from; to = c.to; kind = c.kind; array = c.array; dirs = d; level = level_from 0 d.at; test = w; pair = None } = cc in
-        subst IsListableEdge (sym same) (record { from = l.from; to = l.to; array = l.array }, (omega (arith, places, most), tt))
+        let same : e ≡ record { from = c.from; to = c.to; kind = c.kind; array = c.array; dirs = d; level =
+            level_from 0 d.at; test = w; pair = None } = cc in
+        subst IsListableEdge (sym same) (record { from = l.from; to = l.to; array = l.array },
+            (omega (arith, places, most), tt))
     edge d (Pair x y w) e h k g =
         let l = couple c is in
         let places = h.places in
         let most = level_most 0 d.at in
-        let same : e ≡ record { from = c.from; to = c.to; kind = c.kind; array = c.array; dirs = d; level = level_from 0 d.at; test = w; pair = Some (x, y) } = cc in
+        let same : e ≡ record { from = c.from; to = c.to; kind = c.kind; array = c.array; dirs = d; level =
+            level_from 0 d.at; test = w; pair = Some (x, y) } = cc in
         let pair = k.least.pair in
-        let meeting : IsListableMeeting (record { first = take (depth_of ts c.from.stmt) x.at; second = take (depth_of ts c.to.stmt) y.at }) = record {
-          first = shown_small m ready pair.values c.from.stmt is.refs.first c.refs.from_spans x.at is.refs.first_is.statement is.refs.from_spans k.exact.from_fixed pair.first_instance;
-          second = shown_small m ready pair.values c.to.stmt is.refs.second c.refs.to_spans y.at is.refs.second_is.statement is.refs.to_spans k.exact.to_fixed pair.second_instance;
+        let meeting : IsListableMeeting (record
+            { first = take (depth_of ts c.from.stmt) x.at; second = take (depth_of ts c.to.stmt) y.at }) = record {
+          first = shown_small m ready pair.values c.from.stmt is.refs.first c.refs.from_spans x.at
+              is.refs.first_is.statement is.refs.from_spans k.exact.from_fixed pair.first_instance;
+          second = shown_small m ready pair.values c.to.stmt is.refs.second c.refs.to_spans y.at
+              is.refs.second_is.statement is.refs.to_spans k.exact.to_fixed pair.second_instance;
         } in
-        subst IsListableEdge (sym same) (record { from = l.from; to = l.to; array = l.array }, (omega (arith, places, most), meeting))
+        subst IsListableEdge (sym same) (record { from = l.from; to = l.to; array = l.array },
+            (omega (arith, places, most), meeting))
 
     drop : (d : Dirs) (v : Verdict) (e : Dropped) → drop_of c d v ≡ Some e → IsListableDrop e
     drop d (Pair x y w) e g = let no : ⊥ = cc in absurd no
@@ -181,28 +197,33 @@ module _ (m : Nest) (ready : IsReady m) (tidy : IsTidyNest m) (few : length (nes
         let same : e ≡ record { from = c.from; to = c.to; kind = c.kind; array = c.array; dirs = d; test = w } = cc in
         subst IsListableDrop (sym same) (record { from = l.from; to = l.to; array = l.array })
 
-    edges : (answers : List Answer) → All (λ (a : Answer). IsVectorOf c.refs a.0) answers → All (IsRightAnswer m c) answers
+    edges : (answers : List Answer) → All (λ (a : Answer). IsVectorOf c.refs a.0) answers
+        → All (IsRightAnswer m c) answers
         → AllByRecursion IsListableEdge (edges_of c answers)
     edges [] h k = tt
     edges (a ∷ more) h k =
         with_one IsListableEdge (edge_of c a.0 a.1) (edges_of c more)
-        (λ e g. edge a.0 a.1 e (All-head (λ (b : Answer). IsVectorOf c.refs b.0) a more h) (All-head (IsRightAnswer m c) a more k).edge g)
+        (λ e g. edge a.0 a.1 e (All-head (λ (b : Answer). IsVectorOf c.refs b.0) a more h)
+            (All-head (IsRightAnswer m c) a more k).edge g)
         (edges more (All-tail (λ (b : Answer). IsVectorOf c.refs b.0) a more h) (All-tail (IsRightAnswer m c) a more k))
 
     drops : (answers : List Answer) → AllByRecursion IsListableDrop (drops_of c answers)
     drops [] = tt
-    drops (a ∷ more) = with_one IsListableDrop (drop_of c a.0 a.1) (drops_of c more) (λ e g. drop a.0 a.1 e g) (drops more)
+    drops (a ∷ more) = with_one IsListableDrop (drop_of c a.0 a.1) (drops_of c more) (λ e g. drop a.0 a.1 e g)
+        (drops more)
 
   every_edge : (cs : List Couple) → All (IsCouple m) cs → AllByRecursion IsListableEdge (all_edges cs)
   every_edge [] h = tt
   every_edge (c ∷ cs) h =
       let is = All-head (IsCouple m) c cs h in
-      joined IsListableEdge (edges_of c c.answers) (all_edges cs) (edges c is c.answers is.vectors is.right) (every_edge cs (All-tail (IsCouple m) c cs h))
+      joined IsListableEdge (edges_of c c.answers) (all_edges cs) (edges c is c.answers is.vectors is.right)
+          (every_edge cs (All-tail (IsCouple m) c cs h))
 
   every_drop : (cs : List Couple) → All (IsCouple m) cs → AllByRecursion IsListableDrop (all_drops cs)
   every_drop [] h = tt
   every_drop (c ∷ cs) h =
-      joined IsListableDrop (drops_of c c.answers) (all_drops cs) (drops c (All-head (IsCouple m) c cs h) c.answers) (every_drop cs (All-tail (IsCouple m) c cs h))
+      joined IsListableDrop (drops_of c c.answers) (all_drops cs) (drops c (All-head (IsCouple m) c cs h) c.answers)
+          (every_drop cs (All-tail (IsCouple m) c cs h))
 
   pub graph_edges : (g : Graph) → IsGraphOf m g → AllByRecursion IsListableEdge g.edges
   graph_edges g h = subst (AllByRecursion IsListableEdge) (sym h.edges) (every_edge h.couples h.each)

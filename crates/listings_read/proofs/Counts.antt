@@ -7,7 +7,8 @@ use Rattle.std.specs.Option.{option_map}
 use Rattle.std.specs.Ordering.{int_eq}
 use Rattle.std.specs.Prelude.{slice_get, ◌==◌}
 use Rattle.components.specs.Lists.{Each}
-use Rattle.fv_rewrite.specs.Making.{Making, made, made_expressions, made_subscripts, made_subscript, made_loops, made_parts}
+use Rattle.fv_rewrite.specs.Making.{Making, made, made_expressions, made_subscripts, made_subscript, made_loops}
+use Rattle.fv_rewrite.specs.Making.{made_parts}
 use Rattle.fv_rewrite.specs.Making.{made_left}
 use Rattle.fv_rewrite.specs.Names.{uses_in, uses_in_expressions, uses_in_subscripts, uses_in_subscript, uses_in_loops}
 use Rattle.fv_rewrite.specs.Names.{uses_in_target}
@@ -227,7 +228,8 @@ module _ (m : Making) (grows : Grows m) where
         let k = two (uses_in a ++ uses_in b) (uses_in_loops ls) in
         let l = two (uses_in a) (uses_in b) in omega (arith, f, g, h, i, j, k, l)
 
-  pub statement_grown : ((r : Reference) → m.left r ≡ r) → (s : Guarded) → count_of (rewritten_statement m s) ≤ 16 * count_of s
+  pub statement_grown : ((r : Reference) → m.left r ≡ r) → (s : Guarded)
+      → count_of (rewritten_statement m s) ≤ 16 * count_of s
   statement_grown same s =
       let left : length (uses_in_target (made_left m s.left)) ≡ length (uses_in_target (made_parts m s.left)) =
       ap (λ (r : Reference). length (uses_in_target r)) (same (made_parts m s.left)) in
@@ -265,14 +267,17 @@ one_more o (negsuc n) t =
     let f = minus_count o (term (suc n) t) in let g = term_count (suc n) t in omega (arith, f, g)
 
 -- one for each coefficient other than 0
-pub terms_count : (o : Option Expression) (cs : List ℤ) (xs : List (List ℕ)) → so_far (with_terms o cs (variables xs)) ≤ so_far o + not_zero cs
+pub terms_count : (o : Option Expression) (cs : List ℤ) (xs : List (List ℕ))
+    → so_far (with_terms o cs (variables xs)) ≤ so_far o + not_zero cs
 terms_count o [] xs = omega arith
 terms_count o (c ∷ cs) [] = omega arith
 terms_count o (c ∷ cs) (x ∷ xs) = by (int_eq c (pos 0)) refl (terms_count (with_term o c (variable x)) cs xs)
   where
     by : (b : Bool) → int_eq c (pos 0) ≡ b
-        → so_far (with_terms (with_term o c (variable x)) cs (variables xs)) ≤ so_far (with_term o c (variable x)) + not_zero cs
-        → so_far (with_terms (with_term o c (variable x)) cs (variables xs)) ≤ so_far o + cond b (not_zero cs) (suc (not_zero cs))
+        → so_far (with_terms (with_term o c (variable x)) cs (variables xs)) ≤ so_far (with_term o c (variable x))
+            + not_zero cs
+        → so_far (with_terms (with_term o c (variable x)) cs (variables xs)) ≤ so_far o + cond b (not_zero cs)
+            (suc (not_zero cs))
     by true e h =
         let same : so_far (with_term o c (variable x)) ≡ so_far o =
         ap (λ (z : ℤ). so_far (with_term o z (variable x))) ((Decides-int_eq c (pos 0)).0 e) in omega (arith, h, same)
@@ -309,7 +314,8 @@ symbols_count m o [] ts h = omega arith
 symbols_count m o (s ∷ ss) ts h = by (λ q. symbols_count m q ss ts h) (slice_get ts s.0) refl
   where
     by : ((p : Option Expression) → so_far (with_symbols p ss ts) ≤ so_far p + total m (length ss))
-        → (q : Option Expression) → slice_get ts s.0 ≡ q → so_far (with_symbols (with_place o s.1 q) ss ts) ≤ so_far o + (m + total m (length ss))
+        → (q : Option Expression) → slice_get ts s.0 ≡ q
+            → so_far (with_symbols (with_place o s.1 q) ss ts) ≤ so_far o + (m + total m (length ss))
     by rest None e = let f = rest o in omega (arith, f)
     by rest (Some t) e =
         let f = rest (with_term o s.1 t) in

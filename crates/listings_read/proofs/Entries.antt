@@ -41,25 +41,32 @@ several = joined IsListable
 -- ---- loops and statements
 
 mutual
-  loops : (round : List Loop) (outer : ℕ) (p : Part) → IsSmall outer → EachLoop IsTidyIn round p → AreListable (loop_entries outer p)
+  loops : (round : List Loop) (outer : ℕ) (p : Part) → IsSmall outer → EachLoop IsTidyIn round p
+      → AreListable (loop_entries outer p)
   loops round outer (Run s) o h = tt
   loops round outer (Turns l ps) o h =
       ((h.0.number, (h.0.variable, o)), loops_in (round ++ l ∷ []) l.number ps h.0.number h.1)
   loops round outer (Choice bs ps) o h =
-      several (loop_entries_under outer bs) (loop_entries_in outer ps) (loops_under round outer bs o h.0) (loops_in round outer ps o h.1)
+      several (loop_entries_under outer bs) (loop_entries_in outer ps) (loops_under round outer bs o h.0)
+          (loops_in round outer ps o h.1)
   loops round outer (Label n) o h = tt
   loops round outer (Jump n) o h = tt
 
-  loops_in : (round : List Loop) (outer : ℕ) (ps : Parts) → IsSmall outer → EachLoopIn IsTidyIn round ps → AreListable (loop_entries_in outer ps)
+  loops_in : (round : List Loop) (outer : ℕ) (ps : Parts) → IsSmall outer → EachLoopIn IsTidyIn round ps
+      → AreListable (loop_entries_in outer ps)
   loops_in round outer no_parts o h = tt
-  loops_in round outer (part p ps) o h = several (loop_entries outer p) (loop_entries_in outer ps) (loops round outer p o h.0) (loops_in round outer ps o h.1)
+  loops_in round outer (part p ps) o h = several (loop_entries outer p) (loop_entries_in outer ps)
+      (loops round outer p o h.0) (loops_in round outer ps o h.1)
 
-  loops_under : (round : List Loop) (outer : ℕ) (bs : Branches) → IsSmall outer → EachLoopUnder IsTidyIn round bs → AreListable (loop_entries_under outer bs)
+  loops_under : (round : List Loop) (outer : ℕ) (bs : Branches) → IsSmall outer → EachLoopUnder IsTidyIn round bs
+      → AreListable (loop_entries_under outer bs)
   loops_under round outer no_branches o h = tt
   loops_under round outer (branch test ps bs) o h =
-      several (loop_entries_in outer ps) (loop_entries_under outer bs) (loops_in round outer ps o h.0) (loops_under round outer bs o h.1)
+      several (loop_entries_in outer ps) (loop_entries_under outer bs) (loops_in round outer ps o h.0)
+          (loops_under round outer bs o h.1)
 
-statements : (s : ℕ) (ts : List Standing) → s + length ts ≤ 2 ^ 41 → AllByRecursion IsTidy ts → AreListable (statement_entries s ts)
+statements : (s : ℕ) (ts : List Standing) → s + length ts ≤ 2 ^ 41 → AllByRecursion IsTidy ts
+    → AreListable (statement_entries s ts)
 statements s [] l h = tt
 statements s (t ∷ ts) l h = ((omega (arith, l), h.0.loops), statements (suc s) ts (omega (arith, l)) h.1)
 
@@ -95,10 +102,12 @@ module _ (ts : List Standing) where
   ruled_out [] h = tt
   ruled_out (d ∷ ds) h = (h.0, ruled_out ds h.1)
 
-  answers : (es : List Edge) (ds : List Dropped) → AllByRecursion HasEdge es → AreDrops ds → AllByRecursion HasEntry (in_order es ds)
+  answers : (es : List Edge) (ds : List Dropped) → AllByRecursion HasEdge es → AreDrops ds
+      → AllByRecursion HasEntry (in_order es ds)
   answers [] ds h k = ruled_out ds k
   answers (e ∷ es) ds h k =
-      joined HasEntry (map RuledOut (before e ds)) (Found e ∷ in_order es (not_before e ds)) (ruled_out (before e ds) (drops_before e ds k))
+      joined HasEntry (map RuledOut (before e ds)) (Found e ∷ in_order es (not_before e ds))
+          (ruled_out (before e ds) (drops_before e ds k))
       (h.0, answers es (not_before e ds) h.1 (drops_behind e ds k))
 
   each_answer : (xs : List Answered) → AllByRecursion HasEntry xs → AreListable (map (answer_entry ts) xs)
@@ -115,28 +124,35 @@ held s k None h l = tt
 held s k (Some r) h l = (record { statement = h; level = l }, tt)
 
 -- what comes of each of n numbers from k on
-from_each : (f : ℕ → List Hold) (most k n : ℕ) → k + n ≤ most → ((j : ℕ) → j < most → AreHolds (f j)) → AreHolds (flat_map f (counted k n))
+from_each : (f : ℕ → List Hold) (most k n : ℕ) → k + n ≤ most → ((j : ℕ) → j < most → AreHolds (f j))
+    → AreHolds (flat_map f (counted k n))
 from_each f most k zero l h = tt
 from_each f most k (suc n) l h =
-    joined IsListableHold (f k) (flat_map f (counted (k + 1) n)) (h k (omega (arith, l))) (from_each f most (k + 1) n (omega (arith, l)) h)
+    joined IsListableHold (f k) (flat_map f (counted (k + 1) n)) (h k (omega (arith, l)))
+        (from_each f most (k + 1) n (omega (arith, l)) h)
 
 module _ (m : Nest) (ready : IsReady m) where
   shallow : (k : ℕ) → length (slice_index_or (nest_statements m) k no_statement).loops ≤ 7
   shallow k = by (cases_lt k (length (nest_statements m)))
     where
-      by : (k < length (nest_statements m)) ⊎ (length (nest_statements m) ≤ k) → length (slice_index_or (nest_statements m) k no_statement).loops ≤ 7
+      by : (k < length (nest_statements m)) ⊎ (length (nest_statements m) ≤ k)
+          → length (slice_index_or (nest_statements m) k no_statement).loops ≤ 7
       by (inl g) = (ready.statements k no_statement g).depth
       by (inr g) =
-          subst (λ (x : Standing). length x.loops ≤ 7) (sym (get_or_past (nest_statements m) k no_statement g)) (omega arith)
+          subst (λ (x : Standing). length x.loops ≤ 7) (sym (get_or_past (nest_statements m) k no_statement g))
+              (omega arith)
 
   holds_at : (s : ℕ) → IsSmall s → AreHolds (holds_of m s)
   holds_at s h =
       let few = shallow (s - 1) in
-      from_each (hold_at_level s (surroundings_at m s) (statement_at m s).statement.left) 8 1 (length (statement_at m s).loops) (omega (arith, few))
-      (λ j l. held s j (reason_of (forms.hold_at (surroundings_at m s) j (statement_at m s).statement.left)) h (omega (arith, l)))
+      from_each (hold_at_level s (surroundings_at m s) (statement_at m s).statement.left) 8 1
+          (length (statement_at m s).loops) (omega (arith, few))
+      (λ j l. held s j (reason_of (forms.hold_at (surroundings_at m s) j (statement_at m s).statement.left)) h
+          (omega (arith, l)))
 
   every_hold : length (nest_statements m) ≤ 2 ^ 40 → AreHolds (all_holds m)
-  every_hold few = from_each (holds_of m) (2 ^ 41) 1 (length (nest_statements m)) (omega (arith, few)) (λ j l. holds_at j (omega (arith, l)))
+  every_hold few = from_each (holds_of m) (2 ^ 41) 1 (length (nest_statements m)) (omega (arith, few))
+      (λ j l. holds_at j (omega (arith, l)))
 
 hold_list : (hs : List Hold) → AreHolds hs → AreListable (hold_entries hs)
 hold_list [] h = tt
@@ -144,7 +160,8 @@ hold_list (x ∷ hs) h = (h.0, hold_list hs h.1)
 
 -- ---- all entries of a nest
 
-pub nest_listable : (m : Nest) (number : ℕ) (g : Graph) → IsSmall number → IsSmall m.line → IsReady m → IsTidyNest m → length (nest_statements m) ≤ 2 ^ 40 → IsGraphOf m g
+pub nest_listable : (m : Nest) (number : ℕ) (g : Graph) → IsSmall number → IsSmall m.line → IsReady m → IsTidyNest m
+    → length (nest_statements m) ≤ 2 ^ 40 → IsGraphOf m g
     → AreListable (tested_entries number m g)
 nest_listable m number g a b ready tidy few h =
     let ts = nest_statements m in

@@ -128,7 +128,8 @@ module _ (ds : List Declaration) (known : (x : List ℕ) (d : Declaration) → d
   assigned line left right w h = by (declared ds left.name) refl h.0
     where
       by : (o : Option Declaration) → declared ds left.name ≡ o
-          → IsSomeAnd o (λ (d : Declaration). IsWhole ds (Named left.name left.subscripts) d.kind × IsWhole ds right d.kind)
+          → IsSomeAnd o (λ (d : Declaration).
+              IsWhole ds (Named left.name left.subscripts) d.kind × IsWhole ds right d.kind)
           → IsStatementOver IsWord (record { line = line; guard = None; left = left; right = right })
       by None e g = absurd g
       by (Some d) e g =
@@ -143,13 +144,17 @@ module _ (ds : List Declaration) (known : (x : List ℕ) (d : Declaration) → d
   followed (p ∷ ps) qs h k = (h.0, followed ps qs h.1 k)
 
   mutual
-    fair : (k : ℕ) (c : Statement) (w : Surroundings) → IsNumber k → uses_assigned c < 2 ^ 31 → IsStatement ds c w → Fair (parts_of k c)
-    fair k (Assignment l mark left right) w n u h = (record { over = assigned l left right w h.2; unguarded = refl; few = u }, tt)
+    fair : (k : ℕ) (c : Statement) (w : Surroundings) → IsNumber k → uses_assigned c < 2 ^ 31 → IsStatement ds c w
+        → Fair (parts_of k c)
+    fair k (Assignment l mark left right) w n u h =
+        (record { over = assigned l left right w h.2; unguarded = refl; few = u }, tt)
     fair k (Where l mark mask left right) w n u h = absurd h
     fair k (If l arms other) w n u h =
-        ((fair_arms k arms w n (omega (arith, u)) h.2, fair_block (after_arms k arms) other w (arms_number k arms n) (omega (arith, u)) h.3), tt)
+        ((fair_arms k arms w n (omega (arith, u)) h.2, fair_block (after_arms k arms) other w (arms_number k arms n)
+            (omega (arith, u)) h.3), tt)
     fair k (Do l x a b c body) w n u h = (
-      (record { variable = declared_name x _ h.1.integer.0; number = next_number k n }, fair_block (next k) body (within_loop x w) (next_number k n) u h.5),
+      (record { variable = declared_name x _ h.1.integer.0; number = next_number k n }, fair_block (next k) body
+          (within_loop x w) (next_number k n) u h.5),
       tt,
     )
     fair k (Label m) w n u h = (tt, tt)
@@ -160,16 +165,20 @@ module _ (ds : List Declaration) (known : (x : List ℕ) (d : Declaration) → d
     fair k (Allocate l x vs) w n u h = absurd h
     fair k (Deallocate l x) w n u h = absurd h
 
-    fair_arms : (k : ℕ) (arms : Arms) (w : Surroundings) → IsNumber k → uses_assigned_in_arms arms < 2 ^ 31 → AreArms ds arms w
+    fair_arms : (k : ℕ) (arms : Arms) (w : Surroundings) → IsNumber k → uses_assigned_in_arms arms < 2 ^ 31
+        → AreArms ds arms w
         → EachInBranches IsFairStatement IsFairLoop (branches_of k arms)
     fair_arms k no_arms w n u h = tt
     fair_arms k (arm test body arms) w n u h =
-        (fair_block k body w n (omega (arith, u)) h.1, fair_arms (after_block k body) arms w (block_number k body n) (omega (arith, u)) h.2)
+        (fair_block k body w n (omega (arith, u)) h.1, fair_arms (after_block k body) arms w (block_number k body n)
+            (omega (arith, u)) h.2)
 
-    fair_block : (k : ℕ) (b : Block) (w : Surroundings) → IsNumber k → uses_assigned_in b < 2 ^ 31 → IsBlock ds b w → Fair (parts_of_block k b)
+    fair_block : (k : ℕ) (b : Block) (w : Surroundings) → IsNumber k → uses_assigned_in b < 2 ^ 31 → IsBlock ds b w
+        → Fair (parts_of_block k b)
     fair_block k no_statements w n u h = tt
     fair_block k (statement c cs) w n u h =
-        followed (parts_of k c) (parts_of_block (after k c) cs) (fair k c (before_labels (labels_of cs) w) n (omega (arith, u)) h.0)
+        followed (parts_of k c) (parts_of_block (after k c) cs)
+            (fair k c (before_labels (labels_of cs) w) n (omega (arith, u)) h.0)
         (fair_block (after k c) cs w (after_number k c n) (omega (arith, u)) h.1)
 
 -- ---- the loops of the program
@@ -179,15 +188,18 @@ pub record Fits (q : Placed) : Type 0 where
   pub few : uses_assigned_in q.loop.loop.body < 2 ^ 31
 
 mutual
-  fits : (k : ℕ) (around : List SourceLoop) (c : Statement) → IsNumber k → uses_assigned c < 2 ^ 31 → Each Fits (loops_in k around c)
+  fits : (k : ℕ) (around : List SourceLoop) (c : Statement) → IsNumber k → uses_assigned c < 2 ^ 31
+      → Each Fits (loops_in k around c)
   fits k around (Assignment l mark left right) n u = tt
   fits k around (Where l mark mask left right) n u = tt
   fits k around (If l arms other) n u =
-      Each-append Fits (loops_in_arms k around arms) (loops_in_block (after_arms k arms) around other) (fits_arms k around arms n (omega (arith, u)))
+      Each-append Fits (loops_in_arms k around arms) (loops_in_block (after_arms k arms) around other)
+          (fits_arms k around arms n (omega (arith, u)))
       (fits_block (after_arms k arms) around other (arms_number k arms n) (omega (arith, u)))
   fits k around (Do l x a b c body) n u = (
     record { before = n; few = u },
-    fits_block (next k) (around ++ record { line = l; variable = x; first = a; last = b; step = c; body = body } ∷ []) body (next_number k n) u,
+    fits_block (next k) (around ++ record { line = l; variable = x; first = a; last = b; step = c; body = body } ∷ [])
+        body (next_number k n) u,
   )
   fits k around (Label m) n u = tt
   fits k around (GoTo l m) n u = tt
@@ -197,31 +209,38 @@ mutual
   fits k around (Allocate l x es) n u = tt
   fits k around (Deallocate l x) n u = tt
 
-  fits_arms : (k : ℕ) (around : List SourceLoop) (arms : Arms) → IsNumber k → uses_assigned_in_arms arms < 2 ^ 31 → Each Fits (loops_in_arms k around arms)
+  fits_arms : (k : ℕ) (around : List SourceLoop) (arms : Arms) → IsNumber k → uses_assigned_in_arms arms < 2 ^ 31
+      → Each Fits (loops_in_arms k around arms)
   fits_arms k around no_arms n u = tt
   fits_arms k around (arm test body arms) n u =
-      Each-append Fits (loops_in_block k around body) (loops_in_arms (after_block k body) around arms) (fits_block k around body n (omega (arith, u)))
+      Each-append Fits (loops_in_block k around body) (loops_in_arms (after_block k body) around arms)
+          (fits_block k around body n (omega (arith, u)))
       (fits_arms (after_block k body) around arms (block_number k body n) (omega (arith, u)))
 
-  fits_block : (k : ℕ) (around : List SourceLoop) (b : Block) → IsNumber k → uses_assigned_in b < 2 ^ 31 → Each Fits (loops_in_block k around b)
+  fits_block : (k : ℕ) (around : List SourceLoop) (b : Block) → IsNumber k → uses_assigned_in b < 2 ^ 31
+      → Each Fits (loops_in_block k around b)
   fits_block k around no_statements n u = tt
   fits_block k around (statement c cs) n u =
-      Each-append Fits (loops_in k around c) (loops_in_block (after k c) around cs) (fits k around c n (omega (arith, u)))
+      Each-append Fits (loops_in k around c) (loops_in_block (after k c) around cs)
+          (fits k around c n (omega (arith, u)))
       (fits_block (after k c) around cs (after_number k c n) (omega (arith, u)))
 
 -- ---- the numbers of nests
 
 module _ (p : Program) where
-  numbered : (k : ℕ) (ls : List Numbered) (n : Nest) → IsNumber k → Contains (found_among p k ls) (InNest n) → IsNumber n.number
+  numbered : (k : ℕ) (ls : List Numbered) (n : Nest) → IsNumber k → Contains (found_among p k ls) (InNest n)
+      → IsNumber n.number
   numbered k [] n h c = absurd (nowhere (InNest n) c)
   numbered k (l ∷ ls) n h c =
       by (reason_of p.declarations l.loop) (λ j g d. numbered j ls n g d)
-      (cases_of (found_as p k l (reason_of p.declarations l.loop)) (found_among p (nests_with k (reason_of p.declarations l.loop)) ls) (InNest n) c)
+      (cases_of (found_as p k l (reason_of p.declarations l.loop))
+          (found_among p (nests_with k (reason_of p.declarations l.loop)) ls) (InNest n) c)
     where
       by : (o : Option Reason) → ((j : ℕ) → IsNumber j → Contains (found_among p j ls) (InNest n) → IsNumber n.number)
           → (found_as p k l o ≡ InNest n) ⊎ Contains (found_among p (nests_with k o) ls) (InNest n) → IsNumber n.number
       by None more (inl e) =
-          let same : nest_of_loop p (next k) l ≡ n = cc in subst (λ (m : Nest). IsNumber m.number) same (next_number k h)
+          let same : nest_of_loop p (next k) l ≡ n = cc in
+          subst (λ (m : Nest). IsNumber m.number) same (next_number k h)
       by None more (inr d) = more (next k) (next_number k h) d
       by (Some r) more (inl e) = let no : ⊥ = cc in absurd no
       by (Some r) more (inr d) = more k h d
@@ -246,21 +265,24 @@ module _ (d : Dialect) (p : Program) (is : IsProgram77 d p) (short : IsShort p) 
   symbol_name : (x : List ℕ) (body : Block) (y : List ℕ) → In y (symbols_of ds x body) → IsWord y
   symbol_name x body y i =
       let c = chosen (is_symbol x (names_written_in body)) ds y i in
-      subst IsWord (sym c.name) (name c.declaration.name (all_at (IsDeclaration d) ds c.declaration is.declarations.each c.among).name)
+      subst IsWord (sym c.name)
+      (name c.declaration.name (all_at (IsDeclaration d) ds c.declaration is.declarations.each c.among).name)
 
   pub found_fair : (n : Nest) → Contains (found_in p) (InNest n) → IsFairNest n
   found_fair n h =
       let f = found_nest_is_loop p n h in
       let l = f.loop.loop in
       let s = loop_stands ds p.body 0 [] outermost f.loop is.statements f.stands in
-      let fit = Each-Contains Fits (loops_in_block 0 [] p.body) f.loop (fits_block 0 [] p.body (omega arith) short) f.stands in
+      let fit = Each-Contains Fits (loops_in_block 0 [] p.body) f.loop (fits_block 0 [] p.body (omega arith) short)
+          f.stands in
       let number = numbered p 0 (looked_at p.declarations p.body) n (omega arith) h in
       subst IsFairNest (sym f.is)
       (record {
         number = number;
         line = s.is.0.1;
         body = (fair ds known_name l.before (as_statement l.loop) s.round fit.before fit.few s.is).0;
-        symbols = each_from IsWord (symbols_of ds l.loop.variable l.loop.body) (symbol_name l.loop.variable l.loop.body);
+        symbols = each_from IsWord (symbols_of ds l.loop.variable l.loop.body)
+            (symbol_name l.loop.variable l.loop.body);
       })
 
   pub kept_line : (line : ℕ) (r : Reason) → Contains (found_in p) (Kept line r) → line < 2 ^ 32

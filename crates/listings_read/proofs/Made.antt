@@ -64,26 +64,34 @@ record AreUnder (round : List NormalLoop) (ls : List Loop) : Type 0 where
   tidy : Each IsTidyLoop ls
 
 module _ (n : Nest) (names : IsFairNest n) where
-  counter_word : (round : List NormalLoop) (ls : List Loop) (l : Loop) (r : NormalLoop) → AreUnder round ls → IsFairLoop l → normal_loop n.symbols round l ≡ Some r → IsWord r.counter
-  counter_word round ls l r u f e = subst IsWord (sym (normal_loop_is n.symbols round l r u.loops.zeros e).counter) (counter l.number f.number)
+  counter_word : (round : List NormalLoop) (ls : List Loop) (l : Loop) (r : NormalLoop) → AreUnder round ls
+      → IsFairLoop l → normal_loop n.symbols round l ≡ Some r → IsWord r.counter
+  counter_word round ls l r u f e = subst IsWord (sym (normal_loop_is n.symbols round l r u.loops.zeros e).counter)
+      (counter l.number f.number)
 
-  counting_tidy : (round : List NormalLoop) (ls : List Loop) (l : Loop) (r : NormalLoop) → AreUnder round ls → IsFairLoop l → normal_loop n.symbols round l ≡ Some r
+  counting_tidy : (round : List NormalLoop) (ls : List Loop) (l : Loop) (r : NormalLoop) → AreUnder round ls
+      → IsFairLoop l → normal_loop n.symbols round l ≡ Some r
       → IsTidyLoop (counting n.symbols round l r)
   unfolding counting
-  counting_tidy round ls l r u f e = record { variable = counter_word round ls l r u f e; number = (let h = f.number in omega (arith, h)) }
+  counting_tidy round ls l r u f e = record
+      { variable = counter_word round ls l r u f e; number = (let h = f.number in omega (arith, h)) }
 
-  turns : (round : List NormalLoop) (ls : List Loop) (l : Loop) (r : NormalLoop) → AreUnder round ls → IsFairLoop l → normal_loop n.symbols round l ≡ Some r
+  turns : (round : List NormalLoop) (ls : List Loop) (l : Loop) (r : NormalLoop) → AreUnder round ls → IsFairLoop l
+      → normal_loop n.symbols round l ≡ Some r
       → AreUnder (round ++ r ∷ []) (ls ++ counting n.symbols round l r ∷ [])
   turns round ls l r u f e = record {
     loops = loop_more n.symbols round ls l r u.loops e;
-    counters = Each-append (λ (q : NormalLoop). IsWord q.counter) round (r ∷ []) u.counters (counter_word round ls l r u f e, tt);
+    counters = Each-append (λ (q : NormalLoop). IsWord q.counter) round (r ∷ []) u.counters
+        (counter_word round ls l r u f e, tt);
     sizes = Each-append HasSizes round (r ∷ []) u.sizes (loop_sized n.symbols round l r e, tt);
     tidy = Each-append IsTidyLoop ls (counting n.symbols round l r ∷ []) u.tidy (counting_tidy round ls l r u f e, tt);
   }
 
-  run : (round : List NormalLoop) (ls : List Loop) (s : Guarded) → AreUnder round ls → IsFairStatement s → IsTidy (standing ls (normal_statement n.symbols round s))
+  run : (round : List NormalLoop) (ls : List Loop) (s : Guarded) → AreUnder round ls → IsFairStatement s
+      → IsTidy (standing ls (normal_statement n.symbols round s))
   run round ls s u h =
-      let few = few_references (standing ls (normal_statement n.symbols round s)) (normal_unguarded n.symbols round s h.unguarded) in
+      let few = few_references (standing ls (normal_statement n.symbols round s))
+          (normal_unguarded n.symbols round s h.unguarded) in
       let most = normal_count n.symbols round s u.loops.few u.sizes h.few in
       record {
         over = normal_over IsWord n.symbols names.symbols round s u.counters h.over;
@@ -91,8 +99,10 @@ module _ (n : Nest) (names : IsFairNest n) where
         loops = numbers_small ls u.tidy;
       }
 
-  assigned : (round : List NormalLoop) (ls : List Loop) (l : Loop) (r : NormalLoop) (e : Expression) → AreUnder round ls → IsFairLoop l → normal_loop n.symbols round l ≡ Some r
-      → IsOver IsWord e → length (references_of (standing ls (assigning n.line r.variable e))) ≤ 2000 → IsTidy (standing ls (assigning n.line r.variable e))
+  assigned : (round : List NormalLoop) (ls : List Loop) (l : Loop) (r : NormalLoop) (e : Expression) → AreUnder round ls
+      → IsFairLoop l → normal_loop n.symbols round l ≡ Some r
+      → IsOver IsWord e → length (references_of (standing ls (assigning n.line r.variable e))) ≤ 2000
+          → IsTidy (standing ls (assigning n.line r.variable e))
   assigned round ls l r e u f h over few = record {
     over = record {
       guard = tt;
@@ -104,21 +114,25 @@ module _ (n : Nest) (names : IsFairNest n) where
     loops = numbers_small ls u.tidy;
   }
 
-  first : (round : List NormalLoop) (ls : List Loop) (l : Loop) (r : NormalLoop) → AreUnder round ls → IsFairLoop l → normal_loop n.symbols round l ≡ Some r
+  first : (round : List NormalLoop) (ls : List Loop) (l : Loop) (r : NormalLoop) → AreUnder round ls → IsFairLoop l
+      → normal_loop n.symbols round l ≡ Some r
       → IsTidy (standing ls (assigning n.line r.variable (first_text n.symbols round r)))
   first round ls l r u f e =
       let text = first_text n.symbols round r in
       let few = few_references (standing ls (assigning n.line r.variable text)) refl in
       let most = first_count n.symbols round r (loop_sized n.symbols round l r e) in
-      assigned round ls l r text u f e (first_over IsWord n.symbols names.symbols round r u.counters) (omega (arith, few, most))
+      assigned round ls l r text u f e (first_over IsWord n.symbols names.symbols round r u.counters)
+          (omega (arith, few, most))
 
-  end : (round : List NormalLoop) (ls : List Loop) (l : Loop) (r : NormalLoop) → AreUnder round ls → IsFairLoop l → normal_loop n.symbols round l ≡ Some r
+  end : (round : List NormalLoop) (ls : List Loop) (l : Loop) (r : NormalLoop) → AreUnder round ls → IsFairLoop l
+      → normal_loop n.symbols round l ≡ Some r
       → IsTidy (standing ls (assigning n.line r.variable (end_text n.symbols round r)))
   end round ls l r u f e =
       let text = end_text n.symbols round r in
       let few = few_references (standing ls (assigning n.line r.variable text)) refl in
       let most = end_count n.symbols round r (loop_sized n.symbols round l r e) in
-      assigned round ls l r text u f e (end_over IsWord n.symbols names.symbols round r u.counters) (omega (arith, few, most))
+      assigned round ls l r text u f e (end_over IsWord n.symbols names.symbols round r u.counters)
+          (omega (arith, few, most))
 
   steps : Steps n IsFairStatement IsFairLoop AreUnder IsTidy
   steps = record { run = run; turns = turns; first = first; end = end }
@@ -131,7 +145,8 @@ module _ (n : Nest) (names : IsFairNest n) where
 
   pub made_tidy : (m : Nest) → normalised n ≡ Some m → IsTidyNest m
   made_tidy m e = record {
-    statements = by_recursion IsTidy (nest_statements m) (each_statement n m IsFairStatement IsFairLoop AreUnder IsTidy steps outside names.body (made_of n m e));
+    statements = by_recursion IsTidy (nest_statements m)
+        (each_statement n m IsFairStatement IsFairLoop AreUnder IsTidy steps outside names.body (made_of n m e));
     loops = each_loop n m IsFairStatement IsFairLoop AreUnder IsTidyIn loop_steps outside names.body (made_of n m e);
   }
 

@@ -15,7 +15,8 @@ use Rattle.loop_normal.specs.Bodies.{counting, placed, normal_turns, normal_part
 use Rattle.loop_normal.specs.Loops.{with_loop}
 use Rattle.nest_parts.specs.Numbers.{next, after, after_arms, after_block}
 use Rattle.nest_parts.specs.Statements.{parts_of, branches_of, parts_of_block}
-use Rattle.nest_tree.specs.Bodies.{Standing, statements_in, statements_in_parts, statements_in_branches, nest_statements}
+use Rattle.nest_tree.specs.Bodies.{Standing, statements_in, statements_in_parts, statements_in_branches}
+use Rattle.nest_tree.specs.Bodies.{nest_statements}
 use Rattle.nest_tree.specs.Plain.{Loop, Part, Run, Turns, Choice, Label, Jump, Parts, no_parts, part, parts, Branches}
 use Rattle.nest_tree.specs.Plain.{no_branches, branch, Nest}
 use Rattle.normal_forms.specs.NormalLoops.{normal_loop, is_positive, is_known}
@@ -51,7 +52,8 @@ mutual
   sized : (k : ℕ) (c : Statement) → sizes (parts (parts_of k c)) ≤ 2 * statements_of c
   sized k (Assignment l mark left right) = omega arith
   sized k (Where l mark mask left right) = omega arith
-  sized k (If l arms other) = let f = sized_arms k arms in let g = sized_block (after_arms k arms) other in omega (arith, f, g)
+  sized k (If l arms other) = let f = sized_arms k arms in let g =
+      sized_block (after_arms k arms) other in omega (arith, f, g)
   sized k (Do l x a b c body) = let f = sized_block (next k) body in omega (arith, f)
   sized k (LabelStatement n) = omega arith
   sized k (GoTo l n) = omega arith
@@ -78,15 +80,18 @@ abbrev pub Within : ℕ → Placed → Type 0
 Within most q = suc (statements_in_block q.loop.loop.body) ≤ most
 
 mutual
-  within : (most k : ℕ) (around : List SourceLoop) (c : Statement) → statements_of c ≤ most → Each (Within most) (loops_in k around c)
+  within : (most k : ℕ) (around : List SourceLoop) (c : Statement) → statements_of c ≤ most
+      → Each (Within most) (loops_in k around c)
   within most k around (Assignment l mark left right) h = tt
   within most k around (Where l mark mask left right) h = tt
   within most k around (If l arms other) h =
       Each-append (Within most) (loops_in_arms k around arms) (loops_in_block (after_arms k arms) around other)
-      (within_arms most k around arms (omega (arith, h))) (within_block most (after_arms k arms) around other (omega (arith, h)))
+      (within_arms most k around arms (omega (arith, h)))
+          (within_block most (after_arms k arms) around other (omega (arith, h)))
   within most k around (Do l x a b c body) h = (
     omega (arith, h),
-    within_block most (next k) (around ++ record { line = l; variable = x; first = a; last = b; step = c; body = body } ∷ []) body (omega (arith, h)),
+    within_block most (next k) (around ++ record { line = l; variable = x; first = a; last = b; step = c; body = body }
+        ∷ []) body (omega (arith, h)),
   )
   within most k around (LabelStatement n) h = tt
   within most k around (GoTo l n) h = tt
@@ -96,19 +101,23 @@ mutual
   within most k around (Allocate l x es) h = tt
   within most k around (Deallocate l x) h = tt
 
-  within_arms : (most k : ℕ) (around : List SourceLoop) (arms : Arms) → statements_in_arms arms ≤ most → Each (Within most) (loops_in_arms k around arms)
+  within_arms : (most k : ℕ) (around : List SourceLoop) (arms : Arms) → statements_in_arms arms ≤ most
+      → Each (Within most) (loops_in_arms k around arms)
   within_arms most k around no_arms h = tt
   within_arms most k around (arm test body arms) h =
       Each-append (Within most) (loops_in_block k around body) (loops_in_arms (after_block k body) around arms)
-      (within_block most k around body (omega (arith, h))) (within_arms most (after_block k body) around arms (omega (arith, h)))
+      (within_block most k around body (omega (arith, h)))
+          (within_arms most (after_block k body) around arms (omega (arith, h)))
 
-  pub within_block : (most k : ℕ) (around : List SourceLoop) (b : Block) → statements_in_block b ≤ most → Each (Within most) (loops_in_block k around b)
+  pub within_block : (most k : ℕ) (around : List SourceLoop) (b : Block) → statements_in_block b ≤ most
+      → Each (Within most) (loops_in_block k around b)
   within_block most k around no_statements h = tt
   within_block most k around (statement c cs) h =
       Each-append (Within most) (loops_in k around c) (loops_in_block (after k c) around cs)
       (within most k around c (omega (arith, h))) (within_block most (after k c) around cs (omega (arith, h)))
 
-pub loop_size : (k : ℕ) (l : SourceLoop) → sizes (parts (parts_of k (as_statement l))) ≤ 2 * suc (statements_in_block l.body)
+pub loop_size : (k : ℕ) (l : SourceLoop) → sizes (parts (parts_of k (as_statement l))) ≤ 2 * suc
+    (statements_in_block l.body)
 loop_size k l = let f = sized k (as_statement l) in omega (arith, f)
 
 -- ---- of what is made
@@ -138,7 +147,9 @@ module _ (n : Nest) (all : List NestedLoop) where
     unfolding parts_behind
     behind ls = by (is_positive r.trip) (is_known r.trip)
       where
-        by : (b c : Bool) → many ls (cond b (end_part n.symbols n.line round r ∷ []) (cond c [] (only_where_part (at_least_one (own_trip_text n.symbols round r)) (end_part n.symbols n.line round r ∷ []) ∷ []))) ≤ 1
+        by : (b c : Bool) → many ls (cond b (end_part n.symbols n.line round r ∷ [])
+            (cond c [] (only_where_part (at_least_one (own_trip_text n.symbols round r))
+            (end_part n.symbols n.line round r ∷ []) ∷ []))) ≤ 1
         by true c = omega arith
         by false true = omega arith
         by false false = omega arith
@@ -146,11 +157,15 @@ module _ (n : Nest) (all : List NestedLoop) where
     placed_many : (ls : List Loop) (p : Part) → many ls (placed n all round r p) ≤ 2 + length (statements_in ls p)
     placed_many ls p = by (stands_behind (length n.symbols) all n.body r.variable)
       where
-        by : (b : Bool) → many ls (cond b (p ∷ []) (parts_before n.symbols n.line round r ++ p ∷ parts_behind n.symbols n.line round r)) ≤ 2 + length (statements_in ls p)
+        by : (b : Bool) → many ls (cond b (p ∷ [])
+            (parts_before n.symbols n.line round r ++ p ∷ parts_behind n.symbols n.line round r)) ≤ 2 + length
+            (statements_in ls p)
         by true = let e = alone (statements_in ls p) in omega (arith, e)
         by false =
-            let e = many_joined ls (parts_before n.symbols n.line round r) (p ∷ parts_behind n.symbols n.line round r) in
-            let f = length-append (statements_in ls p) (statements_in_parts ls (parts (parts_behind n.symbols n.line round r))) in
+            let e = many_joined ls (parts_before n.symbols n.line round r) (p ∷ parts_behind n.symbols n.line round r)
+                in
+            let f = length-append (statements_in ls p)
+                (statements_in_parts ls (parts (parts_behind n.symbols n.line round r))) in
             let g = before ls in let h = behind ls in omega (arith, e, f, g, h)
 
   turned : (round : List NormalLoop) (ls : List Loop) (l : Loop) (ps : Parts) (o : Option NormalLoop)
@@ -158,11 +173,13 @@ module _ (n : Nest) (all : List NestedLoop) where
       → many ls (normal_turns n all round l o (normal_parts n all (with_loop round o) ps)) ≤ 2 + sizes ps
   turned round ls l ps None more =
       let f = more (with_loop round None) (ls ++ l ∷ []) in
-      let e = alone (statements_in_parts (ls ++ l ∷ []) (parts (normal_parts n all (with_loop round None) ps))) in omega (arith, f, e)
+      let e = alone (statements_in_parts (ls ++ l ∷ []) (parts (normal_parts n all (with_loop round None) ps))) in
+      omega (arith, f, e)
   turned round ls l ps (Some r) more =
       let m = counting n.symbols round l r in
       let f = more (with_loop round (Some r)) (ls ++ m ∷ []) in
-      let g = placed_many round r ls (Turns m (parts (normal_parts n all (with_loop round (Some r)) ps))) in omega (arith, f, g)
+      let g = placed_many round r ls (Turns m (parts (normal_parts n all (with_loop round (Some r)) ps))) in
+      omega (arith, f, g)
 
   mutual
     few : (round : List NormalLoop) (ls : List Loop) (p : Part) → many ls (normal_part n all round p) ≤ size p
@@ -184,17 +201,20 @@ module _ (n : Nest) (all : List NestedLoop) where
         let g = few_in round ls ps in
         let e = many_joined ls (normal_part n all round p) (normal_parts n all round ps) in omega (arith, f, g, e)
 
-    few_under : (round : List NormalLoop) (ls : List Loop) (bs : Branches) → length (statements_in_branches ls (normal_branches n all round bs)) ≤ sizes_under bs
+    few_under : (round : List NormalLoop) (ls : List Loop) (bs : Branches)
+        → length (statements_in_branches ls (normal_branches n all round bs)) ≤ sizes_under bs
     few_under round ls no_branches = omega arith
     few_under round ls (branch test ps bs) =
         let f = few_in round ls ps in
         let g = few_under round ls bs in
-        let e = length-append (statements_in_parts ls (parts (normal_parts n all round ps))) (statements_in_branches ls (normal_branches n all round bs)) in
+        let e = length-append (statements_in_parts ls (parts (normal_parts n all round ps)))
+            (statements_in_branches ls (normal_branches n all round bs)) in
         omega (arith, f, g, e)
 
 pub few_statements : (n m : Nest) → IsMadeOf n m → length (nest_statements m) ≤ size n.body
 few_statements n m h =
     let f = few n h.loops [] [] n.body in
-    let same : length (statements_in_parts [] (parts (normal_part n h.loops [] n.body))) ≡ length (nest_statements m ++ []) =
+    let same : length (statements_in_parts [] (parts (normal_part n h.loops [] n.body))) ≡ length
+        (nest_statements m ++ []) =
     ap (λ (ps : List Part). length (statements_in_parts [] (parts ps))) h.body in
     let e = alone n h.loops (nest_statements m) in omega (arith, f, same, e)

@@ -5,7 +5,8 @@ use Rattle.std.proofs.lemmas.Int.{ints}
 use Rattle.std.proofs.lemmas.List.Elements.{All-head, All-tail}
 use Rattle.std.proofs.lemmas.Option.{slice_get_within, get_or_from_slice_get}
 use Rattle.std.specs.List.{AllByRecursion}
-use Rattle.std.specs.Prelude.{ℤ, pos, negsuc, ◌≤ℤ◌, int_div, nat_abs, unsigned_abs, All, IsSomeAnd, IfSome, IsTrue, slice_get}
+use Rattle.std.specs.Prelude.{ℤ, pos, negsuc, ◌≤ℤ◌, int_div, nat_abs, unsigned_abs, All, IsSomeAnd, IfSome, IsTrue}
+use Rattle.std.specs.Prelude.{slice_get}
 use Rattle.bound_limits.proofs.LimitLaws.{abs-quotient}
 use Rattle.graph_print.specs.Listing.{depth_of}
 use Rattle.listing_reader.specs.Listable.{IsSmallInteger}
@@ -32,17 +33,21 @@ between (pos n) (pos k) h l m = omega (arith, ints)
 between (pos n) (negsuc k) h l m = absurd (omega (arith, ints))
 between (negsuc n) q h l m = absurd (omega (arith, ints))
 
-one_small : (d : ℕ) (outer : List Span) (o : Option Trip) (s : Span) (i : ℤ) → IsSomeAnd o (IsTripIn d) → IsSpanOf outer o s → s.fixed ≡ true → WithinSpan s i
+one_small : (d : ℕ) (outer : List Span) (o : Option Trip) (s : Span) (i : ℤ) → IsSomeAnd o (IsTripIn d)
+    → IsSpanOf outer o s → s.fixed ≡ true → WithinSpan s i
     → IsSmallInteger i
 one_small d outer None s i p h f w = absurd h
 one_small d outer (Some t) s i p h f w =
     let c = fixed_is_constant outer t s p.positive h f in
-    let high : i ≤ℤ int_div t.top.constant t.by = subst (λ (r : Span). IfSome r.last (λ (n : ℤ). i ≤ℤ n)) (h.constant c) w.high in
-    between i (int_div t.top.constant t.by) w.low high (quotient_small t.top.constant t.by p.positive p.top.small_constant)
+    let high : i ≤ℤ int_div t.top.constant t.by =
+        subst (λ (r : Span). IfSome r.last (λ (n : ℤ). i ≤ℤ n)) (h.constant c) w.high in
+    between i (int_div t.top.constant t.by) w.low high
+        (quotient_small t.top.constant t.by p.positive p.top.small_constant)
 
 -- ---- the loops round a statement
 
-each_small : (d : ℕ) (outer : List Span) (ls : List Loop) (ss : List Span) (x : List ℤ) → HaveTrips d ls → AreSpansOf outer ls ss
+each_small : (d : ℕ) (outer : List Span) (ls : List Loop) (ss : List Span) (x : List ℤ) → HaveTrips d ls
+    → AreSpansOf outer ls ss
     → All (λ (s : Span). IsTrue s.fixed) ss → WithinSpans ss x → AllByRecursion IsSmallInteger x
 each_small d outer [] [] [] p h f w = tt
 each_small d outer [] [] (i ∷ x) p h f w = absurd w
@@ -59,13 +64,15 @@ module _ (m : Nest) (ready : IsReady m) where
   ts = nest_statements m
 
   ready_at : (k : ℕ) (s : Standing) → slice_get ts k ≡ Some s → IsReadyStatement s
-  ready_at k s e = subst IsReadyStatement (get_or_from_slice_get ts k s s e) (ready.statements k s (slice_get_within ts k s e))
+  ready_at k s e = subst IsReadyStatement (get_or_from_slice_get ts k s s e)
+      (ready.statements k s (slice_get_within ts k s e))
 
   depth_is : (k : ℕ) (s : Standing) → slice_get ts k ≡ Some s → depth_of ts k ≡ length s.loops
   depth_is k s e = ap (λ (o : Option Standing). elim o as (λ _. ℕ) [ Some t ↦ length t.loops | None ↦ 0 ]) e
 
   -- the iterations of the loops round a statement in an instance of it, where the spans of all of them are constants
-  instance_small : (values : ℕ → ℤ) (k : ℕ) (s : Standing) (ss : List Span) (x : List ℤ) → slice_get ts k ≡ Some s → AreSpansOf [] s.loops ss
+  instance_small : (values : ℕ → ℤ) (k : ℕ) (s : Standing) (ss : List Span) (x : List ℤ) → slice_get ts k ≡ Some s
+      → AreSpansOf [] s.loops ss
       → All (λ (s : Span). IsTrue s.fixed) ss → IsInstance m values k x → AllByRecursion IsSmallInteger x
   instance_small values k s ss x e h f i =
       let here = ready_at k s e in
@@ -75,8 +82,11 @@ module _ (m : Nest) (ready : IsReady m) where
       each_small 0 [] s.loops ss x here.trips h f (turns_within 0 values [] [] s.loops ss x here.trips h tt turns)
 
   -- as the listing shows them
-  pub shown_small : (values : ℕ → ℤ) (k : ℕ) (s : Standing) (ss : List Span) (x : List ℤ) → slice_get ts k ≡ Some s → AreSpansOf [] s.loops ss
-      → All (λ (s : Span). IsTrue s.fixed) ss → IsInstance m values k (take (length ss) x) → AllByRecursion IsSmallInteger (take (depth_of ts k) x)
+  pub shown_small : (values : ℕ → ℤ) (k : ℕ) (s : Standing) (ss : List Span) (x : List ℤ) → slice_get ts k ≡ Some s
+      → AreSpansOf [] s.loops ss
+      → All (λ (s : Span). IsTrue s.fixed) ss → IsInstance m values k (take (length ss) x)
+          → AllByRecursion IsSmallInteger (take (depth_of ts k) x)
   shown_small values k s ss x e h f i =
       let deep : length ss ≡ depth_of ts k = spans_length [] s.loops ss h ∙ sym (depth_is k s e) in
-      subst (λ (n : ℕ). AllByRecursion IsSmallInteger (take n x)) deep (instance_small values k s ss (take (length ss) x) e h f i)
+      subst (λ (n : ℕ). AllByRecursion IsSmallInteger (take n x)) deep
+          (instance_small values k s ss (take (length ss) x) e h f i)

@@ -1,5 +1,9 @@
 -- From the lines that are listed of a source its entries are read.
-use Rattle.std.proofs.Common.{◌≡◌, refl, sym, ◌∙◌, ℕ, Some, List, [], ◌∷◌, map, arith, ap₂}
+use Rattle.std.proofs.Common.{◌≡◌, refl, sym, ap, ◌∙◌, ℕ, ◌<◌, ◌≤◌, ◌==◌, false, Some, List, [], ◌∷◌, map, arith, ap₂}
+use Rattle.std.proofs.Common.{lit<}
+use Rattle.std.proofs.lemmas.Bool.{ne_eqb}
+use Rattle.std.specs.List.{AllByRecursion}
+use Rattle.std.specs.Str.Lines.{lines}
 use Rattle.f77_grammar.specs.Reading77.{Reads77}
 use Rattle.f77_laws.proofs.CardStatements.{read_cards_are_source}
 use Rattle.f77_laws.proofs.Programs.{read_is_program}
@@ -7,9 +11,13 @@ use Rattle.fv_meaning.specs.Dialect.{fortran77}
 use Rattle.fv_meaning.specs.Profile77.{IsProgram77}
 use Rattle.fv_tree.specs.Plain.{Program}
 use Rattle.graph_print.specs.Lines.{Entry}
+use Rattle.f90_grammar.specs.PrintedText.{IsNote}
+use Rattle.f90_laws.proofs.PrintedLinesText.{IsLine, lines_again}
+use Rattle.listing_notes.proofs.Listed.{listing_lines_are_notes}
+use Rattle.listing_reader.specs.Reader.{read_listing}
 use Rattle.listings_read.proofs.Listed.{program_listing_is_read}
 use Rattle.listings_read.proofs.Sources.{source_is_short}
-use Rattle.listings_read.specs.Laws.{SourceListingIsRead, SameLinesListTheSame}
+use Rattle.listings_read.specs.Laws.{SourceListingIsRead, SourceListingTextIsRead, SameLinesListTheSame}
 
 is_program : (source : List ℕ) (p : Program) → Reads77 fortran77 source p → IsProgram77 fortran77 p
 is_program source p h =
@@ -20,6 +28,28 @@ is_program source p h =
 pub source_listing_is_read : SourceListingIsRead
 source_listing_is_read source p lines h listing =
     program_listing_is_read p lines (is_program source p h) (source_is_short source p h) listing
+
+-- ---- its text
+
+not_that : (low c d : ℕ) → low ≤ c → d < low → (c == d) ≡ false
+not_that low c d h k = ne_eqb c d (λ same. omega (arith, h, k, same))
+
+inside : (line : List ℕ) → AllByRecursion (λ c. (32 ≤ c) × (c ≤ 126)) line → IsLine line
+inside [] h = tt
+inside (c ∷ cs) h = ((not_that 32 c 10 h.0.0 (lit< tt), not_that 32 c 13 h.0.0 (lit< tt)), inside cs h.1)
+
+each_inside : (ls : List (List ℕ)) → AllByRecursion IsNote ls → AllByRecursion IsLine ls
+each_inside [] h = tt
+each_inside (l ∷ ls) h = (inside l h.0.printable, each_inside ls h.1)
+
+pub source_listing_text_is_read : SourceListingTextIsRead
+source_listing_text_is_read source p text h listed =
+    let notes = listing_lines_are_notes p listed.lines (is_program source p h) listed.listing in
+    let same : lines text ≡ listed.lines = ap lines listed.text_is
+        ∙ lines_again listed.lines (each_inside listed.lines notes) in
+    ap read_listing same ∙ source_listing_is_read source p listed.lines h listed.listing
+
+-- ---- two listings
 
 each_same : (es fs : List Entry) → map Some es ≡ map Some fs → es ≡ fs
 each_same [] [] h = refl

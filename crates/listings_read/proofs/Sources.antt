@@ -9,11 +9,13 @@ use Rattle.std.specs.List.{list_any}
 use Rattle.std.specs.Str.Lines.{lines}
 use Rattle.f77_grammar.proofs.CardLaws.{unrefused, unrefused_short}
 use Rattle.f77_grammar.proofs.FirstLine.{lines-le}
-use Rattle.f77_grammar.specs.Cards.{Line, StatementLines, PlainCard, ReadsCards, all_lines, card_in, columns_of, is_comment}
+use Rattle.f77_grammar.specs.Cards.{Line, StatementLines, PlainCard, ReadsCards, all_lines, card_in, columns_of}
+use Rattle.f77_grammar.specs.Cards.{is_comment}
 use Rattle.f77_grammar.specs.Cards.{numbered, statement_field, statement_lines, statement_lines_from}
 use Rattle.f77_grammar.specs.Reading77.{AreReadFrom}
 use Rattle.f77_grammar.specs.Statement77.{Labelled, Statement77, Assign, Test}
-use Rattle.f77_grammar.specs.expressions.Phrases.{Phrase, Literal, WideLiteral, Truth, Name, Listed, Paren, Signed, Joined}
+use Rattle.f77_grammar.specs.expressions.Phrases.{Phrase, Literal, WideLiteral, Truth, Name, Listed, Paren, Signed}
+use Rattle.f77_grammar.specs.expressions.Phrases.{Joined}
 use Rattle.f77_grammar.specs.expressions.Phrases.{Phrases, One, Then, written, written_list, tree, trees}
 use Rattle.f77_grammar.specs.expressions.Spelling.{IsName, SpelledBy, Words, chars}
 use Rattle.f77_grammar.specs.expressions.Squeezing.{Symbol, Char, Squeezed, nothing, blank, character, constant, empty}
@@ -71,12 +73,14 @@ spelled : (w : Word) (front : List Symbol) → SpelledBy w front → weight w �
 spelled (words.Name x) front h =
     let some = name_some x h.2.1 in
     let same : length h.0 ≡ length x = ap (λ (t : List ℕ). length t) h.2.0 in
-    let as_many : length front ≡ length h.0 = ap (λ (t : List Symbol). length t) h.1 ∙ length-map h.0 Char in omega (arith, some, same, as_many)
+    let as_many : length front ≡ length h.0 = ap (λ (t : List Symbol). length t) h.1 ∙ length-map h.0 Char in
+    omega (arith, some, same, as_many)
 spelled (words.Head x) front h =
     let some = name_some x h.2.1 in
     let more = length-append x (40 ∷ []) in
     let same : length h.0 ≡ length (x ++ 40 ∷ []) = ap (λ (t : List ℕ). length t) h.2.0 in
-    let as_many : length front ≡ length h.0 = ap (λ (t : List Symbol). length t) h.1 ∙ length-map h.0 Char in omega (arith, some, more, same, as_many)
+    let as_many : length front ≡ length h.0 = ap (λ (t : List Symbol). length t) h.1 ∙ length-map h.0 Char in
+    omega (arith, some, more, same, as_many)
 spelled w front h = omega arith
 
 words_short : (ws : List Word) (text : List Symbol) → Words text ws → weights ws ≤ length text
@@ -90,7 +94,8 @@ words_short (w ∷ ws) text h =
 
 -- ---- names in the tree of a phrase
 
-joined_count : (ps qs : List Subscript) → count_in (subscripts (ps ++ qs)) ≡ count_in (subscripts ps) + count_in (subscripts qs)
+joined_count : (ps qs : List Subscript) → count_in (subscripts (ps ++ qs)) ≡ count_in (subscripts ps) + count_in
+    (subscripts qs)
 joined_count [] qs = omega arith
 joined_count (p ∷ ps) qs =
     let e = joined_count ps qs in
@@ -108,7 +113,8 @@ mutual
   tree_count (Name x) = omega arith
   tree_count (Listed x ps) =
       let h = trees_count ps in let e = weights_joined (written_list ps) (words.Close ∷ []) in omega (arith, h, e)
-  tree_count (Paren p) = let h = tree_count p in let e = weights_joined (written p) (words.Close ∷ []) in omega (arith, h, e)
+  tree_count (Paren p) = let h = tree_count p in let e =
+      weights_joined (written p) (words.Close ∷ []) in omega (arith, h, e)
   tree_count (Signed Plus p) = let h = tree_count p in omega (arith, h)
   tree_count (Signed Minus p) = let h = tree_count p in omega (arith, h)
   tree_count (Signed Negation p) = let h = tree_count p in omega (arith, h)
@@ -134,7 +140,8 @@ uses77 (Assign left e) = uses_of left e
 uses77 (Test c s) = uses77 s
 uses77 s = 0
 
-assigned_form : (l r : Phrase) (text : List Symbol) → IsWritten (forms.Assign l r) text → uses77 (statement_of (forms.Assign l r)) ≤ length text
+assigned_form : (l r : Phrase) (text : List Symbol) → IsWritten (forms.Assign l r) text
+    → uses77 (statement_of (forms.Assign l r)) ≤ length text
 assigned_form (Name x) r text h =
     let all = words_short (written (Name x) ++ (words.Equals ∷ written r)) text h.0 in
     let k = tree_count r in omega (arith, all, k)
@@ -154,7 +161,8 @@ form_count : (f : Form) (text : List Symbol) → IsWritten f text → uses77 (st
 form_count (forms.Assign l r) text h = assigned_form l r text h
 form_count (forms.Test p f) text h =
     let more = form_count f h.1 h.5 in
-    let all : length text ≡ length (chars (73 ∷ 70 ∷ 40 ∷ []) ++ (h.0 ++ (chars (41 ∷ []) ++ h.1))) = ap (λ (t : List Symbol). length t) h.2 in
+    let all : length text ≡ length (chars (73 ∷ 70 ∷ 40 ∷ []) ++ (h.0 ++ (chars (41 ∷ []) ++ h.1))) =
+        ap (λ (t : List Symbol). length t) h.2 in
     let a = length-append (chars (73 ∷ 70 ∷ 40 ∷ [])) (h.0 ++ (chars (41 ∷ []) ++ h.1)) in
     let b = length-append h.0 (chars (41 ∷ []) ++ h.1) in
     let c = length-append (chars (41 ∷ [])) h.1 in omega (arith, more, all, a, b, c)
@@ -216,7 +224,8 @@ module _ (us : List Use) (s : Store) where
     resolved_count : (e : Expression) → count (resolved us s e) ≤ count e
     resolved_count (Number n) = omega arith
     resolved_count (Logic b) = omega arith
-    resolved_count (Named x ss) = let h = resolved_in ss in let k = named_count x (resolved_subscripts us s ss) in omega (arith, h, k)
+    resolved_count (Named x ss) = let h = resolved_in ss in let k =
+        named_count x (resolved_subscripts us s ss) in omega (arith, h, k)
     resolved_count (Unary o a) = resolved_count a
     resolved_count (Binary o a b) =
         let h = resolved_count a in
@@ -243,7 +252,8 @@ module _ (us : List Use) (s : Store) where
     resolved_in (subscript p ps) =
         let h = resolved_one p in
         let k = resolved_in ps in
-        let c = two (uses_in_subscript (resolved_subscript us s p)) (uses_in_subscripts (resolved_subscripts us s ps)) in
+        let c = two (uses_in_subscript (resolved_subscript us s p)) (uses_in_subscripts (resolved_subscripts us s ps))
+            in
         let d = two (uses_in_subscript p) (uses_in_subscripts ps) in omega (arith, h, k, c, d)
 
     resolved_one : (p : Subscript) → count_one (resolved_subscript us s p) ≤ count_one p
@@ -258,7 +268,8 @@ module _ (us : List Use) (s : Store) where
 
 -- ---- names in all statements
 
-uses_joined : (cs ds : List Statement) → uses_assigned_in (block (cs ++ ds)) ≡ uses_assigned_in (block cs) + uses_assigned_in (block ds)
+uses_joined : (cs ds : List Statement) → uses_assigned_in (block (cs ++ ds)) ≡ uses_assigned_in (block cs)
+    + uses_assigned_in (block ds)
 uses_joined [] ds = omega arith
 uses_joined (c ∷ cs) ds = let e = uses_joined cs ds in omega (arith, e)
 
@@ -287,13 +298,15 @@ abbrev uses_in_all : List Labelled → ℕ
 uses_in_all [] = 0
 uses_in_all (x ∷ xs) = uses77 x.statement + uses_in_all xs
 
-rest_count : (us : List Use) (s : Store) (goals : List ℕ) (xs : List Labelled) → in_rest of_names (rest_from us s goals xs) ≤ uses_in_all xs
+rest_count : (us : List Use) (s : Store) (goals : List ℕ) (xs : List Labelled)
+    → in_rest of_names (rest_from us s goals xs) ≤ uses_in_all xs
 rest_count us s goals [] = omega arith
 rest_count us s goals (x ∷ xs) =
     let more = rest_count us s goals xs in
     let mark = no_names goals x.label in
     let own = simple_count us s x.line x.statement in
-    let one = at_most of_names us s goals x x.statement (uses77 x.statement) (rest_from us s goals xs) (omega (arith, mark, own)) (omega (arith, mark)) in
+    let one = at_most of_names us s goals x x.statement (uses77 x.statement) (rest_from us s goals xs)
+        (omega (arith, mark, own)) (omega (arith, mark)) in
     omega (arith, more, one)
 
 outermost_count : (r : Rest) → uses_assigned_in (outermost_block r) ≤ in_rest of_names r
@@ -311,7 +324,8 @@ cards_count [] [] h = omega arith
 cards_count [] (x ∷ xs) h = absurd h
 cards_count (c ∷ cs) [] h = absurd h
 cards_count (c ∷ cs) (x ∷ xs) h =
-    let one = statement_count c.chars x.statement h.0.reads in let more = cards_count cs xs h.1 in omega (arith, one, more)
+    let one = statement_count c.chars x.statement h.0.reads in let more = cards_count cs xs h.1 in
+    omega (arith, one, more)
 
 abbrev IsNarrow : Line → Type 0
 IsNarrow l = length l.columns ≤ 72
@@ -332,7 +346,8 @@ right : (ls ms : List Line) → AllByRecursion IsNarrow (ls ++ ms) → AllByRecu
 right [] ms h = h
 right (l ∷ ls) ms h = right ls ms h.1
 
-cards_short : (ss : List StatementLines) → AllByRecursion IsNarrow (flat_map all_lines ss) → characters (map card_in ss) ≤ 72 * length (flat_map all_lines ss)
+cards_short : (ss : List StatementLines) → AllByRecursion IsNarrow (flat_map all_lines ss)
+    → characters (map card_in ss) ≤ 72 * length (flat_map all_lines ss)
 unfolding card_in
 cards_short [] h = omega arith
 cards_short (s ∷ ss) h =
@@ -353,8 +368,11 @@ kept test n (t ∷ ls) = by (test l) (kept test (n + 1) ls)
     l = record { number = n; columns = columns_of t }
 
     by : (b : Bool) → AreNarrow (filter test (numbered (n + 1) ls)) (length ls)
-        → AreNarrow (cond b (l ∷ filter test (numbered (n + 1) ls)) (filter test (numbered (n + 1) ls))) (suc (length ls))
-    by true h = let few = h.few in let cut = length-take 72 (t ++ replicate 72 32) in record { each = (omega (arith, cut), h.each); few = omega (arith, few) }
+        → AreNarrow (cond b (l ∷ filter test (numbered (n + 1) ls)) (filter test (numbered (n + 1) ls)))
+            (suc (length ls))
+    by true h = let few = h.few in let cut =
+        length-take 72 (t ++ replicate 72 32)
+        in record { each = (omega (arith, cut), h.each); few = omega (arith, few) }
     by false h = let few = h.few in record { each = h.each; few = omega (arith, few) }
 
 lines_narrow : (text : List ℕ) → AreNarrow (statement_lines text) (length (lines text))
@@ -363,12 +381,15 @@ lines_narrow text = kept (λ line. not (is_comment line.columns)) 1 (lines text)
 
 source_count : (text : List ℕ) (cards : List PlainCard) → ReadsCards text cards → characters cards ≤ 72 * 2 ^ 20
 source_count text cards h =
-    let few : length (lines text) ≤ 2 ^ 20 = omega (arith, lines-le text, unrefused_short text (unrefused text cards h)) in
+    let few : length (lines text) ≤ 2 ^ 20 =
+        omega (arith, lines-le text, unrefused_short text (unrefused text cards h)) in
     let narrow = lines_narrow text in
     let most = narrow.few in
     let ss = h.are_cards.statements in
-    let each : AllByRecursion IsNarrow (flat_map all_lines ss) = subst (AllByRecursion IsNarrow) h.are_cards.in_order narrow.each in
-    let many : length (statement_lines text) ≡ length (flat_map all_lines ss) = ap (λ (ls : List Line). length ls) h.are_cards.in_order in
+    let each : AllByRecursion IsNarrow (flat_map all_lines ss) =
+        subst (AllByRecursion IsNarrow) h.are_cards.in_order narrow.each in
+    let many : length (statement_lines text) ≡ length (flat_map all_lines ss) =
+        ap (λ (ls : List Line). length ls) h.are_cards.in_order in
     let made = cards_short ss each in
     let same : characters cards ≡ characters (map card_in ss) = ap characters h.are_cards.cards_are in
     omega (arith, few, most, many, made, same)

@@ -47,7 +47,8 @@ variables_few : (m : ℕ) (xs : List (List ℕ)) → 1 ≤ m → AreFew m (varia
 variables_few m [] h = tt
 variables_few m (x ∷ xs) h = (omega (arith, h), variables_few m xs h)
 
-text_count : (m : ℕ) (loops symbols : List (List ℕ)) (trips : List Expression) (a : Affine) → 1 ≤ m → IsSized a → AreFew m trips
+text_count : (m : ℕ) (loops symbols : List (List ℕ)) (trips : List Expression) (a : Affine) → 1 ≤ m → IsSized a
+    → AreFew m trips
     → count (text_of loops symbols trips a) ≤ 7 + total m 8
 text_count m loops symbols trips a one s h =
     let few = s.loops in
@@ -61,12 +62,14 @@ text_count m loops symbols trips a one s h =
     let l = as_many a.loops in
     let q = total_least m (length a.syms) 8 some in omega (arith, few, c, p, t, l, q)
 
-value_count : (symbols : List (List ℕ)) (outer : List NormalLoop) (r : NormalLoop) → HasSizes r → count (value_text symbols outer r) ≤ 16
+value_count : (symbols : List (List ℕ)) (outer : List NormalLoop) (r : NormalLoop) → HasSizes r
+    → count (value_text symbols outer r) ≤ 16
 unfolding value_text
 value_count symbols outer r s =
     let some = s.below.symbols in
     let sized : IsSized (counter_first r.step r.below) = record { loops = omega arith; symbols = some } in
-    let c = text_count 1 (r.counter ∷ counters_of outer) symbols [] (counter_first r.step r.below) (omega arith) sized tt in
+    let c = text_count 1 (r.counter ∷ counters_of outer) symbols [] (counter_first r.step r.below) (omega arith)
+        sized tt in
     omega (arith, c)
 
 quotient_count : (e : Expression) (z : ℤ) → count (quotient e z) ≤ count e
@@ -76,20 +79,24 @@ quotient_count e z = by (int_eq z (pos 1))
     by true = omega arith
     by false = let d = length-append (uses_in e) [] in omega (arith, d)
 
-trip_count : (counters symbols : List (List ℕ)) (t : Trip) → IsSized t.top → count (trip_text counters symbols [] t) ≤ 16
+trip_count : (counters symbols : List (List ℕ)) (t : Trip) → IsSized t.top
+    → count (trip_text counters symbols [] t) ≤ 16
 unfolding trip_text
 trip_count counters symbols t s =
     let c = text_count 1 counters symbols [] t.top (omega arith) s tt in
     let q = quotient_count (text_of counters symbols [] t.top) t.by in omega (arith, c, q)
 
-pub first_count : (symbols : List (List ℕ)) (round : List NormalLoop) (r : NormalLoop) → HasSizes r → count (first_text symbols round r) ≤ 1000
+pub first_count : (symbols : List (List ℕ)) (round : List NormalLoop) (r : NormalLoop) → HasSizes r
+    → count (first_text symbols round r) ≤ 1000
 first_count symbols round r s =
     let c = text_count 1 (counters_of round) symbols [] r.first (omega arith) s.first tt in omega (arith, c)
 
-pub end_count : (symbols : List (List ℕ)) (round : List NormalLoop) (r : NormalLoop) → HasSizes r → count (end_text symbols round r) ≤ 1000
+pub end_count : (symbols : List (List ℕ)) (round : List NormalLoop) (r : NormalLoop) → HasSizes r
+    → count (end_text symbols round r) ≤ 1000
 end_count symbols round r s =
     let t = trip_count (counters_of round) symbols r.trip s.top in
-    let c = text_count 16 (counters_of round) symbols (own_trip_text symbols round r ∷ []) r.end (omega arith) s.end (t, tt) in
+    let c = text_count 16 (counters_of round) symbols (own_trip_text symbols round r ∷ []) r.end (omega arith) s.end
+        (t, tt) in
     omega (arith, c)
 
 -- ---- the two rules
@@ -114,21 +121,26 @@ substituting_grows x text few first e = by (is_scalar x e) refl
     by true h = inr (few, inr (scalar_count x e h))
     by false h = inl (omega arith)
 
-form_few : (loops symbols : List (List ℕ)) (e : Expression) (f : Form) → length loops ≤ 7 → form_of loops symbols e ≡ Some f → not_zero f.coefficients ≤ 15
+form_few : (loops symbols : List (List ℕ)) (e : Expression) (f : Form) → length loops ≤ 7
+    → form_of loops symbols e ≡ Some f → not_zero f.coefficients ≤ 15
 form_few loops symbols e f few h =
-    let p = both (all_small f.coefficients) (is_small f.constant && nat_le (not_zero (drop (length loops) f.coefficients)) 8) (found_form loops symbols e f h).limits in
+    let p = both (all_small f.coefficients)
+        (is_small f.constant && nat_le (not_zero (drop (length loops) f.coefficients)) 8)
+        (found_form loops symbols e f h).limits in
     let q = both (is_small f.constant) (nat_le (not_zero (drop (length loops) f.coefficients)) 8) p.1 in
     let all = dropped (length loops) f.coefficients in
     let eight = leb-true (not_zero (drop (length loops) f.coefficients)) 8 q.1 in omega (arith, all, eight, few)
 
-mentioned : (names : List (List ℕ)) (us : List Use) → list_any (λ (u : Use). is_among names u.name) us ≡ true → 1 ≤ length us
+mentioned : (names : List (List ℕ)) (us : List Use) → list_any (λ (u : Use). is_among names u.name) us ≡ true
+    → 1 ≤ length us
 mentioned names [] h = let no : ⊥ = cc in absurd no
 mentioned names (u ∷ us) h = omega arith
 
 canonising_grows : (loops symbols : List (List ℕ)) → length loops ≤ 7 → Grows (canonising loops symbols)
 canonising_grows loops symbols few first e = by (mentions loops first) refl
   where
-    text : mentions loops first ≡ true → (o : Option Form) → form_of loops symbols e ≡ o → Growth (count (text_or loops symbols o e)) (count e) (count first)
+    text : mentions loops first ≡ true → (o : Option Form) → form_of loops symbols e ≡ o
+        → Growth (count (text_or loops symbols o e)) (count e) (count first)
     text t None h = inl (omega arith)
     text t (Some f) h =
         let c = constant_count (with_terms None f.coefficients (variables (loops ++ symbols))) f.constant in
@@ -136,7 +148,8 @@ canonising_grows loops symbols few first e = by (mentions loops first) refl
         let k = form_few loops symbols e f few h in
         inr (omega (arith, c, d, k), inl (mentioned loops (uses_in first) t))
 
-    by : (b : Bool) → mentions loops first ≡ b → Growth (count (cond b (text_or loops symbols (form_of loops symbols e) e) e)) (count e) (count first)
+    by : (b : Bool) → mentions loops first ≡ b
+        → Growth (count (cond b (text_or loops symbols (form_of loops symbols e) e) e)) (count e) (count first)
     by true t = text t (form_of loops symbols e) refl
     by false t = inl (omega arith)
 
@@ -166,28 +179,37 @@ counters_many [] = refl
 counters_many (r ∷ rs) = ap suc (counters_many rs)
 
 module _ (symbols : List (List ℕ)) where
-  values_count : (outer rs : List NormalLoop) (s : Guarded) → Each HasSizes rs → count_of (statement_with_values symbols outer rs s) ≤ grown (length rs) (count_of s)
+  values_count : (outer rs : List NormalLoop) (s : Guarded) → Each HasSizes rs
+      → count_of (statement_with_values symbols outer rs s) ≤ grown (length rs) (count_of s)
   values_count outer [] s h = omega arith
   values_count outer (r ∷ rs) s h =
       let t : Guarded = rewritten_statement (with_value symbols outer r) s in
       let f = values_count (outer ++ r ∷ []) rs t h.1 in
-      let g = statement_grown (with_value symbols outer r) (substituting_grows r.variable (value_text symbols outer r) (value_count symbols outer r h.0)) (λ l. refl) s in
+      let g = statement_grown (with_value symbols outer r)
+          (substituting_grows r.variable (value_text symbols outer r) (value_count symbols outer r h.0)) (λ l. refl)
+          s in
       let k = grown_least (length rs) (count_of t) (16 * count_of s) g in omega (arith, f, k)
 
-  values_unguarded : (outer rs : List NormalLoop) (s : Guarded) → s.guard ≡ None → (statement_with_values symbols outer rs s).guard ≡ None
+  values_unguarded : (outer rs : List NormalLoop) (s : Guarded) → s.guard ≡ None
+      → (statement_with_values symbols outer rs s).guard ≡ None
   values_unguarded outer [] s h = h
   values_unguarded outer (r ∷ rs) s h =
-      values_unguarded (outer ++ r ∷ []) rs (rewritten_statement (with_value symbols outer r) s) (unguarded (with_value symbols outer r) s h)
+      values_unguarded (outer ++ r ∷ []) rs (rewritten_statement (with_value symbols outer r) s)
+          (unguarded (with_value symbols outer r) s h)
 
-  pub normal_count : (round : List NormalLoop) (s : Guarded) → length round ≤ 7 → Each HasSizes round → count_of s < 2 ^ 31 → count_of (normal_statement symbols round s) ≤ 2 ^ 63
+  pub normal_count : (round : List NormalLoop) (s : Guarded) → length round ≤ 7 → Each HasSizes round
+      → count_of s < 2 ^ 31 → count_of (normal_statement symbols round s) ≤ 2 ^ 63
   unfolding normal_statement
   normal_count round s few h k =
       let t : Guarded = statement_with_values symbols [] round s in
       let same = counters_many round in
-      let f = statement_grown (in_text symbols round) (canonising_grows (counters_of round) symbols (omega (arith, few, same))) (λ l. refl) t in
+      let f = statement_grown (in_text symbols round)
+          (canonising_grows (counters_of round) symbols (omega (arith, few, same))) (λ l. refl) t in
       let g = values_count [] round s h in
       let most = seven_rounds (length round) (count_of s) few in omega (arith, f, g, most, k)
 
-  pub normal_unguarded : (round : List NormalLoop) (s : Guarded) → s.guard ≡ None → (normal_statement symbols round s).guard ≡ None
+  pub normal_unguarded : (round : List NormalLoop) (s : Guarded) → s.guard ≡ None
+      → (normal_statement symbols round s).guard ≡ None
   unfolding normal_statement
-  normal_unguarded round s h = unguarded (in_text symbols round) (statement_with_values symbols [] round s) (values_unguarded [] round s h)
+  normal_unguarded round s h = unguarded (in_text symbols round) (statement_with_values symbols [] round s)
+      (values_unguarded [] round s h)

@@ -1,17 +1,18 @@
 -- The listing of a program can be read back from its lines.
 use Rattle.std.specs.Prelude.{◌≡◌, ℕ, Some, List, map}
+use Rattle.std.specs.Str.Lines.{lines}
 use Rattle.f77_grammar.specs.Reading77.{Reads77}
 use Rattle.fv_meaning.specs.Dialect.{fortran77}
 use Rattle.fv_meaning.specs.Profile77.{IsProgram77}
 use Rattle.fv_tree.specs.Plain.{Program}
 use Rattle.listing_reader.specs.Reader.{read_listing}
-use Rattle.program_listing.specs.Listing.{IsListing}
+use Rattle.program_listing.specs.Listing.{IsListing, IsListingText}
 use Rattle.listings_read.specs.Uses.{IsShort}
 
 -- from the lines of a program's listing its entries are read, in their order
 abbrev pub ProgramListingIsRead : Type 0
-ProgramListingIsRead = (p : Program) (lines : List (List ℕ)) → IsProgram77 fortran77 p → IsShort p
-    → (listing : IsListing p lines) → read_listing lines ≡ map Some listing.entries
+ProgramListingIsRead = (p : Program) (all : List (List ℕ)) → IsProgram77 fortran77 p → IsShort p
+    → (listing : IsListing p all) → read_listing all ≡ map Some listing.entries
 
 -- what is read from a source is short
 abbrev pub SourceIsShort : Type 0
@@ -19,11 +20,16 @@ SourceIsShort = (source : List ℕ) (p : Program) → Reads77 fortran77 source p
 
 -- so the listing of a source is read
 abbrev pub SourceListingIsRead : Type 0
-SourceListingIsRead = (source : List ℕ) (p : Program) (lines : List (List ℕ)) → Reads77 fortran77 source p
-    → (listing : IsListing p lines) → read_listing lines ≡ map Some listing.entries
+SourceListingIsRead = (source : List ℕ) (p : Program) (all : List (List ℕ)) → Reads77 fortran77 source p
+    → (listing : IsListing p all) → read_listing all ≡ map Some listing.entries
+
+-- also from its text
+abbrev pub SourceListingTextIsRead : Type 0
+SourceListingTextIsRead = (source : List ℕ) (p : Program) (text : List ℕ) → Reads77 fortran77 source p
+    → (listed : IsListingText p text) → read_listing (lines text) ≡ map Some listed.listing.entries
 
 -- and two listings with the same lines have the same entries
 abbrev pub SameLinesListTheSame : Type 0
-SameLinesListTheSame = (source other : List ℕ) (p q : Program) (lines : List (List ℕ)) → Reads77 fortran77 source p
-    → Reads77 fortran77 other q → (listing : IsListing p lines) (others : IsListing q lines)
+SameLinesListTheSame = (source other : List ℕ) (p q : Program) (all : List (List ℕ)) → Reads77 fortran77 source p
+    → Reads77 fortran77 other q → (listing : IsListing p all) (others : IsListing q all)
     → listing.entries ≡ others.entries

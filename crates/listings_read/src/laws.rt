@@ -1,9 +1,10 @@
 //! Laws of the listings of programs. A law is a function without a body: its contract is what holds.
 ghost use Rattle.listings_read.specs.Laws.{ProgramListingIsRead, SameLinesListTheSame, SourceIsShort};
-ghost use Rattle.listings_read.specs.Laws.{SourceListingIsRead};
+ghost use Rattle.listings_read.specs.Laws.{SourceListingIsRead, SourceListingTextIsRead};
 
 /// From the lines of a program's listing all its entries are read: its nests with their loops, statements, dependences
-/// and holds, and its kept loops. This is so for each program in whose assignments fewer than 2^31 names stand.
+/// and holds, and its kept loops. This is so for each program in whose assignments fewer than 2^31 names stand; with
+/// more of them a reference might have a number that a listing doesn't show whole.
 pub fn listing_of_program_is_read()
     ensures { ProgramListingIsRead }
 {}
@@ -16,6 +17,11 @@ pub fn source_is_short()
 /// So from the lines that are listed of a FORTRAN 77 source all their entries are read.
 pub fn listing_of_source_is_read()
     ensures { SourceListingIsRead }
+{}
+
+/// They are read also from the text of the listing, which has these lines.
+pub fn listing_text_of_source_is_read()
+    ensures { SourceListingTextIsRead }
 {}
 
 /// Where the listings of two sources have the same lines, they have the same entries.
