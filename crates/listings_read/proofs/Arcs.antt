@@ -83,7 +83,7 @@ module _ (loops : List (List ℕ)) where
     named_subscripts no_subscripts h = tt
     named_subscripts (subscript s ss) h =
         several (references_in_subscript loops s) (references_in_subscripts loops ss) (named_subscript s h.0)
-            (named_subscripts ss h.1)
+        (named_subscripts ss h.1)
 
     named_subscript : (s : Subscript) → OneIsOver IsWord s → AreNamed (references_in_subscript loops s)
     named_subscript (Only e) h = named e h
@@ -103,7 +103,7 @@ references_named s t =
       several (references_in_guard loops s.statement.guard) (left ++ right)
           (named_guard loops s.statement.guard h.guard)
           (several left right (named_subscripts loops s.statement.left.subscripts h.left)
-              (named loops s.statement.right h.right)),
+          (named loops s.statement.right h.right)),
     )
 
 -- ---- levels
@@ -168,26 +168,48 @@ module _ (m : Nest) (ready : IsReady m) (tidy : IsTidyNest m) (few : length (nes
         let l = couple c is in
         let places = h.places in
         let most = level_most 0 d.at in
-        let same : e ≡ record { from = c.from; to = c.to; kind = c.kind; array = c.array; dirs = d; level =
-            level_from 0 d.at; test = w; pair = None } = cc in
-        subst IsListableEdge (sym same) (record { from = l.from; to = l.to; array = l.array },
-            (omega (arith, places, most), tt))
+        let same : e ≡ record {
+          from = c.from;
+          to = c.to;
+          kind = c.kind;
+          array = c.array;
+          dirs = d;
+          level =
+              level_from 0 d.at;
+          test = w;
+          pair = None;
+        } = cc in
+        subst IsListableEdge (sym same) (
+          record { from = l.from; to = l.to; array = l.array },
+          (omega (arith, places, most), tt),
+        )
     edge d (Pair x y w) e h k g =
         let l = couple c is in
         let places = h.places in
         let most = level_most 0 d.at in
-        let same : e ≡ record { from = c.from; to = c.to; kind = c.kind; array = c.array; dirs = d; level =
-            level_from 0 d.at; test = w; pair = Some (x, y) } = cc in
+        let same : e ≡ record {
+          from = c.from;
+          to = c.to;
+          kind = c.kind;
+          array = c.array;
+          dirs = d;
+          level =
+              level_from 0 d.at;
+          test = w;
+          pair = Some (x, y);
+        } = cc in
         let pair = k.least.pair in
         let meeting : IsListableMeeting (record
-            { first = take (depth_of ts c.from.stmt) x.at; second = take (depth_of ts c.to.stmt) y.at }) = record {
+        { first = take (depth_of ts c.from.stmt) x.at; second = take (depth_of ts c.to.stmt) y.at }) = record {
           first = shown_small m ready pair.values c.from.stmt is.refs.first c.refs.from_spans x.at
               is.refs.first_is.statement is.refs.from_spans k.exact.from_fixed pair.first_instance;
           second = shown_small m ready pair.values c.to.stmt is.refs.second c.refs.to_spans y.at
               is.refs.second_is.statement is.refs.to_spans k.exact.to_fixed pair.second_instance;
         } in
-        subst IsListableEdge (sym same) (record { from = l.from; to = l.to; array = l.array },
-            (omega (arith, places, most), meeting))
+        subst IsListableEdge (sym same) (
+          record { from = l.from; to = l.to; array = l.array },
+          (omega (arith, places, most), meeting),
+        )
 
     drop : (d : Dirs) (v : Verdict) (e : Dropped) → drop_of c d v ≡ Some e → IsListableDrop e
     drop d (Pair x y w) e g = let no : ⊥ = cc in absurd no
@@ -204,7 +226,7 @@ module _ (m : Nest) (ready : IsReady m) (tidy : IsTidyNest m) (few : length (nes
     edges (a ∷ more) h k =
         with_one IsListableEdge (edge_of c a.0 a.1) (edges_of c more)
         (λ e g. edge a.0 a.1 e (All-head (λ (b : Answer). IsVectorOf c.refs b.0) a more h)
-            (All-head (IsRightAnswer m c) a more k).edge g)
+        (All-head (IsRightAnswer m c) a more k).edge g)
         (edges more (All-tail (λ (b : Answer). IsVectorOf c.refs b.0) a more h) (All-tail (IsRightAnswer m c) a more k))
 
     drops : (answers : List Answer) → AllByRecursion IsListableDrop (drops_of c answers)
@@ -217,13 +239,13 @@ module _ (m : Nest) (ready : IsReady m) (tidy : IsTidyNest m) (few : length (nes
   every_edge (c ∷ cs) h =
       let is = All-head (IsCouple m) c cs h in
       joined IsListableEdge (edges_of c c.answers) (all_edges cs) (edges c is c.answers is.vectors is.right)
-          (every_edge cs (All-tail (IsCouple m) c cs h))
+      (every_edge cs (All-tail (IsCouple m) c cs h))
 
   every_drop : (cs : List Couple) → All (IsCouple m) cs → AllByRecursion IsListableDrop (all_drops cs)
   every_drop [] h = tt
   every_drop (c ∷ cs) h =
       joined IsListableDrop (drops_of c c.answers) (all_drops cs) (drops c (All-head (IsCouple m) c cs h) c.answers)
-          (every_drop cs (All-tail (IsCouple m) c cs h))
+      (every_drop cs (All-tail (IsCouple m) c cs h))
 
   pub graph_edges : (g : Graph) → IsGraphOf m g → AllByRecursion IsListableEdge g.edges
   graph_edges g h = subst (AllByRecursion IsListableEdge) (sym h.edges) (every_edge h.couples h.each)

@@ -275,9 +275,9 @@ terms_count o (c ∷ cs) (x ∷ xs) = by (int_eq c (pos 0)) refl (terms_count (w
   where
     by : (b : Bool) → int_eq c (pos 0) ≡ b
         → so_far (with_terms (with_term o c (variable x)) cs (variables xs)) ≤ so_far (with_term o c (variable x))
-            + not_zero cs
+        + not_zero cs
         → so_far (with_terms (with_term o c (variable x)) cs (variables xs)) ≤ so_far o + cond b (not_zero cs)
-            (suc (not_zero cs))
+        (suc (not_zero cs))
     by true e h =
         let same : so_far (with_term o c (variable x)) ≡ so_far o =
         ap (λ (z : ℤ). so_far (with_term o z (variable x))) ((Decides-int_eq c (pos 0)).0 e) in omega (arith, h, same)
@@ -315,7 +315,7 @@ symbols_count m o (s ∷ ss) ts h = by (λ q. symbols_count m q ss ts h) (slice_
   where
     by : ((p : Option Expression) → so_far (with_symbols p ss ts) ≤ so_far p + total m (length ss))
         → (q : Option Expression) → slice_get ts s.0 ≡ q
-            → so_far (with_symbols (with_place o s.1 q) ss ts) ≤ so_far o + (m + total m (length ss))
+        → so_far (with_symbols (with_place o s.1 q) ss ts) ≤ so_far o + (m + total m (length ss))
     by rest None e = let f = rest o in omega (arith, f)
     by rest (Some t) e =
         let f = rest (with_term o s.1 t) in

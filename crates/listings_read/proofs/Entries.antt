@@ -48,7 +48,7 @@ mutual
       ((h.0.number, (h.0.variable, o)), loops_in (round ++ l ∷ []) l.number ps h.0.number h.1)
   loops round outer (Choice bs ps) o h =
       several (loop_entries_under outer bs) (loop_entries_in outer ps) (loops_under round outer bs o h.0)
-          (loops_in round outer ps o h.1)
+      (loops_in round outer ps o h.1)
   loops round outer (Label n) o h = tt
   loops round outer (Jump n) o h = tt
 
@@ -63,7 +63,7 @@ mutual
   loops_under round outer no_branches o h = tt
   loops_under round outer (branch test ps bs) o h =
       several (loop_entries_in outer ps) (loop_entries_under outer bs) (loops_in round outer ps o h.0)
-          (loops_under round outer bs o h.1)
+      (loops_under round outer bs o h.1)
 
 statements : (s : ℕ) (ts : List Standing) → s + length ts ≤ 2 ^ 41 → AllByRecursion IsTidy ts
     → AreListable (statement_entries s ts)
@@ -107,7 +107,7 @@ module _ (ts : List Standing) where
   answers [] ds h k = ruled_out ds k
   answers (e ∷ es) ds h k =
       joined HasEntry (map RuledOut (before e ds)) (Found e ∷ in_order es (not_before e ds))
-          (ruled_out (before e ds) (drops_before e ds k))
+      (ruled_out (before e ds) (drops_before e ds k))
       (h.0, answers es (not_before e ds) h.1 (drops_behind e ds k))
 
   each_answer : (xs : List Answered) → AllByRecursion HasEntry xs → AreListable (map (answer_entry ts) xs)
@@ -129,7 +129,7 @@ from_each : (f : ℕ → List Hold) (most k n : ℕ) → k + n ≤ most → ((j 
 from_each f most k zero l h = tt
 from_each f most k (suc n) l h =
     joined IsListableHold (f k) (flat_map f (counted (k + 1) n)) (h k (omega (arith, l)))
-        (from_each f most (k + 1) n (omega (arith, l)) h)
+    (from_each f most (k + 1) n (omega (arith, l)) h)
 
 module _ (m : Nest) (ready : IsReady m) where
   shallow : (k : ℕ) → length (slice_index_or (nest_statements m) k no_statement).loops ≤ 7
@@ -140,15 +140,15 @@ module _ (m : Nest) (ready : IsReady m) where
       by (inl g) = (ready.statements k no_statement g).depth
       by (inr g) =
           subst (λ (x : Standing). length x.loops ≤ 7) (sym (get_or_past (nest_statements m) k no_statement g))
-              (omega arith)
+          (omega arith)
 
   holds_at : (s : ℕ) → IsSmall s → AreHolds (holds_of m s)
   holds_at s h =
       let few = shallow (s - 1) in
       from_each (hold_at_level s (surroundings_at m s) (statement_at m s).statement.left) 8 1
-          (length (statement_at m s).loops) (omega (arith, few))
+      (length (statement_at m s).loops) (omega (arith, few))
       (λ j l. held s j (reason_of (forms.hold_at (surroundings_at m s) j (statement_at m s).statement.left)) h
-          (omega (arith, l)))
+      (omega (arith, l)))
 
   every_hold : length (nest_statements m) ≤ 2 ^ 40 → AreHolds (all_holds m)
   every_hold few = from_each (holds_of m) (2 ^ 41) 1 (length (nest_statements m)) (omega (arith, few))

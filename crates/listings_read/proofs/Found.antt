@@ -129,7 +129,7 @@ module _ (ds : List Declaration) (known : (x : List ℕ) (d : Declaration) → d
     where
       by : (o : Option Declaration) → declared ds left.name ≡ o
           → IsSomeAnd o (λ (d : Declaration).
-              IsWhole ds (Named left.name left.subscripts) d.kind × IsWhole ds right d.kind)
+          IsWhole ds (Named left.name left.subscripts) d.kind × IsWhole ds right d.kind)
           → IsStatementOver IsWord (record { line = line; guard = None; left = left; right = right })
       by None e g = absurd g
       by (Some d) e g =
@@ -149,12 +149,20 @@ module _ (ds : List Declaration) (known : (x : List ℕ) (d : Declaration) → d
     fair k (Assignment l mark left right) w n u h =
         (record { over = assigned l left right w h.2; unguarded = refl; few = u }, tt)
     fair k (Where l mark mask left right) w n u h = absurd h
-    fair k (If l arms other) w n u h =
-        ((fair_arms k arms w n (omega (arith, u)) h.2, fair_block (after_arms k arms) other w (arms_number k arms n)
-            (omega (arith, u)) h.3), tt)
+    fair k (If l arms other) w n u h = (
+      (
+        fair_arms k arms w n (omega (arith, u)) h.2,
+        fair_block (after_arms k arms) other w (arms_number k arms n)
+            (omega (arith, u)) h.3,
+      ),
+      tt,
+    )
     fair k (Do l x a b c body) w n u h = (
-      (record { variable = declared_name x _ h.1.integer.0; number = next_number k n }, fair_block (next k) body
-          (within_loop x w) (next_number k n) u h.5),
+      (
+        record { variable = declared_name x _ h.1.integer.0; number = next_number k n },
+        fair_block (next k) body
+            (within_loop x w) (next_number k n) u h.5,
+      ),
       tt,
     )
     fair k (Label m) w n u h = (tt, tt)
@@ -169,16 +177,18 @@ module _ (ds : List Declaration) (known : (x : List ℕ) (d : Declaration) → d
         → AreArms ds arms w
         → EachInBranches IsFairStatement IsFairLoop (branches_of k arms)
     fair_arms k no_arms w n u h = tt
-    fair_arms k (arm test body arms) w n u h =
-        (fair_block k body w n (omega (arith, u)) h.1, fair_arms (after_block k body) arms w (block_number k body n)
-            (omega (arith, u)) h.2)
+    fair_arms k (arm test body arms) w n u h = (
+      fair_block k body w n (omega (arith, u)) h.1,
+      fair_arms (after_block k body) arms w (block_number k body n)
+          (omega (arith, u)) h.2,
+    )
 
     fair_block : (k : ℕ) (b : Block) (w : Surroundings) → IsNumber k → uses_assigned_in b < 2 ^ 31 → IsBlock ds b w
         → Fair (parts_of_block k b)
     fair_block k no_statements w n u h = tt
     fair_block k (statement c cs) w n u h =
         followed (parts_of k c) (parts_of_block (after k c) cs)
-            (fair k c (before_labels (labels_of cs) w) n (omega (arith, u)) h.0)
+        (fair k c (before_labels (labels_of cs) w) n (omega (arith, u)) h.0)
         (fair_block (after k c) cs w (after_number k c n) (omega (arith, u)) h.1)
 
 -- ---- the loops of the program
@@ -194,7 +204,7 @@ mutual
   fits k around (Where l mark mask left right) n u = tt
   fits k around (If l arms other) n u =
       Each-append Fits (loops_in_arms k around arms) (loops_in_block (after_arms k arms) around other)
-          (fits_arms k around arms n (omega (arith, u)))
+      (fits_arms k around arms n (omega (arith, u)))
       (fits_block (after_arms k arms) around other (arms_number k arms n) (omega (arith, u)))
   fits k around (Do l x a b c body) n u = (
     record { before = n; few = u },
@@ -214,7 +224,7 @@ mutual
   fits_arms k around no_arms n u = tt
   fits_arms k around (arm test body arms) n u =
       Each-append Fits (loops_in_block k around body) (loops_in_arms (after_block k body) around arms)
-          (fits_block k around body n (omega (arith, u)))
+      (fits_block k around body n (omega (arith, u)))
       (fits_arms (after_block k body) around arms (block_number k body n) (omega (arith, u)))
 
   fits_block : (k : ℕ) (around : List SourceLoop) (b : Block) → IsNumber k → uses_assigned_in b < 2 ^ 31
@@ -222,7 +232,7 @@ mutual
   fits_block k around no_statements n u = tt
   fits_block k around (statement c cs) n u =
       Each-append Fits (loops_in k around c) (loops_in_block (after k c) around cs)
-          (fits k around c n (omega (arith, u)))
+      (fits k around c n (omega (arith, u)))
       (fits_block (after k c) around cs (after_number k c n) (omega (arith, u)))
 
 -- ---- the numbers of nests
@@ -234,7 +244,7 @@ module _ (p : Program) where
   numbered k (l ∷ ls) n h c =
       by (reason_of p.declarations l.loop) (λ j g d. numbered j ls n g d)
       (cases_of (found_as p k l (reason_of p.declarations l.loop))
-          (found_among p (nests_with k (reason_of p.declarations l.loop)) ls) (InNest n) c)
+      (found_among p (nests_with k (reason_of p.declarations l.loop)) ls) (InNest n) c)
     where
       by : (o : Option Reason) → ((j : ℕ) → IsNumber j → Contains (found_among p j ls) (InNest n) → IsNumber n.number)
           → (found_as p k l o ≡ InNest n) ⊎ Contains (found_among p (nests_with k o) ls) (InNest n) → IsNumber n.number
@@ -274,7 +284,7 @@ module _ (d : Dialect) (p : Program) (is : IsProgram77 d p) (short : IsShort p) 
       let l = f.loop.loop in
       let s = loop_stands ds p.body 0 [] outermost f.loop is.statements f.stands in
       let fit = Each-Contains Fits (loops_in_block 0 [] p.body) f.loop (fits_block 0 [] p.body (omega arith) short)
-          f.stands in
+      f.stands in
       let number = numbered p 0 (looked_at p.declarations p.body) n (omega arith) h in
       subst IsFairNest (sym f.is)
       (record {

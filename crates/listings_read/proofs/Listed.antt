@@ -38,7 +38,7 @@ module _ (p : Program) (is : IsProgram77 fortran77 p) (short : IsShort p) where
       let l = f.loop.loop in
       let inside : suc (statements_in l.loop.body) ≤ statements_in p.body =
       Each-Contains (Within (statements_in p.body)) (loops_in_block 0 [] p.body) f.loop
-          (within_block (statements_in p.body) 0 [] p.body (omega arith)) f.stands in
+      (within_block (statements_in p.body) 0 [] p.body (omega arith)) f.stands in
       let most : statements_in p.body < 2 ^ 31 = is.few in
       let own = loop_size l.before l.loop in
       let body : size n.body ≤ 2 * suc (statements_in l.loop.body) =
@@ -58,7 +58,7 @@ module _ (p : Program) (is : IsProgram77 fortran77 p) (short : IsShort p) where
       let same = same_line n m e in
       subst AreListable (sym k.2)
       (nest_listable m n.number k.0 (omega (arith, number)) (omega (arith, line, same))
-          (normal_nest_is_ready fortran77 p n m is c e) (made_tidy n fair m e) (few n m c e) k.1)
+      (normal_nest_is_ready fortran77 p n m is c e) (made_tidy n fair m e) (few n m c e) k.1)
 
   nest_entries : (n : Nest) (o : Option Nest) (es : List Entry) → Contains (found_in p) (InNest n) → normalised n ≡ o
       → HasNestEntries n o es → AreListable es
@@ -79,9 +79,9 @@ module _ (p : Program) (is : IsProgram77 fortran77 p) (short : IsShort p) where
   all_entries (f ∷ fs) es c h =
       subst AreListable (sym h.2)
       (joined IsListable h.0 h.1 (entries f h.0 (c f (here f fs)) h.3)
-          (all_entries fs h.1 (λ g i. c g (there f fs g i)) h.4))
+      (all_entries fs h.1 (λ g i. c g (there f fs g i)) h.4))
 
 pub program_listing_is_read : ProgramListingIsRead
 program_listing_is_read p lines is short h =
     ap read_listing h.lines_are ∙ listing-is-read h.entries
-        (all_entries p is short (found_in p) h.entries (λ f c. c) h.are)
+    (all_entries p is short (found_in p) h.entries (λ f c. c) h.are)

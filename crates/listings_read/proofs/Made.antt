@@ -91,7 +91,7 @@ module _ (n : Nest) (names : IsFairNest n) where
       → IsTidy (standing ls (normal_statement n.symbols round s))
   run round ls s u h =
       let few = few_references (standing ls (normal_statement n.symbols round s))
-          (normal_unguarded n.symbols round s h.unguarded) in
+      (normal_unguarded n.symbols round s h.unguarded) in
       let most = normal_count n.symbols round s u.loops.few u.sizes h.few in
       record {
         over = normal_over IsWord n.symbols names.symbols round s u.counters h.over;
@@ -102,7 +102,7 @@ module _ (n : Nest) (names : IsFairNest n) where
   assigned : (round : List NormalLoop) (ls : List Loop) (l : Loop) (r : NormalLoop) (e : Expression) → AreUnder round ls
       → IsFairLoop l → normal_loop n.symbols round l ≡ Some r
       → IsOver IsWord e → length (references_of (standing ls (assigning n.line r.variable e))) ≤ 2000
-          → IsTidy (standing ls (assigning n.line r.variable e))
+      → IsTidy (standing ls (assigning n.line r.variable e))
   assigned round ls l r e u f h over few = record {
     over = record {
       guard = tt;
@@ -122,7 +122,7 @@ module _ (n : Nest) (names : IsFairNest n) where
       let few = few_references (standing ls (assigning n.line r.variable text)) refl in
       let most = first_count n.symbols round r (loop_sized n.symbols round l r e) in
       assigned round ls l r text u f e (first_over IsWord n.symbols names.symbols round r u.counters)
-          (omega (arith, few, most))
+      (omega (arith, few, most))
 
   end : (round : List NormalLoop) (ls : List Loop) (l : Loop) (r : NormalLoop) → AreUnder round ls → IsFairLoop l
       → normal_loop n.symbols round l ≡ Some r
@@ -132,7 +132,7 @@ module _ (n : Nest) (names : IsFairNest n) where
       let few = few_references (standing ls (assigning n.line r.variable text)) refl in
       let most = end_count n.symbols round r (loop_sized n.symbols round l r e) in
       assigned round ls l r text u f e (end_over IsWord n.symbols names.symbols round r u.counters)
-          (omega (arith, few, most))
+      (omega (arith, few, most))
 
   steps : Steps n IsFairStatement IsFairLoop AreUnder IsTidy
   steps = record { run = run; turns = turns; first = first; end = end }

@@ -87,7 +87,7 @@ mutual
   within most k around (If l arms other) h =
       Each-append (Within most) (loops_in_arms k around arms) (loops_in_block (after_arms k arms) around other)
       (within_arms most k around arms (omega (arith, h)))
-          (within_block most (after_arms k arms) around other (omega (arith, h)))
+      (within_block most (after_arms k arms) around other (omega (arith, h)))
   within most k around (Do l x a b c body) h = (
     omega (arith, h),
     within_block most (next k) (around ++ record { line = l; variable = x; first = a; last = b; step = c; body = body }
@@ -107,7 +107,7 @@ mutual
   within_arms most k around (arm test body arms) h =
       Each-append (Within most) (loops_in_block k around body) (loops_in_arms (after_block k body) around arms)
       (within_block most k around body (omega (arith, h)))
-          (within_arms most (after_block k body) around arms (omega (arith, h)))
+      (within_arms most (after_block k body) around arms (omega (arith, h)))
 
   pub within_block : (most k : ℕ) (around : List SourceLoop) (b : Block) → statements_in_block b ≤ most
       → Each (Within most) (loops_in_block k around b)
@@ -163,9 +163,9 @@ module _ (n : Nest) (all : List NestedLoop) where
         by true = let e = alone (statements_in ls p) in omega (arith, e)
         by false =
             let e = many_joined ls (parts_before n.symbols n.line round r) (p ∷ parts_behind n.symbols n.line round r)
-                in
+            in
             let f = length-append (statements_in ls p)
-                (statements_in_parts ls (parts (parts_behind n.symbols n.line round r))) in
+            (statements_in_parts ls (parts (parts_behind n.symbols n.line round r))) in
             let g = before ls in let h = behind ls in omega (arith, e, f, g, h)
 
   turned : (round : List NormalLoop) (ls : List Loop) (l : Loop) (ps : Parts) (o : Option NormalLoop)
@@ -208,13 +208,13 @@ module _ (n : Nest) (all : List NestedLoop) where
         let f = few_in round ls ps in
         let g = few_under round ls bs in
         let e = length-append (statements_in_parts ls (parts (normal_parts n all round ps)))
-            (statements_in_branches ls (normal_branches n all round bs)) in
+        (statements_in_branches ls (normal_branches n all round bs)) in
         omega (arith, f, g, e)
 
 pub few_statements : (n m : Nest) → IsMadeOf n m → length (nest_statements m) ≤ size n.body
 few_statements n m h =
     let f = few n h.loops [] [] n.body in
     let same : length (statements_in_parts [] (parts (normal_part n h.loops [] n.body))) ≡ length
-        (nest_statements m ++ []) =
+    (nest_statements m ++ []) =
     ap (λ (ps : List Part). length (statements_in_parts [] (parts ps))) h.body in
     let e = alone n h.loops (nest_statements m) in omega (arith, f, same, e)

@@ -40,9 +40,9 @@ one_small d outer None s i p h f w = absurd h
 one_small d outer (Some t) s i p h f w =
     let c = fixed_is_constant outer t s p.positive h f in
     let high : i ≤ℤ int_div t.top.constant t.by =
-        subst (λ (r : Span). IfSome r.last (λ (n : ℤ). i ≤ℤ n)) (h.constant c) w.high in
+    subst (λ (r : Span). IfSome r.last (λ (n : ℤ). i ≤ℤ n)) (h.constant c) w.high in
     between i (int_div t.top.constant t.by) w.low high
-        (quotient_small t.top.constant t.by p.positive p.top.small_constant)
+    (quotient_small t.top.constant t.by p.positive p.top.small_constant)
 
 -- ---- the loops round a statement
 
@@ -85,8 +85,8 @@ module _ (m : Nest) (ready : IsReady m) where
   pub shown_small : (values : ℕ → ℤ) (k : ℕ) (s : Standing) (ss : List Span) (x : List ℤ) → slice_get ts k ≡ Some s
       → AreSpansOf [] s.loops ss
       → All (λ (s : Span). IsTrue s.fixed) ss → IsInstance m values k (take (length ss) x)
-          → AllByRecursion IsSmallInteger (take (depth_of ts k) x)
+      → AllByRecursion IsSmallInteger (take (depth_of ts k) x)
   shown_small values k s ss x e h f i =
       let deep : length ss ≡ depth_of ts k = spans_length [] s.loops ss h ∙ sym (depth_is k s e) in
       subst (λ (n : ℕ). AllByRecursion IsSmallInteger (take n x)) deep
-          (instance_small values k s ss (take (length ss) x) e h f i)
+      (instance_small values k s ss (take (length ss) x) e h f i)

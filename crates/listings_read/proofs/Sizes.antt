@@ -45,7 +45,7 @@ eight_places : (ts : List (ℕ × ℤ)) → length ts ≤ 8 → length (padded t
 eight_places ts h =
     let e = length-append ts (replicate (8 - length ts) (0, pos 0)) in
     let f : length (replicate {A = ℕ × ℤ} (8 - length ts) (0, pos 0)) ≡ 8 - length ts =
-        length-replicate (8 - length ts) (0, pos 0) in omega arith
+    length-replicate (8 - length ts) (0, pos 0) in omega arith
 
 pub sum_sized : (n : ℕ) (ts : List Multiple) (a : Affine) → combination n ts ≡ Some a → IsSized a
 sum_sized n ts a h =
@@ -92,22 +92,22 @@ module _ (symbols : List (List ℕ)) (round : List NormalLoop) (l : Loop) (r : N
       let s1 = step (bound_form symbols round l.first []) (after_first symbols round l) r h in
       let s2 = step (plus_number n s1.result (neg_ℤ l.step)) (after_below symbols round l s1.result) r s1.then in
       let s3 = step (plus_multiple n s2.result l.step (loop_form (length round)))
-          (after_value symbols round l s1.result s2.result) r s2.then in
+      (after_value symbols round l s1.result s2.result) r s2.then in
       let s4 = step (bound_form symbols round l.last (times (negsuc 0) s2.result ∷ []))
-          (after_top symbols round l s1.result s2.result s3.result) r s3.then in
+      (after_top symbols round l s1.result s2.result s3.result) r s3.then in
       let s5 = step (trip_by n l.step s4.result) (after_trip symbols round l s1.result s2.result s3.result) r s4.then in
       let s6 = step (plus_multiple (n + 1) s1.result l.step (trip_form n s5.result))
-          (after_end symbols round l s1.result s2.result s3.result s5.result) r s5.then in
+      (after_end symbols round l s1.result s2.result s3.result s5.result) r s5.then in
       let s7 = step (combination n (times (sign_of l.step) s4.result ∷ []))
-          (λ top. Some (trip_of top (pos (nat_abs l.step)))) s5.result s5.is in
+      (λ top. Some (trip_of top (pos (nat_abs l.step)))) s5.result s5.is in
       let is : NormalLoop = with_forms l s1.result s2.result s3.result s5.result s6.result in
       let same : is ≡ r = same_loop is r s6.then in
       let trip : trip_of s7.result (pos (nat_abs l.step)) ≡ s5.result =
-          same_trip (trip_of s7.result (pos (nat_abs l.step))) s5.result s7.then in
+      same_trip (trip_of s7.result (pos (nat_abs l.step))) s5.result s7.then in
       let top : IsSized s5.result.top =
       subst (λ (t : Trip). IsSized t.top) {x = trip_of s7.result (pos (nat_abs l.step))} {y = s5.result} trip
-          (trip_sized s7.result (pos (nat_abs l.step))
-          (sum_sized n (times (sign_of l.step) s4.result ∷ []) s7.result s7.is)) in
+      (trip_sized s7.result (pos (nat_abs l.step))
+      (sum_sized n (times (sign_of l.step) s4.result ∷ []) s7.result s7.is)) in
       subst HasSizes {x = is} same (record {
         first = bound_sized symbols round l.first [] s1.result s1.is;
         below = sum_sized n (times (pos 1) s1.result ∷ times (neg_ℤ l.step) (number_form (pos 1)) ∷ []) s2.result s2.is;

@@ -46,7 +46,7 @@ pub source_listing_text_is_read : SourceListingTextIsRead
 source_listing_text_is_read source p text h listed =
     let notes = listing_lines_are_notes p listed.lines (is_program source p h) listed.listing in
     let same : lines text ≡ listed.lines = ap lines listed.text_is
-        ∙ lines_again listed.lines (each_inside listed.lines notes) in
+    ∙ lines_again listed.lines (each_inside listed.lines notes) in
     ap read_listing same ∙ source_listing_is_read source p listed.lines h listed.listing
 
 -- ---- two listings

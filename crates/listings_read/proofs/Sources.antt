@@ -162,7 +162,7 @@ form_count (forms.Assign l r) text h = assigned_form l r text h
 form_count (forms.Test p f) text h =
     let more = form_count f h.1 h.5 in
     let all : length text ≡ length (chars (73 ∷ 70 ∷ 40 ∷ []) ++ (h.0 ++ (chars (41 ∷ []) ++ h.1))) =
-        ap (λ (t : List Symbol). length t) h.2 in
+    ap (λ (t : List Symbol). length t) h.2 in
     let a = length-append (chars (73 ∷ 70 ∷ 40 ∷ [])) (h.0 ++ (chars (41 ∷ []) ++ h.1)) in
     let b = length-append h.0 (chars (41 ∷ []) ++ h.1) in
     let c = length-append (chars (41 ∷ [])) h.1 in omega (arith, more, all, a, b, c)
@@ -253,7 +253,7 @@ module _ (us : List Use) (s : Store) where
         let h = resolved_one p in
         let k = resolved_in ps in
         let c = two (uses_in_subscript (resolved_subscript us s p)) (uses_in_subscripts (resolved_subscripts us s ps))
-            in
+        in
         let d = two (uses_in_subscript p) (uses_in_subscripts ps) in omega (arith, h, k, c, d)
 
     resolved_one : (p : Subscript) → count_one (resolved_subscript us s p) ≤ count_one p
@@ -306,7 +306,7 @@ rest_count us s goals (x ∷ xs) =
     let mark = no_names goals x.label in
     let own = simple_count us s x.line x.statement in
     let one = at_most of_names us s goals x x.statement (uses77 x.statement) (rest_from us s goals xs)
-        (omega (arith, mark, own)) (omega (arith, mark)) in
+    (omega (arith, mark, own)) (omega (arith, mark)) in
     omega (arith, more, one)
 
 outermost_count : (r : Rest) → uses_assigned_in (outermost_block r) ≤ in_rest of_names r
@@ -369,7 +369,7 @@ kept test n (t ∷ ls) = by (test l) (kept test (n + 1) ls)
 
     by : (b : Bool) → AreNarrow (filter test (numbered (n + 1) ls)) (length ls)
         → AreNarrow (cond b (l ∷ filter test (numbered (n + 1) ls)) (filter test (numbered (n + 1) ls)))
-            (suc (length ls))
+        (suc (length ls))
     by true h = let few = h.few in let cut =
         length-take 72 (t ++ replicate 72 32)
         in record { each = (omega (arith, cut), h.each); few = omega (arith, few) }
@@ -382,14 +382,14 @@ lines_narrow text = kept (λ line. not (is_comment line.columns)) 1 (lines text)
 source_count : (text : List ℕ) (cards : List PlainCard) → ReadsCards text cards → characters cards ≤ 72 * 2 ^ 20
 source_count text cards h =
     let few : length (lines text) ≤ 2 ^ 20 =
-        omega (arith, lines-le text, unrefused_short text (unrefused text cards h)) in
+    omega (arith, lines-le text, unrefused_short text (unrefused text cards h)) in
     let narrow = lines_narrow text in
     let most = narrow.few in
     let ss = h.are_cards.statements in
     let each : AllByRecursion IsNarrow (flat_map all_lines ss) =
-        subst (AllByRecursion IsNarrow) h.are_cards.in_order narrow.each in
+    subst (AllByRecursion IsNarrow) h.are_cards.in_order narrow.each in
     let many : length (statement_lines text) ≡ length (flat_map all_lines ss) =
-        ap (λ (ls : List Line). length ls) h.are_cards.in_order in
+    ap (λ (ls : List Line). length ls) h.are_cards.in_order in
     let made = cards_short ss each in
     let same : characters cards ≡ characters (map card_in ss) = ap characters h.are_cards.cards_are in
     omega (arith, few, most, many, made, same)

@@ -69,7 +69,7 @@ value_count symbols outer r s =
     let some = s.below.symbols in
     let sized : IsSized (counter_first r.step r.below) = record { loops = omega arith; symbols = some } in
     let c = text_count 1 (r.counter ∷ counters_of outer) symbols [] (counter_first r.step r.below) (omega arith)
-        sized tt in
+    sized tt in
     omega (arith, c)
 
 quotient_count : (e : Expression) (z : ℤ) → count (quotient e z) ≤ count e
@@ -96,7 +96,7 @@ pub end_count : (symbols : List (List ℕ)) (round : List NormalLoop) (r : Norma
 end_count symbols round r s =
     let t = trip_count (counters_of round) symbols r.trip s.top in
     let c = text_count 16 (counters_of round) symbols (own_trip_text symbols round r ∷ []) r.end (omega arith) s.end
-        (t, tt) in
+    (t, tt) in
     omega (arith, c)
 
 -- ---- the two rules
@@ -125,8 +125,8 @@ form_few : (loops symbols : List (List ℕ)) (e : Expression) (f : Form) → len
     → form_of loops symbols e ≡ Some f → not_zero f.coefficients ≤ 15
 form_few loops symbols e f few h =
     let p = both (all_small f.coefficients)
-        (is_small f.constant && nat_le (not_zero (drop (length loops) f.coefficients)) 8)
-        (found_form loops symbols e f h).limits in
+    (is_small f.constant && nat_le (not_zero (drop (length loops) f.coefficients)) 8)
+    (found_form loops symbols e f h).limits in
     let q = both (is_small f.constant) (nat_le (not_zero (drop (length loops) f.coefficients)) 8) p.1 in
     let all = dropped (length loops) f.coefficients in
     let eight = leb-true (not_zero (drop (length loops) f.coefficients)) 8 q.1 in omega (arith, all, eight, few)
@@ -186,8 +186,8 @@ module _ (symbols : List (List ℕ)) where
       let t : Guarded = rewritten_statement (with_value symbols outer r) s in
       let f = values_count (outer ++ r ∷ []) rs t h.1 in
       let g = statement_grown (with_value symbols outer r)
-          (substituting_grows r.variable (value_text symbols outer r) (value_count symbols outer r h.0)) (λ l. refl)
-          s in
+      (substituting_grows r.variable (value_text symbols outer r) (value_count symbols outer r h.0)) (λ l. refl)
+      s in
       let k = grown_least (length rs) (count_of t) (16 * count_of s) g in omega (arith, f, k)
 
   values_unguarded : (outer rs : List NormalLoop) (s : Guarded) → s.guard ≡ None
@@ -195,7 +195,7 @@ module _ (symbols : List (List ℕ)) where
   values_unguarded outer [] s h = h
   values_unguarded outer (r ∷ rs) s h =
       values_unguarded (outer ++ r ∷ []) rs (rewritten_statement (with_value symbols outer r) s)
-          (unguarded (with_value symbols outer r) s h)
+      (unguarded (with_value symbols outer r) s h)
 
   pub normal_count : (round : List NormalLoop) (s : Guarded) → length round ≤ 7 → Each HasSizes round
       → count_of s < 2 ^ 31 → count_of (normal_statement symbols round s) ≤ 2 ^ 63
@@ -204,7 +204,7 @@ module _ (symbols : List (List ℕ)) where
       let t : Guarded = statement_with_values symbols [] round s in
       let same = counters_many round in
       let f = statement_grown (in_text symbols round)
-          (canonising_grows (counters_of round) symbols (omega (arith, few, same))) (λ l. refl) t in
+      (canonising_grows (counters_of round) symbols (omega (arith, few, same))) (λ l. refl) t in
       let g = values_count [] round s h in
       let most = seven_rounds (length round) (count_of s) few in omega (arith, f, g, most, k)
 
