@@ -1,0 +1,88 @@
+-- Nests that are written in loops from 1 by 1, in the place of the loops that they were found at.
+use Rattle.std.specs.Prelude.{◌≡◌, ℕ, ◌+◌, ◌^◌, ◌<◌, ◌≤◌, Option, Some, All, IsSomeAnd, List, [], Contains}
+use Rattle.fv_tree.specs.Plain.{Block, Program, Statement, block}
+use Rattle.find_nests.specs.Found.{InNest, found_in}
+use Rattle.find_nests.specs.Laws.{IsFoundNest}
+use Rattle.find_nests.specs.Loops.{Placed, as_statement, loops_in_block}
+use Rattle.found_sources.specs.Laws.{HasLoopsAlone}
+use Rattle.fv_meaning.specs.Blocks.{Surroundings, blocks_in, blocks_of, statements_in}
+use Rattle.fv_meaning.specs.Dialect.{Dialect, fortran77}
+use Rattle.fv_meaning.specs.Profile77.{IsProgram77, IsStatement}
+use Rattle.fv_meaning.specs.Profile90.{IsBlock, IsProgram90}
+use Rattle.fv_meaning.specs.Typed.{declared}
+use Rattle.fv_meaning.specs.Typed77.{deepest}
+use Rattle.loop_normal.specs.Normalised.{normalised}
+use Rattle.loop_placing.specs.Placing.{block_at, placed_in}
+use Rattle.nest_parts.specs.Numbers.{next}
+use Rattle.nest_tree.specs.Blocks.{block_of_nest}
+use Rattle.nest_tree.specs.Bodies.{nest_loops}
+use Rattle.nest_tree.specs.Plain.{Loop, Nest}
+use Rattle.normal_facts.specs.Laws.{IsCounter}
+use Rattle.placed_profile.specs.Laws.{AreSourceNames, IsWithoutLabels}
+use Rattle.profile_laws.specs.Profiles.{AddMadeNames}
+use Rattle.normal_profile.specs.Depths.{expressions_in, expressions_of}
+
+-- ---- how much deeper
+
+-- of expressions: 35 for the value of each of seven loop variables, and 18 for canonical text
+abbrev pub expression_rise : ℕ
+expression_rise = 263
+
+-- of blocks: the last value of a loop variable may stand in an IF within an IF
+abbrev pub block_rise : ℕ
+block_rise = 1
+
+-- expressions and blocks of b are at most so much deeper than those of the statement c
+pub record IsLittleDeeper (c : Statement) (b : Block) : Type 0 where
+  pub expressions : expressions_in b ≤ expressions_of c + expression_rise
+  pub blocks : blocks_in b ≤ blocks_of c + block_rise
+
+-- ---- blocks
+
+-- n is a nest of p of loops and statements alone, and m its normal form. r has the names of p and the variables of m's
+-- loops; the loops round the nest have variables that FORTRAN 77 has
+abbrev pub NormalBlockIsOfProfile : Type 0
+NormalBlockIsOfProfile = (p r : Program) (n m : Nest) (w : Surroundings) (found : IsFoundNest p n)
+    → IsProgram77 fortran77 p → Contains (found_in p) (InNest n) → HasLoopsAlone n.body → normalised n ≡ Some m
+    → AddMadeNames p.declarations r.declarations
+    → All (λ (l : Loop). IsSomeAnd (declared r.declarations l.variable) IsCounter) (nest_loops m)
+    → AreSourceNames w.variables → IsStatement p.declarations (as_statement found.loop.loop.loop) w
+    → IsBlock r.declarations (block_of_nest m) w × IsWithoutLabels (block_of_nest m)
+    × IsLittleDeeper (as_statement found.loop.loop.loop) (block_of_nest m)
+
+-- ---- programs
+
+-- b is the normal form of the nest that was found at the loop l, of loops and statements alone, and q declares the
+-- variables of its loops
+pub record IsNormalNestAt (p q : Program) (l : Placed) (b : Block) : Type 0 where
+  pub nest : Nest
+  pub found : IsFoundNest p nest
+  pub there : found.loop ≡ l
+  pub among : Contains (found_in p) (InNest nest)
+  pub alone : HasLoopsAlone nest.body
+  pub normal : Nest
+  pub made : normalised nest ≡ Some normal
+  pub counters : All (λ (l : Loop). IsSomeAnd (declared q.declarations l.variable) IsCounter) (nest_loops normal)
+  pub block : b ≡ block_of_nest normal
+
+-- what is written in the place of loops, by their numbers, are such normal forms
+abbrev pub AreNormalNests : Program → Program → List (Option Block) → Type 0
+AreNormalNests p q blocks = (l : Placed) (b : Block)
+    → Contains (loops_in_block 0 [] p.body) l → block_at blocks (next l.loop.before) ≡ Some b → IsNormalNestAt p q l b
+
+-- a program of Fortran 90, with expressions and blocks at most so much deeper than those of p
+pub record IsNormalProgram (p q : Program) : Type 0 where
+  pub program : IsProgram90 q
+  pub expressions : expressions_in q.body ≤ expressions_in p.body + expression_rise
+  pub blocks : blocks_in q.body ≤ blocks_in p.body + block_rise
+
+-- q is p with normal forms in the place of some nests' loops; how many statements it has is limited
+abbrev pub NormalProgramIsOfProfile : Type 0
+NormalProgramIsOfProfile = (p q : Program) (blocks : List (Option Block))
+    → IsProgram77 fortran77 p → AddMadeNames p.declarations q.declarations → q.name ≡ p.name
+    → q.body ≡ block (placed_in blocks 0 p.body) → AreNormalNests p q blocks → statements_in q.body < 2 ^ 31
+    → IsNormalProgram p q
+
+-- how deep the expressions of a program of FORTRAN 77 are
+abbrev pub SourceIsShallow : Type 0
+SourceIsShallow = (d : Dialect) (p : Program) → IsProgram77 d p → expressions_in p.body ≤ deepest

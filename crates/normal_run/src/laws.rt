@@ -1,0 +1,9 @@
+//! A law is a function without a body: its contract is what holds.
+ghost use Rattle.normal_run.specs.Laws.{RunOfNormalNest};
+
+/// Where the run of a nest with loops from 1 by 1, as `normalise` makes it, ends without fault, it is the nest's
+/// instances one after another in their sequential order, but for the variables of the loops, and then what comes after
+/// the loops.
+pub fn run_of_normal_nest()
+    ensures { RunOfNormalNest }
+{}
