@@ -24,18 +24,14 @@ use Rattle.normal_profile.specs.Depths.{expressions_in, expressions_of}
 
 -- ---- how much deeper
 
--- of expressions: 35 for the value of each of seven loop variables, and 18 for canonical text
+-- 35 for the value of each of seven loop variables, and 18 for canonical text
 abbrev pub expression_rise : ℕ
 expression_rise = 263
 
--- of blocks: the last value of a loop variable may stand in an IF within an IF
-abbrev pub block_rise : ℕ
-block_rise = 1
-
--- expressions and blocks of b are at most so much deeper than those of the statement c
+-- expressions of b are at most so much deeper than those of the statement c, and blocks no deeper
 pub record IsLittleDeeper (c : Statement) (b : Block) : Type 0 where
   pub expressions : expressions_in b ≤ expressions_of c + expression_rise
-  pub blocks : blocks_in b ≤ blocks_of c + block_rise
+  pub blocks : blocks_in b ≤ blocks_of c
 
 -- ---- blocks
 
@@ -70,11 +66,11 @@ abbrev pub AreNormalNests : Program → Program → List (Option Block) → Type
 AreNormalNests p q blocks = (l : Placed) (b : Block)
     → Contains (loops_in_block 0 [] p.body) l → block_at blocks (next l.loop.before) ≡ Some b → IsNormalNestAt p q l b
 
--- a program of Fortran 90, with expressions and blocks at most so much deeper than those of p
+-- a program of Fortran 90, with expressions at most so much deeper than those of p, and blocks no deeper
 pub record IsNormalProgram (p q : Program) : Type 0 where
   pub program : IsProgram90 q
   pub expressions : expressions_in q.body ≤ expressions_in p.body + expression_rise
-  pub blocks : blocks_in q.body ≤ blocks_in p.body + block_rise
+  pub blocks : blocks_in q.body ≤ blocks_in p.body
 
 -- q is p with normal forms in the place of some nests' loops; how many statements it has is limited
 abbrev pub NormalProgramIsOfProfile : Type 0

@@ -2,14 +2,14 @@
 ghost use Rattle.normal_profile.specs.Laws.{NormalBlockIsOfProfile, NormalProgramIsOfProfile, SourceIsShallow};
 
 /// The normal form of a nest of loops and statements alone that was found, written in its loops, is a block of the
-/// profile wherever the nest's loop is a statement of it, with the loops' variables declared besides. Expressions and
-/// blocks in it are at most so much deeper.
+/// profile wherever the nest's loop is a statement of it, with the loops' variables declared besides. Expressions in it
+/// are at most so much deeper, and blocks no deeper.
 pub fn normal_block_is_of_profile()
     ensures { NormalBlockIsOfProfile }
 {}
 
 /// A program of FORTRAN 77 with such normal forms in the place of some of its nests' loops, and their variables declared
-/// besides, is a program of Fortran 90, with expressions and blocks at most so much deeper.
+/// besides, is a program of Fortran 90, with expressions at most so much deeper, and blocks no deeper.
 pub fn normal_program_is_of_profile()
     ensures { NormalProgramIsOfProfile }
 {}
