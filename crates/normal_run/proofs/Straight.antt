@@ -141,7 +141,7 @@ module _ (bits : ℕ) where
   sound_before b h s sound = by s.way refl
     where
       not_faulty : (IsSound s.way → ⊥) → IsSound s.way
-      not_faulty no = absurd ((endings_keep b h).at s no sound)
+      not_faulty never = absurd ((endings_keep b h).at s never sound)
 
       by : (w : Way) → s.way ≡ w → IsSound s.way
       by Going e = subst IsSound (sym e) tt
