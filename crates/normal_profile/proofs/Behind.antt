@@ -1,5 +1,5 @@
 -- How deep expressions and blocks of the last values behind a nest are.
-use Rattle.std.proofs.Common.{◌≡◌, refl, sym, subst, ℕ, suc, ◌+◌, ◌*◌, ◌≤◌, ◌<◌, max, ℤ, pos, Bool, true, false, cond, List, [], ◌∷◌, ◌++◌}
+use Rattle.std.proofs.Common.{◌≡◌, refl, sym, subst, ℕ, ◌+◌, ◌*◌, ◌≤◌, max, pos, Bool, true, false, cond, List, [], ◌∷◌, ◌++◌}
 use Rattle.std.proofs.Common.{length, Option, Some, None, arith}
 use Rattle.std.specs.List.{flat_map}
 use Rattle.std.proofs.lemmas.List.{length-append}
@@ -31,7 +31,6 @@ use Rattle.normal_forms.specs.declared.last.LastForms.{LastForms}
 use Rattle.normal_forms.specs.declared.loops.NormalLoop.{NormalLoop}
 use Rattle.ready_nests.proofs.LoopForms.{HaveZeros, normal_loop_is, step}
 use Rattle.ready_nests.proofs.NormalTrips.{zeros_more}
-use Rattle.subscripts.specs.declared.affine.Affine.{Affine}
 use Rattle.normal_profile.specs.Depths.{expressions_in}
 use Rattle.normal_profile.proofs.Joined.{least, list_then, more, then_blocks, then_expressions}
 use Rattle.normal_profile.proofs.Sources.{height, heights}

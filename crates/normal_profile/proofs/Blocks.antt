@@ -1,15 +1,15 @@
 -- The normal form of a nest that was found, written in its loops, is a block of the profile.
-use Rattle.std.proofs.Common.{◌≡◌, refl, sym, ap, ◌∙◌, subst, ◌⊎◌, inl, inr, ℕ, suc, ◌+◌, ◌≤◌, max, Bool, true, false, ◌||◌, List, []}
-use Rattle.std.proofs.Common.{◌∷◌, map, length, Option, Some, None, Contains, arith}
+use Rattle.std.proofs.Common.{◌≡◌, refl, sym, ap, ◌∙◌, subst, ◌⊎◌, inl, inr, ℕ, ◌+◌, ◌≤◌, Bool, true, false, ◌||◌, List, []}
+use Rattle.std.proofs.Common.{◌∷◌, Option, Some, None, Contains, arith}
 use Rattle.std.specs.Option.{IsSomeAnd}
 use Rattle.std.specs.Prelude.{All}
 use Rattle.std.specs.Str.{bytes_eq}
 use Rattle.std.proofs.lemmas.List.Elements.{All-map}
 use Rattle.std.proofs.lemmas.Slice.Eq.{bytes_eq-Decides}
 use Rattle.components.specs.Lists as lists
-use Rattle.find_nests.specs.Found.{InNest, body_of, found_in}
+use Rattle.find_nests.specs.Found.{InNest, found_in}
 use Rattle.find_nests.specs.Laws.{IsFoundNest}
-use Rattle.find_nests.specs.Loops.{Numbered, as_statement}
+use Rattle.find_nests.specs.Loops.{as_statement}
 use Rattle.found_sources.proofs.FoundSources.{found_nests_are_sources}
 use Rattle.found_sources.specs.Laws.{HasLoopsAlone}
 use Rattle.fv_meaning.specs.Blocks.{IsLine, Surroundings, blocks_in, blocks_of}

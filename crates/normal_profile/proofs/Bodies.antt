@@ -1,21 +1,21 @@
 -- The body that is made of a nest of loops and statements alone is of the profile, and how deep it is.
-use Rattle.std.proofs.Common.{◌≡◌, refl, sym, ap, ◌∙◌, subst, ◌⊎◌, inl, inr, ℕ, suc, ◌+◌, ◌^◌, ◌<◌, ◌≤◌, max, ℤ, pos, Bool, true, false}
+use Rattle.std.proofs.Common.{◌≡◌, refl, sym, ap, ◌∙◌, subst, ◌⊎◌, inl, inr, ℕ, ◌+◌, ◌≤◌, max, pos, Bool, true, false}
 use Rattle.std.proofs.Common.{cond, ◌&&◌, List, [], ◌∷◌, ◌++◌, map, length, Option, Some, None, Contains, arith}
 use Rattle.std.specs.Option.{IsSomeAnd, option_map}
 use Rattle.std.specs.Prelude.{is_some}
 use Rattle.std.proofs.lemmas.List.{length-append, map-append}
 use Rattle.components.specs.Lists as lists
 use Rattle.components.proofs.ListLaws.{Each-append}
-use Rattle.fv_meaning.specs.Blocks.{IsLine, Surroundings, blocks_in, blocks_of, within_loop}
+use Rattle.fv_meaning.specs.Blocks.{IsLine, Surroundings, blocks_in, within_loop}
 use Rattle.fv_meaning.specs.Depths.{depth_of}
-use Rattle.fv_meaning.specs.Profile90.{IsAssignment, IsBlock, IsStatement, IsWhole}
+use Rattle.fv_meaning.specs.Profile90.{IsAssignment, IsBlock, IsWhole}
 use Rattle.fv_meaning.specs.Typed.{declared, rank_of_extent}
 use Rattle.fv_meaning.specs.Typed77.{deepest}
-use Rattle.fv_meaning.specs.Typed90.{IsDoVariable, IsIntegerScalar}
+use Rattle.fv_meaning.specs.Typed90.{IsIntegerScalar}
 use Rattle.fv_meaning.specs.Value.{named}
 use Rattle.fv_rewrite.specs.Making.{made}
 use Rattle.fv_tree.specs.Limits.{expression_depth90}
-use Rattle.fv_tree.specs.Plain.{Block, Declaration, Do, Expression, If, Number, Statement, arm, no_arms, no_statements}
+use Rattle.fv_tree.specs.Plain.{Block, Declaration, Do, Expression, If, Number, arm, no_arms, no_statements}
 use Rattle.fv_tree.specs.Plain.{statement}
 use Rattle.fv_tree.specs.declared.ops.Kind.TheVariants.{Integer}
 use Rattle.fv_tree.specs.declared.ops.Op.TheVariants.{Ge}
@@ -28,7 +28,7 @@ use Rattle.linear_forms.specs.Texts.{text_of}
 use Rattle.loop_normal.specs.Bodies.{counting, normal_part, normal_parts, normal_turns, placed}
 use Rattle.loop_normal.specs.Loops.{are_normal, is_normal, nested, nested_in_parts, nested_loops, with_loop}
 use Rattle.loop_normal.specs.Values.{in_text, normal_statement, statement_with_values, with_value}
-use Rattle.nest_order.specs.Lists.{Distinct, Each, Pairwise}
+use Rattle.nest_order.specs.Lists.{Distinct, Each}
 use Rattle.nest_profile.proofs.Blocks.{one_is, then_is}
 use Rattle.nest_profile.proofs.LoopSizes.{HasSizes, loop_sized}
 use Rattle.nest_profile.proofs.Rules.{IsScalarAssignment, normal_assignment}
@@ -37,22 +37,22 @@ use Rattle.nest_profile.proofs.TextDepths.{binary_deep, text_deep, trip_deep}
 use Rattle.nest_profile.proofs.TextKinds.{IsTest, at_least_is, quotient_is, text_is}
 use Rattle.nest_rewrite.specs.Rewritten.{rewritten_statement}
 use Rattle.nest_translation.proofs.Pieces.{then_no_label}
-use Rattle.nest_tree.specs.Blocks.{assignment_of, block_then, statement_of_part, under_guard}
+use Rattle.nest_tree.specs.Blocks.{assignment_of, block_then, under_guard}
 use Rattle.nest_tree.specs.Plain.{Choice, Guarded, Jump, Label, Loop, Nest, Part, Parts, Run, Turns, no_parts, part, parts}
 use Rattle.normal_facts.proofs.FoundStatements.{IsShort, IsSource, IsSourceLoop}
 use Rattle.normal_facts.proofs.LoopLimits.{loop_has_limits}
 use Rattle.normal_facts.proofs.MadeStatements.{counter_long}
 use Rattle.normal_facts.proofs.StatementKinds.{IsNumber, IsSmallLoop, IsTypedLoop, end_is, first_is}
-use Rattle.normal_forms.specs.NormalLoops.{counter_name, counters_of, is_known, is_positive, normal_loop}
+use Rattle.normal_forms.specs.NormalLoops.{counters_of, is_known, is_positive, normal_loop}
 use Rattle.normal_forms.specs.Texts.{at_least_one, trip_text}
 use Rattle.normal_forms.specs.declared.loops.NormalLoop.{NormalLoop}
 use Rattle.normal_runs.specs.Sources.{AreStraight, IsStraight}
-use Rattle.placed_loops.specs.Placed.{HasNoLabel, IsNoLabel}
+use Rattle.placed_loops.specs.Placed.{HasNoLabel}
 use Rattle.profile_laws.proofs.Lists.{cases_of}
 use Rattle.ready_nests.proofs.LoopForms.{HaveZeros, IsNormalLoop, normal_loop_is}
 use Rattle.ready_nests.proofs.NormalTrips.{zeros_more}
 use Rattle.ready_nests.proofs.Walk.{EachIn, EachInParts, assigning}
-use Rattle.normal_profile.specs.Depths.{expressions_in, expressions_of}
+use Rattle.normal_profile.specs.Depths.{expressions_in}
 use Rattle.normal_profile.specs.Laws.{expression_rise}
 use Rattle.normal_profile.proofs.Joined.{least, max_both, more, then_blocks, then_expressions}
 use Rattle.normal_profile.proofs.Sources.{AnyLoop, IsDeep, height, heights}
@@ -147,8 +147,7 @@ module _ (es : List Declaration) (d : ℕ) (shallow : d ≤ deepest) where
           → IsSomeAnd o (λ (c : Declaration). IsWhole es (named g.left) c.kind × IsWhole es g.right c.kind)
       by None h = absurd h
       by (Some c) h =
-          subst (λ k. IsWhole es (named g.left) k × IsWhole es g.right k) (sym h)
-          (
+          subst (λ k. IsWhole es (named g.left) k × IsWhole es g.right k) (sym h) (
             record { suits = a.left.0; depth = within_limit (depth_of (named g.left)) d a.left_depth shallow },
             record { suits = a.right.0; depth = within_limit (depth_of g.right) d a.right_depth shallow },
           )
@@ -428,7 +427,7 @@ module _ (es : List Declaration) (d : ℕ) (shallow : d ≤ deepest) (n : Nest) 
   turned round v l ps (Some r) is u fair inside h inner =
       let own = inner.each.0 in
       let body = inside (round ++ r ∷ []) (within_loop r.counter v) (round_more round v u l r fair is own.0) h
-          (inner_more es v (record { round = round; turns = r }) (nested_in_parts symbols (round ++ r ∷ []) ps) inner) in
+      (inner_more es v (record { round = round; turns = r }) (nested_in_parts symbols (round ++ r ∷ []) ps) inner) in
       placed_good round v u l r fair is own.0 (heights ps) (Turns (counting symbols round l r) (parts (normal_parts n all (round ++ r ∷ []) ps)))
       (counting_good round v u l r fair is own.0 (heights ps) (normal_parts n all (round ++ r ∷ []) ps) own.1 body)
 

@@ -1,17 +1,16 @@
 -- A program with normal forms of nests in the place of their loops is of the profile, and how deep it is.
-use Rattle.std.proofs.Common.{◌≡◌, refl, sym, ap, ◌∙◌, subst, ℕ, ◌+◌, ◌≤◌, ◌<◌, ◌^◌, max, List, [], ◌∷◌, ◌++◌, Option, Some, None, Contains, arith}
+use Rattle.std.proofs.Common.{◌≡◌, refl, sym, subst, ℕ, ◌+◌, ◌≤◌, ◌<◌, ◌^◌, max, List, [], ◌∷◌, ◌++◌, Option, Some, None, Contains, arith}
 use Rattle.std.proofs.lemmas.List.Elements.{Contains-append_left, Contains-append_right}
-use Rattle.find_nests.specs.Found.{body_of}
 use Rattle.find_nests.specs.Loops.{Placed, SourceLoop, as_statement, loops_in, loops_in_arms, loops_in_block}
 use Rattle.found_sources.specs.Laws.{HasLoopsAlone}
 use Rattle.fv_meaning.specs.Blocks.{Surroundings, before_labels, blocks_in, blocks_in_arms, blocks_of, labels_of, outermost}
 use Rattle.fv_meaning.specs.Blocks.{statements_in, within_loop}
-use Rattle.fv_meaning.specs.Depths.{depth_of, depth_of_each, depth_of_items}
+use Rattle.fv_meaning.specs.Depths.{depth_of}
 use Rattle.fv_meaning.specs.Dialect.{fortran77}
 use Rattle.fv_meaning.specs.Profile77 as source
 use Rattle.fv_meaning.specs.Profile77.{IsProgram77}
 use Rattle.fv_meaning.specs.Profile90.{IsBlock}
-use Rattle.fv_meaning.specs.Value.{named}
+use Rattle.fv_meaning.specs.Typed77.{deepest}
 use Rattle.fv_tree.specs.Limits.{block_depth77, block_depth90}
 use Rattle.fv_tree.specs.Plain.{Allocate, Arms, Assignment, Block, Deallocate, Do, GoTo, If, Label, Print, Program, Read}
 use Rattle.fv_tree.specs.Plain.{Statement, Stop, Where, arm, block, no_arms, no_statements, statement}
@@ -28,8 +27,8 @@ use Rattle.normal_profile.specs.Depths.{expressions_in, expressions_in_arms, exp
 use Rattle.normal_profile.specs.Laws.{AreNormalNests, IsLittleDeeper, IsNormalNestAt, IsNormalProgram}
 use Rattle.normal_profile.specs.Laws.{NormalProgramIsOfProfile, expression_rise}
 use Rattle.normal_profile.proofs.Blocks.{block_is_of, unlabelled}
-use Rattle.normal_profile.proofs.Joined.{least, list_then, then_blocks, then_expressions}
-use Rattle.normal_profile.proofs.Sources.{loop_unlabelled}
+use Rattle.normal_profile.proofs.Joined.{least, list_then, more, then_blocks, then_expressions}
+use Rattle.normal_profile.proofs.Sources.{loop_unlabelled, source_is_shallow}
 
 -- ---- numbers
 
@@ -190,12 +189,17 @@ module _ (p q : Program) (blocks : List (Option Block)) (is : IsProgram77 fortra
     within : (a b : ℕ) → a ≤ b → b ≤ block_depth77 → a ≤ block_depth90
     within a b h k = omega (arith, h, k)
 
+    so_deep : (a b : ℕ) → a ≤ b + expression_rise → b ≤ deepest → a ≤ deepest + expression_rise
+    so_deep a b h k = omega (arith, h, k)
+
     program_is : IsNormalProgram p q
     program_is = record {
       program = placed_program_is_program p q blocks is added name same suits
           (record { deep = within (blocks_in q.body) (blocks_in p.body) deeper.blocks is.blocks; many = few });
       expressions = deeper.expressions;
       blocks = deeper.blocks;
+      most = so_deep (expressions_in q.body) (expressions_in p.body) deeper.expressions (source_is_shallow fortran77 p is);
+      most_blocks = more (blocks_in q.body) (blocks_in p.body) block_depth77 deeper.blocks is.blocks;
     }
 
 pub normal_program_is_of_profile : NormalProgramIsOfProfile

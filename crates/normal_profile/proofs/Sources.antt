@@ -1,12 +1,12 @@
 -- The statements of the source: how deep their expressions and blocks are, and that loops alone have no labels.
-use Rattle.std.proofs.Common.{◌≡◌, refl, ap, ◌∙◌, subst, sym, ℕ, ◌+◌, ◌≤◌, max, List, [], ◌∷◌, ◌++◌, Option, Some, None, arith}
+use Rattle.std.proofs.Common.{refl, ℕ, ◌+◌, ◌≤◌, max, List, [], ◌∷◌, ◌++◌, Option, Some, None, arith}
 use Rattle.std.specs.Option.{IsSomeAnd}
 use Rattle.find_nests.specs.Found.{body_of}
 use Rattle.find_nests.specs.Loops.{Numbered, as_statement}
 use Rattle.found_sources.specs.Laws.{HasLoopsAlone, HaveLoopsAlone}
-use Rattle.fv_meaning.specs.Blocks.{Surroundings, all_labels_in, before_labels, blocks_in, blocks_of, labels_of, outermost}
+use Rattle.fv_meaning.specs.Blocks.{Surroundings, before_labels, blocks_in, blocks_of, labels_of, outermost}
 use Rattle.fv_meaning.specs.Blocks.{within_loop}
-use Rattle.fv_meaning.specs.Depths.{depth_of, depth_of_items}
+use Rattle.fv_meaning.specs.Depths.{depth_of}
 use Rattle.fv_meaning.specs.Profile77 as source
 use Rattle.fv_meaning.specs.Typed.{declared}
 use Rattle.fv_meaning.specs.Typed77.{IsWhole, deepest}

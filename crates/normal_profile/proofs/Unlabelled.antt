@@ -3,7 +3,7 @@ use Rattle.std.proofs.Common.{◌≡◌, refl, ap, sym, subst, ℕ, Bool, true, 
 use Rattle.std.specs.Prelude.{length}
 use Rattle.found_sources.specs.Laws.{HasLoopsAlone, HaveLoopsAlone}
 use Rattle.fv_meaning.specs.Blocks.{all_labels_in, targets_in}
-use Rattle.fv_tree.specs.Plain.{Allocate, Arms, Assignment, Block, Deallocate, Do, Expression, GoTo, If, Label, Print}
+use Rattle.fv_tree.specs.Plain.{Allocate, Assignment, Block, Deallocate, Do, Expression, GoTo, If, Label, Print}
 use Rattle.fv_tree.specs.Plain.{Read, Statement, Stop, Where, arm, no_arms, no_statements, statement}
 use Rattle.last_values.specs.Behind.{stands_behind}
 use Rattle.last_values.specs.InPlace.{assigned_part, end_part, first_text, only_where_part, own_trip_text, parts_before}

@@ -1,5 +1,6 @@
 -- Nests that are written in loops from 1 by 1, in the place of the loops that they were found at.
 use Rattle.std.specs.Prelude.{◌≡◌, ℕ, ◌+◌, ◌^◌, ◌<◌, ◌≤◌, Option, Some, All, IsSomeAnd, List, [], Contains}
+use Rattle.fv_tree.specs.Limits.{block_depth77}
 use Rattle.fv_tree.specs.Plain.{Block, Program, Statement, block}
 use Rattle.find_nests.specs.Found.{InNest, found_in}
 use Rattle.find_nests.specs.Laws.{IsFoundNest}
@@ -71,6 +72,9 @@ pub record IsNormalProgram (p q : Program) : Type 0 where
   pub program : IsProgram90 q
   pub expressions : expressions_in q.body ≤ expressions_in p.body + expression_rise
   pub blocks : blocks_in q.body ≤ blocks_in p.body
+  -- since p is of FORTRAN 77: 665 and 100
+  pub most : expressions_in q.body ≤ deepest + expression_rise
+  pub most_blocks : blocks_in q.body ≤ block_depth77
 
 -- q is p with normal forms in the place of some nests' loops; how many statements it has is limited
 abbrev pub NormalProgramIsOfProfile : Type 0

@@ -2,8 +2,8 @@
 ghost use Rattle.normal_profile.specs.Laws.{NormalBlockIsOfProfile, NormalProgramIsOfProfile, SourceIsShallow};
 
 /// The normal form of a nest of loops and statements alone that was found, written in its loops, is a block of the
-/// profile wherever the nest's loop is a statement of it, with the loops' variables declared besides. Expressions in it
-/// are at most so much deeper, and blocks no deeper.
+/// profile wherever the nest's loop is a statement of it, with the loops' variables declared besides. Its expressions
+/// are at most so much deeper, and its blocks no deeper.
 pub fn normal_block_is_of_profile()
     ensures { NormalBlockIsOfProfile }
 {}

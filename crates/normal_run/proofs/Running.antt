@@ -1,6 +1,6 @@
 -- The run of a nest whose loops were made to go from 1 by 1 is its instances, and then what comes after the loops.
-use Rattle.std.proofs.Common.{◌≡◌, refl, sym, ap, ◌∙◌, subst, ℕ, suc, ◌<◌, ◌≤◌, ◌^◌, nat_lt, ℤ, pos, negsuc, Bool, true, List, []}
-use Rattle.std.proofs.Common.{◌∷◌, Ok, Option, Some, None, IfSome, Contains, arith}
+use Rattle.std.proofs.Common.{◌≡◌, refl, sym, ap, ◌∙◌, subst, ℕ, suc, ◌<◌, ◌≤◌, ◌^◌, nat_lt, ℤ, pos, negsuc, true, List, []}
+use Rattle.std.proofs.Common.{Ok, Option, Some, None, IfSome, Contains, arith}
 use Rattle.std.specs.Option.{IsSomeAnd}
 use Rattle.std.specs.Prelude.{All, nat_abs}
 use Rattle.emission_forms.proofs.WrittenTables.{loops_once}

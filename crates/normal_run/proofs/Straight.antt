@@ -6,7 +6,7 @@ use Rattle.fv_meaning.specs.Value.{truth_of}
 use Rattle.fv_meaning.proofs.Kept.{IsKeptByParts, Keeps, Keeps-assignment, Keeps-counts_step, Keeps-either}
 use Rattle.fv_meaning.proofs.Kept.{Keeps-evaluates, Keeps-loops, Keeps-nothing, Keeps-then}
 use Rattle.fv_rewrite.specs.Following.{IsSound, sequential}
-use Rattle.fv_tree.specs.Plain.{Allocate, Arms, Assignment, Block, Deallocate, Do, Expression, GoTo, If, Label, Print}
+use Rattle.fv_tree.specs.Plain.{Allocate, Assignment, Block, Deallocate, Do, Expression, GoTo, If, Label, Print}
 use Rattle.fv_tree.specs.Plain.{Read, Statement, Stop, Where, arm, no_arms, no_statements, statement}
 use Rattle.nest_runs.specs.Quiet.{AreQuiet, IsQuiet}
 use Rattle.nest_shapes.specs.Shapes.{ArePlain, IsPlain}
