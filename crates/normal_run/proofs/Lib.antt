@@ -1,2 +1,5 @@
 pub mod Straight
+pub mod LastNames
+pub mod Ends
+pub mod Loops
 pub mod Running

@@ -1,5 +1,5 @@
 -- The run of a nest whose loops were made to go from 1 by 1 is its instances, and then what comes after the loops.
-use Rattle.std.proofs.Common.{◌≡◌, refl, sym, ap, ◌∙◌, subst, ℕ, suc, ◌<◌, ◌≤◌, ◌^◌, nat_lt, ℤ, pos, negsuc, true, List, []}
+use Rattle.std.proofs.Common.{◌≡◌, refl, sym, ap, ◌∙◌, subst, ℕ, suc, ◌<◌, ◌≤◌, ◌^◌, nat_lt, ℤ, pos, negsuc, Bool, true, false, List, []}
 use Rattle.std.proofs.Common.{Ok, Option, Some, None, IfSome, Contains, arith}
 use Rattle.std.specs.Option.{IsSomeAnd}
 use Rattle.std.specs.Prelude.{All, nat_abs}
@@ -14,7 +14,7 @@ use Rattle.fv_meaning.specs.Dialect.{fortran77}
 use Rattle.fv_meaning.specs.Holding.{HoldsProgram, IsStorable}
 use Rattle.fv_meaning.specs.Profile77.{IsProgram77}
 use Rattle.fv_meaning.specs.Run.{Going, State, does, does_all}
-use Rattle.fv_meaning.specs.Store.{Store}
+use Rattle.fv_meaning.specs.Store.{Cell, Store}
 use Rattle.fv_meaning.specs.Typed.{declared}
 use Rattle.fv_meaning.specs.Value.{is_in_range}
 use Rattle.fv_rewrite.specs.Following.{IsSound}
@@ -30,28 +30,36 @@ use Rattle.nest_order.specs.Shapes.{instances}
 use Rattle.nest_runs.proofs.Quieting.{quiet_statements_keep_lines}
 use Rattle.nest_runs.proofs.Runs.{run_is_instances}
 use Rattle.nest_runs.specs.Blocks.{nest_statement}
-use Rattle.nest_runs.specs.Guarded.{variable_cell}
-use Rattle.nest_runs.specs.Nests.{Near, acts}
+use Rattle.nest_runs.specs.Guarded.{dialect, variable_cell}
+use Rattle.nest_runs.specs.Laws.{GoesOnNear}
+use Rattle.nest_runs.specs.Nests.{Near, acts, is_variable}
 use Rattle.nest_runs.specs.Quiet.{SameLines}
-use Rattle.nest_runs.specs.Stores.{HoldsNest, Setting}
+use Rattle.nest_runs.specs.Stores.{HoldsNest, IsNestIn, Setting}
 use Rattle.nest_runs.specs.Touched.{nth_of}
 use Rattle.nest_shapes.proofs.Shapes.{statement_is_of_shape}
 use Rattle.nest_shapes.specs.Shapes.{IsPlain, layout_of, numbers_of, shape_of}
-use Rattle.nest_translation.proofs.Endings.{AreEndings, last_values_end}
+use Rattle.nest_translation.proofs.Counters.{no_counter, no_variable}
+use Rattle.nest_translation.proofs.Endings.{AreEndings, endings_quiet, last_values_end}
 use Rattle.nest_translation.proofs.Symbols.{HoldsNumber, IsNumber, holds_number, symbol_is_number, value_there}
 use Rattle.nest_translation.proofs.Symbols.{values_in}
 use Rattle.nest_tree.specs.Blocks.{allocations_then, block_of_nest, block_then, deallocations, statement_of_part}
 use Rattle.nest_tree.specs.Bodies.{nest_loops}
 use Rattle.nest_tree.specs.Plain.{Loop, Made, Nest}
 use Rattle.normal_facts.proofs.FormFacts.{normal_nest_has_facts}
+use Rattle.normal_facts.proofs.FoundStatements.{IsFoundBody, IsShort, found_body}
+use Rattle.normal_facts.proofs.Tables.{each_from}
 use Rattle.normal_facts.specs.Laws.{IsCounter, IsSettingOf}
 use Rattle.normal_meaning.proofs.Made as texts
 use Rattle.normal_meaning.proofs.Made.{behind}
+use Rattle.normal_runs.specs.Sources.{loops_in}
 use Rattle.profile_laws.specs.Profiles.{AddMadeNames}
 use Rattle.profile_laws.proofs.Programs.{kept_declaration}
 use Rattle.ready_nests.proofs.Made as normal
 use Rattle.ready_nests.proofs.NormalReady.{normal_nest_is_ready}
-use Rattle.normal_run.proofs.Straight.{goes_if_sound, part_quiet, sound_before}
+use Rattle.normal_run.proofs.Ends.{all_end, near_back}
+use Rattle.normal_run.proofs.LastNames.{AreEndingsOver, nested_short, values_over}
+use Rattle.normal_run.proofs.Loops.{loops_end}
+use Rattle.normal_run.proofs.Straight.{ending_goes, goes_if_sound, part_quiet, sound_before}
 use Rattle.normal_run.specs.Laws.{IsRunOfInstances, RunOfNormalNest}
 
 then_nothing : (b : Block) → block_then b no_statements ≡ b
@@ -156,27 +164,70 @@ module _ (p r : Program) (n m : Nest) (s : State) (program : IsProgram77 fortran
   same : body ≡ written
   same = statement_is_of_shape m.line m.body m.symbols (linear_in m) (turns_in m) plain.1 once
 
+  in_setting : IsNestIn 31 (run_nest m) setting
+  in_setting = facts_suffice 31 (run_nest m) setting (normal_nest_has_facts p n m setting program is_nest made plain.1 plain.2 is_setting)
+
   ran : (u : Store) × (runs (acts (run_nest m) fortran77) (instances ((run_nest m).turns_of values) (run_nest m).shape []) s.store ≡ Ok u)
       × Near (run_nest m) u (does fortran77 None written s).store
   ran =
-      run_is_instances 31 (run_nest m) setting (layout_of m.line m.body) s
-      (facts_suffice 31 (run_nest m) setting (normal_nest_has_facts p n m setting program is_nest made plain.1 plain.2 is_setting)) held
+      run_is_instances 31 (run_nest m) setting (layout_of m.line m.body) s in_setting held
       (subst (λ (c : Statement). (does fortran77 None c s).way ≡ Going) same goes)
 
-  same_lines : SameLines s first
-  same_lines = quiet_statements_keep_lines fortran77 None (statement body no_statements) s (part_quiet m.line m.body plain.1, tt)
+  -- ---- what comes after
+
+  sources : IsFoundBody r.declarations n
+  sources = found_body fortran77 p r.declarations program add n is_nest
+
+  over : AreEndingsOver IsShort m.after
+  over = subst (AreEndingsOver IsShort) (sym after_is)
+      (values_over IsShort n.line n.symbols (each_from IsShort n.symbols (λ y i. (sources.symbols y i).1)) (loops_in n) n.body (nested_short r.declarations n.symbols [] n.body tt plain.0 sources.body))
+
+  apart : (c : Cell) → IsShort c.name → is_variable (run_nest m) c ≡ false
+  apart c short = no_variable n m parts plain.1 c (no_counter n m parts c.name short)
+
+  abbrev left : Store
+  left = ran.0
+
+  abbrev after_instances : State
+  after_instances = record s { store = left }
+
+  near_first : Near (run_nest m) left first.store
+  near_first = subst (λ (c : Statement). Near (run_nest m) left (does fortran77 None c s).store) (sym same) ran.2
+
+  after_goes : (does_all fortran77 None m.after first).way ≡ Going
+  after_goes = ending_goes 31 m.line m.after first ends goes (subst (λ (t : State). IsSound t.way) whole sound)
+
+  from_left : GoesOnNear (run_nest m) (does_all fortran77 None m.after first) (does_all fortran77 None m.after after_instances)
+  from_left = all_end 31 (run_nest m) IsShort apart false m.after first after_instances over
+      (record { way = going; near = near_back (run_nest m) left first.store near_first }) after_goes
+
+  module _ (arrays : Bool) where
+    loops_go : GoesOnNear (run_nest m) after_instances (does (dialect 31 arrays) None body s)
+    loops_go =
+        let e = loops_end arrays (run_nest m) setting (layout_of m.line m.body) s in_setting held going
+        (subst (λ (c : Statement). (does fortran77 None c s).way ≡ Going) same goes) left ran.1 in
+        subst (λ (c : Statement). GoesOnNear (run_nest m) after_instances (does (dialect 31 arrays) None c s)) (sym same) (record { way = e.0; near = e.1 })
+
+    block_goes : GoesOnNear (run_nest m) (does_all fortran77 None m.after after_instances) (does_all (dialect 31 arrays) None (block_of_nest m) s)
+    block_goes =
+        subst (λ (b : Block). GoesOnNear (run_nest m) (does_all fortran77 None m.after after_instances) (does_all (dialect 31 arrays) None b s)) (sym block_is)
+        (all_end 31 (run_nest m) IsShort apart arrays m.after after_instances (does (dialect 31 arrays) None body s) over loops_go from_left.way)
+
+    same_lines : SameLines s (does_all (dialect 31 arrays) None (block_of_nest m) s)
+    same_lines =
+        subst (λ (b : Block). SameLines s (does_all (dialect 31 arrays) None b s)) (sym block_is)
+        (quiet_statements_keep_lines (dialect 31 arrays) None (statement body m.after) s (part_quiet m.line m.body plain.1, endings_quiet m.after ends))
 
   is_run : IsRunOfInstances m s
   is_run = record {
     values = values;
     valued = λ k x e. (symbol_holds k x e).held;
-    left = ran.0;
+    left = left;
     one_by_one = ran.1;
-    behind = first;
-    way = goes;
-    near = subst (λ (c : Statement). Near (run_nest m) ran.0 (does fortran77 None c s).store) (sym same) ran.2;
+    loops = loops_go;
+    way = from_left.way;
+    near = block_goes;
     lines = same_lines;
-    then = whole;
   }
 
 pub run_of_normal_nest : RunOfNormalNest

@@ -99,6 +99,28 @@ module _ (line : ℕ) where
 
 -- ---- last values
 
+module _ (bits : ℕ) (P : State → Type 0) (kept : IsKeptByParts (sequential bits) None P) where
+  mutual
+    ending_keeps : (c : Statement) → IsEnding c → Keeps P (does (sequential bits) None c)
+    ending_keeps (Assignment line mark left right) h = Keeps-assignment (sequential bits) None P kept line mark left right
+    ending_keeps (If line no_arms other) h = absurd h.0
+    ending_keeps (If line (arm test body (arm u d ms)) other) h = absurd h.0.1
+    ending_keeps (If line (arm test body no_arms) (statement c cs)) h = absurd h.1
+    ending_keeps (If line (arm test body no_arms) no_statements) h = only_where_keeps bits P kept line test body (endings_keep body h.0.0)
+    ending_keeps (Where line mark mask left right) h = absurd h
+    ending_keeps (Do line x a b c body) h = absurd h
+    ending_keeps (Label n) h = absurd h
+    ending_keeps (GoTo line n) h = absurd h
+    ending_keeps (Stop line) h = absurd h
+    ending_keeps (Read line is) h = absurd h
+    ending_keeps (Print line is) h = absurd h
+    ending_keeps (Allocate line x es) h = absurd h
+    ending_keeps (Deallocate line x) h = absurd h
+
+    endings_keep : (b : Block) → AreEndings b → Keeps P (does_all (sequential bits) None b)
+    endings_keep no_statements h = Keeps-nothing (sequential bits) None P kept
+    endings_keep (statement c cs) h = Keeps-then (sequential bits) None P kept _ _ (ending_keeps c h.0) (endings_keep cs h.1)
+
 module _ (bits : ℕ) where
   abbrev IsFaulty : State → Type 0
   IsFaulty s = IsSound s.way → ⊥
@@ -115,33 +137,12 @@ module _ (bits : ℕ) where
     step = λ s h. h;
   }
 
-  mutual
-    ending_keeps : (c : Statement) → IsEnding c → Keeps IsFaulty (does (sequential bits) None c)
-    ending_keeps (Assignment line mark left right) h = Keeps-assignment (sequential bits) None IsFaulty faulty_kept line mark left right
-    ending_keeps (If line no_arms other) h = absurd h.0
-    ending_keeps (If line (arm test body (arm u d ms)) other) h = absurd h.0.1
-    ending_keeps (If line (arm test body no_arms) (statement c cs)) h = absurd h.1
-    ending_keeps (If line (arm test body no_arms) no_statements) h = only_where_keeps bits IsFaulty faulty_kept line test body (endings_keep body h.0.0)
-    ending_keeps (Where line mark mask left right) h = absurd h
-    ending_keeps (Do line x a b c body) h = absurd h
-    ending_keeps (Label n) h = absurd h
-    ending_keeps (GoTo line n) h = absurd h
-    ending_keeps (Stop line) h = absurd h
-    ending_keeps (Read line is) h = absurd h
-    ending_keeps (Print line is) h = absurd h
-    ending_keeps (Allocate line x es) h = absurd h
-    ending_keeps (Deallocate line x) h = absurd h
-
-    endings_keep : (b : Block) → AreEndings b → Keeps IsFaulty (does_all (sequential bits) None b)
-    endings_keep no_statements h = Keeps-nothing (sequential bits) None IsFaulty faulty_kept
-    endings_keep (statement c cs) h = Keeps-then (sequential bits) None IsFaulty faulty_kept _ _ (ending_keeps c h.0) (endings_keep cs h.1)
-
   -- where they end without fault, so did what was run before
   pub sound_before : (b : Block) → AreEndings b → (s : State) → IsSound (does_all (sequential bits) None b s).way → IsSound s.way
   sound_before b h s sound = by s.way refl
     where
       not_faulty : (IsSound s.way → ⊥) → IsSound s.way
-      not_faulty never = absurd ((endings_keep b h).at s never sound)
+      not_faulty never = absurd ((endings_keep bits IsFaulty faulty_kept b h).at s never sound)
 
       by : (w : Way) → s.way ≡ w → IsSound s.way
       by Going e = subst IsSound (sym e) tt
@@ -149,3 +150,7 @@ module _ (bits : ℕ) where
       by Stopped e = subst IsSound (sym e) tt
       by (Failed f n) e = not_faulty (λ k. subst IsSound e k)
       by Cut e = not_faulty (λ k. subst IsSound e k)
+
+-- they go on where they meet no fault
+pub ending_goes : (bits line : ℕ) (b : Block) (s : State) → AreEndings b → s.way ≡ Going → IsSound (does_all (sequential bits) None b s).way → (does_all (sequential bits) None b s).way ≡ Going
+ending_goes bits line b s h going = (endings_keep bits (GoesIfSound bits line) (kept bits line) b h).at s (λ g. going)

@@ -2,8 +2,8 @@
 ghost use Rattle.normal_run.specs.Laws.{RunOfNormalNest};
 
 /// Where the run of a nest with loops from 1 by 1, as `normalise` makes it, ends without fault, it is the nest's
-/// instances one after another in their sequential order, but for the variables of the loops, and then what comes after
-/// the loops.
+/// instances one after another in their sequential order, and then what comes after the loops, but for the variables of
+/// the loops; with arrays as values and without.
 pub fn run_of_normal_nest()
     ensures { RunOfNormalNest }
 {}
