@@ -8,8 +8,8 @@ pub fn normal_block_is_of_profile()
     ensures { NormalBlockIsOfProfile }
 {}
 
-/// A program of FORTRAN 77 with such normal forms in the place of some of its nests' loops, and their variables declared
-/// besides, is a program of Fortran 90, with expressions at most so much deeper, and blocks no deeper.
+/// A program of FORTRAN 77 with such normal forms in the place of some of its nests' loops, and their variables
+/// declared besides, is a program of Fortran 90, with expressions at most so much deeper, and blocks no deeper.
 pub fn normal_program_is_of_profile()
     ensures { NormalProgramIsOfProfile }
 {}
