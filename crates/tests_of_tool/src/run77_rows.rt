@@ -2,7 +2,7 @@
 use crate::tool::{SEVEN, great_deck};
 use std::alloc::{AllocError, Global};
 use std::test::Fail;
-use tool_in_memory::{Objects, Row, WILLING, call, check_rows, text_of};
+use tool_in_memory::{Objects, Row, WILLING, call, first_other, text_of};
 
 const RUN: &[&str] = &["run77"];
 
@@ -843,27 +843,32 @@ const NO_COMMANDS: &[&[&str]] = &[
 
 #[test]
 fn decks_run_to_their_end(rt: HostRuntime) -> Result<(), Fail> {
-    check_rows(&rt, rt.alloc(), DONE)
+    assert_eq!(rt; first_other(rt.alloc(), DONE)?, None);
+    Ok(())
 }
 
 #[test]
 fn faults_keep_what_was_written(rt: HostRuntime) -> Result<(), Fail> {
-    check_rows(&rt, rt.alloc(), FAULTS)
+    assert_eq!(rt; first_other(rt.alloc(), FAULTS)?, None);
+    Ok(())
 }
 
 #[test]
 fn refused_decks_write_nothing(rt: HostRuntime) -> Result<(), Fail> {
-    check_rows(&rt, rt.alloc(), REFUSED)
+    assert_eq!(rt; first_other(rt.alloc(), REFUSED)?, None);
+    Ok(())
 }
 
 #[test]
 fn final_stores_come_last(rt: HostRuntime) -> Result<(), Fail> {
-    check_rows(&rt, rt.alloc(), FINAL_STORES)
+    assert_eq!(rt; first_other(rt.alloc(), FINAL_STORES)?, None);
+    Ok(())
 }
 
 #[test]
 fn steps_are_limited(rt: HostRuntime) -> Result<(), Fail> {
-    check_rows(&rt, rt.alloc(), STEPS)
+    assert_eq!(rt; first_other(rt.alloc(), STEPS)?, None);
+    Ok(())
 }
 
 // The source fails at its first call, so it has not been called.

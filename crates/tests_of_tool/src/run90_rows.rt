@@ -1,6 +1,6 @@
 //! Rows of `run90` over memory: words and a deck of Fortran 90, and the status, the text and the note that answer them.
 use std::test::Fail;
-use tool_in_memory::{Row, WILLING, call, check_rows, text_of};
+use tool_in_memory::{Row, WILLING, call, first_other, text_of};
 
 const RUN: &[&str] = &["run90"];
 
@@ -413,22 +413,26 @@ const OPTIONS: &[Row] = &[
 
 #[test]
 fn decks_run_to_their_end(rt: HostRuntime) -> Result<(), Fail> {
-    check_rows(&rt, rt.alloc(), DONE)
+    assert_eq!(rt; first_other(rt.alloc(), DONE)?, None);
+    Ok(())
 }
 
 #[test]
 fn faults_keep_what_was_written(rt: HostRuntime) -> Result<(), Fail> {
-    check_rows(&rt, rt.alloc(), FAULTS)
+    assert_eq!(rt; first_other(rt.alloc(), FAULTS)?, None);
+    Ok(())
 }
 
 #[test]
 fn refused_decks_write_nothing(rt: HostRuntime) -> Result<(), Fail> {
-    check_rows(&rt, rt.alloc(), REFUSED)
+    assert_eq!(rt; first_other(rt.alloc(), REFUSED)?, None);
+    Ok(())
 }
 
 #[test]
 fn options_are_kept(rt: HostRuntime) -> Result<(), Fail> {
-    check_rows(&rt, rt.alloc(), OPTIONS)
+    assert_eq!(rt; first_other(rt.alloc(), OPTIONS)?, None);
+    Ok(())
 }
 
 #[test]

@@ -1,6 +1,6 @@
 //! Rows of `graph` over memory: a deck, and its listing as another program writes it.
 use std::test::Fail;
-use tool_in_memory::{Row, check_rows};
+use tool_in_memory::{Row, first_other};
 
 const GRAPH: &[&str] = &["graph"];
 
@@ -252,5 +252,6 @@ const LISTED: &[Row] = &[
 
 #[test]
 fn loops_are_listed(rt: HostRuntime) -> Result<(), Fail> {
-    check_rows(&rt, rt.alloc(), LISTED)
+    assert_eq!(rt; first_other(rt.alloc(), LISTED)?, None);
+    Ok(())
 }

@@ -2,7 +2,7 @@
 use std::alloc::Global;
 use std::process::Abort;
 use std::test::Fail;
-use tool_in_memory::{Row, WILLING, call, check_rows, text_of};
+use tool_in_memory::{Row, WILLING, call, first_other, text_of};
 
 const VECTORISE: &[&str] = &["vectorise"];
 
@@ -988,7 +988,7 @@ fn check_listing(rt: &impl Abort, alloc: Global, row: &Row) -> Result<(), Fail> 
 }
 
 fn check(rt: &impl Abort, alloc: Global, rows: &[Row]) -> Result<(), Fail> {
-    check_rows(rt, alloc, rows)?;
+    assert_eq!(rt; first_other(alloc, rows)?, None);
     for row in rows {
         check_listing(rt, alloc, row)?;
     }

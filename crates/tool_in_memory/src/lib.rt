@@ -5,4 +5,4 @@ mod calls;
 mod rows;
 
 pub use calls::{Done, Objects, WILLING, call, text_of};
-pub use rows::{Row, check_rows};
+pub use rows::{Row, first_other};
