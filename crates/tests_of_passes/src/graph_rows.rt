@@ -191,7 +191,8 @@ const COUPLED: &[Row] = &[
             !G LOOP 1 FV_LOOP_1 TRIP 8 IN 0\n\
             !G LOOP 2 FV_LOOP_2 TRIP 7 IN 1\n\
             !G LOOP 3 FV_LOOP_3 TRIP 9 IN 2\n\
-            !G STMT S1 (1,2,3) C(FV_LOOP_1, FV_LOOP_2) = C(FV_LOOP_1, FV_LOOP_2) + A(FV_LOOP_1, FV_LOOP_3) * B(FV_LOOP_3, FV_LOOP_2)\n\
+            !G STMT S1 (1,2,3) C(FV_LOOP_1, FV_LOOP_2) = C(FV_LOOP_1, FV_LOOP_2) + A(FV_LOOP_1, FV_LOOP_3) * \
+            B(FV_LOOP_3, FV_LOOP_2)\n\
             !G DROP S1.0 S1.0 OUTPUT C (<,*,*) STRONG\n\
             !G DROP S1.0 S1.0 OUTPUT C (=,<,*) STRONG\n\
             !G EDGE S1.0 S1.0 OUTPUT C (=,=,<) 3 STRONG (1,1,1) (1,1,2)\n\
@@ -365,7 +366,8 @@ const SPREAD_OUT: &[Row] = &[
             !G LOOP 4 FV_LOOP_4 TRIP 3 IN 3\n\
             !G LOOP 5 FV_LOOP_5 TRIP 3 IN 2\n\
             !G LOOP 6 FV_LOOP_6 TRIP 3 IN 5\n\
-            !G STMT S1 (2,3,4) V(FV_LOOP_4, FV_LOOP_3) = (U(FV_LOOP_4 - 1, FV_LOOP_3) + U(FV_LOOP_4 + 1, FV_LOOP_3) + U(FV_LOOP_4, FV_L\n\
+            !G STMT S1 (2,3,4) V(FV_LOOP_4, FV_LOOP_3) = (U(FV_LOOP_4 - 1, FV_LOOP_3) + U(FV_LOOP_4 + 1, \
+            FV_LOOP_3) + U(FV_LOOP_4, FV_L\n\
             !G + OOP_3 - 1) + U(FV_LOOP_4, FV_LOOP_3 + 1)) / 4\n\
             !G STMT S2 (2,5,6) U(FV_LOOP_6, FV_LOOP_5) = V(FV_LOOP_6, FV_LOOP_5)\n\
             !G DROP S1.0 S1.0 OUTPUT V (<,<,*) STRONG\n\

@@ -1,5 +1,5 @@
-//! Rows of nests once their loops go from 1 by 1: loops, trips, statements, and what runs after them, as another program
-//! writes them.
+//! Rows of nests once their loops go from 1 by 1: loops, trips, statements, and what runs after them, as another
+//! program writes them.
 use crate::decks::{Row, normal_nests};
 use std::alloc::Global;
 use std::process::Abort;

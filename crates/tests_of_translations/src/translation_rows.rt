@@ -632,7 +632,8 @@ const FORMS: &[Row] = &[
             INTEGER :: I\n\
             INTEGER :: J\n\
             !S 1 1 1\n\
-            A(1:4, 1:3) = RESHAPE((/ ((B(FV_LOOP_1 + FV_LOOP_2), FV_LOOP_1 = 1, 4), FV_LOOP_2 = 1, 3) /), (/ 4, 3 /)) * 2\n\
+            A(1:4, 1:3) = RESHAPE((/ ((B(FV_LOOP_1 + FV_LOOP_2), FV_LOOP_1 = 1, 4), FV_LOOP_2 = 1, 3) /), (/ 4, \
+            3 /)) * 2\n\
             I = 5\n\
             J = 4\n\
             END\n",
@@ -859,7 +860,8 @@ const SWEEP: &[Row] = &[
             !G LOOP 4 FV_LOOP_4 TRIP 3 IN 3\n\
             !G LOOP 5 FV_LOOP_5 TRIP 3 IN 2\n\
             !G LOOP 6 FV_LOOP_6 TRIP 3 IN 5\n\
-            !G STMT S1 (2,3,4) V(FV_LOOP_4, FV_LOOP_3) = (U(FV_LOOP_4 - 1, FV_LOOP_3) + U(FV_LOOP_4 + 1, FV_LOOP_3) + U(FV_LOOP_4, FV_L\n\
+            !G STMT S1 (2,3,4) V(FV_LOOP_4, FV_LOOP_3) = (U(FV_LOOP_4 - 1, FV_LOOP_3) + U(FV_LOOP_4 + 1, \
+            FV_LOOP_3) + U(FV_LOOP_4, FV_L\n\
             !G + OOP_3 - 1) + U(FV_LOOP_4, FV_LOOP_3 + 1)) / 4\n\
             !G STMT S2 (2,5,6) U(FV_LOOP_6, FV_LOOP_5) = V(FV_LOOP_6, FV_LOOP_5)\n\
             !G DROP S1.0 S1.0 OUTPUT V (<,<,*) STRONG\n\
@@ -935,7 +937,8 @@ const SWEEP: &[Row] = &[
             !G LOOP 1 FV_LOOP_1 TRIP 8 IN 0\n\
             !G LOOP 2 FV_LOOP_2 TRIP 7 IN 1\n\
             !G LOOP 3 FV_LOOP_3 TRIP 9 IN 2\n\
-            !G STMT S1 (1,2,3) C(FV_LOOP_1, FV_LOOP_2) = C(FV_LOOP_1, FV_LOOP_2) + A(FV_LOOP_1, FV_LOOP_3) * B(FV_LOOP_3, FV_LOOP_2)\n\
+            !G STMT S1 (1,2,3) C(FV_LOOP_1, FV_LOOP_2) = C(FV_LOOP_1, FV_LOOP_2) + A(FV_LOOP_1, FV_LOOP_3) * \
+            B(FV_LOOP_3, FV_LOOP_2)\n\
             !G DROP S1.0 S1.0 OUTPUT C (<,*,*) STRONG\n\
             !G DROP S1.0 S1.0 OUTPUT C (=,<,*) STRONG\n\
             !G EDGE S1.0 S1.0 OUTPUT C (=,=,<) 3 STRONG (1,1,1) (1,1,2)\n\
@@ -963,7 +966,8 @@ const SWEEP: &[Row] = &[
             DO FV_LOOP_2 = 1, 7\n\
             DO FV_LOOP_3 = 1, 9\n\
             !S 1 1 4\n\
-            C(FV_LOOP_1, FV_LOOP_2) = C(FV_LOOP_1, FV_LOOP_2) + A(FV_LOOP_1, FV_LOOP_3) * B(FV_LOOP_3, FV_LOOP_2)\n\
+            C(FV_LOOP_1, FV_LOOP_2) = C(FV_LOOP_1, FV_LOOP_2) + A(FV_LOOP_1, FV_LOOP_3) * B(FV_LOOP_3, \
+            FV_LOOP_2)\n\
             END DO\n\
             END DO\n\
             END DO\n\
