@@ -21,7 +21,7 @@ pub(super) struct Row {
     pub(super) out: &'static str,
 }
 
-fn found_in(alloc: Global, deck: &[&str]) -> Result<Seq<Found>, Fail> {
+pub(super) fn found_in(alloc: Global, deck: &[&str]) -> Result<Seq<Found>, Fail> {
     let source = deck.join(alloc, "\n")?;
     let program = read77(alloc, source.as_bytes())?;
     if program.decls.len() > 1000 {
@@ -30,7 +30,7 @@ fn found_in(alloc: Global, deck: &[&str]) -> Result<Seq<Found>, Fail> {
     Ok(find_nests(alloc, &program)?)
 }
 
-fn normal_nest(alloc: Global, nest: &Nest) -> Result<Nest, Fail> {
+pub(super) fn normal_nest(alloc: Global, nest: &Nest) -> Result<Nest, Fail> {
     if nest.symbols.len() > 1000 {
         return Err(Fail::from("more than 1,000 symbols"));
     }

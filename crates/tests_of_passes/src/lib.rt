@@ -4,6 +4,10 @@
 #[cfg(test)]
 mod decks;
 #[cfg(test)]
+mod form_rows;
+#[cfg(test)]
+mod forms;
+#[cfg(test)]
 mod graph_rows;
 #[cfg(test)]
 mod normal_rows;
