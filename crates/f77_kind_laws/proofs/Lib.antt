@@ -1,0 +1,4 @@
+mod Dimensions
+mod OneRule
+mod Texts
+mod HiddenName
