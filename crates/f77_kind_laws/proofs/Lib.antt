@@ -1,4 +1,5 @@
 mod Dimensions
 mod OneRule
 mod Texts
+mod Statements
 mod HiddenName

@@ -27,11 +27,11 @@ use Rattle.f77_kind_laws.proofs.Dimensions.{HaveDimensions, some_dimension}
 
 -- ---- tests
 
-both_true : (a b : Bool) → a ≡ true → b ≡ true → (a && b) ≡ true
+pub both_true : (a b : Bool) → a ≡ true → b ≡ true → (a && b) ≡ true
 both_true true b h g = g
 both_true false b h g = absurd cc
 
-or_left : (a b : Bool) → a ≡ true → (a || b) ≡ true
+pub or_left : (a b : Bool) → a ≡ true → (a || b) ≡ true
 or_left true b h = refl
 or_left false b h = absurd cc
 
@@ -63,16 +63,16 @@ module _ (us : List Use) where
   no_call : (x : List ℕ) (n : ℕ) → is_function us x ≡ false → calls_hidden us (use_of x (Valued n)) ≡ false
   no_call x n e = ap (λ b. b && is_hidden_name us x (function_named x)) e
 
-  variable_no_function : (x : List ℕ) → is_variable us x ≡ true → is_function us x ≡ false
+  pub variable_no_function : (x : List ℕ) → is_variable us x ≡ true → is_function us x ≡ false
   variable_no_function x v = variable_hides (is_some (function_named x)) (is_variable us x) (is_constant us x) v
 
-  constant_no_function : (x : List ℕ) → is_constant us x ≡ true → is_function us x ≡ false
+  pub constant_no_function : (x : List ℕ) → is_constant us x ≡ true → is_function us x ≡ false
   constant_no_function x c = constant_hides (is_some (function_named x)) (is_variable us x) (is_constant us x) c
 
   constant_no_array : (x : List ℕ) → is_constant us x ≡ true → is_array us x ≡ false
   constant_no_array x c = and_false (stands is_bounded us x) (not (is_constant us x)) (ap not c)
 
-  variable_no_constant : (x : List ℕ) → is_variable us x ≡ true → is_constant us x ≡ false
+  pub variable_no_constant : (x : List ℕ) → is_variable us x ≡ true → is_constant us x ≡ false
   variable_no_constant x v = negated (is_constant us x) (right_true (stands is_typed us x || stands is_bounded us x || stands is_bare us x) (not (is_constant us x)) v)
 
   -- ---- from the text: what stands with a list is an array or a function
@@ -85,7 +85,7 @@ module _ (us : List Use) where
       by (inr f) = or_right (is_array us x) (is_function us x) (left_true (is_function us x) (takes_so_many (function_named x) n) (left_true (is_function us x && takes_so_many (function_named x) n) (same_kind Integer k) f))
 
   mutual
-    lists : (e : Expression) (k : Kind) → IsSource e → has_kind us e k ≡ true → AllByRecursion (IsArrayOrFunction us) (uses_in e)
+    pub lists : (e : Expression) (k : Kind) → IsSource e → has_kind us e k ≡ true → AllByRecursion (IsArrayOrFunction us) (uses_in e)
     lists (Number n) k h g = tt
     lists (Logic b) k h g = tt
     lists (Named x no_subscripts) k h g = (λ l. absurd cc, tt)
@@ -101,7 +101,7 @@ module _ (us : List Use) where
         (lists b (operand_kind o) h.2 (right_true (not (is_unary o) && same_kind (result_kind_of o) k && has_kind us a (operand_kind o)) (has_kind us b (operand_kind o)) g))
     lists e k h g = absurd h
 
-    lists_in : (ps : Subscripts) → AreSource ps → are_subscripts us ps ≡ true → AllByRecursion (IsArrayOrFunction us) (uses_in_subscripts ps)
+    pub lists_in : (ps : Subscripts) → AreSource ps → are_subscripts us ps ≡ true → AllByRecursion (IsArrayOrFunction us) (uses_in_subscripts ps)
     lists_in no_subscripts h g = tt
     lists_in (subscript p ps) h g =
         all_both (IsArrayOrFunction us) (uses_in_subscript p) (uses_in_subscripts ps)
@@ -112,7 +112,7 @@ module _ (us : List Use) where
     lists_at (Only e) h g = lists e Integer h g
     lists_at p h g = absurd h
 
-  good : (vs : List Use) → AllByRecursion (Contains us) vs → AllByRecursion (IsRightUse us) vs → AreGood us vs
+  pub good : (vs : List Use) → AllByRecursion (Contains us) vs → AllByRecursion (IsRightUse us) vs → AreGood us vs
   good [] h g = tt
   good (v ∷ vs) h g = (record { among = h.0; suits = g.0.suits; shown = g.0.shown }, good vs h.1 g.1)
 
@@ -134,15 +134,15 @@ module _ (us : List Use) (s : Store) (ds : List Declaration) (knows : Knows us s
   dimension x a = some_dimension us x some (left_true (stands is_bounded us x) (not (is_constant us x)) a)
 
   -- a name that the tree declares is a variable
-  record IsNamed (x : List ℕ) (n : ℕ) (k : Kind) : Type 0 where
-    variable : is_variable us x ≡ true
-    kind : kind_of_name us x ≡ k
-    many : n ≡ dimensions_of_name us x
+  pub record IsNamed (x : List ℕ) (n : ℕ) (k : Kind) : Type 0 where
+    pub variable : is_variable us x ≡ true
+    pub kind : kind_of_name us x ≡ k
+    pub many : n ≡ dimensions_of_name us x
 
   abbrev IsSo : ℕ → Kind → Declaration → Type 0
   IsSo n k d = (k ≡ d.kind) × (n ≡ length (dimensions d.extent))
 
-  named_so : (x : List ℕ) (n : ℕ) (k : Kind) → IsSomeAnd (declared ds x) (IsSo n k) → IsNamed x n k
+  pub named_so : (x : List ℕ) (n : ℕ) (k : Kind) → IsSomeAnd (declared ds x) (IsSo n k) → IsNamed x n k
   named_so x n k h = by (is_variable us x) refl
     where
       of_variable : is_variable us x ≡ true → IsDeclaredAs us ds x → IsNamed x n k
@@ -173,7 +173,7 @@ module _ (us : List Use) (s : Store) (ds : List Declaration) (knows : Knows us s
     kind : kind_of_name us x ≡ k
     no_function : is_function us x ≡ false
 
-  no_dimension : (x : List ℕ) → 0 ≡ dimensions_of_name us x → is_array us x ≡ false
+  pub no_dimension : (x : List ℕ) → 0 ≡ dimensions_of_name us x → is_array us x ≡ false
   no_dimension x e = by (is_array us x) refl
     where
       by : (b : Bool) → is_array us x ≡ b → is_array us x ≡ false
@@ -192,12 +192,12 @@ module _ (us : List Use) (s : Store) (ds : List Declaration) (knows : Knows us s
 
   -- ---- a name with a list
 
-  record IsList (x : List ℕ) (n : ℕ) (k : Kind) (ps : Subscripts) : Type 0 where
-    kind : list_has_kind us x (suc n) k ≡ true
-    subscripts : AreSubscripts ds ps
-    right : IsRightUse us (use_of x (Valued (suc n)))
+  pub record IsList (x : List ℕ) (n : ℕ) (k : Kind) (ps : Subscripts) : Type 0 where
+    pub kind : list_has_kind us x (suc n) k ≡ true
+    pub subscripts : AreSubscripts ds ps
+    pub right : IsRightUse us (use_of x (Valued (suc n)))
 
-  element : (x : List ℕ) (n : ℕ) (k : Kind) (ps : Subscripts) → is_array us x ≡ true → number_of_subscripts ps ≡ suc n → HasKind ds (Named x ps) k → IsList x n k ps
+  pub element : (x : List ℕ) (n : ℕ) (k : Kind) (ps : Subscripts) → is_array us x ≡ true → number_of_subscripts ps ≡ suc n → HasKind ds (Named x ps) k → IsList x n k ps
   element x n k ps a e h =
       let m = named_so x (number_of_subscripts ps) k h.0 in
       let t = ap (λ b. cond b (suc n == dimensions_of_name us x) (is_some (function_named x))) a ∙ equal (suc n) (dimensions_of_name us x) (sym e ∙ m.many) in
@@ -237,16 +237,16 @@ module _ (us : List Use) (s : Store) (ds : List Declaration) (knows : Knows us s
 
   -- ---- expressions
 
-  record AreInText (ps : Subscripts) : Type 0 where
-    kind : are_subscripts us ps ≡ true
-    uses : AllByRecursion (IsRightUse us) (uses_in_subscripts ps)
+  pub record AreInText (ps : Subscripts) : Type 0 where
+    pub kind : are_subscripts us ps ≡ true
+    pub uses : AllByRecursion (IsRightUse us) (uses_in_subscripts ps)
 
   record IsInText (p : Subscript) : Type 0 where
     kind : is_subscript us p ≡ true
     uses : AllByRecursion (IsRightUse us) (uses_in_subscript p)
 
   mutual
-    in_text : (e : Expression) (k : Kind) → IsSource e → AllByRecursion (IsArrayOrFunction us) (uses_in e) → HasKind ds (resolved us s e) k → HasKindInText us e k
+    pub in_text : (e : Expression) (k : Kind) → IsSource e → AllByRecursion (IsArrayOrFunction us) (uses_in e) → HasKind ds (resolved us s e) k → HasKindInText us e k
     in_text (Number n) k h u g = record { kind = same Integer k (sym g.1); uses = tt }
     in_text (Logic b) k h u g = record { kind = same Logical k (sym g); uses = tt }
     in_text (Named x no_subscripts) k h u g =
@@ -278,7 +278,7 @@ module _ (us : List Use) (s : Store) (ds : List Declaration) (knows : Knows us s
         }
     in_text e k h u g = absurd h
 
-    are_in_text : (ps : Subscripts) → AreSource ps → AllByRecursion (IsArrayOrFunction us) (uses_in_subscripts ps) → AreSubscripts ds (resolved_subscripts us s ps) → AreInText ps
+    pub are_in_text : (ps : Subscripts) → AreSource ps → AllByRecursion (IsArrayOrFunction us) (uses_in_subscripts ps) → AreSubscripts ds (resolved_subscripts us s ps) → AreInText ps
     are_in_text no_subscripts h u g = record { kind = refl; uses = tt }
     are_in_text (subscript p ps) h u g =
         let r = is_in_text p h.0 (all_left (IsArrayOrFunction us) (uses_in_subscript p) (uses_in_subscripts ps) u) g.0 in

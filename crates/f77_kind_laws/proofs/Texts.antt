@@ -50,7 +50,7 @@ module _ (d : Dialect) (small : d.bits ≤ 126) where
             let c : Cell = record { name = x; subscripts = [] } in
             record { kind = k.kind c refl; range = literal_range (s.held c) (k.range c refl) }
 
-    knows : Knows us s (declarations d text)
+    pub knows : Knows us s (declarations d text)
     knows = record {
       variable = λ x h. record {
         it = declaration_of d us s text x;

@@ -3,4 +3,4 @@
 
 mod laws;
 
-pub use laws::{kinds_are_one_rule, lists_are_to_suit};
+pub use laws::{kinds_are_one_rule, lists_are_to_suit, statements_are_one_rule};
