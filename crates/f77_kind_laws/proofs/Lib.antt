@@ -2,4 +2,4 @@ mod Dimensions
 mod OneRule
 mod Texts
 mod Statements
-mod HiddenName
+mod Apart

@@ -1,5 +1,5 @@
 -- What has a kind by the uses of names has it by declarations, and the other way round.
-use Rattle.std.proofs.Common.{◌≡◌, ◌⊎◌, ◌↔◌, inl, inr, ℕ, suc, ◌+◌, ◌≤◌, ◌==◌, one-add, Bool, true, false, not, ◌&&◌, ◌||◌, cond, IsSomeAnd, Option, Some, None, is_some, ℤ, pos, negsuc, List, [], ◌∷◌, length, refl, sym, ap, subst, ◌∙◌, arith, Contains}
+use Rattle.std.proofs.Common.{◌≡◌, ◌⊎◌, ◌↔◌, inl, inr, ℕ, suc, ◌+◌, ◌≤◌, ◌==◌, one-add, Bool, true, false, not, ◌&&◌, ◌||◌, cond, IsSomeAnd, Option, Some, None, is_some, pos, negsuc, List, [], ◌∷◌, length, refl, sym, ap, subst, ◌∙◌, arith, Contains}
 use Rattle.std.specs.List.{AllByRecursion}
 use Rattle.std.specs.Str.{bytes_eq}
 use Rattle.std.proofs.lemmas.Bool.{or_cases}
@@ -10,18 +10,18 @@ use Rattle.fv_tree.specs.declared.ops.Kind.TheVariants.{Integer, Logical}
 use Rattle.fv_tree.specs.declared.ops.Value.{Value}
 use Rattle.fv_tree.specs.declared.ops.Value.TheVariants.{Int, Truth}
 use Rattle.fv_tree.specs.declared.functions.Fun.{Fun}
-use Rattle.fv_tree.specs.Plain.{Expression, Number, Logic, Named, Unary, Binary, Apply, Subscript, Only, Subscripts, no_subscripts, subscript, Declaration}
+use Rattle.fv_tree.specs.Plain.{Expression, Number, Logic, Named, Unary, Binary, Subscript, Only, Subscripts, no_subscripts, subscript, Declaration}
 use Rattle.fv_tree.specs.Functions.{function_named, name_of_function, suits_number}
 use Rattle.fv_tree.specs.OperatorTable.{operand_kind, result_kind_of, is_unary}
 use Rattle.fv_meaning.specs.Store.{Store}
 use Rattle.fv_meaning.specs.Typed77.{number_of_arguments, number_of_subscripts, dimensions, declared, HasKind, AreArguments, AreSubscripts, IsSubscript}
 use Rattle.f77_grammar.specs.expressions.Printing.{IsSource, IsSourceSubscript, AreSource}
 use Rattle.f77_grammar.specs.program.Uses.{Valued, Use, use_of, uses_in, uses_in_subscripts, uses_in_subscript, stands, is_typed, is_bare, is_bounded, is_constant, is_variable, is_array, is_function, kind_of_name, dimensions_of_name}
-use Rattle.f77_grammar.specs.program.Declarations.{is_listed, suits_list}
+use Rattle.f77_grammar.specs.program.Declarations.{is_listed}
 use Rattle.f77_grammar.specs.program.Kinds.{same_kind, takes_so_many, has_kind, name_has_kind, list_has_kind, are_subscripts, is_subscript, is_hidden_name, calls_hidden}
 use Rattle.f77_grammar.specs.program.Tree.{literal, arguments_of, call_of, element_or_call, value_or_name, resolved, resolved_subscripts, resolved_subscript}
-use Rattle.f77_laws.proofs.Lists.{left_true, right_true, not_both, negated, or_right, all_left, all_right, all_both}
-use Rattle.f77_laws.proofs.NameKinds.{Knows, IsDeclaredAs, IsGood, AreGood, array_variable, no_array, as_many, kinds}
+use Rattle.f77_laws.proofs.Lists.{left_true, right_true, negated, or_right, all_left, all_right, all_both}
+use Rattle.f77_laws.proofs.NameKinds.{Knows, IsDeclaredAs, AreGood, no_array, as_many, kinds}
 use Rattle.f77_kind_laws.specs.OneRule.{IsRightUse, IsArrayOrFunction, HasKindInText, HasKindInTree}
 use Rattle.f77_kind_laws.proofs.Dimensions.{HaveDimensions, some_dimension}
 

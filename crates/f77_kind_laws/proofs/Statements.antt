@@ -1,5 +1,5 @@
 -- Kinds suit in a statement of a text where they suit in what the tree has of it.
-use Rattle.std.proofs.Common.{◌≡◌, ◌⊎◌, ◌↔◌, inl, inr, ℕ, suc, ◌+◌, one-add, Bool, true, false, not, ◌&&◌, ◌||◌, IsSomeAnd, Option, Some, None, List, [], ◌∷◌, ◌++◌, length, refl, sym, ap, subst, ◌∙◌, arith, Contains}
+use Rattle.std.proofs.Common.{◌≡◌, ◌⊎◌, inl, inr, ℕ, suc, ◌+◌, one-add, Bool, true, false, not, ◌&&◌, IsSomeAnd, Option, Some, None, List, ◌∷◌, ◌++◌, refl, sym, ap, subst, ◌∙◌, arith, Contains}
 use Rattle.std.specs.List.{AllByRecursion}
 use Rattle.std.proofs.lemmas.Bool.{or_cases}
 use Rattle.fv_tree.specs.declared.ops.Kind.{Kind}
@@ -7,26 +7,25 @@ use Rattle.fv_tree.specs.declared.ops.Kind.TheVariants.{Integer, Logical}
 use Rattle.fv_tree.specs.declared.functions.Fun.{Fun}
 use Rattle.fv_tree.specs.Functions.{function_named}
 use Rattle.fv_tree.specs.Plain.{Expression, Number, Logic, Named, Unary, Binary, Subscript, Subscripts, no_subscripts, subscript, Item, Single, Constant, ImpliedDo, Items, no_items, item, Declaration, block}
-use Rattle.fv_meaning.specs.Dialect.{Dialect}
 use Rattle.fv_meaning.specs.Store.{Store}
 use Rattle.fv_meaning.specs.Typed77.{number_of_subscripts, declared, HasKind, IsWhole, IsDoVariable, IsDeclared, IsOutput, IsInput, IsOutputItem, AreOutputItems, IsInputItem, AreInputItems}
-use Rattle.fv_meaning.specs.Profile77.{IsBlock, IsLine, IsAssignment, Surroundings}
+use Rattle.fv_meaning.specs.Profile77.{IsBlock, Surroundings}
 use Rattle.f77_grammar.specs.Statement77.{Statement77, Program, Declare, Dimension, Constants, Assign, Go, Test, If, ElseIf, Else, EndIf, Do, Continue, Stop, Read, Print, End}
 use Rattle.f77_grammar.specs.expressions.Printing.{IsSource}
 use Rattle.f77_grammar.specs.program.Text.{action, is_declaration}
-use Rattle.f77_grammar.specs.program.Uses.{Role, Valued, Target, Counter, Use, use_of, uses_in, uses_in_subscripts, target_uses, control_uses, input_uses, uses_in_output, uses_in_outputs, uses_in_input, uses_in_inputs, uses_of, uses_in_text, is_constant, is_variable, is_array, is_function, kind_of_name, dimensions_of_name}
+use Rattle.f77_grammar.specs.program.Uses.{Valued, Target, Counter, Use, use_of, uses_in, uses_in_subscripts, target_uses, control_uses, input_uses, uses_in_output, uses_in_outputs, uses_in_input, uses_in_inputs, uses_of, uses_in_text, is_constant, is_variable, is_array, is_function, kind_of_name, dimensions_of_name}
 use Rattle.f77_grammar.specs.program.Declarations.{suits_list}
 use Rattle.f77_grammar.specs.program.Kinds.{has_kind, has_some_kind, are_subscripts, is_stored_into, suits_output, suits_input, are_numbers, suits_output_item, suits_output_items, suits_input_item, suits_input_items, suits, is_hidden_name}
 use Rattle.f77_grammar.specs.program.DoVariables.{misuses_variable}
 use Rattle.f77_grammar.specs.program.Limits.{constants_of}
 use Rattle.f77_grammar.specs.program.Tree.{call_of, element_or_call, value_or_name, resolved, resolved_subscripts, resolved_input, resolved_output_item, resolved_outputs, resolved_input_item, resolved_inputs, simple, target}
-use Rattle.f77_laws.specs.Source.{IsShallow, IsSourceVariable, IsSourceOutput, AreSourceOutputs, IsSourceInput, AreSourceInputs, IsSourceAction, IsSourceStatement, IsSourceCard}
+use Rattle.f77_laws.specs.Source.{IsShallow, IsSourceVariable, IsSourceOutput, AreSourceOutputs, IsSourceInput, AreSourceInputs, IsSourceAction, IsSourceStatement}
 use Rattle.f77_laws.proofs.Lists.{left_true, right_true, both_false, or_right, affirmed, all_left, all_right, all_both}
 use Rattle.f77_laws.proofs.NameKinds.{Knows, IsDeclaredAs, IsGood, AreGood, no_array, as_many}
 use Rattle.f77_laws.proofs.Known.{proper_text, declarations}
 use Rattle.f77_laws.proofs.Actions.{IsWithin, do_variable, whole, whole_parameters, action_holds}
 use Rattle.f77_kind_laws.specs.OneRule.{IsRightUse, IsArrayOrFunction}
-use Rattle.f77_kind_laws.specs.StatementRule.{alone, SuitsInText, SuitsInTree, IsPlaced, OneRuleOfStatements}
+use Rattle.f77_kind_laws.specs.StatementRule.{alone, SuitsInText, IsPlaced, OneRuleOfStatements}
 use Rattle.f77_kind_laws.proofs.Dimensions.{HaveDimensions, in_text}
 use Rattle.f77_kind_laws.proofs.OneRule as rule
 use Rattle.f77_kind_laws.proofs.OneRule.{both_true, or_left, variable_no_function, constant_no_function, variable_no_constant, good, named_so, no_dimension, element, are_in_text}

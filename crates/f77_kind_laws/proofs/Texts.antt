@@ -1,10 +1,11 @@
 -- What a text says of names, its declarations say.
-use Rattle.std.proofs.Common.{◌≡◌, ◌↔◌, ℕ, ◌^◌, ◌≤◌, nat_lt, ltb-true, lt-ltb, pos, negsuc, ℤ, arith, true, false, Option, Some, None, is_none, List, [], refl, sym, ap, ◌∙◌}
+use Rattle.std.proofs.Common.{◌≡◌, ◌↔◌, ℕ, ◌^◌, ◌≤◌, nat_lt, ltb-true, lt-ltb, pos, negsuc, ℤ, arith, true, false, Option, Some, None, is_none, List, [], refl, sym, subst, ◌∙◌}
 use Rattle.std.specs.List.{AllByRecursion}
 use Rattle.std.proofs.lemmas.List.{length-map}
 use Rattle.std.proofs.Math.Pow.{pow_mono}
 use Rattle.fv_tree.specs.declared.ops.Value.{Value}
 use Rattle.fv_tree.specs.declared.ops.Value.TheVariants.{Int, Truth}
+use Rattle.fv_tree.specs.Plain.{Program}
 use Rattle.fv_meaning.specs.Dialect.{Dialect}
 use Rattle.fv_meaning.specs.Store.{Store, Cell}
 use Rattle.fv_meaning.specs.Value.{is_in_range}
@@ -18,8 +19,10 @@ use Rattle.f77_laws.proofs.Variables.{declared_name, undeclared_name, variable_u
 use Rattle.f77_laws.proofs.Dimensions.{number_of_bounds}
 use Rattle.f77_laws.proofs.ConstantValues.{KeepsKinds, text_constants}
 use Rattle.f77_laws.proofs.NameKinds.{Knows, IsValued}
+use Rattle.f77_laws.proofs.Known as known
 use Rattle.f77_laws.proofs.Known.{proper_text, variable_named, declarations}
-use Rattle.f77_kind_laws.specs.OneRule.{HasConstants, OneRuleOfKinds, SameKinds}
+use Rattle.f77_laws.proofs.Sound.{right, values}
+use Rattle.f77_kind_laws.specs.OneRule.{HasKindInText, HasKindInTree, HasConstants, OneRuleOfKinds, SameKinds, OneRuleOfRead}
 use Rattle.f77_kind_laws.proofs.Dimensions.{in_text}
 use Rattle.f77_kind_laws.proofs.OneRule.{one_rule}
 
@@ -70,3 +73,11 @@ pub same_kinds : SameKinds
 same_kinds d text e k small cards constants expression uses lists =
     let both = one_rule_of_kinds d text e k small cards constants expression in
     (λ h. (both.0 (record { kind = h; uses = uses })).kind, λ h. (both.1 (record { kind = h; lists = lists })).kind)
+
+pub one_rule_of_read : OneRuleOfRead
+one_rule_of_read d text p e k small cards reads expression =
+    let us : List Use = uses_in_text text in
+    let s : Store = constants_of d text in
+    let proper = proper_text text cards in
+    let all = known.knows d text small (right d text reads.sound) (values d text reads.sound) proper in
+    subst (λ (q : Program). HasKindInText us e k ↔ HasKindInTree us s q.declarations e k) (sym reads.formed) (one_rule us s (declarations d text) all (in_text text proper) e k expression.source expression.among)

@@ -1,12 +1,10 @@
 -- The kind of a written expression is said by all uses of names in its text, and that of its tree by declarations. Both
 -- are one rule, where the uses are right and what stands with a list in parentheses is an array or a function.
-use Rattle.std.specs.Prelude.{◌≡◌, ◌↔◌, ℕ, ◌≤◌, true, false, ◌||◌, is_none, List}
+use Rattle.std.specs.Prelude.{◌≡◌, ◌↔◌, ℕ, ◌≤◌, true, false, ◌||◌, is_none, List, Contains}
 use Rattle.std.specs.List.{AllByRecursion, flat_map}
-use Rattle.std.specs.Prelude.{Contains}
-use Rattle.fv_tree.specs.Plain.{Expression, Declaration}
+use Rattle.fv_tree.specs.Plain.{Expression, Declaration, Program}
 use Rattle.fv_tree.specs.declared.ops.Kind.{Kind}
-use Rattle.fv_tree.specs.declared.ops.Kind.TheVariants.{Integer}
-use Rattle.fv_meaning.specs.Dialect.{Dialect, fortran77}
+use Rattle.fv_meaning.specs.Dialect.{Dialect}
 use Rattle.fv_meaning.specs.Store.{Store}
 use Rattle.fv_meaning.specs.Typed77.{HasKind}
 use Rattle.f77_grammar.specs.Statement77.{NamedConstant, Labelled}
@@ -15,6 +13,7 @@ use Rattle.f77_grammar.specs.program.Uses.{Use, uses_in, uses_in_text, is_consta
 use Rattle.f77_grammar.specs.program.Declarations.{is_listed, is_misused}
 use Rattle.f77_grammar.specs.program.Kinds.{has_kind, calls_hidden}
 use Rattle.f77_grammar.specs.program.Limits.{definitions_of, constants_of}
+use Rattle.f77_grammar.specs.program.Program77.{ReadsStatements}
 use Rattle.f77_grammar.specs.program.Tree.{resolved, tree_of}
 use Rattle.f77_laws.specs.Source.{IsSourceCard}
 
@@ -73,15 +72,9 @@ SameKinds = (d : Dialect) (text : List Labelled) (e : Expression) (k : Kind) →
     → (has_kind (uses_in_text text) e k ≡ true)
     ↔ HasKind (tree_of d text).declarations (resolved (uses_in_text text) (constants_of d text) e) k
 
--- beside a variable IABS stands IABS(1)
-pub record HasHiddenName (text : List Labelled) (e : Expression) : Type 0 where
-  pub cards : AllByRecursion IsSourceCard text
-  pub constants : HasConstants fortran77 text
-  pub expression : IsExpressionOf text e
-  pub uses : AllByRecursion (IsRightUse (uses_in_text text)) (uses_in e)
-  pub no_kind : (k : Kind) → has_kind (uses_in_text text) e k ≡ false
-  pub kind : HasKind (tree_of fortran77 text).declarations
-      (resolved (uses_in_text text) (constants_of fortran77 text) e) Integer
-
-abbrev pub HiddenNameHasKind : Type 0
-HiddenNameHasKind = (text : List Labelled) × (e : Expression) × HasHiddenName text e
+-- where a program is read, nothing is asked of its constants
+abbrev pub OneRuleOfRead : Type 0
+OneRuleOfRead = (d : Dialect) (text : List Labelled) (p : Program) (e : Expression) (k : Kind) → d.bits ≤ 126
+    → AllByRecursion IsSourceCard text → ReadsStatements d text p → IsExpressionOf text e
+    → HasKindInText (uses_in_text text) e k
+    ↔ HasKindInTree (uses_in_text text) (constants_of d text) p.declarations e k

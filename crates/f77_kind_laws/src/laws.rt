@@ -1,13 +1,15 @@
-//! Laws of the kinds of expressions. A law is a function without a body: its contract is what holds.
-ghost use Rattle.f77_kind_laws.specs.OneRule.{HiddenNameHasKind, OneRuleOfKinds, SameKinds};
+//! Laws of kinds. A law is a function without a body: its contract is what holds.
+ghost use Rattle.f77_kind_laws.specs.Apart.{CountsAreNeeded, ListsAreNeeded, SpellingsAreNeeded};
+ghost use Rattle.f77_kind_laws.specs.OneRule.{OneRuleOfKinds, OneRuleOfRead, SameKinds};
 ghost use Rattle.f77_kind_laws.specs.StatementRule.{OneRuleOfStatements};
 
 /// An expression has a kind by the uses of names in its text, each a right one, where it has that kind by the
 /// declarations of the tree and each name with a list in parentheses is an array or a function. So where both hold of
-/// its names, it has the same kinds by the one and by the other.
+/// its names, it has the same kinds by the one and by the other. Of a text that is read nothing more is asked.
 pub fn kinds_are_one_rule()
     ensures whole { OneRuleOfKinds }
     ensures same { SameKinds }
+    ensures read { OneRuleOfRead }
 {}
 
 /// Kinds suit in a statement by the uses of names in its text, each a right one, where they suit by the profile in what
@@ -16,8 +18,11 @@ pub fn statements_are_one_rule()
     ensures { OneRuleOfStatements }
 {}
 
-/// The names with a list can't be left out of account: there are a text and an expression in it, whose uses are right,
-/// that has no kind by the text and has one by the tree.
-pub fn lists_are_to_suit()
-    ensures { HiddenNameHasKind }
+/// Each of the three premises on names is needed: a text and an expression of it have a kind by the tree alone, or by
+/// the text alone, where what stands with a list is no array and no function, where a variable has the name by which
+/// Fortran 90 calls the function, and where an array has other dimensions.
+pub fn premises_are_needed()
+    ensures lists { ListsAreNeeded }
+    ensures spellings { SpellingsAreNeeded }
+    ensures counts { CountsAreNeeded }
 {}
