@@ -2,4 +2,5 @@ mod Dimensions
 mod OneRule
 mod Texts
 mod Statements
+mod StatementLaws
 mod Apart

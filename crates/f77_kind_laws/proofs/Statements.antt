@@ -1,5 +1,5 @@
 -- Kinds suit in a statement of a text where they suit in what the tree has of it.
-use Rattle.std.proofs.Common.{◌≡◌, ◌⊎◌, inl, inr, ℕ, suc, ◌+◌, one-add, Bool, true, false, not, ◌&&◌, IsSomeAnd, Option, Some, None, List, ◌∷◌, ◌++◌, refl, sym, ap, subst, ◌∙◌, arith, Contains}
+use Rattle.std.proofs.Common.{◌≡◌, ◌⊎◌, ◌↔◌, inl, inr, ℕ, suc, ◌+◌, one-add, Bool, true, false, not, ◌&&◌, IsSomeAnd, Option, Some, None, List, ◌∷◌, ◌++◌, refl, sym, ap, subst, ◌∙◌, arith, Contains}
 use Rattle.std.specs.List.{AllByRecursion}
 use Rattle.std.proofs.lemmas.Bool.{or_cases}
 use Rattle.fv_tree.specs.declared.ops.Kind.{Kind}
@@ -13,23 +13,20 @@ use Rattle.fv_meaning.specs.Profile77.{IsBlock, Surroundings}
 use Rattle.f77_grammar.specs.Statement77.{Statement77, Program, Declare, Dimension, Constants, Assign, Go, Test, If, ElseIf, Else, EndIf, Do, Continue, Stop, Read, Print, End}
 use Rattle.f77_grammar.specs.expressions.Printing.{IsSource}
 use Rattle.f77_grammar.specs.program.Text.{action, is_declaration}
-use Rattle.f77_grammar.specs.program.Uses.{Valued, Target, Counter, Use, use_of, uses_in, uses_in_subscripts, target_uses, control_uses, input_uses, uses_in_output, uses_in_outputs, uses_in_input, uses_in_inputs, uses_of, uses_in_text, is_constant, is_variable, is_array, is_function, kind_of_name, dimensions_of_name}
+use Rattle.f77_grammar.specs.program.Uses.{Valued, Target, Counter, Use, use_of, uses_in, uses_in_subscripts, target_uses, control_uses, input_uses, uses_in_output, uses_in_outputs, uses_in_input, uses_in_inputs, uses_of, is_constant, is_variable, is_array, is_function, kind_of_name, dimensions_of_name}
 use Rattle.f77_grammar.specs.program.Declarations.{suits_list}
 use Rattle.f77_grammar.specs.program.Kinds.{has_kind, has_some_kind, are_subscripts, is_stored_into, suits_output, suits_input, are_numbers, suits_output_item, suits_output_items, suits_input_item, suits_input_items, suits, is_hidden_name}
 use Rattle.f77_grammar.specs.program.DoVariables.{misuses_variable}
-use Rattle.f77_grammar.specs.program.Limits.{constants_of}
 use Rattle.f77_grammar.specs.program.Tree.{call_of, element_or_call, value_or_name, resolved, resolved_subscripts, resolved_input, resolved_output_item, resolved_outputs, resolved_input_item, resolved_inputs, simple, target}
 use Rattle.f77_laws.specs.Source.{IsShallow, IsSourceVariable, IsSourceOutput, AreSourceOutputs, IsSourceInput, AreSourceInputs, IsSourceAction, IsSourceStatement}
 use Rattle.f77_laws.proofs.Lists.{left_true, right_true, both_false, or_right, affirmed, all_left, all_right, all_both}
 use Rattle.f77_laws.proofs.NameKinds.{Knows, IsDeclaredAs, IsGood, AreGood, no_array, as_many}
-use Rattle.f77_laws.proofs.Known.{proper_text, declarations}
 use Rattle.f77_laws.proofs.Actions.{IsWithin, do_variable, whole, whole_parameters, action_holds}
 use Rattle.f77_kind_laws.specs.OneRule.{IsRightUse, IsArrayOrFunction}
-use Rattle.f77_kind_laws.specs.StatementRule.{alone, SuitsInText, IsPlaced, OneRuleOfStatements}
-use Rattle.f77_kind_laws.proofs.Dimensions.{HaveDimensions, in_text}
+use Rattle.f77_kind_laws.specs.StatementRule.{alone, SuitsInText, SuitsInTree, IsPlaced}
+use Rattle.f77_kind_laws.proofs.Dimensions.{HaveDimensions}
 use Rattle.f77_kind_laws.proofs.OneRule as rule
 use Rattle.f77_kind_laws.proofs.OneRule.{both_true, or_left, variable_no_function, constant_no_function, variable_no_constant, good, named_so, no_dimension, element, are_in_text}
-use Rattle.f77_kind_laws.proofs.Texts.{knows}
 
 module _ (us : List Use) (s : Store) (ds : List Declaration) (known : Knows us s ds) (some : HaveDimensions us) where
   abbrev AreLists : List Use → Type 0
@@ -439,15 +436,15 @@ module _ (us : List Use) (s : Store) (ds : List Declaration) (known : Knows us s
   in_tree line (Test c t) w p h n u g =
       let own = own_action t h.1 in (
         (
-            p.numbered,
-            refl,
-            (
-                whole us s ds known c Logical h.0 (all_left (IsGood us) (uses_in c) (uses_of t) u) (left_true (has_kind us c Logical) (suits us t) g),
-                action_holds us s ds known line t w w.variables (within w p.scalars) p.numbered h.1 (all_right (IsGood us) (uses_in c) (uses_of t) u) (right_true (has_kind us c Logical) (suits us t) g)
-                    (sym (ap (λ e. misuses_variable us e w.variables) own) ∙ p.variables) (subst (λ (e : Statement77). AllByRecursion (Contains w.ahead) (target e)) own p.ahead),
-                tt,
-            ),
+          p.numbered,
+          refl,
+          (
+            whole us s ds known c Logical h.0 (all_left (IsGood us) (uses_in c) (uses_of t) u) (left_true (has_kind us c Logical) (suits us t) g),
+            action_holds us s ds known line t w w.variables (within w p.scalars) p.numbered h.1 (all_right (IsGood us) (uses_in c) (uses_of t) u) (right_true (has_kind us c Logical) (suits us t) g)
+                (sym (ap (λ e. misuses_variable us e w.variables) own) ∙ p.variables) (subst (λ (e : Statement77). AllByRecursion (Contains w.ahead) (target e)) own p.ahead),
             tt,
+          ),
+          tt,
         ),
         tt,
       )
@@ -466,15 +463,8 @@ module _ (us : List Use) (s : Store) (ds : List Declaration) (known : Knows us s
   in_tree line (Read is) w p h n u g = action_holds us s ds known line (Read is) w w.variables (within w p.scalars) p.numbered h u g p.variables p.ahead
   in_tree line (Print is) w p h n u g = action_holds us s ds known line (Print is) w w.variables (within w p.scalars) p.numbered h u g p.variables p.ahead
 
-pub one_rule_of_statements : OneRuleOfStatements
-one_rule_of_statements d text c line w small cards constants statement placed =
-    let us : List Use = uses_in_text text in
-    let s : Store = constants_of d text in
-    let known = knows d small text cards constants in
-    let some = in_text text (proper_text text cards) in (
-      λ t. record {
-        kinds = in_tree us s (declarations d text) known some line c w placed statement.source statement.declares_nothing (good us (uses_of c) statement.among t.uses) t.kinds;
-        lists = statement_lists us c statement.source statement.declares_nothing t.kinds;
-      },
-      λ t. in_statement us s (declarations d text) known some line c w statement.source statement.declares_nothing t.lists t.kinds,
-    )
+  pub one_rule : (line : ℕ) (c : Statement77) (w : Surroundings) → IsPlaced us c line w → IsSourceStatement c → is_declaration c ≡ false → AllByRecursion (Contains us) (uses_of c) → SuitsInText us c ↔ SuitsInTree us s ds c line w
+  one_rule line c w p h n among = (
+    λ t. record { kinds = in_tree line c w p h n (good us (uses_of c) among t.uses) t.kinds; lists = statement_lists us c h n t.kinds },
+    λ t. in_statement us s ds known some line c w h n t.lists t.kinds,
+  )

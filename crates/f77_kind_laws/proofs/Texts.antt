@@ -13,6 +13,7 @@ use Rattle.f77_grammar.specs.Statement77.{Labelled}
 use Rattle.f77_grammar.specs.program.Uses.{Use, uses_in_text}
 use Rattle.f77_grammar.specs.program.Limits.{constants_of, dimension_of, bounds_of_name}
 use Rattle.f77_grammar.specs.program.Tree.{bounds_in, variables_of, declaration_of}
+use Rattle.f77_grammar.specs.program.Program77.{ReadsStatements}
 use Rattle.f77_laws.specs.Source.{IsSourceCard}
 use Rattle.f77_laws.proofs.Lists.{not_both}
 use Rattle.f77_laws.proofs.Variables.{declared_name, undeclared_name, variable_used}
@@ -74,10 +75,13 @@ same_kinds d text e k small cards constants expression uses lists =
     let both = one_rule_of_kinds d text e k small cards constants expression in
     (λ h. (both.0 (record { kind = h; uses = uses })).kind, λ h. (both.1 (record { kind = h; lists = lists })).kind)
 
+-- where the text is read
+pub knows_of_read : (d : Dialect) (text : List Labelled) (p : Program) → d.bits ≤ 126 → AllByRecursion IsSourceCard text → ReadsStatements d text p → Knows (uses_in_text text) (constants_of d text) (declarations d text)
+knows_of_read d text p small cards reads = known.knows d text small (right d text reads.sound) (values d text reads.sound) (proper_text text cards)
+
 pub one_rule_of_read : OneRuleOfRead
 one_rule_of_read d text p e k small cards reads expression =
     let us : List Use = uses_in_text text in
     let s : Store = constants_of d text in
-    let proper = proper_text text cards in
-    let all = known.knows d text small (right d text reads.sound) (values d text reads.sound) proper in
-    subst (λ (q : Program). HasKindInText us e k ↔ HasKindInTree us s q.declarations e k) (sym reads.formed) (one_rule us s (declarations d text) all (in_text text proper) e k expression.source expression.among)
+    subst (λ (q : Program). HasKindInText us e k ↔ HasKindInTree us s q.declarations e k) (sym reads.formed)
+    (one_rule us s (declarations d text) (knows_of_read d text p small cards reads) (in_text text (proper_text text cards)) e k expression.source expression.among)

@@ -19,8 +19,8 @@ use Rattle.f77_laws.specs.Source.{IsSourceCard}
 
 -- ---- names
 
--- A list in parentheses has as many subscripts as the array has dimensions, or stands behind a function's name; and no
--- variable has the name by which Fortran 90 calls the function
+-- A list in parentheses has as many subscripts as the array has dimensions, or stands behind a function's name; no
+-- symbolic constant is stored into; and no variable has the name by which Fortran 90 calls the function
 pub record IsRightUse (us : List Use) (u : Use) : Type 0 where
   pub suits : is_misused us u ≡ false
   pub shown : calls_hidden us u ≡ false
@@ -41,14 +41,19 @@ pub record HasKindInTree (us : List Use) (s : Store) (ds : List Declaration) (e 
 
 -- ---- texts
 
+abbrev pub definitions_in : List Labelled → List NamedConstant
+definitions_in text = flat_map (λ (x : Labelled). definitions_of x.statement) text
+
+abbrev pub IsOfItsType : List Use → NamedConstant → Type 0
+IsOfItsType us c = has_kind us c.value (kind_of_name us c.name) ≡ true
+
+abbrev pub HasItsValue : Dialect → List Labelled → List ℕ → Type 0
+HasItsValue d text x = is_none ((constants_of d text).bounds x) ≡ false
+
 -- each symbolic constant is defined by an expression of its type, and has a value
 pub record HasConstants (d : Dialect) (text : List Labelled) : Type 0 where
-  pub kinds :
-      AllByRecursion
-      (λ (c : NamedConstant).
-      has_kind (uses_in_text text) c.value (kind_of_name (uses_in_text text) c.name) ≡ true)
-      (flat_map (λ (x : Labelled). definitions_of x.statement) text)
-  pub values : (x : List ℕ) → is_constant (uses_in_text text) x ≡ true → is_none ((constants_of d text).bounds x) ≡ false
+  pub kinds : AllByRecursion (IsOfItsType (uses_in_text text)) (definitions_in text)
+  pub values : (x : List ℕ) → is_constant (uses_in_text text) x ≡ true → HasItsValue d text x
 
 -- an expression such as FORTRAN 77 has, whose names stand so in the text
 pub record IsExpressionOf (text : List Labelled) (e : Expression) : Type 0 where

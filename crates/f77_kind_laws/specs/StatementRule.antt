@@ -2,17 +2,19 @@
 -- of it.
 use Rattle.std.specs.Prelude.{◌≡◌, ◌↔◌, ℕ, ◌≤◌, true, false, List, [], ◌∷◌, Contains}
 use Rattle.std.specs.List.{AllByRecursion}
-use Rattle.fv_tree.specs.Plain.{Declaration, Statement, no_arms, arm, no_statements, block}
+use Rattle.fv_tree.specs.Plain.{Declaration, Program, Statement, no_arms, arm, no_statements, block}
 use Rattle.fv_tree.specs.Plain as tree
 use Rattle.fv_meaning.specs.Dialect.{Dialect}
 use Rattle.fv_meaning.specs.Store.{Store}
 use Rattle.fv_meaning.specs.Profile77.{IsBlock, IsLine, Surroundings}
 use Rattle.f77_grammar.specs.Statement77.{Labelled, Statement77, If, ElseIf, Do}
-use Rattle.f77_grammar.specs.program.Text.{action, is_declaration}
+use Rattle.f77_grammar.specs.program.Text.{Place, action, is_declaration}
 use Rattle.f77_grammar.specs.program.Uses.{Use, uses_of, uses_in_text, is_array}
-use Rattle.f77_grammar.specs.program.Kinds.{suits}
+use Rattle.f77_grammar.specs.program.Declarations.{has_misused_name}
+use Rattle.f77_grammar.specs.program.Kinds.{suits, has_unsuited_kind}
 use Rattle.f77_grammar.specs.program.DoVariables.{misuses_variable}
 use Rattle.f77_grammar.specs.program.Limits.{constants_of}
+use Rattle.f77_grammar.specs.program.Program77.{ReadsStatements}
 use Rattle.f77_grammar.specs.program.Tree.{resolved, simple, target, tree_of}
 use Rattle.f77_laws.specs.Source.{IsSourceCard, IsSourceStatement}
 use Rattle.f77_kind_laws.specs.OneRule.{IsRightUse, IsArrayOrFunction, HasConstants}
@@ -54,3 +56,22 @@ OneRuleOfStatements = (d : Dialect) (text : List Labelled) (c : Statement77) (li
     → IsPlaced (uses_in_text text) c line w
     → SuitsInText (uses_in_text text) c
     ↔ SuitsInTree (uses_in_text text) (constants_of d text) (tree_of d text).declarations c line w
+
+-- where a program is read, nothing is asked of its constants
+abbrev pub OneRuleOfReadStatements : Type 0
+OneRuleOfReadStatements = (d : Dialect) (text : List Labelled) (p : Program) (c : Statement77) (line : ℕ)
+    (w : Surroundings) → d.bits ≤ 126 → AllByRecursion IsSourceCard text → ReadsStatements d text p
+    → IsStatementOf text c → IsPlaced (uses_in_text text) c line w
+    → SuitsInText (uses_in_text text) c
+    ↔ SuitsInTree (uses_in_text text) (constants_of d text) p.declarations c line w
+
+-- So at a statement of the text in which no name is misused, the cause TypeClash fails to hold exactly where the
+-- statement suits in the tree
+abbrev pub ClashesByTree : Type 0
+ClashesByTree = (d : Dialect) (text : List Labelled) (p : Place) (w : Surroundings)
+    → d.bits ≤ 126 → AllByRecursion IsSourceCard text → HasConstants d text
+    → Contains text p.here → is_declaration p.here.statement ≡ false
+    → has_misused_name (uses_in_text text) p.here.statement ≡ false
+    → IsPlaced (uses_in_text text) p.here.statement p.here.line w
+    → (has_unsuited_kind (uses_in_text text) p ≡ false)
+    ↔ SuitsInTree (uses_in_text text) (constants_of d text) (tree_of d text).declarations p.here.statement p.here.line w

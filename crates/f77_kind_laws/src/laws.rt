@@ -1,7 +1,7 @@
 //! Laws of kinds. A law is a function without a body: its contract is what holds.
 ghost use Rattle.f77_kind_laws.specs.Apart.{CountsAreNeeded, ListsAreNeeded, SpellingsAreNeeded};
 ghost use Rattle.f77_kind_laws.specs.OneRule.{OneRuleOfKinds, OneRuleOfRead, SameKinds};
-ghost use Rattle.f77_kind_laws.specs.StatementRule.{OneRuleOfStatements};
+ghost use Rattle.f77_kind_laws.specs.StatementRule.{ClashesByTree, OneRuleOfReadStatements, OneRuleOfStatements};
 
 /// An expression has a kind by the uses of names in its text, each a right one, where it has that kind by the
 /// declarations of the tree and each name with a list in parentheses is an array or a function. So where both hold of
@@ -13,9 +13,12 @@ pub fn kinds_are_one_rule()
 {}
 
 /// Kinds suit in a statement by the uses of names in its text, each a right one, where they suit by the profile in what
-/// the tree has of it and each name with a list in parentheses is an array or a function.
+/// the tree has of it and each name with a list in parentheses is an array or a function. So a statement of the text in
+/// which no name is misused is refused for its kinds where it doesn't suit so in the tree, and else not.
 pub fn statements_are_one_rule()
-    ensures { OneRuleOfStatements }
+    ensures whole { OneRuleOfStatements }
+    ensures read { OneRuleOfReadStatements }
+    ensures clash { ClashesByTree }
 {}
 
 /// Each of the three premises on names is needed: a text and an expression of it have a kind by the tree alone, or by

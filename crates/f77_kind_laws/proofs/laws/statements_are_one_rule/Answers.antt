@@ -1,5 +1,11 @@
-use Rattle.f77_kind_laws.proofs.Statements.{one_rule_of_statements}
+use Rattle.f77_kind_laws.proofs.StatementLaws as laws
 use Rattle.f77_kind_laws.proofs.laws.statements_are_one_rule.Goals as goal
 
-pub returns : goal.returns
-returns c = one_rule_of_statements
+pub returns-clause-whole : goal.returns-clause-whole
+returns-clause-whole c = laws.one_rule_of_statements
+
+pub returns-clause-read : goal.returns-clause-read
+returns-clause-read c = laws.one_rule_of_read
+
+pub returns-clause-clash : goal.returns-clause-clash
+returns-clause-clash c = laws.clashes_by_tree
