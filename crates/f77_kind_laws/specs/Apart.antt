@@ -1,5 +1,5 @@
--- Where a name is used otherwise than the one rule of kinds asks, kinds by the text and by the tree come apart: each of
--- its three premises on names is needed, beside the other two.
+-- Where a name is used otherwise than the one rule of kinds asks, or a symbolic constant has a type other than its
+-- name's, kinds by the text and by the tree come apart: each of these four premises is needed, beside the others.
 use Rattle.std.specs.Prelude.{◌≡◌, true, false, List}
 use Rattle.std.specs.List.{AllByRecursion}
 use Rattle.fv_tree.specs.Plain.{Expression}
@@ -21,7 +21,6 @@ HasTreeKind text e k =
 
 pub record IsOfText (text : List Labelled) (e : Expression) : Type 0 where
   pub cards : AllByRecursion IsSourceCard text
-  pub constants : HasConstants fortran77 text
   pub expression : IsExpressionOf text e
 
 -- ---- what is asked of the names of an expression
@@ -43,16 +42,21 @@ HasKindInTreeAlone text e = (k : Kind) × HasTreeKind text e k × (has_kind (use
 abbrev pub HasKindInTextAlone : List Labelled → Expression → Type 0
 HasKindInTextAlone text e = (k : Kind) × (has_kind (uses_in_text text) e k ≡ true) × (HasTreeKind text e k → ⊥)
 
--- ---- beside a variable IABS the call IABS(1); beside a variable ABS that call; of an array with one dimension A(1,1)
+-- ---- beside a variable IABS the call IABS(1); beside a variable ABS that call; of an array with one dimension A(1,1);
+-- a LOGICAL constant L that is defined as 1
 
 abbrev pub ListsAreNeeded : Type 0
 ListsAreNeeded = (text : List Labelled) × (e : Expression) × IsOfText text e
-    × CountsSuit text e × SpellingsAreFree text e × HasKindInTreeAlone text e
+    × HasConstants fortran77 text × CountsSuit text e × SpellingsAreFree text e × HasKindInTreeAlone text e
 
 abbrev pub SpellingsAreNeeded : Type 0
 SpellingsAreNeeded = (text : List Labelled) × (e : Expression) × IsOfText text e
-    × CountsSuit text e × ListsSuit text e × HasKindInTextAlone text e
+    × HasConstants fortran77 text × CountsSuit text e × ListsSuit text e × HasKindInTextAlone text e
 
 abbrev pub CountsAreNeeded : Type 0
 CountsAreNeeded = (text : List Labelled) × (e : Expression) × IsOfText text e
-    × SpellingsAreFree text e × ListsSuit text e × HasKindInTextAlone text e
+    × HasConstants fortran77 text × SpellingsAreFree text e × ListsSuit text e × HasKindInTextAlone text e
+
+abbrev pub ConstantsAreNeeded : Type 0
+ConstantsAreNeeded = (text : List Labelled) × (e : Expression) × IsOfText text e
+    × CountsSuit text e × SpellingsAreFree text e × ListsSuit text e × HasKindInTextAlone text e

@@ -1,5 +1,5 @@
 //! Laws of kinds. A law is a function without a body: its contract is what holds.
-ghost use Rattle.f77_kind_laws.specs.Apart.{CountsAreNeeded, ListsAreNeeded, SpellingsAreNeeded};
+ghost use Rattle.f77_kind_laws.specs.Apart.{ConstantsAreNeeded, CountsAreNeeded, ListsAreNeeded, SpellingsAreNeeded};
 ghost use Rattle.f77_kind_laws.specs.OneRule.{OneRuleOfKinds, OneRuleOfRead, SameKinds};
 ghost use Rattle.f77_kind_laws.specs.StatementRule.{ClashesByTree, OneRuleOfReadStatements, OneRuleOfStatements};
 
@@ -21,11 +21,12 @@ pub fn statements_are_one_rule()
     ensures clash { ClashesByTree }
 {}
 
-/// Each of the three premises on names is needed: a text and an expression of it have a kind by the tree alone, or by
-/// the text alone, where what stands with a list is no array and no function, where a variable has the name by which
-/// Fortran 90 calls the function, and where an array has other dimensions.
+/// Each premise is needed: a text and an expression of it have a kind by the tree alone, or by the text alone, where
+/// what stands with a list is no array and no function, where a variable has the name by which Fortran 90 calls
+/// the function, where an array has other dimensions, and where a symbolic constant has another type than its name.
 pub fn premises_are_needed()
     ensures lists { ListsAreNeeded }
     ensures spellings { SpellingsAreNeeded }
     ensures counts { CountsAreNeeded }
+    ensures constants { ConstantsAreNeeded }
 {}

@@ -9,3 +9,6 @@ returns-clause-spellings c = apart.spellings_are_needed
 
 pub returns-clause-counts : goal.returns-clause-counts
 returns-clause-counts c = apart.counts_are_needed
+
+pub returns-clause-constants : goal.returns-clause-constants
+returns-clause-constants c = apart.constants_are_needed
