@@ -8,6 +8,7 @@ use Rattle.components.proofs.ListLaws.{Each-append}
 use Rattle.found_sources.specs.Laws.{HasLoopsAlone, HaveLoopsAlone}
 use Rattle.fv_meaning.specs.Blocks.{blocks_in}
 use Rattle.fv_meaning.specs.Depths.{depth_of}
+use Rattle.fv_rewrite.specs.Profile.{deepest_in}
 use Rattle.fv_tree.specs.Plain.{Binary, Expression, Number, Statement, block}
 use Rattle.fv_tree.specs.declared.ops.Op.TheVariants.{And, Ge}
 use Rattle.last_values.specs.Behind.{left_behind, or_none, stands_behind, values_behind}
@@ -31,7 +32,6 @@ use Rattle.normal_forms.specs.declared.last.LastForms.{LastForms}
 use Rattle.normal_forms.specs.declared.loops.NormalLoop.{NormalLoop}
 use Rattle.ready_nests.proofs.LoopForms.{HaveZeros, normal_loop_is, step}
 use Rattle.ready_nests.proofs.NormalTrips.{zeros_more}
-use Rattle.normal_profile.specs.Depths.{expressions_in}
 use Rattle.normal_profile.proofs.Joined.{least, list_then, more, then_blocks, then_expressions}
 use Rattle.normal_profile.proofs.Sources.{height, heights}
 
@@ -64,7 +64,7 @@ forms_sized n round r f h =
 
 -- h: how many blocks stand in each other
 pub record AreLow (h : ℕ) (cs : List Statement) : Type 0 where
-  pub expressions : expressions_in (block cs) ≤ 200
+  pub expressions : deepest_in (block cs) ≤ 200
   pub blocks : blocks_in (block cs) ≤ h
 
 none_low : (h : ℕ) → AreLow h []
@@ -72,7 +72,7 @@ none_low h = record { expressions = least 200; blocks = least h }
 
 joined_low : (h : ℕ) (xs ys : List Statement) → AreLow h xs → AreLow h ys → AreLow h (xs ++ ys)
 joined_low h xs ys a b = record {
-  expressions = subst (λ c. expressions_in c ≤ 200) (sym (list_then xs ys)) (then_expressions (block xs) (block ys) 200 a.expressions b.expressions);
+  expressions = subst (λ c. deepest_in c ≤ 200) (sym (list_then xs ys)) (then_expressions (block xs) (block ys) 200 a.expressions b.expressions);
   blocks = subst (λ c. blocks_in c ≤ h) (sym (list_then xs ys)) (then_blocks (block xs) (block ys) h a.blocks b.blocks);
 }
 
@@ -82,7 +82,7 @@ higher h k cs l a = record { expressions = a.expressions; blocks = more (blocks_
 alone_deep : (a b : ℕ) → a ≤ 200 → b ≤ 200 → max (max a b) 0 ≤ 200
 alone_deep a b h k = omega (arith, h, k)
 
-only_deep : (a b : ℕ) → a ≤ 200 → b ≤ 200 → max (max (max (max a b) 0) 0) 0 ≤ 200
+only_deep : (a b : ℕ) → a ≤ 200 → b ≤ 200 → max (max (max a (max b 0)) 0) 0 ≤ 200
 only_deep a b h k = omega (arith, h, k)
 
 only_blocks : (a h : ℕ) → a ≤ h → max (1 + max (max a 0) 0) 0 ≤ 1 + h
@@ -94,7 +94,7 @@ module _ (line : ℕ) where
 
   only_where_low : (h : ℕ) (test : Expression) (cs : List Statement) → depth_of test ≤ 200 → AreLow h cs → AreLow (1 + h) (only_where line test cs ∷ [])
   only_where_low h test cs d a = record {
-    expressions = only_deep (depth_of test) (expressions_in (block cs)) d a.expressions;
+    expressions = only_deep (depth_of test) (deepest_in (block cs)) d a.expressions;
     blocks = only_blocks (blocks_in (block cs)) h a.blocks;
   }
 
@@ -260,7 +260,7 @@ module _ (line : ℕ) where
           (nested_parts most round ps u a.1 (last_most (length round) (height p) (heights ps) most h))
 
     pub record IsLowBlock (p : Part) : Type 0 where
-      pub expressions : expressions_in (values_behind symbols line (nested_loops symbols [] p) p) ≤ 200
+      pub expressions : deepest_in (values_behind symbols line (nested_loops symbols [] p) p) ≤ 200
       pub blocks : blocks_in (values_behind symbols line (nested_loops symbols [] p) p) ≤ height p
 
     pub last_values_low : (p : Part) → HasLoopsAlone p → IsLowBlock p

@@ -19,6 +19,7 @@ use Rattle.fv_meaning.specs.Profile90.{IsBlock}
 use Rattle.fv_meaning.specs.Typed.{declared, rank_of_extent}
 use Rattle.fv_meaning.specs.Typed77.{deepest}
 use Rattle.fv_meaning.specs.Typed90.{IsIntegerScalar}
+use Rattle.fv_rewrite.specs.Profile.{deepest_in, deepest_of}
 use Rattle.fv_tree.specs.Plain.{Block, Declaration, Program, Statement, no_statements, statement}
 use Rattle.fv_tree.specs.declared.ops.Kind.TheVariants.{Integer}
 use Rattle.last_values.specs.declared.behind.NestedLoop.{NestedLoop}
@@ -47,7 +48,6 @@ use Rattle.profile_laws.specs.Profiles.{AddMadeNames}
 use Rattle.ready_nests.proofs.Made as normal
 use Rattle.ready_nests.proofs.Walk.{EachIn}
 use Rattle.statement_loops.specs.Standings.{is_among}
-use Rattle.normal_profile.specs.Depths.{expressions_in, expressions_of}
 use Rattle.normal_profile.specs.Laws.{IsLittleDeeper, NormalBlockIsOfProfile, expression_rise}
 use Rattle.normal_profile.proofs.Behind.{IsLowBlock, last_values_low}
 use Rattle.normal_profile.proofs.Bodies.{AreInner, AreRound, IsGood, each}
@@ -124,7 +124,7 @@ module _ (p : Program) (n m : Nest) (found : IsFoundNest p n) (is : IsProgram77 
     loop = as_statement found.loop.loop.loop
 
     abbrev d : ℕ
-    d = expressions_of loop
+    d = deepest_of loop
 
     shallow : d ≤ deepest
     shallow = statement_shallow p.declarations loop w source
@@ -214,7 +214,7 @@ module _ (p : Program) (n m : Nest) (found : IsFoundNest p n) (is : IsProgram77 
 
     whole_deep : IsLittleDeeper loop whole
     whole_deep = record {
-      expressions = then_expressions (written n.line body) (behind n) (d + expression_rise) good.expressions (within (expressions_in (behind n)) low.expressions);
+      expressions = then_expressions (written n.line body) (behind n) (d + expression_rise) good.expressions (within (deepest_in (behind n)) low.expressions);
       blocks = then_blocks (written n.line body) (behind n) (blocks_of loop)
           (more (blocks_in (written n.line body)) (height n.body) (blocks_of loop) good.blocks high)
           (more (blocks_in (behind n)) (height n.body) (blocks_of loop) low.blocks high);

@@ -14,6 +14,7 @@ use Rattle.fv_meaning.specs.Typed77.{deepest}
 use Rattle.fv_meaning.specs.Typed90.{IsIntegerScalar}
 use Rattle.fv_meaning.specs.Value.{named}
 use Rattle.fv_rewrite.specs.Making.{made}
+use Rattle.fv_rewrite.specs.Profile.{deepest_in}
 use Rattle.fv_tree.specs.Limits.{expression_depth90}
 use Rattle.fv_tree.specs.Plain.{Block, Declaration, Do, Expression, If, Number, arm, no_arms, no_statements}
 use Rattle.fv_tree.specs.Plain.{statement}
@@ -52,7 +53,6 @@ use Rattle.profile_laws.proofs.Lists.{cases_of}
 use Rattle.ready_nests.proofs.LoopForms.{HaveZeros, IsNormalLoop, normal_loop_is}
 use Rattle.ready_nests.proofs.NormalTrips.{zeros_more}
 use Rattle.ready_nests.proofs.Walk.{EachIn, EachInParts, assigning}
-use Rattle.normal_profile.specs.Depths.{expressions_in}
 use Rattle.normal_profile.specs.Laws.{expression_rise}
 use Rattle.normal_profile.proofs.Joined.{least, max_both, more, then_blocks, then_expressions}
 use Rattle.normal_profile.proofs.Sources.{AnyLoop, IsDeep, height, heights}
@@ -95,7 +95,7 @@ alone_deep a d h = omega (arith, h)
 loop_deep : (t b d : ℕ) → t ≤ d → b ≤ d → max (max (max 0 (max t 0)) b) 0 ≤ d
 loop_deep t b d h k = omega (arith, h, k)
 
-only_deep : (a b d : ℕ) → a ≤ d → b ≤ d → max (max (max (max a b) 0) 0) 0 ≤ d
+only_deep : (a b d : ℕ) → a ≤ d → b ≤ d → max (max (max a (max b 0)) 0) 0 ≤ d
 only_deep a b d h k = omega (arith, h, k)
 
 loop_high : (b h : ℕ) → b ≤ h → max (1 + b) 0 ≤ 1 + h
@@ -120,7 +120,7 @@ module _ (es : List Declaration) (d : ℕ) (shallow : d ≤ deepest) where
   pub record IsGood (h : ℕ) (b : Block) (v : Surroundings) : Type 0 where
     pub is : IsBlock es b v
     pub bare : HasNoLabel b
-    pub expressions : expressions_in b ≤ d + expression_rise
+    pub expressions : deepest_in b ≤ d + expression_rise
     pub blocks : blocks_in b ≤ h
 
   nothing_good : (h : ℕ) (v : Surroundings) → IsGood h no_statements v
@@ -179,7 +179,7 @@ module _ (es : List Declaration) (d : ℕ) (shallow : d ≤ deepest) where
       g.is,
     );
     bare = (tt, tt);
-    expressions = loop_deep (depth_of t) (expressions_in b) (d + expression_rise) (within_rise (depth_of t) 200 d deep (omega arith)) g.expressions;
+    expressions = loop_deep (depth_of t) (deepest_in b) (d + expression_rise) (within_rise (depth_of t) 200 d deep (omega arith)) g.expressions;
     blocks = loop_high (blocks_in b) h g.blocks;
   }
 
@@ -193,7 +193,7 @@ module _ (es : List Declaration) (d : ℕ) (shallow : d ≤ deepest) where
       tt,
     );
     bare = (tt, tt);
-    expressions = only_deep (depth_of test) (expressions_in b) (d + expression_rise) (within_rise (depth_of test) 200 d deep (omega arith)) g.expressions;
+    expressions = only_deep (depth_of test) (deepest_in b) (d + expression_rise) (within_rise (depth_of test) 200 d deep (omega arith)) g.expressions;
     blocks = only_high (blocks_in b) g.blocks;
   }
 

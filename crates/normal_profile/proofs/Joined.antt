@@ -1,12 +1,12 @@
 -- Depths and labels of blocks one after the other.
 use Rattle.std.proofs.Common.{◌≡◌, refl, ap, ◌∙◌, ℕ, ◌≤◌, max, List, [], ◌∷◌, ◌++◌, arith}
 use Rattle.fv_meaning.specs.Blocks.{all_labels_in, all_labels_of, blocks_in, blocks_of, targets_in, targets_of}
+use Rattle.fv_rewrite.specs.Profile.{deepest_in, deepest_of}
 use Rattle.fv_tree.specs.Plain.{Allocate, Assignment, Block, Deallocate, Do, GoTo, If, Label, Print, Read, Statement}
 use Rattle.fv_tree.specs.Plain.{Stop, Where, block, no_statements, statement}
 use Rattle.nest_tree.specs.Blocks.{block_then}
 use Rattle.placed_loops.specs.Placed.{HasNoLabel, IsNoLabel}
 use Rattle.placed_profile.specs.Laws.{IsWithoutLabels}
-use Rattle.normal_profile.specs.Depths.{expressions_in, expressions_of}
 
 -- ---- the greater one of two numbers
 
@@ -27,11 +27,11 @@ least d = omega arith
 
 -- ---- depths
 
-pub then_expressions : (a b : Block) (d : ℕ) → expressions_in a ≤ d → expressions_in b ≤ d → expressions_in (block_then a b) ≤ d
+pub then_expressions : (a b : Block) (d : ℕ) → deepest_in a ≤ d → deepest_in b ≤ d → deepest_in (block_then a b) ≤ d
 then_expressions no_statements b d h k = k
 then_expressions (statement c cs) b d h k =
-    max_both (expressions_of c) (expressions_in (block_then cs b)) d (max_left (expressions_of c) (expressions_in cs) d h)
-    (then_expressions cs b d (max_right (expressions_of c) (expressions_in cs) d h) k)
+    max_both (deepest_of c) (deepest_in (block_then cs b)) d (max_left (deepest_of c) (deepest_in cs) d h)
+    (then_expressions cs b d (max_right (deepest_of c) (deepest_in cs) d h) k)
 
 pub then_blocks : (a b : Block) (d : ℕ) → blocks_in a ≤ d → blocks_in b ≤ d → blocks_in (block_then a b) ≤ d
 then_blocks no_statements b d h k = k

@@ -11,6 +11,7 @@ use Rattle.fv_meaning.specs.Profile77 as source
 use Rattle.fv_meaning.specs.Profile77.{IsProgram77}
 use Rattle.fv_meaning.specs.Profile90.{IsBlock}
 use Rattle.fv_meaning.specs.Typed77.{deepest}
+use Rattle.fv_rewrite.specs.Profile.{deepest_in, deepest_in_arms, deepest_of}
 use Rattle.fv_tree.specs.Limits.{block_depth77, block_depth90}
 use Rattle.fv_tree.specs.Plain.{Allocate, Arms, Assignment, Block, Deallocate, Do, GoTo, If, Label, Print, Program, Read}
 use Rattle.fv_tree.specs.Plain.{Statement, Stop, Where, arm, block, no_arms, no_statements, statement}
@@ -23,7 +24,6 @@ use Rattle.placed_profile.proofs.Placing.{one_more, placed_program_is_program, v
 use Rattle.placed_profile.specs.Laws.{AreSourceNames, IsWithoutLabels, SuitLoops, SuitsLoop}
 use Rattle.profile_laws.proofs.Lists.{here, nowhere, there}
 use Rattle.profile_laws.specs.Profiles.{AddMadeNames}
-use Rattle.normal_profile.specs.Depths.{expressions_in, expressions_in_arms, expressions_of}
 use Rattle.normal_profile.specs.Laws.{AreNormalNests, IsLittleDeeper, IsNormalNestAt, IsNormalProgram}
 use Rattle.normal_profile.specs.Laws.{NormalProgramIsOfProfile, expression_rise}
 use Rattle.normal_profile.proofs.Blocks.{block_is_of, unlabelled}
@@ -50,7 +50,7 @@ loop_deep t b c h = omega (arith, h)
 loop_high : (b c : ℕ) → b ≤ c → max (1 + b) 0 ≤ 1 + c
 loop_high b c h = omega (arith, h)
 
-arm_deep : (t a b c e : ℕ) → a ≤ c + expression_rise → b ≤ e + expression_rise → max (max t a) b ≤ max (max t c) e + expression_rise
+arm_deep : (t a b c e : ℕ) → a ≤ c + expression_rise → b ≤ e + expression_rise → max t (max a b) ≤ max t (max c e) + expression_rise
 arm_deep t a b c e h k = omega (arith, h, k)
 
 arm_high : (a b c e : ℕ) → a ≤ c → b ≤ e → max a b ≤ max c e
@@ -71,15 +71,15 @@ last_high b c e h = omega (arith, h)
 -- ---- the depth of a program with blocks in the place of some loops
 
 record ArmsLittleDeeper (ms : Arms) (ns : Arms) : Type 0 where
-  expressions : expressions_in_arms ns ≤ expressions_in_arms ms + expression_rise
+  expressions : deepest_in_arms ns ≤ deepest_in_arms ms + expression_rise
   blocks : blocks_in_arms ns ≤ blocks_in_arms ms
 
 record BlockLittleDeeper (b : Block) (c : Block) : Type 0 where
-  expressions : expressions_in c ≤ expressions_in b + expression_rise
+  expressions : deepest_in c ≤ deepest_in b + expression_rise
   blocks : blocks_in c ≤ blocks_in b
 
 itself : (c : Statement) → IsLittleDeeper c (statement c no_statements)
-itself c = record { expressions = same_deep (expressions_of c); blocks = same_high (blocks_of c) }
+itself c = record { expressions = same_deep (deepest_of c); blocks = same_high (blocks_of c) }
 
 module _ (p : Program) (is : IsProgram77 fortran77 p) (blocks : List (Option Block)) where
   -- each block stands for a loop that isn't much less deep
@@ -94,7 +94,7 @@ module _ (p : Program) (is : IsProgram77 fortran77 p) (blocks : List (Option Blo
       → IsLittleDeeper (as_statement l.loop.loop)
       (block (instead blocks o (Do l.loop.loop.line l.loop.loop.variable l.loop.loop.first l.loop.loop.last l.loop.loop.step inside)))
   loop_little l inside w None e h g = record {
-    expressions = loop_deep (max (depth_of l.loop.loop.first) (max (depth_of l.loop.loop.last) (depth_of l.loop.loop.step))) (expressions_in inside) (expressions_in l.loop.loop.body) g.expressions;
+    expressions = loop_deep (max (depth_of l.loop.loop.first) (max (depth_of l.loop.loop.last) (depth_of l.loop.loop.step))) (deepest_in inside) (deepest_in l.loop.loop.body) g.expressions;
     blocks = loop_high (blocks_in inside) (blocks_in l.loop.loop.body) g.blocks;
   }
   loop_little l inside w (Some b) e h g = subst (λ d. IsLittleDeeper (as_statement l.loop.loop) d) (sym (block_of_statements b)) (h b e)
@@ -108,8 +108,8 @@ module _ (p : Program) (is : IsProgram77 fortran77 p) (blocks : List (Option Blo
         let a = arms_little k around arms w (λ l b i e. h l b (Contains-append_left (loops_in_arms k around arms) (loops_in_block (after_arms k arms) around other) l i) e) v s.2 in
         let b = block_little (after_arms k arms) around other w (λ l b i e. h l b (Contains-append_right (loops_in_arms k around arms) (loops_in_block (after_arms k arms) around other) l i) e) v s.3 in
         record {
-          expressions = pair_deep (expressions_in_arms (placed_arms blocks k arms)) (expressions_in (block (placed_in blocks (after_arms k arms) other)))
-              (expressions_in_arms arms) (expressions_in other) a.expressions b.expressions;
+          expressions = pair_deep (deepest_in_arms (placed_arms blocks k arms)) (deepest_in (block (placed_in blocks (after_arms k arms) other)))
+              (deepest_in_arms arms) (deepest_in other) a.expressions b.expressions;
           blocks = pair_high (blocks_in_arms (placed_arms blocks k arms)) (blocks_in (block (placed_in blocks (after_arms k arms) other)))
               (blocks_in_arms arms) (blocks_in other) a.blocks b.blocks;
         }
@@ -135,8 +135,8 @@ module _ (p : Program) (is : IsProgram77 fortran77 p) (blocks : List (Option Blo
         let a = block_little k around body w (λ l b i e. h l b (Contains-append_left (loops_in_block k around body) (loops_in_arms (after_block k body) around ms) l i) e) v s.1 in
         let b = arms_little (after_block k body) around ms w (λ l b i e. h l b (Contains-append_right (loops_in_block k around body) (loops_in_arms (after_block k body) around ms) l i) e) v s.2 in
         record {
-          expressions = arm_deep (depth_of test) (expressions_in (block (placed_in blocks k body))) (expressions_in_arms (placed_arms blocks (after_block k body) ms))
-              (expressions_in body) (expressions_in_arms ms) a.expressions b.expressions;
+          expressions = arm_deep (depth_of test) (deepest_in (block (placed_in blocks k body))) (deepest_in_arms (placed_arms blocks (after_block k body) ms))
+              (deepest_in body) (deepest_in_arms ms) a.expressions b.expressions;
           blocks = arm_high (blocks_in (block (placed_in blocks k body))) (blocks_in_arms (placed_arms blocks (after_block k body) ms)) (blocks_in body) (blocks_in_arms ms) a.blocks b.blocks;
         }
 
@@ -150,10 +150,10 @@ module _ (p : Program) (is : IsProgram77 fortran77 p) (blocks : List (Option Blo
         let ys = placed_in blocks (after k c) cs in
         record {
           expressions =
-              subst (λ d. expressions_in d ≤ max (expressions_of c) (expressions_in cs) + expression_rise) (sym (list_then xs ys))
-              (then_expressions (block xs) (block ys) (max (expressions_of c) (expressions_in cs) + expression_rise)
-              (first_deep (expressions_in (block xs)) (expressions_of c) (expressions_in cs) a.expressions)
-              (last_deep (expressions_in (block ys)) (expressions_of c) (expressions_in cs) b.expressions));
+              subst (λ d. deepest_in d ≤ max (deepest_of c) (deepest_in cs) + expression_rise) (sym (list_then xs ys))
+              (then_expressions (block xs) (block ys) (max (deepest_of c) (deepest_in cs) + expression_rise)
+              (first_deep (deepest_in (block xs)) (deepest_of c) (deepest_in cs) a.expressions)
+              (last_deep (deepest_in (block ys)) (deepest_of c) (deepest_in cs) b.expressions));
           blocks =
               subst (λ d. blocks_in d ≤ max (blocks_of c) (blocks_in cs)) (sym (list_then xs ys))
               (then_blocks (block xs) (block ys) (max (blocks_of c) (blocks_in cs))
@@ -198,7 +198,7 @@ module _ (p q : Program) (blocks : List (Option Block)) (is : IsProgram77 fortra
           (record { deep = within (blocks_in q.body) (blocks_in p.body) deeper.blocks is.blocks; many = few });
       expressions = deeper.expressions;
       blocks = deeper.blocks;
-      most = so_deep (expressions_in q.body) (expressions_in p.body) deeper.expressions (source_is_shallow fortran77 p is);
+      most = so_deep (deepest_in q.body) (deepest_in p.body) deeper.expressions (source_is_shallow fortran77 p is);
       most_blocks = more (blocks_in q.body) (blocks_in p.body) block_depth77 deeper.blocks is.blocks;
     }
 

@@ -11,6 +11,7 @@ use Rattle.fv_meaning.specs.Profile77 as source
 use Rattle.fv_meaning.specs.Typed.{declared}
 use Rattle.fv_meaning.specs.Typed77.{IsWhole, deepest}
 use Rattle.fv_meaning.specs.Value.{named}
+use Rattle.fv_rewrite.specs.Profile.{deepest_in, deepest_in_arms, deepest_of}
 use Rattle.fv_tree.specs.Plain.{Allocate, Arms, Assignment, Block, Deallocate, Declaration, Do, Expression, GoTo, If}
 use Rattle.fv_tree.specs.Plain.{Label, Named, Print, Read, Reference, Statement, Stop, Where, arm, no_arms, no_statements}
 use Rattle.fv_tree.specs.Plain.{statement}
@@ -21,7 +22,6 @@ use Rattle.nest_tree.specs.Plain.{no_parts, part, parts}
 use Rattle.nest_tree.specs.Plain as tree
 use Rattle.placed_profile.specs.Laws.{IsWithoutLabels}
 use Rattle.ready_nests.proofs.Walk.{EachIn, EachInBranches, EachInParts}
-use Rattle.normal_profile.specs.Depths.{expressions_in, expressions_in_arms, expressions_of}
 use Rattle.normal_profile.specs.Laws.{SourceIsShallow}
 use Rattle.normal_profile.proofs.Joined.{IsUnlabelled, before_without, least, max_both, max_left, max_right, nothing_without}
 
@@ -35,13 +35,13 @@ module _ (ds : List Declaration) where
   assigned_shallow left right (Some d) h = max_both (depth_of (named left)) (depth_of right) deepest h.0.depth h.1.depth
 
   mutual
-    pub statement_shallow : (c : Statement) (w : Surroundings) → source.IsStatement ds c w → expressions_of c ≤ deepest
+    pub statement_shallow : (c : Statement) (w : Surroundings) → source.IsStatement ds c w → deepest_of c ≤ deepest
     statement_shallow (Assignment line mark left right) w h = assigned_shallow left right (declared ds left.name) h.2.0
     statement_shallow (Where line mark mask left right) w h = absurd h
     statement_shallow (If line arms other) w h =
-        max_both (expressions_in_arms arms) (expressions_in other) deepest (arms_shallow arms w h.2) (block_shallow other w h.3)
+        max_both (deepest_in_arms arms) (deepest_in other) deepest (arms_shallow arms w h.2) (block_shallow other w h.3)
     statement_shallow (Do line x a b c body) w h =
-        max_both (max (depth_of a) (max (depth_of b) (depth_of c))) (expressions_in body) deepest
+        max_both (max (depth_of a) (max (depth_of b) (depth_of c))) (deepest_in body) deepest
         (max_both (depth_of a) (max (depth_of b) (depth_of c)) deepest h.2.depth (max_both (depth_of b) (depth_of c) deepest h.3.depth h.4.depth))
         (block_shallow body (within_loop x w) h.5)
     statement_shallow (Label n) w h = least deepest
@@ -52,16 +52,16 @@ module _ (ds : List Declaration) where
     statement_shallow (Allocate line x es) w h = absurd h
     statement_shallow (Deallocate line x) w h = absurd h
 
-    arms_shallow : (arms : Arms) (w : Surroundings) → source.AreArms ds arms w → expressions_in_arms arms ≤ deepest
+    arms_shallow : (arms : Arms) (w : Surroundings) → source.AreArms ds arms w → deepest_in_arms arms ≤ deepest
     arms_shallow no_arms w h = least deepest
     arms_shallow (arm test body arms) w h =
-        max_both (max (depth_of test) (expressions_in body)) (expressions_in_arms arms) deepest
-        (max_both (depth_of test) (expressions_in body) deepest h.0.depth (block_shallow body w h.1)) (arms_shallow arms w h.2)
+        max_both (depth_of test) (max (deepest_in body) (deepest_in_arms arms)) deepest h.0.depth
+        (max_both (deepest_in body) (deepest_in_arms arms) deepest (block_shallow body w h.1) (arms_shallow arms w h.2))
 
-    block_shallow : (b : Block) (w : Surroundings) → source.IsBlock ds b w → expressions_in b ≤ deepest
+    block_shallow : (b : Block) (w : Surroundings) → source.IsBlock ds b w → deepest_in b ≤ deepest
     block_shallow no_statements w h = least deepest
     block_shallow (statement c cs) w h =
-        max_both (expressions_of c) (expressions_in cs) deepest (statement_shallow c (before_labels (labels_of cs) w) h.0) (block_shallow cs w h.1)
+        max_both (deepest_of c) (deepest_in cs) deepest (statement_shallow c (before_labels (labels_of cs) w) h.0) (block_shallow cs w h.1)
 
 pub source_is_shallow : SourceIsShallow
 source_is_shallow d p is = block_shallow p.declarations p.body outermost is.statements
@@ -84,19 +84,19 @@ module _ (d : ℕ) where
   followed (p ∷ ps) qs h k = (h.0, followed ps qs h.1 k)
 
   mutual
-    parts_deep : (k : ℕ) (c : Statement) → expressions_of c ≤ d → AreDeep (parts_of k c)
+    parts_deep : (k : ℕ) (c : Statement) → deepest_of c ≤ d → AreDeep (parts_of k c)
     parts_deep k (Assignment line mark left right) h =
         (record { left = max_left (depth_of (named left)) (depth_of right) d h; right = max_right (depth_of (named left)) (depth_of right) d h }, tt)
     parts_deep k (Where line mark mask left right) h = tt
     parts_deep k (If line arms other) h = (
       (
-        arms_deep k arms (max_left (expressions_in_arms arms) (expressions_in other) d h),
-        block_deep (after_arms k arms) other (max_right (expressions_in_arms arms) (expressions_in other) d h),
+        arms_deep k arms (max_left (deepest_in_arms arms) (deepest_in other) d h),
+        block_deep (after_arms k arms) other (max_right (deepest_in_arms arms) (deepest_in other) d h),
       ),
       tt,
     )
     parts_deep k (Do line x a b c body) h =
-        ((tt, block_deep (next k) body (max_right (max (depth_of a) (max (depth_of b) (depth_of c))) (expressions_in body) d h)), tt)
+        ((tt, block_deep (next k) body (max_right (max (depth_of a) (max (depth_of b) (depth_of c))) (deepest_in body) d h)), tt)
     parts_deep k (Label n) h = (tt, tt)
     parts_deep k (GoTo line n) h = (tt, tt)
     parts_deep k (Stop line) h = tt
@@ -105,22 +105,22 @@ module _ (d : ℕ) where
     parts_deep k (Allocate line x es) h = tt
     parts_deep k (Deallocate line x) h = tt
 
-    arms_deep : (k : ℕ) (arms : Arms) → expressions_in_arms arms ≤ d → EachInBranches (IsDeep d) AnyLoop (branches_of k arms)
+    arms_deep : (k : ℕ) (arms : Arms) → deepest_in_arms arms ≤ d → EachInBranches (IsDeep d) AnyLoop (branches_of k arms)
     arms_deep k no_arms h = tt
     arms_deep k (arm test body arms) h =
-        let own = max_left (max (depth_of test) (expressions_in body)) (expressions_in_arms arms) d h in (
-          block_deep k body (max_right (depth_of test) (expressions_in body) d own),
-          arms_deep (after_block k body) arms (max_right (max (depth_of test) (expressions_in body)) (expressions_in_arms arms) d h),
+        let rest = max_right (depth_of test) (max (deepest_in body) (deepest_in_arms arms)) d h in (
+          block_deep k body (max_left (deepest_in body) (deepest_in_arms arms) d rest),
+          arms_deep (after_block k body) arms (max_right (deepest_in body) (deepest_in_arms arms) d rest),
         )
 
-    block_deep : (k : ℕ) (b : Block) → expressions_in b ≤ d → AreDeep (parts_of_block k b)
+    block_deep : (k : ℕ) (b : Block) → deepest_in b ≤ d → AreDeep (parts_of_block k b)
     block_deep k no_statements h = tt
     block_deep k (statement c cs) h =
         followed (parts_of k c) (parts_of_block (after k c) cs)
-        (parts_deep k c (max_left (expressions_of c) (expressions_in cs) d h))
-        (block_deep (after k c) cs (max_right (expressions_of c) (expressions_in cs) d h))
+        (parts_deep k c (max_left (deepest_of c) (deepest_in cs) d h))
+        (block_deep (after k c) cs (max_right (deepest_of c) (deepest_in cs) d h))
 
-  pub body_deep : (l : Numbered) → expressions_of (as_statement l.loop) ≤ d → EachIn (IsDeep d) AnyLoop (body_of l)
+  pub body_deep : (l : Numbered) → deepest_of (as_statement l.loop) ≤ d → EachIn (IsDeep d) AnyLoop (body_of l)
   body_deep l h = (parts_deep l.before (as_statement l.loop) h).0
 
 -- ---- how many loops stand in each other

@@ -12,6 +12,7 @@ use Rattle.fv_meaning.specs.Profile77.{IsProgram77, IsStatement}
 use Rattle.fv_meaning.specs.Profile90.{IsBlock, IsProgram90}
 use Rattle.fv_meaning.specs.Typed.{declared}
 use Rattle.fv_meaning.specs.Typed77.{deepest}
+use Rattle.fv_rewrite.specs.Profile.{deepest_in, deepest_of}
 use Rattle.loop_normal.specs.Normalised.{normalised}
 use Rattle.loop_placing.specs.Placing.{block_at, placed_in}
 use Rattle.nest_parts.specs.Numbers.{next}
@@ -21,7 +22,6 @@ use Rattle.nest_tree.specs.Plain.{Loop, Nest}
 use Rattle.normal_facts.specs.Laws.{IsCounter}
 use Rattle.placed_profile.specs.Laws.{AreSourceNames, IsWithoutLabels}
 use Rattle.profile_laws.specs.Profiles.{AddMadeNames}
-use Rattle.normal_profile.specs.Depths.{expressions_in, expressions_of}
 
 -- ---- how much deeper
 
@@ -31,7 +31,7 @@ expression_rise = 263
 
 -- expressions of b are at most so much deeper than those of the statement c, and blocks no deeper
 pub record IsLittleDeeper (c : Statement) (b : Block) : Type 0 where
-  pub expressions : expressions_in b ≤ expressions_of c + expression_rise
+  pub expressions : deepest_in b ≤ deepest_of c + expression_rise
   pub blocks : blocks_in b ≤ blocks_of c
 
 -- ---- blocks
@@ -70,10 +70,10 @@ AreNormalNests p q blocks = (l : Placed) (b : Block)
 -- a program of Fortran 90, with expressions at most so much deeper than those of p, and blocks no deeper
 pub record IsNormalProgram (p q : Program) : Type 0 where
   pub program : IsProgram90 q
-  pub expressions : expressions_in q.body ≤ expressions_in p.body + expression_rise
+  pub expressions : deepest_in q.body ≤ deepest_in p.body + expression_rise
   pub blocks : blocks_in q.body ≤ blocks_in p.body
   -- since p is of FORTRAN 77: 665 and 100
-  pub most : expressions_in q.body ≤ deepest + expression_rise
+  pub most : deepest_in q.body ≤ deepest + expression_rise
   pub most_blocks : blocks_in q.body ≤ block_depth77
 
 -- q is p with normal forms in the place of some nests' loops; how many statements it has is limited
@@ -85,4 +85,4 @@ NormalProgramIsOfProfile = (p q : Program) (blocks : List (Option Block))
 
 -- how deep the expressions of a program of FORTRAN 77 are
 abbrev pub SourceIsShallow : Type 0
-SourceIsShallow = (d : Dialect) (p : Program) → IsProgram77 d p → expressions_in p.body ≤ deepest
+SourceIsShallow = (d : Dialect) (p : Program) → IsProgram77 d p → deepest_in p.body ≤ deepest
