@@ -48,7 +48,7 @@ use Rattle.profile_laws.specs.Profiles.{AddMadeNames}
 use Rattle.ready_nests.proofs.Made as normal
 use Rattle.ready_nests.proofs.Walk.{EachIn}
 use Rattle.statement_loops.specs.Standings.{is_among}
-use Rattle.normal_profile.specs.Laws.{IsLittleDeeper, NormalBlockIsOfProfile, expression_rise}
+use Rattle.normal_profile.specs.Laws.{IsWithinRise, NormalBlockIsOfProfile, expression_rise}
 use Rattle.normal_profile.proofs.Behind.{IsLowBlock, last_values_low}
 use Rattle.normal_profile.proofs.Bodies.{AreInner, AreRound, IsGood, each}
 use Rattle.normal_profile.proofs.Joined.{more, no_labels, then_blocks, then_expressions, then_without}
@@ -212,7 +212,7 @@ module _ (p : Program) (n m : Nest) (found : IsFoundNest p n) (is : IsProgram77 
     whole_is : IsBlock es whole w
     whole_is = then_is es (written n.line body) (behind n) w (no_labels (written n.line body) body_unlabelled) (endings_no_label (behind n) (last_values_end n)) good.is behind_is
 
-    whole_deep : IsLittleDeeper loop whole
+    whole_deep : IsWithinRise loop whole
     whole_deep = record {
       expressions = then_expressions (written n.line body) (behind n) (d + expression_rise) good.expressions (within (deepest_in (behind n)) low.expressions);
       blocks = then_blocks (written n.line body) (behind n) (blocks_of loop)
@@ -220,11 +220,11 @@ module _ (p : Program) (n m : Nest) (found : IsFoundNest p n) (is : IsProgram77 
           (more (blocks_in (behind n)) (height n.body) (blocks_of loop) low.blocks high);
     }
 
-    pub block_is_of : IsBlock es (block_of_nest m) w × IsWithoutLabels (block_of_nest m) × IsLittleDeeper loop (block_of_nest m)
+    pub block_is_of : IsBlock es (block_of_nest m) w × IsWithoutLabels (block_of_nest m) × IsWithinRise loop (block_of_nest m)
     block_is_of = (
       subst (λ (b : Block). IsBlock es b w) (sym block_is) whole_is,
       unlabelled,
-      subst (IsLittleDeeper loop) (sym block_is) whole_deep,
+      subst (IsWithinRise loop) (sym block_is) whole_deep,
     )
 
 pub normal_block_is_of_profile : NormalBlockIsOfProfile

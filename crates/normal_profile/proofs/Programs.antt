@@ -24,7 +24,7 @@ use Rattle.placed_profile.proofs.Placing.{one_more, placed_program_is_program, v
 use Rattle.placed_profile.specs.Laws.{AreSourceNames, IsWithoutLabels, SuitLoops, SuitsLoop}
 use Rattle.profile_laws.proofs.Lists.{here, nowhere, there}
 use Rattle.profile_laws.specs.Profiles.{AddMadeNames}
-use Rattle.normal_profile.specs.Laws.{AreNormalNests, IsLittleDeeper, IsNormalNestAt, IsNormalProgram}
+use Rattle.normal_profile.specs.Laws.{AreNormalNests, IsNormalNestAt, IsNormalProgram, IsWithinRise}
 use Rattle.normal_profile.specs.Laws.{NormalProgramIsOfProfile, expression_rise}
 use Rattle.normal_profile.proofs.Blocks.{block_is_of, unlabelled}
 use Rattle.normal_profile.proofs.Joined.{least, list_then, more, then_blocks, then_expressions}
@@ -70,15 +70,15 @@ last_high b c e h = omega (arith, h)
 
 -- ---- the depth of a program with blocks in the place of some loops
 
-record ArmsLittleDeeper (ms : Arms) (ns : Arms) : Type 0 where
+record ArmsWithinRise (ms : Arms) (ns : Arms) : Type 0 where
   expressions : deepest_in_arms ns ≤ deepest_in_arms ms + expression_rise
   blocks : blocks_in_arms ns ≤ blocks_in_arms ms
 
-record BlockLittleDeeper (b : Block) (c : Block) : Type 0 where
+record BlockWithinRise (b : Block) (c : Block) : Type 0 where
   expressions : deepest_in c ≤ deepest_in b + expression_rise
   blocks : blocks_in c ≤ blocks_in b
 
-itself : (c : Statement) → IsLittleDeeper c (statement c no_statements)
+itself : (c : Statement) → IsWithinRise c (statement c no_statements)
 itself c = record { expressions = same_deep (deepest_of c); blocks = same_high (blocks_of c) }
 
 module _ (p : Program) (is : IsProgram77 fortran77 p) (blocks : List (Option Block)) where
@@ -86,66 +86,66 @@ module _ (p : Program) (is : IsProgram77 fortran77 p) (blocks : List (Option Blo
   abbrev Suit : List Placed → Type 0
   Suit ls = (l : Placed) (b : Block) → Contains ls l → block_at blocks (next l.loop.before) ≡ Some b
       → (w : Surroundings) → AreSourceNames w.variables → source.IsStatement p.declarations (as_statement l.loop.loop) w
-      → IsLittleDeeper (as_statement l.loop.loop) b
+      → IsWithinRise (as_statement l.loop.loop) b
 
-  loop_little : (l : Placed) (inside : Block) (w : Surroundings) (o : Option Block) → block_at blocks (next l.loop.before) ≡ o
-      → ((b : Block) → block_at blocks (next l.loop.before) ≡ Some b → IsLittleDeeper (as_statement l.loop.loop) b)
-      → BlockLittleDeeper l.loop.loop.body inside
-      → IsLittleDeeper (as_statement l.loop.loop)
+  loop_rise : (l : Placed) (inside : Block) (w : Surroundings) (o : Option Block) → block_at blocks (next l.loop.before) ≡ o
+      → ((b : Block) → block_at blocks (next l.loop.before) ≡ Some b → IsWithinRise (as_statement l.loop.loop) b)
+      → BlockWithinRise l.loop.loop.body inside
+      → IsWithinRise (as_statement l.loop.loop)
       (block (instead blocks o (Do l.loop.loop.line l.loop.loop.variable l.loop.loop.first l.loop.loop.last l.loop.loop.step inside)))
-  loop_little l inside w None e h g = record {
+  loop_rise l inside w None e h g = record {
     expressions = loop_deep (max (depth_of l.loop.loop.first) (max (depth_of l.loop.loop.last) (depth_of l.loop.loop.step))) (deepest_in inside) (deepest_in l.loop.loop.body) g.expressions;
     blocks = loop_high (blocks_in inside) (blocks_in l.loop.loop.body) g.blocks;
   }
-  loop_little l inside w (Some b) e h g = subst (λ d. IsLittleDeeper (as_statement l.loop.loop) d) (sym (block_of_statements b)) (h b e)
+  loop_rise l inside w (Some b) e h g = subst (λ d. IsWithinRise (as_statement l.loop.loop) d) (sym (block_of_statements b)) (h b e)
 
   mutual
-    statement_little : (k : ℕ) (around : List SourceLoop) (c : Statement) (w : Surroundings) → Suit (loops_in k around c) → AreSourceNames w.variables
-        → source.IsStatement p.declarations c w → IsLittleDeeper c (block (placed blocks k c))
-    statement_little k around (Assignment line mark left right) w h v s = itself (Assignment line mark left right)
-    statement_little k around (Where line mark mask left right) w h v s = itself (Where line mark mask left right)
-    statement_little k around (If line arms other) w h v s =
-        let a = arms_little k around arms w (λ l b i e. h l b (Contains-append_left (loops_in_arms k around arms) (loops_in_block (after_arms k arms) around other) l i) e) v s.2 in
-        let b = block_little (after_arms k arms) around other w (λ l b i e. h l b (Contains-append_right (loops_in_arms k around arms) (loops_in_block (after_arms k arms) around other) l i) e) v s.3 in
+    statement_rise : (k : ℕ) (around : List SourceLoop) (c : Statement) (w : Surroundings) → Suit (loops_in k around c) → AreSourceNames w.variables
+        → source.IsStatement p.declarations c w → IsWithinRise c (block (placed blocks k c))
+    statement_rise k around (Assignment line mark left right) w h v s = itself (Assignment line mark left right)
+    statement_rise k around (Where line mark mask left right) w h v s = itself (Where line mark mask left right)
+    statement_rise k around (If line arms other) w h v s =
+        let a = arms_rise k around arms w (λ l b i e. h l b (Contains-append_left (loops_in_arms k around arms) (loops_in_block (after_arms k arms) around other) l i) e) v s.2 in
+        let b = block_rise (after_arms k arms) around other w (λ l b i e. h l b (Contains-append_right (loops_in_arms k around arms) (loops_in_block (after_arms k arms) around other) l i) e) v s.3 in
         record {
           expressions = pair_deep (deepest_in_arms (placed_arms blocks k arms)) (deepest_in (block (placed_in blocks (after_arms k arms) other)))
               (deepest_in_arms arms) (deepest_in other) a.expressions b.expressions;
           blocks = pair_high (blocks_in_arms (placed_arms blocks k arms)) (blocks_in (block (placed_in blocks (after_arms k arms) other)))
               (blocks_in_arms arms) (blocks_in other) a.blocks b.blocks;
         }
-    statement_little k around (Do line x first last step body) w h v s =
+    statement_rise k around (Do line x first last step body) w h v s =
         let own : SourceLoop = record { line = line; variable = x; first = first; last = last; step = step; body = body } in
-        loop_little (record { around = around; loop = record { before = k; loop = own } }) (block (placed_in blocks (next k) body)) w
+        loop_rise (record { around = around; loop = record { before = k; loop = own } }) (block (placed_in blocks (next k) body)) w
         (block_at blocks (next k)) refl
         (λ b e. h (record { around = around; loop = record { before = k; loop = own } }) b (here _ (loops_in_block (next k) (around ++ own ∷ []) body)) e w v s)
-        (block_little (next k) (around ++ own ∷ []) body (within_loop x w) (λ l b i e. h l b (there _ (loops_in_block (next k) (around ++ own ∷ []) body) l i) e)
+        (block_rise (next k) (around ++ own ∷ []) body (within_loop x w) (λ l b i e. h l b (there _ (loops_in_block (next k) (around ++ own ∷ []) body) l i) e)
         (one_more x w.variables (variable_name is x w.variables s.1) v) s.5)
-    statement_little k around (Label n) w h v s = itself (Label n)
-    statement_little k around (GoTo line n) w h v s = itself (GoTo line n)
-    statement_little k around (Stop line) w h v s = itself (Stop line)
-    statement_little k around (Read line is') w h v s = itself (Read line is')
-    statement_little k around (Print line is') w h v s = itself (Print line is')
-    statement_little k around (Allocate line x es) w h v s = itself (Allocate line x es)
-    statement_little k around (Deallocate line x) w h v s = itself (Deallocate line x)
+    statement_rise k around (Label n) w h v s = itself (Label n)
+    statement_rise k around (GoTo line n) w h v s = itself (GoTo line n)
+    statement_rise k around (Stop line) w h v s = itself (Stop line)
+    statement_rise k around (Read line is') w h v s = itself (Read line is')
+    statement_rise k around (Print line is') w h v s = itself (Print line is')
+    statement_rise k around (Allocate line x es) w h v s = itself (Allocate line x es)
+    statement_rise k around (Deallocate line x) w h v s = itself (Deallocate line x)
 
-    arms_little : (k : ℕ) (around : List SourceLoop) (ms : Arms) (w : Surroundings) → Suit (loops_in_arms k around ms) → AreSourceNames w.variables
-        → source.AreArms p.declarations ms w → ArmsLittleDeeper ms (placed_arms blocks k ms)
-    arms_little k around no_arms w h v s = record { expressions = least (0 + expression_rise); blocks = least 0 }
-    arms_little k around (arm test body ms) w h v s =
-        let a = block_little k around body w (λ l b i e. h l b (Contains-append_left (loops_in_block k around body) (loops_in_arms (after_block k body) around ms) l i) e) v s.1 in
-        let b = arms_little (after_block k body) around ms w (λ l b i e. h l b (Contains-append_right (loops_in_block k around body) (loops_in_arms (after_block k body) around ms) l i) e) v s.2 in
+    arms_rise : (k : ℕ) (around : List SourceLoop) (ms : Arms) (w : Surroundings) → Suit (loops_in_arms k around ms) → AreSourceNames w.variables
+        → source.AreArms p.declarations ms w → ArmsWithinRise ms (placed_arms blocks k ms)
+    arms_rise k around no_arms w h v s = record { expressions = least (0 + expression_rise); blocks = least 0 }
+    arms_rise k around (arm test body ms) w h v s =
+        let a = block_rise k around body w (λ l b i e. h l b (Contains-append_left (loops_in_block k around body) (loops_in_arms (after_block k body) around ms) l i) e) v s.1 in
+        let b = arms_rise (after_block k body) around ms w (λ l b i e. h l b (Contains-append_right (loops_in_block k around body) (loops_in_arms (after_block k body) around ms) l i) e) v s.2 in
         record {
           expressions = arm_deep (depth_of test) (deepest_in (block (placed_in blocks k body))) (deepest_in_arms (placed_arms blocks (after_block k body) ms))
               (deepest_in body) (deepest_in_arms ms) a.expressions b.expressions;
           blocks = arm_high (blocks_in (block (placed_in blocks k body))) (blocks_in_arms (placed_arms blocks (after_block k body) ms)) (blocks_in body) (blocks_in_arms ms) a.blocks b.blocks;
         }
 
-    block_little : (k : ℕ) (around : List SourceLoop) (b : Block) (w : Surroundings) → Suit (loops_in_block k around b) → AreSourceNames w.variables
-        → source.IsBlock p.declarations b w → BlockLittleDeeper b (block (placed_in blocks k b))
-    block_little k around no_statements w h v s = record { expressions = least (0 + expression_rise); blocks = least 0 }
-    block_little k around (statement c cs) w h v s =
-        let a = statement_little k around c (before_labels (labels_of cs) w) (λ l b i e. h l b (Contains-append_left (loops_in k around c) (loops_in_block (after k c) around cs) l i) e) v s.0 in
-        let b = block_little (after k c) around cs w (λ l b i e. h l b (Contains-append_right (loops_in k around c) (loops_in_block (after k c) around cs) l i) e) v s.1 in
+    block_rise : (k : ℕ) (around : List SourceLoop) (b : Block) (w : Surroundings) → Suit (loops_in_block k around b) → AreSourceNames w.variables
+        → source.IsBlock p.declarations b w → BlockWithinRise b (block (placed_in blocks k b))
+    block_rise k around no_statements w h v s = record { expressions = least (0 + expression_rise); blocks = least 0 }
+    block_rise k around (statement c cs) w h v s =
+        let a = statement_rise k around c (before_labels (labels_of cs) w) (λ l b i e. h l b (Contains-append_left (loops_in k around c) (loops_in_block (after k c) around cs) l i) e) v s.0 in
+        let b = block_rise (after k c) around cs w (λ l b i e. h l b (Contains-append_right (loops_in k around c) (loops_in_block (after k c) around cs) l i) e) v s.1 in
         let xs = placed blocks k c in
         let ys = placed_in blocks (after k c) cs in
         record {
@@ -172,19 +172,19 @@ module _ (p q : Program) (blocks : List (Option Block)) (is : IsProgram77 fortra
     block = subst IsWithoutLabels (sym h.block) (unlabelled p h.nest h.normal h.found is h.among h.alone h.made);
   }
 
-  little : Suit p is blocks (loops_in_block 0 [] p.body)
-  little l b i e w v s =
+  rise : Suit p is blocks (loops_in_block 0 [] p.body)
+  rise l b i e w v s =
       let h = nests l b i e in
       let deep = block_is_of p h.nest h.normal h.found is h.among h.alone h.made q w added h.counters v (subst (λ (l : Placed). source.IsStatement p.declarations (as_statement l.loop.loop) w) (sym h.there) s) in
-      subst (λ (b : Block). IsLittleDeeper (as_statement l.loop.loop) b) (sym h.block)
-      (subst (λ (k : Placed). IsLittleDeeper (as_statement k.loop.loop) (block_of_nest h.normal)) h.there deep.2)
+      subst (λ (b : Block). IsWithinRise (as_statement l.loop.loop) b) (sym h.block)
+      (subst (λ (k : Placed). IsWithinRise (as_statement k.loop.loop) (block_of_nest h.normal)) h.there deep.2)
 
   suits : SuitLoops p q blocks
   suits l b i e = suits_loop l b (nests l b i e)
 
   module _ (name : q.name ≡ p.name) (same : q.body ≡ block (placed_in blocks 0 p.body)) (few : statements_in q.body < 2 ^ 31) where
-    deeper : BlockLittleDeeper p.body q.body
-    deeper = subst (BlockLittleDeeper p.body) (sym same) (block_little p is blocks 0 [] p.body outermost little (λ x c. absurd (nowhere x c)) is.statements)
+    deeper : BlockWithinRise p.body q.body
+    deeper = subst (BlockWithinRise p.body) (sym same) (block_rise p is blocks 0 [] p.body outermost rise (λ x c. absurd (nowhere x c)) is.statements)
 
     within : (a b : ℕ) → a ≤ b → b ≤ block_depth77 → a ≤ block_depth90
     within a b h k = omega (arith, h, k)

@@ -1,5 +1,5 @@
 -- Nests that are written in loops from 1 by 1, in the place of the loops that they were found at.
-use Rattle.std.specs.Prelude.{◌≡◌, ℕ, ◌+◌, ◌^◌, ◌<◌, ◌≤◌, Option, Some, All, IsSomeAnd, List, [], Contains}
+use Rattle.std.specs.Prelude.{◌≡◌, ℕ, ◌+◌, ◌*◌, ◌^◌, ◌<◌, ◌≤◌, Option, Some, All, IsSomeAnd, List, [], Contains}
 use Rattle.fv_tree.specs.Limits.{block_depth77}
 use Rattle.fv_tree.specs.Plain.{Block, Program, Statement, block}
 use Rattle.find_nests.specs.Found.{InNest, found_in}
@@ -25,12 +25,13 @@ use Rattle.profile_laws.specs.Profiles.{AddMadeNames}
 
 -- ---- how much deeper
 
--- 35 for the value of each of seven loop variables, and 18 for canonical text
+-- the text of a loop variable's value takes the variable's place, at most 34 deep, or 35 in parentheses, for each of up
+-- to seven loops; 18 is the rise of linear_forms' canonical text
 abbrev pub expression_rise : ℕ
-expression_rise = 263
+expression_rise = 7 * 35 + 18
 
 -- expressions of b are at most so much deeper than those of the statement c, and blocks no deeper
-pub record IsLittleDeeper (c : Statement) (b : Block) : Type 0 where
+pub record IsWithinRise (c : Statement) (b : Block) : Type 0 where
   pub expressions : deepest_in b ≤ deepest_of c + expression_rise
   pub blocks : blocks_in b ≤ blocks_of c
 
@@ -45,7 +46,7 @@ NormalBlockIsOfProfile = (p r : Program) (n m : Nest) (w : Surroundings) (found 
     → All (λ (l : Loop). IsSomeAnd (declared r.declarations l.variable) IsCounter) (nest_loops m)
     → AreSourceNames w.variables → IsStatement p.declarations (as_statement found.loop.loop.loop) w
     → IsBlock r.declarations (block_of_nest m) w × IsWithoutLabels (block_of_nest m)
-    × IsLittleDeeper (as_statement found.loop.loop.loop) (block_of_nest m)
+    × IsWithinRise (as_statement found.loop.loop.loop) (block_of_nest m)
 
 -- ---- programs
 
@@ -59,7 +60,7 @@ pub record IsNormalNestAt (p q : Program) (l : Placed) (b : Block) : Type 0 wher
   pub alone : HasLoopsAlone nest.body
   pub normal : Nest
   pub made : normalised nest ≡ Some normal
-  pub counters : All (λ (l : Loop). IsSomeAnd (declared q.declarations l.variable) IsCounter) (nest_loops normal)
+  pub counters : All (λ (m : Loop). IsSomeAnd (declared q.declarations m.variable) IsCounter) (nest_loops normal)
   pub block : b ≡ block_of_nest normal
 
 -- what is written in the place of loops, by their numbers, are such normal forms
@@ -72,7 +73,7 @@ pub record IsNormalProgram (p q : Program) : Type 0 where
   pub program : IsProgram90 q
   pub expressions : deepest_in q.body ≤ deepest_in p.body + expression_rise
   pub blocks : blocks_in q.body ≤ blocks_in p.body
-  -- since p is of FORTRAN 77: 665 and 100
+  -- since p is of FORTRAN 77: at most `deepest` and the rise
   pub most : deepest_in q.body ≤ deepest + expression_rise
   pub most_blocks : blocks_in q.body ≤ block_depth77
 
