@@ -3,6 +3,7 @@ use Rattle.std.proofs.Common.{refl, ℕ, ◌+◌, ◌≤◌, max, List, [], ◌�
 use Rattle.std.specs.Option.{IsSomeAnd}
 use Rattle.find_nests.specs.Found.{body_of}
 use Rattle.find_nests.specs.Loops.{Numbered, as_statement}
+use Rattle.found_sources.proofs.Lists.{alone_left, alone_right}
 use Rattle.found_sources.specs.Laws.{HasLoopsAlone, HaveLoopsAlone}
 use Rattle.fv_meaning.specs.Blocks.{Surroundings, before_labels, blocks_in, blocks_of, labels_of, outermost}
 use Rattle.fv_meaning.specs.Blocks.{within_loop}
@@ -184,14 +185,6 @@ body_high l =
 
 -- ---- loops alone
 
-alone_first : (ps qs : List Part) → HaveLoopsAlone (parts (ps ++ qs)) → HaveLoopsAlone (parts ps)
-alone_first [] qs h = tt
-alone_first (p ∷ ps) qs h = (h.0, alone_first ps qs h.1)
-
-alone_rest : (ps qs : List Part) → HaveLoopsAlone (parts (ps ++ qs)) → HaveLoopsAlone (parts qs)
-alone_rest [] qs h = h
-alone_rest (p ∷ ps) qs h = alone_rest ps qs h.1
-
 mutual
   unlabelled : (k : ℕ) (c : Statement) → HaveLoopsAlone (parts (parts_of k c)) → IsUnlabelled c
   unlabelled k (Assignment line mark left right) h = record { labels = refl; targets = refl }
@@ -210,8 +203,8 @@ mutual
   block_unlabelled : (k : ℕ) (b : Block) → HaveLoopsAlone (parts (parts_of_block k b)) → IsWithoutLabels b
   block_unlabelled k no_statements h = nothing_without
   block_unlabelled k (statement c cs) h =
-      before_without c cs (unlabelled k c (alone_first (parts_of k c) (parts_of_block (after k c) cs) h))
-      (block_unlabelled (after k c) cs (alone_rest (parts_of k c) (parts_of_block (after k c) cs) h))
+      before_without c cs (unlabelled k c (alone_left (parts_of k c) (parts_of_block (after k c) cs) h))
+      (block_unlabelled (after k c) cs (alone_right (parts_of k c) (parts_of_block (after k c) cs) h))
 
 pub loop_unlabelled : (l : Numbered) → HasLoopsAlone (body_of l) → IsWithoutLabels l.loop.body
 loop_unlabelled l h = block_unlabelled (next l.before) l.loop.body h
