@@ -38,17 +38,17 @@ pub record IsRunOfInstances (m : Nest) (s : State) : Type 0 where
       ≡ Ok left
   -- so do the loops, with arrays as values and without, but for their variables
   pub loops : (arrays : Bool) → GoesOnNear (run_nest m) (record s { store = left })
-      (does (dialect 31 arrays) None (statement_of_part m.line m.body) s)
+      (does (dialect fortran77.bits arrays) None (statement_of_part m.line m.body) s)
   -- what comes after them goes on from it
   pub way : (does_all fortran77 None m.after (record s { store = left })).way ≡ Going
   -- the run of the block ends in the same store but for the variables of the loops, and reads and writes no lines
   pub near : (arrays : Bool) → GoesOnNear (run_nest m) (does_all fortran77 None m.after (record s { store = left }))
-      (does_all (dialect 31 arrays) None (block_of_nest m) s)
-  pub lines : (arrays : Bool) → SameLines s (does_all (dialect 31 arrays) None (block_of_nest m) s)
+      (does_all (dialect fortran77.bits arrays) None (block_of_nest m) s)
+  pub lines : (arrays : Bool) → SameLines s (does_all (dialect fortran77.bits arrays) None (block_of_nest m) s)
 
 -- n is a nest of p, a program of FORTRAN 77, and m its normal form, of loops and statements alone. r has the names of p
 -- and the variables of m's loops; in the store all names of r have their bounds, and values of their kinds within the
--- range of INTEGER
+-- range of INTEGER; the run of m, written in its loops, ends without fault
 abbrev pub RunOfNormalNest : Type 0
 RunOfNormalNest = (p r : Program) (n m : Nest) (s : State)
     → IsProgram77 fortran77 p → Contains (found_in p) (InNest n) → normalised n ≡ Some m → HasLoopsAlone m.body

@@ -56,11 +56,11 @@ use Rattle.profile_laws.specs.Profiles.{AddMadeNames}
 use Rattle.profile_laws.proofs.Programs.{kept_declaration}
 use Rattle.ready_nests.proofs.Made as normal
 use Rattle.ready_nests.proofs.NormalReady.{normal_nest_is_ready}
-use Rattle.normal_run.proofs.Ends.{all_end, near_back}
-use Rattle.normal_run.proofs.LastNames.{AreEndingsOver, nested_short, values_over}
-use Rattle.normal_run.proofs.Loops.{loops_end}
-use Rattle.normal_run.proofs.Straight.{ending_goes, goes_if_sound, part_quiet, sound_before}
-use Rattle.normal_run.specs.Laws.{IsRunOfInstances, RunOfNormalNest}
+use Rattle.normal_instances.proofs.Ends.{all_end, near_back}
+use Rattle.normal_instances.proofs.LastNames.{AreEndingsOver, nested_short, values_over}
+use Rattle.normal_instances.proofs.Loops.{loops_end}
+use Rattle.normal_instances.proofs.Straight.{ending_goes, goes_if_sound, part_quiet, sound_before}
+use Rattle.normal_instances.specs.Laws.{IsRunOfInstances, RunOfNormalNest}
 
 then_nothing : (b : Block) → block_then b no_statements ≡ b
 then_nothing no_statements = refl

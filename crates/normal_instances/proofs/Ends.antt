@@ -30,7 +30,7 @@ use Rattle.nest_runs.specs.Guarded.{Guarded, dialect, names_of, sequential}
 use Rattle.nest_runs.specs.Laws.{GoesOnNear}
 use Rattle.nest_runs.specs.Nests.{Near, Nest, is_variable}
 use Rattle.normal_facts.proofs.Texts.{IsOver, named}
-use Rattle.normal_run.proofs.LastNames.{AreEndingsOver, IsEndingOver}
+use Rattle.normal_instances.proofs.LastNames.{AreEndingsOver, IsEndingOver}
 
 pub near_back : (n : Nest) (s t : Store) → Near n s t → Near n t s
 near_back n s t h = record { bounds = λ x. sym (h.bounds x); held = λ c e. sym (h.held c e) }
