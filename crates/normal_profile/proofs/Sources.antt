@@ -18,8 +18,7 @@ use Rattle.fv_tree.specs.Plain.{Label, Named, Print, Read, Reference, Statement,
 use Rattle.fv_tree.specs.Plain.{statement}
 use Rattle.nest_parts.specs.Numbers.{after, after_arms, after_block, next}
 use Rattle.nest_parts.specs.Statements.{branches_of, parts_of, parts_of_block}
-use Rattle.nest_tree.specs.Plain.{Branches, Choice, Guarded, Jump, Loop, Part, Parts, Run, Turns, branch, no_branches}
-use Rattle.nest_tree.specs.Plain.{no_parts, part, parts}
+use Rattle.nest_tree.specs.Plain.{Choice, Guarded, Jump, Loop, Part, Parts, Run, Turns, no_parts, part, parts}
 use Rattle.nest_tree.specs.Plain as tree
 use Rattle.placed_profile.specs.Laws.{IsWithoutLabels}
 use Rattle.ready_nests.proofs.Walk.{EachIn, EachInBranches, EachInParts}
