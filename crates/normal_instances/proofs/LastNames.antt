@@ -7,8 +7,8 @@ use Rattle.std.specs.Prelude.{length, slice_get, ◌==◌, ⊤}
 use Rattle.components.specs.Lists.{Each}
 use Rattle.components.proofs.ListLaws.{Each-append}
 use Rattle.found_sources.specs.Laws.{HasLoopsAlone, HaveLoopsAlone}
-use Rattle.fv_tree.specs.Plain.{Arms, Assignment, Binary, Block, Declaration, Expression, If, Number, Statement, arm, block}
-use Rattle.fv_tree.specs.Plain.{no_arms, no_statements, no_subscripts, statement}
+use Rattle.fv_tree.specs.Plain.{Arms, Assignment, Binary, Block, Declaration, Expression, If, Number, Statement, arm}
+use Rattle.fv_tree.specs.Plain.{block, no_arms, no_statements, no_subscripts, statement}
 use Rattle.fv_tree.specs.declared.ops.Op.TheVariants.{And, Div, Mul}
 use Rattle.last_values.specs.Behind.{left_behind, or_none, stands_behind, values_behind}
 use Rattle.last_values.specs.Endings.{Texts, after_statements, all_hold, assigned, ending, last_texts, only_where}
@@ -21,8 +21,8 @@ use Rattle.nest_tree.specs.Plain.{Choice, Jump, Label, Loop, Part, Parts, Run, T
 use Rattle.nest_tree.specs.declared.parts.Trip.{Trip}
 use Rattle.normal_facts.proofs.FoundStatements.{IsShort, IsSource, IsSourceLoop}
 use Rattle.normal_facts.proofs.Texts.{IsOver}
-use Rattle.normal_forms.specs.LastValues.{have_plain_trips, is_uncertain, last_end_text, last_forms}
-use Rattle.normal_forms.specs.LastValues.{last_trip_text, plain_trip_text, plain_trip_texts, test_of, tests_of}
+use Rattle.normal_forms.specs.LastValues.{have_plain_trips, is_uncertain, last_end_text, last_forms, last_trip_text}
+use Rattle.normal_forms.specs.LastValues.{plain_trip_text, plain_trip_texts, test_of, tests_of}
 use Rattle.normal_forms.specs.NormalLoops.{is_known, is_positive, normal_loop}
 use Rattle.normal_forms.specs.Texts.{at_least_one, quotient, trip_text}
 use Rattle.normal_forms.specs.declared.last.LastForms.{LastForms}
@@ -83,7 +83,8 @@ module _ (P : List ℕ → Type 0) where
   one_over o (pos (suc n)) t h k = plus_over o (term (suc n) t) h (term_over (suc n) t k)
   one_over o (negsuc n) t h k = minus_over o (term (suc n) t) h (term_over (suc n) t k)
 
-  terms_over : (o : Option Expression) (cs : List ℤ) (ts : List Expression) → SoFar o → Each (IsOver P) ts → SoFar (with_terms o cs ts)
+  terms_over : (o : Option Expression) (cs : List ℤ) (ts : List Expression) → SoFar o → Each (IsOver P) ts
+      → SoFar (with_terms o cs ts)
   terms_over o [] ts h k = h
   terms_over o (c ∷ cs) [] h k = h
   terms_over o (c ∷ cs) (t ∷ ts) h k = terms_over (with_term o c t) cs ts (one_over o c t h k.0) k.1
@@ -111,9 +112,11 @@ module _ (P : List ℕ → Type 0) where
       by None e = tt
       by (Some t) e = at_place ts k t h e
 
-  symbols_over : (o : Option Expression) (ss : List (ℕ × ℤ)) (ts : List Expression) → SoFar o → Each (IsOver P) ts → SoFar (with_symbols o ss ts)
+  symbols_over : (o : Option Expression) (ss : List (ℕ × ℤ)) (ts : List Expression) → SoFar o → Each (IsOver P) ts
+      → SoFar (with_symbols o ss ts)
   symbols_over o [] ts h k = h
-  symbols_over o (s ∷ ss) ts h k = symbols_over (with_place o s.1 (slice_get ts s.0)) ss ts (place_over o s.1 (slice_get ts s.0) h (got ts s.0 k)) k
+  symbols_over o (s ∷ ss) ts h k =
+      symbols_over (with_place o s.1 (slice_get ts s.0)) ss ts (place_over o s.1 (slice_get ts s.0) h (got ts s.0 k)) k
 
   variables_over : (xs : List (List ℕ)) → Each P xs → Each (IsOver P) (variables xs)
   variables_over [] h = tt
@@ -128,7 +131,8 @@ module _ (P : List ℕ → Type 0) where
 
   -- ---- statements
 
-  joined : (cs ds : List Statement) → AreEndingsOver (block cs) → AreEndingsOver (block ds) → AreEndingsOver (block (cs ++ ds))
+  joined : (cs ds : List Statement) → AreEndingsOver (block cs) → AreEndingsOver (block ds)
+      → AreEndingsOver (block (cs ++ ds))
   joined [] ds h k = k
   joined (c ∷ cs) ds h k = (h.0, joined cs ds h.1 k)
 
@@ -137,22 +141,28 @@ module _ (P : List ℕ → Type 0) where
   hold_over e (t ∷ ts) h k = hold_over (Binary And e t) ts (h, k.0) k.1
 
   module _ (line : ℕ) where
-    ending_over : (v : List ℕ) (trip : Trip) (t : Texts) → P v → IsOver P t.first → IsOver P t.trip → IsOver P t.end → AreEndingsOver (block (ending line v trip t))
+    ending_over : (v : List ℕ) (trip : Trip) (t : Texts) → P v → IsOver P t.first → IsOver P t.trip → IsOver P t.end
+        → AreEndingsOver (block (ending line v trip t))
     ending_over v trip t h first turns end = by (is_positive trip) (is_known trip)
       where
-        by : (b c : Bool) → AreEndingsOver (block (cond b (assigned line v t.end ∷ []) (cond c (assigned line v t.first ∷ []) (assigned line v t.first ∷ only_where line (at_least_one t.trip) (assigned line v t.end ∷ []) ∷ []))))
+        by : (b c : Bool) → AreEndingsOver
+            (block (cond b (assigned line v t.end ∷ [])
+            (cond c (assigned line v t.first ∷ [])
+            (assigned line v t.first ∷ only_where line (at_least_one t.trip) (assigned line v t.end ∷ []) ∷ []))))
         by true c = ((refl, h, end), tt)
         by false true = ((refl, h, first), tt)
         by false false = ((refl, h, first), ((((turns, tt), ((refl, h, end), tt), tt), tt), tt))
 
-    where_over : (ts : List Expression) (cs : List Statement) → Each (IsOver P) ts → AreEndingsOver (block cs) → AreEndingsOver (block (where_all_hold line ts cs))
+    where_over : (ts : List Expression) (cs : List Statement) → Each (IsOver P) ts → AreEndingsOver (block cs)
+        → AreEndingsOver (block (where_all_hold line ts cs))
     where_over [] cs h k = k
     where_over (t ∷ ts) cs h k = (((hold_over t ts h.0 h.1, k, tt), tt), tt)
 
     module _ (symbols : List (List ℕ)) (are : Each P symbols) where
       text_over : (trips : List Expression) (a : Affine) → Each (IsOver P) trips → IsOver P (text_of [] symbols trips a)
       text_over trips a t =
-          constant_over (with_symbols (with_terms None a.loops (variables [])) a.syms (places_behind symbols trips)) a.constant
+          constant_over (with_symbols (with_terms None a.loops (variables [])) a.syms
+          (places_behind symbols trips)) a.constant
           (symbols_over (with_terms None a.loops (variables [])) a.syms (places_behind symbols trips)
           (terms_over None a.loops (variables []) tt tt)
           (Each-append (IsOver P) (variables symbols) trips (variables_over symbols are) t))
@@ -193,16 +203,21 @@ module _ (P : List ℕ → Type 0) where
             text_over (trips ++ last_trip_text symbols round f ∷ []) f.end
             (Each-append (IsOver P) trips (last_trip_text symbols round f ∷ []) (all_plain round) (turns_over, tt))
 
-        behind_over : (v : List ℕ) → P v → AreEndingsOver (block (where_all_hold line (tests_of symbols round) (ending line v f.trip (last_texts symbols round f))))
+        behind_over : (v : List ℕ) → P v
+            → AreEndingsOver (block (where_all_hold line (tests_of symbols round)
+            (ending line v f.trip (last_texts symbols round f))))
         behind_over v h =
             where_over (tests_of symbols round) (ending line v f.trip (last_texts symbols round f)) (all_tests round)
-            (ending_over v f.trip (last_texts symbols round f) h (text_over trips f.first (all_plain round)) turns_over end_over)
+            (ending_over v f.trip (last_texts symbols round f) h
+            (text_over trips f.first (all_plain round)) turns_over end_over)
 
-      after_over : (round : List NormalLoop) (r : NormalLoop) → P r.variable → AreEndingsOver (block (or_none (after_statements symbols line round r)))
+      after_over : (round : List NormalLoop) (r : NormalLoop) → P r.variable
+          → AreEndingsOver (block (or_none (after_statements symbols line round r)))
       unfolding after_statements
       after_over round r h = by (have_plain_trips round) (last_forms (length symbols) round r)
         where
-          by : (b : Bool) (o : Option LastForms) → AreEndingsOver (block (or_none (cond b (with_last_forms symbols line round r o) None)))
+          by : (b : Bool) (o : Option LastForms)
+              → AreEndingsOver (block (or_none (cond b (with_last_forms symbols line round r o) None)))
           by true None = tt
           by true (Some f) = behind_over round f r.variable h
           by false o = tt
@@ -210,18 +225,23 @@ module _ (P : List ℕ → Type 0) where
       abbrev pub IsNestedOver : NestedLoop → Type 0
       IsNestedOver l = P l.turns.variable
 
-      left_over : (ls : List NestedLoop) (p : Part) (l : NestedLoop) → IsNestedOver l → AreEndingsOver (block (left_behind symbols line ls p l))
+      left_over : (ls : List NestedLoop) (p : Part) (l : NestedLoop) → IsNestedOver l
+          → AreEndingsOver (block (left_behind symbols line ls p l))
       left_over ls p l h = by (stands_behind (length symbols) ls p l.turns.variable)
         where
           by : (b : Bool) → AreEndingsOver (block (cond b (or_none (after_statements symbols line l.round l.turns)) []))
           by true = after_over l.round l.turns h
           by false = tt
 
-      each_left : (all : List NestedLoop) (p : Part) (ls : List NestedLoop) → Each IsNestedOver ls → AreEndingsOver (block (flat_map (left_behind symbols line all p) ls))
+      each_left : (all : List NestedLoop) (p : Part) (ls : List NestedLoop) → Each IsNestedOver ls
+          → AreEndingsOver (block (flat_map (left_behind symbols line all p) ls))
       each_left all p [] h = tt
-      each_left all p (l ∷ ls) h = joined (left_behind symbols line all p l) (flat_map (left_behind symbols line all p) ls) (left_over all p l h.0) (each_left all p ls h.1)
+      each_left all p (l ∷ ls) h =
+          joined (left_behind symbols line all p l) (flat_map (left_behind symbols line all p) ls)
+          (left_over all p l h.0) (each_left all p ls h.1)
 
-      pub values_over : (ls : List NestedLoop) (p : Part) → Each IsNestedOver ls → AreEndingsOver (values_behind symbols line ls p)
+      pub values_over : (ls : List NestedLoop) (p : Part) → Each IsNestedOver ls
+          → AreEndingsOver (values_behind symbols line ls p)
       unfolding values_behind
       values_over ls p h = each_left ls p ls h
 
@@ -231,7 +251,8 @@ module _ (es : List Declaration) (symbols : List (List ℕ)) where
   abbrev IsShortLoop : NestedLoop → Type 0
   IsShortLoop l = IsShort l.turns.variable
 
-  turned : (round : List NormalLoop) (l : Loop) (o : Option NormalLoop) (ps : Parts) → HaveZeros (length round) round → IsShort l.variable → normal_loop symbols round l ≡ o
+  turned : (round : List NormalLoop) (l : Loop) (o : Option NormalLoop) (ps : Parts) → HaveZeros (length round) round
+      → IsShort l.variable → normal_loop symbols round l ≡ o
       → ((rs : List NormalLoop) → HaveZeros (length rs) rs → Each IsShortLoop (nested_in_parts symbols rs ps))
       → Each IsShortLoop (nested round o ++ nested_in_parts symbols (with_loop round o) ps)
   turned round l None ps z s e inside = inside round z
@@ -240,16 +261,20 @@ module _ (es : List Declaration) (symbols : List (List ℕ)) where
       (subst IsShort (sym is.variable) s, inside (round ++ r ∷ []) (zeros_more round r z is.value))
 
   mutual
-    pub nested_short : (round : List NormalLoop) (p : Part) → HaveZeros (length round) round → HasLoopsAlone p → EachIn (IsSource es symbols) (IsSourceLoop es symbols) p
+    pub nested_short : (round : List NormalLoop) (p : Part) → HaveZeros (length round) round → HasLoopsAlone p
+        → EachIn (IsSource es symbols) (IsSourceLoop es symbols) p
         → Each IsShortLoop (nested_loops symbols round p)
     nested_short round (Run s) z a h = tt
-    nested_short round (Turns l ps) z a h = turned round l (normal_loop symbols round l) ps z h.0.short refl (λ rs u. parts_short rs ps u a h.1)
+    nested_short round (Turns l ps) z a h =
+        turned round l (normal_loop symbols round l) ps z h.0.short refl (λ rs u. parts_short rs ps u a h.1)
     nested_short round (Choice bs ps) z a h = absurd a
     nested_short round (Label k) z a h = absurd a
     nested_short round (Jump k) z a h = absurd a
 
-    parts_short : (round : List NormalLoop) (ps : Parts) → HaveZeros (length round) round → HaveLoopsAlone ps → EachInParts (IsSource es symbols) (IsSourceLoop es symbols) ps
+    parts_short : (round : List NormalLoop) (ps : Parts) → HaveZeros (length round) round → HaveLoopsAlone ps
+        → EachInParts (IsSource es symbols) (IsSourceLoop es symbols) ps
         → Each IsShortLoop (nested_in_parts symbols round ps)
     parts_short round no_parts z a h = tt
     parts_short round (part p ps) z a h =
-        Each-append IsShortLoop (nested_loops symbols round p) (nested_in_parts symbols round ps) (nested_short round p z a.0 h.0) (parts_short round ps z a.1 h.1)
+        Each-append IsShortLoop (nested_loops symbols round p) (nested_in_parts symbols round ps)
+        (nested_short round p z a.0 h.0) (parts_short round ps z a.1 h.1)

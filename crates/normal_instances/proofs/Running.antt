@@ -1,6 +1,6 @@
 -- The run of a nest whose loops were made to go from 1 by 1 is its instances, and then what comes after the loops.
-use Rattle.std.proofs.Common.{◌≡◌, refl, sym, ap, ◌∙◌, subst, ℕ, suc, ◌<◌, ◌≤◌, ◌^◌, nat_lt, ℤ, pos, negsuc, Bool, true, false, List, []}
-use Rattle.std.proofs.Common.{Ok, Option, Some, None, IfSome, Contains, arith}
+use Rattle.std.proofs.Common.{◌≡◌, refl, sym, ap, ◌∙◌, subst, ℕ, suc, ◌<◌, ◌≤◌, ◌^◌, nat_lt, ℤ, pos, negsuc, Bool, true}
+use Rattle.std.proofs.Common.{false, List, [], Ok, Option, Some, None, IfSome, Contains, arith}
 use Rattle.std.specs.Option.{IsSomeAnd}
 use Rattle.std.specs.Prelude.{All, nat_abs}
 use Rattle.emission_forms.proofs.WrittenTables.{loops_once}
@@ -77,10 +77,12 @@ sized (negsuc k) e = small k e
     small : (k : ℕ) → nat_lt k 2147483648 ≡ true → suc k ≤ 9223372036854775808
     small k e = let a : k < 2147483648 = grind arith in omega arith
 
-module _ (p r : Program) (n m : Nest) (s : State) (program : IsProgram77 fortran77 p) (is_nest : Contains (found_in p) (InNest n))
+module _ (p r : Program) (n m : Nest) (s : State) (program : IsProgram77 fortran77 p)
+    (is_nest : Contains (found_in p) (InNest n))
     (made : normalised n ≡ Some m) (alone : HasLoopsAlone m.body) (add : AddMadeNames p.declarations r.declarations)
     (counters : All (λ (l : Loop). IsSomeAnd (declared r.declarations l.variable) IsCounter) (nest_loops m))
-    (holds : HoldsProgram fortran77 r s.store) (going : s.way ≡ Going) (sound : IsSound (does_all fortran77 None (block_of_nest m) s).way) where
+    (holds : HoldsProgram fortran77 r s.store) (going : s.way ≡ Going)
+    (sound : IsSound (does_all fortran77 None (block_of_nest m) s).way) where
   found : IsFoundNest p n
   found = found_nest_is_loop p n is_nest
 
@@ -112,14 +114,17 @@ module _ (p r : Program) (n m : Nest) (s : State) (program : IsProgram77 fortran
 
   block_is : block_of_nest m ≡ statement body m.after
   block_is =
-      ap (λ (ms : List Made). allocations_then m.line ms (statement body (block_then m.after (deallocations m.line ms)))) nothing_made
+      ap (λ (ms : List Made). allocations_then m.line ms
+      (statement body (block_then m.after (deallocations m.line ms)))) nothing_made
       ∙ ap (statement body) (then_nothing m.after)
 
   whole : does_all fortran77 None (block_of_nest m) s ≡ does_all fortran77 None m.after first
   whole = ap (λ (b : Block). does_all fortran77 None b s) block_is
 
   goes : first.way ≡ Going
-  goes = goes_if_sound 31 m.line m.body s plain.1 going (sound_before 31 m.after ends first (subst (λ (t : State). IsSound t.way) whole sound))
+  goes =
+      goes_if_sound 31 m.line m.body s plain.1 going
+      (sound_before 31 m.after ends first (subst (λ (t : State). IsSound t.way) whole sound))
 
   -- ---- the values of the symbols
 
@@ -129,9 +134,15 @@ module _ (p r : Program) (n m : Nest) (s : State) (program : IsProgram77 fortran
   symbol_number : (k : ℕ) (x : List ℕ) → nth_of m.symbols k ≡ Some x → IsNumber r.declarations x
   symbol_number k x e =
       let l = found.loop.loop.loop in
-      let those = subst (λ (ys : List (List ℕ)). nth_of ys k ≡ Some x) (parts.symbols ∙ ap (λ (j : Nest). j.symbols) found.is) e in
+      let those = subst (λ (ys : List (List ℕ)). nth_of ys k ≡ Some x)
+      (parts.symbols ∙ ap (λ (j : Nest). j.symbols) found.is) e in
       let d = symbol_is_number p.declarations program.declarations.ordered l.variable l.body k x those in
-      record { declaration = d.declaration; is = kept_declaration p.declarations r.declarations add x d.declaration d.is; kind = d.kind; extent = d.extent }
+      record {
+        declaration = d.declaration;
+        is = kept_declaration p.declarations r.declarations add x d.declaration d.is;
+        kind = d.kind;
+        extent = d.extent;
+      }
 
   symbol_holds : (k : ℕ) (x : List ℕ) → nth_of m.symbols k ≡ Some x → HoldsNumber s.store x (values k)
   symbol_holds k x e =
@@ -141,7 +152,9 @@ module _ (p r : Program) (n m : Nest) (s : State) (program : IsProgram77 fortran
   symbol_sized : (k : ℕ) (x : List ℕ) → nth_of m.symbols k ≡ Some x → nat_abs (values k) ≤ 2 ^ 63
   symbol_sized k x e =
       let d = symbol_number k x e in
-      let value = subst (λ (o : Option Declaration). IfSome o (λ (c : Declaration). IsStorable fortran77 c.kind (s.store.held (variable_cell x)))) d.is (holds.kinds (variable_cell x)) in
+      let value = subst (λ (o : Option Declaration). IfSome o
+      (λ (c : Declaration). IsStorable fortran77 c.kind (s.store.held (variable_cell x))))
+      d.is (holds.kinds (variable_cell x)) in
       sized (values k) (subst (λ (v : Value). is_in_range 31 v ≡ true) (symbol_holds k x e).held value.within)
 
   -- ---- its instances
@@ -165,9 +178,12 @@ module _ (p r : Program) (n m : Nest) (s : State) (program : IsProgram77 fortran
   same = statement_is_of_shape m.line m.body m.symbols (linear_in m) (turns_in m) plain.1 once
 
   in_setting : IsNestIn 31 (run_nest m) setting
-  in_setting = facts_suffice 31 (run_nest m) setting (normal_nest_has_facts p n m setting program is_nest made plain.1 plain.2 is_setting)
+  in_setting =
+      facts_suffice 31 (run_nest m) setting
+      (normal_nest_has_facts p n m setting program is_nest made plain.1 plain.2 is_setting)
 
-  ran : (u : Store) × (runs (acts (run_nest m) fortran77) (instances ((run_nest m).turns_of values) (run_nest m).shape []) s.store ≡ Ok u)
+  ran : (u : Store) × (runs (acts (run_nest m) fortran77)
+      (instances ((run_nest m).turns_of values) (run_nest m).shape []) s.store ≡ Ok u)
       × Near (run_nest m) u (does fortran77 None written s).store
   ran =
       run_is_instances 31 (run_nest m) setting (layout_of m.line m.body) s in_setting held
@@ -180,7 +196,8 @@ module _ (p r : Program) (n m : Nest) (s : State) (program : IsProgram77 fortran
 
   over : AreEndingsOver IsShort m.after
   over = subst (AreEndingsOver IsShort) (sym after_is)
-      (values_over IsShort n.line n.symbols (each_from IsShort n.symbols (λ y i. (sources.symbols y i).1)) (loops_in n) n.body (nested_short r.declarations n.symbols [] n.body tt plain.0 sources.body))
+      (values_over IsShort n.line n.symbols (each_from IsShort n.symbols (λ y i. (sources.symbols y i).1))
+      (loops_in n) n.body (nested_short r.declarations n.symbols [] n.body tt plain.0 sources.body))
 
   apart : (c : Cell) → IsShort c.name → is_variable (run_nest m) c ≡ false
   apart c short = no_variable n m parts plain.1 c (no_counter n m parts c.name short)
@@ -197,7 +214,8 @@ module _ (p r : Program) (n m : Nest) (s : State) (program : IsProgram77 fortran
   after_goes : (does_all fortran77 None m.after first).way ≡ Going
   after_goes = ending_goes 31 m.line m.after first ends goes (subst (λ (t : State). IsSound t.way) whole sound)
 
-  from_left : GoesOnNear (run_nest m) (does_all fortran77 None m.after first) (does_all fortran77 None m.after after_instances)
+  from_left : GoesOnNear (run_nest m) (does_all fortran77 None m.after first)
+      (does_all fortran77 None m.after after_instances)
   from_left = all_end 31 (run_nest m) IsShort apart false m.after first after_instances over
       (record { way = going; near = near_back (run_nest m) left first.store near_first }) after_goes
 
@@ -206,17 +224,22 @@ module _ (p r : Program) (n m : Nest) (s : State) (program : IsProgram77 fortran
     loops_go =
         let e = loops_end arrays (run_nest m) setting (layout_of m.line m.body) s in_setting held going
         (subst (λ (c : Statement). (does fortran77 None c s).way ≡ Going) same goes) left ran.1 in
-        subst (λ (c : Statement). GoesOnNear (run_nest m) after_instances (does (dialect 31 arrays) None c s)) (sym same) (record { way = e.0; near = e.1 })
+        subst (λ (c : Statement). GoesOnNear (run_nest m) after_instances (does (dialect 31 arrays) None c s))
+        (sym same) (record { way = e.0; near = e.1 })
 
-    block_goes : GoesOnNear (run_nest m) (does_all fortran77 None m.after after_instances) (does_all (dialect 31 arrays) None (block_of_nest m) s)
+    block_goes : GoesOnNear (run_nest m) (does_all fortran77 None m.after after_instances)
+        (does_all (dialect 31 arrays) None (block_of_nest m) s)
     block_goes =
-        subst (λ (b : Block). GoesOnNear (run_nest m) (does_all fortran77 None m.after after_instances) (does_all (dialect 31 arrays) None b s)) (sym block_is)
-        (all_end 31 (run_nest m) IsShort apart arrays m.after after_instances (does (dialect 31 arrays) None body s) over loops_go from_left.way)
+        subst (λ (b : Block). GoesOnNear (run_nest m) (does_all fortran77 None m.after after_instances)
+        (does_all (dialect 31 arrays) None b s)) (sym block_is)
+        (all_end 31 (run_nest m) IsShort apart arrays m.after after_instances
+        (does (dialect 31 arrays) None body s) over loops_go from_left.way)
 
     same_lines : SameLines s (does_all (dialect 31 arrays) None (block_of_nest m) s)
     same_lines =
         subst (λ (b : Block). SameLines s (does_all (dialect 31 arrays) None b s)) (sym block_is)
-        (quiet_statements_keep_lines (dialect 31 arrays) None (statement body m.after) s (part_quiet m.line m.body plain.1, endings_quiet m.after ends))
+        (quiet_statements_keep_lines (dialect 31 arrays) None (statement body m.after) s
+        (part_quiet m.line m.body plain.1, endings_quiet m.after ends))
 
   is_run : IsRunOfInstances m s
   is_run = record {

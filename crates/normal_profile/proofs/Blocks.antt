@@ -1,6 +1,6 @@
 -- The normal form of a nest that was found, written in its loops, is a block of the profile.
-use Rattle.std.proofs.Common.{◌≡◌, refl, sym, ap, ◌∙◌, subst, ◌⊎◌, inl, inr, ℕ, ◌+◌, ◌≤◌, Bool, true, false, ◌||◌, List, []}
-use Rattle.std.proofs.Common.{◌∷◌, Option, Some, None, Contains, arith}
+use Rattle.std.proofs.Common.{◌≡◌, refl, sym, ap, ◌∙◌, subst, ◌⊎◌, inl, inr, ℕ, ◌+◌, ◌≤◌, Bool, true, false, ◌||◌, List}
+use Rattle.std.proofs.Common.{[], ◌∷◌, Option, Some, None, Contains, arith}
 use Rattle.std.specs.Option.{IsSomeAnd}
 use Rattle.std.specs.Prelude.{All}
 use Rattle.std.specs.Str.{bytes_eq}
@@ -61,14 +61,16 @@ among : (xs : List (List ℕ)) (x : List ℕ) → In x xs → is_among xs x ≡ 
 among [] x i = absurd i
 among (y ∷ xs) x i = by (bytes_eq y x) refl i (among xs x)
   where
-    by : (b : Bool) → bytes_eq y x ≡ b → (x ≡ y) ⊎ In x xs → (In x xs → is_among xs x ≡ true) → (b || is_among xs x) ≡ true
+    by : (b : Bool) → bytes_eq y x ≡ b → (x ≡ y) ⊎ In x xs → (In x xs → is_among xs x ≡ true)
+        → (b || is_among xs x) ≡ true
     by true e j rest = refl
     by false e (inl same) rest =
         let yes : bytes_eq y x ≡ true = (bytes_eq-Decides y x).1 (sym same) in
         let no : ⊥ = cc in absurd no
     by false e (inr j) rest = rest j
 
-counter_integer : (o : Option Declaration) → IsSomeAnd o IsCounter → IsSomeAnd o (λ (d : Declaration). (d.kind ≡ Integer) × (rank_of_extent d.extent ≡ 0))
+counter_integer : (o : Option Declaration) → IsSomeAnd o IsCounter
+    → IsSomeAnd o (λ (d : Declaration). (d.kind ≡ Integer) × (rank_of_extent d.extent ≡ 0))
 counter_integer None h = absurd h
 counter_integer (Some e) h = (h.kind, ap rank_of_extent h.scalar)
 
@@ -82,7 +84,8 @@ then_nothing : (b : Block) → block_then b no_statements ≡ b
 then_nothing no_statements = refl
 then_nothing (statement c cs) = ap (λ (b : Block). statement c b) (then_nothing cs)
 
-module _ (p : Program) (n m : Nest) (found : IsFoundNest p n) (is : IsProgram77 fortran77 p) (among_found : Contains (found_in p) (InNest n))
+module _ (p : Program) (n m : Nest) (found : IsFoundNest p n) (is : IsProgram77 fortran77 p)
+    (among_found : Contains (found_in p) (InNest n))
     (alone : HasLoopsAlone n.body) (made : normalised n ≡ Some m) where
   text : texts.IsMadeOf n m
   text = texts.made_of n m made
@@ -101,7 +104,8 @@ module _ (p : Program) (n m : Nest) (found : IsFoundNest p n) (is : IsProgram77 
 
   block_is : block_of_nest m ≡ block_then (written n.line body) (behind n)
   block_is =
-      ap (λ (ms : List Made). allocations_then m.line ms (statement (statement_of_part m.line m.body) (block_then m.after (deallocations m.line ms)))) nothing_made
+      ap (λ (ms : List Made). allocations_then m.line ms
+      (statement (statement_of_part m.line m.body) (block_then m.after (deallocations m.line ms)))) nothing_made
       ∙ (ap (λ (b : Block). statement (statement_of_part m.line m.body) b) (then_nothing m.after ∙ after)
       ∙ (ap (λ (k : ℕ). statement (statement_of_part k m.body) (behind n)) text.line
       ∙ ap (λ (ps : List Part). block_then (written n.line ps) (behind n)) (sym parts_made.body)))
@@ -112,11 +116,13 @@ module _ (p : Program) (n m : Nest) (found : IsFoundNest p n) (is : IsProgram77 
   pub unlabelled : IsWithoutLabels (block_of_nest m)
   unlabelled =
       subst IsWithoutLabels (sym block_is)
-      (then_without (written n.line body) (behind n) body_unlabelled (endings_unlabelled (behind n) (last_values_end n)))
+      (then_without (written n.line body) (behind n) body_unlabelled
+      (endings_unlabelled (behind n) (last_values_end n)))
 
   module _ (r : Program) (w : Surroundings) (added : AddMadeNames p.declarations r.declarations)
       (counters : All (λ (l : Loop). IsSomeAnd (declared r.declarations l.variable) IsCounter) (nest_loops m))
-      (round : AreSourceNames w.variables) (source : IsStatement p.declarations (as_statement found.loop.loop.loop) w) where
+      (round : AreSourceNames w.variables)
+      (source : IsStatement p.declarations (as_statement found.loop.loop.loop) w) where
     abbrev es : List Declaration
     es = r.declarations
 
@@ -160,20 +166,31 @@ module _ (p : Program) (n m : Nest) (found : IsFoundNest p n) (is : IsProgram77 
 
     inner : AreInner es w (loops_in n)
     inner = record {
-      each = each_in (λ (l : NestedLoop). IsIntegerScalar es l.turns.counter × (Contains w.variables l.turns.counter → ⊥)) (loops_in n)
-          (λ l i. let j = map-In (λ (l : NestedLoop). l.turns.counter) l (loops_in n) i in
-          (counter_integer (declared es l.turns.counter) (all_in (λ x. IsSomeAnd (declared es x) IsCounter) (counters_in n) those l.turns.counter j), apart l.turns.counter j));
+      each =
+          each_in (λ (l : NestedLoop). IsIntegerScalar es l.turns.counter × (Contains w.variables l.turns.counter → ⊥))
+          (loops_in n)
+          (λ l i. let j = map-In (λ (l : NestedLoop). l.turns.counter) l (loops_in n) i in (
+            counter_integer (declared es l.turns.counter)
+                (all_in (λ x. IsSomeAnd (declared es x) IsCounter)
+                (counters_in n) those l.turns.counter j),
+            apart l.turns.counter j,
+          ));
       once = straight.once;
     }
 
     -- ---- the loops
 
-    both : EachIn (BothStatement (IsSource es n.symbols) (IsSoundStatement es w) (IsSourceLoop es n.symbols) (IsSoundLoop w))
+    both : EachIn (BothStatement (IsSource es n.symbols) (IsSoundStatement es w) (IsSourceLoop es n.symbols)
+        (IsSoundLoop w))
         (λ (l : Loop). IsSourceLoop es n.symbols l × IsSoundLoop w l) n.body
-    both = each_both (IsSource es n.symbols) (IsSoundStatement es w) (IsSourceLoop es n.symbols) (IsSoundLoop w) n.body sources.body sound
+    both =
+        each_both (IsSource es n.symbols) (IsSoundStatement es w) (IsSourceLoop es n.symbols)
+        (IsSoundLoop w) n.body sources.body sound
 
     deep : EachIn (IsDeep d) AnyLoop n.body
-    deep = subst (λ (k : Nest). EachIn (IsDeep d) AnyLoop k.body) (sym found.is) (body_deep d found.loop.loop (more d d d (omega arith) (omega arith)))
+    deep =
+        subst (λ (k : Nest). EachIn (IsDeep d) AnyLoop k.body) (sym found.is)
+        (body_deep d found.loop.loop (more d d d (omega arith) (omega arith)))
 
     abbrev Both : Guarded → Type 0
     Both s = IsSource es n.symbols s × IsSoundStatement es w s
@@ -193,7 +210,8 @@ module _ (p : Program) (n m : Nest) (found : IsFoundNest p n) (is : IsProgram77 
 
     behind_is : IsBlock es (behind n) w
     behind_is =
-        last_values_are es w n.line line n.symbols symbols (λ (s : Guarded). IsSource es n.symbols s × IsSoundStatement es w s) n.body both
+        last_values_are es w n.line line n.symbols symbols
+        (λ (s : Guarded). IsSource es n.symbols s × IsSoundStatement es w s) n.body both
 
     low : IsLowBlock n.line n.symbols n.body
     low = last_values_low n.line n.symbols n.body alone
@@ -210,17 +228,21 @@ module _ (p : Program) (n m : Nest) (found : IsFoundNest p n) (is : IsProgram77 
     whole = block_then (written n.line body) (behind n)
 
     whole_is : IsBlock es whole w
-    whole_is = then_is es (written n.line body) (behind n) w (no_labels (written n.line body) body_unlabelled) (endings_no_label (behind n) (last_values_end n)) good.is behind_is
+    whole_is =
+        then_is es (written n.line body) (behind n) w (no_labels (written n.line body) body_unlabelled)
+        (endings_no_label (behind n) (last_values_end n)) good.is behind_is
 
     whole_deep : IsWithinRise loop whole
     whole_deep = record {
-      expressions = then_expressions (written n.line body) (behind n) (d + expression_rise) good.expressions (within (deepest_in (behind n)) low.expressions);
+      expressions = then_expressions (written n.line body) (behind n) (d + expression_rise) good.expressions
+          (within (deepest_in (behind n)) low.expressions);
       blocks = then_blocks (written n.line body) (behind n) (blocks_of loop)
           (more (blocks_in (written n.line body)) (height n.body) (blocks_of loop) good.blocks high)
           (more (blocks_in (behind n)) (height n.body) (blocks_of loop) low.blocks high);
     }
 
-    pub block_is_of : IsBlock es (block_of_nest m) w × IsWithoutLabels (block_of_nest m) × IsWithinRise loop (block_of_nest m)
+    pub block_is_of : IsBlock es (block_of_nest m) w × IsWithoutLabels (block_of_nest m)
+        × IsWithinRise loop (block_of_nest m)
     block_is_of = (
       subst (λ (b : Block). IsBlock es b w) (sym block_is) whole_is,
       unlabelled,

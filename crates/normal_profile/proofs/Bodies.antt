@@ -16,8 +16,7 @@ use Rattle.fv_meaning.specs.Value.{named}
 use Rattle.fv_rewrite.specs.Making.{made}
 use Rattle.fv_rewrite.specs.Profile.{deepest_in}
 use Rattle.fv_tree.specs.Limits.{expression_depth90}
-use Rattle.fv_tree.specs.Plain.{Block, Declaration, Do, Expression, If, Number, arm, no_arms, no_statements}
-use Rattle.fv_tree.specs.Plain.{statement}
+use Rattle.fv_tree.specs.Plain.{Block, Declaration, Do, Expression, If, Number, arm, no_arms, no_statements, statement}
 use Rattle.fv_tree.specs.declared.ops.Kind.TheVariants.{Integer}
 use Rattle.fv_tree.specs.declared.ops.Op.TheVariants.{Ge}
 use Rattle.last_values.specs.Behind.{stands_behind}
@@ -39,7 +38,8 @@ use Rattle.nest_profile.proofs.TextKinds.{IsTest, at_least_is, quotient_is, text
 use Rattle.nest_rewrite.specs.Rewritten.{rewritten_statement}
 use Rattle.nest_translation.proofs.Pieces.{then_no_label}
 use Rattle.nest_tree.specs.Blocks.{assignment_of, block_then, under_guard}
-use Rattle.nest_tree.specs.Plain.{Choice, Guarded, Jump, Label, Loop, Nest, Part, Parts, Run, Turns, no_parts, part, parts}
+use Rattle.nest_tree.specs.Plain.{Choice, Guarded, Jump, Label, Loop, Nest, Part, Parts, Run, Turns, no_parts, part}
+use Rattle.nest_tree.specs.Plain.{parts}
 use Rattle.normal_facts.proofs.FoundStatements.{IsShort, IsSource, IsSourceLoop}
 use Rattle.normal_facts.proofs.LoopLimits.{loop_has_limits}
 use Rattle.normal_facts.proofs.MadeStatements.{counter_long}
@@ -60,29 +60,37 @@ use Rattle.normal_profile.proofs.Unlabelled.{written, written_joined}
 
 -- ---- a statement keeps its line and its name, and gets no guard
 
-name_kept : (symbols : List (List ℕ)) (outer rs : List NormalLoop) (s : Guarded) → (statement_with_values symbols outer rs s).left.name ≡ s.left.name
+name_kept : (symbols : List (List ℕ)) (outer rs : List NormalLoop) (s : Guarded)
+    → (statement_with_values symbols outer rs s).left.name ≡ s.left.name
 name_kept symbols outer [] s = refl
-name_kept symbols outer (r ∷ rs) s = name_kept symbols (outer ++ r ∷ []) rs (rewritten_statement (with_value symbols outer r) s)
+name_kept symbols outer (r ∷ rs) s =
+    name_kept symbols (outer ++ r ∷ []) rs (rewritten_statement (with_value symbols outer r) s)
 
-normal_name : (symbols : List (List ℕ)) (round : List NormalLoop) (s : Guarded) → (normal_statement symbols round s).left.name ≡ s.left.name
+normal_name : (symbols : List (List ℕ)) (round : List NormalLoop) (s : Guarded)
+    → (normal_statement symbols round s).left.name ≡ s.left.name
 unfolding normal_statement
 normal_name symbols round s = name_kept symbols [] round s
 
-line_kept : (symbols : List (List ℕ)) (outer rs : List NormalLoop) (s : Guarded) → (statement_with_values symbols outer rs s).line ≡ s.line
+line_kept : (symbols : List (List ℕ)) (outer rs : List NormalLoop) (s : Guarded)
+    → (statement_with_values symbols outer rs s).line ≡ s.line
 line_kept symbols outer [] s = refl
-line_kept symbols outer (r ∷ rs) s = line_kept symbols (outer ++ r ∷ []) rs (rewritten_statement (with_value symbols outer r) s)
+line_kept symbols outer (r ∷ rs) s =
+    line_kept symbols (outer ++ r ∷ []) rs (rewritten_statement (with_value symbols outer r) s)
 
-normal_line : (symbols : List (List ℕ)) (round : List NormalLoop) (s : Guarded) → (normal_statement symbols round s).line ≡ s.line
+normal_line : (symbols : List (List ℕ)) (round : List NormalLoop) (s : Guarded)
+    → (normal_statement symbols round s).line ≡ s.line
 unfolding normal_statement
 normal_line symbols round s = line_kept symbols [] round s
 
-guard_kept : (symbols : List (List ℕ)) (outer rs : List NormalLoop) (s : Guarded) → s.guard ≡ None → (statement_with_values symbols outer rs s).guard ≡ None
+guard_kept : (symbols : List (List ℕ)) (outer rs : List NormalLoop) (s : Guarded) → s.guard ≡ None
+    → (statement_with_values symbols outer rs s).guard ≡ None
 guard_kept symbols outer [] s h = h
 guard_kept symbols outer (r ∷ rs) s h =
     guard_kept symbols (outer ++ r ∷ []) rs (rewritten_statement (with_value symbols outer r) s)
     (ap (λ (o : Option Expression). option_map (made (with_value symbols outer r)) o) h)
 
-normal_guard : (symbols : List (List ℕ)) (round : List NormalLoop) (s : Guarded) → s.guard ≡ None → (normal_statement symbols round s).guard ≡ None
+normal_guard : (symbols : List (List ℕ)) (round : List NormalLoop) (s : Guarded) → s.guard ≡ None
+    → (normal_statement symbols round s).guard ≡ None
 unfolding normal_statement
 normal_guard symbols round s h =
     ap (λ (o : Option Expression). option_map (made (in_text symbols round)) o) (guard_kept symbols [] round s h)
@@ -127,7 +135,8 @@ module _ (es : List Declaration) (d : ℕ) (shallow : d ≤ deepest) where
   nothing_good h v = record { is = tt; bare = tt; expressions = least (d + expression_rise); blocks = least h }
 
   higher : (h k : ℕ) (b : Block) (v : Surroundings) → h ≤ k → IsGood h b v → IsGood k b v
-  higher h k b v l g = record { is = g.is; bare = g.bare; expressions = g.expressions; blocks = more (blocks_in b) h k g.blocks l }
+  higher h k b v l g =
+      record { is = g.is; bare = g.bare; expressions = g.expressions; blocks = more (blocks_in b) h k g.blocks l }
 
   then_good : (h : ℕ) (a b : Block) (v : Surroundings) → IsGood h a v → IsGood h b v → IsGood h (block_then a b) v
   then_good h a b v f g = record {
@@ -137,10 +146,14 @@ module _ (es : List Declaration) (d : ℕ) (shallow : d ≤ deepest) where
     blocks = then_blocks a b h f.blocks g.blocks;
   }
 
-  joined : (line h : ℕ) (ps qs : List Part) (v : Surroundings) → IsGood h (written line ps) v → IsGood h (written line qs) v → IsGood h (written line (ps ++ qs)) v
-  joined line h ps qs v f g = subst (λ (b : Block). IsGood h b v) (sym (written_joined line ps qs)) (then_good h (written line ps) (written line qs) v f g)
+  joined : (line h : ℕ) (ps qs : List Part) (v : Surroundings) → IsGood h (written line ps) v
+      → IsGood h (written line qs) v → IsGood h (written line (ps ++ qs)) v
+  joined line h ps qs v f g =
+      subst (λ (b : Block). IsGood h b v) (sym (written_joined line ps qs))
+      (then_good h (written line ps) (written line qs) v f g)
 
-  assignment_is : (g : Guarded) (v : Surroundings) → IsScalarAssignment es g (d + expression_rise) → (Contains v.variables g.left.name → ⊥) → IsAssignment es g.left g.right v
+  assignment_is : (g : Guarded) (v : Surroundings) → IsScalarAssignment es g (d + expression_rise)
+      → (Contains v.variables g.left.name → ⊥) → IsAssignment es g.left g.right v
   assignment_is g v a free = (by (declared es g.left.name) a.found, inl a.right.1, free)
     where
       by : (o : Option Declaration) → IsSomeAnd o (λ (c : Declaration). c.kind ≡ a.kind)
@@ -152,7 +165,8 @@ module _ (es : List Declaration) (d : ℕ) (shallow : d ≤ deepest) where
             record { suits = a.right.0; depth = within_limit (depth_of g.right) d a.right_depth shallow },
           )
 
-  assigned_good : (g : Guarded) (v : Surroundings) → IsLine g.line → IsScalarAssignment es g (d + expression_rise) → (Contains v.variables g.left.name → ⊥)
+  assigned_good : (g : Guarded) (v : Surroundings) → IsLine g.line → IsScalarAssignment es g (d + expression_rise)
+      → (Contains v.variables g.left.name → ⊥)
       → IsGood 0 (statement (assignment_of g) no_statements) v
   assigned_good g v line a free = record {
     is = one_is es (assignment_of g) v ((line, tt), assignment_is g v a free);
@@ -162,13 +176,17 @@ module _ (es : List Declaration) (d : ℕ) (shallow : d ≤ deepest) where
     blocks = omega arith;
   }
 
-  run_good : (line : ℕ) (g : Guarded) (v : Surroundings) → g.guard ≡ None → IsLine g.line → IsScalarAssignment es g (d + expression_rise) → (Contains v.variables g.left.name → ⊥)
+  run_good : (line : ℕ) (g : Guarded) (v : Surroundings) → g.guard ≡ None → IsLine g.line
+      → IsScalarAssignment es g (d + expression_rise) → (Contains v.variables g.left.name → ⊥)
       → IsGood 0 (written line (Run g ∷ [])) v
   run_good line g v none at a free =
-      subst (λ (o : Option Expression). IsGood 0 (statement (under_guard g.line o (assignment_of g)) no_statements) v) (sym none) (assigned_good g v at a free)
+      subst (λ (o : Option Expression). IsGood 0 (statement (under_guard g.line o (assignment_of g)) no_statements) v)
+      (sym none) (assigned_good g v at a free)
 
-  loop_good : (line h : ℕ) (x : List ℕ) (t : Expression) (b : Block) (v : Surroundings) → IsLine line → IsIntegerScalar es x → (Contains v.variables x → ⊥)
-      → IsNumber es t → depth_of t ≤ 200 → IsGood h b (within_loop x v) → IsGood (1 + h) (statement (Do line x (Number (pos 1)) t (Number (pos 1)) b) no_statements) v
+  loop_good : (line h : ℕ) (x : List ℕ) (t : Expression) (b : Block) (v : Surroundings) → IsLine line
+      → IsIntegerScalar es x → (Contains v.variables x → ⊥)
+      → IsNumber es t → depth_of t ≤ 200 → IsGood h b (within_loop x v)
+      → IsGood (1 + h) (statement (Do line x (Number (pos 1)) t (Number (pos 1)) b) no_statements) v
   loop_good line h x t b v at integer free is deep g = record {
     is = one_is es (Do line x (Number (pos 1)) t (Number (pos 1)) b) v (
       at,
@@ -179,11 +197,13 @@ module _ (es : List Declaration) (d : ℕ) (shallow : d ≤ deepest) where
       g.is,
     );
     bare = (tt, tt);
-    expressions = loop_deep (depth_of t) (deepest_in b) (d + expression_rise) (within_rise (depth_of t) 200 d deep (omega arith)) g.expressions;
+    expressions = loop_deep (depth_of t) (deepest_in b) (d + expression_rise)
+        (within_rise (depth_of t) 200 d deep (omega arith)) g.expressions;
     blocks = loop_high (blocks_in b) h g.blocks;
   }
 
-  only_where_good : (line : ℕ) (test : Expression) (b : Block) (v : Surroundings) → IsLine line → IsTest es test → depth_of test ≤ 200 → IsGood 0 b v
+  only_where_good : (line : ℕ) (test : Expression) (b : Block) (v : Surroundings) → IsLine line → IsTest es test
+      → depth_of test ≤ 200 → IsGood 0 b v
       → IsGood 1 (statement (If line (arm test b no_arms) no_statements) no_statements) v
   only_where_good line test b v at is deep g = record {
     is = one_is es (If line (arm test b no_arms) no_statements) v (
@@ -193,12 +213,14 @@ module _ (es : List Declaration) (d : ℕ) (shallow : d ≤ deepest) where
       tt,
     );
     bare = (tt, tt);
-    expressions = only_deep (depth_of test) (deepest_in b) (d + expression_rise) (within_rise (depth_of test) 200 d deep (omega arith)) g.expressions;
+    expressions = only_deep (depth_of test) (deepest_in b) (d + expression_rise)
+        (within_rise (depth_of test) 200 d deep (omega arith)) g.expressions;
     blocks = only_high (blocks_in b) g.blocks;
   }
 
   -- a variable gets its value in place
-  place_is : (line : ℕ) (x : List ℕ) (e : Expression) → IsIntegerScalar es x → IsNumber es e → depth_of e ≤ 200 → IsScalarAssignment es (assigning line x e) (d + expression_rise)
+  place_is : (line : ℕ) (x : List ℕ) (e : Expression) → IsIntegerScalar es x → IsNumber es e → depth_of e ≤ 200
+      → IsScalarAssignment es (assigning line x e) (d + expression_rise)
   place_is line x e i number deep = record {
     kind = Integer;
     found = kind_of (declared es x) i;
@@ -212,17 +234,21 @@ module _ (es : List Declaration) (d : ℕ) (shallow : d ≤ deepest) where
       kind_of None h = absurd h
       kind_of (Some c) h = h.0
 
-      named_kind : (o : Option Declaration) → IsSomeAnd o IsInteger → IsSomeAnd o (λ (c : Declaration). (Integer ≡ c.kind) × Unit {0})
+      named_kind : (o : Option Declaration) → IsSomeAnd o IsInteger
+          → IsSomeAnd o (λ (c : Declaration). (Integer ≡ c.kind) × Unit {0})
       named_kind None h = absurd h
       named_kind (Some c) h = (sym h.0, tt)
 
-      named_rank : (o : Option Declaration) → IsSomeAnd o IsInteger → ◌≡◌ {A = ℕ} (elim o [ None ↦ 0 | Some c ↦ rank_of_extent c.extent ]) 0
+      named_rank : (o : Option Declaration) → IsSomeAnd o IsInteger
+          → ◌≡◌ {A = ℕ} (elim o [ None ↦ 0 | Some c ↦ rank_of_extent c.extent ]) 0
       named_rank None h = absurd h
       named_rank (Some c) h = h.1
 
-  in_place : (line : ℕ) (x : List ℕ) (e : Expression) (v : Surroundings) → IsLine line → IsIntegerScalar es x → (Contains v.variables x → ⊥) → IsNumber es e → depth_of e ≤ 200
+  in_place : (line : ℕ) (x : List ℕ) (e : Expression) (v : Surroundings) → IsLine line → IsIntegerScalar es x
+      → (Contains v.variables x → ⊥) → IsNumber es e → depth_of e ≤ 200
       → IsGood 0 (written line (assigned_part line x e ∷ [])) v
-  in_place line x e v at i free number deep = assigned_good (assigning line x e) v at (place_is line x e i number deep) free
+  in_place line x e v at i free number deep =
+      assigned_good (assigning line x e) v at (place_is line x e i number deep) free
 
 -- ---- loops with counters of their own
 
@@ -270,7 +296,8 @@ module _ (es : List Declaration) where
   }
 
   -- in one of them
-  inner_within : (v : Surroundings) (x : List ℕ) (ls : List NestedLoop) → Each (IsInner v) ls → Each (λ y. ¬ (x ≡ y)) (counters ls) → Each (IsInner (within_loop x v)) ls
+  inner_within : (v : Surroundings) (x : List ℕ) (ls : List NestedLoop) → Each (IsInner v) ls
+      → Each (λ y. ¬ (x ≡ y)) (counters ls) → Each (IsInner (within_loop x v)) ls
   inner_within v x [] h d = tt
   inner_within v x (l ∷ ls) h d = ((h.0.0, outside), inner_within v x ls h.1 d.1)
     where
@@ -281,12 +308,14 @@ module _ (es : List Declaration) where
       outside : Contains (x ∷ v.variables) l.turns.counter → ⊥
       outside c = by (cases_of x v.variables l.turns.counter c)
 
-  inner_more : (v : Surroundings) (l : NestedLoop) (ls : List NestedLoop) → AreInner v (l ∷ ls) → AreInner (within_loop l.turns.counter v) ls
+  inner_more : (v : Surroundings) (l : NestedLoop) (ls : List NestedLoop) → AreInner v (l ∷ ls)
+      → AreInner (within_loop l.turns.counter v) ls
   inner_more v l ls h = record { each = inner_within v l.turns.counter ls h.each.1 h.once.0; once = h.once.1 }
 
 -- ---- the body
 
-module _ (es : List Declaration) (d : ℕ) (shallow : d ≤ deepest) (n : Nest) (w : Surroundings) (line : IsLine n.line) (are : lists.Each (IsIntegerScalar es) n.symbols) (all : List NestedLoop) where
+module _ (es : List Declaration) (d : ℕ) (shallow : d ≤ deepest) (n : Nest) (w : Surroundings) (line : IsLine n.line)
+    (are : lists.Each (IsIntegerScalar es) n.symbols) (all : List NestedLoop) where
   abbrev symbols : List (List ℕ)
   symbols = n.symbols
 
@@ -304,7 +333,8 @@ module _ (es : List Declaration) (d : ℕ) (shallow : d ≤ deepest) (n : Nest) 
     pub sizes : lists.Each HasSizes round
     pub outside : (x : List ℕ) → IsShort x → (Contains w.variables x → ⊥) → Contains v.variables x → ⊥
 
-  counters_are : (round : List NormalLoop) → lists.Each (IsTypedLoop es) round → lists.Each (IsIntegerScalar es) (counters_of round)
+  counters_are : (round : List NormalLoop) → lists.Each (IsTypedLoop es) round
+      → lists.Each (IsIntegerScalar es) (counters_of round)
   counters_are [] h = tt
   counters_are (r ∷ rs) h = (h.0.0, counters_are rs h.1)
 
@@ -312,18 +342,30 @@ module _ (es : List Declaration) (d : ℕ) (shallow : d ≤ deepest) (n : Nest) 
     -- ---- a statement
 
     at_depth : (s : Guarded) → Source s → IsScalarAssignment es s d
-    at_depth s h = let a = h.0.1.scalars in record { kind = a.kind; found = a.found; left = a.left; right = a.right; left_depth = h.1.left; right_depth = h.1.right }
+    at_depth s h =
+        let a = h.0.1.scalars in
+        record {
+          kind = a.kind;
+          found = a.found;
+          left = a.left;
+          right = a.right;
+          left_depth = h.1.left;
+          right_depth = h.1.right;
+        }
 
-    statement_good : (s : Guarded) → s.guard ≡ None → Source s → IsGood es d shallow 0 (written n.line (Run (normal_statement symbols round s) ∷ [])) v
+    statement_good : (s : Guarded) → s.guard ≡ None → Source s
+        → IsGood es d shallow 0 (written n.line (Run (normal_statement symbols round s) ∷ [])) v
     statement_good s none h =
         run_good es d shallow n.line (normal_statement symbols round s) v (normal_guard symbols round s none)
         (subst IsLine (sym (normal_line symbols round s)) h.0.1.line)
         (normal_assignment es symbols are round s d u.few u.typed u.sizes (at_depth s h))
-        (subst (λ (x : List ℕ). Contains v.variables x → ⊥) (sym (normal_name symbols round s)) (u.outside s.left.name h.0.0.over.name h.0.1.outside))
+        (subst (λ (x : List ℕ). Contains v.variables x → ⊥) (sym (normal_name symbols round s))
+        (u.outside s.left.name h.0.0.over.name h.0.1.outside))
 
     -- ---- a loop, with its variable's last value
 
-    module _ (l : Loop) (r : NormalLoop) (fair : Fair l) (is : normal_loop symbols round l ≡ Some r) (integer : IsIntegerScalar es r.counter) where
+    module _ (l : Loop) (r : NormalLoop) (fair : Fair l) (is : normal_loop symbols round l ≡ Some r)
+        (integer : IsIntegerScalar es r.counter) where
       form : IsNormalLoop (length round) l r
       form = normal_loop_is symbols round l r u.zeros is
 
@@ -331,7 +373,9 @@ module _ (es : List Declaration) (d : ℕ) (shallow : d ≤ deepest) (n : Nest) 
       variable = subst (IsIntegerScalar es) (sym form.variable) fair.0.0.integer
 
       outside : Contains v.variables r.variable → ⊥
-      outside = subst (λ (x : List ℕ). Contains v.variables x → ⊥) (sym form.variable) (u.outside l.variable fair.0.0.short fair.0.1.outside)
+      outside =
+          subst (λ (x : List ℕ). Contains v.variables x → ⊥) (sym form.variable)
+          (u.outside l.variable fair.0.0.short fair.0.1.outside)
 
       small : IsSmallLoop r
       small = (loop_has_limits symbols round l r u.zeros is).small
@@ -342,7 +386,8 @@ module _ (es : List Declaration) (d : ℕ) (shallow : d ≤ deepest) (n : Nest) 
       trip_is : IsNumber es (trip_text (counters_of round) symbols [] r.trip)
       unfolding trip_text
       trip_is =
-          quotient_is es (text_of (counters_of round) symbols [] r.trip.top) r.trip.by small.divisor small.by small.small
+          quotient_is es
+          (text_of (counters_of round) symbols [] r.trip.top) r.trip.by small.divisor small.by small.small
           (text_is es (counters_of round) symbols [] r.trip.top (counters_are round u.typed) are tt small.top)
 
       own_deep : depth_of (trip_text (counters_of round) symbols [] r.trip) ≤ 36
@@ -352,51 +397,74 @@ module _ (es : List Declaration) (d : ℕ) (shallow : d ≤ deepest) (n : Nest) 
       first_deep = let deep = text_deep (counters_of round) symbols [] r.first 0 sizes.first tt in omega (arith, deep)
 
       end_deep : depth_of (end_text symbols round r) ≤ 200
-      end_deep = let deep = text_deep (counters_of round) symbols (own_trip_text symbols round r ∷ []) r.end 36 sizes.end (own_deep, tt) in omega (arith, deep)
+      end_deep =
+          let own = own_trip_text symbols round r ∷ [] in
+          let deep = text_deep (counters_of round) symbols own r.end 36 sizes.end (own_deep, tt) in
+          omega (arith, deep)
 
       test_deep : depth_of (at_least_one (own_trip_text symbols round r)) ≤ 200
-      test_deep = let deep = binary_deep Ge (own_trip_text symbols round r) (Number (pos 1)) 36 own_deep (least 36) in omega (arith, deep)
+      test_deep =
+          let deep = binary_deep Ge (own_trip_text symbols round r) (Number (pos 1)) 36 own_deep (least 36) in
+          omega (arith, deep)
 
       end_good : IsGood es d shallow 0 (written n.line (end_part symbols n.line round r ∷ [])) v
-      end_good = in_place es d shallow n.line r.variable (end_text symbols round r) v line variable outside (end_is es symbols are round r u.typed small) end_deep
+      end_good =
+          in_place es d shallow n.line r.variable (end_text symbols round r) v line variable outside
+          (end_is es symbols are round r u.typed small) end_deep
 
       before_good : (h : ℕ) → IsGood es d shallow (1 + h) (written n.line (parts_before symbols n.line round r)) v
       unfolding parts_before
       before_good h = by (is_positive r.trip)
         where
-          by : (b : Bool) → IsGood es d shallow (1 + h) (written n.line (cond b [] (assigned_part n.line r.variable (first_text symbols round r) ∷ []))) v
+          by : (b : Bool) → IsGood es d shallow (1 + h)
+              (written n.line (cond b [] (assigned_part n.line r.variable (first_text symbols round r) ∷ []))) v
           by true = nothing_good es d shallow (1 + h) v
           by false =
-              higher es d shallow 0 (1 + h) (written n.line (assigned_part n.line r.variable (first_text symbols round r) ∷ [])) v (least (1 + h))
-              (in_place es d shallow n.line r.variable (first_text symbols round r) v line variable outside (first_is es symbols are round r u.typed small) first_deep)
+              higher es d shallow 0 (1 + h)
+              (written n.line (assigned_part n.line r.variable (first_text symbols round r) ∷ [])) v (least (1 + h))
+              (in_place es d shallow n.line r.variable (first_text symbols round r) v line variable outside
+              (first_is es symbols are round r u.typed small) first_deep)
 
       behind_good : (h : ℕ) → IsGood es d shallow (1 + h) (written n.line (parts_behind symbols n.line round r)) v
       unfolding parts_behind
       behind_good h = by (is_positive r.trip) (is_known r.trip)
         where
           by : (b c : Bool) → IsGood es d shallow (1 + h)
-              (written n.line (cond b (end_part symbols n.line round r ∷ []) (cond c [] (only_where_part (at_least_one (own_trip_text symbols round r)) (end_part symbols n.line round r ∷ []) ∷ [])))) v
-          by true c = higher es d shallow 0 (1 + h) (written n.line (end_part symbols n.line round r ∷ [])) v (least (1 + h)) end_good
+              (written n.line (cond b (end_part symbols n.line round r ∷ [])
+              (cond c [] (only_where_part (at_least_one (own_trip_text symbols round r))
+              (end_part symbols n.line round r ∷ []) ∷ [])))) v
+          by true c =
+              higher es d shallow 0 (1 + h) (written n.line (end_part symbols n.line round r ∷ [])) v
+              (least (1 + h)) end_good
           by false true = nothing_good es d shallow (1 + h) v
           by false false =
-              higher es d shallow 1 (1 + h) (written n.line (only_where_part (at_least_one (own_trip_text symbols round r)) (end_part symbols n.line round r ∷ []) ∷ [])) v (omega arith)
-              (only_where_good es d shallow n.line (at_least_one (own_trip_text symbols round r)) (written n.line (end_part symbols n.line round r ∷ [])) v line
+              higher es d shallow 1 (1 + h)
+              (written n.line (only_where_part (at_least_one (own_trip_text symbols round r))
+              (end_part symbols n.line round r ∷ []) ∷ [])) v (omega arith)
+              (only_where_good es d shallow n.line (at_least_one (own_trip_text symbols round r))
+              (written n.line (end_part symbols n.line round r ∷ [])) v line
               (at_least_is es (own_trip_text symbols round r) trip_is) test_deep end_good)
 
-      counting_good : (h : ℕ) (ps : List Part) → (Contains v.variables r.counter → ⊥) → IsGood es d shallow h (written n.line ps) (within_loop r.counter v)
+      counting_good : (h : ℕ) (ps : List Part) → (Contains v.variables r.counter → ⊥)
+          → IsGood es d shallow h (written n.line ps) (within_loop r.counter v)
           → IsGood es d shallow (1 + h) (written n.line (Turns (counting symbols round l r) (parts ps) ∷ [])) v
       unfolding counting
       counting_good h ps free g =
-          loop_good es d shallow n.line h r.counter (trip_text (counters_of round) symbols [] r.trip) (written n.line ps) v line integer free trip_is
+          loop_good es d shallow n.line h r.counter (trip_text (counters_of round) symbols [] r.trip)
+          (written n.line ps) v line integer free trip_is
           (more (depth_of (trip_text (counters_of round) symbols [] r.trip)) 36 200 own_deep (omega arith)) g
 
-      placed_good : (h : ℕ) (p : Part) → IsGood es d shallow (1 + h) (written n.line (p ∷ [])) v → IsGood es d shallow (1 + h) (written n.line (placed n all round r p)) v
+      placed_good : (h : ℕ) (p : Part) → IsGood es d shallow (1 + h) (written n.line (p ∷ [])) v
+          → IsGood es d shallow (1 + h) (written n.line (placed n all round r p)) v
       placed_good h p g = by (stands_behind (length symbols) all n.body r.variable)
         where
-          by : (b : Bool) → IsGood es d shallow (1 + h) (written n.line (cond b (p ∷ []) (parts_before symbols n.line round r ++ p ∷ parts_behind symbols n.line round r))) v
+          by : (b : Bool) → IsGood es d shallow (1 + h)
+              (written n.line (cond b (p ∷ [])
+              (parts_before symbols n.line round r ++ p ∷ parts_behind symbols n.line round r))) v
           by true = g
           by false =
-              joined es d shallow n.line (1 + h) (parts_before symbols n.line round r) (p ∷ parts_behind symbols n.line round r) v (before_good h)
+              joined es d shallow n.line (1 + h) (parts_before symbols n.line round r)
+              (p ∷ parts_behind symbols n.line round r) v (before_good h)
               (joined es d shallow n.line (1 + h) (p ∷ []) (parts_behind symbols n.line round r) v g (behind_good h))
 
       round_more : AreRound (round ++ r ∷ []) (within_loop r.counter v)
@@ -418,17 +486,22 @@ module _ (es : List Declaration) (d : ℕ) (shallow : d ≤ deepest) (n : Nest) 
               by (inl e) = counter_long x l.number short (sym e ∙ form.counter)
               by (inr i) = u.outside x short away i
 
-  turned : (round : List NormalLoop) (v : Surroundings) (l : Loop) (ps : Parts) (o : Option NormalLoop) → normal_loop symbols round l ≡ o → AreRound round v → Fair l
-      → ((rs : List NormalLoop) (x : Surroundings) → AreRound rs x → are_normal symbols rs ps ≡ true → AreInner es x (nested_in_parts symbols rs ps)
+  turned : (round : List NormalLoop) (v : Surroundings) (l : Loop) (ps : Parts) (o : Option NormalLoop)
+      → normal_loop symbols round l ≡ o → AreRound round v → Fair l
+      → ((rs : List NormalLoop) (x : Surroundings) → AreRound rs x → are_normal symbols rs ps ≡ true
+      → AreInner es x (nested_in_parts symbols rs ps)
       → IsGood es d shallow (heights ps) (written n.line (normal_parts n all rs ps)) x)
-      → (is_some o && are_normal symbols (with_loop round o) ps) ≡ true → AreInner es v (nested round o ++ nested_in_parts symbols (with_loop round o) ps)
-      → IsGood es d shallow (1 + heights ps) (written n.line (normal_turns n all round l o (normal_parts n all (with_loop round o) ps))) v
+      → (is_some o && are_normal symbols (with_loop round o) ps) ≡ true
+      → AreInner es v (nested round o ++ nested_in_parts symbols (with_loop round o) ps)
+      → IsGood es d shallow (1 + heights ps)
+      (written n.line (normal_turns n all round l o (normal_parts n all (with_loop round o) ps))) v
   turned round v l ps None is u fair inside h inner = let no : ⊥ = cc in absurd no
   turned round v l ps (Some r) is u fair inside h inner =
       let own = inner.each.0 in
       let body = inside (round ++ r ∷ []) (within_loop r.counter v) (round_more round v u l r fair is own.0) h
       (inner_more es v (record { round = round; turns = r }) (nested_in_parts symbols (round ++ r ∷ []) ps) inner) in
-      placed_good round v u l r fair is own.0 (heights ps) (Turns (counting symbols round l r) (parts (normal_parts n all (round ++ r ∷ []) ps)))
+      placed_good round v u l r fair is own.0 (heights ps)
+      (Turns (counting symbols round l r) (parts (normal_parts n all (round ++ r ∷ []) ps)))
       (counting_good round v u l r fair is own.0 (heights ps) (normal_parts n all (round ++ r ∷ []) ps) own.1 body)
 
   left_high : (p q : ℕ) → p ≤ max p q
@@ -438,7 +511,9 @@ module _ (es : List Declaration) (d : ℕ) (shallow : d ≤ deepest) (n : Nest) 
   right_high p q = omega arith
 
   mutual
-    pub each : (round : List NormalLoop) (v : Surroundings) (p : Part) → AreRound round v → is_normal symbols round p ≡ true → IsStraight p → EachIn Source Fair p → AreInner es v (nested_loops symbols round p)
+    pub each : (round : List NormalLoop) (v : Surroundings) (p : Part) → AreRound round v
+        → is_normal symbols round p ≡ true → IsStraight p → EachIn Source Fair p
+        → AreInner es v (nested_loops symbols round p)
         → IsGood es d shallow (height p) (written n.line (normal_part n all round p)) v
     each round v (Run s) u e f h i = statement_good round v u s f.unguarded h
     each round v (Turns l ps) u e f h i =
@@ -447,14 +522,20 @@ module _ (es : List Declaration) (d : ℕ) (shallow : d ≤ deepest) (n : Nest) 
     each round v (Label k) u e f h i = absurd f
     each round v (Jump k) u e f h i = absurd f
 
-    each_part : (round : List NormalLoop) (v : Surroundings) (ps : Parts) → AreRound round v → are_normal symbols round ps ≡ true → AreStraight ps → EachInParts Source Fair ps
-        → AreInner es v (nested_in_parts symbols round ps) → IsGood es d shallow (heights ps) (written n.line (normal_parts n all round ps)) v
+    each_part : (round : List NormalLoop) (v : Surroundings) (ps : Parts) → AreRound round v
+        → are_normal symbols round ps ≡ true → AreStraight ps → EachInParts Source Fair ps
+        → AreInner es v (nested_in_parts symbols round ps)
+        → IsGood es d shallow (heights ps) (written n.line (normal_parts n all round ps)) v
     each_part round v no_parts u e f h i = nothing_good es d shallow 0 v
     each_part round v (part p ps) u e f h i =
         let b = both (is_normal symbols round p) (are_normal symbols round ps) e in
         let k = max (height p) (heights ps) in
         joined es d shallow n.line k (normal_part n all round p) (normal_parts n all round ps) v
-        (higher es d shallow (height p) k (written n.line (normal_part n all round p)) v (left_high (height p) (heights ps))
-        (each round v p u b.0 f.0 h.0 (inner_first es v (nested_loops symbols round p) (nested_in_parts symbols round ps) i)))
-        (higher es d shallow (heights ps) k (written n.line (normal_parts n all round ps)) v (right_high (height p) (heights ps))
-        (each_part round v ps u b.1 f.1 h.1 (inner_rest es v (nested_loops symbols round p) (nested_in_parts symbols round ps) i)))
+        (higher es d shallow (height p) k (written n.line (normal_part n all round p)) v
+        (left_high (height p) (heights ps))
+        (each round v p u b.0 f.0 h.0
+        (inner_first es v (nested_loops symbols round p) (nested_in_parts symbols round ps) i)))
+        (higher es d shallow (heights ps) k (written n.line (normal_parts n all round ps)) v
+        (right_high (height p) (heights ps))
+        (each_part round v ps u b.1 f.1 h.1
+        (inner_rest es v (nested_loops symbols round p) (nested_in_parts symbols round ps) i)))

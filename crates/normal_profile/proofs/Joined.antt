@@ -64,7 +64,8 @@ pub record IsUnlabelled (c : Statement) : Type 0 where
 pub nothing_without : IsWithoutLabels no_statements
 nothing_without = record { labels = refl; targets = refl }
 
-pub before_without : (c : Statement) (cs : Block) → IsUnlabelled c → IsWithoutLabels cs → IsWithoutLabels (statement c cs)
+pub before_without : (c : Statement) (cs : Block) → IsUnlabelled c → IsWithoutLabels cs
+    → IsWithoutLabels (statement c cs)
 before_without c cs h k = record {
   labels = none_joined (all_labels_of c) (all_labels_in cs) h.labels k.labels;
   targets = none_joined (targets_of c) (targets_in cs) h.targets k.targets;
@@ -84,7 +85,8 @@ rest_without c cs h = record {
 
 pub then_without : (a b : Block) → IsWithoutLabels a → IsWithoutLabels b → IsWithoutLabels (block_then a b)
 then_without no_statements b h k = k
-then_without (statement c cs) b h k = before_without c (block_then cs b) (first_without c cs h) (then_without cs b (rest_without c cs h) k)
+then_without (statement c cs) b h k =
+    before_without c (block_then cs b) (first_without c cs h) (then_without cs b (rest_without c cs h) k)
 
 no_label : (c : Statement) → all_labels_of c ≡ [] → IsNoLabel c
 no_label (Assignment line mark left right) h = tt

@@ -14,8 +14,8 @@ use Rattle.fv_meaning.specs.Typed77.{IsWhole, deepest}
 use Rattle.fv_meaning.specs.Value.{named}
 use Rattle.fv_rewrite.specs.Profile.{deepest_in, deepest_in_arms, deepest_of}
 use Rattle.fv_tree.specs.Plain.{Allocate, Arms, Assignment, Block, Deallocate, Declaration, Do, Expression, GoTo, If}
-use Rattle.fv_tree.specs.Plain.{Label, Named, Print, Read, Reference, Statement, Stop, Where, arm, no_arms, no_statements}
-use Rattle.fv_tree.specs.Plain.{statement}
+use Rattle.fv_tree.specs.Plain.{Label, Named, Print, Read, Reference, Statement, Stop, Where, arm, no_arms}
+use Rattle.fv_tree.specs.Plain.{no_statements, statement}
 use Rattle.nest_parts.specs.Numbers.{after, after_arms, after_block, next}
 use Rattle.nest_parts.specs.Statements.{branches_of, parts_of, parts_of_block}
 use Rattle.nest_tree.specs.Plain.{Choice, Guarded, Jump, Loop, Part, Parts, Run, Turns, no_parts, part, parts}
@@ -23,7 +23,8 @@ use Rattle.nest_tree.specs.Plain as tree
 use Rattle.placed_profile.specs.Laws.{IsWithoutLabels}
 use Rattle.ready_nests.proofs.Walk.{EachIn, EachInBranches, EachInParts}
 use Rattle.normal_profile.specs.Laws.{SourceIsShallow}
-use Rattle.normal_profile.proofs.Joined.{IsUnlabelled, before_without, least, max_both, max_left, max_right, nothing_without}
+use Rattle.normal_profile.proofs.Joined.{IsUnlabelled, before_without, least, max_both, max_left, max_right}
+use Rattle.normal_profile.proofs.Joined.{nothing_without}
 
 -- ---- in a program of FORTRAN 77
 
@@ -42,7 +43,8 @@ module _ (ds : List Declaration) where
         max_both (deepest_in_arms arms) (deepest_in other) deepest (arms_shallow arms w h.2) (block_shallow other w h.3)
     statement_shallow (Do line x a b c body) w h =
         max_both (max (depth_of a) (max (depth_of b) (depth_of c))) (deepest_in body) deepest
-        (max_both (depth_of a) (max (depth_of b) (depth_of c)) deepest h.2.depth (max_both (depth_of b) (depth_of c) deepest h.3.depth h.4.depth))
+        (max_both (depth_of a) (max (depth_of b) (depth_of c)) deepest h.2.depth
+        (max_both (depth_of b) (depth_of c) deepest h.3.depth h.4.depth))
         (block_shallow body (within_loop x w) h.5)
     statement_shallow (Label n) w h = least deepest
     statement_shallow (GoTo line n) w h = least deepest
@@ -61,7 +63,8 @@ module _ (ds : List Declaration) where
     block_shallow : (b : Block) (w : Surroundings) → source.IsBlock ds b w → deepest_in b ≤ deepest
     block_shallow no_statements w h = least deepest
     block_shallow (statement c cs) w h =
-        max_both (deepest_of c) (deepest_in cs) deepest (statement_shallow c (before_labels (labels_of cs) w) h.0) (block_shallow cs w h.1)
+        max_both (deepest_of c) (deepest_in cs) deepest (statement_shallow c (before_labels (labels_of cs) w) h.0)
+        (block_shallow cs w h.1)
 
 pub source_is_shallow : SourceIsShallow
 source_is_shallow d p is = block_shallow p.declarations p.body outermost is.statements
@@ -86,7 +89,9 @@ module _ (d : ℕ) where
   mutual
     parts_deep : (k : ℕ) (c : Statement) → deepest_of c ≤ d → AreDeep (parts_of k c)
     parts_deep k (Assignment line mark left right) h =
-        (record { left = max_left (depth_of (named left)) (depth_of right) d h; right = max_right (depth_of (named left)) (depth_of right) d h }, tt)
+        let first = max_left (depth_of (named left)) (depth_of right) d h in
+        let last = max_right (depth_of (named left)) (depth_of right) d h in
+        (record { left = first; right = last }, tt)
     parts_deep k (Where line mark mask left right) h = tt
     parts_deep k (If line arms other) h = (
       (
@@ -96,7 +101,8 @@ module _ (d : ℕ) where
       tt,
     )
     parts_deep k (Do line x a b c body) h =
-        ((tt, block_deep (next k) body (max_right (max (depth_of a) (max (depth_of b) (depth_of c))) (deepest_in body) d h)), tt)
+        let inside = max_right (max (depth_of a) (max (depth_of b) (depth_of c))) (deepest_in body) d h in
+        ((tt, block_deep (next k) body inside), tt)
     parts_deep k (Label n) h = (tt, tt)
     parts_deep k (GoTo line n) h = (tt, tt)
     parts_deep k (Stop line) h = tt
@@ -105,7 +111,8 @@ module _ (d : ℕ) where
     parts_deep k (Allocate line x es) h = tt
     parts_deep k (Deallocate line x) h = tt
 
-    arms_deep : (k : ℕ) (arms : Arms) → deepest_in_arms arms ≤ d → EachInBranches (IsDeep d) AnyLoop (branches_of k arms)
+    arms_deep : (k : ℕ) (arms : Arms) → deepest_in_arms arms ≤ d
+        → EachInBranches (IsDeep d) AnyLoop (branches_of k arms)
     arms_deep k no_arms h = tt
     arms_deep k (arm test body arms) h =
         let rest = max_right (depth_of test) (max (deepest_in body) (deepest_in_arms arms)) d h in (
@@ -137,7 +144,8 @@ abbrev mutual
   heights no_parts = 0
   heights (part p ps) = max (height p) (heights ps)
 
-heights_joined : (ps qs : List Part) (d : ℕ) → heights (parts ps) ≤ d → heights (parts qs) ≤ d → heights (parts (ps ++ qs)) ≤ d
+heights_joined : (ps qs : List Part) (d : ℕ) → heights (parts ps) ≤ d → heights (parts qs) ≤ d
+    → heights (parts (ps ++ qs)) ≤ d
 heights_joined [] qs d h k = k
 heights_joined (p ∷ ps) qs d h k =
     max_both (height p) (heights (parts (ps ++ qs))) d (max_left (height p) (heights (parts ps)) d h)
@@ -159,7 +167,8 @@ mutual
   parts_high : (k : ℕ) (c : Statement) → heights (parts (parts_of k c)) ≤ blocks_of c
   parts_high k (Assignment line mark left right) = alone_high 0 0 (least 0)
   parts_high k (Where line mark mask left right) = least 0
-  parts_high k (If line arms other) = alone_high 0 (blocks_of (If line arms other)) (least (blocks_of (If line arms other)))
+  parts_high k (If line arms other) =
+      alone_high 0 (blocks_of (If line arms other)) (least (blocks_of (If line arms other)))
   parts_high k (Do line x a b c body) =
       alone_high (1 + heights (parts (parts_of_block (next k) body))) (1 + blocks_in body)
       (one_higher (heights (parts (parts_of_block (next k) body))) (blocks_in body) (block_high (next k) body))
@@ -176,11 +185,13 @@ mutual
   block_high k (statement c cs) =
       heights_joined (parts_of k c) (parts_of_block (after k c) cs) (max (blocks_of c) (blocks_in cs))
       (first_high (heights (parts (parts_of k c))) (blocks_of c) (blocks_in cs) (parts_high k c))
-      (last_high (heights (parts (parts_of_block (after k c) cs))) (blocks_of c) (blocks_in cs) (block_high (after k c) cs))
+      (last_high (heights (parts (parts_of_block (after k c) cs))) (blocks_of c) (blocks_in cs)
+      (block_high (after k c) cs))
 
 pub body_high : (l : Numbered) → height (body_of l) ≤ blocks_of (as_statement l.loop)
 body_high l =
-    one_higher (heights (parts (parts_of_block (next l.before) l.loop.body))) (blocks_in l.loop.body) (block_high (next l.before) l.loop.body)
+    one_higher (heights (parts (parts_of_block (next l.before) l.loop.body))) (blocks_in l.loop.body)
+    (block_high (next l.before) l.loop.body)
 
 -- ---- loops alone
 
