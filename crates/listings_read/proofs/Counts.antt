@@ -8,17 +8,16 @@ use Rattle.std.specs.Ordering.{int_eq}
 use Rattle.std.specs.Prelude.{slice_get, ◌==◌}
 use Rattle.components.specs.Lists.{Each}
 use Rattle.fv_rewrite.specs.Making.{Making, made, made_expressions, made_subscripts, made_subscript, made_loops}
-use Rattle.fv_rewrite.specs.Making.{made_parts}
-use Rattle.fv_rewrite.specs.Making.{made_left}
+use Rattle.fv_rewrite.specs.Making.{made_parts, made_left}
 use Rattle.fv_rewrite.specs.Names.{uses_in, uses_in_expressions, uses_in_subscripts, uses_in_subscript, uses_in_loops}
-use Rattle.fv_rewrite.specs.Names.{uses_in_target}
+use Rattle.fv_rewrite.specs.Names.{uses_in_target, uses_in_control, uses_in_outputs, uses_in_block}
 use Rattle.fv_rewrite.specs.declared.uses.Use.{Use}
 use Rattle.fv_tree.specs.Plain.{Expression, Number, Logic, Named, Unary, Binary, Apply, Constructor, Spread, Transpose}
 use Rattle.fv_tree.specs.Plain.{Reshape, Reduce, Expressions, no_expressions, expression, Subscript, Only, Section}
-use Rattle.fv_tree.specs.Plain.{Subscripts, no_subscripts, subscript, Loops, no_loops, loop, Reference}
+use Rattle.fv_tree.specs.Plain.{Subscripts, no_subscripts, subscript, Loops, no_loops, loop, Reference, Items, Block}
 use Rattle.fv_tree.specs.declared.ops.Op.TheVariants.{Mul}
-use Rattle.linear_forms.specs.Expressed.{term, plus_term, minus_term, with_term, with_terms, with_constant}
-use Rattle.linear_forms.specs.Expressed.{variable, variables}
+use Rattle.linear_forms.specs.Expressed.{term, plus_term, minus_term, with_term, with_terms, with_constant, variable}
+use Rattle.linear_forms.specs.Expressed.{variables}
 use Rattle.linear_forms.specs.Linear.{not_zero}
 use Rattle.linear_forms.specs.Texts.{with_place, with_symbols}
 use Rattle.nest_graph.specs.References.{is_among as is_round, has_none, own_reference, references_in, references_in_all}
@@ -27,7 +26,6 @@ use Rattle.nest_graph.specs.References.{variables_round, references_in_guard}
 use Rattle.nest_rewrite.specs.Rewritten.{rewritten_statement}
 use Rattle.nest_tree.specs.Bodies.{Standing}
 use Rattle.nest_tree.specs.Plain.{Guarded}
-use Rattle.listings_read.specs.Uses.{uses_of}
 
 abbrev pub count : Expression → ℕ
 count e = length (uses_in e)
@@ -44,11 +42,27 @@ count_one s = length (uses_in_subscript s)
 abbrev pub count_loops : Loops → ℕ
 count_loops ls = length (uses_in_loops ls)
 
+abbrev pub count_control : List ℕ → Expression → Expression → Expression → ℕ
+count_control x a b c = length (uses_in_control x a b c)
+
+abbrev pub count_items : Items → ℕ
+count_items is = length (uses_in_outputs is)
+
+abbrev pub count_block : Block → ℕ
+count_block b = length (uses_in_block b)
+
 abbrev pub count_of : Guarded → ℕ
-count_of s = uses_of s.left s.right
+count_of s = length (uses_in_target s.left) + count s.right
 
 pub two : (xs ys : List Use) → length (xs ++ ys) ≡ length xs + length ys
 two xs ys = length-append xs ys
+
+pub bare : (xs : List Use) → length (xs ++ []) ≡ length xs
+bare xs = let d = two xs [] in omega (arith, d)
+
+pub control_is : (x : List ℕ) (a b c : Expression) → count_control x a b c ≡ suc (count a + (count b + count c))
+control_is x a b c =
+    let d = two (uses_in a ++ uses_in b) (uses_in c) in let e = two (uses_in a) (uses_in b) in omega (arith, d, e)
 
 -- ---- a statement has no more references than names
 

@@ -1,6 +1,6 @@
 -- The nests of a program: their names have no blanks, and their numbers and statements are small.
 use Rattle.std.proofs.Common.{◌≡◌, ◌⊎◌, inl, inr, refl, sym, subst, ℕ, ◌+◌, ◌<◌, ◌≤◌, ◌^◌, Bool, true, false, cond}
-use Rattle.std.proofs.Common.{Option, Some, None, List, [], ◌∷◌, ◌++◌, Contains, arith}
+use Rattle.std.proofs.Common.{Option, Some, None, List, [], ◌∷◌, ◌++◌, length, Contains, arith}
 use Rattle.std.proofs.lemmas.Bool.Decides.{Decides-ltb}
 use Rattle.std.specs.Option.{IsSomeAnd}
 use Rattle.std.specs.Prelude.{nat_lt}
@@ -16,7 +16,9 @@ use Rattle.fv_meaning.specs.Dialect.{Dialect}
 use Rattle.fv_meaning.specs.Profile77.{IsProgram77, IsDeclaration, IsAssignment, IsStatement, AreArms, IsBlock}
 use Rattle.fv_meaning.specs.Typed.{declared}
 use Rattle.fv_meaning.specs.Typed77.{HasKind, AreArguments, AreSubscripts, IsSubscript, IsWhole}
-use Rattle.fv_rewrite.specs.Names.{names_written_in}
+use Rattle.fv_rewrite.specs.Names.{names_written_in, uses_in, uses_in_target, uses_in_control, uses_in_statement}
+use Rattle.fv_rewrite.specs.Names.{uses_in_arms, uses_in_block}
+use Rattle.fv_rewrite.specs.declared.uses.Use.{Use}
 use Rattle.fv_tree.specs.OperatorTable.{operand_kind}
 use Rattle.fv_tree.specs.Plain.{Expression, Number, Logic, Named, Unary, Binary, Apply, Constructor, Spread, Transpose}
 use Rattle.fv_tree.specs.Plain.{Reshape, Reduce, Expressions, no_expressions, expression, Subscript, Only, Section}
@@ -39,9 +41,9 @@ use Rattle.profile_laws.proofs.Lists.{all_at, cases_of, nowhere}
 use Rattle.profile_laws.proofs.Names.{found}
 use Rattle.ready_nests.proofs.Lists.{Each-Contains}
 use Rattle.ready_nests.proofs.Walk.{EachIn, EachInParts, EachInBranches}
-use Rattle.listings_read.proofs.Counts.{count_of}
+use Rattle.listings_read.proofs.Counts.{two, count_of}
 use Rattle.listings_read.proofs.Words.{name}
-use Rattle.listings_read.specs.Uses.{IsShort, uses_assigned, uses_assigned_in_arms, uses_assigned_in}
+use Rattle.listings_read.specs.Laws.{IsShort}
 
 -- a number of a loop or a nest
 abbrev pub IsNumber : ℕ → Type 0
@@ -55,6 +57,14 @@ pub record IsFairStatement (s : Guarded) : Type 0 where
   pub over : IsStatementOver IsWord s
   pub unguarded : s.guard ≡ None
   pub few : count_of s < 2 ^ 31
+
+-- ---- names
+
+abbrev FewNames : List Use → Type 0
+FewNames us = length us < 2 ^ 31
+
+parted : (us vs : List Use) → FewNames (us ++ vs) → FewNames us × FewNames vs
+parted us vs h = let d = two us vs in (omega (arith, h, d), omega (arith, h, d))
 
 -- ---- numbers
 
@@ -144,27 +154,28 @@ module _ (ds : List Declaration) (known : (x : List ℕ) (d : Declaration) → d
   followed (p ∷ ps) qs h k = (h.0, followed ps qs h.1 k)
 
   mutual
-    fair : (k : ℕ) (c : Statement) (w : Surroundings) → IsNumber k → uses_assigned c < 2 ^ 31 → IsStatement ds c w
+    fair : (k : ℕ) (c : Statement) (w : Surroundings) → IsNumber k → FewNames (uses_in_statement c) → IsStatement ds c w
         → Fair (parts_of k c)
     fair k (Assignment l mark left right) w n u h =
-        (record { over = assigned l left right w h.2; unguarded = refl; few = u }, tt)
+        let d = two (uses_in_target left) (uses_in right) in
+        (record { over = assigned l left right w h.2; unguarded = refl; few = omega (arith, u, d) }, tt)
     fair k (Where l mark mask left right) w n u h = absurd h
-    fair k (If l arms other) w n u h = (
-      (
-        fair_arms k arms w n (omega (arith, u)) h.2,
-        fair_block (after_arms k arms) other w (arms_number k arms n)
-            (omega (arith, u)) h.3,
-      ),
-      tt,
-    )
-    fair k (Do l x a b c body) w n u h = (
-      (
-        record { variable = declared_name x _ h.1.integer.0; number = next_number k n },
-        fair_block (next k) body
-            (within_loop x w) (next_number k n) u h.5,
-      ),
-      tt,
-    )
+    fair k (If l arms other) w n u h =
+        let f = parted (uses_in_arms arms) (uses_in_block other) u in (
+          (
+            fair_arms k arms w n f.0 h.2,
+            fair_block (after_arms k arms) other w (arms_number k arms n) f.1 h.3,
+          ),
+          tt,
+        )
+    fair k (Do l x a b c body) w n u h =
+        let f = parted (uses_in_control x a b c) (uses_in_block body) u in (
+          (
+            record { variable = declared_name x _ h.1.integer.0; number = next_number k n },
+            fair_block (next k) body (within_loop x w) (next_number k n) f.1 h.5,
+          ),
+          tt,
+        )
     fair k (Label m) w n u h = (tt, tt)
     fair k (GoTo l m) w n u h = (tt, tt)
     fair k (Stop l) w n u h = tt
@@ -173,43 +184,44 @@ module _ (ds : List Declaration) (known : (x : List ℕ) (d : Declaration) → d
     fair k (Allocate l x vs) w n u h = absurd h
     fair k (Deallocate l x) w n u h = absurd h
 
-    fair_arms : (k : ℕ) (arms : Arms) (w : Surroundings) → IsNumber k → uses_assigned_in_arms arms < 2 ^ 31
-        → AreArms ds arms w
+    fair_arms : (k : ℕ) (arms : Arms) (w : Surroundings) → IsNumber k → FewNames (uses_in_arms arms) → AreArms ds arms w
         → EachInBranches IsFairStatement IsFairLoop (branches_of k arms)
     fair_arms k no_arms w n u h = tt
-    fair_arms k (arm test body arms) w n u h = (
-      fair_block k body w n (omega (arith, u)) h.1,
-      fair_arms (after_block k body) arms w (block_number k body n)
-          (omega (arith, u)) h.2,
-    )
+    fair_arms k (arm test body arms) w n u h =
+        let f = parted (uses_in test ++ uses_in_block body) (uses_in_arms arms) u in (
+          fair_block k body w n (parted (uses_in test) (uses_in_block body) f.0).1 h.1,
+          fair_arms (after_block k body) arms w (block_number k body n) f.1 h.2,
+        )
 
-    fair_block : (k : ℕ) (b : Block) (w : Surroundings) → IsNumber k → uses_assigned_in b < 2 ^ 31 → IsBlock ds b w
+    fair_block : (k : ℕ) (b : Block) (w : Surroundings) → IsNumber k → FewNames (uses_in_block b) → IsBlock ds b w
         → Fair (parts_of_block k b)
     fair_block k no_statements w n u h = tt
     fair_block k (statement c cs) w n u h =
+        let f = parted (uses_in_statement c) (uses_in_block cs) u in
         followed (parts_of k c) (parts_of_block (after k c) cs)
-        (fair k c (before_labels (labels_of cs) w) n (omega (arith, u)) h.0)
-        (fair_block (after k c) cs w (after_number k c n) (omega (arith, u)) h.1)
+        (fair k c (before_labels (labels_of cs) w) n f.0 h.0)
+        (fair_block (after k c) cs w (after_number k c n) f.1 h.1)
 
 -- ---- the loops of the program
 
 pub record Fits (q : Placed) : Type 0 where
   pub before : IsNumber q.loop.before
-  pub few : uses_assigned_in q.loop.loop.body < 2 ^ 31
+  pub few : FewNames (uses_in_statement (as_statement q.loop.loop))
 
 mutual
-  fits : (k : ℕ) (around : List SourceLoop) (c : Statement) → IsNumber k → uses_assigned c < 2 ^ 31
+  fits : (k : ℕ) (around : List SourceLoop) (c : Statement) → IsNumber k → FewNames (uses_in_statement c)
       → Each Fits (loops_in k around c)
   fits k around (Assignment l mark left right) n u = tt
   fits k around (Where l mark mask left right) n u = tt
   fits k around (If l arms other) n u =
+      let f = parted (uses_in_arms arms) (uses_in_block other) u in
       Each-append Fits (loops_in_arms k around arms) (loops_in_block (after_arms k arms) around other)
-      (fits_arms k around arms n (omega (arith, u)))
-      (fits_block (after_arms k arms) around other (arms_number k arms n) (omega (arith, u)))
+      (fits_arms k around arms n f.0)
+      (fits_block (after_arms k arms) around other (arms_number k arms n) f.1)
   fits k around (Do l x a b c body) n u = (
     record { before = n; few = u },
     fits_block (next k) (around ++ record { line = l; variable = x; first = a; last = b; step = c; body = body } ∷ [])
-        body (next_number k n) u,
+        body (next_number k n) (parted (uses_in_control x a b c) (uses_in_block body) u).1,
   )
   fits k around (Label m) n u = tt
   fits k around (GoTo l m) n u = tt
@@ -219,21 +231,23 @@ mutual
   fits k around (Allocate l x es) n u = tt
   fits k around (Deallocate l x) n u = tt
 
-  fits_arms : (k : ℕ) (around : List SourceLoop) (arms : Arms) → IsNumber k → uses_assigned_in_arms arms < 2 ^ 31
+  fits_arms : (k : ℕ) (around : List SourceLoop) (arms : Arms) → IsNumber k → FewNames (uses_in_arms arms)
       → Each Fits (loops_in_arms k around arms)
   fits_arms k around no_arms n u = tt
   fits_arms k around (arm test body arms) n u =
+      let f = parted (uses_in test ++ uses_in_block body) (uses_in_arms arms) u in
       Each-append Fits (loops_in_block k around body) (loops_in_arms (after_block k body) around arms)
-      (fits_block k around body n (omega (arith, u)))
-      (fits_arms (after_block k body) around arms (block_number k body n) (omega (arith, u)))
+      (fits_block k around body n (parted (uses_in test) (uses_in_block body) f.0).1)
+      (fits_arms (after_block k body) around arms (block_number k body n) f.1)
 
-  fits_block : (k : ℕ) (around : List SourceLoop) (b : Block) → IsNumber k → uses_assigned_in b < 2 ^ 31
+  fits_block : (k : ℕ) (around : List SourceLoop) (b : Block) → IsNumber k → FewNames (uses_in_block b)
       → Each Fits (loops_in_block k around b)
   fits_block k around no_statements n u = tt
   fits_block k around (statement c cs) n u =
+      let f = parted (uses_in_statement c) (uses_in_block cs) u in
       Each-append Fits (loops_in k around c) (loops_in_block (after k c) around cs)
-      (fits k around c n (omega (arith, u)))
-      (fits_block (after k c) around cs (after_number k c n) (omega (arith, u)))
+      (fits k around c n f.0)
+      (fits_block (after k c) around cs (after_number k c n) f.1)
 
 -- ---- the numbers of nests
 

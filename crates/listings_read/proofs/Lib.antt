@@ -10,5 +10,7 @@ pub mod Meetings
 pub mod Arcs
 pub mod Entries
 pub mod Listed
+pub mod Written
+pub mod Resolved
 pub mod Sources
 pub mod SourceListings

@@ -26,8 +26,7 @@ use Rattle.listings_read.proofs.Entries.{AreListable, nest_listable}
 use Rattle.listings_read.proofs.Found.{IsFairNest, found_fair, kept_line}
 use Rattle.listings_read.proofs.Made.{made_tidy, same_line}
 use Rattle.listings_read.proofs.Many.{Within, size, within_block, loop_size, few_statements}
-use Rattle.listings_read.specs.Laws.{ProgramListingIsRead}
-use Rattle.listings_read.specs.Uses.{IsShort}
+use Rattle.listings_read.specs.Laws.{IsShort, ProgramListingIsRead}
 
 module _ (p : Program) (is : IsProgram77 fortran77 p) (short : IsShort p) where
   -- ---- a nest

@@ -1,315 +1,144 @@
--- A program that is read from a FORTRAN 77 source has no more names than its source has characters.
-use Rattle.std.proofs.Common.{◌≡◌, refl, ap, ◌∙◌, subst, ℕ, suc, ◌+◌, ◌*◌, ◌≤◌, ◌^◌, Bool, true, false}
-use Rattle.std.proofs.Common.{cond, not, Option, Some, None, List, [], ◌∷◌, ◌++◌, map, filter, length, arith, flat_map}
-use Rattle.std.proofs.Common.{length-append}
-use Rattle.std.proofs.lemmas.List.{length-take, length-drop, length-map}
-use Rattle.std.specs.List.{AllByRecursion}
+-- No more names stand in a program that is read from a FORTRAN 77 source than its cards have characters.
+use Rattle.std.proofs.Common.{◌≡◌, ap, subst, ℕ, suc, ◌+◌, ◌*◌, ◌≤◌, ◌^◌, Bool, true, false, cond, not, Option, Some}
+use Rattle.std.proofs.Common.{None, List, [], ◌∷◌, ◌++◌, map, filter, length, arith, flat_map, length-append}
+use Rattle.std.proofs.lemmas.List.{length-take, length-drop}
+use Rattle.std.specs.List.{AllByRecursion, list_any}
 use Rattle.std.specs.Prelude.{replicate, ◌==◌}
-use Rattle.std.specs.List.{list_any}
 use Rattle.std.specs.Str.Lines.{lines}
 use Rattle.f77_grammar.proofs.CardLaws.{unrefused, unrefused_short}
 use Rattle.f77_grammar.proofs.FirstLine.{lines-le}
 use Rattle.f77_grammar.specs.Cards.{Line, StatementLines, PlainCard, ReadsCards, all_lines, card_in, columns_of}
-use Rattle.f77_grammar.specs.Cards.{is_comment}
-use Rattle.f77_grammar.specs.Cards.{numbered, statement_field, statement_lines, statement_lines_from}
+use Rattle.f77_grammar.specs.Cards.{is_comment, numbered, statement_field, statement_lines, statement_lines_from}
 use Rattle.f77_grammar.specs.Reading77.{AreReadFrom}
-use Rattle.f77_grammar.specs.Statement77.{Labelled, Statement77, Assign, Test}
-use Rattle.f77_grammar.specs.expressions.Phrases.{Phrase, Literal, WideLiteral, Truth, Name, Listed, Paren, Signed}
-use Rattle.f77_grammar.specs.expressions.Phrases.{Joined}
-use Rattle.f77_grammar.specs.expressions.Phrases.{Phrases, One, Then, written, written_list, tree, trees}
-use Rattle.f77_grammar.specs.expressions.Spelling.{IsName, SpelledBy, Words, chars}
-use Rattle.f77_grammar.specs.expressions.Squeezing.{Symbol, Char, Squeezed, nothing, blank, character, constant, empty}
-use Rattle.f77_grammar.specs.expressions.Squeezing.{endless, doubled}
-use Rattle.f77_grammar.specs.expressions.Words as words
-use Rattle.f77_grammar.specs.expressions.Words.{Word}
+use Rattle.f77_grammar.specs.Statement77.{Labelled, Statement77, If, ElseIf, Else, EndIf, Do}
 use Rattle.f77_grammar.specs.program.Limits.{constants_of}
-use Rattle.f77_grammar.specs.program.Tree.{Rest, Outermost, InArm, argument_of, arguments_of, call_of, element_or_call}
-use Rattle.f77_grammar.specs.program.Tree.{value_or_name, literal, resolved, resolved_arguments, resolved_subscripts}
-use Rattle.f77_grammar.specs.program.Tree.{resolved_subscript, named, simple, mark_of, targets}
-use Rattle.f77_grammar.specs.program.Tree.{rest_from, outermost_block}
-use Rattle.f77_grammar.specs.program.Uses.{Use, uses_in_text, is_constant, is_array}
-use Rattle.f77_grammar.specs.statements.Forms as forms
-use Rattle.f77_grammar.specs.statements.Forms.{Form, IsWritten, statement_of, reference_in}
-use Rattle.f77_grammar.specs.statements.Reading.{ReadsStatement}
-use Rattle.f77_laws.proofs.Measures.{Measure, in_rest, at_most}
+use Rattle.f77_grammar.specs.program.Text.{is_label}
+use Rattle.f77_grammar.specs.program.Tree.{Rest, Outermost, InArm, resolved, simple, mark_of, targets, rest_from}
+use Rattle.f77_grammar.specs.program.Tree.{loop_begun, begun, outermost_block, Piece, block_of, up_to, beyond, preceded}
+use Rattle.f77_grammar.specs.program.Tree.{loop_in}
+use Rattle.f77_grammar.specs.program.Uses.{Use, uses_in_text}
 use Rattle.fv_meaning.specs.Dialect.{fortran77}
 use Rattle.fv_meaning.specs.Store.{Store}
-use Rattle.fv_rewrite.specs.Names.{uses_in, uses_in_expressions, uses_in_subscripts, uses_in_subscript}
-use Rattle.fv_tree.specs.Functions.{function_named}
-use Rattle.fv_tree.specs.OperatorTable.{Plus, Minus, Negation}
+use Rattle.fv_rewrite.specs.Names.{uses_in, uses_in_control, uses_in_statement, uses_in_arms, uses_in_block}
 use Rattle.fv_tree.specs.Plain as tree'
-use Rattle.fv_tree.specs.Plain.{Expression, Number, Logic, Named, Unary, Binary, Apply, Constructor, Spread, Transpose}
-use Rattle.fv_tree.specs.Plain.{Reshape, Reduce, Expressions, no_expressions, expression, Subscript, Only, Section}
-use Rattle.fv_tree.specs.Plain.{Subscripts, no_subscripts, subscript, subscripts, Reference, Statement, block}
-use Rattle.fv_tree.specs.declared.functions.Fun.{Fun}
-use Rattle.fv_tree.specs.declared.ops.Value.TheVariants.{Int, Truth as TruthValue}
-use Rattle.fv_tree.specs.declared.ops.Value.{Value}
-use Rattle.std.specs.Prelude.{pos, negsuc}
-use Rattle.listings_read.proofs.Counts.{count, count_each, count_in, count_one, two}
+use Rattle.fv_tree.specs.Plain.{Expression, Statement, block, Arms, arm, Block}
+use Rattle.listings_read.proofs.Counts.{count, count_control, count_block, two, bare}
+use Rattle.listings_read.proofs.Written.{uses77, statement_count}
+use Rattle.listings_read.proofs.Resolved.{resolved_count, control_resolved, simple_count}
 use Rattle.listings_read.specs.Laws.{SourceIsShort}
-use Rattle.listings_read.specs.Uses.{uses_of, uses_assigned_in, uses_assigned_in_arms}
 
--- ---- names among words
+-- ---- names in pieces of blocks
 
-abbrev weight : Word → ℕ
-weight (words.Name x) = 1
-weight (words.Head x) = 1
-weight w = 0
+abbrev in_all : List Statement → ℕ
+in_all cs = count_block (block cs)
 
-abbrev weights : List Word → ℕ
-weights [] = 0
-weights (w ∷ ws) = weight w + weights ws
+abbrev in_pieces : List Piece → ℕ
+in_pieces ps = count_block (block_of ps)
 
-weights_joined : (ws vs : List Word) → weights (ws ++ vs) ≡ weights ws + weights vs
-weights_joined [] vs = omega arith
-weights_joined (w ∷ ws) vs = let e = weights_joined ws vs in omega (arith, e)
+joined : (cs ds : List Statement) → in_all (cs ++ ds) ≡ in_all cs + in_all ds
+joined [] ds = omega arith
+joined (c ∷ cs) ds =
+    let e = joined cs ds in
+    let f = two (uses_in_statement c) (uses_in_block (block (cs ++ ds))) in
+    let g = two (uses_in_statement c) (uses_in_block (block cs)) in omega (arith, e, f, g)
 
-name_some : (x : List ℕ) → IsName x → 1 ≤ length x
-name_some [] h = absurd h
-name_some (c ∷ cs) h = omega arith
+behind_mark : (mark : List Statement) (c : Statement)
+    → in_all (mark ++ c ∷ []) ≡ in_all mark + length (uses_in_statement c)
+behind_mark mark c = let e = joined mark (c ∷ []) in let b = bare (uses_in_statement c) in omega (arith, e, b)
 
--- a name has a character
-spelled : (w : Word) (front : List Symbol) → SpelledBy w front → weight w ≤ length front
-spelled (words.Name x) front h =
-    let some = name_some x h.2.1 in
-    let same : length h.0 ≡ length x = ap (λ (t : List ℕ). length t) h.2.0 in
-    let as_many : length front ≡ length h.0 = ap (λ (t : List Symbol). length t) h.1 ∙ length-map h.0 Char in
-    omega (arith, some, same, as_many)
-spelled (words.Head x) front h =
-    let some = name_some x h.2.1 in
-    let more = length-append x (40 ∷ []) in
-    let same : length h.0 ≡ length (x ++ 40 ∷ []) = ap (λ (t : List ℕ). length t) h.2.0 in
-    let as_many : length front ≡ length h.0 = ap (λ (t : List Symbol). length t) h.1 ∙ length-map h.0 Char in
-    omega (arith, some, more, same, as_many)
-spelled w front h = omega arith
+more_pieces : (p : Piece) (ps : List Piece) → in_pieces (p ∷ ps) ≡ in_all p.made + in_pieces ps
+more_pieces p ps = joined p.made (flat_map (λ (q : Piece). q.made) ps)
 
-words_short : (ws : List Word) (text : List Symbol) → Words text ws → weights ws ≤ length text
-words_short [] text h = omega arith
-words_short (w ∷ ws) text h =
-    let b = h.1 in
-    let one = spelled w b.front b.spelled in
-    let more = words_short ws h.0 h.2 in
-    let all : length text ≡ length (b.front ++ h.0) = ap (λ (t : List Symbol). length t) b.same in
-    let parts = length-append b.front h.0 in omega (arith, one, more, all, parts)
+split_pieces : (n : ℕ) (ps : List Piece) → in_pieces ps ≡ in_pieces (up_to n ps) + in_pieces (beyond n ps)
+split_pieces n [] = omega arith
+split_pieces n (p ∷ ps) = by (is_label n p.ends) (split_pieces n ps)
+  where
+    by : (b : Bool) → in_pieces ps ≡ in_pieces (up_to n ps) + in_pieces (beyond n ps)
+        → in_pieces (p ∷ ps) ≡ in_pieces (p ∷ cond b [] (up_to n ps)) + in_pieces (cond b ps (beyond n ps))
+    by true h = let e = more_pieces p ps in let f = more_pieces p [] in omega (arith, e, f)
+    by false h = let e = more_pieces p ps in let f = more_pieces p (up_to n ps) in omega (arith, h, e, f)
 
--- ---- names in the tree of a phrase
+abbrev in_rest : Rest → ℕ
+in_rest (Outermost ps) = in_pieces ps
+in_rest (InArm ps arms other r) = in_pieces ps + (length (uses_in_arms arms) + (count_block other + in_rest r))
 
-joined_count : (ps qs : List Subscript) → count_in (subscripts (ps ++ qs)) ≡ count_in (subscripts ps) + count_in
-    (subscripts qs)
-joined_count [] qs = omega arith
-joined_count (p ∷ ps) qs =
-    let e = joined_count ps qs in
-    let c = two (uses_in_subscript p) (uses_in_subscripts (subscripts (ps ++ qs))) in
-    let d = two (uses_in_subscript p) (uses_in_subscripts (subscripts ps)) in omega (arith, e, c, d)
+preceded_count : (p : Piece) (r : Rest) → in_rest (preceded p r) ≡ in_all p.made + in_rest r
+preceded_count p (Outermost ps) = more_pieces p ps
+preceded_count p (InArm ps arms other r) = let e = more_pieces p ps in omega (arith, e)
 
-one_count : (p : Subscript) → count_in (subscripts (p ∷ [])) ≡ count_one p
-one_count p = let d = two (uses_in_subscript p) [] in omega (arith, d)
+arm_count : (c : Expression) (b : Block) (arms : Arms)
+    → length (uses_in_arms (arm c b arms)) ≡ count c + (count_block b + length (uses_in_arms arms))
+arm_count c b arms =
+    let d = two (uses_in c ++ uses_in_block b) (uses_in_arms arms) in
+    let e = two (uses_in c) (uses_in_block b) in omega (arith, d, e)
 
-mutual
-  tree_count : (p : Phrase) → count (tree p) ≤ weights (written p)
-  tree_count (Literal n) = omega arith
-  tree_count WideLiteral = omega arith
-  tree_count (Truth b) = omega arith
-  tree_count (Name x) = omega arith
-  tree_count (Listed x ps) =
-      let h = trees_count ps in let e = weights_joined (written_list ps) (words.Close ∷ []) in omega (arith, h, e)
-  tree_count (Paren p) = let h = tree_count p in let e =
-      weights_joined (written p) (words.Close ∷ []) in omega (arith, h, e)
-  tree_count (Signed Plus p) = let h = tree_count p in omega (arith, h)
-  tree_count (Signed Minus p) = let h = tree_count p in omega (arith, h)
-  tree_count (Signed Negation p) = let h = tree_count p in omega (arith, h)
-  tree_count (Joined o a b) =
-      let h = tree_count a in
-      let k = tree_count b in
-      let e = weights_joined (written a) (words.Operator o ∷ written b) in
-      let d = two (uses_in (tree a)) (uses_in (tree b)) in omega (arith, h, k, e, d)
+module _ (line : ℕ) (x : List ℕ) (a b c : Expression) (mark : List Statement) (n : ℕ) where
+  loop_count : (ps : List Piece)
+      → in_pieces (loop_in (tree'.Do line x a b c) mark n ps) ≡ in_all mark + (count_control x a b c + in_pieces ps)
+  loop_count ps =
+      let body = block_of (up_to n ps) in
+      let e = more_pieces (record { ends = Some n; made = mark ++ tree'.Do line x a b c body ∷ [] }) (beyond n ps) in
+      let f = behind_mark mark (tree'.Do line x a b c body) in
+      let g = two (uses_in_control x a b c) (uses_in_block body) in
+      let h = split_pieces n ps in omega (arith, e, f, g, h)
 
-  trees_count : (ps : Phrases) → count_in (subscripts (trees ps)) ≤ weights (written_list ps)
-  trees_count (One p) = let h = tree_count p in let d = one_count (Only (tree p)) in omega (arith, h, d)
-  trees_count (Then ps p) =
-      let h = trees_count ps in
-      let k = tree_count p in
-      let c = joined_count (trees ps) (Only (tree p) ∷ []) in
-      let d = one_count (Only (tree p)) in
-      let e = weights_joined (written_list ps) (words.Comma ∷ written p) in omega (arith, h, k, c, d, e)
-
--- ---- names in a statement
-
-abbrev uses77 : Statement77 → ℕ
-uses77 (Assign left e) = uses_of left e
-uses77 (Test c s) = uses77 s
-uses77 s = 0
-
-assigned_form : (l r : Phrase) (text : List Symbol) → IsWritten (forms.Assign l r) text
-    → uses77 (statement_of (forms.Assign l r)) ≤ length text
-assigned_form (Name x) r text h =
-    let all = words_short (written (Name x) ++ (words.Equals ∷ written r)) text h.0 in
-    let k = tree_count r in omega (arith, all, k)
-assigned_form (Listed x ps) r text h =
-    let all = words_short (written (Listed x ps) ++ (words.Equals ∷ written r)) text h.0 in
-    let e = weights_joined (written (Listed x ps)) (words.Equals ∷ written r) in
-    let j = tree_count (Listed x ps) in
-    let k = tree_count r in omega (arith, all, e, j, k)
-assigned_form (Literal n) r text h = absurd h.1
-assigned_form WideLiteral r text h = absurd h.1
-assigned_form (Truth b) r text h = absurd h.1
-assigned_form (Paren p) r text h = absurd h.1
-assigned_form (Signed s p) r text h = absurd h.1
-assigned_form (Joined o a b) r text h = absurd h.1
-
-form_count : (f : Form) (text : List Symbol) → IsWritten f text → uses77 (statement_of f) ≤ length text
-form_count (forms.Assign l r) text h = assigned_form l r text h
-form_count (forms.Test p f) text h =
-    let more = form_count f h.1 h.5 in
-    let all : length text ≡ length (chars (73 ∷ 70 ∷ 40 ∷ []) ++ (h.0 ++ (chars (41 ∷ []) ++ h.1))) =
-    ap (λ (t : List Symbol). length t) h.2 in
-    let a = length-append (chars (73 ∷ 70 ∷ 40 ∷ [])) (h.0 ++ (chars (41 ∷ []) ++ h.1)) in
-    let b = length-append h.0 (chars (41 ∷ []) ++ h.1) in
-    let c = length-append (chars (41 ∷ [])) h.1 in omega (arith, more, all, a, b, c)
-form_count f text h = omega arith
-
-squeezed_short : {cs : List ℕ} {ss : List Symbol} → Squeezed cs ss → length ss ≤ length cs
-squeezed_short nothing = omega arith
-squeezed_short (blank s) = let h = squeezed_short s in omega (arith, h)
-squeezed_short (character c b q s) = let h = squeezed_short s in omega (arith, h)
-squeezed_short (constant c t {cs = cs} e s) =
-    let h = squeezed_short s in let d = length-append (doubled (c ∷ t)) (39 ∷ cs) in omega (arith, h, d)
-squeezed_short (empty e s) = let h = squeezed_short s in omega (arith, h)
-squeezed_short (endless t) = omega arith
-
-statement_count : (cs : List ℕ) (s : Statement77) → ReadsStatement cs s → uses77 s ≤ length cs
-statement_count cs s r =
-    let f = form_count r.form r.is_form.symbols r.is_form.written in
-    let short = squeezed_short r.is_form.squeezed in
-    let same : uses77 s ≡ uses77 (statement_of r.form) = ap uses77 r.same in omega (arith, f, short, same)
-
--- ---- names in a statement of the tree
-
-argument_count : (s : Subscript) → count (argument_of s) ≤ count_one s
-argument_count (Only e) = omega arith
-argument_count (Section a b c) =
-    let d = two (uses_in a ++ uses_in b) (uses_in c) in let e = two (uses_in a) (uses_in b) in omega (arith, d, e)
-
-arguments_count : (ss : Subscripts) → count_each (arguments_of ss) ≤ count_in ss
-arguments_count no_subscripts = omega arith
-arguments_count (subscript s ss) =
-    let h = argument_count s in
-    let k = arguments_count ss in
-    let c = two (uses_in (argument_of s)) (uses_in_expressions (arguments_of ss)) in
-    let d = two (uses_in_subscript s) (uses_in_subscripts ss) in omega (arith, h, k, c, d)
-
-call_count : (o : Option Fun) (x : List ℕ) (ss : Subscripts) → count (call_of o x ss) ≤ suc (count_in ss)
-call_count None x ss = omega arith
-call_count (Some f) x ss = let h = arguments_count ss in omega (arith, h)
-
-element_count : (b : Bool) (x : List ℕ) (ss : Subscripts) → count (element_or_call b x ss) ≤ suc (count_in ss)
-element_count true x ss = omega arith
-element_count false x ss = call_count (function_named x) x ss
-
-literal_count : (v : Value) → count (literal v) ≤ 0
-literal_count (Int (pos n)) = omega arith
-literal_count (Int (negsuc n)) = omega arith
-literal_count (TruthValue b) = omega arith
-
-value_count : (b : Bool) (x : List ℕ) (s : Store) → count (value_or_name b x s) ≤ 1
-value_count true x s = let h = literal_count (s.held (record { name = x; subscripts = [] })) in omega (arith, h)
-value_count false x s = omega arith
-
-module _ (us : List Use) (s : Store) where
-  named_count : (x : List ℕ) (ss : Subscripts) → count (named us s x ss) ≤ suc (count_in ss)
-  named_count x no_subscripts = value_count (is_constant us x) x s
-  named_count x (subscript p ps) = element_count (is_array us x) x (subscript p ps)
-
-  mutual
-    resolved_count : (e : Expression) → count (resolved us s e) ≤ count e
-    resolved_count (Number n) = omega arith
-    resolved_count (Logic b) = omega arith
-    resolved_count (Named x ss) = let h = resolved_in ss in let k =
-        named_count x (resolved_subscripts us s ss) in omega (arith, h, k)
-    resolved_count (Unary o a) = resolved_count a
-    resolved_count (Binary o a b) =
-        let h = resolved_count a in
-        let k = resolved_count b in
-        let c = two (uses_in (resolved us s a)) (uses_in (resolved us s b)) in
-        let d = two (uses_in a) (uses_in b) in omega (arith, h, k, c, d)
-    resolved_count (Apply f es) = resolved_each es
-    resolved_count (Constructor es ls) = omega arith
-    resolved_count (Spread a n e) = omega arith
-    resolved_count (Transpose a) = omega arith
-    resolved_count (Reshape a es) = omega arith
-    resolved_count (Reduce r a) = omega arith
-
-    resolved_each : (es : Expressions) → count_each (resolved_arguments us s es) ≤ count_each es
-    resolved_each no_expressions = omega arith
-    resolved_each (expression e es) =
-        let h = resolved_count e in
-        let k = resolved_each es in
-        let c = two (uses_in (resolved us s e)) (uses_in_expressions (resolved_arguments us s es)) in
-        let d = two (uses_in e) (uses_in_expressions es) in omega (arith, h, k, c, d)
-
-    resolved_in : (ss : Subscripts) → count_in (resolved_subscripts us s ss) ≤ count_in ss
-    resolved_in no_subscripts = omega arith
-    resolved_in (subscript p ps) =
-        let h = resolved_one p in
-        let k = resolved_in ps in
-        let c = two (uses_in_subscript (resolved_subscript us s p)) (uses_in_subscripts (resolved_subscripts us s ps))
-        in
-        let d = two (uses_in_subscript p) (uses_in_subscripts ps) in omega (arith, h, k, c, d)
-
-    resolved_one : (p : Subscript) → count_one (resolved_subscript us s p) ≤ count_one p
-    resolved_one (Only e) = resolved_count e
-    resolved_one (Section a b c) = omega arith
-
-  simple_count : (line : ℕ) (c : Statement77) → uses_assigned_in (block (simple us s line c)) ≤ uses77 c
-  simple_count line (Assign left e) =
-      let h = resolved_in left.subscripts in let k = resolved_count e in omega (arith, h, k)
-  simple_count line (Test c b) = let h = simple_count line b in omega (arith, h)
-  simple_count line c = omega arith
+  begun_loop : (r : Rest)
+      → in_rest (loop_begun (tree'.Do line x a b c) mark n r) ≡ in_all mark + (count_control x a b c + in_rest r)
+  begun_loop (Outermost ps) = loop_count ps
+  begun_loop (InArm ps arms other r) = let e = loop_count ps in omega (arith, e)
 
 -- ---- names in all statements
 
-uses_joined : (cs ds : List Statement) → uses_assigned_in (block (cs ++ ds)) ≡ uses_assigned_in (block cs)
-    + uses_assigned_in (block ds)
-uses_joined [] ds = omega arith
-uses_joined (c ∷ cs) ds = let e = uses_joined cs ds in omega (arith, e)
-
-abbrev of_names : Measure
-of_names = record {
-  blocks = uses_assigned_in;
-  arms = uses_assigned_in_arms;
-  own = 0;
-  none = refl;
-  appended = uses_joined;
-  no_arms = refl;
-  more_arms = λ c b as'. refl;
-  of_if = λ line as' other. omega arith;
-  of_do = λ line v a b c body. omega arith;
-}
-
-no_names : (goals : List ℕ) (label : Option ℕ) → uses_assigned_in (block (mark_of goals label)) ≤ 0
+no_names : (goals : List ℕ) (label : Option ℕ) → in_all (mark_of goals label) ≤ 0
 no_names goals None = omega arith
 no_names goals (Some n) = by (list_any (λ m. m == n) goals)
   where
-    by : (b : Bool) → uses_assigned_in (block (cond b (tree'.Label n ∷ []) [])) ≤ 0
+    by : (b : Bool) → in_all (cond b (tree'.Label n ∷ []) []) ≤ 0
     by true = omega arith
     by false = omega arith
 
-abbrev uses_in_all : List Labelled → ℕ
-uses_in_all [] = 0
-uses_in_all (x ∷ xs) = uses77 x.statement + uses_in_all xs
+abbrev uses_of_all : List Labelled → ℕ
+uses_of_all [] = 0
+uses_of_all (x ∷ xs) = uses77 x.statement + uses_of_all xs
 
-rest_count : (us : List Use) (s : Store) (goals : List ℕ) (xs : List Labelled)
-    → in_rest of_names (rest_from us s goals xs) ≤ uses_in_all xs
-rest_count us s goals [] = omega arith
-rest_count us s goals (x ∷ xs) =
-    let more = rest_count us s goals xs in
-    let mark = no_names goals x.label in
-    let own = simple_count us s x.line x.statement in
-    let one = at_most of_names us s goals x x.statement (uses77 x.statement) (rest_from us s goals xs)
-    (omega (arith, mark, own)) (omega (arith, mark)) in
-    omega (arith, more, one)
+module _ (us : List Use) (s : Store) (goals : List ℕ) where
+  begun_count : (x : Labelled) (c : Statement77) (r : Rest) → in_rest (begun us s goals x c r) ≤ uses77 c + in_rest r
+  begun_count x EndIf r = omega arith
+  begun_count x Else (Outermost ps) = omega arith
+  begun_count x Else (InArm ps arms other r) = omega arith
+  begun_count x (ElseIf c) (Outermost ps) = omega arith
+  begun_count x (ElseIf c) (InArm ps arms other r) =
+      let k = resolved_count us s c in let e = arm_count (resolved us s c) (block_of ps) arms in omega (arith, k, e)
+  begun_count x (If c) (Outermost ps) = omega arith
+  begun_count x (If c) (InArm ps arms other r) =
+      let mark = mark_of goals x.label in
+      let test = resolved us s c in
+      let whole = tree'.If x.line (arm test (block_of ps) arms) other in
+      let k = resolved_count us s c in
+      let m = no_names goals x.label in
+      let e = preceded_count (record { ends = None; made = mark ++ whole ∷ [] }) r in
+      let f = behind_mark mark whole in
+      let g = two (uses_in_arms (arm test (block_of ps) arms)) (uses_in_block other) in
+      let h = arm_count test (block_of ps) arms in omega (arith, k, m, e, f, g, h)
+  begun_count x (Do n v a b c) r =
+      let m = no_names goals x.label in
+      let k = control_resolved us s v a b c in
+      let e = begun_loop x.line v (resolved us s a) (resolved us s b) (resolved us s c) (mark_of goals x.label) n r in
+      omega (arith, m, k, e)
+  begun_count x c r =
+      let mark = mark_of goals x.label in
+      let m = no_names goals x.label in
+      let k = simple_count us s x.line c in
+      let e = preceded_count (record { ends = x.label; made = mark ++ simple us s x.line c }) r in
+      let f = joined mark (simple us s x.line c) in omega (arith, m, k, e, f)
 
-outermost_count : (r : Rest) → uses_assigned_in (outermost_block r) ≤ in_rest of_names r
+  rest_count : (xs : List Labelled) → in_rest (rest_from us s goals xs) ≤ uses_of_all xs
+  rest_count [] = omega arith
+  rest_count (x ∷ xs) =
+      let more = rest_count xs in
+      let one = begun_count x x.statement (rest_from us s goals xs) in omega (arith, more, one)
+
+outermost_count : (r : Rest) → count_block (outermost_block r) ≤ in_rest r
 outermost_count (Outermost ps) = omega arith
 outermost_count (InArm ps arms other r) = omega arith
 
@@ -319,7 +148,7 @@ abbrev characters : List PlainCard → ℕ
 characters [] = 0
 characters (c ∷ cs) = length c.chars + characters cs
 
-cards_count : (cards : List PlainCard) (xs : List Labelled) → AreReadFrom cards xs → uses_in_all xs ≤ characters cards
+cards_count : (cards : List PlainCard) (xs : List Labelled) → AreReadFrom cards xs → uses_of_all xs ≤ characters cards
 cards_count [] [] h = omega arith
 cards_count [] (x ∷ xs) h = absurd h
 cards_count (c ∷ cs) [] h = absurd h
@@ -402,8 +231,8 @@ source_is_short source p h =
     let us = uses_in_text text in
     let s = constants_of fortran77 text in
     let rest = rest_from us s (targets text) text in
-    let same : uses_assigned_in p.body ≡ uses_assigned_in (outermost_block rest) =
-    ap (λ (q : tree'.Program). uses_assigned_in q.body) h.program.reads.formed in
+    let same : count_block p.body ≡ count_block (outermost_block rest) =
+    ap (λ (q : tree'.Program). count_block q.body) h.program.reads.formed in
     let whole = outermost_count rest in
     let all = rest_count us s (targets text) text in
     let read = cards_count h.cards text h.program.statements in

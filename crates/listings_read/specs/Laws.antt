@@ -1,13 +1,18 @@
 -- The listing of a program can be read back from its lines.
-use Rattle.std.specs.Prelude.{◌≡◌, ℕ, Some, List, map}
+use Rattle.std.specs.Prelude.{◌≡◌, ℕ, ◌^◌, ◌<◌, Some, List, length, map}
 use Rattle.std.specs.Str.Lines.{lines}
 use Rattle.f77_grammar.specs.Reading77.{Reads77}
 use Rattle.fv_meaning.specs.Dialect.{fortran77}
 use Rattle.fv_meaning.specs.Profile77.{IsProgram77}
+use Rattle.fv_rewrite.specs.Names.{uses_in_block}
 use Rattle.fv_tree.specs.Plain.{Program}
 use Rattle.listing_reader.specs.Reader.{read_listing}
 use Rattle.program_listing.specs.Listing.{IsListing, IsListingText}
-use Rattle.listings_read.specs.Uses.{IsShort}
+
+-- Fewer than 2^31 names stand in it. With more of them a reference might have a number that a listing doesn't show
+-- whole.
+abbrev pub IsShort : Program → Type 0
+IsShort p = length (uses_in_block p.body) < 2 ^ 31
 
 -- from the lines of a program's listing its entries are read, in their order
 abbrev pub ProgramListingIsRead : Type 0

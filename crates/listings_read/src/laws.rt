@@ -3,13 +3,13 @@ ghost use Rattle.listings_read.specs.Laws.{ProgramListingIsRead, SameLinesListTh
 ghost use Rattle.listings_read.specs.Laws.{SourceListingIsRead, SourceListingTextIsRead};
 
 /// From the lines of a program's listing all its entries are read: its nests with their loops, statements, dependences
-/// and holds, and its kept loops. This is so for each program in whose assignments fewer than 2^31 names stand; with
-/// more of them a reference might have a number that a listing doesn't show whole.
+/// and holds, and its kept loops. This is so for each program in which fewer than 2^31 names stand; with more of them a
+/// reference might have a number that a listing doesn't show whole.
 pub fn listing_of_program_is_read()
     ensures { ProgramListingIsRead }
 {}
 
-/// The program that is read from a FORTRAN 77 source has fewer names than that.
+/// In the program that is read from a FORTRAN 77 source fewer names stand than that.
 pub fn source_is_short()
     ensures { SourceIsShort }
 {}
