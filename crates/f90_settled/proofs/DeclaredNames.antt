@@ -92,7 +92,8 @@ module _ (s : FreeStatement) (ss : List FreeStatement) (xs : List (List ℕ)) (a
           kind = i.kind;
           allocatable = i.allocatable;
           entities = i.entities;
-          form = subst (λ (t : FreeStatement). IsFormOf t (forms.Declare i.kind i.allocatable i.entities)) (sym e) i.form;
+          form = subst (λ (t : FreeStatement). IsFormOf t (forms.Declare i.kind i.allocatable i.entities)) (sym e)
+              i.form;
         }))
     is_behind x i (inr c) = (are x).1 (behind ss x (s ∷ ss) i c)
 

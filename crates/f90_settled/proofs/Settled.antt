@@ -32,7 +32,7 @@ use Rattle.f90_calls.specs.Formless.{HasSuitedForm}
 use Rattle.f90_read.specs.Outcomes.{ReadsWithin}
 use Rattle.f90_read.proofs.PartLaws.{HasParts, parts}
 use Rattle.f90_read.proofs.StatementLaws.{marked, not_true, some_statement}
-use Rattle.f90_settled.specs.Settled.{TextIsReadOrRefused, TextIsReadWithinOrRefused, NamesAloneAreRefused}
+use Rattle.f90_settled.specs.Settled.{TextIsReadOrRefused, NamesAloneAreRefused}
 use Rattle.f90_settled.proofs.Unanswered.{unanswered}
 use Rattle.f90_settled.proofs.DeclaredNames.{AreDeclared, names_declared}
 use Rattle.f90_settled.proofs.SuitedForms.{HavePlaces, have_forms, places}
@@ -160,12 +160,8 @@ module _ (text : List ℕ) (clear : (r : Refusal) → IsRefusable text r → ⊥
 
 -- ---- the laws
 
-pub read_within_or_refused : TextIsReadWithinOrRefused
-read_within_or_refused text unread unrefused =
-    clear_is_read text (unanswered (IsRefusable text) unrefused) unread
-
 pub read_or_refused : TextIsReadOrRefused
-read_or_refused text unread unrefused = read_within_or_refused text (λ q h. unread q h.reads) unrefused
+read_or_refused text unread unrefused = clear_is_read text (unanswered (IsRefusable text) unrefused) unread
 
 pub names_alone : NamesAloneAreRefused
 names_alone = refused_for_names

@@ -1,20 +1,16 @@
--- Each text of Fortran 90 is read or refused.
+-- No text of Fortran 90 is neither read nor refused.
 use Rattle.std.specs.Prelude.{ℕ, List}
 use Rattle.fv_tree.specs.Causes.{refusal_at}
 use Rattle.fv_tree.specs.Plain.{Program}
 use Rattle.fv_tree.specs.declared.refusals.Cause.TheVariants.{Limit90}
 use Rattle.fv_tree.specs.declared.refusals.Refusal.{Refusal}
-use Rattle.f90_grammar.specs.Refusals.{Reads90, Refused90, PassesNames, HasCause}
+use Rattle.f90_grammar.specs.Refusals.{Refused90, PassesNames, HasCause}
 use Rattle.f90_read.specs.Outcomes.{ReadsWithin}
 
--- No text is neither read nor refused. The law is classical: it rules out that there is no answer, and gives none.
+-- Only texts within the limit of names count as read. The law is classical: it rules out that there is no answer, and
+-- gives none.
 abbrev pub TextIsReadOrRefused : Type 0
-TextIsReadOrRefused = (text : List ℕ) → ((q : Program) → Reads90 text q → ⊥)
-    → ((r : Refusal) → Refused90 text r → ⊥) → ⊥
-
--- so too where only texts within the limit of names count as read
-abbrev pub TextIsReadWithinOrRefused : Type 0
-TextIsReadWithinOrRefused = (text : List ℕ) → ((q : Program) → ReadsWithin text q → ⊥)
+TextIsReadOrRefused = (text : List ℕ) → ((q : Program) → ReadsWithin text q → ⊥)
     → ((r : Refusal) → Refused90 text r → ⊥) → ⊥
 
 -- a text that has too many names and no other cause is refused for its names, at some line
