@@ -15,7 +15,7 @@ use Rattle.fv_tree.specs.Plain.{Expression, Number, Logic, Named, Unary, Binary,
 use Rattle.fv_tree.specs.Plain.{Reshape, Reduce, Expressions, no_expressions, expression, Subscript, Only, Section}
 use Rattle.fv_tree.specs.Plain.{Subscripts, no_subscripts, subscript, Reference}
 use Rattle.graph_print.specs.Listing.{edge_entry, drop_entry, depth_of}
-use Rattle.listings_read.proofs.Lists.{joined}
+use Rattle.listing_notes.proofs.Printable.{joined}
 use Rattle.listing_reader.specs.Listable.{IsWord, IsListable, IsListablePlace, IsListableMeeting}
 use Rattle.nest_graph.specs.Arcs.{Couple, edge_of, drop_of, with_some, edges_of, drops_of, level_from}
 use Rattle.nest_graph.specs.Graph.{IsCouple, IsGraphOf, IsEdgeRight, IsRightAnswer, all_edges, all_drops}

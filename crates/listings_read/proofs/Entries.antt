@@ -18,7 +18,7 @@ use Rattle.graph_print.specs.Listing.{loop_entries, loop_entries_in, loop_entrie
 use Rattle.graph_print.specs.Listing.{statement_entries, answer_entry, edge_entry, dependence_entries}
 use Rattle.graph_print.specs.Listing.{hold_entries}
 use Rattle.graph_print.specs.Order.{Answered, Found, RuledOut, comes_before, before, not_before, in_order}
-use Rattle.listings_read.proofs.Lists.{joined}
+use Rattle.listing_notes.proofs.Printable.{joined}
 use Rattle.listing_reader.specs.Listable.{IsSmall, IsListable, IsListableHold}
 use Rattle.nest_graph.specs.Graph.{IsGraphOf}
 use Rattle.nest_graph.specs.Ready.{IsReady}

@@ -10,7 +10,7 @@ use Rattle.fv_meaning.specs.Dialect.{fortran77}
 use Rattle.fv_meaning.specs.Profile77.{IsProgram77}
 use Rattle.fv_tree.specs.Plain.{Program}
 use Rattle.graph_print.specs.Lines.{Entry}
-use Rattle.listings_read.proofs.Lists.{joined}
+use Rattle.listing_notes.proofs.Printable.{joined}
 use Rattle.listing_reader.proofs.Rejoined.{listing-is-read}
 use Rattle.listing_reader.specs.Listable.{IsListable}
 use Rattle.listing_reader.specs.Reader.{read_listing}

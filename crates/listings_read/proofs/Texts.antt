@@ -1,5 +1,5 @@
 -- How many names stand in the texts of loops from 1 by 1, and in a statement in such loops.
-use Rattle.std.proofs.Common.{◌≡◌, inl, inr, refl, ap, ℕ, zero, suc, ◌+◌, ◌*◌, ◌≤◌, ◌<◌, ◌^◌, ℤ, pos, Bool, true, false}
+use Rattle.std.proofs.Common.{◌≡◌, inl, inr, refl, ℕ, zero, suc, ◌+◌, ◌*◌, ◌≤◌, ◌<◌, ◌^◌, ℤ, pos, Bool, true, false}
 use Rattle.std.proofs.Common.{cond, List, [], ◌∷◌, ◌++◌, length, Option, Some, None, arith, length-append}
 use Rattle.std.proofs.lemmas.Bool.{leb-true}
 use Rattle.std.specs.List.{list_any}
@@ -28,6 +28,7 @@ use Rattle.nest_tree.specs.declared.parts.Trip.{Trip}
 use Rattle.normal_forms.specs.NormalLoops.{counters_of}
 use Rattle.normal_forms.specs.Texts.{quotient, trip_text, counter_first, value_text}
 use Rattle.normal_forms.specs.declared.loops.NormalLoop.{NormalLoop}
+use Rattle.normal_runs.proofs.Stores.{counters_many}
 use Rattle.subscripts.specs.declared.affine.Affine.{Affine}
 use Rattle.listings_read.proofs.Counts.{count, count_of, Growth, Grows, statement_grown, unguarded, terms_count}
 use Rattle.listings_read.proofs.Counts.{constant_count, total, total_least, AreFew, symbols_count}
@@ -173,10 +174,6 @@ seven_rounds (suc (suc (suc (suc (suc zero))))) c h = omega arith
 seven_rounds (suc (suc (suc (suc (suc (suc zero)))))) c h = omega arith
 seven_rounds (suc (suc (suc (suc (suc (suc (suc zero))))))) c h = omega arith
 seven_rounds (suc (suc (suc (suc (suc (suc (suc (suc n)))))))) c h = absurd (omega (arith, h))
-
-counters_many : (round : List NormalLoop) → length (counters_of round) ≡ length round
-counters_many [] = refl
-counters_many (r ∷ rs) = ap suc (counters_many rs)
 
 module _ (symbols : List (List ℕ)) where
   values_count : (outer rs : List NormalLoop) (s : Guarded) → Each HasSizes rs
