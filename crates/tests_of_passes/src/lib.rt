@@ -1,4 +1,4 @@
-//! The passes on whole decks: what is found, what is made of it, its graph and its holds: tests alone.
+//! The passes on whole decks: what is found, what is made of it, its graph, its holds and its array forms: tests alone.
 #![tactic(auto)]
 
 #[cfg(test)]

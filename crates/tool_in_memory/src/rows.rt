@@ -22,7 +22,7 @@ fn is_answered(alloc: Global, row: &Row) -> Result<bool, AllocError> {
     )
 }
 
-/// The name of the first row that has another answer, if one has. `./fvec` with its words and its deck shows which.
+/// The name of the first row that has another answer, if one has; `./fvec` with its words shows that answer.
 pub fn first_other(alloc: Global, rows: &[Row]) -> Result<Option<&'static str>, AllocError> {
     for row in rows {
         if !is_answered(alloc, row)? {
