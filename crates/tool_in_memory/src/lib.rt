@@ -2,6 +2,8 @@
 #![tactic(auto)]
 
 mod calls;
+#[cfg(test)]
+mod others;
 mod rows;
 
 pub use calls::{Done, Objects, WILLING, call, text_of};
