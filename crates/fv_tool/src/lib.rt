@@ -49,7 +49,7 @@ fn perform<K: Sink>(alloc: Global, command: Command, deck: &[u8], out: &mut K) -
       faults_now = K.faults out.new;
     }) result }
     ensures untouched { is_silent (Some command) result ≡ true → out.new ≡ out.old }
-    ensures wordless { IsRun command → (p : Program) → Reads command deck.now p → text_of_run command deck.now p ≡ []
+    ensures textless { IsRun command → (p : Program) → Reads command deck.now p → text_of_run command deck.now p ≡ []
         → out.new ≡ out.old }
     ensures no_fault { (result ≡ WriteFault → ⊥) → K.faults out.new ≡ K.faults out.old }
     ensures later { K.faults out.old ≤ K.faults out.new }
@@ -96,7 +96,7 @@ fn obey<S: Source, K: Sink>(alloc: Global, command: Command, deck: &mut S, out: 
       out_faults_now = K.faults out.new;
     }) result }
     ensures untouched { is_silent (Some command) result ≡ true → out.new ≡ out.old }
-    ensures wordless { IsRun command → K.held out.old ≡ []
+    ensures textless { IsRun command → K.held out.old ≡ []
         → IfTold (S.left deck.old) (λ bytes. (p : Program) → Reads command bytes p → text_of_run command bytes p ≡ []
         → out.new ≡ out.old) }
     ensures passed { gives_all result ≡ true → K.held out.new ≡ [] }
@@ -127,7 +127,7 @@ fn work<S: Source, K: Sink>(alloc: Global, words: &[String], deck: &mut S, out: 
     }) result }
     ensures unread { command_of (texts words.now) ≡ None → deck.new ≡ deck.old }
     ensures untouched { is_silent (command_of (texts words.now)) result ≡ true → out.new ≡ out.old }
-    ensures wordless { (c : Asked) → IsRun c → command_of (texts words.now) ≡ Some c → K.held out.old ≡ []
+    ensures textless { (c : Asked) → IsRun c → command_of (texts words.now) ≡ Some c → K.held out.old ≡ []
         → IfTold (S.left deck.old) (λ bytes. (p : Program) → Reads c bytes p → text_of_run c bytes p ≡ []
         → out.new ≡ out.old) }
     ensures passed { gives_all result ≡ true → K.held out.new ≡ [] }
@@ -202,7 +202,7 @@ pub fn run_tool<S: Source, K: Sink, E: Sink>(
 
     // All that was given has been passed on at 0, 3 and 4. Where a run has no text, `out` is as it was.
     ensures passed_on { IsOneOf (0 ∷ 3 ∷ 4 ∷ []) result → K.held out.new ≡ [] }
-    ensures wordless { (c : Asked) → IsRun c → Asks words.now.items c → K.held out.old ≡ []
+    ensures textless { (c : Asked) → IsRun c → Asks words.now.items c → K.held out.old ≡ []
         → IfTold (S.left deck.old) (λ bytes. (p : Program) → Reads c bytes p → text_of_run c bytes p ≡ []
         → out.new ≡ out.old) }
 

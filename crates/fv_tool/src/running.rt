@@ -42,7 +42,7 @@ fn run_machine77<K: Sink>(
           faults_now = K.faults out.new;
         }) result }
     ensures untouched { is_silent (Some (Run77 options)) result ≡ true → out.new ≡ out.old }
-    ensures wordless { (p : Program) → IsProgram77 fortran77 p → IsMachine77Of p machine.old
+    ensures textless { (p : Program) → IsProgram77 fortran77 p → IsMachine77Of p machine.old
         → run_text options p (run_at fortran77 options.steps p input.now) ≡ [] → out.new ≡ out.old }
     ensures no_fault { (result ≡ Outcome.WriteFault → ⊥) → K.faults out.new ≡ K.faults out.old }
     ensures later { K.faults out.old ≤ K.faults out.new }
@@ -78,7 +78,7 @@ fn run_machine90<K: Sink>(
           faults_now = K.faults out.new;
         }) result }
     ensures untouched { is_silent (Some (Run90 options)) result ≡ true → out.new ≡ out.old }
-    ensures wordless { (p : Program) → IsProgram90 p → IsMachine90Of p machine.old
+    ensures textless { (p : Program) → IsProgram90 p → IsMachine90Of p machine.old
         → run_text options p (run_at fortran90 options.steps p input.now) ≡ [] → out.new ≡ out.old }
     ensures no_fault { (result ≡ Outcome.WriteFault → ⊥) → K.faults out.new ≡ K.faults out.old }
     ensures later { K.faults out.old ≤ K.faults out.new }
@@ -111,7 +111,7 @@ pub(crate) fn run77<K: Sink>(alloc: Global, options: Options, deck: &[u8], out: 
       faults_now = K.faults out.new;
     }) result }
     ensures untouched { is_silent (Some (Run77 options)) result ≡ true → out.new ≡ out.old }
-    ensures wordless { (p : Program) → Reads (Run77 options) deck.now p → text_of_run (Run77 options) deck.now p ≡ []
+    ensures textless { (p : Program) → Reads (Run77 options) deck.now p → text_of_run (Run77 options) deck.now p ≡ []
         → out.new ≡ out.old }
     ensures no_fault { (result ≡ Outcome.WriteFault → ⊥) → K.faults out.new ≡ K.faults out.old }
     ensures later { K.faults out.old ≤ K.faults out.new }
@@ -138,7 +138,7 @@ pub(crate) fn run90<K: Sink>(alloc: Global, options: Options, deck: &[u8], out: 
       faults_now = K.faults out.new;
     }) result }
     ensures untouched { is_silent (Some (Run90 options)) result ≡ true → out.new ≡ out.old }
-    ensures wordless { (p : Program) → Reads (Run90 options) deck.now p → text_of_run (Run90 options) deck.now p ≡ []
+    ensures textless { (p : Program) → Reads (Run90 options) deck.now p → text_of_run (Run90 options) deck.now p ≡ []
         → out.new ≡ out.old }
     ensures no_fault { (result ≡ Outcome.WriteFault → ⊥) → K.faults out.new ≡ K.faults out.old }
     ensures later { K.faults out.old ≤ K.faults out.new }
