@@ -20,7 +20,8 @@ use Rattle.f77_names.specs.declared.uses.Use.{Use as Use'}
 use Rattle.f77_names.specs.UsesView.{plain_use}
 use Rattle.f77_names.specs.NameFacts.{facts_in, facts_of, facts_with, first_given, nothing_known, is_variable_by}
 use Rattle.f77_names.proofs.FactLaws.{typed_is, bounded_is, bare_is, constant_is}
-use Rattle.f77_constants.specs.Declarations.{Ascends, AreFacts}
+use Rattle.fv_tree.specs.declared.programs.Decl.{Decl}
+use Rattle.f77_constants.specs.Declarations.{Ascends, AreFacts, HasDimensions, HaveDimensions}
 use Rattle.f77_constants.proofs.NameOrder.{ascends_with}
 
 left : {A : Type 0} (xs : List A) (i : ℕ) (x : A) → i < length xs → x ≡ get_or xs i x → drop i xs ≡ x ∷ drop (i + 1) xs
@@ -128,3 +129,8 @@ variables_more us uses i u all old new h k e f =
 pub ascends_more : (b : Bool) (x : List ℕ) (old new : List (List ℕ)) → Ascends old → new ≡ cond b (with_name x old) old → Ascends new
 ascends_more true x old new h e = subst Ascends (sym e) (ascends_with x old h)
 ascends_more false x old new h e = subst Ascends (sym e) h
+
+-- a declaration behind those of which each array has a dimension
+pub more_dimensions : (ds : List Decl) (d : Decl) → HaveDimensions ds → HasDimensions d.extent → HaveDimensions (ds ++ d ∷ [])
+more_dimensions [] d have has = (has, tt)
+more_dimensions (e ∷ ds) d have has = (have.0, more_dimensions ds d have.1 has)

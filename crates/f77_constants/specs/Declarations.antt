@@ -1,9 +1,12 @@
 -- Lists of names in byte order, and declarations with the numbers that they can hold.
-use Rattle.std.specs.Prelude.{◌≡◌, ℕ, ℤ, pos, false, if◌then◌else◌, List, [], ◌∷◌, map}
-use Rattle.std.specs.List.{filter, fold}
+use Rattle.std.specs.Prelude.{◌≡◌, ℕ, ◌<◌, ℤ, pos, false, if◌then◌else◌, List, [], ◌∷◌, map, length}
+use Rattle.std.specs.List.{AllByRecursion, filter, fold}
 use Rattle.std.specs.Cmp.Lexicographic.{slice_cmp}
 use Rattle.std.specs.Ordering.{nat_cmp, is_lt}
 use Rattle.fv_tree.specs.Operators.{fits}
+use Rattle.fv_tree.specs.declared.programs.Decl.{Decl}
+use Rattle.fv_tree.specs.declared.programs.Extent.{Extent as Extent'}
+use Rattle.fv_tree.specs.declared.programs.Extent.TheVariants.{Scalar, Fixed, Later as Later'}
 use Rattle.fv_tree.specs.Plain.{Expression, Extent, Given, Later, Declaration}
 use Rattle.fv_meaning.specs.Store.{Store}
 use Rattle.f77_grammar.specs.Statement77.{Labelled}
@@ -53,6 +56,15 @@ dimensions s bs = map (λ b. bounds_in (dimension_of fortran77 s b)) bs
 -- these variables with their declarations
 abbrev pub narrow_declarations : List Use → Store → List Labelled → List (List ℕ) → List Declaration
 narrow_declarations us s text xs = map (λ x. narrow_declaration (declaration_of fortran77 us s text x)) xs
+
+-- an array of fixed bounds has at least one dimension
+abbrev pub HasDimensions : Extent' → Type 0
+HasDimensions Scalar = Unit {0}
+HasDimensions (Fixed dims) = 0 < length dims
+HasDimensions (Later' n) = Unit {0}
+
+abbrev pub HaveDimensions : List Decl → Type 0
+HaveDimensions ds = AllByRecursion (λ (d : Decl). HasDimensions d.extent) ds
 
 -- the declarations of a program
 abbrev pub all_declarations : List Use → Store → List Labelled → List Declaration

@@ -1,5 +1,5 @@
 //! The declarations of the variables of a program, in byte order of their names.
-ghost use Rattle.std.specs.Prelude.{◌≡◌, ℕ, List, ◌&&◌, None, if◌then◌else◌, IfOk, OnOk, map};
+ghost use Rattle.std.specs.Prelude.{◌≡◌, ℕ, List, ◌&&◌, None, if◌then◌else◌, IfOk, OnOk, map, length};
 ghost use Rattle.std.specs.Str.{bytes_eq};
 ghost use Rattle.fv_tree.specs.View as view;
 ghost use Rattle.fv_tree.specs.Plain.{Given};
@@ -15,6 +15,7 @@ ghost use Rattle.f77_constants.specs.Constants.{AreValues, store_of};
 ghost use Rattle.f77_constants.specs.Declarations.{Ascends, AreFacts, narrowed, narrow, narrow_declaration};
 ghost use Rattle.fv_meaning.specs.Dialect.{fortran77};
 ghost use Rattle.f77_constants.specs.Declarations.{narrow_declarations, dimensions, variables_from, all_declarations};
+ghost use Rattle.f77_constants.specs.Declarations.{HasDimensions, HaveDimensions};
 
 use crate::constants::Constants;
 use crate::parts::entities;
@@ -139,8 +140,9 @@ fn variables(alloc: Global, uses: &[Use], names: &Names) -> Result<Vec<Name>, Me
 
 impl Constants {
     fn dims(&self, alloc: Global, bounds: &[(Expr, Expr)]) -> Result<Seq<Dim>, Memory>
-        ensures { IfOk result (λ dims.
+        ensures bounds { IfOk result (λ dims.
             map view.bounds_of dims ≡ map narrow (dimensions (store_of self.now) (map bounds_of bounds.now))) }
+        ensures count { IfOk result (λ dims. length dims ≡ length bounds.now) }
     {
         let mut dims = Seq::new(alloc);
         for pair in bounds {
@@ -150,13 +152,14 @@ impl Constants {
     }
 
     fn extent(&self, alloc: Global, bounds: &[(Expr, Expr)]) -> Result<Extent, Memory>
-        ensures { IfOk result (λ extent.
+        ensures extent { IfOk result (λ extent.
             view.extent_of extent ≡ Given (map narrow (dimensions (store_of self.now) (map bounds_of bounds.now)))) }
+        ensures dimensions { IfOk result HasDimensions }
     {
-        match bounds {
-            [] => Ok(Extent::Scalar),
-            [..] => Ok(Extent::Fixed(self.dims(alloc, bounds)?)),
+        if bounds.is_empty() {
+            return Ok(Extent::Scalar);
         }
+        Ok(Extent::Fixed(self.dims(alloc, bounds)?))
     }
 
     fn declaration(
@@ -166,7 +169,8 @@ impl Constants {
         names: &Names,
         name: Name,
     ) -> Result<Decl, Memory>
-        ensures { (us : List Use') → AreFacts names.now us
+        ensures dimensions { IfOk result (λ declaration. HasDimensions declaration.extent) }
+        ensures declaration { (us : List Use') → AreFacts names.now us
             → IfOk result (λ declaration.
             view.declaration_of declaration
             ≡ narrow_declaration (tree.declaration_of fortran77 us (store_of self.now) (text_of text.now) name)) }
@@ -176,6 +180,7 @@ impl Constants {
         Ok(Decl { name, kind, extent })
     }
 
+    #[tactic(auto, using(crate::proofs::DeclarationLaws::more_dimensions))]
     fn declare(
         &self,
         alloc: Global,
@@ -183,7 +188,8 @@ impl Constants {
         names: &Names,
         variables: &[Name],
     ) -> Result<Seq<Decl>, Memory>
-        ensures { (us : List Use') → AreFacts names.now us
+        ensures dimensions { IfOk result HaveDimensions }
+        ensures declarations { (us : List Use') → AreFacts names.now us
             → IfOk result (λ declarations.
             map view.declaration_of declarations
             ≡ narrow_declarations us (store_of self.now) (text_of text.now) variables.now) }
@@ -202,7 +208,8 @@ pub fn declarations_of(
     text: &[Labelled],
     constants: &Constants,
 ) -> Result<Seq<Decl>, Memory>
-    ensures { (s : Store) → AreValues constants.now s
+    ensures dimensions { IfOk result HaveDimensions }
+    ensures declarations { (s : Store) → AreValues constants.now s
         → first_index (plain.has_bad_constant fortran77 s) (text_of text.now) ≡ None
         → IfOk result (λ declarations.
         map view.declaration_of declarations

@@ -126,7 +126,7 @@ pub fn targets_of(
         let refused = is_no_target(form);
         targets.push(Target { inside, refused })?;
         openings.drop_ended(i + 1);
-        openings.pass(form, i, place_under(form.begun(), ends))?;
+        openings = openings.pass(form, i, place_under(form.begun(), ends))?;
         arms.pass(form, i)?;
     }
     Ok(targets)

@@ -8,7 +8,7 @@ ghost use Rattle.f77_syntax.specs.Views.{statement_of, text_of};
 ghost use Rattle.f77_names.specs.UsesView.{listed};
 
 use crate::kind_check::KindCheck;
-use f77_names::Uses;
+use f77_names::uses_of;
 use f77_syntax::{Labelled, Stmt77};
 use fv_tree::Memory;
 use std::alloc::Global;
@@ -19,8 +19,7 @@ impl KindCheck {
         ensures { IfOk result (λ hidden. hidden ≡ list_any (kinds.calls_hidden (listed self.now.uses))
             (plain.uses_of (statement_of statement.now))) }
     {
-        let mut uses = Uses::new(alloc);
-        uses.add_statement(statement)?;
+        let uses = uses_of(alloc, statement)?;
         Ok(self.call_hidden(uses.as_slice()))
     }
 

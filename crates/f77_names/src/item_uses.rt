@@ -11,7 +11,7 @@ use fv_tree::{Expr, Item, Memory, Name, Ref, Seq};
 impl Uses {
     /// What is assigned or read into.
     #[tactic(auto, using(crate::proofs::ItemUseLaws::item_use_laws))]
-    pub fn add_target(&mut self, target: &Ref) -> Result<(), Memory>
+    pub(crate) fn add_target(&mut self, target: &Ref) -> Result<(), Memory>
         ensures { OnOk result (listed self.new ≡ listed self.old
             ++ plain.target_uses (reference_of target.now).name (reference_of target.now).subscripts) }
     {
@@ -39,7 +39,7 @@ impl Uses {
     }
 
     // A DO variable and its three parameters.
-    pub fn add_control(
+    pub(crate) fn add_control(
         &mut self,
         variable: Name,
         first: &Expr,
@@ -73,7 +73,7 @@ impl Uses {
 
     /// The items of an output list.
     #[cycle(outputs)]
-    pub fn add_outputs(&mut self, list: &Seq<Item>) -> Result<(), Memory>
+    pub(crate) fn add_outputs(&mut self, list: &Seq<Item>) -> Result<(), Memory>
         ensures { OnOk result (listed self.new ≡ listed self.old
             ++ plain.uses_in_outputs (items (map item_of list.now))) }
     {
@@ -100,7 +100,7 @@ impl Uses {
 
     /// The items of an input list.
     #[cycle(inputs)]
-    pub fn add_inputs(&mut self, list: &Seq<Item>) -> Result<(), Memory>
+    pub(crate) fn add_inputs(&mut self, list: &Seq<Item>) -> Result<(), Memory>
         ensures { OnOk result (listed self.new ≡ listed self.old
             ++ plain.uses_in_inputs (items (map item_of list.now))) }
     {

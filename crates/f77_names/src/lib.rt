@@ -18,5 +18,5 @@ pub use counts::many_names;
 pub use declarations::wrong_declaration;
 pub use names::{Facts, Names, names_of, names_of_text};
 pub use real_names::real_name;
-pub use statement_uses::uses_in_text;
+pub use statement_uses::{uses_in_text, uses_of};
 pub use uses::{Role, Use, Uses};

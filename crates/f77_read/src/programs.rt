@@ -3,6 +3,7 @@ ghost use Rattle.std.specs.Prelude.{◌≡◌, ◌⊎◌, ◌≤◌, ℕ, List, 
 ghost use Rattle.fv_tree.specs.Plain.{Program};
 ghost use Rattle.fv_tree.specs.View.{program_of};
 ghost use Rattle.fv_tree.specs.declared.refusals.Refusal.{Refusal};
+ghost use Rattle.f77_constants.specs.Declarations.{HaveDimensions};
 ghost use Rattle.f77_grammar.specs.Cards.{ReadsCards};
 ghost use Rattle.fv_meaning.specs.Dialect.{fortran77};
 ghost use Rattle.fv_meaning.specs.Profile77.{IsProgram77};
@@ -21,14 +22,16 @@ use fv_tree::{Program77, Refused, Seq};
 use std::alloc::Global;
 
 fn build_text(alloc: Global, text: &[Labelled]) -> Result<Program77, Refused>
-    ensures { IsTextBuilt (text_of text.now) result }
+    ensures built { IsTextBuilt (text_of text.now) result }
+    ensures dimensions { IfOk result (λ program. HaveDimensions program.decls) }
 {
     check(alloc, text)?;
     Ok(tree(alloc, text)?)
 }
 
 fn build_cards(alloc: Global, cards: &[Card]) -> Result<Program77, Refused>
-    ensures { AreCardsBuilt (map card_of cards.now) result }
+    ensures built { AreCardsBuilt (map card_of cards.now) result }
+    ensures dimensions { IfOk result (λ program. HaveDimensions program.decls) }
 {
     let text = read_cards(alloc, cards)?;
     build_text(alloc, text.as_slice())
@@ -42,6 +45,9 @@ pub fn build(alloc: Global, cards: &Seq<Card>) -> Result<Program77, Refused>
     ensures ok { IfOk result (λ p. ReadsProgram fortran77 (map card_of cards.now) (program_of p)) }
     ensures program { (source : List ℕ) → ReadsCards source (map card_of cards.now)
         → IfOk result (λ p. IsProgram77 fortran77 (program_of p)) }
+
+    // Whoever prints its arrays finds bounds there.
+    ensures dimensions { IfOk result (λ p. HaveDimensions p.decls) }
 
     // From 10 on the numbers are those of findings in the statements, whose order is that of lines.
     ensures refused { (r : Refusal) → result ≡ Err (Refused.Refusal r)

@@ -5,6 +5,7 @@ ghost use Rattle.fv_tree.specs.View.{program_of};
 ghost use Rattle.fv_tree.specs.declared.refusals.Refusal.{Refusal};
 ghost use Rattle.fv_meaning.specs.Dialect.{fortran77};
 ghost use Rattle.fv_meaning.specs.Profile77.{IsProgram77};
+ghost use Rattle.f77_constants.specs.Declarations.{HaveDimensions};
 ghost use Rattle.f77_grammar.specs.Reading77.{Reads77, Refused77};
 
 use crate::programs::build;
@@ -18,6 +19,9 @@ pub fn read77(alloc: Global, source: &[u8]) -> Result<Program77, Refused>
     ensures ok { IfOk result (λ p. Reads77 fortran77 source.now (program_of p)) }
     ensures program { IfOk result (λ p. IsProgram77 fortran77 (program_of p)) }
     ensures refused { (r : Refusal) → result ≡ Err (Refused.Refusal r) → Refused77 fortran77 source.now r }
+
+    // Whoever prints its arrays finds bounds there.
+    ensures dimensions { IfOk result (λ p. HaveDimensions p.decls) }
 
     // A source that is read, or refused, has no other answer, unless memory runs out.
     ensures only_read { (p : Program) → Reads77 fortran77 source.now p

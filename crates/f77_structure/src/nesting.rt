@@ -77,7 +77,7 @@ pub fn wrong_closer(alloc: Global, text: &[Labelled]) -> Result<Option<usize>, M
         if openings.has_wrong_closer(form, i, end, first) {
             return Ok(Some(i));
         }
-        openings.pass(form, i, end)?;
+        openings = openings.pass(form, i, end)?;
         firsts.put_first(form.begun(), i)?;
     }
     Ok(None)

@@ -1,5 +1,5 @@
 //! What is open at a statement: block IFs, and loops.
-ghost use Rattle.std.specs.Prelude.{◌≡◌, ℕ, ◌+◌, ◌<◌, ◌^◌, ◌||◌, ◌∷◌, [], true, false, OnOk};
+ghost use Rattle.std.specs.Prelude.{◌≡◌, ℕ, ◌+◌, ◌<◌, ◌^◌, ◌||◌, ◌∷◌, [], true, false, IfOk, OnOk};
 ghost use Rattle.f77_structure.specs.Openings.{frames, loops_in, tail_of, marked, trimmed, first_of, next_frames};
 ghost use Rattle.f77_structure.specs.Openings.{opened, nearest_at, is_behind, begins_behind, lacks_if, refuses_else};
 ghost use Rattle.f77_structure.specs.Openings.{is_unpaired, closes_wrongly, ends_wrongly, is_from, has_wrong_closer};
@@ -113,11 +113,21 @@ impl Openings {
     }
 
     /// What is open behind a statement of this form, which stands behind `at` others; a DO's loop ends at `end`.
-    pub fn pass(&mut self, form: Form, at: usize, end: Option<usize>) -> Result<(), Memory>
-        ensures ifs { OnOk result (frames self.new ≡ next_frames form at (frames self.old)) }
-        ensures loops { OnOk result (loops_in self.new ≡ opened at end (loops_in self.old)) }
+    pub fn pass(self, form: Form, at: usize, end: Option<usize>) -> Result<Openings, Memory>
+        ensures ifs { IfOk result (λ openings. frames openings ≡ next_frames form at (frames self)) }
+        ensures loops { IfOk result (λ openings. loops_in openings ≡ opened at end (loops_in self)) }
     {
-        self.open_loop(at, end)?;
+        let mut openings = self;
+        openings.open_loop(at, end)?;
+        openings.pass_if(form, at)?;
+        Ok(openings)
+    }
+
+    // The block IFs that are open behind the statement.
+    fn pass_if(&mut self, form: Form, at: usize) -> Result<(), Memory>
+        ensures ifs { OnOk result (frames self.new ≡ next_frames form at (frames self.old)) }
+        ensures loops { OnOk result (loops_in self.new ≡ loops_in self.old) }
+    {
         match form {
             Form::If => self.open_if(at),
             Form::EndIf => {

@@ -4,6 +4,7 @@ ghost use Rattle.fv_tree.specs.View.{program_of};
 ghost use Rattle.f77_grammar.specs.program.Limits.{constants_of, has_bad_constant};
 ghost use Rattle.f77_grammar.specs.program.Tree.{tree_of, first_of_names};
 ghost use Rattle.f77_grammar.specs.program.Uses.{is_title, names_that};
+ghost use Rattle.f77_constants.specs.Declarations.{HaveDimensions};
 ghost use Rattle.f77_names.specs.UsesView.{plain_use};
 ghost use Rattle.f77_syntax.specs.First.{first_index};
 ghost use Rattle.fv_meaning.specs.Dialect.{fortran77};
@@ -43,7 +44,8 @@ fn title(uses: &[Use]) -> Option<Name>
 /// The tree that the statements form of a program in which no symbolic constant and no bound faults or leaves the range
 /// of INTEGER.
 pub fn tree(alloc: Global, text: &[Labelled]) -> Result<Program77, Memory>
-    ensures { first_index (has_bad_constant fortran77 (constants_of fortran77 (text_of text.now))) (text_of text.now)
+    ensures dimensions { IfOk result (λ program. HaveDimensions program.decls) }
+    ensures tree { first_index (has_bad_constant fortran77 (constants_of fortran77 (text_of text.now))) (text_of text.now)
         ≡ None
         → IfOk result (λ program. program_of program ≡ tree_of fortran77 (text_of text.now)) }
 {

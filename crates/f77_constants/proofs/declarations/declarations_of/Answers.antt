@@ -10,8 +10,8 @@ use Rattle.f77_constants.specs.Declarations.{AreFacts, narrow_declarations, vari
 use Rattle.f77_constants.proofs.NarrowLaws.{all_declared}
 use Rattle.f77_constants.proofs.declarations.declarations_of.Goals as goal
 
-pub returns : goal.returns
-returns c = λ s h good.
+pub returns-clause-declarations : goal.returns-clause-declarations
+returns-clause-declarations c = λ s h good.
     let us = uses_in_text (text_of c.args.text.now) in
     let facts : AreFacts c.in_ok-names.names us = record {
       facts = λ x. c.in_ok-names.ensures x ∙ ap (λ vs. facts_of nothing_known (map plain_use vs) x) c.as_slice.ensures ∙ ap (λ vs. facts_of nothing_known vs x) c.in_ok-uses.ensures;
@@ -21,4 +21,4 @@ returns c = λ s h good.
     (λ ds. map view.declaration_of ds ≡ all_declarations us s (text_of c.args.text.now))
     (λ ds declared. all_declared us s (store_of c.args.constants.now) (text_of c.args.text.now) c.as_slice-3.result.now (map view.declaration_of ds) declared h.same good
     (c.as_slice-3.ensures.value ∙ c.in_ok-variables.ensures us facts ∙ ap (λ vs. variables_from us (map plain_use vs)) c.as_slice-2.ensures ∙ ap (variables_from us) c.in_ok-uses.ensures))
-    (c.declare.ensures us facts)
+    (c.declare.ensures.declarations us facts)

@@ -5,7 +5,7 @@ use Rattle.f77_read.specs.Outcomes.{IsTextBuilt}
 use Rattle.f77_read.proofs.Answers.{text_built}
 use Rattle.f77_read.proofs.programs.build_cards.Goals as goal
 
-pub returns : goal.returns
-returns c =
+pub returns-clause-built : goal.returns-clause-built
+returns-clause-built c =
     text_built (map card_of c.args.cards.now) (text_of c.in_ok-text.text) c.build_text.result c.in_ok-text.ensures
-    (subst (λ xs. IsTextBuilt (text_of xs) c.build_text.result) c.as_slice.ensures c.build_text.ensures)
+    (subst (λ xs. IsTextBuilt (text_of xs) c.build_text.result) c.as_slice.ensures c.build_text.ensures.built)

@@ -3,12 +3,12 @@ use Rattle.f77_syntax.specs.Views.{text_of}
 use Rattle.f77_read.proofs.TextLaws.{check_refused, no_bad_constant}
 use Rattle.f77_read.proofs.programs.build_text.Goals as goal
 
-pub returns-in_err-check : goal.returns-in_err-check
-returns-in_err-check c =
+pub returns-in_err-check-clause-built : goal.returns-in_err-check-clause-built
+returns-in_err-check-clause-built c =
     let p = err_from_is_err_and c.from_residual.result c.from_residual.ensures.1 in
     rw (p.1, p.2) (check_refused (text_of c.args.text.now) _ c.in_err-check.ensures.refused)
 
-pub returns : goal.returns
-returns c =
+pub returns-clause-built : goal.returns-clause-built
+returns-clause-built c =
     let sound = c.in_ok-check.ensures.ok in
-    record { sound = sound; formed = c.in_ok-tree.ensures (no_bad_constant (text_of c.args.text.now) sound) }
+    record { sound = sound; formed = c.in_ok-tree.ensures.tree (no_bad_constant (text_of c.args.text.now) sound) }

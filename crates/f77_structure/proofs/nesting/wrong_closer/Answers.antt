@@ -23,11 +23,11 @@ loop-i-preserved c = record {
       c.loop-i.invariant.ifs c.loop-i.invariant.loops c.of-form.ensures c.begun.ensures c.place_under-end.ensures c.place_under-first.ensures
       ∙ sym c.has_wrong_closer.ensures.answer ∙ c.if-has_wrong_closer.false)
       c.loop-i.invariant.searched;
-  ifs = frames_named c.args.text.now c.loop-i.i c.index-text-i.result (frames c.loop-i.openings) (frames c.has_wrong_closer.new.self) (frames c.pass.new.self) c.of-form.result
-      (omega arith) c.index-text-i.is c.loop-i.invariant.ifs c.of-form.ensures c.has_wrong_closer.ensures.ifs c.in_ok-pass.ensures.ifs;
-  loops = loops_named c.args.text.now c.loop-i.i c.index-text-i.result (place_of c.in_ok-ends.ends) (loops_in c.loop-i.openings) (loops_in c.has_wrong_closer.new.self) (loops_in c.pass.new.self)
+  ifs = frames_named c.args.text.now c.loop-i.i c.index-text-i.result (frames c.loop-i.openings) (frames c.has_wrong_closer.new.self) (frames c.in_ok-openings.openings) c.of-form.result
+      (omega arith) c.index-text-i.is c.loop-i.invariant.ifs c.of-form.ensures c.has_wrong_closer.ensures.ifs c.in_ok-openings.ensures.ifs;
+  loops = loops_named c.args.text.now c.loop-i.i c.index-text-i.result (place_of c.in_ok-ends.ends) (loops_in c.loop-i.openings) (loops_in c.has_wrong_closer.new.self) (loops_in c.in_ok-openings.openings)
       c.of-form.result c.begun.result c.place_under-end.result (omega arith) c.index-text-i.is c.loop-i.invariant.loops c.of-form.ensures c.begun.ensures c.place_under-end.ensures
-      c.has_wrong_closer.ensures.loops c.in_ok-pass.ensures.loops;
+      c.has_wrong_closer.ensures.loops c.in_ok-openings.ensures.loops;
   firsts = firsts_named c.args.text.now c.loop-i.i c.index-text-i.result (place_of c.loop-i.firsts) (place_of c.put_first.new.self) c.of-form.result c.begun-in-loop-i.result
       (omega arith) c.index-text-i.is c.loop-i.invariant.firsts c.of-form.ensures c.begun-in-loop-i.ensures c.in_ok-put_first.ensures;
 }
