@@ -1,5 +1,5 @@
 //! Which names are functions.
-ghost use Rattle.std.specs.Prelude.{◌≡◌, ℕ, List, OnOk};
+ghost use Rattle.std.specs.Prelude.{◌≡◌, ℕ, List, OnErr, OnOk};
 ghost use Rattle.fv_tree.specs.Functions.{intrinsic_named};
 ghost use Rattle.fv_meaning.specs.Names.{is_among};
 
@@ -35,7 +35,8 @@ impl Functions {
     /// The name is declared.
     #[tactic(auto, using(crate::proofs::HidingLaws::hiding))]
     pub fn hide(&mut self, name: Name) -> Result<(), Memory>
-        ensures { OnOk result ((x : List ℕ) → function_in self.new x ≡ without name (function_in self.old) x) }
+        ensures ok { OnOk result ((x : List ℕ) → function_in self.new x ≡ without name (function_in self.old) x) }
+        ensures err { OnErr result (self.new ≡ self.old) }
     {
         if is_among(name, self.hidden.as_slice()) {
             return Ok(());

@@ -1,5 +1,5 @@
 //! Statements of a program as parts of a nest.
-ghost use Rattle.std.specs.Prelude.{◌≡◌, ◌++◌, map, OnOk, IfOk};
+ghost use Rattle.std.specs.Prelude.{◌≡◌, ◌++◌, map, OnErr, OnOk, IfOk};
 ghost use Rattle.fv_tree.specs.View.{expression_of, statement_of, tested_of, block_of};
 ghost use Rattle.nest_tree.specs.Plain.{Turns, parts};
 ghost use Rattle.nest_tree.specs.View.{part_of, branch_of, loop_of};
@@ -60,10 +60,10 @@ pub struct Numbering {
 }
 
 impl Numbering {
-    /// The parts that a block is. Statements that no nest has are left out.
+    // The parts that a block is. Statements that no nest has are left out.
     #[cycle(parts)]
     #[tactic(auto, using(crate::proofs::PartLaws::block_laws))]
-    pub fn block(&mut self, alloc: Global, block: &Block) -> Result<Seq<Part>, Memory>
+    fn block(&mut self, alloc: Global, block: &Block) -> Result<Seq<Part>, Memory>
         ensures parts { IfOk result (λ parts.
             map part_of parts ≡ parts_of_block self.old.loops (block_of block.now)) }
         ensures loops { OnOk result (self.new.loops ≡ after_block self.old.loops (block_of block.now)) }
@@ -85,15 +85,10 @@ impl Numbering {
         Ok(parts)
     }
 
-    /// Adds the part that a statement is. Nothing is added for a statement that no nest has.
+    // Adds the part that a statement is. Nothing is added for a statement that no nest has.
     #[cycle(parts)]
     #[tactic(auto, using(crate::proofs::PartLaws::part_laws))]
-    pub fn add_stmt(
-        &mut self,
-        alloc: Global,
-        stmt: &Stmt,
-        parts: &mut Seq<Part>,
-    ) -> Result<(), Memory>
+    fn add_stmt(&mut self, alloc: Global, stmt: &Stmt, parts: &mut Seq<Part>) -> Result<(), Memory>
         ensures parts { OnOk result (map part_of parts.new
             ≡ map part_of parts.old ++ parts_of self.old.loops (statement_of stmt.now)) }
         ensures loops { OnOk result (self.new.loops ≡ after self.old.loops (statement_of stmt.now)) }
@@ -139,7 +134,7 @@ impl Numbering {
         }
     }
 
-    /// A loop as a part.
+    /// A loop as a part, with those in it. Statements that no nest has are left out.
     #[tactic(auto, using(crate::proofs::PartLaws::part_laws))]
     pub fn turns(
         &mut self,
@@ -154,10 +149,14 @@ impl Numbering {
             ≡ Turns (source_loop (next self.old.loops) var (expression_of first.now) (expression_of last.now)
             (expression_of step.now)) (parts (parts_of_block (next self.old.loops) (block_of body.now)))) }
         ensures loops { OnOk result (self.new.loops ≡ after_block (next self.old.loops) (block_of body.now)) }
+        ensures err { OnErr result (self.new ≡ self.old) }
     {
-        self.loops = next(self.loops);
-        let turns = source_loop(alloc, self.loops, var, first, last, step)?;
-        Ok(Part::Turns(turns, self.block(alloc, body)?))
+        let mut numbering = *self;
+        numbering.pass_over();
+        let turns = source_loop(alloc, numbering.loops, var, first, last, step)?;
+        let inside = numbering.block(alloc, body)?;
+        *self = numbering;
+        Ok(Part::Turns(turns, inside))
     }
 
     /// Passes over a loop, but not over those in it.

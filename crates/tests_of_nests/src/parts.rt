@@ -30,7 +30,7 @@ fn number_of(part: Option<&Part>) -> u32 {
     }
 }
 
-// A loop in a loop, and one behind them, where four loops stand before.
+// A loop with a loop in a loop, and one behind them, where four loops stand before.
 #[test]
 fn numbers_loops(rt: HostRuntime) -> Result<(), Fail> {
     let alloc = rt.alloc();
@@ -38,10 +38,16 @@ fn numbers_loops(rt: HostRuntime) -> Result<(), Fail> {
     let mut stmts = one(alloc, turns(one(alloc, inner)?)?)?;
     stmts.push(turns(one(alloc, Stmt::Label { number: 7 })?)?)?;
     let mut numbering = Numbering { loops: 4 };
-    let parts = numbering.block(alloc, &Block { stmts })?;
-    assert_eq!(rt; numbering.loops, 7);
+    let var = Name::read(b"J").ok_or("J")?;
+    let (first, last, step) = (Expr::Int(1), Expr::Int(9), Expr::Int(2));
+    let part = numbering.turns(alloc, var, &first, &last, &step, &Block { stmts })?;
+    let Part::Turns(outer, parts) = part else {
+        return Err(Fail::from("no loop"));
+    };
+    assert_eq!(rt; numbering.loops, 8);
+    assert_eq!(rt; outer.number, 5);
     assert_eq!(rt; parts.len(), 2);
-    assert_eq!(rt; number_of(parts.get(0)), 5);
-    assert_eq!(rt; number_of(parts.get(1)), 7);
+    assert_eq!(rt; number_of(parts.get(0)), 6);
+    assert_eq!(rt; number_of(parts.get(1)), 8);
     Ok(())
 }

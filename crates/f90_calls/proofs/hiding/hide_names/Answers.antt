@@ -13,7 +13,7 @@ hiding-preserved c xs k =
     = first_of (cc, search rules) in
     left_at (xs ++ names_of c.args.entities.now) c.args.entities.now c.hiding.entity-index c.entity-item.result
     c.hiding.functions c.hide.new.self l g
-    (c.hiding.invariant xs k) c.in_ok-hide.ensures
+    (c.hiding.invariant xs k) c.in_ok-hide.ensures.ok
 
 pub returns : goal.returns
 returns c xs k =
