@@ -1,5 +1,5 @@
 //! Last values in place.
-ghost use Rattle.std.specs.Prelude.{◌≡◌, ◌++◌, ◌∷◌, [], map, IfOk, OnOk};
+ghost use Rattle.std.specs.Prelude.{◌≡◌, ◌++◌, ◌∷◌, [], map, IfOk, OnErr, OnOk};
 ghost use Rattle.fv_tree.specs.View.{expression_of};
 ghost use Rattle.nest_tree.specs.View.{part_of};
 ghost use Rattle.normal_forms.specs.Texts.{at_least_one};
@@ -103,8 +103,9 @@ pub fn add_parts_before(
     turns: &NormalLoop,
     parts: &mut Seq<Part>,
 ) -> Result<(), Memory>
-    ensures { OnOk result (map part_of parts.new
+    ensures ok { OnOk result (map part_of parts.new
         ≡ map part_of parts.old ++ parts_before symbols.now line round.now turns.now) }
+    ensures err { OnErr result (parts.new ≡ parts.old) }
 {
     if is_positive(&turns.trip) {
         return Ok(());
@@ -140,8 +141,9 @@ pub fn add_parts_behind(
     turns: &NormalLoop,
     parts: &mut Seq<Part>,
 ) -> Result<(), Memory>
-    ensures { OnOk result (map part_of parts.new
+    ensures ok { OnOk result (map part_of parts.new
         ≡ map part_of parts.old ++ parts_behind symbols.now line round.now turns.now) }
+    ensures err { OnErr result (parts.new ≡ parts.old) }
 {
     if is_positive(&turns.trip) {
         return parts.push(end_part(alloc, symbols, line, round, turns)?);
