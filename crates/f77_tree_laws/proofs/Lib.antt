@@ -1,8 +1,10 @@
 pub mod Lists
-pub mod Sound
 pub mod Frames
 pub mod Moves
 pub mod Shapes
+pub mod Sound
 pub mod Begun
 pub mod Formed
 pub mod Trees
+pub mod Pairs
+pub mod PairedBlocks

@@ -1,7 +1,7 @@
 -- Which statements, one after another, form which block (ANSI X3.9-1978, sections 11.5 to 11.10).
 --
---        DO 10 I = 1, N       Do I             a block of one DO loop: its range is the next DO with all of its own range
---        DO 10 J = 1, I         Do J           and ends, as that one, with the statement that bears 10
+--        DO 10 I = 1, N       Do I             a block of one DO loop, whose range is the next DO with its own
+--        DO 10 J = 1, I         Do J           range: both end with the statement that bears 10
 --     10 A(I,J) = 0               A(I,J) = 0   a block of one statement; no Label 10, where no GO TO names it
 use Rattle.std.specs.Prelude.{◌≡◌, ℕ, Bool, true, false, List, [], ◌∷◌, ◌++◌}
 use Rattle.fv_tree.specs.Plain as tree
