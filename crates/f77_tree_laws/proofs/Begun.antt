@@ -1,7 +1,6 @@
 -- What statements that form a block become, before what the statements after them have become.
 use Rattle.std.proofs.Common.{◌≡◌, ℕ, ◌==◌, Bool, true, false, cond, Option, Some, None, List, [], ◌∷◌, ◌++◌, length}
 use Rattle.std.proofs.Common.{refl, sym, ap, subst, ◌∙◌, arith, flat_map, append-nil, append_assoc}
-use Rattle.std.proofs.lemmas.Bool.Decides.{nat_tests}
 use Rattle.fv_tree.specs.Plain as tree
 use Rattle.fv_tree.specs.Plain.{Expression}
 use Rattle.fv_meaning.specs.Store.{Store}
@@ -87,7 +86,7 @@ range_left n (x ∷ []) y ys h = both_false (bears n x) false h.0 refl
 range_left n (x ∷ z ∷ zs) y ys h =
     both_false (bears n x) (stands_in (z ∷ zs) n) h.0 (range_left n (z ∷ zs) y ys h.1)
 
-range_right : (n : ℕ) (xs : List Labelled) (y : Labelled) (ys : List Labelled) → IsRange n (xs ++ y ∷ ys)
+pub range_right : (n : ℕ) (xs : List Labelled) (y : Labelled) (ys : List Labelled) → IsRange n (xs ++ y ∷ ys)
     → IsRange n (y ∷ ys)
 range_right n [] y ys h = h
 range_right n (x ∷ []) y ys h = h.1

@@ -1,5 +1,5 @@
 -- Statements in which nothing is nested wrongly form the block that they become.
-use Rattle.std.proofs.Common.{◌≡◌, ℕ, zero, ◌<◌, ◌==◌, nat_eq, Bool, true, false, not, ◌&&◌, ◌||◌, cond, Option, Some, None}
+use Rattle.std.proofs.Common.{◌≡◌, ℕ, ◌==◌, nat_eq, Bool, true, false, not, ◌&&◌, ◌||◌, cond, Option, Some, None}
 use Rattle.std.proofs.Common.{List, [], ◌∷◌, ◌++◌, length, refl, sym, ap, subst, ◌∙◌, arith, flat_map, append-nil}
 use Rattle.std.proofs.Common.{append_assoc}
 use Rattle.std.specs.List.{AllByRecursion, list_any}
@@ -9,7 +9,7 @@ use Rattle.fv_tree.specs.Plain.{Expression}
 use Rattle.fv_meaning.specs.Store.{Store}
 use Rattle.f77_grammar.specs.Statement77.{Labelled, Statement77, If, ElseIf, Else, EndIf, Do}
 use Rattle.f77_grammar.specs.program.Text.{Place, places_from, is_label, bears, stands_in, is_last_else}
-use Rattle.f77_grammar.specs.program.Nesting.{has_end_if, is_no_loop_end, begins_loop, is_do_of, own_since_if}
+use Rattle.f77_grammar.specs.program.Nesting.{is_no_loop_end, begins_loop, is_do_of, own_since_if}
 use Rattle.f77_grammar.specs.program.Nesting.{has_open_if, is_loop_open, since_if, since_do, is_anything_open}
 use Rattle.f77_grammar.specs.program.Nesting.{suits_else, nests_wrongly, ends_loops_wrongly, is_left_open}
 use Rattle.f77_grammar.specs.program.Nesting.{is_closed_wrongly}
@@ -17,7 +17,7 @@ use Rattle.f77_grammar.specs.program.Uses.{Use}
 use Rattle.f77_grammar.specs.program.Tree.{Piece, Rest, Outermost, InArm, block_of, up_to, beyond, preceded, arm_begun}
 use Rattle.f77_grammar.specs.program.Tree.{else_begun, if_begun, loop_in, loop_begun, mark_of, resolved, simple}
 use Rattle.f77_grammar.specs.program.Tree.{begun, rest_from}
-use Rattle.f77_tree_laws.proofs.Lists.{left_false, right_false, left_true, right_true, negated, affirmed, not_both}
+use Rattle.f77_tree_laws.proofs.Lists.{left_false, right_false, right_true, negated, affirmed, not_both}
 use Rattle.f77_tree_laws.proofs.Lists.{or_right}
 use Rattle.f77_tree_laws.proofs.Frames.{Loop, Frames, Base, Inner, pushed, closed, top_closed, frames, had_else}
 use Rattle.f77_tree_laws.proofs.Frames.{else_shown}

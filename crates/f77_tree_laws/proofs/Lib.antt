@@ -8,3 +8,5 @@ pub mod Formed
 pub mod Trees
 pub mod Pairs
 pub mod PairedBlocks
+pub mod Splits
+pub mod WellNested

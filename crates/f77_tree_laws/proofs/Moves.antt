@@ -13,7 +13,7 @@ use Rattle.f77_tree_laws.proofs.Frames.{Loop, Frames, Base, Inner, pushed, marke
 
 -- ---- a label stands on one statement alone
 
-label_free : (before : List Labelled) (m : ℕ) (end : Option ℕ) → stands_in before m ≡ true → is_wrong_label before end ≡ false → is_label m end ≡ false
+pub label_free : (before : List Labelled) (m : ℕ) (end : Option ℕ) → stands_in before m ≡ true → is_wrong_label before end ≡ false → is_label m end ≡ false
 label_free before m None h g = refl
 label_free before m (Some k) h g = by (k == m) refl
   where

@@ -14,24 +14,24 @@ use Rattle.f77_tree_laws.specs.Pairs.ArePaired.{nothing as none, other, pair}
 use Rattle.f77_tree_laws.proofs.Lists.{not_both}
 use Rattle.f77_tree_laws.proofs.Pairs.{paired_append}
 
-alone_is_no_if : (s : Statement77) → stands_alone s ≡ true → is_block_if s ≡ false
+pub alone_is_no_if : (s : Statement77) → stands_alone s ≡ true → is_block_if s ≡ false
 alone_is_no_if (If c) e = absurd (not_both false e refl)
 alone_is_no_if s e = refl
 
-alone_is_no_end : (s : Statement77) → stands_alone s ≡ true → is_end_if s ≡ false
+pub alone_is_no_end : (s : Statement77) → stands_alone s ≡ true → is_end_if s ≡ false
 alone_is_no_end EndIf e = absurd (not_both false e refl)
 alone_is_no_end s e = refl
 
 -- paired statements and an END IF behind them
-record AreEnded (xs : List Labelled) : Type 0 where
-  between : List Labelled
-  end : Labelled
-  whole : xs ≡ between ++ end ∷ []
-  is_end : is_end_if end.statement ≡ true
-  paired : ArePaired between
+pub record AreEnded (xs : List Labelled) : Type 0 where
+  pub between : List Labelled
+  pub end : Labelled
+  pub whole : xs ≡ between ++ end ∷ []
+  pub is_end : is_end_if end.statement ≡ true
+  pub paired : ArePaired between
 
 -- with other paired statements in front
-ended_behind : (xs ys : List Labelled) → ArePaired xs → AreEnded ys → AreEnded (xs ++ ys)
+pub ended_behind : (xs ys : List Labelled) → ArePaired xs → AreEnded ys → AreEnded (xs ++ ys)
 ended_behind xs ys h k =
     record {
       between = xs ++ k.between;
@@ -61,12 +61,12 @@ module _ (us : List Use) (s : Store) (named : List ℕ) where
     unit_paired xs cs (loop x n v a b c range body e r h) =
         paired_append (x ∷ []) range (only x (Do n v a b c) e refl refl) (block_paired range body h)
 
-    block_paired : (xs : List Labelled) (cs : List tree.Statement) → AreBlock us s named xs cs → ArePaired xs
+    pub block_paired : (xs : List Labelled) (cs : List tree.Statement) → AreBlock us s named xs cs → ArePaired xs
     block_paired xs cs nothing = none
     block_paired xs cs (unit first rest ds es h k) =
         paired_append first rest (unit_paired first ds h) (block_paired rest es k)
 
-    arms_ended : (xs : List Labelled) (arms : tree.Arms) (part : tree.Block) → AreArms us s named xs arms part
+    pub arms_ended : (xs : List Labelled) (arms : tree.Arms) (part : tree.Block) → AreArms us s named xs arms part
         → AreEnded xs
     arms_ended xs arms part (end_if x e) =
         record { between = []; end = x; whole = refl; is_end = ap is_end_if e; paired = none }

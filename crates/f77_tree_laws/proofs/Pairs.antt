@@ -6,7 +6,7 @@ use Rattle.std.specs.List.{list_any}
 use Rattle.f77_grammar.specs.Statement77.{Labelled, Statement77, If, EndIf}
 use Rattle.f77_grammar.specs.program.Text.{is_block_if, is_end_if, left_over, without_ended, unended}
 use Rattle.f77_grammar.specs.program.Nesting.{up_to_if, since, since_if, ends_here, has_end_if, has_open_if}
-use Rattle.f77_tree_laws.specs.Pairs.{ArePaired, Ends, IsEnded, IsEnding, EndIfIsPartner, OpenIfIsPartner, OneEnd}
+use Rattle.f77_tree_laws.specs.Pairs.{ArePaired, IsEnded, IsEnding, EndIfIsPartner, OpenIfIsPartner, OneEnd}
 use Rattle.f77_tree_laws.specs.Pairs.{OneIf, SinceIsBetween, UnendedStandOutside}
 use Rattle.f77_tree_laws.specs.Pairs.ArePaired.{nothing, other, pair}
 use Rattle.f77_tree_laws.proofs.Lists.{right_false, not_both}
@@ -201,7 +201,7 @@ one_end x after h k = sym (until_between x after h) ∙ until_between x after k
 -- ---- backwards
 
 -- paired statements, the nearest first
-data BackPaired : List Labelled → Type 0 where
+pub data BackPaired : List Labelled → Type 0 where
   none : BackPaired []
   single : (x : Labelled) (xs : List Labelled) → is_block_if x.statement ≡ false → is_end_if x.statement ≡ false
       → BackPaired xs → BackPaired (x ∷ xs)
@@ -209,17 +209,17 @@ data BackPaired : List Labelled → Type 0 where
       → is_end_if end.statement ≡ true → BackPaired between → BackPaired xs
       → BackPaired (end ∷ (between ++ x ∷ xs))
 
-back_append : (xs ys : List Labelled) → BackPaired xs → BackPaired ys → BackPaired (xs ++ ys)
+pub back_append : (xs ys : List Labelled) → BackPaired xs → BackPaired ys → BackPaired (xs ++ ys)
 back_append xs ys none k = k
 back_append xs ys (single x zs a b h) k = single x (zs ++ ys) a b (back_append zs ys h k)
 back_append xs ys (double x end between zs a b h g) k =
     subst (λ (ws : List Labelled). BackPaired (end ∷ ws)) (sym (append_assoc between (x ∷ zs) ys))
     (double x end between (zs ++ ys) a b h (back_append zs ys g k))
 
-reverse_one : (x : Labelled) (xs : List Labelled) → reverse (x ∷ xs) ≡ reverse xs ++ x ∷ []
+pub reverse_one : (x : Labelled) (xs : List Labelled) → reverse (x ∷ xs) ≡ reverse xs ++ x ∷ []
 reverse_one x xs = reverse-append (x ∷ []) xs
 
-reverse_pair : (x y : Labelled) (xs ys : List Labelled)
+pub reverse_pair : (x y : Labelled) (xs ys : List Labelled)
     → reverse (x ∷ (xs ++ y ∷ ys)) ≡ reverse ys ++ (y ∷ (reverse xs ++ x ∷ []))
 reverse_pair x y xs ys =
     reverse_one x (xs ++ y ∷ ys)
@@ -227,7 +227,7 @@ reverse_pair x y xs ys =
     ∙ ap (λ zs. zs ++ x ∷ []) (append_assoc (reverse ys) (y ∷ []) (reverse xs))
     ∙ append_assoc (reverse ys) (y ∷ reverse xs) (x ∷ [])
 
-back_of : (xs : List Labelled) → ArePaired xs → BackPaired (reverse xs)
+pub back_of : (xs : List Labelled) → ArePaired xs → BackPaired (reverse xs)
 back_of xs nothing = none
 back_of xs (other x zs a b h) =
     subst (λ (ws : List Labelled). BackPaired ws) (sym (reverse_one x zs))
@@ -261,7 +261,7 @@ abbrev OpenBefore : ℕ → List Labelled → Type 0
 OpenBefore zero xs = OpenIn xs (λ ys. Unit {0})
 OpenBefore (suc k) xs = OpenIn xs (OpenBefore k)
 
-abbrev some_if : List Labelled → Bool
+abbrev pub some_if : List Labelled → Bool
 some_if xs = list_any (λ (z : Labelled). is_block_if z.statement) xs
 
 open_other : (x : Labelled) (xs : List Labelled) (More : List Labelled → Type 0) → is_block_if x.statement ≡ false
@@ -315,17 +315,17 @@ open_before (x ∷ xs) k h = open_step x xs x.statement refl (open_before xs) k 
 
 -- ---- what the counts leave of paired statements
 
-left_if : (s : Statement77) (x : Labelled) (more : ℕ → List Labelled) (k : ℕ) → is_block_if s ≡ true
+pub left_if : (s : Statement77) (x : Labelled) (more : ℕ → List Labelled) (k : ℕ) → is_block_if s ≡ true
     → left_over s x more (suc k) ≡ more k
 left_if (If c) x more k a = refl
 left_if s x more k a = absurd (not_both false a refl)
 
-left_end : (s : Statement77) (x : Labelled) (more : ℕ → List Labelled) (k : ℕ) → is_end_if s ≡ true
+pub left_end : (s : Statement77) (x : Labelled) (more : ℕ → List Labelled) (k : ℕ) → is_end_if s ≡ true
     → left_over s x more k ≡ more (suc k)
 left_end EndIf x more k b = refl
 left_end s x more k b = absurd (not_both false b refl)
 
-left_first : (s : Statement77) (x : Labelled) (more : ℕ → List Labelled) → is_end_if s ≡ false
+pub left_first : (s : Statement77) (x : Labelled) (more : ℕ → List Labelled) → is_end_if s ≡ false
     → left_over s x more zero ≡ x ∷ more zero
 left_first EndIf x more b = absurd (not_both true refl b)
 left_first (If c) x more b = refl
@@ -338,7 +338,7 @@ left_other EndIf x more k a b = absurd (not_both true refl b)
 left_other s x more k a b = refl
 
 -- where a block IF has ended, nothing in it is left
-all_passed : (xs ys : List Labelled) (k : ℕ) → BackPaired xs
+pub all_passed : (xs ys : List Labelled) (k : ℕ) → BackPaired xs
     → without_ended (xs ++ ys) (suc k) ≡ without_ended ys (suc k)
 all_passed xs ys k none = refl
 all_passed xs ys k (single x zs a b h) =
@@ -350,7 +350,7 @@ all_passed xs ys k (double x end between zs a b h g) =
     ∙ left_if x.statement x (without_ended (zs ++ ys)) (suc k) a
     ∙ all_passed zs ys k g
 
-no_if_left : (xs ys : List Labelled) → BackPaired xs → some_if (without_ended (xs ++ ys) 0) ≡ some_if (without_ended ys 0)
+pub no_if_left : (xs ys : List Labelled) → BackPaired xs → some_if (without_ended (xs ++ ys) 0) ≡ some_if (without_ended ys 0)
 no_if_left xs ys none = refl
 no_if_left xs ys (single x zs a b h) =
     ap some_if (left_first x.statement x (without_ended (zs ++ ys)) b)
@@ -363,9 +363,16 @@ no_if_left xs ys (double x end between zs a b h g) =
     ∙ left_if x.statement x (without_ended (zs ++ ys)) 0 a)
     ∙ no_if_left zs ys g
 
-not_end : (s : Statement77) → is_block_if s ≡ true → is_end_if s ≡ false
+pub not_end : (s : Statement77) → is_block_if s ≡ true → is_end_if s ≡ false
 not_end (If c) a = refl
 not_end s a = absurd (not_both false a refl)
+
+pub is_open : (between : List Labelled) (x : Labelled) (earlier : List Labelled) → BackPaired between
+    → is_block_if x.statement ≡ true → has_open_if (between ++ x ∷ earlier) ≡ true
+is_open between x earlier h a =
+    no_if_left between (x ∷ earlier) h
+    ∙ ap some_if (left_first x.statement x (without_ended earlier) (not_end x.statement a))
+    ∙ ap (λ t. t || some_if (without_ended earlier 0)) a
 
 pub open_if_is_partner : OpenIfIsPartner
 open_if_is_partner end before b = (there, back)
@@ -383,11 +390,8 @@ open_if_is_partner end before b = (there, back)
 
     back : IsEnding end before → has_open_if before ≡ true
     back h =
-        ap (λ zs. some_if (without_ended zs 0)) h.whole
-        ∙ no_if_left (reverse h.between) (h.x ∷ h.earlier) (back_of h.between h.ends.paired)
-        ∙ ap some_if
-        (left_first h.x.statement h.x (without_ended h.earlier) (not_end h.x.statement h.ends.is_if))
-        ∙ ap (λ t. t || some_if (without_ended h.earlier 0)) h.ends.is_if
+        ap has_open_if h.whole
+        ∙ is_open (reverse h.between) h.x h.earlier (back_of h.between h.ends.paired) h.ends.is_if
 
 -- ---- what stands since
 
@@ -425,12 +429,16 @@ since_paired xs ys k (double x end between zs a b h g) =
     (since_later_if x.statement x (since (zs ++ ys)) k a ∙ ap (λ ws. x ∷ ws) (since_paired zs ys k g))
     ∙ sym (append_assoc between (x ∷ zs) (since ys k)))
 
+pub since_is : (between : List Labelled) (x : Labelled) (earlier : List Labelled) → BackPaired between
+    → is_block_if x.statement ≡ true → since_if (between ++ x ∷ earlier) ≡ between
+since_is between x earlier h a =
+    since_paired between (x ∷ earlier) 0 h
+    ∙ ap (λ zs. between ++ zs) (since_first_if x.statement x (since earlier) a)
+    ∙ append-nil between
+
 pub since_is_between : SinceIsBetween
 since_is_between end before h =
-    ap since_if h.whole
-    ∙ since_paired (reverse h.between) (h.x ∷ h.earlier) 0 (back_of h.between h.ends.paired)
-    ∙ ap (λ zs. reverse h.between ++ zs) (since_first_if h.x.statement h.x (since h.earlier) h.ends.is_if)
-    ∙ append-nil (reverse h.between)
+    ap since_if h.whole ∙ since_is (reverse h.between) h.x h.earlier (back_of h.between h.ends.paired) h.ends.is_if
 
 pub one_if : OneIf
 one_if end before h k =

@@ -33,6 +33,16 @@ pub record IsWellNested (p : Place) : Type 0 where
 abbrev pub AreWellNested : List Labelled → Type 0
 AreWellNested text = AllByRecursion IsWellNested (places text)
 
+-- each label isn't 0 and stands on one statement alone
+abbrev pub StandOnce : List Labelled → Type 0
+StandOnce text = AllByRecursion (λ (p : Place). is_wrong_label p.before p.here.label ≡ false) (places text)
+
+-- there statements are nested wrongly nowhere exactly where they form a block
+abbrev pub NestedFormBlock : Type 0
+NestedFormBlock = (us : List Use) (s : Store) (named : List ℕ) (text : List Labelled) → StandOnce text
+    → AllByRecursion (λ (p : Place). is_nested_wrongly p ≡ false) (places text)
+    ↔ (cs : List tree.Statement) × AreBlock us s named text cs
+
 -- statements form at most one block, whatever they are
 abbrev pub OneBlock : Type 0
 OneBlock = (us : List Use) (s : Store) (named : List ℕ) (text : List Labelled) (cs ds : List tree.Statement)

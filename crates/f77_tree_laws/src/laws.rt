@@ -1,12 +1,15 @@
 //! Laws of the tree that statements form. A law is a function without a body: its contract is what holds.
-ghost use Rattle.f77_tree_laws.specs.Laws.{OneBlock, OneTree, ReadIsTree, SomeTree, TreesAreOne};
+ghost use Rattle.f77_tree_laws.specs.Laws.{NestedFormBlock, OneBlock, OneTree, ReadIsTree, SomeTree};
+ghost use Rattle.f77_tree_laws.specs.Laws.{TreesAreOne};
 ghost use Rattle.f77_tree_laws.specs.Pairs.{BlocksArePaired, EndIfIsPartner, OneEnd, OneIf, OpenIfIsPartner};
 ghost use Rattle.f77_tree_laws.specs.Pairs.{SinceIsBetween, UnendedStandOutside};
 
-/// Statements form at most one block, and where each is well nested they form one, which is the body of the tree that
-/// is computed of them from the last one back. So the program that is read is the one tree of its statements.
+/// Statements form at most one block; where each label stands once they form one exactly where none is nested wrongly,
+/// and it is the body of the tree that is computed of them from the last one back. So the program that is read is the
+/// one tree of its statements.
 pub fn statements_form_one_tree()
     ensures one_block { OneBlock }
+    ensures nested { NestedFormBlock }
     ensures one_tree { OneTree }
     ensures some_tree { SomeTree }
     ensures same { TreesAreOne }
