@@ -1,5 +1,5 @@
 -- A text without findings: at none of its places does a cause of refusal hold.
-use Rattle.std.proofs.Common.{◌≡◌, false, List, [], ◌∷◌, ◌++◌, length, refl, ap, arith, flat_map, Contains}
+use Rattle.std.proofs.Common.{◌≡◌, false, List, [], Contains}
 use Rattle.std.specs.List.{AllByRecursion}
 use Rattle.fv_meaning.specs.Dialect.{Dialect}
 use Rattle.f77_grammar.specs.Statement77.{Labelled}
@@ -13,34 +13,11 @@ use Rattle.f77_grammar.specs.program.Kinds.{has_unsuited_kind}
 use Rattle.f77_grammar.specs.program.Jumps.{has_wrong_jump}
 use Rattle.f77_grammar.specs.program.DoVariables.{has_wrong_do_variable}
 use Rattle.f77_grammar.specs.program.Limits.{constants_of, has_many_names, has_many_blocks, has_reversed_bounds, has_many_elements, has_bad_constant}
-use Rattle.fv_tree.specs.Causes.{refusal_at}
 use Rattle.fv_tree.specs.declared.refusals.Cause.{Cause}
 use Rattle.fv_tree.specs.declared.refusals.Cause.TheVariants.{Label, Nesting, NoEnd, Declared, TypeClash, Jump, DoVariable, ManyNames, ManyBlocks, ReversedBounds, ManyElements, BadConstant}
-use Rattle.f77_grammar.specs.program.Program77.{program_causes, holds_at, findings_of, findings}
-use Rattle.f77_laws.proofs.Lists.{none_left, left_false, right_false, all_at, all_of}
-
--- the cause holds nowhere
-abbrev pub IsFree : Dialect → List Labelled → Cause → Type 0
-IsFree d text c = AllByRecursion (λ (p : Place). holds_at d c text (uses_in_text text) (constants_of d text) p ≡ false) (places text)
-
-nothing_left : {A : Type 0} → (xs ys : List A) → xs ++ ys ≡ [] → xs ≡ []
-nothing_left [] ys h = refl
-nothing_left (x ∷ xs) ys h = absurd (let e = ap length h in omega arith)
-
-nothing_right : {A : Type 0} → (xs ys : List A) → xs ++ ys ≡ [] → ys ≡ []
-nothing_right [] ys h = h
-nothing_right (x ∷ xs) ys h = absurd (let e = ap length h in omega arith)
-
-free_of : (d : Dialect) (text : List Labelled) (cs : List Cause) → flat_map (findings_of d text) cs ≡ [] → AllByRecursion (IsFree d text) cs
-free_of d text [] h = tt
-free_of d text (c ∷ cs) h = (
-  none_left (λ (p : Place). refusal_at c p.here.line) (holds_at d c text (uses_in_text text) (constants_of d text)) (places text) (nothing_left (findings_of d text c) (flat_map (findings_of d text) cs) h),
-  free_of d text cs (nothing_right (findings_of d text c) (flat_map (findings_of d text) cs) h),
-)
-
-pub sound : (d : Dialect) (text : List Labelled) → findings d text ≡ [] → AllByRecursion (IsFree d text) program_causes
-sound d [] h = absurd (let e = ap length h in omega arith)
-sound d (x ∷ xs) h = free_of d (x ∷ xs) program_causes h
+use Rattle.f77_grammar.specs.program.Program77.{program_causes, holds_at, findings}
+use Rattle.f77_laws.proofs.Lists.{left_false, right_false, all_at, all_of}
+pub use Rattle.f77_tree_laws.proofs.Sound.{IsFree, sound}
 
 -- nothing is wrong at a place, its values aside
 pub record IsRight (text : List Labelled) (p : Place) : Type 0 where

@@ -1,0 +1,66 @@
+-- Which statements, one after another, form which block (ANSI X3.9-1978, sections 11.5 to 11.10).
+--
+--        DO 10 I = 1, N       Do I             a block of one DO loop, whose range is the next DO with its own
+--        DO 10 J = 1, I         Do J           range: both end with the statement that bears 10
+--     10 A(I,J) = 0               A(I,J) = 0   a block of one statement; no Label 10, where no GO TO names it
+use Rattle.std.specs.Prelude.{◌≡◌, ℕ, Bool, true, false, List, [], ◌∷◌, ◌++◌}
+use Rattle.fv_tree.specs.Plain as tree
+use Rattle.fv_tree.specs.Plain.{Expression}
+use Rattle.fv_meaning.specs.Store.{Store}
+use Rattle.f77_grammar.specs.Statement77.{Labelled, Statement77, If, ElseIf, Else, EndIf, Do}
+use Rattle.f77_grammar.specs.program.Text.{bears}
+use Rattle.f77_grammar.specs.program.Nesting.{is_no_loop_end}
+use Rattle.f77_grammar.specs.program.Uses.{Use}
+use Rattle.f77_grammar.specs.program.Tree.{resolved, simple, mark_of}
+
+-- neither a line of a block IF nor a DO
+abbrev pub stands_alone : Statement77 → Bool
+stands_alone (If c) = false
+stands_alone (ElseIf c) = false
+stands_alone Else = false
+stands_alone EndIf = false
+stands_alone (Do n v a b c) = false
+stands_alone s = true
+
+-- Statements up to and with the first that bears the label, on which a loop may end (sections 11.10.1 and 11.10.2)
+abbrev pub IsRange : ℕ → List Labelled → Type 0
+IsRange n [] = ⊥
+IsRange n (x ∷ []) = (bears n x ≡ true) × (is_no_loop_end x.statement ≡ false)
+IsRange n (x ∷ y ∷ ys) = (bears n x ≡ false) × IsRange n (y ∷ ys)
+
+-- by all uses `us` of names in the program, the values `s` of its symbolic constants, and the labels that a GO TO names
+module _ (us : List Use) (s : Store) (named : List ℕ) where
+  mutual
+    -- A statement alone, of which a declaration and CONTINUE give nothing and a logical IF a block IF of one arm; a
+    -- block IF with all up to its END IF; a DO with its range. A label stands before what its statement gives
+    pub data IsUnit : List Labelled → List tree.Statement → Type 0 where
+      alone : (x : Labelled) → stands_alone x.statement ≡ true
+          → IsUnit (x ∷ []) (mark_of named x.label ++ simple us s x.line x.statement)
+      block_if : (x : Labelled) (c : Expression) (first later : List Labelled) (body : List tree.Statement)
+          (arms : tree.Arms) (other : tree.Block)
+          → x.statement ≡ If c → AreBlock first body → AreArms later arms other
+          → IsUnit (x ∷ (first ++ later)) (mark_of named x.label
+          ++ tree.If x.line (tree.arm (resolved us s c) (tree.block body) arms) other ∷ [])
+      loop : (x : Labelled) (n : ℕ) (v : List ℕ) (a b c : Expression) (range : List Labelled)
+          (body : List tree.Statement)
+          → x.statement ≡ Do n v a b c → IsRange n range → AreBlock range body
+          → IsUnit (x ∷ range) (mark_of named x.label
+          ++ tree.Do x.line v (resolved us s a) (resolved us s b) (resolved us s c) (tree.block body) ∷ [])
+
+    -- one unit after another
+    pub data AreBlock : List Labelled → List tree.Statement → Type 0 where
+      nothing : AreBlock [] []
+      unit : (first rest : List Labelled) (cs ds : List tree.Statement) → IsUnit first cs → AreBlock rest ds
+          → AreBlock (first ++ rest) (cs ++ ds)
+
+    -- What follows the first arm of a block IF: END IF; ELSE with the ELSE part and END IF; or ELSE IF with its arm and
+    -- what follows that
+    pub data AreArms : List Labelled → tree.Arms → tree.Block → Type 0 where
+      end_if : (x : Labelled) → x.statement ≡ EndIf → AreArms (x ∷ []) tree.no_arms tree.no_statements
+      else_part : (x end : Labelled) (part : List Labelled) (body : List tree.Statement)
+          → x.statement ≡ Else → AreBlock part body → end.statement ≡ EndIf
+          → AreArms (x ∷ (part ++ end ∷ [])) tree.no_arms (tree.block body)
+      else_if : (x : Labelled) (c : Expression) (next later : List Labelled) (body : List tree.Statement)
+          (arms : tree.Arms) (other : tree.Block)
+          → x.statement ≡ ElseIf c → AreBlock next body → AreArms later arms other
+          → AreArms (x ∷ (next ++ later)) (tree.arm (resolved us s c) (tree.block body) arms) other

@@ -1,0 +1,66 @@
+-- The tree of a program as a relation between its statements and the program, and what holds of it.
+use Rattle.std.specs.Prelude.{◌≡◌, ◌↔◌, ℕ, false, List, [], map}
+use Rattle.std.specs.List.{AllByRecursion}
+use Rattle.fv_tree.specs.Plain as tree
+use Rattle.fv_tree.specs.Plain.{Program}
+use Rattle.fv_meaning.specs.Dialect.{Dialect}
+use Rattle.fv_meaning.specs.Store.{Store}
+use Rattle.f77_grammar.specs.Statement77.{Labelled}
+use Rattle.f77_grammar.specs.program.Text.{Place, places}
+use Rattle.f77_grammar.specs.program.Uses.{Use, uses_in_text, is_title, names_that}
+use Rattle.f77_grammar.specs.program.Labels.{is_wrong_label}
+use Rattle.f77_grammar.specs.program.Nesting.{is_nested_wrongly}
+use Rattle.f77_grammar.specs.program.Limits.{constants_of}
+use Rattle.f77_grammar.specs.program.Tree.{targets, variables_of, declaration_of, first_of_names, tree_of}
+use Rattle.f77_grammar.specs.program.Program77.{findings, ReadsStatements}
+use Rattle.f77_tree_laws.specs.Blocks.{AreBlock}
+
+-- The program has the name that PROGRAM gives, declares its variables in byte order, and its body is the block that
+-- the statements form
+pub record IsTreeOf (d : Dialect) (text : List Labelled) (p : Program) : Type 0 where
+  pub name : p.name ≡ first_of_names (names_that is_title (uses_in_text text))
+  pub declarations : p.declarations
+      ≡ map (declaration_of d (uses_in_text text) (constants_of d text) text) (variables_of (uses_in_text text))
+  pub body : List tree.Statement
+  pub formed : AreBlock (uses_in_text text) (constants_of d text) (targets text) text body
+  pub is_body : p.body ≡ tree.block body
+
+-- the label of a statement isn't 0 and stands on no statement before it, and what is opened is closed there
+pub record IsWellNested (p : Place) : Type 0 where
+  pub label : is_wrong_label p.before p.here.label ≡ false
+  pub nesting : is_nested_wrongly p ≡ false
+
+abbrev pub AreWellNested : List Labelled → Type 0
+AreWellNested text = AllByRecursion IsWellNested (places text)
+
+-- each label isn't 0 and stands on one statement alone
+abbrev pub StandOnce : List Labelled → Type 0
+StandOnce text = AllByRecursion (λ (p : Place). is_wrong_label p.before p.here.label ≡ false) (places text)
+
+-- there statements are nested wrongly nowhere exactly where they form a block
+abbrev pub NestedFormBlock : Type 0
+NestedFormBlock = (us : List Use) (s : Store) (named : List ℕ) (text : List Labelled) → StandOnce text
+    → AllByRecursion (λ (p : Place). is_nested_wrongly p ≡ false) (places text)
+    ↔ (cs : List tree.Statement) × AreBlock us s named text cs
+
+-- statements form at most one block, whatever they are
+abbrev pub OneBlock : Type 0
+OneBlock = (us : List Use) (s : Store) (named : List ℕ) (text : List Labelled) (cs ds : List tree.Statement)
+    → AreBlock us s named text cs → AreBlock us s named text ds → cs ≡ ds
+
+abbrev pub OneTree : Type 0
+OneTree = (d : Dialect) (text : List Labelled) (p q : Program) → IsTreeOf d text p → IsTreeOf d text q → p ≡ q
+
+-- where all are well nested they form one
+abbrev pub SomeTree : Type 0
+SomeTree = (d : Dialect) (text : List Labelled) → AreWellNested text → IsTreeOf d text (tree_of d text)
+
+-- there a program is their tree by the relation exactly where it is by the definition from the last statement back
+abbrev pub TreesAreOne : Type 0
+TreesAreOne = (d : Dialect) (text : List Labelled) (p : Program) → AreWellNested text
+    → IsTreeOf d text p ↔ p ≡ tree_of d text
+
+-- and the program that is read is the tree of a text without findings
+abbrev pub ReadIsTree : Type 0
+ReadIsTree = (d : Dialect) (text : List Labelled) (p : Program)
+    → ReadsStatements d text p ↔ (findings d text ≡ []) × IsTreeOf d text p
