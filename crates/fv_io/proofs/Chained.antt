@@ -1,5 +1,5 @@
 -- Calls one after the other take and give their bytes one after the other.
-use Rattle.std.proofs.Common.{append-nil, ◌≡◌, ℕ, ◌+◌, ◌<◌, ◌≤◌, List, [], ◌++◌, length, take, drop, Option, None, Some, refl, ap, append_assoc, length-append, sym, ◌∙◌, arith}
+use Rattle.std.proofs.Common.{append-nil, ◌≡◌, ℕ, ◌+◌, ◌<◌, ◌≤◌, List, [], ◌∷◌, ◌++◌, length, take, drop, Option, None, Some, refl, ap, append_assoc, length-append, sym, ◌∙◌, arith}
 use Rattle.std.proofs.Math.Seq.{take-add}
 use Rattle.std.proofs.lemmas.List.{take-append-drop}
 use Rattle.std.specs.Io.KnownBytes.{prepend_known, append_known}
@@ -64,3 +64,13 @@ part_front before now text n given = (take n text, drop n text, sym (take-append
 pub front_more : (before then now : Option (List ℕ)) (text rest : List ℕ) (given n : ℕ) → Gives before (take given text) then → Gives then (take n rest) now → rest ≡ drop given text → Gives before (take (given + n) text) now
 front_more before then now text rest given n first next is =
     rw (take-add given n text, ← is) (gives_more before then now (take given text) (take n rest) first next)
+
+-- a front of what is held was given: the rest of it comes after that
+pub held_less : (before now : Option (List ℕ)) (held : List ℕ) (n : ℕ) → Gives before (take n held) now → append_known now (drop n held) ≡ append_known before held
+held_less before now held n front =
+    rw (front, append_twice before (take n held) (drop n held), take-append-drop n held) refl
+
+-- of two texts that are nothing together, each is nothing
+pub both_none : (xs ys : List ℕ) → xs ++ ys ≡ [] → (xs ≡ []) × (ys ≡ [])
+both_none [] ys none = (refl, none)
+both_none (x ∷ xs) ys none = cc

@@ -1,4 +1,4 @@
--- What the loops of `read_all` and `write_all` keep.
+-- What the loops of `read_all` and `give_front` keep.
 use Rattle.std.proofs.Common.{◌≡◌, ℕ, ◌≤◌, List, length, take, Option}
 use Rattle.fv_io.specs.Streams.{Takes, Gives}
 

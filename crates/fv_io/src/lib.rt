@@ -4,6 +4,7 @@
 //! contract can say that an answer came only because of one.
 #![tactic(auto)]
 
+mod buffered;
 mod errors;
 mod memory;
 mod schedule;
@@ -12,6 +13,7 @@ mod source;
 mod standard;
 mod transfer;
 
+pub use buffered::BufferedSink;
 pub use errors::{Memory, ReadEnd, WriteFault};
 pub use memory::{MemSink, MemSource, NullSink, PlainSource};
 pub use sink::{Gave, Sink};

@@ -1,11 +1,12 @@
 // Sources and sinks over memory.
-ghost use Rattle.std.specs.Prelude.{◌≡◌, ◌≢◌, ◌-◌, ◌<◌, ◌↔◌, ◌⊎◌, [], Some, None, length, min, IfOk, Contains};
+ghost use Rattle.std.specs.Prelude.{◌≡◌, ◌≢◌, ◌-◌, ◌<◌, ◌↔◌, ◌⊎◌, [], Some, None, Ok, length, min, IfOk};
+ghost use Rattle.std.specs.Prelude.{Contains};
 ghost use Rattle.std.proofs.Common.{rules};
 ghost use Rattle.fv_io.specs.Causes.{counted, next_count};
 ghost use Rattle.fv_io.specs.Streams.{TakesFront, TakesCount, TakesExactly, GivesFront, GivesCount, GivesExactly};
 
 use crate::schedule::Schedule;
-use crate::{Gave, Memory, Sink, Source, Took};
+use crate::{Gave, Memory, Sink, Source, Took, WriteFault};
 use std::alloc::Global;
 use std::marker::Model;
 
@@ -182,6 +183,8 @@ impl MemSink {
 impl Sink for MemSink {
     ghost taken = { λ s. Some s.taken };
 
+    ghost held = { λ _. [] };
+
     ghost faults = { λ s. counted s.faults };
 
     ghost faults_fit = { Prim.search rules };
@@ -213,6 +216,12 @@ impl Sink for MemSink {
         self.bytes.extend_from_slice(&piece[..n]).unwrap();
         Gave::Bytes(n)
     }
+
+    fn send(&mut self) -> Result<(), WriteFault>
+        ensures { (result ≡ Ok tt) × (self.new ≡ self.old) }
+    {
+        Ok(())
+    }
 }
 
 /// Takes everything, tells no bytes and never fails.
@@ -221,6 +230,8 @@ pub struct NullSink;
 
 impl Sink for NullSink {
     ghost taken = { λ _. None };
+
+    ghost held = { λ _. [] };
 
     ghost faults = { λ _. 0 };
 
@@ -231,5 +242,11 @@ impl Sink for NullSink {
         ensures { result ≡ Gave.Bytes (length piece.now) }
     {
         Gave::Bytes(piece.len())
+    }
+
+    fn send(&mut self) -> Result<(), WriteFault>
+        ensures { (result ≡ Ok tt) × (self.new ≡ self.old) }
+    {
+        Ok(())
     }
 }

@@ -1,11 +1,11 @@
 // The edge to the system: std's readers and writers. No clause can say which bytes a file or a terminal gives or takes.
-ghost use Rattle.std.specs.Prelude.{◌≡◌, ◌≢◌, ◌<◌, None, length};
+ghost use Rattle.std.specs.Prelude.{◌≡◌, ◌≢◌, ◌<◌, [], None, Ok, length};
 ghost use Rattle.std.proofs.Common.{rules};
 ghost use Rattle.fv_io.specs.Causes.{counted, next_count};
 ghost use Rattle.fv_io.specs.Standard.{took_of, gave_of, ReadsFront, WritesFront};
 ghost use Rattle.fv_io.specs.Streams.{TakesCount, GivesCount};
 
-use crate::{Gave, Sink, Source, Took};
+use crate::{Gave, Sink, Source, Took, WriteFault};
 use std::io;
 use std::io::{Read, Write};
 use std::marker::Model;
@@ -66,7 +66,7 @@ fn took(answer: io::Result<usize>) -> Took
     }
 }
 
-/// Gives to a writer, and never flushes it. A write of zero bytes and an error, also an interrupt, are counted
+/// Gives to a writer, and never flushes it: each piece is a write of its own. A write of zero bytes and an error, also an interrupt, are counted
 /// failures.
 #[derive(Debug, Drop)]
 pub struct StdSink<W> {
@@ -93,6 +93,8 @@ impl<W> StdSink<W> {
 impl<W: Write> Sink for StdSink<W> {
     ghost taken = { λ _. None };
 
+    ghost held = { λ _. [] };
+
     ghost faults = { λ s. counted s.faults };
 
     ghost faults_fit = { Prim.search rules };
@@ -109,6 +111,12 @@ impl<W: Write> Sink for StdSink<W> {
             self.faults = self.faults.saturating_add(1);
         }
         gave
+    }
+
+    fn send(&mut self) -> Result<(), WriteFault>
+        ensures { (result ≡ Ok tt) × (self.new ≡ self.old) }
+    {
+        Ok(())
     }
 }
 

@@ -1,5 +1,6 @@
 // All bytes of a source, and a whole text to a sink.
-ghost use Rattle.std.specs.Prelude.{◌≡◌, [], ◌-◌, ◌^◌, ◌≤◌, length, IfOk, OnOk, OnErr, IsErrOf};
+ghost use Rattle.std.specs.Prelude.{◌≡◌, [], ◌-◌, ◌^◌, ◌≤◌, ◌<◌, length, take, IfOk, OnOk, OnErr};
+ghost use Rattle.std.specs.Prelude.{IsErrOf};
 ghost use Rattle.std.specs.Io.KnownBytes.{IsAtEnd};
 ghost use Rattle.fv_io.specs.Causes.{Rose};
 ghost use Rattle.fv_io.specs.Streams.{Takes, TakesMoreThan, TakesAtMost, Gives, GivesPart};
@@ -44,6 +45,30 @@ pub fn read_all<S: Source>(alloc: Global, from: &mut S, limit: usize) -> Result<
     }
 }
 
+// Gives the front of the text, all of it unless the sink fails, and answers how many bytes the sink took.
+pub(crate) fn give_front<K: Sink>(to: &mut K, text: &[u8]) -> usize
+    ensures front { Gives (K.taken to.old) (take result text.now) (K.taken to.new) }
+    ensures within { result ≤ length text.now }
+
+    // Without a text there is no call.
+    ensures untouched { text.now ≡ [] → to.new ≡ to.old }
+
+    // A fault was counted where the sink didn't take all, and nothing else is.
+    ensures fault { result < length text.now → Rose (K.faults to.old) (K.faults to.new) }
+    ensures no_fault { length text.now ≤ result → K.faults to.new ≡ K.faults to.old }
+    ensures later { K.faults to.old ≤ K.faults to.new }
+    ensures counted { K.faults to.new ≤ 2 ^ 64 - 1 }
+{
+    let mut given = 0;
+    while given < text.len() {
+        match to.give(&text[given..]) {
+            Gave::Bytes(n) => given += n,
+            Gave::Failed => return given,
+        }
+    }
+    given
+}
+
 /// Gives the whole text, or the front of it that the sink took before it failed.
 pub fn write_all<K: Sink>(to: &mut K, text: &[u8]) -> Result<(), WriteFault>
     ensures ok { OnOk result (Gives (K.taken to.old) text.now (K.taken to.new)) }
@@ -58,12 +83,8 @@ pub fn write_all<K: Sink>(to: &mut K, text: &[u8]) -> Result<(), WriteFault>
     ensures later { K.faults to.old ≤ K.faults to.new }
     ensures counted { K.faults to.new ≤ 2 ^ 64 - 1 }
 {
-    let mut given = 0;
-    while given < text.len() {
-        match to.give(&text[given..]) {
-            Gave::Bytes(n) => given += n,
-            Gave::Failed => return Err(WriteFault),
-        }
+    if give_front(to, text) < text.len() {
+        return Err(WriteFault);
     }
     Ok(())
 }

@@ -1,5 +1,5 @@
 //! How a command ended, its status and its line for the notes.
-ghost use Rattle.std.specs.Prelude.{◌≡◌, ◌≤◌, OnOk, OnErr};
+ghost use Rattle.std.specs.Prelude.{◌≡◌, ◌≤◌, [], OnOk, OnErr};
 ghost use Rattle.fv_io.specs.Causes.{Rose};
 ghost use Rattle.fv_io.specs.Streams.{Gives, GivesPart};
 ghost use Rattle.fv_report.specs.Notes.{status_of, note_of, refusal_line, fault_line};
@@ -85,12 +85,15 @@ fn line_of(outcome: Outcome) -> Line
     }
 }
 
-/// Writes the line of an outcome.
+/// Writes the line of an outcome, and passes it on.
 pub fn note<E: Sink>(notes: &mut E, outcome: Outcome) -> Result<(), WriteFault>
     ensures ok { OnOk result (Gives (E.taken notes.old) (note_of outcome) (E.taken notes.new)) }
     ensures part { OnErr result (GivesPart (E.taken notes.old) (note_of outcome) (E.taken notes.new)) }
+    ensures sent { OnOk result (E.held notes.new ≡ []) }
     ensures fault { OnErr result (Rose (E.faults notes.old) (E.faults notes.new)) }
+    ensures no_fault { OnOk result (E.faults notes.new ≡ E.faults notes.old) }
     ensures later { E.faults notes.old ≤ E.faults notes.new }
 {
-    write_all(notes, line_of(outcome).as_bytes())
+    write_all(notes, line_of(outcome).as_bytes())?;
+    notes.send()
 }

@@ -1,5 +1,6 @@
 pub mod Headline
 pub mod Limits
+pub mod Passed
 pub mod Readings
 pub mod Renumbered
 pub mod Runs

@@ -1,7 +1,7 @@
 -- What a machine's run, and the showing of its store, have given of the run's text.
 use Rattle.std.proofs.Common.{◌≡◌, ◌≤◌, ◌++◌, ℕ, List, [], Bool, true, false, Option, Some, refl, ap, sym, ◌∙◌, subst, append_assoc}
 use Rattle.std.specs.Prelude.{not, cond}
-use Rattle.fv_io.proofs.Chained.{gives_more}
+use Rattle.fv_io.proofs.Chained.{gives_more, both_none}
 use Rattle.fv_io.proofs.Counts.{later_then_rose}
 use Rattle.fv_io.specs.Causes.{Rose}
 use Rattle.fv_io.specs.Streams.{Gives, GivesPart}
@@ -82,3 +82,11 @@ store_cut options p s m between w faults e h shown later fault = record {
     gives_more w.before between w.now s.written shown.0 h.taken shown.3,
   );
 }
+
+-- a run without a text has written nothing, and has no store to show
+pub unwritten : (options : Options) (p : Program) (s : State) → run_text options p s ≡ [] → s.written ≡ []
+unwritten options p s none = (both_none s.written (final_part options p s (ending s)) none).0
+
+pub unshown : (options : Options) (p : Program) (s : State) (store : Store) → not options.final_store ≡ false → ending s ≡ Some end.Done → store ≡ s.store → run_text options p s ≡ [] → final_lines p store ≡ []
+unshown options p s store e ended same none =
+    (both_none s.written (final_lines p store) (sym (shown_text options p s store e ended same) ∙ none)).1

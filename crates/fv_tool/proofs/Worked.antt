@@ -23,7 +23,7 @@ use Rattle.fv_tool.specs.Unread.{IsUnread}
 use Rattle.fv_tool.specs.Works.{Writing, WithoutMemory, Works}
 
 -- what holds of the bytes that were taken holds of the deck, where that is told
-told : (P : List ℕ → Type 0) (left : Option (List ℕ)) (bytes : List ℕ) (now : Option (List ℕ)) → Takes left bytes now → IsAtEnd now → P bytes → IfSome left P
+pub told : (P : List ℕ → Type 0) (left : Option (List ℕ)) (bytes : List ℕ) (now : Option (List ℕ)) → Takes left bytes now → IsAtEnd now → P bytes → IfSome left P
 told P None bytes now t e h = tt
 told P (Some deck) bytes now t e h = subst P (sym (takes_all deck bytes now t e)) h
 

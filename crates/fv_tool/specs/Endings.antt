@@ -117,6 +117,17 @@ is_silent c ReadFault = true
 is_silent c WriteFault = false
 is_silent c OutOfMemory = not (writes_early c)
 
+-- a call that ends so has given all of its text
+abbrev pub gives_all : Outcome → Bool
+gives_all Done = true
+gives_all Usage = false
+gives_all (Refused r) = false
+gives_all (Faulted fault line) = true
+gives_all StepLimit = true
+gives_all ReadFault = false
+gives_all WriteFault = false
+gives_all OutOfMemory = false
+
 -- words that are no command do nothing
 abbrev pub Ended : Option Command → Call → Outcome → Type 0
 Ended None c o = (o ≡ Usage) × (c.taken_now ≡ c.taken_before)

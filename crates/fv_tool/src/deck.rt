@@ -1,5 +1,5 @@
 //! The bytes of a deck.
-ghost use Rattle.std.specs.Prelude.{◌≡◌, ◌≤◌, length, IfOk, IfErr, OnOk};
+ghost use Rattle.std.specs.Prelude.{◌≡◌, ◌≤◌, length, IfOk, IfErr, OnOk, IsErrOf};
 ghost use Rattle.std.specs.Io.KnownBytes.{IsAtEnd};
 ghost use Rattle.fv_io.specs.Streams.{Takes};
 ghost use Rattle.fv_tool.specs.Decks.{most_bytes};
@@ -38,6 +38,7 @@ pub(crate) fn read_deck<S: Source>(
     ensures within { IfOk result (λ bytes. length bytes.items ≤ most) }
     ensures unread { IfErr result
         (IsUnread most (S.left deck.old) (S.left deck.new) (S.faults deck.old) (S.faults deck.new)) }
+    ensures no_fault { (IsErrOf result Outcome.ReadFault → ⊥) → S.faults deck.new ≡ S.faults deck.old }
     ensures later { S.faults deck.old ≤ S.faults deck.new }
 {
     match read_all(alloc, deck, most) {

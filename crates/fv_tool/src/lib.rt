@@ -1,7 +1,7 @@
 //! The top call: words, the deck, the text and the notes.
 #![tactic(auto)]
 
-ghost use Rattle.std.specs.Prelude.{◌≡◌, ◌≤◌, ◌↔◌, [], ◌∷◌, List, None, Some, true, false, ℕ};
+ghost use Rattle.std.specs.Prelude.{◌≡◌, ◌≤◌, ◌↔◌, ◌⊎◌, [], ◌∷◌, List, None, Some, true, false, ℕ, length};
 ghost use Rattle.std.specs.Io.KnownBytes.{IsAtEnd};
 ghost use Rattle.fv_tree.specs.Plain.{Program};
 ghost use Rattle.fv_tree.specs.declared.ops.Fault.{Fault as Kind};
@@ -13,15 +13,17 @@ ghost use Rattle.fv_meaning.specs.declared.End.TheVariants.{Done, Fault, StepLim
 ghost use Rattle.fv_command.specs.Command.{texts, command_of};
 ghost use Rattle.fv_command.specs.declared.commands.Command.{Command as Asked};
 ghost use Rattle.fv_command.specs.declared.commands.Command.TheVariants.{Vectorise, Graph};
+ghost use Rattle.fv_report.specs.declared.outcome.Outcome.TheVariants.{ReadFault, WriteFault};
 ghost use Rattle.fv_tool.specs.Answers.{IsOneOf, NoteFor};
 ghost use Rattle.fv_tool.specs.Asked.{Asks, HasNotFailed, IfTold};
 ghost use Rattle.fv_tool.specs.Decks.{Reads, IsRefused, most_bytes};
 ghost use Rattle.fv_tool.specs.Endings.{Ends, Ended, IsReadOrPassed, IsRefusedAfter, ending_of, is_silent};
-ghost use Rattle.fv_tool.specs.Endings.{writes_early};
+ghost use Rattle.fv_tool.specs.Endings.{writes_early, gives_all};
 ghost use Rattle.fv_tool.specs.Headline.{GivesTranslation, GivesTranslationPart};
 ghost use Rattle.fv_tool.specs.Listings.{GivesListing, GivesListingPart};
 ghost use Rattle.fv_tool.specs.Running.{IsRun, GivesRun, GivesFaultedRun, GivesRunPart, GivesAtMostPart};
-ghost use Rattle.fv_tool.specs.Running.{IsExceeded, run_of};
+ghost use Rattle.fv_tool.specs.Running.{IsExceeded, run_of, text_of_run};
+ghost use Rattle.fv_tool.specs.Works.{Works};
 
 mod deck;
 mod listing;
@@ -37,13 +39,52 @@ use running::{run77, run90};
 use std::alloc::Global;
 use translation::vectorise;
 
+// Does what the command asks for with the bytes of the deck.
+fn perform<K: Sink>(alloc: Global, command: Command, deck: &[u8], out: &mut K) -> Outcome
+    requires { length deck.now ≤ most_bytes command }
+    ensures works { Works command deck.now (record {
+      before = K.taken out.old;
+      now = K.taken out.new;
+      faults_before = K.faults out.old;
+      faults_now = K.faults out.new;
+    }) result }
+    ensures untouched { is_silent (Some command) result ≡ true → out.new ≡ out.old }
+    ensures textless { IsRun command → (p : Program) → Reads command deck.now p → text_of_run command deck.now p ≡ []
+        → out.new ≡ out.old }
+    ensures no_fault { (result ≡ WriteFault → ⊥) → K.faults out.new ≡ K.faults out.old }
+    ensures later { K.faults out.old ≤ K.faults out.new }
+{
+    match command {
+        Command::Vectorise => vectorise(alloc, deck, out),
+        Command::Graph => graph(alloc, deck, out),
+        Command::Run77(options) => run77(alloc, options, deck, out),
+        Command::Run90(options) => run90(alloc, options, deck, out),
+    }
+}
+
+// Passes on what `out` holds back of a text that was given whole. Where that fails, so does the call.
+fn passed_on<K: Sink>(outcome: Outcome, out: &mut K) -> Outcome
+    ensures taken { K.taken out.new ≡ K.taken out.old }
+    ensures outcome { (result ≡ outcome) ⊎ ((result ≡ WriteFault) × (gives_all outcome ≡ true)) }
+    ensures passed { gives_all result ≡ true → K.held out.new ≡ [] }
+    ensures unasked { gives_all outcome ≡ false → (result ≡ outcome) × (out.new ≡ out.old) }
+    ensures untouched { K.held out.old ≡ [] → (result ≡ outcome) × (out.new ≡ out.old) }
+    ensures fault { gives_all outcome ≡ true → result ≡ WriteFault → Rose (K.faults out.old) (K.faults out.new) }
+    ensures no_fault { (result ≡ WriteFault → ⊥) → K.faults out.new ≡ K.faults out.old }
+    ensures later { K.faults out.old ≤ K.faults out.new }
+{
+    match outcome {
+        Outcome::Done | Outcome::Faulted(_, _) | Outcome::StepLimit => match out.send() {
+            Ok(()) => outcome,
+            Err(_) => Outcome::WriteFault,
+        },
+        Outcome::Usage | Outcome::Refused(_) | Outcome::ReadFault => outcome,
+        Outcome::WriteFault | Outcome::OutOfMemory => outcome,
+    }
+}
+
 // Does what the command asks for.
-fn perform<S: Source, K: Sink>(
-    alloc: Global,
-    command: Command,
-    deck: &mut S,
-    out: &mut K,
-) -> Outcome
+fn obey<S: Source, K: Sink>(alloc: Global, command: Command, deck: &mut S, out: &mut K) -> Outcome
     ensures ends { Ends command (record {
       left_before = S.left deck.old;
       left_now = S.left deck.new;
@@ -55,6 +96,12 @@ fn perform<S: Source, K: Sink>(
       out_faults_now = K.faults out.new;
     }) result }
     ensures untouched { is_silent (Some command) result ≡ true → out.new ≡ out.old }
+    ensures textless { IsRun command → K.held out.old ≡ []
+        → IfTold (S.left deck.old) (λ bytes. (p : Program) → Reads command bytes p → text_of_run command bytes p ≡ []
+        → out.new ≡ out.old) }
+    ensures passed { gives_all result ≡ true → K.held out.new ≡ [] }
+    ensures no_deck_fault { (result ≡ ReadFault → ⊥) → S.faults deck.new ≡ S.faults deck.old }
+    ensures no_out_fault { (result ≡ WriteFault → ⊥) → K.faults out.new ≡ K.faults out.old }
     ensures deck_later { S.faults deck.old ≤ S.faults deck.new }
     ensures out_later { K.faults out.old ≤ K.faults out.new }
 {
@@ -62,12 +109,8 @@ fn perform<S: Source, K: Sink>(
         Ok(bytes) => bytes,
         Err(outcome) => return outcome,
     };
-    match command {
-        Command::Vectorise => vectorise(alloc, bytes.as_slice(), out),
-        Command::Graph => graph(alloc, bytes.as_slice(), out),
-        Command::Run77(options) => run77(alloc, options, bytes.as_slice(), out),
-        Command::Run90(options) => run90(alloc, options, bytes.as_slice(), out),
-    }
+    let outcome = perform(alloc, command, bytes.as_slice(), out);
+    passed_on(outcome, out)
 }
 
 // Does what the words ask for.
@@ -84,11 +127,17 @@ fn work<S: Source, K: Sink>(alloc: Global, words: &[String], deck: &mut S, out: 
     }) result }
     ensures unread { command_of (texts words.now) ≡ None → deck.new ≡ deck.old }
     ensures untouched { is_silent (command_of (texts words.now)) result ≡ true → out.new ≡ out.old }
+    ensures textless { (c : Asked) → IsRun c → command_of (texts words.now) ≡ Some c → K.held out.old ≡ []
+        → IfTold (S.left deck.old) (λ bytes. (p : Program) → Reads c bytes p → text_of_run c bytes p ≡ []
+        → out.new ≡ out.old) }
+    ensures passed { gives_all result ≡ true → K.held out.new ≡ [] }
+    ensures no_deck_fault { (result ≡ ReadFault → ⊥) → S.faults deck.new ≡ S.faults deck.old }
+    ensures no_out_fault { (result ≡ WriteFault → ⊥) → K.faults out.new ≡ K.faults out.old }
     ensures deck_later { S.faults deck.old ≤ S.faults deck.new }
     ensures out_later { K.faults out.old ≤ K.faults out.new }
 {
     match command(words) {
-        Some(command) => perform(alloc, command, deck, out),
+        Some(command) => obey(alloc, command, deck, out),
         None => Outcome::Usage,
     }
 }
@@ -125,6 +174,8 @@ pub fn run_tool<S: Source, K: Sink, E: Sink>(
     // Faults of the objects: 5 and 6 come only where that object failed in this call.
     ensures read_fault { result ≡ 5 → Rose (S.faults deck.old) (S.faults deck.new) }
     ensures write_fault { result ≡ 6 → Rose (K.faults out.old) (K.faults out.new) }
+    ensures no_read_fault { (result ≡ 5 → ⊥) → S.faults deck.new ≡ S.faults deck.old }
+    ensures no_write_fault { (result ≡ 6 → ⊥) → K.faults out.new ≡ K.faults out.old }
 
     // `vectorise` gives the translation at 0, and a front of it at 6.
     ensures translated { Asks words.now.items Vectorise → result ≡ 0
@@ -148,6 +199,12 @@ pub fn run_tool<S: Source, K: Sink, E: Sink>(
         × IfTold (S.left deck.old) (GivesRun c StepLimit (K.taken out.old) (K.taken out.new)) }
     ensures run_part { (c : Asked) → IsRun c → Asks words.now.items c → result ≡ 6
         → IfTold (S.left deck.old) (GivesRunPart c (K.taken out.old) (K.taken out.new)) }
+
+    // All that was given has been passed on at 0, 3 and 4. Where a run has no text, `out` is as it was.
+    ensures passed_on { IsOneOf (0 ∷ 3 ∷ 4 ∷ []) result → K.held out.new ≡ [] }
+    ensures textless { (c : Asked) → IsRun c → Asks words.now.items c → K.held out.old ≡ []
+        → IfTold (S.left deck.old) (λ bytes. (p : Program) → Reads c bytes p → text_of_run c bytes p ≡ []
+        → out.new ≡ out.old) }
 
     // Otherwise nothing is given, but that `run90` may have given a front where there is no memory.
     ensures nothing { IsOneOf (1 ∷ 2 ∷ 5 ∷ []) result → out.new ≡ out.old }

@@ -36,6 +36,7 @@ pub(crate) fn graph<K: Sink>(alloc: Global, deck: &[u8], out: &mut K) -> Outcome
       faults_now = K.faults out.new;
     }) result }
     ensures untouched { is_silent (Some Graph) result ≡ true → out.new ≡ out.old }
+    ensures no_fault { (result ≡ Outcome.WriteFault → ⊥) → K.faults out.new ≡ K.faults out.old }
     ensures later { K.faults out.old ≤ K.faults out.new }
 {
     let (source, _) = source_and_input(deck, DataLine::Fortran77);

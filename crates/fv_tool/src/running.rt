@@ -1,5 +1,5 @@
 //! `run77` and `run90`: the run of a deck.
-ghost use Rattle.std.specs.Prelude.{◌≡◌, ◌≤◌, true, length, Some};
+ghost use Rattle.std.specs.Prelude.{◌≡◌, ◌≤◌, [], true, length, Some};
 ghost use Rattle.fv_tree.specs.Limits.{deck_bytes, deck_bytes90};
 ghost use Rattle.fv_tree.specs.Plain.{Program};
 ghost use Rattle.fv_meaning.specs.Run.{run as run_at};
@@ -10,7 +10,8 @@ ghost use Rattle.fv_meaning.specs.Profile90.{IsProgram90};
 ghost use Rattle.fv_command.specs.declared.commands.Command.TheVariants.{Run77, Run90};
 ghost use Rattle.run77.specs.Machine.{IsMachineOf as IsMachine77Of};
 ghost use Rattle.run90.specs.Machine.{IsMachineOf as IsMachine90Of};
-ghost use Rattle.fv_tool.specs.Running.{run_text};
+ghost use Rattle.fv_tool.specs.Decks.{Reads};
+ghost use Rattle.fv_tool.specs.Running.{run_text, text_of_run};
 ghost use Rattle.fv_tool.specs.Endings.{is_silent};
 ghost use Rattle.fv_tool.specs.Works.{Comes, ComesOrStops, Works};
 
@@ -41,6 +42,9 @@ fn run_machine77<K: Sink>(
           faults_now = K.faults out.new;
         }) result }
     ensures untouched { is_silent (Some (Run77 options)) result ≡ true → out.new ≡ out.old }
+    ensures textless { (p : Program) → IsProgram77 fortran77 p → IsMachine77Of p machine.old
+        → run_text options p (run_at fortran77 options.steps p input.now) ≡ [] → out.new ≡ out.old }
+    ensures no_fault { (result ≡ Outcome.WriteFault → ⊥) → K.faults out.new ≡ K.faults out.old }
     ensures later { K.faults out.old ≤ K.faults out.new }
 {
     match machine.run(input, out, options.steps) {
@@ -74,6 +78,9 @@ fn run_machine90<K: Sink>(
           faults_now = K.faults out.new;
         }) result }
     ensures untouched { is_silent (Some (Run90 options)) result ≡ true → out.new ≡ out.old }
+    ensures textless { (p : Program) → IsProgram90 p → IsMachine90Of p machine.old
+        → run_text options p (run_at fortran90 options.steps p input.now) ≡ [] → out.new ≡ out.old }
+    ensures no_fault { (result ≡ Outcome.WriteFault → ⊥) → K.faults out.new ≡ K.faults out.old }
     ensures later { K.faults out.old ≤ K.faults out.new }
 {
     let Ok(end) = machine.run(input, out, options.steps) else {
@@ -104,6 +111,9 @@ pub(crate) fn run77<K: Sink>(alloc: Global, options: Options, deck: &[u8], out: 
       faults_now = K.faults out.new;
     }) result }
     ensures untouched { is_silent (Some (Run77 options)) result ≡ true → out.new ≡ out.old }
+    ensures textless { (p : Program) → Reads (Run77 options) deck.now p → text_of_run (Run77 options) deck.now p ≡ []
+        → out.new ≡ out.old }
+    ensures no_fault { (result ≡ Outcome.WriteFault → ⊥) → K.faults out.new ≡ K.faults out.old }
     ensures later { K.faults out.old ≤ K.faults out.new }
 {
     let (source, input) = source_and_input(deck, DataLine::Fortran77);
@@ -128,6 +138,9 @@ pub(crate) fn run90<K: Sink>(alloc: Global, options: Options, deck: &[u8], out: 
       faults_now = K.faults out.new;
     }) result }
     ensures untouched { is_silent (Some (Run90 options)) result ≡ true → out.new ≡ out.old }
+    ensures textless { (p : Program) → Reads (Run90 options) deck.now p → text_of_run (Run90 options) deck.now p ≡ []
+        → out.new ≡ out.old }
+    ensures no_fault { (result ≡ Outcome.WriteFault → ⊥) → K.faults out.new ≡ K.faults out.old }
     ensures later { K.faults out.old ≤ K.faults out.new }
 {
     let (source, input) = source_and_input(deck, DataLine::Fortran90);

@@ -4,7 +4,7 @@
 ghost use Rattle.std.specs.Prelude.{◌≡◌, ◌⊎◌, IfErr, IfOk, drop};
 ghost use Rattle.std.specs.Vec.Iter.{into_iter_items};
 
-use fv_io::{StdSink, StdSource};
+use fv_io::{BufferedSink, StdSink, StdSource};
 use fv_tool::run_tool;
 use std::alloc::{AllocError, Global};
 use std::env;
@@ -39,7 +39,7 @@ fn main(rt: HostRuntime) -> ExitCode {
     match words(&rt) {
         Ok(words) => {
             let mut deck = StdSource::new(rt.stdin());
-            let mut out = StdSink::new(rt.stdout());
+            let mut out = BufferedSink::new(StdSink::new(rt.stdout()));
             let mut notes = StdSink::new(rt.stderr());
             ExitCode::from(run_tool(rt.alloc(), &words, &mut deck, &mut out, &mut notes))
         }

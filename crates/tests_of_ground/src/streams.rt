@@ -1,6 +1,6 @@
 use fv_io::{
-    Gave, MemSink, MemSource, NullSink, PlainSource, ReadEnd, Sink, Source, StdSink, StdSource,
-    Took, WriteFault, read_all, write_all,
+    BufferedSink, Gave, MemSink, MemSource, NullSink, PlainSource, ReadEnd, Sink, Source, StdSink,
+    StdSource, Took, WriteFault, read_all, write_all,
 };
 use std::alloc::{AllocError, Global};
 use std::io;
@@ -272,6 +272,50 @@ fn sinks_fail_at_the_chosen_calls(rt: HostRuntime) -> Result<(), Fail> {
         assert_eq!(rt; sink.bytes(), &TEXT[..held], "at {room}, {piece}, {call}");
     }
     assert_eq!(rt; write_all(&mut NullSink, TEXT), Ok(()));
+    Ok(())
+}
+
+#[test]
+fn buffers_give_full_pieces(rt: HostRuntime) -> Result<(), Fail> {
+    let text = text_of(rt.alloc(), 10000)?;
+    // The size of the texts given one after the other, and how many bytes have passed after all of them but the send.
+    for (size, passed) in [
+        (1, 8192),
+        (4095, 8192),
+        (4096, 8192),
+        (4097, 8192),
+        (10000, 8192),
+    ] {
+        let sink = MemSink::new(rt.alloc(), 10000, 10000, Vec::new(rt.alloc()))
+            .ok()
+            .ok_or("memory")?;
+        let mut sink = BufferedSink::new(sink);
+        for piece in text.chunks(size) {
+            assert_eq!(rt; write_all(&mut sink, piece), Ok(()), "at {size}");
+        }
+        assert_eq!(rt; sink.inner().bytes().len(), passed, "at {size}");
+        assert_eq!(rt; sink.send(), Ok(()), "at {size}");
+        assert_eq!(rt; sink.inner().bytes(), text.as_slice(), "at {size}");
+    }
+    Ok(())
+}
+
+#[test]
+fn buffers_keep_what_was_not_taken(rt: HostRuntime) -> Result<(), Fail> {
+    // Each second call of the sink fails: at so many bytes a call, so many sends fail.
+    for (piece, failing) in [(1, 4), (7, 4), (24, 2), (48, 1)] {
+        let fails = Vec::from_slice(rt.alloc(), &[1, 3, 5, 7])?;
+        let sink = MemSink::new(rt.alloc(), 48, piece, fails)
+            .ok()
+            .ok_or("memory")?;
+        let mut sink = BufferedSink::new(sink);
+        assert_eq!(rt; write_all(&mut sink, TEXT), Ok(()), "at {piece}");
+        for _ in 0..failing {
+            assert_eq!(rt; sink.send(), Err(WriteFault), "at {piece}");
+        }
+        assert_eq!(rt; sink.send(), Ok(()), "at {piece}");
+        assert_eq!(rt; sink.inner().bytes(), TEXT, "at {piece}");
+    }
     Ok(())
 }
 

@@ -1,6 +1,6 @@
 use Rattle.std.proofs.Common.{◌≡◌, ◌-◌, length}
 use Rattle.fv_io.proofs.Progress.{Writes}
-use Rattle.fv_io.proofs.transfer.write_all.Given as goal
+use Rattle.fv_io.proofs.transfer.give_front.Given as goal
 
 abbrev pub invariant-loop-given : goal.invariant-loop-given
 invariant-loop-given g l =
