@@ -55,7 +55,7 @@ reduction_of r e s = do
   g ← array_of fortran90 e s
   v ← in_whole g
   zs ← as_numbers v.values
-  reduced 31 r zs
+  reduced fortran90.bits r zs
 
 -- ---- arrays
 

@@ -3,6 +3,7 @@ ghost use Rattle.std.specs.Prelude.{◌≡◌, ◌++◌, ◌∷◌, [], map, IfO
 ghost use Rattle.fv_tree.specs.Operators.{fits};
 ghost use Rattle.fv_tree.specs.Plain.{expressions};
 ghost use Rattle.fv_tree.specs.View.{expression_of, loop_of, loops};
+ghost use Rattle.fv_meaning.specs.Dialect.{fortran90};
 ghost use Rattle.fv_meaning.specs.Value.{for_numbers};
 ghost use Rattle.array_expressions.specs.Appending.{Appends};
 ghost use Rattle.array_expressions.specs.Scopes.{store_at, constructed};
@@ -33,7 +34,7 @@ struct Numbers {
 
 // Whether INTEGER holds the number.
 fn is_integer(number: i128) -> bool
-    ensures { result ≡ fits 31 number }
+    ensures { result ≡ fits fortran90.bits number }
 {
     i32::try_from(number).is_ok()
 }
@@ -76,7 +77,7 @@ impl Scope<'_> {
         locals: &[Local],
         all: &mut Seq<Value>,
     ) -> Result<(), Failure>
-        ensures { Appends all.old all.new (for_numbers 31 numbers.name numbers.first numbers.last
+        ensures { Appends all.old all.new (for_numbers fortran90.bits numbers.name numbers.first numbers.last
             (constructed (expressions (map expression_of values.now)) (loops (map loop_of inner.now)))
             (store_at self.now locals.now)) result }
     {

@@ -1,5 +1,5 @@
 //! The lines of the final store.
-ghost use Rattle.std.specs.Prelude.{◌≤◌, ℕ, List, OnErr};
+ghost use Rattle.std.specs.Prelude.{◌≡◌, ◌≤◌, ℕ, List, [], OnOk, OnErr};
 ghost use Rattle.fv_io.specs.Causes.{Rose};
 ghost use Rattle.fv_meaning.specs.Steps.{lines_of_cells, lines_of_name};
 ghost use Rattle.fv_machine.specs.Texts.{WritesText};
@@ -19,7 +19,10 @@ impl Slot {
         ensures text { (vs : List Slot) (i : ℕ) → IsNamed vs name i self.now
             → WritesText (K.taken out.old) (lines_of_cells name (bounds_now self.now) (store_among vs))
             (K.taken out.new) result }
+        ensures untouched { (vs : List Slot) (i : ℕ) → IsNamed vs name i self.now
+            → lines_of_cells name (bounds_now self.now) (store_among vs) ≡ [] → out.new ≡ out.old }
         ensures fault { OnErr result (Rose (K.faults out.old) (K.faults out.new)) }
+        ensures no_fault { OnOk result (K.faults out.new ≡ K.faults out.old) }
         ensures later { K.faults out.old ≤ K.faults out.new }
     {
         if !self.there {
@@ -34,7 +37,9 @@ impl Storage {
     /// vectoriser, has no lines.
     pub fn show_name<K: Sink>(&self, name: Name, out: &mut K) -> Result<(), WriteFault>
         ensures text { WritesText (K.taken out.old) (lines_of_name name (store_in self.now)) (K.taken out.new) result }
+        ensures untouched { lines_of_name name (store_in self.now) ≡ [] → out.new ≡ out.old }
         ensures fault { OnErr result (Rose (K.faults out.old) (K.faults out.new)) }
+        ensures no_fault { OnOk result (K.faults out.new ≡ K.faults out.old) }
         ensures later { K.faults out.old ≤ K.faults out.new }
     {
         if !name.is_source() {

@@ -13,6 +13,7 @@ use Rattle.fv_tree.specs.View.{declaration_of}
 use Rattle.fv_machine.specs.declared.variables.Variable.{Variable}
 use Rattle.fv_machine.specs.Storage.{declared, own_names}
 use Rattle.fv_io.proofs.Chained.{gives_none, gives_more, part_after, part_before}
+use Rattle.fv_machine.proofs.Telling.{nothing_in_front, nothing_behind}
 
 module _ {X : Type 0} (f : X → List ℕ) (vs : List X) (i : ℕ) (v : X) (before mid now : Option (List ℕ)) where
   pub lines_more : i < length vs → v ≡ get_or vs i v → Gives before (flat_map f (take i vs)) mid → Gives mid (f v) now → Gives before (flat_map f (take (i + 1) vs)) now
@@ -54,6 +55,12 @@ module _ {X : Type 0} (f : X → List ℕ) (text : List ℕ) (before : Option (L
       subst (λ t. GivesPart before t now)
       (sym (h.whole ∙ ap (λ t. h.front ++ t) (flat_map-cons f x xs)))
       (part_after before mid now h.front (f x ++ flat_map f xs) h.given (part_before mid now (f x) (flat_map f xs) k))
+
+  -- without a text the next one has none
+  pub left_nothing : (x : X) (xs : List X) (now : Option (List ℕ)) → HasLeft f text (x ∷ xs) before now → text ≡ [] → f x ≡ []
+  left_nothing x xs now h e =
+      nothing_in_front (f x) (flat_map f xs)
+      (nothing_behind h.front (f x ++ flat_map f xs) (sym (h.whole ∙ ap (λ t. h.front ++ t) (flat_map-cons f x xs)) ∙ e))
 
 -- the place is the number there
 pub number_there : (n k : ℕ) → k < n → k ≡ get_or (range_with_len 0 n) k k

@@ -1,16 +1,20 @@
 -- The parts of a line of the final store, written one after the other.
-use Rattle.std.proofs.Common.{◌≡◌, sym, ap, ◌∙◌, ℕ, ℤ, pos, ◌+ℤ◌, List, [], ◌∷◌, ◌++◌, Result, Ok, Err, Option, append_assoc, append-nil}
+use Rattle.std.proofs.Common.{◌≡◌, refl, sym, ap, ◌∙◌, ℕ, ℤ, pos, ◌+ℤ◌, List, [], ◌∷◌, ◌++◌, Result, Ok, Err, Option, Some, map, append_assoc, append-nil}
 use Rattle.std.specs.Prelude.{OnOk, OnErr, ◌/◌, ◌%◌}
 use Rattle.std.specs.Fmt.{signed_decimal}
+use Rattle.std.specs.List.{flat_map}
+use Rattle.std.proofs.lemmas.List.Concat.{flat_map-cons}
 use Rattle.fv_io.specs.Streams.{Gives, GivesPart}
 use Rattle.fv_tree.specs.View.{bounds_of}
 use Rattle.fv_tree.specs.declared.programs.Dim.{Dim}
 use Rattle.fv_tree.specs.declared.ops.Value.{Value}
-use Rattle.fv_meaning.specs.Store.{Cell, size_of}
+use Rattle.fv_meaning.specs.Store.{Store, Cell, size_of, cells_of}
+use Rattle.fv_meaning.specs.Steps.{lines_of_cells}
 use Rattle.fv_meaning.specs.Texts.{separated, subscripts_text, value_text, final_line}
 use Rattle.fv_machine.specs.Storage.{bounds_list}
 use Rattle.fv_machine.specs.Texts.{WritesText}
 use Rattle.fv_machine.specs.Showing.{subscripts_at, behind_commas, held_text}
+use Rattle.fv_machine.proofs.Telling.{nothing_in_front, nothing_behind}
 
 -- what `write_all` says, in one
 pub written : {E : Type 0} (before now : Option (List ℕ)) (text : List ℕ) (r : Result (Unit {0}) E) → OnOk r (Gives before text now) → OnErr r (GivesPart before text now) → WritesText before text now r
@@ -43,3 +47,17 @@ line_is c v =
     append_assoc (c.name ++ subscripts_text c.subscripts ++ (32 ∷ 61 ∷ 32 ∷ [])) (value_text v) (10 ∷ [])
     ∙ append_assoc (c.name ++ subscripts_text c.subscripts) (32 ∷ 61 ∷ 32 ∷ []) (value_text v ++ 10 ∷ [])
     ∙ append_assoc c.name (subscripts_text c.subscripts) ((32 ∷ 61 ∷ 32 ∷ []) ++ (value_text v ++ 10 ∷ []))
+
+no_line : (c : Cell) (v : Value) → final_line c v ≡ [] → ⊥
+no_line c v e =
+    let h : held_text v ≡ [] = nothing_behind (subscripts_text c.subscripts) (held_text v) (nothing_behind c.name (subscripts_text c.subscripts ++ held_text v) (sym (line_is c v) ∙ e)) in
+    cc
+
+no_cells : (s : Store) (cs : List Cell) → flat_map (λ c. final_line c (s.held c)) cs ≡ [] → map s.held cs ≡ []
+no_cells s [] e = refl
+no_cells s (c ∷ cs) e =
+    absurd (no_line c (s.held c) (nothing_in_front (final_line c (s.held c)) (flat_map (λ c. final_line c (s.held c)) cs) (sym (flat_map-cons (λ c. final_line c (s.held c)) c cs) ∙ e)))
+
+-- without lines there are no values
+pub no_values_there : (x : List ℕ) (bs : List (ℤ × ℤ)) (s : Store) (vs : List Value) → map s.held (cells_of x bs) ≡ vs → lines_of_cells x (Some bs) s ≡ [] → vs ≡ []
+no_values_there x bs s vs h e = sym h ∙ no_cells s (cells_of x bs) e

@@ -75,6 +75,18 @@ between_texts text last bytes s l t h =
       untouched = λ e. t (no_more l.after last (omega (arith, e, m, n, l.grows))) ∙ l.untouched (omega (arith, e, m, n, l.grows)) ∙ s (no_more bytes text (omega (arith, e, m, n, l.grows)));
     }
 
+-- a text, and then more, and then the end of a line, so that something is given
+pub line_ended : {K : Type 0} {S : Type 0} {a b : K} {E F : Option (List ℕ) → Option (List ℕ) → Type 0} (text bytes : List ℕ) → (l : IsTold E (b ≡ a) (bytes ++ text)) → F (Some bytes) (Some (l.after ++ 10 ∷ [])) → IsTold F S bytes
+line_ended text bytes l h =
+    let m = length-append bytes text in
+    let n = length-append l.after (10 ∷ []) in
+    record {
+      after = l.after ++ 10 ∷ [];
+      does = h;
+      grows = omega (arith, m, n, l.grows);
+      untouched = λ e. absurd (omega (arith, e, m, n, l.grows));
+    }
+
 -- ---- values
 
 pub no_values : (vs : List Value) (b : Bool) → b ≡ (length vs == 0) → b ≡ true → vs ≡ []
@@ -101,9 +113,13 @@ some_output (v ∷ vs) n e = cc
 pub one_output : (v : Value) → output_text (v ∷ []) ≡ [] → ⊥
 one_output v e = cc
 
-nothing_in_front : (xs ys : List ℕ) → xs ++ ys ≡ [] → xs ≡ []
+pub nothing_in_front : (xs ys : List ℕ) → xs ++ ys ≡ [] → xs ≡ []
 nothing_in_front [] ys e = refl
 nothing_in_front (x ∷ xs) ys e = cc
+
+pub nothing_behind : (xs ys : List ℕ) → xs ++ ys ≡ [] → ys ≡ []
+nothing_behind [] ys e = e
+nothing_behind (x ∷ xs) ys e = cc
 
 same_bytes : (xs ys : List ℕ) → Some xs ≡ append_known (Some []) ys → xs ≡ ys
 same_bytes xs ys e = cc

@@ -1,5 +1,5 @@
 -- What is written to a sink, as a run writes it.
-use Rattle.std.proofs.Common.{◌≡◌, refl, sym, ap, ◌∙◌, subst, ℕ, List, [], ◌∷◌, ◌++◌, take, drop, get_or, length, ◌+◌, ◌<◌, Result, Ok, Err, Option, append_assoc, append-nil}
+use Rattle.std.proofs.Common.{◌≡◌, refl, sym, ap, ◌∙◌, subst, ℕ, List, [], ◌∷◌, ◌++◌, take, drop, get_or, length, ◌+◌, ◌<◌, Result, Ok, Err, Option, Some, append_assoc, append-nil}
 use Rattle.std.proofs.lemmas.List.{take_more, take-append-drop, drop_more}
 use Rattle.fv_io.specs.Streams.{Gives, GivesPart}
 use Rattle.fv_io.specs.declared.errors.WriteFault.{WriteFault}
@@ -15,7 +15,7 @@ use Rattle.fv_machine.specs.declared.progress.Halt.{Halt}
 use Rattle.fv_machine.specs.declared.progress.Left.{Left}
 use Rattle.fv_machine.specs.declared.progress.Left.TheVariants.{Halted, Unwritten}
 use Rattle.fv_machine.specs.Moments.{located}
-use Rattle.fv_machine.specs.Acts.{Runs}
+use Rattle.fv_machine.specs.Acts.{LimitedAct, Runs}
 use Rattle.fv_machine.specs.Texts.{WritesText}
 use Rattle.fv_machine.specs.Printing.{prints_value}
 use Rattle.fv_meaning.specs.Run.{State}
@@ -60,6 +60,29 @@ Runs-writes text input m before now (Err e) h names limit base s d b =
         more = h.1;
         text = ap (λ (t : State). t.written) at ∙ ap (λ t. s.written ++ t) h.2 ∙ sym (append_assoc s.written h.0 h.1);
         taken = gives_more base before now s.written h.0 b h.3;
+      },
+    )
+
+-- where all was written, and not sent, the run is left too
+pub Runs-unsent : (act : LimitedAct) (input : List ℕ) (old new : Seen) (before now : Option (List ℕ)) → Runs act input old before new now (Ok tt)
+    → Runs act input old before new now (Err Unwritten)
+unfolding Runs
+Runs-unsent act input old new before now h names limit base s d b =
+    let q = h names limit base s d b in
+    let t = act limit s in
+    let same : act (Some t.steps) s ≡ t = q.1.same t.steps (omega arith) in (
+      record { names_are = q.0.stands.names_are; front = t.written; rest = []; whole = sym (append-nil t.written); taken = q.0.taken },
+      record {
+        count = t.steps;
+        later = q.1.later;
+        within = q.1.within;
+        steps = ap (λ (t : State). t.steps) same;
+        set = [];
+        store = ap (λ (t : State). t.store) same ∙ q.0.stands.store;
+        part = t.written;
+        more = [];
+        text = ap (λ (t : State). t.written) same ∙ sym (append-nil t.written);
+        taken = q.0.taken;
       },
     )
 

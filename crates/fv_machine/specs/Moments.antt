@@ -5,6 +5,7 @@ use Rattle.fv_tree.specs.Plain.{Declaration}
 use Rattle.fv_tree.specs.declared.ops.Value.{Value}
 use Rattle.fv_tree.specs.declared.ops.Fault.{Fault}
 use Rattle.fv_tree.specs.declared.ops.Fault.TheVariants.{Overflow}
+use Rattle.fv_meaning.specs.Dialect.{fortran77}
 use Rattle.fv_meaning.specs.Store.{Store}
 use Rattle.fv_meaning.specs.Value.{is_in_range}
 use Rattle.fv_meaning.specs.Texts.{without_cr}
@@ -13,9 +14,9 @@ use Rattle.fv_machine.specs.declared.progress.Progress.{Progress}
 use Rattle.fv_machine.specs.declared.progress.Halt.{Halt}
 use Rattle.fv_machine.specs.declared.progress.Halt.TheVariants.{Jump, Stop, Fault as Fault', Limit}
 
--- INTEGER holds -2 ^ 31 to 2 ^ 31 - 1 in the machines of both dialects
+-- INTEGER holds -2 ^ bits to 2 ^ bits - 1, in the machines of both dialects
 abbrev pub integer_bits : ℕ
-integer_bits = 31
+integer_bits = fortran77.bits
 
 -- the names of a machine's program, the store that its values stand for, and how far the run is
 pub record Seen : Type 0 where

@@ -2,7 +2,7 @@
 -- the
 -- elements of an array in column-major order (ANSI X3.9-1978, section 5.2.5).
 use Rattle.std.specs.Prelude.{◌≡◌, false, Option, Some, None, ℕ, ◌+◌, ◌*◌, ◌^◌, ◌≤◌, ℤ, ◌-ℤ◌, nat_abs, int_le, ◌&&◌}
-use Rattle.std.specs.Prelude.{pos, negsuc, ◌≤ℤ◌}
+use Rattle.std.specs.Prelude.{pos, neg_ℤ, ◌≤ℤ◌, ◌<ℤ◌}
 use Rattle.std.specs.Prelude.{if◌then◌else◌, List, [], ◌∷◌, map, get_or, nat_lt, length, ◌++◌, replicate}
 use Rattle.std.specs.Option.{option_map}
 use Rattle.std.specs.Str.{bytes_eq}
@@ -11,6 +11,7 @@ use Rattle.fv_tree.specs.Plain.{Declaration, Extent, Given, Later}
 use Rattle.fv_tree.specs.View.{declaration_of, bounds_of}
 use Rattle.fv_tree.specs.declared.ops.Value.{Value}
 use Rattle.fv_tree.specs.declared.programs.Dim.{Dim}
+use Rattle.fv_meaning.specs.Dialect.{fortran77}
 use Rattle.fv_meaning.specs.Store.{Store, size_of, opening_bounds, opening_value, nought}
 use Rattle.fv_meaning.specs.Typed.{dimensions}
 use Rattle.fv_meaning.specs.Profile77.{elements_of}
@@ -85,11 +86,11 @@ starts_in vs = map (λ (v : Variable). v.start) vs
 abbrev pub bounds_list : List Dim → List (ℤ × ℤ)
 bounds_list ds = map bounds_of ds
 
--- the bounds of a dimension are numbers of 32 bits, the lower one at most the upper one
+-- the bounds of a dimension are INTEGER values, the lower one at most the upper one
 pub record IsBounded (b : ℤ × ℤ) : Type 0 where
-  pub above : negsuc 2147483647 ≤ℤ b.0
+  pub above : neg_ℤ (pos (2 ^ fortran77.bits)) ≤ℤ b.0
   pub ordered : b.0 ≤ℤ b.1
-  pub below : b.1 ≤ℤ pos 2147483647
+  pub below : b.1 <ℤ pos (2 ^ fortran77.bits)
 
 -- the bounds of an array, which has at most 2^22 elements
 pub record AreBounds (bs : List (ℤ × ℤ)) : Type 0 where

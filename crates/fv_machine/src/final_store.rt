@@ -1,5 +1,6 @@
 //! The lines of the final store.
-ghost use Rattle.std.specs.Prelude.{◌≡◌, ◌<◌, ◌≤◌, ◌+ℤ◌, ◌/◌, ◌%◌, ◌^◌, pos, Some, OnErr, MatchOption, map, length};
+ghost use Rattle.std.specs.Prelude.{◌≡◌, ◌<◌, ◌≤◌, ◌+ℤ◌, ◌/◌, ◌%◌, ◌^◌, [], pos, map, length};
+ghost use Rattle.std.specs.Prelude.{Some, OnOk, OnErr, MatchOption};
 ghost use Rattle.std.specs.List.{flat_map};
 ghost use Rattle.std.specs.Fmt.{signed_decimal};
 ghost use Rattle.fv_io.specs.Causes.{Rose};
@@ -26,7 +27,10 @@ impl Storage {
         ensures text { WritesText (K.taken out.old)
             (flat_map (λ (d : Declaration). lines_of_name d.name (store_in self.now)) (names_in self.now))
             (K.taken out.new) result }
+        ensures untouched { flat_map (λ (d : Declaration). lines_of_name d.name (store_in self.now)) (names_in self.now)
+            ≡ [] → out.new ≡ out.old }
         ensures fault { OnErr result (Rose (K.faults out.old) (K.faults out.new)) }
+        ensures no_fault { OnOk result (K.faults out.new ≡ K.faults out.old) }
         ensures later { K.faults out.old ≤ K.faults out.new }
     {
         for name in self.variables.keys() {
@@ -39,7 +43,9 @@ impl Storage {
     #[tactic(auto, using(crate::proofs::SourceNames::no_source_lines))]
     fn show_name<K: Sink>(&self, name: Name, out: &mut K) -> Result<(), WriteFault>
         ensures text { WritesText (K.taken out.old) (lines_of_name name (store_in self.now)) (K.taken out.new) result }
+        ensures untouched { lines_of_name name (store_in self.now) ≡ [] → out.new ≡ out.old }
         ensures fault { OnErr result (Rose (K.faults out.old) (K.faults out.new)) }
+        ensures no_fault { OnOk result (K.faults out.new ≡ K.faults out.old) }
         ensures later { K.faults out.old ≤ K.faults out.new }
     {
         if !name.is_source() {
@@ -60,7 +66,10 @@ impl Storage {
         requires { IsOf (names_in self.now) name variable.now }
         ensures text { WritesText (K.taken out.old)
             (lines_of_cells name (Some (bounds_here variable.now)) (store_in self.now)) (K.taken out.new) result }
+        ensures untouched { lines_of_cells name (Some (bounds_here variable.now)) (store_in self.now) ≡ []
+            → out.new ≡ out.old }
         ensures fault { OnErr result (Rose (K.faults out.old) (K.faults out.new)) }
+        ensures no_fault { OnOk result (K.faults out.new ≡ K.faults out.old) }
         ensures later { K.faults out.old ≤ K.faults out.new }
     {
         let dims = dims_of(&variable.decl.extent);
@@ -79,7 +88,9 @@ pub fn write_lines<K: Sink>(
     requires { length values.now ≡ elements_of (bounds_list dims.now) }
     ensures text { (s : Store) → map s.held (cells_of name (bounds_list dims.now)) ≡ values.now
         → WritesText (K.taken out.old) (lines_of_cells name (Some (bounds_list dims.now)) s) (K.taken out.new) result }
+    ensures untouched { values.now ≡ [] → out.new ≡ out.old }
     ensures fault { OnErr result (Rose (K.faults out.old) (K.faults out.new)) }
+    ensures no_fault { OnOk result (K.faults out.new ≡ K.faults out.old) }
     ensures later { K.faults out.old ≤ K.faults out.new }
 {
     for (place, value) in values.iter().enumerate() {
@@ -100,6 +111,7 @@ fn write_line<K: Sink>(
     ensures text { WritesText (K.taken out.old) (final_line (element name (bounds_list dims.now) place) value)
         (K.taken out.new) result }
     ensures fault { OnErr result (Rose (K.faults out.old) (K.faults out.new)) }
+    ensures no_fault { OnOk result (K.faults out.new ≡ K.faults out.old) }
     ensures later { K.faults out.old ≤ K.faults out.new }
 {
     write_all(out, name.text())?;
@@ -110,6 +122,7 @@ fn write_line<K: Sink>(
 fn write_held<K: Sink>(value: Value, out: &mut K) -> Result<(), WriteFault>
     ensures text { WritesText (K.taken out.old) (held_text value) (K.taken out.new) result }
     ensures fault { OnErr result (Rose (K.faults out.old) (K.faults out.new)) }
+    ensures no_fault { OnOk result (K.faults out.new ≡ K.faults out.old) }
     ensures later { K.faults out.old ≤ K.faults out.new }
 {
     write_all(out, b" = ")?;
@@ -124,6 +137,7 @@ fn write_subscripts<K: Sink>(dims: &[Dim], place: usize, out: &mut K) -> Result<
     ensures text { WritesText (K.taken out.old) (subscripts_text (subscripts_at (bounds_list dims.now) place))
         (K.taken out.new) result }
     ensures fault { OnErr result (Rose (K.faults out.old) (K.faults out.new)) }
+    ensures no_fault { OnOk result (K.faults out.new ≡ K.faults out.old) }
     ensures later { K.faults out.old ≤ K.faults out.new }
 {
     let Some((dim, inner)) = dims.split_first() else {
@@ -142,6 +156,7 @@ fn write_more<K: Sink>(dims: &[Dim], place: usize, out: &mut K) -> Result<(), Wr
     ensures text { WritesText (K.taken out.old) (behind_commas (subscripts_at (bounds_list dims.now) place))
         (K.taken out.new) result }
     ensures fault { OnErr result (Rose (K.faults out.old) (K.faults out.new)) }
+    ensures no_fault { OnOk result (K.faults out.new ≡ K.faults out.old) }
     ensures later { K.faults out.old ≤ K.faults out.new }
 {
     let Some((dim, inner)) = dims.split_first() else {
@@ -158,6 +173,7 @@ fn write_subscript<K: Sink>(dim: Dim, place: usize, out: &mut K) -> Result<(), W
         (signed_decimal ((bounds_of dim).0 +ℤ pos (place % size_of (bounds_of dim))))
         (K.taken out.new) result }
     ensures fault { OnErr result (Rose (K.faults out.old) (K.faults out.new)) }
+    ensures no_fault { OnOk result (K.faults out.new ≡ K.faults out.old) }
     ensures later { K.faults out.old ≤ K.faults out.new }
 {
     let behind = column(dim, place);

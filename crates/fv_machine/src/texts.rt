@@ -1,5 +1,5 @@
 //! Values as text (ANSI X3.9-1978, section 13.6).
-ghost use Rattle.std.specs.Prelude.{◌≡◌, ◌≤◌, ◌∷◌, OnErr};
+ghost use Rattle.std.specs.Prelude.{◌≡◌, ◌≤◌, ◌∷◌, OnOk, OnErr};
 ghost use Rattle.fv_io.specs.Causes.{Rose};
 ghost use Rattle.fv_meaning.specs.Texts.{value_text, output_text};
 ghost use Rattle.fv_machine.specs.Texts.{WritesText};
@@ -11,6 +11,7 @@ use itoa::Buffer;
 fn write_number<K: Sink>(number: i128, out: &mut K) -> Result<(), WriteFault>
     ensures text { WritesText (K.taken out.old) (value_text (Value.Int number)) (K.taken out.new) result }
     ensures fault { OnErr result (Rose (K.faults out.old) (K.faults out.new)) }
+    ensures no_fault { OnOk result (K.faults out.new ≡ K.faults out.old) }
     ensures later { K.faults out.old ≤ K.faults out.new }
 {
     let mut buffer = Buffer::new();
@@ -22,6 +23,7 @@ fn write_number<K: Sink>(number: i128, out: &mut K) -> Result<(), WriteFault>
 pub fn write_value<K: Sink>(value: Value, out: &mut K) -> Result<(), WriteFault>
     ensures text { WritesText (K.taken out.old) (value_text value) (K.taken out.new) result }
     ensures fault { OnErr result (Rose (K.faults out.old) (K.faults out.new)) }
+    ensures no_fault { OnOk result (K.faults out.new ≡ K.faults out.old) }
     ensures later { K.faults out.old ≤ K.faults out.new }
 {
     match value {
@@ -36,6 +38,7 @@ pub fn write_value<K: Sink>(value: Value, out: &mut K) -> Result<(), WriteFault>
 pub fn write_output<K: Sink>(value: Value, out: &mut K) -> Result<(), WriteFault>
     ensures text { WritesText (K.taken out.old) (32 ∷ value_text value) (K.taken out.new) result }
     ensures fault { OnErr result (Rose (K.faults out.old) (K.faults out.new)) }
+    ensures no_fault { OnOk result (K.faults out.new ≡ K.faults out.old) }
     ensures later { K.faults out.old ≤ K.faults out.new }
 {
     write_all(out, b" ")?;
@@ -46,6 +49,7 @@ pub fn write_output<K: Sink>(value: Value, out: &mut K) -> Result<(), WriteFault
 pub fn write_outputs<K: Sink>(values: &[Value], out: &mut K) -> Result<(), WriteFault>
     ensures text { WritesText (K.taken out.old) (output_text values.now) (K.taken out.new) result }
     ensures fault { OnErr result (Rose (K.faults out.old) (K.faults out.new)) }
+    ensures no_fault { OnOk result (K.faults out.new ≡ K.faults out.old) }
     ensures later { K.faults out.old ≤ K.faults out.new }
 {
     for value in values {

@@ -1,5 +1,5 @@
 //! A program that can be run, and its final store.
-ghost use Rattle.std.specs.Prelude.{◌≡◌, ◌≤◌, [], IfOk, OnErr, map};
+ghost use Rattle.std.specs.Prelude.{◌≡◌, ◌≢◌, ◌≤◌, [], IfOk, OnOk, OnErr, map};
 ghost use Rattle.fv_io.specs.Causes.{Rose};
 ghost use Rattle.fv_tree.specs.Plain.{Program};
 ghost use Rattle.fv_tree.specs.View.{program_of, declaration_of, block_of};
@@ -82,6 +82,7 @@ impl Machine77 {
         ensures untouched { (p : Program) → IsProgram77 fortran77 p → IsMachineOf p self.old
             → (run fortran77 limit p input.now).written ≡ [] → out.new ≡ out.old }
         ensures fault { result ≡ End.WriteFault → Rose (K.faults out.old) (K.faults out.new) }
+        ensures no_fault { result ≢ End.WriteFault → K.faults out.new ≡ K.faults out.old }
         ensures later { K.faults out.old ≤ K.faults out.new }
     {
         self.moment.begin(limit);
@@ -92,7 +93,10 @@ impl Machine77 {
     pub fn show<K: Sink>(&self, out: &mut K) -> Result<(), WriteFault>
         ensures text { (p : Program) → IsMachineOf p self.now
             → WritesText (K.taken out.old) (final_lines p (store_left self.now)) (K.taken out.new) result }
+        ensures untouched { (p : Program) → IsMachineOf p self.now → final_lines p (store_left self.now) ≡ []
+            → out.new ≡ out.old }
         ensures fault { OnErr result (Rose (K.faults out.old) (K.faults out.new)) }
+        ensures no_fault { OnOk result (K.faults out.new ≡ K.faults out.old) }
         ensures later { K.faults out.old ≤ K.faults out.new }
     {
         self.moment.storage.show(out)

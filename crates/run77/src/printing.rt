@@ -1,5 +1,5 @@
 //! PRINT (ANSI X3.9-1978, sections 12 and 13.6).
-ghost use Rattle.std.specs.Prelude.{◌≡◌, ◌≤◌, Err, List, ℕ, MatchOption};
+ghost use Rattle.std.specs.Prelude.{◌≡◌, ◌≢◌, ◌≤◌, Err, List, ℕ, MatchOption};
 ghost use Rattle.fv_io.specs.Causes.{Rose};
 ghost use Rattle.fv_tree.specs.View.{expression_of, item_of};
 ghost use Rattle.fv_meaning.specs.Dialect.{fortran77};
@@ -47,6 +47,7 @@ impl Moment {
             Runs (λ limit. prints_value fortran77 line (expression_of expr.now)) input
             (seen self.now) before (seen self.now) now result) (out.new ≡ out.old) bytes }
         ensures fault { result ≡ Err Left.Unwritten → Rose (K.faults out.old) (K.faults out.new) }
+        ensures no_fault { result ≢ Err Left.Unwritten → K.faults out.new ≡ K.faults out.old }
         ensures later { K.faults out.old ≤ K.faults out.new }
     {
         match whole_name(expr) {
@@ -74,6 +75,7 @@ impl Moment {
             Runs (λ limit. prints_item fortran77 limit (item_of item.now) line) input
             (seen self.old) before (seen self.new) now result) (out.new ≡ out.old) bytes }
         ensures fault { result ≡ Err Left.Unwritten → Rose (K.faults out.old) (K.faults out.new) }
+        ensures no_fault { result ≢ Err Left.Unwritten → K.faults out.new ≡ K.faults out.old }
         ensures later { K.faults out.old ≤ K.faults out.new }
     {
         match item {
@@ -104,6 +106,7 @@ impl Moment {
             Runs (λ limit. prints_items fortran77 limit (plain_items items.now) line) input
             (seen self.old) before (seen self.new) now result) (out.new ≡ out.old) bytes }
         ensures fault { result ≡ Err Left.Unwritten → Rose (K.faults out.old) (K.faults out.new) }
+        ensures no_fault { result ≢ Err Left.Unwritten → K.faults out.new ≡ K.faults out.old }
         ensures later { K.faults out.old ≤ K.faults out.new }
     {
         for item in items.as_slice() {
@@ -112,7 +115,7 @@ impl Moment {
         Ok(())
     }
 
-    /// A line of output. A blank stands before it where it begins with a constant, or is empty.
+    /// A line of output, sent at its end. A blank stands before it where it begins with a constant, or is empty.
     pub fn print<K: Sink>(&mut self, line: u32, items: &Seq<Item>, out: &mut K) -> Result<(), Left>
         ensures run { (input : List ℕ) → Runs (λ limit. prints fortran77 limit line (plain_items items.now)) input
             (seen self.old) (K.taken out.old) (seen self.new) (K.taken out.new) result }
@@ -120,11 +123,13 @@ impl Moment {
             Runs (λ limit. prints fortran77 limit line (plain_items items.now)) input
             (seen self.old) before (seen self.new) now result) (out.new ≡ out.old) bytes }
         ensures fault { result ≡ Err Left.Unwritten → Rose (K.faults out.old) (K.faults out.new) }
+        ensures no_fault { result ≢ Err Left.Unwritten → K.faults out.new ≡ K.faults out.old }
         ensures later { K.faults out.old ≤ K.faults out.new }
     {
         write_all(out, first_blank(items))?;
         self.print_items(line, items, out)?;
         write_all(out, b"\n")?;
+        out.send()?;
         Ok(())
     }
 }

@@ -1,5 +1,5 @@
 //! Statements, block IFs, loops and jumps (ANSI X3.9-1978, sections 10 and 11).
-ghost use Rattle.std.specs.Prelude.{◌≡◌, ◌≤◌, Err, map, IsTrue, Option, List, ℕ};
+ghost use Rattle.std.specs.Prelude.{◌≡◌, ◌≢◌, ◌≤◌, Err, map, IsTrue, Option, List, ℕ};
 ghost use Rattle.fv_io.specs.Causes.{Rose};
 ghost use Rattle.fv_tree.specs.View.{expression_of, reference_of, statement_of, block_of};
 ghost use Rattle.fv_meaning.specs.Dialect.{fortran77};
@@ -104,6 +104,7 @@ impl Moment {
             Runs (λ limit. counts_step fortran77 limit (prints fortran77 limit line (plain_items items.now))) input
             (seen self.old) before (seen self.new) now result) (out.new ≡ out.old) bytes }
         ensures fault { result ≡ Err Left.Unwritten → Rose (K.faults out.old) (K.faults out.new) }
+        ensures no_fault { result ≢ Err Left.Unwritten → K.faults out.new ≡ K.faults out.old }
         ensures later { K.faults out.old ≤ K.faults out.new }
     {
         self.count_step()?;
@@ -119,6 +120,7 @@ impl Moment {
             Runs (λ limit. does fortran77 limit (statement_of stmt.now)) input.now
             (seen self.old) before (seen self.new) now result) (out.new ≡ out.old) bytes }
         ensures fault { result ≡ Err Left.Unwritten → Rose (K.faults out.old) (K.faults out.new) }
+        ensures no_fault { result ≢ Err Left.Unwritten → K.faults out.new ≡ K.faults out.old }
         ensures later { K.faults out.old ≤ K.faults out.new }
     {
         match stmt {
@@ -177,6 +179,7 @@ impl Moment {
             Chooses fortran77 line (plain_arms arms.now) input.now
             (seen self.old) before (seen self.new) now result) (out.new ≡ out.old) bytes }
         ensures fault { result ≡ Err Left.Unwritten → Rose (K.faults out.old) (K.faults out.new) }
+        ensures no_fault { result ≢ Err Left.Unwritten → K.faults out.new ≡ K.faults out.old }
         ensures later { K.faults out.old ≤ K.faults out.new }
     {
         for arm in arms.as_slice() {
@@ -200,6 +203,7 @@ impl Moment {
             Runs (λ limit. does_all fortran77 limit (block_of block.now)) input.now
             (seen self.old) before (seen self.new) now result) (out.new ≡ out.old) bytes }
         ensures fault { result ≡ Err Left.Unwritten → Rose (K.faults out.old) (K.faults out.new) }
+        ensures no_fault { result ≢ Err Left.Unwritten → K.faults out.new ≡ K.faults out.old }
         ensures later { K.faults out.old ≤ K.faults out.new }
     {
         let mut jump = None;

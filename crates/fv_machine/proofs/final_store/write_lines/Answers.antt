@@ -33,7 +33,8 @@ loop-place-preserved g c =
           (subst (λ v. Gives (g.K.Sink.taken c.loop-place.out) (final_line (element c.args.name bs c.loop-place.place) v)
           (g.K.Sink.taken c.write_line.new.out)) (get_or_default c.args.values.now c.loop-place.place _ (Int (pos 0)) (omega arith))
           c.in_ok-write_line.ensures.text),
-      omega (arith, c.loop-place.invariant.1, c.write_line.ensures.later),
+      c.in_ok-write_line.ensures.no_fault ∙ c.loop-place.invariant.1,
+      λ e. (let n = ap length e in absurd (omega (arith, n, c.loop-place-test.true))),
     )
 
 pub returns-clause-text : goal.returns-clause-text

@@ -1,4 +1,4 @@
-use Rattle.std.proofs.Common.{arith}
+use Rattle.std.proofs.Common.{◌∙◌, arith}
 use Rattle.std.proofs.lemmas.List.{get_or_default}
 use Rattle.fv_machine.proofs.Residuals.{residual}
 use Rattle.fv_machine.proofs.WriteLaws.{outputs_more, outputs_part}
@@ -11,4 +11,4 @@ returns-in_err-write_output-clause-text g c =
 
 pub loop-value-preserved : goal.loop-value-preserved
 loop-value-preserved g c =
-    (outputs_more c.args.values.now c.loop-value.value-index _ _ _ _ (omega arith) (get_or_default c.args.values.now c.loop-value.value-index _ _ (omega arith)) c.loop-value.invariant.0 c.in_ok-write_output.ensures.text, omega (arith, c.loop-value.invariant.1, c.write_output.ensures.later))
+    (outputs_more c.args.values.now c.loop-value.value-index _ _ _ _ (omega arith) (get_or_default c.args.values.now c.loop-value.value-index _ _ (omega arith)) c.loop-value.invariant.0 c.in_ok-write_output.ensures.text, c.in_ok-write_output.ensures.no_fault ∙ c.loop-value.invariant.1)

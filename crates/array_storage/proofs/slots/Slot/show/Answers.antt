@@ -4,6 +4,7 @@ use Rattle.fv_meaning.specs.Store.{cells_of}
 use Rattle.fv_meaning.specs.Steps.{lines_of_cells}
 use Rattle.fv_machine.specs.Storage.{bounds_list}
 use Rattle.fv_machine.specs.Texts.{WritesText}
+use Rattle.fv_machine.proofs.ShowLaws.{no_values_there}
 use Rattle.array_storage.specs.Slots.{store_among}
 use Rattle.array_storage.proofs.ShowLaws.{all_values}
 use Rattle.array_storage.proofs.slots.Slot.show.Goals as goal
@@ -20,3 +21,12 @@ returns-clause-text g c = λ vs i h.
     (g.K.Sink.taken c.write_lines.new.out) c.write_lines.result) dims
     (c.write_lines.ensures.text (store_among vs)
     (ap (λ (ds : List Dim). map (store_among vs).held (cells_of c.args.name (bounds_list ds))) dims ∙ held ∙ sym items)))
+
+pub returns-clause-untouched : goal.returns-clause-untouched
+returns-clause-untouched g c = λ vs i h e.
+    let v = c.args.self.now in
+    let items : c.deref.result.now ≡ v.values.items = c.deref.ensures.value in
+    let held = all_values vs c.args.name v i h (omega (arith, v.filled, v.values.ok.0)) in
+    c.write_lines.ensures.untouched
+    (items ∙ no_values_there c.args.name (bounds_list v.dims) (store_among vs) v.values.items held
+    (sym (ap (λ b. lines_of_cells c.args.name (cond b (Some (bounds_list v.dims)) None) (store_among vs)) c.if-not-self.false) ∙ e))

@@ -1,4 +1,4 @@
-use Rattle.std.proofs.Common.{sym, subst}
+use Rattle.std.proofs.Common.{sym, ◌∙◌, subst}
 use Rattle.fv_io.specs.Streams.{Gives}
 use Rattle.fv_io.proofs.Chained.{gives_none}
 use Rattle.fv_machine.specs.Texts.{WritesText}
@@ -20,3 +20,11 @@ returns-in-Some-clause-text g c =
     subst (λ t. WritesText (g.K.Sink.taken c.args.out.now) t (g.K.Sink.taken c.show.new.out) c.show.result)
     (sym (named_lines vs c.args.name v c.in-Some.slot named c.is_source.result c.is_source.ensures c.if-not-is_source.false))
     (c.show.ensures.text vs c.in-Some.slot named)
+
+pub returns-in-Some-clause-untouched : goal.returns-in-Some-clause-untouched
+returns-in-Some-clause-untouched g c = λ e.
+    let vs = slots_in c.args.self.now in
+    let v = c.index.result.now in
+    let named = c.in-Some.ensures.named v c.index.ensures in
+    c.show.ensures.untouched vs c.in-Some.slot named
+    (sym (named_lines vs c.args.name v c.in-Some.slot named c.is_source.result c.is_source.ensures c.if-not-is_source.false) ∙ e)

@@ -1,4 +1,4 @@
-use Rattle.std.proofs.Common.{sym, subst}
+use Rattle.std.proofs.Common.{sym, ◌∙◌, subst}
 use Rattle.fv_io.specs.Streams.{Gives}
 use Rattle.fv_io.proofs.Chained.{gives_none}
 use Rattle.fv_machine.specs.Stored.{names_in, bounds_here}
@@ -19,3 +19,9 @@ returns-in-Some-clause-text g c =
     subst (λ t. WritesText (g.K.Sink.taken c.args.out.now) t (g.K.Sink.taken c.show_elements.new.out) c.show_elements.result)
     (sym (known_lines (names_in s) s.values.items c.args.name c.is_source.result c.is_source.ensures (bounds_here c.in-Some.variable.now) c.if-not-is_source.false c.in-Some.ensures.bounds))
     c.show_elements.ensures.text
+
+pub returns-in-Some-clause-untouched : goal.returns-in-Some-clause-untouched
+returns-in-Some-clause-untouched g c = λ e.
+    let s = c.args.self.now in
+    c.show_elements.ensures.untouched
+    (sym (known_lines (names_in s) s.values.items c.args.name c.is_source.result c.is_source.ensures (bounds_here c.in-Some.variable.now) c.if-not-is_source.false c.in-Some.ensures.bounds) ∙ e)

@@ -1,4 +1,4 @@
-use Rattle.std.proofs.Common.{◌≡◌, sym, ap, ◌∙◌, subst, ◌+◌, ◌-◌, Ok, Err, Some, arith, rules, drop}
+use Rattle.std.proofs.Common.{◌≡◌, refl, sym, ap, ◌∙◌, subst, ◌+◌, ◌-◌, Ok, Err, Some, arith, rules, drop}
 use Rattle.fv_tree.specs.View.{statement_of, block_of}
 use Rattle.fv_tree.proofs.Equations.{statement_of-assign, statement_of-if, statement_of-do, statement_of-label, statement_of-go, statement_of-stop, statement_of-read, statement_of-print}
 use Rattle.fv_tree.proofs.Equations.{statement_of-masked, statement_of-allocate, statement_of-deallocate}
@@ -16,6 +16,7 @@ use Rattle.fv_machine.proofs.Residuals.{residual, settled}
 use Rattle.fv_machine.proofs.TurnLaws.{turn_cut, turn_left, turn_stuck, turn_done, at_turn, no_turn}
 use Rattle.fv_machine.proofs.BlockLaws.{Extends-does_all, RunsOn, left_of_block, left_of_arms, block_arms, block_begins, has_arms_here, block_more, block_left, block_passed, block_done, block_jumped, has_arms_on, arm_cut, arm_fault, arm_true, arm_false, arms_done, at_statement, none_left, label_runs}
 use Rattle.run77.specs.Moments.{seen}
+use Rattle.run77.proofs.AnswerLaws.{went_on}
 use Rattle.fv_machine.proofs.Telling.{still, kept, both}
 use Rattle.run77.proofs.moment.Moment.+statements.Goals as goal
 
@@ -80,7 +81,7 @@ statement-loop-init g t c = (
       at_statement fortran77 c.args.stmt.now _ c.args.input.now (seen c.args.self.now) last (g.K.Sink.taken c.args.out.now) now r (ap statement_of c.in-Do.is ∙ statement_of-do c.in-Do.line c.in-Do.var c.in-Do.first c.in-Do.last c.in-Do.step c.in-Do.body)
       (c.in_ok-turns-in-Do.ensures (λ limit. does_all fortran77 limit (block_of c.in-Do.body)) c.args.input.now (g.K.Sink.taken c.args.out.now) now last r
       (subst (λ n. Runs (λ limit. repeated n (turn fortran77 limit c.in-Do.line c.in-Do.var c.in_ok-turns-in-Do.turns.step (does_all fortran77 limit (block_of c.in-Do.body)))) c.args.input.now (seen c.begin_loop.new.self) (g.K.Sink.taken c.args.out.now) last now r) (let e : c.in_ok-turns-in-Do.turns.count - 0 ≡ c.in_ok-turns-in-Do.turns.count = omega arith in e) h)),
-  omega arith,
+  refl,
   λ arms bytes. still _ bytes
       (λ now last r h.
       at_statement fortran77 c.args.stmt.now _ c.args.input.now (seen c.args.self.now) last (Some bytes) now r (ap statement_of c.in-Do.is ∙ statement_of-do c.in-Do.line c.in-Do.var c.in-Do.first c.in-Do.last c.in-Do.step c.in-Do.body)
@@ -117,7 +118,7 @@ statement-loop-preserved g t c = (
       (at_turn fortran77 c.in-Do.line c.in-Do.var c.in_ok-turns-in-Do.turns.step (λ limit. does_all fortran77 limit (block_of c.in-Do.body)) c.args.input.now (c.in_ok-turns-in-Do.turns.count - c.loop.counter) (c.in_ok-turns-in-Do.turns.count - (c.loop.counter + 1)) (seen c.loop.self) last (g.K.Sink.taken c.loop.out) now r (omega (arith, c.loop-test.true))
       (turn_done fortran77 c.in-Do.line c.in-Do.var c.in_ok-turns-in-Do.turns.step (λ limit. does_all fortran77 limit (block_of c.in-Do.body)) c.args.input.now (c.in_ok-turns-in-Do.turns.count - (c.loop.counter + 1)) (seen c.loop.self) (seen c.count_step.new.self) (seen c.block-in-loop.new.self) (seen c.increase.new.self) last (g.K.Sink.taken c.loop.out) (g.K.Sink.taken c.block-in-loop.new.out) now r c.in_ok-count_step-in-Do.ensures.counted (c.in_ok-block-in-Do.ensures.run (subst HasArms (ap statement_of c.in-Do.is ∙ statement_of-do c.in-Do.line c.in-Do.var c.in-Do.first c.in-Do.last c.in-Do.step c.in-Do.body) arms))
       (subst (λ d. Runs (λ limit. increases fortran77 limit c.in-Do.line c.in-Do.var d) c.args.input.now (seen c.block-in-loop.new.self) (g.K.Sink.taken c.block-in-loop.new.out) (seen c.increase.new.self) (g.K.Sink.taken c.block-in-loop.new.out) (Ok tt)) (settled c.in_ok-turns-in-Do.turns.step (search rules)) (c.in_ok-increase-in-Do.ensures c.args.input.now (g.K.Sink.taken c.block-in-loop.new.out))) h)),
-  omega (arith, c.loop.invariant.1, c.block-in-loop.ensures.later),
+  c.in_ok-block-in-Do.ensures.no_fault (λ e. cc) ∙ c.loop.invariant.1,
   λ arms bytes.
       let k = c.loop.invariant.2 arms bytes in
       let l = c.in_ok-block-in-Do.ensures.told (subst HasArms (ap statement_of c.in-Do.is ∙ statement_of-do c.in-Do.line c.in-Do.var c.in-Do.first c.in-Do.last c.in-Do.step c.in-Do.body) arms) k.after in
@@ -166,7 +167,7 @@ pub branch-loop-arm-preserved : goal.branch-loop-arm-preserved
 branch-loop-arm-preserved g t c = (
   λ other now last r h. c.loop-arm.invariant.0 other now last r (arm_false c.args.line other c.as_slice-arm-items.result.now c.loop-arm.arm-index c.arm-item.result (omega (arith, c.loop-arm-test.true)) c.arm-item.is c.args.input.now (seen c.loop-arm.self) (seen c.count_step.new.self) fortran77 last (g.K.Sink.taken c.loop-arm.out) now r c.in_ok-holds.holds c.in_ok-count_step.ensures.counted (sym c.in_ok-holds.was ∙ c.at.ensures ∙ ap (located c.args.line) c.truth.ensures) c.if-holds.false h),
   λ arms. (has_arms_on c.args.line (λ limit. nothing) c.as_slice-arm-items.result.now c.loop-arm.arm-index c.arm-item.result (omega (arith, c.loop-arm-test.true)) c.arm-item.is c.args.input.now (seen c.loop-arm.self) (seen c.count_step.new.self) (c.loop-arm.invariant.1 arms)).1,
-  omega (arith, c.loop-arm.invariant.2),
+  c.loop-arm.invariant.2,
   λ bytes.
       let k = c.loop-arm.invariant.3 bytes in
       kept k
@@ -185,7 +186,7 @@ block-loop-stmt-init g t c = (
     block_arms c.args.block.now c.as_slice-stmt-items.result.now c.as_slice-stmt-items.ensures arms,
     λ now last r h. block_begins c.args.block.now c.as_slice-stmt-items.result.now c.as_slice-stmt-items.ensures fortran77 c.args.input.now (seen c.args.self.now) last (g.K.Sink.taken c.args.out.now) now r h,
   ),
-  omega arith,
+  refl,
   λ arms bytes. still _ bytes (λ now last r h. block_begins c.args.block.now c.as_slice-stmt-items.result.now c.as_slice-stmt-items.ensures fortran77 c.args.input.now (seen c.args.self.now) last (Some bytes) now r h),
 )
 
@@ -198,7 +199,7 @@ block-loop-stmt-preserved-in-Some g t c = (
         λ now last r h. k.1 now last r
             (subst (λ j. RunsOn (way_at j) (left_of_block fortran77 (drop c.loop-stmt.stmt-index c.as_slice-stmt-items.result.now)) c.args.input.now (seen c.loop-stmt.self) (g.K.Sink.taken c.loop-stmt.out) last now r) (sym c.in-Some.is) (block_passed c.as_slice-stmt-items.result.now c.loop-stmt.stmt-index c.stmt-item.result (omega (arith, c.loop-stmt-test.true)) c.stmt-item.is c.args.input.now fortran77 c.in-Some.label (seen c.loop-stmt.self) last (g.K.Sink.taken c.loop-stmt.out) now r a.0 (subst (λ j. RunsOn (way_at j) (left_of_block fortran77 (drop (c.loop-stmt.stmt-index + 1) c.as_slice-stmt-items.result.now)) c.args.input.now (seen c.loop-stmt.self) (g.K.Sink.taken c.loop-stmt.out) last now r) c.passed-jump.ensures h))),
       ),
-  omega (arith, c.loop-stmt.invariant.1),
+  c.loop-stmt.invariant.1,
   λ arms bytes.
       let k = c.loop-stmt.invariant.0 arms in
       let a = has_arms_here c.as_slice-stmt-items.result.now c.loop-stmt.stmt-index c.stmt-item.result (omega (arith, c.loop-stmt-test.true)) c.stmt-item.is c.args.input.now k.0 in
@@ -225,7 +226,7 @@ block-loop-stmt-preserved g t c = (
         λ now last r h. k.1 now last r
             (subst (λ j. RunsOn (way_at j) (left_of_block fortran77 (drop c.loop-stmt.stmt-index c.as_slice-stmt-items.result.now)) c.args.input.now (seen c.loop-stmt.self) (g.K.Sink.taken c.loop-stmt.out) last now r) (sym (none_left c.loop-stmt.jump c.in_default.not-Some)) (block_more c.as_slice-stmt-items.result.now c.loop-stmt.stmt-index c.stmt-item.result (omega (arith, c.loop-stmt-test.true)) c.stmt-item.is c.args.input.now fortran77 (seen c.loop-stmt.self) (seen c.statement.new.self) last (g.K.Sink.taken c.loop-stmt.out) (g.K.Sink.taken c.statement.new.out) now c.statement.result r c.in_ok-jump.jump (sym c.in_ok-jump.was ∙ c.landed.ensures) (c.statement.ensures.run a.0) h)),
       ),
-  omega (arith, c.loop-stmt.invariant.1, c.statement.ensures.later),
+  c.statement.ensures.no_fault (went_on c.statement.result _ (sym c.in_ok-jump.was ∙ c.landed.ensures)) ∙ c.loop-stmt.invariant.1,
   λ arms bytes.
       let k = c.loop-stmt.invariant.0 arms in
       let a = has_arms_here c.as_slice-stmt-items.result.now c.loop-stmt.stmt-index c.stmt-item.result (omega (arith, c.loop-stmt-test.true)) c.stmt-item.is c.args.input.now k.0 in
@@ -469,7 +470,7 @@ branch-loop-arm-init g t c = (
   λ other now last r h.
       subst (λ xs. Runs (left_of_arms fortran77 c.args.line other xs) c.args.input.now (seen c.args.self.now) (g.K.Sink.taken c.args.out.now) last now r) c.as_slice-arm-items.ensures h,
   λ arms. subst (λ xs. ArmsHaveArms (plain_arms xs)) (sym c.as_slice-arm-items.ensures) arms,
-  omega arith,
+  refl,
   λ bytes. still _ bytes
       (λ other now last r h. subst (λ xs. Runs (left_of_arms fortran77 c.args.line other xs) c.args.input.now (seen c.args.self.now) (Some bytes) last now r) c.as_slice-arm-items.ensures h),
 )
