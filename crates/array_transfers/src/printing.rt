@@ -1,5 +1,5 @@
 //! PRINT (ANSI X3.9-1978, sections 12 and 13.6; ISO/IEC 1539:1991, section 9.4.2).
-ghost use Rattle.std.specs.Prelude.{◌≡◌, ◌≤◌, Err, List, ℕ};
+ghost use Rattle.std.specs.Prelude.{◌≡◌, ◌≢◌, ◌≤◌, Err, List, ℕ};
 ghost use Rattle.fv_io.specs.Causes.{Rose};
 ghost use Rattle.fv_tree.specs.Plain.{Print};
 ghost use Rattle.fv_tree.specs.View.{expression_of, item_of};
@@ -32,6 +32,7 @@ fn print_scalar<K: Sink>(
         Runs (λ limit. prints_scalar line (expression_of expr.now)) input
         (seen moment.now) before (seen moment.now) now (ended_by result)) (out.new ≡ out.old) bytes }
     ensures fault { result ≡ Err (Unfinished.Left Unwritten) → Rose (K.faults out.old) (K.faults out.new) }
+    ensures no_fault { result ≢ Err (Unfinished.Left Unwritten) → K.faults out.new ≡ K.faults out.old }
     ensures later { K.faults out.old ≤ K.faults out.new }
 {
     let value = at(line, moment.scope().value(expr, &[]))?;
@@ -52,6 +53,7 @@ fn print_array<K: Sink>(
         Runs (λ limit. prints_array line (expression_of expr.now)) input
         (seen moment.now) before (seen moment.now) now (ended_by result)) (out.new ≡ out.old) bytes }
     ensures fault { result ≡ Err (Unfinished.Left Unwritten) → Rose (K.faults out.old) (K.faults out.new) }
+    ensures no_fault { result ≢ Err (Unfinished.Left Unwritten) → K.faults out.new ≡ K.faults out.old }
     ensures later { K.faults out.old ≤ K.faults out.new }
 {
     let known = at(line, moment.scope().in_whole(expr, &[]))?;
@@ -76,6 +78,7 @@ fn print_value<K: Sink>(
         Runs (λ limit. prints_value fortran90 line (expression_of expr.now)) input
         (seen moment.now) before (seen moment.now) now (ended_by result)) (out.new ≡ out.old) bytes }
     ensures fault { result ≡ Err (Unfinished.Left Unwritten) → Rose (K.faults out.old) (K.faults out.new) }
+    ensures no_fault { result ≢ Err (Unfinished.Left Unwritten) → K.faults out.new ≡ K.faults out.old }
     ensures later { K.faults out.old ≤ K.faults out.new }
 {
     if moment.scope().is_scalar(expr) {
@@ -97,6 +100,7 @@ fn print_item<K: Sink>(
         Runs (λ limit. prints_item fortran90 limit (item_of item.now) line) input
         (seen moment.old) before (seen moment.new) now (ended_by result)) (out.new ≡ out.old) bytes }
     ensures fault { result ≡ Err (Unfinished.Left Unwritten) → Rose (K.faults out.old) (K.faults out.new) }
+    ensures no_fault { result ≢ Err (Unfinished.Left Unwritten) → K.faults out.new ≡ K.faults out.old }
     ensures later { K.faults out.old ≤ K.faults out.new }
 {
     match item {
@@ -127,6 +131,7 @@ fn print_items<K: Sink>(
         Runs (λ limit. prints_items fortran90 limit (plain_items items.now) line) input
         (seen moment.old) before (seen moment.new) now (ended_by result)) (out.new ≡ out.old) bytes }
     ensures fault { result ≡ Err (Unfinished.Left Unwritten) → Rose (K.faults out.old) (K.faults out.new) }
+    ensures no_fault { result ≢ Err (Unfinished.Left Unwritten) → K.faults out.new ≡ K.faults out.old }
     ensures later { K.faults out.old ≤ K.faults out.new }
 {
     for item in items.as_slice() {
@@ -146,7 +151,7 @@ fn first_blank(items: &Seq<Item>) -> &'static [u8]
     }
 }
 
-// A line of output. A blank stands before it where it begins with a constant, or is empty.
+// A line of output, sent at its end. A blank stands before it where it begins with a constant, or is empty.
 fn print<K: Sink>(
     moment: &mut Moment,
     line: u32,
@@ -159,11 +164,13 @@ fn print<K: Sink>(
         Runs (λ limit. prints fortran90 limit line (plain_items items.now)) input
         (seen moment.old) before (seen moment.new) now (ended_by result)) (out.new ≡ out.old) bytes }
     ensures fault { result ≡ Err (Unfinished.Left Unwritten) → Rose (K.faults out.old) (K.faults out.new) }
+    ensures no_fault { result ≢ Err (Unfinished.Left Unwritten) → K.faults out.new ≡ K.faults out.old }
     ensures later { K.faults out.old ≤ K.faults out.new }
 {
     write_all(out, first_blank(items))?;
     print_items(moment, line, items, out)?;
     write_all(out, b"\n")?;
+    out.send()?;
     Ok(())
 }
 
@@ -180,6 +187,7 @@ pub fn print_statement<K: Sink>(
         Runs (λ limit. does fortran90 limit (Print line (plain_items items.now))) input
         (seen moment.old) before (seen moment.new) now (ended_by result)) (out.new ≡ out.old) bytes }
     ensures fault { result ≡ Err (Unfinished.Left Unwritten) → Rose (K.faults out.old) (K.faults out.new) }
+    ensures no_fault { result ≢ Err (Unfinished.Left Unwritten) → K.faults out.new ≡ K.faults out.old }
     ensures later { K.faults out.old ≤ K.faults out.new }
 {
     moment.count_step()?;

@@ -1,7 +1,6 @@
 -- What a machine relies on in a program of the profile.
 use Rattle.std.proofs.Common.{◌≡◌, sym, map, ap, ◌∙◌, subst, ℕ, ℤ, ◌+◌, ◌≤◌, false, List, [], ◌∷◌, arith}
 use Rattle.std.specs.List.{AllByRecursion}
-use Rattle.std.proofs.lemmas.Int.{ints}
 use Rattle.std.specs.Prelude.{sum_by, ◌^◌}
 use Rattle.std.specs.Str.{bytes_eq}
 use Rattle.std.specs.Ordering.{nat_cmp, is_eq}
@@ -53,8 +52,7 @@ abbrev counted : Declaration → ℕ
 counted d = array_elements (dimensions d.extent)
 
 one_bounded : (b : ℤ × ℤ) → IsDimension fortran77 b → IsBounded b
-one_bounded b h = (let a = h.above in let c = h.ordered in let d = h.below in
-    record { above = omega (arith, ints); ordered = c; below = omega (arith, ints) })
+one_bounded b h = record { above = h.above; ordered = h.ordered; below = h.below }
 
 bounded : (bs : List (ℤ × ℤ)) → AllByRecursion (IsDimension fortran77) bs → AllByRecursion IsBounded bs
 bounded [] h = tt

@@ -1,4 +1,4 @@
-use Rattle.std.proofs.Common.{◌≡◌, subst, ◌+◌, ◌-◌, Result, Ok, Err, Some, ◌++◌, arith, rules}
+use Rattle.std.proofs.Common.{◌≡◌, refl, ◌∙◌, subst, ◌+◌, ◌-◌, Result, Ok, Err, Some, ◌++◌, arith, rules}
 use Rattle.fv_tree.specs.View.{expression_of}
 use Rattle.fv_io.specs.Streams.{Gives, GivesPart}
 use Rattle.fv_io.specs.declared.errors.WriteFault.{WriteFault}
@@ -48,7 +48,7 @@ print_item-loop-init g t c = (
       turns_run fortran90 c.args.line input (seen c.args.moment.now) last (g.K.Sink.taken c.args.out.now) now r c.args.item.now c.in-Turns.items c.in-Turns.name c.in-Turns.first c.in-Turns.last c.in-Turns.step c.in-Turns.is
       (c.in_ok-turns-in-Turns.ensures (λ limit. prints_items fortran90 limit (plain_items c.in-Turns.items) c.args.line) input (g.K.Sink.taken c.args.out.now) now last r
       (subst (λ n. Runs (λ limit. repeated n (turn fortran90 limit c.args.line c.in-Turns.name c.in_ok-turns-in-Turns.turns.step (prints_items fortran90 limit (plain_items c.in-Turns.items) c.args.line))) input (seen c.begin_loop.new.self) (g.K.Sink.taken c.args.out.now) last now r) (let e : c.in_ok-turns-in-Turns.turns.count - 0 ≡ c.in_ok-turns-in-Turns.turns.count = omega arith in e) h)),
-  omega arith,
+  refl,
   λ input bytes. still _ bytes
       (λ now last r h.
       turns_run fortran90 c.args.line input (seen c.args.moment.now) last (Some bytes) now r c.args.item.now c.in-Turns.items c.in-Turns.name c.in-Turns.first c.in-Turns.last c.in-Turns.step c.in-Turns.is
@@ -85,7 +85,7 @@ print_item-loop-preserved g t c = (
       (at_turn fortran90 c.args.line c.in-Turns.name c.in_ok-turns-in-Turns.turns.step (λ limit. prints_items fortran90 limit (plain_items c.in-Turns.items) c.args.line) input (c.in_ok-turns-in-Turns.turns.count - c.loop.counter) (c.in_ok-turns-in-Turns.turns.count - (c.loop.counter + 1)) (seen c.loop.moment) last (g.K.Sink.taken c.loop.out) now r (omega (arith, c.loop-test.true))
       (turn_done fortran90 c.args.line c.in-Turns.name c.in_ok-turns-in-Turns.turns.step (λ limit. prints_items fortran90 limit (plain_items c.in-Turns.items) c.args.line) input (c.in_ok-turns-in-Turns.turns.count - (c.loop.counter + 1)) (seen c.loop.moment) (seen c.count_step.new.self) (seen c.print_items.new.moment) (seen c.increase.new.self) last (g.K.Sink.taken c.loop.out) (g.K.Sink.taken c.print_items.new.out) now r c.in_ok-count_step-in-Turns.ensures.counted (c.in_ok-print_items-in-Turns.ensures.run input)
       (subst (λ d. Runs (λ limit. increases fortran90 limit c.args.line c.in-Turns.name d) input (seen c.print_items.new.moment) (g.K.Sink.taken c.print_items.new.out) (seen c.increase.new.self) (g.K.Sink.taken c.print_items.new.out) (Ok tt)) (settled c.in_ok-turns-in-Turns.turns.step (search rules)) (c.in_ok-increase-in-Turns.ensures input (g.K.Sink.taken c.print_items.new.out))) h)),
-  omega (arith, c.loop.invariant.1, c.print_items.ensures.later),
+  c.in_ok-print_items-in-Turns.ensures.no_fault (λ e. cc) ∙ c.loop.invariant.1,
   λ input bytes.
       let k = c.loop.invariant.2 input bytes in
       let l = c.in_ok-print_items-in-Turns.ensures.told input k.after in
@@ -111,7 +111,7 @@ pub print_items-loop-item-preserved : goal.print_items-loop-item-preserved
 print_items-loop-item-preserved g t c = (
   λ input now last r h.
       c.loop-item.invariant.0 input now last r (items_more fortran90 c.args.line c.as_slice-item-items.result.now c.loop-item.item-index c.item-item.result (omega (arith, c.loop-item-test.true)) c.item-item.is input (seen c.loop-item.moment) (seen c.print_item.new.moment) (g.K.Sink.taken c.loop-item.out) (g.K.Sink.taken c.print_item.new.out) last now r (c.in_ok-print_item.ensures.run input) h),
-  omega (arith, c.loop-item.invariant.1, c.print_item.ensures.later),
+  c.in_ok-print_item.ensures.no_fault (λ e. cc) ∙ c.loop-item.invariant.1,
   λ input bytes.
       let k = c.loop-item.invariant.2 input bytes in
       let l = c.in_ok-print_item.ensures.told input k.after in
@@ -211,7 +211,7 @@ pub print_items-loop-item-init : goal.print_items-loop-item-init
 print_items-loop-item-init g t c = (
   λ input now last r h.
       subst (λ xs. Runs (λ limit. prints_items fortran90 limit (plain_items xs) c.args.line) input (seen c.args.moment.now) (g.K.Sink.taken c.args.out.now) last now r) c.as_slice-item-items.ensures h,
-  omega arith,
+  refl,
   λ input bytes. still _ bytes
       (λ now last r h. subst (λ xs. Runs (λ limit. prints_items fortran90 limit (plain_items xs) c.args.line) input (seen c.args.moment.now) (Some bytes) last now r) c.as_slice-item-items.ensures h),
 )
