@@ -1,7 +1,6 @@
 -- What a statement answered after which its block goes on.
 use Rattle.std.proofs.Common.{◌≡◌, ℕ, Result, Ok, Err, Option}
 use Rattle.std.specs.Prelude.{◌≢◌}
-use Rattle.fv_machine.specs.declared.progress.Halt.{Halt}
 use Rattle.fv_machine.specs.declared.progress.Left.{Left}
 use Rattle.fv_machine.specs.declared.progress.Left.TheVariants.{Halted, Unwritten}
 use Rattle.fv_machine.specs.Jumps.{landed}

@@ -1,5 +1,6 @@
 -- Statements of blocks, arms of block IFs, and how what they do is put together.
 use Rattle.std.proofs.Common.{◌≡◌, refl, sym, ap, ◌∙◌, subst, ℕ, ◌+◌, ◌<◌, Bool, false, List, drop, get_or, length, map, Result, Ok, Err, Option, Some, None}
+use Rattle.std.specs.Prelude.{◌≢◌}
 use Rattle.std.proofs.lemmas.List.{at_drop_more}
 use Rattle.fv_tree.specs.Plain.{Declaration, Program, If, Arms, no_arms, arm, Block, no_statements, statement, block}
 use Rattle.fv_tree.specs.View.{expression_of, statement_of, tested_of, block_of}
@@ -139,3 +140,14 @@ block_unwritten r q u e h f =
     let both : ◌≡◌ {A = Result (Unit {0}) Unfinished} (Err u) (Err (Left' Unwritten)) = sym e ∙ f in
     let same : u ≡ Left' Unwritten = cc in
     unwritten_off r (subst (λ u. Err u ≡ landed90 r) same h)
+
+-- ---- where none has
+
+pub went_on : (r : Result (Unit {0}) Unfinished) (j : Option ℕ) → Ok j ≡ landed90 r → r ≢ Err (Left' Unwritten)
+went_on r j e = λ w. let both : ◌≡◌ {A = Result (Option ℕ) Unfinished} (Ok j) (Err (Left' Unwritten)) = e ∙ ap landed90 w in cc
+
+pub block_unfailed : (r q : Result (Unit {0}) Unfinished) (u : Unfinished) → q ≡ Err u → Err u ≡ landed90 r → q ≢ Err (Left' Unwritten) → r ≢ Err (Left' Unwritten)
+block_unfailed r q u e h f = λ w.
+    let both : ◌≡◌ {A = Result (Option ℕ) Unfinished} (Err u) (Err (Left' Unwritten)) = h ∙ ap landed90 w in
+    let same : u ≡ Left' Unwritten = cc in
+    f (e ∙ ap (λ u. let q : Result (Unit {0}) Unfinished = Err u in q) same)

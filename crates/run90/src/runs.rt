@@ -1,5 +1,5 @@
 //! Runs of a program, and its final store.
-ghost use Rattle.std.specs.Prelude.{◌≡◌, ◌≤◌, [], Ok, IfOk, OnErr, MatchResult, map};
+ghost use Rattle.std.specs.Prelude.{◌≡◌, ◌≢◌, ◌≤◌, [], Ok, IfOk, OnOk, OnErr, MatchResult, map};
 ghost use Rattle.fv_io.specs.Causes.{Rose};
 ghost use Rattle.fv_tree.specs.Plain.{Program};
 ghost use Rattle.fv_tree.specs.View.{program_of_90, declaration_of, block_of};
@@ -105,6 +105,7 @@ impl Machine90 {
         ensures untouched { (p : Program) → IsProgram90 p → IsMachineOf p self.old
             → (run fortran90 limit p input.now).written ≡ [] → out.new ≡ out.old }
         ensures fault { result ≡ Ok End.WriteFault → Rose (K.faults out.old) (K.faults out.new) }
+        ensures no_fault { result ≢ Ok End.WriteFault → K.faults out.new ≡ K.faults out.old }
         ensures later { K.faults out.old ≤ K.faults out.new }
     {
         let moment = opened(self.alloc, &self.decls, limit)?;
@@ -117,7 +118,10 @@ impl Machine90 {
     pub fn show<K: Sink>(&self, out: &mut K) -> Result<(), WriteFault>
         ensures text { (p : Program) → IsMachineOf p self.now
             → WritesText (K.taken out.old) (final_lines p (store_left self.now)) (K.taken out.new) result }
+        ensures untouched { (p : Program) → IsMachineOf p self.now → final_lines p (store_left self.now) ≡ []
+            → out.new ≡ out.old }
         ensures fault { OnErr result (Rose (K.faults out.old) (K.faults out.new)) }
+        ensures no_fault { OnOk result (K.faults out.new ≡ K.faults out.old) }
         ensures later { K.faults out.old ≤ K.faults out.new }
     {
         for decl in self.decls.as_slice() {

@@ -1,5 +1,5 @@
 //! Statements, block IFs, loops and jumps (ANSI X3.9-1978, sections 10 and 11; ISO/IEC 1539:1991, section 8.1).
-ghost use Rattle.std.specs.Prelude.{◌≡◌, ◌≤◌, Err, List, ℕ, Bool};
+ghost use Rattle.std.specs.Prelude.{◌≡◌, ◌≢◌, ◌≤◌, Err, List, ℕ, Bool};
 ghost use Rattle.fv_io.specs.Causes.{Rose};
 ghost use Rattle.fv_tree.specs.Plain.{Program};
 ghost use Rattle.fv_tree.specs.View.{expression_of, statement_of, block_of};
@@ -98,6 +98,7 @@ fn statement<K: Sink>(
         Runs (λ limit. does fortran90 limit (statement_of stmt.now)) input.now
         (seen moment.old) before (seen moment.new) now (ended_by result)) (out.new ≡ out.old) bytes }
     ensures fault { result ≡ Err (Unfinished.Left Unwritten) → Rose (K.faults out.old) (K.faults out.new) }
+    ensures no_fault { result ≢ Err (Unfinished.Left Unwritten) → K.faults out.new ≡ K.faults out.old }
     ensures later { K.faults out.old ≤ K.faults out.new }
 {
     match stmt {
@@ -168,6 +169,7 @@ fn choose<K: Sink>(
         Chooses line (plain_arms arms.now) input.now
         (seen moment.old) before (seen moment.new) now result) (out.new ≡ out.old) bytes }
     ensures fault { result ≡ Err (Unfinished.Left Unwritten) → Rose (K.faults out.old) (K.faults out.new) }
+    ensures no_fault { result ≢ Err (Unfinished.Left Unwritten) → K.faults out.new ≡ K.faults out.old }
     ensures later { K.faults out.old ≤ K.faults out.new }
 {
     for arm in arms.as_slice() {
@@ -198,6 +200,7 @@ pub fn block<K: Sink>(
         Runs (λ limit. does_all fortran90 limit (block_of block.now)) input.now
         (seen moment.old) before (seen moment.new) now (ended_by result)) (out.new ≡ out.old) bytes }
     ensures fault { result ≡ Err (Unfinished.Left Unwritten) → Rose (K.faults out.old) (K.faults out.new) }
+    ensures no_fault { result ≢ Err (Unfinished.Left Unwritten) → K.faults out.new ≡ K.faults out.old }
     ensures later { K.faults out.old ≤ K.faults out.new }
 {
     let mut jump = None;

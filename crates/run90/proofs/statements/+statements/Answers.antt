@@ -24,8 +24,8 @@ use Rattle.array_transfers.proofs.Lacking.{begins_stuck, left_so, no_write}
 use Rattle.run90.specs.Statements.{unfinished, Chooses}
 use Rattle.run90.proofs.ProgramLaws.{statement_has_arms}
 use Rattle.run90.proofs.Keeping.{suits_after, suits_step, keeps_statement, keeps_block, keeps_increases, loop_suits}
-use Rattle.run90.proofs.Going.{finished, landed_on, landed_off, block_here, statement_here, arm_here, arm_stuck, chosen_suits, never_left, block_unwritten}
-use Rattle.fv_io.proofs.Counts.{later_then_rose}
+use Rattle.run90.proofs.Going.{finished, landed_on, landed_off, block_here, statement_here, arm_here, arm_stuck, chosen_suits, never_left, block_unwritten, block_unfailed, went_on}
+use Rattle.fv_io.specs.Causes.{Rose}
 use Rattle.run90.proofs.Allocating.{array_kind}
 use Rattle.run90.proofs.statements.+statements.Goals as goal
 
@@ -97,7 +97,7 @@ statement-loop-init g t c = (
         (c.in_ok-turns-in-Do.ensures (λ limit. does_all fortran90 limit (block_of c.in-Do.body)) c.args.input.now (g.K.Sink.taken c.args.out.now) now last r
         (subst (λ n. Runs (λ limit. repeated n (turn fortran90 limit c.in-Do.line c.in-Do.var c.in_ok-turns-in-Do.turns.step (does_all fortran90 limit (block_of c.in-Do.body)))) c.args.input.now (seen c.begin_loop.new.self) (g.K.Sink.taken c.args.out.now) last now r) (let e : c.in_ok-turns-in-Do.turns.count - 0 ≡ c.in_ok-turns-in-Do.turns.count = omega arith in e) h)),
   ),
-  omega arith,
+  refl,
   λ p w is suits bytes. still _ bytes
       (λ now last r h.
       at_statement fortran90 c.args.stmt.now _ c.args.input.now (seen c.args.moment.now) last (Some bytes) now r (ap statement_of c.in-Do.is ∙ statement_of-do c.in-Do.line c.in-Do.var c.in-Do.first c.in-Do.last c.in-Do.step c.in-Do.body)
@@ -141,7 +141,7 @@ statement-loop-preserved g t c = (
         (turn_done fortran90 c.in-Do.line c.in-Do.var c.in_ok-turns-in-Do.turns.step (λ limit. does_all fortran90 limit (block_of c.in-Do.body)) c.args.input.now (c.in_ok-turns-in-Do.turns.count - (c.loop.counter + 1)) (seen c.loop.moment) (seen c.count_step.new.self) (seen c.block-in-loop.new.moment) (seen c.increase.new.self) last (g.K.Sink.taken c.loop.out) (g.K.Sink.taken c.block-in-loop.new.out) now r c.in_ok-count_step-in-Do.ensures.counted (c.in_ok-block-in-Do.ensures.run p (within_loop c.in-Do.var w) (subst (λ c. IsStatement p.declarations c w) (ap statement_of c.in-Do.is ∙ statement_of-do c.in-Do.line c.in-Do.var c.in-Do.first c.in-Do.last c.in-Do.step c.in-Do.body) is).5 (suits_step p (seen c.loop.moment) (seen c.count_step.new.self) c.in_ok-count_step-in-Do.ensures.counted (c.loop.invariant.0 p w is suits).0))
         (subst (λ d. Runs (λ limit. increases fortran90 limit c.in-Do.line c.in-Do.var d) c.args.input.now (seen c.block-in-loop.new.moment) (g.K.Sink.taken c.block-in-loop.new.out) (seen c.increase.new.self) (g.K.Sink.taken c.block-in-loop.new.out) (Ok tt)) (settled c.in_ok-turns-in-Do.turns.step (search rules)) (c.in_ok-increase-in-Do.ensures c.args.input.now (g.K.Sink.taken c.block-in-loop.new.out))) h)),
   ),
-  omega (arith, c.loop.invariant.1, c.block-in-loop.ensures.later),
+  c.in_ok-block-in-Do.ensures.no_fault (λ e. cc) ∙ c.loop.invariant.1,
   λ p w is suits bytes.
       let k = c.loop.invariant.2 p w is suits bytes in
       let l = c.in_ok-block-in-Do.ensures.told p (within_loop c.in-Do.var w) (subst (λ c. IsStatement p.declarations c w) (ap statement_of c.in-Do.is ∙ statement_of-do c.in-Do.line c.in-Do.var c.in-Do.first c.in-Do.last c.in-Do.step c.in-Do.body) is).5 (suits_step p (seen c.loop.moment) (seen c.count_step.new.self) c.in_ok-count_step-in-Do.ensures.counted (c.loop.invariant.0 p w is suits).0) k.after in
@@ -190,7 +190,7 @@ pub choose-loop-arm-preserved : goal.choose-loop-arm-preserved
 choose-loop-arm-preserved g t c = (
   λ other now last r h. c.loop-arm.invariant.0 other now last r (arm_false c.args.line other c.as_slice-arm-items.result.now c.loop-arm.arm-index c.arm-item.result (omega (arith, c.loop-arm-test.true)) c.arm-item.is c.args.input.now (seen c.loop-arm.moment) (seen c.count_step.new.self) fortran90 last (g.K.Sink.taken c.loop-arm.out) now r c.in_ok-holds.holds c.in_ok-count_step.ensures.counted (sym (ap (located c.args.line) c.in_ok-holds.ensures)) c.if-holds.false h),
   λ p w is suits. ((arm_here p.declarations w c.as_slice-arm-items.result.now c.loop-arm.arm-index c.arm-item.result (omega (arith, c.loop-arm-test.true)) c.arm-item.is (c.loop-arm.invariant.1 p w is suits).0).1, (suits_step p (seen c.loop-arm.moment) (seen c.count_step.new.self) c.in_ok-count_step.ensures.counted (c.loop-arm.invariant.1 p w is suits).1)),
-  omega (arith, c.loop-arm.invariant.2),
+  c.loop-arm.invariant.2,
   λ bytes.
       let k = c.loop-arm.invariant.3 bytes in
       kept k
@@ -210,7 +210,7 @@ block-loop-stmt-init g t c = (
     suits,
     λ now last r h. block_begins c.args.block.now c.as_slice-stmt-items.result.now c.as_slice-stmt-items.ensures fortran90 c.args.input.now (seen c.args.moment.now) last (g.K.Sink.taken c.args.out.now) now r h,
   ),
-  omega arith,
+  refl,
   λ p w is suits bytes. still _ bytes (λ now last r h. block_begins c.args.block.now c.as_slice-stmt-items.result.now c.as_slice-stmt-items.ensures fortran90 c.args.input.now (seen c.args.moment.now) last (Some bytes) now r h),
 )
 
@@ -224,7 +224,7 @@ block-loop-stmt-preserved-in-Some g t c = (
         λ now last r h. k.2 now last r
             (subst (λ j. RunsOn (way_at j) (left_of_block fortran90 (drop c.loop-stmt.stmt-index c.as_slice-stmt-items.result.now)) c.args.input.now (seen c.loop-stmt.moment) (g.K.Sink.taken c.loop-stmt.out) last now r) (sym c.in-Some.is) (block_passed c.as_slice-stmt-items.result.now c.loop-stmt.stmt-index c.stmt-item.result (omega (arith, c.loop-stmt-test.true)) c.stmt-item.is c.args.input.now fortran90 c.in-Some.label (seen c.loop-stmt.moment) last (g.K.Sink.taken c.loop-stmt.out) now r (statement_has_arms p.declarations (statement_of c.stmt-item.result) _ a.0) (subst (λ j. RunsOn (way_at j) (left_of_block fortran90 (drop (c.loop-stmt.stmt-index + 1) c.as_slice-stmt-items.result.now)) c.args.input.now (seen c.loop-stmt.moment) (g.K.Sink.taken c.loop-stmt.out) last now r) c.passed-jump.ensures h))),
       ),
-  omega (arith, c.loop-stmt.invariant.1),
+  c.loop-stmt.invariant.1,
   λ p w is suits bytes.
       let k = c.loop-stmt.invariant.0 p w is suits in
       let a = statement_here p.declarations w c.as_slice-stmt-items.result.now c.loop-stmt.stmt-index c.stmt-item.result (omega (arith, c.loop-stmt-test.true)) c.stmt-item.is k.0 in
@@ -252,7 +252,7 @@ block-loop-stmt-preserved g t c = (
         λ now last r h. k.2 now last r
             (subst (λ j. RunsOn (way_at j) (left_of_block fortran90 (drop c.loop-stmt.stmt-index c.as_slice-stmt-items.result.now)) c.args.input.now (seen c.loop-stmt.moment) (g.K.Sink.taken c.loop-stmt.out) last now r) (sym (none_left c.loop-stmt.jump c.in_default.not-Some)) (block_more c.as_slice-stmt-items.result.now c.loop-stmt.stmt-index c.stmt-item.result (omega (arith, c.loop-stmt-test.true)) c.stmt-item.is c.args.input.now fortran90 (seen c.loop-stmt.moment) (seen c.statement.new.moment) last (g.K.Sink.taken c.loop-stmt.out) (g.K.Sink.taken c.statement.new.out) now (ended_by c.statement.result) r c.in_ok-jump.jump (landed_on c.statement.result c.in_ok-jump.jump (sym c.in_ok-jump.was ∙ c.landed.ensures)).0 (c.statement.ensures.run p _ a.0 k.1) h)),
       ),
-  omega (arith, c.loop-stmt.invariant.1, c.statement.ensures.later),
+  c.statement.ensures.no_fault (went_on c.statement.result _ (sym c.in_ok-jump.was ∙ c.landed.ensures)) ∙ c.loop-stmt.invariant.1,
   λ p w is suits bytes.
       let k = c.loop-stmt.invariant.0 p w is suits in
       let a = statement_here p.declarations w c.as_slice-stmt-items.result.now c.loop-stmt.stmt-index c.stmt-item.result (omega (arith, c.loop-stmt-test.true)) c.stmt-item.is k.0 in
@@ -500,7 +500,7 @@ choose-loop-arm-init g t c = (
   λ other now last r h.
       subst (λ xs. Runs (left_of_arms fortran90 c.args.line other xs) c.args.input.now (seen c.args.moment.now) (g.K.Sink.taken c.args.out.now) last now r) c.as_slice-arm-items.ensures h,
   λ p w is suits. (subst (λ xs. AreArms p.declarations (plain_arms xs) w) (sym c.as_slice-arm-items.ensures) is, suits),
-  omega arith,
+  refl,
   λ bytes. still _ bytes
       (λ other now last r h. subst (λ xs. Runs (left_of_arms fortran90 c.args.line other xs) c.args.input.now (seen c.args.moment.now) (Some bytes) last now r) c.as_slice-arm-items.ensures h),
 )
@@ -534,5 +534,10 @@ statement-returns-in-Deallocate-clause-fault g t c = λ e. absurd (never_left c.
 
 pub block-returns-in_err-jump-clause-fault : goal.block-returns-in_err-jump-clause-fault
 block-returns-in_err-jump-clause-fault g t c = λ e.
-    later_then_rose (g.K.Sink.faults c.args.out.now) (g.K.Sink.faults c.loop-stmt.out) (g.K.Sink.faults c.statement.new.out) c.loop-stmt.invariant.1
+    subst (λ n. Rose n (g.K.Sink.faults c.statement.new.out)) c.loop-stmt.invariant.1
     (c.statement.ensures.fault (block_unwritten c.statement.result _ c.in_err-jump.field-0.0 (residual c.from_residual.ensures.1) (sym c.in_err-jump.was ∙ c.landed.ensures) e))
+
+pub block-returns-in_err-jump-clause-no_fault : goal.block-returns-in_err-jump-clause-no_fault
+block-returns-in_err-jump-clause-no_fault g t c = λ e.
+    c.statement.ensures.no_fault (block_unfailed c.statement.result _ c.in_err-jump.field-0.0 (residual c.from_residual.ensures.1) (sym c.in_err-jump.was ∙ c.landed.ensures) e)
+    ∙ c.loop-stmt.invariant.1

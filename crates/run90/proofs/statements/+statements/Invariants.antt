@@ -1,4 +1,4 @@
-use Rattle.std.proofs.Common.{◌≡◌, ℕ, ◌-◌, ◌≤◌, List, Option, Result, drop, map}
+use Rattle.std.proofs.Common.{◌≡◌, ℕ, ◌-◌, List, Option, Result, drop, map}
 use Rattle.fv_tree.specs.Plain.{Program, block}
 use Rattle.fv_tree.specs.View.{statement_of, block_of}
 use Rattle.fv_meaning.specs.Blocks.{Surroundings}
@@ -23,7 +23,7 @@ invariant-statement-loop g l =
     × ((now : Option (List ℕ)) (last : Seen) (r : Result (Unit {0}) Left)
     → Runs (λ limit. repeated (l.end - l.counter) (turn fortran90 limit l.line l.var l.turns.step (does_all fortran90 limit (block_of l.body)))) l.input (seen l.moment) (g.K.Sink.taken l.out) last now r
     → Runs (λ limit. does fortran90 limit (statement_of l.fn.stmt)) l.input (seen l.fn.moment) (g.K.Sink.taken l.fn.out) last now r))
-    × (g.K.Sink.faults l.fn.out ≤ g.K.Sink.faults l.out)
+    × (g.K.Sink.faults l.out ≡ g.K.Sink.faults l.fn.out)
     × ((p : Program) (w : Surroundings) → IsStatement p.declarations (statement_of l.fn.stmt) w → Suits p (seen l.fn.moment) → (bytes : List ℕ) → IsTold (λ before mid. (now : Option (List ℕ)) (last : Seen) (r : Result (Unit {0}) Left)
     → Runs (λ limit. repeated (l.end - l.counter) (turn fortran90 limit l.line l.var l.turns.step (does_all fortran90 limit (block_of l.body)))) l.input (seen l.moment) mid last now r
     → Runs (λ limit. does fortran90 limit (statement_of l.fn.stmt)) l.input (seen l.fn.moment) before last now r) (l.out ≡ l.fn.out) bytes)
@@ -34,7 +34,7 @@ invariant-choose-loop-arm g l =
     → Runs (left_of_arms fortran90 l.line other (drop l.arm-index l.arm-items)) l.input (seen l.moment) (g.K.Sink.taken l.out) last now r
     → Runs (left_of_arms fortran90 l.line other l.arms) l.input (seen l.fn.moment) (g.K.Sink.taken l.fn.out) last now r)
     × ((p : Program) (w : Surroundings) → AreArms p.declarations (plain_arms l.arms) w → Suits p (seen l.fn.moment) → AreArms p.declarations (plain_arms (drop l.arm-index l.arm-items)) w × Suits p (seen l.moment))
-    × (g.K.Sink.faults l.fn.out ≤ g.K.Sink.faults l.out)
+    × (g.K.Sink.faults l.out ≡ g.K.Sink.faults l.fn.out)
     × ((bytes : List ℕ) → IsTold (λ before mid. (other : LimitedAct) (now : Option (List ℕ)) (last : Seen) (r : Result (Unit {0}) Left)
     → Runs (left_of_arms fortran90 l.line other (drop l.arm-index l.arm-items)) l.input (seen l.moment) mid last now r
     → Runs (left_of_arms fortran90 l.line other l.arms) l.input (seen l.fn.moment) before last now r) (l.out ≡ l.fn.out) bytes)
@@ -46,7 +46,7 @@ invariant-block-loop-stmt g l =
     × ((now : Option (List ℕ)) (last : Seen) (r : Result (Unit {0}) Left)
     → RunsOn (way_at l.jump) (left_of_block fortran90 (drop l.stmt-index l.stmt-items)) l.input (seen l.moment) (g.K.Sink.taken l.out) last now r
     → Runs (λ limit. does_all fortran90 limit (block_of l.block)) l.input (seen l.fn.moment) (g.K.Sink.taken l.fn.out) last now r))
-    × (g.K.Sink.faults l.fn.out ≤ g.K.Sink.faults l.out)
+    × (g.K.Sink.faults l.out ≡ g.K.Sink.faults l.fn.out)
     × ((p : Program) (w : Surroundings) → IsBlock p.declarations (block_of l.block) w → Suits p (seen l.fn.moment) → (bytes : List ℕ) → IsTold (λ before mid. (now : Option (List ℕ)) (last : Seen) (r : Result (Unit {0}) Left)
     → RunsOn (way_at l.jump) (left_of_block fortran90 (drop l.stmt-index l.stmt-items)) l.input (seen l.moment) mid last now r
     → Runs (λ limit. does_all fortran90 limit (block_of l.block)) l.input (seen l.fn.moment) before last now r) (l.out ≡ l.fn.out) bytes)
