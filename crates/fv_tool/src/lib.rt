@@ -1,7 +1,7 @@
 //! The top call: words, the deck, the text and the notes.
 #![tactic(auto)]
 
-ghost use Rattle.std.specs.Prelude.{◌≡◌, ◌≤◌, ◌↔◌, ◌⊎◌, [], ◌∷◌, List, None, Some, true, false, ℕ, length};
+ghost use Rattle.std.specs.Prelude.{◌≡◌, ◌≢◌, ◌≤◌, ◌↔◌, ◌⊎◌, [], ◌∷◌, List, None, Some, true, false, ℕ, length};
 ghost use Rattle.std.specs.Io.KnownBytes.{IsAtEnd};
 ghost use Rattle.fv_tree.specs.Plain.{Program};
 ghost use Rattle.fv_tree.specs.declared.ops.Fault.{Fault as Kind};
@@ -51,7 +51,7 @@ fn perform<K: Sink>(alloc: Global, command: Command, deck: &[u8], out: &mut K) -
     ensures untouched { is_silent (Some command) result ≡ true → out.new ≡ out.old }
     ensures textless { IsRun command → (p : Program) → Reads command deck.now p → text_of_run command deck.now p ≡ []
         → out.new ≡ out.old }
-    ensures no_fault { (result ≡ WriteFault → ⊥) → K.faults out.new ≡ K.faults out.old }
+    ensures no_fault { result ≢ WriteFault → K.faults out.new ≡ K.faults out.old }
     ensures later { K.faults out.old ≤ K.faults out.new }
 {
     match command {
@@ -70,7 +70,7 @@ fn passed_on<K: Sink>(outcome: Outcome, out: &mut K) -> Outcome
     ensures unasked { gives_all outcome ≡ false → (result ≡ outcome) × (out.new ≡ out.old) }
     ensures untouched { K.held out.old ≡ [] → (result ≡ outcome) × (out.new ≡ out.old) }
     ensures fault { gives_all outcome ≡ true → result ≡ WriteFault → Rose (K.faults out.old) (K.faults out.new) }
-    ensures no_fault { (result ≡ WriteFault → ⊥) → K.faults out.new ≡ K.faults out.old }
+    ensures no_fault { result ≢ WriteFault → K.faults out.new ≡ K.faults out.old }
     ensures later { K.faults out.old ≤ K.faults out.new }
 {
     match outcome {
@@ -100,8 +100,8 @@ fn obey<S: Source, K: Sink>(alloc: Global, command: Command, deck: &mut S, out: 
         → IfTold (S.left deck.old) (λ bytes. (p : Program) → Reads command bytes p → text_of_run command bytes p ≡ []
         → out.new ≡ out.old) }
     ensures passed { gives_all result ≡ true → K.held out.new ≡ [] }
-    ensures no_deck_fault { (result ≡ ReadFault → ⊥) → S.faults deck.new ≡ S.faults deck.old }
-    ensures no_out_fault { (result ≡ WriteFault → ⊥) → K.faults out.new ≡ K.faults out.old }
+    ensures no_deck_fault { result ≢ ReadFault → S.faults deck.new ≡ S.faults deck.old }
+    ensures no_out_fault { result ≢ WriteFault → K.faults out.new ≡ K.faults out.old }
     ensures deck_later { S.faults deck.old ≤ S.faults deck.new }
     ensures out_later { K.faults out.old ≤ K.faults out.new }
 {
@@ -131,8 +131,8 @@ fn work<S: Source, K: Sink>(alloc: Global, words: &[String], deck: &mut S, out: 
         → IfTold (S.left deck.old) (λ bytes. (p : Program) → Reads c bytes p → text_of_run c bytes p ≡ []
         → out.new ≡ out.old) }
     ensures passed { gives_all result ≡ true → K.held out.new ≡ [] }
-    ensures no_deck_fault { (result ≡ ReadFault → ⊥) → S.faults deck.new ≡ S.faults deck.old }
-    ensures no_out_fault { (result ≡ WriteFault → ⊥) → K.faults out.new ≡ K.faults out.old }
+    ensures no_deck_fault { result ≢ ReadFault → S.faults deck.new ≡ S.faults deck.old }
+    ensures no_out_fault { result ≢ WriteFault → K.faults out.new ≡ K.faults out.old }
     ensures deck_later { S.faults deck.old ≤ S.faults deck.new }
     ensures out_later { K.faults out.old ≤ K.faults out.new }
 {
@@ -174,8 +174,8 @@ pub fn run_tool<S: Source, K: Sink, E: Sink>(
     // Faults of the objects: 5 and 6 come only where that object failed in this call.
     ensures read_fault { result ≡ 5 → Rose (S.faults deck.old) (S.faults deck.new) }
     ensures write_fault { result ≡ 6 → Rose (K.faults out.old) (K.faults out.new) }
-    ensures no_read_fault { (result ≡ 5 → ⊥) → S.faults deck.new ≡ S.faults deck.old }
-    ensures no_write_fault { (result ≡ 6 → ⊥) → K.faults out.new ≡ K.faults out.old }
+    ensures no_read_fault { result ≢ 5 → S.faults deck.new ≡ S.faults deck.old }
+    ensures no_write_fault { result ≢ 6 → K.faults out.new ≡ K.faults out.old }
 
     // `vectorise` gives the translation at 0, and a front of it at 6.
     ensures translated { Asks words.now.items Vectorise → result ≡ 0

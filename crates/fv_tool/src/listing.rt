@@ -1,5 +1,5 @@
 //! `graph`: the listing of a deck.
-ghost use Rattle.std.specs.Prelude.{◌≡◌, ◌≤◌, true, length, Some, IfOk};
+ghost use Rattle.std.specs.Prelude.{◌≡◌, ◌≢◌, ◌≤◌, true, length, Some, IfOk};
 ghost use Rattle.fv_tree.specs.Limits.{deck_bytes};
 ghost use Rattle.fv_tree.specs.View.{program_of};
 ghost use Rattle.fv_meaning.specs.Dialect.{fortran77};
@@ -36,7 +36,7 @@ pub(crate) fn graph<K: Sink>(alloc: Global, deck: &[u8], out: &mut K) -> Outcome
       faults_now = K.faults out.new;
     }) result }
     ensures untouched { is_silent (Some Graph) result ≡ true → out.new ≡ out.old }
-    ensures no_fault { (result ≡ Outcome.WriteFault → ⊥) → K.faults out.new ≡ K.faults out.old }
+    ensures no_fault { result ≢ Outcome.WriteFault → K.faults out.new ≡ K.faults out.old }
     ensures later { K.faults out.old ≤ K.faults out.new }
 {
     let (source, _) = source_and_input(deck, DataLine::Fortran77);

@@ -1,5 +1,5 @@
 //! `run77` and `run90`: the run of a deck.
-ghost use Rattle.std.specs.Prelude.{◌≡◌, ◌≤◌, [], true, length, Some};
+ghost use Rattle.std.specs.Prelude.{◌≡◌, ◌≢◌, ◌≤◌, [], true, length, Some};
 ghost use Rattle.fv_tree.specs.Limits.{deck_bytes, deck_bytes90};
 ghost use Rattle.fv_tree.specs.Plain.{Program};
 ghost use Rattle.fv_meaning.specs.Run.{run as run_at};
@@ -44,7 +44,7 @@ fn run_machine77<K: Sink>(
     ensures untouched { is_silent (Some (Run77 options)) result ≡ true → out.new ≡ out.old }
     ensures textless { (p : Program) → IsProgram77 fortran77 p → IsMachine77Of p machine.old
         → run_text options p (run_at fortran77 options.steps p input.now) ≡ [] → out.new ≡ out.old }
-    ensures no_fault { (result ≡ Outcome.WriteFault → ⊥) → K.faults out.new ≡ K.faults out.old }
+    ensures no_fault { result ≢ Outcome.WriteFault → K.faults out.new ≡ K.faults out.old }
     ensures later { K.faults out.old ≤ K.faults out.new }
 {
     match machine.run(input, out, options.steps) {
@@ -80,7 +80,7 @@ fn run_machine90<K: Sink>(
     ensures untouched { is_silent (Some (Run90 options)) result ≡ true → out.new ≡ out.old }
     ensures textless { (p : Program) → IsProgram90 p → IsMachine90Of p machine.old
         → run_text options p (run_at fortran90 options.steps p input.now) ≡ [] → out.new ≡ out.old }
-    ensures no_fault { (result ≡ Outcome.WriteFault → ⊥) → K.faults out.new ≡ K.faults out.old }
+    ensures no_fault { result ≢ Outcome.WriteFault → K.faults out.new ≡ K.faults out.old }
     ensures later { K.faults out.old ≤ K.faults out.new }
 {
     let Ok(end) = machine.run(input, out, options.steps) else {
@@ -113,7 +113,7 @@ pub(crate) fn run77<K: Sink>(alloc: Global, options: Options, deck: &[u8], out: 
     ensures untouched { is_silent (Some (Run77 options)) result ≡ true → out.new ≡ out.old }
     ensures textless { (p : Program) → Reads (Run77 options) deck.now p → text_of_run (Run77 options) deck.now p ≡ []
         → out.new ≡ out.old }
-    ensures no_fault { (result ≡ Outcome.WriteFault → ⊥) → K.faults out.new ≡ K.faults out.old }
+    ensures no_fault { result ≢ Outcome.WriteFault → K.faults out.new ≡ K.faults out.old }
     ensures later { K.faults out.old ≤ K.faults out.new }
 {
     let (source, input) = source_and_input(deck, DataLine::Fortran77);
@@ -140,7 +140,7 @@ pub(crate) fn run90<K: Sink>(alloc: Global, options: Options, deck: &[u8], out: 
     ensures untouched { is_silent (Some (Run90 options)) result ≡ true → out.new ≡ out.old }
     ensures textless { (p : Program) → Reads (Run90 options) deck.now p → text_of_run (Run90 options) deck.now p ≡ []
         → out.new ≡ out.old }
-    ensures no_fault { (result ≡ Outcome.WriteFault → ⊥) → K.faults out.new ≡ K.faults out.old }
+    ensures no_fault { result ≢ Outcome.WriteFault → K.faults out.new ≡ K.faults out.old }
     ensures later { K.faults out.old ≤ K.faults out.new }
 {
     let (source, input) = source_and_input(deck, DataLine::Fortran90);

@@ -1,5 +1,5 @@
 //! `vectorise`: the translation of a deck.
-ghost use Rattle.std.specs.Prelude.{◌≡◌, ◌≤◌, ◌++◌, true, length, Some, IfOk, OnOk};
+ghost use Rattle.std.specs.Prelude.{◌≡◌, ◌≢◌, ◌≤◌, ◌++◌, true, length, Some, IfOk, OnOk};
 ghost use Rattle.std.specs.Option.{option_copied};
 ghost use Rattle.fv_tree.specs.Limits.{deck_bytes};
 ghost use Rattle.fv_tree.specs.View.{program_of};
@@ -59,7 +59,7 @@ pub(crate) fn vectorise<K: Sink>(alloc: Global, deck: &[u8], out: &mut K) -> Out
       faults_now = K.faults out.new;
     }) result }
     ensures untouched { is_silent (Some Vectorise) result ≡ true → out.new ≡ out.old }
-    ensures no_fault { (result ≡ Outcome.WriteFault → ⊥) → K.faults out.new ≡ K.faults out.old }
+    ensures no_fault { result ≢ Outcome.WriteFault → K.faults out.new ≡ K.faults out.old }
     ensures later { K.faults out.old ≤ K.faults out.new }
 {
     let (source, input) = source_and_input(deck, DataLine::Fortran77);
