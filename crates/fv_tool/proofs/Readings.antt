@@ -148,6 +148,10 @@ ok_not_refused c source o t e only r h = by (subst (OnlyRefuses c source) e only
     by (inl other) = cc
     by (inr other) = cc
 
+-- what was read is the program that the deck is read as
+pub only_program : (c : Command) (deck source : List ℕ) (o : Result (Tree c) Refused) (t : Tree c) → source ≡ source_for c deck → o ≡ Ok t → OnlyReads c source o → (q : Program) → Reads c deck q → q ≡ program_in c t
+only_program c deck source o t at e only q reads = ok_only c source o t e only q (subst (λ (s : List ℕ). ReadsSource c s q) (sym at) (source_read c deck q reads))
+
 read_as : (c : Command) (deck source : List ℕ) (o : Result (Tree c) Refused) (t : Tree c) → length deck ≤ most_bytes c → source ≡ source_for c deck → o ≡ Ok t
     → ReadsSource c source (program_in c t) → OnlyReads c source o → OnlyRefuses c source o → IsReadAs c deck (program_in c t)
 read_as c deck source o t within at e reads only_reads only_refuses = record {

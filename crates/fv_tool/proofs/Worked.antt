@@ -27,6 +27,11 @@ pub told : (P : List ℕ → Type 0) (left : Option (List ℕ)) (bytes : List �
 told P None bytes now t e h = tt
 told P (Some deck) bytes now t e h = subst P (sym (takes_all deck bytes now t e)) h
 
+-- what holds of all bytes holds of the deck, where that is told
+pub of_all : (P : List ℕ → Type 0) (left : Option (List ℕ)) → ((bytes : List ℕ) → P bytes) → IfSome left P
+of_all P None h = tt
+of_all P (Some deck) h = h deck
+
 some_inj : {A : Type 0} (x y : A) → ◌≡◌ {A = Option A} (Some x) (Some y) → x ≡ y
 some_inj x y e = cc
 

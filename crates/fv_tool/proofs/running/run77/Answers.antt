@@ -1,8 +1,13 @@
-use Rattle.std.proofs.Common.{sym, ◌∙◌, subst, refl}
+use Rattle.std.proofs.Common.{◌≡◌, List, ℕ, [], sym, ◌∙◌, subst, refl}
+use Rattle.fv_tree.specs.Plain.{Program}
+use Rattle.fv_tree.specs.View.{program_of}
+use Rattle.fv_meaning.specs.Dialect.{fortran77}
+use Rattle.fv_meaning.specs.Run.{run}
+use Rattle.fv_tool.specs.Running.{run_text}
 use Rattle.fv_report.specs.declared.outcome.Outcome.{Outcome}
 use Rattle.fv_command.specs.declared.commands.Command.TheVariants.{Run77}
 use Rattle.fv_tool.specs.Works.{Works}
-use Rattle.fv_tool.proofs.Readings.{not_worked, run_comes77}
+use Rattle.fv_tool.proofs.Readings.{not_worked, only_program, run_comes77}
 use Rattle.fv_tool.proofs.running.run77.Goals as goal
 
 pub returns-in-Err-clause-works : goal.returns-in-Err-clause-works
@@ -16,3 +21,11 @@ returns-in-Ok-new-clause-works g c =
     run_comes77 c.args.options c.args.deck.now c.source_and_input.result.0.now c.bytes_of.result.now _ c.read77.result c.in-Ok.program c.run_machine77.result c.requires
     c.source_and_input.ensures.source (c.bytes_of.ensures ∙ c.source_and_input.ensures.input) c.in-Ok.is c.in-Ok.ensures.ok c.read77.ensures.only_read c.read77.ensures.only_refused
     (c.run_machine77.ensures.comes _ c.in-Ok.ensures.program c.in-Ok-new.ensures.machine)
+
+pub returns-in-Ok-new-clause-textless : goal.returns-in-Ok-new-clause-textless
+returns-in-Ok-new-clause-textless g c p reads none =
+    let same : p ≡ program_of c.in-Ok.program =
+    only_program (Run77 c.args.options) c.args.deck.now c.source_and_input.result.0.now c.read77.result c.in-Ok.program c.source_and_input.ensures.source c.in-Ok.is c.read77.ensures.only_read p reads in
+    c.run_machine77.ensures.textless (program_of c.in-Ok.program) c.in-Ok.ensures.program c.in-Ok-new.ensures.machine
+    (subst (λ (q : Program). run_text c.args.options q (run fortran77 c.args.options.steps q c.bytes_of.result.now) ≡ []) same
+    (subst (λ (t : List ℕ). run_text c.args.options p (run fortran77 c.args.options.steps p t) ≡ []) (sym (c.bytes_of.ensures ∙ c.source_and_input.ensures.input)) none))

@@ -1,8 +1,13 @@
-use Rattle.std.proofs.Common.{sym, ◌∙◌, subst, refl}
+use Rattle.std.proofs.Common.{◌≡◌, List, ℕ, [], sym, ◌∙◌, subst, refl}
+use Rattle.fv_tree.specs.Plain.{Program}
+use Rattle.fv_tree.specs.View.{program_of_90}
+use Rattle.fv_meaning.specs.Dialect.{fortran90}
+use Rattle.fv_meaning.specs.Run.{run}
+use Rattle.fv_tool.specs.Running.{run_text}
 use Rattle.fv_report.specs.declared.outcome.Outcome.{Outcome}
 use Rattle.fv_command.specs.declared.commands.Command.TheVariants.{Run90}
 use Rattle.fv_tool.specs.Works.{Works}
-use Rattle.fv_tool.proofs.Readings.{not_worked, run_comes90, source_within, source_fits}
+use Rattle.fv_tool.proofs.Readings.{not_worked, only_program, run_comes90, source_within, source_fits}
 use Rattle.fv_tool.proofs.running.run90.Goals as goal
 
 pub returns-in-Err-clause-works : goal.returns-in-Err-clause-works
@@ -22,3 +27,11 @@ read90-requires g c = source_fits c.args.deck.now c.source_and_input.result.0.no
 
 pub new-requires : goal.new-requires
 new-requires g c = c.in-Ok.ensures.program (source_within c.args.deck.now c.source_and_input.result.0.now c.requires c.source_and_input.ensures.source)
+
+pub returns-in-Ok-new-clause-textless : goal.returns-in-Ok-new-clause-textless
+returns-in-Ok-new-clause-textless g c p reads none =
+    let same : p ≡ program_of_90 c.in-Ok.program =
+    only_program (Run90 c.args.options) c.args.deck.now c.source_and_input.result.0.now c.read90.result c.in-Ok.program c.source_and_input.ensures.source c.in-Ok.is c.read90.ensures.only_read p reads in
+    c.run_machine90.ensures.textless (program_of_90 c.in-Ok.program) (c.in-Ok.ensures.program (source_within c.args.deck.now c.source_and_input.result.0.now c.requires c.source_and_input.ensures.source)) c.in-Ok-new.ensures.machine
+    (subst (λ (q : Program). run_text c.args.options q (run fortran90 c.args.options.steps q c.bytes_of.result.now) ≡ []) same
+    (subst (λ (t : List ℕ). run_text c.args.options p (run fortran90 c.args.options.steps p t) ≡ []) (sym (c.bytes_of.ensures ∙ c.source_and_input.ensures.input)) none))

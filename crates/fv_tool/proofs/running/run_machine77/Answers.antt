@@ -1,5 +1,7 @@
-use Rattle.std.proofs.Common.{refl}
-use Rattle.fv_tool.proofs.Runs.{run_cut, store_shown, store_cut}
+use Rattle.std.proofs.Common.{refl, ◌∙◌}
+use Rattle.fv_meaning.specs.Dialect.{fortran77}
+use Rattle.fv_meaning.specs.Run.{run}
+use Rattle.fv_tool.proofs.Runs.{run_cut, store_shown, store_cut, unwritten, unshown}
 use Rattle.fv_tool.proofs.running.run_machine77.Goals as goal
 
 pub returns-in-WriteFault-clause-comes : goal.returns-in-WriteFault-clause-comes
@@ -14,3 +16,21 @@ pub returns-in-Err-clause-comes : goal.returns-in-Err-clause-comes
 returns-in-Err-clause-comes g c p profile machine =
     store_cut c.args.options p _ _ _ _ _ c.if-not-options.false (c.in-Done.ensures.run p profile machine) (c.in-Err.ensures.text p (c.run.ensures.machine p profile machine))
     c.run.ensures.later c.in-Err.ensures.fault
+
+pub returns-in-WriteFault-clause-textless : goal.returns-in-WriteFault-clause-textless
+returns-in-WriteFault-clause-textless g c p profile machine none =
+    c.run.ensures.untouched p profile machine (unwritten c.args.options p (run fortran77 c.args.options.steps p c.args.input.now) none)
+
+pub returns-in-Ok-clause-textless : goal.returns-in-Ok-clause-textless
+returns-in-Ok-clause-textless g c p profile machine none =
+    let s = run fortran77 c.args.options.steps p c.args.input.now in
+    let ended = c.in-Done.ensures.run p profile machine in
+    c.show.ensures.untouched p (c.run.ensures.machine p profile machine) (unshown c.args.options p s _ c.if-not-options.false ended.ending ended.store none)
+    ∙ c.run.ensures.untouched p profile machine (unwritten c.args.options p s none)
+
+pub returns-in-Err-clause-textless : goal.returns-in-Err-clause-textless
+returns-in-Err-clause-textless g c p profile machine none =
+    let s = run fortran77 c.args.options.steps p c.args.input.now in
+    let ended = c.in-Done.ensures.run p profile machine in
+    c.show.ensures.untouched p (c.run.ensures.machine p profile machine) (unshown c.args.options p s _ c.if-not-options.false ended.ending ended.store none)
+    ∙ c.run.ensures.untouched p profile machine (unwritten c.args.options p s none)

@@ -1,8 +1,8 @@
-use Rattle.std.proofs.Common.{ap, Ok}
+use Rattle.std.proofs.Common.{ap, Ok, ◌∙◌}
 use Rattle.fv_meaning.specs.Dialect.{fortran90}
 use Rattle.fv_meaning.specs.Run.{run}
 use Rattle.fv_meaning.specs.declared.End.TheVariants as end
-use Rattle.fv_tool.proofs.Runs.{ends_at, run_cut, run_stopped, store_shown, store_cut}
+use Rattle.fv_tool.proofs.Runs.{ends_at, run_cut, run_stopped, store_shown, store_cut, unwritten, unshown}
 use Rattle.fv_tool.proofs.running.run_machine90.Goals as goal
 
 pub returns-in_default-clause-comes : goal.returns-in_default-clause-comes
@@ -23,3 +23,25 @@ pub returns-in-Err-clause-comes : goal.returns-in-Err-clause-comes
 returns-in-Err-clause-comes g c p profile machine =
     store_cut c.args.options p _ _ _ _ _ c.if-not-options.false (ends_at _ _ _ _ _ _ end.Done c.in-Done.is (c.in-Ok.ensures.run p profile machine))
     (c.in-Err.ensures.text p (c.in-Ok.ensures.machine p profile machine)) c.run.ensures.later c.in-Err.ensures.fault
+
+pub returns-in_default-clause-textless : goal.returns-in_default-clause-textless
+returns-in_default-clause-textless g c p profile machine none =
+    c.run.ensures.untouched p profile machine (unwritten c.args.options p (run fortran90 c.args.options.steps p c.args.input.now) none)
+
+pub returns-in-WriteFault-clause-textless : goal.returns-in-WriteFault-clause-textless
+returns-in-WriteFault-clause-textless g c p profile machine none =
+    c.run.ensures.untouched p profile machine (unwritten c.args.options p (run fortran90 c.args.options.steps p c.args.input.now) none)
+
+pub returns-in-Ok-show-clause-textless : goal.returns-in-Ok-show-clause-textless
+returns-in-Ok-show-clause-textless g c p profile machine none =
+    let s = run fortran90 c.args.options.steps p c.args.input.now in
+    let ended = ends_at _ _ _ _ _ _ end.Done c.in-Done.is (c.in-Ok.ensures.run p profile machine) in
+    c.show.ensures.untouched p (c.in-Ok.ensures.machine p profile machine) (unshown c.args.options p s _ c.if-not-options.false ended.ending ended.store none)
+    ∙ c.run.ensures.untouched p profile machine (unwritten c.args.options p s none)
+
+pub returns-in-Err-clause-textless : goal.returns-in-Err-clause-textless
+returns-in-Err-clause-textless g c p profile machine none =
+    let s = run fortran90 c.args.options.steps p c.args.input.now in
+    let ended = ends_at _ _ _ _ _ _ end.Done c.in-Done.is (c.in-Ok.ensures.run p profile machine) in
+    c.show.ensures.untouched p (c.in-Ok.ensures.machine p profile machine) (unshown c.args.options p s _ c.if-not-options.false ended.ending ended.store none)
+    ∙ c.run.ensures.untouched p profile machine (unwritten c.args.options p s none)
