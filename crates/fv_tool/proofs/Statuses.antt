@@ -8,7 +8,7 @@ use Rattle.fv_report.specs.declared.outcome.Outcome.{Outcome}
 use Rattle.fv_report.specs.declared.outcome.Outcome.TheVariants.{Done, Usage, Refused, Faulted, StepLimit, ReadFault, WriteFault, OutOfMemory}
 use Rattle.fv_report.specs.Notes.{status_of}
 use Rattle.fv_tool.specs.Answers.{IsOneOf}
-use Rattle.fv_tool.specs.Endings.{is_silent, writes_early}
+use Rattle.fv_tool.specs.Endings.{is_silent, writes_early, gives_all}
 
 pub is_done : (o : Outcome) (s : ℕ) → s ≡ status_of o → s ≡ 0 → o ≡ Done
 is_done Done s e q = refl
@@ -119,3 +119,9 @@ silent k OutOfMemory s e m = absurd (none_silent s 7 e (λ q. omega (arith, q)) 
 
 pub silent_without_memory : (k : Option Command) (o : Outcome) (s : ℕ) → s ≡ status_of o → writes_early k ≡ false → s ≡ 7 → is_silent k o ≡ true
 silent_without_memory k o s e late q = ap (is_silent k) (is_out_of_memory o s e q) ∙ ap not late
+
+-- a status that comes with the whole text tells of such an outcome
+pub whole_text : (o : Outcome) (s : ℕ) → s ≡ status_of o → IsOneOf (0 ∷ 3 ∷ 4 ∷ []) s → gives_all o ≡ true
+whole_text o s e (inl q) = ap gives_all (is_done o s e q)
+whole_text o s e (inr (inl q)) = ap gives_all (is_faulted o s e q).2
+whole_text o s e (inr (inr q)) = ap gives_all (is_limited o s e q)

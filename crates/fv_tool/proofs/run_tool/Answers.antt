@@ -1,6 +1,10 @@
-use Rattle.fv_report.specs.Notes.{note_of}
+use Rattle.std.proofs.Common.{◌≡◌, List, Some, ap, sym, subst, ◌∙◌}
+use Rattle.std.specs.Prelude.{String}
+use Rattle.std.specs.declared.alloc.Global.{Global}
+use Rattle.fv_command.specs.Command.{texts, command_of}
+use Rattle.fv_report.specs.Notes.{note_of, status_of}
 use Rattle.fv_tool.proofs.Top.{for_words, for_command, part_or_whole, note_given}
-use Rattle.fv_tool.proofs.Statuses.{silent, silent_without_memory}
+use Rattle.fv_tool.proofs.Statuses.{silent, silent_without_memory, whole_text}
 use Rattle.fv_tool.proofs.Top as top
 use Rattle.fv_tool.proofs.run_tool.Goals as goal
 
@@ -58,6 +62,19 @@ returns-clause-nothing g c m = c.work-outcome.ensures.untouched (silent _ c.work
 pub returns-clause-nothing_without_memory : goal.returns-clause-nothing_without_memory
 returns-clause-nothing_without_memory g c late q =
     c.work-outcome.ensures.untouched (silent_without_memory _ c.work-outcome.result c.status.result c.status.ensures (top.same_words_late _ _ c.as_slice.ensures.value late) q)
+
+pub returns-clause-no_read_fault : goal.returns-clause-no_read_fault
+returns-clause-no_read_fault g c other = c.work-outcome.ensures.no_deck_fault (λ e. other (c.status.ensures ∙ ap status_of e))
+
+pub returns-clause-no_write_fault : goal.returns-clause-no_write_fault
+returns-clause-no_write_fault g c other = c.work-outcome.ensures.no_out_fault (λ e. other (c.status.ensures ∙ ap status_of e))
+
+pub returns-clause-passed_on : goal.returns-clause-passed_on
+returns-clause-passed_on g c whole = c.work-outcome.ensures.passed (whole_text c.work-outcome.result c.status.result c.status.ensures whole)
+
+pub returns-clause-textless : goal.returns-clause-textless
+returns-clause-textless g c a runs k held =
+    c.work-outcome.ensures.textless a runs (subst (λ (ws : List (String Global)). command_of (texts ws) ≡ Some a) (sym c.as_slice.ensures.value) k) held
 
 pub returns-clause-faults : goal.returns-clause-faults
 returns-clause-faults g c a run k = top.faults a run _ c.work-outcome.result c.status.result c.status.ensures (for_command _ a _ _ k (for_words _ _ _ _ c.as_slice.ensures.value c.work-outcome.ensures.ended))
