@@ -278,22 +278,17 @@ fn sinks_fail_at_the_chosen_calls(rt: HostRuntime) -> Result<(), Fail> {
 #[test]
 fn buffers_give_full_pieces(rt: HostRuntime) -> Result<(), Fail> {
     let text = text_of(rt.alloc(), 10000)?;
-    // The size of the texts given one after the other, and how many bytes have passed after all of them but the send.
-    for (size, passed) in [
-        (1, 8192),
-        (4095, 8192),
-        (4096, 8192),
-        (4097, 8192),
-        (10000, 8192),
-    ] {
+    // How long the first of two texts is: 8192 of the 10000 bytes have passed before the rest is sent.
+    for size in [1, 4095, 4096, 4097, 9999] {
         let sink = MemSink::new(rt.alloc(), 10000, 10000, Vec::new(rt.alloc()))
             .ok()
             .ok_or("memory")?;
         let mut sink = BufferedSink::new(sink);
-        for piece in text.chunks(size) {
-            assert_eq!(rt; write_all(&mut sink, piece), Ok(()), "at {size}");
-        }
-        assert_eq!(rt; sink.inner().bytes().len(), passed, "at {size}");
+        let first = text.get(..size).unwrap_or(&[]);
+        let second = text.get(size..).unwrap_or(&[]);
+        assert_eq!(rt; write_all(&mut sink, first), Ok(()), "at {size}");
+        assert_eq!(rt; write_all(&mut sink, second), Ok(()), "at {size}");
+        assert_eq!(rt; sink.inner().bytes().len(), 8192, "at {size}");
         assert_eq!(rt; sink.send(), Ok(()), "at {size}");
         assert_eq!(rt; sink.inner().bytes(), text.as_slice(), "at {size}");
     }
