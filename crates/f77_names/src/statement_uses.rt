@@ -22,7 +22,7 @@ impl Uses {
     }
 
     /// The uses in the bounds of a name.
-    pub fn add_bounds(&mut self, bounds: &Seq<(Expr, Expr)>) -> Result<(), Memory>
+    pub(crate) fn add_bounds(&mut self, bounds: &Seq<(Expr, Expr)>) -> Result<(), Memory>
         ensures { OnOk result (listed self.new ≡ listed self.old ++ plain.uses_in_bounds (map bounds_of bounds.now)) }
     {
         for bound in bounds.as_slice() {
@@ -99,7 +99,7 @@ impl Uses {
 
     /// The uses in a statement, also in the inner one of a logical IF.
     #[tactic(auto, using(crate::proofs::StatementUseLaws::statement_use_laws))]
-    pub fn add_statement(&mut self, statement: &Stmt77) -> Result<(), Memory>
+    pub(crate) fn add_statement(&mut self, statement: &Stmt77) -> Result<(), Memory>
         ensures { OnOk result (listed self.new ≡ listed self.old ++ plain.uses_of (statement_of statement.now)) }
     {
         match statement {
@@ -127,6 +127,15 @@ impl Uses {
             Stmt77::End => Ok(()),
         }
     }
+}
+
+/// The uses of names in a statement, also in the inner one of a logical IF.
+pub fn uses_of(alloc: Global, statement: &Stmt77) -> Result<Uses, Memory>
+    ensures { IfOk result (λ uses. listed uses ≡ plain.uses_of (statement_of statement.now)) }
+{
+    let mut uses = Uses::new(alloc);
+    uses.add_statement(statement)?;
+    Ok(uses)
 }
 
 /// The uses of names in a program, in the order of the text.

@@ -59,7 +59,7 @@ pub struct Uses {
 }
 
 impl Uses {
-    pub fn new(alloc: Global) -> Uses
+    pub(crate) fn new(alloc: Global) -> Uses
         ensures { listed result ≡ [] }
     {
         Uses {
@@ -74,7 +74,7 @@ impl Uses {
         self.items.as_slice()
     }
 
-    pub fn note(&mut self, name: Name, role: Role) -> Result<(), Memory>
+    pub(crate) fn note(&mut self, name: Name, role: Role) -> Result<(), Memory>
         ensures { OnOk result (listed self.new ≡ listed self.old ++ plain.use_of name (role_of role) ∷ []) }
     {
         self.items.push(Use { name, role })?;
@@ -83,7 +83,7 @@ impl Uses {
 
     #[cycle(uses)]
     #[tactic(auto, using(crate::proofs::UseLaws::use_laws))]
-    pub fn add_expr(&mut self, expr: &Expr) -> Result<(), Memory>
+    pub(crate) fn add_expr(&mut self, expr: &Expr) -> Result<(), Memory>
         ensures { OnOk result (listed self.new ≡ listed self.old ++ plain.uses_in (expression_of expr.now)) }
     {
         match expr {
@@ -137,7 +137,7 @@ impl Uses {
     }
 
     #[cycle(uses)]
-    pub fn add_subs(&mut self, subs: &Seq<Sub>) -> Result<(), Memory>
+    pub(crate) fn add_subs(&mut self, subs: &Seq<Sub>) -> Result<(), Memory>
         ensures { OnOk result (listed self.new ≡ listed self.old
             ++ plain.uses_in_subscripts (subscripts (map subscript_of subs.now))) }
     {

@@ -1,6 +1,9 @@
 -- The block IFs that haven't ended, as the definitions find them and as a stack keeps them.
-use Rattle.std.proofs.Common.{◌≡◌, ℕ, zero, suc, ◌+◌, ◌-◌, ◌<◌, nat_le, Bool, true, false, ◌||◌, cond, Option, Some, None, is_some, List, [], ◌∷◌, length, take, refl, sym, ap, ◌∙◌, arith}
+use Rattle.std.proofs.Common.{◌≡◌, ℕ, zero, suc, ◌+◌, ◌-◌, ◌<◌, nat_le, Bool, true, false, ◌||◌, cond, Option, Some, None, is_some, List, [], ◌∷◌, ◌++◌, reverse, length, take, take_all, set, get_or, refl, sym, ap, ◌∙◌, arith, add-one}
 use Rattle.std.specs.List.{list_any}
+use Rattle.std.proofs.Math.Seq.{take-suc}
+use Rattle.std.proofs.lemmas.List.{reverse-append, length-set}
+use Rattle.std.proofs.lemmas.Grind.{take-set_at}
 use Rattle.std.proofs.lemmas.Bool.Decides.{nat_tests}
 use Rattle.f77_grammar.specs.Statement77.{Labelled, Statement77, If, Else, EndIf}
 use Rattle.f77_grammar.specs.program.Text.{is_block_if, is_last_else, left_over, without_ended}
@@ -25,6 +28,15 @@ place_marked : (fs : List OpenIf) (n : ℕ) → place_in (marked fs) n ≡ place
 place_marked [] n = refl
 place_marked (f ∷ fs) zero = refl
 place_marked (f ∷ fs) (suc n) = refl
+
+-- the last of the list, which is the innermost block IF, has had an ELSE
+pub last_marked : (xs : List OpenIf) (n : ℕ) (x : OpenIf) → n + 1 ≡ length xs → x ≡ get_or xs n x → reverse (set xs n (record { at = x.at; had_else = true })) ≡ marked (reverse xs)
+last_marked xs n x h e =
+    let y : OpenIf = record { at = x.at; had_else = true } in
+    let whole : set xs n y ≡ take n xs ++ y ∷ [] = sym (take_all (n + 1) (set xs n y) (omega (arith, length-set xs n y, h))) ∙ take-set_at xs n (n + 1) y refl (omega (arith, h)) in
+    let more : take (n + 1) xs ≡ take n xs ++ x ∷ [] = rw (add-one, take-suc xs n x (omega (arith, h)), sym e) refl in
+    let old : xs ≡ take n xs ++ x ∷ [] = sym (take_all (n + 1) xs (omega (arith, h))) ∙ more in
+    ap reverse whole ∙ reverse-append (take n xs) (y ∷ []) ∙ sym (ap (λ zs. marked (reverse zs)) old ∙ ap marked (reverse-append (take n xs) (x ∷ [])))
 
 had_tail : (fs : List OpenIf) (n : ℕ) → had_else_in (tail_of fs) n ≡ had_else_in fs (suc n)
 had_tail [] n = refl

@@ -30,7 +30,7 @@ impl LabelPlaces {
     }
 
     /// Gives the label this place, in place of an earlier one.
-    pub fn put(&mut self, label: Option<u32>, place: usize) -> Result<(), Memory>
+    pub(crate) fn put(&mut self, label: Option<u32>, place: usize) -> Result<(), Memory>
         ensures { OnOk result ((n : ℕ)
             → place_of self.new n ≡ (if is_label n label then Some place else place_of self.old n)) }
     {
@@ -41,7 +41,7 @@ impl LabelPlaces {
     }
 
     /// Gives the label this place, where it has none.
-    pub fn put_first(&mut self, label: Option<u32>, place: usize) -> Result<(), Memory>
+    pub(crate) fn put_first(&mut self, label: Option<u32>, place: usize) -> Result<(), Memory>
         ensures { OnOk result ((n : ℕ) → place_of self.new n ≡ or_here (place_of self.old n) (is_label n label) place) }
     {
         match label {

@@ -1,5 +1,5 @@
 //! What is open at a statement: block IFs, and loops.
-ghost use Rattle.std.specs.Prelude.{◌≡◌, ℕ, ◌+◌, ◌<◌, ◌^◌, ◌||◌, ◌∷◌, [], true, false, OnOk};
+ghost use Rattle.std.specs.Prelude.{◌≡◌, ℕ, ◌+◌, ◌<◌, ◌^◌, ◌||◌, ◌∷◌, [], true, false, OnOk, OnErr};
 ghost use Rattle.f77_structure.specs.Openings.{frames, loops_in, tail_of, marked, trimmed, first_of, next_frames};
 ghost use Rattle.f77_structure.specs.Openings.{opened, nearest_at, is_behind, begins_behind, lacks_if, refuses_else};
 ghost use Rattle.f77_structure.specs.Openings.{is_unpaired, closes_wrongly, ends_wrongly, is_from, has_wrong_closer};
@@ -73,7 +73,8 @@ impl Openings {
 
     fn open_if(&mut self, at: usize) -> Result<(), Memory>
         ensures ifs { OnOk result (frames self.new ≡ record { at = at; had_else = false } ∷ frames self.old) }
-        ensures loops { OnOk result (loops_in self.new ≡ loops_in self.old) }
+        ensures loops { loops_in self.new ≡ loops_in self.old }
+        ensures err { OnErr result (frames self.new ≡ frames self.old) }
     {
         self.ifs.push(OpenIf {
             at,
@@ -89,44 +90,75 @@ impl Openings {
         self.ifs.pop();
     }
 
-    fn mark_else(&mut self) -> Result<(), Memory>
-        ensures ifs { OnOk result (frames self.new ≡ marked (frames self.old)) }
-        ensures loops { OnOk result (loops_in self.new ≡ loops_in self.old) }
+    fn mark_else(&mut self)
+        ensures ifs { frames self.new ≡ marked (frames self.old) }
+        ensures loops { loops_in self.new ≡ loops_in self.old }
     {
-        if let Some(open) = self.ifs.pop() {
-            self.ifs.push(OpenIf {
-                at: open.at,
-                had_else: true,
-            })?;
+        let count = self.ifs.len();
+        if count > 0 {
+            let at = self.ifs[count - 1].at;
+            self.ifs[count - 1] = OpenIf { at, had_else: true };
+        }
+    }
+
+    fn open_loop(&mut self, begun: OpenLoop) -> Result<(), Memory>
+        ensures ifs { frames self.new ≡ frames self.old }
+        ensures ok { OnOk result (loops_in self.new ≡ begun ∷ loops_in self.old) }
+        ensures err { OnErr result (loops_in self.new ≡ loops_in self.old) }
+    {
+        self.loops.push(begun)?;
+        Ok(())
+    }
+
+    // The block IFs that are open behind a statement of this form, which stands behind `at` others.
+    fn pass_if(&mut self, form: Form, at: usize) -> Result<(), Memory>
+        ensures ifs { OnOk result (frames self.new ≡ next_frames form at (frames self.old)) }
+        ensures loops { loops_in self.new ≡ loops_in self.old }
+        ensures err { OnErr result (frames self.new ≡ frames self.old) }
+    {
+        match form {
+            Form::If => self.open_if(at)?,
+            Form::EndIf => self.close_if(),
+            Form::Else => self.mark_else(),
+            Form::Title | Form::Declaration | Form::Action | Form::Go(_) | Form::Stop => (),
+            Form::LogicalIf | Form::ElseIf | Form::Do(_) | Form::End => (),
         }
         Ok(())
     }
 
-    fn open_loop(&mut self, at: usize, end: Option<usize>) -> Result<(), Memory>
-        ensures ifs { OnOk result (frames self.new ≡ frames self.old) }
-        ensures loops { OnOk result (loops_in self.new ≡ opened at end (loops_in self.old)) }
+    fn close_loop(&mut self)
+        ensures ifs { frames self.new ≡ frames self.old }
+        ensures loops { loops_in self.new ≡ tail_of (loops_in self.old) }
     {
-        if let Some(end) = end {
-            self.loops.push(OpenLoop { at, end })?;
+        self.loops.pop();
+    }
+
+    // What is open behind a DO.
+    fn pass_do(&mut self, form: Form, begun: OpenLoop, at: usize) -> Result<(), Memory>
+        ensures ifs { OnOk result (frames self.new ≡ next_frames form at (frames self.old)) }
+        ensures loops { OnOk result (loops_in self.new ≡ begun ∷ loops_in self.old) }
+        ensures same_ifs { OnErr result (frames self.new ≡ frames self.old) }
+        ensures same_loops { OnErr result (loops_in self.new ≡ loops_in self.old) }
+    {
+        self.open_loop(begun)?;
+        let passed = self.pass_if(form, at);
+        if passed.is_err() {
+            self.close_loop();
         }
-        Ok(())
+        passed
     }
 
     /// What is open behind a statement of this form, which stands behind `at` others; a DO's loop ends at `end`.
+    /// Where memory runs out, what was open stays.
     pub fn pass(&mut self, form: Form, at: usize, end: Option<usize>) -> Result<(), Memory>
         ensures ifs { OnOk result (frames self.new ≡ next_frames form at (frames self.old)) }
         ensures loops { OnOk result (loops_in self.new ≡ opened at end (loops_in self.old)) }
+        ensures same_ifs { OnErr result (frames self.new ≡ frames self.old) }
+        ensures same_loops { OnErr result (loops_in self.new ≡ loops_in self.old) }
     {
-        self.open_loop(at, end)?;
-        match form {
-            Form::If => self.open_if(at),
-            Form::EndIf => {
-                self.close_if();
-                Ok(())
-            }
-            Form::Else => self.mark_else(),
-            Form::Title | Form::Declaration | Form::Action | Form::Go(_) | Form::Stop => Ok(()),
-            Form::LogicalIf | Form::ElseIf | Form::Do(_) | Form::End => Ok(()),
+        match end {
+            None => self.pass_if(form, at),
+            Some(end) => self.pass_do(form, OpenLoop { at, end }, at),
         }
     }
 
