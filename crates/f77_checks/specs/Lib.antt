@@ -1,3 +1,4 @@
 pub mod First
 pub mod Outcomes
 pub mod Limits
+pub mod Known

@@ -1,12 +1,13 @@
 //! The causes of refusal that have a number of their own, each with its check.
-ghost use Rattle.std.specs.Prelude.{◌≡◌, List, [], ◌∷◌};
+ghost use Rattle.std.specs.Prelude.{◌≡◌, [], ◌∷◌};
 ghost use Rattle.fv_meaning.specs.Dialect.{fortran77};
-ghost use Rattle.f77_grammar.specs.Statement77.{Labelled as Plain};
 ghost use Rattle.f77_grammar.specs.program.Program77.{holds_in};
-ghost use Rattle.f77_syntax.specs.First.{first_line};
+ghost use Rattle.f77_syntax.specs.First.{first_index};
 ghost use Rattle.f77_syntax.specs.Views.{text_of};
+ghost use Rattle.f77_checks.specs.Known.{IsKnownOf};
 ghost use Rattle.f77_checks.specs.Outcomes.{Passes};
 
+use crate::known::Known;
 use crate::places::line_at;
 use f77_jumps::{wrong_do_variable, wrong_jump};
 use f77_kinds::unsuited_kind;
@@ -16,12 +17,12 @@ use f77_syntax::Labelled;
 use fv_tree::{Cause, Refused};
 use std::alloc::Global;
 
-// Refuses a text at the line at which the cause holds first, if it holds.
-fn refuse(cause: Cause, line: Option<u32>) -> Result<(), Refused>
-    ensures { (text : List Plain) → line ≡ first_line (holds_in fortran77 text cause) text
-        → Passes (cause ∷ []) text result }
+// Refuses a text at the first place at which the cause holds, if it holds.
+fn refuse(text: &[Labelled], cause: Cause, place: Option<usize>) -> Result<(), Refused>
+    ensures { place ≡ first_index (holds_in fortran77 (text_of text.now) cause) (text_of text.now)
+        → Passes (cause ∷ []) (text_of text.now) result }
 {
-    match line {
+    match line_at(text, place) {
         None => Ok(()),
         Some(line) => Err(Refused::Refusal(cause.at(line))),
     }
@@ -31,60 +32,76 @@ fn refuse(cause: Cause, line: Option<u32>) -> Result<(), Refused>
 pub fn check_labels(alloc: Global, text: &[Labelled]) -> Result<(), Refused>
     ensures { Passes (Cause.Label ∷ []) (text_of text.now) result }
 {
-    refuse(Cause::Label, wrong_label(alloc, text)?)
+    refuse(text, Cause::Label, wrong_label(alloc, text)?)
 }
 
 /// Refuses a text with blocks or loops that cross, or statements out of order.
-pub fn check_nesting(alloc: Global, text: &[Labelled]) -> Result<(), Refused>
+pub fn check_nesting(alloc: Global, text: &[Labelled], known: &Known) -> Result<(), Refused>
+    requires { IsKnownOf known.now (text_of text.now) }
     ensures { Passes (Cause.Nesting ∷ []) (text_of text.now) result }
 {
-    refuse(Cause::Nesting, line_at(text, wrong_nesting(alloc, text)?))
+    refuse(
+        text,
+        Cause::Nesting,
+        wrong_nesting(alloc, text, &known.ends)?,
+    )
 }
 
 /// Refuses a text in which END is missing, or isn't the last statement.
 pub fn check_end(text: &[Labelled]) -> Result<(), Refused>
     ensures { Passes (Cause.NoEnd ∷ []) (text_of text.now) result }
 {
-    refuse(Cause::NoEnd, line_at(text, wrong_end(text)))
+    refuse(text, Cause::NoEnd, wrong_end(text))
 }
 
 /// Refuses a text with a name that is declared wrongly, or doesn't suit its declaration.
-pub fn check_declarations(alloc: Global, text: &[Labelled]) -> Result<(), Refused>
+pub fn check_declarations(alloc: Global, text: &[Labelled], known: &Known) -> Result<(), Refused>
+    requires { IsKnownOf known.now (text_of text.now) }
     ensures { Passes (Cause.Declared ∷ []) (text_of text.now) result }
 {
     refuse(
+        text,
         Cause::Declared,
-        line_at(text, wrong_declaration(alloc, text)?),
+        wrong_declaration(alloc, text, &known.names)?,
     )
 }
 
 /// Refuses a text with a variable that would be REAL.
-pub fn check_real_names(alloc: Global, text: &[Labelled]) -> Result<(), Refused>
+pub fn check_real_names(alloc: Global, text: &[Labelled], known: &Known) -> Result<(), Refused>
+    requires { IsKnownOf known.now (text_of text.now) }
     ensures { Passes (Cause.RealName ∷ []) (text_of text.now) result }
 {
-    refuse(Cause::RealName, line_at(text, real_name(alloc, text)?))
+    refuse(text, Cause::RealName, real_name(alloc, text, &known.names)?)
 }
 
 /// Refuses a text with a kind that doesn't suit.
-pub fn check_kinds(alloc: Global, text: &[Labelled]) -> Result<(), Refused>
+pub fn check_kinds(alloc: Global, text: &[Labelled], known: &Known) -> Result<(), Refused>
+    requires { IsKnownOf known.now (text_of text.now) }
     ensures { Passes (Cause.TypeClash ∷ []) (text_of text.now) result }
 {
-    refuse(Cause::TypeClash, line_at(text, unsuited_kind(alloc, text)?))
+    refuse(
+        text,
+        Cause::TypeClash,
+        unsuited_kind(alloc, text, &known.names)?,
+    )
 }
 
 /// Refuses a text with a GO TO that leads backwards, or into a block or loop.
-pub fn check_jumps(alloc: Global, text: &[Labelled]) -> Result<(), Refused>
+pub fn check_jumps(alloc: Global, text: &[Labelled], known: &Known) -> Result<(), Refused>
+    requires { IsKnownOf known.now (text_of text.now) }
     ensures { Passes (Cause.Jump ∷ []) (text_of text.now) result }
 {
-    refuse(Cause::Jump, line_at(text, wrong_jump(alloc, text)?))
+    refuse(text, Cause::Jump, wrong_jump(alloc, text, &known.ends)?)
 }
 
 /// Refuses a text with a DO variable that is wrong, or is set in its loop.
-pub fn check_do_variables(alloc: Global, text: &[Labelled]) -> Result<(), Refused>
+pub fn check_do_variables(alloc: Global, text: &[Labelled], known: &Known) -> Result<(), Refused>
+    requires { IsKnownOf known.now (text_of text.now) }
     ensures { Passes (Cause.DoVariable ∷ []) (text_of text.now) result }
 {
     refuse(
+        text,
         Cause::DoVariable,
-        line_at(text, wrong_do_variable(alloc, text)?),
+        wrong_do_variable(alloc, text, &known.names, &known.ends)?,
     )
 }

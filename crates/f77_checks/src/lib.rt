@@ -2,8 +2,10 @@
 #![tactic(auto)]
 
 mod causes;
+mod known;
 mod limits;
 mod places;
 mod refusals;
 
+pub use known::Known;
 pub use refusals::check;

@@ -6,10 +6,12 @@ ghost use Rattle.f77_grammar.specs.program.Text.{places};
 ghost use Rattle.f77_grammar.specs.program.Program77.{holds_in};
 ghost use Rattle.f77_syntax.specs.First.{first_index};
 ghost use Rattle.f77_syntax.specs.Views.{text_of};
+ghost use Rattle.f77_checks.specs.Known.{IsKnownOf};
 ghost use Rattle.f77_checks.specs.Limits.{limits, found_from, sooner_found};
 ghost use Rattle.f77_checks.specs.Outcomes.{Passes};
 
-use f77_constants::{bad_constant, constants_of, many_elements, reversed_bounds};
+use crate::known::Known;
+use f77_constants::{bad_constant, many_elements, reversed_bounds};
 use f77_jumps::many_blocks;
 use f77_names::many_names;
 use f77_syntax::Labelled;
@@ -45,19 +47,20 @@ fn sooner(a: Option<Breach>, b: Option<Breach>) -> Option<Breach>
 }
 
 // The first breach in the text, and at its place the one with the least word.
-fn first_breach(alloc: Global, text: &[Labelled]) -> Result<Option<Breach>, Memory>
+fn first_breach(alloc: Global, text: &[Labelled], known: &Known) -> Result<Option<Breach>, Memory>
+    requires { IsKnownOf known.now (text_of text.now) }
     ensures { IfOk result (λ breach.
         breach ≡ found_from (holds_in fortran77 (text_of text.now)) limits 0 (places (text_of text.now))) }
 {
-    let constants = constants_of(alloc, text)?;
-    let names = breach_at(Cause::ManyNames, many_names(alloc, text)?);
-    let blocks = breach_at(Cause::ManyBlocks, many_blocks(alloc, text)?);
+    let constants = &known.constants;
+    let names = breach_at(Cause::ManyNames, many_names(alloc, text, &known.names)?);
+    let blocks = breach_at(Cause::ManyBlocks, many_blocks(alloc, text, &known.ends)?);
     let bounds = breach_at(
         Cause::ReversedBounds,
-        reversed_bounds(alloc, text, &constants)?,
+        reversed_bounds(alloc, text, constants)?,
     );
-    let elements = breach_at(Cause::ManyElements, many_elements(alloc, text, &constants)?);
-    let values = breach_at(Cause::BadConstant, bad_constant(alloc, text, &constants)?);
+    let elements = breach_at(Cause::ManyElements, many_elements(alloc, text, constants)?);
+    let values = breach_at(Cause::BadConstant, bad_constant(alloc, text, constants)?);
     Ok(sooner(
         names,
         sooner(blocks, sooner(bounds, sooner(elements, values))),
@@ -66,10 +69,11 @@ fn first_breach(alloc: Global, text: &[Labelled]) -> Result<Option<Breach>, Memo
 
 /// Refuses a text at the first statement at which a limit is broken.
 #[tactic(auto, using(crate::proofs::Breaches::outcome_laws))]
-pub fn refuse_breach(alloc: Global, text: &[Labelled]) -> Result<(), Refused>
+pub fn refuse_breach(alloc: Global, text: &[Labelled], known: &Known) -> Result<(), Refused>
+    requires { IsKnownOf known.now (text_of text.now) }
     ensures { Passes limits (text_of text.now) result }
 {
-    match first_breach(alloc, text)? {
+    match first_breach(alloc, text, known)? {
         None => Ok(()),
         Some(breach) => Err(Refused::Refusal(breach.cause.at(text[breach.place].line))),
     }

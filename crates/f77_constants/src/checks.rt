@@ -11,7 +11,6 @@ ghost use Rattle.f77_constants.specs.Bounds.{lacks_value};
 
 use crate::bounds::sum_of;
 use crate::constants::Constants;
-use crate::parts::{definitions, entities};
 use f77_syntax::Labelled;
 use fv_tree::{ARRAY_ELEMENTS, Expr, Memory, Name};
 use std::alloc::Global;
@@ -26,7 +25,7 @@ pub fn reversed_bounds(
         → IfOk result (λ place. place ≡ first_index (has_reversed_bounds fortran77 s) (text_of text.now)) }
 {
     for (i, statement) in text.iter().enumerate() {
-        if constants.any_reversed(alloc, entities(&statement.statement))? {
+        if constants.any_reversed(alloc, statement.statement.entities())? {
             return Ok(Some(i));
         }
     }
@@ -44,7 +43,7 @@ pub fn many_elements(
 {
     let mut count = 0;
     for (i, statement) in text.iter().enumerate() {
-        let here = constants.all_elements(alloc, entities(&statement.statement))?;
+        let here = constants.all_elements(alloc, statement.statement.entities())?;
         count = sum_of(count, here);
         if count > ARRAY_ELEMENTS {
             return Ok(Some(i));
@@ -85,10 +84,10 @@ pub fn bad_constant(
         → IfOk result (λ place. place ≡ first_index (has_bad_constant fortran77 s) (text_of text.now)) }
 {
     for (i, statement) in text.iter().enumerate() {
-        if constants.lacks_value(definitions(&statement.statement)) {
+        if constants.lacks_value(statement.statement.definitions()) {
             return Ok(Some(i));
         }
-        if constants.any_bad(alloc, entities(&statement.statement))? {
+        if constants.any_bad(alloc, statement.statement.entities())? {
             return Ok(Some(i));
         }
     }

@@ -9,7 +9,6 @@ ghost use Rattle.f77_syntax.specs.Views.{constant_of, text_of};
 ghost use Rattle.f77_constants.specs.Constants.{value_in, store_of, AreValues};
 ghost use Rattle.f77_constants.specs.Steps.{kept};
 
-use crate::parts::definitions;
 use f77_syntax::Labelled;
 use fv_tree::{Expr, Fault, Memory, Name, Value};
 use indexmap::IndexMap;
@@ -115,7 +114,7 @@ pub fn constants_of(alloc: Global, text: &[Labelled]) -> Result<Constants, Memor
 {
     let mut constants = Constants::new(alloc);
     for statement in text {
-        constants.define_all(alloc, definitions(&statement.statement))?;
+        constants.define_all(alloc, statement.statement.definitions())?;
     }
     Ok(constants)
 }

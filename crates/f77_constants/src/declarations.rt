@@ -9,7 +9,7 @@ ghost use Rattle.f77_grammar.specs.program.Tree as tree;
 ghost use Rattle.f77_grammar.specs.program.Uses.{Use as Use', uses_in_text, is_variable, kind_of_name, or_integer};
 ghost use Rattle.f77_syntax.specs.First.{first_index};
 ghost use Rattle.f77_syntax.specs.Views.{bounds_of, entity_of, text_of};
-ghost use Rattle.f77_names.specs.UsesView.{plain_use};
+ghost use Rattle.f77_names.specs.UsesView.{plain_use, listed};
 ghost use Rattle.f77_names.specs.NameFacts.{is_variable_by};
 ghost use Rattle.f77_constants.specs.Constants.{AreValues, store_of};
 ghost use Rattle.f77_constants.specs.Declarations.{Ascends, AreFacts, narrowed, narrow, narrow_declaration};
@@ -18,8 +18,7 @@ ghost use Rattle.f77_constants.specs.Declarations.{narrow_declarations, dimensio
 ghost use Rattle.f77_constants.specs.Declarations.{HasDimensions, HaveDimensions};
 
 use crate::constants::Constants;
-use crate::parts::entities;
-use f77_names::{Facts, Names, Use, names_of, uses_in_text};
+use f77_names::{Facts, KnownNames, Names, Use};
 use f77_syntax::{Entity, Labelled};
 use fv_tree::{Decl, Dim, Expr, Extent, Fault, Kind, Memory, Name, Seq};
 use std::alloc::Global;
@@ -67,7 +66,7 @@ fn bounds_of_name(text: &[Labelled], name: Name) -> &[(Expr, Expr)]
     ensures { map bounds_of result.now ≡ plain.bounds_of_name (text_of text.now) name }
 {
     for statement in text {
-        let bounds = bounds_among(entities(&statement.statement), name);
+        let bounds = bounds_among(statement.statement.entities(), name);
         if !bounds.is_empty() {
             return bounds;
         }
@@ -206,8 +205,10 @@ impl Constants {
 pub fn declarations_of(
     alloc: Global,
     text: &[Labelled],
+    known: &KnownNames,
     constants: &Constants,
 ) -> Result<Seq<Decl>, Memory>
+    requires { listed known.now.uses ≡ uses_in_text (text_of text.now) }
     ensures dimensions { IfOk result HaveDimensions }
     ensures declarations { (s : Store) → AreValues constants.now s
         → first_index (plain.has_bad_constant fortran77 s) (text_of text.now) ≡ None
@@ -215,8 +216,6 @@ pub fn declarations_of(
         map view.declaration_of declarations
         ≡ all_declarations (uses_in_text (text_of text.now)) s (text_of text.now)) }
 {
-    let uses = uses_in_text(alloc, text)?;
-    let names = names_of(alloc, uses.as_slice())?;
-    let variables = variables(alloc, uses.as_slice(), &names)?;
-    constants.declare(alloc, text, &names, variables.as_slice())
+    let variables = variables(alloc, known.uses.as_slice(), &known.names)?;
+    constants.declare(alloc, text, &known.names, variables.as_slice())
 }

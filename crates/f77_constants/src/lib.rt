@@ -8,7 +8,6 @@ mod checks;
 mod constants;
 mod declarations;
 mod operations;
-mod parts;
 mod values;
 
 pub use checks::{bad_constant, many_elements, reversed_bounds};

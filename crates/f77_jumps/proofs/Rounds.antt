@@ -200,7 +200,7 @@ lasts_more xs i x ends lasts lasts' h e f g y =
 -- what is known of the DO variables says of the next statement what its place says
 pub misused_at : (xs : List Labelled') (i : ℕ) (x : Labelled') (ends : ℕ → Option ℕ) (v : LoopVariables) (s : Statement77) → i < length xs → x ≡ get_or xs i x
     → ((n : ℕ) → ends n ≡ last_with (reverse (text_of xs)) n)
-    → ((y : List ℕ) → facts_in v.names y ≡ facts_of nothing_known (uses_in_text (text_of xs)) y)
+    → ((y : List ℕ) → facts_in v.names.now y ≡ facts_of nothing_known (uses_in_text (text_of xs)) y)
     → ((y : List ℕ) → last_in v y ≡ last_of ends (passed (text_of xs) i) y)
     → s ≡ action (statement_of x.statement)
     → has_wrong_do_variable (uses_in_text (text_of xs)) (place_at (text_of xs) i (labelled_of x)) ≡ misuses_statement (scalar_in v) (round_at v i) s

@@ -13,7 +13,7 @@ abbrev pub last_in : LoopVariables → List ℕ → Option ℕ
 last_in v x = get bytes_eq v.lasts x
 
 abbrev pub scalar_in : LoopVariables → List ℕ → Bool
-scalar_in v x = is_scalar_by (facts_in v.names x)
+scalar_in v x = is_scalar_by (facts_in v.names.now x)
 
 -- a loop with this variable ends at the j-th statement or later
 abbrev pub round_at : LoopVariables → ℕ → List ℕ → Bool

@@ -5,16 +5,16 @@ ghost use Rattle.fv_tree.specs.Limits.{block_depth77};
 ghost use Rattle.f77_grammar.specs.program.Limits.{has_many_blocks};
 ghost use Rattle.f77_syntax.specs.First.{first_index};
 ghost use Rattle.f77_syntax.specs.Views.{text_of};
+ghost use Rattle.f77_structure.specs.LabelPlaces.{AreEndsIn};
 ghost use Rattle.f77_jumps.specs.Blocks.{opens_form, depth_with, with_end};
 
-use f77_structure::{Form, label_ends, place_under};
+use f77_structure::{Form, LabelPlaces, place_under};
 use f77_syntax::Labelled;
 use fv_tree::{BLOCK_DEPTH_77, Memory};
 use std::alloc::Global;
 
 // The blocks that are open: the number of block IFs, and for each loop the place of its last statement. They are few,
-// since
-// the search ends where too many would be open.
+// since the search ends where too many would be open.
 #[derive(Drop)]
 struct OpenBlocks {
     ifs: usize,
@@ -87,10 +87,14 @@ fn opens_block(form: Form) -> bool
 }
 
 /// The place of the first statement that opens a block within a hundred others.
-pub fn many_blocks(alloc: Global, text: &[Labelled]) -> Result<Option<usize>, Memory>
+pub fn many_blocks(
+    alloc: Global,
+    text: &[Labelled],
+    ends: &LabelPlaces,
+) -> Result<Option<usize>, Memory>
+    requires { AreEndsIn ends.now (text_of text.now) }
     ensures { IfOk result (λ place. place ≡ first_index has_many_blocks (text_of text.now)) }
 {
-    let ends = label_ends(alloc, text)?;
     let mut open_blocks = OpenBlocks::new(alloc);
     for (i, statement) in text.iter().enumerate() {
         let form = Form::of(&statement.statement);
@@ -98,7 +102,7 @@ pub fn many_blocks(alloc: Global, text: &[Labelled]) -> Result<Option<usize>, Me
         if open_blocks.refuses(form) {
             return Ok(Some(i));
         }
-        open_blocks.pass(form, place_under(form.begun(), &ends))?;
+        open_blocks.pass(form, place_under(form.begun(), ends))?;
     }
     Ok(None)
 }

@@ -12,7 +12,8 @@ ghost use Rattle.f77_grammar.specs.program.Uses as plain;
 ghost use Rattle.f77_grammar.specs.program.DoVariables.{has_wrong_do_variable};
 ghost use Rattle.f77_syntax.specs.First.{first_index};
 ghost use Rattle.f77_syntax.specs.Views.{statement_of, text_of};
-ghost use Rattle.f77_structure.specs.LabelPlaces.{place_of};
+ghost use Rattle.f77_structure.specs.LabelPlaces.{place_of, AreEndsIn};
+ghost use Rattle.f77_names.specs.UsesView.{listed};
 ghost use Rattle.f77_jumps.specs.LoopVariables.{last_in, scalar_in, round_at, loop_begun, end_with};
 ghost use Rattle.f77_jumps.specs.Misuses.{is_scalar_by, is_round, sets_round, reads_round, is_wrong_round};
 ghost use Rattle.f77_jumps.specs.Misuses.{misuses_output, misuses_outputs, misuses_input, misuses_inputs};
@@ -20,8 +21,8 @@ ghost use Rattle.f77_jumps.specs.Misuses.{misuses_statement};
 ghost use Rattle.f77_jumps.specs.Targets.{later};
 
 use crate::targets::later;
-use f77_names::{Facts, Names, names_of, uses_in_text};
-use f77_structure::{LabelPlaces, label_ends};
+use f77_names::{Facts, KnownNames, Names};
+use f77_structure::LabelPlaces;
 use f77_syntax::{Labelled, Stmt77};
 use fv_tree::{Expr, Item, Kind, Memory, Name, Ref, Seq};
 use indexmap::IndexMap;
@@ -85,17 +86,16 @@ fn loop_begun(statement: &Stmt77) -> Option<(u32, Name)>
 }
 
 // The names of a program, and the DO variables of the loops that have begun, each with the place at which the last of
-// its
-// loops ends: at a place that comes no later, it stands round it.
+// its loops ends: at a place that comes no later, it stands round it.
 #[derive(Drop)]
-struct LoopVariables {
-    names: Names,
+struct LoopVariables<'a> {
+    names: &'a Names,
     lasts: IndexMap<Name, usize>,
 }
 
-impl LoopVariables {
-    fn new(alloc: Global, names: Names) -> LoopVariables
-        ensures names { result.names ≡ names }
+impl<'a> LoopVariables<'a> {
+    fn new(alloc: Global, names: &'a Names) -> LoopVariables<'a>
+        ensures names { result.names.now ≡ names.now }
         ensures lasts { (x : List ℕ) → last_in result x ≡ None }
     {
         LoopVariables {
@@ -111,7 +111,7 @@ impl LoopVariables {
     }
 
     fn put(&mut self, name: Name, end: usize) -> Result<(), Memory>
-        ensures names { OnOk result (self.new.names ≡ self.old.names) }
+        ensures names { OnOk result (self.new.names.now ≡ self.old.names.now) }
         ensures lasts { OnOk result ((x : List ℕ)
             → last_in self.new x ≡ (if bytes_eq name x then Some end else last_in self.old x)) }
     {
@@ -122,7 +122,7 @@ impl LoopVariables {
     // A loop with this variable begins, which ends at `end`.
     #[tactic(auto, using(crate::proofs::Lasts::last_laws))]
     fn begin(&mut self, name: Name, end: Option<usize>) -> Result<(), Memory>
-        ensures names { OnOk result (self.new.names ≡ self.old.names) }
+        ensures names { OnOk result (self.new.names.now ≡ self.old.names.now) }
         ensures lasts { OnOk result ((x : List ℕ)
             → last_in self.new x ≡ later (last_in self.old x) (if bytes_eq x name then end else None)) }
     {
@@ -135,7 +135,7 @@ impl LoopVariables {
     // What is known behind a statement; `ends` gives the place of the last statement with a label.
     #[tactic(auto, using(crate::proofs::Lasts::last_laws))]
     fn pass(&mut self, statement: &Stmt77, ends: &LabelPlaces) -> Result<(), Memory>
-        ensures names { OnOk result (self.new.names ≡ self.old.names) }
+        ensures names { OnOk result (self.new.names.now ≡ self.old.names.now) }
         ensures lasts { OnOk result ((x : List ℕ) → last_in self.new x
             ≡ later (last_in self.old x) (end_with (place_of ends.now) (loop_begun (statement_of statement.now)) x)) }
     {
@@ -176,7 +176,7 @@ impl LoopVariables {
     }
 }
 
-impl LoopVariables {
+impl LoopVariables<'_> {
     // A scalar is set that is a DO variable round it.
     #[tactic(auto, using(crate::proofs::Misuses::target_laws))]
     fn sets_round(&self, target: &Ref, at: usize, lists: &[Name]) -> bool
@@ -322,20 +322,24 @@ impl LoopVariables {
 }
 
 /// The place of the first statement that has a wrong DO variable, or sets one in the range of its loop.
-pub fn wrong_do_variable(alloc: Global, text: &[Labelled]) -> Result<Option<usize>, Memory>
+pub fn wrong_do_variable(
+    alloc: Global,
+    text: &[Labelled],
+    known: &KnownNames,
+    ends: &LabelPlaces,
+) -> Result<Option<usize>, Memory>
+    requires names { listed known.now.uses ≡ plain.uses_in_text (text_of text.now) }
+    requires ends { AreEndsIn ends.now (text_of text.now) }
     ensures { IfOk result (λ place. place ≡ first_index (has_wrong_do_variable (plain.uses_in_text (text_of text.now)))
         (text_of text.now)) }
 {
-    let ends = label_ends(alloc, text)?;
-    let uses = uses_in_text(alloc, text)?;
-    let names = names_of(alloc, uses.as_slice())?;
-    let mut variables = LoopVariables::new(alloc, names);
+    let mut variables = LoopVariables::new(alloc, &known.names);
     for (i, statement) in text.iter().enumerate() {
         let wrong = variables.misuses(alloc, statement.statement.action(), i)?;
         if wrong {
             return Ok(Some(i));
         }
-        variables.pass(&statement.statement, &ends)?;
+        variables.pass(&statement.statement, ends)?;
     }
     Ok(None)
 }

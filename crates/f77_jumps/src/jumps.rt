@@ -3,11 +3,12 @@ ghost use Rattle.std.specs.Prelude.{◌≡◌, IfOk};
 ghost use Rattle.f77_grammar.specs.program.Jumps.{has_wrong_jump};
 ghost use Rattle.f77_syntax.specs.First.{first_index};
 ghost use Rattle.f77_syntax.specs.Views.{text_of};
+ghost use Rattle.f77_structure.specs.LabelPlaces.{AreEndsIn};
 ghost use Rattle.f77_jumps.specs.LabelTargets.{target_in};
 ghost use Rattle.f77_jumps.specs.Targets.{jumps_wrongly_to};
 
 use crate::targets::{LabelTargets, targets_of};
-use f77_structure::{Form, here_if, label_ends};
+use f77_structure::{Form, LabelPlaces, here_if};
 use f77_syntax::Labelled;
 use fv_tree::Memory;
 use std::alloc::Global;
@@ -31,11 +32,15 @@ impl LabelTargets {
 
 /// The place of the first statement with a GO TO that goes backwards, into a block or loop, or to a statement that no
 /// GO TO leads to.
-pub fn wrong_jump(alloc: Global, text: &[Labelled]) -> Result<Option<usize>, Memory>
+pub fn wrong_jump(
+    alloc: Global,
+    text: &[Labelled],
+    ends: &LabelPlaces,
+) -> Result<Option<usize>, Memory>
+    requires { AreEndsIn ends.now (text_of text.now) }
     ensures { IfOk result (λ place. place ≡ first_index has_wrong_jump (text_of text.now)) }
 {
-    let ends = label_ends(alloc, text)?;
-    let targets = targets_of(alloc, text, &ends)?;
+    let targets = targets_of(alloc, text, ends)?;
     let mut behind = LabelTargets::new(alloc);
     let mut found = None;
     let mut i = text.len();

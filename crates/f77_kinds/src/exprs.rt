@@ -6,17 +6,17 @@ ghost use Rattle.fv_tree.specs.declared.exprs.Expr.TheVariants as exprs;
 ghost use Rattle.fv_tree.specs.Functions.{function_named};
 ghost use Rattle.f77_grammar.specs.program.Uses as plain;
 ghost use Rattle.f77_grammar.specs.program.Kinds as kinds;
-ghost use Rattle.f77_names.specs.UsesView.{listed};
+ghost use Rattle.f77_kinds.specs.KnownUses.{known_uses};
 
 use crate::kind_check::KindCheck;
 use crate::operators::{binary_gives, call_gives, same_kind, takes_so_many, unary_gives};
 use fv_tree::{Expr, Kind, Name, Ref, Seq, Sub};
 
-impl KindCheck {
+impl KindCheck<'_> {
     // An element of an array of this kind.
     fn is_element(&self, name: Name, kind: Kind) -> bool
-        ensures { result ≡ (plain.is_array (listed self.now.uses) name
-            && kinds.same_kind (plain.kind_of_name (listed self.now.uses) name) kind) }
+        ensures { result ≡ (plain.is_array (known_uses self.now) name
+            && kinds.same_kind (plain.kind_of_name (known_uses self.now) name) kind) }
     {
         self.is_array(name) && same_kind(self.kind(name), kind)
     }
@@ -24,7 +24,7 @@ impl KindCheck {
     // A call with so many arguments: it is INTEGER.
     #[tactic(auto, using(crate::proofs::NameLaws::name_laws))]
     fn is_call(&self, name: Name, count: usize, kind: Kind) -> bool
-        ensures { result ≡ (plain.is_function (listed self.now.uses) name
+        ensures { result ≡ (plain.is_function (known_uses self.now) name
             && kinds.takes_so_many (function_named name) count && kinds.same_kind Kind.Integer kind) }
     {
         takes_so_many(self.function(name), count) && same_kind(Kind::Integer, kind)
@@ -33,7 +33,7 @@ impl KindCheck {
     // A name with so many subscripts or arguments in parentheses; 0: it stands alone, and is no whole array.
     #[tactic(auto, using(crate::proofs::NameLaws::name_laws))]
     fn name_has_kind(&self, name: Name, count: usize, kind: Kind) -> bool
-        ensures { result ≡ kinds.name_has_kind (listed self.now.uses) name count kind }
+        ensures { result ≡ kinds.name_has_kind (known_uses self.now) name count kind }
     {
         if count == 0 {
             return !self.is_array(name) && same_kind(self.kind(name), kind);
@@ -45,7 +45,7 @@ impl KindCheck {
     #[cycle(kinds)]
     #[tactic(auto, using(crate::proofs::KindLaws::kind_laws))]
     pub fn has_kind(&self, expr: &Expr, kind: Kind) -> bool
-        ensures { result ≡ kinds.has_kind (listed self.now.uses) (expression_of expr.now) kind }
+        ensures { result ≡ kinds.has_kind (known_uses self.now) (expression_of expr.now) kind }
     {
         match expr {
             Expr::Int(_) => same_kind(Kind::Integer, kind),
@@ -72,7 +72,7 @@ impl KindCheck {
     #[cycle(kinds)]
     #[tactic(auto, using(crate::proofs::KindLaws::kind_laws))]
     fn item_has_kind(&self, item: &Ref, kind: Kind) -> bool
-        ensures { result ≡ kinds.has_kind (listed self.now.uses) (expression_of (exprs.Item item.now)) kind }
+        ensures { result ≡ kinds.has_kind (known_uses self.now) (expression_of (exprs.Item item.now)) kind }
     {
         self.name_has_kind(item.name, item.subs.len(), kind) && self.are_subscripts(&item.subs)
     }
@@ -80,7 +80,7 @@ impl KindCheck {
     // The arguments are INTEGER values.
     #[cycle(kinds)]
     fn are_arguments(&self, arguments: &Seq<Expr>) -> bool
-        ensures { result ≡ kinds.are_arguments (listed self.now.uses) (expressions (map expression_of arguments.now)) }
+        ensures { result ≡ kinds.are_arguments (known_uses self.now) (expressions (map expression_of arguments.now)) }
     {
         for argument in arguments.as_slice() {
             if !self.has_kind(argument, Kind::Integer) {
@@ -93,7 +93,7 @@ impl KindCheck {
     #[cycle(kinds)]
     #[tactic(auto, using(crate::proofs::KindLaws::kind_laws))]
     fn is_subscript(&self, sub: &Sub) -> bool
-        ensures { result ≡ kinds.is_subscript (listed self.now.uses) (subscript_of sub.now) }
+        ensures { result ≡ kinds.is_subscript (known_uses self.now) (subscript_of sub.now) }
     {
         match sub {
             Sub::One(expr) => self.has_kind(expr, Kind::Integer),
@@ -104,7 +104,7 @@ impl KindCheck {
     /// Whether the subscripts are INTEGER values.
     #[cycle(kinds)]
     pub fn are_subscripts(&self, subs: &Seq<Sub>) -> bool
-        ensures { result ≡ kinds.are_subscripts (listed self.now.uses) (subscripts (map subscript_of subs.now)) }
+        ensures { result ≡ kinds.are_subscripts (known_uses self.now) (subscripts (map subscript_of subs.now)) }
     {
         for sub in subs.as_slice() {
             if !self.is_subscript(sub) {

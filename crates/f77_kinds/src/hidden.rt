@@ -4,16 +4,17 @@ ghost use Rattle.std.specs.List.{list_any};
 ghost use Rattle.fv_tree.specs.Names.{IsName};
 ghost use Rattle.f77_grammar.specs.program.Uses as plain;
 ghost use Rattle.f77_grammar.specs.program.Kinds as kinds;
-ghost use Rattle.f77_names.specs.UsesView.{listed, plain_use};
+ghost use Rattle.f77_names.specs.UsesView.{plain_use};
+ghost use Rattle.f77_kinds.specs.KnownUses.{known_uses};
 
 use crate::kind_check::KindCheck;
 use f77_names::Use;
 use fv_tree::{Fun, Name};
 
-impl KindCheck {
+impl KindCheck<'_> {
     // A variable has the name that is so spelled.
     fn has_variable(&self, text: &[u8]) -> bool
-        ensures { IsName text.now → result ≡ plain.is_variable (listed self.now.uses) text.now }
+        ensures { IsName text.now → result ≡ plain.is_variable (known_uses self.now) text.now }
     {
         match Name::read(text) {
             Some(name) => self.is_variable(name),
@@ -24,7 +25,7 @@ impl KindCheck {
     // The function is called by another name than Fortran 90 has for it, and that one is a variable's.
     #[tactic(auto, using(crate::proofs::HiddenLaws::hidden_laws))]
     fn is_hidden(&self, name: Name, function: Fun) -> bool
-        ensures { result ≡ kinds.is_hidden_name (listed self.now.uses) name (Some function) }
+        ensures { result ≡ kinds.is_hidden_name (known_uses self.now) name (Some function) }
     {
         let spelled = function.spell90().as_bytes();
         name.text() != spelled && self.has_variable(spelled)
@@ -33,7 +34,7 @@ impl KindCheck {
     // A function is called that is hidden.
     #[tactic(auto, using(crate::proofs::HiddenLaws::call_laws))]
     fn calls_hidden(&self, used: &Use) -> bool
-        ensures { result ≡ kinds.calls_hidden (listed self.now.uses) (plain_use used.now) }
+        ensures { result ≡ kinds.calls_hidden (known_uses self.now) (plain_use used.now) }
     {
         match self.names.called(used) {
             Some(function) => self.is_hidden(used.name, function),
@@ -43,7 +44,7 @@ impl KindCheck {
 
     /// Whether one of the uses calls a hidden function.
     pub fn call_hidden(&self, uses: &[Use]) -> bool
-        ensures { result ≡ list_any (kinds.calls_hidden (listed self.now.uses)) (map plain_use uses.now) }
+        ensures { result ≡ list_any (kinds.calls_hidden (known_uses self.now)) (map plain_use uses.now) }
     {
         for used in uses {
             if self.calls_hidden(used) {

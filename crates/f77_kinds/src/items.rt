@@ -4,21 +4,21 @@ ghost use Rattle.fv_tree.specs.Plain.{items};
 ghost use Rattle.fv_tree.specs.View.{expression_of, item_of};
 ghost use Rattle.fv_tree.specs.declared.exprs.Expr.TheVariants as exprs;
 ghost use Rattle.f77_grammar.specs.program.Kinds as kinds;
-ghost use Rattle.f77_names.specs.UsesView.{listed};
+ghost use Rattle.f77_kinds.specs.KnownUses.{known_uses};
 
 use crate::kind_check::KindCheck;
 use fv_tree::{Expr, Item, Kind, Ref, Seq};
 
-impl KindCheck {
+impl KindCheck<'_> {
     fn has_some_kind(&self, expr: &Expr) -> bool
-        ensures { result ≡ kinds.has_some_kind (listed self.now.uses) (expression_of expr.now) }
+        ensures { result ≡ kinds.has_some_kind (known_uses self.now) (expression_of expr.now) }
     {
         self.has_kind(expr, Kind::Integer) || self.has_kind(expr, Kind::Logical)
     }
 
     /// Whether three parameters of a DO loop are INTEGER values.
     pub fn are_numbers(&self, first: &Expr, last: &Expr, step: &Expr) -> bool
-        ensures { result ≡ kinds.are_numbers (listed self.now.uses) (expression_of first.now) (expression_of last.now)
+        ensures { result ≡ kinds.are_numbers (known_uses self.now) (expression_of first.now) (expression_of last.now)
             (expression_of step.now) }
     {
         self.has_kind(first, Kind::Integer)
@@ -29,7 +29,7 @@ impl KindCheck {
     // A name alone may be a whole array.
     #[tactic(auto, using(crate::proofs::ItemLaws::item_laws))]
     fn suits_output(&self, expr: &Expr) -> bool
-        ensures { result ≡ kinds.suits_output (listed self.now.uses) (expression_of expr.now) }
+        ensures { result ≡ kinds.suits_output (known_uses self.now) (expression_of expr.now) }
     {
         match expr {
             Expr::Item(item) => item.subs.is_empty() || self.has_some_kind(expr),
@@ -49,7 +49,7 @@ impl KindCheck {
     // A scalar, a whole array or an element.
     #[tactic(auto, using(crate::proofs::ItemLaws::item_laws))]
     fn is_read_into(&self, item: &Ref) -> bool
-        ensures { result ≡ kinds.suits_input (listed self.now.uses) (expression_of (exprs.Item item.now)) }
+        ensures { result ≡ kinds.suits_input (known_uses self.now) (expression_of (exprs.Item item.now)) }
     {
         if item.subs.is_empty() {
             return true;
@@ -59,7 +59,7 @@ impl KindCheck {
 
     #[tactic(auto, using(crate::proofs::ItemLaws::item_laws))]
     fn suits_input(&self, expr: &Expr) -> bool
-        ensures { result ≡ kinds.suits_input (listed self.now.uses) (expression_of expr.now) }
+        ensures { result ≡ kinds.suits_input (known_uses self.now) (expression_of expr.now) }
     {
         match expr {
             Expr::Item(item) => self.is_read_into(item),
@@ -79,7 +79,7 @@ impl KindCheck {
     #[cycle(outputs)]
     #[tactic(auto, using(crate::proofs::ItemLaws::item_laws))]
     fn suits_output_item(&self, item: &Item) -> bool
-        ensures { result ≡ kinds.suits_output_item (listed self.now.uses) (item_of item.now) }
+        ensures { result ≡ kinds.suits_output_item (known_uses self.now) (item_of item.now) }
     {
         match item {
             Item::One(expr) => self.suits_output(expr),
@@ -93,7 +93,7 @@ impl KindCheck {
     /// Whether an output list suits.
     #[cycle(outputs)]
     pub fn suits_outputs(&self, list: &Seq<Item>) -> bool
-        ensures { result ≡ kinds.suits_output_items (listed self.now.uses) (items (map item_of list.now)) }
+        ensures { result ≡ kinds.suits_output_items (known_uses self.now) (items (map item_of list.now)) }
     {
         for item in list.as_slice() {
             if !self.suits_output_item(item) {
@@ -106,7 +106,7 @@ impl KindCheck {
     #[cycle(inputs)]
     #[tactic(auto, using(crate::proofs::ItemLaws::item_laws))]
     fn suits_input_item(&self, item: &Item) -> bool
-        ensures { result ≡ kinds.suits_input_item (listed self.now.uses) (item_of item.now) }
+        ensures { result ≡ kinds.suits_input_item (known_uses self.now) (item_of item.now) }
     {
         match item {
             Item::One(expr) => self.suits_input(expr),
@@ -120,7 +120,7 @@ impl KindCheck {
     /// Whether an input list suits.
     #[cycle(inputs)]
     pub fn suits_inputs(&self, list: &Seq<Item>) -> bool
-        ensures { result ≡ kinds.suits_input_items (listed self.now.uses) (items (map item_of list.now)) }
+        ensures { result ≡ kinds.suits_input_items (known_uses self.now) (items (map item_of list.now)) }
     {
         for item in list.as_slice() {
             if !self.suits_input_item(item) {

@@ -4,22 +4,22 @@ ghost use Rattle.fv_tree.specs.View.{expression_of, reference_of};
 ghost use Rattle.f77_grammar.specs.Statement77 as plain;
 ghost use Rattle.f77_grammar.specs.program.Kinds as kinds;
 ghost use Rattle.f77_syntax.specs.Views.{bounds_of, entity_of, constant_of, statement_of};
-ghost use Rattle.f77_names.specs.UsesView.{listed};
+ghost use Rattle.f77_kinds.specs.KnownUses.{known_uses};
 
 use crate::kind_check::KindCheck;
 use f77_syntax::{Entity, Stmt77};
 use fv_tree::{Expr, Kind, Name, Ref, Seq};
 
-impl KindCheck {
+impl KindCheck<'_> {
     // The lower and the upper bound of a dimension are INTEGER values.
     fn is_integer_bound(&self, bound: &(Expr, Expr)) -> bool
-        ensures { result ≡ kinds.are_integer_bounds (listed self.now.uses) (bounds_of bound.now ∷ []) }
+        ensures { result ≡ kinds.are_integer_bounds (known_uses self.now) (bounds_of bound.now ∷ []) }
     {
         self.has_kind(&bound.0, Kind::Integer) && self.has_kind(&bound.1, Kind::Integer)
     }
 
     fn are_integer_bounds(&self, bounds: &Seq<(Expr, Expr)>) -> bool
-        ensures { result ≡ kinds.are_integer_bounds (listed self.now.uses) (map bounds_of bounds.now) }
+        ensures { result ≡ kinds.are_integer_bounds (known_uses self.now) (map bounds_of bounds.now) }
     {
         for bound in bounds.as_slice() {
             if !self.is_integer_bound(bound) {
@@ -30,7 +30,7 @@ impl KindCheck {
     }
 
     fn have_integer_bounds(&self, entities: &Seq<Entity>) -> bool
-        ensures { result ≡ kinds.has_integer_bounds (listed self.now.uses) (map entity_of entities.now) }
+        ensures { result ≡ kinds.has_integer_bounds (known_uses self.now) (map entity_of entities.now) }
     {
         for entity in entities.as_slice() {
             if !self.are_integer_bounds(&entity.dims) {
@@ -42,7 +42,7 @@ impl KindCheck {
 
     // In PARAMETER each value has the kind of its name.
     fn suit_constants(&self, constants: &Seq<(Name, Expr)>) -> bool
-        ensures { result ≡ kinds.suits (listed self.now.uses) (plain.Constants (map constant_of constants.now)) }
+        ensures { result ≡ kinds.suits (known_uses self.now) (plain.Constants (map constant_of constants.now)) }
     {
         for constant in constants.as_slice() {
             if !self.has_kind(&constant.1, self.kind(constant.0)) {
@@ -55,7 +55,7 @@ impl KindCheck {
     // A scalar, or an element with so many subscripts: no whole array and no call.
     #[tactic(auto, using(crate::proofs::StatementLaws::stored_laws))]
     fn is_stored_into(&self, name: Name, count: usize) -> bool
-        ensures { result ≡ kinds.is_stored_into (listed self.now.uses) name count }
+        ensures { result ≡ kinds.is_stored_into (known_uses self.now) name count }
     {
         if count == 0 {
             return !self.is_array(name);
@@ -66,7 +66,7 @@ impl KindCheck {
     // What is stored into is no call and no whole array, and has the kind of the right side.
     #[tactic(auto, using(crate::proofs::StatementLaws::assignment_laws))]
     fn suits_assignment(&self, left: &Ref, right: &Expr) -> bool
-        ensures { result ≡ kinds.suits (listed self.now.uses)
+        ensures { result ≡ kinds.suits (known_uses self.now)
             (plain.Assign (reference_of left.now) (expression_of right.now)) }
     {
         self.is_stored_into(left.name, left.subs.len())
@@ -77,7 +77,7 @@ impl KindCheck {
     /// Whether all in the statement suits, also in the inner one of a logical IF.
     #[tactic(auto, using(crate::proofs::StatementLaws::statement_laws))]
     pub fn suits(&self, statement: &Stmt77) -> bool
-        ensures { result ≡ kinds.suits (listed self.now.uses) (statement_of statement.now) }
+        ensures { result ≡ kinds.suits (known_uses self.now) (statement_of statement.now) }
     {
         match statement {
             Stmt77::Declare(_, entities) => self.have_integer_bounds(entities),

@@ -6,17 +6,18 @@ ghost use Rattle.f77_grammar.specs.program.Kinds as kinds;
 ghost use Rattle.f77_syntax.specs.First.{first_index};
 ghost use Rattle.f77_syntax.specs.Views.{statement_of, text_of};
 ghost use Rattle.f77_names.specs.UsesView.{listed};
+ghost use Rattle.f77_kinds.specs.KnownUses.{known_uses};
 
 use crate::kind_check::KindCheck;
-use f77_names::uses_of;
+use f77_names::{KnownNames, uses_of};
 use f77_syntax::{Labelled, Stmt77};
 use fv_tree::Memory;
 use std::alloc::Global;
 
-impl KindCheck {
+impl KindCheck<'_> {
     // The statement calls a function that is hidden.
     fn calls_hidden_in(&self, alloc: Global, statement: &Stmt77) -> Result<bool, Memory>
-        ensures { IfOk result (λ hidden. hidden ≡ list_any (kinds.calls_hidden (listed self.now.uses))
+        ensures { IfOk result (λ hidden. hidden ≡ list_any (kinds.calls_hidden (known_uses self.now))
             (plain.uses_of (statement_of statement.now))) }
     {
         let uses = uses_of(alloc, statement)?;
@@ -26,8 +27,8 @@ impl KindCheck {
     // A kind in the statement doesn't suit, or it calls a function that is hidden.
     fn is_unsuited(&self, alloc: Global, statement: &Stmt77) -> Result<bool, Memory>
         ensures { IfOk result (λ unsuited. unsuited
-            ≡ (not (kinds.suits (listed self.now.uses) (statement_of statement.now))
-            || list_any (kinds.calls_hidden (listed self.now.uses)) (plain.uses_of (statement_of statement.now)))) }
+            ≡ (not (kinds.suits (known_uses self.now) (statement_of statement.now))
+            || list_any (kinds.calls_hidden (known_uses self.now)) (plain.uses_of (statement_of statement.now)))) }
     {
         if !self.suits(statement) {
             return Ok(true);
@@ -38,11 +39,16 @@ impl KindCheck {
 
 /// The place of the first statement in which a kind doesn't suit, or a function is called whose Fortran 90 name a
 /// variable hides.
-pub fn unsuited_kind(alloc: Global, text: &[Labelled]) -> Result<Option<usize>, Memory>
+pub fn unsuited_kind(
+    alloc: Global,
+    text: &[Labelled],
+    known: &KnownNames,
+) -> Result<Option<usize>, Memory>
+    requires { listed known.now.uses ≡ plain.uses_in_text (text_of text.now) }
     ensures { IfOk result (λ place. place
         ≡ first_index (kinds.has_unsuited_kind (plain.uses_in_text (text_of text.now))) (text_of text.now)) }
 {
-    let check = KindCheck::of_text(alloc, text)?;
+    let check = KindCheck { names: known };
     for (i, statement) in text.iter().enumerate() {
         if check.is_unsuited(alloc, &statement.statement)? {
             return Ok(Some(i));

@@ -1,5 +1,5 @@
 -- What the uses of a name say of it is what the definitions say.
-use Rattle.std.proofs.Common.{◌≡◌, ℕ, zero, suc, ◌+◌, ◌<◌, Bool, true, false, not, ◌||◌, ◌&&◌, cond, Option, Some, None, is_some, is_none, List, [], ◌∷◌, ◌++◌, map, take, length, get_or, refl, sym, ap, ◌∙◌}
+use Rattle.std.proofs.Common.{◌≡◌, ℕ, zero, suc, ◌+◌, ◌<◌, Bool, true, false, not, ◌||◌, ◌&&◌, cond, Option, Some, None, is_some, is_none, List, [], ◌∷◌, ◌++◌, map, take, length, get_or, refl, sym, ap, subst, ◌∙◌}
 use Rattle.std.specs.Option.{unwrap_or}
 use Rattle.std.specs.Str.{bytes_eq}
 use Rattle.std.specs.List.{list_any}
@@ -12,11 +12,12 @@ use Rattle.f77_names.specs.declared.uses.Use.{Use as Use'}
 use Rattle.fv_meaning.specs.Names.{is_implicit_integer}
 use Rattle.f77_grammar.specs.program.Declarations.{is_real, has_real_name}
 use Rattle.f77_names.specs.declared.names.Names.{Names}
+use Rattle.f77_names.specs.declared.known_names.KnownNames.{KnownNames}
 use Rattle.f77_syntax.specs.declared.statements.Labelled.{Labelled as Labelled'}
 use Rattle.f77_names.specs.NameFacts.{nothing_known, first_given, facts_with, facts_of, facts_in, AreNamesOf, is_variable_by, is_array_by, is_function_by, kind_by, dimensions_by, function_by, function_of, is_real_by, is_real_use}
 use Rattle.f77_syntax.specs.Views.{text_of, labelled_of, statement_of}
 use Rattle.f77_syntax.specs.Walk.{place_at}
-use Rattle.f77_names.specs.UsesView.{plain_use}
+use Rattle.f77_names.specs.UsesView.{plain_use, listed}
 use Rattle.f77_names.proofs.UseLaws.{one_more}
 use Rattle.fv_tree.specs.Functions.{function_named}
 
@@ -308,12 +309,14 @@ real_uses names us (v ∷ vs) h =
     ap (λ b. (not (is_title v.role) && b) || list_any (is_real_use names) vs) (ap (λ f. is_real_by f v.name) (h v.name) ∙ real_as_known us v.name)
     ∙ ap (λ b. (not (is_title v.role) && is_real us v.name) || b) (real_uses names us vs h)
 
+-- the names of a program, by its uses
+pub names_known : (k : KnownNames) (us : List Use) → listed k.uses ≡ us → AreNamesOf k.names us
+names_known k us e = subst (AreNamesOf k.names) e k.known
+
 -- what the names say of the uses in a statement is what its place says
-pub real_at : (xs : List Labelled') (i : ℕ) (x : Labelled') (names : Names) (here all : List Use) (known : List Use') (uses : List Use')
-    → ((y : List ℕ) → facts_in names y ≡ facts_of nothing_known (map plain_use known) y) → map plain_use known ≡ all → all ≡ uses_in_text (text_of xs)
-    → map plain_use uses ≡ here → here ≡ [] ++ uses_of (statement_of x.statement)
+pub real_at : (xs : List Labelled') (i : ℕ) (x : Labelled') (names : Names) (uses : List Use')
+    → AreNamesOf names (uses_in_text (text_of xs)) → map plain_use uses ≡ uses_of (statement_of x.statement)
     → list_any (is_real_use names) (map plain_use uses) ≡ has_real_name (uses_in_text (text_of xs)) (place_at (text_of xs) i (labelled_of x))
-real_at xs i x names here all known uses h a b c d =
-    real_uses names (map plain_use known) (map plain_use uses) h
-    ∙ ap (λ us. list_any (λ (u : Use). not (is_title u.role) && is_real us u.name) (map plain_use uses)) (a ∙ b)
-    ∙ ap (list_any (λ (u : Use). not (is_title u.role) && is_real (uses_in_text (text_of xs)) u.name)) (c ∙ d)
+real_at xs i x names uses h e =
+    real_uses names (uses_in_text (text_of xs)) (map plain_use uses) h
+    ∙ ap (list_any (λ (u : Use). not (is_title u.role) && is_real (uses_in_text (text_of xs)) u.name)) e

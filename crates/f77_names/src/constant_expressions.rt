@@ -9,7 +9,6 @@ ghost use Rattle.f77_names.specs.Seen.{is_unknown_use, AreDefined};
 ghost use Rattle.f77_names.specs.UsesView.{role_of, plain_use, listed};
 
 use crate::names::Names;
-use crate::statement_parts::{definitions, entities};
 use crate::uses::{Role, Use, Uses};
 use f77_syntax::{Entity, Stmt77};
 use fv_tree::{Expr, Fun, Memory, Name};
@@ -106,8 +105,8 @@ impl Names {
         ensures { IfOk result (λ unknown. (defined : List (List ℕ)) → AreDefined self.now defined
             → unknown ≡ has_unknown_constant defined (statement_of statement.now)) }
     {
-        let in_bounds = self.bounds_from_unknown(alloc, entities(statement))?;
-        let in_values = self.defines_from_unknown(alloc, definitions(statement))?;
+        let in_bounds = self.bounds_from_unknown(alloc, statement.entities())?;
+        let in_values = self.defines_from_unknown(alloc, statement.definitions())?;
         Ok(in_bounds || in_values)
     }
 }

@@ -5,10 +5,12 @@ ghost use Rattle.f77_grammar.specs.program.Limits.{has_many_names};
 ghost use Rattle.f77_syntax.specs.First.{first_index};
 ghost use Rattle.f77_syntax.specs.Views.{text_of};
 ghost use Rattle.f77_names.specs.Counted.{Holds, Counts, is_counted_by};
-ghost use Rattle.f77_names.specs.UsesView.{plain_use};
+ghost use Rattle.f77_names.specs.UsesView.{plain_use, listed};
 
-use crate::names::{Facts, Names, names_of_text};
-use crate::uses::{Use, Uses};
+use crate::known_names::KnownNames;
+use crate::names::{Facts, Names};
+use crate::statement_uses::uses_of;
+use crate::uses::Use;
 use f77_syntax::Labelled;
 use fv_tree::{Memory, Name, PROGRAM_NAMES_77};
 use indexmap::IndexSet;
@@ -63,16 +65,19 @@ impl Counted {
 }
 
 /// The place of the first statement up to which a program has more than 1,000 variables and symbolic constants.
-pub fn many_names(alloc: Global, text: &[Labelled]) -> Result<Option<usize>, Memory>
+pub fn many_names(
+    alloc: Global,
+    text: &[Labelled],
+    known: &KnownNames,
+) -> Result<Option<usize>, Memory>
+    requires { listed known.now.uses ≡ plain.uses_in_text (text_of text.now) }
     ensures { IfOk result (λ place. place ≡ first_index (has_many_names (plain.uses_in_text (text_of text.now)))
         (text_of text.now)) }
 {
-    let names = names_of_text(alloc, text)?;
     let mut counted = Counted::new(alloc);
     for (i, statement) in text.iter().enumerate() {
-        let mut here = Uses::new(alloc);
-        here.add_statement(&statement.statement)?;
-        counted.note_all(&names, here.as_slice())?;
+        let here = uses_of(alloc, &statement.statement)?;
+        counted.note_all(&known.names, here.as_slice())?;
         if counted.are_many() {
             return Ok(Some(i));
         }

@@ -11,11 +11,12 @@ ghost use Rattle.f77_syntax.specs.Views.{text_of, statement_of};
 ghost use Rattle.f77_names.specs.Seen.{is_again_by, bears_title_by, suits_list_by, is_misused_by, is_misused_use};
 ghost use Rattle.f77_names.specs.Seen.{Declares, Passes};
 ghost use Rattle.f77_names.specs.NameFacts.{facts_in};
-ghost use Rattle.f77_names.specs.UsesView.{role_of, plain_use};
+ghost use Rattle.f77_names.specs.UsesView.{role_of, plain_use, listed};
 
-use crate::names::{Facts, Names, names_of_text};
-use crate::statement_parts::is_declaration;
-use crate::uses::{Role, Use, Uses};
+use crate::known_names::KnownNames;
+use crate::names::{Facts, Names};
+use crate::statement_uses::uses_of;
+use crate::uses::{Role, Use};
 use f77_syntax::{Labelled, Stmt77};
 use fv_tree::{Fun, Memory, Name};
 use std::alloc::Global;
@@ -91,7 +92,7 @@ impl Names {
         ensures { result ≡ (not (is_declaration (statement_of statement.now))
             && list_any (is_misused_use self.now) (map plain_use uses.now)) }
     {
-        !is_declaration(statement) && self.has_misused(uses)
+        !statement.is_declaration() && self.has_misused(uses)
     }
 
     // The program's name is so spelled.
@@ -151,8 +152,7 @@ impl Names {
     fn is_wrong(&mut self, alloc: Global, names: &Names, statement: &Stmt77) -> Result<bool, Memory>
         ensures { IfOk result (Passes names.now self.old self.new (statement_of statement.now)) }
     {
-        let mut here = Uses::new(alloc);
-        here.add_statement(statement)?;
+        let here = uses_of(alloc, statement)?;
         let uses = here.as_slice();
         if names.has_misused_name(statement, uses) {
             return Ok(true);
@@ -169,14 +169,18 @@ impl Names {
 
 /// The place of the first statement that declares a name again or as two things, has the program's name as another
 /// name, defines by a name that isn't defined before it, or has a name that doesn't suit what it is declared as.
-pub fn wrong_declaration(alloc: Global, text: &[Labelled]) -> Result<Option<usize>, Memory>
+pub fn wrong_declaration(
+    alloc: Global,
+    text: &[Labelled],
+    known: &KnownNames,
+) -> Result<Option<usize>, Memory>
+    requires { listed known.now.uses ≡ plain.uses_in_text (text_of text.now) }
     ensures { IfOk result (λ place. place ≡ first_index (is_declared_wrongly (plain.uses_in_text (text_of text.now)))
         (text_of text.now)) }
 {
-    let names = names_of_text(alloc, text)?;
     let mut before = Names::new(alloc);
     for (i, statement) in text.iter().enumerate() {
-        if before.is_wrong(alloc, &names, &statement.statement)? {
+        if before.is_wrong(alloc, &known.names, &statement.statement)? {
             return Ok(Some(i));
         }
     }

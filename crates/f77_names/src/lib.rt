@@ -8,15 +8,16 @@ mod constant_expressions;
 mod counts;
 mod declarations;
 mod item_uses;
+mod known_names;
 mod names;
 mod real_names;
-mod statement_parts;
 mod statement_uses;
 mod uses;
 
 pub use counts::many_names;
 pub use declarations::wrong_declaration;
-pub use names::{Facts, Names, names_of, names_of_text};
+pub use known_names::KnownNames;
+pub use names::{Facts, Names};
 pub use real_names::real_name;
 pub use statement_uses::{uses_in_text, uses_of};
 pub use uses::{Role, Use, Uses};

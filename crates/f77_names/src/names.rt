@@ -3,14 +3,11 @@ ghost use Rattle.std.specs.Prelude.{◌≡◌, ℕ, List, OnOk, IfOk, if◌then�
 ghost use Rattle.std.specs.Str.{bytes_eq};
 ghost use Rattle.f77_names.specs.UsesView.{role_of, plain_use};
 ghost use Rattle.f77_grammar.specs.program.Uses as plain;
-ghost use Rattle.f77_syntax.specs.Views.{text_of};
 ghost use Rattle.f77_names.specs.NameFacts.{nothing_known, facts_with, facts_in, AreNamesOf, is_variable_by};
 ghost use Rattle.f77_names.specs.NameFacts.{is_array_by, is_function_by, kind_by, dimensions_by, function_by};
 ghost use Rattle.f77_names.specs.NameFacts.{function_of, called_by, called_of};
 
-use crate::statement_uses::uses_in_text;
 use crate::uses::{Role, Use};
-use f77_syntax::Labelled;
 use fv_tree::{Fun, Kind, Memory, Name};
 use indexmap::IndexMap;
 use std::alloc::Global;
@@ -236,7 +233,7 @@ impl Names {
 }
 
 /// The names of a program, by all their uses.
-pub fn names_of(alloc: Global, uses: &[Use]) -> Result<Names, Memory>
+pub(crate) fn names_of(alloc: Global, uses: &[Use]) -> Result<Names, Memory>
     ensures { IfOk result (λ names. AreNamesOf names (map plain_use uses.now)) }
 {
     let mut names = Names::new(alloc);
@@ -244,12 +241,4 @@ pub fn names_of(alloc: Global, uses: &[Use]) -> Result<Names, Memory>
         names.note(used.name, used.role)?;
     }
     Ok(names)
-}
-
-/// The names of a whole program.
-pub fn names_of_text(alloc: Global, text: &[Labelled]) -> Result<Names, Memory>
-    ensures { IfOk result (λ names. AreNamesOf names (plain.uses_in_text (text_of text.now))) }
-{
-    let uses = uses_in_text(alloc, text)?;
-    names_of(alloc, uses.as_slice())
 }

@@ -7,12 +7,13 @@ ghost use Rattle.f77_grammar.specs.program.Uses as plain;
 ghost use Rattle.f77_grammar.specs.program.Declarations.{has_real_name};
 ghost use Rattle.f77_syntax.specs.First.{first_index};
 ghost use Rattle.f77_names.specs.NameFacts.{facts_in, is_real_by, is_real_use};
-ghost use Rattle.f77_names.specs.UsesView.{plain_use};
+ghost use Rattle.f77_names.specs.UsesView.{plain_use, listed};
 ghost use Rattle.f77_syntax.specs.Views.{text_of};
 
-use crate::names::{Facts, Names, names_of};
-use crate::statement_uses::uses_in_text;
-use crate::uses::{Role, Use, Uses};
+use crate::known_names::KnownNames;
+use crate::names::{Facts, Names};
+use crate::statement_uses::uses_of;
+use crate::uses::{Role, Use};
 use f77_syntax::Labelled;
 use fv_tree::{Memory, Name};
 use std::alloc::Global;
@@ -63,16 +64,18 @@ impl Names {
 }
 
 /// The place of the first statement with such a name.
-pub fn real_name(alloc: Global, text: &[Labelled]) -> Result<Option<usize>, Memory>
+pub fn real_name(
+    alloc: Global,
+    text: &[Labelled],
+    known: &KnownNames,
+) -> Result<Option<usize>, Memory>
+    requires { listed known.now.uses ≡ plain.uses_in_text (text_of text.now) }
     ensures { IfOk result (λ place. place ≡ first_index (has_real_name (plain.uses_in_text (text_of text.now)))
         (text_of text.now)) }
 {
-    let uses = uses_in_text(alloc, text)?;
-    let names = names_of(alloc, uses.as_slice())?;
     for (i, statement) in text.iter().enumerate() {
-        let mut here = Uses::new(alloc);
-        here.add_statement(&statement.statement)?;
-        if names.has_real(here.as_slice()) {
+        let here = uses_of(alloc, &statement.statement)?;
+        if known.names.has_real(here.as_slice()) {
             return Ok(Some(i));
         }
     }

@@ -129,7 +129,7 @@ impl Uses {
     }
 }
 
-/// The uses of names in a statement, in the order of the text.
+/// The uses of names in a statement, also in the inner one of a logical IF.
 pub fn uses_of(alloc: Global, statement: &Stmt77) -> Result<Uses, Memory>
     ensures { IfOk result (λ uses. listed uses ≡ plain.uses_of (statement_of statement.now)) }
 {

@@ -14,7 +14,7 @@ ghost use Rattle.f77_grammar.specs.Reading77.{ReadsProgram, RefusedProgram};
 ghost use Rattle.f77_read.specs.Outcomes.{IsTextBuilt, AreCardsBuilt};
 
 use crate::cards::read_cards;
-use f77_checks::check;
+use f77_checks::{Known, check};
 use f77_syntax::Labelled;
 use f77_tree::tree;
 use fixed_form::Card;
@@ -25,8 +25,9 @@ fn build_text(alloc: Global, text: &[Labelled]) -> Result<Program77, Refused>
     ensures built { IsTextBuilt (text_of text.now) result }
     ensures dimensions { IfOk result (λ program. HaveDimensions program.decls) }
 {
-    check(alloc, text)?;
-    Ok(tree(alloc, text)?)
+    let known = Known::of_text(alloc, text)?;
+    check(alloc, text, &known)?;
+    Ok(tree(alloc, text, &known.names, &known.constants)?)
 }
 
 fn build_cards(alloc: Global, cards: &[Card]) -> Result<Program77, Refused>

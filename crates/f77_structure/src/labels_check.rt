@@ -2,7 +2,7 @@
 ghost use Rattle.std.specs.Prelude.{◌≡◌, ℕ, ◌||◌, true, false, IfOk};
 ghost use Rattle.f77_grammar.specs.program.Text.{stands_in, action};
 ghost use Rattle.f77_grammar.specs.program.Labels.{has_wrong_label};
-ghost use Rattle.f77_syntax.specs.First.{first_line};
+ghost use Rattle.f77_syntax.specs.First.{first_index};
 ghost use Rattle.f77_structure.specs.Forms.{form_of, label_in};
 ghost use Rattle.f77_structure.specs.Labels.{has, is_refused};
 ghost use Rattle.f77_syntax.specs.Views.{text_of, statement_of};
@@ -55,15 +55,15 @@ fn has_wrong_label_among(statement: &Labelled, earlier: &Labels, all: &Labels) -
     is_wrong(statement.label, earlier, true) || is_wrong(named, all, false)
 }
 
-/// The line of the first statement with a wrong label, or that names one.
-pub fn wrong_label(alloc: Global, text: &[Labelled]) -> Result<Option<u32>, Memory>
-    ensures { IfOk result (λ line. line ≡ first_line (has_wrong_label (text_of text.now)) (text_of text.now)) }
+/// The place of the first statement with a wrong label, or that names one.
+pub fn wrong_label(alloc: Global, text: &[Labelled]) -> Result<Option<usize>, Memory>
+    ensures { IfOk result (λ place. place ≡ first_index (has_wrong_label (text_of text.now)) (text_of text.now)) }
 {
     let all = labels_of(alloc, text)?;
     let mut earlier = Labels::new(alloc);
-    for statement in text {
+    for (i, statement) in text.iter().enumerate() {
         if has_wrong_label_among(statement, &earlier, &all) {
-            return Ok(Some(statement.line));
+            return Ok(Some(i));
         }
         earlier.note(statement.label)?;
     }

@@ -1,11 +1,11 @@
 //! Blocks and loops: each opener has its closer apart from all others (ANSI X3.9-1978, sections 11.6 to 11.10).
-ghost use Rattle.std.specs.Prelude.{◌≡◌, ℕ, ◌+◌, ◌^◌, ◌<◌, ◌||◌, reverse, Some, IfOk, if◌then◌else◌};
+ghost use Rattle.std.specs.Prelude.{◌≡◌, ◌+◌, ◌^◌, ◌<◌, ◌||◌, Some, IfOk, if◌then◌else◌};
 ghost use Rattle.f77_grammar.specs.program.Nesting.{is_closed_wrongly, is_left_open, is_nested_wrongly};
 ghost use Rattle.f77_grammar.specs.program.Order.{is_out_of_order};
 ghost use Rattle.f77_syntax.specs.First.{first_index, sooner};
 ghost use Rattle.f77_structure.specs.Forms.{begun_in, pending_with, lacks_end_if};
-ghost use Rattle.f77_structure.specs.LabelPlaces.{place_of};
-ghost use Rattle.f77_structure.specs.Openings.{last_with, is_from, under};
+ghost use Rattle.f77_structure.specs.LabelPlaces.{place_of, AreEndsIn};
+ghost use Rattle.f77_structure.specs.Openings.{is_from, under};
 ghost use Rattle.f77_syntax.specs.Views.{text_of};
 
 use crate::forms::Form;
@@ -50,9 +50,9 @@ fn is_from(place: Option<usize>, at: usize) -> bool
     }
 }
 
-/// The place of the last statement that bears a label, for each label.
+/// The place of the last statement that bears a label, for each label: a loop with that label ends there.
 pub fn label_ends(alloc: Global, text: &[Labelled]) -> Result<LabelPlaces, Memory>
-    ensures { IfOk result (λ ends. (n : ℕ) → place_of ends n ≡ last_with (reverse (text_of text.now)) n) }
+    ensures { IfOk result (λ ends. AreEndsIn ends (text_of text.now)) }
 {
     let mut ends = LabelPlaces::new(alloc);
     for (i, statement) in text.iter().enumerate() {
@@ -62,17 +62,20 @@ pub fn label_ends(alloc: Global, text: &[Labelled]) -> Result<LabelPlaces, Memor
 }
 
 /// The place of the first statement that closes, or doesn't close, what it should: a DO, END IF, ELSE IF or ELSE, or
-/// the
-/// last statement of loops.
-pub fn wrong_closer(alloc: Global, text: &[Labelled]) -> Result<Option<usize>, Memory>
+/// the last statement of loops.
+pub fn wrong_closer(
+    alloc: Global,
+    text: &[Labelled],
+    ends: &LabelPlaces,
+) -> Result<Option<usize>, Memory>
+    requires { AreEndsIn ends.now (text_of text.now) }
     ensures { IfOk result (λ place. place ≡ first_index is_closed_wrongly (text_of text.now)) }
 {
-    let ends = label_ends(alloc, text)?;
     let mut firsts = LabelPlaces::new(alloc);
     let mut openings = Openings::new(alloc);
     for (i, statement) in text.iter().enumerate() {
         let form = Form::of(&statement.statement);
-        let end = place_under(form.begun(), &ends);
+        let end = place_under(form.begun(), ends);
         let first = place_under(statement.label, &firsts);
         if openings.has_wrong_closer(form, i, end, first) {
             return Ok(Some(i));
@@ -145,11 +148,16 @@ fn sooner(a: Option<usize>, b: Option<usize>) -> Option<usize>
 
 /// The place of the first statement that is out of order, or that opens or closes something wrongly.
 #[tactic(auto, using(crate::proofs::Sooner::sooner_laws))]
-pub fn wrong_nesting(alloc: Global, text: &[Labelled]) -> Result<Option<usize>, Memory>
+pub fn wrong_nesting(
+    alloc: Global,
+    text: &[Labelled],
+    ends: &LabelPlaces,
+) -> Result<Option<usize>, Memory>
+    requires { AreEndsIn ends.now (text_of text.now) }
     ensures { IfOk result (λ place. place ≡ first_index (λ p. is_nested_wrongly p
         || is_out_of_order p) (text_of text.now)) }
 {
-    let closed = wrong_closer(alloc, text)?;
+    let closed = wrong_closer(alloc, text, ends)?;
     let nested = sooner(left_open(text), closed);
     Ok(sooner(nested, out_of_order(text)))
 }

@@ -1,7 +1,5 @@
 -- Walks through the statements of a program.
 use Rattle.std.proofs.Common.{◌≡◌, ℕ, suc, ◌+◌, ◌-◌, ◌<◌, ◌≤◌, ◌==◌, Bool, true, false, cond, Some, None, List, [], ◌∷◌, ◌++◌, reverse, take, drop, take_all, length, get_or, refl, sym, ap, ◌∙◌, arith, add-one}
-use Rattle.std.specs.Option.{option_map}
-use Rattle.std.specs.List.{find}
 use Rattle.std.proofs.Math.ListN.{get_or-map}
 use Rattle.std.proofs.Math.Seq.{take-suc, drop-cons}
 use Rattle.std.proofs.lemmas.List.{reverse-append, drop_all, length-map, length-reverse, length-take-le, length-drop}
@@ -11,8 +9,8 @@ use Rattle.f77_grammar.specs.program.Text.{Place, places_from}
 use Rattle.f77_grammar.specs.program.Order.{is_nothing}
 use Rattle.f77_syntax.specs.declared.statements.Labelled.{Labelled as Labelled'}
 use Rattle.f77_syntax.specs.Views.{labelled_of, text_of}
-use Rattle.f77_syntax.specs.First.{first_line, first_index, index_from}
-use Rattle.f77_syntax.specs.Walk.{passed, place_at, IsWalked, IsSearched}
+use Rattle.f77_syntax.specs.First.{first_index, index_from}
+use Rattle.f77_syntax.specs.Walk.{passed, place_at, IsSearched}
 
 -- one statement more has been passed
 pub passed_more : (text : List Labelled) (i : ℕ) (x : Labelled) → i < length text → get_or text i x ≡ x → passed text (i + 1) ≡ x ∷ passed text i
@@ -22,31 +20,6 @@ passed_more text i x h e =
 
 pub left_at : (text : List Labelled) (i : ℕ) (x : Labelled) → i < length text → get_or text i x ≡ x → drop i text ≡ x ∷ drop (i + 1) text
 left_at text i x h e = rw (add-one, drop-cons text i x h, e) refl
-
-pub walk_begun : (test : Place → Bool) (text : List Labelled) → IsWalked test text 0
-walk_begun test text = refl
-
--- what the places from the i-th on begin with
-find_at : (test : Place → Bool) (text : List Labelled) (i : ℕ) (x : Labelled) → i < length text → get_or text i x ≡ x
-    → find test (places_from (passed text i) (drop i text)) ≡ find test (place_at text i x ∷ places_from (x ∷ passed text i) (drop (i + 1) text))
-find_at test text i x h e = ap (λ rest. find test (places_from (passed text i) rest)) (left_at text i x h e)
-
-pub walked_on : (test : Place → Bool) (text : List Labelled) (i : ℕ) (x : Labelled) → i < length text → get_or text i x ≡ x
-    → test (place_at text i x) ≡ false → IsWalked test text i → IsWalked test text (i + 1)
-walked_on test text i x h e wrong walked =
-    walked ∙ find_at test text i x h e
-    ∙ ap (λ b. cond b (Some (place_at text i x)) (find test (places_from (x ∷ passed text i) (drop (i + 1) text)))) wrong
-    ∙ ap (λ before. find test (places_from before (drop (i + 1) text))) (sym (passed_more text i x h e))
-
-pub walked_to : (test : Place → Bool) (text : List Labelled) (i : ℕ) (x : Labelled) → i < length text → get_or text i x ≡ x
-    → test (place_at text i x) ≡ true → IsWalked test text i → first_line test text ≡ Some x.line
-walked_to test text i x h e wrong walked =
-    ap (option_map (λ (p : Place). p.here.line)) (walked ∙ find_at test text i x h e
-    ∙ ap (λ b. cond b (Some (place_at text i x)) (find test (places_from (x ∷ passed text i) (drop (i + 1) text)))) wrong)
-
-pub walked_through : (test : Place → Bool) (text : List Labelled) (i : ℕ) → length text ≤ i → IsWalked test text i → first_line test text ≡ None
-walked_through test text i h walked =
-    ap (option_map (λ (p : Place). p.here.line)) (walked ∙ ap (λ rest. find test (places_from (passed text i) rest)) (drop_all i text h))
 
 -- ---- statements of the code
 
@@ -67,17 +40,6 @@ text_left xs i x h e = left_at (text_of xs) i (labelled_of x) (text_within xs i 
 
 pub all_passed : (xs : List Labelled') (i : ℕ) → length xs ≤ i → passed (text_of xs) i ≡ reverse (text_of xs)
 all_passed xs i h = ap reverse (take_all i (text_of xs) (text_through xs i h))
-
-pub goes_on : (test : Place → Bool) (xs : List Labelled') (i : ℕ) (x : Labelled') → i < length xs → x ≡ get_or xs i x
-    → test (place_at (text_of xs) i (labelled_of x)) ≡ false → IsWalked test (text_of xs) i → IsWalked test (text_of xs) (i + 1)
-goes_on test xs i x h e = walked_on test (text_of xs) i (labelled_of x) (text_within xs i h) (text_at xs i x h e)
-
-pub stops_at : (test : Place → Bool) (xs : List Labelled') (i : ℕ) (x : Labelled') → i < length xs → x ≡ get_or xs i x
-    → test (place_at (text_of xs) i (labelled_of x)) ≡ true → IsWalked test (text_of xs) i → Some x.line ≡ first_line test (text_of xs)
-stops_at test xs i x h e wrong walked = sym (walked_to test (text_of xs) i (labelled_of x) (text_within xs i h) (text_at xs i x h e) wrong walked)
-
-pub ends : (test : Place → Bool) (xs : List Labelled') (i : ℕ) → length xs ≤ i → IsWalked test (text_of xs) i → None ≡ first_line test (text_of xs)
-ends test xs i h walked = sym (walked_through test (text_of xs) i (text_through xs i h) walked)
 
 -- ---- an index that is looked for
 

@@ -1,8 +1,7 @@
 -- A walk through the statements of a program, from the first one on.
 use Rattle.std.specs.Prelude.{◌≡◌, ℕ, ◌+◌, Bool, List, reverse, take, drop}
-use Rattle.std.specs.List.{find}
 use Rattle.f77_grammar.specs.Statement77.{Labelled}
-use Rattle.f77_grammar.specs.program.Text.{Place, places, places_from}
+use Rattle.f77_grammar.specs.program.Text.{Place, places_from}
 use Rattle.f77_syntax.specs.First.{first_index, index_from}
 
 -- the first i statements, the nearest first
@@ -13,10 +12,6 @@ passed text i = reverse (take i text)
 abbrev pub place_at : List Labelled → ℕ → Labelled → Place
 place_at text i x = record { before = passed text i; here = x; after = drop (i + 1) text }
 
--- none of the first i places passes the test
-abbrev pub IsWalked : (Place → Bool) → List Labelled → ℕ → Type 0
-IsWalked test text i = find test (places text) ≡ find test (places_from (passed text i) (drop i text))
-
--- the same of an index that is looked for
+-- none of the first i places passes the test: the first index that does is looked for behind them
 abbrev pub IsSearched : (Place → Bool) → List Labelled → ℕ → Type 0
 IsSearched test text i = first_index test text ≡ index_from test i (places_from (passed text i) (drop i text))

@@ -2,6 +2,7 @@
 //! that it stands for.
 #![tactic(auto)]
 
+mod declarations;
 mod statements;
 
 pub use statements::{Entity, Labelled, Stmt77};

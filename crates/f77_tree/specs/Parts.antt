@@ -1,4 +1,5 @@
 -- What the parts of a statement are resolved to, by the names and symbolic constants of a program.
+use Rattle.std.specs.Prelude.{List}
 use Rattle.fv_tree.specs.Plain as plain
 use Rattle.fv_tree.specs.Plain.{Expression, Subscript, Reference}
 use Rattle.fv_tree.specs.View.{expression_of, subscript_of, reference_of, item_of}
@@ -6,25 +7,35 @@ use Rattle.fv_tree.specs.declared.exprs.Expr.{Expr}
 use Rattle.fv_tree.specs.declared.exprs.Ref.{Ref}
 use Rattle.fv_tree.specs.declared.exprs.Sub.{Sub}
 use Rattle.fv_tree.specs.declared.stmts.Item.{Item}
+use Rattle.fv_meaning.specs.Store.{Store}
+use Rattle.f77_grammar.specs.program.Uses.{Use}
 use Rattle.f77_grammar.specs.program.Tree as tree
 use Rattle.f77_constants.specs.Constants.{store_of}
 use Rattle.f77_names.specs.UsesView.{listed}
 use Rattle.f77_tree.specs.declared.resolver.Resolver.{Resolver}
 
+-- the uses of names in the program
+abbrev pub known_uses : Resolver → List Use
+known_uses r = listed r.names.now.uses
+
+-- a store in which its symbolic constants have their values
+abbrev pub known_store : Resolver → Store
+known_store r = store_of r.constants.now
+
 abbrev pub resolved_by : Resolver → Expr → Expression
-resolved_by r e = tree.resolved (listed r.uses) (store_of r.constants) (expression_of e)
+resolved_by r e = tree.resolved (known_uses r) (known_store r) (expression_of e)
 
 abbrev pub subscript_by : Resolver → Sub → Subscript
-subscript_by r p = tree.resolved_subscript (listed r.uses) (store_of r.constants) (subscript_of p)
+subscript_by r p = tree.resolved_subscript (known_uses r) (known_store r) (subscript_of p)
 
 abbrev pub reference_by : Resolver → Ref → Reference
-reference_by r q = tree.resolved_reference (listed r.uses) (store_of r.constants) (reference_of q)
+reference_by r q = tree.resolved_reference (known_uses r) (known_store r) (reference_of q)
 
 abbrev pub read_by : Resolver → Expr → Expression
-read_by r e = tree.resolved_input (listed r.uses) (store_of r.constants) (expression_of e)
+read_by r e = tree.resolved_input (known_uses r) (known_store r) (expression_of e)
 
 abbrev pub output_by : Resolver → Item → plain.Item
-output_by r i = tree.resolved_output_item (listed r.uses) (store_of r.constants) (item_of i)
+output_by r i = tree.resolved_output_item (known_uses r) (known_store r) (item_of i)
 
 abbrev pub input_by : Resolver → Item → plain.Item
-input_by r i = tree.resolved_input_item (listed r.uses) (store_of r.constants) (item_of i)
+input_by r i = tree.resolved_input_item (known_uses r) (known_store r) (item_of i)

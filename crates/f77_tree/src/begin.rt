@@ -3,9 +3,7 @@ ghost use Rattle.std.specs.Prelude.{◌≡◌, ◌++◌, map, IfOk, OnOk};
 ghost use Rattle.fv_tree.specs.View.{expression_of, statement_of as tree_statement_of};
 ghost use Rattle.fv_tree.specs.Plain as plain;
 ghost use Rattle.f77_grammar.specs.program.Tree as tree;
-ghost use Rattle.f77_constants.specs.Constants.{store_of};
-ghost use Rattle.f77_names.specs.UsesView.{listed};
-ghost use Rattle.f77_tree.specs.Parts.{resolved_by};
+ghost use Rattle.f77_tree.specs.Parts.{known_uses, known_store, resolved_by};
 ghost use Rattle.f77_tree.specs.Resolved.{made};
 ghost use Rattle.f77_tree.specs.Rests.{piece_of, rest_of, heading_of, ordinary};
 ghost use Rattle.f77_syntax.specs.Views.{labelled_of, statement_of, text_of};
@@ -27,7 +25,7 @@ fn add(list: &mut Vec<Stmt>, statement: Option<Stmt>) -> Result<(), Memory>
     Ok(())
 }
 
-impl Resolver {
+impl Resolver<'_> {
     fn heading(
         &self,
         alloc: Global,
@@ -53,7 +51,7 @@ impl Resolver {
     // What a statement that opens and closes nothing has become.
     fn piece(&self, alloc: Global, targets: &Targets, statement: &Labelled) -> Result<Piece, Memory>
         ensures { IfOk result (λ piece.
-            piece_of piece ≡ ordinary (listed self.now.uses) (store_of self.now.constants) targets.now.list.items
+            piece_of piece ≡ ordinary (known_uses self.now) (known_store self.now) targets.now.list.items
             (labelled_of statement.now)) }
     {
         let mut made = targets.mark(alloc, statement.label)?;
@@ -77,8 +75,8 @@ impl Rest {
         statement: &Labelled,
     ) -> Result<Rest, Memory>
         ensures { IfOk result (λ rest.
-            rest_of rest ≡ tree.begun (listed resolver.now.uses)
-            (store_of resolver.now.constants) targets.now.list.items (labelled_of statement.now)
+            rest_of rest ≡ tree.begun (known_uses resolver.now)
+            (known_store resolver.now) targets.now.list.items (labelled_of statement.now)
             (statement_of statement.now.statement) (rest_of self)) }
     {
         match &statement.statement {
@@ -122,8 +120,8 @@ pub fn rest_of_text(
     text: &[Labelled],
 ) -> Result<Rest, Memory>
     ensures { IfOk result (λ rest.
-        rest_of rest ≡ tree.rest_from (listed resolver.now.uses)
-        (store_of resolver.now.constants) targets.now.list.items (text_of text.now)) }
+        rest_of rest ≡ tree.rest_from (known_uses resolver.now)
+        (known_store resolver.now) targets.now.list.items (text_of text.now)) }
 {
     let mut rest = Rest::new(alloc);
     let mut i = text.len();

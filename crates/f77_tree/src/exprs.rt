@@ -7,9 +7,7 @@ ghost use Rattle.fv_tree.specs.declared.ops.Value.TheVariants as values;
 ghost use Rattle.fv_meaning.specs.Dialect.{fortran77};
 ghost use Rattle.fv_meaning.specs.Value.{is_in_range};
 ghost use Rattle.f77_grammar.specs.program.Tree as tree;
-ghost use Rattle.f77_constants.specs.Constants.{store_of};
-ghost use Rattle.f77_names.specs.UsesView.{listed};
-ghost use Rattle.f77_tree.specs.Parts.{resolved_by, subscript_by, reference_by};
+ghost use Rattle.f77_tree.specs.Parts.{known_uses, known_store, resolved_by, subscript_by, reference_by};
 ghost use Rattle.f77_tree.specs.Resolved.{called};
 
 use crate::resolver::Resolver;
@@ -40,12 +38,12 @@ fn literal(alloc: Global, value: Value) -> Result<Expr, Memory>
     }
 }
 
-impl Resolver {
+impl Resolver<'_> {
     // A name without subscripts.
     #[tactic(auto, using(crate::proofs::ResolvedLaws::name_laws))]
     fn name(&self, alloc: Global, name: Name) -> Result<Expr, Memory>
         ensures { IfOk result (λ expr.
-            expression_of expr ≡ tree.named (listed self.now.uses) (store_of self.now.constants) name no_subscripts) }
+            expression_of expr ≡ tree.named (known_uses self.now) (known_store self.now) name no_subscripts) }
     {
         if self.is_constant(name) {
             return literal(alloc, self.value(name));
@@ -58,7 +56,7 @@ impl Resolver {
 
     // The function that a name with a list in parentheses calls.
     fn called(&self, name: Name) -> Option<Fun>
-        ensures { result ≡ called (listed self.now.uses) name }
+        ensures { result ≡ called (known_uses self.now) name }
     {
         if self.is_array(name) {
             return None;

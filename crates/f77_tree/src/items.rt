@@ -7,7 +7,7 @@ use crate::resolver::Resolver;
 use fv_tree::{Expr, Item, Memory, Seq, copy_text};
 use std::alloc::Global;
 
-impl Resolver {
+impl Resolver<'_> {
     #[cycle(outputs)]
     #[tactic(auto, using(crate::proofs::ItemLaws::item_laws))]
     fn resolve_output(&self, alloc: Global, item: &Item) -> Result<Item, Memory>

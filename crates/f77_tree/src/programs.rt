@@ -3,9 +3,10 @@ ghost use Rattle.std.specs.Prelude.{◌≡◌, None, map, IfOk};
 ghost use Rattle.fv_tree.specs.View.{program_of};
 ghost use Rattle.f77_grammar.specs.program.Limits.{constants_of, has_bad_constant};
 ghost use Rattle.f77_grammar.specs.program.Tree.{tree_of, first_of_names};
-ghost use Rattle.f77_grammar.specs.program.Uses.{is_title, names_that};
+ghost use Rattle.f77_grammar.specs.program.Uses.{is_title, names_that, uses_in_text};
+ghost use Rattle.f77_names.specs.UsesView.{plain_use, listed};
+ghost use Rattle.f77_constants.specs.Constants.{AreValues};
 ghost use Rattle.f77_constants.specs.Declarations.{HaveDimensions};
-ghost use Rattle.f77_names.specs.UsesView.{plain_use};
 ghost use Rattle.f77_syntax.specs.First.{first_index};
 ghost use Rattle.fv_meaning.specs.Dialect.{fortran77};
 ghost use Rattle.f77_syntax.specs.Views.{text_of};
@@ -13,8 +14,8 @@ ghost use Rattle.f77_syntax.specs.Views.{text_of};
 use crate::begin::rest_of_text;
 use crate::resolver::Resolver;
 use crate::targets::Targets;
-use f77_constants::declarations_of;
-use f77_names::{Role, Use};
+use f77_constants::{Constants, declarations_of};
+use f77_names::{KnownNames, Role, Use};
 use f77_syntax::Labelled;
 use fv_tree::{Memory, Name, Program77};
 use std::alloc::Global;
@@ -43,17 +44,24 @@ fn title(uses: &[Use]) -> Option<Name>
 
 /// The tree that the statements form of a program in which no symbolic constant and no bound faults or leaves the range
 /// of INTEGER.
-pub fn tree(alloc: Global, text: &[Labelled]) -> Result<Program77, Memory>
+pub fn tree(
+    alloc: Global,
+    text: &[Labelled],
+    names: &KnownNames,
+    constants: &Constants,
+) -> Result<Program77, Memory>
+    requires names { listed names.now.uses ≡ uses_in_text (text_of text.now) }
+    requires constants { AreValues constants.now (constants_of fortran77 (text_of text.now)) }
     ensures dimensions { IfOk result (λ program. HaveDimensions program.decls) }
     ensures tree { first_index (has_bad_constant fortran77 (constants_of fortran77 (text_of text.now))) (text_of text.now)
         ≡ None
         → IfOk result (λ program. program_of program ≡ tree_of fortran77 (text_of text.now)) }
 {
-    let resolver = Resolver::of_text(alloc, text)?;
+    let resolver = Resolver::new(names, constants);
     let targets = Targets::of_text(alloc, text)?;
     let rest = rest_of_text(alloc, &resolver, &targets, text)?;
     let body = rest.finish(alloc)?;
-    let decls = declarations_of(alloc, text, &resolver.constants)?;
-    let name = title(resolver.uses.as_slice());
+    let decls = declarations_of(alloc, text, names, constants)?;
+    let name = title(names.uses.as_slice());
     Ok(Program77 { name, decls, body })
 }

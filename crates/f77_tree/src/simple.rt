@@ -3,9 +3,7 @@ ghost use Rattle.std.specs.Prelude.{◌≡◌, None, IfOk};
 ghost use Rattle.fv_tree.specs.View.{expression_of, reference_of, statement_of as tree_statement_of, block_of};
 ghost use Rattle.fv_tree.specs.Plain as plain;
 ghost use Rattle.f77_grammar.specs.program.Tree as tree;
-ghost use Rattle.f77_constants.specs.Constants.{store_of};
-ghost use Rattle.f77_names.specs.UsesView.{listed};
-ghost use Rattle.f77_tree.specs.Parts.{resolved_by, reference_by};
+ghost use Rattle.f77_tree.specs.Parts.{known_uses, known_store, resolved_by, reference_by};
 ghost use Rattle.f77_tree.specs.Resolved.{made};
 ghost use Rattle.f77_syntax.specs.Views.{statement_of};
 
@@ -25,7 +23,7 @@ fn block(alloc: Global, statement: Option<Stmt>) -> Result<Block, Memory>
     Ok(Block { stmts })
 }
 
-impl Resolver {
+impl Resolver<'_> {
     #[tactic(auto, using(crate::proofs::SimpleLaws::simple_laws))]
     fn assignment(&self, alloc: Global, line: u32, left: &Ref, right: &Expr) -> Result<Stmt, Memory>
         ensures { IfOk result (λ assignment.
@@ -75,7 +73,7 @@ impl Resolver {
         statement: &Stmt77,
     ) -> Result<Option<Stmt>, Memory>
         ensures { IfOk result (λ became.
-            made became ≡ tree.simple (listed self.now.uses) (store_of self.now.constants) line
+            made became ≡ tree.simple (known_uses self.now) (known_store self.now) line
             (statement_of statement.now)) }
     {
         match statement {

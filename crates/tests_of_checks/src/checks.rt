@@ -1,5 +1,5 @@
 //! What the rules say of small programs.
-use f77_checks::check;
+use f77_checks::{Known, check};
 use f77_syntax::{Entity, Labelled, Stmt77};
 use fv_tree::{Cause, Expr, Kind, Name, Ref, Refusal, Refused, Seq, Sub};
 use std::alloc::Global;
@@ -91,7 +91,8 @@ fn refusal(alloc: Global, samples: &[(Option<u32>, Sample)]) -> Result<Option<Re
             statement: statement(alloc, *sample)?,
         })?;
     }
-    match check(alloc, &text) {
+    let known = Known::of_text(alloc, &text)?;
+    match check(alloc, &text, &known) {
         Ok(()) => Ok(None),
         Err(Refused::Refusal(refusal)) => Ok(Some(refusal)),
         Err(Refused::Memory) => Err(Fail::from("no memory")),

@@ -1,5 +1,6 @@
 //! What the rules say of small programs.
 use f77_constants::{bad_constant, constants_of, declarations_of, many_elements, reversed_bounds};
+use f77_names::KnownNames;
 use f77_syntax::{Entity, Labelled, Stmt77};
 use fv_tree::{Expr, Kind, Name, Op, Ref, Seq, Value};
 use std::alloc::Global;
@@ -97,7 +98,8 @@ fn declaration_of_an_array(rt: HostRuntime) -> Result<(), Fail> {
     let alloc = rt.alloc();
     let text = array(alloc, 9, 2, 3)?;
     let constants = constants_of(alloc, &text)?;
-    let declarations = declarations_of(alloc, &text, &constants)?;
+    let known = KnownNames::of_text(alloc, &text)?;
+    let declarations = declarations_of(alloc, &text, &known, &constants)?;
     let shown = format!(in alloc; "{:?}", declarations.as_slice())?;
     assert_eq!(rt; declarations.len(), 1);
     assert!(rt; shown.contains("lower: 2, upper: 3"));

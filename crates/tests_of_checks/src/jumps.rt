@@ -1,5 +1,7 @@
 //! What no clause says: with ample memory each check answers.
 use f77_jumps::{many_blocks, wrong_do_variable, wrong_jump};
+use f77_names::KnownNames;
+use f77_structure::label_ends;
 use f77_syntax::{Labelled, Stmt77};
 use fv_tree::{Expr, Item, Name, Ref, Seq};
 use std::alloc::Global;
@@ -38,6 +40,22 @@ fn assign(alloc: Global, name: &[u8]) -> Result<Stmt77, Fail> {
     Ok(Stmt77::Assign(scalar(alloc, name)?, Expr::Int(1)))
 }
 
+fn deep_block(alloc: Global, text: &[Labelled]) -> Result<Option<usize>, Fail> {
+    let ends = label_ends(alloc, text)?;
+    Ok(many_blocks(alloc, text, &ends)?)
+}
+
+fn bad_jump(alloc: Global, text: &[Labelled]) -> Result<Option<usize>, Fail> {
+    let ends = label_ends(alloc, text)?;
+    Ok(wrong_jump(alloc, text, &ends)?)
+}
+
+fn bad_variable(alloc: Global, text: &[Labelled]) -> Result<Option<usize>, Fail> {
+    let known = KnownNames::of_text(alloc, text)?;
+    let ends = label_ends(alloc, text)?;
+    Ok(wrong_do_variable(alloc, text, &known, &ends)?)
+}
+
 // So many block IFs, one in the other.
 fn nested(alloc: Global, depth: u32) -> Result<Vec<Labelled>, Fail> {
     let mut text = Vec::new(alloc);
@@ -51,10 +69,10 @@ fn nested(alloc: Global, depth: u32) -> Result<Vec<Labelled>, Fail> {
 fn a_hundred_blocks_and_one_more(rt: HostRuntime) -> Result<(), Fail> {
     let alloc = rt.alloc();
     let mut text = nested(alloc, 100)?;
-    assert_eq!(rt; many_blocks(alloc, &text)?, None);
+    assert_eq!(rt; deep_block(alloc, &text)?, None);
     let stop = Box::new(alloc, Stmt77::Stop)?;
     text.push(on_line(100, None, Stmt77::Test(Expr::Truth(true), stop)))?;
-    assert_eq!(rt; many_blocks(alloc, &text)?, Some(100));
+    assert_eq!(rt; deep_block(alloc, &text)?, Some(100));
     Ok(())
 }
 
@@ -71,7 +89,7 @@ fn jump_into_another_arm(rt: HostRuntime) -> Result<(), Fail> {
     text.push(on_line(3, None, Stmt77::Else))?;
     text.push(on_line(4, Some(10), Stmt77::Continue))?;
     text.push(on_line(5, None, Stmt77::EndIf))?;
-    assert_eq!(rt; wrong_jump(alloc, &text)?, Some(1));
+    assert_eq!(rt; bad_jump(alloc, &text)?, Some(1));
     Ok(())
 }
 
@@ -86,9 +104,9 @@ fn jump_to_the_end_of_a_loop_and_back(rt: HostRuntime) -> Result<(), Fail> {
     text.push(on_line(1, None, begin_loop(10, b"I")?))?;
     text.push(on_line(2, None, Stmt77::Go(10)))?;
     text.push(on_line(3, Some(10), Stmt77::Continue))?;
-    assert_eq!(rt; wrong_jump(alloc, &text)?, None);
+    assert_eq!(rt; bad_jump(alloc, &text)?, None);
     text.push(on_line(4, None, Stmt77::Go(10)))?;
-    assert_eq!(rt; wrong_jump(alloc, &text)?, Some(3));
+    assert_eq!(rt; bad_jump(alloc, &text)?, Some(3));
     Ok(())
 }
 
@@ -102,7 +120,7 @@ fn variable_set_behind_its_loop(rt: HostRuntime) -> Result<(), Fail> {
     text.push(on_line(1, None, begin_loop(10, b"I")?))?;
     text.push(on_line(2, Some(10), assign(alloc, b"J")?))?;
     text.push(on_line(3, None, assign(alloc, b"I")?))?;
-    assert_eq!(rt; wrong_do_variable(alloc, &text)?, None);
+    assert_eq!(rt; bad_variable(alloc, &text)?, None);
     Ok(())
 }
 
@@ -116,6 +134,6 @@ fn variable_read_at_the_end_of_its_loop(rt: HostRuntime) -> Result<(), Fail> {
     let mut text = Vec::new(alloc);
     text.push(on_line(1, None, begin_loop(10, b"I")?))?;
     text.push(on_line(2, Some(10), Stmt77::Read(read)))?;
-    assert_eq!(rt; wrong_do_variable(alloc, &text)?, Some(1));
+    assert_eq!(rt; bad_variable(alloc, &text)?, Some(1));
     Ok(())
 }

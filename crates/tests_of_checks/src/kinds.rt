@@ -1,5 +1,6 @@
 //! What no clause says: with ample memory the check answers.
 use f77_kinds::unsuited_kind;
+use f77_names::KnownNames;
 use f77_syntax::{Entity, Labelled, Stmt77};
 use fv_tree::{Expr, Item, Kind, Name, Ref, Seq, Sub};
 use std::alloc::Global;
@@ -35,6 +36,12 @@ fn declared(alloc: Global, name: &[u8], count: usize) -> Result<Stmt77, Fail> {
     Ok(Stmt77::Declare(Kind::Integer, entities))
 }
 
+// The place of the first statement with a kind that doesn't suit.
+fn place(alloc: Global, text: &[Labelled]) -> Result<Option<usize>, Fail> {
+    let known = KnownNames::of_text(alloc, text)?;
+    Ok(unsuited_kind(alloc, text, &known)?)
+}
+
 //       MAX(1, 1) = 3
 #[test]
 fn assigned_call(rt: HostRuntime) -> Result<(), Fail> {
@@ -42,7 +49,7 @@ fn assigned_call(rt: HostRuntime) -> Result<(), Fail> {
     let mut text = Vec::new(alloc);
     let call = named(alloc, b"MAX", 2)?;
     text.push(on_line(1, Stmt77::Assign(call, Expr::Int(3))))?;
-    assert_eq!(rt; unsuited_kind(alloc, &text)?, Some(0));
+    assert_eq!(rt; place(alloc, &text)?, Some(0));
     Ok(())
 }
 
@@ -55,7 +62,7 @@ fn hidden_function(rt: HostRuntime) -> Result<(), Fail> {
     text.push(on_line(1, declared(alloc, b"ABS", 0)?))?;
     let call = Expr::Item(named(alloc, b"IABS", 1)?);
     text.push(on_line(2, Stmt77::Assign(named(alloc, b"I", 0)?, call)))?;
-    assert_eq!(rt; unsuited_kind(alloc, &text)?, Some(1));
+    assert_eq!(rt; place(alloc, &text)?, Some(1));
     Ok(())
 }
 
@@ -73,9 +80,9 @@ fn whole_array(rt: HostRuntime) -> Result<(), Fail> {
     text.push(on_line(2, Stmt77::Print(list)))?;
     let element = Expr::Item(named(alloc, b"K", 1)?);
     text.push(on_line(3, Stmt77::Assign(named(alloc, b"I", 0)?, element)))?;
-    assert_eq!(rt; unsuited_kind(alloc, &text)?, None);
+    assert_eq!(rt; place(alloc, &text)?, None);
     let whole = Expr::Item(named(alloc, b"K", 0)?);
     text.push(on_line(4, Stmt77::Assign(named(alloc, b"I", 0)?, whole)))?;
-    assert_eq!(rt; unsuited_kind(alloc, &text)?, Some(3));
+    assert_eq!(rt; place(alloc, &text)?, Some(3));
     Ok(())
 }

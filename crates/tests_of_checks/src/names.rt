@@ -1,5 +1,5 @@
 //! What no clause says: with ample memory each check answers.
-use f77_names::{many_names, real_name, uses_in_text, wrong_declaration};
+use f77_names::{KnownNames, many_names, real_name, uses_in_text, wrong_declaration};
 use f77_syntax::{Labelled, Stmt77};
 use fv_tree::{Expr, Name, Ref, Seq};
 use std::alloc::Global;
@@ -30,7 +30,8 @@ fn real_name_on_the_second_line(rt: HostRuntime) -> Result<(), Fail> {
     let real = Stmt77::Assign(scalar(alloc, b"A")?, Expr::Int(1));
     text.push(on_line(1, None, integer))?;
     text.push(on_line(2, None, real))?;
-    assert_eq!(rt; real_name(alloc, &text)?, Some(1));
+    let known = KnownNames::of_text(alloc, &text)?;
+    assert_eq!(rt; real_name(alloc, &text, &known)?, Some(1));
     Ok(())
 }
 
@@ -55,7 +56,8 @@ fn program_name_assigned(rt: HostRuntime) -> Result<(), Fail> {
     let left = scalar(alloc, b"M")?;
     text.push(on_line(1, None, Stmt77::Program(left.name)))?;
     text.push(on_line(2, None, Stmt77::Assign(left, Expr::Int(1))))?;
-    assert_eq!(rt; wrong_declaration(alloc, &text)?, Some(1));
-    assert_eq!(rt; many_names(alloc, &text)?, None);
+    let known = KnownNames::of_text(alloc, &text)?;
+    assert_eq!(rt; wrong_declaration(alloc, &text, &known)?, Some(1));
+    assert_eq!(rt; many_names(alloc, &text, &known)?, None);
     Ok(())
 }

@@ -1,7 +1,9 @@
 //! The trees of small programs.
+use f77_constants::constants_of;
+use f77_names::KnownNames;
 use f77_syntax::{Labelled, Stmt77};
 use f77_tree::tree;
-use fv_tree::{Arm, Expr, Name, Op, Ref, Seq, Stmt};
+use fv_tree::{Arm, Expr, Name, Op, Program77, Ref, Seq, Stmt};
 use std::alloc::Global;
 use std::test::Fail;
 
@@ -31,6 +33,12 @@ fn add(text: &mut Vec<Labelled>, label: Option<u32>, statement: Stmt77) -> Resul
     Ok(())
 }
 
+fn program(alloc: Global, text: &[Labelled]) -> Result<Program77, Fail> {
+    let known = KnownNames::of_text(alloc, text)?;
+    let constants = constants_of(alloc, text)?;
+    Ok(tree(alloc, text, &known, &constants)?)
+}
+
 // A block IF with ELSE IF and ELSE: two arms and an ELSE part.
 #[test]
 fn block_if(rt: HostRuntime) -> Result<(), Fail> {
@@ -43,7 +51,7 @@ fn block_if(rt: HostRuntime) -> Result<(), Fail> {
     add(&mut text, None, assignment(alloc, 2)?)?;
     add(&mut text, None, assignment(alloc, 3)?)?;
     add(&mut text, None, Stmt77::EndIf)?;
-    let program = tree(alloc, &text)?;
+    let program = program(alloc, &text)?;
     let Some(
         Stmt::If {
             line: _,
@@ -78,7 +86,7 @@ fn loops_with_one_label(rt: HostRuntime) -> Result<(), Fail> {
     add(&mut text, None, Stmt77::Go(10))?;
     add(&mut text, Some(10), Stmt77::Continue)?;
     add(&mut text, Some(20), Stmt77::Stop)?;
-    let program = tree(alloc, &text)?;
+    let program = program(alloc, &text)?;
     assert_eq!(rt; program.body.stmts.len(), 2);
     let Some(Stmt::Do { body: outer, .. }) = program.body.stmts.get(0) else {
         return Err("no loop")?;
@@ -103,7 +111,7 @@ fn negative_constant(rt: HostRuntime) -> Result<(), Fail> {
     add(&mut text, None, Stmt77::Constants(constants))?;
     let n = Expr::Item(scalar(alloc, b"N")?);
     add(&mut text, None, Stmt77::Assign(scalar(alloc, b"K")?, n))?;
-    let program = tree(alloc, &text)?;
+    let program = program(alloc, &text)?;
     assert_eq!(rt; program.decls.len(), 1);
     let Some(Stmt::Assign { right, .. }) = program.body.stmts.get(0) else {
         return Err("no assignment")?;

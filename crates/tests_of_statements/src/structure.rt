@@ -1,5 +1,5 @@
 //! What no clause says: with ample memory each check answers.
-use f77_structure::{wrong_end, wrong_label, wrong_nesting};
+use f77_structure::{label_ends, wrong_end, wrong_label, wrong_nesting};
 use f77_syntax::{Labelled, Stmt77};
 use fv_tree::{Expr, Name};
 use std::test::Fail;
@@ -31,7 +31,8 @@ fn crossed_loops(rt: HostRuntime) -> Result<(), Fail> {
     text.push(on_line(4, Some(20), Stmt77::Continue))?;
     text.push(on_line(5, None, Stmt77::End))?;
     assert_eq!(rt; wrong_label(rt.alloc(), &text)?, None);
-    assert_eq!(rt; wrong_nesting(rt.alloc(), &text)?, Some(2));
+    let ends = label_ends(rt.alloc(), &text)?;
+    assert_eq!(rt; wrong_nesting(rt.alloc(), &text, &ends)?, Some(2));
     assert_eq!(rt; wrong_end(&text), None);
     Ok(())
 }
@@ -43,8 +44,9 @@ fn label_nowhere_and_early_end(rt: HostRuntime) -> Result<(), Fail> {
     let mut text = Vec::new(rt.alloc());
     text.push(on_line(1, None, Stmt77::End))?;
     text.push(on_line(2, Some(10), Stmt77::Go(20)))?;
-    assert_eq!(rt; wrong_label(rt.alloc(), &text)?, Some(2));
-    assert_eq!(rt; wrong_nesting(rt.alloc(), &text)?, None);
+    assert_eq!(rt; wrong_label(rt.alloc(), &text)?, Some(1));
+    let ends = label_ends(rt.alloc(), &text)?;
+    assert_eq!(rt; wrong_nesting(rt.alloc(), &text, &ends)?, None);
     assert_eq!(rt; wrong_end(&text), Some(0));
     Ok(())
 }

@@ -15,7 +15,7 @@ returns c =
     c.sooner.result c.sooner-2.result c.sooner-3.result c.sooner-4.result
     (c.breach_at-names.ensures text c.in_ok-many_names.ensures)
     (c.breach_at-blocks.ensures text c.in_ok-many_blocks.ensures)
-    (c.breach_at-bounds.ensures text (c.in_ok-reversed_bounds.ensures s c.in_ok-constants.ensures))
-    (c.breach_at-elements.ensures text (c.in_ok-many_elements.ensures s c.in_ok-constants.ensures))
-    (c.breach_at-values.ensures text (c.in_ok-bad_constant.ensures s c.in_ok-constants.ensures))
+    (c.breach_at-bounds.ensures text (c.in_ok-reversed_bounds.ensures s c.requires.constants))
+    (c.breach_at-elements.ensures text (c.in_ok-many_elements.ensures s c.requires.constants))
+    (c.breach_at-values.ensures text (c.in_ok-bad_constant.ensures s c.requires.constants))
     c.sooner.ensures c.sooner-2.ensures c.sooner-3.ensures c.sooner-4.ensures

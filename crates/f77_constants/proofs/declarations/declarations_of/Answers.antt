@@ -4,7 +4,7 @@ use Rattle.fv_tree.specs.View as view
 use Rattle.f77_grammar.specs.program.Uses.{uses_in_text}
 use Rattle.f77_syntax.specs.Views.{text_of}
 use Rattle.f77_names.specs.UsesView.{plain_use}
-use Rattle.f77_names.specs.NameFacts.{facts_of, nothing_known}
+use Rattle.f77_names.proofs.FactLaws.{names_known}
 use Rattle.f77_constants.specs.Constants.{store_of}
 use Rattle.f77_constants.specs.Declarations.{AreFacts, narrow_declarations, variables_from, all_declarations}
 use Rattle.f77_constants.proofs.NarrowLaws.{all_declared}
@@ -13,12 +13,10 @@ use Rattle.f77_constants.proofs.declarations.declarations_of.Goals as goal
 pub returns-clause-declarations : goal.returns-clause-declarations
 returns-clause-declarations c = λ s h good.
     let us = uses_in_text (text_of c.args.text.now) in
-    let facts : AreFacts c.in_ok-names.names us = record {
-      facts = λ x. c.in_ok-names.ensures x ∙ ap (λ vs. facts_of nothing_known (map plain_use vs) x) c.as_slice.ensures ∙ ap (λ vs. facts_of nothing_known vs x) c.in_ok-uses.ensures;
-    } in
+    let facts : AreFacts c.args.known.now.names us = record { facts = names_known c.args.known.now us c.requires } in
     IfOk-weaker c.declare.result
-    (λ ds. map view.declaration_of ds ≡ narrow_declarations us (store_of c.args.constants.now) (text_of c.args.text.now) c.as_slice-3.result.now)
+    (λ ds. map view.declaration_of ds ≡ narrow_declarations us (store_of c.args.constants.now) (text_of c.args.text.now) c.as_slice-2.result.now)
     (λ ds. map view.declaration_of ds ≡ all_declarations us s (text_of c.args.text.now))
-    (λ ds declared. all_declared us s (store_of c.args.constants.now) (text_of c.args.text.now) c.as_slice-3.result.now (map view.declaration_of ds) declared h.same good
-    (c.as_slice-3.ensures.value ∙ c.in_ok-variables.ensures us facts ∙ ap (λ vs. variables_from us (map plain_use vs)) c.as_slice-2.ensures ∙ ap (variables_from us) c.in_ok-uses.ensures))
-    (c.declare.ensures.declarations us facts)
+     (λ ds declared. all_declared us s (store_of c.args.constants.now) (text_of c.args.text.now) c.as_slice-2.result.now (map view.declaration_of ds) declared h.same good
+     (c.as_slice-2.ensures.value ∙ c.in_ok-variables.ensures us facts ∙ ap (λ vs. variables_from us (map plain_use vs)) c.as_slice.ensures ∙ ap (variables_from us) c.requires))
+     (c.declare.ensures.declarations us facts)

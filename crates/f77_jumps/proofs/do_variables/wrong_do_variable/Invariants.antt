@@ -11,6 +11,6 @@ use Rattle.f77_jumps.proofs.do_variables.wrong_do_variable.Given as goal
 abbrev pub invariant-loop-i : goal.invariant-loop-i
 invariant-loop-i l = record {
   searched : IsSearched (has_wrong_do_variable (plain.uses_in_text (text_of l.text))) (text_of l.text) l.i;
-  known : (y : List ℕ) → facts_in l.variables.names y ≡ facts_of nothing_known (plain.uses_in_text (text_of l.text)) y;
+  known : (y : List ℕ) → facts_in l.variables.names.now y ≡ facts_of nothing_known (plain.uses_in_text (text_of l.text)) y;
   lasts : (y : List ℕ) → last_in l.variables y ≡ last_of (place_of l.ends) (passed (text_of l.text) l.i) y;
 }

@@ -14,23 +14,23 @@ use Rattle.f77_jumps.proofs.Leads.{targets_fit, behind_more, jump_at}
 use Rattle.f77_jumps.proofs.jumps.wrong_jump.Goals as goal
 
 pub index-requires : goal.index-requires
-index-requires c = omega (arith, targets_fit c.args.text.now (place_of c.in_ok-ends.ends) c.in_ok-targets.targets.items c.in_ok-targets.ensures)
+index-requires c = omega (arith, targets_fit c.args.text.now (place_of c.args.ends.now) c.in_ok-targets.targets.items c.in_ok-targets.ensures)
 
 pub loop-i-preserved : goal.loop-i-preserved
 loop-i-preserved c =
     let back : c.loop-i.i ≡ c.loop-i.i - 1 + 1 = omega arith in
-    let behind : (n : ℕ) → target_in c.loop-i.behind n ≡ first_target (place_of c.in_ok-ends.ends) (passed (text_of c.args.text.now) (c.loop-i.i - 1 + 1)) (drop (c.loop-i.i - 1 + 1) (text_of c.args.text.now)) n =
-    λ n. c.loop-i.invariant.behind n ∙ ap (λ j. first_target (place_of c.in_ok-ends.ends) (passed (text_of c.args.text.now) j) (drop j (text_of c.args.text.now)) n) back in
+    let behind : (n : ℕ) → target_in c.loop-i.behind n ≡ first_target (place_of c.args.ends.now) (passed (text_of c.args.text.now) (c.loop-i.i - 1 + 1)) (drop (c.loop-i.i - 1 + 1) (text_of c.args.text.now)) n =
+    λ n. c.loop-i.invariant.behind n ∙ ap (λ j. first_target (place_of c.args.ends.now) (passed (text_of c.args.text.now) j) (drop j (text_of c.args.text.now)) n) back in
     let later : c.loop-i.found ≡ index_from has_wrong_jump (c.loop-i.i - 1 + 1) (places_from (passed (text_of c.args.text.now) (c.loop-i.i - 1 + 1)) (drop (c.loop-i.i - 1 + 1) (text_of c.args.text.now))) =
     c.loop-i.invariant.found ∙ ap (λ j. index_from has_wrong_jump j (places_from (passed (text_of c.args.text.now) j) (drop j (text_of c.args.text.now)))) back in
     let form : c.of-form.result ≡ form_of (action (statement_of c.index-text-i.result.statement)) = c.of-form.ensures ∙ ap form_of c.action.ensures in
     record {
       within = omega arith;
-      behind = behind_more c.args.text.now (c.loop-i.i - 1) c.index-text-i.result (place_of c.in_ok-ends.ends) c.in_ok-targets.targets.items c.index.result.now (target_in c.loop-i.behind) (target_in c.put.new.self)
+      behind = behind_more c.args.text.now (c.loop-i.i - 1) c.index-text-i.result (place_of c.args.ends.now) c.in_ok-targets.targets.items c.index.result.now (target_in c.loop-i.behind) (target_in c.put.new.self)
           (omega arith) c.index-text-i.is c.in_ok-targets.ensures c.index.ensures behind c.in_ok-put.ensures;
       found = c.here_if-found.ensures
           ∙ ap (λ b. cond b (Some (c.loop-i.i - 1)) c.loop-i.found)
           (c.refuse.ensures
-          ∙ sym (jump_at c.args.text.now (c.loop-i.i - 1) c.index-text-i.result (place_of c.in_ok-ends.ends) (target_in c.loop-i.behind) c.of-form.result (omega arith) c.index-text-i.is c.in_ok-ends.ensures behind form))
+          ∙ sym (jump_at c.args.text.now (c.loop-i.i - 1) c.index-text-i.result (place_of c.args.ends.now) (target_in c.loop-i.behind) c.of-form.result (omega arith) c.index-text-i.is c.requires behind form))
           ∙ found_back has_wrong_jump c.args.text.now (c.loop-i.i - 1) c.index-text-i.result c.loop-i.found (omega arith) c.index-text-i.is later;
     }

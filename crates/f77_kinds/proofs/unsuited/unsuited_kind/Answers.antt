@@ -10,13 +10,13 @@ use Rattle.f77_kinds.proofs.unsuited.unsuited_kind.Goals as goal
 pub returns-then-branch : goal.returns-then-branch
 returns-then-branch c =
     search_stops_at (has_unsuited_kind (plain.uses_in_text (text_of c.args.text.now))) c.args.text.now c.loop-i.i c.index-text-i.result (omega arith) c.index-text-i.is
-    (unsuited_at c.args.text.now c.loop-i.i c.index-text-i.result (listed c.in_ok-check.check.uses) c.in_ok-check.ensures ∙ sym c.in_ok-is_unsuited.ensures ∙ c.if-branch.true)
+    (unsuited_at c.args.text.now c.loop-i.i c.index-text-i.result (listed c.args.known.now.uses) c.requires ∙ sym c.in_ok-is_unsuited.ensures ∙ c.if-branch.true)
     c.loop-i.invariant
 
 pub loop-i-preserved : goal.loop-i-preserved
 loop-i-preserved c =
     search_goes_on (has_unsuited_kind (plain.uses_in_text (text_of c.args.text.now))) c.args.text.now c.loop-i.i c.index-text-i.result (omega arith) c.index-text-i.is
-    (unsuited_at c.args.text.now c.loop-i.i c.index-text-i.result (listed c.in_ok-check.check.uses) c.in_ok-check.ensures ∙ sym c.in_ok-is_unsuited.ensures ∙ c.if-branch.false)
+    (unsuited_at c.args.text.now c.loop-i.i c.index-text-i.result (listed c.args.known.now.uses) c.requires ∙ sym c.in_ok-is_unsuited.ensures ∙ c.if-branch.false)
     c.loop-i.invariant
 
 pub returns : goal.returns

@@ -1,11 +1,12 @@
 use Rattle.std.proofs.Common.{◌++◌, ◌+◌, map, sym, ap, ◌∙◌, arith}
 use Rattle.f77_grammar.specs.program.Uses as plain
 use Rattle.f77_grammar.specs.program.Limits.{has_many_names}
-use Rattle.f77_syntax.specs.Views.{text_of, statement_of}
+use Rattle.f77_syntax.specs.Views.{text_of}
 use Rattle.f77_syntax.specs.Walk.{passed}
 use Rattle.f77_syntax.proofs.Walks.{search_goes_on, search_stops_at, search_ends}
 use Rattle.f77_names.specs.UsesView.{plain_use}
 use Rattle.f77_names.specs.Counted.{counted_in}
+use Rattle.f77_names.proofs.FactLaws.{names_known}
 use Rattle.f77_names.proofs.CountLaws.{holds_same, counted_behind, many_at}
 use Rattle.f77_names.proofs.counts.many_names.Goals as goal
 
@@ -16,9 +17,9 @@ returns-then-are_many c =
     (holds_same c.note_all.new.self
     (counted_in (plain.uses_in_text (text_of c.args.text.now)) (map plain_use c.as_slice.result.now) ++ counted_in (plain.uses_in_text (text_of c.args.text.now)) (plain.uses_in_text (passed (text_of c.args.text.now) c.loop-i.i)))
     (counted_in (plain.uses_in_text (text_of c.args.text.now)) (plain.uses_in_text (passed (text_of c.args.text.now) (c.loop-i.i + 1))))
-    (ap (λ vs. counted_in (plain.uses_in_text (text_of c.args.text.now)) vs ++ counted_in (plain.uses_in_text (text_of c.args.text.now)) (plain.uses_in_text (passed (text_of c.args.text.now) c.loop-i.i))) (ap (map plain_use) c.as_slice.ensures ∙ c.in_ok-add_statement.ensures ∙ ap (λ vs. vs ++ plain.uses_of (statement_of c.index-text-i.result.statement)) c.new-here.ensures)
+    (ap (λ vs. counted_in (plain.uses_in_text (text_of c.args.text.now)) vs ++ counted_in (plain.uses_in_text (text_of c.args.text.now)) (plain.uses_in_text (passed (text_of c.args.text.now) c.loop-i.i))) (ap (map plain_use) c.as_slice.ensures ∙ c.in_ok-here.ensures)
     ∙ counted_behind (plain.uses_in_text (text_of c.args.text.now)) c.args.text.now c.loop-i.i c.index-text-i.result (omega arith) c.index-text-i.is)
-    (c.in_ok-note_all.ensures (plain.uses_in_text (text_of c.args.text.now)) (counted_in (plain.uses_in_text (text_of c.args.text.now)) (plain.uses_in_text (passed (text_of c.args.text.now) c.loop-i.i))) c.in_ok-names.ensures c.loop-i.invariant.holds))
+    (c.in_ok-note_all.ensures (plain.uses_in_text (text_of c.args.text.now)) (counted_in (plain.uses_in_text (text_of c.args.text.now)) (plain.uses_in_text (passed (text_of c.args.text.now) c.loop-i.i))) (names_known c.args.known.now (plain.uses_in_text (text_of c.args.text.now)) c.requires) c.loop-i.invariant.holds))
     ∙ sym c.are_many.ensures ∙ c.if-are_many.true)
     c.loop-i.invariant.searched
 
@@ -30,17 +31,17 @@ loop-i-preserved c = record {
       (holds_same c.note_all.new.self
       (counted_in (plain.uses_in_text (text_of c.args.text.now)) (map plain_use c.as_slice.result.now) ++ counted_in (plain.uses_in_text (text_of c.args.text.now)) (plain.uses_in_text (passed (text_of c.args.text.now) c.loop-i.i)))
       (counted_in (plain.uses_in_text (text_of c.args.text.now)) (plain.uses_in_text (passed (text_of c.args.text.now) (c.loop-i.i + 1))))
-      (ap (λ vs. counted_in (plain.uses_in_text (text_of c.args.text.now)) vs ++ counted_in (plain.uses_in_text (text_of c.args.text.now)) (plain.uses_in_text (passed (text_of c.args.text.now) c.loop-i.i))) (ap (map plain_use) c.as_slice.ensures ∙ c.in_ok-add_statement.ensures ∙ ap (λ vs. vs ++ plain.uses_of (statement_of c.index-text-i.result.statement)) c.new-here.ensures)
+      (ap (λ vs. counted_in (plain.uses_in_text (text_of c.args.text.now)) vs ++ counted_in (plain.uses_in_text (text_of c.args.text.now)) (plain.uses_in_text (passed (text_of c.args.text.now) c.loop-i.i))) (ap (map plain_use) c.as_slice.ensures ∙ c.in_ok-here.ensures)
       ∙ counted_behind (plain.uses_in_text (text_of c.args.text.now)) c.args.text.now c.loop-i.i c.index-text-i.result (omega arith) c.index-text-i.is)
-      (c.in_ok-note_all.ensures (plain.uses_in_text (text_of c.args.text.now)) (counted_in (plain.uses_in_text (text_of c.args.text.now)) (plain.uses_in_text (passed (text_of c.args.text.now) c.loop-i.i))) c.in_ok-names.ensures c.loop-i.invariant.holds))
+      (c.in_ok-note_all.ensures (plain.uses_in_text (text_of c.args.text.now)) (counted_in (plain.uses_in_text (text_of c.args.text.now)) (plain.uses_in_text (passed (text_of c.args.text.now) c.loop-i.i))) (names_known c.args.known.now (plain.uses_in_text (text_of c.args.text.now)) c.requires) c.loop-i.invariant.holds))
       ∙ sym c.are_many.ensures ∙ c.if-are_many.false)
       c.loop-i.invariant.searched;
   holds = (holds_same c.note_all.new.self
       (counted_in (plain.uses_in_text (text_of c.args.text.now)) (map plain_use c.as_slice.result.now) ++ counted_in (plain.uses_in_text (text_of c.args.text.now)) (plain.uses_in_text (passed (text_of c.args.text.now) c.loop-i.i)))
       (counted_in (plain.uses_in_text (text_of c.args.text.now)) (plain.uses_in_text (passed (text_of c.args.text.now) (c.loop-i.i + 1))))
-      (ap (λ vs. counted_in (plain.uses_in_text (text_of c.args.text.now)) vs ++ counted_in (plain.uses_in_text (text_of c.args.text.now)) (plain.uses_in_text (passed (text_of c.args.text.now) c.loop-i.i))) (ap (map plain_use) c.as_slice.ensures ∙ c.in_ok-add_statement.ensures ∙ ap (λ vs. vs ++ plain.uses_of (statement_of c.index-text-i.result.statement)) c.new-here.ensures)
+      (ap (λ vs. counted_in (plain.uses_in_text (text_of c.args.text.now)) vs ++ counted_in (plain.uses_in_text (text_of c.args.text.now)) (plain.uses_in_text (passed (text_of c.args.text.now) c.loop-i.i))) (ap (map plain_use) c.as_slice.ensures ∙ c.in_ok-here.ensures)
       ∙ counted_behind (plain.uses_in_text (text_of c.args.text.now)) c.args.text.now c.loop-i.i c.index-text-i.result (omega arith) c.index-text-i.is)
-      (c.in_ok-note_all.ensures (plain.uses_in_text (text_of c.args.text.now)) (counted_in (plain.uses_in_text (text_of c.args.text.now)) (plain.uses_in_text (passed (text_of c.args.text.now) c.loop-i.i))) c.in_ok-names.ensures c.loop-i.invariant.holds));
+      (c.in_ok-note_all.ensures (plain.uses_in_text (text_of c.args.text.now)) (counted_in (plain.uses_in_text (text_of c.args.text.now)) (plain.uses_in_text (passed (text_of c.args.text.now) c.loop-i.i))) (names_known c.args.known.now (plain.uses_in_text (text_of c.args.text.now)) c.requires) c.loop-i.invariant.holds));
 }
 
 pub returns : goal.returns

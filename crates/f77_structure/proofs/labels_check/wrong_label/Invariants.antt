@@ -3,11 +3,11 @@ use Rattle.f77_grammar.specs.program.Text.{stands_in}
 use Rattle.f77_grammar.specs.program.Labels.{has_wrong_label}
 use Rattle.f77_structure.specs.Labels.{has}
 use Rattle.f77_syntax.specs.Views.{text_of}
-use Rattle.f77_syntax.specs.Walk.{passed, IsWalked}
+use Rattle.f77_syntax.specs.Walk.{passed, IsSearched}
 use Rattle.f77_structure.proofs.labels_check.wrong_label.Given as goal
 
-abbrev pub invariant-loop-statement : goal.invariant-loop-statement
-invariant-loop-statement l = record {
-  walked : IsWalked (has_wrong_label (text_of l.text)) (text_of l.text) l.statement-index;
-  earlier : (n : ℕ) → has l.earlier n ≡ stands_in (passed (text_of l.text) l.statement-index) n;
+abbrev pub invariant-loop-i : goal.invariant-loop-i
+invariant-loop-i l = record {
+  searched : IsSearched (has_wrong_label (text_of l.text)) (text_of l.text) l.i;
+  earlier : (n : ℕ) → has l.earlier n ≡ stands_in (passed (text_of l.text) l.i) n;
 }

@@ -1,7 +1,6 @@
 use Rattle.std.proofs.Common.{◌≡◌, ◌+◌, ◌-◌, drop, ap, ◌∙◌, arith}
 use Rattle.f77_grammar.specs.program.Tree as tree
-use Rattle.f77_constants.specs.Constants.{store_of}
-use Rattle.f77_names.specs.UsesView.{listed}
+use Rattle.f77_tree.specs.Parts.{known_uses, known_store}
 use Rattle.f77_syntax.specs.Views.{text_of}
 use Rattle.f77_tree.specs.Rests.{rest_of}
 use Rattle.f77_tree.proofs.BegunLaws.{rest_more}
@@ -9,8 +8,8 @@ use Rattle.f77_tree.proofs.begin.rest_of_text.Goals as goal
 
 pub loop-i-preserved : goal.loop-i-preserved
 loop-i-preserved c =
-    let us = listed c.args.resolver.now.uses in
-    let s = store_of c.args.resolver.now.constants in
+    let us = known_uses c.args.resolver.now in
+    let s = known_store c.args.resolver.now in
     let named = c.args.targets.now.list.items in
     let back : c.loop-i.i ≡ c.loop-i.i - 1 + 1 = omega arith in
     record {

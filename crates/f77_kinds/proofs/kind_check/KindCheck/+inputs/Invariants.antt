@@ -2,10 +2,10 @@ use Rattle.std.proofs.Common.{◌≡◌, map, drop}
 use Rattle.fv_tree.specs.Plain.{items}
 use Rattle.fv_tree.specs.View.{item_of}
 use Rattle.f77_grammar.specs.program.Kinds as kinds
-use Rattle.f77_names.specs.UsesView.{listed}
+use Rattle.f77_kinds.specs.KnownUses.{known_uses}
 use Rattle.f77_kinds.proofs.kind_check.KindCheck.+inputs.Given as goal
 
 abbrev pub invariant-suits_inputs-loop-item : goal.invariant-suits_inputs-loop-item
 invariant-suits_inputs-loop-item l =
-    kinds.suits_input_items (listed l.self.uses) (items (map item_of l.item-items))
-    ≡ kinds.suits_input_items (listed l.self.uses) (items (map item_of (drop l.item-index l.item-items)))
+    kinds.suits_input_items (known_uses l.self) (items (map item_of l.item-items))
+    ≡ kinds.suits_input_items (known_uses l.self) (items (map item_of (drop l.item-index l.item-items)))

@@ -12,14 +12,14 @@ use Rattle.f77_names.proofs.names.Names.is_wrong.Goals as goal
 pub returns-then-has_misused_name : goal.returns-then-has_misused_name
 returns-then-has_misused_name c us seen h k = (
   wrong_misused us seen (statement_of c.args.statement.now)
-      (misused_here c.args.names.now us (statement_of c.args.statement.now) c.as_slice-uses.result.now h (ap (map plain_use) c.as_slice-uses.ensures ∙ c.in_ok-add_statement.ensures ∙ ap (λ vs. vs ++ plain.uses_of (statement_of c.args.statement.now)) c.new-here.ensures) ∙ sym c.has_misused_name.ensures ∙ c.if-has_misused_name.true),
+      (misused_here c.args.names.now us (statement_of c.args.statement.now) c.as_slice-uses.result.now h (ap (map plain_use) c.as_slice-uses.ensures ∙ c.in_ok-here.ensures) ∙ sym c.has_misused_name.ensures ∙ c.if-has_misused_name.true),
   λ e. absurd (false≢true (sym e)),
 )
 
 pub returns-then-bear_title : goal.returns-then-bear_title
 returns-then-bear_title c us seen h k = (
   wrong_title us seen (statement_of c.args.statement.now)
-      (title_here c.args.self.now c.args.names.now us seen (statement_of c.args.statement.now) c.as_slice-uses.result.now k h (ap (map plain_use) c.as_slice-uses.ensures ∙ c.in_ok-add_statement.ensures ∙ ap (λ vs. vs ++ plain.uses_of (statement_of c.args.statement.now)) c.new-here.ensures) ∙ sym c.bear_title.ensures ∙ c.if-bear_title.true),
+      (title_here c.args.self.now c.args.names.now us seen (statement_of c.args.statement.now) c.as_slice-uses.result.now k h (ap (map plain_use) c.as_slice-uses.ensures ∙ c.in_ok-here.ensures) ∙ sym c.bear_title.ensures ∙ c.if-bear_title.true),
   λ e. absurd (false≢true (sym e)),
 )
 
@@ -34,12 +34,12 @@ returns c =
     IfOk-weaker c.declares_again.result (Declares c.args.self.now c.declares_again.new.self (map plain_use c.as_slice-uses.result.now))
     (Passes c.args.names.now c.args.self.now c.declares_again.new.self (statement_of c.args.statement.now))
     (λ again declares us seen h k. (
-      (declares seen k).0 ∙ ap (declares_again seen) (ap (map plain_use) c.as_slice-uses.ensures ∙ c.in_ok-add_statement.ensures ∙ ap (λ vs. vs ++ plain.uses_of (statement_of c.args.statement.now)) c.new-here.ensures)
+      (declares seen k).0 ∙ ap (declares_again seen) (ap (map plain_use) c.as_slice-uses.ensures ∙ c.in_ok-here.ensures)
           ∙ wrong_again us seen (statement_of c.args.statement.now)
-          (title_here c.args.self.now c.args.names.now us seen (statement_of c.args.statement.now) c.as_slice-uses.result.now k h (ap (map plain_use) c.as_slice-uses.ensures ∙ c.in_ok-add_statement.ensures ∙ ap (λ vs. vs ++ plain.uses_of (statement_of c.args.statement.now)) c.new-here.ensures) ∙ sym c.bear_title.ensures ∙ c.if-bear_title.false)
+          (title_here c.args.self.now c.args.names.now us seen (statement_of c.args.statement.now) c.as_slice-uses.result.now k h (ap (map plain_use) c.as_slice-uses.ensures ∙ c.in_ok-here.ensures) ∙ sym c.bear_title.ensures ∙ c.if-bear_title.false)
           (sym (c.in_ok-has_unknown_constant.ensures (plain.names_that plain.is_defined seen) (seen_defined c.args.self.now seen k)) ∙ c.if-branch.false)
-          (misused_here c.args.names.now us (statement_of c.args.statement.now) c.as_slice-uses.result.now h (ap (map plain_use) c.as_slice-uses.ensures ∙ c.in_ok-add_statement.ensures ∙ ap (λ vs. vs ++ plain.uses_of (statement_of c.args.statement.now)) c.new-here.ensures) ∙ sym c.has_misused_name.ensures ∙ c.if-has_misused_name.false),
+          (misused_here c.args.names.now us (statement_of c.args.statement.now) c.as_slice-uses.result.now h (ap (map plain_use) c.as_slice-uses.ensures ∙ c.in_ok-here.ensures) ∙ sym c.has_misused_name.ensures ∙ c.if-has_misused_name.false),
       λ e. seen_same c.declares_again.new.self (map plain_use c.as_slice-uses.result.now ++ seen) (plain.uses_of (statement_of c.args.statement.now) ++ seen)
-          (ap (λ vs. vs ++ seen) (ap (map plain_use) c.as_slice-uses.ensures ∙ c.in_ok-add_statement.ensures ∙ ap (λ vs. vs ++ plain.uses_of (statement_of c.args.statement.now)) c.new-here.ensures)) ((declares seen k).1 e),
+          (ap (λ vs. vs ++ seen) (ap (map plain_use) c.as_slice-uses.ensures ∙ c.in_ok-here.ensures)) ((declares seen k).1 e),
     ))
     c.declares_again.ensures

@@ -1,5 +1,5 @@
 use Rattle.f77_names.specs.UsesView.{listed}
-use Rattle.f77_kinds.proofs.kind_check.KindCheck.is_variable.Goals as goal
+use Rattle.f77_names.proofs.known_names.KnownNames.is_variable.Goals as goal
 
 pub returns : goal.returns
 returns c = c.is_variable.ensures.exact (listed c.args.self.now.uses) c.args.self.now.known

@@ -1,5 +1,5 @@
 use Rattle.f77_names.specs.UsesView.{listed}
-use Rattle.f77_kinds.proofs.kind_check.KindCheck.function.Goals as goal
+use Rattle.f77_names.proofs.known_names.KnownNames.function.Goals as goal
 
 pub returns : goal.returns
 returns c = c.function.ensures.exact (listed c.args.self.now.uses) c.args.self.now.known

@@ -1,5 +1,5 @@
 use Rattle.f77_names.specs.UsesView.{listed}
-use Rattle.f77_tree.proofs.resolver.Resolver.is_constant.Goals as goal
+use Rattle.f77_names.proofs.known_names.KnownNames.is_constant.Goals as goal
 
 pub returns : goal.returns
 returns c = c.is_constant.ensures.exact (listed c.args.self.now.uses) c.args.self.now.known

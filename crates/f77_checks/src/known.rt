@@ -1,0 +1,35 @@
+//! What is known of the statements of a program, found once for all checks and for its tree.
+ghost use Rattle.std.specs.Prelude.{IfOk};
+ghost use Rattle.f77_syntax.specs.Views.{text_of};
+ghost use Rattle.f77_checks.specs.Known.{IsKnownOf};
+
+use f77_constants::{Constants, constants_of};
+use f77_names::KnownNames;
+use f77_structure::{LabelPlaces, label_ends};
+use f77_syntax::Labelled;
+use fv_tree::Memory;
+use std::alloc::Global;
+
+/// The names of a program, the places where labels end loops, and the values of its symbolic constants.
+#[derive(Drop)]
+pub struct Known {
+    pub names: KnownNames,
+    pub ends: LabelPlaces,
+    pub constants: Constants,
+}
+
+impl Known {
+    /// What these statements say.
+    pub fn of_text(alloc: Global, text: &[Labelled]) -> Result<Known, Memory>
+        ensures { IfOk result (λ known. IsKnownOf known (text_of text.now)) }
+    {
+        let names = KnownNames::of_text(alloc, text)?;
+        let ends = label_ends(alloc, text)?;
+        let constants = constants_of(alloc, text)?;
+        Ok(Known {
+            names,
+            ends,
+            constants,
+        })
+    }
+}
