@@ -6,6 +6,7 @@ use Rattle.fv_tree.specs.declared.exprs.Expr.{Expr}
 use Rattle.fv_tree.specs.declared.exprs.Ref.{Ref}
 use Rattle.fv_tree.specs.declared.exprs.Sub.{Sub}
 use Rattle.fv_tree.specs.declared.stmts.Item.{Item}
+use Rattle.f77_grammar.specs.statements.Items.{Direction}
 use Rattle.f77_grammar.specs.program.Tree as tree
 use Rattle.f77_constants.specs.Constants.{store_of}
 use Rattle.f77_names.specs.UsesView.{listed}
@@ -23,8 +24,8 @@ reference_by r q = tree.resolved_reference (listed r.uses) (store_of r.constants
 abbrev pub read_by : Resolver → Expr → Expression
 read_by r e = tree.resolved_input (listed r.uses) (store_of r.constants) (expression_of e)
 
-abbrev pub output_by : Resolver → Item → plain.Item
-output_by r i = tree.resolved_output_item (listed r.uses) (store_of r.constants) (item_of i)
+abbrev pub value_by : Resolver → Direction → Expr → Expression
+value_by r d e = tree.resolved_value (listed r.uses) (store_of r.constants) d (expression_of e)
 
-abbrev pub input_by : Resolver → Item → plain.Item
-input_by r i = tree.resolved_input_item (listed r.uses) (store_of r.constants) (item_of i)
+abbrev pub item_by : Resolver → Direction → Item → plain.Item
+item_by r d i = tree.resolved_item (listed r.uses) (store_of r.constants) d (item_of i)
