@@ -1,3 +1,4 @@
+pub mod Controls
 pub mod Forms
 pub mod Items
 pub mod Reading

@@ -21,12 +21,13 @@ use Rattle.fv_tree.specs.declared.stmts.Item.TheVariants as variants
 use Rattle.fv_tree.proofs.Equations.{expression_of-int, expression_of-truth, expression_of-item, expression_of-un, expression_of-bin, expression_of-call, reference_of-is, item_of-one, item_of-text, item_of-turns}
 use Rattle.fv_tree.proofs.Equations.{expression_of-list, expression_of-spread, expression_of-transpose, expression_of-reshape, expression_of-reduce}
 use Rattle.fv_tree.specs.declared.ops.Kind.{Kind}
+use Rattle.f77_grammar.specs.statements.Items.{Direction, Output, Input}
 use Rattle.f77_syntax.specs.declared.statements.Entity.{Entity}
 use Rattle.f77_syntax.specs.declared.statements.Stmt77.{Stmt77}
 use Rattle.f77_syntax.specs.declared.statements.Stmt77.TheVariants as stmts
 use Rattle.f77_syntax.specs.Views.{statement_of}
 use Rattle.f77_syntax.proofs.Equations.{statement_of-program, statement_of-declare, statement_of-dimension, statement_of-constants, statement_of-assign, statement_of-go, statement_of-test, statement_of-if, statement_of-else_if, statement_of-else, statement_of-end_if, statement_of-do, statement_of-continue, statement_of-stop, statement_of-read, statement_of-print, statement_of-end}
-use Rattle.f77_jumps.specs.Misuses.{is_round, sets_round, reads_round, is_wrong_round, misuses_output, misuses_outputs, misuses_input, misuses_inputs, misuses_statement}
+use Rattle.f77_jumps.specs.Misuses.{is_round, sets_round, reads_round, value_sets_round, is_wrong_round, misuses_item, misuses_items, misuses_statement}
 
 -- ---- targets
 
@@ -87,86 +88,48 @@ pub ruleset target_laws = (target-bare, target-element, reads-item, reads-int, r
 -- ---- items
 
 module _ (scalar round : List ℕ → Bool) (lists : List (List ℕ)) where
-  pub output-one : (e : Expr) → misuses_output scalar round (item_of (variants.One e)) lists ≡ false
-  output-one e = ap (λ i. misuses_output scalar round i lists) (item_of-one e)
+  pub item-one : (d : Direction) (e : Expr) → misuses_item scalar round d (item_of (variants.One e)) lists ≡ value_sets_round round d lists (expression_of e)
+  item-one d e = ap (λ i. misuses_item scalar round d i lists) (item_of-one e)
 
-  pub output-text : (t : Seq ℕ) → misuses_output scalar round (item_of (variants.Text t)) lists ≡ false
-  output-text t = ap (λ i. misuses_output scalar round i lists) (item_of-text t)
+  pub item-text : (d : Direction) (t : Seq ℕ) → misuses_item scalar round d (item_of (variants.Text t)) lists ≡ false
+  item-text d t = ap (λ i. misuses_item scalar round d i lists) (item_of-text t)
 
-  pub output-turns : (is : Seq Item') (x : Name) (a b c : Expr) → misuses_output scalar round (item_of (variants.Turns is x a b c)) lists
-      ≡ (is_wrong_round scalar round x lists || misuses_outputs scalar round (items (map item_of is)) (lists ++ x ∷ []))
-  output-turns is x a b c = ap (λ i. misuses_output scalar round i lists) (item_of-turns is x a b c)
+  pub item-turns : (d : Direction) (is : Seq Item') (x : Name) (a b c : Expr) → misuses_item scalar round d (item_of (variants.Turns is x a b c)) lists
+      ≡ (is_wrong_round scalar round x lists || misuses_items scalar round d (items (map item_of is)) (lists ++ x ∷ []))
+  item-turns d is x a b c = ap (λ i. misuses_item scalar round d i lists) (item_of-turns is x a b c)
 
-  pub input-one : (e : Expr) → misuses_input scalar round (item_of (variants.One e)) lists ≡ reads_round round lists (expression_of e)
-  input-one e = ap (λ i. misuses_input scalar round i lists) (item_of-one e)
-
-  pub input-text : (t : Seq ℕ) → misuses_input scalar round (item_of (variants.Text t)) lists ≡ false
-  input-text t = ap (λ i. misuses_input scalar round i lists) (item_of-text t)
-
-  pub input-turns : (is : Seq Item') (x : Name) (a b c : Expr) → misuses_input scalar round (item_of (variants.Turns is x a b c)) lists
-      ≡ (is_wrong_round scalar round x lists || misuses_inputs scalar round (items (map item_of is)) (lists ++ x ∷ []))
-  input-turns is x a b c = ap (λ i. misuses_input scalar round i lists) (item_of-turns is x a b c)
-
-pub ruleset item_laws = (output-one, output-text, output-turns, input-one, input-text, input-turns)
+pub ruleset item_laws = (item-one, item-text, item-turns)
 
 items_left : (list : List Item') (i : ℕ) (x : Item') → i < length list → x ≡ get_or list i x → drop i list ≡ x ∷ drop (i + 1) list
 items_left list i x h e = rw (add-one, drop-cons list i x h, sym e) refl
 
-pub outputs_left : (scalar round : List ℕ → Bool) (lists : List (List ℕ)) (list : List Item') (i : ℕ) (x : Item') → i < length list → x ≡ get_or list i x
-    → misuses_outputs scalar round (items (map item_of (drop i list))) lists
-    ≡ (misuses_output scalar round (item_of x) lists || misuses_outputs scalar round (items (map item_of (drop (i + 1) list))) lists)
-outputs_left scalar round lists list i x h e = ap (λ xs. misuses_outputs scalar round (items (map item_of xs)) lists) (items_left list i x h e)
+pub list_left : (scalar round : List ℕ → Bool) (d : Direction) (lists : List (List ℕ)) (list : List Item') (i : ℕ) (x : Item') → i < length list → x ≡ get_or list i x
+    → misuses_items scalar round d (items (map item_of (drop i list))) lists
+    ≡ (misuses_item scalar round d (item_of x) lists || misuses_items scalar round d (items (map item_of (drop (i + 1) list))) lists)
+list_left scalar round d lists list i x h e = ap (λ xs. misuses_items scalar round d (items (map item_of xs)) lists) (items_left list i x h e)
 
-pub inputs_left : (scalar round : List ℕ → Bool) (lists : List (List ℕ)) (list : List Item') (i : ℕ) (x : Item') → i < length list → x ≡ get_or list i x
-    → misuses_inputs scalar round (items (map item_of (drop i list))) lists
-    ≡ (misuses_input scalar round (item_of x) lists || misuses_inputs scalar round (items (map item_of (drop (i + 1) list))) lists)
-inputs_left scalar round lists list i x h e = ap (λ xs. misuses_inputs scalar round (items (map item_of xs)) lists) (items_left list i x h e)
+-- ---- a list, item by item: `lists` are the DO variables round it, kept as `kept`
 
--- ---- an output list, item by item: `lists` are the DO variables round it, kept as `kept`
+module _ (scalar round : List ℕ → Bool) (d : Direction) (lists kept : List (List ℕ)) (list : List Item') (i : ℕ) (x : Item') (whole wrong : Bool) where
+  list_at : i < length list → x ≡ get_or list i x → whole ≡ misuses_items scalar round d (items (map item_of (drop i list))) lists
+      → kept ≡ lists → wrong ≡ misuses_item scalar round d (item_of x) kept
+      → whole ≡ (wrong || misuses_items scalar round d (items (map item_of (drop (i + 1) list))) lists)
+  list_at h e w k r =
+      w ∙ list_left scalar round d lists list i x h e
+      ∙ ap (λ b. b || misuses_items scalar round d (items (map item_of (drop (i + 1) list))) lists) (ap (misuses_item scalar round d (item_of x)) (sym k) ∙ sym r)
 
-module _ (scalar round : List ℕ → Bool) (lists kept : List (List ℕ)) (list : List Item') (i : ℕ) (x : Item') (whole wrong : Bool) where
-  outputs_at : i < length list → x ≡ get_or list i x → whole ≡ misuses_outputs scalar round (items (map item_of (drop i list))) lists
-      → kept ≡ lists → wrong ≡ misuses_output scalar round (item_of x) kept
-      → whole ≡ (wrong || misuses_outputs scalar round (items (map item_of (drop (i + 1) list))) lists)
-  outputs_at h e w k r =
-      w ∙ outputs_left scalar round lists list i x h e
-      ∙ ap (λ b. b || misuses_outputs scalar round (items (map item_of (drop (i + 1) list))) lists) (ap (misuses_output scalar round (item_of x)) (sym k) ∙ sym r)
+  pub item_stops : i < length list → x ≡ get_or list i x → whole ≡ misuses_items scalar round d (items (map item_of (drop i list))) lists
+      → kept ≡ lists → wrong ≡ misuses_item scalar round d (item_of x) kept → wrong ≡ true → true ≡ whole
+  item_stops h e w k r g = sym (list_at h e w k r ∙ ap (λ b. b || misuses_items scalar round d (items (map item_of (drop (i + 1) list))) lists) g)
 
-  pub output_stops : i < length list → x ≡ get_or list i x → whole ≡ misuses_outputs scalar round (items (map item_of (drop i list))) lists
-      → kept ≡ lists → wrong ≡ misuses_output scalar round (item_of x) kept → wrong ≡ true → true ≡ whole
-  output_stops h e w k r g = sym (outputs_at h e w k r ∙ ap (λ b. b || misuses_outputs scalar round (items (map item_of (drop (i + 1) list))) lists) g)
+  pub item_goes_on : i < length list → x ≡ get_or list i x → whole ≡ misuses_items scalar round d (items (map item_of (drop i list))) lists
+      → kept ≡ lists → wrong ≡ misuses_item scalar round d (item_of x) kept → wrong ≡ false
+      → whole ≡ misuses_items scalar round d (items (map item_of (drop (i + 1) list))) lists
+  item_goes_on h e w k r g = list_at h e w k r ∙ ap (λ b. b || misuses_items scalar round d (items (map item_of (drop (i + 1) list))) lists) g
 
-  pub output_goes_on : i < length list → x ≡ get_or list i x → whole ≡ misuses_outputs scalar round (items (map item_of (drop i list))) lists
-      → kept ≡ lists → wrong ≡ misuses_output scalar round (item_of x) kept → wrong ≡ false
-      → whole ≡ misuses_outputs scalar round (items (map item_of (drop (i + 1) list))) lists
-  output_goes_on h e w k r g = outputs_at h e w k r ∙ ap (λ b. b || misuses_outputs scalar round (items (map item_of (drop (i + 1) list))) lists) g
-
-pub output_ends : (scalar round : List ℕ → Bool) (lists : List (List ℕ)) (list : List Item') (i : ℕ) (whole : Bool) → length list ≤ i
-    → whole ≡ misuses_outputs scalar round (items (map item_of (drop i list))) lists → false ≡ whole
-output_ends scalar round lists list i whole h w = sym (w ∙ ap (λ xs. misuses_outputs scalar round (items (map item_of xs)) lists) (drop_all i list h))
-
--- ---- an input list, item by item: `lists` are the DO variables round it, kept as `kept`
-
-module _ (scalar round : List ℕ → Bool) (lists kept : List (List ℕ)) (list : List Item') (i : ℕ) (x : Item') (whole wrong : Bool) where
-  inputs_at : i < length list → x ≡ get_or list i x → whole ≡ misuses_inputs scalar round (items (map item_of (drop i list))) lists
-      → kept ≡ lists → wrong ≡ misuses_input scalar round (item_of x) kept
-      → whole ≡ (wrong || misuses_inputs scalar round (items (map item_of (drop (i + 1) list))) lists)
-  inputs_at h e w k r =
-      w ∙ inputs_left scalar round lists list i x h e
-      ∙ ap (λ b. b || misuses_inputs scalar round (items (map item_of (drop (i + 1) list))) lists) (ap (misuses_input scalar round (item_of x)) (sym k) ∙ sym r)
-
-  pub input_stops : i < length list → x ≡ get_or list i x → whole ≡ misuses_inputs scalar round (items (map item_of (drop i list))) lists
-      → kept ≡ lists → wrong ≡ misuses_input scalar round (item_of x) kept → wrong ≡ true → true ≡ whole
-  input_stops h e w k r g = sym (inputs_at h e w k r ∙ ap (λ b. b || misuses_inputs scalar round (items (map item_of (drop (i + 1) list))) lists) g)
-
-  pub input_goes_on : i < length list → x ≡ get_or list i x → whole ≡ misuses_inputs scalar round (items (map item_of (drop i list))) lists
-      → kept ≡ lists → wrong ≡ misuses_input scalar round (item_of x) kept → wrong ≡ false
-      → whole ≡ misuses_inputs scalar round (items (map item_of (drop (i + 1) list))) lists
-  input_goes_on h e w k r g = inputs_at h e w k r ∙ ap (λ b. b || misuses_inputs scalar round (items (map item_of (drop (i + 1) list))) lists) g
-
-pub input_ends : (scalar round : List ℕ → Bool) (lists : List (List ℕ)) (list : List Item') (i : ℕ) (whole : Bool) → length list ≤ i
-    → whole ≡ misuses_inputs scalar round (items (map item_of (drop i list))) lists → false ≡ whole
-input_ends scalar round lists list i whole h w = sym (w ∙ ap (λ xs. misuses_inputs scalar round (items (map item_of xs)) lists) (drop_all i list h))
+pub list_ends : (scalar round : List ℕ → Bool) (d : Direction) (lists : List (List ℕ)) (list : List Item') (i : ℕ) (whole : Bool) → length list ≤ i
+    → whole ≡ misuses_items scalar round d (items (map item_of (drop i list))) lists → false ≡ whole
+list_ends scalar round d lists list i whole h w = sym (w ∙ ap (λ xs. misuses_items scalar round d (items (map item_of xs)) lists) (drop_all i list h))
 
 -- ---- statements
 
@@ -213,10 +176,10 @@ module _ (scalar round : List ℕ → Bool) where
   pub statement-stop : misuses_statement scalar round (statement_of stmts.Stop) ≡ false
   statement-stop = ap (misuses_statement scalar round) statement_of-stop
 
-  pub statement-read : (is : Seq Item') → misuses_statement scalar round (statement_of (stmts.Read is)) ≡ misuses_inputs scalar round (items (map item_of is)) []
+  pub statement-read : (is : Seq Item') → misuses_statement scalar round (statement_of (stmts.Read is)) ≡ misuses_items scalar round Input (items (map item_of is)) []
   statement-read is = ap (misuses_statement scalar round) (statement_of-read is)
 
-  pub statement-print : (is : Seq Item') → misuses_statement scalar round (statement_of (stmts.Print is)) ≡ misuses_outputs scalar round (items (map item_of is)) []
+  pub statement-print : (is : Seq Item') → misuses_statement scalar round (statement_of (stmts.Print is)) ≡ misuses_items scalar round Output (items (map item_of is)) []
   statement-print is = ap (misuses_statement scalar round) (statement_of-print is)
 
   pub statement-end : misuses_statement scalar round (statement_of stmts.End) ≡ false

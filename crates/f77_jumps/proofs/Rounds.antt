@@ -12,7 +12,8 @@ use Rattle.f77_grammar.specs.program.Text.{action, stands_in, ends_in, loop_ends
 use Rattle.fv_meaning.specs.Names.{is_among}
 use Rattle.f77_grammar.specs.program.Kinds.{same_kind}
 use Rattle.f77_grammar.specs.program.Uses.{Role, Title, Typed, Bounded, Defined, Valued, Target, Counter, Use, uses_in_text, stands, is_typed, is_bounded, is_defined, is_bare, type_of, type_in, or_integer}
-use Rattle.f77_grammar.specs.program.DoVariables.{loop_variable, loop_variables, sets_one_of, reads_one_of, is_integer_scalar, is_wrong_variable, misuses_in_output, misuses_in_outputs, misuses_in_input, misuses_in_inputs, misuses_variable, has_wrong_do_variable}
+use Rattle.f77_grammar.specs.statements.Items.{Direction, Output, Input}
+use Rattle.f77_grammar.specs.program.DoVariables.{loop_variable, loop_variables, sets_one_of, reads_one_of, is_integer_scalar, is_wrong_variable, value_sets_one_of, misuses_in_item, misuses_in_items, misuses_variable, has_wrong_do_variable}
 use Rattle.f77_syntax.specs.declared.statements.Labelled.{Labelled as Labelled'}
 use Rattle.f77_syntax.specs.Views.{labelled_of, text_of, statement_of}
 use Rattle.f77_syntax.specs.Walk.{passed, place_at}
@@ -24,7 +25,7 @@ use Rattle.f77_names.specs.NameFacts.{nothing_known, first_given, facts_with, fa
 use Rattle.f77_names.proofs.FactLaws.{constant_is, bare_is, bounded_is, typed_is}
 use Rattle.f77_jumps.specs.declared.do_variables.LoopVariables.{LoopVariables}
 use Rattle.f77_jumps.specs.LoopVariables.{last_in, scalar_in, round_at, loop_begun, end_with, last_of}
-use Rattle.f77_jumps.specs.Misuses.{is_scalar_by, is_round, sets_round, reads_round, is_wrong_round, misuses_output, misuses_outputs, misuses_input, misuses_inputs, misuses_statement}
+use Rattle.f77_jumps.specs.Misuses.{is_scalar_by, is_round, sets_round, reads_round, value_sets_round, is_wrong_round, misuses_item, misuses_items, misuses_statement}
 use Rattle.f77_jumps.specs.Targets.{later}
 
 -- ---- loops
@@ -153,39 +154,29 @@ module _ (us : List Use) (scalar round : List ℕ → Bool) (known : (x : List �
   wrong_same : (around lists : List (List ℕ)) → RoundAs round around lists → (x : List ℕ) → is_wrong_variable us x around ≡ is_wrong_round scalar round x lists
   wrong_same around lists h x = either_same (not (is_integer_scalar us x)) (is_among around x) (not (scalar x)) (is_round round lists x) (ap not (sym (known x))) (h x)
 
-  mutual
-    output_same : (i : Item) (around lists : List (List ℕ)) → RoundAs round around lists → misuses_in_output us i around ≡ misuses_output scalar round i lists
-    output_same (Single e) around lists h = refl
-    output_same (Constant t) around lists h = refl
-    output_same (ImpliedDo is x a b c) around lists h =
-        either_same (is_wrong_variable us x around) (misuses_in_outputs us is (x ∷ around)) (is_wrong_round scalar round x lists) (misuses_outputs scalar round is (lists ++ x ∷ []))
-        (wrong_same around lists h x) (outputs_same is (x ∷ around) (lists ++ x ∷ []) (round_more round around lists x h))
-
-    outputs_same : (is : Items) (around lists : List (List ℕ)) → RoundAs round around lists → misuses_in_outputs us is around ≡ misuses_outputs scalar round is lists
-    outputs_same no_items around lists h = refl
-    outputs_same (item i is) around lists h =
-        either_same (misuses_in_output us i around) (misuses_in_outputs us is around) (misuses_output scalar round i lists) (misuses_outputs scalar round is lists)
-        (output_same i around lists h) (outputs_same is around lists h)
+  value_same : (d : Direction) (around lists : List (List ℕ)) → RoundAs round around lists → (e : Expression) → value_sets_one_of d around e ≡ value_sets_round round d lists e
+  value_same Output around lists h e = refl
+  value_same Input around lists h e = reads_same round around lists h e
 
   mutual
-    input_same : (i : Item) (around lists : List (List ℕ)) → RoundAs round around lists → misuses_in_input us i around ≡ misuses_input scalar round i lists
-    input_same (Single e) around lists h = reads_same round around lists h e
-    input_same (Constant t) around lists h = refl
-    input_same (ImpliedDo is x a b c) around lists h =
-        either_same (is_wrong_variable us x around) (misuses_in_inputs us is (x ∷ around)) (is_wrong_round scalar round x lists) (misuses_inputs scalar round is (lists ++ x ∷ []))
-        (wrong_same around lists h x) (inputs_same is (x ∷ around) (lists ++ x ∷ []) (round_more round around lists x h))
+    item_same : (d : Direction) (i : Item) (around lists : List (List ℕ)) → RoundAs round around lists → misuses_in_item us d i around ≡ misuses_item scalar round d i lists
+    item_same d (Single e) around lists h = value_same d around lists h e
+    item_same d (Constant t) around lists h = refl
+    item_same d (ImpliedDo is x a b c) around lists h =
+        either_same (is_wrong_variable us x around) (misuses_in_items us d is (x ∷ around)) (is_wrong_round scalar round x lists) (misuses_items scalar round d is (lists ++ x ∷ []))
+        (wrong_same around lists h x) (items_same d is (x ∷ around) (lists ++ x ∷ []) (round_more round around lists x h))
 
-    inputs_same : (is : Items) (around lists : List (List ℕ)) → RoundAs round around lists → misuses_in_inputs us is around ≡ misuses_inputs scalar round is lists
-    inputs_same no_items around lists h = refl
-    inputs_same (item i is) around lists h =
-        either_same (misuses_in_input us i around) (misuses_in_inputs us is around) (misuses_input scalar round i lists) (misuses_inputs scalar round is lists)
-        (input_same i around lists h) (inputs_same is around lists h)
+    items_same : (d : Direction) (is : Items) (around lists : List (List ℕ)) → RoundAs round around lists → misuses_in_items us d is around ≡ misuses_items scalar round d is lists
+    items_same d no_items around lists h = refl
+    items_same d (item i is) around lists h =
+        either_same (misuses_in_item us d i around) (misuses_in_items us d is around) (misuses_item scalar round d i lists) (misuses_items scalar round d is lists)
+        (item_same d i around lists h) (items_same d is around lists h)
 
   statement_same : (around : List (List ℕ)) → RoundAs round around [] → (s : Statement77) → misuses_variable us s around ≡ misuses_statement scalar round s
   statement_same around h (Assign left e) = sets_same round around [] h left.name left.subscripts
   statement_same around h (Do n x a b c) = wrong_same around [] h x
-  statement_same around h (Read is) = inputs_same is around [] h
-  statement_same around h (Print is) = outputs_same is around [] h
+  statement_same around h (Read is) = items_same Input is around [] h
+  statement_same around h (Print is) = items_same Output is around [] h
   statement_same around h s = refl
 
 -- ---- statements of the code

@@ -5,6 +5,7 @@ use Rattle.fv_tree.specs.Plain.{Expression, Named, Subscripts, no_subscripts, su
 use Rattle.fv_tree.specs.Plain.{ImpliedDo, Items, no_items, item}
 use Rattle.fv_tree.specs.declared.ops.Kind.TheVariants.{Integer}
 use Rattle.f77_grammar.specs.Statement77.{Statement77, Assign, Do, Read, Print}
+use Rattle.f77_grammar.specs.statements.Items.{Direction, Output, Input}
 use Rattle.fv_meaning.specs.Names.{is_among}
 use Rattle.f77_grammar.specs.program.Kinds.{same_kind}
 use Rattle.f77_grammar.specs.program.Uses.{or_integer}
@@ -30,34 +31,29 @@ abbrev pub reads_round : (List ℕ → Bool) → List (List ℕ) → Expression 
 reads_round round lists (Named x ps) = sets_round round lists x ps
 reads_round round lists e = false
 
+-- what is printed sets nothing
+abbrev pub value_sets_round : (List ℕ → Bool) → Direction → List (List ℕ) → Expression → Bool
+value_sets_round round Output lists e = false
+value_sets_round round Input lists e = reads_round round lists e
+
 -- `scalar` says which names are INTEGER scalar variables
 module _ (scalar round : List ℕ → Bool) where
   abbrev pub is_wrong_round : List ℕ → List (List ℕ) → Bool
   is_wrong_round x lists = not (scalar x) || is_round round lists x
 
   abbrev mutual
-    pub misuses_output : Item → List (List ℕ) → Bool
-    misuses_output (Single e) lists = false
-    misuses_output (Constant t) lists = false
-    misuses_output (ImpliedDo is x a b c) lists = is_wrong_round x lists || misuses_outputs is (lists ++ x ∷ [])
+    pub misuses_item : Direction → Item → List (List ℕ) → Bool
+    misuses_item d (Single e) lists = value_sets_round round d lists e
+    misuses_item d (Constant t) lists = false
+    misuses_item d (ImpliedDo is x a b c) lists = is_wrong_round x lists || misuses_items d is (lists ++ x ∷ [])
 
-    pub misuses_outputs : Items → List (List ℕ) → Bool
-    misuses_outputs no_items lists = false
-    misuses_outputs (item i is) lists = misuses_output i lists || misuses_outputs is lists
-
-  abbrev mutual
-    pub misuses_input : Item → List (List ℕ) → Bool
-    misuses_input (Single e) lists = reads_round round lists e
-    misuses_input (Constant t) lists = false
-    misuses_input (ImpliedDo is x a b c) lists = is_wrong_round x lists || misuses_inputs is (lists ++ x ∷ [])
-
-    pub misuses_inputs : Items → List (List ℕ) → Bool
-    misuses_inputs no_items lists = false
-    misuses_inputs (item i is) lists = misuses_input i lists || misuses_inputs is lists
+    pub misuses_items : Direction → Items → List (List ℕ) → Bool
+    misuses_items d no_items lists = false
+    misuses_items d (item i is) lists = misuses_item d i lists || misuses_items d is lists
 
   abbrev pub misuses_statement : Statement77 → Bool
   misuses_statement (Assign left e) = sets_round round [] left.name left.subscripts
   misuses_statement (Do n x a b c) = is_wrong_round x []
-  misuses_statement (Read is) = misuses_inputs is []
-  misuses_statement (Print is) = misuses_outputs is []
+  misuses_statement (Read is) = misuses_items Input is []
+  misuses_statement (Print is) = misuses_items Output is []
   misuses_statement _ = false

@@ -16,11 +16,11 @@ ghost use Rattle.f77_structure.specs.LabelPlaces.{place_of, AreEndsIn};
 ghost use Rattle.f77_names.specs.UsesView.{listed};
 ghost use Rattle.f77_jumps.specs.LoopVariables.{last_in, scalar_in, round_at, loop_begun, end_with};
 ghost use Rattle.f77_jumps.specs.Misuses.{is_scalar_by, is_round, sets_round, reads_round, is_wrong_round};
-ghost use Rattle.f77_jumps.specs.Misuses.{misuses_output, misuses_outputs, misuses_input, misuses_inputs};
-ghost use Rattle.f77_jumps.specs.Misuses.{misuses_statement};
+ghost use Rattle.f77_jumps.specs.Misuses.{value_sets_round, misuses_item, misuses_items, misuses_statement};
 ghost use Rattle.f77_jumps.specs.Targets.{later};
 
 use crate::targets::later;
+use f77_grammar::Direction;
 use f77_names::{Facts, KnownNames, Names};
 use f77_structure::LabelPlaces;
 use f77_syntax::{Labelled, Stmt77};
@@ -206,85 +206,59 @@ impl LoopVariables<'_> {
         }
     }
 
-    // The item has a wrong DO variable; `lists` are the DO variables of the implied DO lists round it.
-    #[cycle(outputs)]
+    // What is read into sets such a scalar; what is printed sets nothing.
+    fn value_sets_round(&self, direction: Direction, expr: &Expr, at: usize, lists: &[Name]) -> bool
+        ensures { result ≡ value_sets_round (round_at self.now at) direction lists.now (expression_of expr.now) }
+    {
+        match direction {
+            Direction::Output => false,
+            Direction::Input => self.reads_round(expr, at, lists),
+        }
+    }
+
+    // The item has a wrong DO variable, or sets one; `lists` are the DO variables of the implied DO lists round it.
+    #[cycle(items)]
     #[tactic(auto, using(crate::proofs::Misuses::item_laws))]
-    fn misuses_output(&self, item: &Item, at: usize, lists: &mut Vec<Name>) -> Result<bool, Memory>
+    fn misuses_item(
+        &self,
+        direction: Direction,
+        item: &Item,
+        at: usize,
+        lists: &mut Vec<Name>,
+    ) -> Result<bool, Memory>
         ensures lists { OnOk result (lists.new.items ≡ lists.old.items) }
-        ensures wrong { IfOk result (λ wrong. wrong ≡ misuses_output (scalar_in self.now) (round_at self.now at)
-            (item_of item.now) lists.old.items) }
+        ensures wrong { IfOk result (λ wrong. wrong ≡ misuses_item (scalar_in self.now) (round_at self.now at)
+            direction (item_of item.now) lists.old.items) }
     {
         match item {
-            Item::One(_) => Ok(false),
+            Item::One(expr) => Ok(self.value_sets_round(direction, expr, at, lists.as_slice())),
             Item::Text(_) => Ok(false),
             Item::Turns(list, variable, ..) => {
                 if self.is_wrong(*variable, at, lists.as_slice()) {
                     return Ok(true);
                 }
                 lists.push(*variable)?;
-                let wrong = self.misuses_outputs(list, at, lists)?;
+                let wrong = self.misuses_items(direction, list, at, lists)?;
                 lists.pop();
                 Ok(wrong)
             }
         }
     }
 
-    #[cycle(outputs)]
-    fn misuses_outputs(
+    #[cycle(items)]
+    fn misuses_items(
         &self,
+        direction: Direction,
         list: &Seq<Item>,
         at: usize,
         lists: &mut Vec<Name>,
     ) -> Result<bool, Memory>
         ensures lists { OnOk result (lists.new.items ≡ lists.old.items) }
-        ensures wrong { IfOk result (λ wrong. wrong ≡ misuses_outputs (scalar_in self.now) (round_at self.now at)
-            (items (map item_of list.now)) lists.old.items) }
+        ensures wrong { IfOk result (λ wrong. wrong ≡ misuses_items (scalar_in self.now) (round_at self.now at)
+            direction (items (map item_of list.now)) lists.old.items) }
     {
         for item in list.as_slice() {
-            let wrong = self.misuses_output(item, at, lists)?;
-            if wrong {
-                return Ok(true);
-            }
-        }
-        Ok(false)
-    }
-
-    // The item has a wrong DO variable, or a DO variable is read into.
-    #[cycle(inputs)]
-    #[tactic(auto, using(crate::proofs::Misuses::item_laws))]
-    fn misuses_input(&self, item: &Item, at: usize, lists: &mut Vec<Name>) -> Result<bool, Memory>
-        ensures lists { OnOk result (lists.new.items ≡ lists.old.items) }
-        ensures wrong { IfOk result (λ wrong. wrong ≡ misuses_input (scalar_in self.now) (round_at self.now at)
-            (item_of item.now) lists.old.items) }
-    {
-        match item {
-            Item::One(expr) => Ok(self.reads_round(expr, at, lists.as_slice())),
-            Item::Text(_) => Ok(false),
-            Item::Turns(list, variable, ..) => {
-                if self.is_wrong(*variable, at, lists.as_slice()) {
-                    return Ok(true);
-                }
-                lists.push(*variable)?;
-                let wrong = self.misuses_inputs(list, at, lists)?;
-                lists.pop();
-                Ok(wrong)
-            }
-        }
-    }
-
-    #[cycle(inputs)]
-    fn misuses_inputs(
-        &self,
-        list: &Seq<Item>,
-        at: usize,
-        lists: &mut Vec<Name>,
-    ) -> Result<bool, Memory>
-        ensures lists { OnOk result (lists.new.items ≡ lists.old.items) }
-        ensures wrong { IfOk result (λ wrong. wrong ≡ misuses_inputs (scalar_in self.now) (round_at self.now at)
-            (items (map item_of list.now)) lists.old.items) }
-    {
-        for item in list.as_slice() {
-            let wrong = self.misuses_input(item, at, lists)?;
+            let wrong = self.misuses_item(direction, item, at, lists)?;
             if wrong {
                 return Ok(true);
             }
@@ -302,8 +276,8 @@ impl LoopVariables<'_> {
         match statement {
             Stmt77::Assign(left, _) => Ok(self.sets_round(left, at, lists.as_slice())),
             Stmt77::Do(_, variable, ..) => Ok(self.is_wrong(*variable, at, lists.as_slice())),
-            Stmt77::Read(list) => self.misuses_inputs(list, at, &mut lists),
-            Stmt77::Print(list) => self.misuses_outputs(list, at, &mut lists),
+            Stmt77::Read(list) => self.misuses_items(Direction::Input, list, at, &mut lists),
+            Stmt77::Print(list) => self.misuses_items(Direction::Output, list, at, &mut lists),
             Stmt77::Program(_) => Ok(false),
             Stmt77::Declare(..) => Ok(false),
             Stmt77::Dimension(_) => Ok(false),

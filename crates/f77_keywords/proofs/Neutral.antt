@@ -5,10 +5,11 @@ use Rattle.f77_grammar.specs.expressions.Words as words
 use Rattle.f77_grammar.specs.expressions.Words.{Word}
 use Rattle.f77_grammar.specs.expressions.Phrases as phrases
 use Rattle.f77_grammar.specs.expressions.Phrases.{Phrase, Phrases, written, written_list, Literal, WideLiteral, Truth, Name, Listed, Paren, Signed, Joined}
+use Rattle.f77_grammar.specs.statements.Controls.{Control, written_step, written_control}
 use Rattle.f77_grammar.specs.statements.Items as items
-use Rattle.f77_grammar.specs.statements.Items.{ItemPhrase, ItemPhrases, written_item, written_items, written_step}
+use Rattle.f77_grammar.specs.statements.Items.{ItemPhrase, ItemPhrases, written_item, written_items}
 use Rattle.f77_grammar.specs.statements.Forms as forms
-use Rattle.f77_grammar.specs.statements.Forms.{written_control, followed, separated, Bound, Entity, Definition, written_bound, written_entity, written_definition}
+use Rattle.f77_grammar.specs.statements.Forms.{followed, separated, Bound, Entity, Definition, written_bound, written_entity, written_definition}
 use Rattle.f77_keywords.proofs.Marks.{Marks, mark, marks, none, made, deeper, marks_append}
 
 -- words in the middle that leave the marks as they are
@@ -42,20 +43,19 @@ neutral_step : (c : Option Phrase) (m : Marks) → marks m (written_step c) ≡ 
 neutral_step None m = refl
 neutral_step (Some p) m = neutral p (mark m words.Comma)
 
-pub control : (x : List ℕ) (a b : Phrase) (c : Option Phrase) (m : Marks)
-    → marks m (written_control x a b c) ≡ behind_step c (mark (mark m words.Equals) words.Comma)
-control x a b c m =
-    between (mark m words.Equals) (written a) words.Comma (written b ++ written_step c) (neutral a (mark m words.Equals))
-    ∙ (marks_append (mark (mark m words.Equals) words.Comma) (written b) (written_step c)
-    ∙ (ap (λ (q : Marks). marks q (written_step c)) (neutral b (mark (mark m words.Equals) words.Comma))
-    ∙ neutral_step c (mark (mark m words.Equals) words.Comma)))
+pub control : (c : Control) (m : Marks) → marks m (written_control c) ≡ behind_step c.step (mark (mark m words.Equals) words.Comma)
+control c m =
+    between (mark m words.Equals) (written c.first) words.Comma (written c.last ++ written_step c.step) (neutral c.first (mark m words.Equals))
+    ∙ (marks_append (mark (mark m words.Equals) words.Comma) (written c.last) (written_step c.step)
+    ∙ (ap (λ (q : Marks). marks q (written_step c.step)) (neutral c.last (mark (mark m words.Equals) words.Comma))
+    ∙ neutral_step c.step (mark (mark m words.Equals) words.Comma)))
 
 step_inside : (c : Option Phrase) (m : Marks) → behind_step c (deeper m) ≡ deeper m
 step_inside None m = refl
 step_inside (Some p) m = refl
 
-control_inside : (x : List ℕ) (a b : Phrase) (c : Option Phrase) (m : Marks) → marks (deeper m) (written_control x a b c) ≡ deeper m
-control_inside x a b c m = control x a b c (deeper m) ∙ step_inside c m
+control_inside : (c : Control) (m : Marks) → marks (deeper m) (written_control c) ≡ deeper m
+control_inside c m = control c (deeper m) ∙ step_inside c.step m
 
 -- the marks of a DO
 abbrev pub of_loop : Marks
@@ -65,8 +65,8 @@ step_outside : (c : Option Phrase) → behind_step c of_loop ≡ of_loop
 step_outside None = refl
 step_outside (Some p) = refl
 
-pub control_outside : (x : List ℕ) (a b : Phrase) (c : Option Phrase) → marks none (written_control x a b c) ≡ of_loop
-control_outside x a b c = control x a b c none ∙ step_outside c
+pub control_outside : (c : Control) → marks none (written_control c) ≡ of_loop
+control_outside c = control c none ∙ step_outside c.step
 
 -- ---- lists, where a comma counts nothing
 
@@ -74,9 +74,9 @@ mutual
   pub neutral_item : (i : ItemPhrase) (m : Marks) → marks m (written_item i) ≡ m
   neutral_item (items.Value p) m = neutral p m
   neutral_item (items.Text t) m = refl
-  neutral_item (items.Loop is x a b c) m =
-      between (deeper m) (written_items is) words.Comma (written_control x a b c ++ words.Close ∷ []) (neutral_items is (deeper m) refl)
-      ∙ between (deeper m) (written_control x a b c) words.Close [] (control_inside x a b c m)
+  neutral_item (items.Loop is c) m =
+      between (deeper m) (written_items is) words.Comma (written_control c ++ words.Close ∷ []) (neutral_items is (deeper m) refl)
+      ∙ between (deeper m) (written_control c) words.Close [] (control_inside c m)
 
   pub neutral_items : (is : ItemPhrases) (m : Marks) → mark m words.Comma ≡ m → marks m (written_items is) ≡ m
   neutral_items (items.Sole i) m q = neutral_item i m

@@ -11,9 +11,10 @@ use Rattle.f77_grammar.specs.expressions.Words.{Word}
 use Rattle.f77_grammar.specs.expressions.Spelling.{is_letter, is_letter_or_digit, IsDigits, IsName, Words, Begins, chars}
 use Rattle.f77_grammar.specs.expressions.Phrases as phrases
 use Rattle.f77_grammar.specs.expressions.Phrases.{Phrase, Phrases, written, written_list}
+use Rattle.f77_grammar.specs.statements.Controls.{Control, written_control}
 use Rattle.f77_grammar.specs.statements.Items.{ItemPhrases, IsReference, written_items}
 use Rattle.f77_grammar.specs.statements.Forms as forms
-use Rattle.f77_grammar.specs.statements.Forms.{Form, written_control, Entity, Definition, IsWritten, IsInner, IsLabel, optional_comma, separated, written_entity, written_definition}
+use Rattle.f77_grammar.specs.statements.Forms.{Form, Entity, Definition, IsWritten, IsInner, IsLabel, optional_comma, separated, written_entity, written_definition}
 use Rattle.f77_grammar.specs.statements.Recognition.{Halves, cut_from, cut_at_close, has_equals_outside, BeginsWithLetter, IsConditional, IsOfKeyword}
 use Rattle.f77_keywords.specs.Kinds.{IsOfAssignment, IsOfLoop, HasKeyword}
 use Rattle.f77_keywords.specs.Outside.{has_comma_outside}
@@ -194,7 +195,7 @@ inner_begins (forms.If p) text h k = absurd k
 inner_begins (forms.ElseIf p) text h k = absurd k
 inner_begins forms.Else text h k = absurd k
 inner_begins forms.EndIf text h k = absurd k
-inner_begins (forms.Do label comma x a b c) text h k = absurd k
+inner_begins (forms.Do label comma c) text h k = absurd k
 inner_begins forms.End text h k = absurd k
 
 pub recognised_test : (p : Phrase) (f : Form) (text : List Symbol) (h : IsWritten (forms.Test p f) text) → IsConditional text h.0 h.1
@@ -213,18 +214,18 @@ comma_behind_comma : (b : Bool) (rest : List Symbol) → has_comma_outside (char
 comma_behind_comma true rest = refl
 comma_behind_comma false rest = refl
 
-pub recognised_do : (label : List ℕ) (comma : Bool) (x : List ℕ) (a b : Phrase) (c : Option Phrase) (text : List Symbol) → IsWritten (forms.Do label comma x a b c) text → IsOfLoop text
-recognised_do label comma x a b c text h =
+pub recognised_do : (label : List ℕ) (comma : Bool) (c : Control) (text : List Symbol) → IsWritten (forms.Do label comma c) text → IsOfLoop text
+recognised_do label comma c text h =
     let e : text ≡ Char 68 ∷ (Char 79 ∷ (chars label ++ (chars (optional_comma comma) ++ h.0.0))) =
     h.0.1 ∙ ap (λ (q : List Symbol). Char 68 ∷ (Char 79 ∷ q)) (spread label (optional_comma comma) h.0.0) in
     record {
       unconditional = other_first 68 text _ refl e;
       equals = ap (λ (q : List Symbol). has_equals_outside q 0) e
           ∙ (equals_plain (chars label) (chars (optional_comma comma) ++ h.0.0) 0 (digits_plain label h.1.0)
-          ∙ (equals_behind_comma comma h.0.0 ∙ equals_whole h.0.0 (written_control x a b c) of_loop h.0.2 (control_outside x a b c)));
+          ∙ (equals_behind_comma comma h.0.0 ∙ equals_whole h.0.0 (written_control c) of_loop h.0.2 (control_outside c)));
       comma = ap (λ (q : List Symbol). has_comma_outside q 0 false) e
           ∙ (comma_plain (chars label) (chars (optional_comma comma) ++ h.0.0) 0 false (digits_plain label h.1.0)
-          ∙ (comma_behind_comma comma h.0.0 ∙ comma_whole h.0.0 (written_control x a b c) of_loop h.0.2 (control_outside x a b c)));
+          ∙ (comma_behind_comma comma h.0.0 ∙ comma_whole h.0.0 (written_control c) of_loop h.0.2 (control_outside c)));
     }
 
 -- ---- keywords
@@ -289,4 +290,4 @@ recognised_keyword forms.End k text h = fixed_keyword (chars (codes "END")) text
 recognised_keyword (forms.Assign l r) k text h = absurd k
 recognised_keyword (forms.Test p f) k text h = absurd k
 recognised_keyword (forms.If p) k text h = absurd k
-recognised_keyword (forms.Do label comma x a b c) k text h = absurd k
+recognised_keyword (forms.Do label comma c) k text h = absurd k

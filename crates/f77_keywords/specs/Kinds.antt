@@ -22,5 +22,5 @@ abbrev pub HasKeyword : Form → Type 0
 HasKeyword (Assign l r) = ⊥
 HasKeyword (Test p f) = ⊥
 HasKeyword (If p) = ⊥
-HasKeyword (Do label comma x a b c) = ⊥
+HasKeyword (Do label comma c) = ⊥
 HasKeyword f = Unit {0}

@@ -10,15 +10,16 @@ use Rattle.fv_tree.specs.Plain.{Expression, Number, Logic, Named, Unary, Binary,
 use Rattle.fv_meaning.specs.Store.{Store}
 use Rattle.fv_meaning.specs.Typed77.{number_of_subscripts, declared, HasKind, IsWhole, IsDoVariable, IsDeclared, IsOutput, IsInput, IsOutputItem, AreOutputItems, IsInputItem, AreInputItems}
 use Rattle.fv_meaning.specs.Profile77.{IsBlock, Surroundings}
+use Rattle.f77_grammar.specs.statements.Items.{Direction, Output, Input}
 use Rattle.f77_grammar.specs.Statement77.{Statement77, Program, Declare, Dimension, Constants, Assign, Go, Test, If, ElseIf, Else, EndIf, Do, Continue, Stop, Read, Print, End}
 use Rattle.f77_grammar.specs.expressions.Printing.{IsSource}
 use Rattle.f77_grammar.specs.program.Text.{action, is_declaration}
-use Rattle.f77_grammar.specs.program.Uses.{Valued, Target, Counter, Use, use_of, uses_in, uses_in_subscripts, target_uses, control_uses, input_uses, uses_in_output, uses_in_outputs, uses_in_input, uses_in_inputs, uses_of, is_constant, is_variable, is_array, is_function, kind_of_name, dimensions_of_name}
+use Rattle.f77_grammar.specs.program.Uses.{Valued, Target, Counter, Use, use_of, uses_in, uses_in_subscripts, target_uses, control_uses, input_uses, value_uses, uses_in_item, uses_in_items, uses_of, is_constant, is_variable, is_array, is_function, kind_of_name, dimensions_of_name}
 use Rattle.f77_grammar.specs.program.Declarations.{suits_list}
-use Rattle.f77_grammar.specs.program.Kinds.{has_kind, has_some_kind, are_subscripts, is_stored_into, suits_output, suits_input, are_numbers, suits_output_item, suits_output_items, suits_input_item, suits_input_items, suits, is_hidden_name}
+use Rattle.f77_grammar.specs.program.Kinds.{has_kind, has_some_kind, are_subscripts, is_stored_into, suits_output, suits_input, are_numbers, suits_value, suits_item, suits_items, suits, is_hidden_name}
 use Rattle.f77_grammar.specs.program.DoVariables.{misuses_variable}
-use Rattle.f77_grammar.specs.program.Tree.{call_of, element_or_call, value_or_name, resolved, resolved_subscripts, resolved_input, resolved_output_item, resolved_outputs, resolved_input_item, resolved_inputs, simple, target}
-use Rattle.f77_laws.specs.Source.{IsShallow, IsSourceVariable, IsSourceOutput, AreSourceOutputs, IsSourceInput, AreSourceInputs, IsSourceAction, IsSourceStatement}
+use Rattle.f77_grammar.specs.program.Tree.{call_of, element_or_call, value_or_name, resolved, resolved_subscripts, resolved_input, resolved_item, resolved_items, simple, target}
+use Rattle.f77_laws.specs.Source.{IsShallow, IsSourceVariable, IsSourceValue, IsSourceItem, AreSourceItems, IsSourceAction, IsSourceStatement}
 use Rattle.f77_laws.proofs.Lists.{left_true, right_true, both_false, or_right, affirmed, all_left, all_right, all_both}
 use Rattle.f77_laws.proofs.NameKinds.{Knows, IsDeclaredAs, IsGood, AreGood, no_array, as_many}
 use Rattle.f77_laws.proofs.Actions.{IsWithin, do_variable, whole, whole_parameters, action_holds}
@@ -141,29 +142,29 @@ module _ (us : List Use) (s : Store) (ds : List Declaration) (known : Knows us s
         uses = (counter_right x n.variable, all_both (IsRightUse us) (uses_in a ++ uses_in b) (uses_in c) (all_both (IsRightUse us) (uses_in a) (uses_in b) p.uses q.uses) r.uses);
       }
 
-  record IsOutputInText (i : Item) : Type 0 where
-    kind : suits_output_item us i ≡ true
-    uses : AreRight (uses_in_output i)
+  record IsItemInText (d : Direction) (i : Item) : Type 0 where
+    kind : suits_item us d i ≡ true
+    uses : AreRight (uses_in_item d i)
 
-  record AreOutputsInText (is : Items) : Type 0 where
-    kind : suits_output_items us is ≡ true
-    uses : AreRight (uses_in_outputs is)
+  record AreItemsInText (d : Direction) (is : Items) : Type 0 where
+    kind : suits_items us d is ≡ true
+    uses : AreRight (uses_in_items d is)
 
   mutual
-    output_item : (i : Item) (vs : List (List ℕ)) → IsSourceOutput i → AreLists (uses_in_output i) → IsOutputItem ds (resolved_output_item us s i) vs → IsOutputInText i
+    output_item : (i : Item) (vs : List (List ℕ)) → IsSourceItem Output i → AreLists (uses_in_item Output i) → IsOutputItem ds (resolved_item us s Output i) vs → IsItemInText Output i
     output_item (Single e) vs h u g = let r = output_expression e h u g in record { kind = r.kind; uses = r.uses }
     output_item (Constant t) vs h u g = record { kind = refl; uses = tt }
     output_item (ImpliedDo is x a b c) vs h u g =
-        let r = output_items is (x ∷ vs) h.5 (all_left (IsArrayOrFunction us) (uses_in_outputs is) (control_uses x a b c) u) g.5 in
-        let p = control x vs a b c h.2 h.3 h.4 (all_right (IsArrayOrFunction us) (uses_in_outputs is) (control_uses x a b c) u) g.1 g.2 g.3 g.4 in
-        record { kind = both_true (suits_output_items us is) (are_numbers us a b c) r.kind p.kinds; uses = all_both (IsRightUse us) (uses_in_outputs is) (control_uses x a b c) r.uses p.uses }
+        let r = output_items is (x ∷ vs) h.5 (all_left (IsArrayOrFunction us) (uses_in_items Output is) (control_uses x a b c) u) g.5 in
+        let p = control x vs a b c h.2 h.3 h.4 (all_right (IsArrayOrFunction us) (uses_in_items Output is) (control_uses x a b c) u) g.1 g.2 g.3 g.4 in
+        record { kind = both_true (suits_items us Output is) (are_numbers us a b c) r.kind p.kinds; uses = all_both (IsRightUse us) (uses_in_items Output is) (control_uses x a b c) r.uses p.uses }
 
-    output_items : (is : Items) (vs : List (List ℕ)) → AreSourceOutputs is → AreLists (uses_in_outputs is) → AreOutputItems ds (resolved_outputs us s is) vs → AreOutputsInText is
+    output_items : (is : Items) (vs : List (List ℕ)) → AreSourceItems Output is → AreLists (uses_in_items Output is) → AreOutputItems ds (resolved_items us s Output is) vs → AreItemsInText Output is
     output_items no_items vs h u g = record { kind = refl; uses = tt }
     output_items (item i is) vs h u g =
-        let r = output_item i vs h.0 (all_left (IsArrayOrFunction us) (uses_in_output i) (uses_in_outputs is) u) g.0 in
-        let p = output_items is vs h.1 (all_right (IsArrayOrFunction us) (uses_in_output i) (uses_in_outputs is) u) g.1 in
-        record { kind = both_true (suits_output_item us i) (suits_output_items us is) r.kind p.kind; uses = all_both (IsRightUse us) (uses_in_output i) (uses_in_outputs is) r.uses p.uses }
+        let r = output_item i vs h.0 (all_left (IsArrayOrFunction us) (uses_in_item Output i) (uses_in_items Output is) u) g.0 in
+        let p = output_items is vs h.1 (all_right (IsArrayOrFunction us) (uses_in_item Output i) (uses_in_items Output is) u) g.1 in
+        record { kind = both_true (suits_item us Output i) (suits_items us Output is) r.kind p.kind; uses = all_both (IsRightUse us) (uses_in_item Output i) (uses_in_items Output is) r.uses p.uses }
 
   -- ---- input lists
 
@@ -183,29 +184,21 @@ module _ (us : List Use) (s : Store) (ds : List Declaration) (known : Knows us s
       by (inr k) = stored x p ps Logical (element_of x Logical p ps h u.1 k)
   input_expression e vs h u g = absurd h
 
-  record IsInputItemInText (i : Item) : Type 0 where
-    kind : suits_input_item us i ≡ true
-    uses : AreRight (uses_in_input i)
-
-  record AreInputsInText (is : Items) : Type 0 where
-    kind : suits_input_items us is ≡ true
-    uses : AreRight (uses_in_inputs is)
-
   mutual
-    input_item : (i : Item) (vs : List (List ℕ)) → IsSourceInput i → AreLists (uses_in_input i) → IsInputItem ds (resolved_input_item us s i) vs → IsInputItemInText i
+    input_item : (i : Item) (vs : List (List ℕ)) → IsSourceItem Input i → AreLists (uses_in_item Input i) → IsInputItem ds (resolved_item us s Input i) vs → IsItemInText Input i
     input_item (Single e) vs h u g = let r = input_expression e vs h u g in record { kind = r.kind; uses = r.uses }
     input_item (Constant t) vs h u g = absurd h
     input_item (ImpliedDo is x a b c) vs h u g =
-        let r = input_items is (x ∷ vs) h.5 (all_left (IsArrayOrFunction us) (uses_in_inputs is) (control_uses x a b c) u) g.5 in
-        let p = control x vs a b c h.2 h.3 h.4 (all_right (IsArrayOrFunction us) (uses_in_inputs is) (control_uses x a b c) u) g.1 g.2 g.3 g.4 in
-        record { kind = both_true (suits_input_items us is) (are_numbers us a b c) r.kind p.kinds; uses = all_both (IsRightUse us) (uses_in_inputs is) (control_uses x a b c) r.uses p.uses }
+        let r = input_items is (x ∷ vs) h.5 (all_left (IsArrayOrFunction us) (uses_in_items Input is) (control_uses x a b c) u) g.5 in
+        let p = control x vs a b c h.2 h.3 h.4 (all_right (IsArrayOrFunction us) (uses_in_items Input is) (control_uses x a b c) u) g.1 g.2 g.3 g.4 in
+        record { kind = both_true (suits_items us Input is) (are_numbers us a b c) r.kind p.kinds; uses = all_both (IsRightUse us) (uses_in_items Input is) (control_uses x a b c) r.uses p.uses }
 
-    input_items : (is : Items) (vs : List (List ℕ)) → AreSourceInputs is → AreLists (uses_in_inputs is) → AreInputItems ds (resolved_inputs us s is) vs → AreInputsInText is
+    input_items : (is : Items) (vs : List (List ℕ)) → AreSourceItems Input is → AreLists (uses_in_items Input is) → AreInputItems ds (resolved_items us s Input is) vs → AreItemsInText Input is
     input_items no_items vs h u g = record { kind = refl; uses = tt }
     input_items (item i is) vs h u g =
-        let r = input_item i vs h.0 (all_left (IsArrayOrFunction us) (uses_in_input i) (uses_in_inputs is) u) g.0 in
-        let p = input_items is vs h.1 (all_right (IsArrayOrFunction us) (uses_in_input i) (uses_in_inputs is) u) g.1 in
-        record { kind = both_true (suits_input_item us i) (suits_input_items us is) r.kind p.kind; uses = all_both (IsRightUse us) (uses_in_input i) (uses_in_inputs is) r.uses p.uses }
+        let r = input_item i vs h.0 (all_left (IsArrayOrFunction us) (uses_in_item Input i) (uses_in_items Input is) u) g.0 in
+        let p = input_items is vs h.1 (all_right (IsArrayOrFunction us) (uses_in_item Input i) (uses_in_items Input is) u) g.1 in
+        record { kind = both_true (suits_item us Input i) (suits_items us Input is) r.kind p.kind; uses = all_both (IsRightUse us) (uses_in_item Input i) (uses_in_items Input is) r.uses p.uses }
 
   -- ---- assignments
 
@@ -335,20 +328,6 @@ module _ (us : List Use) where
             (rule.lists us c Integer l (right_true (has_kind us a Integer && has_kind us b Integer) (has_kind us c Integer) g)),
       )
 
-  mutual
-    output_item_lists : (i : Item) → IsSourceOutput i → suits_output_item us i ≡ true → AreListed (uses_in_output i)
-    output_item_lists (Single e) h g = output_lists e h g
-    output_item_lists (Constant t) h g = tt
-    output_item_lists (ImpliedDo is x a b c) h g =
-        all_both (IsArrayOrFunction us) (uses_in_outputs is) (control_uses x a b c)
-        (outputs_lists is h.5 (left_true (suits_output_items us is) (are_numbers us a b c) g)) (control_lists x a b c h.2 h.3 h.4 (right_true (suits_output_items us is) (are_numbers us a b c) g))
-
-    outputs_lists : (is : Items) → AreSourceOutputs is → suits_output_items us is ≡ true → AreListed (uses_in_outputs is)
-    outputs_lists no_items h g = tt
-    outputs_lists (item i is) h g =
-        all_both (IsArrayOrFunction us) (uses_in_output i) (uses_in_outputs is)
-        (output_item_lists i h.0 (left_true (suits_output_item us i) (suits_output_items us is) g)) (outputs_lists is h.1 (right_true (suits_output_item us i) (suits_output_items us is) g))
-
   target_lists : (x : List ℕ) (ps : Subscripts) → IsSource (Named x ps) → is_stored_into us x (number_of_subscripts ps) ≡ true → are_subscripts us ps ≡ true → AreListed (target_uses x ps)
   target_lists x no_subscripts h a g = (λ l. absurd cc, tt)
   target_lists x (subscript p ps) h a g = (
@@ -362,19 +341,23 @@ module _ (us : List Use) where
       target_lists x (subscript p ps) h (ap (is_stored_into us x) (one-add (number_of_subscripts ps)) ∙ left_true (is_array us x) (are_subscripts us (subscript p ps)) g) (right_true (is_array us x) (are_subscripts us (subscript p ps)) g)
   input_lists e h g = absurd h
 
-  mutual
-    input_item_lists : (i : Item) → IsSourceInput i → suits_input_item us i ≡ true → AreListed (uses_in_input i)
-    input_item_lists (Single e) h g = input_lists e h g
-    input_item_lists (Constant t) h g = absurd h
-    input_item_lists (ImpliedDo is x a b c) h g =
-        all_both (IsArrayOrFunction us) (uses_in_inputs is) (control_uses x a b c)
-        (inputs_lists is h.5 (left_true (suits_input_items us is) (are_numbers us a b c) g)) (control_lists x a b c h.2 h.3 h.4 (right_true (suits_input_items us is) (are_numbers us a b c) g))
+  value_lists : (d : Direction) (e : Expression) → IsSourceValue d e → suits_value us d e ≡ true → AreListed (value_uses d e)
+  value_lists Output e h g = output_lists e h g
+  value_lists Input e h g = input_lists e h g
 
-    inputs_lists : (is : Items) → AreSourceInputs is → suits_input_items us is ≡ true → AreListed (uses_in_inputs is)
-    inputs_lists no_items h g = tt
-    inputs_lists (item i is) h g =
-        all_both (IsArrayOrFunction us) (uses_in_input i) (uses_in_inputs is)
-        (input_item_lists i h.0 (left_true (suits_input_item us i) (suits_input_items us is) g)) (inputs_lists is h.1 (right_true (suits_input_item us i) (suits_input_items us is) g))
+  mutual
+    item_lists : (d : Direction) (i : Item) → IsSourceItem d i → suits_item us d i ≡ true → AreListed (uses_in_item d i)
+    item_lists d (Single e) h g = value_lists d e h g
+    item_lists d (Constant t) h g = tt
+    item_lists d (ImpliedDo is x a b c) h g =
+        all_both (IsArrayOrFunction us) (uses_in_items d is) (control_uses x a b c)
+        (items_lists d is h.5 (left_true (suits_items us d is) (are_numbers us a b c) g)) (control_lists x a b c h.2 h.3 h.4 (right_true (suits_items us d is) (are_numbers us a b c) g))
+
+    items_lists : (d : Direction) (is : Items) → AreSourceItems d is → suits_items us d is ≡ true → AreListed (uses_in_items d is)
+    items_lists d no_items h g = tt
+    items_lists d (item i is) h g =
+        all_both (IsArrayOrFunction us) (uses_in_item d i) (uses_in_items d is)
+        (item_lists d i h.0 (left_true (suits_item us d i) (suits_items us d is) g)) (items_lists d is h.1 (right_true (suits_item us d i) (suits_items us d is) g))
 
   action_lists : (c : Statement77) → IsSourceAction c → suits us c ≡ true → AreListed (uses_of c)
   action_lists (Assign left e) h g =
@@ -385,8 +368,8 @@ module _ (us : List Use) where
   action_lists (Go n) h g = tt
   action_lists Continue h g = tt
   action_lists Stop h g = tt
-  action_lists (Read is) h g = inputs_lists is h.0 g
-  action_lists (Print is) h g = outputs_lists is h.0 g
+  action_lists (Read is) h g = items_lists Input is h.0 g
+  action_lists (Print is) h g = items_lists Output is h.0 g
   action_lists (Program x) h g = absurd h
   action_lists (Declare k es) h g = absurd h
   action_lists (Dimension es) h g = absurd h

@@ -19,7 +19,8 @@ use Rattle.fv_tree.specs.declared.stmts.Item.TheVariants as variants
 use Rattle.fv_tree.proofs.Equations.{expression_of-int, expression_of-truth, expression_of-item, expression_of-un, expression_of-bin, expression_of-call, reference_of-is, item_of-one, item_of-text, item_of-turns}
 use Rattle.fv_tree.proofs.Equations.{expression_of-list, expression_of-spread, expression_of-transpose, expression_of-reshape, expression_of-reduce}
 use Rattle.f77_grammar.specs.program.Uses.{Use, is_array}
-use Rattle.f77_grammar.specs.program.Kinds.{has_some_kind, are_numbers, are_subscripts, suits_output, suits_input, suits_output_item, suits_output_items, suits_input_item, suits_input_items}
+use Rattle.f77_grammar.specs.statements.Items.{Direction, takes_text}
+use Rattle.f77_grammar.specs.program.Kinds.{has_some_kind, are_numbers, are_subscripts, suits_output, suits_input, suits_value, suits_item, suits_items}
 
 -- a reference as an expression
 item-is : (r : Ref) → expression_of (exprs.Item r) ≡ Named (out-Ref r).name (subscripts (map subscript_of (out-Ref r).subs))
@@ -67,16 +68,6 @@ output-reshape us a es = ap (suits_output us) (expression_of-reshape a es) ∙ a
 pub output-reduce : (us : List Use) (r : Red) (a : Box Expr Global) → suits_output us (expression_of (exprs.Reduce r a)) ≡ has_some_kind us (expression_of (exprs.Reduce r a))
 output-reduce us r a = ap (suits_output us) (expression_of-reduce r a) ∙ ap (has_some_kind us) (sym (expression_of-reduce r a))
 
-pub output-one : (us : List Use) (e : Expr) → suits_output_item us (item_of (variants.One e)) ≡ suits_output us (expression_of e)
-output-one us e = ap (suits_output_item us) (item_of-one e)
-
-pub output-text : (us : List Use) (t : Seq ℕ) → suits_output_item us (item_of (variants.Text t)) ≡ true
-output-text us t = ap (suits_output_item us) (item_of-text t)
-
-pub output-turns : (us : List Use) (is : Seq Item) (x : Name) (a b c : Expr) → suits_output_item us (item_of (variants.Turns is x a b c))
-    ≡ (suits_output_items us (items (map item_of is)) && are_numbers us (expression_of a) (expression_of b) (expression_of c))
-output-turns us is x a b c = ap (suits_output_item us) (item_of-turns is x a b c)
-
 -- ---- input lists
 
 pub input-alone : (us : List Use) (r : Ref) → (out-Ref r).subs ≡ [] → suits_input us (expression_of (exprs.Item r)) ≡ true
@@ -120,14 +111,16 @@ input-reshape us a es = ap (suits_input us) (expression_of-reshape a es)
 pub input-reduce : (us : List Use) (r : Red) (a : Box Expr Global) → suits_input us (expression_of (exprs.Reduce r a)) ≡ false
 input-reduce us r a = ap (suits_input us) (expression_of-reduce r a)
 
-pub input-one : (us : List Use) (e : Expr) → suits_input_item us (item_of (variants.One e)) ≡ suits_input us (expression_of e)
-input-one us e = ap (suits_input_item us) (item_of-one e)
+-- ---- items
 
-pub input-text : (us : List Use) (t : Seq ℕ) → suits_input_item us (item_of (variants.Text t)) ≡ false
-input-text us t = ap (suits_input_item us) (item_of-text t)
+pub item-one : (us : List Use) (d : Direction) (e : Expr) → suits_item us d (item_of (variants.One e)) ≡ suits_value us d (expression_of e)
+item-one us d e = ap (suits_item us d) (item_of-one e)
 
-pub input-turns : (us : List Use) (is : Seq Item) (x : Name) (a b c : Expr) → suits_input_item us (item_of (variants.Turns is x a b c))
-    ≡ (suits_input_items us (items (map item_of is)) && are_numbers us (expression_of a) (expression_of b) (expression_of c))
-input-turns us is x a b c = ap (suits_input_item us) (item_of-turns is x a b c)
+pub item-text : (us : List Use) (d : Direction) (t : Seq ℕ) → suits_item us d (item_of (variants.Text t)) ≡ takes_text d
+item-text us d t = ap (suits_item us d) (item_of-text t)
 
-pub ruleset item_laws = (output-alone, output-listed, output-int, output-truth, output-un, output-bin, output-call, output-list, output-spread, output-transpose, output-reshape, output-reduce, output-one, output-text, output-turns, input-alone, input-listed, input-int, input-truth, input-un, input-bin, input-call, input-list, input-spread, input-transpose, input-reshape, input-reduce, input-one, input-text, input-turns)
+pub item-turns : (us : List Use) (d : Direction) (is : Seq Item) (x : Name) (a b c : Expr) → suits_item us d (item_of (variants.Turns is x a b c))
+    ≡ (suits_items us d (items (map item_of is)) && are_numbers us (expression_of a) (expression_of b) (expression_of c))
+item-turns us d is x a b c = ap (suits_item us d) (item_of-turns is x a b c)
+
+pub ruleset item_laws = (output-alone, output-listed, output-int, output-truth, output-un, output-bin, output-call, output-list, output-spread, output-transpose, output-reshape, output-reduce, input-alone, input-listed, input-int, input-truth, input-un, input-bin, input-call, input-list, input-spread, input-transpose, input-reshape, input-reduce, item-one, item-text, item-turns)

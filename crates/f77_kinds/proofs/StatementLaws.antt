@@ -17,7 +17,8 @@ use Rattle.fv_tree.specs.declared.stmts.Item.{Item}
 use Rattle.fv_tree.proofs.Equations.{reference_of-is}
 use Rattle.f77_grammar.specs.Statement77 as plain
 use Rattle.f77_grammar.specs.program.Uses.{Use, uses_of, uses_in_text, is_array, kind_of_name}
-use Rattle.f77_grammar.specs.program.Kinds.{has_kind, are_integer_bounds, are_subscripts, is_stored_into, are_numbers, has_integer_bounds, suits_output_items, suits_input_items, suits, calls_hidden, has_unsuited_kind}
+use Rattle.f77_grammar.specs.statements.Items.{Input, Output}
+use Rattle.f77_grammar.specs.program.Kinds.{has_kind, are_integer_bounds, are_subscripts, is_stored_into, are_numbers, has_integer_bounds, suits_items, suits, calls_hidden, has_unsuited_kind}
 use Rattle.f77_syntax.specs.declared.statements.Entity.{Entity}
 use Rattle.f77_syntax.specs.declared.statements.Stmt77.{Stmt77}
 use Rattle.f77_syntax.specs.declared.statements.Stmt77.TheVariants as stmts
@@ -104,10 +105,10 @@ suits-else_if us c = ap (suits us) (statement_of-else_if c)
 pub suits-do : (us : List Use) (n : ℕ) (x : Name) (a b c : Expr) → suits us (statement_of (stmts.Do n x a b c)) ≡ are_numbers us (expression_of a) (expression_of b) (expression_of c)
 suits-do us n x a b c = ap (suits us) (statement_of-do n x a b c)
 
-pub suits-read : (us : List Use) (is : Seq Item) → suits us (statement_of (stmts.Read is)) ≡ suits_input_items us (items (map item_of is))
+pub suits-read : (us : List Use) (is : Seq Item) → suits us (statement_of (stmts.Read is)) ≡ suits_items us Input (items (map item_of is))
 suits-read us is = ap (suits us) (statement_of-read is)
 
-pub suits-print : (us : List Use) (is : Seq Item) → suits us (statement_of (stmts.Print is)) ≡ suits_output_items us (items (map item_of is))
+pub suits-print : (us : List Use) (is : Seq Item) → suits us (statement_of (stmts.Print is)) ≡ suits_items us Output (items (map item_of is))
 suits-print us is = ap (suits us) (statement_of-print is)
 
 pub suits-go : (us : List Use) (n : ℕ) → suits us (statement_of (stmts.Go n)) ≡ true

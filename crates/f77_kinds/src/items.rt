@@ -3,11 +3,23 @@ ghost use Rattle.std.specs.Prelude.{◌≡◌, map};
 ghost use Rattle.fv_tree.specs.Plain.{items};
 ghost use Rattle.fv_tree.specs.View.{expression_of, item_of};
 ghost use Rattle.fv_tree.specs.declared.exprs.Expr.TheVariants as exprs;
+ghost use Rattle.f77_grammar.specs.statements.Items.{takes_text};
 ghost use Rattle.f77_grammar.specs.program.Kinds as kinds;
 ghost use Rattle.f77_kinds.specs.KnownUses.{known_uses};
 
 use crate::kind_check::KindCheck;
+use f77_grammar::Direction;
 use fv_tree::{Expr, Item, Kind, Ref, Seq};
+
+// Texts are printed alone.
+fn takes_text(direction: Direction) -> bool
+    ensures { result ≡ takes_text direction }
+{
+    match direction {
+        Direction::Output => true,
+        Direction::Input => false,
+    }
+}
 
 impl KindCheck<'_> {
     fn has_some_kind(&self, expr: &Expr) -> bool
@@ -76,54 +88,36 @@ impl KindCheck<'_> {
         }
     }
 
-    #[cycle(outputs)]
+    fn suits_value(&self, direction: Direction, expr: &Expr) -> bool
+        ensures { result ≡ kinds.suits_value (known_uses self.now) direction (expression_of expr.now) }
+    {
+        match direction {
+            Direction::Output => self.suits_output(expr),
+            Direction::Input => self.suits_input(expr),
+        }
+    }
+
+    #[cycle(items)]
     #[tactic(auto, using(crate::proofs::ItemLaws::item_laws))]
-    fn suits_output_item(&self, item: &Item) -> bool
-        ensures { result ≡ kinds.suits_output_item (known_uses self.now) (item_of item.now) }
+    fn suits_item(&self, direction: Direction, item: &Item) -> bool
+        ensures { result ≡ kinds.suits_item (known_uses self.now) direction (item_of item.now) }
     {
         match item {
-            Item::One(expr) => self.suits_output(expr),
-            Item::Text(_) => true,
+            Item::One(expr) => self.suits_value(direction, expr),
+            Item::Text(_) => takes_text(direction),
             Item::Turns(list, _, first, last, step) => {
-                self.suits_outputs(list) && self.are_numbers(first, last, step)
+                self.suits_items(direction, list) && self.are_numbers(first, last, step)
             }
         }
     }
 
-    /// Whether an output list suits.
-    #[cycle(outputs)]
-    pub fn suits_outputs(&self, list: &Seq<Item>) -> bool
-        ensures { result ≡ kinds.suits_output_items (known_uses self.now) (items (map item_of list.now)) }
+    /// Whether an input or output list suits.
+    #[cycle(items)]
+    pub fn suits_items(&self, direction: Direction, list: &Seq<Item>) -> bool
+        ensures { result ≡ kinds.suits_items (known_uses self.now) direction (items (map item_of list.now)) }
     {
         for item in list.as_slice() {
-            if !self.suits_output_item(item) {
-                return false;
-            }
-        }
-        true
-    }
-
-    #[cycle(inputs)]
-    #[tactic(auto, using(crate::proofs::ItemLaws::item_laws))]
-    fn suits_input_item(&self, item: &Item) -> bool
-        ensures { result ≡ kinds.suits_input_item (known_uses self.now) (item_of item.now) }
-    {
-        match item {
-            Item::One(expr) => self.suits_input(expr),
-            Item::Text(_) => false,
-            Item::Turns(list, _, first, last, step) => {
-                self.suits_inputs(list) && self.are_numbers(first, last, step)
-            }
-        }
-    }
-
-    /// Whether an input list suits.
-    #[cycle(inputs)]
-    pub fn suits_inputs(&self, list: &Seq<Item>) -> bool
-        ensures { result ≡ kinds.suits_input_items (known_uses self.now) (items (map item_of list.now)) }
-    {
-        for item in list.as_slice() {
-            if !self.suits_input_item(item) {
+            if !self.suits_item(direction, item) {
                 return false;
             }
         }

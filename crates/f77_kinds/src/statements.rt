@@ -7,6 +7,7 @@ ghost use Rattle.f77_syntax.specs.Views.{bounds_of, entity_of, constant_of, stat
 ghost use Rattle.f77_kinds.specs.KnownUses.{known_uses};
 
 use crate::kind_check::KindCheck;
+use f77_grammar::Direction;
 use f77_syntax::{Entity, Stmt77};
 use fv_tree::{Expr, Kind, Name, Ref, Seq};
 
@@ -90,8 +91,8 @@ impl KindCheck<'_> {
             Stmt77::If(condition) => self.has_kind(condition, Kind::Logical),
             Stmt77::ElseIf(condition) => self.has_kind(condition, Kind::Logical),
             Stmt77::Do(_, _, first, last, step) => self.are_numbers(first, last, step),
-            Stmt77::Read(list) => self.suits_inputs(list),
-            Stmt77::Print(list) => self.suits_outputs(list),
+            Stmt77::Read(list) => self.suits_items(Direction::Input, list),
+            Stmt77::Print(list) => self.suits_items(Direction::Output, list),
             Stmt77::Program(_) => true,
             Stmt77::Go(_) => true,
             Stmt77::Else => true,

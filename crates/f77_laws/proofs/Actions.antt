@@ -7,18 +7,19 @@ use Rattle.fv_tree.specs.declared.ops.Kind.{Kind}
 use Rattle.fv_tree.specs.declared.ops.Kind.TheVariants.{Integer, Logical}
 use Rattle.fv_tree.specs.Plain.{Expression, Number, Logic, Named, Unary, Binary, Apply, Subscript, Subscripts, no_subscripts, subscript, Item, Single, Constant, ImpliedDo, Items, no_items, item, Declaration, block}
 use Rattle.fv_meaning.specs.Store.{Store}
+use Rattle.f77_grammar.specs.statements.Items.{Direction, Output, Input}
 use Rattle.f77_grammar.specs.Statement77.{Statement77, Program, Declare, Dimension, Constants, Assign, Go, Test, If, ElseIf, Else, EndIf, Do, Continue, Stop, Read, Print, End}
 use Rattle.f77_grammar.specs.expressions.Printing.{IsSource}
 use Rattle.fv_meaning.specs.Names.{is_among}
 use Rattle.fv_meaning.specs.Depths.{depth_of, depth_of_item, depth_of_items}
 use Rattle.fv_meaning.specs.Typed77.{number_of_subscripts, dimensions, declared, has_item, HasKind, IsWhole, IsDoVariable, IsOutput, IsInput, IsOutputItem, AreOutputItems, IsInputItem, AreInputItems}
-use Rattle.f77_grammar.specs.program.Uses.{Target, Valued, Use, use_of, uses_in, uses_in_subscripts, uses_in_output, uses_in_outputs, uses_in_input, uses_in_inputs, input_uses, control_uses, uses_of, stands, is_typed, is_bounded, is_bare, is_constant, is_variable, is_array, kind_of_name}
+use Rattle.f77_grammar.specs.program.Uses.{Target, Valued, Use, use_of, uses_in, uses_in_subscripts, uses_in_item, uses_in_items, input_uses, control_uses, uses_of, stands, is_typed, is_bounded, is_bare, is_constant, is_variable, is_array, kind_of_name}
 use Rattle.f77_grammar.specs.program.Declarations.{suits_list}
-use Rattle.f77_grammar.specs.program.Kinds.{same_kind, has_kind, has_some_kind, are_subscripts, is_stored_into, suits_output, suits_input, are_numbers, suits_output_item, suits_output_items, suits_input_item, suits_input_items, suits}
-use Rattle.f77_grammar.specs.program.DoVariables.{sets_one_of, reads_one_of, is_integer_scalar, is_wrong_variable, misuses_in_output, misuses_in_outputs, misuses_in_input, misuses_in_inputs, misuses_variable}
+use Rattle.f77_grammar.specs.program.Kinds.{same_kind, has_kind, has_some_kind, are_subscripts, is_stored_into, suits_output, suits_input, are_numbers, suits_item, suits_items, suits}
+use Rattle.f77_grammar.specs.program.DoVariables.{sets_one_of, reads_one_of, is_integer_scalar, is_wrong_variable, misuses_in_item, misuses_in_items, misuses_variable}
 use Rattle.fv_meaning.specs.Profile77.{Surroundings, IsLine, IsAssignment, IsBlock}
-use Rattle.f77_grammar.specs.program.Tree.{literal, value_or_name, resolved, resolved_subscripts, resolved_input, resolved_output_item, resolved_outputs, resolved_input_item, resolved_inputs, simple, target}
-use Rattle.f77_laws.specs.Source.{IsShallow, IsSourceVariable, IsSourceOutput, AreSourceOutputs, IsSourceInput, AreSourceInputs, IsSourceAction}
+use Rattle.f77_grammar.specs.program.Tree.{literal, value_or_name, resolved, resolved_subscripts, resolved_input, resolved_value, resolved_item, resolved_items, simple, target}
+use Rattle.f77_laws.specs.Source.{IsShallow, IsSourceVariable, IsSourceItem, AreSourceItems, IsSourceAction}
 use Rattle.f77_laws.proofs.Lists.{left_true, right_true, left_false, right_false, not_both, negated, affirmed, all_left, all_right, all_at, any_true, cases_of, here, there}
 use Rattle.f77_laws.proofs.Variables.{equal_names}
 use Rattle.f77_laws.proofs.ConstantValues.{kinds_same}
@@ -112,9 +113,9 @@ module _ (us : List Use) (s : Store) (ds : List Declaration) (knows : Knows us s
   output_expression (Binary o a b) h u g = some_output (Binary o a b) h u g
   output_expression e h u g = absurd h
 
-  has_outputs : (is : Items) → IsTrue (has_item is) → IsTrue (has_item (resolved_outputs us s is))
-  has_outputs no_items h = h
-  has_outputs (item i is) h = refl
+  has_items : (d : Direction) (is : Items) → IsTrue (has_item is) → IsTrue (has_item (resolved_items us s d is))
+  has_items d no_items h = h
+  has_items d (item i is) h = refl
 
   record AreParameters (a b c : Expression) : Type 0 where
     first : HasKind ds (resolved us s a) Integer
@@ -132,28 +133,28 @@ module _ (us : List Use) (s : Store) (ds : List Declaration) (knows : Knows us s
       }
 
   mutual
-    output_item : (i : Item) (vs around : List (List ℕ)) → IsWithin vs around → IsSourceOutput i → AreGood us (uses_in_output i) → suits_output_item us i ≡ true → misuses_in_output us i around ≡ false
-        → IsOutputItem ds (resolved_output_item us s i) vs
+    output_item : (i : Item) (vs around : List (List ℕ)) → IsWithin vs around → IsSourceItem Output i → AreGood us (uses_in_item Output i) → suits_item us Output i ≡ true → misuses_in_item us Output i around ≡ false
+        → IsOutputItem ds (resolved_item us s Output i) vs
     output_item (Single e) vs around w h u g m = output_expression e h u g
     output_item (Constant t) vs around w h u g m = h
     output_item (ImpliedDo is x a b c) vs around w h u g m =
-        let p = parameters x a b c h.2 h.3 h.4 (all_right (IsGood us) (uses_in_outputs is) (control_uses x a b c) u) (right_true (suits_output_items us is) (are_numbers us a b c) g) in
-        let n = left_false (is_wrong_variable us x around) (misuses_in_outputs us is (x ∷ around)) m in (
-          has_outputs is h.0,
+        let p = parameters x a b c h.2 h.3 h.4 (all_right (IsGood us) (uses_in_items Output is) (control_uses x a b c) u) (right_true (suits_items us Output is) (are_numbers us a b c) g) in
+        let n = left_false (is_wrong_variable us x around) (misuses_in_items us Output is (x ∷ around)) m in (
+          has_items Output is h.0,
           do_variable x vs around w n,
           p.first,
           p.last,
           p.step,
-          output_items is (x ∷ vs) (x ∷ around) (within_more x vs around w (scalar_of x around n).no_array) h.5 (all_left (IsGood us) (uses_in_outputs is) (control_uses x a b c) u) (left_true (suits_output_items us is) (are_numbers us a b c) g)
-              (right_false (is_wrong_variable us x around) (misuses_in_outputs us is (x ∷ around)) m),
+          output_items is (x ∷ vs) (x ∷ around) (within_more x vs around w (scalar_of x around n).no_array) h.5 (all_left (IsGood us) (uses_in_items Output is) (control_uses x a b c) u) (left_true (suits_items us Output is) (are_numbers us a b c) g)
+              (right_false (is_wrong_variable us x around) (misuses_in_items us Output is (x ∷ around)) m),
         )
 
-    output_items : (is : Items) (vs around : List (List ℕ)) → IsWithin vs around → AreSourceOutputs is → AreGood us (uses_in_outputs is) → suits_output_items us is ≡ true → misuses_in_outputs us is around ≡ false
-        → AreOutputItems ds (resolved_outputs us s is) vs
+    output_items : (is : Items) (vs around : List (List ℕ)) → IsWithin vs around → AreSourceItems Output is → AreGood us (uses_in_items Output is) → suits_items us Output is ≡ true → misuses_in_items us Output is around ≡ false
+        → AreOutputItems ds (resolved_items us s Output is) vs
     output_items no_items vs around w h u g m = tt
     output_items (item i is) vs around w h u g m = (
-      output_item i vs around w h.0 (all_left (IsGood us) (uses_in_output i) (uses_in_outputs is) u) (left_true (suits_output_item us i) (suits_output_items us is) g) (left_false (misuses_in_output us i around) (misuses_in_outputs us is around) m),
-      output_items is vs around w h.1 (all_right (IsGood us) (uses_in_output i) (uses_in_outputs is) u) (right_true (suits_output_item us i) (suits_output_items us is) g) (right_false (misuses_in_output us i around) (misuses_in_outputs us is around) m),
+      output_item i vs around w h.0 (all_left (IsGood us) (uses_in_item Output i) (uses_in_items Output is) u) (left_true (suits_item us Output i) (suits_items us Output is) g) (left_false (misuses_in_item us Output i around) (misuses_in_items us Output is around) m),
+      output_items is vs around w h.1 (all_right (IsGood us) (uses_in_item Output i) (uses_in_items Output is) u) (right_true (suits_item us Output i) (suits_items us Output is) g) (right_false (misuses_in_item us Output i around) (misuses_in_items us Output is around) m),
     )
 
   -- ---- input lists
@@ -183,46 +184,32 @@ module _ (us : List Use) (s : Store) (ds : List Declaration) (knows : Knows us s
       )
   input_expression e vs around w h u g m = absurd h
 
-  has_inputs : (is : Items) → IsTrue (has_item is) → IsTrue (has_item (resolved_inputs us s is))
-  has_inputs no_items h = h
-  has_inputs (item i is) h = refl
-
   mutual
-    input_item : (i : Item) (vs around : List (List ℕ)) → IsWithin vs around → IsSourceInput i → AreGood us (uses_in_input i) → suits_input_item us i ≡ true → misuses_in_input us i around ≡ false
-        → IsInputItem ds (resolved_input_item us s i) vs
+    input_item : (i : Item) (vs around : List (List ℕ)) → IsWithin vs around → IsSourceItem Input i → AreGood us (uses_in_item Input i) → suits_item us Input i ≡ true → misuses_in_item us Input i around ≡ false
+        → IsInputItem ds (resolved_item us s Input i) vs
     input_item (Single e) vs around w h u g m = input_expression e vs around w h u g m
     input_item (Constant t) vs around w h u g m = absurd h
     input_item (ImpliedDo is x a b c) vs around w h u g m =
-        let p = parameters x a b c h.2 h.3 h.4 (all_right (IsGood us) (uses_in_inputs is) (control_uses x a b c) u) (right_true (suits_input_items us is) (are_numbers us a b c) g) in
-        let n = left_false (is_wrong_variable us x around) (misuses_in_inputs us is (x ∷ around)) m in (
-          has_inputs is h.0,
+        let p = parameters x a b c h.2 h.3 h.4 (all_right (IsGood us) (uses_in_items Input is) (control_uses x a b c) u) (right_true (suits_items us Input is) (are_numbers us a b c) g) in
+        let n = left_false (is_wrong_variable us x around) (misuses_in_items us Input is (x ∷ around)) m in (
+          has_items Input is h.0,
           do_variable x vs around w n,
           p.first,
           p.last,
           p.step,
-          input_items is (x ∷ vs) (x ∷ around) (within_more x vs around w (scalar_of x around n).no_array) h.5 (all_left (IsGood us) (uses_in_inputs is) (control_uses x a b c) u) (left_true (suits_input_items us is) (are_numbers us a b c) g)
-              (right_false (is_wrong_variable us x around) (misuses_in_inputs us is (x ∷ around)) m),
+          input_items is (x ∷ vs) (x ∷ around) (within_more x vs around w (scalar_of x around n).no_array) h.5 (all_left (IsGood us) (uses_in_items Input is) (control_uses x a b c) u) (left_true (suits_items us Input is) (are_numbers us a b c) g)
+              (right_false (is_wrong_variable us x around) (misuses_in_items us Input is (x ∷ around)) m),
         )
 
-    input_items : (is : Items) (vs around : List (List ℕ)) → IsWithin vs around → AreSourceInputs is → AreGood us (uses_in_inputs is) → suits_input_items us is ≡ true → misuses_in_inputs us is around ≡ false
-        → AreInputItems ds (resolved_inputs us s is) vs
+    input_items : (is : Items) (vs around : List (List ℕ)) → IsWithin vs around → AreSourceItems Input is → AreGood us (uses_in_items Input is) → suits_items us Input is ≡ true → misuses_in_items us Input is around ≡ false
+        → AreInputItems ds (resolved_items us s Input is) vs
     input_items no_items vs around w h u g m = tt
     input_items (item i is) vs around w h u g m = (
-      input_item i vs around w h.0 (all_left (IsGood us) (uses_in_input i) (uses_in_inputs is) u) (left_true (suits_input_item us i) (suits_input_items us is) g) (left_false (misuses_in_input us i around) (misuses_in_inputs us is around) m),
-      input_items is vs around w h.1 (all_right (IsGood us) (uses_in_input i) (uses_in_inputs is) u) (right_true (suits_input_item us i) (suits_input_items us is) g) (right_false (misuses_in_input us i around) (misuses_in_inputs us is around) m),
+      input_item i vs around w h.0 (all_left (IsGood us) (uses_in_item Input i) (uses_in_items Input is) u) (left_true (suits_item us Input i) (suits_items us Input is) g) (left_false (misuses_in_item us Input i around) (misuses_in_items us Input is around) m),
+      input_items is vs around w h.1 (all_right (IsGood us) (uses_in_item Input i) (uses_in_items Input is) u) (right_true (suits_item us Input i) (suits_items us Input is) g) (right_false (misuses_in_item us Input i around) (misuses_in_items us Input is around) m),
     )
 
   -- ---- depths of lists
-
-  mutual
-    output_item_depth : (i : Item) → depth_of_item (resolved_output_item us s i) ≤ 2 + depth_of_item i
-    output_item_depth (Single e) = depths us s ds knows e
-    output_item_depth (Constant t) = omega arith
-    output_item_depth (ImpliedDo is x a b c) = omega (arith, output_depth is, depths us s ds knows a, depths us s ds knows b, depths us s ds knows c)
-
-    output_depth : (is : Items) → depth_of_items (resolved_outputs us s is) ≤ 2 + depth_of_items is
-    output_depth no_items = omega arith
-    output_depth (item i is) = omega (arith, output_item_depth i, output_depth is)
 
   input_expression_depth : (e : Expression) → depth_of (resolved_input us s e) ≤ 2 + depth_of e
   input_expression_depth (Named x ps) = subscript_depths us s ds knows ps
@@ -233,15 +220,19 @@ module _ (us : List Use) (s : Store) (ds : List Declaration) (knows : Knows us s
   input_expression_depth (Apply f es) = depths us s ds knows (Apply f es)
   input_expression_depth e = depths us s ds knows e
 
-  mutual
-    input_item_depth : (i : Item) → depth_of_item (resolved_input_item us s i) ≤ 2 + depth_of_item i
-    input_item_depth (Single e) = input_expression_depth e
-    input_item_depth (Constant t) = omega arith
-    input_item_depth (ImpliedDo is x a b c) = omega (arith, input_depth is, depths us s ds knows a, depths us s ds knows b, depths us s ds knows c)
+  value_depth : (d : Direction) (e : Expression) → depth_of (resolved_value us s d e) ≤ 2 + depth_of e
+  value_depth Output e = depths us s ds knows e
+  value_depth Input e = input_expression_depth e
 
-    input_depth : (is : Items) → depth_of_items (resolved_inputs us s is) ≤ 2 + depth_of_items is
-    input_depth no_items = omega arith
-    input_depth (item i is) = omega (arith, input_item_depth i, input_depth is)
+  mutual
+    item_depth : (d : Direction) (i : Item) → depth_of_item (resolved_item us s d i) ≤ 2 + depth_of_item i
+    item_depth d (Single e) = value_depth d e
+    item_depth d (Constant t) = omega arith
+    item_depth d (ImpliedDo is x a b c) = omega (arith, list_depth d is, depths us s ds knows a, depths us s ds knows b, depths us s ds knows c)
+
+    list_depth : (d : Direction) (is : Items) → depth_of_items (resolved_items us s d is) ≤ 2 + depth_of_items is
+    list_depth d no_items = omega arith
+    list_depth d (item i is) = omega (arith, item_depth d i, list_depth d is)
 
   -- ---- statements
 
@@ -305,9 +296,9 @@ module _ (us : List Use) (s : Store) (ds : List Declaration) (knows : Knows us s
   action_holds line Continue w around v l h u g m a = tt
   action_holds line Stop w around v l h u g m a = (l, tt)
   action_holds line (Read is) w around v l h u g m a =
-      ((l, input_items is w.variables around v h.0 u g m, (let d = input_depth is in let e = h.1 in omega (arith, d, e))), tt)
+      ((l, input_items is w.variables around v h.0 u g m, (let d = list_depth Input is in let e = h.1 in omega (arith, d, e))), tt)
   action_holds line (Print is) w around v l h u g m a =
-      ((l, output_items is w.variables around v h.0 u g m, (let d = output_depth is in let e = h.1 in omega (arith, d, e))), tt)
+      ((l, output_items is w.variables around v h.0 u g m, (let d = list_depth Output is in let e = h.1 in omega (arith, d, e))), tt)
   action_holds line (Program x) w around v l h u g m a = absurd h
   action_holds line (Declare k es) w around v l h u g m a = absurd h
   action_holds line (Dimension es) w around v l h u g m a = absurd h

@@ -14,12 +14,13 @@ use Rattle.fv_tree.specs.Functions.{function_named, name_of_function}
 use Rattle.fv_tree.specs.OperatorTable.{operand_kind, result_kind_of, is_unary}
 use Rattle.fv_meaning.specs.Typed77.{number_of_subscripts}
 use Rattle.fv_meaning.specs.Calls.{calls_in, calls_in_each, calls_in_subscripts, calls_in_subscript, calls_in_item, calls_in_items, calls_in_statement, calls_in_arms, calls_in_block}
+use Rattle.f77_grammar.specs.statements.Items.{Direction, Output, Input}
 use Rattle.f77_grammar.specs.expressions.Printing.{IsSource, IsSourceSubscript, AreSource}
 use Rattle.f77_grammar.specs.Statement77.{Labelled, Statement77, Program, Declare, Dimension, Constants, Assign, Go, Test, If, ElseIf, Else, EndIf, Do, Continue, Stop, Read, Print, End}
-use Rattle.f77_grammar.specs.program.Uses.{Use, uses_in, uses_in_subscripts, uses_in_subscript, uses_in_output, uses_in_outputs, uses_in_input, uses_in_inputs, input_uses, control_uses, uses_of, is_array, is_function, is_constant, kind_of_name}
-use Rattle.f77_grammar.specs.program.Kinds.{same_kind, has_kind, has_some_kind, takes_so_many, list_has_kind, name_has_kind, are_subscripts, is_subscript, is_stored_into, suits_output, suits_input, are_numbers, suits_output_item, suits_output_items, suits_input_item, suits_input_items, suits}
-use Rattle.f77_grammar.specs.program.Tree.{literal, arguments_of, call_of, element_or_call, value_or_name, resolved, resolved_subscripts, resolved_subscript, resolved_input, resolved_output_item, resolved_outputs, resolved_input_item, resolved_inputs, simple, Piece, Rest, Outermost, InArm, block_of, up_to, beyond, preceded, loop_in, loop_begun, mark_of, begun, outermost_block, rest_from}
-use Rattle.f77_laws.specs.Source.{IsSourceVariable, IsSourceOutput, AreSourceOutputs, IsSourceInput, AreSourceInputs, IsSourceAction, IsSourceStatement}
+use Rattle.f77_grammar.specs.program.Uses.{Use, uses_in, uses_in_subscripts, uses_in_subscript, uses_in_item, uses_in_items, input_uses, value_uses, control_uses, uses_of, is_array, is_function, is_constant, kind_of_name}
+use Rattle.f77_grammar.specs.program.Kinds.{same_kind, has_kind, has_some_kind, takes_so_many, list_has_kind, name_has_kind, are_subscripts, is_subscript, is_stored_into, suits_output, suits_input, are_numbers, suits_value, suits_item, suits_items, suits}
+use Rattle.f77_grammar.specs.program.Tree.{literal, arguments_of, call_of, element_or_call, value_or_name, resolved, resolved_subscripts, resolved_subscript, resolved_input, resolved_value, resolved_item, resolved_items, simple, Piece, Rest, Outermost, InArm, block_of, up_to, beyond, preceded, loop_in, loop_begun, mark_of, begun, outermost_block, rest_from}
+use Rattle.f77_laws.specs.Source.{IsSourceVariable, IsSourceValue, IsSourceItem, AreSourceItems, IsSourceAction, IsSourceStatement}
 use Rattle.f77_laws.proofs.Lists.{left_true, right_true, all_left, all_right, all_both}
 use Rattle.f77_laws.proofs.Blocks.{made_appended, all_pieces_are}
 
@@ -142,37 +143,25 @@ module _ (us : List Use) (s : Store) (P : List ℕ → Type 0) where
       (called b Integer k (all_right IsHeard (uses_in a) (uses_in b) uses) (right_true (has_kind us a Integer) (has_kind us b Integer) front)))
       (called c Integer l (all_right IsHeard (uses_in a ++ uses_in b) (uses_in c) u.1) (right_true (has_kind us a Integer && has_kind us b Integer) (has_kind us c Integer) g))
 
-  mutual
-    output_item_called : (i : Item) → IsSourceOutput i → AreHeard (uses_in_output i) → suits_output_item us i ≡ true → All (calls_in_item (resolved_output_item us s i))
-    output_item_called (Single e) h u g = output_called e h u g
-    output_item_called (Constant t) h u g = tt
-    output_item_called (ImpliedDo is x a b c) h u g =
-        both (calls_in (resolved us s a) ++ calls_in (resolved us s b) ++ calls_in (resolved us s c)) (calls_in_items (resolved_outputs us s is))
-        (parameters_called x a b c h.2 h.3 h.4 (all_right IsHeard (uses_in_outputs is) (control_uses x a b c) u) (right_true (suits_output_items us is) (are_numbers us a b c) g))
-        (outputs_called is h.5 (all_left IsHeard (uses_in_outputs is) (control_uses x a b c) u) (left_true (suits_output_items us is) (are_numbers us a b c) g))
-
-    outputs_called : (is : Items) → AreSourceOutputs is → AreHeard (uses_in_outputs is) → suits_output_items us is ≡ true → All (calls_in_items (resolved_outputs us s is))
-    outputs_called no_items h u g = tt
-    outputs_called (item i is) h u g =
-        both (calls_in_item (resolved_output_item us s i)) (calls_in_items (resolved_outputs us s is))
-        (output_item_called i h.0 (all_left IsHeard (uses_in_output i) (uses_in_outputs is) u) (left_true (suits_output_item us i) (suits_output_items us is) g))
-        (outputs_called is h.1 (all_right IsHeard (uses_in_output i) (uses_in_outputs is) u) (right_true (suits_output_item us i) (suits_output_items us is) g))
+  value_called : (d : Direction) (e : Expression) → IsSourceValue d e → AreHeard (value_uses d e) → suits_value us d e ≡ true → All (calls_in (resolved_value us s d e))
+  value_called Output e h u g = output_called e h u g
+  value_called Input e h u g = input_called e h u g
 
   mutual
-    input_item_called : (i : Item) → IsSourceInput i → AreHeard (uses_in_input i) → suits_input_item us i ≡ true → All (calls_in_item (resolved_input_item us s i))
-    input_item_called (Single e) h u g = input_called e h u g
-    input_item_called (Constant t) h u g = absurd h
-    input_item_called (ImpliedDo is x a b c) h u g =
-        both (calls_in (resolved us s a) ++ calls_in (resolved us s b) ++ calls_in (resolved us s c)) (calls_in_items (resolved_inputs us s is))
-        (parameters_called x a b c h.2 h.3 h.4 (all_right IsHeard (uses_in_inputs is) (control_uses x a b c) u) (right_true (suits_input_items us is) (are_numbers us a b c) g))
-        (inputs_called is h.5 (all_left IsHeard (uses_in_inputs is) (control_uses x a b c) u) (left_true (suits_input_items us is) (are_numbers us a b c) g))
+    item_called : (d : Direction) (i : Item) → IsSourceItem d i → AreHeard (uses_in_item d i) → suits_item us d i ≡ true → All (calls_in_item (resolved_item us s d i))
+    item_called d (Single e) h u g = value_called d e h u g
+    item_called d (Constant t) h u g = tt
+    item_called d (ImpliedDo is x a b c) h u g =
+        both (calls_in (resolved us s a) ++ calls_in (resolved us s b) ++ calls_in (resolved us s c)) (calls_in_items (resolved_items us s d is))
+        (parameters_called x a b c h.2 h.3 h.4 (all_right IsHeard (uses_in_items d is) (control_uses x a b c) u) (right_true (suits_items us d is) (are_numbers us a b c) g))
+        (items_called d is h.5 (all_left IsHeard (uses_in_items d is) (control_uses x a b c) u) (left_true (suits_items us d is) (are_numbers us a b c) g))
 
-    inputs_called : (is : Items) → AreSourceInputs is → AreHeard (uses_in_inputs is) → suits_input_items us is ≡ true → All (calls_in_items (resolved_inputs us s is))
-    inputs_called no_items h u g = tt
-    inputs_called (item i is) h u g =
-        both (calls_in_item (resolved_input_item us s i)) (calls_in_items (resolved_inputs us s is))
-        (input_item_called i h.0 (all_left IsHeard (uses_in_input i) (uses_in_inputs is) u) (left_true (suits_input_item us i) (suits_input_items us is) g))
-        (inputs_called is h.1 (all_right IsHeard (uses_in_input i) (uses_in_inputs is) u) (right_true (suits_input_item us i) (suits_input_items us is) g))
+    items_called : (d : Direction) (is : Items) → AreSourceItems d is → AreHeard (uses_in_items d is) → suits_items us d is ≡ true → All (calls_in_items (resolved_items us s d is))
+    items_called d no_items h u g = tt
+    items_called d (item i is) h u g =
+        both (calls_in_item (resolved_item us s d i)) (calls_in_items (resolved_items us s d is))
+        (item_called d i h.0 (all_left IsHeard (uses_in_item d i) (uses_in_items d is) u) (left_true (suits_item us d i) (suits_items us d is) g))
+        (items_called d is h.1 (all_right IsHeard (uses_in_item d i) (uses_in_items d is) u) (right_true (suits_item us d i) (suits_items us d is) g))
 
   -- ---- simple statements
 
@@ -190,8 +179,8 @@ module _ (us : List Use) (s : Store) (P : List ℕ → Type 0) where
   action_called line (Go n) h u g = tt
   action_called line Continue h u g = tt
   action_called line Stop h u g = tt
-  action_called line (Read is) h u g = alone (calls_in_items (resolved_inputs us s is)) (inputs_called is h.0 u g)
-  action_called line (Print is) h u g = alone (calls_in_items (resolved_outputs us s is)) (outputs_called is h.0 u g)
+  action_called line (Read is) h u g = alone (calls_in_items (resolved_items us s Input is)) (items_called Input is h.0 u g)
+  action_called line (Print is) h u g = alone (calls_in_items (resolved_items us s Output is)) (items_called Output is h.0 u g)
   action_called line c h u g = absurd h
 
   -- ---- blocks

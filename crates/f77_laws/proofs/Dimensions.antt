@@ -4,8 +4,9 @@ use Rattle.std.specs.List.{AllByRecursion}
 use Rattle.std.specs.Str.{bytes_eq}
 use Rattle.fv_tree.specs.declared.ops.Kind.{Kind}
 use Rattle.fv_tree.specs.Plain.{Expression, Number, Logic, Named, Unary, Binary, Apply, Expressions, no_expressions, expression, Subscript, Only, Subscripts, no_subscripts, subscript, Item, Single, Constant, ImpliedDo, Items, no_items, item}
+use Rattle.f77_grammar.specs.statements.Items.{Direction, Output, Input}
 use Rattle.f77_grammar.specs.Statement77.{Entity, NamedConstant, Labelled, Statement77, Program, Declare, Dimension, Constants, Assign, Test, If, ElseIf, Do, Read, Print}
-use Rattle.f77_grammar.specs.program.Uses.{Role, Title, Typed, Bounded, Defined, Valued, Target, Counter, Use, uses_in, uses_in_arguments, uses_in_subscripts, uses_in_subscript, input_uses, uses_in_output, uses_in_outputs, uses_in_input, uses_in_inputs, uses_in_bounds, bounded_uses, dimensioned_uses, typed_uses, defined_uses, uses_of, uses_in_text, is_bounded, stands, dimensions_in, dimensions_of_name}
+use Rattle.f77_grammar.specs.program.Uses.{Role, Title, Typed, Bounded, Defined, Valued, Target, Counter, Use, uses_in, uses_in_arguments, uses_in_subscripts, uses_in_subscript, input_uses, value_uses, uses_in_item, uses_in_items, uses_in_bounds, bounded_uses, dimensioned_uses, typed_uses, defined_uses, uses_of, uses_in_text, is_bounded, stands, dimensions_in, dimensions_of_name}
 use Rattle.f77_grammar.specs.program.Limits.{entities_of, has_bounds, bounds_among, bounds_of_name}
 use Rattle.f77_laws.proofs.Lists.{all_both, all_weaker, left_false, right_false}
 
@@ -63,25 +64,19 @@ plain_input e = tt
 plain_control : (a b c : Expression) → ArePlain (uses_in a ++ uses_in b ++ uses_in c)
 plain_control a b c = plain_both (uses_in a ++ uses_in b) (uses_in c) (plain_both (uses_in a) (uses_in b) (plain_in a) (plain_in b)) (plain_in c)
 
-mutual
-  plain_output : (i : Item) → ArePlain (uses_in_output i)
-  plain_output (Single e) = plain_in e
-  plain_output (Constant t) = tt
-  plain_output (ImpliedDo is x a b c) = plain_both (uses_in_outputs is) _ (plain_outputs is) (tt, plain_control a b c)
-
-  plain_outputs : (is : Items) → ArePlain (uses_in_outputs is)
-  plain_outputs no_items = tt
-  plain_outputs (item i is) = plain_both (uses_in_output i) (uses_in_outputs is) (plain_output i) (plain_outputs is)
+plain_value : (d : Direction) (e : Expression) → ArePlain (value_uses d e)
+plain_value Output e = plain_in e
+plain_value Input e = plain_input e
 
 mutual
-  plain_input_item : (i : Item) → ArePlain (uses_in_input i)
-  plain_input_item (Single e) = plain_input e
-  plain_input_item (Constant t) = tt
-  plain_input_item (ImpliedDo is x a b c) = plain_both (uses_in_inputs is) _ (plain_inputs is) (tt, plain_control a b c)
+  plain_item : (d : Direction) (i : Item) → ArePlain (uses_in_item d i)
+  plain_item d (Single e) = plain_value d e
+  plain_item d (Constant t) = tt
+  plain_item d (ImpliedDo is x a b c) = plain_both (uses_in_items d is) _ (plain_items d is) (tt, plain_control a b c)
 
-  plain_inputs : (is : Items) → ArePlain (uses_in_inputs is)
-  plain_inputs no_items = tt
-  plain_inputs (item i is) = plain_both (uses_in_input i) (uses_in_inputs is) (plain_input_item i) (plain_inputs is)
+  plain_items : (d : Direction) (is : Items) → ArePlain (uses_in_items d is)
+  plain_items d no_items = tt
+  plain_items d (item i is) = plain_both (uses_in_item d i) (uses_in_items d is) (plain_item d i) (plain_items d is)
 
 pub plain_in_bounds : (bs : List (Expression × Expression)) → ArePlain (uses_in_bounds bs)
 plain_in_bounds [] = tt
@@ -197,8 +192,8 @@ plain_of (Test c s) h = plain_both (uses_in c) (uses_of s) (plain_in c) (plain_o
 plain_of (If c) h = plain_in c
 plain_of (ElseIf c) h = plain_in c
 plain_of (Do n x a b c) h = (tt, plain_control a b c)
-plain_of (Read is) h = plain_inputs is
-plain_of (Print is) h = plain_outputs is
+plain_of (Read is) h = plain_items Input is
+plain_of (Print is) h = plain_items Output is
 plain_of s h = tt
 
 of_statement : (s : Statement77) (x : List ℕ) (o : ℕ) → IsProper s → dimensions_or (uses_of s) x o ≡ length_or (entities_of s) x o

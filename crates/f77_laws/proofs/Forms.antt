@@ -7,8 +7,9 @@ use Rattle.f77_grammar.specs.expressions.Phrases as phrases
 use Rattle.f77_grammar.specs.expressions.Phrases.{Phrase, IsExpression, written, tree, depth}
 use Rattle.f77_grammar.specs.expressions.Spelling.{Words, chars}
 use Rattle.f77_grammar.specs.expressions.Squeezing.{Symbol}
+use Rattle.f77_grammar.specs.statements.Controls.{written_control}
 use Rattle.f77_grammar.specs.statements.Items.{IsReference, written_items, Input, Output}
-use Rattle.f77_grammar.specs.statements.Forms.{Form, Program, Declare, Dimension, Constants, Assign, Go, Test, If, ElseIf, Else, EndIf, Do, Continue, Stop, Read, ReadNothing, Print, PrintNothing, End, IsEntity, IsBounded, Definition, IsDefinition, IsInner, IsFollowed, IsWritten, separated, keyword_of, written_entity, entity_tree, entity_depth, written_definition, definition_tree, definition_depth, optional_comma, written_control, reference_in, statement_of, form_depth}
+use Rattle.f77_grammar.specs.statements.Forms.{Form, Program, Declare, Dimension, Constants, Assign, Go, Test, If, ElseIf, Else, EndIf, Do, Continue, Stop, Read, ReadNothing, Print, PrintNothing, End, IsEntity, IsBounded, Definition, IsDefinition, IsInner, IsFollowed, IsWritten, separated, keyword_of, written_entity, entity_tree, entity_depth, written_definition, definition_tree, definition_depth, optional_comma, reference_in, statement_of, form_depth}
 use Rattle.f77_laws.specs.Source.{IsShallow, IsSourceEntity, IsSourceConstant, IsSourceAction, IsSourceStatement}
 use Rattle.f77_laws.proofs.Lists.{all_left, all_right}
 use Rattle.f77_laws.proofs.SymbolicNames.{symbolic_name}
@@ -16,7 +17,7 @@ use Rattle.f77_laws.specs.SourceCards.{ReadStatementIsSource}
 use Rattle.f77_laws.proofs.Symbols.{IsCardSymbol, AreCardSymbols, card_symbols}
 use Rattle.f77_laws.proofs.SourceWords.{AreSourceWords, left_words, right_words, words_spelled, shallow}
 use Rattle.f77_laws.proofs.Parts as parts
-use Rattle.f77_laws.proofs.ItemLists.{bounds_words, step_source, step_within, inputs, outputs, items_within}
+use Rattle.f77_laws.proofs.ItemLists.{control_words, step_source, step_within, source_items, items_within}
 
 -- ---- words in a statement
 
@@ -60,9 +61,9 @@ action (Assign l r) text s i h d = assignment l r text s h d
 action (Go label) text s i h d = parts.label label h.1
 action Continue text s i h d = tt
 action Stop text s i h d = tt
-action (Read is) text s i h d = (inputs is h.1 (either (codes "READ*,") (codes "READ(*,*)") (written_items is) text s h.0), omega (arith, items_within Input is h.1, d))
+action (Read is) text s i h d = (source_items Input is h.1 (either (codes "READ*,") (codes "READ(*,*)") (written_items is) text s h.0), omega (arith, items_within Input is h.1, d))
 action ReadNothing text s i h d = (tt, omega arith)
-action (Print is) text s i h d = (outputs is h.1 (either (codes "PRINT*,") (codes "WRITE(*,*)") (written_items is) text s h.0), omega (arith, items_within Output is h.1, d))
+action (Print is) text s i h d = (source_items Output is h.1 (either (codes "PRINT*,") (codes "WRITE(*,*)") (written_items is) text s h.0), omega (arith, items_within Output is h.1, d))
 action PrintNothing text s i h d = (tt, omega arith)
 action (Program x) text s i h d = absurd i
 action (Declare k es) text s i h d = absurd i
@@ -73,7 +74,7 @@ action (If p) text s i h d = absurd i
 action (ElseIf p) text s i h d = absurd i
 action Else text s i h d = absurd i
 action EndIf text s i h d = absurd i
-action (Do label comma x a b c) text s i h d = absurd i
+action (Do label comma c) text s i h d = absurd i
 action End text s i h d = absurd i
 
 -- ---- any statement
@@ -101,14 +102,13 @@ statement (If p) text s h d = condition (codes "IF(") p h.0 (chars (codes ")THEN
 statement (ElseIf p) text s h d = condition (codes "ELSEIF(") p h.0 (chars (codes ")THEN")) text s h.1 h.2 h.3 d
 statement Else text s h d = tt
 statement EndIf text s h d = tt
-statement (Do label comma x a b c) text s h d =
-    let ws = followed (codes "DO" ++ (label ++ optional_comma comma)) (written_control x a b c) text s h.0 in
-    let k = bounds_words a b c ws.1.1 in (
+statement (Do label comma c) text s h d =
+    let k = control_words c (followed (codes "DO" ++ (label ++ optional_comma comma)) (written_control c) text s h.0) in (
       parts.label label h.1,
-      symbolic_name x ws.0,
-      shallow a h.2.0 k.lower (omega (arith, d)),
-      shallow b h.2.1 k.upper (omega (arith, d)),
-      (step_source c h.2.2 k.step, omega (arith, step_within c h.2.2, d)),
+      symbolic_name c.variable k.variable.0,
+      shallow c.first h.2.0 k.first (omega (arith, d)),
+      shallow c.last h.2.1 k.last (omega (arith, d)),
+      (step_source c.step h.2.2 k.step, omega (arith, step_within c.step h.2.2, d)),
     )
 statement Continue text s h d = tt
 statement Stop text s h d = tt

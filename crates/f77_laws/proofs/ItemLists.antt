@@ -1,14 +1,15 @@
 -- The lists of READ and PRINT.
-use Rattle.std.proofs.Common.{◌≡◌, ℕ, ◌≤◌, max, true, Option, None, Some, List, [], ◌∷◌, ◌++◌, refl, arith}
+use Rattle.std.proofs.Common.{◌≡◌, ℕ, ◌≤◌, max, true, IsTrue, Option, None, Some, List, [], ◌∷◌, ◌++◌, refl, arith}
 use Rattle.fv_tree.specs.Plain.{Item, items}
 use Rattle.f77_grammar.specs.expressions.Words as words
 use Rattle.f77_grammar.specs.expressions.Words.{Word}
 use Rattle.f77_grammar.specs.expressions.Phrases.{Phrase, Literal, WideLiteral, Truth, Name, Listed, Paren, Signed, Joined, written, tree}
 use Rattle.f77_grammar.specs.expressions.Printing.{IsSource}
 use Rattle.fv_meaning.specs.Depths.{depth_of, depth_of_item, depth_of_items}
-use Rattle.fv_meaning.specs.Typed77.{has_item}
-use Rattle.f77_grammar.specs.statements.Items.{ItemPhrase, ItemPhrases, Value, Text, Loop, Sole, More, Direction, Input, Output, IsReference, IsStep, IsItem, AreItems, written_step, written_bounds, written_item, written_items, step_tree, item_tree, item_trees, step_depth, item_depth, items_depth}
-use Rattle.f77_laws.specs.Source.{IsSourceVariable, IsSourceOutput, AreSourceOutputs, IsSourceInput, AreSourceInputs}
+use Rattle.fv_meaning.specs.Typed77.{has_item, IsText}
+use Rattle.f77_grammar.specs.statements.Controls.{Control, IsStep, written_step, written_control, step_tree, step_depth}
+use Rattle.f77_grammar.specs.statements.Items.{ItemPhrase, ItemPhrases, Value, Text, Loop, Sole, More, Direction, Input, Output, IsReference, MayStand, takes_text, IsItem, AreItems, written_item, written_items, item_tree, item_trees, item_depth, items_depth}
+use Rattle.f77_laws.specs.Source.{IsSourceVariable, IsSourceValue, IsSourceText, IsSourceItem, AreSourceItems}
 use Rattle.f77_laws.proofs.SourceExpressions.{within}
 use Rattle.f77_laws.proofs.SymbolicNames.{symbolic_name}
 use Rattle.f77_laws.proofs.SourceWords.{AreSourceWords, left_words, right_words, source}
@@ -23,44 +24,40 @@ pub step_within : (c : Option Phrase) → IsStep c → depth_of (step_tree c) �
 step_within None g = omega arith
 step_within (Some p) g = within p g
 
--- the words of each
-pub record BoundsWords (a b : Phrase) (c : Option Phrase) : Type 0 where
-  pub lower : AreSourceWords (written a)
-  pub upper : AreSourceWords (written b)
-  pub step : AreSourceWords (written_step c)
+-- the words of a DO variable and of its parameters
+pub record ControlWords (k : Control) : Type 0 where
+  pub variable : AreSourceWords (words.Name k.variable ∷ [])
+  pub first : AreSourceWords (written k.first)
+  pub last : AreSourceWords (written k.last)
+  pub step : AreSourceWords (written_step k.step)
 
-pub bounds_words : (a b : Phrase) (c : Option Phrase) → AreSourceWords (written_bounds a b c) → BoundsWords a b c
-bounds_words a b c h =
-    let k = (right_words (written a) (words.Comma ∷ (written b ++ written_step c)) h).1 in record {
-      lower = left_words (written a) (words.Comma ∷ (written b ++ written_step c)) h;
-      upper = left_words (written b) (written_step c) k;
-      step = right_words (written b) (written_step c) k;
+pub control_words : (k : Control) → AreSourceWords (written_control k) → ControlWords k
+control_words k h =
+    let behind = (right_words (written k.first) (words.Comma ∷ (written k.last ++ written_step k.step)) h.1.1).1 in record {
+      variable = (h.0, tt);
+      first = left_words (written k.first) (words.Comma ∷ (written k.last ++ written_step k.step)) h.1.1;
+      last = left_words (written k.last) (written_step k.step) behind;
+      step = right_words (written k.last) (written_step k.step) behind;
     }
 
--- the words of an implied DO list: its items, its variable and its bounds
-record LoopWords (is : ItemPhrases) (x : List ℕ) (a b : Phrase) (c : Option Phrase) : Type 0 where
+-- the words of an implied DO list: its items and its control
+record LoopWords (is : ItemPhrases) (k : Control) : Type 0 where
   inside : AreSourceWords (written_items is)
-  variable : AreSourceWords (words.Name x ∷ [])
-  bounds : BoundsWords a b c
+  control : ControlWords k
 
-loop_words : (is : ItemPhrases) (x : List ℕ) (a b : Phrase) (c : Option Phrase) → AreSourceWords (written_item (Loop is x a b c)) → LoopWords is x a b c
-loop_words is x a b c h =
-    let behind : List Word = words.Comma ∷ (words.Name x ∷ (words.Equals ∷ (written_bounds a b c ++ words.Close ∷ []))) in
-    let k = right_words (written_items is) behind h.1 in record {
+loop_words : (is : ItemPhrases) (k : Control) → AreSourceWords (written_item (Loop is k)) → LoopWords is k
+loop_words is k h =
+    let behind : List Word = words.Comma ∷ (written_control k ++ words.Close ∷ []) in
+    record {
       inside = left_words (written_items is) behind h.1;
-      variable = (k.1.0, tt);
-      bounds = bounds_words a b c (left_words (written_bounds a b c) (words.Close ∷ []) k.1.1.1);
+      control = control_words k (left_words (written_control k) (words.Close ∷ []) (right_words (written_items is) behind h.1).1);
     }
 
 -- ---- one item more
 
-output_push : (is : List Item) (i : Item) → AreSourceOutputs (items is) → IsSourceOutput i → AreSourceOutputs (items (is ++ i ∷ []))
-output_push [] i h g = (g, tt)
-output_push (j ∷ is) i h g = (h.0, output_push is i h.1 g)
-
-input_push : (is : List Item) (i : Item) → AreSourceInputs (items is) → IsSourceInput i → AreSourceInputs (items (is ++ i ∷ []))
-input_push [] i h g = (g, tt)
-input_push (j ∷ is) i h g = (h.0, input_push is i h.1 g)
+item_push : (d : Direction) (is : List Item) (i : Item) → AreSourceItems d (items is) → IsSourceItem d i → AreSourceItems d (items (is ++ i ∷ []))
+item_push d [] i h g = (g, tt)
+item_push d (j ∷ is) i h g = (h.0, item_push d is i h.1 g)
 
 depth_push : (is : List Item) (i : Item) → depth_of_items (items (is ++ i ∷ [])) ≤ max (depth_of_items (items is)) (depth_of_item i)
 depth_push [] i = omega arith
@@ -76,20 +73,6 @@ has_some (More is i) = has_pushed (item_trees is) (item_tree i)
 
 -- ---- lists
 
-mutual
-  output : (i : ItemPhrase) → IsItem Output i → AreSourceWords (written_item i) → IsSourceOutput (item_tree i)
-  output (Value p) g h = source p g.0 h
-  output (Text t) g h = h.0
-  output (Loop is x a b c) g h =
-      let k = loop_words is x a b c h in
-      (has_some is, symbolic_name x k.variable.0, source a g.1 k.bounds.lower, source b g.2 k.bounds.upper, step_source c g.3 k.bounds.step, outputs is g.0 k.inside)
-
-  pub outputs : (is : ItemPhrases) → AreItems Output is → AreSourceWords (written_items is) → AreSourceOutputs (items (item_trees is))
-  outputs (Sole i) g h = (output i g h, tt)
-  outputs (More is i) g h =
-      output_push (item_trees is) (item_tree i) (outputs is g.0 (left_words (written_items is) (words.Comma ∷ written_item i) h))
-      (output i g.1 (right_words (written_items is) (words.Comma ∷ written_item i) h).1)
-
 variable : (p : Phrase) → IsReference p → IsSource (tree p) → IsSourceVariable (tree p)
 variable (Name x) g h = h
 variable (Listed x ps) g h = h
@@ -100,19 +83,33 @@ variable (Paren p) g h = absurd g
 variable (Signed s p) g h = absurd g
 variable (Joined o a b) g h = absurd g
 
-mutual
-  input : (i : ItemPhrase) → IsItem Input i → AreSourceWords (written_item i) → IsSourceInput (item_tree i)
-  input (Value p) g h = variable p g.1 (source p g.0 h)
-  input (Text t) g h = absurd g
-  input (Loop is x a b c) g h =
-      let k = loop_words is x a b c h in
-      (has_some is, symbolic_name x k.variable.0, source a g.1 k.bounds.lower, source b g.2 k.bounds.upper, step_source c g.3 k.bounds.step, inputs is g.0 k.inside)
+value : (d : Direction) (p : Phrase) → MayStand d p → IsSource (tree p) → IsSourceValue d (tree p)
+value Output p g h = h
+value Input p g h = variable p g h
 
-  pub inputs : (is : ItemPhrases) → AreItems Input is → AreSourceWords (written_items is) → AreSourceInputs (items (item_trees is))
-  inputs (Sole i) g h = (input i g h, tt)
-  inputs (More is i) g h =
-      input_push (item_trees is) (item_tree i) (inputs is g.0 (left_words (written_items is) (words.Comma ∷ written_item i) h))
-      (input i g.1 (right_words (written_items is) (words.Comma ∷ written_item i) h).1)
+text : (d : Direction) (t : List ℕ) → IsTrue (takes_text d) → IsText t → IsSourceText d t
+text Output t g h = h
+text Input t g h = absurd cc
+
+mutual
+  source_item : (d : Direction) (i : ItemPhrase) → IsItem d i → AreSourceWords (written_item i) → IsSourceItem d (item_tree i)
+  source_item d (Value p) g h = value d p g.1 (source p g.0 h)
+  source_item d (Text t) g h = text d t g h.0
+  source_item d (Loop is k) g h =
+      let w = loop_words is k h in (
+        has_some is,
+        symbolic_name k.variable w.control.variable.0,
+        source k.first g.1.0 w.control.first,
+        source k.last g.1.1 w.control.last,
+        step_source k.step g.1.2 w.control.step,
+        source_items d is g.0 w.inside,
+      )
+
+  pub source_items : (d : Direction) (is : ItemPhrases) → AreItems d is → AreSourceWords (written_items is) → AreSourceItems d (items (item_trees is))
+  source_items d (Sole i) g h = (source_item d i g h, tt)
+  source_items d (More is i) g h =
+      item_push d (item_trees is) (item_tree i) (source_items d is g.0 (left_words (written_items is) (words.Comma ∷ written_item i) h))
+      (source_item d i g.1 (right_words (written_items is) (words.Comma ∷ written_item i) h).1)
 
 -- ---- depth
 
@@ -120,7 +117,7 @@ mutual
   item_within : (d : Direction) (i : ItemPhrase) → IsItem d i → depth_of_item (item_tree i) ≤ item_depth i
   item_within d (Value p) g = within p g.0
   item_within d (Text t) g = omega arith
-  item_within d (Loop is x a b c) g = omega (arith, items_within d is g.0, within a g.1, within b g.2, step_within c g.3)
+  item_within d (Loop is k) g = omega (arith, items_within d is g.0, within k.first g.1.0, within k.last g.1.1, step_within k.step g.1.2)
 
   pub items_within : (d : Direction) (is : ItemPhrases) → AreItems d is → depth_of_items (items (item_trees is)) ≤ items_depth is
   items_within d (Sole i) g = omega (arith, item_within d i g)

@@ -4,12 +4,13 @@ use Rattle.std.specs.List.{AllByRecursion, list_all}
 use Rattle.std.proofs.lemmas.Bool.{and_from, or_left}
 use Rattle.fv_tree.specs.declared.ops.Kind.{Kind}
 use Rattle.fv_tree.specs.Plain.{Expression, Number, Logic, Named, Unary, Binary, Subscript, Only, Subscripts, no_subscripts, subscript, Item, Single, Constant, ImpliedDo, Items, no_items, item}
+use Rattle.f77_grammar.specs.statements.Items.{Direction, Output, Input}
 use Rattle.f77_grammar.specs.Statement77.{Entity, NamedConstant, Labelled, Statement77, Program, Declare, Dimension, Constants, Assign, Go, Test, If, ElseIf, Else, EndIf, Do, Continue, Stop, Read, Print, End}
 use Rattle.f77_grammar.specs.expressions.Spelling as spelling
 use Rattle.f77_grammar.specs.expressions.Printing.{IsSource, IsSourceSubscript, AreSource}
 use Rattle.fv_meaning.specs.Names.{IsSymbolicName, is_letter, is_digit}
-use Rattle.f77_grammar.specs.program.Uses.{Use, use_of, uses_in, uses_in_subscripts, uses_in_subscript, input_uses, uses_in_output, uses_in_outputs, uses_in_input, uses_in_inputs, uses_in_bounds, bounded_uses, dimensioned_uses, typed_uses, defined_uses, uses_of, uses_in_text}
-use Rattle.f77_laws.specs.Source.{IsShallow, IsSourceVariable, IsSourceOutput, AreSourceOutputs, IsSourceInput, AreSourceInputs, IsSourceEntity, IsSourceConstant, IsSourceAction, IsSourceStatement, IsSourceCard}
+use Rattle.f77_grammar.specs.program.Uses.{Use, use_of, uses_in, uses_in_subscripts, uses_in_subscript, value_uses, uses_in_item, uses_in_items, uses_in_bounds, bounded_uses, dimensioned_uses, typed_uses, defined_uses, uses_of, uses_in_text}
+use Rattle.f77_laws.specs.Source.{IsShallow, IsSourceValue, IsSourceItem, AreSourceItems, IsSourceEntity, IsSourceConstant, IsSourceAction, IsSourceStatement, IsSourceCard}
 use Rattle.f77_laws.proofs.Lists.{all_both}
 
 -- ---- a name as it is spelled is a symbolic name
@@ -57,29 +58,20 @@ mutual
 names_in_control : (a b c : Expression) → IsSource a → IsSource b → IsSource c → AreSymbolic (uses_in a ++ uses_in b ++ uses_in c)
 names_in_control a b c h k l = both (uses_in a ++ uses_in b) (uses_in c) (both (uses_in a) (uses_in b) (names_in a h) (names_in b k)) (names_in c l)
 
-mutual
-  names_in_output : (i : Item) → IsSourceOutput i → AreSymbolic (uses_in_output i)
-  names_in_output (Single e) h = names_in e h
-  names_in_output (Constant t) h = tt
-  names_in_output (ImpliedDo is x a b c) h = both (uses_in_outputs is) (use_of x _ ∷ uses_in a ++ uses_in b ++ uses_in c) (names_in_outputs is h.5) (h.1, names_in_control a b c h.2 h.3 h.4)
-
-  names_in_outputs : (is : Items) → AreSourceOutputs is → AreSymbolic (uses_in_outputs is)
-  names_in_outputs no_items h = tt
-  names_in_outputs (item i is) h = both (uses_in_output i) (uses_in_outputs is) (names_in_output i h.0) (names_in_outputs is h.1)
-
-names_in_variable : (e : Expression) → IsSourceVariable e → AreSymbolic (input_uses e)
-names_in_variable (Named x ps) h = (symbolic_name x h.0, names_in_subscripts ps h.1)
-names_in_variable e h = absurd h
+names_in_value : (d : Direction) (e : Expression) → IsSourceValue d e → AreSymbolic (value_uses d e)
+names_in_value Output e h = names_in e h
+names_in_value Input (Named x ps) h = (symbolic_name x h.0, names_in_subscripts ps h.1)
+names_in_value Input e h = absurd h
 
 mutual
-  names_in_input : (i : Item) → IsSourceInput i → AreSymbolic (uses_in_input i)
-  names_in_input (Single e) h = names_in_variable e h
-  names_in_input (Constant t) h = absurd h
-  names_in_input (ImpliedDo is x a b c) h = both (uses_in_inputs is) (use_of x _ ∷ uses_in a ++ uses_in b ++ uses_in c) (names_in_inputs is h.5) (h.1, names_in_control a b c h.2 h.3 h.4)
+  names_in_item : (d : Direction) (i : Item) → IsSourceItem d i → AreSymbolic (uses_in_item d i)
+  names_in_item d (Single e) h = names_in_value d e h
+  names_in_item d (Constant t) h = tt
+  names_in_item d (ImpliedDo is x a b c) h = both (uses_in_items d is) (use_of x _ ∷ uses_in a ++ uses_in b ++ uses_in c) (names_in_items d is h.5) (h.1, names_in_control a b c h.2 h.3 h.4)
 
-  names_in_inputs : (is : Items) → AreSourceInputs is → AreSymbolic (uses_in_inputs is)
-  names_in_inputs no_items h = tt
-  names_in_inputs (item i is) h = both (uses_in_input i) (uses_in_inputs is) (names_in_input i h.0) (names_in_inputs is h.1)
+  names_in_items : (d : Direction) (is : Items) → AreSourceItems d is → AreSymbolic (uses_in_items d is)
+  names_in_items d no_items h = tt
+  names_in_items d (item i is) h = both (uses_in_item d i) (uses_in_items d is) (names_in_item d i h.0) (names_in_items d is h.1)
 
 -- ---- statements
 
@@ -108,8 +100,8 @@ names_in_action (Assign left e) h = (symbolic_name left.name h.0.0.0, both (uses
 names_in_action (Go n) h = tt
 names_in_action Continue h = tt
 names_in_action Stop h = tt
-names_in_action (Read is) h = names_in_inputs is h.0
-names_in_action (Print is) h = names_in_outputs is h.0
+names_in_action (Read is) h = names_in_items Input is h.0
+names_in_action (Print is) h = names_in_items Output is h.0
 names_in_action (Program x) h = absurd h
 names_in_action (Declare k es) h = absurd h
 names_in_action (Dimension es) h = absurd h

@@ -4,6 +4,7 @@ use Rattle.std.specs.Prelude.{ℕ, ◌<◌, ◌≤◌, IsTrue, IfSome, List, [],
 use Rattle.std.specs.List.{AllByRecursion}
 use Rattle.fv_tree.specs.Limits.{expression_depth77, array_dimensions}
 use Rattle.fv_tree.specs.Plain.{Expression, Named, Item, Single, Constant, ImpliedDo, Items, no_items, item}
+use Rattle.f77_grammar.specs.statements.Items.{Direction, Output, Input}
 use Rattle.f77_grammar.specs.Statement77.{Entity, NamedConstant, Statement77, Labelled, Program, Declare, Dimension}
 use Rattle.f77_grammar.specs.Statement77.{Constants, Assign, Go, Test, If, ElseIf, Else, EndIf, Do, Continue, Stop}
 use Rattle.f77_grammar.specs.Statement77.{Read, Print, End}
@@ -23,27 +24,24 @@ abbrev pub IsSourceVariable : Expression → Type 0
 IsSourceVariable (Named x ps) = IsSource (Named x ps)
 IsSourceVariable e = ⊥
 
-abbrev mutual
-  pub IsSourceOutput : Item → Type 0
-  IsSourceOutput (Single e) = IsSource e
-  IsSourceOutput (Constant t) = IsText t
-  IsSourceOutput (ImpliedDo is x a b c) = IsTrue (has_item is) × IsSymbolicName x × IsSource a × IsSource b × IsSource c
-      × AreSourceOutputs is
+abbrev pub IsSourceValue : Direction → Expression → Type 0
+IsSourceValue Output e = IsSource e
+IsSourceValue Input e = IsSourceVariable e
 
-  pub AreSourceOutputs : Items → Type 0
-  AreSourceOutputs no_items = Unit {0}
-  AreSourceOutputs (item i is) = IsSourceOutput i × AreSourceOutputs is
+abbrev pub IsSourceText : Direction → List ℕ → Type 0
+IsSourceText Output t = IsText t
+IsSourceText Input t = ⊥
 
 abbrev mutual
-  pub IsSourceInput : Item → Type 0
-  IsSourceInput (Single e) = IsSourceVariable e
-  IsSourceInput (Constant t) = ⊥
-  IsSourceInput (ImpliedDo is x a b c) = IsTrue (has_item is) × IsSymbolicName x × IsSource a × IsSource b × IsSource c
-      × AreSourceInputs is
+  pub IsSourceItem : Direction → Item → Type 0
+  IsSourceItem d (Single e) = IsSourceValue d e
+  IsSourceItem d (Constant t) = IsSourceText d t
+  IsSourceItem d (ImpliedDo is x a b c) = IsTrue (has_item is) × IsSymbolicName x × IsSource a × IsSource b × IsSource c
+      × AreSourceItems d is
 
-  pub AreSourceInputs : Items → Type 0
-  AreSourceInputs no_items = Unit {0}
-  AreSourceInputs (item i is) = IsSourceInput i × AreSourceInputs is
+  pub AreSourceItems : Direction → Items → Type 0
+  AreSourceItems d no_items = Unit {0}
+  AreSourceItems d (item i is) = IsSourceItem d i × AreSourceItems d is
 
 -- ---- statements
 
@@ -65,8 +63,8 @@ IsSourceAction (Assign left e) = IsShallow (Named left.name left.subscripts) × 
 IsSourceAction (Go n) = IsSourceLabel n
 IsSourceAction Continue = Unit {0}
 IsSourceAction Stop = Unit {0}
-IsSourceAction (Read is) = AreSourceInputs is × (depth_of_items is ≤ expression_depth77)
-IsSourceAction (Print is) = AreSourceOutputs is × (depth_of_items is ≤ expression_depth77)
+IsSourceAction (Read is) = AreSourceItems Input is × (depth_of_items is ≤ expression_depth77)
+IsSourceAction (Print is) = AreSourceItems Output is × (depth_of_items is ≤ expression_depth77)
 IsSourceAction (Program x) = ⊥
 IsSourceAction (Declare k es) = ⊥
 IsSourceAction (Dimension es) = ⊥

@@ -1,16 +1,17 @@
 -- Every list is read.
-use Rattle.std.proofs.Common.{arith, ◌≡◌, ℕ, max, min, pos, Bool, true, List, [], ◌∷◌, ◌++◌, refl, ap, sym, ◌∙◌, subst, append_assoc, append-nil}
+use Rattle.std.proofs.Common.{arith, ◌≡◌, ℕ, max, min, pos, Bool, true, false, List, [], ◌∷◌, ◌++◌, refl, ap, sym, ◌∙◌, subst, append_assoc, append-nil}
 use Rattle.std.specs.Prelude.{Option, Some, None}
 use Rattle.fv_tree.specs.Plain.{Number, Item, Single, Constant}
 use Rattle.f77_grammar.specs.expressions.Phrases.{Phrase, IsExpression, written, tree, depth}
 use Rattle.f77_grammar.specs.expressions.Words as words
 use Rattle.f77_grammar.specs.expressions.Words.{Word}
-use Rattle.f77_grammar.specs.statements.Items.{ItemPhrase, ItemPhrases, Value, Text, Loop, Sole, More, Direction, Output, Input, MayStand, IsStep, IsItem, AreItems, written_step, written_bounds, written_item, written_items, step_tree, step_depth, item_tree, item_trees, item_depth, items_depth}
+use Rattle.f77_grammar.specs.statements.Controls.{Control, IsStep, IsControl, written_step, written_control, step_tree, step_depth}
+use Rattle.f77_grammar.specs.statements.Items.{ItemPhrase, ItemPhrases, Value, Text, Loop, Sole, More, Direction, Output, Input, MayStand, IsItem, AreItems, written_item, written_items, item_tree, item_trees, item_depth, items_depth}
 use Rattle.f77_expr.specs.Reader as expressions
 use Rattle.f77_expr.specs.Reader.{Read, deeper}
 use Rattle.f77_expr.specs.Reading.{Ends}
 use Rattle.f77_expr.proofs.Complete.{operand_of, is_read}
-use Rattle.f77_lists.specs.Reader.{Frame, State, Wants, Done, Go, none, added, put, may_stand, value, begin_by, Bound, Bounds, last_part, with_step, with_last, with_first, bounds, given, repeat, behind_comma, control, step, start, Path, here, onward}
+use Rattle.f77_lists.specs.Reader.{Frame, State, Wants, Done, Go, none, added, put, may_stand, value, begin_by, Bound, ReadControl, no_step, last_part, control_with, with_step, with_last, with_first, given, repeat, begins_control, behind_comma, control, step, start, Path, here, onward}
 use Rattle.f77_lists.proofs.Neutral.{loop_end, list_opens, value_opens_not, value_simple, item_controls_not, reference_stands, IsNoEquals}
 use Rattle.f77_lists.proofs.Paths.{joined, one_more}
 
@@ -41,10 +42,10 @@ filled (More is i) f = added (item_tree i) (capped i) (filled is f)
 abbrev frame : List Item → ℕ → Frame
 frame is d = record { items = is; depth = d }
 
-abbrev all_of : ItemPhrases → Frame
+abbrev pub all_of : ItemPhrases → Frame
 all_of is = frame (item_trees is) (min (items_depth is) 401)
 
-pub filled_none : (is : ItemPhrases) → filled is none ≡ record { items = item_trees is; depth = min (items_depth is) 401 }
+pub filled_none : (is : ItemPhrases) → filled is none ≡ all_of is
 filled_none (Sole i) = ap (frame (item_tree i ∷ [])) (omega arith)
 filled_none (More is i) =
     ap (added (item_tree i) (capped i)) (filled_none is)
@@ -70,41 +71,49 @@ value_step d p f fs r g m e =
     ∙ (ap (value d ws (f ∷ fs)) (is_read p r g e)
     ∙ value_put d ws (f ∷ fs) found (stands d p r m)))
 
--- ---- bounds
+-- ---- a DO variable with its parameters
 
-step_ends : (c : Option Phrase) (r : List Word) → Ends (written_step c ++ words.Close ∷ r)
-step_ends None r = tt
-step_ends (Some p) r = tt
+-- what may stand behind it
+abbrev pub EndsControl : List Word → Type 0
+EndsControl [] = Unit {0}
+EndsControl (words.Close ∷ ws) = Unit {0}
+EndsControl ws = ⊥
 
-abbrev bound : Option Phrase → List Word → Bound
+control_ends : (r : List Word) → EndsControl r → Ends r
+control_ends [] h = tt
+control_ends (words.Close ∷ r) h = tt
+control_ends (w ∷ r) h = absurd h
+
+step_ends : (c : Option Phrase) (r : List Word) → EndsControl r → Ends (written_step c ++ r)
+step_ends None r h = control_ends r h
+step_ends (Some p) r h = tt
+
+abbrev pub bound : Option Phrase → List Word → Bound
 bound c r = record { tree = step_tree c; depth = min (step_depth c) 401; rest = r }
 
-last_read : (c : Option Phrase) (r : List Word) → IsStep c → last_part (written_step c ++ words.Close ∷ r) ≡ Some (bound c r)
-last_read None r h = ap (λ (n : ℕ). let b : Bound = record { tree = Number (pos 1); depth = n; rest = r } in Some b) (omega arith)
-last_read (Some p) r h = ap given (is_read p (words.Close ∷ r) h tt)
+pub no_bound : (r : List Word) → no_step r ≡ bound None r
+no_bound r = ap (λ (n : ℕ). let b : Bound = record { tree = Number (pos 1); depth = n; rest = r } in b) (omega arith)
 
-abbrev bounds_of : Phrase → Phrase → Option Phrase → List Word → Bounds
-bounds_of a b c r = record {
-  first = tree a;
-  last = tree b;
-  step = step_tree c;
-  depth = max (max (min (depth a) 401) (min (depth b) 401)) (min (step_depth c) 401);
-  rest = r;
-}
+last_read : (c : Option Phrase) (r : List Word) → IsStep c → EndsControl r → last_part (written_step c ++ r) ≡ Some (bound c r)
+last_read None [] h e = ap Some (no_bound [])
+last_read None (words.Close ∷ r) h e = ap Some (no_bound (words.Close ∷ r))
+last_read None (w ∷ r) h e = absurd e
+last_read (Some p) r h e = ap given (is_read p r h (control_ends r e))
 
-bounds_read : (a b : Phrase) (c : Option Phrase) (r : List Word) → IsExpression a → IsExpression b → IsStep c
-    → bounds (written_bounds a b c ++ words.Close ∷ r) ≡ Some (bounds_of a b c r)
-bounds_read a b c r ha hb hc =
-    let tail = (written b ++ written_step c) ++ words.Close ∷ r in
-    ap bounds (append_assoc (written a) (words.Comma ∷ (written b ++ written_step c)) (words.Close ∷ r))
-    ∙ (ap with_first (is_read a (words.Comma ∷ tail) ha tt)
-    ∙ (ap (λ (q : List Word). with_last (operand_of a) (expressions.read q)) (append_assoc (written b) (written_step c) (words.Close ∷ r))
-    ∙ (ap (with_last (operand_of a)) (is_read b (written_step c ++ words.Close ∷ r) hb (step_ends c r))
-    ∙ ap (with_step (operand_of a) (operand_of b)) (last_read c r hc))))
+abbrev pub control_of : Control → List Word → ReadControl
+control_of k r = control_with k.variable (operand_of k.first) (operand_of k.last) (bound k.step r)
 
-loop_deep : (is : ItemPhrases) (x : List ℕ) (a b : Phrase) (c : Option Phrase)
-    → deeper (max (min (items_depth is) 401) (max (max (min (depth a) 401) (min (depth b) 401)) (min (step_depth c) 401))) ≡ capped (Loop is x a b c)
-loop_deep is x a b c = omega arith
+pub control_is_read : (k : Control) (r : List Word) → IsControl k → EndsControl r → control (written_control k ++ r) ≡ Some (control_of k r)
+control_is_read k r h e =
+    let tail = (written k.last ++ written_step k.step) ++ r in
+    ap (λ (q : List Word). with_first k.variable (expressions.read q)) (append_assoc (written k.first) (words.Comma ∷ (written k.last ++ written_step k.step)) r)
+    ∙ (ap (with_first k.variable) (is_read k.first (words.Comma ∷ tail) h.0 tt)
+    ∙ (ap (λ (q : List Word). with_last k.variable (operand_of k.first) (expressions.read q)) (append_assoc (written k.last) (written_step k.step) r)
+    ∙ (ap (with_last k.variable (operand_of k.first)) (is_read k.last (written_step k.step ++ r) h.1 (step_ends k.step r e))
+    ∙ ap (with_step k.variable (operand_of k.first) (operand_of k.last)) (last_read k.step r h.2 e))))
+
+pub loop_deep : (is : ItemPhrases) (k : Control) → deeper (max (min (items_depth is) 401) (control_of k []).depth) ≡ capped (Loop is k)
+loop_deep is k = omega arith
 
 -- ---- items
 
@@ -112,18 +121,17 @@ opens_step : (d : Direction) (is : ItemPhrases) (fs : List Frame) (r : List Word
     → step d (Wants fs (words.Open ∷ (written_items is ++ words.Comma ∷ r))) ≡ Go (Wants (none ∷ fs) (written_items is ++ words.Comma ∷ r))
 opens_step d is fs r = ap (λ (b : Bool). begin_by d b fs (words.Open ∷ (written_items is ++ words.Comma ∷ r))) (list_opens is r)
 
-comma_step : (d : Direction) (fs : List Frame) (ws : List Word) → control ws ≡ None → step d (Done fs (words.Comma ∷ ws)) ≡ Go (Wants fs ws)
+comma_step : (d : Direction) (fs : List Frame) (ws : List Word) → begins_control ws ≡ false → step d (Done fs (words.Comma ∷ ws)) ≡ Go (Wants fs ws)
 comma_step d fs ws e = ap (behind_comma fs ws) e
 
-close_step : (d : Direction) (is : ItemPhrases) (x : List ℕ) (a b : Phrase) (c : Option Phrase) (f : Frame) (fs : List Frame) (r : List Word)
-    → IsExpression a → IsExpression b → IsStep c
-    → step d (Done (filled is none ∷ f ∷ fs) (words.Comma ∷ (words.Name x ∷ (words.Equals ∷ ((written_bounds a b c ++ words.Close ∷ []) ++ r)))))
-    ≡ Go (Done (added (item_tree (Loop is x a b c)) (capped (Loop is x a b c)) f ∷ fs) r)
-close_step d is x a b c f fs r ha hb hc =
-    ap (λ (q : List Word). repeat x (filled is none ∷ f ∷ fs) (bounds q)) (append_assoc (written_bounds a b c) (words.Close ∷ []) r)
-    ∙ (ap (repeat x (filled is none ∷ f ∷ fs)) (bounds_read a b c r ha hb hc)
-    ∙ (ap (λ (g : Frame). repeat x (g ∷ f ∷ fs) (Some (bounds_of a b c r))) (filled_none is)
-    ∙ ap (λ (n : ℕ). Go (Done (added (item_tree (Loop is x a b c)) n f ∷ fs) r)) (loop_deep is x a b c)))
+close_step : (d : Direction) (is : ItemPhrases) (k : Control) (f : Frame) (fs : List Frame) (r : List Word) → IsControl k
+    → step d (Done (filled is none ∷ f ∷ fs) (words.Comma ∷ ((written_control k ++ words.Close ∷ []) ++ r)))
+    ≡ Go (Done (added (item_tree (Loop is k)) (capped (Loop is k)) f ∷ fs) r)
+close_step d is k f fs r h =
+    ap (λ (q : List Word). repeat (filled is none ∷ f ∷ fs) (control q)) (append_assoc (written_control k) (words.Close ∷ []) r)
+    ∙ (ap (repeat (filled is none ∷ f ∷ fs)) (control_is_read k (words.Close ∷ r) h tt)
+    ∙ (ap (λ (g : Frame). repeat (g ∷ f ∷ fs) (Some (control_of k (words.Close ∷ r)))) (filled_none is)
+    ∙ ap (λ (n : ℕ). Go (Done (added (item_tree (Loop is k)) n f ∷ fs) r)) (loop_deep is k)))
 
 text_step : (d : Direction) (t : List ℕ) (f : Frame) (fs : List Frame) (r : List Word) → IsItem d (Text t)
     → step d (Wants (f ∷ fs) (words.Constant t ∷ r)) ≡ Go (Done (added (Constant t) (capped (Text t)) f ∷ fs) r)
@@ -143,11 +151,11 @@ mutual
   item_reads : (i : ItemPhrase) (d : Direction) (f : Frame) (fs : List Frame) (r : List Word) → IsItem d i → IsSeparated r → ItemRead d i f fs r (written_item i ++ r)
   item_reads (Value p) d f fs r h s = one_step d _ _ (value_step d p f fs r h.0 h.1 (separated_ends r s))
   item_reads (Text t) d f fs r h s = one_step d _ _ (text_step d t f fs r h)
-  item_reads (Loop is x a b c) d f fs r h s =
-      let behind = words.Name x ∷ (words.Equals ∷ ((written_bounds a b c ++ words.Close ∷ []) ++ r)) in
-      subst (λ (q : List Word). ItemRead d (Loop is x a b c) f fs r (words.Open ∷ q)) (sym (append_assoc (written_items is) (loop_end x a b c) r))
+  item_reads (Loop is k) d f fs r h s =
+      let behind = (written_control k ++ words.Close ∷ []) ++ r in
+      subst (λ (q : List Word). ItemRead d (Loop is k) f fs r (words.Open ∷ q)) (sym (append_assoc (written_items is) (loop_end k) r))
       (onward _ _ _ (opens_step d is (f ∷ fs) behind)
-      (one_more d _ _ _ (items_read is d none (f ∷ fs) (words.Comma ∷ behind) h.0 tt) (close_step d is x a b c f fs r h.1 h.2 h.3)))
+      (one_more d _ _ _ (items_read is d none (f ∷ fs) (words.Comma ∷ behind) h.0 tt) (close_step d is k f fs r h.1)))
 
   items_read : (is : ItemPhrases) (d : Direction) (f : Frame) (fs : List Frame) (r : List Word) → AreItems d is → IsSeparated r → ItemsRead d is f fs r (written_items is ++ r)
   items_read (Sole i) d f fs r h s = item_reads i d f fs r h s

@@ -1,4 +1,5 @@
 pub mod Complete
+pub mod ControlLaws
 pub mod ListLaws
 pub mod Neutral
 pub mod Paths

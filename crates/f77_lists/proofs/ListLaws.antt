@@ -25,7 +25,7 @@ found d ws (Ok l) h =
 found d ws (Err e) h = tt
 
 -- steps end where the whole list has been read
-end_is : (d : Direction) (ws : List Word) (end : Step) (is : ItemPhrases) → Reaches d ws end → IsLast end → AreItems d is → ws ≡ written_items is → end ≡ reader.Stop (filled is none)
+pub end_is : (d : Direction) (ws : List Word) (end : Step) (is : ItemPhrases) → Reaches d ws end → IsLast end → AreItems d is → ws ≡ written_items is → end ≡ reader.Stop (filled is none)
 end_is d ws end is h l g e =
     let last = Done (filled is none ∷ []) [] in
     let p : Path d (start ws) last = subst (λ (q : List Word). Path d (start q) last) (sym e) (list_is_read d is g) in

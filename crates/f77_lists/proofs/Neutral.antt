@@ -9,9 +9,10 @@ use Rattle.fv_tree.specs.OperatorTable.{level_of}
 use Rattle.f77_grammar.specs.expressions.Phrases.{Phrase, Literal, WideLiteral, Truth, Name, Listed, Paren, Signed, Joined, Phrases, One, Then, written, written_list, level}
 use Rattle.f77_grammar.specs.expressions.Words as words
 use Rattle.f77_grammar.specs.expressions.Words.{Word}
-use Rattle.f77_grammar.specs.statements.Items.{ItemPhrase, ItemPhrases, Value, Text, Loop, Sole, More, Direction, IsReference, written_step, written_bounds, written_item, written_items}
+use Rattle.f77_grammar.specs.statements.Controls.{Control, written_step, written_control}
+use Rattle.f77_grammar.specs.statements.Items.{ItemPhrase, ItemPhrases, Value, Text, Loop, Sole, More, Direction, IsReference, written_item, written_items}
 use Rattle.f77_expr.specs.Reader as expressions
-use Rattle.f77_lists.specs.Reader.{Frame, holds_comma, opens, simple, value, control}
+use Rattle.f77_lists.specs.Reader.{Frame, holds_comma, opens, simple, value, begins_control}
 use Rattle.f77_expr.specs.TokenFronts.{begins_with_name}
 
 -- ---- commas within a parenthesis
@@ -46,28 +47,27 @@ neutral_step : (c : Option Phrase) (n : ℕ) (r : List Word) → holds_comma (n 
 neutral_step None n r = refl
 neutral_step (Some p) n r = comma_skipped n (written p ++ r) ∙ neutral p (n + 1) r
 
-neutral_bounds : (a b : Phrase) (c : Option Phrase) (n : ℕ) (r : List Word) → holds_comma (n + 1) (written_bounds a b c ++ r) ≡ holds_comma (n + 1) r
-neutral_bounds a b c n r =
-    scanned (n + 1) (written a) (words.Comma ∷ (written b ++ written_step c)) r
-    ∙ (neutral a (n + 1) (words.Comma ∷ ((written b ++ written_step c) ++ r))
-    ∙ (comma_skipped n ((written b ++ written_step c) ++ r)
-    ∙ (scanned (n + 1) (written b) (written_step c) r ∙ (neutral b (n + 1) (written_step c ++ r) ∙ neutral_step c n r))))
+neutral_control : (k : Control) (n : ℕ) (r : List Word) → holds_comma (n + 1) (written_control k ++ r) ≡ holds_comma (n + 1) r
+neutral_control k n r =
+    scanned (n + 1) (written k.first) (words.Comma ∷ (written k.last ++ written_step k.step)) r
+    ∙ (neutral k.first (n + 1) (words.Comma ∷ ((written k.last ++ written_step k.step) ++ r))
+    ∙ (comma_skipped n ((written k.last ++ written_step k.step) ++ r)
+    ∙ (scanned (n + 1) (written k.last) (written_step k.step) r ∙ (neutral k.last (n + 1) (written_step k.step ++ r) ∙ neutral_step k.step n r))))
 
 -- what stands behind the items of an implied DO list
-abbrev pub loop_end : List ℕ → Phrase → Phrase → Option Phrase → List Word
-loop_end x a b c = words.Comma ∷ (words.Name x ∷ (words.Equals ∷ (written_bounds a b c ++ words.Close ∷ [])))
+abbrev pub loop_end : Control → List Word
+loop_end k = words.Comma ∷ (written_control k ++ words.Close ∷ [])
 
-neutral_end : (x : List ℕ) (a b : Phrase) (c : Option Phrase) (n : ℕ) (r : List Word) → holds_comma (n + 1) (loop_end x a b c ++ r) ≡ holds_comma n r
-neutral_end x a b c n r =
-    comma_skipped n (words.Name x ∷ (words.Equals ∷ ((written_bounds a b c ++ words.Close ∷ []) ++ r)))
-    ∙ (scanned (n + 1) (written_bounds a b c) (words.Close ∷ []) r ∙ (neutral_bounds a b c n (words.Close ∷ r) ∙ close_one n r))
+neutral_end : (k : Control) (n : ℕ) (r : List Word) → holds_comma (n + 1) (loop_end k ++ r) ≡ holds_comma n r
+neutral_end k n r =
+    comma_skipped n ((written_control k ++ words.Close ∷ []) ++ r)
+    ∙ (scanned (n + 1) (written_control k) (words.Close ∷ []) r ∙ (neutral_control k n (words.Close ∷ r) ∙ close_one n r))
 
 mutual
   neutral_item : (i : ItemPhrase) (n : ℕ) (r : List Word) → holds_comma n (written_item i ++ r) ≡ holds_comma n r
   neutral_item (Value p) n r = neutral p n r
   neutral_item (Text t) n r = refl
-  neutral_item (Loop is x a b c) n r =
-      scanned (n + 1) (written_items is) (loop_end x a b c) r ∙ (neutral_items is n (loop_end x a b c ++ r) ∙ neutral_end x a b c n r)
+  neutral_item (Loop is k) n r = scanned (n + 1) (written_items is) (loop_end k) r ∙ (neutral_items is n (loop_end k ++ r) ∙ neutral_end k n r)
 
   neutral_items : (is : ItemPhrases) (n : ℕ) (r : List Word) → holds_comma (n + 1) (written_items is ++ r) ≡ holds_comma (n + 1) r
   neutral_items (Sole i) n r = neutral_item i (n + 1) r
@@ -115,13 +115,13 @@ abbrev pub IsNoEquals : List Word → Type 0
 IsNoEquals (words.Equals ∷ ws) = ⊥
 IsNoEquals ws = Unit {0}
 
-name_controls_not : (x : List ℕ) (r : List Word) → IsNoEquals r → control (words.Name x ∷ r) ≡ None
+name_controls_not : (x : List ℕ) (r : List Word) → IsNoEquals r → begins_control (words.Name x ∷ r) ≡ false
 name_controls_not x [] h = refl
 name_controls_not x (words.Equals ∷ r) h = absurd h
 name_controls_not x (w ∷ r) h = refl
 
 -- no variable of an implied DO list begins it
-pub value_controls_not : (p : Phrase) (r : List Word) → IsNoEquals r → control (written p ++ r) ≡ None
+pub value_controls_not : (p : Phrase) (r : List Word) → IsNoEquals r → begins_control (written p ++ r) ≡ false
 value_controls_not (Literal k) r h = refl
 value_controls_not WideLiteral r h = refl
 value_controls_not (Truth b) r h = refl
@@ -130,12 +130,12 @@ value_controls_not (Listed x ps) r h = refl
 value_controls_not (Paren p) r h = refl
 value_controls_not (Signed s p) r h = refl
 value_controls_not (Joined o a b) r h =
-    ap control (append_assoc (written a) (words.Operator o ∷ written b) r) ∙ value_controls_not a (words.Operator o ∷ (written b ++ r)) tt
+    ap begins_control (append_assoc (written a) (words.Operator o ∷ written b) r) ∙ value_controls_not a (words.Operator o ∷ (written b ++ r)) tt
 
-pub item_controls_not : (i : ItemPhrase) (r : List Word) → IsNoEquals r → control (written_item i ++ r) ≡ None
+pub item_controls_not : (i : ItemPhrase) (r : List Word) → IsNoEquals r → begins_control (written_item i ++ r) ≡ false
 item_controls_not (Value p) r h = value_controls_not p r h
 item_controls_not (Text t) r h = refl
-item_controls_not (Loop is x a b c) r h = refl
+item_controls_not (Loop is k) r h = refl
 
 -- ---- references
 

@@ -3,17 +3,18 @@ use Rattle.std.proofs.Common.{arith, ◌≡◌, ℕ, max, min, pos, Bool, true, 
 use Rattle.std.specs.Prelude.{Option, Some, None}
 use Rattle.std.proofs.lemmas.Bool.{cond_both}
 use Rattle.fv_tree.specs.Plain.{Number, Item, Single, Constant, ImpliedDo, items}
-use Rattle.f77_grammar.specs.expressions.Phrases.{Phrase, IsExpression, written, tree, depth}
+use Rattle.f77_grammar.specs.expressions.Phrases.{Phrase, IsExpression, written}
 use Rattle.f77_grammar.specs.expressions.Words as words
 use Rattle.f77_grammar.specs.expressions.Words.{Word}
-use Rattle.f77_grammar.specs.statements.Items.{ItemPhrase, ItemPhrases, Value, Text, Loop, Sole, More, Direction, Output, Input, MayStand, IsStep, IsItem, AreItems, written_step, written_bounds, written_item, written_items, step_tree, step_depth, item_tree, item_trees, items_depth}
+use Rattle.f77_grammar.specs.statements.Controls.{Control, IsStep, IsControl, written_step, written_bounds, written_control}
+use Rattle.f77_grammar.specs.statements.Items.{ItemPhrase, ItemPhrases, Value, Text, Loop, Sole, More, Direction, Output, Input, MayStand, IsItem, AreItems, written_item, written_items, item_tree}
 use Rattle.f77_expr.specs.Reader as expressions
 use Rattle.f77_expr.specs.Reader.{Operand, Read, deeper}
 use Rattle.f77_expr.proofs.Complete.{operand_of}
 use Rattle.f77_expr.proofs.Sound.{Found, read_is}
-use Rattle.f77_lists.specs.Reader.{Frame, State, Wants, Done, Step, Go, Stop, Fail, none, added, put, opens, may_stand, value, text, simple, open_list, begin_by, Bound, Bounds, closed, given, last_part, with_step, with_last, behind_first, with_first, bounds, repeat, behind_comma, control, Control, whole, follow, step, start, Path, here, onward}
+use Rattle.f77_lists.specs.Reader.{Frame, State, Wants, Done, Step, Go, Stop, Fail, none, added, put, opens, may_stand, value, text, simple, open_list, begin_by, Bound, bound_of, given, no_step, last_part, ReadControl, control_with, with_step, with_last, behind_first, with_first, control, ended, repeat, behind_comma, whole, follow, step, start, Path, here, onward}
 use Rattle.f77_lists.proofs.Neutral.{stands_reference}
-use Rattle.f77_lists.proofs.Complete.{capped, filled, filled_none}
+use Rattle.f77_lists.proofs.Complete.{capped, all_of, filled, filled_none, bound, no_bound, control_of, loop_deep}
 
 -- The words of what is open: under a list, and where an item is due.
 mutual
@@ -121,163 +122,128 @@ begin_stands : (d : Direction) (b : Bool) (all ws : List Word) (fs : List Frame)
 begin_stands d true all ws fs front u e h = open_stands d all ws fs front u e h
 begin_stands d false all ws fs front u e h = simple_stands d all ws fs front u e
 
--- ---- bounds
+-- ---- a DO variable with its parameters
 
 record FoundStep (ws : List Word) (c : Bound) : Type 0 where
   phrase : Option Phrase
   good : IsStep phrase
-  tree_is : c.tree ≡ step_tree phrase
-  depth_is : c.depth ≡ min (step_depth phrase) 401
-  text_is : ws ≡ written_step phrase ++ words.Close ∷ c.rest
-
-closed_found : (p : Phrase) (m : Operand) (ws rest : List Word) (c : Bound) → IsExpression p → m ≡ operand_of p → written p ++ rest ≡ ws → closed m rest ≡ Some c
-    → FoundStep (words.Comma ∷ ws) c
-closed_found p m ws [] c g e w h = cc
-closed_found p m ws (words.Close ∷ rest) c g e w h =
-    let made : Bound = record { tree = m.tree; depth = m.depth; rest = rest } in
-    let q : made ≡ c = cc in
-    subst (FoundStep (words.Comma ∷ ws)) q (record {
-      phrase = Some p;
-      good = g;
-      tree_is = ap (λ (o : Operand). o.tree) e;
-      depth_is = ap (λ (o : Operand). o.depth) e;
-      text_is = ap (λ (q : List Word). words.Comma ∷ q) (sym w);
-    })
-closed_found p m ws (w ∷ rest) c g e k h = cc
+  is : c ≡ bound phrase c.rest
+  text_is : ws ≡ written_step phrase ++ c.rest
 
 given_found : (ws : List Word) (o : Option Read) (c : Bound) → expressions.read ws ≡ o → given o ≡ Some c → FoundStep (words.Comma ∷ ws) c
 given_found ws None c k h = cc
-given_found ws (Some r) c k h = let f = read_is ws r k in closed_found f.phrase r.operand ws r.rest c f.good f.operand_is f.text_is h
+given_found ws (Some r) c k h =
+    let f = read_is ws r k in
+    let q : bound_of r ≡ c = cc in
+    subst (FoundStep (words.Comma ∷ ws)) q (record {
+      phrase = Some f.phrase;
+      good = f.good;
+      is = ap (λ (o : Operand). let b : Bound = record { tree = o.tree; depth = o.depth; rest = r.rest } in b) f.operand_is;
+      text_is = ap (λ (q : List Word). words.Comma ∷ q) (sym f.text_is);
+    })
+
+none_found : (ws : List Word) (c : Bound) → Some (no_step ws) ≡ Some c → FoundStep ws c
+none_found ws c h =
+    let q : no_step ws ≡ c = cc in subst (FoundStep ws) q (record { phrase = None; good = tt; is = no_bound ws; text_is = refl })
 
 last_found : (ws : List Word) (c : Bound) → last_part ws ≡ Some c → FoundStep ws c
-last_found [] c h = cc
-last_found (words.Close ∷ ws) c h =
-    let made : Bound = record { tree = Number (pos 1); depth = 0; rest = ws } in
-    let q : made ≡ c = cc in
-    subst (FoundStep (words.Close ∷ ws)) q (record { phrase = None; good = tt; tree_is = refl; depth_is = omega arith; text_is = refl })
+last_found [] c h = none_found [] c h
 last_found (words.Comma ∷ ws) c h = given_found ws _ c refl h
-last_found (w ∷ ws) c h = cc
+last_found (w ∷ ws) c h = none_found (w ∷ ws) c h
 
-record FoundBounds (ws : List Word) (b : Bounds) : Type 0 where
-  first : Phrase
-  last : Phrase
-  step : Option Phrase
-  first_good : IsExpression first
-  last_good : IsExpression last
-  step_good : IsStep step
-  first_is : b.first ≡ tree first
-  last_is : b.last ≡ tree last
-  step_is : b.step ≡ step_tree step
-  depth_is : b.depth ≡ max (max (min (depth first) 401) (min (depth last) 401)) (min (step_depth step) 401)
-  text_is : ws ≡ written_bounds first last step ++ words.Close ∷ b.rest
+pub record FoundControl (ws : List Word) (k : ReadControl) : Type 0 where
+  pub control : Control
+  pub good : IsControl control
+  pub is : k ≡ control_of control k.rest
+  pub text_is : ws ≡ written_control control ++ k.rest
 
 bounds_words : (a b c r : List Word) (w : Word) → a ++ w ∷ (b ++ (c ++ r)) ≡ (a ++ w ∷ (b ++ c)) ++ r
 bounds_words a b c r w = simp append_assoc
 
-deepest : (a b c x y z : ℕ) → a ≡ x → b ≡ y → c ≡ z → max (max a b) c ≡ max (max x y) z
-deepest a b c x y z e f g = rw (e, f, g) refl
+control_same : (x : List ℕ) (m n p q : Operand) (c e : Bound) → m ≡ p → n ≡ q → c ≡ e → control_with x m n c ≡ control_with x p q e
+control_same x m n p q c e f g h = rw (f, g, h) refl
 
-step_found : (p q : Phrase) (m n : Operand) (ws tail rest : List Word) (o : Option Bound) (b : Bounds) → IsExpression p → IsExpression q → m ≡ operand_of p → n ≡ operand_of q
-    → written p ++ words.Comma ∷ tail ≡ ws → written q ++ rest ≡ tail → last_part rest ≡ o → with_step m n o ≡ Some b → FoundBounds ws b
-step_found p q m n ws tail rest None b g h e k w v l s = cc
-step_found p q m n ws tail rest (Some c) b g h e k w v l s =
+step_found : (x : List ℕ) (p q : Phrase) (m n : Operand) (ws tail rest : List Word) (o : Option Bound) (b : ReadControl) → IsExpression p → IsExpression q → m ≡ operand_of p → n ≡ operand_of q
+    → written p ++ words.Comma ∷ tail ≡ ws → written q ++ rest ≡ tail → last_part rest ≡ o → with_step x m n o ≡ Some b → FoundControl (words.Name x ∷ (words.Equals ∷ ws)) b
+step_found x p q m n ws tail rest None b g h e k w v l s = cc
+step_found x p q m n ws tail rest (Some c) b g h e k w v l s =
     let f = last_found rest c l in
-    let made : Bounds = record { first = m.tree; last = n.tree; step = c.tree; depth = max (max m.depth n.depth) c.depth; rest = c.rest } in
-    let same : made ≡ b = cc in
-    let md : m.depth ≡ min (depth p) 401 = ap (λ (o : Operand). o.depth) e in
-    let nd : n.depth ≡ min (depth q) 401 = ap (λ (o : Operand). o.depth) k in
-    subst (FoundBounds ws) same (record {
-      first = p;
-      last = q;
-      step = f.phrase;
-      first_good = g;
-      last_good = h;
-      step_good = f.good;
-      first_is = ap (λ (o : Operand). o.tree) e;
-      last_is = ap (λ (o : Operand). o.tree) k;
-      step_is = f.tree_is;
-      depth_is = deepest m.depth n.depth c.depth _ _ _ md nd f.depth_is;
-      text_is = sym w ∙ (ap (λ (x : List Word). written p ++ words.Comma ∷ x) (sym v ∙ ap (λ (x : List Word). written q ++ x) f.text_is)
-          ∙ bounds_words (written p) (written q) (written_step f.phrase) (words.Close ∷ c.rest) words.Comma);
+    let same : control_with x m n c ≡ b = cc in
+    let found : Control = record { variable = x; first = p; last = q; step = f.phrase } in
+    let text : ws ≡ written_bounds found ++ c.rest = sym w ∙ (ap (λ (y : List Word). written p ++ words.Comma ∷ y) (sym v ∙ ap (λ (y : List Word). written q ++ y) f.text_is)
+    ∙ bounds_words (written p) (written q) (written_step f.phrase) c.rest words.Comma) in
+    subst (FoundControl (words.Name x ∷ (words.Equals ∷ ws))) same (record {
+      control = found;
+      good = (g, h, f.good);
+      is = control_same x m n (operand_of p) (operand_of q) c (bound f.phrase c.rest) e k f.is;
+      text_is = ap (λ (y : List Word). words.Name x ∷ (words.Equals ∷ y)) text;
     })
 
-second_found : (p : Phrase) (m : Operand) (ws tail : List Word) (o : Option Read) (b : Bounds) → IsExpression p → m ≡ operand_of p → written p ++ words.Comma ∷ tail ≡ ws
-    → expressions.read tail ≡ o → with_last m o ≡ Some b → FoundBounds ws b
-second_found p m ws tail None b g e w k h = cc
-second_found p m ws tail (Some r) b g e w k h =
-    let f = read_is tail r k in step_found p f.phrase m r.operand ws tail r.rest _ b g f.good e f.operand_is w f.text_is refl h
+second_found : (x : List ℕ) (p : Phrase) (m : Operand) (ws tail : List Word) (o : Option Read) (b : ReadControl) → IsExpression p → m ≡ operand_of p → written p ++ words.Comma ∷ tail ≡ ws
+    → expressions.read tail ≡ o → with_last x m o ≡ Some b → FoundControl (words.Name x ∷ (words.Equals ∷ ws)) b
+second_found x p m ws tail None b g e w k h = cc
+second_found x p m ws tail (Some r) b g e w k h =
+    let f = read_is tail r k in step_found x p f.phrase m r.operand ws tail r.rest _ b g f.good e f.operand_is w f.text_is refl h
 
-behind_found : (p : Phrase) (m : Operand) (ws rest : List Word) (b : Bounds) → IsExpression p → m ≡ operand_of p → written p ++ rest ≡ ws → behind_first m rest ≡ Some b → FoundBounds ws b
-behind_found p m ws [] b g e w h = cc
-behind_found p m ws (words.Comma ∷ tail) b g e w h = second_found p m ws tail _ b g e w refl h
-behind_found p m ws (v ∷ rest) b g e w h = cc
+behind_found : (x : List ℕ) (p : Phrase) (m : Operand) (ws rest : List Word) (b : ReadControl) → IsExpression p → m ≡ operand_of p → written p ++ rest ≡ ws → behind_first x m rest ≡ Some b
+    → FoundControl (words.Name x ∷ (words.Equals ∷ ws)) b
+behind_found x p m ws [] b g e w h = cc
+behind_found x p m ws (words.Comma ∷ tail) b g e w h = second_found x p m ws tail _ b g e w refl h
+behind_found x p m ws (v ∷ rest) b g e w h = cc
 
-first_found : (ws : List Word) (o : Option Read) (b : Bounds) → expressions.read ws ≡ o → with_first o ≡ Some b → FoundBounds ws b
-first_found ws None b k h = cc
-first_found ws (Some r) b k h = let f = read_is ws r k in behind_found f.phrase r.operand ws r.rest b f.good f.operand_is f.text_is h
+first_found : (x : List ℕ) (ws : List Word) (o : Option Read) (b : ReadControl) → expressions.read ws ≡ o → with_first x o ≡ Some b → FoundControl (words.Name x ∷ (words.Equals ∷ ws)) b
+first_found x ws None b k h = cc
+first_found x ws (Some r) b k h = let f = read_is ws r k in behind_found x f.phrase r.operand ws r.rest b f.good f.operand_is f.text_is h
+
+pub control_found : (ws : List Word) (b : ReadControl) → control ws ≡ Some b → FoundControl ws b
+control_found [] b h = cc
+control_found (words.Name x ∷ []) b h = cc
+control_found (words.Name x ∷ (words.Equals ∷ ws)) b h = first_found x ws _ b refl h
+control_found (words.Name x ∷ (w ∷ ws)) b h = cc
+control_found (w ∷ ws) b h = cc
 
 -- ---- the end of an implied DO list
 
-loop_deep : (is : ItemPhrases) (x : List ℕ) (a b : Phrase) (c : Option Phrase) (n : ℕ) → n ≡ max (max (min (depth a) 401) (min (depth b) 401)) (min (step_depth c) 401)
-    → deeper (max (min (items_depth is) 401) n) ≡ capped (Loop is x a b c)
-loop_deep is x a b c n e = rw e (omega arith)
+loop_words : (front is c r : List Word) → (front ++ words.Open ∷ (is ++ words.Comma ∷ (c ++ words.Close ∷ []))) ++ r ≡ ((front ++ words.Open ∷ []) ++ is) ++ words.Comma ∷ (c ++ words.Close ∷ r)
+loop_words front is c r = simp append_assoc
 
-loop_words : (front is bs r : List Word) (x : List ℕ)
-    → (front ++ words.Open ∷ (is ++ words.Comma ∷ (words.Name x ∷ (words.Equals ∷ (bs ++ words.Close ∷ []))))) ++ r
-    ≡ ((front ++ words.Open ∷ []) ++ is) ++ words.Comma ∷ (words.Name x ∷ (words.Equals ∷ (bs ++ words.Close ∷ r)))
-loop_words front is bs r x = simp append_assoc
+abbrev put_loop : Frame → ReadControl → List Frame → List Word → Step
+put_loop f k fs r = put (ImpliedDo (items f.items) k.variable k.first k.last k.step) (deeper (max f.depth k.depth)) fs r
 
-abbrev loop_item : List ℕ → Frame → Bounds → Item
-loop_item x f b = ImpliedDo (items f.items) x b.first b.last b.step
+loop_same : (is : ItemPhrases) (f : Frame) (k : ReadControl) (fs : List Frame) (r : List Word) (q : Control) → f ≡ filled is none → k ≡ control_of q k.rest
+    → put_loop f k fs r ≡ put (item_tree (Loop is q)) (capped (Loop is q)) fs r
+loop_same is f k fs r q e h =
+    ap (λ (g : Frame). put_loop g k fs r) (e ∙ filled_none is)
+    ∙ (ap (λ (c : ReadControl). put_loop (all_of is) c fs r) h ∙ ap (λ (n : ℕ). put (item_tree (Loop is q)) n fs r) (loop_deep is q))
 
-item_same : (is : ItemPhrases) (x : List ℕ) (f : Frame) (b : Bounds) (ws : List Word) (q : FoundBounds ws b) → f ≡ filled is none → loop_item x f b ≡ item_tree (Loop is x q.first q.last q.step)
-item_same is x f b ws q e =
-    let k : f.items ≡ item_trees is = ap (λ (g : Frame). g.items) (e ∙ filled_none is) in rw (k, q.first_is, q.last_is, q.step_is) refl
+loop_stands : (d : Direction) (all : List Word) (is : ItemPhrases) (f : Frame) (fs : List Frame) (before ws r : List Word) (k : ReadControl)
+    → Under d fs before → AreItems d is → f ≡ filled is none → (before ++ written_items is) ++ words.Comma ∷ ws ≡ all → FoundControl ws k → k.rest ≡ words.Close ∷ r
+    → StepStands d all (put_loop f k fs r)
+loop_stands d all is f _ _ ws r k bottom gs g e q h = tt
+loop_stands d all is f fs _ ws r k (within _ front u) gs g e q h =
+    let w : (front ++ written_item (Loop is q.control)) ++ r ≡ all = loop_words front (written_items is) (written_control q.control) r
+    ∙ (ap (λ (y : List Word). ((front ++ words.Open ∷ []) ++ written_items is) ++ words.Comma ∷ y) (ap (λ (y : List Word). written_control q.control ++ y) (sym h) ∙ sym q.text_is) ∙ e) in
+    subst (StepStands d all) (sym (loop_same is f k fs r q.control g q.is)) (put_stands d all (Loop is q.control) fs front r u (gs, q.good) w)
 
-depth_same : (is : ItemPhrases) (x : List ℕ) (f : Frame) (b : Bounds) (ws : List Word) (q : FoundBounds ws b) → f ≡ filled is none
-    → deeper (max f.depth b.depth) ≡ capped (Loop is x q.first q.last q.step)
-depth_same is x f b ws q e =
-    let k : f.depth ≡ min (items_depth is) 401 = ap (λ (g : Frame). g.depth) (e ∙ filled_none is) in
-    rw k (loop_deep is x q.first q.last q.step b.depth q.depth_is)
+ended_stands : (d : Direction) (all : List Word) (is : ItemPhrases) (f : Frame) (fs : List Frame) (before ws r : List Word) (k : ReadControl)
+    → Under d fs before → AreItems d is → f ≡ filled is none → (before ++ written_items is) ++ words.Comma ∷ ws ≡ all → FoundControl ws k → k.rest ≡ r
+    → StepStands d all (ended (f ∷ fs) k r)
+ended_stands d all is f fs before ws [] k u gs g e q h = tt
+ended_stands d all is f fs before ws (words.Close ∷ r) k u gs g e q h = loop_stands d all is f fs before ws r k u gs g e q h
+ended_stands d all is f fs before ws (w ∷ r) k u gs g e q h = tt
 
-loop_stands : (d : Direction) (all : List Word) (is : ItemPhrases) (f : Frame) (fs : List Frame) (before : List Word) (x : List ℕ) (ws : List Word) (b : Bounds)
-    → Under d fs before → AreItems d is → f ≡ filled is none → (before ++ written_items is) ++ words.Comma ∷ (words.Name x ∷ (words.Equals ∷ ws)) ≡ all
-    → FoundBounds ws b → StepStands d all (put (loop_item x f b) (deeper (max f.depth b.depth)) fs b.rest)
-loop_stands d all is f _ _ x ws b bottom gs k e q = tt
-loop_stands d all is f fs _ x ws b (within _ front u) gs k e q =
-    let i = Loop is x q.first q.last q.step in
-    let w : (front ++ written_item i) ++ b.rest ≡ all =
-    loop_words front (written_items is) (written_bounds q.first q.last q.step) b.rest x
-    ∙ (ap (λ (y : List Word). ((front ++ words.Open ∷ []) ++ written_items is) ++ words.Comma ∷ (words.Name x ∷ (words.Equals ∷ y))) (sym q.text_is) ∙ e) in
-    subst (λ (n : ℕ). StepStands d all (put (loop_item x f b) n fs b.rest)) (sym (depth_same is x f b ws q k))
-    (subst (λ (t : Item). StepStands d all (put t (capped i) fs b.rest)) (sym (item_same is x f b ws q k))
-    (put_stands d all i fs front b.rest u (gs, q.first_good, q.last_good, q.step_good) w))
-
-repeat_stands : (d : Direction) (all : List Word) (is : ItemPhrases) (f : Frame) (fs : List Frame) (before : List Word) (x : List ℕ) (ws : List Word) (o : Option Bounds)
-    → Under d fs before → AreItems d is → f ≡ filled is none → (before ++ written_items is) ++ words.Comma ∷ (words.Name x ∷ (words.Equals ∷ ws)) ≡ all
-    → bounds ws ≡ o → StepStands d all (repeat x (f ∷ fs) o)
-repeat_stands d all is f fs before x ws None u gs k e h = tt
-repeat_stands d all is f fs before x ws (Some b) u gs k e h = loop_stands d all is f fs before x ws b u gs k e (first_found ws _ b refl h)
+repeat_stands : (d : Direction) (all : List Word) (is : ItemPhrases) (f : Frame) (fs : List Frame) (before ws : List Word) (o : Option ReadControl)
+    → Under d fs before → AreItems d is → f ≡ filled is none → (before ++ written_items is) ++ words.Comma ∷ ws ≡ all → control ws ≡ o → StepStands d all (repeat (f ∷ fs) o)
+repeat_stands d all is f fs before ws None u gs g e h = tt
+repeat_stands d all is f fs before ws (Some k) u gs g e h = ended_stands d all is f fs before ws k.rest k u gs g e (control_found ws k h) refl
 
 -- ---- what follows an item
 
-controlled : (ws : List Word) (c : Control) → control ws ≡ Some c → ws ≡ words.Name c.name ∷ (words.Equals ∷ c.rest)
-controlled [] c h = cc
-controlled (words.Name x ∷ []) c h = cc
-controlled (words.Name x ∷ (words.Equals ∷ ws)) c h =
-    let made : Control = record { name = x; rest = ws } in
-    let q : made ≡ c = cc in
-    subst (λ (y : Control). words.Name x ∷ (words.Equals ∷ ws) ≡ words.Name y.name ∷ (words.Equals ∷ y.rest)) q refl
-controlled (words.Name x ∷ (w ∷ ws)) c h = cc
-controlled (w ∷ ws) c h = cc
-
-comma_stands : (d : Direction) (all : List Word) (is : ItemPhrases) (f : Frame) (fs : List Frame) (before ws : List Word) (o : Option Control)
-    → Under d fs before → AreItems d is → f ≡ filled is none → (before ++ written_items is) ++ words.Comma ∷ ws ≡ all
-    → control ws ≡ o → StepStands d all (behind_comma (f ∷ fs) ws o)
-comma_stands d all is f fs before ws None u gs k e h =
+comma_stands : (d : Direction) (all : List Word) (is : ItemPhrases) (f : Frame) (fs : List Frame) (before ws : List Word) (b : Bool)
+    → Under d fs before → AreItems d is → f ≡ filled is none → (before ++ written_items is) ++ words.Comma ∷ ws ≡ all → StepStands d all (behind_comma (f ∷ fs) ws b)
+comma_stands d all is f fs before ws true u gs k e = repeat_stands d all is f fs before ws _ u gs k e refl
+comma_stands d all is f fs before ws false u gs k e =
     ((before ++ written_items is) ++ words.Comma ∷ [], next is f fs before u gs k, append_assoc (before ++ written_items is) (words.Comma ∷ []) ws ∙ e)
-comma_stands d all is f fs before ws (Some c) u gs k e h =
-    repeat_stands d all is f fs before c.name c.rest _ u gs k (ap (λ (q : List Word). (before ++ written_items is) ++ words.Comma ∷ q) (sym (controlled ws c h)) ∙ e) refl
 
 nothing_before : (d : Direction) (fs : List Frame) (before : List Word) → Under d fs before → fs ≡ [] → before ≡ []
 nothing_before d _ _ bottom e = refl
@@ -294,7 +260,7 @@ whole_stands d all is f (g ∷ fs) before u gs k e = tt
 follow_stands : (d : Direction) (all ws : List Word) (is : ItemPhrases) (f : Frame) (fs : List Frame) (before : List Word)
     → Under d fs before → AreItems d is → f ≡ filled is none → (before ++ written_items is) ++ ws ≡ all → StepStands d all (follow (f ∷ fs) ws)
 follow_stands d all [] is f fs before u gs k e = whole_stands d all is f fs before u gs k e
-follow_stands d all (words.Comma ∷ ws) is f fs before u gs k e = comma_stands d all is f fs before ws _ u gs k e refl
+follow_stands d all (words.Comma ∷ ws) is f fs before u gs k e = comma_stands d all is f fs before ws _ u gs k e
 follow_stands d all (w ∷ ws) is f fs before u gs k e = tt
 
 step_stands : (d : Direction) (all : List Word) (s : State) → StateStands d all s → StepStands d all (step d s)

@@ -80,79 +80,86 @@ begin_by d false fs ws = simple d fs ws
 abbrev pub begin : Direction → List Frame → List Word → Step
 begin d fs ws = begin_by d (opens ws) fs ws
 
--- ---- the bounds of an implied DO list, with its closing parenthesis
+-- ---- a DO variable with its parameters
 
+-- a part, and what follows it
 pub record Bound : Type 0 where
   pub tree : Expression
   pub depth : ℕ
   pub rest : List Word
 
-abbrev pub closed : Operand → List Word → Option Bound
-closed m (words.Close ∷ ws) = Some (record { tree = m.tree; depth = m.depth; rest = ws })
-closed m ws = None
+abbrev pub bound_of : Read → Bound
+bound_of r = record { tree = r.operand.tree; depth = r.operand.depth; rest = r.rest }
 
 abbrev pub given : Option Read → Option Bound
 given None = None
-given (Some r) = closed r.operand r.rest
+given (Some r) = Some (bound_of r)
 
--- the step, which may be left out
+-- a step that is left out is 1
+abbrev pub no_step : List Word → Bound
+no_step ws = record { tree = Number (pos 1); depth = 0; rest = ws }
+
 abbrev pub last_part : List Word → Option Bound
-last_part (words.Close ∷ ws) = Some (record { tree = Number (pos 1); depth = 0; rest = ws })
 last_part (words.Comma ∷ ws) = given (expressions.read ws)
-last_part ws = None
+last_part ws = Some (no_step ws)
 
-pub record Bounds : Type 0 where
+pub record ReadControl : Type 0 where
+  pub variable : List ℕ
   pub first : Expression
   pub last : Expression
   pub step : Expression
   pub depth : ℕ
   pub rest : List Word
 
-abbrev pub with_step : Operand → Operand → Option Bound → Option Bounds
-with_step a b None = None
-with_step a b (Some c) = Some (record {
+abbrev pub control_with : List ℕ → Operand → Operand → Bound → ReadControl
+control_with x a b c = record {
+  variable = x;
   first = a.tree;
   last = b.tree;
   step = c.tree;
   depth = max (max a.depth b.depth) c.depth;
   rest = c.rest;
-})
+}
 
-abbrev pub with_last : Operand → Option Read → Option Bounds
-with_last a None = None
-with_last a (Some r) = with_step a r.operand (last_part r.rest)
+abbrev pub with_step : List ℕ → Operand → Operand → Option Bound → Option ReadControl
+with_step x a b None = None
+with_step x a b (Some c) = Some (control_with x a b c)
 
-abbrev pub behind_first : Operand → List Word → Option Bounds
-behind_first a (words.Comma ∷ ws) = with_last a (expressions.read ws)
-behind_first a ws = None
+abbrev pub with_last : List ℕ → Operand → Option Read → Option ReadControl
+with_last x a None = None
+with_last x a (Some r) = with_step x a r.operand (last_part r.rest)
 
-abbrev pub with_first : Option Read → Option Bounds
-with_first None = None
-with_first (Some r) = behind_first r.operand r.rest
+abbrev pub behind_first : List ℕ → Operand → List Word → Option ReadControl
+behind_first x a (words.Comma ∷ ws) = with_last x a (expressions.read ws)
+behind_first x a ws = None
 
-abbrev pub bounds : List Word → Option Bounds
-bounds ws = with_first (expressions.read ws)
+abbrev pub with_first : List ℕ → Option Read → Option ReadControl
+with_first x None = None
+with_first x (Some r) = behind_first x r.operand r.rest
+
+abbrev pub control : List Word → Option ReadControl
+control (words.Name x ∷ (words.Equals ∷ ws)) = with_first x (expressions.read ws)
+control ws = None
 
 -- ---- what follows an item
 
--- the variable of an implied DO list, and what follows its equals sign
-pub record Control : Type 0 where
-  pub name : List ℕ
-  pub rest : List Word
+abbrev pub begins_control : List Word → Bool
+begins_control (words.Name x ∷ (words.Equals ∷ ws)) = true
+begins_control ws = false
 
-abbrev pub control : List Word → Option Control
-control (words.Name x ∷ (words.Equals ∷ ws)) = Some (record { name = x; rest = ws })
-control ws = None
+-- the parenthesis behind the control ends the innermost list
+abbrev pub ended : List Frame → ReadControl → List Word → Step
+ended (f ∷ fs) k (words.Close ∷ ws) =
+    put (ImpliedDo (items f.items) k.variable k.first k.last k.step) (deeper (max f.depth k.depth)) fs ws
+ended fs k ws = Fail
 
-abbrev pub repeat : List ℕ → List Frame → Option Bounds → Step
-repeat x fs None = Fail
-repeat x [] (Some b) = Fail
-repeat x (f ∷ fs) (Some b) =
-    put (ImpliedDo (items f.items) x b.first b.last b.step) (deeper (max f.depth b.depth)) fs b.rest
+abbrev pub repeat : List Frame → Option ReadControl → Step
+repeat fs None = Fail
+repeat fs (Some k) = ended fs k k.rest
 
-abbrev pub behind_comma : List Frame → List Word → Option Control → Step
-behind_comma fs ws None = Go (Wants fs ws)
-behind_comma fs ws (Some c) = repeat c.name fs (bounds c.rest)
+abbrev pub behind_comma : List Frame → List Word → Bool → Step
+behind_comma fs ws true = repeat fs (control ws)
+behind_comma fs ws false = Go (Wants fs ws)
 
 abbrev pub whole : List Frame → Step
 whole (f ∷ []) = Stop f
@@ -160,7 +167,7 @@ whole fs = Fail
 
 abbrev pub follow : List Frame → List Word → Step
 follow fs [] = whole fs
-follow fs (words.Comma ∷ ws) = behind_comma fs ws (control ws)
+follow fs (words.Comma ∷ ws) = behind_comma fs ws (begins_control ws)
 follow fs ws = Fail
 
 -- ---- the whole list

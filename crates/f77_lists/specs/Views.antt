@@ -3,25 +3,19 @@ use Rattle.std.specs.Prelude.{ℕ, Bool, true, false, ◌≡◌, ◌<◌, length
 use Rattle.std.specs.Prelude.{Result, Ok, Err}
 use Rattle.std.specs.Borrow.{Bor}
 use Rattle.fv_tree.specs.View.{expression_of, item_of}
+use Rattle.fv_tree.specs.declared.exprs.Expr.{Expr}
 use Rattle.f77_grammar.specs.expressions.Words as words
 use Rattle.f77_grammar.specs.expressions.Words.{Word}
-use Rattle.f77_grammar.specs.statements.Items as meaning
+use Rattle.f77_grammar.specs.statements.Items.{Direction}
 use Rattle.f77_expr.specs.Views.{words_of}
 use Rattle.f77_expr.specs.declared.tokens.Stop.{Stop}
 use Rattle.f77_expr.specs.declared.tokens.Stop.TheVariants.{Syntax, Memory}
 use Rattle.f77_expr.specs.declared.tokens.Token.{Token}
-use Rattle.f77_lists.specs.declared.bounds.Bound.{Bound}
-use Rattle.f77_lists.specs.declared.bounds.Bounds.{Bounds}
-use Rattle.f77_lists.specs.declared.lists.Direction.{Direction}
-use Rattle.f77_lists.specs.declared.lists.Direction.TheVariants.{Output, Input}
+use Rattle.f77_lists.specs.declared.controls.DoControl.{DoControl}
 use Rattle.f77_lists.specs.declared.lists.ItemList.{ItemList}
 use Rattle.f77_lists.specs.declared.reader.Turn.{Turn}
 use Rattle.f77_lists.specs.declared.reader.Turn.TheVariants.{Due, Done, Whole}
 use Rattle.f77_lists.specs.Reader as reader
-
-abbrev pub direction_of : Direction → meaning.Direction
-direction_of Output = meaning.Output
-direction_of Input = meaning.Input
 
 abbrev pub frame_of : ItemList → reader.Frame
 frame_of l = record { items = map item_of l.items; depth = l.depth }
@@ -57,28 +51,27 @@ abbrev pub Lacks : {T : Type 0} → Stop → Option T → Type 0
 Lacks Syntax found = found ≡ None
 Lacks Memory found = Unit {0}
 
-abbrev pub GivesBound : Result (Bound × Bor (List Token)) Stop → Option reader.Bound → Type 0
-GivesBound (Ok r) found =
-    found ≡ Some (record { tree = expression_of r.0.tree; depth = r.0.depth; rest = words_of r.1.now })
+abbrev pub GivesBound : Result (Expr × ℕ × Bor (List Token)) Stop → Option reader.Bound → Type 0
+GivesBound (Ok r) found = found ≡ Some (record { tree = expression_of r.0; depth = r.1; rest = words_of r.2.now })
 GivesBound (Err e) found = Lacks e found
 
-abbrev pub GivesBounds : Result (Bounds × Bor (List Token)) Stop → Option reader.Bounds → Type 0
-GivesBounds (Ok r) found = found ≡ Some (record {
-  first = expression_of r.0.first;
-  last = expression_of r.0.last;
-  step = expression_of r.0.step;
-  depth = r.0.depth;
-  rest = words_of r.1.now;
-})
-GivesBounds (Err e) found = Lacks e found
+abbrev pub control_of : DoControl → List Word → reader.ReadControl
+control_of k rest = record {
+  variable = k.variable;
+  first = expression_of k.first;
+  last = expression_of k.last;
+  step = expression_of k.step;
+  depth = k.depth;
+  rest = rest;
+}
 
-abbrev pub GivesControl : Option (List ℕ × Bor (List Token)) → Option reader.Control → Type 0
-GivesControl (Some r) found = found ≡ Some (record { name = r.0; rest = words_of r.1.now })
-GivesControl None found = found ≡ None
+abbrev pub GivesControl : Result (DoControl × Bor (List Token)) Stop → Option reader.ReadControl → Type 0
+GivesControl (Ok r) found = found ≡ Some (control_of r.0 (words_of r.1.now))
+GivesControl (Err e) found = Lacks e found
 
 -- ---- and what reading gives
 
-abbrev pub Runs : Result ItemList Stop → meaning.Direction → List Word → Type 0
+abbrev pub Runs : Result ItemList Stop → Direction → List Word → Type 0
 Runs (Ok l) d ws = reader.Reaches d ws (reader.Stop (frame_of l))
 Runs (Err Syntax) d ws = reader.Reaches d ws reader.Fail
 Runs (Err Memory) d ws = Unit {0}

@@ -7,13 +7,6 @@ ghost use Rattle.f77_lists.specs.Views.{frame_of};
 use fv_tree::{Item, Memory, Seq};
 use std::alloc::Global;
 
-/// Whether the list is of PRINT or of READ.
-#[derive(Clone, Copy, Debug, PartialEq, Eq)]
-pub(crate) enum Direction {
-    Output,
-    Input,
-}
-
 /// The items of a list, and the depth of its deepest expression, which is counted up to the first that is too deep.
 #[derive(Debug, Drop)]
 pub struct ItemList {

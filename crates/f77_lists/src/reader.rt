@@ -5,13 +5,13 @@ ghost use Rattle.f77_grammar.specs.expressions.Words as words;
 ghost use Rattle.f77_expr.specs.Reader as expressions;
 ghost use Rattle.f77_expr.specs.Views.{words_of, operand_of};
 ghost use Rattle.f77_lists.specs.Reader as reader;
-ghost use Rattle.f77_lists.specs.Views.{direction_of, stack, state_of, frame_of, Leaves, Turns, Ends, Opens, IsShorter};
-ghost use Rattle.f77_lists.specs.Views.{Runs};
+ghost use Rattle.f77_lists.specs.Views.{stack, state_of, frame_of, Leaves, Turns, Ends, Opens, IsShorter, Runs};
 
-use crate::bounds::{control, read_bounds};
-use crate::lists::{Direction, ItemList};
+use crate::controls::{DoControl, begins_control, read_control};
+use crate::lists::ItemList;
 use f77_expr::{Operand, Stop, Token, begins_with_name, deepened, read};
-use fv_tree::{Item, Memory, Name, Seq, copy_text};
+use f77_grammar::Direction;
+use fv_tree::{Item, Memory, Seq, copy_text};
 use std::alloc::Global;
 
 /// What comes next, with the words that follow: an item is due, or has been read, or the list is whole.
@@ -67,7 +67,7 @@ fn opened(tokens: &[Token]) -> Option<&[Token]>
 
 // Whether the expression may stand as an item: a reference is read.
 fn may_stand(direction: Direction, tokens: &[Token], operand: &Operand) -> bool
-    ensures { result ≡ reader.may_stand (direction_of direction) (words_of tokens.now) (operand_of operand.now) }
+    ensures { result ≡ reader.may_stand direction (words_of tokens.now) (operand_of operand.now) }
 {
     match direction {
         Direction::Output => true,
@@ -98,7 +98,7 @@ fn value<'a>(
     lists: &mut Vec<ItemList>,
     tokens: &'a [Token],
 ) -> Result<&'a [Token], Stop>
-    ensures value { Leaves result lists.new.items (reader.value (direction_of direction) (words_of tokens.now)
+    ensures value { Leaves result lists.new.items (reader.value direction (words_of tokens.now)
         (stack lists.old.items) (expressions.read (words_of tokens.now))) }
     ensures shorter { IfOk result (λ rest. length rest.now < length tokens.now) }
 {
@@ -118,10 +118,10 @@ fn text(
     lists: &mut Vec<ItemList>,
     text: &Seq<u8>,
 ) -> Result<(), Stop>
-    ensures ok { OnOk result ((ws : List words.Word) → reader.text (direction_of direction) text.now
+    ensures ok { OnOk result ((ws : List words.Word) → reader.text direction text.now
         (stack lists.old.items) ws ≡ reader.Go (reader.Done (stack lists.new.items) ws)) }
     ensures syntax { IsErrOf result Stop.Syntax → (ws : List words.Word)
-        → reader.text (direction_of direction) text.now (stack lists.old.items) ws ≡ reader.Fail }
+        → reader.text direction text.now (stack lists.old.items) ws ≡ reader.Fail }
 {
     match direction {
         Direction::Output => put(lists, Item::Text(copy_text(text, alloc)?), 0),
@@ -136,7 +136,7 @@ fn simple<'a>(
     lists: &mut Vec<ItemList>,
     tokens: &'a [Token],
 ) -> Result<&'a [Token], Stop>
-    ensures simple { Leaves result lists.new.items (reader.simple (direction_of direction) (stack lists.old.items)
+    ensures simple { Leaves result lists.new.items (reader.simple direction (stack lists.old.items)
         (words_of tokens.now)) }
     ensures shorter { IfOk result (λ rest. length rest.now < length tokens.now) }
 {
@@ -157,7 +157,7 @@ fn begin<'a>(
     lists: &mut Vec<ItemList>,
     tokens: &'a [Token],
 ) -> Result<Turn<'a>, Stop>
-    ensures begin { Turns result lists.new.items (reader.begin (direction_of direction) (stack lists.old.items)
+    ensures begin { Turns result lists.new.items (reader.begin direction (stack lists.old.items)
         (words_of tokens.now)) }
     ensures shorter { IfOk result (λ turn. IsShorter turn (length tokens.now)) }
 {
@@ -170,25 +170,37 @@ fn begin<'a>(
     }
 }
 
-// The end of an implied DO list, behind the equals sign of its variable.
+// The end of an implied DO list: its control and its parenthesis.
 #[tactic(auto, using(crate::proofs::Stacks::stacks, fv_tree::proofs::Equations::item_equations))]
 fn repeat<'a>(
     alloc: Global,
     lists: &mut Vec<ItemList>,
-    name: Name,
     tokens: &'a [Token],
 ) -> Result<&'a [Token], Stop>
-    ensures repeat { Leaves result lists.new.items (reader.repeat name (stack lists.old.items)
-        (reader.bounds (words_of tokens.now))) }
+    ensures repeat { Leaves result lists.new.items (reader.repeat (stack lists.old.items)
+        (reader.control (words_of tokens.now))) }
     ensures shorter { IfOk result (λ rest. length rest.now < length tokens.now) }
 {
-    let (bounds, rest) = read_bounds(alloc, tokens)?;
+    let (control, rest) = read_control(alloc, tokens)?;
+    let [Token::Close, rest @ ..] = rest else {
+        return Err(Stop::Syntax);
+    };
     let Some(list) = lists.pop() else {
         return Err(Stop::Syntax);
     };
-    let depth = deepened(list.depth.max(bounds.depth));
-    let item = Item::Turns(list.items, name, bounds.first, bounds.last, bounds.step);
-    put(lists, item, depth)?;
+    let DoControl {
+        variable,
+        first,
+        last,
+        step,
+        depth,
+    } = control;
+    let depth = deepened(list.depth.max(depth));
+    put(
+        lists,
+        Item::Turns(list.items, variable, first, last, step),
+        depth,
+    )?;
     Ok(rest)
 }
 
@@ -213,12 +225,13 @@ fn behind_comma<'a>(
     tokens: &'a [Token],
 ) -> Result<Turn<'a>, Stop>
     ensures comma { Turns result lists.new.items (reader.behind_comma (stack lists.old.items) (words_of tokens.now)
-        (reader.control (words_of tokens.now))) }
+        (reader.begins_control (words_of tokens.now))) }
     ensures shorter { IfOk result (λ turn. IsShorter turn (length tokens.now + 1)) }
 {
-    match control(tokens) {
-        Some((name, rest)) => Ok(Turn::Done(repeat(alloc, lists, name, rest)?)),
-        None => Ok(Turn::Due(tokens)),
+    if begins_control(tokens) {
+        Ok(Turn::Done(repeat(alloc, lists, tokens)?))
+    } else {
+        Ok(Turn::Due(tokens))
     }
 }
 
@@ -245,7 +258,7 @@ fn step<'a>(
     is_due: bool,
     tokens: &'a [Token],
 ) -> Result<Turn<'a>, Stop>
-    ensures step { Turns result lists.new.items (reader.step (direction_of direction)
+    ensures step { Turns result lists.new.items (reader.step direction
         (state_of is_due lists.old.items (words_of tokens.now))) }
     ensures shorter { IfOk result (λ turn. IsShorter turn (length tokens.now)) }
 {
@@ -259,7 +272,7 @@ fn step<'a>(
 /// All words as one list, by steps.
 #[tactic(auto, using(crate::proofs::Paths::paths))]
 pub(crate) fn run(alloc: Global, direction: Direction, tokens: &[Token]) -> Result<ItemList, Stop>
-    ensures { Runs result (direction_of direction) (words_of tokens.now) }
+    ensures { Runs result direction (words_of tokens.now) }
 {
     let mut lists = Vec::new(alloc);
     lists.push(ItemList::new(alloc))?;

@@ -18,6 +18,7 @@ use Rattle.fv_tree.specs.declared.stmts.Item.{Item as Item'}
 use Rattle.fv_tree.specs.declared.stmts.Item.TheVariants as variants
 use Rattle.fv_tree.proofs.Equations.{expression_of-int, expression_of-truth, expression_of-item, expression_of-un, expression_of-bin, expression_of-call, reference_of-is, item_of-one, item_of-text, item_of-turns}
 use Rattle.fv_tree.proofs.Equations.{expression_of-list, expression_of-spread, expression_of-transpose, expression_of-reshape, expression_of-reduce}
+use Rattle.f77_grammar.specs.statements.Items.{Direction}
 use Rattle.f77_grammar.specs.program.Uses as plain
 use Rattle.f77_names.proofs.UseLaws.{number_is, one_more}
 
@@ -61,52 +62,28 @@ input-reshape a es = ap plain.input_uses (expression_of-reshape a es) ∙ sym (a
 pub input-reduce : (r : Red) (a : Box Expr Global) → plain.input_uses (expression_of (exprs.Reduce r a)) ≡ plain.uses_in (expression_of (exprs.Reduce r a))
 input-reduce r a = ap plain.input_uses (expression_of-reduce r a) ∙ sym (ap plain.uses_in (expression_of-reduce r a))
 
--- ---- output lists
+-- ---- lists
 
-pub output-one : (e : Expr) → plain.uses_in_output (item_of (variants.One e)) ≡ plain.uses_in (expression_of e)
-output-one e = ap plain.uses_in_output (item_of-one e)
+pub item-one : (d : Direction) (e : Expr) → plain.uses_in_item d (item_of (variants.One e)) ≡ plain.value_uses d (expression_of e)
+item-one d e = ap (plain.uses_in_item d) (item_of-one e)
 
-pub output-text : (t : Seq ℕ) → plain.uses_in_output (item_of (variants.Text t)) ≡ []
-output-text t = ap plain.uses_in_output (item_of-text t)
+pub item-text : (d : Direction) (t : Seq ℕ) → plain.uses_in_item d (item_of (variants.Text t)) ≡ []
+item-text d t = ap (plain.uses_in_item d) (item_of-text t)
 
-pub output-turns : (is : Seq Item') (x : Name) (a b c : Expr) → plain.uses_in_output (item_of (variants.Turns is x a b c))
-    ≡ plain.uses_in_outputs (items (map item_of is)) ++ plain.control_uses x (expression_of a) (expression_of b) (expression_of c)
-output-turns is x a b c = ap plain.uses_in_output (item_of-turns is x a b c)
+pub item-turns : (d : Direction) (is : Seq Item') (x : Name) (a b c : Expr) → plain.uses_in_item d (item_of (variants.Turns is x a b c))
+    ≡ plain.uses_in_items d (items (map item_of is)) ++ plain.control_uses x (expression_of a) (expression_of b) (expression_of c)
+item-turns d is x a b c = ap (plain.uses_in_item d) (item_of-turns is x a b c)
 
-outputs_append : (xs ys : List Item) → plain.uses_in_outputs (items (xs ++ ys)) ≡ plain.uses_in_outputs (items xs) ++ plain.uses_in_outputs (items ys)
-outputs_append [] ys = refl
-outputs_append (x ∷ xs) ys = ap (λ us. plain.uses_in_output x ++ us) (outputs_append xs ys) ∙ sym (append_assoc (plain.uses_in_output x) (plain.uses_in_outputs (items xs)) (plain.uses_in_outputs (items ys)))
+items_append : (d : Direction) (xs ys : List Item) → plain.uses_in_items d (items (xs ++ ys)) ≡ plain.uses_in_items d (items xs) ++ plain.uses_in_items d (items ys)
+items_append d [] ys = refl
+items_append d (x ∷ xs) ys = ap (λ us. plain.uses_in_item d x ++ us) (items_append d xs ys) ∙ sym (append_assoc (plain.uses_in_item d x) (plain.uses_in_items d (items xs)) (plain.uses_in_items d (items ys)))
 
-pub outputs_more : (list : List Item') (i : ℕ) (x : Item') → i < length list → x ≡ get_or list i x
-    → plain.uses_in_outputs (items (map item_of (take (i + 1) list))) ≡ plain.uses_in_outputs (items (map item_of (take i list))) ++ plain.uses_in_output (item_of x)
-outputs_more list i x h e =
-    ap (λ xs. plain.uses_in_outputs (items (map item_of xs))) (one_more list i x h e)
-    ∙ ap (λ xs. plain.uses_in_outputs (items xs)) (map-append item_of (take i list) (x ∷ []))
-    ∙ outputs_append (map item_of (take i list)) (item_of x ∷ [])
-    ∙ ap (λ us. plain.uses_in_outputs (items (map item_of (take i list))) ++ us) (append-nil (plain.uses_in_output (item_of x)))
+pub items_more : (d : Direction) (list : List Item') (i : ℕ) (x : Item') → i < length list → x ≡ get_or list i x
+    → plain.uses_in_items d (items (map item_of (take (i + 1) list))) ≡ plain.uses_in_items d (items (map item_of (take i list))) ++ plain.uses_in_item d (item_of x)
+items_more d list i x h e =
+    ap (λ xs. plain.uses_in_items d (items (map item_of xs))) (one_more list i x h e)
+    ∙ ap (λ xs. plain.uses_in_items d (items xs)) (map-append item_of (take i list) (x ∷ []))
+    ∙ items_append d (map item_of (take i list)) (item_of x ∷ [])
+    ∙ ap (λ us. plain.uses_in_items d (items (map item_of (take i list))) ++ us) (append-nil (plain.uses_in_item d (item_of x)))
 
--- ---- input lists
-
-pub input-one : (e : Expr) → plain.uses_in_input (item_of (variants.One e)) ≡ plain.input_uses (expression_of e)
-input-one e = ap plain.uses_in_input (item_of-one e)
-
-pub input-text : (t : Seq ℕ) → plain.uses_in_input (item_of (variants.Text t)) ≡ []
-input-text t = ap plain.uses_in_input (item_of-text t)
-
-pub input-turns : (is : Seq Item') (x : Name) (a b c : Expr) → plain.uses_in_input (item_of (variants.Turns is x a b c))
-    ≡ plain.uses_in_inputs (items (map item_of is)) ++ plain.control_uses x (expression_of a) (expression_of b) (expression_of c)
-input-turns is x a b c = ap plain.uses_in_input (item_of-turns is x a b c)
-
-inputs_append : (xs ys : List Item) → plain.uses_in_inputs (items (xs ++ ys)) ≡ plain.uses_in_inputs (items xs) ++ plain.uses_in_inputs (items ys)
-inputs_append [] ys = refl
-inputs_append (x ∷ xs) ys = ap (λ us. plain.uses_in_input x ++ us) (inputs_append xs ys) ∙ sym (append_assoc (plain.uses_in_input x) (plain.uses_in_inputs (items xs)) (plain.uses_in_inputs (items ys)))
-
-pub inputs_more : (list : List Item') (i : ℕ) (x : Item') → i < length list → x ≡ get_or list i x
-    → plain.uses_in_inputs (items (map item_of (take (i + 1) list))) ≡ plain.uses_in_inputs (items (map item_of (take i list))) ++ plain.uses_in_input (item_of x)
-inputs_more list i x h e =
-    ap (λ xs. plain.uses_in_inputs (items (map item_of xs))) (one_more list i x h e)
-    ∙ ap (λ xs. plain.uses_in_inputs (items xs)) (map-append item_of (take i list) (x ∷ []))
-    ∙ inputs_append (map item_of (take i list)) (item_of x ∷ [])
-    ∙ ap (λ us. plain.uses_in_inputs (items (map item_of (take i list))) ++ us) (append-nil (plain.uses_in_input (item_of x)))
-
-pub ruleset item_use_laws = (target-is, input-item, input-int, input-truth, input-un, input-bin, input-call, input-list, input-spread, input-transpose, input-reshape, input-reduce, output-one, output-text, output-turns, input-one, input-text, input-turns, append_assoc, append-nil)
+pub ruleset item_use_laws = (target-is, input-item, input-int, input-truth, input-un, input-bin, input-call, input-list, input-spread, input-transpose, input-reshape, input-reduce, item-one, item-text, item-turns, append_assoc, append-nil)

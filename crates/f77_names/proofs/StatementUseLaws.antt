@@ -13,6 +13,7 @@ use Rattle.fv_tree.specs.declared.lists.Seq.{Seq}
 use Rattle.fv_tree.specs.declared.exprs.Expr.{Expr}
 use Rattle.fv_tree.specs.declared.exprs.Ref.{Ref}
 use Rattle.fv_tree.specs.declared.stmts.Item.{Item}
+use Rattle.f77_grammar.specs.statements.Items.{Input, Output}
 use Rattle.f77_grammar.specs.program.Uses as plain
 use Rattle.f77_syntax.specs.declared.statements.Entity.{Entity}
 use Rattle.f77_syntax.specs.declared.statements.Stmt77.{Stmt77}
@@ -85,10 +86,10 @@ uses-else_if c = ap plain.uses_of (statement_of-else_if c)
 pub uses-do : (n : ℕ) (x : Name) (a b c : Expr) → plain.uses_of (statement_of (stmts.Do n x a b c)) ≡ plain.control_uses x (expression_of a) (expression_of b) (expression_of c)
 uses-do n x a b c = ap plain.uses_of (statement_of-do n x a b c)
 
-pub uses-read : (is : Seq Item) → plain.uses_of (statement_of (stmts.Read is)) ≡ plain.uses_in_inputs (items (map item_of is))
+pub uses-read : (is : Seq Item) → plain.uses_of (statement_of (stmts.Read is)) ≡ plain.uses_in_items Input (items (map item_of is))
 uses-read is = ap plain.uses_of (statement_of-read is)
 
-pub uses-print : (is : Seq Item) → plain.uses_of (statement_of (stmts.Print is)) ≡ plain.uses_in_outputs (items (map item_of is))
+pub uses-print : (is : Seq Item) → plain.uses_of (statement_of (stmts.Print is)) ≡ plain.uses_in_items Output (items (map item_of is))
 uses-print is = ap plain.uses_of (statement_of-print is)
 
 pub uses-go : (n : ℕ) → plain.uses_of (statement_of (stmts.Go n)) ≡ []

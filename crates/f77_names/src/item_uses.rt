@@ -6,6 +6,7 @@ ghost use Rattle.f77_grammar.specs.program.Uses as plain;
 ghost use Rattle.f77_names.specs.UsesView.{listed};
 
 use crate::uses::{Role, Uses};
+use f77_grammar::Direction;
 use fv_tree::{Expr, Item, Memory, Name, Ref, Seq};
 
 impl Uses {
@@ -56,56 +57,40 @@ impl Uses {
         self.add_expr(step)
     }
 
-    #[cycle(outputs)]
+    // An item that is an expression.
+    fn add_value(&mut self, direction: Direction, expr: &Expr) -> Result<(), Memory>
+        ensures { OnOk result (listed self.new ≡ listed self.old
+            ++ plain.value_uses direction (expression_of expr.now)) }
+    {
+        match direction {
+            Direction::Output => self.add_expr(expr),
+            Direction::Input => self.add_read(expr),
+        }
+    }
+
+    #[cycle(items)]
     #[tactic(auto, using(crate::proofs::ItemUseLaws::item_use_laws))]
-    fn add_output(&mut self, item: &Item) -> Result<(), Memory>
-        ensures { OnOk result (listed self.new ≡ listed self.old ++ plain.uses_in_output (item_of item.now)) }
+    fn add_item(&mut self, direction: Direction, item: &Item) -> Result<(), Memory>
+        ensures { OnOk result (listed self.new ≡ listed self.old ++ plain.uses_in_item direction (item_of item.now)) }
     {
         match item {
-            Item::One(expr) => self.add_expr(expr),
+            Item::One(expr) => self.add_value(direction, expr),
             Item::Text(_) => Ok(()),
             Item::Turns(list, variable, first, last, step) => {
-                self.add_outputs(list)?;
+                self.add_items(direction, list)?;
                 self.add_control(*variable, first, last, step)
             }
         }
     }
 
-    /// The items of an output list.
-    #[cycle(outputs)]
-    pub(crate) fn add_outputs(&mut self, list: &Seq<Item>) -> Result<(), Memory>
+    /// The items of an input or output list.
+    #[cycle(items)]
+    pub(crate) fn add_items(&mut self, direction: Direction, list: &Seq<Item>) -> Result<(), Memory>
         ensures { OnOk result (listed self.new ≡ listed self.old
-            ++ plain.uses_in_outputs (items (map item_of list.now))) }
+            ++ plain.uses_in_items direction (items (map item_of list.now))) }
     {
         for item in list.as_slice() {
-            self.add_output(item)?;
-        }
-        Ok(())
-    }
-
-    #[cycle(inputs)]
-    #[tactic(auto, using(crate::proofs::ItemUseLaws::item_use_laws))]
-    fn add_input(&mut self, item: &Item) -> Result<(), Memory>
-        ensures { OnOk result (listed self.new ≡ listed self.old ++ plain.uses_in_input (item_of item.now)) }
-    {
-        match item {
-            Item::One(expr) => self.add_read(expr),
-            Item::Text(_) => Ok(()),
-            Item::Turns(list, variable, first, last, step) => {
-                self.add_inputs(list)?;
-                self.add_control(*variable, first, last, step)
-            }
-        }
-    }
-
-    /// The items of an input list.
-    #[cycle(inputs)]
-    pub(crate) fn add_inputs(&mut self, list: &Seq<Item>) -> Result<(), Memory>
-        ensures { OnOk result (listed self.new ≡ listed self.old
-            ++ plain.uses_in_inputs (items (map item_of list.now))) }
-    {
-        for item in list.as_slice() {
-            self.add_input(item)?;
+            self.add_item(direction, item)?;
         }
         Ok(())
     }

@@ -7,6 +7,7 @@ ghost use Rattle.f77_names.specs.UsesView.{listed};
 ghost use Rattle.f77_syntax.specs.Views.{statement_of, text_of, bounds_of, entity_of, constant_of};
 
 use crate::uses::{Role, Uses};
+use f77_grammar::Direction;
 use f77_syntax::{Entity, Labelled, Stmt77};
 use fv_tree::{Expr, Kind, Memory, Name, Ref, Seq};
 use std::alloc::Global;
@@ -117,8 +118,8 @@ impl Uses {
             Stmt77::Do(_, variable, first, last, step) => {
                 self.add_control(*variable, first, last, step)
             }
-            Stmt77::Read(list) => self.add_inputs(list),
-            Stmt77::Print(list) => self.add_outputs(list),
+            Stmt77::Read(list) => self.add_items(Direction::Input, list),
+            Stmt77::Print(list) => self.add_items(Direction::Output, list),
             Stmt77::Go(_) => Ok(()),
             Stmt77::Else => Ok(()),
             Stmt77::EndIf => Ok(()),

@@ -10,9 +10,10 @@ use Rattle.f77_grammar.specs.statements.Items.{Direction, Output, Input, ItemPhr
 use Rattle.f77_expr.specs.Reader as expressions
 use Rattle.f77_expr.specs.Reader.{Operand, Read, capped, deeper}
 use Rattle.f77_expr.proofs.Sound.{read_is}
-use Rattle.f77_lists.specs.Reader.{Frame, State, Wants, Done, Step, Go, Stop, Fail, none, added, put, opens, may_stand, value, text, simple, open_list, begin_by, begin, Bound, closed, given, last_part, Bounds, with_step, with_last, behind_first, with_first, bounds, Control, control, repeat, behind_comma, whole, follow, step, start, Path, here, Reaches}
-use Rattle.f77_lists.proofs.Paths.{one_more, reaches, IsLast, ends_alike}
-use Rattle.f77_lists.proofs.Complete.{filled, filled_none, list_is_read}
+use Rattle.f77_lists.specs.Reader.{Frame, State, Wants, Done, Step, Go, Stop, Fail, none, added, put, opens, may_stand, value, text, simple, open_list, begin_by, begin, Bound, given, last_part, ReadControl, with_step, with_last, behind_first, with_first, control, begins_control, ended, repeat, behind_comma, whole, follow, step, start, Path, here, Reaches}
+use Rattle.f77_lists.proofs.Paths.{one_more, reaches}
+use Rattle.f77_lists.proofs.Complete.{filled, filled_none}
+use Rattle.f77_lists.proofs.ListLaws.{end_is}
 use Rattle.f77_lists.proofs.Sound.{FoundList, list_found}
 
 -- ---- each step leaves fewer words, or as many and an item more
@@ -63,69 +64,65 @@ begin_shrinks : (d : Direction) (b : Bool) (fs : List Frame) (ws : List Word) �
 begin_shrinks d true fs ws = open_shrinks fs ws
 begin_shrinks d false fs ws = simple_shrinks d fs ws
 
--- ---- the bounds of an implied DO list
+-- ---- a DO variable with its parameters
 
 abbrev IsBoundIn : ℕ → Option Bound → Type 0
 IsBoundIn n None = Unit {0}
 IsBoundIn n (Some b) = length b.rest ≤ n
 
-abbrev AreBoundsIn : ℕ → Option Bounds → Type 0
-AreBoundsIn n None = Unit {0}
-AreBoundsIn n (Some b) = length b.rest ≤ n
-
-closed_in : (m : Operand) (ws : List Word) (n : ℕ) → length ws ≤ n → IsBoundIn n (closed m ws)
-closed_in m [] n l = tt
-closed_in m (words.Close ∷ ws) n l = omega arith
-closed_in m (w ∷ ws) n l = tt
+abbrev IsControlIn : ℕ → Option ReadControl → Type 0
+IsControlIn n None = Unit {0}
+IsControlIn n (Some k) = length k.rest ≤ n
 
 given_in : (ws : List Word) (o : Option Read) (n : ℕ) → expressions.read ws ≡ o → length ws ≤ n → IsBoundIn n (given o)
 given_in ws None n e l = tt
-given_in ws (Some r) n e l = (let k = read_rest ws r e in closed_in r.operand r.rest n (omega arith))
+given_in ws (Some r) n e l = (let k = read_rest ws r e in omega (arith, k, l))
 
 last_in : (ws : List Word) (n : ℕ) → length ws ≤ n → IsBoundIn n (last_part ws)
-last_in [] n l = tt
-last_in (words.Close ∷ ws) n l = omega arith
+last_in [] n l = l
 last_in (words.Comma ∷ ws) n l = given_in ws (expressions.read ws) n refl (omega arith)
-last_in (w ∷ ws) n l = tt
+last_in (w ∷ ws) n l = l
 
-step_in : (a b : Operand) (o : Option Bound) (n : ℕ) → IsBoundIn n o → AreBoundsIn n (with_step a b o)
-step_in a b None n h = tt
-step_in a b (Some c) n h = h
+step_in : (x : List ℕ) (a b : Operand) (o : Option Bound) (n : ℕ) → IsBoundIn n o → IsControlIn n (with_step x a b o)
+step_in x a b None n h = tt
+step_in x a b (Some c) n h = h
 
-with_last_in : (a : Operand) (ws : List Word) (o : Option Read) (n : ℕ) → expressions.read ws ≡ o → length ws ≤ n → AreBoundsIn n (with_last a o)
-with_last_in a ws None n e l = tt
-with_last_in a ws (Some r) n e l = (let k = read_rest ws r e in step_in a r.operand (last_part r.rest) n (last_in r.rest n (omega arith)))
+with_last_in : (x : List ℕ) (a : Operand) (ws : List Word) (o : Option Read) (n : ℕ) → expressions.read ws ≡ o → length ws ≤ n → IsControlIn n (with_last x a o)
+with_last_in x a ws None n e l = tt
+with_last_in x a ws (Some r) n e l = (let k = read_rest ws r e in step_in x a r.operand (last_part r.rest) n (last_in r.rest n (omega arith)))
 
-behind_first_in : (a : Operand) (ws : List Word) (n : ℕ) → length ws ≤ n → AreBoundsIn n (behind_first a ws)
-behind_first_in a [] n l = tt
-behind_first_in a (words.Comma ∷ ws) n l = with_last_in a ws (expressions.read ws) n refl (omega arith)
-behind_first_in a (w ∷ ws) n l = tt
+behind_first_in : (x : List ℕ) (a : Operand) (ws : List Word) (n : ℕ) → length ws ≤ n → IsControlIn n (behind_first x a ws)
+behind_first_in x a [] n l = tt
+behind_first_in x a (words.Comma ∷ ws) n l = with_last_in x a ws (expressions.read ws) n refl (omega arith)
+behind_first_in x a (w ∷ ws) n l = tt
 
-bounds_in : (ws : List Word) (o : Option Read) (n : ℕ) → expressions.read ws ≡ o → length ws ≤ n → AreBoundsIn n (with_first o)
-bounds_in ws None n e l = tt
-bounds_in ws (Some r) n e l = (let k = read_rest ws r e in behind_first_in r.operand r.rest n (omega arith))
+first_in : (x : List ℕ) (ws : List Word) (o : Option Read) (n : ℕ) → expressions.read ws ≡ o → length ws ≤ n → IsControlIn n (with_first x o)
+first_in x ws None n e l = tt
+first_in x ws (Some r) n e l = (let k = read_rest ws r e in behind_first_in x r.operand r.rest n (omega arith))
 
-repeat_shrinks : (x : List ℕ) (fs : List Frame) (o : Option Bounds) (n m : ℕ) → AreBoundsIn m o → 2 * m < n → Shrinks n (repeat x fs o)
-repeat_shrinks x fs None n m h l = tt
-repeat_shrinks x [] (Some b) n m h l = tt
-repeat_shrinks x (f ∷ fs) (Some b) n m h l = put_shrinks (ImpliedDo (items f.items) x b.first b.last b.step) (deeper (max f.depth b.depth)) fs b.rest n (omega arith)
+control_in : (ws : List Word) (n : ℕ) → length ws ≤ n → IsControlIn n (control ws)
+control_in [] n l = tt
+control_in (words.Name x ∷ []) n l = tt
+control_in (words.Name x ∷ (words.Equals ∷ ws)) n l = first_in x ws (expressions.read ws) n refl (omega arith)
+control_in (words.Name x ∷ (w ∷ ws)) n l = tt
+control_in (w ∷ ws) n l = tt
+
+ended_shrinks : (fs : List Frame) (k : ReadControl) (ws : List Word) (n : ℕ) → 2 * length ws < n → Shrinks n (ended fs k ws)
+ended_shrinks [] k ws n l = tt
+ended_shrinks (f ∷ fs) k [] n l = tt
+ended_shrinks (f ∷ fs) k (words.Close ∷ ws) n l =
+    put_shrinks (ImpliedDo (items f.items) k.variable k.first k.last k.step) (deeper (max f.depth k.depth)) fs ws n (omega arith)
+ended_shrinks (f ∷ fs) k (w ∷ ws) n l = tt
+
+repeat_shrinks : (fs : List Frame) (o : Option ReadControl) (n m : ℕ) → IsControlIn m o → 2 * m < n → Shrinks n (repeat fs o)
+repeat_shrinks fs None n m h l = tt
+repeat_shrinks fs (Some k) n m h l = ended_shrinks fs k k.rest n (omega arith)
 
 -- ---- what follows an item
 
-abbrev IsControlIn : ℕ → Option Control → Type 0
-IsControlIn n None = Unit {0}
-IsControlIn n (Some c) = length c.rest ≤ n
-
-control_in : (ws : List Word) → IsControlIn (length ws) (control ws)
-control_in [] = tt
-control_in (words.Name x ∷ []) = tt
-control_in (words.Name x ∷ (words.Equals ∷ ws)) = omega arith
-control_in (words.Name x ∷ (w ∷ ws)) = tt
-control_in (w ∷ ws) = tt
-
-behind_shrinks : (fs : List Frame) (ws : List Word) (o : Option Control) → IsControlIn (length ws) o → Shrinks (2 * length ws + 2) (behind_comma fs ws o)
-behind_shrinks fs ws None h = omega arith
-behind_shrinks fs ws (Some c) h = repeat_shrinks c.name fs (bounds c.rest) (2 * length ws + 2) (length ws) (bounds_in c.rest (expressions.read c.rest) (length ws) refl h) (omega arith)
+behind_shrinks : (fs : List Frame) (ws : List Word) (b : Bool) → Shrinks (2 * length ws + 2) (behind_comma fs ws b)
+behind_shrinks fs ws true = repeat_shrinks fs (control ws) (2 * length ws + 2) (length ws) (control_in ws (length ws) (omega arith)) (omega arith)
+behind_shrinks fs ws false = omega arith
 
 whole_shrinks : (fs : List Frame) (n : ℕ) → Shrinks n (whole fs)
 whole_shrinks [] n = tt
@@ -139,7 +136,7 @@ fewer n m Fail l h = tt
 
 follow_shrinks : (fs : List Frame) (ws : List Word) → Shrinks (2 * length ws) (follow fs ws)
 follow_shrinks fs [] = whole_shrinks fs 0
-follow_shrinks fs (words.Comma ∷ ws) = fewer (2 * length ws + 2) (2 * length (words.Comma ∷ ws)) (behind_comma fs ws (control ws)) (omega arith) (behind_shrinks fs ws (control ws) (control_in ws))
+follow_shrinks fs (words.Comma ∷ ws) = fewer (2 * length ws + 2) (2 * length (words.Comma ∷ ws)) (behind_comma fs ws (begins_control ws)) (omega arith) (behind_shrinks fs ws (begins_control ws))
 follow_shrinks fs (w ∷ ws) = tt
 
 step_shrinks : (d : Direction) (s : State) → Shrinks (size s) (step d s)
@@ -160,14 +157,6 @@ module _ (d : Direction) (ws : List Word) where
   within : (n : ℕ) (s : State) → size s ≤ n → Path d (start ws) s → Ending d ws
   within zero s l p = by_step s p (step d s) refl (λ t k q. absurd (omega arith))
   within (suc n) s l p = by_step s p (step d s) refl (λ t k q. within n t (omega arith) q)
-
-  -- steps end where the whole list has been read
-  end_is : (end : Step) (is : ItemPhrases) → Reaches d ws end → IsLast end → AreItems d is → ws ≡ written_items is → end ≡ Stop (filled is none)
-  end_is end is h l g e =
-      let last = Done (filled is none ∷ []) [] in
-      let p : Path d (start ws) last = subst (λ (q : List Word). Path d (start q) last) (sym e) (list_is_read d is g) in
-      let same : h.state ≡ last = ends_alike d (start ws) h.state last h.path p (subst IsLast (sym h.ends) l) tt in
-      sym h.ends ∙ ap (step d) same
 
 one_frame : (f g : Frame) → Stop f ≡ Stop g → f ≡ g
 one_frame f g e = cc

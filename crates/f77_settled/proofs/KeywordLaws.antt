@@ -65,7 +65,7 @@ behind_keyword forms.End k text h = behind keywords.End (chars (codes "END")) []
 behind_keyword (forms.Assign l r) k text h = absurd k
 behind_keyword (forms.Test p f) k text h = absurd k
 behind_keyword (forms.If p) k text h = absurd k
-behind_keyword (forms.Do label comma x a b c) k text h = absurd k
+behind_keyword (forms.Do label comma c) k text h = absurd k
 
 -- ---- from the keyword to the form
 

@@ -14,9 +14,10 @@ use Rattle.f77_grammar.specs.expressions.Spelling.{Words, chars, value}
 use Rattle.f77_grammar.specs.expressions.Squeezing.{Symbol, Char}
 use Rattle.f77_grammar.specs.expressions.Words as words
 use Rattle.f77_grammar.specs.expressions.Words.{Word}
-use Rattle.f77_grammar.specs.statements.Items.{Direction, Input, Output, ItemPhrases, AreItems, written_items, item_trees, step_tree}
+use Rattle.f77_grammar.specs.statements.Controls.{Control, written_control}
+use Rattle.f77_grammar.specs.statements.Items.{Direction, Input, Output, ItemPhrases, AreItems, written_items, item_trees}
 use Rattle.f77_grammar.specs.statements.Forms as forms
-use Rattle.f77_grammar.specs.statements.Forms.{Form, IsWritten, IsInner, IsLabel, IsEntity, IsBounded, written_entity, entity_tree, entity_depth, IsDefinition, written_definition, definition_tree, definition_depth, separated, IsList, AreParameters, written_control, statement_of, form_depth, form_words, has_wide_literal, reference_in, optional_comma}
+use Rattle.f77_grammar.specs.statements.Forms.{Form, IsWritten, IsInner, IsLabel, IsEntity, IsBounded, written_entity, entity_tree, entity_depth, IsDefinition, written_definition, definition_tree, definition_depth, separated, IsList, statement_of, form_depth, form_words, has_wide_literal, reference_in, optional_comma}
 use Rattle.f77_grammar.specs.statements.Recognition.{Halves, cut_at_close, has_equals_outside, BeginsWithLetter, IsConditional}
 use Rattle.f77_expr.specs.Lexing.{strip}
 use Rattle.f77_expr.specs.Reader.{capped}
@@ -42,7 +43,7 @@ use Rattle.f77_settled.proofs.Keywords.{Keyword, Front, keyword_at, IsAfter}
 use Rattle.f77_settled.proofs.KeywordLaws.{keyword_written, after_keyword, no_keyword}
 use Rattle.f77_settled.proofs.LeftOut.{Told, then_or_not}
 use Rattle.f77_settled.proofs.Items.{AreItemsThere, ItemsOf, items_of}
-use Rattle.f77_settled.proofs.Whole.{IsSpelled, IsNotSpelled, spelled, AreAll, AreNot, all, AreInside, AreNotInside, inside, IsControl, IsNoControl, control_of, IsAssignment, IsNoAssignment, assignment_of, assigned}
+use Rattle.f77_settled.proofs.Whole.{IsSpelled, IsNotSpelled, spelled, AreAll, AreNot, all, AreInside, AreNotInside, inside, IsControlThere, IsNoControl, control_there, IsAssignment, IsNoAssignment, assignment_of, assigned}
 
 -- what is made of two forms is the same
 abbrev pub IsLike : Form → Form → Type 0
@@ -362,62 +363,58 @@ module _ (text : List Symbol) where
     -- ---- a DO statement
 
     module _ (comma : has_comma_outside text 0 false ≡ true) where
-      no_loop : ((digits : List ℕ) (c : Bool) (x : List ℕ) (a b : Phrase) (s : Option Phrase) → IsWritten (forms.Do digits c x a b s) text → ⊥) → Decided (IsUnconditional text)
+      no_loop : ((digits : List ℕ) (b : Bool) (c : Control) → IsWritten (forms.Do digits b c) text → ⊥) → Decided (IsUnconditional text)
       no_loop never = inr (λ g h. of_loop (λ f. ⊥) text g equal comma never h)
 
       module _ (more : List Symbol) (begins : strip (codes "DO") text ≡ Some more) where
-        labelled : (digits : List ℕ) (c : Bool) (x : List ℕ) (a b : Phrase) (s : Option Phrase) (h : IsWritten (forms.Do digits c x a b s) text)
-            → IsLabelled more (value digits) (chars (optional_comma c) ++ h.0.0)
-        labelled digits c x a b s h = front_label text more h.0.0 digits c begins h.1 (control_begins x a b s h.0.0 h.0.2) h.0.1
+        labelled : (digits : List ℕ) (b : Bool) (c : Control) (h : IsWritten (forms.Do digits b c) text)
+            → IsLabelled more (value digits) (chars (optional_comma b) ++ h.0.0)
+        labelled digits b c h = front_label text more h.0.0 digits b begins h.1 (control_begins c h.0.0 h.0.2) h.0.1
 
         module _ (l : HasLabel more) where
           abbrev rest : List Symbol
           rest = without_comma l.rest
 
-          same_label : (digits : List ℕ) (c : Bool) (x : List ℕ) (a b : Phrase) (s : Option Phrase) (h : IsWritten (forms.Do digits c x a b s) text) → (value l.label ≡ value digits) × (rest ≡ h.0.0)
-          same_label digits c x a b s h =
-              let k = labelled digits c x a b s h in
-              let f = label_only more l k.label (chars (optional_comma c) ++ h.0.0) k.is_label k.whole k.same in
-              (ap value f.0 ∙ k.number_is, ap without_comma f.1 ∙ comma_gone c h.0.0 (control_begins x a b s h.0.0 h.0.2))
+          same_label : (digits : List ℕ) (b : Bool) (c : Control) (h : IsWritten (forms.Do digits b c) text) → (value l.label ≡ value digits) × (rest ≡ h.0.0)
+          same_label digits b c h =
+              let k = labelled digits b c h in
+              let f = label_only more l k.label (chars (optional_comma b) ++ h.0.0) k.is_label k.whole k.same in
+              (ap value f.0 ∙ k.number_is, ap without_comma f.1 ∙ comma_gone b h.0.0 (control_begins c h.0.0 h.0.2))
 
-          control_is : (k : HasWords rest) (digits : List ℕ) (c : Bool) (x : List ℕ) (a b : Phrase) (s : Option Phrase) (h : IsWritten (forms.Do digits c x a b s) text) → k.words ≡ written_control x a b s
-          control_is k digits c x a b s h = k.only _ (subst (λ q. Words q (written_control x a b s)) (sym (same_label digits c x a b s h).1) h.0.2)
+          control_is : (k : HasWords rest) (digits : List ℕ) (b : Bool) (c : Control) (h : IsWritten (forms.Do digits b c) text) → k.words ≡ written_control c
+          control_is k digits b c h = k.only _ (subst (λ q. Words q (written_control c)) (sym (same_label digits b c h).1) h.0.2)
 
-          a_loop : (k : HasWords rest) → IsControl k.words → Decided (IsUnconditional text)
+          a_loop : (k : HasWords rest) → IsControlThere k.words → Decided (IsUnconditional text)
           a_loop k m =
               let f = front_found text more l.rest (value l.label) begins (record { label = l.label; is_label = l.is_label; same = l.same; number_is = refl; whole = l.whole }) in
-              let form = forms.Do f.label f.comma m.variable m.first m.last m.step in
+              let form = forms.Do f.label f.comma m.control in
               inl (record {
                 form = form;
-                is = Loop f.label f.comma m.variable m.first m.last m.step ((rest, f.same, subst (Words rest) m.same k.are), f.is_label, m.good);
-                only = λ g u. of_loop (IsLike form) text g equal comma (λ digits c x a b s h.
-                    let e = control_is k digits c x a b s h in
-                    let o = m.only x a b s h.2 e in
-                    let n : value f.label ≡ value digits = f.number_is ∙ (same_label digits c x a b s h).0 in (
-                      ap (λ q. statement.Do q m.variable (tree m.first) (tree m.last) (step_tree m.step)) n
-                          ∙ ap (λ q. statement.Do (value digits) q (tree m.first) (tree m.last) (step_tree m.step)) o.0
-                          ∙ ap (λ q. statement.Do (value digits) x q (tree m.last) (step_tree m.step)) o.1
-                          ∙ ap (λ q. statement.Do (value digits) x (tree a) q (step_tree m.step)) o.2
-                          ∙ ap (λ q. statement.Do (value digits) x (tree a) (tree b) q) o.3,
+                is = Loop f.label f.comma m.control ((rest, f.same, subst (Words rest) m.same k.are), f.is_label, m.good);
+                only = λ g u. of_loop (IsLike form) text g equal comma (λ digits b c h.
+                    let e = control_is k digits b c h in
+                    let o = m.only c h.2 e in
+                    let n : value f.label ≡ value digits = f.number_is ∙ (same_label digits b c h).0 in (
+                      rw (n, o.0, o.1, o.2, o.3) refl,
                       same_wide _ _ (sym m.same ∙ e),
                       o.4,
                     )) u;
               })
 
-          by_control : (k : HasWords rest) → IsControl k.words ⊎ IsNoControl k.words → Decided (IsUnconditional text)
+          by_control : (k : HasWords rest) → IsControlThere k.words ⊎ IsNoControl k.words → Decided (IsUnconditional text)
           by_control k (inl m) = a_loop k m
-          by_control k (inr never) = no_loop (λ digits c x a b s h. never x a b s h.2 (control_is k digits c x a b s h))
+          by_control k (inr never) = no_loop (λ digits b c h. never c h.2 (control_is k digits b c h))
 
           by_words : HasWords rest ⊎ HasNoWords rest → Decided (IsUnconditional text)
-          by_words (inl k) = by_control k (control_of k.words)
-          by_words (inr never) = no_loop (λ digits c x a b s h. never (written_control x a b s) (subst (λ q. Words q (written_control x a b s)) (sym (same_label digits c x a b s h).1) h.0.2))
+          by_words (inl k) = by_control k (control_there k.words)
+          by_words (inr never) = no_loop (λ digits b c h. never (written_control c) (subst (λ q. Words q (written_control c)) (sym (same_label digits b c h).1) h.0.2))
 
         by_label : HasLabel more ⊎ HasNoLabel more → Decided (IsUnconditional text)
         by_label (inl l) = by_words l (words_of (without_comma l.rest))
-        by_label (inr never) = no_loop (λ digits c x a b s h. let k = labelled digits c x a b s h in never k.label _ k.is_label k.whole k.same)
+        by_label (inr never) = no_loop (λ digits b c h. let k = labelled digits b c h in never k.label _ k.is_label k.whole k.same)
 
       by_do : (o : Option (List Symbol)) → strip (codes "DO") text ≡ o → Decided (IsUnconditional text)
-      by_do None e = no_loop (λ digits c x a b s h. no_text _ (sym e ∙ front_stripped text h.0.0 digits c h.0.1))
+      by_do None e = no_loop (λ digits b c h. no_text _ (sym e ∙ front_stripped text h.0.0 digits b h.0.1))
       by_do (Some more) e = by_label more e (label more)
 
     -- ---- an assignment
@@ -461,7 +458,7 @@ unconditional text = by_equals text (has_equals_outside text 0) refl
 
 unconditional_written : (text : List Symbol) (f : Form) → IsUnconditional text f → IsWritten f text
 unconditional_written text f (Assignment l r h) = h
-unconditional_written text f (Loop digits c x a b s h) = h
+unconditional_written text f (Loop digits b c h) = h
 unconditional_written text f (OfKeyword g w h) = h
 
 -- ---- with a condition

@@ -7,10 +7,15 @@ use Rattle.f77_grammar.specs.expressions.Spelling.{Words}
 use Rattle.f77_grammar.specs.expressions.Squeezing.{Symbol}
 use Rattle.f77_grammar.specs.expressions.Words as words
 use Rattle.f77_grammar.specs.expressions.Words.{Word}
-use Rattle.f77_grammar.specs.statements.Forms.{separated, IsList, deepest, AreParameters, written_control, control_depth}
-use Rattle.f77_grammar.specs.statements.Items.{IsReference, IsStep, written_step, written_bounds, step_tree, step_depth}
+use Rattle.f77_grammar.specs.statements.Forms.{separated, IsList, deepest}
+use Rattle.f77_grammar.specs.statements.Controls.{Control, IsControl, written_control, step_tree, control_depth}
+use Rattle.f77_grammar.specs.statements.Items.{IsReference}
 use Rattle.f77_expr.specs.Reader.{capped}
 use Rattle.f77_expr.specs.Reading.{Ends}
+use Rattle.f77_lists.specs.Reader as reader
+use Rattle.f77_lists.proofs.Complete.{control_of}
+use Rattle.f77_lists.proofs.ControlLaws.{whole_is_read, nothing_read}
+use Rattle.f77_lists.proofs.Sound.{control_found}
 use Rattle.f77_stmt.specs.Separated.{EndsPart, EndsList}
 use Rattle.f77_stmt.proofs.CappedLaws.{capped_max}
 use Rattle.f77_settled.proofs.Fronts.{IsThere, IsNowhere, Front, BeginsWith, comma, close, open_, equals, name, nothing, tail_same, phrase, list}
@@ -138,135 +143,47 @@ module _ {A T : Type 0} (write : A → List Word) (good : A → Type 0) (tree : 
       by (inl k) = by_list k.0 k.1 (list write good tree depth part k.0)
       by (inr lacks) = inr (λ xs g s. lacks _ s)
 
--- ---- the third parameter of a DO
-
-pub record IsStepThere (ws : List Word) : Type 0 where
-  pub step : Option Phrase
-  pub good : IsStep step
-  pub same : ws ≡ written_step step
-  pub only : (c : Option Phrase) → IsStep c → ws ≡ written_step c → (step_tree step ≡ step_tree c) × (capped (step_depth step) ≡ capped (step_depth c))
-
-abbrev pub IsNoStep : List Word → Type 0
-IsNoStep ws = (c : Option Phrase) → IsStep c → ws ≡ written_step c → ⊥
-
-step_of : (ws : List Word) → IsStepThere ws ⊎ IsNoStep ws
-step_of ws = by (comma ws) (nothing ws)
-  where
-    no_words : (more : List Word) → ws ≡ words.Comma ∷ more → ws ≡ [] → ⊥
-    no_words more e f = empty more (sym f ∙ e)
-      where
-        empty : (more : List Word) → [] ≡ words.Comma ∷ more → ⊥
-        empty more e = cc
-
-    by_whole : (more : List Word) → ws ≡ words.Comma ∷ more → IsWhole more ⊎ IsNoWhole more → IsStepThere ws ⊎ IsNoStep ws
-    by_whole more e (inl w) = inl (record { step = Some w.phrase; good = w.good; same = e ∙ ap (λ (q : List Word). words.Comma ∷ q) w.same; only = only })
-      where
-        only : (c : Option Phrase) → IsStep c → ws ≡ written_step c → (step_tree (Some w.phrase) ≡ step_tree c) × (capped (step_depth (Some w.phrase)) ≡ capped (step_depth c))
-        only None g s = absurd (no_words more e s)
-        only (Some q) g s = w.only q g (tail_same words.Comma _ _ (sym e ∙ s))
-    by_whole more e (inr never) = inr none
-      where
-        none : IsNoStep ws
-        none None g s = no_words more e s
-        none (Some q) g s = never q g (tail_same words.Comma _ _ (sym e ∙ s))
-
-    left_out : ((more : List Word) → ws ≡ words.Comma ∷ more → ⊥) → ws ≡ [] → IsStepThere ws
-    left_out lacks n = record { step = None; good = tt; same = n; only = only }
-      where
-        only : (c : Option Phrase) → IsStep c → ws ≡ written_step c → (step_tree None ≡ step_tree c) × (capped (step_depth None) ≡ capped (step_depth c))
-        only None g s = (refl, refl)
-        only (Some q) g s = absurd (lacks _ s)
-
-    neither : ((more : List Word) → ws ≡ words.Comma ∷ more → ⊥) → (ws ≡ [] → ⊥) → IsNoStep ws
-    neither lacks some None g s = some s
-    neither lacks some (Some q) g s = lacks _ s
-
-    by : BeginsWith words.Comma ws → (ws ≡ []) ⊎ (ws ≡ [] → ⊥) → IsStepThere ws ⊎ IsNoStep ws
-    by (inl k) _ = by_whole k.0 k.1 (whole k.0)
-    by (inr lacks) (inl n) = inl (left_out lacks n)
-    by (inr lacks) (inr some) = inr (neither lacks some)
-
 -- ---- a DO variable with its parameters
 
-pub record IsControl (ws : List Word) : Type 0 where
-  pub variable : List ℕ
-  pub first : Phrase
-  pub last : Phrase
-  pub step : Option Phrase
-  pub good : AreParameters first last step
-  pub same : ws ≡ written_control variable first last step
-  pub only : (x : List ℕ) (a b : Phrase) (c : Option Phrase) → AreParameters a b c → ws ≡ written_control x a b c
-      → (variable ≡ x) × (phrases.tree first ≡ phrases.tree a) × (phrases.tree last ≡ phrases.tree b) × (step_tree step ≡ step_tree c) × (capped (control_depth first last step) ≡ capped (control_depth a b c))
+pub record IsControlThere (ws : List Word) : Type 0 where
+  pub control : Control
+  pub good : IsControl control
+  pub same : ws ≡ written_control control
+  pub only : (c : Control) → IsControl c → ws ≡ written_control c
+      → (control.variable ≡ c.variable) × (phrases.tree control.first ≡ phrases.tree c.first) × (phrases.tree control.last ≡ phrases.tree c.last) × (step_tree control.step ≡ step_tree c.step) × (capped (control_depth control) ≡ capped (control_depth c))
 
 abbrev pub IsNoControl : List Word → Type 0
-IsNoControl ws = (x : List ℕ) (a b : Phrase) (c : Option Phrase) → AreParameters a b c → ws ≡ written_control x a b c → ⊥
+IsNoControl ws = (c : Control) → IsControl c → ws ≡ written_control c → ⊥
 
-abbrev There : List Word → Type 0
-There ws = IsThere written IsExpression phrases.tree phrases.depth Ends ws
-
-step_ends : (c : Option Phrase) → Ends (written_step c)
-step_ends None = tt
-step_ends (Some p) = tt
-
-module _ (ws : List Word) (x : List ℕ) (behind : List Word) (named : ws ≡ words.Name x ∷ behind) (values : List Word) (equal : behind ≡ words.Equals ∷ values) where
-  -- what stands behind the equals sign
-  bounds_are : (y : List ℕ) (a b : Phrase) (c : Option Phrase) → ws ≡ written_control y a b c → values ≡ written a ++ words.Comma ∷ (written b ++ written_step c)
-  bounds_are y a b c s = tail_same words.Equals _ _ (sym equal ∙ name_tail x y _ _ (sym named ∙ s))
-
-  module _ (h : There values) where
-    first_is : (y : List ℕ) (a b : Phrase) (c : Option Phrase) → AreParameters a b c → ws ≡ written_control y a b c
-        → (phrases.tree h.part ≡ phrases.tree a) × (capped (phrases.depth h.part) ≡ capped (phrases.depth a)) × (h.rest ≡ words.Comma ∷ (written b ++ written_step c))
-    first_is y a b c g s = h.only a (words.Comma ∷ (written b ++ written_step c)) g.0 tt (bounds_are y a b c s)
-
-    module _ (more : List Word) (between : h.rest ≡ words.Comma ∷ more) where
-      module _ (k : There more) where
-        last_is : (y : List ℕ) (a b : Phrase) (c : Option Phrase) → AreParameters a b c → ws ≡ written_control y a b c
-            → (phrases.tree k.part ≡ phrases.tree b) × (capped (phrases.depth k.part) ≡ capped (phrases.depth b)) × (k.rest ≡ written_step c)
-        last_is y a b c g s = k.only b (written_step c) g.1 (step_ends c) (tail_same words.Comma _ _ (sym between ∙ (first_is y a b c g s).2))
-
-        with_step : IsStepThere k.rest → IsControl ws
-        with_step m = record {
-          variable = x;
-          first = h.part;
-          last = k.part;
-          step = m.step;
-          good = (h.is_good, k.is_good, m.good);
-          same = named ∙ ap (λ (q : List Word). words.Name x ∷ q) (equal
-              ∙ ap (λ (q : List Word). words.Equals ∷ q) (h.same ∙ ap (λ q. written h.part ++ q) (between
-              ∙ ap (λ (q : List Word). words.Comma ∷ q) (k.same ∙ ap (λ q. written k.part ++ q) m.same))));
-          only = λ y a b c g s.
-              let f = first_is y a b c g s in
-              let l = last_is y a b c g s in
-              let t = m.only c g.2 l.2 in
-              (name_name x y _ _ (sym named ∙ s), f.0, l.0, t.0, both_alike (max (phrases.depth h.part) (phrases.depth k.part)) (max (phrases.depth a) (phrases.depth b)) (step_depth m.step) (step_depth c) (both_alike (phrases.depth h.part) (phrases.depth a) (phrases.depth k.part) (phrases.depth b) f.1 l.1) t.1);
-        }
-
-        by_step : IsStepThere k.rest ⊎ IsNoStep k.rest → IsControl ws ⊎ IsNoControl ws
-        by_step (inl m) = inl (with_step m)
-        by_step (inr never) = inr (λ y a b c g s. never c g.2 (last_is y a b c g s).2)
-
-      by_last : Front written IsExpression phrases.tree phrases.depth Ends more → IsControl ws ⊎ IsNoControl ws
-      by_last (inl k) = by_step k (step_of k.rest)
-      by_last (inr never) = inr (λ y a b c g s. never b (written_step c) g.1 (step_ends c) (tail_same words.Comma _ _ (sym between ∙ (first_is y a b c g s).2)))
-
-    by_comma : BeginsWith words.Comma h.rest → IsControl ws ⊎ IsNoControl ws
-    by_comma (inl k) = by_last k.0 k.1 (phrase k.0)
-    by_comma (inr lacks) = inr (λ y a b c g s. lacks _ (first_is y a b c g s).2)
-
-  by_first : Front written IsExpression phrases.tree phrases.depth Ends values → IsControl ws ⊎ IsNoControl ws
-  by_first (inl h) = by_comma h (comma h.rest)
-  by_first (inr never) = inr (λ y a b c g s. never a (words.Comma ∷ (written b ++ written_step c)) g.0 tt (bounds_are y a b c s))
-
-pub control_of : (ws : List Word) → IsControl ws ⊎ IsNoControl ws
-control_of ws = by (name ws)
+pub control_there : (ws : List Word) → IsControlThere ws ⊎ IsNoControl ws
+control_there ws = by (reader.control ws) refl
   where
-    by_equals : (x : List ℕ) (behind : List Word) → ws ≡ words.Name x ∷ behind → BeginsWith words.Equals behind → IsControl ws ⊎ IsNoControl ws
-    by_equals x behind e (inl k) = by_first ws x behind e k.0 k.1 (phrase k.0)
-    by_equals x behind e (inr lacks) = inr (λ y a b c g s. lacks _ (name_tail x y _ _ (sym e ∙ s)))
+    by_rest : (b : reader.ReadControl) → reader.control ws ≡ Some b → (rest : List Word) → b.rest ≡ rest → IsControlThere ws ⊎ IsNoControl ws
+    by_rest b e [] n =
+        let f = control_found ws b e in
+        inl (record {
+          control = f.control;
+          good = f.good;
+          same = f.text_is ∙ (ap (λ (q : List Word). written_control f.control ++ q) n ∙ append-nil (written_control f.control));
+          only = λ c g s.
+              let k = sym e ∙ whole_is_read ws c g s in
+              let q : b ≡ control_of c [] = cc in
+              let r = sym f.is ∙ q in (
+                ap (λ (m : reader.ReadControl). m.variable) r,
+                ap (λ (m : reader.ReadControl). m.first) r,
+                ap (λ (m : reader.ReadControl). m.last) r,
+                ap (λ (m : reader.ReadControl). m.step) r,
+                (let d = ap (λ (m : reader.ReadControl). m.depth) r in omega (arith, d)),
+              );
+        })
+    by_rest b e (w ∷ rest) n = inr (λ c g s.
+        let k = sym e ∙ whole_is_read ws c g s in
+        let q : b ≡ control_of c [] = cc in
+        let r : w ∷ rest ≡ [] = sym n ∙ ap (λ (m : reader.ReadControl). m.rest) q in cc)
 
-    by : ((x : List ℕ) × (more : List Word) × (ws ≡ words.Name x ∷ more)) ⊎ ((x : List ℕ) (more : List Word) → ws ≡ words.Name x ∷ more → ⊥) → IsControl ws ⊎ IsNoControl ws
-    by (inl h) = by_equals h.0 h.1 h.2 (equals h.1)
-    by (inr lacks) = inr (λ y a b c g s. lacks y _ s)
+    by : (o : Option reader.ReadControl) → reader.control ws ≡ o → IsControlThere ws ⊎ IsNoControl ws
+    by None e = inr (nothing_read ws e)
+    by (Some b) e = by_rest b e b.rest refl
 
 -- ---- an assignment
 

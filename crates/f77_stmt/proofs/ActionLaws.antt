@@ -147,7 +147,7 @@ some_written (phrases.Joined o a b) e = no_behind (written a) _ _ e
 some_item : (is : ItemPhrases) → written_items is ≡ [] → ⊥
 some_item (items.Sole (items.Value p)) e = some_written p e
 some_item (items.Sole (items.Text t)) e = cc
-some_item (items.Sole (items.Loop is x a b c)) e = cc
+some_item (items.Sole (items.Loop is c)) e = cc
 some_item (items.More is i) e = no_behind (written_items is) _ _ e
 
 -- nothing is no list

@@ -3,7 +3,6 @@ pub mod AssignmentLaws
 pub mod BoundLaws
 pub mod CappedLaws
 pub mod CardLaws
-pub mod ControlLaws
 pub mod EntityLaws
 pub mod GivenLaws
 pub mod KeywordLaws

@@ -6,17 +6,15 @@ use Rattle.std.proofs.lemmas.Bool.{eqb-true}
 use Rattle.std.proofs.lemmas.Bool.Decides.{nat_tests}
 use Rattle.std.proofs.lemmas.List.{map-append}
 use Rattle.fv_tree.specs.View.{expression_of}
-use Rattle.fv_tree.specs.Plain.{Expression}
 use Rattle.f77_grammar.specs.Statement77 as statement
-use Rattle.f77_grammar.specs.expressions.Phrases.{Phrase, tree}
 use Rattle.f77_grammar.specs.expressions.Reading.{is_wide}
 use Rattle.f77_grammar.specs.expressions.Spelling.{is_digit, is_letter, IsName, Words, Begins, Stops, chars, value}
 use Rattle.f77_grammar.specs.expressions.Squeezing.{Symbol, Char, Text, Broken}
 use Rattle.f77_grammar.specs.expressions.Words as words
 use Rattle.f77_grammar.specs.expressions.Words.{Word}
 use Rattle.f77_grammar.specs.statements.Forms as forms
-use Rattle.f77_grammar.specs.statements.Forms.{IsWritten, IsLabel, optional_comma, written_control, AreParameters}
-use Rattle.f77_grammar.specs.statements.Items.{step_tree}
+use Rattle.f77_grammar.specs.statements.Forms.{IsWritten, IsLabel, optional_comma}
+use Rattle.f77_grammar.specs.statements.Controls.{Control, written_control}
 use Rattle.f77_grammar.specs.statements.Recognition.{BeginsWithLetter}
 use Rattle.f77_expr.specs.Lexing.{strip}
 use Rattle.f77_keywords.specs.Fronts.{IsLabelled}
@@ -24,11 +22,12 @@ use Rattle.f77_keywords.specs.FormsLeftOut.{without_comma, without_comma_by}
 use Rattle.f77_keywords.proofs.Stripping.{strip_same, stripped}
 use Rattle.f77_syntax.specs.declared.statements.Stmt77.TheVariants as stmts
 use Rattle.f77_syntax.proofs.Equations.{statement_of-do}
-use Rattle.f77_stmt.specs.declared.assignments.Control.{Control}
+use Rattle.f77_lists.specs.declared.controls.DoControl.{DoControl}
+use Rattle.f77_lists.specs.Reading.{IsControlOf, IsWholeControl}
 use Rattle.f77_stmt.specs.declared.formed.Formed.{Formed}
 use Rattle.f77_stmt.specs.Formed.{IsFound}
 use Rattle.f77_stmt.specs.Loops.{IsLoopFront}
-use Rattle.f77_stmt.specs.Parts.{IsControl, IsControlOf, IsFormedOf}
+use Rattle.f77_stmt.specs.Parts.{IsFormedOf}
 
 -- ---- a comma that may be left out
 
@@ -108,28 +107,23 @@ name_begins (c ∷ cs) rest n = n.0
 text_of_name : (x : List ℕ) (text rest : List Symbol) → Begins text (words.Name x) rest → text ≡ chars x ++ rest
 text_of_name x text rest b = b.same ∙ ap (λ (q : List Symbol). q ++ rest) (b.spelled.1 ∙ ap chars b.spelled.2.0)
 
-pub control_begins : (x : List ℕ) (a b : Phrase) (c : Option Phrase) (text : List Symbol) → Words text (written_control x a b c) → BeginsWithLetter text
-control_begins x a b c text h = subst BeginsWithLetter (sym (text_of_name x text h.0 h.1)) (name_begins x h.0 h.1.spelled.2.1)
+pub control_begins : (c : Control) (text : List Symbol) → Words text (written_control c) → BeginsWithLetter text
+control_begins c text h = subst BeginsWithLetter (sym (text_of_name c.variable text h.0 h.1)) (name_begins c.variable h.0 h.1.spelled.2.1)
 
-pub formed_loop : (number : ℕ) (k : Control) (wide : Bool) (digits : List ℕ) (comma : Bool) (x : List ℕ) (a b : Phrase) (c : Option Phrase) → value digits ≡ number → IsControlOf k x a b c
-    → wide ≡ list_any is_wide (written_control x a b c)
-    → IsFormedOf (record { statement = stmts.Do number k.variable k.first k.last k.step; wide = wide; depth = k.depth }) (forms.Do digits comma x a b c)
-formed_loop number k wide digits comma x a b c n h w =
-    let s : statement.Do number k.variable (expression_of k.first) (expression_of k.last) (expression_of k.step) ≡ statement.Do (value digits) x (tree a) (tree b) (step_tree c) =
-    ap (λ (q : ℕ). statement.Do q k.variable (expression_of k.first) (expression_of k.last) (expression_of k.step)) (sym n)
-    ∙ ap (λ (q : List ℕ). statement.Do (value digits) q (expression_of k.first) (expression_of k.last) (expression_of k.step)) h.variable
-    ∙ ap (λ (q : Expression). statement.Do (value digits) x q (expression_of k.last) (expression_of k.step)) h.first
-    ∙ ap (λ (q : Expression). statement.Do (value digits) x (tree a) q (expression_of k.step)) h.last
-    ∙ ap (λ (q : Expression). statement.Do (value digits) x (tree a) (tree b) q) h.step in
+pub formed_loop : (number : ℕ) (k : DoControl) (wide : Bool) (digits : List ℕ) (comma : Bool) (c : Control) → value digits ≡ number → IsControlOf k c → wide ≡ list_any is_wide (written_control c)
+    → IsFormedOf (record { statement = stmts.Do number k.variable k.first k.last k.step; wide = wide; depth = k.depth }) (forms.Do digits comma c)
+formed_loop number k wide digits comma c n h w =
+    let s : statement.Do number k.variable (expression_of k.first) (expression_of k.last) (expression_of k.step) ≡ forms.statement_of (forms.Do digits comma c) =
+    rw (sym n, h.variable, h.first, h.last, h.step) refl in
     record { statement = statement_of-do number k.variable k.first k.last k.step ∙ s; wide = w; depth = h.depth }
 
-pub loop_found : (text rest : List Symbol) (number : ℕ) (ws : List Word) (k : Control) (wide : Bool) (made : Formed) → IsLoopFront text number rest → Words rest ws → IsControl ws k → wide ≡ list_any is_wide ws
-    → ((digits : List ℕ) (comma : Bool) (x : List ℕ) (a b : Phrase) (c : Option Phrase) → value digits ≡ number → IsControlOf k x a b c → wide ≡ list_any is_wide (written_control x a b c)
-    → IsFormedOf made (forms.Do digits comma x a b c))
+pub loop_found : (text rest : List Symbol) (number : ℕ) (ws : List Word) (k : DoControl) (wide : Bool) (made : Formed) → IsLoopFront text number rest → Words rest ws → IsWholeControl ws k
+    → wide ≡ list_any is_wide ws
+    → ((digits : List ℕ) (comma : Bool) (c : Control) → value digits ≡ number → IsControlOf k c → wide ≡ list_any is_wide (written_control c) → IsFormedOf made (forms.Do digits comma c))
     → IsFound (λ f. IsWritten f text) made
 loop_found text rest number ws k wide made f t h w m =
     record {
-      form = forms.Do f.label f.comma h.name h.first h.last h.step;
+      form = forms.Do f.label f.comma h.control;
       is = ((rest, f.same, subst (Words rest) h.same t), f.is_label, h.good);
-      made_of = m f.label f.comma h.name h.first h.last h.step f.number_is h.is (w ∙ ap (list_any is_wide) h.same);
+      made_of = m f.label f.comma h.control f.number_is h.is (w ∙ ap (list_any is_wide) h.same);
     }

@@ -13,6 +13,7 @@ use Rattle.f77_grammar.specs.expressions.Phrases.{Phrase, IsExpression, written,
 use Rattle.f77_grammar.specs.expressions.Reading.{is_wide}
 use Rattle.f77_grammar.specs.expressions.Spelling.{Words, chars}
 use Rattle.f77_grammar.specs.expressions.Squeezing.{Symbol, Char}
+use Rattle.f77_grammar.specs.statements.Controls.{Control}
 use Rattle.f77_grammar.specs.statements.Forms as forms
 use Rattle.f77_grammar.specs.statements.Forms.{Form, IsWritten, IsInner, statement_of, form_words, form_depth}
 use Rattle.f77_grammar.specs.statements.Recognition.{has_equals_outside, IsConditional}
@@ -56,7 +57,7 @@ inner_is (forms.If p) e = cc
 inner_is (forms.ElseIf p) e = cc
 inner_is forms.Else e = cc
 inner_is forms.EndIf e = cc
-inner_is (forms.Do label comma x a b c) e = cc
+inner_is (forms.Do label comma c) e = cc
 inner_is forms.Continue e = tt
 inner_is forms.Stop e = tt
 inner_is (forms.Read is) e = tt
@@ -77,7 +78,7 @@ inner_of (forms.If p) k = absurd k
 inner_of (forms.ElseIf p) k = absurd k
 inner_of forms.Else k = absurd k
 inner_of forms.EndIf k = absurd k
-inner_of (forms.Do label comma x a b c) k = absurd k
+inner_of (forms.Do label comma c) k = absurd k
 inner_of forms.Continue k = refl
 inner_of forms.Stop k = refl
 inner_of (forms.Read is) k = refl
@@ -101,7 +102,7 @@ inner_unconditional (forms.If p) text h k = absurd k
 inner_unconditional (forms.ElseIf p) text h k = absurd k
 inner_unconditional forms.Else text h k = absurd k
 inner_unconditional forms.EndIf text h k = absurd k
-inner_unconditional (forms.Do label comma x a b c) text h k = absurd k
+inner_unconditional (forms.Do label comma c) text h k = absurd k
 inner_unconditional forms.Continue text h k = OfKeyword _ tt h
 inner_unconditional forms.Stop text h k = OfKeyword _ tt h
 inner_unconditional (forms.Read is) text h k = OfKeyword _ tt h
@@ -112,24 +113,24 @@ inner_unconditional forms.End text h k = absurd k
 
 pub of_keyword : (P : Form → Type 0) (text : List Symbol) (f : Form) → has_equals_outside text 0 ≡ false → ((g : Form) → HasKeyword g → IsWritten g text → P g) → IsUnconditional text f → P f
 of_keyword P text f e p (Assignment l r h) = absurd (opposite _ (recognised_assign l r text h).equals e)
-of_keyword P text f e p (Loop label comma x a b c h) = absurd (opposite _ (recognised_do label comma x a b c text h).equals e)
+of_keyword P text f e p (Loop label comma c h) = absurd (opposite _ (recognised_do label comma c text h).equals e)
 of_keyword P text f e p (OfKeyword g k h) = p g k h
 
 pub of_loop : (P : Form → Type 0) (text : List Symbol) (f : Form) → has_equals_outside text 0 ≡ true → has_comma_outside text 0 false ≡ true
-    → ((label : List ℕ) (comma : Bool) (x : List ℕ) (a b : Phrase) (c : Option Phrase) → IsWritten (forms.Do label comma x a b c) text → P (forms.Do label comma x a b c)) → IsUnconditional text f → P f
+    → ((label : List ℕ) (comma : Bool) (c : Control) → IsWritten (forms.Do label comma c) text → P (forms.Do label comma c)) → IsUnconditional text f → P f
 of_loop P text f e k p (Assignment l r h) = absurd (opposite _ k (recognised_assign l r text h).no_comma)
-of_loop P text f e k p (Loop label comma x a b c h) = p label comma x a b c h
+of_loop P text f e k p (Loop label comma c h) = p label comma c h
 of_loop P text f e k p (OfKeyword g w h) = absurd (opposite _ e (recognised_keyword g w text h).no_equals)
 
 pub of_assignment : (P : Form → Type 0) (text : List Symbol) (f : Form) → has_equals_outside text 0 ≡ true → has_comma_outside text 0 false ≡ false
     → ((l r : Phrase) → IsWritten (forms.Assign l r) text → P (forms.Assign l r)) → IsUnconditional text f → P f
 of_assignment P text f e k p (Assignment l r h) = p l r h
-of_assignment P text f e k p (Loop label comma x a b c h) = absurd (opposite _ (recognised_do label comma x a b c text h).comma k)
+of_assignment P text f e k p (Loop label comma c h) = absurd (opposite _ (recognised_do label comma c text h).comma k)
 of_assignment P text f e k p (OfKeyword g w h) = absurd (opposite _ e (recognised_keyword g w text h).no_equals)
 
 no_condition : (text : List Symbol) (f : Form) → IsUnconditional text f → (condition rest : List Symbol) → IsConditional text condition rest → ⊥
 no_condition text f (Assignment l r h) condition rest k = (recognised_assign l r text h).unconditional condition rest k
-no_condition text f (Loop label comma x a b c h) condition rest k = (recognised_do label comma x a b c text h).unconditional condition rest k
+no_condition text f (Loop label comma c h) condition rest k = (recognised_do label comma c text h).unconditional condition rest k
 no_condition text f (OfKeyword g w h) condition rest k = (recognised_keyword g w text h).unconditional condition rest k
 
 -- ---- with a condition
@@ -137,7 +138,7 @@ no_condition text f (OfKeyword g w h) condition rest k = (recognised_keyword g w
 -- THEN is no inner statement
 no_then_behind : (text : List Symbol) (f : Form) → text ≡ chars (codes "THEN") → IsUnconditional text f → IsInner f → ⊥
 no_then_behind text f e (Assignment l r h) k = opposite _ (recognised_assign l r text h).equals (ap (λ (q : List Symbol). has_equals_outside q 0) e)
-no_then_behind text f e (Loop label comma x a b c h) k = absurd k
+no_then_behind text f e (Loop label comma c h) k = absurd k
 no_then_behind text f e (OfKeyword g w h) k =
     let b = behind_keyword g w text h in
     let n : keyword_at text ≡ None = ap keyword_at e in
@@ -163,7 +164,7 @@ recognised (forms.If p) text h = WithCondition h.0 (chars (codes "THEN")) (recog
 recognised (forms.ElseIf p) text h = WithoutCondition (OfKeyword _ tt h)
 recognised forms.Else text h = WithoutCondition (OfKeyword _ tt h)
 recognised forms.EndIf text h = WithoutCondition (OfKeyword _ tt h)
-recognised (forms.Do label comma x a b c) text h = WithoutCondition (Loop label comma x a b c h)
+recognised (forms.Do label comma c) text h = WithoutCondition (Loop label comma c h)
 recognised forms.Continue text h = WithoutCondition (OfKeyword _ tt h)
 recognised forms.Stop text h = WithoutCondition (OfKeyword _ tt h)
 recognised (forms.Read is) text h = WithoutCondition (OfKeyword _ tt h)

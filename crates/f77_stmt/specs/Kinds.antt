@@ -1,9 +1,10 @@
 -- The kinds of statements by which they are recognised.
-use Rattle.std.specs.Prelude.{ℕ, Bool, true, false, List, Option}
+use Rattle.std.specs.Prelude.{ℕ, Bool, true, false, List}
 use Rattle.f77_grammar.specs.Statement77 as statement
 use Rattle.f77_grammar.specs.Statement77.{Statement77}
 use Rattle.f77_grammar.specs.expressions.Phrases.{Phrase}
 use Rattle.f77_grammar.specs.expressions.Squeezing.{Symbol}
+use Rattle.f77_grammar.specs.statements.Controls.{Control}
 use Rattle.f77_grammar.specs.statements.Forms.{Form, Assign, Do, IsWritten}
 use Rattle.f77_keywords.specs.Kinds.{HasKeyword}
 
@@ -20,6 +21,6 @@ is_inner s = false
 -- The text is so written, and no condition stands before its statement.
 pub data IsUnconditional (text : List Symbol) : Form → Type 0 where
   Assignment : (l r : Phrase) → IsWritten (Assign l r) text → IsUnconditional text (Assign l r)
-  Loop : (label : List ℕ) (comma : Bool) (x : List ℕ) (a b : Phrase) (c : Option Phrase)
-      → IsWritten (Do label comma x a b c) text → IsUnconditional text (Do label comma x a b c)
+  Loop : (label : List ℕ) (comma : Bool) (c : Control) → IsWritten (Do label comma c) text
+      → IsUnconditional text (Do label comma c)
   OfKeyword : (f : Form) → HasKeyword f → IsWritten f text → IsUnconditional text f

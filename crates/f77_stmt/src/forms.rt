@@ -1,5 +1,5 @@
 //! The form of a statement.
-ghost use Rattle.std.specs.Prelude.{◌≡◌, ℕ, ◌++◌, ◌||◌, max, Bool, List, Option, IfOk, IfSome, codes};
+ghost use Rattle.std.specs.Prelude.{◌≡◌, ℕ, ◌++◌, ◌||◌, max, Bool, List, IfOk, IfSome, codes};
 ghost use Rattle.std.specs.List.{list_any};
 ghost use Rattle.fv_tree.specs.View.{expression_of};
 ghost use Rattle.f77_grammar.specs.expressions.Phrases.{Phrase};
@@ -7,7 +7,8 @@ ghost use Rattle.f77_grammar.specs.expressions.Reading.{is_wide};
 ghost use Rattle.f77_grammar.specs.expressions.Spelling.{value, chars};
 ghost use Rattle.f77_grammar.specs.expressions.Squeezing as squeezing;
 ghost use Rattle.f77_grammar.specs.statements.Forms.{Form, Assign, Do, Test, IsWritten, IsInner, IsLabel};
-ghost use Rattle.f77_grammar.specs.statements.Forms.{optional_comma, written_control};
+ghost use Rattle.f77_grammar.specs.statements.Forms.{optional_comma};
+ghost use Rattle.f77_grammar.specs.statements.Controls.{Control, written_control};
 ghost use Rattle.f77_grammar.specs.statements.Recognition.{BeginsWithLetter};
 ghost use Rattle.f77_expr.specs.Symbols.{symbols_of};
 ghost use Rattle.f77_keywords.specs.Fronts.{GivesLabel};
@@ -19,17 +20,19 @@ ghost use Rattle.f77_stmt.specs.Formed.{IsFound};
 ghost use Rattle.f77_stmt.specs.Keywords.{IsAfter};
 ghost use Rattle.f77_stmt.specs.Kinds.{is_inner, IsUnconditional};
 ghost use Rattle.f77_stmt.specs.Loops.{IsLoopFront};
-ghost use Rattle.f77_stmt.specs.Parts.{Given, IsControlOf, IsFormedOf};
+ghost use Rattle.f77_lists.specs.Reading.{IsControlOf};
+ghost use Rattle.f77_stmt.specs.Parts.{Given, IsFormedOf};
 
 use crate::actions::{
     condition, else_if, go_to, nothing, print_list, read_list, read_unit, write_unit,
 };
-use crate::assignments::{Control, assignment, read_control};
+use crate::assignments::assignment;
 use crate::formed::Formed;
 use crate::keywords::Keyword;
 use crate::statements::{constants, declaration, dimension, program};
 use f77_expr::{Stop, Symbol, has_wide, strip, words};
 use f77_keywords::{Outside, behind_comma, conditional, is_then, label};
+use f77_lists::{DoControl, whole_control};
 use f77_syntax::Stmt77;
 use fv_tree::{Expr, Kind};
 use std::alloc::Global;
@@ -83,12 +86,11 @@ fn loop_label(text: &[Symbol]) -> Option<(u32, &[Symbol])>
     Some((number, behind_comma(rest)))
 }
 
-fn loop_statement(label: u32, control: Control, wide: bool) -> Formed
-    ensures { (digits : List ℕ) (comma : Bool) (x : List ℕ) (a b : Phrase) (c : Option Phrase) → value digits ≡ label
-        → IsControlOf control x a b c
-        → wide ≡ list_any is_wide (written_control x a b c) → IsFormedOf result (Do digits comma x a b c) }
+fn loop_statement(label: u32, control: DoControl, wide: bool) -> Formed
+    ensures { (digits : List ℕ) (comma : Bool) (c : Control) → value digits ≡ label → IsControlOf control c
+        → wide ≡ list_any is_wide (written_control c) → IsFormedOf result (Do digits comma c) }
 {
-    let Control {
+    let DoControl {
         variable,
         first,
         last,
@@ -105,15 +107,14 @@ fn loop_statement(label: u32, control: Control, wide: bool) -> Formed
 // A text with an equals sign outside parentheses, and a comma outside them behind it.
 fn do_statement(alloc: Global, text: &[Symbol]) -> Result<Formed, Stop>
     ensures found { IfOk result (IsFound (λ f. IsWritten f (symbols_of text.now))) }
-    ensures only { (digits : List ℕ) (comma : Bool) (x : List ℕ) (a b : Phrase) (c : Option Phrase)
-        → IsWritten (Do digits comma x a b c) (symbols_of text.now)
-        → Given result (λ made. IsFormedOf made (Do digits comma x a b c)) }
+    ensures only { (digits : List ℕ) (comma : Bool) (c : Control) → IsWritten (Do digits comma c) (symbols_of text.now)
+        → Given result (λ made. IsFormedOf made (Do digits comma c)) }
 {
     let Some((label, rest)) = loop_label(text) else {
         return Err(Stop::Syntax);
     };
     let tokens = words(alloc, rest)?;
-    let control = read_control(alloc, tokens.as_slice())?;
+    let control = whole_control(alloc, tokens.as_slice())?;
     Ok(loop_statement(label, control, has_wide(tokens.as_slice())))
 }
 

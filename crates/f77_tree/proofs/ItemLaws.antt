@@ -16,6 +16,7 @@ use Rattle.fv_tree.specs.declared.stmts.Item.{Item}
 use Rattle.fv_tree.specs.declared.stmts.Item.TheVariants as variants
 use Rattle.fv_tree.proofs.Equations.{expression_of-int, expression_of-truth, expression_of-item, expression_of-un, expression_of-bin, expression_of-call, item_of-one, item_of-text, item_of-turns, expression_of-list, expression_of-spread, expression_of-transpose, expression_of-reshape, expression_of-reduce}
 use Rattle.fv_meaning.specs.Store.{Store}
+use Rattle.f77_grammar.specs.statements.Items.{Direction}
 use Rattle.f77_grammar.specs.program.Uses.{Use}
 use Rattle.f77_grammar.specs.program.Tree as tree
 
@@ -59,40 +60,23 @@ pub ruleset read_laws = (expression_of-item, read-item, read-int, read-truth, re
 
 -- ---- lists
 
-pub outputs_resolved : (us : List Use) (s : Store) (is : List Item)
-    → tree.resolved_outputs us s (items (map item_of is)) ≡ items (map (λ i. tree.resolved_output_item us s (item_of i)) is)
-outputs_resolved us s [] = refl
-outputs_resolved us s (i ∷ is) = ap (λ rest. item (tree.resolved_output_item us s (item_of i)) rest) (outputs_resolved us s is)
-
-pub inputs_resolved : (us : List Use) (s : Store) (is : List Item)
-    → tree.resolved_inputs us s (items (map item_of is)) ≡ items (map (λ i. tree.resolved_input_item us s (item_of i)) is)
-inputs_resolved us s [] = refl
-inputs_resolved us s (i ∷ is) = ap (λ rest. item (tree.resolved_input_item us s (item_of i)) rest) (inputs_resolved us s is)
+pub items_resolved : (us : List Use) (s : Store) (d : Direction) (is : List Item)
+    → tree.resolved_items us s d (items (map item_of is)) ≡ items (map (λ i. tree.resolved_item us s d (item_of i)) is)
+items_resolved us s d [] = refl
+items_resolved us s d (i ∷ is) = ap (λ rest. item (tree.resolved_item us s d (item_of i)) rest) (items_resolved us s d is)
 
 -- ---- items
 
-pub output-one : (us : List Use) (s : Store) (e : Expr) → tree.resolved_output_item us s (item_of (variants.One e)) ≡ Single (tree.resolved us s (expression_of e))
-output-one us s e = ap (tree.resolved_output_item us s) (item_of-one e)
+pub item-one : (us : List Use) (s : Store) (d : Direction) (e : Expr) → tree.resolved_item us s d (item_of (variants.One e)) ≡ Single (tree.resolved_value us s d (expression_of e))
+item-one us s d e = ap (tree.resolved_item us s d) (item_of-one e)
 
-pub output-text : (us : List Use) (s : Store) (t : Seq ℕ) → tree.resolved_output_item us s (item_of (variants.Text t)) ≡ Constant t
-output-text us s t = ap (tree.resolved_output_item us s) (item_of-text t)
+pub item-text : (us : List Use) (s : Store) (d : Direction) (t : Seq ℕ) → tree.resolved_item us s d (item_of (variants.Text t)) ≡ Constant t
+item-text us s d t = ap (tree.resolved_item us s d) (item_of-text t)
 
-pub output-turns : (us : List Use) (s : Store) (is : Seq Item) (x : List ℕ) (a b c : Expr) → tree.resolved_output_item us s (item_of (variants.Turns is x a b c))
-    ≡ ImpliedDo (items (map (λ i. tree.resolved_output_item us s (item_of i)) is)) x (tree.resolved us s (expression_of a)) (tree.resolved us s (expression_of b)) (tree.resolved us s (expression_of c))
-output-turns us s is x a b c =
-    ap (tree.resolved_output_item us s) (item_of-turns is x a b c)
-    ∙ ap (λ list. ImpliedDo list x (tree.resolved us s (expression_of a)) (tree.resolved us s (expression_of b)) (tree.resolved us s (expression_of c))) (outputs_resolved us s is)
+pub item-turns : (us : List Use) (s : Store) (d : Direction) (is : Seq Item) (x : List ℕ) (a b c : Expr) → tree.resolved_item us s d (item_of (variants.Turns is x a b c))
+    ≡ ImpliedDo (items (map (λ i. tree.resolved_item us s d (item_of i)) is)) x (tree.resolved us s (expression_of a)) (tree.resolved us s (expression_of b)) (tree.resolved us s (expression_of c))
+item-turns us s d is x a b c =
+    ap (tree.resolved_item us s d) (item_of-turns is x a b c)
+    ∙ ap (λ list. ImpliedDo list x (tree.resolved us s (expression_of a)) (tree.resolved us s (expression_of b)) (tree.resolved us s (expression_of c))) (items_resolved us s d is)
 
-pub input-one : (us : List Use) (s : Store) (e : Expr) → tree.resolved_input_item us s (item_of (variants.One e)) ≡ Single (tree.resolved_input us s (expression_of e))
-input-one us s e = ap (tree.resolved_input_item us s) (item_of-one e)
-
-pub input-text : (us : List Use) (s : Store) (t : Seq ℕ) → tree.resolved_input_item us s (item_of (variants.Text t)) ≡ Constant t
-input-text us s t = ap (tree.resolved_input_item us s) (item_of-text t)
-
-pub input-turns : (us : List Use) (s : Store) (is : Seq Item) (x : List ℕ) (a b c : Expr) → tree.resolved_input_item us s (item_of (variants.Turns is x a b c))
-    ≡ ImpliedDo (items (map (λ i. tree.resolved_input_item us s (item_of i)) is)) x (tree.resolved us s (expression_of a)) (tree.resolved us s (expression_of b)) (tree.resolved us s (expression_of c))
-input-turns us s is x a b c =
-    ap (tree.resolved_input_item us s) (item_of-turns is x a b c)
-    ∙ ap (λ list. ImpliedDo list x (tree.resolved us s (expression_of a)) (tree.resolved us s (expression_of b)) (tree.resolved us s (expression_of c))) (inputs_resolved us s is)
-
-pub ruleset item_laws = (item_of-one, item_of-text, item_of-turns, output-one, output-text, output-turns, input-one, input-text, input-turns)
+pub ruleset item_laws = (item_of-one, item_of-text, item_of-turns, item-one, item-text, item-turns)

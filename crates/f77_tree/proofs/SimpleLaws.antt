@@ -17,13 +17,14 @@ use Rattle.fv_tree.specs.declared.stmts.Block.{Block, roll-Block}
 use Rattle.fv_tree.proofs.Equations.{statement_of-assign as tree-assign, statement_of-if as tree-if, statement_of-go as tree-go, statement_of-stop as tree-stop, statement_of-read as tree-read, statement_of-print as tree-print, tested_of-made, block_of-made}
 use Rattle.fv_meaning.specs.Store.{Store}
 use Rattle.f77_grammar.specs.program.Uses.{Use}
+use Rattle.f77_grammar.specs.statements.Items.{Input, Output}
 use Rattle.f77_grammar.specs.program.Tree as tree
 use Rattle.f77_syntax.specs.declared.statements.Entity.{Entity}
 use Rattle.f77_syntax.specs.declared.statements.Stmt77.{Stmt77}
 use Rattle.f77_syntax.specs.declared.statements.Stmt77.TheVariants as stmts
 use Rattle.f77_syntax.specs.Views.{statement_of}
 use Rattle.f77_syntax.proofs.Equations.{statement_of-program, statement_of-declare, statement_of-dimension, statement_of-constants, statement_of-assign, statement_of-go, statement_of-test, statement_of-if, statement_of-else_if, statement_of-else, statement_of-end_if, statement_of-do, statement_of-continue, statement_of-stop, statement_of-read, statement_of-print, statement_of-end}
-use Rattle.f77_tree.proofs.ItemLaws.{inputs_resolved, outputs_resolved}
+use Rattle.f77_tree.proofs.ItemLaws.{items_resolved}
 
 pub ruleset block_laws = (block_of-made)
 
@@ -47,12 +48,12 @@ pub simple-stop : (us : List Use) (s : Store) (line : ℕ) → tree.simple us s 
 simple-stop us s line = ap (tree.simple us s line) statement_of-stop
 
 pub simple-read : (us : List Use) (s : Store) (line : ℕ) (is : Seq Item)
-    → tree.simple us s line (statement_of (stmts.Read is)) ≡ plain.Read line (plain.items (map (λ i. tree.resolved_input_item us s (item_of i)) is)) ∷ []
-simple-read us s line is = ap (tree.simple us s line) (statement_of-read is) ∙ ap (λ list. plain.Read line list ∷ []) (inputs_resolved us s is)
+    → tree.simple us s line (statement_of (stmts.Read is)) ≡ plain.Read line (plain.items (map (λ i. tree.resolved_item us s Input (item_of i)) is)) ∷ []
+simple-read us s line is = ap (tree.simple us s line) (statement_of-read is) ∙ ap (λ list. plain.Read line list ∷ []) (items_resolved us s Input is)
 
 pub simple-print : (us : List Use) (s : Store) (line : ℕ) (is : Seq Item)
-    → tree.simple us s line (statement_of (stmts.Print is)) ≡ plain.Print line (plain.items (map (λ i. tree.resolved_output_item us s (item_of i)) is)) ∷ []
-simple-print us s line is = ap (tree.simple us s line) (statement_of-print is) ∙ ap (λ list. plain.Print line list ∷ []) (outputs_resolved us s is)
+    → tree.simple us s line (statement_of (stmts.Print is)) ≡ plain.Print line (plain.items (map (λ i. tree.resolved_item us s Output (item_of i)) is)) ∷ []
+simple-print us s line is = ap (tree.simple us s line) (statement_of-print is) ∙ ap (λ list. plain.Print line list ∷ []) (items_resolved us s Output is)
 
 pub simple-test : (us : List Use) (s : Store) (line : ℕ) (c : Expr) (inner : Box Stmt77 Global)
     → tree.simple us s line (statement_of (stmts.Test c inner))

@@ -9,6 +9,7 @@ use Rattle.fv_tree.specs.declared.exprs.Sub.{Sub}
 use Rattle.fv_tree.specs.declared.stmts.Item.{Item}
 use Rattle.fv_meaning.specs.Store.{Store}
 use Rattle.f77_grammar.specs.program.Uses.{Use}
+use Rattle.f77_grammar.specs.statements.Items.{Direction}
 use Rattle.f77_grammar.specs.program.Tree as tree
 use Rattle.f77_constants.specs.Constants.{store_of}
 use Rattle.f77_names.specs.UsesView.{listed}
@@ -34,8 +35,8 @@ reference_by r q = tree.resolved_reference (known_uses r) (known_store r) (refer
 abbrev pub read_by : Resolver → Expr → Expression
 read_by r e = tree.resolved_input (known_uses r) (known_store r) (expression_of e)
 
-abbrev pub output_by : Resolver → Item → plain.Item
-output_by r i = tree.resolved_output_item (known_uses r) (known_store r) (item_of i)
+abbrev pub value_by : Resolver → Direction → Expr → Expression
+value_by r d e = tree.resolved_value (known_uses r) (known_store r) d (expression_of e)
 
-abbrev pub input_by : Resolver → Item → plain.Item
-input_by r i = tree.resolved_input_item (known_uses r) (known_store r) (item_of i)
+abbrev pub item_by : Resolver → Direction → Item → plain.Item
+item_by r d i = tree.resolved_item (known_uses r) (known_store r) d (item_of i)

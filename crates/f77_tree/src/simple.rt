@@ -8,6 +8,7 @@ ghost use Rattle.f77_tree.specs.Resolved.{made};
 ghost use Rattle.f77_syntax.specs.Views.{statement_of};
 
 use crate::resolver::Resolver;
+use f77_grammar::Direction;
 use f77_syntax::Stmt77;
 use fv_tree::{Arm, Block, Expr, Memory, Ref, Seq, Stmt};
 use std::alloc::Global;
@@ -84,11 +85,11 @@ impl Resolver<'_> {
             })),
             Stmt77::Stop => Ok(Some(Stmt::Stop { line })),
             Stmt77::Read(list) => {
-                let items = self.resolve_inputs(alloc, list)?;
+                let items = self.resolve_items(alloc, Direction::Input, list)?;
                 Ok(Some(Stmt::Read { line, items }))
             }
             Stmt77::Print(list) => {
-                let items = self.resolve_outputs(alloc, list)?;
+                let items = self.resolve_items(alloc, Direction::Output, list)?;
                 Ok(Some(Stmt::Print { line, items }))
             }
             Stmt77::Test(condition, inner) => {

@@ -2,10 +2,11 @@
 use Rattle.std.proofs.Common.{ℕ, suc, ◌≤◌, Bool, true, false, Option, Some, None, List, [], ◌++◌, length, arith}
 use Rattle.std.specs.Prelude.{pos, negsuc}
 use Rattle.f77_grammar.specs.Statement77.{Statement77, Assign, Test, Read, Print}
+use Rattle.f77_grammar.specs.statements.Items.{Output, Input}
 use Rattle.f77_grammar.specs.program.Tree.{argument_of, arguments_of, call_of, element_or_call, value_or_name, literal}
-use Rattle.f77_grammar.specs.program.Tree.{named, simple, resolved_reference, resolved_input, resolved_output_item}
+use Rattle.f77_grammar.specs.program.Tree.{named, simple, resolved_reference, resolved_input, resolved_item}
 use Rattle.f77_grammar.specs.program.Tree.{resolved, resolved_arguments, resolved_subscripts, resolved_subscript}
-use Rattle.f77_grammar.specs.program.Tree.{resolved_outputs, resolved_input_item, resolved_inputs}
+use Rattle.f77_grammar.specs.program.Tree.{resolved_items}
 use Rattle.f77_grammar.specs.program.Uses.{Use, is_constant, is_array}
 use Rattle.fv_meaning.specs.Store.{Store}
 use Rattle.fv_rewrite.specs.Names.{uses_in, uses_in_expressions, uses_in_subscripts, uses_in_subscript, uses_in_target}
@@ -117,22 +118,22 @@ module _ (us : List Use) (s : Store) where
   -- ---- lists
 
   mutual
-    output_resolved : (i : Item) → length (uses_in_output (resolved_output_item us s i)) ≤ length (uses_in_output i)
+    output_resolved : (i : Item) → length (uses_in_output (resolved_item us s Output i)) ≤ length (uses_in_output i)
     output_resolved (Single e) = resolved_count e
     output_resolved (Constant t) = omega arith
     output_resolved (ImpliedDo is x a b c) =
         let h = outputs_resolved is in
         let k = control_resolved x a b c in
-        let d = two (uses_in_outputs (resolved_outputs us s is))
+        let d = two (uses_in_outputs (resolved_items us s Output is))
         (uses_in_control x (resolved us s a) (resolved us s b) (resolved us s c)) in
         let e = two (uses_in_outputs is) (uses_in_control x a b c) in omega (arith, h, k, d, e)
 
-    outputs_resolved : (is : Items) → count_items (resolved_outputs us s is) ≤ count_items is
+    outputs_resolved : (is : Items) → count_items (resolved_items us s Output is) ≤ count_items is
     outputs_resolved no_items = omega arith
     outputs_resolved (item i is) =
         let h = output_resolved i in
         let k = outputs_resolved is in
-        let d = two (uses_in_output (resolved_output_item us s i)) (uses_in_outputs (resolved_outputs us s is)) in
+        let d = two (uses_in_output (resolved_item us s Output i)) (uses_in_outputs (resolved_items us s Output is)) in
         let e = two (uses_in_output i) (uses_in_outputs is) in omega (arith, h, k, d, e)
 
   variable_resolved : (e : Expression) → length (uses_in_variable (resolved_input us s e)) ≤ count e
@@ -140,22 +141,22 @@ module _ (us : List Use) (s : Store) where
   variable_resolved e = let h = resolved_count e in let k = variable_count (resolved us s e) in omega (arith, h, k)
 
   mutual
-    input_resolved : (i : Item) → length (uses_in_input (resolved_input_item us s i)) ≤ length (uses_in_output i)
+    input_resolved : (i : Item) → length (uses_in_input (resolved_item us s Input i)) ≤ length (uses_in_output i)
     input_resolved (Single e) = variable_resolved e
     input_resolved (Constant t) = omega arith
     input_resolved (ImpliedDo is x a b c) =
         let h = inputs_resolved is in
         let k = control_resolved x a b c in
-        let d = two (uses_in_inputs (resolved_inputs us s is))
+        let d = two (uses_in_inputs (resolved_items us s Input is))
         (uses_in_control x (resolved us s a) (resolved us s b) (resolved us s c)) in
         let e = two (uses_in_outputs is) (uses_in_control x a b c) in omega (arith, h, k, d, e)
 
-    inputs_resolved : (is : Items) → length (uses_in_inputs (resolved_inputs us s is)) ≤ count_items is
+    inputs_resolved : (is : Items) → length (uses_in_inputs (resolved_items us s Input is)) ≤ count_items is
     inputs_resolved no_items = omega arith
     inputs_resolved (item i is) =
         let h = input_resolved i in
         let k = inputs_resolved is in
-        let d = two (uses_in_input (resolved_input_item us s i)) (uses_in_inputs (resolved_inputs us s is)) in
+        let d = two (uses_in_input (resolved_item us s Input i)) (uses_in_inputs (resolved_items us s Input is)) in
         let e = two (uses_in_output i) (uses_in_outputs is) in omega (arith, h, k, d, e)
 
   -- ---- a statement that opens and closes nothing
@@ -177,8 +178,8 @@ module _ (us : List Use) (s : Store) where
       let g = bare (((uses_in (resolved us s c) ++ inner) ++ []) ++ []) in omega (arith, h, k, d, e, f, g)
   simple_count line (Read is) =
       let h = inputs_resolved is in
-      let b = bare (uses_in_inputs (resolved_inputs us s is)) in omega (arith, h, b)
+      let b = bare (uses_in_inputs (resolved_items us s Input is)) in omega (arith, h, b)
   simple_count line (Print is) =
       let h = outputs_resolved is in
-      let b = bare (uses_in_outputs (resolved_outputs us s is)) in omega (arith, h, b)
+      let b = bare (uses_in_outputs (resolved_items us s Output is)) in omega (arith, h, b)
   simple_count line c = omega arith

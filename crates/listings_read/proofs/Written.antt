@@ -10,12 +10,11 @@ use Rattle.f77_grammar.specs.expressions.Squeezing.{Symbol, Char, Squeezed, noth
 use Rattle.f77_grammar.specs.expressions.Squeezing.{endless, doubled}
 use Rattle.f77_grammar.specs.expressions.Words as words
 use Rattle.f77_grammar.specs.expressions.Words.{Word}
+use Rattle.f77_grammar.specs.statements.Controls.{Control, written_control, written_step, step_tree}
 use Rattle.f77_grammar.specs.statements.Forms as forms
 use Rattle.f77_grammar.specs.statements.Forms.{Form, IsWritten, statement_of, IsFollowed, optional_comma}
-use Rattle.f77_grammar.specs.statements.Forms.{written_control}
 use Rattle.f77_grammar.specs.statements.Items.{ItemPhrase, ItemPhrases, Value, Text, Loop, Sole, More, written_items}
-use Rattle.f77_grammar.specs.statements.Items.{step_tree, written_item, written_bounds, written_step, item_tree}
-use Rattle.f77_grammar.specs.statements.Items.{item_trees}
+use Rattle.f77_grammar.specs.statements.Items.{written_item, item_tree, item_trees}
 use Rattle.f77_grammar.specs.statements.Reading.{ReadsStatement}
 use Rattle.fv_rewrite.specs.Names.{uses_in, uses_in_subscripts, uses_in_subscript, uses_in_target, uses_in_control}
 use Rattle.fv_rewrite.specs.Names.{uses_in_output, uses_in_outputs}
@@ -120,28 +119,27 @@ step_count : (c : Option Phrase) → count (step_tree c) ≤ weights (written_st
 step_count None = omega arith
 step_count (Some p) = let h = tree_count p in omega (arith, h)
 
-control_count : (x : List ℕ) (a b : Phrase) (c : Option Phrase)
-    → count_control x (tree a) (tree b) (step_tree c) ≤ weights (written_control x a b c)
-control_count x a b c =
-    let h = tree_count a in
-    let k = tree_count b in
-    let l = step_count c in
-    let d = control_is x (tree a) (tree b) (step_tree c) in
-    let e = weights_joined (written a) (words.Comma ∷ (written b ++ written_step c)) in
-    let f = weights_joined (written b) (written_step c) in omega (arith, h, k, l, d, e, f)
+control_count : (c : Control)
+    → count_control c.variable (tree c.first) (tree c.last) (step_tree c.step) ≤ weights (written_control c)
+control_count c =
+    let h = tree_count c.first in
+    let k = tree_count c.last in
+    let l = step_count c.step in
+    let d = control_is c.variable (tree c.first) (tree c.last) (step_tree c.step) in
+    let e = weights_joined (written c.first) (words.Comma ∷ (written c.last ++ written_step c.step)) in
+    let f = weights_joined (written c.last) (written_step c.step) in omega (arith, h, k, l, d, e, f)
 
 mutual
   item_count : (i : ItemPhrase) → length (uses_in_output (item_tree i)) ≤ weights (written_item i)
   item_count (Value p) = tree_count p
   item_count (Text t) = omega arith
-  item_count (Loop is x a b c) =
+  item_count (Loop is c) =
       let h = items_count is in
-      let k = control_count x a b c in
+      let k = control_count c in
       let d = two (uses_in_outputs (items (item_trees is)))
-      (uses_in_control x (tree a) (tree b) (step_tree c)) in
-      let e = weights_joined (written_items is)
-      (words.Comma ∷ (words.Name x ∷ (words.Equals ∷ (written_bounds a b c ++ words.Close ∷ [])))) in
-      let f = weights_joined (written_bounds a b c) (words.Close ∷ []) in omega (arith, h, k, d, e, f)
+      (uses_in_control c.variable (tree c.first) (tree c.last) (step_tree c.step)) in
+      let e = weights_joined (written_items is) (words.Comma ∷ (written_control c ++ words.Close ∷ [])) in
+      let f = weights_joined (written_control c) (words.Close ∷ []) in omega (arith, h, k, d, e, f)
 
   items_count : (is : ItemPhrases) → count_items (items (item_trees is)) ≤ weights (written_items is)
   items_count (Sole i) =
@@ -217,9 +215,9 @@ form_count (forms.If p) text h =
     let k = inside p (chars (codes "IF(")) h.0 (chars (codes ")THEN")) text h.1 h.2 in omega (arith, k)
 form_count (forms.ElseIf p) text h =
     let k = inside p (chars (codes "ELSEIF(")) h.0 (chars (codes ")THEN")) text h.1 h.2 in omega (arith, k)
-form_count (forms.Do label comma x a b c) text h =
-    let k = control_count x a b c in
-    let w = behind (codes "DO" ++ (label ++ optional_comma comma)) (written_control x a b c) text h.0 in
+form_count (forms.Do label comma c) text h =
+    let k = control_count c in
+    let w = behind (codes "DO" ++ (label ++ optional_comma comma)) (written_control c) text h.0 in
     omega (arith, k, w)
 form_count (forms.Read is) text h = list_count (codes "READ*,") (codes "READ(*,*)") is text h.0
 form_count (forms.Print is) text h = list_count (codes "PRINT*,") (codes "WRITE(*,*)") is text h.0

@@ -8,6 +8,7 @@ use Rattle.fv_tree.specs.Plain.{ImpliedDo, Items, no_items, item}
 use Rattle.fv_tree.specs.declared.ops.Kind.TheVariants.{Integer}
 use Rattle.f77_grammar.specs.Statement77.{Labelled, Statement77, Assign, Do, Read, Print}
 use Rattle.fv_meaning.specs.Names.{is_among}
+use Rattle.f77_grammar.specs.statements.Items.{Direction, Output, Input}
 use Rattle.f77_grammar.specs.program.Text.{Place, action, open_loops}
 use Rattle.f77_grammar.specs.program.Uses.{Use, is_variable, is_array, kind_of_name}
 use Rattle.f77_grammar.specs.program.Kinds.{same_kind}
@@ -29,6 +30,11 @@ abbrev pub reads_one_of : List (List ℕ) → Expression → Bool
 reads_one_of around (Named x ps) = sets_one_of around x ps
 reads_one_of around e = false
 
+-- what is printed sets nothing
+abbrev pub value_sets_one_of : Direction → List (List ℕ) → Expression → Bool
+value_sets_one_of Output around e = false
+value_sets_one_of Input around e = reads_one_of around e
+
 -- by all uses `us` of names in the program
 module _ (us : List Use) where
   abbrev pub is_integer_scalar : List ℕ → Bool
@@ -39,31 +45,21 @@ module _ (us : List Use) where
 
   -- the range of an implied DO list is the list, not its parameters
   abbrev mutual
-    pub misuses_in_output : Item → List (List ℕ) → Bool
-    misuses_in_output (Single e) around = false
-    misuses_in_output (Constant t) around = false
-    misuses_in_output (ImpliedDo is x a b c) around = is_wrong_variable x around || misuses_in_outputs is (x ∷ around)
+    pub misuses_in_item : Direction → Item → List (List ℕ) → Bool
+    misuses_in_item d (Single e) around = value_sets_one_of d around e
+    misuses_in_item d (Constant t) around = false
+    misuses_in_item d (ImpliedDo is x a b c) around = is_wrong_variable x around || misuses_in_items d is (x ∷ around)
 
-    pub misuses_in_outputs : Items → List (List ℕ) → Bool
-    misuses_in_outputs no_items around = false
-    misuses_in_outputs (item i is) around = misuses_in_output i around || misuses_in_outputs is around
-
-  abbrev mutual
-    pub misuses_in_input : Item → List (List ℕ) → Bool
-    misuses_in_input (Single e) around = reads_one_of around e
-    misuses_in_input (Constant t) around = false
-    misuses_in_input (ImpliedDo is x a b c) around = is_wrong_variable x around || misuses_in_inputs is (x ∷ around)
-
-    pub misuses_in_inputs : Items → List (List ℕ) → Bool
-    misuses_in_inputs no_items around = false
-    misuses_in_inputs (item i is) around = misuses_in_input i around || misuses_in_inputs is around
+    pub misuses_in_items : Direction → Items → List (List ℕ) → Bool
+    misuses_in_items d no_items around = false
+    misuses_in_items d (item i is) around = misuses_in_item d i around || misuses_in_items d is around
 
   -- a statement sets a DO variable of those round it, or has one that is wrong
   abbrev pub misuses_variable : Statement77 → List (List ℕ) → Bool
   misuses_variable (Assign left e) around = sets_one_of around left.name left.subscripts
   misuses_variable (Do n x a b c) around = is_wrong_variable x around
-  misuses_variable (Read is) around = misuses_in_inputs is around
-  misuses_variable (Print is) around = misuses_in_outputs is around
+  misuses_variable (Read is) around = misuses_in_items Input is around
+  misuses_variable (Print is) around = misuses_in_items Output is around
   misuses_variable _ around = false
 
   abbrev pub has_wrong_do_variable : Place → Bool

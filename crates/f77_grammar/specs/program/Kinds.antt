@@ -12,6 +12,7 @@ use Rattle.fv_tree.specs.declared.functions.Fun.{Fun}
 use Rattle.f77_grammar.specs.Statement77.{Entity, NamedConstant, Statement77, Program, Declare, Dimension, Constants}
 use Rattle.f77_grammar.specs.Statement77.{Assign, Go, Test, If, ElseIf, Else, EndIf, Do, Continue, Stop, Read, Print}
 use Rattle.f77_grammar.specs.Statement77.{End}
+use Rattle.f77_grammar.specs.statements.Items.{Direction, Output, Input, takes_text}
 use Rattle.fv_tree.specs.Functions.{function_named, name_of_function, suits_number}
 use Rattle.fv_meaning.specs.Typed77.{number_of_arguments, number_of_subscripts}
 use Rattle.fv_tree.specs.OperatorTable.{operand_kind, result_kind_of, is_unary}
@@ -85,25 +86,19 @@ module _ (us : List Use) where
   abbrev pub are_numbers : Expression → Expression → Expression → Bool
   are_numbers a b c = has_kind a Integer && has_kind b Integer && has_kind c Integer
 
-  abbrev mutual
-    pub suits_output_item : Item → Bool
-    suits_output_item (Single e) = suits_output e
-    suits_output_item (Constant t) = true
-    suits_output_item (ImpliedDo is x a b c) = suits_output_items is && are_numbers a b c
-
-    pub suits_output_items : Items → Bool
-    suits_output_items no_items = true
-    suits_output_items (item i is) = suits_output_item i && suits_output_items is
+  abbrev pub suits_value : Direction → Expression → Bool
+  suits_value Output e = suits_output e
+  suits_value Input e = suits_input e
 
   abbrev mutual
-    pub suits_input_item : Item → Bool
-    suits_input_item (Single e) = suits_input e
-    suits_input_item (Constant t) = false
-    suits_input_item (ImpliedDo is x a b c) = suits_input_items is && are_numbers a b c
+    pub suits_item : Direction → Item → Bool
+    suits_item d (Single e) = suits_value d e
+    suits_item d (Constant t) = takes_text d
+    suits_item d (ImpliedDo is x a b c) = suits_items d is && are_numbers a b c
 
-    pub suits_input_items : Items → Bool
-    suits_input_items no_items = true
-    suits_input_items (item i is) = suits_input_item i && suits_input_items is
+    pub suits_items : Direction → Items → Bool
+    suits_items d no_items = true
+    suits_items d (item i is) = suits_item d i && suits_items d is
 
   -- ---- statements
 
@@ -124,8 +119,8 @@ module _ (us : List Use) where
   suits (If c) = has_kind c Logical
   suits (ElseIf c) = has_kind c Logical
   suits (Do n x a b c) = are_numbers a b c
-  suits (Read is) = suits_input_items is
-  suits (Print is) = suits_output_items is
+  suits (Read is) = suits_items Input is
+  suits (Print is) = suits_items Output is
   suits (Program x) = true
   suits (Go n) = true
   suits Else = true

@@ -20,6 +20,7 @@ use Rattle.fv_meaning.specs.Dialect.{Dialect}
 use Rattle.fv_meaning.specs.Store.{Store}
 use Rattle.f77_grammar.specs.Statement77.{Labelled, Statement77, Assign, Go, Test, If, ElseIf, Else, EndIf, Do, Stop}
 use Rattle.f77_grammar.specs.Statement77.{Read, Print}
+use Rattle.f77_grammar.specs.statements.Items.{Direction, Output, Input}
 use Rattle.fv_tree.specs.Functions.{function_named}
 use Rattle.f77_grammar.specs.program.Text.{action, is_label}
 use Rattle.f77_grammar.specs.program.Uses.{Use, uses_in_text, is_title, names_that, is_variable, is_constant, is_array}
@@ -91,26 +92,19 @@ module _ (us : List Use) (s : Store) where
   resolved_input (Named x ps) = Named x (resolved_subscripts ps)
   resolved_input e = resolved e
 
-  abbrev mutual
-    pub resolved_output_item : Item → Item
-    resolved_output_item (Single e) = Single (resolved e)
-    resolved_output_item (Constant t) = Constant t
-    resolved_output_item (ImpliedDo is x a b c) =
-        ImpliedDo (resolved_outputs is) x (resolved a) (resolved b) (resolved c)
-
-    pub resolved_outputs : Items → Items
-    resolved_outputs no_items = no_items
-    resolved_outputs (item i is) = item (resolved_output_item i) (resolved_outputs is)
+  abbrev pub resolved_value : Direction → Expression → Expression
+  resolved_value Output e = resolved e
+  resolved_value Input e = resolved_input e
 
   abbrev mutual
-    pub resolved_input_item : Item → Item
-    resolved_input_item (Single e) = Single (resolved_input e)
-    resolved_input_item (Constant t) = Constant t
-    resolved_input_item (ImpliedDo is x a b c) = ImpliedDo (resolved_inputs is) x (resolved a) (resolved b) (resolved c)
+    pub resolved_item : Direction → Item → Item
+    resolved_item d (Single e) = Single (resolved_value d e)
+    resolved_item d (Constant t) = Constant t
+    resolved_item d (ImpliedDo is x a b c) = ImpliedDo (resolved_items d is) x (resolved a) (resolved b) (resolved c)
 
-    pub resolved_inputs : Items → Items
-    resolved_inputs no_items = no_items
-    resolved_inputs (item i is) = item (resolved_input_item i) (resolved_inputs is)
+    pub resolved_items : Direction → Items → Items
+    resolved_items d no_items = no_items
+    resolved_items d (item i is) = item (resolved_item d i) (resolved_items d is)
 
   -- ---- statements that open and close nothing
 
@@ -119,8 +113,8 @@ module _ (us : List Use) (s : Store) where
   simple line (Assign left e) = tree.Assignment line None (resolved_reference left) (resolved e) ∷ []
   simple line (Go n) = tree.GoTo line n ∷ []
   simple line Stop = tree.Stop line ∷ []
-  simple line (Read is) = tree.Read line (resolved_inputs is) ∷ []
-  simple line (Print is) = tree.Print line (resolved_outputs is) ∷ []
+  simple line (Read is) = tree.Read line (resolved_items Input is) ∷ []
+  simple line (Print is) = tree.Print line (resolved_items Output is) ∷ []
   simple line (Test c body) =
       tree.If line (tree.arm (resolved c) (tree.block (simple line body)) tree.no_arms) tree.no_statements ∷ []
   simple line _ = []

@@ -12,6 +12,7 @@ use Rattle.fv_tree.specs.declared.ops.Kind.TheVariants.{Integer}
 use Rattle.f77_grammar.specs.Statement77.{Entity, NamedConstant, Labelled, Statement77, Program, Declare, Dimension}
 use Rattle.f77_grammar.specs.Statement77.{Constants, Assign, Go, Test, If, ElseIf, Else, EndIf, Do, Continue, Stop}
 use Rattle.f77_grammar.specs.Statement77.{Read, Print, End}
+use Rattle.f77_grammar.specs.statements.Items.{Direction, Output, Input}
 use Rattle.fv_tree.specs.Functions.{function_named}
 use Rattle.fv_meaning.specs.Typed77.{number_of_subscripts}
 
@@ -69,25 +70,19 @@ input_uses e = uses_in e
 abbrev pub control_uses : List ℕ → Expression → Expression → Expression → List Use
 control_uses x a b c = use_of x Counter ∷ uses_in a ++ uses_in b ++ uses_in c
 
-abbrev mutual
-  pub uses_in_output : Item → List Use
-  uses_in_output (Single e) = uses_in e
-  uses_in_output (Constant t) = []
-  uses_in_output (ImpliedDo is x a b c) = uses_in_outputs is ++ control_uses x a b c
-
-  pub uses_in_outputs : Items → List Use
-  uses_in_outputs no_items = []
-  uses_in_outputs (item i is) = uses_in_output i ++ uses_in_outputs is
+abbrev pub value_uses : Direction → Expression → List Use
+value_uses Output e = uses_in e
+value_uses Input e = input_uses e
 
 abbrev mutual
-  pub uses_in_input : Item → List Use
-  uses_in_input (Single e) = input_uses e
-  uses_in_input (Constant t) = []
-  uses_in_input (ImpliedDo is x a b c) = uses_in_inputs is ++ control_uses x a b c
+  pub uses_in_item : Direction → Item → List Use
+  uses_in_item d (Single e) = value_uses d e
+  uses_in_item d (Constant t) = []
+  uses_in_item d (ImpliedDo is x a b c) = uses_in_items d is ++ control_uses x a b c
 
-  pub uses_in_inputs : Items → List Use
-  uses_in_inputs no_items = []
-  uses_in_inputs (item i is) = uses_in_input i ++ uses_in_inputs is
+  pub uses_in_items : Direction → Items → List Use
+  uses_in_items d no_items = []
+  uses_in_items d (item i is) = uses_in_item d i ++ uses_in_items d is
 
 abbrev pub uses_in_bounds : List (Expression × Expression) → List Use
 uses_in_bounds [] = []
@@ -120,8 +115,8 @@ uses_of (Test c s) = uses_in c ++ uses_of s
 uses_of (If c) = uses_in c
 uses_of (ElseIf c) = uses_in c
 uses_of (Do n x a b c) = control_uses x a b c
-uses_of (Read is) = uses_in_inputs is
-uses_of (Print is) = uses_in_outputs is
+uses_of (Read is) = uses_in_items Input is
+uses_of (Print is) = uses_in_items Output is
 uses_of (Go n) = []
 uses_of Else = []
 uses_of EndIf = []

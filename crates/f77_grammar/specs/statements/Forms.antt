@@ -1,5 +1,5 @@
 -- The forms of statements, as they are written and what they stand for (ANSI X3.9-1978, sections 7 to 12).
-use Rattle.std.specs.Prelude.{ℕ, ◌≤◌, ◌≡◌, max, pos, Bool, true, false, ◌⊎◌, Option, List, [], ◌∷◌}
+use Rattle.std.specs.Prelude.{ℕ, ◌≤◌, ◌≡◌, max, pos, Bool, true, false, ◌⊎◌, List, [], ◌∷◌}
 use Rattle.std.specs.Prelude.{◌++◌, length, map, codes}
 use Rattle.std.specs.List.{list_any, AllByRecursion}
 use Rattle.fv_tree.specs.declared.ops.Kind.{Kind}
@@ -14,8 +14,9 @@ use Rattle.f77_grammar.specs.expressions.Spelling.{Words, IsDigits, value, chars
 use Rattle.f77_grammar.specs.expressions.Squeezing.{Symbol}
 use Rattle.f77_grammar.specs.expressions.Words as words
 use Rattle.f77_grammar.specs.expressions.Words.{Word}
-use Rattle.f77_grammar.specs.statements.Items.{ItemPhrases, Input, Output, AreItems, IsReference, IsStep, written_items}
-use Rattle.f77_grammar.specs.statements.Items.{written_bounds, item_trees, step_tree, items_depth, step_depth}
+use Rattle.f77_grammar.specs.statements.Controls.{Control, IsControl, written_control, step_tree, control_depth}
+use Rattle.f77_grammar.specs.statements.Items.{ItemPhrases, Input, Output, AreItems, IsReference, written_items}
+use Rattle.f77_grammar.specs.statements.Items.{item_trees, items_depth}
 
 -- ---- lists with commas
 
@@ -104,17 +105,6 @@ definition_tree d = record { name = d.name; value = phrases.tree d.value }
 abbrev pub definition_depth : Definition → ℕ
 definition_depth d = phrases.depth d.value
 
--- ---- a DO variable with its parameters (section 11.10)
-
-abbrev pub AreParameters : Phrase → Phrase → Option Phrase → Type 0
-AreParameters a b c = IsExpression a × IsExpression b × IsStep c
-
-abbrev pub written_control : List ℕ → Phrase → Phrase → Option Phrase → List Word
-written_control x a b c = words.Name x ∷ (words.Equals ∷ written_bounds a b c)
-
-abbrev pub control_depth : Phrase → Phrase → Option Phrase → ℕ
-control_depth a b c = max (max (phrases.depth a) (phrases.depth b)) (step_depth c)
-
 -- ---- the forms
 
 -- A label is its digits. A comma may follow the label of a DO. `Read` and `Print` without a list have forms of their
@@ -131,7 +121,7 @@ pub data Form : Type 0 where
   ElseIf : Phrase → Form
   Else : Form
   EndIf : Form
-  Do : List ℕ → Bool → List ℕ → Phrase → Phrase → Option Phrase → Form
+  Do : List ℕ → Bool → Control → Form
   Continue : Form
   Stop : Form
   Read : ItemPhrases → Form
@@ -188,9 +178,8 @@ IsWritten (ElseIf p) text = (e : List Symbol) × (text ≡ chars (codes "ELSEIF(
     × Words e (written p) × IsExpression p
 IsWritten Else text = text ≡ chars (codes "ELSE")
 IsWritten EndIf text = text ≡ chars (codes "ENDIF")
-IsWritten (Do label comma x a b c) text =
-    IsFollowed (codes "DO" ++ (label ++ optional_comma comma)) (written_control x a b c) text × IsLabel label
-    × AreParameters a b c
+IsWritten (Do label comma k) text =
+    IsFollowed (codes "DO" ++ (label ++ optional_comma comma)) (written_control k) text × IsLabel label × IsControl k
 IsWritten Continue text = text ≡ chars (codes "CONTINUE")
 IsWritten Stop text = text ≡ chars (codes "STOP")
 IsWritten (Read is) text = (IsFollowed (codes "READ*,") (written_items is) text
@@ -220,7 +209,8 @@ statement_of (If p) = statement.If (phrases.tree p)
 statement_of (ElseIf p) = statement.ElseIf (phrases.tree p)
 statement_of Else = statement.Else
 statement_of EndIf = statement.EndIf
-statement_of (Do label comma x a b c) = statement.Do (value label) x (phrases.tree a) (phrases.tree b) (step_tree c)
+statement_of (Do label comma k) =
+    statement.Do (value label) k.variable (phrases.tree k.first) (phrases.tree k.last) (step_tree k.step)
 statement_of Continue = statement.Continue
 statement_of Stop = statement.Stop
 statement_of (Read is) = statement.Read (tree.items (item_trees is))
@@ -241,7 +231,7 @@ form_depth (Assign l r) = max (phrases.depth l) (phrases.depth r)
 form_depth (Test p f) = max (phrases.depth p) (form_depth f)
 form_depth (If p) = phrases.depth p
 form_depth (ElseIf p) = phrases.depth p
-form_depth (Do label comma x a b c) = control_depth a b c
+form_depth (Do label comma k) = control_depth k
 form_depth (Read is) = items_depth is
 form_depth (Print is) = items_depth is
 form_depth f = 0
@@ -255,7 +245,7 @@ form_words (Assign l r) = written l ++ written r
 form_words (Test p f) = written p ++ form_words f
 form_words (If p) = written p
 form_words (ElseIf p) = written p
-form_words (Do label comma x a b c) = written_control x a b c
+form_words (Do label comma k) = written_control k
 form_words (Read is) = written_items is
 form_words (Print is) = written_items is
 form_words f = []

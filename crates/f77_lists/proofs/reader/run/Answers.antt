@@ -2,7 +2,7 @@ use Rattle.std.proofs.Common.{subst, Ok}
 use Rattle.f77_expr.specs.Views.{words_of}
 use Rattle.f77_lists.specs.declared.reader.Turn.{Turn}
 use Rattle.f77_lists.specs.Reader.{step}
-use Rattle.f77_lists.specs.Views.{Turns, direction_of, state_of}
+use Rattle.f77_lists.specs.Views.{Turns, state_of}
 use Rattle.f77_lists.proofs.Paths.{started, one_more}
 use Rattle.f77_lists.proofs.Stacks.{first_stack}
 use Rattle.f77_lists.proofs.reader.run.Goals as goal
@@ -12,10 +12,10 @@ reading-init c = started _ _ _ (first_stack c.push.new.self.items c.new-lists.re
 
 pub reading-preserved-in-Due : goal.reading-preserved-in-Due
 reading-preserved-in-Due c =
-    let at = step (direction_of c.args.direction) (state_of c.reading.is_due c.reading.lists.items (words_of c.reading.rest.now)) in
+    let at = step c.args.direction (state_of c.reading.is_due c.reading.lists.items (words_of c.reading.rest.now)) in
     one_more _ _ _ _ c.reading.invariant (subst (λ (t : Turn). Turns (Ok t) c.step.new.lists.items at) c.in-Due.is c.in_ok-tail.ensures.step)
 
 pub reading-preserved : goal.reading-preserved
 reading-preserved c =
-    let at = step (direction_of c.args.direction) (state_of c.reading.is_due c.reading.lists.items (words_of c.reading.rest.now)) in
+    let at = step c.args.direction (state_of c.reading.is_due c.reading.lists.items (words_of c.reading.rest.now)) in
     one_more _ _ _ _ c.reading.invariant (subst (λ (t : Turn). Turns (Ok t) c.step.new.lists.items at) c.in-Done.is c.in_ok-tail.ensures.step)

@@ -1,11 +1,11 @@
 use Rattle.std.proofs.Common.{length}
 use Rattle.f77_expr.specs.Views.{words_of}
 use Rattle.f77_lists.specs.Reader.{Path, start}
-use Rattle.f77_lists.specs.Views.{direction_of, state_of}
+use Rattle.f77_lists.specs.Views.{state_of}
 use Rattle.f77_lists.proofs.reader.run.Given as goal
 
 abbrev pub invariant-reading : goal.invariant-reading
-invariant-reading l = Path (direction_of l.direction) (start (words_of l.tokens)) (state_of l.is_due l.lists.items (words_of l.rest))
+invariant-reading l = Path l.direction (start (words_of l.tokens)) (state_of l.is_due l.lists.items (words_of l.rest))
 
 abbrev pub decreases-reading : goal.decreases-reading
 decreases-reading l = length l.rest

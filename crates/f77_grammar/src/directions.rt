@@ -1,0 +1,8 @@
+//! The directions of transfer.
+
+/// Whether a list is of PRINT or of READ.
+#[derive(Clone, Copy, Debug, PartialEq, Eq)]
+pub enum Direction {
+    Output,
+    Input,
+}

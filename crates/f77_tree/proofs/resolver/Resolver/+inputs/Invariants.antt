@@ -1,9 +1,0 @@
-use Rattle.std.proofs.Common.{◌≡◌, map, take}
-use Rattle.fv_tree.specs.View.{item_of}
-use Rattle.f77_grammar.specs.program.Tree as tree
-use Rattle.f77_tree.specs.Parts.{known_uses, known_store}
-use Rattle.f77_tree.proofs.resolver.Resolver.+inputs.Given as goal
-
-abbrev pub invariant-resolve_inputs-loop-item : goal.invariant-resolve_inputs-loop-item
-invariant-resolve_inputs-loop-item l =
-    map item_of l.resolved ≡ map (λ i. tree.resolved_input_item (known_uses l.self) (known_store l.self) (item_of i)) (take l.item-index l.item-items)
