@@ -6,4 +6,3 @@ mod NameDecks
 mod KindDecks
 mod JumpDecks
 mod LimitDecks
-mod TreeDecks

@@ -9,4 +9,5 @@ pub mod Jumps
 pub mod DoVariables
 pub mod Limits
 pub mod Tree
+pub mod Blocks
 pub mod Program77

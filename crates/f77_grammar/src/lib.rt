@@ -3,8 +3,6 @@
 
 mod cards;
 mod directions;
-mod program;
 
 pub use cards::source_is_read_or_refused;
 pub use directions::Direction;
-pub use program::text_is_read_or_refused;

@@ -2,6 +2,7 @@
 use Rattle.std.proofs.Common.{◌≡◌, ◌↔◌, false, not, ◌||◌, List, [], ◌∷◌, ap, sym, subst, refl, Contains}
 use Rattle.std.specs.List.{AllByRecursion, list_any}
 use Rattle.fv_tree.specs.Plain.{Program}
+use Rattle.f77_tree_laws.proofs.Trees.{read_tree}
 use Rattle.fv_meaning.specs.Store.{Store}
 use Rattle.f77_grammar.specs.Statement77.{Labelled, Statement77, Declare, Dimension, Constants}
 use Rattle.f77_grammar.specs.program.Text.{is_declaration}
@@ -26,7 +27,7 @@ pub one_rule_of_read : OneRuleOfReadStatements
 one_rule_of_read d text p c line w small cards reads statement placed =
     let us : List Use = uses_in_text text in
     let s : Store = constants_of d text in
-    subst (λ (q : Program). SuitsInText us c ↔ SuitsInTree us s q.declarations c line w) (sym reads.formed)
+    subst (λ (q : Program). SuitsInText us c ↔ SuitsInTree us s q.declarations c line w) (sym (read_tree d text p reads))
     (one_rule us s (declarations d text) (knows_of_read d text p small cards reads) (in_text text (proper_text text cards)) line c w placed statement.source statement.declares_nothing statement.among)
 
 -- ---- the cause TypeClash

@@ -6,6 +6,7 @@ use Rattle.std.proofs.Math.Pow.{pow_mono}
 use Rattle.fv_tree.specs.declared.ops.Value.{Value}
 use Rattle.fv_tree.specs.declared.ops.Value.TheVariants.{Int, Truth}
 use Rattle.fv_tree.specs.Plain.{Program}
+use Rattle.f77_tree_laws.proofs.Trees.{read_tree}
 use Rattle.fv_meaning.specs.Dialect.{Dialect}
 use Rattle.fv_meaning.specs.Store.{Store, Cell}
 use Rattle.fv_meaning.specs.Value.{is_in_range}
@@ -83,5 +84,5 @@ pub one_rule_of_read : OneRuleOfRead
 one_rule_of_read d text p e k small cards reads expression =
     let us : List Use = uses_in_text text in
     let s : Store = constants_of d text in
-    subst (λ (q : Program). HasKindInText us e k ↔ HasKindInTree us s q.declarations e k) (sym reads.formed)
+    subst (λ (q : Program). HasKindInText us e k ↔ HasKindInTree us s q.declarations e k) (sym (read_tree d text p reads))
     (one_rule us s (declarations d text) (knows_of_read d text p small cards reads) (in_text text (proper_text text cards)) e k expression.source expression.among)

@@ -11,7 +11,8 @@ use Rattle.f77_grammar.specs.program.Uses.{Use, uses_in, uses_in_text}
 use Rattle.f77_grammar.specs.program.Declarations.{is_misused}
 use Rattle.f77_grammar.specs.program.Kinds.{has_kind, calls_hidden}
 use Rattle.f77_grammar.specs.program.Limits.{constants_of}
-use Rattle.f77_grammar.specs.program.Tree.{resolved, tree_of}
+use Rattle.f77_grammar.specs.program.Tree.{resolved}
+use Rattle.f77_tree_laws.specs.Steps.{tree_of}
 use Rattle.f77_laws.specs.Source.{IsSourceCard}
 use Rattle.f77_kind_laws.specs.OneRule.{IsArrayOrFunction, HasConstants, IsExpressionOf}
 

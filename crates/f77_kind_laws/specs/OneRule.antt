@@ -14,7 +14,8 @@ use Rattle.f77_grammar.specs.program.Declarations.{is_listed, is_misused}
 use Rattle.f77_grammar.specs.program.Kinds.{has_kind, calls_hidden}
 use Rattle.f77_grammar.specs.program.Limits.{definitions_of, constants_of}
 use Rattle.f77_grammar.specs.program.Program77.{ReadsStatements}
-use Rattle.f77_grammar.specs.program.Tree.{resolved, tree_of}
+use Rattle.f77_grammar.specs.program.Tree.{resolved}
+use Rattle.f77_tree_laws.specs.Steps.{tree_of}
 use Rattle.f77_laws.specs.Source.{IsSourceCard}
 
 -- ---- names

@@ -15,7 +15,8 @@ use Rattle.f77_grammar.specs.program.Kinds.{suits, has_unsuited_kind}
 use Rattle.f77_grammar.specs.program.DoVariables.{misuses_variable}
 use Rattle.f77_grammar.specs.program.Limits.{constants_of}
 use Rattle.f77_grammar.specs.program.Program77.{ReadsStatements}
-use Rattle.f77_grammar.specs.program.Tree.{resolved, simple, target, tree_of}
+use Rattle.f77_grammar.specs.program.Tree.{resolved, simple, target}
+use Rattle.f77_tree_laws.specs.Steps.{tree_of}
 use Rattle.f77_laws.specs.Source.{IsSourceCard, IsSourceStatement}
 use Rattle.f77_kind_laws.specs.OneRule.{IsRightUse, IsArrayOrFunction, HasConstants}
 

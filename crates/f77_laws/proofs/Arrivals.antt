@@ -11,7 +11,8 @@ use Rattle.f77_grammar.specs.program.Nesting.{nests_wrongly, ends_loops_wrongly,
 use Rattle.f77_grammar.specs.program.Jumps.{place_of_label, opens_arm, enters_block, is_no_target, leads_wrongly}
 use Rattle.f77_grammar.specs.program.Uses.{Use}
 use Rattle.fv_meaning.specs.Profile77.{labels_of}
-use Rattle.f77_grammar.specs.program.Tree.{Piece, Rest, Outermost, InArm, block_of, up_to, beyond, preceded, loop_begun, mark_of, resolved, simple, begun, rest_from}
+use Rattle.f77_grammar.specs.program.Tree.{mark_of, resolved, simple}
+use Rattle.f77_tree_laws.specs.Steps.{Piece, Rest, Outermost, InArm, block_of, up_to, beyond, preceded, loop_begun, begun, rest_from}
 use Rattle.f77_laws.proofs.Lists.{left_false, right_false, both_false, affirmed, here, not_both}
 use Rattle.f77_laws.proofs.Sound.{IsRight}
 use Rattle.f77_laws.proofs.Frames.{Loop, Frames, Base, Inner, pushed, closed, frames}

@@ -10,7 +10,8 @@ use Rattle.f77_grammar.specs.program.Text.{is_label}
 use Rattle.fv_meaning.specs.Typed77.{IsWhole, IsDoVariable}
 use Rattle.f77_grammar.specs.program.Uses.{Use}
 use Rattle.fv_meaning.specs.Profile77.{labels_of, blocks_in_arms, blocks_in, Surroundings, IsLine, IsLabel, IsStatement, AreArms, IsBlock}
-use Rattle.f77_grammar.specs.program.Tree.{Piece, Rest, Outermost, InArm, block_of, up_to, beyond, preceded, loop_in, loop_begun, mark_of, resolved, begun}
+use Rattle.f77_grammar.specs.program.Tree.{mark_of, resolved}
+use Rattle.f77_tree_laws.specs.Steps.{Piece, Rest, Outermost, InArm, block_of, up_to, beyond, preceded, loop_in, loop_begun, begun}
 use Rattle.f77_laws.proofs.Frames.{Loop, Frames, Base, Inner, pushed, closed, top_closed, names_in, variables, depth, top_kept}
 use Rattle.f77_laws.proofs.Shapes.{label_is}
 use Rattle.f77_laws.proofs.Arrivals.{ahead_of, labels_appended}

@@ -19,7 +19,8 @@ use Rattle.f77_grammar.specs.expressions.Printing.{IsSource, IsSourceSubscript, 
 use Rattle.f77_grammar.specs.Statement77.{Labelled, Statement77, Program, Declare, Dimension, Constants, Assign, Go, Test, If, ElseIf, Else, EndIf, Do, Continue, Stop, Read, Print, End}
 use Rattle.f77_grammar.specs.program.Uses.{Use, uses_in, uses_in_subscripts, uses_in_subscript, uses_in_item, uses_in_items, input_uses, value_uses, control_uses, uses_of, is_array, is_function, is_constant, kind_of_name}
 use Rattle.f77_grammar.specs.program.Kinds.{same_kind, has_kind, has_some_kind, takes_so_many, list_has_kind, name_has_kind, are_subscripts, is_subscript, is_stored_into, suits_output, suits_input, are_numbers, suits_value, suits_item, suits_items, suits}
-use Rattle.f77_grammar.specs.program.Tree.{literal, arguments_of, call_of, element_or_call, value_or_name, resolved, resolved_subscripts, resolved_subscript, resolved_input, resolved_value, resolved_item, resolved_items, simple, Piece, Rest, Outermost, InArm, block_of, up_to, beyond, preceded, loop_in, loop_begun, mark_of, begun, outermost_block, rest_from}
+use Rattle.f77_grammar.specs.program.Tree.{literal, arguments_of, call_of, element_or_call, value_or_name, resolved, resolved_subscripts, resolved_subscript, resolved_input, resolved_value, resolved_item, resolved_items, simple, mark_of}
+use Rattle.f77_tree_laws.specs.Steps.{Piece, Rest, Outermost, InArm, block_of, up_to, beyond, preceded, loop_in, loop_begun, begun, outermost_block, rest_from}
 use Rattle.f77_laws.specs.Source.{IsSourceVariable, IsSourceValue, IsSourceItem, AreSourceItems, IsSourceAction, IsSourceStatement}
 use Rattle.f77_laws.proofs.Lists.{left_true, right_true, all_left, all_right, all_both}
 use Rattle.f77_laws.proofs.Blocks.{made_appended, all_pieces_are}

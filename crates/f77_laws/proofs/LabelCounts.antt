@@ -9,7 +9,8 @@ use Rattle.f77_grammar.specs.Statement77.{Labelled, Statement77, Program, Declar
 use Rattle.f77_grammar.specs.program.Text.{places_from, is_label, bears, stands_in, action}
 use Rattle.f77_grammar.specs.program.Uses.{Use}
 use Rattle.fv_meaning.specs.Profile77.{all_labels_of, all_labels_in_arms, all_labels_in, targets_of, targets_in_arms, targets_in, IsWithoutRepeats, statements_in_arms, statements_in}
-use Rattle.f77_grammar.specs.program.Tree.{Rest, Outermost, InArm, outermost_block, mark_of, simple, target, targets, rest_from}
+use Rattle.f77_grammar.specs.program.Tree.{mark_of, simple, target, targets}
+use Rattle.f77_tree_laws.specs.Steps.{Rest, Outermost, InArm, outermost_block, rest_from}
 use Rattle.f77_laws.specs.Source.{IsSourceAction, IsSourceStatement, IsSourceCard}
 use Rattle.f77_laws.proofs.Lists.{left_false, right_false, here, there, nowhere, cases_of, Found, found, all_of}
 use Rattle.f77_laws.proofs.Sound.{IsRight}

@@ -5,7 +5,8 @@ use Rattle.fv_tree.specs.Plain.{Expression}
 use Rattle.fv_meaning.specs.Store.{Store}
 use Rattle.f77_grammar.specs.Statement77.{Labelled, Statement77, If, ElseIf, Else, EndIf, Do}
 use Rattle.f77_grammar.specs.program.Uses.{Use}
-use Rattle.f77_grammar.specs.program.Tree.{Piece, Rest, Outermost, InArm, block_of, up_to, beyond, preceded, loop_begun, mark_of, resolved, simple, begun}
+use Rattle.f77_grammar.specs.program.Tree.{mark_of, resolved, simple}
+use Rattle.f77_tree_laws.specs.Steps.{Piece, Rest, Outermost, InArm, block_of, up_to, beyond, preceded, loop_begun, begun}
 use Rattle.f77_laws.proofs.Frames.{Frames, Inner}
 use Rattle.f77_laws.proofs.Moves.{Moves}
 use Rattle.f77_laws.proofs.Shapes.{IsShaped}

@@ -13,7 +13,9 @@ use Rattle.f77_grammar.specs.program.Uses.{Use, uses_in_text, is_title, names_th
 use Rattle.f77_grammar.specs.program.Limits.{constants_of}
 use Rattle.f77_grammar.specs.program.Program77.{findings}
 use Rattle.fv_meaning.specs.Profile77.{IsProgram77}
-use Rattle.f77_grammar.specs.program.Tree.{Rest, Outermost, InArm, outermost_block, targets, variables_of, first_of_names, rest_from, tree_of}
+use Rattle.f77_grammar.specs.program.Tree.{targets, variables_of, first_of_names}
+use Rattle.f77_tree_laws.proofs.Trees.{read_tree}
+use Rattle.f77_tree_laws.specs.Steps.{Rest, Outermost, InArm, outermost_block, rest_from, tree_of}
 use Rattle.f77_laws.specs.Source.{IsSourceCard, AreSourceStatements}
 use Rattle.f77_laws.specs.Reading.{HasFewStatements, ReadTextIsProgram}
 use Rattle.f77_laws.proofs.Lists.{here, all_at, all_of}
@@ -94,4 +96,4 @@ module _ (d : Dialect) (x : Labelled) (xs : List Labelled) (small : d.bits ≤ 1
 
 pub read_is_program : ReadTextIsProgram
 read_is_program d [] p small reads source few = absurd (let e = ap length reads.sound in omega arith)
-read_is_program d (x ∷ xs) p small reads source few = subst (IsProgram77 d) (sym reads.formed) (is_program d x xs small reads.sound source few)
+read_is_program d (x ∷ xs) p small reads source few = subst (IsProgram77 d) (sym (read_tree d (x ∷ xs) p reads)) (is_program d x xs small reads.sound source few)

@@ -5,7 +5,7 @@ use Rattle.fv_meaning.specs.Store.{Store}
 use Rattle.f77_grammar.specs.Statement77.{Labelled}
 use Rattle.f77_grammar.specs.program.Text.{places_from}
 use Rattle.f77_grammar.specs.program.Uses.{Use}
-use Rattle.f77_grammar.specs.program.Tree.{rest_from}
+use Rattle.f77_tree_laws.specs.Steps.{rest_from}
 use Rattle.f77_tree_laws.proofs.Shapes as nested
 use Rattle.f77_laws.proofs.Sound.{IsRight}
 use Rattle.f77_laws.proofs.Frames.{frames}

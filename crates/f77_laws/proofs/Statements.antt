@@ -16,7 +16,8 @@ use Rattle.f77_grammar.specs.program.Jumps.{jumps_wrongly}
 use Rattle.f77_grammar.specs.program.DoVariables.{loop_variable, loop_variables, misuses_variable}
 use Rattle.f77_grammar.specs.program.Limits.{opens_block, has_many_blocks}
 use Rattle.fv_meaning.specs.Profile77.{blocks_in, IsLine}
-use Rattle.f77_grammar.specs.program.Tree.{Rest, Outermost, InArm, preceded, mark_of, target, targets, resolved, simple, begun, rest_from}
+use Rattle.f77_grammar.specs.program.Tree.{mark_of, target, targets, resolved, simple}
+use Rattle.f77_tree_laws.specs.Steps.{Rest, Outermost, InArm, preceded, begun, rest_from}
 use Rattle.f77_laws.specs.Source.{IsShallow, IsSourceLabel, IsSourceAction, IsSourceStatement, IsSourceCard}
 use Rattle.f77_laws.proofs.Lists.{left_true, right_true, left_false, right_false, affirmed, all_at, all_of, all_both, all_left, all_right, none_any, any_true, in_flat, here}
 use Rattle.f77_laws.proofs.Sound.{IsRight}

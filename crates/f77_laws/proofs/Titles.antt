@@ -17,7 +17,7 @@ use Rattle.f77_grammar.specs.program.Order.{is_nothing, is_late}
 use Rattle.f77_grammar.specs.program.Declarations.{is_declared_again, is_array_or_constant, printed_by, printed_name, bears_title, uses_title, has_unknown_constant, has_misused_name}
 use Rattle.f77_laws.proofs.Lists.{left_true, right_true, left_false, right_false, affirmed, not_both, all_both, all_at, all_of, all_weaker, none_any, any_true, here, there, nowhere, cases_of, found, FromFlat, from_flat, in_flat}
 use Rattle.f77_grammar.specs.program.Kinds.{suits, calls_hidden}
-use Rattle.f77_grammar.specs.program.Tree.{Rest, begun, rest_from, outermost_block}
+use Rattle.f77_tree_laws.specs.Steps.{Rest, begun, rest_from, outermost_block}
 use Rattle.f77_laws.specs.Source.{IsSourceCard}
 use Rattle.f77_laws.proofs.Places.{place_of}
 use Rattle.f77_laws.proofs.Calls.{IsHeard, IsSaid, AllIn, title_calls, rest_calls, outermost_calls}

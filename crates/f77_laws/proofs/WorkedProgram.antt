@@ -10,7 +10,8 @@ use Rattle.f77_grammar.specs.Statement77.{Labelled, Declare, Constants, Assign, 
 use Rattle.f77_grammar.specs.Statement77 as text
 use Rattle.f77_grammar.specs.program.Program77.{findings}
 use Rattle.fv_meaning.specs.Profile77.{IsProgram77, AreDeclarations, IsBlock, outermost, all_labels_in, targets_in}
-use Rattle.f77_grammar.specs.program.Tree.{tree_of}
+use Rattle.f77_tree_laws.proofs.Trees.{tree_is_read}
+use Rattle.f77_tree_laws.specs.Steps.{tree_of}
 use Rattle.fv_meaning.proofs.DeckWords.{n, v, at, to_element}
 use Rattle.f77_grammar.proofs.programs.Words.{s, l, scalar, array, constant}
 use Rattle.f77_laws.specs.Source.{AreSourceStatements}
@@ -59,7 +60,7 @@ search_loop_source : AreSourceStatements search_loop
 search_loop_source = search rules
 
 search_loop_program : IsProgram77 fortran77 (tree_of fortran77 search_loop)
-search_loop_program = read_is_program fortran77 search_loop (tree_of fortran77 search_loop) (omega arith) (record { sound = refl; formed = refl }) search_loop_source (omega arith)
+search_loop_program = read_is_program fortran77 search_loop (tree_of fortran77 search_loop) (omega arith) (tree_is_read fortran77 search_loop (tree_of fortran77 search_loop) refl refl) search_loop_source (omega arith)
 
 --       PROGRAM SWEEP
 --       LOGICAL L
@@ -121,4 +122,4 @@ sweep_source : AreSourceStatements sweep
 sweep_source = search rules
 
 sweep_program : IsProgram77 fortran77 (tree_of fortran77 sweep)
-sweep_program = read_is_program fortran77 sweep (tree_of fortran77 sweep) (omega arith) (record { sound = refl; formed = refl }) sweep_source (omega arith)
+sweep_program = read_is_program fortran77 sweep (tree_of fortran77 sweep) (omega arith) (tree_is_read fortran77 sweep (tree_of fortran77 sweep) refl refl) sweep_source (omega arith)

@@ -14,8 +14,8 @@ use Rattle.f77_grammar.specs.Statement77.{Statement77, Labelled}
 use Rattle.f77_grammar.specs.statements.Reading.{IsRefusedBy}
 use Rattle.fv_meaning.specs.Dialect.{Dialect, fortran77}
 use Rattle.f77_grammar.specs.Answered.{comes_before}
-use Rattle.f77_grammar.specs.program.Program77.{findings, RefusedStatements}
-use Rattle.f77_grammar.specs.program.Tree.{tree_of}
+use Rattle.f77_grammar.specs.program.Program77.{findings, ReadsStatements, RefusedStatements}
+use Rattle.f77_tree_laws.proofs.Trees.{one_read}
 use Rattle.f77_grammar.proofs.Answered.{one_answer}
 use Rattle.f77_grammar.proofs.programs.Least.{nothing_in}
 use Rattle.f77_checks.specs.Outcomes.{IfRefusal}
@@ -129,7 +129,7 @@ not_refused cards r p (OfText text a f) g = f.unsound (subst (λ ys. findings fo
 
 pub only_that_program : (cards : List PlainCard) (o : Result Program77 Refused) → AreCardsBuilt cards o → (p : Program) → ReadsProgram fortran77 cards p
     → IsOkAnd o (λ built. program_of built ≡ p) ⊎ (o ≡ Err refused.Memory)
-only_that_program cards (Ok q) h p g = inl (h.reads.formed ∙ ap (tree_of fortran77) (sym (one_text cards h.text g.text h.statements g.statements)) ∙ sym g.reads.formed)
+only_that_program cards (Ok q) h p g = inl (one_read fortran77 g.text (program_of q) p (subst (λ ys. ReadsStatements fortran77 ys (program_of q)) (one_text cards g.text h.text g.statements h.statements) h.reads) g.reads)
 only_that_program cards (Err (refused.Refusal r)) h p g = absurd (not_refused cards r p h g)
 only_that_program cards (Err refused.Memory) h p g = inr refl
 

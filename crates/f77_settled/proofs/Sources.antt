@@ -8,7 +8,8 @@ use Rattle.f77_grammar.specs.Cards.{PlainCard, ReadsCards, RefusedCards}
 use Rattle.f77_grammar.specs.Statement77.{Labelled, Statement77}
 use Rattle.f77_grammar.specs.statements.Reading.{ReadsStatement, IsRefusedBy}
 use Rattle.f77_grammar.specs.program.Program77.{findings, ReadsStatements, RefusedStatements}
-use Rattle.f77_grammar.specs.program.Tree.{tree_of}
+use Rattle.f77_tree_laws.specs.Steps.{tree_of}
+use Rattle.f77_tree_laws.proofs.Trees.{tree_is_read, one_read}
 use Rattle.f77_grammar.specs.Reading77.{IsReadFrom, AreReadFrom, HasCause, ReadsProgram, RefusedProgram, Reads77, Refused77}
 use Rattle.f77_grammar.specs.Reading77.HasCause.{AtCard, InText}
 use Rattle.f77_grammar.specs.Reading77.Refused77.{OfLines, OfCards}
@@ -71,7 +72,7 @@ module _ (settled : AllAreSettled) where
     where
       of_text : (text : List Labelled) → AreReadAlone cards text → (findings d text ≡ []) ⊎ ((r : Refusal) × IsAnswered (Contains (findings d text)) r)
           → ((p : Program) × ReadsProgram d cards p) ⊎ ((r : Refusal) × RefusedProgram d cards r)
-      of_text text a (inl e) = inl (tree_of d text, record { text = text; statements = are_read cards text a; reads = record { sound = e; formed = refl } })
+      of_text text a (inl e) = inl (tree_of d text, record { text = text; statements = are_read cards text a; reads = tree_is_read d text (tree_of d text) e refl })
       of_text text a (inr f) = inr (f.0, answered_text d cards text f.0 a f.1)
 
       tried_either : (text : List Labelled) (o : Option Refusal) → AreTried cards text o → ((p : Program) × ReadsProgram d cards p) ⊎ ((r : Refusal) × RefusedProgram d cards r)
@@ -131,4 +132,4 @@ module _ (settled : AllAreSettled) where
   pub one_program : (d : Dialect) (source : List ℕ) (p q : Program) → Reads77 d source p → Reads77 d source q → p ≡ q
   one_program d source p q h g =
       let k = subst (λ xs. ReadsProgram d xs p) (one_reading source h.cards g.cards h.are_cards.are_cards g.are_cards.are_cards) h.program in
-      k.reads.formed ∙ ap (tree_of d) (one_text g.cards k.text g.program.text k.statements g.program.statements) ∙ sym g.program.reads.formed
+      one_read d g.program.text p q (subst (λ ys. ReadsStatements d ys p) (one_text g.cards k.text g.program.text k.statements g.program.statements) k.reads) g.program.reads

@@ -7,30 +7,31 @@ use Rattle.f77_grammar.specs.Statement77.{Labelled}
 use Rattle.fv_meaning.specs.Store.{Store}
 use Rattle.f77_grammar.specs.program.Uses.{Use}
 use Rattle.f77_grammar.specs.program.Tree as tree
+use Rattle.f77_tree_laws.specs.Steps as steps
 use Rattle.f77_tree.specs.declared.rests.Piece.{Piece}
 use Rattle.f77_tree.specs.declared.rests.OpenIf.{OpenIf}
 use Rattle.f77_tree.specs.declared.rests.Rest.{Rest}
 use Rattle.f77_tree.specs.declared.rests.Heading.{Heading}
 
-abbrev pub piece_of : Piece → tree.Piece
+abbrev pub piece_of : Piece → steps.Piece
 piece_of p = record { ends = p.ends; made = map statement_of p.made.items }
 
 -- pieces of which the last one stands first
-abbrev pub pieces_in : List Piece → List tree.Piece
+abbrev pub pieces_in : List Piece → List steps.Piece
 pieces_in ps = reverse (map piece_of ps)
 
 -- what pieces have become
-abbrev pub made_by : List tree.Piece → List plain.Statement
-made_by ps = flat_map (λ (p : tree.Piece). p.made) ps
+abbrev pub made_by : List steps.Piece → List plain.Statement
+made_by ps = flat_map (λ (p : steps.Piece). p.made) ps
 
 -- the pieces of a block, and the block IFs round it, the innermost first
-abbrev pub rest_with : List tree.Piece → List OpenIf → tree.Rest
-rest_with ps [] = tree.Outermost ps
+abbrev pub rest_with : List steps.Piece → List OpenIf → steps.Rest
+rest_with ps [] = steps.Outermost ps
 rest_with ps (f ∷ fs) =
-    tree.InArm ps (arms (reverse (map tested_of f.later.items))) (block_of f.other)
+    steps.InArm ps (arms (reverse (map tested_of f.later.items))) (block_of f.other)
     (rest_with (pieces_in f.after.items) fs)
 
-abbrev pub rest_of : Rest → tree.Rest
+abbrev pub rest_of : Rest → steps.Rest
 rest_of r = rest_with (pieces_in r.pieces.items) (reverse r.ifs.items)
 
 -- the loop of a block
@@ -38,7 +39,7 @@ abbrev pub heading_of : Heading → plain.Block → plain.Statement
 heading_of h body = plain.Do h.line h.var (expression_of h.first) (expression_of h.last) (expression_of h.step) body
 
 -- what a statement that opens and closes nothing becomes
-abbrev pub ordinary : List Use → Store → List ℕ → Labelled → tree.Piece
+abbrev pub ordinary : List Use → Store → List ℕ → Labelled → steps.Piece
 ordinary us s named x =
     record {
       ends = x.label;

@@ -2,7 +2,7 @@
 ghost use Rattle.std.specs.Prelude.{◌≡◌, ◌++◌, map, IfOk, OnOk};
 ghost use Rattle.fv_tree.specs.View.{expression_of, statement_of as tree_statement_of};
 ghost use Rattle.fv_tree.specs.Plain as plain;
-ghost use Rattle.f77_grammar.specs.program.Tree as tree;
+ghost use Rattle.f77_tree_laws.specs.Steps as steps;
 ghost use Rattle.f77_tree.specs.Parts.{known_uses, known_store, resolved_by};
 ghost use Rattle.f77_tree.specs.Resolved.{made};
 ghost use Rattle.f77_tree.specs.Rests.{piece_of, rest_of, heading_of, ordinary};
@@ -75,7 +75,7 @@ impl Rest {
         statement: &Labelled,
     ) -> Result<Rest, Memory>
         ensures { IfOk result (λ rest.
-            rest_of rest ≡ tree.begun (known_uses resolver.now)
+            rest_of rest ≡ steps.begun (known_uses resolver.now)
             (known_store resolver.now) targets.now.list.items (labelled_of statement.now)
             (statement_of statement.now.statement) (rest_of self)) }
     {
@@ -120,7 +120,7 @@ pub fn rest_of_text(
     text: &[Labelled],
 ) -> Result<Rest, Memory>
     ensures { IfOk result (λ rest.
-        rest_of rest ≡ tree.rest_from (known_uses resolver.now)
+        rest_of rest ≡ steps.rest_from (known_uses resolver.now)
         (known_store resolver.now) targets.now.list.items (text_of text.now)) }
 {
     let mut rest = Rest::new(alloc);

@@ -2,7 +2,8 @@
 ghost use Rattle.std.specs.Prelude.{◌≡◌, None, map, IfOk};
 ghost use Rattle.fv_tree.specs.View.{program_of};
 ghost use Rattle.f77_grammar.specs.program.Limits.{constants_of, has_bad_constant};
-ghost use Rattle.f77_grammar.specs.program.Tree.{tree_of, first_of_names};
+ghost use Rattle.f77_grammar.specs.program.Tree.{first_of_names};
+ghost use Rattle.f77_tree_laws.specs.Steps.{tree_of};
 ghost use Rattle.f77_grammar.specs.program.Uses.{is_title, names_that, uses_in_text};
 ghost use Rattle.f77_names.specs.UsesView.{plain_use, listed};
 ghost use Rattle.f77_constants.specs.Constants.{AreValues};

@@ -2,7 +2,7 @@
 ghost use Rattle.std.specs.Prelude.{◌≡◌, ℕ, [], ◌++◌, ◌∷◌, None, map, IfOk, OnOk};
 ghost use Rattle.fv_tree.specs.View.{expression_of, block_of, statement_of};
 ghost use Rattle.fv_tree.specs.Plain as plain;
-ghost use Rattle.f77_grammar.specs.program.Tree as tree;
+ghost use Rattle.f77_tree_laws.specs.Steps as steps;
 ghost use Rattle.f77_grammar.specs.program.Text.{is_label};
 ghost use Rattle.f77_tree.specs.Rests.{piece_of, pieces_in, made_by, rest_of, heading_of};
 
@@ -56,7 +56,7 @@ fn is_label(number: u32, label: Option<u32>) -> bool
 
 // The block of all these pieces.
 fn whole(alloc: Global, pieces: Vec<Piece>) -> Result<Block, Memory>
-    ensures { IfOk result (λ block. block_of block ≡ tree.block_of (pieces_in pieces.items)) }
+    ensures { IfOk result (λ block. block_of block ≡ steps.block_of (pieces_in pieces.items)) }
 {
     let mut pieces = pieces;
     let mut stmts = Vec::new(alloc);
@@ -72,8 +72,8 @@ fn whole(alloc: Global, pieces: Vec<Piece>) -> Result<Block, Memory>
 // The statements of the pieces up to the one that ends with the label, which are taken out.
 fn take_loop(alloc: Global, pieces: &mut Vec<Piece>, label: u32) -> Result<Vec<Stmt>, Memory>
     ensures body { IfOk result (λ stmts.
-        map statement_of stmts.items ≡ made_by (tree.up_to label (pieces_in pieces.old.items))) }
-    ensures rest { OnOk result (pieces_in pieces.new.items ≡ tree.beyond label (pieces_in pieces.old.items)) }
+        map statement_of stmts.items ≡ made_by (steps.up_to label (pieces_in pieces.old.items))) }
+    ensures rest { OnOk result (pieces_in pieces.new.items ≡ steps.beyond label (pieces_in pieces.old.items)) }
 {
     let mut stmts = Vec::new(alloc);
     'pieces: while let Some(piece) = pieces.pop() {
@@ -89,7 +89,7 @@ fn take_loop(alloc: Global, pieces: &mut Vec<Piece>, label: u32) -> Result<Vec<S
 impl Rest {
     /// Nothing comes after the last statement.
     pub fn new(alloc: Global) -> Rest
-        ensures { rest_of result ≡ tree.Outermost [] }
+        ensures { rest_of result ≡ steps.Outermost [] }
     {
         Rest {
             pieces: Vec::new(alloc),
@@ -99,7 +99,7 @@ impl Rest {
 
     /// With a piece before all that.
     pub fn precede(self, piece: Piece) -> Result<Rest, Memory>
-        ensures { IfOk result (λ rest. rest_of rest ≡ tree.preceded (piece_of piece) (rest_of self)) }
+        ensures { IfOk result (λ rest. rest_of rest ≡ steps.preceded (piece_of piece) (rest_of self)) }
     {
         let Rest { mut pieces, ifs } = self;
         pieces.push(piece)?;
@@ -108,7 +108,7 @@ impl Rest {
 
     /// At END IF.
     pub fn end_arm(self, alloc: Global) -> Result<Rest, Memory>
-        ensures { IfOk result (λ rest. rest_of rest ≡ tree.arm_ended (rest_of self)) }
+        ensures { IfOk result (λ rest. rest_of rest ≡ steps.arm_ended (rest_of self)) }
     {
         let Rest { pieces, mut ifs } = self;
         let other = Block {
@@ -125,7 +125,7 @@ impl Rest {
 
     /// At ELSE: the block behind it is the ELSE part.
     pub fn begin_else(self, alloc: Global) -> Result<Rest, Memory>
-        ensures { IfOk result (λ rest. rest_of rest ≡ tree.else_begun (rest_of self)) }
+        ensures { IfOk result (λ rest. rest_of rest ≡ steps.else_begun (rest_of self)) }
     {
         let Rest { pieces, mut ifs } = self;
         let Some(inner) = ifs.pop() else {
@@ -148,7 +148,7 @@ impl Rest {
 
     /// At ELSE IF: the block behind it is an arm.
     pub fn begin_arm(self, alloc: Global, test: Expr) -> Result<Rest, Memory>
-        ensures { IfOk result (λ rest. rest_of rest ≡ tree.arm_begun (expression_of test) (rest_of self)) }
+        ensures { IfOk result (λ rest. rest_of rest ≡ steps.arm_begun (expression_of test) (rest_of self)) }
     {
         let Rest { pieces, mut ifs } = self;
         let Some(inner) = ifs.pop() else {
@@ -180,7 +180,7 @@ impl Rest {
         test: Expr,
     ) -> Result<Rest, Memory>
         ensures { IfOk result (λ rest.
-            rest_of rest ≡ tree.if_begun line (map statement_of mark.items) (expression_of test) (rest_of self)) }
+            rest_of rest ≡ steps.if_begun line (map statement_of mark.items) (expression_of test) (rest_of self)) }
     {
         let Rest { pieces, mut ifs } = self;
         let Some(inner) = ifs.pop() else {
@@ -213,7 +213,7 @@ impl Rest {
         heading: Heading,
     ) -> Result<Rest, Memory>
         ensures { IfOk result (λ rest.
-            rest_of rest ≡ tree.loop_begun (heading_of heading) (map statement_of mark.items) label (rest_of self)) }
+            rest_of rest ≡ steps.loop_begun (heading_of heading) (map statement_of mark.items) label (rest_of self)) }
     {
         let Rest { mut pieces, ifs } = self;
         let stmts = take_loop(alloc, &mut pieces, label)?;
@@ -245,7 +245,7 @@ impl Rest {
 
     /// The block of all that.
     pub fn finish(self, alloc: Global) -> Result<Block, Memory>
-        ensures { IfOk result (λ block. block_of block ≡ tree.outermost_block (rest_of self)) }
+        ensures { IfOk result (λ block. block_of block ≡ steps.outermost_block (rest_of self)) }
     {
         let Rest { pieces, ifs: _ } = self;
         whole(alloc, pieces)

@@ -8,15 +8,16 @@ use Rattle.f77_grammar.specs.Statement77.{Labelled, Statement77, If, ElseIf, Els
 use Rattle.f77_grammar.specs.program.Text.{is_label, bears, stands_in}
 use Rattle.f77_grammar.specs.program.Nesting.{is_no_loop_end}
 use Rattle.f77_grammar.specs.program.Uses.{Use}
-use Rattle.f77_grammar.specs.program.Tree.{Piece, Rest, Outermost, InArm, block_of, up_to, beyond, preceded, arm_begun}
-use Rattle.f77_grammar.specs.program.Tree.{else_begun, if_begun, loop_begun, outermost_block, mark_of, resolved, simple}
-use Rattle.f77_grammar.specs.program.Tree.{begun, rest_from}
+use Rattle.f77_tree_laws.specs.Steps.{Piece, Rest, Outermost, InArm, block_of, up_to, beyond, preceded, arm_begun}
+use Rattle.f77_grammar.specs.program.Tree.{mark_of, resolved, simple}
+use Rattle.f77_tree_laws.specs.Steps.{else_begun, if_begun, loop_begun, outermost_block}
+use Rattle.f77_tree_laws.specs.Steps.{begun, rest_from}
 use Rattle.f77_tree_laws.proofs.Lists.{left_false, right_false, both_false}
 use Rattle.f77_tree_laws.proofs.Shapes.{label_is}
-use Rattle.f77_tree_laws.specs.Blocks.{stands_alone, IsRange, IsUnit, AreBlock, AreArms}
-use Rattle.f77_tree_laws.specs.Blocks.IsUnit.{alone, block_if, loop}
-use Rattle.f77_tree_laws.specs.Blocks.AreBlock.{nothing, unit}
-use Rattle.f77_tree_laws.specs.Blocks.AreArms.{end_if, else_part, else_if}
+use Rattle.f77_grammar.specs.program.Blocks.{stands_alone, IsRange, IsUnit, AreBlock, AreArms}
+use Rattle.f77_grammar.specs.program.Blocks.IsUnit.{alone, block_if, loop}
+use Rattle.f77_grammar.specs.program.Blocks.AreBlock.{nothing, unit}
+use Rattle.f77_grammar.specs.program.Blocks.AreArms.{end_if, else_part, else_if}
 
 -- ---- pieces before others
 

@@ -14,19 +14,20 @@ use Rattle.f77_grammar.specs.program.Nesting.{has_open_if, is_loop_open, since_i
 use Rattle.f77_grammar.specs.program.Nesting.{suits_else, nests_wrongly, ends_loops_wrongly, is_left_open}
 use Rattle.f77_grammar.specs.program.Nesting.{is_closed_wrongly}
 use Rattle.f77_grammar.specs.program.Uses.{Use}
-use Rattle.f77_grammar.specs.program.Tree.{Piece, Rest, Outermost, InArm, block_of, up_to, beyond, preceded, arm_begun}
-use Rattle.f77_grammar.specs.program.Tree.{else_begun, if_begun, loop_in, loop_begun, mark_of, resolved, simple}
-use Rattle.f77_grammar.specs.program.Tree.{begun, rest_from}
+use Rattle.f77_tree_laws.specs.Steps.{Piece, Rest, Outermost, InArm, block_of, up_to, beyond, preceded, arm_begun}
+use Rattle.f77_grammar.specs.program.Tree.{mark_of, resolved, simple}
+use Rattle.f77_tree_laws.specs.Steps.{else_begun, if_begun, loop_in, loop_begun}
+use Rattle.f77_tree_laws.specs.Steps.{begun, rest_from}
 use Rattle.f77_tree_laws.proofs.Lists.{left_false, right_false, right_true, negated, affirmed, not_both}
 use Rattle.f77_tree_laws.proofs.Lists.{or_right}
 use Rattle.f77_tree_laws.proofs.Frames.{Loop, Frames, Base, Inner, pushed, closed, top_closed, frames, had_else}
 use Rattle.f77_tree_laws.proofs.Frames.{else_shown}
 use Rattle.f77_tree_laws.proofs.Moves.{Moves, moves, stands_no_more, AllEnd, all_end}
 use Rattle.f77_tree_laws.proofs.Shapes.{Closes, IsShaped, label_is, no_frames, shape}
-use Rattle.f77_tree_laws.specs.Blocks.{stands_alone, IsRange, IsUnit, AreBlock, AreArms}
-use Rattle.f77_tree_laws.specs.Blocks.IsUnit.{alone, block_if, loop}
-use Rattle.f77_tree_laws.specs.Blocks.AreBlock.{nothing, unit}
-use Rattle.f77_tree_laws.specs.Blocks.AreArms.{end_if, else_part, else_if}
+use Rattle.f77_grammar.specs.program.Blocks.{stands_alone, IsRange, IsUnit, AreBlock, AreArms}
+use Rattle.f77_grammar.specs.program.Blocks.IsUnit.{alone, block_if, loop}
+use Rattle.f77_grammar.specs.program.Blocks.AreBlock.{nothing, unit}
+use Rattle.f77_grammar.specs.program.Blocks.AreArms.{end_if, else_part, else_if}
 use Rattle.f77_tree_laws.specs.Laws.{IsWellNested}
 use Rattle.f77_tree_laws.proofs.Begun.{made_in}
 

@@ -10,3 +10,4 @@ pub mod Pairs
 pub mod PairedBlocks
 pub mod Splits
 pub mod WellNested
+mod TreeDecks

@@ -5,10 +5,10 @@ use Rattle.fv_meaning.specs.Store.{Store}
 use Rattle.f77_grammar.specs.Statement77.{Labelled, Statement77, If, ElseIf, Else, EndIf, Do}
 use Rattle.f77_grammar.specs.program.Text.{is_block_if, is_end_if}
 use Rattle.f77_grammar.specs.program.Uses.{Use}
-use Rattle.f77_tree_laws.specs.Blocks.{stands_alone, IsUnit, AreBlock, AreArms}
-use Rattle.f77_tree_laws.specs.Blocks.IsUnit.{alone, block_if, loop}
-use Rattle.f77_tree_laws.specs.Blocks.AreBlock.{nothing, unit}
-use Rattle.f77_tree_laws.specs.Blocks.AreArms.{end_if, else_part, else_if}
+use Rattle.f77_grammar.specs.program.Blocks.{stands_alone, IsUnit, AreBlock, AreArms}
+use Rattle.f77_grammar.specs.program.Blocks.IsUnit.{alone, block_if, loop}
+use Rattle.f77_grammar.specs.program.Blocks.AreBlock.{nothing, unit}
+use Rattle.f77_grammar.specs.program.Blocks.AreArms.{end_if, else_part, else_if}
 use Rattle.f77_tree_laws.specs.Pairs.{ArePaired, Ends, BlocksArePaired}
 use Rattle.f77_tree_laws.specs.Pairs.ArePaired.{nothing as none, other, pair}
 use Rattle.f77_tree_laws.proofs.Lists.{not_both}

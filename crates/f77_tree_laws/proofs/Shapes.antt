@@ -8,7 +8,8 @@ use Rattle.f77_grammar.specs.Statement77.{Labelled, Statement77, If, ElseIf, Els
 use Rattle.f77_grammar.specs.program.Text.{places_from, is_label}
 use Rattle.f77_grammar.specs.program.Nesting.{has_end_if}
 use Rattle.f77_grammar.specs.program.Uses.{Use}
-use Rattle.f77_grammar.specs.program.Tree.{Piece, Rest, Outermost, InArm, beyond, preceded, loop_begun, mark_of, resolved, begun, rest_from}
+use Rattle.f77_grammar.specs.program.Tree.{mark_of, resolved}
+use Rattle.f77_tree_laws.specs.Steps.{Piece, Rest, Outermost, InArm, beyond, preceded, loop_begun, begun, rest_from}
 use Rattle.f77_tree_laws.specs.Laws.{IsWellNested}
 use Rattle.f77_tree_laws.proofs.Frames.{Loop, Frames, Base, Inner, pushed, closed, top_closed, frames, open_ifs_in, top_kept, ended}
 use Rattle.f77_tree_laws.proofs.Moves.{Moves, moves, AllEnd, all_end}

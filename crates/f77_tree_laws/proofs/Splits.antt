@@ -11,10 +11,10 @@ use Rattle.f77_grammar.specs.Statement77.{Labelled, Statement77, If, ElseIf, Els
 use Rattle.f77_grammar.specs.program.Text.{bears, stands_in, is_block_if, is_last_else, is_end_if}
 use Rattle.f77_grammar.specs.program.Nesting.{begins_loop, is_do_of}
 use Rattle.f77_grammar.specs.program.Uses.{Use}
-use Rattle.f77_tree_laws.specs.Blocks.{stands_alone, IsRange, IsUnit, AreBlock, AreArms}
-use Rattle.f77_tree_laws.specs.Blocks.IsUnit.{alone, block_if, loop}
-use Rattle.f77_tree_laws.specs.Blocks.AreBlock.{nothing, unit}
-use Rattle.f77_tree_laws.specs.Blocks.AreArms.{end_if, else_part, else_if}
+use Rattle.f77_grammar.specs.program.Blocks.{stands_alone, IsRange, IsUnit, AreBlock, AreArms}
+use Rattle.f77_grammar.specs.program.Blocks.IsUnit.{alone, block_if, loop}
+use Rattle.f77_grammar.specs.program.Blocks.AreBlock.{nothing, unit}
+use Rattle.f77_grammar.specs.program.Blocks.AreArms.{end_if, else_part, else_if}
 use Rattle.f77_tree_laws.specs.Pairs.{ArePaired}
 use Rattle.f77_tree_laws.proofs.Lists.{not_both, or_right}
 use Rattle.f77_tree_laws.proofs.Pairs.{BackPaired, none, single, double, back_append, back_of, reverse_pair}

@@ -6,9 +6,11 @@ use Rattle.fv_tree.specs.Plain.{Program}
 use Rattle.f77_grammar.specs.Statement77.{Labelled}
 use Rattle.f77_grammar.specs.program.Uses.{uses_in_text}
 use Rattle.f77_grammar.specs.program.Limits.{constants_of}
-use Rattle.f77_grammar.specs.program.Tree.{targets, rest_from, tree_of}
+use Rattle.f77_grammar.specs.program.Tree.{targets}
+use Rattle.f77_tree_laws.specs.Steps.{rest_from, tree_of}
 use Rattle.f77_grammar.specs.program.Program77.{findings, ReadsStatements}
-use Rattle.f77_tree_laws.specs.Laws.{IsTreeOf, OneBlock, OneTree, SomeTree, TreesAreOne, ReadIsTree}
+use Rattle.f77_tree_laws.specs.Laws.{OneBlock, OneTree, SomeTree, TreesAreOne, ReadIsComputed}
+use Rattle.f77_grammar.specs.program.Blocks.{IsTreeOf}
 use Rattle.f77_tree_laws.proofs.Begun.{made_in, block_is_made, block_of_made}
 use Rattle.f77_tree_laws.proofs.Sound.{well_nested}
 use Rattle.f77_tree_laws.proofs.Formed.{text_formed}
@@ -51,11 +53,16 @@ pub trees_are_one : TreesAreOne
 trees_are_one d text p h =
     (is_tree d text p, λ e. subst (λ (q : Program). IsTreeOf d text q) (sym e) (some_tree d text h))
 
-pub read_is_tree : ReadIsTree
-read_is_tree d text p = (reads, formed)
-  where
-    reads : ReadsStatements d text p → (findings d text ≡ []) × IsTreeOf d text p
-    reads h = (h.sound, (trees_are_one d text p (well_nested d text h.sound)).1 h.formed)
+-- ---- the program that is read
 
-    formed : (findings d text ≡ []) × IsTreeOf d text p → ReadsStatements d text p
-    formed h = record { sound = h.0; formed = is_tree d text p h.1 }
+pub read_tree : (d : Dialect) (text : List Labelled) (p : Program) → ReadsStatements d text p → p ≡ tree_of d text
+read_tree d text p h = is_tree d text p h.formed
+
+pub tree_is_read : (d : Dialect) (text : List Labelled) (p : Program) → findings d text ≡ [] → p ≡ tree_of d text → ReadsStatements d text p
+tree_is_read d text p sound e = record { sound = sound; formed = (trees_are_one d text p (well_nested d text sound)).2 e }
+
+pub one_read : (d : Dialect) (text : List Labelled) (p q : Program) → ReadsStatements d text p → ReadsStatements d text q → p ≡ q
+one_read d text p q h k = one_tree d text p q h.formed k.formed
+
+pub read_is_computed : ReadIsComputed
+read_is_computed d text p = (λ h. (h.sound, read_tree d text p h), λ h. tree_is_read d text p h.0 h.1)

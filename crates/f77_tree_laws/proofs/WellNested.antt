@@ -15,8 +15,8 @@ use Rattle.f77_grammar.specs.program.Nesting.{since_if, since_do, is_loop_open, 
 use Rattle.f77_grammar.specs.program.Nesting.{is_no_loop_end, ends_loops_wrongly, stays_open, nests_wrongly}
 use Rattle.f77_grammar.specs.program.Nesting.{is_nested_wrongly}
 use Rattle.f77_grammar.specs.program.Uses.{Use}
-use Rattle.f77_grammar.specs.program.Tree.{rest_from}
-use Rattle.f77_tree_laws.specs.Blocks.{IsRange, AreBlock}
+use Rattle.f77_tree_laws.specs.Steps.{rest_from}
+use Rattle.f77_grammar.specs.program.Blocks.{IsRange, AreBlock}
 use Rattle.f77_tree_laws.specs.Laws.{IsWellNested, StandOnce, NestedFormBlock}
 use Rattle.f77_tree_laws.proofs.Lists.{right_false, both_false, or_right, not_both}
 use Rattle.f77_tree_laws.proofs.Moves.{label_free}

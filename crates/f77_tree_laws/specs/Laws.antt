@@ -1,5 +1,5 @@
--- The tree of a program as a relation between its statements and the program, and what holds of it.
-use Rattle.std.specs.Prelude.{◌≡◌, ◌↔◌, ℕ, false, List, [], map}
+-- What holds of the relation between statements and the tree that they form.
+use Rattle.std.specs.Prelude.{◌≡◌, ◌↔◌, ℕ, false, List, []}
 use Rattle.std.specs.List.{AllByRecursion}
 use Rattle.fv_tree.specs.Plain as tree
 use Rattle.fv_tree.specs.Plain.{Program}
@@ -7,23 +7,12 @@ use Rattle.fv_meaning.specs.Dialect.{Dialect}
 use Rattle.fv_meaning.specs.Store.{Store}
 use Rattle.f77_grammar.specs.Statement77.{Labelled}
 use Rattle.f77_grammar.specs.program.Text.{Place, places}
-use Rattle.f77_grammar.specs.program.Uses.{Use, uses_in_text, is_title, names_that}
+use Rattle.f77_grammar.specs.program.Uses.{Use}
 use Rattle.f77_grammar.specs.program.Labels.{is_wrong_label}
 use Rattle.f77_grammar.specs.program.Nesting.{is_nested_wrongly}
-use Rattle.f77_grammar.specs.program.Limits.{constants_of}
-use Rattle.f77_grammar.specs.program.Tree.{targets, variables_of, declaration_of, first_of_names, tree_of}
+use Rattle.f77_tree_laws.specs.Steps.{tree_of}
 use Rattle.f77_grammar.specs.program.Program77.{findings, ReadsStatements}
-use Rattle.f77_tree_laws.specs.Blocks.{AreBlock}
-
--- The program has the name that PROGRAM gives, declares its variables in byte order, and its body is the block that
--- the statements form
-pub record IsTreeOf (d : Dialect) (text : List Labelled) (p : Program) : Type 0 where
-  pub name : p.name ≡ first_of_names (names_that is_title (uses_in_text text))
-  pub declarations : p.declarations
-      ≡ map (declaration_of d (uses_in_text text) (constants_of d text) text) (variables_of (uses_in_text text))
-  pub body : List tree.Statement
-  pub formed : AreBlock (uses_in_text text) (constants_of d text) (targets text) text body
-  pub is_body : p.body ≡ tree.block body
+use Rattle.f77_grammar.specs.program.Blocks.{AreBlock, IsTreeOf}
 
 -- the label of a statement isn't 0 and stands on no statement before it, and what is opened is closed there
 pub record IsWellNested (p : Place) : Type 0 where
@@ -60,7 +49,7 @@ abbrev pub TreesAreOne : Type 0
 TreesAreOne = (d : Dialect) (text : List Labelled) (p : Program) → AreWellNested text
     → IsTreeOf d text p ↔ p ≡ tree_of d text
 
--- and the program that is read is the tree of a text without findings
-abbrev pub ReadIsTree : Type 0
-ReadIsTree = (d : Dialect) (text : List Labelled) (p : Program)
-    → ReadsStatements d text p ↔ (findings d text ≡ []) × IsTreeOf d text p
+-- so the program that is read is the one computed of a text without findings
+abbrev pub ReadIsComputed : Type 0
+ReadIsComputed = (d : Dialect) (text : List Labelled) (p : Program)
+    → ReadsStatements d text p ↔ (findings d text ≡ []) × (p ≡ tree_of d text)

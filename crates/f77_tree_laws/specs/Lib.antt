@@ -1,3 +1,3 @@
-pub mod Blocks
+pub mod Steps
 pub mod Laws
 pub mod Pairs

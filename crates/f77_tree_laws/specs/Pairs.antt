@@ -12,7 +12,7 @@ use Rattle.f77_grammar.specs.Statement77.{Labelled}
 use Rattle.f77_grammar.specs.program.Text.{is_block_if, is_end_if, unended}
 use Rattle.f77_grammar.specs.program.Nesting.{has_open_if, has_end_if, since_if}
 use Rattle.f77_grammar.specs.program.Uses.{Use}
-use Rattle.f77_tree_laws.specs.Blocks.{AreBlock, AreArms}
+use Rattle.f77_grammar.specs.program.Blocks.{AreBlock, AreArms}
 
 -- statements of which each block IF has its END IF among them, and each END IF its block IF
 pub data ArePaired : List Labelled → Type 0 where

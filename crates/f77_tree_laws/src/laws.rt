@@ -1,19 +1,25 @@
 //! Laws of the tree that statements form. A law is a function without a body: its contract is what holds.
-ghost use Rattle.f77_tree_laws.specs.Laws.{NestedFormBlock, OneBlock, OneTree, ReadIsTree, SomeTree};
+ghost use Rattle.std.specs.Prelude.{◌≡◌, ◌⊎◌, List};
+ghost use Rattle.fv_tree.specs.Plain.{Program};
+ghost use Rattle.fv_tree.specs.declared.refusals.Refusal.{Refusal};
+ghost use Rattle.fv_meaning.specs.Dialect.{Dialect};
+ghost use Rattle.f77_grammar.specs.Statement77.{Labelled};
+ghost use Rattle.f77_grammar.specs.program.Program77.{ReadsStatements, RefusedStatements};
+ghost use Rattle.f77_tree_laws.specs.Laws.{NestedFormBlock, OneBlock, OneTree, ReadIsComputed, SomeTree};
 ghost use Rattle.f77_tree_laws.specs.Laws.{TreesAreOne};
 ghost use Rattle.f77_tree_laws.specs.Pairs.{BlocksArePaired, EndIfIsPartner, OneEnd, OneIf, OpenIfIsPartner};
 ghost use Rattle.f77_tree_laws.specs.Pairs.{SinceIsBetween, UnendedStandOutside};
 
 /// Statements form at most one block; where each label stands once they form one exactly where none is nested wrongly,
 /// and it is the body of the tree that is computed of them from the last one back. So the program that is read is the
-/// one tree of its statements.
+/// one that is computed.
 pub fn statements_form_one_tree()
     ensures one_block { OneBlock }
     ensures nested { NestedFormBlock }
     ensures one_tree { OneTree }
     ensures some_tree { SomeTree }
     ensures same { TreesAreOne }
-    ensures read { ReadIsTree }
+    ensures read { ReadIsComputed }
 {}
 
 /// An END IF ends a block IF where all between them are paired. A block IF has its END IF, and an END IF its block IF,
@@ -27,4 +33,16 @@ pub fn each_block_if_has_one_end_if()
     ensures since { SinceIsBetween }
     ensures unended { UnendedStandOutside }
     ensures in_blocks { BlocksArePaired }
+{}
+
+/// The statements of a text are read as a program or refused, never both, and in one way alone.
+pub fn text_is_read_or_refused()
+    ensures either { (d : Dialect) (text : List Labelled)
+        → ((p : Program) × ReadsStatements d text p) ⊎ ((r : Refusal) × RefusedStatements d text r) }
+    ensures not_both { (d : Dialect) (text : List Labelled) (p : Program) (r : Refusal)
+        → ReadsStatements d text p → RefusedStatements d text r → ⊥ }
+    ensures one_program { (d : Dialect) (text : List Labelled) (p q : Program)
+        → ReadsStatements d text p → ReadsStatements d text q → p ≡ q }
+    ensures one_refusal { (d : Dialect) (text : List Labelled) (r s : Refusal)
+        → RefusedStatements d text r → RefusedStatements d text s → r ≡ s }
 {}

@@ -3,4 +3,4 @@
 
 mod laws;
 
-pub use laws::{each_block_if_has_one_end_if, statements_form_one_tree};
+pub use laws::{each_block_if_has_one_end_if, statements_form_one_tree, text_is_read_or_refused};

@@ -13,9 +13,11 @@ use Rattle.f77_grammar.specs.Reading77.{AreReadFrom}
 use Rattle.f77_grammar.specs.Statement77.{Labelled, Statement77, If, ElseIf, Else, EndIf, Do}
 use Rattle.f77_grammar.specs.program.Limits.{constants_of}
 use Rattle.f77_grammar.specs.program.Text.{is_label}
-use Rattle.f77_grammar.specs.program.Tree.{Rest, Outermost, InArm, resolved, simple, mark_of, targets, rest_from}
-use Rattle.f77_grammar.specs.program.Tree.{loop_begun, begun, outermost_block, Piece, block_of, up_to, beyond, preceded}
-use Rattle.f77_grammar.specs.program.Tree.{loop_in}
+use Rattle.f77_grammar.specs.program.Tree.{resolved, simple, mark_of, targets}
+use Rattle.f77_tree_laws.proofs.Trees.{read_tree}
+use Rattle.f77_tree_laws.specs.Steps.{Rest, Outermost, InArm, rest_from}
+use Rattle.f77_tree_laws.specs.Steps.{loop_begun, begun, outermost_block, Piece, block_of, up_to, beyond, preceded}
+use Rattle.f77_tree_laws.specs.Steps.{loop_in}
 use Rattle.f77_grammar.specs.program.Uses.{Use, uses_in_text}
 use Rattle.fv_meaning.specs.Dialect.{fortran77}
 use Rattle.fv_meaning.specs.Store.{Store}
@@ -232,7 +234,7 @@ source_is_short source p h =
     let s = constants_of fortran77 text in
     let rest = rest_from us s (targets text) text in
     let same : count_block p.body ≡ count_block (outermost_block rest) =
-    ap (λ (q : tree'.Program). count_block q.body) h.program.reads.formed in
+    ap (λ (q : tree'.Program). count_block q.body) (read_tree fortran77 text p h.program.reads) in
     let whole = outermost_count rest in
     let all = rest_count us s (targets text) text in
     let read = cards_count h.cards text h.program.statements in

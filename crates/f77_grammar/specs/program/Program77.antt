@@ -23,7 +23,7 @@ use Rattle.f77_grammar.specs.program.Jumps.{has_wrong_jump}
 use Rattle.f77_grammar.specs.program.DoVariables.{has_wrong_do_variable}
 use Rattle.f77_grammar.specs.program.Limits.{constants_of, has_many_names, has_many_blocks, has_reversed_bounds}
 use Rattle.f77_grammar.specs.program.Limits.{has_many_elements, has_bad_constant}
-use Rattle.f77_grammar.specs.program.Tree.{tree_of}
+use Rattle.f77_grammar.specs.program.Blocks.{IsTreeOf}
 
 -- ---- the causes of a program's statements
 
@@ -69,4 +69,4 @@ RefusedStatements d text = IsAnswered (Contains (findings d text))
 -- the program is the tree that the statements form, in which nothing is wrong
 pub record ReadsStatements (d : Dialect) (text : List Labelled) (p : tree.Program) : Type 0 where
   pub sound : findings d text ≡ []
-  pub formed : p ≡ tree_of d text
+  pub formed : IsTreeOf d text p

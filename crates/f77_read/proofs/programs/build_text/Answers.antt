@@ -1,5 +1,8 @@
 use Rattle.std.proofs.lemmas.Result.{err_from_is_err_and}
+use Rattle.fv_tree.specs.View.{program_of}
+use Rattle.fv_meaning.specs.Dialect.{fortran77}
 use Rattle.f77_syntax.specs.Views.{text_of}
+use Rattle.f77_tree_laws.proofs.Trees.{tree_is_read}
 use Rattle.f77_read.proofs.TextLaws.{check_refused, no_bad_constant}
 use Rattle.f77_read.proofs.programs.build_text.Goals as goal
 
@@ -11,4 +14,4 @@ returns-in_err-check-clause-built c =
 pub returns-clause-built : goal.returns-clause-built
 returns-clause-built c =
     let sound = c.in_ok-check.ensures.ok in
-    record { sound = sound; formed = c.in_ok-tree.ensures.tree (no_bad_constant (text_of c.args.text.now) sound) }
+    tree_is_read fortran77 (text_of c.args.text.now) (program_of c.in_ok-tree.field-0) sound (c.in_ok-tree.ensures.tree (no_bad_constant (text_of c.args.text.now) sound))

@@ -1,5 +1,5 @@
 use Rattle.std.proofs.Common.{◌≡◌, ◌+◌, ◌-◌, drop, ap, ◌∙◌, arith}
-use Rattle.f77_grammar.specs.program.Tree as tree
+use Rattle.f77_tree_laws.specs.Steps as steps
 use Rattle.f77_tree.specs.Parts.{known_uses, known_store}
 use Rattle.f77_syntax.specs.Views.{text_of}
 use Rattle.f77_tree.specs.Rests.{rest_of}
@@ -15,6 +15,6 @@ loop-i-preserved c =
     record {
       within = omega arith;
       rest = rest_more us s named c.args.text.now (c.loop-i.i - 1) c.index-text-i.result (rest_of c.loop-i.rest) (rest_of c.in_ok-rest.rest) (omega arith) c.index-text-i.is
-          (c.loop-i.invariant.rest ∙ ap (λ j. tree.rest_from us s named (drop j (text_of c.args.text.now))) back)
+          (c.loop-i.invariant.rest ∙ ap (λ j. steps.rest_from us s named (drop j (text_of c.args.text.now))) back)
           c.in_ok-rest.ensures;
     }

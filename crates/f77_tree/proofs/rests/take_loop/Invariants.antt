@@ -1,13 +1,13 @@
 use Rattle.std.proofs.Common.{◌≡◌, ◌++◌, map}
 use Rattle.fv_tree.specs.View.{statement_of}
-use Rattle.f77_grammar.specs.program.Tree as tree
+use Rattle.f77_tree_laws.specs.Steps as steps
 use Rattle.f77_tree.specs.Rests.{pieces_in, made_by}
 use Rattle.f77_tree.proofs.rests.take_loop.Given as goal
 
 abbrev pub invariant-pieces : goal.invariant-pieces
 invariant-pieces l = record {
-  body : made_by (tree.up_to l.label (pieces_in l.initial.pieces.items)) ≡ map statement_of l.stmts.items ++ made_by (tree.up_to l.label (pieces_in l.pieces.items));
-  rest : tree.beyond l.label (pieces_in l.initial.pieces.items) ≡ tree.beyond l.label (pieces_in l.pieces.items);
+  body : made_by (steps.up_to l.label (pieces_in l.initial.pieces.items)) ≡ map statement_of l.stmts.items ++ made_by (steps.up_to l.label (pieces_in l.pieces.items));
+  rest : steps.beyond l.label (pieces_in l.initial.pieces.items) ≡ steps.beyond l.label (pieces_in l.pieces.items);
 }
 
 abbrev pub decreases-pieces : goal.decreases-pieces

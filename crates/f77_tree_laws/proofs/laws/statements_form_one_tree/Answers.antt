@@ -15,7 +15,7 @@ pub returns-clause-same : goal.returns-clause-same
 returns-clause-same c = trees.trees_are_one
 
 pub returns-clause-read : goal.returns-clause-read
-returns-clause-read c = trees.read_is_tree
+returns-clause-read c = trees.read_is_computed
 
 pub returns-clause-nested : goal.returns-clause-nested
 returns-clause-nested c = nested.nested_form_block

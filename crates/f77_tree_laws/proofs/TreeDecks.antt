@@ -10,7 +10,7 @@ use Rattle.fv_meaning.specs.Dialect.{fortran77}
 use Rattle.f77_grammar.specs.Statement77.{Labelled, Declare, Constants, Assign, Go, Test, If, ElseIf, Else, EndIf, Do, Continue, Stop, Read, Print, End}
 use Rattle.f77_grammar.specs.Statement77 as text
 use Rattle.f77_grammar.specs.program.Program77.{findings}
-use Rattle.f77_grammar.specs.program.Tree.{tree_of}
+use Rattle.f77_tree_laws.specs.Steps.{tree_of}
 use Rattle.fv_meaning.proofs.DeckWords.{n, v, at, to, to_element}
 use Rattle.f77_grammar.proofs.programs.Words.{s, l, scalar, array, constant}
 

@@ -1,19 +1,20 @@
 -- A text with findings has a first one, and a text without any is read as the tree that its statements form.
-use Rattle.std.proofs.Common.{◌≡◌, ◌⊎◌, inl, inr, List, [], refl, sym, ◌∙◌, Contains}
+use Rattle.std.proofs.Common.{◌≡◌, ◌⊎◌, inl, inr, List, [], refl, Contains}
 use Rattle.fv_tree.specs.Plain.{Program}
 use Rattle.fv_tree.specs.declared.refusals.Refusal.{Refusal}
 use Rattle.fv_meaning.specs.Dialect.{Dialect}
 use Rattle.f77_grammar.specs.Answered.{IsAnswered}
 use Rattle.f77_grammar.specs.Statement77.{Labelled}
 use Rattle.f77_grammar.specs.program.Program77.{ReadsStatements, RefusedStatements, findings}
-use Rattle.f77_grammar.specs.program.Tree.{tree_of}
+use Rattle.f77_tree_laws.specs.Steps.{tree_of}
 use Rattle.f77_grammar.proofs.Answered.{one_answer}
 use Rattle.f77_grammar.proofs.programs.Least.{none_or_first, none_is_not_first}
-use Rattle.f77_grammar.proofs.program.text_is_read_or_refused.Goals as goal
+use Rattle.f77_tree_laws.proofs.Trees.{tree_is_read, one_read}
+use Rattle.f77_tree_laws.proofs.laws.text_is_read_or_refused.Goals as goal
 
 either : (d : Dialect) (text : List Labelled) → (findings d text ≡ []) ⊎ ((r : Refusal) × IsAnswered (Contains (findings d text)) r)
     → ((p : Program) × ReadsStatements d text p) ⊎ ((r : Refusal) × RefusedStatements d text r)
-either d text (inl e) = inl (tree_of d text, record { sound = e; formed = refl })
+either d text (inl e) = inl (tree_of d text, tree_is_read d text (tree_of d text) e refl)
 either d text (inr f) = inr f
 
 pub returns-clause-either : goal.returns-clause-either
@@ -23,7 +24,7 @@ pub returns-clause-not_both : goal.returns-clause-not_both
 returns-clause-not_both c = λ d text p r reads refused. none_is_not_first (findings d text) r reads.sound refused
 
 pub returns-clause-one_program : goal.returns-clause-one_program
-returns-clause-one_program c = λ d text p q a b. a.formed ∙ sym b.formed
+returns-clause-one_program c = one_read
 
 pub returns-clause-one_refusal : goal.returns-clause-one_refusal
 returns-clause-one_refusal c = λ d text r s a b. one_answer (Contains (findings d text)) r s a b

@@ -1,17 +1,20 @@
--- Which statements, one after another, form which block (ANSI X3.9-1978, sections 11.5 to 11.10).
+-- Which statements, one after another, form which block (ANSI X3.9-1978, sections 11.5 to 11.10), and which program.
 --
 --        DO 10 I = 1, N       Do I             a block of one DO loop, whose range is the next DO with its own
 --        DO 10 J = 1, I         Do J           range: both end with the statement that bears 10
 --     10 A(I,J) = 0               A(I,J) = 0   a block of one statement; no Label 10, where no GO TO names it
-use Rattle.std.specs.Prelude.{◌≡◌, ℕ, Bool, true, false, List, [], ◌∷◌, ◌++◌}
+use Rattle.std.specs.Prelude.{◌≡◌, ℕ, Bool, true, false, List, [], ◌∷◌, ◌++◌, map}
 use Rattle.fv_tree.specs.Plain as tree
-use Rattle.fv_tree.specs.Plain.{Expression}
+use Rattle.fv_tree.specs.Plain.{Expression, Program}
+use Rattle.fv_meaning.specs.Dialect.{Dialect}
 use Rattle.fv_meaning.specs.Store.{Store}
 use Rattle.f77_grammar.specs.Statement77.{Labelled, Statement77, If, ElseIf, Else, EndIf, Do}
 use Rattle.f77_grammar.specs.program.Text.{bears}
 use Rattle.f77_grammar.specs.program.Nesting.{is_no_loop_end}
-use Rattle.f77_grammar.specs.program.Uses.{Use}
-use Rattle.f77_grammar.specs.program.Tree.{resolved, simple, mark_of}
+use Rattle.f77_grammar.specs.program.Uses.{Use, uses_in_text, is_title, names_that}
+use Rattle.f77_grammar.specs.program.Limits.{constants_of}
+use Rattle.f77_grammar.specs.program.Tree.{resolved, simple, mark_of, targets, variables_of, declaration_of}
+use Rattle.f77_grammar.specs.program.Tree.{first_of_names}
 
 -- neither a line of a block IF nor a DO
 abbrev pub stands_alone : Statement77 → Bool
@@ -64,3 +67,13 @@ module _ (us : List Use) (s : Store) (named : List ℕ) where
           (arms : tree.Arms) (other : tree.Block)
           → x.statement ≡ ElseIf c → AreBlock next body → AreArms later arms other
           → AreArms (x ∷ (next ++ later)) (tree.arm (resolved us s c) (tree.block body) arms) other
+
+-- The program has the name that PROGRAM gives, declares its variables in byte order, and its body is the block that
+-- the statements form
+pub record IsTreeOf (d : Dialect) (text : List Labelled) (p : Program) : Type 0 where
+  pub name : p.name ≡ first_of_names (names_that is_title (uses_in_text text))
+  pub declarations : p.declarations
+      ≡ map (declaration_of d (uses_in_text text) (constants_of d text) text) (variables_of (uses_in_text text))
+  pub body : List tree.Statement
+  pub formed : AreBlock (uses_in_text text) (constants_of d text) (targets text) text body
+  pub is_body : p.body ≡ tree.block body
