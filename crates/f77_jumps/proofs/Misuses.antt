@@ -21,7 +21,8 @@ use Rattle.fv_tree.specs.declared.stmts.Item.TheVariants as variants
 use Rattle.fv_tree.proofs.Equations.{expression_of-int, expression_of-truth, expression_of-item, expression_of-un, expression_of-bin, expression_of-call, reference_of-is, item_of-one, item_of-text, item_of-turns}
 use Rattle.fv_tree.proofs.Equations.{expression_of-list, expression_of-spread, expression_of-transpose, expression_of-reshape, expression_of-reduce}
 use Rattle.fv_tree.specs.declared.ops.Kind.{Kind}
-use Rattle.f77_grammar.specs.statements.Items.{Direction, Output, Input}
+use Rattle.f77_grammar.specs.declared.directions.Direction.{Direction}
+use Rattle.f77_grammar.specs.declared.directions.Direction.TheVariants.{Output, Input}
 use Rattle.f77_syntax.specs.declared.statements.Entity.{Entity}
 use Rattle.f77_syntax.specs.declared.statements.Stmt77.{Stmt77}
 use Rattle.f77_syntax.specs.declared.statements.Stmt77.TheVariants as stmts

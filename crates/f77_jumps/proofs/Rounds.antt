@@ -12,7 +12,8 @@ use Rattle.f77_grammar.specs.program.Text.{action, stands_in, ends_in, loop_ends
 use Rattle.fv_meaning.specs.Names.{is_among}
 use Rattle.f77_grammar.specs.program.Kinds.{same_kind}
 use Rattle.f77_grammar.specs.program.Uses.{Role, Title, Typed, Bounded, Defined, Valued, Target, Counter, Use, uses_in_text, stands, is_typed, is_bounded, is_defined, is_bare, type_of, type_in, or_integer}
-use Rattle.f77_grammar.specs.statements.Items.{Direction, Output, Input}
+use Rattle.f77_grammar.specs.declared.directions.Direction.{Direction}
+use Rattle.f77_grammar.specs.declared.directions.Direction.TheVariants.{Output, Input}
 use Rattle.f77_grammar.specs.program.DoVariables.{loop_variable, loop_variables, sets_one_of, reads_one_of, is_integer_scalar, is_wrong_variable, value_sets_one_of, misuses_in_item, misuses_in_items, misuses_variable, has_wrong_do_variable}
 use Rattle.f77_syntax.specs.declared.statements.Labelled.{Labelled as Labelled'}
 use Rattle.f77_syntax.specs.Views.{labelled_of, text_of, statement_of}

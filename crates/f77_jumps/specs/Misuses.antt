@@ -5,7 +5,8 @@ use Rattle.fv_tree.specs.Plain.{Expression, Named, Subscripts, no_subscripts, su
 use Rattle.fv_tree.specs.Plain.{ImpliedDo, Items, no_items, item}
 use Rattle.fv_tree.specs.declared.ops.Kind.TheVariants.{Integer}
 use Rattle.f77_grammar.specs.Statement77.{Statement77, Assign, Do, Read, Print}
-use Rattle.f77_grammar.specs.statements.Items.{Direction, Output, Input}
+use Rattle.f77_grammar.specs.declared.directions.Direction.{Direction}
+use Rattle.f77_grammar.specs.declared.directions.Direction.TheVariants.{Output, Input}
 use Rattle.fv_meaning.specs.Names.{is_among}
 use Rattle.f77_grammar.specs.program.Kinds.{same_kind}
 use Rattle.f77_grammar.specs.program.Uses.{or_integer}

@@ -10,7 +10,8 @@ use Rattle.fv_tree.specs.Plain.{Expression, Number, Logic, Named, Unary, Binary,
 use Rattle.fv_meaning.specs.Store.{Store}
 use Rattle.fv_meaning.specs.Typed77.{number_of_subscripts, declared, HasKind, IsWhole, IsDoVariable, IsDeclared, IsOutput, IsInput, IsOutputItem, AreOutputItems, IsInputItem, AreInputItems}
 use Rattle.fv_meaning.specs.Profile77.{IsBlock, Surroundings}
-use Rattle.f77_grammar.specs.statements.Items.{Direction, Output, Input}
+use Rattle.f77_grammar.specs.declared.directions.Direction.{Direction}
+use Rattle.f77_grammar.specs.declared.directions.Direction.TheVariants.{Output, Input}
 use Rattle.f77_grammar.specs.Statement77.{Statement77, Program, Declare, Dimension, Constants, Assign, Go, Test, If, ElseIf, Else, EndIf, Do, Continue, Stop, Read, Print, End}
 use Rattle.f77_grammar.specs.expressions.Printing.{IsSource}
 use Rattle.f77_grammar.specs.program.Text.{action, is_declaration}

@@ -19,7 +19,8 @@ use Rattle.fv_tree.specs.declared.stmts.Item.TheVariants as variants
 use Rattle.fv_tree.proofs.Equations.{expression_of-int, expression_of-truth, expression_of-item, expression_of-un, expression_of-bin, expression_of-call, reference_of-is, item_of-one, item_of-text, item_of-turns}
 use Rattle.fv_tree.proofs.Equations.{expression_of-list, expression_of-spread, expression_of-transpose, expression_of-reshape, expression_of-reduce}
 use Rattle.f77_grammar.specs.program.Uses.{Use, is_array}
-use Rattle.f77_grammar.specs.statements.Items.{Direction, takes_text}
+use Rattle.f77_grammar.specs.statements.Items.{takes_text}
+use Rattle.f77_grammar.specs.declared.directions.Direction.{Direction}
 use Rattle.f77_grammar.specs.program.Kinds.{has_some_kind, are_numbers, are_subscripts, suits_output, suits_input, suits_value, suits_item, suits_items}
 
 -- a reference as an expression

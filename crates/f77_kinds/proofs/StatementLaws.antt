@@ -17,7 +17,7 @@ use Rattle.fv_tree.specs.declared.stmts.Item.{Item}
 use Rattle.fv_tree.proofs.Equations.{reference_of-is}
 use Rattle.f77_grammar.specs.Statement77 as plain
 use Rattle.f77_grammar.specs.program.Uses.{Use, uses_of, uses_in_text, is_array, kind_of_name}
-use Rattle.f77_grammar.specs.statements.Items.{Input, Output}
+use Rattle.f77_grammar.specs.declared.directions.Direction.TheVariants.{Input, Output}
 use Rattle.f77_grammar.specs.program.Kinds.{has_kind, are_integer_bounds, are_subscripts, is_stored_into, are_numbers, has_integer_bounds, suits_items, suits, calls_hidden, has_unsuited_kind}
 use Rattle.f77_syntax.specs.declared.statements.Entity.{Entity}
 use Rattle.f77_syntax.specs.declared.statements.Stmt77.{Stmt77}

@@ -7,7 +7,8 @@ use Rattle.fv_tree.specs.declared.ops.Kind.{Kind}
 use Rattle.fv_tree.specs.declared.ops.Kind.TheVariants.{Integer, Logical}
 use Rattle.fv_tree.specs.Plain.{Expression, Number, Logic, Named, Unary, Binary, Apply, Subscript, Subscripts, no_subscripts, subscript, Item, Single, Constant, ImpliedDo, Items, no_items, item, Declaration, block}
 use Rattle.fv_meaning.specs.Store.{Store}
-use Rattle.f77_grammar.specs.statements.Items.{Direction, Output, Input}
+use Rattle.f77_grammar.specs.declared.directions.Direction.{Direction}
+use Rattle.f77_grammar.specs.declared.directions.Direction.TheVariants.{Output, Input}
 use Rattle.f77_grammar.specs.Statement77.{Statement77, Program, Declare, Dimension, Constants, Assign, Go, Test, If, ElseIf, Else, EndIf, Do, Continue, Stop, Read, Print, End}
 use Rattle.f77_grammar.specs.expressions.Printing.{IsSource}
 use Rattle.fv_meaning.specs.Names.{is_among}

@@ -14,7 +14,8 @@ use Rattle.fv_tree.specs.Functions.{function_named, name_of_function}
 use Rattle.fv_tree.specs.OperatorTable.{operand_kind, result_kind_of, is_unary}
 use Rattle.fv_meaning.specs.Typed77.{number_of_subscripts}
 use Rattle.fv_meaning.specs.Calls.{calls_in, calls_in_each, calls_in_subscripts, calls_in_subscript, calls_in_item, calls_in_items, calls_in_statement, calls_in_arms, calls_in_block}
-use Rattle.f77_grammar.specs.statements.Items.{Direction, Output, Input}
+use Rattle.f77_grammar.specs.declared.directions.Direction.{Direction}
+use Rattle.f77_grammar.specs.declared.directions.Direction.TheVariants.{Output, Input}
 use Rattle.f77_grammar.specs.expressions.Printing.{IsSource, IsSourceSubscript, AreSource}
 use Rattle.f77_grammar.specs.Statement77.{Labelled, Statement77, Program, Declare, Dimension, Constants, Assign, Go, Test, If, ElseIf, Else, EndIf, Do, Continue, Stop, Read, Print, End}
 use Rattle.f77_grammar.specs.program.Uses.{Use, uses_in, uses_in_subscripts, uses_in_subscript, uses_in_item, uses_in_items, input_uses, value_uses, control_uses, uses_of, is_array, is_function, is_constant, kind_of_name}

@@ -8,7 +8,8 @@ use Rattle.f77_grammar.specs.expressions.Phrases.{Phrase, IsExpression, written,
 use Rattle.f77_grammar.specs.expressions.Spelling.{Words, chars}
 use Rattle.f77_grammar.specs.expressions.Squeezing.{Symbol}
 use Rattle.f77_grammar.specs.statements.Controls.{written_control}
-use Rattle.f77_grammar.specs.statements.Items.{IsReference, written_items, Input, Output}
+use Rattle.f77_grammar.specs.statements.Items.{IsReference, written_items}
+use Rattle.f77_grammar.specs.declared.directions.Direction.TheVariants.{Input, Output}
 use Rattle.f77_grammar.specs.statements.Forms.{Form, Program, Declare, Dimension, Constants, Assign, Go, Test, If, ElseIf, Else, EndIf, Do, Continue, Stop, Read, ReadNothing, Print, PrintNothing, End, IsEntity, IsBounded, Definition, IsDefinition, IsInner, IsFollowed, IsWritten, separated, keyword_of, written_entity, entity_tree, entity_depth, written_definition, definition_tree, definition_depth, optional_comma, reference_in, statement_of, form_depth}
 use Rattle.f77_laws.specs.Source.{IsShallow, IsSourceEntity, IsSourceConstant, IsSourceAction, IsSourceStatement}
 use Rattle.f77_laws.proofs.Lists.{all_left, all_right}

@@ -8,7 +8,9 @@ use Rattle.f77_grammar.specs.expressions.Printing.{IsSource}
 use Rattle.fv_meaning.specs.Depths.{depth_of, depth_of_item, depth_of_items}
 use Rattle.fv_meaning.specs.Typed77.{has_item, IsText}
 use Rattle.f77_grammar.specs.statements.Controls.{Control, IsStep, written_step, written_control, step_tree, step_depth}
-use Rattle.f77_grammar.specs.statements.Items.{ItemPhrase, ItemPhrases, Value, Text, Loop, Sole, More, Direction, Input, Output, IsReference, MayStand, takes_text, IsItem, AreItems, written_item, written_items, item_tree, item_trees, item_depth, items_depth}
+use Rattle.f77_grammar.specs.statements.Items.{ItemPhrase, ItemPhrases, Value, Text, Loop, Sole, More, IsReference, MayStand, takes_text, IsItem, AreItems, written_item, written_items, item_tree, item_trees, item_depth, items_depth}
+use Rattle.f77_grammar.specs.declared.directions.Direction.{Direction}
+use Rattle.f77_grammar.specs.declared.directions.Direction.TheVariants.{Input, Output}
 use Rattle.f77_laws.specs.Source.{IsSourceVariable, IsSourceValue, IsSourceText, IsSourceItem, AreSourceItems}
 use Rattle.f77_laws.proofs.SourceExpressions.{within}
 use Rattle.f77_laws.proofs.SymbolicNames.{symbolic_name}

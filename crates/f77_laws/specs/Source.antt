@@ -4,7 +4,8 @@ use Rattle.std.specs.Prelude.{ℕ, ◌<◌, ◌≤◌, IsTrue, IfSome, List, [],
 use Rattle.std.specs.List.{AllByRecursion}
 use Rattle.fv_tree.specs.Limits.{expression_depth77, array_dimensions}
 use Rattle.fv_tree.specs.Plain.{Expression, Named, Item, Single, Constant, ImpliedDo, Items, no_items, item}
-use Rattle.f77_grammar.specs.statements.Items.{Direction, Output, Input}
+use Rattle.f77_grammar.specs.declared.directions.Direction.{Direction}
+use Rattle.f77_grammar.specs.declared.directions.Direction.TheVariants.{Output, Input}
 use Rattle.f77_grammar.specs.Statement77.{Entity, NamedConstant, Statement77, Labelled, Program, Declare, Dimension}
 use Rattle.f77_grammar.specs.Statement77.{Constants, Assign, Go, Test, If, ElseIf, Else, EndIf, Do, Continue, Stop}
 use Rattle.f77_grammar.specs.Statement77.{Read, Print, End}

@@ -2,7 +2,8 @@
 use Rattle.std.proofs.Common.{◌≡◌, List, [], ◌∷◌, ap, sym, ◌∙◌, subst, Result, Ok, Err}
 use Rattle.std.specs.Prelude.{IfOk}
 use Rattle.f77_grammar.specs.expressions.Words.{Word}
-use Rattle.f77_grammar.specs.statements.Items.{Direction, ItemPhrases, AreItems, written_items}
+use Rattle.f77_grammar.specs.statements.Items.{ItemPhrases, AreItems, written_items}
+use Rattle.f77_grammar.specs.declared.directions.Direction.{Direction}
 use Rattle.f77_expr.specs.declared.tokens.Stop.{Stop}
 use Rattle.f77_expr.specs.declared.tokens.Stop.TheVariants.{Syntax, Memory}
 use Rattle.f77_lists.specs.declared.lists.ItemList.{ItemList}

@@ -10,7 +10,8 @@ use Rattle.f77_grammar.specs.expressions.Phrases.{Phrase, Literal, WideLiteral, 
 use Rattle.f77_grammar.specs.expressions.Words as words
 use Rattle.f77_grammar.specs.expressions.Words.{Word}
 use Rattle.f77_grammar.specs.statements.Controls.{Control, written_step, written_control}
-use Rattle.f77_grammar.specs.statements.Items.{ItemPhrase, ItemPhrases, Value, Text, Loop, Sole, More, Direction, IsReference, written_item, written_items}
+use Rattle.f77_grammar.specs.statements.Items.{ItemPhrase, ItemPhrases, Value, Text, Loop, Sole, More, IsReference, written_item, written_items}
+use Rattle.f77_grammar.specs.declared.directions.Direction.{Direction}
 use Rattle.f77_expr.specs.Reader as expressions
 use Rattle.f77_lists.specs.Reader.{Frame, holds_comma, opens, simple, value, begins_control}
 use Rattle.f77_expr.specs.TokenFronts.{begins_with_name}

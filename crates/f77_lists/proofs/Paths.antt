@@ -1,7 +1,7 @@
 -- Steps that lead from a state to another.
 use Rattle.std.proofs.Common.{◌≡◌, List, [], ◌∷◌, refl, sym, ◌∙◌, subst}
 use Rattle.f77_grammar.specs.expressions.Words.{Word}
-use Rattle.f77_grammar.specs.statements.Items.{Direction}
+use Rattle.f77_grammar.specs.declared.directions.Direction.{Direction}
 use Rattle.f77_lists.specs.Reader.{Frame, State, Wants, Step, Go, Stop, Fail, none, step, start, Path, here, onward, Reaches}
 
 pub joined : (d : Direction) (s t u : State) → Path d s t → Path d t u → Path d s u

@@ -7,7 +7,9 @@ use Rattle.f77_grammar.specs.expressions.Phrases.{Phrase, IsExpression, written}
 use Rattle.f77_grammar.specs.expressions.Words as words
 use Rattle.f77_grammar.specs.expressions.Words.{Word}
 use Rattle.f77_grammar.specs.statements.Controls.{Control, IsStep, IsControl, written_step, written_bounds, written_control}
-use Rattle.f77_grammar.specs.statements.Items.{ItemPhrase, ItemPhrases, Value, Text, Loop, Sole, More, Direction, Output, Input, MayStand, IsItem, AreItems, written_item, written_items, item_tree}
+use Rattle.f77_grammar.specs.statements.Items.{ItemPhrase, ItemPhrases, Value, Text, Loop, Sole, More, MayStand, IsItem, AreItems, written_item, written_items, item_tree}
+use Rattle.f77_grammar.specs.declared.directions.Direction.{Direction}
+use Rattle.f77_grammar.specs.declared.directions.Direction.TheVariants.{Output, Input}
 use Rattle.f77_expr.specs.Reader as expressions
 use Rattle.f77_expr.specs.Reader.{Operand, Read, deeper}
 use Rattle.f77_expr.proofs.Complete.{operand_of}

@@ -5,7 +5,8 @@ use Rattle.std.specs.Prelude.{Some, None, if◌then◌else◌}
 use Rattle.fv_tree.specs.Plain.{Expression, Number, Item, Single, Constant, ImpliedDo, items}
 use Rattle.f77_grammar.specs.expressions.Words as words
 use Rattle.f77_grammar.specs.expressions.Words.{Word}
-use Rattle.f77_grammar.specs.statements.Items.{Direction, Output, Input}
+use Rattle.f77_grammar.specs.declared.directions.Direction.{Direction}
+use Rattle.f77_grammar.specs.declared.directions.Direction.TheVariants.{Output, Input}
 use Rattle.f77_expr.specs.TokenFronts.{begins_with_name}
 use Rattle.f77_expr.specs.Reader as expressions
 use Rattle.f77_expr.specs.Reader.{Operand, Read, deeper}

@@ -4,7 +4,8 @@ use Rattle.fv_tree.specs.View.{expression_of, item_of}
 use Rattle.f77_grammar.specs.expressions.Phrases.{tree}
 use Rattle.f77_grammar.specs.expressions.Words.{Word}
 use Rattle.f77_grammar.specs.statements.Controls.{Control, IsControl, written_control, step_tree, control_depth}
-use Rattle.f77_grammar.specs.statements.Items.{Direction, ItemPhrases, AreItems, written_items, item_trees, items_depth}
+use Rattle.f77_grammar.specs.statements.Items.{ItemPhrases, AreItems, written_items, item_trees, items_depth}
+use Rattle.f77_grammar.specs.declared.directions.Direction.{Direction}
 use Rattle.f77_expr.specs.declared.tokens.Stop.{Stop}
 use Rattle.f77_expr.specs.declared.tokens.Stop.TheVariants.{Syntax, Memory}
 use Rattle.f77_expr.specs.Reader.{capped}

@@ -6,7 +6,7 @@ use Rattle.fv_tree.specs.View.{expression_of, item_of}
 use Rattle.fv_tree.specs.declared.exprs.Expr.{Expr}
 use Rattle.f77_grammar.specs.expressions.Words as words
 use Rattle.f77_grammar.specs.expressions.Words.{Word}
-use Rattle.f77_grammar.specs.statements.Items.{Direction}
+use Rattle.f77_grammar.specs.declared.directions.Direction.{Direction}
 use Rattle.f77_expr.specs.Views.{words_of}
 use Rattle.f77_expr.specs.declared.tokens.Stop.{Stop}
 use Rattle.f77_expr.specs.declared.tokens.Stop.TheVariants.{Syntax, Memory}

@@ -1,6 +1,7 @@
 //! Lists by themselves.
 ghost use Rattle.std.specs.Prelude.{◌≡◌, IfOk};
-ghost use Rattle.f77_grammar.specs.statements.Items.{ItemPhrases, AreItems, written_items, Output, Input};
+ghost use Rattle.f77_grammar.specs.statements.Items.{ItemPhrases, AreItems, written_items};
+ghost use Rattle.f77_grammar.specs.declared.directions.Direction.TheVariants.{Output, Input};
 ghost use Rattle.f77_expr.specs.Views.{words_of};
 ghost use Rattle.f77_lists.specs.Reading as reading;
 ghost use Rattle.f77_lists.specs.Reading.{Gives};

@@ -13,7 +13,7 @@ use Rattle.fv_tree.specs.declared.lists.Seq.{Seq}
 use Rattle.fv_tree.specs.declared.exprs.Expr.{Expr}
 use Rattle.fv_tree.specs.declared.exprs.Ref.{Ref}
 use Rattle.fv_tree.specs.declared.stmts.Item.{Item}
-use Rattle.f77_grammar.specs.statements.Items.{Input, Output}
+use Rattle.f77_grammar.specs.declared.directions.Direction.TheVariants.{Input, Output}
 use Rattle.f77_grammar.specs.program.Uses as plain
 use Rattle.f77_syntax.specs.declared.statements.Entity.{Entity}
 use Rattle.f77_syntax.specs.declared.statements.Stmt77.{Stmt77}

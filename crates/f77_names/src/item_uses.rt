@@ -58,7 +58,7 @@ impl Uses {
     }
 
     // An item that is an expression.
-    fn add_value(&mut self, direction: Direction, expr: &Expr) -> Result<(), Memory>
+    fn add_single(&mut self, direction: Direction, expr: &Expr) -> Result<(), Memory>
         ensures { OnOk result (listed self.new ≡ listed self.old
             ++ plain.value_uses direction (expression_of expr.now)) }
     {
@@ -74,7 +74,7 @@ impl Uses {
         ensures { OnOk result (listed self.new ≡ listed self.old ++ plain.uses_in_item direction (item_of item.now)) }
     {
         match item {
-            Item::One(expr) => self.add_value(direction, expr),
+            Item::One(expr) => self.add_single(direction, expr),
             Item::Text(_) => Ok(()),
             Item::Turns(list, variable, first, last, step) => {
                 self.add_items(direction, list)?;

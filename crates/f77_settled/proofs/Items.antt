@@ -6,7 +6,9 @@ use Rattle.fv_tree.specs.Plain.{Expression, Item, Single, Constant, ImpliedDo, i
 use Rattle.f77_grammar.specs.expressions.Words as words
 use Rattle.f77_grammar.specs.expressions.Words.{Word}
 use Rattle.f77_grammar.specs.expressions.Phrases.{written}
-use Rattle.f77_grammar.specs.statements.Items.{Direction, Output, Input, ItemPhrases, AreItems, written_items, item_trees, items_depth}
+use Rattle.f77_grammar.specs.statements.Items.{ItemPhrases, AreItems, written_items, item_trees, items_depth}
+use Rattle.f77_grammar.specs.declared.directions.Direction.{Direction}
+use Rattle.f77_grammar.specs.declared.directions.Direction.TheVariants.{Output, Input}
 use Rattle.f77_expr.specs.Reader as expressions
 use Rattle.f77_expr.specs.Reader.{Operand, Read, capped, deeper}
 use Rattle.f77_expr.proofs.Sound.{read_is}

@@ -15,7 +15,9 @@ use Rattle.f77_grammar.specs.expressions.Squeezing.{Symbol, Char}
 use Rattle.f77_grammar.specs.expressions.Words as words
 use Rattle.f77_grammar.specs.expressions.Words.{Word}
 use Rattle.f77_grammar.specs.statements.Controls.{Control, written_control}
-use Rattle.f77_grammar.specs.statements.Items.{Direction, Input, Output, ItemPhrases, AreItems, written_items, item_trees}
+use Rattle.f77_grammar.specs.statements.Items.{ItemPhrases, AreItems, written_items, item_trees}
+use Rattle.f77_grammar.specs.declared.directions.Direction.{Direction}
+use Rattle.f77_grammar.specs.declared.directions.Direction.TheVariants.{Input, Output}
 use Rattle.f77_grammar.specs.statements.Forms as forms
 use Rattle.f77_grammar.specs.statements.Forms.{Form, IsWritten, IsInner, IsLabel, IsEntity, IsBounded, written_entity, entity_tree, entity_depth, IsDefinition, written_definition, definition_tree, definition_depth, separated, IsList, statement_of, form_depth, form_words, has_wide_literal, reference_in, optional_comma}
 use Rattle.f77_grammar.specs.statements.Recognition.{Halves, cut_at_close, has_equals_outside, BeginsWithLetter, IsConditional}

@@ -17,7 +17,8 @@ use Rattle.f77_grammar.specs.expressions.Spelling.{Words, value, chars}
 use Rattle.f77_grammar.specs.expressions.Squeezing.{Symbol, Char}
 use Rattle.f77_grammar.specs.expressions.Words.{Word}
 use Rattle.f77_grammar.specs.statements.Items as items
-use Rattle.f77_grammar.specs.statements.Items.{ItemPhrases, Input, Output, written_items}
+use Rattle.f77_grammar.specs.statements.Items.{ItemPhrases, written_items}
+use Rattle.f77_grammar.specs.declared.directions.Direction.TheVariants.{Input, Output}
 use Rattle.f77_grammar.specs.statements.Forms as forms
 use Rattle.f77_grammar.specs.statements.Forms.{Form, IsLabel, statement_of, form_words, form_depth}
 use Rattle.f77_grammar.specs.statements.Recognition.{Halves, Bracket, Opening, Closing, Neither, bracket_in, bracket_of, with_symbol, cut_by, cut_from, cut_at_close}

@@ -6,7 +6,8 @@ use Rattle.fv_tree.specs.declared.ops.Kind.{Kind}
 use Rattle.fv_tree.specs.declared.ops.Kind.TheVariants as kinds
 use Rattle.f77_grammar.specs.expressions.Spelling.{chars}
 use Rattle.f77_grammar.specs.expressions.Squeezing.{Symbol, Char}
-use Rattle.f77_grammar.specs.statements.Items.{ItemPhrases, Input, Output, AreItems, written_items}
+use Rattle.f77_grammar.specs.statements.Items.{ItemPhrases, AreItems, written_items}
+use Rattle.f77_grammar.specs.declared.directions.Direction.TheVariants.{Input, Output}
 use Rattle.f77_grammar.specs.statements.Forms as forms
 use Rattle.f77_grammar.specs.statements.Forms.{Form, IsWritten, IsFollowed, keyword_of, Entity, IsEntity, IsList, separated, written_entity}
 use Rattle.f77_expr.specs.Lexing.{strip}

@@ -6,7 +6,8 @@ use Rattle.f77_grammar.specs.expressions.Phrases.{Phrase, IsExpression, written}
 use Rattle.f77_grammar.specs.expressions.Spelling.{Words, chars}
 use Rattle.f77_grammar.specs.expressions.Squeezing.{Symbol}
 use Rattle.f77_grammar.specs.expressions.Words as words
-use Rattle.f77_grammar.specs.statements.Items.{ItemPhrases, Input, Output, AreItems, written_items}
+use Rattle.f77_grammar.specs.statements.Items.{ItemPhrases, AreItems, written_items}
+use Rattle.f77_grammar.specs.declared.directions.Direction.TheVariants.{Input, Output}
 use Rattle.f77_grammar.specs.statements.Forms as forms
 use Rattle.f77_grammar.specs.statements.Forms.{Form, IsLabel, Entity, IsEntity, IsBounded, written_entity, Definition}
 use Rattle.f77_grammar.specs.statements.Forms.{IsDefinition, written_definition, separated, IsList}

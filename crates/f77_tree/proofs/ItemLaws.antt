@@ -16,7 +16,7 @@ use Rattle.fv_tree.specs.declared.stmts.Item.{Item}
 use Rattle.fv_tree.specs.declared.stmts.Item.TheVariants as variants
 use Rattle.fv_tree.proofs.Equations.{expression_of-int, expression_of-truth, expression_of-item, expression_of-un, expression_of-bin, expression_of-call, item_of-one, item_of-text, item_of-turns, expression_of-list, expression_of-spread, expression_of-transpose, expression_of-reshape, expression_of-reduce}
 use Rattle.fv_meaning.specs.Store.{Store}
-use Rattle.f77_grammar.specs.statements.Items.{Direction}
+use Rattle.f77_grammar.specs.declared.directions.Direction.{Direction}
 use Rattle.f77_grammar.specs.program.Uses.{Use}
 use Rattle.f77_grammar.specs.program.Tree as tree
 

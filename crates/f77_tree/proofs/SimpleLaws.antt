@@ -17,7 +17,7 @@ use Rattle.fv_tree.specs.declared.stmts.Block.{Block, roll-Block}
 use Rattle.fv_tree.proofs.Equations.{statement_of-assign as tree-assign, statement_of-if as tree-if, statement_of-go as tree-go, statement_of-stop as tree-stop, statement_of-read as tree-read, statement_of-print as tree-print, tested_of-made, block_of-made}
 use Rattle.fv_meaning.specs.Store.{Store}
 use Rattle.f77_grammar.specs.program.Uses.{Use}
-use Rattle.f77_grammar.specs.statements.Items.{Input, Output}
+use Rattle.f77_grammar.specs.declared.directions.Direction.TheVariants.{Input, Output}
 use Rattle.f77_grammar.specs.program.Tree as tree
 use Rattle.f77_syntax.specs.declared.statements.Entity.{Entity}
 use Rattle.f77_syntax.specs.declared.statements.Stmt77.{Stmt77}

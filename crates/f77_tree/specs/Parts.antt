@@ -9,7 +9,7 @@ use Rattle.fv_tree.specs.declared.exprs.Sub.{Sub}
 use Rattle.fv_tree.specs.declared.stmts.Item.{Item}
 use Rattle.fv_meaning.specs.Store.{Store}
 use Rattle.f77_grammar.specs.program.Uses.{Use}
-use Rattle.f77_grammar.specs.statements.Items.{Direction}
+use Rattle.f77_grammar.specs.declared.directions.Direction.{Direction}
 use Rattle.f77_grammar.specs.program.Tree as tree
 use Rattle.f77_constants.specs.Constants.{store_of}
 use Rattle.f77_names.specs.UsesView.{listed}

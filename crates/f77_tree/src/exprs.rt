@@ -73,7 +73,7 @@ impl Resolver<'_> {
         match expr {
             Expr::Int(number) => Ok(Expr::Int(*number)),
             Expr::Truth(truth) => Ok(Expr::Truth(*truth)),
-            Expr::Item(item) => self.resolve_item(alloc, item),
+            Expr::Item(item) => self.resolve_named(alloc, item),
             Expr::Un(op, a) => Ok(Expr::Un(*op, self.resolve_box(alloc, a)?)),
             Expr::Bin(op, a, b) => Ok(Expr::Bin(
                 *op,
@@ -111,7 +111,7 @@ impl Resolver<'_> {
     // A scalar, a symbolic constant, an element or a call.
     #[cycle(resolve)]
     #[tactic(auto, using(crate::proofs::ResolvedLaws::item_laws))]
-    fn resolve_item(&self, alloc: Global, item: &Ref) -> Result<Expr, Memory>
+    fn resolve_named(&self, alloc: Global, item: &Ref) -> Result<Expr, Memory>
         ensures { IfOk result (λ resolved. expression_of resolved ≡ resolved_by self.now (exprs.Item item.now)) }
     {
         if item.subs.is_empty() {

@@ -59,7 +59,7 @@ pub read_tree : (d : Dialect) (text : List Labelled) (p : Program) → ReadsStat
 read_tree d text p h = is_tree d text p h.formed
 
 pub tree_is_read : (d : Dialect) (text : List Labelled) (p : Program) → findings d text ≡ [] → p ≡ tree_of d text → ReadsStatements d text p
-tree_is_read d text p sound e = record { sound = sound; formed = (trees_are_one d text p (well_nested d text sound)).2 e }
+tree_is_read d text p sound e = record { sound = sound; formed = (trees_are_one d text p (well_nested d text sound)).1 e }
 
 pub one_read : (d : Dialect) (text : List Labelled) (p q : Program) → ReadsStatements d text p → ReadsStatements d text q → p ≡ q
 one_read d text p q h k = one_tree d text p q h.formed k.formed

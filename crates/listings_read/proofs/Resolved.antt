@@ -2,7 +2,7 @@
 use Rattle.std.proofs.Common.{ℕ, suc, ◌≤◌, Bool, true, false, Option, Some, None, List, [], ◌++◌, length, arith}
 use Rattle.std.specs.Prelude.{pos, negsuc}
 use Rattle.f77_grammar.specs.Statement77.{Statement77, Assign, Test, Read, Print}
-use Rattle.f77_grammar.specs.statements.Items.{Output, Input}
+use Rattle.f77_grammar.specs.declared.directions.Direction.TheVariants.{Output, Input}
 use Rattle.f77_grammar.specs.program.Tree.{argument_of, arguments_of, call_of, element_or_call, value_or_name, literal}
 use Rattle.f77_grammar.specs.program.Tree.{named, simple, resolved_reference, resolved_input, resolved_item}
 use Rattle.f77_grammar.specs.program.Tree.{resolved, resolved_arguments, resolved_subscripts, resolved_subscript}

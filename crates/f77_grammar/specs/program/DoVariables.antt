@@ -8,7 +8,8 @@ use Rattle.fv_tree.specs.Plain.{ImpliedDo, Items, no_items, item}
 use Rattle.fv_tree.specs.declared.ops.Kind.TheVariants.{Integer}
 use Rattle.f77_grammar.specs.Statement77.{Labelled, Statement77, Assign, Do, Read, Print}
 use Rattle.fv_meaning.specs.Names.{is_among}
-use Rattle.f77_grammar.specs.statements.Items.{Direction, Output, Input}
+use Rattle.f77_grammar.specs.declared.directions.Direction.{Direction}
+use Rattle.f77_grammar.specs.declared.directions.Direction.TheVariants.{Output, Input}
 use Rattle.f77_grammar.specs.program.Text.{Place, action, open_loops}
 use Rattle.f77_grammar.specs.program.Uses.{Use, is_variable, is_array, kind_of_name}
 use Rattle.f77_grammar.specs.program.Kinds.{same_kind}

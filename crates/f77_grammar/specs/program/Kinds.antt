@@ -12,7 +12,9 @@ use Rattle.fv_tree.specs.declared.functions.Fun.{Fun}
 use Rattle.f77_grammar.specs.Statement77.{Entity, NamedConstant, Statement77, Program, Declare, Dimension, Constants}
 use Rattle.f77_grammar.specs.Statement77.{Assign, Go, Test, If, ElseIf, Else, EndIf, Do, Continue, Stop, Read, Print}
 use Rattle.f77_grammar.specs.Statement77.{End}
-use Rattle.f77_grammar.specs.statements.Items.{Direction, Output, Input, takes_text}
+use Rattle.f77_grammar.specs.statements.Items.{takes_text}
+use Rattle.f77_grammar.specs.declared.directions.Direction.{Direction}
+use Rattle.f77_grammar.specs.declared.directions.Direction.TheVariants.{Output, Input}
 use Rattle.fv_tree.specs.Functions.{function_named, name_of_function, suits_number}
 use Rattle.fv_meaning.specs.Typed77.{number_of_arguments, number_of_subscripts}
 use Rattle.fv_tree.specs.OperatorTable.{operand_kind, result_kind_of, is_unary}

@@ -20,7 +20,8 @@ use Rattle.fv_meaning.specs.Dialect.{Dialect}
 use Rattle.fv_meaning.specs.Store.{Store}
 use Rattle.f77_grammar.specs.Statement77.{Labelled, Statement77, Assign, Go, Test, If, ElseIf, Else, EndIf, Do, Stop}
 use Rattle.f77_grammar.specs.Statement77.{Read, Print}
-use Rattle.f77_grammar.specs.statements.Items.{Direction, Output, Input}
+use Rattle.f77_grammar.specs.declared.directions.Direction.{Direction}
+use Rattle.f77_grammar.specs.declared.directions.Direction.TheVariants.{Output, Input}
 use Rattle.fv_tree.specs.Functions.{function_named}
 use Rattle.f77_grammar.specs.program.Text.{action, is_label}
 use Rattle.f77_grammar.specs.program.Uses.{Use, uses_in_text, is_title, names_that, is_variable, is_constant, is_array}

@@ -12,7 +12,8 @@ use Rattle.fv_tree.specs.declared.ops.Kind.TheVariants.{Integer}
 use Rattle.f77_grammar.specs.Statement77.{Entity, NamedConstant, Labelled, Statement77, Program, Declare, Dimension}
 use Rattle.f77_grammar.specs.Statement77.{Constants, Assign, Go, Test, If, ElseIf, Else, EndIf, Do, Continue, Stop}
 use Rattle.f77_grammar.specs.Statement77.{Read, Print, End}
-use Rattle.f77_grammar.specs.statements.Items.{Direction, Output, Input}
+use Rattle.f77_grammar.specs.declared.directions.Direction.{Direction}
+use Rattle.f77_grammar.specs.declared.directions.Direction.TheVariants.{Output, Input}
 use Rattle.fv_tree.specs.Functions.{function_named}
 use Rattle.fv_meaning.specs.Typed77.{number_of_subscripts}
 

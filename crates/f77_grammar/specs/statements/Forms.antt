@@ -15,7 +15,8 @@ use Rattle.f77_grammar.specs.expressions.Squeezing.{Symbol}
 use Rattle.f77_grammar.specs.expressions.Words as words
 use Rattle.f77_grammar.specs.expressions.Words.{Word}
 use Rattle.f77_grammar.specs.statements.Controls.{Control, IsControl, written_control, step_tree, control_depth}
-use Rattle.f77_grammar.specs.statements.Items.{ItemPhrases, Input, Output, AreItems, IsReference, written_items}
+use Rattle.f77_grammar.specs.statements.Items.{ItemPhrases, AreItems, IsReference, written_items}
+use Rattle.f77_grammar.specs.declared.directions.Direction.TheVariants.{Input, Output}
 use Rattle.f77_grammar.specs.statements.Items.{item_trees, items_depth}
 
 -- ---- lists with commas

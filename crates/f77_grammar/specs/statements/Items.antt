@@ -3,8 +3,8 @@ use Rattle.std.specs.Prelude.{ℕ, ◌+◌, ◌<◌, max, Bool, true, false, IsT
 use Rattle.std.specs.List.{list_any}
 use Rattle.fv_tree.specs.Limits.{expression_depth77}
 use Rattle.fv_tree.specs.Plain.{Item, Single, Constant, ImpliedDo, items}
-pub use Rattle.f77_grammar.specs.declared.directions.Direction.{Direction}
-pub use Rattle.f77_grammar.specs.declared.directions.Direction.TheVariants.{Output, Input}
+use Rattle.f77_grammar.specs.declared.directions.Direction.{Direction}
+use Rattle.f77_grammar.specs.declared.directions.Direction.TheVariants.{Output, Input}
 use Rattle.f77_grammar.specs.expressions.Phrases.{Phrase, Literal, WideLiteral, Truth, Name, Listed, Paren, Signed}
 use Rattle.f77_grammar.specs.expressions.Phrases.{Joined, IsExpression, written, tree, depth}
 use Rattle.f77_grammar.specs.expressions.Reading.{is_wide}
