@@ -2,7 +2,7 @@
 //! are scalars and elements of arrays.
 #![tactic(auto)]
 
-mod forms;
+mod conjunctions;
 mod numbers;
 mod ready;
 mod references;

@@ -4,7 +4,7 @@ ghost use Rattle.nest_tree.specs.View.{nest_of};
 ghost use Rattle.nest_graph.specs.Ready.{IsReady, IsReadyStatement};
 ghost use Rattle.statement_loops.specs.Standings.{standing_of};
 
-use crate::forms::{all_true, both_true};
+use crate::conjunctions::{all_true, both_true};
 use crate::numbers::{are_distinct, numbers_of};
 use crate::references::{all_elements, all_references, have_ranks};
 use crate::trips::have_trips;

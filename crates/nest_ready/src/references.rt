@@ -7,7 +7,7 @@ ghost use Rattle.nest_graph.specs.References.{references_of};
 ghost use Rattle.nest_ready.specs.Gathered.{HaveSameRank, all_references};
 ghost use Rattle.statement_loops.specs.Standings.{standing_of};
 
-use crate::forms::both_true;
+use crate::conjunctions::both_true;
 use fv_tree::{Memory, Ref, Seq, Sub};
 use nest_references::references_of;
 use nest_tree::copy_ref;

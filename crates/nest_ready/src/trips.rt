@@ -3,14 +3,14 @@ ghost use Rattle.std.specs.Prelude.{◌≤◌, ◌+◌, ◌↔◌, IsTrue, lengt
 ghost use Rattle.nest_tree.specs.View.{loop_of};
 ghost use Rattle.nest_graph.specs.Ready.{HasTrip, HaveTrips, IsTripIn};
 
-use crate::forms::{both_true, is_form};
+use crate::conjunctions::both_true;
 use nest_tree::{Loop, Trip};
 
 // A form under so many loops, and a divisor that is at least 1.
 fn is_trip_in(depth: u8, trip: &Trip) -> bool
     ensures { IsTrue result ↔ IsTripIn depth trip.now }
 {
-    both_true(trip.by >= 1, is_form(usize::from(depth), &trip.top))
+    both_true(trip.by >= 1, trip.top.is_form(usize::from(depth)))
 }
 
 fn has_trip(depth: u8, turns: &Loop) -> bool

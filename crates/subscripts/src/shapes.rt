@@ -42,7 +42,7 @@ fn are_zero_from(numbers: &[i64], depth: usize) -> bool
 
 // Each symbol is above the one before.
 fn are_rising(symbols: &[(u16, i64)]) -> bool
-    ensures { IsTrue result → IsStrictlyIncreasing (map (λ t. t.0) symbols.now) }
+    ensures { IsTrue result ↔ IsStrictlyIncreasing (map (λ t. t.0) symbols.now) }
 {
     for place in 1..symbols.len() {
         if symbols[place - 1].0 >= symbols[place].0 {
@@ -50,23 +50,6 @@ fn are_rising(symbols: &[(u16, i64)]) -> bool
         }
     }
     true
-}
-
-// Symbols in rising order with coefficients other than 0, and then unused places.
-fn are_symbols(symbols: &[(u16, i64)]) -> bool
-    ensures { IsTrue result → (used : ℕ) × AreSymbols used symbols.now }
-{
-    let mut used = 0;
-    while used < symbols.len() && symbols[used].1 != 0 {
-        used += 1;
-    }
-    are_rising(&symbols[..used]) && are_used(&symbols[..used]) && are_unused(&symbols[used..])
-}
-
-fn are_used(symbols: &[(u16, i64)]) -> bool
-    ensures { IsTrue result ↔ All (λ t. t.1 ≢ pos 0) symbols.now }
-{
-    symbols.iter().all(|(_, times)| *times != 0)
 }
 
 fn are_unused(symbols: &[(u16, i64)]) -> bool
@@ -77,10 +60,33 @@ fn are_unused(symbols: &[(u16, i64)]) -> bool
         .all(|(symbol, times)| *symbol == 0 && *times == 0)
 }
 
+// How many places stand before the first coefficient 0.
+fn used_places(symbols: &[(u16, i64)]) -> usize
+    ensures within { result ≤ length symbols.now }
+    ensures used { (k : ℕ) → k < result → (slice_index_or symbols.now k (0, pos 0)).1 ≢ pos 0 }
+    ensures ended { result < length symbols.now → (slice_index_or symbols.now result (0, pos 0)).1 ≡ pos 0 }
+{
+    for (place, symbol) in symbols.iter().enumerate() {
+        if symbol.1 == 0 {
+            return place;
+        }
+    }
+    symbols.len()
+}
+
+// Symbols in rising order with coefficients other than 0, and then unused places.
+fn are_symbols(symbols: &[(u16, i64)]) -> bool
+    ensures { IsTrue result ↔ ((used : ℕ) × AreSymbols used symbols.now) }
+{
+    let used = used_places(symbols);
+    are_rising(&symbols[..used]) && are_unused(&symbols[used..])
+}
+
 impl Affine {
-    // A form under so many loops.
-    fn is_form(&self, depth: usize) -> bool
-        ensures { IsTrue result → IsForm depth self.now }
+    /// Whether it is a form under so many loops: coefficients past them are 0, symbols with coefficients other than 0
+    /// stand first and in rising order, and no number is larger than 2^40 in size.
+    pub fn is_form(&self, depth: usize) -> bool
+        ensures { IsTrue result ↔ IsForm depth self.now }
     {
         are_small(&self.loops)
             && are_small_symbols(&self.syms)

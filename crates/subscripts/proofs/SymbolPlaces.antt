@@ -1,9 +1,10 @@
 -- The symbols of a form: a symbol in each place that is used, in rising order.
-use Rattle.std.proofs.Common.{◌≡◌, ◌≢◌, ◌⊎◌, ◌↔◌, ℕ, ◌+◌, ◌-◌, ◌<◌, ◌≤◌, Bool, true, List, length, map, take, drop, get_or, inl, inr, sym, ap, subst, ◌∙◌, arith}
+use Rattle.std.proofs.Common.{◌≡◌, ◌≢◌, ◌⊎◌, ℕ, ◌+◌, ◌-◌, ◌<◌, ◌≤◌, List, length, map, take, drop, get_or, inl, inr, sym, ap, subst, ◌∙◌, arith}
 use Rattle.std.specs.Prelude.{All, ℤ, pos, slice_index}
 use Rattle.std.specs.List.Sorted.{IsStrictlyIncreasing}
 use Rattle.std.proofs.lemmas.Bool.{cases_lt}
 use Rattle.std.proofs.lemmas.List.{drop_all, get_or-drop, get_or-map, get_or-take, length-drop, length-map, length-take-le, take_all}
+use Rattle.std.proofs.lemmas.List.Elements.{All-from_get_or}
 use Rattle.subscripts.specs.Shapes.{AreSymbols}
 
 pub rises : (ts : List (ℕ × ℤ)) (n : ℕ) → length ts ≤ n → ((k : ℕ) → k + 1 < n → (get_or ts k (0, pos 0)).0 < (get_or ts (k + 1) (0, pos 0)).0)
@@ -67,10 +68,19 @@ either_side ts i u m n z h (inr l) = up_to ts i u l m z h (cases_lt i (length ts
 rest_is : (ts : List (ℕ × ℤ)) (i : ℕ) → take (length ts - i) (drop i ts) ≡ drop i ts
 rest_is ts i = take_all (length ts - i) (drop i ts) (let e = length-drop i ts in omega arith)
 
-pub symbols_iff : (ts : List (ℕ × ℤ)) (i : ℕ) (r n u b : Bool) → i ≤ length ts → ((k : ℕ) → k < i → (get_or ts k (0, pos 0)).1 ≢ pos 0)
-    → (i < length ts → (get_or ts i (0, pos 0)).1 ≡ pos 0) → (r ≡ true ↔ IsStrictlyIncreasing (map (λ t. t.0) (take i ts))) → (n ≡ true ↔ All (λ t. t.1 ≢ pos 0) (take i ts))
-    → (u ≡ true ↔ All (λ t. (t.0 ≡ 0) × (t.1 ≡ pos 0)) (take (length ts - i) (drop i ts))) → (b ≡ true ↔ (r ≡ true) × (n ≡ true) × (u ≡ true)) → b ≡ true ↔ ((used : ℕ) × AreSymbols used ts)
-symbols_iff ts i r n u b m f z p q s all = (
-  λ t. let h = all.0 t in (i, record { rising = p.0 h.0; nonzero = q.0 h.1; unused = subst (λ (xs : List (ℕ × ℤ)). All (λ t. (t.0 ≡ 0) × (t.1 ≡ pos 0)) xs) (rest_is ts i) (s.0 h.2) }),
-  λ h. let a = either_side ts i h.0 m f z h.1 (cases_lt h.0 i) in all.1 (p.1 a.rising, q.1 a.nonzero, s.1 (subst (λ (xs : List (ℕ × ℤ)). All (λ t. (t.0 ≡ 0) × (t.1 ≡ pos 0)) xs) (sym (rest_is ts i)) a.unused)),
-)
+used_are : (ts : List (ℕ × ℤ)) (i : ℕ) → i ≤ length ts → ((k : ℕ) → k < i → (get_or ts k (0, pos 0)).1 ≢ pos 0) → All (λ t. t.1 ≢ pos 0) (take i ts)
+used_are ts i m f =
+    All-from_get_or (λ t. t.1 ≢ pos 0) (take i ts) (0, pos 0)
+    (λ k l z. let e = length-take-le i ts m in let h : k < i = omega arith in f k h (sym (ap (λ (t : ℕ × ℤ). t.1) (get_or-take i ts k (0, pos 0) h)) ∙ z))
+
+-- with the places that are used those before the first coefficient 0
+pub symbols_are : (ts : List (ℕ × ℤ)) (i : ℕ) → i ≤ length ts → ((k : ℕ) → k < i → (get_or ts k (0, pos 0)).1 ≢ pos 0) → IsStrictlyIncreasing (map (λ t. t.0) (take i ts))
+    → All (λ t. (t.0 ≡ 0) × (t.1 ≡ pos 0)) (take (length ts - i) (drop i ts)) → (used : ℕ) × AreSymbols used ts
+symbols_are ts i m f p q =
+    (i, record { rising = p; nonzero = used_are ts i m f; unused = subst (λ (xs : List (ℕ × ℤ)). All (λ t. (t.0 ≡ 0) × (t.1 ≡ pos 0)) xs) (rest_is ts i) q })
+
+pub only_symbols : (ts : List (ℕ × ℤ)) (i : ℕ) → i ≤ length ts → ((k : ℕ) → k < i → (get_or ts k (0, pos 0)).1 ≢ pos 0) → (i < length ts → (get_or ts i (0, pos 0)).1 ≡ pos 0)
+    → ((used : ℕ) × AreSymbols used ts) → IsStrictlyIncreasing (map (λ t. t.0) (take i ts)) × All (λ t. (t.0 ≡ 0) × (t.1 ≡ pos 0)) (take (length ts - i) (drop i ts))
+only_symbols ts i m f z h =
+    let a = either_side ts i h.0 m f z h.1 (cases_lt h.0 i) in
+    (a.rising, subst (λ (xs : List (ℕ × ℤ)). All (λ t. (t.0 ≡ 0) × (t.1 ≡ pos 0)) xs) (sym (rest_is ts i)) a.unused)
