@@ -1,13 +1,13 @@
 -- The only part of a body, and nests with other bodies.
-use Rattle.std.proofs.Common.{◌≡◌, ◌<◌, ◌≤◌, Option, Some, None, List, [], ◌∷◌, ◌++◌, ◌+◌, map, length, refl, ap, ◌∙◌, arith, sym, length-append}
+use Rattle.std.proofs.Common.{◌≡◌, ◌<◌, ◌≤◌, Option, Some, None, Result, Ok, Err, IfOk, List, [], ◌∷◌, ◌++◌, ◌+◌, map, length, refl, ap, ◌∙◌, arith, sym, length-append}
 use Rattle.fv_tree.specs.Plain as F
-use Rattle.fv_tree.specs.View.{block_of}
-use Rattle.fv_tree.specs.declared.stmts.Block.{Block}
+use Rattle.fv_tree.specs.declared.lists.Memory.{Memory}
 use Rattle.nest_tree.specs.Blocks.{block_then}
 use Rattle.nest_tree.specs.Plain as P
 use Rattle.nest_tree.specs.View.{nest_of, part_of}
 use Rattle.nest_tree.specs.declared.nests.Nest.{Nest}
 use Rattle.nest_tree.specs.declared.parts.Part.{Part}
+use Rattle.nest_rewrite.specs.Assembled.{with_parts}
 use Rattle.loop_normal.specs.Normalised.{only_one, with_body}
 
 pub one-many : (ps : List Part) → 1 < length ps → only_one (map part_of ps) ≡ None
@@ -25,3 +25,14 @@ last-one (y ∷ xs) ps x e h =
     absurd (omega (arith, count, h))
 
 pub ruleset one_laws = (one-many, one-none, last-one)
+
+-- ---- another body, and more behind what comes after
+
+same_made : (n : P.Nest) (p : P.Part) (more : F.Block) → with_parts n p n.made (block_then n.after more) ≡ with_body n more p
+unfolding with_parts with_body
+same_made n p more = refl
+
+pub with_other_body : (n : P.Nest) (p : P.Part) (as' : List P.Made) (more after : F.Block) (r : Result Nest Memory) → as' ≡ n.made → after ≡ block_then n.after more
+    → IfOk r (λ new. nest_of new ≡ with_parts n p as' after) → IfOk r (λ new. nest_of new ≡ with_body n more p)
+with_other_body n p as' more after (Err e) arrays behind h = h
+with_other_body n p as' more after (Ok new) arrays behind h = h ∙ ((λ i. with_parts n p (arrays i) (behind i)) ∙ same_made n p more)

@@ -9,9 +9,10 @@ ghost use Rattle.loop_normal.specs.Normalised.{normalised, only_one, with_body, 
 
 use crate::bodies::add_part;
 use crate::loops::{is_normal, nested_loops};
-use fv_tree::{Block, Memory, Name, Seq};
+use fv_tree::{Block, Memory, Seq};
 use last_values::{NestedLoop, values_behind};
-use nest_tree::{Made, Nest, Part, copy_decls};
+use nest_rewrite::with_parts;
+use nest_tree::{Made, Nest, Part};
 use std::alloc::Global;
 
 // A block and another one behind it.
@@ -43,33 +44,13 @@ fn copy_made(alloc: Global, made: &Seq<Made>) -> Result<Seq<Made>, Memory>
     Ok(copies)
 }
 
-fn copy_names(alloc: Global, names: &Seq<Name>) -> Result<Seq<Name>, Memory>
-    ensures { IfOk result (λ copies. copies ≡ names.now) }
-{
-    Ok(Seq::from_vec(Vec::from_slice(alloc, names.as_slice())?))
-}
-
 // The nest with another body, and more behind what comes after it.
-#[tactic(auto, unfolding(crate::specs::Normalised::with_body))]
 fn with_body(alloc: Global, nest: &Nest, more: Block, body: Part) -> Result<Nest, Memory>
     ensures { IfOk result (λ new. nest_of new ≡ with_body (nest_of nest.now) (block_of more) (part_of body)) }
 {
-    let decls = copy_decls(&nest.decls, alloc)?;
-    let symbols = copy_names(alloc, &nest.symbols)?;
     let made = copy_made(alloc, &nest.made)?;
     let after = block_then(alloc, &nest.after, more)?;
-    Ok(Nest {
-        number: nest.number,
-        line: nest.line,
-        title: nest.title,
-        body,
-        decls,
-        symbols,
-        made,
-        after,
-        masks: nest.masks,
-        copies: nest.copies,
-    })
+    with_parts(alloc, nest, body, made, after)
 }
 
 // The part where there is just one.

@@ -50,9 +50,9 @@ fn copy_names(alloc: Global, names: &Seq<Name>) -> Result<Seq<Name>, Memory>
     Ok(Seq::from_vec(Vec::from_slice(alloc, names.as_slice())?))
 }
 
-// The nest with another body, other made arrays, and another block after it.
+/// The nest with another body, other made arrays, and another block after it.
 #[tactic(auto, unfolding(crate::specs::Assembled::with_parts))]
-fn with_parts(
+pub fn with_parts(
     alloc: Global,
     nest: &Nest,
     body: Part,
