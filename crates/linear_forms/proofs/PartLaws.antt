@@ -93,6 +93,15 @@ pub unfound_sign : (n : ℕ) (op : Op) (whole : Option ℤ) (o : Option Form) �
 unfound_sign n op whole None e h = subst (λ w. IsFound n (limited n (constant_or w (form_of_sign op None))) None) (sym e) (subst (λ o. IsFound n (limited n o) None) (sym (sign_none op)) tt)
 unfound_sign n op whole (Some f) e h = absurd h
 
+no_sign : (op : Op) (o : Option Form) → (op ≡ Neg → ⊥) → form_of_sign op o ≡ None
+no_sign Neg o h = absurd (h refl)
+no_sign _ None h = refl
+no_sign _ (Some f) h = refl
+
+-- no other operator has a form with one operand
+pub sign_other : (n : ℕ) (op : Op) (whole : Option ℤ) (o : Option Form) → whole ≡ None → (op ≡ Neg → ⊥) → IsFound n (limited n (constant_or whole (form_of_sign op o))) None
+sign_other n op whole o e h = subst (λ w. IsFound n (limited n (constant_or w (form_of_sign op o))) None) (sym e) (subst (λ o. IsFound n (limited n o) None) (sym (no_sign op o h)) tt)
+
 pub negated : (n : ℕ) (whole : Option ℤ) (o : Option Form) (a : Affine) (r : Option Affine) → whole ≡ None → IsFound n o (Some a)
     → ((q : Form) → IsAffineOf n q a → Answers n (sum (constant_form (pos 0)) (multiple (negsuc 0) q)) r) → IsFound n (limited n (constant_or whole (form_of_sign Neg o))) r
 negated n whole None a r e h g = absurd h
@@ -208,12 +217,6 @@ sign_unfound op whole form e g n o few a = unfound_sign n op whole o e (subst (�
 pub sign_neg : (whole : Option ℤ) (form : Option Affine) (a : Affine) (r : Option Affine) → whole ≡ None → form ≡ Some a → Combines Zero a (negsuc 0) r → SignClause Neg whole form r
 sign_neg whole form a r e g h n o few f =
     negated n whole o a r e (subst (λ (f : Option Affine). IsFound n o f) g f) (λ q i. h n (constant_form (pos 0)) q few (zero_affine n) i)
-
-abbrev pub IsNoSign : Op → Type 0
-IsNoSign op = (o : Option Form) → form_of_sign op o ≡ None
-
-pub sign_other : (op : Op) (whole : Option ℤ) (form : Option Affine) → whole ≡ None → IsNoSign op → SignClause op whole form None
-sign_other op whole form e h n o few f = subst (λ w. IsFound n (limited n (constant_or w (form_of_sign op o))) None) (sym e) (subst (λ o. IsFound n (limited n o) None) (sym (h o)) tt)
 
 abbrev pub PairClause : Op → Option ℤ → Option ℤ → Option ℤ → Option Affine → Option Affine → Option Affine → Type 0
 PairClause op whole k l f g r = (n : ℕ) (p q : Option Form) → n ≤ 7 → IsFound n p f → IsFound n q g

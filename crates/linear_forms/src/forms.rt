@@ -47,6 +47,7 @@ fn product_form(k: Option<i128>, l: Option<i128>, f: &Affine, g: &Affine) -> Opt
 }
 
 // Where the whole is constant it is `whole`.
+#[tactic(auto, using(crate::proofs::PartLaws::sign_other))]
 fn sign_form(op: Op, whole: Option<i128>, form: Option<Affine>) -> Option<Affine>
     ensures { (n : ℕ) (o : Option Form) → n ≤ 7 → IsFound n o form
         → IsFound n (limited n (constant_or whole (form_of_sign op o))) result }
@@ -57,25 +58,10 @@ fn sign_form(op: Op, whole: Option<i128>, form: Option<Affine>) -> Option<Affine
     let Some(form) = form else {
         return None;
     };
-    match op {
-        Op::Neg => combined(&ZERO, &form, -1),
-        Op::Pow => None,
-        Op::Mul => None,
-        Op::Div => None,
-        Op::Add => None,
-        Op::Sub => None,
-        Op::Lt => None,
-        Op::Le => None,
-        Op::Eq => None,
-        Op::Ne => None,
-        Op::Gt => None,
-        Op::Ge => None,
-        Op::Not => None,
-        Op::And => None,
-        Op::Or => None,
-        Op::Eqv => None,
-        Op::Neqv => None,
-    }
+    let Op::Neg = op else {
+        return None;
+    };
+    combined(&ZERO, &form, -1)
 }
 
 // The same of two operands, whose values are k and l where they are constant.
