@@ -1,2 +1,1 @@
-pub mod ExpressionNames
 pub mod StatementNames

@@ -22,8 +22,9 @@ use Rattle.fv_tree.proofs.Equations.{statement_of-print, statement_of-allocate, 
 use Rattle.fv_tree.proofs.Equations.{tested_of-is, block_of-is}
 use Rattle.fv_meaning.specs.Reads.{names_in, names_in_subscript, names_in_subscripts}
 use Rattle.fv_meaning.specs.Agreement.{names_in_item, names_in_items, names_in_statement, names_in_arms, names_in_block}
-use Rattle.block_names.specs.Names.{names_in_reference, names_in_control, names_in_arm}
-use Rattle.block_names.proofs.ExpressionNames.{each_expression, each_subscript}
+use Rattle.fv_rewrite.specs.Names.{names_in_reference, names_in_control}
+use Rattle.fv_rewrite.proofs.StandingLaws.{each_expression, each_subscript}
+use Rattle.block_names.specs.Names.{names_in_arm}
 
 -- ---- lists
 

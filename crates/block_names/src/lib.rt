@@ -1,7 +1,6 @@
 //! The names that stand in a block.
 #![tactic(auto)]
 
-mod expressions;
 mod listing;
 mod statements;
 

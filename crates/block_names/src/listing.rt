@@ -3,7 +3,8 @@ ghost use Rattle.std.specs.Prelude.{◌≡◌, IfOk};
 ghost use Rattle.fv_meaning.specs.Agreement.{names_in_block};
 ghost use Rattle.fv_tree.specs.View.{block_of};
 
-use crate::expressions::Names;
+use crate::statements::add_block;
+use fv_rewrite::Uses;
 use fv_tree::{Block, Memory, Name, Seq};
 use std::alloc::Global;
 
@@ -12,7 +13,8 @@ use std::alloc::Global;
 pub fn names_in_block(alloc: Global, block: &Block) -> Result<Seq<Name>, Memory>
     ensures { IfOk result (λ names. names ≡ names_in_block (block_of block.now)) }
 {
-    let mut names = Names::new(alloc);
-    names.add_block(block)?;
-    Ok(names.list)
+    let mut uses = Uses::new(alloc);
+    add_block(&mut uses, block)?;
+    let Uses { names, list: _ } = uses;
+    Ok(names)
 }

@@ -11,9 +11,9 @@ ghost use Rattle.bound_limits.specs.View.{wide_form_of, outer_of, IsSized, AreSm
 use crate::forms::WideForm;
 use crate::numbers::widened;
 use crate::places::coefficients;
+use fv_rewrite::names_in_expr;
 use fv_tree::{Expr, Memory, Name, Seq};
 use linear_forms::linear;
-use nest_reasons::names_in_expr;
 use std::alloc::Global;
 use subscripts::Affine;
 

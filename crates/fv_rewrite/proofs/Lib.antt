@@ -4,6 +4,7 @@ pub mod Values
 pub mod Rewriting
 pub mod Substituted
 pub mod UseLaws
+pub mod StandingLaws
 pub mod StatementUseLaws
 pub mod NameLaws
 pub mod Profiles

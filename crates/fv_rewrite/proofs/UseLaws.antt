@@ -19,7 +19,6 @@ use Rattle.fv_tree.specs.declared.exprs.Ref.{Ref, out-Ref}
 use Rattle.fv_tree.specs.declared.exprs.Sub.TheVariants as subs
 use Rattle.fv_tree.proofs.Equations.{expression_of-int, expression_of-truth, expression_of-item, expression_of-un, expression_of-bin, expression_of-call, reference_of-is, loop_of-is}
 use Rattle.fv_tree.proofs.Equations.{expression_of-list, expression_of-spread, expression_of-transpose, expression_of-reshape, expression_of-reduce, subscript_of-one, subscript_of-part}
-use Rattle.fv_rewrite.specs.declared.uses.Use.{Use}
 use Rattle.fv_rewrite.specs.declared.uses.Way.TheVariants.{Reads, Writes}
 use Rattle.fv_rewrite.specs.Names.{use_of, uses_in, uses_in_expressions, uses_in_subscript, uses_in_subscripts, uses_in_loop, uses_in_loops, uses_in_target}
 
@@ -40,7 +39,7 @@ each_loop (l ∷ ls) = ap (λ us. uses_in_loop l ++ us) (each_loop ls)
 pub one_more : {A : Type 0} (xs : List A) (i : ℕ) (x : A) → i < length xs → x ≡ get_or xs i x → take (i + 1) xs ≡ take i xs ++ x ∷ []
 one_more xs i x h e = ap (λ n. take n xs) (add-one i) ∙ take-suc xs i x h ∙ ap (λ y. take i xs ++ y ∷ []) (sym e)
 
-flat_more : {A B : Type 0} (f : B → List Use) (view : A → B) (list : List A) (i : ℕ) (x : A) → i < length list → x ≡ get_or list i x
+flat_more : {A B C : Type 0} (f : B → List C) (view : A → B) (list : List A) (i : ℕ) (x : A) → i < length list → x ≡ get_or list i x
     → flat_map f (map view (take (i + 1) list)) ≡ flat_map f (map view (take i list)) ++ f (view x)
 flat_more f view list i x h e =
     ap (λ xs. flat_map f (map view xs)) (one_more list i x h e)
@@ -48,8 +47,8 @@ flat_more f view list i x h e =
     ∙ flat_map-append f (map view (take i list)) (view x ∷ [])
     ∙ ap (λ us. flat_map f (map view (take i list)) ++ us) (append-nil (f (view x)))
 
--- one item more of a list whose uses are added
-pub more : {A B : Type 0} (f : B → List Use) (view : A → B) (list : List A) (i : ℕ) (x : A) (first old new : List Use)
+-- one item more of a list of which each adds its own
+pub more : {A B C : Type 0} (f : B → List C) (view : A → B) (list : List A) (i : ℕ) (x : A) (first old new : List C)
     → i < length list → x ≡ get_or list i x → old ≡ first ++ flat_map f (map view (take i list)) → new ≡ old ++ f (view x)
     → new ≡ first ++ flat_map f (map view (take (i + 1) list))
 more f view list i x first old new h e before now =

@@ -1,8 +1,9 @@
--- The names that a block reads, and those that it writes (ISO/IEC 1539:1991, section 14.7.5).
+-- The names that stand in a tree, and those that a block reads or writes (ISO/IEC 1539:1991, section 14.7.5).
 use Rattle.std.specs.Prelude.{ℕ, Bool, true, false, not, if◌then◌else◌, List, [], ◌∷◌, ◌++◌, map}
 use Rattle.std.specs.Str.{bytes_eq}
 use Rattle.std.specs.List.{filter, list_any}
 use Rattle.fv_meaning.specs.Names.{is_among}
+use Rattle.fv_meaning.specs.Reads.{names_in, names_in_subscripts}
 use Rattle.indexmap.specs.IndexSet.{insert_key}
 use Rattle.fv_tree.specs.Plain.{Expression, Number, Logic, Named, Unary, Binary, Apply, Constructor, Spread, Transpose}
 use Rattle.fv_tree.specs.Plain.{Reshape, Reduce, Expressions, no_expressions, expression, Subscript, Only, Section}
@@ -117,7 +118,20 @@ uses_in_arm t = uses_in t.test ++ uses_in_block t.body
 abbrev pub mentions : List (List ℕ) → Expression → Bool
 mentions names e = list_any (λ (u : Use). is_among names u.name) (uses_in e)
 
--- ---- the names
+-- ---- all names
+
+abbrev pub names_in_reference : Reference → List (List ℕ)
+names_in_reference r = r.name ∷ names_in_subscripts r.subscripts
+
+-- the variable of a constructor's loop, with its bounds
+abbrev pub names_in_loop : ConstructorLoop → List (List ℕ)
+names_in_loop l = l.variable ∷ names_in l.first ++ names_in l.last
+
+-- the variable of a DO or of an implied DO list, with its bounds and its step
+abbrev pub names_in_control : List ℕ → Expression → Expression → Expression → List (List ℕ)
+names_in_control x a b c = x ∷ names_in a ++ names_in b ++ names_in c
+
+-- ---- the names that stand in one way
 
 abbrev pub is_way : Way → Way → Bool
 is_way Reads Reads = true

@@ -1,16 +1,37 @@
-//! The names that a block reads, and those that it writes.
+//! The names that stand in an expression, and those that a block reads or writes.
 ghost use Rattle.std.specs.Prelude.{◌≡◌, IfOk, OnOk};
 ghost use Rattle.std.specs.List.{list_any};
 ghost use Rattle.fv_meaning.specs.Names.{is_among};
-ghost use Rattle.fv_tree.specs.View.{block_of, expression_of};
+ghost use Rattle.fv_meaning.specs.Reads.{names_in};
+ghost use Rattle.fv_tree.specs.View.{block_of, expression_of, reference_of};
 ghost use Rattle.fv_rewrite.specs.declared.uses.Use.{Use};
 ghost use Rattle.fv_rewrite.specs.Names.{uses_in_block, names_standing, without_repeats, names_read_in};
-ghost use Rattle.fv_rewrite.specs.Names.{names_written_in, with_use, mentions};
+ghost use Rattle.fv_rewrite.specs.Names.{names_written_in, with_use, mentions, names_in_reference};
 
 use crate::uses::{Use, Uses, Way};
-use fv_tree::{Block, Expr, Memory, Name, Seq};
+use fv_tree::{Block, Expr, Memory, Name, Ref, Seq};
 use indexmap::IndexSet;
 use std::alloc::Global;
+
+/// The names that stand in an expression, in the order of the text, as often as they stand.
+pub fn names_in_expr(alloc: Global, expr: &Expr) -> Result<Seq<Name>, Memory>
+    ensures { IfOk result (λ names. names ≡ names_in (expression_of expr.now)) }
+{
+    let mut uses = Uses::new(alloc);
+    uses.add_expr(expr)?;
+    let Uses { names, list: _ } = uses;
+    Ok(names)
+}
+
+/// The names that stand in a reference: its own, and those in its subscripts.
+pub fn names_in_ref(alloc: Global, item: &Ref) -> Result<Seq<Name>, Memory>
+    ensures { IfOk result (λ names. names ≡ names_in_reference (reference_of item.now)) }
+{
+    let mut uses = Uses::new(alloc);
+    uses.add_value(item)?;
+    let Uses { names, list: _ } = uses;
+    Ok(names)
+}
 
 fn insert_standing(names: &mut IndexSet<Name>, used: Use, way: Way) -> Result<(), Memory>
     ensures { OnOk result (names.new.keys ≡ with_use way names.old.keys used) }
@@ -31,7 +52,7 @@ fn names_standing(alloc: Global, uses: &[Use], way: Way) -> Result<IndexSet<Name
     Ok(names)
 }
 
-fn names_in(alloc: Global, block: &Block, way: Way) -> Result<Seq<Name>, Memory>
+fn names_of_way(alloc: Global, block: &Block, way: Way) -> Result<Seq<Name>, Memory>
     ensures { IfOk result (λ names. names
         ≡ without_repeats (names_standing way (uses_in_block (block_of block.now)))) }
 {
@@ -46,7 +67,7 @@ fn names_in(alloc: Global, block: &Block, way: Way) -> Result<Seq<Name>, Memory>
 pub fn names_read(alloc: Global, block: &Block) -> Result<Seq<Name>, Memory>
     ensures { IfOk result (λ names. names ≡ names_read_in (block_of block.now)) }
 {
-    names_in(alloc, block, Way::Reads)
+    names_of_way(alloc, block, Way::Reads)
 }
 
 /// The names that the block writes, each once, in the order in which they stand first: those that are assigned or read
@@ -54,7 +75,7 @@ pub fn names_read(alloc: Global, block: &Block) -> Result<Seq<Name>, Memory>
 pub fn names_written(alloc: Global, block: &Block) -> Result<Seq<Name>, Memory>
     ensures { IfOk result (λ names. names ≡ names_written_in (block_of block.now)) }
 {
-    names_in(alloc, block, Way::Writes)
+    names_of_way(alloc, block, Way::Writes)
 }
 
 fn is_among(name: Name, names: &[Name]) -> bool

@@ -4,14 +4,17 @@ ghost use Rattle.std.specs.List.{flat_map};
 ghost use Rattle.fv_tree.specs.View.{expression_of, reference_of, item_of, statement_of, tested_of, block_of};
 ghost use Rattle.fv_rewrite.specs.Names.{uses_in_target, uses_in_variable, uses_in_control, uses_in_input};
 ghost use Rattle.fv_rewrite.specs.Names.{uses_in_output, uses_in_statement, uses_in_arm, uses_in_block};
+ghost use Rattle.fv_rewrite.specs.Names.{names_in_control, names_in_reference};
 
 use crate::uses::{Uses, Way};
 use fv_tree::{Arm, Block, Expr, Item, Memory, Name, Ref, Seq, Stmt};
 
 impl Uses {
-    #[tactic(auto, using(crate::proofs::UseLaws::use_laws))]
-    fn add_target(&mut self, target: &Ref) -> Result<(), Memory>
-        ensures { OnOk result (self.new.list ≡ self.old.list ++ uses_in_target (reference_of target.now)) }
+    /// Adds those in what is assigned or read into.
+    #[tactic(auto, using(crate::proofs::UseLaws::use_laws, crate::proofs::StandingLaws::standing_laws))]
+    pub fn add_target(&mut self, target: &Ref) -> Result<(), Memory>
+        ensures uses { OnOk result (self.new.list ≡ self.old.list ++ uses_in_target (reference_of target.now)) }
+        ensures names { OnOk result (self.new.names ≡ self.old.names ++ names_in_reference (reference_of target.now)) }
     {
         self.note(target.name, Way::Writes)?;
         self.add_subs(&target.subs)
@@ -36,16 +39,19 @@ impl Uses {
         }
     }
 
-    #[tactic(auto, using(crate::proofs::UseLaws::use_laws))]
-    fn add_control(
+    /// Adds those in the control of a DO or of an implied DO list: its variable, its bounds and its step.
+    #[tactic(auto, using(crate::proofs::UseLaws::use_laws, crate::proofs::StandingLaws::standing_laws))]
+    pub fn add_control(
         &mut self,
         variable: Name,
         first: &Expr,
         last: &Expr,
         step: &Expr,
     ) -> Result<(), Memory>
-        ensures { OnOk result (self.new.list ≡ self.old.list ++ uses_in_control variable (expression_of first.now)
-            (expression_of last.now) (expression_of step.now)) }
+        ensures uses { OnOk result (self.new.list ≡ self.old.list ++ uses_in_control variable
+            (expression_of first.now) (expression_of last.now) (expression_of step.now)) }
+        ensures names { OnOk result (self.new.names ≡ self.old.names ++ names_in_control variable
+            (expression_of first.now) (expression_of last.now) (expression_of step.now)) }
     {
         self.note(variable, Way::Writes)?;
         self.add_expr(first)?;
@@ -181,7 +187,7 @@ impl Uses {
         Ok(())
     }
 
-    /// The uses in a block.
+    /// Adds the uses in a block.
     #[cycle(statements)]
     #[tactic(auto, using(crate::proofs::StatementUseLaws::block_laws))]
     pub fn add_block(&mut self, block: &Block) -> Result<(), Memory>

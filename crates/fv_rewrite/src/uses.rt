@@ -1,8 +1,10 @@
-//! How names stand in expressions.
+//! How names stand in expressions, and which.
 ghost use Rattle.std.specs.Prelude.{◌≡◌, ◌++◌, ◌∷◌, [], map, OnOk};
 ghost use Rattle.std.specs.List.{flat_map};
+ghost use Rattle.fv_meaning.specs.Reads.{names_in, names_in_subscript};
 ghost use Rattle.fv_tree.specs.View.{expression_of, subscript_of, reference_of, loop_of};
 ghost use Rattle.fv_rewrite.specs.Names.{use_of, uses_in, uses_in_subscript, uses_in_subscripts, uses_in_loop, is_way};
+ghost use Rattle.fv_rewrite.specs.Names.{names_in_loop, names_in_reference};
 
 use fv_tree::{Expr, Memory, Name, Ref, Seq, Sub, Turn};
 use std::alloc::Global;
@@ -15,6 +17,7 @@ pub enum Way {
 }
 
 impl Way {
+    /// Whether it is this way.
     pub fn is(self, way: Way) -> bool
         ensures { result ≡ is_way self way }
     {
@@ -38,31 +41,42 @@ pub struct Use {
     pub way: Way,
 }
 
-/// The uses of names, in the order of the text.
+/// The uses of names, in the order of the text; and all names that stand there, those of the variables of constructors'
+/// loops too, where their loops name them.
 #[derive(Drop)]
 pub struct Uses {
     pub list: Seq<Use>,
+    pub names: Seq<Name>,
 }
 
 impl Uses {
+    /// No use, and no name.
     pub fn new(alloc: Global) -> Uses
-        ensures { result.list ≡ [] }
+        ensures uses { result.list ≡ [] }
+        ensures names { result.names ≡ [] }
     {
         Uses {
             list: Seq::new(alloc),
+            names: Seq::new(alloc),
         }
     }
 
+    /// Adds a name that stands so.
     pub fn note(&mut self, name: Name, way: Way) -> Result<(), Memory>
-        ensures { OnOk result (self.new.list ≡ self.old.list ++ use_of name way ∷ []) }
+        ensures uses { OnOk result (self.new.list ≡ self.old.list ++ use_of name way ∷ []) }
+        ensures names { OnOk result (self.new.names ≡ self.old.names ++ name ∷ []) }
     {
-        self.list.push(Use { name, way })
+        self.list.push(Use { name, way })?;
+        self.names.push(name)?;
+        Ok(())
     }
 
+    /// Adds those in an expression, where each name is read.
     #[cycle(uses)]
-    #[tactic(auto, using(crate::proofs::UseLaws::use_laws))]
+    #[tactic(auto, using(crate::proofs::UseLaws::use_laws, crate::proofs::StandingLaws::standing_laws))]
     pub fn add_expr(&mut self, expr: &Expr) -> Result<(), Memory>
-        ensures { OnOk result (self.new.list ≡ self.old.list ++ uses_in (expression_of expr.now)) }
+        ensures uses { OnOk result (self.new.list ≡ self.old.list ++ uses_in (expression_of expr.now)) }
+        ensures names { OnOk result (self.new.names ≡ self.old.names ++ names_in (expression_of expr.now)) }
     {
         match expr {
             Expr::Int(_) => Ok(()),
@@ -91,19 +105,24 @@ impl Uses {
         }
     }
 
+    /// Adds those in a reference whose value is read.
     #[cycle(uses)]
-    #[tactic(auto, using(crate::proofs::UseLaws::use_laws))]
-    fn add_value(&mut self, item: &Ref) -> Result<(), Memory>
-        ensures { OnOk result (self.new.list ≡ self.old.list
+    #[tactic(auto, using(crate::proofs::UseLaws::use_laws, crate::proofs::StandingLaws::standing_laws))]
+    pub fn add_value(&mut self, item: &Ref) -> Result<(), Memory>
+        ensures uses { OnOk result (self.new.list ≡ self.old.list
             ++ use_of (reference_of item.now).name Way.Reads ∷ uses_in_subscripts (reference_of item.now).subscripts) }
+        ensures names { OnOk result (self.new.names ≡ self.old.names ++ names_in_reference (reference_of item.now)) }
     {
         self.note(item.name, Way::Reads)?;
         self.add_subs(&item.subs)
     }
 
+    /// Adds those in expressions.
     #[cycle(uses)]
     pub fn add_exprs(&mut self, exprs: &Seq<Expr>) -> Result<(), Memory>
-        ensures { OnOk result (self.new.list ≡ self.old.list ++ flat_map uses_in (map expression_of exprs.now)) }
+        ensures uses { OnOk result (self.new.list ≡ self.old.list ++ flat_map uses_in (map expression_of exprs.now)) }
+        ensures names { OnOk result (self.new.names ≡ self.old.names
+            ++ flat_map names_in (map expression_of exprs.now)) }
     {
         for expr in exprs.as_slice() {
             self.add_expr(expr)?;
@@ -113,7 +132,9 @@ impl Uses {
 
     #[cycle(uses)]
     fn add_turns(&mut self, turns: &Seq<Turn>) -> Result<(), Memory>
-        ensures { OnOk result (self.new.list ≡ self.old.list ++ flat_map uses_in_loop (map loop_of turns.now)) }
+        ensures uses { OnOk result (self.new.list ≡ self.old.list ++ flat_map uses_in_loop (map loop_of turns.now)) }
+        ensures names { OnOk result (self.new.names ≡ self.old.names
+            ++ flat_map names_in_loop (map loop_of turns.now)) }
     {
         for turn in turns.as_slice() {
             self.add_turn(turn)?;
@@ -122,18 +143,21 @@ impl Uses {
     }
 
     #[cycle(uses)]
-    #[tactic(auto, using(crate::proofs::UseLaws::use_laws))]
+    #[tactic(auto, using(crate::proofs::UseLaws::use_laws, crate::proofs::StandingLaws::standing_laws))]
     fn add_turn(&mut self, turn: &Turn) -> Result<(), Memory>
-        ensures { OnOk result (self.new.list ≡ self.old.list ++ uses_in_loop (loop_of turn.now)) }
+        ensures uses { OnOk result (self.new.list ≡ self.old.list ++ uses_in_loop (loop_of turn.now)) }
+        ensures names { OnOk result (self.new.names ≡ self.old.names ++ names_in_loop (loop_of turn.now)) }
     {
+        self.names.push(turn.var)?;
         self.add_expr(&turn.first)?;
         self.add_expr(&turn.last)
     }
 
     #[cycle(uses)]
-    #[tactic(auto, using(crate::proofs::UseLaws::use_laws))]
+    #[tactic(auto, using(crate::proofs::UseLaws::use_laws, crate::proofs::StandingLaws::standing_laws))]
     fn add_sub(&mut self, sub: &Sub) -> Result<(), Memory>
-        ensures { OnOk result (self.new.list ≡ self.old.list ++ uses_in_subscript (subscript_of sub.now)) }
+        ensures uses { OnOk result (self.new.list ≡ self.old.list ++ uses_in_subscript (subscript_of sub.now)) }
+        ensures names { OnOk result (self.new.names ≡ self.old.names ++ names_in_subscript (subscript_of sub.now)) }
     {
         match sub {
             Sub::One(expr) => self.add_expr(expr),
@@ -145,10 +169,13 @@ impl Uses {
         }
     }
 
+    /// Adds those in subscripts.
     #[cycle(uses)]
     pub fn add_subs(&mut self, subs: &Seq<Sub>) -> Result<(), Memory>
-        ensures { OnOk result (self.new.list ≡ self.old.list
+        ensures uses { OnOk result (self.new.list ≡ self.old.list
             ++ flat_map uses_in_subscript (map subscript_of subs.now)) }
+        ensures names { OnOk result (self.new.names ≡ self.old.names
+            ++ flat_map names_in_subscript (map subscript_of subs.now)) }
     {
         for sub in subs.as_slice() {
             self.add_sub(sub)?;

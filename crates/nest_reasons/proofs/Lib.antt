@@ -2,7 +2,6 @@ pub mod Lists
 pub mod Sets
 pub mod LabelLaws
 pub mod MarkLaws
-pub mod NameLaws
 pub mod LoopLaws
 pub mod SizeLaws
 pub mod SymbolLaws

@@ -1,13 +1,9 @@
--- The names that stand in an expression.
-use Rattle.std.specs.Prelude.{ℕ, List, ◌∷◌, ◌++◌}
+-- Those of given names that stand in an expression.
+use Rattle.std.specs.Prelude.{ℕ, List}
 use Rattle.std.specs.List.{filter, list_any}
 use Rattle.std.specs.Str.{bytes_eq}
 use Rattle.fv_tree.specs.Plain.{Expression}
-use Rattle.fv_tree.specs.View.{ConstructorLoop}
 use Rattle.fv_meaning.specs.Reads.{names_in}
-
-abbrev pub names_in_loop : ConstructorLoop → List (List ℕ)
-names_in_loop l = l.variable ∷ names_in l.first ++ names_in l.last
 
 -- those of the variables that stand in it
 abbrev pub standing : List (List ℕ) → Expression → List (List ℕ)

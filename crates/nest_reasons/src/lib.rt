@@ -16,6 +16,6 @@ pub use increments::step_of;
 pub use labels::{exits, jumps_over_loop};
 pub use loops::Check;
 pub use marks::{Mark, marks_of};
-pub use names::{names_in_expr, names_in_ref, standing};
+pub use names::standing;
 pub use sizes::{Piece, is_large};
 pub use symbols::symbols_of;

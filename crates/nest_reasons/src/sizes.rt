@@ -6,7 +6,7 @@ ghost use Rattle.fv_meaning.specs.Reads.{names_in, names_in_subscripts};
 ghost use Rattle.nest_reasons.specs.Sizes.{occurrences, pieces_in, pieces_in_arm, pieces_in_block, is_assignment};
 ghost use Rattle.nest_reasons.specs.Sizes.{turns_with, is_loop, is_counted, is_over, is_large};
 
-use crate::names::{names_in_expr, names_in_ref};
+use fv_rewrite::{names_in_expr, names_in_ref};
 use fv_tree::{Arm, Block, Expr, Memory, NEST_REFERENCES, NEST_STATEMENTS, Name, Ref, Seq, Stmt};
 use std::alloc::Global;
 

@@ -2,17 +2,17 @@ use Rattle.std.proofs.Common.{arith}
 use Rattle.fv_tree.specs.View.{tested_of, statement_of}
 use Rattle.fv_meaning.specs.Agreement.{names_in_statement}
 use Rattle.block_names.specs.Names.{names_in_arm}
-use Rattle.block_names.proofs.ExpressionNames.{more}
-use Rattle.block_names.proofs.expressions.Names.+statements.Goals as goal
+use Rattle.fv_rewrite.proofs.UseLaws.{more}
+use Rattle.block_names.proofs.statements.+statements.Goals as goal
 
 pub add_arms-loop-arm-preserved : goal.add_arms-loop-arm-preserved
 add_arms-loop-arm-preserved t c =
     more names_in_arm tested_of c.as_slice-arm-items.result.now c.loop-arm.arm-index c.arm-item.result
-    c.args.self.now.list c.loop-arm.self.list c.add_arm.new.self.list
+    c.args.uses.now.names c.loop-arm.uses.names c.add_arm.new.uses.names
     (omega arith) c.arm-item.is c.loop-arm.invariant c.in_ok-add_arm.ensures
 
 pub add_statements-loop-stmt-preserved : goal.add_statements-loop-stmt-preserved
 add_statements-loop-stmt-preserved t c =
     more names_in_statement statement_of c.as_slice-stmt-items.result.now c.loop-stmt.stmt-index c.stmt-item.result
-    c.args.self.now.list c.loop-stmt.self.list c.add_statement.new.self.list
+    c.args.uses.now.names c.loop-stmt.uses.names c.add_statement.new.uses.names
     (omega arith) c.stmt-item.is c.loop-stmt.invariant c.in_ok-add_statement.ensures

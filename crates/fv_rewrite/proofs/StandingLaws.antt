@@ -1,13 +1,13 @@
--- Names of lists of expressions, of subscripts and of loops.
+-- The names that stand in lists of expressions, of subscripts and of loops.
 use Rattle.std.proofs.Common.{◌≡◌, List, [], ◌∷◌, ◌++◌, map, refl, ap, ◌∙◌, append_assoc}
 use Rattle.std.specs.List.{flat_map}
 use Rattle.std.proofs.lemmas.List.{append-nil}
-use Rattle.fv_tree.specs.Plain.{Expression, Subscript, Reference, subscripts, expressions}
+use Rattle.fv_tree.specs.Plain.{Expression, Subscript, subscripts, expressions}
 use Rattle.fv_tree.specs.View.{subscript_of, reference_of, loops, ConstructorLoop}
 use Rattle.fv_tree.specs.declared.exprs.Ref.{Ref, out-Ref}
 use Rattle.fv_tree.proofs.Equations.{expression_equations, reference_of-is}
 use Rattle.fv_meaning.specs.Reads.{names_in, names_in_each, names_in_subscript, names_in_subscripts, names_in_loops}
-use Rattle.nest_reasons.specs.Standing.{names_in_loop}
+use Rattle.fv_rewrite.specs.Names.{names_in_loop, names_in_reference}
 
 pub each_expression : (es : List Expression) → names_in_each (expressions es) ≡ flat_map names_in es
 each_expression [] = refl
@@ -21,10 +21,7 @@ pub each_loop : (ls : List ConstructorLoop) → names_in_loops (loops ls) ≡ fl
 each_loop [] = refl
 each_loop (l ∷ ls) = ap (λ xs. names_in_loop l ++ xs) (each_loop ls)
 
-pub names-reference : (r : Ref) → (reference_of r).name ∷ names_in_subscripts (reference_of r).subscripts
-    ≡ (out-Ref r).name ∷ flat_map names_in_subscript (map subscript_of (out-Ref r).subs)
-names-reference r =
-    ap (λ (q : Reference). q.name ∷ names_in_subscripts q.subscripts) (reference_of-is r)
-    ∙ ap (λ xs. (out-Ref r).name ∷ xs) (each_subscript (map subscript_of (out-Ref r).subs))
+pub names-reference : (r : Ref) → names_in_reference (reference_of r) ≡ (out-Ref r).name ∷ flat_map names_in_subscript (map subscript_of (out-Ref r).subs)
+names-reference r = ap names_in_reference (reference_of-is r) ∙ ap (λ xs. (out-Ref r).name ∷ xs) (each_subscript (map subscript_of (out-Ref r).subs))
 
-pub ruleset name_laws = (expression_equations, each_expression, each_subscript, each_loop, names-reference, append_assoc, append-nil)
+pub ruleset standing_laws = (expression_equations, each_expression, each_subscript, each_loop, names-reference, append_assoc, append-nil)

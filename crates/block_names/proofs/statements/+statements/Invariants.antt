@@ -3,12 +3,12 @@ use Rattle.std.specs.List.{flat_map}
 use Rattle.fv_tree.specs.View.{tested_of, statement_of}
 use Rattle.fv_meaning.specs.Agreement.{names_in_statement}
 use Rattle.block_names.specs.Names.{names_in_arm}
-use Rattle.block_names.proofs.expressions.Names.+statements.Given as goal
+use Rattle.block_names.proofs.statements.+statements.Given as goal
 
 abbrev pub invariant-add_arms-loop-arm : goal.invariant-add_arms-loop-arm
 invariant-add_arms-loop-arm l =
-    l.self.list ≡ l.initial.self.list ++ flat_map names_in_arm (map tested_of (take l.arm-index l.arm-items))
+    l.uses.names ≡ l.initial.uses.names ++ flat_map names_in_arm (map tested_of (take l.arm-index l.arm-items))
 
 abbrev pub invariant-add_statements-loop-stmt : goal.invariant-add_statements-loop-stmt
 invariant-add_statements-loop-stmt l =
-    l.self.list ≡ l.initial.self.list ++ flat_map names_in_statement (map statement_of (take l.stmt-index l.stmt-items))
+    l.uses.names ≡ l.initial.uses.names ++ flat_map names_in_statement (map statement_of (take l.stmt-index l.stmt-items))
