@@ -1,6 +1,7 @@
 -- Every list is read.
 use Rattle.std.proofs.Common.{arith, ◌≡◌, ℕ, max, min, pos, Bool, true, false, List, [], ◌∷◌, ◌++◌, refl, ap, sym, ◌∙◌, subst, append_assoc, append-nil}
 use Rattle.std.specs.Prelude.{Option, Some, None}
+use Rattle.std.proofs.lemmas.Bool.{both_ways}
 use Rattle.fv_tree.specs.Plain.{Number, Item, Single, Constant}
 use Rattle.f77_grammar.specs.expressions.Phrases.{Phrase, IsExpression, written, tree, depth}
 use Rattle.f77_grammar.specs.expressions.Words as words
@@ -138,7 +139,7 @@ close_step d is k f fs r h =
 text_step : (d : Direction) (t : List ℕ) (f : Frame) (fs : List Frame) (r : List Word) → IsItem d (Text t)
     → step d (Wants (f ∷ fs) (words.Constant t ∷ r)) ≡ Go (Done (added (Constant t) (capped (Text t)) f ∷ fs) r)
 text_step Output t f fs r h = ap (λ (n : ℕ). Go (Done (added (Constant t) n f ∷ fs) r)) (omega arith)
-text_step Input t f fs r h = absurd h
+text_step Input t f fs r h = absurd (both_ways false refl h)
 
 abbrev ItemRead : Direction → ItemPhrase → Frame → List Frame → List Word → List Word → Type 0
 ItemRead d i f fs r ws = Path d (Wants (f ∷ fs) ws) (Done (added (item_tree i) (capped i) f ∷ fs) r)

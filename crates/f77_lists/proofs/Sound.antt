@@ -107,7 +107,7 @@ value_stands d all ws fs front (Some r) u e k =
 
 text_stands : (d : Direction) (all : List Word) (t : List ℕ) (fs : List Frame) (front ws : List Word) → Due d fs front → front ++ words.Constant t ∷ ws ≡ all → StepStands d all (text d t fs ws)
 text_stands Output all t fs front ws u e =
-    subst (λ (n : ℕ). StepStands Output all (put (Constant t) n fs ws)) (omega arith) (put_stands Output all (Text t) fs front ws u tt (append_assoc front (words.Constant t ∷ []) ws ∙ e))
+    subst (λ (n : ℕ). StepStands Output all (put (Constant t) n fs ws)) (omega arith) (put_stands Output all (Text t) fs front ws u refl (append_assoc front (words.Constant t ∷ []) ws ∙ e))
 text_stands Input all t fs front ws u e = tt
 
 simple_stands : (d : Direction) (all ws : List Word) (fs : List Frame) (front : List Word) → Due d fs front → front ++ ws ≡ all → StepStands d all (simple d fs ws)
