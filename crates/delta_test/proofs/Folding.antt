@@ -8,9 +8,9 @@ use Rattle.subscripts.specs.Classes.{Loop, first_of, second_of}
 use Rattle.subscripts.specs.declared.pairing.Pairing.{Pairing}
 use Rattle.line_points.specs.Lines.{OnLine}
 use Rattle.line_points.specs.declared.points.Line.{Line}
-use Rattle.loop_constraints.specs.Constraints.{Allows}
-use Rattle.loop_constraints.specs.declared.constraint.Constraint.{Constraint}
 use Rattle.loop_lines.specs.OneLoop.{IsLineOf}
+use Rattle.delta_test.specs.Constraints.{Allows}
+use Rattle.delta_test.specs.declared.constraint.Constraint.{Constraint}
 use Rattle.delta_test.specs.Groups.{line_at, OnAllLines}
 
 pub take_all : {X : Type 0} (n : ℕ) (xs : List X) → n ≤ length xs → length xs ≤ n → take n xs ≡ xs

@@ -1,2 +1,11 @@
+pub mod Tests
+pub mod Leaving
+pub mod Terms
+pub mod Places
+pub mod Alone
+pub mod Putting
+pub mod Regions
+pub mod Holding
+pub mod Refuting
 pub mod Folding
 pub mod OneLoops

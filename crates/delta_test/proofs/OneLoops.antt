@@ -13,13 +13,13 @@ use Rattle.subscripts.specs.Shapes.{IsPairing, AreDirsOf}
 use Rattle.subscripts.specs.declared.affine.Dirs.{Dirs}
 use Rattle.subscripts.specs.declared.pairing.Pairing.{Pairing}
 use Rattle.line_points.specs.Least.{WithinTrip, IsWithin}
-use Rattle.loop_constraints.specs.Constraints.{Allows}
-use Rattle.loop_constraints.specs.Left.{IsNoneLeft, IsLeastLeft}
-use Rattle.loop_constraints.specs.declared.constraint.Constraint.{Constraint}
 use Rattle.loop_lines.specs.OneLoop.{first_at, second_at, dir_of, first_point, second_point, HasSevenLists, HasSevenPlaces, IsLineOf}
 use Rattle.loop_lines.proofs.Crossings.{within_seven}
 use Rattle.loop_lines.proofs.Pairs.{pair_point, cut_point, point_pair, points_in_order, IsPointOfPair, IsPointOfCut}
-use Rattle.delta_constraints.specs.Members.{AreMembers}
+use Rattle.delta_test.specs.Constraints.{Allows}
+use Rattle.delta_test.specs.IterationsLeft.{IsNoneLeft, IsLeastLeft}
+use Rattle.delta_test.specs.declared.constraint.Constraint.{Constraint}
+use Rattle.delta_test.specs.Members.{AreMembers}
 use Rattle.delta_test.specs.Groups.{HasOneLoopOfAll, OnAllLines, HasNoneOfAll, IsLeastOfAll, line_at}
 
 own_line : (p : Pairing) (l : Loop) → IsLineOf p l (line_at l p)

@@ -8,9 +8,9 @@ use Rattle.subscripts.specs.declared.affine.Dirs.{Dirs}
 use Rattle.subscripts.specs.declared.pairing.Pairing.{Pairing}
 use Rattle.subscripts.specs.declared.verdict.Test.{Test}
 use Rattle.subscripts.specs.declared.verdict.Test.TheVariants.{Delta}
-use Rattle.delta_constraints.specs.Members.{HasNoPairOfAll}
 use Rattle.line_points.specs.Lines.{OnLine}
 use Rattle.line_points.specs.declared.points.Line.{Line}
+use Rattle.delta_test.specs.Members.{HasNoPairOfAll}
 
 -- all have this one loop
 abbrev pub HasOneLoopOfAll : List Pairing → Loop → Type 0

@@ -5,11 +5,11 @@ ghost use Rattle.subscripts.specs.Groups.{IsExactGroup};
 ghost use Rattle.subscripts.specs.Shapes.{IsGroup, AreDirsOf, members};
 ghost use Rattle.loop_lines.specs.Places.{loop_at};
 ghost use Rattle.loop_lines.specs.Verdicts.{OnNever, IfPair, OnAssumed, test_of};
-ghost use Rattle.delta_constraints.specs.Members.{AreMembers, HasNoPairOfAll};
+ghost use Rattle.delta_test.specs.Members.{AreMembers, HasNoPairOfAll};
 ghost use Rattle.delta_test.specs.Groups.{AreNotRefuted, HasNoCutPairOfAll, IsExactWith, IsLeastOfAll, delta_word};
 
 use crate::one_loop::{least_pair_of_all, loop_of_all};
-use delta_constraints::constraints_refute;
+use crate::refute::constraints_refute;
 use gcd_banerjee::{gcd_refutes, range_refutes};
 use loop_lines::{LoopPlace, bounds_at, constant_trip};
 use subscripts::{Dirs, Group, Pairing, Test, Verdict};

@@ -5,11 +5,12 @@ ghost use Rattle.subscripts.specs.Classes.{Loop, HasOneLoop, span_of};
 ghost use Rattle.subscripts.specs.Shapes.{IsPairing, AreDirsOf, IsBeside};
 ghost use Rattle.loop_lines.specs.OneLoop.{HasSevenLists};
 ghost use Rattle.loop_lines.specs.Places.{loop_at};
-ghost use Rattle.loop_constraints.specs.Constraints.{IsConstraint, Allows};
-ghost use Rattle.delta_constraints.specs.Members.{AreMembers};
+ghost use Rattle.delta_test.specs.Constraints.{IsConstraint, Allows};
+ghost use Rattle.delta_test.specs.Members.{AreMembers};
 ghost use Rattle.delta_test.specs.Groups.{HasNoneOfAll, HasNoLoopOfAll, HasOneLoopOfAll, IsLeastOfAll, OnAllLines};
 
-use loop_constraints::{Constraint, constraint_of, least_left, meet_of};
+use crate::constraint::{Constraint, meet_of};
+use crate::iterations_left::{constraint_of, least_left};
 use loop_lines::{LoopPlace, bounds_at, line_of, only_loop_of, points_at};
 use subscripts::{Dirs, Pairing, Point};
 

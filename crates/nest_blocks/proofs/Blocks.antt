@@ -7,15 +7,15 @@ use Rattle.found_sources.specs.Laws.{HasLoopsAlone}
 use Rattle.fv_tree.specs.Plain.{Block, Program}
 use Rattle.loop_normal.specs.Normalised.{normalised}
 use Rattle.loop_numbers.specs.Numbers.{loop_number}
-use Rattle.nest_blocks.specs.Answers.{AnswersAreBlocks, ArePlaced, Puts}
-use Rattle.nest_blocks.specs.Blocks.{HasBlock, IsBlockOfLoop}
 use Rattle.nest_translation.specs.Laws.{IsTranslatedNest}
 use Rattle.nest_tree.specs.Plain.{Nest}
 use Rattle.program_listing.specs.Listing.{all_holds}
-use Rattle.translate_nest.proofs.Holds.{all_are_holds}
-use Rattle.translate_nest.specs.Answers.{Answer, IsRight, IsTranslation, Kept, Translated, Untested, found_by}
 use Rattle.emission_pieces.specs.Pieces.{Pieces, translation}
 use Rattle.components.specs.declared.graphs.Graph.{Graph}
+use Rattle.nest_blocks.specs.Answers.{AnswersAreBlocks, ArePlaced, Puts}
+use Rattle.nest_blocks.specs.Blocks.{HasBlock, IsBlockOfLoop}
+use Rattle.nest_blocks.proofs.Holds.{all_are_holds}
+use Rattle.nest_blocks.specs.LoopAnswers.{Answer, IsRight, IsTranslation, Kept, Translated, Untested, found_by}
 
 -- ---- one answer
 

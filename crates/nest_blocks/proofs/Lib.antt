@@ -1,3 +1,7 @@
+pub mod AloneLaws
+pub mod Holds
+pub mod Straight
+pub mod Answering
 pub mod NumberLaws
 pub mod Placed
 pub mod SoFar

@@ -8,14 +8,14 @@ use Rattle.array_laws.proofs.Members.{in_map}
 use Rattle.find_nests.specs.Found.{Found, found_in}
 use Rattle.found_sources.specs.Laws.{HasLoopsAlone, HaveLoopsAlone}
 use Rattle.loop_normal.specs.Normalised.{normalised}
-use Rattle.nest_blocks.specs.Answers.{AnswersAreListed}
 use Rattle.nest_tree.specs.Plain.{Nest, Part, Run, Turns, Choice, Label, Jump, Parts, no_parts, part}
 use Rattle.profile_laws.proofs.Lists.{here, there}
 use Rattle.program_listing.specs.Listing.{HasEntries, HasNestEntries, HaveEntries, not_built, tested_entries}
 use Rattle.program_listing.specs.Testable.{are_straight, is_straight}
-use Rattle.translate_nest.proofs.Answering.{testable}
-use Rattle.translate_nest.specs.Answers.{Answer, IsRight, Kept, Translated, Untested, entries_by, found_by}
-use Rattle.translate_nest.specs.Sources.{IsFoundInSource}
+use Rattle.nest_blocks.specs.Answers.{AnswersAreListed}
+use Rattle.nest_blocks.proofs.Answering.{testable}
+use Rattle.nest_blocks.specs.LoopAnswers.{Answer, IsRight, Kept, Translated, Untested, entries_by, found_by}
+use Rattle.nest_blocks.specs.Sources.{IsFoundInSource}
 
 -- ---- what can be tested is loops and statements alone
 

@@ -14,13 +14,13 @@ use Rattle.fv_tree.specs.View.{block_of}
 use Rattle.fv_tree.specs.declared.stmts.Block.{Block as Tree}
 use Rattle.loop_numbers.specs.Numbers.{loop_number}
 use Rattle.loop_placing.specs.Placing.{block_at, blocks_of}
-use Rattle.nest_blocks.specs.Answers.{ArePlaced, Puts}
-use Rattle.nest_blocks.specs.Places.{IsPut, IsPutFor}
 use Rattle.nest_tree.specs.Plain.{Nest}
 use Rattle.nest_tree.specs.View.{nest_of}
 use Rattle.nest_tree.specs.declared.nests.Nest.{Nest as Nest'}
 use Rattle.profile_laws.proofs.Lists.{nowhere}
-use Rattle.translate_nest.specs.Answers.{Answer, block_by, found_by}
+use Rattle.nest_blocks.specs.Answers.{ArePlaced, Puts}
+use Rattle.nest_blocks.specs.Places.{IsPut, IsPutFor}
+use Rattle.nest_blocks.specs.LoopAnswers.{Answer, block_by, found_by}
 
 -- ---- a block is put
 

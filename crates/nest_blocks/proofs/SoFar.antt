@@ -23,13 +23,13 @@ use Rattle.graph_print.specs.Listing.{lines_of_entries}
 use Rattle.loop_numbers.proofs.Nests.{loop_numbers_count, nests_are_numbered}
 use Rattle.loop_numbers.specs.Numbers.{ComesBefore, nests_among}
 use Rattle.loop_placing.specs.Placing.{blocks_of}
+use Rattle.nest_tree.specs.Plain.{Nest}
+use Rattle.profile_laws.proofs.Lists.{cases_of, here, nowhere}
 use Rattle.nest_blocks.specs.Answers.{AreAnswersFor, ArePlaced}
 use Rattle.nest_blocks.specs.Places.{IsPutFor}
 use Rattle.nest_blocks.proofs.Placed.{IsBehind, placed_more, placed_none}
-use Rattle.nest_tree.specs.Plain.{Nest}
-use Rattle.profile_laws.proofs.Lists.{cases_of, here, nowhere}
-use Rattle.translate_nest.specs.Answers.{Answer, IsAnswerTo, IsRight, entries_by, found_by}
-use Rattle.translate_nest.specs.Sources.{IsFoundInSource}
+use Rattle.nest_blocks.specs.LoopAnswers.{Answer, IsAnswerTo, IsRight, entries_by, found_by}
+use Rattle.nest_blocks.specs.Sources.{IsFoundInSource}
 
 -- answers to these, what they list and what they put in the place of loops
 pub record AreAnswersTo (fs : List Found) (lines : List (List ℕ)) (blocks : List (Option Block)) : Type 0 where

@@ -10,7 +10,7 @@ use Rattle.loop_numbers.specs.Numbers.{loop_number}
 use Rattle.loop_placing.specs.Placing.{block_at}
 use Rattle.nest_tree.specs.Plain.{Nest}
 use Rattle.program_listing.specs.Listing.{IsListing}
-use Rattle.translate_nest.specs.Answers.{Answer, IsRight, block_by, entries_by, found_by}
+use Rattle.nest_blocks.specs.LoopAnswers.{Answer, IsRight, block_by, entries_by, found_by}
 use Rattle.nest_blocks.specs.Blocks.{AreNestBlocks}
 
 -- the answer is for a nest whose outermost loop has this number, and puts the block in the loop's place

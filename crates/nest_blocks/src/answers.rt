@@ -10,11 +10,11 @@ ghost use Rattle.loop_placing.specs.Placing.{blocks_of};
 ghost use Rattle.nest_blocks.specs.Answers.{AreAnswersFor};
 ghost use Rattle.nest_blocks.specs.Places.{IsPutFor};
 
+use crate::loop_answers::answer_to;
 use crate::places::{loop_number, put};
 use find_nests::{Found, find_nests};
 use fv_tree::{Block, Line, Memory, Program77, Seq};
 use std::alloc::Global;
-use translate_nest::answer_to;
 
 /// The lines of a program's listing, and what stands in the place of each of its loops, by the loops' numbers, of which
 /// the first one is 1: for the outermost loop of a nest that is translated its block, and nothing for all others.

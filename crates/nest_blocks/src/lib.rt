@@ -1,8 +1,10 @@
-//! The listing of a program, and what stands in the place of its nests.
+//! The listing of a program, and what stands in the place of its nests: array assignments and loops.
 #![tactic(auto)]
 
+mod alone;
 mod answers;
 mod laws;
+mod loop_answers;
 mod places;
 
 pub use answers::{Answers, program_answers};

@@ -27,7 +27,7 @@ use Rattle.nest_blocks.specs.Answers.{AreAnswers, ArePlaced, Puts}
 use Rattle.nest_parts.specs.Numbers.{next}
 use Rattle.nest_tree.specs.Plain.{Nest}
 use Rattle.profile_laws.proofs.Lists.{nowhere}
-use Rattle.translate_nest.specs.Answers.{Answer, IsRight, Kept, Translated, Untested, found_by}
+use Rattle.nest_blocks.specs.LoopAnswers.{Answer, IsRight, Kept, Translated, Untested, found_by}
 use Rattle.program_translation.specs.Translated.{IsPlacedBy}
 use Rattle.program_marks.specs.Laws.{TranslationIsMarked}
 use Rattle.program_marks.specs.Marks.{AreOfNests, IsMarkedAsListed, IsMarkedByGraph, IsOfNest, StandsWithin}

@@ -30,7 +30,7 @@ use Rattle.program_listing.specs.Listing.{all_holds}
 use Rattle.ready_nests.proofs.NormalReady.{normal_nest_is_ready}
 use Rattle.sections.specs.Statements.{no_statement}
 use Rattle.std.specs.Option.{option_map}
-use Rattle.translate_nest.specs.Answers.{IsTranslation}
+use Rattle.nest_blocks.specs.LoopAnswers.{IsTranslation}
 use Rattle.program_marks.specs.Marks.{IsMarkedByGraph}
 use Rattle.program_marks.proofs.Endings.{last_values_unmarked}
 

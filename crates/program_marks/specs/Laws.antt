@@ -5,7 +5,7 @@ use Rattle.fv_meaning.specs.Dialect.{fortran77}
 use Rattle.fv_meaning.specs.Profile77.{IsProgram77}
 use Rattle.nest_blocks.specs.Answers.{AreAnswers, ArePlaced}
 use Rattle.program_translation.specs.Translated.{IsPlacedBy}
-use Rattle.translate_nest.specs.Answers.{Answer}
+use Rattle.nest_blocks.specs.LoopAnswers.{Answer}
 use Rattle.program_marks.specs.Marks.{IsMarkedAsListed}
 
 abbrev pub TranslationIsMarked : Type 0

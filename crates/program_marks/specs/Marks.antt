@@ -8,7 +8,7 @@ use Rattle.emission_marks.specs.Marks.{Marked, Round, marked_in}
 use Rattle.emission_pieces.specs.Pieces.{Pieces, translation}
 use Rattle.nest_tree.specs.Plain.{Nest}
 use Rattle.program_listing.specs.Listing.{all_holds}
-use Rattle.translate_nest.specs.Answers.{Answer, Translated}
+use Rattle.nest_blocks.specs.LoopAnswers.{Answer, Translated}
 
 -- within these loops and conditions
 abbrev pub within : List Round → Marked → Marked

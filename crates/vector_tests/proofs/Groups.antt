@@ -24,7 +24,7 @@ use Rattle.line_points.specs.Lines.{OnLine}
 use Rattle.loop_lines.proofs.Crossings.{off_line, on_line, within_seven}
 use Rattle.loop_lines.proofs.Pairs.{IsPointOfCut, cut_point}
 use Rattle.loop_lines.specs.OneLoop.{HasSevenLists, HasSevenPlaces, IsLineOf, dir_of, first_at, second_at}
-use Rattle.delta_constraints.specs.Members.{HasNoPairOfAll}
+use Rattle.delta_test.specs.Members.{HasNoPairOfAll}
 use Rattle.delta_test.proofs.OneLoops.{IsMemberOn, all_cut_points}
 use Rattle.delta_test.specs.Groups.{line_at}
 use Rattle.vector_tests.specs.Places.{HasExactLoop, IsGroupLeft, IsLeft, IsOneLeft, picked}

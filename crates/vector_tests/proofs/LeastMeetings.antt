@@ -21,9 +21,9 @@ use Rattle.subscripts.specs.declared.pairing.Pairing.{Pairing}
 use Rattle.subscripts.proofs.Coupling.{alone, one_step}
 use Rattle.line_points.proofs.Ring.{linear}
 use Rattle.line_points.specs.Least.{IsAtMost, IsWithin}
-use Rattle.loop_constraints.specs.Constraints.{Allows}
-use Rattle.loop_constraints.specs.Left.{IsLeastLeft, IsNoneLeft}
-use Rattle.loop_constraints.specs.declared.constraint.Constraint.{Constraint}
+use Rattle.delta_test.specs.Constraints.{Allows}
+use Rattle.delta_test.specs.IterationsLeft.{IsLeastLeft, IsNoneLeft}
+use Rattle.delta_test.specs.declared.constraint.Constraint.{Constraint}
 use Rattle.loop_lines.proofs.Crossings.{place_of, within_seven}
 use Rattle.loop_lines.specs.OneLoop.{dir_of, first_at, second_at}
 use Rattle.vector_tests.proofs.Groups.{first_is, same_pairing, span_within}

@@ -18,8 +18,8 @@ use Rattle.subscripts.specs.declared.verdict.Verdict.{Verdict}
 use Rattle.subscripts.specs.declared.verdict.Verdict.TheVariants as verdict
 use Rattle.line_points.specs.Lines.{OnLine}
 use Rattle.line_points.specs.declared.points.Line.{Line}
-use Rattle.loop_constraints.specs.Constraints.{Allows}
-use Rattle.loop_constraints.specs.declared.constraint.Constraint.{Constraint}
+use Rattle.delta_test.specs.Constraints.{Allows}
+use Rattle.delta_test.specs.declared.constraint.Constraint.{Constraint}
 use Rattle.loop_lines.specs.OneLoop.{HasSevenPlaces, IsLineOf}
 use Rattle.loop_lines.specs.Verdicts.{IfPair, OnAssumed}
 use Rattle.siv_tests.specs.Ways.{IsRefuted}

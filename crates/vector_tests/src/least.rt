@@ -1,6 +1,6 @@
 //! The least meeting of two references of the exact class, loop by loop.
 ghost use Rattle.std.specs.Prelude.{◌≡◌, ◌<◌, ◌↔◌, ℤ, false, All, IsTrue};
-ghost use Rattle.loop_constraints.specs.Constraints.{Allows, IsConstraint};
+ghost use Rattle.delta_test.specs.Constraints.{Allows, IsConstraint};
 ghost use Rattle.loop_lines.specs.OneLoop.{dir_of};
 ghost use Rattle.loop_lines.specs.Places.{loop_at};
 ghost use Rattle.subscripts.specs.Classes.{HasOneLoop};
@@ -12,7 +12,7 @@ ghost use Rattle.vector_tests.specs.Ways.{IsExactClass, IsRefutedVector};
 
 use crate::refs::RefPair;
 use crate::trips::span_at;
-use loop_constraints::{Constraint, constraint_of, least_left, meet_of};
+use delta_test::{Constraint, constraint_of, least_left, meet_of};
 use loop_lines::{LoopPlace, line_of, only_loop_of};
 use subscripts::{Dir, Dirs, Pairing, Point, Span};
 

@@ -4,9 +4,9 @@ use Rattle.std.proofs.lemmas.Int.{to_z-of_z}
 use mir.Syntax.{w64, w128}
 use Rattle.subscripts.specs.declared.affine.Dir.{Dir}
 use Rattle.line_points.specs.Least.{WithinTrip}
-use Rattle.loop_constraints.specs.Left.{IsNoneLeft, IsLeastLeft}
 use Rattle.loop_lines.specs.OneLoop.{dir_of, first_point, second_point}
 use Rattle.loop_lines.specs.Places.{loop_at}
+use Rattle.delta_test.specs.IterationsLeft.{IsNoneLeft, IsLeastLeft}
 use Rattle.delta_test.proofs.OneLoops.{IsMemberOn, members_on, none_of_all, least_of_all, iteration_fits}
 use Rattle.delta_test.proofs.one_loop.least_pair_of_all.Goals as goal
 

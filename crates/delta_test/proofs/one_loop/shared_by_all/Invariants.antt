@@ -1,8 +1,8 @@
 use Rattle.std.proofs.Common.{◌↔◌, take}
 use Rattle.std.specs.Prelude.{ℤ, All}
-use Rattle.loop_constraints.specs.Constraints.{IsConstraint, Allows}
 use Rattle.loop_lines.specs.OneLoop.{HasSevenLists}
 use Rattle.loop_lines.specs.Places.{loop_at}
+use Rattle.delta_test.specs.Constraints.{IsConstraint, Allows}
 use Rattle.delta_test.specs.Groups.{OnAllLines}
 use Rattle.delta_test.proofs.one_loop.shared_by_all.Given as goal
 

@@ -5,7 +5,7 @@ use Rattle.subscripts.specs.Forms.{IsPairOf}
 use Rattle.subscripts.specs.Groups.{IsExactGroup}
 use Rattle.subscripts.specs.Shapes.{AreDirsOf, members}
 use Rattle.subscripts.specs.declared.pairing.Pairing.{Pairing}
-use Rattle.delta_constraints.specs.Members.{HasNoPairOfAll}
+use Rattle.delta_test.specs.Members.{HasNoPairOfAll}
 use Rattle.delta_test.specs.Groups.{AreNotRefuted, IsLeastOfAll}
 use Rattle.loop_lines.specs.Verdicts.{IfPair, OnAssumed, OnNever}
 use Rattle.vector_tests.proofs.Groups.{AreKnown, IsNumbered, all_from, each_of_all, picked_group}

@@ -2,8 +2,8 @@ use Rattle.std.proofs.Common.{◌≡◌, ◌+◌, ◌↔◌, take, sym, subst, a
 use Rattle.std.specs.Prelude.{ℤ}
 use Rattle.std.proofs.lemmas.Bool.{both_ways}
 use Rattle.std.proofs.lemmas.List.{take_all}
-use Rattle.loop_constraints.specs.Constraints.{Allows, IsConstraint}
-use Rattle.loop_constraints.specs.declared.constraint.Constraint.{Constraint}
+use Rattle.delta_test.specs.Constraints.{Allows, IsConstraint}
+use Rattle.delta_test.specs.declared.constraint.Constraint.{Constraint}
 use Rattle.loop_lines.specs.Places.{loop_at}
 use Rattle.vector_tests.proofs.Steps.{solves_more, solves_still}
 use Rattle.vector_tests.specs.Places.{SolvesEach}

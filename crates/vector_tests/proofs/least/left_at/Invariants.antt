@@ -1,6 +1,6 @@
 use Rattle.std.proofs.Common.{◌↔◌, take}
 use Rattle.std.specs.Prelude.{ℤ}
-use Rattle.loop_constraints.specs.Constraints.{Allows, IsConstraint}
+use Rattle.delta_test.specs.Constraints.{Allows, IsConstraint}
 use Rattle.loop_lines.specs.Places.{loop_at}
 use Rattle.vector_tests.specs.Places.{SolvesEach}
 use Rattle.vector_tests.proofs.least.left_at.Given as goal

@@ -5,8 +5,8 @@ use mir.Syntax.{w64, w128}
 use Rattle.subscripts.specs.declared.affine.Dir.{Dir}
 use Rattle.subscripts.specs.declared.affine.Span.{Span}
 use Rattle.subscripts.specs.declared.pairing.Pairing.{Pairing}
-use Rattle.loop_constraints.specs.Constraints.{Allows}
-use Rattle.loop_constraints.specs.Left.{IsLeastLeft, IsNoneLeft}
+use Rattle.delta_test.specs.Constraints.{Allows}
+use Rattle.delta_test.specs.IterationsLeft.{IsLeastLeft, IsNoneLeft}
 use Rattle.loop_lines.specs.OneLoop.{dir_of}
 use Rattle.loop_lines.specs.Places.{loop_at}
 use Rattle.delta_test.proofs.OneLoops.{iteration_fits}

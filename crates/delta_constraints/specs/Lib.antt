@@ -1,5 +1,0 @@
-pub mod Kept
-pub mod Reductions
-pub mod Lefts
-pub mod Members
-pub mod Learned

@@ -1,4 +1,0 @@
-pub mod AloneLaws
-pub mod Holds
-pub mod Straight
-pub mod Answering
