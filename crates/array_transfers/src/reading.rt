@@ -15,7 +15,7 @@ ghost use Rattle.array_transfers.specs.Reading.{ReadsAt, StandAt, AreWithin};
 
 use array_assignments::{Moment, Stuck, at};
 use array_storage::{Place, Target};
-use fv_machine::{Halt, at as located, read_value};
+use fv_machine::{Halt, at as located, name_in, read_value};
 use fv_tree::{Expr, Item, Name, Ref, Seq};
 
 // The value that the place has from now on, as the input says.
@@ -74,18 +74,9 @@ fn read_expression(moment: &mut Moment, line: u32, expr: &Expr, input: &[u8]) ->
     ensures { DoesOver input.now (λ limit. reads_item fortran90 limit (Single (expression_of expr.now)) line)
         (seen moment.old) (seen moment.new) result }
 {
-    match expr {
-        Expr::Item(item) => read_cells(moment, line, item, input),
-        Expr::Int(_) => Ok(()),
-        Expr::Truth(_) => Ok(()),
-        Expr::Un(..) => Ok(()),
-        Expr::Bin(..) => Ok(()),
-        Expr::Call(..) => Ok(()),
-        Expr::List(..) => Ok(()),
-        Expr::Spread(..) => Ok(()),
-        Expr::Transpose(_) => Ok(()),
-        Expr::Reshape(..) => Ok(()),
-        Expr::Reduce(..) => Ok(()),
+    match name_in(expr) {
+        Some(item) => read_cells(moment, line, item, input),
+        None => Ok(()),
     }
 }
 

@@ -1,8 +1,7 @@
 -- What is asked of the bounds of arrays.
-use Rattle.std.specs.Prelude.{Result, Ok, ℕ, ◌+◌, min, ℤ, Bool, ◌||◌, is_none, List, map}
+use Rattle.std.specs.Prelude.{Result, Ok, ℤ, Bool, ◌||◌, is_none, List, map}
 use Rattle.std.specs.List.{list_any}
 use Rattle.fv_tree.specs.Steps.{◌>>=◌}
-use Rattle.fv_tree.specs.Limits.{array_elements}
 use Rattle.fv_tree.specs.Plain.{Expression}
 use Rattle.fv_tree.specs.declared.ops.Fault.{Fault}
 use Rattle.fv_meaning.specs.Store.{Store}
@@ -15,10 +14,6 @@ paired a b = do
   lower ← a
   upper ← b
   Ok (lower, upper)
-
--- a count, where more than there may be count as one more than those
-abbrev pub capped : ℕ → ℕ
-capped n = min n (array_elements + 1)
 
 abbrev pub bounds_in : List Entity → List (List (Expression × Expression))
 bounds_in es = map (λ (e : Entity). e.bounds) es

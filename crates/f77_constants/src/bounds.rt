@@ -1,16 +1,18 @@
 //! Bounds of arrays, and how many elements they make.
-ghost use Rattle.std.specs.Prelude.{◌≡◌, ◌||◌, ◌+◌, ◌*◌, Ok, IfOk, map, sum};
+ghost use Rattle.std.specs.Prelude.{◌≡◌, ◌||◌, IfOk, map, sum};
 ghost use Rattle.std.specs.List.{list_any};
 ghost use Rattle.fv_tree.specs.View.{expression_of};
 ghost use Rattle.f77_grammar.specs.program.Limits as plain;
 ghost use Rattle.f77_syntax.specs.Views.{bounds_of, entity_of};
 ghost use Rattle.f77_constants.specs.Constants.{store_of};
 ghost use Rattle.fv_meaning.specs.Dialect.{fortran77};
-ghost use Rattle.f77_constants.specs.Bounds.{paired, capped, has_reversed, has_bad, bounds_in};
+ghost use Rattle.reading_parts.specs.Counts.{capped};
+ghost use Rattle.f77_constants.specs.Bounds.{paired, has_reversed, has_bad, bounds_in};
 
 use crate::constants::Constants;
 use f77_syntax::Entity;
-use fv_tree::{ARRAY_ELEMENTS, Expr, Fault, Memory};
+use fv_tree::{Expr, Fault, Memory};
+use reading_parts::{product_of, size_between, sum_of};
 use std::alloc::Global;
 
 fn both(lower: Result<i128, Fault>, upper: Result<i128, Fault>) -> Result<(i128, i128), Fault>
@@ -26,41 +28,6 @@ fn is_reversed(dimension: Result<(i128, i128), Fault>) -> bool
         Ok((lower, upper)) => upper < lower,
         Err(_) => false,
     }
-}
-
-// More than the most count as one more than those.
-fn at_most(number: u64) -> u64
-    ensures { result ≡ capped number }
-{
-    number.min(ARRAY_ELEMENTS + 1)
-}
-
-/// The sum of two counts.
-pub fn sum_of(a: u64, b: u64) -> u64
-    ensures { result ≡ capped (a + b) }
-{
-    at_most(a.saturating_add(b))
-}
-
-fn product_of(a: u64, b: u64) -> u64
-    ensures { result ≡ capped (a * b) }
-{
-    at_most(a.saturating_mul(b))
-}
-
-fn size_between(lower: i128, upper: i128) -> u64
-    ensures { result ≡ capped (plain.size_in (Ok (lower, upper))) }
-{
-    if upper < lower {
-        return 0;
-    }
-    let Some(difference) = upper.checked_sub(lower) else {
-        return ARRAY_ELEMENTS + 1;
-    };
-    if difference > i128::from(ARRAY_ELEMENTS) {
-        return ARRAY_ELEMENTS + 1;
-    }
-    at_most(difference as u64 + 1)
 }
 
 fn size(dimension: Result<(i128, i128), Fault>) -> u64

@@ -10,7 +10,8 @@ use Rattle.f77_grammar.specs.expressions.Words as words
 use Rattle.fv_tree.specs.OperatorTable.{Sign, Plus, Minus, Negation, level_of, left_least, right_least, stands_between, sign_level}
 use Rattle.f77_grammar.specs.expressions.Phrases.{Phrase, Phrases, level, depths, tree, trees, written, written_list, IsExpression, sign_word, Literal, WideLiteral, Truth, Name, Listed, Paren, Signed, Joined, One, Then}
 use Rattle.f77_expr.proofs.Placing.{IsGrouped, AreGrouped, are_placed, is_placed, is_expression}
-use Rattle.f77_expr.specs.Reader.{Operand, Frame, State, Wants, Has, Step, Go, Stop, Fail, Read, run, step, went, begin, go_on, begin_sign, sign_of, close, least, join, shut, part, halt, Before, After, Within, Among, Held, into, stopped, checked, placed_alone, read}
+use Rattle.f77_expr.specs.Reader.{Operand, Frame, State, Wants, Has, Step, Go, Stop, Fail, Read, run, step, went, begin, go_on, begin_sign, close, least, join, shut, part, halt, Before, After, Within, Among, Held, into, stopped, checked, placed_alone, read}
+use Rattle.reading_parts.specs.Signs.{sign_of}
 use Rattle.f77_expr.proofs.Complete.{operand_of, stays, closes, signed_is, joined_is, paren_is, same_operand}
 
 -- The words of what is open.

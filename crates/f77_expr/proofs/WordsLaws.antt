@@ -10,8 +10,8 @@ use Rattle.f77_expr.specs.declared.tokens.Token.{Token}
 use Rattle.f77_expr.specs.Lexing.{Front, word}
 use Rattle.f77_expr.specs.declared.symbols.Symbol as code
 use Rattle.f77_expr.specs.Symbols.{symbol_of, symbols_of}
-use Rattle.f77_expr.specs.declared.tokens.Stop.{Stop}
-use Rattle.f77_expr.specs.declared.tokens.Stop.TheVariants.{Syntax, Memory}
+use Rattle.reading_parts.specs.declared.stops.Stop.{Stop}
+use Rattle.reading_parts.specs.declared.stops.Stop.TheVariants.{Syntax, Memory}
 use Rattle.f77_expr.specs.Fronts.{FrontResult, GivesWords}
 use Rattle.f77_expr.specs.Tokens.{word_of}
 use Rattle.f77_expr.specs.Views.{words_of}

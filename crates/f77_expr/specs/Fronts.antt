@@ -13,8 +13,8 @@ use Rattle.f77_expr.specs.Symbols.{symbols_of}
 use Rattle.f77_expr.specs.Tokens.{word_of}
 use Rattle.f77_expr.specs.Views.{words_of}
 use Rattle.f77_expr.specs.declared.symbols.Symbol.{Symbol}
-use Rattle.f77_expr.specs.declared.tokens.Stop.{Stop}
-use Rattle.f77_expr.specs.declared.tokens.Stop.TheVariants.{Syntax, Memory}
+use Rattle.reading_parts.specs.declared.stops.Stop.{Stop}
+use Rattle.reading_parts.specs.declared.stops.Stop.TheVariants.{Syntax, Memory}
 use Rattle.f77_expr.specs.declared.tokens.Token.{Token}
 
 -- a character that passes is at the front

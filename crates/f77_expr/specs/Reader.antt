@@ -2,13 +2,13 @@
 use Rattle.std.specs.Prelude.{ℕ, ◌+◌, max, min, pos, Bool, true, false, ◌&&◌, nat_lt, nat_le, List, [], ◌∷◌, ◌++◌}
 use Rattle.std.specs.Prelude.{Option, Some, None, if◌then◌else◌}
 use Rattle.fv_tree.specs.declared.ops.Op.{Op}
-use Rattle.fv_tree.specs.declared.ops.Op.TheVariants.{Add, Sub, Not}
 use Rattle.fv_tree.specs.Limits.{expression_depth77}
 use Rattle.fv_tree.specs.Plain.{Expression, Number, Logic, Named, Binary, Subscript, Only, subscripts, no_subscripts}
 use Rattle.f77_grammar.specs.expressions.Words as words
 use Rattle.f77_grammar.specs.expressions.Words.{Word}
-use Rattle.fv_tree.specs.OperatorTable.{Sign, Plus, Minus, Negation, level_of, left_least, right_least, stands_between}
+use Rattle.fv_tree.specs.OperatorTable.{Sign, Plus, level_of, left_least, right_least, stands_between}
 use Rattle.fv_tree.specs.OperatorTable.{is_relation, may_follow, sign_level}
+use Rattle.reading_parts.specs.Signs.{sign_leads, sign_of}
 use Rattle.f77_grammar.specs.expressions.Phrases.{signed, sign_word}
 
 -- what is kept of an operand; `placed` is that each plus or minus sign in it stands where one may
@@ -29,10 +29,6 @@ deeper d = capped (d + 1)
 abbrev pub sign_deeper : Sign → ℕ → ℕ
 sign_deeper Plus d = d
 sign_deeper s d = deeper d
-
-abbrev pub sign_leads : Sign → Bool
-sign_leads Negation = false
-sign_leads s = true
 
 abbrev pub primary : Expression → Operand
 primary e = record { level = 10; depth = 0; begins_with_sign = false; placed = true; tree = e }
@@ -115,12 +111,6 @@ pub data Step : Type 0 where
   Go : State → Step
   Stop : Operand → Step
   Fail : Step
-
-abbrev pub sign_of : Op → Option Sign
-sign_of Add = Some Plus
-sign_of Sub = Some Minus
-sign_of Not = Some Negation
-sign_of o = None
 
 abbrev pub begin_sign : List Frame → Option Sign → Step
 begin_sign fs None = Fail

@@ -12,8 +12,8 @@ use Rattle.fv_tree.specs.declared.exprs.Expr.{Expr}
 use Rattle.f77_expr.specs.declared.expressions.Unread.{Unread}
 use Rattle.f77_expr.specs.declared.expressions.Unread.TheVariants.{NoExpression, WideLiteral, Deep, OutOfMemory}
 use Rattle.f77_expr.specs.declared.operands.Operand.{Operand}
-use Rattle.f77_expr.specs.declared.tokens.Stop.{Stop}
-use Rattle.f77_expr.specs.declared.tokens.Stop.TheVariants.{Syntax, Memory}
+use Rattle.reading_parts.specs.declared.stops.Stop.{Stop}
+use Rattle.reading_parts.specs.declared.stops.Stop.TheVariants.{Syntax, Memory}
 use Rattle.f77_expr.specs.declared.tokens.Token.{Token}
 use Rattle.f77_expr.specs.Reader.{capped}
 use Rattle.f77_expr.specs.Views.{words_of}

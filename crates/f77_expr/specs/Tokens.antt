@@ -1,22 +1,9 @@
 -- The words that the code holds, as words of the grammar.
-use Rattle.std.specs.Prelude.{Option, Some, None}
-use Rattle.fv_tree.specs.OperatorTable as table
 use Rattle.f77_grammar.specs.expressions.Words as words
 use Rattle.f77_grammar.specs.expressions.Words.{Word}
-use Rattle.f77_expr.specs.declared.tokens.Sign.{Sign}
-use Rattle.f77_expr.specs.declared.tokens.Sign.TheVariants.{Plus, Minus, Negation}
 use Rattle.f77_expr.specs.declared.tokens.Token.{Token}
 use Rattle.f77_expr.specs.declared.tokens.Token.TheVariants.{Number, Wide, Truth, Name, Head, Operator, Open, Close}
 use Rattle.f77_expr.specs.declared.tokens.Token.TheVariants.{Comma, Equals, Colon, Constant}
-
-abbrev pub sign_view : Sign → table.Sign
-sign_view Plus = table.Plus
-sign_view Minus = table.Minus
-sign_view Negation = table.Negation
-
-abbrev pub sign_view_option : Option Sign → Option table.Sign
-sign_view_option None = None
-sign_view_option (Some s) = Some (sign_view s)
 
 abbrev pub word_of : Token → Word
 word_of (Number n) = words.Number n

@@ -8,13 +8,14 @@ use Rattle.f77_expr.specs.declared.operands.Frame.{Frame}
 use Rattle.f77_expr.specs.declared.operands.Frame.TheVariants.{Before, After, Within, Among}
 use Rattle.f77_expr.specs.declared.reader.Turn.{Turn}
 use Rattle.f77_expr.specs.declared.reader.Turn.TheVariants.{On, Whole}
-use Rattle.f77_expr.specs.declared.tokens.Stop.{Stop}
-use Rattle.f77_expr.specs.declared.tokens.Stop.TheVariants.{Syntax, Memory}
+use Rattle.reading_parts.specs.declared.stops.Stop.{Stop}
+use Rattle.reading_parts.specs.declared.stops.Stop.TheVariants.{Syntax, Memory}
 use Rattle.f77_expr.specs.declared.tokens.Token.{Token}
 use Rattle.std.specs.Borrow.{Bor}
 use Rattle.f77_grammar.specs.expressions.Words.{Word}
 use Rattle.f77_expr.specs.Reader as reader
-use Rattle.f77_expr.specs.Tokens.{sign_view, word_of}
+use Rattle.f77_expr.specs.Tokens.{word_of}
+use Rattle.reading_parts.specs.Signs.{sign_view}
 
 abbrev pub subscripts_of : List Sub → List Subscript
 subscripts_of subs = map subscript_of subs

@@ -15,8 +15,9 @@ use crate::lexer::words;
 use crate::operands::Operand;
 use crate::reader::read;
 use crate::symbols::squeeze;
-use crate::tokens::{Stop, Token};
+use crate::tokens::Token;
 use fv_tree::{EXPRESSION_DEPTH_77, Expr, Memory};
+use reading_parts::Stop;
 use std::alloc::Global;
 
 /// Why characters aren't read as an expression: the first of these that holds.

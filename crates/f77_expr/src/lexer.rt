@@ -14,8 +14,9 @@ ghost use Rattle.f77_expr.specs.Fronts.{FrontOption, FrontResult, AfterChar, Giv
 ghost use Rattle.f77_expr.specs.Views.{words_of};
 
 use crate::symbols::Symbol;
-use crate::tokens::{Stop, Token};
+use crate::tokens::Token;
 use fv_tree::{GREATEST_LITERAL, Name, Op, copy_text};
+use reading_parts::Stop;
 use std::alloc::Global;
 
 fn is_letter(c: u8) -> bool

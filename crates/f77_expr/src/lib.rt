@@ -18,4 +18,4 @@ pub use lexer::{next_digit, next_letter_or_digit, strip, words};
 pub use operands::{Operand, deepened};
 pub use reader::read;
 pub use symbols::{Symbol, squeeze};
-pub use tokens::{Stop, Token};
+pub use tokens::Token;

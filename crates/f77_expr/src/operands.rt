@@ -6,12 +6,12 @@ ghost use Rattle.fv_tree.specs.OperatorTable.{may_follow};
 ghost use Rattle.f77_expr.specs.Reader.{deeper, signed_operand, joined_operand, paren_operand, listed_operand, primary};
 ghost use Rattle.f77_expr.specs.Reader.{frame_least};
 ghost use Rattle.f77_expr.specs.Reader as reader;
-ghost use Rattle.f77_expr.specs.Tokens.{sign_view};
+ghost use Rattle.reading_parts.specs.Signs.{sign_view};
 ghost use Rattle.f77_expr.specs.Views.{operand_of, frame_of, subscripts_of};
 ghost use Rattle.std.specs.Prelude.{map};
 
-use crate::tokens::Sign;
 use fv_tree::{EXPRESSION_DEPTH_77, Expr, Memory, Name, Op, Ref, Seq, Sub};
+use reading_parts::Sign;
 use std::alloc::{AllocError, Global};
 
 // Whether an operand may stand behind the operator, by whether it begins with such a sign.

@@ -9,10 +9,12 @@ ghost use Rattle.f77_expr.specs.Reading.{Ends, Gives};
 ghost use Rattle.f77_expr.specs.Tokens.{word_of};
 ghost use Rattle.f77_expr.specs.Views.{operand_of, frame_of, stack, held, state_of, words_of, Begins, Turns, Shuts};
 ghost use Rattle.f77_expr.specs.Views.{Parts, Halts, Finishes, Reads};
+ghost use Rattle.reading_parts.specs.Signs.{sign_of};
 
 use crate::operands::{Frame, Operand};
-use crate::tokens::{Sign, Stop, Token};
+use crate::tokens::Token;
 use fv_tree::{Expr, Memory, Op, Ref, Seq, Sub};
+use reading_parts::{Sign, Stop};
 use std::alloc::Global;
 
 // The least level of an operand in the innermost frame.
@@ -50,7 +52,7 @@ fn close(
 // A sign where an operand is due.
 #[tactic(auto, using(crate::proofs::Stacks::stacks))]
 fn begin_sign(frames: &mut Vec<Frame>, op: Op) -> Result<Option<Operand>, Stop>
-    ensures { Begins result frames.new.items (reader.begin_sign (stack frames.old.items) (reader.sign_of op)) }
+    ensures { Begins result frames.new.items (reader.begin_sign (stack frames.old.items) (sign_of op)) }
 {
     let Some(sign) = Sign::of(op) else {
         return Err(Stop::Syntax);

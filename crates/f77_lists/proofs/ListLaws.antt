@@ -4,8 +4,8 @@ use Rattle.std.specs.Prelude.{IfOk}
 use Rattle.f77_grammar.specs.expressions.Words.{Word}
 use Rattle.f77_grammar.specs.statements.Items.{ItemPhrases, AreItems, written_items}
 use Rattle.f77_grammar.specs.declared.directions.Direction.{Direction}
-use Rattle.f77_expr.specs.declared.tokens.Stop.{Stop}
-use Rattle.f77_expr.specs.declared.tokens.Stop.TheVariants.{Syntax, Memory}
+use Rattle.reading_parts.specs.declared.stops.Stop.{Stop}
+use Rattle.reading_parts.specs.declared.stops.Stop.TheVariants.{Syntax, Memory}
 use Rattle.f77_lists.specs.declared.lists.ItemList.{ItemList}
 use Rattle.f77_lists.specs.Reader as reader
 use Rattle.f77_lists.specs.Reader.{Frame, State, Done, Step, none, step, start, Path, Reaches}

@@ -6,8 +6,8 @@ use Rattle.f77_grammar.specs.expressions.Words.{Word}
 use Rattle.f77_grammar.specs.statements.Controls.{Control, IsControl, written_control, step_tree, control_depth}
 use Rattle.f77_grammar.specs.statements.Items.{ItemPhrases, AreItems, written_items, item_trees, items_depth}
 use Rattle.f77_grammar.specs.declared.directions.Direction.{Direction}
-use Rattle.f77_expr.specs.declared.tokens.Stop.{Stop}
-use Rattle.f77_expr.specs.declared.tokens.Stop.TheVariants.{Syntax, Memory}
+use Rattle.reading_parts.specs.declared.stops.Stop.{Stop}
+use Rattle.reading_parts.specs.declared.stops.Stop.TheVariants.{Syntax, Memory}
 use Rattle.f77_expr.specs.Reader.{capped}
 use Rattle.f77_lists.specs.declared.controls.DoControl.{DoControl}
 use Rattle.f77_lists.specs.declared.lists.ItemList.{ItemList}

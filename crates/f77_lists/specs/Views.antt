@@ -8,8 +8,8 @@ use Rattle.f77_grammar.specs.expressions.Words as words
 use Rattle.f77_grammar.specs.expressions.Words.{Word}
 use Rattle.f77_grammar.specs.declared.directions.Direction.{Direction}
 use Rattle.f77_expr.specs.Views.{words_of}
-use Rattle.f77_expr.specs.declared.tokens.Stop.{Stop}
-use Rattle.f77_expr.specs.declared.tokens.Stop.TheVariants.{Syntax, Memory}
+use Rattle.reading_parts.specs.declared.stops.Stop.{Stop}
+use Rattle.reading_parts.specs.declared.stops.Stop.TheVariants.{Syntax, Memory}
 use Rattle.f77_expr.specs.declared.tokens.Token.{Token}
 use Rattle.f77_lists.specs.declared.controls.DoControl.{DoControl}
 use Rattle.f77_lists.specs.declared.lists.ItemList.{ItemList}

@@ -8,8 +8,9 @@ ghost use Rattle.f77_lists.specs.Reading.{Given, IsControlOf};
 ghost use Rattle.f77_lists.specs.Views.{GivesBound, GivesControl};
 
 use f77_expr::reader::read;
-use f77_expr::tokens::{Stop, Token};
+use f77_expr::tokens::Token;
 use fv_tree::{Expr, Name};
+use reading_parts::Stop;
 use std::alloc::Global;
 
 /// A DO variable with its parameters, and the depth of the deepest, which is counted up to the first that is too deep.

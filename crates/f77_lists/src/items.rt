@@ -8,8 +8,9 @@ ghost use Rattle.f77_lists.specs.Reading.{Gives};
 
 use crate::lists::ItemList;
 use crate::reader::run;
-use f77_expr::tokens::{Stop, Token};
+use f77_expr::tokens::Token;
 use f77_grammar::Direction;
+use reading_parts::Stop;
 use std::alloc::Global;
 
 /// Reads all words as the list of a PRINT (ANSI X3.9-1978, 12.8.2.2).

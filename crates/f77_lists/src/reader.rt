@@ -9,9 +9,10 @@ ghost use Rattle.f77_lists.specs.Views.{stack, state_of, frame_of, Leaves, Turns
 
 use crate::controls::{DoControl, begins_control, read_control};
 use crate::lists::ItemList;
-use f77_expr::{Operand, Stop, Token, begins_with_name, deepened, read};
+use f77_expr::{Operand, Token, begins_with_name, deepened, read};
 use f77_grammar::Direction;
 use fv_tree::{Item, Memory, Seq, copy_text};
+use reading_parts::Stop;
 use std::alloc::Global;
 
 /// What comes next, with the words that follow: an item is due, or has been read, or the list is whole.

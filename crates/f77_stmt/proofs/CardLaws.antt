@@ -13,8 +13,8 @@ use Rattle.f77_grammar.specs.statements.Reading as reading
 use Rattle.f77_grammar.specs.statements.Reading.{IsFormOf, ReadsStatement, HasNoForm, HasWordLeftOut, IsRefusedBy}
 use Rattle.f77_grammar.specs.statements.Recognition.{HasWord}
 use Rattle.f77_syntax.specs.declared.statements.Stmt77.{Stmt77}
-use Rattle.f77_expr.specs.declared.tokens.Stop.{Stop}
-use Rattle.f77_expr.specs.declared.tokens.Stop.TheVariants.{Syntax}
+use Rattle.reading_parts.specs.declared.stops.Stop.{Stop}
+use Rattle.reading_parts.specs.declared.stops.Stop.TheVariants.{Syntax}
 use Rattle.f77_expr.specs.Symbols.{symbols_of}
 use Rattle.f77_expr.specs.declared.symbols.Symbol.{Symbol as Symbol'}
 use Rattle.f77_stmt.specs.declared.formed.Formed.{Formed}

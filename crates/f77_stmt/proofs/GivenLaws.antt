@@ -2,8 +2,8 @@
 use Rattle.std.proofs.Common.{◌≡◌, List, [], ◌∷◌, length, ap, refl, arith, Err}
 use Rattle.std.proofs.lemmas.List.{length-map}
 use Rattle.f77_grammar.specs.expressions.Words.{Word}
-use Rattle.f77_expr.specs.declared.tokens.Stop.{Stop}
-use Rattle.f77_expr.specs.declared.tokens.Stop.TheVariants.{Syntax, Memory}
+use Rattle.reading_parts.specs.declared.stops.Stop.{Stop}
+use Rattle.reading_parts.specs.declared.stops.Stop.TheVariants.{Syntax, Memory}
 use Rattle.f77_expr.specs.declared.tokens.Token.{Token}
 use Rattle.f77_expr.specs.Fronts.{GivesWords}
 use Rattle.f77_expr.specs.Tokens.{word_of}

@@ -17,7 +17,7 @@ use Rattle.f77_grammar.specs.statements.Controls.{Control}
 use Rattle.f77_grammar.specs.statements.Forms as forms
 use Rattle.f77_grammar.specs.statements.Forms.{Form, IsWritten, IsInner, statement_of, form_words, form_depth}
 use Rattle.f77_grammar.specs.statements.Recognition.{has_equals_outside, IsConditional}
-use Rattle.f77_expr.specs.declared.tokens.Stop.{Stop}
+use Rattle.reading_parts.specs.declared.stops.Stop.{Stop}
 use Rattle.f77_keywords.specs.Kinds.{HasKeyword}
 use Rattle.f77_keywords.specs.Outside.{has_comma_outside}
 use Rattle.f77_keywords.proofs.Recognised.{recognised_if, recognised_test, recognised_assign, recognised_do, recognised_keyword}

@@ -5,8 +5,8 @@ use Rattle.std.proofs.lemmas.List.{map-append, length-map, length-append}
 use Rattle.f77_grammar.specs.expressions.Words as words
 use Rattle.f77_grammar.specs.expressions.Words.{Word}
 use Rattle.f77_grammar.specs.statements.Forms.{separated, followed, IsList, deepest}
-use Rattle.f77_expr.specs.declared.tokens.Stop.{Stop}
-use Rattle.f77_expr.specs.declared.tokens.Stop.TheVariants.{Syntax, Memory}
+use Rattle.reading_parts.specs.declared.stops.Stop.{Stop}
+use Rattle.reading_parts.specs.declared.stops.Stop.TheVariants.{Syntax, Memory}
 use Rattle.f77_expr.specs.declared.tokens.Token.{Token}
 use Rattle.f77_expr.specs.Tokens.{word_of}
 use Rattle.f77_expr.specs.Views.{words_of}

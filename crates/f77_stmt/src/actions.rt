@@ -15,11 +15,12 @@ ghost use Rattle.f77_stmt.specs.Keywords.{IsPrintAfter};
 ghost use Rattle.f77_stmt.specs.Parts.{Given, IsFormedOf};
 
 use crate::formed::Formed;
-use f77_expr::{Stop, Symbol, has_wide, strip, whole, words};
+use f77_expr::{Symbol, has_wide, strip, whole, words};
 use f77_keywords::{cut_at_close, is_then, label};
 use f77_lists::{read_inputs, read_items};
 use f77_syntax::Stmt77;
 use fv_tree::{Expr, Seq};
+use reading_parts::Stop;
 use std::alloc::Global;
 
 /// A label as that of a GO TO (section 11.1).

@@ -11,9 +11,10 @@ ghost use Rattle.fv_tree.specs.View.{expression_of, reference_of};
 ghost use Rattle.f77_stmt.specs.Parts.{IsItem, Given, BeginsWithReference, IsReferenceOf, IsAssignment, IsFormedOf};
 
 use crate::formed::Formed;
-use f77_expr::{Operand, Stop, Token, after_equals, begins_with_name, has_wide, read, whole};
+use f77_expr::{Operand, Token, after_equals, begins_with_name, has_wide, read, whole};
 use f77_syntax::Stmt77;
 use fv_tree::{Expr, Ref};
+use reading_parts::Stop;
 use std::alloc::Global;
 
 // An operand that is a name, or a name with a list, with its depth.

@@ -9,11 +9,12 @@ ghost use Rattle.f77_stmt.specs.Refusing.{IsFormless, limited};
 
 use crate::formed::Formed;
 use crate::forms::form;
-use f77_expr::{Stop, Symbol, squeeze};
+use f77_expr::{Symbol, squeeze};
 use f77_keywords::word_left_out;
 use f77_syntax::Stmt77;
 use fixed_form::Card;
 use fv_tree::{Cause, EXPRESSION_DEPTH_77, Refusal, Refused};
+use reading_parts::Stop;
 use std::alloc::Global;
 
 // The statement, where its literals and its depth are within the limits.

@@ -20,11 +20,12 @@ ghost use Rattle.f77_stmt.specs.Declarations.{IsBoundOf};
 ghost use Rattle.f77_stmt.specs.Separated.{EndsPart, EndsList, BeginsWithList, IsRead};
 
 use f77_expr::{
-    Operand, Stop, Token, after_close, after_colon, after_comma, after_equals, after_head,
-    after_name, read,
+    Operand, Token, after_close, after_colon, after_comma, after_equals, after_head, after_name,
+    read,
 };
 use f77_syntax::Entity;
 use fv_tree::{ARRAY_DIMENSIONS, Expr, Name, Seq};
+use reading_parts::Stop;
 use std::alloc::Global;
 
 // An upper bound alone.

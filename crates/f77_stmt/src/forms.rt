@@ -30,11 +30,12 @@ use crate::assignments::assignment;
 use crate::formed::Formed;
 use crate::keywords::Keyword;
 use crate::statements::{constants, declaration, dimension, program};
-use f77_expr::{Stop, Symbol, has_wide, strip, words};
+use f77_expr::{Symbol, has_wide, strip, words};
 use f77_keywords::{Outside, behind_comma, conditional, is_then, label};
 use f77_lists::{DoControl, whole_control};
 use f77_syntax::Stmt77;
 use fv_tree::{Expr, Kind};
+use reading_parts::Stop;
 use std::alloc::Global;
 
 // Whether the statement may be the inner one of a logical IF.

@@ -18,9 +18,10 @@ ghost use Rattle.f77_stmt.specs.Parts.{Given, IsFormedOf};
 
 use crate::declarations::{read_definitions, read_entities};
 use crate::formed::Formed;
-use f77_expr::{Stop, Symbol, Token, after_close, after_open, has_wide, words};
+use f77_expr::{Symbol, Token, after_close, after_open, has_wide, words};
 use f77_syntax::{Entity, Stmt77};
 use fv_tree::{Expr, Kind, Name, Seq};
+use reading_parts::Stop;
 use std::alloc::Global;
 
 // The name that is the only word.

@@ -1,5 +1,5 @@
 -- What the statements behind a place have become.
-use Rattle.std.specs.Prelude.{◌≡◌, ℕ, Bool, false, Option, Some, None, List, [], ◌∷◌, ◌++◌}
+use Rattle.std.specs.Prelude.{◌≡◌, ◌≢◌, ℕ, Bool, false, Option, Some, None, List, [], ◌∷◌, ◌++◌}
 use Rattle.std.specs.Prelude.{map, reverse, if◌then◌else◌}
 use Rattle.fv_tree.specs.Plain as tree
 use Rattle.fv_tree.specs.Plain.{Arms, Block}
@@ -44,6 +44,10 @@ with_label has None b = b
 -- the innermost first
 abbrev pub opens_seen : List Open → List Ended
 opens_seen os = reverse (map open_seen os)
+
+-- the innermost of these blocks is no block IF, or there is none
+abbrev pub IsNotInIf : List Open → Type 0
+IsNotInIf os = (later : Arms) (other behind : Block) (es : List Ended) → opens_seen os ≢ EndedIf later other behind ∷ es
 
 -- the block so far, and the blocks round it
 pub record Shows (r : Rest) (b : Block) (es : List Ended) : Type 0 where

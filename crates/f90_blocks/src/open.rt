@@ -1,9 +1,10 @@
 //! Blocks, as they are put together from the last statement of a program back to the first.
-ghost use Rattle.std.specs.Prelude.{◌≡◌, List, [], ◌∷◌, IfOk};
+ghost use Rattle.std.specs.Prelude.{◌≡◌, List, [], ◌∷◌, ◌++◌, IfOk, MatchOption};
 ghost use Rattle.fv_tree.specs.Plain as plain;
 ghost use Rattle.fv_tree.specs.Plain.{Arms, Block as PlainBlock};
 ghost use Rattle.fv_tree.specs.View.{expression_of, statement_of, block_of};
-ghost use Rattle.f90_blocks.specs.Rests.{Ended, EndedIf, EndedDo, Shows, block_seen, opens_seen};
+ghost use Rattle.f90_blocks.specs.declared.open.Open.TheVariants as opens;
+ghost use Rattle.f90_blocks.specs.Rests.{Ended, EndedIf, EndedDo, IsNotInIf, Shows, block_seen, opens_seen};
 
 use fv_tree::{Arm, Block, Expr, Memory, Name, Seq, Stmt};
 use std::alloc::Global;
@@ -38,6 +39,21 @@ fn turned(stmts: Vec<Stmt>) -> Block
     stmts.reverse();
     Block {
         stmts: Seq::from_vec(stmts),
+    }
+}
+
+// Takes out the innermost block that is open, a block IF: its later arms, its ELSE part and what is behind its end.
+fn take_if(opened: &mut Vec<Open>) -> Option<(Vec<Arm>, Block, Vec<Stmt>)>
+    ensures { MatchOption result (IsNotInIf opened.old.items)
+        (λ taken. opened.old.items ≡ opened.new.items ++ opens.If taken.0 taken.1 taken.2 ∷ []) }
+{
+    match opened.pop()? {
+        Open::If {
+            later,
+            other,
+            behind,
+        } => Some((later, other, behind)),
+        Open::Do { .. } => None,
     }
 }
 
@@ -104,15 +120,7 @@ impl Rest {
             (EndedIf later (block_seen self.stmts.items) behind ∷ es)) }
     {
         let Rest { stmts, mut opened } = self;
-        let Some(ended) = opened.pop() else {
-            return Ok(Rest { stmts, opened });
-        };
-        let Open::If {
-            later,
-            other: _,
-            behind,
-        } = ended
-        else {
+        let Some((later, _, behind)) = take_if(&mut opened) else {
             return Ok(Rest { stmts, opened });
         };
         let other = turned(stmts);
@@ -133,15 +141,7 @@ impl Rest {
             (EndedIf (plain.arm (expression_of test) (block_seen self.stmts.items) later) other behind ∷ es)) }
     {
         let Rest { stmts, mut opened } = self;
-        let Some(ended) = opened.pop() else {
-            return Ok(Rest { stmts, opened });
-        };
-        let Open::If {
-            mut later,
-            other,
-            behind,
-        } = ended
-        else {
+        let Some((mut later, other, behind)) = take_if(&mut opened) else {
             return Ok(Rest { stmts, opened });
         };
         let body = turned(stmts);
@@ -163,15 +163,7 @@ impl Rest {
             (plain.If line (plain.arm (expression_of test) (block_seen self.stmts.items) later) other) behind) es) }
     {
         let Rest { stmts, mut opened } = self;
-        let Some(ended) = opened.pop() else {
-            return Ok(Rest { stmts, opened });
-        };
-        let Open::If {
-            mut later,
-            other,
-            behind,
-        } = ended
-        else {
+        let Some((mut later, other, behind)) = take_if(&mut opened) else {
             return Ok(Rest { stmts, opened });
         };
         let body = turned(stmts);

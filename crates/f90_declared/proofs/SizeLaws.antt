@@ -29,7 +29,8 @@ use Rattle.f90_statements.specs.declared.nodes.Statement.{Statement}
 use Rattle.f90_statements.specs.declared.nodes.Statement.TheVariants.{Declare}
 use Rattle.f90_declared.proofs.EntryLaws.{is_declaration, declares_nothing}
 use Rattle.f90_declared.proofs.PlaceLaws.{same_length}
-use Rattle.f90_declared.specs.Bounds.{capped, are_wide, given_bounds, given_in, elements_in, all_elements}
+use Rattle.f90_declared.specs.Bounds.{are_wide, given_bounds, given_in, elements_in, all_elements}
+use Rattle.reading_parts.specs.Counts.{capped}
 
 -- ---- tests that fail
 

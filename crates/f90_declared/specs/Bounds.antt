@@ -1,9 +1,8 @@
 -- Bounds of arrays, and how many elements they make.
-use Rattle.std.specs.Prelude.{◌≡◌, ℕ, ◌+◌, min, ℤ, FitsSigned, IsTrue, Bool, false, Option, None, Some}
+use Rattle.std.specs.Prelude.{◌≡◌, ℕ, ℤ, FitsSigned, IsTrue, Bool, false, Option, None, Some}
 use Rattle.std.specs.Prelude.{List, [], map, sum}
 use Rattle.std.specs.Int.{w64}
 use Rattle.std.specs.List.{list_any}
-use Rattle.fv_tree.specs.Limits as limits
 use Rattle.fv_tree.specs.Plain.{Declaration}
 use Rattle.fv_tree.specs.View.{bounds_of}
 use Rattle.fv_tree.specs.declared.programs.Dim.{Dim}
@@ -31,10 +30,6 @@ IsNarrowOf (Some z) b = (z ≡ bound_value b) × FitsSigned w64 (bound_value b)
 abbrev pub IsDimOf : Option Dim → forms.Dimension → Type 0
 IsDimOf None d = IsDimension (dimension_bounds d) → ⊥
 IsDimOf (Some dim) d = (bounds_of dim ≡ dimension_bounds d) × IsDimension (dimension_bounds d)
-
--- a count, where more than there may be count as one more than those
-abbrev pub capped : ℕ → ℕ
-capped n = min n (limits.array_elements + 1)
 
 -- a bound of it is too great
 abbrev pub are_wide : forms.Entity → Bool

@@ -1,5 +1,5 @@
 //! Bounds of declared arrays, and how many elements they make.
-ghost use Rattle.std.specs.Prelude.{◌≡◌, ◌*◌, ◌+◌, false, map, List};
+ghost use Rattle.std.specs.Prelude.{◌≡◌, false, map, List};
 ghost use Rattle.std.specs.List.{list_any};
 ghost use Rattle.fv_meaning.specs.Profile77.{elements_of, array_elements};
 ghost use Rattle.fv_meaning.specs.Store.{size_of};
@@ -7,10 +7,12 @@ ghost use Rattle.f90_grammar.specs.Contents.{is_wide, is_wide_dimension};
 ghost use Rattle.f90_grammar.specs.Forms as forms;
 ghost use Rattle.f90_grammar.specs.Reading.{bound_value, dimension_bounds};
 ghost use Rattle.f90_statements.specs.Views.{AreOf, IsBoundOf, IsDimensionOf};
-ghost use Rattle.f90_declared.specs.Bounds.{IsValueOf, IsNarrowOf, IsDimOf, capped};
+ghost use Rattle.f90_declared.specs.Bounds.{IsValueOf, IsNarrowOf, IsDimOf};
+ghost use Rattle.reading_parts.specs.Counts.{capped};
 
 use f90_statements::{Bound, Dimension};
-use fv_tree::{ARRAY_ELEMENTS, Dim};
+use fv_tree::Dim;
+use reading_parts::{product_of, size_between};
 
 // The value of a bound; none: its literal is above 2^127-1.
 fn value(bound: Bound) -> Option<i128>
@@ -55,41 +57,6 @@ fn value_or_zero(bound: Bound) -> i128
     ensures { (b : forms.Bound) → IsBoundOf bound b → is_wide b.digits ≡ false → result ≡ bound_value b }
 {
     value(bound).unwrap_or(0)
-}
-
-// More than the most count as one more than those.
-fn at_most(number: u64) -> u64
-    ensures { result ≡ capped number }
-{
-    number.min(ARRAY_ELEMENTS + 1)
-}
-
-/// The sum of two counts.
-pub(crate) fn sum_of(a: u64, b: u64) -> u64
-    ensures { result ≡ capped (a + b) }
-{
-    at_most(a.saturating_add(b))
-}
-
-fn product_of(a: u64, b: u64) -> u64
-    ensures { result ≡ capped (a * b) }
-{
-    at_most(a.saturating_mul(b))
-}
-
-fn size_between(lower: i128, upper: i128) -> u64
-    ensures { result ≡ capped (size_of (lower, upper)) }
-{
-    if upper < lower {
-        return 0;
-    }
-    let Some(difference) = upper.checked_sub(lower) else {
-        return ARRAY_ELEMENTS + 1;
-    };
-    if difference > i128::from(ARRAY_ELEMENTS) {
-        return ARRAY_ELEMENTS + 1;
-    }
-    at_most(difference as u64 + 1)
 }
 
 fn size(dimension: Dimension) -> u64

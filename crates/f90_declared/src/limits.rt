@@ -14,12 +14,14 @@ ghost use Rattle.f90_grammar.specs.Reading.{dimension_bounds};
 ghost use Rattle.f90_forms.specs.Places.{IsPlacedOf};
 ghost use Rattle.f90_places.specs.First.{FindsFirst};
 ghost use Rattle.f90_statements.specs.Views.{AreOf, IsDimensionOf, IsEntityOf, IsStatementOf};
-ghost use Rattle.f90_declared.specs.Bounds.{capped, are_wide, given_bounds, given_in, elements_in, all_elements};
+ghost use Rattle.f90_declared.specs.Bounds.{are_wide, given_bounds, given_in, elements_in, all_elements};
+ghost use Rattle.reading_parts.specs.Counts.{capped};
 
-use crate::bounds::{dim, elements, sum_of};
+use crate::bounds::{dim, elements};
 use f90_forms::Placed;
 use f90_statements::{Dimension, Entity, Statement};
 use fv_tree::{ARRAY_ELEMENTS, PROGRAM_NAMES_90};
+use reading_parts::sum_of;
 
 // ---- bounds
 

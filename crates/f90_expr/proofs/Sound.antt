@@ -12,7 +12,8 @@ use Rattle.f90_grammar.specs.Phrases as phrases
 use Rattle.f90_grammar.specs.Phrases.{Phrase, Part, Value, Range, Strided, Parts, Phrases, Turn, level, depth, written, written_part, written_parts, written_values, written_turn, IsExpression, sign_word, depth_of_part, depth_of_parts, depth_of_values, depth_of_turn}
 use Rattle.f90_expr.specs.Flat as flats
 use Rattle.f90_expr.specs.Flat.{Node, flat, flat_part, flat_parts, flat_values, flat_turn, placed, placed_part, placed_parts, placed_values, placed_turn}
-use Rattle.f90_expr.specs.Machine.{Info, counted, deeper, info_of, primary, signed, joined, enclosed, Frame, Before, After, Within, Among, From, By, Items, First, Last, State, Wants, Has, HasTurn, WantsName, WantsEquals, Step, Go, Stop, Fail, Read, run, step, went, stopped, begin, begin_sign, sign_of, go_on, after_turn, loop_round, end_looped, take_name, take_equals, close, Held, halted, halt, least, join, turn_node, shut, part, colon, shut_list}
+use Rattle.f90_expr.specs.Machine.{Info, counted, deeper, info_of, primary, signed, joined, enclosed, Frame, Before, After, Within, Among, From, By, Items, First, Last, State, Wants, Has, HasTurn, WantsName, WantsEquals, Step, Go, Stop, Fail, Read, run, step, went, stopped, begin, begin_sign, go_on, after_turn, loop_round, end_looped, take_name, take_equals, close, Held, halted, halt, least, join, turn_node, shut, part, colon, shut_list}
+use Rattle.reading_parts.specs.Signs.{sign_of}
 use Rattle.f90_expr.proofs.Stacks.{stays, closes}
 use Rattle.f90_expr.proofs.Complete.{signed_is, joined_is, enclosed_is, counted_max}
 use Rattle.f90_expr.proofs.Placing.{IsGrouped, IsGroupedPart, AreGroupedParts, AreGroupedValues, IsGroupedTurn, is_expression}

@@ -3,9 +3,9 @@
 use Rattle.std.specs.Prelude.{ℕ, ◌+◌, min, max, nat_lt, nat_le, Bool, true, false, ◌&&◌, List, [], ◌∷◌, ◌++◌}
 use Rattle.std.specs.Prelude.{Option, Some, None, if◌then◌else◌}
 use Rattle.fv_tree.specs.declared.ops.Op.{Op}
-use Rattle.fv_tree.specs.declared.ops.Op.TheVariants.{Add, Sub, Not}
-use Rattle.fv_tree.specs.OperatorTable.{Sign, Plus, Minus, Negation, level_of, left_least, right_least, stands_between}
+use Rattle.fv_tree.specs.OperatorTable.{Sign, Plus, level_of, left_least, right_least, stands_between}
 use Rattle.fv_tree.specs.OperatorTable.{sign_level, is_relation, may_follow}
+use Rattle.reading_parts.specs.Signs.{sign_leads, sign_of}
 use Rattle.f90_grammar.specs.Phrases.{Phrase, level, depth, begins_with_sign, sign_word}
 use Rattle.f90_grammar.specs.Words as words
 use Rattle.f90_grammar.specs.Words.{Word}
@@ -31,10 +31,6 @@ deeper n = counted (n + 1)
 
 abbrev pub info_of : Phrase → Info
 info_of p = info (level p) (counted (depth p)) (begins_with_sign p) (placed p)
-
-abbrev pub sign_leads : Sign → Bool
-sign_leads Negation = false
-sign_leads s = true
 
 abbrev pub sign_deeper : Sign → ℕ → ℕ
 sign_deeper Plus n = n
@@ -116,12 +112,6 @@ pub data Step : Type 0 where
   Go : State → List Node → Step
   Stop : Info → List Node → Step
   Fail : Step
-
-abbrev pub sign_of : Op → Option Sign
-sign_of Add = Some Plus
-sign_of Sub = Some Minus
-sign_of Not = Some Negation
-sign_of o = None
 
 abbrev pub begin_sign : List Frame → Option Sign → List Node → Step
 begin_sign fs None ns = Fail

@@ -5,8 +5,8 @@ use Rattle.f90_grammar.specs.Phrases.{Phrase, IsExpression, written, depth}
 use Rattle.f90_grammar.specs.Words.{Word}
 use Rattle.f90_words.specs.Tokens.{words_of}
 use Rattle.f90_words.specs.declared.tokens.Token.{Token}
-use Rattle.f90_words.specs.declared.tokens.Stop.{Stop}
-use Rattle.f90_words.specs.declared.tokens.Stop.TheVariants.{Syntax, Memory}
+use Rattle.reading_parts.specs.declared.stops.Stop.{Stop}
+use Rattle.reading_parts.specs.declared.stops.Stop.TheVariants.{Syntax, Memory}
 use Rattle.f90_expr.specs.Flat.{flat}
 use Rattle.f90_expr.specs.Machine.{counted}
 use Rattle.f90_expr.specs.Views.{nodes_seen}

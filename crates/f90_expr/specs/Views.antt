@@ -1,17 +1,15 @@
 -- What the code holds while it reads, as the machine's values.
 use Rattle.std.specs.Prelude.{◌≡◌, false, List, [], ◌∷◌, map, reverse, Option, Some, None, Result, Ok, Err}
 use Rattle.std.specs.Borrow.{Bor}
-use Rattle.fv_tree.specs.OperatorTable as table
 use Rattle.f90_words.specs.Tokens.{words_of}
 use Rattle.f90_words.specs.declared.tokens.Token.{Token}
-use Rattle.f90_words.specs.declared.tokens.Stop.{Stop}
-use Rattle.f90_words.specs.declared.tokens.Stop.TheVariants.{Syntax, Memory}
+use Rattle.reading_parts.specs.Signs.{sign_view}
+use Rattle.reading_parts.specs.declared.stops.Stop.{Stop}
+use Rattle.reading_parts.specs.declared.stops.Stop.TheVariants.{Syntax, Memory}
 use Rattle.f90_expr.specs.declared.nodes.Node.{Node}
 use Rattle.f90_expr.specs.declared.nodes.Node.TheVariants.{Digits, Truth, Name, Parenthesis, Prefix, Infix, One}
 use Rattle.f90_expr.specs.declared.nodes.Node.TheVariants.{Bounds, Stride, Begin, Listed, Values, Inner, Outer}
 use Rattle.f90_expr.specs.declared.nodes.Node.TheVariants.{Looped}
-use Rattle.f90_expr.specs.declared.nodes.Sign.{Sign}
-use Rattle.f90_expr.specs.declared.nodes.Sign.TheVariants.{Plus, Minus, Negation}
 use Rattle.f90_expr.specs.declared.operands.Operand.{Operand}
 use Rattle.f90_expr.specs.declared.operands.Frame.{Frame}
 use Rattle.f90_expr.specs.declared.operands.Frame.TheVariants.{Before, After, Within, Among, From, By, Items}
@@ -24,15 +22,6 @@ use Rattle.f90_expr.specs.declared.reader.Turn.{Turn}
 use Rattle.f90_expr.specs.declared.reader.Turn.TheVariants.{On, Whole}
 use Rattle.f90_expr.specs.Flat as flat
 use Rattle.f90_expr.specs.Machine as machine
-
-abbrev pub sign_view : Sign → table.Sign
-sign_view Plus = table.Plus
-sign_view Minus = table.Minus
-sign_view Negation = table.Negation
-
-abbrev pub sign_view_option : Option Sign → Option table.Sign
-sign_view_option None = None
-sign_view_option (Some s) = Some (sign_view s)
 
 abbrev pub node_seen : Node → flat.Node
 node_seen (Digits t) = flat.Digits t

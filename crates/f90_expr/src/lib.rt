@@ -7,5 +7,5 @@ mod operands;
 mod reader;
 
 pub use literals::literal;
-pub use nodes::{Expression, Node, Sign};
+pub use nodes::{Expression, Node};
 pub use reader::read;

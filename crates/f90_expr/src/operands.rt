@@ -2,10 +2,12 @@
 ghost use Rattle.std.specs.Prelude.{◌≡◌, ◌&&◌, max, true};
 ghost use Rattle.fv_tree.specs.OperatorTable.{may_follow};
 ghost use Rattle.f90_expr.specs.Machine.{deeper, primary, signed, joined, enclosed, frame_least, into};
-ghost use Rattle.f90_expr.specs.Views.{sign_view, info_seen, frame_seen, emitted_option};
+ghost use Rattle.f90_expr.specs.Views.{info_seen, frame_seen, emitted_option};
+ghost use Rattle.reading_parts.specs.Signs.{sign_view};
 
-use crate::nodes::{Node, Sign};
+use crate::nodes::Node;
 use fv_tree::{EXPRESSION_DEPTH_90, Name, Op};
+use reading_parts::Sign;
 
 // Whether an operand may stand behind the operator, by whether it begins with such a sign.
 fn may_follow(op: Op, leads: bool) -> bool

@@ -9,11 +9,13 @@ ghost use Rattle.f90_expr.specs.Views.{Turns, Halts, Finishes, Reads, Continues}
 ghost use Rattle.f90_grammar.specs.Phrases.{Phrase, IsExpression, written};
 ghost use Rattle.f90_unique.specs.Unique.{EndsExpression};
 ghost use Rattle.f90_expr.specs.Reading.{Begins, Gives};
+ghost use Rattle.reading_parts.specs.Signs.{sign_of};
 
-use crate::nodes::{Expression, Node, Sign};
+use crate::nodes::{Expression, Node};
 use crate::operands::{Frame, Operand, Parts};
-use f90_words::{Stop, Token};
+use f90_words::Token;
 use fv_tree::{Memory, Name, Op, Seq, copy_text};
+use reading_parts::{Sign, Stop};
 use std::alloc::Global;
 
 /// An operand is due, or one is held; a turn is held; the variable of a turn, which is round another turn or isn't, is
@@ -91,7 +93,7 @@ fn close(
 #[tactic(auto, using(crate::proofs::Stacks::stacks))]
 fn begin_sign(frames: &mut Vec<Frame>, nodes: &mut Vec<Node>, op: Op) -> Result<Turn, Stop>
     ensures { Turns result frames.new.items nodes.new.items
-        (machine.begin_sign (stack frames.old.items) (machine.sign_of op) (nodes_seen nodes.old.items)) }
+        (machine.begin_sign (stack frames.old.items) (sign_of op) (nodes_seen nodes.old.items)) }
 {
     let _ = nodes;
     let Some(sign) = Sign::of(op) else {

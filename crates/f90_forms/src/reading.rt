@@ -7,8 +7,9 @@ ghost use Rattle.f90_forms.specs.Forms.{IsFormIn, ReadsForm, ReadsWords};
 
 use f90_lines::Statement as Written;
 use f90_statements::Statement;
-use f90_words::{Stop, Token, words};
+use f90_words::{Token, words};
 use fv_tree::{Memory, Seq};
+use reading_parts::Stop;
 use std::alloc::Global;
 
 fn form_of_words(alloc: Global, tokens: &[Token]) -> Result<Option<Statement>, Memory>

@@ -11,8 +11,8 @@ use Rattle.f90_grammar.specs.Items.{Direction, MayStand, written_bounds}
 use Rattle.f90_unique.specs.Unique.{EndsExpression}
 use Rattle.f90_words.specs.Tokens.{words_of}
 use Rattle.f90_words.specs.declared.tokens.Token.{Token}
-use Rattle.f90_words.specs.declared.tokens.Stop.{Stop}
-use Rattle.f90_words.specs.declared.tokens.Stop.TheVariants.{Syntax, Memory}
+use Rattle.reading_parts.specs.declared.stops.Stop.{Stop}
+use Rattle.reading_parts.specs.declared.stops.Stop.TheVariants.{Syntax, Memory}
 use Rattle.f90_expr.specs.Reading.{IsMadeOf, Begins, Gives}
 use Rattle.f90_expr.specs.declared.nodes.Expression.{Expression}
 use Rattle.f90_parts.specs.Bounds.{AreBounds, AreBoundsOf, BeginsWithBounds, EndsBounds, GivesBounds, bounds_before}

@@ -3,8 +3,8 @@ use Rattle.std.proofs.Common.{arith, ◌≡◌, ◌<◌, ℕ, Bool, true, false,
 use Rattle.f90_grammar.specs.Items.{Direction, ItemPhrases, AreItems, written_items}
 use Rattle.f90_grammar.specs.Words.{Word}
 use Rattle.f90_words.specs.Tokens.{words_of}
-use Rattle.f90_words.specs.declared.tokens.Stop.{Stop}
-use Rattle.f90_words.specs.declared.tokens.Stop.TheVariants.{Syntax, Memory}
+use Rattle.reading_parts.specs.declared.stops.Stop.{Stop}
+use Rattle.reading_parts.specs.declared.stops.Stop.TheVariants.{Syntax, Memory}
 use Rattle.f90_items.specs.Flat as flats
 use Rattle.f90_items.specs.Flat.{flat_items}
 use Rattle.f90_items.specs.Following.{Follows}

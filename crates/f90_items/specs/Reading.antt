@@ -2,8 +2,8 @@
 use Rattle.std.specs.Prelude.{◌≡◌, List, Result, Ok, Err}
 use Rattle.f90_grammar.specs.Items.{Direction, ItemPhrases, AreItems, written_items, items_depth}
 use Rattle.f90_grammar.specs.Words.{Word}
-use Rattle.f90_words.specs.declared.tokens.Stop.{Stop}
-use Rattle.f90_words.specs.declared.tokens.Stop.TheVariants.{Syntax, Memory}
+use Rattle.reading_parts.specs.declared.stops.Stop.{Stop}
+use Rattle.reading_parts.specs.declared.stops.Stop.TheVariants.{Syntax, Memory}
 use Rattle.f90_expr.specs.Machine.{counted}
 use Rattle.f90_items.specs.Flat.{flat_items}
 use Rattle.f90_items.specs.Views.{AreNodesOf}

@@ -6,8 +6,8 @@ use Rattle.f90_grammar.specs.Items as items
 use Rattle.f90_grammar.specs.Words as words
 use Rattle.f90_grammar.specs.Words.{Word}
 use Rattle.f90_words.specs.Tokens.{words_of}
-use Rattle.f90_words.specs.declared.tokens.Stop.{Stop}
-use Rattle.f90_words.specs.declared.tokens.Stop.TheVariants.{Syntax, Memory}
+use Rattle.reading_parts.specs.declared.stops.Stop.{Stop}
+use Rattle.reading_parts.specs.declared.stops.Stop.TheVariants.{Syntax, Memory}
 use Rattle.f90_expr.specs.Reading.{IsMadeOf}
 use Rattle.f90_parts.specs.Bounds.{AreBoundsOf}
 use Rattle.f90_items.specs.declared.nodes.Node.{Node}

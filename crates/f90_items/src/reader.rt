@@ -17,8 +17,9 @@ use crate::depths::depth;
 use crate::nodes::{Direction, ItemList, Node};
 use f90_expr::{Expression, read};
 use f90_parts::{Bounds, after_close, after_comma, after_open, is_variable};
-use f90_words::{Stop, Token};
+use f90_words::Token;
 use fv_tree::{Name, Seq, copy_text};
+use reading_parts::Stop;
 use std::alloc::Global;
 
 /// A part that stands in front; whether an item is due behind it; how many implied DO lists are open there; the words

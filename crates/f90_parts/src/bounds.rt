@@ -7,7 +7,8 @@ ghost use Rattle.f90_words.specs.Tokens.{words_of};
 
 use crate::fronts::after_comma;
 use f90_expr::{Expression, read};
-use f90_words::{Stop, Token};
+use f90_words::Token;
+use reading_parts::Stop;
 use std::alloc::Global;
 
 /// The parameters of a DO statement or of an implied DO list (ISO/IEC 1539:1991, sections 8.1.4.1.1 and 9.4.2).

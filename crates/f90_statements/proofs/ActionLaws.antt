@@ -6,8 +6,8 @@ use Rattle.f90_grammar.specs.Forms.{Form, IsWritten, Either, IsTransfer, IsEmpty
 use Rattle.f90_grammar.specs.Items.{ItemPhrases, Input, Output, AreItems, written_items}
 use Rattle.f90_grammar.specs.Words as words
 use Rattle.f90_grammar.specs.Words.{Word}
-use Rattle.f90_words.specs.declared.tokens.Stop.{Stop}
-use Rattle.f90_words.specs.declared.tokens.Stop.TheVariants.{Syntax, Memory}
+use Rattle.reading_parts.specs.declared.stops.Stop.{Stop}
+use Rattle.reading_parts.specs.declared.stops.Stop.TheVariants.{Syntax, Memory}
 use Rattle.f90_expr.specs.declared.nodes.Expression.{Expression}
 use Rattle.f90_items.specs.Reading as listing
 use Rattle.f90_items.specs.declared.nodes.ItemList.{ItemList}

@@ -5,8 +5,8 @@ use Rattle.f90_grammar.specs.Forms as forms
 use Rattle.f90_grammar.specs.Forms.{IsList, SuitsAllocatable, written_dimension, written_dimensions, has_dimensions, separated, IsEntity, written_entity}
 use Rattle.f90_grammar.specs.Words as words
 use Rattle.f90_grammar.specs.Words.{Word}
-use Rattle.f90_words.specs.declared.tokens.Stop.{Stop}
-use Rattle.f90_words.specs.declared.tokens.Stop.TheVariants.{Syntax, Memory}
+use Rattle.reading_parts.specs.declared.stops.Stop.{Stop}
+use Rattle.reading_parts.specs.declared.stops.Stop.TheVariants.{Syntax, Memory}
 use Rattle.f90_words.specs.Tokens.{words_of}
 use Rattle.f90_words.specs.declared.tokens.Token.{Token}
 use Rattle.f90_statements.specs.Reading.{Begins, BeginsWithList, IsThe, EndsItem, EndsEntity, Given}

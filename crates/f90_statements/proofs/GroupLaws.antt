@@ -5,8 +5,8 @@ use Rattle.f90_grammar.specs.Forms as forms
 use Rattle.f90_grammar.specs.Forms.{Form, IsWritten}
 use Rattle.f90_grammar.specs.Words.{Word}
 use Rattle.f90_unique.proofs.Forms.{one_form}
-use Rattle.f90_words.specs.declared.tokens.Stop.{Stop}
-use Rattle.f90_words.specs.declared.tokens.Stop.TheVariants.{Syntax, Memory}
+use Rattle.reading_parts.specs.declared.stops.Stop.{Stop}
+use Rattle.reading_parts.specs.declared.stops.Stop.TheVariants.{Syntax, Memory}
 use Rattle.f90_statements.specs.Kinds.{either, is_any}
 use Rattle.f90_statements.specs.Reading.{IsForm, Reads, ReadsStatement, IsStatement, Given}
 use Rattle.f90_statements.specs.Views.{IsStatementOf}

@@ -7,7 +7,8 @@ use crate::fronts::{after_keywords, after_transfer, is_empty_transfer, is_keywor
 use crate::nodes::Action;
 use crate::parts::sides;
 use f90_items::{Direction, ItemList};
-use f90_words::{Stop, Token};
+use f90_words::Token;
+use reading_parts::Stop;
 use std::alloc::Global;
 
 // An assignment (section 7.5.1).

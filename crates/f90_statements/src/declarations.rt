@@ -14,8 +14,9 @@ use crate::fronts::{after_digits, after_minus, after_plus};
 use crate::nodes::{Bound, Dimension, Entity};
 use f90_expr::literal;
 use f90_parts::{after_close, after_colon, after_comma, after_head, after_name};
-use f90_words::{Stop, Token};
+use f90_words::Token;
 use fv_tree::{ARRAY_DIMENSIONS, Name, Seq};
+use reading_parts::Stop;
 use std::alloc::Global;
 
 // Whether a minus sign stands there, and what follows it or a plus sign.

@@ -12,8 +12,9 @@ ghost use Rattle.f90_statements.specs.Views.{AreOf};
 
 use f90_expr::{Expression, read};
 use f90_parts::{after_close, after_comma, after_equals, is_reference};
-use f90_words::{Stop, Token};
+use f90_words::Token;
 use fv_tree::Seq;
+use reading_parts::Stop;
 use std::alloc::Global;
 
 /// A condition, and what follows the parenthesis that closes it.

@@ -23,8 +23,9 @@ use crate::nodes::Statement;
 use crate::parts::{condition, extents, sides};
 use f90_expr::Expression;
 use f90_parts::{Bounds, after_colons, after_comma};
-use f90_words::{Stop, Token};
+use f90_words::Token;
 use fv_tree::{ARRAY_DIMENSIONS, Kind};
+use reading_parts::Stop;
 use std::alloc::Global;
 
 // PROGRAM (section 11.1).

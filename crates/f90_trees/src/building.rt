@@ -5,7 +5,8 @@ ghost use Rattle.fv_tree.specs.declared.functions.Intrinsic.TheVariants as funct
 ghost use Rattle.fv_tree.specs.Plain.{Number, Named, expressions, subscripts};
 ghost use Rattle.fv_tree.specs.View.{expression_of, subscript_of};
 ghost use Rattle.f90_grammar.specs.Phrases.{value_of_digits, argument_of, arguments_of, natural_in, list_in, signed};
-ghost use Rattle.f90_expr.specs.Views.{sign_view, node_seen, nodes_seen};
+ghost use Rattle.f90_expr.specs.Views.{node_seen, nodes_seen};
+ghost use Rattle.reading_parts.specs.Signs.{sign_view};
 ghost use Rattle.f90_trees.specs.Building as building;
 ghost use Rattle.f90_trees.specs.Building.{held_dimension, called_held};
 ghost use Rattle.f90_trees.specs.Hiding.{function_in};
@@ -13,8 +14,9 @@ ghost use Rattle.f90_trees.specs.Views.{stack, entry_seen, TakesValue, TakesTwo,
 ghost use Rattle.f90_trees.specs.Views.{TakesValues, Builds, IsSole, Makes};
 
 use crate::functions::Functions;
-use f90_expr::{Node, Sign, literal};
+use f90_expr::{Node, literal};
 use fv_tree::{Expr, GREATEST_LITERAL, Intrinsic, Memory, Name, Op, Red, Ref, Seq, Sub, Turn};
+use reading_parts::Sign;
 use std::alloc::Global;
 
 /// What lies on the stack: a value, a part of a list, the beginning of a list, or the value under loops, the innermost

@@ -3,8 +3,8 @@ use Rattle.std.proofs.Common.{◌≡◌, ℕ, List, sym, ap, subst, ◌∙◌, S
 use Rattle.std.specs.Prelude.{IfOk, Option}
 use Rattle.f90_grammar.specs.Words.{Word, Symbol, Words, HasWords}
 use Rattle.f90_words.specs.declared.symbols.Symbol as code
-use Rattle.f90_words.specs.declared.tokens.Stop.{Stop}
-use Rattle.f90_words.specs.declared.tokens.Stop.TheVariants.{Syntax, Memory}
+use Rattle.reading_parts.specs.declared.stops.Stop.{Stop}
+use Rattle.reading_parts.specs.declared.stops.Stop.TheVariants.{Syntax, Memory}
 use Rattle.f90_words.specs.declared.tokens.Token.{Token}
 use Rattle.f90_words.specs.Fronts.{GivesWords}
 use Rattle.f90_words.specs.Scanning.{scan, Out}

@@ -7,8 +7,8 @@ use Rattle.f90_grammar.specs.Words.{Word, Digits, Truth, Name, Head, Operator, C
 use Rattle.fv_tree.specs.declared.ops.Op.TheVariants.{Neg}
 use Rattle.f90_words.specs.declared.tokens.Token.{Token}
 use Rattle.f90_words.specs.declared.symbols.Symbol as code
-use Rattle.f90_words.specs.declared.tokens.Stop.{Stop}
-use Rattle.f90_words.specs.declared.tokens.Stop.TheVariants.{Syntax, Memory}
+use Rattle.reading_parts.specs.declared.stops.Stop.{Stop}
+use Rattle.reading_parts.specs.declared.stops.Stop.TheVariants.{Syntax, Memory}
 use Rattle.f90_words.specs.Lexing.{Front, skip, word}
 use Rattle.f90_words.specs.Symbols.{symbol_of, symbols_of}
 use Rattle.f90_words.specs.Fronts.{FrontResult, GivesWords}

@@ -8,8 +8,8 @@ use Rattle.f90_words.specs.Lexing.{Front, Run, run}
 use Rattle.f90_words.specs.Symbols.{symbols_of}
 use Rattle.f90_words.specs.Tokens.{word_of, words_of}
 use Rattle.f90_words.specs.declared.symbols.Symbol.{Symbol}
-use Rattle.f90_words.specs.declared.tokens.Stop.{Stop}
-use Rattle.f90_words.specs.declared.tokens.Stop.TheVariants.{Syntax, Memory}
+use Rattle.reading_parts.specs.declared.stops.Stop.{Stop}
+use Rattle.reading_parts.specs.declared.stops.Stop.TheVariants.{Syntax, Memory}
 use Rattle.f90_words.specs.declared.tokens.Token.{Token}
 
 -- a character that passes is at the front

@@ -7,8 +7,8 @@ use Rattle.f90_words.specs.declared.symbols.Mode.{Mode}
 use Rattle.f90_words.specs.declared.symbols.Mode.TheVariants.{Out, In, Closing}
 use Rattle.f90_words.specs.declared.symbols.Symbol.{Symbol}
 use Rattle.f90_words.specs.declared.symbols.Symbol.TheVariants.{Char, Gap, Text}
-use Rattle.f90_words.specs.declared.tokens.Stop.{Stop}
-use Rattle.f90_words.specs.declared.tokens.Stop.TheVariants.{Syntax, Memory}
+use Rattle.reading_parts.specs.declared.stops.Stop.{Stop}
+use Rattle.reading_parts.specs.declared.stops.Stop.TheVariants.{Syntax, Memory}
 use Rattle.f90_words.specs.Scanning as scanning
 use Rattle.f90_words.specs.Scanning.{with_front}
 

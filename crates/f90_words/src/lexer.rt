@@ -9,8 +9,9 @@ ghost use Rattle.f90_words.specs.Fronts.{NextChar, BeginsWithLetter, BeginsWith,
 ghost use Rattle.f90_words.specs.Fronts.{FrontOption, FrontResult, AfterChar, GivesWords};
 
 use crate::symbols::{Symbol, symbols};
-use crate::tokens::{Stop, Token};
+use crate::tokens::Token;
 use fv_tree::{Name, Op, Seq, copy_text};
+use reading_parts::Stop;
 use std::alloc::Global;
 
 fn is_digit(c: u8) -> bool

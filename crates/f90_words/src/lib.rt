@@ -6,4 +6,4 @@ mod symbols;
 mod tokens;
 
 pub use lexer::words;
-pub use tokens::{Stop, Token};
+pub use tokens::Token;

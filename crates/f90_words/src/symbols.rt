@@ -6,8 +6,8 @@ ghost use Rattle.f90_words.specs.Scanning.{scan, scan_one, scan_out, scan_in, sc
 ghost use Rattle.f90_words.specs.Scanning as scanning;
 ghost use Rattle.f90_words.specs.Symbols.{symbol_of, symbols_of, mode_of, Goes, Scans, EndsScan};
 
-use crate::tokens::Stop;
 use fv_tree::{Memory, Seq};
+use reading_parts::Stop;
 use std::alloc::Global;
 
 /// A symbol.

@@ -12,7 +12,6 @@ use Rattle.fv_tree.specs.View.{item_of, expression_of, reference_of, subscript_o
 use Rattle.fv_tree.specs.declared.names.Name.{Name}
 use Rattle.fv_tree.specs.declared.lists.Seq.{Seq}
 use Rattle.fv_tree.specs.declared.exprs.Expr.{Expr}
-use Rattle.fv_tree.specs.declared.exprs.Expr.TheVariants as exprs
 use Rattle.fv_tree.specs.declared.exprs.Sub.{Sub}
 use Rattle.fv_tree.specs.declared.exprs.Ref.{Ref, out-Ref}
 use Rattle.fv_tree.specs.declared.stmts.Item.{Item}
@@ -20,11 +19,11 @@ use Rattle.fv_tree.specs.declared.stmts.Item.TheVariants as variants
 use Rattle.fv_tree.specs.declared.ops.Value.{Value}
 use Rattle.fv_tree.specs.declared.ops.Fault.{Fault}
 use Rattle.fv_tree.specs.declared.ops.Fault.TheVariants.{InputEnd, Overflow, Allocated}
-use Rattle.fv_tree.proofs.Equations.{item_of-one, item_of-text, item_of-turns, reference_of-is, expression_of-item}
+use Rattle.fv_tree.proofs.Equations.{item_of-one, item_of-text, item_of-turns, reference_of-is}
 use Rattle.fv_meaning.specs.Dialect.{Dialect}
 use Rattle.fv_meaning.specs.Store.{Store, Cell, bounds_in, cells_of, cell_at, opening_bounds}
 use Rattle.fv_meaning.specs.Texts.{without_cr, from_value, first_word, after_word, after_line, read_value}
-use Rattle.fv_meaning.specs.Value.{is_in_range, cells_named, cell_named, item_cells, subscript_values, number_of}
+use Rattle.fv_meaning.specs.Value.{is_in_range, named, cells_named, cell_named, item_cells, subscript_values, number_of}
 use Rattle.fv_meaning.specs.Profile77.{elements_of}
 use Rattle.fv_meaning.specs.Run.{State, Failed, then, either, for_each, goes, while_going, answered, evaluates, stores, counts_step, checks_range, repeated, turn, increases, loops, is_empty, begins_line, takes_word, skips_line, reads_into, reads_item, reads_items}
 use Rattle.fv_machine.specs.declared.variables.Variable.{Variable}
@@ -39,7 +38,7 @@ use Rattle.fv_machine.specs.Acts.{LimitedAct, Runs, Does, left_of}
 use Rattle.fv_machine.specs.Storage.{store_of, place, offset}
 use Rattle.fv_machine.specs.Stored.{IsOf, bounds_here}
 use Rattle.fv_machine.specs.Printing.{plain_items}
-use Rattle.fv_machine.specs.Reading.{TakesWord, HasNoWord, Spells, all_cells, reads_all, reads_cells}
+use Rattle.fv_machine.specs.Reading.{TakesWord, HasNoWord, IsNoName, Spells, all_cells, reads_all, reads_cells}
 use Rattle.fv_machine.proofs.ActLaws.{at_same, begun, steady, elsewhere_same, elsewhere_at, Stays, Runs-nothing, Runs-goes, Runs-counts_step, Runs-evaluates, Runs-fault, Runs-then, Runs-halted, Stays-evaluates, ended_way}
 use Rattle.fv_machine.proofs.TurnLaws.{Stays-counts_step, Stays-repeated}
 use Rattle.fv_machine.proofs.InputLaws.{cr_none}
@@ -305,38 +304,23 @@ module _ (lang : Dialect) (r : Ref) (input : List ℕ) (line : ℕ) (old : Seen)
 
 -- ---- items
 
-abbrev IsNoName : Expression → Type 0
-IsNoName (Number z) = Unit {0}
-IsNoName (Logic b) = Unit {0}
-IsNoName (Named x ps) = ⊥
-IsNoName (Unary o a) = Unit {0}
-IsNoName (Binary o a b) = Unit {0}
-IsNoName (Apply f es) = Unit {0}
-IsNoName (Constructor es ls) = Unit {0}
-IsNoName (Spread a k e) = Unit {0}
-IsNoName (Transpose a) = Unit {0}
-IsNoName (Reshape a es) = Unit {0}
-IsNoName (Reduce r a) = Unit {0}
-
-nothing_read : (lang : Dialect) (line : ℕ) (input : List ℕ) (m : Seen) (bytes : Option (List ℕ)) (c : Expression) → IsNoName c → Runs (λ limit. reads_item lang limit (Single c) line) input m bytes m bytes (Ok tt)
-nothing_read lang line input m bytes (Number z) h = Runs-nothing input m bytes
-nothing_read lang line input m bytes (Logic b) h = Runs-nothing input m bytes
-nothing_read lang line input m bytes (Named x ps) h = absurd h
-nothing_read lang line input m bytes (Unary o a) h = Runs-nothing input m bytes
-nothing_read lang line input m bytes (Binary o a b) h = Runs-nothing input m bytes
-nothing_read lang line input m bytes (Apply f es) h = Runs-nothing input m bytes
-nothing_read lang line input m bytes (Constructor es ls) h = Runs-nothing input m bytes
-nothing_read lang line input m bytes (Spread a k e) h = Runs-nothing input m bytes
-nothing_read lang line input m bytes (Transpose a) h = Runs-nothing input m bytes
-nothing_read lang line input m bytes (Reshape a es) h = Runs-nothing input m bytes
-nothing_read lang line input m bytes (Reduce r a) h = Runs-nothing input m bytes
-
-pub no_name_read : (lang : Dialect) (line : ℕ) (input : List ℕ) (m : Seen) (bytes : Option (List ℕ)) (e : Expr) (c : Expression) → expression_of e ≡ c → IsNoName c → Runs (λ limit. reads_item lang limit (Single (expression_of e)) line) input m bytes m bytes (Ok tt)
-no_name_read lang line input m bytes e c h n = subst (λ c. Runs (λ limit. reads_item lang limit (Single c) line) input m bytes m bytes (Ok tt)) (sym h) (nothing_read lang line input m bytes c n)
+pub no_name_read : (lang : Dialect) (line : ℕ) (input : List ℕ) (m : Seen) (bytes : Option (List ℕ)) (c : Expression) → IsNoName c → Runs (λ limit. reads_item lang limit (Single c) line) input m bytes m bytes (Ok tt)
+no_name_read lang line input m bytes (Number z) h = Runs-nothing input m bytes
+no_name_read lang line input m bytes (Logic b) h = Runs-nothing input m bytes
+no_name_read lang line input m bytes (Named x ps) h = absurd (h x ps refl)
+no_name_read lang line input m bytes (Unary o a) h = Runs-nothing input m bytes
+no_name_read lang line input m bytes (Binary o a b) h = Runs-nothing input m bytes
+no_name_read lang line input m bytes (Apply f es) h = Runs-nothing input m bytes
+no_name_read lang line input m bytes (Constructor es ls) h = Runs-nothing input m bytes
+no_name_read lang line input m bytes (Spread a k e) h = Runs-nothing input m bytes
+no_name_read lang line input m bytes (Transpose a) h = Runs-nothing input m bytes
+no_name_read lang line input m bytes (Reshape a es) h = Runs-nothing input m bytes
+no_name_read lang line input m bytes (Reduce r a) h = Runs-nothing input m bytes
 
 module _ (lang : Dialect) (line : ℕ) (input : List ℕ) (old new : Seen) (bytes : Option (List ℕ)) (r : Result (Unit {0}) Left) where
-  pub name_read : (e : Expr) (i : Ref) → e ≡ exprs.Item i → Runs (λ limit. reads_cells lang limit line (reference_of i)) input old bytes new bytes r → Runs (λ limit. reads_item lang limit (Single (expression_of e)) line) input old bytes new bytes r
-  name_read e i k h = subst (λ c. Runs (λ limit. reads_item lang limit (Single c) line) input old bytes new bytes r) (sym (ap expression_of k ∙ expression_of-item i)) h
+  pub name_read : (c : Expression) (i : P.Reference) → c ≡ named i → Runs (λ limit. reads_cells lang limit line i) input old bytes new bytes r
+      → Runs (λ limit. reads_item lang limit (Single c) line) input old bytes new bytes r
+  name_read c i k h = subst (λ c. Runs (λ limit. reads_item lang limit (Single c) line) input old bytes new bytes r) (sym k) h
 
   pub one_read : (i : Item) (e : Expr) → i ≡ variants.One e → Runs (λ limit. reads_item lang limit (Single (expression_of e)) line) input old bytes new bytes r → Runs (λ limit. reads_item lang limit (item_of i) line) input old bytes new bytes r
   one_read i e k h = subst (λ j. Runs (λ limit. reads_item lang limit j line) input old bytes new bytes r) (sym (ap item_of k ∙ item_of-one e)) h

@@ -1,7 +1,7 @@
 -- READ, as a machine does it.
-use Rattle.std.specs.Prelude.{◌≡◌, Result, Ok, Err, Option, Some, ℕ, ℤ, List, true}
+use Rattle.std.specs.Prelude.{◌≡◌, ◌≢◌, Result, Ok, Err, Option, Some, ℕ, ℤ, List, true}
 use Rattle.fv_tree.specs.Steps.{◌>>=◌}
-use Rattle.fv_tree.specs.Plain.{Reference}
+use Rattle.fv_tree.specs.Plain.{Expression, Named, Reference, Subscripts}
 use Rattle.fv_tree.specs.Operators.{fits}
 use Rattle.fv_tree.specs.declared.ops.Value.{Value}
 use Rattle.fv_tree.specs.declared.ops.Fault.{Fault}
@@ -61,3 +61,7 @@ reads_all lang limit line x = evaluates line (all_cells x) (λ cs. for_each cs (
 -- a name of an input list, for all its elements, or an element
 abbrev pub reads_cells : Dialect → Option ℕ → ℕ → Reference → Act
 reads_cells lang limit line r = evaluates line (cells_named lang r) (λ cs. for_each cs (reads_into lang limit line))
+
+-- an expression that is no name, with subscripts or without
+abbrev pub IsNoName : Expression → Type 0
+IsNoName e = (x : List ℕ) (ps : Subscripts) → e ≢ Named x ps

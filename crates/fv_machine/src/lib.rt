@@ -5,6 +5,7 @@
 mod cells;
 mod final_store;
 mod input;
+mod items;
 mod jumps;
 mod opening;
 mod progress;
@@ -16,6 +17,7 @@ mod variables;
 
 pub use final_store::write_lines;
 pub use input::read_value;
+pub use items::name_in;
 pub use jumps::passed;
 pub use progress::{Halt, Left, Progress, ended};
 pub use steps::{Turns, add, at, check_range, increment, trip_count};

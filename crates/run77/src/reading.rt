@@ -12,7 +12,7 @@ ghost use Rattle.fv_machine.specs.Reading.{ReadsAt, reads_all, reads_cells};
 ghost use Rattle.run77.specs.Moments.{seen};
 
 use crate::moment::Moment;
-use fv_machine::{Halt, at, dims_of, elements, read_value};
+use fv_machine::{Halt, at, dims_of, elements, name_in, read_value};
 use fv_tree::{Expr, Fault, Item, Name, Ref, Seq};
 
 impl Moment {
@@ -59,18 +59,9 @@ impl Moment {
         ensures { DoesOver input.now (λ limit. reads_item fortran77 limit (Single (expression_of expr.now)) line)
             (seen self.old) (seen self.new) result }
     {
-        match expr {
-            Expr::Item(item) => self.read_cells(line, item, input),
-            Expr::Int(_) => Ok(()),
-            Expr::Truth(_) => Ok(()),
-            Expr::Un(..) => Ok(()),
-            Expr::Bin(..) => Ok(()),
-            Expr::Call(..) => Ok(()),
-            Expr::List(..) => Ok(()),
-            Expr::Spread(..) => Ok(()),
-            Expr::Transpose(_) => Ok(()),
-            Expr::Reshape(..) => Ok(()),
-            Expr::Reduce(..) => Ok(()),
+        match name_in(expr) {
+            Some(item) => self.read_cells(line, item, input),
+            None => Ok(()),
         }
     }
 

@@ -1,7 +1,8 @@
 //! Expressions with their lists.
-use f90_expr::{Node, Sign, read};
+use f90_expr::{Node, read};
 use f90_words::words;
 use fv_tree::Op;
+use reading_parts::Sign;
 use std::process::Abort;
 use std::test::Fail;
 

@@ -1,6 +1,7 @@
 //! Statements with their words.
-use f90_words::{Stop, Token, words};
+use f90_words::{Token, words};
 use fv_tree::Op;
+use reading_parts::Stop;
 use std::process::Abort;
 use std::test::Fail;
 

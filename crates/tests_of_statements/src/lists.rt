@@ -1,5 +1,6 @@
-use f77_expr::{Stop, squeeze, words};
+use f77_expr::{squeeze, words};
 use f77_lists::{ItemList, read_inputs, read_items};
+use reading_parts::Stop;
 use std::alloc::Global;
 use std::test::Fail;
 

@@ -1,6 +1,6 @@
 use Rattle.std.proofs.Common.{arith, ◌≤◌, length, ap, ◌∙◌}
 use Rattle.f90_statements.specs.Views.{IsDimensionOf}
-use Rattle.f90_declared.specs.Bounds.{capped}
+use Rattle.reading_parts.specs.Counts.{capped}
 use Rattle.f90_declared.proofs.PlaceLaws.{same_length}
 use Rattle.f90_declared.proofs.SizeLaws.{some_elements}
 use Rattle.f90_declared.proofs.bounds.elements.Goals as goal

@@ -1,5 +1,5 @@
 use Rattle.std.proofs.Common.{ap, sym, ◌∙◌}
-use Rattle.f90_declared.specs.Bounds.{capped}
+use Rattle.reading_parts.specs.Counts.{capped}
 use Rattle.f90_declared.proofs.SizeLaws.{given_are}
 use Rattle.f90_declared.proofs.limits.elements_here.Goals as goal
 

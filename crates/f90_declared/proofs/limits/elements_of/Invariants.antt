@@ -2,7 +2,8 @@ use Rattle.std.proofs.Common.{◌≡◌, false, List, take}
 use Rattle.std.specs.List.{list_any}
 use Rattle.f90_grammar.specs.Forms as forms
 use Rattle.f90_statements.specs.Views.{AreOf, IsEntityOf}
-use Rattle.f90_declared.specs.Bounds.{capped, are_wide, elements_in}
+use Rattle.f90_declared.specs.Bounds.{are_wide, elements_in}
+use Rattle.reading_parts.specs.Counts.{capped}
 use Rattle.f90_declared.proofs.limits.elements_of.Given as goal
 
 abbrev pub invariant-loop-entity : goal.invariant-loop-entity

@@ -3,7 +3,8 @@ use Rattle.f90_grammar.specs.Blocks as grammar
 use Rattle.f90_grammar.specs.Bounds.{declared_up_to}
 use Rattle.f90_grammar.specs.Declared.{declarations_of}
 use Rattle.f90_forms.specs.Places.{IsPlacedOf}
-use Rattle.f90_declared.specs.Bounds.{capped, all_elements}
+use Rattle.f90_declared.specs.Bounds.{all_elements}
+use Rattle.reading_parts.specs.Counts.{capped}
 use Rattle.f90_declared.proofs.PlaceLaws.{unmet, go_on, stop_at, never, start, step}
 use Rattle.f90_declared.proofs.SizeLaws.{Narrow, HasManyElements, count_more, narrow_before, narrow_last, narrow_up_to}
 use Rattle.f90_declared.proofs.SizeLaws.{are_few, are_many}

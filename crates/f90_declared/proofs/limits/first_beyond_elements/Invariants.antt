@@ -3,7 +3,8 @@ use Rattle.f90_grammar.specs.Blocks as grammar
 use Rattle.f90_grammar.specs.Declared.{declarations_of}
 use Rattle.f90_forms.specs.Places.{IsPlacedOf}
 use Rattle.f90_statements.specs.Views.{AreOf}
-use Rattle.f90_declared.specs.Bounds.{capped, all_elements}
+use Rattle.f90_declared.specs.Bounds.{all_elements}
+use Rattle.reading_parts.specs.Counts.{capped}
 use Rattle.f90_declared.proofs.PlaceLaws.{Unmet}
 use Rattle.f90_declared.proofs.SizeLaws.{Narrow, HasManyElements}
 use Rattle.f90_declared.proofs.limits.first_beyond_elements.Given as goal
