@@ -3,8 +3,8 @@ use Rattle.std.proofs.Common.{◌≡◌, ℕ, ◌<◌, ◌≤◌, ◌^◌, List,
 use Rattle.std.specs.Prelude.{ℤ, pos, ◌+ℤ◌, ◌-ℤ◌, ◌*ℤ◌, All, unsigned_abs}
 use Rattle.std.proofs.lemmas.Int.{ints}
 use Rattle.std.proofs.lemmas.List.Elements.{All-head, All-tail}
-use Rattle.line_points.proofs.Ring.{linear}
-use Rattle.line_points.specs.declared.points.Line.{Line}
+use Rattle.loop_lines.proofs.LinePoints.Ring.{linear}
+use Rattle.loop_lines.specs.declared.line_points.points.Line.{Line}
 use Rattle.loop_lines.proofs.Crossings.{on_line}
 use Rattle.loop_lines.proofs.Indexed.{over_none}
 use Rattle.loop_lines.specs.OneLoop.{IsWithinPlaces, first_at, second_at}

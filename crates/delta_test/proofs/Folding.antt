@@ -6,8 +6,8 @@ use Rattle.std.proofs.lemmas.List.{take_more}
 use Rattle.std.proofs.lemmas.List.Elements.{All-push, All-nil, All-cons, All-head, All-tail}
 use Rattle.subscripts.specs.Classes.{Loop, first_of, second_of}
 use Rattle.subscripts.specs.declared.pairing.Pairing.{Pairing}
-use Rattle.line_points.specs.Lines.{OnLine}
-use Rattle.line_points.specs.declared.points.Line.{Line}
+use Rattle.loop_lines.specs.line_points.Lines.{OnLine}
+use Rattle.loop_lines.specs.declared.line_points.points.Line.{Line}
 use Rattle.loop_lines.specs.OneLoop.{IsLineOf}
 use Rattle.delta_test.specs.Constraints.{Allows}
 use Rattle.delta_test.specs.declared.constraint.Constraint.{Constraint}

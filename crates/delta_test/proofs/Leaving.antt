@@ -3,17 +3,17 @@ use Rattle.std.proofs.Common.{◌≡◌, ◌<◌, ◌↔◌, refl, ap, arith, sy
 use Rattle.std.specs.Prelude.{ℤ, pos, ◌+ℤ◌, ◌-ℤ◌, ◌*ℤ◌, unsigned_abs}
 use Rattle.std.proofs.Math.IntN.{neg_ℤ, *ℤ_comm}
 use Rattle.subscripts.specs.declared.affine.Dir.{Dir}
-use Rattle.line_points.specs.declared.points.Line.{Line}
-use Rattle.line_points.specs.declared.line.Both.{Both}
-use Rattle.line_points.specs.declared.whole.Quotient.{Quotient}
-use Rattle.line_points.specs.Quotient.{IsQuotient}
-use Rattle.line_points.specs.Lines.{OnLine}
-use Rattle.line_points.specs.Least.{IsWithin, HasNone, IsLeast}
-use Rattle.line_points.specs.Crossings.{IsSmallLine}
-use Rattle.line_points.proofs.Ring.{ring, linear, times_plus, times_neg}
-use Rattle.line_points.proofs.PointsOfLine.{cancel}
-use Rattle.line_points.proofs.Steps.{zero_or, zero_from_abs}
-use Rattle.line_points.proofs.Cramer.{not_whole}
+use Rattle.loop_lines.specs.declared.line_points.points.Line.{Line}
+use Rattle.loop_lines.specs.declared.line_points.line.Both.{Both}
+use Rattle.loop_lines.specs.declared.line_points.whole.Quotient.{Quotient}
+use Rattle.loop_lines.specs.line_points.Quotient.{IsQuotient}
+use Rattle.loop_lines.specs.line_points.Lines.{OnLine}
+use Rattle.loop_lines.specs.line_points.Least.{IsWithin, HasNone, IsLeast}
+use Rattle.loop_lines.specs.line_points.Crossings.{IsSmallLine}
+use Rattle.loop_lines.proofs.LinePoints.Ring.{ring, linear, times_plus, times_neg}
+use Rattle.loop_lines.proofs.LinePoints.PointsOfLine.{cancel}
+use Rattle.loop_lines.proofs.LinePoints.Steps.{zero_or, zero_from_abs}
+use Rattle.loop_lines.proofs.LinePoints.Cramer.{not_whole}
 use Rattle.delta_test.specs.declared.constraint.Constraint.{Constraint}
 use Rattle.delta_test.specs.declared.constraint.Constraint.TheVariants.{AtPoint}
 use Rattle.delta_test.specs.Constraints.{Allows}

@@ -12,7 +12,7 @@ use Rattle.subscripts.specs.Groups.{IsPairOfAll}
 use Rattle.subscripts.specs.Shapes.{IsPairing, AreDirsOf}
 use Rattle.subscripts.specs.declared.affine.Dirs.{Dirs}
 use Rattle.subscripts.specs.declared.pairing.Pairing.{Pairing}
-use Rattle.line_points.specs.Least.{WithinTrip, IsWithin}
+use Rattle.loop_lines.specs.line_points.Least.{WithinTrip, IsWithin}
 use Rattle.loop_lines.specs.OneLoop.{first_at, second_at, dir_of, first_point, second_point, HasSevenLists, HasSevenPlaces, IsLineOf}
 use Rattle.loop_lines.proofs.Crossings.{within_seven}
 use Rattle.loop_lines.proofs.Pairs.{pair_point, cut_point, point_pair, points_in_order, IsPointOfPair, IsPointOfCut}

@@ -3,7 +3,7 @@ use Rattle.std.proofs.Common.{◌≡◌, ℕ, ◌<◌, List, [], ◌∷◌, leng
 use Rattle.std.specs.Prelude.{ℤ, pos, ◌+ℤ◌, ◌-ℤ◌, ◌*ℤ◌}
 use Rattle.std.proofs.Math.IntN.{*ℤ-zero, zero-*ℤ, +ℤ_idl, +ℤ_idr}
 use Rattle.loop_lines.proofs.Indexed.{over_none}
-use Rattle.line_points.proofs.Ring.{ring, linear}
+use Rattle.loop_lines.proofs.LinePoints.Ring.{ring, linear}
 use Rattle.subscripts.specs.Forms.{over_loops}
 
 head_set : (a b i s : ℤ) → b *ℤ i +ℤ s ≡ (a *ℤ i +ℤ s) +ℤ (b -ℤ a) *ℤ i

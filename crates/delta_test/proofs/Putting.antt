@@ -3,8 +3,8 @@ use Rattle.std.proofs.Common.{◌≡◌, ◌≢◌, ℕ, ◌+◌, ◌*◌, ◌<�
 use Rattle.std.specs.Prelude.{ℤ, ◌+ℤ◌, ◌-ℤ◌, ◌*ℤ◌, All, unsigned_abs}
 use Rattle.std.proofs.lemmas.Int.{ints}
 use Rattle.std.proofs.lemmas.List.Elements.{All-set}
-use Rattle.line_points.proofs.Ring.{ring, linear}
-use Rattle.line_points.proofs.Steps.{abs_sum}
+use Rattle.loop_lines.proofs.LinePoints.Ring.{ring, linear}
+use Rattle.loop_lines.proofs.LinePoints.Steps.{abs_sum}
 use Rattle.gcd_banerjee.proofs.Gcds.{difference_is}
 use Rattle.subscripts.specs.Classes.{at_place}
 use Rattle.subscripts.specs.Forms.{difference, over_loops, over_symbols}

@@ -2,8 +2,8 @@
 use Rattle.std.proofs.Common.{◌≡◌, ap, arith, ◌∙◌, ◌≤◌}
 use Rattle.std.specs.Prelude.{ℤ, pos, ◌+ℤ◌, ◌-ℤ◌, ◌*ℤ◌, unsigned_abs}
 use Rattle.std.proofs.Math.IntN.{zero-*ℤ}
-use Rattle.line_points.proofs.Ring.{ring, linear, times_plus}
-use Rattle.line_points.proofs.Steps.{zero_from_abs}
+use Rattle.loop_lines.proofs.LinePoints.Ring.{ring, linear, times_plus}
+use Rattle.loop_lines.proofs.LinePoints.Steps.{zero_from_abs}
 use Rattle.delta_test.specs.Reductions.{term_value}
 use Rattle.delta_test.specs.declared.put.Term.{Term}
 

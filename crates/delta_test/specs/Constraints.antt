@@ -1,7 +1,7 @@
 -- Constraints on the two iterations of one loop.
 use Rattle.std.specs.Prelude.{◌≡◌, ℤ, ◌+ℤ◌, ◌≤◌, ◌^◌, ◌↔◌, unsigned_abs}
-use Rattle.line_points.specs.Lines.{OnLine}
-use Rattle.line_points.specs.Crossings.{IsSmallLine}
+use Rattle.loop_lines.specs.line_points.Lines.{OnLine}
+use Rattle.loop_lines.specs.line_points.Crossings.{IsSmallLine}
 use Rattle.delta_test.specs.declared.constraint.Constraint.{Constraint}
 use Rattle.delta_test.specs.declared.constraint.Constraint.TheVariants.{Anywhere, AtPoint, AtDistance}
 use Rattle.delta_test.specs.declared.constraint.Constraint.TheVariants.{AlongLine, Nowhere}

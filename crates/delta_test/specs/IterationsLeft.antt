@@ -2,7 +2,7 @@
 use Rattle.std.specs.Prelude.{ℤ, pos, Option, IfSome, ◌≤ℤ◌}
 use Rattle.subscripts.specs.Iterations.{IsRelated}
 use Rattle.subscripts.specs.declared.affine.Dir.{Dir}
-use Rattle.line_points.specs.Least.{IsWithin, IsAtMost}
+use Rattle.loop_lines.specs.line_points.Least.{IsWithin, IsAtMost}
 use Rattle.delta_test.specs.declared.constraint.Constraint.{Constraint}
 use Rattle.delta_test.specs.Constraints.{Allows}
 

@@ -1,7 +1,7 @@
 -- What subscript pairs say of their loops' iterations.
 use Rattle.std.specs.Prelude.{◌≡◌, ℤ, List, ◌*ℤ◌, ◌≤◌, ◌^◌, unsigned_abs}
-use Rattle.line_points.specs.Lines.{OnLine}
-use Rattle.line_points.specs.declared.points.Line.{Line}
+use Rattle.loop_lines.specs.line_points.Lines.{OnLine}
+use Rattle.loop_lines.specs.declared.line_points.points.Line.{Line}
 use Rattle.loop_lines.specs.OneLoop.{first_at, second_at}
 use Rattle.subscripts.specs.Classes.{Loop}
 use Rattle.subscripts.specs.declared.pairing.Pairing.{Pairing}

@@ -1,8 +1,8 @@
 -- What is left of a reduced pairing.
 use Rattle.std.specs.Prelude.{◌≡◌, ℕ, ℤ, pos, List, ◌-ℤ◌, ◌*ℤ◌}
-use Rattle.line_points.specs.Crossings.{IsSmallLine}
-use Rattle.line_points.specs.Lines.{OnLine}
-use Rattle.line_points.specs.declared.points.Line.{Line}
+use Rattle.loop_lines.specs.line_points.Crossings.{IsSmallLine}
+use Rattle.loop_lines.specs.line_points.Lines.{OnLine}
+use Rattle.loop_lines.specs.declared.line_points.points.Line.{Line}
 use Rattle.loop_lines.specs.OneLoop.{IsWithinPlaces, first_at, second_at}
 use Rattle.loop_lines.specs.Places.{loop_at}
 use Rattle.subscripts.specs.Classes.{Loop, Shared, First, Second, first_of, second_of}

@@ -1,10 +1,10 @@
 //! Constraints on the two iterations of one loop, and what two of them leave.
 ghost use Rattle.std.specs.Prelude.{◌≡◌, ◌≤◌, ◌^◌, ℤ, ◌↔◌, IsTrue, unsigned_abs, ◌+ℤ◌};
-ghost use Rattle.line_points.specs.Lines.{OnLine};
-ghost use Rattle.line_points.specs.Crossings.{IsSmallLine};
+ghost use Rattle.loop_lines.specs.line_points.Lines.{OnLine};
+ghost use Rattle.loop_lines.specs.line_points.Crossings.{IsSmallLine};
 ghost use Rattle.delta_test.specs.Constraints.{IsConstraint, Allows, IsMeet};
 
-use line_points::{Crossing, Line, common_points, times};
+use loop_lines::line_points::{Crossing, Line, common_points, times};
 
 /// What is known of the two iterations of one loop: nothing, both of them, how far the second is after the first, a
 /// line, or that there are none.

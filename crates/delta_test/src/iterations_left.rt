@@ -2,15 +2,15 @@
 ghost use Rattle.std.specs.Prelude.{◌≡◌, ◌≤◌, ◌^◌, ℤ, ◌↔◌, unsigned_abs, MatchOption, IsTrue, None};
 ghost use Rattle.std.specs.Option.{ForSome};
 ghost use Rattle.subscripts.specs.Iterations.{IsRelated};
-ghost use Rattle.line_points.specs.Lines.{OnLine};
-ghost use Rattle.line_points.specs.Least.{IsWithin};
-ghost use Rattle.line_points.specs.Crossings.{IsSmallLine};
+ghost use Rattle.loop_lines.specs.line_points.Lines.{OnLine};
+ghost use Rattle.loop_lines.specs.line_points.Least.{IsWithin};
+ghost use Rattle.loop_lines.specs.line_points.Crossings.{IsSmallLine};
 ghost use Rattle.delta_test.specs.Constraints.{IsConstraint, Allows};
 ghost use Rattle.delta_test.specs.declared.constraint.Constraint.TheVariants.{Anywhere};
 ghost use Rattle.delta_test.specs.IterationsLeft.{IsLeastLeft, IsNoneLeft, IsNoneUpTo};
 
 use crate::constraint::{Constraint, line_of_distance};
-use line_points::{Both, Line, divided, least_on_line};
+use loop_lines::line_points::{Both, Line, divided, least_on_line};
 use subscripts::Dir;
 
 /// The constraint that a line is: a distance where its coefficients are opposite.

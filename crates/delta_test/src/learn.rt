@@ -1,7 +1,7 @@
 //! What subscript pairs say of their loops' iterations.
 ghost use Rattle.std.specs.Prelude.{◌≡◌, ◌≤◌, ◌^◌, ℤ, pos, All, MatchOption, unsigned_abs};
 ghost use Rattle.subscripts.specs.Shapes.{IsPairing};
-ghost use Rattle.line_points.specs.Crossings.{IsSmallLine};
+ghost use Rattle.loop_lines.specs.line_points.Crossings.{IsSmallLine};
 ghost use Rattle.loop_lines.specs.Places.{loop_at};
 ghost use Rattle.delta_test.specs.Constraints.{IsConstraint};
 ghost use Rattle.delta_test.specs.Kept.{AreConstraints};
@@ -15,7 +15,7 @@ use crate::constraints::Constraints;
 use crate::iterations_left::constraint_of;
 use crate::left::{Left, left_of};
 use crate::put::reduced_by;
-use line_points::{Line, divided};
+use loop_lines::line_points::{Line, divided};
 use loop_lines::LoopPlace;
 use subscripts::Pairing;
 

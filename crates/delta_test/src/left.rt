@@ -8,7 +8,7 @@ ghost use Rattle.delta_test.specs.Lefts.{IsAlone, IsLeft};
 ghost use Rattle.delta_test.specs.Reductions.{IsSized};
 
 use crate::put::Reduced;
-use line_points::Line;
+use loop_lines::line_points::Line;
 use loop_lines::{LoopPlace, mattering_at};
 use subscripts::Pairing;
 

@@ -7,7 +7,7 @@ ghost use Rattle.delta_test.specs.Reductions.{IsReducedTo, IsTermAt, term_value,
 
 use crate::constraint::Constraint;
 use crate::constraints::Constraints;
-use line_points::times;
+use loop_lines::line_points::times;
 use subscripts::Pairing;
 
 /// A subscript pair into which iterations have been put.

@@ -24,8 +24,8 @@ use Rattle.f90_items.specs.declared.nodes.Node.TheVariants as variants
 use Rattle.f90_items.specs.Views.{IsNodeOf}
 use Rattle.f90_expr.specs.Reading.{IsMadeOf}
 use Rattle.f90_expr.specs.declared.nodes.Expression.{Expression}
-use Rattle.f90_parts.specs.Bounds.{AreBoundsOf, IsStepOf}
-use Rattle.f90_parts.specs.declared.bounds.Bounds.{Bounds}
+use Rattle.f90_items.specs.parts.Bounds.{AreBoundsOf, IsStepOf}
+use Rattle.f90_items.specs.declared.parts.bounds.Bounds.{Bounds}
 use Rattle.f90_statements.specs.Views.{AreOf, IsActionOf, IsStatementOf}
 use Rattle.f90_statements.specs.declared.nodes.Action.{Action}
 use Rattle.f90_statements.specs.declared.nodes.Action.TheVariants.{Assign, Read, Print}

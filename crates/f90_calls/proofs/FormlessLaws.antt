@@ -34,10 +34,10 @@ use Rattle.f90_statements.specs.Views.{AreOf, IsStatementOf}
 use Rattle.f90_statements.specs.declared.nodes.Statement.{Statement}
 use Rattle.f90_lines.specs.Views.{statement_seen, statements_seen}
 use Rattle.f90_lines.specs.declared.readings.Statement as written
-use Rattle.f90_forms.specs.Forms.{IsFormIn, HasForm}
-use Rattle.f90_forms.specs.Places.{HavePlaces}
-use Rattle.f90_forms.specs.declared.placing.Placed.{Placed}
-use Rattle.f90_forms.proofs.FormLaws.{left_at, none_left}
+use Rattle.f90_places.specs.forms.Forms.{IsFormIn, HasForm}
+use Rattle.f90_places.specs.forms.Places.{HavePlaces}
+use Rattle.f90_places.specs.declared.forms.placing.Placed.{Placed}
+use Rattle.f90_places.proofs.Forms.FormLaws.{left_at, none_left}
 use Rattle.f90_places.proofs.RisingLaws.{statements_rise}
 use Rattle.f90_calls.proofs.CallLaws.{tells_by}
 use Rattle.f90_calls.specs.Calls.{Tells}

@@ -23,7 +23,7 @@ use Rattle.f90_statements.specs.declared.nodes.Action.TheVariants.{Assign, Go, C
 use Rattle.f90_statements.specs.declared.nodes.Entity.{Entity}
 use Rattle.f90_statements.specs.declared.nodes.Statement.{Statement}
 use Rattle.f90_statements.specs.declared.nodes.Statement.TheVariants.{Declare, Act}
-use Rattle.f90_forms.specs.Forms.{IsFormIn}
+use Rattle.f90_places.specs.forms.Forms.{IsFormIn}
 use Rattle.f90_calls.specs.Hiding.{Hides, HidesDeclared, IsWithout, declared_by, names_of}
 
 abbrev pub declared_names : List (Option Statement) → List (List ℕ)

@@ -13,8 +13,8 @@ use Rattle.f90_grammar.specs.Forms.{Form}
 use Rattle.f90_grammar.specs.FreeForm.{FreeStatement}
 use Rattle.f90_grammar.specs.Reading.{HaveForms}
 use Rattle.f90_grammar.specs.Refusals.{IsFormOf, HasNoForm}
-use Rattle.f90_forms.specs.Places.{IsPlacedOf}
-use Rattle.f90_forms.specs.declared.placing.Placed.{Placed}
+use Rattle.f90_places.specs.forms.Places.{IsPlacedOf}
+use Rattle.f90_places.specs.declared.forms.placing.Placed.{Placed}
 use Rattle.f90_statements.specs.Views.{AreOf}
 
 -- the refusal is that of a statement without a form

@@ -3,7 +3,7 @@ ghost use Rattle.std.specs.Prelude.{List, IfOk, OnOk};
 ghost use Rattle.f90_grammar.specs.FreeForm.{FreeStatement};
 ghost use Rattle.f90_trees.specs.Hiding.{function_in};
 ghost use Rattle.f90_statements.specs.Views.{AreOf};
-ghost use Rattle.f90_forms.specs.Forms.{IsFormIn};
+ghost use Rattle.f90_places.specs.forms.Forms.{IsFormIn};
 ghost use Rattle.f90_calls.specs.Hiding.{Hides, HidesDeclared, declared_by, names_of};
 
 use f90_statements::{Entity, Statement};

@@ -7,14 +7,14 @@ ghost use Rattle.f90_grammar.specs.FreeForm.{FreeStatement, AreStatements};
 ghost use Rattle.f90_grammar.specs.Refusals.{HasNoForm};
 ghost use Rattle.f90_lines.specs.Views.{statements_seen};
 ghost use Rattle.f90_statements.specs.Views.{AreOf};
-ghost use Rattle.f90_forms.specs.Forms.{IsFormIn};
+ghost use Rattle.f90_places.specs.forms.Forms.{IsFormIn};
 ghost use Rattle.f90_trees.specs.Hiding.{function_in};
 ghost use Rattle.f90_calls.specs.Calls.{Tells};
 ghost use Rattle.f90_calls.specs.Formless.{HasSuitedForm, HaveSuitedForms, FindsFormless, IsFormless};
 
 use crate::hiding::functions_of;
 use crate::walk::statement_suits;
-use f90_forms::{Placed, forms, places};
+use f90_places::forms::{Placed, forms, places};
 use f90_lines::Statement as Written;
 use f90_statements::Statement;
 use f90_trees::Functions;

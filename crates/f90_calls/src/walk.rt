@@ -6,7 +6,7 @@ ghost use Rattle.f90_grammar.specs.Forms.{Form};
 ghost use Rattle.f90_grammar.specs.Items.{ItemPhrases};
 ghost use Rattle.f90_grammar.specs.Phrases.{Phrase, SuitsCalls};
 ghost use Rattle.f90_expr.specs.Reading.{IsMadeOf};
-ghost use Rattle.f90_parts.specs.Bounds.{AreBoundsOf};
+ghost use Rattle.f90_items.specs.parts.Bounds.{AreBoundsOf};
 ghost use Rattle.f90_items.specs.Flat as flats;
 ghost use Rattle.f90_items.specs.Reading.{IsListOf};
 ghost use Rattle.f90_items.specs.Views.{IsNodeOf, AreNodesOf};
@@ -16,7 +16,7 @@ ghost use Rattle.f90_calls.specs.Calls.{Tells, NodeSuits, ListSuits, AssignmentS
 
 use f90_expr::Expression;
 use f90_items::{Direction, ItemList, Node};
-use f90_parts::Bounds;
+use f90_items::parts::Bounds;
 use f90_statements::{Action, Statement};
 use f90_trees::{Functions, suits_calls, variable_suits_calls};
 use fv_tree::Memory;

@@ -3,3 +3,4 @@ pub mod Machine
 pub mod Views
 pub mod Reading
 pub mod Literals
+pub mod words

@@ -3,8 +3,8 @@ use Rattle.std.specs.Prelude.{◌≡◌, List, ◌++◌, Result, Ok, Err}
 use Rattle.std.specs.Borrow.{Bor}
 use Rattle.f90_grammar.specs.Phrases.{Phrase, IsExpression, written, depth}
 use Rattle.f90_grammar.specs.Words.{Word}
-use Rattle.f90_words.specs.Tokens.{words_of}
-use Rattle.f90_words.specs.declared.tokens.Token.{Token}
+use Rattle.f90_expr.specs.words.Tokens.{words_of}
+use Rattle.f90_expr.specs.declared.words.tokens.Token.{Token}
 use Rattle.reading_parts.specs.declared.stops.Stop.{Stop}
 use Rattle.reading_parts.specs.declared.stops.Stop.TheVariants.{Syntax, Memory}
 use Rattle.f90_expr.specs.Flat.{flat}

@@ -1,6 +1,7 @@
 //! Expressions of Fortran 90, from their words (ISO/IEC 1539:1991, sections 4.5, 6.2 and 7.1).
 #![tactic(auto)]
 
+pub mod words;
 mod literals;
 mod nodes;
 mod operands;

@@ -2,7 +2,7 @@
 ghost use Rattle.std.specs.Prelude.{◌≡◌, List, [], ◌∷◌, ◌++◌, IfOk, OnOk};
 ghost use Rattle.fv_tree.specs.OperatorTable.{level_of};
 ghost use Rattle.f90_grammar.specs.Words as words;
-ghost use Rattle.f90_words.specs.Tokens.{word_of, words_of};
+ghost use Rattle.f90_expr.specs.words.Tokens.{word_of, words_of};
 ghost use Rattle.f90_expr.specs.Machine as machine;
 ghost use Rattle.f90_expr.specs.Views.{info_seen, frame_seen, node_seen, nodes_seen, stack, state_in, Goes, Opens};
 ghost use Rattle.f90_expr.specs.Views.{Turns, Halts, Finishes, Reads, Continues};
@@ -13,7 +13,7 @@ ghost use Rattle.reading_parts.specs.Signs.{sign_of};
 
 use crate::nodes::{Expression, Node};
 use crate::operands::{Frame, Operand, Parts};
-use f90_words::Token;
+use crate::words::Token;
 use fv_tree::{Memory, Name, Op, Seq, copy_text};
 use reading_parts::{Sign, Stop};
 use std::alloc::Global;

@@ -9,15 +9,15 @@ use Rattle.f90_grammar.specs.Phrases.{Phrase, IsExpression, written}
 use Rattle.f90_grammar.specs.Items as items
 use Rattle.f90_grammar.specs.Items.{Direction, MayStand, written_bounds}
 use Rattle.f90_unique.specs.Unique.{EndsExpression}
-use Rattle.f90_words.specs.Tokens.{words_of}
-use Rattle.f90_words.specs.declared.tokens.Token.{Token}
+use Rattle.f90_expr.specs.words.Tokens.{words_of}
+use Rattle.f90_expr.specs.declared.words.tokens.Token.{Token}
 use Rattle.reading_parts.specs.declared.stops.Stop.{Stop}
 use Rattle.reading_parts.specs.declared.stops.Stop.TheVariants.{Syntax, Memory}
 use Rattle.f90_expr.specs.Reading.{IsMadeOf, Begins, Gives}
 use Rattle.f90_expr.specs.declared.nodes.Expression.{Expression}
-use Rattle.f90_parts.specs.Bounds.{AreBounds, AreBoundsOf, BeginsWithBounds, EndsBounds, GivesBounds, bounds_before}
-use Rattle.f90_parts.specs.declared.bounds.Bounds.{Bounds}
-use Rattle.f90_parts.proofs.BoundLaws.{bounds_are}
+use Rattle.f90_items.specs.parts.Bounds.{AreBounds, AreBoundsOf, BeginsWithBounds, EndsBounds, GivesBounds, bounds_before}
+use Rattle.f90_items.specs.declared.parts.bounds.Bounds.{Bounds}
+use Rattle.f90_items.proofs.Parts.BoundLaws.{bounds_are}
 use Rattle.f90_items.specs.Commas.{has_comma, comma_marks}
 use Rattle.f90_items.specs.Flat as flats
 use Rattle.f90_items.specs.Following.{Follows, Fronts}

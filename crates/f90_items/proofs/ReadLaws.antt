@@ -2,7 +2,7 @@
 use Rattle.std.proofs.Common.{arith, ◌≡◌, ◌<◌, ℕ, Bool, true, false, List, [], ◌∷◌, ◌++◌, refl, ap, sym, subst, ◌∙◌, append_assoc, append-nil, Err}
 use Rattle.f90_grammar.specs.Items.{Direction, ItemPhrases, AreItems, written_items}
 use Rattle.f90_grammar.specs.Words.{Word}
-use Rattle.f90_words.specs.Tokens.{words_of}
+use Rattle.f90_expr.specs.words.Tokens.{words_of}
 use Rattle.reading_parts.specs.declared.stops.Stop.{Stop}
 use Rattle.reading_parts.specs.declared.stops.Stop.TheVariants.{Syntax, Memory}
 use Rattle.f90_items.specs.Flat as flats

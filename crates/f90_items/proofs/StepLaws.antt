@@ -9,7 +9,7 @@ use Rattle.f90_grammar.specs.Items.{Direction, MayStand, TakesText, written_boun
 use Rattle.f90_unique.specs.Unique.{EndsExpression}
 use Rattle.f90_unique.proofs.Phrase.{one_phrase}
 use Rattle.f90_unique.proofs.Items.{bounds_once}
-use Rattle.f90_parts.specs.Bounds.{AreBounds}
+use Rattle.f90_items.specs.parts.Bounds.{AreBounds}
 use Rattle.f90_items.specs.Commas.{has_comma}
 use Rattle.f90_items.specs.Flat.{Node, Of, Text, Begin, Turns}
 use Rattle.f90_items.specs.Following.{Follows, Fronts}

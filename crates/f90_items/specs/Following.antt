@@ -4,7 +4,7 @@ use Rattle.f90_grammar.specs.Phrases.{Phrase, IsExpression, written}
 use Rattle.f90_grammar.specs.Items.{Direction, MayStand, TakesText, written_bounds}
 use Rattle.f90_grammar.specs.Words as words
 use Rattle.f90_grammar.specs.Words.{Word}
-use Rattle.f90_parts.specs.Bounds.{AreBounds}
+use Rattle.f90_items.specs.parts.Bounds.{AreBounds}
 use Rattle.f90_items.specs.Flat.{Node, Of, Text, Begin, Turns}
 
 -- an item is due, or a comma stands before it

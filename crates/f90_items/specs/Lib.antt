@@ -4,3 +4,4 @@ pub mod Commas
 pub mod Depths
 pub mod Views
 pub mod Reading
+pub mod parts

@@ -5,17 +5,17 @@ use Rattle.std.specs.Borrow.{Bor}
 use Rattle.f90_grammar.specs.Items as items
 use Rattle.f90_grammar.specs.Words as words
 use Rattle.f90_grammar.specs.Words.{Word}
-use Rattle.f90_words.specs.Tokens.{words_of}
+use Rattle.f90_expr.specs.words.Tokens.{words_of}
 use Rattle.reading_parts.specs.declared.stops.Stop.{Stop}
 use Rattle.reading_parts.specs.declared.stops.Stop.TheVariants.{Syntax, Memory}
 use Rattle.f90_expr.specs.Reading.{IsMadeOf}
-use Rattle.f90_parts.specs.Bounds.{AreBoundsOf}
+use Rattle.f90_items.specs.parts.Bounds.{AreBoundsOf}
 use Rattle.f90_items.specs.declared.nodes.Node.{Node}
 use Rattle.f90_items.specs.declared.nodes.Node.TheVariants.{Value, Text, Begin, Turns}
 use Rattle.f90_items.specs.declared.nodes.Direction.{Direction}
 use Rattle.f90_items.specs.declared.nodes.Direction.TheVariants.{Input, Output}
 use Rattle.f90_items.specs.declared.reader.Step.{Step}
-use Rattle.f90_words.specs.declared.tokens.Token.{Token}
+use Rattle.f90_expr.specs.declared.words.tokens.Token.{Token}
 use Rattle.f90_items.specs.Commas.{has_comma}
 use Rattle.f90_items.specs.Flat as flats
 use Rattle.f90_items.specs.Following.{Follows, Fronts}

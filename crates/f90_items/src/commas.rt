@@ -1,9 +1,9 @@
 //! Which parentheses have a comma in them that stands in no further parenthesis.
 ghost use Rattle.std.specs.Prelude.{◌≡◌, IfOk, OnOk, reverse};
-ghost use Rattle.f90_words.specs.Tokens.{word_of, words_of};
+ghost use Rattle.f90_expr.specs.words.Tokens.{word_of, words_of};
 ghost use Rattle.f90_items.specs.Commas.{comma_marks, level_of, out_of, before_word};
 
-use f90_words::Token;
+use f90_expr::words::Token;
 use fv_tree::Memory;
 use std::alloc::Global;
 

@@ -5,10 +5,10 @@ ghost use Rattle.f90_expr.specs.Machine.{deeper};
 ghost use Rattle.f90_items.specs.Depths.{depth_of_bounds, levels, with_part, with_parts};
 ghost use Rattle.f90_items.specs.Flat as flats;
 ghost use Rattle.f90_items.specs.Views.{IsNodeOf, AreNodesOf};
-ghost use Rattle.f90_parts.specs.Bounds.{AreBoundsOf};
+ghost use Rattle.f90_items.specs.parts.Bounds.{AreBoundsOf};
 
 use crate::nodes::Node;
-use f90_parts::Bounds;
+use crate::parts::Bounds;
 use fv_tree::{EXPRESSION_DEPTH_90, Memory};
 use std::alloc::Global;
 

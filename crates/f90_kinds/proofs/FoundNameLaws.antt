@@ -13,8 +13,8 @@ use Rattle.fv_meaning.specs.Typed.{number_of_subscripts, declared, rank_of_exten
 use Rattle.f90_grammar.specs.Items.{Direction, Input, Output}
 use Rattle.f90_grammar.specs.Reading.{function_by}
 use Rattle.f90_grammar.specs.Declared.{IsKnown, use_of}
-use Rattle.f90_declared.specs.declared.names.Declared.{Declared}
-use Rattle.f90_declared.specs.Names.{Tells}
+use Rattle.f90_kinds.specs.declared.declarations.names.Declared.{Declared}
+use Rattle.f90_kinds.specs.declarations.Names.{Tells}
 use Rattle.f90_kinds.specs.Known.{KnowsNames, KnowsAll, KnowsSubscripts, KnowsSubscript, KnowsLoops, KnowsReference}
 use Rattle.f90_kinds.specs.Known.{KnowsSingle, KnowsItem, KnowsItems}
 use Rattle.f90_kinds.specs.FoundNames.{is_known, is_known_or_function, knows, knows_all, knows_subscripts}

@@ -17,8 +17,8 @@ use Rattle.fv_meaning.specs.Typed.{number_of_arguments, number_of_subscripts, ra
 use Rattle.fv_meaning.specs.Typed90.{Conform, SuitsDimensions, SuitsLoops, IsFree, rank_of, rank_of_each}
 use Rattle.fv_meaning.specs.Typed90.{rank_of_subscripts, rank_of_subscript, HasKind, AreArguments, AreScalars}
 use Rattle.fv_meaning.specs.Typed90.{AreSubscripts, IsSubscript, AreLoops}
-use Rattle.f90_declared.specs.declared.names.Declared.{Declared}
-use Rattle.f90_declared.specs.Names.{Tells}
+use Rattle.f90_kinds.specs.declared.declarations.names.Declared.{Declared}
+use Rattle.f90_kinds.specs.declarations.Names.{Tells}
 use Rattle.f90_kinds.specs.declared.nodes.Ranked.{Ranked}
 use Rattle.f90_kinds.specs.Kinds.{IsKindOf}
 use Rattle.f90_kinds.specs.Found.{ranked, ranked_if, same_kind, is_scalar, conform, name_with, with_argument}

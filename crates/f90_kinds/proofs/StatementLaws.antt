@@ -16,8 +16,8 @@ use Rattle.fv_meaning.specs.Profile90.{IsAllocatable}
 use Rattle.f90_grammar.specs.Items.{Direction, Input, Output}
 use Rattle.f90_grammar.specs.Suited.{SuitsAssignment, SuitsMask, AreNumbers, SuitsList, SuitsItem, SuitsItems}
 use Rattle.f90_grammar.specs.Suited.{SuitsAllocation}
-use Rattle.f90_declared.specs.declared.names.Declared.{Declared}
-use Rattle.f90_declared.specs.Names.{Tells}
+use Rattle.f90_kinds.specs.declared.declarations.names.Declared.{Declared}
+use Rattle.f90_kinds.specs.declarations.Names.{Tells}
 use Rattle.f90_kinds.specs.declared.nodes.Ranked.{Ranked}
 use Rattle.f90_kinds.specs.Found.{ranked, same_kind, is_scalar, kind_in, is_some_kind, suits_sides, suits_mask}
 use Rattle.f90_kinds.specs.Found.{mask_and_sides, allocates, is_single, is_later_of, is_later, are_numbers, suits_alone}

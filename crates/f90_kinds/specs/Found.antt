@@ -16,7 +16,7 @@ use Rattle.fv_tree.specs.Functions.{name_of_intrinsic, suits_number}
 use Rattle.fv_tree.specs.OperatorTable.{operand_kind, result_kind_of, is_unary}
 use Rattle.fv_meaning.specs.Typed.{number_of_arguments, number_of_subscripts}
 use Rattle.f90_grammar.specs.Items.{Direction, Input, Output}
-use Rattle.f90_declared.specs.declared.names.Declared.{Declared}
+use Rattle.f90_kinds.specs.declared.declarations.names.Declared.{Declared}
 use Rattle.f90_kinds.specs.declared.nodes.Ranked.{Ranked}
 
 -- ---- of one node, by what was found of its parts: None where something in a part doesn't suit

@@ -7,7 +7,7 @@ use Rattle.fv_tree.specs.Plain.{Item, Single, Constant, ImpliedDo, Items, no_ite
 use Rattle.fv_tree.specs.Functions.{intrinsic_named}
 use Rattle.fv_meaning.specs.Typed.{number_of_subscripts}
 use Rattle.f90_grammar.specs.Items.{Direction, Input, Output}
-use Rattle.f90_declared.specs.declared.names.Declared.{Declared}
+use Rattle.f90_kinds.specs.declared.declarations.names.Declared.{Declared}
 
 -- a name with so many subscripts
 abbrev pub is_known : Option Declared → ℕ → Bool

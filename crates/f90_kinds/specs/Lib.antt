@@ -3,3 +3,4 @@ pub mod Found
 pub mod FoundNames
 pub mod Kinds
 pub mod Known
+pub mod declarations

@@ -3,7 +3,7 @@ ghost use Rattle.std.specs.Prelude.{◌≡◌, ◌≤◌, List, [], ◌∷◌, m
 ghost use Rattle.fv_tree.specs.Plain.{expressions, subscripts, Declaration};
 ghost use Rattle.fv_tree.specs.View.{expression_of, subscript_of, reference_of, loop_of, loops};
 ghost use Rattle.fv_meaning.specs.Value.{named};
-ghost use Rattle.f90_declared.specs.Names.{AreNamesOf, found};
+ghost use Rattle.f90_kinds.specs.declarations.Names.{AreNamesOf, found};
 ghost use Rattle.f90_kinds.specs.Found as plain;
 ghost use Rattle.f90_kinds.specs.Kinds.{IsKindOf};
 
@@ -11,7 +11,7 @@ use crate::nodes::{
     Ranked, binary, call, constructor, is_scalar, literal, name_with, only, reduce, reshape,
     section, spread, suits_loop, transpose, unary, with_argument, with_scalar,
 };
-use f90_declared::Names;
+use crate::declarations::Names;
 use fv_tree::{Expr, Intrinsic, Kind, Name, Ref, Seq, Sub, Turn};
 
 /// The kind and the rank of the expression, by the declarations of these names: none where something in it doesn't

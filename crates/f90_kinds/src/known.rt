@@ -5,13 +5,13 @@ ghost use Rattle.fv_tree.specs.View.{expression_of, subscript_of, reference_of, 
 ghost use Rattle.fv_tree.specs.declared.exprs.Expr.TheVariants as exprs;
 ghost use Rattle.f90_grammar.specs.Declared.{IsKnown, use_of};
 ghost use Rattle.f90_grammar.specs.Items.{Input, Output};
-ghost use Rattle.f90_declared.specs.Names.{AreNamesOf, found};
+ghost use Rattle.f90_kinds.specs.declarations.Names.{AreNamesOf, found};
 ghost use Rattle.f90_kinds.specs.Directions.{direction_of};
 ghost use Rattle.f90_kinds.specs.FoundNames as plain;
 ghost use Rattle.f90_kinds.specs.Known.{KnowsNames, KnowsAll, KnowsReference, KnowsItems};
 
 use crate::statements::Way;
-use f90_declared::Names;
+use crate::declarations::Names;
 use fv_tree::{Expr, Intrinsic, Item, Name, Ref, Seq, Sub, Turn};
 
 /// Whether the names in the expression are declared, and have as many subscripts as dimensions or none.

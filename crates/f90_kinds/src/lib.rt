@@ -2,6 +2,7 @@
 //! and 13), and whether its names are declared.
 #![tactic(auto)]
 
+pub mod declarations;
 mod kinds;
 mod known;
 mod laws;

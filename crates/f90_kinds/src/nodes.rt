@@ -2,7 +2,7 @@
 ghost use Rattle.std.specs.Prelude.{◌≡◌, ◌≤◌, IfSome};
 ghost use Rattle.f90_kinds.specs.Found as plain;
 
-use f90_declared::Declared;
+use crate::declarations::Declared;
 use fv_tree::{ARRAY_DIMENSIONS, Fun, Kind, Op};
 
 /// The kind and the rank of an expression; a scalar has the rank 0.

@@ -9,13 +9,13 @@ ghost use Rattle.fv_meaning.specs.Typed90.{IsScalar, IsIntegerScalar};
 ghost use Rattle.fv_meaning.specs.Profile90.{IsAllocatable};
 ghost use Rattle.f90_grammar.specs.Suited.{SuitsAssignment, SuitsMask, AreNumbers, SuitsItems, SuitsAllocation};
 ghost use Rattle.f90_grammar.specs.Items.{Input, Output};
-ghost use Rattle.f90_declared.specs.Names.{AreNamesOf, found};
+ghost use Rattle.f90_kinds.specs.declarations.Names.{AreNamesOf, found};
 ghost use Rattle.f90_kinds.specs.Found as plain;
 ghost use Rattle.f90_kinds.specs.Directions.{direction_of};
 
 use crate::kinds::{are_scalars, find_kind, find_reference};
 use crate::nodes::{holds_integer, is_scalar, is_single, mask_and_sides, suits_sides};
-use f90_declared::Names;
+use crate::declarations::Names;
 use fv_tree::{Expr, Item, Kind, Name, Ref, Seq};
 
 /// The list of READ, or that of PRINT.

@@ -3,10 +3,10 @@ ghost use Rattle.std.specs.Prelude.{IsTrue, List};
 ghost use Rattle.f90_grammar.specs.Blocks as grammar;
 ghost use Rattle.f90_grammar.specs.Contents.{has_wide_literal_in, has_deep_expression};
 ghost use Rattle.f90_statements.specs.Views.{AreOf};
-ghost use Rattle.f90_forms.specs.Places.{IsPlacedOf};
+ghost use Rattle.f90_places.specs.forms.Places.{IsPlacedOf};
 ghost use Rattle.f90_places.specs.First.{FindsFirst};
 
-use f90_forms::Placed;
+use crate::forms::Placed;
 
 /// How many statements stand before the first that has a literal above 2^127-1, if one has.
 pub fn first_wide(text: &[Placed]) -> Option<usize>

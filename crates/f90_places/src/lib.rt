@@ -1,6 +1,7 @@
 //! The places of a text's statements: the first at which something holds, and their lines.
 #![tactic(auto)]
 
+pub mod forms;
 mod choice;
 mod first;
 mod laws;

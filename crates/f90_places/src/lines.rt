@@ -3,9 +3,9 @@ ghost use Rattle.std.specs.Prelude.{◌≡◌, Some, List, length};
 ghost use Rattle.f90_grammar.specs.Blocks as grammar;
 ghost use Rattle.f90_grammar.specs.Order.{Place, IsPlaceIn};
 ghost use Rattle.f90_statements.specs.Views.{AreOf};
-ghost use Rattle.f90_forms.specs.Places.{IsPlacedOf};
+ghost use Rattle.f90_places.specs.forms.Places.{IsPlacedOf};
 
-use f90_forms::Placed;
+use crate::forms::Placed;
 
 /// The line of the statement before which so many stand, if there is one.
 pub fn line_at(text: &[Placed], place: usize) -> Option<u32>

@@ -25,9 +25,9 @@ use Rattle.f90_grammar.specs.Refusals.HasCause.{InStatements}
 use Rattle.f90_grammar.specs.Refusals.IsRefusable.{For, ForNames}
 use Rattle.f90_block_laws.specs.Places.{IsWrongAt}
 use Rattle.f90_block_laws.proofs.Misplaced.{misplaced_at_place}
-use Rattle.f90_declared.specs.Bounds.{all_elements}
-use Rattle.f90_forms.specs.Places.{IsPlacedOf}
-use Rattle.f90_forms.specs.declared.placing.Placed.{Placed as Held}
+use Rattle.f90_kinds.specs.declarations.Bounds.{all_elements}
+use Rattle.f90_places.specs.forms.Places.{IsPlacedOf}
+use Rattle.f90_places.specs.declared.forms.placing.Placed.{Placed as Held}
 use Rattle.f90_places.specs.First.{FindsFirst, earlier}
 use Rattle.f90_places.proofs.EarlierLaws.{first_of_two}
 use Rattle.f90_statements.specs.Views.{AreOf}

@@ -30,7 +30,7 @@ use Rattle.f90_block_laws.specs.Places.{SuitsPlace, surroundings_of, IsWrongAt}
 use Rattle.f90_block_laws.proofs.Bodies.{targets_named}
 use Rattle.f90_block_laws.proofs.Misplaced.{misplaced_at_place}
 use Rattle.f90_blocks.specs.Treed.{MarksAreTaken}
-use Rattle.f90_declared.specs.Declarations.{AreAccepted, AreInOrder}
+use Rattle.f90_kinds.specs.declarations.Declarations.{AreAccepted, AreInOrder}
 use Rattle.f90_reading_laws.proofs.PlaceFacts.{each_place}
 use Rattle.f90_reading_laws.proofs.Tables.{in_text_is, alike_in, same_functions}
 use Rattle.f90_statement_trees.specs.Executable.{IsMarked}

@@ -28,14 +28,14 @@ use Rattle.f90_grammar.specs.Refusals.{Refused90}
 use Rattle.f90_grammar.specs.Refusals.HoldsIn.{AtPlace, HasNoStatement, IsWrongInBlocks}
 use Rattle.f90_grammar.specs.Refusals.HasCause.{InLines, InWords, InStatements}
 use Rattle.f90_grammar.specs.Refusals.IsRefusable.{For, ForNames}
-use Rattle.f90_declared.specs.Names.{AreNamesOf}
-use Rattle.f90_declared.specs.declared.names.Names.{Names}
+use Rattle.f90_kinds.specs.declarations.Names.{AreNamesOf}
+use Rattle.f90_kinds.specs.declared.declarations.names.Names.{Names}
 use Rattle.f90_trees.specs.declared.functions.Functions.{Functions}
 use Rattle.f90_lines.specs.Views.{statements_seen}
 use Rattle.f90_lines.specs.declared.readings.Statement.{Statement as Written}
 use Rattle.f90_calls.specs.Formless.{IsFormless, HaveSuitedForms}
-use Rattle.f90_forms.specs.Places.{IsPlacedOf}
-use Rattle.f90_forms.specs.declared.placing.Placed.{Placed as Held}
+use Rattle.f90_places.specs.forms.Places.{IsPlacedOf}
+use Rattle.f90_places.specs.declared.forms.placing.Placed.{Placed as Held}
 use Rattle.f90_statements.specs.Views.{AreOf}
 use Rattle.f90_reading_laws.proofs.Programs.{read_program}
 use Rattle.f90_reading_laws.proofs.Refusing.{read_within}

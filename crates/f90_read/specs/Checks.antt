@@ -15,10 +15,10 @@ use Rattle.f90_grammar.specs.Order.{Place, IsPlaceIn}
 use Rattle.f90_grammar.specs.Reading.{AreStatementsOf}
 use Rattle.f90_grammar.specs.Refusals.{IsRefusable, Refused90}
 use Rattle.f90_statements.specs.Views.{AreOf}
-use Rattle.f90_forms.specs.Places.{IsPlacedOf}
-use Rattle.f90_forms.specs.declared.placing.Placed.{Placed}
-use Rattle.f90_declared.specs.Names.{AreNamesOf}
-use Rattle.f90_declared.specs.declared.names.Names.{Names}
+use Rattle.f90_places.specs.forms.Places.{IsPlacedOf}
+use Rattle.f90_places.specs.declared.forms.placing.Placed.{Placed}
+use Rattle.f90_kinds.specs.declarations.Names.{AreNamesOf}
+use Rattle.f90_kinds.specs.declared.declarations.names.Names.{Names}
 use Rattle.f90_trees.specs.Hiding.{function_in}
 use Rattle.f90_trees.specs.declared.functions.Functions.{Functions}
 use Rattle.f90_read.specs.Outcomes.{ReadsWithin}

@@ -3,15 +3,15 @@ ghost use Rattle.std.specs.Prelude.{ℕ, List};
 ghost use Rattle.f90_statement_trees.specs.Results.{AreOfSome};
 ghost use Rattle.f90_grammar.specs.Blocks as grammar;
 ghost use Rattle.f90_grammar.specs.Declared.{declarations_of};
-ghost use Rattle.f90_declared.specs.Names.{AreNamesOf};
-ghost use Rattle.f90_forms.specs.Places.{IsPlacedOf};
+ghost use Rattle.f90_kinds.specs.declarations.Names.{AreNamesOf};
+ghost use Rattle.f90_places.specs.forms.Places.{IsPlacedOf};
 ghost use Rattle.f90_statements.specs.Views.{AreOf};
 ghost use Rattle.f90_read.specs.Checks.{IsTextOf, IsNamedTextOf, IsClearBelow, Clears, RefusesAt};
 
-use f90_declared::{
+use f90_kinds::declarations::{
     Names, first_beyond_bounds, first_beyond_elements, first_beyond_names, first_repeated,
 };
-use f90_forms::Placed;
+use f90_places::forms::Placed;
 use f90_places::{earlier, first_deep, first_wide, line_at};
 use f90_structure::{first_deep_block, first_disordered, first_wrong_label};
 use f90_suits::{first_unknown, first_unsuited};

@@ -6,14 +6,14 @@ ghost use Rattle.f90_grammar.specs.Blocks as grammar;
 ghost use Rattle.f90_grammar.specs.Forms.{Form};
 ghost use Rattle.f90_grammar.specs.Order.{name_in, title_of};
 ghost use Rattle.f90_grammar.specs.Reading.{IsProgramOf};
-ghost use Rattle.f90_forms.specs.Places.{IsPlacedOf};
+ghost use Rattle.f90_places.specs.forms.Places.{IsPlacedOf};
 ghost use Rattle.f90_statements.specs.Views.{AreOf, IsStatementOf};
 ghost use Rattle.f90_read.specs.Checks.{IsTextOf, IsClearBelow, AreFunctionsOf};
 ghost use Rattle.f90_calls.specs.Hiding.{Hides, declared_by, names_of};
 
 use f90_blocks::block;
-use f90_declared::declarations;
-use f90_forms::Placed;
+use f90_kinds::declarations::declarations;
+use f90_places::forms::Placed;
 use f90_statements::{Entity, Statement};
 use f90_suits::trees;
 use f90_trees::Functions;

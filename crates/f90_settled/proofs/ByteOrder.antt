@@ -18,7 +18,7 @@ use Rattle.f90_grammar.specs.Declared.{declarations_in, declarations_of, names_o
 use Rattle.f90_grammar.specs.Order.{Place, IsPlaceIn}
 use Rattle.f90_reading_laws.proofs.Lists.{left_false, right_false, both_false, here, there, nowhere, cases_of}
 use Rattle.f90_reading_laws.proofs.Lists.{all_weaker}
-use Rattle.f90_declared.specs.Declarations.{AreInOrder}
+use Rattle.f90_kinds.specs.declarations.Declarations.{AreInOrder}
 
 abbrev is_named : List Declaration → List ℕ → Bool
 is_named ds x = is_among (names_of ds) x

@@ -27,7 +27,7 @@ use Rattle.f90_block_laws.proofs.Bodies.{body_forms}
 use Rattle.f90_lines.specs.Readings.{Ahead, statements_of}
 use Rattle.f90_lines.proofs.StatementLaws.{are_statements}
 use Rattle.f90_read_back.proofs.DeclaredNames.{same_functions}
-use Rattle.f90_declared.specs.Declarations.{AreInOrder}
+use Rattle.f90_kinds.specs.declarations.Declarations.{AreInOrder}
 use Rattle.f90_calls.specs.Formless.{HasSuitedForm}
 use Rattle.f90_read.specs.Outcomes.{ReadsWithin}
 use Rattle.f90_read.proofs.PartLaws.{HasParts, parts}

@@ -20,10 +20,10 @@ use Rattle.f90_grammar.specs.Phrases.{Phrase, tree_of}
 use Rattle.f90_grammar.specs.Reading.{takes_mark}
 use Rattle.f90_expr.specs.Reading.{IsMadeOf}
 use Rattle.f90_expr.specs.declared.nodes.Expression.{Expression as Read}
-use Rattle.f90_forms.specs.Places.{IsPlacedOf}
-use Rattle.f90_forms.specs.declared.placing.Placed.{Placed}
-use Rattle.f90_parts.specs.Bounds.{AreBoundsOf}
-use Rattle.f90_parts.specs.declared.bounds.Bounds.{Bounds}
+use Rattle.f90_places.specs.forms.Places.{IsPlacedOf}
+use Rattle.f90_places.specs.declared.forms.placing.Placed.{Placed}
+use Rattle.f90_items.specs.parts.Bounds.{AreBoundsOf}
+use Rattle.f90_items.specs.declared.parts.bounds.Bounds.{Bounds}
 use Rattle.f90_statements.specs.Views.{IsStatementOf}
 use Rattle.f90_statements.specs.declared.nodes.Statement.TheVariants as statements
 use Rattle.f90_trees.specs.Building.{held, held_all}

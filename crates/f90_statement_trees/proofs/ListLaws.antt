@@ -17,8 +17,8 @@ use Rattle.f90_expr.specs.Reading.{IsMadeOf}
 use Rattle.f90_expr.specs.declared.nodes.Expression.{Expression}
 use Rattle.f90_items.specs.Flat.{Node, Of, Text, Turns, flat_item, flat_items}
 use Rattle.f90_items.specs.Views.{IsNodeOf}
-use Rattle.f90_parts.specs.Bounds.{AreBoundsOf}
-use Rattle.f90_parts.specs.declared.bounds.Bounds.{Bounds}
+use Rattle.f90_items.specs.parts.Bounds.{AreBoundsOf}
+use Rattle.f90_items.specs.declared.parts.bounds.Bounds.{Bounds}
 use Rattle.f90_items.specs.declared.nodes.Node.TheVariants as node_variants
 use Rattle.f90_trees.specs.Building.{held}
 use Rattle.f90_statement_trees.specs.Held.{held_item, held_items}

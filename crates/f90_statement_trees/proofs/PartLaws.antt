@@ -18,7 +18,7 @@ use Rattle.f90_items.specs.Reading.{IsListOf}
 use Rattle.f90_items.specs.Views.{IsNodeOf, AreNodesOf}
 use Rattle.f90_items.specs.declared.nodes.ItemList.{ItemList}
 use Rattle.f90_items.specs.declared.nodes.Node.{Node}
-use Rattle.f90_parts.specs.Bounds.{IsStepOf}
+use Rattle.f90_items.specs.parts.Bounds.{IsStepOf}
 use Rattle.f90_statements.specs.Views.{AreOf}
 use Rattle.f90_statements.proofs.AnyLaws.{nodes_are}
 use Rattle.f90_trees.specs.Building.{held}

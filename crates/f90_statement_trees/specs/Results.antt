@@ -12,8 +12,8 @@ use Rattle.f90_grammar.specs.Items.{ItemPhrases, item_trees, step_tree}
 use Rattle.f90_grammar.specs.Phrases.{Phrase, tree_of}
 use Rattle.f90_items.specs.Reading.{IsListOf}
 use Rattle.f90_items.specs.declared.nodes.ItemList.{ItemList}
-use Rattle.f90_parts.specs.Bounds.{AreBoundsOf}
-use Rattle.f90_parts.specs.declared.bounds.Bounds.{Bounds}
+use Rattle.f90_items.specs.parts.Bounds.{AreBoundsOf}
+use Rattle.f90_items.specs.declared.parts.bounds.Bounds.{Bounds}
 use Rattle.f90_statements.specs.Views.{AreOf}
 use Rattle.f90_trees.specs.Building.{held}
 use Rattle.f90_statement_trees.specs.Executable.{is_named, is_call, stores_into_call, has_tree}

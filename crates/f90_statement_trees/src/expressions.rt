@@ -3,7 +3,7 @@ ghost use Rattle.std.specs.Prelude.{◌≡◌, List, Option, IfOk, map};
 ghost use Rattle.f90_grammar.specs.Items.{step_tree};
 ghost use Rattle.f90_grammar.specs.Phrases.{Phrase};
 ghost use Rattle.f90_expr.specs.Reading.{IsMadeOf};
-ghost use Rattle.f90_parts.specs.Bounds.{IsStepOf, AreBoundsOf};
+ghost use Rattle.f90_items.specs.parts.Bounds.{IsStepOf, AreBoundsOf};
 ghost use Rattle.f90_statements.specs.Views.{AreOf};
 ghost use Rattle.f90_trees.specs.Building.{held};
 ghost use Rattle.f90_trees.specs.Hiding.{function_in};
@@ -13,7 +13,7 @@ ghost use Rattle.f90_statement_trees.specs.Results.{IsNamedBy};
 ghost use Rattle.fv_tree.specs.View.{expression_of};
 
 use f90_expr::Expression;
-use f90_parts::Bounds;
+use f90_items::parts::Bounds;
 use f90_trees::{Functions, tree};
 use fv_tree::{Expr, Memory, Ref, Seq};
 use std::alloc::Global;

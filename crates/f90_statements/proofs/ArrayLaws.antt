@@ -7,8 +7,8 @@ use Rattle.f90_grammar.specs.Forms.{Form, IsWritten, IsList, separated, written_
 use Rattle.f90_grammar.specs.Phrases.{Phrase, IsExpression, written}
 use Rattle.f90_grammar.specs.Words as words
 use Rattle.f90_grammar.specs.Words.{Word}
-use Rattle.f90_words.specs.Tokens.{words_of}
-use Rattle.f90_words.specs.declared.tokens.Token.{Token}
+use Rattle.f90_expr.specs.words.Tokens.{words_of}
+use Rattle.f90_expr.specs.declared.words.tokens.Token.{Token}
 use Rattle.reading_parts.specs.declared.stops.Stop.{Stop}
 use Rattle.reading_parts.specs.declared.stops.Stop.TheVariants.{Syntax, Memory}
 use Rattle.f90_expr.specs.Reading.{IsMadeOf}

@@ -9,15 +9,15 @@ use Rattle.f90_grammar.specs.Phrases.{Phrase, IsExpression}
 use Rattle.f90_grammar.specs.Words as words
 use Rattle.f90_grammar.specs.Words.{Word}
 use Rattle.f90_unique.proofs.Phrase.{one_phrase}
-use Rattle.f90_words.specs.Tokens.{words_of}
-use Rattle.f90_words.specs.declared.tokens.Token.{Token}
+use Rattle.f90_expr.specs.words.Tokens.{words_of}
+use Rattle.f90_expr.specs.declared.words.tokens.Token.{Token}
 use Rattle.reading_parts.specs.declared.stops.Stop.{Stop}
 use Rattle.reading_parts.specs.declared.stops.Stop.TheVariants.{Syntax, Memory}
 use Rattle.f90_expr.specs.Reading.{IsMadeOf}
 use Rattle.f90_expr.specs.declared.nodes.Expression.{Expression}
-use Rattle.f90_parts.specs.Bounds.{AreBounds, AreBoundsOf, BeginsWithBounds, EndsBounds, GivesBounds, bounds_before}
-use Rattle.f90_parts.specs.declared.bounds.Bounds.{Bounds}
-use Rattle.f90_parts.proofs.BoundLaws.{bounds_are}
+use Rattle.f90_items.specs.parts.Bounds.{AreBounds, AreBoundsOf, BeginsWithBounds, EndsBounds, GivesBounds, bounds_before}
+use Rattle.f90_items.specs.declared.parts.bounds.Bounds.{Bounds}
+use Rattle.f90_items.proofs.Parts.BoundLaws.{bounds_are}
 use Rattle.f90_statements.specs.Fronts.{HasLabel, begun_loop, labelled}
 use Rattle.f90_statements.specs.Kinds.{is_action, is_if, is_else_if, is_do, is_label}
 use Rattle.f90_statements.specs.Reading.{IsForm, ReadsAction, ReadsStatement, BeginsWithCondition, Given, closed}

@@ -5,8 +5,8 @@ use Rattle.std.proofs.lemmas.List.{length-map, length-append}
 use Rattle.f90_grammar.specs.Forms.{separated, followed, IsList}
 use Rattle.f90_grammar.specs.Words as words
 use Rattle.f90_grammar.specs.Words.{Word}
-use Rattle.f90_words.specs.Tokens.{word_of, words_of}
-use Rattle.f90_words.specs.declared.tokens.Token.{Token}
+use Rattle.f90_expr.specs.words.Tokens.{word_of, words_of}
+use Rattle.f90_expr.specs.declared.words.tokens.Token.{Token}
 use Rattle.reading_parts.specs.declared.stops.Stop.{Stop}
 use Rattle.reading_parts.specs.declared.stops.Stop.TheVariants.{Syntax, Memory}
 use Rattle.f90_statements.specs.Reading.{EndsItem, EndsList, Begins, BeginsWithList, IsThe, StillToRead, ReadsOn, Given}

@@ -1,8 +1,8 @@
 -- Whether words are left.
 use Rattle.std.proofs.Common.{arith, ◌≡◌, ◌<◌, ◌==◌, Bool, true, false, List, [], ◌∷◌, length, refl}
 use Rattle.std.specs.Prelude.{IsTrue, ◌↔◌}
-use Rattle.f90_words.specs.Tokens.{words_of}
-use Rattle.f90_words.specs.declared.tokens.Token.{Token}
+use Rattle.f90_expr.specs.words.Tokens.{words_of}
+use Rattle.f90_expr.specs.declared.words.tokens.Token.{Token}
 
 pub some_left : (ts : List Token) (b : Bool) → b ≡ (length ts == 0) → b ≡ false → words_of ts ≡ [] → ⊥
 some_left [] b h k e = cc

@@ -7,8 +7,8 @@ use Rattle.f90_grammar.specs.Forms.{Either, EitherHead, IsTransfer, IsLabel, key
 use Rattle.f90_grammar.specs.Phrases.{value_of_digits}
 use Rattle.f90_grammar.specs.Words as words
 use Rattle.f90_grammar.specs.Words.{Word}
-use Rattle.f90_words.specs.Tokens.{words_of}
-use Rattle.f90_words.specs.declared.tokens.Token.{Token}
+use Rattle.f90_expr.specs.words.Tokens.{words_of}
+use Rattle.f90_expr.specs.declared.words.tokens.Token.{Token}
 
 -- what follows two words, or the one that they make
 abbrev pub AfterEither : List ℕ → List ℕ → Option (Bor (List Token)) → List Word → Type 0

@@ -7,7 +7,7 @@ use Rattle.f90_grammar.specs.Phrases.{value_of_digits}
 use Rattle.f90_expr.specs.Literals.{value_in}
 use Rattle.f90_expr.specs.Reading.{IsMadeOf}
 use Rattle.f90_items.specs.Reading.{IsListOf}
-use Rattle.f90_parts.specs.Bounds.{AreBoundsOf}
+use Rattle.f90_items.specs.parts.Bounds.{AreBoundsOf}
 use Rattle.f90_statements.specs.declared.nodes.Bound.{Bound}
 use Rattle.f90_statements.specs.declared.nodes.Dimension.{Dimension}
 use Rattle.f90_statements.specs.declared.nodes.Dimension.TheVariants.{Upper, Both, Deferred}

@@ -1,5 +1,5 @@
 //! Statements that may stand in a logical IF.
-ghost use Rattle.f90_words.specs.Tokens.{words_of};
+ghost use Rattle.f90_expr.specs.words.Tokens.{words_of};
 ghost use Rattle.f90_statements.specs.Kinds.{is_assignment, is_go, is_read, is_print, is_bare_action, is_action};
 ghost use Rattle.f90_statements.specs.Reading.{ReadsAction};
 
@@ -7,7 +7,7 @@ use crate::fronts::{after_keywords, after_transfer, is_empty_transfer, is_keywor
 use crate::nodes::Action;
 use crate::parts::sides;
 use f90_items::{Direction, ItemList};
-use f90_words::Token;
+use f90_expr::words::Token;
 use reading_parts::Stop;
 use std::alloc::Global;
 

@@ -14,14 +14,14 @@ ghost use Rattle.f90_expr.specs.Reading.{IsMadeOf};
 ghost use Rattle.f90_items.specs.Flat as flats;
 ghost use Rattle.f90_items.specs.Reading.{IsListOf};
 ghost use Rattle.f90_items.specs.Views.{IsNodeOf, AreNodesOf};
-ghost use Rattle.f90_parts.specs.Bounds.{AreBoundsOf};
+ghost use Rattle.f90_items.specs.parts.Bounds.{AreBoundsOf};
 ghost use Rattle.f90_statements.specs.Contents.{test_of, any_in, node_holds, are_wide};
 ghost use Rattle.f90_statements.specs.Views.{AreOf, IsBoundOf, IsDimensionOf, IsEntityOf, IsActionOf, IsStatementOf};
 
 use crate::nodes::{Action, Bound, Dimension, Entity, Statement};
 use f90_expr::Expression;
 use f90_items::{ItemList, Node};
-use f90_parts::Bounds;
+use f90_items::parts::Bounds;
 use fv_tree::EXPRESSION_DEPTH_90;
 
 /// What is asked of each expression of a statement: whether a literal of it is above 2^127-1, or it is too deep.

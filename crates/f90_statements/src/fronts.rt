@@ -2,16 +2,16 @@
 ghost use Rattle.std.specs.Prelude.{◌≡◌, ◌∷◌, ◌++◌, [], ◌↔◌, IsTrue};
 ghost use Rattle.f90_grammar.specs.Forms.{Either, IsEmptyTransfer};
 ghost use Rattle.f90_grammar.specs.Words as words;
-ghost use Rattle.f90_words.specs.Tokens.{words_of};
-ghost use Rattle.f90_parts.specs.Fronts.{After};
+ghost use Rattle.f90_expr.specs.words.Tokens.{words_of};
+ghost use Rattle.f90_items.specs.parts.Fronts.{After};
 ghost use Rattle.f90_statements.specs.Fronts.{AfterEither, AfterEitherHead, AfterTransfer, IsLoneName, IsClosedName};
 ghost use Rattle.f90_statements.specs.Fronts.{IsLabelValue, IsLoneLabel, IsLabelled, AfterFormat, AfterUnit};
 ghost use Rattle.f90_statements.specs.Fronts.{IsLoopFront, IsAllocateFront, IsDigitsFront};
 ghost use Rattle.fv_tree.specs.declared.ops.Op.TheVariants.{Add, Sub, Mul};
 
 use f90_expr::literal;
-use f90_parts::{after_close, after_comma, after_equals, after_head, after_name};
-use f90_words::Token;
+use f90_items::parts::{after_close, after_comma, after_equals, after_head, after_name};
+use f90_expr::words::Token;
 use fv_tree::{Name, Op, Seq};
 
 // Whether the name is the keyword.

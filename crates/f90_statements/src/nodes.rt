@@ -1,7 +1,7 @@
 //! Statements as they are written.
 use f90_expr::Expression;
 use f90_items::ItemList;
-use f90_parts::Bounds;
+use f90_items::parts::Bounds;
 use fv_tree::{Kind, Name, Seq};
 
 /// A bound of a declared array: a literal with an optional sign.

@@ -3,7 +3,7 @@ ghost use Rattle.std.specs.Prelude.{◌≡◌, ◌++◌, ◌↔◌, IsTrue, List
 ghost use Rattle.f90_grammar.specs.Forms.{IsList, separated, written_extent};
 ghost use Rattle.f90_grammar.specs.Phrases.{Phrase, IsExpression};
 ghost use Rattle.f90_grammar.specs.Words as words;
-ghost use Rattle.f90_words.specs.Tokens.{words_of};
+ghost use Rattle.f90_expr.specs.words.Tokens.{words_of};
 ghost use Rattle.f90_expr.specs.Reading.{IsMadeOf};
 ghost use Rattle.f90_statements.specs.Reading.{Begins, BeginsWithList, BeginsWithCondition, IsThe, EndsItem, EndsList};
 ghost use Rattle.f90_statements.specs.Reading.{Given, ReadsRight, ReadsSides, closed};
@@ -11,8 +11,8 @@ ghost use Rattle.f90_statements.specs.Fronts.{AfterExtent};
 ghost use Rattle.f90_statements.specs.Views.{AreOf};
 
 use f90_expr::{Expression, read};
-use f90_parts::{after_close, after_comma, after_equals, is_reference};
-use f90_words::Token;
+use f90_items::parts::{after_close, after_comma, after_equals, is_reference};
+use f90_expr::words::Token;
 use fv_tree::Seq;
 use reading_parts::Stop;
 use std::alloc::Global;

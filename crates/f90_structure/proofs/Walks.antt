@@ -7,8 +7,8 @@ use Rattle.std.proofs.lemmas.Bool.Decides.{nat_tests}
 use Rattle.std.proofs.lemmas.List.{drop_all, length-append}
 use Rattle.f90_grammar.specs.Blocks.{Placed}
 use Rattle.f90_grammar.specs.Order.{Place, IsPlaceIn, is_nothing}
-use Rattle.f90_forms.specs.Places.{IsPlacedOf}
-use Rattle.f90_forms.specs.declared.placing.Placed.{Placed as Made}
+use Rattle.f90_places.specs.forms.Places.{IsPlacedOf}
+use Rattle.f90_places.specs.declared.forms.placing.Placed.{Placed as Made}
 use Rattle.f90_places.specs.First.{FindsFirst}
 use Rattle.f90_statements.specs.Views.{AreOf}
 

@@ -6,12 +6,12 @@ ghost use Rattle.f90_grammar.specs.Bounds.{opens_block};
 ghost use Rattle.f90_grammar.specs.Forms.{Form};
 ghost use Rattle.f90_grammar.specs.Order as order;
 ghost use Rattle.f90_grammar.specs.Order.{Place, opened_by, blocks_round, closes_wrongly};
-ghost use Rattle.f90_forms.specs.Places.{IsPlacedOf};
+ghost use Rattle.f90_places.specs.forms.Places.{IsPlacedOf};
 ghost use Rattle.f90_places.specs.First.{FindsFirst};
 ghost use Rattle.f90_statements.specs.Views.{AreOf, IsStatementOf};
 ghost use Rattle.f90_structure.specs.Blocks.{kinds, kind_of, first_of, rest_of, with_else, AreOpen};
 
-use f90_forms::Placed;
+use f90_places::forms::Placed;
 use f90_statements::Statement;
 use fv_tree::{BLOCK_DEPTH_90, Memory};
 use std::alloc::Global;

@@ -2,7 +2,7 @@
 ghost use Rattle.std.specs.Prelude.{◌||◌, Bool, List, IsTrue, IfOk};
 ghost use Rattle.f90_grammar.specs.Blocks as grammar;
 ghost use Rattle.f90_grammar.specs.Order.{Place, is_disordered};
-ghost use Rattle.f90_forms.specs.Places.{IsPlacedOf};
+ghost use Rattle.f90_places.specs.forms.Places.{IsPlacedOf};
 ghost use Rattle.f90_places.specs.First.{FindsFirst};
 ghost use Rattle.f90_statements.specs.Views.{AreOf};
 
@@ -10,7 +10,7 @@ use crate::blocks::first_wrong_closer;
 use crate::ends::first_open;
 use crate::names::first_misnamed;
 use crate::order::{first_late, first_wrong_end};
-use f90_forms::Placed;
+use f90_places::forms::Placed;
 use fv_tree::Memory;
 use std::alloc::Global;
 

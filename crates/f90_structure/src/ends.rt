@@ -3,12 +3,12 @@ ghost use Rattle.std.specs.Prelude.{◌≡◌, ◌+◌, ◌^◌, ◌<◌, ◌≤
 ghost use Rattle.f90_grammar.specs.Blocks as grammar;
 ghost use Rattle.f90_grammar.specs.Forms.{Form};
 ghost use Rattle.f90_grammar.specs.Order.{Place, stays_open};
-ghost use Rattle.f90_forms.specs.Places.{IsPlacedOf};
+ghost use Rattle.f90_places.specs.forms.Places.{IsPlacedOf};
 ghost use Rattle.f90_places.specs.First.{FindsFirst};
 ghost use Rattle.f90_statements.specs.Views.{AreOf, IsStatementOf};
 ghost use Rattle.f90_structure.specs.Ends.{AreFree};
 
-use f90_forms::Placed;
+use f90_places::forms::Placed;
 use f90_statements::Statement;
 
 /// How many END IFs behind a place are left for block IFs before it, and how many END DOs for loops.

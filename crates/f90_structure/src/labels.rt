@@ -4,12 +4,12 @@ ghost use Rattle.f90_grammar.specs.Blocks as grammar;
 ghost use Rattle.f90_grammar.specs.Forms.{Form};
 ghost use Rattle.f90_grammar.specs.Order.{Place};
 ghost use Rattle.f90_grammar.specs.Surroundings.{label_in, is_wrong_label};
-ghost use Rattle.f90_forms.specs.Places.{IsPlacedOf};
+ghost use Rattle.f90_places.specs.forms.Places.{IsPlacedOf};
 ghost use Rattle.f90_places.specs.First.{FindsFirst};
 ghost use Rattle.f90_statements.specs.Views.{AreOf, IsStatementOf};
 ghost use Rattle.f90_structure.specs.Labels.{has, AreLabels};
 
-use f90_forms::Placed;
+use f90_places::forms::Placed;
 use f90_statements::Statement;
 use fv_tree::Memory;
 use std::alloc::Global;

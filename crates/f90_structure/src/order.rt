@@ -3,12 +3,12 @@ ghost use Rattle.std.specs.Prelude.{◌≡◌, ◌++◌, List, [], ◌∷◌, Is
 ghost use Rattle.f90_grammar.specs.Blocks as grammar;
 ghost use Rattle.f90_grammar.specs.Forms.{Form};
 ghost use Rattle.f90_grammar.specs.Order.{Place, is_nothing, is_title, is_end, is_executable, is_late, ends_wrongly};
-ghost use Rattle.f90_forms.specs.Places.{IsPlacedOf};
+ghost use Rattle.f90_places.specs.forms.Places.{IsPlacedOf};
 ghost use Rattle.f90_places.specs.First.{FindsFirst};
 ghost use Rattle.f90_statements.specs.Views.{AreOf, IsStatementOf};
 ghost use Rattle.f90_structure.specs.Order.{IsPassed};
 
-use f90_forms::Placed;
+use f90_places::forms::Placed;
 use f90_statements::Statement;
 
 /// What is known of the statements before a place: whether there are any, whether each is PROGRAM, whether one is

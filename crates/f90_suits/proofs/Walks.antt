@@ -5,8 +5,8 @@ use Rattle.std.specs.List.{AllByRecursion}
 use Rattle.f90_grammar.specs.Blocks.{Placed}
 use Rattle.f90_grammar.specs.Forms.{Form}
 use Rattle.f90_grammar.specs.Order.{Place, IsPlaceIn}
-use Rattle.f90_forms.specs.Places.{IsPlacedOf}
-use Rattle.f90_forms.specs.declared.placing.Placed as code
+use Rattle.f90_places.specs.forms.Places.{IsPlacedOf}
+use Rattle.f90_places.specs.declared.forms.placing.Placed as code
 use Rattle.f90_statements.specs.Views.{AreOf}
 use Rattle.f90_places.specs.First.{FindsFirst}
 use Rattle.f90_places.proofs.Walks.{StandsAt, stands_at, as_many, place_within, met}

@@ -4,8 +4,8 @@ ghost use Rattle.fv_tree.specs.Plain.{Declaration};
 ghost use Rattle.fv_tree.specs.View.{statement_of};
 ghost use Rattle.f90_grammar.specs.Blocks as grammar;
 ghost use Rattle.f90_grammar.specs.Declared.{HasKnownNames};
-ghost use Rattle.f90_declared.specs.Names.{AreNamesOf};
-ghost use Rattle.f90_forms.specs.Places.{IsPlacedOf};
+ghost use Rattle.f90_kinds.specs.declarations.Names.{AreNamesOf};
+ghost use Rattle.f90_places.specs.forms.Places.{IsPlacedOf};
 ghost use Rattle.f90_places.specs.First.{FindsFirst};
 ghost use Rattle.f90_statements.specs.Views.{AreOf};
 ghost use Rattle.f90_statement_trees.specs.Results.{IsOf, AreOfSome};
@@ -13,8 +13,8 @@ ghost use Rattle.f90_suits.specs.Known.{KnowsStatement, KnowsDone, KnowsTree};
 ghost use Rattle.f90_suits.specs.Ready.{AreFunctionsOf, IsReadyAt, AreReady, HoldsOfAll};
 
 use crate::executable::is_executable;
-use f90_declared::Names;
-use f90_forms::Placed;
+use f90_kinds::declarations::Names;
+use f90_places::forms::Placed;
 use f90_kinds::{
     all_know_names, input_knows_names, is_declared, knows_names, output_knows_names,
     reference_knows_names,

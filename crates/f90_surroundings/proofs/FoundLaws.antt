@@ -10,8 +10,8 @@ use Rattle.fv_meaning.specs.Names.{is_among}
 use Rattle.f90_block_laws.specs.Places.{SuitsPlace, surroundings_of, loop_variables, labels_ahead}
 use Rattle.f90_grammar.specs.Blocks.{Placed}
 use Rattle.f90_grammar.specs.Order.{Place, IsPlaceIn, opened_behind, opened_by}
-use Rattle.f90_declared.specs.Names.{AreNamesOf}
-use Rattle.f90_declared.specs.declared.names.Names.{Names}
+use Rattle.f90_kinds.specs.declarations.Names.{AreNamesOf}
+use Rattle.f90_kinds.specs.declared.declarations.names.Names.{Names}
 use Rattle.f90_places.specs.First.{IsFirstPlace, FindsFirst}
 use Rattle.f90_surroundings.specs.Lists.{scalar_in}
 use Rattle.f90_surroundings.specs.Misuses.{misuses_at}

@@ -6,8 +6,8 @@ use Rattle.f90_block_laws.specs.Places.{labels_ahead}
 use Rattle.f90_grammar.specs.Blocks as grammar
 use Rattle.f90_grammar.specs.Forms.{Form}
 use Rattle.f90_grammar.specs.Order.{Place}
-use Rattle.f90_forms.specs.Places.{IsPlacedOf}
-use Rattle.f90_forms.specs.declared.placing.Placed.{Placed}
+use Rattle.f90_places.specs.forms.Places.{IsPlacedOf}
+use Rattle.f90_places.specs.declared.forms.placing.Placed.{Placed}
 use Rattle.f90_places.specs.First.{FindsFirst}
 use Rattle.f90_statements.specs.Views.{AreOf, IsStatementOf}
 use Rattle.f90_surroundings.specs.Jumps.{AreAhead, target_of, leads_wrongly, jumps_wrongly_at}

@@ -7,8 +7,8 @@ use Rattle.f90_block_laws.specs.Places.{loop_variables}
 use Rattle.f90_grammar.specs.Blocks as grammar
 use Rattle.f90_grammar.specs.Forms.{Form}
 use Rattle.f90_grammar.specs.Order.{Place, Opened, opened_by, opened_behind}
-use Rattle.f90_forms.specs.Places.{IsPlacedOf}
-use Rattle.f90_forms.specs.declared.placing.Placed.{Placed}
+use Rattle.f90_places.specs.forms.Places.{IsPlacedOf}
+use Rattle.f90_places.specs.declared.forms.placing.Placed.{Placed}
 use Rattle.f90_places.specs.First.{FindsFirst}
 use Rattle.f90_statements.specs.Views.{AreOf, IsStatementOf}
 use Rattle.f90_surroundings.specs.Misuses.{AreOpen, misuses_form, misuses_at}

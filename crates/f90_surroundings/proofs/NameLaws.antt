@@ -22,9 +22,9 @@ use Rattle.f90_grammar.specs.Phrases as phrases
 use Rattle.f90_grammar.specs.Phrases.{Phrase, tree_of, called, trees_of_parts}
 use Rattle.f90_grammar.specs.Reading.{declares}
 use Rattle.f90_grammar.specs.Surroundings.{KeepsVariables}
-use Rattle.f90_declared.specs.Names.{AreNamesOf, Tells, IsOf, found}
-use Rattle.f90_declared.specs.declared.names.Declared.{Declared}
-use Rattle.f90_declared.specs.declared.names.Names.{Names}
+use Rattle.f90_kinds.specs.declarations.Names.{AreNamesOf, Tells, IsOf, found}
+use Rattle.f90_kinds.specs.declared.declarations.names.Declared.{Declared}
+use Rattle.f90_kinds.specs.declared.declarations.names.Names.{Names}
 use Rattle.f90_surroundings.specs.Lists.{is_integer, is_scalar, scalar_in, stored_name, is_round, stores_round, is_wrong_variable}
 use Rattle.f90_surroundings.specs.Misplaced.{AreProper}
 

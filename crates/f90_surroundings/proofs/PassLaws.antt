@@ -5,7 +5,7 @@ use Rattle.f90_grammar.specs.Blocks.{Placed}
 use Rattle.f90_grammar.specs.Forms as forms
 use Rattle.f90_grammar.specs.Forms.{Form}
 use Rattle.f90_expr.specs.declared.nodes.Expression.{Expression}
-use Rattle.f90_parts.specs.declared.bounds.Bounds.{Bounds}
+use Rattle.f90_items.specs.declared.parts.bounds.Bounds.{Bounds}
 use Rattle.f90_statements.specs.Views.{IsStatementOf}
 use Rattle.f90_statements.specs.declared.nodes.Statement.{Statement}
 use Rattle.f90_statements.specs.declared.nodes.Statement.TheVariants as statements

@@ -20,8 +20,8 @@ use Rattle.f90_grammar.specs.Order.{Opened, InIf, InElse, InDo, opened_by}
 use Rattle.f90_grammar.specs.Phrases.{value_of_digits, tree_of}
 use Rattle.f90_grammar.specs.Surroundings.{ItemKeepsVariables, ItemsKeepVariables}
 use Rattle.f90_grammar.specs.Words.{Word}
-use Rattle.f90_declared.specs.Names.{AreNamesOf}
-use Rattle.f90_declared.specs.declared.names.Names.{Names}
+use Rattle.f90_kinds.specs.declarations.Names.{AreNamesOf}
+use Rattle.f90_kinds.specs.declared.declarations.names.Names.{Names}
 use Rattle.f90_surroundings.specs.Lists.{scalar_in, stored_name, item_misuses, items_misuse}
 use Rattle.f90_surroundings.specs.Misuses.{misuses_form}
 use Rattle.f90_surroundings.specs.Jumps.{target_of, leads_wrongly}

@@ -7,9 +7,9 @@ use Rattle.fv_meaning.specs.Names.{is_among}
 use Rattle.f90_grammar.specs.Items as items
 use Rattle.f90_grammar.specs.Items.{Direction, Input, Output, ItemPhrase, ItemPhrases, Sole, More}
 use Rattle.f90_grammar.specs.Phrases.{Phrase, Name, Listed}
-use Rattle.f90_declared.specs.Names.{found}
-use Rattle.f90_declared.specs.declared.names.Declared.{Declared}
-use Rattle.f90_declared.specs.declared.names.Names.{Names}
+use Rattle.f90_kinds.specs.declarations.Names.{found}
+use Rattle.f90_kinds.specs.declared.declarations.names.Declared.{Declared}
+use Rattle.f90_kinds.specs.declared.declarations.names.Names.{Names}
 use Rattle.f90_expr.specs.Flat as parts
 use Rattle.f90_items.specs.Flat.{Node, Of, Text, Begin, Turns}
 

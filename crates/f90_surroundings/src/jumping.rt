@@ -6,13 +6,13 @@ ghost use Rattle.std.specs.List.{list_any};
 ghost use Rattle.f90_block_laws.specs.Places.{labels_ahead};
 ghost use Rattle.f90_grammar.specs.Blocks as grammar;
 ghost use Rattle.f90_grammar.specs.Forms.{Form};
-ghost use Rattle.f90_forms.specs.Places.{IsPlacedOf};
+ghost use Rattle.f90_places.specs.forms.Places.{IsPlacedOf};
 ghost use Rattle.f90_places.specs.First.{FindsFirst};
 ghost use Rattle.f90_statements.specs.Views.{AreOf, IsActionOf, IsStatementOf};
 ghost use Rattle.f90_surroundings.specs.Jumps.{AreAhead, AreLevels, is_there, with_first, entered, left, front, others};
 ghost use Rattle.f90_surroundings.specs.Jumps.{target_of, leads_wrongly, jumps_wrongly_at};
 
-use f90_forms::Placed;
+use f90_places::forms::Placed;
 use f90_statements::{Action, Statement};
 use fv_tree::Memory;
 use indexmap::IndexMap;

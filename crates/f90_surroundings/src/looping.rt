@@ -4,15 +4,15 @@ ghost use Rattle.fv_meaning.specs.Names.{is_among};
 ghost use Rattle.f90_grammar.specs.Blocks as grammar;
 ghost use Rattle.f90_grammar.specs.Forms.{Form};
 ghost use Rattle.f90_grammar.specs.Order.{Opened, InIf, InDo, opened_by};
-ghost use Rattle.f90_forms.specs.Places.{IsPlacedOf};
+ghost use Rattle.f90_places.specs.forms.Places.{IsPlacedOf};
 ghost use Rattle.f90_places.specs.First.{FindsFirst};
 ghost use Rattle.f90_statements.specs.Views.{AreOf, IsActionOf, IsStatementOf};
 ghost use Rattle.f90_surroundings.specs.Lists.{scalar_in};
 ghost use Rattle.f90_surroundings.specs.Misuses.{AreOpen, outside, misuses_form, misuses_at};
 
 use crate::listing::Surroundings;
-use f90_declared::Names;
-use f90_forms::Placed;
+use f90_kinds::declarations::Names;
+use f90_places::forms::Placed;
 use f90_items::Direction;
 use f90_statements::{Action, Statement};
 use fv_tree::{Memory, Name};

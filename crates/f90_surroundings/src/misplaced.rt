@@ -4,17 +4,17 @@ ghost use Rattle.std.specs.List.{AllByRecursion};
 ghost use Rattle.fv_tree.specs.Plain.{Declaration};
 ghost use Rattle.fv_tree.specs.declared.functions.Intrinsic.{Intrinsic};
 ghost use Rattle.f90_block_laws.specs.Places.{SuitsPlace, surroundings_of};
-ghost use Rattle.f90_declared.specs.Names.{AreNamesOf};
+ghost use Rattle.f90_kinds.specs.declarations.Names.{AreNamesOf};
 ghost use Rattle.f90_grammar.specs.Blocks as grammar;
-ghost use Rattle.f90_forms.specs.Places.{IsPlacedOf};
+ghost use Rattle.f90_places.specs.forms.Places.{IsPlacedOf};
 ghost use Rattle.f90_places.specs.First.{FindsFirst};
 ghost use Rattle.f90_statements.specs.Views.{AreOf};
 ghost use Rattle.f90_surroundings.specs.Misplaced.{earlier, AreProper, IsWrittenOut};
 
 use crate::jumping::first_wrong_jump;
 use crate::looping::first_misuse;
-use f90_declared::Names;
-use f90_forms::Placed;
+use f90_kinds::declarations::Names;
+use f90_places::forms::Placed;
 use fv_tree::Memory;
 use std::alloc::Global;
 

@@ -1,2 +1,17 @@
 pub mod Names
 pub mod Translated
+pub mod nest_blocks
+pub mod nest_translation
+pub mod nest_profile
+pub mod program_translation
+pub mod program_marks
+pub mod loop_numbers
+pub mod made_declarations
+pub mod fewer_names
+pub mod block_names
+pub mod placed_loops
+pub mod placed_profile
+pub mod loop_placing
+pub mod normal_instances
+pub mod normal_profile
+pub mod emission_ready

@@ -1,3 +1,4 @@
 pub mod OutsideLaws
 pub mod LoopLaws
 pub mod MadeLaws
+pub mod NormalForms

@@ -5,8 +5,8 @@ use Rattle.std.specs.List.{list_all, flat_map}
 use Rattle.std.specs.Str.{bytes_eq}
 use Rattle.fv_tree.specs.Plain.{Statement, Block, block}
 use Rattle.nest_tree.specs.Plain.{Part}
-use Rattle.normal_forms.specs.declared.last.LastForms.{LastForms}
-use Rattle.normal_forms.specs.LastValues.{last_forms, have_plain_trips}
+use Rattle.last_values.specs.declared.normal_forms.last.LastForms.{LastForms}
+use Rattle.last_values.specs.normal_forms.LastValues.{last_forms, have_plain_trips}
 use Rattle.last_values.specs.declared.behind.NestedLoop.{NestedLoop}
 use Rattle.last_values.specs.Endings.{after_statements}
 use Rattle.last_values.specs.Occurrences.{occurs_only_within}

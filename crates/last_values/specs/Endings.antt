@@ -6,13 +6,13 @@ use Rattle.fv_tree.specs.Plain.{Block, no_statements, block}
 use Rattle.fv_tree.specs.View.{expression_of}
 use Rattle.fv_tree.specs.declared.ops.Op.TheVariants.{And}
 use Rattle.nest_tree.specs.declared.parts.Trip.{Trip}
-use Rattle.normal_forms.specs.declared.loops.NormalLoop.{NormalLoop}
-use Rattle.normal_forms.specs.declared.last.LastForms.{LastForms}
-use Rattle.normal_forms.specs.declared.last.LastTexts.{LastTexts}
-use Rattle.normal_forms.specs.NormalLoops.{is_positive, is_known}
-use Rattle.normal_forms.specs.LastValues.{last_forms, have_plain_trips, last_first_text, last_trip_text, last_end_text}
-use Rattle.normal_forms.specs.LastValues.{tests_of}
-use Rattle.normal_forms.specs.Texts.{at_least_one}
+use Rattle.last_values.specs.declared.normal_forms.loops.NormalLoop.{NormalLoop}
+use Rattle.last_values.specs.declared.normal_forms.last.LastForms.{LastForms}
+use Rattle.last_values.specs.declared.normal_forms.last.LastTexts.{LastTexts}
+use Rattle.last_values.specs.normal_forms.NormalLoops.{is_positive, is_known}
+use Rattle.last_values.specs.normal_forms.LastValues.{last_forms, have_plain_trips, last_first_text, last_trip_text, last_end_text}
+use Rattle.last_values.specs.normal_forms.LastValues.{tests_of}
+use Rattle.last_values.specs.normal_forms.Texts.{at_least_one}
 
 -- the texts of a loop's lower bound, of its trip, and of its variable's value behind its last turn
 pub record Texts : Type 0 where

@@ -4,9 +4,9 @@ use Rattle.std.specs.Prelude.{ℕ, None, if◌then◌else◌, List, [], ◌∷�
 use Rattle.fv_tree.specs.Plain.{Expression}
 use Rattle.linear_forms.specs.Texts.{text_of}
 use Rattle.nest_tree.specs.Plain.{Part, Run, Choice, no_parts, parts, branch, no_branches}
-use Rattle.normal_forms.specs.declared.loops.NormalLoop.{NormalLoop}
-use Rattle.normal_forms.specs.NormalLoops.{counters_of, is_positive, is_known}
-use Rattle.normal_forms.specs.Texts.{trip_text, at_least_one}
+use Rattle.last_values.specs.declared.normal_forms.loops.NormalLoop.{NormalLoop}
+use Rattle.last_values.specs.normal_forms.NormalLoops.{counters_of, is_positive, is_known}
+use Rattle.last_values.specs.normal_forms.Texts.{trip_text, at_least_one}
 use Rattle.last_values.specs.Endings.{scalar}
 
 -- ---- texts of a loop under these loops

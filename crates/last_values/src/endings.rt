@@ -4,13 +4,13 @@ ghost use Rattle.std.specs.Option.{option_map};
 ghost use Rattle.fv_tree.specs.Plain.{Binary};
 ghost use Rattle.fv_tree.specs.declared.ops.Op.TheVariants.{And};
 ghost use Rattle.fv_tree.specs.View.{expression_of, reference_of, statement_of, block_of};
-ghost use Rattle.normal_forms.specs.Texts.{at_least_one};
+ghost use Rattle.last_values.specs.normal_forms.Texts.{at_least_one};
 ghost use Rattle.last_values.specs.Endings.{scalar, assigned, only_where, all_hold, where_all_hold, ending, texts_of};
 ghost use Rattle.last_values.specs.Endings.{ending_behind, after_statements, after_block};
 
 use fv_tree::{Arm, Block, Expr, Memory, Name, Op, Ref, Seq, Stmt};
 use nest_tree::Trip;
-use normal_forms::{
+use crate::normal_forms::{
     LastForms, LastTexts, NormalLoop, at_least_one, have_plain_trips, is_known, is_positive,
     last_forms, last_texts, tests_of,
 };

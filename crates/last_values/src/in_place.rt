@@ -2,7 +2,7 @@
 ghost use Rattle.std.specs.Prelude.{◌≡◌, ◌++◌, ◌∷◌, [], map, IfOk, OnErr, OnOk};
 ghost use Rattle.fv_tree.specs.View.{expression_of};
 ghost use Rattle.nest_tree.specs.View.{part_of};
-ghost use Rattle.normal_forms.specs.Texts.{at_least_one};
+ghost use Rattle.last_values.specs.normal_forms.Texts.{at_least_one};
 ghost use Rattle.last_values.specs.InPlace.{first_text, own_trip_text, end_text, assigned_part, only_where_part};
 ghost use Rattle.last_values.specs.InPlace.{end_part, parts_before, parts_behind};
 
@@ -10,7 +10,7 @@ use crate::endings::scalar;
 use fv_tree::{Expr, Memory, Name, Seq};
 use linear_forms::express;
 use nest_tree::{GuardedStmt, NestArm, Part};
-use normal_forms::{NormalLoop, at_least_one, counters_of, is_known, is_positive, trip_text};
+use crate::normal_forms::{NormalLoop, at_least_one, counters_of, is_known, is_positive, trip_text};
 use std::alloc::Global;
 
 fn first_text(

@@ -19,11 +19,11 @@ use Rattle.nest_tree.specs.Bodies.{Standing, statements_in, statements_in_parts,
 use Rattle.nest_tree.specs.Bodies.{nest_statements}
 use Rattle.nest_tree.specs.Plain.{Loop, Part, Run, Turns, Choice, Label, Jump, Parts, no_parts, part, parts, Branches}
 use Rattle.nest_tree.specs.Plain.{no_branches, branch, Nest}
-use Rattle.normal_forms.specs.NormalLoops.{normal_loop, is_positive, is_known}
-use Rattle.normal_forms.specs.Texts.{at_least_one}
-use Rattle.normal_forms.specs.declared.loops.NormalLoop.{NormalLoop}
-use Rattle.ready_nests.proofs.Lists.{statements_joined}
-use Rattle.ready_nests.proofs.Made.{IsMadeOf}
+use Rattle.last_values.specs.normal_forms.NormalLoops.{normal_loop, is_positive, is_known}
+use Rattle.last_values.specs.normal_forms.Texts.{at_least_one}
+use Rattle.last_values.specs.declared.normal_forms.loops.NormalLoop.{NormalLoop}
+use Rattle.normal_laws.proofs.ReadyNests.Lists.{statements_joined}
+use Rattle.normal_laws.proofs.ReadyNests.Made.{IsMadeOf}
 
 -- a statement counts 1, and a loop 2
 abbrev mutual

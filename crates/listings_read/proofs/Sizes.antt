@@ -9,16 +9,16 @@ use Rattle.linear_forms.specs.Linear.{Form, form_of, not_zero}
 use Rattle.linear_forms.specs.Places.{padded, terms_from}
 use Rattle.nest_tree.specs.Plain.{Loop}
 use Rattle.nest_tree.specs.declared.parts.Trip.{Trip}
-use Rattle.normal_forms.specs.Combinations.{affine_of, combination, number_form, times}
-use Rattle.normal_forms.specs.NormalLoops.{bound_form, forms_by_first, forms_by_trip, forms_of, is_constant}
-use Rattle.normal_forms.specs.NormalLoops.{is_suitable, loop_form, normal_loop, plus_multiple, plus_number, sign_of}
-use Rattle.normal_forms.specs.NormalLoops.{trip_by, trip_form, trip_of, variables_of, with_counters, with_forms}
-use Rattle.normal_forms.specs.Steps.{◌>>=◌}
-use Rattle.normal_forms.specs.declared.combinations.Multiple.{Multiple}
-use Rattle.normal_forms.specs.declared.loops.NormalLoop.{NormalLoop}
-use Rattle.ready_nests.proofs.LoopForms.{after_below, after_end, after_first, after_top, after_trip, after_value}
-use Rattle.ready_nests.proofs.LoopForms.{from_first, step}
-use Rattle.ready_nests.proofs.Sums.{sum_of}
+use Rattle.last_values.specs.normal_forms.Combinations.{affine_of, combination, number_form, times}
+use Rattle.last_values.specs.normal_forms.NormalLoops.{bound_form, forms_by_first, forms_by_trip, forms_of, is_constant}
+use Rattle.last_values.specs.normal_forms.NormalLoops.{is_suitable, loop_form, normal_loop, plus_multiple, plus_number, sign_of}
+use Rattle.last_values.specs.normal_forms.NormalLoops.{trip_by, trip_form, trip_of, variables_of, with_counters, with_forms}
+use Rattle.last_values.specs.normal_forms.Steps.{◌>>=◌}
+use Rattle.last_values.specs.declared.normal_forms.combinations.Multiple.{Multiple}
+use Rattle.last_values.specs.declared.normal_forms.loops.NormalLoop.{NormalLoop}
+use Rattle.normal_laws.proofs.ReadyNests.LoopForms.{after_below, after_end, after_first, after_top, after_trip, after_value}
+use Rattle.normal_laws.proofs.ReadyNests.LoopForms.{from_first, step}
+use Rattle.normal_laws.proofs.ReadyNests.Sums.{sum_of}
 use Rattle.subscripts.specs.declared.affine.Affine.{Affine}
 
 pub record IsSized (a : Affine) : Type 0 where

@@ -25,10 +25,10 @@ use Rattle.loop_normal.specs.Values.{with_value, in_text, statement_with_values,
 use Rattle.nest_rewrite.specs.Rewritten.{rewritten_statement}
 use Rattle.nest_tree.specs.Plain.{Guarded}
 use Rattle.nest_tree.specs.declared.parts.Trip.{Trip}
-use Rattle.normal_forms.specs.NormalLoops.{counters_of}
-use Rattle.normal_forms.specs.Texts.{quotient, trip_text, counter_first, value_text}
-use Rattle.normal_forms.specs.declared.loops.NormalLoop.{NormalLoop}
-use Rattle.normal_runs.proofs.Stores.{counters_many}
+use Rattle.last_values.specs.normal_forms.NormalLoops.{counters_of}
+use Rattle.last_values.specs.normal_forms.Texts.{quotient, trip_text, counter_first, value_text}
+use Rattle.last_values.specs.declared.normal_forms.loops.NormalLoop.{NormalLoop}
+use Rattle.normal_laws.proofs.NormalRuns.Stores.{counters_many}
 use Rattle.subscripts.specs.declared.affine.Affine.{Affine}
 use Rattle.listings_read.proofs.Counts.{count, count_of, Growth, Grows, statement_grown, unguarded, terms_count}
 use Rattle.listings_read.proofs.Counts.{constant_count, total, total_least, AreFew, symbols_count}

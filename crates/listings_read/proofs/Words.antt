@@ -8,7 +8,7 @@ use Rattle.fv_meaning.specs.Names.{IsSymbolicName, is_letter, is_digit}
 use Rattle.listing_reader.proofs.Numbers.{number-lacks}
 use Rattle.listing_reader.proofs.Parts.{lacks-append}
 use Rattle.listing_reader.specs.Listable.{IsWord}
-use Rattle.normal_forms.specs.NormalLoops.{counter_name}
+use Rattle.last_values.specs.normal_forms.NormalLoops.{counter_name}
 
 above : (low high c : ℕ) → 32 < low → (nat_le low c && nat_le c high) ≡ true → (c == 32) ≡ false
 above low high c h e =

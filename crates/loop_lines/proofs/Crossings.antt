@@ -9,7 +9,7 @@ use Rattle.subscripts.specs.Forms.{difference, over_loops, over_symbols}
 use Rattle.subscripts.specs.Shapes.{IsPairing}
 use Rattle.subscripts.specs.declared.affine.Dirs.{Dirs}
 use Rattle.subscripts.specs.declared.pairing.Pairing.{Pairing}
-use Rattle.line_points.proofs.Ring.{ring, linear}
+use Rattle.loop_lines.proofs.LinePoints.Ring.{ring, linear}
 use Rattle.loop_lines.specs.OneLoop.{first_at, second_at, HasSevenPlaces}
 use Rattle.loop_lines.proofs.Indexed.{over_none, over_one}
 

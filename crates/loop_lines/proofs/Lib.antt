@@ -3,3 +3,4 @@ pub mod Indexed
 pub mod Crossings
 pub mod Cutting
 pub mod Pairs
+pub mod LinePoints

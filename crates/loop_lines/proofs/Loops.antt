@@ -4,7 +4,7 @@ use Rattle.std.specs.Prelude.{ℤ, pos, ◌-ℤ◌, unsigned_abs}
 use Rattle.std.proofs.lemmas.Int.{ints}
 use Rattle.subscripts.specs.Classes.{Loop, Shared, First, Second, HasOneLoop, first_of, second_of}
 use Rattle.subscripts.specs.declared.pairing.Pairing.{Pairing}
-use Rattle.line_points.specs.Crossings.{IsSmallLine}
+use Rattle.loop_lines.specs.line_points.Crossings.{IsSmallLine}
 use Rattle.loop_lines.specs.OneLoop.{HasNoneAt}
 use Rattle.subscripts.specs.Shapes.{IsPairing}
 

@@ -14,10 +14,10 @@ use Rattle.subscripts.specs.declared.affine.Dir.TheVariants.{Any}
 use Rattle.subscripts.specs.declared.affine.Dirs.{Dirs}
 use Rattle.subscripts.specs.declared.affine.Span.{Span}
 use Rattle.subscripts.specs.declared.pairing.Pairing.{Pairing}
-use Rattle.line_points.proofs.Ring.{linear}
-use Rattle.line_points.specs.Least.{WithinTrip, IsWithin, IsAtMost}
-use Rattle.line_points.specs.Lines.{OnLine}
-use Rattle.line_points.specs.declared.points.Line.{Line}
+use Rattle.loop_lines.proofs.LinePoints.Ring.{linear}
+use Rattle.loop_lines.specs.line_points.Least.{WithinTrip, IsWithin, IsAtMost}
+use Rattle.loop_lines.specs.line_points.Lines.{OnLine}
+use Rattle.loop_lines.specs.declared.line_points.points.Line.{Line}
 use Rattle.loop_lines.specs.OneLoop.{first_at, second_at, dir_of, ones, first_point, second_point, IsLineOf, HasSevenPlaces}
 use Rattle.loop_lines.proofs.Indexed.{same_length, within_at, within_from, related_at, related_from, mattering_length, asked_length}
 use Rattle.loop_lines.proofs.Crossings.{place_of, within_seven, difference_along, on_line, off_line}

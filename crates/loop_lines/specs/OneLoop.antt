@@ -5,7 +5,7 @@ use Rattle.subscripts.specs.declared.affine.Dir.{Dir}
 use Rattle.subscripts.specs.declared.affine.Dir.TheVariants.{Any}
 use Rattle.subscripts.specs.declared.affine.Dirs.{Dirs}
 use Rattle.subscripts.specs.declared.pairing.Pairing.{Pairing}
-use Rattle.line_points.specs.declared.points.Line.{Line}
+use Rattle.loop_lines.specs.declared.line_points.points.Line.{Line}
 
 -- the lists of a pairing are of seven places
 pub record HasSevenLists (p : Pairing) : Type 0 where

@@ -3,6 +3,7 @@
 //! Kennedy and Tseng, "Practical Dependence Testing", PLDI 1991, section 4.2, which draws these lines).
 #![tactic(auto)]
 
+pub mod line_points;
 mod one_loop;
 
 pub use one_loop::{

@@ -4,12 +4,12 @@
 ghost use Rattle.std.specs.Prelude.{◌≡◌, ℕ, ◌<◌, ◌≤◌, ◌^◌, pos, Some, false, unsigned_abs, IsTrue, IsSome, MatchOption};
 ghost use Rattle.subscripts.specs.Classes.{Loop, IsLoopOf, Matters, HasOneLoop, first_of, second_of, span_of};
 ghost use Rattle.subscripts.specs.Shapes.{IsPairing, AreDirsOf};
-ghost use Rattle.line_points.specs.Crossings.{IsSmallLine};
+ghost use Rattle.loop_lines.specs.line_points.Crossings.{IsSmallLine};
 ghost use Rattle.loop_lines.specs.Places.{loop_at};
 ghost use Rattle.loop_lines.specs.OneLoop.{IsWithinPlaces, dir_of, first_point, second_point, IsLineOf};
 ghost use Rattle.loop_lines.specs.OneLoop.{HasNoneAt, HasSevenLists, HasSevenPlaces};
 
-use line_points::Line;
+use crate::line_points::Line;
 use subscripts::{Class, Dir, Dirs, Pairing, Point, Span, classify};
 
 /// Where a loop stands: round both references, or further in round the first or the second alone.

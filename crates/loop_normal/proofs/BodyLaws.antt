@@ -11,8 +11,8 @@ use Rattle.nest_tree.specs.declared.parts.NestArm.{NestArm, out-NestArm}
 use Rattle.nest_tree.specs.declared.parts.Part.{Part}
 use Rattle.nest_tree.specs.declared.parts.Part.TheVariants as variants
 use Rattle.nest_tree.proofs.Equations.{part_of-run, part_of-turns, part_of-choice, part_of-label, part_of-jump, branch_of-is, part_equations}
-use Rattle.normal_forms.specs.NormalLoops.{normal_loop}
-use Rattle.normal_forms.specs.declared.loops.NormalLoop.{NormalLoop}
+use Rattle.last_values.specs.normal_forms.NormalLoops.{normal_loop}
+use Rattle.last_values.specs.declared.normal_forms.loops.NormalLoop.{NormalLoop}
 use Rattle.last_values.specs.declared.behind.NestedLoop.{NestedLoop}
 use Rattle.loop_normal.specs.Loops.{with_loop}
 use Rattle.loop_normal.specs.Bodies.{normal_turns, normal_part, normal_parts, normal_branches, normal_branch}

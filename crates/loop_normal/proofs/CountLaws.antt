@@ -5,9 +5,9 @@ use Rattle.std.proofs.lemmas.List.Elements.{All-nil, All-append, All-cons}
 use Rattle.fv_tree.specs.Plain.{Block}
 use Rattle.nest_tree.specs.Bodies.{loops_of, loops_in_parts, loops_in_branches}
 use Rattle.nest_tree.specs.Plain.{Loop, Nest, Part, Run, Turns, Choice, Label, Jump, Parts, no_parts, part, parts, Branches, no_branches, branch}
-use Rattle.normal_forms.specs.NormalLoops.{normal_loop, is_positive, is_known}
-use Rattle.normal_forms.specs.Texts.{at_least_one}
-use Rattle.normal_forms.specs.declared.loops.NormalLoop.{NormalLoop}
+use Rattle.last_values.specs.normal_forms.NormalLoops.{normal_loop, is_positive, is_known}
+use Rattle.last_values.specs.normal_forms.Texts.{at_least_one}
+use Rattle.last_values.specs.declared.normal_forms.loops.NormalLoop.{NormalLoop}
 use Rattle.last_values.specs.Behind.{stands_behind, values_behind}
 use Rattle.last_values.specs.InPlace.{parts_before, parts_behind, assigned_part, only_where_part, first_text, own_trip_text, end_part}
 use Rattle.last_values.specs.declared.behind.NestedLoop.{NestedLoop}

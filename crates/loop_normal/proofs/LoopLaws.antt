@@ -12,8 +12,8 @@ use Rattle.nest_tree.specs.declared.parts.NestArm.{NestArm, out-NestArm}
 use Rattle.nest_tree.specs.declared.parts.Part.{Part}
 use Rattle.nest_tree.specs.declared.parts.Part.TheVariants as variants
 use Rattle.nest_tree.proofs.Equations.{part_of-run, part_of-turns, part_of-choice, part_of-label, part_of-jump, branch_of-is}
-use Rattle.normal_forms.specs.NormalLoops.{normal_loop}
-use Rattle.normal_forms.specs.declared.loops.NormalLoop.{NormalLoop}
+use Rattle.last_values.specs.normal_forms.NormalLoops.{normal_loop}
+use Rattle.last_values.specs.declared.normal_forms.loops.NormalLoop.{NormalLoop}
 use Rattle.last_values.specs.Behind.{IsNested}
 use Rattle.last_values.specs.declared.behind.NestedLoop.{NestedLoop}
 use Rattle.loop_normal.specs.Loops.{with_loop, nested, is_normal, are_normal, are_normal_branches, is_normal_branch, nested_loops, nested_in_parts, nested_in_branches, nested_in_branch}

@@ -4,9 +4,9 @@ use Rattle.fv_tree.specs.Plain.{Number}
 use Rattle.nest_tree.specs.Plain.{Loop, Part, Run, Turns, Choice, Label, Jump, Parts, no_parts, part, parts}
 use Rattle.nest_tree.specs.Plain.{Branches, no_branches, branch, Nest}
 use Rattle.nest_tree.specs.View.{Branch}
-use Rattle.normal_forms.specs.NormalLoops.{counters_of, normal_loop}
-use Rattle.normal_forms.specs.Texts.{trip_text}
-use Rattle.normal_forms.specs.declared.loops.NormalLoop.{NormalLoop}
+use Rattle.last_values.specs.normal_forms.NormalLoops.{counters_of, normal_loop}
+use Rattle.last_values.specs.normal_forms.Texts.{trip_text}
+use Rattle.last_values.specs.declared.normal_forms.loops.NormalLoop.{NormalLoop}
 use Rattle.last_values.specs.Behind.{stands_behind}
 use Rattle.last_values.specs.InPlace.{parts_before, parts_behind}
 use Rattle.last_values.specs.declared.behind.NestedLoop.{NestedLoop}

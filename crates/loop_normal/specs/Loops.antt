@@ -3,8 +3,8 @@ use Rattle.std.specs.Prelude.{ℕ, Bool, true, is_some, ◌&&◌, Option, Some, 
 use Rattle.nest_tree.specs.Plain.{Part, Run, Turns, Choice, Label, Jump, Parts, no_parts, part}
 use Rattle.nest_tree.specs.Plain.{Branches, no_branches, branch}
 use Rattle.nest_tree.specs.View.{Branch}
-use Rattle.normal_forms.specs.NormalLoops.{normal_loop}
-use Rattle.normal_forms.specs.declared.loops.NormalLoop.{NormalLoop}
+use Rattle.last_values.specs.normal_forms.NormalLoops.{normal_loop}
+use Rattle.last_values.specs.declared.normal_forms.loops.NormalLoop.{NormalLoop}
 use Rattle.last_values.specs.declared.behind.NestedLoop.{NestedLoop}
 
 -- one loop more round what stands in it

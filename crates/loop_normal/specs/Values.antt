@@ -7,9 +7,9 @@ use Rattle.fv_rewrite.specs.Substituting.{substituting}
 use Rattle.linear_forms.specs.Canonical.{canonising}
 use Rattle.nest_tree.specs.Plain.{Guarded}
 use Rattle.nest_rewrite.specs.Rewritten.{rewritten_statement}
-use Rattle.normal_forms.specs.NormalLoops.{counters_of}
-use Rattle.normal_forms.specs.Texts.{value_text}
-use Rattle.normal_forms.specs.declared.loops.NormalLoop.{NormalLoop}
+use Rattle.last_values.specs.normal_forms.NormalLoops.{counters_of}
+use Rattle.last_values.specs.normal_forms.Texts.{value_text}
+use Rattle.last_values.specs.declared.normal_forms.loops.NormalLoop.{NormalLoop}
 
 module _ (symbols : List (List ℕ)) where
   -- the variable of a loop under these loops becomes its value

@@ -10,7 +10,7 @@ ghost use Rattle.loop_normal.specs.Loops.{with_loop};
 use fv_tree::{Memory, Name, Seq};
 use last_values::NestedLoop;
 use nest_tree::{NestArm, Part};
-use normal_forms::{NormalLoop, normal_loop};
+use last_values::normal_forms::{NormalLoop, normal_loop};
 use std::alloc::Global;
 
 fn pushed(

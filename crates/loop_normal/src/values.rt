@@ -5,7 +5,7 @@ ghost use Rattle.fv_rewrite.specs.Making.{made};
 ghost use Rattle.fv_rewrite.specs.Replacing.{replacing};
 ghost use Rattle.nest_tree.specs.View.{guarded_of};
 ghost use Rattle.nest_rewrite.specs.Rewritten.{rewritten_statement};
-ghost use Rattle.normal_forms.specs.NormalLoops.{counters_of};
+ghost use Rattle.last_values.specs.normal_forms.NormalLoops.{counters_of};
 ghost use Rattle.form_rules.specs.Replacement.{replacing_of};
 ghost use Rattle.loop_normal.specs.Values.{with_value, in_text, statement_with_values, test_with_values};
 ghost use Rattle.loop_normal.specs.Values.{normal_statement, normal_test};
@@ -14,7 +14,7 @@ use form_rules::{Canonical, Replacement};
 use fv_tree::{Expr, Memory, Name, Seq};
 use nest_rewrite::{rewrite_stmt, rewrite_test};
 use nest_tree::GuardedStmt;
-use normal_forms::{NormalLoop, counters_of, value_text};
+use last_values::normal_forms::{NormalLoop, counters_of, value_text};
 use std::alloc::Global;
 
 // The rule that puts the value of a loop's variable in its place.

@@ -8,8 +8,8 @@ use Rattle.subscripts.specs.Cuts.{IsLeastPair, IsNoLater}
 use Rattle.subscripts.specs.Shapes.{IsPairing, AreDirsOf}
 use Rattle.subscripts.specs.declared.affine.Dirs.{Dirs}
 use Rattle.subscripts.specs.declared.pairing.Pairing.{Pairing}
-use Rattle.line_points.specs.Least.{WithinTrip, HasNone, IsLeast}
-use Rattle.line_points.specs.declared.points.Line.{Line}
+use Rattle.loop_lines.specs.line_points.Least.{WithinTrip, HasNone, IsLeast}
+use Rattle.loop_lines.specs.declared.line_points.points.Line.{Line}
 use Rattle.loop_lines.specs.OneLoop.{first_at, second_at, dir_of, first_point, second_point, HasSevenPlaces, IsLineOf, IsWithinPlaces}
 use Rattle.loop_lines.proofs.Crossings.{within_seven}
 use Rattle.loop_lines.proofs.Pairs.{pair_point, cut_point, point_pair, points_in_order}

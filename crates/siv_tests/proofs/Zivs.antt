@@ -10,7 +10,7 @@ use Rattle.subscripts.specs.declared.affine.Dir.{Dir}
 use Rattle.subscripts.specs.declared.affine.Dir.TheVariants.{Any}
 use Rattle.subscripts.specs.declared.affine.Dirs.{Dirs}
 use Rattle.subscripts.specs.declared.pairing.Pairing.{Pairing}
-use Rattle.line_points.proofs.Ring.{linear}
+use Rattle.loop_lines.proofs.LinePoints.Ring.{linear}
 use Rattle.loop_lines.specs.OneLoop.{ones, HasSevenLists}
 use Rattle.loop_lines.proofs.Indexed.{over_none, same_length, mattering_length, mattering_once}
 use Rattle.loop_lines.proofs.Crossings.{zero_unless, along}

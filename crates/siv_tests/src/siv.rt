@@ -11,7 +11,7 @@ ghost use Rattle.siv_tests.specs.Ways.{IsRefuted, HasNone};
 ghost use Rattle.siv_tests.specs.Words.{IsSivWord, IsWordOf};
 
 use gcd_banerjee::{gcd_refutes, range_refutes};
-use line_points::least_on_line;
+use loop_lines::line_points::least_on_line;
 use loop_lines::{
     LoopPlace, bounds_at, coefficients_at, constant_trip, line_of, one_loop_of, points_at,
 };

@@ -1,5 +1,5 @@
 //! Statements with their marks.
-use f90_forms::{forms, places};
+use f90_places::forms::{forms, places};
 use f90_lines::statements;
 use std::process::Abort;
 use std::test::Fail;

@@ -1,5 +1,5 @@
 //! Statements with their words.
-use f90_words::{Token, words};
+use f90_expr::words::{Token, words};
 use fv_tree::Op;
 use reading_parts::Stop;
 use std::process::Abort;

@@ -18,9 +18,9 @@ use Rattle.subscripts.specs.declared.affine.Span.{Span}
 use Rattle.subscripts.specs.declared.pairing.Group.{Group}
 use Rattle.subscripts.specs.declared.pairing.Pairing.{Pairing}
 use Rattle.subscripts.proofs.Coupling.{alone, grouped_back, then}
-use Rattle.line_points.proofs.Ring.{linear}
-use Rattle.line_points.specs.Least.{WithinTrip, IsWithin}
-use Rattle.line_points.specs.Lines.{OnLine}
+use Rattle.loop_lines.proofs.LinePoints.Ring.{linear}
+use Rattle.loop_lines.specs.line_points.Least.{WithinTrip, IsWithin}
+use Rattle.loop_lines.specs.line_points.Lines.{OnLine}
 use Rattle.loop_lines.proofs.Crossings.{off_line, on_line, within_seven}
 use Rattle.loop_lines.proofs.Pairs.{IsPointOfCut, cut_point}
 use Rattle.loop_lines.specs.OneLoop.{HasSevenLists, HasSevenPlaces, IsLineOf, dir_of, first_at, second_at}

@@ -19,8 +19,8 @@ use Rattle.subscripts.specs.declared.affine.Dirs.{Dirs}
 use Rattle.subscripts.specs.declared.affine.Span.{Span}
 use Rattle.subscripts.specs.declared.pairing.Pairing.{Pairing}
 use Rattle.subscripts.proofs.Coupling.{alone, one_step}
-use Rattle.line_points.proofs.Ring.{linear}
-use Rattle.line_points.specs.Least.{IsAtMost, IsWithin}
+use Rattle.loop_lines.proofs.LinePoints.Ring.{linear}
+use Rattle.loop_lines.specs.line_points.Least.{IsAtMost, IsWithin}
 use Rattle.delta_test.specs.Constraints.{Allows}
 use Rattle.delta_test.specs.IterationsLeft.{IsLeastLeft, IsNoneLeft}
 use Rattle.delta_test.specs.declared.constraint.Constraint.{Constraint}

@@ -19,7 +19,7 @@ use Rattle.subscripts.specs.declared.pairing.Pairing.{Pairing}
 use Rattle.subscripts.proofs.Coupling.{alone}
 use Rattle.gcd_banerjee.proofs.Gcds.{difference_is, divides_constant, same_difference}
 use Rattle.gcd_banerjee.proofs.OneSided.{no_pair}
-use Rattle.line_points.proofs.Ring.{linear}
+use Rattle.loop_lines.proofs.LinePoints.Ring.{linear}
 use Rattle.loop_lines.proofs.Crossings.{along, difference_along, place_of, within_seven, zero_unless}
 use Rattle.loop_lines.proofs.Indexed.{over_none}
 use Rattle.loop_lines.specs.OneLoop.{HasSevenLists, dir_of, first_at, second_at}

@@ -16,8 +16,8 @@ use Rattle.subscripts.specs.declared.verdict.Test.{Test}
 use Rattle.subscripts.specs.declared.verdict.Test.TheVariants.{Trip, Scalar, Ziv, Strong, WeakZero, Crossing, Siv, Delta, Gcd, Range, Miv, Unknown}
 use Rattle.subscripts.specs.declared.verdict.Verdict.{Verdict}
 use Rattle.subscripts.specs.declared.verdict.Verdict.TheVariants as verdict
-use Rattle.line_points.specs.Lines.{OnLine}
-use Rattle.line_points.specs.declared.points.Line.{Line}
+use Rattle.loop_lines.specs.line_points.Lines.{OnLine}
+use Rattle.loop_lines.specs.declared.line_points.points.Line.{Line}
 use Rattle.delta_test.specs.Constraints.{Allows}
 use Rattle.delta_test.specs.declared.constraint.Constraint.{Constraint}
 use Rattle.loop_lines.specs.OneLoop.{HasSevenPlaces, IsLineOf}

@@ -12,7 +12,7 @@ use Rattle.subscripts.specs.declared.pairing.Pairing.{Pairing}
 use Rattle.subscripts.specs.declared.verdict.Test.{Test}
 use Rattle.subscripts.specs.declared.verdict.Test.TheVariants.{Trip, Scalar, Ziv, Strong, WeakZero, Crossing, Siv}
 use Rattle.subscripts.specs.declared.verdict.Test.TheVariants.{Delta, Gcd, Range, Miv, Unknown}
-use Rattle.line_points.specs.Least.{IsAtMost}
+use Rattle.loop_lines.specs.line_points.Least.{IsAtMost}
 use Rattle.loop_lines.specs.OneLoop.{dir_of}
 use Rattle.siv_tests.specs.Words.{IsWordOf}
 use Rattle.vector_tests.specs.Ways.{AreEqualAt, EachGrouped, IsSolution}

@@ -2,7 +2,7 @@ use Rattle.std.proofs.Common.{◌↔◌, IsTrue}
 use Rattle.std.specs.Prelude.{FitsSigned}
 use Rattle.std.proofs.lemmas.Int.{to_z-of_z}
 use mir.Syntax.{w128}
-use Rattle.line_points.specs.Lines.{OnLine}
+use Rattle.loop_lines.specs.line_points.Lines.{OnLine}
 use Rattle.delta_test.proofs.constraint.allows.Goals as goal
 
 pub returns-in-AlongLine : goal.returns-in-AlongLine

@@ -4,8 +4,8 @@ use Rattle.std.proofs.lemmas.Int.{to_z-of_z, fits_signed_from_abs, unsigned_abs-
 use Rattle.std.proofs.lemmas.Nat.{mul-le}
 use mir.Syntax.{w128}
 use mir.Val.{of_z}
-use Rattle.line_points.specs.Lines.{OnLine}
-use Rattle.line_points.proofs.Steps.{abs_sum}
+use Rattle.loop_lines.specs.line_points.Lines.{OnLine}
+use Rattle.loop_lines.proofs.LinePoints.Steps.{abs_sum}
 use Rattle.delta_test.proofs.Tests.{same_test}
 use Rattle.delta_test.proofs.constraint.is_on.Goals as goal
 

@@ -2,7 +2,7 @@ use Rattle.std.proofs.Common.{rules, ◌≡◌, ◌↔◌, subst}
 use Rattle.std.specs.Prelude.{ℤ, FitsSigned, ◌+ℤ◌}
 use Rattle.std.proofs.lemmas.Int.{to_z-of_z}
 use mir.Syntax.{w128}
-use Rattle.line_points.specs.Lines.{OnLine}
+use Rattle.loop_lines.specs.line_points.Lines.{OnLine}
 use Rattle.delta_test.proofs.constraint.meet_of.Goals as goal
 
 pub along_both-requires-clause-same : goal.along_both-requires-clause-same

@@ -2,11 +2,11 @@ use Rattle.std.proofs.Common.{rules, ◌≡◌, ◌≤◌, ◌^◌, arith, refl}
 use Rattle.std.specs.Prelude.{pos, FitsSigned, ◌+ℤ◌, unsigned_abs}
 use Rattle.std.proofs.lemmas.Int.{ints, to_z-of_z, fits_signed_from_abs}
 use Rattle.std.proofs.Math.IntN.{neg_ℤ}
-use Rattle.line_points.proofs.Floors.{zero_less}
-use Rattle.line_points.proofs.Cramer.{abs_neg}
+use Rattle.loop_lines.proofs.LinePoints.Floors.{zero_less}
+use Rattle.loop_lines.proofs.LinePoints.Cramer.{abs_neg}
 use mir.Syntax.{w128}
-use Rattle.line_points.specs.Quotient.{IsQuotient}
-use Rattle.line_points.proofs.PointsOfLine.{le_product}
+use Rattle.loop_lines.specs.line_points.Quotient.{IsQuotient}
+use Rattle.loop_lines.proofs.LinePoints.PointsOfLine.{le_product}
 use Rattle.delta_test.proofs.Leaving.{first_not_zero, no_distance, distance_is}
 use Rattle.delta_test.proofs.iterations_left.constraint_of.Goals as goal
 

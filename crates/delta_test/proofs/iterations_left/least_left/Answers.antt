@@ -2,7 +2,7 @@ use Rattle.std.proofs.Common.{rules, refl}
 use Rattle.std.specs.Prelude.{FitsSigned}
 use Rattle.std.proofs.lemmas.Int.{to_z-of_z}
 use mir.Syntax.{w128}
-use Rattle.line_points.specs.Least.{IsWithin}
+use Rattle.loop_lines.specs.line_points.Least.{IsWithin}
 use Rattle.delta_test.specs.declared.constraint.Constraint.TheVariants.{AtDistance, AlongLine}
 use Rattle.delta_test.proofs.Leaving.{least_along, least_point}
 use Rattle.delta_test.proofs.iterations_left.least_left.Goals as goal

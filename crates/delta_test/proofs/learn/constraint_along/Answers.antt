@@ -3,9 +3,9 @@ use Rattle.std.specs.Prelude.{ℤ, pos, ◌*ℤ◌, FitsSigned}
 use Rattle.std.proofs.lemmas.Int.{to_z-of_z}
 use Rattle.std.proofs.Math.IntN.{zero-*ℤ}
 use mir.Syntax.{w128}
-use Rattle.line_points.proofs.Ring.{linear}
-use Rattle.line_points.specs.Lines.{OnLine}
-use Rattle.line_points.specs.declared.points.Line.{Line}
+use Rattle.loop_lines.proofs.LinePoints.Ring.{linear}
+use Rattle.loop_lines.specs.line_points.Lines.{OnLine}
+use Rattle.loop_lines.specs.declared.line_points.points.Line.{Line}
 use Rattle.loop_lines.specs.OneLoop.{first_at, second_at}
 use Rattle.loop_lines.specs.Places.{loop_at}
 use Rattle.delta_test.specs.Learned.{IsValue}

@@ -2,10 +2,10 @@ use Rattle.std.proofs.Common.{rules, ◌≡◌, ◌≤◌, ◌^◌, ◌∙◌, a
 use Rattle.std.specs.Prelude.{pos, ◌*ℤ◌, FitsSigned, unsigned_abs}
 use Rattle.std.proofs.lemmas.Int.{ints, to_z-of_z}
 use mir.Syntax.{w128}
-use Rattle.line_points.specs.Quotient.{IsQuotient}
-use Rattle.line_points.proofs.Cramer.{not_whole, quotient_solves}
-use Rattle.line_points.proofs.PointsOfLine.{cancel, le_product}
-use Rattle.line_points.proofs.Quotients.{abs_positive}
+use Rattle.loop_lines.specs.line_points.Quotient.{IsQuotient}
+use Rattle.loop_lines.proofs.LinePoints.Cramer.{not_whole, quotient_solves}
+use Rattle.loop_lines.proofs.LinePoints.PointsOfLine.{cancel, le_product}
+use Rattle.loop_lines.proofs.LinePoints.Quotients.{abs_positive}
 use Rattle.delta_test.proofs.learn.value_of.Goals as goal
 
 pub returns-then-value-ne0 : goal.returns-then-value-ne0

@@ -3,7 +3,7 @@ use Rattle.std.specs.Prelude.{ℤ, All, FitsSigned}
 use Rattle.std.proofs.lemmas.Int.{to_z-of_z}
 use mir.Syntax.{w64, w128}
 use Rattle.subscripts.specs.declared.affine.Dir.{Dir}
-use Rattle.line_points.specs.Least.{WithinTrip}
+use Rattle.loop_lines.specs.line_points.Least.{WithinTrip}
 use Rattle.loop_lines.specs.OneLoop.{dir_of, first_point, second_point}
 use Rattle.loop_lines.specs.Places.{loop_at}
 use Rattle.delta_test.specs.IterationsLeft.{IsNoneLeft, IsLeastLeft}

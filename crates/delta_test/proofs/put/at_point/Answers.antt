@@ -3,7 +3,7 @@ use Rattle.std.specs.Prelude.{ℤ, ◌-ℤ◌, ◌*ℤ◌, FitsSigned, unsigned_
 use Rattle.std.proofs.lemmas.Int.{to_z-of_z, fits_signed_from_abs, unsigned_abs-mul}
 use Rattle.std.proofs.lemmas.Nat.{mul-le}
 use mir.Syntax.{w64, w128}
-use Rattle.line_points.proofs.Steps.{abs_less}
+use Rattle.loop_lines.proofs.LinePoints.Steps.{abs_less}
 use Rattle.delta_test.proofs.put.at_point.Goals as goal
 
 record IsPoint (a b i j t u : ℤ) : Type 0 where

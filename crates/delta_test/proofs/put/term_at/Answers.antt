@@ -2,7 +2,7 @@ use Rattle.std.proofs.Common.{rules, arith}
 use Rattle.std.specs.Prelude.{pos, ◌+ℤ◌, FitsSigned}
 use Rattle.std.proofs.lemmas.Int.{to_z-of_z, fits_signed_from_abs}
 use mir.Syntax.{w64, w128}
-use Rattle.line_points.proofs.Steps.{abs_sum}
+use Rattle.loop_lines.proofs.LinePoints.Steps.{abs_sum}
 use Rattle.subscripts.specs.Classes.{Shared, First, Second, at_place}
 use Rattle.delta_test.proofs.Terms.{three_values}
 use Rattle.delta_test.proofs.put.term_at.Goals as goal

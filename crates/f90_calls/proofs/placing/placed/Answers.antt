@@ -8,9 +8,9 @@ use Rattle.f90_grammar.specs.FreeForm.{FreeStatement}
 use Rattle.f90_lines.specs.Views.{statements_seen}
 use Rattle.f90_statements.specs.Views.{AreOf}
 use Rattle.f90_statements.specs.declared.nodes.Statement.{Statement}
-use Rattle.f90_forms.specs.Forms.{IsFormIn}
-use Rattle.f90_forms.specs.Places.{HavePlaces, Places}
-use Rattle.f90_forms.specs.declared.placing.Placed.{Placed}
+use Rattle.f90_places.specs.forms.Forms.{IsFormIn}
+use Rattle.f90_places.specs.forms.Places.{HavePlaces, Places}
+use Rattle.f90_places.specs.declared.forms.placing.Placed.{Placed}
 use Rattle.f90_trees.specs.Hiding.{function_in}
 use Rattle.f90_calls.specs.Formless.{HasSuitedForm, FindsFormless, IsFirstFormless, IsFormless}
 use Rattle.f90_calls.specs.Hiding.{HidesDeclared}

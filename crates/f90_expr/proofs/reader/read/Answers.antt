@@ -1,6 +1,6 @@
 use Rattle.std.proofs.Common.{◌≡◌, true, false, refl, rules}
 use Rattle.std.proofs.lemmas.Result.{err_from_is_err_and}
-use Rattle.f90_words.specs.Tokens.{words_of}
+use Rattle.f90_expr.specs.words.Tokens.{words_of}
 use Rattle.f90_expr.proofs.ReadingLaws.{started, lacks, found_by, only_by, unplaced, error_by}
 use Rattle.f90_expr.proofs.reader.read.Goals as goal
 

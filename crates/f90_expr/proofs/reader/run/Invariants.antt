@@ -1,5 +1,5 @@
 use Rattle.std.proofs.Common.{◌≡◌, [], drop}
-use Rattle.f90_words.specs.Tokens.{words_of}
+use Rattle.f90_expr.specs.words.Tokens.{words_of}
 use Rattle.f90_expr.specs.Machine.{run, Wants}
 use Rattle.f90_expr.specs.Views.{state_in, stack, nodes_seen}
 use Rattle.f90_expr.proofs.reader.run.Given as goal

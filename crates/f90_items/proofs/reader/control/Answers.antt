@@ -1,4 +1,4 @@
-use Rattle.f90_words.specs.Tokens.{words_of}
+use Rattle.f90_expr.specs.words.Tokens.{words_of}
 use Rattle.f90_items.proofs.MadeLaws.{control_unclosed}
 use Rattle.f90_items.proofs.reader.control.Goals as goal
 

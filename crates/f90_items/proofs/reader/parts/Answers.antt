@@ -1,6 +1,6 @@
 use Rattle.std.proofs.Common.{arith, ◌≡◌, length, ◌∙◌}
 use Rattle.std.proofs.lemmas.Bool.Decides.{nat_tests}
-use Rattle.f90_words.specs.Tokens.{words_of}
+use Rattle.f90_expr.specs.words.Tokens.{words_of}
 use Rattle.f90_items.specs.Views.{direction_of}
 use Rattle.f90_items.proofs.MadeLaws.{empty_words, marks_fit, marks_left_at, left_open_at}
 use Rattle.f90_items.proofs.reader.parts.Goals as goal

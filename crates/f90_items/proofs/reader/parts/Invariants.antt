@@ -1,5 +1,5 @@
 use Rattle.std.proofs.Common.{◌≡◌, length}
-use Rattle.f90_words.specs.Tokens.{words_of}
+use Rattle.f90_expr.specs.words.Tokens.{words_of}
 use Rattle.f90_items.specs.Commas.{comma_marks}
 use Rattle.f90_items.specs.Views.{direction_of, IsReading}
 use Rattle.f90_items.proofs.reader.parts.Given as goal

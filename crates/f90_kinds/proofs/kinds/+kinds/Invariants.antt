@@ -2,7 +2,7 @@
 use Rattle.std.proofs.Common.{◌≡◌, ◌≤◌, map, drop, None}
 use Rattle.fv_tree.specs.Plain.{subscripts, expressions}
 use Rattle.fv_tree.specs.View.{expression_of, subscript_of, loop_of, loops}
-use Rattle.f90_declared.specs.Names.{found}
+use Rattle.f90_kinds.specs.declarations.Names.{found}
 use Rattle.f90_kinds.specs.Found.{common_rank, common_kind, are_scalars, are_loops, rank_of_all}
 use Rattle.f90_kinds.proofs.kinds.+kinds.Given as goal
 

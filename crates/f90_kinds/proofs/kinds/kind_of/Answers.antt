@@ -1,6 +1,6 @@
 use Rattle.std.proofs.Common.{sym, subst}
 use Rattle.fv_tree.specs.View.{expression_of}
-use Rattle.f90_declared.specs.Names.{found}
+use Rattle.f90_kinds.specs.declarations.Names.{found}
 use Rattle.f90_kinds.specs.Kinds.{IsKindOf}
 use Rattle.f90_kinds.proofs.KindLaws.{told}
 use Rattle.f90_kinds.proofs.kinds.kind_of.Goals as goal

@@ -1,7 +1,7 @@
 use Rattle.std.proofs.Common.{◌≡◌, map, drop}
 use Rattle.fv_tree.specs.Plain.{items}
 use Rattle.fv_tree.specs.View.{item_of}
-use Rattle.f90_declared.specs.Names.{found}
+use Rattle.f90_kinds.specs.declarations.Names.{found}
 use Rattle.f90_kinds.specs.FoundNames as plain
 use Rattle.f90_kinds.specs.Directions.{direction_of}
 use Rattle.f90_kinds.proofs.known.+listed.Given as goal

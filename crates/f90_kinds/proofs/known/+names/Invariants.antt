@@ -1,7 +1,7 @@
 use Rattle.std.proofs.Common.{◌≡◌, map, drop}
 use Rattle.fv_tree.specs.Plain.{subscripts, expressions}
 use Rattle.fv_tree.specs.View.{expression_of, subscript_of, loop_of, loops}
-use Rattle.f90_declared.specs.Names.{found}
+use Rattle.f90_kinds.specs.declarations.Names.{found}
 use Rattle.f90_kinds.specs.FoundNames as plain
 use Rattle.f90_kinds.proofs.known.+names.Given as goal
 

@@ -1,8 +1,8 @@
 use Rattle.std.proofs.Common.{ℕ, List, Option}
 use Rattle.std.proofs.lemmas.Bool.Decides.{Decides-at}
 use Rattle.fv_tree.specs.View.{reference_of}
-use Rattle.f90_declared.specs.declared.names.Declared.{Declared}
-use Rattle.f90_declared.specs.Names.{found}
+use Rattle.f90_kinds.specs.declared.declarations.names.Declared.{Declared}
+use Rattle.f90_kinds.specs.declarations.Names.{found}
 use Rattle.f90_kinds.specs.FoundNames.{knows_reference}
 use Rattle.f90_kinds.proofs.FoundNameLaws.{reference-is_known}
 use Rattle.f90_kinds.proofs.known.reference_knows_names.Goals as goal

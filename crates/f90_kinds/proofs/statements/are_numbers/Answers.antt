@@ -1,8 +1,8 @@
 use Rattle.std.proofs.Common.{ℕ, List, Option}
 use Rattle.std.proofs.lemmas.Bool.Decides.{Decides-at}
 use Rattle.fv_tree.specs.View.{expression_of}
-use Rattle.f90_declared.specs.declared.names.Declared.{Declared}
-use Rattle.f90_declared.specs.Names.{found}
+use Rattle.f90_kinds.specs.declared.declarations.names.Declared.{Declared}
+use Rattle.f90_kinds.specs.declarations.Names.{found}
 use Rattle.f90_kinds.specs.Found.{are_numbers}
 use Rattle.f90_kinds.proofs.StatementLaws.{numbers-are}
 use Rattle.f90_kinds.proofs.statements.are_numbers.Goals as goal

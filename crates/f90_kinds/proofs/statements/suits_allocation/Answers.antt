@@ -2,8 +2,8 @@ use Rattle.std.proofs.Common.{ℕ, List, Option, map}
 use Rattle.std.proofs.lemmas.Bool.Decides.{Decides-at}
 use Rattle.fv_tree.specs.Plain.{expressions}
 use Rattle.fv_tree.specs.View.{expression_of}
-use Rattle.f90_declared.specs.declared.names.Declared.{Declared}
-use Rattle.f90_declared.specs.Names.{found}
+use Rattle.f90_kinds.specs.declared.declarations.names.Declared.{Declared}
+use Rattle.f90_kinds.specs.declarations.Names.{found}
 use Rattle.f90_kinds.specs.Found.{allocates}
 use Rattle.f90_kinds.proofs.StatementLaws.{allocation-is}
 use Rattle.f90_kinds.proofs.statements.suits_allocation.Goals as goal

@@ -2,8 +2,8 @@ use Rattle.std.proofs.Common.{ℕ, List, Option}
 use Rattle.std.proofs.lemmas.Bool.Decides.{Decides-at}
 use Rattle.fv_tree.specs.View.{expression_of, reference_of}
 use Rattle.fv_meaning.specs.Value.{named}
-use Rattle.f90_declared.specs.declared.names.Declared.{Declared}
-use Rattle.f90_declared.specs.Names.{found}
+use Rattle.f90_kinds.specs.declared.declarations.names.Declared.{Declared}
+use Rattle.f90_kinds.specs.declarations.Names.{found}
 use Rattle.f90_kinds.specs.Found.{kind_in, suits_sides}
 use Rattle.f90_kinds.proofs.StatementLaws.{assignment-is}
 use Rattle.f90_kinds.proofs.statements.suits_assignment.Goals as goal

@@ -1,7 +1,7 @@
 use Rattle.std.proofs.Common.{ℕ, List, Option}
 use Rattle.std.proofs.lemmas.Bool.Decides.{Decides-at}
-use Rattle.f90_declared.specs.declared.names.Declared.{Declared}
-use Rattle.f90_declared.specs.Names.{found}
+use Rattle.f90_kinds.specs.declared.declarations.names.Declared.{Declared}
+use Rattle.f90_kinds.specs.declarations.Names.{found}
 use Rattle.f90_kinds.specs.Found.{is_later}
 use Rattle.f90_kinds.proofs.StatementLaws.{deallocation-is}
 use Rattle.f90_kinds.proofs.statements.suits_deallocation.Goals as goal

@@ -3,8 +3,8 @@ use Rattle.std.proofs.lemmas.Bool.Decides.{Decides-at}
 use Rattle.fv_tree.specs.Plain.{items}
 use Rattle.fv_tree.specs.View.{item_of}
 use Rattle.f90_grammar.specs.Items.{Input}
-use Rattle.f90_declared.specs.declared.names.Declared.{Declared}
-use Rattle.f90_declared.specs.Names.{found}
+use Rattle.f90_kinds.specs.declared.declarations.names.Declared.{Declared}
+use Rattle.f90_kinds.specs.declarations.Names.{found}
 use Rattle.f90_kinds.specs.Found.{suits_items}
 use Rattle.f90_kinds.proofs.StatementLaws.{items-suit}
 use Rattle.f90_kinds.proofs.statements.suits_input.Goals as goal

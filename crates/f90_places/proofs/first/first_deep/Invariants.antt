@@ -2,7 +2,7 @@ use Rattle.std.proofs.Common.{IsTrue, List}
 use Rattle.f90_grammar.specs.Blocks as grammar
 use Rattle.f90_grammar.specs.Contents.{has_deep_expression}
 use Rattle.f90_statements.specs.Views.{AreOf}
-use Rattle.f90_forms.specs.Places.{IsPlacedOf}
+use Rattle.f90_places.specs.forms.Places.{IsPlacedOf}
 use Rattle.f90_places.proofs.Walks.{HoldsAtNone}
 use Rattle.f90_places.proofs.first.first_deep.Given as goal
 

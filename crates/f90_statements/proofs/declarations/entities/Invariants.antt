@@ -1,7 +1,7 @@
 use Rattle.std.proofs.Common.{length}
 use Rattle.f90_grammar.specs.Forms.{IsEntity, written_entity}
 use Rattle.f90_statements.specs.Views.{IsEntityOf}
-use Rattle.f90_words.specs.Tokens.{words_of}
+use Rattle.f90_expr.specs.words.Tokens.{words_of}
 use Rattle.f90_statements.specs.Reading.{IsBeingRead}
 use Rattle.f90_statements.proofs.declarations.entities.Given as goal
 

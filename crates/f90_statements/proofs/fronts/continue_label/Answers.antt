@@ -1,6 +1,6 @@
 use Rattle.std.proofs.Common.{◌≡◌, [], ◌∷◌, codes, rules}
 use Rattle.f90_grammar.specs.Words as words
-use Rattle.f90_words.specs.Tokens.{words_of}
+use Rattle.f90_expr.specs.words.Tokens.{words_of}
 use Rattle.f90_statements.proofs.LabelLaws.{labelled_is}
 use Rattle.f90_statements.proofs.TokenLaws.{some_in}
 use Rattle.f90_statements.proofs.fronts.continue_label.Goals as goal

@@ -2,7 +2,7 @@ use Rattle.std.proofs.Common.{length}
 use Rattle.f90_grammar.specs.Forms.{written_extent}
 use Rattle.f90_grammar.specs.Phrases.{IsExpression}
 use Rattle.f90_expr.specs.Reading.{IsMadeOf}
-use Rattle.f90_words.specs.Tokens.{words_of}
+use Rattle.f90_expr.specs.words.Tokens.{words_of}
 use Rattle.f90_statements.specs.Reading.{IsBeingRead}
 use Rattle.f90_statements.proofs.parts.extents.Given as goal
 

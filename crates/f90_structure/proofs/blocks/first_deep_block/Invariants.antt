@@ -2,7 +2,7 @@ use Rattle.std.proofs.Common.{List, ◌&&◌, nat_le, length}
 use Rattle.fv_tree.specs.Limits as limits
 use Rattle.f90_grammar.specs.Blocks.{Placed}
 use Rattle.f90_grammar.specs.Order.{Place, blocks_round}
-use Rattle.f90_forms.specs.Places.{IsPlacedOf}
+use Rattle.f90_places.specs.forms.Places.{IsPlacedOf}
 use Rattle.f90_statements.specs.Views.{AreOf}
 use Rattle.f90_grammar.specs.Bounds.{opens_block}
 use Rattle.f90_structure.proofs.OpenBlocks.{AreOpenBehind}

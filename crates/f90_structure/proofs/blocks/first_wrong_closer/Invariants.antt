@@ -1,7 +1,7 @@
 use Rattle.std.proofs.Common.{List}
 use Rattle.f90_grammar.specs.Blocks.{Placed}
 use Rattle.f90_grammar.specs.Order.{Place, blocks_round, closes_wrongly}
-use Rattle.f90_forms.specs.Places.{IsPlacedOf}
+use Rattle.f90_places.specs.forms.Places.{IsPlacedOf}
 use Rattle.f90_statements.specs.Views.{AreOf}
 use Rattle.f90_structure.proofs.OpenBlocks.{AreOpenBehind}
 use Rattle.f90_structure.proofs.Walks.{IsWalked}

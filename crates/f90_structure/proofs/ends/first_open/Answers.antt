@@ -1,7 +1,7 @@
 use Rattle.std.proofs.Common.{◌≡◌, ℕ, ◌-◌, nat_lt, false, length, sym, subst, arith}
 use Rattle.std.proofs.lemmas.Bool.Decides.{nat_tests}
 use Rattle.f90_grammar.specs.Forms.{Form}
-use Rattle.f90_forms.specs.declared.placing.Placed.{Placed as Made}
+use Rattle.f90_places.specs.declared.forms.placing.Placed.{Placed as Made}
 use Rattle.f90_statements.specs.Views.{IsStatementOf}
 use Rattle.f90_structure.specs.Ends.{AreFree}
 use Rattle.f90_structure.proofs.Walks.{begun_back, stepped_back, ended_back}

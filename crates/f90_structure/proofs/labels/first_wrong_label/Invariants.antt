@@ -1,7 +1,7 @@
 use Rattle.std.proofs.Common.{List}
 use Rattle.f90_grammar.specs.Blocks.{Placed}
 use Rattle.f90_grammar.specs.Order.{Place}
-use Rattle.f90_forms.specs.Places.{IsPlacedOf}
+use Rattle.f90_places.specs.forms.Places.{IsPlacedOf}
 use Rattle.f90_statements.specs.Views.{AreOf}
 use Rattle.f90_grammar.specs.Surroundings.{label_in, is_wrong_label}
 use Rattle.f90_structure.specs.Labels.{AreLabels}

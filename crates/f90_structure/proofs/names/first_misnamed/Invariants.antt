@@ -1,7 +1,7 @@
 use Rattle.std.proofs.Common.{List}
 use Rattle.f90_grammar.specs.Blocks.{Placed}
 use Rattle.f90_grammar.specs.Order.{Place, title_of, is_misnamed}
-use Rattle.f90_forms.specs.Places.{IsPlacedOf}
+use Rattle.f90_places.specs.forms.Places.{IsPlacedOf}
 use Rattle.f90_statements.specs.Views.{AreOf}
 use Rattle.f90_structure.proofs.Walks.{IsWalked, Anything}
 use Rattle.f90_structure.proofs.names.first_misnamed.Given as goal

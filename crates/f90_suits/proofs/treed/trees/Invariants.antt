@@ -1,6 +1,6 @@
 use Rattle.std.proofs.Common.{List}
 use Rattle.fv_tree.specs.Plain.{Declaration}
-use Rattle.f90_forms.specs.Places.{IsPlacedOf}
+use Rattle.f90_places.specs.forms.Places.{IsPlacedOf}
 use Rattle.f90_grammar.specs.Blocks as grammar
 use Rattle.f90_grammar.specs.Suited.{Suits}
 use Rattle.f90_statements.specs.Views.{AreOf}

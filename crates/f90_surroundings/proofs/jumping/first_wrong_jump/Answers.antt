@@ -1,5 +1,5 @@
 use Rattle.std.proofs.Common.{◌-◌, arith, sym, subst}
-use Rattle.f90_forms.specs.declared.placing.Placed.{Placed}
+use Rattle.f90_places.specs.declared.forms.placing.Placed.{Placed}
 use Rattle.f90_statements.specs.Views.{IsStatementOf}
 use Rattle.f90_surroundings.proofs.JumpLaws.{start, stop, further}
 use Rattle.f90_surroundings.proofs.jumping.first_wrong_jump.Goals as goal

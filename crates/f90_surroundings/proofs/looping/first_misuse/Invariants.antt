@@ -1,6 +1,6 @@
 use Rattle.std.proofs.Common.{List}
 use Rattle.f90_grammar.specs.Blocks as grammar
-use Rattle.f90_forms.specs.Places.{IsPlacedOf}
+use Rattle.f90_places.specs.forms.Places.{IsPlacedOf}
 use Rattle.f90_statements.specs.Views.{AreOf}
 use Rattle.f90_surroundings.specs.Lists.{scalar_in}
 use Rattle.f90_surroundings.proofs.LoopLaws.{IsPassed}

@@ -3,7 +3,7 @@ use Rattle.std.specs.Prelude.{ℤ, FitsSigned}
 use Rattle.std.proofs.lemmas.Int.{to_z-of_z}
 use mir.Syntax.{w64, w128}
 use Rattle.subscripts.specs.declared.affine.Dir.{Dir}
-use Rattle.line_points.specs.Least.{WithinTrip, HasNone, IsLeast}
+use Rattle.loop_lines.specs.line_points.Least.{WithinTrip, HasNone, IsLeast}
 use Rattle.loop_lines.specs.OneLoop.{dir_of, first_point, second_point}
 use Rattle.loop_lines.specs.Places.{loop_at}
 use Rattle.siv_tests.proofs.Answering.{none_left, least_left, iteration_fits, within_places}

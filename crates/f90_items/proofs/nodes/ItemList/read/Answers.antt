@@ -1,6 +1,6 @@
 use Rattle.std.proofs.Common.{List, subst, sym}
 use Rattle.std.proofs.lemmas.Result.{err_from_is_err_and}
-use Rattle.f90_words.specs.Tokens.{words_of}
+use Rattle.f90_expr.specs.words.Tokens.{words_of}
 use Rattle.f90_items.specs.declared.nodes.Node.{Node}
 use Rattle.f90_items.specs.Views.{direction_of, AreNodesOf}
 use Rattle.f90_items.proofs.ReadLaws.{list_err, list_given}

@@ -10,7 +10,7 @@ use Rattle.delta_test.specs.IterationsLeft.{IsLeastLeft, IsNoneLeft}
 use Rattle.loop_lines.specs.OneLoop.{dir_of}
 use Rattle.loop_lines.specs.Places.{loop_at}
 use Rattle.delta_test.proofs.OneLoops.{iteration_fits}
-use Rattle.line_points.specs.Least.{WithinTrip}
+use Rattle.loop_lines.specs.line_points.Least.{WithinTrip}
 use Rattle.vector_tests.proofs.LeastMeetings.{least_solution, no_solution, some_solution}
 use Rattle.vector_tests.specs.Places.{IsLeastSolution, SolvesEach, loop_span}
 use Rattle.vector_tests.proofs.refs.RefPair.least_of.Goals as goal

@@ -1,7 +1,0 @@
-//! The names that stand in a block.
-#![tactic(auto)]
-
-mod listing;
-mod statements;
-
-pub use listing::names_in_block;

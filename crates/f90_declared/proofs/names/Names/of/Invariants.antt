@@ -1,7 +1,0 @@
-use Rattle.std.proofs.Common.{take}
-use Rattle.f90_declared.specs.Entries.{Knows}
-use Rattle.f90_declared.proofs.EntryLaws.{entries_of}
-use Rattle.f90_declared.proofs.names.Names.of.Given as goal
-
-abbrev pub invariant-loop-placed : goal.invariant-loop-placed
-invariant-loop-placed l = record { knows : Knows l.names (entries_of (take l.placed-index l.text)) }

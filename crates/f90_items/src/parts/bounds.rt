@@ -1,0 +1,58 @@
+//! The first value, the last one and the step of a loop.
+ghost use Rattle.std.specs.Prelude.{◌≡◌, ◌++◌, List, Option, IfOk};
+ghost use Rattle.f90_grammar.specs.Items.{IsStep, written_step};
+ghost use Rattle.f90_grammar.specs.Phrases.{Phrase};
+ghost use Rattle.f90_grammar.specs.Words.{Word};
+ghost use Rattle.f90_expr.specs.words.Tokens.{words_of};
+
+use crate::parts::fronts::after_comma;
+use f90_expr::{Expression, read};
+use f90_expr::words::Token;
+use reading_parts::Stop;
+use std::alloc::Global;
+
+/// The parameters of a DO statement or of an implied DO list (ISO/IEC 1539:1991, sections 8.1.4.1.1 and 9.4.2).
+#[derive(Debug, Drop)]
+pub struct Bounds {
+    pub first: Expression,
+    pub last: Expression,
+    /// Where one is written.
+    pub step: Option<Expression>,
+}
+
+impl Bounds {
+    ghost use Rattle.f90_items.specs.parts.Bounds.{AreBounds, BeginsWithBounds, EndsBounds, GivesBounds, bounds_before};
+    ghost use Rattle.f90_items.specs.parts.Bounds.{BeginsWithStep, GivesStep};
+
+    // The step, if there is one.
+    #[tactic(auto, using(crate::proofs::Parts::BoundLaws::steps))]
+    fn step(alloc: Global, tokens: &[Token]) -> Result<(Option<Expression>, &[Token]), Stop>
+        ensures found { IfOk result (λ r. BeginsWithStep (words_of tokens.now) r.0 (words_of r.1.now)) }
+        ensures only { (c : Option Phrase) (rest : List Word) → IsStep c → EndsBounds rest
+            → words_of tokens.now ≡ written_step c ++ rest → GivesStep result c rest }
+    {
+        let Some(more) = after_comma(tokens) else {
+            return Ok((None, tokens));
+        };
+        let (step, rest) = read(alloc, more)?;
+        Ok((Some(step), rest))
+    }
+
+    /// The parameters at the front of the words, and what follows them.
+    #[tactic(auto, using(crate::proofs::Parts::BoundLaws::bounds))]
+    pub fn read(alloc: Global, tokens: &[Token]) -> Result<(Bounds, &[Token]), Stop>
+        // What is read are parameters.
+        ensures found { IfOk result (λ r. BeginsWithBounds (words_of tokens.now) r.0 (words_of r.1.now)) }
+        // Parameters are read, in one way alone.
+        ensures only { (a b : Phrase) (c : Option Phrase) (rest : List Word) → AreBounds a b c → EndsBounds rest
+            → words_of tokens.now ≡ bounds_before a b c rest → GivesBounds result a b c rest }
+    {
+        let (first, rest) = read(alloc, tokens)?;
+        let Some(rest) = after_comma(rest) else {
+            return Err(Stop::Syntax);
+        };
+        let (last, rest) = read(alloc, rest)?;
+        let (step, rest) = Bounds::step(alloc, rest)?;
+        Ok((Bounds { first, last, step }, rest))
+    }
+}

@@ -1,0 +1,11 @@
+use Rattle.std.proofs.Common.{arith, ◌≤◌, length, ap, ◌∙◌}
+use Rattle.f90_statements.specs.Views.{IsDimensionOf}
+use Rattle.reading_parts.specs.Counts.{capped}
+use Rattle.f90_kinds.proofs.Declarations.PlaceLaws.{same_length}
+use Rattle.f90_kinds.proofs.Declarations.SizeLaws.{some_elements}
+use Rattle.f90_kinds.proofs.declarations.bounds.elements.Goals as goal
+
+pub returns-in_default : goal.returns-in_default
+returns-in_default c ds a n =
+    let l : 1 ≤ length ds = omega (arith, same_length IsDimensionOf c.args.dimensions.now ds a) in
+    c.product.ensures ds a n ∙ ap capped (some_elements ds l)

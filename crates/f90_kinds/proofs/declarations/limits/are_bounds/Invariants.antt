@@ -1,0 +1,13 @@
+use Rattle.std.proofs.Common.{List, map, take}
+use Rattle.std.specs.List.{AllByRecursion}
+use Rattle.fv_meaning.specs.Profile90.{IsDimension}
+use Rattle.f90_grammar.specs.Forms as forms
+use Rattle.f90_grammar.specs.Reading.{dimension_bounds}
+use Rattle.f90_statements.specs.Views.{AreOf, IsDimensionOf}
+use Rattle.f90_kinds.proofs.declarations.limits.are_bounds.Given as goal
+
+abbrev pub invariant-loop-dimension : goal.invariant-loop-dimension
+invariant-loop-dimension l = record {
+  within : (ds : List forms.Dimension) → AreOf IsDimensionOf (take l.dimension-index l.dimensions) ds
+      → AllByRecursion IsDimension (map dimension_bounds ds);
+}

@@ -1,0 +1,5 @@
+//! The names that stand in a block.
+mod listing;
+mod statements;
+
+pub use listing::names_in_block;

@@ -1,9 +1,0 @@
-//! From the characters of a statement of Fortran 90 to its words (ISO/IEC 1539:1991, sections 3.2 and 3.3.1).
-#![tactic(auto)]
-
-mod lexer;
-mod symbols;
-mod tokens;
-
-pub use lexer::words;
-pub use tokens::Token;

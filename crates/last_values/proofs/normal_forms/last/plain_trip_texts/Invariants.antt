@@ -1,0 +1,7 @@
+use Rattle.std.proofs.Common.{◌≡◌, map, take}
+use Rattle.fv_tree.specs.View.{expression_of}
+use Rattle.last_values.specs.normal_forms.LastValues as last
+use Rattle.last_values.proofs.normal_forms.last.plain_trip_texts.Given as goal
+
+abbrev pub invariant-loop-turns : goal.invariant-loop-turns
+invariant-loop-turns l = map expression_of l.texts.items ≡ last.plain_trip_texts l.symbols (take l.turns-index l.round)

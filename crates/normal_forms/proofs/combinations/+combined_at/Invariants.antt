@@ -1,5 +1,0 @@
-use Rattle.std.proofs.Common.{length}
-use Rattle.normal_forms.proofs.combinations.+combined_at.Given as goal
-
-abbrev pub decreases-combined_at : goal.decreases-combined_at
-decreases-combined_at l = length l.terms.now

@@ -1,4 +1,0 @@
-use Rattle.normal_forms.proofs.combinations.+with_symbols.Given as goal
-
-abbrev pub decreases-with_symbols : goal.decreases-with_symbols
-decreases-with_symbols l = l.count

@@ -1,5 +1,0 @@
-use Rattle.std.proofs.Common.{length}
-use Rattle.normal_forms.proofs.places.+coefficient_in.Given as goal
-
-abbrev pub decreases-coefficient_in : goal.decreases-coefficient_in
-decreases-coefficient_in l = length l.terms.now
