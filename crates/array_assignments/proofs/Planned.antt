@@ -26,9 +26,9 @@ use Rattle.array_values.specs.Answers.{Answers}
 use Rattle.array_values.specs.Arrays.{elements_in}
 use Rattle.array_values.specs.Positions.{wider}
 use Rattle.array_values.specs.Selections.{selector_in}
-use Rattle.array_places.specs.declared.writes.Writes.{Writes}
-use Rattle.array_places.specs.Places.{somes}
-use Rattle.array_places.specs.Writing.{stored_under, Stores as Stored}
+use Rattle.array_storage.specs.declared.array_places.writes.Writes.{Writes}
+use Rattle.array_storage.specs.array_places.Places.{somes}
+use Rattle.array_storage.specs.array_places.Writing.{stored_under, Stores as Stored}
 use Rattle.array_storage.specs.declared.slots.Slot.{Slot}
 use Rattle.array_storage.specs.declared.targets.Target.{Target}
 use Rattle.array_storage.specs.Slots.{IsWithin, place_among}

@@ -17,7 +17,7 @@ ghost use Rattle.array_assignments.specs.Planning.{Plans, IsSound, Stores};
 use crate::causes::{Stuck, at};
 use crate::moment::Moment;
 use array_expressions::Scope;
-use array_places::{Writes, writes_under};
+use array_storage::array_places::{Writes, writes_under};
 use array_storage::{Place, Target};
 use array_values::{Failure, Prepared, check_conform};
 use fv_machine::Halt;

@@ -6,3 +6,4 @@ pub mod OpeningLaws
 pub mod AllocationLaws
 pub mod TargetLaws
 pub mod ShowLaws
+pub mod ArrayPlaces

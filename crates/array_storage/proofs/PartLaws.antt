@@ -14,9 +14,9 @@ use Rattle.fv_meaning.specs.ArrayValues.{Array}
 use Rattle.fv_meaning.specs.Sections.{Axis, Selector, axes_on, whole_axes, extents_of, numbers_of}
 use Rattle.fv_meaning.specs.Value.{is_bare}
 use Rattle.fv_machine.specs.Storage.{offset, bounds_list, value_at}
-use Rattle.array_places.specs.declared.selection.Selection.{Selection}
-use Rattle.array_places.specs.Selecting.{IsSelection, SelectsThese}
-use Rattle.array_places.specs.Places.{somes, values_there}
+use Rattle.array_storage.specs.declared.array_places.selection.Selection.{Selection}
+use Rattle.array_storage.specs.array_places.Selecting.{IsSelection, SelectsThese}
+use Rattle.array_storage.specs.array_places.Places.{somes, values_there}
 use Rattle.array_storage.specs.declared.slots.Slot.{Slot}
 use Rattle.array_storage.specs.Slots.{store_among, bounds_among, bounds_now, held_here, IsNamed}
 use Rattle.array_storage.specs.Parts.{array_along, whole_array, part_array, array_here, whole_here, part_here}

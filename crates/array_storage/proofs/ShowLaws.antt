@@ -11,9 +11,9 @@ use Rattle.fv_meaning.specs.Store.{numbers_from, size_of, column_major, cells_of
 use Rattle.fv_meaning.specs.Profile77.{elements_of}
 use Rattle.fv_machine.specs.Storage.{offset, bounds_list}
 use Rattle.fv_machine.proofs.SourceNames.{source_is}
-use Rattle.array_places.specs.Places.{somes, values_there}
-use Rattle.array_places.proofs.Stages.{by_places}
-use Rattle.array_places.proofs.Whole.{whole_places, counted_below}
+use Rattle.array_storage.specs.array_places.Places.{somes, values_there}
+use Rattle.array_storage.proofs.ArrayPlaces.Stages.{by_places}
+use Rattle.array_storage.proofs.ArrayPlaces.Whole.{whole_places, counted_below}
 use Rattle.array_storage.specs.declared.slots.Slot.{Slot}
 use Rattle.array_storage.specs.Slots.{store_among, bounds_among, bounds_now, IsNamed}
 use Rattle.array_storage.proofs.PlaceLaws.{store-bounds}

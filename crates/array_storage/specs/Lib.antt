@@ -5,3 +5,4 @@ pub mod Parts
 pub mod Opening
 pub mod Allocation
 pub mod Targets
+pub mod array_places

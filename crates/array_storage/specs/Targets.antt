@@ -8,8 +8,8 @@ use Rattle.fv_meaning.specs.Profile77.{elements_of}
 use Rattle.fv_machine.specs.Storage.{offset, bounds_list}
 use Rattle.array_values.specs.declared.failure.Failure.{Failure}
 use Rattle.array_values.specs.declared.failure.Failure.TheVariants as failure
-use Rattle.array_places.specs.declared.selection.Selection.{Selection}
-use Rattle.array_places.specs.Selecting.{IsSelection, SelectsThese}
+use Rattle.array_storage.specs.declared.array_places.selection.Selection.{Selection}
+use Rattle.array_storage.specs.array_places.Selecting.{IsSelection, SelectsThese}
 use Rattle.array_storage.specs.declared.slots.Slot.{Slot}
 use Rattle.array_storage.specs.declared.slots.Place.{Place}
 use Rattle.array_storage.specs.declared.targets.Target.{Target}

@@ -9,7 +9,7 @@ ghost use Rattle.array_storage.specs.Stored.{slots_in};
 use crate::opening::nought;
 use crate::slots::Slot;
 use crate::storage::Storage;
-use array_places::count;
+use crate::array_places::count;
 use array_values::Failure;
 use fv_tree::{Dim, Fault, Memory, Name, Seq};
 use std::alloc::Global;

@@ -7,7 +7,7 @@ ghost use Rattle.array_storage.specs.Stored.{slots_in, store_in};
 
 use crate::slots::{Place, Slot};
 use crate::storage::Storage;
-use array_places::place;
+use crate::array_places::place;
 use fv_tree::{Fault, Name, Value};
 
 impl Slot {

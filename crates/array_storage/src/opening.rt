@@ -10,7 +10,7 @@ ghost use Rattle.array_storage.specs.Stored.{slots_in, store_in};
 
 use crate::slots::Slot;
 use crate::storage::Storage;
-use array_places::count;
+use crate::array_places::count;
 use fv_machine::dims_of;
 use fv_tree::{Decl, Dim, Extent, Kind, Memory, Name, Seq, Value};
 use indexmap::IndexSet;

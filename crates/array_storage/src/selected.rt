@@ -10,7 +10,7 @@ ghost use Rattle.array_storage.specs.Stored.{store_in};
 
 use crate::slots::Slot;
 use crate::storage::Storage;
-use array_places::{Selection, select, select_all, values_at};
+use crate::array_places::{Selection, select, select_all, values_at};
 use array_values::{Failure, Known, Selector};
 use fv_tree::{Fault, Name};
 use std::alloc::Global;

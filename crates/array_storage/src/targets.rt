@@ -6,7 +6,7 @@ ghost use Rattle.array_storage.specs.Stored.{slots_in, store_in};
 
 use crate::slots::Slot;
 use crate::storage::Storage;
-use array_places::{Selection, select, select_all};
+use crate::array_places::{Selection, select, select_all};
 use array_values::{Failure, Selector};
 use fv_tree::{Fault, Name};
 use std::alloc::Global;

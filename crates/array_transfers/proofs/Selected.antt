@@ -17,7 +17,7 @@ use Rattle.fv_machine.specs.Storage.{offset}
 use Rattle.fv_machine.proofs.StoreLaws.{offset_below}
 use Rattle.array_values.specs.declared.failure.Failure.{Failure}
 use Rattle.array_values.specs.declared.failure.Failure.TheVariants as failure
-use Rattle.array_places.specs.Places.{somes}
+use Rattle.array_storage.specs.array_places.Places.{somes}
 use Rattle.array_storage.specs.declared.slots.Slot.{Slot}
 use Rattle.array_storage.specs.declared.targets.Target.{Target}
 use Rattle.array_storage.specs.Slots.{IsWithin, place_among, SamePlaces}

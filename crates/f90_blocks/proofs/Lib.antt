@@ -5,3 +5,4 @@ pub mod RestLaws
 pub mod Steps
 pub mod Named
 pub mod Walks
+pub mod StatementTrees

@@ -12,10 +12,10 @@ use Rattle.f90_grammar.specs.Blocks.IsSimple.{assigns, masks, goes, stops, reads
 use Rattle.f90_grammar.specs.Blocks.IsSimple.{allocates, deallocates}
 use Rattle.f90_grammar.specs.Order.{is_executable}
 use Rattle.f90_statements.specs.Views.{AreOf}
-use Rattle.f90_statement_trees.specs.Trees.{IsTreeOf, IsTreeIn}
-use Rattle.f90_statement_trees.specs.declared.nodes.StatementTree.{StatementTree}
-use Rattle.f90_statement_trees.specs.declared.nodes.StatementTree.TheVariants.{Simple, Test, If, ElseIf, Else, EndIf}
-use Rattle.f90_statement_trees.specs.declared.nodes.StatementTree.TheVariants.{Do, EndDo, Continue}
+use Rattle.f90_blocks.specs.statement_trees.Trees.{IsTreeOf, IsTreeIn}
+use Rattle.f90_blocks.specs.declared.statement_trees.nodes.StatementTree.{StatementTree}
+use Rattle.f90_blocks.specs.declared.statement_trees.nodes.StatementTree.TheVariants.{Simple, Test, If, ElseIf, Else, EndIf}
+use Rattle.f90_blocks.specs.declared.statement_trees.nodes.StatementTree.TheVariants.{Do, EndDo, Continue}
 use Rattle.f90_blocks.specs.declared.nodes.Treed.{Treed}
 use Rattle.f90_blocks.specs.Targets.{target_of, target_in, target_if, target_at, names}
 use Rattle.f90_blocks.specs.Treed.{IsTreedOf}

@@ -19,9 +19,9 @@ use Rattle.f90_grammar.specs.Order.{Opened, InIf, InElse, InDo, opened_by, close
 use Rattle.f90_grammar.specs.Reading.{takes_mark}
 use Rattle.f90_grammar.specs.Blocks.IsSimple.{assigns, masks, goes, stops, reads, reads_nothing, prints, prints_nothing}
 use Rattle.f90_grammar.specs.Blocks.IsSimple.{allocates, deallocates}
-use Rattle.f90_statement_trees.specs.declared.nodes.StatementTree.{StatementTree}
-use Rattle.f90_statement_trees.specs.declared.nodes.StatementTree.TheVariants as trees
-use Rattle.f90_statement_trees.specs.Trees.{IsDone}
+use Rattle.f90_blocks.specs.declared.statement_trees.nodes.StatementTree.{StatementTree}
+use Rattle.f90_blocks.specs.declared.statement_trees.nodes.StatementTree.TheVariants as trees
+use Rattle.f90_blocks.specs.statement_trees.Trees.{IsDone}
 use Rattle.f90_blocks.specs.declared.open.Rest.{Rest}
 use Rattle.f90_blocks.specs.Rests.{Ended, EndedIf, EndedDo, Shows, block_seen, opens_seen, done_seen, with_label}
 use Rattle.f90_blocks.specs.Rests.{IsRest, Stands, IsNext}

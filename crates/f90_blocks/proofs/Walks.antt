@@ -13,10 +13,10 @@ use Rattle.f90_grammar.specs.Blocks.IsSimple.{allocates, deallocates}
 use Rattle.f90_grammar.specs.Blocks.AreBlock.{nothing}
 use Rattle.f90_grammar.specs.Order.{Opened, Place, IsInOrder, is_executable, opened_by, opened_behind}
 use Rattle.f90_statements.specs.Views.{AreOf}
-use Rattle.f90_statement_trees.specs.Trees.{IsTreeOf, IsTreeIn}
-use Rattle.f90_statement_trees.specs.declared.nodes.StatementTree.{StatementTree}
-use Rattle.f90_statement_trees.specs.declared.nodes.StatementTree.TheVariants.{Simple, Test, If, ElseIf, Else, EndIf}
-use Rattle.f90_statement_trees.specs.declared.nodes.StatementTree.TheVariants.{Do, EndDo, Continue}
+use Rattle.f90_blocks.specs.statement_trees.Trees.{IsTreeOf, IsTreeIn}
+use Rattle.f90_blocks.specs.declared.statement_trees.nodes.StatementTree.{StatementTree}
+use Rattle.f90_blocks.specs.declared.statement_trees.nodes.StatementTree.TheVariants.{Simple, Test, If, ElseIf, Else, EndIf}
+use Rattle.f90_blocks.specs.declared.statement_trees.nodes.StatementTree.TheVariants.{Do, EndDo, Continue}
 use Rattle.f90_blocks.specs.declared.nodes.Treed.{Treed}
 use Rattle.f90_blocks.specs.declared.open.Rest.{Rest}
 use Rattle.f90_blocks.specs.Rests.{Ended, IsRest, Shows, Stands, IsNext, block_seen, opens_seen}

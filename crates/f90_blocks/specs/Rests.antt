@@ -10,8 +10,8 @@ use Rattle.f90_grammar.specs.Forms as forms
 use Rattle.f90_grammar.specs.Blocks.{Placed, at, AreBlock, AreArms}
 use Rattle.f90_grammar.specs.Order.{Opened, InIf, InElse, InDo, closes_wrongly}
 use Rattle.f90_grammar.specs.Reading.{takes_mark}
-use Rattle.f90_statement_trees.specs.Trees.{IsTreeOf}
-use Rattle.f90_statement_trees.specs.declared.nodes.StatementTree.{StatementTree}
+use Rattle.f90_blocks.specs.statement_trees.Trees.{IsTreeOf}
+use Rattle.f90_blocks.specs.declared.statement_trees.nodes.StatementTree.{StatementTree}
 use Rattle.f90_blocks.specs.declared.open.Open.{Open}
 use Rattle.f90_blocks.specs.declared.open.Open.TheVariants.{If, Do}
 use Rattle.f90_blocks.specs.declared.open.Rest.{Rest}

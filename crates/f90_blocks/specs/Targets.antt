@@ -2,8 +2,8 @@
 use Rattle.std.specs.Prelude.{ℕ, ◌==◌, Bool, false, Option, Some, None}
 use Rattle.fv_tree.specs.Plain.{Statement, GoTo}
 use Rattle.fv_tree.specs.View.{statement_of}
-use Rattle.f90_statement_trees.specs.declared.nodes.StatementTree.{StatementTree}
-use Rattle.f90_statement_trees.specs.declared.nodes.StatementTree.TheVariants.{Simple, Test}
+use Rattle.f90_blocks.specs.declared.statement_trees.nodes.StatementTree.{StatementTree}
+use Rattle.f90_blocks.specs.declared.statement_trees.nodes.StatementTree.TheVariants.{Simple, Test}
 use Rattle.f90_blocks.specs.declared.nodes.Treed.{Treed}
 
 -- a statement without others in it

@@ -4,7 +4,7 @@ use Rattle.fv_tree.specs.declared.functions.Intrinsic.{Intrinsic}
 use Rattle.f90_grammar.specs.Blocks.{Placed}
 use Rattle.f90_grammar.specs.Order.{Place, IsPlaceIn}
 use Rattle.f90_grammar.specs.Reading.{takes_mark}
-use Rattle.f90_statement_trees.specs.Trees.{IsTreeIn}
+use Rattle.f90_blocks.specs.statement_trees.Trees.{IsTreeIn}
 use Rattle.f90_blocks.specs.declared.nodes.Treed.{Treed}
 
 -- `function` says which names are functions

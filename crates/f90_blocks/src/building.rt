@@ -16,7 +16,7 @@ ghost use Rattle.f90_blocks.specs.Treed.{IsTreedOf, MarksAreTaken};
 use crate::nodes::Treed;
 use crate::open::Rest;
 use crate::targets::targets;
-use f90_statement_trees::StatementTree;
+use crate::statement_trees::StatementTree;
 use fv_tree::{Arm, Block, Expr, Memory, Seq, Stmt};
 use std::alloc::Global;
 use std::collections::BTreeSet;

@@ -1,5 +1,5 @@
 //! Statements with their lines.
-use f90_statement_trees::StatementTree;
+use crate::statement_trees::StatementTree;
 
 /// A statement with its line; none where it isn't executable.
 #[derive(Debug, Drop)]

@@ -8,7 +8,7 @@ ghost use Rattle.f90_blocks.specs.Targets.{target_of, target_in, target_at, name
 ghost use Rattle.f90_blocks.specs.declared.nodes.Treed.{Treed};
 
 use crate::nodes::Treed;
-use f90_statement_trees::StatementTree;
+use crate::statement_trees::StatementTree;
 use fv_tree::{Memory, Stmt};
 use std::alloc::Global;
 use std::collections::BTreeSet;

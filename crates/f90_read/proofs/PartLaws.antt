@@ -21,7 +21,7 @@ use Rattle.f90_grammar.specs.Reading.MayBeImplicitNone.{absent, present}
 use Rattle.f90_grammar.specs.Reading.IsEnd.{end, end_program, end_named}
 use Rattle.f90_grammar.specs.Reading.AreDeclared.{none, more}
 use Rattle.f90_reading_laws.proofs.Lists.{left_false, right_false, affirmed}
-use Rattle.f90_statement_trees.specs.Executable.{IsMarked}
+use Rattle.f90_blocks.specs.statement_trees.Executable.{IsMarked}
 
 abbrev executables : List Placed → List Placed
 executables ps = filter (λ (p : Placed). is_executable p.form) ps

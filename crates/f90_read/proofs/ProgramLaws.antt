@@ -33,7 +33,7 @@ use Rattle.f90_blocks.specs.Treed.{MarksAreTaken}
 use Rattle.f90_kinds.specs.declarations.Declarations.{AreAccepted, AreInOrder}
 use Rattle.f90_reading_laws.proofs.PlaceFacts.{each_place}
 use Rattle.f90_reading_laws.proofs.Tables.{in_text_is, alike_in, same_functions}
-use Rattle.f90_statement_trees.specs.Executable.{IsMarked}
+use Rattle.f90_blocks.specs.statement_trees.Executable.{IsMarked}
 use Rattle.f90_read.specs.Checks.{IsClearBelow}
 use Rattle.f90_read.proofs.NumberLaws.{holds_nowhere}
 use Rattle.f90_read.proofs.PartLaws.{HasParts, parts}

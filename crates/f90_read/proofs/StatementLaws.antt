@@ -38,7 +38,7 @@ use Rattle.f90_reading_laws.proofs.FreeLines.{AreGoodStatements, IsFormed, good_
 use Rattle.f90_reading_laws.proofs.Lists.{all_both, all_right}
 use Rattle.f90_reading_laws.proofs.PlaceFacts.{each_place}
 use Rattle.f90_reading_laws.proofs.WordFacts.{IsWell, form_well, statement_words}
-use Rattle.f90_statement_trees.specs.Executable.{IsMarked}
+use Rattle.f90_blocks.specs.statement_trees.Executable.{IsMarked}
 use Rattle.f90_suits.specs.Ready.{IsReadyAt, AreReady, HoldsOfAll}
 use Rattle.f90_trees.specs.Hiding.{function_in}
 use Rattle.f90_trees.specs.declared.functions.Functions.{Functions}

@@ -1,6 +1,6 @@
 //! Why the statements of a text are refused: each number in turn, at the first statement where it holds.
 ghost use Rattle.std.specs.Prelude.{ℕ, List};
-ghost use Rattle.f90_statement_trees.specs.Results.{AreOfSome};
+ghost use Rattle.f90_blocks.specs.statement_trees.Results.{AreOfSome};
 ghost use Rattle.f90_grammar.specs.Blocks as grammar;
 ghost use Rattle.f90_grammar.specs.Declared.{declarations_of};
 ghost use Rattle.f90_kinds.specs.declarations.Names.{AreNamesOf};

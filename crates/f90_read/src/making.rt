@@ -1,7 +1,7 @@
 //! The program that statements are.
 ghost use Rattle.std.specs.Prelude.{◌≡◌, Some, ℕ, List, IfOk, OnOk};
 ghost use Rattle.fv_tree.specs.View.{program_of_90};
-ghost use Rattle.f90_statement_trees.specs.Results.{AreOfSome};
+ghost use Rattle.f90_blocks.specs.statement_trees.Results.{AreOfSome};
 ghost use Rattle.f90_grammar.specs.Blocks as grammar;
 ghost use Rattle.f90_grammar.specs.Forms.{Form};
 ghost use Rattle.f90_grammar.specs.Order.{name_in, title_of};

@@ -6,7 +6,7 @@ ghost use Rattle.fv_tree.specs.View.{program_of_90};
 ghost use Rattle.fv_tree.specs.declared.refusals.Refusal.{Refusal};
 ghost use Rattle.fv_meaning.specs.Profile90.{IsProgram90};
 ghost use Rattle.f90_places.specs.forms.Places.{IsPlacedOf};
-ghost use Rattle.f90_statement_trees.specs.Results.{AreOfSome};
+ghost use Rattle.f90_blocks.specs.statement_trees.Results.{AreOfSome};
 ghost use Rattle.f90_grammar.specs.Blocks as grammar;
 ghost use Rattle.f90_grammar.specs.Refusals.{Refused90};
 ghost use Rattle.f90_read.specs.Checks.{IsTextOf, IsClearBelow, IsReadAs};

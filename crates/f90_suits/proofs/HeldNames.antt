@@ -10,7 +10,7 @@ use Rattle.f90_grammar.specs.Reading.{function_by}
 use Rattle.f90_kinds.specs.Known.{KnowsNames, KnowsAll, KnowsSubscripts, KnowsSubscript, KnowsLoops, KnowsReference}
 use Rattle.f90_kinds.specs.Known.{KnowsSingle, KnowsItem, KnowsItems}
 use Rattle.f90_trees.specs.Building.{held, held_all, held_subscript, held_subscripts, held_loops}
-use Rattle.f90_statement_trees.specs.Held.{held_reference, held_item, held_items, held_statement}
+use Rattle.f90_blocks.specs.statement_trees.Held.{held_reference, held_item, held_items, held_statement}
 use Rattle.f90_suits.specs.Known.{KnowsStatement}
 
 pub same : {A : Type 0} → (A ↔ A)

@@ -26,11 +26,11 @@ use Rattle.f90_grammar.specs.Words.{Word}
 use Rattle.f90_kinds.specs.Known.{KnowsNames, KnowsAll, KnowsReference}
 use Rattle.f90_kinds.proofs.KnownLaws.{trees_know_names, reference_knows_names, output_knows_names, input_knows_names}
 use Rattle.f90_trees.specs.Building.{held}
-use Rattle.f90_statement_trees.specs.Executable.{is_named, is_call, stores_into_call, has_tree}
-use Rattle.f90_statement_trees.specs.Held.{held_statement, IsHeldStmtOf, IsHeldDone, IsHeldTreeOf}
-use Rattle.f90_statement_trees.specs.declared.nodes.StatementTree.{StatementTree}
-use Rattle.f90_statement_trees.specs.declared.nodes.StatementTree.TheVariants.{Simple, Test, If, ElseIf, Else, EndIf}
-use Rattle.f90_statement_trees.specs.declared.nodes.StatementTree.TheVariants.{Do, EndDo, Continue}
+use Rattle.f90_blocks.specs.statement_trees.Executable.{is_named, is_call, stores_into_call, has_tree}
+use Rattle.f90_blocks.specs.statement_trees.Held.{held_statement, IsHeldStmtOf, IsHeldDone, IsHeldTreeOf}
+use Rattle.f90_blocks.specs.declared.statement_trees.nodes.StatementTree.{StatementTree}
+use Rattle.f90_blocks.specs.declared.statement_trees.nodes.StatementTree.TheVariants.{Simple, Test, If, ElseIf, Else, EndIf}
+use Rattle.f90_blocks.specs.declared.statement_trees.nodes.StatementTree.TheVariants.{Do, EndDo, Continue}
 use Rattle.f90_suits.specs.Known.{KnowsStatement, KnowsDone, KnowsTree}
 use Rattle.f90_suits.proofs.HeldNames.{same, through, pair, three, held_known, statement_known}
 

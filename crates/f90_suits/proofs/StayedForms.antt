@@ -32,10 +32,10 @@ use Rattle.f90_grammar.specs.Phrases.{Phrase, tree_of}
 use Rattle.f90_grammar.specs.Reading.{function_by}
 use Rattle.f90_grammar.specs.Suited.{SuitsAssignment, SuitsMask, AreNumbers, SuitsList, SuitsItem, SuitsItems, Suits}
 use Rattle.f90_trees.specs.Building.{held, held_all}
-use Rattle.f90_statement_trees.specs.Held.{held_reference, held_item, held_items, held_statement, IsHeldForm}
-use Rattle.f90_statement_trees.specs.Uncut.{IsNarrow, AreNarrow}
-use Rattle.f90_statement_trees.proofs.NarrowLaws.{literals_stay}
-use Rattle.f90_statement_trees.proofs.FitLaws.{kinds_stay}
+use Rattle.f90_blocks.specs.statement_trees.Held.{held_reference, held_item, held_items, held_statement, IsHeldForm}
+use Rattle.f90_blocks.specs.statement_trees.Uncut.{IsNarrow, AreNarrow}
+use Rattle.f90_blocks.proofs.StatementTrees.NarrowLaws.{literals_stay}
+use Rattle.f90_blocks.proofs.StatementTrees.FitLaws.{kinds_stay}
 use Rattle.f90_suits.specs.Suited.{SuitsStatement}
 
 -- ---- no literal is too great

@@ -20,12 +20,12 @@ use Rattle.f90_grammar.specs.Phrases.{Phrase, tree_of}
 use Rattle.f90_grammar.specs.Reading.{function_by}
 use Rattle.f90_grammar.specs.Suited.{SuitsAssignment, AreNumbers, Suits}
 use Rattle.f90_trees.specs.Building.{held}
-use Rattle.f90_statement_trees.specs.Executable.{is_named, is_call, stores_into_call, has_tree}
-use Rattle.f90_statement_trees.specs.Held.{held_statement, IsHeldStmtOf, IsHeldDone, IsHeldTreeOf}
-use Rattle.f90_statement_trees.specs.Uncut.{IsNarrow}
-use Rattle.f90_statement_trees.specs.declared.nodes.StatementTree.{StatementTree}
-use Rattle.f90_statement_trees.specs.declared.nodes.StatementTree.TheVariants.{Simple, Test, If, ElseIf, Else, EndIf}
-use Rattle.f90_statement_trees.specs.declared.nodes.StatementTree.TheVariants.{Do, EndDo, Continue}
+use Rattle.f90_blocks.specs.statement_trees.Executable.{is_named, is_call, stores_into_call, has_tree}
+use Rattle.f90_blocks.specs.statement_trees.Held.{held_statement, IsHeldStmtOf, IsHeldDone, IsHeldTreeOf}
+use Rattle.f90_blocks.specs.statement_trees.Uncut.{IsNarrow}
+use Rattle.f90_blocks.specs.declared.statement_trees.nodes.StatementTree.{StatementTree}
+use Rattle.f90_blocks.specs.declared.statement_trees.nodes.StatementTree.TheVariants.{Simple, Test, If, ElseIf, Else, EndIf}
+use Rattle.f90_blocks.specs.declared.statement_trees.nodes.StatementTree.TheVariants.{Do, EndDo, Continue}
 use Rattle.f90_suits.specs.Suited.{SuitsStatement, SuitsDone, SuitsTree}
 use Rattle.f90_suits.proofs.HeldNames.{same, through, pair}
 use Rattle.f90_suits.proofs.NamedForms.{nameless, unnamed, nothing, stores}

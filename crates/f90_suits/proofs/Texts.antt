@@ -14,13 +14,13 @@ use Rattle.f90_grammar.specs.Order.{Place, is_executable}
 use Rattle.f90_grammar.specs.Reading.{function_by}
 use Rattle.f90_grammar.specs.Suited.{Suits}
 use Rattle.f90_statements.specs.Views.{AreOf}
-use Rattle.f90_statement_trees.specs.Executable.{has_tree}
-use Rattle.f90_statement_trees.specs.Held.{IsHeldTreeOf, IsHeldForm}
-use Rattle.f90_statement_trees.specs.Results.{Gives}
-use Rattle.f90_statement_trees.specs.Trees.{IsTreeOf, IsTreeIn}
-use Rattle.f90_statement_trees.specs.declared.nodes.StatementTree.{StatementTree}
-use Rattle.f90_statement_trees.proofs.LoopLaws as loops
-use Rattle.f90_statement_trees.proofs.LoopLaws.{IsUpTo, are_both, are_more}
+use Rattle.f90_blocks.specs.statement_trees.Executable.{has_tree}
+use Rattle.f90_blocks.specs.statement_trees.Held.{IsHeldTreeOf, IsHeldForm}
+use Rattle.f90_blocks.specs.statement_trees.Results.{Gives}
+use Rattle.f90_blocks.specs.statement_trees.Trees.{IsTreeOf, IsTreeIn}
+use Rattle.f90_blocks.specs.declared.statement_trees.nodes.StatementTree.{StatementTree}
+use Rattle.f90_blocks.proofs.StatementTrees.LoopLaws as loops
+use Rattle.f90_blocks.proofs.StatementTrees.LoopLaws.{IsUpTo, are_both, are_more}
 use Rattle.f90_trees.specs.Hiding.{function_in}
 use Rattle.f90_trees.specs.declared.functions.Functions.{Functions}
 use Rattle.f90_suits.specs.Known.{KnowsTree}

@@ -7,8 +7,8 @@ use Rattle.fv_tree.specs.declared.stmts.Stmt.{Stmt}
 use Rattle.f90_grammar.specs.Declared.{IsKnown, use_of}
 use Rattle.f90_grammar.specs.Items.{Input, Output}
 use Rattle.f90_kinds.specs.Known.{KnowsNames, KnowsAll, KnowsReference, KnowsItems}
-use Rattle.f90_statement_trees.specs.declared.nodes.StatementTree.{StatementTree}
-use Rattle.f90_statement_trees.specs.declared.nodes.StatementTree.TheVariants.{Simple, Test, If, ElseIf, Do}
+use Rattle.f90_blocks.specs.declared.statement_trees.nodes.StatementTree.{StatementTree}
+use Rattle.f90_blocks.specs.declared.statement_trees.nodes.StatementTree.TheVariants.{Simple, Test, If, ElseIf, Do}
 
 module _ (ds : List Declaration) where
   -- a statement without others in it, but for DO variables

@@ -8,7 +8,7 @@ use Rattle.f90_grammar.specs.Forms.{Form, IsWritten}
 use Rattle.f90_grammar.specs.Order.{Place, IsPlaceIn}
 use Rattle.f90_grammar.specs.Reading.{function_by}
 use Rattle.f90_grammar.specs.Words.{Word}
-use Rattle.f90_statement_trees.specs.Executable.{IsMarked}
+use Rattle.f90_blocks.specs.statement_trees.Executable.{IsMarked}
 use Rattle.f90_trees.specs.Hiding.{function_in}
 use Rattle.f90_trees.specs.declared.functions.Functions.{Functions}
 

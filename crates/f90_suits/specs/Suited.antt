@@ -11,8 +11,8 @@ use Rattle.fv_meaning.specs.Typed90.{IsScalar}
 use Rattle.fv_meaning.specs.Profile90.{IsAllocatable}
 use Rattle.f90_grammar.specs.Items.{Input, Output}
 use Rattle.f90_grammar.specs.Suited.{SuitsAssignment, SuitsMask, AreNumbers, SuitsItems, SuitsAllocation}
-use Rattle.f90_statement_trees.specs.declared.nodes.StatementTree.{StatementTree}
-use Rattle.f90_statement_trees.specs.declared.nodes.StatementTree.TheVariants.{Simple, Test, If, ElseIf, Do}
+use Rattle.f90_blocks.specs.declared.statement_trees.nodes.StatementTree.{StatementTree}
+use Rattle.f90_blocks.specs.declared.statement_trees.nodes.StatementTree.TheVariants.{Simple, Test, If, ElseIf, Do}
 
 module _ (ds : List Declaration) where
   -- a statement without others in it

@@ -8,7 +8,7 @@ ghost use Rattle.f90_kinds.specs.declarations.Names.{AreNamesOf};
 ghost use Rattle.f90_places.specs.forms.Places.{IsPlacedOf};
 ghost use Rattle.f90_places.specs.First.{FindsFirst};
 ghost use Rattle.f90_statements.specs.Views.{AreOf};
-ghost use Rattle.f90_statement_trees.specs.Results.{IsOf, AreOfSome};
+ghost use Rattle.f90_blocks.specs.statement_trees.Results.{IsOf, AreOfSome};
 ghost use Rattle.f90_suits.specs.Known.{KnowsStatement, KnowsDone, KnowsTree};
 ghost use Rattle.f90_suits.specs.Ready.{AreFunctionsOf, IsReadyAt, AreReady, HoldsOfAll};
 
@@ -19,7 +19,7 @@ use f90_kinds::{
     all_know_names, input_knows_names, is_declared, knows_names, output_knows_names,
     reference_knows_names,
 };
-use f90_statement_trees::{StatementTree, statement_tree};
+use f90_blocks::statement_trees::{StatementTree, statement_tree};
 use f90_trees::Functions;
 use fv_tree::{Memory, Stmt};
 use std::alloc::Global;

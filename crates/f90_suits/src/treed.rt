@@ -7,12 +7,12 @@ ghost use Rattle.f90_grammar.specs.Suited.{Suits};
 ghost use Rattle.f90_blocks.specs.Treed.{IsTreedOf};
 ghost use Rattle.f90_places.specs.forms.Places.{IsPlacedOf};
 ghost use Rattle.f90_statements.specs.Views.{AreOf};
-ghost use Rattle.f90_statement_trees.specs.Results.{IsOf, AreOfSome};
+ghost use Rattle.f90_blocks.specs.statement_trees.Results.{IsOf, AreOfSome};
 ghost use Rattle.f90_suits.specs.Ready.{AreFunctionsOf, IsReadyAt, AreReady, HoldsOfAll};
 
 use f90_blocks::Treed;
 use f90_places::forms::Placed;
-use f90_statement_trees::statement_tree;
+use f90_blocks::statement_trees::statement_tree;
 use f90_trees::Functions;
 use fv_tree::{Memory, Seq};
 use std::alloc::Global;

@@ -2,7 +2,7 @@
 use Rattle.std.proofs.Common.{◌≡◌, ℕ, zero, suc, ◌<◌, Bool, true, false, cond, Option, Some, None, List, [], ◌∷◌, map, filter, length, get_or, Contains, refl, sym, ap, ◌∙◌, arith}
 use Rattle.fv_tree.specs.Plain.{Program, Statement, Declaration}
 use Rattle.nest_tree.specs.Plain.{Nest}
-use Rattle.nest_parts.specs.Numbers.{next}
+use Rattle.find_nests.specs.nest_parts.Numbers.{next}
 use Rattle.find_nests.specs.declared.reasons.Reason.{Reason}
 use Rattle.find_nests.specs.declared.reasons.Reason.TheVariants.{Exit, InnerIf, Bound, Step, Deep, Large}
 use Rattle.find_nests.specs.Reasons.{has_reason, first_that_holds, reasons}

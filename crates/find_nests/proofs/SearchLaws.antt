@@ -15,8 +15,8 @@ use Rattle.fv_tree.specs.declared.stmts.Stmt.TheVariants as stmts
 use Rattle.fv_tree.specs.declared.stmts.Arm.{Arm}
 use Rattle.fv_tree.specs.declared.stmts.Block.{Block, out-Block}
 use Rattle.fv_tree.proofs.Equations.{statement_equations, statement_of-if, statement_of-do, block_of-is}
-use Rattle.nest_parts.specs.Numbers.{next, after, after_arms, after_each, after_block, after_list}
-use Rattle.nest_parts.proofs.PartLaws.{part_laws, after_each_is, after-block}
+use Rattle.find_nests.specs.nest_parts.Numbers.{next, after, after_arms, after_each, after_block, after_list}
+use Rattle.find_nests.proofs.NestParts.PartLaws.{part_laws, after_each_is, after-block}
 use Rattle.find_nests.specs.declared.reasons.Reason.{Reason}
 use Rattle.find_nests.specs.Reasons.{reason_over}
 use Rattle.find_nests.specs.Loops.{SourceLoop, Numbered, reason_of}

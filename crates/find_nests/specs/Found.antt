@@ -4,8 +4,8 @@ use Rattle.fv_tree.specs.Plain.{Program, no_statements}
 use Rattle.nest_reasons.specs.Symbols.{symbols_of}
 use Rattle.nest_tree.specs.Plain.{Nest, Part, Turns, parts}
 use Rattle.nest_tree.specs.View.{nest_of}
-use Rattle.nest_parts.specs.Numbers.{next}
-use Rattle.nest_parts.specs.Statements.{source_loop, parts_of_block}
+use Rattle.find_nests.specs.nest_parts.Numbers.{next}
+use Rattle.find_nests.specs.nest_parts.Statements.{source_loop, parts_of_block}
 use Rattle.find_nests.specs.declared.reasons.Reason.{Reason}
 use Rattle.find_nests.specs.declared.search.Found.{Found as Found'}
 use Rattle.find_nests.specs.declared.search.Found.TheVariants.{Nest as Nest', Kept as Kept'}

@@ -3,3 +3,5 @@ pub mod Loops
 pub mod Found
 pub mod Walk
 pub mod Laws
+pub mod bound_limits
+pub mod nest_parts

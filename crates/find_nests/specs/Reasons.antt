@@ -5,7 +5,7 @@ use Rattle.nest_reasons.specs.declared.flaws.Flaw.{Flaw}
 use Rattle.nest_reasons.specs.declared.flaws.Flaw.TheVariants as flaws
 use Rattle.nest_reasons.specs.Loops.{any_loop, has_flaw}
 use Rattle.nest_reasons.specs.Sizes.{is_large, pieces_in}
-use Rattle.bound_limits.specs.Loops.{any_leaves}
+use Rattle.find_nests.specs.bound_limits.Loops.{any_leaves}
 use Rattle.find_nests.specs.declared.reasons.Reason.{Reason}
 use Rattle.find_nests.specs.declared.reasons.Reason.TheVariants.{Exit, InnerIf, Bound, Step, Deep, Large}
 

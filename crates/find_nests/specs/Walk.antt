@@ -4,7 +4,7 @@ use Rattle.fv_tree.specs.Plain.{Statement, Assignment, Where, If, Do, Label, GoT
 use Rattle.fv_tree.specs.Plain.{Allocate, Deallocate, Arms, no_arms, arm, Block, no_statements, statement}
 use Rattle.fv_tree.specs.Plain.{Declaration}
 use Rattle.fv_tree.specs.View.{Tested}
-use Rattle.nest_parts.specs.Numbers.{next, after, after_arms, after_block}
+use Rattle.find_nests.specs.nest_parts.Numbers.{next, after, after_arms, after_block}
 use Rattle.find_nests.specs.Loops.{SourceLoop, Numbered, reason_of, is_kept}
 use Rattle.find_nests.specs.Found.{nests_with}
 

@@ -2,6 +2,8 @@
 //! Architectures", section 4.2).
 #![tactic(auto)]
 
+pub mod nest_parts;
+pub mod bound_limits;
 mod laws;
 mod reasons;
 mod search;

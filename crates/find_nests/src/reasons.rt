@@ -3,7 +3,7 @@ ghost use Rattle.std.specs.Prelude.{◌≡◌, ◌≤◌, ◌^◌, length, IfOk}
 ghost use Rattle.fv_tree.specs.View.{statement_of};
 ghost use Rattle.find_nests.specs.Reasons.{reason_over};
 
-use bound_limits::Limits;
+use crate::bound_limits::Limits;
 use fv_tree::{Memory, Name, Seq, Stmt};
 use nest_reasons::{Check, Flaw, is_large};
 use std::alloc::Global;

@@ -3,13 +3,13 @@ ghost use Rattle.std.specs.Prelude.{◌≡◌, ◌≤◌, ◌^◌, ◌++◌, len
 ghost use Rattle.fv_tree.specs.View.{expression_of, statement_of, tested_of, block_of, program_of};
 ghost use Rattle.fv_tree.specs.Plain.{no_statements};
 ghost use Rattle.nest_tree.specs.View.{nest_of};
-ghost use Rattle.nest_parts.specs.Numbers.{next, after, after_block, after_each, after_list};
+ghost use Rattle.find_nests.specs.nest_parts.Numbers.{next, after, after_block, after_each, after_list};
 ghost use Rattle.find_nests.specs.Found.{found_of, found_among, found_in, nest_of_loop};
 ghost use Rattle.find_nests.specs.Walk.{nests_among, outermost_in, outermost_in_block, outermost_list, outermost_each};
 
 use crate::reasons::{Reason, reason_over};
 use fv_tree::{Arm, Block, Expr, Memory, Name, Program77, Seq, Stmt};
-use nest_parts::Numbering;
+use crate::nest_parts::Numbering;
 use nest_reasons::symbols_of;
 use nest_tree::{Nest, copy_decls};
 use std::alloc::Global;

@@ -30,8 +30,8 @@ use Rattle.fv_tree.specs.declared.ops.Kind.{Kind}
 use Rattle.listing_reader.specs.Listable.{IsWord}
 use Rattle.normal_laws.proofs.NestLoops.Standing.{loop_stands}
 use Rattle.nest_order.specs.Lists.{In}
-use Rattle.nest_parts.specs.Numbers.{next, after, after_arms, after_block}
-use Rattle.nest_parts.specs.Statements.{parts_of, branches_of, parts_of_block}
+use Rattle.find_nests.specs.nest_parts.Numbers.{next, after, after_arms, after_block}
+use Rattle.find_nests.specs.nest_parts.Statements.{parts_of, branches_of, parts_of_block}
 use Rattle.nest_reasons.specs.Symbols.{is_symbol, symbols_of}
 use Rattle.nest_tree.specs.Plain.{Loop, Guarded, Nest, Part, parts}
 use Rattle.normal_laws.proofs.NormalFacts.FoundSymbols.{chosen}

@@ -13,8 +13,8 @@ use Rattle.last_values.specs.InPlace.{parts_behind}
 use Rattle.last_values.specs.declared.behind.NestedLoop.{NestedLoop}
 use Rattle.loop_normal.specs.Bodies.{counting, placed, normal_turns, normal_part, normal_parts, normal_branches}
 use Rattle.loop_normal.specs.Loops.{with_loop}
-use Rattle.nest_parts.specs.Numbers.{next, after, after_arms, after_block}
-use Rattle.nest_parts.specs.Statements.{parts_of, branches_of, parts_of_block}
+use Rattle.find_nests.specs.nest_parts.Numbers.{next, after, after_arms, after_block}
+use Rattle.find_nests.specs.nest_parts.Statements.{parts_of, branches_of, parts_of_block}
 use Rattle.nest_tree.specs.Bodies.{Standing, statements_in, statements_in_parts, statements_in_branches}
 use Rattle.nest_tree.specs.Bodies.{nest_statements}
 use Rattle.nest_tree.specs.Plain.{Loop, Part, Run, Turns, Choice, Label, Jump, Parts, no_parts, part, parts, Branches}

@@ -7,7 +7,7 @@ use Rattle.std.proofs.lemmas.Option.{slice_get_within, get_or_from_slice_get}
 use Rattle.std.specs.List.{AllByRecursion}
 use Rattle.std.specs.Prelude.{ℤ, pos, negsuc, ◌≤ℤ◌, int_div, nat_abs, unsigned_abs, All, IsSomeAnd, IfSome, IsTrue}
 use Rattle.std.specs.Prelude.{slice_get}
-use Rattle.bound_limits.proofs.LimitLaws.{abs-quotient}
+use Rattle.find_nests.proofs.BoundLimits.LimitLaws.{abs-quotient}
 use Rattle.graph_print.specs.Listing.{depth_of}
 use Rattle.listing_reader.specs.Listable.{IsSmallInteger}
 use Rattle.loop_spans.proofs.SpanLaws.{fixed_is_constant}

@@ -1,5 +1,5 @@
 use fv_tree::{Block, Expr, Memory, Name, Seq, Stmt};
-use nest_parts::Numbering;
+use find_nests::nest_parts::Numbering;
 use nest_tree::Part;
 use std::alloc::Global;
 use std::test::Fail;

@@ -1,4 +1,4 @@
-use array_places::{
+use array_storage::array_places::{
     Selection, Writes, count, extents, place, select, select_all, values_at, writes_under,
 };
 use array_values::{Failure, Known, Prepared, Selector};

@@ -5,7 +5,7 @@ use Rattle.std.proofs.lemmas.Bool.Decides.{Decides-ltb}
 use Rattle.fv_meaning.specs.Blocks.{statements_of, statements_in_arms, statements_in}
 use Rattle.fv_tree.specs.Plain.{Statement, Assignment, Where, If, Do, Label, GoTo, Stop, Read, Print, Allocate}
 use Rattle.fv_tree.specs.Plain.{Deallocate, Arms, no_arms, arm, Block, no_statements, statement}
-use Rattle.nest_parts.specs.Numbers.{after, after_arms, after_block, next}
+use Rattle.find_nests.specs.nest_parts.Numbers.{after, after_arms, after_block, next}
 
 -- ---- the next number
 

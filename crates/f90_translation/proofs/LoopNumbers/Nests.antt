@@ -13,7 +13,7 @@ use Rattle.f90_translation.proofs.LoopNumbers.Behind.{next_from_one, next_is}
 use Rattle.f90_translation.proofs.LoopNumbers.Order.{IsBelow, IsEarlier, all_between, same_loop}
 use Rattle.f90_translation.specs.loop_numbers.Laws.{LoopNumbersCount, LoopsAreNumbered, NestsAreNumbered}
 use Rattle.f90_translation.specs.loop_numbers.Numbers.{ComesBefore, loop_number, nests_among}
-use Rattle.nest_parts.specs.Numbers.{next}
+use Rattle.find_nests.specs.nest_parts.Numbers.{next}
 use Rattle.nest_tree.specs.Plain.{Nest}
 use Rattle.profile_laws.proofs.Lists.{cases_of, nowhere}
 use Rattle.normal_laws.proofs.ReadyNests.Lists.{Each-weaker}

@@ -9,7 +9,7 @@ use Rattle.fv_tree.specs.Plain.{Statement, Assignment, Where, If, Do, Label, GoT
 use Rattle.fv_tree.specs.Plain.{Deallocate, Arms, no_arms, arm, Block, no_statements, statement}
 use Rattle.f90_translation.proofs.LoopNumbers.Behind.{after_least, after_arms_least, after_block_least, after_most, after_arms_most}
 use Rattle.f90_translation.proofs.LoopNumbers.Behind.{after_block_most, next_is}
-use Rattle.nest_parts.specs.Numbers.{after, after_arms, after_block, next}
+use Rattle.find_nests.specs.nest_parts.Numbers.{after, after_arms, after_block, next}
 use Rattle.profile_laws.proofs.Lists.{cases_of, nowhere}
 use Rattle.normal_laws.proofs.ReadyNests.Lists.{Each-Contains, Each-weaker}
 

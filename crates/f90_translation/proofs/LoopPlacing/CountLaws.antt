@@ -1,6 +1,6 @@
 -- The numbers of loops in the trees of a program.
 use Rattle.fv_tree.proofs.Equations.{statement_equations}
-use Rattle.nest_parts.proofs.PartLaws.{after-if, after-do, after-arm, after-block}
+use Rattle.find_nests.proofs.NestParts.PartLaws.{after-if, after-do, after-arm, after-block}
 
 pub ruleset count_laws = (statement_equations, after-if, after-do, after-arm)
 

@@ -17,8 +17,8 @@ use Rattle.last_values.specs.InPlace.{parts_behind}
 use Rattle.last_values.specs.declared.behind.NestedLoop.{NestedLoop}
 use Rattle.loop_normal.specs.Bodies.{counting, normal_branches, normal_part, normal_parts, normal_turns, placed}
 use Rattle.loop_normal.specs.Loops.{with_loop}
-use Rattle.nest_parts.specs.Numbers.{after, after_arms, after_block, next}
-use Rattle.nest_parts.specs.Statements.{branches_of, parts_of, parts_of_block}
+use Rattle.find_nests.specs.nest_parts.Numbers.{after, after_arms, after_block, next}
+use Rattle.find_nests.specs.nest_parts.Statements.{branches_of, parts_of, parts_of_block}
 use Rattle.nest_tree.specs.Bodies as bodies
 use Rattle.nest_tree.specs.Bodies.{nest_statements, statements_in_branches, statements_in_parts}
 use Rattle.nest_tree.specs.Plain.{Branches, Choice, Jump, Loop, Nest, Part, Parts, Run, Turns, branch, no_branches}

@@ -13,8 +13,8 @@ use Rattle.fv_meaning.specs.Value.{named}
 use Rattle.fv_tree.specs.Plain.{Allocate, Arms, Assignment, Block, Deallocate, Declaration, Do, Expression, GoTo, If}
 use Rattle.fv_tree.specs.Plain.{Label, Print, Read, Reference, Statement, Stop, Where, arm, no_arms, no_statements}
 use Rattle.fv_tree.specs.Plain.{statement}
-use Rattle.nest_parts.specs.Numbers.{after, after_arms, after_block, next}
-use Rattle.nest_parts.specs.Statements.{branches_of, parts_of, parts_of_block}
+use Rattle.find_nests.specs.nest_parts.Numbers.{after, after_arms, after_block, next}
+use Rattle.find_nests.specs.nest_parts.Statements.{branches_of, parts_of, parts_of_block}
 use Rattle.nest_tree.specs.Plain.{Branches, Choice, Guarded, Jump, Loop, Part, Parts, Run, Turns, branch, no_branches}
 use Rattle.nest_tree.specs.Plain.{no_parts, part, parts}
 use Rattle.nest_tree.specs.Plain as tree

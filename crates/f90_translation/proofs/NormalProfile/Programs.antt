@@ -17,7 +17,7 @@ use Rattle.fv_tree.specs.Limits.{block_depth77, block_depth90}
 use Rattle.fv_tree.specs.Plain.{Allocate, Arms, Assignment, Block, Deallocate, Do, GoTo, If, Label, Print, Program}
 use Rattle.fv_tree.specs.Plain.{Read, Statement, Stop, Where, arm, block, no_arms, no_statements, statement}
 use Rattle.f90_translation.specs.loop_placing.Placing.{block_at, instead, placed, placed_arms, placed_in}
-use Rattle.nest_parts.specs.Numbers.{after, after_arms, after_block, next}
+use Rattle.find_nests.specs.nest_parts.Numbers.{after, after_arms, after_block, next}
 use Rattle.nest_tree.specs.Blocks.{block_of_nest}
 use Rattle.nest_tree.specs.Plain.{Nest}
 use Rattle.f90_translation.proofs.PlacedProfile.Labels.{block_of_statements}

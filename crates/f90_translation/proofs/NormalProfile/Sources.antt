@@ -16,8 +16,8 @@ use Rattle.fv_rewrite.specs.Profile.{deepest_in, deepest_in_arms, deepest_of}
 use Rattle.fv_tree.specs.Plain.{Allocate, Arms, Assignment, Block, Deallocate, Declaration, Do, Expression, GoTo, If}
 use Rattle.fv_tree.specs.Plain.{Label, Named, Print, Read, Reference, Statement, Stop, Where, arm, no_arms}
 use Rattle.fv_tree.specs.Plain.{no_statements, statement}
-use Rattle.nest_parts.specs.Numbers.{after, after_arms, after_block, next}
-use Rattle.nest_parts.specs.Statements.{branches_of, parts_of, parts_of_block}
+use Rattle.find_nests.specs.nest_parts.Numbers.{after, after_arms, after_block, next}
+use Rattle.find_nests.specs.nest_parts.Statements.{branches_of, parts_of, parts_of_block}
 use Rattle.nest_tree.specs.Plain.{Choice, Guarded, Jump, Loop, Part, Parts, Run, Turns, no_parts, part, parts}
 use Rattle.nest_tree.specs.Plain as tree
 use Rattle.f90_translation.specs.placed_profile.Laws.{IsWithoutLabels}

@@ -10,7 +10,7 @@ use Rattle.fv_meaning.specs.Blocks.{label_of, labels_of, all_labels_of, all_labe
 use Rattle.fv_meaning.specs.Blocks.{targets_of, targets_in, targets_in_arms}
 use Rattle.find_nests.specs.Loops.{Placed, SourceLoop, loops_in, loops_in_arms, loops_in_block}
 use Rattle.f90_translation.specs.loop_placing.Placing.{block_at, instead, placed, placed_arms, placed_in, statements_in}
-use Rattle.nest_parts.specs.Numbers.{after, after_arms, after_block, next}
+use Rattle.find_nests.specs.nest_parts.Numbers.{after, after_arms, after_block, next}
 use Rattle.f90_translation.specs.placed_profile.Laws.{SuitsLoop}
 
 -- ---- blocks and lists

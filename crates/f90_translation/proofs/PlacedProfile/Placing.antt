@@ -23,7 +23,7 @@ use Rattle.fv_meaning.specs.Typed.{declared, dimensions, number_of_subscripts}
 use Rattle.fv_meaning.specs.Typed77.{IsDoVariable}
 use Rattle.find_nests.specs.Loops.{Placed, SourceLoop, as_statement, loops_in, loops_in_arms, loops_in_block}
 use Rattle.f90_translation.specs.loop_placing.Placing.{block_at, instead, placed, placed_arms, placed_in}
-use Rattle.nest_parts.specs.Numbers.{after, after_arms, after_block, next}
+use Rattle.find_nests.specs.nest_parts.Numbers.{after, after_arms, after_block, next}
 use Rattle.f90_translation.proofs.PlacedProfile.Labels.{block_of_statements, labels-append, HasSameLabels, Suit, block_labels}
 use Rattle.f90_translation.proofs.PlacedProfile.SourceNames.{source_name}
 use Rattle.f90_translation.specs.placed_profile.Laws.{AreSourceNames, PlacedProgramIsProgram, SuitsLoop}

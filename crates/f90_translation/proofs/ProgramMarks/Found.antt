@@ -10,7 +10,7 @@ use Rattle.find_nests.specs.Loops.{Numbered, Placed, is_in_no_nest, reason_of}
 use Rattle.find_nests.specs.declared.reasons.Reason.{Reason}
 use Rattle.fv_tree.specs.Plain.{Program}
 use Rattle.f90_translation.specs.loop_numbers.Numbers.{ComesBefore, loop_number, nests_among}
-use Rattle.nest_parts.specs.Numbers.{next}
+use Rattle.find_nests.specs.nest_parts.Numbers.{next}
 use Rattle.nest_tree.specs.Plain.{Nest}
 use Rattle.profile_laws.proofs.Lists.{cases_of, here, nowhere, there}
 use Rattle.f90_translation.proofs.ProgramMarks.Placed.{is_nest, nest_numbers, number_of}

@@ -24,7 +24,7 @@ use Rattle.f90_translation.proofs.LoopNumbers.Nests.{loops_are_numbered, nests_a
 use Rattle.f90_translation.specs.loop_numbers.Numbers.{loop_number, nests_among}
 use Rattle.f90_translation.specs.loop_placing.Placing.{block_at, placed_in}
 use Rattle.f90_translation.specs.nest_blocks.Answers.{AreAnswers, ArePlaced, Puts}
-use Rattle.nest_parts.specs.Numbers.{next}
+use Rattle.find_nests.specs.nest_parts.Numbers.{next}
 use Rattle.nest_tree.specs.Plain.{Nest}
 use Rattle.profile_laws.proofs.Lists.{nowhere}
 use Rattle.f90_translation.specs.nest_blocks.LoopAnswers.{Answer, IsRight, Kept, Translated, Untested, found_by}

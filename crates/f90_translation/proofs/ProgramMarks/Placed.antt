@@ -13,7 +13,7 @@ use Rattle.find_nests.specs.Loops.{Placed, SourceLoop, is_in_no_nest, is_kept, l
 use Rattle.fv_meaning.specs.Blocks.{Surroundings, before_labels, labels_of, within_loop}
 use Rattle.fv_meaning.specs.Profile77.{AreArms, IsBlock, IsStatement}
 use Rattle.f90_translation.specs.loop_placing.Placing.{block_at, instead, placed, placed_arms, placed_in, statements_in}
-use Rattle.nest_parts.specs.Numbers.{after, after_arms, after_block, next}
+use Rattle.find_nests.specs.nest_parts.Numbers.{after, after_arms, after_block, next}
 use Rattle.profile_laws.proofs.Lists.{here, there}
 use Rattle.f90_translation.specs.program_marks.Marks.{within}
 use Rattle.f90_translation.proofs.ProgramMarks.Rounds.{all_within, marked_after}

@@ -33,7 +33,7 @@ use Rattle.f90_translation.proofs.MadeDeclarations.Made.{made_names}
 use Rattle.f90_translation.specs.made_declarations.Declaring.{integer_scalar, with_integers}
 use Rattle.f90_translation.specs.made_declarations.Laws.{AreWith, IsMadeName, WithMadeNames}
 use Rattle.f90_translation.specs.nest_blocks.Blocks.{AreNestBlocks, IsBlockOfLoop}
-use Rattle.nest_parts.specs.Numbers.{next}
+use Rattle.find_nests.specs.nest_parts.Numbers.{next}
 use Rattle.f90_translation.proofs.NestProfile.Law.{translation_is_of_profile}
 use Rattle.f90_translation.specs.nest_profile.Laws.{TranslationIsOfProfile}
 use Rattle.f90_translation.proofs.NestTranslation.Endings.{last_values_end}

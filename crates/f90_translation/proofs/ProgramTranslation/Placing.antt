@@ -6,7 +6,7 @@ use Rattle.fv_tree.specs.Plain.{Statement, Assignment, Where, If, Do, Label, GoT
 use Rattle.fv_tree.specs.Plain.{Arms, no_arms, arm, Block, no_statements, statement, block, Program}
 use Rattle.find_nests.specs.Loops.{Placed, SourceLoop, as_statement, loops_in, loops_in_arms, loops_in_block}
 use Rattle.f90_translation.specs.loop_placing.Placing.{block_at, instead, placed, placed_arms, placed_in, statements_in}
-use Rattle.nest_parts.specs.Numbers.{after, after_arms, after_block, next}
+use Rattle.find_nests.specs.nest_parts.Numbers.{after, after_arms, after_block, next}
 use Rattle.nest_tree.specs.Blocks.{block_then}
 use Rattle.f90_translation.specs.placed_loops.Beside.{DoesAs}
 use Rattle.f90_translation.specs.placed_loops.Placed.{ArePlaced, HasNoLabel, IsPlaced, StandsFor}

@@ -10,7 +10,7 @@ use Rattle.fv_meaning.specs.Profile77.{IsStatement, AreArms, IsBlock, IsProgram7
 use Rattle.f90_translation.proofs.PlacedProfile.Placing.{one_more, variable_name}
 use Rattle.f90_translation.specs.placed_profile.Laws.{AreSourceNames}
 use Rattle.profile_laws.proofs.Lists.{nowhere}
-use Rattle.nest_parts.specs.Numbers.{next, after, after_arms, after_block}
+use Rattle.find_nests.specs.nest_parts.Numbers.{next, after, after_arms, after_block}
 use Rattle.find_nests.specs.Loops.{SourceLoop, Placed, as_statement, loops_in, loops_in_arms, loops_in_block}
 
 module _ {p : Program} (program : IsProgram77 fortran77 p) where

@@ -11,8 +11,8 @@ use Rattle.fv_meaning.specs.Blocks.{all_labels_in, all_labels_of, targets_in, ta
 use Rattle.fv_tree.specs.Plain.{Expression, Reference, Statement, Assignment, Where, If, Do, Label, GoTo, Stop, Read}
 use Rattle.fv_tree.specs.Plain.{Print, Allocate, Deallocate, Block, arm, no_arms, no_statements, statement}
 use Rattle.fv_tree.specs.declared.stmts.Mark.{Mark}
-use Rattle.nest_parts.specs.Numbers.{after, next}
-use Rattle.nest_parts.specs.Statements.{parts_of, parts_of_block}
+use Rattle.find_nests.specs.nest_parts.Numbers.{after, next}
+use Rattle.find_nests.specs.nest_parts.Statements.{parts_of, parts_of_block}
 use Rattle.f90_translation.proofs.NestTranslation.Endings.{AreEndings, IsEnding}
 use Rattle.nest_tree.specs.Blocks.{allocation_then, allocations_then, block_then, deallocation_then, deallocations}
 use Rattle.nest_tree.specs.Plain.{Made, Nest, parts}

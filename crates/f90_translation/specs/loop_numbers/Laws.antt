@@ -6,7 +6,7 @@ use Rattle.find_nests.specs.Loops.{Placed, loops_in_block}
 use Rattle.fv_meaning.specs.Dialect.{fortran77}
 use Rattle.fv_meaning.specs.Profile77.{IsProgram77}
 use Rattle.fv_tree.specs.Plain.{Program}
-use Rattle.nest_parts.specs.Numbers.{next}
+use Rattle.find_nests.specs.nest_parts.Numbers.{next}
 use Rattle.nest_tree.specs.Plain.{Nest}
 use Rattle.f90_translation.specs.loop_numbers.Numbers.{ComesBefore, loop_number, nests_among}
 

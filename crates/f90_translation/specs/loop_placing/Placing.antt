@@ -5,7 +5,7 @@ use Rattle.fv_tree.specs.Plain.{Statement, Assignment, Where, If, Do, Label, GoT
 use Rattle.fv_tree.specs.Plain.{Deallocate, Arms, no_arms, arm, Block, no_statements, statement, block}
 use Rattle.fv_tree.specs.View.{Tested, block_of}
 use Rattle.fv_tree.specs.declared.stmts.Block.{Block as Tree}
-use Rattle.nest_parts.specs.Numbers.{after, after_arms, after_block, next}
+use Rattle.find_nests.specs.nest_parts.Numbers.{after, after_arms, after_block, next}
 
 abbrev pub statements_in : Block → List Statement
 statements_in no_statements = []

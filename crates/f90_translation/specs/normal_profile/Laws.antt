@@ -15,7 +15,7 @@ use Rattle.fv_meaning.specs.Typed77.{deepest}
 use Rattle.fv_rewrite.specs.Profile.{deepest_in, deepest_of}
 use Rattle.loop_normal.specs.Normalised.{normalised}
 use Rattle.f90_translation.specs.loop_placing.Placing.{block_at, placed_in}
-use Rattle.nest_parts.specs.Numbers.{next}
+use Rattle.find_nests.specs.nest_parts.Numbers.{next}
 use Rattle.nest_tree.specs.Blocks.{block_of_nest}
 use Rattle.nest_tree.specs.Bodies.{nest_loops}
 use Rattle.nest_tree.specs.Plain.{Loop, Nest}

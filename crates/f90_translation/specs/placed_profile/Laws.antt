@@ -9,7 +9,7 @@ use Rattle.fv_meaning.specs.Dialect.{fortran77}
 use Rattle.fv_meaning.specs.Profile77.{IsProgram77, IsStatement}
 use Rattle.fv_meaning.specs.Profile90.{IsBlock, IsProgram90}
 use Rattle.f90_translation.specs.loop_placing.Placing.{block_at, placed_in}
-use Rattle.nest_parts.specs.Numbers.{next}
+use Rattle.find_nests.specs.nest_parts.Numbers.{next}
 use Rattle.profile_laws.specs.Profiles.{AddMadeNames}
 
 -- no label and no jump in it

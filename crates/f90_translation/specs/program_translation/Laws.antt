@@ -12,7 +12,7 @@ use Rattle.fv_meaning.specs.Profile90.{IsBlock, IsProgram90}
 use Rattle.fv_meaning.specs.Store.{names_of}
 use Rattle.fv_meaning.specs.Typed.{declared}
 use Rattle.f90_translation.specs.loop_placing.Placing.{block_at, placed_in}
-use Rattle.nest_parts.specs.Numbers.{next}
+use Rattle.find_nests.specs.nest_parts.Numbers.{next}
 use Rattle.f90_translation.specs.nest_translation.Laws.{IsTranslatedNest}
 use Rattle.nest_tree.specs.Bodies.{nest_loops}
 use Rattle.nest_tree.specs.Plain.{Loop, Nest}

@@ -1,7 +1,7 @@
 //! How many loops stand in a block.
 ghost use Rattle.std.specs.Prelude.{◌≡◌, map};
 ghost use Rattle.fv_tree.specs.View.{block_of, statement_of, tested_of};
-ghost use Rattle.nest_parts.specs.Numbers.{next, after, after_block, after_each, after_list};
+ghost use Rattle.find_nests.specs.nest_parts.Numbers.{next, after, after_block, after_each, after_list};
 
 use fv_tree::{Arm, Block, Seq, Stmt};
 

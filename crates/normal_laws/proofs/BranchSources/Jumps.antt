@@ -12,8 +12,8 @@ use Rattle.fv_meaning.specs.Blocks.{Surroundings, all_labels_in, all_labels_in_a
 use Rattle.fv_meaning.specs.Blocks.{labels_of, within_loop}
 use Rattle.fv_meaning.specs.Profile77.{AreArms, IsBlock, IsStatement}
 use Rattle.nest_tree.specs.Plain.{Part, parts}
-use Rattle.nest_parts.specs.Numbers.{after, after_arms, after_block, next}
-use Rattle.nest_parts.specs.Statements.{branches_of, parts_of, parts_of_block}
+use Rattle.find_nests.specs.nest_parts.Numbers.{after, after_arms, after_block, next}
+use Rattle.find_nests.specs.nest_parts.Statements.{branches_of, parts_of, parts_of_block}
 use Rattle.nest_reasons.specs.Flaws.{arrives, exits, jumps_over_loop, loop_in_if, loop_then_label}
 use Rattle.nest_reasons.specs.Loops.{any_in_arms, any_in_block, any_loop, has_flaw}
 use Rattle.nest_reasons.specs.Marks.{marks_in_arms, marks_in_block, own_marks}

@@ -12,8 +12,8 @@ use Rattle.fv_meaning.specs.Blocks.{all_labels_in, all_labels_in_arms, all_label
 use Rattle.nest_runs.proofs.Results.{true_false}
 use Rattle.nest_tree.specs.Bodies.{loops_in_branches, loops_in_parts, loops_of}
 use Rattle.nest_tree.specs.Plain.{Part, parts}
-use Rattle.nest_parts.specs.Numbers.{after, after_arms, after_block}
-use Rattle.nest_parts.specs.Statements.{branches_of, parts_of, parts_of_block}
+use Rattle.find_nests.specs.nest_parts.Numbers.{after, after_arms, after_block}
+use Rattle.find_nests.specs.nest_parts.Statements.{branches_of, parts_of, parts_of_block}
 use Rattle.nest_reasons.specs.Flaws.{arrives, is_loop, jumps_over_loop, leaves, loop_then_label, passes_loop, stands_in_if}
 use Rattle.nest_reasons.specs.Marks.{marks_in_arms, marks_in_block, own_marks}
 use Rattle.nest_reasons.specs.declared.marks.Mark.{Mark}

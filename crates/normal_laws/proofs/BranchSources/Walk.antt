@@ -17,8 +17,8 @@ use Rattle.fv_rewrite.specs.Names.{uses_in, uses_in_arms, uses_in_block, uses_in
 use Rattle.components.specs.Lists.{Each}
 use Rattle.components.proofs.ListLaws.{Each-append}
 use Rattle.nest_tree.specs.Plain.{parts}
-use Rattle.nest_parts.specs.Numbers.{next, after, after_arms, after_block}
-use Rattle.nest_parts.specs.Statements.{branches_of, parts_of, parts_of_block}
+use Rattle.find_nests.specs.nest_parts.Numbers.{next, after, after_arms, after_block}
+use Rattle.find_nests.specs.nest_parts.Statements.{branches_of, parts_of, parts_of_block}
 use Rattle.find_nests.specs.Loops.{SourceLoop, Placed, loops_in, loops_in_arms, loops_in_block}
 use Rattle.array_laws.proofs.Members.{cases_of, nowhere}
 use Rattle.profile_laws.proofs.Lists.{here, there}

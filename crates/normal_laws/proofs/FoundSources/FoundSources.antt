@@ -17,7 +17,7 @@ use Rattle.last_values.specs.declared.behind.NestedLoop.{NestedLoop}
 use Rattle.loop_normal.specs.Loops.{is_normal}
 use Rattle.loop_normal.specs.Normalised.{normalised}
 use Rattle.nest_order.specs.Lists as order
-use Rattle.nest_parts.specs.Numbers.{next}
+use Rattle.find_nests.specs.nest_parts.Numbers.{next}
 use Rattle.nest_reasons.specs.Symbols.{is_symbol}
 use Rattle.nest_tree.specs.Bodies.{Standing, nest_loops, nest_statements}
 use Rattle.nest_tree.specs.Plain.{Nest}

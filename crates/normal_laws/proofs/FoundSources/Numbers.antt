@@ -4,7 +4,7 @@ use Rattle.std.specs.Prelude.{nat_lt}
 use Rattle.std.proofs.lemmas.Bool.Decides.{Decides-ltb}
 use Rattle.fv_tree.specs.Plain.{Statement, Assignment, Where, If, Do, Label, GoTo, Stop, Read, Print, Allocate}
 use Rattle.fv_tree.specs.Plain.{Deallocate, Arms, no_arms, arm, Block, no_statements, statement}
-use Rattle.nest_parts.specs.Numbers.{next, after, after_arms, after_block}
+use Rattle.find_nests.specs.nest_parts.Numbers.{next, after, after_arms, after_block}
 
 pub next_small : (k : ℕ) → k ≤ 4294967295 → next k ≤ 4294967295
 next_small k h = by (nat_lt k 4294967295) refl

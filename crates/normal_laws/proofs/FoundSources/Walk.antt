@@ -13,8 +13,8 @@ use Rattle.fv_rewrite.specs.Names.{uses_in_statement, uses_in_block, uses_in_con
 use Rattle.components.specs.Lists.{Each}
 use Rattle.components.proofs.ListLaws.{Each-append}
 use Rattle.nest_tree.specs.Plain.{parts}
-use Rattle.nest_parts.specs.Numbers.{next, after, after_arms, after_block}
-use Rattle.nest_parts.specs.Statements.{parts_of, parts_of_block}
+use Rattle.find_nests.specs.nest_parts.Numbers.{next, after, after_arms, after_block}
+use Rattle.find_nests.specs.nest_parts.Statements.{parts_of, parts_of_block}
 use Rattle.find_nests.specs.Loops.{SourceLoop, Placed, loops_in, loops_in_arms, loops_in_block}
 use Rattle.profile_laws.proofs.Lists.{here, there}
 use Rattle.normal_laws.proofs.ReadyNests.Lists.{Each-weaker}

@@ -20,7 +20,7 @@ use Rattle.nest_reasons.specs.declared.flaws.Flaw.TheVariants.{Step}
 use Rattle.nest_reasons.specs.Increments.{is_suitable, suitable, suitable_or_none, step_of}
 use Rattle.nest_reasons.specs.Loops.{has_flaw, any_loop, any_in_arms, any_in_block}
 use Rattle.nest_tree.specs.Blocks.{numeral}
-use Rattle.nest_parts.specs.Statements.{step_or_zero}
+use Rattle.find_nests.specs.nest_parts.Statements.{step_or_zero}
 use Rattle.normal_laws.specs.nest_sources.Sources.{with_numbers, arms_with_numbers, block_with_numbers}
 use Rattle.normal_laws.proofs.NestLoops.Exits.{neither}
 

@@ -7,8 +7,8 @@ use Rattle.fv_meaning.specs.Relined.{without_lines, arms_without_lines, block_wi
 use Rattle.nest_reasons.specs.Increments.{step_of}
 use Rattle.nest_tree.specs.Plain.{Part, Run, Turns, Choice, Label as Label', Jump, Parts, parts}
 use Rattle.nest_tree.specs.Blocks.{numeral, statement_of_part, block_of_parts, arms_of_branches}
-use Rattle.nest_parts.specs.Numbers.{next, after, after_arms, after_block}
-use Rattle.nest_parts.specs.Statements.{source_loop, step_or_zero, parts_of, branches_of, parts_of_block}
+use Rattle.find_nests.specs.nest_parts.Numbers.{next, after, after_arms, after_block}
+use Rattle.find_nests.specs.nest_parts.Statements.{source_loop, step_or_zero, parts_of, branches_of, parts_of_block}
 use Rattle.find_nests.specs.Loops.{Numbered}
 use Rattle.normal_laws.specs.nest_sources.Sources.{may_stand, arms_may_stand, block_may_stand, with_numbers, arms_with_numbers, block_with_numbers, PartsAreStatements, NestIsLoop}
 

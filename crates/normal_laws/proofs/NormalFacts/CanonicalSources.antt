@@ -18,8 +18,8 @@ use Rattle.fv_tree.specs.Plain.{Label, GoTo, Stop, Read, Print, Allocate, Deallo
 use Rattle.fv_tree.specs.Plain.{no_statements, statement, Declaration, Program}
 use Rattle.fv_tree.specs.declared.ops.Kind.{Kind}
 use Rattle.fv_tree.specs.declared.ops.Kind.TheVariants.{Integer}
-use Rattle.nest_parts.specs.Numbers.{next, after, after_arms, after_block}
-use Rattle.nest_parts.specs.Statements.{parts_of, branches_of, parts_of_block}
+use Rattle.find_nests.specs.nest_parts.Numbers.{next, after, after_arms, after_block}
+use Rattle.find_nests.specs.nest_parts.Statements.{parts_of, branches_of, parts_of_block}
 use Rattle.nest_runs.specs.Touched.{IsPlain, EachIsPlain, ArePlain, IsPlainSubscript}
 use Rattle.nest_tree.specs.Plain.{Loop, Nest, Part, parts}
 use Rattle.normal_laws.proofs.ReadyNests.Lists.{Each-Contains}

@@ -36,8 +36,8 @@ use Rattle.linear_forms.proofs.Sizes.{both}
 use Rattle.linear_forms.specs.Canonical.{AreDistinct}
 use Rattle.nest_order.proofs.Lists.{In-left, In-right}
 use Rattle.nest_order.specs.Lists.{In}
-use Rattle.nest_parts.specs.Numbers.{next, after, after_arms, after_block}
-use Rattle.nest_parts.specs.Statements.{parts_of, branches_of, parts_of_block}
+use Rattle.find_nests.specs.nest_parts.Numbers.{next, after, after_arms, after_block}
+use Rattle.find_nests.specs.nest_parts.Statements.{parts_of, branches_of, parts_of_block}
 use Rattle.nest_reasons.specs.Symbols.{is_integer, is_scalar, is_integer_scalar, is_symbol, symbols_of}
 use Rattle.nest_tree.specs.Plain.{Loop, Guarded, Nest, Part, parts}
 use Rattle.profile_laws.proofs.Lists.{all_at}

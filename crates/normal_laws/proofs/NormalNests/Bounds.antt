@@ -17,8 +17,8 @@ use Rattle.linear_forms.specs.Places.{terms_from}
 use Rattle.linear_forms.proofs.Sizes.{both}
 use Rattle.linear_forms.proofs.TextsKeep.{text_limited}
 use Rattle.components.specs.Lists.{Each}
-use Rattle.bound_limits.specs.Composed as outer
-use Rattle.bound_limits.specs.Composed.{Outer, filled, with_multiples, composed, is_among, those_in}
+use Rattle.find_nests.specs.bound_limits.Composed as outer
+use Rattle.find_nests.specs.bound_limits.Composed.{Outer, filled, with_multiples, composed, is_among, those_in}
 use Rattle.last_values.specs.declared.normal_forms.loops.NormalLoop.{NormalLoop}
 use Rattle.last_values.specs.declared.normal_forms.places.Place.{Place}
 use Rattle.last_values.specs.declared.normal_forms.places.Place.TheVariants as place

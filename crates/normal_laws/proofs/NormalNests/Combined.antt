@@ -13,8 +13,8 @@ use Rattle.linear_forms.specs.Places.{terms_from}
 use Rattle.linear_forms.specs.declared.terms.Terms.{Terms}
 use Rattle.linear_forms.proofs.Merges.{Outcome, pushes}
 use Rattle.linear_forms.proofs.Sizes.{both}
-use Rattle.bound_limits.specs.Limits.{keeps_limits}
-use Rattle.bound_limits.proofs.Lists.{get_or-added, get_or-scaled}
+use Rattle.find_nests.specs.bound_limits.Limits.{keeps_limits}
+use Rattle.find_nests.proofs.BoundLimits.Lists.{get_or-added, get_or-scaled}
 use Rattle.last_values.specs.declared.normal_forms.combinations.Multiple.{Multiple}
 use Rattle.last_values.specs.declared.normal_forms.places.Place.{Place}
 use Rattle.last_values.specs.declared.normal_forms.places.Place.TheVariants as place

@@ -15,11 +15,11 @@ use Rattle.linear_forms.specs.Places.{padded, terms_from, unit_form}
 use Rattle.linear_forms.proofs.Sizes.{both}
 use Rattle.nest_tree.specs.Plain.{Loop}
 use Rattle.nest_tree.specs.declared.parts.Trip.{Trip}
-use Rattle.bound_limits.specs.Composed as outer
-use Rattle.bound_limits.specs.Composed.{Outer}
-use Rattle.bound_limits.specs.Limits.{keeps_limits, plus_constant, difference, is_constant, dividend, folded, end_keeps_limits, normal, all_keep_limits}
-use Rattle.bound_limits.proofs.Lists.{get_or-scaled, added-nil}
-use Rattle.bound_limits.proofs.LimitLaws.{abs-neg}
+use Rattle.find_nests.specs.bound_limits.Composed as outer
+use Rattle.find_nests.specs.bound_limits.Composed.{Outer}
+use Rattle.find_nests.specs.bound_limits.Limits.{keeps_limits, plus_constant, difference, is_constant, dividend, folded, end_keeps_limits, normal, all_keep_limits}
+use Rattle.find_nests.proofs.BoundLimits.Lists.{get_or-scaled, added-nil}
+use Rattle.find_nests.proofs.BoundLimits.LimitLaws.{abs-neg}
 use Rattle.last_values.specs.declared.normal_forms.combinations.Multiple.{Multiple}
 use Rattle.last_values.specs.declared.normal_forms.loops.NormalLoop.{NormalLoop}
 use Rattle.last_values.specs.declared.normal_forms.places.Place.TheVariants as place

@@ -13,8 +13,8 @@ use Rattle.fv_meaning.specs.Reads.{names_in}
 use Rattle.linear_forms.specs.Linear.{Form, added, sum, multiple, constant_form, is_small, all_small, not_zero, is_limited, limited, unit, with_zero, with_no_constant, form_of_name, form_of_sign, form_of_product, form_of_two, form_of_pair, constant_of, constant_or, linear, form_of}
 use Rattle.linear_forms.proofs.Sizes.{both}
 use Rattle.components.specs.Lists.{Each}
-use Rattle.bound_limits.specs.Composed.{Outer, variables_of}
-use Rattle.bound_limits.proofs.Lists.{get_or-added, get_or-scaled, added-nil}
+use Rattle.find_nests.specs.bound_limits.Composed.{Outer, variables_of}
+use Rattle.find_nests.proofs.BoundLimits.Lists.{get_or-added, get_or-scaled, added-nil}
 
 -- ---- lists of coefficients
 

@@ -17,9 +17,9 @@ use Rattle.components.proofs.ListLaws.{Each-append}
 use Rattle.nest_tree.specs.Plain.{Loop, Guarded, Nest, Part, Run, Turns, Choice, Label, Jump, Parts, no_parts, part, parts, Branches, no_branches, branch}
 use Rattle.nest_reasons.specs.Symbols.{is_integer_scalar, is_symbol, symbols_of}
 use Rattle.nest_reasons.specs.declared.flaws.Flaw.TheVariants as flaws
-use Rattle.nest_parts.specs.Numbers.{next, after, after_arms, after_block}
-use Rattle.nest_parts.specs.Statements.{source_loop, parts_of, branches_of, parts_of_block}
-use Rattle.bound_limits.specs.Loops.{any_leaves}
+use Rattle.find_nests.specs.nest_parts.Numbers.{next, after, after_arms, after_block}
+use Rattle.find_nests.specs.nest_parts.Statements.{source_loop, parts_of, branches_of, parts_of_block}
+use Rattle.find_nests.specs.bound_limits.Loops.{any_leaves}
 use Rattle.find_nests.specs.declared.reasons.Reason.{Reason}
 use Rattle.find_nests.specs.declared.reasons.Reason.TheVariants.{Bound, Step as Step', Deep}
 use Rattle.find_nests.specs.Reasons.{has_flawed, has_reason}

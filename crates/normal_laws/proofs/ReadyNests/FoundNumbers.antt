@@ -8,8 +8,8 @@ use Rattle.components.specs.Lists.{Each, Distinct}
 use Rattle.components.proofs.ListLaws.{Each-append}
 use Rattle.nest_tree.specs.Plain.{Nest, parts}
 use Rattle.nest_tree.specs.Bodies.{loops_of, loops_in_parts, loops_in_branches, nest_loops}
-use Rattle.nest_parts.specs.Numbers.{next, after, after_arms, after_block}
-use Rattle.nest_parts.specs.Statements.{parts_of, branches_of, parts_of_block}
+use Rattle.find_nests.specs.nest_parts.Numbers.{next, after, after_arms, after_block}
+use Rattle.find_nests.specs.nest_parts.Statements.{parts_of, branches_of, parts_of_block}
 use Rattle.find_nests.specs.Loops.{SourceLoop, Numbered, Placed, loops_in, loops_in_arms, loops_in_block}
 use Rattle.find_nests.specs.Found.{body_of}
 use Rattle.find_nests.proofs.FoundLaws.{found_nest_is_loop}

@@ -8,7 +8,7 @@ use Rattle.fv_meaning.specs.Profile77.{IsProgram77}
 use Rattle.components.specs.Lists.{Each, Distinct}
 use Rattle.nest_tree.specs.Plain.{Nest}
 use Rattle.nest_tree.specs.Bodies.{Standing, nest_statements}
-use Rattle.nest_parts.specs.Numbers.{next}
+use Rattle.find_nests.specs.nest_parts.Numbers.{next}
 use Rattle.nest_graph.specs.Ready.{IsElement, IsReadyStatement, HaveEqualRank}
 use Rattle.nest_graph.specs.References.{references_of}
 use Rattle.find_nests.specs.Found.{InNest, found_in}

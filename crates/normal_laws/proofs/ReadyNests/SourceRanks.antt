@@ -20,8 +20,8 @@ use Rattle.components.proofs.ListLaws.{Each-append}
 use Rattle.nest_tree.specs.Plain.{Loop, Guarded, Part, parts}
 use Rattle.nest_reasons.specs.Symbols.{is_integer, is_scalar, is_integer_scalar, is_symbol, symbols_of}
 use Rattle.fv_rewrite.specs.Names.{names_written_in}
-use Rattle.nest_parts.specs.Numbers.{next, after, after_arms, after_block}
-use Rattle.nest_parts.specs.Statements.{parts_of, branches_of, parts_of_block}
+use Rattle.find_nests.specs.nest_parts.Numbers.{next, after, after_arms, after_block}
+use Rattle.find_nests.specs.nest_parts.Statements.{parts_of, branches_of, parts_of_block}
 use Rattle.find_nests.specs.Loops.{SourceLoop, Placed, loops_in, loops_in_arms, loops_in_block}
 use Rattle.nest_graph.specs.Ready.{subscript_count}
 use Rattle.last_values.specs.normal_forms.NormalLoops.{counter_name}

@@ -16,7 +16,7 @@ use Rattle.linear_forms.specs.Places.{padded, terms_from}
 use Rattle.linear_forms.specs.declared.terms.Terms.{Terms}
 use Rattle.linear_forms.proofs.Merges.{Outcome, pushes, then_same}
 use Rattle.linear_forms.proofs.Sizes.{both}
-use Rattle.bound_limits.proofs.LimitLaws.{abs-quotient}
+use Rattle.find_nests.proofs.BoundLimits.LimitLaws.{abs-quotient}
 use Rattle.dep_graph.proofs.Shapes.{affine_is_form}
 use Rattle.last_values.specs.declared.normal_forms.combinations.Multiple.{Multiple}
 use Rattle.last_values.specs.declared.normal_forms.places.Place.TheVariants as place

@@ -6,7 +6,7 @@ use Rattle.fv_meaning.specs.Relined.{without_lines, block_without_lines}
 use Rattle.nest_reasons.specs.Increments.{step_of}
 use Rattle.nest_tree.specs.Plain.{parts}
 use Rattle.nest_tree.specs.Blocks.{numeral, statement_of_part, block_of_parts}
-use Rattle.nest_parts.specs.Statements.{step_or_zero, parts_of_block}
+use Rattle.find_nests.specs.nest_parts.Statements.{step_or_zero, parts_of_block}
 use Rattle.find_nests.specs.Loops.{Numbered, as_statement}
 use Rattle.find_nests.specs.Found.{body_of}
 

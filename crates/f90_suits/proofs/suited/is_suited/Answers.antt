@@ -1,6 +1,6 @@
 use Rattle.std.proofs.Common.{Option, subst}
-use Rattle.f90_statement_trees.specs.Results.{Gives}
-use Rattle.f90_statement_trees.specs.declared.nodes.StatementTree.{StatementTree}
+use Rattle.f90_blocks.specs.statement_trees.Results.{Gives}
+use Rattle.f90_blocks.specs.declared.statement_trees.nodes.StatementTree.{StatementTree}
 use Rattle.f90_trees.specs.Hiding.{function_in}
 use Rattle.f90_suits.proofs.Texts.{suited_of_tree, suited_of_none}
 use Rattle.f90_suits.proofs.suited.is_suited.Goals as goal

@@ -5,7 +5,7 @@ use Rattle.f90_grammar.specs.Blocks.{Placed}
 use Rattle.f90_grammar.specs.Reading.{function_by}
 use Rattle.f90_statements.specs.Views.{AreOf}
 use Rattle.f90_places.specs.forms.Places.{IsPlacedOf}
-use Rattle.f90_statement_trees.proofs.LoopLaws.{passed, ended, one_of, are_more}
+use Rattle.f90_blocks.proofs.StatementTrees.LoopLaws.{passed, ended, one_of, are_more}
 use Rattle.f90_suits.proofs.Texts.{IsGoodPlaced, TreesUpTo, trees_begun}
 use Rattle.f90_suits.proofs.treed.trees.Goals as goal
 

@@ -4,8 +4,8 @@ use mathlib.Core.Path.{ap₂}
 use Rattle.fv_meaning.specs.Sections.{axes_on}
 use Rattle.fv_machine.specs.Storage.{bounds_list}
 use Rattle.array_values.specs.Selections.{selector_in}
-use Rattle.array_places.specs.Places.{values_there}
-use Rattle.array_places.specs.Selecting.{SelectsThese}
+use Rattle.array_storage.specs.array_places.Places.{values_there}
+use Rattle.array_storage.specs.array_places.Selecting.{SelectsThese}
 use Rattle.array_storage.proofs.PartLaws.{part_is}
 use Rattle.array_storage.proofs.slots.Slot.part.Goals as goal
 

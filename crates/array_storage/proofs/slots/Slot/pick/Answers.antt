@@ -1,7 +1,7 @@
 use Rattle.std.proofs.Common.{map}
 use Rattle.fv_machine.specs.Storage.{bounds_list}
 use Rattle.array_values.specs.Selections.{selector_in}
-use Rattle.array_places.specs.Selecting.{Selects}
+use Rattle.array_storage.specs.array_places.Selecting.{Selects}
 use Rattle.array_storage.specs.Targets.{part_of}
 use Rattle.array_storage.proofs.TargetLaws.{none_picked, picked}
 use Rattle.array_storage.proofs.slots.Slot.pick.Goals as goal

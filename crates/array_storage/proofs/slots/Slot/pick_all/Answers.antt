@@ -1,6 +1,6 @@
 use Rattle.fv_machine.specs.Storage.{bounds_list}
 use Rattle.fv_meaning.specs.Sections.{whole_axes}
-use Rattle.array_places.specs.Selecting.{IsSelection}
+use Rattle.array_storage.specs.array_places.Selecting.{IsSelection}
 use Rattle.array_storage.specs.Targets.{all_of}
 use Rattle.array_storage.proofs.TargetLaws.{none_picked, picked_all}
 use Rattle.array_storage.proofs.slots.Slot.pick_all.Goals as goal

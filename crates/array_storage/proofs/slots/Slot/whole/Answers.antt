@@ -3,8 +3,8 @@ use Rattle.std.specs.Prelude.{All, ◌<◌, length}
 use mathlib.Core.Path.{ap₂}
 use Rattle.fv_meaning.specs.Sections.{whole_axes}
 use Rattle.fv_machine.specs.Storage.{bounds_list}
-use Rattle.array_places.specs.Places.{values_there}
-use Rattle.array_places.specs.Selecting.{IsSelection}
+use Rattle.array_storage.specs.array_places.Places.{values_there}
+use Rattle.array_storage.specs.array_places.Selecting.{IsSelection}
 use Rattle.array_storage.proofs.PartLaws.{whole_is}
 use Rattle.array_storage.proofs.slots.Slot.whole.Goals as goal
 

@@ -1,6 +1,6 @@
 use Rattle.std.specs.BTreeSet.{contains}
 use Rattle.std.specs.Ordering.{nat_cmp}
-use Rattle.f90_statement_trees.specs.declared.nodes.StatementTree.TheVariants as trees
+use Rattle.f90_blocks.specs.declared.statement_trees.nodes.StatementTree.TheVariants as trees
 use Rattle.f90_blocks.proofs.Steps.{simple_step, test_step, label_step, if_step, arm_step, else_step, end_if_step}
 use Rattle.f90_blocks.proofs.Steps.{do_step, end_do_step, next_as}
 use Rattle.f90_blocks.proofs.open.Rest.begin.Goals as goal

@@ -1,7 +1,7 @@
 -- The number so far, and what is left, say what the whole says.
 use Rattle.std.proofs.Common.{◌≡◌, map, drop}
 use Rattle.fv_tree.specs.View.{statement_of, tested_of}
-use Rattle.nest_parts.specs.Numbers.{after_each, after_list}
+use Rattle.find_nests.specs.nest_parts.Numbers.{after_each, after_list}
 use Rattle.f90_translation.proofs.loop_placing.counting.+counting.Given as goal
 
 abbrev pub invariant-after_stmts-loop-stmt : goal.invariant-after_stmts-loop-stmt

@@ -4,7 +4,7 @@ use Rattle.fv_tree.specs.View.{expression_of, declaration_of, statement_of, bloc
 use Rattle.fv_tree.specs.declared.stmts.Stmt.TheVariants as stmts
 use Rattle.nest_reasons.specs.Symbols.{symbols_of}
 use Rattle.nest_tree.specs.Plain.{Nest}
-use Rattle.nest_parts.specs.Numbers.{next}
+use Rattle.find_nests.specs.nest_parts.Numbers.{next}
 use Rattle.find_nests.specs.Reasons.{reason_over}
 use Rattle.find_nests.specs.Loops.{Numbered}
 use Rattle.find_nests.specs.Found.{InNest, Kept, found_of, found_among, nest_of_loop}

@@ -2,7 +2,7 @@ use Rattle.std.proofs.Common.{◌≡◌, map, rules}
 use Rattle.fv_tree.specs.View.{expression_of, block_of, declaration_of, program_of}
 use Rattle.nest_tree.specs.View.{part_of}
 use Rattle.nest_reasons.specs.Symbols.{symbols_of}
-use Rattle.nest_parts.specs.Numbers.{next}
+use Rattle.find_nests.specs.nest_parts.Numbers.{next}
 use Rattle.find_nests.specs.Loops.{Numbered}
 use Rattle.find_nests.specs.Found.{body_of}
 use Rattle.find_nests.proofs.SearchLaws.{nest-is}

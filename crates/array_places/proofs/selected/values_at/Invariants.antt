@@ -1,6 +1,0 @@
-use Rattle.std.proofs.Common.{◌≡◌, ◌++◌, drop}
-use Rattle.array_places.specs.Places.{values_there}
-use Rattle.array_places.proofs.selected.values_at.Given as goal
-
-abbrev pub invariant-loop-place : goal.invariant-loop-place
-invariant-loop-place l = l.all.items ++ values_there l.values (drop l.place-index l.places) ≡ values_there l.values l.places

@@ -1,5 +1,0 @@
-use Rattle.std.proofs.Common.{length}
-use Rattle.bound_limits.proofs.around.+with_multiples.Given as goal
-
-abbrev pub decreases-with_multiples : goal.decreases-with_multiples
-decreases-with_multiples l = length l.around.now

@@ -1,8 +1,0 @@
-use Rattle.std.proofs.Common.{◌≡◌, map, take}
-use Rattle.std.specs.List.{filter}
-use Rattle.bound_limits.specs.Composed.{is_among, variables_of}
-use Rattle.bound_limits.specs.View.{outer_of}
-use Rattle.bound_limits.proofs.around.those_among.Given as goal
-
-abbrev pub invariant-loop-outer : goal.invariant-loop-outer
-invariant-loop-outer l = l.variables ≡ variables_of (filter (is_among l.names) (map outer_of (take l.outer-index l.around)))

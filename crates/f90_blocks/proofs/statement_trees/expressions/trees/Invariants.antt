@@ -1,0 +1,14 @@
+use Rattle.std.proofs.Common.{◌≡◌, List, map}
+use Rattle.fv_tree.specs.View.{expression_of}
+use Rattle.f90_grammar.specs.Phrases.{Phrase}
+use Rattle.f90_expr.specs.Reading.{IsMadeOf}
+use Rattle.f90_statements.specs.Views.{AreOf}
+use Rattle.f90_trees.specs.Hiding.{function_in}
+use Rattle.f90_blocks.specs.statement_trees.Results.{held_trees}
+use Rattle.f90_blocks.proofs.StatementTrees.LoopLaws.{IsUpTo}
+use Rattle.f90_blocks.proofs.statement_trees.expressions.trees.Given as goal
+
+abbrev pub invariant-making : goal.invariant-making
+invariant-making l = (all : List Phrase) → AreOf IsMadeOf l.expressions all
+    → IsUpTo IsMadeOf (λ (done : List Phrase). map expression_of l.made
+    ≡ held_trees (function_in l.functions) done) l.expressions l.expression-index all

@@ -1,0 +1,49 @@
+-- What the code holds of an executable statement: its trees.
+use Rattle.std.specs.Prelude.{◌≡◌, ℕ, false, Option, Some, None, List, [], ◌∷◌}
+use Rattle.fv_tree.specs.View.{expression_of, statement_of}
+use Rattle.fv_tree.specs.declared.functions.Intrinsic.{Intrinsic}
+use Rattle.fv_tree.specs.declared.stmts.Stmt.{Stmt}
+use Rattle.f90_grammar.specs.Phrases.{Phrase, tree_of, value_of_digits}
+use Rattle.f90_grammar.specs.Items.{step_tree}
+use Rattle.f90_grammar.specs.Forms as forms
+use Rattle.f90_grammar.specs.Forms.{Form}
+use Rattle.f90_grammar.specs.Blocks.{Placed, IsSimple, at}
+use Rattle.f90_grammar.specs.Order.{is_executable}
+use Rattle.f90_blocks.specs.declared.statement_trees.nodes.StatementTree.{StatementTree}
+use Rattle.f90_blocks.specs.declared.statement_trees.nodes.StatementTree.TheVariants.{Simple, Test, If, ElseIf, Else, EndIf}
+use Rattle.f90_blocks.specs.declared.statement_trees.nodes.StatementTree.TheVariants.{Do, EndDo, Continue}
+
+-- whichever labels are named: none of them stands in such a statement
+abbrev pub IsStmtOf : (List ℕ → Option Intrinsic) → Placed → Stmt → Type 0
+IsStmtOf function p s = IsSimple function (λ n. false) p (statement_of s)
+
+-- the statement that a logical IF does
+abbrev pub IsDone : (List ℕ → Option Intrinsic) → Placed → Option Stmt → Type 0
+IsDone function p (Some s) = IsStmtOf function p s
+IsDone function p None = p.form ≡ forms.Continue []
+
+-- `function` says which names are functions
+abbrev pub IsTreeOf : (List ℕ → Option Intrinsic) → Placed → StatementTree → Type 0
+IsTreeOf function p (Simple s) = IsStmtOf function p s
+IsTreeOf function p (Test e s) =
+    (q : Phrase) × (f : Form) × (p.form ≡ forms.Test q f) × (expression_of e ≡ tree_of function q)
+    × IsDone function (at p.line p.mark f) s
+IsTreeOf function p (If e) =
+    (q : Phrase) × (p ≡ at p.line None (forms.If q)) × (expression_of e ≡ tree_of function q)
+IsTreeOf function p (ElseIf e) =
+    (q : Phrase) × (p ≡ at p.line None (forms.ElseIf q)) × (expression_of e ≡ tree_of function q)
+IsTreeOf function p Else = p ≡ at p.line None forms.Else
+IsTreeOf function p EndIf = p ≡ at p.line None forms.EndIf
+IsTreeOf function p (Do x a b c) =
+    (q r : Phrase) × (s : Option Phrase) × (p ≡ at p.line None (forms.Do x q r s))
+    × (expression_of a ≡ tree_of function q) × (expression_of b ≡ tree_of function r)
+    × (expression_of c ≡ step_tree function s)
+IsTreeOf function p EndDo = p ≡ at p.line None forms.EndDo
+IsTreeOf function p (Continue None) = p ≡ at p.line None (forms.Continue [])
+IsTreeOf function p (Continue (Some n)) =
+    (d : ℕ) × (ds : List ℕ) × (p ≡ at p.line None (forms.Continue (d ∷ ds))) × (n ≡ value_of_digits (d ∷ ds))
+
+-- none where the statement isn't executable
+abbrev pub IsTreeIn : (List ℕ → Option Intrinsic) → Option StatementTree → Placed → Type 0
+IsTreeIn function (Some t) p = IsTreeOf function p t
+IsTreeIn function None p = is_executable p.form ≡ false

@@ -1,6 +1,0 @@
-use Rattle.f90_statement_trees.proofs.PartLaws.{step_none}
-use Rattle.f90_trees.specs.Hiding.{function_in}
-use Rattle.f90_statement_trees.proofs.expressions.step.Goals as goal
-
-pub returns-in-None : goal.returns-in-None
-returns-in-None c d h = step_none (function_in c.args.functions.now) c.args.step.now d c.in-None.is h

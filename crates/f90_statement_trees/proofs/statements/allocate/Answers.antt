@@ -1,8 +1,0 @@
-use Rattle.f90_trees.specs.Hiding.{function_in}
-use Rattle.f90_statement_trees.proofs.FormLaws.{allocate_given}
-use Rattle.f90_statement_trees.proofs.statements.allocate.Goals as goal
-
-pub returns : goal.returns
-returns c es a m k =
-    allocate_given (function_in c.args.functions.now) c.args.line m c.args.name es c.in_ok-extents.extents k
-    (c.in_ok-extents.ensures es a)

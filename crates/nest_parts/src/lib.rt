@@ -1,6 +1,0 @@
-//! The parts of a nest that the statements of a program are, with their loops numbered.
-#![tactic(auto)]
-
-mod parts;
-
-pub use parts::Numbering;
