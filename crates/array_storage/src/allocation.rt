@@ -6,10 +6,10 @@ ghost use Rattle.array_storage.specs.Slots.{kind_among};
 ghost use Rattle.array_storage.specs.Allocation.{Opens, Closes, Allocates, Deallocates};
 ghost use Rattle.array_storage.specs.Stored.{slots_in};
 
+use crate::array_places::count;
 use crate::opening::nought;
 use crate::slots::Slot;
 use crate::storage::Storage;
-use crate::array_places::count;
 use array_values::Failure;
 use fv_tree::{Dim, Fault, Memory, Name, Seq};
 use std::alloc::Global;

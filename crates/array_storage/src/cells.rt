@@ -5,9 +5,9 @@ ghost use Rattle.array_storage.specs.Slots.{held_among, place_among, place_here}
 ghost use Rattle.array_storage.specs.Slots.{IsWithin, Has, IsMissing, Finds, SamePlaces, Stores};
 ghost use Rattle.array_storage.specs.Stored.{slots_in, store_in};
 
+use crate::array_places::place;
 use crate::slots::{Place, Slot};
 use crate::storage::Storage;
-use crate::array_places::place;
 use fv_tree::{Fault, Name, Value};
 
 impl Slot {

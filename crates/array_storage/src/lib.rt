@@ -2,8 +2,8 @@
 //! (ISO/IEC 1539:1991, sections 2.4, 6.2 and 6.3).
 #![tactic(auto)]
 
-pub mod array_places;
 mod allocation;
+pub mod array_places;
 mod cells;
 mod opening;
 mod selected;

@@ -8,9 +8,9 @@ ghost use Rattle.fv_machine.specs.Storage.{AreDistinct, opening_of};
 ghost use Rattle.array_storage.specs.Opening.{IsOpened, is_given, KindsAreDeclared};
 ghost use Rattle.array_storage.specs.Stored.{slots_in, store_in};
 
+use crate::array_places::count;
 use crate::slots::Slot;
 use crate::storage::Storage;
-use crate::array_places::count;
 use fv_machine::dims_of;
 use fv_tree::{Decl, Dim, Extent, Kind, Memory, Name, Seq, Value};
 use indexmap::IndexSet;

@@ -8,9 +8,9 @@ ghost use Rattle.array_storage.specs.Parts.{whole_here, part_here, whole_array, 
 ghost use Rattle.array_storage.specs.Slots.{bounds_now};
 ghost use Rattle.array_storage.specs.Stored.{store_in};
 
+use crate::array_places::{Selection, select, select_all, values_at};
 use crate::slots::Slot;
 use crate::storage::Storage;
-use crate::array_places::{Selection, select, select_all, values_at};
 use array_values::{Failure, Known, Selector};
 use fv_tree::{Fault, Name};
 use std::alloc::Global;

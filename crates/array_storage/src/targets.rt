@@ -4,9 +4,9 @@ ghost use Rattle.array_values.specs.Selections.{selector_in};
 ghost use Rattle.array_storage.specs.Targets.{Targets, Picks, axes_within, all_of, part_of};
 ghost use Rattle.array_storage.specs.Stored.{slots_in, store_in};
 
+use crate::array_places::{Selection, select, select_all};
 use crate::slots::Slot;
 use crate::storage::Storage;
-use crate::array_places::{Selection, select, select_all};
 use array_values::{Failure, Selector};
 use fv_tree::{Fault, Name};
 use std::alloc::Global;

@@ -15,8 +15,8 @@ use crate::constraints::Constraints;
 use crate::iterations_left::constraint_of;
 use crate::left::{Left, left_of};
 use crate::put::reduced_by;
-use loop_lines::line_points::{Line, divided};
 use loop_lines::LoopPlace;
+use loop_lines::line_points::{Line, divided};
 use subscripts::Pairing;
 
 /// The number that a coefficient makes the constant with.

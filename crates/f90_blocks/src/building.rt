@@ -15,8 +15,8 @@ ghost use Rattle.f90_blocks.specs.Treed.{IsTreedOf, MarksAreTaken};
 
 use crate::nodes::Treed;
 use crate::open::Rest;
-use crate::targets::targets;
 use crate::statement_trees::StatementTree;
+use crate::targets::targets;
 use fv_tree::{Arm, Block, Expr, Memory, Seq, Stmt};
 use std::alloc::Global;
 use std::collections::BTreeSet;

@@ -1,10 +1,10 @@
 //! The block that statements of Fortran 90 form (ISO/IEC 1539:1991, section 8.1).
 #![tactic(auto)]
 
-pub mod statement_trees;
 mod building;
 mod nodes;
 mod open;
+pub mod statement_trees;
 mod targets;
 
 pub use building::block;

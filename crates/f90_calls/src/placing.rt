@@ -14,8 +14,8 @@ ghost use Rattle.f90_calls.specs.Formless.{HasSuitedForm, HaveSuitedForms, Finds
 
 use crate::hiding::functions_of;
 use crate::walk::statement_suits;
-use f90_places::forms::{Placed, forms, places};
 use f90_lines::Statement as Written;
+use f90_places::forms::{Placed, forms, places};
 use f90_statements::Statement;
 use f90_trees::Functions;
 use fv_tree::{Cause, Memory, Refused, Seq};

@@ -15,8 +15,8 @@ ghost use Rattle.f90_trees.specs.Hiding.{function_in};
 ghost use Rattle.f90_calls.specs.Calls.{Tells, NodeSuits, ListSuits, AssignmentSuits};
 
 use f90_expr::Expression;
-use f90_items::{Direction, ItemList, Node};
 use f90_items::parts::Bounds;
+use f90_items::{Direction, ItemList, Node};
 use f90_statements::{Action, Statement};
 use f90_trees::{Functions, suits_calls, variable_suits_calls};
 use fv_tree::Memory;

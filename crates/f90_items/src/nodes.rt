@@ -1,6 +1,6 @@
 //! A list of PRINT or READ as a list of its parts.
-use f90_expr::Expression;
 use crate::parts::Bounds;
+use f90_expr::Expression;
 use fv_tree::{Name, Seq};
 
 /// What a list is for.

@@ -7,11 +7,11 @@ ghost use Rattle.f90_kinds.specs.declarations.Names.{AreNamesOf, found};
 ghost use Rattle.f90_kinds.specs.Found as plain;
 ghost use Rattle.f90_kinds.specs.Kinds.{IsKindOf};
 
+use crate::declarations::Names;
 use crate::nodes::{
     Ranked, binary, call, constructor, is_scalar, literal, name_with, only, reduce, reshape,
     section, spread, suits_loop, transpose, unary, with_argument, with_scalar,
 };
-use crate::declarations::Names;
 use fv_tree::{Expr, Intrinsic, Kind, Name, Ref, Seq, Sub, Turn};
 
 /// The kind and the rank of the expression, by the declarations of these names: none where something in it doesn't

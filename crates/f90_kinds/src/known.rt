@@ -10,8 +10,8 @@ ghost use Rattle.f90_kinds.specs.Directions.{direction_of};
 ghost use Rattle.f90_kinds.specs.FoundNames as plain;
 ghost use Rattle.f90_kinds.specs.Known.{KnowsNames, KnowsAll, KnowsReference, KnowsItems};
 
-use crate::statements::Way;
 use crate::declarations::Names;
+use crate::statements::Way;
 use fv_tree::{Expr, Intrinsic, Item, Name, Ref, Seq, Sub, Turn};
 
 /// Whether the names in the expression are declared, and have as many subscripts as dimensions or none.

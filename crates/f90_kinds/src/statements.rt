@@ -13,9 +13,9 @@ ghost use Rattle.f90_kinds.specs.declarations.Names.{AreNamesOf, found};
 ghost use Rattle.f90_kinds.specs.Found as plain;
 ghost use Rattle.f90_kinds.specs.Directions.{direction_of};
 
+use crate::declarations::Names;
 use crate::kinds::{are_scalars, find_kind, find_reference};
 use crate::nodes::{holds_integer, is_scalar, is_single, mask_and_sides, suits_sides};
-use crate::declarations::Names;
 use fv_tree::{Expr, Item, Kind, Name, Ref, Seq};
 
 /// The list of READ, or that of PRINT.

@@ -1,9 +1,9 @@
 //! The places of a text's statements: the first at which something holds, and their lines.
 #![tactic(auto)]
 
-pub mod forms;
 mod choice;
 mod first;
+pub mod forms;
 mod laws;
 mod lines;
 

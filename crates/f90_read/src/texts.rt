@@ -16,8 +16,8 @@ use crate::causes::check;
 use crate::making::{functions_of, program};
 use f90_calls::placed;
 use f90_kinds::declarations::Names;
-use f90_places::forms::Placed;
 use f90_lines::statements;
+use f90_places::forms::Placed;
 use fv_tree::{Program90, Refused};
 use std::alloc::Global;
 

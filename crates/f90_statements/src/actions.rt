@@ -6,8 +6,8 @@ ghost use Rattle.f90_statements.specs.Reading.{ReadsAction};
 use crate::fronts::{after_keywords, after_transfer, is_empty_transfer, is_keyword, lone_label};
 use crate::nodes::Action;
 use crate::parts::sides;
-use f90_items::{Direction, ItemList};
 use f90_expr::words::Token;
+use f90_items::{Direction, ItemList};
 use reading_parts::Stop;
 use std::alloc::Global;
 

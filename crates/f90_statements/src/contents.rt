@@ -20,8 +20,8 @@ ghost use Rattle.f90_statements.specs.Views.{AreOf, IsBoundOf, IsDimensionOf, Is
 
 use crate::nodes::{Action, Bound, Dimension, Entity, Statement};
 use f90_expr::Expression;
-use f90_items::{ItemList, Node};
 use f90_items::parts::Bounds;
+use f90_items::{ItemList, Node};
 use fv_tree::EXPRESSION_DEPTH_90;
 
 /// What is asked of each expression of a statement: whether a literal of it is above 2^127-1, or it is too deep.

@@ -13,8 +13,8 @@ ghost use Rattle.f90_statements.specs.Views.{AreOf, IsBoundOf, IsDimensionOf, Is
 use crate::fronts::{after_digits, after_minus, after_plus};
 use crate::nodes::{Bound, Dimension, Entity};
 use f90_expr::literal;
-use f90_items::parts::{after_close, after_colon, after_comma, after_head, after_name};
 use f90_expr::words::Token;
+use f90_items::parts::{after_close, after_colon, after_comma, after_head, after_name};
 use fv_tree::{ARRAY_DIMENSIONS, Name, Seq};
 use reading_parts::Stop;
 use std::alloc::Global;

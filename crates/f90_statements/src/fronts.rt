@@ -10,8 +10,8 @@ ghost use Rattle.f90_statements.specs.Fronts.{IsLoopFront, IsAllocateFront, IsDi
 ghost use Rattle.fv_tree.specs.declared.ops.Op.TheVariants.{Add, Sub, Mul};
 
 use f90_expr::literal;
-use f90_items::parts::{after_close, after_comma, after_equals, after_head, after_name};
 use f90_expr::words::Token;
+use f90_items::parts::{after_close, after_comma, after_equals, after_head, after_name};
 use fv_tree::{Name, Op, Seq};
 
 // Whether the name is the keyword.

@@ -10,9 +10,9 @@ ghost use Rattle.f90_statements.specs.Reading.{Given, ReadsRight, ReadsSides, cl
 ghost use Rattle.f90_statements.specs.Fronts.{AfterExtent};
 ghost use Rattle.f90_statements.specs.Views.{AreOf};
 
+use f90_expr::words::Token;
 use f90_expr::{Expression, read};
 use f90_items::parts::{after_close, after_comma, after_equals, is_reference};
-use f90_expr::words::Token;
 use fv_tree::Seq;
 use reading_parts::Stop;
 use std::alloc::Global;

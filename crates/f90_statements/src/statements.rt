@@ -22,8 +22,8 @@ use crate::fronts::{
 use crate::nodes::Statement;
 use crate::parts::{condition, extents, sides};
 use f90_expr::Expression;
-use f90_items::parts::{Bounds, after_colons, after_comma};
 use f90_expr::words::Token;
+use f90_items::parts::{Bounds, after_colons, after_comma};
 use fv_tree::{ARRAY_DIMENSIONS, Kind};
 use reading_parts::Stop;
 use std::alloc::Global;

@@ -13,13 +13,13 @@ ghost use Rattle.f90_suits.specs.Known.{KnowsStatement, KnowsDone, KnowsTree};
 ghost use Rattle.f90_suits.specs.Ready.{AreFunctionsOf, IsReadyAt, AreReady, HoldsOfAll};
 
 use crate::executable::is_executable;
+use f90_blocks::statement_trees::{StatementTree, statement_tree};
 use f90_kinds::declarations::Names;
-use f90_places::forms::Placed;
 use f90_kinds::{
     all_know_names, input_knows_names, is_declared, knows_names, output_knows_names,
     reference_knows_names,
 };
-use f90_blocks::statement_trees::{StatementTree, statement_tree};
+use f90_places::forms::Placed;
 use f90_trees::Functions;
 use fv_tree::{Memory, Stmt};
 use std::alloc::Global;

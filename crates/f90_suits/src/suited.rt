@@ -13,13 +13,13 @@ ghost use Rattle.f90_suits.specs.Suited.{SuitsStatement, SuitsDone, SuitsTree};
 ghost use Rattle.f90_suits.specs.Ready.{AreFunctionsOf, IsReadyAt, AreReady, HoldsOfAll};
 
 use crate::executable::is_executable;
+use f90_blocks::statement_trees::{StatementTree, statement_tree};
 use f90_kinds::declarations::Names;
-use f90_places::forms::Placed;
 use f90_kinds::{
     are_numbers, is_condition, suits_allocation, suits_assignment, suits_deallocation, suits_input,
     suits_masked, suits_output,
 };
-use f90_blocks::statement_trees::{StatementTree, statement_tree};
+use f90_places::forms::Placed;
 use f90_trees::Functions;
 use fv_tree::{Memory, Stmt};
 use std::alloc::Global;

@@ -11,8 +11,8 @@ ghost use Rattle.f90_blocks.specs.statement_trees.Results.{IsOf, AreOfSome};
 ghost use Rattle.f90_suits.specs.Ready.{AreFunctionsOf, IsReadyAt, AreReady, HoldsOfAll};
 
 use f90_blocks::Treed;
-use f90_places::forms::Placed;
 use f90_blocks::statement_trees::statement_tree;
+use f90_places::forms::Placed;
 use f90_trees::Functions;
 use fv_tree::{Memory, Seq};
 use std::alloc::Global;

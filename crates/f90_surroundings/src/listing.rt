@@ -11,9 +11,9 @@ ghost use Rattle.f90_items.specs.Views.{IsNodeOf, AreNodesOf, direction_of};
 ghost use Rattle.f90_surroundings.specs.Lists.{is_scalar, scalar_in, stored_name, name_in_node, is_wrong_variable};
 ghost use Rattle.f90_surroundings.specs.Lists.{stores_round, is_round, items_misuse, walked, with_node, with_nodes};
 
-use f90_kinds::declarations::{Declared, Names};
 use f90_expr::{Expression, Node as Part};
 use f90_items::{Direction, ItemList, Node};
+use f90_kinds::declarations::{Declared, Names};
 use fv_tree::{Kind, Memory, Name};
 use std::alloc::Global;
 

@@ -11,9 +11,9 @@ ghost use Rattle.f90_surroundings.specs.Lists.{scalar_in};
 ghost use Rattle.f90_surroundings.specs.Misuses.{AreOpen, outside, misuses_form, misuses_at};
 
 use crate::listing::Surroundings;
+use f90_items::Direction;
 use f90_kinds::declarations::Names;
 use f90_places::forms::Placed;
-use f90_items::Direction;
 use f90_statements::{Action, Statement};
 use fv_tree::{Memory, Name};
 use std::alloc::Global;

@@ -2,9 +2,9 @@
 //! Architectures", section 4.2).
 #![tactic(auto)]
 
-pub mod nest_parts;
 pub mod bound_limits;
 mod laws;
+pub mod nest_parts;
 mod reasons;
 mod search;
 

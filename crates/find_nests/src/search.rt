@@ -7,9 +7,9 @@ ghost use Rattle.find_nests.specs.nest_parts.Numbers.{next, after, after_block, 
 ghost use Rattle.find_nests.specs.Found.{found_of, found_among, found_in, nest_of_loop};
 ghost use Rattle.find_nests.specs.Walk.{nests_among, outermost_in, outermost_in_block, outermost_list, outermost_each};
 
+use crate::nest_parts::Numbering;
 use crate::reasons::{Reason, reason_over};
 use fv_tree::{Arm, Block, Expr, Memory, Name, Program77, Seq, Stmt};
-use crate::nest_parts::Numbering;
 use nest_reasons::symbols_of;
 use nest_tree::{Nest, copy_decls};
 use std::alloc::Global;

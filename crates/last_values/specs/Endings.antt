@@ -10,7 +10,8 @@ use Rattle.last_values.specs.declared.normal_forms.loops.NormalLoop.{NormalLoop}
 use Rattle.last_values.specs.declared.normal_forms.last.LastForms.{LastForms}
 use Rattle.last_values.specs.declared.normal_forms.last.LastTexts.{LastTexts}
 use Rattle.last_values.specs.normal_forms.NormalLoops.{is_positive, is_known}
-use Rattle.last_values.specs.normal_forms.LastValues.{last_forms, have_plain_trips, last_first_text, last_trip_text, last_end_text}
+use Rattle.last_values.specs.normal_forms.LastValues.{last_forms, have_plain_trips, last_first_text, last_trip_text}
+use Rattle.last_values.specs.normal_forms.LastValues.{last_end_text}
 use Rattle.last_values.specs.normal_forms.LastValues.{tests_of}
 use Rattle.last_values.specs.normal_forms.Texts.{at_least_one}
 

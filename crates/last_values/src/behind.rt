@@ -7,10 +7,10 @@ ghost use Rattle.last_values.specs.Behind.{IsNested, ends_behind, may_end_behind
 ghost use Rattle.last_values.specs.Behind.{values_behind};
 
 use crate::endings::after_statements;
+use crate::normal_forms::{NormalLoop, have_plain_trips, last_forms};
 use crate::occurrences::occurs_only_within;
 use fv_tree::{Block, Memory, Name, Seq, Stmt};
 use nest_tree::Part;
-use crate::normal_forms::{NormalLoop, have_plain_trips, last_forms};
 use std::alloc::Global;
 
 /// A loop with the loops round it, from the outside in.

@@ -8,12 +8,12 @@ ghost use Rattle.last_values.specs.normal_forms.Texts.{at_least_one};
 ghost use Rattle.last_values.specs.Endings.{scalar, assigned, only_where, all_hold, where_all_hold, ending, texts_of};
 ghost use Rattle.last_values.specs.Endings.{ending_behind, after_statements, after_block};
 
-use fv_tree::{Arm, Block, Expr, Memory, Name, Op, Ref, Seq, Stmt};
-use nest_tree::Trip;
 use crate::normal_forms::{
     LastForms, LastTexts, NormalLoop, at_least_one, have_plain_trips, is_known, is_positive,
     last_forms, last_texts, tests_of,
 };
+use fv_tree::{Arm, Block, Expr, Memory, Name, Op, Ref, Seq, Stmt};
+use nest_tree::Trip;
 use std::alloc::Global;
 
 #[tactic(auto, using(fv_tree::proofs::Equations::expression_equations))]

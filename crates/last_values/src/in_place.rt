@@ -7,10 +7,12 @@ ghost use Rattle.last_values.specs.InPlace.{first_text, own_trip_text, end_text,
 ghost use Rattle.last_values.specs.InPlace.{end_part, parts_before, parts_behind};
 
 use crate::endings::scalar;
+use crate::normal_forms::{
+    NormalLoop, at_least_one, counters_of, is_known, is_positive, trip_text,
+};
 use fv_tree::{Expr, Memory, Name, Seq};
 use linear_forms::express;
 use nest_tree::{GuardedStmt, NestArm, Part};
-use crate::normal_forms::{NormalLoop, at_least_one, counters_of, is_known, is_positive, trip_text};
 use std::alloc::Global;
 
 fn first_text(

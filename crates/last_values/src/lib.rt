@@ -2,10 +2,10 @@
 //! loops, or in place (Allen and Kennedy, "Optimizing Compilers for Modern Architectures", section 4.2).
 #![tactic(auto)]
 
-pub mod normal_forms;
 mod behind;
 mod endings;
 mod in_place;
+pub mod normal_forms;
 mod occurrences;
 
 pub use behind::{NestedLoop, stands_behind, values_behind};

@@ -8,9 +8,9 @@ ghost use Rattle.loop_normal.specs.Bodies.{counting, normal_branch, normal_part,
 use crate::loops::with_loop;
 use crate::values::{normal_stmt, normal_test};
 use fv_tree::{Expr, Memory, Name, Seq};
+use last_values::normal_forms::{NormalLoop, counters_of, normal_loop, trip_text};
 use last_values::{NestedLoop, add_parts_before, add_parts_behind, stands_behind};
 use nest_tree::{Loop, Nest, NestArm, Part};
-use last_values::normal_forms::{NormalLoop, counters_of, normal_loop, trip_text};
 use std::alloc::Global;
 
 // The loop, which counts from 1 to its trip by 1.

@@ -9,8 +9,8 @@ ghost use Rattle.loop_normal.specs.Loops.{with_loop};
 
 use fv_tree::{Memory, Name, Seq};
 use last_values::NestedLoop;
-use nest_tree::{NestArm, Part};
 use last_values::normal_forms::{NormalLoop, normal_loop};
+use nest_tree::{NestArm, Part};
 use std::alloc::Global;
 
 fn pushed(

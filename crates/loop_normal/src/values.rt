@@ -12,9 +12,9 @@ ghost use Rattle.loop_normal.specs.Values.{normal_statement, normal_test};
 
 use form_rules::{Canonical, Replacement};
 use fv_tree::{Expr, Memory, Name, Seq};
+use last_values::normal_forms::{NormalLoop, counters_of, value_text};
 use nest_rewrite::{rewrite_stmt, rewrite_test};
 use nest_tree::GuardedStmt;
-use last_values::normal_forms::{NormalLoop, counters_of, value_text};
 use std::alloc::Global;
 
 // The rule that puts the value of a loop's variable in its place.

@@ -1,6 +1,6 @@
 //! Expressions with their lists.
-use f90_expr::{Node, read};
 use f90_expr::words::words;
+use f90_expr::{Node, read};
 use fv_tree::Op;
 use reading_parts::Sign;
 use std::process::Abort;

@@ -1,6 +1,6 @@
 //! Statements with their marks.
-use f90_places::forms::{forms, places};
 use f90_lines::statements;
+use f90_places::forms::{forms, places};
 use std::process::Abort;
 use std::test::Fail;
 

@@ -1,6 +1,6 @@
 //! Lists with their parts.
-use f90_items::{Direction, ItemList};
 use f90_expr::words::words;
+use f90_items::{Direction, ItemList};
 use std::test::Fail;
 
 #[test]

@@ -1,7 +1,7 @@
 //! Variables and parameters.
 use f90_expr::read;
-use f90_items::parts::{Bounds, is_reference, is_variable};
 use f90_expr::words::words;
+use f90_items::parts::{Bounds, is_reference, is_variable};
 use std::test::Fail;
 
 #[test]

@@ -1,6 +1,6 @@
 //! Statements with their kinds.
-use f90_statements::{Action, Statement};
 use f90_expr::words::words;
+use f90_statements::{Action, Statement};
 use std::test::Fail;
 
 fn shown(statement: &Statement) -> &'static str {

@@ -1,7 +1,7 @@
 //! Trees of expressions, and calls.
+use f90_expr::words::words;
 use f90_expr::{Expression, read};
 use f90_trees::{Functions, suits_calls, tree, variable_suits_calls};
-use f90_expr::words::words;
 use fv_tree::{Expr, Name};
 use std::alloc::Global;
 use std::test::Fail;

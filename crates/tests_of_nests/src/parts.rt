@@ -1,5 +1,5 @@
-use fv_tree::{Block, Expr, Memory, Name, Seq, Stmt};
 use find_nests::nest_parts::Numbering;
+use fv_tree::{Block, Expr, Memory, Name, Seq, Stmt};
 use nest_tree::Part;
 use std::alloc::Global;
 use std::test::Fail;

@@ -12,7 +12,8 @@ use Rattle.f90_grammar.specs.Forms.{Form}
 use Rattle.f90_grammar.specs.Blocks.{Placed, IsSimple, reference_in, at, trees}
 use Rattle.f90_trees.specs.Building.{held, held_all, held_subscripts}
 use Rattle.f90_blocks.specs.declared.statement_trees.nodes.StatementTree.{StatementTree}
-use Rattle.f90_blocks.specs.declared.statement_trees.nodes.StatementTree.TheVariants.{Simple, Test, If, ElseIf, Else, EndIf}
+use Rattle.f90_blocks.specs.declared.statement_trees.nodes.StatementTree.TheVariants.{Simple, Test, If, ElseIf, Else}
+use Rattle.f90_blocks.specs.declared.statement_trees.nodes.StatementTree.TheVariants.{EndIf}
 use Rattle.f90_blocks.specs.declared.statement_trees.nodes.StatementTree.TheVariants.{Do, EndDo, Continue}
 
 abbrev pub held_reference : Reference → Reference

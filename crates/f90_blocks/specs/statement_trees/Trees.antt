@@ -10,7 +10,8 @@ use Rattle.f90_grammar.specs.Forms.{Form}
 use Rattle.f90_grammar.specs.Blocks.{Placed, IsSimple, at}
 use Rattle.f90_grammar.specs.Order.{is_executable}
 use Rattle.f90_blocks.specs.declared.statement_trees.nodes.StatementTree.{StatementTree}
-use Rattle.f90_blocks.specs.declared.statement_trees.nodes.StatementTree.TheVariants.{Simple, Test, If, ElseIf, Else, EndIf}
+use Rattle.f90_blocks.specs.declared.statement_trees.nodes.StatementTree.TheVariants.{Simple, Test, If, ElseIf, Else}
+use Rattle.f90_blocks.specs.declared.statement_trees.nodes.StatementTree.TheVariants.{EndIf}
 use Rattle.f90_blocks.specs.declared.statement_trees.nodes.StatementTree.TheVariants.{Do, EndDo, Continue}
 
 -- whichever labels are named: none of them stands in such a statement

@@ -8,7 +8,8 @@ ghost use Rattle.f90_statements.specs.Views.{AreOf};
 ghost use Rattle.f90_trees.specs.Building.{held};
 ghost use Rattle.f90_trees.specs.Hiding.{function_in};
 ghost use Rattle.f90_trees.specs.Trees.{IsOfPhrase};
-ghost use Rattle.f90_blocks.specs.statement_trees.Results.{IsOf, AreOfSome, AreOfBounds, held_trees, AreBoundTrees, IsLeftOf};
+ghost use Rattle.f90_blocks.specs.statement_trees.Results.{IsOf, AreOfSome, AreOfBounds, held_trees, AreBoundTrees};
+ghost use Rattle.f90_blocks.specs.statement_trees.Results.{IsLeftOf};
 ghost use Rattle.f90_blocks.specs.statement_trees.Results.{IsNamedBy};
 ghost use Rattle.fv_tree.specs.View.{expression_of};
 

@@ -6,8 +6,8 @@ ghost use Rattle.f90_grammar.specs.Words.{Word};
 ghost use Rattle.f90_expr.specs.words.Tokens.{words_of};
 
 use crate::parts::fronts::after_comma;
-use f90_expr::{Expression, read};
 use f90_expr::words::Token;
+use f90_expr::{Expression, read};
 use reading_parts::Stop;
 use std::alloc::Global;
 

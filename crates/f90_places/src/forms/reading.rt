@@ -5,9 +5,9 @@ ghost use Rattle.f90_lines.specs.Views.{statement_seen, statements_seen};
 ghost use Rattle.f90_statements.specs.Views.{AreOf};
 ghost use Rattle.f90_places.specs.forms.Forms.{IsFormIn, ReadsForm, ReadsWords};
 
+use f90_expr::words::{Token, words};
 use f90_lines::Statement as Written;
 use f90_statements::Statement;
-use f90_expr::words::{Token, words};
 use fv_tree::{Memory, Seq};
 use reading_parts::Stop;
 use std::alloc::Global;

@@ -1,5 +1,6 @@
 //! Laws of nests that are written in loops from 1 by 1. A law is a function without a body: its contract is what holds.
-ghost use Rattle.f90_translation.specs.normal_profile.Laws.{NormalBlockIsOfProfile, NormalProgramIsOfProfile, SourceIsShallow};
+ghost use Rattle.f90_translation.specs.normal_profile.Laws.{NormalBlockIsOfProfile, NormalProgramIsOfProfile};
+ghost use Rattle.f90_translation.specs.normal_profile.Laws.{SourceIsShallow};
 
 /// The normal form of a nest of loops and statements alone that was found, written in its loops, is a block of the
 /// profile wherever the nest's loop is a statement of it, with the loops' variables declared besides. Its expressions

@@ -1,6 +1,7 @@
 //! The limits of forms.
 ghost use Rattle.std.specs.Prelude.{◌≡◌, ◌≤◌, ◌^◌, ◌*ℤ◌, ◌&&◌, pos, nat_abs, int_div, int_le, true, IfOk};
-ghost use Rattle.find_nests.specs.bound_limits.Limits.{keeps_limits, dividend, end_keeps_limits, all_keep_limits, is_constant};
+ghost use Rattle.find_nests.specs.bound_limits.Limits.{keeps_limits, dividend, end_keeps_limits, all_keep_limits};
+ghost use Rattle.find_nests.specs.bound_limits.Limits.{is_constant};
 ghost use Rattle.find_nests.specs.bound_limits.Limits.{normal, difference, plus_constant, folded};
 ghost use Rattle.find_nests.specs.bound_limits.View.{wide_form_of, IsSized};
 

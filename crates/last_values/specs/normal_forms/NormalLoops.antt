@@ -14,7 +14,8 @@ use Rattle.last_values.specs.declared.normal_forms.combinations.Multiple.{Multip
 use Rattle.last_values.specs.declared.normal_forms.loops.NormalLoop.{NormalLoop}
 use Rattle.last_values.specs.declared.normal_forms.places.Place.TheVariants as place
 use Rattle.last_values.specs.normal_forms.Steps.{◌>>=◌}
-use Rattle.last_values.specs.normal_forms.Combinations.{at, combination, affine_of, number_form, without_loops, times, zero_loops}
+use Rattle.last_values.specs.normal_forms.Combinations.{at, combination, affine_of, number_form, without_loops, times}
+use Rattle.last_values.specs.normal_forms.Combinations.{zero_loops}
 use Rattle.last_values.specs.normal_forms.Combinations.{no_symbols, seven}
 
 -- the variable of the n-th loop of the program

@@ -3,8 +3,10 @@ ghost use Rattle.std.specs.Prelude.{◌≡◌, ◌≤◌, ◌<◌, ◌+◌, ◌+
 ghost use Rattle.std.specs.List.{list_all};
 ghost use Rattle.fv_tree.specs.View.{expression_of};
 ghost use Rattle.last_values.specs.normal_forms.Combinations.{combination};
-ghost use Rattle.last_values.specs.normal_forms.LastValues.{trips_from, with_trips, last_forms, has_plain_trip, have_plain_trips};
-ghost use Rattle.last_values.specs.normal_forms.LastValues.{plain_trip_text, plain_trip_texts, last_trip_text, last_first_text};
+ghost use Rattle.last_values.specs.normal_forms.LastValues.{trips_from, with_trips, last_forms, has_plain_trip};
+ghost use Rattle.last_values.specs.normal_forms.LastValues.{have_plain_trips};
+ghost use Rattle.last_values.specs.normal_forms.LastValues.{plain_trip_text, plain_trip_texts, last_trip_text};
+ghost use Rattle.last_values.specs.normal_forms.LastValues.{last_first_text};
 ghost use Rattle.last_values.specs.normal_forms.LastValues.{last_end_text, is_uncertain, test_of, tests_of};
 
 use crate::normal_forms::combinations::{Multiple, combination};

@@ -5,9 +5,12 @@ ghost use Rattle.fv_tree.specs.View.{expression_of};
 ghost use Rattle.linear_forms.specs.Linear.{is_small};
 ghost use Rattle.nest_tree.specs.View.{loop_of};
 ghost use Rattle.last_values.specs.normal_forms.Combinations.{without_loops, times, number_form};
-ghost use Rattle.last_values.specs.normal_forms.NormalLoops.{counter_name, variables_of, values_from, with_counters, bound_form};
-ghost use Rattle.last_values.specs.normal_forms.NormalLoops.{loop_form, symbol_form, has_no_loops, is_constant, trip_of, trip_form};
-ghost use Rattle.last_values.specs.normal_forms.NormalLoops.{is_known, is_positive, is_suitable, plus_number, plus_multiple};
+ghost use Rattle.last_values.specs.normal_forms.NormalLoops.{counter_name, variables_of, values_from, with_counters};
+ghost use Rattle.last_values.specs.normal_forms.NormalLoops.{bound_form};
+ghost use Rattle.last_values.specs.normal_forms.NormalLoops.{loop_form, symbol_form, has_no_loops, is_constant};
+ghost use Rattle.last_values.specs.normal_forms.NormalLoops.{trip_of, trip_form};
+ghost use Rattle.last_values.specs.normal_forms.NormalLoops.{is_known, is_positive, is_suitable, plus_number};
+ghost use Rattle.last_values.specs.normal_forms.NormalLoops.{plus_multiple};
 ghost use Rattle.last_values.specs.normal_forms.NormalLoops.{trip_by, normal_loop, one_at, has_no_symbols, sign_of};
 ghost use Rattle.last_values.specs.normal_forms.NormalLoops.{forms_by_trip, forms_by_first, forms_of};
 

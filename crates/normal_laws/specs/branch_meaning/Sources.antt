@@ -8,7 +8,8 @@ use Rattle.nest_runs.specs.Touched.{IsPlain}
 use Rattle.nest_tree.specs.Bodies.{Standing, nest_statements}
 use Rattle.nest_tree.specs.Plain.{Nest, Part, Run, Turns, Choice, Label, Jump, Parts, no_parts, part}
 use Rattle.nest_tree.specs.Plain.{Branches, no_branches, branch}
-use Rattle.normal_laws.specs.normal_runs.Sources.{HasOwnVariable, IsStraightStatement, IsSuitedStatement, counters_in, loops_in}
+use Rattle.normal_laws.specs.normal_runs.Sources.{HasOwnVariable, IsStraightStatement, IsSuitedStatement, counters_in}
+use Rattle.normal_laws.specs.normal_runs.Sources.{loops_in}
 use Rattle.normal_laws.specs.normal_runs.Sources.{variables_in}
 use Rattle.statement_loops.specs.Standings.{is_among}
 use Rattle.normal_laws.specs.branch_meaning.Jumps.{JumpsAhead}

@@ -1,6 +1,7 @@
 //! Laws of loop normalization (Allen and Kennedy, "Optimizing Compilers for Modern Architectures", section 4.2), within
 //! the loops. A law is a function without a body: its contract is what holds.
-ghost use Rattle.normal_laws.specs.normal_values.Laws.{BoundsBeside, ExpressionBeside, LastValueInPlace, StatementBeside};
+ghost use Rattle.normal_laws.specs.normal_values.Laws.{BoundsBeside, ExpressionBeside, LastValueInPlace};
+ghost use Rattle.normal_laws.specs.normal_values.Laws.{StatementBeside};
 
 /// Where an expression has a value, its normal form, in which forms of the counters stand for the variables, has it
 /// too.

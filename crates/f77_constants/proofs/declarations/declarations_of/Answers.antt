@@ -17,6 +17,6 @@ returns-clause-declarations c = λ s h good.
     IfOk-weaker c.declare.result
     (λ ds. map view.declaration_of ds ≡ narrow_declarations us (store_of c.args.constants.now) (text_of c.args.text.now) c.as_slice-2.result.now)
     (λ ds. map view.declaration_of ds ≡ all_declarations us s (text_of c.args.text.now))
-     (λ ds declared. all_declared us s (store_of c.args.constants.now) (text_of c.args.text.now) c.as_slice-2.result.now (map view.declaration_of ds) declared h.same good
-     (c.as_slice-2.ensures.value ∙ c.in_ok-variables.ensures us facts ∙ ap (λ vs. variables_from us (map plain_use vs)) c.as_slice.ensures ∙ ap (variables_from us) c.requires))
-     (c.declare.ensures.declarations us facts)
+    (λ ds declared. all_declared us s (store_of c.args.constants.now) (text_of c.args.text.now) c.as_slice-2.result.now (map view.declaration_of ds) declared h.same good
+    (c.as_slice-2.ensures.value ∙ c.in_ok-variables.ensures us facts ∙ ap (λ vs. variables_from us (map plain_use vs)) c.as_slice.ensures ∙ ap (variables_from us) c.requires))
+    (c.declare.ensures.declarations us facts)
