@@ -17,7 +17,7 @@ use Rattle.f77_syntax.specs.declared.statements.Labelled.{Labelled as Labelled'}
 use Rattle.f77_syntax.specs.Walk.{passed}
 use Rattle.fv_meaning.specs.Dialect.{fortran77}
 use Rattle.f77_constants.specs.Bounds.{bounds_in}
-use Rattle.reading_parts.specs.Counts.{capped}
+use Rattle.element_counts.specs.Counts.{capped}
 
 pub left : {A : Type 0} (xs : List A) (i : ℕ) (x : A) → i < length xs → x ≡ get_or xs i x → drop i xs ≡ x ∷ drop (i + 1) xs
 left xs i x h e = rw (add-one, drop-cons xs i x h, ← e) refl

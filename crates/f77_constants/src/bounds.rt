@@ -6,13 +6,13 @@ ghost use Rattle.f77_grammar.specs.program.Limits as plain;
 ghost use Rattle.f77_syntax.specs.Views.{bounds_of, entity_of};
 ghost use Rattle.f77_constants.specs.Constants.{store_of};
 ghost use Rattle.fv_meaning.specs.Dialect.{fortran77};
-ghost use Rattle.reading_parts.specs.Counts.{capped};
+ghost use Rattle.element_counts.specs.Counts.{capped};
 ghost use Rattle.f77_constants.specs.Bounds.{paired, has_reversed, has_bad, bounds_in};
 
 use crate::constants::Constants;
+use element_counts::{product_of, size_between, sum_of};
 use f77_syntax::Entity;
 use fv_tree::{Expr, Fault, Memory};
-use reading_parts::{product_of, size_between, sum_of};
 use std::alloc::Global;
 
 fn both(lower: Result<i128, Fault>, upper: Result<i128, Fault>) -> Result<(i128, i128), Fault>

@@ -10,9 +10,9 @@ ghost use Rattle.fv_meaning.specs.Dialect.{fortran77};
 ghost use Rattle.f77_constants.specs.Bounds.{lacks_value};
 
 use crate::constants::Constants;
+use element_counts::sum_of;
 use f77_syntax::Labelled;
 use fv_tree::{ARRAY_ELEMENTS, Expr, Memory, Name};
-use reading_parts::sum_of;
 use std::alloc::Global;
 
 /// The place of the first statement with an upper bound below its lower bound.

@@ -5,3 +5,4 @@ pub mod TextLaws
 pub mod HiddenLaws
 pub mod PartLaws
 pub mod ProgramLaws
+pub mod F90Suits

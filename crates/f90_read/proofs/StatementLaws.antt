@@ -39,7 +39,7 @@ use Rattle.f90_reading_laws.proofs.Lists.{all_both, all_right}
 use Rattle.f90_reading_laws.proofs.PlaceFacts.{each_place}
 use Rattle.f90_reading_laws.proofs.WordFacts.{IsWell, form_well, statement_words}
 use Rattle.f90_blocks.specs.statement_trees.Executable.{IsMarked}
-use Rattle.f90_suits.specs.Ready.{IsReadyAt, AreReady, HoldsOfAll}
+use Rattle.f90_read.specs.f90_suits.Ready.{IsReadyAt, AreReady, HoldsOfAll}
 use Rattle.f90_trees.specs.Hiding.{function_in}
 use Rattle.f90_trees.specs.declared.functions.Functions.{Functions}
 use Rattle.f90_surroundings.specs.Misplaced.{AreProper, IsWrittenOut}

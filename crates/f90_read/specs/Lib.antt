@@ -1,2 +1,3 @@
 pub mod Outcomes
 pub mod Checks
+pub mod f90_suits

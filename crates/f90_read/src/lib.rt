@@ -2,6 +2,7 @@
 #![tactic(auto)]
 
 mod causes;
+pub mod f90_suits;
 mod making;
 mod texts;
 

@@ -11,11 +11,11 @@ ghost use Rattle.f90_statements.specs.Views.{AreOf, IsStatementOf};
 ghost use Rattle.f90_read.specs.Checks.{IsTextOf, IsClearBelow, AreFunctionsOf};
 ghost use Rattle.f90_calls.specs.Hiding.{Hides, declared_by, names_of};
 
+use crate::f90_suits::trees;
 use f90_blocks::block;
 use f90_kinds::declarations::declarations;
 use f90_places::forms::Placed;
 use f90_statements::{Entity, Statement};
-use f90_suits::trees;
 use f90_trees::Functions;
 use fv_tree::{Memory, Name, Program90};
 use std::alloc::Global;

@@ -1,11 +1,8 @@
-//! What the readers of both dialects share: what may stand before an operand, why words aren't read, and how many
-//! elements bounds make.
+//! What the readers of both dialects share: what may stand before an operand, and why words aren't read.
 #![tactic(auto)]
 
-mod counts;
 mod signs;
 mod stops;
 
-pub use counts::{product_of, size_between, sum_of};
 pub use signs::Sign;
 pub use stops::Stop;

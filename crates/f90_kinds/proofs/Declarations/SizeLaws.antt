@@ -30,7 +30,7 @@ use Rattle.f90_statements.specs.declared.nodes.Statement.TheVariants.{Declare}
 use Rattle.f90_kinds.proofs.Declarations.EntryLaws.{is_declaration, declares_nothing}
 use Rattle.f90_kinds.proofs.Declarations.PlaceLaws.{same_length}
 use Rattle.f90_kinds.specs.declarations.Bounds.{are_wide, given_bounds, given_in, elements_in, all_elements}
-use Rattle.reading_parts.specs.Counts.{capped}
+use Rattle.element_counts.specs.Counts.{capped}
 
 -- ---- tests that fail
 

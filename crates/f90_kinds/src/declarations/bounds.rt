@@ -8,11 +8,11 @@ ghost use Rattle.f90_grammar.specs.Forms as forms;
 ghost use Rattle.f90_grammar.specs.Reading.{bound_value, dimension_bounds};
 ghost use Rattle.f90_statements.specs.Views.{AreOf, IsBoundOf, IsDimensionOf};
 ghost use Rattle.f90_kinds.specs.declarations.Bounds.{IsValueOf, IsNarrowOf, IsDimOf};
-ghost use Rattle.reading_parts.specs.Counts.{capped};
+ghost use Rattle.element_counts.specs.Counts.{capped};
 
+use element_counts::{product_of, size_between};
 use f90_statements::{Bound, Dimension};
 use fv_tree::Dim;
-use reading_parts::{product_of, size_between};
 
 // The value of a bound; none: its literal is above 2^127-1.
 fn value(bound: Bound) -> Option<i128>

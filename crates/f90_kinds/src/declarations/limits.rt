@@ -15,13 +15,13 @@ ghost use Rattle.f90_places.specs.forms.Places.{IsPlacedOf};
 ghost use Rattle.f90_places.specs.First.{FindsFirst};
 ghost use Rattle.f90_statements.specs.Views.{AreOf, IsDimensionOf, IsEntityOf, IsStatementOf};
 ghost use Rattle.f90_kinds.specs.declarations.Bounds.{are_wide, given_bounds, given_in, elements_in, all_elements};
-ghost use Rattle.reading_parts.specs.Counts.{capped};
+ghost use Rattle.element_counts.specs.Counts.{capped};
 
 use crate::declarations::bounds::{dim, elements};
+use element_counts::sum_of;
 use f90_places::forms::Placed;
 use f90_statements::{Dimension, Entity, Statement};
 use fv_tree::{ARRAY_ELEMENTS, PROGRAM_NAMES_90};
-use reading_parts::sum_of;
 
 // ---- bounds
 

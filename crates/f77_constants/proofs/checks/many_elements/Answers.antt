@@ -5,7 +5,7 @@ use Rattle.f77_syntax.specs.Views.{text_of, labelled_of}
 use Rattle.f77_syntax.specs.Walk.{passed}
 use Rattle.f77_syntax.proofs.Walks.{search_goes_on, search_stops_at, search_ends, text_passed}
 use Rattle.f77_constants.specs.Constants.{store_of}
-use Rattle.reading_parts.specs.Counts.{capped}
+use Rattle.element_counts.specs.Counts.{capped}
 use Rattle.f77_constants.proofs.SizeLaws.{count_at, are_many, are_few}
 use Rattle.fv_meaning.specs.Dialect.{fortran77}
 use Rattle.f77_constants.proofs.checks.many_elements.Goals as goal

@@ -3,7 +3,7 @@ use Rattle.f77_grammar.specs.program.Limits.{all_elements, has_many_elements}
 use Rattle.f77_syntax.specs.Views.{text_of}
 use Rattle.f77_syntax.specs.Walk.{passed, IsSearched}
 use Rattle.f77_constants.specs.Constants.{store_of}
-use Rattle.reading_parts.specs.Counts.{capped}
+use Rattle.element_counts.specs.Counts.{capped}
 use Rattle.fv_meaning.specs.Dialect.{fortran77}
 use Rattle.f77_constants.proofs.checks.many_elements.Given as goal
 

@@ -4,7 +4,7 @@ use Rattle.f77_grammar.specs.program.Limits.{elements}
 use Rattle.f77_syntax.specs.Views.{bounds_of, entity_of}
 use Rattle.f77_constants.specs.Constants.{store_of}
 use Rattle.f77_constants.specs.Bounds.{bounds_in}
-use Rattle.reading_parts.specs.Counts.{capped}
+use Rattle.element_counts.specs.Counts.{capped}
 use Rattle.f77_constants.proofs.SizeLaws.{capped_once, sum_more}
 use Rattle.fv_meaning.specs.Dialect.{fortran77}
 use Rattle.f77_constants.proofs.constants.Constants.all_elements.Goals as goal

@@ -2,7 +2,7 @@ use Rattle.std.proofs.Common.{◌≡◌, ◌*◌, map, drop}
 use Rattle.f77_grammar.specs.program.Limits.{product_of_sizes}
 use Rattle.f77_syntax.specs.Views.{bounds_of}
 use Rattle.f77_constants.specs.Constants.{store_of}
-use Rattle.reading_parts.specs.Counts.{capped}
+use Rattle.element_counts.specs.Counts.{capped}
 use Rattle.fv_meaning.specs.Dialect.{fortran77}
 use Rattle.f77_constants.proofs.constants.Constants.product.Given as goal
 

@@ -1,6 +1,6 @@
 use Rattle.std.proofs.Common.{arith, ◌≤◌, length, ap, ◌∙◌}
 use Rattle.f90_statements.specs.Views.{IsDimensionOf}
-use Rattle.reading_parts.specs.Counts.{capped}
+use Rattle.element_counts.specs.Counts.{capped}
 use Rattle.f90_kinds.proofs.Declarations.PlaceLaws.{same_length}
 use Rattle.f90_kinds.proofs.Declarations.SizeLaws.{some_elements}
 use Rattle.f90_kinds.proofs.declarations.bounds.elements.Goals as goal

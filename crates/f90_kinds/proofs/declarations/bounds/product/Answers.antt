@@ -6,7 +6,7 @@ use Rattle.f90_grammar.specs.Contents.{is_wide_dimension}
 use Rattle.f90_grammar.specs.Forms as forms
 use Rattle.f90_grammar.specs.Reading.{dimension_bounds}
 use Rattle.f90_statements.specs.Views.{IsDimensionOf}
-use Rattle.reading_parts.specs.Counts.{capped}
+use Rattle.element_counts.specs.Counts.{capped}
 use Rattle.f90_kinds.proofs.Declarations.PlaceLaws.{start, step, end}
 use Rattle.f90_kinds.proofs.Declarations.SizeLaws.{product_more, any_left, any_last}
 use Rattle.f90_kinds.proofs.declarations.bounds.product.Goals as goal

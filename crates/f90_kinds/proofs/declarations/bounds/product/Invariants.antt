@@ -5,7 +5,7 @@ use Rattle.f90_grammar.specs.Contents.{is_wide_dimension}
 use Rattle.f90_grammar.specs.Forms as forms
 use Rattle.f90_grammar.specs.Reading.{dimension_bounds}
 use Rattle.f90_statements.specs.Views.{AreOf, IsDimensionOf}
-use Rattle.reading_parts.specs.Counts.{capped}
+use Rattle.element_counts.specs.Counts.{capped}
 use Rattle.f90_kinds.proofs.declarations.bounds.product.Given as goal
 
 abbrev pub invariant-loop-dimension : goal.invariant-loop-dimension

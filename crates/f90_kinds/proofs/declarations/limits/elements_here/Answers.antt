@@ -1,5 +1,5 @@
 use Rattle.std.proofs.Common.{ap, sym, ◌∙◌}
-use Rattle.reading_parts.specs.Counts.{capped}
+use Rattle.element_counts.specs.Counts.{capped}
 use Rattle.f90_kinds.proofs.Declarations.SizeLaws.{given_are}
 use Rattle.f90_kinds.proofs.declarations.limits.elements_here.Goals as goal
 

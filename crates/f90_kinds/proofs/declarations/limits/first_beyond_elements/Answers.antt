@@ -4,7 +4,7 @@ use Rattle.f90_grammar.specs.Bounds.{declared_up_to}
 use Rattle.f90_grammar.specs.Declared.{declarations_of}
 use Rattle.f90_places.specs.forms.Places.{IsPlacedOf}
 use Rattle.f90_kinds.specs.declarations.Bounds.{all_elements}
-use Rattle.reading_parts.specs.Counts.{capped}
+use Rattle.element_counts.specs.Counts.{capped}
 use Rattle.f90_kinds.proofs.Declarations.PlaceLaws.{unmet, go_on, stop_at, never, start, step}
 use Rattle.f90_kinds.proofs.Declarations.SizeLaws.{Narrow, HasManyElements, count_more, narrow_before, narrow_last, narrow_up_to}
 use Rattle.f90_kinds.proofs.Declarations.SizeLaws.{are_few, are_many}

@@ -1,0 +1,16 @@
+use Rattle.std.proofs.Common.{List}
+use Rattle.fv_tree.specs.Plain.{Declaration}
+use Rattle.f90_kinds.specs.declarations.Names.{AreNamesOf}
+use Rattle.f90_places.specs.forms.Places.{IsPlacedOf}
+use Rattle.f90_grammar.specs.Blocks as grammar
+use Rattle.f90_grammar.specs.Declared.{HasKnownNames}
+use Rattle.f90_statements.specs.Views.{AreOf}
+use Rattle.f90_read.specs.f90_suits.Ready.{AreReady}
+use Rattle.f90_read.proofs.F90Suits.Walks.{AreGood}
+use Rattle.f90_read.proofs.f90_suits.known.first_unknown.Given as goal
+
+abbrev pub invariant-loop-place : goal.invariant-loop-place
+invariant-loop-place l =
+    (ps : List grammar.Placed) (ds : List Declaration) → AreOf IsPlacedOf l.text ps → AreNamesOf l.names ds
+    → AreReady l.functions ds ps
+    → AreGood ps (HasKnownNames ds) l.place

@@ -1,6 +1,0 @@
-mod HeldNames
-mod NamedForms
-mod StayedForms
-mod SuitedForms
-mod Texts
-mod Walks
