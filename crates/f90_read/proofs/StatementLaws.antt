@@ -42,7 +42,7 @@ use Rattle.f90_blocks.specs.statement_trees.Executable.{IsMarked}
 use Rattle.f90_read.specs.f90_suits.Ready.{IsReadyAt, AreReady, HoldsOfAll}
 use Rattle.f90_trees.specs.Hiding.{function_in}
 use Rattle.f90_trees.specs.declared.functions.Functions.{Functions}
-use Rattle.f90_surroundings.specs.Misplaced.{AreProper, IsWrittenOut}
+use Rattle.f90_read.specs.surroundings.Misplaced.{AreProper, IsWrittenOut}
 use Rattle.f90_read.specs.Checks.{IsClearBelow}
 use Rattle.f90_read.proofs.NumberLaws.{holds_nowhere}
 

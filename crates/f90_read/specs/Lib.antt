@@ -1,3 +1,4 @@
 pub mod Outcomes
 pub mod Checks
 pub mod f90_suits
+pub mod surroundings

@@ -9,13 +9,13 @@ ghost use Rattle.f90_statements.specs.Views.{AreOf};
 ghost use Rattle.f90_read.specs.Checks.{IsTextOf, IsNamedTextOf, IsClearBelow, Clears, RefusesAt};
 
 use crate::f90_suits::{first_unknown, first_unsuited};
+use crate::surroundings::first_misplaced;
 use f90_kinds::declarations::{
     Names, first_beyond_bounds, first_beyond_elements, first_beyond_names, first_repeated,
 };
 use f90_places::forms::Placed;
 use f90_places::{earlier, first_deep, first_wide, line_at};
 use f90_structure::{first_deep_block, first_disordered, first_wrong_label};
-use f90_surroundings::first_misplaced;
 use f90_trees::Functions;
 use fv_tree::{Cause, Refused};
 use std::alloc::Global;

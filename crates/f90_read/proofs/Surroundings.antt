@@ -1,0 +1,9 @@
+pub mod PlaceLaws
+pub mod ListLaws
+pub mod LabelLaws
+pub mod PassLaws
+pub mod LoopLaws
+pub mod JumpLaws
+pub mod NameLaws
+pub mod SuitLaws
+pub mod FoundLaws

@@ -1,9 +1,0 @@
-mod PlaceLaws
-mod ListLaws
-mod LabelLaws
-mod PassLaws
-mod LoopLaws
-mod JumpLaws
-mod NameLaws
-mod SuitLaws
-mod FoundLaws
