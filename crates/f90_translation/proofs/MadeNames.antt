@@ -17,9 +17,9 @@ use Rattle.fv_tree.specs.Plain.{Block}
 use Rattle.fv_tree.specs.View.{block_of}
 use Rattle.fv_tree.specs.declared.stmts.Block.{Block as Tree}
 use Rattle.fv_rewrite.proofs.UseLaws.{one_more}
-use Rattle.loop_placing.specs.Placing.{blocks_of}
+use Rattle.f90_translation.specs.loop_placing.Placing.{blocks_of}
 use Rattle.profile_laws.proofs.Lists.{cases_of, here, nowhere}
-use Rattle.program_translation.specs.Translated.{IsMadeIn, StandsInBlocks}
+use Rattle.f90_translation.specs.program_translation.Translated.{IsMadeIn, StandsInBlocks}
 use Rattle.f90_translation.specs.Names.{AreWithMade, IsMadeAmong, names_in_option}
 
 -- ---- one name

@@ -2,11 +2,11 @@
 use Rattle.std.proofs.Common.{◌≡◌, ◌↔◌, ◌∙◌, Bool, true, IsTrue, ℕ, Option, List, Contains, refl, ap, subst}
 use Rattle.fv_tree.specs.Plain.{Block, Declaration, Program, block}
 use Rattle.fv_tree.specs.declared.stmts.Block.{Block as Tree}
-use Rattle.loop_placing.specs.Placing.{blocks_of, placed_in}
-use Rattle.made_declarations.specs.Declaring.{with_integers}
-use Rattle.nest_blocks.specs.Answers.{AreAnswersFor}
-use Rattle.placed_profile.specs.Laws.{IsWithinLimits}
-use Rattle.program_translation.specs.Translated.{IsMadeIn}
+use Rattle.f90_translation.specs.loop_placing.Placing.{blocks_of, placed_in}
+use Rattle.f90_translation.specs.made_declarations.Declaring.{with_integers}
+use Rattle.f90_translation.specs.nest_blocks.Answers.{AreAnswersFor}
+use Rattle.f90_translation.specs.placed_profile.Laws.{IsWithinLimits}
+use Rattle.f90_translation.specs.program_translation.Translated.{IsMadeIn}
 use Rattle.f90_translation.specs.Translated.{IsVectorised}
 
 -- each step has the same blocks

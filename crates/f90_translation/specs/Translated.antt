@@ -1,9 +1,9 @@
 -- What a program is translated to, and its listing.
 use Rattle.std.specs.Prelude.{ℕ, Option, List}
 use Rattle.fv_tree.specs.Plain.{Block, Program}
-use Rattle.nest_blocks.specs.Answers.{AreAnswersFor}
-use Rattle.placed_profile.specs.Laws.{IsWithinLimits}
-use Rattle.program_translation.specs.Translated.{IsPlacedBy}
+use Rattle.f90_translation.specs.nest_blocks.Answers.{AreAnswersFor}
+use Rattle.f90_translation.specs.placed_profile.Laws.{IsWithinLimits}
+use Rattle.f90_translation.specs.program_translation.Translated.{IsPlacedBy}
 
 -- The lines are a listing of p; and q is p with the blocks in the place of its nests that are emitted by the graphs
 -- that are listed, within the limits of Fortran 90

@@ -1,7 +1,7 @@
 //! The limits of Fortran 90 on the statements of a program.
 ghost use Rattle.std.specs.Prelude.{◌↔◌, IsTrue};
 ghost use Rattle.fv_tree.specs.View.{block_of};
-ghost use Rattle.placed_profile.specs.Laws.{IsWithinLimits};
+ghost use Rattle.f90_translation.specs.placed_profile.Laws.{IsWithinLimits};
 
 use crate::depth::block_fits;
 use crate::number::without_block;

@@ -2,11 +2,11 @@
 ghost use Rattle.std.specs.Prelude.{◌↔◌, ◌∷◌, [], ℕ, List, IfOk, OnOk, Contains};
 ghost use Rattle.std.specs.Option.{option_map};
 ghost use Rattle.fv_tree.specs.View.{block_of};
-ghost use Rattle.loop_placing.specs.Placing.{blocks_of};
-ghost use Rattle.program_translation.specs.Translated.{IsMadeIn};
+ghost use Rattle.f90_translation.specs.loop_placing.Placing.{blocks_of};
+ghost use Rattle.f90_translation.specs.program_translation.Translated.{IsMadeIn};
 ghost use Rattle.f90_translation.specs.Names.{AreWithMade, names_in_option};
 
-use block_names::names_in_block;
+use crate::block_names::names_in_block;
 use fv_tree::{Block, Memory, Name, Seq};
 use indexmap::IndexSet;
 use std::alloc::Global;

@@ -9,9 +9,9 @@ ghost use Rattle.f90_translation.specs.Translated.{IsVectorised};
 use crate::limits::is_within_limits;
 use crate::names::made_names;
 use fv_tree::{Line, Memory, Program77, Program90, Seq};
-use loop_placing::place;
-use made_declarations::with_integers;
-use nest_blocks::program_answers;
+use crate::loop_placing::place;
+use crate::made_declarations::with_integers;
+use crate::nest_blocks::program_answers;
 use std::alloc::Global;
 
 /// A program that was translated, and its listing.

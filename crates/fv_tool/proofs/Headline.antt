@@ -24,15 +24,15 @@ use Rattle.fv_tool.proofs.SourceLines.{program_lines_are_source}
 use Rattle.fv_deck.proofs.Written.{IsSourceLine, source_alone, input_alone, source_before_data, input_after_data, no_input}
 use Rattle.fv_command.specs.declared.commands.Command.TheVariants.{Vectorise}
 use Rattle.fv_tool.specs.Decks.{IsReadAs}
-use Rattle.placed_loops.specs.Laws.{KeepsMeaning}
-use Rattle.program_translation.specs.Translated.{IsGoodTranslation}
-use Rattle.program_translation.proofs.Good.{translation_is_good}
+use Rattle.f90_translation.specs.placed_loops.Laws.{KeepsMeaning}
+use Rattle.f90_translation.specs.program_translation.Translated.{IsGoodTranslation}
+use Rattle.f90_translation.proofs.ProgramTranslation.Good.{translation_is_good}
 use Rattle.f90_translation.specs.Translated.{IsVectorised}
 use Rattle.listing_notes.proofs.Listed.{listing_lines_are_notes}
-use Rattle.nest_blocks.proofs.Blocks.{answers_are_blocks}
-use Rattle.nest_blocks.proofs.Listed.{answers_are_listed}
+use Rattle.f90_translation.proofs.NestBlocks.Blocks.{answers_are_blocks}
+use Rattle.f90_translation.proofs.NestBlocks.Listed.{answers_are_listed}
 use Rattle.program_listing.specs.Listing.{IsListing}
-use Rattle.program_marks.proofs.Law.{translation_is_marked}
+use Rattle.f90_translation.proofs.ProgramMarks.Law.{translation_is_marked}
 use Rattle.fv_tool.specs.Translation.{data_part, IsTranslationText}
 use Rattle.fv_tool.specs.Headline.{TranslationHolds}
 

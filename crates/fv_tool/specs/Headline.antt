@@ -6,9 +6,9 @@ use Rattle.f90_read_back.specs.ReadBack.{IsReadAs as IsTextOf}
 use Rattle.fv_io.specs.Streams.{Gives, GivesPart}
 use Rattle.fv_command.specs.declared.commands.Command.TheVariants.{Vectorise}
 use Rattle.fv_tool.specs.Decks.{IsReadAs}
-use Rattle.placed_loops.specs.Laws.{KeepsMeaning}
+use Rattle.f90_translation.specs.placed_loops.Laws.{KeepsMeaning}
 use Rattle.program_listing.specs.Listing.{IsListing}
-use Rattle.program_marks.specs.Marks.{IsMarkedAsListed}
+use Rattle.f90_translation.specs.program_marks.Marks.{IsMarkedAsListed}
 use Rattle.fv_tool.specs.Translation.{IsTranslationText}
 
 -- The text is a translation of the deck: the deck is read as the program, and the text is the printing of what that is

@@ -19,7 +19,7 @@ use Rattle.nest_graph.specs.References.{references_in_subscript, references_in_s
 use Rattle.nest_graph.specs.References.{references_of}
 use Rattle.nest_tree.specs.Bodies.{Standing, nest_statements}
 use Rattle.nest_tree.specs.Plain.{Nest}
-use Rattle.normal_facts.proofs.Texts.{IsOver, EachIsOver, AreOver, OneIsOver, GuardIsOver}
+use Rattle.normal_laws.proofs.NormalFacts.Texts.{IsOver, EachIsOver, AreOver, OneIsOver, GuardIsOver}
 use Rattle.subscripts.specs.declared.affine.Dirs.{Dirs}
 use Rattle.subscripts.specs.declared.verdict.Verdict.{Verdict}
 use Rattle.subscripts.specs.declared.verdict.Verdict.TheVariants.{Never, Pair, Assumed}

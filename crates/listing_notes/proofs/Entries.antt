@@ -26,7 +26,7 @@ use Rattle.graph_print.specs.Words.{kind_word, test_word, hold_word, sign_of}
 use Rattle.nest_tree.specs.Bodies.{Standing, nest_statements}
 use Rattle.nest_tree.specs.Plain.{Loop, Nest, Part, Run, Turns, Choice, Label, Jump, Parts, no_parts, part, Branches}
 use Rattle.nest_tree.specs.Plain.{no_branches, branch}
-use Rattle.normal_facts.proofs.LoopWalk.{EachLoop, EachLoopIn, EachLoopUnder}
+use Rattle.normal_laws.proofs.NormalFacts.LoopWalk.{EachLoop, EachLoopIn, EachLoopUnder}
 use Rattle.subscripts.specs.declared.affine.Dir.{Dir}
 use Rattle.subscripts.specs.declared.affine.Dir.TheVariants.{Lt, Eq, Gt, Any}
 use Rattle.subscripts.specs.declared.verdict.Test.{Test}

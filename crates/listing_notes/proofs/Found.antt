@@ -20,17 +20,17 @@ use Rattle.fv_tree.specs.Plain.{no_statements, statement, Declaration, Program}
 use Rattle.fv_tree.specs.declared.ops.Kind.{Kind}
 use Rattle.fv_tree.specs.declared.ops.Kind.TheVariants.{Integer}
 use Rattle.nest_order.specs.Lists.{In}
-use Rattle.nest_loops.proofs.Standing.{loop_stands}
+use Rattle.normal_laws.proofs.NestLoops.Standing.{loop_stands}
 use Rattle.nest_parts.specs.Numbers.{next, after, after_arms, after_block}
 use Rattle.nest_parts.specs.Statements.{parts_of, branches_of, parts_of_block}
 use Rattle.nest_reasons.specs.Symbols.{is_symbol, symbols_of}
 use Rattle.nest_tree.specs.Plain.{Loop, Nest, Part, parts}
-use Rattle.normal_facts.proofs.FoundSymbols.{chosen}
-use Rattle.normal_facts.proofs.Tables.{each_from}
-use Rattle.normal_facts.proofs.Texts.{IsOver, EachIsOver, AreOver, OneIsOver, IsStatementOver}
+use Rattle.normal_laws.proofs.NormalFacts.FoundSymbols.{chosen}
+use Rattle.normal_laws.proofs.NormalFacts.Tables.{each_from}
+use Rattle.normal_laws.proofs.NormalFacts.Texts.{IsOver, EachIsOver, AreOver, OneIsOver, IsStatementOver}
 use Rattle.profile_laws.proofs.Lists.{all_at}
 use Rattle.profile_laws.proofs.Names.{found}
-use Rattle.ready_nests.proofs.Walk.{EachIn, EachInParts, EachInBranches}
+use Rattle.normal_laws.proofs.ReadyNests.Walk.{EachIn, EachInParts, EachInBranches}
 use Rattle.listing_notes.proofs.Printable.{ArePrintable, name}
 
 abbrev pub IsPrintableLoop : Loop → Type 0

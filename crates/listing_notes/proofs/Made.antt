@@ -11,13 +11,13 @@ use Rattle.nest_tree.specs.Bodies.{Standing, nest_statements}
 use Rattle.nest_tree.specs.Plain.{Loop, Nest}
 use Rattle.normal_forms.specs.NormalLoops.{counter_name, normal_loop}
 use Rattle.normal_forms.specs.declared.loops.NormalLoop.{NormalLoop}
-use Rattle.normal_facts.proofs.LoopWalk.{LoopSteps, EachLoop, each_loop}
-use Rattle.normal_facts.proofs.Texts.{IsOver, IsStatementOver, CountersAre, normal_over, trip_over, first_over}
-use Rattle.normal_facts.proofs.Texts.{end_over}
-use Rattle.ready_nests.proofs.LoopForms.{normal_loop_is}
-use Rattle.ready_nests.proofs.Made.{made_of}
-use Rattle.ready_nests.proofs.NormalTrips.{AreLoops, loop_more, no_loops}
-use Rattle.ready_nests.proofs.Walk.{Steps, assigning, standing, each_statement}
+use Rattle.normal_laws.proofs.NormalFacts.LoopWalk.{LoopSteps, EachLoop, each_loop}
+use Rattle.normal_laws.proofs.NormalFacts.Texts.{IsOver, IsStatementOver, CountersAre, normal_over, trip_over, first_over}
+use Rattle.normal_laws.proofs.NormalFacts.Texts.{end_over}
+use Rattle.normal_laws.proofs.ReadyNests.LoopForms.{normal_loop_is}
+use Rattle.normal_laws.proofs.ReadyNests.Made.{made_of}
+use Rattle.normal_laws.proofs.ReadyNests.NormalTrips.{AreLoops, loop_more, no_loops}
+use Rattle.normal_laws.proofs.ReadyNests.Walk.{Steps, assigning, standing, each_statement}
 use Rattle.listing_notes.proofs.Found.{IsPrintableLoop, HasPrintableNames}
 use Rattle.listing_notes.proofs.Printable.{ArePrintable, both, number, word}
 

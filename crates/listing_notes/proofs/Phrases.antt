@@ -20,7 +20,7 @@ use Rattle.f90_grammar.specs.PrintedText.{in_parentheses, comma, sign_text, phra
 use Rattle.f90_grammar.specs.PrintedText.{expression_text, guard_text, guarded_assignment_text}
 use Rattle.f90_grammar.specs.Words.{truth_text}
 use Rattle.nest_tree.specs.Plain.{Guarded}
-use Rattle.normal_facts.proofs.Texts.{IsOver, EachIsOver, AreOver, OneIsOver, GuardIsOver, IsStatementOver}
+use Rattle.normal_laws.proofs.NormalFacts.Texts.{IsOver, EachIsOver, AreOver, OneIsOver, GuardIsOver, IsStatementOver}
 use Rattle.listing_notes.proofs.Printable.{ArePrintable, both, blank, word, number}
 
 -- ---- words

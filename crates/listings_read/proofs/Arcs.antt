@@ -26,7 +26,7 @@ use Rattle.nest_graph.specs.References.{references_in_guard, references_of}
 use Rattle.nest_graph.specs.Tested.{IsReference}
 use Rattle.nest_tree.specs.Bodies.{Standing, nest_statements}
 use Rattle.nest_tree.specs.Plain.{Nest}
-use Rattle.normal_facts.proofs.Texts.{IsOver, EachIsOver, AreOver, OneIsOver, GuardIsOver}
+use Rattle.normal_laws.proofs.NormalFacts.Texts.{IsOver, EachIsOver, AreOver, OneIsOver, GuardIsOver}
 use Rattle.subscripts.specs.declared.affine.Dir.TheVariants.{Lt, Eq, Gt, Any}
 use Rattle.subscripts.specs.declared.affine.Dir.{Dir}
 use Rattle.subscripts.specs.declared.affine.Dirs.{Dirs}

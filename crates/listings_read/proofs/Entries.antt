@@ -25,7 +25,7 @@ use Rattle.nest_graph.specs.Ready.{IsReady}
 use Rattle.nest_tree.specs.Bodies.{Standing, nest_statements}
 use Rattle.nest_tree.specs.Plain.{Loop, Nest, Part, Run, Turns, Choice, Label, Jump, Parts, no_parts, part, Branches}
 use Rattle.nest_tree.specs.Plain.{no_branches, branch}
-use Rattle.normal_facts.proofs.LoopWalk.{EachLoop, EachLoopIn, EachLoopUnder}
+use Rattle.normal_laws.proofs.NormalFacts.LoopWalk.{EachLoop, EachLoopIn, EachLoopUnder}
 use Rattle.program_listing.specs.Listing.{all_holds, tested_entries}
 use Rattle.sections.specs.Holds.{reason_of, hold_with, hold_at_level, holds_of}
 use Rattle.sections.specs.Statements.{no_statement, statement_at, surroundings_at}

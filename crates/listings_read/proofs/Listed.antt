@@ -19,9 +19,9 @@ use Rattle.nest_tree.specs.Bodies.{nest_statements}
 use Rattle.nest_tree.specs.Plain.{Nest}
 use Rattle.profile_laws.proofs.Lists.{here, there}
 use Rattle.program_listing.specs.Listing.{HasGraphEntries, HasNestEntries, HasEntries, HaveEntries, not_built}
-use Rattle.ready_nests.proofs.Lists.{Each-Contains}
-use Rattle.ready_nests.proofs.Made.{made_of}
-use Rattle.ready_nests.proofs.NormalReady.{normal_nest_is_ready}
+use Rattle.normal_laws.proofs.ReadyNests.Lists.{Each-Contains}
+use Rattle.normal_laws.proofs.ReadyNests.Made.{made_of}
+use Rattle.normal_laws.proofs.ReadyNests.NormalReady.{normal_nest_is_ready}
 use Rattle.listings_read.proofs.Entries.{AreListable, nest_listable}
 use Rattle.listings_read.proofs.Found.{IsFairNest, found_fair, kept_line}
 use Rattle.listings_read.proofs.Made.{made_tidy, same_line}

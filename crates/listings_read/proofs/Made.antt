@@ -17,14 +17,14 @@ use Rattle.loop_normal.specs.Values.{normal_statement}
 use Rattle.nest_graph.specs.References.{references_of}
 use Rattle.nest_tree.specs.Bodies.{Standing, nest_statements}
 use Rattle.nest_tree.specs.Plain.{Loop, Guarded, Nest, Part}
-use Rattle.normal_facts.proofs.LoopWalk.{LoopSteps, EachLoop, each_loop}
-use Rattle.normal_facts.proofs.Texts.{IsOver, IsStatementOver, CountersAre, normal_over, first_over, end_over}
+use Rattle.normal_laws.proofs.NormalFacts.LoopWalk.{LoopSteps, EachLoop, each_loop}
+use Rattle.normal_laws.proofs.NormalFacts.Texts.{IsOver, IsStatementOver, CountersAre, normal_over, first_over, end_over}
 use Rattle.normal_forms.specs.NormalLoops.{normal_loop}
 use Rattle.normal_forms.specs.declared.loops.NormalLoop.{NormalLoop}
-use Rattle.ready_nests.proofs.LoopForms.{normal_loop_is}
-use Rattle.ready_nests.proofs.Made.{made_of}
-use Rattle.ready_nests.proofs.NormalTrips.{AreLoops, loop_more, no_loops}
-use Rattle.ready_nests.proofs.Walk.{Steps, assigning, standing, each_statement}
+use Rattle.normal_laws.proofs.ReadyNests.LoopForms.{normal_loop_is}
+use Rattle.normal_laws.proofs.ReadyNests.Made.{made_of}
+use Rattle.normal_laws.proofs.ReadyNests.NormalTrips.{AreLoops, loop_more, no_loops}
+use Rattle.normal_laws.proofs.ReadyNests.Walk.{Steps, assigning, standing, each_statement}
 use Rattle.std.specs.Option.{option_map}
 use Rattle.listings_read.proofs.Counts.{few_references}
 use Rattle.listings_read.proofs.Found.{IsFairLoop, IsFairStatement, IsFairNest}

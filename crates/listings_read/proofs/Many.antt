@@ -22,8 +22,8 @@ use Rattle.nest_tree.specs.Plain.{no_branches, branch, Nest}
 use Rattle.normal_forms.specs.NormalLoops.{normal_loop, is_positive, is_known}
 use Rattle.normal_forms.specs.Texts.{at_least_one}
 use Rattle.normal_forms.specs.declared.loops.NormalLoop.{NormalLoop}
-use Rattle.ready_nests.proofs.Lists.{statements_joined}
-use Rattle.ready_nests.proofs.Made.{IsMadeOf}
+use Rattle.normal_laws.proofs.ReadyNests.Lists.{statements_joined}
+use Rattle.normal_laws.proofs.ReadyNests.Made.{IsMadeOf}
 
 -- a statement counts 1, and a loop 2
 abbrev mutual

@@ -16,9 +16,9 @@ use Rattle.normal_forms.specs.NormalLoops.{trip_by, trip_form, trip_of, variable
 use Rattle.normal_forms.specs.Steps.{◌>>=◌}
 use Rattle.normal_forms.specs.declared.combinations.Multiple.{Multiple}
 use Rattle.normal_forms.specs.declared.loops.NormalLoop.{NormalLoop}
-use Rattle.ready_nests.proofs.LoopForms.{after_below, after_end, after_first, after_top, after_trip, after_value}
-use Rattle.ready_nests.proofs.LoopForms.{from_first, step}
-use Rattle.ready_nests.proofs.Sums.{sum_of}
+use Rattle.normal_laws.proofs.ReadyNests.LoopForms.{after_below, after_end, after_first, after_top, after_trip, after_value}
+use Rattle.normal_laws.proofs.ReadyNests.LoopForms.{from_first, step}
+use Rattle.normal_laws.proofs.ReadyNests.Sums.{sum_of}
 use Rattle.subscripts.specs.declared.affine.Affine.{Affine}
 
 pub record IsSized (a : Affine) : Type 0 where

@@ -28,7 +28,7 @@ use Rattle.nest_tree.specs.declared.parts.Trip.{Trip}
 use Rattle.normal_forms.specs.NormalLoops.{counters_of}
 use Rattle.normal_forms.specs.Texts.{quotient, trip_text, counter_first, value_text}
 use Rattle.normal_forms.specs.declared.loops.NormalLoop.{NormalLoop}
-use Rattle.normal_runs.proofs.Stores.{counters_many}
+use Rattle.normal_laws.proofs.NormalRuns.Stores.{counters_many}
 use Rattle.subscripts.specs.declared.affine.Affine.{Affine}
 use Rattle.listings_read.proofs.Counts.{count, count_of, Growth, Grows, statement_grown, unguarded, terms_count}
 use Rattle.listings_read.proofs.Counts.{constant_count, total, total_least, AreFew, symbols_count}

@@ -12,9 +12,9 @@ use Rattle.fv_tree.proofs.Equations.{block_of-is, block_of-made, expression_equa
 use Rattle.components.specs.declared.graphs.Edge.{Edge}
 use Rattle.components.specs.declared.graphs.Hold.{Hold}
 use Rattle.array_form.specs.Statement.{block_of_one}
-use Rattle.emission_pieces.specs.Emission.{AreEmittedFor, HasToTurn, IsEmittedFor}
-use Rattle.emission_pieces.specs.Levels.{AreComponents}
-use Rattle.emission_pieces.specs.Pieces.{Piece, Kept, Formed, Turning, Pieces, no_pieces, piece, block_of_piece, block_of_pieces, formed_block, kept_statement, turning_statement}
+use Rattle.emission_laws.specs.emission_pieces.Emission.{AreEmittedFor, HasToTurn, IsEmittedFor}
+use Rattle.emission_laws.specs.emission_pieces.Levels.{AreComponents}
+use Rattle.emission_laws.specs.emission_pieces.Pieces.{Piece, Kept, Formed, Turning, Pieces, no_pieces, piece, block_of_piece, block_of_pieces, formed_block, kept_statement, turning_statement}
 use Rattle.nest_tree.specs.Blocks.{block_then}
 use Rattle.nest_tree.specs.Plain.{Nest}
 use Rattle.nest_emission.specs.Blocks.{IsBlockFor, IsBlockForAll, IsBlockInLoop, IsBlockOfPart}

@@ -13,9 +13,9 @@ use Rattle.components.specs.declared.graphs.Edge.{Edge}
 use Rattle.components.proofs.ClassLaws.{In-concat}
 use Rattle.components.proofs.ListLaws.{Each-In}
 use Rattle.components.proofs.Walks.{Reaches-trans}
-use Rattle.emission_pieces.specs.Levels.{AreComponents, ArePairsAt, is_at_work, joins}
-use Rattle.emission_pieces.specs.Nests.{AreEdgesOf, IsEdgeOf, common_of, loops_at}
-use Rattle.emission_pieces.proofs.Lists.{any_in}
+use Rattle.emission_laws.specs.emission_pieces.Levels.{AreComponents, ArePairsAt, is_at_work, joins}
+use Rattle.emission_laws.specs.emission_pieces.Nests.{AreEdgesOf, IsEdgeOf, common_of, loops_at}
+use Rattle.emission_laws.proofs.EmissionPieces.Lists.{any_in}
 use Rattle.nest_tree.specs.Bodies.{nest_statements}
 use Rattle.nest_tree.specs.Plain.{Loop, Nest}
 use Rattle.nest_emission.specs.Given.{AreInside, HasLoop, IsClass}

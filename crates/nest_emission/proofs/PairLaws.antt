@@ -9,7 +9,7 @@ use Rattle.components.specs.Lists.{In, Distinct}
 use Rattle.components.specs.Reachability.{AreBelow}
 use Rattle.components.specs.declared.graphs.Edge.{Edge}
 use Rattle.components.proofs.ListLaws.{Each-from, In-append, In-left, In-right}
-use Rattle.emission_pieces.specs.Levels.{ArePairsAt, is_at_work, joins, leads}
+use Rattle.emission_laws.specs.emission_pieces.Levels.{ArePairsAt, is_at_work, joins, leads}
 use Rattle.nest_emission.specs.Pairs.{AddsPairOf}
 use Rattle.nest_emission.proofs.Lists.{same_place}
 

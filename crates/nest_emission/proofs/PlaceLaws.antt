@@ -3,7 +3,7 @@ use Rattle.std.proofs.Common.{◌≡◌, ap, subst, ◌∙◌, ℕ, List, length
 use Rattle.components.specs.Emission.{statements_of}
 use Rattle.components.specs.Orders.{IsOrder}
 use Rattle.components.specs.declared.graphs.Edge.{Edge}
-use Rattle.emission_pieces.specs.Levels.{AreComponents, ArePairsAt}
+use Rattle.emission_laws.specs.emission_pieces.Levels.{AreComponents, ArePairsAt}
 
 pub components_are : (edges : List Edge) (k : ℕ) (part : List ℕ) (pairs given : List (ℕ × ℕ)) (members order classes : List (List ℕ))
     → ArePairsAt edges k part pairs → given ≡ pairs → IsOrder (length part) given members → order ≡ members → classes ≡ statements_of part order

@@ -4,8 +4,8 @@ use Rattle.std.specs.Prelude.{slice_get}
 use Rattle.std.specs.Option.{option_map}
 use Rattle.std.proofs.lemmas.Option.{slice_get-map}
 use Rattle.components.specs.Lists.{In}
-use Rattle.emission_pieces.specs.Emission.{IsLoopOf}
-use Rattle.emission_pieces.specs.Nests.{loops_at, standing_at}
+use Rattle.emission_laws.specs.emission_pieces.Emission.{IsLoopOf}
+use Rattle.emission_laws.specs.emission_pieces.Nests.{loops_at, standing_at}
 use Rattle.nest_tree.specs.Bodies as bodies
 use Rattle.nest_tree.specs.Bodies.{nest_statements}
 use Rattle.nest_tree.specs.Plain.{Nest}

@@ -18,8 +18,8 @@ use Rattle.array_form.specs.Statement.{block_of_one}
 use Rattle.array_form.proofs.SurroundingLaws.{has_places, own_loops}
 use Rattle.array_forms.specs.Loops as forms
 use Rattle.array_forms.specs.Statements.{array_form_of}
-use Rattle.emission_pieces.specs.Nests.{loops_at, standing_at}
-use Rattle.emission_pieces.specs.Pieces.{formed_block, kept_statement, mark_of}
+use Rattle.emission_laws.specs.emission_pieces.Nests.{loops_at, standing_at}
+use Rattle.emission_laws.specs.emission_pieces.Pieces.{formed_block, kept_statement, mark_of}
 use Rattle.nest_tree.specs.Bodies as bodies
 use Rattle.nest_tree.specs.Plain.{Loop, Nest}
 use Rattle.nest_tree.specs.View.{loop_of}

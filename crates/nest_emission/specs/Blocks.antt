@@ -3,8 +3,8 @@ use Rattle.std.specs.Prelude.{◌≡◌, ℕ, suc, List}
 use Rattle.fv_tree.specs.Plain.{Block}
 use Rattle.components.specs.declared.graphs.Edge.{Edge}
 use Rattle.components.specs.declared.graphs.Hold.{Hold}
-use Rattle.emission_pieces.specs.Emission.{AreEmitted, AreEmittedFor, IsEmittedFor, IsLoopOf}
-use Rattle.emission_pieces.specs.Pieces.{Piece, Pieces, block_of_piece, block_of_pieces, turning_statement}
+use Rattle.emission_laws.specs.emission_pieces.Emission.{AreEmitted, AreEmittedFor, IsEmittedFor, IsLoopOf}
+use Rattle.emission_laws.specs.emission_pieces.Pieces.{Piece, Pieces, block_of_piece, block_of_pieces, turning_statement}
 use Rattle.nest_tree.specs.Plain.{Loop, Nest}
 use Rattle.array_form.specs.Statement.{block_of_one}
 

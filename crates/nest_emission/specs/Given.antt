@@ -4,9 +4,9 @@ use Rattle.components.specs.Lists.{In, Distinct}
 use Rattle.components.specs.declared.graphs.Edge.{Edge}
 use Rattle.components.specs.declared.graphs.Graph.{Graph}
 use Rattle.components.specs.declared.graphs.Hold.{Hold}
-use Rattle.emission_pieces.specs.Emission.{HasToTurn, IsEmittedFor}
-use Rattle.emission_pieces.specs.Nests.{AreEdgesOf, loops_at}
-use Rattle.emission_pieces.specs.Pieces as pieces
+use Rattle.emission_laws.specs.emission_pieces.Emission.{HasToTurn, IsEmittedFor}
+use Rattle.emission_laws.specs.emission_pieces.Nests.{AreEdgesOf, loops_at}
+use Rattle.emission_laws.specs.emission_pieces.Pieces as pieces
 use Rattle.nest_tree.specs.Bodies.{Standing, nest_statements}
 use Rattle.nest_tree.specs.Plain.{Nest}
 use Rattle.nest_tree.specs.View.{nest_of}

@@ -2,7 +2,7 @@
 use Rattle.std.specs.Prelude.{◌≡◌, ◌↔◌, ◌⊎◌, ◌<◌, ℕ, true, List, length, slice_index}
 use Rattle.components.specs.Lists.{In}
 use Rattle.components.specs.declared.graphs.Edge.{Edge}
-use Rattle.emission_pieces.specs.Levels.{joins}
+use Rattle.emission_laws.specs.emission_pieces.Levels.{joins}
 
 -- to the old pairs come the places of the two statements of the part that it joins, where there are such
 abbrev pub AddsPairOf : ℕ → List ℕ → Edge → List (ℕ × ℕ) → List (ℕ × ℕ) → Type 0

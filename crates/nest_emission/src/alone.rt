@@ -1,6 +1,6 @@
 //! Whether a statement by itself may stand in array form.
 ghost use Rattle.std.specs.Prelude.{◌≡◌};
-ghost use Rattle.emission_pieces.specs.Levels.{is_anti, is_held, is_hold_of, is_own, is_recurrent, may_be_formed};
+ghost use Rattle.emission_laws.specs.emission_pieces.Levels.{is_anti, is_held, is_hold_of, is_own, is_recurrent, may_be_formed};
 
 use crate::pairs::joins;
 use components::{Dep, Edge, Hold};

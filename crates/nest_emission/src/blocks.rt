@@ -1,8 +1,8 @@
 //! What is emitted for a part of a nest, class by class.
 ghost use Rattle.std.specs.Prelude.{◌≡◌, ◌≤◌, ◌<◌, IfOk, OnOk, length, map};
 ghost use Rattle.components.specs.Lists.{Distinct};
-ghost use Rattle.emission_pieces.specs.Nests.{loops_at};
-ghost use Rattle.emission_pieces.specs.Pieces.{formed_block, kept_statement, turning_statement};
+ghost use Rattle.emission_laws.specs.emission_pieces.Nests.{loops_at};
+ghost use Rattle.emission_laws.specs.emission_pieces.Pieces.{formed_block, kept_statement, turning_statement};
 ghost use Rattle.fv_tree.specs.Plain.{block};
 ghost use Rattle.fv_tree.specs.View.{block_of, statement_of};
 ghost use Rattle.nest_tree.specs.Blocks.{block_then};

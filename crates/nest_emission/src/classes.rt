@@ -2,7 +2,7 @@
 ghost use Rattle.std.specs.Prelude.{◌≡◌, ◌<◌, All, IfOk, length, map, slice_index};
 ghost use Rattle.components.specs.Emission.{statements_of};
 ghost use Rattle.components.specs.Lists.{Distinct};
-ghost use Rattle.emission_pieces.specs.Levels.{AreComponents};
+ghost use Rattle.emission_laws.specs.emission_pieces.Levels.{AreComponents};
 
 use crate::pairs::pairs_at;
 use components::{Edge, components};

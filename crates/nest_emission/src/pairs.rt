@@ -1,7 +1,7 @@
 //! Which statements of a part lead to which by the dependences at work at a level.
 ghost use Rattle.std.specs.Prelude.{◌≡◌, ◌≢◌, ◌<◌, ℕ, IfOk, IfSome, IsNone, OnOk, length, slice_index};
 ghost use Rattle.components.specs.Lists.{Distinct};
-ghost use Rattle.emission_pieces.specs.Levels.{ArePairsAt, is_at_work, joins};
+ghost use Rattle.emission_laws.specs.emission_pieces.Levels.{ArePairsAt, is_at_work, joins};
 ghost use Rattle.nest_emission.specs.Pairs.{AddsPairOf};
 
 use components::Edge;

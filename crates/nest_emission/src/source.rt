@@ -1,8 +1,8 @@
 //! What is emitted from, and how its classes are emitted.
 ghost use Rattle.std.specs.Prelude.{◌≡◌, ◌≤◌, ◌<◌, length};
-ghost use Rattle.emission_pieces.specs.Emission.{IsLoopOf};
-ghost use Rattle.emission_pieces.specs.Nests.{standing_at};
-ghost use Rattle.emission_pieces.specs.Pieces.{mark_of};
+ghost use Rattle.emission_laws.specs.emission_pieces.Emission.{IsLoopOf};
+ghost use Rattle.emission_laws.specs.emission_pieces.Nests.{standing_at};
+ghost use Rattle.emission_laws.specs.emission_pieces.Pieces.{mark_of};
 ghost use Rattle.nest_tree.specs.Bodies.{nest_statements};
 ghost use Rattle.nest_tree.specs.View.{loop_of};
 ghost use Rattle.statement_loops.specs.Standings.{standing_of};

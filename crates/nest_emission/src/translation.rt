@@ -1,7 +1,7 @@
 //! The translation of a nest.
 ghost use Rattle.std.specs.Prelude.{◌≡◌, ◌++◌, IfOk, OnOk, length, map};
 ghost use Rattle.std.specs.List.{flat_map, range_with_len};
-ghost use Rattle.emission_pieces.specs.Emission.{IsEmission};
+ghost use Rattle.emission_laws.specs.emission_pieces.Emission.{IsEmission};
 ghost use Rattle.fv_tree.specs.Plain.{block};
 ghost use Rattle.fv_tree.specs.View.{block_of, statement_of};
 ghost use Rattle.nest_tree.specs.View.{made_of, nest_of};

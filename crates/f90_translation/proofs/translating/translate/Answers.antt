@@ -1,6 +1,6 @@
 use Rattle.std.proofs.Common.{◌≡◌, ◌∙◌, ap, map, true, rules, arith}
 use Rattle.fv_tree.specs.View.{block_of, declaration_of, program_of}
-use Rattle.made_declarations.specs.Declaring.{with_integers}
+use Rattle.f90_translation.specs.made_declarations.Declaring.{with_integers}
 use Rattle.f90_translation.proofs.Translations.{vectorised}
 use Rattle.f90_translation.proofs.translating.translate.Goals as goal
 

@@ -2,7 +2,7 @@ use Rattle.std.proofs.Common.{◌≡◌, ◌<◌, ℕ, List, length, sym, subst}
 use Rattle.std.specs.Prelude.{All}
 use Rattle.components.specs.Emission.{statements_of}
 use Rattle.components.specs.Reachability.{AreBelow}
-use Rattle.emission_pieces.specs.Levels.{AreComponents}
+use Rattle.emission_laws.specs.emission_pieces.Levels.{AreComponents}
 use Rattle.nest_emission.proofs.BlockLaws.{weaker}
 use Rattle.nest_emission.proofs.Lists.{all_below}
 use Rattle.nest_emission.proofs.PairLaws.{pairs_below}

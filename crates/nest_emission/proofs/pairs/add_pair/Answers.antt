@@ -1,5 +1,5 @@
 use Rattle.std.proofs.Common.{◌≡◌, true, arith, rules}
-use Rattle.emission_pieces.specs.Levels.{is_at_work}
+use Rattle.emission_laws.specs.emission_pieces.Levels.{is_at_work}
 use Rattle.nest_emission.proofs.PairLaws.{both_found}
 use Rattle.nest_emission.proofs.pairs.add_pair.Goals as goal
 

@@ -1,7 +1,7 @@
 use Rattle.std.proofs.Common.{List, subst, arith}
 use Rattle.std.proofs.lemmas.List.{take_all}
 use Rattle.components.specs.declared.graphs.Edge.{Edge}
-use Rattle.emission_pieces.specs.Levels.{ArePairsAt}
+use Rattle.emission_laws.specs.emission_pieces.Levels.{ArePairsAt}
 use Rattle.nest_emission.proofs.PairLaws.{pairs_more}
 use Rattle.nest_emission.proofs.pairs.pairs_at.Goals as goal
 

@@ -1,5 +1,5 @@
 use Rattle.std.proofs.Common.{◌+◌, ap, ◌∙◌}
-use Rattle.emission_pieces.specs.Pieces.{mark_of}
+use Rattle.emission_laws.specs.emission_pieces.Pieces.{mark_of}
 use Rattle.nest_emission.specs.Given.{nest_in}
 use Rattle.nest_emission.proofs.StatementLaws.{kept_ok}
 use Rattle.nest_emission.proofs.source.Source.kept_block.Goals as goal

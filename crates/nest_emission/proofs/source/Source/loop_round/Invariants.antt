@@ -1,6 +1,6 @@
 -- None so far stands in a loop of the level.
 use Rattle.std.proofs.Common.{ℕ, ◌<◌, length, get_or}
-use Rattle.emission_pieces.specs.Nests.{loops_at}
+use Rattle.emission_laws.specs.emission_pieces.Nests.{loops_at}
 use Rattle.nest_emission.specs.Given.{nest_in}
 use Rattle.nest_emission.proofs.source.Source.loop_round.Given as goal
 

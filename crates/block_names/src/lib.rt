@@ -1,8 +1,0 @@
-//! The names that stand in a block.
-#![tactic(auto)]
-
-mod expressions;
-mod listing;
-mod statements;
-
-pub use listing::names_in_block;

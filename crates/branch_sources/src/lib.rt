@@ -1,6 +1,0 @@
-//! The nests that are found in a program have what the law of nests with IFs and jumps asks for.
-#![tactic(auto)]
-
-mod laws;
-
-pub use laws::{found_nest_is_branched_source, found_nest_keeps_meaning};

@@ -1,8 +1,0 @@
-mod Lists
-mod Walks
-mod Parts
-mod Blocks
-mod Bodies
-mod Marked
-pub mod Pieces
-pub mod Together

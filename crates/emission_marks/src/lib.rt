@@ -1,6 +1,0 @@
-//! Which statements of a nest become array statements.
-#![tactic(auto)]
-
-mod laws;
-
-pub use laws::{emission_is_marked, emission_keeps_together};

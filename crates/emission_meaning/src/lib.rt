@@ -1,6 +1,0 @@
-//! What is emitted for a nest by its dependence graph keeps the nest's meaning.
-#![tactic(auto)]
-
-mod laws;
-
-pub use laws::emission_keeps_meaning;

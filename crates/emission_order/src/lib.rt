@@ -1,6 +1,0 @@
-//! Recursive emission of a nest with the classes that the crate `components` gives.
-#![tactic(auto)]
-
-mod laws;
-
-pub use laws::order_is_components;

@@ -1,0 +1,24 @@
+use Rattle.std.proofs.Common.{arith}
+use Rattle.fv_tree.specs.View.{expression_of, loop_of, subscript_of}
+use Rattle.fv_meaning.specs.Reads.{names_in, names_in_subscript}
+use Rattle.f90_translation.specs.block_names.Names.{names_in_loop}
+use Rattle.f90_translation.proofs.BlockNames.ExpressionNames.{more}
+use Rattle.f90_translation.proofs.block_names.expressions.Names.+expressions.Goals as goal
+
+pub add_exprs-loop-expr-preserved : goal.add_exprs-loop-expr-preserved
+add_exprs-loop-expr-preserved t c =
+    more names_in expression_of c.as_slice-expr-items.result.now c.loop-expr.expr-index c.expr-item.result
+    c.args.self.now.list c.loop-expr.self.list c.add_expr.new.self.list
+    (omega arith) c.expr-item.is c.loop-expr.invariant c.in_ok-add_expr.ensures
+
+pub add_turns-loop-turn-preserved : goal.add_turns-loop-turn-preserved
+add_turns-loop-turn-preserved t c =
+    more names_in_loop loop_of c.as_slice-turn-items.result.now c.loop-turn.turn-index c.turn-item.result
+    c.args.self.now.list c.loop-turn.self.list c.add_turn.new.self.list
+    (omega arith) c.turn-item.is c.loop-turn.invariant c.in_ok-add_turn.ensures
+
+pub add_subs-loop-sub-preserved : goal.add_subs-loop-sub-preserved
+add_subs-loop-sub-preserved t c =
+    more names_in_subscript subscript_of c.as_slice-sub-items.result.now c.loop-sub.sub-index c.sub-item.result
+    c.args.self.now.list c.loop-sub.self.list c.add_sub.new.self.list
+    (omega arith) c.sub-item.is c.loop-sub.invariant c.in_ok-add_sub.ensures

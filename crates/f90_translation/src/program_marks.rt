@@ -1,0 +1,4 @@
+//! The marks of a translated program.
+mod laws;
+
+pub use laws::translation_is_marked;

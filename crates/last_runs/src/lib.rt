@@ -1,6 +1,0 @@
-//! The last values of a nest's loop variables, behind all loops.
-#![tactic(auto)]
-
-mod laws;
-
-pub use laws::last_values_behind;

@@ -1,6 +1,0 @@
-//! The numbers of loops and nests.
-#![tactic(auto)]
-
-mod laws;
-
-pub use laws::{loop_numbers_count, loops_are_numbered, nests_are_numbered};

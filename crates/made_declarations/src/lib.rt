@@ -1,8 +1,0 @@
-//! Declarations of made names among those of a program.
-#![tactic(auto)]
-
-mod declaring;
-mod laws;
-
-pub use declaring::with_integers;
-pub use laws::with_made_names;

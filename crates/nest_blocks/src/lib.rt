@@ -1,9 +1,0 @@
-//! The listing of a program, and what stands in the place of its nests.
-#![tactic(auto)]
-
-mod answers;
-mod laws;
-mod places;
-
-pub use answers::{Answers, program_answers};
-pub use laws::{answers_are_blocks, answers_are_listed};

@@ -1,6 +1,0 @@
-//! What nests do beside the loops that they come from.
-#![tactic(auto)]
-
-mod laws;
-
-pub use laws::nest_runs_as_loop;

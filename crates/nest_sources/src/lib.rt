@@ -1,6 +1,0 @@
-//! Laws of nests and the loops that they come from.
-#![tactic(auto)]
-
-mod laws;
-
-pub use laws::{nest_of_loop, parts_of_statements};

@@ -1,6 +1,0 @@
-//! What stands in the place of a nest does what the nest's loop does.
-#![tactic(auto)]
-
-mod laws;
-
-pub use laws::translation_does_as_loop;

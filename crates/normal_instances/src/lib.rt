@@ -1,6 +1,0 @@
-//! The run of a nest whose loops go from 1 by 1, by its instances.
-#![tactic(auto)]
-
-mod laws;
-
-pub use laws::run_of_normal_nest;

@@ -1,0 +1,13 @@
+pub mod NormalFacts
+pub mod FoundSources
+pub mod NormalNests
+pub mod ReadyNests
+pub mod NormalRuns
+pub mod LastRuns
+pub mod NormalMeaning
+pub mod BranchMeaning
+pub mod BranchSources
+pub mod NestLoops
+pub mod NestSources
+pub mod NormalValues
+pub mod NormalLoop

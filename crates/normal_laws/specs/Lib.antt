@@ -1,0 +1,13 @@
+pub mod normal_facts
+pub mod found_sources
+pub mod normal_nests
+pub mod ready_nests
+pub mod normal_runs
+pub mod last_runs
+pub mod normal_meaning
+pub mod branch_meaning
+pub mod branch_sources
+pub mod nest_loops
+pub mod nest_sources
+pub mod normal_values
+pub mod normal_loop

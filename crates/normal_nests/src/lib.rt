@@ -1,6 +1,0 @@
-//! Each nest that is found has a nest with loops from 1 by 1.
-#![tactic(auto)]
-
-mod laws;
-
-pub use laws::normalised_nest;

@@ -1,8 +1,0 @@
-mod Rounds
-mod Endings
-mod Nests
-mod Placed
-mod Members
-mod Found
-mod Once
-pub mod Law

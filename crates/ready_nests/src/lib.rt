@@ -1,6 +1,0 @@
-//! What is made of the nests of a program, with loops from 1 by 1, may be tested for dependences.
-#![tactic(auto)]
-
-mod laws;
-
-pub use laws::{found_loops, normal_loops, normal_nest, normal_trips};

@@ -1,7 +1,0 @@
-//! The listing of a nest, and its translation: array assignments and loops in its place.
-#![tactic(auto)]
-
-mod alone;
-mod answers;
-
-pub use answers::{Answer, answer_to};
