@@ -7,11 +7,11 @@ ghost use Rattle.fv_tree.specs.View.{program_of, program_of_90};
 ghost use Rattle.f90_translation.specs.Translated.{IsVectorised};
 
 use crate::limits::is_within_limits;
-use crate::names::made_names;
-use fv_tree::{Line, Memory, Program77, Program90, Seq};
 use crate::loop_placing::place;
 use crate::made_declarations::with_integers;
+use crate::names::made_names;
 use crate::nest_blocks::program_answers;
+use fv_tree::{Line, Memory, Program77, Program90, Seq};
 use std::alloc::Global;
 
 /// A program that was translated, and its listing.

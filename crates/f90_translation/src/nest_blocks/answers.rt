@@ -11,10 +11,10 @@ ghost use Rattle.f90_translation.specs.nest_blocks.Answers.{AreAnswersFor};
 ghost use Rattle.f90_translation.specs.nest_blocks.Places.{IsPutFor};
 
 use crate::nest_blocks::places::{loop_number, put};
+use crate::translate_nest::answer_to;
 use find_nests::{Found, find_nests};
 use fv_tree::{Block, Line, Memory, Program77, Seq};
 use std::alloc::Global;
-use crate::translate_nest::answer_to;
 
 /// The lines of a program's listing, and what stands in the place of each of its loops, by the loops' numbers, of which
 /// the first one is 1: for the outermost loop of a nest that is translated its block, and nothing for all others.
