@@ -37,7 +37,7 @@ use Rattle.f90_lines.specs.declared.readings.Statement as written
 use Rattle.f90_places.specs.forms.Forms.{IsFormIn, HasForm}
 use Rattle.f90_places.specs.forms.Places.{HavePlaces}
 use Rattle.f90_places.specs.declared.forms.placing.Placed.{Placed}
-use Rattle.f90_places.proofs.Forms.FormLaws.{left_at, none_left}
+use Rattle.f90_places.proofs.OfForms.FormLaws.{left_at, none_left}
 use Rattle.f90_places.proofs.RisingLaws.{statements_rise}
 use Rattle.f90_calls.proofs.CallLaws.{tells_by}
 use Rattle.f90_calls.specs.Calls.{Tells}

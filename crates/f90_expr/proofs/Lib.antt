@@ -4,4 +4,4 @@ pub mod Placing
 pub mod Sound
 pub mod ReadingLaws
 pub mod LiteralLaws
-pub mod Words
+pub mod OfWords

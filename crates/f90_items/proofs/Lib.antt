@@ -5,4 +5,4 @@ pub mod DepthLaws
 pub mod StepLaws
 pub mod ReadLaws
 pub mod MadeLaws
-pub mod Parts
+pub mod OfParts

@@ -17,7 +17,7 @@ use Rattle.f90_expr.specs.Reading.{IsMadeOf, Begins, Gives}
 use Rattle.f90_expr.specs.declared.nodes.Expression.{Expression}
 use Rattle.f90_items.specs.parts.Bounds.{AreBounds, AreBoundsOf, BeginsWithBounds, EndsBounds, GivesBounds, bounds_before}
 use Rattle.f90_items.specs.declared.parts.bounds.Bounds.{Bounds}
-use Rattle.f90_items.proofs.Parts.BoundLaws.{bounds_are}
+use Rattle.f90_items.proofs.OfParts.BoundLaws.{bounds_are}
 use Rattle.f90_items.specs.Commas.{has_comma, comma_marks}
 use Rattle.f90_items.specs.Flat as flats
 use Rattle.f90_items.specs.Following.{Follows, Fronts}

@@ -4,4 +4,4 @@ pub mod FoundNameLaws
 pub mod KindLaws
 pub mod KnownLaws
 pub mod StatementLaws
-pub mod Declarations
+pub mod OfDeclarations

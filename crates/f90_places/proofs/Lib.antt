@@ -1,4 +1,4 @@
 pub mod EarlierLaws
 pub mod RisingLaws
 pub mod Walks
-pub mod Forms
+pub mod OfForms

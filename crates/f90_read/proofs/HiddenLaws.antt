@@ -22,7 +22,7 @@ use Rattle.f90_statements.specs.declared.nodes.Statement.{Statement}
 use Rattle.f90_statements.specs.declared.nodes.Statement.TheVariants.{Declare}
 use Rattle.f90_places.specs.forms.Places.{IsPlacedOf}
 use Rattle.f90_places.specs.declared.forms.placing.Placed.{Placed}
-use Rattle.f90_kinds.proofs.Declarations.EntryLaws.{is_declaration, declares_nothing}
+use Rattle.f90_kinds.proofs.OfDeclarations.EntryLaws.{is_declaration, declares_nothing}
 use Rattle.f90_calls.specs.Hiding.{Hides, declared_by, names_of}
 use Rattle.f90_calls.proofs.HidingLaws.{NamesLeft, left_more, left_none}
 use Rattle.f90_read.specs.Checks.{AreFunctionsOf}

@@ -6,4 +6,4 @@ pub mod HiddenLaws
 pub mod PartLaws
 pub mod ProgramLaws
 pub mod F90Suits
-pub mod Surroundings
+pub mod OfSurroundings

@@ -17,7 +17,7 @@ use Rattle.f90_expr.specs.Reading.{IsMadeOf}
 use Rattle.f90_expr.specs.declared.nodes.Expression.{Expression}
 use Rattle.f90_items.specs.parts.Bounds.{AreBounds, AreBoundsOf, BeginsWithBounds, EndsBounds, GivesBounds, bounds_before}
 use Rattle.f90_items.specs.declared.parts.bounds.Bounds.{Bounds}
-use Rattle.f90_items.proofs.Parts.BoundLaws.{bounds_are}
+use Rattle.f90_items.proofs.OfParts.BoundLaws.{bounds_are}
 use Rattle.f90_statements.specs.Fronts.{HasLabel, begun_loop, labelled}
 use Rattle.f90_statements.specs.Kinds.{is_action, is_if, is_else_if, is_do, is_label}
 use Rattle.f90_statements.specs.Reading.{IsForm, ReadsAction, ReadsStatement, BeginsWithCondition, Given, closed}

@@ -65,7 +65,7 @@ fn skip(text: &[Symbol]) -> &[Symbol]
 }
 
 // The digits at the front, and what follows them.
-#[tactic(auto, using(crate::proofs::Words::RunLaws::numbering))]
+#[tactic(auto, using(crate::proofs::OfWords::RunLaws::numbering))]
 fn digits(alloc: Global, text: &[Symbol]) -> Result<(Seq<u8>, &[Symbol]), Stop>
     ensures { DigitsResult result (lexing.run_of grammar.is_digit (symbols_of text.now)) }
 {
@@ -92,7 +92,7 @@ fn number(alloc: Global, text: &[Symbol]) -> Result<(Token, &[Symbol]), Stop>
 const NAME: usize = 31;
 
 // The name at the front, which begins with a letter, and what follows it; none where it is too long.
-#[tactic(auto, using(crate::proofs::Words::RunLaws::naming))]
+#[tactic(auto, using(crate::proofs::OfWords::RunLaws::naming))]
 fn name(text: &[Symbol]) -> Option<(Name, &[Symbol])>
     requires { BeginsWithLetter (symbols_of text.now) }
     ensures { NameOption result (lexing.run_of grammar.goes_on (symbols_of text.now)) }
@@ -140,7 +140,7 @@ fn after(c: u8, text: &[Symbol]) -> Option<&[Symbol]>
 }
 
 // What follows the characters of a word, where the text begins with them.
-#[tactic(auto, using(crate::proofs::Words::RunLaws::stripping))]
+#[tactic(auto, using(crate::proofs::OfWords::RunLaws::stripping))]
 fn strip<'a>(word: &[u8], text: &'a [Symbol]) -> Option<&'a [Symbol]>
     ensures { Strips result (lexing.strip word.now (symbols_of text.now)) }
 {
@@ -171,7 +171,7 @@ fn stops(barred: &[u8], text: &[Symbol]) -> bool
 }
 
 // What follows a word, where the text begins with it and none of the barred characters is next.
-#[tactic(auto, using(crate::proofs::Words::LexingLaws::unless_is))]
+#[tactic(auto, using(crate::proofs::OfWords::LexingLaws::unless_is))]
 fn behind<'a>(spelling: &[u8], barred: &[u8], text: &'a [Symbol]) -> Option<&'a [Symbol]>
     ensures { Strips result (lexing.behind_fixed spelling.now barred.now (symbols_of text.now)) }
 {
@@ -299,7 +299,7 @@ fn word(alloc: Global, text: &[Symbol]) -> Result<(Token, &[Symbol]), Stop>
 }
 
 // The words of a text.
-#[tactic(auto, using(crate::proofs::Words::WordsLaws::wording))]
+#[tactic(auto, using(crate::proofs::OfWords::WordsLaws::wording))]
 fn words_in(alloc: Global, text: &[Symbol]) -> Result<Seq<Token>, Stop>
     ensures found { IfOk result (λ tokens. Words (symbols_of text.now) (words_of tokens)) }
     ensures only { (ws : List grammar.Word) → Words (symbols_of text.now) ws → GivesWords result ws }

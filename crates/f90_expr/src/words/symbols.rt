@@ -42,7 +42,7 @@ fn shown(c: u8) -> Symbol
 }
 
 // A character outside constants.
-#[tactic(auto, using(crate::proofs::Words::ScanningLaws::fronts))]
+#[tactic(auto, using(crate::proofs::OfWords::ScanningLaws::fronts))]
 fn scan_out(alloc: Global, c: u8, symbols: &mut Vec<Symbol>) -> Result<Mode, Stop>
     ensures { Scans result symbols.old.items symbols.new.items (scan_out c) }
 {
@@ -68,7 +68,7 @@ fn scan_in(mut text: Seq<u8>, c: u8) -> Result<Mode, Stop>
 }
 
 // A character behind an apostrophe of a constant.
-#[tactic(auto, using(crate::proofs::Words::ScanningLaws::fronts))]
+#[tactic(auto, using(crate::proofs::OfWords::ScanningLaws::fronts))]
 fn scan_closing(
     alloc: Global,
     mut text: Seq<u8>,

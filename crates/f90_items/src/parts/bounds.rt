@@ -25,7 +25,7 @@ impl Bounds {
     ghost use Rattle.f90_items.specs.parts.Bounds.{BeginsWithStep, GivesStep};
 
     // The step, if there is one.
-    #[tactic(auto, using(crate::proofs::Parts::BoundLaws::steps))]
+    #[tactic(auto, using(crate::proofs::OfParts::BoundLaws::steps))]
     fn step(alloc: Global, tokens: &[Token]) -> Result<(Option<Expression>, &[Token]), Stop>
         ensures found { IfOk result (λ r. BeginsWithStep (words_of tokens.now) r.0 (words_of r.1.now)) }
         ensures only { (c : Option Phrase) (rest : List Word) → IsStep c → EndsBounds rest
@@ -39,7 +39,7 @@ impl Bounds {
     }
 
     /// The parameters at the front of the words, and what follows them.
-    #[tactic(auto, using(crate::proofs::Parts::BoundLaws::bounds))]
+    #[tactic(auto, using(crate::proofs::OfParts::BoundLaws::bounds))]
     pub fn read(alloc: Global, tokens: &[Token]) -> Result<(Bounds, &[Token]), Stop>
         // What is read are parameters.
         ensures found { IfOk result (λ r. BeginsWithBounds (words_of tokens.now) r.0 (words_of r.1.now)) }

@@ -19,7 +19,7 @@ fn names(node: &Node) -> bool
     }
 }
 
-#[tactic(auto, using(crate::proofs::Parts::VariableLaws::lists))]
+#[tactic(auto, using(crate::proofs::OfParts::VariableLaws::lists))]
 fn is_named(nodes: &[Node]) -> bool
     ensures { result ≡ is_named (nodes_seen nodes.now) }
 {

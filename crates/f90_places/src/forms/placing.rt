@@ -21,7 +21,7 @@ pub struct Placed {
 }
 
 // The last of the marks, or the one before them.
-#[tactic(auto, using(crate::proofs::Forms::MarkLaws::marks))]
+#[tactic(auto, using(crate::proofs::OfForms::MarkLaws::marks))]
 fn last_of(pending: Option<Mark>, marks: &[Mark]) -> Option<Mark>
     ensures { result ≡ last_of pending marks.now }
 {

@@ -23,7 +23,7 @@ fn form_of_words(alloc: Global, tokens: &[Token]) -> Result<Option<Statement>, M
 }
 
 // The form of a statement, if it has one.
-#[tactic(auto, using(crate::proofs::Forms::FormLaws::forms))]
+#[tactic(auto, using(crate::proofs::OfForms::FormLaws::forms))]
 fn form(alloc: Global, written: &Written) -> Result<Option<Statement>, Memory>
     ensures { ReadsForm (statement_seen written.now) result }
 {

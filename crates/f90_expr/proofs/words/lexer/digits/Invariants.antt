@@ -1,7 +1,7 @@
 use Rattle.std.proofs.Common.{length}
 use Rattle.f90_grammar.specs.Words.{is_digit}
 use Rattle.f90_expr.specs.words.Symbols.{symbols_of}
-use Rattle.f90_expr.proofs.Words.RunLaws.{IsReadTo}
+use Rattle.f90_expr.proofs.OfWords.RunLaws.{IsReadTo}
 use Rattle.f90_expr.proofs.words.lexer.digits.Given as goal
 
 abbrev pub invariant-digits : goal.invariant-digits

@@ -1,7 +1,7 @@
 use Rattle.std.proofs.Common.{◌≡◌, ◌≤◌, length, take}
 use Rattle.f90_grammar.specs.Words.{goes_on}
 use Rattle.f90_expr.specs.words.Symbols.{symbols_of}
-use Rattle.f90_expr.proofs.Words.RunLaws.{IsReadTo}
+use Rattle.f90_expr.proofs.OfWords.RunLaws.{IsReadTo}
 use Rattle.f90_expr.proofs.words.lexer.name.Given as goal
 
 abbrev pub invariant-letters : goal.invariant-letters

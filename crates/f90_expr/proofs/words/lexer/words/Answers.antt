@@ -1,5 +1,5 @@
 use Rattle.std.proofs.lemmas.Result.{err_from_is_err_and}
-use Rattle.f90_expr.proofs.Words.CharsLaws.{no_symbols, words_found, words_only}
+use Rattle.f90_expr.proofs.OfWords.CharsLaws.{no_symbols, words_found, words_only}
 use Rattle.f90_expr.proofs.words.lexer.words.Goals as goal
 
 pub returns-in_err-symbols-clause-only : goal.returns-in_err-symbols-clause-only

@@ -4,7 +4,7 @@ use Rattle.std.proofs.lemmas.Bool.Decides.{nat_tests}
 use Rattle.f90_expr.specs.declared.words.tokens.Token.{Token}
 use Rattle.f90_expr.specs.words.Symbols.{symbols_of}
 use Rattle.f90_expr.specs.words.Tokens.{words_of}
-use Rattle.f90_expr.proofs.Words.WordsLaws.{HasRead, has_none, has_token, shorter, has_all, has_only, gives_error, no_symbols, some_left}
+use Rattle.f90_expr.proofs.OfWords.WordsLaws.{HasRead, has_none, has_token, shorter, has_all, has_only, gives_error, no_symbols, some_left}
 use Rattle.f90_expr.proofs.words.lexer.words_in.Goals as goal
 
 pub wording-init : goal.wording-init

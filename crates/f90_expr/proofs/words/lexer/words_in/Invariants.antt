@@ -1,7 +1,7 @@
 use Rattle.std.proofs.Common.{length}
 use Rattle.f90_expr.specs.words.Symbols.{symbols_of}
 use Rattle.f90_expr.specs.words.Tokens.{words_of}
-use Rattle.f90_expr.proofs.Words.WordsLaws.{HasRead}
+use Rattle.f90_expr.proofs.OfWords.WordsLaws.{HasRead}
 use Rattle.f90_expr.proofs.words.lexer.words_in.Given as goal
 
 abbrev pub invariant-wording : goal.invariant-wording

@@ -2,7 +2,7 @@ use Rattle.std.proofs.Common.{List, ap, ◌∙◌}
 use Rattle.f90_expr.specs.declared.nodes.Node.{Node}
 use Rattle.f90_expr.specs.Views.{nodes_seen}
 use Rattle.f90_items.specs.parts.Variables.{is_plain}
-use Rattle.f90_items.proofs.Parts.VariableLaws.{variable_told}
+use Rattle.f90_items.proofs.OfParts.VariableLaws.{variable_told}
 use Rattle.f90_items.proofs.parts.variables.is_variable.Goals as goal
 
 pub returns : goal.returns

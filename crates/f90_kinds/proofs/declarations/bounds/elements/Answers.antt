@@ -1,8 +1,8 @@
 use Rattle.std.proofs.Common.{arith, ◌≤◌, length, ap, ◌∙◌}
 use Rattle.f90_statements.specs.Views.{IsDimensionOf}
 use Rattle.element_counts.specs.Counts.{capped}
-use Rattle.f90_kinds.proofs.Declarations.PlaceLaws.{same_length}
-use Rattle.f90_kinds.proofs.Declarations.SizeLaws.{some_elements}
+use Rattle.f90_kinds.proofs.OfDeclarations.PlaceLaws.{same_length}
+use Rattle.f90_kinds.proofs.OfDeclarations.SizeLaws.{some_elements}
 use Rattle.f90_kinds.proofs.declarations.bounds.elements.Goals as goal
 
 pub returns-in_default : goal.returns-in_default

@@ -7,8 +7,8 @@ use Rattle.f90_grammar.specs.Forms as forms
 use Rattle.f90_grammar.specs.Reading.{dimension_bounds}
 use Rattle.f90_statements.specs.Views.{IsDimensionOf}
 use Rattle.element_counts.specs.Counts.{capped}
-use Rattle.f90_kinds.proofs.Declarations.PlaceLaws.{start, step, end}
-use Rattle.f90_kinds.proofs.Declarations.SizeLaws.{product_more, any_left, any_last}
+use Rattle.f90_kinds.proofs.OfDeclarations.PlaceLaws.{start, step, end}
+use Rattle.f90_kinds.proofs.OfDeclarations.SizeLaws.{product_more, any_left, any_last}
 use Rattle.f90_kinds.proofs.declarations.bounds.product.Goals as goal
 
 abbrev IsProduct : ℕ → List forms.Dimension → Type 0

@@ -7,9 +7,9 @@ use Rattle.f90_grammar.specs.Blocks as grammar
 use Rattle.f90_grammar.specs.Bounds.{HasBounds}
 use Rattle.f90_grammar.specs.Declared.{declarations_in, declarations_of}
 use Rattle.f90_places.specs.forms.Places.{IsPlacedOf}
-use Rattle.f90_kinds.proofs.Declarations.BoundLaws.{all_left, all_right}
-use Rattle.f90_kinds.proofs.Declarations.PlaceLaws.{start, step, end}
-use Rattle.f90_kinds.proofs.Declarations.SizeLaws.{declared_more}
+use Rattle.f90_kinds.proofs.OfDeclarations.BoundLaws.{all_left, all_right}
+use Rattle.f90_kinds.proofs.OfDeclarations.PlaceLaws.{start, step, end}
+use Rattle.f90_kinds.proofs.OfDeclarations.SizeLaws.{declared_more}
 use Rattle.f90_kinds.proofs.declarations.declaring.as_written.Goals as goal
 
 abbrev AreMade : List Decl → List grammar.Placed → Type 0

@@ -1,4 +1,4 @@
-use Rattle.f90_kinds.proofs.Declarations.OrderLaws.{all_bounds, in_order}
+use Rattle.f90_kinds.proofs.OfDeclarations.OrderLaws.{all_bounds, in_order}
 use Rattle.f90_kinds.proofs.declarations.declaring.declarations.Goals as goal
 
 pub returns : goal.returns

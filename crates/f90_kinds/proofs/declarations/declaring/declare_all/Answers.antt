@@ -8,8 +8,8 @@ use Rattle.f90_grammar.specs.Bounds.{HasBounds}
 use Rattle.f90_grammar.specs.Forms as forms
 use Rattle.f90_grammar.specs.Reading.{entity_declaration}
 use Rattle.f90_statements.specs.Views.{IsEntityOf}
-use Rattle.f90_kinds.proofs.Declarations.BoundLaws.{all_at, all_but_last, made_more}
-use Rattle.f90_kinds.proofs.Declarations.PlaceLaws.{start, step, end}
+use Rattle.f90_kinds.proofs.OfDeclarations.BoundLaws.{all_at, all_but_last, made_more}
+use Rattle.f90_kinds.proofs.OfDeclarations.PlaceLaws.{start, step, end}
 use Rattle.f90_kinds.proofs.declarations.declaring.declare_all.Goals as goal
 
 abbrev AreMade : Kind → Bool → List Decl → List Decl → List forms.Entity → Type 0

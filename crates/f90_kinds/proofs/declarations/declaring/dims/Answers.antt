@@ -7,8 +7,8 @@ use Rattle.fv_meaning.specs.Profile90.{IsDimension}
 use Rattle.f90_grammar.specs.Forms as forms
 use Rattle.f90_grammar.specs.Reading.{dimension_bounds}
 use Rattle.f90_statements.specs.Views.{IsDimensionOf}
-use Rattle.f90_kinds.proofs.Declarations.BoundLaws.{all_at, all_but_last, made_more}
-use Rattle.f90_kinds.proofs.Declarations.PlaceLaws.{start, step, end}
+use Rattle.f90_kinds.proofs.OfDeclarations.BoundLaws.{all_at, all_but_last, made_more}
+use Rattle.f90_kinds.proofs.OfDeclarations.PlaceLaws.{start, step, end}
 use Rattle.f90_kinds.proofs.declarations.declaring.dims.Goals as goal
 
 abbrev AreMade : List Dim → List forms.Dimension → Type 0

@@ -6,8 +6,8 @@ use Rattle.fv_meaning.specs.Profile90.{IsDimension}
 use Rattle.f90_grammar.specs.Forms as forms
 use Rattle.f90_grammar.specs.Reading.{dimension_bounds}
 use Rattle.f90_statements.specs.Views.{IsDimensionOf}
-use Rattle.f90_kinds.proofs.Declarations.BoundLaws.{all_more, all_at, dim_within, dim_beyond}
-use Rattle.f90_kinds.proofs.Declarations.PlaceLaws.{start, step, end, at}
+use Rattle.f90_kinds.proofs.OfDeclarations.BoundLaws.{all_more, all_at, dim_within, dim_beyond}
+use Rattle.f90_kinds.proofs.OfDeclarations.PlaceLaws.{start, step, end, at}
 use Rattle.f90_kinds.proofs.declarations.limits.are_bounds.Goals as goal
 
 abbrev Within : List forms.Dimension → Type 0

@@ -1,6 +1,6 @@
 use Rattle.std.proofs.Common.{ap, sym, ◌∙◌}
 use Rattle.element_counts.specs.Counts.{capped}
-use Rattle.f90_kinds.proofs.Declarations.SizeLaws.{given_are}
+use Rattle.f90_kinds.proofs.OfDeclarations.SizeLaws.{given_are}
 use Rattle.f90_kinds.proofs.declarations.limits.elements_here.Goals as goal
 
 pub returns : goal.returns

@@ -4,8 +4,8 @@ use Rattle.f90_grammar.specs.Forms as forms
 use Rattle.f90_statements.specs.Views.{IsEntityOf}
 use Rattle.f90_kinds.specs.declarations.Bounds.{are_wide, elements_in}
 use Rattle.element_counts.specs.Counts.{capped}
-use Rattle.f90_kinds.proofs.Declarations.PlaceLaws.{start, step, end}
-use Rattle.f90_kinds.proofs.Declarations.SizeLaws.{array_more, any_left, any_last}
+use Rattle.f90_kinds.proofs.OfDeclarations.PlaceLaws.{start, step, end}
+use Rattle.f90_kinds.proofs.OfDeclarations.SizeLaws.{array_more, any_left, any_last}
 use Rattle.f90_kinds.proofs.declarations.limits.elements_of.Goals as goal
 
 abbrev IsCount : ℕ → List forms.Entity → Type 0

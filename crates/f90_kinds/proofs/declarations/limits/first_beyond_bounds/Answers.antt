@@ -1,6 +1,6 @@
 use Rattle.std.proofs.Common.{arith, ◌≡◌, ◌<◌, ◌≤◌, true, false, length, rules}
-use Rattle.f90_kinds.proofs.Declarations.PlaceLaws.{unmet, go_on, stop_at, never}
-use Rattle.f90_kinds.proofs.Declarations.OrderLaws.{IsBeyond}
+use Rattle.f90_kinds.proofs.OfDeclarations.PlaceLaws.{unmet, go_on, stop_at, never}
+use Rattle.f90_kinds.proofs.OfDeclarations.OrderLaws.{IsBeyond}
 use Rattle.f90_kinds.proofs.declarations.limits.first_beyond_bounds.Goals as goal
 
 pub loop-i-init : goal.loop-i-init

@@ -5,9 +5,9 @@ use Rattle.f90_grammar.specs.Declared.{declarations_of}
 use Rattle.f90_places.specs.forms.Places.{IsPlacedOf}
 use Rattle.f90_kinds.specs.declarations.Bounds.{all_elements}
 use Rattle.element_counts.specs.Counts.{capped}
-use Rattle.f90_kinds.proofs.Declarations.PlaceLaws.{unmet, go_on, stop_at, never, start, step}
-use Rattle.f90_kinds.proofs.Declarations.SizeLaws.{Narrow, HasManyElements, count_more, narrow_before, narrow_last, narrow_up_to}
-use Rattle.f90_kinds.proofs.Declarations.SizeLaws.{are_few, are_many}
+use Rattle.f90_kinds.proofs.OfDeclarations.PlaceLaws.{unmet, go_on, stop_at, never, start, step}
+use Rattle.f90_kinds.proofs.OfDeclarations.SizeLaws.{Narrow, HasManyElements, count_more, narrow_before, narrow_last, narrow_up_to}
+use Rattle.f90_kinds.proofs.OfDeclarations.SizeLaws.{are_few, are_many}
 use Rattle.f90_kinds.proofs.declarations.limits.first_beyond_elements.Goals as goal
 
 abbrev IsCount : ℕ → List grammar.Placed → Type 0

@@ -5,8 +5,8 @@ use Rattle.f90_places.specs.forms.Places.{IsPlacedOf}
 use Rattle.f90_statements.specs.Views.{AreOf}
 use Rattle.f90_kinds.specs.declarations.Bounds.{all_elements}
 use Rattle.element_counts.specs.Counts.{capped}
-use Rattle.f90_kinds.proofs.Declarations.PlaceLaws.{Unmet}
-use Rattle.f90_kinds.proofs.Declarations.SizeLaws.{Narrow, HasManyElements}
+use Rattle.f90_kinds.proofs.OfDeclarations.PlaceLaws.{Unmet}
+use Rattle.f90_kinds.proofs.OfDeclarations.SizeLaws.{Narrow, HasManyElements}
 use Rattle.f90_kinds.proofs.declarations.limits.first_beyond_elements.Given as goal
 
 abbrev pub invariant-loop-i : goal.invariant-loop-i

@@ -4,8 +4,8 @@ use Rattle.f90_grammar.specs.Bounds.{HasManyNames}
 use Rattle.f90_grammar.specs.Declared.{declarations_in, declarations_of}
 use Rattle.f90_grammar.specs.Order.{Place}
 use Rattle.f90_places.specs.forms.Places.{IsPlacedOf}
-use Rattle.f90_kinds.proofs.Declarations.PlaceLaws.{unmet, go_on, stop_at, never, start, step}
-use Rattle.f90_kinds.proofs.Declarations.SizeLaws.{names_more}
+use Rattle.f90_kinds.proofs.OfDeclarations.PlaceLaws.{unmet, go_on, stop_at, never, start, step}
+use Rattle.f90_kinds.proofs.OfDeclarations.SizeLaws.{names_more}
 use Rattle.f90_kinds.proofs.declarations.limits.first_beyond_names.Goals as goal
 
 abbrev AreLeft : ℕ → List grammar.Placed → Type 0

@@ -4,7 +4,7 @@ use Rattle.f90_grammar.specs.Bounds.{HasManyNames}
 use Rattle.f90_grammar.specs.Declared.{declarations_of}
 use Rattle.f90_places.specs.forms.Places.{IsPlacedOf}
 use Rattle.f90_statements.specs.Views.{AreOf}
-use Rattle.f90_kinds.proofs.Declarations.PlaceLaws.{Unmet}
+use Rattle.f90_kinds.proofs.OfDeclarations.PlaceLaws.{Unmet}
 use Rattle.f90_kinds.proofs.declarations.limits.first_beyond_names.Given as goal
 
 abbrev pub invariant-loop-i : goal.invariant-loop-i

@@ -1,4 +1,4 @@
-use Rattle.f90_kinds.proofs.Declarations.SizeLaws.{given_are}
+use Rattle.f90_kinds.proofs.OfDeclarations.SizeLaws.{given_are}
 use Rattle.f90_kinds.proofs.declarations.limits.has_bounds.Goals as goal
 
 pub returns : goal.returns

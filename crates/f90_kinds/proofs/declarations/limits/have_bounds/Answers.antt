@@ -4,8 +4,8 @@ use Rattle.fv_meaning.specs.Profile90.{IsDimension}
 use Rattle.f90_grammar.specs.Forms as forms
 use Rattle.f90_statements.specs.Views.{IsEntityOf}
 use Rattle.f90_kinds.specs.declarations.Bounds.{given_bounds}
-use Rattle.f90_kinds.proofs.Declarations.BoundLaws.{all_more, all_at}
-use Rattle.f90_kinds.proofs.Declarations.PlaceLaws.{start, step, end, at}
+use Rattle.f90_kinds.proofs.OfDeclarations.BoundLaws.{all_more, all_at}
+use Rattle.f90_kinds.proofs.OfDeclarations.PlaceLaws.{start, step, end, at}
 use Rattle.f90_kinds.proofs.declarations.limits.have_bounds.Goals as goal
 
 abbrev Within : List forms.Entity → Type 0

@@ -2,7 +2,7 @@ use Rattle.std.proofs.Common.{subst, ◌∙◌}
 use Rattle.f90_statements.specs.Views.{IsStatementOf}
 use Rattle.f90_statements.specs.declared.nodes.Statement.{Statement}
 use Rattle.f90_statements.specs.declared.nodes.Statement.TheVariants.{Declare}
-use Rattle.f90_kinds.proofs.Declarations.SizeLaws.{declared_names}
+use Rattle.f90_kinds.proofs.OfDeclarations.SizeLaws.{declared_names}
 use Rattle.f90_kinds.proofs.declarations.limits.names_here.Goals as goal
 
 pub returns-in-Declare : goal.returns-in-Declare

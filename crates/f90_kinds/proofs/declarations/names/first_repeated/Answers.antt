@@ -1,8 +1,8 @@
 use Rattle.std.proofs.Common.{arith, ◌≡◌, ◌<◌, ◌≤◌, true, false, IsTrue, length, take, sym, ◌∙◌, rules}
 use Rattle.f90_grammar.specs.Declared.{declares_again}
 use Rattle.f90_grammar.specs.Order.{Place}
-use Rattle.f90_kinds.proofs.Declarations.EntryLaws.{entries_of, knows_more, again_at}
-use Rattle.f90_kinds.proofs.Declarations.PlaceLaws.{unmet, go_on, stop_at, never}
+use Rattle.f90_kinds.proofs.OfDeclarations.EntryLaws.{entries_of, knows_more, again_at}
+use Rattle.f90_kinds.proofs.OfDeclarations.PlaceLaws.{unmet, go_on, stop_at, never}
 use Rattle.f90_kinds.proofs.declarations.names.first_repeated.Goals as goal
 
 abbrev Again : Place → Type 0

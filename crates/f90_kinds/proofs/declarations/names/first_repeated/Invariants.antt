@@ -5,8 +5,8 @@ use Rattle.f90_grammar.specs.Order.{Place}
 use Rattle.f90_places.specs.forms.Places.{IsPlacedOf}
 use Rattle.f90_statements.specs.Views.{AreOf}
 use Rattle.f90_kinds.specs.declarations.Entries.{Knows}
-use Rattle.f90_kinds.proofs.Declarations.EntryLaws.{entries_of}
-use Rattle.f90_kinds.proofs.Declarations.PlaceLaws.{Unmet}
+use Rattle.f90_kinds.proofs.OfDeclarations.EntryLaws.{entries_of}
+use Rattle.f90_kinds.proofs.OfDeclarations.PlaceLaws.{Unmet}
 use Rattle.f90_kinds.proofs.declarations.names.first_repeated.Given as goal
 
 abbrev pub invariant-loop-i : goal.invariant-loop-i

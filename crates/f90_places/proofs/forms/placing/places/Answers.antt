@@ -1,7 +1,7 @@
 use Rattle.std.proofs.Common.{arith, ◌≡◌, ◌<◌, ◌≤◌, ◌++◌, ◌∷◌, [], length, get_or, Some, None, rules}
 use Rattle.f90_lines.specs.Views.{statements_seen}
-use Rattle.f90_places.proofs.Forms.FormLaws.{none_left}
-use Rattle.f90_places.proofs.Forms.MarkLaws.{ended, forms_next, next_place, never_empty, lost_at}
+use Rattle.f90_places.proofs.OfForms.FormLaws.{none_left}
+use Rattle.f90_places.proofs.OfForms.MarkLaws.{ended, forms_next, next_place, never_empty, lost_at}
 use Rattle.f90_places.proofs.forms.placing.places.Goals as goal
 
 pub returns-in-Some-None : goal.returns-in-Some-None

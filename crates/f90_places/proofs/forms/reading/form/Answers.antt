@@ -3,7 +3,7 @@ use Rattle.f90_lines.specs.Views.{statement_seen}
 use Rattle.f90_expr.specs.words.Tokens.{words_of}
 use Rattle.f90_expr.specs.declared.words.tokens.Token.{Token}
 use Rattle.f90_places.specs.forms.Forms.{ReadsWords}
-use Rattle.f90_places.proofs.Forms.FormLaws.{form_at, no_words}
+use Rattle.f90_places.proofs.OfForms.FormLaws.{form_at, no_words}
 use Rattle.f90_places.proofs.forms.reading.form.Goals as goal
 
 pub returns-in-Ok : goal.returns-in-Ok

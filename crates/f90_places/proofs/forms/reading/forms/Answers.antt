@@ -1,5 +1,5 @@
 use Rattle.std.proofs.Common.{arith, ◌≤◌, length, rules}
-use Rattle.f90_places.proofs.Forms.FormLaws.{all_read, none_left}
+use Rattle.f90_places.proofs.OfForms.FormLaws.{all_read, none_left}
 use Rattle.f90_places.proofs.forms.reading.forms.Goals as goal
 
 pub returns : goal.returns

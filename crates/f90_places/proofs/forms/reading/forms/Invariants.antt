@@ -1,6 +1,6 @@
 use Rattle.std.proofs.Common.{drop}
 use Rattle.f90_lines.specs.Views.{statements_seen}
-use Rattle.f90_places.proofs.Forms.FormLaws.{ReadSoFar}
+use Rattle.f90_places.proofs.OfForms.FormLaws.{ReadSoFar}
 use Rattle.f90_places.proofs.forms.reading.forms.Given as goal
 
 abbrev pub invariant-reading : goal.invariant-reading

@@ -1,5 +1,5 @@
 use Rattle.std.proofs.Common.{◌∙◌}
-use Rattle.f90_read.proofs.Surroundings.ListLaws.{name_told}
+use Rattle.f90_read.proofs.OfSurroundings.ListLaws.{name_told}
 use Rattle.f90_read.proofs.surroundings.listing.stored_name.Goals as goal
 
 pub returns-in-Some : goal.returns-in-Some

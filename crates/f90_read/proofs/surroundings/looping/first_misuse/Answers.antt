@@ -3,7 +3,7 @@ use Rattle.std.specs.Prelude.{reverse}
 use Rattle.fv_meaning.specs.Names.{is_among}
 use Rattle.f90_read.specs.surroundings.Lists.{scalar_in}
 use Rattle.f90_read.specs.surroundings.Misuses.{misuses_form}
-use Rattle.f90_read.proofs.Surroundings.LoopLaws.{start, stop, found, further}
+use Rattle.f90_read.proofs.OfSurroundings.LoopLaws.{start, stop, found, further}
 use Rattle.f90_read.proofs.surroundings.looping.first_misuse.Goals as goal
 
 pub loop-i-init : goal.loop-i-init

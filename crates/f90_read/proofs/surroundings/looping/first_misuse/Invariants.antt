@@ -3,7 +3,7 @@ use Rattle.f90_grammar.specs.Blocks as grammar
 use Rattle.f90_places.specs.forms.Places.{IsPlacedOf}
 use Rattle.f90_statements.specs.Views.{AreOf}
 use Rattle.f90_read.specs.surroundings.Lists.{scalar_in}
-use Rattle.f90_read.proofs.Surroundings.LoopLaws.{IsPassed}
+use Rattle.f90_read.proofs.OfSurroundings.LoopLaws.{IsPassed}
 use Rattle.f90_read.proofs.surroundings.looping.first_misuse.Given as goal
 
 abbrev pub invariant-loop-i : goal.invariant-loop-i

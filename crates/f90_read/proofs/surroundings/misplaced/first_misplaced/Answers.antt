@@ -1,4 +1,4 @@
-use Rattle.f90_read.proofs.Surroundings.FoundLaws.{first_unsuited}
+use Rattle.f90_read.proofs.OfSurroundings.FoundLaws.{first_unsuited}
 use Rattle.f90_read.proofs.surroundings.misplaced.first_misplaced.Goals as goal
 
 pub returns : goal.returns

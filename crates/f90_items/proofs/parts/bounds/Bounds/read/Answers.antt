@@ -1,4 +1,4 @@
-use Rattle.f90_items.proofs.Parts.BoundLaws.{bounds_found, bounds_only}
+use Rattle.f90_items.proofs.OfParts.BoundLaws.{bounds_found, bounds_only}
 use Rattle.f90_items.proofs.parts.bounds.Bounds.read.Goals as goal
 
 pub returns-clause-found : goal.returns-clause-found

@@ -1,5 +1,5 @@
 use Rattle.std.proofs.Common.{◌≡◌, true, false, is_some, rules}
-use Rattle.f90_kinds.proofs.Declarations.EntryLaws.{known_again, known_more}
+use Rattle.f90_kinds.proofs.OfDeclarations.EntryLaws.{known_again, known_more}
 use Rattle.f90_kinds.proofs.declarations.names.Names.declare.Goals as goal
 
 pub returns-then-is_some : goal.returns-then-is_some

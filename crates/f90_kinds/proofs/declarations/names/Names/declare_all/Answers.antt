@@ -1,5 +1,5 @@
 use Rattle.std.proofs.Common.{arith, ◌≡◌, ◌<◌, ◌≤◌, ◌||◌, length, ap, sym, ◌∙◌, rules}
-use Rattle.f90_kinds.proofs.Declarations.EntryLaws.{none_more, one_declared, all_declared}
+use Rattle.f90_kinds.proofs.OfDeclarations.EntryLaws.{none_more, one_declared, all_declared}
 use Rattle.f90_kinds.proofs.declarations.names.Names.declare_all.Goals as goal
 use Rattle.f90_kinds.proofs.declarations.names.Names.declare_all.Goals.{then-branch, else-branch}
 

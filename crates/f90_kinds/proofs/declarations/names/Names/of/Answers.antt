@@ -1,5 +1,5 @@
 use Rattle.std.proofs.Common.{arith, ◌<◌, ◌≤◌, length, take, rules}
-use Rattle.f90_kinds.proofs.Declarations.EntryLaws.{entries_of, knows_more, names_known}
+use Rattle.f90_kinds.proofs.OfDeclarations.EntryLaws.{entries_of, knows_more, names_known}
 use Rattle.f90_kinds.proofs.declarations.names.Names.of.Goals as goal
 
 pub loop-placed-preserved : goal.loop-placed-preserved

@@ -1,7 +1,7 @@
 use Rattle.std.proofs.Common.{nat_eq, ◌∙◌, ap, ℕ, List, ◌++◌, ◌∷◌, []}
 use Rattle.std.specs.Prelude.{reverse}
 use Rattle.indexmap.specs.IndexMap.{get}
-use Rattle.f90_read.proofs.Surroundings.LabelLaws.{label_added}
+use Rattle.f90_read.proofs.OfSurroundings.LabelLaws.{label_added}
 use Rattle.f90_read.proofs.surroundings.jumping.LabelsAhead.add.Goals as goal
 
 pub returns : goal.returns

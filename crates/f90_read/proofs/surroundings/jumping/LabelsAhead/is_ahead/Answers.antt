@@ -1,7 +1,7 @@
 use Rattle.std.proofs.Common.{◌≡◌, Some, None, nat_eq, sym, ◌∙◌, rules}
 use Rattle.std.specs.Prelude.{reverse}
 use Rattle.indexmap.specs.IndexMap.{get}
-use Rattle.f90_read.proofs.Surroundings.LabelLaws.{held_at, not_held}
+use Rattle.f90_read.proofs.OfSurroundings.LabelLaws.{held_at, not_held}
 use Rattle.f90_read.proofs.surroundings.jumping.LabelsAhead.is_ahead.Goals as goal
 
 pub returns-in-Some : goal.returns-in-Some

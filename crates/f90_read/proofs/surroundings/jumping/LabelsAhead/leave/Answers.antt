@@ -2,7 +2,7 @@ use Rattle.std.proofs.Common.{nat_eq, ◌∙◌, ap, ℕ, List, take, sym, subst
 use Rattle.std.specs.Prelude.{reverse}
 use Rattle.indexmap.specs.IndexMap.{get}
 use Rattle.f90_read.specs.surroundings.Jumps.{AreHeld, left}
-use Rattle.f90_read.proofs.Surroundings.LabelLaws.{block_left}
+use Rattle.f90_read.proofs.OfSurroundings.LabelLaws.{block_left}
 use Rattle.f90_read.proofs.surroundings.jumping.LabelsAhead.leave.Goals as goal
 
 pub returns : goal.returns

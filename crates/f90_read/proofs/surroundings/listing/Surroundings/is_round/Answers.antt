@@ -1,4 +1,4 @@
-use Rattle.f90_read.proofs.Surroundings.ListLaws.{round_then, round_else}
+use Rattle.f90_read.proofs.OfSurroundings.ListLaws.{round_then, round_else}
 use Rattle.f90_read.proofs.surroundings.listing.Surroundings.is_round.Goals as goal
 
 pub returns-then-is_among : goal.returns-then-is_among

@@ -5,7 +5,7 @@ use Rattle.f90_items.specs.Flat.{flat_items}
 use Rattle.f90_items.specs.Views.{AreNodesOf, direction_of}
 use Rattle.f90_items.specs.declared.nodes.Node.{Node}
 use Rattle.f90_read.specs.surroundings.Lists.{scalar_in, walked}
-use Rattle.f90_read.proofs.Surroundings.ListLaws.{none_walked, one_walked, told}
+use Rattle.f90_read.proofs.OfSurroundings.ListLaws.{none_walked, one_walked, told}
 use Rattle.f90_read.proofs.surroundings.listing.Surroundings.misuses_list.Goals as goal
 
 pub loop-i-init : goal.loop-i-init

@@ -13,7 +13,7 @@ use Rattle.f90_expr.specs.words.Lexing.{Front, skip, word}
 use Rattle.f90_expr.specs.words.Symbols.{symbol_of, symbols_of}
 use Rattle.f90_expr.specs.words.Fronts.{FrontResult, GivesWords}
 use Rattle.f90_expr.specs.words.Tokens.{word_of, words_of}
-use Rattle.f90_expr.proofs.Words.LexingLaws.{begun, is_word}
+use Rattle.f90_expr.proofs.OfWords.LexingLaws.{begun, is_word}
 
 -- ---- gaps
 

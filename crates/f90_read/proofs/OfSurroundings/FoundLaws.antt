@@ -17,10 +17,10 @@ use Rattle.f90_read.specs.surroundings.Lists.{scalar_in}
 use Rattle.f90_read.specs.surroundings.Misuses.{misuses_at}
 use Rattle.f90_read.specs.surroundings.Jumps.{jumps_wrongly_at}
 use Rattle.f90_read.specs.surroundings.Misplaced.{earlier, AreProper, IsWrittenOut}
-use Rattle.f90_read.proofs.Surroundings.LoopLaws.{opened_next}
-use Rattle.f90_read.proofs.Surroundings.NameLaws.{Refutes, ArePlain}
-use Rattle.f90_read.proofs.Surroundings.PlaceLaws.{NoneBefore, is_in_text, numbered, within, place_at}
-use Rattle.f90_read.proofs.Surroundings.SuitLaws.{form_right, plain_next}
+use Rattle.f90_read.proofs.OfSurroundings.LoopLaws.{opened_next}
+use Rattle.f90_read.proofs.OfSurroundings.NameLaws.{Refutes, ArePlain}
+use Rattle.f90_read.proofs.OfSurroundings.PlaceLaws.{NoneBefore, is_in_text, numbered, within, place_at}
+use Rattle.f90_read.proofs.OfSurroundings.SuitLaws.{form_right, plain_next}
 
 -- ---- the earlier of two
 

@@ -27,8 +27,8 @@ use Rattle.f90_statements.specs.Views.{AreOf, IsEntityOf, IsStatementOf}
 use Rattle.f90_statements.specs.declared.nodes.Entity.{Entity}
 use Rattle.f90_statements.specs.declared.nodes.Statement.{Statement}
 use Rattle.f90_statements.specs.declared.nodes.Statement.TheVariants.{Declare}
-use Rattle.f90_kinds.proofs.Declarations.EntryLaws.{is_declaration, declares_nothing}
-use Rattle.f90_kinds.proofs.Declarations.PlaceLaws.{same_length}
+use Rattle.f90_kinds.proofs.OfDeclarations.EntryLaws.{is_declaration, declares_nothing}
+use Rattle.f90_kinds.proofs.OfDeclarations.PlaceLaws.{same_length}
 use Rattle.f90_kinds.specs.declarations.Bounds.{are_wide, given_bounds, given_in, elements_in, all_elements}
 use Rattle.element_counts.specs.Counts.{capped}
 

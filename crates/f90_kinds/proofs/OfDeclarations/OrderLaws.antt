@@ -26,8 +26,8 @@ use Rattle.f90_grammar.specs.Bounds.{HasBounds}
 use Rattle.f90_grammar.specs.Declared.{declarations_in, declarations_of, names_of, is_repeated, declares_again}
 use Rattle.f90_grammar.specs.Order.{Place, IsPlaceIn}
 use Rattle.f90_kinds.specs.declarations.Declarations.{AreAccepted, AreInOrder, name_in}
-use Rattle.f90_kinds.proofs.Declarations.BoundLaws.{bounds_unless, all_append}
-use Rattle.f90_kinds.proofs.Declarations.SizeLaws.{declared_more, or_left, or_right}
+use Rattle.f90_kinds.proofs.OfDeclarations.BoundLaws.{bounds_unless, all_append}
+use Rattle.f90_kinds.proofs.OfDeclarations.SizeLaws.{declared_more, or_left, or_right}
 
 -- ---- bounds
 

@@ -15,7 +15,7 @@ use Rattle.f90_statements.specs.declared.nodes.Statement.{Statement}
 use Rattle.f90_places.specs.forms.Forms.{IsFormIn, HasForm}
 use Rattle.f90_places.specs.forms.Places.{IsPlacedOf, IsPlacedNext, HavePlaces, HavePlacesSoFar}
 use Rattle.f90_places.specs.declared.forms.placing.Placed.{Placed}
-use Rattle.f90_places.proofs.Forms.FormLaws.{left_at}
+use Rattle.f90_places.proofs.OfForms.FormLaws.{left_at}
 
 pub last_push : (pending : Option Mark) (ms : List Mark) (m : Mark) → last_of pending (ms ++ m ∷ []) ≡ Some m
 last_push pending [] m = refl

@@ -30,7 +30,7 @@ use Rattle.f90_kinds.specs.declared.declarations.names.Declared.{Declared}
 use Rattle.f90_kinds.specs.declared.declarations.names.Names.{Names}
 use Rattle.f90_kinds.specs.declarations.Entries.{Entry, entry, entry_of, entries_in, names_in, first_said, Knows, Declares}
 use Rattle.f90_kinds.specs.declarations.Names.{found, is_later, Tells, AreNamesOf}
-use Rattle.f90_kinds.proofs.Declarations.PlaceLaws.{same_length, IsThere}
+use Rattle.f90_kinds.proofs.OfDeclarations.PlaceLaws.{same_length, IsThere}
 
 -- ---- names that come again
 

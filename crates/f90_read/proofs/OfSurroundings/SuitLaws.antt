@@ -26,7 +26,7 @@ use Rattle.f90_read.specs.surroundings.Lists.{scalar_in, stored_name, item_misus
 use Rattle.f90_read.specs.surroundings.Misuses.{misuses_form}
 use Rattle.f90_read.specs.surroundings.Jumps.{target_of, leads_wrongly}
 use Rattle.f90_read.specs.surroundings.Misplaced.{AreProper}
-use Rattle.f90_read.proofs.Surroundings.NameLaws.{Refutes, never, always, either_way, both, or_nothing, same_answer, stores_is, is_reference, ArePlain, scalar_is, scalar_plain, stored, keeps, variable_is}
+use Rattle.f90_read.proofs.OfSurroundings.NameLaws.{Refutes, never, always, either_way, both, or_nothing, same_answer, stores_is, is_reference, ArePlain, scalar_is, scalar_plain, stored, keeps, variable_is}
 
 -- ---- GO TOs
 

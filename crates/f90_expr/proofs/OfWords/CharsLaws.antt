@@ -10,7 +10,7 @@ use Rattle.f90_expr.specs.words.Fronts.{GivesWords}
 use Rattle.f90_expr.specs.words.Scanning.{scan, Out}
 use Rattle.f90_expr.specs.words.Symbols.{symbols_of, EndsScan}
 use Rattle.f90_expr.specs.words.Tokens.{words_of}
-use Rattle.f90_expr.proofs.Words.ScanningLaws.{symbols_found, symbols_only}
+use Rattle.f90_expr.proofs.OfWords.ScanningLaws.{symbols_found, symbols_only}
 
 none_some : {P : Type 0} (ss : List Symbol) (o : Option (List Symbol)) → o ≡ None → o ≡ Some ss → P
 none_some ss o e f = absurd (cc)

@@ -12,7 +12,7 @@ use Rattle.f90_places.specs.First.{FindsFirst}
 use Rattle.f90_statements.specs.Views.{AreOf, IsStatementOf}
 use Rattle.f90_read.specs.surroundings.Jumps.{AreAhead, target_of, leads_wrongly, jumps_wrongly_at}
 use Rattle.f90_read.specs.declared.surroundings.jumping.LabelsAhead.{LabelsAhead}
-use Rattle.f90_read.proofs.Surroundings.PlaceLaws.{FindsFrom, meets, of_length, drop_next, found_here, passed, none_behind, from_start}
+use Rattle.f90_read.proofs.OfSurroundings.PlaceLaws.{FindsFrom, meets, of_length, drop_next, found_here, passed, none_behind, from_start}
 
 module _ (ps : List grammar.Placed) where
   abbrev pub Missed : Place → Type 0

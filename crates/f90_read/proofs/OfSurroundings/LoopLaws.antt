@@ -13,7 +13,7 @@ use Rattle.f90_places.specs.First.{FindsFirst}
 use Rattle.f90_statements.specs.Views.{AreOf, IsStatementOf}
 use Rattle.f90_read.specs.surroundings.Misuses.{AreOpen, misuses_form, misuses_at}
 use Rattle.f90_read.specs.declared.surroundings.looping.OpenBlocks.{OpenBlocks}
-use Rattle.f90_read.proofs.Surroundings.PlaceLaws.{NoneBefore, Meets, meets, of_length, found_first, none_here, none_at_all, none_yet}
+use Rattle.f90_read.proofs.OfSurroundings.PlaceLaws.{NoneBefore, Meets, meets, of_length, found_first, none_here, none_at_all, none_yet}
 
 pub opened_next : (ps : List grammar.Placed) (i : ℕ) (p : grammar.Placed) (rest : List grammar.Placed) (os : List Opened) → drop i ps ≡ p ∷ rest
     → opened_behind os (take (suc i) ps) ≡ opened_by p.form (opened_behind os (take i ps))
