@@ -1,8 +1,8 @@
 -- What is read is a list.
-use Rattle.std.proofs.Common.{arith, ◌≡◌, ℕ, max, min, pos, Bool, true, false, List, [], ◌∷◌, ◌++◌, refl, ap, sym, ◌∙◌, subst, append_assoc, append-nil}
+use Rattle.std.proofs.Common.{arith, ◌≡◌, ℕ, max, Bool, true, false, List, [], ◌∷◌, ◌++◌, refl, ap, sym, ◌∙◌, subst, append_assoc, append-nil}
 use Rattle.std.specs.Prelude.{Option, Some, None}
 use Rattle.std.proofs.lemmas.Bool.{cond_both}
-use Rattle.fv_tree.specs.Plain.{Number, Item, Single, Constant, ImpliedDo, items}
+use Rattle.fv_tree.specs.Plain.{Single, Constant, ImpliedDo, items}
 use Rattle.f77_grammar.specs.expressions.Phrases.{Phrase, IsExpression, written}
 use Rattle.f77_grammar.specs.expressions.Words as words
 use Rattle.f77_grammar.specs.expressions.Words.{Word}

@@ -5,7 +5,7 @@ ghost use Rattle.f77_expr.specs.Views.{words_of};
 ghost use Rattle.f77_lists.specs.Reader as reader;
 ghost use Rattle.f77_lists.specs.Reading as reading;
 ghost use Rattle.f77_lists.specs.Reading.{Given, IsControlOf};
-ghost use Rattle.f77_lists.specs.Views.{GivesBound, GivesControl};
+ghost use Rattle.f77_lists.specs.Views.{FollowsComma, GivesBound, GivesControl};
 
 use f77_expr::reader::read;
 use f77_expr::tokens::Token;
@@ -23,18 +23,28 @@ pub struct DoControl {
     pub depth: u16,
 }
 
+// What follows the comma at the front.
+fn after_comma(tokens: &[Token]) -> Option<&[Token]>
+    ensures { FollowsComma result (words_of tokens.now) }
+{
+    match tokens {
+        [Token::Comma, rest @ ..] => Some(rest),
+        _ => None,
+    }
+}
+
 // The step with its depth, which is 1 where it is left out, and what follows it.
 #[tactic(auto, using(fv_tree::proofs::Equations::expression_equations))]
 fn step(alloc: Global, tokens: &[Token]) -> Result<(Expr, u16, &[Token]), Stop>
     ensures step { GivesBound result (reader.last_part (words_of tokens.now)) }
     ensures shorter { IfOk result (λ r. length r.2.now ≤ length tokens.now) }
 {
-    match tokens {
-        [Token::Comma, rest @ ..] => {
+    match after_comma(tokens) {
+        Some(rest) => {
             let (step, rest) = read(alloc, rest)?;
             Ok((step.tree, step.depth, rest))
         }
-        _ => Ok((Expr::Int(1), 0, tokens)),
+        None => Ok((Expr::Int(1), 0, tokens)),
     }
 }
 
@@ -70,7 +80,6 @@ pub(crate) fn read_control(alloc: Global, tokens: &[Token]) -> Result<(DoControl
 }
 
 /// All words as a DO variable with its parameters (ANSI X3.9-1978, section 11.10).
-#[tactic(auto, using(crate::proofs::ControlLaws::controls))]
 pub fn whole_control(alloc: Global, tokens: &[Token]) -> Result<DoControl, Stop>
     // What is read is so written.
     ensures found { IfOk result (reading.IsWholeControl (words_of tokens.now)) }

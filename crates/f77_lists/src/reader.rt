@@ -5,7 +5,8 @@ ghost use Rattle.f77_grammar.specs.expressions.Words as words;
 ghost use Rattle.f77_expr.specs.Reader as expressions;
 ghost use Rattle.f77_expr.specs.Views.{words_of, operand_of};
 ghost use Rattle.f77_lists.specs.Reader as reader;
-ghost use Rattle.f77_lists.specs.Views.{stack, state_of, frame_of, Leaves, Turns, Ends, Opens, IsShorter, Runs};
+ghost use Rattle.f77_lists.specs.Views.{stack, state_of, frame_of, FollowsClose, Leaves, Turns, Ends, Opens};
+ghost use Rattle.f77_lists.specs.Views.{IsShorter, Runs};
 
 use crate::controls::{DoControl, begins_control, read_control};
 use crate::lists::ItemList;
@@ -171,6 +172,17 @@ fn begin<'a>(
     }
 }
 
+// What follows the parenthesis that closes at the front.
+fn after_close(tokens: &[Token]) -> Option<&[Token]>
+    ensures close { FollowsClose result (words_of tokens.now) }
+    ensures shorter { IfSome result (λ rest. length rest.now < length tokens.now) }
+{
+    match tokens {
+        [Token::Close, rest @ ..] => Some(rest),
+        _ => None,
+    }
+}
+
 // The end of an implied DO list: its control and its parenthesis.
 #[tactic(auto, using(crate::proofs::Stacks::stacks, fv_tree::proofs::Equations::item_equations))]
 fn repeat<'a>(
@@ -183,7 +195,7 @@ fn repeat<'a>(
     ensures shorter { IfOk result (λ rest. length rest.now < length tokens.now) }
 {
     let (control, rest) = read_control(alloc, tokens)?;
-    let [Token::Close, rest @ ..] = rest else {
+    let Some(rest) = after_close(rest) else {
         return Err(Stop::Syntax);
     };
     let Some(list) = lists.pop() else {

@@ -136,7 +136,7 @@ const NO_TERMS: Terms = Terms {
 
 /// The sum of the multiples, where it and the factors are within the limits; `count` is how many places are those of
 /// symbols and divided trips.
-#[tactic(auto, unfolding(crate::normal_forms::specs::Combinations::combination))]
+#[tactic(auto, unfolding(crate::specs::normal_forms::Combinations::combination))]
 pub fn combination(terms: &[Multiple], count: u16) -> Option<Affine>
     requires { length terms.now ≤ 16 }
     ensures { result ≡ combination count terms.now }

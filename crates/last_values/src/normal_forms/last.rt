@@ -79,7 +79,7 @@ fn with_trips(
 }
 
 /// The forms of a loop in the last turn of each loop round it, where they are within the limits.
-#[tactic(auto, unfolding(crate::normal_forms::specs::LastValues::last_forms))]
+#[tactic(auto, unfolding(crate::specs::normal_forms::LastValues::last_forms))]
 pub fn last_forms(
     alloc: Global,
     count: u16,
@@ -112,7 +112,7 @@ fn all_plain(round: &[NormalLoop]) -> bool
 }
 
 /// Whether the loops in the outermost one have trips without counters.
-#[tactic(auto, unfolding(crate::normal_forms::specs::LastValues::have_plain_trips))]
+#[tactic(auto, unfolding(crate::specs::normal_forms::LastValues::have_plain_trips))]
 pub fn have_plain_trips(round: &[NormalLoop]) -> bool
     ensures { result ≡ have_plain_trips round.now }
 {
@@ -122,7 +122,7 @@ pub fn have_plain_trips(round: &[NormalLoop]) -> bool
     all_plain(rest)
 }
 
-#[tactic(auto, unfolding(crate::normal_forms::specs::LastValues::plain_trip_text))]
+#[tactic(auto, unfolding(crate::specs::normal_forms::LastValues::plain_trip_text))]
 fn plain_trip_text(alloc: Global, symbols: &Seq<Name>, turns: &NormalLoop) -> Result<Expr, Memory>
     ensures { IfOk result (λ e. expression_of e ≡ plain_trip_text symbols.now turns.now) }
 {
@@ -144,7 +144,7 @@ fn plain_trip_texts(
 }
 
 /// The texts of the forms.
-#[tactic(auto, unfolding(crate::normal_forms::specs::LastValues::last_end_text))]
+#[tactic(auto, unfolding(crate::specs::normal_forms::LastValues::last_end_text))]
 pub fn last_texts(
     alloc: Global,
     symbols: &Seq<Name>,

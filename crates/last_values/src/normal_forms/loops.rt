@@ -299,7 +299,7 @@ fn trip_by(count: u16, step: i64, form: Affine) -> Option<Trip>
     Some(trip_of(top, size_of(step)))
 }
 
-#[tactic(auto, unfolding(crate::normal_forms::specs::NormalLoops::forms_by_trip))]
+#[tactic(auto, unfolding(crate::specs::normal_forms::NormalLoops::forms_by_trip))]
 fn forms_by_trip(
     alloc: Global,
     symbols: &Seq<Name>,
@@ -336,7 +336,7 @@ fn forms_by_trip(
     }))
 }
 
-#[tactic(auto, unfolding(crate::normal_forms::specs::NormalLoops::forms_by_first))]
+#[tactic(auto, unfolding(crate::specs::normal_forms::NormalLoops::forms_by_first))]
 fn forms_by_first(
     alloc: Global,
     symbols: &Seq<Name>,
@@ -367,7 +367,7 @@ fn forms_by_first(
     forms_by_trip(alloc, symbols, turns, first, below, value, top)
 }
 
-#[tactic(auto, unfolding(crate::normal_forms::specs::NormalLoops::forms_of))]
+#[tactic(auto, unfolding(crate::specs::normal_forms::NormalLoops::forms_of))]
 fn forms_of(
     alloc: Global,
     symbols: &Seq<Name>,
@@ -392,7 +392,7 @@ fn forms_of(
 }
 
 /// The loop under these loops, where it and its forms are within the limits.
-#[tactic(auto, unfolding(crate::normal_forms::specs::NormalLoops::normal_loop))]
+#[tactic(auto, unfolding(crate::specs::normal_forms::NormalLoops::normal_loop))]
 pub fn normal_loop(
     alloc: Global,
     symbols: &Seq<Name>,

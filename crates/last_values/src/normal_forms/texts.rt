@@ -41,7 +41,7 @@ fn quotient(alloc: Global, expr: Expr, by: i64) -> Result<Expr, Memory>
 }
 
 /// The text of a trip over these loops and symbols, and further divided trips.
-#[tactic(auto, unfolding(crate::normal_forms::specs::Texts::trip_text))]
+#[tactic(auto, unfolding(crate::specs::normal_forms::Texts::trip_text))]
 pub fn trip_text(
     alloc: Global,
     counters: &[Name],
@@ -74,7 +74,7 @@ fn counter_first(step: i64, form: &Affine) -> Affine
 
 /// The increment times the counter, and the lower bound less the increment: what stands for the variable of a loop
 /// under these loops.
-#[tactic(auto, unfolding(crate::normal_forms::specs::Texts::value_text))]
+#[tactic(auto, unfolding(crate::specs::normal_forms::Texts::value_text))]
 pub fn value_text(
     alloc: Global,
     symbols: &Seq<Name>,
