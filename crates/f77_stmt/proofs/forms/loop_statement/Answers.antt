@@ -2,4 +2,4 @@ use Rattle.f77_stmt.proofs.LoopLaws.{formed_loop}
 use Rattle.f77_stmt.proofs.forms.loop_statement.Goals as goal
 
 pub returns : goal.returns
-returns c digits comma x a b s n h w = formed_loop _ c.args.control _ digits comma x a b s n h w
+returns c digits comma control n h w = formed_loop _ c.args.control _ digits comma control n h w
