@@ -2,7 +2,7 @@
 use Rattle.std.proofs.Common.{◌≡◌, ◌⊎◌, inl, inr, ℕ, ◌<◌, ◌≤◌, false, Result, Ok, Err, IfOk, List, [], ◌∷◌, Contains, refl, sym, ap, subst, ◌∙◌, arith}
 use Rattle.std.specs.Prelude.{Option, IsOkAnd}
 use Rattle.std.specs.List.{AllByRecursion}
-use Rattle.std.proofs.lemmas.List.Elements.{All-from_recursion, All-contains, Contains-get_or}
+use Rattle.std.proofs.lemmas.List.Elements.{All-from_recursion, All-contains}
 use Rattle.fv_tree.specs.Plain.{Program}
 use Rattle.fv_tree.specs.View.{program_of}
 use Rattle.fv_tree.specs.declared.programs.Program77.{Program77}
@@ -129,7 +129,7 @@ not_refused cards r p (OfText text a f) g = f.unsound (subst (λ ys. findings fo
 
 pub only_that_program : (cards : List PlainCard) (o : Result Program77 Refused) → AreCardsBuilt cards o → (p : Program) → ReadsProgram fortran77 cards p
     → IsOkAnd o (λ built. program_of built ≡ p) ⊎ (o ≡ Err refused.Memory)
-only_that_program cards (Ok q) h p g = inl (one_read fortran77 g.text (program_of q) p (subst (λ ys. ReadsStatements fortran77 ys (program_of q)) (one_text cards g.text h.text g.statements h.statements) h.reads) g.reads)
+only_that_program cards (Ok q) h p g = inl (one_read fortran77 g.text (program_of q) p (subst (λ ys. ReadsStatements fortran77 ys (program_of q)) (sym (one_text cards h.text g.text h.statements g.statements)) h.reads) g.reads)
 only_that_program cards (Err (refused.Refusal r)) h p g = absurd (not_refused cards r p h g)
 only_that_program cards (Err refused.Memory) h p g = inr refl
 

@@ -8,7 +8,7 @@ use Rattle.f77_read.proofs.programs.build_text.Goals as goal
 
 pub returns-in_err-check-clause-built : goal.returns-in_err-check-clause-built
 returns-in_err-check-clause-built c =
-    let p = err_from_is_err_and c.from_residual.result c.from_residual.ensures.1 in
+    let p = err_from_is_err_and c.from_residual-in_err-check.result c.from_residual-in_err-check.ensures.1 in
     rw (p.1, p.2) (check_refused (text_of c.args.text.now) _ c.in_err-check.ensures.refused)
 
 pub returns-clause-built : goal.returns-clause-built
