@@ -2,7 +2,7 @@
 use Rattle.std.proofs.Common.{◌≡◌, ◌≤◌, ◌<◌, inl, inr, ℕ, zero, suc, ◌+◌, ◌*◌, List, [], ◌∷◌, ◌++◌, length, max, refl, ap, sym, ◌∙◌, subst, arith, true, false, Bool}
 use Rattle.std.specs.Prelude.{◌⊎◌, Option, Some, None, if◌then◌else◌}
 use Rattle.std.proofs.lemmas.List.{length-append}
-use Rattle.fv_tree.specs.Plain.{Expression, Item, Single, Constant, ImpliedDo, items}
+use Rattle.fv_tree.specs.Plain.{Item, Single, Constant, ImpliedDo, items}
 use Rattle.f77_grammar.specs.expressions.Words as words
 use Rattle.f77_grammar.specs.expressions.Words.{Word}
 use Rattle.f77_grammar.specs.expressions.Phrases.{written}
@@ -12,7 +12,7 @@ use Rattle.f77_grammar.specs.declared.directions.Direction.TheVariants.{Output, 
 use Rattle.f77_expr.specs.Reader as expressions
 use Rattle.f77_expr.specs.Reader.{Operand, Read, capped, deeper}
 use Rattle.f77_expr.proofs.Sound.{read_is}
-use Rattle.f77_lists.specs.Reader.{Frame, State, Wants, Done, Step, Go, Stop, Fail, none, added, put, opens, may_stand, value, text, simple, open_list, begin_by, begin, Bound, given, last_part, ReadControl, with_step, with_last, behind_first, with_first, control, begins_control, ended, repeat, behind_comma, whole, follow, step, start, Path, here, Reaches}
+use Rattle.f77_lists.specs.Reader.{Frame, State, Wants, Done, Step, Go, Stop, Fail, none, put, opens, may_stand, value, text, simple, open_list, begin_by, Bound, given, last_part, ReadControl, with_step, with_last, behind_first, with_first, control, begins_control, ended, repeat, behind_comma, whole, follow, step, start, Path, here, Reaches}
 use Rattle.f77_lists.proofs.Paths.{one_more, reaches}
 use Rattle.f77_lists.proofs.Complete.{filled, filled_none}
 use Rattle.f77_lists.proofs.ListLaws.{end_is}

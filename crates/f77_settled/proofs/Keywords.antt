@@ -1,5 +1,5 @@
 -- The keywords with which statements begin. Those of `f77_stmt` can't be named here.
-use Rattle.std.specs.Prelude.{◌≡◌, ℕ, ◌⊎◌, Option, Some, None, List, [], ◌∷◌, codes}
+use Rattle.std.specs.Prelude.{ℕ, ◌⊎◌, Option, Some, None, List, [], ◌∷◌, codes}
 use Rattle.fv_tree.specs.declared.ops.Kind.TheVariants as kinds
 use Rattle.f77_grammar.specs.expressions.Squeezing.{Symbol}
 use Rattle.f77_grammar.specs.statements.Forms as forms

@@ -2,8 +2,8 @@
 use Rattle.std.proofs.Common.{◌≡◌, ◌≤◌, ◌<◌, inl, inr, ℕ, zero, suc, ◌+◌, List, [], ◌∷◌, ◌++◌, length, refl, ap, sym, ◌∙◌, subst, arith, true, false, Bool, codes, append-nil}
 use Rattle.std.specs.Prelude.{◌⊎◌, Option, Some, None, ◌==◌}
 use Rattle.std.proofs.lemmas.Bool.{eqb-true}
-use Rattle.f77_grammar.specs.expressions.Squeezing.{Symbol, Char}
-use Rattle.f77_grammar.specs.expressions.Spelling.{IsName, Pass, Stops, is_digit, is_letter, is_letter_or_digit, chars, value}
+use Rattle.f77_grammar.specs.expressions.Squeezing.{Symbol}
+use Rattle.f77_grammar.specs.expressions.Spelling.{IsName, Pass, is_letter, is_letter_or_digit, chars, value}
 use Rattle.f77_grammar.specs.statements.Recognition as recognition
 use Rattle.f77_grammar.specs.statements.Recognition.{Halves, cut_at_close, has_equals_outside, words_left_out, IsConditional, IsOfKeyword, IsArithmeticIf, IsComputedGoTo, IsAssignedGoTo, HasWord}
 use Rattle.f77_grammar.specs.statements.Forms.{optional_comma}
@@ -13,9 +13,8 @@ use Rattle.f77_keywords.specs.FormsLeftOut as forms
 use Rattle.f77_keywords.specs.FormsLeftOut.{AreThreeLabels, AreEnclosed, IsFormLeftOut, without_comma}
 use Rattle.f77_keywords.specs.Fronts.{IsLabelled, IsNamed, IsLabelList}
 use Rattle.f77_keywords.specs.Listed.{listed}
-use Rattle.f77_keywords.proofs.FrontLaws.{run_same}
 use Rattle.f77_keywords.proofs.FormLaws.{three_found, three_only, arithmetic_found, arithmetic_only, IsEnclosed, enclosed_list, enclosed_found, not_closed, closed_same, computed_enclosed, computed_found, computed_index, enclosed_of, of_enclosed, nothing_behind, assigned_name, assigned_alone, assigned_with_labels, form_of_arithmetic, form_of_computed, form_of_assigned, no_form}
-use Rattle.f77_keywords.proofs.LabelLists.{HasLabels, has_first, no_first, has_next, no_next, labels_found, labels_only, label_shorter, comma_shorter}
+use Rattle.f77_keywords.proofs.LabelLists.{HasLabels, has_first, no_first, has_next, no_next, labels_found, labels_only, label_shorter}
 use Rattle.f77_keywords.proofs.Stripping.{strip_same, stripped}
 use Rattle.f77_keywords.proofs.WordLaws.{inner_shorter, inner_begun, inner_more, no_inner, IsInnerOf, listed_word_is, listed_word_only, has_keyword, form_is, form_of_keyword, of_keyword}
 use Rattle.f77_settled.proofs.Fronts.{nothing}

@@ -1,11 +1,11 @@
 -- Bounds, names with bounds, symbolic constants, references, DO variables with their parameters.
 use Rattle.std.proofs.Common.{◌≡◌, ◌≤◌, ◌<◌, inl, inr, ℕ, List, [], ◌∷◌, ◌++◌, map, length, max, pos, refl, ap, sym, ◌∙◌, append_assoc, arith, true, false, Bool, nat_le}
-use Rattle.std.specs.Prelude.{◌⊎◌, Option, Some, None}
+use Rattle.std.specs.Prelude.{◌⊎◌}
 use Rattle.std.proofs.lemmas.List.{length-map}
 use Rattle.std.proofs.lemmas.Bool.Decides.{nat_tests}
 use Rattle.fv_tree.specs.Plain.{Expression, Number}
 use Rattle.f77_grammar.specs.Statement77 as statement
-use Rattle.f77_grammar.specs.expressions.Phrases.{Phrase, Literal, WideLiteral, Truth, Name, Listed, Paren, Signed, Joined, IsExpression, written, tree, depth}
+use Rattle.f77_grammar.specs.expressions.Phrases.{Phrase, Name, Listed, IsExpression, written, tree, depth}
 use Rattle.f77_grammar.specs.expressions.Words as words
 use Rattle.f77_grammar.specs.expressions.Words.{Word}
 use Rattle.f77_grammar.specs.statements.Forms.{Bound, Upper, Both, IsBound, written_bound, bound_tree, bound_depth, Entity, Plain, Bounded, IsEntity, IsBounded, written_entity, entity_tree, entity_depth, Definition, IsDefinition, written_definition, definition_tree, definition_depth, separated, IsList, deepest, reference_in}
@@ -17,7 +17,7 @@ use Rattle.f77_stmt.specs.Separated.{EndsPart, EndsList}
 use Rattle.f77_stmt.proofs.BoundLaws.{ends, no_colon}
 use Rattle.f77_stmt.proofs.CappedLaws.{capped_max}
 use Rattle.f77_stmt.proofs.ReferenceLaws.{is_bare, names_begin, named_is}
-use Rattle.f77_settled.proofs.Fronts.{IsThere, IsNowhere, Front, BeginsWith, comma, colon, close, equals, name, head, tail_same, phrase, list}
+use Rattle.f77_settled.proofs.Fronts.{IsThere, IsNowhere, Front, BeginsWith, colon, close, equals, name, head, tail_same, phrase, list}
 
 -- ---- bounds
 

@@ -4,7 +4,7 @@ use Rattle.std.specs.Prelude.{◌⊎◌, IsTrue}
 use Rattle.fv_tree.specs.Causes.{number_of_cause}
 use Rattle.fv_tree.specs.declared.refusals.Cause.TheVariants as causes
 use Rattle.f77_grammar.specs.Statement77.{Statement77}
-use Rattle.f77_grammar.specs.expressions.Squeezing.{Symbol, Squeezed}
+use Rattle.f77_grammar.specs.expressions.Squeezing.{Symbol}
 use Rattle.f77_grammar.specs.statements.Forms.{Form, IsWritten, statement_of, form_depth, has_wide_literal}
 use Rattle.f77_grammar.specs.statements.Reading.{IsFormOf, ReadsStatement, HasNoForm, HasWordLeftOut, IsRefusedBy}
 use Rattle.f77_grammar.specs.statements.Reading.IsRefusedBy.{Syntax, OutOfProfile, WideLiteral, Deep}
@@ -12,10 +12,10 @@ use Rattle.f77_grammar.specs.statements.Recognition.{HasWord}
 use Rattle.f77_expr.specs.Reader.{capped}
 use Rattle.f77_expr.specs.Scanning.{scan, Out}
 use Rattle.f77_expr.proofs.ScanningLaws as scanning
-use Rattle.f77_settled.specs.Settled.{IsSettled, AllAreSettled}
+use Rattle.f77_settled.specs.Settled.{AllAreSettled}
 use Rattle.f77_settled.proofs.Symbols.{at_most}
-use Rattle.f77_settled.proofs.LeftOut.{HasOneWord, WordOf, word_of}
-use Rattle.f77_settled.proofs.Statements.{IsLike, HasOne, HasNone, Decided, statement_in}
+use Rattle.f77_settled.proofs.LeftOut.{WordOf, word_of}
+use Rattle.f77_settled.proofs.Statements.{IsLike, Decided, statement_in}
 
 module _ (chars : List ℕ) where
   abbrev text : List Symbol

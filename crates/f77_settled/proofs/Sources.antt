@@ -7,7 +7,7 @@ use Rattle.f77_grammar.specs.Answered.{IsAnswered}
 use Rattle.f77_grammar.specs.Cards.{PlainCard, ReadsCards, RefusedCards}
 use Rattle.f77_grammar.specs.Statement77.{Labelled, Statement77}
 use Rattle.f77_grammar.specs.statements.Reading.{ReadsStatement, IsRefusedBy}
-use Rattle.f77_grammar.specs.program.Program77.{findings, ReadsStatements, RefusedStatements}
+use Rattle.f77_grammar.specs.program.Program77.{findings, ReadsStatements}
 use Rattle.f77_tree_laws.specs.Steps.{tree_of}
 use Rattle.f77_tree_laws.proofs.Trees.{tree_is_read, one_read}
 use Rattle.f77_grammar.specs.Reading77.{IsReadFrom, AreReadFrom, HasCause, ReadsProgram, RefusedProgram, Reads77, Refused77}
@@ -17,8 +17,8 @@ use Rattle.f77_grammar.proofs.CardLaws as lines
 use Rattle.f77_grammar.proofs.Grouping.{one_reading}
 use Rattle.f77_grammar.proofs.programs.Least.{none_or_first, nothing_in}
 use Rattle.f77_laws.proofs.Lists.{nowhere, cases_of}
-use Rattle.f77_read.specs.Cards.{card_refusal, IsReadAlone, IsRefusedAlone, AreReadAlone, IsRefusedFirst, AreTried}
-use Rattle.f77_settled.specs.Settled.{IsSettled, AllAreSettled}
+use Rattle.f77_read.specs.Cards.{card_refusal, IsReadAlone, IsRefusedAlone, AreReadAlone, AreTried}
+use Rattle.f77_settled.specs.Settled.{AllAreSettled}
 use Rattle.f77_read.proofs.CardLaws.{read_last, kept, first_refused, another_refused}
 use Rattle.f77_read.proofs.Answers.{are_read, answered_card, answered_text}
 

@@ -1,5 +1,5 @@
 -- A text has one form, or none.
-use Rattle.std.proofs.Common.{◌≡◌, inl, inr, ℕ, List, [], ◌∷◌, ◌++◌, map, max, refl, ap, sym, ◌∙◌, subst, append-nil, true, false, Bool, codes, ◌||◌}
+use Rattle.std.proofs.Common.{◌≡◌, inl, inr, ℕ, List, [], ◌∷◌, ◌++◌, refl, ap, sym, ◌∙◌, subst, append-nil, true, false, Bool, codes, ◌||◌}
 use Rattle.std.specs.Prelude.{◌⊎◌, Option, Some, None}
 use Rattle.std.specs.List.{list_any}
 use Rattle.fv_tree.specs.Plain as plain
@@ -8,19 +8,17 @@ use Rattle.fv_tree.specs.declared.ops.Kind.{Kind}
 use Rattle.fv_tree.specs.declared.ops.Kind.TheVariants as kinds
 use Rattle.f77_grammar.specs.Statement77 as statement
 use Rattle.f77_grammar.specs.Statement77.{Statement77}
-use Rattle.f77_grammar.specs.expressions.Phrases.{Phrase, IsExpression, written, tree, depth}
+use Rattle.f77_grammar.specs.expressions.Phrases.{Phrase, written, tree, depth}
 use Rattle.f77_grammar.specs.expressions.Reading.{is_wide}
 use Rattle.f77_grammar.specs.expressions.Spelling.{Words, chars, value}
 use Rattle.f77_grammar.specs.expressions.Squeezing.{Symbol, Char}
 use Rattle.f77_grammar.specs.expressions.Words as words
 use Rattle.f77_grammar.specs.expressions.Words.{Word}
 use Rattle.f77_grammar.specs.statements.Controls.{Control, written_control}
-use Rattle.f77_grammar.specs.statements.Items.{ItemPhrases, AreItems, written_items, item_trees}
-use Rattle.f77_grammar.specs.declared.directions.Direction.{Direction}
 use Rattle.f77_grammar.specs.declared.directions.Direction.TheVariants.{Input, Output}
 use Rattle.f77_grammar.specs.statements.Forms as forms
 use Rattle.f77_grammar.specs.statements.Forms.{Form, IsWritten, IsInner, IsLabel, IsEntity, IsBounded, written_entity, entity_tree, entity_depth, IsDefinition, written_definition, definition_tree, definition_depth, separated, IsList, statement_of, form_depth, form_words, has_wide_literal, reference_in, optional_comma}
-use Rattle.f77_grammar.specs.statements.Recognition.{Halves, cut_at_close, has_equals_outside, BeginsWithLetter, IsConditional}
+use Rattle.f77_grammar.specs.statements.Recognition.{Halves, cut_at_close, has_equals_outside}
 use Rattle.f77_expr.specs.Lexing.{strip}
 use Rattle.f77_expr.specs.Reader.{capped}
 use Rattle.f77_keywords.specs.FormsLeftOut.{without_comma}
@@ -33,7 +31,6 @@ use Rattle.f77_stmt.specs.Keywords.{IsProgramAfter, IsDeclarationAfter, IsDimens
 use Rattle.f77_stmt.specs.Kinds.{is_inner, IsUnconditional, Assignment, Loop, OfKeyword}
 use Rattle.f77_stmt.proofs.ActionLaws.{cut_is, cut_text, no_list}
 use Rattle.f77_stmt.proofs.AssignmentLaws.{any_append}
-use Rattle.f77_stmt.proofs.CappedLaws.{capped_max}
 use Rattle.f77_stmt.proofs.LoopLaws.{front_found, front_stripped, front_label, control_begins, comma_gone}
 use Rattle.f77_stmt.proofs.RecognitionLaws.{inner_is, inner_of, inner_unconditional, of_keyword, of_loop, of_assignment, no_then, is_conditional, is_unconditional, conditional_written}
 use Rattle.f77_settled.proofs.Fronts.{nothing}
@@ -44,7 +41,7 @@ use Rattle.f77_settled.proofs.Keywords as keywords
 use Rattle.f77_settled.proofs.Keywords.{Keyword, Front, keyword_at, IsAfter}
 use Rattle.f77_settled.proofs.KeywordLaws.{keyword_written, after_keyword, no_keyword}
 use Rattle.f77_settled.proofs.LeftOut.{Told, then_or_not}
-use Rattle.f77_settled.proofs.Items.{AreItemsThere, ItemsOf, items_of}
+use Rattle.f77_settled.proofs.Items.{ItemsOf, items_of}
 use Rattle.f77_settled.proofs.Whole.{IsSpelled, IsNotSpelled, spelled, AreAll, AreNot, all, AreInside, AreNotInside, inside, IsControlThere, IsNoControl, control_there, IsAssignment, IsNoAssignment, assignment_of, assigned}
 
 -- what is made of two forms is the same

@@ -1,10 +1,10 @@
 -- What stands at the front of a text: words, labels, names, conditions.
-use Rattle.std.proofs.Common.{◌≡◌, ◌≤◌, ◌<◌, inl, inr, ℕ, zero, suc, List, [], ◌∷◌, ◌++◌, map, length, refl, ap, sym, ◌∙◌, subst, arith, true, false, Bool, nat_le, codes, append-nil}
+use Rattle.std.proofs.Common.{◌≡◌, ◌≤◌, ◌<◌, inl, inr, ℕ, zero, suc, List, [], ◌∷◌, ◌++◌, map, length, refl, ap, sym, ◌∙◌, subst, arith, true, false, Bool, nat_le, codes}
 use Rattle.std.specs.Prelude.{◌⊎◌, Option, Some, None, IsTrue}
 use Rattle.std.proofs.lemmas.List.{length-map}
 use Rattle.std.proofs.lemmas.Bool.Decides.{nat_tests}
 use Rattle.f77_grammar.specs.expressions.Squeezing.{Symbol, Char, Text, Broken}
-use Rattle.f77_grammar.specs.expressions.Spelling.{Words, Begins, IsDigits, IsName, Pass, Stops, is_digit, is_letter, is_letter_or_digit, chars, value}
+use Rattle.f77_grammar.specs.expressions.Spelling.{Words, Begins, IsDigits, Pass, Stops, is_digit, is_letter, chars}
 use Rattle.f77_grammar.specs.expressions.Words.{Word}
 use Rattle.f77_grammar.specs.statements.Forms.{IsLabel}
 use Rattle.f77_grammar.specs.statements.Recognition.{Halves, cut_at_close, BeginsWithLetter, IsConditional}

@@ -1,5 +1,5 @@
 -- All words as an expression, as a list, as a DO variable with its parameters, as an assignment.
-use Rattle.std.proofs.Common.{◌≡◌, inl, inr, ℕ, List, [], ◌∷◌, ◌++◌, map, max, refl, ap, sym, ◌∙◌, subst, append-nil, append_assoc}
+use Rattle.std.proofs.Common.{◌≡◌, inl, inr, ℕ, List, [], ◌∷◌, ◌++◌, map, max, min, refl, ap, sym, ◌∙◌, subst, append-nil, arith}
 use Rattle.std.specs.Prelude.{◌⊎◌, Option, Some, None}
 use Rattle.f77_grammar.specs.expressions.Phrases as phrases
 use Rattle.f77_grammar.specs.expressions.Phrases.{Phrase, IsExpression, written}
@@ -8,7 +8,7 @@ use Rattle.f77_grammar.specs.expressions.Squeezing.{Symbol}
 use Rattle.f77_grammar.specs.expressions.Words as words
 use Rattle.f77_grammar.specs.expressions.Words.{Word}
 use Rattle.f77_grammar.specs.statements.Forms.{separated, IsList, deepest}
-use Rattle.f77_grammar.specs.statements.Controls.{Control, IsControl, written_control, step_tree, control_depth}
+use Rattle.f77_grammar.specs.statements.Controls.{Control, IsControl, written_control, step_tree, step_depth, control_depth}
 use Rattle.f77_grammar.specs.statements.Items.{IsReference}
 use Rattle.f77_expr.specs.Reader.{capped}
 use Rattle.f77_expr.specs.Reading.{Ends}
@@ -17,9 +17,8 @@ use Rattle.f77_lists.proofs.Complete.{control_of}
 use Rattle.f77_lists.proofs.ControlLaws.{whole_is_read, nothing_read}
 use Rattle.f77_lists.proofs.Sound.{control_found}
 use Rattle.f77_stmt.specs.Separated.{EndsPart, EndsList}
-use Rattle.f77_stmt.proofs.CappedLaws.{capped_max}
-use Rattle.f77_settled.proofs.Fronts.{IsThere, IsNowhere, Front, BeginsWith, comma, close, open_, equals, name, nothing, tail_same, phrase, list}
-use Rattle.f77_settled.proofs.Parts.{IsBareExpression, reference, name_name, name_tail, both_alike}
+use Rattle.f77_settled.proofs.Fronts.{IsThere, Front, BeginsWith, close, open_, equals, nothing, tail_same, phrase, list}
+use Rattle.f77_settled.proofs.Parts.{IsBareExpression, reference, both_alike}
 use Rattle.f77_settled.proofs.Symbols.{HasWords, HasNoWords, words_of}
 
 -- ---- an expression
@@ -155,6 +154,12 @@ pub record IsControlThere (ws : List Word) : Type 0 where
 abbrev pub IsNoControl : List Word → Type 0
 IsNoControl ws = (c : Control) → IsControl c → ws ≡ written_control c → ⊥
 
+deepest_part : (a b c : ℕ) → max (max (min a 401) (min b 401)) (min c 401) ≡ min (max (max a b) c) 401
+deepest_part a b c = omega arith
+
+depth_is : (k : Control) (rest : List Word) → (control_of k rest).depth ≡ capped (control_depth k)
+depth_is k rest = deepest_part (phrases.depth k.first) (phrases.depth k.last) (step_depth k.step)
+
 pub control_there : (ws : List Word) → IsControlThere ws ⊎ IsNoControl ws
 control_there ws = by (reader.control ws) refl
   where
@@ -173,7 +178,7 @@ control_there ws = by (reader.control ws) refl
                 ap (λ (m : reader.ReadControl). m.first) r,
                 ap (λ (m : reader.ReadControl). m.last) r,
                 ap (λ (m : reader.ReadControl). m.step) r,
-                (let d = ap (λ (m : reader.ReadControl). m.depth) r in omega (arith, d)),
+                sym (depth_is f.control b.rest) ∙ (ap (λ (m : reader.ReadControl). m.depth) r ∙ depth_is c []),
               );
         })
     by_rest b e (w ∷ rest) n = inr (λ c g s.
