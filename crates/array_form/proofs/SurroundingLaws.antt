@@ -8,14 +8,8 @@ use Rattle.nest_tree.specs.Plain.{Loop, Nest}
 use Rattle.sections.specs.Surroundings.{counted, known_trip, surroundings_of, surroundings_view}
 use Rattle.sections.specs.declared.loops.Counted.{Counted}
 use Rattle.sections.specs.declared.loops.Surroundings.{Surroundings}
-use Rattle.sections.proofs.Standing.{surroundings_made}
 use Rattle.sections.proofs.TripLaws.{among_at}
 use Rattle.array_form.specs.Loops.{AreLoopsOf, HasPlaces}
-
-pub with_own_loops : (n : Nest) (ls : List Loop) (a : Surroundings) (all : List Counted) → surroundings_view a ≡ surroundings_of n ls → all ≡ map counted ls
-    → surroundings_view (record { loops = all; symbols = a.symbols; may_spread = a.may_spread }) ≡ surroundings_of n ls
-with_own_loops n ls a all v e =
-    surroundings_made n ls all a.symbols a.may_spread e (ap (λ (b : forms.Surroundings). b.symbols) v) (ap (λ (b : forms.Surroundings). b.may_spread) v)
 
 -- its loops are loops of it, where their trips are forms
 pub own_loops : (a : Surroundings) (ls : List Loop) → a.loops ≡ map counted ls → All (λ l. IsForm (length ls) (known_trip l.trip).top) ls → AreLoopsOf a a.loops

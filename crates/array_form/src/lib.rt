@@ -9,8 +9,6 @@ mod loops_in_text;
 mod placing;
 mod section_bounds;
 mod statements;
-mod surroundings;
 mod trips;
 
 pub use statements::{array_form, statement_form};
-pub use surroundings::surroundings_in;

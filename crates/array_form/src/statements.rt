@@ -12,10 +12,9 @@ ghost use Rattle.array_form.specs.Statement.{HasArrayForm, array_form_at, block_
 use crate::conditions::with_tests;
 use crate::expressions::{form, subscript_forms};
 use crate::loops_in_text::loops_in_order;
-use crate::surroundings::surroundings_in;
 use fv_tree::{Arm, Block, Expr, Mark, Memory, Ref, Seq, Stmt};
 use nest_tree::{GuardedStmt, Nest};
-use sections::Surroundings;
+use sections::{Surroundings, surroundings_of};
 use statement_loops::statements_of;
 use std::alloc::Global;
 
@@ -108,7 +107,7 @@ pub fn array_form(alloc: Global, s: u32, nest: &Nest, level: usize) -> Result<Bl
 {
     let all = statements_of(alloc, nest)?;
     let standing = &all.as_slice()[s as usize - 1];
-    let a = surroundings_in(alloc, nest, &standing.loops)?;
+    let a = surroundings_of(alloc, nest, &standing.loops)?;
     let mark = Mark {
         nest: nest.number,
         stmt: s,

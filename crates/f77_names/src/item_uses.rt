@@ -26,16 +26,9 @@ impl Uses {
     {
         match expr {
             Expr::Item(target) => self.add_target(target),
-            Expr::Int(_) => self.add_expr(expr),
-            Expr::Truth(_) => self.add_expr(expr),
-            Expr::Un(..) => self.add_expr(expr),
-            Expr::Bin(..) => self.add_expr(expr),
-            Expr::Call(..) => self.add_expr(expr),
-            Expr::List(..) => self.add_expr(expr),
-            Expr::Spread(..) => self.add_expr(expr),
-            Expr::Transpose(_) => self.add_expr(expr),
-            Expr::Reshape(..) => self.add_expr(expr),
-            Expr::Reduce(..) => self.add_expr(expr),
+            Expr::Int(_) | Expr::Truth(_) | Expr::Un(..) | Expr::Bin(..) => self.add_expr(expr),
+            Expr::Call(..) | Expr::List(..) | Expr::Spread(..) => self.add_expr(expr),
+            Expr::Transpose(_) | Expr::Reshape(..) | Expr::Reduce(..) => self.add_expr(expr),
         }
     }
 

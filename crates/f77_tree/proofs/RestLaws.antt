@@ -14,7 +14,7 @@ use Rattle.f77_grammar.specs.program.Text.{is_label}
 use Rattle.f77_tree_laws.specs.Steps as steps
 use Rattle.f77_tree.specs.declared.rests.Piece.{Piece}
 use Rattle.f77_tree.specs.declared.rests.OpenIf.{OpenIf}
-use Rattle.f77_tree.specs.Rests.{piece_of, pieces_in, made_by, rest_with}
+use Rattle.f77_tree.specs.Rests.{piece_of, pieces_in, made_by, later_arms, rest_with}
 
 pub pieces_more : (ps ps' : List Piece) (p : Piece) → ps' ≡ ps ++ p ∷ [] → pieces_in ps' ≡ piece_of p ∷ pieces_in ps
 pieces_more ps ps' p e = ap pieces_in e ∙ ap reverse (map-append piece_of ps (p ∷ [])) ∙ reverse-append (map piece_of ps) (piece_of p ∷ [])
@@ -57,23 +57,23 @@ else_is ps none fs fs1 fs2 f g nothing was now later other after =
     ∙ sym (ap steps.else_begun (opened (pieces_in ps) fs1 fs f was))
 
 -- an arm before the later ones
-arm_before : (later later' : List Arm) (c : Expr) (b : Block) → later' ≡ later ++ roll-Arm (record { test = c; body = b }) ∷ []
-    → arms (reverse (map tested_of later')) ≡ plain.arm (expression_of c) (block_of b) (arms (reverse (map tested_of later)))
-arm_before later later' c b e =
+pub arm_before : (later later' : List Arm) (c : Expr) (b : Block) (ps : List steps.Piece) → later' ≡ later ++ roll-Arm (record { test = c; body = b }) ∷ [] → block_of b ≡ steps.block_of ps
+    → arms (reverse (map tested_of later')) ≡ plain.arm (expression_of c) (steps.block_of ps) (arms (reverse (map tested_of later)))
+arm_before later later' c b ps e body =
     ap (λ ts. arms (reverse (map tested_of ts))) e
     ∙ ap (λ ts. arms (reverse ts)) (map-append tested_of later (roll-Arm (record { test = c; body = b }) ∷ []))
     ∙ ap arms (reverse-append (map tested_of later) (tested_of (roll-Arm (record { test = c; body = b })) ∷ []))
     ∙ ap (λ (t : Tested). plain.arm t.test t.body (arms (reverse (map tested_of later)))) (tested_of-made c b)
+    ∙ ap (λ k. plain.arm (expression_of c) k (arms (reverse (map tested_of later)))) body
 
-pub arm_is : (ps none : List Piece) (fs fs1 fs2 : List OpenIf) (f g : OpenIf) (c : Expr) (b : Block) → none ≡ [] → fs ≡ fs1 ++ f ∷ [] → fs2 ≡ fs1 ++ g ∷ []
-    → g.later.items ≡ f.later.items ++ roll-Arm (record { test = c; body = b }) ∷ [] → block_of b ≡ steps.block_of (pieces_in ps) → g.other ≡ f.other → g.after.items ≡ f.after.items
+pub arm_is : (ps none : List Piece) (fs fs1 fs2 : List OpenIf) (f g : OpenIf) (c : Expr) → none ≡ [] → fs ≡ fs1 ++ f ∷ [] → fs2 ≡ fs1 ++ g ∷ []
+    → later_arms g ≡ plain.arm (expression_of c) (steps.block_of (pieces_in ps)) (later_arms f) → g.other ≡ f.other → g.after.items ≡ f.after.items
     → rest_with (pieces_in none) (reverse fs2) ≡ steps.arm_begun (expression_of c) (rest_with (pieces_in ps) (reverse fs))
-arm_is ps none fs fs1 fs2 f g c b nothing was now later body other after =
+arm_is ps none fs fs1 fs2 f g c nothing was now before other after =
     ap (λ qs. rest_with (pieces_in qs) (reverse fs2)) nothing ∙ opened [] fs1 fs2 g now
-    ∙ ap (λ ts. steps.InArm [] ts (block_of g.other) (rest_with (pieces_in g.after.items) (reverse fs1))) (arm_before f.later.items g.later.items c b later)
-    ∙ ap (λ k. steps.InArm [] (plain.arm (expression_of c) k (arms (reverse (map tested_of f.later.items)))) (block_of g.other) (rest_with (pieces_in g.after.items) (reverse fs1))) body
-    ∙ ap (λ k. steps.InArm [] (plain.arm (expression_of c) (steps.block_of (pieces_in ps)) (arms (reverse (map tested_of f.later.items)))) (block_of k) (rest_with (pieces_in g.after.items) (reverse fs1))) other
-    ∙ ap (λ qs. steps.InArm [] (plain.arm (expression_of c) (steps.block_of (pieces_in ps)) (arms (reverse (map tested_of f.later.items)))) (block_of f.other) (rest_with (pieces_in qs) (reverse fs1))) after
+    ∙ ap (λ ts. steps.InArm [] ts (block_of g.other) (rest_with (pieces_in g.after.items) (reverse fs1))) before
+    ∙ ap (λ k. steps.InArm [] (plain.arm (expression_of c) (steps.block_of (pieces_in ps)) (later_arms f)) (block_of k) (rest_with (pieces_in g.after.items) (reverse fs1))) other
+    ∙ ap (λ qs. steps.InArm [] (plain.arm (expression_of c) (steps.block_of (pieces_in ps)) (later_arms f)) (block_of f.other) (rest_with (pieces_in qs) (reverse fs1))) after
     ∙ sym (ap (steps.arm_begun (expression_of c)) (opened (pieces_in ps) fs1 fs f was))
 
 map_reversed : {A B : Type 0} (f : A → B) (xs : List A) → map f (reverse xs) ≡ reverse (map f xs)
@@ -82,20 +82,24 @@ map_reversed f (x ∷ xs) =
     ap (map f) (reverse-append (x ∷ []) xs) ∙ map-append f (reverse xs) (x ∷ [])
     ∙ ap (λ ys. ys ++ f x ∷ []) (map_reversed f xs) ∙ sym (reverse-append (f x ∷ []) (map f xs))
 
-pub if_is : (ps : List Piece) (fs fs1 : List OpenIf) (f : OpenIf) (line : ℕ) (mark made : List Stmt) (later turned : List Arm) (ts : Seq Arm) (c : Expr) (b : Block)
-    → fs ≡ fs1 ++ f ∷ [] → later ≡ f.later.items ++ roll-Arm (record { test = c; body = b }) ∷ [] → turned ≡ reverse later → ts ≡ turned
-    → block_of b ≡ steps.block_of (pieces_in ps) → made ≡ mark ++ stmts.If line ts f.other ∷ []
-    → steps.preceded (record { ends = None; made = map statement_of made }) (rest_with (pieces_in f.after.items) (reverse fs1))
+pub if_is : (ps : List Piece) (fs fs1 : List OpenIf) (f g : OpenIf) (line : ℕ) (mark made : List Stmt) (turned : List Arm) (ts : Seq Arm) (c : Expr)
+    → fs ≡ fs1 ++ f ∷ [] → later_arms g ≡ plain.arm (expression_of c) (steps.block_of (pieces_in ps)) (later_arms f) → g.other ≡ f.other → g.after.items ≡ f.after.items
+    → turned ≡ reverse g.later.items → ts ≡ turned → made ≡ mark ++ stmts.If line ts g.other ∷ []
+    → steps.preceded (record { ends = None; made = map statement_of made }) (rest_with (pieces_in g.after.items) (reverse fs1))
     ≡ steps.if_begun line (map statement_of mark) (expression_of c) (rest_with (pieces_in ps) (reverse fs))
-if_is ps fs fs1 f line mark made later turned ts c b was grown around same body e =
-    ap (λ ms. steps.preceded (record { ends = None; made = ms }) (rest_with (pieces_in f.after.items) (reverse fs1)))
-    (ap (map statement_of) e ∙ map-append statement_of mark (stmts.If line ts f.other ∷ [])
+if_is ps fs fs1 f g line mark made turned ts c was before other after around same e =
+    ap (λ ms. steps.preceded (record { ends = None; made = ms }) (rest_with (pieces_in g.after.items) (reverse fs1)))
+    (ap (map statement_of) e ∙ map-append statement_of mark (stmts.If line ts g.other ∷ [])
     ∙ ap (λ t. map statement_of mark ++ t ∷ [])
-    (statement_of-if line ts f.other
-    ∙ ap (λ us. plain.If line us (block_of f.other))
-    (ap (λ us. arms (map tested_of us)) (same ∙ around) ∙ ap arms (map_reversed tested_of later) ∙ arm_before f.later.items later c b grown
-    ∙ ap (λ k. plain.arm (expression_of c) k (arms (reverse (map tested_of f.later.items)))) body)))
+    (statement_of-if line ts g.other
+    ∙ ap (λ us. plain.If line us (block_of g.other))
+    (ap (λ us. arms (map tested_of us)) (same ∙ around) ∙ ap arms (map_reversed tested_of g.later.items) ∙ before)
+    ∙ ap (λ k. plain.If line all (block_of k)) other))
+    ∙ ap (λ qs. steps.preceded (record { ends = None; made = map statement_of mark ++ plain.If line all (block_of f.other) ∷ [] }) (rest_with (pieces_in qs) (reverse fs1))) after
     ∙ sym (ap (steps.if_begun line (map statement_of mark) (expression_of c)) (opened (pieces_in ps) fs1 fs f was))
+  where
+    all : plain.Arms
+    all = plain.arm (expression_of c) (steps.block_of (pieces_in ps)) (later_arms f)
 
 -- ---- the pieces of a loop
 

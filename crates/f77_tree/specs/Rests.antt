@@ -24,12 +24,15 @@ pieces_in ps = reverse (map piece_of ps)
 abbrev pub made_by : List steps.Piece → List plain.Statement
 made_by ps = flat_map (λ (p : steps.Piece). p.made) ps
 
+-- the arms of a block IF behind its first line, which are held with the last one first
+abbrev pub later_arms : OpenIf → plain.Arms
+later_arms f = arms (reverse (map tested_of f.later.items))
+
 -- the pieces of a block, and the block IFs round it, the innermost first
 abbrev pub rest_with : List steps.Piece → List OpenIf → steps.Rest
 rest_with ps [] = steps.Outermost ps
 rest_with ps (f ∷ fs) =
-    steps.InArm ps (arms (reverse (map tested_of f.later.items))) (block_of f.other)
-    (rest_with (pieces_in f.after.items) fs)
+    steps.InArm ps (later_arms f) (block_of f.other) (rest_with (pieces_in f.after.items) fs)
 
 abbrev pub rest_of : Rest → steps.Rest
 rest_of r = rest_with (pieces_in r.pieces.items) (reverse r.ifs.items)

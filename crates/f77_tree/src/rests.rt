@@ -4,7 +4,7 @@ ghost use Rattle.fv_tree.specs.View.{expression_of, block_of, statement_of};
 ghost use Rattle.fv_tree.specs.Plain as plain;
 ghost use Rattle.f77_tree_laws.specs.Steps as steps;
 ghost use Rattle.f77_grammar.specs.program.Text.{is_label};
-ghost use Rattle.f77_tree.specs.Rests.{piece_of, pieces_in, made_by, rest_of, heading_of};
+ghost use Rattle.f77_tree.specs.Rests.{piece_of, pieces_in, made_by, later_arms, rest_of, heading_of};
 
 use fv_tree::{Arm, Block, Expr, Memory, Name, Seq, Stmt};
 use std::alloc::Global;
@@ -86,6 +86,29 @@ fn take_loop(alloc: Global, pieces: &mut Vec<Piece>, label: u32) -> Result<Vec<S
     Ok(stmts)
 }
 
+impl OpenIf {
+    // With the block of these pieces as an arm before its later ones.
+    fn with_arm(self, alloc: Global, test: Expr, pieces: Vec<Piece>) -> Result<OpenIf, Memory>
+        ensures arms { IfOk result (λ grown. later_arms grown
+            ≡ plain.arm (expression_of test) (steps.block_of (pieces_in pieces.items)) (later_arms self)) }
+        ensures other { IfOk result (λ grown. grown.other ≡ self.other) }
+        ensures after { IfOk result (λ grown. grown.after.items ≡ self.after.items) }
+    {
+        let OpenIf {
+            mut later,
+            other,
+            after,
+        } = self;
+        let body = whole(alloc, pieces)?;
+        later.push(Arm { test, body })?;
+        Ok(OpenIf {
+            later,
+            other,
+            after,
+        })
+    }
+}
+
 impl Rest {
     /// Nothing comes after the last statement.
     pub fn new(alloc: Global) -> Rest
@@ -154,18 +177,8 @@ impl Rest {
         let Some(inner) = ifs.pop() else {
             return Ok(Rest { pieces, ifs });
         };
-        let OpenIf {
-            mut later,
-            other,
-            after,
-        } = inner;
-        let body = whole(alloc, pieces)?;
-        later.push(Arm { test, body })?;
-        ifs.push(OpenIf {
-            later,
-            other,
-            after,
-        })?;
+        let grown = inner.with_arm(alloc, test, pieces)?;
+        ifs.push(grown)?;
         let pieces = Vec::new(alloc);
         Ok(Rest { pieces, ifs })
     }
@@ -186,13 +199,12 @@ impl Rest {
         let Some(inner) = ifs.pop() else {
             return Ok(Rest { pieces, ifs });
         };
+        let grown = inner.with_arm(alloc, test, pieces)?;
         let OpenIf {
             mut later,
             other,
             after,
-        } = inner;
-        let body = whole(alloc, pieces)?;
-        later.push(Arm { test, body })?;
+        } = grown;
         later.reverse();
         let mut made = mark;
         made.push(Stmt::If {

@@ -14,9 +14,10 @@ ghost use Rattle.nest_emission.specs.Given.{AreInside, HasLoop, IsClass, IsSourc
 
 use crate::classes::classes_at;
 use crate::source::{Source, Way};
-use array_form::{statement_form, surroundings_in};
+use array_form::statement_form;
 use fv_tree::{Block, Expr, Memory, Seq, Stmt};
 use nest_tree::{Loop, copy_ref};
+use sections::surroundings_of;
 use std::alloc::Global;
 
 #[tactic(auto, using(array_form::proofs::StatementLaws::one_block))]
@@ -68,7 +69,7 @@ impl Source<'_> {
         ensures { IfOk result (λ b. block_of b ≡ formed_block (nest_in self.now) level number) }
     {
         let standing = self.statement(number);
-        let surroundings = surroundings_in(self.alloc, self.nest, &standing.loops)?;
+        let surroundings = surroundings_of(self.alloc, self.nest, &standing.loops)?;
         let mark = self.mark(number, level);
         statement_form(self.alloc, &surroundings, level - 1, mark, &standing.stmt)
     }

@@ -94,13 +94,14 @@ fn may_spread(nest: &Nest) -> bool
     !(is_titled_spread(nest.title) || declares_spread(nest))
 }
 
-/// What stands round a statement in these loops of a nest.
+/// What stands round a statement in these loops of a nest, each loop with its trip as it stands.
 pub fn surroundings_of(
     alloc: Global,
     nest: &Nest,
     loops: &Seq<Loop>,
 ) -> Result<Surroundings, Memory>
-    ensures { IfOk result (λ a. surroundings_view a ≡ surroundings_of (nest_of nest.now) (map loop_of loops.now)) }
+    ensures view { IfOk result (λ a. surroundings_view a ≡ surroundings_of (nest_of nest.now) (map loop_of loops.now)) }
+    ensures loops { IfOk result (λ a. a.loops ≡ map counted (map loop_of loops.now)) }
 {
     Ok(Surroundings {
         loops: all_counted(alloc, loops)?,

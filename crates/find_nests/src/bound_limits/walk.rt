@@ -86,13 +86,6 @@ impl Limits {
         ensures kept { OnOk result (around.new.items ≡ around.old.items) }
     {
         match stmt {
-            Stmt::Assign { .. } => Ok(false),
-            Stmt::Masked { .. } => Ok(false),
-            Stmt::If { arms, other, .. } => {
-                let in_arms = self.any_in_arms(alloc, around, arms)?;
-                let in_other = self.any_in_block(alloc, around, other)?;
-                Ok(in_arms || in_other)
-            }
             Stmt::Do {
                 var,
                 first,
@@ -110,13 +103,15 @@ impl Limits {
                 around.pop();
                 Ok(found)
             }
-            Stmt::Label { .. } => Ok(false),
-            Stmt::Go { .. } => Ok(false),
-            Stmt::Stop { .. } => Ok(false),
-            Stmt::Read { .. } => Ok(false),
-            Stmt::Print { .. } => Ok(false),
-            Stmt::Allocate { .. } => Ok(false),
-            Stmt::Deallocate { .. } => Ok(false),
+            Stmt::If { arms, other, .. } => {
+                let in_arms = self.any_in_arms(alloc, around, arms)?;
+                let in_other = self.any_in_block(alloc, around, other)?;
+                Ok(in_arms || in_other)
+            }
+            Stmt::Assign { .. } | Stmt::Masked { .. } => Ok(false),
+            Stmt::Label { .. } | Stmt::Go { .. } | Stmt::Stop { .. } => Ok(false),
+            Stmt::Read { .. } | Stmt::Print { .. } => Ok(false),
+            Stmt::Allocate { .. } | Stmt::Deallocate { .. } => Ok(false),
         }
     }
 

@@ -4,8 +4,8 @@ use Rattle.nest_tree.specs.View.{loop_of, nest_of}
 use Rattle.sections.proofs.Standing.{surroundings_made}
 use Rattle.sections.proofs.loops.surroundings_of.Goals as goal
 
-pub returns : goal.returns
-returns c =
+pub returns-clause-view : goal.returns-clause-view
+returns-clause-view c =
     let symbols : c.from_vec.result ≡ c.args.nest.now.symbols = first_of (cc, search rules, grind (arith, common_steps)) in
     surroundings_made (nest_of c.args.nest.now) (map loop_of c.args.loops.now) c.in_ok-all_counted.field-0 c.from_vec.result c.may_spread.result
     c.in_ok-all_counted.ensures symbols c.may_spread.ensures
