@@ -4,8 +4,5 @@ mod fronts;
 mod variables;
 
 pub use bounds::Bounds;
-pub use fronts::{
-    after_close, after_colon, after_colons, after_comma, after_equals, after_head, after_name,
-    after_open,
-};
+pub use fronts::{Mark, after, after_head, after_name};
 pub use variables::{is_reference, is_variable};

@@ -15,7 +15,7 @@ ghost use Rattle.f90_items.specs.Views.{IsParts};
 use crate::commas::commas;
 use crate::depths::depth;
 use crate::nodes::{Direction, ItemList, Node};
-use crate::parts::{Bounds, after_close, after_comma, after_open, is_variable};
+use crate::parts::{Bounds, Mark, after, is_variable};
 use f90_expr::words::Token;
 use f90_expr::{Expression, read};
 use fv_tree::{Name, Seq, copy_text};
@@ -119,7 +119,7 @@ fn list_or_value<'a>(
     requires no_text { (t : List ℕ) (us : List words.Word) → words_of tokens.now ≡ words.Constant t ∷ us → ⊥ }
     ensures { Steps result (direction_of direction) true loops (words_of tokens.now) }
 {
-    let Some(rest) = after_open(tokens) else {
+    let Some(rest) = after(Mark::Open, tokens) else {
         return value(alloc, direction, loops, tokens);
     };
     if !marks[0] {
@@ -173,7 +173,7 @@ fn control(alloc: Global, loops: usize, name: Name, tokens: &[Token]) -> Result<
 {
     match Bounds::read(alloc, tokens) {
         Ok((bounds, rest)) => {
-            let Some(rest) = after_close(rest) else {
+            let Some(rest) = after(Mark::Close, rest) else {
                 return Err(Stop::Syntax);
             };
             let node = Node::Turns(name, bounds);
@@ -230,7 +230,7 @@ fn next_part<'a>(
     if due {
         return item(alloc, direction, loops, tokens, marks);
     }
-    let Some(rest) = after_comma(tokens) else {
+    let Some(rest) = after(Mark::Comma, tokens) else {
         return Err(Stop::Syntax);
     };
     behind_comma(alloc, direction, loops, rest, &marks[1..])

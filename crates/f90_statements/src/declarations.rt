@@ -14,7 +14,7 @@ use crate::fronts::{after_digits, after_minus, after_plus};
 use crate::nodes::{Bound, Dimension, Entity};
 use f90_expr::literal;
 use f90_expr::words::Token;
-use f90_items::parts::{after_close, after_colon, after_comma, after_head, after_name};
+use f90_items::parts::{Mark, after, after_head, after_name};
 use fv_tree::{ARRAY_DIMENSIONS, Name, Seq};
 use reading_parts::Stop;
 use std::alloc::Global;
@@ -68,7 +68,7 @@ fn given_dimension(tokens: &[Token]) -> Option<(Dimension, &[Token])>
     let Some((first, rest)) = bound(tokens) else {
         return None;
     };
-    let Some(more) = after_colon(rest) else {
+    let Some(more) = after(Mark::Colon, rest) else {
         return Some((Dimension::Upper(first), rest));
     };
     let Some((last, rest)) = bound(more) else {
@@ -92,7 +92,7 @@ fn dimension(is_allocatable: bool, tokens: &[Token]) -> Result<(Dimension, &[Tok
             None => Err(Stop::Syntax),
         };
     }
-    match after_colon(tokens) {
+    match after(Mark::Colon, tokens) {
         Some(rest) => Ok((Dimension::Deferred, rest)),
         None => Err(Stop::Syntax),
     }
@@ -114,7 +114,7 @@ fn dimensions(
     let mut dimensions = Seq::new(alloc);
     dimensions.push(first)?;
     let mut rest = tail;
-    'dimensions: while let Some(more) = after_comma(rest) {
+    'dimensions: while let Some(more) = after(Mark::Comma, rest) {
         let (next, tail) = dimension(is_allocatable, more)?;
         dimensions.push(next)?;
         rest = tail;
@@ -147,7 +147,7 @@ fn bounded(
 {
     match dimensions(alloc, is_allocatable, tokens) {
         Ok((dimensions, rest)) => {
-            let Some(rest) = after_close(rest) else {
+            let Some(rest) = after(Mark::Close, rest) else {
                 return Err(Stop::Syntax);
             };
             if dimensions.len() > ARRAY_DIMENSIONS {
@@ -200,7 +200,7 @@ pub(crate) fn entities(
     let mut entities = Seq::new(alloc);
     entities.push(first)?;
     let mut rest = tail;
-    'entities: while let Some(more) = after_comma(rest) {
+    'entities: while let Some(more) = after(Mark::Comma, rest) {
         let (next, tail) = entity(alloc, is_allocatable, more)?;
         entities.push(next)?;
         rest = tail;

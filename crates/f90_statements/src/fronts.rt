@@ -11,7 +11,7 @@ ghost use Rattle.fv_tree.specs.declared.ops.Op.TheVariants.{Add, Sub, Mul};
 
 use f90_expr::literal;
 use f90_expr::words::Token;
-use f90_items::parts::{after_close, after_comma, after_equals, after_head, after_name};
+use f90_items::parts::{Mark, after, after_head, after_name};
 use fv_tree::{Name, Op, Seq};
 
 // Whether the name is the keyword.
@@ -155,9 +155,9 @@ fn after_unit<'a>(keyword: &[u8], tokens: &'a [Token]) -> Option<&'a [Token]>
 {
     let rest = after_head_keyword(keyword, tokens)?;
     let rest = after_asterisk(rest)?;
-    let rest = after_comma(rest)?;
+    let rest = after(Mark::Comma, rest)?;
     let rest = after_asterisk(rest)?;
-    after_close(rest)
+    after(Mark::Close, rest)
 }
 
 /// The list of READ or PRINT.
@@ -172,7 +172,7 @@ pub(crate) fn after_transfer<'a>(
         return Some(rest);
     }
     let rest = after_format(short, tokens)?;
-    after_comma(rest)
+    after(Mark::Comma, rest)
 }
 
 /// Whether the words are READ or PRINT without a list.
@@ -273,7 +273,7 @@ pub(crate) fn loop_front(tokens: &[Token]) -> Option<(Name, &[Token])>
     let Some((name, rest)) = after_name(rest) else {
         return None;
     };
-    let rest = after_equals(rest)?;
+    let rest = after(Mark::Equals, rest)?;
     Some((name, rest))
 }
 

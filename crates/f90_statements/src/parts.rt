@@ -12,7 +12,7 @@ ghost use Rattle.f90_statements.specs.Views.{AreOf};
 
 use f90_expr::words::Token;
 use f90_expr::{Expression, read};
-use f90_items::parts::{after_close, after_comma, after_equals, is_reference};
+use f90_items::parts::{Mark, after, is_reference};
 use fv_tree::Seq;
 use reading_parts::Stop;
 use std::alloc::Global;
@@ -25,7 +25,7 @@ pub(crate) fn condition(alloc: Global, tokens: &[Token]) -> Result<(Expression, 
         → Given result (λ r. IsMadeOf r.0 p × (words_of r.1.now ≡ last)) }
 {
     match read(alloc, tokens) {
-        Ok((condition, rest)) => match after_close(rest) {
+        Ok((condition, rest)) => match after(Mark::Close, rest) {
             Some(rest) => Ok((condition, rest)),
             None => Err(Stop::Syntax),
         },
@@ -38,7 +38,7 @@ pub(crate) fn condition(alloc: Global, tokens: &[Token]) -> Result<(Expression, 
 fn right_side(alloc: Global, tokens: &[Token]) -> Result<Expression, Stop>
     ensures { ReadsRight (words_of tokens.now) result }
 {
-    let Some(rest) = after_equals(tokens) else {
+    let Some(rest) = after(Mark::Equals, tokens) else {
         return Err(Stop::Syntax);
     };
     match read(alloc, rest) {
@@ -117,7 +117,7 @@ pub(crate) fn extents(alloc: Global, tokens: &[Token]) -> Result<(Seq<Expression
     let mut extents = Seq::new(alloc);
     extents.push(first)?;
     let mut rest = tail;
-    'extents: while let Some(more) = after_comma(rest) {
+    'extents: while let Some(more) = after(Mark::Comma, rest) {
         let (next, tail) = extent(alloc, more)?;
         extents.push(next)?;
         rest = tail;

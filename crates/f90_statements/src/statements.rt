@@ -23,7 +23,7 @@ use crate::nodes::Statement;
 use crate::parts::{condition, extents, sides};
 use f90_expr::Expression;
 use f90_expr::words::Token;
-use f90_items::parts::{Bounds, after_colons, after_comma};
+use f90_items::parts::{Bounds, Mark, after};
 use fv_tree::{ARRAY_DIMENSIONS, Kind};
 use reading_parts::Stop;
 use std::alloc::Global;
@@ -98,14 +98,14 @@ fn after_type(tokens: &[Token]) -> Option<(Kind, &[Token])>
 fn after_attribute(tokens: &[Token]) -> Option<(bool, &[Token])>
     ensures { AfterAttribute result (words_of tokens.now) }
 {
-    let Some(rest) = after_comma(tokens) else {
-        let rest = after_colons(tokens)?;
+    let Some(rest) = after(Mark::Comma, tokens) else {
+        let rest = after(Mark::Colons, tokens)?;
         return Some((false, rest));
     };
     let Some(rest) = after_keyword(b"ALLOCATABLE", rest) else {
         return None;
     };
-    let rest = after_colons(rest)?;
+    let rest = after(Mark::Colons, rest)?;
     Some((true, rest))
 }
 

@@ -1,18 +1,14 @@
 -- Bounds in their words.
-use Rattle.std.proofs.Common.{◌≡◌, List, [], ◌∷◌, ◌++◌, refl, ap, sym, ◌∙◌, append_assoc, append-nil, Option, Some, None, Result, Ok, Err}
+use Rattle.std.proofs.Common.{◌≡◌, List, [], ◌∷◌, ◌++◌, refl, ap, sym, ◌∙◌, append_assoc, Option, Some, None}
 use Rattle.f90_grammar.specs.Phrases.{Phrase, IsExpression, written}
 use Rattle.f90_grammar.specs.Items.{IsStep, written_step, written_bounds}
 use Rattle.f90_grammar.specs.Words as words
 use Rattle.f90_grammar.specs.Words.{Word}
 use Rattle.f90_unique.specs.Unique.{EndsExpression}
-use Rattle.f90_expr.specs.words.Tokens.{words_of}
-use Rattle.f90_expr.specs.declared.words.tokens.Token.{Token}
-use Rattle.reading_parts.specs.declared.stops.Stop.{Stop}
-use Rattle.reading_parts.specs.declared.stops.Stop.TheVariants.{Syntax, Memory}
-use Rattle.f90_expr.specs.Reading.{IsMadeOf, Begins, Gives}
+use Rattle.f90_expr.specs.Reading.{IsMadeOf, Begins}
 use Rattle.f90_expr.specs.declared.nodes.Expression.{Expression}
 use Rattle.f90_items.specs.declared.parts.bounds.Bounds.{Bounds}
-use Rattle.f90_items.specs.parts.Bounds.{AreBounds, AreBoundsOf, IsStepOf, EndsBounds, BeginsWithBounds, GivesBounds, BeginsWithStep, GivesStep, bounds_before}
+use Rattle.f90_items.specs.parts.Bounds.{AreBounds, AreBoundsOf, IsStepOf, EndsBounds, BeginsWithBounds, BeginsWithStep, bounds_before}
 
 -- the bounds and what follows, part by part
 pub bounds_are : (a b : Phrase) (c : Option Phrase) (r : List Word)

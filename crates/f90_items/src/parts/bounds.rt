@@ -5,7 +5,7 @@ ghost use Rattle.f90_grammar.specs.Phrases.{Phrase};
 ghost use Rattle.f90_grammar.specs.Words.{Word};
 ghost use Rattle.f90_expr.specs.words.Tokens.{words_of};
 
-use crate::parts::fronts::after_comma;
+use crate::parts::fronts::{Mark, after};
 use f90_expr::words::Token;
 use f90_expr::{Expression, read};
 use reading_parts::Stop;
@@ -31,7 +31,7 @@ impl Bounds {
         ensures only { (c : Option Phrase) (rest : List Word) → IsStep c → EndsBounds rest
             → words_of tokens.now ≡ written_step c ++ rest → GivesStep result c rest }
     {
-        let Some(more) = after_comma(tokens) else {
+        let Some(more) = after(Mark::Comma, tokens) else {
             return Ok((None, tokens));
         };
         let (step, rest) = read(alloc, more)?;
@@ -48,7 +48,7 @@ impl Bounds {
             → words_of tokens.now ≡ bounds_before a b c rest → GivesBounds result a b c rest }
     {
         let (first, rest) = read(alloc, tokens)?;
-        let Some(rest) = after_comma(rest) else {
+        let Some(rest) = after(Mark::Comma, rest) else {
             return Err(Stop::Syntax);
         };
         let (last, rest) = read(alloc, rest)?;

@@ -1,68 +1,35 @@
 //! The word at the front of words, where one is looked for.
-ghost use Rattle.f90_grammar.specs.Words as words;
-ghost use Rattle.f90_expr.specs.words.Tokens.{words_of};
-ghost use Rattle.f90_items.specs.parts.Fronts.{After, NameFront, HeadFront};
+ghost use Rattle.f90_expr.specs.words.Tokens.{word_of, words_of};
+ghost use Rattle.f90_items.specs.parts.Fronts.{After, NameFront, HeadFront, IsThat, mark_word};
 
 use f90_expr::words::Token;
 use fv_tree::Name;
 
-/// What follows a comma.
-pub fn after_comma(tokens: &[Token]) -> Option<&[Token]>
-    ensures { After words.Comma result (words_of tokens.now) }
-{
-    match tokens {
-        [Token::Comma, rest @ ..] => Some(rest),
-        _ => None,
-    }
+/// A mark between other words. `Open` is a parenthesis that stands behind no name.
+#[derive(Clone, Copy, Debug, PartialEq, Eq)]
+pub enum Mark {
+    Open,
+    Close,
+    Comma,
+    Equals,
+    Colon,
+    /// `::`
+    Colons,
 }
 
-/// What follows an equals sign.
-pub fn after_equals(tokens: &[Token]) -> Option<&[Token]>
-    ensures { After words.Equals result (words_of tokens.now) }
-{
-    match tokens {
-        [Token::Equals, rest @ ..] => Some(rest),
-        _ => None,
-    }
-}
-
-/// What follows a colon.
-pub fn after_colon(tokens: &[Token]) -> Option<&[Token]>
-    ensures { After words.Colon result (words_of tokens.now) }
-{
-    match tokens {
-        [Token::Colon, rest @ ..] => Some(rest),
-        _ => None,
-    }
-}
-
-/// What follows an opening parenthesis that stands behind no name.
-pub fn after_open(tokens: &[Token]) -> Option<&[Token]>
-    ensures { After words.Open result (words_of tokens.now) }
-{
-    match tokens {
-        [Token::Open, rest @ ..] => Some(rest),
-        _ => None,
-    }
-}
-
-/// What follows two colons.
-pub fn after_colons(tokens: &[Token]) -> Option<&[Token]>
-    ensures { After words.Colons result (words_of tokens.now) }
-{
-    match tokens {
-        [Token::Colons, rest @ ..] => Some(rest),
-        _ => None,
-    }
-}
-
-/// What follows a closing parenthesis.
-pub fn after_close(tokens: &[Token]) -> Option<&[Token]>
-    ensures { After words.Close result (words_of tokens.now) }
-{
-    match tokens {
-        [Token::Close, rest @ ..] => Some(rest),
-        _ => None,
+impl Mark {
+    // Whether a word is this mark.
+    fn is(self, token: &Token) -> bool
+        ensures { IsThat result (word_of token.now) (mark_word self) }
+    {
+        match self {
+            Mark::Open => matches!(token, Token::Open),
+            Mark::Close => matches!(token, Token::Close),
+            Mark::Comma => matches!(token, Token::Comma),
+            Mark::Equals => matches!(token, Token::Equals),
+            Mark::Colon => matches!(token, Token::Colon),
+            Mark::Colons => matches!(token, Token::Colons),
+        }
     }
 }
 
@@ -82,6 +49,16 @@ pub fn after_head(tokens: &[Token]) -> Option<(Name, &[Token])>
 {
     match tokens {
         [Token::Head(name), rest @ ..] => Some((*name, rest)),
+        _ => None,
+    }
+}
+
+/// What follows the mark.
+pub fn after(mark: Mark, tokens: &[Token]) -> Option<&[Token]>
+    ensures { After (mark_word mark) result (words_of tokens.now) }
+{
+    match tokens {
+        [first, rest @ ..] => { if mark.is(first) { Some(rest) } else { None } }
         _ => None,
     }
 }
