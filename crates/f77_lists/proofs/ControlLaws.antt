@@ -14,7 +14,7 @@ use Rattle.f77_lists.specs.Reader as reader
 use Rattle.f77_lists.specs.Reading.{Given, IsControlOf, IsWholeControl}
 use Rattle.f77_expr.specs.Views.{words_of}
 use Rattle.f77_expr.specs.declared.tokens.Token.{Token}
-use Rattle.f77_lists.specs.Views.{Fails, Lacks, closes, control_of, frame_of, stack}
+use Rattle.f77_lists.specs.Views.{Fails, Lacks, control_of, frame_of, stack}
 use Rattle.f77_lists.proofs.Stacks.{stack_push}
 use Rattle.f77_expr.specs.Reader.{deeper}
 use Rattle.fv_tree.specs.Plain.{Item}
@@ -79,7 +79,7 @@ some_left (t ∷ ts) h e = cc
 -- ---- the end of an implied DO list
 
 -- without a parenthesis that closes, no list ends
-not_closed : (fs : List reader.Frame) (k : reader.ReadControl) (ws : List Word) → closes ws ≡ false → reader.ended fs k ws ≡ reader.Fail
+not_closed : (fs : List reader.Frame) (k : reader.ReadControl) (ws : List Word) → ((rest : List Word) → ws ≡ words.Close ∷ rest → ⊥) → reader.ended fs k ws ≡ reader.Fail
 not_closed [] k ws h = refl
 not_closed (f ∷ fs) k [] h = refl
 not_closed (f ∷ fs) k (words.Number x ∷ ws) h = refl
@@ -89,13 +89,13 @@ not_closed (f ∷ fs) k (words.Name x ∷ ws) h = refl
 not_closed (f ∷ fs) k (words.Head x ∷ ws) h = refl
 not_closed (f ∷ fs) k (words.Operator x ∷ ws) h = refl
 not_closed (f ∷ fs) k (words.Open ∷ ws) h = refl
-not_closed (f ∷ fs) k (words.Close ∷ ws) h = absurd (both_ways _ h refl)
+not_closed (f ∷ fs) k (words.Close ∷ ws) h = absurd (h ws refl)
 not_closed (f ∷ fs) k (words.Comma ∷ ws) h = refl
 not_closed (f ∷ fs) k (words.Equals ∷ ws) h = refl
 not_closed (f ∷ fs) k (words.Colon ∷ ws) h = refl
 not_closed (f ∷ fs) k (words.Constant x ∷ ws) h = refl
 
-pub list_goes_on : (fs : List reader.Frame) (ws rest : List Word) (m : DoControl) → reader.control ws ≡ Some (control_of m rest) → closes rest ≡ false → reader.repeat fs (reader.control ws) ≡ reader.Fail
+pub list_goes_on : (fs : List reader.Frame) (ws rest : List Word) (m : DoControl) → reader.control ws ≡ Some (control_of m rest) → ((after : List Word) → rest ≡ words.Close ∷ after → ⊥) → reader.repeat fs (reader.control ws) ≡ reader.Fail
 list_goes_on fs ws rest m h g = ap (reader.repeat fs) h ∙ not_closed fs (control_of m rest) rest g
 
 -- with one, the innermost list ends

@@ -51,11 +51,6 @@ abbrev pub Lacks : {T : Type 0} → Stop → Option T → Type 0
 Lacks Syntax found = found ≡ None
 Lacks Memory found = Unit {0}
 
--- the words behind a comma; without one, the step is left out
-abbrev pub FollowsComma : Option (Bor (List Token)) → List Word → Type 0
-FollowsComma (Some rest) ws = ws ≡ words.Comma ∷ words_of rest.now
-FollowsComma None ws = reader.last_part ws ≡ Some (reader.no_step ws)
-
 abbrev pub GivesBound : Result (Expr × ℕ × Bor (List Token)) Stop → Option reader.Bound → Type 0
 GivesBound (Ok r) found = found ≡ Some (record { tree = expression_of r.0; depth = r.1; rest = words_of r.2.now })
 GivesBound (Err e) found = Lacks e found
@@ -86,15 +81,6 @@ abbrev pub IsShorter : Turn → ℕ → Type 0
 IsShorter (Due rest) n = length rest.now < n
 IsShorter (Done rest) n = length rest.now < n
 IsShorter (Whole l) n = Unit {0}
-
--- a parenthesis that closes stands at the front
-abbrev pub closes : List Word → Bool
-closes (words.Close ∷ ws) = true
-closes ws = false
-
-abbrev pub FollowsClose : Option (Bor (List Token)) → List Word → Type 0
-FollowsClose (Some rest) ws = ws ≡ words.Close ∷ words_of rest.now
-FollowsClose None ws = closes ws ≡ false
 
 abbrev pub Ends : Result ItemList Stop → reader.Step → Type 0
 Ends (Ok l) step = step ≡ reader.Stop (frame_of l)

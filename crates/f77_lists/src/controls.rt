@@ -5,10 +5,9 @@ ghost use Rattle.f77_expr.specs.Views.{words_of};
 ghost use Rattle.f77_lists.specs.Reader as reader;
 ghost use Rattle.f77_lists.specs.Reading as reading;
 ghost use Rattle.f77_lists.specs.Reading.{Given, IsControlOf};
-ghost use Rattle.f77_lists.specs.Views.{FollowsComma, GivesBound, GivesControl};
+ghost use Rattle.f77_lists.specs.Views.{GivesBound, GivesControl};
 
-use f77_expr::reader::read;
-use f77_expr::tokens::Token;
+use f77_expr::{Token, after_comma, read};
 use fv_tree::{Expr, Name};
 use reading_parts::Stop;
 use std::alloc::Global;
@@ -21,16 +20,6 @@ pub struct DoControl {
     pub last: Expr,
     pub step: Expr,
     pub depth: u16,
-}
-
-// What follows the comma at the front.
-fn after_comma(tokens: &[Token]) -> Option<&[Token]>
-    ensures { FollowsComma result (words_of tokens.now) }
-{
-    match tokens {
-        [Token::Comma, rest @ ..] => Some(rest),
-        _ => None,
-    }
 }
 
 // The step with its depth, which is 1 where it is left out, and what follows it.

@@ -5,12 +5,12 @@ ghost use Rattle.f77_grammar.specs.expressions.Words as words;
 ghost use Rattle.f77_expr.specs.Reader as expressions;
 ghost use Rattle.f77_expr.specs.Views.{words_of, operand_of};
 ghost use Rattle.f77_lists.specs.Reader as reader;
-ghost use Rattle.f77_lists.specs.Views.{stack, state_of, frame_of, FollowsClose, Leaves, Turns, Ends, Opens};
+ghost use Rattle.f77_lists.specs.Views.{stack, state_of, frame_of, Leaves, Turns, Ends, Opens};
 ghost use Rattle.f77_lists.specs.Views.{IsShorter, Runs};
 
 use crate::controls::{DoControl, begins_control, read_control};
 use crate::lists::ItemList;
-use f77_expr::{Operand, Token, begins_with_name, deepened, read};
+use f77_expr::{Operand, Token, after_close, begins_with_name, deepened, read};
 use f77_grammar::Direction;
 use fv_tree::{Item, Memory, Seq, copy_text};
 use reading_parts::Stop;
@@ -169,17 +169,6 @@ fn begin<'a>(
             Ok(Turn::Due(rest))
         }
         None => Ok(Turn::Done(simple(alloc, direction, lists, tokens)?)),
-    }
-}
-
-// What follows the parenthesis that closes at the front.
-fn after_close(tokens: &[Token]) -> Option<&[Token]>
-    ensures close { FollowsClose result (words_of tokens.now) }
-    ensures shorter { IfSome result (λ rest. length rest.now < length tokens.now) }
-{
-    match tokens {
-        [Token::Close, rest @ ..] => Some(rest),
-        _ => None,
     }
 }
 
