@@ -11,5 +11,3 @@ mod keywords;
 mod lists;
 #[cfg(test)]
 mod statements;
-#[cfg(test)]
-mod structure;
