@@ -14,39 +14,33 @@ fn has(alloc: Global, flaw: Flaw, deck: &[u8]) -> Result<bool, Fail> {
     Ok(check.any_in_stmt(alloc, &[], stmt)?)
 }
 
-// The decks have a loop with PRINT in a loop, a loop that is left, a loop that is jumped over, and a loop in an IF.
+// A loop with PRINT in a loop.
+const PRINTS: &str = "      DO 10 I = 1, 9\n      DO 10 J = 1, 9\n   10 PRINT *\n      END\n";
+
+// A loop that is left.
+const LEFT: &str = "      DO 10 I = 1, 9\n      GO TO 20\n   10 CONTINUE\n   20 END\n";
+
+// A loop that is jumped over.
+const JUMPED: &str =
+    "      DO 20 I = 1, 9\n      GO TO 20\n      DO 10 J = 1, 9\n   10 CONTINUE\n   20 CONTINUE\n      END\n";
+
+// A loop in an IF.
+const GUARDED: &str =
+    "      DO 20 I = 1, 9\n      IF (.TRUE.) THEN\n      DO 10 J = 1, 9\n   10 CONTINUE
+      END IF\n   20 CONTINUE\n      END\n";
+
 #[test]
 fn finds_exits_and_inner_ifs(rt: HostRuntime) -> Result<(), Fail> {
-    for (deck, leaves, in_if) in [
-        (
-            "      DO 10 I = 1, 9\n      DO 10 J = 1, 9\n   10 PRINT *\n      END\n",
-            true,
-            false,
-        ),
-        (
-            "      DO 10 I = 1, 9\n      GO TO 20\n      DO 10 J = 1, 9\n   10 CONTINUE\n   20 END\n",
-            true,
-            false,
-        ),
-        (
-            "      DO 20 I = 1, 9\n      GO TO 20\n      DO 10 J = 1, 9\n   10 CONTINUE\n   20 CONTINUE\n      END\n",
-            false,
-            true,
-        ),
-        (
-            "      DO 20 I = 1, 9\n      IF (.TRUE.) THEN\n      DO 10 J = 1, 9\n   10 CONTINUE\n      END IF\n\
-            \x20  20 CONTINUE\n      END\n",
-            false,
-            true,
-        ),
+    for (deck, flaw, want) in [
+        (PRINTS, Flaw::Exit, true),
+        (PRINTS, Flaw::InnerIf, false),
+        (LEFT, Flaw::Exit, true),
+        (JUMPED, Flaw::Exit, false),
+        (JUMPED, Flaw::InnerIf, true),
+        (GUARDED, Flaw::InnerIf, true),
     ] {
-        let alloc = rt.alloc();
-        assert_eq!(rt; has(alloc, Flaw::Exit, deck.as_bytes())?, leaves, "{deck}");
-        assert_eq!(rt;
-            has(alloc, Flaw::InnerIf, deck.as_bytes())?,
-            in_if,
-            "{deck}"
-        );
+        let found = has(rt.alloc(), flaw, deck.as_bytes())?;
+        assert_eq!(rt; found, want, "{flaw:?} in {deck}");
     }
     Ok(())
 }
