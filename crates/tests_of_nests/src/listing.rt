@@ -1,7 +1,7 @@
 use components::{Dep, Dropped, Edge, Graph, Hold, HoldReason, Place};
 use f77_read::read77;
 use find_nests::{Found, find_nests};
-use fv_tree::{Name, Seq};
+use fv_tree::{Line, Name, Seq};
 use graph_print::{kept_lines, lines};
 use loop_normal::normalise;
 use nest_tree::Nest;
@@ -116,24 +116,27 @@ fn kept_loop(rt: HostRuntime) -> Result<(), Fail> {
     Ok(())
 }
 
-// Edges and drops stand among one another, by their references.
-#[test]
-fn lines_of_a_nest(rt: HostRuntime) -> Result<(), Fail> {
-    let alloc = rt.alloc();
+// The listing of a nest with a graph and a hold.
+fn lines_with(alloc: Global, nest: &Nest, graph: &Graph) -> Result<Seq<Line>, Fail> {
     let mut holds = Seq::new(alloc);
     holds.push(Hold {
         stmt: 1,
         level: 1,
         reason: HoldReason::Form,
     })?;
-    let all = lines(
-        alloc,
-        &nest(alloc)?,
-        3,
-        &graph(alloc)?,
-        &holds,
-        &Seq::new(alloc),
-    )?;
+    Ok(lines(alloc, nest, 3, graph, &holds, &Seq::new(alloc))?)
+}
+
+fn lines_of(alloc: Global, nest: &Nest) -> Result<Seq<Line>, Fail> {
+    let graph = graph(alloc)?;
+    lines_with(alloc, nest, &graph)
+}
+
+// Edges and drops stand among one another, by their references.
+#[test]
+fn lines_of_a_nest(rt: HostRuntime) -> Result<(), Fail> {
+    let nest = nest(rt.alloc())?;
+    let all = lines_of(rt.alloc(), &nest)?;
     let expected = [
         "!G NEST 3 LINE 2",
         "!G LOOP 1 FV_LOOP_1 TRIP 9 IN 0",
