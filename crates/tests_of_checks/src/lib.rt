@@ -6,14 +6,10 @@ mod checks;
 #[cfg(test)]
 mod constants;
 #[cfg(test)]
-mod decks;
-#[cfg(test)]
 mod jumps;
 #[cfg(test)]
 mod kinds;
 #[cfg(test)]
 mod names;
-#[cfg(test)]
-mod structure;
 #[cfg(test)]
 mod trees;

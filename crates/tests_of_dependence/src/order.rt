@@ -109,9 +109,9 @@ fn two_hundred_in_one_cycle(rt: HostRuntime) -> Result<(), Fail> {
     let alloc = rt.alloc();
     let pairs = ring(alloc, 200)?;
     let order = components(alloc, 200, pairs.as_slice())?;
-    assert!(rt; order.members.len() == 1);
+    assert_eq!(rt; order.members.len(), 1);
     let class = order.members.get(0).ok_or("a class")?;
-    assert!(rt; class.len() == 200);
-    assert!(rt; class.get(199) == Some(&199));
+    assert_eq!(rt; class.len(), 200);
+    assert_eq!(rt; class.get(199), Some(&199));
     Ok(())
 }

@@ -110,46 +110,89 @@ const FAR: i64 = 1 << 40;
 
 #[test]
 fn strong(rt: HostRuntime) {
-    assert!(rt; answer((1, 9), (1, 0), Some(10), Dir::Lt) == Some(('P', 1, 10, Test::Strong)));
-    assert!(rt; answer((1, 10), (1, 0), Some(10), Dir::Lt) == Some(('N', 0, 0, Test::Strong)));
-    assert!(rt; answer((2, 0), (2, 1), Some(10), Dir::Lt) == Some(('N', 0, 0, Test::Strong)));
-    assert!(rt;
-        answer((FAR, 0), (FAR, FAR), Some(FAR), Dir::Gt) == Some(('P', 2, 1, Test::Strong))
+    assert_eq!(rt;
+        answer((1, 9), (1, 0), Some(10), Dir::Lt),
+        Some(('P', 1, 10, Test::Strong))
     );
-    assert!(rt; answer((1, 0), (1, 1), None, Dir::Lt) == Some(('N', 0, 0, Test::Strong)));
-    assert!(rt; answer((1, 0), (1, 1), None, Dir::Gt) == Some(('A', 0, 0, Test::Strong)));
+    assert_eq!(rt;
+        answer((1, 10), (1, 0), Some(10), Dir::Lt),
+        Some(('N', 0, 0, Test::Strong))
+    );
+    assert_eq!(rt;
+        answer((2, 0), (2, 1), Some(10), Dir::Lt),
+        Some(('N', 0, 0, Test::Strong))
+    );
+    assert_eq!(rt;
+        answer((FAR, 0), (FAR, FAR), Some(FAR), Dir::Gt),
+        Some(('P', 2, 1, Test::Strong))
+    );
+    assert_eq!(rt;
+        answer((1, 0), (1, 1), None, Dir::Lt),
+        Some(('N', 0, 0, Test::Strong))
+    );
+    assert_eq!(rt;
+        answer((1, 0), (1, 1), None, Dir::Gt),
+        Some(('A', 0, 0, Test::Strong))
+    );
 }
 
 #[test]
 fn weak_zero(rt: HostRuntime) {
-    assert!(rt;
-        answer((1, 0), (0, FAR), Some(FAR), Dir::Gt) == Some(('P', FAR, 1, Test::WeakZero))
+    assert_eq!(rt;
+        answer((1, 0), (0, FAR), Some(FAR), Dir::Gt),
+        Some(('P', FAR, 1, Test::WeakZero))
     );
-    assert!(rt; answer((1, 0), (0, 5), Some(10), Dir::Lt) == Some(('P', 5, 6, Test::WeakZero)));
-    assert!(rt; answer((1, 0), (0, 5), Some(10), Dir::Gt) == Some(('P', 5, 1, Test::WeakZero)));
-    assert!(rt; answer((1, 0), (0, 11), Some(10), Dir::Lt) == Some(('N', 0, 0, Test::WeakZero)));
+    assert_eq!(rt;
+        answer((1, 0), (0, 5), Some(10), Dir::Lt),
+        Some(('P', 5, 6, Test::WeakZero))
+    );
+    assert_eq!(rt;
+        answer((1, 0), (0, 5), Some(10), Dir::Gt),
+        Some(('P', 5, 1, Test::WeakZero))
+    );
+    assert_eq!(rt;
+        answer((1, 0), (0, 11), Some(10), Dir::Lt),
+        Some(('N', 0, 0, Test::WeakZero))
+    );
 }
 
 #[test]
 fn crossing(rt: HostRuntime) {
-    assert!(rt;
-        answer((1, 0), (-1, 101), Some(100), Dir::Lt) == Some(('P', 1, 100, Test::Crossing))
+    assert_eq!(rt;
+        answer((1, 0), (-1, 101), Some(100), Dir::Lt),
+        Some(('P', 1, 100, Test::Crossing))
     );
     // the crossing is half a whole number
-    assert!(rt; answer((1, 0), (-1, 3), Some(2), Dir::Lt) == Some(('P', 1, 2, Test::Crossing)));
-    assert!(rt; answer((1, 0), (-1, 3), Some(2), Dir::Eq) == Some(('N', 0, 0, Test::Crossing)));
+    assert_eq!(rt;
+        answer((1, 0), (-1, 3), Some(2), Dir::Lt),
+        Some(('P', 1, 2, Test::Crossing))
+    );
+    assert_eq!(rt;
+        answer((1, 0), (-1, 3), Some(2), Dir::Eq),
+        Some(('N', 0, 0, Test::Crossing))
+    );
     // the pair meets itself
-    assert!(rt; answer((1, 0), (-1, 4), Some(3), Dir::Eq) == Some(('P', 2, 2, Test::Crossing)));
-    assert!(rt;
-        answer((FAR, 0), (-FAR, FAR), Some(FAR), Dir::Any) == Some(('N', 0, 0, Test::Crossing))
+    assert_eq!(rt;
+        answer((1, 0), (-1, 4), Some(3), Dir::Eq),
+        Some(('P', 2, 2, Test::Crossing))
+    );
+    assert_eq!(rt;
+        answer((FAR, 0), (-FAR, FAR), Some(FAR), Dir::Any),
+        Some(('N', 0, 0, Test::Crossing))
     );
 }
 
 #[test]
 fn general(rt: HostRuntime) {
-    assert!(rt; answer((2, 0), (3, 0), Some(10), Dir::Lt) == Some(('N', 0, 0, Test::Siv)));
-    assert!(rt; answer((2, 0), (3, 0), Some(10), Dir::Gt) == Some(('P', 3, 2, Test::Siv)));
-    assert!(rt; answer((0, 1), (0, 1), Some(10), Dir::Gt) == None);
+    assert_eq!(rt;
+        answer((2, 0), (3, 0), Some(10), Dir::Lt),
+        Some(('N', 0, 0, Test::Siv))
+    );
+    assert_eq!(rt;
+        answer((2, 0), (3, 0), Some(10), Dir::Gt),
+        Some(('P', 3, 2, Test::Siv))
+    );
+    assert_eq!(rt; answer((0, 1), (0, 1), Some(10), Dir::Gt), None);
 }
 
 /// Whether two iterations stand to each other so.

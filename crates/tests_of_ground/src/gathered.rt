@@ -5,17 +5,20 @@ fn gathers(rt: HostRuntime) {
     let mut sum = Gathered::Nothing;
     let mut greatest = Gathered::Nothing;
     let mut least = Gathered::Nothing;
-    assert!(rt; sum.reduce(Red::Sum, 31) == Ok(Value::Int(0)));
-    assert!(rt; greatest.reduce(Red::MaxVal, 31) == Ok(Value::Int(-2147483648)));
-    assert!(rt; least.reduce(Red::MinVal, 31) == Ok(Value::Int(2147483647)));
+    assert_eq!(rt; sum.reduce(Red::Sum, 31), Ok(Value::Int(0)));
+    assert_eq!(rt;
+        greatest.reduce(Red::MaxVal, 31),
+        Ok(Value::Int(-2147483648))
+    );
+    assert_eq!(rt; least.reduce(Red::MinVal, 31), Ok(Value::Int(2147483647)));
     for number in [-3, 8, 4] {
         sum = sum.with(Red::Sum, number);
         greatest = greatest.with(Red::MaxVal, number);
         least = least.with(Red::MinVal, number);
     }
-    assert!(rt; sum.reduce(Red::Sum, 31) == Ok(Value::Int(9)));
-    assert!(rt; greatest.reduce(Red::MaxVal, 31) == Ok(Value::Int(8)));
-    assert!(rt; least.reduce(Red::MinVal, 31) == Ok(Value::Int(-3)));
+    assert_eq!(rt; sum.reduce(Red::Sum, 31), Ok(Value::Int(9)));
+    assert_eq!(rt; greatest.reduce(Red::MaxVal, 31), Ok(Value::Int(8)));
+    assert_eq!(rt; least.reduce(Red::MinVal, 31), Ok(Value::Int(-3)));
     let lost = sum.with(Red::Sum, i128::MAX).with(Red::Sum, -9);
-    assert!(rt; lost.reduce(Red::Sum, 31) == Err(Fault::Overflow));
+    assert_eq!(rt; lost.reduce(Red::Sum, 31), Err(Fault::Overflow));
 }

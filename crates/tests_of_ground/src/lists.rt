@@ -7,15 +7,15 @@ fn grows_and_shrinks(rt: HostRuntime) -> Result<(), Fail> {
     for number in [3u8, 1, 2] {
         list.push(number)?;
     }
-    assert!(rt; list.as_slice() == [3, 1, 2].as_slice());
-    assert!(rt; list.get(1) == Some(&1));
-    assert!(rt; list.get(3) == None);
-    assert!(rt; list.pop() == Some(2));
-    assert!(rt; list.len() == 2);
+    assert_eq!(rt; list.as_slice(), [3, 1, 2].as_slice());
+    assert_eq!(rt; list.get(1), Some(&1));
+    assert_eq!(rt; list.get(3), None);
+    assert_eq!(rt; list.pop(), Some(2));
+    assert_eq!(rt; list.len(), 2);
     assert!(rt; !list.is_empty());
     let mut list = Seq::from_vec(list.into_vec());
-    assert!(rt; list.pop() == Some(1));
-    assert!(rt; list.pop() == Some(3));
-    assert!(rt; list.pop() == None);
+    assert_eq!(rt; list.pop(), Some(1));
+    assert_eq!(rt; list.pop(), Some(3));
+    assert_eq!(rt; list.pop(), None);
     Ok(())
 }

@@ -22,9 +22,9 @@ fn reads_names(rt: HostRuntime) {
 fn compares_texts(rt: HostRuntime) -> Result<(), Fail> {
     let short = Name::read(b"AB").ok_or("AB")?;
     let long = Name::read(b"AB_").ok_or("AB_")?;
-    assert!(rt; long.text() == b"AB_".as_slice());
+    assert_eq!(rt; long.text(), b"AB_".as_slice());
     assert!(rt; short.is_source() && !long.is_source());
     assert!(rt; short < long && short != long);
-    assert!(rt; Some(short) == Name::read(b"AB"));
+    assert_eq!(rt; Some(short), Name::read(b"AB"));
     Ok(())
 }

@@ -22,7 +22,7 @@ fn taken<S: Source>(
     let mut buffer = [0; 4];
     for want in wanted {
         let took = source.take(&mut buffer);
-        assert!(rt; took == *want);
+        assert_eq!(rt; took, *want);
         if let Took::Bytes(n) = took {
             bytes.extend_from_slice(&buffer[..n])?;
         }
@@ -83,15 +83,18 @@ fn readers_are_sources(rt: HostRuntime) -> Result<(), Fail> {
         Took::End,
     ];
     let bytes = taken(&rt, rt.alloc(), &mut source, &wanted)?;
-    assert!(rt; bytes.as_slice() == b"PROGRAM AB".as_slice());
+    assert_eq!(rt; bytes.as_slice(), b"PROGRAM AB".as_slice());
 
     let mut source = StdSource::new(FlakyReader { calls: 0 });
     let wanted = [Took::Bytes(1), Took::Failed, Took::Bytes(1), Took::End];
     let bytes = taken(&rt, rt.alloc(), &mut source, &wanted)?;
-    assert!(rt; bytes.as_slice() == b"13".as_slice());
+    assert_eq!(rt; bytes.as_slice(), b"13".as_slice());
 
     let mut source = StdSource::new(FlakyReader { calls: 0 });
-    assert!(rt; read_all(rt.alloc(), &mut source, 9).err() == Some(ReadEnd::Fault));
+    assert_eq!(rt;
+        read_all(rt.alloc(), &mut source, 9).err(),
+        Some(ReadEnd::Fault)
+    );
     Ok(())
 }
 
@@ -99,17 +102,17 @@ fn readers_are_sources(rt: HostRuntime) -> Result<(), Fail> {
 fn writers_are_sinks(rt: HostRuntime) -> Result<(), Fail> {
     let mut written = Vec::new(rt.alloc());
     let mut sink = StdSink::new(&mut written);
-    assert!(rt; write_all(&mut sink, TEXT) == Ok(()));
+    assert_eq!(rt; write_all(&mut sink, TEXT), Ok(()));
     drop(sink);
-    assert!(rt; written.as_slice() == TEXT);
+    assert_eq!(rt; written.as_slice(), TEXT);
 
     let mut sink = StdSink::new(FlakyWriter { calls: 0 });
     for want in [Gave::Bytes(1), Gave::Failed, Gave::Failed, Gave::Bytes(48)] {
-        assert!(rt; sink.give(TEXT) == want);
+        assert_eq!(rt; sink.give(TEXT), want);
     }
 
     let mut sink = StdSink::new(FlakyWriter { calls: 0 });
-    assert!(rt; write_all(&mut sink, TEXT) == Err(WriteFault));
+    assert_eq!(rt; write_all(&mut sink, TEXT), Err(WriteFault));
     Ok(())
 }
 
@@ -242,7 +245,7 @@ fn sources_fail_at_the_chosen_calls(rt: HostRuntime) -> Result<(), Fail> {
         Took::End,
     ];
     let bytes = taken(&rt, rt.alloc(), &mut source, &wanted)?;
-    assert!(rt; bytes.as_slice() == b"END".as_slice());
+    assert_eq!(rt; bytes.as_slice(), b"END".as_slice());
     Ok(())
 }
 
@@ -268,7 +271,7 @@ fn sinks_fail_at_the_chosen_calls(rt: HostRuntime) -> Result<(), Fail> {
         assert!(rt; held <= TEXT.len());
         assert_eq!(rt; sink.bytes(), &TEXT[..held], "at {room}, {piece}, {call}");
     }
-    assert!(rt; write_all(&mut NullSink, TEXT) == Ok(()));
+    assert_eq!(rt; write_all(&mut NullSink, TEXT), Ok(()));
     Ok(())
 }
 
@@ -328,7 +331,7 @@ fn reads_within_the_limit(rt: HostRuntime) -> Result<(), Fail> {
         match read_all(rt.alloc(), &mut source, limit) {
             Ok(bytes) => {
                 assert_eq!(rt; ending, None, "at {piece}, {call}, {limit}");
-                assert!(rt; bytes.as_slice() == TEXT);
+                assert_eq!(rt; bytes.as_slice(), TEXT);
             }
             Err(e) => assert_eq!(rt; ending, Some(e), "at {piece}, {call}, {limit}"),
         }
@@ -343,6 +346,6 @@ fn reads_more_than_one_buffer(rt: HostRuntime) -> Result<(), Fail> {
     let bytes = read_all(rt.alloc(), &mut source, 10000)
         .ok()
         .ok_or("not read")?;
-    assert!(rt; bytes.as_slice() == long.as_slice());
+    assert_eq!(rt; bytes.as_slice(), long.as_slice());
     Ok(())
 }

@@ -1,16 +1,46 @@
 use components::{Dep, Dropped, Edge, Graph, Hold, HoldReason, Place};
-use f77_read::read77;
-use find_nests::{Found, find_nests};
-use fv_tree::{Line, Name, Seq};
+use fv_tree::{Block, Expr, Memory, Name, Op, Ref, Seq, Sub};
 use graph_print::{kept_lines, lines};
-use loop_normal::normalise;
-use nest_tree::Nest;
+use nest_tree::{GuardedStmt, Loop, Nest, Part};
 use std::alloc::Global;
 use std::test::Fail;
 use subscripts::{Dir, Dirs, Point, Test};
 
 fn name(text: &[u8]) -> Result<Name, Fail> {
     Ok(Name::read(text).ok_or("name")?)
+}
+
+fn scalar(alloc: Global, x: &[u8]) -> Result<Expr, Fail> {
+    Ok(Expr::Item(Ref {
+        name: name(x)?,
+        subs: Seq::new(alloc),
+    }))
+}
+
+fn loop_to(number: u32, var: &[u8], last: Expr) -> Result<Loop, Fail> {
+    Ok(Loop {
+        number,
+        var: name(var)?,
+        first: Expr::Int(1),
+        last,
+        step: 1,
+        trip: None,
+    })
+}
+
+// X(index) = right.
+fn assignment(alloc: Global, x: &[u8], index: Expr, right: Expr) -> Result<Part, Fail> {
+    let mut subs = Seq::new(alloc);
+    subs.push(Sub::One(index))?;
+    Ok(Part::Run(GuardedStmt {
+        line: 4,
+        guard: None,
+        left: Ref {
+            name: name(x)?,
+            subs,
+        },
+        right,
+    }))
 }
 
 fn dirs(len: u8, first: Dir, second: Dir) -> Dirs {
@@ -31,32 +61,27 @@ fn place(stmt: u32, at: u32) -> Place {
     Place { stmt, at }
 }
 
-fn normal(alloc: Global, nest: &Nest) -> Result<Nest, Fail> {
-    if nest.symbols.len() > 1000 {
-        return Err(Fail::from("more than 1,000 symbols"));
-    }
-    Ok(normalise(alloc, nest)?.ok_or("no normal form")?)
-}
-
-// Loops from 1 by 1 to 9 and to N.
+// DO FV_LOOP_1 = 1, 9 with DO FV_LOOP_2 = 1, N in it, and a statement behind that one.
 fn nest(alloc: Global) -> Result<Nest, Fail> {
-    let program = read77(
-        alloc,
-        b"      INTEGER A(9), B(9)
-      DO 10 I = 1, 9
-      DO 20 J = 1, N
-   20 A(J) = 0
-   10 B(I) = 7
-      END
-",
-    )?;
-    if program.decls.len() > 1000 {
-        return Err(Fail::from("more than 1,000 names"));
-    }
-    match find_nests(alloc, &program)?.pop() {
-        Some(Found::Nest(nest)) => normal(alloc, &nest),
-        _ => Err(Fail::from("no nest")),
-    }
+    let mut inner = Seq::new(alloc);
+    inner.push(assignment(alloc, b"A", scalar(alloc, b"FV_LOOP_2")?, Expr::Int(0))?)?;
+    let mut body = Seq::new(alloc);
+    body.push(Part::Turns(loop_to(2, b"FV_LOOP_2", scalar(alloc, b"N")?)?, inner))?;
+    body.push(assignment(alloc, b"B", scalar(alloc, b"FV_LOOP_1")?, Expr::Int(7))?)?;
+    Ok(Nest {
+        number: 1,
+        line: 2,
+        title: None,
+        body: Part::Turns(loop_to(1, b"FV_LOOP_1", Expr::Int(9))?, body),
+        decls: Seq::new(alloc),
+        symbols: Seq::new(alloc),
+        made: Seq::new(alloc),
+        after: Block {
+            stmts: Seq::new(alloc),
+        },
+        masks: 0,
+        copies: 0,
+    })
 }
 
 fn graph(alloc: Global) -> Result<Graph, Fail> {
@@ -116,27 +141,24 @@ fn kept_loop(rt: HostRuntime) -> Result<(), Fail> {
     Ok(())
 }
 
-// The listing of a nest with a graph and a hold.
-fn lines_with(alloc: Global, nest: &Nest, graph: &Graph) -> Result<Seq<Line>, Fail> {
+// Edges and drops stand among one another, by their references.
+#[test]
+fn lines_of_a_nest(rt: HostRuntime) -> Result<(), Fail> {
+    let alloc = rt.alloc();
     let mut holds = Seq::new(alloc);
     holds.push(Hold {
         stmt: 1,
         level: 1,
         reason: HoldReason::Form,
     })?;
-    Ok(lines(alloc, nest, 3, graph, &holds, &Seq::new(alloc))?)
-}
-
-fn lines_of(alloc: Global, nest: &Nest) -> Result<Seq<Line>, Fail> {
-    let graph = graph(alloc)?;
-    lines_with(alloc, nest, &graph)
-}
-
-// Edges and drops stand among one another, by their references.
-#[test]
-fn lines_of_a_nest(rt: HostRuntime) -> Result<(), Fail> {
-    let nest = nest(rt.alloc())?;
-    let all = lines_of(rt.alloc(), &nest)?;
+    let all = lines(
+        alloc,
+        &nest(alloc)?,
+        3,
+        &graph(alloc)?,
+        &holds,
+        &Seq::new(alloc),
+    )?;
     let expected = [
         "!G NEST 3 LINE 2",
         "!G LOOP 1 FV_LOOP_1 TRIP 9 IN 0",

@@ -1,107 +1,147 @@
-use f77_read::read77;
-use fv_tree::{Name, Seq, Stmt};
+use fv_tree::{Arm, Block, Expr, Item, Memory, Name, Op, Ref, Seq, Stmt};
 use nest_reasons::{Check, Flaw, is_large};
-use std::alloc::{AllocError, Global};
+use std::alloc::Global;
 use std::test::Fail;
 
-// Whether the first statement of a deck is a loop, or has one in it, with this flaw, where N is a symbol.
-fn has(alloc: Global, flaw: Flaw, deck: &[u8]) -> Result<bool, Fail> {
-    let program = read77(alloc, deck)?;
-    let stmt = program.body.stmts.get(0).ok_or("a statement")?;
+fn name(text: &[u8]) -> Result<Name, Fail> {
+    Ok(Name::read(text).ok_or("a name")?)
+}
+
+fn one<T: Drop>(alloc: Global, item: T) -> Result<Seq<T>, Memory> {
+    let mut list = Seq::new(alloc);
+    list.push(item)?;
+    Ok(list)
+}
+
+fn scalar(alloc: Global, text: &[u8]) -> Result<Ref, Fail> {
+    Ok(Ref {
+        name: name(text)?,
+        subs: Seq::new(alloc),
+    })
+}
+
+// DO with the variable, from 1 to `last` by `step`.
+fn turns(var: &[u8], last: Expr, step: i128, stmts: Seq<Stmt>) -> Result<Stmt, Fail> {
+    Ok(Stmt::Do {
+        line: 1,
+        var: name(var)?,
+        first: Expr::Int(1),
+        last,
+        step: Expr::Int(step),
+        body: Block { stmts },
+    })
+}
+
+// The inner loop in a loop, between a GO TO and a label.
+fn jumped_over(alloc: Global, inner: Stmt, label: u32) -> Result<Stmt, Fail> {
+    let mut stmts = one(
+        alloc,
+        Stmt::Go {
+            line: 2,
+            number: 10,
+        },
+    )?;
+    stmts.push(inner)?;
+    stmts.push(Stmt::Label { number: label })?;
+    turns(b"I", Expr::Int(9), 1, stmts)
+}
+
+fn has(alloc: Global, flaw: Flaw, stmt: &Stmt) -> Result<bool, Fail> {
     let mut symbols = Seq::new(alloc);
-    symbols.push(Name::read(b"N").ok_or("N")?)?;
+    symbols.push(name(b"N")?)?;
     let check = Check { flaw, symbols };
     Ok(check.any_in_stmt(alloc, &[], stmt)?)
 }
 
-// A loop with PRINT in a loop.
-const PRINTS: &str = "      DO 10 I = 1, 9\n      DO 10 J = 1, 9\n   10 PRINT *\n      END\n";
-
-// A loop that is left.
-const LEFT: &str = "      DO 10 I = 1, 9\n      GO TO 20\n   10 CONTINUE\n   20 END\n";
-
-// A loop that is jumped over.
-const JUMPED: &str =
-    "      DO 20 I = 1, 9\n      GO TO 20\n      DO 10 J = 1, 9\n   10 CONTINUE\n   20 CONTINUE\n      END\n";
-
-// A loop in an IF.
-const GUARDED: &str =
-    "      DO 20 I = 1, 9\n      IF (.TRUE.) THEN\n      DO 10 J = 1, 9\n   10 CONTINUE
-      END IF\n   20 CONTINUE\n      END\n";
-
 #[test]
 fn finds_exits_and_inner_ifs(rt: HostRuntime) -> Result<(), Fail> {
-    for (deck, flaw, want) in [
-        (PRINTS, Flaw::Exit, true),
-        (PRINTS, Flaw::InnerIf, false),
-        (LEFT, Flaw::Exit, true),
-        (JUMPED, Flaw::Exit, false),
-        (JUMPED, Flaw::InnerIf, true),
-        (GUARDED, Flaw::InnerIf, true),
-    ] {
-        let found = has(rt.alloc(), flaw, deck.as_bytes())?;
-        assert_eq!(rt; found, want, "{flaw:?} in {deck}");
-    }
+    let alloc = rt.alloc();
+    // PRINT in a loop in a loop
+    let items: Seq<Item> = Seq::new(alloc);
+    let print = one(alloc, Stmt::Print { line: 3, items })?;
+    let inner = turns(b"J", Expr::Int(9), 1, print)?;
+    let outer = turns(b"I", Expr::Int(9), 1, one(alloc, inner)?)?;
+    assert!(rt; has(alloc, Flaw::Exit, &outer)?);
+    assert!(rt; !has(alloc, Flaw::InnerIf, &outer)?);
+    // a loop that is left
+    let inner = turns(b"J", Expr::Int(9), 1, Seq::new(alloc))?;
+    assert!(rt; has(alloc, Flaw::Exit, &jumped_over(alloc, inner, 20)?)?);
+    // a loop that is jumped over
+    let inner = turns(b"J", Expr::Int(9), 1, Seq::new(alloc))?;
+    let outer = jumped_over(alloc, inner, 10)?;
+    assert!(rt; !has(alloc, Flaw::Exit, &outer)?);
+    assert!(rt; has(alloc, Flaw::InnerIf, &outer)?);
+    Ok(())
+}
+
+#[test]
+fn finds_loops_in_ifs(rt: HostRuntime) -> Result<(), Fail> {
+    let alloc = rt.alloc();
+    let inner = turns(b"J", Expr::Int(9), 1, Seq::new(alloc))?;
+    let arm = Arm {
+        test: Expr::Truth(true),
+        body: Block {
+            stmts: one(alloc, inner)?,
+        },
+    };
+    let choice = Stmt::If {
+        line: 2,
+        arms: one(alloc, arm)?,
+        other: Block {
+            stmts: Seq::new(alloc),
+        },
+    };
+    let outer = turns(b"I", Expr::Int(9), 1, one(alloc, choice)?)?;
+    assert!(rt; has(alloc, Flaw::InnerIf, &outer)?);
     Ok(())
 }
 
 #[test]
 fn finds_bounds_and_increments(rt: HostRuntime) -> Result<(), Fail> {
-    for (control, is_bound_bad, is_step_bad) in [
-        ("1, N * N", true, false),
-        ("1, N, 0", false, true),
-        ("1, N, -3", false, false),
-        ("1, N, 2147483648", false, false),
-        ("1, N, 2147483649", false, true),
+    let alloc = rt.alloc();
+    let product = Expr::Bin(
+        Op::Mul,
+        Box::new(alloc, Expr::Item(scalar(alloc, b"N")?))?,
+        Box::new(alloc, Expr::Item(scalar(alloc, b"N")?))?,
+    );
+    let squared = turns(b"I", product, 1, Seq::new(alloc))?;
+    assert!(rt; has(alloc, Flaw::Bound, &squared)?);
+    for (step, is_bad) in [
+        (0, true),
+        (-3, false),
+        (2147483648, false),
+        (2147483649, true),
     ] {
-        let alloc = rt.alloc();
-        let deck = format!(in alloc; "      DO 10 I = {control}\n   10 CONTINUE\n      END\n")?;
-        let is_bad = has(alloc, Flaw::Bound, deck.as_bytes())?;
-        assert_eq!(rt; is_bad, is_bound_bad, "{control}");
-        let is_bad = has(alloc, Flaw::Step, deck.as_bytes())?;
-        assert_eq!(rt; is_bad, is_step_bad, "{control}");
+        let last = Expr::Item(scalar(alloc, b"N")?);
+        let outer = turns(b"I", last, step, Seq::new(alloc))?;
+        assert!(rt; !has(alloc, Flaw::Bound, &outer)?);
+        assert_eq!(rt; has(alloc, Flaw::Step, &outer)?, is_bad);
     }
     Ok(())
-}
-
-// A loop in a loop and so on, each with a variable of its own.
-fn loops(alloc: Global, digits: &[u8]) -> Result<Vec<u8>, AllocError> {
-    let mut deck = Vec::new(alloc);
-    for digit in digits {
-        deck.extend_from_slice(b"      DO 10 I")?;
-        deck.push(*digit)?;
-        deck.extend_from_slice(b" = 1, 9\n")?;
-    }
-    deck.extend_from_slice(b"   10 CONTINUE\n      END\n")?;
-    Ok(deck)
-}
-
-// A loop with so many assignments.
-fn assignments(alloc: Global, count: usize) -> Result<Vec<u8>, AllocError> {
-    let mut deck = Vec::new(alloc);
-    deck.extend_from_slice(b"      DO 10 I = 1, 9\n")?;
-    for _ in 0..count {
-        deck.extend_from_slice(b"      K = N\n")?;
-    }
-    deck.extend_from_slice(b"   10 CONTINUE\n      END\n")?;
-    Ok(deck)
 }
 
 #[test]
 fn measures_depth_and_size(rt: HostRuntime) -> Result<(), Fail> {
     let alloc = rt.alloc();
-    for (digits, is_deep) in [("1234567", false), ("12345678", true)] {
-        let deck = loops(alloc, digits.as_bytes())?;
-        assert_eq!(rt;
-            has(alloc, Flaw::Deep, deck.as_slice())?,
-            is_deep,
-            "{digits}"
-        );
+    let mut nest = turns(b"I", Expr::Int(9), 1, Seq::new(alloc))?;
+    for _ in 0..6 {
+        nest = turns(b"I", Expr::Int(9), 1, one(alloc, nest)?)?;
     }
+    assert!(rt; !has(alloc, Flaw::Deep, &nest)?);
+    let deeper = turns(b"I", Expr::Int(9), 1, one(alloc, nest)?)?;
+    assert!(rt; has(alloc, Flaw::Deep, &deeper)?);
     for (count, large) in [(200, false), (201, true)] {
-        let program = read77(alloc, assignments(alloc, count)?.as_slice())?;
-        let stmt = program.body.stmts.get(0).ok_or("a loop")?;
-        assert_eq!(rt; is_large(alloc, stmt)?, large, "{count}");
+        let mut stmts = Seq::new(alloc);
+        for _ in 0..count {
+            stmts.push(Stmt::Assign {
+                line: 2,
+                mark: None,
+                left: scalar(alloc, b"A")?,
+                right: Expr::Item(scalar(alloc, b"N")?),
+            })?;
+        }
+        let outer = turns(b"I", Expr::Int(9), 1, stmts)?;
+        assert_eq!(rt; is_large(alloc, &outer)?, large);
     }
     Ok(())
 }

@@ -1,76 +1,72 @@
 //! Forms of expressions, and their texts.
 
-use f77_expr::expression;
-use fv_tree::{Expr, Name, Seq};
+use fv_tree::{Expr, Name, Op, Ref, Seq};
 use linear_forms::{express, linear};
 use std::alloc::Global;
 use std::test::Fail;
-use subscripts::Affine;
 
 fn name(text: &[u8]) -> Result<Name, Fail> {
     Ok(Name::read(text).ok_or("name")?)
 }
 
-// The names of these letters.
-fn names(alloc: Global, letters: &[u8]) -> Result<Seq<Name>, Fail> {
-    let mut names = Seq::new(alloc);
-    for letter in letters {
-        names.push(name(&[*letter])?)?;
+fn variable(alloc: Global, text: &[u8]) -> Result<Expr, Fail> {
+    Ok(Expr::Item(Ref {
+        name: name(text)?,
+        subs: Seq::new(alloc),
+    }))
+}
+
+fn two(alloc: Global, op: Op, a: Expr, b: Expr) -> Result<Expr, Fail> {
+    Ok(Expr::Bin(op, Box::new(alloc, a)?, Box::new(alloc, b)?))
+}
+
+fn i(alloc: Global) -> Result<Expr, Fail> {
+    variable(alloc, b"I")
+}
+
+fn n(alloc: Global) -> Result<Expr, Fail> {
+    variable(alloc, b"N")
+}
+
+// The text of an expression's form, where it has one, with FV_LOOP_1 for I.
+fn text(alloc: Global, expr: &Expr) -> Result<Option<Expr>, Fail> {
+    let mut symbols = Seq::new(alloc);
+    symbols.push(name(b"N")?)?;
+    match linear(expr, &[name(b"I")?, name(b"J")?], &symbols) {
+        Some(form) => Ok(Some(express(alloc, &form, &[name(b"FV_LOOP_1")?], &symbols, &[])?)),
+        None => Ok(None),
     }
-    Ok(names)
 }
 
-fn tree(alloc: Global, text: &str) -> Result<Expr, Fail> {
-    Ok(expression(alloc, text.as_bytes())?)
-}
-
-fn shown(alloc: Global, text: &str) -> Result<String, Fail> {
-    let tree = tree(alloc, text)?;
-    Ok(format!(in alloc; "{tree:?}")?)
-}
-
-fn form(tree: &Expr, loops: &[Name], symbols: &Seq<Name>) -> Result<Option<Affine>, Fail> {
-    if symbols.len() > 1000 {
-        return Err(Fail::from("more than 1,000 symbols"));
-    }
-    Ok(linear(tree, loops, symbols))
-}
-
-// The text of an expression's form, where it has one, with L for I.
-fn text(alloc: Global, written: &str) -> Result<Option<String>, Fail> {
-    let symbols = names(alloc, b"N")?;
-    let tree = tree(alloc, written)?;
-    let Some(form) = form(&tree, &[name(b"I")?, name(b"J")?], &symbols)? else {
-        return Ok(None);
-    };
-    let made = express(alloc, &form, &[name(b"L")?], &symbols, &[])?;
-    Ok(Some(format!(in alloc; "{made:?}")?))
-}
-
+// I - I + 3 becomes 3, and 2 * (I + N) - N becomes 2 * FV_LOOP_1 + N.
 #[test]
 fn writes_canonical_text(rt: HostRuntime) -> Result<(), Fail> {
-    for (written, want) in [("I - I + 3", "3"), ("2 * (I + N) - N", "2 * L + N")] {
-        let made = text(rt.alloc(), written)?.ok_or("form")?;
-        assert_eq!(rt; made, shown(rt.alloc(), want)?, "{written}");
-    }
+    let alloc = rt.alloc();
+    let nothing = two(alloc, Op::Sub, i(alloc)?, i(alloc)?)?;
+    let three = text(alloc, &two(alloc, Op::Add, nothing, Expr::Int(3))?)?;
+    assert!(rt; matches!(&three, Some(Expr::Int(3))));
+    let sum = two(alloc, Op::Add, i(alloc)?, n(alloc)?)?;
+    let twice = two(alloc, Op::Mul, Expr::Int(2), sum)?;
+    let made = text(alloc, &two(alloc, Op::Sub, twice, n(alloc)?)?)?;
+    let first = two(alloc, Op::Mul, Expr::Int(2), variable(alloc, b"FV_LOOP_1")?)?;
+    let wanted = Some(two(alloc, Op::Add, first, n(alloc)?)?);
+    let made = format!(in rt.alloc(); "{made:?}")?;
+    assert_eq!(rt; made, format!(in rt.alloc(); "{wanted:?}")?);
     Ok(())
 }
 
 // Coefficients are at most 2 ** 40; N / 2 * I and a product of two loop variables have no form.
 #[test]
 fn keeps_limits(rt: HostRuntime) -> Result<(), Fail> {
-    for (written, is_linear) in [
-        ("1099511627776 * I", true),
-        ("1099511627777 * I", false),
-        ("N / 2 * I", false),
-        ("I * J", false),
-    ] {
-        assert_eq!(rt;
-            text(rt.alloc(), written)?.is_some(),
-            is_linear,
-            "{written}"
-        );
+    let alloc = rt.alloc();
+    for (size, is_linear) in [(1 << 40, true), ((1 << 40) + 1, false)] {
+        let expr = two(alloc, Op::Mul, Expr::Int(size), i(alloc)?)?;
+        assert_eq!(rt; text(alloc, &expr)?.is_some(), is_linear);
     }
+    let half = two(alloc, Op::Div, n(alloc)?, Expr::Int(2))?;
+    assert!(rt; text(alloc, &two(alloc, Op::Mul, half, i(alloc)?)?)?.is_none());
+    let product = two(alloc, Op::Mul, i(alloc)?, variable(alloc, b"J")?)?;
+    assert!(rt; text(alloc, &product)?.is_none());
     Ok(())
 }
 
@@ -78,36 +74,38 @@ fn keeps_limits(rt: HostRuntime) -> Result<(), Fail> {
 #[test]
 fn counts_symbols_and_loops(rt: HostRuntime) -> Result<(), Fail> {
     let alloc = rt.alloc();
-    let symbols = names(alloc, b"ABCDEFGHK")?;
-    for (written, is_linear) in [
-        ("A + B + C + D + E + F + G + H", true),
-        ("A + B + C + D + E + F + G + H + K", false),
-    ] {
-        let sum = tree(alloc, written)?;
-        assert_eq!(rt;
-            form(&sum, &[], &symbols)?.is_some(),
-            is_linear,
-            "{written}"
-        );
+    let mut symbols = Seq::new(alloc);
+    let mut sum = Expr::Int(0);
+    for (at, text) in [b"A", b"B", b"C", b"D", b"E", b"F", b"G", b"H", b"K"]
+        .iter()
+        .enumerate()
+    {
+        symbols.push(name(text.as_slice())?)?;
+        sum = two(alloc, Op::Add, sum, variable(alloc, text.as_slice())?)?;
+        assert_eq!(rt; linear(&sum, &[], &symbols).is_some(), at < 8);
     }
     let loops = [name(b"I")?; 8];
-    let i = tree(alloc, "I")?;
-    assert!(rt; form(&i, &loops[..7], &symbols)?.is_some());
-    assert!(rt; form(&i, &loops, &symbols)?.is_none());
+    assert!(rt; linear(&i(alloc)?, &loops[..7], &symbols).is_some());
+    assert!(rt; linear(&i(alloc)?, &loops, &symbols).is_none());
     Ok(())
 }
 
-// A divided trip stands behind the symbols.
+// A divided trip stands behind the symbols: N + 3 * ((N - 1) / 2) + 1.
 #[test]
 fn writes_divided_trips(rt: HostRuntime) -> Result<(), Fail> {
     let alloc = rt.alloc();
-    let symbols = names(alloc, b"N")?;
-    let mut form = form(&Expr::Int(1), &[], &symbols)?.ok_or("form")?;
+    let mut symbols = Seq::new(alloc);
+    symbols.push(name(b"N")?)?;
+    let mut form = linear(&Expr::Int(1), &[], &symbols).ok_or("form")?;
     form.syms[0] = (0, 1);
     form.syms[1] = (1, 3);
-    let trip = tree(alloc, "(N - 1) / 2")?;
+    let less = two(alloc, Op::Sub, n(alloc)?, Expr::Int(1))?;
+    let trip = two(alloc, Op::Div, less, Expr::Int(2))?;
+    let times = two(alloc, Op::Mul, Expr::Int(3), trip.copy(alloc)?)?;
     let made = express(alloc, &form, &[], &symbols, &[trip])?;
-    let text = format!(in alloc; "{made:?}")?;
-    assert_eq!(rt; text, shown(alloc, "N + 3 * ((N - 1) / 2) + 1")?);
+    let sum = two(alloc, Op::Add, n(alloc)?, times)?;
+    let wanted = two(alloc, Op::Add, sum, Expr::Int(1))?;
+    let text = format!(in rt.alloc(); "{made:?}")?;
+    assert_eq!(rt; text, format!(in rt.alloc(); "{wanted:?}")?);
     Ok(())
 }

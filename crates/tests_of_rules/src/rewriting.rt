@@ -1,90 +1,97 @@
 //! A scalar replaced in an expression; the names of a block.
 
-use f77_expr::expression;
 use fv_rewrite::{names_read, names_written, substitute};
-use fv_tree::{Block, Expr, Item, Name, Ref, Seq, Stmt};
+use fv_tree::{Block, Expr, Item, Name, Op, Ref, Seq, Stmt, Sub};
 use std::alloc::Global;
 use std::test::Fail;
 
-fn name(text: &[u8]) -> Result<Name, Fail> {
-    Ok(Name::read(text).ok_or("name")?)
+fn named(alloc: Global, text: &[u8]) -> Result<Ref, Fail> {
+    let name = Name::read(text).ok_or("name")?;
+    Ok(Ref {
+        name,
+        subs: Seq::new(alloc),
+    })
 }
 
-fn tree(alloc: Global, text: &[u8]) -> Result<Expr, Fail> {
-    Ok(expression(alloc, text)?)
+fn scalar(alloc: Global, text: &[u8]) -> Result<Expr, Fail> {
+    Ok(Expr::Item(named(alloc, text)?))
 }
 
-// An element keeps its name.
-#[test]
-fn replaces_scalars(rt: HostRuntime) -> Result<(), Fail> {
-    let alloc = rt.alloc();
-    let made = substitute(alloc, tree(alloc, b"A + A(T)")?, name(b"A")?, &Expr::Int(7))?;
-    let wanted = tree(alloc, b"7 + A(T)")?;
-    let text = format!(in alloc; "{made:?}")?;
-    assert_eq!(rt; text, format!(in alloc; "{wanted:?}")?);
-    Ok(())
+// The element of A with this scalar as its subscript.
+fn element(alloc: Global, subscript: &[u8]) -> Result<Ref, Fail> {
+    let mut item = named(alloc, b"A")?;
+    item.subs.push(Sub::One(scalar(alloc, subscript)?))?;
+    Ok(item)
 }
 
-fn element(alloc: Global, text: &[u8]) -> Result<Ref, Fail> {
-    match tree(alloc, text)? {
-        Expr::Item(element) => Ok(element),
-        _ => Err(Fail::from("element")),
-    }
-}
-
-// READ *, T, A(I); A(I) = K
-fn statements(alloc: Global) -> Result<Block, Fail> {
+// READ *, T, A(x); A(x) = y
+fn statements(alloc: Global, x: &[u8], y: &[u8]) -> Result<Block, Fail> {
     let mut items = Seq::new(alloc);
-    items.push(Item::One(tree(alloc, b"T")?))?;
-    items.push(Item::One(tree(alloc, b"A(I)")?))?;
+    items.push(Item::One(scalar(alloc, b"T")?))?;
+    items.push(Item::One(Expr::Item(element(alloc, x)?)))?;
     let mut stmts = Seq::new(alloc);
     stmts.push(Stmt::Read { line: 1, items })?;
-    let left = element(alloc, b"A(I)")?;
-    let right = tree(alloc, b"K")?;
     stmts.push(Stmt::Assign {
         line: 2,
         mark: None,
-        left,
-        right,
+        left: element(alloc, x)?,
+        right: scalar(alloc, y)?,
     })?;
     Ok(Block { stmts })
+}
+
+// A + A(T) with 7 for A is 7 + A(T), since an element keeps its name.
+#[test]
+fn replaces_scalars(rt: HostRuntime) -> Result<(), Fail> {
+    let alloc = rt.alloc();
+    let right = Expr::Item(element(alloc, b"T")?);
+    let expr = Expr::Bin(
+        Op::Add,
+        Box::new(alloc, scalar(alloc, b"A")?)?,
+        Box::new(alloc, right)?,
+    );
+    let name = Name::read(b"A").ok_or("A")?;
+    let made = substitute(alloc, expr, name, &Expr::Int(7))?;
+    let right = Expr::Item(element(alloc, b"T")?);
+    let wanted = Expr::Bin(
+        Op::Add,
+        Box::new(alloc, Expr::Int(7))?,
+        Box::new(alloc, right)?,
+    );
+    let text = format!(in rt.alloc(); "{made:?}")?;
+    assert_eq!(rt; text, format!(in rt.alloc(); "{wanted:?}")?);
+    Ok(())
 }
 
 // DO I = K, N, 1; READ *, T, A(I); A(I) = K; END DO
 fn counted(alloc: Global) -> Result<Block, Fail> {
-    let var = name(b"I")?;
-    let body = statements(alloc)?;
-    let first = tree(alloc, b"K")?;
-    let last = tree(alloc, b"N")?;
     let mut stmts = Seq::new(alloc);
     stmts.push(Stmt::Do {
         line: 1,
-        var,
-        first,
-        last,
+        var: Name::read(b"I").ok_or("I")?,
+        first: scalar(alloc, b"K")?,
+        last: scalar(alloc, b"N")?,
         step: Expr::Int(1),
-        body,
+        body: statements(alloc, b"I", b"K")?,
     })?;
     Ok(Block { stmts })
 }
 
-// The names with a blank after each.
-fn shown(alloc: Global, names: &Seq<Name>) -> Result<Vec<u8>, Fail> {
-    let mut text = Vec::new(alloc);
-    for name in names.as_slice() {
-        text.extend_from_slice(name.text())?;
-        text.push(b' ')?;
-    }
-    Ok(text)
-}
-
 #[test]
 fn lists_names(rt: HostRuntime) -> Result<(), Fail> {
-    let alloc = rt.alloc();
-    let block = counted(alloc)?;
-    let read = names_read(alloc, &block)?;
-    assert_eq!(rt; shown(alloc, &read)?.as_slice(), b"K N I ".as_slice());
-    let written = names_written(alloc, &block)?;
-    assert_eq!(rt; shown(alloc, &written)?.as_slice(), b"I T A ".as_slice());
+    let block = counted(rt.alloc())?;
+    let read = names_read(rt.alloc(), &block)?;
+    let written = names_written(rt.alloc(), &block)?;
+    let table = [
+        (read, [b"K".as_slice(), b"N".as_slice(), b"I".as_slice()]),
+        (written, [b"I".as_slice(), b"T".as_slice(), b"A".as_slice()]),
+    ];
+    for (names, wanted) in table.iter() {
+        assert_eq!(rt; names.len(), 3);
+        for i in 0..3 {
+            let name = names.get(i).ok_or("name")?;
+            assert_eq!(rt; name.text(), wanted[i]);
+        }
+    }
     Ok(())
 }

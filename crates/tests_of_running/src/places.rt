@@ -18,9 +18,9 @@ fn finds_places(rt: HostRuntime) -> Result<(), Fail> {
         ([4, 1], None),
     ];
     for (numbers, found) in rows {
-        assert!(rt; place(&numbers, &DIMS) == found);
+        assert_eq!(rt; place(&numbers, &DIMS), found);
     }
-    assert!(rt; count(&DIMS) == Some(8));
+    assert_eq!(rt; count(&DIMS), Some(8));
     let none = [
         Dim {
             lower: i64::MIN,
@@ -28,8 +28,11 @@ fn finds_places(rt: HostRuntime) -> Result<(), Fail> {
         },
         Dim { lower: 1, upper: 0 },
     ];
-    assert!(rt; count(&none) == Some(0));
-    assert!(rt; extents(rt.alloc(), &none)?.as_slice() == [1 << 64, 0].as_slice());
+    assert_eq!(rt; count(&none), Some(0));
+    assert_eq!(rt;
+        extents(rt.alloc(), &none)?.as_slice(),
+        [1 << 64, 0].as_slice()
+    );
     Ok(())
 }
 
@@ -45,12 +48,15 @@ fn part(alloc: Global) -> Result<Selection, Failure> {
 #[test]
 fn selects(rt: HostRuntime) -> Result<(), Fail> {
     let found = part(rt.alloc()).map_err(|_| Fail::from("part"))?;
-    assert!(rt; found.extents.as_slice() == [2].as_slice());
-    assert!(rt; found.places.as_slice() == [7, 5].as_slice());
+    assert_eq!(rt; found.extents.as_slice(), [2].as_slice());
+    assert_eq!(rt; found.places.as_slice(), [7, 5].as_slice());
     let all = select_all(rt.alloc(), &DIMS).map_err(|_| Fail::from("all"))?;
-    assert!(rt; all.places.as_slice() == [0, 1, 2, 3, 4, 5, 6, 7].as_slice());
+    assert_eq!(rt; all.places.as_slice(), [0, 1, 2, 3, 4, 5, 6, 7].as_slice());
     let values = values_at(rt.alloc(), &[Value::Int(5), Value::Int(6)], &[1, 1])?;
-    assert!(rt; values.as_slice() == [Value::Int(6), Value::Int(6)].as_slice());
+    assert_eq!(rt;
+        values.as_slice(),
+        [Value::Int(6), Value::Int(6)].as_slice()
+    );
     Ok(())
 }
 
@@ -75,12 +81,15 @@ fn stored(alloc: Global, number: i128) -> Result<Writes, Failure> {
 #[test]
 fn stores(rt: HostRuntime) -> Result<(), Fail> {
     let writes = stored(rt.alloc(), 9).map_err(|_| Fail::from("stored"))?;
-    assert!(rt; writes.places.as_slice() == [7, 5].as_slice());
-    assert!(rt; writes.values.as_slice() == [Value::Int(9), Value::Int(9)].as_slice());
+    assert_eq!(rt; writes.places.as_slice(), [7, 5].as_slice());
+    assert_eq!(rt;
+        writes.values.as_slice(),
+        [Value::Int(9), Value::Int(9)].as_slice()
+    );
     match stored(rt.alloc(), 1 << 31) {
         Ok(_) => Err(Fail::from("range")),
         Err(failure) => {
-            assert!(rt; failure == Failure::Fault(Fault::Overflow));
+            assert_eq!(rt; failure, Failure::Fault(Fault::Overflow));
             Ok(())
         }
     }

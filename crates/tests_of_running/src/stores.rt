@@ -54,17 +54,20 @@ fn allocates(rt: HostRuntime) -> Result<(), Fail> {
     let mut storage = Storage::new(alloc, declarations(alloc)?.as_slice())?;
     let name = Name::read(b"M").ok_or("M")?;
     assert!(rt; !storage.is_scalar(name));
-    assert!(rt; storage.place(name, &[1, 1]) == Err(Fault::Allocated));
-    assert!(rt; storage.deallocate(name) == Err(Fault::Allocated));
+    assert_eq!(rt; storage.place(name, &[1, 1]), Err(Fault::Allocated));
+    assert_eq!(rt; storage.deallocate(name), Err(Fault::Allocated));
     storage.allocate(alloc, name, &[2, 3]).map_err(failed)?;
-    assert!(rt; storage.allocate(alloc, name, &[1, 1]) == Err(Failure::Fault(Fault::Allocated)));
-    assert!(rt; storage.place(name, &[2, 3]) == Ok(Place { slot: 1, at: 5 }));
-    assert!(rt; storage.place(name, &[2, 4]) == Err(Fault::Bounds));
+    assert_eq!(rt;
+        storage.allocate(alloc, name, &[1, 1]),
+        Err(Failure::Fault(Fault::Allocated))
+    );
+    assert_eq!(rt; storage.place(name, &[2, 3]), Ok(Place { slot: 1, at: 5 }));
+    assert_eq!(rt; storage.place(name, &[2, 4]), Err(Fault::Bounds));
     storage
         .deallocate(name)
         .map_err(|_| Fail::from("deallocate"))?;
     let whole = storage.whole(alloc, name);
-    assert!(rt; fault_of(whole) == Some(Failure::Fault(Fault::Allocated)));
+    assert_eq!(rt; fault_of(whole), Some(Failure::Fault(Fault::Allocated)));
     Ok(())
 }
 
@@ -77,14 +80,17 @@ fn holds_values(rt: HostRuntime) -> Result<(), Fail> {
     let Ok(place) = storage.place(name, &[2, 2]) else {
         return Err(Fail::from("place"));
     };
-    assert!(rt; storage.value(place) == Value::Int(0));
+    assert_eq!(rt; storage.value(place), Value::Int(0));
     storage.put(place, Value::Int(7));
     let row = row(alloc, &storage, name).map_err(failed)?;
-    assert!(rt; row.extents.as_slice() == [3].as_slice());
-    assert!(rt; row.values.as_slice() == [Value::Int(0), Value::Int(7), Value::Int(0)].as_slice());
+    assert_eq!(rt; row.extents.as_slice(), [3].as_slice());
+    assert_eq!(rt;
+        row.values.as_slice(),
+        [Value::Int(0), Value::Int(7), Value::Int(0)].as_slice()
+    );
     let truth = Name::read(b"L").ok_or("L")?;
     assert!(rt; storage.is_scalar(truth));
     let whole = storage.whole(alloc, truth).map_err(failed)?;
-    assert!(rt; whole.values.as_slice() == [Value::Truth(false)].as_slice());
+    assert_eq!(rt; whole.values.as_slice(), [Value::Truth(false)].as_slice());
     Ok(())
 }

@@ -44,8 +44,11 @@ fn quotients(alloc: Global) -> Result<Prepared, Fail> {
 fn computes_elements(rt: HostRuntime) -> Result<(), Fail> {
     let quotients = quotients(rt.alloc())?;
     let fault = fault_of(quotients.in_whole(rt.alloc()));
-    assert!(rt; fault == Some(Failure::Fault(Fault::ZeroDivide)));
-    assert!(rt; check_conform(&[2, 3], quotients.extents()) == Err(Fault::Shape));
+    assert_eq!(rt; fault, Some(Failure::Fault(Fault::ZeroDivide)));
+    assert_eq!(rt;
+        check_conform(&[2, 3], quotients.extents()),
+        Err(Fault::Shape)
+    );
     Ok(())
 }
 
@@ -55,10 +58,10 @@ fn calls_functions(rt: HostRuntime) -> Result<(), Fail> {
     let mut parts = Seq::new(rt.alloc());
     parts.push(Prepared::unary(rt.alloc(), Op::Neg, scalar)?)?;
     parts.push(Prepared::Known(known(rt.alloc(), &[2], &[-9, 4])?))?;
-    assert!(rt; common_extents(parts.as_slice()) == [2].as_slice());
+    assert_eq!(rt; common_extents(parts.as_slice()), [2].as_slice());
     let greatest = Prepared::Call(Fun::Max, parts);
     let numbers = numbers_in(rt.alloc(), &greatest).map_err(failed)?;
-    assert!(rt; numbers.as_slice() == [-5, 4].as_slice());
+    assert_eq!(rt; numbers.as_slice(), [-5, 4].as_slice());
     Ok(())
 }
 
@@ -84,7 +87,10 @@ fn chosen(alloc: Global) -> Result<Seq<Value>, Failure> {
 #[test]
 fn chooses_places(rt: HostRuntime) -> Result<(), Fail> {
     let found = chosen(rt.alloc()).map_err(failed)?;
-    assert!(rt; found.as_slice() == [Value::Truth(true), Value::Truth(true)].as_slice());
+    assert_eq!(rt;
+        found.as_slice(),
+        [Value::Truth(true), Value::Truth(true)].as_slice()
+    );
     Ok(())
 }
 
@@ -93,7 +99,7 @@ fn spreads(rt: HostRuntime) -> Result<(), Fail> {
     let pair = known(rt.alloc(), &[2], &[1, 2])?;
     let copies = Prepared::spread(rt.alloc(), pair, 1, 2)?;
     let numbers = numbers_in(rt.alloc(), &copies).map_err(failed)?;
-    assert!(rt; numbers.as_slice() == [1, 1, 2, 2].as_slice());
+    assert_eq!(rt; numbers.as_slice(), [1, 1, 2, 2].as_slice());
     Ok(())
 }
 
@@ -104,16 +110,16 @@ fn transposes(rt: HostRuntime) -> Result<(), Fail> {
     let matrix = matrix.reshaped(extents).map_err(|_| Fail::from("shape"))?;
     let turned = Prepared::transposed(rt.alloc(), matrix)?;
     let numbers = numbers_in(rt.alloc(), &turned).map_err(failed)?;
-    assert!(rt; numbers.as_slice() == [1, 3, 5, 2, 4, 6].as_slice());
+    assert_eq!(rt; numbers.as_slice(), [1, 3, 5, 2, 4, 6].as_slice());
     Ok(())
 }
 
 #[test]
 fn gathers(rt: HostRuntime) -> Result<(), Fail> {
     let some = known(rt.alloc(), &[3], &[1, -5, 2])?;
-    assert!(rt; some.reduce(Red::Sum, 31) == Ok(Value::Int(-2)));
+    assert_eq!(rt; some.reduce(Red::Sum, 31), Ok(Value::Int(-2)));
     let few = known(rt.alloc(), &[0], &[])?;
-    assert!(rt; few.reduce(Red::MaxVal, 31) == Ok(Value::Int(-2147483648)));
+    assert_eq!(rt; few.reduce(Red::MaxVal, 31), Ok(Value::Int(-2147483648)));
     let extents = Seq::from_vec(Vec::from_slice(rt.alloc(), &[1, 1 << 127, 2])?);
     assert!(rt; few.reshaped(extents).is_err());
     Ok(())
@@ -136,10 +142,13 @@ fn selects_parts(rt: HostRuntime) -> Result<(), Fail> {
         let selectors = [Selector::Triplet(lower, upper, stride), Selector::Index(2)];
         match axes(a, &dims, &selectors) {
             Ok(axes) => {
-                assert!(rt; fault == None);
-                assert!(rt; extents_of(a, axes.as_slice())?.as_slice() == [count].as_slice());
+                assert_eq!(rt; fault, None);
+                assert_eq!(rt;
+                    extents_of(a, axes.as_slice())?.as_slice(),
+                    [count].as_slice()
+                );
             }
-            Err(failure) => assert!(rt; Some(failure) == fault.map(Failure::Fault)),
+            Err(failure) => assert_eq!(rt; Some(failure), fault.map(Failure::Fault)),
         }
     }
     Ok(())
@@ -152,6 +161,6 @@ fn selects_numbers(rt: HostRuntime) -> Result<(), Fail> {
     let selectors = [Selector::Index(3), Selector::Vector(numbers)];
     let axes = axes(rt.alloc(), &dims, &selectors).map_err(failed)?;
     let extents = extents_of(rt.alloc(), axes.as_slice())?;
-    assert!(rt; extents.as_slice() == [3].as_slice());
+    assert_eq!(rt; extents.as_slice(), [3].as_slice());
     Ok(())
 }

@@ -11,3 +11,5 @@ mod keywords;
 mod lists;
 #[cfg(test)]
 mod statements;
+#[cfg(test)]
+mod structure;

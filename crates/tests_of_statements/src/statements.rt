@@ -124,23 +124,12 @@ fn depth_of_parentheses(rt: HostRuntime) -> Result<(), Fail> {
     Ok(())
 }
 
-// What a text is read as.
-fn shown(alloc: Global, text: &str) -> Result<&'static str, Fail> {
-    let statement = parse(alloc, &card(alloc, text)?)?;
-    Ok(match &statement {
-        Stmt77::Assign(_, _) => "an assignment",
-        Stmt77::Do(10, _, _, _, _) => "a loop to label 10",
-        _ => "another statement",
-    })
-}
-
 #[test]
 fn an_assignment_and_a_loop(rt: HostRuntime) -> Result<(), Fail> {
-    for (text, want) in [
-        ("DO10I=1", "an assignment"),
-        ("DO 10 I = 1, 3", "a loop to label 10"),
-    ] {
-        assert_eq!(rt; shown(rt.alloc(), text)?, want, "{text}");
-    }
+    let alloc = rt.alloc();
+    let assigned = parse(alloc, &card(alloc, "DO10I=1")?);
+    let looped = parse(alloc, &card(alloc, "DO 10 I = 1, 3")?);
+    assert!(rt; matches!(&assigned, Ok(Stmt77::Assign(_, _))));
+    assert!(rt; matches!(&looped, Ok(Stmt77::Do(10, _, _, _, _))));
     Ok(())
 }

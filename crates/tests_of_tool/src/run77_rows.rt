@@ -1,5 +1,5 @@
 //! Rows of `run77` over memory: words and a deck, and the status, the text and the note that answer them.
-use crate::tool::{SEVEN, assert_cut, assert_ended, great_deck};
+use crate::tool::{SEVEN, great_deck};
 use std::alloc::{AllocError, Global};
 use std::test::Fail;
 use tool_in_memory::{Objects, Row, WILLING, call, first_other, text_of};
@@ -881,7 +881,9 @@ fn other_words_read_nothing(rt: HostRuntime) -> Result<(), Fail> {
     for words in NO_COMMANDS {
         let deck = Vec::from_slice(rt.alloc(), SEVEN)?;
         let done = call(rt.alloc(), words, deck, &objects)?;
-        assert_ended(&rt, &done, 1, b"", USAGE.as_bytes());
+        assert_eq!(rt; done.status, 1, "at {words:?}");
+        assert_eq!(rt; done.out.len(), 0, "at {words:?}");
+        assert_eq!(rt; done.notes.as_slice(), USAGE.as_bytes(), "at {words:?}");
     }
     Ok(())
 }
@@ -899,9 +901,15 @@ fn continued(alloc: Global, lines: usize) -> Result<Vec<u8>, AllocError> {
 #[test]
 fn nineteen_continuation_lines(rt: HostRuntime) -> Result<(), Fail> {
     let done = call(rt.alloc(), RUN, continued(rt.alloc(), 19)?, &WILLING)?;
-    assert_ended(&rt, &done, 0, b" 20\n", b"");
+    assert_eq!(rt; done.status, 0);
+    assert_eq!(rt; done.out.as_slice(), b" 20\n".as_slice());
     let done = call(rt.alloc(), RUN, continued(rt.alloc(), 20)?, &WILLING)?;
-    assert_ended(&rt, &done, 2, b"", b"fvec: line 21: refused 5 ManyLines\n");
+    assert_eq!(rt; done.status, 2);
+    assert_eq!(rt; done.out.len(), 0);
+    assert_eq!(rt;
+        done.notes.as_slice(),
+        b"fvec: line 21: refused 5 ManyLines\n".as_slice()
+    );
     Ok(())
 }
 
@@ -917,7 +925,10 @@ fn each_writing_of_a_run_may_fail(rt: HostRuntime) -> Result<(), Fail> {
         };
         let deck = text_of(rt.alloc(), COUNTING)?;
         let done = call(rt.alloc(), FINAL, deck, &objects)?;
-        assert_cut(&rt, &done, text, out_fails);
+        assert_eq!(rt; done.status, 6, "at {out_fails}");
+        assert_eq!(rt; done.out.len() as u64 + 1, out_fails);
+        assert!(rt; text.starts_with(done.out.as_slice()));
+        assert_eq!(rt; done.notes.as_slice(), b"fvec: write fault\n".as_slice());
     }
     Ok(())
 }
@@ -935,7 +946,9 @@ fn the_first_event_decides(rt: HostRuntime) -> Result<(), Fail> {
         };
         let deck = text_of(rt.alloc(), lines)?;
         let done = call(rt.alloc(), RUN, deck, &objects)?;
-        assert_ended(&rt, &done, status, out.as_bytes(), b"");
+        assert_eq!(rt; done.status, status, "at {out_fails}");
+        assert_eq!(rt; done.out.as_slice(), out.as_bytes(), "at {out_fails}");
+        assert_eq!(rt; done.notes.len(), 0);
     }
     Ok(())
 }
@@ -951,7 +964,9 @@ fn each_reading_for_a_run_may_fail(rt: HostRuntime) -> Result<(), Fail> {
         };
         let deck = Vec::from_slice(rt.alloc(), SEVEN)?;
         let done = call(rt.alloc(), RUN, deck, &objects)?;
-        assert_ended(&rt, &done, 5, b"", b"fvec: read fault\n");
+        assert_eq!(rt; done.status, 5, "at {deck_fails}");
+        assert_eq!(rt; done.out.len(), 0);
+        assert_eq!(rt; done.notes.as_slice(), b"fvec: read fault\n".as_slice());
     }
     Ok(())
 }
@@ -962,7 +977,8 @@ fn the_greatest_source_runs(rt: HostRuntime) -> Result<(), Fail> {
     let mut deck = great_deck(rt.alloc(), 1000)?;
     deck.extend_from_slice(b"*DATA\n1\n".as_slice())?;
     let done = call(rt.alloc(), RUN, deck, &WILLING)?;
-    assert!(rt; done.status == 0 && done.out.len() == 46_149);
+    assert_eq!(rt; done.status, 0);
+    assert_eq!(rt; done.out.len(), 46_149);
     Ok(())
 }
 
@@ -971,7 +987,12 @@ fn a_greater_source_is_refused(rt: HostRuntime) -> Result<(), Fail> {
     let mut deck = great_deck(rt.alloc(), 1)?;
     deck.extend_from_slice(b"\n*DATA\n1\n".as_slice())?;
     let done = call(rt.alloc(), RUN, deck, &WILLING)?;
-    assert_ended(&rt, &done, 2, b"", b"fvec: line 0: refused 1 TooLong\n");
+    assert_eq!(rt; done.status, 2);
+    assert_eq!(rt; done.out.len(), 0);
+    assert_eq!(rt;
+        done.notes.as_slice(),
+        b"fvec: line 0: refused 1 TooLong\n".as_slice()
+    );
     Ok(())
 }
 
@@ -979,12 +1000,10 @@ fn a_greater_source_is_refused(rt: HostRuntime) -> Result<(), Fail> {
 fn a_name_too_many_is_refused(rt: HostRuntime) -> Result<(), Fail> {
     let deck = great_deck(rt.alloc(), 1001)?;
     let done = call(rt.alloc(), RUN, deck, &WILLING)?;
-    assert_ended(
-        &rt,
-        &done,
-        2,
-        b"",
-        b"fvec: line 1001: refused 18 Limit NAMES\n",
+    assert_eq!(rt; done.status, 2);
+    assert_eq!(rt;
+        done.notes.as_slice(),
+        b"fvec: line 1001: refused 18 Limit NAMES\n".as_slice()
     );
     Ok(())
 }
@@ -1001,11 +1020,17 @@ fn the_greatest_deck_runs(rt: HostRuntime) -> Result<(), Fail> {
     let mut deck = text_of(rt.alloc(), lines)?;
     deck.resize(1 << 24, b' ')?;
     let done = call(rt.alloc(), RUN, deck, &WILLING)?;
-    assert_ended(&rt, &done, 0, b" 12\n", b"");
+    assert_eq!(rt; done.status, 0);
+    assert_eq!(rt; done.out.as_slice(), b" 12\n".as_slice());
 
     let mut deck = text_of(rt.alloc(), lines)?;
     deck.resize((1 << 24) + 1, b' ')?;
     let done = call(rt.alloc(), RUN, deck, &WILLING)?;
-    assert_ended(&rt, &done, 2, b"", b"fvec: line 0: refused 1 TooLong\n");
+    assert_eq!(rt; done.status, 2);
+    assert_eq!(rt; done.out.len(), 0);
+    assert_eq!(rt;
+        done.notes.as_slice(),
+        b"fvec: line 0: refused 1 TooLong\n".as_slice()
+    );
     Ok(())
 }

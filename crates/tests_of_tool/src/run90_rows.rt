@@ -1,5 +1,4 @@
 //! Rows of `run90` over memory: words and a deck of Fortran 90, and the status, the text and the note that answer them.
-use crate::tool::assert_ended;
 use std::test::Fail;
 use tool_in_memory::{Row, WILLING, call, first_other, text_of};
 
@@ -449,6 +448,7 @@ fn a_deck_of_fortran_90_may_be_longer(rt: HostRuntime) -> Result<(), Fail> {
     let mut deck = text_of(rt.alloc(), lines)?;
     deck.resize((1 << 24) + 1, b' ')?;
     let done = call(rt.alloc(), RUN, deck, &WILLING)?;
-    assert_ended(&rt, &done, 0, b" 12\n", b"");
+    assert_eq!(rt; done.status, 0);
+    assert_eq!(rt; done.out.as_slice(), b" 12\n".as_slice());
     Ok(())
 }

@@ -274,19 +274,6 @@ const UNENDED: &[Row] = &[
     },
 ];
 
-// That the tool ended so: its status, and all that it wrote.
-pub(super) fn assert_ended(rt: &impl Abort, done: &Done, status: u8, out: &[u8], notes: &[u8]) {
-    assert_eq!(rt; done.status, status);
-    assert_eq!(rt; done.out.as_slice(), out);
-    assert_eq!(rt; done.notes.as_slice(), notes);
-}
-
-// That writing failed at this call, where each call wrote one byte of the text.
-pub(super) fn assert_cut(rt: &impl Abort, done: &Done, text: &[u8], fails: u64) {
-    assert!(rt; done.out.len() as u64 + 1 == fails && text.starts_with(done.out.as_slice()));
-    assert_ended(rt, done, 6, done.out.as_slice(), b"fvec: write fault\n");
-}
-
 // Calls with the word `vectorise`.
 fn vectorised(alloc: Global, deck: &[u8], objects: &Objects) -> Result<Done, AllocError> {
     let deck = Vec::from_slice(alloc, deck)?;
@@ -310,7 +297,9 @@ fn check_row(rt: &impl Abort, alloc: Global, deck: &[u8], row: &Row) -> Result<(
     let done = vectorised(alloc, deck, &WILLING)?;
     let out = text_of(alloc, row.out)?;
     let notes = text_of(alloc, row.notes)?;
-    assert_ended(rt, &done, row.status, out.as_slice(), notes.as_slice());
+    assert_eq!(rt; done.status, row.status);
+    assert_eq!(rt; done.out.as_slice(), out.as_slice());
+    assert_eq!(rt; done.notes.as_slice(), notes.as_slice());
     let listed = call(alloc, &["graph"], Vec::from_slice(alloc, deck)?, &WILLING)?;
     let listing = listing_among(alloc, row.out)?;
     assert_eq!(rt; listed.out.as_slice(), listing.as_slice());
@@ -344,7 +333,9 @@ fn other_words_get_the_usage_line(rt: HostRuntime) -> Result<(), Fail> {
     for words in [none, &["vectorize"], &["vectorise", "vectorise"]] {
         let deck = Vec::from_slice(rt.alloc(), SEVEN)?;
         let done = call(rt.alloc(), words, deck, &WILLING)?;
-        assert_ended(&rt, &done, 1, b"", usage);
+        assert_eq!(rt; done.status, 1);
+        assert_eq!(rt; done.out.as_slice(), b"".as_slice());
+        assert_eq!(rt; done.notes.as_slice(), usage.as_slice());
     }
     Ok(())
 }
@@ -359,7 +350,9 @@ fn each_reading_may_fail(rt: HostRuntime) -> Result<(), Fail> {
             ..WILLING
         };
         let done = vectorised(rt.alloc(), SEVEN, &objects)?;
-        assert_ended(&rt, &done, 5, b"", b"fvec: read fault\n");
+        assert_eq!(rt; done.status, 5);
+        assert_eq!(rt; done.out.as_slice(), b"".as_slice());
+        assert_eq!(rt; done.notes.as_slice(), b"fvec: read fault\n".as_slice());
     }
     Ok(())
 }
@@ -373,7 +366,10 @@ fn each_writing_may_fail(rt: HostRuntime) -> Result<(), Fail> {
             ..WILLING
         };
         let done = vectorised(rt.alloc(), SEVEN, &objects)?;
-        assert_cut(&rt, &done, SEVEN90, out_fails);
+        assert_eq!(rt; done.status, 6);
+        assert_eq!(rt; done.out.len() as u64 + 1, out_fails);
+        assert!(rt; SEVEN90.starts_with(done.out.as_slice()));
+        assert_eq!(rt; done.notes.as_slice(), b"fvec: write fault\n".as_slice());
     }
     let objects = Objects {
         piece: 10,
@@ -382,7 +378,9 @@ fn each_writing_may_fail(rt: HostRuntime) -> Result<(), Fail> {
         ..WILLING
     };
     let done = vectorised(rt.alloc(), SEVEN, &objects)?;
-    assert_ended(&rt, &done, 6, b"PROGRAM FV", b"");
+    assert_eq!(rt; done.status, 6);
+    assert_eq!(rt; done.out.as_slice(), b"PROGRAM FV".as_slice());
+    assert_eq!(rt; done.notes.as_slice(), b"".as_slice());
     Ok(())
 }
 
