@@ -4,32 +4,32 @@ use Rattle.std.specs.declared.boxed.Box.{Box}
 use Rattle.std.specs.declared.alloc.Global.{Global}
 use Rattle.std.proofs.lemmas.List.{map-append, at_drop_more, at_drop_all}
 use mathlib.Core.Path.{ap₂}
-use Rattle.fv_tree.specs.Steps.{◌>>=◌}
-use Rattle.fv_tree.specs.Operators.{apply, call, as_number, as_numbers, reduced}
-use Rattle.fv_tree.specs.Plain as P
-use Rattle.fv_tree.specs.View.{expression_of, subscript_of, reference_of, loop_of, loops}
-use Rattle.fv_tree.specs.declared.ops.Op.{Op}
-use Rattle.fv_tree.specs.declared.functions.Fun.{Fun}
-use Rattle.fv_tree.specs.declared.functions.Red.{Red}
-use Rattle.fv_tree.specs.declared.ops.Value.{Value}
-use Rattle.fv_tree.specs.declared.ops.Value.TheVariants.{Int, Truth}
-use Rattle.fv_tree.specs.declared.ops.Fault.{Fault}
-use Rattle.fv_tree.specs.declared.lists.Seq.{Seq}
-use Rattle.fv_tree.specs.declared.exprs.Turn.{Turn}
-use Rattle.fv_tree.specs.declared.exprs.Expr.{Expr}
-use Rattle.fv_tree.specs.declared.exprs.Expr.TheVariants as exprs
-use Rattle.fv_tree.specs.declared.exprs.Sub.{Sub}
-use Rattle.fv_tree.specs.declared.exprs.Sub.TheVariants as subs
-use Rattle.fv_tree.specs.declared.exprs.Ref.{Ref, out-Ref}
-use Rattle.fv_tree.proofs.Equations.{expression_of-int, expression_of-truth, expression_of-item, expression_of-un, expression_of-bin, expression_of-call, expression_of-list, expression_of-spread, expression_of-transpose, expression_of-reshape, expression_of-reduce, subscript_of-one, subscript_of-part, reference_of-is}
-use Rattle.fv_meaning.specs.ArrayValues.{Array, Elements, each, settled, scalar, in_whole, conform, mapped, paired, spread, transposed, reshaped}
-use Rattle.fv_meaning.specs.Dialect.{fortran90}
-use Rattle.fv_meaning.specs.Sections.{Selector, Triplet, not_negative, axes_selected, extents_of}
-use Rattle.fv_meaning.specs.Store.{Store, bounds_of}
-use Rattle.fv_meaning.specs.Value.{array_of, arguments_of, selector, selectors, selector_of, together, under, values_of}
+use Rattle.tree.specs.Steps.{◌>>=◌}
+use Rattle.tree.specs.Operators.{apply, call, as_number, as_numbers, reduced}
+use Rattle.tree.specs.Plain as P
+use Rattle.tree.specs.View.{expression_of, subscript_of, reference_of, loop_of, loops}
+use Rattle.tree.specs.declared.ops.Op.{Op}
+use Rattle.tree.specs.declared.functions.Fun.{Fun}
+use Rattle.tree.specs.declared.functions.Red.{Red}
+use Rattle.tree.specs.declared.ops.Value.{Value}
+use Rattle.tree.specs.declared.ops.Value.TheVariants.{Int, Truth}
+use Rattle.tree.specs.declared.ops.Fault.{Fault}
+use Rattle.tree.specs.declared.lists.Seq.{Seq}
+use Rattle.tree.specs.declared.exprs.Turn.{Turn}
+use Rattle.tree.specs.declared.exprs.Expr.{Expr}
+use Rattle.tree.specs.declared.exprs.Expr.TheVariants as exprs
+use Rattle.tree.specs.declared.exprs.Sub.{Sub}
+use Rattle.tree.specs.declared.exprs.Sub.TheVariants as subs
+use Rattle.tree.specs.declared.exprs.Ref.{Ref, out-Ref}
+use Rattle.tree.proofs.Equations.{expression_of-int, expression_of-truth, expression_of-item, expression_of-un, expression_of-bin, expression_of-call, expression_of-list, expression_of-spread, expression_of-transpose, expression_of-reshape, expression_of-reduce, subscript_of-one, subscript_of-part, reference_of-is}
+use Rattle.meaning.specs.ArrayValues.{Array, Elements, each, settled, scalar, in_whole, conform, mapped, paired, spread, transposed, reshaped}
+use Rattle.meaning.specs.Dialect.{fortran90}
+use Rattle.meaning.specs.Sections.{Selector, Triplet, not_negative, axes_selected, extents_of}
+use Rattle.meaning.specs.Store.{Store, bounds_of}
+use Rattle.meaning.specs.Value.{array_of, arguments_of, selector, selectors, selector_of, together, under, values_of}
 use Rattle.array_values.specs.Positions.{wider}
 use Rattle.array_values.specs.Arrays.{all_at, extents_together, together_all}
-use Rattle.array_storage.specs.Parts.{array_along, whole_array, part_array}
+use Rattle.array_values.specs.storage.Parts.{array_along, whole_array, part_array}
 use Rattle.array_expressions.specs.Scopes.{selected_by, known_of, whole_of, reduction_of, extents_at, number_at, constructed, listed}
 
 module _ (s : Store) where

@@ -7,20 +7,20 @@ use Rattle.std.proofs.lemmas.Bool.Decides.{Decides-ltb}
 use Rattle.std.proofs.lemmas.Int.{ints, to_z-of_z, fits_signed_from_abs}
 use Rattle.std.proofs.lemmas.List.{append-nil, map-append, at_drop_more, at_drop_all}
 use mathlib.Core.Path.{ap₂}
-use Rattle.fv_tree.specs.Steps.{◌>>=◌}
-use Rattle.fv_tree.specs.Operators.{fits}
-use Rattle.fv_tree.specs.Plain as P
-use Rattle.fv_tree.specs.View.{expression_of, subscript_of}
-use Rattle.fv_tree.specs.declared.exprs.Sub.{Sub}
-use Rattle.fv_tree.specs.declared.exprs.Expr.{Expr}
-use Rattle.fv_tree.specs.declared.ops.Value.{Value}
-use Rattle.fv_tree.specs.declared.ops.Fault.{Fault}
-use Rattle.fv_tree.specs.declared.ops.Fault.TheVariants.{Overflow}
-use Rattle.fv_meaning.specs.Dialect.{fortran90}
-use Rattle.fv_meaning.specs.Store.{Store}
-use Rattle.fv_meaning.specs.ArrayValues.{Elements, conform}
-use Rattle.fv_meaning.specs.Sections.{Selector, not_negative}
-use Rattle.fv_meaning.specs.Value.{value_of, values_of, array_of, arguments_of, subscript_value, subscript_values, selector, selectors, for_numbers, bound_to}
+use Rattle.tree.specs.Steps.{◌>>=◌}
+use Rattle.tree.specs.Operators.{fits}
+use Rattle.tree.specs.Plain as P
+use Rattle.tree.specs.View.{expression_of, subscript_of}
+use Rattle.tree.specs.declared.exprs.Sub.{Sub}
+use Rattle.tree.specs.declared.exprs.Expr.{Expr}
+use Rattle.tree.specs.declared.ops.Value.{Value}
+use Rattle.tree.specs.declared.ops.Fault.{Fault}
+use Rattle.tree.specs.declared.ops.Fault.TheVariants.{Overflow}
+use Rattle.meaning.specs.Dialect.{fortran90}
+use Rattle.meaning.specs.Store.{Store}
+use Rattle.meaning.specs.ArrayValues.{Elements, conform}
+use Rattle.meaning.specs.Sections.{Selector, not_negative}
+use Rattle.meaning.specs.Value.{value_of, values_of, array_of, arguments_of, subscript_value, subscript_values, selector, selectors, for_numbers, bound_to}
 use Rattle.array_values.specs.declared.failure.Failure.{Failure}
 use Rattle.array_values.specs.declared.failure.Failure.TheVariants as failure
 use Rattle.array_values.specs.Answers.{Answers}

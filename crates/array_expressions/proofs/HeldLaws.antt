@@ -6,20 +6,20 @@ use Rattle.std.proofs.Common.{length, arith}
 use Rattle.std.proofs.lemmas.Bool.{eqb-true}
 use Rattle.std.proofs.lemmas.List.{map-append}
 use mathlib.Core.Path.{ap₂}
-use Rattle.fv_tree.specs.Steps.{◌>>=◌}
-use Rattle.fv_tree.specs.declared.ops.Value.{Value}
-use Rattle.fv_tree.specs.declared.ops.Value.TheVariants.{Int}
-use Rattle.fv_tree.specs.declared.ops.Fault.{Fault}
-use Rattle.fv_tree.specs.declared.ops.Fault.TheVariants.{Allocated, Bounds}
-use Rattle.fv_meaning.specs.ArrayValues.{Array, scalar}
-use Rattle.fv_meaning.specs.Sections.{Axis, Selector, axis_on, axes_on, whole_axes, extents_of, numbers_of, Along}
-use Rattle.fv_meaning.specs.Store.{Store, Cell, cell_at, cell_in, is_within, bounds_in, bounds_of, column_major, numbers_from, size_of}
-use Rattle.fv_meaning.specs.Value.{is_bare}
-use Rattle.array_storage.specs.declared.slots.Slot.{Slot}
-use Rattle.array_storage.specs.declared.slots.Place.{Place}
-use Rattle.array_storage.specs.Slots.{store_among, held_among, place_among, Finds}
-use Rattle.array_storage.specs.Parts.{array_along, whole_array, part_array}
-use Rattle.array_storage.proofs.PlaceLaws.{store-held}
+use Rattle.tree.specs.Steps.{◌>>=◌}
+use Rattle.tree.specs.declared.ops.Value.{Value}
+use Rattle.tree.specs.declared.ops.Value.TheVariants.{Int}
+use Rattle.tree.specs.declared.ops.Fault.{Fault}
+use Rattle.tree.specs.declared.ops.Fault.TheVariants.{Allocated, Bounds}
+use Rattle.meaning.specs.ArrayValues.{Array, scalar}
+use Rattle.meaning.specs.Sections.{Axis, Selector, axis_on, axes_on, whole_axes, extents_of, numbers_of, Along}
+use Rattle.meaning.specs.Store.{Store, Cell, cell_at, cell_in, is_within, bounds_in, bounds_of, column_major, numbers_from, size_of}
+use Rattle.meaning.specs.Value.{is_bare}
+use Rattle.array_values.specs.declared.storage.slots.Slot.{Slot}
+use Rattle.array_values.specs.declared.storage.slots.Place.{Place}
+use Rattle.array_values.specs.storage.Slots.{store_among, held_among, place_among, Finds}
+use Rattle.array_values.specs.storage.Parts.{array_along, whole_array, part_array}
+use Rattle.array_values.proofs.storage.PlaceLaws.{store-held}
 use Rattle.array_expressions.specs.declared.locals.Local.{Local}
 use Rattle.array_expressions.specs.Locals.{scalar_cell, bound_all, Holds}
 use Rattle.array_expressions.specs.Scopes.{held_at}

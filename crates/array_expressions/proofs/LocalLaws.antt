@@ -3,10 +3,10 @@ use Rattle.std.proofs.Common.{◌≡◌, refl, sym, ap, ◌∙◌, subst, zero, 
 use Rattle.std.specs.Prelude.{◌&&◌}
 use Rattle.std.specs.Str.{bytes_eq}
 use Rattle.std.proofs.lemmas.List.{take_all}
-use Rattle.fv_tree.specs.declared.ops.Value.{Value}
-use Rattle.fv_tree.specs.declared.ops.Value.TheVariants.{Int}
-use Rattle.fv_meaning.specs.Store.{Store, Cell, same_cell}
-use Rattle.fv_meaning.specs.Value.{bound_to}
+use Rattle.tree.specs.declared.ops.Value.{Value}
+use Rattle.tree.specs.declared.ops.Value.TheVariants.{Int}
+use Rattle.meaning.specs.Store.{Store, Cell, same_cell}
+use Rattle.meaning.specs.Value.{bound_to}
 use Rattle.array_expressions.specs.declared.locals.Local.{Local}
 use Rattle.array_expressions.specs.Locals.{scalar_cell, bound_all, Holds}
 

@@ -2,30 +2,30 @@
 use Rattle.std.proofs.Common.{◌≡◌, refl, sym, ap, ◌∙◌, subst, ℕ, ℤ, Bool, true, false, cond, List, [], ◌∷◌, ◌++◌, map, length, Result, Ok, Err, arith}
 use Rattle.std.specs.declared.boxed.Box.{Box}
 use Rattle.std.specs.declared.alloc.Global.{Global}
-use Rattle.fv_tree.specs.Steps.{◌>>=◌}
-use Rattle.fv_tree.specs.Operators.{apply, call, as_number, as_numbers}
-use Rattle.fv_tree.specs.Plain as P
+use Rattle.tree.specs.Steps.{◌>>=◌}
+use Rattle.tree.specs.Operators.{apply, call, as_number, as_numbers}
+use Rattle.tree.specs.Plain as P
 use Rattle.std.proofs.lemmas.List.{map-append}
-use Rattle.fv_tree.proofs.Equations.{loop_of-is}
-use Rattle.fv_tree.specs.View.{expression_of, subscript_of, reference_of, loop_of, loops, ConstructorLoop}
-use Rattle.fv_tree.specs.declared.ops.Op.{Op}
-use Rattle.fv_tree.specs.declared.functions.Fun.{Fun}
-use Rattle.fv_tree.specs.declared.functions.Red.{Red}
-use Rattle.fv_tree.specs.declared.ops.Value.{Value}
-use Rattle.fv_tree.specs.declared.ops.Value.TheVariants.{Int, Truth}
-use Rattle.fv_tree.specs.declared.ops.Fault.{Fault}
-use Rattle.fv_tree.specs.declared.lists.Seq.{Seq}
-use Rattle.fv_tree.specs.declared.exprs.Turn.{Turn, out-Turn}
-use Rattle.fv_tree.specs.declared.exprs.Expr.{Expr}
-use Rattle.fv_tree.specs.declared.exprs.Expr.TheVariants as exprs
-use Rattle.fv_tree.specs.declared.exprs.Sub.{Sub}
-use Rattle.fv_tree.specs.declared.exprs.Sub.TheVariants as subs
-use Rattle.fv_tree.specs.declared.exprs.Ref.{Ref, out-Ref}
-use Rattle.fv_meaning.specs.ArrayValues.{Array, Elements, settled, scalar, in_whole, mapped, paired, spread, transposed, reshaped}
-use Rattle.fv_meaning.specs.Dialect.{fortran90}
-use Rattle.fv_meaning.specs.Sections.{Selector, Triplet, not_negative}
-use Rattle.fv_meaning.specs.Store.{Store}
-use Rattle.fv_meaning.specs.Value.{value_of, values_of, array_of, arguments_of, subscript_values, subscript_value, selector, selectors, selector_of, evaluated, is_scalar, for_numbers, bound_to}
+use Rattle.tree.proofs.Equations.{loop_of-is}
+use Rattle.tree.specs.View.{expression_of, subscript_of, reference_of, loop_of, loops, ConstructorLoop}
+use Rattle.tree.specs.declared.ops.Op.{Op}
+use Rattle.tree.specs.declared.functions.Fun.{Fun}
+use Rattle.tree.specs.declared.functions.Red.{Red}
+use Rattle.tree.specs.declared.ops.Value.{Value}
+use Rattle.tree.specs.declared.ops.Value.TheVariants.{Int, Truth}
+use Rattle.tree.specs.declared.ops.Fault.{Fault}
+use Rattle.tree.specs.declared.lists.Seq.{Seq}
+use Rattle.tree.specs.declared.exprs.Turn.{Turn, out-Turn}
+use Rattle.tree.specs.declared.exprs.Expr.{Expr}
+use Rattle.tree.specs.declared.exprs.Expr.TheVariants as exprs
+use Rattle.tree.specs.declared.exprs.Sub.{Sub}
+use Rattle.tree.specs.declared.exprs.Sub.TheVariants as subs
+use Rattle.tree.specs.declared.exprs.Ref.{Ref, out-Ref}
+use Rattle.meaning.specs.ArrayValues.{Array, Elements, settled, scalar, in_whole, mapped, paired, spread, transposed, reshaped}
+use Rattle.meaning.specs.Dialect.{fortran90}
+use Rattle.meaning.specs.Sections.{Selector, Triplet, not_negative}
+use Rattle.meaning.specs.Store.{Store}
+use Rattle.meaning.specs.Value.{value_of, values_of, array_of, arguments_of, subscript_values, subscript_value, selector, selectors, selector_of, evaluated, is_scalar, for_numbers, bound_to}
 use Rattle.array_values.specs.declared.failure.Failure.{Failure}
 use Rattle.array_values.specs.declared.failure.Failure.TheVariants as failure
 use Rattle.array_values.specs.declared.known.Known.{Known}
@@ -35,7 +35,7 @@ use Rattle.array_values.specs.Answers.{Answers}
 use Rattle.array_values.specs.Arrays.{array_in, elements_in, reduced_values, together_all}
 use Rattle.array_values.specs.Selections.{selector_in}
 use Rattle.array_values.proofs.Steps.{fails, goes, same}
-use Rattle.array_storage.specs.Parts.{whole_array, part_array}
+use Rattle.array_values.specs.storage.Parts.{whole_array, part_array}
 use Rattle.array_expressions.specs.declared.locals.Local.{Local}
 use Rattle.array_expressions.specs.Locals.{bound_all}
 use Rattle.array_expressions.specs.Appending.{Appends}

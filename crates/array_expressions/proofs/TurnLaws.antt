@@ -2,19 +2,19 @@
 use Rattle.std.proofs.Common.{◌≡◌, refl, sym, ap, ◌∙◌, subst, zero, suc, ℕ, ℤ, pos, negsuc, ◌+ℤ◌, ◌-ℤ◌, ◌≤ℤ◌, ◌<ℤ◌, ◌+◌, Bool, true, false, cond, List, [], ◌∷◌, ◌++◌, map, Result, Ok, Err, arith, append_assoc}
 use Rattle.std.proofs.lemmas.List.{map-append, append-nil}
 use Rattle.std.proofs.lemmas.Int.{ints}
-use Rattle.fv_tree.specs.Steps.{◌>>=◌}
-use Rattle.fv_tree.specs.Operators.{fits}
-use Rattle.fv_tree.specs.Plain as P
-use Rattle.fv_tree.specs.View.{expression_of, loop_of, loops, ConstructorLoop}
-use Rattle.fv_tree.specs.declared.ops.Value.{Value}
-use Rattle.fv_tree.specs.declared.ops.Value.TheVariants.{Int}
-use Rattle.fv_tree.specs.declared.ops.Fault.{Fault}
-use Rattle.fv_tree.specs.declared.ops.Fault.TheVariants.{Overflow}
-use Rattle.fv_meaning.specs.ArrayValues.{each}
-use Rattle.fv_meaning.specs.Dialect.{fortran90}
-use Rattle.fv_meaning.specs.Sections.{not_negative}
-use Rattle.fv_meaning.specs.Store.{Store, numbers_from}
-use Rattle.fv_meaning.specs.Value.{for_numbers, bound_to, joined, under, values_of}
+use Rattle.tree.specs.Steps.{◌>>=◌}
+use Rattle.tree.specs.Operators.{fits}
+use Rattle.tree.specs.Plain as P
+use Rattle.tree.specs.View.{expression_of, loop_of, loops, ConstructorLoop}
+use Rattle.tree.specs.declared.ops.Value.{Value}
+use Rattle.tree.specs.declared.ops.Value.TheVariants.{Int}
+use Rattle.tree.specs.declared.ops.Fault.{Fault}
+use Rattle.tree.specs.declared.ops.Fault.TheVariants.{Overflow}
+use Rattle.meaning.specs.ArrayValues.{each}
+use Rattle.meaning.specs.Dialect.{fortran90}
+use Rattle.meaning.specs.Sections.{not_negative}
+use Rattle.meaning.specs.Store.{Store, numbers_from}
+use Rattle.meaning.specs.Value.{for_numbers, bound_to, joined, under, values_of}
 use Rattle.array_expressions.specs.Scopes.{number_at, constructed}
 
 abbrev Run : Type 0

@@ -3,22 +3,22 @@ use Rattle.std.proofs.Common.{◌≡◌, refl, sym, ap, ◌∙◌, zero, suc, �
 use Rattle.std.specs.declared.boxed.Box.{Box}
 use Rattle.std.specs.declared.alloc.Global.{Global}
 use Rattle.std.proofs.lemmas.List.{map-append}
-use Rattle.fv_tree.specs.Plain as P
-use Rattle.fv_tree.specs.Plain.{Expression, Number, Logic, Named, Unary, Binary, Apply, Constructor, Spread, Transpose}
-use Rattle.fv_tree.specs.Plain.{Reshape, Reduce, Expressions, no_expressions, expression, Subscript, Only, Section}
-use Rattle.fv_tree.specs.Plain.{Subscripts, no_subscripts, subscript, Loops, no_loops, loop}
-use Rattle.fv_tree.specs.View.{expression_of, subscript_of, reference_of, loop_of, loops, ConstructorLoop}
-use Rattle.fv_tree.specs.declared.ops.Op.{Op}
-use Rattle.fv_tree.specs.declared.functions.Fun.{Fun}
-use Rattle.fv_tree.specs.declared.functions.Red.{Red}
-use Rattle.fv_tree.specs.declared.lists.Seq.{Seq}
-use Rattle.fv_tree.specs.declared.exprs.Turn.{Turn, out-Turn}
-use Rattle.fv_tree.specs.declared.exprs.Expr.{Expr}
-use Rattle.fv_tree.specs.declared.exprs.Expr.TheVariants as exprs
-use Rattle.fv_tree.specs.declared.exprs.Sub.{Sub}
-use Rattle.fv_tree.specs.declared.exprs.Sub.TheVariants as subs
-use Rattle.fv_tree.specs.declared.exprs.Ref.{Ref, out-Ref}
-use Rattle.fv_tree.proofs.Equations.{expression_of-item, expression_of-un, expression_of-bin, expression_of-call, expression_of-list, expression_of-spread, expression_of-transpose, expression_of-reshape, expression_of-reduce, subscript_of-one, subscript_of-part, reference_of-is, loop_of-is}
+use Rattle.tree.specs.Plain as P
+use Rattle.tree.specs.Plain.{Expression, Number, Logic, Named, Unary, Binary, Apply, Constructor, Spread, Transpose}
+use Rattle.tree.specs.Plain.{Reshape, Reduce, Expressions, no_expressions, expression, Subscript, Only, Section}
+use Rattle.tree.specs.Plain.{Subscripts, no_subscripts, subscript, Loops, no_loops, loop}
+use Rattle.tree.specs.View.{expression_of, subscript_of, reference_of, loop_of, loops, ConstructorLoop}
+use Rattle.tree.specs.declared.ops.Op.{Op}
+use Rattle.tree.specs.declared.functions.Fun.{Fun}
+use Rattle.tree.specs.declared.functions.Red.{Red}
+use Rattle.tree.specs.declared.lists.Seq.{Seq}
+use Rattle.tree.specs.declared.exprs.Turn.{Turn, out-Turn}
+use Rattle.tree.specs.declared.exprs.Expr.{Expr}
+use Rattle.tree.specs.declared.exprs.Expr.TheVariants as exprs
+use Rattle.tree.specs.declared.exprs.Sub.{Sub}
+use Rattle.tree.specs.declared.exprs.Sub.TheVariants as subs
+use Rattle.tree.specs.declared.exprs.Ref.{Ref, out-Ref}
+use Rattle.tree.proofs.Equations.{expression_of-item, expression_of-un, expression_of-bin, expression_of-call, expression_of-list, expression_of-spread, expression_of-transpose, expression_of-reshape, expression_of-reduce, subscript_of-one, subscript_of-part, reference_of-is, loop_of-is}
 
 abbrev mutual
   pub weight : Expression → ℕ

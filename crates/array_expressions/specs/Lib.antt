@@ -1,3 +1,5 @@
+pub mod Appending
 pub mod Locals
 pub mod Scopes
-pub mod Appending
+pub mod assignments
+pub mod transfers

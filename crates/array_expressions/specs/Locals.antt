@@ -1,8 +1,8 @@
 -- The store with the variables of constructors' loops (ISO/IEC 1539:1991, section 4.5).
 use Rattle.std.specs.Prelude.{◌≡◌, Option, Some, None, ℕ, ℤ, List, [], ◌∷◌}
-use Rattle.fv_tree.specs.declared.ops.Value.TheVariants.{Int}
-use Rattle.fv_meaning.specs.Store.{Store, Cell}
-use Rattle.fv_meaning.specs.Value.{bound_to}
+use Rattle.tree.specs.declared.ops.Value.TheVariants.{Int}
+use Rattle.meaning.specs.Store.{Store, Cell}
+use Rattle.meaning.specs.Value.{bound_to}
 use Rattle.array_expressions.specs.declared.locals.Local.{Local}
 
 abbrev pub scalar_cell : List ℕ → Cell

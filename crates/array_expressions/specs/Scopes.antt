@@ -1,20 +1,20 @@
 -- Parts of values, over the store that a scope stands for.
 use Rattle.std.specs.Prelude.{Result, Ok, Option, ℕ, ℤ, Bool, List, [], ◌∷◌, map, length}
-use Rattle.fv_tree.specs.Steps.{◌>>=◌}
-use Rattle.fv_tree.specs.Operators.{call, as_numbers, reduced}
-use Rattle.fv_tree.specs.Plain.{Expression, Expressions, Subscripts, Loops, Reference}
-use Rattle.fv_tree.specs.declared.functions.Fun.{Fun}
-use Rattle.fv_tree.specs.declared.functions.Red.{Red}
-use Rattle.fv_tree.specs.declared.ops.Value.{Value}
-use Rattle.fv_tree.specs.declared.ops.Fault.{Fault}
-use Rattle.fv_meaning.specs.ArrayValues.{Array, Elements, in_whole, reshaped}
-use Rattle.fv_meaning.specs.Dialect.{fortran90}
-use Rattle.fv_meaning.specs.Sections.{axes_selected, extents_of, cells_along, not_negative}
-use Rattle.fv_meaning.specs.Store.{Store, cell_at, bounds_of}
-use Rattle.fv_meaning.specs.Value.{value_of, values_of, array_of, subscript_values, selectors, evaluated, is_scalar}
-use Rattle.fv_meaning.specs.Value.{name_is_scalar, are_indices, numbered, under}
-use Rattle.array_storage.specs.Stored.{store_in}
-use Rattle.array_storage.specs.Parts.{array_along}
+use Rattle.tree.specs.Steps.{◌>>=◌}
+use Rattle.tree.specs.Operators.{call, as_numbers, reduced}
+use Rattle.tree.specs.Plain.{Expression, Expressions, Subscripts, Loops, Reference}
+use Rattle.tree.specs.declared.functions.Fun.{Fun}
+use Rattle.tree.specs.declared.functions.Red.{Red}
+use Rattle.tree.specs.declared.ops.Value.{Value}
+use Rattle.tree.specs.declared.ops.Fault.{Fault}
+use Rattle.meaning.specs.ArrayValues.{Array, Elements, in_whole, reshaped}
+use Rattle.meaning.specs.Dialect.{fortran90}
+use Rattle.meaning.specs.Sections.{axes_selected, extents_of, cells_along, not_negative}
+use Rattle.meaning.specs.Store.{Store, cell_at, bounds_of}
+use Rattle.meaning.specs.Value.{value_of, values_of, array_of, subscript_values, selectors, evaluated, is_scalar}
+use Rattle.meaning.specs.Value.{name_is_scalar, are_indices, numbered, under}
+use Rattle.array_values.specs.storage.Stored.{store_in}
+use Rattle.array_values.specs.storage.Parts.{array_along}
 use Rattle.array_expressions.specs.declared.locals.Local.{Local}
 use Rattle.array_expressions.specs.declared.scope.Scope.{Scope}
 use Rattle.array_expressions.specs.Locals.{bound_all}

@@ -1,10 +1,10 @@
 //! The arrays of expressions (ISO/IEC 1539:1991, sections 4.5, 7.1.5 and 13.13).
 ghost use Rattle.std.specs.Prelude.{◌≡◌, map, List, [], IfOk};
-ghost use Rattle.fv_tree.specs.Plain.{expressions};
-ghost use Rattle.fv_tree.specs.View.{expression_of};
-ghost use Rattle.fv_meaning.specs.ArrayValues.{settled, scalar};
-ghost use Rattle.fv_meaning.specs.Dialect.{fortran90};
-ghost use Rattle.fv_meaning.specs.Value.{array_of, arguments_of};
+ghost use Rattle.tree.specs.Plain.{expressions};
+ghost use Rattle.tree.specs.View.{expression_of};
+ghost use Rattle.meaning.specs.ArrayValues.{settled, scalar};
+ghost use Rattle.meaning.specs.Dialect.{fortran90};
+ghost use Rattle.meaning.specs.Value.{array_of, arguments_of};
 ghost use Rattle.array_values.specs.Answers.{Answers};
 ghost use Rattle.array_values.specs.Arrays.{array_in, elements_in, together_all};
 ghost use Rattle.array_values.specs.declared.prepared.Prepared.{Prepared as Prepared'};
@@ -14,8 +14,8 @@ use crate::locals::Local;
 use crate::numbers::{all_numbers, counts, listed, not_negative};
 use crate::scope::Scope;
 use array_values::{Failure, Known, Prepared, check_conform, common_extents};
-use fv_tree::{Expr, Memory, Seq, Value};
 use std::alloc::Global;
+use tree::{Expr, Memory, Seq, Value};
 
 fn settled(alloc: Global, value: Value) -> Result<Prepared, Memory>
     ensures { IfOk result (λ p. elements_in p ≡ settled (scalar value)) }

@@ -1,18 +1,18 @@
 //! The values of array constructors (ISO/IEC 1539:1991, section 4.5).
 ghost use Rattle.std.specs.Prelude.{◌≡◌, ◌++◌, ◌∷◌, [], map, IfOk};
-ghost use Rattle.fv_tree.specs.Operators.{fits};
-ghost use Rattle.fv_tree.specs.Plain.{expressions};
-ghost use Rattle.fv_tree.specs.View.{expression_of, loop_of, loops};
-ghost use Rattle.fv_meaning.specs.Dialect.{fortran90};
-ghost use Rattle.fv_meaning.specs.Value.{for_numbers};
+ghost use Rattle.tree.specs.Operators.{fits};
+ghost use Rattle.tree.specs.Plain.{expressions};
+ghost use Rattle.tree.specs.View.{expression_of, loop_of, loops};
+ghost use Rattle.meaning.specs.Dialect.{fortran90};
+ghost use Rattle.meaning.specs.Value.{for_numbers};
 ghost use Rattle.array_expressions.specs.Appending.{Appends};
 ghost use Rattle.array_expressions.specs.Scopes.{store_at, constructed};
 
 use crate::locals::Local;
 use crate::scope::Scope;
 use array_values::Failure;
-use fv_tree::{Expr, Fault, Memory, Name, Seq, Turn, Value};
 use std::alloc::Global;
+use tree::{Expr, Fault, Memory, Name, Seq, Turn, Value};
 
 // The variables of loops, with one more that is the innermost.
 fn within(alloc: Global, locals: &[Local], name: Name, number: i128) -> Result<Vec<Local>, Memory>

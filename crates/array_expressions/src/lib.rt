@@ -4,12 +4,14 @@
 #![tactic(auto)]
 
 mod arrays;
+pub mod assignments;
 mod constructors;
 mod locals;
 mod numbers;
 mod ranks;
 mod references;
 mod scope;
+pub mod transfers;
 mod values;
 
 pub use locals::{Local, number_of};

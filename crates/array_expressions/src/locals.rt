@@ -1,7 +1,7 @@
 //! The variables of constructors' loops, which have values of their own (ISO/IEC 1539:1991, section 4.5).
 ghost use Rattle.array_expressions.specs.Locals.{Holds};
 
-use fv_tree::Name;
+use tree::Name;
 
 /// The number that the variable of a constructor's loop has now.
 #[derive(Clone, Copy, Debug)]

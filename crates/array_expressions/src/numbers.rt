@@ -1,17 +1,17 @@
 //! What the values of expressions are used for.
 ghost use Rattle.std.specs.Prelude.{◌≡◌, IfOk, List, ℕ, ℤ, map};
-ghost use Rattle.fv_tree.specs.Operators.{call, as_numbers};
-ghost use Rattle.fv_meaning.specs.ArrayValues.{Array};
-ghost use Rattle.fv_meaning.specs.Sections.{not_negative};
-ghost use Rattle.fv_meaning.specs.Value.{selector_of};
+ghost use Rattle.tree.specs.Operators.{call, as_numbers};
+ghost use Rattle.meaning.specs.ArrayValues.{Array};
+ghost use Rattle.meaning.specs.Sections.{not_negative};
+ghost use Rattle.meaning.specs.Value.{selector_of};
 ghost use Rattle.array_values.specs.Answers.{Answers};
 ghost use Rattle.array_values.specs.Arrays.{array_in};
 ghost use Rattle.array_values.specs.Selections.{selector_in};
 ghost use Rattle.array_expressions.specs.Scopes.{listed};
 
 use array_values::{Failure, Known, Selector};
-use fv_tree::{Arguments, Fault, Fun, Memory, Seq, Value};
 use std::alloc::Global;
+use tree::{Arguments, Fault, Fun, Memory, Seq, Value};
 
 /// The function's value at these.
 pub fn call(function: Fun, values: &[Value]) -> Result<Value, Fault>

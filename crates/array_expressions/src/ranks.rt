@@ -1,13 +1,13 @@
 //! Which expressions are scalars, by the bounds of their names.
 ghost use Rattle.std.specs.Prelude.{◌≡◌, map};
-ghost use Rattle.fv_tree.specs.Plain.{expressions, subscripts};
-ghost use Rattle.fv_tree.specs.View.{expression_of, subscript_of};
-ghost use Rattle.fv_meaning.specs.Value.{is_scalar, are_scalar, are_indices, is_index, name_is_scalar, is_bare};
-ghost use Rattle.fv_tree.specs.View.{reference_of};
+ghost use Rattle.tree.specs.Plain.{expressions, subscripts};
+ghost use Rattle.tree.specs.View.{expression_of, subscript_of};
+ghost use Rattle.meaning.specs.Value.{is_scalar, are_scalar, are_indices, is_index, name_is_scalar, is_bare};
+ghost use Rattle.tree.specs.View.{reference_of};
 ghost use Rattle.array_expressions.specs.Scopes.{bounds_at, is_scalar_reference};
 
 use crate::scope::Scope;
-use fv_tree::{Expr, Ref, Seq, Sub};
+use tree::{Expr, Ref, Seq, Sub};
 
 impl Scope<'_> {
     /// Whether an expression is a scalar.

@@ -1,9 +1,9 @@
 //! What references select of arrays (ISO/IEC 1539:1991, section 6.2.2).
 ghost use Rattle.std.specs.Prelude.{map, List};
-ghost use Rattle.fv_tree.specs.Plain.{subscripts};
-ghost use Rattle.fv_tree.specs.View.{subscript_of, reference_of};
-ghost use Rattle.fv_meaning.specs.Dialect.{fortran90};
-ghost use Rattle.fv_meaning.specs.Value.{selector, selectors};
+ghost use Rattle.tree.specs.Plain.{subscripts};
+ghost use Rattle.tree.specs.View.{subscript_of, reference_of};
+ghost use Rattle.meaning.specs.Dialect.{fortran90};
+ghost use Rattle.meaning.specs.Value.{selector, selectors};
 ghost use Rattle.array_values.specs.Answers.{Answers};
 ghost use Rattle.array_values.specs.Arrays.{array_in};
 ghost use Rattle.array_values.specs.Selections.{selector_in};
@@ -14,7 +14,7 @@ use crate::locals::Local;
 use crate::numbers::selector_of;
 use crate::scope::Scope;
 use array_values::{Failure, Known, Selector};
-use fv_tree::{Ref, Seq, Sub};
+use tree::{Ref, Seq, Sub};
 
 impl Scope<'_> {
     /// The array that a reference selects: all of a name, or the part that subscripts tell.

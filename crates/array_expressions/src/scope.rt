@@ -2,14 +2,14 @@
 ghost use Rattle.std.specs.Prelude.{◌≡◌};
 ghost use Rattle.array_values.specs.Answers.{Answers};
 ghost use Rattle.array_values.specs.Arrays.{array_in};
-ghost use Rattle.array_storage.specs.Parts.{whole_array};
+ghost use Rattle.array_values.specs.storage.Parts.{whole_array};
 ghost use Rattle.array_expressions.specs.Scopes.{store_at, held_at};
 
 use crate::locals::{Local, number_of};
-use array_storage::Storage;
+use array_values::storage::Storage;
 use array_values::{Failure, Known};
-use fv_tree::{Fault, Name, Value};
 use std::alloc::Global;
+use tree::{Fault, Name, Value};
 
 /// The values of a program's names.
 #[derive(Clone, Copy)]

@@ -1,11 +1,11 @@
 //! The values of scalar expressions (ISO/IEC 1539:1991, sections 6.2 and 7.1).
 ghost use Rattle.std.specs.Prelude.{map, List, ℤ};
-ghost use Rattle.fv_tree.specs.Operators.{as_number};
-ghost use Rattle.fv_tree.specs.Plain.{expressions, subscripts};
-ghost use Rattle.fv_tree.specs.View.{expression_of, subscript_of};
-ghost use Rattle.fv_tree.specs.declared.ops.Value.{Value as Value'};
-ghost use Rattle.fv_meaning.specs.Dialect.{fortran90};
-ghost use Rattle.fv_meaning.specs.Value.{value_of, values_of, subscript_value, subscript_values};
+ghost use Rattle.tree.specs.Operators.{as_number};
+ghost use Rattle.tree.specs.Plain.{expressions, subscripts};
+ghost use Rattle.tree.specs.View.{expression_of, subscript_of};
+ghost use Rattle.tree.specs.declared.ops.Value.{Value as Value'};
+ghost use Rattle.meaning.specs.Dialect.{fortran90};
+ghost use Rattle.meaning.specs.Value.{value_of, values_of, subscript_value, subscript_values};
 ghost use Rattle.array_values.specs.Answers.{Answers};
 ghost use Rattle.array_expressions.specs.Appending.{Appends};
 ghost use Rattle.array_expressions.specs.Scopes.{store_at, number_at};
@@ -14,7 +14,7 @@ use crate::locals::Local;
 use crate::numbers::call;
 use crate::scope::Scope;
 use array_values::Failure;
-use fv_tree::{Expr, Fault, Seq, Sub, Value};
+use tree::{Expr, Fault, Seq, Sub, Value};
 
 // The value, or its fault.
 fn answer(value: Result<Value, Fault>) -> Result<Value, Failure>

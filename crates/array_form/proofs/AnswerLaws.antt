@@ -5,25 +5,25 @@ use Rattle.std.specs.Prelude.{IfOk, IsTrue}
 use Rattle.std.specs.List.{list_all}
 use Rattle.std.proofs.lemmas.Bool.Decides.{Decides-eqb}
 use Rattle.std.proofs.lemmas.List.Elements.{All-append}
-use Rattle.fv_tree.specs.Plain.{Assignment, Expression, Named, Only, Reference, Subscript, subscripts}
-use Rattle.fv_tree.specs.View.{expression_of, reference_of, statement_of, subscript_of}
-use Rattle.fv_tree.specs.declared.exprs.Expr.{Expr}
-use Rattle.fv_tree.specs.declared.exprs.Expr.TheVariants as exprs
-use Rattle.fv_tree.specs.declared.exprs.Ref.{Ref, out-Ref, roll-Ref}
-use Rattle.fv_tree.specs.declared.exprs.Sub.{Sub}
-use Rattle.fv_tree.specs.declared.exprs.Sub.TheVariants as subs
-use Rattle.fv_tree.specs.declared.lists.Memory.{Memory}
-use Rattle.fv_tree.specs.declared.lists.Seq.{Seq}
-use Rattle.fv_tree.specs.declared.stmts.Mark.{Mark}
-use Rattle.fv_tree.specs.declared.stmts.Stmt.TheVariants as stmts
-use Rattle.fv_tree.proofs.Equations.{expression_of-item, reference_of-is, reference_of-made, statement_of-assign, subscript_of-one}
-use Rattle.fv_meaning.specs.Reads.{names_in, names_in_subscript}
-use Rattle.array_forms.specs.Forms.{constructed, form, placed, subscript_form, subscript_forms}
-use Rattle.array_forms.specs.Loops as forms
-use Rattle.array_forms.specs.Statements.{left_form, loops_from, right_form}
-use Rattle.sections.specs.Surroundings.{surroundings_view}
-use Rattle.sections.specs.declared.loops.Counted.{Counted}
-use Rattle.sections.specs.declared.loops.Surroundings.{Surroundings}
+use Rattle.tree.specs.Plain.{Assignment, Expression, Named, Only, Reference, Subscript, subscripts}
+use Rattle.tree.specs.View.{expression_of, reference_of, statement_of, subscript_of}
+use Rattle.tree.specs.declared.exprs.Expr.{Expr}
+use Rattle.tree.specs.declared.exprs.Expr.TheVariants as exprs
+use Rattle.tree.specs.declared.exprs.Ref.{Ref, out-Ref, roll-Ref}
+use Rattle.tree.specs.declared.exprs.Sub.{Sub}
+use Rattle.tree.specs.declared.exprs.Sub.TheVariants as subs
+use Rattle.tree.specs.declared.lists.Memory.{Memory}
+use Rattle.tree.specs.declared.lists.Seq.{Seq}
+use Rattle.tree.specs.declared.stmts.Mark.{Mark}
+use Rattle.tree.specs.declared.stmts.Stmt.TheVariants as stmts
+use Rattle.tree.proofs.Equations.{expression_of-item, reference_of-is, reference_of-made, statement_of-assign, subscript_of-one}
+use Rattle.meaning.specs.Reads.{names_in, names_in_subscript}
+use Rattle.array_form.specs.forms.Forms.{constructed, form, placed, subscript_form, subscript_forms}
+use Rattle.array_form.specs.forms.Loops as forms
+use Rattle.array_form.specs.forms.Statements.{left_form, loops_from, right_form}
+use Rattle.array_form.specs.holds.Surroundings.{surroundings_view}
+use Rattle.array_form.specs.declared.holds.loops.Counted.{Counted}
+use Rattle.array_form.specs.declared.holds.loops.Surroundings.{Surroundings}
 use Rattle.array_form.specs.Loops.{AreLoopsOf, IsLoopOf, has_one, in_order, standing_in, viewed}
 use Rattle.array_form.specs.Subscripts.{form_of_subscript, item_form, section_or, variable_form}
 use Rattle.array_form.proofs.FormLaws.{each_subscript, form-item, form_of-one, item_bare, item_element, item_variable}

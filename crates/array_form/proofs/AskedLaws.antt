@@ -3,21 +3,21 @@ use Rattle.std.proofs.Common.{◌≡◌, ℕ, ◌+◌, ◌-◌, ◌<◌, ◌≤�
 use Rattle.std.specs.Prelude.{All, IfOk}
 use Rattle.std.proofs.lemmas.List.{length-map}
 use Rattle.subscripts.specs.Shapes.{IsForm}
-use Rattle.fv_tree.specs.View.{block_of, expression_of, reference_of}
-use Rattle.fv_tree.specs.declared.lists.Memory.{Memory}
-use Rattle.fv_tree.specs.declared.stmts.Block.{Block}
-use Rattle.fv_tree.specs.declared.stmts.Mark.{Mark}
-use Rattle.nest_tree.specs.Bodies as bodies
-use Rattle.nest_tree.specs.Plain.{Loop, Nest}
-use Rattle.nest_tree.specs.View.{loop_of}
-use Rattle.array_forms.specs.Loops as forms
-use Rattle.array_forms.specs.Statements.{array_form_of}
-use Rattle.sections.specs.Statements.{statement_at}
-use Rattle.sections.specs.Surroundings.{counted, known_trip, surroundings_of, surroundings_view}
-use Rattle.sections.specs.declared.loops.Surroundings.{Surroundings}
-use Rattle.sections.proofs.Asked.{as_many, standing_at}
-use Rattle.statement_loops.specs.Standings.{standing_of}
-use Rattle.statement_loops.specs.declared.standings.Standing.{Standing}
+use Rattle.tree.specs.View.{block_of, expression_of, reference_of}
+use Rattle.tree.specs.declared.lists.Memory.{Memory}
+use Rattle.tree.specs.declared.stmts.Block.{Block}
+use Rattle.tree.specs.declared.stmts.Mark.{Mark}
+use Rattle.nest.specs.Bodies as bodies
+use Rattle.nest.specs.Plain.{Loop, Nest}
+use Rattle.nest.specs.View.{loop_of}
+use Rattle.array_form.specs.forms.Loops as forms
+use Rattle.array_form.specs.forms.Statements.{array_form_of}
+use Rattle.array_form.specs.holds.Statements.{statement_at}
+use Rattle.array_form.specs.holds.Surroundings.{counted, known_trip, surroundings_of, surroundings_view}
+use Rattle.array_form.specs.declared.holds.loops.Surroundings.{Surroundings}
+use Rattle.array_form.proofs.holds.Asked.{as_many, standing_at}
+use Rattle.nest.specs.statement_loops.Standings.{standing_of}
+use Rattle.nest.specs.declared.statement_loops.standings.Standing.{Standing}
 use Rattle.array_form.specs.Loops.{AreLoopsOf, HasPlaces}
 use Rattle.array_form.specs.Statement.{HasArrayForm, array_form_at}
 use Rattle.array_form.proofs.SurroundingLaws.{has_places, own_loops}

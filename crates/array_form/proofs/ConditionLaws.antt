@@ -3,16 +3,16 @@ use Rattle.std.proofs.Common.{◌≡◌, Bool, true, false, cond, List, ◌∷�
 use Rattle.std.proofs.Common.{Result, Ok, Err}
 use Rattle.std.specs.Prelude.{IfOk}
 use Rattle.std.specs.Option.{option_map}
-use Rattle.fv_tree.specs.Plain.{Binary, Expression, Number}
-use Rattle.fv_tree.specs.View.{expression_of}
-use Rattle.fv_tree.specs.declared.exprs.Expr.{Expr}
-use Rattle.fv_tree.specs.declared.lists.Memory.{Memory}
-use Rattle.fv_tree.specs.declared.ops.Op.TheVariants.{Ge}
-use Rattle.array_forms.specs.Loops as forms
-use Rattle.array_forms.specs.Statements.{tests_of}
-use Rattle.sections.specs.Surroundings.{surroundings_view, trip_of}
-use Rattle.sections.specs.declared.loops.Counted.{Counted}
-use Rattle.sections.specs.declared.loops.Surroundings.{Surroundings}
+use Rattle.tree.specs.Plain.{Binary, Expression, Number}
+use Rattle.tree.specs.View.{expression_of}
+use Rattle.tree.specs.declared.exprs.Expr.{Expr}
+use Rattle.tree.specs.declared.lists.Memory.{Memory}
+use Rattle.tree.specs.declared.ops.Op.TheVariants.{Ge}
+use Rattle.array_form.specs.forms.Loops as forms
+use Rattle.array_form.specs.forms.Statements.{tests_of}
+use Rattle.array_form.specs.holds.Surroundings.{surroundings_view, trip_of}
+use Rattle.array_form.specs.declared.holds.loops.Counted.{Counted}
+use Rattle.array_form.specs.declared.holds.loops.Surroundings.{Surroundings}
 use Rattle.array_form.specs.Loops.{viewed}
 use Rattle.array_form.specs.Texts.{and_also, extent_over, with_tests}
 

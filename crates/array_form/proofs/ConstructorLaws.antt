@@ -3,18 +3,18 @@ use Rattle.std.proofs.Common.{◌≡◌, pos, List, [], ◌∷◌, map, length, 
 use mathlib.Core.Path.{ap₂}
 use Rattle.std.specs.declared.boxed.Box.{Box}
 use Rattle.std.specs.declared.alloc.Global.{Global}
-use Rattle.fv_tree.specs.Plain.{Expression, Constructor, Reshape, expression, expressions, no_expressions, loop, Number}
-use Rattle.fv_tree.specs.View.{expression_of, loop_of, loops}
-use Rattle.fv_tree.specs.declared.exprs.Expr.{Expr}
-use Rattle.fv_tree.specs.declared.exprs.Turn.{Turn}
-use Rattle.fv_tree.specs.declared.exprs.Expr.TheVariants as exprs
-use Rattle.fv_tree.specs.declared.lists.Seq.{Seq}
-use Rattle.fv_tree.proofs.Equations.{expression_of-list, expression_of-reshape}
-use Rattle.array_forms.specs.Forms.{constructed, loops_over, shaped, trip_text}
-use Rattle.array_forms.specs.Loops as forms
-use Rattle.sections.specs.Surroundings.{surroundings_view}
-use Rattle.sections.specs.declared.loops.Counted.{Counted}
-use Rattle.sections.specs.declared.loops.Surroundings.{Surroundings}
+use Rattle.tree.specs.Plain.{Expression, Constructor, Reshape, expression, expressions, no_expressions, loop, Number}
+use Rattle.tree.specs.View.{expression_of, loop_of, loops}
+use Rattle.tree.specs.declared.exprs.Expr.{Expr}
+use Rattle.tree.specs.declared.exprs.Turn.{Turn}
+use Rattle.tree.specs.declared.exprs.Expr.TheVariants as exprs
+use Rattle.tree.specs.declared.lists.Seq.{Seq}
+use Rattle.tree.proofs.Equations.{expression_of-list, expression_of-reshape}
+use Rattle.array_form.specs.forms.Forms.{constructed, loops_over, shaped, trip_text}
+use Rattle.array_form.specs.forms.Loops as forms
+use Rattle.array_form.specs.holds.Surroundings.{surroundings_view}
+use Rattle.array_form.specs.declared.holds.loops.Counted.{Counted}
+use Rattle.array_form.specs.declared.holds.loops.Surroundings.{Surroundings}
 use Rattle.array_form.specs.Loops.{viewed}
 use Rattle.array_form.specs.Texts.{extent_over, turn_over}
 

@@ -2,22 +2,22 @@
 use Rattle.std.proofs.Common.{◌≡◌, ℕ, ℤ, Bool, cond, List, [], ◌∷◌, map, refl, sym, ap, ◌∙◌}
 use Rattle.std.specs.declared.boxed.Box.{Box}
 use Rattle.std.specs.declared.alloc.Global.{Global}
-use Rattle.fv_tree.specs.Plain.{Apply, Binary, Expression, Named, Only, Reference, Section, Subscript, Unary, expression, expressions, no_subscripts, subscript, subscripts}
-use Rattle.fv_tree.specs.View.{expression_of, reference_of, subscript_of}
-use Rattle.fv_tree.specs.declared.ops.Op.{Op}
-use Rattle.fv_tree.specs.declared.functions.Fun.{Fun}
-use Rattle.fv_tree.specs.declared.functions.Red.{Red}
-use Rattle.fv_tree.specs.declared.lists.Seq.{Seq}
-use Rattle.fv_tree.specs.declared.exprs.Expr.{Expr}
-use Rattle.fv_tree.specs.declared.exprs.Expr.TheVariants as exprs
-use Rattle.fv_tree.specs.declared.exprs.Ref.{Ref, out-Ref}
-use Rattle.fv_tree.specs.declared.exprs.Sub.{Sub}
-use Rattle.fv_tree.specs.declared.exprs.Sub.TheVariants as subs
-use Rattle.fv_tree.specs.declared.exprs.Turn.{Turn}
-use Rattle.fv_tree.proofs.Equations.{expression_of-int, expression_of-truth, expression_of-item, expression_of-un, expression_of-bin, expression_of-call, expression_of-list, expression_of-spread, expression_of-transpose, expression_of-reshape, expression_of-reduce, reference_of-is, subscript_of-one, subscript_of-part}
-use Rattle.fv_meaning.specs.Reads.{names_in}
-use Rattle.array_forms.specs.Forms.{constructed, form, forms, placed, subscript_form, subscript_forms}
-use Rattle.array_forms.specs.Loops as loops
+use Rattle.tree.specs.Plain.{Apply, Binary, Expression, Named, Only, Reference, Section, Subscript, Unary, expression, expressions, no_subscripts, subscript, subscripts}
+use Rattle.tree.specs.View.{expression_of, reference_of, subscript_of}
+use Rattle.tree.specs.declared.ops.Op.{Op}
+use Rattle.tree.specs.declared.functions.Fun.{Fun}
+use Rattle.tree.specs.declared.functions.Red.{Red}
+use Rattle.tree.specs.declared.lists.Seq.{Seq}
+use Rattle.tree.specs.declared.exprs.Expr.{Expr}
+use Rattle.tree.specs.declared.exprs.Expr.TheVariants as exprs
+use Rattle.tree.specs.declared.exprs.Ref.{Ref, out-Ref}
+use Rattle.tree.specs.declared.exprs.Sub.{Sub}
+use Rattle.tree.specs.declared.exprs.Sub.TheVariants as subs
+use Rattle.tree.specs.declared.exprs.Turn.{Turn}
+use Rattle.tree.proofs.Equations.{expression_of-int, expression_of-truth, expression_of-item, expression_of-un, expression_of-bin, expression_of-call, expression_of-list, expression_of-spread, expression_of-transpose, expression_of-reshape, expression_of-reduce, reference_of-is, subscript_of-one, subscript_of-part}
+use Rattle.meaning.specs.Reads.{names_in}
+use Rattle.array_form.specs.forms.Forms.{constructed, form, forms, placed, subscript_form, subscript_forms}
+use Rattle.array_form.specs.forms.Loops as loops
 use Rattle.array_form.specs.Subscripts.{form_of_subscript, item_form, variable_form}
 
 -- ---- expressions

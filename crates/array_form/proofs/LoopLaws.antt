@@ -8,14 +8,14 @@ use Rattle.std.specs.Str.{bytes_eq}
 use Rattle.std.proofs.lemmas.Bool.{leb-true}
 use Rattle.std.proofs.lemmas.List.{length-map, map-append}
 use Rattle.std.proofs.lemmas.List.Elements.{All-filter, filter_more}
-use Rattle.fv_tree.specs.Plain.{Subscript, subscripts}
-use Rattle.fv_meaning.specs.Reads.{names_in_subscript}
-use Rattle.array_forms.specs.Loops as forms
-use Rattle.sections.specs.Surroundings.{counted_of, loop_names}
-use Rattle.sections.specs.declared.loops.Counted.{Counted}
-use Rattle.sections.specs.declared.loops.Surroundings.{Surroundings}
-use Rattle.sections.proofs.AmongLaws.{among-is}
-use Rattle.sections.proofs.TripLaws.{names_viewed}
+use Rattle.tree.specs.Plain.{Subscript, subscripts}
+use Rattle.meaning.specs.Reads.{names_in_subscript}
+use Rattle.array_form.specs.forms.Loops as forms
+use Rattle.array_form.specs.holds.Surroundings.{counted_of, loop_names}
+use Rattle.array_form.specs.declared.holds.loops.Counted.{Counted}
+use Rattle.array_form.specs.declared.holds.loops.Surroundings.{Surroundings}
+use Rattle.array_form.proofs.holds.AmongLaws.{among-is}
+use Rattle.array_form.proofs.holds.TripLaws.{names_viewed}
 use Rattle.array_form.specs.Loops.{AreLoopsOf, IsLoopOf, has_one, has_parts, in_order, is_exchanged, standing_in}
 
 -- ---- one loop more

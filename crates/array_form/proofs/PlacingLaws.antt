@@ -5,19 +5,19 @@ use Rattle.std.specs.Cmp.Lexicographic.{pointwise}
 use Rattle.std.specs.Str.{bytes_eq}
 use Rattle.std.proofs.Common.{Result, Ok, Err}
 use Rattle.std.specs.Prelude.{IfOk}
-use Rattle.fv_tree.specs.Plain.{Expression, Named, Reference, Spread, Transpose}
-use Rattle.fv_tree.specs.View.{expression_of, reference_of}
-use Rattle.fv_tree.specs.declared.exprs.Expr.TheVariants as exprs
-use Rattle.fv_tree.specs.declared.exprs.Ref.{Ref}
-use Rattle.fv_tree.proofs.Equations.{expression_of-item}
-use Rattle.fv_tree.specs.declared.exprs.Expr.{Expr}
-use Rattle.fv_tree.specs.declared.lists.Memory.{Memory}
-use Rattle.array_forms.specs.Forms.{constructed, placed, spread_over}
-use Rattle.array_forms.specs.Loops as forms
-use Rattle.sections.specs.Surroundings.{loop_names, surroundings_view}
-use Rattle.sections.specs.declared.loops.Counted.{Counted}
-use Rattle.sections.specs.declared.loops.Surroundings.{Surroundings}
-use Rattle.sections.proofs.TripLaws.{names_viewed}
+use Rattle.tree.specs.Plain.{Expression, Named, Reference, Spread, Transpose}
+use Rattle.tree.specs.View.{expression_of, reference_of}
+use Rattle.tree.specs.declared.exprs.Expr.TheVariants as exprs
+use Rattle.tree.specs.declared.exprs.Ref.{Ref}
+use Rattle.tree.proofs.Equations.{expression_of-item}
+use Rattle.tree.specs.declared.exprs.Expr.{Expr}
+use Rattle.tree.specs.declared.lists.Memory.{Memory}
+use Rattle.array_form.specs.forms.Forms.{constructed, placed, spread_over}
+use Rattle.array_form.specs.forms.Loops as forms
+use Rattle.array_form.specs.holds.Surroundings.{loop_names, surroundings_view}
+use Rattle.array_form.specs.declared.holds.loops.Counted.{Counted}
+use Rattle.array_form.specs.declared.holds.loops.Surroundings.{Surroundings}
+use Rattle.array_form.proofs.holds.TripLaws.{names_viewed}
 use Rattle.array_form.specs.Loops.{has_parts, is_exchanged, viewed}
 use Rattle.array_form.specs.Texts.{extent_over}
 use Rattle.array_form.proofs.LoopLaws.{exchange_viewed, part_viewed, same_viewed}

@@ -8,23 +8,23 @@ use Rattle.std.proofs.lemmas.Bool.Decides.{Decides-eqb}
 use Rattle.std.proofs.lemmas.Int.{ints}
 use Rattle.subscripts.specs.Shapes.{IsForm}
 use Rattle.subscripts.specs.declared.affine.Affine.{Affine}
-use Rattle.fv_tree.specs.Plain.{Binary, Expression}
-use Rattle.fv_tree.specs.View.{expression_of}
-use Rattle.fv_tree.specs.declared.exprs.Expr.{Expr}
-use Rattle.fv_tree.specs.declared.lists.Memory.{Memory}
-use Rattle.fv_tree.specs.declared.ops.Op.TheVariants.{Add}
+use Rattle.tree.specs.Plain.{Binary, Expression}
+use Rattle.tree.specs.View.{expression_of}
+use Rattle.tree.specs.declared.exprs.Expr.{Expr}
+use Rattle.tree.specs.declared.lists.Memory.{Memory}
+use Rattle.tree.specs.declared.ops.Op.TheVariants.{Add}
 use Rattle.linear_forms.specs.Expressed.{expressed, variables}
 use Rattle.linear_forms.specs.Linear.{Form, added, constant_form, is_limited, limited, multiple, sum}
 use Rattle.linear_forms.specs.Places.{IsAffineOf, IsFound, unit_form}
 use Rattle.linear_forms.specs.Texts.{text_of}
 use Rattle.linear_forms.proofs.AffineTexts.{affine_has_text}
 use Rattle.linear_forms.proofs.Units.{symbol_found, unit_limited}
-use Rattle.array_forms.specs.Forms.{sum_text, trip_form}
-use Rattle.array_forms.specs.Loops as forms
-use Rattle.nest_tree.specs.declared.parts.Trip.{Trip}
-use Rattle.sections.specs.Surroundings.{form_of_affine, loop_names, surroundings_view, trip_of}
-use Rattle.sections.specs.declared.loops.Surroundings.{Surroundings}
-use Rattle.sections.proofs.TripLaws.{names_counted}
+use Rattle.array_form.specs.forms.Forms.{sum_text, trip_form}
+use Rattle.array_form.specs.forms.Loops as forms
+use Rattle.nest.specs.declared.parts.Trip.{Trip}
+use Rattle.array_form.specs.holds.Surroundings.{form_of_affine, loop_names, surroundings_view, trip_of}
+use Rattle.array_form.specs.declared.holds.loops.Surroundings.{Surroundings}
+use Rattle.array_form.proofs.holds.TripLaws.{names_counted}
 use Rattle.array_form.proofs.AffineLaws.{affine_of_form}
 use Rattle.array_form.proofs.TextLaws.{names_are}
 

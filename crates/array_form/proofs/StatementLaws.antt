@@ -2,28 +2,28 @@
 use Rattle.std.proofs.Common.{◌≡◌, ℕ, ◌+◌, ◌-◌, List, [], ◌∷◌, map, drop, length, Option, Some, None, refl, sym, ap, ◌∙◌, arith}
 use mathlib.Core.Path.{ap₂}
 use Rattle.std.proofs.lemmas.List.{drop-map}
-use Rattle.fv_tree.specs.Plain.{Assignment, Block, Expression, If, Reference, Statement, arm, no_arms, no_statements, statement, subscripts}
-use Rattle.fv_tree.specs.Plain.{block}
-use Rattle.fv_tree.specs.View.{block_of, statement_of}
-use Rattle.fv_tree.specs.declared.lists.Seq.{Seq}
+use Rattle.tree.specs.Plain.{Assignment, Block, Expression, If, Reference, Statement, arm, no_arms, no_statements, statement, subscripts}
+use Rattle.tree.specs.Plain.{block}
+use Rattle.tree.specs.View.{block_of, statement_of}
+use Rattle.tree.specs.declared.lists.Seq.{Seq}
 use Rattle.std.proofs.Common.{Result, Ok, Err}
 use Rattle.std.specs.Prelude.{IfOk}
 use Rattle.std.specs.Option.{option_map}
-use Rattle.fv_tree.specs.View.{Tested, arms, expression_of, tested_of}
-use Rattle.fv_tree.specs.declared.exprs.Expr.{Expr}
-use Rattle.fv_tree.specs.declared.lists.Memory.{Memory}
-use Rattle.fv_tree.specs.declared.stmts.Arm.{Arm, roll-Arm}
-use Rattle.fv_tree.specs.declared.stmts.Block.{Block as Block', roll-Block}
-use Rattle.fv_tree.specs.declared.stmts.Stmt.TheVariants as stmts
-use Rattle.fv_tree.proofs.Equations.{statement_of-if, tested_of-made}
-use Rattle.fv_tree.specs.declared.stmts.Stmt.{Stmt}
-use Rattle.fv_tree.proofs.Equations.{block_of-made}
-use Rattle.fv_tree.specs.declared.stmts.Mark.{Mark}
-use Rattle.array_forms.specs.Loops as forms
-use Rattle.array_forms.specs.Statements.{and_all, array_form_of, guarded_by, left_form, loops_from, right_form, tests_of}
-use Rattle.sections.specs.Surroundings.{counted_of, surroundings_view}
-use Rattle.sections.specs.declared.loops.Counted.{Counted}
-use Rattle.sections.specs.declared.loops.Surroundings.{Surroundings}
+use Rattle.tree.specs.View.{Tested, arms, expression_of, tested_of}
+use Rattle.tree.specs.declared.exprs.Expr.{Expr}
+use Rattle.tree.specs.declared.lists.Memory.{Memory}
+use Rattle.tree.specs.declared.stmts.Arm.{Arm, roll-Arm}
+use Rattle.tree.specs.declared.stmts.Block.{Block as Block', roll-Block}
+use Rattle.tree.specs.declared.stmts.Stmt.TheVariants as stmts
+use Rattle.tree.proofs.Equations.{statement_of-if, tested_of-made}
+use Rattle.tree.specs.declared.stmts.Stmt.{Stmt}
+use Rattle.tree.proofs.Equations.{block_of-made}
+use Rattle.tree.specs.declared.stmts.Mark.{Mark}
+use Rattle.array_form.specs.forms.Loops as forms
+use Rattle.array_form.specs.forms.Statements.{and_all, array_form_of, guarded_by, left_form, loops_from, right_form, tests_of}
+use Rattle.array_form.specs.holds.Surroundings.{counted_of, surroundings_view}
+use Rattle.array_form.specs.declared.holds.loops.Counted.{Counted}
+use Rattle.array_form.specs.declared.holds.loops.Surroundings.{Surroundings}
 use Rattle.array_form.specs.Loops.{viewed}
 use Rattle.array_form.specs.Statement.{block_of_one, under_condition}
 use Rattle.array_form.specs.Texts.{with_tests}
@@ -43,7 +43,7 @@ if_ok line test body given none condition (Err m) c g n h = h
 
 all_joined : (e : Expression) (es : List Expression) → with_tests (Some e) es ≡ Some (and_all e es)
 all_joined e [] = refl
-all_joined e (f ∷ es) = all_joined (Rattle.fv_tree.specs.Plain.Binary Rattle.fv_tree.specs.declared.ops.Op.TheVariants.And e f) es
+all_joined e (f ∷ es) = all_joined (Rattle.tree.specs.Plain.Binary Rattle.tree.specs.declared.ops.Op.TheVariants.And e f) es
 
 guarded_is : (line : ℕ) (es : List Expression) (body : Block) → guarded_by line es body ≡ under_condition line (with_tests None es) body
 guarded_is line [] body = refl

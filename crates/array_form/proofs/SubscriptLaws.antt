@@ -6,21 +6,21 @@ use Rattle.std.proofs.lemmas.List.{length-map}
 use Rattle.std.specs.List.{position_or_len}
 use Rattle.std.specs.Str.{bytes_eq}
 use Rattle.subscripts.specs.declared.affine.Affine.{Affine}
-use Rattle.fv_tree.specs.Plain.{Expression, Only, Section, Subscript}
-use Rattle.fv_tree.specs.View.{expression_of, subscript_of}
-use Rattle.fv_tree.specs.declared.exprs.Expr.{Expr}
-use Rattle.fv_tree.specs.declared.exprs.Sub.TheVariants as subs
-use Rattle.fv_tree.specs.declared.lists.Memory.{Memory}
-use Rattle.fv_tree.proofs.Equations.{subscript_of-one, subscript_of-part}
+use Rattle.tree.specs.Plain.{Expression, Only, Section, Subscript}
+use Rattle.tree.specs.View.{expression_of, subscript_of}
+use Rattle.tree.specs.declared.exprs.Expr.{Expr}
+use Rattle.tree.specs.declared.exprs.Sub.TheVariants as subs
+use Rattle.tree.specs.declared.lists.Memory.{Memory}
+use Rattle.tree.proofs.Equations.{subscript_of-one, subscript_of-part}
 use Rattle.linear_forms.specs.Expressed.{variables}
 use Rattle.linear_forms.specs.Linear.{Form, constant_form, form_of, multiple}
 use Rattle.linear_forms.specs.Places.{IsAffineOf, IsFound}
-use Rattle.array_forms.specs.Forms.{number_text, section, section_from, subscript_form, subscript_with, sum_text, trip_form}
-use Rattle.array_forms.specs.Loops as forms
-use Rattle.sections.specs.Surroundings.{counted_of, loop_names, surroundings_view, trip_of}
-use Rattle.sections.specs.declared.loops.Counted.{Counted}
-use Rattle.sections.specs.declared.loops.Surroundings.{Surroundings}
-use Rattle.sections.proofs.TripLaws.{names_counted, names_viewed}
+use Rattle.array_form.specs.forms.Forms.{number_text, section, section_from, subscript_form, subscript_with, sum_text, trip_form}
+use Rattle.array_form.specs.forms.Loops as forms
+use Rattle.array_form.specs.holds.Surroundings.{counted_of, loop_names, surroundings_view, trip_of}
+use Rattle.array_form.specs.declared.holds.loops.Counted.{Counted}
+use Rattle.array_form.specs.declared.holds.loops.Surroundings.{Surroundings}
+use Rattle.array_form.proofs.holds.TripLaws.{names_counted, names_viewed}
 use Rattle.array_form.specs.Loops.{IsLoopOf, viewed}
 use Rattle.array_form.specs.Texts.{lower_of, text_of_trip, upper_of}
 use Rattle.array_form.proofs.SectionLaws.{coefficient_is, place_within, without_affine}
@@ -105,7 +105,7 @@ module _ (a : Surroundings) where
   lower_ok l times first trip trips r (Err m) t u f is = is
 
   pub upper_ok : (l : Counted) (times : ℤ) (first trip : Expr) (trips : List Expr) (r : Form) (o : Result Expr Memory) → trips ≡ trip ∷ [] → expression_of trip ≡ text_of_trip a l.trip
-      → expression_of first ≡ Rattle.fv_tree.specs.Plain.Binary Rattle.fv_tree.specs.declared.ops.Op.TheVariants.Mul (number_text times) (text_of_trip a l.trip)
+      → expression_of first ≡ Rattle.tree.specs.Plain.Binary Rattle.tree.specs.declared.ops.Op.TheVariants.Mul (number_text times) (text_of_trip a l.trip)
       → IfOk o (λ e. expression_of e ≡ sum_text (length a.loops) (variables (forms.names_of (surroundings_view a)) ++ map expression_of trips) (expression_of first)
       (multiple times (trip_form (forms.names_of (surroundings_view a)) (trip_of (length a.loops) l.trip))) r)
       → IfOk o (λ e. expression_of e ≡ upper_of a l times r)

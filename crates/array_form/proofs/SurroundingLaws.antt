@@ -3,12 +3,12 @@ use Rattle.std.proofs.Common.{◌≡◌, ℕ, ◌≤◌, ◌<◌, ◌^◌, List,
 use Rattle.std.specs.Prelude.{All}
 use Rattle.std.proofs.lemmas.List.{length-map, get_or-map}
 use Rattle.subscripts.specs.Shapes.{IsForm}
-use Rattle.array_forms.specs.Loops as forms
-use Rattle.nest_tree.specs.Plain.{Loop, Nest}
-use Rattle.sections.specs.Surroundings.{counted, known_trip, surroundings_of, surroundings_view}
-use Rattle.sections.specs.declared.loops.Counted.{Counted}
-use Rattle.sections.specs.declared.loops.Surroundings.{Surroundings}
-use Rattle.sections.proofs.TripLaws.{among_at}
+use Rattle.array_form.specs.forms.Loops as forms
+use Rattle.nest.specs.Plain.{Loop, Nest}
+use Rattle.array_form.specs.holds.Surroundings.{counted, known_trip, surroundings_of, surroundings_view}
+use Rattle.array_form.specs.declared.holds.loops.Counted.{Counted}
+use Rattle.array_form.specs.declared.holds.loops.Surroundings.{Surroundings}
+use Rattle.array_form.proofs.holds.TripLaws.{among_at}
 use Rattle.array_form.specs.Loops.{AreLoopsOf, HasPlaces}
 
 -- its loops are loops of it, where their trips are forms

@@ -7,23 +7,23 @@ use Rattle.std.specs.Ordering.{int_eq}
 use Rattle.std.proofs.lemmas.Bool.Decides.{Decides-eqb, Decides-int_eq}
 use Rattle.subscripts.specs.Shapes.{IsForm}
 use Rattle.subscripts.specs.declared.affine.Affine.{Affine}
-use Rattle.fv_tree.specs.Plain.{Expression}
-use Rattle.fv_tree.specs.View.{expression_of}
-use Rattle.fv_tree.specs.declared.exprs.Expr.{Expr}
-use Rattle.fv_tree.specs.declared.lists.Memory.{Memory}
+use Rattle.tree.specs.Plain.{Expression}
+use Rattle.tree.specs.View.{expression_of}
+use Rattle.tree.specs.declared.exprs.Expr.{Expr}
+use Rattle.tree.specs.declared.lists.Memory.{Memory}
 use Rattle.std.proofs.lemmas.List.Folds.{list_all-append}
 use Rattle.linear_forms.specs.Expressed.{expressed, variables}
 use Rattle.linear_forms.specs.Linear.{not_zero}
 use Rattle.linear_forms.specs.Texts.{text_of}
 use Rattle.linear_forms.proofs.AffineTexts.{affine_has_text}
 use Rattle.linear_forms.proofs.TextLaws.{constant_alone, constant_negative}
-use Rattle.fv_tree.proofs.Equations.{expression_of-un}
-use Rattle.array_forms.specs.Forms.{divided_text}
-use Rattle.array_forms.specs.Loops as forms
-use Rattle.nest_tree.specs.declared.parts.Trip.{Trip}
-use Rattle.sections.specs.Surroundings.{coefficients_from, form_of_affine, loop_names, surroundings_view}
-use Rattle.sections.specs.declared.loops.Surroundings.{Surroundings}
-use Rattle.sections.proofs.TripLaws.{names_counted, names_viewed}
+use Rattle.tree.proofs.Equations.{expression_of-un}
+use Rattle.array_form.specs.forms.Forms.{divided_text}
+use Rattle.array_form.specs.forms.Loops as forms
+use Rattle.nest.specs.declared.parts.Trip.{Trip}
+use Rattle.array_form.specs.holds.Surroundings.{coefficients_from, form_of_affine, loop_names, surroundings_view}
+use Rattle.array_form.specs.declared.holds.loops.Surroundings.{Surroundings}
+use Rattle.array_form.proofs.holds.TripLaws.{names_counted, names_viewed}
 use Rattle.array_form.specs.Texts.{text_of_trip}
 use Rattle.array_form.proofs.AffineLaws.{affine_of_form}
 

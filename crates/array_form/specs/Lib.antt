@@ -1,4 +1,8 @@
 pub mod Loops
-pub mod Texts
-pub mod Subscripts
 pub mod Statement
+pub mod Subscripts
+pub mod Texts
+pub mod forms
+pub mod holds
+pub mod lone
+pub mod profile

@@ -4,12 +4,12 @@ use Rattle.std.specs.List.{flat_map}
 use Rattle.std.specs.Cmp.Lexicographic.{pointwise}
 use Rattle.std.specs.Str.{bytes_eq}
 use Rattle.subscripts.specs.Shapes.{IsForm}
-use Rattle.fv_tree.specs.Plain.{Subscript}
-use Rattle.fv_meaning.specs.Reads.{names_in_subscript}
-use Rattle.array_forms.specs.Loops as forms
-use Rattle.sections.specs.Surroundings.{counted_of, loop_names}
-use Rattle.sections.specs.declared.loops.Counted.{Counted}
-use Rattle.sections.specs.declared.loops.Surroundings.{Surroundings}
+use Rattle.tree.specs.Plain.{Subscript}
+use Rattle.meaning.specs.Reads.{names_in_subscript}
+use Rattle.array_form.specs.forms.Loops as forms
+use Rattle.array_form.specs.holds.Surroundings.{counted_of, loop_names}
+use Rattle.array_form.specs.declared.holds.loops.Counted.{Counted}
+use Rattle.array_form.specs.declared.holds.loops.Surroundings.{Surroundings}
 
 -- forms have places for seven loops, and places of 16 bits for the symbols and for a divided trip behind them
 pub record HasPlaces (a : Surroundings) : Type 0 where

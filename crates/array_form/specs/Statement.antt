@@ -1,11 +1,11 @@
 -- The array form of a statement of a nest.
 use Rattle.std.specs.Prelude.{ℕ, ◌≤◌, ◌<◌, ◌^◌, All, Option, Some, None, length}
-use Rattle.fv_tree.specs.Plain.{Expression, Statement, If, no_arms, arm, Block, no_statements, statement}
+use Rattle.tree.specs.Plain.{Expression, Statement, If, no_arms, arm, Block, no_statements, statement}
 use Rattle.subscripts.specs.Shapes.{IsForm}
-use Rattle.nest_tree.specs.Plain.{Nest}
-use Rattle.array_forms.specs.Statements.{array_form_of}
-use Rattle.sections.specs.Statements.{IsPlainStatement, statement_at, surroundings_at}
-use Rattle.sections.specs.Surroundings.{known_trip}
+use Rattle.nest.specs.Plain.{Nest}
+use Rattle.array_form.specs.forms.Statements.{array_form_of}
+use Rattle.array_form.specs.holds.Statements.{IsPlainStatement, statement_at, surroundings_at}
+use Rattle.array_form.specs.holds.Surroundings.{known_trip}
 
 -- There is a statement with this number, in at most 7 loops and without a guard, of which the level is one; its trips
 -- are forms under its loops, and the symbols have places of 16 bits, with one left

@@ -1,11 +1,11 @@
 -- Array forms of references and subscripts by themselves.
 use Rattle.std.specs.Prelude.{Option, Some, None, List}
-use Rattle.fv_tree.specs.Plain.{Expression, Named, Reference, Subscript, Only, Section}
-use Rattle.fv_tree.specs.View.{subscript_of}
-use Rattle.fv_tree.specs.declared.exprs.Sub.{Sub}
-use Rattle.fv_meaning.specs.Reads.{names_in}
-use Rattle.array_forms.specs.Forms.{constructed, form, name_form, placed, subscript_form, subscript_forms}
-use Rattle.array_forms.specs.Loops.{Loop, Surroundings, loops_among, names_of}
+use Rattle.tree.specs.Plain.{Expression, Named, Reference, Subscript, Only, Section}
+use Rattle.tree.specs.View.{subscript_of}
+use Rattle.tree.specs.declared.exprs.Sub.{Sub}
+use Rattle.meaning.specs.Reads.{names_in}
+use Rattle.array_form.specs.forms.Forms.{constructed, form, name_form, placed, subscript_form, subscript_forms}
+use Rattle.array_form.specs.forms.Loops.{Loop, Surroundings, loops_among, names_of}
 
 -- what a subscript becomes, or its form of rank one
 abbrev pub section_or : Option Sub → Expression → Subscript

@@ -1,15 +1,15 @@
 -- Texts of trips, bounds and conditions, as the program has loops.
 use Rattle.std.specs.Prelude.{ℤ, pos, Option, Some, None, List, [], ◌∷◌, length}
-use Rattle.fv_tree.specs.Plain.{Expression, Number, Binary}
-use Rattle.fv_tree.specs.View.{ConstructorLoop}
-use Rattle.fv_tree.specs.declared.ops.Op.TheVariants.{And}
+use Rattle.tree.specs.Plain.{Expression, Number, Binary}
+use Rattle.tree.specs.View.{ConstructorLoop}
+use Rattle.tree.specs.declared.ops.Op.TheVariants.{And}
 use Rattle.linear_forms.specs.Linear.{Form}
-use Rattle.array_forms.specs.Forms.{trip_text, lower_text, upper_text}
-use Rattle.array_forms.specs.Loops.{names_of}
-use Rattle.nest_tree.specs.declared.parts.Trip.{Trip}
-use Rattle.sections.specs.Surroundings.{counted_of, surroundings_view, trip_of}
-use Rattle.sections.specs.declared.loops.Counted.{Counted}
-use Rattle.sections.specs.declared.loops.Surroundings.{Surroundings}
+use Rattle.array_form.specs.forms.Forms.{trip_text, lower_text, upper_text}
+use Rattle.array_form.specs.forms.Loops.{names_of}
+use Rattle.nest.specs.declared.parts.Trip.{Trip}
+use Rattle.array_form.specs.holds.Surroundings.{counted_of, surroundings_view, trip_of}
+use Rattle.array_form.specs.declared.holds.loops.Counted.{Counted}
+use Rattle.array_form.specs.declared.holds.loops.Surroundings.{Surroundings}
 
 abbrev pub text_of_trip : Surroundings → Trip → Expression
 text_of_trip a t = trip_text (names_of (surroundings_view a)) (trip_of (length a.loops) t)

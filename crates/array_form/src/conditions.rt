@@ -1,22 +1,22 @@
 //! Conditions on trips.
 ghost use Rattle.std.specs.Prelude.{◌≡◌, IfOk, pos};
 ghost use Rattle.std.specs.Option.{option_map};
-ghost use Rattle.fv_tree.specs.Plain.{Binary, Number};
-ghost use Rattle.fv_tree.specs.View.{expression_of};
-ghost use Rattle.fv_tree.specs.declared.ops.Op.TheVariants.{Ge};
-ghost use Rattle.array_forms.specs.Loops.{names_of};
-ghost use Rattle.array_forms.specs.Statements.{tests_of};
-ghost use Rattle.sections.specs.Surroundings.{surroundings_view};
+ghost use Rattle.tree.specs.Plain.{Binary, Number};
+ghost use Rattle.tree.specs.View.{expression_of};
+ghost use Rattle.tree.specs.declared.ops.Op.TheVariants.{Ge};
+ghost use Rattle.array_form.specs.forms.Loops.{names_of};
+ghost use Rattle.array_form.specs.forms.Statements.{tests_of};
+ghost use Rattle.array_form.specs.holds.Surroundings.{surroundings_view};
 ghost use Rattle.array_form.specs.Loops.{AreLoopsOf, HasPlaces, IsLoopOf, viewed};
 ghost use Rattle.array_form.specs.Texts.{and_also, extent_over, with_tests};
 
+use crate::holds::{Counted, Surroundings};
 use crate::trips::{is_positive_constant, trip_text, two};
-use fv_tree::{Expr, Memory, Op};
-use sections::{Counted, Surroundings};
 use std::alloc::Global;
+use tree::{Expr, Memory, Op};
 
 // The trip is at least 1.
-#[tactic(auto, using(fv_tree::proofs::Equations::expression_equations))]
+#[tactic(auto, using(tree::proofs::Equations::expression_equations))]
 fn test_of(alloc: Global, a: &Surroundings, turns: &Counted) -> Result<Expr, Memory>
     requires places { HasPlaces a.now }
     requires turns { IsLoopOf a.now turns.now }

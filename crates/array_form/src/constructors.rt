@@ -1,18 +1,18 @@
 //! Array constructors over loops.
 ghost use Rattle.std.specs.Prelude.{◌≡◌, IfOk, map};
-ghost use Rattle.fv_tree.specs.View.{expression_of, loop_of};
-ghost use Rattle.array_forms.specs.Forms.{constructed};
-ghost use Rattle.array_forms.specs.Loops.{names_of};
-ghost use Rattle.sections.specs.Surroundings.{surroundings_view};
+ghost use Rattle.tree.specs.View.{expression_of, loop_of};
+ghost use Rattle.array_form.specs.forms.Forms.{constructed};
+ghost use Rattle.array_form.specs.forms.Loops.{names_of};
+ghost use Rattle.array_form.specs.holds.Surroundings.{surroundings_view};
 ghost use Rattle.array_form.specs.Loops.{AreLoopsOf, HasPlaces, IsLoopOf, viewed};
 ghost use Rattle.array_form.specs.Texts.{extent_over, turn_over};
 
+use crate::holds::{Counted, Surroundings};
 use crate::trips::trip_text;
-use fv_tree::{Expr, Memory, Seq, Turn};
-use sections::{Counted, Surroundings};
 use std::alloc::Global;
+use tree::{Expr, Memory, Seq, Turn};
 
-#[tactic(auto, using(fv_tree::proofs::Equations::expression_equations))]
+#[tactic(auto, using(tree::proofs::Equations::expression_equations))]
 fn turn_over(alloc: Global, a: &Surroundings, turns: &Counted) -> Result<Turn, Memory>
     requires places { HasPlaces a.now }
     requires turns { IsLoopOf a.now turns.now }

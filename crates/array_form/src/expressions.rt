@@ -1,24 +1,24 @@
 //! Array forms of expressions and subscripts.
 ghost use Rattle.std.specs.Prelude.{◌≡◌, IfOk, length, map};
-ghost use Rattle.fv_tree.specs.Plain.{Expression};
-ghost use Rattle.fv_tree.specs.View.{expression_of, reference_of, subscript_of};
+ghost use Rattle.tree.specs.Plain.{Expression};
+ghost use Rattle.tree.specs.View.{expression_of, reference_of, subscript_of};
 ghost use Rattle.linear_forms.specs.Linear.{form_of};
 ghost use Rattle.linear_forms.specs.Places.{IsFound};
-ghost use Rattle.array_forms.specs.Forms.{form, subscript_form};
-ghost use Rattle.sections.specs.Surroundings.{loop_names, surroundings_view};
+ghost use Rattle.array_form.specs.forms.Forms.{form, subscript_form};
+ghost use Rattle.array_form.specs.holds.Surroundings.{loop_names, surroundings_view};
 ghost use Rattle.array_form.specs.Loops.{AreLoopsOf, HasPlaces, viewed};
 ghost use Rattle.array_form.specs.Subscripts.{form_of_subscript, item_form, section_or, variable_form};
 
 use crate::constructors::constructed;
+use crate::holds::{Counted, Surroundings, loop_names};
 use crate::loops_in_text::{loops_in_order, one_each, standing_in};
 use crate::placing::placed;
 use crate::section_bounds::section;
-use fv_tree::{Expr, Memory, Ref, Seq, Sub};
 use linear_forms::linear;
-use nest_tree::copy_ref;
-use sections::{Counted, Surroundings, loop_names};
+use nest::copy_ref;
 use std::alloc::Global;
 use subscripts::Affine;
+use tree::{Expr, Memory, Ref, Seq, Sub};
 
 // Its linear form, where it has one.
 fn form_of(alloc: Global, a: &Surroundings, expr: &Expr) -> Result<Option<Affine>, Memory>

@@ -5,8 +5,12 @@
 mod conditions;
 mod constructors;
 mod expressions;
+pub mod forms;
+pub mod holds;
+pub mod lone;
 mod loops_in_text;
 mod placing;
+pub mod profile;
 mod section_bounds;
 mod statements;
 mod trips;

@@ -3,16 +3,16 @@ ghost use Rattle.std.specs.Prelude.{◌≡◌, ◌≤◌, ◌++◌, ◌∷◌, �
 ghost use Rattle.std.specs.List.{list_all, position_or_len};
 ghost use Rattle.std.specs.Cmp.Lexicographic.{pointwise};
 ghost use Rattle.std.specs.Str.{bytes_eq};
-ghost use Rattle.array_forms.specs.Loops.{is_among};
-ghost use Rattle.fv_meaning.specs.Reads.{names_in, names_in_subscript};
-ghost use Rattle.fv_tree.specs.View.{expression_of, subscript_of};
-ghost use Rattle.sections.specs.Surroundings.{loop_names};
+ghost use Rattle.array_form.specs.forms.Loops.{is_among};
+ghost use Rattle.meaning.specs.Reads.{names_in, names_in_subscript};
+ghost use Rattle.tree.specs.View.{expression_of, subscript_of};
+ghost use Rattle.array_form.specs.holds.Surroundings.{loop_names};
 ghost use Rattle.array_form.specs.Loops.{has_one, has_parts, in_order, is_exchanged, standing_in};
 
-use fv_tree::{Expr, Memory, Name, Seq, Sub};
-use sections::Counted;
-use statement_loops::{stands_in, stands_in_sub};
+use crate::holds::Counted;
+use nest::statement_loops::{stands_in, stands_in_sub};
 use std::alloc::Global;
+use tree::{Expr, Memory, Name, Seq, Sub};
 
 fn push_if(those: &mut Seq<Counted>, turns: Counted, stands: bool) -> Result<(), Memory>
     ensures { OnOk result (those.new ≡ those.old ++ (if stands then turns ∷ [] else [])) }

@@ -1,23 +1,23 @@
 //! References whose form has some of the loops, at the places of these.
 ghost use Rattle.std.specs.Prelude.{◌≡◌, ◌+◌, ◌<◌, ◌^◌, ◌&&◌, if◌then◌else◌, IfOk, length};
-ghost use Rattle.fv_tree.specs.Plain.{Named, Spread};
-ghost use Rattle.fv_tree.specs.View.{expression_of, reference_of};
-ghost use Rattle.array_forms.specs.Forms.{placed, spread_over};
-ghost use Rattle.array_forms.specs.Loops.{is_among, names_of};
-ghost use Rattle.sections.specs.Surroundings.{loop_names, surroundings_view};
+ghost use Rattle.tree.specs.Plain.{Named, Spread};
+ghost use Rattle.tree.specs.View.{expression_of, reference_of};
+ghost use Rattle.array_form.specs.forms.Forms.{placed, spread_over};
+ghost use Rattle.array_form.specs.forms.Loops.{is_among, names_of};
+ghost use Rattle.array_form.specs.holds.Surroundings.{loop_names, surroundings_view};
 ghost use Rattle.array_form.specs.Loops.{AreLoopsOf, HasPlaces, IsLoopOf, has_parts, viewed};
 ghost use Rattle.array_form.specs.Texts.{extent_over};
 
 use crate::constructors::constructed;
+use crate::holds::{Counted, Surroundings};
 use crate::loops_in_text::{are_exchanged, are_part, has_loop, same_loops};
 use crate::trips::trip_text;
-use fv_tree::{Expr, Memory, Ref};
-use nest_tree::copy_ref;
-use sections::{Counted, Surroundings};
+use nest::copy_ref;
 use std::alloc::Global;
+use tree::{Expr, Memory, Ref};
 
 // SPREAD over the loop, unless it is among those that are here.
-#[tactic(auto, using(fv_tree::proofs::Equations::expression_equations))]
+#[tactic(auto, using(tree::proofs::Equations::expression_equations))]
 fn spread_one(
     alloc: Global,
     a: &Surroundings,

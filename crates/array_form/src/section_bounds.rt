@@ -1,24 +1,24 @@
 //! Sections of linear subscripts.
 ghost use Rattle.std.specs.Prelude.{◌≡◌, ◌≤◌, ◌<◌, ◌++◌, ◌^◌, ℤ, IfOk, Some, length, map, pos, slice_set};
-ghost use Rattle.fv_tree.specs.View.{expression_of, subscript_of};
+ghost use Rattle.tree.specs.View.{expression_of, subscript_of};
 ghost use Rattle.subscripts.specs.Shapes.{IsForm};
 ghost use Rattle.linear_forms.specs.Expressed.{variables};
 ghost use Rattle.linear_forms.specs.Linear.{Form, constant_form, limited, multiple, sum};
 ghost use Rattle.linear_forms.specs.Places.{IsAffineOf, IsFound};
-ghost use Rattle.array_forms.specs.Forms.{section, sum_text, trip_form};
-ghost use Rattle.array_forms.specs.Loops.{names_of};
-ghost use Rattle.sections.specs.Surroundings.{counted_of, surroundings_view, trip_of};
+ghost use Rattle.array_form.specs.forms.Forms.{section, sum_text, trip_form};
+ghost use Rattle.array_form.specs.forms.Loops.{names_of};
+ghost use Rattle.array_form.specs.holds.Surroundings.{counted_of, surroundings_view, trip_of};
 ghost use Rattle.array_form.specs.Loops.{HasPlaces, IsLoopOf};
 ghost use Rattle.array_form.specs.Texts.{lower_of, upper_of};
 
+use crate::holds::{Counted, Surroundings, loop_names};
 use crate::loops_in_text::place_of;
 use crate::trips::{number_text, trip_text, two};
-use fv_tree::{Expr, Memory, Op, Seq, Sub};
 use linear_forms::{combined, express};
-use nest_tree::Trip;
-use sections::{Counted, Surroundings, loop_names};
+use nest::Trip;
 use std::alloc::Global;
 use subscripts::Affine;
+use tree::{Expr, Memory, Op, Seq, Sub};
 
 const ONE: Affine = Affine {
     loops: [0; 7],

@@ -1,22 +1,22 @@
 //! Array forms of statements.
 ghost use Rattle.std.specs.Prelude.{◌≡◌, ◌≤◌, ◌<◌, ◌+◌, IfOk, Some, length};
 ghost use Rattle.std.specs.Option.{option_map};
-ghost use Rattle.fv_tree.specs.Plain.{Assignment};
-ghost use Rattle.fv_tree.specs.View.{block_of, expression_of, reference_of, statement_of};
-ghost use Rattle.nest_tree.specs.View.{nest_of};
-ghost use Rattle.array_forms.specs.Statements.{array_form_of, left_form, right_form};
-ghost use Rattle.sections.specs.Surroundings.{surroundings_view};
+ghost use Rattle.tree.specs.Plain.{Assignment};
+ghost use Rattle.tree.specs.View.{block_of, expression_of, reference_of, statement_of};
+ghost use Rattle.nest.specs.View.{nest_of};
+ghost use Rattle.array_form.specs.forms.Statements.{array_form_of, left_form, right_form};
+ghost use Rattle.array_form.specs.holds.Surroundings.{surroundings_view};
 ghost use Rattle.array_form.specs.Loops.{AreLoopsOf, HasPlaces};
 ghost use Rattle.array_form.specs.Statement.{HasArrayForm, array_form_at, block_of_one, under_condition};
 
 use crate::conditions::with_tests;
 use crate::expressions::{form, subscript_forms};
+use crate::holds::{Surroundings, surroundings_of};
 use crate::loops_in_text::loops_in_order;
-use fv_tree::{Arm, Block, Expr, Mark, Memory, Ref, Seq, Stmt};
-use nest_tree::{GuardedStmt, Nest};
-use sections::{Surroundings, surroundings_of};
-use statement_loops::statements_of;
+use nest::statement_loops::statements_of;
+use nest::{GuardedStmt, Nest};
 use std::alloc::Global;
+use tree::{Arm, Block, Expr, Mark, Memory, Ref, Seq, Stmt};
 
 #[tactic(auto, using(crate::proofs::StatementLaws::one_block))]
 fn block_of_one(alloc: Global, stmt: Stmt) -> Result<Block, Memory>
@@ -27,7 +27,7 @@ fn block_of_one(alloc: Global, stmt: Stmt) -> Result<Block, Memory>
     Ok(Block { stmts })
 }
 
-#[tactic(auto, using(fv_tree::proofs::Equations::statement_equations))]
+#[tactic(auto, using(tree::proofs::Equations::statement_equations))]
 fn under_condition(
     alloc: Global,
     line: u32,

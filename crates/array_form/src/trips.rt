@@ -1,24 +1,24 @@
 //! Numbers, and the texts of trips.
 ghost use Rattle.std.specs.Prelude.{◌≡◌, ℕ, ◌≤◌, ◌==◌, IfOk, pos, length};
-ghost use Rattle.fv_tree.specs.Plain.{Binary, Number};
-ghost use Rattle.fv_tree.specs.View.{expression_of};
+ghost use Rattle.tree.specs.Plain.{Binary, Number};
+ghost use Rattle.tree.specs.View.{expression_of};
 ghost use Rattle.std.specs.List.{list_all};
 ghost use Rattle.std.specs.Ordering.{int_eq};
 ghost use Rattle.subscripts.specs.Shapes.{IsForm};
 ghost use Rattle.linear_forms.specs.Linear.{not_zero};
-ghost use Rattle.array_forms.specs.Forms.{divided_text, number_text};
-ghost use Rattle.array_forms.specs.Loops.{is_positive_constant};
-ghost use Rattle.sections.specs.Surroundings.{coefficients_from, form_of_affine, trip_of};
+ghost use Rattle.array_form.specs.forms.Forms.{divided_text, number_text};
+ghost use Rattle.array_form.specs.forms.Loops.{is_positive_constant};
+ghost use Rattle.array_form.specs.holds.Surroundings.{coefficients_from, form_of_affine, trip_of};
 ghost use Rattle.array_form.specs.Texts.{text_of_trip};
 
-use fv_tree::{Expr, Memory, Op};
+use crate::holds::{Surroundings, loop_names};
 use linear_forms::express;
-use nest_tree::Trip;
-use sections::{Surroundings, loop_names};
+use nest::Trip;
 use std::alloc::Global;
 use subscripts::Affine;
+use tree::{Expr, Memory, Op};
 
-#[tactic(auto, using(fv_tree::proofs::Equations::expression_equations))]
+#[tactic(auto, using(tree::proofs::Equations::expression_equations))]
 pub(crate) fn two(alloc: Global, op: Op, left: Expr, right: Expr) -> Result<Expr, Memory>
     ensures { IfOk result (λ e. expression_of e ≡ Binary op (expression_of left) (expression_of right)) }
 {
@@ -27,7 +27,7 @@ pub(crate) fn two(alloc: Global, op: Op, left: Expr, right: Expr) -> Result<Expr
     Ok(Expr::Bin(op, left, right))
 }
 
-#[tactic(auto, using(fv_tree::proofs::Equations::expression_equations))]
+#[tactic(auto, using(tree::proofs::Equations::expression_equations))]
 fn literal(size: u64) -> Expr
     ensures { expression_of result ≡ Number (pos size) }
 {

@@ -1,13 +1,13 @@
 -- Axes, dimension by dimension.
 use Rattle.std.proofs.Common.{◌≡◌, refl, sym, ap, ◌∙◌, ℕ, ◌+◌, ◌<◌, ◌≤◌, List, [], ◌∷◌, ◌++◌, map, drop, length, get_or, Result, Ok, Err, append_assoc}
 use Rattle.std.proofs.lemmas.List.{append-nil, at_drop_more, at_drop_all}
-use Rattle.fv_tree.specs.Steps.{◌>>=◌}
-use Rattle.fv_tree.specs.View.{bounds_of}
-use Rattle.fv_tree.specs.declared.ops.Fault.{Fault}
-use Rattle.fv_tree.specs.declared.ops.Fault.TheVariants.{Bounds}
-use Rattle.fv_tree.specs.declared.programs.Dim.{Dim}
-use Rattle.fv_meaning.specs.Sections as meaning
-use Rattle.fv_meaning.specs.Sections.{axis_on, axes_on, extents_of}
+use Rattle.tree.specs.Steps.{◌>>=◌}
+use Rattle.tree.specs.View.{bounds_of}
+use Rattle.tree.specs.declared.ops.Fault.{Fault}
+use Rattle.tree.specs.declared.ops.Fault.TheVariants.{Bounds}
+use Rattle.tree.specs.declared.programs.Dim.{Dim}
+use Rattle.meaning.specs.Sections as meaning
+use Rattle.meaning.specs.Sections.{axis_on, axes_on, extents_of}
 use Rattle.array_values.specs.declared.sections.Selector.{Selector}
 use Rattle.array_values.specs.declared.sections.Axis.{Axis}
 use Rattle.array_values.specs.declared.failure.Failure.{Failure}

@@ -2,15 +2,15 @@
 use Rattle.std.proofs.Common.{◌≡◌, refl, sym, ap, ◌∙◌, ℕ, ◌+◌, ◌<◌, ◌≤◌, List, [], ◌∷◌, map, drop, length, get_or, Result, Ok, Err}
 use Rattle.std.proofs.lemmas.List.{at_drop_more, at_drop_all}
 use Rattle.std.specs.List.{fold}
-use Rattle.fv_tree.specs.Steps.{◌>>=◌}
-use Rattle.fv_tree.specs.Operators.{call}
-use Rattle.fv_tree.specs.Arguments.{added, finished}
-use Rattle.fv_tree.specs.declared.arguments.Arguments.{Arguments}
-use Rattle.fv_tree.specs.declared.arguments.Arguments.TheVariants.{Empty}
-use Rattle.fv_tree.specs.declared.functions.Fun.{Fun}
-use Rattle.fv_tree.specs.declared.ops.Value.{Value}
-use Rattle.fv_tree.specs.declared.ops.Fault.{Fault}
-use Rattle.fv_tree.proofs.Calls.{finished_is}
+use Rattle.tree.specs.Steps.{◌>>=◌}
+use Rattle.tree.specs.Operators.{call}
+use Rattle.tree.specs.Arguments.{added, finished}
+use Rattle.tree.specs.declared.arguments.Arguments.{Arguments}
+use Rattle.tree.specs.declared.arguments.Arguments.TheVariants.{Empty}
+use Rattle.tree.specs.declared.functions.Fun.{Fun}
+use Rattle.tree.specs.declared.ops.Value.{Value}
+use Rattle.tree.specs.declared.ops.Fault.{Fault}
+use Rattle.tree.proofs.Calls.{finished_is}
 use Rattle.array_values.specs.declared.prepared.Prepared.{Prepared}
 use Rattle.array_values.specs.Arrays.{all_at, elements_in, called_at}
 

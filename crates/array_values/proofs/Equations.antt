@@ -2,12 +2,12 @@
 use Rattle.std.proofs.Common.{◌≡◌, ℕ, List, map, rules, []}
 use Rattle.std.specs.declared.boxed.Box.{Box}
 use Rattle.std.specs.declared.alloc.Global.{Global}
-use Rattle.fv_tree.specs.Steps.{◌>>=◌}
-use Rattle.fv_tree.specs.Operators.{apply, call}
-use Rattle.fv_tree.specs.declared.ops.Op.{Op}
-use Rattle.fv_tree.specs.declared.functions.Fun.{Fun}
-use Rattle.fv_tree.specs.declared.lists.Seq.{Seq}
-use Rattle.fv_meaning.specs.ArrayValues.{settled, mapped, without_dimension, swapped}
+use Rattle.tree.specs.Steps.{◌>>=◌}
+use Rattle.tree.specs.Operators.{apply, call}
+use Rattle.tree.specs.declared.ops.Op.{Op}
+use Rattle.tree.specs.declared.functions.Fun.{Fun}
+use Rattle.tree.specs.declared.lists.Seq.{Seq}
+use Rattle.meaning.specs.ArrayValues.{settled, mapped, without_dimension, swapped}
 use Rattle.array_values.specs.declared.known.Known.{Known}
 use Rattle.array_values.specs.declared.prepared.Prepared.{Prepared, the_lemmas}
 use Rattle.array_values.specs.declared.prepared.Prepared.TheVariants as prepared

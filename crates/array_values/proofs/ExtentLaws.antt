@@ -1,14 +1,14 @@
 -- The extents of arguments that conform.
 use Rattle.std.proofs.Common.{◌≡◌, refl, sym, ap, ◌∙◌, ℕ, ◌+◌, ◌<◌, List, [], ◌∷◌, map, drop, length, get_or, Result, Ok, Err}
 use Rattle.std.proofs.lemmas.List.{at_drop_more}
-use Rattle.fv_tree.specs.declared.ops.Value.{Value}
+use Rattle.tree.specs.declared.ops.Value.{Value}
 use Rattle.std.proofs.Common.{false, true≢false}
 use Rattle.std.specs.Prelude.{◌==◌}
-use Rattle.fv_tree.specs.Steps.{◌>>=◌}
-use Rattle.fv_tree.specs.Operators.{apply}
-use Rattle.fv_tree.specs.declared.ops.Op.{Op}
-use Rattle.fv_tree.specs.declared.ops.Fault.{Fault}
-use Rattle.fv_meaning.specs.ArrayValues.{Elements, conform, paired}
+use Rattle.tree.specs.Steps.{◌>>=◌}
+use Rattle.tree.specs.Operators.{apply}
+use Rattle.tree.specs.declared.ops.Op.{Op}
+use Rattle.tree.specs.declared.ops.Fault.{Fault}
+use Rattle.meaning.specs.ArrayValues.{Elements, conform, paired}
 use Rattle.array_values.specs.declared.prepared.Prepared.{Prepared}
 use Rattle.array_values.specs.Positions.{wider}
 use Rattle.array_values.specs.Arrays.{elements_in, extents_together}

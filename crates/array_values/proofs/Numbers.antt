@@ -2,15 +2,15 @@
 use Rattle.std.proofs.Common.{◌≡◌, refl, sym, ap, ◌∙◌, ℕ, ℤ, ◌+◌, ◌<◌, ◌≤◌, List, [], ◌∷◌, drop, length, get_or, Result, Ok, Err}
 use Rattle.std.specs.List.{fold}
 use Rattle.std.proofs.lemmas.List.{at_drop_more, at_drop_all}
-use Rattle.fv_tree.specs.Steps.{◌>>=◌}
-use Rattle.fv_tree.specs.Operators.{as_number, as_numbers, reduced}
-use Rattle.fv_tree.specs.Gathered.{added, gathered, whole}
-use Rattle.fv_tree.specs.declared.gathered.Gathered.{Gathered}
-use Rattle.fv_tree.specs.declared.gathered.Gathered.TheVariants.{Nothing}
-use Rattle.fv_tree.specs.declared.functions.Red.{Red}
-use Rattle.fv_tree.specs.declared.ops.Value.{Value}
-use Rattle.fv_tree.specs.declared.ops.Fault.{Fault}
-use Rattle.fv_meaning.specs.ArrayValues.{each}
+use Rattle.tree.specs.Steps.{◌>>=◌}
+use Rattle.tree.specs.Operators.{as_number, as_numbers, reduced}
+use Rattle.tree.specs.Gathered.{added, gathered, whole}
+use Rattle.tree.specs.declared.gathered.Gathered.{Gathered}
+use Rattle.tree.specs.declared.gathered.Gathered.TheVariants.{Nothing}
+use Rattle.tree.specs.declared.functions.Red.{Red}
+use Rattle.tree.specs.declared.ops.Value.{Value}
+use Rattle.tree.specs.declared.ops.Fault.{Fault}
+use Rattle.meaning.specs.ArrayValues.{each}
 use Rattle.array_values.specs.Arrays.{reduced_values}
 
 pub numbers_each : (vs : List Value) → as_numbers vs ≡ each as_number vs

@@ -4,7 +4,7 @@ use Rattle.std.specs.List.{flat_map}
 use mathlib.Core.Path.{ap₂}
 use Rattle.std.proofs.lemmas.Nat.{div-mul-add, mod-mul-add}
 use Rattle.std.proofs.lemmas.List.{map-append}
-use Rattle.fv_meaning.specs.ArrayValues.{counted, positions, size}
+use Rattle.meaning.specs.ArrayValues.{counted, positions, size}
 use Rattle.array_values.specs.Positions.{position_at}
 
 pub counted_append : (a m n : ℕ) → counted a m ++ counted (a + m) n ≡ counted a (m + n)

@@ -4,11 +4,11 @@ use Rattle.std.specs.Prelude.{int_div, ◌/◌, ◌%◌, nat_abs, ◌&&◌}
 use Rattle.std.specs.Int.{w128}
 use Rattle.std.proofs.lemmas.Int.{ints}
 use Rattle.std.proofs.lemmas.Nat.{div-mul-add, div-add-mod'}
-use Rattle.fv_tree.specs.Steps.{◌>>=◌}
-use Rattle.fv_tree.specs.declared.ops.Fault.{Fault}
-use Rattle.fv_tree.specs.declared.ops.Fault.TheVariants.{Bounds}
-use Rattle.fv_meaning.specs.ArrayValues.{each}
-use Rattle.fv_meaning.specs.Sections.{Axis, Along, not_negative, steps_from, triplet_numbers, stands_in, all_stand_in, along}
+use Rattle.tree.specs.Steps.{◌>>=◌}
+use Rattle.tree.specs.declared.ops.Fault.{Fault}
+use Rattle.tree.specs.declared.ops.Fault.TheVariants.{Bounds}
+use Rattle.meaning.specs.ArrayValues.{each}
+use Rattle.meaning.specs.Sections.{Axis, Along, not_negative, steps_from, triplet_numbers, stands_in, all_stand_in, along}
 use Rattle.std.specs.Prelude.{MatchOption, IfSome}
 use Rattle.array_values.specs.Selections.{bounded, goes_on}
 use Rattle.array_values.proofs.Steps.{left_of, left_fault, left_more}

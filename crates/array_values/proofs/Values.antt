@@ -1,9 +1,9 @@
 -- The value at a place.
 use Rattle.std.proofs.Common.{◌≡◌, refl, sym, ap, ◌∙◌, zero, suc, ℕ, ◌-◌, ◌^◌, ◌<◌, ◌≤◌, List, [], ◌∷◌, length, get_or, Ok, Err, arith}
 use Rattle.std.specs.Prelude.{min}
-use Rattle.fv_tree.specs.declared.ops.Value.{Value}
-use Rattle.fv_tree.specs.declared.ops.Fault.TheVariants.{Shape}
-use Rattle.fv_meaning.specs.ArrayValues.{value_at}
+use Rattle.tree.specs.declared.ops.Value.{Value}
+use Rattle.tree.specs.declared.ops.Fault.TheVariants.{Shape}
+use Rattle.meaning.specs.ArrayValues.{value_at}
 
 pub at_inside : (vs : List Value) (k : ℕ) (d : Value) → k < length vs → value_at vs k ≡ Ok (get_or vs k d)
 at_inside [] k d h = absurd (omega arith)

@@ -1,12 +1,12 @@
 -- The arrays that stand for those of a program's meaning.
 use Rattle.std.specs.Prelude.{Result, Ok, ℕ, List, [], ◌∷◌}
-use Rattle.fv_tree.specs.Steps.{◌>>=◌}
-use Rattle.fv_tree.specs.Operators.{apply, call, as_numbers, reduced}
-use Rattle.fv_tree.specs.declared.ops.Value.{Value}
-use Rattle.fv_tree.specs.declared.ops.Fault.{Fault}
-use Rattle.fv_tree.specs.declared.functions.Fun.{Fun}
-use Rattle.fv_tree.specs.declared.functions.Red.{Red}
-use Rattle.fv_meaning.specs.ArrayValues.{Array, Elements, settled, mapped, without_dimension, swapped}
+use Rattle.tree.specs.Steps.{◌>>=◌}
+use Rattle.tree.specs.Operators.{apply, call, as_numbers, reduced}
+use Rattle.tree.specs.declared.ops.Value.{Value}
+use Rattle.tree.specs.declared.ops.Fault.{Fault}
+use Rattle.tree.specs.declared.functions.Fun.{Fun}
+use Rattle.tree.specs.declared.functions.Red.{Red}
+use Rattle.meaning.specs.ArrayValues.{Array, Elements, settled, mapped, without_dimension, swapped}
 use Rattle.array_values.specs.declared.known.Known.{Known as Known'}
 use Rattle.array_values.specs.declared.prepared.Prepared.{Prepared, fold-Prepared}
 use Rattle.array_values.specs.declared.prepared.Prepared.TheOpen.{Prepared-F, Known, Unary, Binary, Call, Spread}

@@ -1,5 +1,6 @@
 pub mod Answers
-pub mod Positions
 pub mod Arrays
 pub mod Masks
+pub mod Positions
 pub mod Selections
+pub mod storage

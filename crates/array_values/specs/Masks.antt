@@ -1,10 +1,10 @@
 -- Where a mask is true.
 use Rattle.std.specs.Prelude.{Result, Ok, ℕ, if◌then◌else◌, List, [], ◌∷◌}
-use Rattle.fv_tree.specs.Steps.{◌>>=◌}
-use Rattle.fv_tree.specs.Operators.{as_truth}
-use Rattle.fv_tree.specs.declared.ops.Value.{Value}
-use Rattle.fv_tree.specs.declared.ops.Fault.{Fault}
-use Rattle.fv_meaning.specs.ArrayValues.{Elements, counted, size}
+use Rattle.tree.specs.Steps.{◌>>=◌}
+use Rattle.tree.specs.Operators.{as_truth}
+use Rattle.tree.specs.declared.ops.Value.{Value}
+use Rattle.tree.specs.declared.ops.Fault.{Fault}
+use Rattle.meaning.specs.ArrayValues.{Elements, counted, size}
 use Rattle.array_values.specs.Positions.{position_at}
 
 -- those of these places, within extents `ns`, at which the mask is true

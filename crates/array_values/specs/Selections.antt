@@ -1,9 +1,9 @@
 -- What selects parts of arrays.
 use Rattle.std.specs.Prelude.{Result, Ok, Err, ℤ, pos, int_lt, int_le, Bool, if◌then◌else◌}
-use Rattle.fv_tree.specs.declared.ops.Fault.{Fault}
-use Rattle.fv_tree.specs.declared.ops.Fault.TheVariants.{Bounds}
-use Rattle.fv_meaning.specs.Sections as meaning
-use Rattle.fv_meaning.specs.Sections.{stands_in}
+use Rattle.tree.specs.declared.ops.Fault.{Fault}
+use Rattle.tree.specs.declared.ops.Fault.TheVariants.{Bounds}
+use Rattle.meaning.specs.Sections as meaning
+use Rattle.meaning.specs.Sections.{stands_in}
 use Rattle.array_values.specs.declared.sections.Selector.{Selector}
 use Rattle.array_values.specs.declared.sections.Selector.TheVariants.{Index, Triplet, Vector}
 use Rattle.array_values.specs.declared.sections.Axis.{Axis}

@@ -1,10 +1,10 @@
 //! The extents of arrays, positions within them, and their places in column-major order.
 ghost use Rattle.std.specs.Prelude.{◌≡◌, ◌<◌, ◌≤◌, ◌+◌, ◌*◌, ◌-◌, ◌^◌, ◌++◌};
 ghost use Rattle.std.specs.Prelude.{ℕ, min, length, MatchOption, MatchResult, OnOk};
-ghost use Rattle.fv_meaning.specs.ArrayValues.{size, place_of, conform};
+ghost use Rattle.meaning.specs.ArrayValues.{size, place_of, conform};
 ghost use Rattle.array_values.specs.Positions.{position_at, wider};
 
-use fv_tree::{Fault, Memory};
+use tree::{Fault, Memory};
 
 // The first index, and what stands behind it in order.
 fn join(index: u128, extent: u128, rest: u128) -> u128

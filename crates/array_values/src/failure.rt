@@ -1,6 +1,6 @@
 //! Why there is no value.
-use fv_tree::{Fault, Memory};
 use std::alloc::{AllocError, AllocFailed};
+use tree::{Fault, Memory};
 
 /// A fault, or there was no memory.
 #[derive(Clone, Copy, Debug, PartialEq, Eq)]

@@ -1,17 +1,17 @@
 //! Arrays whose elements are known.
 ghost use Rattle.std.specs.Prelude.{◌≡◌, ◌<◌, ◌++◌, ◌-◌, ◌^◌, min, ℕ, ℤ, List, IfOk, MatchResult};
-ghost use Rattle.fv_tree.specs.Operators.{as_numbers};
-ghost use Rattle.fv_meaning.specs.ArrayValues.{settled, scalar, value_at, reshaped};
+ghost use Rattle.tree.specs.Operators.{as_numbers};
+ghost use Rattle.meaning.specs.ArrayValues.{settled, scalar, value_at, reshaped};
 ghost use Rattle.array_values.specs.Arrays.{array_in, reduced_values};
 ghost use Rattle.array_values.specs.Answers.{Answers};
 
 use crate::extents::{place, saturated_size};
 use crate::failure::Failure;
-use fv_tree::{Fault, Gathered, Memory, Red, Seq, Value};
 use std::alloc::Global;
+use tree::{Fault, Gathered, Memory, Red, Seq, Value};
 
 /// An array with its elements in column-major order. A scalar has no extents and one element.
-#[derive(Debug, Drop)]
+#[derive(Drop)]
 pub struct Known {
     pub extents: Seq<u128>,
     pub values: Seq<Value>,

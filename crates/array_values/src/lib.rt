@@ -7,6 +7,7 @@ mod failure;
 mod known;
 mod prepared;
 mod sections;
+pub mod storage;
 
 pub use extents::check_conform;
 pub use failure::Failure;

@@ -1,8 +1,8 @@
 //! Arrays whose elements are computed when they are asked for.
 ghost use Rattle.std.specs.Prelude.{◌≡◌, ◌<◌, map, [], IfOk, List, ℕ, All};
-ghost use Rattle.fv_tree.specs.Operators.{apply};
-ghost use Rattle.fv_meaning.specs.ArrayValues.{in_whole, each, positions, mapped, paired, settled, without_dimension};
-ghost use Rattle.fv_meaning.specs.ArrayValues.{swapped, spread, transposed, with_extent, size};
+ghost use Rattle.tree.specs.Operators.{apply};
+ghost use Rattle.meaning.specs.ArrayValues.{in_whole, each, positions, mapped, paired, settled, without_dimension};
+ghost use Rattle.meaning.specs.ArrayValues.{swapped, spread, transposed, with_extent, size};
 ghost use Rattle.array_values.specs.Positions.{position_at};
 ghost use Rattle.array_values.specs.Masks.{true_places};
 ghost use Rattle.array_values.specs.Arrays.{array_in, elements_in, extents_together, called_at};
@@ -11,12 +11,12 @@ ghost use Rattle.array_values.specs.Answers.{Answers};
 use crate::extents::{check_conform, count, set_position};
 use crate::failure::Failure;
 use crate::known::Known;
-use fv_tree::{Arguments, Fault, Fun, Memory, Op, Seq, Value};
 use std::alloc::Global;
+use tree::{Arguments, Fault, Fun, Memory, Op, Seq, Value};
 
 /// An array whose elements are computed when they are asked for: known arrays, and operations that are performed
 /// position by position. The extents of SPREAD and TRANSPOSE stand with them.
-#[derive(Debug, Drop)]
+#[derive(Drop)]
 pub enum Prepared {
     Known(Known),
     Unary(Op, Box<Prepared>),

@@ -1,17 +1,17 @@
 //! What references to parts of arrays select (ISO/IEC 1539:1991, section 6.2.2).
 ghost use Rattle.std.specs.Prelude.{◌≡◌, map, List, pos, IfOk, MatchOption, ◌+ℤ◌, true, false};
-ghost use Rattle.fv_tree.specs.View.{bounds_of};
-ghost use Rattle.fv_meaning.specs.Sections.{along, axis_on, axes_on, extents_of, triplet_numbers};
+ghost use Rattle.tree.specs.View.{bounds_of};
+ghost use Rattle.meaning.specs.Sections.{along, axis_on, axes_on, extents_of, triplet_numbers};
 ghost use Rattle.array_values.specs.Answers.{Answers};
 ghost use Rattle.array_values.specs.Selections.{selector_in, axis_in, bounded, goes_on};
 ghost use Rattle.array_values.specs.declared.sections.Axis.{Axis as Axis'};
 
 use crate::failure::Failure;
-use fv_tree::{Dim, Fault, Memory, Seq};
 use std::alloc::Global;
+use tree::{Dim, Fault, Memory, Seq};
 
 /// A subscript whose expressions are evaluated: a number; a lower bound, an upper bound and a stride; or numbers.
-#[derive(Debug, Drop)]
+#[derive(Drop)]
 pub enum Selector {
     Index(i128),
     Triplet(i128, i128, i128),
@@ -19,7 +19,7 @@ pub enum Selector {
 }
 
 /// What is selected along one dimension: a number, which leaves no dimension, or a list.
-#[derive(Debug, Drop)]
+#[derive(Drop)]
 pub enum Axis {
     Fixed(i64),
     Along(Seq<i64>),

@@ -7,11 +7,11 @@ ghost use Rattle.components.specs.Reachability.{AreBelow};
 ghost use Rattle.components.specs.Tables.{holds_both, is_source, rest_of};
 
 use crate::reach::Reach;
-use fv_tree::{Memory, Seq};
 use std::alloc::Global;
+use tree::{Memory, Seq};
 
 /// Classes of numbers in an order, and closed walks through the members of those that are cyclic.
-#[derive(Debug, Drop)]
+#[derive(Drop)]
 pub struct Order {
     pub members: Seq<Seq<usize>>,
     pub cycles: Seq<Seq<usize>>,

@@ -2,10 +2,8 @@
 #![tactic(auto)]
 
 mod classes;
-mod graphs;
 mod laws;
 mod reach;
 
 pub use classes::{Order, components};
-pub use graphs::{Cycle, Dep, Dropped, Edge, Graph, Hold, HoldReason, Place};
 pub use laws::{order_has_components, order_is_unique};

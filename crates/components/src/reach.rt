@@ -4,9 +4,9 @@ ghost use Rattle.std.specs.Prelude.{IfOk, OnOk};
 ghost use Rattle.components.specs.Reachability.{AreBelow};
 ghost use Rattle.components.specs.Tables.{holds, holds_both, IsUnion, AddsBeyond, AddsPair, IsClosure};
 
-use fv_tree::Memory;
 use std::alloc::Global;
 use std::marker::Model;
+use tree::Memory;
 
 // For each number whether it is reached.
 #[derive(Drop)]

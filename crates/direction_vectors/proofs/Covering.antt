@@ -6,8 +6,8 @@ use Rattle.std.proofs.lemmas.List.Elements.{All-head, All-tail}
 use Rattle.subscripts.specs.declared.affine.Dir.{Dir}
 use Rattle.subscripts.specs.declared.affine.Dir.TheVariants.{Lt, Eq, Gt, Any}
 use Rattle.subscripts.specs.declared.affine.Dirs.{Dirs}
-use Rattle.vector_tests.specs.Refs.{IsVectorOf}
-use Rattle.vector_tests.specs.declared.refs.RefPair.{RefPair}
+use Rattle.direction_vectors.specs.vector_tests.Refs.{IsVectorOf}
+use Rattle.direction_vectors.specs.declared.vector_tests.refs.RefPair.{RefPair}
 use Rattle.direction_vectors.specs.Candidates.{Answer, Covers, HoldsNever, HoldsOnce, IsCovered, IsPlain, dir_at}
 use Rattle.direction_vectors.specs.Parts.{HasPrefix, IsPlainVector}
 use Rattle.direction_vectors.specs.Vectors.{with_dir}

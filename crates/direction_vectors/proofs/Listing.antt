@@ -9,11 +9,11 @@ use Rattle.subscripts.specs.declared.affine.Dirs.{Dirs}
 use Rattle.subscripts.specs.declared.verdict.Test.{Test}
 use Rattle.subscripts.specs.declared.verdict.Verdict.{Verdict}
 use Rattle.subscripts.specs.declared.verdict.Verdict.TheVariants.{Never, Pair, Assumed}
-use Rattle.vector_tests.specs.Pairs.{IsMeeting, NeverMeet}
-use Rattle.vector_tests.specs.Refs.{IsVectorOf}
-use Rattle.vector_tests.specs.Ways.{IsRefutedVector}
-use Rattle.vector_tests.specs.Words.{IsDropWord}
-use Rattle.vector_tests.specs.declared.refs.RefPair.{RefPair}
+use Rattle.direction_vectors.specs.vector_tests.Pairs.{IsMeeting, NeverMeet}
+use Rattle.direction_vectors.specs.vector_tests.Refs.{IsVectorOf}
+use Rattle.direction_vectors.specs.vector_tests.Ways.{IsRefutedVector}
+use Rattle.direction_vectors.specs.vector_tests.Words.{IsDropWord}
+use Rattle.direction_vectors.specs.declared.vector_tests.refs.RefPair.{RefPair}
 use Rattle.direction_vectors.specs.Answers.{IsRight}
 use Rattle.direction_vectors.specs.Candidates.{Answer, Covers, HoldsNever, HoldsOnce, IsCandidate, IsCovered, IsLedAt, IsPlain, dir_at}
 use Rattle.direction_vectors.specs.Merged.{AreAlike, IsAlike, IsListed, IsMerged, IsSameKind, kind_of}

@@ -1,6 +1,7 @@
-pub mod Vectors
+pub mod Answers
 pub mod Candidates
 pub mod Merged
-pub mod Answers
 pub mod Parts
 pub mod Unions
+pub mod Vectors
+pub mod vector_tests

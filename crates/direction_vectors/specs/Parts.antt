@@ -6,8 +6,8 @@ use Rattle.subscripts.specs.declared.affine.Dirs.{Dirs}
 use Rattle.subscripts.specs.declared.verdict.Point.{Point}
 use Rattle.subscripts.specs.declared.verdict.Verdict.{Verdict}
 use Rattle.subscripts.specs.declared.verdict.Verdict.TheVariants.{Never, Pair, Assumed}
-use Rattle.vector_tests.specs.Refs.{IsVectorOf}
-use Rattle.vector_tests.specs.declared.refs.RefPair.{RefPair}
+use Rattle.direction_vectors.specs.vector_tests.Refs.{IsVectorOf}
+use Rattle.direction_vectors.specs.declared.vector_tests.refs.RefPair.{RefPair}
 use Rattle.direction_vectors.specs.Answers.{IsLeastOfThree, IsRight}
 use Rattle.direction_vectors.specs.Candidates.{Answer, Covers, HoldsOnce, IsCandidate, IsPlain, dir_at}
 use Rattle.direction_vectors.specs.Merged.{IsListed, IsMerged, IsSameKind}

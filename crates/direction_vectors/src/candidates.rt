@@ -4,14 +4,14 @@ ghost use Rattle.direction_vectors.specs.Answers.{OnAssumed, OnKept, OnNever, On
 ghost use Rattle.direction_vectors.specs.Candidates.{CoversCandidates, CoversEach};
 ghost use Rattle.direction_vectors.specs.Merged.{AreMerged};
 ghost use Rattle.direction_vectors.specs.Parts.{AreListedUnder, IsEqualPrefix};
-ghost use Rattle.vector_tests.specs.Refs.{IsRefPair, IsVectorOf};
+ghost use Rattle.direction_vectors.specs.vector_tests.Refs.{IsRefPair, IsVectorOf};
 
 use crate::dirs::{Answer, with_dir};
 use crate::merging::{merged, one_answer};
-use fv_tree::{Memory, Seq};
+use crate::vector_tests::RefPair;
 use std::alloc::Global;
 use subscripts::{Dir, Dirs, Verdict};
-use vector_tests::RefPair;
+use tree::{Memory, Seq};
 
 // The answers to all candidates that have `=` in the first `place` places.
 fn listed(alloc: Global, refs: &RefPair, d: &Dirs, place: usize) -> Result<Vec<Answer>, Memory>

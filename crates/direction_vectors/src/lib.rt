@@ -6,6 +6,7 @@
 mod candidates;
 mod dirs;
 mod merging;
+pub mod vector_tests;
 
+pub use crate::vector_tests::RefPair;
 pub use candidates::vectors;
-pub use vector_tests::RefPair;

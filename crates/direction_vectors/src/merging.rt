@@ -1,17 +1,17 @@
 //! Answers to the vectors under a prefix, merged.
 ghost use Rattle.std.specs.Prelude.{◌≡◌, ◌<◌, ◌≤◌, ◌↔◌, ◌++◌, false, All, IfOk, IsTrue, List, length, slice_index_or};
 ghost use Rattle.subscripts.specs.Cuts.{IsNoLater};
-ghost use Rattle.vector_tests.specs.Refs.{IsRefPair, IsVectorOf};
+ghost use Rattle.direction_vectors.specs.vector_tests.Refs.{IsRefPair, IsVectorOf};
 ghost use Rattle.direction_vectors.specs.Merged.{AreAlike};
 ghost use Rattle.direction_vectors.specs.Parts.{AreUnder, IsPrefix, IsUnited};
 ghost use Rattle.direction_vectors.specs.Unions.{AreUnited, IsLessOf, IsMergedOf, IsOneAnswer, IsOrder};
 ghost use Rattle.direction_vectors.specs.Unions.{IsPointPair, both_of};
 
 use crate::dirs::{Answer, is_alike, with_dir};
-use fv_tree::Memory;
+use crate::vector_tests::{RefPair, test_vector};
 use std::alloc::Global;
 use subscripts::{Dir, Dirs, Point, Verdict};
-use vector_tests::{RefPair, test_vector};
+use tree::Memory;
 
 /// The first point is before the second in lexicographic order, they are the same, or it is after it.
 #[derive(Clone, Copy)]

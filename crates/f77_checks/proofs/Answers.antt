@@ -2,16 +2,16 @@
 use Rattle.std.proofs.Common.{◌≡◌, ◌⊎◌, inl, inr, ℕ, ◌<◌, ◌≤◌, ◌==◌, nat_lt, Bool, true, false, ◌&&◌, ◌||◌, Result, Ok, Err, OnOk, OnErr, List, [], ◌∷◌, Contains, refl, sym, ap, subst, ◌∙◌, arith}
 use Rattle.std.specs.List.{AllByRecursion}
 use Rattle.std.proofs.lemmas.Bool.Decides.{nat_tests}
-use Rattle.fv_tree.specs.declared.refusals.Refusal.{Refusal}
-use Rattle.fv_tree.specs.declared.refusals.Refused.{Refused}
-use Rattle.fv_tree.specs.declared.refusals.Refused.TheVariants as refused
+use Rattle.tree.specs.declared.refusals.Refusal.{Refusal}
+use Rattle.tree.specs.declared.refusals.Refused.{Refused}
+use Rattle.tree.specs.declared.refusals.Refused.TheVariants as refused
 use Rattle.f77_grammar.specs.Statement77.{Labelled}
 use Rattle.f77_grammar.specs.program.Text.{Place, places}
-use Rattle.fv_tree.specs.Causes.{number_of_cause, word_of_cause, refusal_at}
-use Rattle.fv_tree.specs.declared.refusals.Cause.{Cause}
-use Rattle.fv_tree.specs.declared.refusals.Cause.TheVariants.{NoEnd}
+use Rattle.tree.specs.Causes.{number_of_cause, word_of_cause, refusal_at}
+use Rattle.tree.specs.declared.refusals.Cause.{Cause}
+use Rattle.tree.specs.declared.refusals.Cause.TheVariants.{NoEnd}
 use Rattle.f77_grammar.specs.Answered.{comes_before}
-use Rattle.fv_meaning.specs.Dialect.{fortran77}
+use Rattle.meaning.specs.Dialect.{fortran77}
 use Rattle.f77_grammar.specs.program.Program77.{program_causes, findings, RefusedStatements, holds_in}
 use Rattle.f77_grammar.specs.Answered.{IsAnswered}
 use Rattle.f77_grammar.proofs.Answered.{FollowsIn, not_before_least, one_answer}

@@ -3,17 +3,17 @@ use Rattle.std.proofs.Common.{◌≡◌, ℕ, suc, ◌<◌, ◌≤◌, nat_lt, B
 use Rattle.std.specs.Option.{option_map}
 use Rattle.std.specs.List.{list_any, AllByRecursion}
 use Rattle.std.proofs.lemmas.Bool.Decides.{nat_tests}
-use Rattle.fv_tree.specs.declared.refusals.Refused.TheVariants as refused
+use Rattle.tree.specs.declared.refusals.Refused.TheVariants as refused
 use Rattle.f77_grammar.specs.Statement77.{Labelled}
 use Rattle.f77_grammar.specs.program.Text.{Place, places, places_from}
-use Rattle.fv_tree.specs.Causes.{refusal_at}
-use Rattle.fv_tree.specs.declared.refusals.Cause.{Cause}
-use Rattle.fv_tree.specs.declared.refusals.Cause.TheVariants.{ManyNames, ManyBlocks, ReversedBounds, ManyElements, BadConstant}
-use Rattle.fv_meaning.specs.Dialect.{fortran77}
+use Rattle.tree.specs.Causes.{refusal_at}
+use Rattle.tree.specs.declared.refusals.Cause.{Cause}
+use Rattle.tree.specs.declared.refusals.Cause.TheVariants.{ManyNames, ManyBlocks, ReversedBounds, ManyElements, BadConstant}
+use Rattle.meaning.specs.Dialect.{fortran77}
 use Rattle.f77_grammar.specs.program.Program77.{holds_in}
-use Rattle.f77_syntax.specs.declared.statements.Labelled.{Labelled as Labelled'}
-use Rattle.f77_syntax.specs.Views.{labelled_of, text_of}
-use Rattle.f77_syntax.specs.First.{first_index, index_from}
+use Rattle.f77_grammar.specs.declared.syntax.statements.Labelled.{Labelled as Labelled'}
+use Rattle.f77_grammar.specs.syntax.Views.{labelled_of, text_of}
+use Rattle.f77_grammar.specs.syntax.First.{first_index, index_from}
 use Rattle.f77_checks.specs.declared.limits.Breach.{Breach}
 use Rattle.f77_checks.specs.Limits.{limits, here_or, found_from, sooner_found}
 use Rattle.f77_checks.specs.Outcomes.{Passes}

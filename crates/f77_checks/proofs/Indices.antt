@@ -6,9 +6,9 @@ use Rattle.std.proofs.Math.ListN.{get_or-map}
 use Rattle.std.proofs.lemmas.List.{reverse-append, length-map, length-reverse, get_or_at}
 use Rattle.f77_grammar.specs.Statement77.{Labelled}
 use Rattle.f77_grammar.specs.program.Text.{Place, places, places_from}
-use Rattle.f77_syntax.specs.declared.statements.Labelled.{Labelled as Labelled'}
-use Rattle.f77_syntax.specs.Views.{labelled_of, text_of}
-use Rattle.f77_syntax.specs.First.{first_line, first_index, index_from}
+use Rattle.f77_grammar.specs.declared.syntax.statements.Labelled.{Labelled as Labelled'}
+use Rattle.f77_grammar.specs.syntax.Views.{labelled_of, text_of}
+use Rattle.f77_grammar.specs.syntax.First.{first_line, first_index, index_from}
 
 abbrev pub index_of : Place → ℕ
 index_of p = length p.before

@@ -1,15 +1,15 @@
 -- What the line of a cause says of a text.
 use Rattle.std.proofs.Common.{◌≡◌, ℕ, Bool, true, false, ◌||◌, cond, Option, None, Some, Ok, Err, List, [], ◌∷◌, find, refl, ap, ◌∙◌}
 use Rattle.std.specs.Option.{option_map}
-use Rattle.fv_tree.specs.declared.refusals.Refusal.{Refusal}
-use Rattle.fv_tree.specs.declared.refusals.Refused.TheVariants as refused
+use Rattle.tree.specs.declared.refusals.Refusal.{Refusal}
+use Rattle.tree.specs.declared.refusals.Refused.TheVariants as refused
 use Rattle.f77_grammar.specs.Statement77.{Labelled}
 use Rattle.f77_grammar.specs.program.Text.{Place, places}
-use Rattle.fv_tree.specs.Causes.{number_of_cause, word_of_cause, refusal_at}
-use Rattle.fv_tree.specs.declared.refusals.Cause.{Cause}
-use Rattle.fv_meaning.specs.Dialect.{fortran77}
+use Rattle.tree.specs.Causes.{number_of_cause, word_of_cause, refusal_at}
+use Rattle.tree.specs.declared.refusals.Cause.{Cause}
+use Rattle.meaning.specs.Dialect.{fortran77}
 use Rattle.f77_grammar.specs.program.Program77.{holds_in}
-use Rattle.f77_syntax.specs.First.{first_line}
+use Rattle.f77_grammar.specs.syntax.First.{first_line}
 use Rattle.f77_checks.specs.Outcomes.{IsFirstAmong, Passes}
 use Rattle.f77_checks.proofs.Indices.{line_of}
 use Rattle.f77_checks.proofs.Found.{find_same, find_holds}

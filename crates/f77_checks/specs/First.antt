@@ -1,11 +1,11 @@
 -- Which finding in a program's text is the first, said of its statements.
 use Rattle.std.specs.Prelude.{◌≡◌, ℕ, ◌≤◌, ◌==◌, Bool, true, ◌&&◌, Some, List, [], ◌∷◌, Contains}
 use Rattle.std.specs.List.{list_any, find, AllByRecursion}
-use Rattle.fv_tree.specs.Causes.{number_of_cause, word_of_cause, refusal_at}
-use Rattle.fv_tree.specs.declared.refusals.Cause.{Cause}
-use Rattle.fv_tree.specs.declared.refusals.Cause.TheVariants.{NoEnd}
-use Rattle.fv_tree.specs.declared.refusals.Refusal.{Refusal}
-use Rattle.fv_meaning.specs.Dialect.{fortran77}
+use Rattle.tree.specs.Causes.{number_of_cause, word_of_cause, refusal_at}
+use Rattle.tree.specs.declared.refusals.Cause.{Cause}
+use Rattle.tree.specs.declared.refusals.Cause.TheVariants.{NoEnd}
+use Rattle.tree.specs.declared.refusals.Refusal.{Refusal}
+use Rattle.meaning.specs.Dialect.{fortran77}
 use Rattle.f77_grammar.specs.Statement77.{Labelled}
 use Rattle.f77_grammar.specs.program.Text.{Place, places}
 use Rattle.f77_grammar.specs.program.Program77.{program_causes, holds_in, findings}

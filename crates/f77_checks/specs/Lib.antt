@@ -1,4 +1,5 @@
 pub mod First
-pub mod Outcomes
-pub mod Limits
 pub mod Known
+pub mod Limits
+pub mod Outcomes
+pub mod kinds

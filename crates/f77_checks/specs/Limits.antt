@@ -1,9 +1,9 @@
 -- The limits of which each has a word of its own, and the first place at which one is broken.
 use Rattle.std.specs.Prelude.{ℕ, suc, nat_lt, Bool, if◌then◌else◌, Option, None, Some, List, [], ◌∷◌}
 use Rattle.std.specs.List.{find}
-use Rattle.fv_tree.specs.declared.refusals.Cause.{Cause}
-use Rattle.fv_tree.specs.declared.refusals.Cause.TheVariants.{ManyNames, ManyBlocks, ReversedBounds, ManyElements}
-use Rattle.fv_tree.specs.declared.refusals.Cause.TheVariants.{BadConstant}
+use Rattle.tree.specs.declared.refusals.Cause.{Cause}
+use Rattle.tree.specs.declared.refusals.Cause.TheVariants.{ManyNames, ManyBlocks, ReversedBounds, ManyElements}
+use Rattle.tree.specs.declared.refusals.Cause.TheVariants.{BadConstant}
 use Rattle.f77_grammar.specs.program.Text.{Place}
 use Rattle.f77_checks.specs.declared.limits.Breach.{Breach}
 

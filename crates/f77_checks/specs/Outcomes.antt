@@ -1,12 +1,12 @@
 -- What the answer of a check says of the text.
 use Rattle.std.specs.Prelude.{◌≡◌, None, Some, List, [], Result, Ok, Err}
 use Rattle.std.specs.List.{list_any, find, AllByRecursion}
-use Rattle.fv_tree.specs.Causes.{refusal_at}
-use Rattle.fv_tree.specs.declared.refusals.Cause.{Cause}
-use Rattle.fv_tree.specs.declared.refusals.Refusal.{Refusal}
-use Rattle.fv_tree.specs.declared.refusals.Refused.{Refused}
-use Rattle.fv_tree.specs.declared.refusals.Refused.TheVariants as refused
-use Rattle.fv_meaning.specs.Dialect.{fortran77}
+use Rattle.tree.specs.Causes.{refusal_at}
+use Rattle.tree.specs.declared.refusals.Cause.{Cause}
+use Rattle.tree.specs.declared.refusals.Refusal.{Refusal}
+use Rattle.tree.specs.declared.refusals.Refused.{Refused}
+use Rattle.tree.specs.declared.refusals.Refused.TheVariants as refused
+use Rattle.meaning.specs.Dialect.{fortran77}
 use Rattle.f77_grammar.specs.Statement77.{Labelled}
 use Rattle.f77_grammar.specs.program.Text.{Place, places}
 use Rattle.f77_grammar.specs.program.Program77.{holds_in, findings}

@@ -1,21 +1,21 @@
 //! The causes of refusal that have a number of their own, each with its check.
 ghost use Rattle.std.specs.Prelude.{◌≡◌, [], ◌∷◌};
-ghost use Rattle.fv_meaning.specs.Dialect.{fortran77};
+ghost use Rattle.meaning.specs.Dialect.{fortran77};
 ghost use Rattle.f77_grammar.specs.program.Program77.{holds_in};
-ghost use Rattle.f77_syntax.specs.First.{first_index};
-ghost use Rattle.f77_syntax.specs.Views.{text_of};
+ghost use Rattle.f77_grammar.specs.syntax.First.{first_index};
+ghost use Rattle.f77_grammar.specs.syntax.Views.{text_of};
 ghost use Rattle.f77_checks.specs.Known.{IsKnownOf};
 ghost use Rattle.f77_checks.specs.Outcomes.{Passes};
 
+use crate::kinds::unsuited_kind;
 use crate::known::Known;
 use crate::places::line_at;
-use f77_jumps::{wrong_do_variable, wrong_jump};
-use f77_kinds::unsuited_kind;
+use f77_grammar::syntax::Labelled;
 use f77_names::{real_name, wrong_declaration};
+use f77_structure::jumps::{wrong_do_variable, wrong_jump};
 use f77_structure::{wrong_end, wrong_label, wrong_nesting};
-use f77_syntax::Labelled;
-use fv_tree::{Cause, Refused};
 use std::alloc::Global;
+use tree::{Cause, Refused};
 
 // Refuses a text at the first place at which the cause holds, if it holds.
 fn refuse(text: &[Labelled], cause: Cause, place: Option<usize>) -> Result<(), Refused>

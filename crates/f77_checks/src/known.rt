@@ -1,14 +1,14 @@
 //! What is known of the statements of a program, found once for all checks and for its tree.
 ghost use Rattle.std.specs.Prelude.{IfOk};
-ghost use Rattle.f77_syntax.specs.Views.{text_of};
+ghost use Rattle.f77_grammar.specs.syntax.Views.{text_of};
 ghost use Rattle.f77_checks.specs.Known.{IsKnownOf};
 
-use f77_constants::{Constants, constants_of};
+use f77_grammar::syntax::Labelled;
 use f77_names::KnownNames;
+use f77_names::constants::{Constants, constants_of};
 use f77_structure::{LabelPlaces, label_ends};
-use f77_syntax::Labelled;
-use fv_tree::Memory;
 use std::alloc::Global;
+use tree::Memory;
 
 /// The names of a program, the places where labels end loops, and the values of its symbolic constants.
 #[derive(Drop)]

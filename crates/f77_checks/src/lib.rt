@@ -2,6 +2,7 @@
 #![tactic(auto)]
 
 mod causes;
+pub mod kinds;
 mod known;
 mod limits;
 mod places;

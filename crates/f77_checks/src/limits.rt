@@ -1,22 +1,22 @@
 //! The limits on a program's names, blocks, bounds, arrays and symbolic constants.
 ghost use Rattle.std.specs.Prelude.{◌≡◌, List, [], ◌∷◌, IfOk};
-ghost use Rattle.fv_meaning.specs.Dialect.{fortran77};
+ghost use Rattle.meaning.specs.Dialect.{fortran77};
 ghost use Rattle.f77_grammar.specs.Statement77.{Labelled as Plain};
 ghost use Rattle.f77_grammar.specs.program.Text.{places};
 ghost use Rattle.f77_grammar.specs.program.Program77.{holds_in};
-ghost use Rattle.f77_syntax.specs.First.{first_index};
-ghost use Rattle.f77_syntax.specs.Views.{text_of};
+ghost use Rattle.f77_grammar.specs.syntax.First.{first_index};
+ghost use Rattle.f77_grammar.specs.syntax.Views.{text_of};
 ghost use Rattle.f77_checks.specs.Known.{IsKnownOf};
 ghost use Rattle.f77_checks.specs.Limits.{limits, found_from, sooner_found};
 ghost use Rattle.f77_checks.specs.Outcomes.{Passes};
 
 use crate::known::Known;
-use f77_constants::{bad_constant, many_elements, reversed_bounds};
-use f77_jumps::many_blocks;
+use f77_grammar::syntax::Labelled;
+use f77_names::constants::{bad_constant, many_elements, reversed_bounds};
 use f77_names::many_names;
-use f77_syntax::Labelled;
-use fv_tree::{Cause, Memory, Refused};
+use f77_structure::jumps::many_blocks;
 use std::alloc::Global;
+use tree::{Cause, Memory, Refused};
 
 /// A limit that is broken, and the place of the first statement at which it is.
 #[derive(Clone, Copy)]

@@ -1,10 +1,10 @@
 //! Lines of statements.
 ghost use Rattle.std.specs.Prelude.{◌≡◌, Bool};
 ghost use Rattle.f77_grammar.specs.program.Text.{Place};
-ghost use Rattle.f77_syntax.specs.First.{first_index, first_line};
-ghost use Rattle.f77_syntax.specs.Views.{text_of};
+ghost use Rattle.f77_grammar.specs.syntax.First.{first_index, first_line};
+ghost use Rattle.f77_grammar.specs.syntax.Views.{text_of};
 
-use f77_syntax::Labelled;
+use f77_grammar::syntax::Labelled;
 
 /// The line of the statement at a place.
 #[tactic(auto, using(crate::proofs::Indices::line_laws))]

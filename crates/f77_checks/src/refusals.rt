@@ -1,10 +1,10 @@
 //! The first thing that is found wrong in a program.
 ghost use Rattle.std.specs.Prelude.{◌≡◌, ◌⊎◌, ◌<◌, length, [], Err, OnOk, OnErr};
-ghost use Rattle.fv_tree.specs.declared.refusals.Refusal.{Refusal};
-ghost use Rattle.fv_meaning.specs.Dialect.{fortran77};
+ghost use Rattle.tree.specs.declared.refusals.Refusal.{Refusal};
+ghost use Rattle.meaning.specs.Dialect.{fortran77};
 ghost use Rattle.f77_grammar.specs.program.Program77.{findings, RefusedStatements};
 ghost use Rattle.f77_laws.specs.Source.{AreRising};
-ghost use Rattle.f77_syntax.specs.Views.{text_of};
+ghost use Rattle.f77_grammar.specs.syntax.Views.{text_of};
 ghost use Rattle.f77_checks.specs.First.{IsFoundFirst};
 ghost use Rattle.f77_checks.specs.Known.{IsKnownOf};
 ghost use Rattle.f77_checks.specs.Outcomes.{IsChecked};
@@ -15,9 +15,9 @@ use crate::causes::{
 };
 use crate::known::Known;
 use crate::limits::refuse_breach;
-use f77_syntax::Labelled;
-use fv_tree::{Cause, Refused};
+use f77_grammar::syntax::Labelled;
 use std::alloc::Global;
+use tree::{Cause, Refused};
 
 // The causes come in the order of their numbers.
 #[tactic(auto, using(crate::proofs::Chain::chain_laws))]

@@ -5,10 +5,10 @@ use Rattle.std.specs.List.{list_any, list_all}
 use Rattle.std.specs.Str.Lines.{lines}
 use Rattle.std.proofs.lemmas.Bool.{and_parts, and_from, not-true, not_from_false, cond-true, cond-false, or_cases, or_left, or_right, eqb-true, ltb-true, ltb-false, both_ways, cases_lt}
 use Rattle.std.proofs.lemmas.List.Sums.{fold-append}
-use Rattle.fv_tree.specs.declared.refusals.Refusal.{Refusal}
+use Rattle.tree.specs.declared.refusals.Refusal.{Refusal}
 use Rattle.f77_grammar.proofs.Answered.{answered_by}
-use Rattle.fv_tree.specs.Causes.{number_of_cause, word_of_cause, refusal_at}
-use Rattle.fv_tree.specs.declared.refusals.Cause.TheVariants as causes'
+use Rattle.tree.specs.Causes.{number_of_cause, word_of_cause, refusal_at}
+use Rattle.tree.specs.declared.refusals.Cause.TheVariants as causes'
 use Rattle.f77_grammar.specs.Cards.{Line, LineCause, cause_of_line, IsWrong, HasCause, RefusedCards, is_blank, is_comment, is_initial, is_continuation, is_bad_byte, is_tab, is_label_character, label_field, statement_field, numbered, statement_lines, statement_lines_from}
 use Rattle.f77_grammar.specs.Cards.LineCause.{BadByte, Tab, LineForm, ManyLines}
 use Rattle.f77_grammar.specs.Cards.IsWrong.{HoldsBadByte, HoldsTab, HasNoInitialLine, HasLabelField, HasNoLabel, HasNoStatement, IsTwentieth}

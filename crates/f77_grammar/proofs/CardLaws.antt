@@ -2,9 +2,9 @@
 use Rattle.std.proofs.Common.{◌≡◌, ℕ, ◌^◌, ◌≤◌, List, [], ◌∷◌, length, refl, ap, sym, ◌∙◌, subst, inl, inr, ◌⊎◌, Option, None, Some}
 use Rattle.std.specs.Prelude.{map}
 use Rattle.std.proofs.lemmas.Bool.{cases_Bool, cases_lt, not_from_false}
-use Rattle.fv_tree.specs.Causes.{refusal_at}
-use Rattle.fv_tree.specs.declared.refusals.Cause.TheVariants as causes'
-use Rattle.fv_tree.specs.declared.refusals.Refusal.{Refusal}
+use Rattle.tree.specs.Causes.{refusal_at}
+use Rattle.tree.specs.declared.refusals.Cause.TheVariants as causes'
+use Rattle.tree.specs.declared.refusals.Refusal.{Refusal}
 use Rattle.f77_grammar.specs.Cards.{Line, PlainCard, HasCause, RefusedCards, ReadsCards, is_initial, card_in, cause_of_line, statement_lines}
 use Rattle.f77_grammar.specs.Cards.LineCause.{LineForm}
 use Rattle.f77_grammar.specs.Cards.IsWrong.{HasNoInitialLine}

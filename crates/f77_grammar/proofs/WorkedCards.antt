@@ -1,8 +1,8 @@
 -- Decks in fixed form with their statements and refusals, worked out.
 use Rattle.std.proofs.Common.{ℕ, List, [], ◌∷◌, ◌++◌, refl, None, Some}
 use Rattle.std.specs.Prelude.{codes, replicate}
-use Rattle.fv_tree.specs.Causes.{refusal_at}
-use Rattle.fv_tree.specs.declared.refusals.Cause.TheVariants as causes
+use Rattle.tree.specs.Causes.{refusal_at}
+use Rattle.tree.specs.declared.refusals.Cause.TheVariants as causes
 use Rattle.f77_grammar.specs.Cards.{AreCards, HasCause, columns_of, is_comment, is_initial, is_label_character, statement_lines_from, label_in, card_in}
 use Rattle.f77_grammar.specs.Cards.LineCause.{Tab, LineForm}
 use Rattle.f77_grammar.specs.Cards.IsWrong.{HoldsTab, HasNoLabel}

@@ -1,6 +1,6 @@
 -- Which of the refusals that hold is answered: the least number, then the first line, then the least word.
 use Rattle.std.specs.Prelude.{◌≡◌, ◌==◌, nat_lt, Bool, false, ◌&&◌, ◌||◌}
-use Rattle.fv_tree.specs.declared.refusals.Refusal.{Refusal}
+use Rattle.tree.specs.declared.refusals.Refusal.{Refusal}
 
 abbrev pub comes_before : Refusal → Refusal → Bool
 comes_before a b =

@@ -6,11 +6,11 @@ use Rattle.std.specs.Char.{is_ascii_digit}
 use Rattle.std.specs.List.{list_any, list_all, flat_map}
 use Rattle.std.specs.Str.Lines.{lines}
 use Rattle.std.specs.Str.Parse.{digits_value}
-use Rattle.fv_tree.specs.Causes.{refusal_at}
-use Rattle.fv_tree.specs.Limits.{source_bytes, continuation_lines}
-use Rattle.fv_tree.specs.declared.refusals.Cause.{Cause}
-use Rattle.fv_tree.specs.declared.refusals.Cause.TheVariants as causes
-use Rattle.fv_tree.specs.declared.refusals.Refusal.{Refusal}
+use Rattle.tree.specs.Causes.{refusal_at}
+use Rattle.tree.specs.Limits.{source_bytes, continuation_lines}
+use Rattle.tree.specs.declared.refusals.Cause.{Cause}
+use Rattle.tree.specs.declared.refusals.Cause.TheVariants as causes
+use Rattle.tree.specs.declared.refusals.Refusal.{Refusal}
 use Rattle.f77_grammar.specs.Answered.{IsAnswered}
 
 -- ---- lines

@@ -1,7 +1,8 @@
 pub mod Answered
 pub mod Cards
+pub mod Reading77
 pub mod Statement77
 pub mod expressions
 pub mod program
 pub mod statements
-pub mod Reading77
+pub mod syntax

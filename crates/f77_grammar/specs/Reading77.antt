@@ -1,9 +1,9 @@
 -- Which program is read from the cards of a source, and why cards are refused.
 use Rattle.std.specs.Prelude.{◌≡◌, ℕ, List, [], ◌∷◌}
 use Rattle.std.specs.List.{Contains}
-use Rattle.fv_tree.specs.declared.refusals.Refusal.{Refusal}
-use Rattle.fv_tree.specs.Plain.{Program}
-use Rattle.fv_meaning.specs.Dialect.{Dialect}
+use Rattle.tree.specs.declared.refusals.Refusal.{Refusal}
+use Rattle.tree.specs.Plain.{Program}
+use Rattle.meaning.specs.Dialect.{Dialect}
 use Rattle.f77_grammar.specs.Answered.{IsAnswered}
 use Rattle.f77_grammar.specs.Cards.{PlainCard, ReadsCards, RefusedCards}
 use Rattle.f77_grammar.specs.Statement77.{Labelled}

@@ -3,8 +3,8 @@
 -- call are
 -- written alike.
 use Rattle.std.specs.Prelude.{ℕ, List, Option}
-use Rattle.fv_tree.specs.declared.ops.Kind.{Kind}
-use Rattle.fv_tree.specs.Plain.{Expression, Reference, Items}
+use Rattle.tree.specs.declared.ops.Kind.{Kind}
+use Rattle.tree.specs.Plain.{Expression, Reference, Items}
 
 -- a name in a type statement or a DIMENSION, with the lower and the upper bound of each dimension
 pub record Entity : Type 0 where

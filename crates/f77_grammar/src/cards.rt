@@ -1,6 +1,6 @@
 //! Laws on the statements of fixed form, and on the refusals of its lines.
 ghost use Rattle.std.specs.Prelude.{◌≡◌, ◌⊎◌, ℕ, List};
-ghost use Rattle.fv_tree.specs.declared.refusals.Refusal.{Refusal};
+ghost use Rattle.tree.specs.declared.refusals.Refusal.{Refusal};
 ghost use Rattle.f77_grammar.specs.Cards.{PlainCard, AreCards, ReadsCards, RefusedCards};
 
 /// Each source is read as cards or refused, never both, and in one way alone.

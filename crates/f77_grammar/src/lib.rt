@@ -3,6 +3,7 @@
 
 mod cards;
 mod directions;
+pub mod syntax;
 
 pub use cards::source_is_read_or_refused;
 pub use directions::Direction;

@@ -3,22 +3,22 @@ use Rattle.std.proofs.Common.{◌≡◌, ◌⊎◌, inl, inr, ℕ, suc, ◌+◌,
 use Rattle.std.specs.List.{AllByRecursion}
 use Rattle.std.specs.Str.{bytes_eq}
 use Rattle.std.proofs.lemmas.Bool.{or_cases}
-use Rattle.fv_tree.specs.declared.ops.Kind.{Kind}
-use Rattle.fv_tree.specs.declared.ops.Kind.TheVariants.{Integer, Logical}
-use Rattle.fv_tree.specs.Plain.{Expression, Number, Logic, Named, Unary, Binary, Apply, Subscript, Subscripts, no_subscripts, subscript, Item, Single, Constant, ImpliedDo, Items, no_items, item, Declaration, block}
-use Rattle.fv_meaning.specs.Store.{Store}
+use Rattle.tree.specs.declared.ops.Kind.{Kind}
+use Rattle.tree.specs.declared.ops.Kind.TheVariants.{Integer, Logical}
+use Rattle.tree.specs.Plain.{Expression, Number, Logic, Named, Unary, Binary, Apply, Subscript, Subscripts, no_subscripts, subscript, Item, Single, Constant, ImpliedDo, Items, no_items, item, Declaration, block}
+use Rattle.meaning.specs.Store.{Store}
 use Rattle.f77_grammar.specs.declared.directions.Direction.{Direction}
 use Rattle.f77_grammar.specs.declared.directions.Direction.TheVariants.{Output, Input}
 use Rattle.f77_grammar.specs.Statement77.{Statement77, Program, Declare, Dimension, Constants, Assign, Go, Test, If, ElseIf, Else, EndIf, Do, Continue, Stop, Read, Print, End}
 use Rattle.f77_grammar.specs.expressions.Printing.{IsSource}
-use Rattle.fv_meaning.specs.Names.{is_among}
-use Rattle.fv_meaning.specs.Depths.{depth_of, depth_of_item, depth_of_items}
-use Rattle.fv_meaning.specs.Typed77.{number_of_subscripts, dimensions, declared, has_item, HasKind, IsWhole, IsDoVariable, IsOutput, IsInput, IsOutputItem, AreOutputItems, IsInputItem, AreInputItems}
+use Rattle.meaning.specs.Names.{is_among}
+use Rattle.meaning.specs.Depths.{depth_of, depth_of_item, depth_of_items}
+use Rattle.meaning.specs.Typed77.{number_of_subscripts, dimensions, declared, has_item, HasKind, IsWhole, IsDoVariable, IsOutput, IsInput, IsOutputItem, AreOutputItems, IsInputItem, AreInputItems}
 use Rattle.f77_grammar.specs.program.Uses.{Target, Valued, Use, use_of, uses_in, uses_in_subscripts, uses_in_item, uses_in_items, input_uses, control_uses, uses_of, stands, is_typed, is_bounded, is_bare, is_constant, is_variable, is_array, kind_of_name}
 use Rattle.f77_grammar.specs.program.Declarations.{suits_list}
 use Rattle.f77_grammar.specs.program.Kinds.{same_kind, has_kind, has_some_kind, are_subscripts, is_stored_into, suits_output, suits_input, are_numbers, suits_item, suits_items, suits}
 use Rattle.f77_grammar.specs.program.DoVariables.{sets_one_of, reads_one_of, is_integer_scalar, is_wrong_variable, misuses_in_item, misuses_in_items, misuses_variable}
-use Rattle.fv_meaning.specs.Profile77.{Surroundings, IsLine, IsAssignment, IsBlock}
+use Rattle.meaning.specs.Profile77.{Surroundings, IsLine, IsAssignment, IsBlock}
 use Rattle.f77_grammar.specs.program.Tree.{literal, value_or_name, resolved, resolved_subscripts, resolved_input, resolved_value, resolved_item, resolved_items, simple, target}
 use Rattle.f77_laws.specs.Source.{IsShallow, IsSourceVariable, IsSourceItem, AreSourceItems, IsSourceAction}
 use Rattle.f77_laws.proofs.Lists.{left_true, right_true, left_false, right_false, not_both, negated, affirmed, all_left, all_right, all_at, any_true, cases_of, here, there}

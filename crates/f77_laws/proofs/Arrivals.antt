@@ -3,16 +3,16 @@ use Rattle.std.proofs.Common.{◌≡◌, ℕ, zero, suc, ◌==◌, Bool, true, f
 use Rattle.std.specs.List.{AllByRecursion, list_any}
 use Rattle.std.proofs.lemmas.Bool.Decides.{nat_tests}
 use Rattle.std.proofs.lemmas.List.Elements.{Contains-append_left, Contains-append_right}
-use Rattle.fv_tree.specs.Plain as tree
-use Rattle.fv_meaning.specs.Store.{Store}
+use Rattle.tree.specs.Plain as tree
+use Rattle.meaning.specs.Store.{Store}
 use Rattle.f77_grammar.specs.Statement77.{Labelled, Statement77, If, ElseIf, Else, EndIf, Do}
 use Rattle.f77_grammar.specs.program.Text.{Place, places_from, is_label, bears, stands_in, ends_in, loop_ends_in, left_over, without_ended}
 use Rattle.f77_grammar.specs.program.Nesting.{nests_wrongly, ends_loops_wrongly, is_left_open, is_closed_wrongly}
 use Rattle.f77_grammar.specs.program.Jumps.{place_of_label, opens_arm, enters_block, is_no_target, leads_wrongly}
 use Rattle.f77_grammar.specs.program.Uses.{Use}
-use Rattle.fv_meaning.specs.Profile77.{labels_of}
+use Rattle.meaning.specs.Profile77.{labels_of}
 use Rattle.f77_grammar.specs.program.Tree.{mark_of, resolved, simple}
-use Rattle.f77_tree_laws.specs.Steps.{Piece, Rest, Outermost, InArm, block_of, up_to, beyond, preceded, loop_begun, begun, rest_from}
+use Rattle.f77_laws.specs.trees.Steps.{Piece, Rest, Outermost, InArm, block_of, up_to, beyond, preceded, loop_begun, begun, rest_from}
 use Rattle.f77_laws.proofs.Lists.{left_false, right_false, both_false, affirmed, here, not_both}
 use Rattle.f77_laws.proofs.Sound.{IsRight}
 use Rattle.f77_laws.proofs.Frames.{Loop, Frames, Base, Inner, pushed, closed, frames}

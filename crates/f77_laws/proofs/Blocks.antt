@@ -1,17 +1,17 @@
 -- Blocks of the tree: what stands in them, and how deep.
 use Rattle.std.proofs.Common.{◌≡◌, ℕ, ◌+◌, ◌≤◌, max, ◌==◌, Bool, true, false, cond, Option, Some, None, IfSome, List, [], ◌∷◌, ◌++◌, length, refl, sym, ap, subst, ◌∙◌, arith, flat_map, append-nil, append_assoc}
 use Rattle.std.specs.List.{list_any}
-use Rattle.fv_tree.specs.declared.ops.Kind.TheVariants.{Integer, Logical}
-use Rattle.fv_tree.specs.Plain as tree
-use Rattle.fv_tree.specs.Plain.{Expression, Declaration}
-use Rattle.fv_meaning.specs.Store.{Store}
+use Rattle.tree.specs.declared.ops.Kind.TheVariants.{Integer, Logical}
+use Rattle.tree.specs.Plain as tree
+use Rattle.tree.specs.Plain.{Expression, Declaration}
+use Rattle.meaning.specs.Store.{Store}
 use Rattle.f77_grammar.specs.Statement77.{Labelled, If, ElseIf, Else}
 use Rattle.f77_grammar.specs.program.Text.{is_label}
-use Rattle.fv_meaning.specs.Typed77.{IsWhole, IsDoVariable}
+use Rattle.meaning.specs.Typed77.{IsWhole, IsDoVariable}
 use Rattle.f77_grammar.specs.program.Uses.{Use}
-use Rattle.fv_meaning.specs.Profile77.{labels_of, blocks_in_arms, blocks_in, Surroundings, IsLine, IsLabel, IsStatement, AreArms, IsBlock}
+use Rattle.meaning.specs.Profile77.{labels_of, blocks_in_arms, blocks_in, Surroundings, IsLine, IsLabel, IsStatement, AreArms, IsBlock}
 use Rattle.f77_grammar.specs.program.Tree.{mark_of, resolved}
-use Rattle.f77_tree_laws.specs.Steps.{Piece, Rest, Outermost, InArm, block_of, up_to, beyond, preceded, loop_in, loop_begun, begun}
+use Rattle.f77_laws.specs.trees.Steps.{Piece, Rest, Outermost, InArm, block_of, up_to, beyond, preceded, loop_in, loop_begun, begun}
 use Rattle.f77_laws.proofs.Frames.{Loop, Frames, Base, Inner, pushed, closed, top_closed, names_in, variables, depth, top_kept}
 use Rattle.f77_laws.proofs.Shapes.{label_is}
 use Rattle.f77_laws.proofs.Arrivals.{ahead_of, labels_appended}

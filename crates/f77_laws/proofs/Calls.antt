@@ -2,18 +2,18 @@
 use Rattle.std.proofs.Common.{◌≡◌, ◌⊎◌, inl, inr, ℕ, suc, ◌+◌, ◌==◌, one-add, Bool, true, false, not, ◌&&◌, ◌||◌, cond, append_assoc, Option, Some, None, pos, negsuc, List, [], ◌∷◌, ◌++◌, refl, sym, ap, subst, ◌∙◌, flat_map}
 use Rattle.std.specs.List.{AllByRecursion, list_any}
 use Rattle.std.proofs.lemmas.Bool.{or_cases}
-use Rattle.fv_tree.specs.declared.ops.Kind.{Kind}
-use Rattle.fv_tree.specs.declared.ops.Kind.TheVariants.{Integer, Logical}
-use Rattle.fv_tree.specs.declared.ops.Value.{Value}
-use Rattle.fv_tree.specs.declared.ops.Value.TheVariants.{Int, Truth}
-use Rattle.fv_tree.specs.declared.functions.Fun.{Fun}
-use Rattle.fv_tree.specs.Plain as tree
-use Rattle.fv_tree.specs.Plain.{Expression, Number, Logic, Named, Unary, Binary, Subscript, Only, Section, Subscripts, no_subscripts, subscript, Item, Single, Constant, ImpliedDo, Items, no_items, item}
-use Rattle.fv_meaning.specs.Store.{Store}
-use Rattle.fv_tree.specs.Functions.{function_named, name_of_function}
-use Rattle.fv_tree.specs.OperatorTable.{operand_kind, result_kind_of, is_unary}
-use Rattle.fv_meaning.specs.Typed77.{number_of_subscripts}
-use Rattle.fv_meaning.specs.Calls.{calls_in, calls_in_each, calls_in_subscripts, calls_in_subscript, calls_in_item, calls_in_items, calls_in_statement, calls_in_arms, calls_in_block}
+use Rattle.tree.specs.declared.ops.Kind.{Kind}
+use Rattle.tree.specs.declared.ops.Kind.TheVariants.{Integer, Logical}
+use Rattle.tree.specs.declared.ops.Value.{Value}
+use Rattle.tree.specs.declared.ops.Value.TheVariants.{Int, Truth}
+use Rattle.tree.specs.declared.functions.Fun.{Fun}
+use Rattle.tree.specs.Plain as tree
+use Rattle.tree.specs.Plain.{Expression, Number, Logic, Named, Unary, Binary, Subscript, Only, Section, Subscripts, no_subscripts, subscript, Item, Single, Constant, ImpliedDo, Items, no_items, item}
+use Rattle.meaning.specs.Store.{Store}
+use Rattle.tree.specs.Functions.{function_named, name_of_function}
+use Rattle.tree.specs.OperatorTable.{operand_kind, result_kind_of, is_unary}
+use Rattle.meaning.specs.Typed77.{number_of_subscripts}
+use Rattle.meaning.specs.Calls.{calls_in, calls_in_each, calls_in_subscripts, calls_in_subscript, calls_in_item, calls_in_items, calls_in_statement, calls_in_arms, calls_in_block}
 use Rattle.f77_grammar.specs.declared.directions.Direction.{Direction}
 use Rattle.f77_grammar.specs.declared.directions.Direction.TheVariants.{Output, Input}
 use Rattle.f77_grammar.specs.expressions.Printing.{IsSource, IsSourceSubscript, AreSource}
@@ -21,7 +21,7 @@ use Rattle.f77_grammar.specs.Statement77.{Labelled, Statement77, Program, Declar
 use Rattle.f77_grammar.specs.program.Uses.{Use, uses_in, uses_in_subscripts, uses_in_subscript, uses_in_item, uses_in_items, input_uses, value_uses, control_uses, uses_of, is_array, is_function, is_constant, kind_of_name}
 use Rattle.f77_grammar.specs.program.Kinds.{same_kind, has_kind, has_some_kind, takes_so_many, list_has_kind, name_has_kind, are_subscripts, is_subscript, is_stored_into, suits_output, suits_input, are_numbers, suits_value, suits_item, suits_items, suits}
 use Rattle.f77_grammar.specs.program.Tree.{literal, arguments_of, call_of, element_or_call, value_or_name, resolved, resolved_subscripts, resolved_subscript, resolved_input, resolved_value, resolved_item, resolved_items, simple, mark_of}
-use Rattle.f77_tree_laws.specs.Steps.{Piece, Rest, Outermost, InArm, block_of, up_to, beyond, preceded, loop_in, loop_begun, begun, outermost_block, rest_from}
+use Rattle.f77_laws.specs.trees.Steps.{Piece, Rest, Outermost, InArm, block_of, up_to, beyond, preceded, loop_in, loop_begun, begun, outermost_block, rest_from}
 use Rattle.f77_laws.specs.Source.{IsSourceVariable, IsSourceValue, IsSourceItem, AreSourceItems, IsSourceAction, IsSourceStatement}
 use Rattle.f77_laws.proofs.Lists.{left_true, right_true, all_left, all_right, all_both}
 use Rattle.f77_laws.proofs.Blocks.{made_appended, all_pieces_are}

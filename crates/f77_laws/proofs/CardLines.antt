@@ -5,8 +5,8 @@ use Rattle.std.specs.List.{AllByRecursion, list_any}
 use Rattle.std.specs.Str.Lines.{lines}
 use Rattle.std.proofs.lemmas.Bool.{ltb-false}
 use Rattle.std.proofs.lemmas.List.{append_assoc, take-append-drop}
-use Rattle.fv_tree.specs.Causes.{refusal_at}
-use Rattle.fv_tree.specs.declared.refusals.Refusal.{Refusal}
+use Rattle.tree.specs.Causes.{refusal_at}
+use Rattle.tree.specs.declared.refusals.Refusal.{Refusal}
 use Rattle.f77_grammar.specs.Cards.{Line, HasCause, columns_of, is_bad_byte, is_tab, is_comment, cause_of_line, numbered, statement_field, statement_lines, statement_lines_from}
 use Rattle.f77_grammar.specs.Cards.LineCause.{BadByte, Tab}
 use Rattle.f77_grammar.specs.Cards.IsWrong.{HoldsBadByte, HoldsTab}

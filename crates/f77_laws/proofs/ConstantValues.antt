@@ -3,26 +3,26 @@ use Rattle.std.proofs.Common.{◌≡◌, ℕ, Bool, true, false, not, ◌&&◌, 
 use Rattle.std.specs.Prelude.{Result, Ok, Err}
 use Rattle.std.specs.List.{AllByRecursion}
 use Rattle.std.specs.Str.{bytes_eq}
-use Rattle.fv_tree.specs.Steps.{◌>>=◌}
-use Rattle.fv_tree.specs.Operators.{fits, ranged, exact_value, on_numbers, on_truths, apply, call, exact_of_values, kind_of, is_neg, is_not}
-use Rattle.fv_tree.specs.declared.ops.Kind.{Kind}
-use Rattle.fv_tree.specs.declared.ops.Kind.TheVariants.{Integer, Logical}
-use Rattle.fv_tree.specs.declared.ops.Fault.{Fault}
-use Rattle.fv_tree.specs.declared.ops.Fault.TheVariants.{Overflow, Bounds, Shape}
-use Rattle.fv_tree.specs.declared.ops.Value.{Value}
-use Rattle.fv_tree.specs.declared.ops.Value.TheVariants.{Int, Truth}
-use Rattle.fv_tree.specs.declared.ops.Op.{Op}
-use Rattle.fv_tree.specs.declared.ops.Op.TheVariants.{Pow, Mul, Div, Neg, Add, Sub, Lt, Le, Eq, Ne, Gt, Ge, Not, And, Or, Eqv, Neqv}
-use Rattle.fv_tree.specs.Plain.{Expression, Number, Logic, Named, Unary, Binary, Apply, Subscripts, no_subscripts, subscript}
-use Rattle.fv_meaning.specs.Store.{Store, Cell, cell_at, cell_in, is_within}
-use Rattle.fv_meaning.specs.Value.{value_of, values_of, subscript_values, subscript_value, is_in_range}
-use Rattle.fv_meaning.specs.Dialect.{Dialect}
+use Rattle.tree.specs.Steps.{◌>>=◌}
+use Rattle.tree.specs.Operators.{fits, ranged, exact_value, on_numbers, on_truths, apply, call, exact_of_values, kind_of, is_neg, is_not}
+use Rattle.tree.specs.declared.ops.Kind.{Kind}
+use Rattle.tree.specs.declared.ops.Kind.TheVariants.{Integer, Logical}
+use Rattle.tree.specs.declared.ops.Fault.{Fault}
+use Rattle.tree.specs.declared.ops.Fault.TheVariants.{Overflow, Bounds, Shape}
+use Rattle.tree.specs.declared.ops.Value.{Value}
+use Rattle.tree.specs.declared.ops.Value.TheVariants.{Int, Truth}
+use Rattle.tree.specs.declared.ops.Op.{Op}
+use Rattle.tree.specs.declared.ops.Op.TheVariants.{Pow, Mul, Div, Neg, Add, Sub, Lt, Le, Eq, Ne, Gt, Ge, Not, And, Or, Eqv, Neqv}
+use Rattle.tree.specs.Plain.{Expression, Number, Logic, Named, Unary, Binary, Apply, Subscripts, no_subscripts, subscript}
+use Rattle.meaning.specs.Store.{Store, Cell, cell_at, cell_in, is_within}
+use Rattle.meaning.specs.Value.{value_of, values_of, subscript_values, subscript_value, is_in_range}
+use Rattle.meaning.specs.Dialect.{Dialect}
 use Rattle.f77_grammar.specs.Statement77.{NamedConstant, Labelled}
-use Rattle.fv_meaning.specs.Typed77.{number_of_arguments}
+use Rattle.meaning.specs.Typed77.{number_of_arguments}
 use Rattle.f77_grammar.specs.program.Uses.{Use, is_array, kind_of_name}
 use Rattle.f77_grammar.specs.program.Kinds.{same_kind, has_kind, name_has_kind, are_arguments}
-use Rattle.fv_tree.specs.OperatorTable.{result_kind_of, operand_kind, is_unary}
-use Rattle.fv_tree.specs.Functions.{suits_number}
+use Rattle.tree.specs.OperatorTable.{result_kind_of, operand_kind, is_unary}
+use Rattle.tree.specs.Functions.{suits_number}
 use Rattle.f77_grammar.specs.program.Limits.{in_range, constant_value, no_values, with_value, with_constant, with_constants, definitions_of, constants_of}
 use Rattle.f77_laws.proofs.Lists.{left_true, right_true}
 use Rattle.f77_laws.proofs.Variables.{same_name}

@@ -4,14 +4,14 @@ use Rattle.std.specs.Prelude.{Result, Ok, Err}
 use Rattle.std.specs.List.{AllByRecursion}
 use Rattle.std.specs.Str.{bytes_eq}
 use Rattle.std.specs.declared.cmp.Ordering.TheVariants.{Less}
-use Rattle.fv_tree.specs.declared.ops.Fault.{Fault}
-use Rattle.fv_tree.specs.Plain.{Expression}
-use Rattle.fv_meaning.specs.Dialect.{Dialect}
-use Rattle.fv_meaning.specs.Store.{Store, size_of}
+use Rattle.tree.specs.declared.ops.Fault.{Fault}
+use Rattle.tree.specs.Plain.{Expression}
+use Rattle.meaning.specs.Dialect.{Dialect}
+use Rattle.meaning.specs.Store.{Store, size_of}
 use Rattle.f77_grammar.specs.Statement77.{Entity, Labelled}
-use Rattle.fv_meaning.specs.Names.{IsInByteOrder, is_among}
+use Rattle.meaning.specs.Names.{IsInByteOrder, is_among}
 use Rattle.f77_grammar.specs.program.Limits.{once, entities_of, has_bounds, bounds_among, bounds_declared, bounds_of_name, elements, product_of_sizes, size_in, dimension_of, all_elements}
-use Rattle.fv_meaning.specs.Profile77.{array_elements, elements_of}
+use Rattle.meaning.specs.Profile77.{array_elements, elements_of}
 use Rattle.f77_grammar.specs.program.Tree.{bounds_in}
 use Rattle.std.proofs.lemmas.List.{map-append}
 use Rattle.std.proofs.lemmas.List.Sums.{sum_by-append, sum_by-cons}

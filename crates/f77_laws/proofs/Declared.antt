@@ -7,25 +7,25 @@ use Rattle.std.specs.Prelude.{Result, Ok, Err}
 use Rattle.std.specs.List.{AllByRecursion, list_any}
 use Rattle.std.specs.Str.{bytes_eq}
 use Rattle.std.proofs.lemmas.List.{length-map}
-use Rattle.fv_tree.specs.Steps.{◌>>=◌}
-use Rattle.fv_tree.specs.Operators.{fits, as_number}
-use Rattle.fv_tree.specs.declared.ops.Kind.TheVariants.{Integer}
-use Rattle.fv_tree.specs.declared.ops.Fault.{Fault}
-use Rattle.fv_tree.specs.declared.ops.Fault.TheVariants.{Overflow}
-use Rattle.fv_tree.specs.declared.ops.Value.{Value}
-use Rattle.fv_tree.specs.declared.ops.Value.TheVariants.{Int, Truth}
-use Rattle.fv_tree.specs.Plain.{Expression, Declaration}
-use Rattle.fv_meaning.specs.Store.{Store}
-use Rattle.fv_meaning.specs.Value.{value_of, number_of, is_in_range}
-use Rattle.fv_meaning.specs.Dialect.{Dialect}
+use Rattle.tree.specs.Steps.{◌>>=◌}
+use Rattle.tree.specs.Operators.{fits, as_number}
+use Rattle.tree.specs.declared.ops.Kind.TheVariants.{Integer}
+use Rattle.tree.specs.declared.ops.Fault.{Fault}
+use Rattle.tree.specs.declared.ops.Fault.TheVariants.{Overflow}
+use Rattle.tree.specs.declared.ops.Value.{Value}
+use Rattle.tree.specs.declared.ops.Value.TheVariants.{Int, Truth}
+use Rattle.tree.specs.Plain.{Expression, Declaration}
+use Rattle.meaning.specs.Store.{Store}
+use Rattle.meaning.specs.Value.{value_of, number_of, is_in_range}
+use Rattle.meaning.specs.Dialect.{Dialect}
 use Rattle.f77_grammar.specs.Statement77.{Entity, NamedConstant, Labelled, Statement77, Declare, Dimension}
 use Rattle.f77_grammar.specs.program.Text.{places, places_from}
-use Rattle.fv_meaning.specs.Names.{IsSymbolicName, IsInByteOrder}
-use Rattle.fv_meaning.specs.Typed77.{dimensions}
+use Rattle.meaning.specs.Names.{IsSymbolicName, IsInByteOrder}
+use Rattle.meaning.specs.Typed77.{dimensions}
 use Rattle.f77_grammar.specs.program.Uses.{Use, uses_of, uses_in_text, is_constant, is_variable}
 use Rattle.f77_grammar.specs.program.Kinds.{has_kind, are_integer_bounds, has_integer_bounds, suits, calls_hidden}
 use Rattle.f77_grammar.specs.program.Limits.{in_range, constants_of, dimension_of, definitions_of, entities_of, has_bounds, bounds_among, bounds_of_name, bounds_declared, elements, all_elements, counted_names, is_reversed, is_no_constant}
-use Rattle.fv_meaning.specs.Profile77.{IsDimension, IsDeclaration, AreDeclarations, array_elements}
+use Rattle.meaning.specs.Profile77.{IsDimension, IsDeclaration, AreDeclarations, array_elements}
 use Rattle.f77_grammar.specs.program.Tree.{bounds_in, variables_of, declaration_of}
 use Rattle.f77_laws.specs.Source.{IsSourceEntity, IsSourceStatement, IsSourceCard}
 use Rattle.f77_laws.proofs.Lists.{left_true, right_true, left_false, right_false, affirmed, all_both, all_at, all_of, from_flat, in_flat}

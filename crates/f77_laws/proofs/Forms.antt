@@ -1,6 +1,6 @@
 -- What characters of a card are read as is a source statement.
 use Rattle.std.proofs.Common.{◌≡◌, ◌⊎◌, inl, inr, ℕ, ◌≤◌, List, [], ◌∷◌, ◌++◌, sym, subst, codes, arith}
-use Rattle.fv_tree.specs.Plain.{Named}
+use Rattle.tree.specs.Plain.{Named}
 use Rattle.f77_grammar.specs.expressions.Words as words
 use Rattle.f77_grammar.specs.expressions.Words.{Word}
 use Rattle.f77_grammar.specs.expressions.Phrases as phrases

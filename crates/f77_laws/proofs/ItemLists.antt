@@ -1,12 +1,12 @@
 -- The lists of READ and PRINT.
 use Rattle.std.proofs.Common.{◌≡◌, ℕ, ◌≤◌, max, true, IsTrue, Option, None, Some, List, [], ◌∷◌, ◌++◌, refl, arith}
-use Rattle.fv_tree.specs.Plain.{Item, items}
+use Rattle.tree.specs.Plain.{Item, items}
 use Rattle.f77_grammar.specs.expressions.Words as words
 use Rattle.f77_grammar.specs.expressions.Words.{Word}
 use Rattle.f77_grammar.specs.expressions.Phrases.{Phrase, Literal, WideLiteral, Truth, Name, Listed, Paren, Signed, Joined, written, tree}
 use Rattle.f77_grammar.specs.expressions.Printing.{IsSource}
-use Rattle.fv_meaning.specs.Depths.{depth_of, depth_of_item, depth_of_items}
-use Rattle.fv_meaning.specs.Typed77.{has_item, IsText}
+use Rattle.meaning.specs.Depths.{depth_of, depth_of_item, depth_of_items}
+use Rattle.meaning.specs.Typed77.{has_item, IsText}
 use Rattle.f77_grammar.specs.statements.Controls.{Control, IsStep, written_step, written_control, step_tree, step_depth}
 use Rattle.f77_grammar.specs.statements.Items.{ItemPhrase, ItemPhrases, Value, Text, Loop, Sole, More, IsReference, MayStand, takes_text, IsItem, AreItems, written_item, written_items, item_tree, item_trees, item_depth, items_depth}
 use Rattle.f77_grammar.specs.declared.directions.Direction.{Direction}

@@ -4,14 +4,14 @@ use Rattle.std.specs.List.{AllByRecursion, list_any}
 use Rattle.std.specs.Str.{bytes_eq}
 use Rattle.std.proofs.lemmas.Bool.{or_cases}
 use Rattle.std.proofs.lemmas.List.{length-map}
-use Rattle.fv_tree.specs.declared.ops.Kind.{Kind}
-use Rattle.fv_tree.specs.Plain.{Expression, Declaration}
+use Rattle.tree.specs.declared.ops.Kind.{Kind}
+use Rattle.tree.specs.Plain.{Expression, Declaration}
 use Rattle.std.proofs.Math.Pow.{pow_mono}
-use Rattle.fv_tree.specs.declared.ops.Value.{Value}
-use Rattle.fv_tree.specs.declared.ops.Value.TheVariants.{Int, Truth}
-use Rattle.fv_meaning.specs.Dialect.{Dialect}
-use Rattle.fv_meaning.specs.Store.{Store, Cell}
-use Rattle.fv_meaning.specs.Value.{is_in_range}
+use Rattle.tree.specs.declared.ops.Value.{Value}
+use Rattle.tree.specs.declared.ops.Value.TheVariants.{Int, Truth}
+use Rattle.meaning.specs.Dialect.{Dialect}
+use Rattle.meaning.specs.Store.{Store, Cell}
+use Rattle.meaning.specs.Value.{is_in_range}
 use Rattle.f77_grammar.specs.Statement77.{Entity, NamedConstant, Labelled, Statement77, Program, Declare, Dimension, Constants, Test}
 use Rattle.f77_grammar.specs.program.Text.{places, places_from}
 use Rattle.f77_grammar.specs.program.Uses.{Role, Title, uses_in_bounds, Defined, Use, use_of, uses_in, bounded_uses, dimensioned_uses, typed_uses, defined_uses, uses_of, uses_in_text, is_typed, is_bounded, is_defined, is_bare, stands, is_constant, is_variable, kind_of_name}

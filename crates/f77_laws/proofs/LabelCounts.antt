@@ -2,15 +2,15 @@
 use Rattle.std.proofs.Common.{◌≡◌, ◌⊎◌, inl, inr, ℕ, ◌+◌, ◌*◌, ◌≤◌, ◌==◌, Bool, true, false, ◌||◌, cond, Option, Some, None, List, [], ◌∷◌, ◌++◌, length, refl, ap, subst, ◌∙◌, arith, Contains}
 use Rattle.std.specs.List.{AllByRecursion, list_any}
 use Rattle.std.proofs.lemmas.Bool.Decides.{nat_tests}
-use Rattle.fv_tree.specs.Plain as tree
-use Rattle.fv_tree.specs.Plain.{Expression}
-use Rattle.fv_meaning.specs.Store.{Store}
+use Rattle.tree.specs.Plain as tree
+use Rattle.tree.specs.Plain.{Expression}
+use Rattle.meaning.specs.Store.{Store}
 use Rattle.f77_grammar.specs.Statement77.{Labelled, Statement77, Program, Declare, Dimension, Constants, Assign, Go, Test, If, ElseIf, Else, EndIf, Do, Continue, Stop, Read, Print, End}
 use Rattle.f77_grammar.specs.program.Text.{places_from, is_label, bears, stands_in, action}
 use Rattle.f77_grammar.specs.program.Uses.{Use}
-use Rattle.fv_meaning.specs.Profile77.{all_labels_of, all_labels_in_arms, all_labels_in, targets_of, targets_in_arms, targets_in, IsWithoutRepeats, statements_in_arms, statements_in}
+use Rattle.meaning.specs.Profile77.{all_labels_of, all_labels_in_arms, all_labels_in, targets_of, targets_in_arms, targets_in, IsWithoutRepeats, statements_in_arms, statements_in}
 use Rattle.f77_grammar.specs.program.Tree.{mark_of, simple, target, targets}
-use Rattle.f77_tree_laws.specs.Steps.{Rest, Outermost, InArm, outermost_block, rest_from}
+use Rattle.f77_laws.specs.trees.Steps.{Rest, Outermost, InArm, outermost_block, rest_from}
 use Rattle.f77_laws.specs.Source.{IsSourceAction, IsSourceStatement, IsSourceCard}
 use Rattle.f77_laws.proofs.Lists.{left_false, right_false, here, there, nowhere, cases_of, Found, found, all_of}
 use Rattle.f77_laws.proofs.Sound.{IsRight}

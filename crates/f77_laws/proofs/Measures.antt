@@ -1,12 +1,12 @@
 -- What statements add to a number of the tree: how often a label stands in it, how often a GO TO names it, how many statements there are.
 use Rattle.std.proofs.Common.{◌≡◌, ℕ, ◌+◌, ◌≤◌, true, Some, None, List, [], ◌∷◌, ◌++◌, refl, sym, ap, subst, ◌∙◌, arith, flat_map}
-use Rattle.fv_tree.specs.Plain as tree
-use Rattle.fv_tree.specs.Plain.{Expression}
-use Rattle.fv_meaning.specs.Store.{Store}
+use Rattle.tree.specs.Plain as tree
+use Rattle.tree.specs.Plain.{Expression}
+use Rattle.meaning.specs.Store.{Store}
 use Rattle.f77_grammar.specs.Statement77.{Labelled, Statement77, If, ElseIf, Else, EndIf, Do}
 use Rattle.f77_grammar.specs.program.Uses.{Use}
 use Rattle.f77_grammar.specs.program.Tree.{mark_of, resolved, simple}
-use Rattle.f77_tree_laws.specs.Steps.{Piece, Rest, Outermost, InArm, block_of, up_to, beyond, preceded, loop_begun, begun}
+use Rattle.f77_laws.specs.trees.Steps.{Piece, Rest, Outermost, InArm, block_of, up_to, beyond, preceded, loop_begun, begun}
 use Rattle.f77_laws.proofs.Frames.{Frames, Inner}
 use Rattle.f77_laws.proofs.Moves.{Moves}
 use Rattle.f77_laws.proofs.Shapes.{IsShaped}

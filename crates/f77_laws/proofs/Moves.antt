@@ -4,12 +4,12 @@ use Rattle.std.specs.List.{AllByRecursion}
 use Rattle.f77_grammar.specs.Statement77.{Labelled}
 use Rattle.f77_grammar.specs.program.Text.{Place, places_from, stands_in, action}
 use Rattle.f77_grammar.specs.program.Labels.{is_wrong_label, is_unknown, label_named}
-use Rattle.f77_tree_laws.specs.Laws.{IsWellNested}
-use Rattle.f77_tree_laws.proofs.Moves as nested
+use Rattle.f77_laws.specs.trees.Laws.{IsWellNested}
+use Rattle.f77_laws.proofs.trees.Moves as nested
 use Rattle.f77_laws.proofs.Lists.{left_false, all_weaker}
 use Rattle.f77_laws.proofs.Sound.{IsRight}
 use Rattle.f77_laws.proofs.Frames.{frames}
-pub use Rattle.f77_tree_laws.proofs.Moves.{HasNoElse, IsInIf, Moves, AllEnd}
+pub use Rattle.f77_laws.proofs.trees.Moves.{HasNoElse, IsInIf, Moves, AllEnd}
 
 is_well_nested : (text : List Labelled) (p : Place) → IsRight text p → IsWellNested p
 is_well_nested text p h =

@@ -3,22 +3,22 @@ use Rattle.std.proofs.Common.{◌≡◌, ◌⊎◌, inl, inr, ℕ, suc, ◌+◌,
 use Rattle.std.specs.List.{AllByRecursion}
 use Rattle.std.specs.Str.{bytes_eq}
 use Rattle.std.proofs.lemmas.Bool.{or_cases, and_cases}
-use Rattle.fv_tree.specs.Operators.{kind_of}
-use Rattle.fv_tree.specs.declared.ops.Kind.{Kind}
-use Rattle.fv_tree.specs.declared.ops.Kind.TheVariants.{Integer, Logical}
-use Rattle.fv_tree.specs.declared.ops.Value.{Value}
-use Rattle.fv_tree.specs.declared.ops.Value.TheVariants.{Int, Truth}
-use Rattle.fv_tree.specs.declared.functions.Fun.{Fun}
-use Rattle.fv_tree.specs.Plain.{Expression, Number, Logic, Named, Unary, Binary, Apply, Expressions, no_expressions, expression, Subscript, Only, Section, Subscripts, no_subscripts, subscript, Declaration}
-use Rattle.fv_meaning.specs.Store.{Store}
-use Rattle.fv_meaning.specs.Value.{is_in_range}
-use Rattle.fv_tree.specs.OperatorTable.{left_least, right_least}
-use Rattle.fv_meaning.specs.Depths.{level, enclosed, depth_of, depth_of_each, depth_of_subscripts, depth_of_subscript}
+use Rattle.tree.specs.Operators.{kind_of}
+use Rattle.tree.specs.declared.ops.Kind.{Kind}
+use Rattle.tree.specs.declared.ops.Kind.TheVariants.{Integer, Logical}
+use Rattle.tree.specs.declared.ops.Value.{Value}
+use Rattle.tree.specs.declared.ops.Value.TheVariants.{Int, Truth}
+use Rattle.tree.specs.declared.functions.Fun.{Fun}
+use Rattle.tree.specs.Plain.{Expression, Number, Logic, Named, Unary, Binary, Apply, Expressions, no_expressions, expression, Subscript, Only, Section, Subscripts, no_subscripts, subscript, Declaration}
+use Rattle.meaning.specs.Store.{Store}
+use Rattle.meaning.specs.Value.{is_in_range}
+use Rattle.tree.specs.OperatorTable.{left_least, right_least}
+use Rattle.meaning.specs.Depths.{level, enclosed, depth_of, depth_of_each, depth_of_subscripts, depth_of_subscript}
 use Rattle.f77_grammar.specs.expressions.Printing.{IsSource, IsSourceSubscript, AreSource}
-use Rattle.fv_tree.specs.Functions.{function_named, name_of_function, suits_number}
-use Rattle.fv_meaning.specs.Typed77.{number_of_arguments, number_of_subscripts, dimensions, declared, HasKind}
-use Rattle.fv_meaning.specs.Typed77.{AreArguments, AreSubscripts, IsSubscript, IsDeclared}
-use Rattle.fv_tree.specs.OperatorTable.{operand_kind, result_kind_of, is_unary}
+use Rattle.tree.specs.Functions.{function_named, name_of_function, suits_number}
+use Rattle.meaning.specs.Typed77.{number_of_arguments, number_of_subscripts, dimensions, declared, HasKind}
+use Rattle.meaning.specs.Typed77.{AreArguments, AreSubscripts, IsSubscript, IsDeclared}
+use Rattle.tree.specs.OperatorTable.{operand_kind, result_kind_of, is_unary}
 use Rattle.f77_grammar.specs.program.Uses.{Role, Valued, Use, use_of, uses_in, uses_in_subscripts, uses_in_subscript, is_typed, is_bare, is_bounded, stands, is_constant, is_variable, is_array, is_function, kind_of_name, dimensions_of_name}
 use Rattle.f77_grammar.specs.program.Declarations.{is_misused, suits_list}
 use Rattle.f77_grammar.specs.program.Kinds.{same_kind, takes_so_many, has_kind, name_has_kind, list_has_kind, are_subscripts, is_subscript, is_hidden_name, calls_hidden}

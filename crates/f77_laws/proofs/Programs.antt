@@ -1,21 +1,21 @@
 -- What is read of a text is a program of the profile.
 use Rattle.std.proofs.Common.{◌≡◌, ℕ, ◌≤◌, IfSome, List, [], ◌∷◌, length, sym, ap, subst, arith, Contains}
 use Rattle.std.specs.List.{AllByRecursion}
-use Rattle.fv_tree.specs.Plain as tree
-use Rattle.fv_tree.specs.Plain.{Declaration}
+use Rattle.tree.specs.Plain as tree
+use Rattle.tree.specs.Plain.{Declaration}
 use Rattle.f77_grammar.specs.Statement77.{Labelled}
-use Rattle.fv_meaning.specs.Dialect.{Dialect}
-use Rattle.fv_meaning.specs.Store.{Store, names_of}
-use Rattle.fv_meaning.specs.Calls.{names_called}
+use Rattle.meaning.specs.Dialect.{Dialect}
+use Rattle.meaning.specs.Store.{Store, names_of}
+use Rattle.meaning.specs.Calls.{names_called}
 use Rattle.f77_grammar.specs.program.Text.{places}
-use Rattle.fv_meaning.specs.Names.{IsSymbolicName}
+use Rattle.meaning.specs.Names.{IsSymbolicName}
 use Rattle.f77_grammar.specs.program.Uses.{Use, uses_in_text, is_title, names_that}
 use Rattle.f77_grammar.specs.program.Limits.{constants_of}
 use Rattle.f77_grammar.specs.program.Program77.{findings}
-use Rattle.fv_meaning.specs.Profile77.{IsProgram77}
+use Rattle.meaning.specs.Profile77.{IsProgram77}
 use Rattle.f77_grammar.specs.program.Tree.{targets, variables_of, first_of_names}
-use Rattle.f77_tree_laws.proofs.Trees.{read_tree}
-use Rattle.f77_tree_laws.specs.Steps.{Rest, Outermost, InArm, outermost_block, rest_from, tree_of}
+use Rattle.f77_laws.proofs.trees.Trees.{read_tree}
+use Rattle.f77_laws.specs.trees.Steps.{Rest, Outermost, InArm, outermost_block, rest_from, tree_of}
 use Rattle.f77_laws.specs.Source.{IsSourceCard, AreSourceStatements}
 use Rattle.f77_laws.specs.Reading.{HasFewStatements, ReadTextIsProgram}
 use Rattle.f77_laws.proofs.Lists.{here, all_at, all_of}

@@ -1,16 +1,16 @@
 -- What the statements from one on have become has the shape of what is open before them.
 use Rattle.std.proofs.Common.{ℕ, List}
 use Rattle.std.specs.List.{AllByRecursion}
-use Rattle.fv_meaning.specs.Store.{Store}
+use Rattle.meaning.specs.Store.{Store}
 use Rattle.f77_grammar.specs.Statement77.{Labelled}
 use Rattle.f77_grammar.specs.program.Text.{places_from}
 use Rattle.f77_grammar.specs.program.Uses.{Use}
-use Rattle.f77_tree_laws.specs.Steps.{rest_from}
-use Rattle.f77_tree_laws.proofs.Shapes as nested
+use Rattle.f77_laws.specs.trees.Steps.{rest_from}
+use Rattle.f77_laws.proofs.trees.Shapes as nested
 use Rattle.f77_laws.proofs.Sound.{IsRight}
 use Rattle.f77_laws.proofs.Frames.{frames}
 use Rattle.f77_laws.proofs.Moves.{AllEnd, all_nested}
-pub use Rattle.f77_tree_laws.proofs.Shapes.{Closes, IsShaped, label_is, no_frames}
+pub use Rattle.f77_laws.proofs.trees.Shapes.{Closes, IsShaped, label_is, no_frames}
 
 pub shape : (us : List Use) (s : Store) (named : List ℕ) (text before xs : List Labelled)
     → AllByRecursion (IsRight text) (places_from before xs) → AllEnd xs (frames xs before 0)

@@ -1,7 +1,7 @@
 -- A text without findings: at none of its places does a cause of refusal hold.
 use Rattle.std.proofs.Common.{◌≡◌, false, List, [], Contains}
 use Rattle.std.specs.List.{AllByRecursion}
-use Rattle.fv_meaning.specs.Dialect.{Dialect}
+use Rattle.meaning.specs.Dialect.{Dialect}
 use Rattle.f77_grammar.specs.Statement77.{Labelled}
 use Rattle.f77_grammar.specs.program.Text.{Place, places}
 use Rattle.f77_grammar.specs.program.Uses.{uses_in_text}
@@ -13,11 +13,11 @@ use Rattle.f77_grammar.specs.program.Kinds.{has_unsuited_kind}
 use Rattle.f77_grammar.specs.program.Jumps.{has_wrong_jump}
 use Rattle.f77_grammar.specs.program.DoVariables.{has_wrong_do_variable}
 use Rattle.f77_grammar.specs.program.Limits.{constants_of, has_many_names, has_many_blocks, has_reversed_bounds, has_many_elements, has_bad_constant}
-use Rattle.fv_tree.specs.declared.refusals.Cause.{Cause}
-use Rattle.fv_tree.specs.declared.refusals.Cause.TheVariants.{Label, Nesting, NoEnd, Declared, TypeClash, Jump, DoVariable, ManyNames, ManyBlocks, ReversedBounds, ManyElements, BadConstant}
+use Rattle.tree.specs.declared.refusals.Cause.{Cause}
+use Rattle.tree.specs.declared.refusals.Cause.TheVariants.{Label, Nesting, NoEnd, Declared, TypeClash, Jump, DoVariable, ManyNames, ManyBlocks, ReversedBounds, ManyElements, BadConstant}
 use Rattle.f77_grammar.specs.program.Program77.{program_causes, holds_at, findings}
 use Rattle.f77_laws.proofs.Lists.{left_false, right_false, all_at, all_of}
-pub use Rattle.f77_tree_laws.proofs.Sound.{IsFree, sound}
+pub use Rattle.f77_laws.proofs.trees.Sound.{IsFree, sound}
 
 -- nothing is wrong at a place, its values aside
 pub record IsRight (text : List Labelled) (p : Place) : Type 0 where

@@ -7,7 +7,7 @@ use Rattle.f77_grammar.specs.expressions.Phrases.{Phrase, IsExpression, written,
 use Rattle.f77_grammar.specs.expressions.Printing.{IsLiteral, IsSource}
 use Rattle.f77_grammar.specs.expressions.Spelling.{IsName, SpelledBy, Words}
 use Rattle.f77_grammar.specs.expressions.Squeezing.{Symbol}
-use Rattle.fv_meaning.specs.Typed77.{IsText}
+use Rattle.meaning.specs.Typed77.{IsText}
 use Rattle.f77_grammar.proofs.expressions.SourceLaws as laws
 use Rattle.f77_laws.specs.Source.{IsShallow}
 use Rattle.f77_laws.proofs.Lists.{all_left, all_right}

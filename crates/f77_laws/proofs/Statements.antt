@@ -2,10 +2,10 @@
 use Rattle.std.proofs.Common.{◌≡◌, ℕ, suc, ◌+◌, ◌<◌, ◌≤◌, ◌==◌, nat_le, Bool, true, false, not, ◌&&◌, ◌||◌, cond, Option, Some, None, IfSome, List, [], ◌∷◌, ◌++◌, length, refl, sym, ap, subst, ◌∙◌, arith, Contains, filter, flat_map, leb-false}
 use Rattle.std.specs.List.{AllByRecursion, list_any}
 use Rattle.std.proofs.lemmas.Bool.Decides.{nat_tests}
-use Rattle.fv_tree.specs.declared.ops.Kind.TheVariants.{Logical}
-use Rattle.fv_tree.specs.Plain as tree
-use Rattle.fv_tree.specs.Plain.{Expression, Declaration}
-use Rattle.fv_meaning.specs.Store.{Store}
+use Rattle.tree.specs.declared.ops.Kind.TheVariants.{Logical}
+use Rattle.tree.specs.Plain as tree
+use Rattle.tree.specs.Plain.{Expression, Declaration}
+use Rattle.meaning.specs.Store.{Store}
 use Rattle.f77_grammar.specs.Statement77.{Labelled, Statement77, Program, Declare, Dimension, Constants, Assign, Go, Test, If, ElseIf, Else, EndIf, Do, Continue, Stop, Read, Print, End}
 use Rattle.f77_grammar.specs.program.Text.{Place, places_from, is_label, action, stands_in, loop_ends_in, open_ifs, open_loops}
 use Rattle.f77_grammar.specs.program.Uses.{Use, uses_in, uses_of, uses_in_text, is_typed, is_defined, is_array, names_that}
@@ -15,9 +15,9 @@ use Rattle.f77_grammar.specs.program.Kinds.{has_kind, suits, calls_hidden}
 use Rattle.f77_grammar.specs.program.Jumps.{jumps_wrongly}
 use Rattle.f77_grammar.specs.program.DoVariables.{loop_variable, loop_variables, misuses_variable}
 use Rattle.f77_grammar.specs.program.Limits.{opens_block, has_many_blocks}
-use Rattle.fv_meaning.specs.Profile77.{blocks_in, IsLine}
+use Rattle.meaning.specs.Profile77.{blocks_in, IsLine}
 use Rattle.f77_grammar.specs.program.Tree.{mark_of, target, targets, resolved, simple}
-use Rattle.f77_tree_laws.specs.Steps.{Rest, Outermost, InArm, preceded, begun, rest_from}
+use Rattle.f77_laws.specs.trees.Steps.{Rest, Outermost, InArm, preceded, begun, rest_from}
 use Rattle.f77_laws.specs.Source.{IsShallow, IsSourceLabel, IsSourceAction, IsSourceStatement, IsSourceCard}
 use Rattle.f77_laws.proofs.Lists.{left_true, right_true, left_false, right_false, affirmed, all_at, all_of, all_both, all_left, all_right, none_any, any_true, in_flat, here}
 use Rattle.f77_laws.proofs.Sound.{IsRight}

@@ -3,7 +3,7 @@ use Rattle.std.proofs.Common.{ℕ, Bool, true, false, List, [], ◌∷◌, ◌++
 use Rattle.std.specs.Prelude.{◌==◌}
 use Rattle.std.specs.List.{AllByRecursion}
 use Rattle.f77_grammar.specs.expressions.Squeezing.{Symbol, Char, Text, Broken, doubled_one, doubled, Squeezed, nothing, blank, character, constant, empty, endless}
-use Rattle.fv_meaning.specs.Typed77.{IsText}
+use Rattle.meaning.specs.Typed77.{IsText}
 use Rattle.f77_laws.specs.SourceCards.{AreCardCharacters}
 
 abbrev pub IsCardSymbol : Symbol → Type 0

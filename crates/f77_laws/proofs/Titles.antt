@@ -3,21 +3,21 @@ use Rattle.std.proofs.Common.{◌≡◌, ◌⊎◌, inl, inr, ℕ, Bool, true, f
 use Rattle.std.specs.List.{AllByRecursion, list_any}
 use Rattle.std.specs.Str.{bytes_eq}
 use Rattle.std.proofs.lemmas.Bool.{or_cases}
-use Rattle.fv_tree.specs.declared.ops.Kind.{Kind}
-use Rattle.fv_tree.specs.Plain.{Expression}
+use Rattle.tree.specs.declared.ops.Kind.{Kind}
+use Rattle.tree.specs.Plain.{Expression}
 use Rattle.f77_grammar.specs.Statement77.{Entity, NamedConstant, Labelled, Statement77, Program, Declare, Dimension, Constants, Test}
 use Rattle.f77_grammar.specs.program.Text.{Place, places, places_from}
-use Rattle.fv_tree.specs.declared.functions.Fun.{Fun}
-use Rattle.fv_meaning.specs.Store.{Store}
-use Rattle.fv_meaning.specs.Calls.{calls_in_block}
-use Rattle.fv_tree.specs.Functions.{function_named, name_of_function}
-use Rattle.fv_meaning.specs.Names.{IsSymbolicName}
+use Rattle.tree.specs.declared.functions.Fun.{Fun}
+use Rattle.meaning.specs.Store.{Store}
+use Rattle.meaning.specs.Calls.{calls_in_block}
+use Rattle.tree.specs.Functions.{function_named, name_of_function}
+use Rattle.meaning.specs.Names.{IsSymbolicName}
 use Rattle.f77_grammar.specs.program.Uses.{Role, Title, Use, use_of, uses_in, uses_in_bounds, bounded_uses, dimensioned_uses, typed_uses, defined_uses, uses_of, uses_in_text, is_title, is_typed, is_bounded, is_defined, is_bare, names_that, stands, is_constant, is_variable, is_function}
 use Rattle.f77_grammar.specs.program.Order.{is_nothing, is_late}
 use Rattle.f77_grammar.specs.program.Declarations.{is_declared_again, is_array_or_constant, printed_by, printed_name, bears_title, uses_title, has_unknown_constant, has_misused_name}
 use Rattle.f77_laws.proofs.Lists.{left_true, right_true, left_false, right_false, affirmed, not_both, all_both, all_at, all_of, all_weaker, none_any, any_true, here, there, nowhere, cases_of, found, FromFlat, from_flat, in_flat}
 use Rattle.f77_grammar.specs.program.Kinds.{suits, calls_hidden}
-use Rattle.f77_tree_laws.specs.Steps.{Rest, begun, rest_from, outermost_block}
+use Rattle.f77_laws.specs.trees.Steps.{Rest, begun, rest_from, outermost_block}
 use Rattle.f77_laws.specs.Source.{IsSourceCard}
 use Rattle.f77_laws.proofs.Places.{place_of}
 use Rattle.f77_laws.proofs.Calls.{IsHeard, IsSaid, AllIn, title_calls, rest_calls, outermost_calls}

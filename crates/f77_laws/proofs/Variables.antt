@@ -7,13 +7,13 @@ use Rattle.std.specs.Cmp.Lexicographic.{slice_cmp, nat_list_cmp_total}
 use Rattle.std.specs.declared.cmp.Ordering.TheVariants.{Less, Equal, Greater}
 use Rattle.std.proofs.lemmas.Map.Text.{is_eq-slice_cmp}
 use Rattle.std.proofs.lemmas.Slice.Eq.{bytes_eq-Decides}
-use Rattle.fv_meaning.specs.Store.{Store}
+use Rattle.meaning.specs.Store.{Store}
 use Rattle.f77_grammar.specs.Statement77.{Labelled}
-use Rattle.fv_meaning.specs.Names.{IsInByteOrder}
-use Rattle.fv_meaning.specs.Typed77.{declared}
+use Rattle.meaning.specs.Names.{IsInByteOrder}
+use Rattle.meaning.specs.Typed77.{declared}
 use Rattle.f77_grammar.specs.program.Uses.{Use, is_variable}
 use Rattle.f77_grammar.specs.program.Tree.{with_name, variables_of, declaration_of}
-use Rattle.fv_meaning.specs.Dialect.{Dialect}
+use Rattle.meaning.specs.Dialect.{Dialect}
 use Rattle.f77_laws.proofs.Lists.{here, there, nowhere, cases_of, not_both}
 
 -- ---- names

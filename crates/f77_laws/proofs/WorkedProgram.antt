@@ -2,17 +2,17 @@
 use Rattle.std.proofs.Common.{◌≡◌, refl, List, [], ◌∷◌, Contains, arith, rules}
 use lib.Chars.{codes}
 use Rattle.std.specs.List.{AllByRecursion}
-use Rattle.fv_tree.specs.Plain.{Unary, Binary, Single, Constant, ImpliedDo, items}
-use Rattle.fv_tree.specs.declared.ops.Op.TheVariants.{Neg, Add, Eq, Gt, Not}
-use Rattle.fv_tree.specs.declared.ops.Kind.TheVariants.{Integer, Logical}
-use Rattle.fv_meaning.specs.Dialect.{fortran77}
+use Rattle.tree.specs.Plain.{Unary, Binary, Single, Constant, ImpliedDo, items}
+use Rattle.tree.specs.declared.ops.Op.TheVariants.{Neg, Add, Eq, Gt, Not}
+use Rattle.tree.specs.declared.ops.Kind.TheVariants.{Integer, Logical}
+use Rattle.meaning.specs.Dialect.{fortran77}
 use Rattle.f77_grammar.specs.Statement77.{Labelled, Declare, Constants, Assign, Go, Test, If, ElseIf, Else, EndIf, Do, Continue, Stop, Read, Print, End}
 use Rattle.f77_grammar.specs.Statement77 as text
 use Rattle.f77_grammar.specs.program.Program77.{findings}
-use Rattle.fv_meaning.specs.Profile77.{IsProgram77, AreDeclarations, IsBlock, outermost, all_labels_in, targets_in}
-use Rattle.f77_tree_laws.proofs.Trees.{tree_is_read}
-use Rattle.f77_tree_laws.specs.Steps.{tree_of}
-use Rattle.fv_meaning.proofs.DeckWords.{n, v, at, to_element}
+use Rattle.meaning.specs.Profile77.{IsProgram77, AreDeclarations, IsBlock, outermost, all_labels_in, targets_in}
+use Rattle.f77_laws.proofs.trees.Trees.{tree_is_read}
+use Rattle.f77_laws.specs.trees.Steps.{tree_of}
+use Rattle.meaning.proofs.DeckWords.{n, v, at, to_element}
 use Rattle.f77_grammar.proofs.programs.Words.{s, l, scalar, array, constant}
 use Rattle.f77_laws.specs.Source.{AreSourceStatements}
 use Rattle.f77_laws.proofs.Programs.{read_is_program}

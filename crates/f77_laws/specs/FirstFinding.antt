@@ -1,13 +1,13 @@
 -- Which line a refusal has, where each statement stands on a later line than those before it.
 use Rattle.std.specs.Prelude.{◌≡◌, ℕ, false, Some, List, ◌∷◌}
-use Rattle.fv_tree.specs.declared.refusals.Refusal.{Refusal}
-use Rattle.fv_meaning.specs.Dialect.{Dialect}
+use Rattle.tree.specs.declared.refusals.Refusal.{Refusal}
+use Rattle.meaning.specs.Dialect.{Dialect}
 use Rattle.f77_grammar.specs.Answered.{comes_before}
 use Rattle.f77_grammar.specs.Statement77.{Labelled}
-use Rattle.fv_tree.specs.Causes.{refusal_at}
-use Rattle.fv_tree.specs.declared.refusals.Cause.{Cause}
+use Rattle.tree.specs.Causes.{refusal_at}
+use Rattle.tree.specs.declared.refusals.Cause.{Cause}
 use Rattle.f77_grammar.specs.program.Program77.{holds_in, RefusedStatements}
-use Rattle.f77_syntax.specs.First.{first_line}
+use Rattle.f77_grammar.specs.syntax.First.{first_line}
 use Rattle.f77_laws.specs.Source.{AreRising}
 
 -- the cause holds at a statement of the line first

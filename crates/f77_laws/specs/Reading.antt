@@ -2,11 +2,11 @@
 -- an expression is.
 use Rattle.std.specs.Prelude.{ℕ, ◌*◌, ◌^◌, ◌<◌, ◌≤◌, List, length}
 use Rattle.std.specs.List.{AllByRecursion}
-use Rattle.fv_tree.specs.Plain.{Expression, Program}
-use Rattle.fv_meaning.specs.Dialect.{Dialect}
+use Rattle.tree.specs.Plain.{Expression, Program}
+use Rattle.meaning.specs.Dialect.{Dialect}
 use Rattle.f77_grammar.specs.Statement77.{Labelled}
 use Rattle.f77_grammar.specs.program.Program77.{ReadsStatements}
-use Rattle.fv_meaning.specs.Profile77.{IsProgram77}
+use Rattle.meaning.specs.Profile77.{IsProgram77}
 use Rattle.f77_grammar.specs.expressions.Reading.{ReadsAs}
 use Rattle.f77_laws.specs.Source.{IsShallow, AreRising, AreSourceStatements}
 

@@ -2,18 +2,18 @@
 -- 12).
 use Rattle.std.specs.Prelude.{ℕ, ◌<◌, ◌≤◌, IsTrue, IfSome, List, [], ◌∷◌, length}
 use Rattle.std.specs.List.{AllByRecursion}
-use Rattle.fv_tree.specs.Limits.{expression_depth77, array_dimensions}
-use Rattle.fv_tree.specs.Plain.{Expression, Named, Item, Single, Constant, ImpliedDo, Items, no_items, item}
+use Rattle.tree.specs.Limits.{expression_depth77, array_dimensions}
+use Rattle.tree.specs.Plain.{Expression, Named, Item, Single, Constant, ImpliedDo, Items, no_items, item}
 use Rattle.f77_grammar.specs.declared.directions.Direction.{Direction}
 use Rattle.f77_grammar.specs.declared.directions.Direction.TheVariants.{Output, Input}
 use Rattle.f77_grammar.specs.Statement77.{Entity, NamedConstant, Statement77, Labelled, Program, Declare, Dimension}
 use Rattle.f77_grammar.specs.Statement77.{Constants, Assign, Go, Test, If, ElseIf, Else, EndIf, Do, Continue, Stop}
 use Rattle.f77_grammar.specs.Statement77.{Read, Print, End}
 use Rattle.f77_grammar.specs.expressions.Printing.{IsSource}
-use Rattle.fv_meaning.specs.Names.{IsSymbolicName}
-use Rattle.fv_meaning.specs.Depths.{depth_of, depth_of_items}
-use Rattle.fv_meaning.specs.Typed77.{has_item, IsText}
-use Rattle.fv_meaning.specs.Profile77.{IsLine}
+use Rattle.meaning.specs.Names.{IsSymbolicName}
+use Rattle.meaning.specs.Depths.{depth_of, depth_of_items}
+use Rattle.meaning.specs.Typed77.{has_item, IsText}
+use Rattle.meaning.specs.Profile77.{IsLine}
 
 -- ---- expressions and lists
 

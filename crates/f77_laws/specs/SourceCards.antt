@@ -2,7 +2,7 @@
 use Rattle.std.specs.Prelude.{ℕ, ◌<◌, ◌≤◌, List, [], ◌∷◌}
 use Rattle.std.specs.Option.{IfSome}
 use Rattle.std.specs.List.{AllByRecursion}
-use Rattle.fv_tree.specs.Limits.{source_bytes}
+use Rattle.tree.specs.Limits.{source_bytes}
 use Rattle.f77_grammar.specs.Cards.{PlainCard, ReadsCards}
 use Rattle.f77_grammar.specs.Statement77.{Statement77, Labelled}
 use Rattle.f77_grammar.specs.statements.Reading.{ReadsStatement}

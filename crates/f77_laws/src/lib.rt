@@ -2,8 +2,10 @@
 //! holds first.
 #![tactic(auto)]
 
+pub mod kinds;
 mod laws;
 mod source_laws;
+pub mod trees;
 
 pub use laws::{
     read_expression_is_source, read_text_is_program, refusal_is_first, rising_lines_are_few,

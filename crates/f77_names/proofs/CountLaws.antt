@@ -6,12 +6,12 @@ use Rattle.std.proofs.lemmas.Slice.Eq.{bytes_eq-Decides}
 use Rattle.std.proofs.lemmas.List.{length-append, drop_all}
 use Rattle.std.proofs.lemmas.List.Folds.{list_any-append}
 use Rattle.indexmap.specs.IndexSet.{insert_key}
-use Rattle.fv_meaning.specs.Names.{is_among}
+use Rattle.meaning.specs.Names.{is_among}
 use Rattle.f77_grammar.specs.program.Uses.{Use, is_variable, is_constant, uses_of, uses_in_text}
 use Rattle.f77_grammar.specs.program.Limits.{once, has_many_names}
-use Rattle.f77_syntax.specs.declared.statements.Labelled.{Labelled as Labelled'}
-use Rattle.f77_syntax.specs.Views.{text_of, labelled_of, statement_of}
-use Rattle.f77_syntax.specs.Walk.{passed, place_at}
+use Rattle.f77_grammar.specs.declared.syntax.statements.Labelled.{Labelled as Labelled'}
+use Rattle.f77_grammar.specs.syntax.Views.{text_of, labelled_of, statement_of}
+use Rattle.f77_grammar.specs.syntax.Walk.{passed, place_at}
 use Rattle.f77_names.specs.declared.counts.Counted.{Counted}
 use Rattle.f77_names.specs.declared.names.Names.{Names}
 use Rattle.f77_names.specs.declared.uses.Use.{Use as Use'}

@@ -4,19 +4,19 @@ use Rattle.std.specs.Str.{bytes_eq}
 use Rattle.std.specs.List.{list_any}
 use Rattle.std.proofs.lemmas.List.{drop_all, map-append, append-nil}
 use Rattle.std.specs.Cmp.Lexicographic.{nat_list_eq_equiv}
-use Rattle.fv_tree.specs.View.{expression_of}
-use Rattle.fv_tree.specs.declared.exprs.Expr.{Expr}
+use Rattle.tree.specs.View.{expression_of}
+use Rattle.tree.specs.declared.exprs.Expr.{Expr}
 use Rattle.f77_grammar.specs.Statement77.{Statement77, Declare, Dimension, Constants, Entity}
-use Rattle.fv_meaning.specs.Names.{is_among}
+use Rattle.meaning.specs.Names.{is_among}
 use Rattle.f77_grammar.specs.program.Text.{is_declaration}
 use Rattle.f77_grammar.specs.program.Uses.{Role, Title, Typed, Bounded, Defined, Valued, Target, Counter, Use, uses_of, uses_in, uses_in_bounds, uses_in_text, is_typed, is_defined, names_that, is_array}
 use Rattle.f77_grammar.specs.program.Limits.{entities_of, definitions_of}
 use Rattle.f77_grammar.specs.program.Declarations.{bears_title, has_repeat, is_array_or_constant, has_unknown, is_listed, bounds_of_entities, defines_from_unknown, has_unknown_constant, suits_list, is_misused, is_misused_as, has_misused_name}
-use Rattle.f77_syntax.specs.declared.statements.Entity.{Entity as Entity'}
-use Rattle.f77_syntax.specs.declared.statements.Labelled.{Labelled as Labelled'}
-use Rattle.f77_syntax.specs.Views.{text_of, statement_of, constant_of, entity_of, bounds_of}
-use Rattle.f77_syntax.specs.Walk.{passed}
-use Rattle.f77_syntax.proofs.Walks.{text_passed}
+use Rattle.f77_grammar.specs.declared.syntax.statements.Entity.{Entity as Entity'}
+use Rattle.f77_grammar.specs.declared.syntax.statements.Labelled.{Labelled as Labelled'}
+use Rattle.f77_grammar.specs.syntax.Views.{text_of, statement_of, constant_of, entity_of, bounds_of}
+use Rattle.f77_grammar.specs.syntax.Walk.{passed}
+use Rattle.f77_grammar.proofs.syntax.Walks.{text_passed}
 use Rattle.f77_names.specs.declared.names.Facts.{Facts}
 use Rattle.f77_names.specs.declared.names.Names.{Names}
 use Rattle.f77_names.specs.NameFacts.{nothing_known, facts_with, facts_in, AreNamesOf, dimensions_by}
@@ -27,7 +27,7 @@ use Rattle.f77_names.proofs.TitleLaws.{bears_same}
 use Rattle.f77_names.proofs.UseLaws.{one_more}
 use Rattle.f77_names.proofs.SeenLaws.{ahead_at, behind_more, again_step, seen_turned, seen_same}
 use Rattle.f77_names.proofs.FactLaws.{constant_by_names, array_by_names, dimensions_by_names, or_false}
-use Rattle.fv_tree.specs.Functions.{function_named}
+use Rattle.tree.specs.Functions.{function_named}
 
 -- ---- names declared again
 

@@ -4,22 +4,22 @@ use Rattle.std.specs.Option.{unwrap_or}
 use Rattle.std.specs.Str.{bytes_eq}
 use Rattle.std.specs.List.{list_any}
 use Rattle.std.proofs.lemmas.List.{map-append}
-use Rattle.fv_tree.specs.declared.ops.Kind.{Kind}
-use Rattle.fv_tree.specs.declared.ops.Kind.TheVariants.{Integer}
+use Rattle.tree.specs.declared.ops.Kind.{Kind}
+use Rattle.tree.specs.declared.ops.Kind.TheVariants.{Integer}
 use Rattle.f77_grammar.specs.program.Uses.{Role, Title, Typed, Bounded, Defined, Valued, Target, Counter, Use, uses_of, uses_in_text, is_title, stands, is_typed, is_bounded, is_defined, is_bare, type_of, type_in, is_variable, is_constant, is_array, is_function, kind_of_name, dimensions_of_name, dimensions_in, or_integer}
 use Rattle.f77_names.specs.declared.names.Facts.{Facts}
 use Rattle.f77_names.specs.declared.uses.Use.{Use as Use'}
-use Rattle.fv_meaning.specs.Names.{is_implicit_integer}
+use Rattle.meaning.specs.Names.{is_implicit_integer}
 use Rattle.f77_grammar.specs.program.Declarations.{is_real, has_real_name}
 use Rattle.f77_names.specs.declared.names.Names.{Names}
 use Rattle.f77_names.specs.declared.known_names.KnownNames.{KnownNames}
-use Rattle.f77_syntax.specs.declared.statements.Labelled.{Labelled as Labelled'}
+use Rattle.f77_grammar.specs.declared.syntax.statements.Labelled.{Labelled as Labelled'}
 use Rattle.f77_names.specs.NameFacts.{nothing_known, first_given, facts_with, facts_of, facts_in, AreNamesOf, is_variable_by, is_array_by, is_function_by, kind_by, dimensions_by, function_by, function_of, is_real_by, is_real_use}
-use Rattle.f77_syntax.specs.Views.{text_of, labelled_of, statement_of}
-use Rattle.f77_syntax.specs.Walk.{place_at}
+use Rattle.f77_grammar.specs.syntax.Views.{text_of, labelled_of, statement_of}
+use Rattle.f77_grammar.specs.syntax.Walk.{place_at}
 use Rattle.f77_names.specs.UsesView.{plain_use, listed}
 use Rattle.f77_names.proofs.UseLaws.{one_more}
-use Rattle.fv_tree.specs.Functions.{function_named}
+use Rattle.tree.specs.Functions.{function_named}
 
 -- ---- one use more
 

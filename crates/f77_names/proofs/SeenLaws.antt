@@ -6,7 +6,7 @@ use Rattle.std.specs.Cmp.Lexicographic.{nat_list_eq_equiv}
 use Rattle.std.proofs.lemmas.Slice.Eq.{bytes_eq-Decides}
 use Rattle.std.proofs.lemmas.List.{map-append, reverse-append}
 use Rattle.std.proofs.lemmas.List.Folds.{list_any-append}
-use Rattle.fv_meaning.specs.Names.{is_among}
+use Rattle.meaning.specs.Names.{is_among}
 use Rattle.f77_grammar.specs.program.Uses.{Role, Title, Typed, Bounded, Defined, Valued, Target, Counter, Use, use_of, is_title, is_typed, is_bounded, is_defined, names_that, stands}
 use Rattle.f77_grammar.specs.program.Declarations.{has_repeat, is_array_or_constant}
 use Rattle.f77_names.specs.declared.names.Facts.{Facts}

@@ -1,9 +1,9 @@
 -- The program's name as another name, and calls.
 use Rattle.std.proofs.Common.{◌≡◌, Bool, true, false, not, ◌&&◌, ◌||◌, cond, None, List, refl, ap, sym, ◌∙◌, lit≤}
-use Rattle.fv_tree.specs.Names.{IsName}
-use Rattle.fv_tree.specs.declared.functions.Fun.{Fun}
-use Rattle.fv_tree.specs.declared.functions.Fun.TheVariants.{Abs, Mod, Max, Min}
-use Rattle.fv_tree.specs.Functions.{function_named, name_of_function}
+use Rattle.tree.specs.Names.{IsName}
+use Rattle.tree.specs.declared.functions.Fun.{Fun}
+use Rattle.tree.specs.declared.functions.Fun.TheVariants.{Abs, Mod, Max, Min}
+use Rattle.tree.specs.Functions.{function_named, name_of_function}
 use Rattle.f77_grammar.specs.program.Uses.{Use, is_title, calls, stands}
 use Rattle.f77_grammar.specs.program.Declarations.{printed_by, printed_name, bears_title}
 use Rattle.f77_names.specs.declared.names.Facts.{Facts}

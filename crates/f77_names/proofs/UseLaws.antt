@@ -4,22 +4,22 @@ use Rattle.std.specs.declared.boxed.Box.{Box}
 use Rattle.std.specs.declared.alloc.Global.{Global}
 use Rattle.std.proofs.Math.Seq.{take-suc}
 use Rattle.std.proofs.lemmas.List.{map-append, length-map, append-nil}
-use Rattle.fv_tree.specs.Plain.{Expression, Subscript, Reference, subscripts, expressions}
-use Rattle.fv_tree.specs.View.{expression_of, subscript_of}
-use Rattle.fv_tree.specs.declared.ops.Op.{Op}
-use Rattle.fv_tree.specs.declared.functions.Fun.{Fun}
-use Rattle.fv_tree.specs.declared.functions.Red.{Red}
-use Rattle.fv_tree.specs.declared.lists.Seq.{Seq}
-use Rattle.fv_tree.specs.declared.exprs.Expr.{Expr}
-use Rattle.fv_tree.specs.declared.exprs.Turn.{Turn}
-use Rattle.fv_tree.specs.declared.exprs.Expr.TheVariants as exprs
-use Rattle.fv_tree.specs.declared.exprs.Ref.{Ref, out-Ref}
-use Rattle.fv_tree.specs.declared.exprs.Sub.{Sub}
-use Rattle.fv_tree.specs.declared.exprs.Sub.TheVariants as subs
-use Rattle.fv_tree.proofs.Equations.{expression_of-int, expression_of-truth, expression_of-item, expression_of-un, expression_of-bin, expression_of-call, subscript_of-one, reference_of-is}
-use Rattle.fv_tree.proofs.Equations.{expression_of-list, expression_of-spread, expression_of-transpose, expression_of-reshape, expression_of-reduce, subscript_of-part}
+use Rattle.tree.specs.Plain.{Expression, Subscript, Reference, subscripts, expressions}
+use Rattle.tree.specs.View.{expression_of, subscript_of}
+use Rattle.tree.specs.declared.ops.Op.{Op}
+use Rattle.tree.specs.declared.functions.Fun.{Fun}
+use Rattle.tree.specs.declared.functions.Red.{Red}
+use Rattle.tree.specs.declared.lists.Seq.{Seq}
+use Rattle.tree.specs.declared.exprs.Expr.{Expr}
+use Rattle.tree.specs.declared.exprs.Turn.{Turn}
+use Rattle.tree.specs.declared.exprs.Expr.TheVariants as exprs
+use Rattle.tree.specs.declared.exprs.Ref.{Ref, out-Ref}
+use Rattle.tree.specs.declared.exprs.Sub.{Sub}
+use Rattle.tree.specs.declared.exprs.Sub.TheVariants as subs
+use Rattle.tree.proofs.Equations.{expression_of-int, expression_of-truth, expression_of-item, expression_of-un, expression_of-bin, expression_of-call, subscript_of-one, reference_of-is}
+use Rattle.tree.proofs.Equations.{expression_of-list, expression_of-spread, expression_of-transpose, expression_of-reshape, expression_of-reduce, subscript_of-part}
 use Rattle.f77_grammar.specs.program.Uses as plain
-use Rattle.fv_meaning.specs.Typed77.{number_of_subscripts}
+use Rattle.meaning.specs.Typed77.{number_of_subscripts}
 
 pub uses-int : (n : ℤ) → plain.uses_in (expression_of (exprs.Int n)) ≡ []
 uses-int n = ap plain.uses_in (expression_of-int n)

@@ -2,7 +2,7 @@
 use Rattle.std.specs.Prelude.{◌≡◌, ℕ, Bool, ◌||◌, List, ◌++◌, map, length}
 use Rattle.std.specs.Str.{bytes_eq}
 use Rattle.std.specs.List.{list_any, filter}
-use Rattle.fv_meaning.specs.Names.{is_among}
+use Rattle.meaning.specs.Names.{is_among}
 use Rattle.f77_grammar.specs.program.Uses.{Use, is_variable, is_constant}
 use Rattle.f77_grammar.specs.program.Limits.{once}
 use Rattle.f77_names.specs.declared.counts.Counted.{Counted}

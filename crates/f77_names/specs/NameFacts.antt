@@ -4,15 +4,15 @@ use Rattle.std.specs.Prelude.{is_none, if◌then◌else◌, List, [], ◌∷◌}
 use Rattle.std.specs.Option.{unwrap_or}
 use Rattle.std.specs.Str.{bytes_eq}
 use Rattle.indexmap.specs.IndexMap.{get}
-use Rattle.fv_tree.specs.declared.ops.Kind.{Kind}
-use Rattle.fv_tree.specs.declared.functions.Fun.{Fun}
+use Rattle.tree.specs.declared.ops.Kind.{Kind}
+use Rattle.tree.specs.declared.functions.Fun.{Fun}
 use Rattle.f77_grammar.specs.program.Uses.{Role, Title, Typed, Bounded, Defined, Valued, Target, Counter, Use, is_title}
 use Rattle.f77_grammar.specs.program.Uses.{is_function, calls, or_integer}
-use Rattle.fv_meaning.specs.Names.{is_implicit_integer}
-use Rattle.fv_tree.specs.Functions.{function_named}
+use Rattle.meaning.specs.Names.{is_implicit_integer}
+use Rattle.tree.specs.Functions.{function_named}
 use Rattle.f77_names.specs.declared.names.Facts.{Facts}
 use Rattle.f77_names.specs.declared.names.Names.{Names}
-use Rattle.fv_tree.specs.Functions.{function_named}
+use Rattle.tree.specs.Functions.{function_named}
 
 abbrev pub nothing_known : Facts
 nothing_known = record { kind = None; dimensions = None; bare = false; constant = false; title = false }

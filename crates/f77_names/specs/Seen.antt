@@ -3,10 +3,10 @@
 use Rattle.std.specs.Prelude.{◌≡◌, ℕ, zero, suc, ◌==◌, Bool, true, false, not, ◌&&◌, ◌||◌, is_some, is_none}
 use Rattle.std.specs.Prelude.{if◌then◌else◌, List, ◌++◌, map, reverse, take}
 use Rattle.std.specs.List.{list_any}
-use Rattle.fv_tree.specs.declared.exprs.Expr.{Expr}
+use Rattle.tree.specs.declared.exprs.Expr.{Expr}
 use Rattle.f77_grammar.specs.Statement77.{Statement77}
-use Rattle.fv_meaning.specs.Names.{is_among}
-use Rattle.fv_tree.specs.Functions.{function_named}
+use Rattle.meaning.specs.Names.{is_among}
+use Rattle.tree.specs.Functions.{function_named}
 use Rattle.f77_grammar.specs.program.Uses.{Role, Title, Typed, Bounded, Defined, Valued, Target, Counter, Use, uses_of}
 use Rattle.f77_grammar.specs.program.Uses.{is_title, is_typed, is_defined, names_that, stands}
 use Rattle.f77_grammar.specs.program.Declarations.{has_repeat, is_array_or_constant, is_listed, has_unknown_constant}

@@ -4,15 +4,15 @@ ghost use Rattle.std.specs.Prelude.{◌≡◌, ◌++◌, List, ℕ, IfOk, OnOk, 
 ghost use Rattle.std.specs.List.{list_any};
 ghost use Rattle.f77_grammar.specs.program.Declarations.{is_listed, has_unknown, bounds_of_entities};
 ghost use Rattle.f77_grammar.specs.program.Declarations.{defines_from_unknown, has_unknown_constant};
-ghost use Rattle.f77_syntax.specs.Views.{statement_of, entity_of, constant_of};
+ghost use Rattle.f77_grammar.specs.syntax.Views.{statement_of, entity_of, constant_of};
 ghost use Rattle.f77_names.specs.Seen.{is_unknown_use, AreDefined};
 ghost use Rattle.f77_names.specs.UsesView.{role_of, plain_use, listed};
 
 use crate::names::Names;
 use crate::uses::{Role, Use, Uses};
-use f77_syntax::{Entity, Stmt77};
-use fv_tree::{Expr, Fun, Memory, Name};
+use f77_grammar::syntax::{Entity, Stmt77};
 use std::alloc::Global;
+use tree::{Expr, Fun, Memory, Name};
 
 impl Role {
     // A list in parentheses follows the name.

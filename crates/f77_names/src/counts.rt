@@ -2,8 +2,8 @@
 ghost use Rattle.std.specs.Prelude.{◌≡◌, ◌∷◌, [], IfOk, OnOk, nat_lt, map, length};
 ghost use Rattle.f77_grammar.specs.program.Uses as plain;
 ghost use Rattle.f77_grammar.specs.program.Limits.{has_many_names};
-ghost use Rattle.f77_syntax.specs.First.{first_index};
-ghost use Rattle.f77_syntax.specs.Views.{text_of};
+ghost use Rattle.f77_grammar.specs.syntax.First.{first_index};
+ghost use Rattle.f77_grammar.specs.syntax.Views.{text_of};
 ghost use Rattle.f77_names.specs.Counted.{Holds, Counts, is_counted_by};
 ghost use Rattle.f77_names.specs.UsesView.{plain_use, listed};
 
@@ -11,10 +11,10 @@ use crate::known_names::KnownNames;
 use crate::names::{Facts, Names};
 use crate::statement_uses::uses_of;
 use crate::uses::Use;
-use f77_syntax::Labelled;
-use fv_tree::{Memory, Name, PROGRAM_NAMES_77};
+use f77_grammar::syntax::Labelled;
 use indexmap::IndexSet;
 use std::alloc::Global;
+use tree::{Memory, Name, PROGRAM_NAMES_77};
 
 // The variables and symbolic constants so far.
 #[derive(Drop)]

@@ -2,12 +2,12 @@
 //! 4.1.2, 5.1, 6.7, 8.1, 8.4, 8.6 and 18.2).
 ghost use Rattle.std.specs.Prelude.{◌≡◌, ◌&&◌, not, IfOk, map};
 ghost use Rattle.std.specs.List.{list_any};
-ghost use Rattle.fv_tree.specs.Names.{IsName};
+ghost use Rattle.tree.specs.Names.{IsName};
 ghost use Rattle.f77_grammar.specs.program.Text.{is_declaration};
 ghost use Rattle.f77_grammar.specs.program.Uses as plain;
 ghost use Rattle.f77_grammar.specs.program.Declarations.{is_declared_wrongly};
-ghost use Rattle.f77_syntax.specs.First.{first_index};
-ghost use Rattle.f77_syntax.specs.Views.{text_of, statement_of};
+ghost use Rattle.f77_grammar.specs.syntax.First.{first_index};
+ghost use Rattle.f77_grammar.specs.syntax.Views.{text_of, statement_of};
 ghost use Rattle.f77_names.specs.Seen.{is_again_by, bears_title_by, suits_list_by, is_misused_by, is_misused_use};
 ghost use Rattle.f77_names.specs.Seen.{Declares, Passes};
 ghost use Rattle.f77_names.specs.NameFacts.{facts_in};
@@ -17,9 +17,9 @@ use crate::known_names::KnownNames;
 use crate::names::{Facts, Names};
 use crate::statement_uses::uses_of;
 use crate::uses::{Role, Use};
-use f77_syntax::{Labelled, Stmt77};
-use fv_tree::{Fun, Memory, Name};
+use f77_grammar::syntax::{Labelled, Stmt77};
 use std::alloc::Global;
+use tree::{Fun, Memory, Name};
 
 // ---- a name, by what is known of it
 

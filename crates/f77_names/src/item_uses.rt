@@ -1,13 +1,13 @@
 //! How names stand in what is assigned to, and in input and output lists.
 ghost use Rattle.std.specs.Prelude.{◌≡◌, ◌++◌, map, OnOk};
-ghost use Rattle.fv_tree.specs.Plain.{items};
-ghost use Rattle.fv_tree.specs.View.{expression_of, reference_of, item_of};
+ghost use Rattle.tree.specs.Plain.{items};
+ghost use Rattle.tree.specs.View.{expression_of, reference_of, item_of};
 ghost use Rattle.f77_grammar.specs.program.Uses as plain;
 ghost use Rattle.f77_names.specs.UsesView.{listed};
 
 use crate::uses::{Role, Uses};
 use f77_grammar::Direction;
-use fv_tree::{Expr, Item, Memory, Name, Ref, Seq};
+use tree::{Expr, Item, Memory, Name, Ref, Seq};
 
 impl Uses {
     /// What is assigned or read into.

@@ -1,16 +1,16 @@
 //! What is known of the names of a whole program.
 ghost use Rattle.std.specs.Prelude.{◌≡◌, IfOk};
 ghost use Rattle.f77_grammar.specs.program.Uses as plain;
-ghost use Rattle.f77_syntax.specs.Views.{text_of};
+ghost use Rattle.f77_grammar.specs.syntax.Views.{text_of};
 ghost use Rattle.f77_names.specs.NameFacts.{AreNamesOf, function_of, called_of};
 ghost use Rattle.f77_names.specs.UsesView.{listed, plain_use};
 
 use crate::names::{Names, names_of};
 use crate::statement_uses::uses_in_text;
 use crate::uses::{Use, Uses};
-use f77_syntax::Labelled;
-use fv_tree::{Fun, Kind, Memory, Name};
+use f77_grammar::syntax::Labelled;
 use std::alloc::Global;
+use tree::{Fun, Kind, Memory, Name};
 
 /// The names of a program.
 ///

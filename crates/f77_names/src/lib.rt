@@ -5,6 +5,7 @@
 #![tactic(auto)]
 
 mod constant_expressions;
+pub mod constants;
 mod counts;
 mod declarations;
 mod item_uses;

@@ -8,9 +8,9 @@ ghost use Rattle.f77_names.specs.NameFacts.{is_array_by, is_function_by, kind_by
 ghost use Rattle.f77_names.specs.NameFacts.{function_of, called_by, called_of};
 
 use crate::uses::{Role, Use};
-use fv_tree::{Fun, Kind, Memory, Name};
 use indexmap::IndexMap;
 use std::alloc::Global;
+use tree::{Fun, Kind, Memory, Name};
 
 /// What the uses of a name say of it.
 #[derive(Clone, Copy, Debug, PartialEq, Eq)]

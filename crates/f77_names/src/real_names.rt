@@ -2,21 +2,21 @@
 //! X3.9-1978, section 4.1.2).
 ghost use Rattle.std.specs.Prelude.{◌≡◌, IfOk, map};
 ghost use Rattle.std.specs.List.{list_any};
-ghost use Rattle.fv_meaning.specs.Names.{is_implicit_integer};
+ghost use Rattle.meaning.specs.Names.{is_implicit_integer};
 ghost use Rattle.f77_grammar.specs.program.Uses as plain;
 ghost use Rattle.f77_grammar.specs.program.Declarations.{has_real_name};
-ghost use Rattle.f77_syntax.specs.First.{first_index};
+ghost use Rattle.f77_grammar.specs.syntax.First.{first_index};
 ghost use Rattle.f77_names.specs.NameFacts.{facts_in, is_real_by, is_real_use};
 ghost use Rattle.f77_names.specs.UsesView.{plain_use, listed};
-ghost use Rattle.f77_syntax.specs.Views.{text_of};
+ghost use Rattle.f77_grammar.specs.syntax.Views.{text_of};
 
 use crate::known_names::KnownNames;
 use crate::names::{Facts, Names};
 use crate::statement_uses::uses_of;
 use crate::uses::{Role, Use};
-use f77_syntax::Labelled;
-use fv_tree::{Memory, Name};
+use f77_grammar::syntax::Labelled;
 use std::alloc::Global;
+use tree::{Memory, Name};
 
 // A name that is INTEGER without a type statement.
 fn is_implicit_integer(name: Name) -> bool

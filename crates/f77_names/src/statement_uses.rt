@@ -1,16 +1,16 @@
 //! How names stand in declarations and in whole statements.
 ghost use Rattle.std.specs.Prelude.{◌≡◌, ◌++◌, map, OnOk, IfOk};
 ghost use Rattle.std.specs.List.{flat_map};
-ghost use Rattle.fv_tree.specs.View.{expression_of, reference_of};
+ghost use Rattle.tree.specs.View.{expression_of, reference_of};
 ghost use Rattle.f77_grammar.specs.program.Uses as plain;
 ghost use Rattle.f77_names.specs.UsesView.{listed};
-ghost use Rattle.f77_syntax.specs.Views.{statement_of, text_of, bounds_of, entity_of, constant_of};
+ghost use Rattle.f77_grammar.specs.syntax.Views.{statement_of, text_of, bounds_of, entity_of, constant_of};
 
 use crate::uses::{Role, Uses};
 use f77_grammar::Direction;
-use f77_syntax::{Entity, Labelled, Stmt77};
-use fv_tree::{Expr, Kind, Memory, Name, Ref, Seq};
+use f77_grammar::syntax::{Entity, Labelled, Stmt77};
 use std::alloc::Global;
+use tree::{Expr, Kind, Memory, Name, Ref, Seq};
 
 impl Uses {
     #[tactic(auto, using(crate::proofs::StatementUseLaws::entity_laws))]

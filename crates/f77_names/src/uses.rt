@@ -1,13 +1,13 @@
 //! How names stand in the statements of a program.
 ghost use Rattle.std.specs.Prelude.{◌≡◌, ◌++◌, ◌∷◌, [], map, OnOk};
-ghost use Rattle.fv_tree.specs.Plain.{subscripts, expressions};
-ghost use Rattle.fv_tree.specs.View.{expression_of, subscript_of};
-ghost use Rattle.fv_tree.specs.declared.exprs.Expr.TheVariants as exprs;
+ghost use Rattle.tree.specs.Plain.{subscripts, expressions};
+ghost use Rattle.tree.specs.View.{expression_of, subscript_of};
+ghost use Rattle.tree.specs.declared.exprs.Expr.TheVariants as exprs;
 ghost use Rattle.f77_grammar.specs.program.Uses as plain;
 ghost use Rattle.f77_names.specs.UsesView.{role_of, listed};
 
-use fv_tree::{Expr, Kind, Memory, Name, Ref, Seq, Sub};
 use std::alloc::Global;
+use tree::{Expr, Kind, Memory, Name, Ref, Seq, Sub};
 
 /// How a name stands in a statement.
 #[derive(Clone, Copy, Debug, PartialEq, Eq)]

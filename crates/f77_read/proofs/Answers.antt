@@ -3,19 +3,19 @@ use Rattle.std.proofs.Common.{◌≡◌, ◌⊎◌, inl, inr, ℕ, ◌<◌, ◌�
 use Rattle.std.specs.Prelude.{Option, IsOkAnd}
 use Rattle.std.specs.List.{AllByRecursion}
 use Rattle.std.proofs.lemmas.List.Elements.{All-from_recursion, All-contains}
-use Rattle.fv_tree.specs.Plain.{Program}
-use Rattle.fv_tree.specs.View.{program_of}
-use Rattle.fv_tree.specs.declared.programs.Program77.{Program77}
-use Rattle.fv_tree.specs.declared.refusals.Refusal.{Refusal}
-use Rattle.fv_tree.specs.declared.refusals.Refused.{Refused}
-use Rattle.fv_tree.specs.declared.refusals.Refused.TheVariants as refused
+use Rattle.tree.specs.Plain.{Program}
+use Rattle.tree.specs.View.{program_of}
+use Rattle.tree.specs.declared.programs.Program77.{Program77}
+use Rattle.tree.specs.declared.refusals.Refusal.{Refusal}
+use Rattle.tree.specs.declared.refusals.Refused.{Refused}
+use Rattle.tree.specs.declared.refusals.Refused.TheVariants as refused
 use Rattle.f77_grammar.specs.Cards.{PlainCard}
 use Rattle.f77_grammar.specs.Statement77.{Statement77, Labelled}
 use Rattle.f77_grammar.specs.statements.Reading.{IsRefusedBy}
-use Rattle.fv_meaning.specs.Dialect.{Dialect, fortran77}
+use Rattle.meaning.specs.Dialect.{Dialect, fortran77}
 use Rattle.f77_grammar.specs.Answered.{comes_before}
 use Rattle.f77_grammar.specs.program.Program77.{findings, ReadsStatements, RefusedStatements}
-use Rattle.f77_tree_laws.proofs.Trees.{one_read}
+use Rattle.f77_laws.proofs.trees.Trees.{one_read}
 use Rattle.f77_grammar.proofs.Answered.{one_answer}
 use Rattle.f77_grammar.proofs.programs.Least.{nothing_in}
 use Rattle.f77_checks.specs.Outcomes.{IfRefusal}

@@ -5,9 +5,9 @@ use Rattle.std.specs.List.{AllByRecursion}
 use Rattle.std.proofs.Math.Seq.{take-suc}
 use Rattle.std.proofs.lemmas.List.{map-append}
 use Rattle.std.proofs.lemmas.List.Elements.{Contains-append_left, Contains-push}
-use Rattle.fv_tree.specs.declared.refusals.Refusal.{Refusal}
-use Rattle.fv_tree.specs.declared.refusals.Refused.{Refused}
-use Rattle.fv_tree.specs.declared.refusals.Refused.TheVariants as refused
+use Rattle.tree.specs.declared.refusals.Refusal.{Refusal}
+use Rattle.tree.specs.declared.refusals.Refused.{Refused}
+use Rattle.tree.specs.declared.refusals.Refused.TheVariants as refused
 use Rattle.f77_grammar.specs.Cards.{PlainCard}
 use Rattle.f77_grammar.specs.Statement77.{Labelled, Statement77}
 use Rattle.f77_grammar.specs.statements.Reading.{ReadsStatement, IsRefusedBy}
@@ -16,11 +16,11 @@ use Rattle.f77_grammar.proofs.Answered.{not_before_itself, not_before_sooner}
 use Rattle.f77_checks.specs.Outcomes.{IfRefusal}
 use Rattle.f77_laws.proofs.Lists.{all_weaker, all_both}
 use Rattle.f77_grammar.specs.Reading77.{AreReadFrom}
-use Rattle.fixed_form.specs.Card.{card_of}
-use Rattle.fixed_form.specs.declared.cards.Card.{Card}
-use Rattle.f77_syntax.specs.declared.statements.Labelled.{Labelled as Labelled'}
-use Rattle.f77_syntax.specs.declared.statements.Stmt77.{Stmt77}
-use Rattle.f77_syntax.specs.Views.{statement_of, labelled_of, text_of}
+use Rattle.f77_cards.specs.Card.{card_of}
+use Rattle.f77_cards.specs.declared.cards.Card.{Card}
+use Rattle.f77_grammar.specs.declared.syntax.statements.Labelled.{Labelled as Labelled'}
+use Rattle.f77_grammar.specs.declared.syntax.statements.Stmt77.{Stmt77}
+use Rattle.f77_grammar.specs.syntax.Views.{statement_of, labelled_of, text_of}
 use Rattle.f77_read.specs.Cards.{card_refusal, IsReadAlone, IsRefusedAlone, AreReadAlone, IsNotBefore, IsRefusedFirst, AreTried, first_of}
 
 -- ---- the answer to one card

@@ -1,18 +1,18 @@
 -- What the answer to a source says, clause by clause.
 use Rattle.std.proofs.Common.{◌≡◌, ◌⊎◌, inl, inr, ℕ, ◌≤◌, Result, Ok, Err, IfOk, List, map, ap, subst, arith}
 use Rattle.std.specs.Prelude.{IsOkAnd}
-use Rattle.fv_tree.specs.Plain.{Program}
-use Rattle.fv_tree.specs.View.{program_of}
-use Rattle.fv_tree.specs.declared.programs.Program77.{Program77}
-use Rattle.fv_tree.specs.declared.refusals.Refusal.{Refusal}
-use Rattle.fv_tree.specs.declared.refusals.Refused.{Refused}
-use Rattle.fv_tree.specs.declared.refusals.Refused.TheVariants as refused
+use Rattle.tree.specs.Plain.{Program}
+use Rattle.tree.specs.View.{program_of}
+use Rattle.tree.specs.declared.programs.Program77.{Program77}
+use Rattle.tree.specs.declared.refusals.Refusal.{Refusal}
+use Rattle.tree.specs.declared.refusals.Refused.{Refused}
+use Rattle.tree.specs.declared.refusals.Refused.TheVariants as refused
 use Rattle.f77_grammar.specs.Cards.{PlainCard, ReadsCards, RefusedCards}
-use Rattle.fv_meaning.specs.Profile77.{IsProgram77}
+use Rattle.meaning.specs.Profile77.{IsProgram77}
 use Rattle.f77_grammar.proofs.CardLaws.{not_both, one_refusal}
 use Rattle.f77_grammar.proofs.Grouping.{one_reading}
-use Rattle.fixed_form.specs.Card.{card_of}
-use Rattle.fixed_form.specs.declared.cards.Card.{Card}
+use Rattle.f77_cards.specs.Card.{card_of}
+use Rattle.f77_cards.specs.declared.cards.Card.{Card}
 use Rattle.f77_laws.proofs.Programs.{read_is_program}
 use Rattle.f77_laws.specs.SourceCards.{AreRisingCards}
 use Rattle.f77_laws.proofs.Cards.{read_source_has_cards}
@@ -20,7 +20,7 @@ use Rattle.f77_laws.proofs.CardStatements.{read_cards_are_source}
 use Rattle.f77_grammar.specs.Reading77.{HasCause, ReadsProgram, RefusedProgram, Reads77, Refused77}
 use Rattle.f77_grammar.specs.Reading77.Refused77.{OfLines, OfCards}
 use Rattle.f77_grammar.proofs.Answered.{one_answer}
-use Rattle.fv_meaning.specs.Dialect.{Dialect, fortran77}
+use Rattle.meaning.specs.Dialect.{Dialect, fortran77}
 
 pub read_is_source_program : (d : Dialect) (source : List ℕ) (cards : List PlainCard) (p : Program) → d.bits ≤ 126 → ReadsCards source cards → ReadsProgram d cards p → IsProgram77 d p
 read_is_source_program d source cards p small c h =

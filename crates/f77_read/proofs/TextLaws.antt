@@ -2,21 +2,21 @@
 use Rattle.std.proofs.Common.{◌≡◌, ℕ, suc, ◌≤◌, Bool, true, false, cond, Option, None, Some, Result, Err, List, [], ◌∷◌, refl, sym, ap, subst, arith}
 use Rattle.std.specs.List.{AllByRecursion}
 use Rattle.std.proofs.lemmas.List.Elements.{All-from_recursion, All-contains}
-use Rattle.fv_tree.specs.declared.refusals.Refusal.{Refusal}
-use Rattle.fv_tree.specs.declared.refusals.Refused.{Refused}
-use Rattle.fv_tree.specs.declared.refusals.Refused.TheVariants as refused
+use Rattle.tree.specs.declared.refusals.Refusal.{Refusal}
+use Rattle.tree.specs.declared.refusals.Refused.{Refused}
+use Rattle.tree.specs.declared.refusals.Refused.TheVariants as refused
 use Rattle.f77_grammar.specs.Statement77.{Labelled}
 use Rattle.f77_grammar.specs.program.Text.{Place, places}
 use Rattle.f77_grammar.specs.program.Limits.{constants_of, has_bad_constant}
 use Rattle.f77_grammar.specs.program.Program77.{program_causes, findings}
-use Rattle.f77_syntax.specs.First.{index_from, first_index}
+use Rattle.f77_grammar.specs.syntax.First.{index_from, first_index}
 use Rattle.f77_grammar.specs.program.Program77.{holds_in}
 use Rattle.f77_checks.specs.First.{IsFoundFirst}
 use Rattle.f77_checks.proofs.Answers.{is_first, sound_is_not_refused}
 use Rattle.f77_checks.proofs.Found.{least_number}
 use Rattle.f77_laws.proofs.Sound.{sound}
 use Rattle.f77_checks.specs.Outcomes.{IfRefusal}
-use Rattle.fv_meaning.specs.Dialect.{fortran77}
+use Rattle.meaning.specs.Dialect.{fortran77}
 use Rattle.f77_read.specs.Outcomes.{IsRefusedText}
 
 -- ---- a text without findings has no bad constant

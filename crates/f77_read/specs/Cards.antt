@@ -1,16 +1,16 @@
 -- What was found in the cards that were tried.
 use Rattle.std.specs.Prelude.{◌≡◌, ℕ, false, if◌then◌else◌, Option, None, Some, Result, Ok, Err, List, [], ◌∷◌}
 use Rattle.std.specs.List.{Contains, AllByRecursion}
-use Rattle.fv_tree.specs.declared.refusals.Refusal.{Refusal}
-use Rattle.fv_tree.specs.declared.refusals.Refused.{Refused}
+use Rattle.tree.specs.declared.refusals.Refusal.{Refusal}
+use Rattle.tree.specs.declared.refusals.Refused.{Refused}
 use Rattle.f77_grammar.specs.Cards.{PlainCard}
 use Rattle.f77_grammar.specs.Statement77 as plain
 use Rattle.f77_grammar.specs.Statement77.{Statement77}
 use Rattle.f77_grammar.specs.statements.Reading.{ReadsStatement, IsRefusedBy}
 use Rattle.f77_grammar.specs.Answered.{comes_before}
 use Rattle.f77_checks.specs.Outcomes.{IfRefusal}
-use Rattle.f77_syntax.specs.declared.statements.Labelled.{Labelled}
-use Rattle.f77_syntax.specs.Views.{labelled_of, text_of}
+use Rattle.f77_grammar.specs.declared.syntax.statements.Labelled.{Labelled}
+use Rattle.f77_grammar.specs.syntax.Views.{labelled_of, text_of}
 use Rattle.f77_read.specs.declared.cards.Tried.{Tried}
 use Rattle.f77_grammar.specs.Reading77.{IsReadFrom, AreReadFrom}
 

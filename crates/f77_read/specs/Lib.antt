@@ -1,2 +1,3 @@
 pub mod Cards
 pub mod Outcomes
+pub mod one_answer

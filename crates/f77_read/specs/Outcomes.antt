@@ -1,14 +1,14 @@
 -- What the answer of a building says of the statements or cards.
 use Rattle.std.specs.Prelude.{◌≡◌, ◌≤◌, Result, Ok, Err, List, []}
-use Rattle.fv_tree.specs.declared.refusals.Refusal.{Refusal}
-use Rattle.fv_tree.specs.declared.refusals.Refused.{Refused}
-use Rattle.fv_tree.specs.declared.programs.Program77.{Program77}
-use Rattle.fv_tree.specs.View.{program_of}
+use Rattle.tree.specs.declared.refusals.Refusal.{Refusal}
+use Rattle.tree.specs.declared.refusals.Refused.{Refused}
+use Rattle.tree.specs.declared.programs.Program77.{Program77}
+use Rattle.tree.specs.View.{program_of}
 use Rattle.f77_grammar.specs.Cards.{PlainCard}
 use Rattle.f77_grammar.specs.Statement77.{Labelled}
 use Rattle.f77_grammar.specs.program.Program77.{findings, ReadsStatements, RefusedStatements}
 use Rattle.f77_laws.specs.Source.{AreRising}
-use Rattle.fv_meaning.specs.Dialect.{fortran77}
+use Rattle.meaning.specs.Dialect.{fortran77}
 use Rattle.f77_checks.specs.Outcomes.{IfRefusal}
 use Rattle.f77_read.specs.Cards.{AreReadAlone, IsRefusedFirst}
 

@@ -1,15 +1,15 @@
 //! The statements of cards.
 ghost use Rattle.std.specs.Prelude.{◌++◌, ◌∷◌, [], List, map, IfOk, OnOk};
 ghost use Rattle.f77_grammar.specs.Cards.{PlainCard};
-ghost use Rattle.fixed_form.specs.Card.{card_of};
+ghost use Rattle.f77_cards.specs.Card.{card_of};
 ghost use Rattle.f77_read.specs.Cards.{IsCardRead, AreCardsRead, IsTried};
 
 use crate::refusals::first;
-use f77_stmt::parse;
-use f77_syntax::Labelled;
-use fixed_form::Card;
-use fv_tree::{Memory, Refusal, Refused, Seq};
+use f77_cards::Card;
+use f77_grammar::syntax::Labelled;
+use f77_statement::parse;
 use std::alloc::Global;
+use tree::{Memory, Refusal, Refused, Seq};
 
 /// What was found in the cards so far.
 #[derive(Drop)]

@@ -1,10 +1,10 @@
 //! Laws of sources that are read or refused. A law is a function without a body: its contract is what holds.
 ghost use Rattle.std.specs.Prelude.{◌≡◌, ℕ, ◌≤◌, List};
-ghost use Rattle.fv_tree.specs.Plain.{Program};
-ghost use Rattle.fv_tree.specs.declared.refusals.Refusal.{Refusal};
-ghost use Rattle.fv_meaning.specs.Dialect.{Dialect};
+ghost use Rattle.tree.specs.Plain.{Program};
+ghost use Rattle.tree.specs.declared.refusals.Refusal.{Refusal};
+ghost use Rattle.meaning.specs.Dialect.{Dialect};
 ghost use Rattle.f77_grammar.specs.Cards.{PlainCard};
-ghost use Rattle.fv_meaning.specs.Profile77.{IsProgram77};
+ghost use Rattle.meaning.specs.Profile77.{IsProgram77};
 ghost use Rattle.f77_grammar.specs.Reading77.{RefusedProgram, Reads77, Refused77};
 
 /// What a source is read as is a program of the profile.

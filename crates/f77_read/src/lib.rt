@@ -3,6 +3,7 @@
 
 mod cards;
 mod laws;
+pub mod one_answer;
 mod programs;
 mod refusals;
 mod sources;

@@ -1,25 +1,25 @@
 //! The program of cards.
 ghost use Rattle.std.specs.Prelude.{◌≡◌, ◌⊎◌, ◌≤◌, ℕ, List, map, IfOk, IsOkAnd};
-ghost use Rattle.fv_tree.specs.Plain.{Program};
-ghost use Rattle.fv_tree.specs.View.{program_of};
-ghost use Rattle.fv_tree.specs.declared.refusals.Refusal.{Refusal};
-ghost use Rattle.f77_constants.specs.Declarations.{HaveDimensions};
+ghost use Rattle.tree.specs.Plain.{Program};
+ghost use Rattle.tree.specs.View.{program_of};
+ghost use Rattle.tree.specs.declared.refusals.Refusal.{Refusal};
+ghost use Rattle.f77_names.specs.constants.Declarations.{HaveDimensions};
 ghost use Rattle.f77_grammar.specs.Cards.{ReadsCards};
-ghost use Rattle.fv_meaning.specs.Dialect.{fortran77};
-ghost use Rattle.fv_meaning.specs.Profile77.{IsProgram77};
-ghost use Rattle.fixed_form.specs.Card.{card_of};
-ghost use Rattle.f77_syntax.specs.Views.{text_of};
+ghost use Rattle.meaning.specs.Dialect.{fortran77};
+ghost use Rattle.meaning.specs.Profile77.{IsProgram77};
+ghost use Rattle.f77_cards.specs.Card.{card_of};
+ghost use Rattle.f77_grammar.specs.syntax.Views.{text_of};
 ghost use Rattle.f77_laws.specs.SourceCards.{AreRisingCards};
 ghost use Rattle.f77_grammar.specs.Reading77.{ReadsProgram, RefusedProgram};
 ghost use Rattle.f77_read.specs.Outcomes.{IsTextBuilt, AreCardsBuilt};
 
 use crate::cards::read_cards;
+use f77_cards::Card;
 use f77_checks::{Known, check};
-use f77_syntax::Labelled;
+use f77_grammar::syntax::Labelled;
 use f77_tree::tree;
-use fixed_form::Card;
-use fv_tree::{Program77, Refused, Seq};
 use std::alloc::Global;
+use tree::{Program77, Refused, Seq};
 
 fn build_text(alloc: Global, text: &[Labelled]) -> Result<Program77, Refused>
     ensures built { IsTextBuilt (text_of text.now) result }

@@ -3,7 +3,7 @@ ghost use Rattle.std.specs.Prelude.{◌≡◌};
 ghost use Rattle.f77_grammar.specs.Answered as plain;
 ghost use Rattle.f77_read.specs.Cards as cards;
 
-use fv_tree::Refusal;
+use tree::Refusal;
 
 fn comes_before(a: Refusal, b: Refusal) -> bool
     ensures { result ≡ plain.comes_before a b }

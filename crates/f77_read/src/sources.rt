@@ -1,17 +1,17 @@
 //! The program of a source.
 ghost use Rattle.std.specs.Prelude.{◌≡◌, ◌⊎◌, IfOk, IsOkAnd};
-ghost use Rattle.fv_tree.specs.Plain.{Program};
-ghost use Rattle.fv_tree.specs.View.{program_of};
-ghost use Rattle.fv_tree.specs.declared.refusals.Refusal.{Refusal};
-ghost use Rattle.fv_meaning.specs.Dialect.{fortran77};
-ghost use Rattle.fv_meaning.specs.Profile77.{IsProgram77};
-ghost use Rattle.f77_constants.specs.Declarations.{HaveDimensions};
+ghost use Rattle.tree.specs.Plain.{Program};
+ghost use Rattle.tree.specs.View.{program_of};
+ghost use Rattle.tree.specs.declared.refusals.Refusal.{Refusal};
+ghost use Rattle.meaning.specs.Dialect.{fortran77};
+ghost use Rattle.meaning.specs.Profile77.{IsProgram77};
+ghost use Rattle.f77_names.specs.constants.Declarations.{HaveDimensions};
 ghost use Rattle.f77_grammar.specs.Reading77.{Reads77, Refused77};
 
 use crate::programs::build;
-use fixed_form::statements;
-use fv_tree::{Program77, Refused};
+use f77_cards::statements;
 use std::alloc::Global;
+use tree::{Program77, Refused};
 
 /// The program that a source in fixed form is.
 #[tactic(auto, using(crate::proofs::SourceLaws::source_laws))]

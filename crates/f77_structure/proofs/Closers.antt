@@ -9,14 +9,14 @@ use Rattle.f77_structure.specs.declared.openings.OpenIf.{OpenIf}
 use Rattle.f77_structure.specs.declared.openings.OpenLoop.{OpenLoop}
 use Rattle.f77_structure.specs.declared.forms.Form.{Form}
 use Rattle.f77_structure.specs.declared.forms.Form.TheVariants as forms
-use Rattle.f77_syntax.specs.declared.statements.Labelled.{Labelled as Labelled'}
-use Rattle.f77_syntax.specs.Views.{labelled_of, text_of, statement_of}
-use Rattle.f77_syntax.specs.Walk.{passed, place_at}
+use Rattle.f77_grammar.specs.declared.syntax.statements.Labelled.{Labelled as Labelled'}
+use Rattle.f77_grammar.specs.syntax.Views.{labelled_of, text_of, statement_of}
+use Rattle.f77_grammar.specs.syntax.Walk.{passed, place_at}
 use Rattle.f77_structure.specs.Forms.{form_of, begun_in, is_no_end_form}
 use Rattle.f77_structure.specs.Openings.{first_of, place_in, had_else_in, nearest_at, trimmed, opened, or_here, next_frames, next_loops, frames_of, loops_of, last_with, end_of, first_do, is_from, is_behind, begins_behind, lacks_if, refuses_else, is_unpaired, closes_wrongly, ends_wrongly, has_wrong_closer, under}
 use Rattle.f77_structure.proofs.OpenIfs.{open_as_kept, else_as_kept, since_as_kept, near_as_kept, if_below, is_within}
 use Rattle.f77_structure.proofs.OpenLoops.{open_since, stands_from, first_do_is, first_do_below, since_do_is}
-use Rattle.f77_syntax.proofs.Walks.{text_passed, text_left, passed_length}
+use Rattle.f77_grammar.proofs.syntax.Walks.{text_passed, text_left, passed_length}
 
 -- ---- ELSE
 

@@ -7,12 +7,12 @@ use Rattle.f77_grammar.specs.Statement77.{Labelled}
 use Rattle.f77_grammar.specs.program.Text.{stands_in, is_label, bears, action}
 use Rattle.f77_grammar.specs.program.Labels.{is_wrong_label, is_unknown, has_wrong_label}
 use Rattle.f77_structure.specs.declared.labels.Labels.{Labels}
-use Rattle.f77_syntax.specs.declared.statements.Labelled.{Labelled as Labelled'}
+use Rattle.f77_grammar.specs.declared.syntax.statements.Labelled.{Labelled as Labelled'}
 use Rattle.f77_structure.specs.Forms.{form_of, label_in}
 use Rattle.f77_structure.specs.Labels.{has, is_refused, same_truth}
-use Rattle.f77_syntax.specs.Views.{labelled_of, text_of, statement_of}
-use Rattle.f77_syntax.specs.Walk.{passed, place_at}
-use Rattle.f77_syntax.proofs.Walks.{text_passed, all_passed}
+use Rattle.f77_grammar.specs.syntax.Views.{labelled_of, text_of, statement_of}
+use Rattle.f77_grammar.specs.syntax.Walk.{passed, place_at}
+use Rattle.f77_grammar.proofs.syntax.Walks.{text_passed, all_passed}
 use Rattle.f77_structure.proofs.ByForm.{label_named-form}
 
 or_false : (b : Bool) → (b || false) ≡ b

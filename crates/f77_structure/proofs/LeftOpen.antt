@@ -7,12 +7,12 @@ use Rattle.f77_grammar.specs.program.Text.{Place, places_from}
 use Rattle.f77_grammar.specs.program.Nesting.{ends_here, has_end_if, stays_open, is_left_open}
 use Rattle.f77_structure.specs.declared.forms.Form.{Form}
 use Rattle.f77_structure.specs.declared.forms.Form.TheVariants as forms
-use Rattle.f77_syntax.specs.declared.statements.Labelled.{Labelled as Labelled'}
-use Rattle.f77_syntax.specs.First.{index_from}
+use Rattle.f77_grammar.specs.declared.syntax.statements.Labelled.{Labelled as Labelled'}
+use Rattle.f77_grammar.specs.syntax.First.{index_from}
 use Rattle.f77_structure.specs.Forms.{form_of, pending_with, pending, lacks_end_if}
-use Rattle.f77_syntax.specs.Views.{labelled_of, text_of, statement_of}
-use Rattle.f77_syntax.specs.Walk.{passed, place_at}
-use Rattle.f77_syntax.proofs.Walks.{text_passed, text_left, text_through}
+use Rattle.f77_grammar.specs.syntax.Views.{labelled_of, text_of, statement_of}
+use Rattle.f77_grammar.specs.syntax.Walk.{passed, place_at}
+use Rattle.f77_grammar.proofs.syntax.Walks.{text_passed, text_left, text_through}
 
 -- ---- a block IF has its END IF among statements exactly where one is left for it
 

@@ -4,7 +4,7 @@ use Rattle.f77_grammar.specs.Statement77.{Labelled}
 use Rattle.f77_grammar.specs.program.Text.{Place, places}
 use Rattle.f77_grammar.specs.program.Nesting.{is_left_open, is_closed_wrongly, is_nested_wrongly}
 use Rattle.f77_grammar.specs.program.Order.{is_out_of_order}
-use Rattle.f77_syntax.specs.First.{index_from, first_index, sooner}
+use Rattle.f77_grammar.specs.syntax.First.{index_from, first_index, sooner}
 
 index_above : (test : Place → Bool) (i : ℕ) (ps : List Place) (k : ℕ) → index_from test i ps ≡ Some k → i ≤ k
 index_above test i [] k h = cc

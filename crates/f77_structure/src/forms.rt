@@ -1,9 +1,9 @@
 //! What a statement is to the order and the nesting of statements.
 ghost use Rattle.std.specs.Prelude.{◌≡◌};
 ghost use Rattle.f77_structure.specs.Forms.{form_of};
-ghost use Rattle.f77_syntax.specs.Views.{statement_of};
+ghost use Rattle.f77_grammar.specs.syntax.Views.{statement_of};
 
-use f77_syntax::Stmt77;
+use f77_grammar::syntax::Stmt77;
 
 /// The form of a statement: labels are those that it names.
 #[derive(Clone, Copy, Debug, PartialEq, Eq)]
@@ -27,7 +27,7 @@ pub enum Form {
 
 impl Form {
     /// What the statement is to the order and the nesting of statements.
-    #[tactic(auto, using(f77_syntax::proofs::Equations::statement_equations))]
+    #[tactic(auto, using(f77_grammar::proofs::syntax::Equations::statement_equations))]
     pub fn of(statement: &Stmt77) -> Form
         ensures { result ≡ form_of (statement_of statement.now) }
     {

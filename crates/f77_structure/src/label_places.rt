@@ -4,9 +4,9 @@ ghost use Rattle.f77_grammar.specs.program.Text.{is_label};
 ghost use Rattle.f77_structure.specs.LabelPlaces.{place_of};
 ghost use Rattle.f77_structure.specs.Openings.{or_here};
 
-use fv_tree::Memory;
 use std::alloc::Global;
 use std::collections::BTreeMap;
+use tree::Memory;
 
 /// A place for each of some labels.
 #[derive(Drop)]

@@ -3,9 +3,9 @@ ghost use Rattle.std.specs.Prelude.{◌≡◌, ℕ, ◌||◌, OnOk, OnErr, false
 ghost use Rattle.f77_grammar.specs.program.Text.{is_label};
 ghost use Rattle.f77_structure.specs.Labels.{has};
 
-use fv_tree::Memory;
 use std::alloc::Global;
 use std::collections::BTreeSet;
+use tree::Memory;
 
 /// A set of labels.
 #[derive(Drop)]

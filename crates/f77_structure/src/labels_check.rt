@@ -2,16 +2,16 @@
 ghost use Rattle.std.specs.Prelude.{◌≡◌, ℕ, ◌||◌, true, false, IfOk};
 ghost use Rattle.f77_grammar.specs.program.Text.{stands_in, action};
 ghost use Rattle.f77_grammar.specs.program.Labels.{has_wrong_label};
-ghost use Rattle.f77_syntax.specs.First.{first_index};
+ghost use Rattle.f77_grammar.specs.syntax.First.{first_index};
 ghost use Rattle.f77_structure.specs.Forms.{form_of, label_in};
 ghost use Rattle.f77_structure.specs.Labels.{has, is_refused};
-ghost use Rattle.f77_syntax.specs.Views.{text_of, statement_of};
+ghost use Rattle.f77_grammar.specs.syntax.Views.{text_of, statement_of};
 
 use crate::forms::Form;
 use crate::labels::Labels;
-use f77_syntax::Labelled;
-use fv_tree::Memory;
+use f77_grammar::syntax::Labelled;
 use std::alloc::Global;
+use tree::Memory;
 
 impl Form {
     /// The label that a GO TO or a DO names.

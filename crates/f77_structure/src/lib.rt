@@ -5,6 +5,7 @@
 #![tactic(auto)]
 
 mod forms;
+pub mod jumps;
 mod label_places;
 mod labels;
 mod labels_check;

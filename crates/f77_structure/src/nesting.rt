@@ -2,19 +2,19 @@
 ghost use Rattle.std.specs.Prelude.{◌≡◌, ◌+◌, ◌^◌, ◌<◌, ◌||◌, Some, IfOk, if◌then◌else◌};
 ghost use Rattle.f77_grammar.specs.program.Nesting.{is_closed_wrongly, is_left_open, is_nested_wrongly};
 ghost use Rattle.f77_grammar.specs.program.Order.{is_out_of_order};
-ghost use Rattle.f77_syntax.specs.First.{first_index, sooner};
+ghost use Rattle.f77_grammar.specs.syntax.First.{first_index, sooner};
 ghost use Rattle.f77_structure.specs.Forms.{begun_in, pending_with, lacks_end_if};
 ghost use Rattle.f77_structure.specs.LabelPlaces.{place_of, AreEndsIn};
 ghost use Rattle.f77_structure.specs.Openings.{is_from, under};
-ghost use Rattle.f77_syntax.specs.Views.{text_of};
+ghost use Rattle.f77_grammar.specs.syntax.Views.{text_of};
 
 use crate::forms::Form;
 use crate::label_places::LabelPlaces;
 use crate::openings::Openings;
 use crate::order::out_of_order;
-use f77_syntax::Labelled;
-use fv_tree::Memory;
+use f77_grammar::syntax::Labelled;
 use std::alloc::Global;
+use tree::Memory;
 
 impl Form {
     /// The label of a DO.

@@ -6,8 +6,8 @@ ghost use Rattle.f77_structure.specs.Openings.{is_unpaired, closes_wrongly, ends
 ghost use Rattle.f77_structure.specs.Forms.{is_no_end_form};
 
 use crate::forms::Form;
-use fv_tree::Memory;
 use std::alloc::Global;
+use tree::Memory;
 
 /// A block IF that hasn't ended, the number of statements before it, and whether it has had an ELSE.
 #[derive(Clone, Copy, Debug, PartialEq, Eq)]

@@ -1,12 +1,12 @@
 //! The order of statements: PROGRAM, declarations, executable statements, END (ANSI X3.9-1978, section 3.5).
 ghost use Rattle.std.specs.Prelude.{◌≡◌, ◌||◌};
 ghost use Rattle.f77_grammar.specs.program.Order.{is_out_of_order, is_ended_wrongly};
-ghost use Rattle.f77_syntax.specs.First.{first_index};
+ghost use Rattle.f77_grammar.specs.syntax.First.{first_index};
 ghost use Rattle.f77_structure.specs.Forms.{is_executable_form, is_wrong_end_form, is_late_form};
-ghost use Rattle.f77_syntax.specs.Views.{text_of};
+ghost use Rattle.f77_grammar.specs.syntax.Views.{text_of};
 
 use crate::forms::Form;
-use f77_syntax::Labelled;
+use f77_grammar::syntax::Labelled;
 
 impl Form {
     // A statement that a run executes, or one behind such statements.

@@ -2,26 +2,26 @@
 use Rattle.std.proofs.Common.{◌≡◌, ◌∙◌, ap, sym, ℕ, ◌+◌, ◌<◌, List, ◌++◌, length, get_or, drop}
 use Rattle.std.specs.declared.boxed.Box.{Box}
 use Rattle.std.specs.declared.alloc.Global.{Global}
-use Rattle.fv_tree.specs.Plain as plain
-use Rattle.fv_tree.specs.View.{expression_of}
-use Rattle.fv_tree.specs.declared.names.Name.{Name}
-use Rattle.fv_tree.specs.declared.ops.Kind.{Kind}
-use Rattle.fv_tree.specs.declared.lists.Seq.{Seq}
-use Rattle.fv_tree.specs.declared.exprs.Expr.{Expr}
-use Rattle.fv_tree.specs.declared.exprs.Ref.{Ref}
-use Rattle.fv_tree.specs.declared.stmts.Item.{Item}
+use Rattle.tree.specs.Plain as plain
+use Rattle.tree.specs.View.{expression_of}
+use Rattle.tree.specs.declared.names.Name.{Name}
+use Rattle.tree.specs.declared.ops.Kind.{Kind}
+use Rattle.tree.specs.declared.lists.Seq.{Seq}
+use Rattle.tree.specs.declared.exprs.Expr.{Expr}
+use Rattle.tree.specs.declared.exprs.Ref.{Ref}
+use Rattle.tree.specs.declared.stmts.Item.{Item}
 use Rattle.f77_grammar.specs.Statement77.{Labelled, Statement77}
-use Rattle.fv_meaning.specs.Store.{Store}
+use Rattle.meaning.specs.Store.{Store}
 use Rattle.f77_grammar.specs.program.Uses.{Use}
 use Rattle.f77_grammar.specs.program.Tree as tree
-use Rattle.f77_tree_laws.specs.Steps as steps
-use Rattle.f77_syntax.specs.declared.statements.Entity.{Entity}
-use Rattle.f77_syntax.specs.declared.statements.Stmt77.{Stmt77}
-use Rattle.f77_syntax.specs.declared.statements.Stmt77.TheVariants as stmts
-use Rattle.f77_syntax.specs.declared.statements.Labelled.{Labelled as Labelled'}
-use Rattle.f77_syntax.specs.Views.{statement_of, labelled_of, text_of}
-use Rattle.f77_syntax.proofs.Equations.{statement_of-program, statement_of-declare, statement_of-dimension, statement_of-constants, statement_of-assign, statement_of-go, statement_of-test, statement_of-if, statement_of-else_if, statement_of-else, statement_of-end_if, statement_of-do, statement_of-continue, statement_of-stop, statement_of-read, statement_of-print, statement_of-end}
-use Rattle.f77_syntax.proofs.Walks.{text_left}
+use Rattle.f77_laws.specs.trees.Steps as steps
+use Rattle.f77_grammar.specs.declared.syntax.statements.Entity.{Entity}
+use Rattle.f77_grammar.specs.declared.syntax.statements.Stmt77.{Stmt77}
+use Rattle.f77_grammar.specs.declared.syntax.statements.Stmt77.TheVariants as stmts
+use Rattle.f77_grammar.specs.declared.syntax.statements.Labelled.{Labelled as Labelled'}
+use Rattle.f77_grammar.specs.syntax.Views.{statement_of, labelled_of, text_of}
+use Rattle.f77_grammar.proofs.syntax.Equations.{statement_of-program, statement_of-declare, statement_of-dimension, statement_of-constants, statement_of-assign, statement_of-go, statement_of-test, statement_of-if, statement_of-else_if, statement_of-else, statement_of-end_if, statement_of-do, statement_of-continue, statement_of-stop, statement_of-read, statement_of-print, statement_of-end}
+use Rattle.f77_grammar.proofs.syntax.Walks.{text_left}
 
 module _ (us : List Use) (s : Store) (named : List ℕ) (x : Labelled) (r : steps.Rest) where
   -- with a piece that is made of the statement

@@ -2,20 +2,20 @@
 use Rattle.std.proofs.Common.{◌≡◌, ◌∙◌, ap, sym, refl, ℕ, ℤ, Bool, List, [], ◌∷◌, map}
 use Rattle.std.specs.declared.boxed.Box.{Box}
 use Rattle.std.specs.declared.alloc.Global.{Global}
-use Rattle.fv_tree.specs.Plain.{items, item, Single, Constant, ImpliedDo, Named}
-use Rattle.fv_tree.specs.View.{expression_of, reference_of, item_of}
-use Rattle.fv_tree.specs.declared.ops.Op.{Op}
-use Rattle.fv_tree.specs.declared.functions.Fun.{Fun}
-use Rattle.fv_tree.specs.declared.functions.Red.{Red}
-use Rattle.fv_tree.specs.declared.exprs.Turn.{Turn}
-use Rattle.fv_tree.specs.declared.lists.Seq.{Seq}
-use Rattle.fv_tree.specs.declared.exprs.Expr.{Expr}
-use Rattle.fv_tree.specs.declared.exprs.Expr.TheVariants as exprs
-use Rattle.fv_tree.specs.declared.exprs.Ref.{Ref}
-use Rattle.fv_tree.specs.declared.stmts.Item.{Item}
-use Rattle.fv_tree.specs.declared.stmts.Item.TheVariants as variants
-use Rattle.fv_tree.proofs.Equations.{expression_of-int, expression_of-truth, expression_of-item, expression_of-un, expression_of-bin, expression_of-call, item_of-one, item_of-text, item_of-turns, expression_of-list, expression_of-spread, expression_of-transpose, expression_of-reshape, expression_of-reduce}
-use Rattle.fv_meaning.specs.Store.{Store}
+use Rattle.tree.specs.Plain.{items, item, Single, Constant, ImpliedDo, Named}
+use Rattle.tree.specs.View.{expression_of, reference_of, item_of}
+use Rattle.tree.specs.declared.ops.Op.{Op}
+use Rattle.tree.specs.declared.functions.Fun.{Fun}
+use Rattle.tree.specs.declared.functions.Red.{Red}
+use Rattle.tree.specs.declared.exprs.Turn.{Turn}
+use Rattle.tree.specs.declared.lists.Seq.{Seq}
+use Rattle.tree.specs.declared.exprs.Expr.{Expr}
+use Rattle.tree.specs.declared.exprs.Expr.TheVariants as exprs
+use Rattle.tree.specs.declared.exprs.Ref.{Ref}
+use Rattle.tree.specs.declared.stmts.Item.{Item}
+use Rattle.tree.specs.declared.stmts.Item.TheVariants as variants
+use Rattle.tree.proofs.Equations.{expression_of-int, expression_of-truth, expression_of-item, expression_of-un, expression_of-bin, expression_of-call, item_of-one, item_of-text, item_of-turns, expression_of-list, expression_of-spread, expression_of-transpose, expression_of-reshape, expression_of-reduce}
+use Rattle.meaning.specs.Store.{Store}
 use Rattle.f77_grammar.specs.declared.directions.Direction.{Direction}
 use Rattle.f77_grammar.specs.program.Uses.{Use}
 use Rattle.f77_grammar.specs.program.Tree as tree

@@ -1,10 +1,10 @@
 -- Values as expressions.
 use Rattle.std.proofs.Common.{◌≡◌, ℤ, pos, negsuc, refl, arith}
 use Rattle.std.specs.Prelude.{◌≤ℤ◌, ◌<ℤ◌, neg_ℤ}
-use Rattle.fv_tree.specs.Plain.{Number, Unary}
-use Rattle.fv_tree.specs.declared.ops.Op.TheVariants.{Neg}
-use Rattle.fv_tree.specs.declared.ops.Value.TheVariants.{Int}
-use Rattle.fv_tree.proofs.Equations.{expression_of-int, expression_of-truth, expression_of-un}
+use Rattle.tree.specs.Plain.{Number, Unary}
+use Rattle.tree.specs.declared.ops.Op.TheVariants.{Neg}
+use Rattle.tree.specs.declared.ops.Value.TheVariants.{Int}
+use Rattle.tree.proofs.Equations.{expression_of-int, expression_of-truth, expression_of-un}
 use Rattle.f77_grammar.specs.program.Tree as tree
 
 pub literal-number : (z : ℤ) → pos 0 ≤ℤ z → tree.literal (Int z) ≡ Number z

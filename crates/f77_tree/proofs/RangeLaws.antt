@@ -2,17 +2,17 @@
 use Rattle.std.proofs.Common.{◌≡◌, ◌∙◌, ap, sym, refl, ℕ, Bool, true, false, cond, Result, Ok, Err, List, [], ◌∷◌}
 use Rattle.std.specs.Str.{bytes_eq}
 use Rattle.std.specs.List.{flat_map}
-use Rattle.fv_tree.specs.Steps.{◌>>=◌}
-use Rattle.fv_tree.specs.declared.ops.Value.{Value}
-use Rattle.fv_tree.specs.declared.ops.Fault.{Fault}
-use Rattle.fv_tree.specs.declared.ops.Fault.TheVariants.{Overflow}
-use Rattle.fv_meaning.specs.Dialect.{fortran77}
-use Rattle.fv_meaning.specs.Store.{Store, Cell}
-use Rattle.fv_meaning.specs.Value.{is_in_range, value_of}
+use Rattle.tree.specs.Steps.{◌>>=◌}
+use Rattle.tree.specs.declared.ops.Value.{Value}
+use Rattle.tree.specs.declared.ops.Fault.{Fault}
+use Rattle.tree.specs.declared.ops.Fault.TheVariants.{Overflow}
+use Rattle.meaning.specs.Dialect.{fortran77}
+use Rattle.meaning.specs.Store.{Store, Cell}
+use Rattle.meaning.specs.Value.{is_in_range, value_of}
 use Rattle.f77_grammar.specs.Statement77.{NamedConstant, Labelled}
 use Rattle.f77_grammar.specs.program.Limits.{in_range, no_values, with_value, with_constant, with_constants, definitions_of, constants_of}
-use Rattle.f77_constants.specs.declared.constants.Constants.{Constants}
-use Rattle.f77_constants.specs.Constants.{AreValues}
+use Rattle.f77_names.specs.declared.constants.constants.Constants.{Constants}
+use Rattle.f77_names.specs.constants.Constants.{AreValues}
 use Rattle.f77_tree.specs.Resolved.{AreInRange}
 
 abbrev HoldsInRange : Store → Type 0

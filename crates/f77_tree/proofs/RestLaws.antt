@@ -1,17 +1,17 @@
 -- Blocks as they grow to the front.
 use Rattle.std.proofs.Common.{◌≡◌, ◌∙◌, ap, sym, refl, ℕ, true, false, cond, Result, Ok, Err, IfOk, Some, None, List, [], ◌∷◌, ◌++◌, map, reverse, append_assoc, append-nil}
 use Rattle.std.proofs.lemmas.List.{map-append, reverse-append}
-use Rattle.fv_tree.specs.Plain as plain
-use Rattle.fv_tree.specs.View.{Tested, expression_of, statement_of, tested_of, block_of, arms}
-use Rattle.fv_tree.specs.declared.exprs.Expr.{Expr}
-use Rattle.fv_tree.specs.declared.stmts.Stmt.{Stmt}
-use Rattle.fv_tree.specs.declared.stmts.Stmt.TheVariants as stmts
-use Rattle.fv_tree.specs.declared.stmts.Arm.{Arm, roll-Arm}
-use Rattle.fv_tree.specs.declared.stmts.Block.{Block, roll-Block}
-use Rattle.fv_tree.specs.declared.lists.Seq.{Seq}
-use Rattle.fv_tree.proofs.Equations.{statement_of-if, statement_of-do, tested_of-made, block_of-made}
+use Rattle.tree.specs.Plain as plain
+use Rattle.tree.specs.View.{Tested, expression_of, statement_of, tested_of, block_of, arms}
+use Rattle.tree.specs.declared.exprs.Expr.{Expr}
+use Rattle.tree.specs.declared.stmts.Stmt.{Stmt}
+use Rattle.tree.specs.declared.stmts.Stmt.TheVariants as stmts
+use Rattle.tree.specs.declared.stmts.Arm.{Arm, roll-Arm}
+use Rattle.tree.specs.declared.stmts.Block.{Block, roll-Block}
+use Rattle.tree.specs.declared.lists.Seq.{Seq}
+use Rattle.tree.proofs.Equations.{statement_of-if, statement_of-do, tested_of-made, block_of-made}
 use Rattle.f77_grammar.specs.program.Text.{is_label}
-use Rattle.f77_tree_laws.specs.Steps as steps
+use Rattle.f77_laws.specs.trees.Steps as steps
 use Rattle.f77_tree.specs.declared.rests.Piece.{Piece}
 use Rattle.f77_tree.specs.declared.rests.OpenIf.{OpenIf}
 use Rattle.f77_tree.specs.Rests.{piece_of, pieces_in, made_by, later_arms, rest_with}

@@ -2,28 +2,28 @@
 use Rattle.std.proofs.Common.{◌≡◌, ◌∙◌, ap, ℕ, None, List, [], ◌∷◌, map}
 use Rattle.std.specs.declared.boxed.Box.{Box}
 use Rattle.std.specs.declared.alloc.Global.{Global}
-use Rattle.fv_tree.specs.Plain as plain
-use Rattle.fv_tree.specs.View.{expression_of, reference_of, item_of, statement_of as tree_statement_of, tested_of, block_of, arms}
-use Rattle.fv_tree.specs.declared.names.Name.{Name}
-use Rattle.fv_tree.specs.declared.ops.Kind.{Kind}
-use Rattle.fv_tree.specs.declared.lists.Seq.{Seq}
-use Rattle.fv_tree.specs.declared.exprs.Expr.{Expr}
-use Rattle.fv_tree.specs.declared.exprs.Ref.{Ref}
-use Rattle.fv_tree.specs.declared.stmts.Item.{Item}
-use Rattle.fv_tree.specs.declared.stmts.Stmt.{Stmt}
-use Rattle.fv_tree.specs.declared.stmts.Stmt.TheVariants as tree_stmts
-use Rattle.fv_tree.specs.declared.stmts.Arm.{Arm, roll-Arm}
-use Rattle.fv_tree.specs.declared.stmts.Block.{Block, roll-Block}
-use Rattle.fv_tree.proofs.Equations.{statement_of-assign as tree-assign, statement_of-if as tree-if, statement_of-go as tree-go, statement_of-stop as tree-stop, statement_of-read as tree-read, statement_of-print as tree-print, tested_of-made, block_of-made}
-use Rattle.fv_meaning.specs.Store.{Store}
+use Rattle.tree.specs.Plain as plain
+use Rattle.tree.specs.View.{expression_of, reference_of, item_of, statement_of as tree_statement_of, tested_of, block_of, arms}
+use Rattle.tree.specs.declared.names.Name.{Name}
+use Rattle.tree.specs.declared.ops.Kind.{Kind}
+use Rattle.tree.specs.declared.lists.Seq.{Seq}
+use Rattle.tree.specs.declared.exprs.Expr.{Expr}
+use Rattle.tree.specs.declared.exprs.Ref.{Ref}
+use Rattle.tree.specs.declared.stmts.Item.{Item}
+use Rattle.tree.specs.declared.stmts.Stmt.{Stmt}
+use Rattle.tree.specs.declared.stmts.Stmt.TheVariants as tree_stmts
+use Rattle.tree.specs.declared.stmts.Arm.{Arm, roll-Arm}
+use Rattle.tree.specs.declared.stmts.Block.{Block, roll-Block}
+use Rattle.tree.proofs.Equations.{statement_of-assign as tree-assign, statement_of-if as tree-if, statement_of-go as tree-go, statement_of-stop as tree-stop, statement_of-read as tree-read, statement_of-print as tree-print, tested_of-made, block_of-made}
+use Rattle.meaning.specs.Store.{Store}
 use Rattle.f77_grammar.specs.program.Uses.{Use}
 use Rattle.f77_grammar.specs.declared.directions.Direction.TheVariants.{Input, Output}
 use Rattle.f77_grammar.specs.program.Tree as tree
-use Rattle.f77_syntax.specs.declared.statements.Entity.{Entity}
-use Rattle.f77_syntax.specs.declared.statements.Stmt77.{Stmt77}
-use Rattle.f77_syntax.specs.declared.statements.Stmt77.TheVariants as stmts
-use Rattle.f77_syntax.specs.Views.{statement_of}
-use Rattle.f77_syntax.proofs.Equations.{statement_of-program, statement_of-declare, statement_of-dimension, statement_of-constants, statement_of-assign, statement_of-go, statement_of-test, statement_of-if, statement_of-else_if, statement_of-else, statement_of-end_if, statement_of-do, statement_of-continue, statement_of-stop, statement_of-read, statement_of-print, statement_of-end}
+use Rattle.f77_grammar.specs.declared.syntax.statements.Entity.{Entity}
+use Rattle.f77_grammar.specs.declared.syntax.statements.Stmt77.{Stmt77}
+use Rattle.f77_grammar.specs.declared.syntax.statements.Stmt77.TheVariants as stmts
+use Rattle.f77_grammar.specs.syntax.Views.{statement_of}
+use Rattle.f77_grammar.proofs.syntax.Equations.{statement_of-program, statement_of-declare, statement_of-dimension, statement_of-constants, statement_of-assign, statement_of-go, statement_of-test, statement_of-if, statement_of-else_if, statement_of-else, statement_of-end_if, statement_of-do, statement_of-continue, statement_of-stop, statement_of-read, statement_of-print, statement_of-end}
 use Rattle.f77_tree.proofs.ItemLaws.{items_resolved}
 
 pub ruleset block_laws = (block_of-made)

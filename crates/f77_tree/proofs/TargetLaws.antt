@@ -5,23 +5,23 @@ use Rattle.std.specs.declared.alloc.Global.{Global}
 use Rattle.std.specs.List.{list_any}
 use Rattle.std.proofs.lemmas.List.{drop_all}
 use Rattle.std.proofs.lemmas.List.Folds.{list_any-append}
-use Rattle.fv_tree.specs.Plain.{Label}
-use Rattle.fv_tree.specs.declared.names.Name.{Name}
-use Rattle.fv_tree.specs.declared.ops.Kind.{Kind}
-use Rattle.fv_tree.specs.declared.lists.Seq.{Seq}
-use Rattle.fv_tree.specs.declared.exprs.Expr.{Expr}
-use Rattle.fv_tree.specs.declared.exprs.Ref.{Ref}
-use Rattle.fv_tree.specs.declared.stmts.Item.{Item}
-use Rattle.fv_tree.proofs.Equations.{statement_of-label}
+use Rattle.tree.specs.Plain.{Label}
+use Rattle.tree.specs.declared.names.Name.{Name}
+use Rattle.tree.specs.declared.ops.Kind.{Kind}
+use Rattle.tree.specs.declared.lists.Seq.{Seq}
+use Rattle.tree.specs.declared.exprs.Expr.{Expr}
+use Rattle.tree.specs.declared.exprs.Ref.{Ref}
+use Rattle.tree.specs.declared.stmts.Item.{Item}
+use Rattle.tree.proofs.Equations.{statement_of-label}
 use Rattle.f77_grammar.specs.program.Text.{action}
 use Rattle.f77_grammar.specs.program.Tree as tree
-use Rattle.f77_syntax.specs.declared.statements.Entity.{Entity}
-use Rattle.f77_syntax.specs.declared.statements.Stmt77.{Stmt77}
-use Rattle.f77_syntax.specs.declared.statements.Stmt77.TheVariants as stmts
-use Rattle.f77_syntax.specs.declared.statements.Labelled.{Labelled}
-use Rattle.f77_syntax.specs.Views.{statement_of, text_of}
-use Rattle.f77_syntax.proofs.Equations.{statement_of-program, statement_of-declare, statement_of-dimension, statement_of-constants, statement_of-assign, statement_of-go, statement_of-test, statement_of-if, statement_of-else_if, statement_of-else, statement_of-end_if, statement_of-do, statement_of-continue, statement_of-stop, statement_of-read, statement_of-print, statement_of-end}
-use Rattle.f77_syntax.proofs.Walks.{text_left, text_through}
+use Rattle.f77_grammar.specs.declared.syntax.statements.Entity.{Entity}
+use Rattle.f77_grammar.specs.declared.syntax.statements.Stmt77.{Stmt77}
+use Rattle.f77_grammar.specs.declared.syntax.statements.Stmt77.TheVariants as stmts
+use Rattle.f77_grammar.specs.declared.syntax.statements.Labelled.{Labelled}
+use Rattle.f77_grammar.specs.syntax.Views.{statement_of, text_of}
+use Rattle.f77_grammar.proofs.syntax.Equations.{statement_of-program, statement_of-declare, statement_of-dimension, statement_of-constants, statement_of-assign, statement_of-go, statement_of-test, statement_of-if, statement_of-else_if, statement_of-else, statement_of-end_if, statement_of-do, statement_of-continue, statement_of-stop, statement_of-read, statement_of-print, statement_of-end}
+use Rattle.f77_grammar.proofs.syntax.Walks.{text_left, text_through}
 use Rattle.f77_names.proofs.UseLaws.{one_more}
 
 pub target-go : (n : ℕ) → tree.target (statement_of (stmts.Go n)) ≡ n ∷ []

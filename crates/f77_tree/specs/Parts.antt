@@ -1,17 +1,17 @@
 -- What the parts of a statement are resolved to, by the names and symbolic constants of a program.
 use Rattle.std.specs.Prelude.{List}
-use Rattle.fv_tree.specs.Plain as plain
-use Rattle.fv_tree.specs.Plain.{Expression, Subscript, Reference}
-use Rattle.fv_tree.specs.View.{expression_of, subscript_of, reference_of, item_of}
-use Rattle.fv_tree.specs.declared.exprs.Expr.{Expr}
-use Rattle.fv_tree.specs.declared.exprs.Ref.{Ref}
-use Rattle.fv_tree.specs.declared.exprs.Sub.{Sub}
-use Rattle.fv_tree.specs.declared.stmts.Item.{Item}
-use Rattle.fv_meaning.specs.Store.{Store}
+use Rattle.tree.specs.Plain as plain
+use Rattle.tree.specs.Plain.{Expression, Subscript, Reference}
+use Rattle.tree.specs.View.{expression_of, subscript_of, reference_of, item_of}
+use Rattle.tree.specs.declared.exprs.Expr.{Expr}
+use Rattle.tree.specs.declared.exprs.Ref.{Ref}
+use Rattle.tree.specs.declared.exprs.Sub.{Sub}
+use Rattle.tree.specs.declared.stmts.Item.{Item}
+use Rattle.meaning.specs.Store.{Store}
 use Rattle.f77_grammar.specs.program.Uses.{Use}
 use Rattle.f77_grammar.specs.declared.directions.Direction.{Direction}
 use Rattle.f77_grammar.specs.program.Tree as tree
-use Rattle.f77_constants.specs.Constants.{store_of}
+use Rattle.f77_names.specs.constants.Constants.{store_of}
 use Rattle.f77_names.specs.UsesView.{listed}
 use Rattle.f77_tree.specs.declared.resolver.Resolver.{Resolver}
 

@@ -1,15 +1,15 @@
 -- What is said of parts of the tree.
 use Rattle.std.specs.Prelude.{◌≡◌, ℕ, true, Option, None, Some, List, [], ◌∷◌, if◌then◌else◌}
-use Rattle.fv_tree.specs.Plain.{Statement}
-use Rattle.fv_tree.specs.View.{statement_of}
-use Rattle.fv_tree.specs.declared.stmts.Stmt.{Stmt}
-use Rattle.fv_tree.specs.declared.functions.Fun.{Fun}
-use Rattle.fv_meaning.specs.Dialect.{fortran77}
-use Rattle.fv_meaning.specs.Value.{is_in_range}
-use Rattle.fv_tree.specs.Functions.{function_named}
+use Rattle.tree.specs.Plain.{Statement}
+use Rattle.tree.specs.View.{statement_of}
+use Rattle.tree.specs.declared.stmts.Stmt.{Stmt}
+use Rattle.tree.specs.declared.functions.Fun.{Fun}
+use Rattle.meaning.specs.Dialect.{fortran77}
+use Rattle.meaning.specs.Value.{is_in_range}
+use Rattle.tree.specs.Functions.{function_named}
 use Rattle.f77_grammar.specs.program.Uses.{Use, is_array}
-use Rattle.f77_constants.specs.declared.constants.Constants.{Constants}
-use Rattle.f77_constants.specs.Constants.{value_in, value_or_nought}
+use Rattle.f77_names.specs.declared.constants.constants.Constants.{Constants}
+use Rattle.f77_names.specs.constants.Constants.{value_in, value_or_nought}
 
 -- INTEGER has the values of all constants
 abbrev pub AreInRange : Constants → Type 0

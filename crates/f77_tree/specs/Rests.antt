@@ -1,13 +1,13 @@
 -- Pieces of blocks, as the plain ones.
 use Rattle.std.specs.Prelude.{ℕ, List, [], ◌∷◌, ◌++◌, map, reverse}
 use Rattle.std.specs.List.{flat_map}
-use Rattle.fv_tree.specs.Plain as plain
-use Rattle.fv_tree.specs.View.{expression_of, statement_of, tested_of, block_of, arms}
+use Rattle.tree.specs.Plain as plain
+use Rattle.tree.specs.View.{expression_of, statement_of, tested_of, block_of, arms}
 use Rattle.f77_grammar.specs.Statement77.{Labelled}
-use Rattle.fv_meaning.specs.Store.{Store}
+use Rattle.meaning.specs.Store.{Store}
 use Rattle.f77_grammar.specs.program.Uses.{Use}
 use Rattle.f77_grammar.specs.program.Tree as tree
-use Rattle.f77_tree_laws.specs.Steps as steps
+use Rattle.f77_laws.specs.trees.Steps as steps
 use Rattle.f77_tree.specs.declared.rests.Piece.{Piece}
 use Rattle.f77_tree.specs.declared.rests.OpenIf.{OpenIf}
 use Rattle.f77_tree.specs.declared.rests.Rest.{Rest}

@@ -1,19 +1,19 @@
 //! The statements of a program, from the last one back.
 ghost use Rattle.std.specs.Prelude.{◌≡◌, ◌++◌, map, IfOk, OnOk};
-ghost use Rattle.fv_tree.specs.View.{expression_of, statement_of as tree_statement_of};
-ghost use Rattle.fv_tree.specs.Plain as plain;
-ghost use Rattle.f77_tree_laws.specs.Steps as steps;
+ghost use Rattle.tree.specs.View.{expression_of, statement_of as tree_statement_of};
+ghost use Rattle.tree.specs.Plain as plain;
+ghost use Rattle.f77_laws.specs.trees.Steps as steps;
 ghost use Rattle.f77_tree.specs.Parts.{known_uses, known_store, resolved_by};
 ghost use Rattle.f77_tree.specs.Resolved.{made};
 ghost use Rattle.f77_tree.specs.Rests.{piece_of, rest_of, heading_of, ordinary};
-ghost use Rattle.f77_syntax.specs.Views.{labelled_of, statement_of, text_of};
+ghost use Rattle.f77_grammar.specs.syntax.Views.{labelled_of, statement_of, text_of};
 
 use crate::resolver::Resolver;
 use crate::rests::{Heading, Piece, Rest};
 use crate::targets::Targets;
-use f77_syntax::{Labelled, Stmt77};
-use fv_tree::{Expr, Memory, Name, Stmt};
+use f77_grammar::syntax::{Labelled, Stmt77};
 use std::alloc::Global;
+use tree::{Expr, Memory, Name, Stmt, three};
 
 fn add(list: &mut Vec<Stmt>, statement: Option<Stmt>) -> Result<(), Memory>
     ensures { OnOk result (map tree_statement_of list.new.items
@@ -39,12 +39,17 @@ impl Resolver<'_> {
             heading_of heading ≡ plain.Do line var (resolved_by self.now first.now) (resolved_by self.now last.now)
             (resolved_by self.now step.now)) }
     {
+        let (first, last, step) = three(
+            self.resolve(alloc, first),
+            self.resolve(alloc, last),
+            self.resolve(alloc, step),
+        )?;
         Ok(Heading {
             line,
             var,
-            first: self.resolve(alloc, first)?,
-            last: self.resolve(alloc, last)?,
-            step: self.resolve(alloc, step)?,
+            first,
+            last,
+            step,
         })
     }
 
@@ -96,18 +101,18 @@ impl Rest {
                 let heading = resolver.heading(alloc, statement.line, *var, first, last, step)?;
                 self.begin_loop(alloc, *label, mark, heading)
             }
-            Stmt77::Program(_) => self.precede(resolver.piece(alloc, targets, statement)?),
-            Stmt77::Declare(..) => self.precede(resolver.piece(alloc, targets, statement)?),
-            Stmt77::Dimension(_) => self.precede(resolver.piece(alloc, targets, statement)?),
-            Stmt77::Constants(_) => self.precede(resolver.piece(alloc, targets, statement)?),
-            Stmt77::Assign(..) => self.precede(resolver.piece(alloc, targets, statement)?),
-            Stmt77::Go(_) => self.precede(resolver.piece(alloc, targets, statement)?),
-            Stmt77::Test(..) => self.precede(resolver.piece(alloc, targets, statement)?),
-            Stmt77::Continue => self.precede(resolver.piece(alloc, targets, statement)?),
-            Stmt77::Stop => self.precede(resolver.piece(alloc, targets, statement)?),
-            Stmt77::Read(_) => self.precede(resolver.piece(alloc, targets, statement)?),
-            Stmt77::Print(_) => self.precede(resolver.piece(alloc, targets, statement)?),
-            Stmt77::End => self.precede(resolver.piece(alloc, targets, statement)?),
+            Stmt77::Program(_)
+            | Stmt77::Declare(..)
+            | Stmt77::Dimension(_)
+            | Stmt77::Constants(_)
+            | Stmt77::Assign(..)
+            | Stmt77::Go(_)
+            | Stmt77::Test(..)
+            | Stmt77::Continue
+            | Stmt77::Stop
+            | Stmt77::Read(_)
+            | Stmt77::Print(_)
+            | Stmt77::End => self.precede(resolver.piece(alloc, targets, statement)?),
         }
     }
 }

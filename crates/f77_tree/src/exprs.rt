@@ -1,18 +1,18 @@
 //! Expressions and references in which each name stands for what it is.
 ghost use Rattle.std.specs.Prelude.{◌≡◌, ◌≢◌, [], negsuc, true, map, IfOk};
-ghost use Rattle.fv_tree.specs.Plain.{subscripts, no_subscripts};
-ghost use Rattle.fv_tree.specs.View.{expression_of, subscript_of, reference_of};
-ghost use Rattle.fv_tree.specs.declared.exprs.Expr.TheVariants as exprs;
-ghost use Rattle.fv_tree.specs.declared.ops.Value.TheVariants as values;
-ghost use Rattle.fv_meaning.specs.Dialect.{fortran77};
-ghost use Rattle.fv_meaning.specs.Value.{is_in_range};
+ghost use Rattle.tree.specs.Plain.{subscripts, no_subscripts};
+ghost use Rattle.tree.specs.View.{expression_of, subscript_of, reference_of};
+ghost use Rattle.tree.specs.declared.exprs.Expr.TheVariants as exprs;
+ghost use Rattle.tree.specs.declared.ops.Value.TheVariants as values;
+ghost use Rattle.meaning.specs.Dialect.{fortran77};
+ghost use Rattle.meaning.specs.Value.{is_in_range};
 ghost use Rattle.f77_grammar.specs.program.Tree as tree;
 ghost use Rattle.f77_tree.specs.Parts.{known_uses, known_store, resolved_by, subscript_by, reference_by};
 ghost use Rattle.f77_tree.specs.Resolved.{called};
 
 use crate::resolver::Resolver;
-use fv_tree::{Expr, Fun, Memory, Name, Op, Ref, Seq, Sub, Value};
 use std::alloc::Global;
+use tree::{Expr, Fun, Memory, Name, Op, Ref, Seq, Sub, Value, three};
 
 // A number as an expression, in which a literal isn't negative.
 #[tactic(auto, using(crate::proofs::LiteralLaws::literal_laws))]
@@ -154,11 +154,14 @@ impl Resolver<'_> {
     {
         match sub {
             Sub::One(expr) => Ok(Sub::One(self.resolve(alloc, expr)?)),
-            Sub::Part(first, last, stride) => Ok(Sub::Part(
-                first.copy(alloc)?,
-                last.copy(alloc)?,
-                stride.copy(alloc)?,
-            )),
+            Sub::Part(first, last, stride) => {
+                let (first, last, stride) = three(
+                    first.copy(alloc),
+                    last.copy(alloc),
+                    stride.copy(alloc),
+                )?;
+                Ok(Sub::Part(first, last, stride))
+            }
         }
     }
 

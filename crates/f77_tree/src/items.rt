@@ -1,12 +1,12 @@
 //! Input and output lists in which each name stands for what it is.
 ghost use Rattle.std.specs.Prelude.{◌≡◌, map, IfOk};
-ghost use Rattle.fv_tree.specs.View.{expression_of, item_of};
+ghost use Rattle.tree.specs.View.{expression_of, item_of};
 ghost use Rattle.f77_tree.specs.Parts.{read_by, value_by, item_by};
 
 use crate::resolver::Resolver;
 use f77_grammar::Direction;
-use fv_tree::{Expr, Item, Memory, Seq, copy_text};
 use std::alloc::Global;
+use tree::{Expr, Item, Memory, Seq, copy_text, three};
 
 impl Resolver<'_> {
     // What is read into keeps its name.
@@ -48,13 +48,15 @@ impl Resolver<'_> {
         match item {
             Item::One(expr) => Ok(Item::One(self.resolve_value(alloc, direction, expr)?)),
             Item::Text(text) => Ok(Item::Text(copy_text(text, alloc)?)),
-            Item::Turns(list, variable, first, last, step) => Ok(Item::Turns(
-                self.resolve_items(alloc, direction, list)?,
-                *variable,
-                self.resolve(alloc, first)?,
-                self.resolve(alloc, last)?,
-                self.resolve(alloc, step)?,
-            )),
+            Item::Turns(list, variable, first, last, step) => {
+                let list = self.resolve_items(alloc, direction, list)?;
+                let (first, last, step) = three(
+                    self.resolve(alloc, first),
+                    self.resolve(alloc, last),
+                    self.resolve(alloc, step),
+                )?;
+                Ok(Item::Turns(list, *variable, first, last, step))
+            }
         }
     }
 

@@ -1,25 +1,25 @@
 //! The tree of a whole program.
 ghost use Rattle.std.specs.Prelude.{◌≡◌, None, map, IfOk};
-ghost use Rattle.fv_tree.specs.View.{program_of};
+ghost use Rattle.tree.specs.View.{program_of};
 ghost use Rattle.f77_grammar.specs.program.Limits.{constants_of, has_bad_constant};
 ghost use Rattle.f77_grammar.specs.program.Tree.{first_of_names};
-ghost use Rattle.f77_tree_laws.specs.Steps.{tree_of};
+ghost use Rattle.f77_laws.specs.trees.Steps.{tree_of};
 ghost use Rattle.f77_grammar.specs.program.Uses.{is_title, names_that, uses_in_text};
 ghost use Rattle.f77_names.specs.UsesView.{plain_use, listed};
-ghost use Rattle.f77_constants.specs.Constants.{AreValues};
-ghost use Rattle.f77_constants.specs.Declarations.{HaveDimensions};
-ghost use Rattle.f77_syntax.specs.First.{first_index};
-ghost use Rattle.fv_meaning.specs.Dialect.{fortran77};
-ghost use Rattle.f77_syntax.specs.Views.{text_of};
+ghost use Rattle.f77_names.specs.constants.Constants.{AreValues};
+ghost use Rattle.f77_names.specs.constants.Declarations.{HaveDimensions};
+ghost use Rattle.f77_grammar.specs.syntax.First.{first_index};
+ghost use Rattle.meaning.specs.Dialect.{fortran77};
+ghost use Rattle.f77_grammar.specs.syntax.Views.{text_of};
 
 use crate::begin::rest_of_text;
 use crate::resolver::Resolver;
 use crate::targets::Targets;
-use f77_constants::{Constants, declarations_of};
+use f77_grammar::syntax::Labelled;
+use f77_names::constants::{Constants, declarations_of};
 use f77_names::{KnownNames, Role, Use};
-use f77_syntax::Labelled;
-use fv_tree::{Memory, Name, Program77};
 use std::alloc::Global;
+use tree::{Memory, Name, Program77};
 
 fn is_title(used: &Use) -> bool
     ensures { result ≡ is_title (plain_use used.now).role }
@@ -54,8 +54,8 @@ pub fn tree(
     requires names { listed names.now.uses ≡ uses_in_text (text_of text.now) }
     requires constants { AreValues constants.now (constants_of fortran77 (text_of text.now)) }
     ensures dimensions { IfOk result (λ program. HaveDimensions program.decls) }
-    ensures tree { first_index (has_bad_constant fortran77 (constants_of fortran77 (text_of text.now))) (text_of text.now)
-        ≡ None
+    ensures tree { first_index (has_bad_constant fortran77 (constants_of fortran77 (text_of text.now)))
+        (text_of text.now) ≡ None
         → IfOk result (λ program. program_of program ≡ tree_of fortran77 (text_of text.now)) }
 {
     let resolver = Resolver::new(names, constants);

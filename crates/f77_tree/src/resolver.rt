@@ -1,13 +1,13 @@
 //! What names and symbolic constants of a program stand for.
 ghost use Rattle.std.specs.Prelude.{◌≡◌};
 ghost use Rattle.f77_grammar.specs.program.Uses.{is_array, is_constant};
-ghost use Rattle.f77_constants.specs.Constants.{value_in, value_or_nought};
+ghost use Rattle.f77_names.specs.constants.Constants.{value_in, value_or_nought};
 ghost use Rattle.f77_names.specs.UsesView.{listed};
 ghost use Rattle.f77_tree.specs.Resolved.{AreInRange};
 
-use f77_constants::Constants;
 use f77_names::KnownNames;
-use fv_tree::{Name, Value};
+use f77_names::constants::Constants;
+use tree::{Name, Value};
 
 /// What the names of a program stand for.
 #[derive(Clone, Copy)]

@@ -1,13 +1,13 @@
 //! Blocks, as they are put together from the last statement of a program back to the first.
 ghost use Rattle.std.specs.Prelude.{◌≡◌, ℕ, [], ◌++◌, ◌∷◌, None, map, IfOk, OnOk};
-ghost use Rattle.fv_tree.specs.View.{expression_of, block_of, statement_of};
-ghost use Rattle.fv_tree.specs.Plain as plain;
-ghost use Rattle.f77_tree_laws.specs.Steps as steps;
+ghost use Rattle.tree.specs.View.{expression_of, block_of, statement_of};
+ghost use Rattle.tree.specs.Plain as plain;
+ghost use Rattle.f77_laws.specs.trees.Steps as steps;
 ghost use Rattle.f77_grammar.specs.program.Text.{is_label};
 ghost use Rattle.f77_tree.specs.Rests.{piece_of, pieces_in, made_by, later_arms, rest_of, heading_of};
 
-use fv_tree::{Arm, Block, Expr, Memory, Name, Seq, Stmt};
 use std::alloc::Global;
+use tree::{Arm, Block, Expr, Memory, Name, Seq, Stmt};
 
 /// What a simple statement, a whole block IF or a whole loop has become, with the label that ends it.
 #[derive(Drop)]

@@ -1,17 +1,17 @@
 //! Statements that open and close nothing.
 ghost use Rattle.std.specs.Prelude.{◌≡◌, None, IfOk};
-ghost use Rattle.fv_tree.specs.View.{expression_of, reference_of, statement_of as tree_statement_of, block_of};
-ghost use Rattle.fv_tree.specs.Plain as plain;
+ghost use Rattle.tree.specs.View.{expression_of, reference_of, statement_of as tree_statement_of, block_of};
+ghost use Rattle.tree.specs.Plain as plain;
 ghost use Rattle.f77_grammar.specs.program.Tree as tree;
 ghost use Rattle.f77_tree.specs.Parts.{known_uses, known_store, resolved_by, reference_by};
 ghost use Rattle.f77_tree.specs.Resolved.{made};
-ghost use Rattle.f77_syntax.specs.Views.{statement_of};
+ghost use Rattle.f77_grammar.specs.syntax.Views.{statement_of};
 
 use crate::resolver::Resolver;
 use f77_grammar::Direction;
-use f77_syntax::Stmt77;
-use fv_tree::{Arm, Block, Expr, Memory, Ref, Seq, Stmt};
+use f77_grammar::syntax::Stmt77;
 use std::alloc::Global;
+use tree::{Arm, Block, Expr, Memory, Ref, Seq, Stmt, both};
 
 #[tactic(auto, using(crate::proofs::SimpleLaws::block_laws))]
 fn block(alloc: Global, statement: Option<Stmt>) -> Result<Block, Memory>
@@ -31,11 +31,13 @@ impl Resolver<'_> {
             tree_statement_of assignment ≡ plain.Assignment line None (reference_by self.now left.now)
             (resolved_by self.now right.now)) }
     {
+        let left = self.resolve_reference(alloc, left);
+        let (left, right) = both(left, self.resolve(alloc, right))?;
         Ok(Stmt::Assign {
             line,
             mark: None,
-            left: self.resolve_reference(alloc, left)?,
-            right: self.resolve(alloc, right)?,
+            left,
+            right,
         })
     }
 
@@ -52,8 +54,8 @@ impl Resolver<'_> {
             tree_statement_of branch ≡ plain.If line (plain.arm (resolved_by self.now condition.now) (plain.block
             (made inner)) plain.no_arms) plain.no_statements) }
     {
-        let test = self.resolve(alloc, condition)?;
         let body = block(alloc, inner)?;
+        let test = self.resolve(alloc, condition)?;
         let mut arms = Seq::new(alloc);
         arms.push(Arm { test, body })?;
         Ok(Stmt::If {
@@ -96,17 +98,10 @@ impl Resolver<'_> {
                 let inner = self.simple(alloc, line, inner)?;
                 Ok(Some(self.branch(alloc, line, condition, inner)?))
             }
-            Stmt77::Program(_) => Ok(None),
-            Stmt77::Declare(..) => Ok(None),
-            Stmt77::Dimension(_) => Ok(None),
-            Stmt77::Constants(_) => Ok(None),
-            Stmt77::If(_) => Ok(None),
-            Stmt77::ElseIf(_) => Ok(None),
-            Stmt77::Else => Ok(None),
-            Stmt77::EndIf => Ok(None),
-            Stmt77::Do(..) => Ok(None),
-            Stmt77::Continue => Ok(None),
-            Stmt77::End => Ok(None),
+            Stmt77::Program(_) | Stmt77::Declare(..) | Stmt77::Dimension(_) => Ok(None),
+            Stmt77::Constants(_) | Stmt77::If(_) | Stmt77::ElseIf(_) => Ok(None),
+            Stmt77::Else | Stmt77::EndIf | Stmt77::Do(..) => Ok(None),
+            Stmt77::Continue | Stmt77::End => Ok(None),
         }
     }
 }

@@ -4,15 +4,15 @@ ghost use Rattle.std.specs.BTreeSet.{contains};
 ghost use Rattle.std.specs.List.{list_any};
 ghost use Rattle.std.specs.Option.{option_to_list};
 ghost use Rattle.std.specs.Ordering.{nat_cmp};
-ghost use Rattle.fv_tree.specs.View.{statement_of as tree_statement_of};
+ghost use Rattle.tree.specs.View.{statement_of as tree_statement_of};
 ghost use Rattle.f77_grammar.specs.program.Tree as tree;
 ghost use Rattle.f77_grammar.specs.program.Text.{action};
-ghost use Rattle.f77_syntax.specs.Views.{statement_of, text_of};
+ghost use Rattle.f77_grammar.specs.syntax.Views.{statement_of, text_of};
 
-use f77_syntax::{Labelled, Stmt77};
-use fv_tree::{Memory, Stmt};
+use f77_grammar::syntax::{Labelled, Stmt77};
 use std::alloc::Global;
 use std::collections::BTreeSet;
+use tree::{Memory, Stmt};
 
 /// The labels that a GO TO of a program names: a list in the order of the text, and as a set.
 #[derive(Drop)]

@@ -1,17 +1,17 @@
 -- The labels that trees name are those that their statements name.
 use Rattle.std.proofs.Common.{◌≡◌, ◌∙◌, ap, ap₂, sym, refl, ℕ, false, ◌||◌, Option, Some, None, List, [], ◌∷◌}
 use Rattle.std.specs.List.{list_any}
-use Rattle.fv_tree.specs.Plain.{Statement}
-use Rattle.fv_tree.specs.View.{statement_of}
-use Rattle.fv_tree.specs.declared.functions.Intrinsic.{Intrinsic}
-use Rattle.f90_block_laws.specs.Blocks.{goes_to, name_target}
+use Rattle.tree.specs.Plain.{Statement}
+use Rattle.tree.specs.View.{statement_of}
+use Rattle.tree.specs.declared.functions.Intrinsic.{Intrinsic}
+use Rattle.f90_laws.specs.blocks.Blocks.{goes_to, name_target}
 use Rattle.f90_grammar.specs.Forms as forms
 use Rattle.f90_grammar.specs.Forms.{Form}
 use Rattle.f90_grammar.specs.Blocks.{Placed, at, IsSimple}
 use Rattle.f90_grammar.specs.Blocks.IsSimple.{assigns, masks, goes, stops, reads, reads_nothing, prints, prints_nothing}
 use Rattle.f90_grammar.specs.Blocks.IsSimple.{allocates, deallocates}
 use Rattle.f90_grammar.specs.Order.{is_executable}
-use Rattle.f90_statements.specs.Views.{AreOf}
+use Rattle.f90_statement.specs.Views.{AreOf}
 use Rattle.f90_blocks.specs.statement_trees.Trees.{IsTreeOf, IsTreeIn}
 use Rattle.f90_blocks.specs.declared.statement_trees.nodes.StatementTree.{StatementTree}
 use Rattle.f90_blocks.specs.declared.statement_trees.nodes.StatementTree.TheVariants.{Simple, Test, If, ElseIf, Else, EndIf}

@@ -4,17 +4,17 @@ use Rattle.std.proofs.Common.{None, List, [], ◌∷◌, ◌++◌, map, reverse}
 use Rattle.std.proofs.lemmas.List.{map-append, reverse-append}
 use Rattle.std.specs.declared.alloc.Global.{Global}
 use Rattle.std.specs.declared.vec.Vec.{Vec}
-use Rattle.fv_tree.specs.Plain as plain
-use Rattle.fv_tree.specs.View.{Tested, expression_of, statement_of, tested_of, block_of, arms}
-use Rattle.fv_tree.specs.declared.exprs.Expr.{Expr}
-use Rattle.fv_tree.specs.declared.lists.Memory.{Memory}
-use Rattle.fv_tree.specs.declared.lists.Seq.{Seq}
-use Rattle.fv_tree.specs.declared.stmts.Stmt.{Stmt}
-use Rattle.fv_tree.specs.declared.stmts.Stmt.TheVariants as stmts
-use Rattle.fv_tree.specs.declared.stmts.Arm.{Arm, roll-Arm}
-use Rattle.fv_tree.specs.declared.stmts.Block.{Block, roll-Block}
-use Rattle.fv_tree.proofs.Equations.{statement_of-if, statement_of-do, statement_of-label, tested_of-made}
-use Rattle.fv_tree.proofs.Equations.{block_of-made}
+use Rattle.tree.specs.Plain as plain
+use Rattle.tree.specs.View.{Tested, expression_of, statement_of, tested_of, block_of, arms}
+use Rattle.tree.specs.declared.exprs.Expr.{Expr}
+use Rattle.tree.specs.declared.lists.Memory.{Memory}
+use Rattle.tree.specs.declared.lists.Seq.{Seq}
+use Rattle.tree.specs.declared.stmts.Stmt.{Stmt}
+use Rattle.tree.specs.declared.stmts.Stmt.TheVariants as stmts
+use Rattle.tree.specs.declared.stmts.Arm.{Arm, roll-Arm}
+use Rattle.tree.specs.declared.stmts.Block.{Block, roll-Block}
+use Rattle.tree.proofs.Equations.{statement_of-if, statement_of-do, statement_of-label, tested_of-made}
+use Rattle.tree.proofs.Equations.{block_of-made}
 use Rattle.f90_blocks.specs.declared.open.Open.{Open}
 use Rattle.f90_blocks.specs.declared.open.Open.TheVariants as opens
 use Rattle.f90_blocks.specs.declared.open.Rest.{Rest}

@@ -1,15 +1,15 @@
 -- The labels that GO TOs name.
 use Rattle.std.proofs.Common.{◌≡◌, ap, ℕ, Option, Some, None, List}
-use Rattle.fv_tree.specs.declared.exprs.Expr.{Expr}
-use Rattle.fv_tree.specs.declared.exprs.Ref.{Ref}
-use Rattle.fv_tree.specs.declared.lists.Seq.{Seq}
-use Rattle.fv_tree.specs.declared.stmts.Arm.{Arm}
-use Rattle.fv_tree.specs.declared.stmts.Block.{Block}
-use Rattle.fv_tree.specs.declared.stmts.Item.{Item}
-use Rattle.fv_tree.specs.declared.stmts.Mark.{Mark}
-use Rattle.fv_tree.specs.declared.stmts.Stmt.TheVariants as stmts
-use Rattle.fv_tree.specs.View.{statement_of}
-use Rattle.fv_tree.proofs.Equations as equations
+use Rattle.tree.specs.declared.exprs.Expr.{Expr}
+use Rattle.tree.specs.declared.exprs.Ref.{Ref}
+use Rattle.tree.specs.declared.lists.Seq.{Seq}
+use Rattle.tree.specs.declared.stmts.Arm.{Arm}
+use Rattle.tree.specs.declared.stmts.Block.{Block}
+use Rattle.tree.specs.declared.stmts.Item.{Item}
+use Rattle.tree.specs.declared.stmts.Mark.{Mark}
+use Rattle.tree.specs.declared.stmts.Stmt.TheVariants as stmts
+use Rattle.tree.specs.View.{statement_of}
+use Rattle.tree.proofs.Equations as equations
 use Rattle.f90_blocks.specs.Targets.{target_of}
 
 pub target-go : (line n : ℕ) → target_of (statement_of (stmts.Go line n)) ≡ Some n

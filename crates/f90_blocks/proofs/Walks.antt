@@ -2,9 +2,9 @@
 use Rattle.std.proofs.Common.{◌≡◌, ◌∙◌, ap, sym, subst, refl, ℕ, Bool, true, false, cond, Option, Some, None, List, []}
 use Rattle.std.proofs.Common.{◌∷◌, ◌++◌, append_assoc, append-nil}
 use Rattle.std.specs.List.{filter, list_any}
-use Rattle.fv_tree.specs.Plain as tree
-use Rattle.fv_tree.specs.declared.functions.Intrinsic.{Intrinsic}
-use Rattle.f90_block_laws.specs.Blocks.{name_target}
+use Rattle.tree.specs.Plain as tree
+use Rattle.tree.specs.declared.functions.Intrinsic.{Intrinsic}
+use Rattle.f90_laws.specs.blocks.Blocks.{name_target}
 use Rattle.f90_grammar.specs.Forms as forms
 use Rattle.f90_grammar.specs.Forms.{Form}
 use Rattle.f90_grammar.specs.Blocks.{Placed, IsSimple, AreBlock}
@@ -12,7 +12,7 @@ use Rattle.f90_grammar.specs.Blocks.IsSimple.{assigns, masks, goes, stops, reads
 use Rattle.f90_grammar.specs.Blocks.IsSimple.{allocates, deallocates}
 use Rattle.f90_grammar.specs.Blocks.AreBlock.{nothing}
 use Rattle.f90_grammar.specs.Order.{Opened, Place, IsInOrder, is_executable, opened_by, opened_behind}
-use Rattle.f90_statements.specs.Views.{AreOf}
+use Rattle.f90_statement.specs.Views.{AreOf}
 use Rattle.f90_blocks.specs.statement_trees.Trees.{IsTreeOf, IsTreeIn}
 use Rattle.f90_blocks.specs.declared.statement_trees.nodes.StatementTree.{StatementTree}
 use Rattle.f90_blocks.specs.declared.statement_trees.nodes.StatementTree.TheVariants.{Simple, Test, If, ElseIf, Else, EndIf}

@@ -1,4 +1,6 @@
-pub mod Treed
-pub mod Targets
 pub mod Rests
+pub mod Targets
+pub mod Treed
+pub mod places
 pub mod statement_trees
+pub mod structure

@@ -1,11 +1,11 @@
 -- What the statements behind a place have become.
 use Rattle.std.specs.Prelude.{◌≡◌, ◌≢◌, ℕ, Bool, false, Option, Some, None, List, [], ◌∷◌, ◌++◌}
 use Rattle.std.specs.Prelude.{map, reverse, if◌then◌else◌}
-use Rattle.fv_tree.specs.Plain as tree
-use Rattle.fv_tree.specs.Plain.{Arms, Block}
-use Rattle.fv_tree.specs.View.{statement_of, tested_of, block_of, arms}
-use Rattle.fv_tree.specs.declared.functions.Intrinsic.{Intrinsic}
-use Rattle.fv_tree.specs.declared.stmts.Stmt.{Stmt}
+use Rattle.tree.specs.Plain as tree
+use Rattle.tree.specs.Plain.{Arms, Block}
+use Rattle.tree.specs.View.{statement_of, tested_of, block_of, arms}
+use Rattle.tree.specs.declared.functions.Intrinsic.{Intrinsic}
+use Rattle.tree.specs.declared.stmts.Stmt.{Stmt}
 use Rattle.f90_grammar.specs.Forms as forms
 use Rattle.f90_grammar.specs.Blocks.{Placed, at, AreBlock, AreArms}
 use Rattle.f90_grammar.specs.Order.{Opened, InIf, InElse, InDo, closes_wrongly}

@@ -1,7 +1,7 @@
 -- The label that a statement names in a GO TO.
 use Rattle.std.specs.Prelude.{ℕ, ◌==◌, Bool, false, Option, Some, None}
-use Rattle.fv_tree.specs.Plain.{Statement, GoTo}
-use Rattle.fv_tree.specs.View.{statement_of}
+use Rattle.tree.specs.Plain.{Statement, GoTo}
+use Rattle.tree.specs.View.{statement_of}
 use Rattle.f90_blocks.specs.declared.statement_trees.nodes.StatementTree.{StatementTree}
 use Rattle.f90_blocks.specs.declared.statement_trees.nodes.StatementTree.TheVariants.{Simple, Test}
 use Rattle.f90_blocks.specs.declared.nodes.Treed.{Treed}

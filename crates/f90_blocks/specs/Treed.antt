@@ -1,6 +1,6 @@
 -- What the code holds of statements.
 use Rattle.std.specs.Prelude.{◌≡◌, ℕ, false, Option, None, List}
-use Rattle.fv_tree.specs.declared.functions.Intrinsic.{Intrinsic}
+use Rattle.tree.specs.declared.functions.Intrinsic.{Intrinsic}
 use Rattle.f90_grammar.specs.Blocks.{Placed}
 use Rattle.f90_grammar.specs.Order.{Place, IsPlaceIn}
 use Rattle.f90_grammar.specs.Reading.{takes_mark}

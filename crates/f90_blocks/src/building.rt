@@ -3,13 +3,13 @@ ghost use Rattle.std.specs.Prelude.{◌≡◌, ℕ, Bool, false, Option, List, �
 ghost use Rattle.std.specs.BTreeSet.{contains};
 ghost use Rattle.std.specs.List.{filter};
 ghost use Rattle.std.specs.Ordering.{nat_cmp};
-ghost use Rattle.fv_tree.specs.Plain as plain;
-ghost use Rattle.fv_tree.specs.View.{expression_of, statement_of, block_of};
-ghost use Rattle.fv_tree.specs.declared.functions.Intrinsic.{Intrinsic};
-ghost use Rattle.f90_block_laws.specs.Blocks.{name_target};
+ghost use Rattle.tree.specs.Plain as plain;
+ghost use Rattle.tree.specs.View.{expression_of, statement_of, block_of};
+ghost use Rattle.tree.specs.declared.functions.Intrinsic.{Intrinsic};
+ghost use Rattle.f90_laws.specs.blocks.Blocks.{name_target};
 ghost use Rattle.f90_grammar.specs.Blocks.{Placed, AreBlock};
 ghost use Rattle.f90_grammar.specs.Order.{IsInOrder, Opened, is_executable, opened_by};
-ghost use Rattle.f90_statements.specs.Views.{AreOf};
+ghost use Rattle.f90_statement.specs.Views.{AreOf};
 ghost use Rattle.f90_blocks.specs.Rests.{IsNext, Shows, Stands, block_seen, done_seen, opens_seen, with_label};
 ghost use Rattle.f90_blocks.specs.Treed.{IsTreedOf, MarksAreTaken};
 
@@ -17,12 +17,12 @@ use crate::nodes::Treed;
 use crate::open::Rest;
 use crate::statement_trees::StatementTree;
 use crate::targets::targets;
-use fv_tree::{Arm, Block, Expr, Memory, Seq, Stmt};
 use std::alloc::Global;
 use std::collections::BTreeSet;
+use tree::{Arm, Block, Expr, Memory, Seq, Stmt};
 
 // The block of what a logical IF does.
-#[tactic(auto, using(fv_tree::proofs::Equations::statement_equations))]
+#[tactic(auto, using(tree::proofs::Equations::statement_equations))]
 fn done_block(alloc: Global, done: Option<Stmt>) -> Result<Block, Memory>
     ensures { IfOk result (λ block. block_of block ≡ done_seen done) }
 {

@@ -4,7 +4,9 @@
 mod building;
 mod nodes;
 mod open;
+pub mod places;
 pub mod statement_trees;
+pub mod structure;
 mod targets;
 
 pub use building::block;

@@ -1,13 +1,13 @@
 //! Blocks, as they are put together from the last statement of a program back to the first.
 ghost use Rattle.std.specs.Prelude.{◌≡◌, List, [], ◌∷◌, ◌++◌, IfOk, MatchOption};
-ghost use Rattle.fv_tree.specs.Plain as plain;
-ghost use Rattle.fv_tree.specs.Plain.{Arms, Block as PlainBlock};
-ghost use Rattle.fv_tree.specs.View.{expression_of, statement_of, block_of};
+ghost use Rattle.tree.specs.Plain as plain;
+ghost use Rattle.tree.specs.Plain.{Arms, Block as PlainBlock};
+ghost use Rattle.tree.specs.View.{expression_of, statement_of, block_of};
 ghost use Rattle.f90_blocks.specs.declared.open.Open.TheVariants as opens;
 ghost use Rattle.f90_blocks.specs.Rests.{Ended, EndedIf, EndedDo, IsNotInIf, Shows, block_seen, opens_seen};
 
-use fv_tree::{Arm, Block, Expr, Memory, Name, Seq, Stmt};
 use std::alloc::Global;
+use tree::{Arm, Block, Expr, Memory, Name, Seq, Stmt};
 
 /// A block whose end has been read and whose first line is still to come, with the statements behind its end, the last
 /// one first. A block IF has its later arms, the last one first, and its ELSE part.

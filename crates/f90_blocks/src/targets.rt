@@ -3,15 +3,15 @@ ghost use Rattle.std.specs.Prelude.{◌≡◌, ℕ, ◌||◌, IfOk, OnOk};
 ghost use Rattle.std.specs.BTreeSet.{contains};
 ghost use Rattle.std.specs.List.{list_any};
 ghost use Rattle.std.specs.Ordering.{nat_cmp};
-ghost use Rattle.fv_tree.specs.View.{statement_of};
+ghost use Rattle.tree.specs.View.{statement_of};
 ghost use Rattle.f90_blocks.specs.Targets.{target_of, target_in, target_at, names};
 ghost use Rattle.f90_blocks.specs.declared.nodes.Treed.{Treed};
 
 use crate::nodes::Treed;
 use crate::statement_trees::StatementTree;
-use fv_tree::{Memory, Stmt};
 use std::alloc::Global;
 use std::collections::BTreeSet;
+use tree::{Memory, Stmt};
 
 #[tactic(auto, using(crate::proofs::TargetLaws::target_laws))]
 fn target_of(stmt: &Stmt) -> Option<u32>

@@ -6,15 +6,15 @@ use Rattle.std.proofs.lemmas.Bool.{cond_both}
 use Rattle.std.proofs.lemmas.Bool.Decides.{Decides-int_eq}
 use Rattle.std.proofs.lemmas.Fmt.{decimal_is_IsNumeral_wide}
 use mathlib.Core.Path.{ap₂}
-use Rattle.fv_tree.specs.declared.ops.Op.{Op}
-use Rattle.fv_tree.specs.declared.ops.Op.TheVariants.{Neg, Not}
-use Rattle.fv_tree.specs.Plain as tree
-use Rattle.fv_tree.specs.Plain.{Expression, Expressions, Subscript, Subscripts, Loops}
-use Rattle.fv_tree.specs.OperatorTable.{left_least, right_least}
+use Rattle.tree.specs.declared.ops.Op.{Op}
+use Rattle.tree.specs.declared.ops.Op.TheVariants.{Neg, Not}
+use Rattle.tree.specs.Plain as tree
+use Rattle.tree.specs.Plain.{Expression, Expressions, Subscript, Subscripts, Loops}
+use Rattle.tree.specs.OperatorTable.{left_least, right_least}
 use Rattle.f90_grammar.specs.Phrases.{Phrase, Literal, Paren, Value, Parts, One, Then, Phrases, Sole, More, Turn, Innermost, Round, level, called, argument_of, arguments_of, tree_of, tree_of_part, trees_of_parts, trees_of_values, looped}
-use Rattle.fv_tree.specs.Functions.{name_of_function, name_of_reduction}
+use Rattle.tree.specs.Functions.{name_of_function, name_of_reduction}
 use Rattle.f90_grammar.specs.Printing.{fit, unary_phrase, digits_of, is_one, section, phrase_of, part_of, more_parts, more_arguments, more_values, rounds, IsLiteral, is_negating, IsSource, EachIsSource, IsSourceSubscript, AreSource, LoopsAreSource}
-use Rattle.fv_tree.specs.declared.functions.Intrinsic.{Intrinsic}
+use Rattle.tree.specs.declared.functions.Intrinsic.{Intrinsic}
 
 -- ---- lists
 

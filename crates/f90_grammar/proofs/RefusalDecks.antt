@@ -2,9 +2,9 @@
 use Rattle.std.proofs.Common.{◌≡◌, ◌⊎◌, inl, inr, refl, ℕ, Bool, true, false, Option, None, Some, List, [], ◌∷◌, ◌++◌, codes, arith}
 use Prim.Native.String.{String}
 use Rattle.std.specs.List.{list_any}
-use Rattle.fv_tree.specs.Causes.{refusal_at}
-use Rattle.fv_tree.specs.declared.ops.Kind.TheVariants.{Integer, Logical}
-use Rattle.fv_tree.specs.declared.refusals.Cause.TheVariants.{BadByte90, LongLine, Continuation, Declared90, TypeClash90}
+use Rattle.tree.specs.Causes.{refusal_at}
+use Rattle.tree.specs.declared.ops.Kind.TheVariants.{Integer, Logical}
+use Rattle.tree.specs.declared.refusals.Cause.TheVariants.{BadByte90, LongLine, Continuation, Declared90, TypeClash90}
 use Rattle.f90_grammar.specs.FreeForm.{Piece, IsPiece}
 use Rattle.f90_grammar.specs.LineCauses.{Between, Within, LeadTo, HasLineCause, is_bad_byte}
 use Rattle.f90_grammar.specs.LineCauses.LeadTo.{nothing, comment, piece}

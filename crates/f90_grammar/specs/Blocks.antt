@@ -1,13 +1,13 @@
 -- Which statements, one after another, are a block of a program's tree (ISO/IEC 1539:1991, section 8.1).
 use Rattle.std.specs.Prelude.{◌≡◌, ℕ, Bool, true, false, Option, None, List, [], ◌∷◌, ◌++◌}
-use Rattle.fv_tree.specs.Plain as tree
-use Rattle.fv_tree.specs.Plain.{Expression, Reference, Statement, Arms, Block}
-use Rattle.fv_tree.specs.declared.stmts.Mark.{Mark}
+use Rattle.tree.specs.Plain as tree
+use Rattle.tree.specs.Plain.{Expression, Reference, Statement, Arms, Block}
+use Rattle.tree.specs.declared.stmts.Mark.{Mark}
 use Rattle.f90_grammar.specs.Phrases.{Phrase, tree_of, value_of_digits}
 use Rattle.f90_grammar.specs.Items.{item_trees, step_tree}
 use Rattle.f90_grammar.specs.Forms as forms
 use Rattle.f90_grammar.specs.Forms.{Form}
-use Rattle.fv_tree.specs.declared.functions.Intrinsic.{Intrinsic}
+use Rattle.tree.specs.declared.functions.Intrinsic.{Intrinsic}
 
 -- a statement with its line; the mark that it has taken, if it takes one and one stands before it
 pub record Placed : Type 0 where

@@ -1,11 +1,11 @@
 -- The limits of a Fortran 90 program: blocks in each other, bounds of arrays, elements of all arrays, names.
 use Rattle.std.specs.Prelude.{◌<◌, nat_le, Bool, true, false, ◌&&◌, IsTrue, List, [], ◌∷◌, ◌++◌, length, map, sum}
 use Rattle.std.specs.List.{AllByRecursion}
-use Rattle.fv_tree.specs.Limits as limits
-use Rattle.fv_tree.specs.Plain.{Declaration}
-use Rattle.fv_meaning.specs.Typed.{dimensions}
-use Rattle.fv_meaning.specs.Profile77.{array_elements}
-use Rattle.fv_meaning.specs.Profile90.{IsDimension}
+use Rattle.tree.specs.Limits as limits
+use Rattle.tree.specs.Plain.{Declaration}
+use Rattle.meaning.specs.Typed.{dimensions}
+use Rattle.meaning.specs.Profile77.{array_elements}
+use Rattle.meaning.specs.Profile90.{IsDimension}
 use Rattle.f90_grammar.specs.Forms as forms
 use Rattle.f90_grammar.specs.Forms.{Form}
 use Rattle.f90_grammar.specs.Declared.{declarations_in, declarations_of}

@@ -2,8 +2,8 @@
 -- deep its expressions are.
 use Rattle.std.specs.Prelude.{ℕ, nat_lt, Bool, false, ◌||◌, Option, None, Some, List, [], ◌∷◌, ◌++◌}
 use Rattle.std.specs.List.{list_any, AllByRecursion}
-use Rattle.fv_tree.specs.Limits.{greatest_literal, expression_depth90}
-use Rattle.fv_tree.specs.declared.functions.Intrinsic.{Intrinsic}
+use Rattle.tree.specs.Limits.{greatest_literal, expression_depth90}
+use Rattle.tree.specs.declared.functions.Intrinsic.{Intrinsic}
 use Rattle.f90_grammar.specs.Phrases.{Phrase, Literal, Truth, Name, Listed, Paren, Signed, Joined, Values, Looped}
 use Rattle.f90_grammar.specs.Phrases.{Part, Value, Range, Strided, Parts, One, Then, Phrases, Turn, Innermost, Round}
 use Rattle.f90_grammar.specs.Phrases as phrases

@@ -3,10 +3,10 @@
 use Rattle.std.specs.Prelude.{◌≡◌, ◌⊎◌, ℕ, Bool, false, ◌||◌, Option, None, Some, List, [], ◌∷◌, ◌++◌, map}
 use Rattle.std.specs.Option.{IsSomeAnd}
 use Rattle.std.specs.List.{AllByRecursion, flat_map}
-use Rattle.fv_tree.specs.Plain.{Declaration}
-use Rattle.fv_tree.specs.declared.functions.Intrinsic.{Intrinsic}
-use Rattle.fv_meaning.specs.Names.{is_among}
-use Rattle.fv_meaning.specs.Typed.{declared, rank_of_extent}
+use Rattle.tree.specs.Plain.{Declaration}
+use Rattle.tree.specs.declared.functions.Intrinsic.{Intrinsic}
+use Rattle.meaning.specs.Names.{is_among}
+use Rattle.meaning.specs.Typed.{declared, rank_of_extent}
 use Rattle.f90_grammar.specs.Phrases as phrases
 use Rattle.f90_grammar.specs.Phrases.{Phrase, Literal, Truth, Name, Listed, Paren, Signed, Joined, Values, Looped}
 use Rattle.f90_grammar.specs.Phrases.{Part, Value, Range, Strided, Parts, One, Then, Phrases, Turn, Innermost, Round}

@@ -3,10 +3,10 @@
 use Rattle.std.specs.Prelude.{◌≡◌, ℕ, ◌≤◌, ◌⊎◌, Bool, true, false, Option, Some, None, List, []}
 use Rattle.std.specs.Prelude.{◌∷◌, ◌++◌, length, codes}
 use Rattle.std.specs.List.{AllByRecursion}
-use Rattle.fv_tree.specs.declared.ops.Kind.{Kind}
-use Rattle.fv_tree.specs.declared.ops.Kind.TheVariants.{Integer, Logical}
-use Rattle.fv_tree.specs.declared.ops.Op.TheVariants.{Add, Sub, Mul}
-use Rattle.fv_tree.specs.OperatorTable.{Sign, Plus, Minus, Negation}
+use Rattle.tree.specs.declared.ops.Kind.{Kind}
+use Rattle.tree.specs.declared.ops.Kind.TheVariants.{Integer, Logical}
+use Rattle.tree.specs.declared.ops.Op.TheVariants.{Add, Sub, Mul}
+use Rattle.tree.specs.OperatorTable.{Sign, Plus, Minus, Negation}
 use Rattle.f90_grammar.specs.Phrases.{Phrase, IsExpression, written}
 use Rattle.f90_grammar.specs.Items.{ItemPhrases, Input, Output, AreItems, IsReference, IsStep, written_items}
 use Rattle.f90_grammar.specs.Items.{written_bounds}

@@ -4,7 +4,7 @@ use Rattle.std.specs.Prelude.{◌≡◌, ℕ, ◌+◌, ◌<◌, ◌≤◌, ◌^�
 use Rattle.std.specs.Prelude.{IsTrue, List, [], ◌∷◌, ◌++◌, length, map, flat_map, codes}
 use Rattle.std.specs.List.{list_all}
 use Rattle.std.specs.Str.Parse.{IsNumeral, digits_value}
-use Rattle.fv_tree.specs.declared.stmts.Mark.{Mark}
+use Rattle.tree.specs.declared.stmts.Mark.{Mark}
 
 abbrev pub is_blank : ℕ → Bool
 is_blank c = c == 32

@@ -1,12 +1,12 @@
 -- The lists of PRINT and READ as they are written, and what they stand for (ISO/IEC 1539:1991, section 9.4.2).
 use Rattle.std.specs.Prelude.{ℕ, ◌+◌, max, pos, Option, Some, None, List, [], ◌∷◌, ◌++◌}
-use Rattle.fv_tree.specs.Plain.{Expression, Number, Item, Single, Constant, ImpliedDo, items}
+use Rattle.tree.specs.Plain.{Expression, Number, Item, Single, Constant, ImpliedDo, items}
 use Rattle.f90_grammar.specs.Phrases.{Phrase, Name, Listed}
 use Rattle.f90_grammar.specs.Phrases.{IsExpression, AreValues, SuitsCalls, written, tree_of}
 use Rattle.f90_grammar.specs.Phrases.{depth}
 use Rattle.f90_grammar.specs.Words as words
 use Rattle.f90_grammar.specs.Words.{Word}
-use Rattle.fv_tree.specs.declared.functions.Intrinsic.{Intrinsic}
+use Rattle.tree.specs.declared.functions.Intrinsic.{Intrinsic}
 
 mutual
   pub data ItemPhrase : Type 0 where

@@ -3,11 +3,11 @@
 use Rattle.std.specs.Prelude.{ℕ, ℤ, pos, negsuc, ◌+◌, Bool, true, false, Option, Some, None, List, [], ◌∷◌, ◌++◌, map}
 use Rattle.std.specs.Prelude.{codes, decimal, replicate, if◌then◌else◌}
 use Rattle.std.specs.Ordering.{int_eq}
-use Rattle.fv_tree.specs.Plain as tree
-use Rattle.fv_tree.specs.Plain.{Expression, Expressions, Reference, Item, Items, Statement, Arms, Block}
-use Rattle.fv_tree.specs.Plain.{Extent, Given, Later, Declaration, Program}
-use Rattle.fv_tree.specs.OperatorTable.{Minus}
-use Rattle.fv_tree.specs.declared.stmts.Mark.{Mark}
+use Rattle.tree.specs.Plain as tree
+use Rattle.tree.specs.Plain.{Expression, Expressions, Reference, Item, Items, Statement, Arms, Block}
+use Rattle.tree.specs.Plain.{Extent, Given, Later, Declaration, Program}
+use Rattle.tree.specs.OperatorTable.{Minus}
+use Rattle.tree.specs.declared.stmts.Mark.{Mark}
 use Rattle.f90_grammar.specs.Phrases.{Phrase}
 use Rattle.f90_grammar.specs.Items.{ItemPhrase, Of, Text, Loop, ItemPhrases, Sole, More}
 use Rattle.f90_grammar.specs.Forms as forms

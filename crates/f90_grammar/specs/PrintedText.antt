@@ -3,9 +3,9 @@
 use Rattle.std.specs.Prelude.{◌≡◌, ℕ, zero, suc, ◌-◌, ◌≤◌, ◌/◌, Bool, true, false, Option, Some, None, List, []}
 use Rattle.std.specs.Prelude.{◌∷◌, ◌++◌, map, flat_map, length, take, drop, codes, decimal}
 use Rattle.std.specs.List.{AllByRecursion, list_all}
-use Rattle.fv_tree.specs.OperatorTable.{Sign, Plus, Minus, Negation, spelling90_of}
-use Rattle.fv_tree.specs.Plain.{Expression, Reference, Program}
-use Rattle.fv_tree.specs.declared.stmts.Mark.{Mark}
+use Rattle.tree.specs.OperatorTable.{Sign, Plus, Minus, Negation, spelling90_of}
+use Rattle.tree.specs.Plain.{Expression, Reference, Program}
+use Rattle.tree.specs.declared.stmts.Mark.{Mark}
 use Rattle.f90_grammar.specs.Words.{doubled, truth_text}
 use Rattle.f90_grammar.specs.Phrases.{Phrase, Literal, Truth, Name, Listed, Paren, Signed, Joined, Values, Looped, Part}
 use Rattle.f90_grammar.specs.Phrases.{Value, Range, Strided, Parts, One, Then, Phrases, Turn, Innermost, Round}

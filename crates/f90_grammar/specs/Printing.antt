@@ -3,17 +3,17 @@
 use Rattle.std.specs.Prelude.{◌≡◌, ℕ, ◌^◌, ◌<◌, ℤ, pos, negsuc, nat_le, Bool, true, false, IsTrue, Option, Some}
 use Rattle.std.specs.Prelude.{None, List, [], codes, decimal, if◌then◌else◌}
 use Rattle.std.specs.Ordering.{int_eq}
-use Rattle.fv_tree.specs.declared.ops.Op.{Op}
-use Rattle.fv_tree.specs.declared.ops.Op.TheVariants.{Neg, Not}
-use Rattle.fv_tree.specs.Plain as tree
-use Rattle.fv_tree.specs.Plain.{Expression, Expressions, Subscript, Subscripts, Loops}
-use Rattle.fv_tree.specs.OperatorTable.{Minus, Negation, left_least, right_least, stands_between}
+use Rattle.tree.specs.declared.ops.Op.{Op}
+use Rattle.tree.specs.declared.ops.Op.TheVariants.{Neg, Not}
+use Rattle.tree.specs.Plain as tree
+use Rattle.tree.specs.Plain.{Expression, Expressions, Subscript, Subscripts, Loops}
+use Rattle.tree.specs.OperatorTable.{Minus, Negation, left_least, right_least, stands_between}
 use Rattle.f90_grammar.specs.Phrases.{Phrase, Literal, Truth, Name, Listed, Paren, Signed, Joined, Values, Looped, Part}
 use Rattle.f90_grammar.specs.Phrases.{Value, Range, Strided, Parts, One, Then, Phrases, Sole, More, Turn, Innermost}
 use Rattle.f90_grammar.specs.Phrases.{Round, level}
-use Rattle.fv_tree.specs.Functions.{name_of_function, name_of_reduction}
-use Rattle.fv_tree.specs.declared.functions.Intrinsic.{Intrinsic}
-use Rattle.fv_tree.specs.declared.functions.Intrinsic.TheVariants.{Elemental, Reduction, Spread, Transpose, Reshape}
+use Rattle.tree.specs.Functions.{name_of_function, name_of_reduction}
+use Rattle.tree.specs.declared.functions.Intrinsic.{Intrinsic}
+use Rattle.tree.specs.declared.functions.Intrinsic.TheVariants.{Elemental, Reduction, Spread, Transpose, Reshape}
 
 abbrev pub fit : ℕ → Phrase → Phrase
 fit n p = if nat_le n (level p) then p else Paren p

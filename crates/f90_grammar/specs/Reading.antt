@@ -2,22 +2,22 @@
 use Rattle.std.specs.Prelude.{◌≡◌, ◌↔◌, ◌==◌, ◌||◌, ℤ, pos, neg_ℤ, if◌then◌else◌, ℕ, Bool, true, false}
 use Rattle.std.specs.Prelude.{Option, Some, None, List, [], ◌∷◌, ◌++◌, length, map, Contains}
 use Rattle.std.specs.Str.Lines.{lines}
-use Rattle.fv_tree.specs.Plain as tree
-use Rattle.fv_tree.specs.Plain.{Program, Declaration, Extent, Given, Later, Statement, Arms, Block}
-use Rattle.fv_tree.specs.declared.ops.Kind.{Kind}
-use Rattle.fv_tree.specs.OperatorTable.{Sign, Minus}
+use Rattle.tree.specs.Plain as tree
+use Rattle.tree.specs.Plain.{Program, Declaration, Extent, Given, Later, Statement, Arms, Block}
+use Rattle.tree.specs.declared.ops.Kind.{Kind}
+use Rattle.tree.specs.OperatorTable.{Sign, Minus}
 use Rattle.std.specs.Str.{bytes_eq}
 use Rattle.std.specs.List.{list_any}
-use Rattle.fv_tree.specs.declared.stmts.Mark.{Mark}
-use Rattle.fv_tree.specs.Functions.{intrinsic_named}
-use Rattle.fv_meaning.specs.Names.{IsInByteOrder}
+use Rattle.tree.specs.declared.stmts.Mark.{Mark}
+use Rattle.tree.specs.Functions.{intrinsic_named}
+use Rattle.meaning.specs.Names.{IsInByteOrder}
 use Rattle.f90_grammar.specs.FreeForm.{FreeStatement, AreStatements}
 use Rattle.f90_grammar.specs.Words.{Word, HasWords}
 use Rattle.f90_grammar.specs.Phrases.{value_of_digits}
 use Rattle.f90_grammar.specs.Forms as forms
 use Rattle.f90_grammar.specs.Forms.{Form, IsWritten}
 use Rattle.f90_grammar.specs.Blocks.{Placed, AreBlock}
-use Rattle.fv_tree.specs.declared.functions.Intrinsic.{Intrinsic}
+use Rattle.tree.specs.declared.functions.Intrinsic.{Intrinsic}
 
 -- the mark that a statement takes is the last one since the assignment before it
 abbrev pub takes_mark : Form → Bool

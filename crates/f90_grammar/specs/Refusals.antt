@@ -4,17 +4,17 @@ use Rattle.std.specs.Prelude.{◌≡◌, ◌↔◌, ◌⊎◌, ℕ, Bool, IsTrue
 use Rattle.std.specs.Prelude.{List, [], map, Contains}
 use Rattle.std.specs.List.{AllByRecursion}
 use Rattle.std.specs.Str.Lines.{lines}
-use Rattle.refusal_order.specs.Answered.{IsAnswered}
-use Rattle.fv_tree.specs.Causes.{refusal_at}
-use Rattle.fv_tree.specs.Functions.{intrinsic_named}
-use Rattle.fv_tree.specs.Plain.{Program}
-use Rattle.fv_tree.specs.declared.refusals.Cause.{Cause}
-use Rattle.fv_tree.specs.declared.refusals.Cause.TheVariants.{Syntax90, WideLiteral90, Deep90, Structure, Declared90}
-use Rattle.fv_tree.specs.declared.refusals.Cause.TheVariants.{TypeClash90, Limit90}
-use Rattle.fv_tree.specs.declared.refusals.Refusal.{Refusal}
-use Rattle.fv_tree.specs.declared.functions.Intrinsic.{Intrinsic}
-use Rattle.fv_tree.specs.declared.ops.Kind.{Kind}
-use Rattle.fv_meaning.specs.Names.{is_among}
+use Rattle.reading.specs.refusal_order.Answered.{IsAnswered}
+use Rattle.tree.specs.Causes.{refusal_at}
+use Rattle.tree.specs.Functions.{intrinsic_named}
+use Rattle.tree.specs.Plain.{Program}
+use Rattle.tree.specs.declared.refusals.Cause.{Cause}
+use Rattle.tree.specs.declared.refusals.Cause.TheVariants.{Syntax90, WideLiteral90, Deep90, Structure, Declared90}
+use Rattle.tree.specs.declared.refusals.Cause.TheVariants.{TypeClash90, Limit90}
+use Rattle.tree.specs.declared.refusals.Refusal.{Refusal}
+use Rattle.tree.specs.declared.functions.Intrinsic.{Intrinsic}
+use Rattle.tree.specs.declared.ops.Kind.{Kind}
+use Rattle.meaning.specs.Names.{is_among}
 use Rattle.f90_grammar.specs.FreeForm.{FreeStatement, AreStatements}
 use Rattle.f90_grammar.specs.Words.{Word, HasWords}
 use Rattle.f90_grammar.specs.Forms as forms

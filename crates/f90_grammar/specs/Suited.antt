@@ -2,13 +2,13 @@
 -- and 9.4).
 use Rattle.std.specs.Prelude.{◌≡◌, ◌⊎◌, ℕ, ◌≤◌, List}
 use Rattle.std.specs.Option.{IsSomeAnd}
-use Rattle.fv_tree.specs.declared.ops.Kind.TheVariants.{Integer, Logical}
-use Rattle.fv_tree.specs.Plain.{Expression, Named, Reference, Expressions, expressions, Later, Declaration, Item}
-use Rattle.fv_tree.specs.Plain.{Single, Constant, ImpliedDo, Items, no_items, item, items}
-use Rattle.fv_meaning.specs.Value.{named}
-use Rattle.fv_meaning.specs.Typed.{declared, number_of_arguments}
-use Rattle.fv_meaning.specs.Typed90.{rank_of, rank_of_subscripts, HasKind, IsScalar, AreScalars, HasSomeKind}
-use Rattle.fv_meaning.specs.Profile90.{IsAllocatable}
+use Rattle.tree.specs.declared.ops.Kind.TheVariants.{Integer, Logical}
+use Rattle.tree.specs.Plain.{Expression, Named, Reference, Expressions, expressions, Later, Declaration, Item}
+use Rattle.tree.specs.Plain.{Single, Constant, ImpliedDo, Items, no_items, item, items}
+use Rattle.meaning.specs.Value.{named}
+use Rattle.meaning.specs.Typed.{declared, number_of_arguments}
+use Rattle.meaning.specs.Typed90.{rank_of, rank_of_subscripts, HasKind, IsScalar, AreScalars, HasSomeKind}
+use Rattle.meaning.specs.Profile90.{IsAllocatable}
 use Rattle.f90_grammar.specs.Phrases.{Phrase, tree_of}
 use Rattle.f90_grammar.specs.Items.{Direction, Input, Output, step_tree, item_trees}
 use Rattle.f90_grammar.specs.Forms as forms

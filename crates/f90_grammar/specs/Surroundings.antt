@@ -2,10 +2,10 @@
 -- 8.1.4, 8.2 and 9.4.2).
 use Rattle.std.specs.Prelude.{ℕ, ◌<◌, ◌==◌, Bool, false, ◌||◌, IsTrue, List, [], ◌∷◌, Contains}
 use Rattle.std.specs.List.{list_any, filter}
-use Rattle.fv_tree.specs.Plain as tree
-use Rattle.fv_tree.specs.Plain.{Expression, Declaration, Item, Items, Statement, Arms, Block}
-use Rattle.fv_meaning.specs.Blocks.{Surroundings, outermost, within_loop, before_labels, labels_of}
-use Rattle.fv_meaning.specs.Typed90.{IsDoVariable}
+use Rattle.tree.specs.Plain as tree
+use Rattle.tree.specs.Plain.{Expression, Declaration, Item, Items, Statement, Arms, Block}
+use Rattle.meaning.specs.Blocks.{Surroundings, outermost, within_loop, before_labels, labels_of}
+use Rattle.meaning.specs.Typed90.{IsDoVariable}
 use Rattle.f90_grammar.specs.Phrases.{value_of_digits}
 use Rattle.f90_grammar.specs.Items.{Direction, Input, Output}
 use Rattle.f90_grammar.specs.Forms as forms

@@ -1,9 +1,9 @@
 -- The words of a statement in free form.
 use Rattle.std.specs.Prelude.{◌≡◌, ℕ, ◌-◌, ◌≤◌, ◌==◌, nat_le, Bool, true, false, ◌&&◌, ◌||◌, if◌then◌else◌, IsTrue}
 use Rattle.std.specs.Prelude.{◌⊎◌, List, [], ◌∷◌, ◌++◌, length, map, codes}
-use Rattle.fv_tree.specs.OperatorTable.{spelling77_of, spelling90_of}
-use Rattle.fv_tree.specs.declared.ops.Op.{Op}
-use Rattle.fv_tree.specs.declared.ops.Op.TheVariants.{Mul, Div, Neg, Lt, Gt}
+use Rattle.tree.specs.OperatorTable.{spelling77_of, spelling90_of}
+use Rattle.tree.specs.declared.ops.Op.{Op}
+use Rattle.tree.specs.declared.ops.Op.TheVariants.{Mul, Div, Neg, Lt, Gt}
 
 -- A literal is its digits. `Head` is a name with the parenthesis behind it. A minus sign is Sub, wherever it stands
 pub data Word : Type 0 where

@@ -1,7 +1,7 @@
 //! Laws of texts of Fortran 90. A law is a function without a body: its contract is what holds.
 ghost use Rattle.std.specs.Prelude.{◌≡◌, ℕ, List, Option};
-ghost use Rattle.fv_tree.specs.Plain.{Expression};
-ghost use Rattle.fv_tree.specs.declared.functions.Intrinsic.{Intrinsic};
+ghost use Rattle.tree.specs.Plain.{Expression};
+ghost use Rattle.tree.specs.declared.functions.Intrinsic.{Intrinsic};
 ghost use Rattle.f90_grammar.specs.Phrases.{tree_of};
 ghost use Rattle.f90_grammar.specs.Printing.{IsSource, phrase_of};
 

@@ -1,8 +1,9 @@
-//! Laws of printed programs of Fortran 90: a program's text is read back as that program.
+//! Laws of texts of Fortran 90: what is printed, what is read, and that a text has one answer.
 #![tactic(auto)]
 
-mod laws;
-mod reading_back;
-
-pub use laws::printed_is_spelled;
-pub use reading_back::{printed_lines_are_free, printed_program_is_read_back};
+pub mod blocks;
+pub mod printed;
+pub mod read_back;
+pub mod readings;
+pub mod unique;
+pub mod unrefused;

@@ -4,15 +4,15 @@ use Rattle.std.specs.Prelude.{◌==◌, nat_lt, IfNone}
 use Rattle.std.specs.List.{list_any}
 use Rattle.std.specs.Str.Lines.{lines}
 use Rattle.std.proofs.lemmas.Bool.{cond-true, cond-false, and_parts, or_from, le-ltb, lt-ltb, ltb-true, not-true}
-use Rattle.fv_tree.specs.Causes.{refusal_at}
-use Rattle.fv_tree.specs.declared.refusals.Cause.TheVariants.{BadByte90, LongLine, Continuation}
-use Rattle.fv_tree.specs.declared.refusals.Refusal.{Refusal}
-use Rattle.refusal_order.specs.Answered.{comes_before, IsAnswered}
+use Rattle.tree.specs.Causes.{refusal_at}
+use Rattle.tree.specs.declared.refusals.Cause.TheVariants.{BadByte90, LongLine, Continuation}
+use Rattle.tree.specs.declared.refusals.Refusal.{Refusal}
+use Rattle.reading.specs.refusal_order.Answered.{comes_before, IsAnswered}
 use Rattle.f90_grammar.specs.FreeForm.{Piece, IsPiece, written_piece, is_comment_line}
 use Rattle.f90_grammar.specs.LineCauses.{Standing, Between, Within, is_in_constant, behind_piece, LeadTo, is_bad_byte, line_characters, HasLineCause}
 use Rattle.f90_grammar.specs.LineCauses.LeadTo.{nothing, comment, piece}
 use Rattle.f90_grammar.specs.LineCauses.HasLineCause.{HoldsBadByte, IsLong, EndsWithin}
-use Rattle.f90_unique.proofs.Pieces.{piece_once}
+use Rattle.f90_laws.proofs.unique.Pieces.{piece_once}
 use Rattle.f90_lines.specs.Parts.{Part, part, part_of}
 use Rattle.f90_lines.specs.Standings.{behind_part, behind_line, behind_lines, has_bad_byte, first_bad, is_long, first_long, initial_of}
 use Rattle.f90_lines.proofs.PartLaws.{has_part}

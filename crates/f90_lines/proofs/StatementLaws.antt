@@ -6,13 +6,13 @@ use Rattle.std.specs.List.{list_all}
 use Rattle.std.specs.Str.Lines.{lines}
 use Rattle.std.proofs.lemmas.Bool.{cond-true, cond-false, and_from}
 use Rattle.std.proofs.lemmas.List.Folds.{list_all-append}
-use Rattle.fv_tree.specs.declared.stmts.Mark.{Mark}
-use Rattle.fv_tree.specs.declared.refusals.Refusal.{Refusal}
+use Rattle.tree.specs.declared.stmts.Mark.{Mark}
+use Rattle.tree.specs.declared.refusals.Refusal.{Refusal}
 use Rattle.f90_grammar.specs.FreeForm.{Piece, ampersand, written_piece, is_comment_line, is_open_behind, AreFurtherPieces, joint, characters, AreMarks, FreeStatement, statement_at, Block, written_block, pieces_of, comments_of, AreComments, AreStatements}
 use Rattle.f90_grammar.specs.FreeForm.AreMarks.{none, mark, other}
 use Rattle.f90_grammar.specs.FreeForm.AreStatements.{ends, begins}
 use Rattle.f90_grammar.specs.LineCauses.{Standing, Between, Within, is_in_constant, initial_line, HasLineCause}
-use Rattle.f90_unique.proofs.Lines.{statements_once}
+use Rattle.f90_laws.proofs.unique.Lines.{statements_once}
 use Rattle.f90_lines.specs.Marks.{mark_in}
 use Rattle.f90_lines.specs.Parts.{Part, part, part_of, first_chars, further_chars}
 use Rattle.f90_lines.specs.Standings.{behind_lines}

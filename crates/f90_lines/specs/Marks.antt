@@ -4,7 +4,7 @@ use Rattle.std.specs.Prelude.{Option, Some, None, List, ◌∷◌, length, take,
 use Rattle.std.specs.List.{list_all}
 use Rattle.std.specs.Char.{is_ascii_digit}
 use Rattle.std.specs.Str.Parse.{digits_value}
-use Rattle.fv_tree.specs.declared.stmts.Mark.{Mark}
+use Rattle.tree.specs.declared.stmts.Mark.{Mark}
 use Rattle.f90_grammar.specs.FreeForm.{is_blank}
 
 -- one to ten digits that write a number below 2^32

@@ -1,7 +1,7 @@
 -- The statements of lines, line by line.
 use Rattle.std.specs.Prelude.{ℕ, ◌+◌, Bool, false, if◌then◌else◌, List}
 use Rattle.std.specs.Prelude.{[], ◌∷◌, ◌++◌, option_to_list}
-use Rattle.fv_tree.specs.declared.stmts.Mark.{Mark}
+use Rattle.tree.specs.declared.stmts.Mark.{Mark}
 use Rattle.f90_grammar.specs.FreeForm.{FreeStatement, statement_at, is_comment_line, is_open_behind}
 use Rattle.f90_lines.specs.Marks.{mark_in}
 use Rattle.f90_lines.specs.Parts.{Part, part_of, first_chars, further_chars}

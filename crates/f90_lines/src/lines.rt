@@ -2,7 +2,7 @@
 ghost use Rattle.std.specs.Prelude.{◌≡◌, ◌+◌, ◌^◌, ◌<◌, ◌∷◌, [], length, IfSome, IfNone};
 ghost use Rattle.std.specs.Str.Lines.{lines};
 
-use fv_deck::next_line;
+use meaning::decks::next_line;
 
 /// A line without its end: its number, from 1, and its bytes.
 #[derive(Clone, Copy, Debug)]

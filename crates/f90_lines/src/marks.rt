@@ -6,7 +6,7 @@ ghost use Rattle.std.specs.Str.Parse.{digits_value};
 ghost use Rattle.f90_grammar.specs.FreeForm.{is_blank};
 ghost use Rattle.f90_lines.specs.Marks.{number_in, numbers_in, with_nest, behind_second, mark_in};
 
-use fv_tree::Mark;
+use tree::Mark;
 
 /// How many digits a number of a mark has at most.
 const DIGITS: usize = 10;

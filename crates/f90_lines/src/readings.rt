@@ -10,11 +10,11 @@ ghost use Rattle.f90_grammar.specs.FreeForm as free;
 use crate::lines::Line;
 use crate::marks::mark;
 use crate::parts::{Part, is_comment_line, is_open_behind, part_in};
-use fv_tree::{Mark, Memory, Seq};
 use std::alloc::Global;
+use tree::{Mark, Memory, Seq};
 
 /// A statement as it is written in free form.
-#[derive(Debug, Drop)]
+#[derive(Drop)]
 pub struct Statement {
     /// The number of its first line, from 1.
     pub line: u32,
@@ -27,7 +27,7 @@ pub struct Statement {
 }
 
 /// Marks ahead of the next statement; or a statement so far, which is continued, and whether a constant is open in it.
-#[derive(Debug, Drop)]
+#[derive(Drop)]
 pub(crate) enum Reading {
     Ahead(Seq<Mark>),
     Inside(Statement, bool),

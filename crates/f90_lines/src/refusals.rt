@@ -1,8 +1,8 @@
 //! Why the lines of a text are refused.
 ghost use Rattle.std.specs.Prelude.{◌≡◌, ◌+◌, ◌^◌, ◌<◌, length, None, IfSome, IfNone, MatchOption};
 ghost use Rattle.std.specs.Str.Lines.{lines};
-ghost use Rattle.fv_tree.specs.declared.refusals.Refusal.{Refusal};
-ghost use Rattle.refusal_order.specs.Answered.{IsAnswered};
+ghost use Rattle.tree.specs.declared.refusals.Refusal.{Refusal};
+ghost use Rattle.reading.specs.refusal_order.Answered.{IsAnswered};
 ghost use Rattle.f90_grammar.specs.LineCauses.{HasLineCause, is_in_constant, initial_line};
 ghost use Rattle.f90_grammar.specs.LineCauses as grammar;
 ghost use Rattle.f90_lines.specs.Standings.{behind_part, behind_line, behind_lines, has_bad_byte, first_bad};
@@ -12,7 +12,7 @@ ghost use Rattle.f90_lines.specs.Views.{part_seen, standing_seen};
 use crate::lines::{Line, Lines};
 use crate::parts;
 use crate::parts::{Part, is_comment_line, is_open_behind, part_in};
-use fv_tree::{Cause, Refusal};
+use tree::{Cause, Refusal};
 
 /// How many characters a line has at most (ISO/IEC 1539:1991, section 3.3.1).
 const LINE_CHARACTERS: usize = 132;

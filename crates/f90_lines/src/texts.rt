@@ -1,8 +1,8 @@
 //! The statements of a text.
 ghost use Rattle.std.specs.Prelude.{◌≡◌, ◌⊎◌, ◌^◌, ◌<◌, List, [], length, IfOk, IsOkAnd};
 ghost use Rattle.std.specs.Str.Lines.{lines};
-ghost use Rattle.fv_tree.specs.declared.refusals.Refusal.{Refusal};
-ghost use Rattle.refusal_order.specs.Answered.{IsAnswered};
+ghost use Rattle.tree.specs.declared.refusals.Refusal.{Refusal};
+ghost use Rattle.reading.specs.refusal_order.Answered.{IsAnswered};
 ghost use Rattle.f90_grammar.specs.FreeForm.{FreeStatement, AreStatements};
 ghost use Rattle.f90_grammar.specs.LineCauses.{HasLineCause};
 ghost use Rattle.f90_lines.specs.Readings as readings;
@@ -11,8 +11,8 @@ ghost use Rattle.f90_lines.specs.Views.{statements_seen};
 use crate::lines::Lines;
 use crate::readings::{Reading, Statement, on_line};
 use crate::refusals::refusal;
-use fv_tree::{Memory, Refused, Seq};
 use std::alloc::Global;
+use tree::{Memory, Refused, Seq};
 
 fn read_statements(alloc: Global, text: &[u8]) -> Result<Seq<Statement>, Memory>
     requires { length text.now < 2 ^ 32 }

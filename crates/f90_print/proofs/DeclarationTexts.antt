@@ -3,10 +3,10 @@ use Rattle.std.proofs.Common.{◌≡◌, ℕ, zero, suc, ◌+◌, ◌-◌, List,
 use Rattle.std.specs.Prelude.{flat_map}
 use Rattle.std.proofs.lemmas.Grind.{flat_map-append}
 use Rattle.std.proofs.lemmas.List.{replicate_more}
-use Rattle.fv_tree.specs.declared.exprs.Expr.{Expr}
-use Rattle.fv_tree.specs.declared.programs.Dim.{Dim}
-use Rattle.fv_tree.specs.Plain as P
-use Rattle.fv_tree.specs.View.{expression_of, bounds_of}
+use Rattle.tree.specs.declared.exprs.Expr.{Expr}
+use Rattle.tree.specs.declared.programs.Dim.{Dim}
+use Rattle.tree.specs.Plain as P
+use Rattle.tree.specs.View.{expression_of, bounds_of}
 use Rattle.f90_grammar.specs.Forms.{Dimension, Deferred}
 use Rattle.f90_grammar.specs.Printing.{phrase_of}
 use Rattle.f90_grammar.specs.PrintedForms.{dimension, phrases_of}

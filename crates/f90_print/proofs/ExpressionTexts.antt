@@ -4,22 +4,22 @@ use Rattle.std.specs.Prelude.{flat_map, decimal}
 use Rattle.std.proofs.lemmas.List.{length-map}
 use Rattle.std.specs.declared.boxed.Box.{Box}
 use Rattle.std.specs.declared.alloc.Global.{Global}
-use Rattle.fv_tree.specs.declared.ops.Op.{Op}
-use Rattle.fv_tree.specs.declared.ops.Op.TheVariants.{Pow, Mul, Div, Neg, Add, Sub as Subtract, Lt, Le, Eq, Ne, Gt, Ge, Not, And, Or, Eqv, Neqv}
-use Rattle.fv_tree.specs.declared.functions.Fun.{Fun}
-use Rattle.fv_tree.specs.declared.functions.Red.{Red}
-use Rattle.fv_tree.specs.declared.lists.Seq.{Seq}
-use Rattle.fv_tree.specs.declared.exprs.Expr.{Expr}
-use Rattle.fv_tree.specs.declared.exprs.Expr.TheVariants as exprs
-use Rattle.fv_tree.specs.declared.exprs.Sub.{Sub}
-use Rattle.fv_tree.specs.declared.exprs.Sub.TheVariants as subs
-use Rattle.fv_tree.specs.declared.exprs.Ref.{Ref, out-Ref}
-use Rattle.fv_tree.specs.declared.exprs.Turn.{Turn, out-Turn}
-use Rattle.fv_tree.specs.Plain as P
-use Rattle.fv_tree.specs.View.{expression_of, subscript_of, reference_of, loop_of, loops, ConstructorLoop}
-use Rattle.fv_tree.specs.Functions.{name_of_function, name_of_reduction}
-use Rattle.fv_tree.specs.OperatorTable.{left_least, right_least, spelling90_of, sign_level}
-use Rattle.fv_tree.proofs.Equations.{expression_of-int, expression_of-truth, expression_of-item, expression_of-un, expression_of-bin, expression_of-call, expression_of-list, expression_of-spread, expression_of-transpose, expression_of-reshape, expression_of-reduce, subscript_of-one, subscript_of-part, reference_of-is, loop_of-is}
+use Rattle.tree.specs.declared.ops.Op.{Op}
+use Rattle.tree.specs.declared.ops.Op.TheVariants.{Pow, Mul, Div, Neg, Add, Sub as Subtract, Lt, Le, Eq, Ne, Gt, Ge, Not, And, Or, Eqv, Neqv}
+use Rattle.tree.specs.declared.functions.Fun.{Fun}
+use Rattle.tree.specs.declared.functions.Red.{Red}
+use Rattle.tree.specs.declared.lists.Seq.{Seq}
+use Rattle.tree.specs.declared.exprs.Expr.{Expr}
+use Rattle.tree.specs.declared.exprs.Expr.TheVariants as exprs
+use Rattle.tree.specs.declared.exprs.Sub.{Sub}
+use Rattle.tree.specs.declared.exprs.Sub.TheVariants as subs
+use Rattle.tree.specs.declared.exprs.Ref.{Ref, out-Ref}
+use Rattle.tree.specs.declared.exprs.Turn.{Turn, out-Turn}
+use Rattle.tree.specs.Plain as P
+use Rattle.tree.specs.View.{expression_of, subscript_of, reference_of, loop_of, loops, ConstructorLoop}
+use Rattle.tree.specs.Functions.{name_of_function, name_of_reduction}
+use Rattle.tree.specs.OperatorTable.{left_least, right_least, spelling90_of, sign_level}
+use Rattle.tree.proofs.Equations.{expression_of-int, expression_of-truth, expression_of-item, expression_of-un, expression_of-bin, expression_of-call, expression_of-list, expression_of-spread, expression_of-transpose, expression_of-reshape, expression_of-reduce, subscript_of-one, subscript_of-part, reference_of-is, loop_of-is}
 use Rattle.f90_grammar.specs.Words.{truth_text}
 use Rattle.f90_grammar.specs.Phrases.{Phrase, Signed, Value, Parts, One, Then, Phrases, Sole, More, Turn as Turns, Innermost, Round, level}
 use Rattle.f90_grammar.specs.Printing.{phrase_of, part_of, more_parts, more_arguments, list_of, more_values, values, first_value, constructed, rounds, is_one, section, fit, unary_phrase, digits_of}

@@ -1,13 +1,13 @@
 -- The text of each kind of item.
 use Rattle.std.proofs.Common.{◌≡◌, ℕ, List, [], ◌∷◌, ◌++◌, map, refl, ap, sym, ◌∙◌, append-nil, append_assoc, codes}
 use Rattle.std.specs.Prelude.{flat_map, ◌==◌}
-use Rattle.fv_tree.specs.declared.lists.Seq.{Seq}
-use Rattle.fv_tree.specs.declared.exprs.Expr.{Expr}
-use Rattle.fv_tree.specs.declared.stmts.Item.{Item}
-use Rattle.fv_tree.specs.declared.stmts.Item.TheVariants as variants
-use Rattle.fv_tree.specs.Plain as P
-use Rattle.fv_tree.specs.View.{expression_of, item_of}
-use Rattle.fv_tree.proofs.Equations.{item_of-one, item_of-text, item_of-turns}
+use Rattle.tree.specs.declared.lists.Seq.{Seq}
+use Rattle.tree.specs.declared.exprs.Expr.{Expr}
+use Rattle.tree.specs.declared.stmts.Item.{Item}
+use Rattle.tree.specs.declared.stmts.Item.TheVariants as variants
+use Rattle.tree.specs.Plain as P
+use Rattle.tree.specs.View.{expression_of, item_of}
+use Rattle.tree.proofs.Equations.{item_of-one, item_of-text, item_of-turns}
 use Rattle.f90_grammar.specs.Items.{ItemPhrases, Sole, More}
 use Rattle.f90_grammar.specs.Words.{doubled, doubled_one}
 use Rattle.f90_grammar.specs.Printing.{phrase_of}

@@ -2,9 +2,9 @@
 use Rattle.std.proofs.Common.{◌≡◌, ℕ, List, [], ◌∷◌, ◌++◌, map, refl, ap, ◌∙◌, append_assoc, codes}
 use Rattle.std.specs.Prelude.{flat_map}
 use Rattle.std.proofs.lemmas.Grind.{flat_map-append}
-use Rattle.fv_tree.specs.declared.programs.Program90.{Program90}
-use Rattle.fv_tree.specs.Plain.{Declaration, Program}
-use Rattle.fv_tree.specs.View.{declaration_of, block_of, program_of_90}
+use Rattle.tree.specs.declared.programs.Program90.{Program90}
+use Rattle.tree.specs.Plain.{Declaration, Program}
+use Rattle.tree.specs.View.{declaration_of, block_of, program_of_90}
 use Rattle.f90_grammar.specs.Forms as forms
 use Rattle.f90_grammar.specs.PrintedForms.{Printed, unmarked, title_of, printed_declaration, printed_block, printed_program}
 use Rattle.f90_grammar.specs.PrintedText.{with_line_feed, printed_lines, printed90}

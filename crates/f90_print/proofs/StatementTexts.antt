@@ -3,18 +3,18 @@ use Rattle.std.proofs.Common.{◌≡◌, ℕ, List, [], ◌∷◌, ◌++◌, map
 use Rattle.std.specs.Prelude.{flat_map, decimal}
 use Rattle.std.proofs.lemmas.Fmt.{decimal_nonempty}
 use Rattle.std.proofs.lemmas.Grind.{flat_map-append}
-use Rattle.fv_tree.specs.declared.lists.Seq.{Seq}
-use Rattle.fv_tree.specs.declared.exprs.Expr.{Expr}
-use Rattle.fv_tree.specs.declared.exprs.Ref.{Ref}
-use Rattle.fv_tree.specs.declared.stmts.Item.{Item}
-use Rattle.fv_tree.specs.declared.stmts.Mark.{Mark}
-use Rattle.fv_tree.specs.declared.stmts.Stmt.{Stmt}
-use Rattle.fv_tree.specs.declared.stmts.Stmt.TheVariants as stmts
-use Rattle.fv_tree.specs.declared.stmts.Arm.{Arm, out-Arm}
-use Rattle.fv_tree.specs.declared.stmts.Block.{Block, out-Block}
-use Rattle.fv_tree.specs.Plain as P
-use Rattle.fv_tree.specs.View.{expression_of, reference_of, item_of, statement_of, tested_of, block_of, arms, Tested}
-use Rattle.fv_tree.proofs.Equations.{statement_of-assign, statement_of-masked, statement_of-if, statement_of-do, statement_of-label, statement_of-go, statement_of-stop, statement_of-read, statement_of-print, statement_of-allocate, statement_of-deallocate, tested_of-is, block_of-is}
+use Rattle.tree.specs.declared.lists.Seq.{Seq}
+use Rattle.tree.specs.declared.exprs.Expr.{Expr}
+use Rattle.tree.specs.declared.exprs.Ref.{Ref}
+use Rattle.tree.specs.declared.stmts.Item.{Item}
+use Rattle.tree.specs.declared.stmts.Mark.{Mark}
+use Rattle.tree.specs.declared.stmts.Stmt.{Stmt}
+use Rattle.tree.specs.declared.stmts.Stmt.TheVariants as stmts
+use Rattle.tree.specs.declared.stmts.Arm.{Arm, out-Arm}
+use Rattle.tree.specs.declared.stmts.Block.{Block, out-Block}
+use Rattle.tree.specs.Plain as P
+use Rattle.tree.specs.View.{expression_of, reference_of, item_of, statement_of, tested_of, block_of, arms, Tested}
+use Rattle.tree.proofs.Equations.{statement_of-assign, statement_of-masked, statement_of-if, statement_of-do, statement_of-label, statement_of-go, statement_of-stop, statement_of-read, statement_of-print, statement_of-allocate, statement_of-deallocate, tested_of-is, block_of-is}
 use Rattle.f90_grammar.specs.Forms as forms
 use Rattle.f90_grammar.specs.Printing.{phrase_of}
 use Rattle.f90_grammar.specs.PrintedForms.{Printed, unmarked, reference_phrase, phrases_of, step_phrase, read_form, print_form, item_phrases, printed_statement, printed_block, printed_arms, printed_if, printed_else}

@@ -1,9 +1,9 @@
 -- What the printer is given, as the definitions of printing take it.
 use Rattle.std.specs.Prelude.{ℕ, List, Option, Some, None}
-use Rattle.fv_tree.specs.declared.exprs.Expr.{Expr}
-use Rattle.fv_tree.specs.declared.programs.Line.{Line}
-use Rattle.fv_tree.specs.Plain.{Expression}
-use Rattle.fv_tree.specs.View.{expression_of}
+use Rattle.tree.specs.declared.exprs.Expr.{Expr}
+use Rattle.tree.specs.declared.programs.Line.{Line}
+use Rattle.tree.specs.Plain.{Expression}
+use Rattle.tree.specs.View.{expression_of}
 
 abbrev pub text_of : Line → List ℕ
 text_of l = l.text

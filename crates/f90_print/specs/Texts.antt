@@ -1,10 +1,10 @@
 -- Texts of the parts of expressions and of statements.
 use Rattle.std.specs.Prelude.{ℕ, List, [], ◌∷◌, ◌++◌, flat_map}
-use Rattle.fv_tree.specs.Plain.{Expression, Subscript, Statement, Block, Declaration}
-use Rattle.fv_tree.specs.View.{ConstructorLoop, Tested}
-use Rattle.fv_tree.specs.declared.ops.Op.{Op}
-use Rattle.fv_tree.specs.declared.ops.Op.TheVariants.{Not}
-use Rattle.fv_tree.specs.OperatorTable.{Sign, Minus, Negation}
+use Rattle.tree.specs.Plain.{Expression, Subscript, Statement, Block, Declaration}
+use Rattle.tree.specs.View.{ConstructorLoop, Tested}
+use Rattle.tree.specs.declared.ops.Op.{Op}
+use Rattle.tree.specs.declared.ops.Op.TheVariants.{Not}
+use Rattle.tree.specs.OperatorTable.{Sign, Minus, Negation}
 use Rattle.f90_grammar.specs.Printing.{phrase_of, part_of, fit}
 use Rattle.f90_grammar.specs.PrintedText.{phrase_text, part_text, comma, expression_text, separated_text}
 use Rattle.f90_grammar.specs.PrintedText.{in_parentheses, loop_text, with_line_feed, lines_of_text, form_text}

@@ -1,18 +1,18 @@
 //! The text of expressions (ISO/IEC 1539:1991, sections 4.5, 6.2, 7.1 and 13).
 ghost use Rattle.std.specs.Prelude.{◌≡◌, ◌++◌, OnOk, map, flat_map, replicate};
-ghost use Rattle.fv_tree.specs.Plain.{expressions};
-ghost use Rattle.fv_tree.specs.View.{expression_of, subscript_of, reference_of, loop_of};
+ghost use Rattle.tree.specs.Plain.{expressions};
+ghost use Rattle.tree.specs.View.{expression_of, subscript_of, reference_of, loop_of};
 ghost use Rattle.f90_grammar.specs.Phrases.{level};
 ghost use Rattle.f90_grammar.specs.Printing.{phrase_of, is_one, list_of, values, first_value};
 ghost use Rattle.f90_grammar.specs.PrintedForms.{reference_phrase};
 ghost use Rattle.f90_grammar.specs.PrintedText.{phrase_text, expression_text, separated_text, sign_text};
 ghost use Rattle.f90_print.specs.Texts.{operand_text, subscript_text, listed_text, loop_end_text, sign_of};
-ghost use Rattle.fv_tree.specs.OperatorTable.{sign_level};
+ghost use Rattle.tree.specs.OperatorTable.{sign_level};
 
 use crate::texts::{push, push_count, push_literal, push_truth};
-use fv_tree::{Expr, Memory, Op, Ref, Sub, Turn};
+use tree::{Expr, Memory, Op, Ref, Sub, Turn};
 
-#[tactic(auto, using(fv_tree::proofs::Equations::expression_equations, crate::proofs::ExpressionTexts::roots))]
+#[tactic(auto, using(tree::proofs::Equations::expression_equations, crate::proofs::ExpressionTexts::roots))]
 pub(crate) fn is_one(e: &Expr) -> bool
     ensures { result ≡ is_one (expression_of e.now) }
 {
@@ -41,7 +41,7 @@ fn sign_level(op: Op) -> u8
 }
 
 // How tightly the expression's outermost operator binds; what has none binds more tightly than any operator.
-#[tactic(auto, using(fv_tree::proofs::Equations::expression_equations, crate::proofs::ExpressionTexts::roots))]
+#[tactic(auto, using(tree::proofs::Equations::expression_equations, crate::proofs::ExpressionTexts::roots))]
 fn level(e: &Expr) -> u8
     ensures { result ≡ level (phrase_of (expression_of e.now)) }
 {

@@ -1,7 +1,7 @@
 //! The lines of the statements that stand alone, and the first lines of the others.
 ghost use Rattle.std.specs.Prelude.{◌≡◌, ◌++◌, OnOk, map, decimal};
-ghost use Rattle.fv_tree.specs.Plain.{expressions, items};
-ghost use Rattle.fv_tree.specs.View.{expression_of, reference_of, item_of};
+ghost use Rattle.tree.specs.Plain.{expressions, items};
+ghost use Rattle.tree.specs.View.{expression_of, reference_of, item_of};
 ghost use Rattle.f90_grammar.specs.Forms as forms;
 ghost use Rattle.f90_grammar.specs.Printing.{phrase_of};
 ghost use Rattle.f90_grammar.specs.PrintedForms.{phrases_of, reference_phrase, step_phrase, read_form, print_form};
@@ -12,7 +12,7 @@ use crate::expressions::{print_expression, print_reference};
 use crate::items::{print_items, push_bounds};
 use crate::lines::push_lines;
 use crate::texts::{push, push_count};
-use fv_tree::{Expr, Item, Mark, Memory, Name, Ref};
+use tree::{Expr, Item, Mark, Memory, Name, Ref};
 
 pub(crate) fn push_assignment(text: &mut Vec<u8>, left: &Ref, right: &Expr) -> Result<(), Memory>
     ensures { OnOk result (text.new.items ≡ text.old.items

@@ -1,7 +1,7 @@
 //! The text of the lists of READ and PRINT, and of the bounds of loops (ISO/IEC 1539:1991, sections 8.1.4 and 9.4.2).
 ghost use Rattle.std.specs.Prelude.{◌≡◌, ◌++◌, ◌∷◌, [], OnOk, map};
-ghost use Rattle.fv_tree.specs.Plain.{items};
-ghost use Rattle.fv_tree.specs.View.{expression_of, item_of};
+ghost use Rattle.tree.specs.Plain.{items};
+ghost use Rattle.tree.specs.View.{expression_of, item_of};
 ghost use Rattle.f90_grammar.specs.Printing.{phrase_of};
 ghost use Rattle.f90_grammar.specs.PrintedForms.{step_phrase, item_phrase, item_phrases};
 ghost use Rattle.f90_grammar.specs.PrintedText.{step_text, bounds_text, constant_text, item_text, items_text};
@@ -9,7 +9,7 @@ ghost use Rattle.f90_grammar.specs.Words.{doubled};
 
 use crate::expressions::{is_one, print_expression};
 use crate::texts::push;
-use fv_tree::{Expr, Item, Memory, Name};
+use tree::{Expr, Item, Memory, Name};
 
 // Within a constant an apostrophe is written twice.
 fn push_quoted(text: &mut Vec<u8>, byte: u8) -> Result<(), Memory>

@@ -3,7 +3,7 @@ ghost use Rattle.std.specs.Prelude.{◌≡◌, ◌++◌, OnOk};
 ghost use Rattle.f90_print.specs.Texts.{statement_lines};
 
 use crate::texts::push;
-use fv_tree::Memory;
+use tree::Memory;
 
 // How many characters of a statement a line has, apart from ampersands.
 const PIECE_LENGTH: usize = 130;

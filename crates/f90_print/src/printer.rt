@@ -1,6 +1,6 @@
 //! The texts of programs, expressions and assignments.
 ghost use Rattle.std.specs.Prelude.{◌≡◌, ◌++◌, IfOk, OnOk, map, option_copied};
-ghost use Rattle.fv_tree.specs.View.{expression_of, reference_of, program_of_90};
+ghost use Rattle.tree.specs.View.{expression_of, reference_of, program_of_90};
 ghost use Rattle.f90_grammar.specs.Forms as forms;
 ghost use Rattle.f90_grammar.specs.PrintedForms.{title_of};
 ghost use Rattle.f90_grammar.specs.PrintedText.{printed90, expression_text, guard_text, guarded_assignment_text};
@@ -13,8 +13,8 @@ use crate::forms::push_assignment;
 use crate::lines::push_lines;
 use crate::statements::print_block;
 use crate::texts::push;
-use fv_tree::{Expr, Line, Memory, Name, Program90, Ref, Seq};
 use std::alloc::Global;
+use tree::{Expr, Line, Memory, Name, Program90, Ref, Seq};
 
 fn print_notes(out: &mut Vec<u8>, notes: &[Line]) -> Result<(), Memory>
     ensures { OnOk result (out.new.items ≡ out.old.items ++ lines_text (map text_of notes.now)) }

@@ -1,6 +1,6 @@
 //! Statements and blocks, each statement on its lines (ISO/IEC 1539:1991, section 8.1).
 ghost use Rattle.std.specs.Prelude.{◌≡◌, ◌++◌, OnOk, map, flat_map};
-ghost use Rattle.fv_tree.specs.View.{statement_of, tested_of, block_of};
+ghost use Rattle.tree.specs.View.{statement_of, tested_of, block_of};
 ghost use Rattle.f90_print.specs.Texts.{statement_text, block_text, arm_text, else_text};
 
 use crate::forms::{
@@ -8,7 +8,7 @@ use crate::forms::{
     print_go_to, print_if_then, print_mark, print_print, print_read, print_where,
 };
 use crate::texts::push;
-use fv_tree::{Arm, Block, Memory, Stmt};
+use tree::{Arm, Block, Memory, Stmt};
 
 #[cycle(stmt)]
 #[tactic(auto, using(crate::proofs::StatementTexts::statement_texts))]

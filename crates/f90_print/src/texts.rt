@@ -1,11 +1,11 @@
 //! Texts that grow.
 ghost use Rattle.std.specs.Prelude.{◌≡◌, ◌++◌, OnOk, decimal};
-ghost use Rattle.fv_tree.specs.Plain.{Number};
+ghost use Rattle.tree.specs.Plain.{Number};
 ghost use Rattle.f90_grammar.specs.Printing.{digits_of};
 ghost use Rattle.f90_grammar.specs.Words.{truth_text};
 
-use fv_tree::Memory;
 use itoa::Buffer;
+use tree::Memory;
 
 pub(crate) fn push(text: &mut Vec<u8>, part: &[u8]) -> Result<(), Memory>
     ensures { OnOk result (text.new.items ≡ text.old.items ++ part.now) }

@@ -4,15 +4,15 @@ use Rattle.std.proofs.Common.{Some, None, Result, Ok, Err, List, [], ◌∷◌, 
 use Rattle.std.proofs.Common.{sym, ap, subst, ◌∙◌, arith}
 use Rattle.std.specs.List.{AllByRecursion}
 use Rattle.std.proofs.lemmas.Bool.Decides.{nat_tests}
-use Rattle.refusal_order.proofs.Answered.{FollowsIn, answered_by}
-use Rattle.fv_tree.specs.Causes.{refusal_at, number_of_cause}
-use Rattle.fv_tree.specs.Limits as limits
-use Rattle.fv_tree.specs.declared.refusals.Cause.{Cause}
-use Rattle.fv_tree.specs.declared.refusals.Cause.TheVariants.{WideLiteral90, Deep90, Structure, Declared90, TypeClash90}
-use Rattle.fv_tree.specs.declared.refusals.Cause.TheVariants.{Limit90}
-use Rattle.fv_tree.specs.declared.refusals.Refusal.{Refusal}
-use Rattle.fv_tree.specs.declared.refusals.Refused.{Refused}
-use Rattle.fv_tree.specs.declared.refusals.Refused.TheVariants as refused
+use Rattle.reading.proofs.refusal_order.Answered.{FollowsIn, answered_by}
+use Rattle.tree.specs.Causes.{refusal_at, number_of_cause}
+use Rattle.tree.specs.Limits as limits
+use Rattle.tree.specs.declared.refusals.Cause.{Cause}
+use Rattle.tree.specs.declared.refusals.Cause.TheVariants.{WideLiteral90, Deep90, Structure, Declared90, TypeClash90}
+use Rattle.tree.specs.declared.refusals.Cause.TheVariants.{Limit90}
+use Rattle.tree.specs.declared.refusals.Refusal.{Refusal}
+use Rattle.tree.specs.declared.refusals.Refused.{Refused}
+use Rattle.tree.specs.declared.refusals.Refused.TheVariants as refused
 use Rattle.f90_grammar.specs.Blocks.{Placed}
 use Rattle.f90_grammar.specs.Bounds.{PassesLimit, HasManyNames, HasBounds, opens_block, declared_up_to}
 use Rattle.f90_grammar.specs.Bounds.PassesLimit.{OfBlocks, OfBounds, OfElements}
@@ -23,14 +23,14 @@ use Rattle.f90_grammar.specs.Refusals.{HoldsAt, IsRefusable, Refused90, PassesNa
 use Rattle.f90_grammar.specs.Refusals.HoldsIn.{HasNoStatement, IsWrongInBlocks}
 use Rattle.f90_grammar.specs.Refusals.HasCause.{InStatements}
 use Rattle.f90_grammar.specs.Refusals.IsRefusable.{For, ForNames}
-use Rattle.f90_block_laws.specs.Places.{IsWrongAt}
-use Rattle.f90_block_laws.proofs.Misplaced.{misplaced_at_place}
-use Rattle.f90_kinds.specs.declarations.Bounds.{all_elements}
-use Rattle.f90_places.specs.forms.Places.{IsPlacedOf}
-use Rattle.f90_places.specs.declared.forms.placing.Placed.{Placed as Held}
-use Rattle.f90_places.specs.First.{FindsFirst, earlier}
-use Rattle.f90_places.proofs.EarlierLaws.{first_of_two}
-use Rattle.f90_statements.specs.Views.{AreOf}
+use Rattle.f90_laws.specs.blocks.Places.{IsWrongAt}
+use Rattle.f90_laws.proofs.blocks.Misplaced.{misplaced_at_place}
+use Rattle.f90_names.specs.kinds.declarations.Bounds.{all_elements}
+use Rattle.f90_blocks.specs.places.forms.Places.{IsPlacedOf}
+use Rattle.f90_blocks.specs.declared.places.forms.placing.Placed.{Placed as Held}
+use Rattle.f90_blocks.specs.places.First.{FindsFirst, earlier}
+use Rattle.f90_blocks.proofs.places.EarlierLaws.{first_of_two}
+use Rattle.f90_statement.specs.Views.{AreOf}
 use Rattle.f90_read.specs.Checks.{IfRefusal, IsClearBelow, Clears, RefusesAt}
 use Rattle.f90_read.proofs.NumberLaws.{IsRefusedFirst, RefusesFirst}
 use Rattle.f90_read.proofs.NumberLaws.{IsShown, IsOfPlace, AreOfPlaces, Refuse, shown, of_cause, simple, refuses}

@@ -6,25 +6,25 @@ use Rattle.std.specs.Str.{bytes_eq}
 use Rattle.std.proofs.lemmas.List.{drop_more, drop_all}
 use Rattle.std.proofs.lemmas.List.Folds.{list_any-append}
 use Rattle.std.proofs.lemmas.Slice.Eq.{bytes_eq-Decides}
-use Rattle.fv_tree.specs.Functions.{intrinsic_named}
-use Rattle.fv_tree.specs.Plain.{Declaration}
-use Rattle.fv_tree.specs.declared.ops.Kind.{Kind}
-use Rattle.fv_meaning.specs.Names.{is_among}
+use Rattle.tree.specs.Functions.{intrinsic_named}
+use Rattle.tree.specs.Plain.{Declaration}
+use Rattle.tree.specs.declared.ops.Kind.{Kind}
+use Rattle.meaning.specs.Names.{is_among}
 use Rattle.f90_grammar.specs.Blocks as grammar
 use Rattle.f90_grammar.specs.Declared.{declarations_of, declarations_in}
 use Rattle.f90_grammar.specs.Forms as forms
 use Rattle.f90_grammar.specs.Forms.{Form}
 use Rattle.f90_grammar.specs.Reading.{declares, entity_declaration}
 use Rattle.f90_trees.specs.declared.functions.Functions.{Functions}
-use Rattle.f90_statements.specs.Views.{AreOf, IsEntityOf, IsStatementOf}
-use Rattle.f90_statements.specs.declared.nodes.Entity.{Entity}
-use Rattle.f90_statements.specs.declared.nodes.Statement.{Statement}
-use Rattle.f90_statements.specs.declared.nodes.Statement.TheVariants.{Declare}
-use Rattle.f90_places.specs.forms.Places.{IsPlacedOf}
-use Rattle.f90_places.specs.declared.forms.placing.Placed.{Placed}
-use Rattle.f90_kinds.proofs.OfDeclarations.EntryLaws.{is_declaration, declares_nothing}
-use Rattle.f90_calls.specs.Hiding.{Hides, declared_by, names_of}
-use Rattle.f90_calls.proofs.HidingLaws.{NamesLeft, left_more, left_none}
+use Rattle.f90_statement.specs.Views.{AreOf, IsEntityOf, IsStatementOf}
+use Rattle.f90_statement.specs.declared.nodes.Entity.{Entity}
+use Rattle.f90_statement.specs.declared.nodes.Statement.{Statement}
+use Rattle.f90_statement.specs.declared.nodes.Statement.TheVariants.{Declare}
+use Rattle.f90_blocks.specs.places.forms.Places.{IsPlacedOf}
+use Rattle.f90_blocks.specs.declared.places.forms.placing.Placed.{Placed}
+use Rattle.f90_names.proofs.kinds.OfDeclarations.EntryLaws.{is_declaration, declares_nothing}
+use Rattle.f90_names.specs.calls.Hiding.{Hides, declared_by, names_of}
+use Rattle.f90_names.proofs.calls.HidingLaws.{NamesLeft, left_more, left_none}
 use Rattle.f90_read.specs.Checks.{AreFunctionsOf}
 
 -- the names that the statements declare

@@ -2,14 +2,14 @@
 use Rattle.std.proofs.Common.{◌≡◌, ◌⊎◌, inl, inr, ⊎_elim, ℕ, ◌+◌, ◌<◌, ◌≤◌, ◌==◌, cond, Result, Ok, Err, List, []}
 use Rattle.std.proofs.Common.{length, refl, sym, ap, subst, ◌∙◌, arith}
 use Rattle.std.proofs.lemmas.Bool.{cases_lt}
-use Rattle.refusal_order.proofs.Answered.{FollowsIn, answered_by}
-use Rattle.fv_tree.specs.Causes.{refusal_at, number_of_cause, word_of_cause}
-use Rattle.fv_tree.specs.declared.refusals.Cause.{Cause}
-use Rattle.fv_tree.specs.declared.refusals.Cause.TheVariants.{WideLiteral90, Deep90, Structure, Declared90, TypeClash90}
-use Rattle.fv_tree.specs.declared.refusals.Cause.TheVariants.{Limit90}
-use Rattle.fv_tree.specs.declared.refusals.Refusal.{Refusal}
-use Rattle.fv_tree.specs.declared.refusals.Refused.{Refused}
-use Rattle.fv_tree.specs.declared.refusals.Refused.TheVariants as refused
+use Rattle.reading.proofs.refusal_order.Answered.{FollowsIn, answered_by}
+use Rattle.tree.specs.Causes.{refusal_at, number_of_cause, word_of_cause}
+use Rattle.tree.specs.declared.refusals.Cause.{Cause}
+use Rattle.tree.specs.declared.refusals.Cause.TheVariants.{WideLiteral90, Deep90, Structure, Declared90, TypeClash90}
+use Rattle.tree.specs.declared.refusals.Cause.TheVariants.{Limit90}
+use Rattle.tree.specs.declared.refusals.Refusal.{Refusal}
+use Rattle.tree.specs.declared.refusals.Refused.{Refused}
+use Rattle.tree.specs.declared.refusals.Refused.TheVariants as refused
 use Rattle.f90_grammar.specs.Blocks.{Placed}
 use Rattle.f90_grammar.specs.LineCauses.{HasLineCause}
 use Rattle.f90_grammar.specs.LineCauses.HasLineCause.{HoldsBadByte, IsLong, EndsWithin}
@@ -21,9 +21,9 @@ use Rattle.f90_grammar.specs.Refusals.HoldsIn.{AtPlace, HasNoStatement, IsWrongI
 use Rattle.f90_grammar.specs.Refusals.HasCause.{InLines, InWords, InStatements}
 use Rattle.f90_grammar.specs.Refusals.IsRefusable.{For, ForNames}
 use Rattle.f90_grammar.specs.Surroundings.{IsMisplaced}
-use Rattle.f90_unique.proofs.Lines.{one_text}
-use Rattle.f90_places.proofs.RisingLaws.{places_rise}
-use Rattle.f90_places.proofs.Walks.{same_place}
+use Rattle.f90_laws.proofs.unique.Lines.{one_text}
+use Rattle.f90_blocks.proofs.places.RisingLaws.{places_rise}
+use Rattle.f90_blocks.proofs.places.Walks.{same_place}
 use Rattle.f90_read.specs.Checks.{IfRefusal, IsClearBelow, Clears}
 
 -- ---- the first place at which something holds

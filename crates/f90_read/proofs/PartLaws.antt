@@ -5,9 +5,9 @@ use Rattle.std.proofs.Common.{append_assoc}
 use Rattle.std.specs.List.{AllByRecursion, list_any, list_all}
 use Rattle.std.specs.Str.{bytes_eq}
 use Rattle.std.proofs.lemmas.Slice.Eq.{bytes_eq-Decides}
-use Rattle.fv_tree.specs.Plain.{Declaration}
-use Rattle.fv_tree.specs.declared.ops.Kind.{Kind}
-use Rattle.fv_tree.specs.declared.stmts.Mark.{Mark}
+use Rattle.tree.specs.Plain.{Declaration}
+use Rattle.tree.specs.declared.ops.Kind.{Kind}
+use Rattle.tree.specs.declared.stmts.Mark.{Mark}
 use Rattle.f90_grammar.specs.Blocks.{Placed}
 use Rattle.f90_grammar.specs.Declared.{declarations_of, declarations_in}
 use Rattle.f90_grammar.specs.Forms as forms
@@ -20,7 +20,7 @@ use Rattle.f90_grammar.specs.Reading.IsTitle.{untitled, titled}
 use Rattle.f90_grammar.specs.Reading.MayBeImplicitNone.{absent, present}
 use Rattle.f90_grammar.specs.Reading.IsEnd.{end, end_program, end_named}
 use Rattle.f90_grammar.specs.Reading.AreDeclared.{none, more}
-use Rattle.f90_reading_laws.proofs.Lists.{left_false, right_false, affirmed}
+use Rattle.f90_laws.proofs.readings.Lists.{left_false, right_false, affirmed}
 use Rattle.f90_blocks.specs.statement_trees.Executable.{IsMarked}
 
 abbrev executables : List Placed → List Placed

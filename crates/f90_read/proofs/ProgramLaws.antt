@@ -6,13 +6,13 @@ use mathlib.Core.Path.{fun_ext}
 use Rattle.std.specs.Prelude.{◌↔◌}
 use Rattle.std.specs.List.{AllByRecursion}
 use Rattle.std.proofs.lemmas.Bool.Decides.{nat_tests}
-use Rattle.fv_tree.specs.Causes.{refusal_at}
-use Rattle.fv_tree.specs.Plain as tree
-use Rattle.fv_tree.specs.Plain.{Declaration, Program, Block}
-use Rattle.fv_tree.specs.declared.functions.Intrinsic.{Intrinsic}
-use Rattle.fv_tree.specs.declared.refusals.Cause.TheVariants.{Structure, Declared90, Limit90}
-use Rattle.fv_meaning.specs.Blocks.{Surroundings}
-use Rattle.fv_meaning.specs.Typed.{declared}
+use Rattle.tree.specs.Causes.{refusal_at}
+use Rattle.tree.specs.Plain as tree
+use Rattle.tree.specs.Plain.{Declaration, Program, Block}
+use Rattle.tree.specs.declared.functions.Intrinsic.{Intrinsic}
+use Rattle.tree.specs.declared.refusals.Cause.TheVariants.{Structure, Declared90, Limit90}
+use Rattle.meaning.specs.Blocks.{Surroundings}
+use Rattle.meaning.specs.Typed.{declared}
 use Rattle.f90_grammar.specs.Blocks.{Placed, AreBlock}
 use Rattle.f90_grammar.specs.Blocks.AreBlock.{nothing}
 use Rattle.f90_grammar.specs.Bounds.PassesLimit.{OfBounds}
@@ -25,14 +25,14 @@ use Rattle.f90_grammar.specs.Reading.{AreStatementsOf, IsTitle, IsEnd, IsProgram
 use Rattle.f90_grammar.specs.Refusals.HoldsIn.{IsWrongInBlocks}
 use Rattle.f90_grammar.specs.Refusals.HasCause.{InStatements}
 use Rattle.f90_grammar.specs.Refusals.IsRefusable.{For}
-use Rattle.f90_block_laws.specs.Blocks.{goes_to, name_target}
-use Rattle.f90_block_laws.specs.Places.{SuitsPlace, surroundings_of, IsWrongAt}
-use Rattle.f90_block_laws.proofs.Bodies.{targets_named}
-use Rattle.f90_block_laws.proofs.Misplaced.{misplaced_at_place}
+use Rattle.f90_laws.specs.blocks.Blocks.{goes_to, name_target}
+use Rattle.f90_laws.specs.blocks.Places.{SuitsPlace, surroundings_of, IsWrongAt}
+use Rattle.f90_laws.proofs.blocks.Bodies.{targets_named}
+use Rattle.f90_laws.proofs.blocks.Misplaced.{misplaced_at_place}
 use Rattle.f90_blocks.specs.Treed.{MarksAreTaken}
-use Rattle.f90_kinds.specs.declarations.Declarations.{AreAccepted, AreInOrder}
-use Rattle.f90_reading_laws.proofs.PlaceFacts.{each_place}
-use Rattle.f90_reading_laws.proofs.Tables.{in_text_is, alike_in, same_functions}
+use Rattle.f90_names.specs.kinds.declarations.Declarations.{AreAccepted, AreInOrder}
+use Rattle.f90_laws.proofs.readings.PlaceFacts.{each_place}
+use Rattle.f90_laws.proofs.readings.Tables.{in_text_is, alike_in, same_functions}
 use Rattle.f90_blocks.specs.statement_trees.Executable.{IsMarked}
 use Rattle.f90_read.specs.Checks.{IsClearBelow}
 use Rattle.f90_read.proofs.NumberLaws.{holds_nowhere}

@@ -5,16 +5,16 @@ use Rattle.std.proofs.Common.{◌∙◌, arith, subst}
 use Rattle.std.specs.List.{AllByRecursion, list_any}
 use Rattle.std.specs.Str.{bytes_eq}
 use Rattle.std.specs.Str.Lines.{lines}
-use Rattle.fv_tree.specs.Causes.{refusal_at}
-use Rattle.fv_tree.specs.Functions.{intrinsic_named}
-use Rattle.fv_tree.specs.Plain.{Declaration}
-use Rattle.fv_tree.specs.declared.functions.Intrinsic.{Intrinsic}
-use Rattle.fv_tree.specs.declared.ops.Kind.{Kind}
-use Rattle.fv_tree.specs.declared.refusals.Cause.TheVariants.{BadByte90, WideLiteral90, Structure, Declared90}
-use Rattle.fv_tree.specs.declared.refusals.Cause.TheVariants.{TypeClash90}
-use Rattle.fv_tree.specs.declared.stmts.Mark.{Mark}
-use Rattle.fv_meaning.specs.Names.{IsLongName}
-use Rattle.fv_meaning.specs.Typed.{declared, rank_of_extent}
+use Rattle.tree.specs.Causes.{refusal_at}
+use Rattle.tree.specs.Functions.{intrinsic_named}
+use Rattle.tree.specs.Plain.{Declaration}
+use Rattle.tree.specs.declared.functions.Intrinsic.{Intrinsic}
+use Rattle.tree.specs.declared.ops.Kind.{Kind}
+use Rattle.tree.specs.declared.refusals.Cause.TheVariants.{BadByte90, WideLiteral90, Structure, Declared90}
+use Rattle.tree.specs.declared.refusals.Cause.TheVariants.{TypeClash90}
+use Rattle.tree.specs.declared.stmts.Mark.{Mark}
+use Rattle.meaning.specs.Names.{IsLongName}
+use Rattle.meaning.specs.Typed.{declared, rank_of_extent}
 use Rattle.f90_grammar.specs.Blocks.{Placed}
 use Rattle.f90_grammar.specs.Contents.{SuitsCallsIn, has_wide_literal_in}
 use Rattle.f90_grammar.specs.Declared.{declarations_of, declarations_in, functions_in, Use, IsKnown, HasKnownNames}
@@ -32,12 +32,12 @@ use Rattle.f90_grammar.specs.Refusals.HoldsIn.{HasNoStatement}
 use Rattle.f90_grammar.specs.Refusals.HasCause.{InLines, InStatements}
 use Rattle.f90_grammar.specs.Refusals.IsRefusable.{For}
 use Rattle.f90_grammar.specs.Suited.{Suits}
-use Rattle.f90_reading_laws.proofs.Decisions.{affirmed}
-use Rattle.f90_reading_laws.proofs.FormFacts.{suits}
-use Rattle.f90_reading_laws.proofs.FreeLines.{AreGoodStatements, IsFormed, good_statements, formed}
-use Rattle.f90_reading_laws.proofs.Lists.{all_both, all_right}
-use Rattle.f90_reading_laws.proofs.PlaceFacts.{each_place}
-use Rattle.f90_reading_laws.proofs.WordFacts.{IsWell, form_well, statement_words}
+use Rattle.f90_laws.proofs.readings.Decisions.{affirmed}
+use Rattle.f90_laws.proofs.readings.FormFacts.{suits}
+use Rattle.f90_laws.proofs.readings.FreeLines.{AreGoodStatements, IsFormed, good_statements, formed}
+use Rattle.f90_laws.proofs.readings.Lists.{all_both, all_right}
+use Rattle.f90_laws.proofs.readings.PlaceFacts.{each_place}
+use Rattle.f90_laws.proofs.readings.WordFacts.{IsWell, form_well, statement_words}
 use Rattle.f90_blocks.specs.statement_trees.Executable.{IsMarked}
 use Rattle.f90_read.specs.f90_suits.Ready.{IsReadyAt, AreReady, HoldsOfAll}
 use Rattle.f90_trees.specs.Hiding.{function_in}

@@ -3,20 +3,20 @@ use Rattle.std.proofs.Common.{◌≡◌, false, ◌⊎◌, inl, inr, ℕ, ◌<�
 use Rattle.std.proofs.Common.{length, Contains, refl, sym, ap, subst, arith}
 use Rattle.std.specs.Prelude.{IsOkAnd}
 use Rattle.std.specs.Str.Lines.{lines}
-use Rattle.refusal_order.specs.Answered.{comes_before, IsAnswered}
-use Rattle.refusal_order.proofs.Answered.{one_answer, not_before_least}
-use Rattle.fv_tree.specs.Causes.{refusal_at, number_of_cause}
-use Rattle.fv_tree.specs.Limits.{deck_bytes90}
-use Rattle.fv_tree.specs.Plain.{Program}
-use Rattle.fv_tree.specs.View.{program_of_90}
-use Rattle.fv_tree.specs.declared.programs.Program90.{Program90}
-use Rattle.fv_tree.specs.declared.refusals.Cause.{Cause}
-use Rattle.fv_tree.specs.declared.refusals.Cause.TheVariants.{WideLiteral90, Deep90, Structure, Declared90, TypeClash90}
-use Rattle.fv_tree.specs.declared.refusals.Cause.TheVariants.{Limit90, Syntax90}
-use Rattle.fv_tree.specs.declared.refusals.Refusal.{Refusal}
-use Rattle.fv_tree.specs.declared.refusals.Refused.{Refused}
-use Rattle.fv_tree.specs.declared.refusals.Refused.TheVariants as refused
-use Rattle.fv_meaning.specs.Profile90.{IsProgram90}
+use Rattle.reading.specs.refusal_order.Answered.{comes_before, IsAnswered}
+use Rattle.reading.proofs.refusal_order.Answered.{one_answer, not_before_least}
+use Rattle.tree.specs.Causes.{refusal_at, number_of_cause}
+use Rattle.tree.specs.Limits.{deck_bytes90}
+use Rattle.tree.specs.Plain.{Program}
+use Rattle.tree.specs.View.{program_of_90}
+use Rattle.tree.specs.declared.programs.Program90.{Program90}
+use Rattle.tree.specs.declared.refusals.Cause.{Cause}
+use Rattle.tree.specs.declared.refusals.Cause.TheVariants.{WideLiteral90, Deep90, Structure, Declared90, TypeClash90}
+use Rattle.tree.specs.declared.refusals.Cause.TheVariants.{Limit90, Syntax90}
+use Rattle.tree.specs.declared.refusals.Refusal.{Refusal}
+use Rattle.tree.specs.declared.refusals.Refused.{Refused}
+use Rattle.tree.specs.declared.refusals.Refused.TheVariants as refused
+use Rattle.meaning.specs.Profile90.{IsProgram90}
 use Rattle.f90_grammar.specs.Blocks.{Placed}
 use Rattle.f90_grammar.specs.Declared.{declarations_of}
 use Rattle.f90_grammar.specs.FreeForm.{FreeStatement, AreStatements}
@@ -28,19 +28,19 @@ use Rattle.f90_grammar.specs.Refusals.{Refused90}
 use Rattle.f90_grammar.specs.Refusals.HoldsIn.{AtPlace, HasNoStatement, IsWrongInBlocks}
 use Rattle.f90_grammar.specs.Refusals.HasCause.{InLines, InWords, InStatements}
 use Rattle.f90_grammar.specs.Refusals.IsRefusable.{For, ForNames}
-use Rattle.f90_kinds.specs.declarations.Names.{AreNamesOf}
-use Rattle.f90_kinds.specs.declared.declarations.names.Names.{Names}
+use Rattle.f90_names.specs.kinds.declarations.Names.{AreNamesOf}
+use Rattle.f90_names.specs.declared.kinds.declarations.names.Names.{Names}
 use Rattle.f90_trees.specs.declared.functions.Functions.{Functions}
 use Rattle.f90_lines.specs.Views.{statements_seen}
 use Rattle.f90_lines.specs.declared.readings.Statement.{Statement as Written}
-use Rattle.f90_calls.specs.Formless.{IsFormless, HaveSuitedForms}
-use Rattle.f90_places.specs.forms.Places.{IsPlacedOf}
-use Rattle.f90_places.specs.declared.forms.placing.Placed.{Placed as Held}
-use Rattle.f90_statements.specs.Views.{AreOf}
-use Rattle.f90_reading_laws.proofs.Programs.{read_program}
-use Rattle.f90_reading_laws.proofs.Refusing.{read_within}
-use Rattle.f90_unique.proofs.Lines.{statements_once}
-use Rattle.f90_read_back.proofs.OneProgram.{once_read}
+use Rattle.f90_names.specs.calls.Formless.{IsFormless, HaveSuitedForms}
+use Rattle.f90_blocks.specs.places.forms.Places.{IsPlacedOf}
+use Rattle.f90_blocks.specs.declared.places.forms.placing.Placed.{Placed as Held}
+use Rattle.f90_statement.specs.Views.{AreOf}
+use Rattle.f90_laws.proofs.readings.Programs.{read_program}
+use Rattle.f90_laws.proofs.readings.Refusing.{read_within}
+use Rattle.f90_laws.proofs.unique.Lines.{statements_once}
+use Rattle.f90_laws.proofs.read_back.OneProgram.{once_read}
 use Rattle.f90_read.specs.Checks.{IsTextOf, IsNamedTextOf, AreFunctionsOf, IfRefusal, IsClearBelow, IsReadAs}
 use Rattle.f90_read.specs.Outcomes.{ReadsWithin}
 use Rattle.f90_read.proofs.NumberLaws.{IsOfPlaces, of_places}

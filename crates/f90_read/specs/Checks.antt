@@ -1,24 +1,24 @@
 -- What is known of a text while its statements are looked at, one number of refusal after another.
 use Rattle.std.specs.Prelude.{◌≡◌, ℕ, ◌≤◌, Option, Some, None, List, length, Result, Ok, Err}
 use Rattle.std.specs.List.{AllByRecursion}
-use Rattle.fv_tree.specs.Causes.{refusal_at}
-use Rattle.fv_tree.specs.View.{program_of_90}
-use Rattle.fv_tree.specs.declared.programs.Program90.{Program90}
-use Rattle.fv_tree.specs.declared.refusals.Cause.{Cause}
-use Rattle.fv_tree.specs.declared.refusals.Refusal.{Refusal}
-use Rattle.fv_tree.specs.declared.refusals.Refused.{Refused}
-use Rattle.fv_tree.specs.declared.refusals.Refused.TheVariants as refused
+use Rattle.tree.specs.Causes.{refusal_at}
+use Rattle.tree.specs.View.{program_of_90}
+use Rattle.tree.specs.declared.programs.Program90.{Program90}
+use Rattle.tree.specs.declared.refusals.Cause.{Cause}
+use Rattle.tree.specs.declared.refusals.Refusal.{Refusal}
+use Rattle.tree.specs.declared.refusals.Refused.{Refused}
+use Rattle.tree.specs.declared.refusals.Refused.TheVariants as refused
 use Rattle.f90_grammar.specs.Blocks as grammar
 use Rattle.f90_grammar.specs.Contents.{SuitsCallsIn}
 use Rattle.f90_grammar.specs.Declared.{declarations_of, functions_in}
 use Rattle.f90_grammar.specs.Order.{Place, IsPlaceIn}
 use Rattle.f90_grammar.specs.Reading.{AreStatementsOf}
 use Rattle.f90_grammar.specs.Refusals.{IsRefusable, Refused90}
-use Rattle.f90_statements.specs.Views.{AreOf}
-use Rattle.f90_places.specs.forms.Places.{IsPlacedOf}
-use Rattle.f90_places.specs.declared.forms.placing.Placed.{Placed}
-use Rattle.f90_kinds.specs.declarations.Names.{AreNamesOf}
-use Rattle.f90_kinds.specs.declared.declarations.names.Names.{Names}
+use Rattle.f90_statement.specs.Views.{AreOf}
+use Rattle.f90_blocks.specs.places.forms.Places.{IsPlacedOf}
+use Rattle.f90_blocks.specs.declared.places.forms.placing.Placed.{Placed}
+use Rattle.f90_names.specs.kinds.declarations.Names.{AreNamesOf}
+use Rattle.f90_names.specs.declared.kinds.declarations.names.Names.{Names}
 use Rattle.f90_trees.specs.Hiding.{function_in}
 use Rattle.f90_trees.specs.declared.functions.Functions.{Functions}
 use Rattle.f90_read.specs.Outcomes.{ReadsWithin}

@@ -1,4 +1,5 @@
-pub mod Outcomes
 pub mod Checks
+pub mod Outcomes
 pub mod f90_suits
+pub mod one_answer
 pub mod surroundings

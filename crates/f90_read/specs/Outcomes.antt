@@ -1,6 +1,6 @@
 -- What a text of Fortran 90 is read as, within the limit of names.
 use Rattle.std.specs.Prelude.{ℕ, List}
-use Rattle.fv_tree.specs.Plain.{Program}
+use Rattle.tree.specs.Plain.{Program}
 use Rattle.f90_grammar.specs.Refusals.{Reads90, PassesNames}
 
 -- the text is read as the program, and doesn't declare too many names

@@ -3,22 +3,22 @@ ghost use Rattle.std.specs.Prelude.{ℕ, List};
 ghost use Rattle.f90_blocks.specs.statement_trees.Results.{AreOfSome};
 ghost use Rattle.f90_grammar.specs.Blocks as grammar;
 ghost use Rattle.f90_grammar.specs.Declared.{declarations_of};
-ghost use Rattle.f90_kinds.specs.declarations.Names.{AreNamesOf};
-ghost use Rattle.f90_places.specs.forms.Places.{IsPlacedOf};
-ghost use Rattle.f90_statements.specs.Views.{AreOf};
+ghost use Rattle.f90_names.specs.kinds.declarations.Names.{AreNamesOf};
+ghost use Rattle.f90_blocks.specs.places.forms.Places.{IsPlacedOf};
+ghost use Rattle.f90_statement.specs.Views.{AreOf};
 ghost use Rattle.f90_read.specs.Checks.{IsTextOf, IsNamedTextOf, IsClearBelow, Clears, RefusesAt};
 
 use crate::f90_suits::{first_unknown, first_unsuited};
 use crate::surroundings::first_misplaced;
-use f90_kinds::declarations::{
+use f90_blocks::places::forms::Placed;
+use f90_blocks::places::{earlier, first_deep, first_wide, line_at};
+use f90_blocks::structure::{first_deep_block, first_disordered, first_wrong_label};
+use f90_names::kinds::declarations::{
     Names, first_beyond_bounds, first_beyond_elements, first_beyond_names, first_repeated,
 };
-use f90_places::forms::Placed;
-use f90_places::{earlier, first_deep, first_wide, line_at};
-use f90_structure::{first_deep_block, first_disordered, first_wrong_label};
 use f90_trees::Functions;
-use fv_tree::{Cause, Refused};
 use std::alloc::Global;
+use tree::{Cause, Refused};
 
 // For the cause, at the place, if there is one.
 fn refuse(text: &[Placed], place: Option<usize>, cause: Cause) -> Result<(), Refused>

@@ -4,6 +4,7 @@
 mod causes;
 pub mod f90_suits;
 mod making;
+pub mod one_answer;
 pub mod surroundings;
 mod texts;
 

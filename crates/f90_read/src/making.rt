@@ -1,24 +1,24 @@
 //! The program that statements are.
 ghost use Rattle.std.specs.Prelude.{◌≡◌, Some, ℕ, List, IfOk, OnOk};
-ghost use Rattle.fv_tree.specs.View.{program_of_90};
+ghost use Rattle.tree.specs.View.{program_of_90};
 ghost use Rattle.f90_blocks.specs.statement_trees.Results.{AreOfSome};
 ghost use Rattle.f90_grammar.specs.Blocks as grammar;
 ghost use Rattle.f90_grammar.specs.Forms.{Form};
 ghost use Rattle.f90_grammar.specs.Order.{name_in, title_of};
 ghost use Rattle.f90_grammar.specs.Reading.{IsProgramOf};
-ghost use Rattle.f90_places.specs.forms.Places.{IsPlacedOf};
-ghost use Rattle.f90_statements.specs.Views.{AreOf, IsStatementOf};
+ghost use Rattle.f90_blocks.specs.places.forms.Places.{IsPlacedOf};
+ghost use Rattle.f90_statement.specs.Views.{AreOf, IsStatementOf};
 ghost use Rattle.f90_read.specs.Checks.{IsTextOf, IsClearBelow, AreFunctionsOf};
-ghost use Rattle.f90_calls.specs.Hiding.{Hides, declared_by, names_of};
+ghost use Rattle.f90_names.specs.calls.Hiding.{Hides, declared_by, names_of};
 
 use crate::f90_suits::trees;
 use f90_blocks::block;
-use f90_kinds::declarations::declarations;
-use f90_places::forms::Placed;
-use f90_statements::{Entity, Statement};
+use f90_blocks::places::forms::Placed;
+use f90_names::kinds::declarations::declarations;
+use f90_statement::{Entity, Statement};
 use f90_trees::Functions;
-use fv_tree::{Memory, Name, Program90};
 use std::alloc::Global;
+use tree::{Memory, Name, Program90};
 
 fn hide_names(functions: &mut Functions, entities: &[Entity]) -> Result<(), Memory>
     ensures { OnOk result (Hides (names_of entities.now) functions.old functions.new) }

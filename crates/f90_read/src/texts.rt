@@ -1,11 +1,11 @@
 //! The program of a text.
 ghost use Rattle.std.specs.Prelude.{◌≡◌, ◌⊎◌, ◌^◌, ◌<◌, ◌≤◌, ℕ, List, length, IfOk, IsOkAnd};
-ghost use Rattle.fv_tree.specs.Limits.{deck_bytes90};
-ghost use Rattle.fv_tree.specs.Plain.{Program};
-ghost use Rattle.fv_tree.specs.View.{program_of_90};
-ghost use Rattle.fv_tree.specs.declared.refusals.Refusal.{Refusal};
-ghost use Rattle.fv_meaning.specs.Profile90.{IsProgram90};
-ghost use Rattle.f90_places.specs.forms.Places.{IsPlacedOf};
+ghost use Rattle.tree.specs.Limits.{deck_bytes90};
+ghost use Rattle.tree.specs.Plain.{Program};
+ghost use Rattle.tree.specs.View.{program_of_90};
+ghost use Rattle.tree.specs.declared.refusals.Refusal.{Refusal};
+ghost use Rattle.meaning.specs.Profile90.{IsProgram90};
+ghost use Rattle.f90_blocks.specs.places.forms.Places.{IsPlacedOf};
 ghost use Rattle.f90_blocks.specs.statement_trees.Results.{AreOfSome};
 ghost use Rattle.f90_grammar.specs.Blocks as grammar;
 ghost use Rattle.f90_grammar.specs.Refusals.{Refused90};
@@ -14,12 +14,12 @@ ghost use Rattle.f90_read.specs.Outcomes.{ReadsWithin};
 
 use crate::causes::check;
 use crate::making::{functions_of, program};
-use f90_calls::placed;
-use f90_kinds::declarations::Names;
+use f90_blocks::places::forms::Placed;
 use f90_lines::statements;
-use f90_places::forms::Placed;
-use fv_tree::{Program90, Refused};
+use f90_names::calls::placed;
+use f90_names::kinds::declarations::Names;
 use std::alloc::Global;
+use tree::{Program90, Refused};
 
 fn read_placed(alloc: Global, text: &[Placed]) -> Result<Program90, Refused>
     requires { AreOfSome IsPlacedOf text.now }

@@ -4,22 +4,22 @@ use mathlib.Core.Path.{ap₂}
 use Rattle.std.proofs.lemmas.List.{map_push}
 use Rattle.std.specs.declared.boxed.Box.{Box}
 use Rattle.std.specs.declared.alloc.Global.{Global}
-use Rattle.fv_tree.specs.OperatorTable as table
-use Rattle.fv_tree.specs.declared.ops.Op.{Op}
-use Rattle.fv_tree.specs.declared.lists.Seq.{Seq}
-use Rattle.fv_tree.specs.declared.exprs.Expr.{Expr}
-use Rattle.fv_tree.specs.declared.exprs.Expr.TheVariants as exprs
-use Rattle.fv_tree.specs.declared.exprs.Sub.{Sub}
-use Rattle.fv_tree.specs.declared.exprs.Sub.TheVariants as subs
-use Rattle.fv_tree.specs.declared.exprs.Turn.{Turn, roll-Turn}
-use Rattle.fv_tree.specs.declared.exprs.Ref.{roll-Ref}
-use Rattle.fv_tree.specs.Plain as tree
-use Rattle.fv_tree.specs.Plain.{Expression, Subscript}
-use Rattle.fv_tree.specs.View.{ConstructorLoop, expression_of, subscript_of, loop_of, loops}
-use Rattle.fv_tree.proofs.Equations.{expression_of-truth, expression_of-bin, expression_of-list, expression_of-int, subscript_of-one, subscript_of-part, loop_of-made, expression_of-item, reference_of-made}
+use Rattle.tree.specs.OperatorTable as table
+use Rattle.tree.specs.declared.ops.Op.{Op}
+use Rattle.tree.specs.declared.lists.Seq.{Seq}
+use Rattle.tree.specs.declared.exprs.Expr.{Expr}
+use Rattle.tree.specs.declared.exprs.Expr.TheVariants as exprs
+use Rattle.tree.specs.declared.exprs.Sub.{Sub}
+use Rattle.tree.specs.declared.exprs.Sub.TheVariants as subs
+use Rattle.tree.specs.declared.exprs.Turn.{Turn, roll-Turn}
+use Rattle.tree.specs.declared.exprs.Ref.{roll-Ref}
+use Rattle.tree.specs.Plain as tree
+use Rattle.tree.specs.Plain.{Expression, Subscript}
+use Rattle.tree.specs.View.{ConstructorLoop, expression_of, subscript_of, loop_of, loops}
+use Rattle.tree.proofs.Equations.{expression_of-truth, expression_of-bin, expression_of-list, expression_of-int, subscript_of-one, subscript_of-part, loop_of-made, expression_of-item, reference_of-made}
 use Rattle.f90_grammar.specs.Phrases.{signed, argument_of, arguments_of}
-use Rattle.f90_expr.specs.declared.nodes.Node as code
-use Rattle.f90_expr.specs.Views.{node_seen}
+use Rattle.f90_expressions.specs.declared.nodes.Node as code
+use Rattle.f90_expressions.specs.Views.{node_seen}
 use Rattle.f90_trees.specs.Building as building
 use Rattle.f90_trees.specs.Hiding.{function_in}
 use Rattle.f90_trees.specs.declared.functions.Functions.{Functions}

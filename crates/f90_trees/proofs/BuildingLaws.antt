@@ -1,17 +1,17 @@
 -- The list of an expression makes its tree.
 use Rattle.std.proofs.Common.{arith, ◌≡◌, ◌≤◌, ℕ, pos, negsuc, ◌-◌, ◌^◌, List, [], ◌∷◌, ◌++◌, refl, ap, sym, ◌∙◌, append_assoc, append-nil, Option, Some, None}
 use Rattle.std.specs.Prelude.{min}
-use Rattle.fv_tree.specs.Limits.{greatest_literal}
-use Rattle.fv_tree.specs.OperatorTable.{Sign, Plus, Minus, Negation}
-use Rattle.fv_tree.specs.declared.functions.Intrinsic.{Intrinsic}
-use Rattle.fv_tree.specs.declared.functions.Intrinsic.TheVariants as intrinsics
-use Rattle.fv_tree.specs.Plain as tree
-use Rattle.fv_tree.specs.Plain.{Expression, Subscript, Loops}
-use Rattle.fv_tree.specs.View.{ConstructorLoop, loops}
+use Rattle.tree.specs.Limits.{greatest_literal}
+use Rattle.tree.specs.OperatorTable.{Sign, Plus, Minus, Negation}
+use Rattle.tree.specs.declared.functions.Intrinsic.{Intrinsic}
+use Rattle.tree.specs.declared.functions.Intrinsic.TheVariants as intrinsics
+use Rattle.tree.specs.Plain as tree
+use Rattle.tree.specs.Plain.{Expression, Subscript, Loops}
+use Rattle.tree.specs.View.{ConstructorLoop, loops}
 use Rattle.f90_grammar.specs.Phrases as phrases
 use Rattle.f90_grammar.specs.Phrases.{Phrase, tree_of, tree_of_part, trees_of_parts, trees_of_values, looped, called, signed, argument_of, arguments_of, natural_in, list_in}
-use Rattle.f90_expr.specs.Flat as flats
-use Rattle.f90_expr.specs.Flat.{Node, flat, flat_part, flat_parts, flat_values, flat_turn}
+use Rattle.f90_expressions.specs.Flat as flats
+use Rattle.f90_expressions.specs.Flat.{Node, flat, flat_part, flat_parts, flat_values, flat_turn}
 use Rattle.f90_trees.specs.Building.{MakesTree, Entry, Value, Part, Mark, Turn, loop_of, Parts, parts_above, Values, values_above, constructed, listed, built_on, build_all, held, held_all, held_subscript, held_subscripts, held_loops, held_dimension, called_held}
 
 -- ---- what is held

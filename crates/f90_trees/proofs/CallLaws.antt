@@ -1,12 +1,12 @@
 -- The list of an expression tells whether its calls have arguments that may stand there.
 use Rattle.std.proofs.Common.{arith, ◌≡◌, ℕ, ◌+◌, Bool, true, false, ◌&&◌, cond, List, [], ◌∷◌, ◌++◌, refl, ap, sym, ◌∙◌, append_assoc, append-nil, Option, Some, None, leb-true, le-leb}
 use Rattle.std.proofs.lemmas.Bool.{and_parts, and_from, cond-true, cond-false}
-use Rattle.fv_tree.specs.declared.functions.Intrinsic.{Intrinsic}
-use Rattle.fv_tree.specs.declared.functions.Intrinsic.TheVariants.{Elemental, Reduction, Spread, Transpose, Reshape}
+use Rattle.tree.specs.declared.functions.Intrinsic.{Intrinsic}
+use Rattle.tree.specs.declared.functions.Intrinsic.TheVariants.{Elemental, Reduction, Spread, Transpose, Reshape}
 use Rattle.f90_grammar.specs.Phrases as phrases
 use Rattle.f90_grammar.specs.Phrases.{Phrase, SuitsFunction, AreValues, IsDimension, IsShape, SuitsCalls, PartSuitsCalls, PartsSuitCalls, ValuesSuitCalls, TurnSuitsCalls, length_of_values}
-use Rattle.f90_expr.specs.Flat as flats
-use Rattle.f90_expr.specs.Flat.{Node, flat, flat_part, flat_parts, flat_values, flat_turn}
+use Rattle.f90_expressions.specs.Flat as flats
+use Rattle.f90_expressions.specs.Flat.{Node, flat, flat_part, flat_parts, flat_values, flat_turn}
 use Rattle.f90_trees.specs.Calls.{Shape, Listing, Other, shape_of, Entry, Value, Part, Mark, Turn, Parts, parts_above, Count, count_above, counted, is_value, are_values, is_literal, is_short_list, has_dimension, has_shape, suits, listed, checked_on, check_all, ListTellsCalls}
 
 -- ---- the shapes of parts

@@ -4,17 +4,17 @@ use mathlib.Core.Path.{ap₂}
 use Rattle.std.specs.Prelude.{option_to_list}
 use Rattle.std.specs.declared.boxed.Box.{Box}
 use Rattle.std.specs.declared.alloc.Global.{Global}
-use Rattle.fv_tree.specs.declared.functions.Intrinsic.TheVariants as intrinsics
-use Rattle.fv_tree.specs.declared.functions.Fun.{Fun}
-use Rattle.fv_tree.specs.declared.functions.Red.{Red}
-use Rattle.fv_tree.specs.declared.lists.Seq.{Seq}
-use Rattle.fv_tree.specs.declared.exprs.Expr.{Expr}
-use Rattle.fv_tree.specs.declared.exprs.Expr.TheVariants as exprs
-use Rattle.fv_tree.specs.declared.exprs.Sub.{Sub}
-use Rattle.fv_tree.specs.Plain as tree
-use Rattle.fv_tree.specs.Plain.{Expression, Subscript, Expressions}
-use Rattle.fv_tree.specs.View.{expression_of, subscript_of}
-use Rattle.fv_tree.proofs.Equations.{expression_of-call, expression_of-reduce, expression_of-transpose, expression_of-reshape, expression_of-spread}
+use Rattle.tree.specs.declared.functions.Intrinsic.TheVariants as intrinsics
+use Rattle.tree.specs.declared.functions.Fun.{Fun}
+use Rattle.tree.specs.declared.functions.Red.{Red}
+use Rattle.tree.specs.declared.lists.Seq.{Seq}
+use Rattle.tree.specs.declared.exprs.Expr.{Expr}
+use Rattle.tree.specs.declared.exprs.Expr.TheVariants as exprs
+use Rattle.tree.specs.declared.exprs.Sub.{Sub}
+use Rattle.tree.specs.Plain as tree
+use Rattle.tree.specs.Plain.{Expression, Subscript, Expressions}
+use Rattle.tree.specs.View.{expression_of, subscript_of}
+use Rattle.tree.proofs.Equations.{expression_of-call, expression_of-reduce, expression_of-transpose, expression_of-reshape, expression_of-spread}
 use Rattle.f90_grammar.specs.Phrases.{argument_of, arguments_of, natural_in, list_in}
 use Rattle.f90_trees.specs.Building.{called_held, held_dimension}
 

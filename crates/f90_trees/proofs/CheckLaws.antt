@@ -1,7 +1,7 @@
 -- What each part of a list does to the stack that the code holds, while it looks at calls.
 use Rattle.std.proofs.Common.{◌≡◌, ℕ, true, false, List, ◌∷◌, ap, sym, ◌∙◌, Option, Some, None, map}
 use Rattle.std.proofs.lemmas.Bool.{cond-true, cond-false}
-use Rattle.fv_tree.specs.declared.functions.Intrinsic.{Intrinsic}
+use Rattle.tree.specs.declared.functions.Intrinsic.{Intrinsic}
 use Rattle.f90_trees.specs.Calls as calls
 use Rattle.f90_trees.specs.Calls.{Shape, Other, Entry, Value, Part, Mark, Turn, with_value, with_two, with_turn, with_mark, enclosed, infixed, single, bounded, strided, turned, turned_round, looped, listed, counted, suits}
 use Rattle.f90_trees.specs.CallViews.{shape_seen, part_seen}

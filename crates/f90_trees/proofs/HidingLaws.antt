@@ -2,9 +2,9 @@
 use Rattle.std.proofs.Common.{◌≡◌, ℕ, Bool, true, false, ◌||◌, cond, List, [], ◌∷◌, ◌++◌, refl, ap, sym, ◌∙◌, Option, None}
 use Rattle.std.specs.Str.{bytes_eq}
 use Rattle.std.proofs.lemmas.Slice.Eq.{bytes_eq-Decides}
-use Rattle.fv_tree.specs.Functions.{intrinsic_named}
-use Rattle.fv_tree.specs.declared.functions.Intrinsic.{Intrinsic}
-use Rattle.fv_meaning.specs.Names.{is_among}
+use Rattle.tree.specs.Functions.{intrinsic_named}
+use Rattle.tree.specs.declared.functions.Intrinsic.{Intrinsic}
+use Rattle.meaning.specs.Names.{is_among}
 use Rattle.f90_grammar.specs.Refusals.{functions_but}
 use Rattle.f90_trees.specs.Hiding.{without}
 

@@ -2,10 +2,10 @@
 use Rattle.std.proofs.Common.{◌≡◌, List, [], ◌∷◌, ◌++◌, map, ap, ◌∙◌, sym, refl, Option, Some}
 use Rattle.std.specs.Prelude.{reverse}
 use Rattle.std.proofs.lemmas.List.{map_push, reverse-append}
-use Rattle.fv_tree.specs.declared.exprs.Expr.{Expr}
-use Rattle.fv_tree.specs.declared.exprs.Sub.{Sub}
-use Rattle.fv_tree.specs.Plain.{Expression, Subscript}
-use Rattle.fv_tree.specs.View.{expression_of, subscript_of}
+use Rattle.tree.specs.declared.exprs.Expr.{Expr}
+use Rattle.tree.specs.declared.exprs.Sub.{Sub}
+use Rattle.tree.specs.Plain.{Expression, Subscript}
+use Rattle.tree.specs.View.{expression_of, subscript_of}
 use Rattle.f90_trees.specs.declared.building.Entry as built
 use Rattle.f90_trees.specs.declared.calls.Entry as checked
 use Rattle.f90_trees.specs.declared.building.Entry.TheVariants as built_entries

@@ -2,18 +2,18 @@
 use Rattle.std.proofs.Common.{◌≡◌, ℕ, Bool, true, false, cond, List, [], ◌∷◌, ◌++◌, refl, ap, sym, subst, ◌∙◌, append_assoc, Some, None, Result, Ok, Err}
 use Rattle.std.specs.Prelude.{is_some}
 use Rattle.std.proofs.lemmas.List.{map_push}
-use Rattle.fv_tree.specs.declared.exprs.Expr.{Expr}
-use Rattle.fv_tree.specs.declared.lists.Memory.{Memory}
-use Rattle.fv_tree.specs.Plain as tree
-use Rattle.fv_tree.specs.View.{expression_of}
+use Rattle.tree.specs.declared.exprs.Expr.{Expr}
+use Rattle.tree.specs.declared.lists.Memory.{Memory}
+use Rattle.tree.specs.Plain as tree
+use Rattle.tree.specs.View.{expression_of}
 use Rattle.f90_grammar.specs.Phrases as phrases
 use Rattle.f90_grammar.specs.Phrases.{Phrase, SuitsCalls, PartsSuitCalls, tree_of}
-use Rattle.f90_expr.specs.Flat as flats
-use Rattle.f90_expr.specs.Flat.{Node, flat, flat_parts, flat_values, flat_turn}
-use Rattle.f90_expr.specs.Views.{node_seen, nodes_seen}
-use Rattle.f90_expr.specs.Reading.{IsMadeOf}
-use Rattle.f90_expr.specs.declared.nodes.Expression.{Expression}
-use Rattle.f90_expr.specs.declared.nodes.Node as code
+use Rattle.f90_expressions.specs.Flat as flats
+use Rattle.f90_expressions.specs.Flat.{Node, flat, flat_parts, flat_values, flat_turn}
+use Rattle.f90_expressions.specs.Views.{node_seen, nodes_seen}
+use Rattle.f90_expressions.specs.Reading.{IsMadeOf}
+use Rattle.f90_expressions.specs.declared.nodes.Expression.{Expression}
+use Rattle.f90_expressions.specs.declared.nodes.Node as code
 use Rattle.f90_trees.specs.Building as building
 use Rattle.f90_trees.specs.Building.{held, build_all}
 use Rattle.f90_trees.specs.Calls.{check_all}

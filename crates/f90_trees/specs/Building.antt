@@ -1,16 +1,16 @@
 -- The tree of an expression, made from its list with a stack.
 use Rattle.std.specs.Prelude.{◌≡◌, ℕ, ℤ, pos, negsuc, ◌-◌, ◌^◌, min, Option, Some, None, List, [], ◌∷◌, ◌++◌}
-use Rattle.fv_tree.specs.Limits.{greatest_literal}
-use Rattle.fv_tree.specs.OperatorTable.{Sign}
-use Rattle.fv_tree.specs.declared.functions.Intrinsic.{Intrinsic}
-use Rattle.fv_tree.specs.declared.functions.Intrinsic.TheVariants as intrinsics
-use Rattle.fv_tree.specs.declared.ops.Op.{Op}
-use Rattle.fv_tree.specs.Plain as tree
-use Rattle.fv_tree.specs.Plain.{Expression, Expressions, Subscript, Subscripts, Loops}
-use Rattle.fv_tree.specs.View.{ConstructorLoop, loops}
+use Rattle.tree.specs.Limits.{greatest_literal}
+use Rattle.tree.specs.OperatorTable.{Sign}
+use Rattle.tree.specs.declared.functions.Intrinsic.{Intrinsic}
+use Rattle.tree.specs.declared.functions.Intrinsic.TheVariants as intrinsics
+use Rattle.tree.specs.declared.ops.Op.{Op}
+use Rattle.tree.specs.Plain as tree
+use Rattle.tree.specs.Plain.{Expression, Expressions, Subscript, Subscripts, Loops}
+use Rattle.tree.specs.View.{ConstructorLoop, loops}
 use Rattle.f90_grammar.specs.Phrases.{Phrase, tree_of, called, signed, value_of_digits, argument_of, natural_in}
-use Rattle.f90_expr.specs.Flat as flats
-use Rattle.f90_expr.specs.Flat.{Node, flat}
+use Rattle.f90_expressions.specs.Flat as flats
+use Rattle.f90_expressions.specs.Flat.{Node, flat}
 
 -- ---- numbers are held up to the greatest literal, dimensions of SPREAD up to 2^64-1
 

@@ -2,7 +2,7 @@
 use Rattle.std.specs.Prelude.{◌≡◌, ℕ, Bool, true, false, List, [], ◌∷◌, map, reverse}
 use Rattle.std.specs.Prelude.{Option, Some, None, Result, Ok, Err}
 use Rattle.std.specs.Prelude.{is_some}
-use Rattle.fv_tree.specs.declared.lists.Memory.{Memory}
+use Rattle.tree.specs.declared.lists.Memory.{Memory}
 use Rattle.f90_trees.specs.declared.calls.Shape.{Shape}
 use Rattle.f90_trees.specs.declared.calls.Shape.TheVariants as shapes
 use Rattle.f90_trees.specs.declared.calls.Entry.{Entry}

@@ -1,7 +1,7 @@
 -- Which names are functions.
 use Rattle.std.specs.Prelude.{ℕ, Option, None, List, if◌then◌else◌}
 use Rattle.std.specs.Str.{bytes_eq}
-use Rattle.fv_tree.specs.declared.functions.Intrinsic.{Intrinsic}
+use Rattle.tree.specs.declared.functions.Intrinsic.{Intrinsic}
 use Rattle.f90_grammar.specs.Refusals.{functions_but}
 use Rattle.f90_trees.specs.declared.functions.Functions.{Functions}
 

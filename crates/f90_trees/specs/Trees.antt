@@ -1,14 +1,14 @@
 -- What is told of an expression, and made from it.
 use Rattle.std.specs.Prelude.{◌≡◌, ◌↔◌, Bool, true, false, IsTrue, Result, Ok, Err}
-use Rattle.fv_tree.specs.declared.exprs.Expr.{Expr}
-use Rattle.fv_tree.specs.declared.lists.Memory.{Memory}
-use Rattle.fv_tree.specs.View.{expression_of}
+use Rattle.tree.specs.declared.exprs.Expr.{Expr}
+use Rattle.tree.specs.declared.lists.Memory.{Memory}
+use Rattle.tree.specs.View.{expression_of}
 use Rattle.f90_grammar.specs.Contents.{VariableSuitsCalls}
 use Rattle.f90_grammar.specs.Phrases.{Phrase, SuitsCalls, tree_of}
-use Rattle.f90_expr.specs.Flat as flats
-use Rattle.f90_expr.specs.Flat.{Node}
-use Rattle.f90_expr.specs.Reading.{IsMadeOf}
-use Rattle.f90_expr.specs.declared.nodes.Expression.{Expression}
+use Rattle.f90_expressions.specs.Flat as flats
+use Rattle.f90_expressions.specs.Flat.{Node}
+use Rattle.f90_expressions.specs.Reading.{IsMadeOf}
+use Rattle.f90_expressions.specs.declared.nodes.Expression.{Expression}
 use Rattle.f90_trees.specs.Building.{held}
 use Rattle.f90_trees.specs.Hiding.{function_in}
 use Rattle.f90_trees.specs.declared.functions.Functions.{Functions}

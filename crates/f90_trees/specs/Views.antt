@@ -1,12 +1,12 @@
 -- What the code holds while it makes a tree, as what lies on the stack.
 use Rattle.std.specs.Prelude.{◌≡◌, Bool, true, false, List, [], ◌∷◌, map, reverse}
 use Rattle.std.specs.Prelude.{Option, Some, None, Result, Ok, Err}
-use Rattle.fv_tree.specs.declared.exprs.Expr.{Expr}
-use Rattle.fv_tree.specs.declared.exprs.Sub.{Sub}
-use Rattle.fv_tree.specs.declared.exprs.Turn as exprs
-use Rattle.fv_tree.specs.declared.lists.Memory.{Memory}
-use Rattle.fv_tree.specs.Plain.{Expression, Subscript}
-use Rattle.fv_tree.specs.View.{ConstructorLoop, expression_of, subscript_of, loop_of}
+use Rattle.tree.specs.declared.exprs.Expr.{Expr}
+use Rattle.tree.specs.declared.exprs.Sub.{Sub}
+use Rattle.tree.specs.declared.exprs.Turn as exprs
+use Rattle.tree.specs.declared.lists.Memory.{Memory}
+use Rattle.tree.specs.Plain.{Expression, Subscript}
+use Rattle.tree.specs.View.{ConstructorLoop, expression_of, subscript_of, loop_of}
 use Rattle.f90_trees.specs.declared.building.Entry.{Entry}
 use Rattle.f90_trees.specs.declared.building.Entry.TheVariants.{Value, Part, Mark, Turn}
 use Rattle.f90_trees.specs.Building as building

@@ -1,12 +1,12 @@
 //! The tree of an expression, from its list with a stack.
 ghost use Rattle.std.specs.Prelude.{◌≡◌, ◌∷◌, [], IfOk, OnOk, map, min, pos};
-ghost use Rattle.fv_tree.specs.Limits.{greatest_literal};
-ghost use Rattle.fv_tree.specs.declared.functions.Intrinsic.TheVariants as functions;
-ghost use Rattle.fv_tree.specs.Plain.{Number, Named, expressions, subscripts};
-ghost use Rattle.fv_tree.specs.View.{expression_of, subscript_of};
+ghost use Rattle.tree.specs.Limits.{greatest_literal};
+ghost use Rattle.tree.specs.declared.functions.Intrinsic.TheVariants as functions;
+ghost use Rattle.tree.specs.Plain.{Number, Named, expressions, subscripts};
+ghost use Rattle.tree.specs.View.{expression_of, subscript_of};
 ghost use Rattle.f90_grammar.specs.Phrases.{value_of_digits, argument_of, arguments_of, natural_in, list_in, signed};
-ghost use Rattle.f90_expr.specs.Views.{node_seen, nodes_seen};
-ghost use Rattle.reading_parts.specs.Signs.{sign_view};
+ghost use Rattle.f90_expressions.specs.Views.{node_seen, nodes_seen};
+ghost use Rattle.reading.specs.Signs.{sign_view};
 ghost use Rattle.f90_trees.specs.Building as building;
 ghost use Rattle.f90_trees.specs.Building.{held_dimension, called_held};
 ghost use Rattle.f90_trees.specs.Hiding.{function_in};
@@ -14,10 +14,10 @@ ghost use Rattle.f90_trees.specs.Views.{stack, entry_seen, TakesValue, TakesTwo,
 ghost use Rattle.f90_trees.specs.Views.{TakesValues, Builds, IsSole, Makes};
 
 use crate::functions::Functions;
-use f90_expr::{Node, literal};
-use fv_tree::{Expr, GREATEST_LITERAL, Intrinsic, Memory, Name, Op, Red, Ref, Seq, Sub, Turn};
-use reading_parts::Sign;
+use f90_expressions::{Node, literal};
+use reading::Sign;
 use std::alloc::Global;
+use tree::{Expr, GREATEST_LITERAL, Intrinsic, Memory, Name, Op, Red, Ref, Seq, Sub, Turn};
 
 /// What lies on the stack: a value, a part of a list, the beginning of a list, or the value under loops, the innermost
 /// loop first.
@@ -144,7 +144,7 @@ fn number(digits: &[u8]) -> i128
     }
 }
 
-#[tactic(auto, using(fv_tree::proofs::Equations::expression_equations))]
+#[tactic(auto, using(tree::proofs::Equations::expression_equations))]
 fn signed(alloc: Global, sign: Sign, expr: Expr) -> Result<Expr, Memory>
     ensures { IfOk result (λ made. expression_of made ≡ signed (sign_view sign) (expression_of expr)) }
 {
@@ -291,7 +291,7 @@ fn constructed(alloc: Global, entries: &mut Vec<Entry>) -> Result<bool, Memory>
 
 // ---- calls
 
-#[tactic(auto, using(fv_tree::proofs::Equations::expression_equations))]
+#[tactic(auto, using(tree::proofs::Equations::expression_equations))]
 fn argument(part: Sub) -> Expr
     ensures { expression_of result ≡ argument_of (subscript_of part) }
 {
@@ -312,7 +312,7 @@ fn arguments(alloc: Global, parts: Seq<Sub>) -> Result<Seq<Expr>, Memory>
     Ok(exprs)
 }
 
-#[tactic(auto, using(fv_tree::proofs::Equations::expression_equations))]
+#[tactic(auto, using(tree::proofs::Equations::expression_equations))]
 fn dimension(expr: &Expr) -> usize
     ensures { result ≡ held_dimension (natural_in (expression_of expr.now)) }
 {
@@ -345,7 +345,7 @@ fn natural(number: i128) -> usize
 }
 
 // The values of a list without loops or under them.
-#[tactic(auto, using(fv_tree::proofs::Equations::expression_equations))]
+#[tactic(auto, using(tree::proofs::Equations::expression_equations))]
 fn values(alloc: Global, expr: Expr) -> Seq<Expr>
     ensures { expressions (map expression_of result) ≡ list_in (expression_of expr) }
 {

@@ -1,15 +1,15 @@
 //! Whether each call of an expression has arguments that may stand there, from its list with a stack.
 ghost use Rattle.std.specs.Prelude.{◌≡◌, ◌∷◌, [], OnOk, map};
-ghost use Rattle.f90_expr.specs.Views.{node_seen, nodes_seen};
+ghost use Rattle.f90_expressions.specs.Views.{node_seen, nodes_seen};
 ghost use Rattle.f90_trees.specs.Calls as calls;
 ghost use Rattle.f90_trees.specs.Hiding.{function_in};
 ghost use Rattle.f90_trees.specs.CallViews.{stack, part_seen, entry_seen, TakesValue, TakesTwo, TakesTurn};
 ghost use Rattle.f90_trees.specs.CallViews.{TakesMark, TakesParts, Counts, Checks, Tells};
 
 use crate::functions::Functions;
-use f90_expr::Node;
-use fv_tree::{Intrinsic, Memory, Seq};
+use f90_expressions::Node;
 use std::alloc::Global;
+use tree::{Intrinsic, Memory, Seq};
 
 /// A literal without sign or parentheses, a list of so many values, or another value.
 #[derive(Clone, Copy, Debug)]

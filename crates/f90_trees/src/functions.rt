@@ -1,14 +1,14 @@
 //! Which names are functions.
 ghost use Rattle.std.specs.Prelude.{◌≡◌, ℕ, List, OnErr, OnOk};
-ghost use Rattle.fv_tree.specs.Functions.{intrinsic_named};
-ghost use Rattle.fv_meaning.specs.Names.{is_among};
+ghost use Rattle.tree.specs.Functions.{intrinsic_named};
+ghost use Rattle.meaning.specs.Names.{is_among};
 
-use fv_tree::{Intrinsic, Memory, Name, Seq};
 use std::alloc::Global;
+use tree::{Intrinsic, Memory, Name, Seq};
 
 /// The names that are functions: those of Fortran 90's functions but for names that are declared (ISO/IEC 1539:1991,
 /// section 14.1.2).
-#[derive(Debug, Drop)]
+#[derive(Drop)]
 pub struct Functions {
     // Of the declared names those that are names of functions, each once.
     pub(crate) hidden: Seq<Name>,

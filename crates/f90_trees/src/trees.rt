@@ -1,16 +1,16 @@
 //! The trees of expressions, and whether their calls have arguments that may stand there.
 ghost use Rattle.std.specs.Prelude.{◌≡◌};
 ghost use Rattle.f90_grammar.specs.Phrases.{Phrase};
-ghost use Rattle.f90_expr.specs.Reading.{IsMadeOf};
-ghost use Rattle.f90_expr.specs.Views.{node_seen};
+ghost use Rattle.f90_expressions.specs.Reading.{IsMadeOf};
+ghost use Rattle.f90_expressions.specs.Views.{node_seen};
 ghost use Rattle.f90_trees.specs.Trees.{IsOfPhrase, TellsCallsOf, TellsCallsIn, IsTreeOf, is_list};
 
 use crate::building::made;
 use crate::calls::suit;
 use crate::functions::Functions;
-use f90_expr::{Expression, Node};
-use fv_tree::{Expr, Memory};
+use f90_expressions::{Expression, Node};
 use std::alloc::Global;
+use tree::{Expr, Memory};
 
 fn is_list(node: &Node) -> bool
     ensures { result ≡ is_list (node_seen node.now) }

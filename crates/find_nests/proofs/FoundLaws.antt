@@ -1,7 +1,7 @@
 -- What is found, loop by loop.
 use Rattle.std.proofs.Common.{◌≡◌, ℕ, zero, suc, ◌<◌, Bool, true, false, cond, Option, Some, None, List, [], ◌∷◌, map, filter, length, get_or, Contains, refl, sym, ap, ◌∙◌, arith}
-use Rattle.fv_tree.specs.Plain.{Program, Statement, Declaration}
-use Rattle.nest_tree.specs.Plain.{Nest}
+use Rattle.tree.specs.Plain.{Program, Statement, Declaration}
+use Rattle.nest.specs.Plain.{Nest}
 use Rattle.find_nests.specs.nest_parts.Numbers.{next}
 use Rattle.find_nests.specs.declared.reasons.Reason.{Reason}
 use Rattle.find_nests.specs.declared.reasons.Reason.TheVariants.{Exit, InnerIf, Bound, Step, Deep, Large}

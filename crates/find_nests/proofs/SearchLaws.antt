@@ -2,19 +2,19 @@
 use Rattle.std.proofs.Common.{◌≡◌, ℕ, Bool, true, false, Option, Some, None, List, [], ◌∷◌, ◌++◌, map, refl, sym, ap, ◌∙◌, append_assoc, cond, drop, drop-cons, suc, add-one, get_or, length, ◌+◌, ◌<◌, ◌≤◌, arith, is_some}
 use Rattle.std.specs.List.{filter}
 use Rattle.std.proofs.lemmas.List.{append-nil, map-append, length-map}
-use Rattle.fv_tree.specs.Plain as P
-use Rattle.fv_tree.specs.Plain.{Statement, Program, Declaration, block}
-use Rattle.fv_rewrite.specs.Names.{names_written_in}
+use Rattle.tree.specs.Plain as P
+use Rattle.tree.specs.Plain.{Statement, Program, Declaration, block}
+use Rattle.rewrite.specs.Names.{names_written_in}
 use Rattle.nest_reasons.specs.Symbols.{is_symbol, symbols_of}
-use Rattle.fv_tree.specs.View.{expression_of, statement_of, tested_of, block_of, arms, Tested}
-use Rattle.fv_tree.specs.declared.names.Name.{Name}
-use Rattle.fv_tree.specs.declared.lists.Seq.{Seq}
-use Rattle.fv_tree.specs.declared.exprs.Expr.{Expr}
-use Rattle.fv_tree.specs.declared.stmts.Stmt.{Stmt}
-use Rattle.fv_tree.specs.declared.stmts.Stmt.TheVariants as stmts
-use Rattle.fv_tree.specs.declared.stmts.Arm.{Arm}
-use Rattle.fv_tree.specs.declared.stmts.Block.{Block, out-Block}
-use Rattle.fv_tree.proofs.Equations.{statement_equations, statement_of-if, statement_of-do, block_of-is}
+use Rattle.tree.specs.View.{expression_of, statement_of, tested_of, block_of, arms, Tested}
+use Rattle.tree.specs.declared.names.Name.{Name}
+use Rattle.tree.specs.declared.lists.Seq.{Seq}
+use Rattle.tree.specs.declared.exprs.Expr.{Expr}
+use Rattle.tree.specs.declared.stmts.Stmt.{Stmt}
+use Rattle.tree.specs.declared.stmts.Stmt.TheVariants as stmts
+use Rattle.tree.specs.declared.stmts.Arm.{Arm}
+use Rattle.tree.specs.declared.stmts.Block.{Block, out-Block}
+use Rattle.tree.proofs.Equations.{statement_equations, statement_of-if, statement_of-do, block_of-is}
 use Rattle.find_nests.specs.nest_parts.Numbers.{next, after, after_arms, after_each, after_block, after_list}
 use Rattle.find_nests.proofs.NestParts.PartLaws.{part_laws, after_each_is, after-block}
 use Rattle.find_nests.specs.declared.reasons.Reason.{Reason}
@@ -22,9 +22,9 @@ use Rattle.find_nests.specs.Reasons.{reason_over}
 use Rattle.find_nests.specs.Loops.{SourceLoop, Numbered, reason_of}
 use Rattle.find_nests.specs.declared.search.Found.{Found as Found'}
 use Rattle.find_nests.specs.declared.search.Found.TheVariants as found
-use Rattle.nest_tree.specs.declared.nests.Nest.{Nest as Nest'}
-use Rattle.nest_tree.specs.Plain.{Nest, Part, Made}
-use Rattle.nest_tree.specs.View.{nest_of}
+use Rattle.nest.specs.declared.nests.Nest.{Nest as Nest'}
+use Rattle.nest.specs.Plain.{Nest, Part, Made}
+use Rattle.nest.specs.View.{nest_of}
 use Rattle.find_nests.specs.Found.{Found, InNest, Kept, found_of, found_as, found_among, nests_with, nest_of_loop, body_of}
 use Rattle.find_nests.specs.Walk.{outermost_in, outermost_in_arms, outermost_in_block, outermost_list, outermost_each, nests_among}
 

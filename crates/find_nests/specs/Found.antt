@@ -1,9 +1,9 @@
 -- The nests of a program: its loops without a reason that stand in no other nest. Other loops are kept.
 use Rattle.std.specs.Prelude.{ℕ, Option, Some, None, List, [], ◌∷◌}
-use Rattle.fv_tree.specs.Plain.{Program, no_statements}
+use Rattle.tree.specs.Plain.{Program, no_statements}
 use Rattle.nest_reasons.specs.Symbols.{symbols_of}
-use Rattle.nest_tree.specs.Plain.{Nest, Part, Turns, parts}
-use Rattle.nest_tree.specs.View.{nest_of}
+use Rattle.nest.specs.Plain.{Nest, Part, Turns, parts}
+use Rattle.nest.specs.View.{nest_of}
 use Rattle.find_nests.specs.nest_parts.Numbers.{next}
 use Rattle.find_nests.specs.nest_parts.Statements.{source_loop, parts_of_block}
 use Rattle.find_nests.specs.declared.reasons.Reason.{Reason}

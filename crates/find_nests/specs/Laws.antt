@@ -1,7 +1,7 @@
 -- What is known of what is found.
 use Rattle.std.specs.Prelude.{◌≡◌, ℕ, Some, None, true, false, List, [], Contains}
-use Rattle.fv_tree.specs.Plain.{Program, Statement}
-use Rattle.nest_tree.specs.Plain.{Nest}
+use Rattle.tree.specs.Plain.{Program, Statement}
+use Rattle.nest.specs.Plain.{Nest}
 use Rattle.find_nests.specs.declared.reasons.Reason.{Reason}
 use Rattle.find_nests.specs.Reasons.{has_reason, reason_over}
 use Rattle.find_nests.specs.Loops.{Placed, loops_in_block, is_in_no_nest, reason_of}

@@ -1,8 +1,8 @@
 -- The loops of a program, in the order of the text.
 use Rattle.std.specs.Prelude.{ℕ, Option, Bool, is_some, List, [], ◌∷◌, ◌++◌, map}
 use Rattle.std.specs.List.{filter, list_all}
-use Rattle.fv_tree.specs.Plain.{Expression, Statement, Assignment, Where, If, Do, Label, GoTo, Stop, Read, Print}
-use Rattle.fv_tree.specs.Plain.{Allocate, Deallocate, Arms, no_arms, arm, Block, no_statements, statement, Declaration}
+use Rattle.tree.specs.Plain.{Expression, Statement, Assignment, Where, If, Do, Label, GoTo, Stop, Read, Print}
+use Rattle.tree.specs.Plain.{Allocate, Deallocate, Arms, no_arms, arm, Block, no_statements, statement, Declaration}
 use Rattle.nest_reasons.specs.Symbols.{symbols_of}
 use Rattle.find_nests.specs.nest_parts.Numbers.{next, after, after_arms, after_block}
 use Rattle.find_nests.specs.declared.reasons.Reason.{Reason}

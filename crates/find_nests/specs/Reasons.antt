@@ -1,6 +1,6 @@
 -- Why a loop is no nest.
 use Rattle.std.specs.Prelude.{ℕ, Option, Some, None, Bool, not, ◌&&◌, ◌||◌, if◌then◌else◌, List, [], ◌∷◌}
-use Rattle.fv_tree.specs.Plain.{Statement}
+use Rattle.tree.specs.Plain.{Statement}
 use Rattle.nest_reasons.specs.declared.flaws.Flaw.{Flaw}
 use Rattle.nest_reasons.specs.declared.flaws.Flaw.TheVariants as flaws
 use Rattle.nest_reasons.specs.Loops.{any_loop, has_flaw}

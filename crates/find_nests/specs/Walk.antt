@@ -1,9 +1,9 @@
 -- The loops that stand in no nest, part by part.
 use Rattle.std.specs.Prelude.{ℕ, if◌then◌else◌, List, [], ◌∷◌, ◌++◌}
-use Rattle.fv_tree.specs.Plain.{Statement, Assignment, Where, If, Do, Label, GoTo, Stop, Read, Print}
-use Rattle.fv_tree.specs.Plain.{Allocate, Deallocate, Arms, no_arms, arm, Block, no_statements, statement}
-use Rattle.fv_tree.specs.Plain.{Declaration}
-use Rattle.fv_tree.specs.View.{Tested}
+use Rattle.tree.specs.Plain.{Statement, Assignment, Where, If, Do, Label, GoTo, Stop, Read, Print}
+use Rattle.tree.specs.Plain.{Allocate, Deallocate, Arms, no_arms, arm, Block, no_statements, statement}
+use Rattle.tree.specs.Plain.{Declaration}
+use Rattle.tree.specs.View.{Tested}
 use Rattle.find_nests.specs.nest_parts.Numbers.{next, after, after_arms, after_block}
 use Rattle.find_nests.specs.Loops.{SourceLoop, Numbered, reason_of, is_kept}
 use Rattle.find_nests.specs.Found.{nests_with}

@@ -1,12 +1,12 @@
 //! Why a loop is no nest.
 ghost use Rattle.std.specs.Prelude.{◌≡◌, ◌≤◌, ◌^◌, length, IfOk};
-ghost use Rattle.fv_tree.specs.View.{statement_of};
+ghost use Rattle.tree.specs.View.{statement_of};
 ghost use Rattle.find_nests.specs.Reasons.{reason_over};
 
 use crate::bound_limits::Limits;
-use fv_tree::{Memory, Name, Seq, Stmt};
 use nest_reasons::{Check, Flaw, is_large};
 use std::alloc::Global;
+use tree::{Memory, Name, Seq, Stmt};
 
 /// Why a loop is kept: it is left, or halts or does input or output; a loop in it stands in an IF or between a GO TO
 /// and its label; a bound isn't linear, or is out of the limits once the loops round it go from 1 by 1; an increment

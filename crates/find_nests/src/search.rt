@@ -1,21 +1,21 @@
 //! The search for nests.
 ghost use Rattle.std.specs.Prelude.{◌≡◌, ◌≤◌, ◌^◌, ◌++◌, length, map, OnOk, IfOk};
-ghost use Rattle.fv_tree.specs.View.{expression_of, statement_of, tested_of, block_of, program_of};
-ghost use Rattle.fv_tree.specs.Plain.{no_statements};
-ghost use Rattle.nest_tree.specs.View.{nest_of};
+ghost use Rattle.tree.specs.View.{expression_of, statement_of, tested_of, block_of, program_of};
+ghost use Rattle.tree.specs.Plain.{no_statements};
+ghost use Rattle.nest.specs.View.{nest_of};
 ghost use Rattle.find_nests.specs.nest_parts.Numbers.{next, after, after_block, after_each, after_list};
 ghost use Rattle.find_nests.specs.Found.{found_of, found_among, found_in, nest_of_loop};
 ghost use Rattle.find_nests.specs.Walk.{nests_among, outermost_in, outermost_in_block, outermost_list, outermost_each};
 
 use crate::nest_parts::Numbering;
 use crate::reasons::{Reason, reason_over};
-use fv_tree::{Arm, Block, Expr, Memory, Name, Program77, Seq, Stmt};
+use nest::Nest;
 use nest_reasons::symbols_of;
-use nest_tree::{Nest, copy_decls};
 use std::alloc::Global;
+use tree::{Arm, Block, Expr, Memory, Name, Program77, Seq, Stmt, copy_decls};
 
 /// What is found of a loop that stands in no nest: a nest, or a kept loop by its line and the first reason that holds.
-#[derive(Debug, Drop)]
+#[derive(Drop)]
 pub enum Found {
     Nest(Nest),
     Kept(u32, Reason),
@@ -182,9 +182,9 @@ impl Search {
             ≡ after_block (next self.old.loops.loops) (block_of body.now)) }
     {
         self.nests = next(self.nests);
-        let turns = self.loops.turns(alloc, var, first, last, step, body)?;
         let decls = copy_decls(&program.decls, alloc)?;
         let symbols = symbols_of(alloc, &program.decls, var, body)?;
+        let turns = self.loops.turns(alloc, var, first, last, step, body)?;
         Ok(Nest {
             number: self.nests,
             line,
@@ -200,7 +200,7 @@ impl Search {
     }
 }
 
-#[tactic(auto, using(fv_tree::proofs::Equations::statement_equations))]
+#[tactic(auto, using(tree::proofs::Equations::statement_equations))]
 fn nothing(alloc: Global) -> Block
     ensures { block_of result ≡ no_statements }
 {

@@ -3,20 +3,20 @@ use Rattle.std.proofs.Common.{◌≡◌, refl, sym, ap, ◌∙◌, ℕ, ◌+◌,
 use Rattle.std.specs.List.{flat_map}
 use Rattle.std.proofs.lemmas.List.{map-append}
 use mathlib.Core.Path.{ap₂}
-use Rattle.fv_tree.specs.Arguments.{added, finished}
-use Rattle.fv_tree.specs.Operators.{call}
-use Rattle.fv_tree.specs.Plain.{Expression, Apply, expressions}
-use Rattle.fv_tree.specs.Steps.{◌>>=◌}
-use Rattle.fv_tree.specs.declared.arguments.Arguments.{Arguments}
-use Rattle.fv_tree.specs.declared.arguments.Arguments.TheVariants.{Empty}
-use Rattle.fv_tree.specs.declared.functions.Fun.{Fun}
-use Rattle.fv_tree.specs.declared.ops.Fault.{Fault}
-use Rattle.fv_tree.specs.declared.ops.Value.{Value}
-use Rattle.fv_tree.proofs.Calls.{finished_is}
-use Rattle.fv_meaning.specs.Dialect.{fortran77}
-use Rattle.fv_meaning.specs.Value.{value_of, values_of}
-use Rattle.fv_rewrite.specs.declared.uses.Use.{Use}
-use Rattle.fv_rewrite.proofs.UseLaws.{one_more, more}
+use Rattle.tree.specs.Arguments.{added, finished}
+use Rattle.tree.specs.Operators.{call}
+use Rattle.tree.specs.Plain.{Expression, Apply, expressions}
+use Rattle.tree.specs.Steps.{◌>>=◌}
+use Rattle.tree.specs.declared.arguments.Arguments.{Arguments}
+use Rattle.tree.specs.declared.arguments.Arguments.TheVariants.{Empty}
+use Rattle.tree.specs.declared.functions.Fun.{Fun}
+use Rattle.tree.specs.declared.ops.Fault.{Fault}
+use Rattle.tree.specs.declared.ops.Value.{Value}
+use Rattle.tree.proofs.Calls.{finished_is}
+use Rattle.meaning.specs.Dialect.{fortran77}
+use Rattle.meaning.specs.Value.{value_of, values_of}
+use Rattle.rewrite.specs.declared.uses.Use.{Use}
+use Rattle.rewrite.proofs.UseLaws.{one_more, more}
 use Rattle.linear_forms.specs.Linear.{constant_value, known, no_store}
 use Rattle.form_rules.specs.Written.{stands_in, with_constant, call_of}
 use Rattle.form_rules.proofs.Writing.{stands_in_both}

@@ -6,26 +6,26 @@ use Rattle.std.specs.declared.boxed.Box.{Box}
 use Rattle.std.proofs.lemmas.Bool.{leb-true, le-leb}
 use Rattle.std.proofs.lemmas.List.Folds.{list_any-append}
 use mathlib.Core.Path.{ap₂}
-use Rattle.fv_tree.specs.Plain.{Expression, Number, Logic, Named, Unary, Binary, Apply, Constructor, Spread, Transpose, Reshape, Reduce, expressions, Only, Reference, Section, Subscripts, subscripts}
-use Rattle.fv_tree.specs.View.{ConstructorLoop, expression_of, loop_of, loops as plain_loops, reference_of, subscript_of}
-use Rattle.fv_tree.specs.declared.exprs.Expr.{Expr}
-use Rattle.fv_tree.specs.declared.exprs.Expr.TheVariants as exprs
-use Rattle.fv_tree.specs.declared.exprs.Ref.{Ref, out-Ref, roll-Ref}
-use Rattle.fv_tree.specs.declared.exprs.Sub.{Sub}
-use Rattle.fv_tree.specs.declared.exprs.Sub.TheVariants as subs
-use Rattle.fv_tree.specs.declared.exprs.Turn.{Turn, out-Turn, roll-Turn}
-use Rattle.fv_tree.specs.declared.functions.Fun.{Fun}
-use Rattle.fv_tree.specs.declared.functions.Red.{Red}
-use Rattle.fv_tree.specs.declared.lists.Seq.{Seq}
-use Rattle.fv_tree.specs.declared.ops.Op.{Op}
-use Rattle.fv_tree.specs.declared.ops.Value.{Value}
-use Rattle.fv_tree.specs.declared.ops.Value.TheVariants.{Int, Truth}
-use Rattle.fv_tree.proofs.Equations.{reference_of-is, loop_of-is, subscript_of-one, subscript_of-part, expression_of-int, expression_of-truth, expression_of-item, expression_of-un, expression_of-bin, expression_of-call, expression_of-list, expression_of-spread, expression_of-transpose, expression_of-reshape, expression_of-reduce}
-use Rattle.fv_rewrite.specs.Making.{made, made_inside, made_expressions, made_loop, made_parts, made_subscript}
-use Rattle.fv_rewrite.specs.Names.{mentions, uses_in, uses_in_loop, uses_in_loops, uses_in_subscript, uses_in_subscripts, uses_in_expressions}
-use Rattle.fv_rewrite.specs.declared.uses.Use.{Use}
-use Rattle.fv_rewrite.proofs.Equations.{made_is, made_each, made_each_loop, made_each_subscript}
-use Rattle.fv_rewrite.proofs.UseLaws.{each_expression, each_loop, each_subscript}
+use Rattle.tree.specs.Plain.{Expression, Number, Logic, Named, Unary, Binary, Apply, Constructor, Spread, Transpose, Reshape, Reduce, expressions, Only, Reference, Section, Subscripts, subscripts}
+use Rattle.tree.specs.View.{ConstructorLoop, expression_of, loop_of, loops as plain_loops, reference_of, subscript_of}
+use Rattle.tree.specs.declared.exprs.Expr.{Expr}
+use Rattle.tree.specs.declared.exprs.Expr.TheVariants as exprs
+use Rattle.tree.specs.declared.exprs.Ref.{Ref, out-Ref, roll-Ref}
+use Rattle.tree.specs.declared.exprs.Sub.{Sub}
+use Rattle.tree.specs.declared.exprs.Sub.TheVariants as subs
+use Rattle.tree.specs.declared.exprs.Turn.{Turn, out-Turn, roll-Turn}
+use Rattle.tree.specs.declared.functions.Fun.{Fun}
+use Rattle.tree.specs.declared.functions.Red.{Red}
+use Rattle.tree.specs.declared.lists.Seq.{Seq}
+use Rattle.tree.specs.declared.ops.Op.{Op}
+use Rattle.tree.specs.declared.ops.Value.{Value}
+use Rattle.tree.specs.declared.ops.Value.TheVariants.{Int, Truth}
+use Rattle.tree.proofs.Equations.{reference_of-is, loop_of-is, subscript_of-one, subscript_of-part, expression_of-int, expression_of-truth, expression_of-item, expression_of-un, expression_of-bin, expression_of-call, expression_of-list, expression_of-spread, expression_of-transpose, expression_of-reshape, expression_of-reduce}
+use Rattle.rewrite.specs.Making.{made, made_inside, made_expressions, made_loop, made_parts, made_subscript}
+use Rattle.rewrite.specs.Names.{mentions, uses_in, uses_in_loop, uses_in_loops, uses_in_subscript, uses_in_subscripts, uses_in_expressions}
+use Rattle.rewrite.specs.declared.uses.Use.{Use}
+use Rattle.rewrite.proofs.Equations.{made_is, made_each, made_each_loop, made_each_subscript}
+use Rattle.rewrite.proofs.UseLaws.{each_expression, each_loop, each_subscript}
 use Rattle.subscripts.specs.declared.affine.Affine.{Affine}
 use Rattle.linear_forms.specs.Canonical.{canonical_text, canonising, text_or}
 use Rattle.linear_forms.specs.Linear.{form_of, linear, limited, constant_or, as_constant, constant_value, form_of_name}
@@ -35,7 +35,7 @@ use Rattle.linear_forms.specs.Texts.{text_of}
 use Rattle.linear_forms.specs.declared.forms.Part.{Part}
 use Rattle.linear_forms.proofs.PartLaws.{int_part, truth_part, item_part, call_part, list_part, spread_part, transpose_part, reshape_part, reduce_part}
 use Rattle.linear_forms.proofs.CanonicalRule.{text-found, text-missing}
-use Rattle.fv_meaning.specs.Names.{is_among}
+use Rattle.meaning.specs.Names.{is_among}
 use Rattle.form_rules.specs.Written.{IsReady, IsWritten, AreWritten, AreArguments, SameLoop, SameLoops, SameParts, SameSubscript, SameSubscripts, stands_in, call_of, form_to_write}
 use Rattle.form_rules.specs.declared.nodes.Written.{Written}
 use Rattle.form_rules.specs.declared.nodes.WrittenList.{WrittenList}

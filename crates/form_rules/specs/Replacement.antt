@@ -1,12 +1,12 @@
 -- A replacement as a plain one, and its laws.
 use Rattle.std.specs.Prelude.{ℕ, ℤ, List}
 use Rattle.std.specs.Str.{bytes_eq}
-use Rattle.fv_tree.specs.View.{expression_of}
-use Rattle.fv_meaning.specs.Names.{is_among}
-use Rattle.fv_rewrite.specs.Following.{sequential}
-use Rattle.fv_rewrite.specs.Replacing.{Replacing, replacing, replacing_suits, ValueStandsFor}
-use Rattle.fv_rewrite.specs.Rule.{IsRule}
-use Rattle.fv_rewrite.proofs.Replacing.{replacing_is_rule}
+use Rattle.tree.specs.View.{expression_of}
+use Rattle.meaning.specs.Names.{is_among}
+use Rattle.rewrite.specs.Following.{sequential}
+use Rattle.rewrite.specs.Replacing.{Replacing, replacing, replacing_suits, ValueStandsFor}
+use Rattle.rewrite.specs.Rule.{IsRule}
+use Rattle.rewrite.proofs.Replacing.{replacing_is_rule}
 use Rattle.form_rules.specs.declared.replacement.Replacement.{Replacement}
 
 abbrev pub replacing_of : Replacement → Replacing

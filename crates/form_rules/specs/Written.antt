@@ -2,22 +2,22 @@
 use Rattle.std.specs.Prelude.{◌≡◌, Option, Some, None, ℕ, ◌≤◌, Bool, nat_le, ◌&&◌, if◌then◌else◌, List, ◌++◌, map}
 use Rattle.std.specs.Prelude.{length}
 use Rattle.std.specs.List.{list_any, flat_map}
-use Rattle.fv_tree.specs.Arguments.{added, finished}
-use Rattle.fv_tree.specs.Limits.{nest_depth}
-use Rattle.fv_tree.specs.Plain.{Expression, Apply, Subscript, Reference, expressions}
-use Rattle.fv_tree.specs.View.{ConstructorLoop, expression_of, loop_of, reference_of, subscript_of}
-use Rattle.fv_tree.specs.declared.arguments.Arguments.{Arguments}
-use Rattle.fv_tree.specs.declared.exprs.Expr.{Expr}
-use Rattle.fv_tree.specs.declared.exprs.Ref.{Ref}
-use Rattle.fv_tree.specs.declared.exprs.Sub.{Sub}
-use Rattle.fv_tree.specs.declared.exprs.Turn.{Turn}
-use Rattle.fv_tree.specs.declared.functions.Fun.{Fun}
-use Rattle.fv_tree.specs.declared.lists.Seq.{Seq}
-use Rattle.fv_tree.specs.declared.ops.Value.{Value}
-use Rattle.fv_meaning.specs.Names.{is_among}
-use Rattle.fv_rewrite.specs.Making as making
-use Rattle.fv_rewrite.specs.Names.{mentions, uses_in, uses_in_loop, uses_in_subscript, uses_in_subscripts}
-use Rattle.fv_rewrite.specs.declared.uses.Use.{Use}
+use Rattle.tree.specs.Arguments.{added, finished}
+use Rattle.tree.specs.Limits.{nest_depth}
+use Rattle.tree.specs.Plain.{Expression, Apply, Subscript, Reference, expressions}
+use Rattle.tree.specs.View.{ConstructorLoop, expression_of, loop_of, reference_of, subscript_of}
+use Rattle.tree.specs.declared.arguments.Arguments.{Arguments}
+use Rattle.tree.specs.declared.exprs.Expr.{Expr}
+use Rattle.tree.specs.declared.exprs.Ref.{Ref}
+use Rattle.tree.specs.declared.exprs.Sub.{Sub}
+use Rattle.tree.specs.declared.exprs.Turn.{Turn}
+use Rattle.tree.specs.declared.functions.Fun.{Fun}
+use Rattle.tree.specs.declared.lists.Seq.{Seq}
+use Rattle.tree.specs.declared.ops.Value.{Value}
+use Rattle.meaning.specs.Names.{is_among}
+use Rattle.rewrite.specs.Making as making
+use Rattle.rewrite.specs.Names.{mentions, uses_in, uses_in_loop, uses_in_subscript, uses_in_subscripts}
+use Rattle.rewrite.specs.declared.uses.Use.{Use}
 use Rattle.linear_forms.specs.Canonical.{canonising}
 use Rattle.linear_forms.specs.Linear.{constant_value, known}
 use Rattle.linear_forms.specs.Parts.{IsPartOf}

@@ -2,9 +2,9 @@
 ghost use Rattle.std.specs.Prelude.{◌≤◌, ◌^◌, length};
 
 use crate::trees::{write_expression, write_parts};
-use fv_rewrite::Rule;
-use fv_tree::{Expr, Memory, Name, Ref, Seq};
+use rewrite::Rule;
 use std::alloc::Global;
+use tree::{Expr, Memory, Name, Ref, Seq};
 
 /// The rule by which each node becomes its canonical text, from the leaves up, in which the variable of a loop stood as
 /// it was first written, and which is linear as it is now. So `(I - I + 3) * N + I` becomes `I + 3 * N`.

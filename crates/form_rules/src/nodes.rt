@@ -1,19 +1,19 @@
 //! One node in canonical text, whose parts are so, with what is known of it.
 ghost use Rattle.std.specs.Prelude.{◌≡◌, ◌≤◌, ◌^◌, ◌||◌, List, length, IfOk};
-ghost use Rattle.fv_meaning.specs.Names.{is_among};
-ghost use Rattle.fv_rewrite.specs.Making.{made_parts};
-ghost use Rattle.fv_rewrite.specs.Names.{uses_in_subscripts};
-ghost use Rattle.fv_tree.specs.Plain.{Apply, Binary, Constructor, Expression, Logic, Named, Number, Reduce, Reference};
-ghost use Rattle.fv_tree.specs.Plain.{Reshape, Spread, Transpose, Unary, expressions};
-ghost use Rattle.fv_tree.specs.View.{ConstructorLoop, loops as plain_loops, reference_of};
+ghost use Rattle.meaning.specs.Names.{is_among};
+ghost use Rattle.rewrite.specs.Making.{made_parts};
+ghost use Rattle.rewrite.specs.Names.{uses_in_subscripts};
+ghost use Rattle.tree.specs.Plain.{Apply, Binary, Constructor, Expression, Logic, Named, Number, Reduce, Reference};
+ghost use Rattle.tree.specs.Plain.{Reshape, Spread, Transpose, Unary, expressions};
+ghost use Rattle.tree.specs.View.{ConstructorLoop, loops as plain_loops, reference_of};
 ghost use Rattle.linear_forms.specs.Canonical.{canonising};
 ghost use Rattle.form_rules.specs.Written.{AreArguments, AreWritten, IsReady, IsWritten, SameLoops, call_of};
 ghost use Rattle.form_rules.specs.Written.{form_to_write, stands_in, with_constant};
 
-use fv_tree::{Arguments, Expr, Fun, Memory, Name, Op, Red, Ref, Seq, Turn, Value};
 use linear_forms::{Part, constant_part, express, known, name_form, pair_part, part_of, sign_part};
 use std::alloc::Global;
 use subscripts::Affine;
+use tree::{Arguments, Expr, Fun, Memory, Name, Op, Red, Ref, Seq, Turn, Value};
 
 /// An expression in canonical text, and what is known of it.
 #[derive(Drop)]

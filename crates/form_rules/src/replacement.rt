@@ -1,7 +1,7 @@
 //! A scalar variable replaced by an expression.
-use fv_rewrite::{NodeRule, Rule, is_variable, rewrite_expression, rewrite_parts};
-use fv_tree::{Expr, Memory, Name, Ref, Seq};
+use rewrite::{NodeRule, Rule, is_variable, rewrite_expression, rewrite_parts};
 use std::alloc::Global;
+use tree::{Expr, Memory, Name, Ref, Seq};
 
 /// The rule by which an expression stands for a scalar variable, where the first run alone has the variable and the
 /// second one alone has the new name.
@@ -16,7 +16,7 @@ pub struct Replacement {
 }
 
 impl NodeRule for Replacement {
-    ghost use Rattle.fv_rewrite.specs.Replacing.{replacing};
+    ghost use Rattle.rewrite.specs.Replacing.{replacing};
     ghost use Rattle.form_rules.specs.Replacement.{replacing_of};
 
     ghost making = { λ r. replacing (replacing_of r) };
@@ -30,7 +30,7 @@ impl NodeRule for Replacement {
 }
 
 impl Rule for Replacement {
-    ghost use Rattle.fv_rewrite.specs.Replacing.{replacing, replacing_suits, ValueStandsFor};
+    ghost use Rattle.rewrite.specs.Replacing.{replacing, replacing_suits, ValueStandsFor};
     ghost use Rattle.form_rules.specs.Replacement.{replacing_of, replacement_keeps};
 
     ghost making = { λ r. replacing (replacing_of r) };

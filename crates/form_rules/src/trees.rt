@@ -1,10 +1,10 @@
 //! Trees in canonical text. Each node is looked at once: what is known of it is handed to the node round it.
 ghost use Rattle.std.specs.Prelude.{◌≡◌, ◌≤◌, ◌^◌, List, length, map, IfOk};
-ghost use Rattle.fv_rewrite.specs.Making.{made, made_parts, made_subscript};
-ghost use Rattle.fv_rewrite.specs.Names.{uses_in_loop, uses_in_subscript, uses_in_subscripts};
-ghost use Rattle.fv_tree.specs.Plain.{Apply, Binary, Constructor, Expression, Named, Reduce, Reshape, Spread};
-ghost use Rattle.fv_tree.specs.Plain.{Transpose, Unary, expressions};
-ghost use Rattle.fv_tree.specs.View.{expression_of, loop_of, loops as plain_loops, reference_of, subscript_of};
+ghost use Rattle.rewrite.specs.Making.{made, made_parts, made_subscript};
+ghost use Rattle.rewrite.specs.Names.{uses_in_loop, uses_in_subscript, uses_in_subscripts};
+ghost use Rattle.tree.specs.Plain.{Apply, Binary, Constructor, Expression, Named, Reduce, Reshape, Spread};
+ghost use Rattle.tree.specs.Plain.{Transpose, Unary, expressions};
+ghost use Rattle.tree.specs.View.{expression_of, loop_of, loops as plain_loops, reference_of, subscript_of};
 ghost use Rattle.linear_forms.specs.Canonical.{canonising};
 ghost use Rattle.form_rules.specs.Written.{IsWritten, AreWritten, AreArguments, SameLoop, SameLoops, SameParts};
 ghost use Rattle.form_rules.specs.Written.{SameSubscript, SameSubscripts};
@@ -13,8 +13,8 @@ use crate::nodes::{
     Written, WrittenArguments, WrittenList, called, either, in_pair, listed, number, reduced,
     referred, reshaped, spread, transposed, truth, with_constant, with_sign,
 };
-use fv_tree::{Arguments, Expr, Fun, Memory, Name, Op, Red, Ref, Seq, Sub, Turn};
 use std::alloc::Global;
+use tree::{Arguments, Expr, Fun, Memory, Name, Op, Red, Ref, Seq, Sub, Turn};
 
 /// The expression with each node in canonical text in which the variable of a loop stood, in time linear in its size.
 #[cycle(writing)]

@@ -4,12 +4,12 @@
 ghost use Rattle.std.specs.Prelude.{◌≡◌, ◌⊎◌, IfErr, IfOk, drop};
 ghost use Rattle.std.specs.Vec.Iter.{into_iter_items};
 
-use fv_io::{BufferedSink, StdSink, StdSource};
-use fv_tool::run_tool;
 use std::alloc::{AllocError, Global};
 use std::env;
 use std::io::ErrorKind;
 use std::process::ExitCode;
+use streams::{BufferedSink, StdSink, StdSource};
+use tool::run_tool;
 
 /// There was no memory for the words.
 const NO_MEMORY: u8 = 7;

@@ -4,14 +4,14 @@ use Rattle.std.proofs.lemmas.Grind.{flat_map-append}
 use Rattle.std.proofs.lemmas.List.{append-nil, map-append, take_all}
 use Rattle.std.proofs.lemmas.List.Folds.{list_all_at}
 use Rattle.std.specs.List.{flat_map, list_all}
-use Rattle.fv_tree.specs.Plain.{Statement, block}
-use Rattle.fv_tree.specs.View.{statement_of, block_of}
-use Rattle.fv_tree.specs.declared.lists.Seq.{Seq}
-use Rattle.fv_tree.specs.declared.stmts.Block.{roll-Block}
-use Rattle.fv_tree.proofs.Equations.{block_of-made}
-use Rattle.nest_tree.specs.Plain.{Part}
-use Rattle.fv_tree.specs.declared.stmts.Stmt.{Stmt}
-use Rattle.statement_loops.proofs.StandingLaws.{one_more}
+use Rattle.tree.specs.Plain.{Statement, block}
+use Rattle.tree.specs.View.{statement_of, block_of}
+use Rattle.tree.specs.declared.lists.Seq.{Seq}
+use Rattle.tree.specs.declared.stmts.Block.{roll-Block}
+use Rattle.tree.proofs.Equations.{block_of-made}
+use Rattle.nest.specs.Plain.{Part}
+use Rattle.tree.specs.declared.stmts.Stmt.{Stmt}
+use Rattle.nest.proofs.statement_loops.StandingLaws.{one_more}
 use Rattle.last_values.specs.declared.behind.NestedLoop.{NestedLoop}
 use Rattle.last_values.specs.Behind.{left_behind, values_behind}
 

@@ -1,20 +1,20 @@
 -- An IF with one arm and no ELSE part, as a statement and as a part of a nest.
 use Rattle.std.proofs.Common.{◌≡◌, ℕ, List, [], ◌∷◌, map, ap, ◌∙◌}
-use Rattle.fv_tree.specs.Plain.{If, arm, no_arms, block}
-use Rattle.fv_tree.specs.View.{Tested, expression_of, statement_of, tested_of, block_of, arms}
-use Rattle.fv_tree.specs.declared.lists.Seq.{Seq}
-use Rattle.fv_tree.specs.declared.exprs.Expr.{Expr}
-use Rattle.fv_tree.specs.declared.stmts.Stmt.{Stmt}
-use Rattle.fv_tree.specs.declared.stmts.Stmt.TheVariants as stmts
-use Rattle.fv_tree.specs.declared.stmts.Arm.{Arm, roll-Arm}
-use Rattle.fv_tree.specs.declared.stmts.Block.{Block, roll-Block}
-use Rattle.fv_tree.proofs.Equations.{statement_of-if, tested_of-made, block_of-made}
-use Rattle.nest_tree.specs.declared.parts.Part.{Part}
-use Rattle.nest_tree.specs.declared.parts.Part.TheVariants as variants
-use Rattle.nest_tree.specs.declared.parts.NestArm.{NestArm, roll-NestArm}
-use Rattle.nest_tree.specs.Plain as P
-use Rattle.nest_tree.specs.View.{Branch, branch_of, branches, part_of}
-use Rattle.nest_tree.proofs.Equations.{part_of-choice, branch_of-made}
+use Rattle.tree.specs.Plain.{If, arm, no_arms, block}
+use Rattle.tree.specs.View.{Tested, expression_of, statement_of, tested_of, block_of, arms}
+use Rattle.tree.specs.declared.lists.Seq.{Seq}
+use Rattle.tree.specs.declared.exprs.Expr.{Expr}
+use Rattle.tree.specs.declared.stmts.Stmt.{Stmt}
+use Rattle.tree.specs.declared.stmts.Stmt.TheVariants as stmts
+use Rattle.tree.specs.declared.stmts.Arm.{Arm, roll-Arm}
+use Rattle.tree.specs.declared.stmts.Block.{Block, roll-Block}
+use Rattle.tree.proofs.Equations.{statement_of-if, tested_of-made, block_of-made}
+use Rattle.nest.specs.declared.parts.Part.{Part}
+use Rattle.nest.specs.declared.parts.Part.TheVariants as variants
+use Rattle.nest.specs.declared.parts.NestArm.{NestArm, roll-NestArm}
+use Rattle.nest.specs.Plain as P
+use Rattle.nest.specs.View.{Branch, branch_of, branches, part_of}
+use Rattle.nest.proofs.Equations.{part_of-choice, branch_of-made}
 use Rattle.last_values.specs.Endings.{only_where}
 use Rattle.last_values.specs.InPlace.{only_where_part}
 

@@ -2,16 +2,16 @@
 use Rattle.std.proofs.Common.{◌≡◌, ℕ, false, ◌||◌, if◌then◌else◌, List, [], ◌∷◌, map, refl, ap, ◌∙◌}
 use Rattle.std.specs.List.{list_any}
 use Rattle.std.specs.Str.{bytes_eq}
-use Rattle.fv_tree.specs.View.{expression_of}
-use Rattle.fv_tree.specs.declared.lists.Seq.{Seq}
-use Rattle.nest_tree.specs.declared.parts.Loop.{Loop}
-use Rattle.nest_tree.specs.declared.parts.GuardedStmt.{GuardedStmt}
-use Rattle.nest_tree.specs.declared.parts.Part.{Part}
-use Rattle.nest_tree.specs.declared.parts.Part.TheVariants as variants
-use Rattle.nest_tree.specs.declared.parts.NestArm.{NestArm, out-NestArm}
-use Rattle.nest_tree.specs.Plain as P
-use Rattle.nest_tree.specs.View.{Branch, branch_of, branches, guarded_of, loop_of, part_of}
-use Rattle.nest_tree.proofs.Equations.{part_of-run, part_of-turns, part_of-choice, part_of-label, part_of-jump, branch_of-is}
+use Rattle.tree.specs.View.{expression_of}
+use Rattle.tree.specs.declared.lists.Seq.{Seq}
+use Rattle.nest.specs.declared.parts.Loop.{Loop}
+use Rattle.nest.specs.declared.parts.GuardedStmt.{GuardedStmt}
+use Rattle.nest.specs.declared.parts.Part.{Part}
+use Rattle.nest.specs.declared.parts.Part.TheVariants as variants
+use Rattle.nest.specs.declared.parts.NestArm.{NestArm, out-NestArm}
+use Rattle.nest.specs.Plain as P
+use Rattle.nest.specs.View.{Branch, branch_of, branches, guarded_of, loop_of, part_of}
+use Rattle.nest.proofs.Equations.{part_of-run, part_of-turns, part_of-choice, part_of-label, part_of-jump, branch_of-is}
 use Rattle.last_values.specs.Occurrences.{stands_in, stands_in_statement, stands_in_bounds, stands_outside, stands_outside_in_each, stands_outside_in_branches, stands_outside_in_branch}
 
 each_part : (v : List ℕ) (ps : List P.Part) → stands_outside_in_each v (P.parts ps) ≡ list_any (stands_outside v) ps

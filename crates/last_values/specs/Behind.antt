@@ -3,8 +3,8 @@ use Rattle.std.specs.Prelude.{ℕ, ◌≤◌, pos, ◌<ℤ◌, Option, Some, Non
 use Rattle.std.specs.Prelude.{List, [], length}
 use Rattle.std.specs.List.{list_all, flat_map}
 use Rattle.std.specs.Str.{bytes_eq}
-use Rattle.fv_tree.specs.Plain.{Statement, Block, block}
-use Rattle.nest_tree.specs.Plain.{Part}
+use Rattle.tree.specs.Plain.{Statement, Block, block}
+use Rattle.nest.specs.Plain.{Part}
 use Rattle.last_values.specs.declared.normal_forms.last.LastForms.{LastForms}
 use Rattle.last_values.specs.normal_forms.LastValues.{last_forms, have_plain_trips}
 use Rattle.last_values.specs.declared.behind.NestedLoop.{NestedLoop}

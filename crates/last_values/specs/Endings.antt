@@ -1,11 +1,11 @@
 -- The statements that give the variable of a loop its last value behind all loops. A loop with a turn leaves its
 -- variable with the value behind its last turn; one without a turn leaves it with the lower bound.
 use Rattle.std.specs.Prelude.{ℕ, Option, Some, None, if◌then◌else◌, List, [], ◌∷◌, length}
-use Rattle.fv_tree.specs.Plain.{Expression, Binary, Reference, no_subscripts, Statement, Assignment, If, arm, no_arms}
-use Rattle.fv_tree.specs.Plain.{Block, no_statements, block}
-use Rattle.fv_tree.specs.View.{expression_of}
-use Rattle.fv_tree.specs.declared.ops.Op.TheVariants.{And}
-use Rattle.nest_tree.specs.declared.parts.Trip.{Trip}
+use Rattle.tree.specs.Plain.{Expression, Binary, Reference, no_subscripts, Statement, Assignment, If, arm, no_arms}
+use Rattle.tree.specs.Plain.{Block, no_statements, block}
+use Rattle.tree.specs.View.{expression_of}
+use Rattle.tree.specs.declared.ops.Op.TheVariants.{And}
+use Rattle.nest.specs.declared.parts.Trip.{Trip}
 use Rattle.last_values.specs.declared.normal_forms.loops.NormalLoop.{NormalLoop}
 use Rattle.last_values.specs.declared.normal_forms.last.LastForms.{LastForms}
 use Rattle.last_values.specs.declared.normal_forms.last.LastTexts.{LastTexts}

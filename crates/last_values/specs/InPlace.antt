@@ -1,9 +1,9 @@
 -- The statements that give the variable of a loop its last value in place, before the loop and behind it, over the
 -- counters of the loops round it.
 use Rattle.std.specs.Prelude.{ℕ, None, if◌then◌else◌, List, [], ◌∷◌}
-use Rattle.fv_tree.specs.Plain.{Expression}
+use Rattle.tree.specs.Plain.{Expression}
 use Rattle.linear_forms.specs.Texts.{text_of}
-use Rattle.nest_tree.specs.Plain.{Part, Run, Choice, no_parts, parts, branch, no_branches}
+use Rattle.nest.specs.Plain.{Part, Run, Choice, no_parts, parts, branch, no_branches}
 use Rattle.last_values.specs.declared.normal_forms.loops.NormalLoop.{NormalLoop}
 use Rattle.last_values.specs.normal_forms.NormalLoops.{counters_of, is_positive, is_known}
 use Rattle.last_values.specs.normal_forms.Texts.{trip_text, at_least_one}

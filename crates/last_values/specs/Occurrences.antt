@@ -1,12 +1,12 @@
 -- Where a name stands in a nest. The bounds of a loop stand outside its body.
 use Rattle.std.specs.Prelude.{ℕ, Option, Some, None, Bool, false, not, ◌||◌, if◌then◌else◌, List, ◌∷◌}
 use Rattle.std.specs.Str.{bytes_eq}
-use Rattle.fv_meaning.specs.Reads.{names_in, names_in_subscripts}
-use Rattle.fv_tree.specs.Plain.{Expression, Reference}
-use Rattle.nest_tree.specs.Plain.{Loop, Guarded, Part, Run, Turns, Choice, Label, Jump, Parts, no_parts, part}
-use Rattle.nest_tree.specs.Plain.{Branches, no_branches, branch}
-use Rattle.nest_tree.specs.View.{Branch}
-use Rattle.statement_loops.specs.Standings.{is_among}
+use Rattle.meaning.specs.Reads.{names_in, names_in_subscripts}
+use Rattle.tree.specs.Plain.{Expression, Reference}
+use Rattle.nest.specs.Plain.{Loop, Guarded, Part, Run, Turns, Choice, Label, Jump, Parts, no_parts, part}
+use Rattle.nest.specs.Plain.{Branches, no_branches, branch}
+use Rattle.nest.specs.View.{Branch}
+use Rattle.nest.specs.statement_loops.Standings.{is_among}
 
 module _ (v : List ℕ) where
   abbrev pub stands_in : Expression → Bool

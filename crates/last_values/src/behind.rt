@@ -1,17 +1,17 @@
 //! The variables whose last values stand behind all loops.
 ghost use Rattle.std.specs.Prelude.{◌≡◌, ◌≤◌, All, length, map, IfOk};
 ghost use Rattle.std.specs.List.{list_all};
-ghost use Rattle.fv_tree.specs.View.{statement_of, block_of};
-ghost use Rattle.nest_tree.specs.View.{part_of};
+ghost use Rattle.tree.specs.View.{statement_of, block_of};
+ghost use Rattle.nest.specs.View.{part_of};
 ghost use Rattle.last_values.specs.Behind.{IsNested, ends_behind, may_end_behind, stands_behind, left_behind};
 ghost use Rattle.last_values.specs.Behind.{values_behind};
 
 use crate::endings::after_statements;
 use crate::normal_forms::{NormalLoop, have_plain_trips, last_forms};
 use crate::occurrences::occurs_only_within;
-use fv_tree::{Block, Memory, Name, Seq, Stmt};
-use nest_tree::Part;
+use nest::Part;
 use std::alloc::Global;
+use tree::{Block, Memory, Name, Seq, Stmt};
 
 /// A loop with the loops round it, from the outside in.
 #[derive(Drop)]

@@ -1,9 +1,9 @@
 //! Last values behind all loops.
 ghost use Rattle.std.specs.Prelude.{◌≡◌, ◌≤◌, [], ◌∷◌, pos, ◌<ℤ◌, length, map, IfOk};
 ghost use Rattle.std.specs.Option.{option_map};
-ghost use Rattle.fv_tree.specs.Plain.{Binary};
-ghost use Rattle.fv_tree.specs.declared.ops.Op.TheVariants.{And};
-ghost use Rattle.fv_tree.specs.View.{expression_of, reference_of, statement_of, block_of};
+ghost use Rattle.tree.specs.Plain.{Binary};
+ghost use Rattle.tree.specs.declared.ops.Op.TheVariants.{And};
+ghost use Rattle.tree.specs.View.{expression_of, reference_of, statement_of, block_of};
 ghost use Rattle.last_values.specs.normal_forms.Texts.{at_least_one};
 ghost use Rattle.last_values.specs.Endings.{scalar, assigned, only_where, all_hold, where_all_hold, ending, texts_of};
 ghost use Rattle.last_values.specs.Endings.{ending_behind, after_statements, after_block};
@@ -12,11 +12,11 @@ use crate::normal_forms::{
     LastForms, LastTexts, NormalLoop, at_least_one, have_plain_trips, is_known, is_positive,
     last_forms, last_texts, tests_of,
 };
-use fv_tree::{Arm, Block, Expr, Memory, Name, Op, Ref, Seq, Stmt};
-use nest_tree::Trip;
+use nest::Trip;
 use std::alloc::Global;
+use tree::{Arm, Block, Expr, Memory, Name, Op, Ref, Seq, Stmt, both};
 
-#[tactic(auto, using(fv_tree::proofs::Equations::expression_equations))]
+#[tactic(auto, using(tree::proofs::Equations::expression_equations))]
 pub(crate) fn scalar(alloc: Global, variable: Name) -> Ref
     ensures { reference_of result ≡ scalar variable }
 {
@@ -26,7 +26,7 @@ pub(crate) fn scalar(alloc: Global, variable: Name) -> Ref
     }
 }
 
-#[tactic(auto, using(fv_tree::proofs::Equations::statement_equations))]
+#[tactic(auto, using(tree::proofs::Equations::statement_equations))]
 fn assigned(alloc: Global, line: u32, variable: Name, value: Expr) -> Stmt
     ensures { statement_of result ≡ assigned line variable (expression_of value) }
 {
@@ -39,7 +39,7 @@ fn assigned(alloc: Global, line: u32, variable: Name, value: Expr) -> Stmt
 }
 
 // A block IF without an ELSE part.
-#[tactic(auto, using(fv_tree::proofs::Equations::statement_equations))]
+#[tactic(auto, using(tree::proofs::Equations::statement_equations))]
 fn only_where(alloc: Global, line: u32, test: Expr, stmts: Seq<Stmt>) -> Result<Stmt, Memory>
     ensures { IfOk result (λ stmt. statement_of stmt
         ≡ only_where line (expression_of test) (map statement_of stmts)) }
@@ -53,12 +53,11 @@ fn only_where(alloc: Global, line: u32, test: Expr, stmts: Seq<Stmt>) -> Result<
     Ok(Stmt::If { line, arms, other })
 }
 
-#[tactic(auto, using(fv_tree::proofs::Equations::expression_equations))]
-fn both(alloc: Global, left: Expr, right: Expr) -> Result<Expr, Memory>
+#[tactic(auto, using(tree::proofs::Equations::expression_equations))]
+fn conjunction(alloc: Global, left: Expr, right: Expr) -> Result<Expr, Memory>
     ensures { IfOk result (λ e. expression_of e ≡ Binary And (expression_of left) (expression_of right)) }
 {
-    let left = Box::new(alloc, left)?;
-    let right = Box::new(alloc, right)?;
+    let (left, right) = both(Box::new(alloc, left), Box::new(alloc, right))?;
     Ok(Expr::Bin(Op::And, left, right))
 }
 
@@ -70,7 +69,7 @@ fn all_hold(alloc: Global, first: Expr, rest: &[Expr]) -> Result<Expr, Memory>
         return Ok(first);
     };
     let next = next.copy(alloc)?;
-    all_hold(alloc, both(alloc, first, next)?, rest)
+    all_hold(alloc, conjunction(alloc, first, next)?, rest)
 }
 
 // In one block IF on these conditions, and in none where there are none.
@@ -180,7 +179,7 @@ pub(crate) fn after_statements(
 
 /// The last value of the variable of a loop behind all loops, where the loop's last turn is known and its forms are
 /// within the limits. The loops round it stand from the outside in; the line is that of the statements.
-#[tactic(auto, using(fv_tree::proofs::Equations::statement_equations))]
+#[tactic(auto, using(tree::proofs::Equations::statement_equations))]
 pub fn after_block(
     alloc: Global,
     symbols: &Seq<Name>,

@@ -1,7 +1,7 @@
 //! Last values in place.
 ghost use Rattle.std.specs.Prelude.{◌≡◌, ◌++◌, ◌∷◌, [], map, IfOk, OnErr, OnOk};
-ghost use Rattle.fv_tree.specs.View.{expression_of};
-ghost use Rattle.nest_tree.specs.View.{part_of};
+ghost use Rattle.tree.specs.View.{expression_of};
+ghost use Rattle.nest.specs.View.{part_of};
 ghost use Rattle.last_values.specs.normal_forms.Texts.{at_least_one};
 ghost use Rattle.last_values.specs.InPlace.{first_text, own_trip_text, end_text, assigned_part, only_where_part};
 ghost use Rattle.last_values.specs.InPlace.{end_part, parts_before, parts_behind};
@@ -10,10 +10,10 @@ use crate::endings::scalar;
 use crate::normal_forms::{
     NormalLoop, at_least_one, counters_of, is_known, is_positive, trip_text,
 };
-use fv_tree::{Expr, Memory, Name, Seq};
 use linear_forms::express;
-use nest_tree::{GuardedStmt, NestArm, Part};
+use nest::{GuardedStmt, NestArm, Part};
 use std::alloc::Global;
+use tree::{Expr, Memory, Name, Seq};
 
 fn first_text(
     alloc: Global,
@@ -59,7 +59,7 @@ fn end_text(
     )
 }
 
-#[tactic(auto, using(nest_tree::proofs::Equations::part_equations))]
+#[tactic(auto, using(nest::proofs::Equations::part_equations))]
 fn assigned_part(alloc: Global, line: u32, variable: Name, value: Expr) -> Part
     ensures { part_of result ≡ assigned_part line variable (expression_of value) }
 {
@@ -72,7 +72,7 @@ fn assigned_part(alloc: Global, line: u32, variable: Name, value: Expr) -> Part
 }
 
 // An IF without an ELSE part.
-#[tactic(auto, using(nest_tree::proofs::Equations::part_equations))]
+#[tactic(auto, using(nest::proofs::Equations::part_equations))]
 fn only_where_part(alloc: Global, test: Expr, body: Seq<Part>) -> Result<Part, Memory>
     ensures { IfOk result (λ part. part_of part ≡ only_where_part (expression_of test) (map part_of body)) }
 {

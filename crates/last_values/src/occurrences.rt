@@ -2,16 +2,16 @@
 ghost use Rattle.std.specs.Prelude.{◌≡◌, map};
 ghost use Rattle.std.specs.List.{list_any};
 ghost use Rattle.std.specs.Option.{option_map};
-ghost use Rattle.fv_meaning.specs.Reads.{names_in_subscript};
-ghost use Rattle.fv_tree.specs.View.{expression_of, reference_of, subscript_of};
-ghost use Rattle.nest_tree.specs.View.{branch_of, guarded_of, loop_of, part_of};
-ghost use Rattle.statement_loops.specs.Standings.{is_among};
+ghost use Rattle.meaning.specs.Reads.{names_in_subscript};
+ghost use Rattle.tree.specs.View.{expression_of, reference_of, subscript_of};
+ghost use Rattle.nest.specs.View.{branch_of, guarded_of, loop_of, part_of};
+ghost use Rattle.nest.specs.statement_loops.Standings.{is_among};
 ghost use Rattle.last_values.specs.Occurrences.{stands_in_guard, stands_in_left, stands_in_statement, stands_in_bounds};
 ghost use Rattle.last_values.specs.Occurrences.{stands_outside, stands_outside_in_branch, occurs_only_within};
 
-use fv_tree::{Expr, Name, Ref, Seq, Sub};
-use nest_tree::{GuardedStmt, Loop, NestArm, Part};
-use statement_loops::{stands_in, stands_in_sub};
+use nest::statement_loops::{stands_in, stands_in_sub};
+use nest::{GuardedStmt, Loop, NestArm, Part};
+use tree::{Expr, Name, Ref, Seq, Sub};
 
 fn stands_in_guard(guard: &Option<Expr>, name: Name) -> bool
     ensures { result ≡ stands_in_guard name (option_map expression_of guard.now) }
@@ -33,7 +33,7 @@ fn stands_in_subs(subs: &Seq<Sub>, name: Name) -> bool
     false
 }
 
-#[tactic(auto, using(statement_loops::proofs::AmongLaws::among_laws))]
+#[tactic(auto, using(nest::proofs::statement_loops::AmongLaws::among_laws))]
 fn stands_in_left(left: &Ref, name: Name) -> bool
     ensures { result ≡ stands_in_left name (reference_of left.now) }
 {

@@ -4,11 +4,11 @@ use Rattle.std.specs.Prelude.{slice_get}
 use Rattle.std.specs.Ordering.{int_eq}
 use Rattle.std.proofs.lemmas.Bool.Decides.{Decides-int_eq}
 use mathlib.Core.Path.{ap₂}
-use Rattle.fv_tree.specs.Plain.{Expression}
-use Rattle.fv_tree.specs.Steps.{◌>>=◌}
-use Rattle.fv_meaning.specs.Dialect.{Dialect}
-use Rattle.fv_meaning.specs.Store.{Store, cell_in}
-use Rattle.fv_meaning.specs.Value.{value_of}
+use Rattle.tree.specs.Plain.{Expression}
+use Rattle.tree.specs.Steps.{◌>>=◌}
+use Rattle.meaning.specs.Dialect.{Dialect}
+use Rattle.meaning.specs.Store.{Store, cell_in}
+use Rattle.meaning.specs.Value.{value_of}
 use Rattle.linear_forms.specs.Laws.{AreSized, EachHasValue, AffineHasText, AffineTextHasValue}
 use Rattle.linear_forms.specs.Linear.{HaveValues}
 use Rattle.linear_forms.specs.Expressed.{with_term, with_terms, with_constant, variable, variables}

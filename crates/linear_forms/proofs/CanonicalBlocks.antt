@@ -1,8 +1,8 @@
 -- A block that was brought into canonical text stays as it is.
 use Rattle.std.proofs.Common.{◌≡◌, refl, ap, ℕ, ◌≤◌, List, ◌++◌, length}
 use mathlib.Core.Path.{ap₂}
-use Rattle.fv_tree.specs.Plain.{Expression, Number, Logic, Named, Unary, Binary, Apply, Constructor, Spread, Transpose, Reshape, Reduce, Reference, Item, Single, Constant, ImpliedDo, Items, no_items, item, Statement, Assignment, Where, If, Do, Label, GoTo, Stop, Read, Print, Allocate, Deallocate, Arms, no_arms, arm, Block, no_statements, statement}
-use Rattle.fv_rewrite.specs.Making.{Making, made, made_left, made_input, made_inputs, made_output, made_outputs, made_statement, made_arms, made_block}
+use Rattle.tree.specs.Plain.{Expression, Number, Logic, Named, Unary, Binary, Apply, Constructor, Spread, Transpose, Reshape, Reduce, Reference, Item, Single, Constant, ImpliedDo, Items, no_items, item, Statement, Assignment, Where, If, Do, Label, GoTo, Stop, Read, Print, Allocate, Deallocate, Arms, no_arms, arm, Block, no_statements, statement}
+use Rattle.rewrite.specs.Making.{Making, made, made_left, made_input, made_inputs, made_output, made_outputs, made_statement, made_arms, made_block}
 use Rattle.linear_forms.specs.Canonical.{canonising, AreDistinct, CanonicalBlockStays}
 use Rattle.linear_forms.proofs.CanonicalStays.{twice, each_twice, subscripts_twice}
 

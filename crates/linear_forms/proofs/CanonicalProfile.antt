@@ -7,27 +7,27 @@ use Rattle.std.proofs.lemmas.Bool.{leb-true, leb-false}
 use Rattle.std.proofs.lemmas.Bool.Decides.{Decides-int_eq}
 use Rattle.std.proofs.lemmas.Slice.Eq.{bytes_eq-Decides}
 use Rattle.std.specs.Ordering.{int_eq}
-use Rattle.fv_tree.specs.Operators.{apply, call, on_numbers, on_truths}
-use Rattle.fv_tree.specs.OperatorTable.{operand_kind, result_kind_of}
-use Rattle.fv_tree.specs.Steps.{◌>>=◌}
-use Rattle.fv_tree.specs.declared.ops.Fault.{Fault}
-use Rattle.fv_tree.specs.declared.ops.Kind.{Kind}
-use Rattle.fv_tree.specs.declared.ops.Kind.TheVariants.{Integer}
-use Rattle.fv_tree.specs.declared.ops.Op.{Op}
-use Rattle.fv_tree.specs.declared.ops.Op.TheVariants.{Pow, Mul, Div, Neg, Add, Sub, Lt, Le, Eq, Ne, Gt, Ge, Not, And, Or, Eqv, Neqv}
-use Rattle.fv_tree.specs.declared.ops.Value.{Value}
-use Rattle.fv_tree.specs.declared.ops.Value.TheVariants.{Int, Truth}
-use Rattle.fv_tree.specs.Plain.{Expression, Number, Logic, Named, Unary, Binary, Apply, Constructor, Spread, Transpose, Reshape, Reduce, Expressions, no_expressions, expression, no_subscripts, subscript, Declaration}
-use Rattle.fv_meaning.specs.Depths.{level, enclosed, depth_of}
-use Rattle.fv_meaning.specs.Dialect.{fortran77}
-use Rattle.fv_meaning.specs.Store.{cell_at}
-use Rattle.fv_meaning.specs.Typed.{declared, rank_of_extent}
-use Rattle.fv_meaning.specs.Typed90.{HasKind, AreArguments, IsIntegerScalar, rank_of, rank_of_each}
-use Rattle.fv_meaning.specs.Value.{value_of, values_of, subscript_values, named}
-use Rattle.fv_rewrite.specs.Names.{mentions}
-use Rattle.fv_rewrite.specs.Profile.{TakesPlace}
-use Rattle.fv_rewrite.proofs.ProfileBlocks.{made_block_makes}
-use Rattle.fv_rewrite.proofs.ReplacedProfile.{in_parentheses, kind_of, no_rank}
+use Rattle.tree.specs.Operators.{apply, call, on_numbers, on_truths}
+use Rattle.tree.specs.OperatorTable.{operand_kind, result_kind_of}
+use Rattle.tree.specs.Steps.{◌>>=◌}
+use Rattle.tree.specs.declared.ops.Fault.{Fault}
+use Rattle.tree.specs.declared.ops.Kind.{Kind}
+use Rattle.tree.specs.declared.ops.Kind.TheVariants.{Integer}
+use Rattle.tree.specs.declared.ops.Op.{Op}
+use Rattle.tree.specs.declared.ops.Op.TheVariants.{Pow, Mul, Div, Neg, Add, Sub, Lt, Le, Eq, Ne, Gt, Ge, Not, And, Or, Eqv, Neqv}
+use Rattle.tree.specs.declared.ops.Value.{Value}
+use Rattle.tree.specs.declared.ops.Value.TheVariants.{Int, Truth}
+use Rattle.tree.specs.Plain.{Expression, Number, Logic, Named, Unary, Binary, Apply, Constructor, Spread, Transpose, Reshape, Reduce, Expressions, no_expressions, expression, no_subscripts, subscript, Declaration}
+use Rattle.meaning.specs.Depths.{level, enclosed, depth_of}
+use Rattle.meaning.specs.Dialect.{fortran77}
+use Rattle.meaning.specs.Store.{cell_at}
+use Rattle.meaning.specs.Typed.{declared, rank_of_extent}
+use Rattle.meaning.specs.Typed90.{HasKind, AreArguments, IsIntegerScalar, rank_of, rank_of_each}
+use Rattle.meaning.specs.Value.{value_of, values_of, subscript_values, named}
+use Rattle.rewrite.specs.Names.{mentions}
+use Rattle.rewrite.specs.Profile.{TakesPlace}
+use Rattle.rewrite.proofs.ProfileBlocks.{made_block_makes}
+use Rattle.rewrite.proofs.ReplacedProfile.{in_parentheses, kind_of, no_rank}
 use Rattle.linear_forms.specs.Canonical.{text_or, canonical_text, canonical_node, canonising, all_suit, AreIntegerScalars, CanonisingKeepsProfile, CanonicalBlockKeepsProfile}
 use Rattle.linear_forms.specs.Expressed.{term, plus_term, minus_term, with_term, with_terms, with_constant, expressed, variable, variables}
 use Rattle.linear_forms.specs.Linear.{Form, is_small, all_small, not_zero, is_limited, no_store, constant_of, unit, with_zero, with_no_constant, form_of_sign, form_of_pair, constant_or, linear}

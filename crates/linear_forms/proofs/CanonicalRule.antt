@@ -5,20 +5,20 @@ use Rattle.std.specs.List.{AllByRecursion}
 use Rattle.std.proofs.lemmas.Bool.Decides.{Decides-ltb}
 use Rattle.std.proofs.Math.Nat.{pow-le-pow_right}
 use mathlib.Core.Path.{ap₂}
-use Rattle.fv_tree.specs.Operators.{fits}
-use Rattle.fv_tree.specs.Steps.{◌>>=◌}
-use Rattle.fv_tree.specs.View.{expression_of}
-use Rattle.fv_tree.specs.declared.exprs.Expr.{Expr}
-use Rattle.fv_tree.specs.declared.lists.Memory.{Memory}
-use Rattle.fv_tree.specs.declared.ops.Fault.{Fault}
-use Rattle.fv_tree.specs.declared.ops.Value.{Value}
-use Rattle.fv_tree.specs.declared.ops.Value.TheVariants.{Int, Truth}
-use Rattle.fv_tree.specs.Plain.{Expression, Number, Logic, Named, Unary, Binary, Apply, Constructor, Spread, Transpose, Reshape, Reduce, no_subscripts, Subscripts, Reference}
-use Rattle.fv_meaning.specs.Store.{Store, Cell, put, same_cell, cell_at, cell_in, cells_of, bounds_in}
-use Rattle.fv_meaning.specs.Value.{value_of, subscript_values, item_values, is_in_range}
-use Rattle.fv_rewrite.specs.Following.{sequential}
-use Rattle.fv_rewrite.specs.Names.{mentions}
-use Rattle.fv_rewrite.specs.Rule.{IsRule, HaveInCommon, Assigned, value_between}
+use Rattle.tree.specs.Operators.{fits}
+use Rattle.tree.specs.Steps.{◌>>=◌}
+use Rattle.tree.specs.View.{expression_of}
+use Rattle.tree.specs.declared.exprs.Expr.{Expr}
+use Rattle.tree.specs.declared.lists.Memory.{Memory}
+use Rattle.tree.specs.declared.ops.Fault.{Fault}
+use Rattle.tree.specs.declared.ops.Value.{Value}
+use Rattle.tree.specs.declared.ops.Value.TheVariants.{Int, Truth}
+use Rattle.tree.specs.Plain.{Expression, Number, Logic, Named, Unary, Binary, Apply, Constructor, Spread, Transpose, Reshape, Reduce, no_subscripts, Subscripts, Reference}
+use Rattle.meaning.specs.Store.{Store, Cell, put, same_cell, cell_at, cell_in, cells_of, bounds_in}
+use Rattle.meaning.specs.Value.{value_of, subscript_values, item_values, is_in_range}
+use Rattle.rewrite.specs.Following.{sequential}
+use Rattle.rewrite.specs.Names.{mentions}
+use Rattle.rewrite.specs.Rule.{IsRule, HaveInCommon, Assigned, value_between}
 use Rattle.subscripts.specs.declared.affine.Affine.{Affine}
 use Rattle.linear_forms.specs.Canonical.{text_or, canonical_text, canonical_node, canonising, all_suit, SameSized}
 use Rattle.linear_forms.specs.Laws.{HoldsSized}

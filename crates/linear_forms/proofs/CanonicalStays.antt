@@ -3,11 +3,11 @@ use Rattle.std.proofs.Common.{◌≡◌, refl, sym, ap, ◌∙◌, ℕ, ◌≤�
 use Rattle.std.specs.List.{list_any}
 use Rattle.std.proofs.lemmas.List.Folds.{list_any-append}
 use mathlib.Core.Path.{ap₂}
-use Rattle.fv_tree.specs.Plain.{Expression, Number, Logic, Named, Unary, Binary, Apply, Constructor, Spread, Transpose, Reshape, Reduce, Expressions, no_expressions, expression, Subscript, Only, Section, Subscripts, no_subscripts, subscript, Loops, no_loops, loop}
-use Rattle.fv_meaning.specs.Names.{is_among}
-use Rattle.fv_rewrite.specs.Making.{made, made_expressions, made_subscripts, made_subscript, made_loops}
-use Rattle.fv_rewrite.specs.Names.{mentions, uses_in, uses_in_expressions, uses_in_subscripts, uses_in_subscript, uses_in_loops}
-use Rattle.fv_rewrite.specs.declared.uses.Use.{Use}
+use Rattle.tree.specs.Plain.{Expression, Number, Logic, Named, Unary, Binary, Apply, Constructor, Spread, Transpose, Reshape, Reduce, Expressions, no_expressions, expression, Subscript, Only, Section, Subscripts, no_subscripts, subscript, Loops, no_loops, loop}
+use Rattle.meaning.specs.Names.{is_among}
+use Rattle.rewrite.specs.Making.{made, made_expressions, made_subscripts, made_subscript, made_loops}
+use Rattle.rewrite.specs.Names.{mentions, uses_in, uses_in_expressions, uses_in_subscripts, uses_in_subscript, uses_in_loops}
+use Rattle.rewrite.specs.declared.uses.Use.{Use}
 use Rattle.linear_forms.specs.Canonical.{text_or, canonical_text, canonical_node, canonising, AreDistinct, CanonicalTextStays}
 use Rattle.linear_forms.specs.Linear.{Form, form_of}
 use Rattle.linear_forms.specs.Expressed.{expressed, variables}

@@ -10,20 +10,20 @@ use Rattle.std.proofs.lemmas.List.{get_or-drop}
 use Rattle.std.proofs.lemmas.Slice.Eq.{bytes_eq-Decides}
 use Rattle.std.proofs.Math.IntN.{*ℤ-zero, +ℤ_idl}
 use mathlib.Core.Path.{ap₂}
-use Rattle.fv_tree.specs.Steps.{◌>>=◌}
-use Rattle.fv_tree.specs.Operators.{apply}
-use Rattle.fv_tree.specs.declared.ops.Op.{Op}
-use Rattle.fv_tree.specs.declared.ops.Op.TheVariants.{Mul, Neg, Add, Sub}
-use Rattle.fv_tree.specs.declared.ops.Fault.{Fault}
-use Rattle.fv_tree.specs.declared.ops.Fault.TheVariants.{Allocated}
-use Rattle.fv_tree.specs.declared.ops.Value.{Value}
-use Rattle.fv_tree.specs.declared.ops.Value.TheVariants.{Int}
-use Rattle.fv_tree.specs.Plain.{Expression, Number, Named, Unary, Binary, no_subscripts}
-use Rattle.fv_meaning.specs.Dialect.{fortran77}
-use Rattle.fv_meaning.specs.Names.{is_among}
-use Rattle.fv_meaning.specs.Value.{value_of}
-use Rattle.fv_rewrite.specs.Making.{made}
-use Rattle.fv_rewrite.specs.Names.{mentions}
+use Rattle.tree.specs.Steps.{◌>>=◌}
+use Rattle.tree.specs.Operators.{apply}
+use Rattle.tree.specs.declared.ops.Op.{Op}
+use Rattle.tree.specs.declared.ops.Op.TheVariants.{Mul, Neg, Add, Sub}
+use Rattle.tree.specs.declared.ops.Fault.{Fault}
+use Rattle.tree.specs.declared.ops.Fault.TheVariants.{Allocated}
+use Rattle.tree.specs.declared.ops.Value.{Value}
+use Rattle.tree.specs.declared.ops.Value.TheVariants.{Int}
+use Rattle.tree.specs.Plain.{Expression, Number, Named, Unary, Binary, no_subscripts}
+use Rattle.meaning.specs.Dialect.{fortran77}
+use Rattle.meaning.specs.Names.{is_among}
+use Rattle.meaning.specs.Value.{value_of}
+use Rattle.rewrite.specs.Making.{made}
+use Rattle.rewrite.specs.Names.{mentions}
 use Rattle.linear_forms.specs.Canonical.{text_or, canonical_text, canonical_node, canonising, AreDistinct}
 use Rattle.linear_forms.specs.Linear.{Form, added, sum, multiple, constant_form, is_small, all_small, not_zero, is_limited, limited, no_store, known, as_constant, constant_of, unit, with_zero, with_no_constant, form_of, form_of_name, form_of_pair, form_of_sign, constant_or, linear}
 use Rattle.linear_forms.specs.Expressed.{term, plus_term, minus_term, with_term, with_terms, with_constant, expressed, variable, variables}

@@ -6,17 +6,17 @@ use Rattle.std.proofs.lemmas.Bool.{leb-true, eqb-true}
 use Rattle.std.proofs.lemmas.Int.{ints}
 use Rattle.std.proofs.Math.IntN.{zero-*ℤ, +ℤ_idl, +ℤ_assoc}
 use Rattle.std.proofs.Math.Nat.{mul-le-mul_right, suc-mul}
-use Rattle.fv_tree.specs.Operators.{apply, number}
-use Rattle.fv_tree.specs.Steps.{◌>>=◌}
-use Rattle.fv_tree.specs.declared.ops.Op.TheVariants.{Mul, Neg, Add, Sub}
-use Rattle.fv_tree.specs.declared.ops.Fault.{Fault}
-use Rattle.fv_tree.specs.declared.ops.Fault.TheVariants.{Overflow}
-use Rattle.fv_tree.specs.declared.ops.Value.{Value}
-use Rattle.fv_tree.specs.declared.ops.Value.TheVariants.{Int}
-use Rattle.fv_tree.specs.Plain.{Expression, Number, Binary}
-use Rattle.fv_meaning.specs.Dialect.{Dialect}
-use Rattle.fv_meaning.specs.Store.{Store}
-use Rattle.fv_meaning.specs.Value.{value_of}
+use Rattle.tree.specs.Operators.{apply, number}
+use Rattle.tree.specs.Steps.{◌>>=◌}
+use Rattle.tree.specs.declared.ops.Op.TheVariants.{Mul, Neg, Add, Sub}
+use Rattle.tree.specs.declared.ops.Fault.{Fault}
+use Rattle.tree.specs.declared.ops.Fault.TheVariants.{Overflow}
+use Rattle.tree.specs.declared.ops.Value.{Value}
+use Rattle.tree.specs.declared.ops.Value.TheVariants.{Int}
+use Rattle.tree.specs.Plain.{Expression, Number, Binary}
+use Rattle.meaning.specs.Dialect.{Dialect}
+use Rattle.meaning.specs.Store.{Store}
+use Rattle.meaning.specs.Value.{value_of}
 use Rattle.linear_forms.specs.Laws.{AreSized, EachHasValue, TextHasValue}
 use Rattle.linear_forms.specs.Linear.{Form, weighted, number_at, is_small, all_small, not_zero, is_limited}
 use Rattle.linear_forms.specs.Expressed.{term, plus_term, minus_term, with_term, with_terms, with_constant, expressed}

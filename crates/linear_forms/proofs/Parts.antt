@@ -1,7 +1,7 @@
 -- Two steps that gave an answer.
 use Rattle.std.proofs.Common.{◌≡◌, refl, ap, ◌∙◌, Result, Ok, Err}
-use Rattle.fv_tree.specs.Steps.{◌>>=◌}
-use Rattle.fv_tree.specs.declared.ops.Fault.{Fault}
+use Rattle.tree.specs.Steps.{◌>>=◌}
+use Rattle.tree.specs.declared.ops.Fault.{Fault}
 
 pub record Parted {A B : Type 0} (r : Result A Fault) (f : A → Result B Fault) (y : B) : Type 0 where
   pub part : A

@@ -8,7 +8,7 @@ use Rattle.std.proofs.lemmas.Int.{ints, unsigned_abs-mul}
 use Rattle.std.proofs.Math.IntN.{zero-*ℤ, +ℤ_idl}
 use Rattle.std.proofs.Math.Nat.{mul-le-mul_left, mul-le-mul_right}
 use Rattle.std.proofs.Math.Nat.{suc-mul}
-use Rattle.fv_tree.specs.Operators.{fits}
+use Rattle.tree.specs.Operators.{fits}
 use Rattle.linear_forms.specs.Laws.{AreSized}
 use Rattle.linear_forms.specs.Linear.{Form, weighted, number_at, is_small, all_small, not_zero, is_limited}
 

@@ -1,14 +1,14 @@
 -- What has a value where no name has a cell has that value everywhere.
 use Rattle.std.proofs.Common.{◌≡◌, List, ◌∷◌, Ok}
-use Rattle.fv_tree.specs.Operators.{apply, call}
-use Rattle.fv_tree.specs.Steps.{◌>>=◌}
-use Rattle.fv_tree.specs.declared.ops.Value.{Value}
-use Rattle.fv_tree.specs.Plain.{Expression, Number, Logic, Named, Unary, Binary, Apply, Constructor, Spread, Transpose, Reshape, Reduce, Expressions, no_expressions, expression}
-use Rattle.fv_meaning.specs.Dialect.{Dialect, fortran77}
-use Rattle.fv_meaning.specs.Store.{Store, cell_at}
-use Rattle.fv_meaning.specs.Value.{value_of, values_of}
+use Rattle.tree.specs.Operators.{apply, call}
+use Rattle.tree.specs.Steps.{◌>>=◌}
+use Rattle.tree.specs.declared.ops.Value.{Value}
+use Rattle.tree.specs.Plain.{Expression, Number, Logic, Named, Unary, Binary, Apply, Constructor, Spread, Transpose, Reshape, Reduce, Expressions, no_expressions, expression}
+use Rattle.meaning.specs.Dialect.{Dialect, fortran77}
+use Rattle.meaning.specs.Store.{Store, cell_at}
+use Rattle.meaning.specs.Value.{value_of, values_of}
 use Rattle.linear_forms.proofs.Parts.{parted, joined}
-use Rattle.fv_meaning.specs.Value.{subscript_values}
+use Rattle.meaning.specs.Value.{subscript_values}
 use Rattle.linear_forms.specs.Linear.{no_store}
 
 module _ (lang : Dialect) (s : Store) where

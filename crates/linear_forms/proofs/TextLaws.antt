@@ -2,19 +2,19 @@
 use Rattle.std.proofs.Common.{◌≡◌, refl, sym, ap, ◌∙◌, subst, ℕ, zero, suc, ℤ, pos, negsuc, Option, Some, None, List, [], ◌∷◌, ◌≤ℤ◌, ◌<ℤ◌, arith}
 use Rattle.std.proofs.Common.{Result, Ok, Err}
 use Rattle.std.specs.Prelude.{unsigned_abs, IfOk, slice_get}
-use Rattle.fv_tree.specs.declared.exprs.Expr.{Expr}
-use Rattle.fv_tree.specs.declared.lists.Memory.{Memory}
+use Rattle.tree.specs.declared.exprs.Expr.{Expr}
+use Rattle.tree.specs.declared.lists.Memory.{Memory}
 use Rattle.linear_forms.specs.Texts.{text_so_far, with_place, with_symbols, places_behind}
 use Rattle.std.proofs.lemmas.Int.{ints}
 use Rattle.std.proofs.Common.{map, length, ◌-◌}
-use Rattle.fv_tree.specs.Plain.{Expression, Number, Unary, Binary, Named, Reference, subscripts}
-use Rattle.fv_tree.specs.View.{expression_of, subscript_of}
-use Rattle.fv_tree.specs.declared.lists.Seq.{Seq}
-use Rattle.fv_tree.specs.declared.exprs.Expr.TheVariants as exprs
-use Rattle.fv_tree.specs.declared.exprs.Ref.{roll-Ref}
-use Rattle.fv_tree.specs.declared.exprs.Sub.{Sub as Part}
-use Rattle.fv_tree.proofs.Equations.{expression_of-item, reference_of-made}
-use Rattle.fv_tree.specs.declared.ops.Op.TheVariants.{Neg, Add, Sub}
+use Rattle.tree.specs.Plain.{Expression, Number, Unary, Binary, Named, Reference, subscripts}
+use Rattle.tree.specs.View.{expression_of, subscript_of}
+use Rattle.tree.specs.declared.lists.Seq.{Seq}
+use Rattle.tree.specs.declared.exprs.Expr.TheVariants as exprs
+use Rattle.tree.specs.declared.exprs.Ref.{roll-Ref}
+use Rattle.tree.specs.declared.exprs.Sub.{Sub as Part}
+use Rattle.tree.proofs.Equations.{expression_of-item, reference_of-made}
+use Rattle.tree.specs.declared.ops.Op.TheVariants.{Neg, Add, Sub}
 use Rattle.linear_forms.specs.Expressed.{term, plus_term, minus_term, with_term, with_constant, variable}
 
 pub term_zero : (o : Option Expression) (c : ℤ) (t : Expression) → c ≡ pos 0 → with_term o c t ≡ o

@@ -7,17 +7,17 @@ use Rattle.std.proofs.lemmas.Int.{ints}
 use Rattle.std.proofs.lemmas.Slice.Eq.{bytes_eq-Decides}
 use Rattle.std.proofs.Math.IntN.{*ℤ_comm, *ℤ-zero, +ℤ_idl, zero-*ℤ}
 use mathlib.Core.Path.{ap₂}
-use Rattle.fv_tree.specs.Operators.{apply}
-use Rattle.fv_tree.specs.Steps.{◌>>=◌}
-use Rattle.fv_tree.specs.declared.ops.Op.{Op}
-use Rattle.fv_tree.specs.declared.ops.Op.TheVariants.{Mul, Neg, Add, Sub}
-use Rattle.fv_tree.specs.declared.ops.Fault.{Fault}
-use Rattle.fv_tree.specs.declared.ops.Value.{Value}
-use Rattle.fv_tree.specs.declared.ops.Value.TheVariants.{Int, Truth}
-use Rattle.fv_tree.specs.Plain.{Expression, Number, Logic, Named, Unary, Binary, Apply, Constructor, Spread, Transpose, Reshape, Reduce, Subscripts, no_subscripts, subscript}
-use Rattle.fv_meaning.specs.Dialect.{Dialect, fortran77}
-use Rattle.fv_meaning.specs.Store.{Store, Cell, cell_in}
-use Rattle.fv_meaning.specs.Value.{value_of}
+use Rattle.tree.specs.Operators.{apply}
+use Rattle.tree.specs.Steps.{◌>>=◌}
+use Rattle.tree.specs.declared.ops.Op.{Op}
+use Rattle.tree.specs.declared.ops.Op.TheVariants.{Mul, Neg, Add, Sub}
+use Rattle.tree.specs.declared.ops.Fault.{Fault}
+use Rattle.tree.specs.declared.ops.Value.{Value}
+use Rattle.tree.specs.declared.ops.Value.TheVariants.{Int, Truth}
+use Rattle.tree.specs.Plain.{Expression, Number, Logic, Named, Unary, Binary, Apply, Constructor, Spread, Transpose, Reshape, Reduce, Subscripts, no_subscripts, subscript}
+use Rattle.meaning.specs.Dialect.{Dialect, fortran77}
+use Rattle.meaning.specs.Store.{Store, Cell, cell_in}
+use Rattle.meaning.specs.Value.{value_of}
 use Rattle.linear_forms.proofs.Parts.{parted}
 use Rattle.linear_forms.specs.Laws.{AreSized, HoldsSized, TextKeepsValue}
 use Rattle.linear_forms.specs.Linear.{Form, weighted, number_at, added, sum, multiple, constant_form, is_limited, no_store, constant_of, unit, with_zero, with_no_constant, form_of_name, form_of_sign, form_of_product, form_of_two, form_of_pair, constant_or, linear}

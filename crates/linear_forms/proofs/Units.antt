@@ -5,11 +5,11 @@ use Rattle.std.specs.List.{position, position_or_len}
 use Rattle.std.specs.Str.{bytes_eq}
 use Rattle.std.proofs.lemmas.Bool.{le-leb, ltb-false}
 use Rattle.std.proofs.lemmas.Bool.Decides.{Decides-ltb}
-use Rattle.fv_tree.specs.Plain.{Reference, subscripts}
-use Rattle.fv_tree.specs.View.{reference_of, subscript_of}
-use Rattle.fv_tree.specs.declared.exprs.Sub.{Sub}
-use Rattle.fv_tree.specs.declared.exprs.Ref.{Ref, out-Ref}
-use Rattle.fv_tree.proofs.Equations.{reference_of-is}
+use Rattle.tree.specs.Plain.{Reference, subscripts}
+use Rattle.tree.specs.View.{reference_of, subscript_of}
+use Rattle.tree.specs.declared.exprs.Sub.{Sub}
+use Rattle.tree.specs.declared.exprs.Ref.{Ref, out-Ref}
+use Rattle.tree.proofs.Equations.{reference_of-is}
 use Rattle.linear_forms.specs.Linear.{is_small, all_small, not_zero, is_limited, limited, unit, with_zero, with_no_constant, form_of_name}
 use Rattle.linear_forms.specs.Places.{terms_from, padded, unit_form, IsFound}
 use Rattle.linear_forms.proofs.Combining.{found}

@@ -2,16 +2,16 @@
 use Rattle.std.specs.Prelude.{◌≡◌, Option, Some, None, ℕ, ◌+◌, ◌≤◌, IsTrue, true, false}
 use Rattle.std.specs.Prelude.{if◌then◌else◌, List, []}
 use Rattle.std.specs.Prelude.{◌∷◌, ◌++◌, length}
-use Rattle.fv_tree.specs.Limits.{expression_depth90}
-use Rattle.fv_tree.specs.Plain.{Expression, Block, Declaration, Program}
-use Rattle.fv_meaning.specs.Names.{is_among}
-use Rattle.fv_meaning.specs.Profile90.{AreDeclarations, IsProgram90}
-use Rattle.fv_meaning.specs.Store.{Store, Cell}
-use Rattle.fv_meaning.specs.Typed90.{IsIntegerScalar}
-use Rattle.fv_meaning.specs.Value.{is_in_range}
-use Rattle.fv_rewrite.specs.Making.{Making, Suiting, made, made_block}
-use Rattle.fv_rewrite.specs.Names.{mentions}
-use Rattle.fv_rewrite.specs.Profile.{KeepsProfile, DeclaresAlso, deepest_in, with_block}
+use Rattle.tree.specs.Limits.{expression_depth90}
+use Rattle.tree.specs.Plain.{Expression, Block, Declaration, Program}
+use Rattle.meaning.specs.Names.{is_among}
+use Rattle.meaning.specs.Profile90.{AreDeclarations, IsProgram90}
+use Rattle.meaning.specs.Store.{Store, Cell}
+use Rattle.meaning.specs.Typed90.{IsIntegerScalar}
+use Rattle.meaning.specs.Value.{is_in_range}
+use Rattle.rewrite.specs.Making.{Making, Suiting, made, made_block}
+use Rattle.rewrite.specs.Names.{mentions}
+use Rattle.rewrite.specs.Profile.{KeepsProfile, DeclaresAlso, deepest_in, with_block}
 use Rattle.linear_forms.specs.Linear.{Form, form_of}
 use Rattle.linear_forms.specs.Expressed.{expressed, variables}
 

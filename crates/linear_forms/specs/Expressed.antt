@@ -1,7 +1,7 @@
 -- The canonical text of a linear form: its terms in the order of their places, and then its constant.
 use Rattle.std.specs.Prelude.{ℕ, suc, zero, ◌==◌, ℤ, pos, negsuc, if◌then◌else◌, Option, Some, None, List, [], ◌∷◌, map}
-use Rattle.fv_tree.specs.Plain.{Expression, Number, Named, Unary, Binary, no_subscripts}
-use Rattle.fv_tree.specs.declared.ops.Op.TheVariants.{Mul, Neg, Add, Sub}
+use Rattle.tree.specs.Plain.{Expression, Number, Named, Unary, Binary, no_subscripts}
+use Rattle.tree.specs.declared.ops.Op.TheVariants.{Mul, Neg, Add, Sub}
 use Rattle.linear_forms.specs.Linear.{Form}
 
 -- a coefficient 1 isn't written

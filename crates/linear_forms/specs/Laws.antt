@@ -1,12 +1,12 @@
 -- Laws of linear forms.
 use Rattle.std.specs.Prelude.{◌≡◌, Ok, Some, ℕ, ◌≤◌, ◌^◌, ℤ, nat_abs, IsTrue}
 use Rattle.std.specs.Prelude.{List, [], ◌∷◌, ◌++◌, length}
-use Rattle.fv_tree.specs.Plain.{Expression}
-use Rattle.fv_tree.specs.declared.ops.Value.{Value}
-use Rattle.fv_tree.specs.declared.ops.Value.TheVariants.{Int}
-use Rattle.fv_meaning.specs.Dialect.{Dialect}
-use Rattle.fv_meaning.specs.Store.{Store, Cell}
-use Rattle.fv_meaning.specs.Value.{value_of}
+use Rattle.tree.specs.Plain.{Expression}
+use Rattle.tree.specs.declared.ops.Value.{Value}
+use Rattle.tree.specs.declared.ops.Value.TheVariants.{Int}
+use Rattle.meaning.specs.Dialect.{Dialect}
+use Rattle.meaning.specs.Store.{Store, Cell}
+use Rattle.meaning.specs.Value.{value_of}
 use Rattle.subscripts.specs.declared.affine.Affine.{Affine}
 use Rattle.linear_forms.specs.Linear.{Form, number_at, HaveValues, is_limited, form_of}
 use Rattle.linear_forms.specs.Expressed.{variables, expressed}

@@ -4,17 +4,17 @@ use Rattle.std.specs.Prelude.{◌≡◌, Result, Ok, Err, Option, Some, None, �
 use Rattle.std.specs.Prelude.{◌*ℤ◌, nat_abs, Bool, true, ◌&&◌, if◌then◌else◌, List, [], ◌∷◌, ◌++◌, map, drop, length}
 use Rattle.std.specs.Ordering.{int_eq}
 use Rattle.std.specs.Str.{bytes_eq}
-use Rattle.fv_tree.specs.Limits.{form_coefficient, nest_depth}
-use Rattle.fv_tree.specs.Plain.{Expression, Number, Logic, Named, Unary, Binary, Apply}
-use Rattle.fv_tree.specs.Plain.{Subscripts, no_subscripts, subscript}
-use Rattle.fv_tree.specs.declared.ops.Op.{Op}
-use Rattle.fv_tree.specs.declared.ops.Op.TheVariants.{Mul, Neg, Add, Sub}
-use Rattle.fv_tree.specs.declared.ops.Value.{Value}
-use Rattle.fv_tree.specs.declared.ops.Value.TheVariants.{Int, Truth}
-use Rattle.fv_tree.specs.declared.ops.Fault.{Fault}
-use Rattle.fv_meaning.specs.Dialect.{fortran77}
-use Rattle.fv_meaning.specs.Store.{Store}
-use Rattle.fv_meaning.specs.Value.{value_of}
+use Rattle.tree.specs.Limits.{form_coefficient, nest_depth}
+use Rattle.tree.specs.Plain.{Expression, Number, Logic, Named, Unary, Binary, Apply}
+use Rattle.tree.specs.Plain.{Subscripts, no_subscripts, subscript}
+use Rattle.tree.specs.declared.ops.Op.{Op}
+use Rattle.tree.specs.declared.ops.Op.TheVariants.{Mul, Neg, Add, Sub}
+use Rattle.tree.specs.declared.ops.Value.{Value}
+use Rattle.tree.specs.declared.ops.Value.TheVariants.{Int, Truth}
+use Rattle.tree.specs.declared.ops.Fault.{Fault}
+use Rattle.meaning.specs.Dialect.{fortran77}
+use Rattle.meaning.specs.Store.{Store}
+use Rattle.meaning.specs.Value.{value_of}
 
 -- The coefficients go with the places of a list: the loops from the outside in, the symbols, and behind them divided
 -- trips, each of which counts as one further symbol. Coefficients past the end are 0

@@ -1,6 +1,6 @@
 -- What is known of the parts of an expression.
 use Rattle.std.specs.Prelude.{◌≡◌, Option, Some, ℕ, ℤ, List}
-use Rattle.fv_tree.specs.Plain.{Expression}
+use Rattle.tree.specs.Plain.{Expression}
 use Rattle.linear_forms.specs.Linear.{Form, constant_value, linear}
 use Rattle.linear_forms.specs.Places.{IsFound}
 use Rattle.linear_forms.specs.declared.forms.Part.{Part}

@@ -1,9 +1,9 @@
 -- The canonical text of an affine form, over the names of its loops and symbols, and divided trips.
 use Rattle.std.specs.Prelude.{ℕ, ℤ, Option, Some, None, List, [], ◌∷◌, ◌++◌, slice_get}
 use Rattle.std.specs.Option.{option_map}
-use Rattle.fv_tree.specs.Plain.{Expression}
-use Rattle.fv_tree.specs.View.{expression_of}
-use Rattle.fv_tree.specs.declared.exprs.Expr.{Expr}
+use Rattle.tree.specs.Plain.{Expression}
+use Rattle.tree.specs.View.{expression_of}
+use Rattle.tree.specs.declared.exprs.Expr.{Expr}
 use Rattle.subscripts.specs.declared.affine.Affine.{Affine}
 use Rattle.linear_forms.specs.Expressed.{with_term, with_terms, with_constant, variables}
 

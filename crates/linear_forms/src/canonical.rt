@@ -1,12 +1,12 @@
 //! Canonical text.
 ghost use Rattle.std.specs.Prelude.{◌≡◌, ◌≤◌, ◌^◌, length, IfOk};
-ghost use Rattle.fv_tree.specs.View.{expression_of};
+ghost use Rattle.tree.specs.View.{expression_of};
 ghost use Rattle.linear_forms.specs.Canonical.{canonical_text};
 
 use crate::forms::linear;
 use crate::texts::express;
-use fv_tree::{Expr, Memory, Name, Seq};
 use std::alloc::Global;
+use tree::{Expr, Memory, Name, Seq};
 
 /// The canonical text of an expression that is linear in these loops and symbols; any other expression as it is.
 pub fn canonical_text(

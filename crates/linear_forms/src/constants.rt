@@ -1,10 +1,10 @@
 //! Constants.
 ghost use Rattle.std.specs.Prelude.{◌≡◌, map};
-ghost use Rattle.fv_tree.specs.Plain.{Apply, expressions};
-ghost use Rattle.fv_tree.specs.View.{expression_of};
+ghost use Rattle.tree.specs.Plain.{Apply, expressions};
+ghost use Rattle.tree.specs.View.{expression_of};
 ghost use Rattle.linear_forms.specs.Linear.{constant_value, known};
 
-use fv_tree::{Arguments, Expr, Fault, Fun, Seq, Value};
+use tree::{Arguments, Expr, Fault, Fun, Seq, Value};
 
 /// The value, where there is one.
 pub fn known(given: Result<Value, Fault>) -> Option<Value>

@@ -2,17 +2,17 @@
 ghost use Rattle.std.specs.Prelude.{◌≡◌, ◌≤◌, ◌<◌, ◌+◌, ◌++◌, ◌^◌, ℕ, List, length, Option, Some, None};
 ghost use Rattle.std.specs.List.{position};
 ghost use Rattle.std.specs.Str.{bytes_eq};
-ghost use Rattle.fv_tree.specs.View.{expression_of, reference_of};
+ghost use Rattle.tree.specs.View.{expression_of, reference_of};
 ghost use Rattle.linear_forms.specs.Linear.{Form, linear, form_of, limited, constant_or, as_constant, form_of_name};
 ghost use Rattle.linear_forms.specs.Linear.{constant_value, form_of_sign, form_of_pair, form_of_product};
 ghost use Rattle.linear_forms.specs.Parts.{HasConstant, IsPartOf};
 ghost use Rattle.linear_forms.specs.Places.{IsFound, IsAffineOf, unit_form};
-ghost use Rattle.fv_tree.specs.Plain.{Expression, Unary, Binary};
+ghost use Rattle.tree.specs.Plain.{Expression, Unary, Binary};
 
 use crate::constants::{constant_value, known};
 use crate::terms::{ZERO, combined, constant_form};
-use fv_tree::{Expr, Name, Op, Ref, Seq, Value};
 use subscripts::Affine;
+use tree::{Expr, Name, Op, Ref, Seq, Value};
 
 /// What is known of a part of an expression: its value where it is constant, and its form.
 #[derive(Clone, Copy, Debug)]

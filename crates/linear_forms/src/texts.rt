@@ -1,17 +1,17 @@
 //! The canonical text of a form.
 ghost use Rattle.std.specs.Prelude.{◌≡◌, IfOk, pos, map, slice_get};
-ghost use Rattle.fv_tree.specs.Plain.{Binary, Unary, Number};
-ghost use Rattle.fv_tree.specs.declared.ops.Op.TheVariants.{Neg};
-ghost use Rattle.fv_tree.specs.View.{expression_of};
+ghost use Rattle.tree.specs.Plain.{Binary, Unary, Number};
+ghost use Rattle.tree.specs.declared.ops.Op.TheVariants.{Neg};
+ghost use Rattle.tree.specs.View.{expression_of};
 ghost use Rattle.linear_forms.specs.Expressed.{term, plus_term, minus_term, with_term, with_terms, with_constant};
 ghost use Rattle.linear_forms.specs.Expressed.{variable, variables};
 ghost use Rattle.linear_forms.specs.Texts.{text_so_far, with_place, with_symbols, places_behind, text_of};
 
-use fv_tree::{Expr, Memory, Name, Op, Ref, Seq};
 use std::alloc::Global;
 use subscripts::Affine;
+use tree::{Expr, Memory, Name, Op, Ref, Seq};
 
-#[tactic(auto, using(fv_tree::proofs::Equations::expression_equations))]
+#[tactic(auto, using(tree::proofs::Equations::expression_equations))]
 fn bare(alloc: Global, name: Name) -> Expr
     ensures { expression_of result ≡ variable name }
 {
@@ -21,7 +21,7 @@ fn bare(alloc: Global, name: Name) -> Expr
     })
 }
 
-#[tactic(auto, using(fv_tree::proofs::Equations::expression_equations))]
+#[tactic(auto, using(tree::proofs::Equations::expression_equations))]
 fn two(alloc: Global, op: Op, left: Expr, right: Expr) -> Result<Expr, Memory>
     ensures { IfOk result (λ e. expression_of e ≡ Binary op (expression_of left) (expression_of right)) }
 {
@@ -30,7 +30,7 @@ fn two(alloc: Global, op: Op, left: Expr, right: Expr) -> Result<Expr, Memory>
     Ok(Expr::Bin(op, left, right))
 }
 
-#[tactic(auto, using(fv_tree::proofs::Equations::expression_equations))]
+#[tactic(auto, using(tree::proofs::Equations::expression_equations))]
 fn negative(alloc: Global, expr: Expr) -> Result<Expr, Memory>
     ensures { IfOk result (λ e. expression_of e ≡ Unary Neg (expression_of expr)) }
 {
@@ -38,7 +38,7 @@ fn negative(alloc: Global, expr: Expr) -> Result<Expr, Memory>
     Ok(Expr::Un(Op::Neg, expr))
 }
 
-#[tactic(auto, using(fv_tree::proofs::Equations::expression_equations))]
+#[tactic(auto, using(tree::proofs::Equations::expression_equations))]
 fn number(size: u64) -> Expr
     ensures { expression_of result ≡ Number (pos size) }
 {

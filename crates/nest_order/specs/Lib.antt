@@ -1,7 +1,4 @@
-pub mod Emission
-pub mod Graphs
-pub mod Laws
-pub mod Lists
-pub mod Nests
-pub mod Orders
-pub mod Shapes
+pub mod facts
+pub mod orders
+pub mod runs
+pub mod shapes

@@ -1,6 +1,7 @@
-//! Orders of the instances of a nest that keep its dependences.
+//! Laws of the order of a nest's instances, and of what its run does in such an order.
 #![tactic(auto)]
 
-mod laws;
-
-pub use laws::{edges_in_sequence, instances_in_sequence, recursive_emission};
+pub mod facts;
+pub mod orders;
+pub mod runs;
+pub mod shapes;

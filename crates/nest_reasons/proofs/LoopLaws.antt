@@ -1,10 +1,10 @@
 -- Loops in lists of statements and of arms.
 use Rattle.std.proofs.Common.{◌≡◌, ℕ, Bool, List, [], ◌∷◌, ◌||◌, map, refl, ap, ◌∙◌}
 use Rattle.std.specs.List.{list_any}
-use Rattle.fv_tree.specs.Plain.{Expression, Statement, Block, block}
-use Rattle.fv_tree.specs.View.{statement_of, block_of, arms, Tested}
-use Rattle.fv_tree.specs.declared.stmts.Block.{Block as Block', out-Block}
-use Rattle.fv_tree.proofs.Equations.{statement_equations, block_of-is}
+use Rattle.tree.specs.Plain.{Expression, Statement, Block, block}
+use Rattle.tree.specs.View.{statement_of, block_of, arms, Tested}
+use Rattle.tree.specs.declared.stmts.Block.{Block as Block', out-Block}
+use Rattle.tree.proofs.Equations.{statement_equations, block_of-is}
 use Rattle.nest_reasons.specs.Loops.{any_loop, any_in_arm, any_in_arms, any_in_block}
 
 module _ (test : List (List ℕ) → Expression → Expression → Expression → Block → Bool) (around : List (List ℕ)) where

@@ -2,10 +2,10 @@
 use Rattle.std.proofs.Common.{◌≡◌, Bool, List, [], ◌∷◌, ◌++◌, map, refl, ap, ◌∙◌, append_assoc}
 use Rattle.std.specs.List.{flat_map}
 use Rattle.std.proofs.lemmas.List.{append-nil}
-use Rattle.fv_tree.specs.Plain.{Statement, block}
-use Rattle.fv_tree.specs.View.{statement_of, block_of, arms, Tested}
-use Rattle.fv_tree.specs.declared.stmts.Block.{Block, out-Block}
-use Rattle.fv_tree.proofs.Equations.{statement_equations, block_of-is}
+use Rattle.tree.specs.Plain.{Statement, block}
+use Rattle.tree.specs.View.{statement_of, block_of, arms, Tested}
+use Rattle.tree.specs.declared.stmts.Block.{Block, out-Block}
+use Rattle.tree.proofs.Equations.{statement_equations, block_of-is}
 use Rattle.nest_reasons.specs.Marks.{own_marks, marks_in_arm, marks_in_arms, marks_in_block}
 
 pub each_arm : (ts : List Tested) → marks_in_arms (arms ts) ≡ flat_map marks_in_arm ts

@@ -1,7 +1,7 @@
 -- Increments of loops.
 use Rattle.std.specs.Prelude.{Option, Some, None, ◌^◌, nat_le, ℤ, pos, nat_abs, Bool, not, ◌&&◌, if◌then◌else◌}
 use Rattle.std.specs.Ordering.{int_eq}
-use Rattle.fv_tree.specs.Plain.{Expression}
+use Rattle.tree.specs.Plain.{Expression}
 use Rattle.linear_forms.specs.Linear.{constant_of}
 
 -- other than 0, and of size up to 2^31

@@ -1,9 +1,9 @@
 -- Whether a loop has a flaw, or one in it.
 use Rattle.std.specs.Prelude.{ℕ, nat_le, Bool, false, not, ◌&&◌, ◌||◌, is_some, List, [], ◌∷◌, ◌++◌, length}
-use Rattle.fv_tree.specs.Limits.{nest_depth}
-use Rattle.fv_tree.specs.Plain.{Expression, Statement, Assignment, Where, If, Do, Label, GoTo, Stop, Read, Print}
-use Rattle.fv_tree.specs.Plain.{Allocate, Deallocate, Arms, no_arms, arm, Block, no_statements, statement}
-use Rattle.fv_tree.specs.View.{Tested}
+use Rattle.tree.specs.Limits.{nest_depth}
+use Rattle.tree.specs.Plain.{Expression, Statement, Assignment, Where, If, Do, Label, GoTo, Stop, Read, Print}
+use Rattle.tree.specs.Plain.{Allocate, Deallocate, Arms, no_arms, arm, Block, no_statements, statement}
+use Rattle.tree.specs.View.{Tested}
 use Rattle.linear_forms.specs.Linear.{form_of}
 use Rattle.nest_reasons.specs.declared.flaws.Flaw.{Flaw}
 use Rattle.nest_reasons.specs.declared.flaws.Flaw.TheVariants.{Exit, InnerIf, Bound, Step, Deep}

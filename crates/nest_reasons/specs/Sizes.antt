@@ -2,11 +2,11 @@
 use Rattle.std.specs.Prelude.{ℕ, nat_lt, Bool, true, false, not, ◌||◌, List, [], ◌∷◌, ◌++◌, length, map}
 use Rattle.std.specs.List.{filter, list_any}
 use Rattle.std.specs.Str.{bytes_eq}
-use Rattle.fv_tree.specs.Limits.{nest_statements, nest_references}
-use Rattle.fv_tree.specs.Plain.{Statement, Assignment, Where, If, Do, Label, GoTo, Stop, Read, Print, Allocate}
-use Rattle.fv_tree.specs.Plain.{Deallocate, Arms, no_arms, arm, Block, no_statements, statement}
-use Rattle.fv_tree.specs.View.{Tested}
-use Rattle.fv_meaning.specs.Reads.{names_in, names_in_subscripts}
+use Rattle.tree.specs.Limits.{nest_statements, nest_references}
+use Rattle.tree.specs.Plain.{Statement, Assignment, Where, If, Do, Label, GoTo, Stop, Read, Print, Allocate}
+use Rattle.tree.specs.Plain.{Deallocate, Arms, no_arms, arm, Block, no_statements, statement}
+use Rattle.tree.specs.View.{Tested}
+use Rattle.meaning.specs.Reads.{names_in, names_in_subscripts}
 use Rattle.nest_reasons.specs.declared.sizes.Piece.{Piece}
 use Rattle.nest_reasons.specs.declared.sizes.Piece.TheVariants.{Occurs, Assigns, Turns}
 

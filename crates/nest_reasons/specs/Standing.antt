@@ -2,8 +2,8 @@
 use Rattle.std.specs.Prelude.{ℕ, List}
 use Rattle.std.specs.List.{filter, list_any}
 use Rattle.std.specs.Str.{bytes_eq}
-use Rattle.fv_tree.specs.Plain.{Expression}
-use Rattle.fv_meaning.specs.Reads.{names_in}
+use Rattle.tree.specs.Plain.{Expression}
+use Rattle.meaning.specs.Reads.{names_in}
 
 -- those of the variables that stand in it
 abbrev pub standing : List (List ℕ) → Expression → List (List ℕ)

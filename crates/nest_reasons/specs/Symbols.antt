@@ -2,10 +2,10 @@
 use Rattle.std.specs.Prelude.{ℕ, Bool, true, false, not, ◌&&◌, List, [], ◌∷◌, map}
 use Rattle.std.specs.List.{filter, list_any}
 use Rattle.std.specs.Str.{bytes_eq}
-use Rattle.fv_tree.specs.Plain.{Block, Extent, Given, Later, Declaration}
-use Rattle.fv_tree.specs.declared.ops.Kind.{Kind}
-use Rattle.fv_tree.specs.declared.ops.Kind.TheVariants.{Integer, Logical}
-use Rattle.fv_rewrite.specs.Names.{names_written_in}
+use Rattle.tree.specs.Plain.{Block, Extent, Given, Later, Declaration}
+use Rattle.tree.specs.declared.ops.Kind.{Kind}
+use Rattle.tree.specs.declared.ops.Kind.TheVariants.{Integer, Logical}
+use Rattle.rewrite.specs.Names.{names_written_in}
 
 abbrev pub is_integer : Kind → Bool
 is_integer Integer = true

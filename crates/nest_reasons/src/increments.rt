@@ -1,10 +1,10 @@
 //! Increments of loops.
 ghost use Rattle.std.specs.Prelude.{◌≡◌};
-ghost use Rattle.fv_tree.specs.View.{expression_of};
+ghost use Rattle.tree.specs.View.{expression_of};
 ghost use Rattle.nest_reasons.specs.Increments.{step_of, suitable};
 
-use fv_tree::{Expr, Value};
 use linear_forms::constant_value;
+use tree::{Expr, Value};
 
 const GREATEST: u128 = 1 << 31;
 

@@ -6,9 +6,9 @@ ghost use Rattle.nest_reasons.specs.Labels.{AreLabels};
 ghost use Rattle.nest_reasons.specs.declared.marks.Mark.{Mark};
 
 use crate::marks::Mark;
-use fv_tree::Memory;
 use indexmap::IndexSet;
 use std::alloc::Global;
+use tree::Memory;
 
 /// The labels among marks: those behind a loop, and others.
 #[derive(Drop)]

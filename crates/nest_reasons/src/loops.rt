@@ -1,7 +1,7 @@
 //! Whether a loop, or one in it, has a flaw.
 ghost use Rattle.std.specs.Prelude.{◌≡◌, ◌≤◌, ◌^◌, ◌++◌, ◌∷◌, [], length, map, not, ◌&&◌, IfOk};
 ghost use Rattle.std.specs.List.{list_any};
-ghost use Rattle.fv_tree.specs.View.{expression_of, statement_of, tested_of, block_of};
+ghost use Rattle.tree.specs.View.{expression_of, statement_of, tested_of, block_of};
 ghost use Rattle.nest_reasons.specs.Loops.{is_linear, has_flaw, any_loop, any_in_arm, any_in_block};
 
 use crate::flaws::{Flaw, loop_in_if};
@@ -9,9 +9,9 @@ use crate::increments::step_of;
 use crate::labels::{exits, jumps_over_loop};
 use crate::marks::marks_of;
 use crate::names::standing;
-use fv_tree::{Arm, Block, Expr, Memory, NEST_DEPTH, Name, Seq, Stmt};
 use linear_forms::linear;
 use std::alloc::Global;
+use tree::{Arm, Block, Expr, Memory, NEST_DEPTH, Name, Seq, Stmt};
 
 /// The flaw that is looked for. The symbols are the names, other than variables of loops, that may stand in a linear
 /// bound.

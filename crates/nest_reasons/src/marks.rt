@@ -1,11 +1,11 @@
 //! What stands in a loop's own body, without what stands in the loops in it.
 ghost use Rattle.std.specs.Prelude.{◌≡◌, ◌++◌, ◌∷◌, [], map, true, false, OnOk, IfOk};
 ghost use Rattle.std.specs.List.{flat_map};
-ghost use Rattle.fv_tree.specs.View.{statement_of, tested_of, block_of};
+ghost use Rattle.tree.specs.View.{statement_of, tested_of, block_of};
 ghost use Rattle.nest_reasons.specs.Marks.{own_marks, marks_in_arm, marks_in_block};
 
-use fv_tree::{Arm, Block, Memory, Seq, Stmt};
 use std::alloc::Global;
+use tree::{Arm, Block, Memory, Seq, Stmt};
 
 /// What matters of a statement where a loop is left or passed over: it halts or does input or output; a GO TO with its
 /// label; a label; a loop, and whether it stands in an IF of the body.

@@ -1,11 +1,11 @@
 //! Those of given names that stand in an expression.
 ghost use Rattle.std.specs.Prelude.{◌≡◌, ◌++◌, ◌∷◌, [], if◌then◌else◌, OnOk, IfOk};
-ghost use Rattle.fv_tree.specs.View.{expression_of};
+ghost use Rattle.tree.specs.View.{expression_of};
 ghost use Rattle.nest_reasons.specs.Standing.{standing};
 
-use fv_rewrite::names_in_expr;
-use fv_tree::{Expr, Memory, Name, Seq};
+use rewrite::names_in_expr;
 use std::alloc::Global;
+use tree::{Expr, Memory, Name, Seq};
 
 /// Adds the name where it is chosen.
 pub(crate) fn push_if(names: &mut Seq<Name>, chosen: bool, name: Name) -> Result<(), Memory>

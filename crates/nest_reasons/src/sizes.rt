@@ -1,14 +1,14 @@
 //! How large a loop is: assignments, and occurrences of variables other than those of loops.
 ghost use Rattle.std.specs.Prelude.{◌≡◌, ◌++◌, ◌∷◌, [], length, map, OnOk, IfOk};
 ghost use Rattle.std.specs.List.{flat_map, filter, list_any};
-ghost use Rattle.fv_tree.specs.View.{expression_of, reference_of, statement_of, tested_of, block_of};
-ghost use Rattle.fv_meaning.specs.Reads.{names_in, names_in_subscripts};
+ghost use Rattle.tree.specs.View.{expression_of, reference_of, statement_of, tested_of, block_of};
+ghost use Rattle.meaning.specs.Reads.{names_in, names_in_subscripts};
 ghost use Rattle.nest_reasons.specs.Sizes.{occurrences, pieces_in, pieces_in_arm, pieces_in_block, is_assignment};
 ghost use Rattle.nest_reasons.specs.Sizes.{turns_with, is_loop, is_counted, is_over, is_large};
 
-use fv_rewrite::{names_in_expr, names_in_ref};
-use fv_tree::{Arm, Block, Expr, Memory, NEST_REFERENCES, NEST_STATEMENTS, Name, Ref, Seq, Stmt};
+use rewrite::{names_in_expr, names_in_ref};
 use std::alloc::Global;
+use tree::{Arm, Block, Expr, Memory, NEST_REFERENCES, NEST_STATEMENTS, Name, Ref, Seq, Stmt};
 
 /// What counts towards the size of a loop: a name that stands in it, an assignment, a loop with its variable.
 #[derive(Clone, Copy, Debug)]

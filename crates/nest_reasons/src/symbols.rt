@@ -2,14 +2,14 @@
 ghost use Rattle.std.specs.Prelude.{◌≡◌, [], map, IfOk};
 ghost use Rattle.std.specs.Str.{bytes_eq};
 ghost use Rattle.indexmap.specs.IndexSet.{insert_all};
-ghost use Rattle.fv_tree.specs.View.{declaration_of, block_of};
+ghost use Rattle.tree.specs.View.{declaration_of, block_of};
 ghost use Rattle.nest_reasons.specs.Symbols.{is_integer_scalar, is_symbol, symbols_of};
 
 use crate::names::push_if;
-use fv_rewrite::names_written;
-use fv_tree::{Block, Decl, Extent, Kind, Memory, Name, Seq};
 use indexmap::IndexSet;
+use rewrite::names_written;
 use std::alloc::Global;
+use tree::{Block, Decl, Extent, Kind, Memory, Name, Seq};
 
 fn is_integer_scalar(decl: &Decl) -> bool
     ensures { result ≡ is_integer_scalar (declaration_of decl.now) }

@@ -1,11 +1,11 @@
 -- The block of a rewritten nest is the rewritten block of the nest.
 use Rattle.std.proofs.Common.{◌≡◌, refl, sym, ap, ◌∙◌, ℕ, ℤ, Option, Some, None, List, [], ◌∷◌, map}
 use Rattle.std.specs.Option.{option_map}
-use Rattle.fv_tree.specs.Plain.{Expression, expression, expressions, Statement, If, Do, Allocate, Deallocate, Block, no_statements, statement, arm, no_arms, Arms}
-use Rattle.fv_rewrite.specs.Making.{Making, made, made_left, made_expressions, made_statement, made_arms, made_block}
-use Rattle.fv_rewrite.proofs.Equations.{made_each}
-use Rattle.nest_tree.specs.Blocks.{numeral, assignment_of, under_guard, guarded_statement, statement_of_part, block_of_parts, arms_of_branches, allocation_then, deallocation_then, allocations_then, deallocations, block_then, block_of_nest}
-use Rattle.nest_tree.specs.Plain.{Loop, Guarded, Part, Run, Turns, Choice, Label, Jump, Parts, no_parts, part, Branches, no_branches, branch, Made, Nest}
+use Rattle.tree.specs.Plain.{Expression, expression, expressions, Statement, If, Do, Allocate, Deallocate, Block, no_statements, statement, arm, no_arms, Arms}
+use Rattle.rewrite.specs.Making.{Making, made, made_left, made_expressions, made_statement, made_arms, made_block}
+use Rattle.rewrite.proofs.Equations.{made_each}
+use Rattle.nest.specs.Blocks.{numeral, assignment_of, under_guard, guarded_statement, statement_of_part, block_of_parts, arms_of_branches, allocation_then, deallocation_then, allocations_then, deallocations, block_then, block_of_nest}
+use Rattle.nest.specs.Plain.{Loop, Guarded, Part, Run, Turns, Choice, Label, Jump, Parts, no_parts, part, Branches, no_branches, branch, Made, Nest}
 use Rattle.nest_rewrite.specs.Rewritten.{rewritten_loop, rewritten_statement, rewritten, rewritten_parts, rewritten_branches, rewritten_array, rewritten_nest, KeepsIncrements, KeepsIncrementsOfEach, KeepsIncrementsOfBranches}
 
 module _ (m : Making) where

@@ -1,8 +1,8 @@
 -- What is made of lists of parts and of arms, each one by itself.
 use Rattle.std.proofs.Common.{◌≡◌, refl, ap, List, [], ◌∷◌, map}
-use Rattle.fv_rewrite.specs.Making.{Making, made}
-use Rattle.nest_tree.specs.Plain.{Part, parts, part, branch}
-use Rattle.nest_tree.specs.View.{Branch, branches}
+use Rattle.rewrite.specs.Making.{Making, made}
+use Rattle.nest.specs.Plain.{Part, parts, part, branch}
+use Rattle.nest.specs.View.{Branch, branches}
 use Rattle.nest_rewrite.specs.Rewritten.{rewritten, rewritten_parts, rewritten_branch, rewritten_branches}
 
 module _ (m : Making) where

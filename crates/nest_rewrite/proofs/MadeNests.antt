@@ -1,11 +1,11 @@
 -- A nest of rewritten parts is the rewritten nest.
 use Rattle.std.proofs.Common.{◌≡◌, refl, ap, ◌∙◌, List, map, Result, Ok, Err, IfOk}
-use Rattle.fv_tree.specs.Plain.{Block}
-use Rattle.fv_tree.specs.declared.lists.Memory.{Memory}
-use Rattle.fv_rewrite.specs.Making.{Making, made_block}
-use Rattle.nest_tree.specs.Plain.{Nest, Part, Made}
-use Rattle.nest_tree.specs.View.{nest_of}
-use Rattle.nest_tree.specs.declared.nests.Nest.{Nest as Tree}
+use Rattle.tree.specs.Plain.{Block}
+use Rattle.tree.specs.declared.lists.Memory.{Memory}
+use Rattle.rewrite.specs.Making.{Making, made_block}
+use Rattle.nest.specs.Plain.{Nest, Part, Made}
+use Rattle.nest.specs.View.{nest_of}
+use Rattle.nest.specs.declared.nests.Nest.{Nest as Tree}
 use Rattle.nest_rewrite.specs.Rewritten.{rewritten, rewritten_array, rewritten_nest}
 use Rattle.nest_rewrite.specs.Assembled.{with_parts}
 

@@ -1,7 +1,7 @@
 -- A nest with other parts.
 use Rattle.std.specs.Prelude.{List}
-use Rattle.fv_tree.specs.Plain.{Block}
-use Rattle.nest_tree.specs.Plain.{Part, Made, Nest}
+use Rattle.tree.specs.Plain.{Block}
+use Rattle.nest.specs.Plain.{Part, Made, Nest}
 
 -- another body, other made arrays, and another block after it
 unfoldable pub with_parts : Nest → Part → List Made → Block → Nest

@@ -1,12 +1,12 @@
 -- What a rule makes of a nest: of each expression and each left side in it, with loops, labels and jumps as they are.
 use Rattle.std.specs.Prelude.{◌≡◌, ℕ, List, map}
 use Rattle.std.specs.Option.{option_map}
-use Rattle.fv_tree.specs.Plain.{Declaration, Program}
-use Rattle.fv_rewrite.specs.Making.{Making, made, made_left, made_block}
-use Rattle.nest_tree.specs.Blocks.{numeral, block_of_nest}
-use Rattle.nest_tree.specs.Plain.{Loop, Guarded, Part, Run, Turns, Choice, Label, Jump, Parts, no_parts, part}
-use Rattle.nest_tree.specs.Plain.{Branches, no_branches, branch, Made, Nest}
-use Rattle.nest_tree.specs.View.{Branch}
+use Rattle.tree.specs.Plain.{Declaration, Program}
+use Rattle.rewrite.specs.Making.{Making, made, made_left, made_block}
+use Rattle.nest.specs.Blocks.{numeral, block_of_nest}
+use Rattle.nest.specs.Plain.{Loop, Guarded, Part, Run, Turns, Choice, Label, Jump, Parts, no_parts, part}
+use Rattle.nest.specs.Plain.{Branches, no_branches, branch, Made, Nest}
+use Rattle.nest.specs.View.{Branch}
 
 module _ (m : Making) where
   -- a loop keeps its variable, its increment and its trip

@@ -1,12 +1,12 @@
 //! Expressions and left sides of a nest.
 ghost use Rattle.std.specs.Prelude.{◌≡◌, map, IfOk};
 ghost use Rattle.std.specs.Option.{option_map};
-ghost use Rattle.fv_tree.specs.View.{expression_of, reference_of};
-ghost use Rattle.fv_rewrite.specs.Making.{made, made_left};
+ghost use Rattle.tree.specs.View.{expression_of, reference_of};
+ghost use Rattle.rewrite.specs.Making.{made, made_left};
 
-use fv_rewrite::Rule;
-use fv_tree::{Expr, Memory, Ref, Seq};
+use rewrite::Rule;
 use std::alloc::Global;
+use tree::{Expr, Memory, Ref, Seq};
 
 /// The left side of an assignment.
 pub(crate) fn rewrite_left<R: Rule>(alloc: Global, left: &Ref, rule: &mut R) -> Result<Ref, Memory>

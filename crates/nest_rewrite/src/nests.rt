@@ -1,20 +1,20 @@
 //! Nests.
 ghost use Rattle.std.specs.Prelude.{◌≡◌, ℕ, ℤ, List, IfOk, map};
-ghost use Rattle.fv_rewrite.specs.Following.{RunFollows, sequential};
-ghost use Rattle.fv_rewrite.specs.Making.{SuitsBlock};
-ghost use Rattle.fv_rewrite.specs.Profile.{MakesProfile};
-ghost use Rattle.nest_tree.specs.Blocks.{block_of_nest};
-ghost use Rattle.fv_tree.specs.View.{block_of};
-ghost use Rattle.nest_tree.specs.View.{made_of, nest_of, part_of};
+ghost use Rattle.rewrite.specs.Following.{RunFollows, sequential};
+ghost use Rattle.rewrite.specs.Making.{SuitsBlock};
+ghost use Rattle.rewrite.specs.Profile.{MakesProfile};
+ghost use Rattle.nest.specs.Blocks.{block_of_nest};
+ghost use Rattle.tree.specs.View.{block_of};
+ghost use Rattle.nest.specs.View.{made_of, nest_of, part_of};
 ghost use Rattle.nest_rewrite.specs.Rewritten.{rewritten_array, rewritten_nest, KeepsIncrements};
 ghost use Rattle.nest_rewrite.specs.Assembled.{with_parts};
 
 use crate::expressions::rewrite_each;
 use crate::parts::rewrite_part;
-use fv_rewrite::{Rule, rewrite};
-use fv_tree::{Block, Memory, Name, Seq};
-use nest_tree::{Made, Nest, Part, copy_decls};
+use nest::{Made, Nest, Part};
+use rewrite::{Rule, rewrite};
 use std::alloc::Global;
+use tree::{Block, Memory, Name, Seq, both, copy_decls};
 
 fn rewrite_array<R: Rule>(alloc: Global, array: &Made, rule: &mut R) -> Result<Made, Memory>
     ensures made { IfOk result (λ new. made_of new ≡ rewritten_array (R.making rule.old) (made_of array.now)) }
@@ -62,8 +62,10 @@ pub fn with_parts(
     ensures { IfOk result (λ new. nest_of new
         ≡ with_parts (nest_of nest.now) (part_of body) (map made_of made) (block_of after)) }
 {
-    let decls = copy_decls(&nest.decls, alloc)?;
-    let symbols = copy_names(alloc, &nest.symbols)?;
+    let (decls, symbols) = both(
+        copy_decls(&nest.decls, alloc),
+        copy_names(alloc, &nest.symbols),
+    )?;
     Ok(Nest {
         number: nest.number,
         line: nest.line,

@@ -1,24 +1,25 @@
 //! Parts of a nest.
 ghost use Rattle.std.specs.Prelude.{◌≡◌, IfOk, map};
-ghost use Rattle.fv_tree.specs.View.{expression_of};
-ghost use Rattle.fv_rewrite.specs.Making.{made};
-ghost use Rattle.nest_tree.specs.Plain.{parts as plain_parts};
-ghost use Rattle.nest_tree.specs.View.{loop_of, guarded_of, part_of, branch_of, branches as plain_branches};
+ghost use Rattle.tree.specs.View.{expression_of};
+ghost use Rattle.rewrite.specs.Making.{made};
+ghost use Rattle.nest.specs.Plain.{parts as plain_parts};
+ghost use Rattle.nest.specs.View.{loop_of, guarded_of, part_of, branch_of, branches as plain_branches};
 ghost use Rattle.nest_rewrite.specs.Rewritten.{rewritten_loop, rewritten_statement, rewritten, rewritten_parts};
 ghost use Rattle.nest_rewrite.specs.Rewritten.{rewritten_branch, rewritten_branches};
 
 use crate::expressions::{rewrite_guard, rewrite_left};
-use fv_rewrite::Rule;
-use fv_tree::{Expr, Memory, Seq};
-use nest_tree::{GuardedStmt, Loop, NestArm, Part};
+use nest::{GuardedStmt, Loop, NestArm, Part};
+use rewrite::Rule;
 use std::alloc::Global;
+use tree::{Expr, Memory, Seq, both, three};
 
 fn rewrite_loop<R: Rule>(alloc: Global, turns: &Loop, rule: &mut R) -> Result<Loop, Memory>
     ensures made { IfOk result (λ new. loop_of new ≡ rewritten_loop (R.making rule.old) (loop_of turns.now)) }
     ensures same { R.making rule.new ≡ R.making rule.old }
 {
-    let first = rule.expression(alloc, &turns.first)?;
-    let last = rule.expression(alloc, &turns.last)?;
+    let first = rule.expression(alloc, &turns.first);
+    let last = rule.expression(alloc, &turns.last);
+    let (first, last) = both(first, last)?;
     Ok(Loop {
         number: turns.number,
         var: turns.var,
@@ -46,9 +47,10 @@ pub fn rewrite_stmt<R: Rule>(
     ensures made { IfOk result (λ new. guarded_of new ≡ rewritten_statement (R.making rule.old) (guarded_of stmt.now)) }
     ensures same { R.making rule.new ≡ R.making rule.old }
 {
-    let guard = rewrite_guard(alloc, &stmt.guard, rule)?;
-    let left = rewrite_left(alloc, &stmt.left, rule)?;
-    let right = rule.expression(alloc, &stmt.right)?;
+    let guard = rewrite_guard(alloc, &stmt.guard, rule);
+    let left = rewrite_left(alloc, &stmt.left, rule);
+    let right = rule.expression(alloc, &stmt.right);
+    let (guard, left, right) = three(guard, left, right)?;
     Ok(GuardedStmt {
         line: stmt.line,
         guard,
@@ -59,7 +61,7 @@ pub fn rewrite_stmt<R: Rule>(
 
 /// What the rule makes of a part.
 #[cycle(rewriting_parts)]
-#[tactic(auto, using(nest_tree::proofs::Equations::part_equations))]
+#[tactic(auto, using(nest::proofs::Equations::part_equations))]
 pub fn rewrite_part<R: Rule>(alloc: Global, part: &Part, rule: &mut R) -> Result<Part, Memory>
     ensures made { IfOk result (λ new. part_of new ≡ rewritten (R.making rule.old) (part_of part.now)) }
     ensures same { R.making rule.new ≡ R.making rule.old }
@@ -67,8 +69,9 @@ pub fn rewrite_part<R: Rule>(alloc: Global, part: &Part, rule: &mut R) -> Result
     match part {
         Part::Run(stmt) => Ok(Part::Run(rewrite_stmt(alloc, stmt, rule)?)),
         Part::Turns(turns, body) => {
-            let turns = rewrite_loop(alloc, turns, rule)?;
-            let body = rewrite_parts(alloc, body, rule)?;
+            let turns = rewrite_loop(alloc, turns, rule);
+            let body = rewrite_parts(alloc, body, rule);
+            let (turns, body) = both(turns, body)?;
             Ok(Part::Turns(turns, body))
         }
         Part::Choice(arms, other) => {
@@ -82,13 +85,14 @@ pub fn rewrite_part<R: Rule>(alloc: Global, part: &Part, rule: &mut R) -> Result
 }
 
 #[cycle(rewriting_parts)]
-#[tactic(auto, using(nest_tree::proofs::Equations::part_equations))]
+#[tactic(auto, using(nest::proofs::Equations::part_equations))]
 fn rewrite_arm<R: Rule>(alloc: Global, arm: &NestArm, rule: &mut R) -> Result<NestArm, Memory>
     ensures made { IfOk result (λ new. branch_of new ≡ rewritten_branch (R.making rule.old) (branch_of arm.now)) }
     ensures same { R.making rule.new ≡ R.making rule.old }
 {
-    let test = rewrite_test(alloc, &arm.test, rule)?;
-    let body = rewrite_parts(alloc, &arm.body, rule)?;
+    let test = rewrite_test(alloc, &arm.test, rule);
+    let body = rewrite_parts(alloc, &arm.body, rule);
+    let (test, body) = both(test, body)?;
     Ok(NestArm { test, body })
 }
 

@@ -1,9 +1,9 @@
 -- What a statement answered after which its block goes on.
 use Rattle.std.proofs.Common.{◌≡◌, ℕ, Result, Ok, Err, Option}
 use Rattle.std.specs.Prelude.{◌≢◌}
-use Rattle.fv_machine.specs.declared.progress.Left.{Left}
-use Rattle.fv_machine.specs.declared.progress.Left.TheVariants.{Halted, Unwritten}
-use Rattle.fv_machine.specs.Jumps.{landed}
+use Rattle.machine.specs.declared.progress.Left.{Left}
+use Rattle.machine.specs.declared.progress.Left.TheVariants.{Halted, Unwritten}
+use Rattle.machine.specs.Jumps.{landed}
 
 -- no write has failed
 pub went_on : (q : Result (Unit {0}) Left) (j : Option ℕ) → Ok j ≡ landed q → q ≢ Err Unwritten

@@ -4,30 +4,30 @@ use Rattle.std.proofs.Common.{Some, None}
 use Rattle.std.specs.declared.boxed.Box.{Box}
 use Rattle.std.specs.declared.alloc.Global.{Global}
 use Rattle.std.specs.Prelude.{MatchResult, slice_get}
-use Rattle.fv_tree.specs.Steps.{◌>>=◌}
-use Rattle.fv_tree.specs.Plain as P
-use Rattle.fv_tree.specs.View.{expression_of, subscript_of}
-use Rattle.fv_tree.specs.declared.lists.Seq.{Seq}
-use Rattle.fv_tree.specs.declared.ops.Op.{Op}
-use Rattle.fv_tree.specs.declared.functions.Fun.{Fun}
-use Rattle.fv_tree.specs.declared.functions.Red.{Red}
-use Rattle.fv_tree.specs.declared.ops.Value.{Value}
-use Rattle.fv_tree.specs.declared.ops.Fault.{Fault}
-use Rattle.fv_tree.specs.declared.exprs.Expr.{Expr}
-use Rattle.fv_tree.specs.declared.exprs.Expr.TheVariants as exprs
-use Rattle.fv_tree.specs.declared.exprs.Sub.{Sub}
-use Rattle.fv_tree.specs.declared.exprs.Turn.{Turn}
-use Rattle.fv_tree.specs.declared.exprs.Ref.{Ref, out-Ref}
-use Rattle.fv_tree.proofs.Equations.{expression_of-int, expression_of-truth, expression_of-item, expression_of-un}
-use Rattle.fv_tree.proofs.Equations.{expression_of-bin, expression_of-call, expression_of-list, expression_of-spread}
-use Rattle.fv_tree.proofs.Equations.{expression_of-transpose, expression_of-reshape, expression_of-reduce, reference_of-is}
-use Rattle.fv_meaning.specs.Store.{Store, Cell, cell_at, bounds_of, cells_of}
-use Rattle.fv_meaning.specs.Dialect.{fortran77}
-use Rattle.fv_meaning.specs.Value.{value_of, item_values, subscript_values}
-use Rattle.fv_machine.specs.declared.progress.Halt.{Halt}
-use Rattle.fv_machine.specs.declared.progress.Halt.TheVariants.{Fault as Fault'}
-use Rattle.fv_machine.specs.Moments.{located}
-use Rattle.fv_machine.specs.Stored.{all_values}
+use Rattle.tree.specs.Steps.{◌>>=◌}
+use Rattle.tree.specs.Plain as P
+use Rattle.tree.specs.View.{expression_of, subscript_of}
+use Rattle.tree.specs.declared.lists.Seq.{Seq}
+use Rattle.tree.specs.declared.ops.Op.{Op}
+use Rattle.tree.specs.declared.functions.Fun.{Fun}
+use Rattle.tree.specs.declared.functions.Red.{Red}
+use Rattle.tree.specs.declared.ops.Value.{Value}
+use Rattle.tree.specs.declared.ops.Fault.{Fault}
+use Rattle.tree.specs.declared.exprs.Expr.{Expr}
+use Rattle.tree.specs.declared.exprs.Expr.TheVariants as exprs
+use Rattle.tree.specs.declared.exprs.Sub.{Sub}
+use Rattle.tree.specs.declared.exprs.Turn.{Turn}
+use Rattle.tree.specs.declared.exprs.Ref.{Ref, out-Ref}
+use Rattle.tree.proofs.Equations.{expression_of-int, expression_of-truth, expression_of-item, expression_of-un}
+use Rattle.tree.proofs.Equations.{expression_of-bin, expression_of-call, expression_of-list, expression_of-spread}
+use Rattle.tree.proofs.Equations.{expression_of-transpose, expression_of-reshape, expression_of-reduce, reference_of-is}
+use Rattle.meaning.specs.Store.{Store, Cell, cell_at, bounds_of, cells_of}
+use Rattle.meaning.specs.Dialect.{fortran77}
+use Rattle.meaning.specs.Value.{value_of, item_values, subscript_values}
+use Rattle.machine.specs.declared.progress.Halt.{Halt}
+use Rattle.machine.specs.declared.progress.Halt.TheVariants.{Fault as Fault'}
+use Rattle.machine.specs.Moments.{located}
+use Rattle.machine.specs.Stored.{all_values}
 use Rattle.run77.specs.Printing.{one_value, IsOneValue, AreAllValues}
 
 -- ---- items

@@ -1,12 +1,12 @@
 -- The jumps of a program of the profile lead forwards.
 use Rattle.std.proofs.Common.{List}
-use Rattle.fv_tree.specs.Plain.{Declaration, Statement, Assignment, Where, If, Do, Label, GoTo, Stop}
-use Rattle.fv_tree.specs.Plain.{Read, Print, Allocate, Deallocate, Arms, no_arms, arm, Block, no_statements, statement}
-use Rattle.fv_tree.specs.Plain.{Program}
-use Rattle.fv_meaning.specs.Dialect.{fortran77}
-use Rattle.fv_meaning.specs.Blocks.{Surroundings, before_labels, labels_of, within_loop, outermost}
-use Rattle.fv_meaning.specs.Profile77.{IsStatement, AreArms, IsBlock, IsProgram77}
-use Rattle.fv_meaning.specs.Jumps.{JumpsForward, ArmsJumpForward, BlockJumpsForward, AllJumpsForward}
+use Rattle.tree.specs.Plain.{Declaration, Statement, Assignment, Where, If, Do, Label, GoTo, Stop}
+use Rattle.tree.specs.Plain.{Read, Print, Allocate, Deallocate, Arms, no_arms, arm, Block, no_statements, statement}
+use Rattle.tree.specs.Plain.{Program}
+use Rattle.meaning.specs.Dialect.{fortran77}
+use Rattle.meaning.specs.Blocks.{Surroundings, before_labels, labels_of, within_loop, outermost}
+use Rattle.meaning.specs.Profile77.{IsStatement, AreArms, IsBlock, IsProgram77}
+use Rattle.meaning.specs.Jumps.{JumpsForward, ArmsJumpForward, BlockJumpsForward, AllJumpsForward}
 
 mutual
   statement_jumps : (ds : List Declaration) (c : Statement) (w : Surroundings) → IsStatement ds c w → JumpsForward w.ahead c

@@ -8,17 +8,17 @@ use Rattle.std.specs.Cmp.Lexicographic.{slice_cmp}
 use Rattle.std.specs.declared.cmp.Ordering.TheVariants.{Less}
 use Rattle.std.proofs.lemmas.Map.Text.{is_eq-slice_cmp}
 use Rattle.std.proofs.lemmas.List.Sums.{sum_by-cons, sum-map}
-use Rattle.fv_tree.specs.Plain.{Declaration, Extent, Given, Later, Program, Statement, Assignment, Where, If, Do, Label}
-use Rattle.fv_tree.specs.Plain.{GoTo, Stop, Read, Print, Allocate, Deallocate, Arms, no_arms, arm, Block, no_statements}
-use Rattle.fv_tree.specs.Plain.{statement}
-use Rattle.fv_meaning.specs.Names.{IsInByteOrder}
-use Rattle.fv_meaning.specs.Typed.{dimensions}
-use Rattle.fv_meaning.specs.Dialect.{fortran77}
-use Rattle.fv_meaning.specs.Blocks.{Surroundings, before_labels, labels_of, within_loop}
-use Rattle.fv_meaning.specs.Profile77.{IsProgram77, IsDeclaration, IsDimension, IsFixed, array_elements, elements_of}
-use Rattle.fv_meaning.specs.Profile77.{IsStatement, AreArms, IsBlock}
-use Rattle.fv_machine.specs.Statements.{HasArms, ArmsHaveArms, BlockHasArms}
-use Rattle.fv_machine.specs.Storage.{AreArrays, AreBounds, IsBounded, HasBounds, AreDistinct}
+use Rattle.tree.specs.Plain.{Declaration, Extent, Given, Later, Program, Statement, Assignment, Where, If, Do, Label}
+use Rattle.tree.specs.Plain.{GoTo, Stop, Read, Print, Allocate, Deallocate, Arms, no_arms, arm, Block, no_statements}
+use Rattle.tree.specs.Plain.{statement}
+use Rattle.meaning.specs.Names.{IsInByteOrder}
+use Rattle.meaning.specs.Typed.{dimensions}
+use Rattle.meaning.specs.Dialect.{fortran77}
+use Rattle.meaning.specs.Blocks.{Surroundings, before_labels, labels_of, within_loop}
+use Rattle.meaning.specs.Profile77.{IsProgram77, IsDeclaration, IsDimension, IsFixed, array_elements, elements_of}
+use Rattle.meaning.specs.Profile77.{IsStatement, AreArms, IsBlock}
+use Rattle.machine.specs.Statements.{HasArms, ArmsHaveArms, BlockHasArms}
+use Rattle.machine.specs.Storage.{AreArrays, AreBounds, IsBounded, HasBounds, AreDistinct}
 
 mutual
   statement_has_arms : (ds : List Declaration) (c : Statement) (w : Surroundings) → IsStatement ds c w → HasArms c

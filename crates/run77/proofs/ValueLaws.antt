@@ -8,38 +8,38 @@ use Rattle.std.specs.List.{fold}
 use mathlib.Core.Path.{ap₂}
 use Rattle.std.specs.declared.boxed.Box.{Box}
 use Rattle.std.specs.declared.alloc.Global.{Global}
-use Rattle.fv_tree.specs.Steps.{◌>>=◌}
-use Rattle.fv_tree.specs.Operators.{apply, call, as_number}
-use Rattle.fv_tree.specs.Plain as P
-use Rattle.fv_tree.specs.View.{expression_of, subscript_of, reference_of}
-use Rattle.fv_tree.specs.declared.ops.Op.{Op}
-use Rattle.fv_tree.specs.declared.functions.Fun.{Fun}
-use Rattle.fv_tree.specs.declared.functions.Red.{Red}
-use Rattle.fv_tree.specs.declared.exprs.Turn.{Turn}
-use Rattle.fv_tree.specs.declared.ops.Value.{Value}
-use Rattle.fv_tree.specs.declared.ops.Value.TheVariants.{Int, Truth}
-use Rattle.fv_tree.specs.declared.ops.Fault.{Fault}
-use Rattle.fv_tree.specs.declared.ops.Fault.TheVariants.{Bounds, Allocated, Shape}
-use Rattle.fv_tree.specs.declared.lists.Seq.{Seq}
-use Rattle.fv_tree.specs.declared.exprs.Expr.{Expr}
-use Rattle.fv_tree.specs.declared.exprs.Expr.TheVariants as exprs
-use Rattle.fv_tree.specs.declared.exprs.Sub.{Sub}
-use Rattle.fv_tree.specs.declared.exprs.Sub.TheVariants as subs
-use Rattle.fv_tree.specs.declared.exprs.Ref.{Ref, out-Ref}
-use Rattle.fv_tree.proofs.Equations.{expression_of-int, expression_of-truth, expression_of-item, expression_of-un, expression_of-bin, expression_of-call, expression_of-list, expression_of-spread, expression_of-transpose, expression_of-reshape, expression_of-reduce, subscript_of-one, subscript_of-part, reference_of-is}
-use Rattle.fv_meaning.specs.Store.{Store, Cell, cell_at, cell_in, is_within, opening_bounds}
-use Rattle.fv_meaning.specs.Dialect.{fortran77}
-use Rattle.fv_meaning.specs.Value.{value_of, values_of, subscript_value, subscript_values, cell_named}
-use Rattle.fv_meaning.specs.Profile77.{elements_of}
-use Rattle.fv_machine.specs.Storage.{store_of, place, offset, joined, total, with_more}
-use Rattle.fv_machine.specs.Stored.{Finds, IsOf, bounds_here}
+use Rattle.tree.specs.Steps.{◌>>=◌}
+use Rattle.tree.specs.Operators.{apply, call, as_number}
+use Rattle.tree.specs.Plain as P
+use Rattle.tree.specs.View.{expression_of, subscript_of, reference_of}
+use Rattle.tree.specs.declared.ops.Op.{Op}
+use Rattle.tree.specs.declared.functions.Fun.{Fun}
+use Rattle.tree.specs.declared.functions.Red.{Red}
+use Rattle.tree.specs.declared.exprs.Turn.{Turn}
+use Rattle.tree.specs.declared.ops.Value.{Value}
+use Rattle.tree.specs.declared.ops.Value.TheVariants.{Int, Truth}
+use Rattle.tree.specs.declared.ops.Fault.{Fault}
+use Rattle.tree.specs.declared.ops.Fault.TheVariants.{Bounds, Allocated, Shape}
+use Rattle.tree.specs.declared.lists.Seq.{Seq}
+use Rattle.tree.specs.declared.exprs.Expr.{Expr}
+use Rattle.tree.specs.declared.exprs.Expr.TheVariants as exprs
+use Rattle.tree.specs.declared.exprs.Sub.{Sub}
+use Rattle.tree.specs.declared.exprs.Sub.TheVariants as subs
+use Rattle.tree.specs.declared.exprs.Ref.{Ref, out-Ref}
+use Rattle.tree.proofs.Equations.{expression_of-int, expression_of-truth, expression_of-item, expression_of-un, expression_of-bin, expression_of-call, expression_of-list, expression_of-spread, expression_of-transpose, expression_of-reshape, expression_of-reduce, subscript_of-one, subscript_of-part, reference_of-is}
+use Rattle.meaning.specs.Store.{Store, Cell, cell_at, cell_in, is_within, opening_bounds}
+use Rattle.meaning.specs.Dialect.{fortran77}
+use Rattle.meaning.specs.Value.{value_of, values_of, subscript_value, subscript_values, cell_named}
+use Rattle.meaning.specs.Profile77.{elements_of}
+use Rattle.machine.specs.Storage.{store_of, place, offset, joined, total, with_more}
+use Rattle.machine.specs.Stored.{Finds, IsOf, bounds_here}
 use Rattle.run77.specs.Values.{call_of, offset_of}
-use Rattle.fv_machine.proofs.StoreLaws.{store-bounds, within_offset, offset_below}
-use Rattle.fv_machine.specs.declared.variables.Variable.{Variable}
-use Rattle.fv_tree.specs.declared.arguments.Arguments.{Arguments}
-use Rattle.fv_tree.specs.declared.arguments.Arguments.TheVariants.{Empty}
-use Rattle.fv_tree.specs.Arguments.{added, finished}
-use Rattle.fv_tree.proofs.Calls.{finished_is}
+use Rattle.machine.proofs.StoreLaws.{store-bounds, within_offset, offset_below}
+use Rattle.machine.specs.declared.variables.Variable.{Variable}
+use Rattle.tree.specs.declared.arguments.Arguments.{Arguments}
+use Rattle.tree.specs.declared.arguments.Arguments.TheVariants.{Empty}
+use Rattle.tree.specs.Arguments.{added, finished}
+use Rattle.tree.proofs.Calls.{finished_is}
 
 -- ---- expressions
 

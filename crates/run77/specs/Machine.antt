@@ -1,10 +1,10 @@
 -- The machine of a program, and the store that it has.
 use Rattle.std.specs.Prelude.{◌≡◌}
-use Rattle.fv_tree.specs.Plain.{Program}
-use Rattle.fv_tree.specs.View.{block_of}
-use Rattle.fv_meaning.specs.Store.{Store}
-use Rattle.fv_machine.specs.Stored.{names_in, store_in}
-use Rattle.run77.specs.declared.machine.Machine77.{Machine77}
+use Rattle.tree.specs.Plain.{Program}
+use Rattle.tree.specs.View.{block_of}
+use Rattle.meaning.specs.Store.{Store}
+use Rattle.machine.specs.Stored.{names_in, store_in}
+use Rattle.run77.specs.declared.programs.Machine77.{Machine77}
 
 -- the machine has the names and the statements of the program
 pub record IsMachineOf (p : Program) (m : Machine77) : Type 0 where

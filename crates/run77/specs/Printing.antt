@@ -1,13 +1,13 @@
 -- Items of an output list: one value, or all values of a name.
 use Rattle.std.specs.Prelude.{◌≡◌, Result, Ok, ℕ, List, [], ◌∷◌}
-use Rattle.fv_tree.specs.Steps.{◌>>=◌}
-use Rattle.fv_tree.specs.Plain.{Expression}
-use Rattle.fv_tree.specs.declared.ops.Value.{Value}
-use Rattle.fv_tree.specs.declared.ops.Fault.{Fault}
-use Rattle.fv_meaning.specs.Store.{Store}
-use Rattle.fv_meaning.specs.Dialect.{fortran77}
-use Rattle.fv_meaning.specs.Value.{value_of, item_values}
-use Rattle.fv_machine.specs.Stored.{all_values}
+use Rattle.tree.specs.Steps.{◌>>=◌}
+use Rattle.tree.specs.Plain.{Expression}
+use Rattle.tree.specs.declared.ops.Value.{Value}
+use Rattle.tree.specs.declared.ops.Fault.{Fault}
+use Rattle.meaning.specs.Store.{Store}
+use Rattle.meaning.specs.Dialect.{fortran77}
+use Rattle.meaning.specs.Value.{value_of, item_values}
+use Rattle.machine.specs.Stored.{all_values}
 
 abbrev pub one_value : Result Value Fault → Result (List Value) Fault
 one_value r = do

@@ -1,15 +1,15 @@
 -- Parts of values: calls, and places among the elements of an array.
 use Rattle.std.specs.Prelude.{Result, Ok, Option, ℕ, ℤ, List}
-use Rattle.fv_tree.specs.Steps.{◌>>=◌}
-use Rattle.fv_tree.specs.Operators.{call}
-use Rattle.fv_tree.specs.Plain.{Expressions, Subscripts}
-use Rattle.fv_tree.specs.declared.functions.Fun.{Fun}
-use Rattle.fv_tree.specs.declared.ops.Value.{Value}
-use Rattle.fv_tree.specs.declared.ops.Fault.{Fault}
-use Rattle.fv_meaning.specs.Dialect.{Dialect}
-use Rattle.fv_meaning.specs.Store.{Store}
-use Rattle.fv_meaning.specs.Value.{values_of, subscript_values}
-use Rattle.fv_machine.specs.Storage.{offset}
+use Rattle.tree.specs.Steps.{◌>>=◌}
+use Rattle.tree.specs.Operators.{call}
+use Rattle.tree.specs.Plain.{Expressions, Subscripts}
+use Rattle.tree.specs.declared.functions.Fun.{Fun}
+use Rattle.tree.specs.declared.ops.Value.{Value}
+use Rattle.tree.specs.declared.ops.Fault.{Fault}
+use Rattle.meaning.specs.Dialect.{Dialect}
+use Rattle.meaning.specs.Store.{Store}
+use Rattle.meaning.specs.Value.{values_of, subscript_values}
+use Rattle.machine.specs.Storage.{offset}
 
 module _ (lang : Dialect) where
   -- the value of a function at expressions

@@ -2,12 +2,12 @@
 #![tactic(auto)]
 
 mod loops;
-mod machine;
 mod moment;
 mod printing;
+mod programs;
 mod reading;
 mod statements;
 mod stores;
 mod values;
 
-pub use machine::Machine77;
+pub use programs::Machine77;

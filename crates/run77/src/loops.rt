@@ -1,19 +1,19 @@
 //! Assignments, and the variables and turns of loops (ANSI X3.9-1978, sections 10 and 11.10).
 ghost use Rattle.std.specs.Prelude.{◌≡◌, [], Some, pos, IfOk, ◌<◌};
-ghost use Rattle.fv_tree.specs.View.{expression_of, reference_of};
-ghost use Rattle.fv_meaning.specs.Dialect.{fortran77};
-ghost use Rattle.fv_meaning.specs.Store.{Cell, cell_at};
-ghost use Rattle.fv_meaning.specs.Value.{increment_of, number_of};
-ghost use Rattle.fv_meaning.specs.Run.{assigns, sets_variable, increases};
-ghost use Rattle.fv_machine.specs.Storage.{total, place};
-ghost use Rattle.fv_machine.specs.Stored.{names_in, store_in, Finds};
-ghost use Rattle.fv_machine.specs.Acts.{Does};
-ghost use Rattle.fv_machine.specs.Loops.{BeginsLoop, increased};
+ghost use Rattle.tree.specs.View.{expression_of, reference_of};
+ghost use Rattle.meaning.specs.Dialect.{fortran77};
+ghost use Rattle.meaning.specs.Store.{Cell, cell_at};
+ghost use Rattle.meaning.specs.Value.{increment_of, number_of};
+ghost use Rattle.meaning.specs.Run.{assigns, sets_variable, increases};
+ghost use Rattle.machine.specs.Storage.{total, place};
+ghost use Rattle.machine.specs.Stored.{names_in, store_in, Finds};
+ghost use Rattle.machine.specs.Acts.{Does};
+ghost use Rattle.machine.specs.Loops.{BeginsLoop, increased};
 ghost use Rattle.run77.specs.Moments.{seen};
 
 use crate::moment::Moment;
-use fv_machine::{Halt, Turns, add, at, check_range, increment, trip_count};
-use fv_tree::{Expr, Fault, Name, Ref, Value};
+use machine::{Halt, Turns, add, at, check_range, increment, trip_count};
+use tree::{Expr, Fault, Name, Ref, Value};
 
 impl Moment {
     /// The place of a variable's value.

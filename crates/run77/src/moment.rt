@@ -1,5 +1,5 @@
 //! A moment of a run.
-use fv_machine::{Progress, Storage};
+use machine::{Progress, Storage};
 
 /// What is where in a run: the values of the program's names, and how far the run is.
 #[derive(Drop)]

@@ -1,19 +1,19 @@
 //! PRINT (ANSI X3.9-1978, sections 12 and 13.6).
 ghost use Rattle.std.specs.Prelude.{◌≡◌, ◌≢◌, ◌≤◌, Err, List, ℕ, MatchOption};
-ghost use Rattle.fv_io.specs.Causes.{Rose};
-ghost use Rattle.fv_tree.specs.View.{expression_of, item_of};
-ghost use Rattle.fv_meaning.specs.Dialect.{fortran77};
-ghost use Rattle.fv_meaning.specs.Run.{prints_item, prints_items, first_blank};
-ghost use Rattle.fv_machine.specs.Acts.{Runs};
-ghost use Rattle.fv_machine.specs.Printing.{prints_value, prints, plain_items};
+ghost use Rattle.streams.specs.Causes.{Rose};
+ghost use Rattle.tree.specs.View.{expression_of, item_of};
+ghost use Rattle.meaning.specs.Dialect.{fortran77};
+ghost use Rattle.meaning.specs.Run.{prints_item, prints_items, first_blank};
+ghost use Rattle.machine.specs.Acts.{Runs};
+ghost use Rattle.machine.specs.Printing.{prints_value, prints, plain_items};
 ghost use Rattle.run77.specs.Moments.{seen};
 ghost use Rattle.run77.specs.Printing.{IsOneValue, AreAllValues};
-ghost use Rattle.fv_machine.specs.Told.{IsTold};
+ghost use Rattle.machine.specs.Told.{IsTold};
 
 use crate::moment::Moment;
-use fv_io::{Sink, write_all};
-use fv_machine::{Left, at, write_output, write_outputs};
-use fv_tree::{Expr, Item, Name, Seq};
+use machine::{Left, at, write_output, write_outputs};
+use streams::{Sink, write_all};
+use tree::{Expr, Item, Name, Seq};
 
 // The name of a scalar or a whole array.
 #[tactic(auto, using(crate::proofs::ItemLaws::item_laws))]

@@ -1,19 +1,19 @@
 //! READ (ANSI X3.9-1978, section 12.3).
 ghost use Rattle.std.specs.Prelude.{◌≡◌, ◌<◌};
-ghost use Rattle.fv_tree.specs.Plain.{Single};
-ghost use Rattle.fv_tree.specs.View.{expression_of, reference_of, item_of};
-ghost use Rattle.fv_meaning.specs.Dialect.{fortran77};
-ghost use Rattle.fv_meaning.specs.Run.{reads_item, reads_items};
-ghost use Rattle.fv_machine.specs.Storage.{total};
-ghost use Rattle.fv_machine.specs.Stored.{names_in};
-ghost use Rattle.fv_machine.specs.Printing.{plain_items};
-ghost use Rattle.fv_machine.specs.Statements.{DoesOver, reads};
-ghost use Rattle.fv_machine.specs.Reading.{ReadsAt, reads_all, reads_cells};
+ghost use Rattle.tree.specs.Plain.{Single};
+ghost use Rattle.tree.specs.View.{expression_of, reference_of, item_of};
+ghost use Rattle.meaning.specs.Dialect.{fortran77};
+ghost use Rattle.meaning.specs.Run.{reads_item, reads_items};
+ghost use Rattle.machine.specs.Storage.{total};
+ghost use Rattle.machine.specs.Stored.{names_in};
+ghost use Rattle.machine.specs.Printing.{plain_items};
+ghost use Rattle.machine.specs.Statements.{DoesOver, reads};
+ghost use Rattle.machine.specs.Reading.{ReadsAt, reads_all, reads_cells};
 ghost use Rattle.run77.specs.Moments.{seen};
 
 use crate::moment::Moment;
-use fv_machine::{Halt, at, dims_of, elements, name_in, read_value};
-use fv_tree::{Expr, Fault, Item, Name, Ref, Seq};
+use machine::{Halt, at, dims_of, elements, name_in, read_value};
+use tree::{Expr, Fault, Item, Name, Ref, Seq};
 
 impl Moment {
     // The value that the place has from now on, as the input says.

@@ -1,23 +1,23 @@
 //! Statements, block IFs, loops and jumps (ANSI X3.9-1978, sections 10 and 11).
 ghost use Rattle.std.specs.Prelude.{◌≡◌, ◌≢◌, ◌≤◌, Err, map, IsTrue, Option, List, ℕ};
-ghost use Rattle.fv_io.specs.Causes.{Rose};
-ghost use Rattle.fv_tree.specs.View.{expression_of, reference_of, statement_of, block_of};
-ghost use Rattle.fv_meaning.specs.Dialect.{fortran77};
-ghost use Rattle.fv_meaning.specs.Value.{truth_of};
-ghost use Rattle.fv_meaning.specs.Run.{does, does_all, counts_step, assigns, goes, loops, Jumping, Stopped};
-ghost use Rattle.fv_machine.specs.Acts.{Does, Runs, left_of};
-ghost use Rattle.fv_machine.specs.Stored.{store_in};
-ghost use Rattle.fv_machine.specs.Printing.{plain_items, prints};
-ghost use Rattle.fv_machine.specs.Statements.{HasArms, ArmsHaveArms, BlockHasArms, plain_arms, Chooses, DoesOver};
-ghost use Rattle.fv_machine.specs.Statements.{reads};
+ghost use Rattle.streams.specs.Causes.{Rose};
+ghost use Rattle.tree.specs.View.{expression_of, reference_of, statement_of, block_of};
+ghost use Rattle.meaning.specs.Dialect.{fortran77};
+ghost use Rattle.meaning.specs.Value.{truth_of};
+ghost use Rattle.meaning.specs.Run.{does, does_all, counts_step, assigns, goes, loops, Jumping, Stopped};
+ghost use Rattle.machine.specs.Acts.{Does, Runs, left_of};
+ghost use Rattle.machine.specs.Stored.{store_in};
+ghost use Rattle.machine.specs.Printing.{plain_items, prints};
+ghost use Rattle.machine.specs.Statements.{HasArms, ArmsHaveArms, BlockHasArms, plain_arms, Chooses, DoesOver};
+ghost use Rattle.machine.specs.Statements.{reads};
 ghost use Rattle.run77.specs.Moments.{seen};
-ghost use Rattle.fv_machine.specs.Told.{IsTold};
-ghost use Rattle.fv_machine.specs.Jumps.{caught, landed};
+ghost use Rattle.machine.specs.Told.{IsTold};
+ghost use Rattle.machine.specs.Jumps.{caught, landed};
 
 use crate::moment::Moment;
-use fv_io::Sink;
-use fv_machine::{Halt, Left, at, passed};
-use fv_tree::{Arm, Block, Expr, Fault, Item, Ref, Seq, Stmt};
+use machine::{Halt, Left, at, passed};
+use streams::Sink;
+use tree::{Arm, Block, Expr, Fault, Item, Ref, Seq, Stmt};
 
 fn left(answer: Result<(), Halt>) -> Result<(), Left>
     ensures { result ≡ left_of answer }

@@ -1,15 +1,15 @@
 //! Steps, and what is stored.
 ghost use Rattle.std.specs.Prelude.{◌≡◌, ◌<◌};
-ghost use Rattle.fv_meaning.specs.Dialect.{fortran77};
-ghost use Rattle.fv_machine.specs.Storage.{total};
-ghost use Rattle.fv_machine.specs.Stored.{names_in};
-ghost use Rattle.fv_machine.specs.Moments.{CountsStep};
-ghost use Rattle.fv_machine.specs.Acts.{StoresAt};
+ghost use Rattle.meaning.specs.Dialect.{fortran77};
+ghost use Rattle.machine.specs.Storage.{total};
+ghost use Rattle.machine.specs.Stored.{names_in};
+ghost use Rattle.machine.specs.Moments.{CountsStep};
+ghost use Rattle.machine.specs.Acts.{StoresAt};
 ghost use Rattle.run77.specs.Moments.{seen};
 
 use crate::moment::Moment;
-use fv_machine::{Halt, at, check_range};
-use fv_tree::Value;
+use machine::{Halt, at, check_range};
+use tree::Value;
 
 impl Moment {
     /// Counts a step, unless none is left.

@@ -1,16 +1,16 @@
 //! The values of expressions over the values of a program's names.
 ghost use Rattle.std.specs.Prelude.{◌≡◌, ◌<◌, map, IfOk};
-ghost use Rattle.fv_tree.specs.Plain.{subscripts, expressions};
-ghost use Rattle.fv_tree.specs.View.{expression_of, subscript_of, reference_of};
-ghost use Rattle.fv_meaning.specs.Dialect.{fortran77};
-ghost use Rattle.fv_meaning.specs.Value.{value_of, subscript_value, cell_named};
-ghost use Rattle.fv_machine.specs.Storage.{AreBounds, bounds_list, total};
-ghost use Rattle.fv_machine.specs.Stored.{names_in, store_in, Finds};
+ghost use Rattle.tree.specs.Plain.{subscripts, expressions};
+ghost use Rattle.tree.specs.View.{expression_of, subscript_of, reference_of};
+ghost use Rattle.meaning.specs.Dialect.{fortran77};
+ghost use Rattle.meaning.specs.Value.{value_of, subscript_value, cell_named};
+ghost use Rattle.machine.specs.Storage.{AreBounds, bounds_list, total};
+ghost use Rattle.machine.specs.Stored.{names_in, store_in, Finds};
 ghost use Rattle.run77.specs.Values.{call_of, offset_of};
 
 use crate::moment::Moment;
-use fv_machine::{Subscripts, dims_of, offset};
-use fv_tree::{Arguments, Dim, Expr, Fault, Fun, Ref, Seq, Sub, Value};
+use machine::{Subscripts, dims_of, offset};
+use tree::{Arguments, Dim, Expr, Fault, Fun, Ref, Seq, Sub, Value};
 
 impl Moment {
     /// The value of an expression. The left operand of two is evaluated first, and the first fault wins.

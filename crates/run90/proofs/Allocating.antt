@@ -1,39 +1,39 @@
 -- ALLOCATE and DEALLOCATE.
 use Rattle.std.proofs.Common.{◌≡◌, refl, sym, ap, ◌∙◌, subst, ℕ, ℤ, List, drop, Result, Ok, Err, Option, Some, None, IfSome}
 use Rattle.std.specs.Option.{option_map, IsSomeAnd}
-use Rattle.fv_tree.specs.Operators.{kind_of}
-use Rattle.fv_tree.specs.Plain.{Declaration, Program, Expressions, Later, Allocate, no_statements, statement}
-use Rattle.fv_tree.specs.declared.ops.Kind.{Kind}
-use Rattle.fv_tree.specs.declared.ops.Kind.TheVariants.{Integer, Logical}
-use Rattle.fv_tree.specs.declared.ops.Value.{Value}
-use Rattle.fv_tree.specs.declared.ops.Value.TheVariants.{Int, Truth}
-use Rattle.fv_tree.specs.declared.ops.Fault.{Fault}
-use Rattle.fv_meaning.specs.ArrayStatements.{allocated_bounds, free}
-use Rattle.fv_meaning.specs.Dialect.{fortran90}
-use Rattle.fv_meaning.specs.Holding.{IsStorable}
-use Rattle.fv_meaning.specs.Profile90.{IsAllocation}
-use Rattle.fv_meaning.specs.Store.{Store, bounds_of, allocated, with_bounds, nought, nought_like}
-use Rattle.fv_meaning.specs.Texts.{without_cr}
-use Rattle.fv_meaning.specs.Typed.{declared, number_of_arguments}
-use Rattle.fv_meaning.specs.Run.{State, Act, Going, does, allocates, deallocates}
-use Rattle.fv_machine.specs.declared.progress.Halt.TheVariants.{Fault as Fault'}
-use Rattle.fv_machine.specs.declared.progress.Progress.{Progress}
-use Rattle.fv_machine.specs.Acts.{Runs}
-use Rattle.fv_machine.specs.Moments.{Seen, CountsStep, located}
-use Rattle.fv_machine.proofs.ActLaws.{at_same, begun, steady, Runs-counts_step, Runs-fault}
-use Rattle.fv_machine.proofs.BlockLaws.{Extends-does_all}
-use Rattle.array_storage.specs.declared.slots.Slot.{Slot}
-use Rattle.array_storage.specs.Slots.{kind_among, held_among, store_among}
-use Rattle.array_storage.specs.Opening.{KindsAreDeclared}
-use Rattle.array_storage.specs.Allocation.{HoldsKind, Allocates, Deallocates, from_one}
+use Rattle.tree.specs.Operators.{kind_of}
+use Rattle.tree.specs.Plain.{Declaration, Program, Expressions, Later, Allocate, no_statements, statement}
+use Rattle.tree.specs.declared.ops.Kind.{Kind}
+use Rattle.tree.specs.declared.ops.Kind.TheVariants.{Integer, Logical}
+use Rattle.tree.specs.declared.ops.Value.{Value}
+use Rattle.tree.specs.declared.ops.Value.TheVariants.{Int, Truth}
+use Rattle.tree.specs.declared.ops.Fault.{Fault}
+use Rattle.meaning.specs.ArrayStatements.{allocated_bounds, free}
+use Rattle.meaning.specs.Dialect.{fortran90}
+use Rattle.meaning.specs.Holding.{IsStorable}
+use Rattle.meaning.specs.Profile90.{IsAllocation}
+use Rattle.meaning.specs.Store.{Store, bounds_of, allocated, with_bounds, nought, nought_like}
+use Rattle.meaning.specs.Texts.{without_cr}
+use Rattle.meaning.specs.Typed.{declared, number_of_arguments}
+use Rattle.meaning.specs.Run.{State, Act, Going, does, allocates, deallocates}
+use Rattle.machine.specs.declared.progress.Halt.TheVariants.{Fault as Fault'}
+use Rattle.machine.specs.declared.progress.Progress.{Progress}
+use Rattle.machine.specs.Acts.{Runs}
+use Rattle.machine.specs.Moments.{Seen, CountsStep, located}
+use Rattle.machine.proofs.ActLaws.{at_same, begun, steady, Runs-counts_step, Runs-fault}
+use Rattle.machine.proofs.BlockLaws.{Extends-does_all}
+use Rattle.array_values.specs.declared.storage.slots.Slot.{Slot}
+use Rattle.array_values.specs.storage.Slots.{kind_among, held_among, store_among}
+use Rattle.array_values.specs.storage.Opening.{KindsAreDeclared}
+use Rattle.array_values.specs.storage.Allocation.{HoldsKind, Allocates, Deallocates, from_one}
 use Rattle.array_values.specs.declared.failure.Failure.{Failure}
 use Rattle.array_values.specs.declared.failure.Failure.TheVariants as failure
-use Rattle.fv_machine.specs.declared.progress.Halt.{Halt}
-use Rattle.array_storage.proofs.PlaceLaws.{store-held}
-use Rattle.array_assignments.specs.declared.causes.Stuck.{Stuck}
-use Rattle.array_assignments.specs.declared.causes.Stuck.TheVariants as stuck
-use Rattle.array_assignments.specs.Causes.{at_line, AnswersAt, left_by}
-use Rattle.array_assignments.proofs.Lacking.{Runs-lacking}
+use Rattle.machine.specs.declared.progress.Halt.{Halt}
+use Rattle.array_values.proofs.storage.PlaceLaws.{store-held}
+use Rattle.array_expressions.specs.declared.assignments.causes.Stuck.{Stuck}
+use Rattle.array_expressions.specs.declared.assignments.causes.Stuck.TheVariants as stuck
+use Rattle.array_expressions.specs.assignments.Causes.{at_line, AnswersAt, left_by}
+use Rattle.array_expressions.proofs.assignments.Lacking.{Runs-lacking}
 use Rattle.run90.specs.Suiting.{Suits}
 use Rattle.run90.proofs.Keeping.{step_same}
 

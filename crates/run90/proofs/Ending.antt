@@ -2,24 +2,24 @@
 use Rattle.std.proofs.Common.{◌≡◌, refl, sym, ap, ◌∙◌, subst, ℕ, List, [], length, Result, Ok, Err, Option, Some, None, append-nil}
 use Rattle.std.specs.Prelude.{MatchResult}
 use Rattle.std.specs.Io.KnownBytes.{append_known}
-use Rattle.fv_tree.specs.Plain.{Declaration, Program, Block}
-use Rattle.fv_meaning.specs.Dialect.{fortran90}
-use Rattle.fv_meaning.specs.Jumps.{AllJumpsForward}
-use Rattle.fv_meaning.specs.Run.{run, does_all}
-use Rattle.fv_meaning.specs.declared.End.TheVariants.{WriteFault}
-use Rattle.fv_machine.specs.declared.progress.Halt.TheVariants.{Jump, Stop, Fault, Limit}
-use Rattle.fv_machine.specs.declared.progress.Left.TheVariants.{Halted, Unwritten}
-use Rattle.fv_machine.specs.Acts.{Runs}
-use Rattle.fv_machine.specs.Endings.{IsOpening, Ends, IsLeftAt, ended}
-use Rattle.fv_machine.specs.Moments.{Seen}
-use Rattle.fv_machine.specs.Storage.{opening_of}
-use Rattle.fv_machine.proofs.MachineLaws.{opens, runs_to_end, left_at as left_off}
-use Rattle.fv_machine.proofs.Telling.{nothing_given}
-use Rattle.fv_meaning.specs.Holding.{HoldsProgram}
-use Rattle.profile_laws.proofs.TargetRuns.{opening_store_holds}
-use Rattle.array_transfers.specs.declared.unfinished.Unfinished.{Unfinished}
-use Rattle.array_transfers.specs.declared.unfinished.Unfinished.TheVariants.{Left, Memory}
-use Rattle.array_transfers.specs.Unfinished.{ended_by}
+use Rattle.tree.specs.Plain.{Declaration, Program, Block}
+use Rattle.meaning.specs.Dialect.{fortran90}
+use Rattle.meaning.specs.Jumps.{AllJumpsForward}
+use Rattle.meaning.specs.Run.{run, does_all}
+use Rattle.meaning.specs.declared.End.TheVariants.{WriteFault}
+use Rattle.machine.specs.declared.progress.Halt.TheVariants.{Jump, Stop, Fault, Limit}
+use Rattle.machine.specs.declared.progress.Left.TheVariants.{Halted, Unwritten}
+use Rattle.machine.specs.Acts.{Runs}
+use Rattle.machine.specs.Endings.{IsOpening, Ends, IsLeftAt, ended}
+use Rattle.machine.specs.Moments.{Seen}
+use Rattle.machine.specs.Storage.{opening_of}
+use Rattle.machine.proofs.MachineLaws.{opens, runs_to_end, left_at as left_off}
+use Rattle.machine.proofs.Telling.{nothing_given}
+use Rattle.meaning.specs.Holding.{HoldsProgram}
+use Rattle.meaning_laws.proofs.profiles.TargetRuns.{opening_store_holds}
+use Rattle.array_expressions.specs.declared.transfers.unfinished.Unfinished.{Unfinished}
+use Rattle.array_expressions.specs.declared.transfers.unfinished.Unfinished.TheVariants.{Left, Memory}
+use Rattle.array_expressions.specs.transfers.Unfinished.{ended_by}
 use Rattle.run90.specs.Machine.{HasFrontOf, ending_of}
 use Rattle.run90.specs.Opening.{opening_moment}
 use Rattle.run90.specs.Suiting.{Suits}

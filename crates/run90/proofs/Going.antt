@@ -2,38 +2,38 @@
 use Rattle.std.proofs.Common.{◌≡◌, refl, sym, ap, ◌∙◌, subst, ℕ, ◌+◌, ◌<◌, Bool, false, List, drop, get_or, length, map, Result, Ok, Err, Option, Some, None}
 use Rattle.std.specs.Prelude.{◌≢◌}
 use Rattle.std.proofs.lemmas.List.{at_drop_more}
-use Rattle.fv_tree.specs.Plain.{Declaration, Program, If, Arms, no_arms, arm, Block, no_statements, statement, block}
-use Rattle.fv_tree.specs.View.{expression_of, statement_of, tested_of, block_of}
-use Rattle.fv_tree.specs.declared.stmts.Stmt.{Stmt}
-use Rattle.fv_tree.specs.declared.stmts.Arm.{Arm, out-Arm}
-use Rattle.fv_tree.specs.declared.stmts.Block as view
-use Rattle.fv_tree.specs.Steps.{◌>>=◌}
-use Rattle.fv_tree.specs.declared.ops.Fault.{Fault}
-use Rattle.fv_tree.proofs.Equations.{tested_of-is, block_of-is}
-use Rattle.fv_meaning.specs.Blocks.{Surroundings, before_labels, labels_of}
-use Rattle.fv_meaning.specs.Dialect.{Dialect, fortran90}
-use Rattle.fv_meaning.specs.Profile90.{IsStatement, AreArms, IsBlock}
-use Rattle.fv_meaning.specs.Value.{truth_of}
-use Rattle.fv_meaning.specs.Run.{either, nothing, evaluates, does_all, chooses}
-use Rattle.fv_machine.specs.declared.progress.Halt.TheVariants.{Jump, Stop as Stop', Fault as Fault', Limit}
-use Rattle.fv_machine.specs.declared.progress.Left.{Left}
-use Rattle.fv_machine.specs.declared.progress.Left.TheVariants.{Halted, Unwritten}
-use Rattle.fv_machine.specs.Acts.{LimitedAct, Runs}
-use Rattle.fv_machine.specs.Jumps.{landed}
-use Rattle.fv_machine.specs.Moments.{Seen, CountsStep, located}
-use Rattle.fv_machine.specs.Statements.{plain_arms}
-use Rattle.fv_machine.proofs.ActLaws.{Extends, Runs-nothing}
-use Rattle.fv_machine.proofs.BlockLaws.{Extends-does_all, left_of_arms, arm_fault}
-use Rattle.fv_machine.proofs.IdleLaws.{Idles-counts_step}
-use Rattle.fv_machine.proofs.TurnLaws.{Adds-counts_step}
-use Rattle.array_assignments.specs.declared.causes.Stuck.{Stuck}
-use Rattle.array_assignments.specs.declared.causes.Stuck.TheVariants as stuck
-use Rattle.array_assignments.specs.Causes.{AnswersAt, outcome}
-use Rattle.array_assignments.proofs.Lacking.{Runs-lacking, Extends-evaluates, Extends-either}
-use Rattle.array_transfers.specs.declared.unfinished.Unfinished.{Unfinished}
-use Rattle.array_transfers.specs.declared.unfinished.Unfinished.TheVariants.{Left as Left', Memory}
-use Rattle.array_transfers.specs.Unfinished.{unfinished_by, left_at, ended_by}
-use Rattle.array_transfers.proofs.Lacking.{left_so}
+use Rattle.tree.specs.Plain.{Declaration, Program, If, Arms, no_arms, arm, Block, no_statements, statement, block}
+use Rattle.tree.specs.View.{expression_of, statement_of, tested_of, block_of}
+use Rattle.tree.specs.declared.stmts.Stmt.{Stmt}
+use Rattle.tree.specs.declared.stmts.Arm.{Arm, out-Arm}
+use Rattle.tree.specs.declared.stmts.Block as view
+use Rattle.tree.specs.Steps.{◌>>=◌}
+use Rattle.tree.specs.declared.ops.Fault.{Fault}
+use Rattle.tree.proofs.Equations.{tested_of-is, block_of-is}
+use Rattle.meaning.specs.Blocks.{Surroundings, before_labels, labels_of}
+use Rattle.meaning.specs.Dialect.{Dialect, fortran90}
+use Rattle.meaning.specs.Profile90.{IsStatement, AreArms, IsBlock}
+use Rattle.meaning.specs.Value.{truth_of}
+use Rattle.meaning.specs.Run.{either, nothing, evaluates, does_all, chooses}
+use Rattle.machine.specs.declared.progress.Halt.TheVariants.{Jump, Stop as Stop', Fault as Fault', Limit}
+use Rattle.machine.specs.declared.progress.Left.{Left}
+use Rattle.machine.specs.declared.progress.Left.TheVariants.{Halted, Unwritten}
+use Rattle.machine.specs.Acts.{LimitedAct, Runs}
+use Rattle.machine.specs.Jumps.{landed}
+use Rattle.machine.specs.Moments.{Seen, CountsStep, located}
+use Rattle.machine.specs.Statements.{plain_arms}
+use Rattle.machine.proofs.ActLaws.{Extends, Runs-nothing}
+use Rattle.machine.proofs.BlockLaws.{Extends-does_all, left_of_arms, arm_fault}
+use Rattle.machine.proofs.IdleLaws.{Idles-counts_step}
+use Rattle.machine.proofs.TurnLaws.{Adds-counts_step}
+use Rattle.array_expressions.specs.declared.assignments.causes.Stuck.{Stuck}
+use Rattle.array_expressions.specs.declared.assignments.causes.Stuck.TheVariants as stuck
+use Rattle.array_expressions.specs.assignments.Causes.{AnswersAt, outcome}
+use Rattle.array_expressions.proofs.assignments.Lacking.{Runs-lacking, Extends-evaluates, Extends-either}
+use Rattle.array_expressions.specs.declared.transfers.unfinished.Unfinished.{Unfinished}
+use Rattle.array_expressions.specs.declared.transfers.unfinished.Unfinished.TheVariants.{Left as Left', Memory}
+use Rattle.array_expressions.specs.transfers.Unfinished.{unfinished_by, left_at, ended_by}
+use Rattle.array_expressions.proofs.transfers.Lacking.{left_so}
 use Rattle.run90.specs.Statements.{unfinished, landed as landed90, Chooses}
 use Rattle.run90.specs.Suiting.{Suits}
 use Rattle.run90.proofs.Keeping.{step_same, HasEnded, suits_after, keeps_statement}

@@ -1,36 +1,36 @@
 -- What is done keeps moments that suit the program.
 use Rattle.std.proofs.Common.{◌≡◌, refl, sym, ap, ◌∙◌, subst, ◌⊎◌, inl, inr, zero, suc, ℕ, ℤ, ◌-◌, ◌+ℤ◌, List, [], drop, Result, Ok, Err, Option, Some, None, append-nil, arith}
 use Rattle.std.specs.Io.KnownBytes.{append_known}
-use Rattle.fv_tree.specs.Steps.{◌>>=◌}
-use Rattle.fv_tree.specs.Operators.{as_number}
-use Rattle.fv_tree.specs.Plain.{Program, Expression, Statement, Do, Stop, Block, no_statements, statement}
-use Rattle.fv_tree.specs.declared.ops.Value.TheVariants.{Int}
-use Rattle.fv_meaning.specs.Blocks.{Surroundings}
-use Rattle.fv_meaning.specs.Dialect.{fortran90}
-use Rattle.fv_meaning.specs.Holding.{HoldsProgram}
-use Rattle.fv_meaning.specs.Profile90.{IsStatement, IsBlock}
-use Rattle.fv_meaning.specs.Store.{Cell}
-use Rattle.fv_meaning.specs.Texts.{without_cr}
-use Rattle.fv_meaning.specs.Typed90.{IsIntegerScalar}
-use Rattle.fv_meaning.specs.Value.{exact}
-use Rattle.fv_meaning.specs.Run.{State, Way, Going, Jumping, Stopped, Failed, Cut, goes, does, does_all, increases, sets_variable, loops, repeated, turn}
-use Rattle.fv_meaning.proofs.Kept.{Keeps}
-use Rattle.fv_machine.specs.declared.steps.Turns.{Turns}
-use Rattle.fv_machine.specs.declared.progress.Halt.TheVariants.{Stop as Stop', Limit}
-use Rattle.fv_machine.specs.declared.progress.Left.{Left}
-use Rattle.fv_machine.specs.declared.progress.Left.TheVariants.{Halted, Unwritten}
-use Rattle.fv_machine.specs.Acts.{LimitedAct, Outcome, Runs}
-use Rattle.fv_machine.specs.Moments.{Seen, Stands, CountsStep, seen_at, steps_left}
-use Rattle.fv_machine.proofs.ActLaws.{Runs-counts_step, Runs-cut, Runs-goes}
-use Rattle.fv_machine.proofs.BlockLaws.{Extends-does_all}
-use Rattle.fv_machine.proofs.StepLaws.{step_unlimited, step_missing, step_taken}
-use Rattle.fv_machine.proofs.TurnLaws.{turn_cut, turn_left, no_turn}
-use Rattle.profile_laws.proofs.Answering.{AnyFault, AnyValue}
-use Rattle.profile_laws.proofs.Parts.{Good, keeps_evaluates, keeps_checks_range, keeps_stores, Allowed}
-use Rattle.profile_laws.proofs.Stores.{Fits}
-use Rattle.profile_laws.proofs.TargetRuns.{any_rest, statements_keep_stores}
-use Rattle.profile_laws.proofs.ValueKinds.{any, cell_is, integer_fits}
-use Rattle.array_assignments.specs.Loops.{BeginsLoop}
+use Rattle.tree.specs.Steps.{◌>>=◌}
+use Rattle.tree.specs.Operators.{as_number}
+use Rattle.tree.specs.Plain.{Program, Expression, Statement, Do, Stop, Block, no_statements, statement}
+use Rattle.tree.specs.declared.ops.Value.TheVariants.{Int}
+use Rattle.meaning.specs.Blocks.{Surroundings}
+use Rattle.meaning.specs.Dialect.{fortran90}
+use Rattle.meaning.specs.Holding.{HoldsProgram}
+use Rattle.meaning.specs.Profile90.{IsStatement, IsBlock}
+use Rattle.meaning.specs.Store.{Cell}
+use Rattle.meaning.specs.Texts.{without_cr}
+use Rattle.meaning.specs.Typed90.{IsIntegerScalar}
+use Rattle.meaning.specs.Value.{exact}
+use Rattle.meaning.specs.Run.{State, Way, Going, Jumping, Stopped, Failed, Cut, goes, does, does_all, increases, sets_variable, loops, repeated, turn}
+use Rattle.meaning.proofs.Kept.{Keeps}
+use Rattle.machine.specs.declared.steps.Turns.{Turns}
+use Rattle.machine.specs.declared.progress.Halt.TheVariants.{Stop as Stop', Limit}
+use Rattle.machine.specs.declared.progress.Left.{Left}
+use Rattle.machine.specs.declared.progress.Left.TheVariants.{Halted, Unwritten}
+use Rattle.machine.specs.Acts.{LimitedAct, Outcome, Runs}
+use Rattle.machine.specs.Moments.{Seen, Stands, CountsStep, seen_at, steps_left}
+use Rattle.machine.proofs.ActLaws.{Runs-counts_step, Runs-cut, Runs-goes}
+use Rattle.machine.proofs.BlockLaws.{Extends-does_all}
+use Rattle.machine.proofs.StepLaws.{step_unlimited, step_missing, step_taken}
+use Rattle.machine.proofs.TurnLaws.{turn_cut, turn_left, no_turn}
+use Rattle.meaning_laws.proofs.profiles.Answering.{AnyFault, AnyValue}
+use Rattle.meaning_laws.proofs.profiles.Parts.{Good, keeps_evaluates, keeps_checks_range, keeps_stores, Allowed}
+use Rattle.meaning_laws.proofs.profiles.Stores.{Fits}
+use Rattle.meaning_laws.proofs.profiles.TargetRuns.{any_rest, statements_keep_stores}
+use Rattle.meaning_laws.proofs.profiles.ValueKinds.{any, cell_is, integer_fits}
+use Rattle.array_expressions.specs.assignments.Loops.{BeginsLoop}
 use Rattle.run90.specs.Suiting.{Suits}
 
 -- ---- a moment of a run that a machine's moment stands for

@@ -6,13 +6,13 @@ use Rattle.std.specs.Ordering.{nat_cmp, is_eq}
 use Rattle.std.specs.Cmp.Lexicographic.{slice_cmp}
 use Rattle.std.specs.declared.cmp.Ordering.TheVariants.{Less}
 use Rattle.std.proofs.lemmas.Map.Text.{is_eq-slice_cmp}
-use Rattle.fv_tree.specs.Plain.{Declaration, Program, Statement, Assignment, Where, If, Do, Label, GoTo, Stop, Read, Print}
-use Rattle.fv_tree.specs.Plain.{Allocate, Deallocate, Arms, no_arms, arm, Block, no_statements, statement}
-use Rattle.fv_meaning.specs.Names.{IsInByteOrder}
-use Rattle.fv_meaning.specs.Blocks.{Surroundings, before_labels, labels_of, within_loop}
-use Rattle.fv_meaning.specs.Profile90.{IsProgram90, IsStatement, AreArms, IsBlock}
-use Rattle.fv_machine.specs.Statements.{HasArms, ArmsHaveArms, BlockHasArms}
-use Rattle.fv_machine.specs.Storage.{AreDistinct}
+use Rattle.tree.specs.Plain.{Declaration, Program, Statement, Assignment, Where, If, Do, Label, GoTo, Stop, Read, Print}
+use Rattle.tree.specs.Plain.{Allocate, Deallocate, Arms, no_arms, arm, Block, no_statements, statement}
+use Rattle.meaning.specs.Names.{IsInByteOrder}
+use Rattle.meaning.specs.Blocks.{Surroundings, before_labels, labels_of, within_loop}
+use Rattle.meaning.specs.Profile90.{IsProgram90, IsStatement, AreArms, IsBlock}
+use Rattle.machine.specs.Statements.{HasArms, ArmsHaveArms, BlockHasArms}
+use Rattle.machine.specs.Storage.{AreDistinct}
 
 -- a name is none of those after it in byte order
 apart : (x : List ℕ) (ds : List Declaration) → AllByRecursion (λ y. slice_cmp nat_cmp x y ≡ Less) (map (λ (d : Declaration). d.name) ds) → AllByRecursion (λ (d : Declaration). bytes_eq x d.name ≡ false) ds

@@ -1,16 +1,16 @@
 -- The machine of a program, and the store that it has.
 use Rattle.std.specs.Prelude.{◌≡◌, ◌++◌, Result, Ok, Err, Option, ℕ, List, map}
 use Rattle.std.specs.Io.KnownBytes.{append_known}
-use Rattle.fv_tree.specs.Plain.{Program}
-use Rattle.fv_tree.specs.View.{block_of, declaration_of}
-use Rattle.fv_meaning.specs.Store.{Store}
-use Rattle.fv_tree.specs.declared.lists.Memory.{Memory}
-use Rattle.fv_meaning.specs.declared.End.{End}
-use Rattle.fv_machine.specs.Endings.{ended}
-use Rattle.array_storage.specs.Stored.{store_in}
-use Rattle.array_transfers.specs.declared.unfinished.Unfinished.{Unfinished}
-use Rattle.array_transfers.specs.declared.unfinished.Unfinished.TheVariants.{Left, Memory as Lacking}
-use Rattle.run90.specs.declared.machine.Machine90.{Machine90}
+use Rattle.tree.specs.Plain.{Program}
+use Rattle.tree.specs.View.{block_of, declaration_of}
+use Rattle.meaning.specs.Store.{Store}
+use Rattle.tree.specs.declared.lists.Memory.{Memory}
+use Rattle.meaning.specs.declared.End.{End}
+use Rattle.machine.specs.Endings.{ended}
+use Rattle.array_values.specs.storage.Stored.{store_in}
+use Rattle.array_expressions.specs.declared.transfers.unfinished.Unfinished.{Unfinished}
+use Rattle.array_expressions.specs.declared.transfers.unfinished.Unfinished.TheVariants.{Left, Memory as Lacking}
+use Rattle.run90.specs.declared.programs.Machine90.{Machine90}
 
 -- the machine has the names and the statements of the program
 pub record IsMachineOf (p : Program) (m : Machine90) : Type 0 where

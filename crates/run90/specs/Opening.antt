@@ -1,8 +1,8 @@
 -- The first moment of a run.
 use Rattle.std.specs.Prelude.{Option, ℕ, List}
-use Rattle.fv_tree.specs.Plain.{Declaration}
-use Rattle.fv_machine.specs.Moments.{Seen, seen_at, begun_at}
-use Rattle.fv_machine.specs.Storage.{opening_of}
+use Rattle.tree.specs.Plain.{Declaration}
+use Rattle.machine.specs.Moments.{Seen, seen_at, begun_at}
+use Rattle.machine.specs.Storage.{opening_of}
 
 -- under a limit of steps
 abbrev pub opening_moment : Option ℕ → List Declaration → Seen

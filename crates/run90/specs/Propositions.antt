@@ -3,8 +3,8 @@ use Rattle.std.proofs.Common.{◌≡◌, ℕ, false, List, [], ◌∷◌}
 use Rattle.std.specs.Coded.{Coded-set, coded_bool}
 use Rattle.std.specs.List.{AllByRecursion}
 use Rattle.std.specs.Str.{bytes_eq}
-use Rattle.fv_tree.specs.Plain.{Declaration}
-use Rattle.fv_machine.specs.Storage.{AreDistinct}
+use Rattle.tree.specs.Plain.{Declaration}
+use Rattle.machine.specs.Storage.{AreDistinct}
 
 apart-prop : (x : List ℕ) (ds : List Declaration)
     → IsProp (AllByRecursion (λ (e : Declaration). bytes_eq x e.name ≡ false) ds)

@@ -1,19 +1,19 @@
 -- Statements, as the machine does them.
 use Rattle.std.specs.Prelude.{Result, Ok, Err, Option, Some, None, ℕ, Bool, true, false, List}
-use Rattle.fv_tree.specs.Plain.{Arms}
-use Rattle.fv_meaning.specs.Dialect.{fortran90}
-use Rattle.fv_meaning.specs.Run.{chooses}
-use Rattle.fv_machine.specs.declared.progress.Halt.{Halt}
-use Rattle.fv_machine.specs.declared.progress.Halt.TheVariants.{Jump, Stop, Fault, Limit}
-use Rattle.fv_machine.specs.declared.progress.Left.{Left as Left'}
-use Rattle.fv_machine.specs.declared.progress.Left.TheVariants.{Halted, Unwritten}
-use Rattle.fv_machine.specs.Moments.{Seen}
-use Rattle.fv_machine.specs.Acts.{LimitedAct, Runs}
-use Rattle.fv_machine.proofs.ActLaws.{Extends}
-use Rattle.array_assignments.specs.declared.causes.Stuck.{Stuck}
-use Rattle.array_transfers.specs.declared.unfinished.Unfinished.{Unfinished}
-use Rattle.array_transfers.specs.declared.unfinished.Unfinished.TheVariants.{Left, Memory}
-use Rattle.array_transfers.specs.Unfinished.{unfinished_by, left_at}
+use Rattle.tree.specs.Plain.{Arms}
+use Rattle.meaning.specs.Dialect.{fortran90}
+use Rattle.meaning.specs.Run.{chooses}
+use Rattle.machine.specs.declared.progress.Halt.{Halt}
+use Rattle.machine.specs.declared.progress.Halt.TheVariants.{Jump, Stop, Fault, Limit}
+use Rattle.machine.specs.declared.progress.Left.{Left as Left'}
+use Rattle.machine.specs.declared.progress.Left.TheVariants.{Halted, Unwritten}
+use Rattle.machine.specs.Moments.{Seen}
+use Rattle.machine.specs.Acts.{LimitedAct, Runs}
+use Rattle.machine.proofs.ActLaws.{Extends}
+use Rattle.array_expressions.specs.declared.assignments.causes.Stuck.{Stuck}
+use Rattle.array_expressions.specs.declared.transfers.unfinished.Unfinished.{Unfinished}
+use Rattle.array_expressions.specs.declared.transfers.unfinished.Unfinished.TheVariants.{Left, Memory}
+use Rattle.array_expressions.specs.transfers.Unfinished.{unfinished_by, left_at}
 
 abbrev pub unfinished : {A : Type 0} → Result A Stuck → Result A Unfinished
 unfinished (Ok x) = Ok x

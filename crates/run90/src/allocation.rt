@@ -1,19 +1,19 @@
 //! ALLOCATE and DEALLOCATE (ISO/IEC 1539:1991, sections 6.3.1 and 6.3.3).
 ghost use Rattle.std.specs.Prelude.{◌≡◌, Some, map};
-ghost use Rattle.fv_tree.specs.Plain.{Allocate, Deallocate, expressions};
-ghost use Rattle.fv_tree.specs.View.{expression_of};
-ghost use Rattle.fv_tree.specs.declared.ops.Kind.{Kind as Kind'};
-ghost use Rattle.fv_meaning.specs.Dialect.{fortran90};
-ghost use Rattle.fv_meaning.specs.Run.{does};
-ghost use Rattle.array_storage.specs.Slots.{kind_among};
-ghost use Rattle.array_storage.specs.Allocation.{HoldsKind};
-ghost use Rattle.array_assignments.specs.Causes.{Does};
-ghost use Rattle.array_assignments.specs.Moments.{seen, slots_of};
+ghost use Rattle.tree.specs.Plain.{Allocate, Deallocate, expressions};
+ghost use Rattle.tree.specs.View.{expression_of};
+ghost use Rattle.tree.specs.declared.ops.Kind.{Kind as Kind'};
+ghost use Rattle.meaning.specs.Dialect.{fortran90};
+ghost use Rattle.meaning.specs.Run.{does};
+ghost use Rattle.array_values.specs.storage.Slots.{kind_among};
+ghost use Rattle.array_values.specs.storage.Allocation.{HoldsKind};
+ghost use Rattle.array_expressions.specs.assignments.Causes.{Does};
+ghost use Rattle.array_expressions.specs.assignments.Moments.{seen, slots_of};
 
-use array_assignments::{Moment, Stuck, at};
 use array_expressions::all_numbers;
-use fv_machine::at as located;
-use fv_tree::{Expr, Name, Seq};
+use array_expressions::assignments::{Moment, Stuck, at};
+use machine::at as located;
+use tree::{Expr, Name, Seq};
 
 /// The extents are evaluated, and then the array has elements, each of them 0 or `.FALSE.`.
 pub fn allocate(

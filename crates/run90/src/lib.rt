@@ -2,8 +2,8 @@
 #![tactic(auto)]
 
 mod allocation;
-mod machine;
+mod programs;
 mod runs;
 mod statements;
 
-pub use machine::Machine90;
+pub use programs::Machine90;

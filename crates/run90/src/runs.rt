@@ -1,31 +1,30 @@
 //! Runs of a program, and its final store.
 ghost use Rattle.std.specs.Prelude.{◌≡◌, ◌≢◌, ◌≤◌, [], Ok, IfOk, OnOk, OnErr, MatchResult, map};
-ghost use Rattle.fv_io.specs.Causes.{Rose};
-ghost use Rattle.fv_tree.specs.Plain.{Program};
-ghost use Rattle.fv_tree.specs.View.{program_of_90, declaration_of, block_of};
-ghost use Rattle.fv_meaning.specs.Store.{opening_store};
-ghost use Rattle.fv_meaning.specs.Profile90.{IsProgram90};
-ghost use Rattle.fv_meaning.specs.Dialect.{fortran90};
-ghost use Rattle.fv_meaning.specs.Run.{run};
-ghost use Rattle.fv_meaning.specs.Steps.{final_lines};
-ghost use Rattle.fv_machine.specs.Endings.{Ends, IsLeftAt};
-ghost use Rattle.fv_machine.specs.Storage.{AreDistinct, opening_of};
-ghost use Rattle.fv_machine.specs.Texts.{WritesText};
-ghost use Rattle.array_assignments.specs.Moments.{seen};
+ghost use Rattle.streams.specs.Causes.{Rose};
+ghost use Rattle.tree.specs.Plain.{Program};
+ghost use Rattle.tree.specs.View.{program_of_90, declaration_of, block_of};
+ghost use Rattle.meaning.specs.Store.{opening_store};
+ghost use Rattle.meaning.specs.Profile90.{IsProgram90};
+ghost use Rattle.meaning.specs.Dialect.{fortran90};
+ghost use Rattle.meaning.specs.Run.{run};
+ghost use Rattle.meaning.specs.Steps.{final_lines};
+ghost use Rattle.machine.specs.Endings.{Ends, IsLeftAt};
+ghost use Rattle.machine.specs.Storage.{AreDistinct, opening_of};
+ghost use Rattle.machine.specs.Texts.{WritesText};
+ghost use Rattle.array_expressions.specs.assignments.Moments.{seen};
 ghost use Rattle.run90.specs.Opening.{opening_moment};
 ghost use Rattle.run90.specs.Machine.{IsMachineOf, store_left, HasFrontOf, ending_of};
 
-use crate::machine::Machine90;
+use crate::programs::Machine90;
 use crate::statements::block;
-use array_assignments::Moment;
-use array_storage::Storage;
-use array_transfers::Unfinished;
-use fv_io::{Sink, WriteFault};
-use fv_machine::{Progress, ended};
-use fv_meaning::End;
-use fv_tree::{Block, Decl, Memory, Program90, Seq};
-use nest_tree::copy_decls;
+use array_expressions::assignments::Moment;
+use array_expressions::transfers::Unfinished;
+use array_values::storage::Storage;
+use machine::{Progress, ended};
+use meaning::End;
 use std::alloc::Global;
+use streams::{Sink, WriteFault};
+use tree::{Block, Decl, Memory, Program90, Seq, copy_decls};
 
 // The first moment of a run.
 fn opened(alloc: Global, decls: &Seq<Decl>, limit: Option<u64>) -> Result<Moment, Memory>

@@ -1,30 +1,30 @@
 //! Statements, block IFs, loops and jumps (ANSI X3.9-1978, sections 10 and 11; ISO/IEC 1539:1991, section 8.1).
 ghost use Rattle.std.specs.Prelude.{◌≡◌, ◌≢◌, ◌≤◌, Err, List, ℕ, Bool};
-ghost use Rattle.fv_io.specs.Causes.{Rose};
-ghost use Rattle.fv_tree.specs.Plain.{Program};
-ghost use Rattle.fv_tree.specs.View.{expression_of, statement_of, block_of};
-ghost use Rattle.fv_machine.specs.declared.progress.Left.TheVariants.{Unwritten};
-ghost use Rattle.fv_meaning.specs.Blocks.{Surroundings};
-ghost use Rattle.fv_meaning.specs.Dialect.{fortran90};
-ghost use Rattle.fv_meaning.specs.Profile90.{IsStatement, AreArms, IsBlock};
-ghost use Rattle.fv_meaning.specs.Run.{does, does_all, counts_step, goes, Jumping, Stopped};
-ghost use Rattle.fv_meaning.specs.Value.{truth_of};
-ghost use Rattle.fv_machine.specs.Acts.{Runs};
-ghost use Rattle.fv_machine.specs.Statements.{plain_arms};
-ghost use Rattle.fv_machine.specs.Told.{IsTold};
-ghost use Rattle.array_storage.specs.Stored.{store_in};
-ghost use Rattle.array_assignments.specs.Causes.{AnswersAt, Does};
-ghost use Rattle.array_assignments.specs.Moments.{seen};
-ghost use Rattle.array_transfers.specs.Unfinished.{ended_by};
+ghost use Rattle.streams.specs.Causes.{Rose};
+ghost use Rattle.tree.specs.Plain.{Program};
+ghost use Rattle.tree.specs.View.{expression_of, statement_of, block_of};
+ghost use Rattle.machine.specs.declared.progress.Left.TheVariants.{Unwritten};
+ghost use Rattle.meaning.specs.Blocks.{Surroundings};
+ghost use Rattle.meaning.specs.Dialect.{fortran90};
+ghost use Rattle.meaning.specs.Profile90.{IsStatement, AreArms, IsBlock};
+ghost use Rattle.meaning.specs.Run.{does, does_all, counts_step, goes, Jumping, Stopped};
+ghost use Rattle.meaning.specs.Value.{truth_of};
+ghost use Rattle.machine.specs.Acts.{Runs};
+ghost use Rattle.machine.specs.Statements.{plain_arms};
+ghost use Rattle.machine.specs.Told.{IsTold};
+ghost use Rattle.array_values.specs.storage.Stored.{store_in};
+ghost use Rattle.array_expressions.specs.assignments.Causes.{AnswersAt, Does};
+ghost use Rattle.array_expressions.specs.assignments.Moments.{seen};
+ghost use Rattle.array_expressions.specs.transfers.Unfinished.{ended_by};
 ghost use Rattle.run90.specs.Statements.{unfinished, caught, landed, Chooses};
 ghost use Rattle.run90.specs.Suiting.{Suits};
 
 use crate::allocation::{allocate, deallocate};
-use array_assignments::{Moment, Stuck, at};
-use array_transfers::{Unfinished, print_statement, read_statement};
-use fv_io::Sink;
-use fv_machine::{Halt, Left, at as located, passed};
-use fv_tree::{Arm, Block, Expr, Seq, Stmt};
+use array_expressions::assignments::{Moment, Stuck, at};
+use array_expressions::transfers::{Unfinished, print_statement, read_statement};
+use machine::{Halt, Left, at as located, passed};
+use streams::Sink;
+use tree::{Arm, Block, Expr, Seq, Stmt};
 
 fn left(answer: Result<(), Stuck>) -> Result<(), Unfinished>
     ensures { result ≡ unfinished answer }

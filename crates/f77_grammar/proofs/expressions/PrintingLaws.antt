@@ -7,10 +7,10 @@ use Rattle.std.proofs.lemmas.Bool.Decides.{nat_tests}
 use Rattle.std.proofs.lemmas.Fmt.{decimal_is_IsNumeral_wide}
 use Rattle.std.proofs.lemmas.List.{map-append}
 use Rattle.std.proofs.lemmas.Str.Parse.{IsNumeralModel, numerals_by_fold}
-use Rattle.fv_tree.specs.declared.ops.Op.{Op}
-use Rattle.fv_tree.specs.declared.ops.Op.TheVariants.{Pow, Mul, Neg, Sub, Not}
-use Rattle.fv_tree.specs.Plain.{Expression, Number, Logic, Named, Unary, Binary, Apply, Constructor, Spread, Transpose, Reshape, Reduce, Subscript, Only, Section, Subscripts, no_subscripts, subscript, subscripts}
-use Rattle.fv_tree.specs.OperatorTable.{Sign, Plus, Minus, Negation, left_least, right_least, stands_between, may_follow, spelling77_of}
+use Rattle.tree.specs.declared.ops.Op.{Op}
+use Rattle.tree.specs.declared.ops.Op.TheVariants.{Pow, Mul, Neg, Sub, Not}
+use Rattle.tree.specs.Plain.{Expression, Number, Logic, Named, Unary, Binary, Apply, Constructor, Spread, Transpose, Reshape, Reduce, Subscript, Only, Section, Subscripts, no_subscripts, subscript, subscripts}
+use Rattle.tree.specs.OperatorTable.{Sign, Plus, Minus, Negation, left_least, right_least, stands_between, may_follow, spelling77_of}
 use Rattle.f77_grammar.specs.expressions.Phrases.{Phrase, Literal, WideLiteral, Truth, Name, Listed, Paren, Signed, Joined, Phrases, One, Then, level, begins_with_sign, written, written_list, tree, trees, sign_word, IsExpression, AreExpressions}
 use Rattle.f77_grammar.specs.expressions.Printing.{IsLiteral, is_negating, IsSource, IsSourceSubscript, AreSource, fit, behind, listed, unary_phrase, phrase_of, subscript_phrase, phrases_of, with_more, digits_of, spelling_of, printed}
 use Rattle.f77_grammar.specs.expressions.Reading.{Spells, IsWide, is_wide}

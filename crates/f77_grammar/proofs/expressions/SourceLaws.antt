@@ -1,7 +1,7 @@
 -- The tree of what is read is one that texts have.
 use Rattle.std.proofs.Common.{arith, ℕ, List, [], ◌∷◌, ◌++◌, refl, sym, subst}
-use Rattle.fv_tree.specs.Plain.{Expression, Subscript, Only, subscripts}
-use Rattle.fv_tree.specs.OperatorTable.{Plus, Minus, Negation}
+use Rattle.tree.specs.Plain.{Expression, Subscript, Only, subscripts}
+use Rattle.tree.specs.OperatorTable.{Plus, Minus, Negation}
 use Rattle.f77_grammar.specs.expressions.Phrases.{Phrase, Literal, WideLiteral, Truth, Name, Listed, Paren, Signed, Joined, Phrases, One, Then, written, written_list, tree, trees, IsExpression, AreExpressions}
 use Rattle.f77_grammar.specs.expressions.Printing.{IsLiteral, IsSource, AreSource}
 use Rattle.f77_grammar.specs.expressions.Reading.{Spells, ReadsAs}

@@ -1,15 +1,15 @@
 -- Worked decks on kinds. Above each text stands the deck that it is of.
 use Rattle.std.proofs.Common.{◌≡◌, refl, List, [], ◌∷◌, Some, true}
 use lib.Chars.{codes}
-use Rattle.fv_tree.specs.Plain.{Logic, Binary, Single, items}
-use Rattle.fv_tree.specs.declared.ops.Op.TheVariants.{Add, Lt}
-use Rattle.fv_tree.specs.declared.ops.Kind.TheVariants.{Integer, Logical}
-use Rattle.fv_meaning.specs.Dialect.{fortran77}
-use Rattle.fv_tree.specs.Causes.{refusal_at}
-use Rattle.fv_tree.specs.declared.refusals.Cause.TheVariants as causes
+use Rattle.tree.specs.Plain.{Logic, Binary, Single, items}
+use Rattle.tree.specs.declared.ops.Op.TheVariants.{Add, Lt}
+use Rattle.tree.specs.declared.ops.Kind.TheVariants.{Integer, Logical}
+use Rattle.meaning.specs.Dialect.{fortran77}
+use Rattle.tree.specs.Causes.{refusal_at}
+use Rattle.tree.specs.declared.refusals.Cause.TheVariants as causes
 use Rattle.f77_grammar.specs.Statement77.{Labelled, Declare, Constants, Assign, Test, Do, Continue, Read, Print, End}
 use Rattle.f77_grammar.specs.program.Program77.{findings}
-use Rattle.fv_meaning.proofs.DeckWords.{n, v, at, to, to_element}
+use Rattle.meaning.proofs.DeckWords.{n, v, at, to, to_element}
 use Rattle.f77_grammar.proofs.programs.Words.{s, l, scalar, array, constant}
 use Rattle.f77_grammar.proofs.programs.Least.{least}
 

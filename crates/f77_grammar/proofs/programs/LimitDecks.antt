@@ -1,14 +1,14 @@
 -- Worked decks on the limits of a program. Above each text stands the deck that it is of.
 use Rattle.std.proofs.Common.{◌≡◌, refl, List, [], ◌∷◌, Some}
-use Rattle.fv_tree.specs.Plain.{Unary, Binary}
-use Rattle.fv_tree.specs.declared.ops.Op.TheVariants.{Div, Neg}
-use Rattle.fv_tree.specs.declared.ops.Kind.TheVariants.{Integer}
-use Rattle.fv_meaning.specs.Dialect.{fortran77}
-use Rattle.fv_tree.specs.Causes.{refusal_at}
-use Rattle.fv_tree.specs.declared.refusals.Cause.TheVariants as causes
+use Rattle.tree.specs.Plain.{Unary, Binary}
+use Rattle.tree.specs.declared.ops.Op.TheVariants.{Div, Neg}
+use Rattle.tree.specs.declared.ops.Kind.TheVariants.{Integer}
+use Rattle.meaning.specs.Dialect.{fortran77}
+use Rattle.tree.specs.Causes.{refusal_at}
+use Rattle.tree.specs.declared.refusals.Cause.TheVariants as causes
 use Rattle.f77_grammar.specs.Statement77.{Labelled, Declare, Constants, End}
 use Rattle.f77_grammar.specs.program.Program77.{findings}
-use Rattle.fv_meaning.proofs.DeckWords.{n}
+use Rattle.meaning.proofs.DeckWords.{n}
 use Rattle.f77_grammar.proofs.programs.Words.{s, array, constant}
 use Rattle.f77_grammar.proofs.programs.Least.{least}
 

@@ -2,7 +2,7 @@
 use Rattle.std.proofs.Common.{ℕ, List, [], Some, None}
 use Prim.Native.String.{String}
 use lib.Chars.{codes}
-use Rattle.fv_tree.specs.Plain.{Expression}
+use Rattle.tree.specs.Plain.{Expression}
 use Rattle.f77_grammar.specs.Statement77.{Entity, NamedConstant, Statement77, Labelled}
 
 -- a statement on its line, without and with a label

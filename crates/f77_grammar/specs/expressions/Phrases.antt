@@ -1,13 +1,13 @@
 -- An expression as it is written, with its parentheses and signs, and what it stands for.
 use Rattle.std.specs.Prelude.{ℕ, ◌+◌, ◌≤◌, max, ℤ, pos, Bool, true, false, IsTrue, List, [], ◌∷◌, ◌++◌, if◌then◌else◌}
-use Rattle.fv_tree.specs.declared.ops.Op.{Op}
-use Rattle.fv_tree.specs.declared.ops.Op.TheVariants.{Neg, Not, Add, Sub}
-use Rattle.fv_tree.specs.Plain.{Expression, Number, Logic, Named, Unary, Binary, Subscript, Only, subscripts}
-use Rattle.fv_tree.specs.Plain.{no_subscripts}
+use Rattle.tree.specs.declared.ops.Op.{Op}
+use Rattle.tree.specs.declared.ops.Op.TheVariants.{Neg, Not, Add, Sub}
+use Rattle.tree.specs.Plain.{Expression, Number, Logic, Named, Unary, Binary, Subscript, Only, subscripts}
+use Rattle.tree.specs.Plain.{no_subscripts}
 use Rattle.f77_grammar.specs.expressions.Words as words
 use Rattle.f77_grammar.specs.expressions.Words.{Word}
-use Rattle.fv_tree.specs.OperatorTable.{Sign, Plus, Minus, Negation, level_of, left_least, right_least, stands_between}
-use Rattle.fv_tree.specs.OperatorTable.{is_relation, may_follow, sign_level}
+use Rattle.tree.specs.OperatorTable.{Sign, Plus, Minus, Negation, level_of, left_least, right_least, stands_between}
+use Rattle.tree.specs.OperatorTable.{is_relation, may_follow, sign_level}
 
 -- A list has one expression at least.
 mutual

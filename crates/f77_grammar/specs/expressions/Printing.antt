@@ -2,15 +2,15 @@
 use Rattle.std.specs.Prelude.{ℕ, ◌^◌, ◌<◌, ℤ, pos, negsuc, Bool, true, false, nat_le, IsTrue, List, [], ◌++◌, codes}
 use Rattle.std.specs.Prelude.{decimal, Option, Some, None, if◌then◌else◌}
 use Rattle.std.specs.List.{flat_map}
-use Rattle.fv_tree.specs.declared.ops.Op.{Op}
-use Rattle.fv_tree.specs.declared.ops.Op.TheVariants.{Neg, Not}
-use Rattle.fv_tree.specs.Plain.{Expression, Number, Logic, Named, Unary, Binary, Subscript, Only, Subscripts}
-use Rattle.fv_tree.specs.Plain.{no_subscripts, subscript}
-use Rattle.fv_tree.specs.OperatorTable.{Minus, Negation, left_least, right_least, stands_between, may_follow}
+use Rattle.tree.specs.declared.ops.Op.{Op}
+use Rattle.tree.specs.declared.ops.Op.TheVariants.{Neg, Not}
+use Rattle.tree.specs.Plain.{Expression, Number, Logic, Named, Unary, Binary, Subscript, Only, Subscripts}
+use Rattle.tree.specs.Plain.{no_subscripts, subscript}
+use Rattle.tree.specs.OperatorTable.{Minus, Negation, left_least, right_least, stands_between, may_follow}
 use Rattle.f77_grammar.specs.expressions.Phrases.{Phrase, Literal, WideLiteral, Truth, Name, Listed, Paren, Signed}
 use Rattle.f77_grammar.specs.expressions.Phrases.{Joined, Phrases, One, Then, level, begins_with_sign, written}
 use Rattle.f77_grammar.specs.expressions.Spelling.{IsName}
-use Rattle.fv_tree.specs.OperatorTable.{spelling77_of}
+use Rattle.tree.specs.OperatorTable.{spelling77_of}
 use Rattle.f77_grammar.specs.expressions.Words as words
 use Rattle.f77_grammar.specs.expressions.Words.{Word}
 

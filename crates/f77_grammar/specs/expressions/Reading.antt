@@ -1,8 +1,8 @@
 -- What it is for characters to be an expression.
 use Rattle.std.specs.Prelude.{ℕ, ◌≡◌, ◌<◌, List, Bool, true, false, IsTrue}
 use Rattle.std.specs.List.{list_any}
-use Rattle.fv_tree.specs.Limits.{expression_depth77}
-use Rattle.fv_tree.specs.Plain.{Expression}
+use Rattle.tree.specs.Limits.{expression_depth77}
+use Rattle.tree.specs.Plain.{Expression}
 use Rattle.f77_grammar.specs.expressions.Phrases.{Phrase, IsExpression, written, tree, depth}
 use Rattle.f77_grammar.specs.expressions.Spelling.{Words}
 use Rattle.f77_grammar.specs.expressions.Squeezing.{Symbol, Squeezed}

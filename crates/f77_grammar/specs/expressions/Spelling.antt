@@ -1,8 +1,8 @@
 -- How words are spelled, and which words a text has.
 use Rattle.std.specs.Prelude.{ℕ, ◌+◌, ◌-◌, ◌*◌, ◌^◌, ◌<◌, ◌≤◌, ◌≡◌, pos, Bool, true, false, ◌&&◌, ◌||◌, nat_le, ◌==◌}
 use Rattle.std.specs.Prelude.{List, [], ◌∷◌, ◌++◌, length, map, fold, codes, IsTrue}
-use Rattle.fv_tree.specs.OperatorTable.{spelling77_of}
-use Rattle.fv_tree.specs.declared.ops.Op.TheVariants.{Neg, Mul}
+use Rattle.tree.specs.OperatorTable.{spelling77_of}
+use Rattle.tree.specs.declared.ops.Op.TheVariants.{Neg, Mul}
 use Rattle.f77_grammar.specs.expressions.Squeezing.{Symbol, Char, Text}
 use Rattle.f77_grammar.specs.expressions.Words.{Word, Number, Wide, Truth, Name, Head, Operator, Open, Close, Comma}
 use Rattle.f77_grammar.specs.expressions.Words.{Equals, Colon, Constant}

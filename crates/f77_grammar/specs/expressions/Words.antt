@@ -1,6 +1,6 @@
 -- The words of expressions and lists.
 use Rattle.std.specs.Prelude.{ℕ, ℤ, Bool, List}
-use Rattle.fv_tree.specs.declared.ops.Op.{Op}
+use Rattle.tree.specs.declared.ops.Op.{Op}
 
 -- `Wide` is a literal above 2^127-1. `Head` is a name with the parenthesis directly behind it. A minus sign is the
 -- operator Sub, wherever it stands. `Constant` is a character constant.

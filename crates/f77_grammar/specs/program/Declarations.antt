@@ -4,10 +4,10 @@ use Rattle.std.specs.Prelude.{ℕ, zero, suc, ◌==◌, Bool, true, false, not, 
 use Rattle.std.specs.Prelude.{is_some, is_none}
 use Rattle.std.specs.Prelude.{List, [], ◌∷◌, ◌++◌}
 use Rattle.std.specs.List.{list_any}
-use Rattle.fv_tree.specs.declared.functions.Fun.{Fun}
+use Rattle.tree.specs.declared.functions.Fun.{Fun}
 use Rattle.f77_grammar.specs.Statement77.{Entity, NamedConstant, Statement77, Declare, Dimension, Constants}
-use Rattle.fv_meaning.specs.Names.{is_among, is_implicit_integer}
-use Rattle.fv_tree.specs.Functions.{function_named, name_of_function}
+use Rattle.meaning.specs.Names.{is_among, is_implicit_integer}
+use Rattle.tree.specs.Functions.{function_named, name_of_function}
 use Rattle.f77_grammar.specs.program.Text.{Place}
 use Rattle.f77_grammar.specs.program.Uses.{Role, Valued, Target, Use, uses_in, uses_in_bounds, uses_of, uses_in_text}
 use Rattle.f77_grammar.specs.program.Uses.{is_title, is_typed, is_bounded, is_defined, names_that, stands, is_constant}

@@ -3,11 +3,11 @@
 -- of their loop or list sets.
 use Rattle.std.specs.Prelude.{ℕ, Bool, false, not, ◌&&◌, ◌||◌, List, [], ◌∷◌}
 use Rattle.std.specs.List.{flat_map}
-use Rattle.fv_tree.specs.Plain.{Expression, Named, Subscripts, no_subscripts, subscript, Item, Single, Constant}
-use Rattle.fv_tree.specs.Plain.{ImpliedDo, Items, no_items, item}
-use Rattle.fv_tree.specs.declared.ops.Kind.TheVariants.{Integer}
+use Rattle.tree.specs.Plain.{Expression, Named, Subscripts, no_subscripts, subscript, Item, Single, Constant}
+use Rattle.tree.specs.Plain.{ImpliedDo, Items, no_items, item}
+use Rattle.tree.specs.declared.ops.Kind.TheVariants.{Integer}
 use Rattle.f77_grammar.specs.Statement77.{Labelled, Statement77, Assign, Do, Read, Print}
-use Rattle.fv_meaning.specs.Names.{is_among}
+use Rattle.meaning.specs.Names.{is_among}
 use Rattle.f77_grammar.specs.declared.directions.Direction.{Direction}
 use Rattle.f77_grammar.specs.declared.directions.Direction.TheVariants.{Output, Input}
 use Rattle.f77_grammar.specs.program.Text.{Place, action, open_loops}

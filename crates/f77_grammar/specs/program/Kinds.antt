@@ -3,21 +3,21 @@
 use Rattle.std.specs.Prelude.{ℕ, zero, suc, Bool, true, false, not, ◌&&◌, ◌||◌, Option, None, Some, List}
 use Rattle.std.specs.Str.{bytes_eq}
 use Rattle.std.specs.List.{list_any, list_all}
-use Rattle.fv_tree.specs.Plain.{Expression, Number, Logic, Named, Unary, Binary, Apply, Expressions, no_expressions}
-use Rattle.fv_tree.specs.Plain.{expression, Subscript, Only, Subscripts, no_subscripts, subscript, Item, Single}
-use Rattle.fv_tree.specs.Plain.{Constant, ImpliedDo, Items, no_items, item}
-use Rattle.fv_tree.specs.declared.ops.Kind.{Kind}
-use Rattle.fv_tree.specs.declared.ops.Kind.TheVariants.{Integer, Logical}
-use Rattle.fv_tree.specs.declared.functions.Fun.{Fun}
+use Rattle.tree.specs.Plain.{Expression, Number, Logic, Named, Unary, Binary, Apply, Expressions, no_expressions}
+use Rattle.tree.specs.Plain.{expression, Subscript, Only, Subscripts, no_subscripts, subscript, Item, Single}
+use Rattle.tree.specs.Plain.{Constant, ImpliedDo, Items, no_items, item}
+use Rattle.tree.specs.declared.ops.Kind.{Kind}
+use Rattle.tree.specs.declared.ops.Kind.TheVariants.{Integer, Logical}
+use Rattle.tree.specs.declared.functions.Fun.{Fun}
 use Rattle.f77_grammar.specs.Statement77.{Entity, NamedConstant, Statement77, Program, Declare, Dimension, Constants}
 use Rattle.f77_grammar.specs.Statement77.{Assign, Go, Test, If, ElseIf, Else, EndIf, Do, Continue, Stop, Read, Print}
 use Rattle.f77_grammar.specs.Statement77.{End}
 use Rattle.f77_grammar.specs.statements.Items.{takes_text}
 use Rattle.f77_grammar.specs.declared.directions.Direction.{Direction}
 use Rattle.f77_grammar.specs.declared.directions.Direction.TheVariants.{Output, Input}
-use Rattle.fv_tree.specs.Functions.{function_named, name_of_function, suits_number}
-use Rattle.fv_meaning.specs.Typed77.{number_of_arguments, number_of_subscripts}
-use Rattle.fv_tree.specs.OperatorTable.{operand_kind, result_kind_of, is_unary}
+use Rattle.tree.specs.Functions.{function_named, name_of_function, suits_number}
+use Rattle.meaning.specs.Typed77.{number_of_arguments, number_of_subscripts}
+use Rattle.tree.specs.OperatorTable.{operand_kind, result_kind_of, is_unary}
 use Rattle.f77_grammar.specs.program.Text.{Place}
 use Rattle.f77_grammar.specs.program.Uses.{Use, uses_of, is_variable, is_array, is_function, calls, kind_of_name}
 

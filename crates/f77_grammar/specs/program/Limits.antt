@@ -4,19 +4,19 @@ use Rattle.std.specs.Prelude.{Result, Ok, Err, ℕ, ◌+◌, ◌*◌, nat_lt, na
 use Rattle.std.specs.Prelude.{◌&&◌, ◌||◌, None, Some, is_none, is_err, if◌then◌else◌, List, [], ◌∷◌, map, length, sum}
 use Rattle.std.specs.Str.{bytes_eq}
 use Rattle.std.specs.List.{list_any, filter, flat_map}
-use Rattle.fv_tree.specs.Limits.{program_names77, block_depth77, array_elements}
-use Rattle.fv_tree.specs.Steps.{◌>>=◌}
-use Rattle.fv_tree.specs.Plain.{Expression}
-use Rattle.fv_tree.specs.declared.ops.Value.{Value}
-use Rattle.fv_tree.specs.declared.ops.Value.TheVariants.{Int}
-use Rattle.fv_tree.specs.declared.ops.Fault.{Fault}
-use Rattle.fv_tree.specs.declared.ops.Fault.TheVariants.{Overflow}
-use Rattle.fv_meaning.specs.Store.{Store, size_of}
-use Rattle.fv_meaning.specs.Value.{value_of, number_of, is_in_range}
-use Rattle.fv_meaning.specs.Dialect.{Dialect}
+use Rattle.tree.specs.Limits.{program_names77, block_depth77, array_elements}
+use Rattle.tree.specs.Steps.{◌>>=◌}
+use Rattle.tree.specs.Plain.{Expression}
+use Rattle.tree.specs.declared.ops.Value.{Value}
+use Rattle.tree.specs.declared.ops.Value.TheVariants.{Int}
+use Rattle.tree.specs.declared.ops.Fault.{Fault}
+use Rattle.tree.specs.declared.ops.Fault.TheVariants.{Overflow}
+use Rattle.meaning.specs.Store.{Store, size_of}
+use Rattle.meaning.specs.Value.{value_of, number_of, is_in_range}
+use Rattle.meaning.specs.Dialect.{Dialect}
 use Rattle.f77_grammar.specs.Statement77.{Entity, NamedConstant, Labelled, Statement77, Declare, Dimension, Constants}
 use Rattle.f77_grammar.specs.Statement77.{Test, If, Do}
-use Rattle.fv_meaning.specs.Names.{is_among}
+use Rattle.meaning.specs.Names.{is_among}
 use Rattle.f77_grammar.specs.program.Text.{Place, open_loops, open_ifs}
 use Rattle.f77_grammar.specs.program.Uses.{Use, uses_in_text, is_variable, is_constant}
 

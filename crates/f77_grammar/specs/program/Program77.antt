@@ -1,15 +1,15 @@
 -- What is found wrong in a program's text, and which program is read from it.
 use Rattle.std.specs.Prelude.{◌≡◌, Bool, false, ◌||◌, List, [], ◌∷◌, map, Contains}
 use Rattle.std.specs.List.{filter, flat_map}
-use Rattle.fv_tree.specs.Causes.{refusal_at}
-use Rattle.fv_tree.specs.declared.refusals.Cause.{Cause}
-use Rattle.fv_tree.specs.declared.refusals.Cause.TheVariants.{Label, Nesting, NoEnd, Declared, RealName, TypeClash}
-use Rattle.fv_tree.specs.declared.refusals.Cause.TheVariants.{Jump, DoVariable, ManyNames, ManyBlocks, ReversedBounds}
-use Rattle.fv_tree.specs.declared.refusals.Cause.TheVariants.{ManyElements, BadConstant}
-use Rattle.fv_tree.specs.declared.refusals.Refusal.{Refusal}
-use Rattle.fv_tree.specs.Plain as tree
-use Rattle.fv_meaning.specs.Dialect.{Dialect}
-use Rattle.fv_meaning.specs.Store.{Store}
+use Rattle.tree.specs.Causes.{refusal_at}
+use Rattle.tree.specs.declared.refusals.Cause.{Cause}
+use Rattle.tree.specs.declared.refusals.Cause.TheVariants.{Label, Nesting, NoEnd, Declared, RealName, TypeClash}
+use Rattle.tree.specs.declared.refusals.Cause.TheVariants.{Jump, DoVariable, ManyNames, ManyBlocks, ReversedBounds}
+use Rattle.tree.specs.declared.refusals.Cause.TheVariants.{ManyElements, BadConstant}
+use Rattle.tree.specs.declared.refusals.Refusal.{Refusal}
+use Rattle.tree.specs.Plain as tree
+use Rattle.meaning.specs.Dialect.{Dialect}
+use Rattle.meaning.specs.Store.{Store}
 use Rattle.f77_grammar.specs.Answered.{IsAnswered}
 use Rattle.f77_grammar.specs.Statement77.{Labelled}
 use Rattle.f77_grammar.specs.program.Text.{Place, places}

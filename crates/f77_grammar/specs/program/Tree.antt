@@ -6,23 +6,23 @@ use Rattle.std.specs.Prelude.{if◌then◌else◌, List, [], ◌∷◌, ◌++◌
 use Rattle.std.specs.List.{list_any, filter, flat_map, fold}
 use Rattle.std.specs.Cmp.Lexicographic.{slice_cmp}
 use Rattle.std.specs.Ordering.{nat_cmp, match_ordering}
-use Rattle.fv_tree.specs.Plain.{Expression, Number, Logic, Named, Unary, Binary, Apply, Expressions, no_expressions}
-use Rattle.fv_tree.specs.Plain.{expression, Subscript, Only, Section, Subscripts, no_subscripts, subscript, Reference}
-use Rattle.fv_tree.specs.Plain.{Item}
-use Rattle.fv_tree.specs.Plain.{Single, Constant, ImpliedDo, Items, no_items, item}
-use Rattle.fv_tree.specs.Plain as tree
-use Rattle.fv_tree.specs.declared.ops.Op.TheVariants.{Neg}
-use Rattle.fv_tree.specs.declared.functions.Fun.{Fun}
-use Rattle.fv_tree.specs.declared.ops.Fault.{Fault}
-use Rattle.fv_tree.specs.declared.ops.Value.{Value}
-use Rattle.fv_tree.specs.declared.ops.Value.TheVariants.{Int, Truth}
-use Rattle.fv_meaning.specs.Dialect.{Dialect}
-use Rattle.fv_meaning.specs.Store.{Store}
+use Rattle.tree.specs.Plain.{Expression, Number, Logic, Named, Unary, Binary, Apply, Expressions, no_expressions}
+use Rattle.tree.specs.Plain.{expression, Subscript, Only, Section, Subscripts, no_subscripts, subscript, Reference}
+use Rattle.tree.specs.Plain.{Item}
+use Rattle.tree.specs.Plain.{Single, Constant, ImpliedDo, Items, no_items, item}
+use Rattle.tree.specs.Plain as tree
+use Rattle.tree.specs.declared.ops.Op.TheVariants.{Neg}
+use Rattle.tree.specs.declared.functions.Fun.{Fun}
+use Rattle.tree.specs.declared.ops.Fault.{Fault}
+use Rattle.tree.specs.declared.ops.Value.{Value}
+use Rattle.tree.specs.declared.ops.Value.TheVariants.{Int, Truth}
+use Rattle.meaning.specs.Dialect.{Dialect}
+use Rattle.meaning.specs.Store.{Store}
 use Rattle.f77_grammar.specs.Statement77.{Labelled, Statement77, Assign, Go, Test, If, ElseIf, Else, EndIf, Do, Stop}
 use Rattle.f77_grammar.specs.Statement77.{Read, Print}
 use Rattle.f77_grammar.specs.declared.directions.Direction.{Direction}
 use Rattle.f77_grammar.specs.declared.directions.Direction.TheVariants.{Output, Input}
-use Rattle.fv_tree.specs.Functions.{function_named}
+use Rattle.tree.specs.Functions.{function_named}
 use Rattle.f77_grammar.specs.program.Text.{action, is_label}
 use Rattle.f77_grammar.specs.program.Uses.{Use, uses_in_text, is_title, names_that, is_variable, is_constant, is_array}
 use Rattle.f77_grammar.specs.program.Uses.{kind_of_name}

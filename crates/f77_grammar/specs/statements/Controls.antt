@@ -1,7 +1,7 @@
 -- A DO variable with its parameters, as a DO statement and an implied DO list have it, and what it stands for (ANSI
 -- X3.9-1978, sections 11.10 and 12.8.2.3).
 use Rattle.std.specs.Prelude.{ℕ, max, pos, Option, Some, None, List, [], ◌∷◌, ◌++◌}
-use Rattle.fv_tree.specs.Plain.{Expression, Number}
+use Rattle.tree.specs.Plain.{Expression, Number}
 use Rattle.f77_grammar.specs.expressions.Phrases.{Phrase, IsExpression, written, tree, depth}
 use Rattle.f77_grammar.specs.expressions.Words as words
 use Rattle.f77_grammar.specs.expressions.Words.{Word}

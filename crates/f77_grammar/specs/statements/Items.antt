@@ -1,8 +1,8 @@
 -- The lists of PRINT and READ as they are written, and what they stand for.
 use Rattle.std.specs.Prelude.{ℕ, ◌+◌, ◌<◌, max, Bool, true, false, IsTrue, List, [], ◌∷◌, ◌++◌}
 use Rattle.std.specs.List.{list_any}
-use Rattle.fv_tree.specs.Limits.{expression_depth77}
-use Rattle.fv_tree.specs.Plain.{Item, Single, Constant, ImpliedDo, items}
+use Rattle.tree.specs.Limits.{expression_depth77}
+use Rattle.tree.specs.Plain.{Item, Single, Constant, ImpliedDo, items}
 use Rattle.f77_grammar.specs.declared.directions.Direction.{Direction}
 use Rattle.f77_grammar.specs.declared.directions.Direction.TheVariants.{Output, Input}
 use Rattle.f77_grammar.specs.expressions.Phrases.{Phrase, Literal, WideLiteral, Truth, Name, Listed, Paren, Signed}

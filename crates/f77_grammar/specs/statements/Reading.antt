@@ -1,8 +1,8 @@
 -- What it is for the characters of a card to be a statement, and how they are refused.
 use Rattle.std.specs.Prelude.{ℕ, ◌≡◌, ◌<◌, ◌≤◌, false, IsTrue, List}
-use Rattle.fv_tree.specs.Causes.{number_of_cause}
-use Rattle.fv_tree.specs.Limits.{expression_depth77}
-use Rattle.fv_tree.specs.declared.refusals.Cause.TheVariants as causes
+use Rattle.tree.specs.Causes.{number_of_cause}
+use Rattle.tree.specs.Limits.{expression_depth77}
+use Rattle.tree.specs.declared.refusals.Cause.TheVariants as causes
 use Rattle.f77_grammar.specs.Statement77.{Statement77}
 use Rattle.f77_grammar.specs.expressions.Squeezing.{Symbol, Squeezed}
 use Rattle.f77_grammar.specs.statements.Forms.{Form, IsWritten, statement_of, form_depth, has_wide_literal}

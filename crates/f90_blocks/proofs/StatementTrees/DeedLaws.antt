@@ -2,18 +2,18 @@
 use Rattle.std.proofs.Common.{◌≡◌, ◌∙◌, ap, sym, refl, subst, ℕ, true, false, Bool, not, ◌&&◌, List, map}
 use Rattle.std.proofs.Common.{Option, Some, None}
 use mathlib.Core.Path.{ap₂}
-use Rattle.fv_tree.specs.Plain as tree
-use Rattle.fv_tree.specs.Plain.{Statement}
-use Rattle.fv_tree.specs.View.{expression_of, item_of}
-use Rattle.fv_tree.specs.declared.exprs.Expr.{Expr}
-use Rattle.fv_tree.specs.declared.exprs.Ref.{Ref}
-use Rattle.fv_tree.specs.declared.functions.Intrinsic.{Intrinsic}
-use Rattle.fv_tree.specs.declared.stmts.Item.{Item}
-use Rattle.fv_tree.specs.declared.stmts.Mark.{Mark}
-use Rattle.fv_tree.specs.declared.stmts.Stmt.{Stmt}
-use Rattle.fv_tree.specs.declared.stmts.Stmt.TheVariants as stmts
-use Rattle.fv_tree.proofs.Equations.{statement_of-assign, statement_of-go, statement_of-stop, statement_of-read}
-use Rattle.fv_tree.proofs.Equations.{statement_of-print}
+use Rattle.tree.specs.Plain as tree
+use Rattle.tree.specs.Plain.{Statement}
+use Rattle.tree.specs.View.{expression_of, item_of}
+use Rattle.tree.specs.declared.exprs.Expr.{Expr}
+use Rattle.tree.specs.declared.exprs.Ref.{Ref}
+use Rattle.tree.specs.declared.functions.Intrinsic.{Intrinsic}
+use Rattle.tree.specs.declared.stmts.Item.{Item}
+use Rattle.tree.specs.declared.stmts.Mark.{Mark}
+use Rattle.tree.specs.declared.stmts.Stmt.{Stmt}
+use Rattle.tree.specs.declared.stmts.Stmt.TheVariants as stmts
+use Rattle.tree.proofs.Equations.{statement_of-assign, statement_of-go, statement_of-stop, statement_of-read}
+use Rattle.tree.proofs.Equations.{statement_of-print}
 use Rattle.f90_grammar.specs.Blocks.{Placed, at, reference_in, IsSimple}
 use Rattle.f90_grammar.specs.Blocks.IsSimple.{assigns, masks, goes, stops, reads, reads_nothing, prints, prints_nothing}
 use Rattle.f90_grammar.specs.Blocks.IsSimple.{allocates, deallocates}
@@ -23,9 +23,9 @@ use Rattle.f90_grammar.specs.Items.{item_trees}
 use Rattle.f90_grammar.specs.Order.{is_executable}
 use Rattle.f90_grammar.specs.Phrases.{Phrase, tree_of, value_of_digits}
 use Rattle.f90_grammar.specs.Reading.{takes_mark}
-use Rattle.f90_items.specs.declared.nodes.ItemList.{ItemList}
-use Rattle.f90_statements.specs.Views.{IsActionOf}
-use Rattle.f90_statements.specs.declared.nodes.Action.TheVariants as actions
+use Rattle.f90_statement.specs.declared.items.nodes.ItemList.{ItemList}
+use Rattle.f90_statement.specs.Views.{IsActionOf}
+use Rattle.f90_statement.specs.declared.nodes.Action.TheVariants as actions
 use Rattle.f90_trees.specs.Building.{held}
 use Rattle.f90_blocks.specs.statement_trees.Executable.{IsMarkOf, stores_into_call, has_tree}
 use Rattle.f90_blocks.specs.statement_trees.Held.{IsHeldStmtOf}

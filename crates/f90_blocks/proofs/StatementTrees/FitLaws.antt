@@ -1,12 +1,12 @@
 -- Where numbers are small enough, nothing is cut.
 use Rattle.std.proofs.Common.{arith, ◌≡◌, ◌∙◌, ap, refl, ℕ, ◌+◌, ◌≤◌, ◌<◌, ◌-◌, ◌^◌, List, inl, inr}
 use mathlib.Core.Path.{ap₂}
-use Rattle.fv_tree.specs.Plain as tree
-use Rattle.fv_tree.specs.Plain.{Expression, Expressions, Subscript, Subscripts, Loops, Declaration}
-use Rattle.fv_tree.specs.OperatorTable.{operand_kind}
-use Rattle.fv_tree.specs.declared.ops.Kind.{Kind}
-use Rattle.fv_tree.specs.declared.ops.Kind.TheVariants.{Integer}
-use Rattle.fv_meaning.specs.Typed90.{HasKind, AreArguments, AreScalars, AreSubscripts, IsSubscript, AreLoops}
+use Rattle.tree.specs.Plain as tree
+use Rattle.tree.specs.Plain.{Expression, Expressions, Subscript, Subscripts, Loops, Declaration}
+use Rattle.tree.specs.OperatorTable.{operand_kind}
+use Rattle.tree.specs.declared.ops.Kind.{Kind}
+use Rattle.tree.specs.declared.ops.Kind.TheVariants.{Integer}
+use Rattle.meaning.specs.Typed90.{HasKind, AreArguments, AreScalars, AreSubscripts, IsSubscript, AreLoops}
 use Rattle.f90_trees.specs.Building.{held, held_all, held_subscript, held_subscripts, held_loops, held_dimension}
 use Rattle.f90_blocks.specs.statement_trees.Uncut.{IsNarrow, AreNarrow, IsNarrowSubscript, AreNarrowSubscripts, AreNarrowLoops}
 use Rattle.f90_blocks.specs.statement_trees.Uncut.{IsFit, AreFit, IsFitSubscript, AreFitSubscripts, AreFitLoops, FitTreesStay}

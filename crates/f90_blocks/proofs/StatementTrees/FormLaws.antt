@@ -2,15 +2,15 @@
 use Rattle.std.proofs.Common.{◌≡◌, ◌∙◌, ap, sym, refl, subst, ℕ, false, not, List, [], ◌∷◌, map, Option, Some}
 use Rattle.std.proofs.Common.{None}
 use mathlib.Core.Path.{ap₂}
-use Rattle.fv_tree.specs.Plain as tree
-use Rattle.fv_tree.specs.Plain.{Expression}
-use Rattle.fv_tree.specs.View.{expression_of, reference_of}
-use Rattle.fv_tree.specs.declared.exprs.Expr.{Expr}
-use Rattle.fv_tree.specs.declared.exprs.Ref.{Ref}
-use Rattle.fv_tree.specs.declared.functions.Intrinsic.{Intrinsic}
-use Rattle.fv_tree.specs.declared.stmts.Mark.{Mark}
-use Rattle.fv_tree.specs.declared.stmts.Stmt.TheVariants as stmts
-use Rattle.fv_tree.proofs.Equations.{statement_of-masked, statement_of-allocate, statement_of-deallocate}
+use Rattle.tree.specs.Plain as tree
+use Rattle.tree.specs.Plain.{Expression}
+use Rattle.tree.specs.View.{expression_of, reference_of}
+use Rattle.tree.specs.declared.exprs.Expr.{Expr}
+use Rattle.tree.specs.declared.exprs.Ref.{Ref}
+use Rattle.tree.specs.declared.functions.Intrinsic.{Intrinsic}
+use Rattle.tree.specs.declared.stmts.Mark.{Mark}
+use Rattle.tree.specs.declared.stmts.Stmt.TheVariants as stmts
+use Rattle.tree.proofs.Equations.{statement_of-masked, statement_of-allocate, statement_of-deallocate}
 use Rattle.f90_grammar.specs.Blocks as grammar
 use Rattle.f90_grammar.specs.Blocks.{at, reference_in}
 use Rattle.f90_grammar.specs.Blocks.IsSimple.{masks, allocates, deallocates}
@@ -18,14 +18,14 @@ use Rattle.f90_grammar.specs.Forms as forms
 use Rattle.f90_grammar.specs.Forms.{Form}
 use Rattle.f90_grammar.specs.Phrases.{Phrase, tree_of}
 use Rattle.f90_grammar.specs.Reading.{takes_mark}
-use Rattle.f90_expr.specs.Reading.{IsMadeOf}
-use Rattle.f90_expr.specs.declared.nodes.Expression.{Expression as Read}
-use Rattle.f90_places.specs.forms.Places.{IsPlacedOf}
-use Rattle.f90_places.specs.declared.forms.placing.Placed.{Placed}
-use Rattle.f90_items.specs.parts.Bounds.{AreBoundsOf}
-use Rattle.f90_items.specs.declared.parts.bounds.Bounds.{Bounds}
-use Rattle.f90_statements.specs.Views.{IsStatementOf}
-use Rattle.f90_statements.specs.declared.nodes.Statement.TheVariants as statements
+use Rattle.f90_expressions.specs.Reading.{IsMadeOf}
+use Rattle.f90_expressions.specs.declared.nodes.Expression.{Expression as Read}
+use Rattle.f90_blocks.specs.places.forms.Places.{IsPlacedOf}
+use Rattle.f90_blocks.specs.declared.places.forms.placing.Placed.{Placed}
+use Rattle.f90_statement.specs.items.parts.Bounds.{AreBoundsOf}
+use Rattle.f90_statement.specs.declared.items.parts.bounds.Bounds.{Bounds}
+use Rattle.f90_statement.specs.Views.{IsStatementOf}
+use Rattle.f90_statement.specs.declared.nodes.Statement.TheVariants as statements
 use Rattle.f90_trees.specs.Building.{held, held_all}
 use Rattle.f90_blocks.specs.statement_trees.Executable.{IsMarkOf}
 use Rattle.f90_blocks.specs.statement_trees.Results.{IsLeftOf, Gives, AreBoundTrees, held_trees}

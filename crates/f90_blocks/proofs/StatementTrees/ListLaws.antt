@@ -2,24 +2,24 @@
 use Rattle.std.proofs.Common.{◌≡◌, ℕ, List, [], ◌∷◌, ◌++◌, map, refl, ap, sym, ◌∙◌, append_assoc, append-nil, Option}
 use Rattle.std.specs.Prelude.{reverse}
 use Rattle.std.proofs.lemmas.List.{map_push, reverse-append}
-use Rattle.fv_tree.specs.Plain as tree
-use Rattle.fv_tree.specs.Plain.{Item}
-use Rattle.fv_tree.specs.View.{expression_of, item_of}
-use Rattle.fv_tree.specs.declared.exprs.Expr.{Expr}
-use Rattle.fv_tree.specs.declared.functions.Intrinsic.{Intrinsic}
-use Rattle.fv_tree.specs.declared.stmts.Item as code
-use Rattle.fv_tree.specs.declared.stmts.Item.TheVariants as code_items
-use Rattle.fv_tree.proofs.Equations.{item_of-one, item_of-text, item_of-turns}
+use Rattle.tree.specs.Plain as tree
+use Rattle.tree.specs.Plain.{Item}
+use Rattle.tree.specs.View.{expression_of, item_of}
+use Rattle.tree.specs.declared.exprs.Expr.{Expr}
+use Rattle.tree.specs.declared.functions.Intrinsic.{Intrinsic}
+use Rattle.tree.specs.declared.stmts.Item as code
+use Rattle.tree.specs.declared.stmts.Item.TheVariants as code_items
+use Rattle.tree.proofs.Equations.{item_of-one, item_of-text, item_of-turns}
 use Rattle.f90_grammar.specs.Items as items
 use Rattle.f90_grammar.specs.Items.{ItemPhrase, ItemPhrases, item_tree, item_trees, step_tree}
 use Rattle.f90_grammar.specs.Phrases.{Phrase, tree_of}
-use Rattle.f90_expr.specs.Reading.{IsMadeOf}
-use Rattle.f90_expr.specs.declared.nodes.Expression.{Expression}
-use Rattle.f90_items.specs.Flat.{Node, Of, Text, Turns, flat_item, flat_items}
-use Rattle.f90_items.specs.Views.{IsNodeOf}
-use Rattle.f90_items.specs.parts.Bounds.{AreBoundsOf}
-use Rattle.f90_items.specs.declared.parts.bounds.Bounds.{Bounds}
-use Rattle.f90_items.specs.declared.nodes.Node.TheVariants as node_variants
+use Rattle.f90_expressions.specs.Reading.{IsMadeOf}
+use Rattle.f90_expressions.specs.declared.nodes.Expression.{Expression}
+use Rattle.f90_statement.specs.items.Flat.{Node, Of, Text, Turns, flat_item, flat_items}
+use Rattle.f90_statement.specs.items.Views.{IsNodeOf}
+use Rattle.f90_statement.specs.items.parts.Bounds.{AreBoundsOf}
+use Rattle.f90_statement.specs.declared.items.parts.bounds.Bounds.{Bounds}
+use Rattle.f90_statement.specs.declared.items.nodes.Node.TheVariants as node_variants
 use Rattle.f90_trees.specs.Building.{held}
 use Rattle.f90_blocks.specs.statement_trees.Held.{held_item, held_items}
 use Rattle.f90_blocks.specs.statement_trees.Results.{AreBoundTrees}

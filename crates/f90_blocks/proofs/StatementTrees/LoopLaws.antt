@@ -3,7 +3,7 @@ use Rattle.std.proofs.Common.{arith, zero, suc, ◌≡◌, ◌+◌, ◌<◌, ◌
 use Rattle.std.proofs.Common.{refl, sym, subst, ◌∙◌, append-nil, append_assoc}
 use Rattle.std.specs.List.{AllByRecursion}
 use Rattle.std.proofs.lemmas.List.{drop_more, drop_all}
-use Rattle.f90_statements.specs.Views.{AreOf}
+use Rattle.f90_statement.specs.Views.{AreOf}
 use Rattle.f90_blocks.specs.statement_trees.Results.{IsOf}
 
 module _ {A B : Type 0} (is : A → B → Type 0) where

@@ -4,12 +4,12 @@ use Rattle.std.proofs.Common.{Some, None}
 use Rattle.std.specs.Prelude.{min, nat_lt}
 use Rattle.std.specs.List.{AllByRecursion}
 use Rattle.std.proofs.lemmas.Bool.Decides.{nat_tests}
-use Rattle.fv_tree.specs.Limits.{greatest_literal}
-use Rattle.fv_tree.specs.OperatorTable.{Sign, Plus, Minus, Negation}
-use Rattle.fv_tree.specs.Plain as tree
-use Rattle.fv_tree.specs.Plain.{Expression, Subscript, Loops}
-use Rattle.fv_tree.specs.declared.functions.Intrinsic.{Intrinsic}
-use Rattle.fv_tree.specs.declared.functions.Intrinsic.TheVariants as intrinsics
+use Rattle.tree.specs.Limits.{greatest_literal}
+use Rattle.tree.specs.OperatorTable.{Sign, Plus, Minus, Negation}
+use Rattle.tree.specs.Plain as tree
+use Rattle.tree.specs.Plain.{Expression, Subscript, Loops}
+use Rattle.tree.specs.declared.functions.Intrinsic.{Intrinsic}
+use Rattle.tree.specs.declared.functions.Intrinsic.TheVariants as intrinsics
 use Rattle.f90_grammar.specs.Contents.{has_wide_literal, part_has_wide_literal, parts_have_wide_literal}
 use Rattle.f90_grammar.specs.Contents.{values_have_wide_literal, turn_has_wide_literal}
 use Rattle.f90_grammar.specs.Phrases as phrases

@@ -3,24 +3,24 @@ use Rattle.std.proofs.Common.{◌≡◌, ◌∙◌, ap, sym, refl, subst, ℕ, p
 use Rattle.std.proofs.Common.{Result, Ok, Err, IfOk}
 use mathlib.Core.Path.{ap₂}
 use Rattle.std.proofs.lemmas.List.{map_push}
-use Rattle.fv_tree.specs.Plain.{Expression}
-use Rattle.fv_tree.specs.View.{expression_of}
-use Rattle.fv_tree.specs.declared.exprs.Expr as code
-use Rattle.fv_tree.specs.declared.exprs.Expr.TheVariants as exprs
-use Rattle.fv_tree.specs.declared.functions.Intrinsic.{Intrinsic}
-use Rattle.fv_tree.proofs.Equations.{expression_of-int}
+use Rattle.tree.specs.Plain.{Expression}
+use Rattle.tree.specs.View.{expression_of}
+use Rattle.tree.specs.declared.exprs.Expr as code
+use Rattle.tree.specs.declared.exprs.Expr.TheVariants as exprs
+use Rattle.tree.specs.declared.functions.Intrinsic.{Intrinsic}
+use Rattle.tree.proofs.Equations.{expression_of-int}
 use Rattle.f90_grammar.specs.Blocks.{trees}
 use Rattle.f90_grammar.specs.Items.{step_tree}
 use Rattle.f90_grammar.specs.Phrases.{Phrase}
-use Rattle.f90_expr.specs.declared.nodes.Expression as read
-use Rattle.f90_items.specs.Flat.{flat_items}
-use Rattle.f90_items.specs.Reading.{IsListOf}
-use Rattle.f90_items.specs.Views.{IsNodeOf, AreNodesOf}
-use Rattle.f90_items.specs.declared.nodes.ItemList.{ItemList}
-use Rattle.f90_items.specs.declared.nodes.Node.{Node}
-use Rattle.f90_items.specs.parts.Bounds.{IsStepOf}
-use Rattle.f90_statements.specs.Views.{AreOf}
-use Rattle.f90_statements.proofs.AnyLaws.{nodes_are}
+use Rattle.f90_expressions.specs.declared.nodes.Expression as read
+use Rattle.f90_statement.specs.items.Flat.{flat_items}
+use Rattle.f90_statement.specs.items.Reading.{IsListOf}
+use Rattle.f90_statement.specs.items.Views.{IsNodeOf, AreNodesOf}
+use Rattle.f90_statement.specs.declared.items.nodes.ItemList.{ItemList}
+use Rattle.f90_statement.specs.declared.items.nodes.Node.{Node}
+use Rattle.f90_statement.specs.items.parts.Bounds.{IsStepOf}
+use Rattle.f90_statement.specs.Views.{AreOf}
+use Rattle.f90_statement.proofs.AnyLaws.{nodes_are}
 use Rattle.f90_trees.specs.Building.{held}
 use Rattle.f90_blocks.specs.statement_trees.Results.{IsOf, AreOfSome, held_tree, held_trees}
 

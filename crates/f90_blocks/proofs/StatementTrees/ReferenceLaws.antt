@@ -1,13 +1,13 @@
 -- Left sides, and what is held of trees.
 use Rattle.std.proofs.Common.{◌≡◌, ◌∙◌, ap, sym, refl, ℕ, false, not, List, Option, Some, None}
-use Rattle.fv_tree.specs.Plain as tree
-use Rattle.fv_tree.specs.Plain.{Expression, Reference}
-use Rattle.fv_tree.specs.View.{expression_of}
-use Rattle.fv_tree.specs.declared.exprs.Expr.{Expr}
-use Rattle.fv_tree.specs.declared.exprs.Expr.TheVariants as exprs
-use Rattle.fv_tree.specs.declared.exprs.Ref.{Ref}
-use Rattle.fv_tree.specs.declared.functions.Intrinsic.{Intrinsic}
-use Rattle.fv_tree.proofs.Equations.{expression_of-item}
+use Rattle.tree.specs.Plain as tree
+use Rattle.tree.specs.Plain.{Expression, Reference}
+use Rattle.tree.specs.View.{expression_of}
+use Rattle.tree.specs.declared.exprs.Expr.{Expr}
+use Rattle.tree.specs.declared.exprs.Expr.TheVariants as exprs
+use Rattle.tree.specs.declared.exprs.Ref.{Ref}
+use Rattle.tree.specs.declared.functions.Intrinsic.{Intrinsic}
+use Rattle.tree.proofs.Equations.{expression_of-item}
 use Rattle.f90_grammar.specs.Blocks.{reference_in}
 use Rattle.f90_grammar.specs.Phrases.{Phrase, tree_of}
 use Rattle.f90_trees.specs.Building.{held}

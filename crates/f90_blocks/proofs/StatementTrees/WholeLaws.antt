@@ -1,10 +1,10 @@
 -- Where nothing is cut, what is held are the very trees.
 use Rattle.std.proofs.Common.{◌≡◌, ◌∙◌, ap, sym, refl, subst, ℕ, false, List, Option, Some, None, IfSome}
 use mathlib.Core.Path.{ap₂}
-use Rattle.fv_tree.specs.Plain as tree
-use Rattle.fv_tree.specs.Plain.{Expression, Reference, Statement}
-use Rattle.fv_tree.specs.declared.functions.Intrinsic.{Intrinsic}
-use Rattle.fv_tree.specs.declared.stmts.Stmt.{Stmt}
+use Rattle.tree.specs.Plain as tree
+use Rattle.tree.specs.Plain.{Expression, Reference, Statement}
+use Rattle.tree.specs.declared.functions.Intrinsic.{Intrinsic}
+use Rattle.tree.specs.declared.stmts.Stmt.{Stmt}
 use Rattle.f90_grammar.specs.Blocks.{Placed, IsSimple, at}
 use Rattle.f90_grammar.specs.Blocks.IsSimple.{assigns, masks, goes, stops, reads, reads_nothing, prints, prints_nothing}
 use Rattle.f90_grammar.specs.Blocks.IsSimple.{allocates, deallocates}

@@ -1,8 +1,8 @@
 -- Which statements have trees.
 use Rattle.std.specs.Prelude.{◌≡◌, ℕ, Bool, true, false, not, ◌&&◌, Option, None, List}
-use Rattle.fv_tree.specs.Plain.{Expression, Named}
-use Rattle.fv_tree.specs.declared.functions.Intrinsic.{Intrinsic}
-use Rattle.fv_tree.specs.declared.stmts.Mark.{Mark}
+use Rattle.tree.specs.Plain.{Expression, Named}
+use Rattle.tree.specs.declared.functions.Intrinsic.{Intrinsic}
+use Rattle.tree.specs.declared.stmts.Mark.{Mark}
 use Rattle.f90_grammar.specs.Blocks.{Placed}
 use Rattle.f90_grammar.specs.Forms as forms
 use Rattle.f90_grammar.specs.Forms.{Form}

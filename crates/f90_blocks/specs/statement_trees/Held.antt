@@ -1,10 +1,10 @@
 -- Statements as the code holds them: literals up to the greatest, and dimensions of SPREAD up to 2^64-1.
 use Rattle.std.specs.Prelude.{◌≡◌, ℕ, false, Option, Some, None, List, [], ◌∷◌}
-use Rattle.fv_tree.specs.View.{expression_of, statement_of}
-use Rattle.fv_tree.specs.Plain as tree
-use Rattle.fv_tree.specs.Plain.{Expression, Reference, Item, Items, Statement}
-use Rattle.fv_tree.specs.declared.functions.Intrinsic.{Intrinsic}
-use Rattle.fv_tree.specs.declared.stmts.Stmt.{Stmt}
+use Rattle.tree.specs.View.{expression_of, statement_of}
+use Rattle.tree.specs.Plain as tree
+use Rattle.tree.specs.Plain.{Expression, Reference, Item, Items, Statement}
+use Rattle.tree.specs.declared.functions.Intrinsic.{Intrinsic}
+use Rattle.tree.specs.declared.stmts.Stmt.{Stmt}
 use Rattle.f90_grammar.specs.Phrases.{Phrase, tree_of, value_of_digits}
 use Rattle.f90_grammar.specs.Items.{item_trees, step_tree}
 use Rattle.f90_grammar.specs.Forms as forms

@@ -1,12 +1,12 @@
 -- The items of a list of PRINT or READ, from its parts.
 use Rattle.std.specs.Prelude.{ℕ, Option, List, [], ◌∷◌, ◌++◌, map, reverse}
-use Rattle.fv_tree.specs.Plain.{Item, Single, Constant, ImpliedDo, items}
-use Rattle.fv_tree.specs.View.{item_of}
-use Rattle.fv_tree.specs.declared.functions.Intrinsic.{Intrinsic}
-use Rattle.fv_tree.specs.declared.stmts.Item as code
+use Rattle.tree.specs.Plain.{Item, Single, Constant, ImpliedDo, items}
+use Rattle.tree.specs.View.{item_of}
+use Rattle.tree.specs.declared.functions.Intrinsic.{Intrinsic}
+use Rattle.tree.specs.declared.stmts.Item as code
 use Rattle.f90_grammar.specs.Items.{step_tree}
 use Rattle.f90_grammar.specs.Phrases.{tree_of}
-use Rattle.f90_items.specs.Flat.{Node, Of, Text, Begin, Turns}
+use Rattle.f90_statement.specs.items.Flat.{Node, Of, Text, Begin, Turns}
 use Rattle.f90_trees.specs.Building.{held}
 
 -- the items so far of the innermost implied DO list, and of those round it

@@ -1,20 +1,20 @@
 -- What functions return, unless memory ran out.
 use Rattle.std.specs.Prelude.{◌≡◌, ℕ, true, false, Option, Some, None, List, [], map}
-use Rattle.fv_tree.specs.Plain.{Expression, items}
-use Rattle.fv_tree.specs.View.{expression_of, reference_of, item_of}
-use Rattle.fv_tree.specs.declared.exprs.Expr.{Expr}
-use Rattle.fv_tree.specs.declared.exprs.Ref.{Ref}
-use Rattle.fv_tree.specs.declared.functions.Intrinsic.{Intrinsic}
-use Rattle.fv_tree.specs.declared.stmts.Item.{Item}
+use Rattle.tree.specs.Plain.{Expression, items}
+use Rattle.tree.specs.View.{expression_of, reference_of, item_of}
+use Rattle.tree.specs.declared.exprs.Expr.{Expr}
+use Rattle.tree.specs.declared.exprs.Ref.{Ref}
+use Rattle.tree.specs.declared.functions.Intrinsic.{Intrinsic}
+use Rattle.tree.specs.declared.stmts.Item.{Item}
 use Rattle.f90_grammar.specs.Blocks as grammar
 use Rattle.f90_grammar.specs.Blocks.{reference_in, trees}
 use Rattle.f90_grammar.specs.Items.{ItemPhrases, item_trees, step_tree}
 use Rattle.f90_grammar.specs.Phrases.{Phrase, tree_of}
-use Rattle.f90_items.specs.Reading.{IsListOf}
-use Rattle.f90_items.specs.declared.nodes.ItemList.{ItemList}
-use Rattle.f90_items.specs.parts.Bounds.{AreBoundsOf}
-use Rattle.f90_items.specs.declared.parts.bounds.Bounds.{Bounds}
-use Rattle.f90_statements.specs.Views.{AreOf}
+use Rattle.f90_statement.specs.items.Reading.{IsListOf}
+use Rattle.f90_statement.specs.declared.items.nodes.ItemList.{ItemList}
+use Rattle.f90_statement.specs.items.parts.Bounds.{AreBoundsOf}
+use Rattle.f90_statement.specs.declared.items.parts.bounds.Bounds.{Bounds}
+use Rattle.f90_statement.specs.Views.{AreOf}
 use Rattle.f90_trees.specs.Building.{held}
 use Rattle.f90_blocks.specs.statement_trees.Executable.{is_named, is_call, stores_into_call, has_tree}
 use Rattle.f90_blocks.specs.statement_trees.Held.{held_reference, held_items, IsHeldDone, IsHeldTreeOf}

@@ -1,10 +1,10 @@
 -- Which trees are held as they are.
 use Rattle.std.specs.Prelude.{◌≡◌, ℕ, ◌≤◌, ◌-◌, ◌^◌, ◌⊎◌, false, Option, List}
-use Rattle.fv_tree.specs.Plain as tree
-use Rattle.fv_tree.specs.Plain.{Expression, Expressions, Subscript, Subscripts, Loops, Declaration}
-use Rattle.fv_tree.specs.declared.functions.Intrinsic.{Intrinsic}
-use Rattle.fv_tree.specs.declared.ops.Kind.{Kind}
-use Rattle.fv_meaning.specs.Typed90.{HasKind}
+use Rattle.tree.specs.Plain as tree
+use Rattle.tree.specs.Plain.{Expression, Expressions, Subscript, Subscripts, Loops, Declaration}
+use Rattle.tree.specs.declared.functions.Intrinsic.{Intrinsic}
+use Rattle.tree.specs.declared.ops.Kind.{Kind}
+use Rattle.meaning.specs.Typed90.{HasKind}
 use Rattle.f90_grammar.specs.Contents.{has_wide_literal}
 use Rattle.f90_grammar.specs.Phrases.{Phrase, tree_of}
 use Rattle.f90_trees.specs.Building.{held, held_number}

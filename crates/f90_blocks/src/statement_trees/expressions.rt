@@ -2,22 +2,22 @@
 ghost use Rattle.std.specs.Prelude.{◌≡◌, List, Option, IfOk, map};
 ghost use Rattle.f90_grammar.specs.Items.{step_tree};
 ghost use Rattle.f90_grammar.specs.Phrases.{Phrase};
-ghost use Rattle.f90_expr.specs.Reading.{IsMadeOf};
-ghost use Rattle.f90_items.specs.parts.Bounds.{IsStepOf, AreBoundsOf};
-ghost use Rattle.f90_statements.specs.Views.{AreOf};
+ghost use Rattle.f90_expressions.specs.Reading.{IsMadeOf};
+ghost use Rattle.f90_statement.specs.items.parts.Bounds.{IsStepOf, AreBoundsOf};
+ghost use Rattle.f90_statement.specs.Views.{AreOf};
 ghost use Rattle.f90_trees.specs.Building.{held};
 ghost use Rattle.f90_trees.specs.Hiding.{function_in};
 ghost use Rattle.f90_trees.specs.Trees.{IsOfPhrase};
 ghost use Rattle.f90_blocks.specs.statement_trees.Results.{IsOf, AreOfSome, AreOfBounds, held_trees, AreBoundTrees};
 ghost use Rattle.f90_blocks.specs.statement_trees.Results.{IsLeftOf};
 ghost use Rattle.f90_blocks.specs.statement_trees.Results.{IsNamedBy};
-ghost use Rattle.fv_tree.specs.View.{expression_of};
+ghost use Rattle.tree.specs.View.{expression_of};
 
-use f90_expr::Expression;
-use f90_items::parts::Bounds;
+use f90_expressions::Expression;
+use f90_statement::items::parts::Bounds;
 use f90_trees::{Functions, tree};
-use fv_tree::{Expr, Memory, Ref, Seq};
 use std::alloc::Global;
+use tree::{Expr, Memory, Ref, Seq};
 
 /// The trees of the expressions, in order.
 pub(crate) fn trees(
@@ -37,7 +37,7 @@ pub(crate) fn trees(
 }
 
 // The reference that an expression is, if it is one.
-#[tactic(auto, using(fv_tree::proofs::Equations::expression_equations))]
+#[tactic(auto, using(tree::proofs::Equations::expression_equations))]
 fn named(expr: Expr) -> Option<Ref>
     ensures { IsNamedBy (expression_of expr) result }
 {

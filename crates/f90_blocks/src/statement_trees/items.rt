@@ -1,22 +1,22 @@
 //! The trees of lists of PRINT and READ (ISO/IEC 1539:1991, section 9.4.2).
 ghost use Rattle.std.specs.Prelude.{◌≡◌, [], ◌∷◌, ◌++◌, List, IfOk, map};
-ghost use Rattle.fv_tree.specs.Plain.{items};
-ghost use Rattle.fv_tree.specs.View.{item_of};
+ghost use Rattle.tree.specs.Plain.{items};
+ghost use Rattle.tree.specs.View.{item_of};
 ghost use Rattle.f90_grammar.specs.Items.{ItemPhrases, item_trees};
-ghost use Rattle.f90_items.specs.Flat as flats;
-ghost use Rattle.f90_items.specs.Reading.{IsListOf};
-ghost use Rattle.f90_items.specs.Views.{IsNodeOf};
-ghost use Rattle.f90_statements.specs.Views.{AreOf};
+ghost use Rattle.f90_statement.specs.items.Flat as flats;
+ghost use Rattle.f90_statement.specs.items.Reading.{IsListOf};
+ghost use Rattle.f90_statement.specs.items.Views.{IsNodeOf};
+ghost use Rattle.f90_statement.specs.Views.{AreOf};
 ghost use Rattle.f90_trees.specs.Hiding.{function_in};
 ghost use Rattle.f90_blocks.specs.statement_trees.Held.{held_items};
 ghost use Rattle.f90_blocks.specs.statement_trees.Lists.{levels, with_part, with_parts, levels_seen};
 ghost use Rattle.f90_blocks.specs.statement_trees.Results.{IsOf, AreOfSome};
 
 use crate::statement_trees::expressions::parameters;
-use f90_items::{ItemList, Node};
+use f90_statement::items::{ItemList, Node};
 use f90_trees::{Functions, tree};
-use fv_tree::{Item, Memory, Seq, copy_text};
 use std::alloc::Global;
+use tree::{Item, Memory, Seq, copy_text};
 
 fn with_item(items: Seq<Item>, item: Item) -> Result<Seq<Item>, Memory>
     ensures { IfOk result (λ made. map item_of made ≡ map item_of items ++ item_of item ∷ []) }

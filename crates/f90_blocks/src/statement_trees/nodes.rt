@@ -1,8 +1,8 @@
 //! Statements with their trees, not yet in blocks.
-use fv_tree::{Expr, Name, Stmt};
+use tree::{Expr, Name, Stmt};
 
 /// An executable statement with the trees of its expressions; the statements of a block don't stand in it yet.
-#[derive(Debug, Drop)]
+#[derive(Drop)]
 pub enum StatementTree {
     /// A statement that is a whole one in the program's tree.
     Simple(Stmt),

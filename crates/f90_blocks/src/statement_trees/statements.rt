@@ -5,9 +5,9 @@ ghost use Rattle.f90_grammar.specs.Blocks.{at};
 ghost use Rattle.f90_grammar.specs.Forms as forms;
 ghost use Rattle.f90_grammar.specs.Forms.{Form};
 ghost use Rattle.f90_grammar.specs.Phrases.{Phrase};
-ghost use Rattle.f90_expr.specs.Reading.{IsMadeOf};
-ghost use Rattle.f90_places.specs.forms.Places.{IsPlacedOf};
-ghost use Rattle.f90_statements.specs.Views.{AreOf, IsActionOf, IsStatementOf};
+ghost use Rattle.f90_expressions.specs.Reading.{IsMadeOf};
+ghost use Rattle.f90_blocks.specs.places.forms.Places.{IsPlacedOf};
+ghost use Rattle.f90_statement.specs.Views.{AreOf, IsActionOf, IsStatementOf};
 ghost use Rattle.f90_trees.specs.Hiding.{function_in};
 ghost use Rattle.f90_trees.specs.Trees.{IsOfPhrase};
 ghost use Rattle.f90_blocks.specs.statement_trees.Executable.{IsMarkOf, IsMarked};
@@ -17,16 +17,16 @@ ghost use Rattle.f90_blocks.specs.statement_trees.Results.{IsTested};
 ghost use Rattle.f90_blocks.specs.statement_trees.Results.{Gives};
 ghost use Rattle.f90_blocks.specs.statement_trees.Trees.{IsTreeOf};
 
+use crate::places::forms::Placed;
 use crate::statement_trees::expressions::{left_side, parameters, trees};
 use crate::statement_trees::items::trees_of_items;
 use crate::statement_trees::nodes::StatementTree;
-use f90_expr::Expression;
-use f90_items::ItemList;
-use f90_places::forms::Placed;
-use f90_statements::{Action, Statement};
+use f90_expressions::Expression;
+use f90_statement::items::ItemList;
+use f90_statement::{Action, Statement};
 use f90_trees::{Functions, tree};
-use fv_tree::{Expr, Item, Mark, Memory, Name, Seq, Stmt};
 use std::alloc::Global;
+use tree::{Expr, Item, Mark, Memory, Name, Seq, Stmt};
 
 // What an action does, nothing where it is CONTINUE; or it stores into a call.
 #[derive(Drop)]

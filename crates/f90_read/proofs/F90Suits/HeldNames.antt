@@ -1,14 +1,14 @@
 -- The names of a tree are known where those of what is held of it are: numbers alone are cut.
 use Rattle.std.proofs.Common.{◌≡◌, ◌⊎◌, ◌↔◌, ◌+◌, refl, ap, subst, ℕ, List, IsSome}
-use Rattle.fv_tree.specs.Plain as tree
-use Rattle.fv_tree.specs.Plain.{Expression, Expressions, Subscript, Subscripts, Loops, Reference, Item, Items}
-use Rattle.fv_tree.specs.Plain.{Statement, Declaration}
-use Rattle.fv_meaning.specs.Typed.{number_of_subscripts}
+use Rattle.tree.specs.Plain as tree
+use Rattle.tree.specs.Plain.{Expression, Expressions, Subscript, Subscripts, Loops, Reference, Item, Items}
+use Rattle.tree.specs.Plain.{Statement, Declaration}
+use Rattle.meaning.specs.Typed.{number_of_subscripts}
 use Rattle.f90_grammar.specs.Declared.{IsKnown, use_of}
 use Rattle.f90_grammar.specs.Items.{Direction, Input, Output}
 use Rattle.f90_grammar.specs.Reading.{function_by}
-use Rattle.f90_kinds.specs.Known.{KnowsNames, KnowsAll, KnowsSubscripts, KnowsSubscript, KnowsLoops, KnowsReference}
-use Rattle.f90_kinds.specs.Known.{KnowsSingle, KnowsItem, KnowsItems}
+use Rattle.f90_names.specs.kinds.Known.{KnowsNames, KnowsAll, KnowsSubscripts, KnowsSubscript, KnowsLoops, KnowsReference}
+use Rattle.f90_names.specs.kinds.Known.{KnowsSingle, KnowsItem, KnowsItems}
 use Rattle.f90_trees.specs.Building.{held, held_all, held_subscript, held_subscripts, held_loops}
 use Rattle.f90_blocks.specs.statement_trees.Held.{held_reference, held_item, held_items, held_statement}
 use Rattle.f90_read.specs.f90_suits.Known.{KnowsStatement}

@@ -3,13 +3,13 @@ use Rattle.std.proofs.Common.{◌≡◌, ◌⊎◌, ◌↔◌, ◌∙◌, refl, 
 use Rattle.std.proofs.Common.{◌∷◌, ◌++◌, Option, None, Some, Decides}
 use Rattle.std.specs.Option.{IsSomeAnd}
 use Rattle.std.specs.List.{AllByRecursion, flat_map}
-use Rattle.fv_tree.specs.Plain as tree
-use Rattle.fv_tree.specs.Plain.{Expression, Reference, Statement, Declaration}
-use Rattle.fv_tree.specs.View.{expression_of, statement_of}
-use Rattle.fv_tree.specs.declared.stmts.Stmt.{Stmt}
-use Rattle.fv_meaning.specs.Typed.{declared}
-use Rattle.fv_meaning.proofs.CellFrame.{first_part, second_part}
-use Rattle.fv_meaning.proofs.Columns.{join}
+use Rattle.tree.specs.Plain as tree
+use Rattle.tree.specs.Plain.{Expression, Reference, Statement, Declaration}
+use Rattle.tree.specs.View.{expression_of, statement_of}
+use Rattle.tree.specs.declared.stmts.Stmt.{Stmt}
+use Rattle.meaning.specs.Typed.{declared}
+use Rattle.meaning.proofs.CellFrame.{first_part, second_part}
+use Rattle.meaning.proofs.Columns.{join}
 use Rattle.f90_grammar.specs.Blocks.{Placed, IsSimple, reference_in, at, trees}
 use Rattle.f90_grammar.specs.Blocks.IsSimple.{assigns, masks, goes, stops, reads, reads_nothing, prints}
 use Rattle.f90_grammar.specs.Blocks.IsSimple.{prints_nothing, allocates, deallocates}
@@ -23,8 +23,8 @@ use Rattle.f90_grammar.specs.Order.{is_executable}
 use Rattle.f90_grammar.specs.Phrases.{Phrase, SuitsCalls, tree_of}
 use Rattle.f90_grammar.specs.Reading.{function_by}
 use Rattle.f90_grammar.specs.Words.{Word}
-use Rattle.f90_kinds.specs.Known.{KnowsNames, KnowsAll, KnowsReference}
-use Rattle.f90_kinds.proofs.KnownLaws.{trees_know_names, reference_knows_names, output_knows_names, input_knows_names}
+use Rattle.f90_names.specs.kinds.Known.{KnowsNames, KnowsAll, KnowsReference}
+use Rattle.f90_names.proofs.kinds.KnownLaws.{trees_know_names, reference_knows_names, output_knows_names, input_knows_names}
 use Rattle.f90_trees.specs.Building.{held}
 use Rattle.f90_blocks.specs.statement_trees.Executable.{is_named, is_call, stores_into_call, has_tree}
 use Rattle.f90_blocks.specs.statement_trees.Held.{held_statement, IsHeldStmtOf, IsHeldDone, IsHeldTreeOf}

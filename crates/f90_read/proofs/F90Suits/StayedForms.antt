@@ -5,17 +5,17 @@ use mathlib.Core.Path.{ap₂}
 use Rattle.std.specs.Prelude.{min}
 use Rattle.std.specs.Option.{IsSomeAnd}
 use Rattle.std.specs.List.{AllByRecursion, list_any}
-use Rattle.fv_tree.specs.Limits.{greatest_literal}
-use Rattle.fv_tree.specs.Plain as tree
-use Rattle.fv_tree.specs.Plain.{Expression, Expressions, Reference, Item, Items, Statement, Declaration}
-use Rattle.fv_tree.specs.declared.ops.Kind.{Kind}
-use Rattle.fv_tree.specs.declared.ops.Kind.TheVariants.{Integer, Logical}
-use Rattle.fv_tree.specs.declared.functions.Intrinsic.{Intrinsic}
-use Rattle.fv_meaning.specs.Value.{named}
-use Rattle.fv_meaning.specs.Typed.{declared}
-use Rattle.fv_meaning.specs.Typed90.{HasKind, IsScalar, AreScalars, HasSomeKind}
-use Rattle.fv_meaning.proofs.CellFrame.{first_part, second_part}
-use Rattle.fv_meaning.proofs.Columns.{join}
+use Rattle.tree.specs.Limits.{greatest_literal}
+use Rattle.tree.specs.Plain as tree
+use Rattle.tree.specs.Plain.{Expression, Expressions, Reference, Item, Items, Statement, Declaration}
+use Rattle.tree.specs.declared.ops.Kind.{Kind}
+use Rattle.tree.specs.declared.ops.Kind.TheVariants.{Integer, Logical}
+use Rattle.tree.specs.declared.functions.Intrinsic.{Intrinsic}
+use Rattle.meaning.specs.Value.{named}
+use Rattle.meaning.specs.Typed.{declared}
+use Rattle.meaning.specs.Typed90.{HasKind, IsScalar, AreScalars, HasSomeKind}
+use Rattle.meaning.proofs.CellFrame.{first_part, second_part}
+use Rattle.meaning.proofs.Columns.{join}
 use Rattle.f90_grammar.specs.Blocks.{Placed, IsSimple, reference_in, trees}
 use Rattle.f90_grammar.specs.Blocks.IsSimple.{assigns, masks, goes, stops, reads, reads_nothing, prints}
 use Rattle.f90_grammar.specs.Blocks.IsSimple.{prints_nothing, allocates, deallocates}

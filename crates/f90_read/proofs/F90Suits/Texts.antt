@@ -2,18 +2,18 @@
 use mathlib.Core.Path.{fun_ext}
 use Rattle.std.proofs.Common.{◌≡◌, ◌↔◌, refl, sym, subst, ◌∙◌, ℕ, Bool, true, false, not, List, [], ◌∷◌, ◌++◌, Option}
 use Rattle.std.proofs.Common.{None, Some, IfSome, Decides}
-use Rattle.fv_tree.specs.Plain.{Declaration}
-use Rattle.fv_tree.specs.declared.functions.Intrinsic.{Intrinsic}
+use Rattle.tree.specs.Plain.{Declaration}
+use Rattle.tree.specs.declared.functions.Intrinsic.{Intrinsic}
 use Rattle.f90_blocks.specs.declared.nodes.Treed.{Treed}
 use Rattle.f90_blocks.specs.Treed.{IsTreedOf}
-use Rattle.f90_places.specs.forms.Places.{IsPlacedOf}
-use Rattle.f90_places.specs.declared.forms.placing.Placed as code
+use Rattle.f90_blocks.specs.places.forms.Places.{IsPlacedOf}
+use Rattle.f90_blocks.specs.declared.places.forms.placing.Placed as code
 use Rattle.f90_grammar.specs.Blocks.{Placed}
 use Rattle.f90_grammar.specs.Declared.{HasKnownNames}
 use Rattle.f90_grammar.specs.Order.{Place, is_executable}
 use Rattle.f90_grammar.specs.Reading.{function_by}
 use Rattle.f90_grammar.specs.Suited.{Suits}
-use Rattle.f90_statements.specs.Views.{AreOf}
+use Rattle.f90_statement.specs.Views.{AreOf}
 use Rattle.f90_blocks.specs.statement_trees.Executable.{has_tree}
 use Rattle.f90_blocks.specs.statement_trees.Held.{IsHeldTreeOf, IsHeldForm}
 use Rattle.f90_blocks.specs.statement_trees.Results.{Gives}

@@ -5,11 +5,11 @@ use Rattle.std.specs.List.{AllByRecursion}
 use Rattle.f90_grammar.specs.Blocks.{Placed}
 use Rattle.f90_grammar.specs.Forms.{Form}
 use Rattle.f90_grammar.specs.Order.{Place, IsPlaceIn}
-use Rattle.f90_places.specs.forms.Places.{IsPlacedOf}
-use Rattle.f90_places.specs.declared.forms.placing.Placed as code
-use Rattle.f90_statements.specs.Views.{AreOf}
-use Rattle.f90_places.specs.First.{FindsFirst}
-use Rattle.f90_places.proofs.Walks.{StandsAt, stands_at, as_many, place_within, met}
+use Rattle.f90_blocks.specs.places.forms.Places.{IsPlacedOf}
+use Rattle.f90_blocks.specs.declared.places.forms.placing.Placed as code
+use Rattle.f90_statement.specs.Views.{AreOf}
+use Rattle.f90_blocks.specs.places.First.{FindsFirst}
+use Rattle.f90_blocks.proofs.places.Walks.{StandsAt, stands_at, as_many, place_within, met}
 use Rattle.f90_read.specs.f90_suits.Ready.{HoldsOfAll}
 
 -- the first `n` are good

@@ -4,15 +4,15 @@ use Rattle.std.specs.Prelude.{min}
 use Rattle.std.specs.List.{AllByRecursion}
 use Rattle.std.proofs.Math.Seq.{take-append_seam}
 use Rattle.std.proofs.lemmas.Bool.{cases_lt, false_from_ne_true, or_parts, or_cases, or_left, or_right}
-use Rattle.fv_tree.specs.declared.functions.Intrinsic.{Intrinsic}
-use Rattle.fv_tree.specs.Plain.{Declaration}
-use Rattle.fv_meaning.specs.Names.{is_among}
-use Rattle.f90_block_laws.specs.Places.{SuitsPlace, surroundings_of, loop_variables, labels_ahead}
+use Rattle.tree.specs.declared.functions.Intrinsic.{Intrinsic}
+use Rattle.tree.specs.Plain.{Declaration}
+use Rattle.meaning.specs.Names.{is_among}
+use Rattle.f90_laws.specs.blocks.Places.{SuitsPlace, surroundings_of, loop_variables, labels_ahead}
 use Rattle.f90_grammar.specs.Blocks.{Placed}
 use Rattle.f90_grammar.specs.Order.{Place, IsPlaceIn, opened_behind, opened_by}
-use Rattle.f90_kinds.specs.declarations.Names.{AreNamesOf}
-use Rattle.f90_kinds.specs.declared.declarations.names.Names.{Names}
-use Rattle.f90_places.specs.First.{IsFirstPlace, FindsFirst}
+use Rattle.f90_names.specs.kinds.declarations.Names.{AreNamesOf}
+use Rattle.f90_names.specs.declared.kinds.declarations.names.Names.{Names}
+use Rattle.f90_blocks.specs.places.First.{IsFirstPlace, FindsFirst}
 use Rattle.f90_read.specs.surroundings.Lists.{scalar_in}
 use Rattle.f90_read.specs.surroundings.Misuses.{misuses_at}
 use Rattle.f90_read.specs.surroundings.Jumps.{jumps_wrongly_at}

@@ -2,14 +2,14 @@
 use Rattle.std.proofs.Common.{arith, zero, suc, ◌≡◌, ◌+◌, ◌<◌, ◌≤◌, ℕ, Bool, true, false, cond, Option, Some, None, List, [], ◌∷◌, ◌++◌, take, drop, length, get_or, ap, refl, sym, subst, ◌∙◌, add-one}
 use Rattle.std.proofs.lemmas.Bool.{true≢false}
 use Rattle.std.proofs.lemmas.List.{drop_all}
-use Rattle.f90_block_laws.specs.Places.{labels_ahead}
+use Rattle.f90_laws.specs.blocks.Places.{labels_ahead}
 use Rattle.f90_grammar.specs.Blocks as grammar
 use Rattle.f90_grammar.specs.Forms.{Form}
 use Rattle.f90_grammar.specs.Order.{Place}
-use Rattle.f90_places.specs.forms.Places.{IsPlacedOf}
-use Rattle.f90_places.specs.declared.forms.placing.Placed.{Placed}
-use Rattle.f90_places.specs.First.{FindsFirst}
-use Rattle.f90_statements.specs.Views.{AreOf, IsStatementOf}
+use Rattle.f90_blocks.specs.places.forms.Places.{IsPlacedOf}
+use Rattle.f90_blocks.specs.declared.places.forms.placing.Placed.{Placed}
+use Rattle.f90_blocks.specs.places.First.{FindsFirst}
+use Rattle.f90_statement.specs.Views.{AreOf, IsStatementOf}
 use Rattle.f90_read.specs.surroundings.Jumps.{AreAhead, target_of, leads_wrongly, jumps_wrongly_at}
 use Rattle.f90_read.specs.declared.surroundings.jumping.LabelsAhead.{LabelsAhead}
 use Rattle.f90_read.proofs.OfSurroundings.PlaceLaws.{FindsFrom, meets, of_length, drop_next, found_here, passed, none_behind, from_start}

@@ -7,7 +7,7 @@ use Rattle.std.proofs.lemmas.Bool.{false_from_ne_true, eqb-true, eqb-false, true
 use Rattle.std.proofs.lemmas.List.{reverse-append, take-append-le, length-append, length-take-le}
 use Rattle.std.proofs.lemmas.List.Sorted.{list_any-IsPermutation, IsPermutation-reverse}
 use Rattle.std.proofs.lemmas.Option.{slice_get_within}
-use Rattle.f90_block_laws.specs.Places.{labels_ahead, opened_since, with_label_at}
+use Rattle.f90_laws.specs.blocks.Places.{labels_ahead, opened_since, with_label_at}
 use Rattle.f90_grammar.specs.Blocks.{Placed}
 use Rattle.f90_grammar.specs.Forms as forms
 use Rattle.f90_grammar.specs.Forms.{Form}

@@ -4,17 +4,17 @@ use Rattle.std.specs.Prelude.{reverse}
 use Rattle.std.specs.List.{list_any}
 use Rattle.std.proofs.lemmas.List.Sorted.{list_any-IsPermutation, IsPermutation-reverse}
 use Rattle.std.specs.Str.{bytes_eq}
-use Rattle.fv_meaning.specs.Names.{is_among}
+use Rattle.meaning.specs.Names.{is_among}
 use Rattle.f90_grammar.specs.Items as items
 use Rattle.f90_grammar.specs.Items.{Direction, ItemPhrase, ItemPhrases, Sole, More}
-use Rattle.f90_items.specs.Flat as flats
-use Rattle.f90_items.specs.Flat.{Of, Text, Begin, Turns, flat_item, flat_items}
-use Rattle.f90_items.specs.Views.{IsNodeOf, AreNodesOf}
-use Rattle.f90_items.specs.declared.nodes.Node.{Node}
-use Rattle.f90_expr.specs.Flat as flat_nodes
-use Rattle.f90_expr.specs.Flat.{flat, flat_parts, flat_values, flat_turn}
-use Rattle.f90_expr.specs.Views.{node_seen, nodes_seen}
-use Rattle.f90_expr.specs.declared.nodes.Node as expr
+use Rattle.f90_statement.specs.items.Flat as flats
+use Rattle.f90_statement.specs.items.Flat.{Of, Text, Begin, Turns, flat_item, flat_items}
+use Rattle.f90_statement.specs.items.Views.{IsNodeOf, AreNodesOf}
+use Rattle.f90_statement.specs.declared.items.nodes.Node.{Node}
+use Rattle.f90_expressions.specs.Flat as flat_nodes
+use Rattle.f90_expressions.specs.Flat.{flat, flat_parts, flat_values, flat_turn}
+use Rattle.f90_expressions.specs.Views.{node_seen, nodes_seen}
+use Rattle.f90_expressions.specs.declared.nodes.Node as expr
 use Rattle.f90_grammar.specs.Phrases as phrases
 use Rattle.f90_grammar.specs.Phrases.{Phrase}
 use Rattle.std.proofs.lemmas.List.{map_push}

@@ -2,15 +2,15 @@
 use Rattle.std.proofs.Common.{arith, zero, suc, ◌≡◌, ◌+◌, ◌<◌, ◌≤◌, ℕ, Bool, true, false, Option, Some, None, List, [], ◌∷◌, ◌++◌, take, drop, map, length, get_or, ap, refl, sym, subst, ◌∙◌, add-one}
 use Rattle.std.specs.Prelude.{reverse}
 use Rattle.std.proofs.lemmas.Bool.{true≢false}
-use Rattle.fv_meaning.specs.Names.{is_among}
-use Rattle.f90_block_laws.specs.Places.{loop_variables}
+use Rattle.meaning.specs.Names.{is_among}
+use Rattle.f90_laws.specs.blocks.Places.{loop_variables}
 use Rattle.f90_grammar.specs.Blocks as grammar
 use Rattle.f90_grammar.specs.Forms.{Form}
 use Rattle.f90_grammar.specs.Order.{Place, Opened, opened_by, opened_behind}
-use Rattle.f90_places.specs.forms.Places.{IsPlacedOf}
-use Rattle.f90_places.specs.declared.forms.placing.Placed.{Placed}
-use Rattle.f90_places.specs.First.{FindsFirst}
-use Rattle.f90_statements.specs.Views.{AreOf, IsStatementOf}
+use Rattle.f90_blocks.specs.places.forms.Places.{IsPlacedOf}
+use Rattle.f90_blocks.specs.declared.places.forms.placing.Placed.{Placed}
+use Rattle.f90_blocks.specs.places.First.{FindsFirst}
+use Rattle.f90_statement.specs.Views.{AreOf, IsStatementOf}
 use Rattle.f90_read.specs.surroundings.Misuses.{AreOpen, misuses_form, misuses_at}
 use Rattle.f90_read.specs.declared.surroundings.looping.OpenBlocks.{OpenBlocks}
 use Rattle.f90_read.proofs.OfSurroundings.PlaceLaws.{NoneBefore, Meets, meets, of_length, found_first, none_here, none_at_all, none_yet}

@@ -7,24 +7,24 @@ use Rattle.std.proofs.lemmas.Bool.{cases_Bool, eqb-true, eqb-false, true≢false
 use Rattle.std.proofs.lemmas.List.Folds.{list_any_at, list_any-append}
 use Rattle.std.proofs.lemmas.Map.Views.{Contains-from_any}
 use Rattle.std.proofs.lemmas.Slice.Eq.{bytes_eq-Decides}
-use Rattle.fv_tree.specs.declared.functions.Intrinsic.{Intrinsic}
-use Rattle.fv_tree.specs.declared.functions.Intrinsic.TheVariants.{Elemental, Reduction, Spread, Transpose, Reshape}
-use Rattle.fv_tree.specs.declared.ops.Kind.{Kind}
-use Rattle.fv_tree.specs.declared.ops.Kind.TheVariants.{Integer, Logical}
-use Rattle.fv_tree.specs.Plain as tree
-use Rattle.fv_tree.specs.Plain.{Declaration, Expression, Subscript}
-use Rattle.fv_meaning.specs.Names.{is_among}
-use Rattle.fv_meaning.specs.Typed.{declared, rank_of_extent}
-use Rattle.fv_meaning.specs.Typed90.{IsIntegerScalar, IsDoVariable}
+use Rattle.tree.specs.declared.functions.Intrinsic.{Intrinsic}
+use Rattle.tree.specs.declared.functions.Intrinsic.TheVariants.{Elemental, Reduction, Spread, Transpose, Reshape}
+use Rattle.tree.specs.declared.ops.Kind.{Kind}
+use Rattle.tree.specs.declared.ops.Kind.TheVariants.{Integer, Logical}
+use Rattle.tree.specs.Plain as tree
+use Rattle.tree.specs.Plain.{Declaration, Expression, Subscript}
+use Rattle.meaning.specs.Names.{is_among}
+use Rattle.meaning.specs.Typed.{declared, rank_of_extent}
+use Rattle.meaning.specs.Typed90.{IsIntegerScalar, IsDoVariable}
 use Rattle.f90_grammar.specs.Blocks.{reference_in}
 use Rattle.f90_grammar.specs.Items.{Input, IsReference, IsVariable}
 use Rattle.f90_grammar.specs.Phrases as phrases
 use Rattle.f90_grammar.specs.Phrases.{Phrase, tree_of, called, trees_of_parts}
 use Rattle.f90_grammar.specs.Reading.{declares}
 use Rattle.f90_grammar.specs.Surroundings.{KeepsVariables}
-use Rattle.f90_kinds.specs.declarations.Names.{AreNamesOf, Tells, IsOf, found}
-use Rattle.f90_kinds.specs.declared.declarations.names.Declared.{Declared}
-use Rattle.f90_kinds.specs.declared.declarations.names.Names.{Names}
+use Rattle.f90_names.specs.kinds.declarations.Names.{AreNamesOf, Tells, IsOf, found}
+use Rattle.f90_names.specs.declared.kinds.declarations.names.Declared.{Declared}
+use Rattle.f90_names.specs.declared.kinds.declarations.names.Names.{Names}
 use Rattle.f90_read.specs.surroundings.Lists.{is_integer, is_scalar, scalar_in, stored_name, is_round, stores_round, is_wrong_variable}
 use Rattle.f90_read.specs.surroundings.Misplaced.{AreProper}
 

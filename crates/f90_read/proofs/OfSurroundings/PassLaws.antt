@@ -1,14 +1,14 @@
 -- The labels ahead of a statement, from those behind it.
 use Rattle.std.proofs.Common.{zero, suc, ◌≡◌, ℕ, Option, Some, None, Result, Ok, Err, OnOk, List, [], ◌∷◌, ap, refl, sym, ◌∙◌}
-use Rattle.f90_block_laws.specs.Places.{labels_ahead, opened_since, with_label_at}
+use Rattle.f90_laws.specs.blocks.Places.{labels_ahead, opened_since, with_label_at}
 use Rattle.f90_grammar.specs.Blocks.{Placed}
 use Rattle.f90_grammar.specs.Forms as forms
 use Rattle.f90_grammar.specs.Forms.{Form}
-use Rattle.f90_expr.specs.declared.nodes.Expression.{Expression}
-use Rattle.f90_items.specs.declared.parts.bounds.Bounds.{Bounds}
-use Rattle.f90_statements.specs.Views.{IsStatementOf}
-use Rattle.f90_statements.specs.declared.nodes.Statement.{Statement}
-use Rattle.f90_statements.specs.declared.nodes.Statement.TheVariants as statements
+use Rattle.f90_expressions.specs.declared.nodes.Expression.{Expression}
+use Rattle.f90_statement.specs.declared.items.parts.bounds.Bounds.{Bounds}
+use Rattle.f90_statement.specs.Views.{IsStatementOf}
+use Rattle.f90_statement.specs.declared.nodes.Statement.{Statement}
+use Rattle.f90_statement.specs.declared.nodes.Statement.TheVariants as statements
 use Rattle.f90_read.specs.surroundings.Jumps.{AreLevels, AreAhead, with_first, entered, left}
 use Rattle.f90_read.specs.declared.surroundings.jumping.LabelsAhead.{LabelsAhead}
 

@@ -5,8 +5,8 @@ use Rattle.std.proofs.lemmas.Bool.{cases_lt, cases_eq}
 use Rattle.std.proofs.lemmas.List.{take-append-drop, length-append, drop_all}
 use Rattle.f90_grammar.specs.Blocks.{Placed}
 use Rattle.f90_grammar.specs.Order.{Place, IsPlaceIn}
-use Rattle.f90_places.specs.First.{IsFirstPlace, FindsFirst}
-use Rattle.f90_statements.specs.Views.{AreOf}
+use Rattle.f90_blocks.specs.places.First.{IsFirstPlace, FindsFirst}
+use Rattle.f90_statement.specs.Views.{AreOf}
 
 -- ---- one list of the other, by numbers
 

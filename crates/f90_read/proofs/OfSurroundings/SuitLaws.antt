@@ -5,13 +5,13 @@ use Rattle.std.specs.List.{list_any, AllByRecursion}
 use Rattle.std.proofs.lemmas.Bool.{eqb-true, eqb-false, eq-eqb, true≢false, or_parts}
 use Rattle.std.proofs.lemmas.List.Folds.{list_any_at}
 use Rattle.std.proofs.lemmas.Map.Views.{Contains-from_any}
-use Rattle.fv_tree.specs.declared.functions.Intrinsic.{Intrinsic}
-use Rattle.fv_tree.specs.Plain as tree
-use Rattle.fv_tree.specs.Plain.{Declaration, Item}
-use Rattle.fv_meaning.specs.Blocks.{Surroundings}
-use Rattle.fv_meaning.specs.Names.{is_among}
-use Rattle.fv_meaning.specs.Typed90.{IsDoVariable}
-use Rattle.f90_block_laws.specs.Places.{SuitsPlace, loop_variables}
+use Rattle.tree.specs.declared.functions.Intrinsic.{Intrinsic}
+use Rattle.tree.specs.Plain as tree
+use Rattle.tree.specs.Plain.{Declaration, Item}
+use Rattle.meaning.specs.Blocks.{Surroundings}
+use Rattle.meaning.specs.Names.{is_among}
+use Rattle.meaning.specs.Typed90.{IsDoVariable}
+use Rattle.f90_laws.specs.blocks.Places.{SuitsPlace, loop_variables}
 use Rattle.f90_grammar.specs.Forms as forms
 use Rattle.f90_grammar.specs.Forms.{Form, IsWritten}
 use Rattle.f90_grammar.specs.Items as items
@@ -20,8 +20,8 @@ use Rattle.f90_grammar.specs.Order.{Opened, InIf, InElse, InDo, opened_by}
 use Rattle.f90_grammar.specs.Phrases.{value_of_digits, tree_of}
 use Rattle.f90_grammar.specs.Surroundings.{ItemKeepsVariables, ItemsKeepVariables}
 use Rattle.f90_grammar.specs.Words.{Word}
-use Rattle.f90_kinds.specs.declarations.Names.{AreNamesOf}
-use Rattle.f90_kinds.specs.declared.declarations.names.Names.{Names}
+use Rattle.f90_names.specs.kinds.declarations.Names.{AreNamesOf}
+use Rattle.f90_names.specs.declared.kinds.declarations.names.Names.{Names}
 use Rattle.f90_read.specs.surroundings.Lists.{scalar_in, stored_name, item_misuses, items_misuse}
 use Rattle.f90_read.specs.surroundings.Misuses.{misuses_form}
 use Rattle.f90_read.specs.surroundings.Jumps.{target_of, leads_wrongly}

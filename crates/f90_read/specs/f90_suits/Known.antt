@@ -1,12 +1,12 @@
 -- Statements, as the code holds them, whose names are known.
 use Rattle.std.specs.Prelude.{Option, None, Some, List}
-use Rattle.fv_tree.specs.Plain as tree
-use Rattle.fv_tree.specs.Plain.{Declaration}
-use Rattle.fv_tree.specs.View.{expression_of, statement_of}
-use Rattle.fv_tree.specs.declared.stmts.Stmt.{Stmt}
+use Rattle.tree.specs.Plain as tree
+use Rattle.tree.specs.Plain.{Declaration}
+use Rattle.tree.specs.View.{expression_of, statement_of}
+use Rattle.tree.specs.declared.stmts.Stmt.{Stmt}
 use Rattle.f90_grammar.specs.Declared.{IsKnown, use_of}
 use Rattle.f90_grammar.specs.Items.{Input, Output}
-use Rattle.f90_kinds.specs.Known.{KnowsNames, KnowsAll, KnowsReference, KnowsItems}
+use Rattle.f90_names.specs.kinds.Known.{KnowsNames, KnowsAll, KnowsReference, KnowsItems}
 use Rattle.f90_blocks.specs.declared.statement_trees.nodes.StatementTree.{StatementTree}
 use Rattle.f90_blocks.specs.declared.statement_trees.nodes.StatementTree.TheVariants.{Simple, Test, If, ElseIf, Do}
 

@@ -1,7 +1,7 @@
 -- What is known of a text before its names and its kinds are asked about.
 use Rattle.std.specs.Prelude.{◌≡◌, ℕ, false, None, List, []}
-use Rattle.fv_tree.specs.Plain.{Declaration}
-use Rattle.fv_meaning.specs.Typed.{declared}
+use Rattle.tree.specs.Plain.{Declaration}
+use Rattle.meaning.specs.Typed.{declared}
 use Rattle.f90_grammar.specs.Blocks.{Placed}
 use Rattle.f90_grammar.specs.Contents.{SuitsCallsIn, has_wide_literal_in}
 use Rattle.f90_grammar.specs.Forms.{Form, IsWritten}

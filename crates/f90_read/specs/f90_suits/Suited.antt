@@ -1,14 +1,14 @@
 -- Statements, as the code holds them, whose kinds and ranks suit.
 use Rattle.std.specs.Prelude.{Option, None, Some, List}
 use Rattle.std.specs.Option.{IsSomeAnd}
-use Rattle.fv_tree.specs.Plain as tree
-use Rattle.fv_tree.specs.Plain.{Declaration}
-use Rattle.fv_tree.specs.View.{expression_of, statement_of}
-use Rattle.fv_tree.specs.declared.ops.Kind.TheVariants.{Logical}
-use Rattle.fv_tree.specs.declared.stmts.Stmt.{Stmt}
-use Rattle.fv_meaning.specs.Typed.{declared}
-use Rattle.fv_meaning.specs.Typed90.{IsScalar}
-use Rattle.fv_meaning.specs.Profile90.{IsAllocatable}
+use Rattle.tree.specs.Plain as tree
+use Rattle.tree.specs.Plain.{Declaration}
+use Rattle.tree.specs.View.{expression_of, statement_of}
+use Rattle.tree.specs.declared.ops.Kind.TheVariants.{Logical}
+use Rattle.tree.specs.declared.stmts.Stmt.{Stmt}
+use Rattle.meaning.specs.Typed.{declared}
+use Rattle.meaning.specs.Typed90.{IsScalar}
+use Rattle.meaning.specs.Profile90.{IsAllocatable}
 use Rattle.f90_grammar.specs.Items.{Input, Output}
 use Rattle.f90_grammar.specs.Suited.{SuitsAssignment, SuitsMask, AreNumbers, SuitsItems, SuitsAllocation}
 use Rattle.f90_blocks.specs.declared.statement_trees.nodes.StatementTree.{StatementTree}

@@ -3,7 +3,7 @@ use Rattle.std.specs.Prelude.{◌≡◌, ◌≤◌, ℕ, zero, suc, nat_eq, Bool
 use Rattle.std.specs.Prelude.{List, [], ◌∷◌, length, take, reverse, slice_get, IsSomeAnd}
 use Rattle.std.specs.List.{list_any}
 use Rattle.indexmap.specs.IndexMap.{get}
-use Rattle.f90_block_laws.specs.Places.{labels_ahead}
+use Rattle.f90_laws.specs.blocks.Places.{labels_ahead}
 use Rattle.f90_grammar.specs.Blocks.{Placed}
 use Rattle.f90_grammar.specs.Forms as forms
 use Rattle.f90_grammar.specs.Forms.{Form}

@@ -1,17 +1,17 @@
 -- DO variables that are wrong, or set in the range of their loop or list, told by names: `scalar` says which names are
 -- INTEGER scalars, `round` which are the variables of loops round the statement.
 use Rattle.std.specs.Prelude.{ℕ, nat_eq, Bool, true, false, not, ◌&&◌, ◌||◌, Option, Some, None, List, [], ◌∷◌}
-use Rattle.fv_tree.specs.declared.ops.Kind.{Kind}
-use Rattle.fv_tree.specs.declared.ops.Kind.TheVariants.{Integer, Logical}
-use Rattle.fv_meaning.specs.Names.{is_among}
+use Rattle.tree.specs.declared.ops.Kind.{Kind}
+use Rattle.tree.specs.declared.ops.Kind.TheVariants.{Integer, Logical}
+use Rattle.meaning.specs.Names.{is_among}
 use Rattle.f90_grammar.specs.Items as items
 use Rattle.f90_grammar.specs.Items.{Direction, Input, Output, ItemPhrase, ItemPhrases, Sole, More}
 use Rattle.f90_grammar.specs.Phrases.{Phrase, Name, Listed}
-use Rattle.f90_kinds.specs.declarations.Names.{found}
-use Rattle.f90_kinds.specs.declared.declarations.names.Declared.{Declared}
-use Rattle.f90_kinds.specs.declared.declarations.names.Names.{Names}
-use Rattle.f90_expr.specs.Flat as parts
-use Rattle.f90_items.specs.Flat.{Node, Of, Text, Begin, Turns}
+use Rattle.f90_names.specs.kinds.declarations.Names.{found}
+use Rattle.f90_names.specs.declared.kinds.declarations.names.Declared.{Declared}
+use Rattle.f90_names.specs.declared.kinds.declarations.names.Names.{Names}
+use Rattle.f90_expressions.specs.Flat as parts
+use Rattle.f90_statement.specs.items.Flat.{Node, Of, Text, Begin, Turns}
 
 -- ---- names
 

@@ -1,7 +1,7 @@
 -- What doesn't suit the blocks round it.
 use Rattle.std.specs.Prelude.{◌≡◌, ℕ, min, true, false, Option, Some, None, List, []}
-use Rattle.fv_tree.specs.Plain.{Declaration}
-use Rattle.fv_tree.specs.declared.functions.Intrinsic.{Intrinsic}
+use Rattle.tree.specs.Plain.{Declaration}
+use Rattle.tree.specs.declared.functions.Intrinsic.{Intrinsic}
 use Rattle.f90_grammar.specs.Blocks.{Placed}
 use Rattle.f90_grammar.specs.Forms.{IsWritten}
 use Rattle.f90_grammar.specs.Reading.{declares}

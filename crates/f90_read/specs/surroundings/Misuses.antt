@@ -1,7 +1,7 @@
 -- DO variables that are wrong, or set in the range of their loop, at statements.
 use Rattle.std.specs.Prelude.{◌≡◌, ℕ, Bool, true, false, List, [], ◌∷◌, map, reverse}
-use Rattle.fv_meaning.specs.Names.{is_among}
-use Rattle.f90_block_laws.specs.Places.{loop_variables}
+use Rattle.meaning.specs.Names.{is_among}
+use Rattle.f90_laws.specs.blocks.Places.{loop_variables}
 use Rattle.f90_grammar.specs.Forms as forms
 use Rattle.f90_grammar.specs.Forms.{Form}
 use Rattle.f90_grammar.specs.Items.{Input, Output}

@@ -2,9 +2,9 @@
 ghost use Rattle.std.specs.Prelude.{◌≡◌};
 ghost use Rattle.f90_grammar.specs.Forms.{Form};
 ghost use Rattle.f90_grammar.specs.Order.{is_executable};
-ghost use Rattle.f90_statements.specs.Views.{IsStatementOf};
+ghost use Rattle.f90_statement.specs.Views.{IsStatementOf};
 
-use f90_statements::Statement;
+use f90_statement::Statement;
 
 /// Whether the statement is executable (ISO/IEC 1539:1991, section 2.1).
 pub(crate) fn is_executable(statement: &Statement) -> bool

@@ -1,31 +1,31 @@
 //! Statements with names that aren't declared (ISO/IEC 1539:1991, sections 5, 6.2 and 12.5.2).
 ghost use Rattle.std.specs.Prelude.{◌≡◌, ◌↔◌, None, List, IsTrue, IfOk};
-ghost use Rattle.fv_tree.specs.Plain.{Declaration};
-ghost use Rattle.fv_tree.specs.View.{statement_of};
+ghost use Rattle.tree.specs.Plain.{Declaration};
+ghost use Rattle.tree.specs.View.{statement_of};
 ghost use Rattle.f90_grammar.specs.Blocks as grammar;
 ghost use Rattle.f90_grammar.specs.Declared.{HasKnownNames};
-ghost use Rattle.f90_kinds.specs.declarations.Names.{AreNamesOf};
-ghost use Rattle.f90_places.specs.forms.Places.{IsPlacedOf};
-ghost use Rattle.f90_places.specs.First.{FindsFirst};
-ghost use Rattle.f90_statements.specs.Views.{AreOf};
+ghost use Rattle.f90_names.specs.kinds.declarations.Names.{AreNamesOf};
+ghost use Rattle.f90_blocks.specs.places.forms.Places.{IsPlacedOf};
+ghost use Rattle.f90_blocks.specs.places.First.{FindsFirst};
+ghost use Rattle.f90_statement.specs.Views.{AreOf};
 ghost use Rattle.f90_blocks.specs.statement_trees.Results.{IsOf, AreOfSome};
 ghost use Rattle.f90_read.specs.f90_suits.Known.{KnowsStatement, KnowsDone, KnowsTree};
 ghost use Rattle.f90_read.specs.f90_suits.Ready.{AreFunctionsOf, IsReadyAt, AreReady, HoldsOfAll};
 
 use crate::f90_suits::executable::is_executable;
+use f90_blocks::places::forms::Placed;
 use f90_blocks::statement_trees::{StatementTree, statement_tree};
-use f90_kinds::declarations::Names;
-use f90_kinds::{
+use f90_names::kinds::declarations::Names;
+use f90_names::kinds::{
     all_know_names, input_knows_names, is_declared, knows_names, output_knows_names,
     reference_knows_names,
 };
-use f90_places::forms::Placed;
 use f90_trees::Functions;
-use fv_tree::{Memory, Stmt};
 use std::alloc::Global;
+use tree::{Memory, Stmt};
 
 // Whether the names in a statement without others in it are known.
-#[tactic(auto, using(fv_tree::proofs::Equations::statement_equations))]
+#[tactic(auto, using(tree::proofs::Equations::statement_equations))]
 fn knows_statement(stmt: &Stmt, names: &Names) -> bool
     ensures { (ds : List Declaration) → AreNamesOf names.now ds → IsTrue result
         ↔ KnowsStatement ds (statement_of stmt.now) }

@@ -1,31 +1,31 @@
 //! Statements whose kinds and ranks don't suit (ISO/IEC 1539:1991, sections 6.3, 7.5, 8.1 and 9.4).
 ghost use Rattle.std.specs.Prelude.{◌≡◌, ◌↔◌, None, List, IsTrue, IfOk};
-ghost use Rattle.fv_tree.specs.Plain.{Declaration};
-ghost use Rattle.fv_tree.specs.View.{statement_of};
+ghost use Rattle.tree.specs.Plain.{Declaration};
+ghost use Rattle.tree.specs.View.{statement_of};
 ghost use Rattle.f90_grammar.specs.Blocks as grammar;
 ghost use Rattle.f90_grammar.specs.Suited.{Suits};
-ghost use Rattle.f90_kinds.specs.declarations.Names.{AreNamesOf};
-ghost use Rattle.f90_places.specs.forms.Places.{IsPlacedOf};
-ghost use Rattle.f90_places.specs.First.{FindsFirst};
-ghost use Rattle.f90_statements.specs.Views.{AreOf};
+ghost use Rattle.f90_names.specs.kinds.declarations.Names.{AreNamesOf};
+ghost use Rattle.f90_blocks.specs.places.forms.Places.{IsPlacedOf};
+ghost use Rattle.f90_blocks.specs.places.First.{FindsFirst};
+ghost use Rattle.f90_statement.specs.Views.{AreOf};
 ghost use Rattle.f90_blocks.specs.statement_trees.Results.{IsOf, AreOfSome};
 ghost use Rattle.f90_read.specs.f90_suits.Suited.{SuitsStatement, SuitsDone, SuitsTree};
 ghost use Rattle.f90_read.specs.f90_suits.Ready.{AreFunctionsOf, IsReadyAt, AreReady, HoldsOfAll};
 
 use crate::f90_suits::executable::is_executable;
+use f90_blocks::places::forms::Placed;
 use f90_blocks::statement_trees::{StatementTree, statement_tree};
-use f90_kinds::declarations::Names;
-use f90_kinds::{
+use f90_names::kinds::declarations::Names;
+use f90_names::kinds::{
     are_numbers, is_condition, suits_allocation, suits_assignment, suits_deallocation, suits_input,
     suits_masked, suits_output,
 };
-use f90_places::forms::Placed;
 use f90_trees::Functions;
-use fv_tree::{Memory, Stmt};
 use std::alloc::Global;
+use tree::{Memory, Stmt};
 
 // Whether a statement without others in it suits.
-#[tactic(auto, using(fv_tree::proofs::Equations::statement_equations))]
+#[tactic(auto, using(tree::proofs::Equations::statement_equations))]
 fn suits_statement(stmt: &Stmt, names: &Names) -> bool
     ensures { (ds : List Declaration) → AreNamesOf names.now ds → IsTrue result
         ↔ SuitsStatement ds (statement_of stmt.now) }

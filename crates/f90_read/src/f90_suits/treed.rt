@@ -1,21 +1,21 @@
 //! The trees of the statements of a text.
 ghost use Rattle.std.specs.Prelude.{List, IfOk};
-ghost use Rattle.fv_tree.specs.Plain.{Declaration};
+ghost use Rattle.tree.specs.Plain.{Declaration};
 ghost use Rattle.f90_grammar.specs.Blocks as grammar;
 ghost use Rattle.f90_grammar.specs.Reading.{function_by};
 ghost use Rattle.f90_grammar.specs.Suited.{Suits};
 ghost use Rattle.f90_blocks.specs.Treed.{IsTreedOf};
-ghost use Rattle.f90_places.specs.forms.Places.{IsPlacedOf};
-ghost use Rattle.f90_statements.specs.Views.{AreOf};
+ghost use Rattle.f90_blocks.specs.places.forms.Places.{IsPlacedOf};
+ghost use Rattle.f90_statement.specs.Views.{AreOf};
 ghost use Rattle.f90_blocks.specs.statement_trees.Results.{IsOf, AreOfSome};
 ghost use Rattle.f90_read.specs.f90_suits.Ready.{AreFunctionsOf, IsReadyAt, AreReady, HoldsOfAll};
 
 use f90_blocks::Treed;
+use f90_blocks::places::forms::Placed;
 use f90_blocks::statement_trees::statement_tree;
-use f90_places::forms::Placed;
 use f90_trees::Functions;
-use fv_tree::{Memory, Seq};
 use std::alloc::Global;
+use tree::{Memory, Seq};
 
 // The statement with its tree, if it is executable.
 fn treed(alloc: Global, placed: &Placed, functions: &Functions) -> Result<Treed, Memory>

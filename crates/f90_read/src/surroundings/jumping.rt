@@ -3,21 +3,21 @@ ghost use Rattle.std.specs.Prelude.{◌≡◌, ℕ, nat_eq, true, Some, List, []
 ghost use Rattle.std.specs.Prelude.{IfOk, OnOk, if◌then◌else◌};
 ghost use Rattle.indexmap.specs.IndexMap.{get};
 ghost use Rattle.std.specs.List.{list_any};
-ghost use Rattle.f90_block_laws.specs.Places.{labels_ahead};
+ghost use Rattle.f90_laws.specs.blocks.Places.{labels_ahead};
 ghost use Rattle.f90_grammar.specs.Blocks as grammar;
 ghost use Rattle.f90_grammar.specs.Forms.{Form};
-ghost use Rattle.f90_places.specs.forms.Places.{IsPlacedOf};
-ghost use Rattle.f90_places.specs.First.{FindsFirst};
-ghost use Rattle.f90_statements.specs.Views.{AreOf, IsActionOf, IsStatementOf};
+ghost use Rattle.f90_blocks.specs.places.forms.Places.{IsPlacedOf};
+ghost use Rattle.f90_blocks.specs.places.First.{FindsFirst};
+ghost use Rattle.f90_statement.specs.Views.{AreOf, IsActionOf, IsStatementOf};
 ghost use Rattle.f90_read.specs.surroundings.Jumps.{AreAhead, AreLevels, is_there, with_first, entered, left, front};
 ghost use Rattle.f90_read.specs.surroundings.Jumps.{others};
 ghost use Rattle.f90_read.specs.surroundings.Jumps.{target_of, leads_wrongly, jumps_wrongly_at};
 
-use f90_places::forms::Placed;
-use f90_statements::{Action, Statement};
-use fv_tree::Memory;
+use f90_blocks::places::forms::Placed;
+use f90_statement::{Action, Statement};
 use indexmap::IndexMap;
 use std::alloc::Global;
+use tree::Memory;
 
 // The label that a GO TO names.
 fn target_in(action: &Action) -> Option<u32>

@@ -1,22 +1,22 @@
 //! DO variables in the lists of READ and PRINT.
 ghost use Rattle.std.specs.Prelude.{◌≡◌, [], List, IfOk, reverse};
-ghost use Rattle.fv_meaning.specs.Names.{is_among};
+ghost use Rattle.meaning.specs.Names.{is_among};
 ghost use Rattle.f90_grammar.specs.Items.{ItemPhrases};
 ghost use Rattle.f90_grammar.specs.Phrases.{Phrase};
-ghost use Rattle.f90_expr.specs.Reading.{IsMadeOf};
-ghost use Rattle.f90_expr.specs.Views.{node_seen};
-ghost use Rattle.f90_items.specs.Flat as flats;
-ghost use Rattle.f90_items.specs.Reading.{IsListOf};
-ghost use Rattle.f90_items.specs.Views.{IsNodeOf, AreNodesOf, direction_of};
+ghost use Rattle.f90_expressions.specs.Reading.{IsMadeOf};
+ghost use Rattle.f90_expressions.specs.Views.{node_seen};
+ghost use Rattle.f90_statement.specs.items.Flat as flats;
+ghost use Rattle.f90_statement.specs.items.Reading.{IsListOf};
+ghost use Rattle.f90_statement.specs.items.Views.{IsNodeOf, AreNodesOf, direction_of};
 ghost use Rattle.f90_read.specs.surroundings.Lists.{is_scalar, scalar_in, stored_name, name_in_node, is_wrong_variable};
 ghost use Rattle.f90_read.specs.surroundings.Lists.{stores_round, is_round, items_misuse, walked, with_node};
 ghost use Rattle.f90_read.specs.surroundings.Lists.{with_nodes};
 
-use f90_expr::{Expression, Node as Part};
-use f90_items::{Direction, ItemList, Node};
-use f90_kinds::declarations::{Declared, Names};
-use fv_tree::{Kind, Memory, Name};
+use f90_expressions::{Expression, Node as Part};
+use f90_names::kinds::declarations::{Declared, Names};
+use f90_statement::items::{Direction, ItemList, Node};
 use std::alloc::Global;
+use tree::{Kind, Memory, Name};
 
 fn is_among(name: Name, names: &[Name]) -> bool
     ensures { result ≡ is_among names.now name }

@@ -1,22 +1,22 @@
 //! DO variables that are wrong, or set in the range of their loop (ISO/IEC 1539:1991, sections 8.1.4.1 and 9.4.2).
 ghost use Rattle.std.specs.Prelude.{◌≡◌, List, [], ◌∷◌, true, IfOk, OnOk, reverse};
-ghost use Rattle.fv_meaning.specs.Names.{is_among};
+ghost use Rattle.meaning.specs.Names.{is_among};
 ghost use Rattle.f90_grammar.specs.Blocks as grammar;
 ghost use Rattle.f90_grammar.specs.Forms.{Form};
 ghost use Rattle.f90_grammar.specs.Order.{Opened, InIf, InDo, opened_by};
-ghost use Rattle.f90_places.specs.forms.Places.{IsPlacedOf};
-ghost use Rattle.f90_places.specs.First.{FindsFirst};
-ghost use Rattle.f90_statements.specs.Views.{AreOf, IsActionOf, IsStatementOf};
+ghost use Rattle.f90_blocks.specs.places.forms.Places.{IsPlacedOf};
+ghost use Rattle.f90_blocks.specs.places.First.{FindsFirst};
+ghost use Rattle.f90_statement.specs.Views.{AreOf, IsActionOf, IsStatementOf};
 ghost use Rattle.f90_read.specs.surroundings.Lists.{scalar_in};
 ghost use Rattle.f90_read.specs.surroundings.Misuses.{AreOpen, outside, misuses_form, misuses_at};
 
 use crate::surroundings::listing::Surroundings;
-use f90_items::Direction;
-use f90_kinds::declarations::Names;
-use f90_places::forms::Placed;
-use f90_statements::{Action, Statement};
-use fv_tree::{Memory, Name};
+use f90_blocks::places::forms::Placed;
+use f90_names::kinds::declarations::Names;
+use f90_statement::items::Direction;
+use f90_statement::{Action, Statement};
 use std::alloc::Global;
+use tree::{Memory, Name};
 
 impl<'a> Surroundings<'a> {
     // Something is wrong in the statement.

@@ -1,22 +1,22 @@
 //! What doesn't suit the blocks round it.
 ghost use Rattle.std.specs.Prelude.{◌≡◌, ℕ, Option, List, IfOk};
 ghost use Rattle.std.specs.List.{AllByRecursion};
-ghost use Rattle.fv_tree.specs.Plain.{Declaration};
-ghost use Rattle.fv_tree.specs.declared.functions.Intrinsic.{Intrinsic};
-ghost use Rattle.f90_block_laws.specs.Places.{SuitsPlace, surroundings_of};
-ghost use Rattle.f90_kinds.specs.declarations.Names.{AreNamesOf};
+ghost use Rattle.tree.specs.Plain.{Declaration};
+ghost use Rattle.tree.specs.declared.functions.Intrinsic.{Intrinsic};
+ghost use Rattle.f90_laws.specs.blocks.Places.{SuitsPlace, surroundings_of};
+ghost use Rattle.f90_names.specs.kinds.declarations.Names.{AreNamesOf};
 ghost use Rattle.f90_grammar.specs.Blocks as grammar;
-ghost use Rattle.f90_places.specs.forms.Places.{IsPlacedOf};
-ghost use Rattle.f90_places.specs.First.{FindsFirst};
-ghost use Rattle.f90_statements.specs.Views.{AreOf};
+ghost use Rattle.f90_blocks.specs.places.forms.Places.{IsPlacedOf};
+ghost use Rattle.f90_blocks.specs.places.First.{FindsFirst};
+ghost use Rattle.f90_statement.specs.Views.{AreOf};
 ghost use Rattle.f90_read.specs.surroundings.Misplaced.{earlier, AreProper, IsWrittenOut};
 
 use crate::surroundings::jumping::first_wrong_jump;
 use crate::surroundings::looping::first_misuse;
-use f90_kinds::declarations::Names;
-use f90_places::forms::Placed;
-use fv_tree::Memory;
+use f90_blocks::places::forms::Placed;
+use f90_names::kinds::declarations::Names;
 use std::alloc::Global;
+use tree::Memory;
 
 // The earlier of two places.
 fn earlier(a: Option<usize>, b: Option<usize>) -> Option<usize>

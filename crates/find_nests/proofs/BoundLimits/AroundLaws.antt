@@ -6,7 +6,7 @@ use Rattle.std.specs.Option.{option_map}
 use Rattle.std.proofs.lemmas.Bool.{leb-true}
 use Rattle.std.proofs.lemmas.List.{get_or-take, length-map}
 use Rattle.std.proofs.lemmas.Grind.{get_or_after_one}
-use Rattle.fv_tree.specs.Plain.{Expression}
+use Rattle.tree.specs.Plain.{Expression}
 use Rattle.subscripts.specs.declared.affine.Affine.{Affine}
 use Rattle.linear_forms.specs.Linear.{Form, sum, multiple, linear, form_of}
 use Rattle.linear_forms.specs.Places.{IsAffineOf, IsFound, padded, terms_from}

@@ -4,13 +4,13 @@ use Rattle.std.proofs.lemmas.List.{map-append}
 use Rattle.std.specs.List.{list_any}
 use Rattle.std.specs.Ordering.{int_eq}
 use Rattle.std.proofs.lemmas.Bool.{leb-true}
-use Rattle.fv_tree.specs.Plain.{Expression, Statement, block}
-use Rattle.fv_tree.specs.View.{expression_of, statement_of, block_of, arms, Tested}
-use Rattle.fv_tree.specs.declared.names.Name.{Name}
-use Rattle.fv_tree.specs.declared.exprs.Expr.{Expr}
-use Rattle.fv_tree.specs.declared.stmts.Stmt.TheVariants as stmts
-use Rattle.fv_tree.specs.declared.stmts.Block.{Block as Block', out-Block}
-use Rattle.fv_tree.proofs.Equations.{statement_equations, statement_of-do, block_of-is}
+use Rattle.tree.specs.Plain.{Expression, Statement, block}
+use Rattle.tree.specs.View.{expression_of, statement_of, block_of, arms, Tested}
+use Rattle.tree.specs.declared.names.Name.{Name}
+use Rattle.tree.specs.declared.exprs.Expr.{Expr}
+use Rattle.tree.specs.declared.stmts.Stmt.TheVariants as stmts
+use Rattle.tree.specs.declared.stmts.Block.{Block as Block', out-Block}
+use Rattle.tree.proofs.Equations.{statement_equations, statement_of-do, block_of-is}
 use Rattle.linear_forms.specs.Linear.{Form, constant_of}
 use Rattle.nest_reasons.specs.Increments.{step_of, suitable_or_none}
 use Rattle.find_nests.specs.bound_limits.Composed.{Outer, bound_form}

@@ -1,21 +1,21 @@
 -- Parts of lists of statements and of arms.
 use Rattle.std.proofs.Common.{◌≡◌, ℕ, Option, None, List, [], ◌∷◌, ◌++◌, map, refl, ap, ◌∙◌, append_assoc, drop}
 use Rattle.std.proofs.lemmas.List.{append-nil, map-append}
-use Rattle.fv_tree.specs.Plain.{Statement, block}
-use Rattle.fv_tree.specs.View.{expression_of, reference_of, statement_of, tested_of, block_of, arms, Tested}
-use Rattle.fv_tree.specs.declared.names.Name.{Name}
-use Rattle.fv_tree.specs.declared.lists.Seq.{Seq}
-use Rattle.fv_tree.specs.declared.exprs.Expr.{Expr}
-use Rattle.fv_tree.specs.declared.exprs.Ref.{Ref}
-use Rattle.fv_tree.specs.declared.stmts.Mark.{Mark}
-use Rattle.fv_tree.specs.declared.stmts.Stmt.{Stmt}
-use Rattle.fv_tree.specs.declared.stmts.Stmt.TheVariants as stmts
-use Rattle.fv_tree.specs.declared.stmts.Arm.{Arm, out-Arm}
-use Rattle.fv_tree.specs.declared.stmts.Block.{Block, out-Block}
-use Rattle.fv_tree.proofs.Equations.{statement_equations, statement_of-assign, statement_of-if, statement_of-do, statement_of-label, statement_of-go, tested_of-is, block_of-is}
-use Rattle.nest_tree.specs.Plain.{Part, Run, Turns, Choice, Label, Jump, branch, parts}
-use Rattle.nest_tree.specs.View.{Branch, branches}
-use Rattle.nest_tree.proofs.Equations.{part_equations}
+use Rattle.tree.specs.Plain.{Statement, block}
+use Rattle.tree.specs.View.{expression_of, reference_of, statement_of, tested_of, block_of, arms, Tested}
+use Rattle.tree.specs.declared.names.Name.{Name}
+use Rattle.tree.specs.declared.lists.Seq.{Seq}
+use Rattle.tree.specs.declared.exprs.Expr.{Expr}
+use Rattle.tree.specs.declared.exprs.Ref.{Ref}
+use Rattle.tree.specs.declared.stmts.Mark.{Mark}
+use Rattle.tree.specs.declared.stmts.Stmt.{Stmt}
+use Rattle.tree.specs.declared.stmts.Stmt.TheVariants as stmts
+use Rattle.tree.specs.declared.stmts.Arm.{Arm, out-Arm}
+use Rattle.tree.specs.declared.stmts.Block.{Block, out-Block}
+use Rattle.tree.proofs.Equations.{statement_equations, statement_of-assign, statement_of-if, statement_of-do, statement_of-label, statement_of-go, tested_of-is, block_of-is}
+use Rattle.nest.specs.Plain.{Part, Run, Turns, Choice, Label, Jump, branch, parts}
+use Rattle.nest.specs.View.{Branch, branches}
+use Rattle.nest.proofs.Equations.{part_equations}
 use Rattle.find_nests.specs.nest_parts.Numbers.{next, after, after_arms, after_each, after_block, after_list}
 use Rattle.find_nests.specs.nest_parts.Statements.{source_loop, branches_of, branch_at, branch_list, parts_of, parts_of_block, parts_list}
 

@@ -6,8 +6,8 @@ use Rattle.std.specs.Prelude.{slice_index_or}
 use Rattle.std.specs.List.{filter, list_any}
 use Rattle.std.specs.Option.{option_map}
 use Rattle.std.specs.Str.{bytes_eq}
-use Rattle.fv_tree.specs.Plain.{Expression}
-use Rattle.fv_meaning.specs.Reads.{names_in}
+use Rattle.tree.specs.Plain.{Expression}
+use Rattle.meaning.specs.Reads.{names_in}
 use Rattle.linear_forms.specs.Linear.{Form, sum, multiple, form_of}
 
 -- a loop round others: its variable, and what stands for it

@@ -1,9 +1,9 @@
 -- Whether a loop, or one in it, leaves the limits once the variables of the loops round it are replaced.
 use Rattle.std.specs.Prelude.{ℕ, ◌+◌, ℤ, pos, Option, Some, None, Bool, true, false, not, ◌||◌, List, [], ◌∷◌, ◌++◌}
 use Rattle.std.specs.Prelude.{length}
-use Rattle.fv_tree.specs.Plain.{Expression, Statement, Assignment, Where, If, Do, Label, GoTo, Stop, Read, Print}
-use Rattle.fv_tree.specs.Plain.{Allocate, Deallocate, Arms, no_arms, arm, Block, no_statements, statement}
-use Rattle.fv_tree.specs.View.{Tested}
+use Rattle.tree.specs.Plain.{Expression, Statement, Assignment, Where, If, Do, Label, GoTo, Stop, Read, Print}
+use Rattle.tree.specs.Plain.{Allocate, Deallocate, Arms, no_arms, arm, Block, no_statements, statement}
+use Rattle.tree.specs.View.{Tested}
 use Rattle.linear_forms.specs.Linear.{Form, constant_form}
 use Rattle.nest_reasons.specs.Increments.{step_of}
 use Rattle.find_nests.specs.bound_limits.Composed.{Outer, bound_form}

@@ -1,14 +1,14 @@
 -- The parts of a nest that statements are, by the number of the last loop before them in the program. Statements that
 -- no nest has are left out.
 use Rattle.std.specs.Prelude.{ℕ, ℤ, pos, Option, Some, None, List, [], ◌∷◌, ◌++◌}
-use Rattle.fv_tree.specs.Plain.{Expression, Statement, Assignment, Where, If, Do, Label, GoTo, Stop, Read, Print}
-use Rattle.fv_tree.specs.Plain.{Allocate, Deallocate, Arms, no_arms, arm, Block, no_statements, statement}
+use Rattle.tree.specs.Plain.{Expression, Statement, Assignment, Where, If, Do, Label, GoTo, Stop, Read, Print}
+use Rattle.tree.specs.Plain.{Allocate, Deallocate, Arms, no_arms, arm, Block, no_statements, statement}
 use Rattle.nest_reasons.specs.Increments.{step_of}
-use Rattle.nest_tree.specs.Plain.{Loop, Part, Run, Turns, Choice, Label as Label', Jump, parts, Branches, no_branches}
-use Rattle.nest_tree.specs.Plain.{branch}
+use Rattle.nest.specs.Plain.{Loop, Part, Run, Turns, Choice, Label as Label', Jump, parts, Branches, no_branches}
+use Rattle.nest.specs.Plain.{branch}
 use Rattle.find_nests.specs.nest_parts.Numbers.{next, after, after_arms, after_block}
-use Rattle.nest_tree.specs.View.{Branch}
-use Rattle.fv_tree.specs.View.{Tested}
+use Rattle.nest.specs.View.{Branch}
+use Rattle.tree.specs.View.{Tested}
 
 -- a loop of a nest has a suitable increment
 abbrev pub step_or_zero : Option ℤ → ℤ

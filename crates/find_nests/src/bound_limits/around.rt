@@ -2,7 +2,7 @@
 ghost use Rattle.std.specs.Prelude.{◌≡◌, ◌≤◌, ◌-◌, ◌*◌, ◌^◌, ◌++◌, ◌∷◌, [], ℕ, length, map, if◌then◌else◌, IfOk, OnOk};
 ghost use Rattle.std.specs.List.{filter};
 ghost use Rattle.std.specs.Option.{option_map, IfSome};
-ghost use Rattle.fv_tree.specs.View.{expression_of};
+ghost use Rattle.tree.specs.View.{expression_of};
 ghost use Rattle.linear_forms.specs.Linear.{Form};
 ghost use Rattle.linear_forms.specs.Places.{IsAffineOf};
 ghost use Rattle.find_nests.specs.bound_limits.Composed.{with_multiples, without_loops, is_among, bound_form};
@@ -12,11 +12,11 @@ ghost use Rattle.find_nests.specs.bound_limits.View.{wide_form_of, outer_of, IsS
 use crate::bound_limits::forms::WideForm;
 use crate::bound_limits::numbers::widened;
 use crate::bound_limits::places::coefficients;
-use fv_rewrite::names_in_expr;
-use fv_tree::{Expr, Memory, Name, Seq};
 use linear_forms::linear;
+use rewrite::names_in_expr;
 use std::alloc::Global;
 use subscripts::Affine;
+use tree::{Expr, Memory, Name, Seq};
 
 /// A loop round others: its variable, and what stands for it in the iterations of the loops.
 #[derive(Drop)]

@@ -7,8 +7,8 @@ ghost use Rattle.find_nests.specs.bound_limits.View.{wide_form_of, CanAdd};
 
 use crate::bound_limits::numbers::{combined, plus, plus_multiple};
 use crate::bound_limits::places::unit;
-use fv_tree::Memory;
 use std::alloc::Global;
+use tree::Memory;
 
 /// A sum of symbols and loops with coefficients, and a constant. The places are those of the symbols, and behind them
 /// the loops from the outside in.

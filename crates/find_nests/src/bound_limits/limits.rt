@@ -7,8 +7,8 @@ ghost use Rattle.find_nests.specs.bound_limits.View.{wide_form_of, IsSized};
 
 use crate::bound_limits::forms::WideForm;
 use crate::bound_limits::numbers::{all_small, is_small, negated, not_zero, plus_multiple};
-use fv_tree::Memory;
 use std::alloc::Global;
+use tree::Memory;
 
 // The trip where what is divided is this constant.
 fn folded(top: i128, step: i128) -> i128

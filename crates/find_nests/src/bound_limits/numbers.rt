@@ -3,8 +3,8 @@ ghost use Rattle.std.specs.Prelude.{◌≡◌, ◌≤◌, ◌<◌, ◌+◌, ◌*
 ghost use Rattle.std.specs.Prelude.{map, length, slice_index_or, IfOk};
 ghost use Rattle.linear_forms.specs.Linear.{added, is_small, all_small, not_zero};
 
-use fv_tree::Memory;
 use std::alloc::Global;
+use tree::Memory;
 
 const LIMIT: u128 = 1 << 40;
 

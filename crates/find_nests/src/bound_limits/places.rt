@@ -6,8 +6,8 @@ ghost use Rattle.find_nests.specs.bound_limits.Composed.{filled};
 ghost use Rattle.find_nests.specs.bound_limits.Terms.{coefficient_at};
 
 use crate::bound_limits::numbers::widened;
-use fv_tree::Memory;
 use std::alloc::Global;
+use tree::Memory;
 
 // The coefficient of the first term with this place; 0 where there is none.
 fn coefficient_at(terms: &[(u16, i64)], place: usize) -> i128

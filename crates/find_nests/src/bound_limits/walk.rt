@@ -1,16 +1,16 @@
 //! Whether a loop, or one in it, leaves the limits.
 ghost use Rattle.std.specs.Prelude.{◌≡◌, ◌≤◌, ◌^◌, ◌++◌, ◌∷◌, [], length, map, OnOk, IfOk};
 ghost use Rattle.std.specs.List.{list_any};
-ghost use Rattle.fv_tree.specs.View.{expression_of, statement_of, tested_of, block_of};
+ghost use Rattle.tree.specs.View.{expression_of, statement_of, tested_of, block_of};
 ghost use Rattle.find_nests.specs.bound_limits.Loops.{leaves_limits, as_outer, any_leaves, any_leaves_arm};
 ghost use Rattle.find_nests.specs.bound_limits.Loops.{any_leaves_block};
 ghost use Rattle.find_nests.specs.bound_limits.View.{wide_form_of, outer_of, AreSmall, IsSized, IsInner};
 
 use crate::bound_limits::around::{Outer, bound_form};
 use crate::bound_limits::numbers::widened;
-use fv_tree::{Arm, Block, Expr, Memory, Name, Seq, Stmt};
 use nest_reasons::step_of;
 use std::alloc::Global;
+use tree::{Arm, Block, Expr, Memory, Name, Seq, Stmt};
 
 /// The symbols over which the forms are.
 #[derive(Drop)]

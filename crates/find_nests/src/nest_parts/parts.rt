@@ -1,16 +1,16 @@
 //! Statements of a program as parts of a nest.
 ghost use Rattle.std.specs.Prelude.{◌≡◌, ◌++◌, map, OnErr, OnOk, IfOk};
-ghost use Rattle.fv_tree.specs.View.{expression_of, statement_of, tested_of, block_of};
-ghost use Rattle.nest_tree.specs.Plain.{Turns, parts};
-ghost use Rattle.nest_tree.specs.View.{part_of, branch_of, loop_of};
+ghost use Rattle.tree.specs.View.{expression_of, statement_of, tested_of, block_of};
+ghost use Rattle.nest.specs.Plain.{Turns, parts};
+ghost use Rattle.nest.specs.View.{part_of, branch_of, loop_of};
 ghost use Rattle.find_nests.specs.nest_parts.Numbers.{next, after, after_block, after_each, after_list};
 ghost use Rattle.find_nests.specs.nest_parts.Statements.{parts_of, parts_of_block, branch_at, branch_list};
 ghost use Rattle.find_nests.specs.nest_parts.Statements.{parts_list, source_loop, step_or_zero};
 
-use fv_tree::{Arm, Block, Expr, Memory, Name, Seq, Stmt};
+use nest::{GuardedStmt, Loop, NestArm, Part, copy_ref};
 use nest_reasons::step_of;
-use nest_tree::{GuardedStmt, Loop, NestArm, Part, copy_ref};
 use std::alloc::Global;
+use tree::{Arm, Block, Expr, Memory, Name, Seq, Stmt, both};
 
 fn step_or_zero(step: Option<i64>) -> i64
     ensures { result ≡ step_or_zero step }
@@ -33,11 +33,12 @@ fn source_loop(
     ensures { IfOk result (λ turns. loop_of turns
         ≡ source_loop number var (expression_of first.now) (expression_of last.now) (expression_of step.now)) }
 {
+    let (first, last) = both(first.copy(alloc), last.copy(alloc))?;
     Ok(Loop {
         number,
         var,
-        first: first.copy(alloc)?,
-        last: last.copy(alloc)?,
+        first,
+        last,
         step: step_or_zero(step_of(step)),
         trip: None,
     })
@@ -99,12 +100,15 @@ impl Numbering {
                 left,
                 right,
                 ..
-            } => parts.push(Part::Run(GuardedStmt {
-                line: *line,
-                guard: None,
-                left: copy_ref(left, alloc)?,
-                right: right.copy(alloc)?,
-            })),
+            } => {
+                let (left, right) = both(copy_ref(left, alloc), right.copy(alloc))?;
+                parts.push(Part::Run(GuardedStmt {
+                    line: *line,
+                    guard: None,
+                    left,
+                    right,
+                }))
+            }
             Stmt::Masked { .. } => Ok(()),
             Stmt::If { arms, other, .. } => {
                 let branches = self.arms(alloc, arms)?;
@@ -120,8 +124,8 @@ impl Numbering {
                 ..
             } => {
                 self.loops = next(self.loops);
-                let turns = source_loop(alloc, self.loops, *var, first, last, step)?;
-                let inside = self.block(alloc, body)?;
+                let turns = source_loop(alloc, self.loops, *var, first, last, step);
+                let (turns, inside) = both(turns, self.block(alloc, body))?;
                 parts.push(Part::Turns(turns, inside))
             }
             Stmt::Label { number } => parts.push(Part::Label(*number)),
@@ -153,8 +157,8 @@ impl Numbering {
     {
         let mut numbering = *self;
         numbering.pass_over();
-        let turns = source_loop(alloc, numbering.loops, var, first, last, step)?;
-        let inside = numbering.block(alloc, body)?;
+        let turns = source_loop(alloc, numbering.loops, var, first, last, step);
+        let (turns, inside) = both(turns, numbering.block(alloc, body))?;
         *self = numbering;
         Ok(Part::Turns(turns, inside))
     }
@@ -186,9 +190,10 @@ impl Numbering {
         ensures branch { IfOk result (λ branch. branch_of branch ≡ branch_at self.old.loops (tested_of arm.now)) }
         ensures loops { OnOk result (self.new.loops ≡ after_block self.old.loops (tested_of arm.now).body) }
     {
+        let body = self.block(alloc, &arm.body)?;
         Ok(NestArm {
             test: arm.test.copy(alloc)?,
-            body: self.block(alloc, &arm.body)?,
+            body,
         })
     }
 }

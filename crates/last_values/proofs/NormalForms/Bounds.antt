@@ -1,7 +1,7 @@
 -- Bounds over the counters of the loops round them.
 use mathlib.Core.Path.{ap₂}
 use Rattle.std.proofs.Common.{◌≡◌, refl, sym, ap, ◌∙◌, ℕ, suc, ◌+◌, ◌<◌, ℤ, pos, List, [], ◌∷◌, ◌++◌, length, Option, Some, None}
-use Rattle.fv_tree.specs.Plain.{Expression}
+use Rattle.tree.specs.Plain.{Expression}
 use Rattle.linear_forms.specs.Linear.{Form, form_of}
 use Rattle.linear_forms.specs.Places.{IsAffineOf, IsFound}
 use Rattle.subscripts.specs.declared.affine.Affine.{Affine}

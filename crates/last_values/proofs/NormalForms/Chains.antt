@@ -1,7 +1,7 @@
 -- The forms of a loop, step by step.
 use Rattle.std.proofs.Common.{◌≡◌, sym, ap, ◌∙◌, subst, ℕ, pos, negsuc, List, [], ◌∷◌, length, Option, Some, None, Result, IfOk}
-use Rattle.fv_tree.specs.declared.lists.Memory.{Memory}
-use Rattle.nest_tree.specs.Plain.{Loop}
+use Rattle.tree.specs.declared.lists.Memory.{Memory}
+use Rattle.nest.specs.Plain.{Loop}
 use Rattle.subscripts.specs.declared.affine.Affine.{Affine}
 use Rattle.last_values.specs.declared.normal_forms.loops.NormalLoop.{NormalLoop}
 use Rattle.last_values.specs.normal_forms.Steps.{◌>>=◌}

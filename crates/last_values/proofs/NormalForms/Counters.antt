@@ -5,7 +5,7 @@ use Rattle.std.specs.Prelude.{IsTrue, codes, decimal, ◌%◌}
 use Rattle.std.specs.List.{list_all}
 use Rattle.std.proofs.lemmas.Fmt.{length-decimal-le, decimal_by_steps_wide}
 use Rattle.std.proofs.lemmas.List.Folds.{list_all-append}
-use Rattle.fv_tree.specs.Names.{IsName, is_name_byte}
+use Rattle.tree.specs.Names.{IsName, is_name_byte}
 use Rattle.last_values.specs.normal_forms.NormalLoops.{counter_name}
 
 digit : (n : ℕ) → n < 10 → is_name_byte (48 + n) ≡ true

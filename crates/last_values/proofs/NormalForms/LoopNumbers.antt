@@ -9,8 +9,8 @@ use Rattle.std.proofs.Math.IntN.{zero-*ℤ, *ℤ_comm}
 use Rattle.linear_forms.specs.Linear.{Form, is_small, form_of, number_at}
 use Rattle.linear_forms.proofs.Ring.{spread_left}
 use Rattle.linear_forms.proofs.Sizes.{both}
-use Rattle.nest_tree.specs.Plain.{Loop}
-use Rattle.nest_tree.specs.declared.parts.Trip.{Trip}
+use Rattle.nest.specs.Plain.{Loop}
+use Rattle.nest.specs.declared.parts.Trip.{Trip}
 use Rattle.subscripts.specs.declared.affine.Affine.{Affine}
 use Rattle.last_values.specs.declared.normal_forms.combinations.Multiple.{Multiple}
 use Rattle.last_values.specs.declared.normal_forms.loops.NormalLoop.{NormalLoop}

@@ -2,7 +2,7 @@
 use Rattle.std.specs.Prelude.{Option, Some, None, ℕ, ◌+◌, ℤ, pos, Bool, not, if◌then◌else◌, List, [], ◌∷◌, ◌++◌}
 use Rattle.std.specs.Prelude.{map, length, drop}
 use Rattle.std.specs.List.{list_all}
-use Rattle.fv_tree.specs.Plain.{Expression}
+use Rattle.tree.specs.Plain.{Expression}
 use Rattle.linear_forms.specs.Texts.{text_of}
 use Rattle.subscripts.specs.declared.affine.Affine.{Affine}
 use Rattle.last_values.specs.declared.normal_forms.combinations.Multiple.{Multiple}

@@ -5,10 +5,10 @@ use Rattle.std.specs.Prelude.{int_lt, nat_abs, int_div, Bool, not, ◌&&◌, if�
 use Rattle.std.specs.Prelude.{List, [], ◌∷◌, ◌++◌, map, length, codes, decimal}
 use Rattle.std.specs.List.{list_all}
 use Rattle.std.specs.Ordering.{int_eq}
-use Rattle.fv_tree.specs.Plain.{Expression}
+use Rattle.tree.specs.Plain.{Expression}
 use Rattle.linear_forms.specs.Linear.{Form, is_small, form_of}
-use Rattle.nest_tree.specs.Plain.{Loop}
-use Rattle.nest_tree.specs.declared.parts.Trip.{Trip}
+use Rattle.nest.specs.Plain.{Loop}
+use Rattle.nest.specs.declared.parts.Trip.{Trip}
 use Rattle.subscripts.specs.declared.affine.Affine.{Affine}
 use Rattle.last_values.specs.declared.normal_forms.combinations.Multiple.{Multiple}
 use Rattle.last_values.specs.declared.normal_forms.loops.NormalLoop.{NormalLoop}

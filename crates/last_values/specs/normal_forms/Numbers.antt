@@ -3,10 +3,10 @@
 use Rattle.std.specs.Prelude.{◌≡◌, Some, ℕ, zero, suc, ◌+◌, ℤ, pos, ◌+ℤ◌, ◌-ℤ◌, ◌*ℤ◌}
 use Rattle.std.specs.Prelude.{nat_abs, int_div, List, [], ◌∷◌}
 use Rattle.std.specs.Prelude.{◌++◌, map, length}
-use Rattle.fv_tree.specs.Plain.{Expression}
+use Rattle.tree.specs.Plain.{Expression}
 use Rattle.linear_forms.specs.Linear.{Form, form_of, number_at}
-use Rattle.nest_tree.specs.Plain.{Loop}
-use Rattle.nest_tree.specs.declared.parts.Trip.{Trip}
+use Rattle.nest.specs.Plain.{Loop}
+use Rattle.nest.specs.declared.parts.Trip.{Trip}
 use Rattle.subscripts.specs.declared.affine.Affine.{Affine}
 use Rattle.last_values.specs.declared.normal_forms.combinations.Multiple.{Multiple}
 use Rattle.last_values.specs.declared.normal_forms.loops.NormalLoop.{NormalLoop}

@@ -1,10 +1,10 @@
 -- The texts of normal loops.
 use Rattle.std.specs.Prelude.{ℕ, ℤ, pos, if◌then◌else◌, List, [], ◌∷◌, slice_index_or}
 use Rattle.std.specs.Ordering.{int_eq}
-use Rattle.fv_tree.specs.Plain.{Expression, Number, Binary}
-use Rattle.fv_tree.specs.declared.ops.Op.TheVariants.{Div, Ge}
+use Rattle.tree.specs.Plain.{Expression, Number, Binary}
+use Rattle.tree.specs.declared.ops.Op.TheVariants.{Div, Ge}
 use Rattle.linear_forms.specs.Texts.{text_of}
-use Rattle.nest_tree.specs.declared.parts.Trip.{Trip}
+use Rattle.nest.specs.declared.parts.Trip.{Trip}
 use Rattle.subscripts.specs.declared.affine.Affine.{Affine}
 use Rattle.last_values.specs.declared.normal_forms.loops.NormalLoop.{NormalLoop}
 use Rattle.last_values.specs.normal_forms.NormalLoops.{counters_of}

@@ -1,7 +1,7 @@
 //! Last values after all loops.
 ghost use Rattle.std.specs.Prelude.{◌≡◌, ◌≤◌, ◌<◌, ◌+◌, ◌++◌, ◌^◌, length, map, pos, IfOk, OnOk, ◌<ℤ◌};
 ghost use Rattle.std.specs.List.{list_all};
-ghost use Rattle.fv_tree.specs.View.{expression_of};
+ghost use Rattle.tree.specs.View.{expression_of};
 ghost use Rattle.last_values.specs.normal_forms.Combinations.{combination};
 ghost use Rattle.last_values.specs.normal_forms.LastValues.{trips_from, with_trips, last_forms, has_plain_trip};
 ghost use Rattle.last_values.specs.normal_forms.LastValues.{have_plain_trips};
@@ -15,11 +15,11 @@ use crate::normal_forms::loops::{
 };
 use crate::normal_forms::places::Place;
 use crate::normal_forms::texts::{at_least_one, trip_text};
-use fv_tree::{Expr, Memory, Name, Seq};
 use linear_forms::express;
-use nest_tree::Trip;
+use nest::Trip;
 use std::alloc::Global;
 use subscripts::Affine;
+use tree::{Expr, Memory, Name, Seq};
 
 /// The forms of a loop in the last turn of each loop round it: of its lower bound, its trip, and its variable's last
 /// value. The divided trips of these loops and of the loop itself have the places behind the symbols.

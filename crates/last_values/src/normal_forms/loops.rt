@@ -1,9 +1,9 @@
 //! Loops from 1 by 1.
 ghost use Rattle.std.specs.Prelude.{◌≡◌, ◌≤◌, ◌<◌, ◌+◌, ◌++◌, ◌∷◌, ℕ, pos, nat_abs, length, map, IfOk, OnOk, neg_ℤ};
 ghost use Rattle.std.specs.Prelude.{negsuc, IsTrue, ◌^◌, ◌<ℤ◌, IfSome, OnSome};
-ghost use Rattle.fv_tree.specs.View.{expression_of};
+ghost use Rattle.tree.specs.View.{expression_of};
 ghost use Rattle.linear_forms.specs.Linear.{is_small};
-ghost use Rattle.nest_tree.specs.View.{loop_of};
+ghost use Rattle.nest.specs.View.{loop_of};
 ghost use Rattle.last_values.specs.normal_forms.Combinations.{without_loops, times, number_form};
 ghost use Rattle.last_values.specs.normal_forms.NormalLoops.{counter_name, variables_of, values_from, with_counters};
 ghost use Rattle.last_values.specs.normal_forms.NormalLoops.{bound_form};
@@ -16,12 +16,12 @@ ghost use Rattle.last_values.specs.normal_forms.NormalLoops.{forms_by_trip, form
 
 use crate::normal_forms::combinations::{Multiple, combination, is_small};
 use crate::normal_forms::places::Place;
-use fv_tree::{Expr, Memory, Name, Seq};
 use itoa::Buffer;
 use linear_forms::linear;
-use nest_tree::{Loop, Trip};
+use nest::{Loop, Trip};
 use std::alloc::Global;
 use subscripts::Affine;
+use tree::{Expr, Memory, Name, Seq};
 
 /// A loop of a nest as a loop from 1 by 1: its variable in the source, its counter, its increment in the source, and
 /// linear forms over the counters of the loops round it: of its lower bound, of that less the increment, of its

@@ -1,16 +1,16 @@
 //! Texts of normal loops.
 ghost use Rattle.std.specs.Prelude.{◌≡◌, ◌≤◌, ◌<◌, length, map, IfOk, pos};
-ghost use Rattle.fv_tree.specs.Plain.{Binary, Number};
-ghost use Rattle.fv_tree.specs.View.{expression_of};
+ghost use Rattle.tree.specs.Plain.{Binary, Number};
+ghost use Rattle.tree.specs.View.{expression_of};
 ghost use Rattle.last_values.specs.normal_forms.NormalLoops.{counters_of};
 ghost use Rattle.last_values.specs.normal_forms.Texts.{quotient, trip_text, counter_first, value_text, at_least_one};
 
 use crate::normal_forms::loops::NormalLoop;
-use fv_tree::{Expr, Memory, Name, Op, Seq};
 use linear_forms::express;
-use nest_tree::Trip;
+use nest::Trip;
 use std::alloc::Global;
 use subscripts::Affine;
+use tree::{Expr, Memory, Name, Op, Seq, both};
 
 /// The counters of loops.
 pub fn counters_of(alloc: Global, round: &[NormalLoop]) -> Result<Vec<Name>, Memory>
@@ -23,12 +23,13 @@ pub fn counters_of(alloc: Global, round: &[NormalLoop]) -> Result<Vec<Name>, Mem
     Ok(names)
 }
 
-#[tactic(auto, using(fv_tree::proofs::Equations::expression_equations))]
+#[tactic(auto, using(tree::proofs::Equations::expression_equations))]
 fn with_number(alloc: Global, op: Op, expr: Expr, number: i64) -> Result<Expr, Memory>
     ensures { IfOk result (λ e. expression_of e ≡ Binary op (expression_of expr) (Number number)) }
 {
     let number = Expr::Int(i128::from(number));
-    Ok(Expr::Bin(op, Box::new(alloc, expr)?, Box::new(alloc, number)?))
+    let (expr, number) = both(Box::new(alloc, expr), Box::new(alloc, number))?;
+    Ok(Expr::Bin(op, expr, number))
 }
 
 fn quotient(alloc: Global, expr: Expr, by: i64) -> Result<Expr, Memory>

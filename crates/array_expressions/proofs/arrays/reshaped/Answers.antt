@@ -1,9 +1,9 @@
 use Rattle.std.proofs.Common.{ap, sym, ◌∙◌, ℤ, map, List, Result, Ok}
-use Rattle.fv_tree.specs.Steps.{◌>>=◌}
-use Rattle.fv_tree.specs.declared.ops.Value.{Value}
-use Rattle.fv_tree.specs.declared.ops.Fault.{Fault}
-use Rattle.fv_meaning.specs.ArrayValues.{Elements, reshaped}
-use Rattle.fv_meaning.specs.Sections.{not_negative}
+use Rattle.tree.specs.Steps.{◌>>=◌}
+use Rattle.tree.specs.declared.ops.Value.{Value}
+use Rattle.tree.specs.declared.ops.Fault.{Fault}
+use Rattle.meaning.specs.ArrayValues.{Elements, reshaped}
+use Rattle.meaning.specs.Sections.{not_negative}
 use Rattle.array_values.specs.Arrays.{array_in}
 use Rattle.array_values.proofs.Equations.{known_is}
 use Rattle.array_expressions.proofs.arrays.reshaped.Goals as goal

@@ -1,5 +1,5 @@
 use Rattle.std.proofs.Common.{ap, ◌∙◌}
-use Rattle.fv_meaning.specs.ArrayValues.{Array, settled}
+use Rattle.meaning.specs.ArrayValues.{Array, settled}
 use Rattle.array_values.proofs.Equations.{known_is}
 use Rattle.array_expressions.proofs.arrays.settled.Goals as goal
 

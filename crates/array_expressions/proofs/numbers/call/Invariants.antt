@@ -1,6 +1,6 @@
 use Rattle.std.proofs.Common.{◌≡◌, take}
 use Rattle.std.specs.List.{fold}
-use Rattle.fv_tree.specs.Arguments.{taken}
+use Rattle.tree.specs.Arguments.{taken}
 use Rattle.array_expressions.proofs.numbers.call.Given as goal
 
 abbrev pub invariant-loop-value : goal.invariant-loop-value

@@ -1,5 +1,5 @@
 use Rattle.std.proofs.Common.{◌≡◌, take, map}
-use Rattle.fv_meaning.specs.Sections.{not_negative}
+use Rattle.meaning.specs.Sections.{not_negative}
 use Rattle.array_expressions.proofs.numbers.counts.Given as goal
 
 abbrev pub invariant-loop-number : goal.invariant-loop-number

@@ -1,6 +1,6 @@
 use Rattle.std.proofs.Common.{◌≡◌, ◌∷◌, length, ap, arith, rules}
 use Rattle.std.specs.Option.{option_map}
-use Rattle.fv_tree.specs.View.{expression_of}
+use Rattle.tree.specs.View.{expression_of}
 use Rattle.array_form.proofs.LoopLaws.{head_loop, tail_loops}
 use Rattle.array_form.proofs.ConditionLaws.{passed_ok}
 use Rattle.array_form.proofs.conditions.+with_tests.Goals as goal

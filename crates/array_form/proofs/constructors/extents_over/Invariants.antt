@@ -1,6 +1,6 @@
 -- The trips so far.
 use Rattle.std.proofs.Common.{◌≡◌, map, take}
-use Rattle.fv_tree.specs.View.{expression_of}
+use Rattle.tree.specs.View.{expression_of}
 use Rattle.array_form.specs.Texts.{extent_over}
 use Rattle.array_form.proofs.constructors.extents_over.Given as goal
 

@@ -1,6 +1,6 @@
 -- The loops so far.
 use Rattle.std.proofs.Common.{◌≡◌, map, take}
-use Rattle.fv_tree.specs.View.{loop_of}
+use Rattle.tree.specs.View.{loop_of}
 use Rattle.array_form.specs.Texts.{turn_over}
 use Rattle.array_form.proofs.constructors.turns_over.Given as goal
 

@@ -1,8 +1,8 @@
 -- What was formed so far.
 use Rattle.std.proofs.Common.{◌≡◌, map, take}
-use Rattle.fv_tree.specs.View.{expression_of, subscript_of}
-use Rattle.array_forms.specs.Forms.{form}
-use Rattle.sections.specs.Surroundings.{surroundings_view}
+use Rattle.tree.specs.View.{expression_of, subscript_of}
+use Rattle.array_form.specs.forms.Forms.{form}
+use Rattle.array_form.specs.holds.Surroundings.{surroundings_view}
 use Rattle.array_form.specs.Loops.{viewed}
 use Rattle.array_form.specs.Subscripts.{form_of_subscript}
 use Rattle.array_form.proofs.expressions.+form.Given as goal

@@ -1,6 +1,6 @@
 -- Those that stand in the subscripts so far.
 use Rattle.std.proofs.Common.{◌≡◌, map, take}
-use Rattle.fv_tree.specs.View.{subscript_of}
+use Rattle.tree.specs.View.{subscript_of}
 use Rattle.array_form.specs.Loops.{in_order}
 use Rattle.array_form.proofs.loops_in_text.loops_in_order.Given as goal
 

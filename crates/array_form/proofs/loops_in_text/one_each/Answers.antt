@@ -1,6 +1,6 @@
 use Rattle.std.proofs.Common.{◌<◌, length, refl, arith, rules}
-use Rattle.fv_tree.specs.View.{subscript_of}
-use Rattle.sections.proofs.FormLaws.{fails}
+use Rattle.tree.specs.View.{subscript_of}
+use Rattle.array_form.proofs.holds.FormLaws.{fails}
 use Rattle.array_form.specs.Loops.{has_one}
 use Rattle.array_form.proofs.LoopLaws.{too_many}
 use Rattle.array_form.proofs.loops_in_text.one_each.Goals as goal

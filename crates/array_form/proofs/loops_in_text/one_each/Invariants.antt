@@ -1,7 +1,7 @@
 -- Each so far has one at most.
 use Rattle.std.proofs.Common.{◌≡◌, map, take, true}
 use Rattle.std.specs.List.{list_all}
-use Rattle.fv_tree.specs.View.{subscript_of}
+use Rattle.tree.specs.View.{subscript_of}
 use Rattle.array_form.specs.Loops.{has_one}
 use Rattle.array_form.proofs.loops_in_text.one_each.Given as goal
 

@@ -1,7 +1,7 @@
 use Rattle.std.proofs.Common.{◌∙◌, arith}
-use Rattle.fv_meaning.specs.Reads.{names_in_subscript}
-use Rattle.fv_tree.specs.View.{subscript_of}
-use Rattle.sections.proofs.AmongLaws.{among-is}
+use Rattle.meaning.specs.Reads.{names_in_subscript}
+use Rattle.tree.specs.View.{subscript_of}
+use Rattle.array_form.proofs.holds.AmongLaws.{among-is}
 use Rattle.array_form.proofs.LoopLaws.{standing_more}
 use Rattle.array_form.proofs.loops_in_text.standing_in_sub.Goals as goal
 

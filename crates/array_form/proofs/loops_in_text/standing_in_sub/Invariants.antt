@@ -1,7 +1,7 @@
 -- The loops so far.
 use Rattle.std.proofs.Common.{◌≡◌, take}
-use Rattle.fv_meaning.specs.Reads.{names_in_subscript}
-use Rattle.fv_tree.specs.View.{subscript_of}
+use Rattle.meaning.specs.Reads.{names_in_subscript}
+use Rattle.tree.specs.View.{subscript_of}
 use Rattle.array_form.specs.Loops.{standing_in}
 use Rattle.array_form.proofs.loops_in_text.standing_in_sub.Given as goal
 

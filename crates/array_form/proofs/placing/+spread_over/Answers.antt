@@ -1,5 +1,5 @@
 use Rattle.std.proofs.Common.{◌≡◌, ◌∷◌, ap, length, arith, rules}
-use Rattle.fv_tree.specs.View.{expression_of}
+use Rattle.tree.specs.View.{expression_of}
 use Rattle.array_form.proofs.LoopLaws.{head_loop, tail_loops}
 use Rattle.array_form.proofs.PlacingLaws.{spread_ok}
 use Rattle.array_form.proofs.placing.+spread_over.Goals as goal

@@ -1,8 +1,8 @@
 use Rattle.std.proofs.Common.{◌≡◌, ◌∙◌, ap, arith, rules}
 use Rattle.std.proofs.lemmas.Grind.{common_steps}
-use Rattle.fv_tree.specs.Plain.{Named, Transpose}
-use Rattle.fv_tree.specs.View.{expression_of, reference_of}
-use Rattle.fv_tree.proofs.Equations.{expression_of-transpose}
+use Rattle.tree.specs.Plain.{Named, Transpose}
+use Rattle.tree.specs.View.{expression_of, reference_of}
+use Rattle.tree.proofs.Equations.{expression_of-transpose}
 use Rattle.array_form.proofs.PlacingLaws.{last_ok, turned_is}
 use Rattle.array_form.proofs.placing.placed.Goals as goal
 

@@ -1,7 +1,7 @@
 use Rattle.std.proofs.Common.{◌≡◌, [], ◌∷◌, length, pos, arith, rules}
 use Rattle.std.proofs.lemmas.Grind.{common_steps}
 use Rattle.std.proofs.Common.{ℤ, Some, SFits, subst, ap, ◌∙◌}
-use Rattle.array_forms.specs.Forms.{number_text}
+use Rattle.array_form.specs.forms.Forms.{number_text}
 use Rattle.std.specs.Int.{w64}
 use Rattle.std.proofs.lemmas.Int.{to_z-of_z}
 use Rattle.linear_forms.specs.Linear.{constant_form, limited, multiple, sum}

@@ -1,8 +1,8 @@
 use Rattle.std.proofs.Common.{◌≡◌, ◌∙◌, ap, map, refl}
-use Rattle.fv_tree.specs.declared.stmts.Mark.{Mark}
-use Rattle.nest_tree.specs.Bodies.{nest_statements}
-use Rattle.nest_tree.specs.View.{nest_of}
-use Rattle.statement_loops.specs.Standings.{standing_of}
+use Rattle.tree.specs.declared.stmts.Mark.{Mark}
+use Rattle.nest.specs.Bodies.{nest_statements}
+use Rattle.nest.specs.View.{nest_of}
+use Rattle.nest.specs.statement_loops.Standings.{standing_of}
 use Rattle.array_form.proofs.AskedLaws.{form_ok, loops_of}
 use Rattle.array_form.proofs.statements.array_form.Goals as goal
 

@@ -1,8 +1,8 @@
 use Rattle.std.proofs.Common.{◌-◌, List, length, map, take, drop, Some}
-use Rattle.fv_tree.specs.View.{subscript_of}
-use Rattle.fv_tree.specs.declared.exprs.Ref.{out-Ref}
-use Rattle.sections.specs.declared.loops.Counted.{Counted}
-use Rattle.sections.proofs.TripLaws.{rest_is}
+use Rattle.tree.specs.View.{subscript_of}
+use Rattle.tree.specs.declared.exprs.Ref.{out-Ref}
+use Rattle.array_form.specs.declared.holds.loops.Counted.{Counted}
+use Rattle.array_form.proofs.holds.TripLaws.{rest_is}
 use Rattle.array_form.proofs.AnswerLaws.{assignment_is, over_loops}
 use Rattle.array_form.proofs.statements.formed_assignment.Goals as goal
 

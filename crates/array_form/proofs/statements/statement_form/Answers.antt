@@ -1,7 +1,7 @@
 use Rattle.std.proofs.Common.{◌-◌, ◌∙◌, List, ap, length, take, drop, Some}
-use Rattle.fv_tree.specs.View.{block_of, expression_of, reference_of}
-use Rattle.sections.specs.declared.loops.Counted.{Counted}
-use Rattle.sections.proofs.TripLaws.{rest_is}
+use Rattle.tree.specs.View.{block_of, expression_of, reference_of}
+use Rattle.array_form.specs.declared.holds.loops.Counted.{Counted}
+use Rattle.array_form.proofs.holds.TripLaws.{rest_is}
 use Rattle.array_form.specs.Statement.{block_of_one}
 use Rattle.array_form.proofs.StatementLaws.{statement_ok}
 use Rattle.array_form.proofs.statements.statement_form.Goals as goal

@@ -1,6 +1,6 @@
 use Rattle.std.proofs.Common.{◌≡◌, [], ◌∷◌, arith, rules}
 use Rattle.std.proofs.lemmas.Grind.{common_steps}
-use Rattle.fv_tree.specs.declared.stmts.Arm.{roll-Arm}
+use Rattle.tree.specs.declared.stmts.Arm.{roll-Arm}
 use Rattle.array_form.proofs.StatementLaws.{if_ok}
 use Rattle.array_form.proofs.statements.under_condition.Goals as goal
 

@@ -1,5 +1,5 @@
 use Rattle.std.proofs.Common.{◌≡◌, ◌<◌, ◌++◌, drop}
-use Rattle.fv_meaning.specs.ArrayValues.{size}
+use Rattle.meaning.specs.ArrayValues.{size}
 use Rattle.array_values.specs.Positions.{position_at}
 use Rattle.array_values.proofs.extents.set_position.Given as goal
 

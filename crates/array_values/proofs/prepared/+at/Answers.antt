@@ -1,10 +1,10 @@
 use Rattle.std.proofs.Common.{◌≡◌, ap, sym, subst, ◌∙◌, map, arith}
 use Rattle.std.proofs.lemmas.List.{append-nil}
-use Rattle.fv_meaning.specs.ArrayValues.{Elements, settled}
-use Rattle.fv_tree.specs.declared.ops.Value.{Value}
+use Rattle.meaning.specs.ArrayValues.{Elements, settled}
+use Rattle.tree.specs.declared.ops.Value.{Value}
 use Rattle.array_values.specs.declared.prepared.Prepared.{Prepared}
 use Rattle.array_values.specs.Arrays.{array_in, elements_in, called_at}
-use Rattle.fv_tree.specs.declared.arguments.Arguments.TheVariants.{Empty}
+use Rattle.tree.specs.declared.arguments.Arguments.TheVariants.{Empty}
 use Rattle.array_values.proofs.Steps.{residual}
 use Rattle.array_values.proofs.Equations.{known_is, call_is}
 use Rattle.array_values.proofs.Calls.{left_to_call, call_begun, call_step_fault, call_step, call_end}

@@ -1,8 +1,8 @@
 use Rattle.std.proofs.Common.{◌≡◌, sym, ap, subst, ◌∙◌, arith, rules, pos, get_or, SFits}
 use Rattle.std.specs.Int.{w64, w128}
 use Rattle.std.proofs.lemmas.Int.{to_z-of_z}
-use Rattle.fv_tree.specs.View.{bounds_of}
-use Rattle.fv_meaning.specs.ArrayValues.{each}
+use Rattle.tree.specs.View.{bounds_of}
+use Rattle.meaning.specs.ArrayValues.{each}
 use Rattle.array_values.specs.Selections.{bounded}
 use Rattle.array_values.proofs.Steps.{residual, settled, left_of, left_begun, list_fault, list_more, list_done}
 use Rattle.array_values.proofs.Triplets.{along_is, along_fault}

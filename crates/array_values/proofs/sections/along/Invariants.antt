@@ -1,6 +1,6 @@
 use Rattle.std.proofs.Common.{◌≡◌, drop}
-use Rattle.fv_tree.specs.View.{bounds_of}
-use Rattle.fv_meaning.specs.ArrayValues.{each}
+use Rattle.tree.specs.View.{bounds_of}
+use Rattle.meaning.specs.ArrayValues.{each}
 use Rattle.array_values.specs.Selections.{bounded}
 use Rattle.array_values.proofs.Steps.{left_of}
 use Rattle.array_values.proofs.sections.along.Given as goal

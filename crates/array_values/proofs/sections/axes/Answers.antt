@@ -2,8 +2,8 @@ use Rattle.std.proofs.Common.{◌≡◌, sym, ap, subst, ◌∙◌, arith, [], �
 use Rattle.array_values.specs.Answers.{Answers}
 use Rattle.array_values.specs.declared.sections.Selector.TheVariants.{Index}
 use Rattle.std.proofs.lemmas.List.{map-append}
-use Rattle.fv_tree.specs.View.{bounds_of}
-use Rattle.fv_meaning.specs.Sections.{axes_on, axis_on}
+use Rattle.tree.specs.View.{bounds_of}
+use Rattle.meaning.specs.Sections.{axes_on, axis_on}
 use Rattle.array_values.specs.Selections.{selector_in, axis_in}
 use Rattle.array_values.proofs.Steps.{residual}
 use Rattle.array_values.proofs.AxisLaws.{left_axes, axes_begun, axes_more, axes_few, axes_many, axes_end, axes_failed}

@@ -1,6 +1,6 @@
 use Rattle.std.proofs.Common.{◌≡◌, drop, map}
-use Rattle.fv_tree.specs.View.{bounds_of}
-use Rattle.fv_meaning.specs.Sections.{axes_on}
+use Rattle.tree.specs.View.{bounds_of}
+use Rattle.meaning.specs.Sections.{axes_on}
 use Rattle.array_values.specs.Selections.{axis_in, selector_in}
 use Rattle.array_values.proofs.AxisLaws.{left_axes}
 use Rattle.array_values.proofs.sections.axes.Given as goal

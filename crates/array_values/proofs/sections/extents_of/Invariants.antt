@@ -1,5 +1,5 @@
 use Rattle.std.proofs.Common.{◌≡◌, ◌++◌, drop, map}
-use Rattle.fv_meaning.specs.Sections.{extents_of}
+use Rattle.meaning.specs.Sections.{extents_of}
 use Rattle.array_values.specs.Selections.{axis_in}
 use Rattle.array_values.proofs.sections.extents_of.Given as goal
 

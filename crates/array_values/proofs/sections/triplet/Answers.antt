@@ -2,9 +2,9 @@ use Rattle.std.proofs.Common.{◌≡◌, sym, ap, subst, ◌∙◌, rules, [], �
 use Rattle.std.specs.Prelude.{IfSome, MatchOption}
 use Rattle.std.specs.Int.{w64, w128}
 use Rattle.std.proofs.lemmas.Int.{to_z-of_z}
-use Rattle.fv_tree.specs.View.{bounds_of}
-use Rattle.fv_meaning.specs.ArrayValues.{each}
-use Rattle.fv_meaning.specs.Sections.{triplet_numbers}
+use Rattle.tree.specs.View.{bounds_of}
+use Rattle.meaning.specs.ArrayValues.{each}
+use Rattle.meaning.specs.Sections.{triplet_numbers}
 use Rattle.array_values.specs.Selections.{bounded, goes_on}
 use Rattle.array_values.proofs.Steps.{residual, settled, left_of, left_begun, left_done}
 use Rattle.array_values.proofs.Triplets.{along_is, along_fault, triplet_same, numbers_first, goes_first, triplet_fault, triplet_more, left_numbers, fewer_left}

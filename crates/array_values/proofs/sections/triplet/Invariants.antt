@@ -1,8 +1,8 @@
 use Rattle.std.proofs.Common.{◌≡◌, true, length}
 use Rattle.std.specs.Prelude.{IfSome}
-use Rattle.fv_tree.specs.View.{bounds_of}
-use Rattle.fv_meaning.specs.ArrayValues.{each}
-use Rattle.fv_meaning.specs.Sections.{triplet_numbers}
+use Rattle.tree.specs.View.{bounds_of}
+use Rattle.meaning.specs.ArrayValues.{each}
+use Rattle.meaning.specs.Sections.{triplet_numbers}
 use Rattle.array_values.specs.Selections.{bounded, goes_on}
 use Rattle.array_values.proofs.Steps.{left_of}
 use Rattle.array_values.proofs.Triplets.{left_numbers}

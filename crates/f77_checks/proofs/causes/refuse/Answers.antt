@@ -1,9 +1,9 @@
 use Rattle.std.proofs.Common.{sym, ◌∙◌, Err, [], ◌∷◌, subst}
-use Rattle.fv_tree.specs.declared.refusals.Refusal.{Refusal}
-use Rattle.fv_tree.specs.declared.refusals.Refused.TheVariants as refused
-use Rattle.fv_meaning.specs.Dialect.{fortran77}
+use Rattle.tree.specs.declared.refusals.Refusal.{Refusal}
+use Rattle.tree.specs.declared.refusals.Refused.TheVariants as refused
+use Rattle.meaning.specs.Dialect.{fortran77}
 use Rattle.f77_grammar.specs.program.Program77.{holds_in}
-use Rattle.f77_syntax.specs.Views.{text_of}
+use Rattle.f77_grammar.specs.syntax.Views.{text_of}
 use Rattle.f77_checks.specs.Outcomes.{Passes}
 use Rattle.f77_checks.proofs.Passing.{passes_alone, fails_alone}
 use Rattle.f77_checks.proofs.causes.refuse.Goals as goal

@@ -1,9 +1,9 @@
 use Rattle.std.proofs.Common.{List}
-use Rattle.fv_meaning.specs.Dialect.{fortran77}
-use Rattle.fv_meaning.specs.Store.{Store}
+use Rattle.meaning.specs.Dialect.{fortran77}
+use Rattle.meaning.specs.Store.{Store}
 use Rattle.f77_grammar.specs.Statement77.{Labelled}
 use Rattle.f77_grammar.specs.program.Limits.{constants_of}
-use Rattle.f77_syntax.specs.Views.{text_of}
+use Rattle.f77_grammar.specs.syntax.Views.{text_of}
 use Rattle.f77_checks.proofs.Breaches.{first_of_limits}
 use Rattle.f77_checks.proofs.limits.first_breach.Goals as goal
 

@@ -1,5 +1,5 @@
 use Rattle.std.proofs.Common.{sym, ◌∙◌}
-use Rattle.f77_syntax.specs.Views.{text_of}
+use Rattle.f77_grammar.specs.syntax.Views.{text_of}
 use Rattle.f77_checks.proofs.Breaches.{no_breach}
 use Rattle.f77_checks.proofs.limits.refuse_breach.Goals as goal
 

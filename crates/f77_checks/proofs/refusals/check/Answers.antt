@@ -1,4 +1,4 @@
-use Rattle.f77_syntax.specs.Views.{text_of}
+use Rattle.f77_grammar.specs.syntax.Views.{text_of}
 use Rattle.f77_checks.proofs.Answers.{first_if_refused, only_that_refusal}
 use Rattle.f77_checks.proofs.refusals.check.Goals as goal
 

@@ -1,9 +1,9 @@
 use Rattle.std.proofs.Common.{◌++◌, ◌+◌, map, sym, ap, ◌∙◌, arith}
 use Rattle.f77_grammar.specs.program.Uses as plain
 use Rattle.f77_grammar.specs.program.Limits.{has_many_names}
-use Rattle.f77_syntax.specs.Views.{text_of}
-use Rattle.f77_syntax.specs.Walk.{passed}
-use Rattle.f77_syntax.proofs.Walks.{search_goes_on, search_stops_at, search_ends}
+use Rattle.f77_grammar.specs.syntax.Views.{text_of}
+use Rattle.f77_grammar.specs.syntax.Walk.{passed}
+use Rattle.f77_grammar.proofs.syntax.Walks.{search_goes_on, search_stops_at, search_ends}
 use Rattle.f77_names.specs.UsesView.{plain_use}
 use Rattle.f77_names.specs.Counted.{counted_in}
 use Rattle.f77_names.proofs.FactLaws.{names_known}

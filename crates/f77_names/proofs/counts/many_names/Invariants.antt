@@ -1,7 +1,7 @@
 use Rattle.f77_grammar.specs.program.Uses as plain
 use Rattle.f77_grammar.specs.program.Limits.{has_many_names}
-use Rattle.f77_syntax.specs.Views.{text_of}
-use Rattle.f77_syntax.specs.Walk.{passed, IsSearched}
+use Rattle.f77_grammar.specs.syntax.Views.{text_of}
+use Rattle.f77_grammar.specs.syntax.Walk.{passed, IsSearched}
 use Rattle.f77_names.specs.Counted.{counted_in, Holds}
 use Rattle.f77_names.proofs.counts.many_names.Given as goal
 

@@ -1,9 +1,9 @@
 use Rattle.std.proofs.Common.{◌++◌, ◌+◌, sym, ◌∙◌, refl, arith}
 use Rattle.f77_grammar.specs.program.Uses as plain
 use Rattle.f77_grammar.specs.program.Declarations.{is_declared_wrongly}
-use Rattle.f77_syntax.specs.Views.{text_of, statement_of}
-use Rattle.f77_syntax.specs.Walk.{passed}
-use Rattle.f77_syntax.proofs.Walks.{search_goes_on, search_stops_at, search_ends}
+use Rattle.f77_grammar.specs.syntax.Views.{text_of, statement_of}
+use Rattle.f77_grammar.specs.syntax.Walk.{passed}
+use Rattle.f77_grammar.proofs.syntax.Walks.{search_goes_on, search_stops_at, search_ends}
 use Rattle.f77_names.proofs.FactLaws.{names_known}
 use Rattle.f77_names.proofs.SeenLaws.{nothing_seen, seen_same}
 use Rattle.f77_names.proofs.DeclarationLaws.{text_behind}

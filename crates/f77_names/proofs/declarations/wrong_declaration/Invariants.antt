@@ -1,7 +1,7 @@
 use Rattle.f77_grammar.specs.program.Uses as plain
 use Rattle.f77_grammar.specs.program.Declarations.{is_declared_wrongly}
-use Rattle.f77_syntax.specs.Views.{text_of}
-use Rattle.f77_syntax.specs.Walk.{passed, IsSearched}
+use Rattle.f77_grammar.specs.syntax.Views.{text_of}
+use Rattle.f77_grammar.specs.syntax.Walk.{passed, IsSearched}
 use Rattle.f77_names.specs.Seen.{HaveSeen}
 use Rattle.f77_names.proofs.declarations.wrong_declaration.Given as goal
 

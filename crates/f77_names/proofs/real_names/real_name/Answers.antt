@@ -2,9 +2,9 @@ use Rattle.std.proofs.Common.{map, sym, ap, ◌∙◌, arith}
 use Rattle.f77_grammar.specs.program.Uses as plain
 use Rattle.f77_grammar.specs.program.Declarations.{has_real_name}
 use Rattle.f77_names.specs.UsesView.{plain_use}
-use Rattle.f77_syntax.specs.Views.{text_of}
+use Rattle.f77_grammar.specs.syntax.Views.{text_of}
 use Rattle.f77_names.proofs.FactLaws.{real_at, names_known}
-use Rattle.f77_syntax.proofs.Walks.{search_goes_on, search_stops_at, search_ends}
+use Rattle.f77_grammar.proofs.syntax.Walks.{search_goes_on, search_stops_at, search_ends}
 use Rattle.f77_names.proofs.real_names.real_name.Goals as goal
 
 pub returns-then-has_real : goal.returns-then-has_real

@@ -1,7 +1,7 @@
 use Rattle.f77_grammar.specs.program.Uses as plain
 use Rattle.f77_grammar.specs.program.Declarations.{has_real_name}
-use Rattle.f77_syntax.specs.Views.{text_of}
-use Rattle.f77_syntax.specs.Walk.{IsSearched}
+use Rattle.f77_grammar.specs.syntax.Views.{text_of}
+use Rattle.f77_grammar.specs.syntax.Walk.{IsSearched}
 use Rattle.f77_names.proofs.real_names.real_name.Given as goal
 
 abbrev pub invariant-loop-i : goal.invariant-loop-i

@@ -1,6 +1,6 @@
 use Rattle.std.proofs.Common.{◌++◌, ap, sym, ◌∙◌, arith}
 use Rattle.f77_grammar.specs.program.Uses as plain
-use Rattle.f77_syntax.specs.Views.{statement_of}
+use Rattle.f77_grammar.specs.syntax.Views.{statement_of}
 use Rattle.f77_names.proofs.StatementUseLaws.{text_more}
 use Rattle.f77_names.proofs.statement_uses.uses_in_text.Goals as goal
 

@@ -1,5 +1,5 @@
 use Rattle.std.proofs.lemmas.Result.{err_from_is_err_and}
-use Rattle.fixed_form.specs.Card.{card_of}
+use Rattle.f77_cards.specs.Card.{card_of}
 use Rattle.f77_read.proofs.CardLaws.{card_refused, card_read}
 use Rattle.f77_read.proofs.cards.read_card.Goals as goal
 

@@ -1,5 +1,5 @@
 use Rattle.std.proofs.Common.{map, take}
-use Rattle.fixed_form.specs.Card.{card_of}
+use Rattle.f77_cards.specs.Card.{card_of}
 use Rattle.f77_read.specs.Cards.{IsTried}
 use Rattle.f77_read.proofs.cards.try_cards.Given as goal
 

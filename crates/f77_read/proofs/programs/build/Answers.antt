@@ -1,5 +1,5 @@
 use Rattle.std.proofs.Common.{map, subst}
-use Rattle.fixed_form.specs.Card.{card_of}
+use Rattle.f77_cards.specs.Card.{card_of}
 use Rattle.f77_read.specs.Outcomes.{AreCardsBuilt}
 use Rattle.f77_read.proofs.Answers.{program_if_ok, answered_if_refused}
 use Rattle.f77_read.proofs.SourceLaws.{program_of_source}

@@ -1,6 +1,6 @@
 use Rattle.std.proofs.Common.{map, subst}
-use Rattle.fixed_form.specs.Card.{card_of}
-use Rattle.f77_syntax.specs.Views.{text_of}
+use Rattle.f77_cards.specs.Card.{card_of}
+use Rattle.f77_grammar.specs.syntax.Views.{text_of}
 use Rattle.f77_read.specs.Outcomes.{IsTextBuilt}
 use Rattle.f77_read.proofs.Answers.{text_built}
 use Rattle.f77_read.proofs.programs.build_cards.Goals as goal

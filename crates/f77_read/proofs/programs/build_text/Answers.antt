@@ -1,8 +1,8 @@
 use Rattle.std.proofs.lemmas.Result.{err_from_is_err_and}
-use Rattle.fv_tree.specs.View.{program_of}
-use Rattle.fv_meaning.specs.Dialect.{fortran77}
-use Rattle.f77_syntax.specs.Views.{text_of}
-use Rattle.f77_tree_laws.proofs.Trees.{tree_is_read}
+use Rattle.tree.specs.View.{program_of}
+use Rattle.meaning.specs.Dialect.{fortran77}
+use Rattle.f77_grammar.specs.syntax.Views.{text_of}
+use Rattle.f77_laws.proofs.trees.Trees.{tree_is_read}
 use Rattle.f77_read.proofs.TextLaws.{check_refused, no_bad_constant}
 use Rattle.f77_read.proofs.programs.build_text.Goals as goal
 

@@ -1,6 +1,6 @@
 use Rattle.std.proofs.Common.{map}
 use Rattle.std.proofs.lemmas.Result.{err_from_is_err_and}
-use Rattle.fixed_form.specs.Card.{card_of}
+use Rattle.f77_cards.specs.Card.{card_of}
 use Rattle.f77_read.proofs.SourceLaws.{program_of_source, source_refused, only_that_source, only_that_source_refusal, no_other_program, no_other_refusal}
 use Rattle.f77_read.proofs.sources.read77.Goals as goal
 

@@ -2,8 +2,8 @@ use Rattle.std.proofs.Common.{◌≡◌, ℕ}
 use Rattle.f77_grammar.specs.program.Text.{stands_in}
 use Rattle.f77_grammar.specs.program.Labels.{has_wrong_label}
 use Rattle.f77_structure.specs.Labels.{has}
-use Rattle.f77_syntax.specs.Views.{text_of}
-use Rattle.f77_syntax.specs.Walk.{passed, IsSearched}
+use Rattle.f77_grammar.specs.syntax.Views.{text_of}
+use Rattle.f77_grammar.specs.syntax.Walk.{passed, IsSearched}
 use Rattle.f77_structure.proofs.labels_check.wrong_label.Given as goal
 
 abbrev pub invariant-loop-i : goal.invariant-loop-i

@@ -2,7 +2,7 @@ use Rattle.std.proofs.Common.{ap, ◌∙◌, arith}
 use Rattle.f77_structure.specs.LabelPlaces.{place_of}
 use Rattle.f77_structure.specs.Openings.{last_with}
 use Rattle.f77_structure.proofs.Closers.{ends_more}
-use Rattle.f77_syntax.proofs.Walks.{all_passed}
+use Rattle.f77_grammar.proofs.syntax.Walks.{all_passed}
 use Rattle.f77_structure.proofs.nesting.label_ends.Goals as goal
 
 pub loop-i-preserved : goal.loop-i-preserved

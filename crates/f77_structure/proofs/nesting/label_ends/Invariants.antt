@@ -1,8 +1,8 @@
 use Rattle.std.proofs.Common.{◌≡◌, ℕ}
 use Rattle.f77_structure.specs.LabelPlaces.{place_of}
 use Rattle.f77_structure.specs.Openings.{last_with}
-use Rattle.f77_syntax.specs.Views.{text_of}
-use Rattle.f77_syntax.specs.Walk.{passed}
+use Rattle.f77_grammar.specs.syntax.Views.{text_of}
+use Rattle.f77_grammar.specs.syntax.Walk.{passed}
 use Rattle.f77_structure.proofs.nesting.label_ends.Given as goal
 
 abbrev pub invariant-loop-i : goal.invariant-loop-i

@@ -1,11 +1,11 @@
 use Rattle.std.proofs.Common.{◌≡◌, ◌+◌, ◌-◌, ◌≤◌, drop, cond, Some, sym, ap, ◌∙◌, arith}
 use Rattle.f77_grammar.specs.program.Text.{places_from}
 use Rattle.f77_grammar.specs.program.Nesting.{is_left_open}
-use Rattle.f77_syntax.specs.declared.statements.Labelled.{Labelled}
-use Rattle.f77_syntax.specs.First.{index_from}
+use Rattle.f77_grammar.specs.declared.syntax.statements.Labelled.{Labelled}
+use Rattle.f77_grammar.specs.syntax.First.{index_from}
 use Rattle.f77_structure.specs.Forms.{form_of, pending, pending_with, lacks_end_if}
-use Rattle.f77_syntax.specs.Views.{text_of, statement_of}
-use Rattle.f77_syntax.specs.Walk.{passed}
+use Rattle.f77_grammar.specs.syntax.Views.{text_of, statement_of}
+use Rattle.f77_grammar.specs.syntax.Walk.{passed}
 use Rattle.f77_structure.proofs.LeftOpen.{found_back, pending_back, open_back, pending_more}
 use Rattle.f77_structure.proofs.nesting.left_open.Goals as goal
 

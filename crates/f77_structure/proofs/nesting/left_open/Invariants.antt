@@ -1,10 +1,10 @@
 use Rattle.std.proofs.Common.{◌≡◌, ◌+◌, ◌≤◌, length, drop}
 use Rattle.f77_grammar.specs.program.Text.{places_from}
 use Rattle.f77_grammar.specs.program.Nesting.{is_left_open}
-use Rattle.f77_syntax.specs.First.{index_from}
+use Rattle.f77_grammar.specs.syntax.First.{index_from}
 use Rattle.f77_structure.specs.Forms.{pending}
-use Rattle.f77_syntax.specs.Views.{text_of}
-use Rattle.f77_syntax.specs.Walk.{passed}
+use Rattle.f77_grammar.specs.syntax.Views.{text_of}
+use Rattle.f77_grammar.specs.syntax.Walk.{passed}
 use Rattle.f77_structure.proofs.nesting.left_open.Given as goal
 
 abbrev pub invariant-loop-i : goal.invariant-loop-i

@@ -3,7 +3,7 @@ use Rattle.f77_grammar.specs.program.Nesting.{is_closed_wrongly}
 use Rattle.f77_structure.specs.LabelPlaces.{place_of}
 use Rattle.f77_structure.specs.Openings.{frames, loops_in}
 use Rattle.f77_structure.proofs.Closers.{closer_named, frames_named, loops_named, firsts_named}
-use Rattle.f77_syntax.proofs.Walks.{search_goes_on, search_stops_at, search_ends}
+use Rattle.f77_grammar.proofs.syntax.Walks.{search_goes_on, search_stops_at, search_ends}
 use Rattle.f77_structure.proofs.nesting.wrong_closer.Goals as goal
 
 pub returns-then-has_wrong_closer : goal.returns-then-has_wrong_closer

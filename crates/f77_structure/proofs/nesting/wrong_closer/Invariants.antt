@@ -2,8 +2,8 @@ use Rattle.std.proofs.Common.{◌≡◌, ℕ}
 use Rattle.f77_grammar.specs.program.Nesting.{is_closed_wrongly}
 use Rattle.f77_structure.specs.LabelPlaces.{place_of}
 use Rattle.f77_structure.specs.Openings.{frames, loops_in, frames_of, loops_of, first_do}
-use Rattle.f77_syntax.specs.Views.{text_of}
-use Rattle.f77_syntax.specs.Walk.{passed, IsSearched}
+use Rattle.f77_grammar.specs.syntax.Views.{text_of}
+use Rattle.f77_grammar.specs.syntax.Walk.{passed, IsSearched}
 use Rattle.f77_structure.proofs.nesting.wrong_closer.Given as goal
 
 abbrev pub invariant-loop-i : goal.invariant-loop-i

@@ -2,12 +2,12 @@ use Rattle.std.proofs.Common.{◌≡◌, ℕ, ◌+◌, ◌<◌, ◌==◌, length
 use Rattle.std.specs.List.{list_any}
 use Rattle.f77_grammar.specs.Statement77.{Labelled}
 use Rattle.f77_grammar.specs.program.Order.{is_out_of_order, is_executable, is_nothing}
-use Rattle.f77_syntax.specs.declared.statements.Labelled.{Labelled as Labelled'}
+use Rattle.f77_grammar.specs.declared.syntax.statements.Labelled.{Labelled as Labelled'}
 use Rattle.f77_structure.specs.Forms.{form_of, is_late_form, is_executable_form}
-use Rattle.f77_syntax.specs.Views.{text_of, labelled_of, statement_of}
-use Rattle.f77_syntax.specs.Walk.{passed, place_at}
+use Rattle.f77_grammar.specs.syntax.Views.{text_of, labelled_of, statement_of}
+use Rattle.f77_grammar.specs.syntax.Walk.{passed, place_at}
 use Rattle.f77_structure.proofs.ByForm.{is_late-form, is_executable-form}
-use Rattle.f77_syntax.proofs.Walks.{search_goes_on, search_stops_at, search_ends, first_at, text_passed}
+use Rattle.f77_grammar.proofs.syntax.Walks.{search_goes_on, search_stops_at, search_ends, first_at, text_passed}
 use Rattle.f77_structure.proofs.order.out_of_order.Goals as goal
 
 -- what is known of the statements passed says of a statement what its place says

@@ -2,8 +2,8 @@ use Rattle.std.proofs.Common.{◌≡◌}
 use Rattle.std.specs.List.{list_any}
 use Rattle.f77_grammar.specs.Statement77.{Labelled}
 use Rattle.f77_grammar.specs.program.Order.{is_out_of_order, is_executable}
-use Rattle.f77_syntax.specs.Views.{text_of}
-use Rattle.f77_syntax.specs.Walk.{passed, IsSearched}
+use Rattle.f77_grammar.specs.syntax.Views.{text_of}
+use Rattle.f77_grammar.specs.syntax.Walk.{passed, IsSearched}
 use Rattle.f77_structure.proofs.order.out_of_order.Given as goal
 
 abbrev pub invariant-loop-i : goal.invariant-loop-i

@@ -1,11 +1,11 @@
 use Rattle.std.proofs.Common.{◌≡◌, ℕ, ◌+◌, ◌<◌, ◌==◌, length, List, sym, ap, ◌∙◌, arith}
 use Rattle.f77_grammar.specs.program.Order.{is_ended_wrongly}
-use Rattle.f77_syntax.specs.declared.statements.Labelled.{Labelled as Labelled'}
+use Rattle.f77_grammar.specs.declared.syntax.statements.Labelled.{Labelled as Labelled'}
 use Rattle.f77_structure.specs.Forms.{form_of, is_wrong_end_form}
-use Rattle.f77_syntax.specs.Views.{text_of, labelled_of, statement_of}
-use Rattle.f77_syntax.specs.Walk.{place_at}
+use Rattle.f77_grammar.specs.syntax.Views.{text_of, labelled_of, statement_of}
+use Rattle.f77_grammar.specs.syntax.Walk.{place_at}
 use Rattle.f77_structure.proofs.ByForm.{is_ended_wrongly-form}
-use Rattle.f77_syntax.proofs.Walks.{search_goes_on, search_stops_at, search_ends, last_at}
+use Rattle.f77_grammar.proofs.syntax.Walks.{search_goes_on, search_stops_at, search_ends, last_at}
 use Rattle.f77_structure.proofs.order.wrong_end.Goals as goal
 
 -- whether a statement is the last one says of it what its place says

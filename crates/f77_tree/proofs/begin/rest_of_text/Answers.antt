@@ -1,7 +1,7 @@
 use Rattle.std.proofs.Common.{◌≡◌, ◌+◌, ◌-◌, drop, ap, ◌∙◌, arith}
-use Rattle.f77_tree_laws.specs.Steps as steps
+use Rattle.f77_laws.specs.trees.Steps as steps
 use Rattle.f77_tree.specs.Parts.{known_uses, known_store}
-use Rattle.f77_syntax.specs.Views.{text_of}
+use Rattle.f77_grammar.specs.syntax.Views.{text_of}
 use Rattle.f77_tree.specs.Rests.{rest_of}
 use Rattle.f77_tree.proofs.BegunLaws.{rest_more}
 use Rattle.f77_tree.proofs.begin.rest_of_text.Goals as goal

@@ -1,8 +1,8 @@
 use Rattle.std.proofs.Common.{◌≡◌, ◌≤◌, length, drop}
-use Rattle.f77_tree_laws.specs.Steps as steps
+use Rattle.f77_laws.specs.trees.Steps as steps
 use Rattle.f77_tree.specs.Parts.{known_uses, known_store}
 use Rattle.f77_tree.specs.Rests.{rest_of}
-use Rattle.f77_syntax.specs.Views.{text_of}
+use Rattle.f77_grammar.specs.syntax.Views.{text_of}
 use Rattle.f77_tree.proofs.begin.rest_of_text.Given as goal
 
 abbrev pub invariant-loop-i : goal.invariant-loop-i

@@ -1,4 +1,4 @@
-use Rattle.f77_syntax.specs.Views.{text_of}
+use Rattle.f77_grammar.specs.syntax.Views.{text_of}
 use Rattle.f77_tree.proofs.RangeLaws.{table_in_range}
 use Rattle.f77_tree.proofs.programs.tree.Goals as goal
 

@@ -1,6 +1,6 @@
 use Rattle.std.proofs.Common.{◌≡◌, ◌++◌, map}
-use Rattle.fv_tree.specs.View.{statement_of}
-use Rattle.f77_tree_laws.specs.Steps as steps
+use Rattle.tree.specs.View.{statement_of}
+use Rattle.f77_laws.specs.trees.Steps as steps
 use Rattle.f77_tree.specs.Rests.{pieces_in, made_by}
 use Rattle.f77_tree.proofs.rests.take_loop.Given as goal
 

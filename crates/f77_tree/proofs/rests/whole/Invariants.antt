@@ -1,5 +1,5 @@
 use Rattle.std.proofs.Common.{◌≡◌, ◌++◌, map, length}
-use Rattle.fv_tree.specs.View.{statement_of}
+use Rattle.tree.specs.View.{statement_of}
 use Rattle.f77_tree.specs.Rests.{pieces_in, made_by}
 use Rattle.f77_tree.proofs.rests.whole.Given as goal
 

@@ -1,6 +1,6 @@
 use Rattle.std.proofs.Common.{◌≡◌, ◌++◌, drop}
 use Rattle.f77_grammar.specs.program.Tree as tree
-use Rattle.f77_syntax.specs.Views.{text_of}
+use Rattle.f77_grammar.specs.syntax.Views.{text_of}
 use Rattle.f77_tree.proofs.targets.targets_in.Given as goal
 
 abbrev pub invariant-loop-statement : goal.invariant-loop-statement

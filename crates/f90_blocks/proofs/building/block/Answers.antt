@@ -2,7 +2,7 @@ use Rattle.std.proofs.Common.{rules, ◌∙◌, ap, refl}
 use Rattle.std.specs.BTreeSet.{contains}
 use Rattle.std.specs.List.{list_any}
 use Rattle.std.specs.Ordering.{nat_cmp}
-use Rattle.fv_tree.specs.View.{block_of}
+use Rattle.tree.specs.View.{block_of}
 use Rattle.f90_blocks.specs.declared.nodes.Treed.{Treed}
 use Rattle.f90_blocks.specs.Targets.{target_at, names}
 use Rattle.f90_blocks.proofs.Walks.{begins, walks_on, walks_past, walks_end}

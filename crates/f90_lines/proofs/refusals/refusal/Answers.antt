@@ -1,6 +1,6 @@
 use Rattle.std.proofs.Common.{◌≡◌, None, Some, sym, subst, ◌∙◌}
 use Rattle.std.specs.Str.Lines.{lines}
-use Rattle.refusal_order.specs.Answered.{IsAnswered}
+use Rattle.reading.specs.refusal_order.Answered.{IsAnswered}
 use Rattle.f90_grammar.specs.LineCauses.{Between, HasLineCause}
 use Rattle.f90_lines.specs.Standings.{first_bad, first_long, behind_lines, initial_of}
 use Rattle.f90_lines.proofs.StandingLaws.{none_left, bad_answered, long_answered, unended_answered, none_answered}

@@ -1,6 +1,6 @@
 use Rattle.std.proofs.Common.{sym, subst, ◌∙◌, inl}
 use Rattle.std.specs.Str.Lines.{lines}
-use Rattle.fv_tree.specs.declared.refusals.Refusal.{Refusal}
+use Rattle.tree.specs.declared.refusals.Refusal.{Refusal}
 use Rattle.f90_grammar.specs.FreeForm.{AreStatements}
 use Rattle.f90_grammar.specs.LineCauses.{HasLineCause}
 use Rattle.f90_lines.proofs.StandingLaws.{unrefused_by}

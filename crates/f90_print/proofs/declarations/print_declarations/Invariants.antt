@@ -1,6 +1,6 @@
 use Rattle.std.proofs.Common.{◌≡◌, ◌++◌, map, take}
 use Rattle.std.specs.Prelude.{flat_map}
-use Rattle.fv_tree.specs.View.{declaration_of}
+use Rattle.tree.specs.View.{declaration_of}
 use Rattle.f90_print.specs.Texts.{declaration_lines}
 use Rattle.f90_print.proofs.declarations.print_declarations.Given as goal
 

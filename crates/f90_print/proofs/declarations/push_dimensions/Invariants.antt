@@ -1,6 +1,6 @@
 use Rattle.std.proofs.Common.{◌≡◌, ◌++◌, map, take}
 use Rattle.std.specs.Prelude.{flat_map}
-use Rattle.fv_tree.specs.View.{bounds_of}
+use Rattle.tree.specs.View.{bounds_of}
 use Rattle.f90_grammar.specs.PrintedForms.{dimension}
 use Rattle.f90_grammar.specs.PrintedText.{dimension_text}
 use Rattle.f90_print.specs.Texts.{after_comma}

@@ -1,6 +1,6 @@
 use Rattle.std.proofs.Common.{◌≡◌, ◌∷◌, [], true, false, ap, ◌∙◌, arith, rules, map}
 use Rattle.std.proofs.lemmas.Grind.{common_steps}
-use Rattle.fv_tree.specs.View.{expression_of, subscript_of}
+use Rattle.tree.specs.View.{expression_of, subscript_of}
 use Rattle.f90_grammar.specs.Printing.{is_one}
 use Rattle.f90_grammar.specs.PrintedText.{expression_text}
 use Rattle.f90_print.specs.Texts.{subscript_text}

@@ -1,7 +1,7 @@
 -- The parts so far are printed.
 use Rattle.std.proofs.Common.{◌≡◌, ◌++◌, map, take}
 use Rattle.std.specs.Prelude.{flat_map}
-use Rattle.fv_tree.specs.View.{expression_of, subscript_of, loop_of}
+use Rattle.tree.specs.View.{expression_of, subscript_of, loop_of}
 use Rattle.f90_grammar.specs.PrintedText.{expression_text}
 use Rattle.f90_print.specs.Texts.{subscript_text, after_comma, loop_end_text}
 use Rattle.f90_print.proofs.expressions.+expr.Given as goal

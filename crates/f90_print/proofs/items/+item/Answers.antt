@@ -1,6 +1,6 @@
 use Rattle.std.proofs.Common.{◌≡◌, ◌∷◌, ap, ◌∙◌, arith, rules}
 use Rattle.std.proofs.lemmas.Grind.{common_steps}
-use Rattle.fv_tree.specs.View.{item_of}
+use Rattle.tree.specs.View.{item_of}
 use Rattle.f90_grammar.specs.PrintedForms.{item_phrase}
 use Rattle.f90_grammar.specs.PrintedText.{item_text}
 use Rattle.f90_print.proofs.ItemTexts.{turns-text, items-parts}

@@ -1,7 +1,7 @@
 -- The items so far are printed.
 use Rattle.std.proofs.Common.{◌≡◌, ◌++◌, map, take}
 use Rattle.std.specs.Prelude.{flat_map}
-use Rattle.fv_tree.specs.View.{item_of}
+use Rattle.tree.specs.View.{item_of}
 use Rattle.f90_grammar.specs.PrintedForms.{item_phrase}
 use Rattle.f90_grammar.specs.PrintedText.{item_text}
 use Rattle.f90_print.specs.Texts.{after_comma}

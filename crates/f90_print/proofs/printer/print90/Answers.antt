@@ -1,6 +1,6 @@
 use Rattle.std.proofs.Common.{◌++◌, ap, sym, ◌∙◌, map, codes}
 use Rattle.std.specs.Prelude.{flat_map}
-use Rattle.fv_tree.specs.View.{declaration_of, block_of}
+use Rattle.tree.specs.View.{declaration_of, block_of}
 use Rattle.f90_grammar.specs.Forms as forms
 use Rattle.f90_grammar.specs.PrintedForms.{title_of}
 use Rattle.f90_print.specs.Notes.{text_of}

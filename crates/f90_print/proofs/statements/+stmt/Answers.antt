@@ -1,7 +1,7 @@
 use Rattle.std.proofs.Common.{◌≡◌, ◌∷◌, [], ap, ◌∙◌, arith, rules}
 use Rattle.std.proofs.lemmas.Grind.{common_steps}
-use Rattle.fv_tree.specs.declared.stmts.Block.{out-Block}
-use Rattle.fv_tree.specs.View.{statement_of}
+use Rattle.tree.specs.declared.stmts.Block.{out-Block}
+use Rattle.tree.specs.View.{statement_of}
 use Rattle.f90_print.specs.Texts.{statement_text}
 use Rattle.f90_print.proofs.StatementTexts as texts
 use Rattle.f90_print.proofs.statements.+stmt.Goals as goal

@@ -1,7 +1,7 @@
 -- The statements and arms so far are printed.
 use Rattle.std.proofs.Common.{◌≡◌, ◌++◌, map, take}
 use Rattle.std.specs.Prelude.{flat_map}
-use Rattle.fv_tree.specs.View.{statement_of, tested_of}
+use Rattle.tree.specs.View.{statement_of, tested_of}
 use Rattle.f90_print.specs.Texts.{statement_text, arm_text}
 use Rattle.f90_print.proofs.statements.+stmt.Given as goal
 

@@ -1,4 +1,4 @@
-use Rattle.fv_tree.specs.declared.refusals.Cause.TheVariants.{Deep90}
+use Rattle.tree.specs.declared.refusals.Cause.TheVariants.{Deep90}
 use Rattle.f90_grammar.specs.Refusals.{HoldsAt}
 use Rattle.f90_read.proofs.CheckLaws.{depth, first_refused}
 use Rattle.f90_read.proofs.causes.check_depth.Goals as goal

@@ -1,5 +1,5 @@
 use Rattle.std.proofs.Common.{arith}
-use Rattle.fv_tree.specs.declared.refusals.Cause.TheVariants.{TypeClash90}
+use Rattle.tree.specs.declared.refusals.Cause.TheVariants.{TypeClash90}
 use Rattle.f90_grammar.specs.Declared.{declarations_of}
 use Rattle.f90_grammar.specs.Refusals.{HoldsAt}
 use Rattle.f90_read.proofs.CheckLaws.{kinds, first_refused}

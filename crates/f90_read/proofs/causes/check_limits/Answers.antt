@@ -1,10 +1,10 @@
 use Rattle.std.proofs.Common.{arith, ◌⊎◌, ◌≡◌, false}
-use Rattle.fv_tree.specs.declared.refusals.Cause.TheVariants.{Limit90}
+use Rattle.tree.specs.declared.refusals.Cause.TheVariants.{Limit90}
 use Rattle.f90_grammar.specs.Blocks.{Placed}
 use Rattle.f90_grammar.specs.Bounds.{HasManyNames}
 use Rattle.f90_grammar.specs.Contents.{has_wide_literal_in}
 use Rattle.f90_grammar.specs.Order.{Place}
-use Rattle.f90_reading_laws.proofs.Lists.{all_at}
+use Rattle.f90_laws.proofs.readings.Lists.{all_at}
 use Rattle.f90_read.proofs.CheckLaws.{limited, IsDeepBlock, IsBeyondBounds, IsBeyondElements, IsBeyond, first_refused}
 use Rattle.f90_read.proofs.CheckLaws.{first_of_either}
 use Rattle.f90_read.proofs.StatementLaws.{narrow, fewer}

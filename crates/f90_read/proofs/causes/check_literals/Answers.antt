@@ -1,4 +1,4 @@
-use Rattle.fv_tree.specs.declared.refusals.Cause.TheVariants.{WideLiteral90}
+use Rattle.tree.specs.declared.refusals.Cause.TheVariants.{WideLiteral90}
 use Rattle.f90_grammar.specs.Refusals.{HoldsAt}
 use Rattle.f90_read.proofs.CheckLaws.{literals, first_refused}
 use Rattle.f90_read.proofs.causes.check_literals.Goals as goal

@@ -1,5 +1,5 @@
 use Rattle.std.proofs.Common.{arith, IsTrue}
-use Rattle.fv_tree.specs.declared.refusals.Cause.TheVariants.{Declared90}
+use Rattle.tree.specs.declared.refusals.Cause.TheVariants.{Declared90}
 use Rattle.f90_grammar.specs.Declared.{declarations_of, declares_again, HasKnownNames}
 use Rattle.f90_grammar.specs.Order.{Place}
 use Rattle.f90_grammar.specs.Refusals.{HoldsAt}

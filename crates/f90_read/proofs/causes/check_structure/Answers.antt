@@ -1,7 +1,7 @@
 use Rattle.std.proofs.lemmas.Result.{err_from_is_err_and}
 use Rattle.std.proofs.Common.{arith, IsTrue, ◌≡◌, [], sym, subst}
-use Rattle.fv_tree.specs.declared.refusals.Cause.TheVariants.{Structure}
-use Rattle.f90_block_laws.specs.Places.{IsWrongAt, SuitsPlace, surroundings_of}
+use Rattle.tree.specs.declared.refusals.Cause.TheVariants.{Structure}
+use Rattle.f90_laws.specs.blocks.Places.{IsWrongAt, SuitsPlace, surroundings_of}
 use Rattle.f90_grammar.specs.Declared.{declarations_of, functions_in}
 use Rattle.f90_grammar.specs.Order.{Place, is_disordered}
 use Rattle.f90_grammar.specs.Refusals.{Refused90}

@@ -1,5 +1,5 @@
 use Rattle.std.proofs.Common.{drop}
-use Rattle.f90_calls.proofs.HidingLaws.{NamesLeft}
+use Rattle.f90_names.proofs.calls.HidingLaws.{NamesLeft}
 use Rattle.f90_read.proofs.HiddenLaws.{all_declared}
 use Rattle.f90_read.proofs.making.functions_of.Given as goal
 

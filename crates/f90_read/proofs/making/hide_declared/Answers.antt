@@ -1,6 +1,6 @@
 use Rattle.std.proofs.Common.{◌≡◌, ℕ, List, Some, ap, sym, subst, ◌∙◌, OnOk}
-use Rattle.f90_statements.specs.declared.nodes.Statement.{Statement}
-use Rattle.f90_calls.specs.Hiding.{Hides, declared_by, names_of}
+use Rattle.f90_statement.specs.declared.nodes.Statement.{Statement}
+use Rattle.f90_names.specs.calls.Hiding.{Hides, declared_by, names_of}
 use Rattle.f90_read.proofs.making.hide_declared.Goals as goal
 
 pub returns-in-Declare : goal.returns-in-Declare

@@ -1,6 +1,6 @@
 use Rattle.std.proofs.Common.{arith, ◌≡◌, ◌<◌, ◌≤◌, ◌++◌, length, get_or, refl, rules}
-use Rattle.f90_calls.specs.Hiding.{names_of}
-use Rattle.f90_calls.proofs.HidingLaws.{left_at, left_ended}
+use Rattle.f90_names.specs.calls.Hiding.{names_of}
+use Rattle.f90_names.proofs.calls.HidingLaws.{left_at, left_ended}
 use Rattle.f90_read.proofs.making.hide_names.Goals as goal
 
 pub hiding-init : goal.hiding-init

@@ -1,6 +1,6 @@
 use Rattle.std.proofs.Common.{ℕ, List, ◌++◌, drop}
-use Rattle.f90_calls.specs.Hiding.{IsWithout, names_of}
-use Rattle.f90_calls.proofs.HidingLaws.{NamesLeft}
+use Rattle.f90_names.specs.calls.Hiding.{IsWithout, names_of}
+use Rattle.f90_names.proofs.calls.HidingLaws.{NamesLeft}
 use Rattle.f90_read.proofs.making.hide_names.Given as goal
 
 abbrev pub invariant-hiding : goal.invariant-hiding

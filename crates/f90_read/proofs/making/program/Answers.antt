@@ -1,5 +1,5 @@
 use Rattle.std.proofs.Common.{arith, map, refl}
-use Rattle.fv_tree.specs.View.{declaration_of, block_of}
+use Rattle.tree.specs.View.{declaration_of, block_of}
 use Rattle.f90_grammar.specs.Declared.{declarations_of, functions_in}
 use Rattle.f90_read.proofs.ProgramLaws.{order, accepted, marks_taken, no_target_zero, is_program}
 use Rattle.f90_read.proofs.StatementLaws.{ready, suited, fewer}

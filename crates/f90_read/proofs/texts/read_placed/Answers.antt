@@ -1,5 +1,5 @@
 use Rattle.std.proofs.lemmas.Result.{err_from_is_err_and}
-use Rattle.fv_tree.specs.View.{program_of_90}
+use Rattle.tree.specs.View.{program_of_90}
 use Rattle.f90_read.proofs.TextLaws.{clear_is_read, with_names}
 use Rattle.f90_read.proofs.texts.read_placed.Goals as goal
 

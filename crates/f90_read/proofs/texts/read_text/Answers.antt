@@ -1,6 +1,6 @@
 use Rattle.std.proofs.Common.{List, subst}
 use Rattle.std.proofs.lemmas.Result.{err_from_is_err_and}
-use Rattle.f90_calls.specs.Formless.{HaveSuitedForms}
+use Rattle.f90_names.specs.calls.Formless.{HaveSuitedForms}
 use Rattle.f90_lines.specs.declared.readings.Statement.{Statement}
 use Rattle.f90_lines.specs.Views.{statements_seen}
 use Rattle.f90_read.proofs.TextLaws.{refused_in_lines, refused_in_words, clear_of_words, is_text, NoneFormless}

@@ -1,5 +1,5 @@
 use Rattle.std.proofs.Common.{◌≡◌, map}
-use Rattle.fv_tree.specs.View.{expression_of, subscript_of}
+use Rattle.tree.specs.View.{expression_of, subscript_of}
 use Rattle.f90_grammar.specs.Phrases.{arguments_of}
 use Rattle.f90_trees.proofs.building.arguments.Given as goal
 

@@ -3,7 +3,7 @@ use Rattle.std.proofs.Common.{arith, ◌≡◌, ap, ◌∙◌, List, ℕ, pos, t
 use Rattle.std.proofs.lemmas.Int.{to_z-of_z}
 use Rattle.std.specs.Prelude.{min}
 use mir.Syntax.{w128}
-use Rattle.fv_tree.specs.Limits.{greatest_literal}
+use Rattle.tree.specs.Limits.{greatest_literal}
 use Rattle.f90_grammar.specs.Phrases.{value_of_digits}
 use Rattle.f90_trees.proofs.BuildLaws.{number_is, truth_is, built_of}
 use Rattle.f90_trees.proofs.building.build.Goals as goal

@@ -1,7 +1,7 @@
 use Rattle.std.proofs.Common.{◌≡◌, ap, sym, ◌∙◌, Option, Some, map, rules}
-use Rattle.fv_tree.specs.declared.functions.Intrinsic.{Intrinsic}
-use Rattle.fv_tree.specs.declared.functions.Intrinsic.TheVariants as intrinsics
-use Rattle.fv_tree.specs.View.{subscript_of}
+use Rattle.tree.specs.declared.functions.Intrinsic.{Intrinsic}
+use Rattle.tree.specs.declared.functions.Intrinsic.TheVariants as intrinsics
+use Rattle.tree.specs.View.{subscript_of}
 use Rattle.f90_trees.specs.Building.{called_held}
 use Rattle.f90_trees.proofs.CalledLaws.{elemental_is}
 use Rattle.f90_trees.proofs.building.called.Goals as goal

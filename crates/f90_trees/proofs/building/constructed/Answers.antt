@@ -1,5 +1,5 @@
 use Rattle.std.proofs.Common.{◌≡◌, [], Some, map, rules}
-use Rattle.fv_tree.specs.View.{expression_of}
+use Rattle.tree.specs.View.{expression_of}
 use Rattle.f90_trees.specs.Building.{Values, values_above}
 use Rattle.f90_trees.specs.Views.{stack}
 use Rattle.f90_trees.proofs.BuildLaws.{constructed_is}

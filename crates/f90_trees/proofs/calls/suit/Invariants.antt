@@ -1,5 +1,5 @@
 use Rattle.std.proofs.Common.{◌≡◌, [], drop}
-use Rattle.f90_expr.specs.Views.{nodes_seen}
+use Rattle.f90_expressions.specs.Views.{nodes_seen}
 use Rattle.f90_trees.specs.Calls.{check_all}
 use Rattle.f90_trees.specs.Hiding.{function_in}
 use Rattle.f90_trees.specs.CallViews.{stack}

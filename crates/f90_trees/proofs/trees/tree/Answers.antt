@@ -1,6 +1,6 @@
 use Rattle.std.proofs.Common.{Ok, Option, [], subst}
-use Rattle.fv_tree.specs.declared.exprs.Expr.{Expr}
-use Rattle.f90_expr.specs.Views.{nodes_seen}
+use Rattle.tree.specs.declared.exprs.Expr.{Expr}
+use Rattle.f90_expressions.specs.Views.{nodes_seen}
 use Rattle.f90_trees.specs.Building.{build_all}
 use Rattle.f90_trees.specs.Hiding.{function_in}
 use Rattle.f90_trees.specs.Views.{Makes}

@@ -1,5 +1,5 @@
 use Rattle.std.proofs.Common.{◌≡◌, true, false, rules}
-use Rattle.f90_expr.specs.Views.{node_seen}
+use Rattle.f90_expressions.specs.Views.{node_seen}
 use Rattle.f90_trees.specs.Trees.{is_list}
 use Rattle.f90_trees.proofs.TreeLaws.{listed_at, other_at}
 use Rattle.f90_trees.proofs.trees.variable_suits_calls.Goals as goal

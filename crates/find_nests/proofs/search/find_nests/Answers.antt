@@ -1,5 +1,5 @@
 use Rattle.std.proofs.Common.{◌≡◌, ◌∙◌, ap, sym, map, rules}
-use Rattle.fv_tree.specs.View.{program_of}
+use Rattle.tree.specs.View.{program_of}
 use Rattle.find_nests.specs.Found.{found_of, found_among}
 use Rattle.find_nests.specs.Walk.{outermost_in_block}
 use Rattle.find_nests.proofs.Outermost.{looked_at-is}

@@ -1,4 +1,4 @@
-use Rattle.fv_tree.specs.Plain.{Apply, expressions}
+use Rattle.tree.specs.Plain.{Apply, expressions}
 use Rattle.form_rules.proofs.Writing.{call_ready}
 use Rattle.form_rules.proofs.nodes.called.Goals as goal
 

@@ -1,6 +1,6 @@
 use Rattle.std.proofs.Common.{◌≡◌, ◌++◌, length, rules}
-use Rattle.fv_tree.specs.View.{expression_of}
-use Rattle.fv_tree.specs.Plain.{Binary}
+use Rattle.tree.specs.View.{expression_of}
+use Rattle.tree.specs.Plain.{Binary}
 use Rattle.form_rules.proofs.Writing.{bin_ready}
 use Rattle.form_rules.proofs.nodes.in_pair.Goals as goal
 

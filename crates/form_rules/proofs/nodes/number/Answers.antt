@@ -1,10 +1,10 @@
 use Rattle.std.proofs.Common.{◌≡◌, false, sym, subst, rules, Some, None, SFits}
 use Rattle.std.specs.Int.{w128}
 use Rattle.std.proofs.lemmas.Int.{to_z-of_z}
-use Rattle.fv_tree.specs.declared.exprs.Expr.TheVariants as exprs
+use Rattle.tree.specs.declared.exprs.Expr.TheVariants as exprs
 use Rattle.form_rules.specs.Written.{IsReady}
-use Rattle.fv_tree.specs.Plain.{Number}
-use Rattle.fv_tree.specs.declared.ops.Value.TheVariants.{Int}
+use Rattle.tree.specs.Plain.{Number}
+use Rattle.tree.specs.declared.ops.Value.TheVariants.{Int}
 use Rattle.linear_forms.specs.Linear.{limited, constant_or, as_constant}
 use Rattle.linear_forms.specs.Places.{IsFound}
 use Rattle.form_rules.proofs.Writing.{number_ready}

@@ -1,5 +1,5 @@
 use Rattle.std.proofs.Common.{◌≡◌, rules}
-use Rattle.fv_tree.specs.Plain.{Reduce}
+use Rattle.tree.specs.Plain.{Reduce}
 use Rattle.form_rules.proofs.Writing.{reduce_ready}
 use Rattle.form_rules.proofs.nodes.reduced.Goals as goal
 

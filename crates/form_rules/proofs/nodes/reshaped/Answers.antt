@@ -1,5 +1,5 @@
 use Rattle.std.proofs.Common.{◌≡◌, rules}
-use Rattle.fv_tree.specs.Plain.{Reshape, expressions}
+use Rattle.tree.specs.Plain.{Reshape, expressions}
 use Rattle.form_rules.proofs.Writing.{reshape_ready}
 use Rattle.form_rules.proofs.nodes.reshaped.Goals as goal
 

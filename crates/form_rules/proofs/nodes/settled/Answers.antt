@@ -1,6 +1,6 @@
 use Rattle.std.proofs.Common.{◌≤◌, ◌++◌, length, sym, subst, ℕ, List, ◌^◌}
 use Rattle.linear_forms.specs.Parts.{IsPartOf}
-use Rattle.fv_tree.specs.View.{expression_of}
+use Rattle.tree.specs.View.{expression_of}
 use Rattle.form_rules.proofs.Writing.{settled_some}
 use Rattle.form_rules.proofs.nodes.settled.Goals as goal
 

@@ -1,5 +1,5 @@
 use Rattle.std.proofs.Common.{◌≡◌, rules}
-use Rattle.fv_tree.specs.Plain.{Spread}
+use Rattle.tree.specs.Plain.{Spread}
 use Rattle.form_rules.proofs.Writing.{spread_ready}
 use Rattle.form_rules.proofs.nodes.spread.Goals as goal
 

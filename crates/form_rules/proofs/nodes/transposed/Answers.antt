@@ -1,5 +1,5 @@
 use Rattle.std.proofs.Common.{◌≡◌, rules}
-use Rattle.fv_tree.specs.Plain.{Transpose}
+use Rattle.tree.specs.Plain.{Transpose}
 use Rattle.form_rules.proofs.Writing.{transpose_ready}
 use Rattle.form_rules.proofs.nodes.transposed.Goals as goal
 

@@ -1,4 +1,4 @@
-use Rattle.fv_tree.specs.Plain.{Logic}
+use Rattle.tree.specs.Plain.{Logic}
 use Rattle.form_rules.proofs.Writing.{truth_ready}
 use Rattle.form_rules.proofs.nodes.truth.Goals as goal
 

@@ -1,6 +1,6 @@
 use Rattle.std.proofs.Common.{◌≡◌, ◌++◌, length, rules}
-use Rattle.fv_tree.specs.View.{expression_of}
-use Rattle.fv_tree.specs.Plain.{Unary}
+use Rattle.tree.specs.View.{expression_of}
+use Rattle.tree.specs.Plain.{Unary}
 use Rattle.form_rules.proofs.Writing.{un_ready}
 use Rattle.form_rules.proofs.nodes.with_sign.Goals as goal
 

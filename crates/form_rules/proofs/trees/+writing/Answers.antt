@@ -4,9 +4,9 @@ use Rattle.std.proofs.lemmas.Int.{to_z-of_z}
 use Rattle.std.specs.Prelude.{IfOk, ◌||◌}
 use Rattle.std.proofs.lemmas.Grind.{common_steps}
 use mathlib.Core.Path.{ap₂}
-use Rattle.fv_tree.specs.Plain.{Binary, Number, Reduce, Reshape, Spread, Transpose, Unary, Expression, expressions}
-use Rattle.fv_tree.specs.View.{expression_of}
-use Rattle.fv_tree.proofs.Equations.{expression_of-int, expression_of-truth, expression_of-item, expression_of-un, expression_of-bin, expression_of-call, expression_of-list, expression_of-spread, expression_of-transpose, expression_of-reshape, expression_of-reduce}
+use Rattle.tree.specs.Plain.{Binary, Number, Reduce, Reshape, Spread, Transpose, Unary, Expression, expressions}
+use Rattle.tree.specs.View.{expression_of}
+use Rattle.tree.proofs.Equations.{expression_of-int, expression_of-truth, expression_of-item, expression_of-un, expression_of-bin, expression_of-call, expression_of-list, expression_of-spread, expression_of-transpose, expression_of-reshape, expression_of-reduce}
 use Rattle.form_rules.specs.Written.{IsWritten}
 use Rattle.form_rules.proofs.Gathering.{AreTaken, one_taken, all_taken}
 use Rattle.form_rules.proofs.Writing.{loop_same, parts_same, one_same, part_same}

@@ -1,9 +1,9 @@
 -- What was made so far is what is made of the nodes so far, and whether the variable of a loop stood in them is known.
 use Rattle.std.proofs.Common.{◌≡◌, ◌≤◌, map, take, length}
 use Rattle.std.specs.List.{flat_map}
-use Rattle.fv_tree.specs.View.{expression_of, loop_of, subscript_of}
-use Rattle.fv_rewrite.specs.Making.{made, made_loop, made_subscript}
-use Rattle.fv_rewrite.specs.Names.{uses_in, uses_in_loop, uses_in_subscript}
+use Rattle.tree.specs.View.{expression_of, loop_of, subscript_of}
+use Rattle.rewrite.specs.Making.{made, made_loop, made_subscript}
+use Rattle.rewrite.specs.Names.{uses_in, uses_in_loop, uses_in_subscript}
 use Rattle.linear_forms.specs.Canonical.{canonising}
 use Rattle.form_rules.specs.Written.{stands_in}
 use Rattle.form_rules.proofs.Gathering.{AreTaken}

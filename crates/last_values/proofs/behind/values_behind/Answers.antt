@@ -1,5 +1,5 @@
 use Rattle.std.proofs.Common.{arith, sym, ◌∙◌}
-use Rattle.nest_tree.specs.View.{part_of}
+use Rattle.nest.specs.View.{part_of}
 use Rattle.last_values.specs.Behind as behind
 use Rattle.last_values.proofs.LoopLaws.{statements_more, block_behind, values_behind_is}
 use Rattle.last_values.proofs.behind.values_behind.Goals as goal

@@ -1,7 +1,7 @@
 use Rattle.std.proofs.Common.{◌≡◌, map, take}
 use Rattle.std.specs.List.{flat_map}
-use Rattle.fv_tree.specs.View.{statement_of}
-use Rattle.nest_tree.specs.View.{part_of}
+use Rattle.tree.specs.View.{statement_of}
+use Rattle.nest.specs.View.{part_of}
 use Rattle.last_values.specs.Behind as behind
 use Rattle.last_values.proofs.behind.values_behind.Given as goal
 

@@ -1,7 +1,7 @@
 use Rattle.std.proofs.Common.{◌≡◌, [], ◌∷◌, rules, arith}
 use Rattle.std.proofs.lemmas.Grind.{common_steps}
-use Rattle.fv_tree.specs.declared.stmts.Arm.{roll-Arm}
-use Rattle.fv_tree.specs.declared.stmts.Block.{roll-Block}
+use Rattle.tree.specs.declared.stmts.Arm.{roll-Arm}
+use Rattle.tree.specs.declared.stmts.Block.{roll-Block}
 use Rattle.last_values.proofs.MadeLaws.{only_where_is}
 use Rattle.last_values.proofs.endings.only_where.Goals as goal
 

@@ -1,6 +1,6 @@
 use Rattle.std.proofs.Common.{◌≡◌, [], ◌∷◌, rules, arith}
 use Rattle.std.proofs.lemmas.Grind.{common_steps}
-use Rattle.nest_tree.specs.declared.parts.NestArm.{roll-NestArm}
+use Rattle.nest.specs.declared.parts.NestArm.{roll-NestArm}
 use Rattle.last_values.proofs.MadeLaws.{only_where_part_is}
 use Rattle.last_values.proofs.in_place.only_where_part.Goals as goal
 

@@ -1,6 +1,6 @@
 use Rattle.std.proofs.Common.{◌≡◌, arith, rules}
-use Rattle.nest_tree.specs.View.{part_of, branch_of}
-use Rattle.statement_loops.proofs.StandingLaws.{finds, finds_none}
+use Rattle.nest.specs.View.{part_of, branch_of}
+use Rattle.nest.proofs.statement_loops.StandingLaws.{finds, finds_none}
 use Rattle.last_values.specs.Occurrences as outside
 use Rattle.last_values.proofs.occurrences.+outside.Goals as goal
 

@@ -1,7 +1,7 @@
 -- The name stands outside its loops in none of those so far.
 use Rattle.std.proofs.Common.{◌≡◌, map, take, false}
 use Rattle.std.specs.List.{list_any}
-use Rattle.nest_tree.specs.View.{part_of, branch_of}
+use Rattle.nest.specs.View.{part_of, branch_of}
 use Rattle.last_values.specs.Occurrences as outside
 use Rattle.last_values.proofs.occurrences.+outside.Given as goal
 

@@ -1,8 +1,8 @@
 use Rattle.std.proofs.Common.{◌≡◌, arith, rules}
-use Rattle.fv_meaning.specs.Reads.{names_in_subscript}
-use Rattle.fv_tree.specs.View.{subscript_of}
-use Rattle.statement_loops.specs.Standings.{is_among}
-use Rattle.statement_loops.proofs.StandingLaws.{finds, finds_none}
+use Rattle.meaning.specs.Reads.{names_in_subscript}
+use Rattle.tree.specs.View.{subscript_of}
+use Rattle.nest.specs.statement_loops.Standings.{is_among}
+use Rattle.nest.proofs.statement_loops.StandingLaws.{finds, finds_none}
 use Rattle.last_values.proofs.occurrences.stands_in_subs.Goals as goal
 
 pub returns-then-stands_in_sub : goal.returns-then-stands_in_sub

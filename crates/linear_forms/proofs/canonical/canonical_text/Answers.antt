@@ -1,4 +1,4 @@
-use Rattle.fv_tree.specs.View.{expression_of}
+use Rattle.tree.specs.View.{expression_of}
 use Rattle.linear_forms.proofs.CanonicalRule.{text-expressed}
 use Rattle.linear_forms.proofs.canonical.canonical_text.Goals as goal
 

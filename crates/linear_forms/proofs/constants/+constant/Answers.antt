@@ -1,6 +1,6 @@
 use Rattle.std.proofs.Common.{◌≡◌, ◌∙◌, ap, sym, map, Some, None, arith, rules}
-use Rattle.fv_tree.specs.Plain.{Apply, expressions}
-use Rattle.fv_tree.specs.View.{expression_of}
+use Rattle.tree.specs.Plain.{Apply, expressions}
+use Rattle.tree.specs.View.{expression_of}
 use Rattle.linear_forms.specs.Linear.{constant_value, known}
 use Rattle.linear_forms.proofs.ConstantLaws.{call_step_none, call_step, call_end, un_constant, bin_constant}
 use Rattle.linear_forms.proofs.constants.+constant.Goals as goal

@@ -1,6 +1,6 @@
 use Rattle.std.proofs.Common.{◌≡◌, drop, map}
-use Rattle.fv_tree.specs.Plain.{Apply, expressions}
-use Rattle.fv_tree.specs.View.{expression_of}
+use Rattle.tree.specs.Plain.{Apply, expressions}
+use Rattle.tree.specs.View.{expression_of}
 use Rattle.linear_forms.specs.Linear.{constant_value}
 use Rattle.linear_forms.proofs.ConstantLaws.{left_to_call}
 use Rattle.linear_forms.proofs.constants.+constant.Given as goal

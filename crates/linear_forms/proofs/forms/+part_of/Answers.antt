@@ -1,6 +1,6 @@
 use Rattle.std.proofs.Common.{◌≡◌, ◌++◌, sym, subst, Some, None, length, rules}
-use Rattle.fv_tree.specs.View.{expression_of}
-use Rattle.fv_tree.specs.declared.ops.Value.TheVariants.{Int, Truth}
+use Rattle.tree.specs.View.{expression_of}
+use Rattle.tree.specs.declared.ops.Value.TheVariants.{Int, Truth}
 use Rattle.linear_forms.specs.Linear.{limited, constant_or, as_constant}
 use Rattle.linear_forms.specs.Parts.{IsPartOf}
 use Rattle.linear_forms.specs.Places.{IsFound}

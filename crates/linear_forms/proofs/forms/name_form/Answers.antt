@@ -1,5 +1,5 @@
 use Rattle.std.proofs.Common.{◌≡◌, ◌∙◌, ◌++◌, sym, subst, true, false, [], None, length, rules, arith}
-use Rattle.fv_tree.specs.declared.exprs.Ref.{out-Ref}
+use Rattle.tree.specs.declared.exprs.Ref.{out-Ref}
 use Rattle.linear_forms.specs.Linear.{limited}
 use Rattle.linear_forms.specs.Places.{IsFound}
 use Rattle.linear_forms.proofs.Units.{bare_name, element_name, loop_named, symbol_named, neither_named}

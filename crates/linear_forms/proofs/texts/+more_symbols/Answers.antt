@@ -1,4 +1,4 @@
-use Rattle.fv_tree.specs.View.{expression_of}
+use Rattle.tree.specs.View.{expression_of}
 use Rattle.std.proofs.Common.{◌≡◌, ◌∷◌, map, Ok, rules, arith, SFits, subst}
 use Rattle.std.specs.Prelude.{slice_get, IfOk}
 use Rattle.std.specs.Int.{w64}

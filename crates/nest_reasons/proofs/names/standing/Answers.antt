@@ -1,8 +1,8 @@
 use Rattle.std.proofs.Common.{arith, rules}
 use Rattle.std.specs.List.{list_any}
 use Rattle.std.specs.Str.{bytes_eq}
-use Rattle.fv_tree.specs.View.{expression_of}
-use Rattle.fv_meaning.specs.Reads.{names_in}
+use Rattle.tree.specs.View.{expression_of}
+use Rattle.meaning.specs.Reads.{names_in}
 use Rattle.nest_reasons.proofs.Lists.{kept}
 use Rattle.nest_reasons.proofs.names.standing.Goals as goal
 

@@ -1,5 +1,5 @@
 use Rattle.std.proofs.Common.{◌≡◌, take}
-use Rattle.fv_tree.specs.View.{expression_of}
+use Rattle.tree.specs.View.{expression_of}
 use Rattle.nest_reasons.specs.Standing.{standing}
 use Rattle.nest_reasons.proofs.names.standing.Given as goal
 

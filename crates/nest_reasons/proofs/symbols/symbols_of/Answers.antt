@@ -1,7 +1,7 @@
 use Rattle.std.proofs.Common.{arith, rules}
-use Rattle.fv_tree.specs.Plain.{Declaration}
-use Rattle.fv_tree.specs.View.{declaration_of, block_of}
-use Rattle.fv_rewrite.specs.Names.{names_written_in}
+use Rattle.tree.specs.Plain.{Declaration}
+use Rattle.tree.specs.View.{declaration_of, block_of}
+use Rattle.rewrite.specs.Names.{names_written_in}
 use Rattle.nest_reasons.specs.Symbols.{is_symbol}
 use Rattle.nest_reasons.proofs.Lists.{kept_mapped}
 use Rattle.nest_reasons.proofs.symbols.symbols_of.Goals as goal

@@ -1,5 +1,5 @@
 use Rattle.std.proofs.Common.{◌≡◌, map, take}
-use Rattle.fv_tree.specs.View.{declaration_of, block_of}
+use Rattle.tree.specs.View.{declaration_of, block_of}
 use Rattle.nest_reasons.specs.Symbols.{symbols_of}
 use Rattle.nest_reasons.proofs.symbols.symbols_of.Given as goal
 

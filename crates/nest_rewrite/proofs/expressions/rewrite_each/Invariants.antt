@@ -1,6 +1,6 @@
 use Rattle.std.proofs.Common.{◌≡◌, map, take}
-use Rattle.fv_tree.specs.View.{expression_of}
-use Rattle.fv_rewrite.specs.Making as making
+use Rattle.tree.specs.View.{expression_of}
+use Rattle.rewrite.specs.Making as making
 use Rattle.nest_rewrite.proofs.expressions.rewrite_each.Given as goal
 
 abbrev pub invariant-loop-expr : goal.invariant-loop-expr

@@ -1,5 +1,5 @@
 use Rattle.std.proofs.Common.{◌≡◌, map, take}
-use Rattle.nest_tree.specs.View.{made_of}
+use Rattle.nest.specs.View.{made_of}
 use Rattle.nest_rewrite.specs.Rewritten as rewritten
 use Rattle.nest_rewrite.proofs.nests.rewrite_arrays.Given as goal
 

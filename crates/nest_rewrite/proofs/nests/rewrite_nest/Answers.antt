@@ -1,17 +1,17 @@
 use Rattle.std.proofs.Common.{◌≡◌, ℕ, ℤ, List, sym, ap, ◌∙◌, subst, Result, Ok, Err, IfOk}
-use Rattle.fv_tree.specs.declared.lists.Memory.{Memory}
-use Rattle.fv_tree.specs.Plain.{Block}
-use Rattle.fv_meaning.specs.Store.{Store}
-use Rattle.fv_rewrite.specs.Following.{RunFollows, sequential}
-use Rattle.fv_rewrite.specs.Making.{Making, Suiting, made_block, SuitsBlock}
-use Rattle.fv_rewrite.specs.Rule.{IsRule}
-use Rattle.fv_rewrite.specs.Profile.{MakesProfile}
-use Rattle.fv_rewrite.proofs.Rewriting.{made_block_follows}
-use Rattle.fv_rewrite.proofs.ProfileBlocks.{made_block_makes}
-use Rattle.nest_tree.specs.Blocks.{block_of_nest}
-use Rattle.nest_tree.specs.Plain.{Nest}
-use Rattle.nest_tree.specs.View.{nest_of}
-use Rattle.nest_tree.specs.declared.nests.Nest.{Nest as Tree}
+use Rattle.tree.specs.declared.lists.Memory.{Memory}
+use Rattle.tree.specs.Plain.{Block}
+use Rattle.meaning.specs.Store.{Store}
+use Rattle.rewrite.specs.Following.{RunFollows, sequential}
+use Rattle.rewrite.specs.Making.{Making, Suiting, made_block, SuitsBlock}
+use Rattle.rewrite.specs.Rule.{IsRule}
+use Rattle.rewrite.specs.Profile.{MakesProfile}
+use Rattle.rewrite.proofs.Rewriting.{made_block_follows}
+use Rattle.rewrite.proofs.ProfileBlocks.{made_block_makes}
+use Rattle.nest.specs.Blocks.{block_of_nest}
+use Rattle.nest.specs.Plain.{Nest}
+use Rattle.nest.specs.View.{nest_of}
+use Rattle.nest.specs.declared.nests.Nest.{Nest as Tree}
 use Rattle.nest_rewrite.specs.Rewritten.{rewritten_nest, KeepsIncrements}
 use Rattle.nest_rewrite.proofs.Blocks.{block_of_rewritten}
 use Rattle.nest_rewrite.proofs.nests.rewrite_nest.Goals as goal

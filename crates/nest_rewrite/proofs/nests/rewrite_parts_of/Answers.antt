@@ -1,6 +1,6 @@
 use Rattle.std.proofs.Common.{◌≡◌, ◌∙◌, map}
-use Rattle.fv_tree.specs.View.{block_of}
-use Rattle.nest_tree.specs.View.{part_of, made_of, nest_of}
+use Rattle.tree.specs.View.{block_of}
+use Rattle.nest.specs.View.{part_of, made_of, nest_of}
 use Rattle.nest_rewrite.proofs.MadeNests.{nest_made}
 use Rattle.nest_rewrite.proofs.nests.rewrite_parts_of.Goals as goal
 

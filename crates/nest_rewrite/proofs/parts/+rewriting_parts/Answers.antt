@@ -1,7 +1,7 @@
 use Rattle.std.proofs.Common.{◌≡◌, map, arith, ap, ◌∙◌}
 use Rattle.std.proofs.lemmas.Grind.{common_steps}
-use Rattle.nest_tree.specs.Plain.{parts}
-use Rattle.nest_tree.specs.View.{part_of, branch_of, branches}
+use Rattle.nest.specs.Plain.{parts}
+use Rattle.nest.specs.View.{part_of, branch_of, branches}
 use Rattle.nest_rewrite.specs.Rewritten as rewritten
 use Rattle.nest_rewrite.proofs.Each.{each_part, each_branch}
 use Rattle.nest_rewrite.proofs.parts.+rewriting_parts.Goals as goal

@@ -1,6 +1,6 @@
 -- What was made so far is what is made of the parts so far, and the rule makes what it made.
 use Rattle.std.proofs.Common.{◌≡◌, map, take}
-use Rattle.nest_tree.specs.View.{part_of, branch_of}
+use Rattle.nest.specs.View.{part_of, branch_of}
 use Rattle.nest_rewrite.specs.Rewritten as rewritten
 use Rattle.nest_rewrite.proofs.parts.+rewriting_parts.Given as goal
 

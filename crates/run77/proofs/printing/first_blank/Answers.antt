@@ -1,4 +1,4 @@
-use Rattle.fv_machine.proofs.ItemLaws.{blank_text, blank_one, blank_turns}
+use Rattle.machine.proofs.ItemLaws.{blank_text, blank_one, blank_turns}
 use Rattle.run77.proofs.printing.first_blank.Goals as goal
 
 pub returns-in-Some-Text : goal.returns-in-Some-Text

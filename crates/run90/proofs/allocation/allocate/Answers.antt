@@ -1,24 +1,24 @@
 use Rattle.std.proofs.Common.{◌≡◌, sym, ap, ◌∙◌, subst, refl, ℤ, List, map, Ok, Err}
-use Rattle.fv_tree.specs.Operators.{as_numbers}
-use Rattle.fv_tree.specs.Steps.{◌>>=◌}
-use Rattle.fv_tree.specs.Plain.{Allocate, expressions}
-use Rattle.fv_tree.specs.View.{expression_of, declaration_of}
-use Rattle.fv_tree.specs.declared.ops.Value.{Value}
-use Rattle.fv_meaning.specs.ArrayStatements.{allocated_bounds, free}
-use Rattle.fv_meaning.specs.Dialect.{fortran90}
-use Rattle.fv_meaning.specs.Value.{values_of}
-use Rattle.fv_meaning.specs.Run.{allocates, does, evaluates}
-use Rattle.fv_machine.specs.Acts.{Runs}
-use Rattle.fv_machine.specs.Moments.{located, seen_at}
-use Rattle.fv_machine.proofs.Residuals.{residual}
-use Rattle.fv_machine.proofs.ActLaws.{Runs-counts_step, Runs-cut, Runs-evaluates}
-use Rattle.array_storage.specs.declared.storage.Storage.{Storage}
-use Rattle.array_storage.specs.Allocation.{HoldsKind, from_one}
-use Rattle.array_storage.specs.Slots.{kind_among, store_among}
-use Rattle.array_storage.specs.Stored.{slots_in, store_in}
-use Rattle.array_assignments.specs.Causes.{AnswersAt, left_by}
-use Rattle.array_assignments.specs.Moments.{seen, slots_of}
-use Rattle.array_assignments.proofs.Lacking.{asked, asked_of}
+use Rattle.tree.specs.Operators.{as_numbers}
+use Rattle.tree.specs.Steps.{◌>>=◌}
+use Rattle.tree.specs.Plain.{Allocate, expressions}
+use Rattle.tree.specs.View.{expression_of, declaration_of}
+use Rattle.tree.specs.declared.ops.Value.{Value}
+use Rattle.meaning.specs.ArrayStatements.{allocated_bounds, free}
+use Rattle.meaning.specs.Dialect.{fortran90}
+use Rattle.meaning.specs.Value.{values_of}
+use Rattle.meaning.specs.Run.{allocates, does, evaluates}
+use Rattle.machine.specs.Acts.{Runs}
+use Rattle.machine.specs.Moments.{located, seen_at}
+use Rattle.machine.proofs.Residuals.{residual}
+use Rattle.machine.proofs.ActLaws.{Runs-counts_step, Runs-cut, Runs-evaluates}
+use Rattle.array_values.specs.declared.storage.storage.Storage.{Storage}
+use Rattle.array_values.specs.storage.Allocation.{HoldsKind, from_one}
+use Rattle.array_values.specs.storage.Slots.{kind_among, store_among}
+use Rattle.array_values.specs.storage.Stored.{slots_in, store_in}
+use Rattle.array_expressions.specs.assignments.Causes.{AnswersAt, left_by}
+use Rattle.array_expressions.specs.assignments.Moments.{seen, slots_of}
+use Rattle.array_expressions.proofs.assignments.Lacking.{asked, asked_of}
 use Rattle.run90.proofs.Going.{first_stuck, second_stuck}
 use Rattle.run90.proofs.Allocating.{allocate_stuck, refused, granted, Runs-allocates}
 use Rattle.run90.proofs.allocation.allocate.Goals as goal

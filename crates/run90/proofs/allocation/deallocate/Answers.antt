@@ -1,17 +1,17 @@
 use Rattle.std.proofs.Common.{sym, ap, ◌∙◌, subst, refl, map, Ok, Err}
-use Rattle.fv_tree.specs.Plain.{Deallocate}
-use Rattle.fv_tree.specs.View.{declaration_of}
-use Rattle.fv_meaning.specs.Dialect.{fortran90}
-use Rattle.fv_meaning.specs.Store.{bounds_of}
-use Rattle.fv_meaning.specs.Run.{deallocates, does, evaluates}
-use Rattle.fv_machine.specs.Acts.{Runs}
-use Rattle.fv_machine.specs.Moments.{located, seen_at}
-use Rattle.fv_machine.specs.declared.progress.Left.TheVariants.{Halted}
-use Rattle.fv_machine.proofs.Residuals.{residual}
-use Rattle.fv_machine.proofs.ActLaws.{Runs-counts_step, Runs-cut, Runs-evaluates, Runs-fault}
-use Rattle.array_storage.specs.Slots.{store_among}
-use Rattle.array_storage.specs.Stored.{slots_in}
-use Rattle.array_assignments.specs.Moments.{seen, slots_of}
+use Rattle.tree.specs.Plain.{Deallocate}
+use Rattle.tree.specs.View.{declaration_of}
+use Rattle.meaning.specs.Dialect.{fortran90}
+use Rattle.meaning.specs.Store.{bounds_of}
+use Rattle.meaning.specs.Run.{deallocates, does, evaluates}
+use Rattle.machine.specs.Acts.{Runs}
+use Rattle.machine.specs.Moments.{located, seen_at}
+use Rattle.machine.specs.declared.progress.Left.TheVariants.{Halted}
+use Rattle.machine.proofs.Residuals.{residual}
+use Rattle.machine.proofs.ActLaws.{Runs-counts_step, Runs-cut, Runs-evaluates, Runs-fault}
+use Rattle.array_values.specs.storage.Slots.{store_among}
+use Rattle.array_values.specs.storage.Stored.{slots_in}
+use Rattle.array_expressions.specs.assignments.Moments.{seen, slots_of}
 use Rattle.run90.proofs.Allocating.{not_there, gone, Runs-deallocates}
 use Rattle.run90.proofs.allocation.deallocate.Goals as goal
 

@@ -1,8 +1,8 @@
 use Rattle.std.proofs.Common.{sym, ap, ◌∙◌, subst, map}
-use Rattle.fv_tree.specs.View.{declaration_of}
-use Rattle.fv_machine.specs.Moments.{seen_at}
-use Rattle.fv_machine.specs.Storage.{AreDistinct, opening_of}
-use Rattle.array_storage.specs.Stored.{store_in}
+use Rattle.tree.specs.View.{declaration_of}
+use Rattle.machine.specs.Moments.{seen_at}
+use Rattle.machine.specs.Storage.{AreDistinct, opening_of}
+use Rattle.array_values.specs.storage.Stored.{store_in}
 use Rattle.run90.proofs.runs.opened.Goals as goal
 
 pub new-requires : goal.new-requires

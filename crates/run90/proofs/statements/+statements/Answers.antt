@@ -1,31 +1,31 @@
 use Rattle.std.proofs.Common.{◌≡◌, refl, sym, ap, ◌∙◌, subst, ◌+◌, ◌-◌, [], map, Ok, Err, Some, None, arith, rules, drop}
-use Rattle.fv_tree.specs.View.{statement_of, block_of, expression_of, declaration_of}
-use Rattle.fv_tree.proofs.Equations.{statement_of-assign, statement_of-if, statement_of-do, statement_of-label, statement_of-go, statement_of-stop, statement_of-read, statement_of-print}
-use Rattle.fv_tree.proofs.Equations.{statement_of-masked, statement_of-allocate, statement_of-deallocate}
-use Rattle.fv_meaning.specs.Blocks.{within_loop}
-use Rattle.fv_meaning.specs.Dialect.{fortran90}
-use Rattle.fv_meaning.specs.Profile90.{IsStatement, AreArms}
-use Rattle.fv_meaning.specs.Run.{loops, repeated, turn, does, does_all, increases}
-use Rattle.fv_machine.specs.declared.progress.Left.TheVariants.{Halted}
-use Rattle.fv_machine.specs.declared.progress.Halt.TheVariants.{Jump}
-use Rattle.fv_machine.specs.Acts.{Runs}
-use Rattle.fv_machine.specs.Moments.{located}
-use Rattle.fv_machine.specs.Statements.{plain_arms}
-use Rattle.fv_machine.specs.Jumps.{way_at}
-use Rattle.fv_machine.proofs.Residuals.{residual, settled}
-use Rattle.fv_machine.proofs.TurnLaws.{turn_cut, turn_left, turn_stuck, turn_done, at_turn, no_turn}
-use Rattle.fv_machine.proofs.BlockLaws.{Extends-does_all, RunsOn, left_of_block, left_of_arms, block_begins, block_more, block_left, block_passed, block_done, block_jumped}
-use Rattle.fv_machine.proofs.BlockLaws.{arm_cut, arm_true, arm_false, arms_done, at_statement, none_left, label_runs}
-use Rattle.fv_machine.proofs.Telling.{still, kept, both}
-use Rattle.array_assignments.specs.Loops.{BeginsLoop}
-use Rattle.array_assignments.specs.Moments.{seen, slots_of}
-use Rattle.array_transfers.specs.Unfinished.{ended_by, left_at, unfinished_by}
-use Rattle.array_transfers.proofs.Lacking.{begins_stuck, left_so, no_write}
+use Rattle.tree.specs.View.{statement_of, block_of, expression_of, declaration_of}
+use Rattle.tree.proofs.Equations.{statement_of-assign, statement_of-if, statement_of-do, statement_of-label, statement_of-go, statement_of-stop, statement_of-read, statement_of-print}
+use Rattle.tree.proofs.Equations.{statement_of-masked, statement_of-allocate, statement_of-deallocate}
+use Rattle.meaning.specs.Blocks.{within_loop}
+use Rattle.meaning.specs.Dialect.{fortran90}
+use Rattle.meaning.specs.Profile90.{IsStatement, AreArms}
+use Rattle.meaning.specs.Run.{loops, repeated, turn, does, does_all, increases}
+use Rattle.machine.specs.declared.progress.Left.TheVariants.{Halted}
+use Rattle.machine.specs.declared.progress.Halt.TheVariants.{Jump}
+use Rattle.machine.specs.Acts.{Runs}
+use Rattle.machine.specs.Moments.{located}
+use Rattle.machine.specs.Statements.{plain_arms}
+use Rattle.machine.specs.Jumps.{way_at}
+use Rattle.machine.proofs.Residuals.{residual, settled}
+use Rattle.machine.proofs.TurnLaws.{turn_cut, turn_left, turn_stuck, turn_done, at_turn, no_turn}
+use Rattle.machine.proofs.BlockLaws.{Extends-does_all, RunsOn, left_of_block, left_of_arms, block_begins, block_more, block_left, block_passed, block_done, block_jumped}
+use Rattle.machine.proofs.BlockLaws.{arm_cut, arm_true, arm_false, arms_done, at_statement, none_left, label_runs}
+use Rattle.machine.proofs.Telling.{still, kept, both}
+use Rattle.array_expressions.specs.assignments.Loops.{BeginsLoop}
+use Rattle.array_expressions.specs.assignments.Moments.{seen, slots_of}
+use Rattle.array_expressions.specs.transfers.Unfinished.{ended_by, left_at, unfinished_by}
+use Rattle.array_expressions.proofs.transfers.Lacking.{begins_stuck, left_so, no_write}
 use Rattle.run90.specs.Statements.{unfinished, Chooses}
 use Rattle.run90.proofs.ProgramLaws.{statement_has_arms}
 use Rattle.run90.proofs.Keeping.{suits_after, suits_step, keeps_statement, keeps_block, keeps_increases, loop_suits}
 use Rattle.run90.proofs.Going.{finished, landed_on, landed_off, block_here, statement_here, arm_here, arm_stuck, chosen_suits, never_left, block_unwritten, block_unfailed, went_on}
-use Rattle.fv_io.specs.Causes.{Rose}
+use Rattle.streams.specs.Causes.{Rose}
 use Rattle.run90.proofs.Allocating.{array_kind}
 use Rattle.run90.proofs.statements.+statements.Goals as goal
 

@@ -1,18 +1,18 @@
 use Rattle.std.proofs.Common.{◌≡◌, ℕ, ◌-◌, List, Option, Result, drop, map}
-use Rattle.fv_tree.specs.Plain.{Program, block}
-use Rattle.fv_tree.specs.View.{statement_of, block_of}
-use Rattle.fv_meaning.specs.Blocks.{Surroundings}
-use Rattle.fv_meaning.specs.Dialect.{fortran90}
-use Rattle.fv_meaning.specs.Profile90.{IsStatement, AreArms, IsBlock}
-use Rattle.fv_meaning.specs.Run.{repeated, turn, does, does_all}
-use Rattle.fv_machine.specs.Moments.{Seen}
-use Rattle.fv_machine.specs.declared.progress.Left.{Left}
-use Rattle.fv_machine.specs.Acts.{LimitedAct, Runs}
-use Rattle.fv_machine.specs.Statements.{plain_arms}
-use Rattle.fv_machine.specs.Jumps.{way_at}
-use Rattle.fv_machine.specs.Told.{IsTold}
-use Rattle.fv_machine.proofs.BlockLaws.{RunsOn, left_of_block, left_of_arms}
-use Rattle.array_assignments.specs.Moments.{seen}
+use Rattle.tree.specs.Plain.{Program, block}
+use Rattle.tree.specs.View.{statement_of, block_of}
+use Rattle.meaning.specs.Blocks.{Surroundings}
+use Rattle.meaning.specs.Dialect.{fortran90}
+use Rattle.meaning.specs.Profile90.{IsStatement, AreArms, IsBlock}
+use Rattle.meaning.specs.Run.{repeated, turn, does, does_all}
+use Rattle.machine.specs.Moments.{Seen}
+use Rattle.machine.specs.declared.progress.Left.{Left}
+use Rattle.machine.specs.Acts.{LimitedAct, Runs}
+use Rattle.machine.specs.Statements.{plain_arms}
+use Rattle.machine.specs.Jumps.{way_at}
+use Rattle.machine.specs.Told.{IsTold}
+use Rattle.machine.proofs.BlockLaws.{RunsOn, left_of_block, left_of_arms}
+use Rattle.array_expressions.specs.assignments.Moments.{seen}
 use Rattle.run90.specs.Suiting.{Suits}
 use Rattle.run90.proofs.statements.+statements.Given as goal
 

@@ -1,8 +1,8 @@
-use Rattle.fv_meaning.specs.Dialect.{fortran90}
-use Rattle.fv_machine.specs.declared.progress.Halt.TheVariants.{Stop}
-use Rattle.fv_machine.proofs.Residuals.{residual}
-use Rattle.fv_machine.proofs.ActLaws.{Runs-counts_step, Runs-cut, Runs-goes}
-use Rattle.array_assignments.specs.Moments.{seen}
+use Rattle.meaning.specs.Dialect.{fortran90}
+use Rattle.machine.specs.declared.progress.Halt.TheVariants.{Stop}
+use Rattle.machine.proofs.Residuals.{residual}
+use Rattle.machine.proofs.ActLaws.{Runs-counts_step, Runs-cut, Runs-goes}
+use Rattle.array_expressions.specs.assignments.Moments.{seen}
 use Rattle.run90.proofs.statements.stop.Goals as goal
 
 pub returns-in_err-count_step : goal.returns-in_err-count_step

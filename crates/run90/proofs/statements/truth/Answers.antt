@@ -1,14 +1,14 @@
 use Rattle.std.proofs.Common.{sym, ap, ◌∙◌, Bool}
-use Rattle.fv_tree.specs.Operators.{as_truth}
-use Rattle.fv_tree.specs.Steps.{◌>>=◌}
-use Rattle.fv_tree.specs.View.{expression_of}
-use Rattle.fv_tree.specs.declared.ops.Value.{Value}
-use Rattle.fv_meaning.specs.Dialect.{fortran90}
-use Rattle.fv_meaning.specs.Value.{value_of}
-use Rattle.fv_machine.specs.Moments.{located}
-use Rattle.fv_machine.proofs.Residuals.{residual}
-use Rattle.array_storage.specs.Stored.{store_in}
-use Rattle.array_assignments.proofs.Lacking.{asked_of}
+use Rattle.tree.specs.Operators.{as_truth}
+use Rattle.tree.specs.Steps.{◌>>=◌}
+use Rattle.tree.specs.View.{expression_of}
+use Rattle.tree.specs.declared.ops.Value.{Value}
+use Rattle.meaning.specs.Dialect.{fortran90}
+use Rattle.meaning.specs.Value.{value_of}
+use Rattle.machine.specs.Moments.{located}
+use Rattle.machine.proofs.Residuals.{residual}
+use Rattle.array_values.specs.storage.Stored.{store_in}
+use Rattle.array_expressions.proofs.assignments.Lacking.{asked_of}
 use Rattle.run90.proofs.Going.{first_stuck, located_ok}
 use Rattle.run90.proofs.statements.truth.Goals as goal
 

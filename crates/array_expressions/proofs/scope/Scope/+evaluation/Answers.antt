@@ -1,21 +1,21 @@
 use Rattle.std.proofs.Common.{◌≡◌, refl, sym, ap, ◌∙◌, subst, ℕ, ℤ, Bool, true, false, List, [], ◌∷◌, ◌++◌, map, drop, Result, Ok, Err, arith, rules}
 use Rattle.std.proofs.lemmas.Int.{ints}
-use Rattle.fv_tree.specs.Operators.{apply, call}
-use Rattle.fv_tree.specs.Plain.{expressions, subscripts}
-use Rattle.fv_tree.specs.View.{expression_of, subscript_of, reference_of, loop_of, loops}
+use Rattle.tree.specs.Operators.{apply, call}
+use Rattle.tree.specs.Plain.{expressions, subscripts}
+use Rattle.tree.specs.View.{expression_of, subscript_of, reference_of, loop_of, loops}
 use Rattle.std.proofs.Common.{to_z, of_z, pos, ◌+ℤ◌, ◌-ℤ◌, ◌<◌}
 use Rattle.std.specs.Int.{w128}
-use Rattle.fv_tree.specs.declared.exprs.Ref.{out-Ref}
-use Rattle.fv_tree.specs.declared.exprs.Turn.{out-Turn}
-use Rattle.fv_tree.specs.declared.exprs.Sub.{Sub}
-use Rattle.fv_tree.specs.declared.ops.Value.{Value}
-use Rattle.fv_tree.specs.declared.ops.Value.TheVariants.{Int}
-use Rattle.fv_tree.specs.declared.ops.Fault.{Fault}
-use Rattle.fv_meaning.specs.ArrayValues.{Array, settled, scalar, spread}
-use Rattle.fv_meaning.specs.Dialect.{fortran90}
-use Rattle.fv_meaning.specs.Store.{Store}
-use Rattle.fv_meaning.specs.Sections.{not_negative}
-use Rattle.fv_meaning.specs.Value.{is_scalar, subscript_value, selector, selector_of, value_of, for_numbers}
+use Rattle.tree.specs.declared.exprs.Ref.{out-Ref}
+use Rattle.tree.specs.declared.exprs.Turn.{out-Turn}
+use Rattle.tree.specs.declared.exprs.Sub.{Sub}
+use Rattle.tree.specs.declared.ops.Value.{Value}
+use Rattle.tree.specs.declared.ops.Value.TheVariants.{Int}
+use Rattle.tree.specs.declared.ops.Fault.{Fault}
+use Rattle.meaning.specs.ArrayValues.{Array, settled, scalar, spread}
+use Rattle.meaning.specs.Dialect.{fortran90}
+use Rattle.meaning.specs.Store.{Store}
+use Rattle.meaning.specs.Sections.{not_negative}
+use Rattle.meaning.specs.Value.{is_scalar, subscript_value, selector, selector_of, value_of, for_numbers}
 use Rattle.array_values.specs.declared.prepared.Prepared.{Prepared}
 use Rattle.array_values.specs.declared.prepared.Prepared.TheVariants as prepared
 use Rattle.array_values.specs.declared.sections.Selector.{Selector as Selector'}
@@ -25,8 +25,8 @@ use Rattle.array_values.specs.Selections.{selector_in}
 use Rattle.array_values.proofs.Equations.{known_is, call_is}
 use Rattle.array_values.proofs.Steps.{residual, same, list_more, list_done}
 use Rattle.array_values.proofs.Steps as steps
-use Rattle.array_storage.specs.Parts.{part_array}
-use Rattle.array_storage.specs.Stored.{store_in}
+use Rattle.array_values.specs.storage.Parts.{part_array}
+use Rattle.array_values.specs.storage.Stored.{store_in}
 use Rattle.array_expressions.specs.Appending.{Appends}
 use Rattle.array_expressions.specs.Scopes.{store_at, held_at, constructed}
 use Rattle.array_expressions.proofs.EvaluationLaws.{appended_fails, appended_values, listed_fails, values_begun, values_fault, values_more, values_end, subscripts_begun, selectors_begun, selectors_more, arguments_begun, argument_fails, argument_unshaped, argument_more, arguments_end, HaveNumbers, numbers_begun, numbers_past, numbers_fault, numbers_more, numbers_end, fewer_turns, next_is}

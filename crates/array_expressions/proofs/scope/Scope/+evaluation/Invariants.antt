@@ -1,10 +1,10 @@
 use Rattle.std.proofs.Common.{◌≡◌, ◌+◌, [], drop, map, pos, ◌+ℤ◌, ◌-ℤ◌}
-use Rattle.fv_tree.specs.Plain.{expressions, subscripts}
-use Rattle.fv_tree.specs.View.{expression_of, subscript_of, loop_of, loops}
-use Rattle.fv_tree.specs.declared.exprs.Ref.{out-Ref}
-use Rattle.fv_meaning.specs.Dialect.{fortran90}
-use Rattle.fv_meaning.specs.Sections.{not_negative}
-use Rattle.fv_meaning.specs.Value.{values_of, subscript_value, subscript_values, selector, selectors, arguments_of}
+use Rattle.tree.specs.Plain.{expressions, subscripts}
+use Rattle.tree.specs.View.{expression_of, subscript_of, loop_of, loops}
+use Rattle.tree.specs.declared.exprs.Ref.{out-Ref}
+use Rattle.meaning.specs.Dialect.{fortran90}
+use Rattle.meaning.specs.Sections.{not_negative}
+use Rattle.meaning.specs.Value.{values_of, subscript_value, subscript_values, selector, selectors, arguments_of}
 use Rattle.array_values.proofs.Steps.{left_of}
 use Rattle.array_values.specs.Arrays.{elements_in}
 use Rattle.array_values.specs.Selections.{selector_in}

@@ -1,7 +1,7 @@
 use Rattle.std.proofs.Common.{◌≡◌, map, drop}
-use Rattle.fv_tree.specs.Plain.{expressions, subscripts}
-use Rattle.fv_tree.specs.View.{expression_of, subscript_of}
-use Rattle.fv_meaning.specs.Value.{are_scalar, are_indices}
+use Rattle.tree.specs.Plain.{expressions, subscripts}
+use Rattle.tree.specs.View.{expression_of, subscript_of}
+use Rattle.meaning.specs.Value.{are_scalar, are_indices}
 use Rattle.array_expressions.specs.Scopes.{bounds_at}
 use Rattle.array_expressions.proofs.scope.Scope.+ranks.Given as goal
 

@@ -1,6 +1,6 @@
 use Rattle.std.proofs.Common.{sym, ◌∙◌, arith, rules}
 use Rattle.array_values.proofs.Steps.{residual, settled}
-use Rattle.array_storage.specs.Stored.{slots_in}
+use Rattle.array_values.specs.storage.Stored.{slots_in}
 use Rattle.array_expressions.proofs.HeldLaws.{held_fault, held_found, element_held, scalar_held, local_held, no_numbers, some_numbers}
 use Rattle.array_expressions.proofs.scope.Scope.held.Goals as goal
 

@@ -1,11 +1,11 @@
 use Rattle.std.proofs.Common.{sym, ap, ◌∙◌, Result, Ok}
-use Rattle.fv_tree.specs.Steps.{◌>>=◌}
-use Rattle.fv_tree.specs.declared.ops.Value.{Value}
-use Rattle.fv_tree.specs.declared.ops.Fault.{Fault}
-use Rattle.fv_meaning.specs.ArrayValues.{Array, scalar}
+use Rattle.tree.specs.Steps.{◌>>=◌}
+use Rattle.tree.specs.declared.ops.Value.{Value}
+use Rattle.tree.specs.declared.ops.Fault.{Fault}
+use Rattle.meaning.specs.ArrayValues.{Array, scalar}
 use Rattle.array_values.specs.Arrays.{array_in}
 use Rattle.array_values.proofs.Steps.{residual, same}
-use Rattle.array_storage.specs.Stored.{store_in}
+use Rattle.array_values.specs.storage.Stored.{store_in}
 use Rattle.array_expressions.proofs.HeldLaws.{whole_kept, scalar_whole}
 use Rattle.array_expressions.proofs.scope.Scope.whole.Goals as goal
 

@@ -1,6 +1,6 @@
 use Rattle.std.proofs.Common.{◌≡◌, sym, subst, ◌∙◌, arith, rules, [], pos}
-use Rattle.fv_tree.specs.declared.ops.Value.TheVariants.{Int}
-use Rattle.fv_tree.specs.Operators.{as_number, as_numbers}
+use Rattle.tree.specs.declared.ops.Value.TheVariants.{Int}
+use Rattle.tree.specs.Operators.{as_number, as_numbers}
 use Rattle.array_values.proofs.Steps.{residual, settled, left_of, left_begun, list_fault, list_more, list_done}
 use Rattle.array_values.proofs.Numbers.{numbers_each}
 use Rattle.array_values.proofs.known.Known.numbers.Goals as goal

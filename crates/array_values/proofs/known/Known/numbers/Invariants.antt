@@ -1,5 +1,5 @@
 use Rattle.std.proofs.Common.{◌≡◌, drop}
-use Rattle.fv_tree.specs.Operators.{as_number, as_numbers}
+use Rattle.tree.specs.Operators.{as_number, as_numbers}
 use Rattle.array_values.proofs.Steps.{left_of}
 use Rattle.array_values.proofs.known.Known.numbers.Given as goal
 

@@ -1,8 +1,8 @@
 use Rattle.std.proofs.Common.{◌≡◌, refl, sym, subst, ◌∙◌, arith, rules, pos}
-use Rattle.fv_tree.specs.declared.ops.Value.TheVariants.{Int}
-use Rattle.fv_tree.specs.declared.gathered.Gathered.TheVariants.{Nothing}
-use Rattle.fv_tree.specs.Gathered.{gathered}
-use Rattle.fv_tree.proofs.Reductions.{whole-of}
+use Rattle.tree.specs.declared.ops.Value.TheVariants.{Int}
+use Rattle.tree.specs.declared.gathered.Gathered.TheVariants.{Nothing}
+use Rattle.tree.specs.Gathered.{gathered}
+use Rattle.tree.proofs.Reductions.{whole-of}
 use Rattle.array_values.specs.Arrays.{reduced_values}
 use Rattle.array_values.proofs.Steps.{residual, settled}
 use Rattle.array_values.proofs.Numbers.{left_to_reduce, reduce_begun, reduce_fault, reduce_more, reduce_done}

@@ -1,5 +1,5 @@
 use Rattle.std.proofs.Common.{◌≡◌, ap, sym, subst, ◌∙◌, ◌-◌, arith, map}
-use Rattle.fv_meaning.specs.ArrayValues.{each, positions, size, counted}
+use Rattle.meaning.specs.ArrayValues.{each, positions, size, counted}
 use Rattle.array_values.specs.Arrays.{elements_in}
 use Rattle.array_values.specs.Positions.{position_at}
 use Rattle.array_values.proofs.Positions.{positions_are}

@@ -1,7 +1,7 @@
 use Rattle.std.proofs.Common.{◌≡◌, ◌<◌, sym, ap, subst, ◌∙◌, ◌-◌, arith, [], ◌∷◌, Result, Ok, Bool}
 use Rattle.std.proofs.lemmas.List.Elements.{All-append}
-use Rattle.fv_tree.specs.declared.ops.Fault.{Fault}
-use Rattle.fv_meaning.specs.ArrayValues.{size, counted}
+use Rattle.tree.specs.declared.ops.Fault.{Fault}
+use Rattle.meaning.specs.ArrayValues.{size, counted}
 use Rattle.array_values.specs.Arrays.{elements_in}
 use Rattle.array_values.specs.Masks.{true_places}
 use Rattle.array_values.proofs.Steps.{residual, all_of_one}

@@ -1,6 +1,6 @@
 use Rattle.std.proofs.Common.{◌≡◌, ◌-◌, ◌<◌}
 use Rattle.std.specs.Prelude.{All}
-use Rattle.fv_meaning.specs.ArrayValues.{size, counted}
+use Rattle.meaning.specs.ArrayValues.{size, counted}
 use Rattle.array_values.specs.Arrays.{elements_in}
 use Rattle.array_values.specs.Masks.{true_places}
 use Rattle.array_values.proofs.Masks.{left_true}

@@ -1,5 +1,5 @@
 use Rattle.std.proofs.Common.{◌≡◌, sym, ap, subst, ◌∙◌, arith, ℕ}
-use Rattle.fv_meaning.specs.ArrayValues.{each}
+use Rattle.meaning.specs.ArrayValues.{each}
 use Rattle.array_values.specs.Positions.{position_at}
 use Rattle.array_values.specs.Arrays.{elements_in}
 use Rattle.array_values.proofs.Steps.{residual, left_of, left_begun, list_fault, list_more, list_done}

@@ -1,5 +1,5 @@
 use Rattle.std.proofs.Common.{◌≡◌, drop}
-use Rattle.fv_meaning.specs.ArrayValues.{each}
+use Rattle.meaning.specs.ArrayValues.{each}
 use Rattle.array_values.specs.Arrays.{elements_in}
 use Rattle.array_values.specs.Positions.{position_at}
 use Rattle.array_values.proofs.Steps.{left_of}

@@ -1,7 +1,7 @@
 use Rattle.std.proofs.Common.{◌++◌, map, ap, ◌∙◌}
 use Rattle.std.specs.List.{list_any}
 use Rattle.f77_grammar.specs.program.Declarations.{bounds_of_entities}
-use Rattle.f77_syntax.specs.Views.{entity_of}
+use Rattle.f77_grammar.specs.syntax.Views.{entity_of}
 use Rattle.f77_names.specs.Seen.{is_unknown_use}
 use Rattle.f77_names.specs.UsesView.{plain_use}
 use Rattle.f77_names.proofs.DeclarationLaws.{unknown_same, none_own}

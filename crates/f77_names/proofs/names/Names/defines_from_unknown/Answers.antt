@@ -1,9 +1,9 @@
 use Rattle.std.proofs.Common.{◌∷◌, ◌++◌, ◌||◌, ◌+◌, map, drop, refl, sym, ap, ◌∙◌, arith}
 use Rattle.std.specs.List.{list_any}
-use Rattle.fv_tree.specs.View.{expression_of}
+use Rattle.tree.specs.View.{expression_of}
 use Rattle.f77_grammar.specs.program.Uses as plain
 use Rattle.f77_grammar.specs.program.Declarations.{defines_from_unknown}
-use Rattle.f77_syntax.specs.Views.{constant_of}
+use Rattle.f77_grammar.specs.syntax.Views.{constant_of}
 use Rattle.f77_names.specs.UsesView.{plain_use}
 use Rattle.f77_names.specs.Seen.{is_unknown_use, defined_after}
 use Rattle.f77_names.proofs.SeenLaws.{behind_more}

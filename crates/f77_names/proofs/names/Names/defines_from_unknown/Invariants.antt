@@ -1,6 +1,6 @@
 use Rattle.std.proofs.Common.{◌≡◌, ℕ, List, map, drop}
 use Rattle.f77_grammar.specs.program.Declarations.{defines_from_unknown}
-use Rattle.f77_syntax.specs.Views.{constant_of}
+use Rattle.f77_grammar.specs.syntax.Views.{constant_of}
 use Rattle.f77_names.specs.Seen.{Define, defined_after, AreDefined}
 use Rattle.f77_names.proofs.names.Names.defines_from_unknown.Given as goal
 

@@ -1,6 +1,6 @@
 use Rattle.std.proofs.Common.{ap, ◌∙◌}
 use Rattle.f77_grammar.specs.program.Declarations.{bounds_of_entities, defines_from_unknown, has_unknown}
-use Rattle.f77_syntax.specs.Views.{statement_of}
+use Rattle.f77_grammar.specs.syntax.Views.{statement_of}
 use Rattle.f77_names.proofs.DeclarationLaws.{unknown_first, unknown_second}
 use Rattle.f77_names.proofs.names.Names.has_unknown_constant.Goals as goal
 

@@ -2,7 +2,7 @@ use Rattle.std.proofs.Common.{◌++◌, map, sym, ap, ◌∙◌}
 use Rattle.std.proofs.lemmas.Bool.{false≢true}
 use Rattle.std.proofs.lemmas.Result.{IfOk-weaker}
 use Rattle.f77_grammar.specs.program.Uses as plain
-use Rattle.f77_syntax.specs.Views.{statement_of}
+use Rattle.f77_grammar.specs.syntax.Views.{statement_of}
 use Rattle.f77_names.specs.UsesView.{plain_use}
 use Rattle.f77_names.specs.Seen.{declares_again, Declares, Passes}
 use Rattle.f77_names.proofs.SeenLaws.{seen_defined, seen_same}

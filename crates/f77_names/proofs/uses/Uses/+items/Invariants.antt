@@ -1,6 +1,6 @@
 use Rattle.std.proofs.Common.{◌≡◌, ◌++◌, map, take}
-use Rattle.fv_tree.specs.Plain.{items}
-use Rattle.fv_tree.specs.View.{item_of}
+use Rattle.tree.specs.Plain.{items}
+use Rattle.tree.specs.View.{item_of}
 use Rattle.f77_grammar.specs.program.Uses as plain
 use Rattle.f77_names.specs.UsesView.{listed}
 use Rattle.f77_names.proofs.uses.Uses.+items.Given as goal

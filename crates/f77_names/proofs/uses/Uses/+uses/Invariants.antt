@@ -1,6 +1,6 @@
 use Rattle.std.proofs.Common.{◌≡◌, ◌++◌, map, take}
-use Rattle.fv_tree.specs.Plain.{subscripts, expressions}
-use Rattle.fv_tree.specs.View.{expression_of, subscript_of}
+use Rattle.tree.specs.Plain.{subscripts, expressions}
+use Rattle.tree.specs.View.{expression_of, subscript_of}
 use Rattle.f77_grammar.specs.program.Uses as plain
 use Rattle.f77_names.specs.UsesView.{listed}
 use Rattle.f77_names.proofs.uses.Uses.+uses.Given as goal

@@ -2,7 +2,7 @@ use Rattle.std.proofs.Common.{map, take, ◌+◌, arith}
 use Rattle.f77_grammar.specs.program.Uses as plain
 use Rattle.f77_grammar.specs.program.Declarations.{bounds_of_entities}
 use Rattle.f77_names.specs.UsesView.{listed}
-use Rattle.f77_syntax.specs.Views.{entity_of, bounds_of}
+use Rattle.f77_grammar.specs.syntax.Views.{entity_of, bounds_of}
 use Rattle.f77_names.proofs.UseLaws.{added}
 use Rattle.f77_names.proofs.DeclarationLaws.{entities_more}
 use Rattle.f77_names.proofs.uses.Uses.add_all_bounds.Goals as goal

@@ -1,6 +1,6 @@
 use Rattle.std.proofs.Common.{◌≡◌, ◌++◌, map, take}
 use Rattle.f77_grammar.specs.program.Declarations.{bounds_of_entities}
-use Rattle.f77_syntax.specs.Views.{entity_of}
+use Rattle.f77_grammar.specs.syntax.Views.{entity_of}
 use Rattle.f77_names.specs.UsesView.{listed}
 use Rattle.f77_names.proofs.uses.Uses.add_all_bounds.Given as goal
 

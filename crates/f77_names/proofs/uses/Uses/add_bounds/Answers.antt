@@ -1,8 +1,8 @@
 use Rattle.std.proofs.Common.{◌++◌, map, take, ◌+◌, arith}
-use Rattle.fv_tree.specs.View.{expression_of}
+use Rattle.tree.specs.View.{expression_of}
 use Rattle.f77_grammar.specs.program.Uses as plain
 use Rattle.f77_names.specs.UsesView.{listed}
-use Rattle.f77_syntax.specs.Views.{bounds_of}
+use Rattle.f77_grammar.specs.syntax.Views.{bounds_of}
 use Rattle.f77_names.proofs.UseLaws.{added}
 use Rattle.f77_names.proofs.StatementUseLaws.{bounds_more}
 use Rattle.f77_names.proofs.uses.Uses.add_bounds.Goals as goal

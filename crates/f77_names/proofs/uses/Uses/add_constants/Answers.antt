@@ -2,7 +2,7 @@ use Rattle.std.proofs.Common.{map, take, ◌+◌, arith}
 use Rattle.std.specs.List.{flat_map}
 use Rattle.f77_grammar.specs.program.Uses as plain
 use Rattle.f77_names.specs.UsesView.{listed}
-use Rattle.f77_syntax.specs.Views.{constant_of}
+use Rattle.f77_grammar.specs.syntax.Views.{constant_of}
 use Rattle.f77_names.proofs.UseLaws.{added}
 use Rattle.f77_names.proofs.StatementUseLaws.{flat_more}
 use Rattle.f77_names.proofs.uses.Uses.add_constants.Goals as goal

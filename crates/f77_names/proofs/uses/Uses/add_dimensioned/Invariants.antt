@@ -2,7 +2,7 @@ use Rattle.std.proofs.Common.{◌≡◌, ◌++◌, map, take}
 use Rattle.std.specs.List.{flat_map}
 use Rattle.f77_grammar.specs.program.Uses as plain
 use Rattle.f77_names.specs.UsesView.{listed}
-use Rattle.f77_syntax.specs.Views.{entity_of}
+use Rattle.f77_grammar.specs.syntax.Views.{entity_of}
 use Rattle.f77_names.proofs.uses.Uses.add_dimensioned.Given as goal
 
 abbrev pub invariant-loop-entity : goal.invariant-loop-entity

@@ -1,7 +1,7 @@
 use Rattle.std.proofs.Common.{◌≡◌, [], ◌∷◌, ◌++◌, sym, subst, rules}
-use Rattle.fv_tree.specs.declared.refusals.Refused.TheVariants as refused
-use Rattle.fixed_form.specs.Card.{card_of}
-use Rattle.f77_syntax.specs.Views.{text_of}
+use Rattle.tree.specs.declared.refusals.Refused.TheVariants as refused
+use Rattle.f77_cards.specs.Card.{card_of}
+use Rattle.f77_grammar.specs.syntax.Views.{text_of}
 use Rattle.f77_checks.specs.Outcomes.{IfRefusal}
 use Rattle.f77_read.specs.Cards.{IsRefusedAlone, AreTried, IsRefusedFirst}
 use Rattle.f77_read.proofs.CardLaws.{tried_read, tried_refused}

@@ -1,5 +1,5 @@
 use Rattle.std.proofs.Common.{◌≡◌, map, take}
-use Rattle.fv_tree.specs.View.{item_of}
+use Rattle.tree.specs.View.{item_of}
 use Rattle.f77_grammar.specs.program.Tree as tree
 use Rattle.f77_tree.specs.Parts.{known_uses, known_store}
 use Rattle.f77_tree.proofs.resolver.Resolver.+items.Given as goal

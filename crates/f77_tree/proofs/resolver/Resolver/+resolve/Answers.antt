@@ -1,6 +1,6 @@
 use Rattle.std.proofs.Common.{◌∙◌, sym, ap, map}
-use Rattle.fv_tree.specs.Plain.{Reference, Subscript, subscripts}
-use Rattle.fv_tree.proofs.Equations.{reference_of-made}
+use Rattle.tree.specs.Plain.{Reference, Subscript, subscripts}
+use Rattle.tree.proofs.Equations.{reference_of-made}
 use Rattle.f77_tree.specs.Parts.{known_uses, known_store}
 use Rattle.f77_tree.proofs.ResolvedLaws.{reference-resolved}
 use Rattle.f77_tree.proofs.resolver.Resolver.+resolve.Goals as goal

@@ -1,7 +1,7 @@
 use Rattle.std.proofs.Common.{[], ◌∷◌, ◌++◌, ap, ◌∙◌}
-use Rattle.fv_tree.specs.Plain as plain
-use Rattle.fv_tree.specs.View.{expression_of, block_of}
-use Rattle.fv_tree.specs.declared.stmts.Arm.{roll-Arm}
+use Rattle.tree.specs.Plain as plain
+use Rattle.tree.specs.View.{expression_of, block_of}
+use Rattle.tree.specs.declared.stmts.Arm.{roll-Arm}
 use Rattle.f77_grammar.specs.program.Tree as tree
 use Rattle.f77_tree.specs.Parts.{known_uses, known_store}
 use Rattle.f77_tree.proofs.SimpleLaws.{branch-is}

@@ -1,8 +1,8 @@
 use Rattle.std.proofs.Common.{◌≡◌, map}
-use Rattle.fv_tree.specs.View.{statement_of as tree_statement_of}
-use Rattle.f77_tree_laws.specs.Steps as steps
+use Rattle.tree.specs.View.{statement_of as tree_statement_of}
+use Rattle.f77_laws.specs.trees.Steps as steps
 use Rattle.f77_tree.specs.Parts.{known_uses, known_store}
-use Rattle.f77_syntax.specs.Views.{labelled_of, statement_of}
+use Rattle.f77_grammar.specs.syntax.Views.{labelled_of, statement_of}
 use Rattle.f77_tree.specs.declared.rests.Rest.{Rest}
 use Rattle.f77_tree.specs.Rests.{rest_of, heading_of}
 use Rattle.f77_tree.proofs.BegunLaws.{do_is}

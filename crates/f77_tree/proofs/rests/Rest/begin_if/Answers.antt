@@ -1,6 +1,6 @@
 use Rattle.std.proofs.Common.{◌≡◌, None, map, reverse, ◌∙◌}
-use Rattle.fv_tree.specs.View.{expression_of, statement_of}
-use Rattle.f77_tree_laws.specs.Steps as steps
+use Rattle.tree.specs.View.{expression_of, statement_of}
+use Rattle.f77_laws.specs.trees.Steps as steps
 use Rattle.f77_tree.specs.declared.rests.Rest.{Rest}
 use Rattle.f77_tree.specs.Rests.{pieces_in, rest_with, rest_of}
 use Rattle.f77_tree.proofs.RestLaws.{if_is, ok_follows}

@@ -1,7 +1,7 @@
 use Rattle.std.proofs.Common.{map, ap, ◌∙◌, refl}
-use Rattle.fv_tree.specs.Plain as plain
-use Rattle.fv_tree.specs.View.{statement_of}
-use Rattle.fv_tree.proofs.Equations.{block_of-made}
+use Rattle.tree.specs.Plain as plain
+use Rattle.tree.specs.View.{statement_of}
+use Rattle.tree.proofs.Equations.{block_of-made}
 use Rattle.f77_tree.proofs.RestLaws.{end_is}
 use Rattle.f77_tree.proofs.rests.Rest.end_arm.Goals as goal
 

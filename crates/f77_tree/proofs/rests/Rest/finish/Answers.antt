@@ -1,7 +1,7 @@
 use Rattle.std.proofs.Common.{◌≡◌}
-use Rattle.fv_tree.specs.View.{block_of}
-use Rattle.fv_tree.specs.declared.stmts.Block.{Block}
-use Rattle.f77_tree_laws.specs.Steps as steps
+use Rattle.tree.specs.View.{block_of}
+use Rattle.tree.specs.declared.stmts.Block.{Block}
+use Rattle.f77_laws.specs.trees.Steps as steps
 use Rattle.f77_tree.specs.Rests.{pieces_in, rest_of}
 use Rattle.f77_tree.proofs.RestLaws.{finish_is, ok_follows}
 use Rattle.f77_tree.proofs.rests.Rest.finish.Goals as goal

@@ -1,5 +1,5 @@
 use Rattle.std.proofs.Common.{arith, ◌≡◌, ◌<◌, length, get_or, rules}
-use Rattle.f90_expr.specs.Reading.{IsMadeOf}
+use Rattle.f90_expressions.specs.Reading.{IsMadeOf}
 use Rattle.f90_trees.specs.Hiding.{function_in}
 use Rattle.f90_blocks.proofs.StatementTrees.LoopLaws.{passed}
 use Rattle.f90_blocks.proofs.StatementTrees.PartLaws.{trees_more}

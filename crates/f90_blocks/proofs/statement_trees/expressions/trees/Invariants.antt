@@ -1,8 +1,8 @@
 use Rattle.std.proofs.Common.{◌≡◌, List, map}
-use Rattle.fv_tree.specs.View.{expression_of}
+use Rattle.tree.specs.View.{expression_of}
 use Rattle.f90_grammar.specs.Phrases.{Phrase}
-use Rattle.f90_expr.specs.Reading.{IsMadeOf}
-use Rattle.f90_statements.specs.Views.{AreOf}
+use Rattle.f90_expressions.specs.Reading.{IsMadeOf}
+use Rattle.f90_statement.specs.Views.{AreOf}
 use Rattle.f90_trees.specs.Hiding.{function_in}
 use Rattle.f90_blocks.specs.statement_trees.Results.{held_trees}
 use Rattle.f90_blocks.proofs.StatementTrees.LoopLaws.{IsUpTo}

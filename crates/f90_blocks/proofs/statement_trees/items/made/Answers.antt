@@ -1,5 +1,5 @@
 use Rattle.std.proofs.Common.{arith, ◌≡◌, ◌∙◌, ◌<◌, ap, sym, [], length, get_or, rules}
-use Rattle.f90_items.specs.Views.{IsNodeOf}
+use Rattle.f90_statement.specs.items.Views.{IsNodeOf}
 use Rattle.f90_trees.specs.Hiding.{function_in}
 use Rattle.f90_blocks.specs.statement_trees.Lists.{levels, with_part}
 use Rattle.f90_blocks.proofs.StatementTrees.ListLaws.{one_more}

@@ -1,7 +1,7 @@
 use Rattle.std.proofs.Common.{◌≡◌, List, []}
-use Rattle.f90_items.specs.Flat as flats
-use Rattle.f90_items.specs.Views.{IsNodeOf}
-use Rattle.f90_statements.specs.Views.{AreOf}
+use Rattle.f90_statement.specs.items.Flat as flats
+use Rattle.f90_statement.specs.items.Views.{IsNodeOf}
+use Rattle.f90_statement.specs.Views.{AreOf}
 use Rattle.f90_trees.specs.Hiding.{function_in}
 use Rattle.f90_blocks.specs.statement_trees.Lists.{levels, levels_seen, with_parts}
 use Rattle.f90_blocks.proofs.StatementTrees.LoopLaws.{IsUpTo}

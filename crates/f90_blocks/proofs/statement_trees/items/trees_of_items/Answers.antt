@@ -1,4 +1,4 @@
-use Rattle.f90_items.specs.Flat.{flat_items}
+use Rattle.f90_statement.specs.items.Flat.{flat_items}
 use Rattle.f90_trees.specs.Hiding.{function_in}
 use Rattle.f90_blocks.proofs.StatementTrees.ListLaws.{whole_list}
 use Rattle.f90_blocks.proofs.StatementTrees.PartLaws.{if_ok, parts_of_list, some_parts}

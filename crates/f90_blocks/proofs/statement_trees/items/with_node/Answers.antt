@@ -1,6 +1,6 @@
 use Rattle.std.proofs.Common.{◌≡◌, [], ◌∷◌, ◌++◌, refl, subst, rules}
-use Rattle.f90_items.specs.Views.{IsNodeOf}
-use Rattle.f90_items.specs.declared.nodes.Node.{Node}
+use Rattle.f90_statement.specs.items.Views.{IsNodeOf}
+use Rattle.f90_statement.specs.declared.items.nodes.Node.{Node}
 use Rattle.f90_trees.specs.Hiding.{function_in}
 use Rattle.f90_blocks.proofs.StatementTrees.ListLaws.{value_made, text_made, list_ended, list_alone}
 use Rattle.f90_blocks.proofs.StatementTrees.PartLaws.{if_ok}

@@ -1,7 +1,7 @@
 use Rattle.std.proofs.Common.{subst}
 use Rattle.f90_trees.specs.Hiding.{function_in}
-use Rattle.f90_statements.specs.Views.{IsActionOf}
-use Rattle.f90_statements.specs.declared.nodes.Action.{Action}
+use Rattle.f90_statement.specs.Views.{IsActionOf}
+use Rattle.f90_statement.specs.declared.nodes.Action.{Action}
 use Rattle.f90_blocks.proofs.StatementTrees.DeedLaws.{go_done, stop_done, read_done, print_done}
 use Rattle.f90_blocks.proofs.statement_trees.statements.act.Goals as goal
 

@@ -1,7 +1,7 @@
 use Rattle.std.proofs.Common.{subst}
 use Rattle.f90_trees.specs.Hiding.{function_in}
-use Rattle.f90_statements.specs.Views.{IsStatementOf}
-use Rattle.f90_statements.specs.declared.nodes.Statement.{Statement}
+use Rattle.f90_statement.specs.Views.{IsStatementOf}
+use Rattle.f90_statement.specs.declared.nodes.Statement.{Statement}
 use Rattle.f90_blocks.proofs.StatementTrees.DeedLaws.{alone_given}
 use Rattle.f90_blocks.proofs.StatementTrees.FormLaws.{do_given, deallocate_given}
 use Rattle.f90_blocks.proofs.statement_trees.statements.tree_at.Goals as goal

@@ -1,6 +1,6 @@
 use Rattle.std.proofs.Common.{arith, ◌≡◌, ◌<◌, ◌≤◌, true, false, length, get_or, sym, ◌∙◌, rules}
 use Rattle.f90_grammar.specs.Suited.{Suits}
-use Rattle.f90_places.specs.forms.Places.{IsPlacedOf}
+use Rattle.f90_blocks.specs.places.forms.Places.{IsPlacedOf}
 use Rattle.f90_blocks.proofs.StatementTrees.LoopLaws.{one_of}
 use Rattle.f90_read.proofs.F90Suits.Walks.{begun, passed, all_good, none_bad, first_bad, differ}
 use Rattle.f90_read.proofs.f90_suits.suited.first_unsuited.Goals as goal

@@ -1,10 +1,10 @@
 use Rattle.std.proofs.Common.{List}
-use Rattle.fv_tree.specs.Plain.{Declaration}
-use Rattle.f90_kinds.specs.declarations.Names.{AreNamesOf}
-use Rattle.f90_places.specs.forms.Places.{IsPlacedOf}
+use Rattle.tree.specs.Plain.{Declaration}
+use Rattle.f90_names.specs.kinds.declarations.Names.{AreNamesOf}
+use Rattle.f90_blocks.specs.places.forms.Places.{IsPlacedOf}
 use Rattle.f90_grammar.specs.Blocks as grammar
 use Rattle.f90_grammar.specs.Suited.{Suits}
-use Rattle.f90_statements.specs.Views.{AreOf}
+use Rattle.f90_statement.specs.Views.{AreOf}
 use Rattle.f90_read.specs.f90_suits.Ready.{AreReady}
 use Rattle.f90_read.proofs.F90Suits.Walks.{AreGood}
 use Rattle.f90_read.proofs.f90_suits.suited.first_unsuited.Given as goal

@@ -3,8 +3,8 @@ use Rattle.f90_blocks.specs.declared.nodes.Treed.{Treed}
 use Rattle.f90_blocks.specs.Treed.{IsTreedOf}
 use Rattle.f90_grammar.specs.Blocks.{Placed}
 use Rattle.f90_grammar.specs.Reading.{function_by}
-use Rattle.f90_statements.specs.Views.{AreOf}
-use Rattle.f90_places.specs.forms.Places.{IsPlacedOf}
+use Rattle.f90_statement.specs.Views.{AreOf}
+use Rattle.f90_blocks.specs.places.forms.Places.{IsPlacedOf}
 use Rattle.f90_blocks.proofs.StatementTrees.LoopLaws.{passed, ended, one_of, are_more}
 use Rattle.f90_read.proofs.F90Suits.Texts.{IsGoodPlaced, TreesUpTo, trees_begun}
 use Rattle.f90_read.proofs.f90_suits.treed.trees.Goals as goal

@@ -1,9 +1,9 @@
 use Rattle.std.proofs.Common.{List}
-use Rattle.fv_tree.specs.Plain.{Declaration}
-use Rattle.f90_places.specs.forms.Places.{IsPlacedOf}
+use Rattle.tree.specs.Plain.{Declaration}
+use Rattle.f90_blocks.specs.places.forms.Places.{IsPlacedOf}
 use Rattle.f90_grammar.specs.Blocks as grammar
 use Rattle.f90_grammar.specs.Suited.{Suits}
-use Rattle.f90_statements.specs.Views.{AreOf}
+use Rattle.f90_statement.specs.Views.{AreOf}
 use Rattle.f90_read.specs.f90_suits.Ready.{AreReady, HoldsOfAll}
 use Rattle.f90_read.proofs.F90Suits.Texts.{TreesUpTo}
 use Rattle.f90_read.proofs.f90_suits.treed.trees.Given as goal

@@ -1,6 +1,6 @@
 use Rattle.std.proofs.Common.{◌-◌, arith, sym, subst}
-use Rattle.f90_places.specs.declared.forms.placing.Placed.{Placed}
-use Rattle.f90_statements.specs.Views.{IsStatementOf}
+use Rattle.f90_blocks.specs.declared.places.forms.placing.Placed.{Placed}
+use Rattle.f90_statement.specs.Views.{IsStatementOf}
 use Rattle.f90_read.proofs.OfSurroundings.JumpLaws.{start, stop, further}
 use Rattle.f90_read.proofs.surroundings.jumping.first_wrong_jump.Goals as goal
 

@@ -1,7 +1,7 @@
 use Rattle.std.proofs.Common.{List}
 use Rattle.f90_grammar.specs.Blocks as grammar
-use Rattle.f90_places.specs.forms.Places.{IsPlacedOf}
-use Rattle.f90_statements.specs.Views.{AreOf}
+use Rattle.f90_blocks.specs.places.forms.Places.{IsPlacedOf}
+use Rattle.f90_statement.specs.Views.{AreOf}
 use Rattle.f90_read.proofs.OfSurroundings.JumpLaws.{IsBehind}
 use Rattle.f90_read.proofs.surroundings.jumping.first_wrong_jump.Given as goal
 

@@ -1,6 +1,6 @@
 use Rattle.std.proofs.Common.{arith, sym, ap, ◌∙◌, List, ℕ}
 use Rattle.std.specs.Prelude.{reverse}
-use Rattle.fv_meaning.specs.Names.{is_among}
+use Rattle.meaning.specs.Names.{is_among}
 use Rattle.f90_read.specs.surroundings.Lists.{scalar_in}
 use Rattle.f90_read.specs.surroundings.Misuses.{misuses_form}
 use Rattle.f90_read.proofs.OfSurroundings.LoopLaws.{start, stop, found, further}

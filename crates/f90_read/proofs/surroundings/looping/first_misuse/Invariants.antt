@@ -1,7 +1,7 @@
 use Rattle.std.proofs.Common.{List}
 use Rattle.f90_grammar.specs.Blocks as grammar
-use Rattle.f90_places.specs.forms.Places.{IsPlacedOf}
-use Rattle.f90_statements.specs.Views.{AreOf}
+use Rattle.f90_blocks.specs.places.forms.Places.{IsPlacedOf}
+use Rattle.f90_statement.specs.Views.{AreOf}
 use Rattle.f90_read.specs.surroundings.Lists.{scalar_in}
 use Rattle.f90_read.proofs.OfSurroundings.LoopLaws.{IsPassed}
 use Rattle.f90_read.proofs.surroundings.looping.first_misuse.Given as goal

@@ -1,6 +1,6 @@
 use Rattle.std.proofs.Common.{◌≡◌, ◌∙◌, ◌+◌, ◌*◌, ◌≤◌, ◌<◌, ◌^◌, ap, sym, subst, rules, arith, ℤ, pos, nat_abs, Bool, true, false, not, Some, List, [], ◌∷◌, ◌++◌, map, filter, length, SFits, to_z, of_z, option_map, IfSome}
-use Rattle.fv_tree.specs.View.{expression_of}
-use Rattle.fv_meaning.specs.Reads.{names_in}
+use Rattle.tree.specs.View.{expression_of}
+use Rattle.meaning.specs.Reads.{names_in}
 use Rattle.linear_forms.specs.Linear.{form_of}
 use Rattle.linear_forms.specs.Places.{IsFound}
 use Rattle.find_nests.specs.bound_limits.Composed.{with_multiples, without_loops, is_among, variables_of}

@@ -1,9 +1,9 @@
 use Rattle.std.proofs.Common.{◌≡◌, ◌∙◌, ◌≤◌, ap, sym, map, length, Some, None, [], ◌∷◌, ◌++◌, rules, arith}
 use Rattle.std.proofs.lemmas.List.{length-map}
-use Rattle.fv_tree.specs.View.{expression_of, declaration_of, statement_of, block_of, program_of}
-use Rattle.fv_tree.specs.declared.stmts.Stmt.TheVariants as stmts
+use Rattle.tree.specs.View.{expression_of, declaration_of, statement_of, block_of, program_of}
+use Rattle.tree.specs.declared.stmts.Stmt.TheVariants as stmts
 use Rattle.nest_reasons.specs.Symbols.{symbols_of}
-use Rattle.nest_tree.specs.Plain.{Nest}
+use Rattle.nest.specs.Plain.{Nest}
 use Rattle.find_nests.specs.nest_parts.Numbers.{next}
 use Rattle.find_nests.specs.Reasons.{reason_over}
 use Rattle.find_nests.specs.Loops.{Numbered}

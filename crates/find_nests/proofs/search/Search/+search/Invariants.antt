@@ -1,5 +1,5 @@
 use Rattle.std.proofs.Common.{map}
-use Rattle.fv_tree.specs.View.{program_of}
+use Rattle.tree.specs.View.{program_of}
 use Rattle.find_nests.specs.Found.{found_of}
 use Rattle.find_nests.proofs.SearchLaws.{Between, BetweenArms}
 use Rattle.find_nests.proofs.search.Search.+search.Given as goal

@@ -1,6 +1,6 @@
 use Rattle.std.proofs.Common.{◌≡◌, map, rules}
-use Rattle.fv_tree.specs.View.{expression_of, block_of, declaration_of, program_of}
-use Rattle.nest_tree.specs.View.{part_of}
+use Rattle.tree.specs.View.{expression_of, block_of, declaration_of, program_of}
+use Rattle.nest.specs.View.{part_of}
 use Rattle.nest_reasons.specs.Symbols.{symbols_of}
 use Rattle.find_nests.specs.nest_parts.Numbers.{next}
 use Rattle.find_nests.specs.Loops.{Numbered}

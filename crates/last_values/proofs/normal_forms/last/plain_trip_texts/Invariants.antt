@@ -1,5 +1,5 @@
 use Rattle.std.proofs.Common.{◌≡◌, map, take}
-use Rattle.fv_tree.specs.View.{expression_of}
+use Rattle.tree.specs.View.{expression_of}
 use Rattle.last_values.specs.normal_forms.LastValues as last
 use Rattle.last_values.proofs.normal_forms.last.plain_trip_texts.Given as goal
 

@@ -1,6 +1,6 @@
 use Rattle.std.proofs.Common.{◌≡◌, pos, negsuc, [], ◌∷◌, length, Some, rules, arith, IfOk}
 use Rattle.std.proofs.lemmas.Grind.{common_steps}
-use Rattle.nest_tree.specs.View.{loop_of}
+use Rattle.nest.specs.View.{loop_of}
 use Rattle.last_values.specs.normal_forms.Combinations.{times}
 use Rattle.last_values.specs.normal_forms.NormalLoops.{bound_form, loop_form, plus_multiple, forms_by_trip}
 use Rattle.last_values.proofs.NormalForms.Chains.{by_first}

@@ -1,6 +1,6 @@
 use Rattle.std.proofs.Common.{◌≡◌, map, take}
 use Rattle.std.specs.List.{list_any}
-use Rattle.fv_tree.specs.View.{tested_of, statement_of}
+use Rattle.tree.specs.View.{tested_of, statement_of}
 use Rattle.nest_reasons.specs.Loops.{any_loop, any_in_arm, has_flaw}
 use Rattle.nest_reasons.proofs.loops.Check.+loops.Given as goal
 

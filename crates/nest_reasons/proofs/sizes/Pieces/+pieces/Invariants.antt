@@ -1,6 +1,6 @@
 use Rattle.std.proofs.Common.{◌≡◌, ◌++◌, map, take}
 use Rattle.std.specs.List.{flat_map}
-use Rattle.fv_tree.specs.View.{tested_of, statement_of}
+use Rattle.tree.specs.View.{tested_of, statement_of}
 use Rattle.nest_reasons.specs.Sizes.{pieces_in, pieces_in_arm}
 use Rattle.nest_reasons.proofs.sizes.Pieces.+pieces.Given as goal
 

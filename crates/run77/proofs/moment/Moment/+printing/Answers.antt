@@ -1,18 +1,18 @@
 use Rattle.std.proofs.Common.{◌≡◌, refl, ◌∙◌, subst, ◌+◌, ◌-◌, Result, Ok, Err, Some, ◌++◌, arith, rules}
-use Rattle.fv_io.specs.Streams.{Gives, GivesPart}
-use Rattle.fv_io.specs.declared.errors.WriteFault.{WriteFault}
-use Rattle.fv_machine.specs.Texts.{WritesText}
-use Rattle.fv_meaning.specs.Dialect.{fortran77}
-use Rattle.fv_meaning.specs.Run.{repeated, turn, prints_items, increases}
-use Rattle.fv_machine.specs.declared.progress.Left.TheVariants.{Halted}
-use Rattle.fv_machine.specs.Acts.{Runs}
-use Rattle.fv_machine.specs.Loops.{BeginsLoop}
-use Rattle.fv_machine.specs.Printing.{plain_items}
-use Rattle.fv_machine.proofs.Residuals.{residual, settled}
-use Rattle.fv_machine.proofs.ItemLaws.{one_runs, turns_run, text_runs, items_left, items_more, items_done}
-use Rattle.fv_machine.proofs.TurnLaws.{Extends-prints_items, turn_cut, turn_left, turn_stuck, turn_done, at_turn, no_turn}
+use Rattle.streams.specs.Streams.{Gives, GivesPart}
+use Rattle.streams.specs.declared.errors.WriteFault.{WriteFault}
+use Rattle.machine.specs.Texts.{WritesText}
+use Rattle.meaning.specs.Dialect.{fortran77}
+use Rattle.meaning.specs.Run.{repeated, turn, prints_items, increases}
+use Rattle.machine.specs.declared.progress.Left.TheVariants.{Halted}
+use Rattle.machine.specs.Acts.{Runs}
+use Rattle.machine.specs.Loops.{BeginsLoop}
+use Rattle.machine.specs.Printing.{plain_items}
+use Rattle.machine.proofs.Residuals.{residual, settled}
+use Rattle.machine.proofs.ItemLaws.{one_runs, turns_run, text_runs, items_left, items_more, items_done}
+use Rattle.machine.proofs.TurnLaws.{Extends-prints_items, turn_cut, turn_left, turn_stuck, turn_done, at_turn, no_turn}
 use Rattle.run77.specs.Moments.{seen}
-use Rattle.fv_machine.proofs.Telling.{still, kept, both, given, taken_whole}
+use Rattle.machine.proofs.Telling.{still, kept, both, given, taken_whole}
 use Rattle.run77.proofs.moment.Moment.+printing.Goals as goal
 
 pub print_item-returns-in_err-write_all-in-Text-clause-run : goal.print_item-returns-in_err-write_all-in-Text-clause-run

@@ -1,13 +1,13 @@
 use Rattle.std.proofs.Common.{◌≡◌, ℕ, ◌-◌, List, Option, Result, drop}
-use Rattle.fv_tree.specs.View.{item_of}
-use Rattle.fv_meaning.specs.Dialect.{fortran77}
-use Rattle.fv_meaning.specs.Run.{repeated, turn, prints_item, prints_items}
-use Rattle.fv_machine.specs.Moments.{Seen}
-use Rattle.fv_machine.specs.declared.progress.Left.{Left}
-use Rattle.fv_machine.specs.Acts.{Runs}
-use Rattle.fv_machine.specs.Printing.{plain_items}
+use Rattle.tree.specs.View.{item_of}
+use Rattle.meaning.specs.Dialect.{fortran77}
+use Rattle.meaning.specs.Run.{repeated, turn, prints_item, prints_items}
+use Rattle.machine.specs.Moments.{Seen}
+use Rattle.machine.specs.declared.progress.Left.{Left}
+use Rattle.machine.specs.Acts.{Runs}
+use Rattle.machine.specs.Printing.{plain_items}
 use Rattle.run77.specs.Moments.{seen}
-use Rattle.fv_machine.specs.Told.{IsTold}
+use Rattle.machine.specs.Told.{IsTold}
 use Rattle.run77.proofs.moment.Moment.+printing.Given as goal
 
 -- what is done with the turns or the items that are left is done with all

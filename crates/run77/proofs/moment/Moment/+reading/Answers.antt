@@ -1,13 +1,13 @@
 use Rattle.std.proofs.Common.{◌≡◌, subst, ◌+◌, ◌-◌, Ok, Err, arith, rules}
-use Rattle.fv_meaning.specs.Dialect.{fortran77}
-use Rattle.fv_meaning.specs.Run.{repeated, turn, reads_items, increases}
-use Rattle.fv_machine.specs.declared.progress.Left.TheVariants.{Halted}
-use Rattle.fv_machine.specs.Acts.{Runs, left_of}
-use Rattle.fv_machine.specs.Loops.{BeginsLoop}
-use Rattle.fv_machine.specs.Printing.{plain_items}
-use Rattle.fv_machine.proofs.Residuals.{residual, settled}
-use Rattle.fv_machine.proofs.TurnLaws.{turn_cut, turn_done, at_turn, no_turn}
-use Rattle.fv_machine.proofs.ReadLaws.{one_read, turns_read, text_read, reading_left, reading_more, reading_done, turn_halted, turn_blocked}
+use Rattle.meaning.specs.Dialect.{fortran77}
+use Rattle.meaning.specs.Run.{repeated, turn, reads_items, increases}
+use Rattle.machine.specs.declared.progress.Left.TheVariants.{Halted}
+use Rattle.machine.specs.Acts.{Runs, left_of}
+use Rattle.machine.specs.Loops.{BeginsLoop}
+use Rattle.machine.specs.Printing.{plain_items}
+use Rattle.machine.proofs.Residuals.{residual, settled}
+use Rattle.machine.proofs.TurnLaws.{turn_cut, turn_done, at_turn, no_turn}
+use Rattle.machine.proofs.ReadLaws.{one_read, turns_read, text_read, reading_left, reading_more, reading_done, turn_halted, turn_blocked}
 use Rattle.run77.specs.Moments.{seen}
 use Rattle.run77.proofs.moment.Moment.+reading.Goals as goal
 

@@ -1,23 +1,23 @@
 use Rattle.std.proofs.Common.{◌≡◌, refl, sym, ap, ◌∙◌, subst, ◌+◌, ◌-◌, Ok, Err, Some, arith, rules, drop}
-use Rattle.fv_tree.specs.View.{statement_of, block_of}
-use Rattle.fv_tree.proofs.Equations.{statement_of-assign, statement_of-if, statement_of-do, statement_of-label, statement_of-go, statement_of-stop, statement_of-read, statement_of-print}
-use Rattle.fv_tree.proofs.Equations.{statement_of-masked, statement_of-allocate, statement_of-deallocate}
-use Rattle.fv_machine.proofs.ActLaws.{Runs-nothing}
-use Rattle.fv_meaning.specs.Dialect.{fortran77}
-use Rattle.fv_meaning.specs.Run.{nothing, repeated, turn, does_all, increases}
-use Rattle.fv_machine.specs.declared.progress.Left.TheVariants.{Halted}
-use Rattle.fv_machine.specs.declared.progress.Halt.TheVariants.{Jump}
-use Rattle.fv_machine.specs.Acts.{Runs, left_of}
-use Rattle.fv_machine.specs.Loops.{BeginsLoop}
-use Rattle.fv_machine.specs.Moments.{located}
-use Rattle.fv_machine.specs.Statements.{HasArms, ArmsHaveArms, plain_arms, Chooses}
-use Rattle.fv_machine.specs.Jumps.{way_at}
-use Rattle.fv_machine.proofs.Residuals.{residual, settled}
-use Rattle.fv_machine.proofs.TurnLaws.{turn_cut, turn_left, turn_stuck, turn_done, at_turn, no_turn}
-use Rattle.fv_machine.proofs.BlockLaws.{Extends-does_all, RunsOn, left_of_block, left_of_arms, block_arms, block_begins, has_arms_here, block_more, block_left, block_passed, block_done, block_jumped, has_arms_on, arm_cut, arm_fault, arm_true, arm_false, arms_done, at_statement, none_left, label_runs}
+use Rattle.tree.specs.View.{statement_of, block_of}
+use Rattle.tree.proofs.Equations.{statement_of-assign, statement_of-if, statement_of-do, statement_of-label, statement_of-go, statement_of-stop, statement_of-read, statement_of-print}
+use Rattle.tree.proofs.Equations.{statement_of-masked, statement_of-allocate, statement_of-deallocate}
+use Rattle.machine.proofs.ActLaws.{Runs-nothing}
+use Rattle.meaning.specs.Dialect.{fortran77}
+use Rattle.meaning.specs.Run.{nothing, repeated, turn, does_all, increases}
+use Rattle.machine.specs.declared.progress.Left.TheVariants.{Halted}
+use Rattle.machine.specs.declared.progress.Halt.TheVariants.{Jump}
+use Rattle.machine.specs.Acts.{Runs, left_of}
+use Rattle.machine.specs.Loops.{BeginsLoop}
+use Rattle.machine.specs.Moments.{located}
+use Rattle.machine.specs.Statements.{HasArms, ArmsHaveArms, plain_arms, Chooses}
+use Rattle.machine.specs.Jumps.{way_at}
+use Rattle.machine.proofs.Residuals.{residual, settled}
+use Rattle.machine.proofs.TurnLaws.{turn_cut, turn_left, turn_stuck, turn_done, at_turn, no_turn}
+use Rattle.machine.proofs.BlockLaws.{Extends-does_all, RunsOn, left_of_block, left_of_arms, block_arms, block_begins, has_arms_here, block_more, block_left, block_passed, block_done, block_jumped, has_arms_on, arm_cut, arm_fault, arm_true, arm_false, arms_done, at_statement, none_left, label_runs}
 use Rattle.run77.specs.Moments.{seen}
 use Rattle.run77.proofs.AnswerLaws.{went_on}
-use Rattle.fv_machine.proofs.Telling.{still, kept, both}
+use Rattle.machine.proofs.Telling.{still, kept, both}
 use Rattle.run77.proofs.moment.Moment.+statements.Goals as goal
 
 pub statement-returns-in-Assign-clause-run : goal.statement-returns-in-Assign-clause-run

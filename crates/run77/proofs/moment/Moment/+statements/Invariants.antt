@@ -1,16 +1,16 @@
 use Rattle.std.proofs.Common.{◌≡◌, ℕ, ◌-◌, List, Option, Result, drop, map}
-use Rattle.fv_tree.specs.Plain.{block}
-use Rattle.fv_tree.specs.View.{statement_of, block_of}
-use Rattle.fv_meaning.specs.Dialect.{fortran77}
-use Rattle.fv_meaning.specs.Run.{repeated, turn, does, does_all}
-use Rattle.fv_machine.specs.Moments.{Seen}
-use Rattle.fv_machine.specs.declared.progress.Left.{Left}
-use Rattle.fv_machine.specs.Acts.{LimitedAct, Runs}
-use Rattle.fv_machine.specs.Statements.{HasArms, ArmsHaveArms, BlockHasArms, plain_arms}
-use Rattle.fv_machine.specs.Jumps.{way_at}
-use Rattle.fv_machine.proofs.BlockLaws.{RunsOn, left_of_block, left_of_arms}
+use Rattle.tree.specs.Plain.{block}
+use Rattle.tree.specs.View.{statement_of, block_of}
+use Rattle.meaning.specs.Dialect.{fortran77}
+use Rattle.meaning.specs.Run.{repeated, turn, does, does_all}
+use Rattle.machine.specs.Moments.{Seen}
+use Rattle.machine.specs.declared.progress.Left.{Left}
+use Rattle.machine.specs.Acts.{LimitedAct, Runs}
+use Rattle.machine.specs.Statements.{HasArms, ArmsHaveArms, BlockHasArms, plain_arms}
+use Rattle.machine.specs.Jumps.{way_at}
+use Rattle.machine.proofs.BlockLaws.{RunsOn, left_of_block, left_of_arms}
 use Rattle.run77.specs.Moments.{seen}
-use Rattle.fv_machine.specs.Told.{IsTold}
+use Rattle.machine.specs.Told.{IsTold}
 use Rattle.run77.proofs.moment.Moment.+statements.Given as goal
 
 -- what is done with the turns, the arms or the statements that are left is done with all

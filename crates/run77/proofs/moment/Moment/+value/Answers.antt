@@ -2,15 +2,15 @@ use Rattle.std.proofs.Common.{[], ◌∙◌, ap, sym, take, map, ℕ, Result, Op
 use Rattle.std.specs.Int.{w128}
 use Rattle.std.proofs.Common.{SFits}
 use Rattle.std.proofs.lemmas.Int.{to_z-of_z}
-use Rattle.fv_tree.specs.declared.ops.Fault.{Fault}
-use Rattle.fv_machine.specs.Storage.{offset}
-use Rattle.fv_machine.proofs.Residuals.{residual}
-use Rattle.fv_tree.specs.Plain.{subscripts, expressions}
-use Rattle.fv_tree.specs.View.{expression_of, subscript_of}
-use Rattle.fv_meaning.specs.Dialect.{fortran77}
-use Rattle.fv_meaning.specs.Value.{value_of, subscript_value}
-use Rattle.fv_machine.specs.Storage.{bounds_list}
-use Rattle.fv_machine.specs.Stored.{names_in, store_in}
+use Rattle.tree.specs.declared.ops.Fault.{Fault}
+use Rattle.machine.specs.Storage.{offset}
+use Rattle.machine.proofs.Residuals.{residual}
+use Rattle.tree.specs.Plain.{subscripts, expressions}
+use Rattle.tree.specs.View.{expression_of, subscript_of}
+use Rattle.meaning.specs.Dialect.{fortran77}
+use Rattle.meaning.specs.Value.{value_of, subscript_value}
+use Rattle.machine.specs.Storage.{bounds_list}
+use Rattle.machine.specs.Stored.{names_in, store_in}
 use Rattle.run77.specs.Values.{call_of, offset_of}
 use Rattle.run77.proofs.ValueLaws.{call_step_fault, call_step, call_end, place_step_fault, place_step, place_end, bin_first_fault, bin_second_fault, un_fault}
 use Rattle.run77.proofs.ValueLaws.{place_fault, finds_same, subscript_fault_is, item_value}

@@ -1,9 +1,9 @@
 use Rattle.std.proofs.Common.{◌≡◌, take, drop, map}
-use Rattle.fv_tree.specs.Plain.{subscripts, expressions}
-use Rattle.fv_tree.specs.View.{expression_of, subscript_of}
-use Rattle.fv_meaning.specs.Dialect.{fortran77}
-use Rattle.fv_machine.specs.Storage.{bounds_list}
-use Rattle.fv_machine.specs.Stored.{store_in}
+use Rattle.tree.specs.Plain.{subscripts, expressions}
+use Rattle.tree.specs.View.{expression_of, subscript_of}
+use Rattle.meaning.specs.Dialect.{fortran77}
+use Rattle.machine.specs.Storage.{bounds_list}
+use Rattle.machine.specs.Stored.{store_in}
 use Rattle.run77.specs.Values.{call_of, offset_of}
 use Rattle.run77.proofs.ValueLaws.{left_to_call, left_to_place}
 use Rattle.run77.proofs.moment.Moment.+value.Given as goal

@@ -1,11 +1,11 @@
 use Rattle.std.proofs.Common.{sym, ap, ◌∙◌}
-use Rattle.fv_tree.specs.View.{expression_of, reference_of}
-use Rattle.fv_meaning.specs.Dialect.{fortran77}
-use Rattle.fv_meaning.specs.Value.{value_of, cell_named}
-use Rattle.fv_machine.specs.Moments.{located}
-use Rattle.fv_machine.specs.Stored.{names_in, store_in}
-use Rattle.fv_machine.proofs.Residuals.{residual}
-use Rattle.fv_machine.proofs.ActLaws.{Runs-evaluates, Runs-fault, found_cell, missed_cell}
+use Rattle.tree.specs.View.{expression_of, reference_of}
+use Rattle.meaning.specs.Dialect.{fortran77}
+use Rattle.meaning.specs.Value.{value_of, cell_named}
+use Rattle.machine.specs.Moments.{located}
+use Rattle.machine.specs.Stored.{names_in, store_in}
+use Rattle.machine.proofs.Residuals.{residual}
+use Rattle.machine.proofs.ActLaws.{Runs-evaluates, Runs-fault, found_cell, missed_cell}
 use Rattle.run77.specs.Moments.{seen}
 use Rattle.run77.proofs.moment.Moment.assign.Goals as goal
 

@@ -1,8 +1,8 @@
 use Rattle.std.proofs.Common.{sym, subst}
-use Rattle.fv_machine.specs.Moments.{seen_at}
-use Rattle.fv_machine.specs.Stored.{names_in, store_in}
-use Rattle.fv_machine.specs.Endings.{IsOpening}
-use Rattle.fv_machine.proofs.MachineLaws.{opens}
+use Rattle.machine.specs.Moments.{seen_at}
+use Rattle.machine.specs.Stored.{names_in, store_in}
+use Rattle.machine.specs.Endings.{IsOpening}
+use Rattle.machine.proofs.MachineLaws.{opens}
 use Rattle.run77.proofs.moment.Moment.begin.Goals as goal
 
 pub returns-clause-opening : goal.returns-clause-opening

@@ -1,15 +1,15 @@
 use Rattle.std.proofs.Common.{sym, ap, ◌∙◌, subst, to_z, of_z, Ok, Err, rules}
 use Rattle.std.specs.Int.{w128}
-use Rattle.fv_tree.specs.View.{expression_of}
-use Rattle.fv_meaning.specs.Dialect.{fortran77}
-use Rattle.fv_meaning.specs.Value.{number_of, increment_of, trip_count}
-use Rattle.fv_meaning.specs.Run.{sets_variable, repeated, turn, evaluates}
-use Rattle.fv_machine.specs.declared.progress.Left.TheVariants.{Halted}
-use Rattle.fv_machine.specs.Moments.{located}
-use Rattle.fv_machine.specs.Acts.{Runs}
-use Rattle.fv_machine.specs.Loops.{BeginsLoop}
-use Rattle.fv_machine.proofs.Residuals.{residual, settled}
-use Rattle.fv_machine.proofs.ActLaws.{Runs-evaluates, Runs-fault, Runs-then, Runs-halted, Stays-evaluates}
+use Rattle.tree.specs.View.{expression_of}
+use Rattle.meaning.specs.Dialect.{fortran77}
+use Rattle.meaning.specs.Value.{number_of, increment_of, trip_count}
+use Rattle.meaning.specs.Run.{sets_variable, repeated, turn, evaluates}
+use Rattle.machine.specs.declared.progress.Left.TheVariants.{Halted}
+use Rattle.machine.specs.Moments.{located}
+use Rattle.machine.specs.Acts.{Runs}
+use Rattle.machine.specs.Loops.{BeginsLoop}
+use Rattle.machine.proofs.Residuals.{residual, settled}
+use Rattle.machine.proofs.ActLaws.{Runs-evaluates, Runs-fault, Runs-then, Runs-halted, Stays-evaluates}
 use Rattle.run77.specs.Moments.{seen}
 use Rattle.run77.proofs.moment.Moment.begin_loop.Goals as goal
 

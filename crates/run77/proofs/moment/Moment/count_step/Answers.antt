@@ -1,4 +1,4 @@
-use Rattle.fv_machine.specs.Stored.{names_in, store_in}
+use Rattle.machine.specs.Stored.{names_in, store_in}
 use Rattle.run77.proofs.moment.Moment.count_step.Goals as goal
 
 pub returns-clause-counted : goal.returns-clause-counted

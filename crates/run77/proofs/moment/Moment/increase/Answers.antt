@@ -1,16 +1,16 @@
 use Rattle.std.proofs.Common.{sym, ap, ◌∙◌, subst, [], ◌+ℤ◌, rules}
-use Rattle.fv_meaning.specs.Dialect.{fortran77}
-use Rattle.fv_meaning.specs.Store.{cell_at}
-use Rattle.fv_machine.specs.Moments.{located}
-use Rattle.fv_machine.specs.Loops.{increased}
-use Rattle.fv_machine.specs.Acts.{Runs, left_of}
-use Rattle.fv_meaning.specs.Run.{sets_variable}
-use Rattle.fv_machine.specs.Stored.{names_in, store_in}
-use Rattle.fv_machine.proofs.Residuals.{residual, settled}
-use Rattle.fv_machine.proofs.ActLaws.{Runs-evaluates, Runs-fault, found_cell, missed_cell, within_located}
-use Rattle.fv_tree.specs.Steps.{◌>>=◌}
-use Rattle.fv_tree.specs.Operators.{as_number}
-use Rattle.fv_meaning.specs.Value.{exact}
+use Rattle.meaning.specs.Dialect.{fortran77}
+use Rattle.meaning.specs.Store.{cell_at}
+use Rattle.machine.specs.Moments.{located}
+use Rattle.machine.specs.Loops.{increased}
+use Rattle.machine.specs.Acts.{Runs, left_of}
+use Rattle.meaning.specs.Run.{sets_variable}
+use Rattle.machine.specs.Stored.{names_in, store_in}
+use Rattle.machine.proofs.Residuals.{residual, settled}
+use Rattle.machine.proofs.ActLaws.{Runs-evaluates, Runs-fault, found_cell, missed_cell, within_located}
+use Rattle.tree.specs.Steps.{◌>>=◌}
+use Rattle.tree.specs.Operators.{as_number}
+use Rattle.meaning.specs.Value.{exact}
 use Rattle.run77.specs.Moments.{seen}
 use Rattle.run77.proofs.moment.Moment.increase.Goals as goal
 

@@ -1,16 +1,16 @@
 use Rattle.std.proofs.Common.{sym, ◌∙◌, subst, [], ◌∷◌, ◌++◌, Ok, Err, Some}
-use Rattle.fv_io.specs.Streams.{Gives, GivesPart}
-use Rattle.fv_meaning.specs.Dialect.{fortran77}
-use Rattle.fv_meaning.specs.Run.{first_blank, writes, then, prints_items}
-use Rattle.fv_machine.specs.declared.progress.Left.TheVariants.{Unwritten}
-use Rattle.fv_machine.specs.Acts.{Runs}
-use Rattle.fv_machine.specs.Printing.{prints, plain_items}
-use Rattle.fv_machine.proofs.Residuals.{residual}
-use Rattle.fv_machine.proofs.ActLaws.{Runs-then}
-use Rattle.fv_machine.proofs.TurnLaws.{Runs-left, Stays-then, Stays-writes, Stays-prints_items, Extends-then, Extends-writes, Extends-prints_items}
-use Rattle.fv_machine.proofs.WriteLaws.{Runs-writes, Runs-unsent}
+use Rattle.streams.specs.Streams.{Gives, GivesPart}
+use Rattle.meaning.specs.Dialect.{fortran77}
+use Rattle.meaning.specs.Run.{first_blank, writes, then, prints_items}
+use Rattle.machine.specs.declared.progress.Left.TheVariants.{Unwritten}
+use Rattle.machine.specs.Acts.{Runs}
+use Rattle.machine.specs.Printing.{prints, plain_items}
+use Rattle.machine.proofs.Residuals.{residual}
+use Rattle.machine.proofs.ActLaws.{Runs-then}
+use Rattle.machine.proofs.TurnLaws.{Runs-left, Stays-then, Stays-writes, Stays-prints_items, Extends-then, Extends-writes, Extends-prints_items}
+use Rattle.machine.proofs.WriteLaws.{Runs-writes, Runs-unsent}
 use Rattle.run77.specs.Moments.{seen}
-use Rattle.fv_machine.proofs.Telling.{given, behind_text, between_texts, line_ended, taken_whole}
+use Rattle.machine.proofs.Telling.{given, behind_text, between_texts, line_ended, taken_whole}
 use Rattle.run77.proofs.moment.Moment.print.Goals as goal
 
 pub returns-in_err-write_all-clause-run : goal.returns-in_err-write_all-clause-run

@@ -1,9 +1,9 @@
 use Rattle.std.proofs.Common.{Some}
-use Rattle.fv_meaning.specs.Dialect.{fortran77}
-use Rattle.fv_machine.proofs.Residuals.{residual}
-use Rattle.fv_machine.proofs.ActLaws.{Runs-counts_step, Runs-cut}
+use Rattle.meaning.specs.Dialect.{fortran77}
+use Rattle.machine.proofs.Residuals.{residual}
+use Rattle.machine.proofs.ActLaws.{Runs-counts_step, Runs-cut}
 use Rattle.run77.specs.Moments.{seen}
-use Rattle.fv_machine.proofs.Telling.{still, kept}
+use Rattle.machine.proofs.Telling.{still, kept}
 use Rattle.run77.proofs.moment.Moment.print_statement.Goals as goal
 
 pub returns-in_err-count_step-clause-run : goal.returns-in_err-count_step-clause-run

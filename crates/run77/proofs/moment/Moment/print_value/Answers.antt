@@ -1,17 +1,17 @@
 use Rattle.std.proofs.Common.{sym, ap, ◌∙◌, [], ◌∷◌, ◌++◌, Ok, Err, Some}
-use Rattle.fv_tree.specs.View.{expression_of}
-use Rattle.fv_meaning.specs.Dialect.{fortran77}
-use Rattle.fv_meaning.specs.Value.{value_of}
-use Rattle.fv_machine.specs.Moments.{located}
-use Rattle.fv_machine.specs.Stored.{store_in}
-use Rattle.fv_machine.specs.Stored.{all_values}
+use Rattle.tree.specs.View.{expression_of}
+use Rattle.meaning.specs.Dialect.{fortran77}
+use Rattle.meaning.specs.Value.{value_of}
+use Rattle.machine.specs.Moments.{located}
+use Rattle.machine.specs.Stored.{store_in}
+use Rattle.machine.specs.Stored.{all_values}
 use Rattle.run77.specs.Printing.{IsOneValue, AreAllValues}
-use Rattle.fv_machine.proofs.Residuals.{residual}
-use Rattle.fv_machine.proofs.WriteLaws.{prints_values, prints_fault, one_written}
+use Rattle.machine.proofs.Residuals.{residual}
+use Rattle.machine.proofs.WriteLaws.{prints_values, prints_fault, one_written}
 use Rattle.run77.proofs.ItemLaws.{all_fault, all_ok, one_fault, one_ok}
-use Rattle.fv_meaning.specs.Texts.{output_text}
+use Rattle.meaning.specs.Texts.{output_text}
 use Rattle.run77.specs.Moments.{seen}
-use Rattle.fv_machine.proofs.Telling.{still, given, taken_whole, some_output, one_output, no_values, values_there, no_output}
+use Rattle.machine.proofs.Telling.{still, given, taken_whole, some_output, one_output, no_values, values_there, no_output}
 use Rattle.run77.proofs.moment.Moment.print_value.Goals as goal
 
 pub returns-in_err-values-in-Some-clause-run : goal.returns-in_err-values-in-Some-clause-run

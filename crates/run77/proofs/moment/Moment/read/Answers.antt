@@ -1,13 +1,13 @@
 use Rattle.std.proofs.Common.{Ok, Err}
-use Rattle.fv_meaning.specs.Dialect.{fortran77}
-use Rattle.fv_meaning.specs.Run.{then, begins_line, reads_items, skips_line}
-use Rattle.fv_machine.specs.declared.progress.Left.TheVariants.{Halted}
-use Rattle.fv_machine.specs.Printing.{plain_items}
-use Rattle.fv_machine.proofs.Residuals.{residual}
-use Rattle.fv_machine.proofs.ActLaws.{Runs-then, Runs-halted}
-use Rattle.fv_machine.proofs.ReadLaws.{Stays-rest, Stays-skips}
-use Rattle.fv_machine.specs.Moments.{seen_at}
-use Rattle.fv_machine.specs.Stored.{names_in, store_in}
+use Rattle.meaning.specs.Dialect.{fortran77}
+use Rattle.meaning.specs.Run.{then, begins_line, reads_items, skips_line}
+use Rattle.machine.specs.declared.progress.Left.TheVariants.{Halted}
+use Rattle.machine.specs.Printing.{plain_items}
+use Rattle.machine.proofs.Residuals.{residual}
+use Rattle.machine.proofs.ActLaws.{Runs-then, Runs-halted}
+use Rattle.machine.proofs.ReadLaws.{Stays-rest, Stays-skips}
+use Rattle.machine.specs.Moments.{seen_at}
+use Rattle.machine.specs.Stored.{names_in, store_in}
 use Rattle.run77.specs.Moments.{seen}
 use Rattle.run77.proofs.moment.Moment.read.Goals as goal
 

@@ -1,15 +1,15 @@
 use Rattle.std.proofs.Common.{◌≡◌, ap, sym, ◌∙◌, ℕ, ◌<◌, [], length, get_or, Ok, Err, arith}
-use Rattle.fv_meaning.specs.Store.{Cell, cells_of}
-use Rattle.fv_meaning.specs.Profile77.{elements_of}
-use Rattle.fv_meaning.specs.Dialect.{fortran77}
-use Rattle.fv_meaning.specs.Run.{for_each, reads_into}
-use Rattle.fv_machine.specs.declared.progress.Left.TheVariants.{Halted}
-use Rattle.fv_machine.specs.Storage.{place, total}
-use Rattle.fv_machine.specs.Stored.{names_in, bounds_here}
-use Rattle.fv_machine.specs.Reading.{all_cells}
-use Rattle.fv_machine.proofs.Residuals.{residual}
-use Rattle.fv_machine.proofs.ActLaws.{Runs-fault, Runs-evaluates}
-use Rattle.fv_machine.proofs.ReadLaws.{all_missing, all_here, none_found, cells_count, cell_place, cells_left, cells_more, cells_done}
+use Rattle.meaning.specs.Store.{Cell, cells_of}
+use Rattle.meaning.specs.Profile77.{elements_of}
+use Rattle.meaning.specs.Dialect.{fortran77}
+use Rattle.meaning.specs.Run.{for_each, reads_into}
+use Rattle.machine.specs.declared.progress.Left.TheVariants.{Halted}
+use Rattle.machine.specs.Storage.{place, total}
+use Rattle.machine.specs.Stored.{names_in, bounds_here}
+use Rattle.machine.specs.Reading.{all_cells}
+use Rattle.machine.proofs.Residuals.{residual}
+use Rattle.machine.proofs.ActLaws.{Runs-fault, Runs-evaluates}
+use Rattle.machine.proofs.ReadLaws.{all_missing, all_here, none_found, cells_count, cell_place, cells_left, cells_more, cells_done}
 use Rattle.run77.specs.Moments.{seen}
 use Rattle.run77.proofs.moment.Moment.read_all.Goals as goal
 

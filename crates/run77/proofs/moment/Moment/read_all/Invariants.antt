@@ -1,12 +1,12 @@
-use Rattle.fv_meaning.specs.Dialect.{fortran77}
+use Rattle.meaning.specs.Dialect.{fortran77}
 use Rattle.std.proofs.Common.{◌≡◌, ◌<◌, ◌+◌, ℕ, List, Option, Some, Result, length, get_or, drop}
-use Rattle.fv_meaning.specs.Store.{Cell}
-use Rattle.fv_machine.specs.Moments.{Seen}
-use Rattle.fv_machine.specs.declared.progress.Left.{Left}
-use Rattle.fv_machine.specs.Acts.{Runs}
-use Rattle.fv_machine.specs.Storage.{place}
-use Rattle.fv_machine.specs.Stored.{names_in}
-use Rattle.fv_machine.proofs.ReadLaws.{left_of_cells}
+use Rattle.meaning.specs.Store.{Cell}
+use Rattle.machine.specs.Moments.{Seen}
+use Rattle.machine.specs.declared.progress.Left.{Left}
+use Rattle.machine.specs.Acts.{Runs}
+use Rattle.machine.specs.Storage.{place}
+use Rattle.machine.specs.Stored.{names_in}
+use Rattle.machine.proofs.ReadLaws.{left_of_cells}
 use Rattle.run77.specs.Moments.{seen}
 use Rattle.run77.proofs.moment.Moment.read_all.Given as goal
 

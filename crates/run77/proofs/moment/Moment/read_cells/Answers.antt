@@ -1,13 +1,13 @@
 use Rattle.std.proofs.Common.{sym, ◌∙◌}
 use Rattle.std.proofs.lemmas.Bool.{false≢true}
-use Rattle.fv_tree.specs.View.{reference_of}
-use Rattle.fv_meaning.specs.Dialect.{fortran77}
-use Rattle.fv_meaning.specs.Value.{cell_named}
-use Rattle.fv_machine.specs.Acts.{left_of}
-use Rattle.fv_machine.specs.Stored.{names_in, store_in}
-use Rattle.fv_machine.proofs.Residuals.{residual}
-use Rattle.fv_machine.proofs.ActLaws.{found_cell, missed_cell}
-use Rattle.fv_machine.proofs.ReadLaws.{whole_cells, element_missing, element_read}
+use Rattle.tree.specs.View.{reference_of}
+use Rattle.meaning.specs.Dialect.{fortran77}
+use Rattle.meaning.specs.Value.{cell_named}
+use Rattle.machine.specs.Acts.{left_of}
+use Rattle.machine.specs.Stored.{names_in, store_in}
+use Rattle.machine.proofs.Residuals.{residual}
+use Rattle.machine.proofs.ActLaws.{found_cell, missed_cell}
+use Rattle.machine.proofs.ReadLaws.{whole_cells, element_missing, element_read}
 use Rattle.run77.specs.Moments.{seen}
 use Rattle.run77.proofs.moment.Moment.read_cells.Goals as goal
 

@@ -1,7 +1,7 @@
-use Rattle.fv_tree.specs.View.{expression_of, reference_of}
-use Rattle.fv_meaning.specs.Dialect.{fortran77}
-use Rattle.fv_machine.specs.Acts.{left_of}
-use Rattle.fv_machine.proofs.ReadLaws.{no_name_read, name_read}
+use Rattle.tree.specs.View.{expression_of, reference_of}
+use Rattle.meaning.specs.Dialect.{fortran77}
+use Rattle.machine.specs.Acts.{left_of}
+use Rattle.machine.proofs.ReadLaws.{no_name_read, name_read}
 use Rattle.run77.specs.Moments.{seen}
 use Rattle.run77.proofs.moment.Moment.read_expression.Goals as goal
 

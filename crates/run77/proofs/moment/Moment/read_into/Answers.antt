@@ -1,11 +1,11 @@
 use Rattle.std.proofs.Common.{sym, ap, ◌∙◌, subst}
-use Rattle.fv_meaning.specs.Dialect.{fortran77}
-use Rattle.fv_meaning.specs.Texts.{read_value}
-use Rattle.fv_machine.specs.Moments.{integer_bits, located}
-use Rattle.fv_machine.specs.Stored.{names_in, store_in}
-use Rattle.fv_machine.specs.Reading.{Spells}
-use Rattle.fv_machine.proofs.Residuals.{residual}
-use Rattle.fv_machine.proofs.ReadLaws.{into_nothing, into_fault, into_cell, no_value, that_value}
+use Rattle.meaning.specs.Dialect.{fortran77}
+use Rattle.meaning.specs.Texts.{read_value}
+use Rattle.machine.specs.Moments.{integer_bits, located}
+use Rattle.machine.specs.Stored.{names_in, store_in}
+use Rattle.machine.specs.Reading.{Spells}
+use Rattle.machine.proofs.Residuals.{residual}
+use Rattle.machine.proofs.ReadLaws.{into_nothing, into_fault, into_cell, no_value, that_value}
 use Rattle.run77.specs.Moments.{seen}
 use Rattle.run77.proofs.moment.Moment.read_into.Goals as goal
 

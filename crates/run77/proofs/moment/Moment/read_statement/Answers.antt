@@ -1,6 +1,6 @@
-use Rattle.fv_meaning.specs.Dialect.{fortran77}
-use Rattle.fv_machine.proofs.Residuals.{residual}
-use Rattle.fv_machine.proofs.ActLaws.{Runs-counts_step, Runs-cut}
+use Rattle.meaning.specs.Dialect.{fortran77}
+use Rattle.machine.proofs.Residuals.{residual}
+use Rattle.machine.proofs.ActLaws.{Runs-counts_step, Runs-cut}
 use Rattle.run77.specs.Moments.{seen}
 use Rattle.run77.proofs.moment.Moment.read_statement.Goals as goal
 

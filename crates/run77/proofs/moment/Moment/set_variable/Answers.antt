@@ -1,11 +1,11 @@
-use Rattle.fv_meaning.specs.Dialect.{fortran77}
+use Rattle.meaning.specs.Dialect.{fortran77}
 use Rattle.std.proofs.Common.{refl, sym, ap, ◌∙◌, [], rules}
-use Rattle.fv_tree.specs.declared.ops.Value.TheVariants.{Int}
-use Rattle.fv_meaning.specs.Store.{cell_at, put}
-use Rattle.fv_machine.specs.Moments.{integer_bits, located, checked}
-use Rattle.fv_machine.specs.Stored.{names_in, store_in}
-use Rattle.fv_machine.proofs.Residuals.{residual, settled}
-use Rattle.fv_machine.proofs.ActLaws.{Runs-evaluates, Runs-fault, Runs-in_range, Runs-out_of_range, Runs-stores, found_cell, missed_cell, within_located}
+use Rattle.tree.specs.declared.ops.Value.TheVariants.{Int}
+use Rattle.meaning.specs.Store.{cell_at, put}
+use Rattle.machine.specs.Moments.{integer_bits, located, checked}
+use Rattle.machine.specs.Stored.{names_in, store_in}
+use Rattle.machine.proofs.Residuals.{residual, settled}
+use Rattle.machine.proofs.ActLaws.{Runs-evaluates, Runs-fault, Runs-in_range, Runs-out_of_range, Runs-stores, found_cell, missed_cell, within_located}
 use Rattle.run77.specs.Moments.{seen}
 use Rattle.run77.proofs.moment.Moment.set_variable.Goals as goal
 

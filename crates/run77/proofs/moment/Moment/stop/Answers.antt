@@ -1,7 +1,7 @@
-use Rattle.fv_meaning.specs.Dialect.{fortran77}
-use Rattle.fv_machine.specs.declared.progress.Halt.TheVariants.{Stop}
-use Rattle.fv_machine.proofs.Residuals.{residual}
-use Rattle.fv_machine.proofs.ActLaws.{Runs-counts_step, Runs-cut, Runs-goes}
+use Rattle.meaning.specs.Dialect.{fortran77}
+use Rattle.machine.specs.declared.progress.Halt.TheVariants.{Stop}
+use Rattle.machine.proofs.Residuals.{residual}
+use Rattle.machine.proofs.ActLaws.{Runs-counts_step, Runs-cut, Runs-goes}
 use Rattle.run77.specs.Moments.{seen}
 use Rattle.run77.proofs.moment.Moment.stop.Goals as goal
 

@@ -1,13 +1,13 @@
 use Rattle.std.proofs.Common.{refl, sym, ap, ◌∙◌, Ok, Err}
-use Rattle.fv_meaning.specs.Dialect.{fortran77}
-use Rattle.fv_meaning.specs.Run.{counts_step, stores}
-use Rattle.fv_machine.specs.declared.progress.Left.TheVariants.{Halted}
-use Rattle.fv_machine.specs.declared.storage.Storage.{Storage}
-use Rattle.fv_machine.specs.Moments.{located}
-use Rattle.fv_machine.specs.Stored.{names_in}
-use Rattle.fv_machine.specs.Storage.{place}
-use Rattle.fv_machine.proofs.Residuals.{residual}
-use Rattle.fv_machine.proofs.ActLaws.{Runs-counts_step, Runs-cut, Runs-in_range, Runs-out_of_range, Runs-stores}
+use Rattle.meaning.specs.Dialect.{fortran77}
+use Rattle.meaning.specs.Run.{counts_step, stores}
+use Rattle.machine.specs.declared.progress.Left.TheVariants.{Halted}
+use Rattle.machine.specs.declared.storage.Storage.{Storage}
+use Rattle.machine.specs.Moments.{located}
+use Rattle.machine.specs.Stored.{names_in}
+use Rattle.machine.specs.Storage.{place}
+use Rattle.machine.proofs.Residuals.{residual}
+use Rattle.machine.proofs.ActLaws.{Runs-counts_step, Runs-cut, Runs-in_range, Runs-out_of_range, Runs-stores}
 use Rattle.run77.specs.Moments.{seen}
 use Rattle.run77.proofs.moment.Moment.store.Goals as goal
 

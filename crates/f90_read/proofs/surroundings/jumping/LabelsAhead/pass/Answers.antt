@@ -1,6 +1,6 @@
 use Rattle.std.proofs.Common.{sym, subst}
-use Rattle.f90_block_laws.specs.Places.{labels_ahead}
-use Rattle.f90_statements.specs.Views.{IsStatementOf}
+use Rattle.f90_laws.specs.blocks.Places.{labels_ahead}
+use Rattle.f90_statement.specs.Views.{IsStatementOf}
 use Rattle.f90_read.specs.surroundings.Jumps.{left}
 use Rattle.f90_read.proofs.OfSurroundings.PassLaws.{Begins, Ends, Turns, ahead_of_begun, ahead_of_ended, ahead_of_turned, ahead_of_label, on_ok}
 use Rattle.f90_read.proofs.surroundings.jumping.LabelsAhead.pass.Goals as goal

@@ -1,9 +1,9 @@
 use Rattle.std.proofs.Common.{arith, suc, ◌≡◌, ◌-◌, ◌∙◌, false, List, ℕ, ap, sym, subst}
 use Rattle.std.specs.Prelude.{reverse}
-use Rattle.fv_meaning.specs.Names.{is_among}
-use Rattle.f90_items.specs.Flat.{flat_items}
-use Rattle.f90_items.specs.Views.{AreNodesOf, direction_of}
-use Rattle.f90_items.specs.declared.nodes.Node.{Node}
+use Rattle.meaning.specs.Names.{is_among}
+use Rattle.f90_statement.specs.items.Flat.{flat_items}
+use Rattle.f90_statement.specs.items.Views.{AreNodesOf, direction_of}
+use Rattle.f90_statement.specs.declared.items.nodes.Node.{Node}
 use Rattle.f90_read.specs.surroundings.Lists.{scalar_in, walked}
 use Rattle.f90_read.proofs.OfSurroundings.ListLaws.{none_walked, one_walked, told}
 use Rattle.f90_read.proofs.surroundings.listing.Surroundings.misuses_list.Goals as goal

@@ -1,8 +1,8 @@
 use Rattle.std.proofs.Common.{◌≡◌, false, List, [], drop}
 use Rattle.std.specs.Prelude.{reverse}
-use Rattle.fv_meaning.specs.Names.{is_among}
-use Rattle.f90_items.specs.Flat as flats
-use Rattle.f90_items.specs.Views.{AreNodesOf, direction_of}
+use Rattle.meaning.specs.Names.{is_among}
+use Rattle.f90_statement.specs.items.Flat as flats
+use Rattle.f90_statement.specs.items.Views.{AreNodesOf, direction_of}
 use Rattle.f90_read.specs.surroundings.Lists.{scalar_in, walked, with_nodes}
 use Rattle.f90_read.proofs.surroundings.listing.Surroundings.misuses_list.Given as goal
 

@@ -2,7 +2,7 @@ use Rattle.std.proofs.Common.{◌≡◌, refl, ◌∙◌, ◌+◌, ◌*◌, ◌�
 use Rattle.std.specs.Int.{w128}
 use Rattle.std.proofs.lemmas.Int.{to_z-of_z}
 use Rattle.std.proofs.lemmas.List.{length-map}
-use Rattle.fv_tree.specs.View.{expression_of}
+use Rattle.tree.specs.View.{expression_of}
 use Rattle.nest_reasons.specs.Increments.{step_of}
 use Rattle.find_nests.specs.declared.bound_limits.around.Outer.{Outer as Outer'}
 use Rattle.find_nests.specs.declared.bound_limits.forms.WideForm.{WideForm}

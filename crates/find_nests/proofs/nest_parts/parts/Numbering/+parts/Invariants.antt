@@ -1,5 +1,5 @@
 use Rattle.std.proofs.Common.{map}
-use Rattle.nest_tree.specs.View.{part_of, branch_of}
+use Rattle.nest.specs.View.{part_of, branch_of}
 use Rattle.find_nests.proofs.NestParts.PartLaws.{Between, BetweenArms}
 use Rattle.find_nests.proofs.nest_parts.parts.Numbering.+parts.Given as goal
 

@@ -1,0 +1,188 @@
+-- The instances of a statement in its inner loops.
+use Rattle.std.proofs.Common.{◌≡◌, refl, sym, ap, ap₂, ◌∙◌, subst, inl, inr, ℕ, zero, suc, ◌+◌, pos, Bool, true, false, cond, List, [], ◌∷◌, ◌++◌, map, Result, Ok, Err, Option, Some, None, Contains, append-nil, arith}
+use Rattle.tree.specs.Steps.{◌>>=◌}
+use Rattle.std.specs.Prelude.{flat_map}
+use Rattle.tree.specs.Plain.{Expression, Reference}
+use Rattle.tree.specs.declared.ops.Value.{Value}
+use Rattle.tree.specs.declared.ops.Fault.{Fault}
+use Rattle.tree.specs.declared.ops.Fault.TheVariants.{Overflow}
+use Rattle.meaning.specs.ArrayStatements.{storable}
+use Rattle.meaning.specs.ArrayValues.{counted}
+use Rattle.meaning.specs.Dialect.{fortran90}
+use Rattle.meaning.specs.Reads.{cells_read, cells_read_by}
+use Rattle.meaning.specs.Store.{Store, Cell, put}
+use Rattle.meaning.specs.Value.{value_of, cell_named, is_in_range, bound_to}
+use Rattle.array_form.specs.forms.Instances.{instance_at, in_sequence}
+use Rattle.array_form.specs.forms.Instances as forms
+use Rattle.array_form.specs.forms.Loops.{Loop, variables_of}
+use Rattle.meaning_laws.specs.arrays.Instances.{in_turn, NoneReadsWritten, after, cell_of}
+use Rattle.meaning_laws.specs.arrays.Instances as arrays
+use Rattle.nest_order.specs.orders.Lists.{In}
+use Rattle.nest_order.specs.orders.Nests.{IsInstance}
+use Rattle.nest_order.specs.orders.Shapes.{Instance, within_turn, turns, instances, statements, Within}
+use Rattle.nest_order.specs.orders.Shapes as shapes
+use Rattle.nest_order.proofs.orders.Lists.{In-left}
+use Rattle.nest_order.proofs.orders.Membership.{instance_stands}
+use Rattle.nest_order.specs.runs.Alone.{chain, inside, inner_instances}
+use Rattle.nest_order.specs.runs.Guarded.{sequential, at_iterations, assigned_if, reads}
+use Rattle.nest_order.specs.runs.Laws.{as_instance}
+use Rattle.nest_order.specs.runs.Nests.{Nest, AreAt, variables_round}
+use Rattle.nest_order.specs.runs.Stores.{Setting, HoldsNest, IsNestIn}
+use Rattle.nest_order.proofs.runs.Alone.{chain_stands}
+use Rattle.nest_order.proofs.runs.Arrays.{value_is_kept, cell_is_kept, same_cells_are_read, subscripts_read_same, outer_iterations_hold}
+use Rattle.nest_order.proofs.runs.Holding.{instance_inside, Stored}
+use Rattle.nest_order.proofs.runs.Results.{both_ok, after_ok, ok_same}
+use Rattle.nest_order.proofs.runs.Runs.{at_after}
+use Rattle.nest_order.proofs.runs.Variables.{Within-both}
+use Rattle.array_form.specs.lone.Instances.{AreRectangular, InstancesOfArrayForms}
+
+-- ---- lists
+
+map-append : {X Y : Type 0} (f : X → Y) (xs ys : List X) → map f (xs ++ ys) ≡ map f xs ++ map f ys
+map-append f [] ys = refl
+map-append f (x ∷ xs) ys = ap (λ zs. f x ∷ zs) (map-append f xs ys)
+
+map-map : {X Y Z : Type 0} (f : Y → Z) (g : X → Y) (xs : List X) → map f (map g xs) ≡ map (λ x. f (g x)) xs
+map-map f g [] = refl
+map-map f g (x ∷ xs) = ap (λ zs. f (g x) ∷ zs) (map-map f g xs)
+
+turns-flat : {X Y : Type 0} (f : ℕ → List Y) (g : X → Y) (h : ℕ → List X) (i m : ℕ) → ((k : ℕ) → f k ≡ map g (h k)) → turns i m f ≡ map g (flat_map h (counted i m))
+turns-flat f g h i zero each = refl
+turns-flat f g h i (suc m) each =
+    ap₂ (λ xs ys. xs ++ ys) (each i) (turns-flat f g h (suc i) m each ∙ ap (λ k. map g (flat_map h (counted k m))) (let e : suc i ≡ i + 1 = omega arith in e))
+    ∙ sym (map-append g (h i) (flat_map h (counted (i + 1) m)))
+
+-- ---- the instances of a statement by itself, where its loops have turns of their own
+
+abbrev of_statement : ℕ → List ℕ → Instance
+of_statement s is = record { statement = s; iterations = is }
+
+instances_are : (trip : ℕ → List ℕ → ℕ) (s : ℕ) (ls before ks : List ℕ) → AreRectangular trip ls before ks → instances trip (chain ls s) before ≡ map (of_statement s) (in_sequence ks)
+instances_are trip s [] before [] h = refl
+instances_are trip s [] before (k ∷ ks) h = absurd h
+instances_are trip s (l ∷ ls) before [] h = absurd h
+instances_are trip s (l ∷ ls) before (k ∷ ks) h =
+    ap (λ m. turns 1 m (λ i. map (within_turn i) (instances trip (chain ls s) (before ++ i ∷ []) ++ []))) h.0
+    ∙ turns-flat (λ i. map (within_turn i) (instances trip (chain ls s) (before ++ i ∷ []) ++ [])) (of_statement s) (λ i. map (λ is. i ∷ is) (in_sequence ks)) 1 k (λ i.
+    ap (map (within_turn i)) (append-nil (instances trip (chain ls s) (before ++ i ∷ [])) ∙ instances_are trip s ls (before ++ i ∷ []) ks (h.1 i))
+    ∙ (map-map (within_turn i) (of_statement s) (in_sequence ks) ∙ sym (map-map (of_statement s) (λ is. i ∷ is) (in_sequence ks))))
+
+-- the store in which the inner loops are at iterations
+same_iterations : (loops : List Loop) (xs : List (List ℕ)) (is : List ℕ) (t : Store) → variables_of loops ≡ xs → forms.at_iterations loops is t ≡ at_iterations xs is t
+same_iterations loops xs is t e = by loops is t ∙ ap (λ ys. at_iterations ys is t) e
+  where
+    by : (ls : List Loop) (is : List ℕ) (t : Store) → forms.at_iterations ls is t ≡ at_iterations (variables_of ls) is t
+    by [] [] t = refl
+    by [] (i ∷ is) t = refl
+    by (l ∷ ls) [] t = refl
+    by (l ∷ ls) (i ∷ is) t = by ls is (bound_to l.variable (pos i) t)
+
+module _ (n : Nest) (w : Setting) (ok : IsNestIn 31 n w) (s : ℕ) (in_nest : In s (statements n.shape)) (outer inner before : List ℕ) (fits : n.loops_of s ≡ outer ++ inner)
+    (free : (n.statement_at s).guard ≡ None) (loops : List Loop) (variables : variables_of loops ≡ map n.variable_at inner) (known : (m : ℕ) → In m outer → In m (shapes.loops n.shape)) where
+  abbrev IsIt : Instance → Type 0
+  IsIt = IsInstance n.loops_of (n.turns_of w.values) n.shape
+
+  abbrev left : Reference
+  left = (n.statement_at s).left
+
+  abbrev right : Expression
+  right = (n.statement_at s).right
+
+  abbrev mine : List ℕ → arrays.Instance
+  mine is = as_instance n (sequential 31) (record { statement = s; iterations = before ++ is })
+
+  abbrev form : List ℕ → arrays.Instance
+  form is = instance_at fortran90 loops left right is
+
+  -- the same store
+  store_same : (is : List ℕ) (t : Store) → AreAt n outer before t → at_iterations (variables_round n s) (before ++ is) t ≡ forms.at_iterations loops is t
+  store_same is t h = ap (λ ls. at_iterations (map n.variable_at ls) (before ++ is) t) fits ∙ (outer_iterations_hold n outer inner before is t h ∙ sym (same_iterations loops (map n.variable_at inner) is t variables))
+
+  reads_same : (is : List ℕ) (t : Store) → AreAt n outer before t → (form is).reads t ≡ (mine is).reads t
+  reads_same is t h =
+      let there = at_iterations (variables_round n s) (before ++ is) t in
+      let plain = ok.text.plain s in_nest in
+      ap (λ z. cells_read fortran90 right z ++ cells_read_by fortran90 left.subscripts z) (sym (store_same is t h))
+      ∙ (ap₂ (λ xs ys. xs ++ ys) (sym (same_cells_are_read 31 true right there plain.1)) (sym (subscripts_read_same 31 true left.subscripts there plain.2))
+      ∙ ap (λ o. Rattle.nest_order.specs.runs.Guarded.read_by_guard (sequential 31) o there ++ (cells_read (sequential 31) right there ++ cells_read_by (sequential 31) left.subscripts there)) (sym free))
+
+  -- what it stores
+  pub record Both (is : List ℕ) (t : Store) (o : Option (Cell × Value)) : Type 0 where
+    pub cell : Cell
+    pub value : Value
+    pub is_some : o ≡ Some (cell, value)
+    pub form_stores : (form is).effect t ≡ Ok (Some (cell, value))
+
+  stored_both : (is : List ℕ) (t : Store) (c : Cell) (v : Value) → AreAt n outer before t → Stored 31 left right (at_iterations (variables_round n s) (before ++ is) t) c v → (form is).effect t ≡ Ok (Some (c, v))
+  stored_both is t c v h st =
+      let there = at_iterations (variables_round n s) (before ++ is) t in
+      let a = value_is_kept 31 true right there v st.gives in
+      let b = cell_is_kept 31 true left there c st.place in
+      subst (λ z. ◌≡◌ {A = Result (Option (Cell × Value)) Fault} (do x ← value_of fortran90 right z; d ← cell_named fortran90 left z; y ← storable fortran90 x; Ok (Some (d, y))) (Ok (Some (c, v)))) (store_same is t h)
+      (rw (a, b, st.range) refl)
+
+  both : (is : List ℕ) (t : Store) (o : Option (Cell × Value)) → AreAt n outer before t → (mine is).effect t ≡ Ok o → Both is t o
+  both is t o h e =
+      let there = at_iterations (variables_round n s) (before ++ is) t in
+      let f : assigned_if (sequential 31) true left right there ≡ Ok o = subst (λ g. ◌≡◌ {A = Result (Option (Cell × Value)) Fault} (do b ← Rattle.nest_order.specs.runs.Guarded.guard_holds (sequential 31) g there; assigned_if (sequential 31) b left right there) (Ok o)) free e in
+      let p = both_ok (value_of (sequential 31) right there) (λ x. do d ← cell_named (sequential 31) left there; cond (is_in_range 31 x) (Ok (Some (d, x))) (Err Overflow)) o f in
+      let q = both_ok (cell_named (sequential 31) left there) (λ d. cond (is_in_range 31 p.0) (Ok (Some (d, p.0))) (Err Overflow)) o p.2 in
+      on p.0 q.0 p.1 q.1 (is_in_range 31 p.0) refl q.2
+    where
+      on : (x : Value) (d : Cell) → value_of (sequential 31) right (at_iterations (variables_round n s) (before ++ is) t) ≡ Ok x → cell_named (sequential 31) left (at_iterations (variables_round n s) (before ++ is) t) ≡ Ok d
+          → (b : Bool) → is_in_range 31 x ≡ b → ◌≡◌ {A = Result (Option (Cell × Value)) Fault} (cond b (Ok (Some (d, x))) (Err Overflow)) (Ok o) → Both is t o
+      on x d g k true r z = record { cell = d; value = x; is_some = sym (ok_same {F = Fault} (Some (d, x)) o z); form_stores = stored_both is t d x h (record { gives = g; place = k; range = r }) }
+      on x d g k false r z = cc
+
+  -- ---- one after another
+
+  abbrev Follows : List Cell → List (List ℕ) → Store → Store → Type 0
+  Follows written iss t u = NoneReadsWritten written (map form iss) t × (in_turn (map form iss) t ≡ Ok u)
+
+  follows : (iss : List (List ℕ)) (written : List Cell) (t u : Store) → ((is : List ℕ) → In is iss → IsIt (record { statement = s; iterations = before ++ is })) → HoldsNest 31 n w t → AreAt n outer before t
+      → NoneReadsWritten written (map mine iss) t → in_turn (map mine iss) t ≡ Ok u → Follows written iss t u
+  follows [] written t u are holds at h e = (tt, e)
+  follows (is ∷ iss) written t u are holds at h e =
+      let a = both_ok ((mine is).effect t) (λ o. in_turn (map mine iss) (after o t)) u e in
+      let b = both is t a.0 at a.1 in
+      let mine_stores : (mine is).effect t ≡ Ok (Some (b.cell, b.value)) = a.1 ∙ ap Ok b.is_some in
+      let ran : in_turn (map mine iss) (put b.cell b.value t) ≡ Ok u = subst (λ o. in_turn (map mine iss) (after o t) ≡ Ok u) b.is_some a.2 in
+      let it = are is (inl refl) in
+      let rest = follows iss (b.cell ∷ written) (put b.cell b.value t) u (λ js i. are js (inr i))
+      (instance_inside 31 n w ok (record { statement = s; iterations = before ++ is }) it t b.cell b.value holds mine_stores)
+      (at_after 31 n w ok outer before (record { statement = s; iterations = before ++ is }) it t b.cell b.value known mine_stores at)
+      (h.1 (Some (b.cell, b.value)) mine_stores) ran in (
+        (
+          (λ c i. subst (λ cs. ¬ Contains cs c) (sym (reads_same is t at)) (h.0 c i)),
+          (λ o f. subst (λ x. NoneReadsWritten (cell_of x ++ written) (map form iss) (after x t)) (ok_same {F = Fault} (Some (b.cell, b.value)) o (sym b.form_stores ∙ f)) rest.0),
+        ),
+        after_ok ((form is).effect t) (λ o. in_turn (map form iss) (after o t)) (Some (b.cell, b.value)) b.form_stores ∙ rest.1,
+      )
+
+pub instances_of_array_forms : InstancesOfArrayForms
+instances_of_array_forms n w s outer inner before loops counts t u ok in_nest fits free variables rectangular within holds at none e =
+    let trip = n.turns_of w.values in
+    let list : inner_instances 31 n w before inner s ≡ map (λ is. as_instance n (sequential 31) (record { statement = s; iterations = before ++ is })) (in_sequence counts)
+    = ap (λ xs. map (as_instance n (sequential 31)) (map (inside before) xs)) (instances_are trip s inner before counts rectangular)
+    ∙ (ap (map (as_instance n (sequential 31))) (map-map (inside before) (of_statement s) (in_sequence counts))
+    ∙ map-map (as_instance n (sequential 31)) (λ is. record { statement = s; iterations = before ++ is }) (in_sequence counts)) in
+    follows n w ok s in_nest outer inner before fits free loops variables (known n w ok s in_nest outer inner fits) (in_sequence counts) [] t u (are n w s in_nest outer inner before fits counts rectangular within) holds at
+    (subst (λ xs. NoneReadsWritten [] xs t) list none) (subst (λ xs. in_turn xs t ≡ Ok u) list e)
+  where
+    known : (n : Nest) (w : Setting) (ok : IsNestIn 31 n w) (s : ℕ) → In s (statements n.shape) → (outer inner : List ℕ) → n.loops_of s ≡ outer ++ inner → (m : ℕ) → In m outer → In m (shapes.loops n.shape)
+    known n w ok s i outer inner fits m j =
+        let k = Rattle.nest_order.proofs.orders.Common.statement_stands n.shape s i in
+        let e : k.0 ≡ outer ++ inner = sym (ok.text.nest.fits s k.0 k.1) ∙ fits in
+        Rattle.nest_order.proofs.runs.Alone.stands_loops n.shape s k.0 k.1 m (subst (In m) (sym e) (In-left m outer inner j))
+
+    map-In' : (s : ℕ) (xs : List (List ℕ)) (is : List ℕ) → In is xs → In (of_statement s is) (map (of_statement s) xs)
+    map-In' s xs is i = Rattle.nest_order.proofs.orders.Membership.map-In (of_statement s) is xs i
+
+    are : (n : Nest) (w : Setting) (s : ℕ) → In s (statements n.shape) → (outer inner before : List ℕ) → n.loops_of s ≡ outer ++ inner → (counts : List ℕ) → AreRectangular (n.turns_of w.values) inner before counts → Within (n.turns_of w.values) [] outer before
+        → (is : List ℕ) → In is (in_sequence counts) → IsInstance n.loops_of (n.turns_of w.values) n.shape (record { statement = s; iterations = before ++ is })
+    are n w s i outer inner before fits counts rectangular within is j =
+        let there : In (of_statement s is) (instances (n.turns_of w.values) (chain inner s) before) = subst (In (of_statement s is)) (sym (instances_are (n.turns_of w.values) s inner before counts rectangular)) (map-In' s (in_sequence counts) is j) in
+        let h = instance_stands (n.turns_of w.values) (chain inner s) before (of_statement s is) there in
+        let c = chain_stands s inner s h.loops h.stands in
+        let v : Within (n.turns_of w.values) before inner is = subst (λ ls. Within (n.turns_of w.values) before ls is) c.1 h.within in
+        (i, subst (λ ls. Within (n.turns_of w.values) [] ls (before ++ is)) (sym fits) (Within-both (n.turns_of w.values) [] outer inner before is within v))

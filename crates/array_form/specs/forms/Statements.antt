@@ -1,0 +1,96 @@
+-- The array form of an assignment at a level, and what forbids it (Allen and Kennedy, "Optimizing Compilers for Modern
+-- Architectures", section 2.4).
+use Rattle.std.specs.Prelude.{◌==◌, ℕ, ◌+◌, ◌-◌, pos, Bool, true, false, ◌&&◌, ◌||◌, not, if◌then◌else◌, Option}
+use Rattle.std.specs.Prelude.{Some, None, List, [], ◌∷◌, length, drop}
+use Rattle.std.specs.List.{list_all, list_any}
+use Rattle.std.specs.Ordering.{int_eq}
+use Rattle.std.specs.Str.{bytes_eq}
+use Rattle.tree.specs.Plain.{Expression, Number, Binary, Reference, Subscript, Only, Section, Subscripts}
+use Rattle.tree.specs.Plain.{no_subscripts, subscript, Assignment, If, no_arms, arm, Block}
+use Rattle.tree.specs.Plain.{no_statements, statement}
+use Rattle.tree.specs.declared.ops.Op.TheVariants.{Ge, And}
+use Rattle.tree.specs.declared.stmts.Mark.{Mark}
+use Rattle.meaning.specs.Reads.{names_in_subscript}
+use Rattle.linear_forms.specs.Linear.{form_of}
+use Rattle.array_form.specs.forms.Loops.{Loop, Surroundings, variables_of, names_of, is_positive_constant, is_among}
+use Rattle.array_form.specs.forms.Loops.{loops_among, loops_in_order, coefficient}
+use Rattle.array_form.specs.forms.Forms.{trip_text, form, subscript_forms}
+
+-- the loops from the level k on, of which the outermost loop has the level 1
+abbrev pub loops_from : Surroundings → ℕ → List Loop
+loops_from a k = drop (k - 1) a.loops
+
+-- ---- what forbids array form
+
+pub data Hold : Type 0 where
+  FormHold : Hold
+  TriangleHold : Hold
+
+-- in how many of the subscripts a variable stands
+abbrev pub occurrences : List ℕ → Subscripts → ℕ
+occurrences x no_subscripts = 0
+occurrences x (subscript p ps) = (if is_among (names_in_subscript p) x then 1 else 0) + occurrences x ps
+
+abbrev pub is_linear : Surroundings → Subscript → Bool
+is_linear a (Only e) = elim (form_of (variables_of a.loops) a.symbols e) [ Some f ↦ true | None ↦ false ]
+is_linear a (Section b c d) = false
+
+-- a left subscript with such a loop is linear, and has no other one
+abbrev pub are_formed : Surroundings → List Loop → Subscripts → Bool
+are_formed a loops no_subscripts = true
+are_formed a loops (subscript p ps) =
+    ((length (loops_among loops (names_in_subscript p)) == 0)
+    || ((length (loops_among loops (names_in_subscript p)) == 1) && is_linear a p))
+    && are_formed a loops ps
+
+-- each of the loops stands in exactly one left subscript
+abbrev pub has_form : Surroundings → List Loop → Subscripts → Bool
+has_form a loops ps = list_all (λ (l : Loop). occurrences l.variable ps == 1) loops && are_formed a loops ps
+
+-- the trip of one of the loops has the variable of another one
+abbrev pub depends_on : Surroundings → Loop → Loop → Bool
+depends_on a l m = not (bytes_eq l.variable m.variable)
+    && not (int_eq (coefficient (names_of a) m.variable l.trip.form.coefficients) (pos 0))
+
+abbrev pub is_triangle : Surroundings → List Loop → Bool
+is_triangle a loops = list_any (λ (l : Loop). list_any (depends_on a l) loops) loops
+
+-- the first that is so, for a statement without a guard
+abbrev pub hold_at : Surroundings → ℕ → Reference → Option Hold
+hold_at a k left =
+    if not (has_form a (loops_from a k) left.subscripts) then Some FormHold
+    else if is_triangle a (loops_from a k) then Some TriangleHold
+    else None
+
+-- ---- the statement
+
+-- the loops from k on, in the order of the left subscripts
+abbrev pub loops_assigned : Surroundings → ℕ → Reference → List Loop
+loops_assigned a k left = loops_in_order (loops_from a k) left.subscripts
+
+abbrev pub left_form : Surroundings → ℕ → Reference → Reference
+left_form a k left =
+    record { name = left.name; subscripts = subscript_forms a (loops_assigned a k left) left.subscripts }
+
+abbrev pub right_form : Surroundings → ℕ → Reference → Expression → Expression
+right_form a k left right = form a (loops_assigned a k left) right
+
+-- the trips that have to be looked at as the program runs, each at least 1
+abbrev pub tests_of : List (List ℕ) → List Loop → List Expression
+tests_of names [] = []
+tests_of names (l ∷ ls) =
+    if is_positive_constant l.trip then tests_of names ls
+    else Binary Ge (trip_text names l.trip) (Number (pos 1)) ∷ tests_of names ls
+
+-- joined from the outside in
+abbrev pub and_all : Expression → List Expression → Expression
+and_all e [] = e
+and_all e (f ∷ fs) = and_all (Binary And e f) fs
+
+abbrev pub guarded_by : ℕ → List Expression → Block → Block
+guarded_by line [] body = body
+guarded_by line (e ∷ es) body = statement (If line (arm (and_all e es) body no_arms) no_statements) no_statements
+
+abbrev pub array_form_of : Surroundings → ℕ → ℕ → Option Mark → Reference → Expression → Block
+array_form_of a k line mark left right = guarded_by line (tests_of (names_of a) (loops_from a k))
+    (statement (Assignment line mark (left_form a k left) (right_form a k left right)) no_statements)

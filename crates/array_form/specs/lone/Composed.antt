@@ -1,0 +1,51 @@
+-- The array form of a nest's statement is a form of which the laws of nests speak.
+use Rattle.std.specs.Prelude.{◌≡◌, Some, None, Option, ℕ, suc, ◌≤◌, ℤ, pos, true, false, List, [], ◌++◌, map, length}
+use Rattle.std.specs.Prelude.{Contains}
+use Rattle.tree.specs.Plain.{Declaration, Statement, statement, no_statements}
+use Rattle.tree.specs.declared.ops.Kind.TheVariants.{Integer}
+use Rattle.tree.specs.declared.stmts.Mark.{Mark}
+use Rattle.meaning.specs.Typed.{declared}
+use Rattle.array_form.specs.forms.Following.{has_none, are_moved, is_regular}
+use Rattle.array_form.specs.forms.Instances.{counts_of}
+use Rattle.array_form.specs.forms.Laws.{HasTrip}
+use Rattle.array_form.specs.forms.Loops.{Loop, Surroundings, variables_of, names_of, AreDistinct}
+use Rattle.array_form.specs.forms.Statements.{loops_from, hold_at, loops_assigned, array_form_of}
+use Rattle.nest_order.specs.facts.Facts.{HasFacts, values_from}
+use Rattle.nest_order.specs.orders.Lists.{In}
+use Rattle.nest_order.specs.orders.Shapes.{statements, Within}
+use Rattle.nest_order.specs.runs.LoneForms.{IsFormOf}
+use Rattle.nest_order.specs.runs.Nests.{Nest}
+use Rattle.nest_order.specs.runs.Stores.{Setting}
+use Rattle.array_form.specs.lone.Instances.{AreRectangular}
+
+-- the loops and symbols round the statement s, as array forms speak of them, are the nest's
+pub record AreSurroundings (n : Nest) (w : Setting) (a : Surroundings) (outer inner : List ℕ) : Type 0 where
+  pub loops : variables_of a.loops ≡ map n.variable_at (outer ++ inner)
+  pub symbols : a.symbols ≡ n.symbols
+  pub few : length a.loops ≤ 7
+  pub distinct : AreDistinct (names_of a)
+  pub variables : (l : ℕ) → In l inner
+      → (d : Declaration) × (declared w.program.declarations (n.variable_at l) ≡ Some d) × (d.kind ≡ Integer)
+  -- whatever the inner loop variables hold, the trips of the inner loops are their numbers of turns
+  pub trips : (before : List ℕ) (zs : List ℤ) → Within (n.turns_of w.values) [] outer before → length zs ≡ length inner
+      → ((l : Loop) → Contains (loops_from a (suc (length outer))) l
+      → HasTrip a (map pos before ++ (zs ++ values_from w.values 0 n.symbols)) l)
+      × AreRectangular (n.turns_of w.values) inner before
+      (counts_of (map pos before ++ (zs ++ values_from w.values 0 n.symbols)) (loops_from a (suc (length outer))))
+
+-- The array form of a statement without a guard, which nothing in its inner loops forbids, and whose right side is
+-- regular, goes on where its instances in these loops do, and leaves their store
+abbrev pub ArrayFormIsForm : Type 0
+ArrayFormIsForm =
+    (n : Nest) (w : Setting) (s : ℕ) (a : Surroundings) (outer inner : List ℕ) (line : ℕ) (mark : Option Mark)
+    (c : Statement)
+    → HasFacts 31 n w → In s (statements n.shape) → n.loops_of s ≡ outer ++ inner → (n.statement_at s).guard ≡ None
+    → AreSurroundings n w a outer inner
+    → has_none (loops_from a (suc (length outer))) ≡ false
+    → hold_at a (suc (length outer)) (n.statement_at s).left ≡ None
+    → are_moved a (loops_assigned a (suc (length outer)) (n.statement_at s).left) (n.statement_at s).left.subscripts
+    ≡ true
+    → is_regular a (loops_assigned a (suc (length outer)) (n.statement_at s).left) (n.statement_at s).right ≡ true
+    → array_form_of a (suc (length outer)) line mark (n.statement_at s).left (n.statement_at s).right
+    ≡ statement c no_statements
+    → IsFormOf 31 true n w outer inner s c

@@ -1,0 +1,44 @@
+//! Which loops stand in a text.
+ghost use Rattle.std.specs.Prelude.{◌≡◌, ◌++◌, ◌∷◌, [], if◌then◌else◌, IfOk, OnOk, map, ℕ};
+ghost use Rattle.array_form.specs.forms.Loops.{loops_among};
+ghost use Rattle.meaning.specs.Reads.{names_in, names_in_subscript};
+ghost use Rattle.tree.specs.View.{expression_of, subscript_of};
+ghost use Rattle.array_form.specs.holds.Surroundings.{counted_of};
+
+use crate::holds::loops::Counted;
+use nest::statement_loops::{stands_in, stands_in_sub};
+use std::alloc::Global;
+use tree::{Expr, Memory, Seq, Sub};
+
+fn push_if(those: &mut Seq<Counted>, turns: Counted, stands: bool) -> Result<(), Memory>
+    ensures { OnOk result (those.new ≡ those.old ++ (if stands then turns ∷ [] else [])) }
+{
+    if stands {
+        those.push(turns)?;
+    }
+    Ok(())
+}
+
+/// Those of the loops whose variables stand in the expression.
+pub fn loops_in(alloc: Global, loops: &[Counted], expr: &Expr) -> Result<Seq<Counted>, Memory>
+    ensures { IfOk result (λ those. (n : ℕ) → map (counted_of n) those
+        ≡ loops_among (map (counted_of n) loops.now) (names_in (expression_of expr.now))) }
+{
+    let mut those = Seq::new(alloc);
+    for turns in loops {
+        push_if(&mut those, *turns, stands_in(expr, turns.var))?;
+    }
+    Ok(those)
+}
+
+/// Those of the loops whose variables stand in the subscript.
+pub fn loops_in_sub(alloc: Global, loops: &[Counted], sub: &Sub) -> Result<Seq<Counted>, Memory>
+    ensures { IfOk result (λ those. (n : ℕ) → map (counted_of n) those
+        ≡ loops_among (map (counted_of n) loops.now) (names_in_subscript (subscript_of sub.now))) }
+{
+    let mut those = Seq::new(alloc);
+    for turns in loops {
+        push_if(&mut those, *turns, stands_in_sub(sub, turns.var))?;
+    }
+    Ok(those)
+}

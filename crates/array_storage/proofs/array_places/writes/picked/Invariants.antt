@@ -1,6 +1,0 @@
-use Rattle.std.proofs.Common.{◌≡◌, ◌++◌, drop}
-use Rattle.array_storage.specs.array_places.Places.{places_there}
-use Rattle.array_storage.proofs.array_places.writes.picked.Given as goal
-
-abbrev pub invariant-loop-at : goal.invariant-loop-at
-invariant-loop-at l = l.all.items ++ places_there l.places (drop l.at-index l.chosen) ≡ places_there l.places l.chosen

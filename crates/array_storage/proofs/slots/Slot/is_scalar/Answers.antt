@@ -1,5 +1,0 @@
-use Rattle.array_storage.proofs.PartLaws.{bare_is}
-use Rattle.array_storage.proofs.slots.Slot.is_scalar.Goals as goal
-
-pub returns-then-self : goal.returns-then-self
-returns-then-self c = bare_is c.args.self.now c.is_empty.result c.if-self.true c.is_empty.ensures

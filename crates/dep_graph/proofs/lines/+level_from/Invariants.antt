@@ -1,5 +1,0 @@
-use Rattle.std.proofs.Common.{length}
-use Rattle.dep_graph.proofs.lines.+level_from.Given as goal
-
-abbrev pub decreases-level_from : goal.decreases-level_from
-decreases-level_from l = length l.dirs.now

@@ -1,5 +1,0 @@
-use Rattle.std.proofs.Common.{length}
-use Rattle.dep_graph.proofs.pairs.+add_pairings.Given as goal
-
-abbrev pub decreases-add_pairings : goal.decreases-add_pairings
-decreases-add_pairings l = length l.from.now

@@ -1,5 +1,0 @@
-use Rattle.dep_graph.proofs.PairLaws.{padded_is}
-use Rattle.dep_graph.proofs.pairs.padded.Goals as goal
-
-pub returns : goal.returns
-returns c = padded_is c.copy_from_slice.new.self c.args.spans.now c.copy_from_slice.ensures.after

@@ -1,0 +1,5 @@
+mod Keys
+mod Pairs
+mod OneLoop
+mod Couples
+pub mod Worked

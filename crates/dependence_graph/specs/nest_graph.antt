@@ -1,0 +1,10 @@
+pub mod References
+pub mod Instances
+pub mod Touched
+pub mod Spans
+pub mod Tested
+pub mod Ready
+pub mod Pair
+pub mod Arcs
+pub mod Graph
+pub mod Complete

@@ -1,0 +1,85 @@
+-- The span of a loop: up to which iteration it goes, as far as that is known before its nest is run. A trip that varies
+-- with the loops round it alone is greatest at a corner of their iterations.
+use Rattle.std.specs.Prelude.{ℕ, zero, suc, ◌^◌, nat_le, ℤ, pos, negsuc, ◌+ℤ◌, ◌*ℤ◌, int_div}
+use Rattle.std.specs.Prelude.{Bool, true, false, not, ◌&&◌, if◌then◌else◌, Option, Some, None, is_none}
+use Rattle.std.specs.Prelude.{List, [], ◌∷◌, ◌++◌, unwrap_or}
+use Rattle.std.specs.List.{list_all, list_any}
+use Rattle.std.specs.Ordering.{int_eq}
+use Rattle.subscripts.specs.declared.affine.Span.{Span}
+use Rattle.nest.specs.declared.parts.Trip.{Trip}
+use Rattle.nest.specs.Plain.{Loop}
+
+-- ---- trips and ends
+
+-- no symbol has a coefficient
+abbrev pub has_no_symbol : Trip → Bool
+has_no_symbol t = list_all (λ (s : ℕ × ℤ). int_eq s.1 (pos 0)) t.top.syms
+
+-- no loop has one, and no symbol
+abbrev pub is_constant : Trip → Bool
+is_constant t = list_all (λ a. int_eq a (pos 0)) t.top.loops && has_no_symbol t
+
+abbrev pub is_open : Span → Bool
+is_open s = is_none s.last
+
+-- below 1
+abbrev pub is_below_one : ℤ → Bool
+is_below_one (pos zero) = true
+is_below_one (pos (suc n)) = false
+is_below_one (negsuc n) = true
+
+abbrev pub ends_early : Option ℤ → Bool
+ends_early None = false
+ends_early (Some n) = is_below_one n
+
+abbrev pub has_no_turn : Span → Bool
+has_no_turn s = ends_early s.last
+
+-- ---- the greatest trip
+
+-- the last iteration where the coefficient isn't negative, else the first
+abbrev pub corner : ℤ → Span → ℤ
+corner (pos a) s = unwrap_or s.last (pos 1)
+corner (negsuc a) s = pos 1
+
+abbrev pub greatest_sum : List ℤ → List Span → ℤ
+greatest_sum [] ss = pos 0
+greatest_sum (a ∷ as') [] = pos 0
+greatest_sum (a ∷ as') (s ∷ ss) = a *ℤ corner a s +ℤ greatest_sum as' ss
+
+abbrev pub greatest_trip : List Span → Trip → ℤ
+greatest_trip outer t = int_div (greatest_sum t.top.loops outer +ℤ t.top.constant) t.by
+
+-- ---- spans
+
+-- 0 where it is negative, and unknown above 2^40
+abbrev pub capped : ℤ → Option ℤ
+capped (pos n) = if nat_le n (2 ^ 40) then Some (pos n) else None
+capped (negsuc n) = Some (pos 0)
+
+-- an end that isn't that of a constant trip
+abbrev pub ends_at : Option ℤ → Span
+ends_at last = record { last = last; fixed = false }
+
+-- the greatest trip, where the trip has no symbol and all loops round it have ends, 0 where one of them is empty; any
+-- other is unknown
+abbrev pub last_after : List Span → Trip → Option ℤ
+last_after outer t =
+    if has_no_symbol t && not (list_any is_open outer)
+    then (if list_any has_no_turn outer then Some (pos 0) else capped (greatest_trip outer t))
+    else None
+
+-- by the spans of the loops round it
+abbrev pub span_after : List Span → Trip → Span
+span_after outer t =
+    if is_constant t then record { last = Some (int_div t.top.constant t.by); fixed = true }
+    else ends_at (last_after outer t)
+
+abbrev pub span_of : List Span → Option Trip → Span
+span_of outer None = ends_at None
+span_of outer (Some t) = span_after outer t
+
+-- those of the loops from the outside in
+abbrev pub spans_of : List Span → List Loop → List Span
+spans_of outer [] = []
+spans_of outer (l ∷ ls) = span_of outer l.trip ∷ spans_of (outer ++ span_of outer l.trip ∷ []) ls

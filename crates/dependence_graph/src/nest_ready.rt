@@ -1,0 +1,9 @@
+//! Whether a nest can be tested for dependences: its loops go from 1 by 1 to linear trips, and what it writes and reads
+//! are scalars and elements of arrays.
+mod conjunctions;
+mod numbers;
+mod ready;
+mod references;
+mod trips;
+
+pub use ready::is_ready;

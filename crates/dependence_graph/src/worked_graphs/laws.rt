@@ -1,0 +1,45 @@
+//! Worked graphs. A law is a function without a body: its contract is what holds.
+ghost use Rattle.std.specs.Prelude.{[], ◌∷◌, pos};
+ghost use Rattle.dependence_graph.specs.declared.graphs.Dep.TheVariants.{Anti, Flow, Output};
+ghost use Rattle.subscripts.specs.declared.verdict.Test.TheVariants.{Crossing, Strong, Trip, WeakZero};
+ghost use Rattle.dependence_graph.specs.worked_graphs.Listed.{HasOnly, at, drop, edge};
+ghost use Rattle.dependence_graph.specs.worked_graphs.Nests.{crossing, elementwise, first_element, one_turn};
+ghost use Rattle.dependence_graph.specs.worked_graphs.Nests.{past_the_trip, recurrence};
+
+/// `A(I) = B(I) + 1`: no edge at all.
+pub fn elementwise_is_listed()
+    ensures { HasOnly elementwise [] (drop (at 0) (at 0) Output "A" Strong ∷ []) }
+{}
+
+/// `A(I+1) = A(I)`: what is written is read in the next turn, and nothing else.
+pub fn recurrence_is_listed()
+    ensures { HasOnly recurrence (edge (at 0) (at 1) Flow "A" Strong (pos 1) (pos 2) ∷ [])
+        (drop (at 0) (at 0) Output "A" Strong ∷ drop (at 1) (at 0) Anti "A" Strong ∷ []) }
+{}
+
+/// `A(I+50) = A(I)`, I from 1 to 50: what is written is read past the last turn, and so never.
+pub fn past_the_trip_is_listed()
+    ensures { HasOnly past_the_trip [] (drop (at 0) (at 0) Output "A" Strong
+        ∷ drop (at 0) (at 1) Flow "A" Strong
+        ∷ drop (at 1) (at 0) Anti "A" Strong ∷ []) }
+{}
+
+/// `A(I) = A(101-I)`: the first half of the turns reads what the other half writes, and the other way round.
+pub fn crossing_is_listed()
+    ensures { HasOnly crossing (edge (at 0) (at 1) Flow "A" Crossing (pos 1) (pos 100)
+        ∷ edge (at 1) (at 0) Anti "A" Crossing (pos 1) (pos 100) ∷ [])
+        (drop (at 0) (at 0) Output "A" Strong ∷ []) }
+{}
+
+/// `A(I) = A(1)`: what the first turn writes all later ones read.
+pub fn first_element_is_listed()
+    ensures { HasOnly first_element (edge (at 0) (at 1) Flow "A" WeakZero (pos 1) (pos 2) ∷ [])
+        (drop (at 0) (at 0) Output "A" Strong ∷ drop (at 1) (at 0) Anti "A" WeakZero ∷ []) }
+{}
+
+/// `A(I) = A(I)`, I from 1 to 1: no turn stands before another.
+pub fn one_turn_is_listed()
+    ensures { HasOnly one_turn [] (drop (at 0) (at 0) Output "A" Trip
+        ∷ drop (at 0) (at 1) Flow "A" Trip
+        ∷ drop (at 1) (at 0) Anti "A" Trip ∷ []) }
+{}

@@ -1,0 +1,7 @@
+//! Tests of dependence on pairs of subscripts.
+#![tactic(auto)]
+
+pub mod delta_test;
+pub mod gcd_banerjee;
+pub mod loop_lines;
+pub mod siv_tests;

@@ -1,6 +1,0 @@
-//! What the dialect and further declarations do to the run of a program of FORTRAN 77: nothing.
-#![tactic(auto)]
-
-mod laws;
-
-pub use laws::{made_names_keep_run, source_has_one_run};

@@ -1,0 +1,6 @@
+use Rattle.std.proofs.Common.{ℕ, ◌<◌}
+use Rattle.direction_vectors.specs.vector_tests.Places.{IsSivLeft}
+use Rattle.direction_vectors.proofs.vector_tests.siv.siv_word.Given as goal
+
+abbrev pub invariant-loop-place : goal.invariant-loop-place
+invariant-loop-place l = (k : ℕ) → k < l.place → IsSivLeft l.ps l.d k

@@ -1,7 +1,0 @@
--- Counts of the elements of arrays.
-use Rattle.std.specs.Prelude.{ℕ, ◌+◌, min}
-use Rattle.fv_tree.specs.Limits.{array_elements}
-
--- a count, where more than there may be count as one more than those
-abbrev pub capped : ℕ → ℕ
-capped n = min n (array_elements + 1)

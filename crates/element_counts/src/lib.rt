@@ -1,6 +1,0 @@
-//! How many elements the bounds of arrays make, up to one more than a program may have.
-#![tactic(auto)]
-
-mod counts;
-
-pub use counts::{product_of, size_between, sum_of};

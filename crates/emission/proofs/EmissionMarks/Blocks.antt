@@ -1,0 +1,135 @@
+-- The marked statements of blocks, one block after the other.
+use Rattle.std.proofs.Common.{◌≡◌, refl, sym, ap, ap₂, ◌∙◌, ℕ, Option, Some, None, List, [], ◌∷◌, ◌++◌, map}
+use Rattle.std.proofs.Common.{append_assoc, append-nil}
+use Rattle.std.proofs.lemmas.List.{map-append}
+use Rattle.array_form.specs.forms.Statements.{guarded_by}
+use Rattle.tree.specs.Plain.{Expression, Reference, Statement, Assignment, Where, If, Do, Label, GoTo, Stop, Read}
+use Rattle.tree.specs.Plain.{Print}
+use Rattle.tree.specs.Plain.{Allocate, Deallocate, Arms, no_arms, arm, Block, no_statements, statement}
+use Rattle.tree.specs.declared.stmts.Mark.{Mark}
+use Rattle.nest.specs.Blocks.{allocation_then, allocations_then, block_then, deallocation_then, deallocations}
+use Rattle.nest.specs.Plain.{Made}
+use Rattle.emission.specs.emission_marks.Marks.{Marked, Otherwise, Round, Turning, Under, bodies, bodies_in}
+use Rattle.emission.specs.emission_marks.Marks.{conditions_of, marked, marked_in}
+use Rattle.emission.specs.emission_marks.Marks.{marked_under, with_mark}
+
+pub marked_then : (round : List Round) (a b : Block)
+    → marked_in round (block_then a b) ≡ marked_in round a ++ marked_in round b
+marked_then round no_statements b = refl
+marked_then round (statement c cs) b =
+    ap (λ xs. marked round c ++ xs) (marked_then round cs b)
+    ∙ sym (append_assoc (marked round c) (marked_in round cs) (marked_in round b))
+
+pub bodies_then : (a b : Block) → bodies_in (block_then a b) ≡ bodies_in a ++ bodies_in b
+bodies_then no_statements b = refl
+bodies_then (statement c cs) b =
+    ap (λ xs. bodies c ++ xs) (bodies_then cs b) ∙ sym (append_assoc (bodies c) (bodies_in cs) (bodies_in b))
+
+-- ---- allocations
+
+pub marked_allocated : (round : List Round) (line : ℕ) (ms : List Made) (b : Block)
+    → marked_in round (allocations_then line ms b) ≡ marked_in round b
+marked_allocated round line [] b = refl
+marked_allocated round line (m ∷ ms) b = by m.extents (marked_allocated round line ms b)
+  where
+    by : (es : List Expression) → marked_in round (allocations_then line ms b) ≡ marked_in round b
+        → marked_in round (allocation_then line m.name es (allocations_then line ms b)) ≡ marked_in round b
+    by [] h = h
+    by (e ∷ es) h = h
+
+pub bodies_allocated : (line : ℕ) (ms : List Made) (b : Block) → bodies_in (allocations_then line ms b) ≡ bodies_in b
+bodies_allocated line [] b = refl
+bodies_allocated line (m ∷ ms) b = by m.extents (bodies_allocated line ms b)
+  where
+    by : (es : List Expression) → bodies_in (allocations_then line ms b) ≡ bodies_in b
+        → bodies_in (allocation_then line m.name es (allocations_then line ms b)) ≡ bodies_in b
+    by [] h = h
+    by (e ∷ es) h = h
+
+pub marked_deallocated : (round : List Round) (line : ℕ) (ms : List Made) → marked_in round (deallocations line ms) ≡ []
+marked_deallocated round line [] = refl
+marked_deallocated round line (m ∷ ms) = by m.extents (marked_deallocated round line ms)
+  where
+    by : (es : List Expression) → marked_in round (deallocations line ms) ≡ []
+        → marked_in round (deallocation_then line m.name es (deallocations line ms)) ≡ []
+    by [] h = h
+    by (e ∷ es) h = h
+
+pub bodies_deallocated : (line : ℕ) (ms : List Made) → bodies_in (deallocations line ms) ≡ []
+bodies_deallocated line [] = refl
+bodies_deallocated line (m ∷ ms) = by m.extents (bodies_deallocated line ms)
+  where
+    by : (es : List Expression) → bodies_in (deallocations line ms) ≡ []
+        → bodies_in (deallocation_then line m.name es (deallocations line ms)) ≡ []
+    by [] h = h
+    by (e ∷ es) h = h
+
+-- ---- an assignment under a condition
+
+pub marked_guarded : (round : List Round) (line at : ℕ) (es : List Expression) (m : Mark) (left : Reference)
+    (right : Expression)
+    → marked_in round (guarded_by line es (statement (Assignment at (Some m) left right) no_statements))
+    ≡ record { round = round ++ conditions_of es; mark = m; statement = Assignment at (Some m) left right } ∷ []
+marked_guarded round line at [] m left right =
+    ap (λ around. record { round = around; mark = m; statement = Assignment at (Some m) left right } ∷ [])
+    (sym (append-nil round))
+marked_guarded round line at (e ∷ es) m left right = refl
+
+pub bodies_guarded : (line at : ℕ) (es : List Expression) (m : Option Mark) (left : Reference) (right : Expression)
+    → bodies_in (guarded_by line es (statement (Assignment at m left right) no_statements)) ≡ []
+bodies_guarded line at [] m left right = refl
+bodies_guarded line at (e ∷ es) m left right = refl
+
+-- ---- the numbers of the statements that are marked
+
+abbrev pub number_of : Marked → ℕ
+number_of x = x.mark.stmt
+
+abbrev pub numbers_in : List Round → Block → List ℕ
+numbers_in round b = map number_of (marked_in round b)
+
+same_with : (m : Option Mark) (c : Statement) (round other : List Round)
+    → map number_of (with_mark round m c) ≡ map number_of (with_mark other m c)
+same_with None c round other = refl
+same_with (Some m) c round other = refl
+
+both : (xs ys zs ws : List Marked) → map number_of xs ≡ map number_of zs → map number_of ys ≡ map number_of ws
+    → map number_of (xs ++ ys) ≡ map number_of (zs ++ ws)
+both xs ys zs ws e f = map-append number_of xs ys ∙ (ap₂ (λ a b. a ++ b) e f ∙ sym (map-append number_of zs ws))
+
+-- they are the same whatever stands round the block
+mutual
+  same_numbers_of : (c : Statement) (round other : List Round)
+      → map number_of (marked round c) ≡ map number_of (marked other c)
+  same_numbers_of (Assignment line mark left right) round other =
+      same_with mark (Assignment line mark left right) round other
+  same_numbers_of (Where line mark mask left right) round other =
+      same_with mark (Where line mark mask left right) round other
+  same_numbers_of (If line arms rest) round other =
+      both (marked_under round arms) (marked_in (round ++ Otherwise ∷ []) rest) (marked_under other arms)
+      (marked_in (other ++ Otherwise ∷ []) rest) (same_numbers_under arms round other)
+      (same_numbers rest (round ++ Otherwise ∷ []) (other ++ Otherwise ∷ []))
+  same_numbers_of (Do line x first last step body) round other =
+      same_numbers body (round ++ Turning x first last step ∷ []) (other ++ Turning x first last step ∷ [])
+  same_numbers_of (Label k) round other = refl
+  same_numbers_of (GoTo line k) round other = refl
+  same_numbers_of (Stop line) round other = refl
+  same_numbers_of (Read line is) round other = refl
+  same_numbers_of (Print line is) round other = refl
+  same_numbers_of (Allocate line x es) round other = refl
+  same_numbers_of (Deallocate line x) round other = refl
+
+  same_numbers_under : (arms : Arms) (round other : List Round)
+      → map number_of (marked_under round arms) ≡ map number_of (marked_under other arms)
+  same_numbers_under no_arms round other = refl
+  same_numbers_under (arm test body arms) round other =
+      both (marked_in (round ++ Under test ∷ []) body) (marked_under round arms)
+      (marked_in (other ++ Under test ∷ []) body) (marked_under other arms)
+      (same_numbers body (round ++ Under test ∷ []) (other ++ Under test ∷ []))
+      (same_numbers_under arms round other)
+
+  pub same_numbers : (b : Block) (round other : List Round) → numbers_in round b ≡ numbers_in other b
+  same_numbers no_statements round other = refl
+  same_numbers (statement c cs) round other =
+      both (marked round c) (marked_in round cs) (marked other c) (marked_in other cs) (same_numbers_of c round other)
+      (same_numbers cs round other)

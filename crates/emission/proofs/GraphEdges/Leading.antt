@@ -1,0 +1,164 @@
+-- The edges of a graph lead in its nest.
+use Rattle.std.proofs.Common.{◌≡◌, ◌⊎◌, ℕ, zero, suc, ◌+◌, ◌<◌, ◌≤◌, ◌==◌, Bool, true, false, cond, List, [], ◌∷◌, ◌++◌, length, get_or, Some, refl, sym, ap, subst, ◌∙◌, inl, inr, arith}
+use mathlib.Core.Path.{ap₂}
+use Rattle.std.specs.Prelude.{All, IsTrue, slice_get}
+use Rattle.subscripts.specs.declared.affine.Dirs.{Dirs}
+use Rattle.subscripts.specs.declared.verdict.Verdict.{Verdict}
+use Rattle.subscripts.specs.declared.verdict.Verdict.TheVariants.{Never, Pair as Met, Assumed}
+use Rattle.components.specs.Lists.{In}
+use Rattle.dependence_graph.specs.declared.graphs.Edge.{Edge}
+use Rattle.dependence_graph.specs.declared.graphs.Place.{Place}
+use Rattle.direction_vectors.specs.Candidates.{Answer, CoversCandidates, IsEqualAlone, IsLedAt, dir_at}
+use Rattle.direction_vectors.specs.vector_tests.Refs.{IsVectorOf}
+use Rattle.dependence_graph.specs.nest_graph.Arcs.{Couple, edge_of, edges_of, level_of, with_some}
+use Rattle.dependence_graph.specs.nest_graph.Graph.{IsCouple, all_edges}
+use Rattle.dependence_graph.specs.nest_graph.Tested as tested
+use Rattle.dependence_graph.proofs.nest_graph.Coupled as coupled
+use Rattle.nest.specs.Bodies.{Standing, nest_statements}
+use Rattle.nest.specs.Plain.{Loop, Nest}
+use Rattle.array_form.specs.holds.Statements.{no_statement}
+use Rattle.emission.specs.emission_pieces.Nests.{IsEdgeOf, common_of, loops_at}
+use Rattle.emission.proofs.EmissionPieces.Ordered.{emission_keeps_order}
+use Rattle.emission.specs.graph_edges.Laws.{EdgesLeadInNest, GraphEmissionKeepsOrder, IsShallow}
+use Rattle.emission.proofs.GraphEdges.Vectors.{led_level, equal_level, filled, filled_at, filled_is_covered, plain_equal, plain_less}
+
+-- ---- lists
+
+all_in : {X : Type 0} (P : X → Type 0) (xs : List X) (x : X) → In x xs → All P xs → P x
+all_in P [] x i h = absurd i
+all_in P (y ∷ xs) x (inl e) h = subst P (sym e) (h 0 y (omega arith))
+all_in P (y ∷ xs) x (inr i) h = all_in P xs x i (λ k d g. h (suc k) d (omega arith))
+
+element : {X : Type 0} (xs : List X) (k : ℕ) (d : X) → k < length xs → In (get_or xs k d) xs
+element [] k d g = absurd (omega arith)
+element (x ∷ xs) zero d g = inl refl
+element (x ∷ xs) (suc k) d g = inr (element xs k d (omega arith))
+
+in_either : {X : Type 0} (x : X) (xs ys : List X) → In x (xs ++ ys) → In x xs ⊎ In x ys
+in_either {X} x [] ys h = inr h
+in_either {X} x (z ∷ xs) ys h = elim h [ inl e ↦ inl (inl e) | inr r ↦ elim (in_either {X = X} x xs ys r) [ inl a ↦ inl (inr a) | inr b ↦ inr b ] ]
+
+within : {X : Type 0} (xs : List X) (k : ℕ) (x : X) → slice_get xs k ≡ Some x → k < length xs
+within [] k x h = cc
+within (y ∷ xs) zero x h = omega arith
+within (y ∷ xs) (suc k) x h = let e = within xs k x h in omega arith
+
+got : {X : Type 0} (xs : List X) (k : ℕ) (x d : X) → slice_get xs k ≡ Some x → get_or xs k d ≡ x
+got [] k x d h = cc
+got (y ∷ xs) zero x d h = let e : y ≡ x = cc in e
+got (y ∷ xs) (suc k) x d h = got xs k x d h
+
+-- ---- where an edge comes from
+
+abbrev Made : Couple → Dirs → Edge → Type 0
+Made c d e = (e.from ≡ c.from) × (e.to ≡ c.to) × (e.level ≡ level_of d)
+
+first : (c : Couple) (d : Dirs) (v : Verdict) (e : Edge) (es : List Edge) → In e (with_some (edge_of c d v) es) → Made c d e ⊎ In e es
+first c d (Never w) e es h = inr h
+first c d (Met x y w) e es h = elim h [ inl f ↦ inl (ap (λ (z : Edge). z.from) f, ap (λ (z : Edge). z.to) f, ap (λ (z : Edge). z.level) f) | inr r ↦ inr r ]
+first c d (Assumed w) e es h = elim h [ inl f ↦ inl (ap (λ (z : Edge). z.from) f, ap (λ (z : Edge). z.to) f, ap (λ (z : Edge). z.level) f) | inr r ↦ inr r ]
+
+made : (c : Couple) (as' : List Answer) (e : Edge) → In e (edges_of c as') → (a : Answer) × In a as' × Made c a.0 e
+made c [] e h = absurd h
+made c (a ∷ as') e h =
+    elim (first c a.0 a.1 e (edges_of c as') h) [
+      | inl m ↦ (a, inl refl, m)
+      | inr r ↦ (let k = made c as' e r in (k.0, inr k.1, k.2))
+    ]
+
+among : (cs : List Couple) (e : Edge) → In e (all_edges cs) → (c : Couple) × In c cs × In e (edges_of c c.answers)
+among [] e h = absurd h
+among (c ∷ cs) e h =
+    elim (in_either e (edges_of c c.answers) (all_edges cs) h) [
+      | inl a ↦ (c, inl refl, a)
+      | inr b ↦ (let k = among cs e b in (k.0, inr k.1, k.2))
+    ]
+
+-- ---- loops round both
+
+same_common : (ls ms : List Loop) → tested.common_of ls ms ≡ common_of ls ms
+same_common [] ms = refl
+same_common (l ∷ ls) [] = refl
+same_common (l ∷ ls) (m ∷ ms) = ap (λ c. cond (l.number == m.number) (suc c) 0) (same_common ls ms)
+
+common_short : (ls ms : List Loop) → common_of ls ms ≤ length ls
+common_short [] ms = omega arith
+common_short (l ∷ ls) [] = omega arith
+common_short (l ∷ ls) (m ∷ ms) = step (l.number == m.number) (common_of ls ms) (length ls) (common_short ls ms)
+  where
+    step : (b : Bool) (c k : ℕ) → c ≤ k → cond b (suc c) 0 ≤ suc k
+    step true c k h = omega arith
+    step false c k h = omega arith
+
+-- ---- edges
+
+module _ (n : Nest) (c : Couple) (shallow : IsShallow n) (h : IsCouple n c) where
+  from_loops : loops_at n c.from.stmt ≡ h.refs.first.loops
+  from_loops = ap (λ (s : Standing). s.loops) (got (nest_statements n) c.from.stmt h.refs.first no_statement h.refs.first_is.statement)
+
+  to_loops : loops_at n c.to.stmt ≡ h.refs.second.loops
+  to_loops = ap (λ (s : Standing). s.loops) (got (nest_statements n) c.to.stmt h.refs.second no_statement h.refs.second_is.statement)
+
+  common_is : c.refs.common ≡ common_of (loops_at n c.from.stmt) (loops_at n c.to.stmt)
+  common_is = coupled.common_is n c h ∙ (same_common h.refs.first.loops h.refs.second.loops ∙ ap₂ common_of (sym from_loops) (sym to_loops))
+
+  short : c.refs.common ≤ 7
+  short =
+      let a = common_is in
+      let b = common_short (loops_at n c.from.stmt) (loops_at n c.to.stmt) in
+      let s = shallow c.from.stmt in
+      omega arith
+
+  abbrev IsRight : ℕ → Type 0
+  IsRight level = (level ≤ c.refs.common) × (level ≡ 0 → c.from.stmt < c.to.stmt)
+
+  right : (d : Dirs) → IsVectorOf c.refs d
+      → ((k : ℕ) × IsLedAt c.refs (filled c.refs.common d) k) ⊎ (IsTrue c.refs.same_turn × IsEqualAlone c.refs (filled c.refs.common d))
+      → IsRight (level_of d)
+  right d vector (inl led) =
+      let k = led.0 in
+      let at = led.1 in
+      let inside : k < c.refs.common = at.common in
+      let level : level_of d ≡ suc (0 + k) = led_level 0 k d.at
+      (λ m g. plain_equal (dir_at d m) (sym (filled_at c.refs d short vector m (omega arith)) ∙ at.before m g))
+      (plain_less (dir_at d k) (sym (filled_at c.refs d short vector k inside) ∙ at.less)) in
+      (omega arith, λ e. absurd (omega arith))
+  right d vector (inr equal) =
+      let level : level_of d ≡ 0 = equal_level 0 c.refs.common d.at
+      (λ m g. plain_equal (dir_at d m) (sym (filled_at c.refs d short vector m g) ∙ equal.1 m g))
+      vector.past_len in
+      (omega arith, λ e. coupled.stands_earlier n c h equal.0)
+
+  leads : (e : Edge) → In e (edges_of c c.answers) → IsEdgeOf n e
+  leads e i =
+      let k = made c c.answers e i in
+      let d = k.0.0 in
+      let vector = all_in (λ (a : Answer). IsVectorOf c.refs a.0) c.answers k.0 k.1 h.vectors in
+      let candidates = all_in (CoversCandidates c.refs) c.answers k.0 k.1 h.candidates in
+      let candidate = candidates (filled c.refs.common d) (filled_is_covered c.refs d short vector) in
+      let is = right d vector candidate.led in
+      let from : e.from.stmt ≡ c.from.stmt = ap (λ (p : Place). p.stmt) k.2.0 in
+      let to : e.to.stmt ≡ c.to.stmt = ap (λ (p : Place). p.stmt) k.2.1 in
+      let level : e.level ≡ level_of d = k.2.2 in
+      let first_within = within (nest_statements n) c.from.stmt h.refs.first h.refs.first_is.statement in
+      let second_within = within (nest_statements n) c.to.stmt h.refs.second h.refs.second_is.statement in
+      let same : common_of (loops_at n e.from.stmt) (loops_at n e.to.stmt) ≡ common_of (loops_at n c.from.stmt) (loops_at n c.to.stmt)
+      = ap₂ (λ a b. common_of (loops_at n a) (loops_at n b)) from to in
+      let common = common_is in
+      let low : level_of d ≤ c.refs.common = is.0 in
+      record {
+        from = subst (λ s. s < length (nest_statements n)) (sym from) first_within;
+        to = subst (λ s. s < length (nest_statements n)) (sym to) second_within;
+        carried = omega arith;
+        forward = λ z. (let less = is.1 (sym level ∙ z) in omega arith);
+      }
+
+pub edges_lead : EdgesLeadInNest
+edges_lead n g shallow h k d i =
+    let e = get_or g.edges k d in
+    let r = among h.couples e (subst (λ (es : List Edge). In e es) h.edges (element g.edges k d i)) in
+    leads n r.0 shallow (all_in (IsCouple n) h.couples r.0 r.1 h.each) e r.2
+
+pub graph_emission : GraphEmissionKeepsOrder
+graph_emission n g holds ps trip plain once shallow h emitted =
+    emission_keeps_order n g.edges holds ps trip plain once (edges_lead n g shallow h) emitted

@@ -1,0 +1,7 @@
+use Rattle.std.proofs.lemmas.Bool.{iff_false}
+use Rattle.emission.proofs.nest_emission.TranslationLaws.{one_deallocation}
+use Rattle.emission.proofs.nest_emission.translation.add_deallocation.Goals as goal
+
+pub returns : goal.returns
+returns c =
+    one_deallocation c.args.line c.args.made.now c.args.stmts.now.items c.push.new.self.items (iff_false c.is_empty.ensures c.if-is_empty.false) c.in_ok-push.ensures.items

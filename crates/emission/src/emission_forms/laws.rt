@@ -1,0 +1,14 @@
+//! Laws of what is emitted. A law is a function without a body: its contract is what holds.
+ghost use Rattle.emission.specs.emission_forms.Laws.{FormsAreLone, PiecesAreWritten};
+
+/// The pieces that are emitted for a nest are, as statements, loops from 1 by 1 in which a statement's array form
+/// stands in the place of the statement's further loops.
+pub fn pieces_are_written()
+    ensures { PiecesAreWritten }
+{}
+
+/// Such a form stands for one statement that depends on itself by no flow or output dependence there, and does what the
+/// statement's instances do where these may store all at once (Allen and Kennedy, section 2.4).
+pub fn forms_are_lone()
+    ensures { FormsAreLone }
+{}

@@ -1,0 +1,11 @@
+//! Recursive emission: its pieces, the orders that keep the edges of a graph, array forms among them, and marks.
+#![tactic(auto)]
+
+pub mod emission_forms;
+pub mod emission_marks;
+pub mod emission_meaning;
+pub mod emission_order;
+pub mod emission_pieces;
+pub mod graph_edges;
+pub mod graph_orders;
+pub mod nest_emission;

@@ -1,5 +1,0 @@
-use Rattle.emission_laws.proofs.EmissionPieces.Emitted.{pieces_are_emitted}
-use Rattle.emission_laws.proofs.emission_pieces.laws.pieces_are_emitted.Goals as goal
-
-pub returns : goal.returns
-returns c = pieces_are_emitted

@@ -1,9 +1,0 @@
-use Rattle.f77_grammar.specs.program.Limits.{has_reversed_bounds}
-use Rattle.f77_syntax.specs.Views.{text_of}
-use Rattle.f77_syntax.specs.Walk.{IsSearched}
-use Rattle.f77_constants.specs.Constants.{store_of}
-use Rattle.fv_meaning.specs.Dialect.{fortran77}
-use Rattle.f77_constants.proofs.checks.reversed_bounds.Given as goal
-
-abbrev pub invariant-loop-i : goal.invariant-loop-i
-invariant-loop-i l = IsSearched (has_reversed_bounds fortran77 (store_of l.constants)) (text_of l.text) l.i

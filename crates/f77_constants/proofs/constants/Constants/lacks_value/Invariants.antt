@@ -1,8 +1,0 @@
-use Rattle.std.proofs.Common.{◌≡◌, map, drop}
-use Rattle.f77_syntax.specs.Views.{constant_of}
-use Rattle.f77_constants.specs.Constants.{store_of}
-use Rattle.f77_constants.specs.Bounds.{lacks_value}
-use Rattle.f77_constants.proofs.constants.Constants.lacks_value.Given as goal
-
-abbrev pub invariant-loop-constant : goal.invariant-loop-constant
-invariant-loop-constant l = lacks_value (store_of l.self) (map constant_of l.constants) ≡ lacks_value (store_of l.self) (map constant_of (drop l.constant-index l.constants))

@@ -1,5 +1,0 @@
-use Rattle.f77_expr.proofs.ReadingLaws.{all_source}
-use Rattle.f77_expr.proofs.expressions.expression.Goals as goal
-
-pub returns-clause-source : goal.returns-clause-source
-returns-clause-source c = all_source c.read_chars.result _ c.read_chars.ensures.read

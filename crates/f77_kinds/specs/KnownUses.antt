@@ -1,8 +1,0 @@
--- The uses of names by which the kinds of a program are checked.
-use Rattle.std.specs.Prelude.{List}
-use Rattle.f77_grammar.specs.program.Uses.{Use}
-use Rattle.f77_names.specs.UsesView.{listed}
-use Rattle.f77_kinds.specs.declared.kind_check.KindCheck.{KindCheck}
-
-abbrev pub known_uses : KindCheck → List Use
-known_uses check = listed check.names.now.uses

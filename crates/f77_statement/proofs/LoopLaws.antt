@@ -1,0 +1,129 @@
+-- DO statements.
+use Rattle.std.proofs.Common.{◌≡◌, ℕ, Bool, true, false, List, [], ◌∷◌, ◌++◌, refl, ap, sym, ◌∙◌, subst, append_assoc, codes, IsTrue, arith}
+use Rattle.std.specs.Prelude.{Option, Some, ◌==◌}
+use Rattle.std.specs.List.{list_any}
+use Rattle.std.proofs.lemmas.Bool.{eqb-true}
+use Rattle.std.proofs.lemmas.Bool.Decides.{nat_tests}
+use Rattle.std.proofs.lemmas.List.{map-append}
+use Rattle.tree.specs.View.{expression_of}
+use Rattle.f77_grammar.specs.Statement77 as statement
+use Rattle.f77_grammar.specs.expressions.Reading.{is_wide}
+use Rattle.f77_grammar.specs.expressions.Spelling.{is_digit, is_letter, IsName, Words, Begins, Stops, chars, value}
+use Rattle.f77_grammar.specs.expressions.Squeezing.{Symbol, Char, Text, Broken}
+use Rattle.f77_grammar.specs.expressions.Words as words
+use Rattle.f77_grammar.specs.expressions.Words.{Word}
+use Rattle.f77_grammar.specs.statements.Forms as forms
+use Rattle.f77_grammar.specs.statements.Forms.{IsWritten, IsLabel, optional_comma}
+use Rattle.f77_grammar.specs.statements.Controls.{Control, written_control}
+use Rattle.f77_grammar.specs.statements.Recognition.{BeginsWithLetter}
+use Rattle.f77_expressions.specs.Lexing.{strip}
+use Rattle.f77_words.specs.keywords.Fronts.{IsLabelled}
+use Rattle.f77_words.specs.keywords.FormsLeftOut.{without_comma, without_comma_by}
+use Rattle.f77_words.proofs.keywords.Stripping.{strip_same, stripped}
+use Rattle.f77_grammar.specs.declared.syntax.statements.Stmt77.TheVariants as stmts
+use Rattle.f77_grammar.proofs.syntax.Equations.{statement_of-do}
+use Rattle.f77_words.specs.declared.lists.controls.DoControl.{DoControl}
+use Rattle.f77_words.specs.lists.Reading.{IsControlOf, IsWholeControl}
+use Rattle.f77_statement.specs.declared.formed.Formed.{Formed}
+use Rattle.f77_statement.specs.Formed.{IsFound}
+use Rattle.f77_statement.specs.Loops.{IsLoopFront}
+use Rattle.f77_statement.specs.Parts.{IsFormedOf}
+
+-- ---- a comma that may be left out
+
+pub record HasComma (text : List Symbol) : Type 0 where
+  pub comma : Bool
+  pub same : text ≡ chars (optional_comma comma) ++ without_comma text
+
+comma_by : (t : Bool) (c : ℕ) (ss : List Symbol) → (44 == c) ≡ t → without_comma (Char c ∷ ss) ≡ without_comma_by t (Char c) ss → HasComma (Char c ∷ ss)
+comma_by true c ss k e = let m : 44 ≡ c = eqb-true 44 c k in record { comma = true; same = ap (λ (q : ℕ). Char q ∷ ss) (sym m) ∙ ap (λ (q : List Symbol). Char 44 ∷ q) (sym e) }
+comma_by false c ss k e = record { comma = false; same = sym e }
+
+pub has_comma : (text : List Symbol) → HasComma text
+has_comma [] = record { comma = false; same = refl }
+has_comma (Char c ∷ ss) = comma_by (44 == c) c ss refl refl
+has_comma (Text t ∷ ss) = record { comma = false; same = refl }
+has_comma (Broken ∷ ss) = record { comma = false; same = refl }
+
+letter_no_comma : (c : ℕ) → IsTrue (is_letter c) → (44 == c) ≡ false
+letter_no_comma c h = grind (arith, nat_tests)
+
+letter_no_digit : (c : ℕ) → IsTrue (is_letter c) → is_digit c ≡ false
+letter_no_digit c h = grind (arith, nat_tests)
+
+pub comma_gone : (b : Bool) (rest : List Symbol) → BeginsWithLetter rest → without_comma (chars (optional_comma b) ++ rest) ≡ rest
+comma_gone true rest h = refl
+comma_gone false [] h = absurd h
+comma_gone false (Char c ∷ ss) h = ap (λ (t : Bool). without_comma_by t (Char c) ss) (letter_no_comma c h)
+comma_gone false (Text t ∷ ss) h = absurd h
+comma_gone false (Broken ∷ ss) h = absurd h
+
+label_ends : (b : Bool) (rest : List Symbol) → BeginsWithLetter rest → Stops is_digit (chars (optional_comma b) ++ rest)
+label_ends true rest h = refl
+label_ends false [] h = absurd h
+label_ends false (Char c ∷ ss) h = letter_no_digit c h
+label_ends false (Text t ∷ ss) h = absurd h
+label_ends false (Broken ∷ ss) h = absurd h
+
+-- ---- the front
+
+spread : (digits comma : List ℕ) (rest : List Symbol) → chars (digits ++ comma) ++ rest ≡ chars digits ++ (chars comma ++ rest)
+spread digits comma rest = ap (λ (q : List Symbol). q ++ rest) (map-append Char digits comma) ∙ append_assoc (chars digits) (chars comma) rest
+
+pub front_found : (text rest more : List Symbol) (number : ℕ) → strip (codes "DO") text ≡ Some rest → IsLabelled rest number more → IsLoopFront text number (without_comma more)
+front_found text rest more number e h =
+    let k = has_comma more in
+    record {
+      label = h.label;
+      comma = k.comma;
+      is_label = h.is_label;
+      number_is = h.number_is;
+      same = strip_same (codes "DO") text rest e
+          ∙ ap (λ (q : List Symbol). chars (codes "DO") ++ q) (h.same ∙ (ap (λ (q : List Symbol). chars h.label ++ q) k.same ∙ sym (spread h.label (optional_comma k.comma) (without_comma more))));
+    }
+
+pub front_stripped : (text rest : List Symbol) (digits : List ℕ) (comma : Bool) → text ≡ chars (codes "DO" ++ (digits ++ optional_comma comma)) ++ rest
+    → strip (codes "DO") text ≡ Some (chars digits ++ (chars (optional_comma comma) ++ rest))
+front_stripped text rest digits comma e = stripped (codes "DO") text _ (e ∙ ap (λ (q : List Symbol). chars (codes "DO") ++ q) (spread digits (optional_comma comma) rest))
+
+pub front_labelled : (rest : List Symbol) (digits : List ℕ) (comma : Bool) → IsLabel digits → BeginsWithLetter rest → IsLabelled (chars digits ++ (chars (optional_comma comma) ++ rest)) (value digits) (chars (optional_comma comma) ++ rest)
+front_labelled rest digits comma l b = record { label = digits; is_label = l; same = refl; number_is = refl; whole = label_ends comma rest b }
+
+some_same : (a b : List Symbol) → Some a ≡ Some b → a ≡ b
+some_same a b e = cc
+
+-- what follows DO is that label
+pub front_label : (text more rest : List Symbol) (digits : List ℕ) (comma : Bool) → strip (codes "DO") text ≡ Some more → IsLabel digits → BeginsWithLetter rest
+    → text ≡ chars (codes "DO" ++ (digits ++ optional_comma comma)) ++ rest → IsLabelled more (value digits) (chars (optional_comma comma) ++ rest)
+front_label text more rest digits comma s l b e =
+    subst (λ (q : List Symbol). IsLabelled q (value digits) (chars (optional_comma comma) ++ rest)) (some_same _ more (sym (front_stripped text rest digits comma e) ∙ s)) (front_labelled rest digits comma l b)
+
+-- ---- the whole
+
+name_begins : (x : List ℕ) (rest : List Symbol) → IsName x → BeginsWithLetter (chars x ++ rest)
+name_begins [] rest n = absurd n
+name_begins (c ∷ cs) rest n = n.0
+
+text_of_name : (x : List ℕ) (text rest : List Symbol) → Begins text (words.Name x) rest → text ≡ chars x ++ rest
+text_of_name x text rest b = b.same ∙ ap (λ (q : List Symbol). q ++ rest) (b.spelled.1 ∙ ap chars b.spelled.2.0)
+
+pub control_begins : (c : Control) (text : List Symbol) → Words text (written_control c) → BeginsWithLetter text
+control_begins c text h = subst BeginsWithLetter (sym (text_of_name c.variable text h.0 h.1)) (name_begins c.variable h.0 h.1.spelled.2.1)
+
+pub formed_loop : (number : ℕ) (k : DoControl) (wide : Bool) (digits : List ℕ) (comma : Bool) (c : Control) → value digits ≡ number → IsControlOf k c → wide ≡ list_any is_wide (written_control c)
+    → IsFormedOf (record { statement = stmts.Do number k.variable k.first k.last k.step; wide = wide; depth = k.depth }) (forms.Do digits comma c)
+formed_loop number k wide digits comma c n h w =
+    let s : statement.Do number k.variable (expression_of k.first) (expression_of k.last) (expression_of k.step) ≡ forms.statement_of (forms.Do digits comma c) =
+    rw (sym n, h.variable, h.first, h.last, h.step) refl in
+    record { statement = statement_of-do number k.variable k.first k.last k.step ∙ s; wide = w; depth = h.depth }
+
+pub loop_found : (text rest : List Symbol) (number : ℕ) (ws : List Word) (k : DoControl) (wide : Bool) (made : Formed) → IsLoopFront text number rest → Words rest ws → IsWholeControl ws k
+    → wide ≡ list_any is_wide ws
+    → ((digits : List ℕ) (comma : Bool) (c : Control) → value digits ≡ number → IsControlOf k c → wide ≡ list_any is_wide (written_control c) → IsFormedOf made (forms.Do digits comma c))
+    → IsFound (λ f. IsWritten f text) made
+loop_found text rest number ws k wide made f t h w m =
+    record {
+      form = forms.Do f.label f.comma h.control;
+      is = ((rest, f.same, subst (Words rest) h.same t), f.is_label, h.good);
+      made_of = m f.label f.comma h.control f.number_is h.is (w ∙ ap (list_any is_wide) h.same);
+    }

@@ -1,0 +1,26 @@
+-- The kinds of statements by which they are recognised.
+use Rattle.std.specs.Prelude.{ℕ, Bool, true, false, List}
+use Rattle.f77_grammar.specs.Statement77 as statement
+use Rattle.f77_grammar.specs.Statement77.{Statement77}
+use Rattle.f77_grammar.specs.expressions.Phrases.{Phrase}
+use Rattle.f77_grammar.specs.expressions.Squeezing.{Symbol}
+use Rattle.f77_grammar.specs.statements.Controls.{Control}
+use Rattle.f77_grammar.specs.statements.Forms.{Form, Assign, Do, IsWritten}
+use Rattle.f77_words.specs.keywords.Kinds.{HasKeyword}
+
+-- the statement may be the inner one of a logical IF
+abbrev pub is_inner : Statement77 → Bool
+is_inner (statement.Assign left e) = true
+is_inner (statement.Go n) = true
+is_inner statement.Continue = true
+is_inner statement.Stop = true
+is_inner (statement.Read is) = true
+is_inner (statement.Print is) = true
+is_inner s = false
+
+-- The text is so written, and no condition stands before its statement.
+pub data IsUnconditional (text : List Symbol) : Form → Type 0 where
+  Assignment : (l r : Phrase) → IsWritten (Assign l r) text → IsUnconditional text (Assign l r)
+  Loop : (label : List ℕ) (comma : Bool) (c : Control) → IsWritten (Do label comma c) text
+      → IsUnconditional text (Do label comma c)
+  OfKeyword : (f : Form) → HasKeyword f → IsWritten f text → IsUnconditional text f

@@ -1,8 +1,0 @@
-//! The statements of a FORTRAN 77 program as types (ANSI X3.9-1978, sections 7 to 12), each with the plain statement
-//! that it stands for.
-#![tactic(auto)]
-
-mod declarations;
-mod statements;
-
-pub use statements::{Entity, Labelled, Stmt77};

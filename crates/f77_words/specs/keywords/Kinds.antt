@@ -1,0 +1,26 @@
+-- How assignments and DO statements are recognised.
+use Rattle.std.specs.Prelude.{◌≡◌, true, false, List}
+use Rattle.f77_grammar.specs.expressions.Squeezing.{Symbol}
+use Rattle.f77_grammar.specs.statements.Forms.{Form, Assign, Test, If, Do}
+use Rattle.f77_grammar.specs.statements.Recognition.{IsConditional, has_equals_outside}
+use Rattle.f77_words.specs.keywords.Outside.{has_comma_outside}
+
+-- an equals sign outside parentheses, and no comma outside parentheses behind it
+pub record IsOfAssignment (text : List Symbol) : Type 0 where
+  pub unconditional : (condition rest : List Symbol) → IsConditional text condition rest → ⊥
+  pub equals : has_equals_outside text 0 ≡ true
+  pub no_comma : has_comma_outside text 0 false ≡ false
+
+-- an equals sign outside parentheses, and a comma outside parentheses behind it
+pub record IsOfLoop (text : List Symbol) : Type 0 where
+  pub unconditional : (condition rest : List Symbol) → IsConditional text condition rest → ⊥
+  pub equals : has_equals_outside text 0 ≡ true
+  pub comma : has_comma_outside text 0 false ≡ true
+
+-- the form is recognised by its keyword: neither by a condition nor by an equals sign outside parentheses
+abbrev pub HasKeyword : Form → Type 0
+HasKeyword (Assign l r) = ⊥
+HasKeyword (Test p f) = ⊥
+HasKeyword (If p) = ⊥
+HasKeyword (Do label comma c) = ⊥
+HasKeyword f = Unit {0}

@@ -1,0 +1,20 @@
+use Rattle.std.proofs.Common.{◌+◌, ◌≤◌, List, length}
+use Rattle.f90_grammar.specs.Blocks.{Placed}
+use Rattle.f90_grammar.specs.Order.{Place, stays_open}
+use Rattle.f90_blocks.specs.places.forms.Places.{IsPlacedOf}
+use Rattle.f90_statement.specs.Views.{AreOf}
+use Rattle.f90_blocks.specs.structure.Ends.{AreFree}
+use Rattle.f90_blocks.proofs.structure.Walks.{IsWalkedBack}
+use Rattle.f90_blocks.proofs.structure.ends.first_open.Given as goal
+
+abbrev pub invariant-loop-i : goal.invariant-loop-i
+invariant-loop-i l = record {
+  within : l.i ≤ length l.text;
+  few_ifs : l.ends.ifs + l.i ≤ length l.text;
+  few_loops : l.ends.loops + l.i ≤ length l.text;
+  walked : (ps : List Placed) → AreOf IsPlacedOf l.text ps
+      → IsWalkedBack (λ (p : Place). stays_open p.here.form p.after) (AreFree l.ends) ps l.i l.found;
+}
+
+abbrev pub decreases-loop-i : goal.decreases-loop-i
+decreases-loop-i l = l.i

@@ -1,6 +1,0 @@
-use Rattle.std.proofs.Common.{drop}
-use Rattle.f90_calls.proofs.HidingLaws.{NamesLeft, declared_names}
-use Rattle.f90_calls.proofs.hiding.functions_of.Given as goal
-
-abbrev pub invariant-hiding : goal.invariant-hiding
-invariant-hiding l = NamesLeft (declared_names l.forms) (declared_names (drop l.form-index l.forms)) l.functions

@@ -1,5 +1,0 @@
-use Rattle.f90_kinds.proofs.KnownLaws.{trees_know_names}
-use Rattle.f90_kinds.proofs.laws.trees_have_their_names.Goals as goal
-
-pub returns : goal.returns
-returns c = trees_know_names

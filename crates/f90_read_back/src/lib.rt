@@ -1,6 +1,0 @@
-//! Laws of reading Fortran 90: the text of a printed program is read as that program, and no text as two programs.
-#![tactic(auto)]
-
-mod laws;
-
-pub use laws::{one_program, printed_program_is_read};

@@ -1,0 +1,64 @@
+//! The word at the front of words, where one is looked for.
+ghost use Rattle.f90_expressions.specs.words.Tokens.{word_of, words_of};
+ghost use Rattle.f90_statement.specs.items.parts.Fronts.{After, NameFront, HeadFront, IsThat, mark_word};
+
+use f90_expressions::words::Token;
+use tree::Name;
+
+/// A mark between other words. `Open` is a parenthesis that stands behind no name.
+#[derive(Clone, Copy, Debug, PartialEq, Eq)]
+pub enum Mark {
+    Open,
+    Close,
+    Comma,
+    Equals,
+    Colon,
+    /// `::`
+    Colons,
+}
+
+impl Mark {
+    // Whether a word is this mark.
+    fn is(self, token: &Token) -> bool
+        ensures { IsThat result (word_of token.now) (mark_word self) }
+    {
+        match self {
+            Mark::Open => matches!(token, Token::Open),
+            Mark::Close => matches!(token, Token::Close),
+            Mark::Comma => matches!(token, Token::Comma),
+            Mark::Equals => matches!(token, Token::Equals),
+            Mark::Colon => matches!(token, Token::Colon),
+            Mark::Colons => matches!(token, Token::Colons),
+        }
+    }
+}
+
+/// A name without a parenthesis behind it, and what follows it.
+pub fn after_name(tokens: &[Token]) -> Option<(Name, &[Token])>
+    ensures { NameFront result (words_of tokens.now) }
+{
+    match tokens {
+        [Token::Name(name), rest @ ..] => Some((*name, rest)),
+        _ => None,
+    }
+}
+
+/// A name with the parenthesis behind it, and what follows that.
+pub fn after_head(tokens: &[Token]) -> Option<(Name, &[Token])>
+    ensures { HeadFront result (words_of tokens.now) }
+{
+    match tokens {
+        [Token::Head(name), rest @ ..] => Some((*name, rest)),
+        _ => None,
+    }
+}
+
+/// What follows the mark.
+pub fn after(mark: Mark, tokens: &[Token]) -> Option<&[Token]>
+    ensures { After (mark_word mark) result (words_of tokens.now) }
+{
+    match tokens {
+        [first, rest @ ..] => { if mark.is(first) { Some(rest) } else { None } }
+        _ => None,
+    }
+}

@@ -1,9 +1,0 @@
-use Rattle.std.proofs.Common.{List}
-use Rattle.f90_grammar.specs.Forms as forms
-use Rattle.f90_statements.specs.Contents.{are_wide}
-use Rattle.f90_statements.specs.Views.{AreOf, IsEntityOf}
-use Rattle.f90_statements.proofs.AnyLaws.{IsLeft}
-use Rattle.f90_statements.proofs.contents.has_wide_entity.Given as goal
-
-abbrev pub invariant-loop-entity : goal.invariant-loop-entity
-invariant-loop-entity l = (all : List forms.Entity) → AreOf IsEntityOf l.entities all → IsLeft IsEntityOf (are_wide) l.entities l.entity-index all

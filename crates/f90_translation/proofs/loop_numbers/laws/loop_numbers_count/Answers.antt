@@ -1,5 +1,0 @@
-use Rattle.f90_translation.proofs.LoopNumbers.Nests.{loop_numbers_count}
-use Rattle.f90_translation.proofs.loop_numbers.laws.loop_numbers_count.Goals as goal
-
-pub returns : goal.returns
-returns c = loop_numbers_count

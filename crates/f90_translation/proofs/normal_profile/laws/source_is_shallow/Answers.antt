@@ -1,5 +1,0 @@
-use Rattle.f90_translation.proofs.NormalProfile.Sources.{source_is_shallow}
-use Rattle.f90_translation.proofs.normal_profile.laws.source_is_shallow.Goals as goal
-
-pub returns : goal.returns
-returns c = source_is_shallow

@@ -1,5 +1,0 @@
-use Rattle.f90_translation.proofs.ProgramMarks.Law.{translation_is_marked}
-use Rattle.f90_translation.proofs.program_marks.laws.translation_is_marked.Goals as goal
-
-pub returns : goal.returns
-returns c = translation_is_marked

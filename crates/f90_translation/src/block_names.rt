@@ -1,5 +1,0 @@
-//! The names that stand in a block.
-mod listing;
-mod statements;
-
-pub use listing::names_in_block;

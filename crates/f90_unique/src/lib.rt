@@ -1,6 +1,0 @@
-//! Laws of the grammar of Fortran 90: no list of words is written for two forms.
-#![tactic(auto)]
-
-mod laws;
-
-pub use laws::{one_form, one_items, one_phrase, one_reading, one_text, one_words};

@@ -1,6 +1,0 @@
-use Rattle.std.proofs.Common.{refl}
-use Rattle.fixed_form.proofs.Columns.{columns_written}
-use Rattle.fixed_form.proofs.source.columns.Goals as goal
-
-pub returns : goal.returns
-returns c = columns_written c.args.line.now _ c.copy_from_slice.new.self c.min-width.result refl c.min-width.ensures c.copy_from_slice.ensures.after

@@ -1,6 +1,0 @@
--- A card of the code as the definitions have it.
-use Rattle.fixed_form.specs.declared.cards.Card.{Card}
-use Rattle.f77_grammar.specs.Cards.{PlainCard}
-
-abbrev pub card_of : Card → PlainCard
-card_of c = record { label = c.label; line = c.line; chars = c.chars }

@@ -1,9 +1,0 @@
-use Rattle.std.proofs.Common.{length}
-use Rattle.fv_deck.proofs.Parts.{IsPassed}
-use Rattle.fv_deck.proofs.lines.source_and_input.Given as goal
-
-abbrev pub invariant-loop-line : goal.invariant-loop-line
-invariant-loop-line l = IsPassed l.data_line l.deck l.rest
-
-abbrev pub decreases-loop-line : goal.decreases-loop-line
-decreases-loop-line l = length l.rest

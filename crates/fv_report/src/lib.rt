@@ -1,8 +1,0 @@
-//! How a command ended, the status that tells of it, and the line that goes to the notes.
-#![tactic(auto)]
-
-mod line;
-mod names;
-mod outcome;
-
-pub use outcome::{Outcome, note, status};

@@ -1,5 +1,0 @@
-use Rattle.fv_rewrite.proofs.ReplacedProfile.{replacing_keeps_profile}
-use Rattle.fv_rewrite.proofs.laws.replaced_profile.Goals as goal
-
-pub returns : goal.returns
-returns c = replacing_keeps_profile

@@ -1,8 +1,0 @@
-use Rattle.std.proofs.Common.{◌≡◌, take}
-use Rattle.std.specs.Int.{int_max}
-use Rattle.std.specs.List.{fold}
-use Rattle.fv_tree.specs.Operators.{number_in}
-use Rattle.fv_tree.proofs.functions.greatest.Given as goal
-
-abbrev pub invariant-loop-value : goal.invariant-loop-value
-invariant-loop-value l = l.best ≡ fold (λ best v. int_max best (number_in v)) l.initial.best (take l.value-index l.args)

@@ -1,7 +1,0 @@
-use Rattle.fv_tree.specs.OperatorTable.{spelling77_of}
-use Rattle.fv_tree.specs.declared.ops.TheConstants.{OPERATORS}
-use Rattle.fv_tree.proofs.Table.{find-IsSpelled}
-use Rattle.fv_tree.proofs.ops.Op.read77.Goals as goal
-
-pub returns-clause-spelled : goal.returns-clause-spelled
-returns-clause-spelled c = find-IsSpelled spelling77_of c.args.text.now c.args.between OPERATORS c.find77.result c.find77.ensures

@@ -1,7 +1,0 @@
--- The statements so far.
-use Rattle.std.proofs.Common.{◌≡◌, ◌++◌, take}
-use Rattle.graph_print.specs.Lines.{walk_text}
-use Rattle.graph_print.proofs.dependences.push_walk.Given as goal
-
-abbrev pub invariant-loop-s : goal.invariant-loop-s
-invariant-loop-s l = l.text.items ≡ l.fn.text.items ++ walk_text (take l.s-index l.s-items)

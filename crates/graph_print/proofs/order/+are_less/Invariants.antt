@@ -1,5 +1,0 @@
-use Rattle.std.proofs.Common.{length}
-use Rattle.graph_print.proofs.order.+are_less.Given as goal
-
-abbrev pub decreases-are_less : goal.decreases-are_less
-decreases-are_less l = length l.a.now

@@ -1,8 +1,0 @@
--- The numbers of the loops so far.
-use Rattle.std.proofs.Common.{◌≡◌, map, take}
-use Rattle.nest_tree.specs.View.{loop_of}
-use Rattle.graph_print.specs.Listing.{loop_numbers}
-use Rattle.graph_print.proofs.statements.loop_numbers.Given as goal
-
-abbrev pub invariant-loop-turns : goal.invariant-loop-turns
-invariant-loop-turns l = l.numbers ≡ loop_numbers (map loop_of (take l.turns-index l.turns-items))

@@ -1,0 +1,46 @@
+//! The lines of a program.
+ghost use Rattle.std.specs.Prelude.{◌≡◌, ◌≤◌, IfOk, length, map};
+ghost use Rattle.f90_print.specs.Notes.{text_of};
+ghost use Rattle.find_nests.specs.Found.{found_of};
+ghost use Rattle.tree.specs.View.{program_of};
+ghost use Rattle.listing.specs.graphs.Listing.{lines_of_entries};
+ghost use Rattle.listing.specs.programs.Listing.{AreLinesOf, HasEntries, HasFewSymbols, IsListing, kept};
+
+use crate::graphs::kept_lines;
+use crate::programs::lists::add;
+use crate::programs::nests::nest_lines;
+use crate::programs::words::reason_word;
+use find_nests::{Found, Reason, find_nests};
+use std::alloc::Global;
+use tree::{Line, Memory, Program77, Seq};
+
+/// The line of a kept loop.
+pub fn kept_loop(alloc: Global, line: u32, reason: Reason) -> Result<Seq<Line>, Memory>
+    ensures { IfOk result (λ all. map text_of all ≡ lines_of_entries (kept line reason)) }
+{
+    kept_lines(alloc, line, reason_word(reason))
+}
+
+fn lines_of(alloc: Global, found: &Found) -> Result<Seq<Line>, Memory>
+    requires { HasFewSymbols (found_of found.now) }
+    ensures { IfOk result (λ all. AreLinesOf (HasEntries (found_of found.now)) (map text_of all)) }
+{
+    match found {
+        Found::Nest(nest) => nest_lines(alloc, nest),
+        Found::Kept(line, reason) => kept_loop(alloc, *line, *reason),
+    }
+}
+
+/// The listing of a program: in the order of the text each kept loop with its reason, and each nest with its loops, its
+/// statements, the dependences between them, each with the test behind it, and what keeps a statement from array form.
+/// A nest whose dependences can't be tested so far is one line, as a kept loop.
+pub fn list(alloc: Global, program: &Program77) -> Result<Seq<Line>, Memory>
+    requires { length program.now.decls ≤ 1000 }
+    ensures { IfOk result (λ all. IsListing (program_of program.now) (map text_of all)) }
+{
+    let mut all = Vec::new(alloc);
+    for found in find_nests(alloc, program)?.as_slice() {
+        add(&mut all, lines_of(alloc, found)?)?;
+    }
+    Ok(Seq::from_vec(all))
+}

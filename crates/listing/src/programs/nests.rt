@@ -1,0 +1,86 @@
+//! The lines of a nest.
+ghost use Rattle.std.specs.Prelude.{◌≡◌, ◌≤◌, IfOk, Some, length, map};
+ghost use Rattle.f90_print.specs.Notes.{text_of};
+ghost use Rattle.listing.specs.graphs.Listing.{lines_of_entries};
+ghost use Rattle.normal_loops.specs.Normalised.{normalised};
+ghost use Rattle.nest.specs.Bodies.{nest_statements};
+ghost use Rattle.nest.specs.View.{nest_of};
+ghost use Rattle.listing.specs.programs.Listing.{AreLinesOf, AreTestsOf, HasNestEntries, all_holds, not_built};
+ghost use Rattle.listing.specs.programs.Testable.{IsTestable};
+
+use crate::graphs::{kept_lines, lines};
+use crate::programs::lists::add;
+use crate::programs::straight::is_testable;
+use array_form::holds::holds;
+use dependence_graph::dep_graph::graph;
+use dependence_graph::graphs::{Graph, Hold};
+use nest::Nest;
+use normal_loops::normalise;
+use std::alloc::Global;
+use tree::{Line, Memory, Seq};
+
+/// What tests say of a nest: its graph, the holds of all its statements, and its lines in a listing.
+#[derive(Drop)]
+pub struct Tests {
+    pub graph: Graph,
+    pub holds: Seq<Hold>,
+    pub lines: Seq<Line>,
+}
+
+// The holds of all statements of a nest that has so many.
+fn all_holds(alloc: Global, nest: &Nest, count: u32) -> Result<Seq<Hold>, Memory>
+    requires testable { IsTestable (nest_of nest.now) }
+    requires count { count ≡ length (nest_statements (nest_of nest.now)) }
+    ensures { IfOk result (λ all. all ≡ all_holds (nest_of nest.now)) }
+{
+    let mut all = Vec::new(alloc);
+    for before in 0..count {
+        add(&mut all, holds(alloc, before + 1, nest)?)?;
+    }
+    Ok(Seq::from_vec(all))
+}
+
+/// Tests a nest that bears this number in the listing. Cycles aren't listed so far.
+pub fn test(alloc: Global, number: u32, nest: &Nest) -> Result<Tests, Memory>
+    requires { IsTestable (nest_of nest.now) }
+    ensures { IfOk result (λ t. AreTestsOf number (nest_of nest.now) t.graph t.holds (map text_of t.lines)) }
+{
+    let graph = graph(alloc, nest)?;
+    let holds = all_holds(alloc, nest, graph.stmts)?;
+    let lines = lines(alloc, nest, number, &graph, &holds, &Seq::new(alloc))?;
+    Ok(Tests {
+        graph,
+        holds,
+        lines,
+    })
+}
+
+/// The line of a nest that isn't tested so far.
+pub fn not_built(alloc: Global, nest: &Nest) -> Result<Seq<Line>, Memory>
+    ensures { IfOk result (λ all. map text_of all ≡ lines_of_entries (not_built (nest_of nest.now))) }
+{
+    kept_lines(alloc, nest.line, b"NOTBUILT")
+}
+
+// The lines of a nest that was found as this one, once its loops go from 1 by 1.
+fn normal_lines(alloc: Global, found: &Nest, nest: &Nest) -> Result<Seq<Line>, Memory>
+    ensures { IfOk result (λ all.
+        AreLinesOf (HasNestEntries (nest_of found.now) (Some (nest_of nest.now))) (map text_of all)) }
+{
+    if !is_testable(alloc, nest)? {
+        return not_built(alloc, found);
+    }
+    Ok(test(alloc, found.number, nest)?.lines)
+}
+
+/// The lines of a nest that was found.
+pub(crate) fn nest_lines(alloc: Global, found: &Nest) -> Result<Seq<Line>, Memory>
+    requires { length found.now.symbols ≤ 1000 }
+    ensures { IfOk result (λ all.
+        AreLinesOf (HasNestEntries (nest_of found.now) (normalised (nest_of found.now))) (map text_of all)) }
+{
+    let Some(nest) = normalise(alloc, found)? else {
+        return not_built(alloc, found);
+    };
+    normal_lines(alloc, found, &nest)
+}

@@ -1,0 +1,65 @@
+-- From the lines that are listed of a source its entries are read.
+use Rattle.std.proofs.Common.{◌≡◌, refl, sym, ap, ◌∙◌, ℕ, ◌<◌, ◌≤◌, ◌==◌, false, Some, List, [], ◌∷◌, map, arith, ap₂}
+use Rattle.std.proofs.Common.{lit<}
+use Rattle.std.proofs.lemmas.Bool.{ne_eqb}
+use Rattle.std.specs.List.{AllByRecursion}
+use Rattle.std.specs.Str.Lines.{lines}
+use Rattle.f77_grammar.specs.Reading77.{Reads77}
+use Rattle.f77_laws.proofs.CardStatements.{read_cards_are_source}
+use Rattle.f77_laws.proofs.Programs.{read_is_program}
+use Rattle.meaning.specs.Dialect.{fortran77}
+use Rattle.meaning.specs.Profile77.{IsProgram77}
+use Rattle.tree.specs.Plain.{Program}
+use Rattle.listing.specs.graphs.Lines.{Entry}
+use Rattle.f90_grammar.specs.PrintedText.{IsNote}
+use Rattle.f90_laws.proofs.printed.PrintedLinesText.{IsLine, lines_again}
+use Rattle.listing_laws.proofs.notes.Listed.{listing_lines_are_notes}
+use Rattle.listing_laws.specs.reader.Reader.{read_listing}
+use Rattle.listing_laws.proofs.read_back.Listed.{program_listing_is_read}
+use Rattle.listing_laws.proofs.read_back.Sources.{source_is_short}
+use Rattle.listing_laws.specs.read_back.Laws.{SourceListingIsRead, SourceListingTextIsRead, SameLinesListTheSame}
+
+is_program : (source : List ℕ) (p : Program) → Reads77 fortran77 source p → IsProgram77 fortran77 p
+is_program source p h =
+    let text = h.program.text in
+    let cards = read_cards_are_source source h.cards text h.are_cards h.program.statements in
+    read_is_program fortran77 text p (omega arith) h.program.reads cards.statements cards.few
+
+pub source_listing_is_read : SourceListingIsRead
+source_listing_is_read source p lines h listing =
+    program_listing_is_read p lines (is_program source p h) (source_is_short source p h) listing
+
+-- ---- its text
+
+not_that : (low c d : ℕ) → low ≤ c → d < low → (c == d) ≡ false
+not_that low c d h k = ne_eqb c d (λ same. omega (arith, h, k, same))
+
+inside : (line : List ℕ) → AllByRecursion (λ c. (32 ≤ c) × (c ≤ 126)) line → IsLine line
+inside [] h = tt
+inside (c ∷ cs) h = ((not_that 32 c 10 h.0.0 (lit< tt), not_that 32 c 13 h.0.0 (lit< tt)), inside cs h.1)
+
+each_inside : (ls : List (List ℕ)) → AllByRecursion IsNote ls → AllByRecursion IsLine ls
+each_inside [] h = tt
+each_inside (l ∷ ls) h = (inside l h.0.printable, each_inside ls h.1)
+
+pub source_listing_text_is_read : SourceListingTextIsRead
+source_listing_text_is_read source p text h listed =
+    let notes = listing_lines_are_notes p listed.lines (is_program source p h) listed.listing in
+    let same : lines text ≡ listed.lines = ap lines listed.text_is
+    ∙ lines_again listed.lines (each_inside listed.lines notes) in
+    ap read_listing same ∙ source_listing_is_read source p listed.lines h listed.listing
+
+-- ---- two listings
+
+each_same : (es fs : List Entry) → map Some es ≡ map Some fs → es ≡ fs
+each_same [] [] h = refl
+each_same [] (f ∷ fs) h = cc
+each_same (e ∷ es) [] h = cc
+each_same (e ∷ es) (f ∷ fs) h =
+    let first : e ≡ f = cc in
+    let more : map Some es ≡ map Some fs = cc in ap₂ (λ x xs. x ∷ xs) first (each_same es fs more)
+
+pub same_lines_list_the_same : SameLinesListTheSame
+same_lines_list_the_same source other p q lines h k listing others =
+    each_same listing.entries others.entries
+    (sym (source_listing_is_read source p lines h listing) ∙ source_listing_is_read other q lines k others)

@@ -1,0 +1,3 @@
+pub mod notes
+pub mod read_back
+pub mod reader

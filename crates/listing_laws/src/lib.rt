@@ -1,0 +1,6 @@
+//! Laws of listings: what was listed is read from their lines, which may stand as notes before a printed program.
+#![tactic(auto)]
+
+pub mod notes;
+pub mod read_back;
+pub mod reader;

@@ -1,6 +1,0 @@
-//! The lines of a program's listing are notes that may stand before a printed program.
-#![tactic(auto)]
-
-mod laws;
-
-pub use laws::listing_lines_are_notes;

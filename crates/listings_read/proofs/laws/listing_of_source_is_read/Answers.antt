@@ -1,5 +1,0 @@
-use Rattle.listings_read.proofs.SourceListings.{source_listing_is_read}
-use Rattle.listings_read.proofs.laws.listing_of_source_is_read.Goals as goal
-
-pub returns : goal.returns
-returns c = source_listing_is_read

@@ -1,5 +1,0 @@
-use Rattle.std.proofs.Common.{length}
-use Rattle.loop_normal.proofs.values.+stmt_with_values.Given as goal
-
-abbrev pub decreases-stmt_with_values : goal.decreases-stmt_with_values
-decreases-stmt_with_values l = length l.inner.now

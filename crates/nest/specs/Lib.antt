@@ -1,0 +1,5 @@
+pub mod Blocks
+pub mod Bodies
+pub mod Plain
+pub mod View
+pub mod statement_loops

@@ -1,6 +1,0 @@
-//! What is seen of a nest without running it suffices for the laws of its runs and orders.
-#![tactic(auto)]
-
-mod laws;
-
-pub use laws::facts_of_nest;

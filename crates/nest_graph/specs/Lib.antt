@@ -1,9 +1,0 @@
-pub mod References
-pub mod Instances
-pub mod Touched
-pub mod Tested
-pub mod Ready
-pub mod Pair
-pub mod Arcs
-pub mod Graph
-pub mod Complete

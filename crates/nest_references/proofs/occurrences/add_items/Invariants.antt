@@ -1,9 +1,0 @@
--- The references so far were added.
-use Rattle.std.proofs.Common.{map, take}
-use Rattle.fv_tree.specs.View.{reference_of}
-use Rattle.nest_tree.specs.Bodies.{Standing}
-use Rattle.nest_references.specs.Added.{IsAdded, IsRound}
-use Rattle.nest_references.proofs.occurrences.add_items.Given as goal
-
-abbrev pub invariant-loop-at : goal.invariant-loop-at
-invariant-loop-at l = (s : Standing) → IsRound s l.round → IsAdded l.symbols l.round.number s (map reference_of (take l.at l.items)) l.initial.list l.list

@@ -1,7 +1,0 @@
--- The references in one that is read, which stands before those of its subscripts.
-use Rattle.std.specs.Prelude.{ℕ, List, ◌++◌}
-use Rattle.fv_tree.specs.Plain.{Reference}
-use Rattle.nest_graph.specs.References.{own_reference, references_in_subscripts}
-
-abbrev pub references_in_item : List (List ℕ) → Reference → List Reference
-references_in_item loops r = own_reference loops r.name r.subscripts ++ references_in_subscripts loops r.subscripts

@@ -1,6 +1,0 @@
-//! Nests of loops and statements alone as shapes, whose runs and orders have laws.
-#![tactic(auto)]
-
-mod laws;
-
-pub use laws::shape_of_nest;

@@ -1,4 +1,0 @@
-pub mod Plain
-pub mod View
-pub mod Bodies
-pub mod Blocks

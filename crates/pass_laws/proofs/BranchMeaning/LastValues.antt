@@ -1,0 +1,334 @@
+-- The last values of loop variables behind all loops of a nest with IFs and jumps are those that its run leaves.
+use mathlib.Core.Path.{ap₂}
+use Rattle.std.proofs.Common.{◌≡◌, refl, sym, ap, ◌∙◌, subst, ◌⊎◌, inl, inr, ℕ, ◌≤◌, ℤ, Bool, true, false, ◌&&◌, ◌||◌}
+use Rattle.std.proofs.Common.{cond, List, [], ◌∷◌, ◌++◌, map, length, None}
+use Rattle.std.specs.List.{flat_map, list_all}
+use Rattle.std.specs.Str.{bytes_eq}
+use Rattle.std.proofs.lemmas.Slice.Eq.{bytes_eq-Decides}
+use Rattle.meaning.specs.Reads.{names_in_subscripts}
+use Rattle.tree.specs.Plain.{block}
+use Rattle.meaning.specs.Run.{State, Going, does, does_all}
+use Rattle.meaning.specs.Store.{Store, Cell}
+use Rattle.rewrite.proofs.Replacing.{bytes_eq-false, either_false, not_true}
+use Rattle.pass_laws.specs.last_runs.Laws.{AreSameButCounters, LacksLastValues}
+use Rattle.last_values.specs.Behind.{left_behind, may_end_behind, stands_behind, values_behind}
+use Rattle.last_values.specs.Occurrences.{occurs_only_within, stands_in, stands_in_bounds, stands_in_guard, stands_in_left}
+use Rattle.last_values.specs.Occurrences.{stands_in_statement, stands_outside, stands_outside_in_branches}
+use Rattle.last_values.specs.Occurrences.{stands_outside_in_each}
+use Rattle.last_values.specs.declared.behind.NestedLoop.{NestedLoop}
+use Rattle.linear_forms.specs.Laws.{AreSized, HoldsSized}
+use Rattle.linear_forms.specs.Linear.{HaveValues}
+use Rattle.linear_forms.proofs.Sizes.{both}
+use Rattle.nest_order.specs.orders.Lists.{Each}
+use Rattle.nest_order.specs.runs.Guarded.{sequential, variable_cell}
+use Rattle.nest_order.proofs.runs.Results.{true_false}
+use Rattle.nest.specs.Blocks.{statement_of_part}
+use Rattle.nest.specs.Bodies.{nest_statements, statements_in, statements_in_branches, statements_in_parts}
+use Rattle.nest.specs.Plain.{Branches, no_branches, branch, Guarded, Loop, Nest, Part, Run, Turns, Choice, Label}
+use Rattle.nest.specs.Plain.{Jump, Parts, no_parts, part}
+use Rattle.last_values.specs.normal_forms.Numbers.{values_from}
+use Rattle.pass_laws.specs.normal_runs.Sources.{HasOwnVariable, IsSuitedStatement, counters_in, ends_behind, loops_in}
+use Rattle.pass_laws.specs.normal_runs.Sources.{variables_in}
+use Rattle.normal_loops.specs.Loops.{is_normal, nested_loops}
+use Rattle.nest.specs.statement_loops.Standings.{is_among}
+use Rattle.pass_laws.proofs.LastRuns.Behind as behind
+use Rattle.pass_laws.proofs.LastRuns.Behind.{Begins, Fits, among_first, among_later, each_fits, none_behind, run_behind}
+use Rattle.pass_laws.proofs.LastRuns.LeftNames.{kept_in}
+use Rattle.pass_laws.proofs.LastRuns.Listed.{HasRun, each_joined, last_of, listed, plain_listed, run_listed}
+use Rattle.pass_laws.proofs.LastRuns.Made.{IsOutside, IsOwn, each_front, each_of_all, each_rest, names_of, piece_of}
+use Rattle.pass_laws.proofs.LastRuns.Pieces.{Piece, IsPlainFor, Ran, after, none_yet, value_or}
+use Rattle.pass_laws.proofs.LastRuns.Sources.{Done, element}
+use Rattle.pass_laws.proofs.LastRuns.Stores.{IsSetting, There}
+use Rattle.pass_laws.specs.branch_meaning.Jumps.{JumpsAhead}
+use Rattle.pass_laws.specs.branch_meaning.Sources.{IsBranchedSource, IsLoop, IsStraightStanding}
+use Rattle.pass_laws.proofs.BranchMeaning.Loops.{bare_all, bare_body, bare_body_nested, bare_body_normal, bare_each_all}
+use Rattle.pass_laws.proofs.BranchMeaning.Loops.{bare_straight_all, loop_alone}
+
+-- ---- lists
+
+abbrev variables : List NestedLoop → List (List ℕ)
+variables ms = map (λ (m : NestedLoop). m.turns.variable) ms
+
+-- what holds of each name of a list
+among_each : (P : List ℕ → Type 0) (ys : List (List ℕ)) (x : List ℕ) → is_among ys x ≡ true → Each P ys → P x
+among_each P [] x h k = absurd (true_false (sym h))
+among_each P (y ∷ ys) x h k = by (bytes_eq y x) refl h (λ g. among_each P ys x g k.1)
+  where
+    by : (b : Bool) → bytes_eq y x ≡ b → (b || is_among ys x) ≡ true → (is_among ys x ≡ true → P x) → P x
+    by true e g more = subst P ((bytes_eq-Decides y x).0 e) k.0
+    by false e g more = more g
+
+not_among : (ys : List (List ℕ)) (x : List ℕ) → (is_among ys x ≡ true → ⊥) → is_among ys x ≡ false
+not_among ys x h = by (is_among ys x) refl
+  where
+    by : (b : Bool) → is_among ys x ≡ b → b ≡ false
+    by true e = absurd (h e)
+    by false e = refl
+
+-- a variable that stands behind, if there is any
+first_behind : (stands : List ℕ → Bool) (ms : List NestedLoop) → ((x : List ℕ) × (is_among (variables ms) x ≡ true) × (stands x ≡ true)) ⊎ Each (λ (m : NestedLoop). stands m.turns.variable ≡ false) ms
+first_behind stands [] = inr tt
+first_behind stands (m ∷ ms) = by (stands m.turns.variable) refl (first_behind stands ms)
+  where
+    by : (b : Bool) → stands m.turns.variable ≡ b → ((x : List ℕ) × (is_among (variables ms) x ≡ true) × (stands x ≡ true)) ⊎ Each (λ (m : NestedLoop). stands m.turns.variable ≡ false) ms
+        → ((x : List ℕ) × (is_among (variables (m ∷ ms)) x ≡ true) × (stands x ≡ true)) ⊎ Each (λ (m : NestedLoop). stands m.turns.variable ≡ false) (m ∷ ms)
+    by true e h = inl (m.turns.variable, among_first m.turns.variable (variables ms), e)
+    by false e (inl p) = inl (p.0, among_later m.turns.variable p.0 (variables ms) p.1, p.2)
+    by false e (inr h) = inr (e, h)
+
+apart_each : (stands : List ℕ → Bool) (ms : List NestedLoop) (x : List ℕ) → ((y : List ℕ) → is_among (variables ms) y ≡ true → stands y ≡ true → bytes_eq y x ≡ false)
+    → Each (λ (m : NestedLoop). stands m.turns.variable ≡ true → bytes_eq m.turns.variable x ≡ false) ms
+apart_each stands [] x h = tt
+apart_each stands (m ∷ ms) x h = (
+  h m.turns.variable (among_first m.turns.variable (variables ms)),
+  apart_each stands ms x (λ y i. h y (among_later m.turns.variable y (variables ms) i)),
+)
+
+sized_known : (names : List (List ℕ)) (xs : List ℤ) (s : Store) → HoldsSized s → HaveValues names s xs → AreSized xs
+sized_known [] [] s h k = tt
+sized_known [] (x ∷ xs) s h k = absurd k
+sized_known (y ∷ names) [] s h k = absurd k
+sized_known (y ∷ names) (x ∷ xs) s h k = (h (variable_cell y) x k.1, sized_known names xs s h k.2)
+
+kept_known : (names : List (List ℕ)) (xs : List ℤ) (s u : Store) → ((y : List ℕ) → is_among names y ≡ true → (u.bounds y ≡ s.bounds y) × (u.held (variable_cell y) ≡ s.held (variable_cell y))) → HaveValues names s xs → HaveValues names u xs
+kept_known [] [] s u h k = tt
+kept_known [] (x ∷ xs) s u h k = absurd k
+kept_known (y ∷ names) [] s u h k = absurd k
+kept_known (y ∷ names) (x ∷ xs) s u h k =
+    let p = h y (among_first y names) in
+    (p.0 ∙ k.0, p.1 ∙ k.1, kept_known names xs s u (λ z g. h z (among_later y z names g)) k.2)
+
+-- ---- no statement stores in a variable whose last values stand behind all loops
+
+one_less : (ls : List Loop) (l : Loop) (x : List ℕ) → is_among (names_of (ls ++ l ∷ [])) x ≡ false → (is_among (names_of ls) x ≡ false) × (bytes_eq l.variable x ≡ false)
+one_less [] l x h = (refl, (either_false (bytes_eq l.variable x) false h).0)
+one_less (k ∷ ks) l x h =
+    let p = either_false (bytes_eq k.variable x) (is_among (names_of (ks ++ l ∷ [])) x) h in
+    let q = one_less ks l x p.1 in
+    (ap (λ b. b || is_among (names_of ks) x) p.0 ∙ q.0, q.1)
+
+module _ (n : Nest) where
+  -- within these loops, such a variable of another loop doesn't stand outside its loops
+  abbrev pub AreInside : List Loop → (List ℕ → Bool) → Type 0
+  AreInside ls stands = (x : List ℕ) → ends_behind n x ≡ true → is_among (names_of ls) x ≡ false → stands x ≡ false
+
+  inside_first : (ls : List Loop) (a b : List ℕ → Bool) → AreInside ls (λ x. a x || b x) → AreInside ls a
+  inside_first ls a b h x e free = (either_false (a x) (b x) (h x e free)).0
+
+  inside_rest : (ls : List Loop) (a b : List ℕ → Bool) → AreInside ls (λ x. a x || b x) → AreInside ls b
+  inside_rest ls a b h x e free = (either_false (a x) (b x) (h x e free)).1
+
+  inside_more : (ls : List Loop) (l : Loop) (ps : Parts) → AreInside ls (λ x. stands_outside x (Turns l ps)) → AreInside (ls ++ l ∷ []) (λ x. stands_outside_in_each x ps)
+  inside_more ls l ps h x e free =
+      let p = one_less ls l x free in
+      sym (ap (λ b. cond b false (stands_outside_in_each x ps)) p.1)
+      ∙ (either_false (stands_in_bounds x l) (cond (bytes_eq l.variable x) false (stands_outside_in_each x ps)) (h x e p.0)).1
+
+  pub inside_all : AreInside [] (λ x. stands_outside x n.body)
+  unfolding stands_behind
+  inside_all x e free =
+      let p = both (is_among (variables_in n) x) (occurs_only_within x n.body && list_all (may_end_behind (length n.symbols) x) (loops_in n)) e in
+      not_true (stands_outside x n.body) (both (occurs_only_within x n.body) (list_all (may_end_behind (length n.symbols) x) (loops_in n)) p.1).0
+
+  not_behind : (ls : List Loop) (g : Guarded) → AreInside ls (λ x. stands_in_statement x g) → is_among (names_of ls) g.left.name ≡ false → ends_behind n g.left.name ≡ false
+  not_behind ls g h free = by (ends_behind n g.left.name) refl
+    where
+      by : (b : Bool) → ends_behind n g.left.name ≡ b → b ≡ false
+      by false e = refl
+      by true e =
+          let p = either_false (stands_in_guard g.left.name g.guard) (stands_in_left g.left.name g.left || stands_in g.left.name g.right) (h g.left.name e free) in
+          let q = either_false (stands_in_left g.left.name g.left) (stands_in g.left.name g.right) p.1 in
+          let name = (either_false (bytes_eq g.left.name g.left.name) (is_among (names_in_subscripts g.left.subscripts) g.left.name) q.0).0 in
+          absurd (true_false (sym ((bytes_eq-Decides g.left.name g.left.name).1 refl) ∙ name))
+
+  mutual
+    outside_in : (ls : List Loop) (p : Part) → AreInside ls (λ x. stands_outside x p) → Each (IsSuitedStatement n) (statements_in ls p) → Each (IsOutside (kept_in n)) (statements_in ls p)
+    outside_in ls (Run g) h k = (record { kept = ap₂ (λ a b. a || b) (not_behind ls g h k.0.variables) k.0.symbols; free = k.0.variables }, tt)
+    outside_in ls (Turns l ps) h k = outside_in_parts (ls ++ l ∷ []) ps (inside_more ls l ps h) k
+    outside_in ls (Choice bs ps) h k =
+        each_joined (IsOutside (kept_in n)) (statements_in_branches ls bs) (statements_in_parts ls ps)
+        (outside_in_branches ls bs (inside_first ls (λ x. stands_outside_in_branches x bs) (λ x. stands_outside_in_each x ps) h) (each_front (IsSuitedStatement n) (statements_in_branches ls bs) (statements_in_parts ls ps) k))
+        (outside_in_parts ls ps (inside_rest ls (λ x. stands_outside_in_branches x bs) (λ x. stands_outside_in_each x ps) h) (each_rest (IsSuitedStatement n) (statements_in_branches ls bs) (statements_in_parts ls ps) k))
+    outside_in ls (Label j) h k = tt
+    outside_in ls (Jump j) h k = tt
+
+    outside_in_parts : (ls : List Loop) (ps : Parts) → AreInside ls (λ x. stands_outside_in_each x ps) → Each (IsSuitedStatement n) (statements_in_parts ls ps) → Each (IsOutside (kept_in n)) (statements_in_parts ls ps)
+    outside_in_parts ls no_parts h k = tt
+    outside_in_parts ls (part p ps) h k =
+        each_joined (IsOutside (kept_in n)) (statements_in ls p) (statements_in_parts ls ps)
+        (outside_in ls p (inside_first ls (λ x. stands_outside x p) (λ x. stands_outside_in_each x ps) h) (each_front (IsSuitedStatement n) (statements_in ls p) (statements_in_parts ls ps) k))
+        (outside_in_parts ls ps (inside_rest ls (λ x. stands_outside x p) (λ x. stands_outside_in_each x ps) h) (each_rest (IsSuitedStatement n) (statements_in ls p) (statements_in_parts ls ps) k))
+
+    outside_in_branches : (ls : List Loop) (bs : Branches) → AreInside ls (λ x. stands_outside_in_branches x bs) → Each (IsSuitedStatement n) (statements_in_branches ls bs) → Each (IsOutside (kept_in n)) (statements_in_branches ls bs)
+    outside_in_branches ls no_branches h k = tt
+    outside_in_branches ls (branch test ps bs) h k =
+        let first = inside_first ls (λ x. stands_in x test || stands_outside_in_each x ps) (λ x. stands_outside_in_branches x bs) h in
+        each_joined (IsOutside (kept_in n)) (statements_in_parts ls ps) (statements_in_branches ls bs)
+        (outside_in_parts ls ps (inside_rest ls (λ x. stands_in x test) (λ x. stands_outside_in_each x ps) first) (each_front (IsSuitedStatement n) (statements_in_parts ls ps) (statements_in_branches ls bs) k))
+        (outside_in_branches ls bs (inside_rest ls (λ x. stands_in x test || stands_outside_in_each x ps) (λ x. stands_outside_in_branches x bs) h) (each_rest (IsSuitedStatement n) (statements_in_parts ls ps) (statements_in_branches ls bs) k))
+
+  -- ---- a nest
+
+  each_own : (ms : List NestedLoop) → Each HasOwnVariable ms → Each (λ y. is_among n.symbols y ≡ false) (map (λ (m : NestedLoop). m.turns.variable) ms) → Each (IsOwn n.symbols) ms
+  each_own [] own apart = tt
+  each_own (m ∷ ms) own apart = (record { own = own.0; apart = apart.0 }, each_own ms own.1 apart.1)
+
+  module _ (source : IsBranchedSource n) where
+    apart_names : Each (λ y. is_among n.symbols y ≡ false) (variables_in n ++ counters_in n)
+    apart_names = each_of_all (λ y. is_among n.symbols y ≡ false) (variables_in n ++ counters_in n) source.apart
+
+    apart_variables : Each (λ y. is_among n.symbols y ≡ false) (variables_in n)
+    apart_variables = each_front (λ y. is_among n.symbols y ≡ false) (variables_in n) (counters_in n) apart_names
+
+    apart_counters : Each (λ y. is_among n.symbols y ≡ false) (counters_in n)
+    apart_counters = each_rest (λ y. is_among n.symbols y ≡ false) (variables_in n) (counters_in n) apart_names
+
+    -- no counter is a loop variable, and no symbol is either
+    not_counter : (y : List ℕ) → is_among (variables_in n) y ≡ true → is_among (counters_in n) y ≡ false
+    not_counter y g = not_among (counters_in n) y
+        (λ c. true_false (sym g ∙ among_each (λ x. is_among (variables_in n) x ≡ false) (counters_in n) y c (each_of_all (λ x. is_among (variables_in n) x ≡ false) (counters_in n) source.counters)))
+
+    symbol_apart : (y : List ℕ) → is_among n.symbols y ≡ true → (is_among (variables_in n) y ≡ false) × (is_among (counters_in n) y ≡ false)
+    symbol_apart y g = (
+      not_among (variables_in n) y (λ c. true_false (sym g ∙ among_each (λ x. is_among n.symbols x ≡ false) (variables_in n) y c apart_variables)),
+      not_among (counters_in n) y (λ c. true_false (sym g ∙ among_each (λ x. is_among n.symbols x ≡ false) (counters_in n) y c apart_counters)),
+    )
+
+    outside : Each (IsOutside (kept_in n)) (statements_in [] n.body)
+    outside = outside_in [] n.body inside_all (each_of_all (IsSuitedStatement n) (statements_in [] n.body) source.statements)
+
+    pieces : Piece n.symbols (kept_in n) [] (bare_body n.body)
+    pieces = by n.body source.loop (bare_body_normal n.symbols n.body source.normal)
+        (subst (λ ms. Each (IsOwn n.symbols) ms) (sym (bare_body_nested n.symbols n.body source.jumps)) (each_own (loops_in n) (each_of_all HasOwnVariable (loops_in n) source.own) apart_variables))
+      where
+        by : (p : Part) → IsLoop p → is_normal n.symbols [] (bare_body p) ≡ true → Each (IsOwn n.symbols) (nested_loops n.symbols [] (bare_body p)) → Piece n.symbols (kept_in n) [] (bare_body p)
+        by (Run g) loop h own = absurd loop
+        by (Turns l ps) loop h own = piece_of n.symbols (kept_in n) [] [] (Turns l (bare_all ps)) refl h (bare_straight_all ps) (bare_each_all (IsOutside (kept_in n)) (l ∷ []) ps) own
+        by (Choice bs ps) loop h own = absurd loop
+        by (Label k) loop h own = absurd loop
+        by (Jump k) loop h own = absurd loop
+
+  stands_all : (v : List ℕ) → stands_behind (length n.symbols) (loops_in n) n.body v ≡ true → list_all (may_end_behind (length n.symbols) v) (loops_in n) ≡ true
+  unfolding stands_behind
+  stands_all v h = (both (occurs_only_within v n.body) (list_all (may_end_behind (length n.symbols) v) (loops_in n)) h).1
+
+module _ (bits : ℕ) (n : Nest) (values : ℕ → ℤ) (s u : State) (high : bits ≤ 63) (source : IsBranchedSource n) (going : u.way ≡ Going) (holds : HoldsSized s.store)
+    (known : HaveValues n.symbols s.store (values_from (length n.symbols) 0 values)) (go : (does (sequential bits) None (statement_of_part n.line n.body) s).way ≡ Going)
+    (lacks : LacksLastValues n s.store (does (sequential bits) None (statement_of_part n.line n.body) s).store u.store) where
+  abbrev K : List ℕ → Bool
+  K = kept_in n
+
+  abbrev S : List ℕ → Bool
+  S y = stands_behind (length n.symbols) (loops_in n) n.body y
+
+  abbrev C : List ℕ → Bool
+  C y = is_among (counters_in n) y
+
+  abbrev t : State
+  t = does (sequential bits) None (statement_of_part n.line n.body) s
+
+  sized : AreSized (values_from (length n.symbols) 0 values)
+  sized = sized_known n.symbols (values_from (length n.symbols) 0 values) s.store holds known
+
+  -- the source's run, looked at for one variable
+  record Ended (x : List ℕ) : Type 0 where
+    bounds : (y : List ℕ) → (does (sequential bits) None (statement_of_part n.line n.body) s).store.bounds y ≡ s.store.bounds y
+    known_then : HaveValues n.symbols (does (sequential bits) None (statement_of_part n.line n.body) s).store (values_from (length n.symbols) 0 values)
+    value : (does (sequential bits) None (statement_of_part n.line n.body) s).store.held (variable_cell x) ≡ value_or (last_of (length n.symbols) values x (loops_in n)) (s.store.held (variable_cell x))
+    elements : (j : ℤ) (js : List ℤ) → (does (sequential bits) None (statement_of_part n.line n.body) s).store.held (element x j js) ≡ s.store.held (element x j js)
+    runs : Each (HasRun n.symbols K values bits s.store.bounds) (loops_in n)
+
+  ended : (x : List ℕ) → is_among (variables_in n) x ≡ true → stands_behind (length n.symbols) (loops_in n) n.body x ≡ true → Ended x
+  ended x i stands =
+      let setting : IsSetting n.symbols values s.store.bounds [] none_yet = record { fixed = λ its a. refl; sized = tt } in
+      let there : There n.symbols values s.store.bounds [] none_yet s.store = record { here = tt; known = known; bounds_are = λ y. refl } in
+      let kept : kept_in n x ≡ true = ap (λ b. b || is_among n.symbols x) (ap₂ (λ a b. a && b) i stands) in
+      let others : (y : List ℕ) → kept_in n y ≡ false → is_among n.symbols y ≡ false = λ y h. (either_false (ends_behind n y) (is_among n.symbols y) h).1 in
+      let same = bare_body_nested n.symbols n.body source.jumps in
+      let e = pieces n source in
+      let plain = plain_listed n.symbols K values x e (subst (λ ms. list_all (may_end_behind (length n.symbols) x) ms ≡ true) (sym same) (stands_all n x stands)) in
+      let d = of_body x kept others n.body source.loop source.jumps (each_of_all IsStraightStanding (nest_statements n) source.straight) (outside n source) e plain setting there go in
+      record {
+        bounds = d.there.bounds_are;
+        known_then = d.there.known;
+        value = d.value ∙ ap (λ o. value_or o (s.store.held (variable_cell x))) (sym (listed n.symbols K values x e) ∙ ap (last_of (length n.symbols) values x) same);
+        elements = d.elements;
+        runs = subst (λ ms. Each (HasRun n.symbols K values bits s.store.bounds) ms) same (run_listed n.symbols K values bits s.store.bounds e tt (λ h. (d.ran, tt)));
+      }
+    where
+      of_body : (x : List ℕ) (kept : kept_in n x ≡ true) (others : (y : List ℕ) → kept_in n y ≡ false → is_among n.symbols y ≡ false) (p : Part) → IsLoop p → JumpsAhead [] p
+          → Each IsStraightStanding (statements_in [] p) → Each (IsOutside (kept_in n)) (statements_in [] p) → (e : Piece n.symbols (kept_in n) [] (bare_body p)) → IsPlainFor n.symbols (kept_in n) values x e
+          → IsSetting n.symbols values s.store.bounds [] none_yet → There n.symbols values s.store.bounds [] none_yet s.store → (does (sequential bits) None (statement_of_part n.line p) s).way ≡ Going
+          → Done bits n.line high n.symbols (kept_in n) values s.store.bounds others sized x kept [] none_yet (after n.symbols (kept_in n) values x e none_yet) (Ran n.symbols (kept_in n) values bits s.store.bounds e none_yet) s.store
+          (does (sequential bits) None (statement_of_part n.line p) s).store
+      of_body x kept others (Run g) loop j straight outer e plain setting there go = absurd loop
+      of_body x kept others (Turns l ps) loop j straight outer e plain setting there go =
+          loop_alone bits n.line high n.symbols K values s.store.bounds others sized x kept l ps j straight outer e plain none_yet setting s there go
+      of_body x kept others (Choice bs ps) loop j straight outer e plain setting there go = absurd loop
+      of_body x kept others (Label k) loop j straight outer e plain setting there go = absurd loop
+      of_body x kept others (Jump k) loop j straight outer e plain setting there go = absurd loop
+
+  abbrev after_loops : State
+  after_loops = does_all (sequential bits) None (block (flat_map (left_behind n.symbols n.line (loops_in n) n.body) (loops_in n))) u
+
+  abbrev Same : Type 0
+  Same = (after_loops.way ≡ Going) × AreSameButCounters n t.store after_loops.store
+
+  -- where some variable stands behind
+  some_stand : (x : List ℕ) → is_among (variables_in n) x ≡ true → stands_behind (length n.symbols) (loops_in n) n.body x ≡ true
+      → ((does_all (sequential bits) None (block (flat_map (left_behind n.symbols n.line (loops_in n) n.body) (loops_in n))) u).way ≡ Going)
+      × AreSameButCounters n (does (sequential bits) None (statement_of_part n.line n.body) s).store (does_all (sequential bits) None (block (flat_map (left_behind n.symbols n.line (loops_in n) n.body) (loops_in n))) u).store
+  some_stand x i stands = ((b x).way, record { bounds = λ y h. (b x).bounds_stay y ∙ lacks.bounds y h; held = λ c h. by c h (ends_behind n c.name) refl })
+    where
+      d : Ended x
+      d = ended x i stands
+
+      fits : Each (Fits bits n.line n.symbols K values s.store.bounds sized S C) (loops_in n)
+      fits = each_fits bits n.line n.symbols K values s.store.bounds sized S C (loops_in n) (ended x i stands).runs (apart_variables n source) (λ y h. not_counter n source y h) (λ v h. stands_all n v h)
+
+      begins : Begins bits n.line n.symbols K values s.store.bounds sized S C u
+      begins = record {
+        way = going;
+        bounds_are = λ y h. lacks.bounds y h ∙ (ended x i stands).bounds y;
+        known = kept_known n.symbols (values_from (length n.symbols) 0 values) t.store u.store
+            (λ y g. (let a = symbol_apart n source y g in (lacks.bounds y a.1, lacks.held (variable_cell y) a.1 (ap (λ b. b && S y) a.0)))) (ended x i stands).known_then;
+      }
+
+      b : (y : List ℕ) → behind.Done bits n.line n.symbols K values s.store.bounds sized S C (loops_in n) y u after_loops
+      b y = run_behind bits n.line n.symbols K values s.store.bounds sized S C (loops_in n) fits y u begins
+
+      of_behind : (y : List ℕ) (js : List ℤ) → is_among (variables_in n) y ≡ true → S y ≡ true → ends_behind n y ≡ true → after_loops.store.held (record { name = y; subscripts = js }) ≡ t.store.held (record { name = y; subscripts = js })
+      of_behind y [] k g e =
+          (b y).value g ∙ (ap (value_or (last_of (length n.symbols) values y (loops_in n))) (lacks.before (variable_cell y) e) ∙ sym (ended y k g).value)
+      of_behind y (j ∷ js) k g e = (b y).elements y j js ∙ (lacks.before (element y j js) e ∙ sym ((ended y k g).elements j js))
+
+      by : (c : Cell) → C c.name ≡ false → (e : Bool) → ends_behind n c.name ≡ e → after_loops.store.held c ≡ t.store.held c
+      by c h true e = let p = both (is_among (variables_in n) c.name) (S c.name) e in of_behind c.name c.subscripts p.0 p.1 e
+      by c h false e =
+          (b x).others c (apart_each S (loops_in n) c.name (λ y k g. bytes_eq-false y c.name (λ q. true_false (sym (ap₂ (λ a b. a && b) k g) ∙ (ap (λ z. ends_behind n z) q ∙ e)))))
+          ∙ lacks.held c h e
+
+  -- where none does
+  none_stand : Each (λ (m : NestedLoop). stands_behind (length n.symbols) (loops_in n) n.body m.turns.variable ≡ false) (loops_in n)
+      → ((does_all (sequential bits) None (block (flat_map (left_behind n.symbols n.line (loops_in n) n.body) (loops_in n))) u).way ≡ Going)
+      × AreSameButCounters n (does (sequential bits) None (statement_of_part n.line n.body) s).store (does_all (sequential bits) None (block (flat_map (left_behind n.symbols n.line (loops_in n) n.body) (loops_in n))) u).store
+  none_stand h =
+      subst (λ (v : State). (v.way ≡ Going) × AreSameButCounters n t.store v.store) (sym (none_behind bits n.line n.symbols K values s.store.bounds sized S C (loops_in n) h u))
+      (going, record { bounds = lacks.bounds; held = λ c g. lacks.held c g (none (loops_in n) c.name h) })
+    where
+      none : (ms : List NestedLoop) (y : List ℕ) → Each (λ (m : NestedLoop). S m.turns.variable ≡ false) ms → (is_among (variables ms) y && S y) ≡ false
+      none [] y h = refl
+      none (m ∷ ms) y h = either (bytes_eq m.turns.variable y) refl (none ms y h.1)
+        where
+          either : (b : Bool) → bytes_eq m.turns.variable y ≡ b → (is_among (variables ms) y && S y) ≡ false → ((b || is_among (variables ms) y) && S y) ≡ false
+          either true e k = ap S (sym ((bytes_eq-Decides m.turns.variable y).0 e)) ∙ h.0
+          either false e k = k
+
+  pub last_values : ((does_all (sequential bits) None (values_behind n.symbols n.line (loops_in n) n.body) u).way ≡ Going)
+      × AreSameButCounters n (does (sequential bits) None (statement_of_part n.line n.body) s).store (does_all (sequential bits) None (values_behind n.symbols n.line (loops_in n) n.body) u).store
+  unfolding values_behind
+  last_values = by (first_behind S (loops_in n))
+    where
+      by : ((x : List ℕ) × (is_among (variables (loops_in n)) x ≡ true) × (S x ≡ true)) ⊎ Each (λ (m : NestedLoop). S m.turns.variable ≡ false) (loops_in n) → Same
+      by (inl p) = some_stand p.0 p.1 p.2
+      by (inr h) = none_stand h

@@ -1,0 +1,136 @@
+-- A nest that was found is one whose run stands beside that of its loops from 1 by 1.
+use Rattle.std.proofs.Common.{◌≡◌, refl, sym, subst, ℕ, true, false, List, [], ◌∷◌, ◌++◌, Option, Some, None, Contains}
+use Rattle.std.proofs.Common.{arith}
+use Rattle.std.specs.Prelude.{IsSome}
+use Rattle.tree.specs.Plain.{Program}
+use Rattle.meaning.specs.Blocks.{outermost, within_loop}
+use Rattle.meaning.specs.Dialect.{Dialect, fortran77}
+use Rattle.meaning.specs.Profile77.{IsProgram77}
+use Rattle.rewrite.specs.Names.{names_written_in}
+use Rattle.components.specs.Lists as components
+use Rattle.components.specs.Lists.{Each}
+use Rattle.components.proofs.ListLaws.{Each-append}
+use Rattle.find_nests.specs.Found.{InNest, found_in, body_of, nest_of_loop}
+use Rattle.find_nests.specs.Loops.{Placed, loops_in_block}
+use Rattle.find_nests.proofs.FoundLaws.{found_nest_is_loop}
+use Rattle.last_values.specs.declared.behind.NestedLoop.{NestedLoop}
+use Rattle.normal_loops.specs.Loops.{is_normal}
+use Rattle.normal_loops.specs.Normalised.{normalised}
+use Rattle.nest_order.specs.orders.Lists as order
+use Rattle.find_nests.specs.nest_parts.Numbers.{next}
+use Rattle.nest_reasons.specs.Symbols.{is_symbol}
+use Rattle.nest.specs.Bodies.{Standing, nest_loops, nest_statements}
+use Rattle.nest.specs.Plain.{Nest}
+use Rattle.pass_laws.proofs.NormalNests.There.{normalised_is_there}
+use Rattle.pass_laws.specs.normal_runs.Sources.{HasOwnVariable, IsNormalSource, IsSuitedStatement, counters_in, loops_in}
+use Rattle.pass_laws.specs.normal_runs.Sources.{names_of_statement, variables_in}
+use Rattle.pass_laws.specs.ready_nests.Distinct.{numbers_of}
+use Rattle.pass_laws.proofs.ReadyNests.FoundNumbers.{found_loops_are_distinct}
+use Rattle.pass_laws.proofs.ReadyNests.Lists.{Each-All, Each-Contains, Each-weaker}
+use Rattle.pass_laws.proofs.ReadyNests.Made.{made_of}
+use Rattle.nest.specs.statement_loops.Standings.{is_among}
+use Rattle.meaning_laws.proofs.profiles.Lists.{here}
+use Rattle.pass_laws.specs.found_sources.Laws.{FoundNestIsSource, HasLoopsAlone}
+use Rattle.pass_laws.proofs.FoundSources.Counters.{IsShort, counters_by, each_counter, name_outside, counter_outside}
+use Rattle.pass_laws.proofs.FoundSources.Counters.{distinct_counters}
+use Rattle.pass_laws.proofs.FoundSources.PlainNames.{declared_short}
+use Rattle.pass_laws.proofs.FoundSources.Lists.{Each-map}
+use Rattle.pass_laws.proofs.FoundSources.Numbers.{next_small}
+use Rattle.pass_laws.proofs.FoundSources.Sound.{IsSound, IsSoundStanding, IsSoundNested, AreSoundNested}
+use Rattle.pass_laws.proofs.FoundSources.Sound.{straight, small_numbers, standings, nested_sound}
+use Rattle.pass_laws.proofs.FoundSources.Symbols.{variable_no_symbol, uses_apart, short_names}
+use Rattle.pass_laws.proofs.FoundSources.Walk.{IsProper, proper_block, sound_block}
+
+-- ---- a nest of sound loops and statements, over names of the program
+
+record IsSoundNest (n : Nest) : Type 0 where
+  body : IsSound n.symbols [] n.body
+  symbols : Each IsShort n.symbols
+
+module _ (n : Nest) (sound : IsSoundNest n) (normal : is_normal n.symbols [] n.body ≡ true)
+    (numbers : components.Distinct (numbers_of (nest_loops n))) where
+  nested_are : AreSoundNested n.symbols (loops_in n) (nest_loops n)
+  nested_are = nested_sound n.symbols [] [] n.body (record { names = refl; zeros = tt }) normal sound.body
+
+  short_variables : Each IsShort (variables_in n)
+  short_variables =
+      Each-map IsShort (λ (l : NestedLoop). l.turns.variable) (loops_in n)
+      (Each-weaker (IsSoundNested n.symbols) (λ (l : NestedLoop). IsShort l.turns.variable) (loops_in n) (λ l h. h.short) nested_are.each)
+
+  apart_variables : Each (λ x. is_among n.symbols x ≡ false) (variables_in n)
+  apart_variables =
+      Each-map (λ x. is_among n.symbols x ≡ false) (λ (l : NestedLoop). l.turns.variable) (loops_in n)
+      (Each-weaker (IsSoundNested n.symbols) (λ (l : NestedLoop). is_among n.symbols l.turns.variable ≡ false) (loops_in n) (λ l h. h.apart) nested_are.each)
+
+  no_counter_of : (x : List ℕ) → IsShort x → is_among (counters_in n) x ≡ false
+  no_counter_of x h = subst (λ cs. is_among cs x ≡ false) (sym nested_are.counters) (name_outside (nest_loops n) x h)
+
+  suited : (s : Standing) → IsSoundStanding n.symbols s → IsSuitedStatement n s
+  suited s h = record {
+    counters = Each-All (λ x. is_among (counters_in n) x ≡ false) (names_of_statement s.statement)
+        (Each-weaker IsShort (λ x. is_among (counters_in n) x ≡ false) (names_of_statement s.statement) no_counter_of h.short);
+    variables = h.free;
+    symbols = h.apart;
+  }
+
+  each_of_counters : (P : List ℕ → Type 0) → Each P (counters_by (nest_loops n)) → Each P (counters_in n)
+  each_of_counters P h = subst (Each P) (sym nested_are.counters) h
+
+  source_of : IsNormalSource n
+  source_of = record {
+    normal = normal;
+    straight = straight n.symbols [] n.body sound.body;
+    statements = Each-All (IsSuitedStatement n) (nest_statements n)
+        (Each-weaker (IsSoundStanding n.symbols) (IsSuitedStatement n) (nest_statements n) suited (standings n.symbols [] [] n.body refl sound.body));
+    own = Each-All HasOwnVariable (loops_in n) (Each-weaker (IsSoundNested n.symbols) HasOwnVariable (loops_in n) (λ l h. h.own) nested_are.each);
+    once = subst (λ (cs : List (List ℕ)). order.Distinct cs) (sym nested_are.counters)
+        (distinct_counters (nest_loops n) (small_numbers n.symbols [] n.body sound.body) numbers);
+    counters = Each-All (λ x. is_among (variables_in n) x ≡ false) (counters_in n)
+        (each_of_counters (λ x. is_among (variables_in n) x ≡ false)
+        (each_counter (λ x. is_among (variables_in n) x ≡ false) (λ k. counter_outside (variables_in n) k short_variables) (nest_loops n)));
+    apart = Each-All (λ x. is_among n.symbols x ≡ false) (variables_in n ++ counters_in n)
+        (Each-append (λ x. is_among n.symbols x ≡ false) (variables_in n) (counters_in n) apart_variables
+        (each_of_counters (λ x. is_among n.symbols x ≡ false)
+        (each_counter (λ x. is_among n.symbols x ≡ false) (λ k. counter_outside n.symbols k sound.symbols) (nest_loops n))));
+  }
+
+-- ---- a nest that was found
+
+sound_loop : (d : Dialect) (p : Program) (k : ℕ) (q : Placed) → IsProgram77 d p → IsProper p.declarations q → HasLoopsAlone (body_of q.loop)
+    → IsSoundNest (nest_of_loop p k q.loop)
+sound_loop d p k q is h alone =
+    let x = q.loop.loop.variable in
+    let body = q.loop.loop.body in
+    let symbols = (nest_of_loop p k q.loop).symbols in
+    record {
+      body = (
+        record {
+          short = declared_short d p.declarations is.declarations x _ h.variable.integer.0;
+          free = refl;
+          apart = variable_no_symbol p.declarations x body;
+          number = next_small q.loop.before h.before;
+        },
+        sound_block d p.declarations is.declarations symbols (next q.loop.before) body (within_loop x h.round) (x ∷ [])
+            (next_small q.loop.before h.before) (here x h.round.variables, tt) h.body (uses_apart p.declarations x body) alone,
+      );
+      symbols = short_names d (is_symbol x (names_written_in body)) p.declarations is.declarations.each;
+    }
+
+sound_nest : (d : Dialect) (p : Program) (n : Nest) → IsProgram77 d p → Contains (found_in p) (InNest n) → HasLoopsAlone n.body → IsSoundNest n
+sound_nest d p n is h alone =
+    let f = found_nest_is_loop p n h in
+    let proper = Each-Contains (IsProper p.declarations) (loops_in_block 0 [] p.body) f.loop
+    (proper_block p.declarations 0 [] p.body outermost (omega arith) is.statements) f.stands in
+    subst (λ (m : Nest). HasLoopsAlone m.body → IsSoundNest m) (sym f.is) (λ a. sound_loop d p n.number f.loop is proper a) alone
+
+is_normal_nest : (n : Nest) → IsSome (normalised n) → is_normal n.symbols [] n.body ≡ true
+is_normal_nest n h = by (normalised n) refl h
+  where
+    by : (o : Option Nest) → normalised n ≡ o → IsSome o → is_normal n.symbols [] n.body ≡ true
+    by None e k = let no : ⊥ = cc in absurd no
+    by (Some m) e k = (made_of n m e).normal
+
+pub found_nests_are_sources : FoundNestIsSource
+found_nests_are_sources p n is h alone =
+    source_of n (sound_nest fortran77 p n is h alone) (is_normal_nest n (normalised_is_there fortran77 p n is h))
+    (found_loops_are_distinct fortran77 p n is h)

@@ -1,0 +1,100 @@
+-- What is made of a nest that was found has subscripts that move with its loops.
+use Rattle.std.proofs.Common.{◌≡◌, refl, sym, ap, ◌∙◌, subst, ℕ, ◌≤◌, List, [], ◌∷◌, ◌++◌, map, length, None}
+use Rattle.std.proofs.lemmas.List.{length-map, map-append}
+use Rattle.array_form.specs.forms.Loops.{Surroundings, variables_of}
+use Rattle.array_form.specs.forms.Statements.{hold_at}
+use Rattle.components.proofs.ListLaws.{Each-get}
+use Rattle.emission.specs.emission_forms.Forms.{AreRegular}
+use Rattle.last_values.specs.Endings.{scalar}
+use Rattle.last_values.specs.InPlace.{first_text, end_text}
+use Rattle.linear_forms.specs.Canonical.{canonising}
+use Rattle.normal_loops.specs.Bodies.{counting}
+use Rattle.normal_loops.specs.Values.{statement_with_values, normal_statement}
+use Rattle.nest_rewrite.specs.Rewritten.{rewritten_statement}
+use Rattle.nest.specs.Bodies.{Standing, nest_statements}
+use Rattle.nest.specs.Plain.{Guarded, Loop, Nest}
+use Rattle.last_values.specs.normal_forms.NormalLoops.{counters_of}
+use Rattle.last_values.specs.declared.normal_forms.loops.NormalLoop.{NormalLoop}
+use Rattle.pass_laws.proofs.ReadyNests.Made.{IsMadeOf, made_of}
+use Rattle.pass_laws.proofs.ReadyNests.Walk.{EachIn, Steps, standing, assigning, each_statement}
+use Rattle.array_form.specs.holds.Statements.{no_statement}
+use Rattle.array_form.specs.holds.Surroundings.{counted, counted_of, surroundings_of}
+use Rattle.pass_laws.proofs.NormalFacts.CanonicalPlain.{IsPlainStatement, plain_with_values}
+use Rattle.pass_laws.proofs.NormalFacts.CanonicalSources.{any_loop, found_is_plain}
+use Rattle.pass_laws.proofs.NormalFacts.Moved.{IsRegularFrom, statement_regular, scalar_held}
+use Rattle.pass_laws.specs.normal_facts.Laws.{NormalNestIsRegular}
+
+-- ---- one statement
+
+-- a statement that a rule makes canonical over these names is regular where nothing forbids its array form
+abbrev IsRegularMade : Surroundings → Guarded → ℕ → List (List ℕ) → List (List ℕ) → Type 0
+IsRegularMade a g k loops symbols =
+    hold_at a k (rewritten_statement (canonising loops symbols) g).left ≡ None
+    → IsRegularFrom a k (rewritten_statement (canonising loops symbols) g).left (rewritten_statement (canonising loops symbols) g).right
+
+made_regular : (a : Surroundings) (loops symbols : List (List ℕ)) → variables_of a.loops ≡ loops → a.symbols ≡ symbols
+    → (g : Guarded) → IsPlainStatement g → (k : ℕ) → IsRegularMade a g k loops symbols
+made_regular a loops symbols e f g p k =
+    subst (λ xs. IsRegularMade a g k xs symbols) e
+    (subst (λ ys. IsRegularMade a g k (variables_of a.loops) ys) f (λ h. statement_regular a k g.left g.right p.left p.right h))
+
+-- ---- the loops round a statement
+
+variables : List Loop → List (List ℕ)
+variables ls = map (λ (l : Loop). l.variable) ls
+
+variables_round : (d : ℕ) (ls : List Loop) → variables_of (map (λ l. counted_of d (counted l)) ls) ≡ variables ls
+unfolding variables
+variables_round d [] = refl
+variables_round d (l ∷ ls) = ap (λ xs. l.variable ∷ xs) (variables_round d ls)
+
+one_more : (symbols : List (List ℕ)) (round : List NormalLoop) (ls : List Loop) (l : Loop) (r : NormalLoop) → variables ls ≡ counters_of round
+    → variables (ls ++ counting symbols round l r ∷ []) ≡ counters_of (round ++ r ∷ [])
+unfolding variables counting
+one_more symbols round ls l r h =
+    map-append (λ (l : Loop). l.variable) ls (counting symbols round l r ∷ [])
+    ∙ (ap (λ xs. xs ++ r.counter ∷ []) h ∙ sym (map-append (λ (r : NormalLoop). r.counter) round (r ∷ [])))
+
+none_round : variables [] ≡ counters_of []
+unfolding variables
+none_round = refl
+
+-- ---- all statements
+
+module _ (n m : Nest) (same : m.symbols ≡ n.symbols) where
+  abbrev Asked : Standing → Type 0
+  Asked x = (k : ℕ) → 1 ≤ k → k ≤ length x.loops → hold_at (surroundings_of m x.loops) k x.statement.left ≡ None
+      → IsRegularFrom (surroundings_of m x.loops) k x.statement.left x.statement.right
+
+  abbrev Under : List NormalLoop → List Loop → Type 0
+  Under round ls = variables ls ≡ counters_of round
+
+  run : (round : List NormalLoop) (ls : List Loop) (g : Guarded) → Under round ls → IsPlainStatement g → Asked (standing ls (normal_statement n.symbols round g))
+  unfolding normal_statement
+  run round ls g u p k from to h =
+      made_regular (surroundings_of m ls) (counters_of round) n.symbols (variables_round (length ls) ls ∙ u) same
+      (statement_with_values n.symbols [] round g) (plain_with_values n.symbols [] round g p) k h
+
+  in_place : (ls : List Loop) (v : List ℕ) (g : Guarded) → g.left ≡ scalar v → Asked (standing ls g)
+  in_place ls v g e k from to h =
+      let a = surroundings_of m ls in
+      absurd (scalar_held a k v from (subst (λ d. k ≤ d) (sym (length-map ls (λ l. counted_of (length ls) (counted l)))) to) (ap (hold_at a k) (sym e) ∙ h))
+
+  steps : Steps n IsPlainStatement any_loop Under Asked
+  steps = record {
+    run = λ round ls g u p. run round ls g u p;
+    turns = λ round ls l r u f e. one_more n.symbols round ls l r u;
+    first = λ round ls l r u f e. in_place ls r.variable (assigning n.line r.variable (first_text n.symbols round r)) refl;
+    end = λ round ls l r u f e. in_place ls r.variable (assigning n.line r.variable (end_text n.symbols round r)) refl;
+  }
+
+  made_is_regular : EachIn IsPlainStatement any_loop n.body → IsMadeOf n m → AreRegular m
+  made_is_regular p is k s level h =
+      let all = each_statement n m IsPlainStatement any_loop Under Asked steps none_round p is in
+      let x = Each-get Asked (nest_statements m) all s no_statement level.0 k level.1 level.2 h in
+      record { left = x.left; right = x.right }
+
+pub normal_nest_is_regular : NormalNestIsRegular
+normal_nest_is_regular p n m is h e plain free =
+    let made = made_of n m e in
+    made_is_regular n m made.symbols (found_is_plain p n is h) made

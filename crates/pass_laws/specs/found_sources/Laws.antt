@@ -1,0 +1,35 @@
+-- What is known of the nests that are found in a program.
+use Rattle.std.specs.Prelude.{◌≡◌, ⊤, Some, None, All, Contains}
+use Rattle.tree.specs.Plain.{Program}
+use Rattle.meaning.specs.Dialect.{fortran77}
+use Rattle.meaning.specs.Profile77.{IsProgram77}
+use Rattle.find_nests.specs.Found.{InNest, found_in}
+use Rattle.normal_loops.specs.Normalised.{normalised}
+use Rattle.nest_order.specs.shapes.Shapes.{IsPlain}
+use Rattle.nest.specs.Bodies.{Standing, nest_statements}
+use Rattle.nest.specs.Plain.{Nest, Part, Run, Turns, Choice, Label, Jump, Parts, no_parts, part}
+use Rattle.pass_laws.specs.normal_runs.Sources.{IsNormalSource}
+
+-- loops and statements alone
+abbrev mutual
+  pub HasLoopsAlone : Part → Type 0
+  HasLoopsAlone (Run g) = ⊤
+  HasLoopsAlone (Turns l ps) = HaveLoopsAlone ps
+  HasLoopsAlone (Choice bs ps) = ⊥
+  HasLoopsAlone (Label k) = ⊥
+  HasLoopsAlone (Jump k) = ⊥
+
+  pub HaveLoopsAlone : Parts → Type 0
+  HaveLoopsAlone no_parts = ⊤
+  HaveLoopsAlone (part p ps) = HasLoopsAlone p × HaveLoopsAlone ps
+
+abbrev pub FoundNestIsSource : Type 0
+FoundNestIsSource = (p : Program) (n : Nest) → IsProgram77 fortran77 p → Contains (found_in p) (InNest n)
+    → HasLoopsAlone n.body → IsNormalSource n
+
+-- no IF, label or jump has gone or come by itself
+abbrev pub NormalNestIsPlain : Type 0
+NormalNestIsPlain = (p : Program) (n m : Nest) → IsProgram77 fortran77 p → Contains (found_in p) (InNest n)
+    → normalised n ≡ Some m → HasLoopsAlone m.body
+    → HasLoopsAlone n.body × IsPlain m.body
+    × All (λ (s : Standing). s.statement.guard ≡ None) (nest_statements m)

@@ -1,0 +1,13 @@
+//! Laws of found nests. A law is a function without a body: its contract is what holds.
+ghost use Rattle.pass_laws.specs.branch_sources.Laws.{FoundNestIsBranchedSource, FoundNestKeepsMeaning};
+
+/// A nest that was found in a program of FORTRAN 77 has its jumps within its loops, and what else the law asks for of
+/// the meaning of nests with block IFs and jumps.
+pub fn found_nest_is_branched_source()
+    ensures { FoundNestIsBranchedSource }
+{}
+
+/// Loop normalization keeps the meaning of each nest that is found in a program of FORTRAN 77.
+pub fn found_nest_keeps_meaning()
+    ensures { FoundNestKeepsMeaning }
+{}

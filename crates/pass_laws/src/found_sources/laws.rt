@@ -1,0 +1,12 @@
+//! Laws of found nests of loops and statements alone. A law is a function without a body: its contract is what holds.
+ghost use Rattle.pass_laws.specs.found_sources.Laws.{FoundNestIsSource, NormalNestIsPlain};
+
+/// A nest that was found in a program of FORTRAN 77 is one whose run stands beside that of its loops from 1 by 1.
+pub fn found_nest_is_source()
+    ensures { FoundNestIsSource }
+{}
+
+/// What is made of such a nest has loops from 1 by 1 and statements alone, where no IF stands in it.
+pub fn normal_nest_is_plain()
+    ensures { NormalNestIsPlain }
+{}

@@ -1,9 +1,0 @@
--- The lines of all so far.
-use Rattle.std.proofs.Common.{map, take}
-use Rattle.f90_print.specs.Notes.{text_of}
-use Rattle.find_nests.specs.Found.{found_of}
-use Rattle.program_listing.specs.Listing.{AreLinesOf, HaveEntries}
-use Rattle.program_listing.proofs.listing.list.Given as goal
-
-abbrev pub invariant-loop-found : goal.invariant-loop-found
-invariant-loop-found l = AreLinesOf (HaveEntries (map found_of (take l.found-index l.found-items))) (map text_of l.all.items)

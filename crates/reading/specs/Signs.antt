@@ -1,0 +1,32 @@
+-- What may stand before an operand, and the words that it is: a minus sign is the operator Sub, wherever it stands.
+use Rattle.std.specs.Prelude.{Bool, true, false, Option, Some, None}
+use Rattle.tree.specs.OperatorTable as table
+use Rattle.tree.specs.declared.ops.Op.{Op}
+use Rattle.tree.specs.declared.ops.Op.TheVariants.{Add, Sub, Not}
+use Rattle.reading.specs.declared.signs.Sign.{Sign}
+use Rattle.reading.specs.declared.signs.Sign.TheVariants.{Plus, Minus, Negation}
+
+abbrev pub sign_view : Sign → table.Sign
+sign_view Plus = table.Plus
+sign_view Minus = table.Minus
+sign_view Negation = table.Negation
+
+abbrev pub sign_view_option : Option Sign → Option table.Sign
+sign_view_option None = None
+sign_view_option (Some s) = Some (sign_view s)
+
+abbrev pub sign_of : Op → Option table.Sign
+sign_of Add = Some table.Plus
+sign_of Sub = Some table.Minus
+sign_of Not = Some table.Negation
+sign_of o = None
+
+abbrev pub sign_word : table.Sign → Op
+sign_word table.Plus = Add
+sign_word table.Minus = Sub
+sign_word table.Negation = Not
+
+-- an operand that it stands before begins with a plus or minus sign
+abbrev pub sign_leads : table.Sign → Bool
+sign_leads table.Negation = false
+sign_leads s = true

@@ -1,8 +1,0 @@
-//! What the readers of both dialects share: what may stand before an operand, and why words aren't read.
-#![tactic(auto)]
-
-mod signs;
-mod stops;
-
-pub use signs::Sign;
-pub use stops::Stop;

@@ -1,0 +1,11 @@
+use Rattle.std.proofs.Common.{◌≡◌, ◌++◌, map, take}
+use Rattle.std.specs.List.{flat_map}
+use Rattle.tree.specs.View.{tested_of, statement_of}
+use Rattle.rewrite.specs.Names.{uses_in_arm, uses_in_statement}
+use Rattle.rewrite.proofs.uses.Uses.+statements.Given as goal
+
+abbrev pub invariant-add_arms-loop-arm : goal.invariant-add_arms-loop-arm
+invariant-add_arms-loop-arm l = l.self.list ≡ l.initial.self.list ++ flat_map uses_in_arm (map tested_of (take l.arm-index l.arm-items))
+
+abbrev pub invariant-add_statements-loop-stmt : goal.invariant-add_statements-loop-stmt
+invariant-add_statements-loop-stmt l = l.self.list ≡ l.initial.self.list ++ flat_map uses_in_statement (map statement_of (take l.stmt-index l.stmt-items))

@@ -1,6 +1,0 @@
-use Rattle.fv_tree.specs.View.{program_of_90}
-use Rattle.run90.proofs.ProgramLaws.{are_distinct}
-use Rattle.run90.proofs.machine.Machine90.new.Goals as goal
-
-pub of_parts-requires : goal.of_parts-requires
-of_parts-requires c = are_distinct (program_of_90 c.args.program) c.requires

@@ -1,8 +1,0 @@
--- The loops so far.
-use Rattle.std.proofs.Common.{◌≡◌, map, take}
-use Rattle.nest_tree.specs.View.{loop_of}
-use Rattle.sections.specs.Surroundings.{counted}
-use Rattle.sections.proofs.loops.all_counted.Given as goal
-
-abbrev pub invariant-loop-turns : goal.invariant-loop-turns
-invariant-loop-turns l = l.all ≡ map counted (map loop_of (take l.turns-index l.turns-items))

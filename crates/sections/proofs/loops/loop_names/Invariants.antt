@@ -1,7 +1,0 @@
--- The names so far.
-use Rattle.std.proofs.Common.{◌≡◌, take}
-use Rattle.sections.specs.Surroundings.{loop_names}
-use Rattle.sections.proofs.loops.loop_names.Given as goal
-
-abbrev pub invariant-loop-turns : goal.invariant-loop-turns
-invariant-loop-turns l = l.names ≡ loop_names (take l.turns-index l.loops)

@@ -1,8 +1,0 @@
-//! The statements of a nest with the loops round each, and which names stand in a text.
-#![tactic(auto)]
-
-mod standing_names;
-mod standings;
-
-pub use standing_names::{stands_in, stands_in_sub};
-pub use standings::{Standing, statements_of};

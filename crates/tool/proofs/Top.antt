@@ -1,0 +1,338 @@
+-- What a status says of the call, by how the call ended.
+use Rattle.std.proofs.Common.{◌≡◌, ℕ, false, List, [], ◌∷◌, Option, None, Some, Result, Ok, Err, append-nil, refl, ap, sym, ◌∙◌, subst, arith, inl, inr}
+use Rattle.std.specs.Prelude.{String, IfSome, OnOk, OnErr}
+use Rattle.std.specs.declared.alloc.Global.{Global}
+use Rattle.std.specs.Io.KnownBytes.{IsAtEnd}
+use Rattle.tree.specs.declared.ops.Fault.{Fault as Kind}
+use Rattle.tree.specs.declared.refusals.Refusal.{Refusal}
+use Rattle.tree.specs.Plain.{Program}
+use Rattle.streams.specs.Causes.{Rose}
+use Rattle.streams.specs.Streams.{Gives, GivesPart}
+use Rattle.meaning.specs.Sequential.{ending}
+use Rattle.meaning.specs.declared.End.{End}
+use Rattle.meaning.specs.declared.End.TheVariants as end
+use Rattle.tool.specs.commands.Command.{texts, command_of}
+use Rattle.tool.specs.declared.commands.commands.Command.{Command}
+use Rattle.tool.specs.declared.commands.commands.Command.TheVariants.{Vectorise, Graph, Run77, Run90}
+use Rattle.tool.specs.declared.report.outcome.Outcome.{Outcome}
+use Rattle.tool.specs.declared.report.outcome.Outcome.TheVariants.{Done, Usage, Refused, Faulted, StepLimit, ReadFault, WriteFault, OutOfMemory}
+use Rattle.tool.specs.report.Notes.{status_of, note_of}
+use Rattle.tool.specs.Answers.{IsOneOf, IsTrueOf, NoteFor, HasFault}
+use Rattle.tool.specs.Decks.{Reads, IsRefused, IsReadAs, IsRefusedFor, most_bytes}
+use Rattle.tool.specs.Endings.{Call, Ends, Ended, EndsAt, IsReadOrPassed, IsReadFor, IsRefusedAfter, GivesAll, GivesFront, GivesLittle, ending_of, writes_early}
+use Rattle.tool.specs.Headline.{GivesTranslation, GivesTranslationPart}
+use Rattle.tool.specs.Listings.{IsListingOf, GivesListing, GivesListingPart}
+use Rattle.listing.specs.programs.Listing.{IsListingText}
+use Rattle.tool.specs.Running.{IsRun, GivesRun, GivesFaultedRun, GivesRunPart, GivesAtMostPart, IsExceeded, options_in, dialect_of, input_for, run_of}
+use Rattle.tool.proofs.Headline.{holds}
+use Rattle.tool.proofs.Limits.{exceeded, limited}
+use Rattle.tool.proofs.Readings.{run_ends}
+use Rattle.tool.proofs.Statuses as tells
+
+-- ---- words
+
+map_some : {P Q : List ℕ → Type 0} (o : Option (List ℕ)) → ((x : List ℕ) → P x → Q x) → IfSome o P → IfSome o Q
+map_some None f h = tt
+map_some (Some x) f h = f x h
+
+always : {P : List ℕ → Type 0} (o : Option (List ℕ)) → ((x : List ℕ) → P x) → IfSome o P
+always None f = tt
+always (Some x) f = f x
+
+-- of words that are the command
+pub for_command : (k : Option Command) (a : Command) (c : Call) (o : Outcome) → k ≡ Some a → Ended k c o → Ends a c o
+for_command k a c o e h = subst (λ (k : Option Command). Ended k c o) e h
+
+-- the same of equal words
+pub for_words : (ws ws' : List (String Global)) (c : Call) (o : Outcome) → ws ≡ ws' → Ended (command_of (texts ws)) c o → Ended (command_of (texts ws')) c o
+for_words ws ws' c o e h = subst (λ (ws : List (String Global)). Ended (command_of (texts ws)) c o) e h
+
+pub same_words_late : (ws ws' : List (String Global)) → ws ≡ ws' → writes_early (command_of (texts ws')) ≡ false → writes_early (command_of (texts ws)) ≡ false
+same_words_late ws ws' e h = subst (λ (ws : List (String Global)). writes_early (command_of (texts ws)) ≡ false) (sym e) h
+
+at_outcome : (a : Command) (c : Call) (o o' : Outcome) → o ≡ o' → Ends a c o → Ends a c o'
+at_outcome a c o o' e h = subst (Ends a c) e h
+
+-- ---- usage
+
+pub usage : (k : Option Command) (c : Call) (o : Outcome) (s : ℕ) → s ≡ status_of o → Ended k c o → s ≡ 1 → k ≡ None
+usage None c o s e h q = refl
+usage (Some a) c o s e h q = absurd (at_outcome a c o Usage (tells.is_usage o s e q) h)
+
+pub usage_only : (k : Option Command) (c : Call) (o : Outcome) (s : ℕ) → s ≡ status_of o → Ended k c o → k ≡ None → s ≡ 1
+usage_only None c o s e h q = e ∙ ap status_of h.0
+usage_only (Some a) c o s e h q = absurd (cc)
+
+-- ---- reading
+
+-- the status is none of these
+none_of : (s n : ℕ) → s ≡ n → (n ≡ 0 → ⊥) → (n ≡ 3 → ⊥) → (n ≡ 4 → ⊥) → (n ≡ 6 → ⊥) → IsOneOf (0 ∷ 3 ∷ 4 ∷ 6 ∷ []) s → ⊥
+none_of s n e a b c d (inl q) = a (sym e ∙ q)
+none_of s n e a b c d (inr (inl q)) = b (sym e ∙ q)
+none_of s n e a b c d (inr (inr (inl q))) = c (sym e ∙ q)
+none_of s n e a b c d (inr (inr (inr q))) = d (sym e ∙ q)
+
+whole_for : (k : Command) (c : Call) (o : Outcome) (s : ℕ) → s ≡ status_of o → Ends k c o → IsOneOf (0 ∷ 3 ∷ 4 ∷ 6 ∷ []) s → IsAtEnd c.left_now
+whole_for k c Done s e h m = h.0
+whole_for k c Usage s e h m = absurd h
+whole_for k c (Refused r) s e h m = absurd (none_of s 2 e (λ q. omega (arith, q)) (λ q. omega (arith, q)) (λ q. omega (arith, q)) (λ q. omega (arith, q)) m)
+whole_for k c (Faulted fault line) s e h m = h.1.0
+whole_for k c StepLimit s e h m = h.1.0
+whole_for k c ReadFault s e h m = absurd (none_of s 5 e (λ q. omega (arith, q)) (λ q. omega (arith, q)) (λ q. omega (arith, q)) (λ q. omega (arith, q)) m)
+whole_for k c WriteFault s e h m = h.1
+whole_for k c OutOfMemory s e h m = absurd (none_of s 7 e (λ q. omega (arith, q)) (λ q. omega (arith, q)) (λ q. omega (arith, q)) (λ q. omega (arith, q)) m)
+
+pub whole : (k : Option Command) (c : Call) (o : Outcome) (s : ℕ) → s ≡ status_of o → Ended k c o → IsOneOf (0 ∷ 3 ∷ 4 ∷ 6 ∷ []) s → IsAtEnd c.left_now
+whole None c o s e h m = absurd (none_of s 1 (e ∙ ap status_of h.0) (λ q. omega (arith, q)) (λ q. omega (arith, q)) (λ q. omega (arith, q)) (λ q. omega (arith, q)) m)
+whole (Some a) c o s e h m = whole_for a c o s e h m
+
+-- a status that tells of another outcome than usage comes with a command
+asked : (k : Option Command) (c : Call) (o o' : Outcome) → Ended k c o → o ≡ o' → (status_of o' ≡ 1 → ⊥) → (a : Command) × (k ≡ Some a) × Ends a c o'
+asked None c o o' h e n = absurd (n (ap status_of (sym e ∙ h.0)))
+asked (Some a) c o o' h e n = (a, refl, at_outcome a c o o' e h)
+
+pub whole_refused : (k : Command) (c : Call) (o : Outcome) (s : ℕ) → s ≡ status_of o → Ends k c o → s ≡ 2 → IsReadOrPassed (most_bytes k) c.left_before c.left_now
+whole_refused k c o s e h q =
+    let r = tells.is_refused o s e q in
+    let g : Ends k c (Refused r.0) = at_outcome k c o (Refused r.0) r.1 h in
+    g.1.0
+
+pub read_fault : (k : Option Command) (c : Call) (o : Outcome) (s : ℕ) → s ≡ status_of o → Ended k c o → s ≡ 5 → Rose c.deck_faults_before c.deck_faults_now
+read_fault k c o s e h q = (asked k c o ReadFault h (tells.is_read_fault o s e q) (λ z. omega (arith, z))).2.0
+
+pub write_fault : (k : Option Command) (c : Call) (o : Outcome) (s : ℕ) → s ≡ status_of o → Ended k c o → s ≡ 6 → Rose c.out_faults_before c.out_faults_now
+write_fault k c o s e h q = (asked k c o WriteFault h (tells.is_write_fault o s e q) (λ z. omega (arith, z))).2.0
+
+-- ---- refusals
+
+with_reading : (k : Command) (c : Call) (r : Refusal) → IfSome c.left_before (IsRefusedFor k r) → IsReadFor (most_bytes k) c.left_before c.left_now r
+    → IfSome c.left_before (IsRefusedAfter k c.left_before c.left_now)
+with_reading k c r h reading = map_some c.left_before (λ deck for. (r, for.refused, reading)) h
+
+pub refused : (k : Command) (c : Call) (o : Outcome) (s : ℕ) → s ≡ status_of o → Ends k c o → s ≡ 2
+    → IfSome c.left_before (IsRefusedAfter k c.left_before c.left_now)
+refused k c o s e h q =
+    let r = tells.is_refused o s e q in
+    let g : Ends k c (Refused r.0) = at_outcome k c o (Refused r.0) r.1 h in
+    with_reading k c r.0 g.0 g.1
+
+pub accepted : (k : Command) (c : Call) (o : Outcome) (s : ℕ) → s ≡ status_of o → Ends k c o → IfSome c.left_before (λ deck. (p : Program) → Reads k deck p → s ≡ 2 → ⊥)
+accepted k c Done s e h = always c.left_before (λ deck p reads q. omega (arith, e, q))
+accepted k c Usage s e h = absurd h
+accepted k c (Refused r) s e h = map_some c.left_before (λ deck for p reads q. for.unread p reads) h.0
+accepted k c (Faulted fault line) s e h = always c.left_before (λ deck p reads q. omega (arith, e, q))
+accepted k c StepLimit s e h = always c.left_before (λ deck p reads q. omega (arith, e, q))
+accepted k c ReadFault s e h = always c.left_before (λ deck p reads q. omega (arith, e, q))
+accepted k c WriteFault s e h = always c.left_before (λ deck p reads q. omega (arith, e, q))
+accepted k c OutOfMemory s e h = always c.left_before (λ deck p reads q. omega (arith, e, q))
+
+abbrev IsNeverDone : Command → Call → ℕ → List ℕ → Type 0
+IsNeverDone k c s deck = (r : Refusal) → IsRefused k deck r → (Rose c.deck_faults_before c.deck_faults_now → ⊥) → IsOneOf (2 ∷ 7 ∷ []) s
+
+pub never_done : (k : Command) (c : Call) (o : Outcome) (s : ℕ) → s ≡ status_of o → Ends k c o → IfSome c.left_before (IsNeverDone k c s)
+never_done k c Done s e h = map_some c.left_before (λ deck (g : GivesAll k end.Done c.taken_before c.taken_now deck) r refused still. absurd (g.read.accepted r refused)) h.1
+never_done k c Usage s e h = absurd h
+never_done k c (Refused r) s e h = always c.left_before (λ deck r refused still. inl e)
+never_done k c (Faulted fault line) s e h =
+    map_some c.left_before (λ deck (g : GivesAll k (end.Fault fault line) c.taken_before c.taken_now deck) r refused still. absurd (g.read.accepted r refused)) h.1.1
+never_done k c StepLimit s e h = map_some c.left_before (λ deck (g : GivesAll k end.StepLimit c.taken_before c.taken_now deck) r refused still. absurd (g.read.accepted r refused)) h.1.1
+never_done k c ReadFault s e h = always c.left_before (λ deck r refused still. absurd (still h.0))
+never_done k c WriteFault s e h = map_some c.left_before (λ deck (g : GivesFront k c.taken_before c.taken_now deck) r refused still. absurd (g.read.accepted r refused)) h.2
+never_done k c OutOfMemory s e h = always c.left_before (λ deck r refused still. inr e)
+
+-- ---- what was given
+
+translation : (before now : Option (List ℕ)) (deck : List ℕ) → GivesAll Vectorise end.Done before now deck → GivesTranslation before now deck
+translation before now deck g =
+    (g.text, holds deck g.text g.program g.read g.has_text, g.given)
+
+translation_part : (before now : Option (List ℕ)) (deck : List ℕ) → GivesFront Vectorise before now deck → GivesTranslationPart before now deck
+translation_part before now deck g =
+    (g.text, holds deck g.text g.program g.read g.has_text, g.given)
+
+listed_as : (deck text : List ℕ) (p : Program) → IsReadAs Graph deck p → IsListingText p text → IsListingOf deck text
+listed_as deck text p read listing = record { program = p; read = read; listing = listing }
+
+listing_given : (before now : Option (List ℕ)) (deck : List ℕ) → GivesAll Graph end.Done before now deck → GivesListing before now deck
+listing_given before now deck g = (g.text, listed_as deck g.text g.program g.read g.has_text, g.given)
+
+listing_part : (before now : Option (List ℕ)) (deck : List ℕ) → GivesFront Graph before now deck → GivesListingPart before now deck
+listing_part before now deck g = (g.text, listed_as deck g.text g.program g.read g.has_text, g.given)
+
+run_given : (k : Command) → IsRun k → (e : End) (before now : Option (List ℕ)) (deck : List ℕ) → GivesAll k e before now deck → GivesRun k e before now deck
+run_given Vectorise run e before now deck g = absurd run
+run_given Graph run e before now deck g = absurd run
+run_given (Run77 options) run e before now deck g = record {
+  program = g.program;
+  read = g.read;
+  ending = g.ending;
+  text = subst (λ (t : List ℕ). Gives before t now) g.has_text g.given;
+}
+run_given (Run90 options) run e before now deck g = record {
+  program = g.program;
+  read = g.read;
+  ending = g.ending;
+  text = subst (λ (t : List ℕ). Gives before t now) g.has_text g.given;
+}
+
+run_part_given : (k : Command) → IsRun k → (before now : Option (List ℕ)) (deck : List ℕ) → GivesFront k before now deck → GivesRunPart k before now deck
+run_part_given Vectorise run before now deck g = absurd run
+run_part_given Graph run before now deck g = absurd run
+run_part_given (Run77 options) run before now deck g = record {
+  program = g.program;
+  read = g.read;
+  text = subst (λ (t : List ℕ). GivesPart before t now) g.has_text g.given;
+}
+run_part_given (Run90 options) run before now deck g = record {
+  program = g.program;
+  read = g.read;
+  text = subst (λ (t : List ℕ). GivesPart before t now) g.has_text g.given;
+}
+
+pub translated : (c : Call) (o : Outcome) (s : ℕ) → s ≡ status_of o → Ends Vectorise c o → s ≡ 0 → IfSome c.left_before (GivesTranslation c.taken_before c.taken_now)
+translated c o s e h q = map_some c.left_before (translation c.taken_before c.taken_now) (at_outcome Vectorise c o Done (tells.is_done o s e q) h).1
+
+pub part : (c : Call) (o : Outcome) (s : ℕ) → s ≡ status_of o → Ends Vectorise c o → s ≡ 6 → IfSome c.left_before (GivesTranslationPart c.taken_before c.taken_now)
+part c o s e h q = map_some c.left_before (translation_part c.taken_before c.taken_now) (at_outcome Vectorise c o WriteFault (tells.is_write_fault o s e q) h).2
+
+pub listed : (c : Call) (o : Outcome) (s : ℕ) → s ≡ status_of o → Ends Graph c o → s ≡ 0 → IfSome c.left_before (GivesListing c.taken_before c.taken_now)
+listed c o s e h q = map_some c.left_before (listing_given c.taken_before c.taken_now) (at_outcome Graph c o Done (tells.is_done o s e q) h).1
+
+pub listed_part : (c : Call) (o : Outcome) (s : ℕ) → s ≡ status_of o → Ends Graph c o → s ≡ 6 → IfSome c.left_before (GivesListingPart c.taken_before c.taken_now)
+listed_part c o s e h q = map_some c.left_before (listing_part c.taken_before c.taken_now) (at_outcome Graph c o WriteFault (tells.is_write_fault o s e q) h).2
+
+pub ran : (k : Command) → IsRun k → (c : Call) (o : Outcome) (s : ℕ) → s ≡ status_of o → Ends k c o → s ≡ 0 → IfSome c.left_before (GivesRun k end.Done c.taken_before c.taken_now)
+ran k run c o s e h q = map_some c.left_before (run_given k run end.Done c.taken_before c.taken_now) (at_outcome k c o Done (tells.is_done o s e q) h).1
+
+pub run_part : (k : Command) → IsRun k → (c : Call) (o : Outcome) (s : ℕ) → s ≡ status_of o → Ends k c o → s ≡ 6 → IfSome c.left_before (GivesRunPart k c.taken_before c.taken_now)
+run_part k run c o s e h q = map_some c.left_before (run_part_given k run c.taken_before c.taken_now) (at_outcome k c o WriteFault (tells.is_write_fault o s e q) h).2
+
+-- the command of a run that ended so
+run_for : (k : Option Command) (c : Call) (a : Command) (e : End) → k ≡ Some a → IsRun a → EndsAt a c e
+    → (a : Command) × IsRun a × (k ≡ Some a) × IfSome c.left_before (GivesRun a e c.taken_before c.taken_now)
+run_for k c a e q run at = (a, run, q, map_some c.left_before (run_given a run e c.taken_before c.taken_now) at.1)
+
+pub faulted : (k : Option Command) (c : Call) (o : Outcome) (s : ℕ) → s ≡ status_of o → Ended k c o → s ≡ 3
+    → (a : Command) × IsRun a × (k ≡ Some a) × IfSome c.left_before (GivesFaultedRun a c.taken_before c.taken_now)
+faulted k c o s e h q =
+    let f = tells.is_faulted o s e q in
+    let g = asked k c o (Faulted f.0 f.1) h f.2 (λ z. omega (arith, z)) in
+    let r = run_for k c g.0 (end.Fault f.0 f.1) g.1 g.2.0 g.2.1 in
+    (r.0, r.1, r.2, map_some c.left_before (λ deck given. (f.0, f.1, given)) r.3)
+
+pub at_limit : (k : Option Command) (c : Call) (o : Outcome) (s : ℕ) → s ≡ status_of o → Ended k c o → s ≡ 4
+    → (a : Command) × IsRun a × (k ≡ Some a) × IfSome c.left_before (GivesRun a end.StepLimit c.taken_before c.taken_now)
+at_limit k c o s e h q =
+    let g = asked k c o StepLimit h (tells.is_limited o s e q) (λ z. omega (arith, z)) in
+    run_for k c g.0 end.StepLimit g.1 g.2.0 g.2.1
+
+little_given : (k : Command) → IsRun k → (c : Call) → GivesLittle k c → IfSome c.left_before (GivesAtMostPart k c.taken_before c.taken_now)
+little_given Vectorise run c h = absurd run
+little_given Graph run c h = absurd run
+little_given (Run77 options) run c h = always c.left_before (λ deck. inl h)
+little_given (Run90 options) run c (inl h) = always c.left_before (λ deck. inl h)
+little_given (Run90 options) run c (inr h) = map_some c.left_before (λ deck g. inr (run_part_given (Run90 options) run c.taken_before c.taken_now deck g)) h
+
+pub part_without_memory : (k : Command) → IsRun k → (c : Call) (o : Outcome) (s : ℕ) → s ≡ status_of o → Ends k c o → s ≡ 7 → IfSome c.left_before (GivesAtMostPart k c.taken_before c.taken_now)
+part_without_memory k run c o s e h q = little_given k run c (at_outcome k c o OutOfMemory (tells.is_out_of_memory o s e q) h)
+
+-- ---- a deck that is read
+
+some_inj : {A : Type 0} (x y : A) → ◌≡◌ {A = Option A} (Some x) (Some y) → x ≡ y
+some_inj x y e = cc
+
+-- the status of a call in which nothing failed
+abbrev status_at : End → ℕ
+status_at end.Done = 0
+status_at (end.Fault fault line) = 3
+status_at end.StepLimit = 4
+status_at end.WriteFault = 6
+
+-- the deck's program comes to one end
+one_end : (k : Command) (e e' : End) (before now : Option (List ℕ)) (deck : List ℕ) (p : Program) → GivesAll k e before now deck → Reads k deck p → ending_of k deck p ≡ Some e' → e ≡ e'
+one_end k e e' before now deck p g reads q = some_inj e e' (sym g.ending ∙ ap (ending_of k deck) (sym (g.read.only p reads)) ∙ q)
+
+abbrev IsComplete : Command → Call → ℕ → End → List ℕ → Type 0
+IsComplete k c s e deck = (p : Program) → Reads k deck p → ending_of k deck p ≡ Some e
+    → (Rose c.deck_faults_before c.deck_faults_now → ⊥) → (Rose c.out_faults_before c.out_faults_now → ⊥) → IsOneOf (status_at e ∷ 7 ∷ []) s
+
+all_given : (k : Command) (c : Call) (s : ℕ) (e e' : End) → s ≡ status_at e → IfSome c.left_before (GivesAll k e c.taken_before c.taken_now) → IfSome c.left_before (IsComplete k c s e')
+all_given k c s e e' q h =
+    map_some c.left_before (λ deck (g : GivesAll k e c.taken_before c.taken_now deck) p reads r _ _. inl (q ∙ ap status_at (one_end k e e' c.taken_before c.taken_now deck p g reads r))) h
+
+complete : (k : Command) (c : Call) (o : Outcome) (s : ℕ) (e : End) → s ≡ status_of o → Ends k c o → IfSome c.left_before (IsComplete k c s e)
+complete k c Done s e q h = all_given k c s end.Done e q h.1
+complete k c Usage s e q h = absurd h
+complete k c (Refused r) s e q h = map_some c.left_before (λ deck (for : IsRefusedFor k r deck) p reads _ _ _. absurd (for.unread p reads)) h.0
+complete k c (Faulted fault line) s e q h = all_given k c s (end.Fault fault line) e q h.1.1
+complete k c StepLimit s e q h = all_given k c s end.StepLimit e q h.1.1
+complete k c ReadFault s e q h = always c.left_before (λ deck p reads _ still _. absurd (still h.0))
+complete k c WriteFault s e q h = always c.left_before (λ deck p reads _ _ still. absurd (still h.0))
+complete k c OutOfMemory s e q h = always c.left_before (λ deck p reads _ _ _. inr q)
+
+pub done : (k : Command) (c : Call) (o : Outcome) (s : ℕ) → s ≡ status_of o → Ends k c o
+    → IfSome c.left_before (λ deck. (p : Program) → Reads k deck p → ending_of k deck p ≡ Some end.Done
+    → (Rose c.deck_faults_before c.deck_faults_now → ⊥) → (Rose c.out_faults_before c.out_faults_now → ⊥) → IsOneOf (0 ∷ 7 ∷ []) s)
+done k c o s q h = complete k c o s end.Done q h
+
+pub faults : (k : Command) → IsRun k → (c : Call) (o : Outcome) (s : ℕ) → s ≡ status_of o → Ends k c o
+    → IfSome c.left_before (λ deck. (p : Program) → Reads k deck p → (fault : Kind) (line : ℕ) → ending (run_of k deck p) ≡ Some (end.Fault fault line)
+    → (Rose c.deck_faults_before c.deck_faults_now → ⊥) → (Rose c.out_faults_before c.out_faults_now → ⊥) → IsOneOf (3 ∷ 7 ∷ []) s)
+faults k run c o s q h = by c.left_before (λ fault line. complete k c o s (end.Fault fault line) q h)
+  where
+    by : (left : Option (List ℕ)) → ((fault : Kind) (line : ℕ) → IfSome left (IsComplete k c s (end.Fault fault line)))
+        → IfSome left (λ deck. (p : Program) → Reads k deck p → (fault : Kind) (line : ℕ) → ending (run_of k deck p) ≡ Some (end.Fault fault line)
+        → (Rose c.deck_faults_before c.deck_faults_now → ⊥) → (Rose c.out_faults_before c.out_faults_now → ⊥) → IsOneOf (3 ∷ 7 ∷ []) s)
+    by None f = tt
+    by (Some deck) f = λ p reads fault line e. f fault line p reads (sym (run_ends k deck p run) ∙ e)
+
+pub limits : (k : Command) → IsRun k → (c : Call) (o : Outcome) (s : ℕ) → s ≡ status_of o → Ends k c o
+    → IfSome c.left_before (λ deck. (p : Program) → Reads k deck p → IsExceeded k deck p
+    → (Rose c.deck_faults_before c.deck_faults_now → ⊥) → (Rose c.out_faults_before c.out_faults_now → ⊥) → IsOneOf (4 ∷ 7 ∷ []) s)
+limits k run c o s q h =
+    map_some c.left_before (λ deck (f : IsComplete k c s end.StepLimit deck) p reads over.
+    f p reads (sym (run_ends k deck p run) ∙ limited (dialect_of k) (options_in k).steps p (input_for k deck) over))
+    (complete k c o s end.StepLimit q h)
+
+pub over_limit : (k : Command) → IsRun k → (c : Call) (o : Outcome) (s : ℕ) → s ≡ status_of o → Ends k c o → s ≡ 4
+    → IfSome c.left_before (λ deck. (p : Program) → Reads k deck p → IsExceeded k deck p)
+over_limit k run c o s q h e =
+    map_some c.left_before (λ deck (g : GivesAll k end.StepLimit c.taken_before c.taken_now deck) p reads.
+    exceeded (dialect_of k) (options_in k).steps p (input_for k deck) (run_ends k deck p run ∙ ap (ending_of k deck) (g.read.only p reads) ∙ g.ending))
+    (at_outcome k c o StepLimit (tells.is_limited o s q e) h).1.1
+
+-- ---- the notes
+
+has_fault : (k : Command) (c : Call) (fault : Kind) (line : ℕ) → IsRun k → IfSome c.left_before (GivesAll k (end.Fault fault line) c.taken_before c.taken_now) → IfSome c.left_before (HasFault k fault line)
+has_fault Vectorise c fault line run h = absurd run
+has_fault Graph c fault line run h = absurd run
+has_fault (Run77 options) c fault line run h =
+    map_some c.left_before (λ deck (g : GivesAll (Run77 options) (end.Fault fault line) c.taken_before c.taken_now deck). (g.program, g.read, g.ending)) h
+has_fault (Run90 options) c fault line run h =
+    map_some c.left_before (λ deck (g : GivesAll (Run90 options) (end.Fault fault line) c.taken_before c.taken_now deck). (g.program, g.read, g.ending)) h
+
+true_for : (k : Command) (c : Call) (o : Outcome) → Ends k c o → IsTrueOf (Some k) c.left_before o
+true_for k c Done h = tt
+true_for k c Usage h = tt
+true_for k c (Refused r) h = map_some c.left_before (λ deck (for : IsRefusedFor k r deck). for.refused) h.0
+true_for k c (Faulted fault line) h = has_fault k c fault line h.0 h.1.1
+true_for k c StepLimit h = tt
+true_for k c ReadFault h = tt
+true_for k c WriteFault h = tt
+true_for k c OutOfMemory h = tt
+
+is_true : (k : Option Command) (c : Call) (o : Outcome) → Ended k c o → IsTrueOf k c.left_before o
+is_true None c o h = tt
+is_true (Some a) c o h = true_for a c o h
+
+pub noted : (k : Option Command) (c : Call) (o : Outcome) (s : ℕ) → s ≡ status_of o → Ended k c o → NoteFor k c.left_before s (note_of o)
+noted k c o s e h = record { outcome = o; status_is = e; line_is = refl; is_true = is_true k c o h }
+
+pub part_or_whole : {E : Type 0} (r : Result (Unit {0}) E) (before : Option (List ℕ)) (text : List ℕ) (now : Option (List ℕ)) → OnOk r (Gives before text now) → OnErr r (GivesPart before text now) → GivesPart before text now
+part_or_whole (Ok u) before text now h k = (text, [], sym (append-nil text), h)
+part_or_whole (Err e) before text now h k = k
+
+-- where the notes didn't fail, they have the whole line
+pub note_given : {E : Type 0} (r : Result (Unit {0}) E) (before : Option (List ℕ)) (text : List ℕ) (now : Option (List ℕ)) (f f' : ℕ) → OnOk r (Gives before text now) → OnErr r (Rose f f') → (Rose f f' → ⊥) → Gives before text now
+note_given (Ok u) before text now f f' h k still = h
+note_given (Err e) before text now f f' h k still = absurd (still k)

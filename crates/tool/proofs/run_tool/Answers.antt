@@ -1,0 +1,103 @@
+use Rattle.std.proofs.Common.{◌≡◌, List, Some, ap, sym, subst, ◌∙◌}
+use Rattle.std.specs.Prelude.{String}
+use Rattle.std.specs.declared.alloc.Global.{Global}
+use Rattle.tool.specs.commands.Command.{texts, command_of}
+use Rattle.tool.specs.report.Notes.{note_of, status_of}
+use Rattle.tool.proofs.Top.{for_words, for_command, part_or_whole, note_given}
+use Rattle.tool.proofs.Statuses.{silent, silent_without_memory, whole_text}
+use Rattle.tool.proofs.Top as top
+use Rattle.tool.proofs.run_tool.Goals as goal
+
+pub returns-clause-whole : goal.returns-clause-whole
+returns-clause-whole g c = top.whole _ _ c.work-outcome.result c.status.result c.status.ensures c.work-outcome.ensures.ended
+
+pub returns-clause-whole_refused : goal.returns-clause-whole_refused
+returns-clause-whole_refused g c a k = top.whole_refused a _ c.work-outcome.result c.status.result c.status.ensures (for_command _ a _ _ k (for_words _ _ _ _ c.as_slice.ensures.value c.work-outcome.ensures.ended))
+
+pub returns-clause-refused : goal.returns-clause-refused
+returns-clause-refused g c a k = top.refused a _ c.work-outcome.result c.status.result c.status.ensures (for_command _ a _ _ k (for_words _ _ _ _ c.as_slice.ensures.value c.work-outcome.ensures.ended))
+
+pub returns-clause-accepted : goal.returns-clause-accepted
+returns-clause-accepted g c a k = top.accepted a _ c.work-outcome.result c.status.result c.status.ensures (for_command _ a _ _ k (for_words _ _ _ _ c.as_slice.ensures.value c.work-outcome.ensures.ended))
+
+pub returns-clause-never_done : goal.returns-clause-never_done
+returns-clause-never_done g c a k = top.never_done a _ c.work-outcome.result c.status.result c.status.ensures (for_command _ a _ _ k (for_words _ _ _ _ c.as_slice.ensures.value c.work-outcome.ensures.ended))
+
+pub returns-clause-read_fault : goal.returns-clause-read_fault
+returns-clause-read_fault g c = top.read_fault _ _ c.work-outcome.result c.status.result c.status.ensures c.work-outcome.ensures.ended
+
+pub returns-clause-write_fault : goal.returns-clause-write_fault
+returns-clause-write_fault g c = top.write_fault _ _ c.work-outcome.result c.status.result c.status.ensures c.work-outcome.ensures.ended
+
+pub returns-clause-translated : goal.returns-clause-translated
+returns-clause-translated g c k = top.translated _ c.work-outcome.result c.status.result c.status.ensures (for_command _ _ _ _ k (for_words _ _ _ _ c.as_slice.ensures.value c.work-outcome.ensures.ended))
+
+pub returns-clause-part : goal.returns-clause-part
+returns-clause-part g c k = top.part _ c.work-outcome.result c.status.result c.status.ensures (for_command _ _ _ _ k (for_words _ _ _ _ c.as_slice.ensures.value c.work-outcome.ensures.ended))
+
+pub returns-clause-listed : goal.returns-clause-listed
+returns-clause-listed g c k = top.listed _ c.work-outcome.result c.status.result c.status.ensures (for_command _ _ _ _ k (for_words _ _ _ _ c.as_slice.ensures.value c.work-outcome.ensures.ended))
+
+pub returns-clause-listed_part : goal.returns-clause-listed_part
+returns-clause-listed_part g c k = top.listed_part _ c.work-outcome.result c.status.result c.status.ensures (for_command _ _ _ _ k (for_words _ _ _ _ c.as_slice.ensures.value c.work-outcome.ensures.ended))
+
+pub returns-clause-ran : goal.returns-clause-ran
+returns-clause-ran g c a run k = top.ran a run _ c.work-outcome.result c.status.result c.status.ensures (for_command _ a _ _ k (for_words _ _ _ _ c.as_slice.ensures.value c.work-outcome.ensures.ended))
+
+pub returns-clause-faulted : goal.returns-clause-faulted
+returns-clause-faulted g c = top.faulted _ _ c.work-outcome.result c.status.result c.status.ensures (for_words _ _ _ _ c.as_slice.ensures.value c.work-outcome.ensures.ended)
+
+pub returns-clause-limited : goal.returns-clause-limited
+returns-clause-limited g c = top.at_limit _ _ c.work-outcome.result c.status.result c.status.ensures (for_words _ _ _ _ c.as_slice.ensures.value c.work-outcome.ensures.ended)
+
+pub returns-clause-run_part : goal.returns-clause-run_part
+returns-clause-run_part g c a run k = top.run_part a run _ c.work-outcome.result c.status.result c.status.ensures (for_command _ a _ _ k (for_words _ _ _ _ c.as_slice.ensures.value c.work-outcome.ensures.ended))
+
+pub returns-clause-part_without_memory : goal.returns-clause-part_without_memory
+returns-clause-part_without_memory g c a run k = top.part_without_memory a run _ c.work-outcome.result c.status.result c.status.ensures (for_command _ a _ _ k (for_words _ _ _ _ c.as_slice.ensures.value c.work-outcome.ensures.ended))
+
+pub returns-clause-nothing : goal.returns-clause-nothing
+returns-clause-nothing g c m = c.work-outcome.ensures.untouched (silent _ c.work-outcome.result c.status.result c.status.ensures m)
+
+pub returns-clause-nothing_without_memory : goal.returns-clause-nothing_without_memory
+returns-clause-nothing_without_memory g c late q =
+    c.work-outcome.ensures.untouched (silent_without_memory _ c.work-outcome.result c.status.result c.status.ensures (top.same_words_late _ _ c.as_slice.ensures.value late) q)
+
+pub returns-clause-no_read_fault : goal.returns-clause-no_read_fault
+returns-clause-no_read_fault g c other = c.work-outcome.ensures.no_deck_fault (λ e. other (c.status.ensures ∙ ap status_of e))
+
+pub returns-clause-no_write_fault : goal.returns-clause-no_write_fault
+returns-clause-no_write_fault g c other = c.work-outcome.ensures.no_out_fault (λ e. other (c.status.ensures ∙ ap status_of e))
+
+pub returns-clause-passed_on : goal.returns-clause-passed_on
+returns-clause-passed_on g c whole = c.work-outcome.ensures.passed (whole_text c.work-outcome.result c.status.result c.status.ensures whole)
+
+pub returns-clause-textless : goal.returns-clause-textless
+returns-clause-textless g c a runs k held =
+    c.work-outcome.ensures.textless a runs (subst (λ (ws : List (String Global)). command_of (texts ws) ≡ Some a) (sym c.as_slice.ensures.value) k) held
+
+pub returns-clause-faults : goal.returns-clause-faults
+returns-clause-faults g c a run k = top.faults a run _ c.work-outcome.result c.status.result c.status.ensures (for_command _ a _ _ k (for_words _ _ _ _ c.as_slice.ensures.value c.work-outcome.ensures.ended))
+
+pub returns-clause-limits : goal.returns-clause-limits
+returns-clause-limits g c a run k = top.limits a run _ c.work-outcome.result c.status.result c.status.ensures (for_command _ a _ _ k (for_words _ _ _ _ c.as_slice.ensures.value c.work-outcome.ensures.ended))
+
+pub returns-clause-exceeded : goal.returns-clause-exceeded
+returns-clause-exceeded g c a run k = top.over_limit a run _ c.work-outcome.result c.status.result c.status.ensures (for_command _ a _ _ k (for_words _ _ _ _ c.as_slice.ensures.value c.work-outcome.ensures.ended))
+
+pub returns-clause-done : goal.returns-clause-done
+returns-clause-done g c a k = top.done a _ c.work-outcome.result c.status.result c.status.ensures (for_command _ a _ _ k (for_words _ _ _ _ c.as_slice.ensures.value c.work-outcome.ensures.ended))
+
+pub returns-clause-note : goal.returns-clause-note
+returns-clause-note g c still = (
+  note_of c.work-outcome.result,
+  top.noted _ _ c.work-outcome.result c.status.result c.status.ensures (for_words _ _ _ _ c.as_slice.ensures.value c.work-outcome.ensures.ended),
+  note_given c.note.result _ _ _ _ _ c.note.ensures.ok c.note.ensures.fault still,
+)
+
+pub returns-clause-note_part : goal.returns-clause-note_part
+returns-clause-note_part g c = (
+  note_of c.work-outcome.result,
+  top.noted _ _ c.work-outcome.result c.status.result c.status.ensures (for_words _ _ _ _ c.as_slice.ensures.value c.work-outcome.ensures.ended),
+  part_or_whole c.note.result _ _ _ c.note.ensures.ok c.note.ensures.part,
+)

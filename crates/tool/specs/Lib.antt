@@ -1,0 +1,12 @@
+pub mod Answers
+pub mod Asked
+pub mod Decks
+pub mod Endings
+pub mod Headline
+pub mod Listings
+pub mod Running
+pub mod Translation
+pub mod Unread
+pub mod Works
+pub mod commands
+pub mod report

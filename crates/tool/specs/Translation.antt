@@ -1,0 +1,18 @@
+-- What `vectorise` writes.
+use Rattle.std.specs.Prelude.{ℕ, ◌≡◌, Bool, true, false, List, [], ◌∷◌, ◌++◌}
+use Rattle.tree.specs.Plain.{Program}
+use Rattle.meaning.specs.Deck.{data_line90}
+use Rattle.f90_grammar.specs.PrintedText.{printed90}
+use Rattle.translation.specs.Translated.{IsVectorised}
+
+-- where the deck has a data line, so has the translation, and the input behind it is the same bytes
+abbrev pub data_part : Bool → List ℕ → List ℕ
+data_part false input = []
+data_part true input = data_line90 ++ 10 ∷ input
+
+-- the listing of p as notes, what p is translated to by the graphs in it, as it is printed, and then the input
+pub record IsTranslationText (p : Program) (there : Bool) (input text : List ℕ) : Type 0 where
+  pub notes : List (List ℕ)
+  pub translated : Program
+  pub is : IsVectorised p notes translated
+  pub printed : text ≡ printed90 translated notes ++ data_part there input

@@ -1,0 +1,64 @@
+//! Commands and their options.
+ghost use Rattle.std.specs.Prelude.{◌≡◌, Some};
+ghost use Rattle.tool.specs.commands.Command.{and_final, and_steps, and_option};
+
+use crate::commands::numbers::number;
+
+/// The options of a run.
+#[derive(Clone, Copy, Debug, Default, PartialEq, Eq)]
+pub struct Options {
+    /// Whether the final store is written.
+    pub final_store: bool,
+    /// The most steps that the run may take.
+    pub steps: Option<u64>,
+}
+
+/// What the program is asked to do.
+#[derive(Clone, Copy, Debug, PartialEq, Eq)]
+pub enum Command {
+    /// The deck is translated.
+    Vectorise,
+    /// The dependences of its loops are listed.
+    Graph,
+    /// The deck of FORTRAN 77 is run.
+    Run77(Options),
+    /// The deck of Fortran 90 is run.
+    Run90(Options),
+}
+
+impl Options {
+    fn with_final(self) -> Option<Options>
+        ensures { result ≡ and_final (Some self) }
+    {
+        if self.final_store {
+            return None;
+        }
+        Some(Options {
+            final_store: true,
+            ..self
+        })
+    }
+
+    pub(crate) fn with_steps(self, steps: u64) -> Option<Options>
+        ensures { result ≡ and_steps (Some steps) (Some self) }
+    {
+        if self.steps.is_some() {
+            return None;
+        }
+        Some(Options {
+            steps: Some(steps),
+            ..self
+        })
+    }
+
+    // With the option that is one word by itself.
+    pub(crate) fn with_option(self, word: &str) -> Option<Options>
+        ensures { result ≡ and_option word.now (Some self) }
+    {
+        if word == "--final" {
+            return self.with_final();
+        }
+        let digits = word.strip_prefix("--steps=")?;
+        self.with_steps(number(digits)?)
+    }
+}

@@ -1,0 +1,254 @@
+//! The top call: words, the deck, the text and the notes.
+#![tactic(auto)]
+
+ghost use Rattle.std.specs.Prelude.{◌≡◌, ◌≢◌, ◌≤◌, ◌↔◌, ◌⊎◌, [], ◌∷◌};
+ghost use Rattle.std.specs.Prelude.{List, length, None, Some, true, false, ℕ};
+ghost use Rattle.std.specs.Io.KnownBytes.{IsAtEnd};
+ghost use Rattle.tree.specs.Plain.{Program};
+ghost use Rattle.tree.specs.declared.ops.Fault.{Fault as Kind};
+ghost use Rattle.tree.specs.declared.refusals.Refusal.{Refusal};
+ghost use Rattle.streams.specs.Causes.{Rose};
+ghost use Rattle.streams.specs.Streams.{Gives, GivesPart};
+ghost use Rattle.meaning.specs.Sequential.{ending};
+ghost use Rattle.meaning.specs.declared.End.TheVariants.{Done, Fault, StepLimit};
+ghost use Rattle.tool.specs.commands.Command.{texts, command_of};
+ghost use Rattle.tool.specs.declared.commands.commands.Command.{Command as Asked};
+ghost use Rattle.tool.specs.declared.commands.commands.Command.TheVariants.{Vectorise, Graph};
+ghost use Rattle.tool.specs.declared.report.outcome.Outcome.TheVariants.{ReadFault, WriteFault};
+ghost use Rattle.tool.specs.Answers.{IsOneOf, NoteFor};
+ghost use Rattle.tool.specs.Asked.{Asks, HasNotFailed, IfTold};
+ghost use Rattle.tool.specs.Decks.{Reads, IsRefused, most_bytes};
+ghost use Rattle.tool.specs.Endings.{Ends, Ended, IsReadOrPassed, IsRefusedAfter, ending_of, is_silent};
+ghost use Rattle.tool.specs.Endings.{writes_early, gives_all};
+ghost use Rattle.tool.specs.Headline.{GivesTranslation, GivesTranslationPart};
+ghost use Rattle.tool.specs.Listings.{GivesListing, GivesListingPart};
+ghost use Rattle.tool.specs.Running.{IsRun, GivesRun, GivesFaultedRun, GivesRunPart, GivesAtMostPart};
+ghost use Rattle.tool.specs.Running.{IsExceeded, run_of, text_of_run};
+ghost use Rattle.tool.specs.Works.{Works};
+
+pub mod commands;
+mod deck;
+mod listings;
+pub mod report;
+mod running;
+mod translations;
+
+use crate::commands::{Command, command};
+use crate::report::{Outcome, note, status};
+use deck::{most_bytes, read_deck};
+use listings::graph;
+use running::{run77, run90};
+use std::alloc::Global;
+use streams::{Sink, Source};
+use translations::vectorise;
+
+// Does what the command asks for with the bytes of the deck.
+fn perform<K: Sink>(alloc: Global, command: Command, deck: &[u8], out: &mut K) -> Outcome
+    requires { length deck.now ≤ most_bytes command }
+    ensures works { Works command deck.now (record {
+      before = K.taken out.old;
+      now = K.taken out.new;
+      faults_before = K.faults out.old;
+      faults_now = K.faults out.new;
+    }) result }
+    ensures untouched { is_silent (Some command) result ≡ true → out.new ≡ out.old }
+    ensures textless { IsRun command → (p : Program) → Reads command deck.now p → text_of_run command deck.now p ≡ []
+        → out.new ≡ out.old }
+    ensures no_fault { result ≢ WriteFault → K.faults out.new ≡ K.faults out.old }
+    ensures later { K.faults out.old ≤ K.faults out.new }
+{
+    match command {
+        Command::Vectorise => vectorise(alloc, deck, out),
+        Command::Graph => graph(alloc, deck, out),
+        Command::Run77(options) => run77(alloc, options, deck, out),
+        Command::Run90(options) => run90(alloc, options, deck, out),
+    }
+}
+
+// Passes on what `out` holds back of a text that was given whole. Where that fails, so does the call.
+fn passed_on<K: Sink>(outcome: Outcome, out: &mut K) -> Outcome
+    ensures taken { K.taken out.new ≡ K.taken out.old }
+    ensures outcome { (result ≡ outcome) ⊎ ((result ≡ WriteFault) × (gives_all outcome ≡ true)) }
+    ensures passed { gives_all result ≡ true → K.held out.new ≡ [] }
+    ensures unasked { gives_all outcome ≡ false → (result ≡ outcome) × (out.new ≡ out.old) }
+    ensures untouched { K.held out.old ≡ [] → (result ≡ outcome) × (out.new ≡ out.old) }
+    ensures fault { gives_all outcome ≡ true → result ≡ WriteFault → Rose (K.faults out.old) (K.faults out.new) }
+    ensures no_fault { result ≢ WriteFault → K.faults out.new ≡ K.faults out.old }
+    ensures later { K.faults out.old ≤ K.faults out.new }
+{
+    match outcome {
+        Outcome::Done | Outcome::Faulted(_, _) | Outcome::StepLimit => match out.send() {
+            Ok(()) => outcome,
+            Err(_) => Outcome::WriteFault,
+        },
+        Outcome::Usage | Outcome::Refused(_) | Outcome::ReadFault => outcome,
+        Outcome::WriteFault | Outcome::OutOfMemory => outcome,
+    }
+}
+
+// Does what the command asks for.
+fn obey<S: Source, K: Sink>(alloc: Global, command: Command, deck: &mut S, out: &mut K) -> Outcome
+    ensures ends { Ends command (record {
+      left_before = S.left deck.old;
+      left_now = S.left deck.new;
+      taken_before = K.taken out.old;
+      taken_now = K.taken out.new;
+      deck_faults_before = S.faults deck.old;
+      deck_faults_now = S.faults deck.new;
+      out_faults_before = K.faults out.old;
+      out_faults_now = K.faults out.new;
+    }) result }
+    ensures untouched { is_silent (Some command) result ≡ true → out.new ≡ out.old }
+    ensures textless { IsRun command → K.held out.old ≡ []
+        → IfTold (S.left deck.old) (λ bytes. (p : Program) → Reads command bytes p → text_of_run command bytes p ≡ []
+        → out.new ≡ out.old) }
+    ensures passed { gives_all result ≡ true → K.held out.new ≡ [] }
+    ensures no_deck_fault { result ≢ ReadFault → S.faults deck.new ≡ S.faults deck.old }
+    ensures no_out_fault { result ≢ WriteFault → K.faults out.new ≡ K.faults out.old }
+    ensures deck_later { S.faults deck.old ≤ S.faults deck.new }
+    ensures out_later { K.faults out.old ≤ K.faults out.new }
+{
+    let bytes = match read_deck(alloc, deck, most_bytes(command)) {
+        Ok(bytes) => bytes,
+        Err(outcome) => return outcome,
+    };
+    let outcome = perform(alloc, command, bytes.as_slice(), out);
+    passed_on(outcome, out)
+}
+
+// Does what the words ask for.
+fn work<S: Source, K: Sink>(alloc: Global, words: &[String], deck: &mut S, out: &mut K) -> Outcome
+    ensures ended { Ended (command_of (texts words.now)) (record {
+      left_before = S.left deck.old;
+      left_now = S.left deck.new;
+      taken_before = K.taken out.old;
+      taken_now = K.taken out.new;
+      deck_faults_before = S.faults deck.old;
+      deck_faults_now = S.faults deck.new;
+      out_faults_before = K.faults out.old;
+      out_faults_now = K.faults out.new;
+    }) result }
+    ensures unread { command_of (texts words.now) ≡ None → deck.new ≡ deck.old }
+    ensures untouched { is_silent (command_of (texts words.now)) result ≡ true → out.new ≡ out.old }
+    ensures textless { (c : Asked) → IsRun c → command_of (texts words.now) ≡ Some c → K.held out.old ≡ []
+        → IfTold (S.left deck.old) (λ bytes. (p : Program) → Reads c bytes p → text_of_run c bytes p ≡ []
+        → out.new ≡ out.old) }
+    ensures passed { gives_all result ≡ true → K.held out.new ≡ [] }
+    ensures no_deck_fault { result ≢ ReadFault → S.faults deck.new ≡ S.faults deck.old }
+    ensures no_out_fault { result ≢ WriteFault → K.faults out.new ≡ K.faults out.old }
+    ensures deck_later { S.faults deck.old ≤ S.faults deck.new }
+    ensures out_later { K.faults out.old ≤ K.faults out.new }
+{
+    match command(words) {
+        Some(command) => obey(alloc, command, deck, out),
+        None => Outcome::Usage,
+    }
+}
+
+/// Does what the words ask for: reads the deck, writes to `out`, tells of its end in `notes`, and answers the status.
+pub fn run_tool<S: Source, K: Sink, E: Sink>(
+    alloc: Global,
+    words: &Vec<String>,
+    deck: &mut S,
+    out: &mut K,
+    notes: &mut E,
+) -> u8
+    ensures answers { IsOneOf (0 ∷ 1 ∷ 2 ∷ 3 ∷ 4 ∷ 5 ∷ 6 ∷ 7 ∷ []) result }
+
+    // The words: 1 comes exactly where they aren't a command, and then nothing is read.
+    ensures usage { (result ≡ 1) ↔ (command_of (texts words.now.items) ≡ None) }
+    ensures unread { result ≡ 1 → deck.new ≡ deck.old }
+
+    // Reading: the deck was read to its end, but where a limit of bytes is passed.
+    ensures whole { IsOneOf (0 ∷ 3 ∷ 4 ∷ 6 ∷ []) result → IsAtEnd (S.left deck.new) }
+    ensures whole_refused { (c : Asked) → Asks words.now.items c → result ≡ 2
+        → IsReadOrPassed (most_bytes c) (S.left deck.old) (S.left deck.new) }
+
+    // Refusals: 2 comes only where the deck is refused for the command. Where it is and reading didn't fail, there is
+    // nothing but 2, or 7.
+    ensures refused { (c : Asked) → Asks words.now.items c → result ≡ 2
+        → IfTold (S.left deck.old) (IsRefusedAfter c (S.left deck.old) (S.left deck.new)) }
+    ensures accepted { (c : Asked) → Asks words.now.items c
+        → IfTold (S.left deck.old) (λ bytes. (p : Program) → Reads c bytes p → result ≡ 2 → ⊥) }
+    ensures never_done { (c : Asked) → Asks words.now.items c
+        → IfTold (S.left deck.old) (λ bytes. (r : Refusal) → IsRefused c bytes r
+        → HasNotFailed (S.faults deck.old) (S.faults deck.new) → IsOneOf (2 ∷ 7 ∷ []) result) }
+
+    // Faults of the objects: 5 and 6 come only where that object failed in this call.
+    ensures read_fault { result ≡ 5 → Rose (S.faults deck.old) (S.faults deck.new) }
+    ensures write_fault { result ≡ 6 → Rose (K.faults out.old) (K.faults out.new) }
+    ensures no_read_fault { result ≢ 5 → S.faults deck.new ≡ S.faults deck.old }
+    ensures no_write_fault { result ≢ 6 → K.faults out.new ≡ K.faults out.old }
+
+    // `vectorise` gives the translation at 0, and a front of it at 6.
+    ensures translated { Asks words.now.items Vectorise → result ≡ 0
+        → IfTold (S.left deck.old) (GivesTranslation (K.taken out.old) (K.taken out.new)) }
+    ensures part { Asks words.now.items Vectorise → result ≡ 6
+        → IfTold (S.left deck.old) (GivesTranslationPart (K.taken out.old) (K.taken out.new)) }
+
+    // `graph` gives a listing of the deck's program at 0, and a front of one at 6.
+    ensures listed { Asks words.now.items Graph → result ≡ 0
+        → IfTold (S.left deck.old) (GivesListing (K.taken out.old) (K.taken out.new)) }
+    ensures listed_part { Asks words.now.items Graph → result ≡ 6
+        → IfTold (S.left deck.old) (GivesListingPart (K.taken out.old) (K.taken out.new)) }
+
+    // `run77` and `run90` give all of the run's text: at 0 the run ended without fault, at 3 by a fault, at 4 since its
+    // steps exceed the limit. At 6 they give a front.
+    ensures ran { (c : Asked) → IsRun c → Asks words.now.items c → result ≡ 0
+        → IfTold (S.left deck.old) (GivesRun c Done (K.taken out.old) (K.taken out.new)) }
+    ensures faulted { result ≡ 3 → (c : Asked) × IsRun c × Asks words.now.items c
+        × IfTold (S.left deck.old) (GivesFaultedRun c (K.taken out.old) (K.taken out.new)) }
+    ensures limited { result ≡ 4 → (c : Asked) × IsRun c × Asks words.now.items c
+        × IfTold (S.left deck.old) (GivesRun c StepLimit (K.taken out.old) (K.taken out.new)) }
+    ensures run_part { (c : Asked) → IsRun c → Asks words.now.items c → result ≡ 6
+        → IfTold (S.left deck.old) (GivesRunPart c (K.taken out.old) (K.taken out.new)) }
+
+    // All that was given has been passed on at 0, 3 and 4. Where a run has no text, `out` is as it was.
+    ensures passed_on { IsOneOf (0 ∷ 3 ∷ 4 ∷ []) result → K.held out.new ≡ [] }
+    ensures textless { (c : Asked) → IsRun c → Asks words.now.items c → K.held out.old ≡ []
+        → IfTold (S.left deck.old) (λ bytes. (p : Program) → Reads c bytes p → text_of_run c bytes p ≡ []
+        → out.new ≡ out.old) }
+
+    // Otherwise nothing is given, but that `run90` may have given a front where there is no memory.
+    ensures nothing { IsOneOf (1 ∷ 2 ∷ 5 ∷ []) result → out.new ≡ out.old }
+    ensures nothing_without_memory { writes_early (command_of (texts words.now.items)) ≡ false → result ≡ 7
+        → out.new ≡ out.old }
+    ensures part_without_memory { (c : Asked) → IsRun c → Asks words.now.items c → result ≡ 7
+        → IfTold (S.left deck.old) (GivesAtMostPart c (K.taken out.old) (K.taken out.new)) }
+
+    // Completeness: where nothing failed, a deck that is read gets 3 where its run faults within the limit, 4 where
+    // its steps exceed the limit, and 0 otherwise, unless memory runs out.
+    ensures faults { (c : Asked) → IsRun c → Asks words.now.items c
+        → IfTold (S.left deck.old) (λ bytes. (p : Program) → Reads c bytes p
+        → (fault : Kind) (line : ℕ) → ending (run_of c bytes p) ≡ Some (Fault fault line)
+        → HasNotFailed (S.faults deck.old) (S.faults deck.new) → HasNotFailed (K.faults out.old) (K.faults out.new)
+        → IsOneOf (3 ∷ 7 ∷ []) result) }
+    ensures limits { (c : Asked) → IsRun c → Asks words.now.items c
+        → IfTold (S.left deck.old) (λ bytes. (p : Program) → Reads c bytes p
+        → IsExceeded c bytes p
+        → HasNotFailed (S.faults deck.old) (S.faults deck.new) → HasNotFailed (K.faults out.old) (K.faults out.new)
+        → IsOneOf (4 ∷ 7 ∷ []) result) }
+    ensures exceeded { (c : Asked) → IsRun c → Asks words.now.items c → result ≡ 4
+        → IfTold (S.left deck.old) (λ bytes. (p : Program) → Reads c bytes p → IsExceeded c bytes p) }
+    ensures done { (c : Asked) → Asks words.now.items c
+        → IfTold (S.left deck.old) (λ bytes. (p : Program) → Reads c bytes p → ending_of c bytes p ≡ Some Done
+        → HasNotFailed (S.faults deck.old) (S.faults deck.new) → HasNotFailed (K.faults out.old) (K.faults out.new)
+        → IsOneOf (0 ∷ 7 ∷ []) result) }
+
+    // The notes have the status's line, or a front of it where they failed.
+    ensures note { HasNotFailed (E.faults notes.old) (E.faults notes.new)
+        → (line : List ℕ) × NoteFor (command_of (texts words.now.items)) (S.left deck.old) result line
+        × Gives (E.taken notes.old) line (E.taken notes.new) }
+    ensures note_part { (line : List ℕ) × NoteFor (command_of (texts words.now.items)) (S.left deck.old) result line
+        × GivesPart (E.taken notes.old) line (E.taken notes.new) }
+
+    // Counts of faults never fall.
+    ensures deck_later { S.faults deck.old ≤ S.faults deck.new }
+    ensures out_later { K.faults out.old ≤ K.faults out.new }
+    ensures notes_later { E.faults notes.old ≤ E.faults notes.new }
+{
+    let outcome = work(alloc, words.as_slice(), deck, out);
+    // A fault of the notes changes no status.
+    let _ = note(notes, outcome);
+    status(outcome)
+}

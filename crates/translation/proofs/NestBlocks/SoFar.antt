@@ -1,0 +1,178 @@
+-- The answers to all that was found so far.
+use Rattle.std.proofs.Common.{◌≡◌, ◌⊎◌, inl, inr, refl, ◌∙◌, ap, subst, sym, ℕ, ◌+◌, ◌<◌, ◌≤◌, ◌^◌, arith, Option}
+use Rattle.std.proofs.Common.{List, [], ◌∷◌, ◌++◌, map, take, drop, length, get_or, option_map, Contains, append-nil}
+use Rattle.std.proofs.Common.{take-append-drop}
+use Rattle.std.specs.Prelude.{All}
+use Rattle.std.specs.List.{flat_map}
+use Rattle.std.proofs.lemmas.List.{drop_more, get_or-map, length-map, map-append, take_all, take_more}
+use Rattle.std.proofs.lemmas.List.Concat.{flat_map-append}
+use Rattle.std.proofs.lemmas.List.Elements.{All-nil, All-push, Contains-append_left, Contains-append_right}
+use Rattle.components.specs.Lists.{Each, Pairwise}
+use Rattle.f90_print.specs.Notes.{text_of}
+use Rattle.find_nests.specs.Found.{Found, InNest, Kept, found_in, found_of}
+use Rattle.find_nests.specs.declared.search.Found.{Found as Found'}
+use Rattle.meaning.specs.Dialect.{fortran77}
+use Rattle.meaning.specs.Profile77.{IsProgram77}
+use Rattle.tree.specs.Plain.{Block, Program}
+use Rattle.tree.specs.View.{block_of, declaration_of}
+use Rattle.tree.specs.declared.programs.Decl.{Decl}
+use Rattle.tree.specs.declared.programs.Line.{Line}
+use Rattle.tree.specs.declared.stmts.Block.{Block as Tree}
+use Rattle.listing.proofs.graphs.LoopLines.{entries-append}
+use Rattle.listing.specs.graphs.Listing.{lines_of_entries}
+use Rattle.translation.proofs.LoopNumbers.Nests.{loop_numbers_count, nests_are_numbered}
+use Rattle.translation.specs.loop_numbers.Numbers.{ComesBefore, nests_among}
+use Rattle.translation.specs.loop_placing.Placing.{blocks_of}
+use Rattle.nest.specs.Plain.{Nest}
+use Rattle.meaning_laws.proofs.profiles.Lists.{cases_of, here, nowhere}
+use Rattle.translation.specs.nest_blocks.Answers.{AreAnswersFor, ArePlaced}
+use Rattle.translation.specs.nest_blocks.Places.{IsPutFor}
+use Rattle.translation.proofs.NestBlocks.Placed.{IsBehind, placed_more, placed_none}
+use Rattle.translation.specs.nest_blocks.LoopAnswers.{Answer, IsAnswerTo, IsRight, entries_by, found_by}
+use Rattle.translation.specs.nest_blocks.Sources.{IsFoundInSource}
+
+-- answers to these, what they list and what they put in the place of loops
+pub record AreAnswersTo (fs : List Found) (lines : List (List ℕ)) (blocks : List (Option Block)) : Type 0 where
+  pub answers : List Answer
+  pub right : All IsRight answers
+  pub found : map found_by answers ≡ fs
+  pub lines_are : lines ≡ lines_of_entries (flat_map entries_by answers)
+  pub placed : ArePlaced answers blocks
+
+answers_none : AreAnswersTo [] [] []
+answers_none =
+    record { answers = []; right = All-nil IsRight; found = refl; lines_are = refl; placed = placed_none }
+
+answers_more : (fs : List Found) (f : Found) (old more new : List (List ℕ)) (block : Option Block)
+    (before after : List (Option Block)) → AreAnswersTo fs old before → IsAnswerTo f more block → IsBehind fs f
+    → new ≡ old ++ more → IsPutFor f block before after → AreAnswersTo (fs ++ f ∷ []) new after
+answers_more fs f old more new block before after h a behind lines put = record {
+  answers = h.answers ++ a.answer ∷ [];
+  right = All-push IsRight h.answers a.answer h.right a.right;
+  found =
+      map-append found_by h.answers (a.answer ∷ []) ∙ ap (λ gs. gs ++ found_by a.answer ∷ []) h.found
+      ∙ ap (λ g. fs ++ g ∷ []) a.found;
+  lines_are =
+      lines ∙ ap (λ us. us ++ more) h.lines_are
+      ∙ ap (λ us. lines_of_entries (flat_map entries_by h.answers) ++ us) a.lines_are
+      ∙ sym (entries-append (flat_map entries_by h.answers) (entries_by a.answer)) ∙ ap lines_of_entries (sym entries);
+  placed =
+      placed_more h.answers a.answer f block before after a.found a.block_is
+      (subst (λ (gs : List Found). IsBehind gs f) (sym h.found) behind) h.placed put;
+}
+  where
+    entries : flat_map entries_by (h.answers ++ a.answer ∷ []) ≡ flat_map entries_by h.answers ++ entries_by a.answer
+    entries =
+        flat_map-append entries_by h.answers (a.answer ∷ [])
+        ∙ ap (λ es. flat_map entries_by h.answers ++ es) (append-nil (entries_by a.answer))
+
+-- ---- numbers of nests
+
+each_behind : (P : Nest → Type 0) (fs rest : List Found) (m : Nest) → Each P (nests_among (fs ++ InNest m ∷ rest)) → P m
+each_behind P [] rest m h = h.0
+each_behind P (InNest n ∷ fs) rest m h = each_behind P fs rest m h.1
+each_behind P (Kept line r ∷ fs) rest m h = each_behind P fs rest m h
+
+comes_before : (fs rest : List Found) (n m : Nest) → Pairwise ComesBefore (nests_among (fs ++ InNest m ∷ rest))
+    → Contains fs (InNest n) → ComesBefore n m
+comes_before [] rest n m h c = absurd (nowhere (InNest n) c)
+comes_before (InNest o ∷ fs) rest n m h c =
+    by (cases_of (InNest o) fs (InNest n) c) (λ i. comes_before fs rest n m h.1 i)
+  where
+    by : (InNest o ≡ InNest n) ⊎ Contains fs (InNest n) → (Contains fs (InNest n) → ComesBefore n m) → ComesBefore n m
+    by (inl e) later =
+        let same : o ≡ n = cc in
+        subst (λ (x : Nest). ComesBefore x m) same (each_behind (ComesBefore o) fs rest m h.0)
+    by (inr i) later = later i
+comes_before (Kept line r ∷ fs) rest n m h c =
+    by (cases_of (Kept line r) fs (InNest n) c) (λ i. comes_before fs rest n m h i)
+  where
+    by : (Kept line r ≡ InNest n) ⊎ Contains fs (InNest n) → (Contains fs (InNest n) → ComesBefore n m)
+        → ComesBefore n m
+    by (inl e) later = let no : ⊥ = cc in absurd no
+    by (inr i) later = later i
+
+behind : (p : Program) (fs rest : List Found) (f : Found) → IsProgram77 fortran77 p → fs ++ f ∷ rest ≡ found_in p
+    → IsBehind fs f
+behind p fs rest f program e = record {
+  counts = λ m is. loop_numbers_count p m (subst (Contains (found_in p)) is
+      (among f (Contains-append_right fs (f ∷ rest) f (here f rest))));
+  from = λ n c. loop_numbers_count p n (among (InNest n) (Contains-append_left fs (f ∷ rest) (InNest n) c));
+  later = λ n m c is. (comes_before fs rest n m (in_order m is) c).loops;
+}
+  where
+    among : (g : Found) → Contains (fs ++ f ∷ rest) g → Contains (found_in p) g
+    among g c = subst (λ (gs : List Found). Contains gs g) e c
+
+    in_order : (m : Nest) → f ≡ InNest m → Pairwise ComesBefore (nests_among (fs ++ InNest m ∷ rest))
+    in_order m is =
+        subst (λ (g : Found). Pairwise ComesBefore (nests_among (fs ++ g ∷ rest))) is
+        (subst (λ (gs : List Found). Pairwise ComesBefore (nests_among gs)) (sym e) (nests_are_numbered p program))
+
+-- ---- what was found, as the program has it
+
+pub few_declarations : (p : Program) (ds : List Decl) → map declaration_of ds ≡ p.declarations → IsProgram77 fortran77 p
+    → length ds ≤ 2 ^ 16
+few_declarations p ds e is =
+    let size : length (map declaration_of ds) ≡ length ds = length-map ds declaration_of in
+    let same : length (map declaration_of ds) ≡ length p.declarations = ap length e in
+    let few : length p.declarations ≤ 1000 = is.declarations.few in
+    omega (arith, size, same, few)
+
+pub in_source : (p : Program) (items : List Found') (i : ℕ) (x : Found') → IsProgram77 fortran77 p
+    → map found_of items ≡ found_in p → i < length items → x ≡ get_or items i x → IsFoundInSource (found_of x)
+in_source p items i x profile is h e =
+    let size : length (map found_of items) ≡ length items = length-map items found_of in
+    let at : get_or (map found_of items) i (found_of x) ≡ found_of x
+    = get_or-map found_of items i x (found_of x) h ∙ ap found_of (sym e) in
+    let within : i < length (map found_of items) = omega (arith, h, size) in
+    record {
+      program = p;
+      profile = profile;
+      among = subst (λ (fs : List Found). Contains fs (found_of x)) is (i, within, at);
+    }
+
+pub found_none : (items : List Found') (lines : List Line) (blocks : List (Option Tree)) → lines ≡ [] → blocks ≡ []
+    → AreAnswersTo (map found_of (take 0 items)) (map text_of lines) (blocks_of blocks)
+found_none items lines blocks l b =
+    subst (λ (bs : List (Option Tree)). AreAnswersTo [] (map text_of lines) (blocks_of bs)) (sym b)
+    (subst (λ (ls : List Line). AreAnswersTo [] (map text_of ls) []) (sym l) answers_none)
+
+module _ (p : Program) (items : List Found') (is : map found_of items ≡ found_in p) where
+  pub found_more : (i : ℕ) (x : Found') (old more new : List Line) (block : Option Tree)
+      (before after : List (Option Tree)) → IsProgram77 fortran77 p → i < length items → x ≡ get_or items i x
+      → AreAnswersTo (map found_of (take i items)) (map text_of old) (blocks_of before)
+      → IsAnswerTo (found_of x) (map text_of more) (option_map block_of block) → new ≡ old ++ more
+      → IsPutFor (found_of x) (option_map block_of block) (blocks_of before) (blocks_of after)
+      → AreAnswersTo (map found_of (take (i + 1) items)) (map text_of new) (blocks_of after)
+  found_more i x old more new block before after program within at h answer lines put =
+      subst (λ (fs : List Found). AreAnswersTo fs (map text_of new) (blocks_of after)) (sym one)
+      (answers_more (map found_of (take i items)) (found_of x) (map text_of old) (map text_of more) (map text_of new)
+      (option_map block_of block) (blocks_of before) (blocks_of after) h answer
+      (behind p (map found_of (take i items)) (map found_of (drop (i + 1) items)) (found_of x) program whole)
+      (ap (map text_of) lines ∙ map-append text_of old more) put)
+    where
+      one : map found_of (take (i + 1) items) ≡ map found_of (take i items) ++ found_of x ∷ []
+      one =
+          ap (map found_of) (take_more items i x within ∙ ap (λ y. take i items ++ y ∷ []) (sym at))
+          ∙ map-append found_of (take i items) (x ∷ [])
+
+      parts : take i items ++ x ∷ drop (i + 1) items ≡ items
+      parts =
+          ap (λ y. take i items ++ y ∷ drop (i + 1) items) at
+          ∙ ap (λ ys. take i items ++ ys) (sym (drop_more items i x within)) ∙ take-append-drop i items
+
+      whole : map found_of (take i items) ++ found_of x ∷ map found_of (drop (i + 1) items) ≡ found_in p
+      whole = sym (map-append found_of (take i items) (x ∷ drop (i + 1) items)) ∙ ap (map found_of) parts ∙ is
+
+  pub found_all : (i : ℕ) (lines given : List Line) (blocks stand : List (Option Tree)) → length items ≤ i
+      → AreAnswersTo (map found_of (take i items)) (map text_of lines) (blocks_of blocks) → given ≡ lines
+      → stand ≡ blocks → AreAnswersFor p (map text_of given) (blocks_of stand)
+  found_all i lines given blocks stand h k l b =
+      subst (λ (bs : List (Option Tree)). AreAnswersFor p (map text_of given) (blocks_of bs)) (sym b)
+      (subst (λ (ls : List Line). AreAnswersFor p (map text_of ls) (blocks_of blocks)) (sym l) record {
+        answers = k.answers;
+        are = record { right = k.right; found = k.found ∙ ap (map found_of) (take_all i items h) ∙ is };
+        lines_are = k.lines_are;
+        placed = k.placed;
+      })

@@ -1,0 +1,72 @@
+-- No last value behind all loops is marked.
+use Rattle.std.proofs.Common.{◌≡◌, refl, ap₂, ap, ◌∙◌, ℕ, Bool, true, false, cond, Option, Some, None}
+use Rattle.std.proofs.Common.{List, [], ◌∷◌, ◌++◌, length, flat_map}
+use Rattle.emission.specs.emission_marks.Marks.{Marked, Round, Under, marked_in}
+use Rattle.tree.specs.Plain.{Expression, Statement, block}
+use Rattle.last_values.specs.Behind.{left_behind, or_none, stands_behind, values_behind}
+use Rattle.last_values.specs.Endings.{Texts, after_statements, ending, last_texts, only_where, where_all_hold}
+use Rattle.last_values.specs.Endings.{all_hold, assigned, with_last_forms}
+use Rattle.last_values.specs.declared.behind.NestedLoop.{NestedLoop}
+use Rattle.nest.specs.Plain.{Nest}
+use Rattle.nest.specs.declared.parts.Trip.{Trip}
+use Rattle.last_values.specs.normal_forms.LastValues.{have_plain_trips, last_forms, tests_of}
+use Rattle.last_values.specs.normal_forms.NormalLoops.{is_known, is_positive}
+use Rattle.last_values.specs.normal_forms.Texts.{at_least_one}
+use Rattle.last_values.specs.declared.normal_forms.last.LastForms.{LastForms}
+use Rattle.last_values.specs.declared.normal_forms.loops.NormalLoop.{NormalLoop}
+use Rattle.pass_laws.proofs.NormalMeaning.Made.{behind}
+use Rattle.pass_laws.specs.normal_runs.Sources.{loops_in}
+use Rattle.translation.proofs.ProgramMarks.Rounds.{marked_after}
+
+-- whatever stands round it
+abbrev AreUnmarked : List Statement → Type 0
+AreUnmarked cs = (round : List Round) → marked_in round (block cs) ≡ []
+
+joined : (cs ds : List Statement) → AreUnmarked cs → AreUnmarked ds → AreUnmarked (cs ++ ds)
+joined cs ds h k round = marked_after round cs ds ∙ ap₂ (λ (xs ys : List Marked). xs ++ ys) (h round) (k round)
+
+joined_all : {A : Type 0} (f : A → List Statement) → ((x : A) → AreUnmarked (f x)) → (xs : List A)
+    → AreUnmarked (flat_map f xs)
+joined_all f h [] round = refl
+joined_all f h (x ∷ xs) round = joined (f x) (flat_map f xs) (h x) (joined_all f h xs) round
+
+ending_is : (line : ℕ) (v : List ℕ) (trip : Trip) (t : Texts) → AreUnmarked (ending line v trip t)
+ending_is line v trip t round = by (is_positive trip) (is_known trip)
+  where
+    by : (b c : Bool)
+        → marked_in round (block (cond b (assigned line v t.end ∷ []) (cond c (assigned line v t.first ∷ [])
+        (assigned line v t.first ∷ only_where line (at_least_one t.trip) (assigned line v t.end ∷ []) ∷ []))))
+        ≡ []
+    by true c = refl
+    by false true = refl
+    by false false = refl
+
+where_is : (line : ℕ) (ts : List Expression) (cs : List Statement) → AreUnmarked cs
+    → AreUnmarked (where_all_hold line ts cs)
+where_is line [] cs h round = h round
+where_is line (t ∷ ts) cs h round =
+    ap (λ (xs : List Marked). ((xs ++ []) ++ []) ++ []) (h (round ++ Under (all_hold t ts) ∷ []))
+
+behind_is : (symbols : List (List ℕ)) (line : ℕ) (round : List NormalLoop) (r : NormalLoop)
+    → AreUnmarked (or_none (after_statements symbols line round r))
+unfolding after_statements
+behind_is symbols line round r = by (have_plain_trips round) (last_forms (length symbols) round r)
+  where
+    by : (b : Bool) (o : Option LastForms)
+        → AreUnmarked (or_none (cond b (with_last_forms symbols line round r o) None))
+    by true None around = refl
+    by true (Some f) around =
+        where_is line (tests_of symbols round) (ending line r.variable f.trip (last_texts symbols round f))
+        (ending_is line r.variable f.trip (last_texts symbols round f)) around
+    by false o around = refl
+
+left_is : (n : Nest) (l : NestedLoop) → AreUnmarked (left_behind n.symbols n.line (loops_in n) n.body l)
+left_is n l = by (stands_behind (length n.symbols) (loops_in n) n.body l.turns.variable)
+  where
+    by : (b : Bool) → AreUnmarked (cond b (or_none (after_statements n.symbols n.line l.round l.turns)) [])
+    by true around = behind_is n.symbols n.line l.round l.turns around
+    by false around = refl
+
+pub last_values_unmarked : (n : Nest) → marked_in [] (behind n) ≡ []
+unfolding values_behind
+last_values_unmarked n = joined_all (left_behind n.symbols n.line (loops_in n) n.body) (left_is n) (loops_in n) []

@@ -1,0 +1,181 @@
+-- A translated program is marked as its listing has it.
+use Rattle.std.proofs.Common.{◌≡◌, refl, sym, ap, ap₂, subst, ◌∙◌, ℕ, zero, suc, ◌≤◌, arith, true, not, ◌&&◌}
+use Rattle.std.proofs.Common.{Option, None, Some, Bool, List, [], map, Contains}
+use Rattle.std.specs.Prelude.{is_some}
+use Rattle.std.proofs.lemmas.List.Elements.{All-contains}
+use Rattle.meaning_laws.proofs.arrays.Members.{in_map}
+use Rattle.components.proofs.ListLaws.{Each-from}
+use Rattle.components.specs.Lists.{Distinct, In}
+use Rattle.dependence_graph.specs.declared.graphs.Graph.{Graph}
+use Rattle.emission.proofs.EmissionMarks.Pieces.{emission_is_marked}
+use Rattle.emission.proofs.EmissionMarks.Together.{emission_keeps_together}
+use Rattle.emission.specs.emission_marks.Marks.{Marked, marked_in}
+use Rattle.emission.specs.emission_pieces.Pieces.{Pieces, translation}
+use Rattle.find_nests.proofs.FoundLaws.{found_nest_is_loop}
+use Rattle.find_nests.specs.Found.{Found, InNest, found_in}
+use Rattle.find_nests.specs.Loops.{Placed, loops_in_block}
+use Rattle.find_nests.specs.declared.reasons.Reason.{Reason}
+use Rattle.meaning.specs.Blocks.{outermost}
+use Rattle.meaning.specs.Dialect.{fortran77}
+use Rattle.meaning.specs.Profile77.{IsProgram77}
+use Rattle.tree.specs.Plain.{Block, Program, block}
+use Rattle.translation.proofs.LoopNumbers.Behind.{next_from_one}
+use Rattle.translation.proofs.LoopNumbers.Nests.{loops_are_numbered, nests_are_numbered}
+use Rattle.translation.specs.loop_numbers.Numbers.{loop_number, nests_among}
+use Rattle.translation.specs.loop_placing.Placing.{block_at, placed_in}
+use Rattle.translation.specs.nest_blocks.Answers.{AreAnswers, ArePlaced, Puts}
+use Rattle.find_nests.specs.nest_parts.Numbers.{next}
+use Rattle.nest.specs.Plain.{Nest}
+use Rattle.meaning_laws.proofs.profiles.Lists.{nowhere}
+use Rattle.translation.specs.nest_blocks.LoopAnswers.{Answer, IsRight, Kept, Translated, Untested, found_by}
+use Rattle.translation.specs.program_translation.Translated.{IsPlacedBy}
+use Rattle.translation.specs.program_marks.Laws.{TranslationIsMarked}
+use Rattle.translation.specs.program_marks.Marks.{AreOfNests, IsMarkedAsListed, IsMarkedByGraph, IsOfNest, StandsWithin}
+use Rattle.translation.specs.program_marks.Marks.{numbers_of}
+use Rattle.translation.proofs.ProgramMarks.Found.{among_nests, among_numbers, numbers_are, of_found, same_nest}
+use Rattle.translation.proofs.ProgramMarks.Members.{IsOfBlock, keys_are, one_of, stands_in}
+use Rattle.translation.proofs.ProgramMarks.Nests.{marked_by_graph}
+use Rattle.translation.proofs.ProgramMarks.Once.{AreKeysOf, HasOwnKeys, keys_of_nest, keys_once}
+use Rattle.translation.proofs.ProgramMarks.Placed.{AreNests, AreOfBlocks, block_marks, is_nest, marks_of}
+
+module _ (p : Program) (answers : List Answer) (blocks : List (Option Block)) (program : IsProgram77 fortran77 p)
+    (are : AreAnswers p answers) (placed : ArePlaced answers blocks) where
+  -- ---- one nest
+
+  found : (n m : Nest) (g : Graph) (ps : Pieces) → Contains answers (Translated n m g ps)
+      → Contains (found_in p) (InNest n)
+  found n m g ps c =
+      subst (λ (fs : List Found). Contains fs (InNest n)) are.found (in_map found_by answers (Translated n m g ps) c)
+
+  marked_nest : (n m : Nest) (g : Graph) (ps : Pieces) → Contains answers (Translated n m g ps)
+      → IsMarkedByGraph n m g ps
+  marked_nest n m g ps c =
+      marked_by_graph p n m g ps program (found n m g ps c)
+      (All-contains IsRight answers (Translated n m g ps) are.right c) emission_is_marked emission_keeps_together
+
+  -- what stands in the place of the loop with this number
+  record HasNest (k : ℕ) (t : Block) : Type 0 where
+    nest : Nest
+    normal : Nest
+    graph : Graph
+    pieces : Pieces
+    among : Contains answers (Translated nest normal graph pieces)
+    number : loop_number nest ≡ k
+    is : t ≡ translation normal pieces
+
+  nest_at : (k : ℕ) (t : Block) → 1 ≤ k → block_at blocks k ≡ Some t → HasNest k t
+  nest_at k t from e = let w = placed.only k t from e in by w.0 w.1 w.2
+    where
+      by : (a : Answer) → Contains answers a → Puts a k t → HasNest k t
+      by (Translated n m g ps) c puts = record {
+        nest = n;
+        normal = m;
+        graph = g;
+        pieces = ps;
+        among = c;
+        number = (let h = puts.found in let same : n ≡ puts.nest = cc in ap loop_number same ∙ puts.number);
+        is = (let h = puts.block in let same : t ≡ translation m ps = cc in same);
+      }
+      by (Untested n) c puts = let h = puts.block in let no : ⊥ = cc in absurd no
+      by (Kept line r) c puts = let h = puts.block in let no : ⊥ = cc in absurd no
+
+  -- the block at 0 is that at 1
+  some_nest : (k : ℕ) (t : Block) → block_at blocks k ≡ Some t → (j : ℕ) × HasNest j t
+  some_nest zero t e = (1, nest_at 1 t (omega arith) e)
+  some_nest (suc k) t e = (suc k, nest_at (suc k) t (omega arith) e)
+
+  -- ---- all of them
+
+  abbrev loops : List Placed
+  loops = loops_in_block 0 [] p.body
+
+  abbrev nests : List Nest
+  nests = nests_among (found_in p)
+
+  are_nests : AreNests blocks p.declarations loops
+  are_nests z t c e =
+      let w = nest_at (next z.loop.before) t (next_from_one z.loop.before) e in
+      let f = found_nest_is_loop p w.nest (found w.nest w.normal w.graph w.pieces w.among) in
+      let same : f.loop ≡ z =
+      loops_are_numbered p f.loop z program f.stands c (sym (ap loop_number f.is) ∙ w.number) in
+      subst (λ (y : Placed). is_nest p.declarations y ≡ true) same
+      (ap₂ (λ (b : Bool) (o : Option Reason). b && not (is_some o)) f.outermost f.no_reason)
+
+  abbrev body : Block
+  body = block (placed_in blocks 0 p.body)
+
+  all_marks : AreOfBlocks blocks (marked_in [] body) (map loop_number nests)
+  all_marks =
+      subst (AreOfBlocks blocks (marked_in [] body)) (numbers_are p loops 0)
+      (block_marks blocks p.declarations p.body 0 [] outermost [] program.statements are_nests)
+
+  only : (x : Marked) → Contains (marked_in [] body) x → IsOfNest answers x
+  only x c =
+      let s = one_of blocks (marked_in [] body) (map loop_number nests) all_marks x c in
+      by s (block_at blocks s.number) refl s.stands
+    where
+      by : (s : IsOfBlock blocks x) (o : Option Block) → block_at blocks s.number ≡ o → Contains (marks_of o) s.own
+          → IsOfNest answers x
+      by s None e i = absurd (nowhere s.own i)
+      by s (Some t) e i =
+          let w = (some_nest s.number t e).1 in
+          record {
+            nest = w.nest;
+            normal = w.normal;
+            graph = w.graph;
+            pieces = w.pieces;
+            among = w.among;
+            outer = s.outer;
+            own = s.own;
+            stands = subst (λ b. Contains (marked_in [] b) s.own) w.is i;
+            is = s.is;
+          }
+
+  each : (n m : Nest) (g : Graph) (ps : Pieces) (x : Marked) → Contains answers (Translated n m g ps)
+      → Contains (marked_in [] (translation m ps)) x → StandsWithin body x
+  each n m g ps x c i =
+      let e = placed.each (Translated n m g ps) (loop_number n) (translation m ps) c
+      (record { nest = n; found = refl; number = refl; block = refl }) in
+      let s = stands_in blocks (marked_in [] body) (map loop_number nests) all_marks (loop_number n)
+      (among_numbers nests n (among_nests (found_in p) n (found n m g ps c))) x
+      (subst (λ o. Contains (marks_of o) x) (sym e) i) in
+      record { outer = s.0; stands = s.1 }
+
+  -- ---- no mark stands twice
+
+  own_keys : (n : Nest) → In n nests → HasOwnKeys blocks n
+  own_keys n i = by (block_at blocks (loop_number n)) refl
+    where
+      from : 1 ≤ loop_number n
+      from =
+          let f = found_nest_is_loop p n (of_found (found_in p) n i) in
+          subst (λ k. 1 ≤ k) (sym (ap loop_number f.is)) (next_from_one f.loop.loop.before)
+
+      of_block : (t : Block) → HasNest (loop_number n) t → AreKeysOf n.number (map numbers_of (marked_in [] t))
+      of_block t w =
+          let among = among_nests (found_in p) w.nest (found w.nest w.normal w.graph w.pieces w.among) in
+          let same = same_nest nests (nests_are_numbered p program) w.nest n among i w.number in
+          let is = marked_nest w.nest w.normal w.graph w.pieces w.among in
+          subst (λ k. AreKeysOf k (map numbers_of (marked_in [] t))) (is.number ∙ ap (λ (m : Nest). m.number) same)
+          (subst (λ b. AreKeysOf w.normal.number (map numbers_of (marked_in [] b))) (sym w.is)
+          (keys_of_nest w.normal w.graph.edges _ (marked_in [] (translation w.normal w.pieces)) is.marked))
+
+      by : (o : Option Block) → block_at blocks (loop_number n) ≡ o → HasOwnKeys blocks n
+      by None e = subst (λ o. AreKeysOf n.number (map numbers_of (marks_of o))) (sym e) (record { once = tt; own = tt })
+      by (Some t) e =
+          subst (λ o. AreKeysOf n.number (map numbers_of (marks_of o))) (sym e)
+          (of_block t (nest_at (loop_number n) t from e))
+
+  once : Distinct (map numbers_of (marked_in [] body))
+  once =
+      subst Distinct (sym (keys_are blocks (marked_in [] body) (map loop_number nests) all_marks))
+      (keys_once blocks nests (nests_are_numbered p program) (Each-from (HasOwnKeys blocks) nests own_keys))
+
+  of_nests : AreOfNests answers body
+  of_nests = record { only = only; each = each; once = once }
+
+  pub marked_as_listed : (q : Program) → IsPlacedBy p blocks q → IsMarkedAsListed answers q.body
+  marked_as_listed q t = record { nests = subst (AreOfNests answers) (sym t.body) of_nests; each = marked_nest }
+
+pub translation_is_marked : TranslationIsMarked
+translation_is_marked p q answers blocks program are placed t = marked_as_listed p answers blocks program are placed q t

@@ -1,0 +1,95 @@
+-- What stands in the place of a nest is marked as its graph has it.
+use Rattle.std.proofs.Common.{◌≡◌, ◌⊎◌, inl, inr, refl, sym, ap, subst, ◌∙◌, ◌<◌, ◌≤◌, Bool, true, false, cond, None}
+use Rattle.std.proofs.Common.{Some, List, [], ◌∷◌, length, Contains, arith}
+use Rattle.std.proofs.lemmas.Bool.{cases_lt}
+use Rattle.std.proofs.lemmas.List.{get_or_past}
+use Rattle.dependence_graph.specs.declared.graphs.Graph.{Graph}
+use Rattle.emission.specs.emission_marks.Laws.{EmissionIsMarked, EmissionKeepsTogether, MayBeMarked}
+use Rattle.emission.specs.emission_marks.Marks.{marked_in}
+use Rattle.emission.specs.emission_pieces.Nests.{loops_at}
+use Rattle.emission.specs.emission_pieces.Pieces.{Pieces}
+use Rattle.find_nests.proofs.FoundLaws.{found_nest_is_loop}
+use Rattle.find_nests.specs.Found.{InNest, found_in}
+use Rattle.pass_laws.proofs.FoundSources.PlainNests.{normal_nests_are_plain}
+use Rattle.meaning.specs.Dialect.{fortran77}
+use Rattle.meaning.specs.Profile77.{IsProgram77}
+use Rattle.tree.specs.Plain.{Block, Program}
+use Rattle.emission.proofs.GraphEdges.Leading.{edges_lead}
+use Rattle.emission.specs.graph_edges.Laws.{IsShallow}
+use Rattle.last_values.specs.Behind.{values_behind}
+use Rattle.last_values.specs.declared.behind.NestedLoop.{NestedLoop}
+use Rattle.normal_loops.specs.Bodies.{normal_part}
+use Rattle.normal_loops.specs.Normalised.{normalised, only_one, with_body, with_loops}
+use Rattle.normal_loops.specs.Loops.{is_normal, nested_loops}
+use Rattle.dependence_graph.specs.nest_graph.Ready.{IsReady}
+use Rattle.nest.specs.Blocks.{block_then}
+use Rattle.nest.specs.Bodies.{Standing, nest_statements}
+use Rattle.nest.specs.Plain.{Nest, Part}
+use Rattle.pass_laws.proofs.NormalMeaning.Made.{behind, made_of}
+use Rattle.listing.specs.programs.Listing.{all_holds}
+use Rattle.pass_laws.proofs.ReadyNests.NormalReady.{normal_nest_is_ready}
+use Rattle.array_form.specs.holds.Statements.{no_statement}
+use Rattle.std.specs.Option.{option_map}
+use Rattle.translation.specs.nest_blocks.LoopAnswers.{IsTranslation}
+use Rattle.translation.specs.program_marks.Marks.{IsMarkedByGraph}
+use Rattle.translation.proofs.ProgramMarks.Endings.{last_values_unmarked}
+
+-- no statement stands in more than seven loops
+shallow : (n : Nest) → IsReady n → IsShallow n
+shallow n h s = by (cases_lt s (length (nest_statements n)))
+  where
+    by : (s < length (nest_statements n)) ⊎ (length (nest_statements n) ≤ s) → length (loops_at n s) ≤ 7
+    by (inl g) = (h.statements s no_statement g).depth
+    by (inr g) =
+        subst (λ (x : Standing). length x.loops ≤ 7) (sym (get_or_past (nest_statements n) s no_statement g))
+        (omega arith)
+
+number_is : (n : Nest) (more : Block) (p : Part) → (with_body n more p).number ≡ n.number
+unfolding with_body
+number_is n more p = refl
+
+-- the nest that is made has the number of the one that was found
+module _ (n m : Nest) where
+  of_bodies : (more : Block) (ps : List Part) → option_map (with_body n more) (only_one ps) ≡ Some m
+      → m.number ≡ n.number
+  of_bodies more [] e = let no : ⊥ = cc in absurd no
+  of_bodies more (p ∷ []) e =
+      let same : with_body n more p ≡ m = cc in sym (ap (λ (k : Nest). k.number) same) ∙ number_is n more p
+  of_bodies more (p ∷ q ∷ ps) e = let no : ⊥ = cc in absurd no
+
+  of_loops : (ls : List NestedLoop) → with_loops n ls ≡ Some m → m.number ≡ n.number
+  unfolding with_loops
+  of_loops ls e = of_bodies (values_behind n.symbols n.line ls n.body) (normal_part n ls [] n.body) e
+
+  pub same_number : normalised n ≡ Some m → m.number ≡ n.number
+  unfolding normalised
+  same_number e = by (is_normal n.symbols [] n.body) e
+    where
+      by : (b : Bool) → cond b (with_loops n (nested_loops n.symbols [] n.body)) None ≡ Some m → m.number ≡ n.number
+      by true g = of_loops (nested_loops n.symbols [] n.body) g
+      by false g = let no : ⊥ = cc in absurd no
+
+module _ (p : Program) (n m : Nest) (g : Graph) (ps : Pieces) (program : IsProgram77 fortran77 p)
+    (found : Contains (found_in p) (InNest n)) (translated : IsTranslation n m g ps) where
+  ready : IsReady m
+  ready = normal_nest_is_ready fortran77 p n m program found translated.made
+
+  after_is : m.after ≡ behind n
+  after_is =
+      (made_of n m translated.made).after
+      ∙ ap (λ (k : Nest). block_then k.after (behind n)) (found_nest_is_loop p n found).is
+
+  may_be : MayBeMarked m g.edges
+  may_be = record {
+    plain = (normal_nests_are_plain p n m program found translated.made translated.alone).1;
+    numbers = ready.loops;
+    edges_are = edges_lead m g (shallow m ready) translated.graph;
+    after = ap (marked_in []) after_is ∙ last_values_unmarked n;
+  }
+
+  pub marked_by_graph : EmissionIsMarked → EmissionKeepsTogether → IsMarkedByGraph n m g ps
+  marked_by_graph is_marked keeps_together = record {
+    number = same_number n m translated.made;
+    marked = is_marked m g.edges (all_holds m) ps may_be translated.emitted;
+    together = keeps_together m g.edges (all_holds m) ps may_be translated.emitted;
+  }

@@ -1,0 +1,61 @@
+-- Loops that stand in a program are statements of the profile, in loops with variables that FORTRAN 77 has.
+use Rattle.std.proofs.Common.{ℕ, List, [], ◌∷◌, ◌++◌, Contains}
+use Rattle.std.specs.List.{All}
+use Rattle.std.proofs.lemmas.List.Elements.{All-nil, All-cons, All-append, All-contains}
+use Rattle.tree.specs.Plain.{Statement, Assignment, Where, If, Do, Label, GoTo, Stop, Read, Print, Allocate}
+use Rattle.tree.specs.Plain.{Deallocate, Arms, no_arms, arm, Block, no_statements, statement, Declaration, Program}
+use Rattle.meaning.specs.Blocks.{Surroundings, before_labels, labels_of, outermost, within_loop}
+use Rattle.meaning.specs.Dialect.{fortran77}
+use Rattle.meaning.specs.Profile77.{IsStatement, AreArms, IsBlock, IsProgram77}
+use Rattle.translation.proofs.PlacedProfile.Placing.{one_more, variable_name}
+use Rattle.translation.specs.placed_profile.Laws.{AreSourceNames}
+use Rattle.meaning_laws.proofs.profiles.Lists.{nowhere}
+use Rattle.find_nests.specs.nest_parts.Numbers.{next, after, after_arms, after_block}
+use Rattle.find_nests.specs.Loops.{SourceLoop, Placed, as_statement, loops_in, loops_in_arms, loops_in_block}
+
+module _ {p : Program} (program : IsProgram77 fortran77 p) where
+  abbrev ds : List Declaration
+  ds = p.declarations
+
+  pub record Stands (l : Placed) : Type 0 where
+    pub round : Surroundings
+    pub named : AreSourceNames round.variables
+    pub is : IsStatement ds (as_statement l.loop.loop) round
+
+  abbrev AllStand : List Placed → Type 0
+  AllStand ls = All Stands ls
+
+  mutual
+    in_statement : (c : Statement) (k : ℕ) (around : List SourceLoop) (w : Surroundings) → AreSourceNames w.variables → IsStatement ds c w → AllStand (loops_in k around c)
+    in_statement (Assignment line mark left right) k around w v h = All-nil Stands
+    in_statement (Where line mark mask left right) k around w v h = All-nil Stands
+    in_statement (If line arms other) k around w v h =
+        All-append Stands (loops_in_arms k around arms) (loops_in_block (after_arms k arms) around other) (in_arms arms k around w v h.2) (in_block other (after_arms k arms) around w v h.3)
+    in_statement (Do line x a b c body) k around w v h =
+        let l : SourceLoop = record { line = line; variable = x; first = a; last = b; step = c; body = body } in
+        All-cons Stands (record { around = around; loop = record { before = k; loop = l } }) (loops_in_block (next k) (around ++ l ∷ []) body)
+        (record { round = w; named = v; is = h })
+        (in_block body (next k) (around ++ l ∷ []) (within_loop x w)
+        (one_more x w.variables (variable_name program x w.variables h.1) v) h.5)
+    in_statement (Label n) k around w v h = All-nil Stands
+    in_statement (GoTo line n) k around w v h = All-nil Stands
+    in_statement (Stop line) k around w v h = All-nil Stands
+    in_statement (Read line is) k around w v h = All-nil Stands
+    in_statement (Print line is) k around w v h = All-nil Stands
+    in_statement (Allocate line x es) k around w v h = All-nil Stands
+    in_statement (Deallocate line x) k around w v h = All-nil Stands
+
+    in_arms : (arms : Arms) (k : ℕ) (around : List SourceLoop) (w : Surroundings) → AreSourceNames w.variables → AreArms ds arms w → AllStand (loops_in_arms k around arms)
+    in_arms no_arms k around w v h = All-nil Stands
+    in_arms (arm test body arms) k around w v h =
+        All-append Stands (loops_in_block k around body) (loops_in_arms (after_block k body) around arms) (in_block body k around w v h.1) (in_arms arms (after_block k body) around w v h.2)
+
+    in_block : (b : Block) (k : ℕ) (around : List SourceLoop) (w : Surroundings) → AreSourceNames w.variables → IsBlock ds b w → AllStand (loops_in_block k around b)
+    in_block no_statements k around w v h = All-nil Stands
+    in_block (statement c cs) k around w v h =
+        All-append Stands (loops_in k around c) (loops_in_block (after k c) around cs) (in_statement c k around (before_labels (labels_of cs) w) v h.0) (in_block cs (after k c) around w v h.1)
+
+  pub loop_stands : (l : Placed) → Contains (loops_in_block 0 [] p.body) l → Stands l
+  loop_stands l c =
+      All-contains Stands (loops_in_block 0 [] p.body) l
+      (in_block p.body 0 [] outermost (λ x i. absurd (nowhere x i)) program.statements) c

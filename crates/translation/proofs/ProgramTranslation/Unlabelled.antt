@@ -1,0 +1,149 @@
+-- No label and no jump stands in a nest that is loops and statements alone, nor in what is emitted for it.
+use Rattle.std.proofs.Common.{◌≡◌, refl, ap₂, ℕ, suc, List, [], ◌∷◌, ◌++◌, Option, Some}
+use Rattle.array_form.specs.forms.Loops.{Surroundings, names_of}
+use Rattle.array_form.specs.forms.Statements.{array_form_of, guarded_by, left_form, loops_from, right_form, tests_of}
+use Rattle.emission.specs.emission_pieces.Nests.{loops_at, standing_at}
+use Rattle.emission.specs.emission_pieces.Pieces.{Formed, Kept, Piece, Pieces, Turning, block_of_piece, block_of_pieces, mark_of}
+use Rattle.emission.specs.emission_pieces.Pieces.{no_pieces, piece, translation}
+use Rattle.pass_laws.proofs.FoundSources.Lists.{alone_left, alone_right}
+use Rattle.pass_laws.specs.found_sources.Laws.{HaveLoopsAlone}
+use Rattle.meaning.specs.Blocks.{all_labels_in, all_labels_of, targets_in, targets_of}
+use Rattle.tree.specs.Plain.{Expression, Reference, Statement, Assignment, Where, If, Do, Label, GoTo, Stop, Read}
+use Rattle.tree.specs.Plain.{Print, Allocate, Deallocate, Block, arm, no_arms, no_statements, statement}
+use Rattle.tree.specs.declared.stmts.Mark.{Mark}
+use Rattle.find_nests.specs.nest_parts.Numbers.{after, next}
+use Rattle.find_nests.specs.nest_parts.Statements.{parts_of, parts_of_block}
+use Rattle.translation.proofs.NestTranslation.Endings.{AreEndings, IsEnding}
+use Rattle.nest.specs.Blocks.{allocation_then, allocations_then, block_then, deallocation_then, deallocations}
+use Rattle.nest.specs.Plain.{Made, Nest, parts}
+use Rattle.translation.specs.placed_profile.Laws.{IsWithoutLabels}
+use Rattle.array_form.specs.holds.Surroundings.{surroundings_of}
+
+record IsUnlabelled (c : Statement) : Type 0 where
+  labels : all_labels_of c ≡ []
+  targets : targets_of c ≡ []
+
+nothing : IsWithoutLabels no_statements
+nothing = record { labels = refl; targets = refl }
+
+none_of : (xs ys : List ℕ) → xs ≡ [] → ys ≡ [] → xs ++ ys ≡ []
+none_of xs ys h k = ap₂ (λ (a b : List ℕ). a ++ b) h k
+
+first_then : (c : Statement) (cs : Block) → IsUnlabelled c → IsWithoutLabels cs → IsWithoutLabels (statement c cs)
+first_then c cs h k = record {
+  labels = none_of (all_labels_of c) (all_labels_in cs) h.labels k.labels;
+  targets = none_of (targets_of c) (targets_in cs) h.targets k.targets;
+}
+
+one : (c : Statement) → IsUnlabelled c → IsWithoutLabels (statement c no_statements)
+one c h = first_then c no_statements h nothing
+
+-- ---- the loop
+
+mutual
+  source_statement : (k : ℕ) (c : Statement) → HaveLoopsAlone (parts (parts_of k c)) → IsUnlabelled c
+  source_statement k (Assignment line mark left right) h = record { labels = refl; targets = refl }
+  source_statement k (Where line mark mask left right) h = record { labels = refl; targets = refl }
+  source_statement k (If line arms other) h = absurd h.0
+  source_statement k (Do line x a b c body) h = let inner = source_unlabelled (next k) body h.0 in record { labels = inner.labels; targets = inner.targets }
+  source_statement k (Label n) h = absurd h.0
+  source_statement k (GoTo line n) h = absurd h.0
+  source_statement k (Stop line) h = record { labels = refl; targets = refl }
+  source_statement k (Read line is) h = record { labels = refl; targets = refl }
+  source_statement k (Print line is) h = record { labels = refl; targets = refl }
+  source_statement k (Allocate line x es) h = record { labels = refl; targets = refl }
+  source_statement k (Deallocate line x) h = record { labels = refl; targets = refl }
+
+  pub source_unlabelled : (k : ℕ) (b : Block) → HaveLoopsAlone (parts (parts_of_block k b)) → IsWithoutLabels b
+  source_unlabelled k no_statements h = nothing
+  source_unlabelled k (statement c cs) h =
+      first_then c cs (source_statement k c (alone_left (parts_of k c) (parts_of_block (after k c) cs) h))
+      (source_unlabelled (after k c) cs (alone_right (parts_of k c) (parts_of_block (after k c) cs) h))
+
+-- ---- last values
+
+mutual
+  ending_unlabelled : (c : Statement) → IsEnding c → IsUnlabelled c
+  ending_unlabelled (Assignment line mark left right) h = record { labels = refl; targets = refl }
+  ending_unlabelled (If line no_arms other) h = absurd h.0
+  ending_unlabelled (If line (arm test body (arm u d ms)) other) h = absurd h.0.1
+  ending_unlabelled (If line (arm test body no_arms) (statement c cs)) h = absurd h.1
+  ending_unlabelled (If line (arm test body no_arms) no_statements) h =
+      let inner = endings_unlabelled body h.0.0 in
+      record {
+        labels = none_of (all_labels_in body ++ []) [] (none_of (all_labels_in body) [] inner.labels refl) refl;
+        targets = none_of (targets_in body ++ []) [] (none_of (targets_in body) [] inner.targets refl) refl;
+      }
+  ending_unlabelled (Where line mark mask left right) h = absurd h
+  ending_unlabelled (Do line x a b c body) h = absurd h
+  ending_unlabelled (Label n) h = absurd h
+  ending_unlabelled (GoTo line n) h = absurd h
+  ending_unlabelled (Stop line) h = absurd h
+  ending_unlabelled (Read line is) h = absurd h
+  ending_unlabelled (Print line is) h = absurd h
+  ending_unlabelled (Allocate line x es) h = absurd h
+  ending_unlabelled (Deallocate line x) h = absurd h
+
+  pub endings_unlabelled : (b : Block) → AreEndings b → IsWithoutLabels b
+  endings_unlabelled no_statements h = nothing
+  endings_unlabelled (statement c cs) h = first_then c cs (ending_unlabelled c h.0) (endings_unlabelled cs h.1)
+
+-- ---- what is emitted
+
+then_unlabelled : (a b : Block) → IsWithoutLabels a → IsWithoutLabels b → IsWithoutLabels (block_then a b)
+then_unlabelled no_statements b h k = k
+then_unlabelled (statement c cs) b h k =
+    let first = parted (all_labels_of c) (all_labels_in cs) h.labels in
+    let jumps = parted (targets_of c) (targets_in cs) h.targets in
+    first_then c (block_then cs b) (record { labels = first.0; targets = jumps.0 })
+    (then_unlabelled cs b (record { labels = first.1; targets = jumps.1 }) k)
+  where
+    parted : (xs ys : List ℕ) → xs ++ ys ≡ [] → (xs ≡ []) × (ys ≡ [])
+    parted [] ys e = (refl, e)
+    parted (x ∷ xs) ys e = let no : ⊥ = cc in absurd no
+
+form_unlabelled : (a : Surroundings) (k line : ℕ) (mark : Option Mark) (left : Reference) (right : Expression) → IsWithoutLabels (array_form_of a k line mark left right)
+form_unlabelled a k line mark left right = by (tests_of (names_of a) (loops_from a k))
+  where
+    by : (es : List Expression) → IsWithoutLabels (guarded_by line es (statement (Assignment line mark (left_form a k left) (right_form a k left right)) no_statements))
+    by [] = record { labels = refl; targets = refl }
+    by (e ∷ es) = record { labels = refl; targets = refl }
+
+module _ (n : Nest) where
+  mutual
+    piece_unlabelled : (k : ℕ) (p : Piece) → IsWithoutLabels (block_of_piece n k p)
+    piece_unlabelled k (Kept s) = record { labels = refl; targets = refl }
+    piece_unlabelled k (Formed s) =
+        form_unlabelled (surroundings_of n (loops_at n s)) k (standing_at n s).statement.line (Some (mark_of n s k)) (standing_at n s).statement.left (standing_at n s).statement.right
+    piece_unlabelled k (Turning l ps) =
+        let inner = pieces_unlabelled (suc k) ps in
+        record {
+          labels = none_of (all_labels_in (block_of_pieces n (suc k) ps)) [] inner.labels refl;
+          targets = none_of (targets_in (block_of_pieces n (suc k) ps)) [] inner.targets refl;
+        }
+
+    pieces_unlabelled : (k : ℕ) (ps : Pieces) → IsWithoutLabels (block_of_pieces n k ps)
+    pieces_unlabelled k no_pieces = nothing
+    pieces_unlabelled k (piece p ps) = then_unlabelled (block_of_piece n k p) (block_of_pieces n k ps) (piece_unlabelled k p) (pieces_unlabelled k ps)
+
+allocation_unlabelled : (line : ℕ) (x : List ℕ) (es : List Expression) (b : Block) → IsWithoutLabels b → IsWithoutLabels (allocation_then line x es b)
+allocation_unlabelled line x [] b h = h
+allocation_unlabelled line x (e ∷ es) b h = record { labels = h.labels; targets = h.targets }
+
+deallocation_unlabelled : (line : ℕ) (x : List ℕ) (es : List Expression) (b : Block) → IsWithoutLabels b → IsWithoutLabels (deallocation_then line x es b)
+deallocation_unlabelled line x [] b h = h
+deallocation_unlabelled line x (e ∷ es) b h = record { labels = h.labels; targets = h.targets }
+
+allocations_unlabelled : (line : ℕ) (ms : List Made) (b : Block) → IsWithoutLabels b → IsWithoutLabels (allocations_then line ms b)
+allocations_unlabelled line [] b h = h
+allocations_unlabelled line (m ∷ ms) b h = allocation_unlabelled line m.name m.extents (allocations_then line ms b) (allocations_unlabelled line ms b h)
+
+deallocations_unlabelled : (line : ℕ) (ms : List Made) → IsWithoutLabels (deallocations line ms)
+deallocations_unlabelled line [] = nothing
+deallocations_unlabelled line (m ∷ ms) = deallocation_unlabelled line m.name m.extents (deallocations line ms) (deallocations_unlabelled line ms)
+
+pub translation_unlabelled : (n : Nest) (ps : Pieces) → IsWithoutLabels n.after → IsWithoutLabels (translation n ps)
+translation_unlabelled n ps h =
+    allocations_unlabelled n.line n.made (block_then (block_of_pieces n 1 ps) (block_then n.after (deallocations n.line n.made)))
+    (then_unlabelled (block_of_pieces n 1 ps) (block_then n.after (deallocations n.line n.made)) (pieces_unlabelled n 1 ps)
+    (then_unlabelled n.after (deallocations n.line n.made) h (deallocations_unlabelled n.line n.made)))

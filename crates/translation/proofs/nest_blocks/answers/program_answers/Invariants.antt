@@ -1,0 +1,12 @@
+-- The answers to all that was found so far.
+use Rattle.std.proofs.Common.{map, take}
+use Rattle.f90_print.specs.Notes.{text_of}
+use Rattle.find_nests.specs.Found.{found_of}
+use Rattle.translation.specs.loop_placing.Placing.{blocks_of}
+use Rattle.translation.proofs.NestBlocks.SoFar.{AreAnswersTo}
+use Rattle.translation.proofs.nest_blocks.answers.program_answers.Given as goal
+
+abbrev pub invariant-loop-found : goal.invariant-loop-found
+invariant-loop-found l =
+    AreAnswersTo (map found_of (take l.found-index l.found-items)) (map text_of l.lines.items)
+    (blocks_of l.blocks.items)

@@ -1,0 +1,13 @@
+use Rattle.std.proofs.Common.{ap, sym, subst, None, refl, map}
+use Rattle.f90_print.specs.Notes.{text_of}
+use Rattle.find_nests.specs.Found.{Found, Kept, found_of}
+use Rattle.translation.specs.nest_blocks.LoopAnswers.{IsAnswerTo}
+use Rattle.translation.proofs.NestBlocks.Answering.{kept_as}
+use Rattle.translation.proofs.nest_blocks.loop_answers.answer_to.Goals as goal
+
+pub returns-in_ok-kept_loop-in-Kept : goal.returns-in_ok-kept_loop-in-Kept
+returns-in_ok-kept_loop-in-Kept c =
+    subst (λ (f : Found). IsAnswerTo f (map text_of c.in_ok-kept_loop-in-Kept.field-0) None)
+    (sym (ap found_of c.in-Kept.is))
+    (kept_as c.in-Kept.line c.in-Kept.reason (map text_of c.in_ok-kept_loop-in-Kept.field-0) None
+    c.in_ok-kept_loop-in-Kept.ensures refl)

@@ -1,0 +1,7 @@
+use Rattle.std.proofs.Common.{refl}
+use Rattle.nest.specs.View.{nest_of}
+use Rattle.translation.proofs.NestBlocks.Answering.{untested}
+use Rattle.translation.proofs.nest_blocks.loop_answers.untested.Goals as goal
+
+pub returns : goal.returns
+returns c = untested (nest_of c.args.found.now) _ _ c.requires c.in_ok-not_built.ensures refl

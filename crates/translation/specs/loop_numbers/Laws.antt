@@ -1,0 +1,25 @@
+-- No two nests of a program have one number, nor have their outermost loops.
+use Rattle.std.specs.Prelude.{◌≡◌, ◌≤◌, [], Contains}
+use Rattle.components.specs.Lists.{Pairwise}
+use Rattle.find_nests.specs.Found.{InNest, found_in}
+use Rattle.find_nests.specs.Loops.{Placed, loops_in_block}
+use Rattle.meaning.specs.Dialect.{fortran77}
+use Rattle.meaning.specs.Profile77.{IsProgram77}
+use Rattle.tree.specs.Plain.{Program}
+use Rattle.find_nests.specs.nest_parts.Numbers.{next}
+use Rattle.nest.specs.Plain.{Nest}
+use Rattle.translation.specs.loop_numbers.Numbers.{ComesBefore, loop_number, nests_among}
+
+-- a loop is known by its number
+abbrev pub LoopsAreNumbered : Type 0
+LoopsAreNumbered = (p : Program) (l m : Placed) → IsProgram77 fortran77 p
+    → Contains (loops_in_block 0 [] p.body) l → Contains (loops_in_block 0 [] p.body) m
+    → next l.loop.before ≡ next m.loop.before → l ≡ m
+
+-- nests are numbered in the order of their outermost loops
+abbrev pub NestsAreNumbered : Type 0
+NestsAreNumbered = (p : Program) → IsProgram77 fortran77 p → Pairwise ComesBefore (nests_among (found_in p))
+
+-- a number counts from 1
+abbrev pub LoopNumbersCount : Type 0
+LoopNumbersCount = (p : Program) (n : Nest) → Contains (found_in p) (InNest n) → 1 ≤ loop_number n

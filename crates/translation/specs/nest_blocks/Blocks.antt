@@ -1,0 +1,29 @@
+-- The blocks that stand in the place of a program's nests.
+use Rattle.std.specs.Prelude.{◌≡◌, ◌≤◌, ℕ, Option, Some, List, Contains}
+use Rattle.tree.specs.Plain.{Block, Program}
+use Rattle.find_nests.specs.Found.{InNest, found_in}
+use Rattle.pass_laws.specs.found_sources.Laws.{HasLoopsAlone}
+use Rattle.normal_loops.specs.Normalised.{normalised}
+use Rattle.translation.specs.loop_numbers.Numbers.{loop_number}
+use Rattle.translation.specs.loop_placing.Placing.{block_at}
+use Rattle.translation.specs.nest_translation.Laws.{IsTranslatedNest}
+use Rattle.nest.specs.Plain.{Nest}
+
+-- a nest of the program whose outermost loop has this number, and its translation
+pub record IsBlockOfLoop (p : Program) (k : ℕ) (b : Block) : Type 0 where
+  pub nest : Nest
+  pub among : Contains (found_in p) (InNest nest)
+  pub number : loop_number nest ≡ k
+  pub normal : Nest
+  pub translated : IsTranslatedNest nest normal b
+
+pub record HasBlock (blocks : List (Option Block)) (k : ℕ) : Type 0 where
+  pub block : Block
+  pub is : block_at blocks k ≡ Some block
+
+-- Each block is a translation, and each nest that is loops and statements alone once its loops go from 1 by 1 has one;
+-- loops are numbered from 1
+pub record AreNestBlocks (p : Program) (blocks : List (Option Block)) : Type 0 where
+  pub only : (k : ℕ) (b : Block) → 1 ≤ k → block_at blocks k ≡ Some b → IsBlockOfLoop p k b
+  pub all : (n m : Nest) → Contains (found_in p) (InNest n) → normalised n ≡ Some m → HasLoopsAlone m.body
+      → HasBlock blocks (loop_number n)

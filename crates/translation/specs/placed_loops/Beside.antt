@@ -1,0 +1,26 @@
+-- Two runs beside each other: the sequential one of a program of FORTRAN 77, and the array run of one with further
+-- names.
+use Rattle.std.specs.Prelude.{◌≡◌, None}
+use Rattle.tree.specs.Plain.{Block, Program, Statement}
+use Rattle.meaning.specs.Dialect.{fortran77, fortran90}
+use Rattle.meaning.specs.Holding.{HoldsProgram}
+use Rattle.meaning.specs.Run.{State, Going, does, does_all}
+use Rattle.meaning.specs.Store.{Agree}
+use Rattle.rewrite.specs.Following.{IsSound}
+
+-- The stores agree on p, each holds its program, and all else is the same but for the number of steps
+pub record AreBeside (p q : Program) (s t : State) : Type 0 where
+  pub store : Agree p s.store t.store
+  pub holds : HoldsProgram fortran77 p s.store
+  pub holds_beside : HoldsProgram fortran90 q t.store
+  pub written : s.written ≡ t.written
+  pub input : s.input ≡ t.input
+  pub had_value : s.had_value ≡ t.had_value
+  pub way : s.way ≡ t.way
+
+-- The block does what the statement does: from moments beside each other at which the runs go on, where the statement
+-- meets no fault, both come to moments beside each other
+abbrev pub DoesAs : Program → Program → Statement → Block → Type 0
+DoesAs p q c b = (s t : State)
+    → s.way ≡ Going → AreBeside p q s t → IsSound (does fortran77 None c s).way
+    → AreBeside p q (does fortran77 None c s) (does_all fortran90 None b t)

@@ -1,0 +1,63 @@
+//! The answers to what was found in a program.
+ghost use Rattle.std.specs.Prelude.{IfOk, OnOk, map};
+ghost use Rattle.std.specs.Option.{option_map};
+ghost use Rattle.f90_print.specs.Notes.{text_of};
+ghost use Rattle.find_nests.specs.Found.{found_of};
+ghost use Rattle.meaning.specs.Dialect.{fortran77};
+ghost use Rattle.meaning.specs.Profile77.{IsProgram77};
+ghost use Rattle.tree.specs.View.{block_of, program_of};
+ghost use Rattle.translation.specs.loop_placing.Placing.{blocks_of};
+ghost use Rattle.translation.specs.nest_blocks.Answers.{AreAnswersFor};
+ghost use Rattle.translation.specs.nest_blocks.Places.{IsPutFor};
+
+use crate::nest_blocks::loop_answers::answer_to;
+use crate::nest_blocks::places::{loop_number, put};
+use find_nests::{Found, find_nests};
+use std::alloc::Global;
+use tree::{Block, Line, Memory, Program77, Seq};
+
+/// The lines of a program's listing, and what stands in the place of each of its loops, by the loops' numbers, of which
+/// the first one is 1: for the outermost loop of a nest that is translated its block, and nothing for all others.
+#[derive(Drop)]
+pub struct Answers {
+    pub lines: Seq<Line>,
+    pub blocks: Seq<Option<Block>>,
+}
+
+// Puts the block in the place of what was found, if there is one.
+fn put_found(
+    blocks: &mut Vec<Option<Block>>,
+    found: &Found,
+    block: Option<Block>,
+) -> Result<(), Memory>
+    ensures { OnOk result
+        (IsPutFor (found_of found.now) (option_map block_of block) (blocks_of blocks.old.items)
+        (blocks_of blocks.new.items)) }
+{
+    match (found, block) {
+        (Found::Nest(nest), Some(block)) => {
+            let place = (loop_number(nest) as usize).saturating_sub(1);
+            put(blocks, place, block)
+        }
+        _ => Ok(()),
+    }
+}
+
+/// The listing of a program, and the translations of its nests, each by the graph that is listed.
+pub fn program_answers(alloc: Global, program: &Program77) -> Result<Answers, Memory>
+    requires { IsProgram77 fortran77 (program_of program.now) }
+    ensures { IfOk result (λ a.
+        AreAnswersFor (program_of program.now) (map text_of a.lines) (blocks_of a.blocks)) }
+{
+    let mut lines = Vec::new(alloc);
+    let mut blocks = Vec::new(alloc);
+    for found in find_nests(alloc, program)?.as_slice() {
+        let answer = answer_to(alloc, found)?;
+        lines.append(&mut answer.lines.into_vec())?;
+        put_found(&mut blocks, found, answer.block)?;
+    }
+    Ok(Answers {
+        lines: Seq::from_vec(lines),
+        blocks: Seq::from_vec(blocks),
+    })
+}

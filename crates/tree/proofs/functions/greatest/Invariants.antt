@@ -1,0 +1,8 @@
+use Rattle.std.proofs.Common.{◌≡◌, take}
+use Rattle.std.specs.Int.{int_max}
+use Rattle.std.specs.List.{fold}
+use Rattle.tree.specs.Operators.{number_in}
+use Rattle.tree.proofs.functions.greatest.Given as goal
+
+abbrev pub invariant-loop-value : goal.invariant-loop-value
+invariant-loop-value l = l.best ≡ fold (λ best v. int_max best (number_in v)) l.initial.best (take l.value-index l.args)

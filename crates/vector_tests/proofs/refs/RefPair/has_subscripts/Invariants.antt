@@ -1,7 +1,0 @@
-use Rattle.std.proofs.Common.{take}
-use Rattle.std.specs.Prelude.{All}
-use Rattle.vector_tests.specs.Refs.{IsSubscriptOf}
-use Rattle.vector_tests.proofs.refs.RefPair.has_subscripts.Given as goal
-
-abbrev pub invariant-loop-p : goal.invariant-loop-p
-invariant-loop-p l = All (IsSubscriptOf l.self) (take l.p-index l.self.subs)

@@ -1,6 +1,0 @@
-use Rattle.std.proofs.Common.{◌≡◌, ℕ, ◌<◌, get_or, length}
-use Rattle.subscripts.specs.Iterations.{once}
-use Rattle.vector_tests.proofs.shapes.are_padded.Given as goal
-
-abbrev pub invariant-loop-place : goal.invariant-loop-place
-invariant-loop-place l = (k : ℕ) → k < l.place → get_or l.spans k once ≡ get_or l.loops k once

@@ -1,7 +1,0 @@
-use Rattle.std.proofs.Common.{◌≡◌, take}
-use Rattle.std.specs.Prelude.{All}
-use Rattle.subscripts.specs.Classes.{IsZiv}
-use Rattle.vector_tests.proofs.siv.has_unequal_constants.Given as goal
-
-abbrev pub invariant-loop-p : goal.invariant-loop-p
-invariant-loop-p l = All (λ p. IsZiv p → p.from.constant ≡ p.to.constant) (take l.p-index l.ps)

@@ -1,4 +1,0 @@
-      I = 2
-      J = I + 3
-      PRINT *, I + J
-      END
