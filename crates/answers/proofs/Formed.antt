@@ -7,7 +7,8 @@ use Rattle.dependence_graph.specs.nest_graph.Ready.{HaveTrips, IsReady, IsTripIn
 use Rattle.nest.specs.Bodies.{nest_statements}
 use Rattle.nest.specs.Plain.{Loop, Nest}
 use Rattle.nest.specs.declared.parts.Trip.{Trip}
-use Rattle.array_form.specs.holds.Statements.{IsPlainStatement, no_statement, statement_at}
+use Rattle.array_form.specs.holds.Statements.{no_statement, statement_at}
+use Rattle.array_form.specs.holds.Plain.{IsPlainStatement}
 use Rattle.array_form.specs.holds.Surroundings.{known_trip}
 use Rattle.subscripts.specs.Shapes.{IsForm}
 

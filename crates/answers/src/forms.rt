@@ -1,7 +1,8 @@
 //! The array forms of the statements of nests, level by level.
 ghost use Rattle.std.specs.Prelude.{◌≡◌, IfOk, IsTrue, length};
 ghost use Rattle.nest.specs.View.{nest_of};
-ghost use Rattle.array_form.specs.holds.Statements.{IsPlainStatement, statement_at};
+ghost use Rattle.array_form.specs.holds.Statements.{statement_at};
+ghost use Rattle.array_form.specs.holds.Plain.{IsPlainStatement};
 ghost use Rattle.array_form.specs.Statement.{HasArrayForm};
 
 use crate::texts::push;

@@ -1,6 +1,10 @@
 //! Answers questions on decks and on pairs of subscripts, so that what single calls give stands in rows of text, and
 //! can be compared with another program that answers them. The first line of the input is the question; a deck follows,
 //! or for `pairings` lines of pairs of subscripts. `decks` and `questions` say what may be asked.
+//!
+//! Proved answers questions on decks (the nest after a pass, holds and array forms by level, references, vectors,
+//! components, linear forms, reasons, names, a text as it is printed again) and on pairs of subscripts: a program for
+//! the rows of `rows/`, without contracts but safety.
 #![tactic(auto)]
 
 mod couples;

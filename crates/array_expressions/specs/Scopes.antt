@@ -2,14 +2,14 @@
 use Rattle.std.specs.Prelude.{Result, Ok, Option, ℕ, ℤ, Bool, List, [], ◌∷◌, map, length}
 use Rattle.tree.specs.Steps.{◌>>=◌}
 use Rattle.tree.specs.Operators.{call, as_numbers, reduced}
-use Rattle.tree.specs.Plain.{Expression, Expressions, Subscripts, Loops, Reference}
+use Rattle.tree.specs.Plain.{Expression, Expressions, Loops, Reference}
 use Rattle.tree.specs.declared.functions.Fun.{Fun}
 use Rattle.tree.specs.declared.functions.Red.{Red}
 use Rattle.tree.specs.declared.ops.Value.{Value}
 use Rattle.tree.specs.declared.ops.Fault.{Fault}
 use Rattle.meaning.specs.ArrayValues.{Array, Elements, in_whole, reshaped}
 use Rattle.meaning.specs.Dialect.{fortran90}
-use Rattle.meaning.specs.Sections.{axes_selected, extents_of, cells_along, not_negative}
+use Rattle.meaning.specs.Sections.{axes_selected, not_negative}
 use Rattle.meaning.specs.Store.{Store, cell_at, bounds_of}
 use Rattle.meaning.specs.Value.{value_of, values_of, array_of, subscript_values, selectors, evaluated, is_scalar}
 use Rattle.meaning.specs.Value.{name_is_scalar, are_indices, numbered, under}

@@ -8,7 +8,8 @@ use Rattle.std.proofs.lemmas.Bool.Decides.{Decides-int_eq}
 use Rattle.std.proofs.lemmas.List.{take-append-drop, length-append}
 use Rattle.subscripts.specs.Shapes.{IsForm}
 use Rattle.subscripts.specs.declared.affine.Affine.{Affine}
-use Rattle.linear_forms.specs.Places.{IsAffineOf, padded, terms_from}
+use Rattle.linear_forms.specs.Places.{padded, terms_from}
+use Rattle.linear_forms.specs.Affines.{IsAffineOf}
 use Rattle.array_form.specs.holds.Surroundings.{coefficients_from, form_of_affine}
 
 -- ---- symbols

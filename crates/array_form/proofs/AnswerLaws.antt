@@ -21,7 +21,7 @@ use Rattle.meaning.specs.Reads.{names_in, names_in_subscript}
 use Rattle.array_form.specs.forms.Forms.{constructed, form, placed, subscript_form, subscript_forms}
 use Rattle.array_form.specs.forms.Loops as forms
 use Rattle.array_form.specs.forms.Statements.{left_form, loops_from, right_form}
-use Rattle.array_form.specs.holds.Surroundings.{surroundings_view}
+use Rattle.array_form.specs.holds.View.{surroundings_view}
 use Rattle.array_form.specs.declared.holds.loops.Counted.{Counted}
 use Rattle.array_form.specs.declared.holds.loops.Surroundings.{Surroundings}
 use Rattle.array_form.specs.Loops.{AreLoopsOf, IsLoopOf, has_one, in_order, standing_in, viewed}

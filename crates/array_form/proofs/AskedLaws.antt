@@ -13,7 +13,8 @@ use Rattle.nest.specs.View.{loop_of}
 use Rattle.array_form.specs.forms.Loops as forms
 use Rattle.array_form.specs.forms.Statements.{array_form_of}
 use Rattle.array_form.specs.holds.Statements.{statement_at}
-use Rattle.array_form.specs.holds.Surroundings.{counted, known_trip, surroundings_of, surroundings_view}
+use Rattle.array_form.specs.holds.Surroundings.{counted, known_trip, surroundings_of}
+use Rattle.array_form.specs.holds.View.{surroundings_view}
 use Rattle.array_form.specs.declared.holds.loops.Surroundings.{Surroundings}
 use Rattle.array_form.proofs.holds.Asked.{as_many, standing_at}
 use Rattle.nest.specs.statement_loops.Standings.{standing_of}

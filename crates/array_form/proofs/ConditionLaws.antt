@@ -10,7 +10,8 @@ use Rattle.tree.specs.declared.lists.Memory.{Memory}
 use Rattle.tree.specs.declared.ops.Op.TheVariants.{Ge}
 use Rattle.array_form.specs.forms.Loops as forms
 use Rattle.array_form.specs.forms.Statements.{tests_of}
-use Rattle.array_form.specs.holds.Surroundings.{surroundings_view, trip_of}
+use Rattle.array_form.specs.holds.Surroundings.{trip_of}
+use Rattle.array_form.specs.holds.View.{surroundings_view}
 use Rattle.array_form.specs.declared.holds.loops.Counted.{Counted}
 use Rattle.array_form.specs.declared.holds.loops.Surroundings.{Surroundings}
 use Rattle.array_form.specs.Loops.{viewed}

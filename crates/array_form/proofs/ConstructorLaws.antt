@@ -12,7 +12,7 @@ use Rattle.tree.specs.declared.lists.Seq.{Seq}
 use Rattle.tree.proofs.Equations.{expression_of-list, expression_of-reshape}
 use Rattle.array_form.specs.forms.Forms.{constructed, loops_over, shaped, trip_text}
 use Rattle.array_form.specs.forms.Loops as forms
-use Rattle.array_form.specs.holds.Surroundings.{surroundings_view}
+use Rattle.array_form.specs.holds.View.{surroundings_view}
 use Rattle.array_form.specs.declared.holds.loops.Counted.{Counted}
 use Rattle.array_form.specs.declared.holds.loops.Surroundings.{Surroundings}
 use Rattle.array_form.specs.Loops.{viewed}

@@ -11,7 +11,8 @@ use Rattle.std.proofs.lemmas.List.Elements.{All-filter, filter_more}
 use Rattle.tree.specs.Plain.{Subscript, subscripts}
 use Rattle.meaning.specs.Reads.{names_in_subscript}
 use Rattle.array_form.specs.forms.Loops as forms
-use Rattle.array_form.specs.holds.Surroundings.{counted_of, loop_names}
+use Rattle.array_form.specs.holds.Surroundings.{counted_of}
+use Rattle.array_form.specs.holds.View.{loop_names}
 use Rattle.array_form.specs.declared.holds.loops.Counted.{Counted}
 use Rattle.array_form.specs.declared.holds.loops.Surroundings.{Surroundings}
 use Rattle.array_form.proofs.holds.AmongLaws.{among-is}

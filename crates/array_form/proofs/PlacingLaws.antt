@@ -14,7 +14,7 @@ use Rattle.tree.specs.declared.exprs.Expr.{Expr}
 use Rattle.tree.specs.declared.lists.Memory.{Memory}
 use Rattle.array_form.specs.forms.Forms.{constructed, placed, spread_over}
 use Rattle.array_form.specs.forms.Loops as forms
-use Rattle.array_form.specs.holds.Surroundings.{loop_names, surroundings_view}
+use Rattle.array_form.specs.holds.View.{loop_names, surroundings_view}
 use Rattle.array_form.specs.declared.holds.loops.Counted.{Counted}
 use Rattle.array_form.specs.declared.holds.loops.Surroundings.{Surroundings}
 use Rattle.array_form.proofs.holds.TripLaws.{names_viewed}

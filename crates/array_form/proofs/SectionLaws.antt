@@ -15,14 +15,16 @@ use Rattle.tree.specs.declared.lists.Memory.{Memory}
 use Rattle.tree.specs.declared.ops.Op.TheVariants.{Add}
 use Rattle.linear_forms.specs.Expressed.{expressed, variables}
 use Rattle.linear_forms.specs.Linear.{Form, added, constant_form, is_limited, limited, multiple, sum}
-use Rattle.linear_forms.specs.Places.{IsAffineOf, IsFound, unit_form}
+use Rattle.linear_forms.specs.Places.{unit_form}
+use Rattle.linear_forms.specs.Affines.{IsAffineOf, IsFound}
 use Rattle.linear_forms.specs.Texts.{text_of}
 use Rattle.linear_forms.proofs.AffineTexts.{affine_has_text}
 use Rattle.linear_forms.proofs.Units.{symbol_found, unit_limited}
 use Rattle.array_form.specs.forms.Forms.{sum_text, trip_form}
 use Rattle.array_form.specs.forms.Loops as forms
 use Rattle.nest.specs.declared.parts.Trip.{Trip}
-use Rattle.array_form.specs.holds.Surroundings.{form_of_affine, loop_names, surroundings_view, trip_of}
+use Rattle.array_form.specs.holds.Surroundings.{form_of_affine, trip_of}
+use Rattle.array_form.specs.holds.View.{loop_names, surroundings_view}
 use Rattle.array_form.specs.declared.holds.loops.Surroundings.{Surroundings}
 use Rattle.array_form.proofs.holds.TripLaws.{names_counted}
 use Rattle.array_form.proofs.AffineLaws.{affine_of_form}

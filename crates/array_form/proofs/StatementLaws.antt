@@ -21,7 +21,8 @@ use Rattle.tree.proofs.Equations.{block_of-made}
 use Rattle.tree.specs.declared.stmts.Mark.{Mark}
 use Rattle.array_form.specs.forms.Loops as forms
 use Rattle.array_form.specs.forms.Statements.{and_all, array_form_of, guarded_by, left_form, loops_from, right_form, tests_of}
-use Rattle.array_form.specs.holds.Surroundings.{counted_of, surroundings_view}
+use Rattle.array_form.specs.holds.Surroundings.{counted_of}
+use Rattle.array_form.specs.holds.View.{surroundings_view}
 use Rattle.array_form.specs.declared.holds.loops.Counted.{Counted}
 use Rattle.array_form.specs.declared.holds.loops.Surroundings.{Surroundings}
 use Rattle.array_form.specs.Loops.{viewed}

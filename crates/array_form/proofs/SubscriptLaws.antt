@@ -14,10 +14,11 @@ use Rattle.tree.specs.declared.lists.Memory.{Memory}
 use Rattle.tree.proofs.Equations.{subscript_of-one, subscript_of-part}
 use Rattle.linear_forms.specs.Expressed.{variables}
 use Rattle.linear_forms.specs.Linear.{Form, constant_form, form_of, multiple}
-use Rattle.linear_forms.specs.Places.{IsAffineOf, IsFound}
+use Rattle.linear_forms.specs.Affines.{IsAffineOf, IsFound}
 use Rattle.array_form.specs.forms.Forms.{number_text, section, section_from, subscript_form, subscript_with, sum_text, trip_form}
 use Rattle.array_form.specs.forms.Loops as forms
-use Rattle.array_form.specs.holds.Surroundings.{counted_of, loop_names, surroundings_view, trip_of}
+use Rattle.array_form.specs.holds.Surroundings.{counted_of, trip_of}
+use Rattle.array_form.specs.holds.View.{loop_names, surroundings_view}
 use Rattle.array_form.specs.declared.holds.loops.Counted.{Counted}
 use Rattle.array_form.specs.declared.holds.loops.Surroundings.{Surroundings}
 use Rattle.array_form.proofs.holds.TripLaws.{names_counted, names_viewed}

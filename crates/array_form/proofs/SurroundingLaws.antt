@@ -5,7 +5,8 @@ use Rattle.std.proofs.lemmas.List.{length-map, get_or-map}
 use Rattle.subscripts.specs.Shapes.{IsForm}
 use Rattle.array_form.specs.forms.Loops as forms
 use Rattle.nest.specs.Plain.{Loop, Nest}
-use Rattle.array_form.specs.holds.Surroundings.{counted, known_trip, surroundings_of, surroundings_view}
+use Rattle.array_form.specs.holds.Surroundings.{counted, known_trip, surroundings_of}
+use Rattle.array_form.specs.holds.View.{surroundings_view}
 use Rattle.array_form.specs.declared.holds.loops.Counted.{Counted}
 use Rattle.array_form.specs.declared.holds.loops.Surroundings.{Surroundings}
 use Rattle.array_form.proofs.holds.TripLaws.{among_at}

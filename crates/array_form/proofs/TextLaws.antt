@@ -21,7 +21,8 @@ use Rattle.tree.proofs.Equations.{expression_of-un}
 use Rattle.array_form.specs.forms.Forms.{divided_text}
 use Rattle.array_form.specs.forms.Loops as forms
 use Rattle.nest.specs.declared.parts.Trip.{Trip}
-use Rattle.array_form.specs.holds.Surroundings.{coefficients_from, form_of_affine, loop_names, surroundings_view}
+use Rattle.array_form.specs.holds.Surroundings.{coefficients_from, form_of_affine}
+use Rattle.array_form.specs.holds.View.{loop_names, surroundings_view}
 use Rattle.array_form.specs.declared.holds.loops.Surroundings.{Surroundings}
 use Rattle.array_form.proofs.holds.TripLaws.{names_counted, names_viewed}
 use Rattle.array_form.specs.Texts.{text_of_trip}

@@ -7,7 +7,8 @@ use Rattle.subscripts.specs.Shapes.{IsForm}
 use Rattle.tree.specs.Plain.{Subscript}
 use Rattle.meaning.specs.Reads.{names_in_subscript}
 use Rattle.array_form.specs.forms.Loops as forms
-use Rattle.array_form.specs.holds.Surroundings.{counted_of, loop_names}
+use Rattle.array_form.specs.holds.Surroundings.{counted_of}
+use Rattle.array_form.specs.holds.View.{loop_names}
 use Rattle.array_form.specs.declared.holds.loops.Counted.{Counted}
 use Rattle.array_form.specs.declared.holds.loops.Surroundings.{Surroundings}
 

@@ -4,7 +4,8 @@ use Rattle.tree.specs.Plain.{Expression, Statement, If, no_arms, arm, Block, no_
 use Rattle.subscripts.specs.Shapes.{IsForm}
 use Rattle.nest.specs.Plain.{Nest}
 use Rattle.array_form.specs.forms.Statements.{array_form_of}
-use Rattle.array_form.specs.holds.Statements.{IsPlainStatement, statement_at, surroundings_at}
+use Rattle.array_form.specs.holds.Statements.{statement_at, surroundings_at}
+use Rattle.array_form.specs.holds.Plain.{IsPlainStatement}
 use Rattle.array_form.specs.holds.Surroundings.{known_trip}
 
 -- There is a statement with this number, in at most 7 loops and without a guard, of which the level is one; its trips

@@ -7,7 +7,8 @@ use Rattle.linear_forms.specs.Linear.{Form}
 use Rattle.array_form.specs.forms.Forms.{trip_text, lower_text, upper_text}
 use Rattle.array_form.specs.forms.Loops.{names_of}
 use Rattle.nest.specs.declared.parts.Trip.{Trip}
-use Rattle.array_form.specs.holds.Surroundings.{counted_of, surroundings_view, trip_of}
+use Rattle.array_form.specs.holds.Surroundings.{counted_of, trip_of}
+use Rattle.array_form.specs.holds.View.{surroundings_view}
 use Rattle.array_form.specs.declared.holds.loops.Counted.{Counted}
 use Rattle.array_form.specs.declared.holds.loops.Surroundings.{Surroundings}
 

@@ -1,4 +1,5 @@
 pub mod Loops
+pub mod Trips
 pub mod Forms
 pub mod Statements
 pub mod Instances

@@ -6,7 +6,7 @@ ghost use Rattle.tree.specs.View.{expression_of};
 ghost use Rattle.tree.specs.declared.ops.Op.TheVariants.{Ge};
 ghost use Rattle.array_form.specs.forms.Loops.{names_of};
 ghost use Rattle.array_form.specs.forms.Statements.{tests_of};
-ghost use Rattle.array_form.specs.holds.Surroundings.{surroundings_view};
+ghost use Rattle.array_form.specs.holds.View.{surroundings_view};
 ghost use Rattle.array_form.specs.Loops.{AreLoopsOf, HasPlaces, IsLoopOf, viewed};
 ghost use Rattle.array_form.specs.Texts.{and_also, extent_over, with_tests};
 

@@ -3,7 +3,7 @@ ghost use Rattle.std.specs.Prelude.{◌≡◌, IfOk, map};
 ghost use Rattle.tree.specs.View.{expression_of, loop_of};
 ghost use Rattle.array_form.specs.forms.Forms.{constructed};
 ghost use Rattle.array_form.specs.forms.Loops.{names_of};
-ghost use Rattle.array_form.specs.holds.Surroundings.{surroundings_view};
+ghost use Rattle.array_form.specs.holds.View.{surroundings_view};
 ghost use Rattle.array_form.specs.Loops.{AreLoopsOf, HasPlaces, IsLoopOf, viewed};
 ghost use Rattle.array_form.specs.Texts.{extent_over, turn_over};
 

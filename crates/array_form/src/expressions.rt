@@ -3,9 +3,9 @@ ghost use Rattle.std.specs.Prelude.{◌≡◌, IfOk, length, map};
 ghost use Rattle.tree.specs.Plain.{Expression};
 ghost use Rattle.tree.specs.View.{expression_of, reference_of, subscript_of};
 ghost use Rattle.linear_forms.specs.Linear.{form_of};
-ghost use Rattle.linear_forms.specs.Places.{IsFound};
+ghost use Rattle.linear_forms.specs.Affines.{IsFound};
 ghost use Rattle.array_form.specs.forms.Forms.{form, subscript_form};
-ghost use Rattle.array_form.specs.holds.Surroundings.{loop_names, surroundings_view};
+ghost use Rattle.array_form.specs.holds.View.{loop_names, surroundings_view};
 ghost use Rattle.array_form.specs.Loops.{AreLoopsOf, HasPlaces, viewed};
 ghost use Rattle.array_form.specs.Subscripts.{form_of_subscript, item_form, section_or, variable_form};
 

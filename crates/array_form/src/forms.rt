@@ -1,4 +1,38 @@
 //! The array form of an assignment in loops, and the law that it stores what its instances store.
+//!
+//! Proved (laws): the array form of an assignment at a level, as definitions on plain trees. The form of an expression
+//! has at each position the value that the expression has in the instance of that position, without fault where the
+//! instances' values are without fault (`form_values`): parts without loops, operators and functions, sections of
+//! linear subscripts, vector subscripts, a loop variable's constructor, SPREAD for missing loops, TRANSPOSE for two
+//! that are exchanged, and constructors over all loops in RESHAPE. And the whole (`array_form_stores`): from any moment
+//! of a Fortran 90 run that goes on, in which loop variables and symbols are INTEGER scalars that hold numbers of 64
+//! bits, where no loop from the level on is held and the instances, in the order of a sequential run, lead without
+//! fault to another store, none of them reading a cell that an earlier one has written, the array form with the IF on
+//! its trips ends without fault in that store; also where a loop doesn't turn. Different instances store in different
+//! cells (`instances_apart`). Worked forms are computed in `proofs/Rows`. Not spoken of: guards (WHERE), expressions
+//! that have array values themselves, and a linear subscript in which a loop stands with the coefficient 0, which no
+//! nest in canonical text has. Wrong definitions that the proof refuses: the first loop outermost in a constructor, a
+//! place of SPREAD counted from the right, TRANSPOSE for other than two loops, no IF on the trips, a stride of 1, a
+//! section that begins at r.
+//!
+//! **Positions and iterations are told apart.** Positions count from 0 along the order of the left subscripts,
+//! iterations from 1 along the nest; both are lists of naturals, and only one lemma says how they go together.
+//!
+//! **A loop whose trip is a positive constant is not tested, and trips are held to what a loop can count.** The law
+//! asks that each trip is at most 2^31 - 2, as the count of a DO loop is; a trip below 1, however small, is in.
+//!
+//! **What is asked of subscripts is a decidable test on the text** (`is_regular`, `are_moved`): a linear subscript in
+//! which a loop stands moves with it. A nest in canonical text has it, since terms with the coefficient 0 aren't
+//! written.
+//!
+//! **In a reference with two loops in one subscript nothing is asked of the subscripts**, since it is listed element by
+//! element.
+//!
+//! **Trips hold a number only for as many iterations as there are loops.** With fewer, the form of a trip would be
+//! looked at where some of its variables have no value; the laws on runs never ask that.
+//!
+//! **Subscripts are asked to be regular only where no loop is held.** A held statement gets no array form, and
+//! canonical text there may have a subscript that no form describes.
 mod laws;
 
 pub use laws::{array_form_stores, form_values, instances_apart};

@@ -1,5 +1,13 @@
 //! The array form of a statement of a nest (Allen and Kennedy, "Optimizing Compilers for Modern Architectures",
 //! section 2.4).
+//!
+//! Proved (`array_form`): exactly the array form that `array_form::forms` defines, for a statement of a nest without
+//! guard, IF and jump, at a level from 1 to the number of its loops, with its mark (`array_form_at`). Asked: fewer than
+//! 65536 symbols, trips in linear form (`HasArrayForm`). That no hold stands there isn't asked: the text is defined
+//! without it, and emission heeds it. The crate has no tests.
+//!
+//! **A hold is no premise of `array_form`.** The text is defined without it; emission alone heeds holds. The number of
+//! the nest comes from the nest.
 #![tactic(auto)]
 
 mod conditions;

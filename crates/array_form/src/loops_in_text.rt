@@ -6,7 +6,7 @@ ghost use Rattle.std.specs.Str.{bytes_eq};
 ghost use Rattle.array_form.specs.forms.Loops.{is_among};
 ghost use Rattle.meaning.specs.Reads.{names_in, names_in_subscript};
 ghost use Rattle.tree.specs.View.{expression_of, subscript_of};
-ghost use Rattle.array_form.specs.holds.Surroundings.{loop_names};
+ghost use Rattle.array_form.specs.holds.View.{loop_names};
 ghost use Rattle.array_form.specs.Loops.{has_one, has_parts, in_order, is_exchanged, standing_in};
 
 use crate::holds::Counted;

@@ -4,7 +4,7 @@ ghost use Rattle.tree.specs.Plain.{Named, Spread};
 ghost use Rattle.tree.specs.View.{expression_of, reference_of};
 ghost use Rattle.array_form.specs.forms.Forms.{placed, spread_over};
 ghost use Rattle.array_form.specs.forms.Loops.{is_among, names_of};
-ghost use Rattle.array_form.specs.holds.Surroundings.{loop_names, surroundings_view};
+ghost use Rattle.array_form.specs.holds.View.{loop_names, surroundings_view};
 ghost use Rattle.array_form.specs.Loops.{AreLoopsOf, HasPlaces, IsLoopOf, has_parts, viewed};
 ghost use Rattle.array_form.specs.Texts.{extent_over};
 

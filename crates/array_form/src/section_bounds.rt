@@ -4,10 +4,11 @@ ghost use Rattle.tree.specs.View.{expression_of, subscript_of};
 ghost use Rattle.subscripts.specs.Shapes.{IsForm};
 ghost use Rattle.linear_forms.specs.Expressed.{variables};
 ghost use Rattle.linear_forms.specs.Linear.{Form, constant_form, limited, multiple, sum};
-ghost use Rattle.linear_forms.specs.Places.{IsAffineOf, IsFound};
+ghost use Rattle.linear_forms.specs.Affines.{IsAffineOf, IsFound};
 ghost use Rattle.array_form.specs.forms.Forms.{section, sum_text, trip_form};
 ghost use Rattle.array_form.specs.forms.Loops.{names_of};
-ghost use Rattle.array_form.specs.holds.Surroundings.{counted_of, surroundings_view, trip_of};
+ghost use Rattle.array_form.specs.holds.Surroundings.{counted_of, trip_of};
+ghost use Rattle.array_form.specs.holds.View.{surroundings_view};
 ghost use Rattle.array_form.specs.Loops.{HasPlaces, IsLoopOf};
 ghost use Rattle.array_form.specs.Texts.{lower_of, upper_of};
 

@@ -5,7 +5,7 @@ ghost use Rattle.tree.specs.Plain.{Assignment};
 ghost use Rattle.tree.specs.View.{block_of, expression_of, reference_of, statement_of};
 ghost use Rattle.nest.specs.View.{nest_of};
 ghost use Rattle.array_form.specs.forms.Statements.{array_form_of, left_form, right_form};
-ghost use Rattle.array_form.specs.holds.Surroundings.{surroundings_view};
+ghost use Rattle.array_form.specs.holds.View.{surroundings_view};
 ghost use Rattle.array_form.specs.Loops.{AreLoopsOf, HasPlaces};
 ghost use Rattle.array_form.specs.Statement.{HasArrayForm, array_form_at, block_of_one, under_condition};
 

@@ -1,188 +1,179 @@
--- Classes taken from the sources of what is left are the components in topological order.
-use Rattle.std.proofs.Common.{◌≡◌, ◌↔◌, sym, subst, ◌⊎◌, inl, inr, ℕ, ◌<◌, ◌≤◌, Bool, true, false, not, ◌||◌, List, [], ◌∷◌, ◌++◌, arith}
-use Rattle.std.proofs.lemmas.Bool.{and_parts, and_from, both_ways, not-true, not_from_false, cases_Bool, or_cases, or_left, or_right}
-use Rattle.std.specs.List.{concat, filter}
-use Rattle.components.specs.Lists.{In, Each, Pairwise, Distinct, Rises, IsUpTo}
-use Rattle.components.specs.Reachability.{AreBelow, Walk, Reaches, AreMutual}
-use Rattle.components.specs.Orders.{IsComponent, NoneBack, MayComeNext, HasLess, LeastFirst, IsOrder}
-use Rattle.components.specs.Tables.{holds, holds_both, is_source, rest_of, IsClosure}
-use Rattle.components.proofs.ListLaws.{Each-In, Each-from, In-left, In-right, In-append, Pairwise-append, Pairwise-weaker, filter-In, In-filter, Pairwise-filter, list_all-In, list_all-from, IsLeast, find-Some}
+-- Classes, each of which comes as soon as nothing that is still to come leads to it, are in order.
+use Rattle.std.proofs.Common.{◌≡◌, ◌↔◌, refl, sym, ap, ◌∙◌, subst, ◌⊎◌, inl, inr, ℕ, zero, suc, ◌+◌, ◌<◌, ◌≤◌, Bool, true, false, List, [], ◌∷◌, length, set, arith, get_or-set_same, get_or-set_other}
+use Rattle.std.specs.List.{concat}
+use Rattle.std.proofs.lemmas.Bool.{both_ways, cases_eq, cases_lt}
+use Rattle.components.specs.Lists.{In, Each, Pairwise, Distinct, Rises}
+use Rattle.components.specs.Reachability.{AreBelow, Walk}
+use Rattle.components.specs.Orders.{IsComponent, IsOrder, HasLess, LeastFirst, MayComeNext, NoneBack}
 use Rattle.components.proofs.ClassLaws.{In-concat}
-use Rattle.components.proofs.Walks.{Reaches-itself, Reaches-pair, Reaches-trans, AreMutual-trans, AreMutual-sym, Reaches-In}
-use Rattle.components.proofs.Emits.{Emits}
+use Rattle.components.proofs.ListLaws.{Each-In, Each-from, In-append, In-left, In-right, Pairwise-append, Pairwise-weaker}
+use Rattle.components.specs.Labels.{AreLabels, at}
+use Rattle.components.specs.Classes.{AreClassRows, IsClass, IsDoneOrLedTo, IsNext, IsPairBetween, flag}
 
-module _ (n : ℕ) (pairs : List (ℕ × ℕ)) (table : List (List Bool)) (closed : IsClosure n pairs table) where
-  -- what is left: it rises, and nothing that it leads to is gone
-  pub record Fits (left : List ℕ) : Type 0 where
-    pub below : (a : ℕ) → In a left → a < n
-    pub rising : Rises left
-    pub onward : (a b : ℕ) → In a left → In (a, b) pairs → In b left
+-- classes that come one after the other until all are done
+module _ (n count : ℕ) (labels : List ℕ) (rows : List (List ℕ)) where
+  abbrev pub Comes : List Bool → List (List ℕ) → Type 0
+  Comes done [] = (c : ℕ) → c < count → flag done c ≡ true
+  Comes done (k ∷ ks) = (c : ℕ) × IsNext n count labels rows done c × IsClass n labels c k × Comes (set done c true) ks
 
-  pub record Orders (left : List ℕ) (cs : List (List ℕ)) : Type 0 where
-    pub members : (a : ℕ) → In a (concat cs) ↔ In a left
-    pub once : Distinct (concat cs)
-    pub filled : Each (λ c. ¬ (c ≡ [])) cs
-    pub rising : Each Rises cs
-    pub components : Each (IsComponent pairs) cs
-    pub forward : Pairwise (NoneBack pairs) cs
-    pub least_first : LeastFirst pairs cs
+module _ (n : ℕ) (pairs : List (ℕ × ℕ)) (count : ℕ) (labels : List ℕ) (rows : List (List ℕ)) (below : AreBelow n pairs)
+    (are : AreLabels n pairs count labels) (led : AreClassRows pairs labels rows) where
+  pub record Orders (done : List Bool) (ks : List (List ℕ)) : Type 0 where
+    pub members : (a : ℕ) → In a (concat ks) ↔ ((a < n) × (flag done (at labels a) ≡ false))
+    pub once : Distinct (concat ks)
+    pub filled : Each (λ k. ¬ (k ≡ [])) ks
+    pub rising : Each Rises ks
+    pub classes : Each (λ k. (c : ℕ) × IsClass n labels c k) ks
+    pub forward : Pairwise (NoneBack pairs) ks
+    pub least_first : LeastFirst pairs ks
 
-  holds-mutual : (a b : ℕ) → a < n → b < n → holds_both table a b ≡ true → AreMutual pairs a b
-  holds-mutual a b h k e = let p = and_parts (holds table a b) (holds table b a) e in ((closed.at a b h k).0 p.0, (closed.at b a k h).0 p.1)
+  ends_below : (a b : ℕ) → In (a, b) pairs → (a < n) × (b < n)
+  ends_below a b i = Each-In (λ p. (p.0 < n) × (p.1 < n)) pairs below (a, b) i
 
-  mutual-holds : (a b : ℕ) → a < n → b < n → AreMutual pairs a b → holds_both table a b ≡ true
-  mutual-holds a b h k m = and_from (holds table a b) (holds table b a) ((closed.at a b h k).1 m.0) ((closed.at b a k h).1 m.1)
+  -- along a walk numbers of classes don't rise
+  falls : (over : List ℕ) (a b : ℕ) → a < n → Walk pairs a over b → (b < n) × (at labels b ≤ at labels a)
+  falls [] a b h w = (subst (λ z. z < n) w h, let e : at labels a ≡ at labels b = ap (at labels) w in omega arith)
+  falls (q ∷ over) a b h w =
+      let s = are.falling a q h w.0 in
+      let r = falls over q b (ends_below a q w.0).1 w.1 in
+      (r.0, let t = r.1 in omega arith)
 
-  -- ---- one class
+  component : (c : ℕ) (k : List ℕ) → IsClass n labels c k → IsComponent pairs k
+  component c k is a b i = (
+    λ j. let p = (is.each a).0 i in let q = (is.each b).0 j in
+        (are.together a b p.0 q.0 (p.1 ∙ sym q.1), are.together b a q.0 p.0 (q.1 ∙ sym p.1)),
+    λ m.
+        let p = (is.each a).0 i in
+        let there = falls m.0.0 a b p.0 m.0.1 in
+        let back = falls m.1.0 b a there.0 m.1.1 in
+        (is.each b).1 (there.0, (let x = there.1 in let y = back.1 in let z = p.1 in omega arith)),
+  )
 
-  module _ (left : List ℕ) (fits : Fits left) (first : ℕ) (least : IsLeast (is_source table left) left first) where
-    abbrev class : List ℕ
-    class = filter (holds_both table first) left
+  module _ (done : List Bool) (size : length done ≡ count) (c : ℕ) (next : IsNext n count labels rows done c) where
+    set_here : flag (set done c true) c ≡ true
+    set_here = get_or-set_same done c true false (subst (λ z. c < z) (sym size) next.small)
 
-    abbrev rest : List ℕ
-    rest = rest_of table first left
+    set_other : (d : ℕ) → (d ≡ c → ⊥) → flag (set done c true) d ≡ flag done d
+    set_other d e = get_or-set_other done c d true false e
 
-    first_below : first < n
-    first_below = fits.below first least.inside
-
-    in_class : (b : ℕ) → In b class → In b left × AreMutual pairs first b
-    in_class b i = let k = filter-In (holds_both table first) left b i in (k.0, holds-mutual first b first_below (fits.below b k.0) k.1)
-
-    class_has : (b : ℕ) → In b left → AreMutual pairs first b → In b class
-    class_has b i m = In-filter (holds_both table first) left b i (mutual-holds first b first_below (fits.below b i) m)
-
-    in_rest : (b : ℕ) → In b rest → In b left × ¬ AreMutual pairs first b
-    in_rest b i =
-        let k = filter-In (λ b. not (holds_both table first b)) left b i in
-        (k.0, λ m. both_ways (holds_both table first b) (not-true (holds_both table first b) k.1) (mutual-holds first b first_below (fits.below b k.0) m))
-
-    class_or_rest : (b : ℕ) → In b left → In b class ⊎ In b rest
-    class_or_rest b i = by (cases_Bool (holds_both table first b))
+    undone_other : (d : ℕ) → flag (set done c true) d ≡ false → (d ≡ c → ⊥) × (flag done d ≡ false)
+    undone_other d e = by (cases_eq d c)
       where
-        by : (holds_both table first b ≡ true) ⊎ (holds_both table first b ≡ false) → In b class ⊎ In b rest
-        by (inl e) = inl (In-filter (holds_both table first) left b i e)
-        by (inr e) = inr (In-filter (λ b. not (holds_both table first b)) left b i (not_from_false (holds_both table first b) e))
+        by : (d ≡ c) ⊎ (d ≡ c → ⊥) → (d ≡ c → ⊥) × (flag done d ≡ false)
+        by (inl f) = absurd (both_ways (flag (set done c true) d) e (ap (flag (set done c true)) f ∙ set_here))
+        by (inr f) = (f, sym (set_other d f) ∙ e)
 
-    -- what reaches it of those left, it reaches
-    source : (b : ℕ) → In b left → Reaches pairs b first → Reaches pairs first b
-    source b i r = by (or_cases (not (holds table b first)) (holds table first b) (list_all-In (λ b. not (holds table b first) || holds table first b) left least.passes b i))
-      where
-        by : (not (holds table b first) ≡ true) ⊎ (holds table first b ≡ true) → Reaches pairs first b
-        by (inl e) = absurd (both_ways (holds table b first) (not-true (holds table b first) e) ((closed.at b first (fits.below b i) first_below).1 r))
-        by (inr e) = (closed.at first b first_below (fits.below b i)).0 e
+    module _ (k : List ℕ) (is : IsClass n labels c k) (ks : List (List ℕ)) (o : Orders (set done c true) ks) where
+      rest : (a : ℕ) → In a (concat ks) → (a < n) × (at labels a ≡ c → ⊥) × (flag done (at labels a) ≡ false)
+      rest a i = let p = (o.members a).0 i in let q = undone_other (at labels a) p.1 in (p.0, q.0, q.1)
 
-    -- no other is less of which this holds
-    less : (y : ℕ) → In y left → ((b : ℕ) → In b left → Reaches pairs b y → Reaches pairs y b) → first ≤ y
-    less y i h = least.least y i (list_all-from (λ b. not (holds table b y) || holds table y b) left (λ b j. by b j (cases_Bool (holds table b y))))
-      where
-        by : (b : ℕ) → In b left → (holds table b y ≡ true) ⊎ (holds table b y ≡ false) → (not (holds table b y) || holds table y b) ≡ true
-        by b j (inl e) = or_right (not (holds table b y)) (holds table y b) ((closed.at y b (fits.below y i) (fits.below b j)).1 (h b j ((closed.at b y (fits.below b j) (fits.below y i)).0 e)))
-        by b j (inr e) = or_left (not (holds table b y)) (holds table y b) (not_from_false (holds table b y) e)
+      members : (a : ℕ) → In a (concat (k ∷ ks)) ↔ ((a < n) × (flag done (at labels a) ≡ false))
+      members a = (λ i. to (In-append a k (concat ks) i), λ h. from h (cases_eq (at labels a) c))
+        where
+          to : In a k ⊎ In a (concat ks) → (a < n) × (flag done (at labels a) ≡ false)
+          to (inl i) = let p = (is.each a).0 i in (p.0, ap (flag done) p.1 ∙ next.undone)
+          to (inr i) = let p = rest a i in (p.0, p.2)
 
-    none_back : (a b : ℕ) → In a rest → In b class → ¬ In (a, b) pairs
-    none_back a b i j p =
-        let k = in_rest a i in
-        let m = in_class b j in
-        let r : Reaches pairs a first = Reaches-trans pairs a b first (Reaches-pair pairs a b p) m.1.1 in
-        k.1 (source a k.0 r, r)
+          from : (a < n) × (flag done (at labels a) ≡ false) → (at labels a ≡ c) ⊎ (at labels a ≡ c → ⊥) → In a (concat (k ∷ ks))
+          from h (inl e) = In-left a k (concat ks) ((is.each a).1 (h.0, e))
+          from h (inr e) = In-right a k (concat ks) ((o.members a).1 (h.0, set_other (at labels a) e ∙ h.1))
 
-    rest_fits : Fits rest
-    rest_fits = record {
-      below = λ a i. fits.below a (in_rest a i).0;
-      rising = Pairwise-filter (λ b. not (holds_both table first b)) (λ x y. x < y) left fits.rising;
-      onward = λ a b i p. by a b i p (class_or_rest b (fits.onward a b (in_rest a i).0 p));
-    }
-      where
-        by : (a b : ℕ) → In a rest → In (a, b) pairs → In b class ⊎ In b rest → In b rest
-        by a b i p (inl j) = absurd (none_back a b i j p)
-        by a b i p (inr j) = j
+      none_back : (d : List ℕ) → In d ks → NoneBack pairs k d
+      none_back d i a b ia ib p =
+          let r = rest a (In-concat a d ks i ia) in
+          let q = (is.each b).0 ib in
+          next.free (at labels a, (led (at labels a) c).1 (a, b, p, refl, q.1, r.1), r.2)
 
-    component : IsComponent pairs class
-    component a b i =
-        let m = in_class a i in (
-          λ j. AreMutual-trans pairs a first b (AreMutual-sym pairs first a m.1) (in_class b j).1,
-          λ k. class_has b (Reaches-In pairs left fits.onward a b m.0 k.0) (AreMutual-trans pairs first a b m.1 k),
-        )
+      less : (d : List ℕ) → In d ks → MayComeNext pairs (k ∷ ks) d → HasLess k d
+      less d i may = (next.least, (is.each next.least).1 (next.inside, next.of), Each-from (λ b. next.least < b) d after)
+        where
+          after : (b : ℕ) → In b d → next.least < b
+          after b ib = by (cases_lt next.least b)
+            where
+              r : (b < n) × (at labels b ≡ c → ⊥) × (flag done (at labels b) ≡ false)
+              r = rest b (In-concat b d ks i ib)
 
-    class_has_first : In first class
-    class_has_first = class_has first least.inside (Reaches-itself pairs first, Reaches-itself pairs first)
+              class : (e : ℕ) × IsClass n labels e d
+              class = Each-In (λ k. (c : ℕ) × IsClass n labels c k) ks o.classes d i
 
-    -- a class of the rest that may come next is behind it
-    less_first : (cs : List (List ℕ)) → ((a : ℕ) → In a (concat cs) ↔ In a rest) → (d : List ℕ) → In d cs → IsComponent pairs d
-        → MayComeNext pairs (class ∷ cs) d → HasLess class d
-    less_first cs members d i comp next = (first, class_has_first, Each-from (λ b. first < b) d below)
-      where
-        whole : (a : ℕ) → In a left → In a (concat (class ∷ cs))
-        whole a j = by (class_or_rest a j)
-          where
-            by : In a class ⊎ In a rest → In a (class ++ concat cs)
-            by (inl k) = In-left a class (concat cs) k
-            by (inr k) = In-right a class (concat cs) ((members a).1 k)
+              by : (next.least < b) ⊎ (b ≤ next.least) → next.least < b
+              by (inl h) = h
+              by (inr h) = absurd (earlier (next.before b (strict (cases_eq b next.least))))
+                where
+                  strict : (b ≡ next.least) ⊎ (b ≡ next.least → ⊥) → b < next.least
+                  strict (inl e) = absurd (r.1 (ap (at labels) e ∙ next.of))
+                  strict (inr e) = omega arith
 
-        inward : (over : List ℕ) (a y : ℕ) → In a left → In y d → Walk pairs a over y → In a d
-        inward [] a y j k h = subst (λ z. In z d) (sym h) k
-        inward (q ∷ over) a y j k h = next a q (whole a j) (inward over q y (fits.onward a q j h.0) k h.1) h.0
+                  earlier : IsDoneOrLedTo rows done (at labels b) → ⊥
+                  earlier (inl e) = both_ways (flag done (at labels b)) r.2 e
+                  earlier (inr (e, i, undone)) = from ((led e (at labels b)).0 i)
+                    where
+                      from : IsPairBetween pairs labels e (at labels b) → ⊥
+                      from (x, y, p, lx, ly, apart) =
+                          let same : at labels b ≡ class.0 = ((class.1.each b).0 ib).1 in
+                          let iy : In y d = (class.1.each y).1 ((ends_below x y p).1, ly ∙ same) in
+                          let ix : In x d = may x y ((members x).1 ((ends_below x y p).0, ap (flag done) lx ∙ undone)) iy p in
+                          apart (sym lx ∙ (((class.1.each x).0 ix).1 ∙ sym same))
 
-        below : (y : ℕ) → In y d → first < y
-        below y k =
-            let m = in_rest y ((members y).0 (In-concat y d cs i k)) in
-            let le : first ≤ y = less y m.0 (λ b j r. ((comp y b k).0 (inward r.0 b y j k r.1)).0) in
-            let ne : first ≡ y → ⊥ = λ e. m.1 (subst (λ z. AreMutual pairs first z) e (Reaches-itself pairs first, Reaches-itself pairs first)) in
-            omega arith
+      pub one_more : Orders done (k ∷ ks)
+      one_more = record {
+        members = members;
+        once = Pairwise-append (λ x y. ¬ (x ≡ y)) k (concat ks)
+            (Pairwise-weaker (λ x y. x < y) (λ x y. ¬ (x ≡ y)) (λ x y h e. omega arith) k is.rising) o.once
+            (λ x y i j e. (rest y j).1 (ap (at labels) (sym e) ∙ ((is.each x).0 i).1));
+        filled = (λ e. subst (In next.least) e ((is.each next.least).1 (next.inside, next.of)), o.filled);
+        rising = (is.rising, o.rising);
+        classes = ((c, is), o.classes);
+        forward = (Each-from (NoneBack pairs k) ks none_back, o.forward);
+        least_first = (Each-from (λ d. MayComeNext pairs (k ∷ ks) d → HasLess k d) ks less, o.least_first);
+      }
 
-    pub with_class : (cs : List (List ℕ)) → Orders rest cs → Orders left (class ∷ cs)
-    with_class cs o = record {
-      members = λ a. (λ i. left_has a (In-append a class (concat cs) i), λ i. has a (class_or_rest a i));
-      once = Pairwise-append (λ x y. ¬ (x ≡ y)) class (concat cs)
-          (Pairwise-weaker (λ x y. x < y) (λ x y. ¬ (x ≡ y)) (λ x y h e. omega arith) class (Pairwise-filter (holds_both table first) (λ x y. x < y) left fits.rising))
-          o.once apart;
-      filled = (λ e. subst (In first) e class_has_first, o.filled);
-      rising = (Pairwise-filter (holds_both table first) (λ x y. x < y) left fits.rising, o.rising);
-      components = (component, o.components);
-      forward = (Each-from (NoneBack pairs class) cs (λ d i a b j k. none_back a b ((o.members a).0 (In-concat a d cs i j)) k), o.forward);
-      least_first = (Each-from (λ d. MayComeNext pairs (class ∷ cs) d → HasLess class d) cs (λ d i. less_first cs o.members d i (Each-In (IsComponent pairs) cs o.components d i)), o.least_first);
-    }
-      where
-        left_has : (a : ℕ) → In a class ⊎ In a (concat cs) → In a left
-        left_has a (inl i) = (in_class a i).0
-        left_has a (inr i) = (in_rest a ((o.members a).0 i)).0
-
-        has : (a : ℕ) → In a class ⊎ In a rest → In a (class ++ concat cs)
-        has a (inl i) = In-left a class (concat cs) i
-        has a (inr i) = In-right a class (concat cs) ((o.members a).1 i)
-
-        apart : (x y : ℕ) → In x class → In y (concat cs) → ¬ (x ≡ y)
-        apart x y i j e = (in_rest y ((o.members y).0 j)).1 (subst (λ z. AreMutual pairs first z) e (in_class x i).1)
-
-  -- ---- all classes
-
-  emits_orders : (cs : List (List ℕ)) (left : List ℕ) → Fits left → Emits table left cs → Orders left cs
-  emits_orders [] left fits e = record {
-    members = λ a. (λ i. absurd i, λ i. subst (In a) e i);
+  pub orders : (done : List Bool) (ks : List (List ℕ)) → length done ≡ count → Comes n count labels rows done ks → Orders done ks
+  orders done [] size all = record {
+    members = λ a. (λ i. absurd i, λ h. absurd (both_ways (flag done (at labels a)) h.1 (all (at labels a) (are.below a h.0))));
     once = tt;
     filled = tt;
     rising = tt;
-    components = tt;
+    classes = tt;
     forward = tt;
     least_first = tt;
   }
-  emits_orders (c ∷ cs) left fits e =
-      let least = find-Some (is_source table left) left e.0 fits.rising e.1 in
-      subst (λ z. Orders left (z ∷ cs)) (sym e.2) (with_class left fits e.0 least cs (emits_orders cs (rest_of table e.0 left) (rest_fits left fits e.0 least) e.3))
+  orders done (k ∷ ks) size (c, next, is, more) =
+      one_more done size c next k is ks (orders (set done c true) ks (Rattle.std.proofs.lemmas.List.length-set done c true ∙ size) more)
 
-  pub emits_order : AreBelow n pairs → (numbers : List ℕ) (cs : List (List ℕ)) → IsUpTo n numbers → Emits table numbers cs → IsOrder n pairs cs
-  emits_order below numbers cs up e =
-      let o = emits_orders cs numbers (record {
-        below = λ a. (up.members a).0;
-        rising = up.rising;
-        onward = λ a b i p. (up.members b).1 (Each-In (λ p. (p.0 < n) × (p.1 < n)) pairs below (a, b) p).1;
-      }) e in
+  pub is_order : (done : List Bool) (ks : List (List ℕ)) → length done ≡ count → ((c : ℕ) → flag done c ≡ false) → Comes n count labels rows done ks → IsOrder n pairs ks
+  is_order done ks size none comes =
+      let o = orders done ks size comes in
       record {
-        members = λ a. (λ i. (up.members a).0 ((o.members a).0 i), λ h. (o.members a).1 ((up.members a).1 h));
+        members = λ a. (λ i. ((o.members a).0 i).0, λ h. (o.members a).1 (h, none (at labels a)));
         once = o.once;
         filled = o.filled;
         rising = o.rising;
-        components = o.components;
+        components = Each-from (IsComponent pairs) ks (λ k i. let c = Each-In (λ k. (c : ℕ) × IsClass n labels c k) ks o.classes k i in component c.0 k c.1);
         forward = o.forward;
         least_first = o.least_first;
       }
+
+  -- where each class is done or led to, all are done: it is led to by one with a greater number
+  pub all_done : (done : List Bool) → ((u : ℕ) → u < n → IsDoneOrLedTo rows done (at labels u)) → (c : ℕ) → c < count → flag done c ≡ true
+  all_done done held c h = from count c h (omega arith)
+    where
+      from : (k c : ℕ) → c < count → count ≤ c + k → flag done c ≡ true
+      from zero c h l = absurd (omega arith)
+      from (suc k) c h l = let m = are.met c h in by (λ d o. from k d o) (subst (λ z. IsDoneOrLedTo rows done z) m.2 (held m.0 m.1))
+        where
+          by : ((d : ℕ) → d < count → count ≤ d + k → flag done d ≡ true) → IsDoneOrLedTo rows done c → flag done c ≡ true
+          by later (inl e) = e
+          by later (inr (e, i, undone)) = led_by ((led e c).0 i)
+            where
+              led_by : IsPairBetween pairs labels e c → flag done c ≡ true
+              led_by (a, b, p, la, lb, apart) = absurd (
+                  let ends = ends_below a b p in
+                  let fall = are.falling a b ends.0 p in
+                  let small : e < count = subst (λ z. z < count) la (are.below a ends.0) in
+                  let more : c < e = greater (cases_lt c e) fall in
+                  both_ways (flag done e) undone (later e small (omega arith)))
+                where
+                  greater : (c < e) ⊎ (e ≤ c) → at labels b ≤ at labels a → c < e
+                  greater (inl o) f = o
+                  greater (inr o) f = absurd (apart (omega arith))

@@ -1,6 +1,11 @@
+pub mod Classes
+pub mod Counts
 pub mod Emission
+pub mod Labels
 pub mod Laws
 pub mod Lists
 pub mod Orders
 pub mod Reachability
-pub mod Tables
+pub mod Rest
+pub mod Targets
+pub mod Walking

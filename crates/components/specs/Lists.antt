@@ -1,5 +1,5 @@
 -- Words on lists, by recursion.
-use Rattle.std.specs.Prelude.{◌≡◌, ◌<◌, ◌⊎◌, ◌↔◌, ⊤, ℕ, List, [], ◌∷◌}
+use Rattle.std.specs.Prelude.{◌≡◌, ◌<◌, ◌⊎◌, ⊤, ℕ, List, [], ◌∷◌}
 
 abbrev pub In : {X : Type 0} → X → List X → Type 0
 In x [] = ⊥
@@ -21,8 +21,3 @@ Distinct xs = Pairwise (λ x y. ¬ (x ≡ y)) xs
 -- each number is below all later ones
 abbrev pub Rises : List ℕ → Type 0
 Rises xs = Pairwise (λ x y. x < y) xs
-
--- the numbers below n, each once, in their order
-pub record IsUpTo (n : ℕ) (xs : List ℕ) : Type 0 where
-  pub members : (a : ℕ) → In a xs ↔ (a < n)
-  pub rising : Rises xs

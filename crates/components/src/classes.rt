@@ -1,12 +1,12 @@
 //! The strongly connected components of a directed graph.
 ghost use Rattle.std.specs.Prelude.{◌≡◌, [], IfOk};
-ghost use Rattle.std.specs.List.{filter, find};
-ghost use Rattle.components.specs.Lists.{IsUpTo};
+ghost use Rattle.components.specs.Labels.{AreLabels};
 ghost use Rattle.components.specs.Orders.{IsOrder};
 ghost use Rattle.components.specs.Reachability.{AreBelow};
-ghost use Rattle.components.specs.Tables.{holds_both, is_source, rest_of};
 
-use crate::reach::Reach;
+use crate::rest::Rest;
+use crate::tables::{Tables, counts_of, pairs_between};
+use crate::walk::class_numbers;
 use std::alloc::Global;
 use tree::{Memory, Seq};
 
@@ -17,52 +17,30 @@ pub struct Order {
     pub cycles: Seq<Seq<usize>>,
 }
 
-// What reaches the number from among those left, it reaches.
-fn is_source(reach: &Reach, left: &[usize], number: usize) -> bool
-    ensures { result ≡ is_source reach.now left.now number }
-{
-    left.iter().all(|other| !reach.reaches(*other, number) || reach.reaches(number, *other))
-}
-
-// The first that has in its own class all of those left that reach it.
-fn next_member(reach: &Reach, left: &[usize]) -> Option<usize>
-    ensures { result ≡ find (is_source reach.now left.now) left.now }
-{
-    left.iter()
-        .copied()
-        .find(|number| is_source(reach, left, *number))
-}
-
-fn class_of(
+// Classes by their numbers, each as soon as nothing that is still to come leads to it.
+fn in_order(
     alloc: Global,
-    reach: &Reach,
-    left: &[usize],
-    member: usize,
-) -> Result<Seq<usize>, Memory>
-    ensures { IfOk result (λ class. class ≡ filter (holds_both reach.now member) left.now) }
+    n: usize,
+    pairs: &[(usize, usize)],
+    labels: &[usize],
+    count: usize,
+) -> Result<Seq<Seq<usize>>, Memory>
+    requires pairs { AreBelow n pairs.now }
+    requires labels { AreLabels n pairs.now count labels.now }
+    ensures { IfOk result (λ classes. IsOrder n pairs.now classes) }
 {
-    let class: Vec<usize> = left
-        .iter()
-        .copied()
-        .filter(|other| reach.are_mutual(member, *other))
-        .collect(alloc)?;
-    Ok(Seq::from_vec(class))
-}
-
-fn take_class_out(reach: &Reach, left: &mut Vec<usize>, member: usize)
-    ensures { left.new.items ≡ rest_of reach.now member left.old.items }
-{
-    left.retain(|other| !reach.are_mutual(member, *other));
-}
-
-fn numbers_below(alloc: Global, n: usize) -> Result<Vec<usize>, Memory>
-    ensures { IfOk result (λ numbers. IsUpTo n numbers.items) }
-{
-    let mut numbers = Vec::new(alloc);
-    for number in 0..n {
-        numbers.push(number)?;
+    let between = pairs_between(alloc, pairs, labels)?;
+    let tables = Tables::new(alloc, count, labels, between.as_slice())?;
+    let counts = counts_of(alloc, count, between.as_slice())?;
+    let mut rest = Rest::new(alloc, &tables, counts)?;
+    let mut classes = Seq::new(alloc);
+    'classes: loop {
+        let next = rest.next_class(alloc, labels, &tables)?;
+        let Some(class) = next else {
+            return Ok(classes);
+        };
+        classes.push(class)?;
     }
-    Ok(numbers)
 }
 
 /// The strongly connected components of the directed graph that has the numbers below `n` as its nodes and the pairs as
@@ -73,13 +51,8 @@ pub fn components(alloc: Global, n: usize, pairs: &[(usize, usize)]) -> Result<O
     ensures classes { IfOk result (λ order. IsOrder n pairs.now order.members) }
     ensures cycles { IfOk result (λ order. order.cycles ≡ []) }
 {
-    let reach = Reach::of_pairs(alloc, n, pairs)?;
-    let mut left = numbers_below(alloc, n)?;
-    let mut members = Seq::new(alloc);
-    while let Some(first) = next_member(&reach, left.as_slice()) {
-        members.push(class_of(alloc, &reach, left.as_slice(), first)?)?;
-        take_class_out(&reach, &mut left, first);
-    }
+    let all = class_numbers(alloc, n, pairs)?;
+    let members = in_order(alloc, n, pairs, all.labels.as_slice(), all.count)?;
     Ok(Order {
         members,
         cycles: Seq::new(alloc),

@@ -3,7 +3,15 @@ pub mod FormValues
 pub mod Shapes
 pub mod Lists
 pub mod Meetings
+pub mod Directions
+pub mod Answering
+pub mod Lasts
+pub mod Symbols
+pub mod Regions
 pub mod Couples
+pub mod Pairings
+pub mod Coupling
+pub mod Wording
 pub mod SameLoops
 pub mod Joining
 pub mod PairLaws

@@ -1,3 +1,3 @@
 pub mod Worked
-pub mod Coupled
 pub mod Completing
+pub mod Filled

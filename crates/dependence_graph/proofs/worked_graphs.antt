@@ -1,5 +1,8 @@
 mod Keys
-mod Pairs
 mod OneLoop
+mod Pairs
+mod OneAnswer
 mod Couples
+mod Merging
 pub mod Worked
+pub mod Squares

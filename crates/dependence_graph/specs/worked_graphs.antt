@@ -1,2 +1,3 @@
-pub mod Nests
 pub mod Listed
+pub mod Merges
+pub mod Nests

@@ -1,15 +1,15 @@
 -- Which answers of a list cover a vector.
-use Rattle.std.proofs.Common.{◌≡◌, ℕ, ◌+◌, ◌<◌, ◌≤◌, ◌⊎◌, List, [], ◌∷◌, ◌++◌, length, get_or, zero, suc, refl, ap, subst, sym, arith, ◌∙◌, inl, inr}
+use Rattle.std.proofs.Common.{◌≡◌, ℕ, ◌+◌, ◌<◌, List, [], ◌∷◌, ◌++◌, length, get_or, zero, suc, subst, sym, arith, ◌∙◌, inl, inr}
 use Rattle.std.specs.Prelude.{All}
 use Rattle.std.proofs.lemmas.Bool.{cases_eq}
 use Rattle.std.proofs.lemmas.List.Elements.{All-head, All-tail}
 use Rattle.subscripts.specs.declared.affine.Dir.{Dir}
-use Rattle.subscripts.specs.declared.affine.Dir.TheVariants.{Lt, Eq, Gt, Any}
+use Rattle.subscripts.specs.declared.affine.Dir.TheVariants.{Any}
 use Rattle.subscripts.specs.declared.affine.Dirs.{Dirs}
 use Rattle.direction_vectors.specs.vector_tests.Refs.{IsVectorOf}
 use Rattle.direction_vectors.specs.declared.vector_tests.refs.RefPair.{RefPair}
-use Rattle.direction_vectors.specs.Candidates.{Answer, Covers, HoldsNever, HoldsOnce, IsCovered, IsPlain, dir_at}
-use Rattle.direction_vectors.specs.Parts.{HasPrefix, IsPlainVector}
+use Rattle.direction_vectors.specs.Candidates.{Answer, Covers, HoldsNever, HoldsOnce, IsPlain, dir_at}
+use Rattle.direction_vectors.specs.Parts.{IsPlainVector, IsWithin}
 use Rattle.direction_vectors.specs.Vectors.{with_dir}
 use Rattle.direction_vectors.proofs.Places.{other_dir, put_dir, put_vector}
 
@@ -101,11 +101,14 @@ replaced r v k e p b l n = record {
       ];
 }
 
-pub replaced_prefix : (r : RefPair) (d v : Dirs) (k : ℕ) (e : Dir) → IsVectorOf r d → IsVectorOf r v → k < 7 → HasPrefix d k v → HasPrefix (with_dir d k e) (k + 1) (with_dir v k e)
-replaced_prefix r d v k e a b l h m s =
+pub replaced_within : (r : RefPair) (d v : Dirs) (k : ℕ) (e : Dir) → IsVectorOf r d → IsVectorOf r v → k < 7 → IsWithin d k v → IsWithin (with_dir d k e) (k + 1) (with_dir v k e)
+replaced_within r d v k e a b l h m s =
     elim (cases_eq m k) [
-      | inl t ↦ subst (λ (z : ℕ). dir_at (with_dir v k e) z ≡ dir_at (with_dir d k e) z) (sym t) (put_dir v k e b.places l ∙ sym (put_dir d k e a.places l))
-      | inr u ↦ other_dir v k m e u ∙ h m (omega arith) ∙ sym (other_dir d k m e u)
+      | inl t ↦ inr (subst (λ (z : ℕ). dir_at (with_dir d k e) z ≡ dir_at (with_dir v k e) z) (sym t) (put_dir d k e a.places l ∙ sym (put_dir v k e b.places l)))
+      | inr u ↦ elim (h m (omega arith)) [
+        | inl x ↦ inl (other_dir d k m e u ∙ x)
+        | inr x ↦ inr (other_dir d k m e u ∙ x ∙ sym (other_dir v k m e u))
+      ]
     ]
 
 -- an answer with this direction covers the replaced vector where it covers the vector with `*` there

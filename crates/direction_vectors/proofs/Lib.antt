@@ -1,5 +1,10 @@
 pub mod Places
 pub mod Covering
 pub mod Uniting
+pub mod Within
+pub mod Words
+pub mod Turns
+pub mod Boxing
+pub mod Boxes
 pub mod Listing
 pub mod Growing

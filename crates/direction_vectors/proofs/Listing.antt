@@ -1,12 +1,11 @@
 -- The answers under a prefix, from those under the longer ones.
 use Rattle.std.proofs.Common.{◌≡◌, ℕ, ◌+◌, ◌-◌, ◌<◌, ◌≤◌, ◌⊎◌, List, [], ◌∷◌, ◌++◌, length, get_or, zero, suc, refl, ap, subst, sym, arith, ◌∙◌, inl, inr, add-one, Bool, true, false}
-use Rattle.std.specs.Prelude.{All, IsTrue}
+use Rattle.std.specs.Prelude.{All}
 use Rattle.std.proofs.lemmas.Bool.{both_ways, cases_lt, cases_order}
 use Rattle.std.proofs.lemmas.List.Elements.{All-nil, All-cons, All-append}
 use Rattle.subscripts.specs.declared.affine.Dir.{Dir}
 use Rattle.subscripts.specs.declared.affine.Dir.TheVariants.{Lt, Eq, Gt, Any}
 use Rattle.subscripts.specs.declared.affine.Dirs.{Dirs}
-use Rattle.subscripts.specs.declared.verdict.Test.{Test}
 use Rattle.subscripts.specs.declared.verdict.Verdict.{Verdict}
 use Rattle.subscripts.specs.declared.verdict.Verdict.TheVariants.{Never, Pair, Assumed}
 use Rattle.direction_vectors.specs.vector_tests.Pairs.{IsMeeting, NeverMeet}
@@ -15,13 +14,13 @@ use Rattle.direction_vectors.specs.vector_tests.Ways.{IsRefutedVector}
 use Rattle.direction_vectors.specs.vector_tests.Words.{IsDropWord}
 use Rattle.direction_vectors.specs.declared.vector_tests.refs.RefPair.{RefPair}
 use Rattle.direction_vectors.specs.Answers.{IsRight}
-use Rattle.direction_vectors.specs.Candidates.{Answer, Covers, HoldsNever, HoldsOnce, IsCandidate, IsCovered, IsLedAt, IsPlain, dir_at}
-use Rattle.direction_vectors.specs.Merged.{AreAlike, IsAlike, IsListed, IsMerged, IsSameKind, kind_of}
-use Rattle.direction_vectors.specs.Parts.{AreListedUnder, AreUnder, HasPrefix, IsAnswerUnder, IsCandidateAnswer, IsEqualPrefix, IsPlainVector, IsPrefix}
-use Rattle.direction_vectors.specs.Unions.{AreAllAlike, IsMergedOf, IsOneAnswer, IsTested, IsUnion, IsUnitedAnswer}
+use Rattle.direction_vectors.specs.Candidates.{Answer, Covers, HoldsNever, HoldsOnce, IsCandidate, IsCovered, IsPlain, dir_at}
+use Rattle.direction_vectors.specs.Merged.{AreAlike, IsListed, IsMerged, IsSameKind}
+use Rattle.direction_vectors.specs.Parts.{AreListedUnder, AreUnder, HasPrefix, IsAnswerUnder, IsCandidateAnswer, IsEqualPrefix, IsPlainVector, IsWithin}
+use Rattle.direction_vectors.specs.Unions.{AreAllAlike, IsMergedOf, IsOneAnswer, IsTested, IsUnion}
 use Rattle.direction_vectors.specs.Vectors.{with_dir}
-use Rattle.direction_vectors.proofs.Covering.{HoldTogether, never_of_all, never_of_both, not_covered, once_after, once_before, once_together, replaced, replaced_prefix, star_together, starred_from, starred_to, unstar_together}
-use Rattle.direction_vectors.proofs.Places.{covers_itself, dir_cases, itself, last_of, other_dir, put_dir, put_vector, shorter, with_last}
+use Rattle.direction_vectors.proofs.Covering.{HoldTogether, never_of_all, never_of_both, not_covered, once_after, once_before, once_together, replaced, replaced_within, star_together, starred_from, starred_to, unstar_together}
+use Rattle.direction_vectors.proofs.Places.{covers_itself, dir_cases, itself, last_of, other_dir, put_dir, put_vector, prefix_within, shorter, with_last, within_last}
 use Rattle.direction_vectors.proofs.Uniting.{IsJoined, united_kind, united_right}
 
 -- ---- plain directions
@@ -73,19 +72,6 @@ tested_right r d (Assumed w) p t = record {
 covers_prefix : (r : RefPair) (d v : Dirs) (k : ℕ) → IsVectorOf r d → k ≡ r.common → HasPrefix d k v → Covers r d v
 covers_prefix r d v k w e h = record { vector = w; at = λ m b. inr (sym (h m (omega arith))) }
 
-one_under : (r : RefPair) (d : Dirs) (k : ℕ) (v : Verdict) → IsPrefix r d k → k ≡ r.common → IsTested r d v → AreUnder r d k ((d, v) ∷ [])
-one_under r d k v p e t =
-    let plain : IsPlainVector r d = record { vector = p.vector; plain = λ m b. p.plain m (omega arith) } in
-    let none : r.common - k ≡ 0 = omega arith in
-    record {
-      each = All-cons (IsAnswerUnder r d k) (d, v) [] (record { vector = p.vector; prefix = λ m b. refl; right = tested_right r d v plain t }) (All-nil (IsAnswerUnder r d k));
-      once = λ u q h. inl (covers_prefix r d u k p.vector e h, tt);
-      merged = subst (λ (n : ℕ). IsMerged n k ((d, v) ∷ [])) (sym none) refl;
-    }
-
-pub answer_under : (r : RefPair) (d : Dirs) (k : ℕ) (answers : List Answer) → IsPrefix r d k → k ≡ r.common → IsOneAnswer r d answers → AreUnder r d k answers
-answer_under r d k answers p e o = subst (λ (z : List Answer). AreUnder r d k z) (sym o.is) (one_under r d k o.verdict p e o.tested)
-
 -- ---- three parts, one after the other
 
 weaker : (r : RefPair) (d : Dirs) (k : ℕ) (e : Dir) (answers : List Answer) → AreUnder r (with_dir d k e) (k + 1) answers → All (IsAnswerUnder r d k) answers
@@ -101,7 +87,7 @@ never_covered r k e f answers v b h s n u =
     never_of_all (λ a. Covers r a.0 v) answers (λ i q l. not_covered r (get_or answers i q).0 v k e f b (h i q l) s n u)
 
 pub record AreParts (r : RefPair) (d : Dirs) (k : ℕ) (before same after : List Answer) : Type 0 where
-  pub prefix : IsPrefix r d k
+  pub vector : IsVectorOf r d
   pub common : k < r.common
   pub seven : r.common ≤ 7
   pub before_under : AreUnder r (with_dir d k Lt) (k + 1) before
@@ -119,29 +105,29 @@ module _ (r : RefPair) (d : Dirs) (k : ℕ) (before same after : List Answer) (h
   within = let a = h.common in let b = h.seven in omega arith
 
   lesses : All (λ a. dir_at a.0 k ≡ Lt) before
-  lesses = at_last r d k Lt before h.prefix.vector within h.before_under
+  lesses = at_last r d k Lt before h.vector within h.before_under
 
   equals : All (λ a. dir_at a.0 k ≡ Eq) same
-  equals = at_last r d k Eq same h.prefix.vector within h.same_under
+  equals = at_last r d k Eq same h.vector within h.same_under
 
   greaters : All (λ a. dir_at a.0 k ≡ Gt) after
-  greaters = at_last r d k Gt after h.prefix.vector within h.after_under
+  greaters = at_last r d k Gt after h.vector within h.after_under
 
-  apart_once : (v : Dirs) → IsPlainVector r v → HasPrefix d k v → HoldsOnce (λ a. Covers r a.0 v) (before ++ (same ++ after))
+  apart_once : (v : Dirs) → IsPlainVector r v → IsWithin d k v → HoldsOnce (λ a. Covers r a.0 v) (before ++ (same ++ after))
   apart_once v p g =
       elim (dir_cases (dir_at v k) (p.plain k h.common)) [
         | inl e ↦
-            once_before (λ a. Covers r a.0 v) before (same ++ after) (h.before_under.once v p (with_last d v k Lt h.prefix.vector.places within g e))
+            once_before (λ a. Covers r a.0 v) before (same ++ after) (h.before_under.once v p (within_last d v k Lt h.vector.places within g e))
             (never_of_both (λ a. Covers r a.0 v) same after (never_covered r k Eq Lt same v h.common equals e equal_plain (λ t. cc)) (never_covered r k Gt Lt after v h.common greaters e greater_plain (λ t. cc)))
         | inr o ↦ elim o [
           | inl e ↦
               once_after (λ a. Covers r a.0 v) before (same ++ after) (never_covered r k Lt Eq before v h.common lesses e less_plain (λ t. cc))
-              (once_before (λ a. Covers r a.0 v) same after (h.same_under.once v p (with_last d v k Eq h.prefix.vector.places within g e))
+              (once_before (λ a. Covers r a.0 v) same after (h.same_under.once v p (within_last d v k Eq h.vector.places within g e))
               (never_covered r k Gt Eq after v h.common greaters e greater_plain (λ t. cc)))
           | inr e ↦
               once_after (λ a. Covers r a.0 v) before (same ++ after) (never_covered r k Lt Gt before v h.common lesses e less_plain (λ t. cc))
               (once_after (λ a. Covers r a.0 v) same after (never_covered r k Eq Gt same v h.common equals e equal_plain (λ t. cc))
-              (h.after_under.once v p (with_last d v k Gt h.prefix.vector.places within g e)))
+              (h.after_under.once v p (within_last d v k Gt h.vector.places within g e)))
         ]
       ]
 
@@ -302,9 +288,9 @@ module _ (r : RefPair) (d : Dirs) (k : ℕ) (before same after answers : List An
       let pa = shorter d (get_or before i q).0 k Lt ua.prefix in
       let hb = same_prefix r d (get_or before i q).0 (get_or same i q).0 k ua.vector ub.vector h.seven pa (shorter d (get_or same i q).0 k Eq ub.prefix) sb.dirs in
       let hc = same_prefix r d (get_or before i q).0 (get_or after i q).0 k ua.vector uc.vector h.seven pa (shorter d (get_or after i q).0 k Gt uc.prefix) sc.dirs in
-      let ea = last_of d (get_or before i q).0 k Lt h.prefix.vector.places inside ua.prefix in
-      let eb = last_of d (get_or same i q).0 k Eq h.prefix.vector.places inside ub.prefix in
-      let ec = last_of d (get_or after i q).0 k Gt h.prefix.vector.places inside uc.prefix in
+      let ea = last_of d (get_or before i q).0 k Lt h.vector.places inside ua.prefix in
+      let eb = last_of d (get_or same i q).0 k Eq h.vector.places inside ub.prefix in
+      let ec = last_of d (get_or after i q).0 k Gt h.vector.places inside uc.prefix in
       let j : IsJoined r (get_or before i q).0 (get_or same i q).0 (get_or after i q).0 (with_dir (get_or before i q).0 k Any) =
       record {
         apart = λ v n. covered_apart r (get_or before i q).0 (get_or same i q).0 (get_or after i q).0 v k ua.vector ub.vector uc.vector h.common ea eb ec hb hc n;
@@ -324,7 +310,7 @@ module _ (r : RefPair) (d : Dirs) (k : ℕ) (before same after answers : List An
   together v i q w b =
       let ua = h.before_under.each i q b in
       let t = u.united.each i q b in
-      let ea = last_of d (get_or before i q).0 k Lt h.prefix.vector.places inside ua.prefix in
+      let ea = last_of d (get_or before i q).0 k Lt h.vector.places inside ua.prefix in
       record {
         first = λ c. subst (λ (z : Dirs). Covers r z v) (sym t.dirs) (star_together r (get_or before i q).0 v k Lt ua.vector w h.common inside ea c);
         second = λ c. unstar_together r (get_or before i q).0 v k Lt ua.vector w h.common inside ea (subst (λ (z : Dirs). Covers r z v) t.dirs c);
@@ -345,7 +331,7 @@ module _ (r : RefPair) (d : Dirs) (k : ℕ) (before same after answers : List An
         each = λ i q b. united_each i q (omega arith);
         once = λ v p g.
             once_together (λ a. Covers r a.0 (with_dir v k Lt)) (λ a. Covers r a.0 v) before answers l (λ i q b. together v i q p.vector b)
-            (h.before_under.once (with_dir v k Lt) (replaced r v k Lt p h.common inside less_plain) (replaced_prefix r d v k Lt h.prefix.vector p.vector inside g));
+            (h.before_under.once (with_dir v k Lt) (replaced r v k Lt p h.common inside less_plain) (replaced_within r d v k Lt h.vector p.vector inside g));
         merged = subst (λ (m : ℕ). IsMerged m k answers) (steps_left r k h.common)
             (inl (record {
               any = λ i q b.
@@ -425,7 +411,7 @@ module _ (r : RefPair) (d : Dirs) (k : ℕ) (led rest : List Answer) (h : AreLed
   listed_once v c g =
       elim (dir_cases (dir_at v k) (c.plain k h.common)) [
         | inl e ↦
-            once_before (λ a. Covers r a.0 v) led rest (h.led_under.once v (record { vector = c.vector; plain = c.plain }) (with_last d v k Lt h.prefix.vector.places here g e))
+            once_before (λ a. Covers r a.0 v) led rest (h.led_under.once v (record { vector = c.vector; plain = c.plain }) (prefix_within (with_dir d k Lt) (k + 1) v (with_last d v k Lt h.prefix.vector.places here g e)))
             (never_covered r k Eq Lt rest v h.common rest_equal e equal_plain (λ t. cc))
         | inr o ↦ elim o [
           | inl e ↦

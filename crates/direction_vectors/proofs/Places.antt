@@ -1,5 +1,5 @@
 -- Vectors, place by place.
-use Rattle.std.proofs.Common.{◌≡◌, ◌≢◌, ℕ, ◌+◌, ◌<◌, ◌≤◌, ◌⊎◌, List, length, get_or, set, zero, suc, refl, ap, subst, sym, arith, ◌∙◌, inl, inr, get_or-set_same, get_or-set_other, length-set}
+use Rattle.std.proofs.Common.{◌≡◌, ℕ, ◌+◌, ◌<◌, ◌⊎◌, List, length, refl, ap, subst, sym, arith, ◌∙◌, inl, inr, get_or-set_same, get_or-set_other, length-set}
 use Rattle.std.proofs.lemmas.Bool.{cases_eq, cases_lt}
 use Rattle.std.proofs.lemmas.List.{ext_get_or}
 use Rattle.subscripts.specs.declared.affine.Dir.{Dir}
@@ -7,8 +7,8 @@ use Rattle.subscripts.specs.declared.affine.Dir.TheVariants.{Lt, Eq, Gt, Any}
 use Rattle.subscripts.specs.declared.affine.Dirs.{Dirs}
 use Rattle.direction_vectors.specs.vector_tests.Refs.{IsVectorOf}
 use Rattle.direction_vectors.specs.declared.vector_tests.refs.RefPair.{RefPair}
-use Rattle.direction_vectors.specs.Candidates.{Allows, Covers, IsCovered, IsPlain, dir_at}
-use Rattle.direction_vectors.specs.Parts.{HasPrefix, IsPlainVector, IsPrefix}
+use Rattle.direction_vectors.specs.Candidates.{IsCovered, IsPlain, dir_at}
+use Rattle.direction_vectors.specs.Parts.{HasPrefix, IsPlainVector, IsWithin}
 use Rattle.direction_vectors.specs.Vectors.{with_dir}
 
 pub dir_cases : (e : Dir) → IsPlain e → (e ≡ Lt) ⊎ ((e ≡ Eq) ⊎ (e ≡ Gt))
@@ -51,17 +51,6 @@ covers_itself r d p = record { vector = p.vector; plain = p.plain; covers = reco
 
 -- ---- prefixes
 
-pub longer : (r : RefPair) (d : Dirs) (k : ℕ) (e : Dir) → IsPrefix r d k → k < r.common → r.common ≤ 7 → IsPlain e → IsPrefix r (with_dir d k e) (k + 1)
-longer r d k e p b c n = record {
-  vector = put_vector r d k e p.vector b;
-  within = omega arith;
-  plain = λ m l a.
-      elim (cases_eq m k) [
-        | inl s ↦ n (sym (subst (λ (z : ℕ). dir_at (with_dir d k e) z ≡ e) (sym s) (put_dir d k e p.vector.places (omega arith))) ∙ a)
-        | inr u ↦ p.plain m (omega arith) (sym (other_dir d k m e u) ∙ a)
-      ];
-}
-
 pub shorter : (d v : Dirs) (k : ℕ) (e : Dir) → HasPrefix (with_dir d k e) (k + 1) v → HasPrefix d k v
 shorter d v k e h m b = h m (omega arith) ∙ other_dir d k m e (λ s. omega arith)
 
@@ -73,4 +62,19 @@ with_last d v k e n b h s m l =
     elim (cases_eq m k) [
       | inl t ↦ subst (λ (z : ℕ). dir_at v z ≡ dir_at (with_dir d k e) z) (sym t) (s ∙ sym (put_dir d k e n b))
       | inr u ↦ h m (omega arith) ∙ sym (other_dir d k m e u)
+    ]
+
+-- ---- in the first places
+
+pub prefix_within : (d : Dirs) (k : ℕ) (v : Dirs) → HasPrefix d k v → IsWithin d k v
+prefix_within d k v h m b = inr (sym (h m b))
+
+pub within_last : (d v : Dirs) (k : ℕ) (e : Dir) → length d.at ≡ 7 → k < 7 → IsWithin d k v → dir_at v k ≡ e → IsWithin (with_dir d k e) (k + 1) v
+within_last d v k e n b h s m l =
+    elim (cases_eq m k) [
+      | inl t ↦ inr (subst (λ (z : ℕ). dir_at (with_dir d k e) z ≡ dir_at v z) (sym t) (put_dir d k e n b ∙ sym s))
+      | inr u ↦ elim (h m (omega arith)) [
+        | inl x ↦ inl (other_dir d k m e u ∙ x)
+        | inr x ↦ inr (other_dir d k m e u ∙ x)
+      ]
     ]

@@ -1,4 +1,5 @@
 pub mod Answers
+pub mod Boxes
 pub mod Candidates
 pub mod Merged
 pub mod Parts

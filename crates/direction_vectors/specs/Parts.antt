@@ -1,7 +1,6 @@
 -- Parts of the answers: those under the first places of a vector.
 use Rattle.std.specs.Prelude.{◌≡◌, ◌⊎◌, ℕ, ℤ, ◌<◌, ◌≤◌, ◌-◌, All, List}
-use Rattle.subscripts.specs.Cuts.{IsNoLater}
-use Rattle.subscripts.specs.declared.affine.Dir.TheVariants.{Lt, Eq, Any}
+use Rattle.subscripts.specs.declared.affine.Dir.TheVariants.{Eq}
 use Rattle.subscripts.specs.declared.affine.Dirs.{Dirs}
 use Rattle.subscripts.specs.declared.verdict.Point.{Point}
 use Rattle.subscripts.specs.declared.verdict.Verdict.{Verdict}
@@ -9,35 +8,32 @@ use Rattle.subscripts.specs.declared.verdict.Verdict.TheVariants.{Never, Pair, A
 use Rattle.direction_vectors.specs.vector_tests.Refs.{IsVectorOf}
 use Rattle.direction_vectors.specs.declared.vector_tests.refs.RefPair.{RefPair}
 use Rattle.direction_vectors.specs.Answers.{IsLeastOfThree, IsRight}
-use Rattle.direction_vectors.specs.Candidates.{Answer, Covers, HoldsOnce, IsCandidate, IsPlain, dir_at}
-use Rattle.direction_vectors.specs.Merged.{IsListed, IsMerged, IsSameKind}
-use Rattle.direction_vectors.specs.Vectors.{with_dir}
-
--- a vector whose first k places are plain
-pub record IsPrefix (r : RefPair) (d : Dirs) (k : ℕ) : Type 0 where
-  pub vector : IsVectorOf r d
-  pub within : k ≤ r.common
-  pub plain : (m : ℕ) → m < k → IsPlain (dir_at d m)
+use Rattle.direction_vectors.specs.Candidates.{Allows, Answer, Covers, HoldsOnce, IsCandidate, IsPlain, dir_at}
+use Rattle.direction_vectors.specs.Merged.{IsListed, IsMerged}
 
 -- the first k places are the same
 abbrev pub HasPrefix : Dirs → ℕ → Dirs → Type 0
 HasPrefix d k v = (m : ℕ) → m < k → dir_at v m ≡ dir_at d m
+
+-- in the first k places the vector is in the box
+abbrev pub IsWithin : Dirs → ℕ → Dirs → Type 0
+IsWithin d k v = (m : ℕ) → m < k → Allows (dir_at d m) (dir_at v m)
 
 -- a plain vector
 pub record IsPlainVector (r : RefPair) (v : Dirs) : Type 0 where
   pub vector : IsVectorOf r v
   pub plain : (m : ℕ) → m < r.common → IsPlain (dir_at v m)
 
--- an answer about vectors with this prefix
+-- an answer about vectors in the box, with the same first k places
 pub record IsAnswerUnder (r : RefPair) (d : Dirs) (k : ℕ) (a : Answer) : Type 0 where
   pub vector : IsVectorOf r a.0
   pub prefix : HasPrefix d k a.0
   pub right : IsRight r a.0 a.1
 
--- the answers about all vectors with this prefix
+-- the answers about all vectors in a box with `*` from place k on
 pub record AreUnder (r : RefPair) (d : Dirs) (k : ℕ) (answers : List Answer) : Type 0 where
   pub each : All (IsAnswerUnder r d k) answers
-  pub once : (v : Dirs) → IsPlainVector r v → HasPrefix d k v → HoldsOnce (λ a. Covers r a.0 v) answers
+  pub once : (v : Dirs) → IsPlainVector r v → IsWithin d k v → HoldsOnce (λ a. Covers r a.0 v) answers
   pub merged : IsMerged (r.common - k) k answers
 
 -- `=` in the first k places

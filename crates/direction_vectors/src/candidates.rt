@@ -1,13 +1,15 @@
 //! All candidate vectors of two references.
-ghost use Rattle.std.specs.Prelude.{◌≡◌, ◌<◌, ℕ, All, IfOk, IsTrue};
+ghost use Rattle.std.specs.Prelude.{◌≡◌, ◌≤◌, ℕ, All, IfOk};
 ghost use Rattle.direction_vectors.specs.Answers.{OnAssumed, OnKept, OnNever, OnPair};
-ghost use Rattle.direction_vectors.specs.Candidates.{CoversCandidates, CoversEach};
+ghost use Rattle.direction_vectors.specs.Candidates.{CoversCandidates, CoversEach, dir_at};
 ghost use Rattle.direction_vectors.specs.Merged.{AreMerged};
 ghost use Rattle.direction_vectors.specs.Parts.{AreListedUnder, IsEqualPrefix};
+ghost use Rattle.subscripts.specs.declared.affine.Dir.TheVariants.{Any};
 ghost use Rattle.direction_vectors.specs.vector_tests.Refs.{IsRefPair, IsVectorOf};
 
 use crate::dirs::{Answer, with_dir};
-use crate::merging::{merged, one_answer};
+use crate::merging::one_answer;
+use crate::splitting::merged;
 use crate::vector_tests::RefPair;
 use std::alloc::Global;
 use subscripts::{Dir, Dirs, Verdict};
@@ -17,6 +19,7 @@ use tree::{Memory, Seq};
 fn listed(alloc: Global, refs: &RefPair, d: &Dirs, place: usize) -> Result<Vec<Answer>, Memory>
     requires refs { IsRefPair refs.now }
     requires prefix { IsEqualPrefix refs.now d.now place }
+    requires starred { (m : ℕ) → place ≤ m → dir_at d.now m ≡ Any }
     ensures { IfOk result (λ answers. AreListedUnder refs.now d.now place answers.items) }
 {
     if place == usize::from(refs.common) {
@@ -26,7 +29,7 @@ fn listed(alloc: Global, refs: &RefPair, d: &Dirs, place: usize) -> Result<Vec<A
             Ok(Vec::new(alloc))
         };
     }
-    let mut answers = merged(alloc, refs, &with_dir(d, place, Dir::Lt), place + 1)?;
+    let mut answers = merged(alloc, refs, &with_dir(d, place, Dir::Lt), place + 1, None)?;
     let rest = listed(alloc, refs, &with_dir(d, place, Dir::Eq), place + 1)?;
     answers.extend_from_slice(rest.as_slice())?;
     Ok(answers)

@@ -1,9 +1,9 @@
 //! Answers to the vectors under a prefix, merged.
-ghost use Rattle.std.specs.Prelude.{◌≡◌, ◌<◌, ◌≤◌, ◌↔◌, ◌++◌, false, All, IfOk, IsTrue, List, length, slice_index_or};
+ghost use Rattle.std.specs.Prelude.{◌≡◌, ◌<◌, ◌↔◌, false, IfOk, IsTrue, length};
 ghost use Rattle.subscripts.specs.Cuts.{IsNoLater};
 ghost use Rattle.direction_vectors.specs.vector_tests.Refs.{IsRefPair, IsVectorOf};
 ghost use Rattle.direction_vectors.specs.Merged.{AreAlike};
-ghost use Rattle.direction_vectors.specs.Parts.{AreUnder, IsPrefix, IsUnited};
+ghost use Rattle.direction_vectors.specs.Parts.{IsUnited};
 ghost use Rattle.direction_vectors.specs.Unions.{AreUnited, IsLessOf, IsMergedOf, IsOneAnswer, IsOrder};
 ghost use Rattle.direction_vectors.specs.Unions.{IsPointPair, both_of};
 
@@ -130,8 +130,8 @@ fn all_united(
     Ok(answers)
 }
 
-// Those with `<`, with `=` and with `>` in the place, merged if they are alike.
-fn merged_of(
+/// Those with `<`, with `=` and with `>` in the place, merged if they are alike.
+pub fn merged_of(
     alloc: Global,
     mut before: Vec<Answer>,
     same: &[Answer],
@@ -158,19 +158,4 @@ pub fn one_answer(alloc: Global, refs: &RefPair, d: &Dirs) -> Result<Vec<Answer>
     let mut answers = Vec::new(alloc);
     answers.push((*d, test_vector(refs, d)))?;
     Ok(answers)
-}
-
-/// The answers to all vectors that have the first `place` directions of `d`.
-pub fn merged(alloc: Global, refs: &RefPair, d: &Dirs, place: usize) -> Result<Vec<Answer>, Memory>
-    requires refs { IsRefPair refs.now }
-    requires prefix { IsPrefix refs.now d.now place }
-    ensures { IfOk result (λ answers. AreUnder refs.now d.now place answers.items) }
-{
-    if place == usize::from(refs.common) {
-        return one_answer(alloc, refs, d);
-    }
-    let before = merged(alloc, refs, &with_dir(d, place, Dir::Lt), place + 1)?;
-    let same = merged(alloc, refs, &with_dir(d, place, Dir::Eq), place + 1)?;
-    let after = merged(alloc, refs, &with_dir(d, place, Dir::Gt), place + 1)?;
-    merged_of(alloc, before, same.as_slice(), after.as_slice(), place)
 }

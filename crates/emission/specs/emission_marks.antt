@@ -1,3 +1,4 @@
 pub mod Components
 pub mod Marks
+pub mod ByGraph
 pub mod Laws

@@ -1,5 +1,6 @@
 pub mod Levels
 pub mod Nests
+pub mod Edges
 pub mod Pieces
 pub mod Emission
 pub mod Shapes

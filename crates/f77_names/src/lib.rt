@@ -2,6 +2,12 @@
 //! 2.2, 4.1.2, 8 and 18).
 //!
 //! Each check gives the first statement at which its cause of refusal holds, or none where it holds nowhere.
+//!
+//! Proved: with a name declared or used wrongly (`wrong_declaration`), that would be REAL (`real_name`), with the
+//! 1,001st name (`many_names`); and what names are (`KnownNames::of_text`, `KnownNames::kind` and its like).
+//!
+//! **A program's title calls nothing.** `PROGRAM MAX0` beside a variable MAX is accepted, since the name of the program
+//! is no call. `PROGRAM MAX` with a call of MAX0 is refused 13: Fortran 90 spells the call MAX.
 #![tactic(auto)]
 
 mod constant_expressions;

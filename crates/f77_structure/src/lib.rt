@@ -2,6 +2,12 @@
 //! 3.5 and 11).
 //!
 //! Each check gives the first statement at which its cause of refusal holds, or none where it holds nowhere.
+//!
+//! Proved: over the statements of a program, the first one with a wrong label (`wrong_label`), out of order or nested
+//! wrongly (`wrong_nesting`), and with END missing or early (`wrong_end`).
+//!
+//! **What is open at a statement is handed on by value.** `Openings::pass` takes it and gives the next; so where memory
+//! runs out no half of it is left with the caller. Calls that only this crate makes are its own.
 #![tactic(auto)]
 
 mod forms;

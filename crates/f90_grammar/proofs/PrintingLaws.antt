@@ -13,7 +13,10 @@ use Rattle.tree.specs.Plain.{Expression, Expressions, Subscript, Subscripts, Loo
 use Rattle.tree.specs.OperatorTable.{left_least, right_least}
 use Rattle.f90_grammar.specs.Phrases.{Phrase, Literal, Paren, Value, Parts, One, Then, Phrases, Sole, More, Turn, Innermost, Round, level, called, argument_of, arguments_of, tree_of, tree_of_part, trees_of_parts, trees_of_values, looped}
 use Rattle.tree.specs.Functions.{name_of_function, name_of_reduction}
-use Rattle.f90_grammar.specs.Printing.{fit, unary_phrase, digits_of, is_one, section, phrase_of, part_of, more_parts, more_arguments, more_values, rounds, IsLiteral, is_negating, IsSource, EachIsSource, IsSourceSubscript, AreSource, LoopsAreSource}
+use Rattle.f90_grammar.specs.Printing.{fit, unary_phrase, digits_of, is_one, section, phrase_of, part_of, more_parts}
+use Rattle.f90_grammar.specs.Printing.{more_arguments, more_values, rounds}
+use Rattle.f90_grammar.specs.Sources.{IsLiteral, is_negating, IsSource, EachIsSource, IsSourceSubscript, AreSource}
+use Rattle.f90_grammar.specs.Sources.{LoopsAreSource}
 use Rattle.tree.specs.declared.functions.Intrinsic.{Intrinsic}
 
 -- ---- lists

@@ -197,7 +197,7 @@ IsWritten (Print is) ws = IsTransfer (codes "PRINT") (codes "WRITE") (written_it
 IsWritten PrintNothing ws = IsEmptyTransfer (codes "PRINT") (codes "WRITE") ws
 IsWritten (Allocate x es) ws =
     (ws ≡ words.Head (codes "ALLOCATE") ∷ (words.Head x ∷ (separated written_extent es ++ words.Close
-    ∷ (words.Close ∷ [])))) × IsList IsExpression es × (length es ≤ 7)
+    ∷ (words.Close ∷ [])))) × IsList IsExpression es
 IsWritten (Deallocate x) ws = ws ≡ words.Head (codes "DEALLOCATE") ∷ (name x ∷ (words.Close ∷ []))
 IsWritten End ws = ws ≡ name (codes "END") ∷ []
 IsWritten (EndProgram x) ws = Either (codes "END") (codes "PROGRAM") (IsNamed x) ws

@@ -1,9 +1,7 @@
 -- The lists of PRINT and READ as they are written, and what they stand for (ISO/IEC 1539:1991, section 9.4.2).
 use Rattle.std.specs.Prelude.{ℕ, ◌+◌, max, pos, Option, Some, None, List, [], ◌∷◌, ◌++◌}
 use Rattle.tree.specs.Plain.{Expression, Number, Item, Single, Constant, ImpliedDo, items}
-use Rattle.f90_grammar.specs.Phrases.{Phrase, Name, Listed}
-use Rattle.f90_grammar.specs.Phrases.{IsExpression, AreValues, SuitsCalls, written, tree_of}
-use Rattle.f90_grammar.specs.Phrases.{depth}
+use Rattle.f90_grammar.specs.Phrases.{Phrase, Name, Listed, IsExpression, AreValues, written, tree_of, depth}
 use Rattle.f90_grammar.specs.Words as words
 use Rattle.f90_grammar.specs.Words.{Word}
 use Rattle.tree.specs.declared.functions.Intrinsic.{Intrinsic}
@@ -90,21 +88,6 @@ module _ (function : List ℕ → Option Intrinsic) where
     pub item_trees : ItemPhrases → List Item
     item_trees (Sole i) = item_tree i ∷ []
     item_trees (More is i) = item_trees is ++ item_tree i ∷ []
-
-  abbrev pub StepSuitsCalls : Option Phrase → Type 0
-  StepSuitsCalls None = Unit {0}
-  StepSuitsCalls (Some p) = SuitsCalls function p
-
-  abbrev mutual
-    pub ItemSuitsCalls : ItemPhrase → Type 0
-    ItemSuitsCalls (Of p) = SuitsCalls function p
-    ItemSuitsCalls (Text t) = Unit {0}
-    ItemSuitsCalls (Loop is x a b c) = ItemsSuitCalls is × SuitsCalls function a × SuitsCalls function b
-        × StepSuitsCalls c
-
-    pub ItemsSuitCalls : ItemPhrases → Type 0
-    ItemsSuitCalls (Sole i) = ItemSuitsCalls i
-    ItemsSuitCalls (More is i) = ItemsSuitCalls is × ItemSuitsCalls i
 
 abbrev pub step_depth : Option Phrase → ℕ
 step_depth None = 0

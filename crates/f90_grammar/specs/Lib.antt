@@ -5,14 +5,17 @@ pub mod Declared
 pub mod Forms
 pub mod FreeForm
 pub mod Items
+pub mod ItemCalls
 pub mod LineCauses
 pub mod Order
 pub mod Phrases
 pub mod PrintedForms
 pub mod PrintedText
 pub mod Printing
+pub mod Programs
 pub mod Reading
 pub mod Refusals
+pub mod Sources
 pub mod Suited
 pub mod Surroundings
 pub mod Words

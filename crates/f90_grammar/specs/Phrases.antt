@@ -8,7 +8,7 @@ use Rattle.tree.specs.declared.ops.Op.TheVariants.{Neg, Not, Add, Sub}
 use Rattle.tree.specs.declared.functions.Intrinsic.{Intrinsic}
 use Rattle.tree.specs.declared.functions.Intrinsic.TheVariants.{Elemental, Reduction, Spread, Transpose, Reshape}
 use Rattle.tree.specs.Plain as tree
-use Rattle.tree.specs.Plain.{Expression, Expressions, Subscript, Subscripts, Loops}
+use Rattle.tree.specs.Plain.{Expression, Expressions, Subscript, Loops}
 use Rattle.tree.specs.OperatorTable.{Sign, Plus, Minus, Negation, level_of, left_least, right_least, stands_between}
 use Rattle.tree.specs.OperatorTable.{is_relation, may_follow, sign_level}
 use Rattle.f90_grammar.specs.Words as words

@@ -11,7 +11,7 @@ use Rattle.tree.specs.declared.stmts.Mark.{Mark}
 use Rattle.f90_grammar.specs.Phrases.{Phrase}
 use Rattle.f90_grammar.specs.Items.{ItemPhrase, Of, Text, Loop, ItemPhrases, Sole, More}
 use Rattle.f90_grammar.specs.Forms as forms
-use Rattle.f90_grammar.specs.Forms.{Form, Bound, Dimension, Entity}
+use Rattle.f90_grammar.specs.Forms.{Form, Bound, Dimension}
 use Rattle.f90_grammar.specs.Printing.{phrase_of, is_one}
 
 pub record Printed : Type 0 where

@@ -1,8 +1,8 @@
 -- The text of printed statements: how words are set off from one another, and how a long statement is continued
 -- (ISO/IEC 1539:1991, section 3.3.1).
 use Rattle.std.specs.Prelude.{◌≡◌, ℕ, zero, suc, ◌-◌, ◌≤◌, ◌/◌, Bool, true, false, Option, Some, None, List, []}
-use Rattle.std.specs.Prelude.{◌∷◌, ◌++◌, map, flat_map, length, take, drop, codes, decimal}
-use Rattle.std.specs.List.{AllByRecursion, list_all}
+use Rattle.std.specs.Prelude.{◌∷◌, ◌++◌, flat_map, length, take, drop, codes, decimal}
+use Rattle.std.specs.List.{AllByRecursion}
 use Rattle.tree.specs.OperatorTable.{Sign, Plus, Minus, Negation, spelling90_of}
 use Rattle.tree.specs.Plain.{Expression, Reference, Program}
 use Rattle.tree.specs.declared.stmts.Mark.{Mark}

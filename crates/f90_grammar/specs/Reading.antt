@@ -1,22 +1,21 @@
 -- What a text of Fortran 90 is read as.
-use Rattle.std.specs.Prelude.{◌≡◌, ◌↔◌, ◌==◌, ◌||◌, ℤ, pos, neg_ℤ, if◌then◌else◌, ℕ, Bool, true, false}
-use Rattle.std.specs.Prelude.{Option, Some, None, List, [], ◌∷◌, ◌++◌, length, map, Contains}
+use Rattle.std.specs.Prelude.{◌≡◌, ◌==◌, ◌||◌, ℤ, pos, neg_ℤ, if◌then◌else◌, ℕ, Bool, true, false}
+use Rattle.std.specs.Prelude.{Option, Some, None, List, [], ◌∷◌, length, map}
 use Rattle.std.specs.Str.Lines.{lines}
 use Rattle.tree.specs.Plain as tree
-use Rattle.tree.specs.Plain.{Program, Declaration, Extent, Given, Later, Statement, Arms, Block}
+use Rattle.tree.specs.Plain.{Declaration, Extent, Given, Later, Statement, Arms, Block}
 use Rattle.tree.specs.declared.ops.Kind.{Kind}
 use Rattle.tree.specs.OperatorTable.{Sign, Minus}
 use Rattle.std.specs.Str.{bytes_eq}
 use Rattle.std.specs.List.{list_any}
 use Rattle.tree.specs.declared.stmts.Mark.{Mark}
 use Rattle.tree.specs.Functions.{intrinsic_named}
-use Rattle.meaning.specs.Names.{IsInByteOrder}
 use Rattle.f90_grammar.specs.FreeForm.{FreeStatement, AreStatements}
 use Rattle.f90_grammar.specs.Words.{Word, HasWords}
 use Rattle.f90_grammar.specs.Phrases.{value_of_digits}
 use Rattle.f90_grammar.specs.Forms as forms
 use Rattle.f90_grammar.specs.Forms.{Form, IsWritten}
-use Rattle.f90_grammar.specs.Blocks.{Placed, AreBlock}
+use Rattle.f90_grammar.specs.Blocks.{Placed}
 use Rattle.tree.specs.declared.functions.Intrinsic.{Intrinsic}
 
 -- the mark that a statement takes is the last one since the assignment before it
@@ -79,27 +78,8 @@ abbrev mutual
   is_target_in tree.no_statements n = false
   is_target_in (tree.statement c cs) n = names_label n c || is_target_in cs n
 
--- ---- the parts of a program
+-- ---- declarations: each name with its kind and extent
 
-abbrev pub opens_program : Form → Option (List ℕ) → Type 0
-opens_program (forms.Program x) name = name ≡ Some x
-opens_program _ name = ⊥
-
-pub data IsTitle : List Placed → Option (List ℕ) → Type 0 where
-  untitled : IsTitle [] None
-  titled : (line : ℕ) (x : List ℕ) → IsTitle (record { line = line; mark = None; form = forms.Program x } ∷ []) (Some x)
-
-pub data MayBeImplicitNone : List Placed → Type 0 where
-  absent : MayBeImplicitNone []
-  present : (line : ℕ) → MayBeImplicitNone (record { line = line; mark = None; form = forms.ImplicitNone } ∷ [])
-
--- END, END PROGRAM, or END PROGRAM with the program's name
-pub data IsEnd : Form → Option (List ℕ) → Type 0 where
-  end : (name : Option (List ℕ)) → IsEnd forms.End name
-  end_program : (name : Option (List ℕ)) → IsEnd (forms.EndProgram None) name
-  end_named : (x : List ℕ) → IsEnd (forms.EndProgram (Some x)) (Some x)
-
--- the names declared, each with its kind and extent, in the order of the text
 abbrev pub bound_value : forms.Bound → ℤ
 bound_value b = signed_value b.sign (value_of_digits b.digits)
 
@@ -115,34 +95,6 @@ extent_of false ds = Given (map dimension_bounds ds)
 abbrev pub entity_declaration : Kind → Bool → forms.Entity → Declaration
 entity_declaration k a e = record { name = e.name; kind = k; extent = extent_of a e.dimensions }
 
-pub data AreDeclared : List Placed → List Declaration → Type 0 where
-  none : AreDeclared [] []
-  more : (line : ℕ) (k : Kind) (a : Bool) (es : List forms.Entity) (rest : List Placed) (ds : List Declaration)
-      → AreDeclared rest ds
-      → AreDeclared (record { line = line; mark = None; form = forms.Declare k a es }
-      ∷ rest) (map (entity_declaration k a) es ++ ds)
-
 -- a name is a function where it is the name of one and no declared name
 abbrev pub function_by : List Declaration → List ℕ → Option Intrinsic
 function_by ds x = if declares ds x then None else intrinsic_named x
-
--- The statements are those of the program q: its title, IMPLICIT NONE, its declarations in any order, its block, its
--- END
-pub record IsProgramOf (ps : List Placed) (q : Program) : Type 0 where
-  pub title : List Placed
-  pub implicit : List Placed
-  pub declared : List Placed
-  pub body : List Placed
-  pub last : Placed
-  pub same : ps ≡ title ++ (implicit ++ (declared ++ (body ++ last ∷ [])))
-  pub is_title : IsTitle title q.name
-  pub is_implicit : MayBeImplicitNone implicit
-  pub is_last : IsEnd last.form q.name
-  -- the declarations in the order of the text; the program has them in byte order of names
-  pub in_text : List Declaration
-  pub are_declared : AreDeclared declared in_text
-  pub sorted : IsInByteOrder (map (λ (d : Declaration). d.name) q.declarations)
-  pub each : (d : Declaration) → Contains in_text d ↔ Contains q.declarations d
-  pub once : length in_text ≡ length q.declarations
-  -- a label stands in the tree where a GO TO names it
-  pub block : AreBlock (function_by q.declarations) (is_target_in q.body) body q.body

@@ -20,13 +20,14 @@ use Rattle.f90_grammar.specs.Words.{Word, HasWords}
 use Rattle.f90_grammar.specs.Forms as forms
 use Rattle.f90_grammar.specs.Forms.{Form, Entity, IsWritten}
 use Rattle.f90_grammar.specs.Blocks.{Placed}
-use Rattle.f90_grammar.specs.Reading.{AreStatementsOf, IsProgramOf}
+use Rattle.f90_grammar.specs.Reading.{AreStatementsOf}
 use Rattle.f90_grammar.specs.LineCauses.{HasLineCause}
 use Rattle.f90_grammar.specs.Contents.{SuitsCallsIn, has_wide_literal_in, has_deep_expression}
 use Rattle.f90_grammar.specs.Order.{Place, IsPlaceIn, IsInOrder, is_disordered}
 use Rattle.f90_grammar.specs.Declared.{declarations_of, functions_in, declares_again, HasKnownNames}
 use Rattle.f90_grammar.specs.Suited.{Suits}
 use Rattle.f90_grammar.specs.Surroundings.{IsMisplaced}
+use Rattle.f90_grammar.specs.Programs.{IsProgramOf}
 use Rattle.f90_grammar.specs.Bounds.{PassesLimit, HasManyNames}
 
 -- ---- a statement has no form
@@ -99,14 +100,19 @@ pub data IsRefusable (text : List ℕ) : Refusal → Type 0 where
 
 -- ---- what is read, and what is refused
 
--- the text is read as the program: its statements have forms and are those of the program, and no cause holds but the
--- number of names
-pub record Reads90 (text : List ℕ) (q : Program) : Type 0 where
+-- The text conforms to the profile as the program q, however many names it declares (section 1.4 leaves the size of a
+-- program to each processor): its statements have forms and are those of q, and no cause holds but the number of names
+pub record Conforms90 (text : List ℕ) (q : Program) : Type 0 where
   pub statements : List Placed
   pub of_text : AreStatementsOf text statements
   pub calls : AllByRecursion (λ (p : Placed). SuitsCallsIn (functions_in statements) p.form) statements
   pub is_program : IsProgramOf statements q
   pub unrefused : (r : Refusal) → HasCause text r → ⊥
+
+-- the text is read as the program: it conforms, and doesn't declare more names than may be declared
+pub record Reads90 (text : List ℕ) (q : Program) : Type 0 where
+  pub conforms : Conforms90 text q
+  pub within : (line : ℕ) → PassesNames text line → ⊥
 
 abbrev pub Refused90 : List ℕ → Refusal → Type 0
 Refused90 text = IsAnswered (IsRefusable text)

@@ -11,6 +11,7 @@ pub mod PrintedLinesMarks
 pub mod PrintedLinesPieces
 pub mod PrintedLinesTaken
 pub mod PrintedLinesText
+pub mod PrintedParts
 pub mod PrintedTrees
 pub mod Spelling
 pub mod PhraseWords

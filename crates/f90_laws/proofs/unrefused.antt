@@ -9,6 +9,7 @@ pub mod Names
 pub mod Blocks
 pub mod Declarations
 pub mod Order
+pub mod ProgramParts
 pub mod Labels
 pub mod UniqueBlocks
 pub mod NamedLabels

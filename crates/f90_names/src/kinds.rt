@@ -1,5 +1,14 @@
 //! The kinds and the ranks of a Fortran 90 program's expressions (ISO/IEC 1539:1991, sections 4.5, 6.2, 7.1
 //! and 13), and whether its names are declared.
+//!
+//! **f90_names::kinds::declarations** (`Names::of`, `find`): of each name exactly what its first declaration says.
+//! `first_repeated`, `first_beyond_bounds`, `first_beyond_elements` and `first_beyond_names` find exactly the first
+//! statement that declares a name again or passes a limit. `declarations` gives the declarations in byte order of
+//! names, each once.
+//!
+//! Proved (`kind_of` and one function for each part of a statement): an expression has a kind and a rank exactly where
+//! all in it suits (`HasKind`, `rank_of`); assignments, masks, conditions, lists, ALLOCATE and DEALLOCATE suit exactly
+//! as defined; the names in a tree are known exactly where those of the phrase are (`tree_has_its_names` and its like).
 pub mod declarations;
 mod kinds;
 mod known;

@@ -3,7 +3,6 @@ pub mod StatementLaws
 pub mod CheckLaws
 pub mod TextLaws
 pub mod HiddenLaws
-pub mod PartLaws
 pub mod ProgramLaws
 pub mod F90Suits
 pub mod OfSurroundings

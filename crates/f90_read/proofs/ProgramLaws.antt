@@ -1,9 +1,8 @@
 -- The program that statements in order are.
 use Rattle.std.proofs.Common.{◌≡◌, inl, inr, ℕ, ◌<◌, ◌≤◌, ◌==◌, Bool, true, false, cond, ◌||◌, Option}
-use Rattle.std.proofs.Common.{List, [], ◌∷◌, ◌++◌, filter, length, Contains, refl, sym, ap, subst, ◌∙◌}
+use Rattle.std.proofs.Common.{List, [], ◌∷◌, filter, refl, sym, ap, subst, ◌∙◌}
 use Rattle.std.proofs.Common.{arith}
 use mathlib.Core.Path.{fun_ext}
-use Rattle.std.specs.Prelude.{◌↔◌}
 use Rattle.std.specs.List.{AllByRecursion}
 use Rattle.std.proofs.lemmas.Bool.Decides.{nat_tests}
 use Rattle.tree.specs.Causes.{refusal_at}
@@ -12,16 +11,16 @@ use Rattle.tree.specs.Plain.{Declaration, Program, Block}
 use Rattle.tree.specs.declared.functions.Intrinsic.{Intrinsic}
 use Rattle.tree.specs.declared.refusals.Cause.TheVariants.{Structure, Declared90, Limit90}
 use Rattle.meaning.specs.Blocks.{Surroundings}
-use Rattle.meaning.specs.Typed.{declared}
 use Rattle.f90_grammar.specs.Blocks.{Placed, AreBlock}
-use Rattle.f90_grammar.specs.Blocks.AreBlock.{nothing}
 use Rattle.f90_grammar.specs.Bounds.PassesLimit.{OfBounds}
 use Rattle.f90_grammar.specs.Declared.{declarations_of, functions_in}
 use Rattle.f90_grammar.specs.Forms as forms
 use Rattle.f90_grammar.specs.Forms.{Form}
 use Rattle.f90_grammar.specs.Order.{Place, IsPlaceIn, IsInOrder, is_executable, title_of}
 use Rattle.f90_grammar.specs.Phrases.{value_of_digits}
-use Rattle.f90_grammar.specs.Reading.{AreStatementsOf, IsTitle, IsEnd, IsProgramOf, function_by, is_target_in}
+use Rattle.f90_grammar.specs.Reading.{AreStatementsOf, is_target_in}
+use Rattle.f90_grammar.specs.Programs.{IsProgramOf}
+use Rattle.f90_grammar.specs.Surroundings.{AreBody}
 use Rattle.f90_grammar.specs.Refusals.HoldsIn.{IsWrongInBlocks}
 use Rattle.f90_grammar.specs.Refusals.HasCause.{InStatements}
 use Rattle.f90_grammar.specs.Refusals.IsRefusable.{For}
@@ -32,11 +31,9 @@ use Rattle.f90_laws.proofs.blocks.Misplaced.{misplaced_at_place}
 use Rattle.f90_blocks.specs.Treed.{MarksAreTaken}
 use Rattle.f90_names.specs.kinds.declarations.Declarations.{AreAccepted, AreInOrder}
 use Rattle.f90_laws.proofs.readings.PlaceFacts.{each_place}
-use Rattle.f90_laws.proofs.readings.Tables.{in_text_is, alike_in, same_functions}
 use Rattle.f90_blocks.specs.statement_trees.Executable.{IsMarked}
 use Rattle.f90_read.specs.Checks.{IsClearBelow}
 use Rattle.f90_read.proofs.NumberLaws.{holds_nowhere}
-use Rattle.f90_read.proofs.PartLaws.{HasParts, parts}
 use Rattle.f90_read.proofs.StatementLaws.{at_place, marked, in_order, not_true}
 
 -- ---- labels that are named
@@ -110,77 +107,24 @@ module _ (text : List ℕ) (ps : List Placed) (t : AreStatementsOf text ps) (cle
       (o : AreInOrder (declarations_of ps) ds)
       (same : (x : List ℕ) → function x ≡ functions_in ps x)
       (is_block : AreBlock function (name_target ps) (filter (λ (p : Placed). is_executable p.form) ps) b) where
-    has : HasParts ps
-    has = parts ps order (marked text ps t)
-
-    each_in_text : (d : Declaration) → Contains has.in_text d ↔ Contains ds d
-    each_in_text d = subst (λ (es : List Declaration). Contains es d ↔ Contains ds d) has.declarations (o.each d)
-
-    once_in_text : length has.in_text ≡ length ds
-    once_in_text = subst (λ (es : List Declaration). length es ≡ length ds) has.declarations o.once
-
-    -- the same statements but for their body
-    abbrev bodiless : List Placed
-    bodiless = has.title ++ (has.implicit ++ (has.declared ++ has.last ∷ []))
-
-    abbrev empty : Program
-    empty = record { name = title_of ps; declarations = ds; body = tree.no_statements }
-
-    is_bodiless : IsProgramOf bodiless empty
-    is_bodiless = record {
-      title = has.title;
-      implicit = has.implicit;
-      declared = has.declared;
-      body = [];
-      last = has.last;
-      same = refl;
-      is_title = has.is_title;
-      is_implicit = has.is_implicit;
-      is_last = has.is_end;
-      in_text = has.in_text;
-      are_declared = has.are_declared;
-      sorted = o.sorted;
-      each = each_in_text;
-      once = once_in_text;
-      block = nothing;
-    }
-
-    alike : (x : List ℕ) → declared (declarations_of ps) x ≡ declared ds x
-    unfolding has is_bodiless
-    alike x =
-        ap (λ (es : List Declaration). declared es x) (has.declarations ∙ sym (in_text_is bodiless empty is_bodiless))
-        ∙ alike_in bodiless empty is_bodiless x
-
-    functions_same : function ≡ function_by ds
-    functions_same = fun_ext same ∙ same_functions (declarations_of ps) ds alike
-
     targets_same : name_target ps ≡ is_target_in b
     targets_same = fun_ext (λ n.
         sym (targets_named function (name_target ps) (filter (λ (p : Placed). is_executable p.form) ps) b n is_block
         ∙ executables_name ps n))
 
-    body_block : AreBlock (function_by ds) (is_target_in b) has.body b
-    body_block =
-        subst (λ qs. AreBlock (function_by ds) (is_target_in b) qs b) has.executed
-        (subst (λ g. AreBlock g (is_target_in b) (filter (λ (p : Placed). is_executable p.form) ps) b) functions_same
-        (subst (λ g. AreBlock function g (filter (λ (p : Placed). is_executable p.form) ps) b) targets_same is_block))
+    are_body : AreBody ps b
+    are_body =
+        let es = filter (λ (p : Placed). is_executable p.form) ps in
+        subst (λ g. AreBlock g (is_target_in b) es b) (fun_ext same)
+        (subst (λ g. AreBlock function g es b) targets_same is_block)
 
     pub is_program : (name : Option (List ℕ)) → name ≡ title_of ps
         → IsProgramOf ps (record { name = name; declarations = ds; body = b })
     is_program name e = record {
-      title = has.title;
-      implicit = has.implicit;
-      declared = has.declared;
-      body = has.body;
-      last = has.last;
-      same = has.same;
-      is_title = subst (IsTitle has.title) (sym e) has.is_title;
-      is_implicit = has.is_implicit;
-      is_last = subst (IsEnd has.last.form) (sym e) has.is_end;
-      in_text = has.in_text;
-      are_declared = has.are_declared;
+      in_order = order;
+      title = e;
       sorted = o.sorted;
-      each = each_in_text;
-      once = once_in_text;
-      block = body_block;
+      each = o.each;
+      once = o.once;
+      body = are_body;
     }

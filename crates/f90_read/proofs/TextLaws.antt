@@ -22,9 +22,9 @@ use Rattle.f90_grammar.specs.Declared.{declarations_of}
 use Rattle.f90_grammar.specs.FreeForm.{FreeStatement, AreStatements}
 use Rattle.f90_grammar.specs.LineCauses.{HasLineCause}
 use Rattle.f90_grammar.specs.LineCauses.HasLineCause.{HoldsBadByte, IsLong, EndsWithin}
-use Rattle.f90_grammar.specs.Reading.{IsProgramOf}
+use Rattle.f90_grammar.specs.Programs.{IsProgramOf}
 use Rattle.f90_grammar.specs.Refusals.{HasNoForm, HoldsIn, HasCause, IsRefusable}
-use Rattle.f90_grammar.specs.Refusals.{Refused90}
+use Rattle.f90_grammar.specs.Refusals.{Reads90, Refused90}
 use Rattle.f90_grammar.specs.Refusals.HoldsIn.{AtPlace, HasNoStatement, IsWrongInBlocks}
 use Rattle.f90_grammar.specs.Refusals.HasCause.{InLines, InWords, InStatements}
 use Rattle.f90_grammar.specs.Refusals.IsRefusable.{For, ForNames}
@@ -38,38 +38,37 @@ use Rattle.f90_blocks.specs.places.forms.Places.{IsPlacedOf}
 use Rattle.f90_blocks.specs.declared.places.forms.placing.Placed.{Placed as Held}
 use Rattle.f90_statement.specs.Views.{AreOf}
 use Rattle.f90_laws.proofs.readings.Programs.{read_program}
-use Rattle.f90_laws.proofs.readings.Refusing.{read_within}
+use Rattle.f90_laws.proofs.readings.Refusing.{not_refused}
 use Rattle.f90_laws.proofs.unique.Lines.{statements_once}
 use Rattle.f90_laws.proofs.read_back.OneProgram.{once_read}
 use Rattle.f90_read.specs.Checks.{IsTextOf, IsNamedTextOf, AreFunctionsOf, IfRefusal, IsClearBelow, IsReadAs}
-use Rattle.f90_read.specs.Outcomes.{ReadsWithin}
 use Rattle.f90_read.proofs.NumberLaws.{IsOfPlaces, of_places}
 
 -- ---- the clauses
 
 pub ok_read : (text : List ℕ) (o : Result Program90 Refused) → IsReadAs text o
-    → IfOk o (λ p. ReadsWithin text (program_of_90 p))
+    → IfOk o (λ p. Reads90 text (program_of_90 p))
 ok_read text (Ok p) h = h
 ok_read text (Err e) h = tt
 
 pub program_read : (text : List ℕ) (o : Result Program90 Refused) → IsReadAs text o → length text ≤ deck_bytes90
     → IfOk o (λ p. IsProgram90 (program_of_90 p))
-program_read text (Ok p) h short = read_program text (program_of_90 p) short h.reads
+program_read text (Ok p) h short = read_program text (program_of_90 p) short h.conforms
 program_read text (Err e) h short = tt
 
 pub refused_text : (text : List ℕ) (o : Result Program90 Refused) (r : Refusal) → IsReadAs text o
     → o ≡ Err (refused.Refusal r) → Refused90 text r
 refused_text text o r h e = subst (IsReadAs text) e h
 
-pub only_read : (text : List ℕ) (o : Result Program90 Refused) (p : Program) → IsReadAs text o → ReadsWithin text p
+pub only_read : (text : List ℕ) (o : Result Program90 Refused) (p : Program) → IsReadAs text o → Reads90 text p
     → IsOkAnd o (λ read. program_of_90 read ≡ p) ⊎ (o ≡ Err refused.Memory)
-only_read text (Ok q) p h g = inl (once_read text (program_of_90 q) p h.reads g.reads)
-only_read text (Err (refused.Refusal r)) p h g = absurd (read_within text p r g.reads g.within h)
+only_read text (Ok q) p h g = inl (once_read text (program_of_90 q) p h.conforms g.conforms)
+only_read text (Err (refused.Refusal r)) p h g = absurd (not_refused text p r g h)
 only_read text (Err refused.Memory) p h g = inr refl
 
 pub only_refused : (text : List ℕ) (o : Result Program90 Refused) (r : Refusal) → IsReadAs text o → Refused90 text r
     → (o ≡ Err (refused.Refusal r)) ⊎ (o ≡ Err refused.Memory)
-only_refused text (Ok q) r h g = absurd (read_within text (program_of_90 q) r h.reads h.within g)
+only_refused text (Ok q) r h g = absurd (not_refused text (program_of_90 q) r h g)
 only_refused text (Err (refused.Refusal s)) r h g = inl (ap (λ (q : Refusal). Err (refused.Refusal q))
     (one_answer (IsRefusable text) s r h g))
 only_refused text (Err refused.Memory) r h g = inr refl
@@ -106,9 +105,9 @@ cause_number text r (InStatements ps c line u h) = (in_statements_number ps c li
 
 -- a text that is clear of all numbers is read as the program that its statements are
 pub clear_is_read : (text : List ℕ) (ps : List Placed) (ks : List Held) (q : Program) → IsTextOf text ps ks
-    → IsClearBelow text 41 → IsProgramOf ps q → ReadsWithin text q
+    → IsClearBelow text 41 → IsProgramOf ps q → Reads90 text q
 clear_is_read text ps ks q t clear is = record {
-  reads = (record {
+  conforms = (record {
     statements = ps;
     of_text = t.of_text;
     calls = t.calls;

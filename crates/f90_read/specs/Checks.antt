@@ -13,7 +13,7 @@ use Rattle.f90_grammar.specs.Contents.{SuitsCallsIn}
 use Rattle.f90_grammar.specs.Declared.{declarations_of, functions_in}
 use Rattle.f90_grammar.specs.Order.{Place, IsPlaceIn}
 use Rattle.f90_grammar.specs.Reading.{AreStatementsOf}
-use Rattle.f90_grammar.specs.Refusals.{IsRefusable, Refused90}
+use Rattle.f90_grammar.specs.Refusals.{IsRefusable, Reads90, Refused90}
 use Rattle.f90_statement.specs.Views.{AreOf}
 use Rattle.f90_blocks.specs.places.forms.Places.{IsPlacedOf}
 use Rattle.f90_blocks.specs.declared.places.forms.placing.Placed.{Placed}
@@ -21,7 +21,6 @@ use Rattle.f90_names.specs.kinds.declarations.Names.{AreNamesOf}
 use Rattle.f90_names.specs.declared.kinds.declarations.names.Names.{Names}
 use Rattle.f90_trees.specs.Hiding.{function_in}
 use Rattle.f90_trees.specs.declared.functions.Functions.{Functions}
-use Rattle.f90_read.specs.Outcomes.{ReadsWithin}
 
 -- ---- what is held
 
@@ -68,5 +67,5 @@ RefusesAt ps c (Some n) (Err e) =
 
 -- the text is read as the program, or refused, unless memory ran out
 abbrev pub IsReadAs : List ℕ → Result Program90 Refused → Type 0
-IsReadAs text (Ok p) = ReadsWithin text (program_of_90 p)
+IsReadAs text (Ok p) = Reads90 text (program_of_90 p)
 IsReadAs text (Err e) = IfRefusal e (Refused90 text)

@@ -1,5 +1,4 @@
 pub mod Checks
-pub mod Outcomes
 pub mod f90_suits
 pub mod one_answer
 pub mod surroundings

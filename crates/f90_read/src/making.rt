@@ -5,7 +5,7 @@ ghost use Rattle.f90_blocks.specs.statement_trees.Results.{AreOfSome};
 ghost use Rattle.f90_grammar.specs.Blocks as grammar;
 ghost use Rattle.f90_grammar.specs.Forms.{Form};
 ghost use Rattle.f90_grammar.specs.Order.{name_in, title_of};
-ghost use Rattle.f90_grammar.specs.Reading.{IsProgramOf};
+ghost use Rattle.f90_grammar.specs.Programs.{IsProgramOf};
 ghost use Rattle.f90_blocks.specs.places.forms.Places.{IsPlacedOf};
 ghost use Rattle.f90_statement.specs.Views.{AreOf, IsStatementOf};
 ghost use Rattle.f90_read.specs.Checks.{IsTextOf, IsClearBelow, AreFunctionsOf};

@@ -8,9 +8,8 @@ ghost use Rattle.meaning.specs.Profile90.{IsProgram90};
 ghost use Rattle.f90_blocks.specs.places.forms.Places.{IsPlacedOf};
 ghost use Rattle.f90_blocks.specs.statement_trees.Results.{AreOfSome};
 ghost use Rattle.f90_grammar.specs.Blocks as grammar;
-ghost use Rattle.f90_grammar.specs.Refusals.{Refused90};
+ghost use Rattle.f90_grammar.specs.Refusals.{Reads90, Refused90};
 ghost use Rattle.f90_read.specs.Checks.{IsTextOf, IsClearBelow, IsReadAs};
-ghost use Rattle.f90_read.specs.Outcomes.{ReadsWithin};
 
 use crate::causes::check;
 use crate::making::{functions_of, program};
@@ -47,12 +46,12 @@ fn read_text(alloc: Global, text: &[u8]) -> Result<Program90, Refused>
 /// A text of at most 2^28 bytes that is read is a program of the profile.
 pub fn read90(alloc: Global, text: &[u8]) -> Result<Program90, Refused>
     requires { length text.now < 2 ^ 32 }
-    ensures ok { IfOk result (λ p. ReadsWithin text.now (program_of_90 p)) }
+    ensures ok { IfOk result (λ p. Reads90 text.now (program_of_90 p)) }
     ensures program { length text.now ≤ deck_bytes90 → IfOk result (λ p. IsProgram90 (program_of_90 p)) }
     ensures refused { (r : Refusal) → result ≡ Err (Refused.Refusal r) → Refused90 text.now r }
 
     // A text that is read, or refused, has no other answer, unless memory runs out.
-    ensures only_read { (p : Program) → ReadsWithin text.now p
+    ensures only_read { (p : Program) → Reads90 text.now p
         → IsOkAnd result (λ read. program_of_90 read ≡ p) ⊎ (result ≡ Err Refused.Memory) }
     ensures only_refused { (r : Refusal) → Refused90 text.now r
         → (result ≡ Err (Refused.Refusal r)) ⊎ (result ≡ Err Refused.Memory) }

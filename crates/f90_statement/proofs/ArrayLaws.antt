@@ -1,5 +1,5 @@
 -- WHERE, ALLOCATE and DEALLOCATE.
-use Rattle.std.proofs.Common.{arith, ◌≡◌, ℕ, ◌≤◌, ◌<◌, List, [], ◌∷◌, ◌++◌, length, ap, refl, sym, ◌∙◌, Err, codes}
+use Rattle.std.proofs.Common.{◌≡◌, ℕ, List, [], ◌∷◌, ◌++◌, ap, refl, sym, ◌∙◌, Err, codes}
 use Rattle.std.specs.Borrow.{Bor}
 use Rattle.std.specs.Prelude.{IsTrue}
 use Rattle.f90_grammar.specs.Forms as forms
@@ -19,7 +19,6 @@ use Rattle.f90_statement.specs.Reading.{IsForm, ReadsStatement, BeginsWithCondit
 use Rattle.f90_statement.specs.Views.{AreOf, IsStatementOf}
 use Rattle.f90_statement.specs.declared.nodes.Statement.TheVariants as statements
 use Rattle.f90_statement.proofs.BlockLaws.{FailsCondition, IsOnlyCondition}
-use Rattle.f90_statement.proofs.ListLaws.{as_many}
 
 -- ---- WHERE
 
@@ -80,15 +79,13 @@ abbrev IsOnlyExtents : List Word → List Expression → List Word → Type 0
 IsOnlyExtents us made rest = (ps : List Phrase) (last : List Word) → IsList IsExpression ps → EndsList last → us ≡ separated written_extent ps ++ last
     → AreOf IsMadeOf made ps × (rest ≡ last)
 
-pub allocate_is : (ws us rest : List Word) (x : List ℕ) (made : List Expression) → ws ≡ begun_allocate x us → Extents us made rest → rest ≡ ending → length made ≤ 7
+pub allocate_is : (ws us rest : List Word) (x : List ℕ) (made : List Expression) → ws ≡ begun_allocate x us → Extents us made rest → rest ≡ ending
     → IsForm IsStatementOf is_allocate ws (statements.Allocate x made)
-allocate_is ws us rest x made e h n l =
-    let m = as_many IsMadeOf IsExpression written_extent made h.part h.is_of in
-    let f : length h.part ≤ 7 = omega arith in
+allocate_is ws us rest x made e h n =
     record {
       form = forms.Allocate x h.part;
       is_of = (refl, h.is_of);
-      written = (e ∙ ap (begun_allocate x) (h.same ∙ ap (λ (z : List Word). separated written_extent h.part ++ z) n), h.is_good, f);
+      written = (e ∙ ap (begun_allocate x) (h.same ∙ ap (λ (z : List Word). separated written_extent h.part ++ z) n), h.is_good);
       among = refl;
     }
 
@@ -96,34 +93,27 @@ behind_allocate : (x y : List ℕ) (us vs : List Word) → begun_allocate x us �
 behind_allocate x y us vs e = cc
 
 no_extents : (ws us : List Word) (x : List ℕ) → ws ≡ begun_allocate x us
-    → ((ps : List Phrase) → IsList IsExpression ps → length ps ≤ 7 → us ≡ separated written_extent ps ++ ending → ⊥)
+    → ((ps : List Phrase) → IsList IsExpression ps → us ≡ separated written_extent ps ++ ending → ⊥)
     → (f : Form) → IsWritten f ws → IsTrue (is_allocate f) → ⊥
-no_extents ws us x e o (forms.Allocate y ps) w t = o ps w.1 w.2 (behind_allocate x y us (separated written_extent ps ++ ending) (sym e ∙ w.0))
+no_extents ws us x e o (forms.Allocate y ps) w t = o ps w.1 (behind_allocate x y us (separated written_extent ps ++ ending) (sym e ∙ w.0))
 no_extents ws us x e o f w t = cc
 
 pub unended : (ws us rest : List Word) (x : List ℕ) (made : List Expression) → ws ≡ begun_allocate x us → IsOnlyExtents us made rest → (rest ≡ ending → ⊥)
     → (f : Form) → IsWritten f ws → IsTrue (is_allocate f) → ⊥
-unended ws us rest x made e o n = no_extents ws us x e (λ ps g l h. n (o ps ending g tt h).1)
-
-pub too_many_extents : (ws us rest : List Word) (x : List ℕ) (made : List Expression) → ws ≡ begun_allocate x us → IsOnlyExtents us made rest → 7 < length made
-    → (f : Form) → IsWritten f ws → IsTrue (is_allocate f) → ⊥
-too_many_extents ws us rest x made e o l = no_extents ws us x e (λ ps g k h. many ps (o ps ending g tt h).0 k)
-  where
-    many : (ps : List Phrase) → AreOf IsMadeOf made ps → length ps ≤ 7 → ⊥
-    many ps a k = let m = as_many IsMadeOf IsExpression written_extent made ps a in omega arith
+unended ws us rest x made e o n = no_extents ws us x e (λ ps g h. n (o ps ending g tt h).1)
 
 pub extents_lost : (ws us : List Word) (x : List ℕ) (stop : Stop) → ws ≡ begun_allocate x us
     → ((ps : List Phrase) (last : List Word) → IsList IsExpression ps → EndsList last → us ≡ separated written_extent ps ++ last
     → Given (Err stop) (λ (r : List Expression × Bor (List Token)). AreOf IsMadeOf r.0 ps × (words_of r.1.now ≡ last)))
     → ReadsStatement is_allocate ws (Err stop)
-extents_lost ws us x Syntax e o = no_extents ws us x e (λ ps g l h. o ps ending g tt h)
+extents_lost ws us x Syntax e o = no_extents ws us x e (λ ps g h. o ps ending g tt h)
 extents_lost ws us x Memory e o = tt
 
 pub no_allocate : (ws : List Word) → ((x : List ℕ) (us : List Word) → ws ≡ begun_allocate x us → ⊥) → (f : Form) → IsWritten f ws → IsTrue (is_allocate f) → ⊥
 no_allocate ws o (forms.Allocate x ps) w t = o x (separated written_extent ps ++ ending) w.0
 no_allocate ws o f w t = cc
 
-pub ruleset allocations = (allocate_is, unended, too_many_extents, extents_lost, no_allocate)
+pub ruleset allocations = (allocate_is, unended, extents_lost, no_allocate)
 
 -- ---- DEALLOCATE
 

@@ -61,7 +61,7 @@ pub enum Statement {
     EndIf,
     Do(Name, Bounds),
     EndDo,
-    /// An ALLOCATE, with an extent for each dimension.
+    /// An ALLOCATE with its extents.
     Allocate(Name, Seq<Expression>),
     Deallocate(Name),
     End,

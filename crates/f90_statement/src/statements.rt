@@ -26,7 +26,7 @@ use f90_expressions::Expression;
 use f90_expressions::words::Token;
 use reading::Stop;
 use std::alloc::Global;
-use tree::{ARRAY_DIMENSIONS, Kind};
+use tree::Kind;
 
 // PROGRAM (section 11.1).
 #[tactic(auto, using(crate::proofs::OuterLaws::programs))]
@@ -254,7 +254,7 @@ fn where_statement(alloc: Global, tokens: &[Token]) -> Result<Statement, Stop>
     }
 }
 
-// An ALLOCATE (section 6.3.1).
+// An ALLOCATE (section 6.3.1), of any number of extents: whether they suit is another question.
 #[tactic(auto, using(crate::proofs::ArrayLaws::allocations))]
 fn allocate(alloc: Global, tokens: &[Token]) -> Result<Statement, Stop>
     ensures { ReadsStatement is_allocate (words_of tokens.now) result }
@@ -265,9 +265,6 @@ fn allocate(alloc: Global, tokens: &[Token]) -> Result<Statement, Stop>
     match extents(alloc, rest) {
         Ok((extents, rest)) => {
             if !ends_allocate(rest) {
-                return Err(Stop::Syntax);
-            }
-            if extents.len() > ARRAY_DIMENSIONS {
                 return Err(Stop::Syntax);
             }
             Ok(Statement::Allocate(name, extents))

@@ -6,7 +6,8 @@ use Rattle.find_nests.specs.nest_parts.Numbers.{next}
 use Rattle.find_nests.specs.declared.reasons.Reason.{Reason}
 use Rattle.find_nests.specs.declared.reasons.Reason.TheVariants.{Exit, InnerIf, Bound, Step, Deep, Large}
 use Rattle.find_nests.specs.Reasons.{has_reason, first_that_holds, reasons}
-use Rattle.find_nests.specs.Loops.{Numbered, Placed, loops_in_block, is_in_no_nest, reason_of, looked_at}
+use Rattle.find_nests.specs.Loops.{Numbered, Placed, loops_in_block}
+use Rattle.find_nests.specs.LookedAt.{is_in_no_nest, reason_of, looked_at}
 use Rattle.find_nests.specs.Found.{InNest, Kept, found_as, nests_with, found_among, nest_of_loop}
 use Rattle.find_nests.specs.Laws.{FoundNestIsLoop, KeptIsLoop, NoReasonHolds, ReasonHolds}
 

@@ -7,7 +7,8 @@ use mathlib.Core.Path.{ap₂}
 use Rattle.tree.specs.Plain.{Statement, Assignment, Where, If, Do, Label, GoTo, Stop, Read, Print}
 use Rattle.tree.specs.Plain.{Allocate, Deallocate, Arms, no_arms, arm, Block, no_statements, statement, Declaration}
 use Rattle.find_nests.specs.nest_parts.Numbers.{next, after, after_arms, after_block}
-use Rattle.find_nests.specs.Loops.{SourceLoop, Numbered, Placed, loops_in, loops_in_arms, loops_in_block, is_kept, is_in_no_nest, looked_at}
+use Rattle.find_nests.specs.Loops.{SourceLoop, Numbered, Placed, loops_in, loops_in_arms, loops_in_block}
+use Rattle.find_nests.specs.LookedAt.{is_kept, is_in_no_nest, looked_at}
 use Rattle.find_nests.specs.Walk.{outermost_in, outermost_in_arms, outermost_in_block}
 
 abbrev pub loop_of : Placed → Numbered

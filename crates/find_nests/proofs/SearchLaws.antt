@@ -15,17 +15,20 @@ use Rattle.tree.specs.declared.stmts.Stmt.TheVariants as stmts
 use Rattle.tree.specs.declared.stmts.Arm.{Arm}
 use Rattle.tree.specs.declared.stmts.Block.{Block, out-Block}
 use Rattle.tree.proofs.Equations.{statement_equations, statement_of-if, statement_of-do, block_of-is}
-use Rattle.find_nests.specs.nest_parts.Numbers.{next, after, after_arms, after_each, after_block, after_list}
+use Rattle.find_nests.specs.nest_parts.Numbers.{next, after, after_arms, after_block}
+use Rattle.find_nests.specs.nest_parts.Lists.{after_each, after_list}
 use Rattle.find_nests.proofs.NestParts.PartLaws.{part_laws, after_each_is, after-block}
 use Rattle.find_nests.specs.declared.reasons.Reason.{Reason}
 use Rattle.find_nests.specs.Reasons.{reason_over}
-use Rattle.find_nests.specs.Loops.{SourceLoop, Numbered, reason_of}
+use Rattle.find_nests.specs.Loops.{SourceLoop, Numbered}
+use Rattle.find_nests.specs.LookedAt.{reason_of}
 use Rattle.find_nests.specs.declared.search.Found.{Found as Found'}
 use Rattle.find_nests.specs.declared.search.Found.TheVariants as found
 use Rattle.nest.specs.declared.nests.Nest.{Nest as Nest'}
 use Rattle.nest.specs.Plain.{Nest, Part, Made}
 use Rattle.nest.specs.View.{nest_of}
-use Rattle.find_nests.specs.Found.{Found, InNest, Kept, found_of, found_as, found_among, nests_with, nest_of_loop, body_of}
+use Rattle.find_nests.specs.Found.{Found, InNest, Kept, found_as, found_among, nests_with, nest_of_loop, body_of}
+use Rattle.find_nests.specs.View.{found_of}
 use Rattle.find_nests.specs.Walk.{outermost_in, outermost_in_arms, outermost_in_block, outermost_list, outermost_each, nests_among}
 
 -- ---- lists of loops

@@ -3,13 +3,11 @@ use Rattle.std.specs.Prelude.{ℕ, Option, Some, None, List, [], ◌∷◌}
 use Rattle.tree.specs.Plain.{Program, no_statements}
 use Rattle.nest_reasons.specs.Symbols.{symbols_of}
 use Rattle.nest.specs.Plain.{Nest, Part, Turns, parts}
-use Rattle.nest.specs.View.{nest_of}
 use Rattle.find_nests.specs.nest_parts.Numbers.{next}
 use Rattle.find_nests.specs.nest_parts.Statements.{source_loop, parts_of_block}
 use Rattle.find_nests.specs.declared.reasons.Reason.{Reason}
-use Rattle.find_nests.specs.declared.search.Found.{Found as Found'}
-use Rattle.find_nests.specs.declared.search.Found.TheVariants.{Nest as Nest', Kept as Kept'}
-use Rattle.find_nests.specs.Loops.{Numbered, reason_of, looked_at}
+use Rattle.find_nests.specs.Loops.{Numbered}
+use Rattle.find_nests.specs.LookedAt.{reason_of, looked_at}
 
 -- a nest, or a kept loop by its line and its reason
 pub data Found : Type 0 where
@@ -56,9 +54,3 @@ found_among p n (l ∷ ls) =
 -- each loop that stands in no nest, as a nest, or kept with the first reason that holds
 abbrev pub found_in : Program → List Found
 found_in p = found_among p 0 (looked_at p.declarations p.body)
-
--- ---- of the program
-
-abbrev pub found_of : Found' → Found
-found_of (Nest' n) = InNest (nest_of n)
-found_of (Kept' line r) = Kept line r

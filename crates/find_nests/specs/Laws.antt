@@ -4,7 +4,8 @@ use Rattle.tree.specs.Plain.{Program, Statement}
 use Rattle.nest.specs.Plain.{Nest}
 use Rattle.find_nests.specs.declared.reasons.Reason.{Reason}
 use Rattle.find_nests.specs.Reasons.{has_reason, reason_over}
-use Rattle.find_nests.specs.Loops.{Placed, loops_in_block, is_in_no_nest, reason_of}
+use Rattle.find_nests.specs.Loops.{Placed, loops_in_block}
+use Rattle.find_nests.specs.LookedAt.{is_in_no_nest, reason_of}
 use Rattle.find_nests.specs.Found.{InNest, Kept, found_in, nest_of_loop}
 
 -- a loop of the program without a reason, each loop round it being kept

@@ -1,6 +1,9 @@
 pub mod Reasons
+pub mod WalkedReasons
 pub mod Loops
+pub mod LookedAt
 pub mod Found
+pub mod View
 pub mod Walk
 pub mod Laws
 pub mod bound_limits

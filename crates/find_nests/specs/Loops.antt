@@ -1,12 +1,8 @@
--- The loops of a program, in the order of the text.
-use Rattle.std.specs.Prelude.{ℕ, Option, Bool, is_some, List, [], ◌∷◌, ◌++◌, map}
-use Rattle.std.specs.List.{filter, list_all}
-use Rattle.tree.specs.Plain.{Expression, Statement, Assignment, Where, If, Do, Label, GoTo, Stop, Read, Print}
-use Rattle.tree.specs.Plain.{Allocate, Deallocate, Arms, no_arms, arm, Block, no_statements, statement, Declaration}
-use Rattle.nest_reasons.specs.Symbols.{symbols_of}
+-- The loops of a statement and of a block, in the order of the text, each with the loops round it.
+use Rattle.std.specs.Prelude.{ℕ, List, [], ◌∷◌, ◌++◌}
+use Rattle.tree.specs.Plain.{Expression, Statement, Assignment, Where, If, Do, Label, GoTo, Stop, Read, Print, Allocate}
+use Rattle.tree.specs.Plain.{Deallocate, Arms, no_arms, arm, Block, no_statements, statement}
 use Rattle.find_nests.specs.nest_parts.Numbers.{next, after, after_arms, after_block}
-use Rattle.find_nests.specs.declared.reasons.Reason.{Reason}
-use Rattle.find_nests.specs.Reasons.{reason_over}
 
 pub record SourceLoop : Type 0 where
   pub line : ℕ
@@ -56,19 +52,3 @@ abbrev mutual
   pub loops_in_block : ℕ → List SourceLoop → Block → List Placed
   loops_in_block k around no_statements = []
   loops_in_block k around (statement c cs) = loops_in k around c ++ loops_in_block (after k c) around cs
-
-module _ (ds : List Declaration) where
-  -- the first reason that holds of a loop, if one does
-  abbrev pub reason_of : SourceLoop → Option Reason
-  reason_of l = reason_over (symbols_of ds l.variable l.body) (as_statement l)
-
-  abbrev pub is_kept : SourceLoop → Bool
-  is_kept l = is_some (reason_of l)
-
-  -- A loop stands in no nest where each loop round it has a reason
-  abbrev pub is_in_no_nest : Placed → Bool
-  is_in_no_nest p = list_all is_kept p.around
-
-  -- the loops that stand in no nest
-  abbrev pub looked_at : Block → List Numbered
-  looked_at body = map (λ (p : Placed). p.loop) (filter is_in_no_nest (loops_in_block 0 [] body))

@@ -5,7 +5,8 @@ use Rattle.tree.specs.Plain.{Allocate, Deallocate, Arms, no_arms, arm, Block, no
 use Rattle.tree.specs.Plain.{Declaration}
 use Rattle.tree.specs.View.{Tested}
 use Rattle.find_nests.specs.nest_parts.Numbers.{next, after, after_arms, after_block}
-use Rattle.find_nests.specs.Loops.{SourceLoop, Numbered, reason_of, is_kept}
+use Rattle.find_nests.specs.Loops.{SourceLoop, Numbered}
+use Rattle.find_nests.specs.LookedAt.{reason_of, is_kept}
 use Rattle.find_nests.specs.Found.{nests_with}
 
 module _ (ds : List Declaration) where

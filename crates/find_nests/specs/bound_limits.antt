@@ -1,5 +1,7 @@
 pub mod Composed
 pub mod Limits
 pub mod Loops
+pub mod Walks
+pub mod Arms
 pub mod Terms
 pub mod View

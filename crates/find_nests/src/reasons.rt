@@ -2,6 +2,7 @@
 ghost use Rattle.std.specs.Prelude.{◌≡◌, ◌≤◌, ◌^◌, length, IfOk};
 ghost use Rattle.tree.specs.View.{statement_of};
 ghost use Rattle.find_nests.specs.Reasons.{reason_over};
+ghost use Rattle.find_nests.specs.WalkedReasons.{walked_reason};
 
 use crate::bound_limits::Limits;
 use nest_reasons::{Check, Flaw, is_large};
@@ -21,14 +22,10 @@ pub enum Reason {
     Large,
 }
 
-/// The first reason that holds of a loop with these symbols, if one does.
-pub(crate) fn reason_over(
-    alloc: Global,
-    symbols: Seq<Name>,
-    stmt: &Stmt,
-) -> Result<Option<Reason>, Memory>
+// The first reason that holds of a loop, looked for statement by statement.
+fn walked_reason(alloc: Global, symbols: Seq<Name>, stmt: &Stmt) -> Result<Option<Reason>, Memory>
     requires { length symbols ≤ 2 ^ 16 }
-    ensures { IfOk result (λ reason. reason ≡ reason_over symbols (statement_of stmt.now)) }
+    ensures { IfOk result (λ reason. reason ≡ walked_reason symbols (statement_of stmt.now)) }
 {
     let mut check = Check {
         flaw: Flaw::Exit,
@@ -66,4 +63,16 @@ pub(crate) fn reason_over(
         return Ok(Some(Reason::Large));
     }
     Ok(None)
+}
+
+/// The first reason that holds of a loop with these symbols, if one does.
+pub(crate) fn reason_over(
+    alloc: Global,
+    symbols: Seq<Name>,
+    stmt: &Stmt,
+) -> Result<Option<Reason>, Memory>
+    requires { length symbols ≤ 2 ^ 16 }
+    ensures { IfOk result (λ reason. reason ≡ reason_over symbols (statement_of stmt.now)) }
+{
+    walked_reason(alloc, symbols, stmt)
 }

@@ -3,8 +3,10 @@ ghost use Rattle.std.specs.Prelude.{◌≡◌, ◌≤◌, ◌^◌, ◌++◌, len
 ghost use Rattle.tree.specs.View.{expression_of, statement_of, tested_of, block_of, program_of};
 ghost use Rattle.tree.specs.Plain.{no_statements};
 ghost use Rattle.nest.specs.View.{nest_of};
-ghost use Rattle.find_nests.specs.nest_parts.Numbers.{next, after, after_block, after_each, after_list};
-ghost use Rattle.find_nests.specs.Found.{found_of, found_among, found_in, nest_of_loop};
+ghost use Rattle.find_nests.specs.nest_parts.Numbers.{next, after, after_block};
+ghost use Rattle.find_nests.specs.nest_parts.Lists.{after_each, after_list};
+ghost use Rattle.find_nests.specs.Found.{found_among, found_in, nest_of_loop};
+ghost use Rattle.find_nests.specs.View.{found_of};
 ghost use Rattle.find_nests.specs.Walk.{nests_among, outermost_in, outermost_in_block, outermost_list, outermost_each};
 
 use crate::nest_parts::Numbering;

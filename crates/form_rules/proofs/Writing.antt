@@ -21,8 +21,11 @@ use Rattle.tree.specs.declared.ops.Op.{Op}
 use Rattle.tree.specs.declared.ops.Value.{Value}
 use Rattle.tree.specs.declared.ops.Value.TheVariants.{Int, Truth}
 use Rattle.tree.proofs.Equations.{reference_of-is, loop_of-is, subscript_of-one, subscript_of-part, expression_of-int, expression_of-truth, expression_of-item, expression_of-un, expression_of-bin, expression_of-call, expression_of-list, expression_of-spread, expression_of-transpose, expression_of-reshape, expression_of-reduce}
-use Rattle.rewrite.specs.Making.{made, made_inside, made_expressions, made_loop, made_parts, made_subscript}
-use Rattle.rewrite.specs.Names.{mentions, uses_in, uses_in_loop, uses_in_loops, uses_in_subscript, uses_in_subscripts, uses_in_expressions}
+use Rattle.rewrite.specs.Making.{made, made_expressions, made_parts, made_subscript}
+use Rattle.rewrite.specs.MadeBlocks.{made_inside, made_loop}
+use Rattle.rewrite.specs.Names.{mentions, uses_in, uses_in_loops, uses_in_subscript, uses_in_subscripts}
+use Rattle.rewrite.specs.Names.{uses_in_expressions}
+use Rattle.rewrite.specs.NamesAlong.{uses_in_loop}
 use Rattle.rewrite.specs.declared.uses.Use.{Use}
 use Rattle.rewrite.proofs.Equations.{made_is, made_each, made_each_loop, made_each_subscript}
 use Rattle.rewrite.proofs.UseLaws.{each_expression, each_loop, each_subscript}
@@ -30,7 +33,7 @@ use Rattle.subscripts.specs.declared.affine.Affine.{Affine}
 use Rattle.linear_forms.specs.Canonical.{canonical_text, canonising, text_or}
 use Rattle.linear_forms.specs.Linear.{form_of, linear, limited, constant_or, as_constant, constant_value, form_of_name}
 use Rattle.linear_forms.specs.Parts.{IsPartOf}
-use Rattle.linear_forms.specs.Places.{IsFound}
+use Rattle.linear_forms.specs.Affines.{IsFound}
 use Rattle.linear_forms.specs.Texts.{text_of}
 use Rattle.linear_forms.specs.declared.forms.Part.{Part}
 use Rattle.linear_forms.proofs.PartLaws.{int_part, truth_part, item_part, call_part, list_part, spread_part, transpose_part, reshape_part, reduce_part}

@@ -16,7 +16,9 @@ use Rattle.tree.specs.declared.lists.Seq.{Seq}
 use Rattle.tree.specs.declared.ops.Value.{Value}
 use Rattle.meaning.specs.Names.{is_among}
 use Rattle.rewrite.specs.Making as making
-use Rattle.rewrite.specs.Names.{mentions, uses_in, uses_in_loop, uses_in_subscript, uses_in_subscripts}
+use Rattle.rewrite.specs.MadeBlocks as made_blocks
+use Rattle.rewrite.specs.Names.{mentions, uses_in, uses_in_subscript, uses_in_subscripts}
+use Rattle.rewrite.specs.NamesAlong.{uses_in_loop}
 use Rattle.rewrite.specs.declared.uses.Use.{Use}
 use Rattle.linear_forms.specs.Canonical.{canonising}
 use Rattle.linear_forms.specs.Linear.{constant_value, known}
@@ -52,7 +54,7 @@ form_to_write had_loop n form = if had_loop && nat_le n nest_depth then form els
 module _ (loops symbols : List (List ℕ)) where
   -- x is e with its parts written; what is known of it is so
   pub record IsReady (e : Expression) (x : Expr) (had_loop : Bool) (part : Part) : Type 0 where
-    pub made : expression_of x ≡ making.made_inside (canonising loops symbols) e
+    pub made : expression_of x ≡ made_blocks.made_inside (canonising loops symbols) e
     pub stands : had_loop ≡ mentions loops e
     pub known : length loops ≤ 7 → IsPartOf (length loops) (loops ++ symbols) (expression_of x) part
 
@@ -72,11 +74,11 @@ module _ (loops symbols : List (List ℕ)) where
         → call_of f arguments.given ≡ constant_value (Apply f (expressions (map expression_of arguments.list.exprs)))
 
   pub record SameLoop (l : ConstructorLoop) (turn : Turn) (had_loop : Bool) : Type 0 where
-    pub made : loop_of turn ≡ making.made_loop (canonising loops symbols) l
+    pub made : loop_of turn ≡ made_blocks.made_loop (canonising loops symbols) l
     pub stands : had_loop ≡ stands_in loops (uses_in_loop l)
 
   pub record SameLoops (ls : List ConstructorLoop) (turns : Seq Turn) (had_loop : Bool) : Type 0 where
-    pub made : map loop_of turns ≡ map (making.made_loop (canonising loops symbols)) ls
+    pub made : map loop_of turns ≡ map (made_blocks.made_loop (canonising loops symbols)) ls
     pub stands : had_loop ≡ stands_in loops (flat_map uses_in_loop ls)
 
   pub record SameSubscript (p : Subscript) (sub : Sub) (had_loop : Bool) : Type 0 where

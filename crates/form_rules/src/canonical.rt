@@ -18,7 +18,8 @@ pub struct Canonical {
 }
 
 impl Rule for Canonical {
-    ghost use Rattle.linear_forms.specs.Canonical.{canonising, all_suit, SameSized};
+    ghost use Rattle.linear_forms.specs.Canonical.{canonising};
+    ghost use Rattle.linear_forms.specs.CanonicalLaws.{all_suit, SameSized};
     ghost use Rattle.linear_forms.proofs.CanonicalRule.{canonising_is_rule};
 
     ghost making = { λ r. canonising r.loops r.symbols };

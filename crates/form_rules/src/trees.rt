@@ -1,7 +1,8 @@
 //! Trees in canonical text. Each node is looked at once: what is known of it is handed to the node round it.
 ghost use Rattle.std.specs.Prelude.{◌≡◌, ◌≤◌, ◌^◌, List, length, map, IfOk};
 ghost use Rattle.rewrite.specs.Making.{made, made_parts, made_subscript};
-ghost use Rattle.rewrite.specs.Names.{uses_in_loop, uses_in_subscript, uses_in_subscripts};
+ghost use Rattle.rewrite.specs.Names.{uses_in_subscript, uses_in_subscripts};
+ghost use Rattle.rewrite.specs.NamesAlong.{uses_in_loop};
 ghost use Rattle.tree.specs.Plain.{Apply, Binary, Constructor, Expression, Named, Reduce, Reshape, Spread};
 ghost use Rattle.tree.specs.Plain.{Transpose, Unary, expressions};
 ghost use Rattle.tree.specs.View.{expression_of, loop_of, loops as plain_loops, reference_of, subscript_of};

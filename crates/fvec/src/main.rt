@@ -1,4 +1,7 @@
 //! The program `fvec`: the real words, stdin for the deck, stdout for the text and stderr for the notes.
+//!
+//! Proved: `main` joins these to the real words, stdin, stdout and stderr. The words are those of the system but the
+//! first, the program's name (`words`). Where there are no words to be had its status is 7 or 8.
 #![tactic(auto)]
 
 ghost use Rattle.std.specs.Prelude.{◌≡◌, ◌⊎◌, IfErr, IfOk, drop};

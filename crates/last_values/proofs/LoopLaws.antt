@@ -13,7 +13,7 @@ use Rattle.nest.specs.Plain.{Part}
 use Rattle.tree.specs.declared.stmts.Stmt.{Stmt}
 use Rattle.nest.proofs.statement_loops.StandingLaws.{one_more}
 use Rattle.last_values.specs.declared.behind.NestedLoop.{NestedLoop}
-use Rattle.last_values.specs.Behind.{left_behind, values_behind}
+use Rattle.last_values.specs.ValuesBehind.{left_behind, values_behind}
 
 -- one of them fails
 pub fails_at : {A : Type 0} (p : A → Bool) (list all : List A) (i : ℕ) (x : A) (r : Bool)

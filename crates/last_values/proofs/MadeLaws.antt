@@ -16,7 +16,7 @@ use Rattle.nest.specs.Plain as P
 use Rattle.nest.specs.View.{Branch, branch_of, branches, part_of}
 use Rattle.nest.proofs.Equations.{part_of-choice, branch_of-made}
 use Rattle.last_values.specs.Endings.{only_where}
-use Rattle.last_values.specs.InPlace.{only_where_part}
+use Rattle.last_values.specs.PartsInPlace.{only_where_part}
 
 pub only_where_is : (line : ℕ) (test : Expr) (ss other : Seq Stmt) (as' : Seq Arm)
     → as' ≡ roll-Arm (record { test = test; body = roll-Block (record { stmts = ss }) }) ∷ [] → other ≡ []

@@ -12,7 +12,9 @@ use Rattle.nest.specs.declared.parts.NestArm.{NestArm, out-NestArm}
 use Rattle.nest.specs.Plain as P
 use Rattle.nest.specs.View.{Branch, branch_of, branches, guarded_of, loop_of, part_of}
 use Rattle.nest.proofs.Equations.{part_of-run, part_of-turns, part_of-choice, part_of-label, part_of-jump, branch_of-is}
-use Rattle.last_values.specs.Occurrences.{stands_in, stands_in_statement, stands_in_bounds, stands_outside, stands_outside_in_each, stands_outside_in_branches, stands_outside_in_branch}
+use Rattle.last_values.specs.Occurrences.{stands_in, stands_in_statement, stands_in_bounds, stands_outside}
+use Rattle.last_values.specs.Occurrences.{stands_outside_in_each, stands_outside_in_branches}
+use Rattle.last_values.specs.Arms.{stands_outside_in_branch}
 
 each_part : (v : List ℕ) (ps : List P.Part) → stands_outside_in_each v (P.parts ps) ≡ list_any (stands_outside v) ps
 each_part v [] = refl

@@ -1,20 +1,12 @@
 -- The variables whose last values stand behind all loops.
-use Rattle.std.specs.Prelude.{ℕ, ◌≤◌, pos, ◌<ℤ◌, Option, Some, None, Bool, true, false, ◌&&◌, if◌then◌else◌}
-use Rattle.std.specs.Prelude.{List, [], length}
-use Rattle.std.specs.List.{list_all, flat_map}
+use Rattle.std.specs.Prelude.{ℕ, Option, Some, None, Bool, true, false, ◌&&◌, if◌then◌else◌, List}
+use Rattle.std.specs.List.{list_all}
 use Rattle.std.specs.Str.{bytes_eq}
-use Rattle.tree.specs.Plain.{Statement, Block, block}
 use Rattle.nest.specs.Plain.{Part}
 use Rattle.last_values.specs.declared.normal_forms.last.LastForms.{LastForms}
 use Rattle.last_values.specs.normal_forms.LastValues.{last_forms, have_plain_trips}
 use Rattle.last_values.specs.declared.behind.NestedLoop.{NestedLoop}
-use Rattle.last_values.specs.Endings.{after_statements}
 use Rattle.last_values.specs.Occurrences.{occurs_only_within}
-
--- a loop in at most six others, with a positive divisor of its trip
-pub record IsNested (l : NestedLoop) : Type 0 where
-  pub deep : length l.round ≤ 6
-  pub divisor : pos 0 <ℤ l.turns.trip.by
 
 abbrev pub are_within : Option LastForms → Bool
 are_within None = false
@@ -32,17 +24,3 @@ may_end_behind n v l = if bytes_eq l.turns.variable v then ends_behind n l else 
 -- behind all loops, and otherwise in place
 unfoldable pub stands_behind : ℕ → List NestedLoop → Part → List ℕ → Bool
 stands_behind n ls p v = occurs_only_within v p && list_all (may_end_behind n v) ls
-
-abbrev pub or_none : Option (List Statement) → List Statement
-or_none None = []
-or_none (Some cs) = cs
-
--- what a loop leaves behind all loops
-abbrev pub left_behind : List (List ℕ) → ℕ → List NestedLoop → Part → NestedLoop → List Statement
-left_behind symbols line ls p l =
-    if stands_behind (length symbols) ls p l.turns.variable
-    then or_none (after_statements symbols line l.round l.turns) else []
-
--- the last values behind all loops, in the order of these loops
-unfoldable pub values_behind : List (List ℕ) → ℕ → List NestedLoop → Part → Block
-values_behind symbols line ls p = block (flat_map (left_behind symbols line ls p) ls)

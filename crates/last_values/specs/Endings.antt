@@ -1,19 +1,16 @@
 -- The statements that give the variable of a loop its last value behind all loops. A loop with a turn leaves its
 -- variable with the value behind its last turn; one without a turn leaves it with the lower bound.
 use Rattle.std.specs.Prelude.{ℕ, Option, Some, None, if◌then◌else◌, List, [], ◌∷◌, length}
-use Rattle.tree.specs.Plain.{Expression, Binary, Reference, no_subscripts, Statement, Assignment, If, arm, no_arms}
-use Rattle.tree.specs.Plain.{Block, no_statements, block}
-use Rattle.tree.specs.View.{expression_of}
+use Rattle.tree.specs.Plain.{Expression, Binary, Statement, Assignment, If, arm, no_arms, no_statements, block}
 use Rattle.tree.specs.declared.ops.Op.TheVariants.{And}
 use Rattle.nest.specs.declared.parts.Trip.{Trip}
 use Rattle.last_values.specs.declared.normal_forms.loops.NormalLoop.{NormalLoop}
 use Rattle.last_values.specs.declared.normal_forms.last.LastForms.{LastForms}
-use Rattle.last_values.specs.declared.normal_forms.last.LastTexts.{LastTexts}
 use Rattle.last_values.specs.normal_forms.NormalLoops.{is_positive, is_known}
-use Rattle.last_values.specs.normal_forms.LastValues.{last_forms, have_plain_trips, last_first_text, last_trip_text}
-use Rattle.last_values.specs.normal_forms.LastValues.{last_end_text}
-use Rattle.last_values.specs.normal_forms.LastValues.{tests_of}
+use Rattle.last_values.specs.normal_forms.LastValues.{last_forms, have_plain_trips}
+use Rattle.last_values.specs.normal_forms.LastTexts.{last_first_text, last_trip_text, last_end_text, tests_of}
 use Rattle.last_values.specs.normal_forms.Texts.{at_least_one}
+use Rattle.last_values.specs.Scalars.{scalar}
 
 -- the texts of a loop's lower bound, of its trip, and of its variable's value behind its last turn
 pub record Texts : Type 0 where
@@ -21,13 +18,7 @@ pub record Texts : Type 0 where
   pub trip : Expression
   pub end : Expression
 
-abbrev pub texts_of : LastTexts → Texts
-texts_of t = record { first = expression_of t.first; trip = expression_of t.trip; end = expression_of t.end }
-
 -- ---- statements
-
-abbrev pub scalar : List ℕ → Reference
-scalar v = record { name = v; subscripts = no_subscripts }
 
 abbrev pub assigned : ℕ → List ℕ → Expression → Statement
 assigned line v e = Assignment line None (scalar v) e
@@ -76,10 +67,3 @@ with_last_forms symbols line round r (Some f) = Some (ending_behind symbols line
 unfoldable pub after_statements : List (List ℕ) → ℕ → List NormalLoop → NormalLoop → Option (List Statement)
 after_statements symbols line round r =
     if have_plain_trips round then with_last_forms symbols line round r (last_forms (length symbols) round r) else None
-
-abbrev pub as_block : Option (List Statement) → Option Block
-as_block None = None
-as_block (Some cs) = Some (block cs)
-
-abbrev pub after_block : List (List ℕ) → ℕ → List NormalLoop → NormalLoop → Option Block
-after_block symbols line round r = as_block (after_statements symbols line round r)

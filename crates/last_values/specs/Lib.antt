@@ -1,5 +1,11 @@
 pub mod Endings
+pub mod Scalars
+pub mod View
 pub mod InPlace
+pub mod PartsInPlace
 pub mod Occurrences
+pub mod Arms
 pub mod Behind
+pub mod ValuesBehind
+pub mod Nested
 pub mod normal_forms

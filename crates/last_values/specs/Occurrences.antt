@@ -3,10 +3,9 @@ use Rattle.std.specs.Prelude.{ℕ, Option, Some, None, Bool, false, not, ◌||�
 use Rattle.std.specs.Str.{bytes_eq}
 use Rattle.meaning.specs.Reads.{names_in, names_in_subscripts}
 use Rattle.tree.specs.Plain.{Expression, Reference}
-use Rattle.nest.specs.Plain.{Loop, Guarded, Part, Run, Turns, Choice, Label, Jump, Parts, no_parts, part}
-use Rattle.nest.specs.Plain.{Branches, no_branches, branch}
-use Rattle.nest.specs.View.{Branch}
-use Rattle.nest.specs.statement_loops.Standings.{is_among}
+use Rattle.nest.specs.Plain.{Loop, Guarded, Part, Run, Turns, Choice, Label, Jump, Parts, no_parts, part, Branches}
+use Rattle.nest.specs.Plain.{no_branches, branch}
+use Rattle.nest.specs.statement_loops.Names.{is_among}
 
 module _ (v : List ℕ) where
   abbrev pub stands_in : Expression → Bool
@@ -44,10 +43,6 @@ module _ (v : List ℕ) where
     stands_outside_in_branches no_branches = false
     stands_outside_in_branches (branch test ps bs) =
         (stands_in test || stands_outside_in_each ps) || stands_outside_in_branches bs
-
-  -- an arm of a block IF
-  abbrev pub stands_outside_in_branch : Branch → Bool
-  stands_outside_in_branch b = stands_in b.test || stands_outside_in_each b.body
 
   -- v occurs only inside its loops
   abbrev pub occurs_only_within : Part → Bool

@@ -3,8 +3,9 @@ ghost use Rattle.std.specs.Prelude.{◌≡◌, ◌≤◌, All, length, map, IfOk
 ghost use Rattle.std.specs.List.{list_all};
 ghost use Rattle.tree.specs.View.{statement_of, block_of};
 ghost use Rattle.nest.specs.View.{part_of};
-ghost use Rattle.last_values.specs.Behind.{IsNested, ends_behind, may_end_behind, stands_behind, left_behind};
-ghost use Rattle.last_values.specs.Behind.{values_behind};
+ghost use Rattle.last_values.specs.Behind.{ends_behind, may_end_behind, stands_behind};
+ghost use Rattle.last_values.specs.ValuesBehind.{left_behind, values_behind};
+ghost use Rattle.last_values.specs.Nested.{IsNested};
 
 use crate::endings::after_statements;
 use crate::normal_forms::{NormalLoop, have_plain_trips, last_forms};

@@ -5,8 +5,10 @@ ghost use Rattle.tree.specs.Plain.{Binary};
 ghost use Rattle.tree.specs.declared.ops.Op.TheVariants.{And};
 ghost use Rattle.tree.specs.View.{expression_of, reference_of, statement_of, block_of};
 ghost use Rattle.last_values.specs.normal_forms.Texts.{at_least_one};
-ghost use Rattle.last_values.specs.Endings.{scalar, assigned, only_where, all_hold, where_all_hold, ending, texts_of};
-ghost use Rattle.last_values.specs.Endings.{ending_behind, after_statements, after_block};
+ghost use Rattle.last_values.specs.Endings.{assigned, only_where, all_hold, where_all_hold, ending};
+ghost use Rattle.last_values.specs.Scalars.{scalar};
+ghost use Rattle.last_values.specs.View.{texts_of, after_block};
+ghost use Rattle.last_values.specs.Endings.{ending_behind, after_statements};
 
 use crate::normal_forms::{
     LastForms, LastTexts, NormalLoop, at_least_one, have_plain_trips, is_known, is_positive,

@@ -3,8 +3,9 @@ ghost use Rattle.std.specs.Prelude.{◌≡◌, ◌++◌, ◌∷◌, [], map, IfO
 ghost use Rattle.tree.specs.View.{expression_of};
 ghost use Rattle.nest.specs.View.{part_of};
 ghost use Rattle.last_values.specs.normal_forms.Texts.{at_least_one};
-ghost use Rattle.last_values.specs.InPlace.{first_text, own_trip_text, end_text, assigned_part, only_where_part};
-ghost use Rattle.last_values.specs.InPlace.{end_part, parts_before, parts_behind};
+ghost use Rattle.last_values.specs.InPlace.{first_text, own_trip_text, end_text, assigned_part};
+ghost use Rattle.last_values.specs.PartsInPlace.{only_where_part, parts_before, parts_behind};
+ghost use Rattle.last_values.specs.InPlace.{end_part};
 
 use crate::endings::scalar;
 use crate::normal_forms::{
@@ -96,7 +97,7 @@ fn end_part(
 
 /// Adds what stands before a loop for its variable's last value in place. The loops round it stand from the outside
 /// in; the line is that of the statements.
-#[tactic(auto, unfolding(crate::specs::InPlace::parts_before))]
+#[tactic(auto, unfolding(crate::specs::PartsInPlace::parts_before))]
 pub fn add_parts_before(
     alloc: Global,
     symbols: &Seq<Name>,
@@ -134,7 +135,7 @@ fn end_if_entered(
 }
 
 /// Adds what stands behind a loop for its variable's last value in place.
-#[tactic(auto, unfolding(crate::specs::InPlace::parts_behind))]
+#[tactic(auto, unfolding(crate::specs::PartsInPlace::parts_behind))]
 pub fn add_parts_behind(
     alloc: Global,
     symbols: &Seq<Name>,

@@ -5,9 +5,10 @@ ghost use Rattle.std.specs.Option.{option_map};
 ghost use Rattle.meaning.specs.Reads.{names_in_subscript};
 ghost use Rattle.tree.specs.View.{expression_of, reference_of, subscript_of};
 ghost use Rattle.nest.specs.View.{branch_of, guarded_of, loop_of, part_of};
-ghost use Rattle.nest.specs.statement_loops.Standings.{is_among};
+ghost use Rattle.nest.specs.statement_loops.Names.{is_among};
 ghost use Rattle.last_values.specs.Occurrences.{stands_in_guard, stands_in_left, stands_in_statement, stands_in_bounds};
-ghost use Rattle.last_values.specs.Occurrences.{stands_outside, stands_outside_in_branch, occurs_only_within};
+ghost use Rattle.last_values.specs.Occurrences.{stands_outside, occurs_only_within};
+ghost use Rattle.last_values.specs.Arms.{stands_outside_in_branch};
 
 use nest::statement_loops::{stands_in, stands_in_sub};
 use nest::{GuardedStmt, Loop, NestArm, Part};

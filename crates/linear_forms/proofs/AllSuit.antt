@@ -2,8 +2,11 @@
 use Rattle.std.proofs.Common.{refl}
 use Rattle.tree.specs.Plain.{Expression, Number, Logic, Named, Unary, Binary, Apply, Constructor, Spread, Transpose, Reshape, Reduce, Expressions, no_expressions, expression, Subscripts, no_subscripts, subscript, Subscript, Only, Section, Loops, no_loops, loop, Reference}
 use Rattle.tree.specs.Plain.{Item, Single, Constant, ImpliedDo, Items, no_items, item, Statement, Assignment, Where, If, Do, Label, GoTo, Stop, Read, Print, Allocate, Deallocate, Arms, no_arms, arm, Block, no_statements, statement}
-use Rattle.rewrite.specs.Making.{Making, Suits, SuitsEach, SuitsSubscripts, SuitsSubscript, SuitsLoops, SuitsLeft, SuitsVariable, SuitsInput, SuitsInputs, SuitsOutput, SuitsOutputs, SuitsStatement, SuitsArms, SuitsBlock}
-use Rattle.linear_forms.specs.Canonical.{all_suit}
+use Rattle.rewrite.specs.Making.{Making}
+use Rattle.rewrite.specs.Suits.{Suits, SuitsEach, SuitsSubscripts, SuitsSubscript, SuitsLoops, SuitsLeft, SuitsVariable}
+use Rattle.rewrite.specs.Suits.{SuitsInput, SuitsInputs, SuitsOutput, SuitsOutputs, SuitsStatement, SuitsArms}
+use Rattle.rewrite.specs.Suits.{SuitsBlock}
+use Rattle.linear_forms.specs.CanonicalLaws.{all_suit}
 
 module _ (m : Making) where
   mutual

@@ -2,8 +2,11 @@
 use Rattle.std.proofs.Common.{◌≡◌, refl, ap, ℕ, ◌≤◌, List, ◌++◌, length}
 use mathlib.Core.Path.{ap₂}
 use Rattle.tree.specs.Plain.{Expression, Number, Logic, Named, Unary, Binary, Apply, Constructor, Spread, Transpose, Reshape, Reduce, Reference, Item, Single, Constant, ImpliedDo, Items, no_items, item, Statement, Assignment, Where, If, Do, Label, GoTo, Stop, Read, Print, Allocate, Deallocate, Arms, no_arms, arm, Block, no_statements, statement}
-use Rattle.rewrite.specs.Making.{Making, made, made_left, made_input, made_inputs, made_output, made_outputs, made_statement, made_arms, made_block}
-use Rattle.linear_forms.specs.Canonical.{canonising, AreDistinct, CanonicalBlockStays}
+use Rattle.rewrite.specs.Making.{Making, made, made_left}
+use Rattle.rewrite.specs.MadeBlocks.{made_input, made_inputs, made_output, made_outputs, made_statement, made_arms}
+use Rattle.rewrite.specs.MadeBlocks.{made_block}
+use Rattle.linear_forms.specs.Canonical.{canonising}
+use Rattle.linear_forms.specs.CanonicalLaws.{AreDistinct, CanonicalBlockStays}
 use Rattle.linear_forms.proofs.CanonicalStays.{twice, each_twice, subscripts_twice}
 
 module _ (loops symbols : List (List ℕ)) (few : length loops ≤ 7) (apart : AreDistinct (loops ++ symbols)) where

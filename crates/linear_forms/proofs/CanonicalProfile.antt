@@ -28,7 +28,9 @@ use Rattle.rewrite.specs.Names.{mentions}
 use Rattle.rewrite.specs.Profile.{TakesPlace}
 use Rattle.rewrite.proofs.ProfileBlocks.{made_block_makes}
 use Rattle.rewrite.proofs.ReplacedProfile.{in_parentheses, kind_of, no_rank}
-use Rattle.linear_forms.specs.Canonical.{text_or, canonical_text, canonical_node, canonising, all_suit, AreIntegerScalars, CanonisingKeepsProfile, CanonicalBlockKeepsProfile}
+use Rattle.linear_forms.specs.Canonical.{text_or, canonical_text, canonical_node, canonising}
+use Rattle.linear_forms.specs.CanonicalLaws.{all_suit, AreIntegerScalars, CanonisingKeepsProfile}
+use Rattle.linear_forms.specs.CanonicalLaws.{CanonicalBlockKeepsProfile}
 use Rattle.linear_forms.specs.Expressed.{term, plus_term, minus_term, with_term, with_terms, with_constant, expressed, variable, variables}
 use Rattle.linear_forms.specs.Linear.{Form, is_small, all_small, not_zero, is_limited, no_store, constant_of, unit, with_zero, with_no_constant, form_of_sign, form_of_pair, constant_or, linear}
 use Rattle.linear_forms.proofs.AllSuit.{suits_block}

@@ -20,11 +20,12 @@ use Rattle.rewrite.specs.Following.{sequential}
 use Rattle.rewrite.specs.Names.{mentions}
 use Rattle.rewrite.specs.Rule.{IsRule, HaveInCommon, Assigned, value_between}
 use Rattle.subscripts.specs.declared.affine.Affine.{Affine}
-use Rattle.linear_forms.specs.Canonical.{text_or, canonical_text, canonical_node, canonising, all_suit, SameSized}
+use Rattle.linear_forms.specs.Canonical.{text_or, canonical_text, canonical_node, canonising}
+use Rattle.linear_forms.specs.CanonicalLaws.{all_suit, SameSized}
 use Rattle.linear_forms.specs.Laws.{HoldsSized}
 use Rattle.linear_forms.specs.Linear.{Form, form_of, linear}
 use Rattle.linear_forms.specs.Expressed.{expressed, variables}
-use Rattle.linear_forms.specs.Places.{IsAffineOf, IsFound}
+use Rattle.linear_forms.specs.Affines.{IsAffineOf, IsFound}
 use Rattle.linear_forms.specs.Texts.{text_of}
 use Rattle.linear_forms.proofs.AffineTexts.{affine_has_text}
 use Rattle.linear_forms.proofs.Parts.{parted, joined}

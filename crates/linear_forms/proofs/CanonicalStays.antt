@@ -8,7 +8,8 @@ use Rattle.meaning.specs.Names.{is_among}
 use Rattle.rewrite.specs.Making.{made, made_expressions, made_subscripts, made_subscript, made_loops}
 use Rattle.rewrite.specs.Names.{mentions, uses_in, uses_in_expressions, uses_in_subscripts, uses_in_subscript, uses_in_loops}
 use Rattle.rewrite.specs.declared.uses.Use.{Use}
-use Rattle.linear_forms.specs.Canonical.{text_or, canonical_text, canonical_node, canonising, AreDistinct, CanonicalTextStays}
+use Rattle.linear_forms.specs.Canonical.{text_or, canonical_text, canonical_node, canonising}
+use Rattle.linear_forms.specs.CanonicalLaws.{AreDistinct, CanonicalTextStays}
 use Rattle.linear_forms.specs.Linear.{Form, form_of}
 use Rattle.linear_forms.specs.Expressed.{expressed, variables}
 use Rattle.linear_forms.proofs.CanonicalTwice.{whole_form, text_settled}

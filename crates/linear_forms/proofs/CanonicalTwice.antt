@@ -24,7 +24,8 @@ use Rattle.meaning.specs.Names.{is_among}
 use Rattle.meaning.specs.Value.{value_of}
 use Rattle.rewrite.specs.Making.{made}
 use Rattle.rewrite.specs.Names.{mentions}
-use Rattle.linear_forms.specs.Canonical.{text_or, canonical_text, canonical_node, canonising, AreDistinct}
+use Rattle.linear_forms.specs.Canonical.{text_or, canonical_text, canonical_node, canonising}
+use Rattle.linear_forms.specs.CanonicalLaws.{AreDistinct}
 use Rattle.linear_forms.specs.Linear.{Form, added, sum, multiple, constant_form, is_small, all_small, not_zero, is_limited, limited, no_store, known, as_constant, constant_of, unit, with_zero, with_no_constant, form_of, form_of_name, form_of_pair, form_of_sign, constant_or, linear}
 use Rattle.linear_forms.specs.Expressed.{term, plus_term, minus_term, with_term, with_terms, with_constant, expressed, variable, variables}
 use Rattle.linear_forms.proofs.AffineTexts.{places_alike}

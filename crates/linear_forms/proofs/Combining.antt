@@ -8,7 +8,8 @@ use mathlib.Core.Path.{ap₂}
 use Rattle.subscripts.specs.declared.affine.Affine.{Affine}
 use Rattle.linear_forms.specs.Linear.{Form, is_small, all_small, not_zero, added, sum, multiple, is_limited, limited}
 use Rattle.linear_forms.specs.Merging.{IsCombined, IsTooLarge, merged, all_pushed, front_used}
-use Rattle.linear_forms.specs.Places.{terms_from, IsAffineOf, IsFound}
+use Rattle.linear_forms.specs.Places.{terms_from}
+use Rattle.linear_forms.specs.Affines.{IsAffineOf, IsFound}
 use Rattle.linear_forms.specs.declared.terms.Terms.{Terms}
 use Rattle.linear_forms.proofs.Merges.{merged_terms, used_terms, Holds, Outcome, pushes}
 

@@ -8,7 +8,8 @@ use Rattle.std.proofs.lemmas.Bool.Decides.{Decides-int_eq, Decides-ltb}
 use Rattle.std.proofs.lemmas.Int.{ints}
 use Rattle.std.proofs.Math.IntN.{*ℤ-zero, +ℤ_idl}
 use Rattle.linear_forms.specs.Linear.{is_small, all_small, not_zero, added}
-use Rattle.linear_forms.specs.Merging.{merged, with_rest, pushed, then_pushed, all_pushed, is_unused, front_used}
+use Rattle.linear_forms.specs.Merging.{merged, with_rest, all_pushed, is_unused, front_used}
+use Rattle.linear_forms.specs.Pushing.{pushed, then_pushed}
 use Rattle.linear_forms.specs.Places.{terms_from}
 use Rattle.linear_forms.specs.declared.terms.Terms.{Terms}
 

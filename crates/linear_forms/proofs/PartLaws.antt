@@ -23,7 +23,8 @@ use Rattle.tree.specs.declared.exprs.Turn.{Turn}
 use Rattle.tree.proofs.Equations.{expression_of-int, expression_of-truth, expression_of-item, expression_of-un, expression_of-bin, expression_of-call, expression_of-list, expression_of-spread, expression_of-transpose, expression_of-reshape, expression_of-reduce}
 use Rattle.linear_forms.specs.declared.forms.Part.{Part}
 use Rattle.linear_forms.specs.Parts.{HasConstant, IsPartOf}
-use Rattle.linear_forms.specs.Places.{IsAffineOf, IsFound, padded, terms_from}
+use Rattle.linear_forms.specs.Places.{padded, terms_from}
+use Rattle.linear_forms.specs.Affines.{IsAffineOf, IsFound}
 use Rattle.linear_forms.proofs.ConstantLaws.{plain_named}
 use Rattle.linear_forms.proofs.LinearLaws.{limited-is}
 

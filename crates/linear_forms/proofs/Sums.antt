@@ -5,7 +5,7 @@ use Rattle.std.proofs.lemmas.Int.{unsigned_abs-mul}
 use Rattle.std.proofs.Common.{set, get_or-set_same, get_or-set_other, Some, None, inl, inr}
 use Rattle.std.proofs.lemmas.Bool.{cases_eq}
 use Rattle.linear_forms.specs.Linear.{is_small}
-use Rattle.linear_forms.specs.Merging.{small_or_none}
+use Rattle.linear_forms.specs.Pushing.{small_or_none}
 use Rattle.linear_forms.proofs.Sizes.{smaller}
 
 pub product_size : (k b : ℤ) → unsigned_abs k ≤ 2 ^ 63 → unsigned_abs b ≤ 2 ^ 63 → unsigned_abs (k *ℤ b) ≤ 2 ^ 126

@@ -4,7 +4,8 @@ use Rattle.std.proofs.Common.{Result, Ok, Err}
 use Rattle.std.specs.Prelude.{unsigned_abs, IfOk, slice_get}
 use Rattle.tree.specs.declared.exprs.Expr.{Expr}
 use Rattle.tree.specs.declared.lists.Memory.{Memory}
-use Rattle.linear_forms.specs.Texts.{text_so_far, with_place, with_symbols, places_behind}
+use Rattle.linear_forms.specs.Texts.{with_place, with_symbols, places_behind}
+use Rattle.linear_forms.specs.View.{text_so_far}
 use Rattle.std.proofs.lemmas.Int.{ints}
 use Rattle.std.proofs.Common.{map, length, ◌-◌}
 use Rattle.tree.specs.Plain.{Expression, Number, Unary, Binary, Named, Reference, subscripts}

@@ -11,7 +11,8 @@ use Rattle.tree.specs.declared.exprs.Sub.{Sub}
 use Rattle.tree.specs.declared.exprs.Ref.{Ref, out-Ref}
 use Rattle.tree.proofs.Equations.{reference_of-is}
 use Rattle.linear_forms.specs.Linear.{is_small, all_small, not_zero, is_limited, limited, unit, with_zero, with_no_constant, form_of_name}
-use Rattle.linear_forms.specs.Places.{terms_from, padded, unit_form, IsFound}
+use Rattle.linear_forms.specs.Places.{terms_from, padded, unit_form}
+use Rattle.linear_forms.specs.Affines.{IsFound}
 use Rattle.linear_forms.proofs.Combining.{found}
 
 zeros_at : (m k : ℕ) → get_or (replicate m (pos 0)) k (pos 0) ≡ pos 0

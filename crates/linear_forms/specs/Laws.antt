@@ -1,6 +1,5 @@
 -- Laws of linear forms.
-use Rattle.std.specs.Prelude.{◌≡◌, Ok, Some, ℕ, ◌≤◌, ◌^◌, ℤ, nat_abs, IsTrue}
-use Rattle.std.specs.Prelude.{List, [], ◌∷◌, ◌++◌, length}
+use Rattle.std.specs.Prelude.{◌≡◌, Ok, Some, ℕ, ◌≤◌, ◌^◌, ℤ, nat_abs, IsTrue, List, [], ◌∷◌, ◌++◌, length}
 use Rattle.tree.specs.Plain.{Expression}
 use Rattle.tree.specs.declared.ops.Value.{Value}
 use Rattle.tree.specs.declared.ops.Value.TheVariants.{Int}
@@ -10,7 +9,7 @@ use Rattle.meaning.specs.Value.{value_of}
 use Rattle.subscripts.specs.declared.affine.Affine.{Affine}
 use Rattle.linear_forms.specs.Linear.{Form, number_at, HaveValues, is_limited, form_of}
 use Rattle.linear_forms.specs.Expressed.{variables, expressed}
-use Rattle.linear_forms.specs.Places.{IsAffineOf}
+use Rattle.linear_forms.specs.Affines.{IsAffineOf}
 use Rattle.linear_forms.specs.Texts.{text_of}
 
 -- numbers of 64 bits, as INTEGER has at most

@@ -2,7 +2,11 @@ pub mod Linear
 pub mod Expressed
 pub mod Laws
 pub mod Places
+pub mod Affines
 pub mod Merging
+pub mod Pushing
 pub mod Parts
 pub mod Texts
+pub mod View
 pub mod Canonical
+pub mod CanonicalLaws

@@ -1,14 +1,11 @@
 -- How the terms of two lists are put together, the first list and a multiple of the second one.
-use Rattle.std.specs.Prelude.{◌≡◌, Option, Some, None, ℕ, ◌+◌, nat_lt, ℤ, pos, ◌+ℤ◌, ◌*ℤ◌, Bool, true, false, ◌&&◌}
-use Rattle.std.specs.Prelude.{if◌then◌else◌, List, [], ◌∷◌, map, take, slice_set, slice_index_or}
+use Rattle.std.specs.Prelude.{◌≡◌, Option, Some, ℕ, nat_lt, ℤ, pos, ◌+ℤ◌, ◌*ℤ◌, Bool, true, false, if◌then◌else◌, List}
+use Rattle.std.specs.Prelude.{[], ◌∷◌, map, take, slice_index_or}
 use Rattle.std.specs.List.{position_or_len}
 use Rattle.std.specs.Ordering.{int_eq}
 use Rattle.linear_forms.specs.Linear.{is_small}
 use Rattle.linear_forms.specs.declared.terms.Terms.{Terms}
-
--- a coefficient within the limit
-abbrev pub small_or_none : ℤ → Option ℤ
-small_or_none z = if is_small z then Some z else None
+use Rattle.linear_forms.specs.Pushing.{pushed, then_pushed}
 
 -- the coefficients of loops, place by place
 abbrev pub IsCombined : List ℤ → List ℤ → ℤ → List ℤ → Type 0
@@ -33,17 +30,6 @@ with_rest k t more (u ∷ us) =
 abbrev pub merged : ℤ → List (ℕ × ℤ) → List (ℕ × ℤ) → List (ℕ × ℤ)
 merged k [] us = map (λ u. (u.0, k *ℤ u.1)) us
 merged k (t ∷ ts) us = with_rest k t (merged k ts) us
-
--- one more term, behind the others; one with the coefficient 0 is left out
-abbrev pub pushed : ℕ → ℤ → Terms → Option Terms
-pushed p c t =
-    if int_eq c (pos 0) then Some t
-    else if is_small c && nat_lt t.used 8 then Some (record { at = slice_set t.at t.used (p, c); used = t.used + 1 })
-    else None
-
-abbrev pub then_pushed : Option Terms → (Terms → Option Terms) → Option Terms
-then_pushed None f = None
-then_pushed (Some t) f = f t
 
 abbrev pub all_pushed : List (ℕ × ℤ) → Terms → Option Terms
 all_pushed [] t = Some t

@@ -2,7 +2,7 @@
 use Rattle.std.specs.Prelude.{◌≡◌, Option, Some, ℕ, ℤ, List}
 use Rattle.tree.specs.Plain.{Expression}
 use Rattle.linear_forms.specs.Linear.{Form, constant_value, linear}
-use Rattle.linear_forms.specs.Places.{IsFound}
+use Rattle.linear_forms.specs.Affines.{IsFound}
 use Rattle.linear_forms.specs.declared.forms.Part.{Part}
 
 -- a constant has itself as its form

@@ -1,15 +1,8 @@
 -- The canonical text of an affine form, over the names of its loops and symbols, and divided trips.
 use Rattle.std.specs.Prelude.{ℕ, ℤ, Option, Some, None, List, [], ◌∷◌, ◌++◌, slice_get}
-use Rattle.std.specs.Option.{option_map}
 use Rattle.tree.specs.Plain.{Expression}
-use Rattle.tree.specs.View.{expression_of}
-use Rattle.tree.specs.declared.exprs.Expr.{Expr}
 use Rattle.subscripts.specs.declared.affine.Affine.{Affine}
 use Rattle.linear_forms.specs.Expressed.{with_term, with_terms, with_constant, variables}
-
--- what stands so far, if anything does
-abbrev pub text_so_far : Option Expr → Option Expression
-text_so_far o = option_map expression_of o
 
 -- one more term of what stands for a place of the list, if anything does
 abbrev pub with_place : Option Expression → ℤ → Option Expression → Option Expression

@@ -6,7 +6,8 @@ ghost use Rattle.tree.specs.View.{expression_of, reference_of};
 ghost use Rattle.linear_forms.specs.Linear.{Form, linear, form_of, limited, constant_or, as_constant, form_of_name};
 ghost use Rattle.linear_forms.specs.Linear.{constant_value, form_of_sign, form_of_pair, form_of_product};
 ghost use Rattle.linear_forms.specs.Parts.{HasConstant, IsPartOf};
-ghost use Rattle.linear_forms.specs.Places.{IsFound, IsAffineOf, unit_form};
+ghost use Rattle.linear_forms.specs.Places.{unit_form};
+ghost use Rattle.linear_forms.specs.Affines.{IsFound, IsAffineOf};
 ghost use Rattle.tree.specs.Plain.{Expression, Unary, Binary};
 
 use crate::constants::{constant_value, known};

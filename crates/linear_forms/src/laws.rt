@@ -1,6 +1,6 @@
 //! Laws of linear forms. A law is a function without a body: its contract is what holds.
-ghost use Rattle.linear_forms.specs.Canonical.{CanonicalTextStays, CanonicalBlockStays, CanonisingKeepsProfile};
-ghost use Rattle.linear_forms.specs.Canonical.{CanonicalBlockKeepsProfile};
+ghost use Rattle.linear_forms.specs.CanonicalLaws.{CanonicalTextStays, CanonicalBlockStays, CanonisingKeepsProfile};
+ghost use Rattle.linear_forms.specs.CanonicalLaws.{CanonicalBlockKeepsProfile};
 ghost use Rattle.linear_forms.specs.Laws.{LinearHasValue, TextHasValue, AffineHasText};
 ghost use Rattle.linear_forms.specs.Laws.{AffineTextHasValue, TextKeepsValue};
 

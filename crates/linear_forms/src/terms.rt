@@ -1,11 +1,12 @@
 //! Sums of affine forms and their multiples, within the limits.
-ghost use Rattle.std.specs.Prelude.{◌≡◌, ◌≤◌, ◌+ℤ◌, ◌*ℤ◌, ◌^◌, MatchOption, Some, ℕ, ℤ, List, []};
-ghost use Rattle.std.specs.Prelude.{unsigned_abs, length};
+ghost use Rattle.std.specs.Prelude.{◌≡◌, ◌≤◌, ◌+ℤ◌, ◌*ℤ◌, ◌^◌, MatchOption, Some, ℕ, ℤ, List, [], unsigned_abs, length};
 ghost use Rattle.std.specs.List.{position_or_len};
 ghost use Rattle.linear_forms.specs.Linear.{Form, limited, sum, multiple, constant_form};
-ghost use Rattle.linear_forms.specs.Merging.{small_or_none, IsCombined, IsTooLarge, merged, pushed, all_pushed};
+ghost use Rattle.linear_forms.specs.Merging.{IsCombined, IsTooLarge, merged, all_pushed};
+ghost use Rattle.linear_forms.specs.Pushing.{small_or_none, pushed};
 ghost use Rattle.linear_forms.specs.Merging.{front_used, is_unused};
-ghost use Rattle.linear_forms.specs.Places.{IsAffineOf, IsFound, padded, terms_from};
+ghost use Rattle.linear_forms.specs.Places.{padded, terms_from};
+ghost use Rattle.linear_forms.specs.Affines.{IsAffineOf, IsFound};
 
 use subscripts::Affine;
 

@@ -5,7 +5,8 @@ ghost use Rattle.tree.specs.declared.ops.Op.TheVariants.{Neg};
 ghost use Rattle.tree.specs.View.{expression_of};
 ghost use Rattle.linear_forms.specs.Expressed.{term, plus_term, minus_term, with_term, with_terms, with_constant};
 ghost use Rattle.linear_forms.specs.Expressed.{variable, variables};
-ghost use Rattle.linear_forms.specs.Texts.{text_so_far, with_place, with_symbols, places_behind, text_of};
+ghost use Rattle.linear_forms.specs.Texts.{with_place, with_symbols, places_behind, text_of};
+ghost use Rattle.linear_forms.specs.View.{text_so_far};
 
 use std::alloc::Global;
 use subscripts::Affine;

@@ -1,4 +1,4 @@
+pub mod AloneLaws
 pub mod Entries
 pub mod Plain
-pub mod StraightLaws
-pub mod Symbols
+pub mod Sources

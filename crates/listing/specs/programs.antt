@@ -1,2 +1,5 @@
+pub mod Alone
+pub mod Laws
 pub mod Listing
+pub mod Sources
 pub mod Testable

@@ -1,5 +1,15 @@
 //! The listing of a nest: its loops and statements, the dependences between them with the test behind each, and what
 //! keeps a statement in its loops.
+//!
+//! - Proved (`lines`): exactly the lines of the listing of a nest: the nest, its loops from the outside in, its
+//!   statements, edges and drops as one list in order, holds, cycles; a text of more than 120 characters in pieces.
+//!   `kept_lines`: the lines of a loop that is kept, with its reason. Want of memory is the only error.
+//!
+//! **The trip that is listed is the loop's last iteration.** The loops of a listed nest go from 1 by 1, so its text is
+//! the trip's.
+//!
+//! **Statements of a graph are numbered from 0, those of holds and of a listing from 1.** The printer of the listing
+//! adds one.
 mod dependences;
 mod listed;
 mod loops;

@@ -3,6 +3,7 @@ pub mod Notes
 pub mod Phrases
 pub mod Found
 pub mod Made
+pub mod Normal
 pub mod Arrays
 pub mod Entries
 pub mod Listed

@@ -1,3 +1,4 @@
 pub mod Laws
 pub mod Listable
+pub mod Lists
 pub mod Reader

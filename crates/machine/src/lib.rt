@@ -1,5 +1,17 @@
 //! What a machine that runs programs is made of: the values of names in one list, places of elements, the words of the
 //! input, texts of values, loop control, steps, and how far a run is.
+//!
+//! Proved: the opening store (`Storage::new`), the place of an element or Allocated or Bounds (`place`), one value read
+//! or stored (`value`, `put`), steps under a limit (`count_step`), the words of READ's input, the text of values and of
+//! the final store, each exactly as the definitions of runs have it, for both dialects.
+//!
+//! **The machine's store is one list of values, not a map.** The place of an element is found by its name and
+//! subscripts: a table of names (`indexmap`), which keeps the order of declarations, has each name's declaration and
+//! the place of its first value. So a change of a value takes no memory, the definition's store is one function of the
+//! list, and what is stated of a run is an equation of stores.
+//!
+//! **Laws on acts speak of what is seen of a machine.** Names, store and progress (`Seen`), not a machine's struct: so
+//! the machine of Fortran 90 can cite them as they stand.
 #![tactic(auto)]
 
 mod cells;

@@ -1,5 +1,5 @@
 -- What the statements on whole arrays and sections store (ISO/IEC 1539:1991, sections 6.3 and 7.5).
-use Rattle.std.specs.Prelude.{Result, Ok, Err, Option, Some, None, ℕ, ℤ, pos, Bool, true, false, if◌then◌else◌, List}
+use Rattle.std.specs.Prelude.{Result, Ok, Err, Option, Some, None, ℕ, ℤ, pos, if◌then◌else◌, List}
 use Rattle.std.specs.Prelude.{[], ◌∷◌, map}
 use Rattle.std.specs.List.{zip}
 use Rattle.tree.specs.Steps.{◌>>=◌}
@@ -12,7 +12,7 @@ use Rattle.meaning.specs.Store.{Store, Cell, bounds_of}
 use Rattle.meaning.specs.Dialect.{Dialect}
 use Rattle.meaning.specs.ArrayValues.{Elements, each, positions, conform}
 use Rattle.meaning.specs.Sections.{Axis, axes_selected, extents_of, cells_along}
-use Rattle.meaning.specs.Value.{value_of, values_of, array_of, selectors, is_in_range}
+use Rattle.meaning.specs.Value.{values_of, array_of, selectors, is_in_range}
 
 abbrev pub second : {A B : Type 0} → A × B → B
 second p = p.1

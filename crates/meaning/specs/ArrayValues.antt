@@ -1,17 +1,11 @@
 -- Arrays as values (ISO/IEC 1539:1991, sections 2.4.5, 7.1.5 and 13.13).
-use Rattle.std.specs.Prelude.{Result, Ok, Err, ℕ, zero, suc, ◌+◌, ◌*◌, ◌-◌, ℤ, pos, negsuc, ◌+ℤ◌, nat_le, Bool, true}
-use Rattle.std.specs.Prelude.{false, if◌then◌else◌, List, [], ◌∷◌, ◌++◌, map, length, take, drop, neg_ℤ, ◌^◌}
+use Rattle.std.specs.Prelude.{Result, Ok, Err, ℕ, zero, suc, ◌+◌, ◌*◌, ◌-◌, nat_le}
+use Rattle.std.specs.Prelude.{if◌then◌else◌, List, [], ◌∷◌, ◌++◌, map, length, take, drop}
 use Rattle.std.specs.Str.{bytes_eq}
-use Rattle.std.specs.List.{fold}
-use Rattle.std.specs.Int.{int_max, int_min}
 use Rattle.tree.specs.Steps.{◌>>=◌}
-use Rattle.tree.specs.Operators.{number, fits}
 use Rattle.tree.specs.declared.ops.Value.{Value}
-use Rattle.tree.specs.declared.ops.Value.TheVariants.{Int}
-use Rattle.tree.specs.declared.functions.Red.{Red}
-use Rattle.tree.specs.declared.functions.Red.TheVariants.{Sum, MaxVal, MinVal}
 use Rattle.tree.specs.declared.ops.Fault.{Fault}
-use Rattle.tree.specs.declared.ops.Fault.TheVariants.{Overflow, Shape}
+use Rattle.tree.specs.declared.ops.Fault.TheVariants.{Shape}
 use Rattle.meaning.specs.Store.{column_major}
 
 -- an array whose elements are known, in column-major order; a scalar has no extents and one element

@@ -12,6 +12,7 @@ pub mod Dialect
 pub mod Exchange
 pub mod Holding
 pub mod Jumps
+pub mod Keeping
 pub mod Names
 pub mod Numerals
 pub mod Profile77

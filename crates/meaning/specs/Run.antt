@@ -4,7 +4,7 @@ use Rattle.std.specs.Prelude.{Result, Ok, Err, Option, Some, None, ℕ, zero, su
 use Rattle.std.specs.Prelude.{false, List, [], ◌∷◌, ◌++◌}
 use Rattle.tree.specs.Operators.{as_number}
 use Rattle.tree.specs.Steps as results
-use Rattle.tree.specs.Plain.{Expression, Expressions, Logic, Named, Reference, Item, Single, Constant, ImpliedDo}
+use Rattle.tree.specs.Plain.{Expression, Logic, Named, Reference, Item, Single, Constant, ImpliedDo}
 use Rattle.tree.specs.Plain.{Items, no_items, item, Statement, Assignment, Where, If, Do, Label, GoTo, Stop, Read}
 use Rattle.tree.specs.Plain.{Print, Allocate, Deallocate, Arms, no_arms, arm, Block, no_statements, statement}
 use Rattle.tree.specs.Plain.{Program}

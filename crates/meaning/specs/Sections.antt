@@ -1,6 +1,6 @@
 -- What a reference to an array selects (ISO/IEC 1539:1991, section 6.2.2).
 use Rattle.std.specs.Prelude.{Result, Ok, Err, ℕ, zero, suc, ℤ, pos, negsuc, ◌+ℤ◌, ◌-ℤ◌, int_div, int_le, Bool, true}
-use Rattle.std.specs.Prelude.{false, ◌&&◌, if◌then◌else◌, List, [], ◌∷◌, ◌++◌, map, length}
+use Rattle.std.specs.Prelude.{◌&&◌, if◌then◌else◌, List, [], ◌∷◌, map, length}
 use Rattle.std.specs.Ordering.{int_eq}
 use Rattle.tree.specs.Steps.{◌>>=◌}
 use Rattle.tree.specs.Plain.{Subscripts, no_subscripts, subscript}

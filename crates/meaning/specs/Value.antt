@@ -1,7 +1,7 @@
 -- The value of an expression, and of the items of input and output lists (ANSI X3.9-1978, sections 5.4, 6 and 11.10; of
 -- arrays
 -- ISO/IEC 1539:1991, sections 4.5, 6.2 and 7.1).
-use Rattle.std.specs.Prelude.{Result, Ok, Err, Option, Some, None, ℕ, ℤ, pos, negsuc, ◌+ℤ◌, ◌-ℤ◌, int_div, nat_le, Bool}
+use Rattle.std.specs.Prelude.{Result, Ok, Err, Option, Some, ℕ, ℤ, pos, negsuc, ◌+ℤ◌, ◌-ℤ◌, int_div, nat_le, Bool}
 use Rattle.std.specs.Prelude.{true, false, ◌&&◌, not, if◌then◌else◌, List, [], ◌∷◌, ◌++◌, map, length}
 use Rattle.std.specs.Ordering.{int_eq}
 use Rattle.tree.specs.Steps.{◌>>=◌}

@@ -1,5 +1,16 @@
 //! What decks and programs mean: stores, values and runs, in FORTRAN 77 and in Fortran 90; which trees are programs of
 //! the two profiles.
+//!
+//! Proved (laws of values and runs, for the programs of both dialects): cells of names, numbers in texts, what the
+//! value of an expression and of an array expression depends on (`value_from_cells`), agreement of stores, ranges,
+//! exchange of assignments, ends of runs, cut runs, and programs that differ in their lines alone (`relined_run`).
+//!
+//! **Arrays are known, or still to be computed.** Operators are left to each position, so that an operation under a
+//! mask that is false there is never performed; what is evaluated in whole is a list. A name's elements are put in a
+//! list when it is evaluated, so two stores that agree on the cells read give equal arrays.
+//!
+//! **Kinds belong to agreement.** ALLOCATE takes the kind of its new elements from what the store holds there. So two
+//! stores agree only where what is no cell now has one kind in both.
 #![tactic(auto)]
 
 pub mod decks;

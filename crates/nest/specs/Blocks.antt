@@ -1,10 +1,11 @@
 -- The statements that a nest stands for. Loops, IFs and jumps keep no line of their own, and have the nest's.
-use Rattle.std.specs.Prelude.{ℕ, suc, ℤ, pos, negsuc, Option, Some, None, List, [], ◌∷◌}
-use Rattle.tree.specs.Plain.{Expression, Number, Unary, expressions, Statement, Assignment, If, Do, Label as Label'}
-use Rattle.tree.specs.Plain.{GoTo, Allocate, Deallocate, Arms, no_arms, arm, Block, no_statements, statement}
+use Rattle.std.specs.Prelude.{ℕ, suc, ℤ, pos, negsuc, Option, Some, None}
+use Rattle.tree.specs.Plain.{Expression, Number, Unary, Statement, Assignment, If, Do, Label as Label', GoTo, Arms}
+use Rattle.tree.specs.Plain.{no_arms, arm, Block, no_statements, statement}
 use Rattle.tree.specs.declared.ops.Op.TheVariants.{Neg}
-use Rattle.nest.specs.Plain.{Guarded, Part, Run, Turns, Choice, Label, Jump, Parts, no_parts, part}
-use Rattle.nest.specs.Plain.{Branches, no_branches, branch, Made, Nest}
+use Rattle.nest.specs.Plain.{Guarded, Part, Run, Turns, Choice, Label, Jump, Parts, no_parts, part, Branches}
+use Rattle.nest.specs.Plain.{no_branches, branch, Nest}
+use Rattle.nest.specs.Allocations.{allocations_then, block_then, deallocations}
 
 -- a number as an expression, whose literals aren't negative
 abbrev pub numeral : ℤ → Expression
@@ -39,28 +40,6 @@ module _ (line : ℕ) where
     pub arms_of_branches : Branches → Arms
     arms_of_branches no_branches = no_arms
     arms_of_branches (branch test ps bs) = arm test (block_of_parts ps) (arms_of_branches bs)
-
-  -- ALLOCATE and DEALLOCATE of a made array with these extents; a scalar has neither
-  abbrev pub allocation_then : List ℕ → List Expression → Block → Block
-  allocation_then x [] b = b
-  allocation_then x (e ∷ es) b = statement (Allocate line x (expressions (e ∷ es))) b
-
-  abbrev pub deallocation_then : List ℕ → List Expression → Block → Block
-  deallocation_then x [] b = b
-  deallocation_then x (e ∷ es) b = statement (Deallocate line x) b
-
-  -- one of each for each made array, in the order of making
-  abbrev pub allocations_then : List Made → Block → Block
-  allocations_then [] b = b
-  allocations_then (m ∷ ms) b = allocation_then m.name m.extents (allocations_then ms b)
-
-  abbrev pub deallocations : List Made → Block
-  deallocations [] = no_statements
-  deallocations (m ∷ ms) = deallocation_then m.name m.extents (deallocations ms)
-
-abbrev pub block_then : Block → Block → Block
-block_then no_statements b = b
-block_then (statement c cs) b = statement c (block_then cs b)
 
 -- the nest as it is run: its arrays are allocated, then its loops run, then what comes after, and the arrays are
 -- deallocated

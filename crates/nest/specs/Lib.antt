@@ -1,4 +1,5 @@
 pub mod Blocks
+pub mod Allocations
 pub mod Bodies
 pub mod Plain
 pub mod View

@@ -1,6 +1,7 @@
 pub mod Alike
 pub mod Alone
 pub mod Arrays
+pub mod Cells
 pub mod Counting
 pub mod Deciding
 pub mod Dialects

@@ -1,6 +1,7 @@
 pub mod Alone
 pub mod Arrays
 pub mod Blocks
+pub mod Cells
 pub mod Forms
 pub mod Guarded
 pub mod Laws

@@ -1,4 +1,11 @@
 //! Nests of loops and statements alone as shapes, whose runs and orders have laws.
+//!
+//! Proved (laws): a nest of `nest` without IF, label and jump, whose loops go from 1 by 1, is as a statement exactly
+//! what its shape stands for (`shape_of_nest`, `statement`), and the shape is that of a nest (`nest`), where no two
+//! loops have one number. Statements are numbered from 0 in text order, loops have the numbers of the nest.
+//!
+//! **Statements are numbered from 0 in a shape.** So a statement's number is its place in the list of the nest's
+//! statements.
 mod laws;
 
 pub use laws::shape_of_nest;

@@ -5,7 +5,8 @@ use Rattle.tree.specs.Plain.{Expression, Statement, Block, block}
 use Rattle.tree.specs.View.{statement_of, block_of, arms, Tested}
 use Rattle.tree.specs.declared.stmts.Block.{Block as Block', out-Block}
 use Rattle.tree.proofs.Equations.{statement_equations, block_of-is}
-use Rattle.nest_reasons.specs.Loops.{any_loop, any_in_arm, any_in_arms, any_in_block}
+use Rattle.nest_reasons.specs.Walks.{any_loop, any_in_arms, any_in_block}
+use Rattle.nest_reasons.specs.Arms.{any_in_arm}
 
 module _ (test : List (List ℕ) → Expression → Expression → Expression → Block → Bool) (around : List (List ℕ)) where
   pub each_arm : (ts : List Tested) → any_in_arms test around (arms ts) ≡ list_any (any_in_arm test around) ts

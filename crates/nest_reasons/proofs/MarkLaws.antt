@@ -6,7 +6,8 @@ use Rattle.tree.specs.Plain.{Statement, block}
 use Rattle.tree.specs.View.{statement_of, block_of, arms, Tested}
 use Rattle.tree.specs.declared.stmts.Block.{Block, out-Block}
 use Rattle.tree.proofs.Equations.{statement_equations, block_of-is}
-use Rattle.nest_reasons.specs.Marks.{own_marks, marks_in_arm, marks_in_arms, marks_in_block}
+use Rattle.nest_reasons.specs.Marks.{own_marks, marks_in_arms, marks_in_block}
+use Rattle.nest_reasons.specs.Arms.{marks_in_arm}
 
 pub each_arm : (ts : List Tested) → marks_in_arms (arms ts) ≡ flat_map marks_in_arm ts
 each_arm [] = refl

@@ -6,7 +6,8 @@ use Rattle.tree.specs.Plain.{Statement, block}
 use Rattle.tree.specs.View.{statement_of, block_of, arms, Tested}
 use Rattle.tree.specs.declared.stmts.Block.{Block, out-Block}
 use Rattle.tree.proofs.Equations.{statement_equations, block_of-is}
-use Rattle.nest_reasons.specs.Sizes.{pieces_in, pieces_in_arm, pieces_in_arms, pieces_in_block}
+use Rattle.nest_reasons.specs.Sizes.{pieces_in, pieces_in_arms, pieces_in_block}
+use Rattle.nest_reasons.specs.Arms.{pieces_in_arm}
 
 pub each_arm : (ts : List Tested) → pieces_in_arms (arms ts) ≡ flat_map pieces_in_arm ts
 each_arm [] = refl

@@ -2,6 +2,8 @@ pub mod Flaws
 pub mod Increments
 pub mod Labels
 pub mod Loops
+pub mod Walks
+pub mod Arms
 pub mod Marks
 pub mod Sizes
 pub mod Standing

@@ -1,8 +1,7 @@
 -- What stands in a loop's own body: in its IFs too, but not in the loops in it.
 use Rattle.std.specs.Prelude.{Bool, true, List, [], ◌∷◌, ◌++◌}
-use Rattle.tree.specs.Plain.{Statement, Assignment, Where, If, Do, Label, GoTo, Stop, Read, Print, Allocate}
-use Rattle.tree.specs.Plain.{Deallocate, Arms, no_arms, arm, Block, no_statements, statement}
-use Rattle.tree.specs.View.{Tested}
+use Rattle.tree.specs.Plain.{Statement, Assignment, Where, If, Do, Label, GoTo, Stop, Read, Print, Allocate, Deallocate}
+use Rattle.tree.specs.Plain.{Arms, no_arms, arm, Block, no_statements, statement}
 use Rattle.nest_reasons.specs.declared.marks.Mark.{Mark}
 use Rattle.nest_reasons.specs.declared.marks.Mark.TheVariants.{Halts, Jumps, Arrives, Turns}
 
@@ -28,6 +27,3 @@ abbrev mutual
   pub marks_in_block : Bool → Block → List Mark
   marks_in_block b no_statements = []
   marks_in_block b (statement c cs) = own_marks b c ++ marks_in_block b cs
-
-abbrev pub marks_in_arm : Tested → List Mark
-marks_in_arm t = marks_in_block true t.body

@@ -3,9 +3,8 @@ use Rattle.std.specs.Prelude.{ℕ, nat_lt, Bool, true, false, not, ◌||◌, Lis
 use Rattle.std.specs.List.{filter, list_any}
 use Rattle.std.specs.Str.{bytes_eq}
 use Rattle.tree.specs.Limits.{nest_statements, nest_references}
-use Rattle.tree.specs.Plain.{Statement, Assignment, Where, If, Do, Label, GoTo, Stop, Read, Print, Allocate}
-use Rattle.tree.specs.Plain.{Deallocate, Arms, no_arms, arm, Block, no_statements, statement}
-use Rattle.tree.specs.View.{Tested}
+use Rattle.tree.specs.Plain.{Statement, Assignment, Where, If, Do, Label, GoTo, Stop, Read, Print, Allocate, Deallocate}
+use Rattle.tree.specs.Plain.{Arms, no_arms, arm, Block, no_statements, statement}
 use Rattle.meaning.specs.Reads.{names_in, names_in_subscripts}
 use Rattle.nest_reasons.specs.declared.sizes.Piece.{Piece}
 use Rattle.nest_reasons.specs.declared.sizes.Piece.TheVariants.{Occurs, Assigns, Turns}
@@ -39,9 +38,6 @@ abbrev mutual
   pub pieces_in_block : Block → List Piece
   pieces_in_block no_statements = []
   pieces_in_block (statement c cs) = pieces_in c ++ pieces_in_block cs
-
-abbrev pub pieces_in_arm : Tested → List Piece
-pieces_in_arm t = occurrences (names_in t.test) ++ pieces_in_block t.body
 
 abbrev pub is_assignment : Piece → Bool
 is_assignment (Occurs x) = false

@@ -2,7 +2,9 @@
 ghost use Rattle.std.specs.Prelude.{◌≡◌, ◌≤◌, ◌^◌, ◌++◌, ◌∷◌, [], length, map, not, ◌&&◌, IfOk};
 ghost use Rattle.std.specs.List.{list_any};
 ghost use Rattle.tree.specs.View.{expression_of, statement_of, tested_of, block_of};
-ghost use Rattle.nest_reasons.specs.Loops.{is_linear, has_flaw, any_loop, any_in_arm, any_in_block};
+ghost use Rattle.nest_reasons.specs.Loops.{is_linear, has_flaw};
+ghost use Rattle.nest_reasons.specs.Walks.{any_loop, any_in_block};
+ghost use Rattle.nest_reasons.specs.Arms.{any_in_arm};
 
 use crate::flaws::{Flaw, loop_in_if};
 use crate::increments::step_of;

@@ -2,7 +2,8 @@
 ghost use Rattle.std.specs.Prelude.{◌≡◌, ◌++◌, ◌∷◌, [], map, true, false, OnOk, IfOk};
 ghost use Rattle.std.specs.List.{flat_map};
 ghost use Rattle.tree.specs.View.{statement_of, tested_of, block_of};
-ghost use Rattle.nest_reasons.specs.Marks.{own_marks, marks_in_arm, marks_in_block};
+ghost use Rattle.nest_reasons.specs.Marks.{own_marks, marks_in_block};
+ghost use Rattle.nest_reasons.specs.Arms.{marks_in_arm};
 
 use std::alloc::Global;
 use tree::{Arm, Block, Memory, Seq, Stmt};

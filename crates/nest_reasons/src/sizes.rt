@@ -3,7 +3,8 @@ ghost use Rattle.std.specs.Prelude.{◌≡◌, ◌++◌, ◌∷◌, [], length, 
 ghost use Rattle.std.specs.List.{flat_map, filter, list_any};
 ghost use Rattle.tree.specs.View.{expression_of, reference_of, statement_of, tested_of, block_of};
 ghost use Rattle.meaning.specs.Reads.{names_in, names_in_subscripts};
-ghost use Rattle.nest_reasons.specs.Sizes.{occurrences, pieces_in, pieces_in_arm, pieces_in_block, is_assignment};
+ghost use Rattle.nest_reasons.specs.Sizes.{occurrences, pieces_in, pieces_in_block, is_assignment};
+ghost use Rattle.nest_reasons.specs.Arms.{pieces_in_arm};
 ghost use Rattle.nest_reasons.specs.Sizes.{turns_with, is_loop, is_counted, is_over, is_large};
 
 use rewrite::{names_in_expr, names_in_ref};

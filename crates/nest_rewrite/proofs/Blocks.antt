@@ -2,11 +2,17 @@
 use Rattle.std.proofs.Common.{◌≡◌, refl, sym, ap, ◌∙◌, ℕ, ℤ, Option, Some, None, List, [], ◌∷◌, map}
 use Rattle.std.specs.Option.{option_map}
 use Rattle.tree.specs.Plain.{Expression, expression, expressions, Statement, If, Do, Allocate, Deallocate, Block, no_statements, statement, arm, no_arms, Arms}
-use Rattle.rewrite.specs.Making.{Making, made, made_left, made_expressions, made_statement, made_arms, made_block}
+use Rattle.rewrite.specs.Making.{Making, made, made_left, made_expressions}
+use Rattle.rewrite.specs.MadeBlocks.{made_statement, made_arms, made_block}
 use Rattle.rewrite.proofs.Equations.{made_each}
-use Rattle.nest.specs.Blocks.{numeral, assignment_of, under_guard, guarded_statement, statement_of_part, block_of_parts, arms_of_branches, allocation_then, deallocation_then, allocations_then, deallocations, block_then, block_of_nest}
+use Rattle.nest.specs.Blocks.{numeral, assignment_of, under_guard, guarded_statement, statement_of_part, block_of_parts}
+use Rattle.nest.specs.Blocks.{arms_of_branches, block_of_nest}
+use Rattle.nest.specs.Allocations.{allocation_then, deallocation_then, allocations_then, deallocations, block_then}
 use Rattle.nest.specs.Plain.{Loop, Guarded, Part, Run, Turns, Choice, Label, Jump, Parts, no_parts, part, Branches, no_branches, branch, Made, Nest}
-use Rattle.nest_rewrite.specs.Rewritten.{rewritten_loop, rewritten_statement, rewritten, rewritten_parts, rewritten_branches, rewritten_array, rewritten_nest, KeepsIncrements, KeepsIncrementsOfEach, KeepsIncrementsOfBranches}
+use Rattle.nest_rewrite.specs.Rewritten.{rewritten_loop, rewritten, rewritten_parts, rewritten_branches}
+use Rattle.nest_rewrite.specs.Rewritten.{rewritten_array, rewritten_nest, KeepsIncrements, KeepsIncrementsOfEach}
+use Rattle.nest_rewrite.specs.Rewritten.{KeepsIncrementsOfBranches}
+use Rattle.nest_rewrite.specs.Statements.{rewritten_statement}
 
 module _ (m : Making) where
   guard_made : (line : ℕ) (g : Option Expression) (c : Statement) → under_guard line (option_map (made m) g) (made_statement m c) ≡ made_statement m (under_guard line g c)

@@ -2,7 +2,8 @@
 use Rattle.std.proofs.Common.{◌≡◌, refl, ap, ◌∙◌, List, map, Result, Ok, Err, IfOk}
 use Rattle.tree.specs.Plain.{Block}
 use Rattle.tree.specs.declared.lists.Memory.{Memory}
-use Rattle.rewrite.specs.Making.{Making, made_block}
+use Rattle.rewrite.specs.Making.{Making}
+use Rattle.rewrite.specs.MadeBlocks.{made_block}
 use Rattle.nest.specs.Plain.{Nest, Part, Made}
 use Rattle.nest.specs.View.{nest_of}
 use Rattle.nest.specs.declared.nests.Nest.{Nest as Tree}

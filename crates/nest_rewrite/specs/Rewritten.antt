@@ -1,25 +1,21 @@
 -- What a rule makes of a nest: of each expression and each left side in it, with loops, labels and jumps as they are.
-use Rattle.std.specs.Prelude.{◌≡◌, ℕ, List, map}
-use Rattle.std.specs.Option.{option_map}
-use Rattle.tree.specs.Plain.{Declaration, Program}
-use Rattle.rewrite.specs.Making.{Making, made, made_left, made_block}
-use Rattle.nest.specs.Blocks.{numeral, block_of_nest}
-use Rattle.nest.specs.Plain.{Loop, Guarded, Part, Run, Turns, Choice, Label, Jump, Parts, no_parts, part}
-use Rattle.nest.specs.Plain.{Branches, no_branches, branch, Made, Nest}
+use Rattle.std.specs.Prelude.{◌≡◌, map}
+use Rattle.rewrite.specs.Making.{Making, made}
+use Rattle.rewrite.specs.MadeBlocks.{made_block}
+use Rattle.nest.specs.Blocks.{numeral}
+use Rattle.nest.specs.Plain.{Loop, Part, Run, Turns, Choice, Label, Jump, Parts, no_parts, part, Branches, no_branches}
+use Rattle.nest.specs.Plain.{branch, Made, Nest}
 use Rattle.nest.specs.View.{Branch}
+use Rattle.nest_rewrite.specs.Statements.{rewritten_statement}
 
 module _ (m : Making) where
   -- a loop keeps its variable, its increment and its trip
   abbrev pub rewritten_loop : Loop → Loop
   rewritten_loop l = record l { first = made m l.first; last = made m l.last }
 
-  abbrev pub rewritten_statement : Guarded → Guarded
-  rewritten_statement s =
-      record s { guard = option_map (made m) s.guard; left = made_left m s.left; right = made m s.right }
-
   abbrev mutual
     pub rewritten : Part → Part
-    rewritten (Run s) = Run (rewritten_statement s)
+    rewritten (Run s) = Run (rewritten_statement m s)
     rewritten (Turns l ps) = Turns (rewritten_loop l) (rewritten_parts ps)
     rewritten (Choice bs ps) = Choice (rewritten_branches bs) (rewritten_parts ps)
     rewritten (Label n) = Label n

@@ -1,7 +1,7 @@
 //! Nests.
 ghost use Rattle.std.specs.Prelude.{◌≡◌, ℕ, ℤ, List, IfOk, map};
 ghost use Rattle.rewrite.specs.Following.{RunFollows, sequential};
-ghost use Rattle.rewrite.specs.Making.{SuitsBlock};
+ghost use Rattle.rewrite.specs.Suits.{SuitsBlock};
 ghost use Rattle.rewrite.specs.Profile.{MakesProfile};
 ghost use Rattle.nest.specs.Blocks.{block_of_nest};
 ghost use Rattle.tree.specs.View.{block_of};

@@ -4,7 +4,8 @@ ghost use Rattle.tree.specs.View.{expression_of};
 ghost use Rattle.rewrite.specs.Making.{made};
 ghost use Rattle.nest.specs.Plain.{parts as plain_parts};
 ghost use Rattle.nest.specs.View.{loop_of, guarded_of, part_of, branch_of, branches as plain_branches};
-ghost use Rattle.nest_rewrite.specs.Rewritten.{rewritten_loop, rewritten_statement, rewritten, rewritten_parts};
+ghost use Rattle.nest_rewrite.specs.Rewritten.{rewritten_loop, rewritten, rewritten_parts};
+ghost use Rattle.nest_rewrite.specs.Statements.{rewritten_statement};
 ghost use Rattle.nest_rewrite.specs.Rewritten.{rewritten_branch, rewritten_branches};
 
 use crate::expressions::{rewrite_guard, rewrite_left};

@@ -6,7 +6,7 @@ use Rattle.tree.specs.View.{block_of, statement_of}
 use Rattle.tree.specs.declared.stmts.Block.{Block, out-Block, roll-Block}
 use Rattle.tree.specs.declared.stmts.Stmt.{Stmt}
 use Rattle.tree.proofs.Equations.{block_of-is, block_of-made}
-use Rattle.nest.specs.Blocks.{block_then}
+use Rattle.nest.specs.Allocations.{block_then}
 
 one_behind : (cs ds : List P.Statement) → block_then (P.block cs) (P.block ds) ≡ P.block (cs ++ ds)
 one_behind [] ds = refl

@@ -15,7 +15,8 @@ use Rattle.last_values.specs.normal_forms.NormalLoops.{normal_loop}
 use Rattle.last_values.specs.declared.normal_forms.loops.NormalLoop.{NormalLoop}
 use Rattle.last_values.specs.declared.behind.NestedLoop.{NestedLoop}
 use Rattle.normal_loops.specs.Loops.{with_loop}
-use Rattle.normal_loops.specs.Bodies.{normal_turns, normal_part, normal_parts, normal_branches, normal_branch}
+use Rattle.normal_loops.specs.Bodies.{normal_turns, normal_part, normal_parts, normal_branches}
+use Rattle.normal_loops.specs.Arms.{normal_branch}
 use Rattle.normal_loops.specs.Values.{normal_statement}
 
 module _ (n : P.Nest) (ls : List NestedLoop) where

@@ -8,12 +8,16 @@ use Rattle.nest.specs.Plain.{Loop, Nest, Part, Run, Turns, Choice, Label, Jump, 
 use Rattle.last_values.specs.normal_forms.NormalLoops.{normal_loop, is_positive, is_known}
 use Rattle.last_values.specs.normal_forms.Texts.{at_least_one}
 use Rattle.last_values.specs.declared.normal_forms.loops.NormalLoop.{NormalLoop}
-use Rattle.last_values.specs.Behind.{stands_behind, values_behind}
-use Rattle.last_values.specs.InPlace.{parts_before, parts_behind, assigned_part, only_where_part, first_text, own_trip_text, end_part}
+use Rattle.last_values.specs.Behind.{stands_behind}
+use Rattle.last_values.specs.ValuesBehind.{values_behind}
+use Rattle.last_values.specs.InPlace.{assigned_part, first_text, own_trip_text, end_part}
+use Rattle.last_values.specs.PartsInPlace.{parts_before, parts_behind, only_where_part}
 use Rattle.last_values.specs.declared.behind.NestedLoop.{NestedLoop}
-use Rattle.normal_loops.specs.Bodies.{counting, placed, normal_turns, normal_part, normal_parts, normal_branches}
+use Rattle.normal_loops.specs.Bodies.{placed, normal_turns, normal_part, normal_parts, normal_branches}
+use Rattle.normal_loops.specs.Counting.{counting}
 use Rattle.normal_loops.specs.Laws.{CountsByOne, NormalisedCountsByOne}
-use Rattle.normal_loops.specs.Loops.{with_loop, is_normal, are_normal, are_normal_branches, nested_loops}
+use Rattle.normal_loops.specs.Loops.{with_loop, nested_loops}
+use Rattle.normal_loops.specs.Normal.{is_normal, are_normal, are_normal_branches}
 use Rattle.normal_loops.specs.Normalised.{only_one, with_body, with_loops, normalised}
 
 left : (a b : Bool) → (a && b) ≡ true → a ≡ true

@@ -14,9 +14,12 @@ use Rattle.nest.specs.declared.parts.Part.TheVariants as variants
 use Rattle.nest.proofs.Equations.{part_of-run, part_of-turns, part_of-choice, part_of-label, part_of-jump, branch_of-is}
 use Rattle.last_values.specs.normal_forms.NormalLoops.{normal_loop}
 use Rattle.last_values.specs.declared.normal_forms.loops.NormalLoop.{NormalLoop}
-use Rattle.last_values.specs.Behind.{IsNested}
+use Rattle.last_values.specs.Nested.{IsNested}
 use Rattle.last_values.specs.declared.behind.NestedLoop.{NestedLoop}
-use Rattle.normal_loops.specs.Loops.{with_loop, nested, is_normal, are_normal, are_normal_branches, is_normal_branch, nested_loops, nested_in_parts, nested_in_branches, nested_in_branch}
+use Rattle.normal_loops.specs.Loops.{with_loop, nested, nested_loops}
+use Rattle.normal_loops.specs.Normal.{is_normal, are_normal, are_normal_branches}
+use Rattle.normal_loops.specs.Loops.{nested_in_parts, nested_in_branches}
+use Rattle.normal_loops.specs.Arms.{is_normal_branch, nested_in_branch}
 
 module _ (symbols : List (List ℕ)) (round : List NormalLoop) where
   -- ---- forms from 1 by 1

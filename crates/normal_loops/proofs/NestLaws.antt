@@ -2,7 +2,7 @@
 use Rattle.std.proofs.Common.{◌≡◌, ◌<◌, ◌≤◌, Option, Some, None, Result, Ok, Err, IfOk, List, [], ◌∷◌, ◌++◌, ◌+◌, map, length, refl, ap, ◌∙◌, arith, sym, length-append}
 use Rattle.tree.specs.Plain as F
 use Rattle.tree.specs.declared.lists.Memory.{Memory}
-use Rattle.nest.specs.Blocks.{block_then}
+use Rattle.nest.specs.Allocations.{block_then}
 use Rattle.nest.specs.Plain as P
 use Rattle.nest.specs.View.{nest_of, part_of}
 use Rattle.nest.specs.declared.nests.Nest.{Nest}

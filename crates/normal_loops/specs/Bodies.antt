@@ -1,28 +1,16 @@
 -- The parts of a nest with loops from 1 by 1.
-use Rattle.std.specs.Prelude.{ℕ, pos, Option, Some, None, if◌then◌else◌, List, [], ◌∷◌, ◌++◌, length}
-use Rattle.tree.specs.Plain.{Number}
-use Rattle.nest.specs.Plain.{Loop, Part, Run, Turns, Choice, Label, Jump, Parts, no_parts, part, parts}
-use Rattle.nest.specs.Plain.{Branches, no_branches, branch, Nest}
-use Rattle.nest.specs.View.{Branch}
-use Rattle.last_values.specs.normal_forms.NormalLoops.{counters_of, normal_loop}
-use Rattle.last_values.specs.normal_forms.Texts.{trip_text}
+use Rattle.std.specs.Prelude.{Option, Some, None, if◌then◌else◌, List, [], ◌∷◌, ◌++◌, length}
+use Rattle.nest.specs.Plain.{Loop, Part, Run, Turns, Choice, Label, Jump, Parts, no_parts, part, parts, Branches}
+use Rattle.nest.specs.Plain.{no_branches, branch, Nest}
+use Rattle.last_values.specs.normal_forms.NormalLoops.{normal_loop}
 use Rattle.last_values.specs.declared.normal_forms.loops.NormalLoop.{NormalLoop}
 use Rattle.last_values.specs.Behind.{stands_behind}
-use Rattle.last_values.specs.InPlace.{parts_before, parts_behind}
+use Rattle.last_values.specs.PartsInPlace.{parts_before, parts_behind}
 use Rattle.last_values.specs.declared.behind.NestedLoop.{NestedLoop}
 use Rattle.normal_loops.specs.Loops.{with_loop}
-use Rattle.normal_loops.specs.Values.{normal_statement, normal_test}
-
--- the loop l of the source as r, which counts from 1 to its trip by 1
-unfoldable pub counting : List (List ℕ) → List NormalLoop → Loop → NormalLoop → Loop
-counting symbols round l r = record {
-  number = l.number;
-  variable = r.counter;
-  first = Number (pos 1);
-  last = trip_text (counters_of round) symbols [] r.trip;
-  step = pos 1;
-  trip = Some r.trip;
-}
+use Rattle.normal_loops.specs.Values.{normal_statement}
+use Rattle.normal_loops.specs.Tests.{normal_test}
+use Rattle.normal_loops.specs.Counting.{counting}
 
 -- of the nest n with these loops
 module _ (n : Nest) (ls : List NestedLoop) where
@@ -56,8 +44,3 @@ module _ (n : Nest) (ls : List NestedLoop) where
     normal_branches round no_branches = no_branches
     normal_branches round (branch test ps bs) =
         branch (normal_test n.symbols round test) (parts (normal_parts round ps)) (normal_branches round bs)
-
-  -- an arm of a block IF
-  abbrev pub normal_branch : List NormalLoop → Branch → Branch
-  normal_branch round b =
-      record { test = normal_test n.symbols round b.test; body = parts (normal_parts round b.body) }

@@ -1,5 +1,10 @@
 pub mod Values
+pub mod Tests
 pub mod Loops
+pub mod Normal
+pub mod Arms
 pub mod Bodies
+pub mod Counting
 pub mod Normalised
 pub mod Laws
+pub mod Listed

@@ -3,12 +3,13 @@
 use Rattle.std.specs.Prelude.{Option, Some, None, if◌then◌else◌, List, [], ◌∷◌}
 use Rattle.std.specs.Option.{option_map}
 use Rattle.tree.specs.Plain.{Block}
-use Rattle.nest.specs.Blocks.{block_then}
+use Rattle.nest.specs.Allocations.{block_then}
 use Rattle.nest.specs.Plain.{Part, Nest}
-use Rattle.last_values.specs.Behind.{values_behind}
+use Rattle.last_values.specs.ValuesBehind.{values_behind}
 use Rattle.last_values.specs.declared.behind.NestedLoop.{NestedLoop}
 use Rattle.normal_loops.specs.Bodies.{normal_part}
-use Rattle.normal_loops.specs.Loops.{is_normal, nested_loops}
+use Rattle.normal_loops.specs.Loops.{nested_loops}
+use Rattle.normal_loops.specs.Normal.{is_normal}
 
 -- another body, and more behind what comes after the nest
 unfoldable pub with_body : Nest → Block → Part → Nest

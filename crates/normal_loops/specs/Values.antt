@@ -1,12 +1,10 @@
--- Statements and conditions in loops from 1 by 1: in them the variables of the loops have become linear forms of the
--- counters.
+-- Statements in loops from 1 by 1: in them the variables of the loops have become linear forms of the counters.
 use Rattle.std.specs.Prelude.{ℕ, List, [], ◌∷◌, ◌++◌}
-use Rattle.tree.specs.Plain.{Expression}
-use Rattle.rewrite.specs.Making.{Making, made}
+use Rattle.rewrite.specs.Making.{Making}
 use Rattle.rewrite.specs.Substituting.{substituting}
 use Rattle.linear_forms.specs.Canonical.{canonising}
 use Rattle.nest.specs.Plain.{Guarded}
-use Rattle.nest_rewrite.specs.Rewritten.{rewritten_statement}
+use Rattle.nest_rewrite.specs.Statements.{rewritten_statement}
 use Rattle.last_values.specs.normal_forms.NormalLoops.{counters_of}
 use Rattle.last_values.specs.normal_forms.Texts.{value_text}
 use Rattle.last_values.specs.declared.normal_forms.loops.NormalLoop.{NormalLoop}
@@ -26,14 +24,6 @@ module _ (symbols : List (List ℕ)) where
   statement_with_values outer (r ∷ rs) s =
       statement_with_values (outer ++ r ∷ []) rs (rewritten_statement (with_value outer r) s)
 
-  abbrev pub test_with_values : List NormalLoop → List NormalLoop → Expression → Expression
-  test_with_values outer [] e = e
-  test_with_values outer (r ∷ rs) e = test_with_values (outer ++ r ∷ []) rs (made (with_value outer r) e)
-
   -- a statement in these loops
   unfoldable pub normal_statement : List NormalLoop → Guarded → Guarded
   normal_statement round s = rewritten_statement (in_text round) (statement_with_values [] round s)
-
-  -- a condition of an IF in these loops
-  unfoldable pub normal_test : List NormalLoop → Expression → Expression
-  normal_test round e = made (in_text round) (test_with_values [] round e)

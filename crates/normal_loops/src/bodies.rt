@@ -2,8 +2,11 @@
 ghost use Rattle.std.specs.Prelude.{◌≡◌, ◌≤◌, ◌++◌, ◌∷◌, [], All, length, map, IfOk, OnOk};
 ghost use Rattle.std.specs.List.{flat_map};
 ghost use Rattle.nest.specs.View.{branch_of, loop_of, nest_of, part_of};
-ghost use Rattle.last_values.specs.Behind.{IsNested, stands_behind};
-ghost use Rattle.normal_loops.specs.Bodies.{counting, normal_branch, normal_part, normal_turns, placed};
+ghost use Rattle.last_values.specs.Behind.{stands_behind};
+ghost use Rattle.last_values.specs.Nested.{IsNested};
+ghost use Rattle.normal_loops.specs.Bodies.{normal_part, normal_turns, placed};
+ghost use Rattle.normal_loops.specs.Counting.{counting};
+ghost use Rattle.normal_loops.specs.Arms.{normal_branch};
 
 use crate::loops::with_loop;
 use crate::values::{normal_stmt, normal_test};
@@ -14,7 +17,7 @@ use std::alloc::Global;
 use tree::{Expr, Memory, Name, Seq};
 
 // The loop, which counts from 1 to its trip by 1.
-#[tactic(auto, using(tree::proofs::Equations::expression_equations), unfolding(crate::specs::Bodies::counting))]
+#[tactic(auto, using(tree::proofs::Equations::expression_equations), unfolding(crate::specs::Counting::counting))]
 fn counting(
     alloc: Global,
     symbols: &Seq<Name>,

@@ -3,8 +3,10 @@ ghost use Rattle.std.specs.Prelude.{◌≡◌, ◌≤◌, ◌<◌, ◌<ℤ◌, �
 ghost use Rattle.std.specs.Prelude.{OnSome};
 ghost use Rattle.std.specs.List.{flat_map, list_all};
 ghost use Rattle.nest.specs.View.{branch_of, part_of};
-ghost use Rattle.last_values.specs.Behind.{IsNested};
-ghost use Rattle.normal_loops.specs.Loops.{is_normal, is_normal_branch, nested, nested_in_branch, nested_loops};
+ghost use Rattle.last_values.specs.Nested.{IsNested};
+ghost use Rattle.normal_loops.specs.Loops.{nested, nested_loops};
+ghost use Rattle.normal_loops.specs.Normal.{is_normal};
+ghost use Rattle.normal_loops.specs.Arms.{is_normal_branch, nested_in_branch};
 ghost use Rattle.normal_loops.specs.Loops.{with_loop};
 
 use last_values::NestedLoop;

@@ -2,9 +2,9 @@
 ghost use Rattle.std.specs.Prelude.{◌≡◌, ◌≤◌, [], All, length, map, IfOk};
 ghost use Rattle.std.specs.Option.{option_map};
 ghost use Rattle.tree.specs.View.{block_of};
-ghost use Rattle.nest.specs.Blocks.{block_then};
+ghost use Rattle.nest.specs.Allocations.{block_then};
 ghost use Rattle.nest.specs.View.{made_of, nest_of, part_of};
-ghost use Rattle.last_values.specs.Behind.{IsNested};
+ghost use Rattle.last_values.specs.Nested.{IsNested};
 ghost use Rattle.normal_loops.specs.Normalised.{normalised, only_one, with_body, with_loops};
 
 use crate::bodies::add_part;

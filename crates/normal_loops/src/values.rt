@@ -4,11 +4,12 @@ ghost use Rattle.tree.specs.View.{expression_of};
 ghost use Rattle.rewrite.specs.Making.{made};
 ghost use Rattle.rewrite.specs.Replacing.{replacing};
 ghost use Rattle.nest.specs.View.{guarded_of};
-ghost use Rattle.nest_rewrite.specs.Rewritten.{rewritten_statement};
+ghost use Rattle.nest_rewrite.specs.Statements.{rewritten_statement};
 ghost use Rattle.last_values.specs.normal_forms.NormalLoops.{counters_of};
 ghost use Rattle.form_rules.specs.Replacement.{replacing_of};
-ghost use Rattle.normal_loops.specs.Values.{with_value, in_text, statement_with_values, test_with_values};
-ghost use Rattle.normal_loops.specs.Values.{normal_statement, normal_test};
+ghost use Rattle.normal_loops.specs.Values.{with_value, in_text, statement_with_values};
+ghost use Rattle.normal_loops.specs.Tests.{test_with_values, normal_test};
+ghost use Rattle.normal_loops.specs.Values.{normal_statement};
 
 use form_rules::{Canonical, Replacement};
 use last_values::normal_forms::{NormalLoop, counters_of, value_text};
@@ -127,7 +128,7 @@ fn test_with_values(
 }
 
 /// A condition of an IF in these loops.
-#[tactic(auto, unfolding(crate::specs::Values::normal_test))]
+#[tactic(auto, unfolding(crate::specs::Tests::normal_test))]
 pub(crate) fn normal_test(
     alloc: Global,
     symbols: &Seq<Name>,

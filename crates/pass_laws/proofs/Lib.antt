@@ -2,6 +2,7 @@ pub mod NormalFacts
 pub mod FoundSources
 pub mod NormalNests
 pub mod ReadyNests
+pub mod ListedNests
 pub mod NormalRuns
 pub mod LastRuns
 pub mod NormalMeaning

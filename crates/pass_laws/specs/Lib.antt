@@ -2,6 +2,7 @@ pub mod normal_facts
 pub mod found_sources
 pub mod normal_nests
 pub mod ready_nests
+pub mod listed_nests
 pub mod normal_runs
 pub mod last_runs
 pub mod normal_meaning

@@ -3,7 +3,9 @@ use Rattle.std.proofs.Common.{◌≡◌, refl, ap, List, [], ◌∷◌, map}
 use Rattle.tree.proofs.Equations.{expression_equations, item_equations}
 use Rattle.tree.specs.Plain.{Expression, Number, Logic, Named, Unary, Binary, Apply, Constructor, Spread, Transpose, Reshape, Reduce, expression, expressions, Subscript, subscript, subscripts, loop, Item, item, items, Statement, statement, block, arm}
 use Rattle.tree.specs.View.{ConstructorLoop, loops, Tested, arms}
-use Rattle.rewrite.specs.Making.{Making, made, made_inside, made_expressions, made_subscript, made_subscripts, made_loop, made_loops, made_input, made_inputs, made_output, made_outputs, made_statement, made_arm, made_arms, made_block}
+use Rattle.rewrite.specs.Making.{Making, made, made_expressions, made_subscript, made_subscripts, made_loops}
+use Rattle.rewrite.specs.MadeBlocks.{made_inside, made_loop, made_input, made_inputs, made_output, made_outputs}
+use Rattle.rewrite.specs.MadeBlocks.{made_statement, made_arm, made_arms, made_block}
 
 -- of a node, and of a list, each one by itself
 module _ (m : Making) where

@@ -8,7 +8,8 @@ use Rattle.std.proofs.lemmas.List.Elements.{filter-append}
 use Rattle.indexmap.specs.IndexSet.{insert_key}
 use Rattle.rewrite.specs.declared.uses.Use.{Use}
 use Rattle.rewrite.specs.declared.uses.Way.{Way}
-use Rattle.rewrite.specs.Names.{is_way, names_standing, without_repeats, with_use}
+use Rattle.rewrite.specs.Names.{is_way, names_standing, without_repeats}
+use Rattle.rewrite.specs.NamesAlong.{with_use}
 use Rattle.rewrite.proofs.UseLaws.{one_more}
 
 module _ (x y : List ℕ) where

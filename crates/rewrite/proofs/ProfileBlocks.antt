@@ -8,13 +8,18 @@ use Rattle.tree.specs.declared.ops.Kind.{Kind}
 use Rattle.tree.specs.declared.ops.Kind.TheVariants.{Integer, Logical}
 use Rattle.tree.specs.Limits as limits
 use Rattle.tree.specs.Plain.{Expression, Expressions, Reference, Later, Declaration, Program, Statement, Assignment, Where, If, Do, Label, GoTo, Stop, Read, Print, Allocate, Deallocate, Arms, no_arms, arm, Block, no_statements, statement}
-use Rattle.meaning.specs.Blocks.{label_of, labels_of, all_labels_of, all_labels_in_arms, all_labels_in, targets_of, targets_in_arms, targets_in, blocks_of, blocks_in_arms, blocks_in, statements_of, statements_in_arms, statements_in, Surroundings, outermost, within_loop, before_labels, has_arm}
+use Rattle.meaning.specs.Blocks.{label_of, labels_of, blocks_of, blocks_in_arms, blocks_in, statements_of}
+use Rattle.meaning.specs.Blocks.{statements_in_arms, statements_in, Surroundings, outermost, within_loop, before_labels}
+use Rattle.meaning.specs.Blocks.{all_labels_of, all_labels_in_arms, all_labels_in, targets_of, targets_in_arms}
+use Rattle.meaning.specs.Blocks.{targets_in, has_arm}
 use Rattle.meaning.specs.Depths.{depth_of, depth_of_each}
 use Rattle.meaning.specs.Profile90.{IsWhole, IsWholeScalar, IsAssignment, IsMasked, IsStatement, AreArms, IsBlock, AreDeclarations, IsProgram90}
 use Rattle.meaning.specs.Typed.{declared, number_of_arguments}
 use Rattle.meaning.specs.Typed90.{HasKind, rank_of}
 use Rattle.meaning.specs.Value.{named}
-use Rattle.rewrite.specs.Making.{Making, Suiting, made, made_expressions, made_left, made_statement, made_arms, made_block, Suits, SuitsEach, SuitsLeft, SuitsStatement, SuitsArms, SuitsBlock}
+use Rattle.rewrite.specs.Making.{Making, made, made_expressions, made_left}
+use Rattle.rewrite.specs.MadeBlocks.{made_statement, made_arms, made_block}
+use Rattle.rewrite.specs.Suits.{Suiting, Suits, SuitsEach, SuitsLeft, SuitsStatement, SuitsArms, SuitsBlock}
 use Rattle.rewrite.specs.Profile.{DeclaresAlso, KeepsProfile, deepest_of, deepest_in_arms, deepest_in, with_block, MakesProfile}
 use Rattle.rewrite.proofs.Profiles as made_of
 

@@ -14,10 +14,17 @@ use Rattle.tree.specs.OperatorTable.{left_least, right_least, level_of, operand_
 use Rattle.tree.specs.Plain.{Expression, Number, Logic, Named, Unary, Binary, Apply, Constructor, Spread, Transpose, Reshape, Reduce, Expressions, no_expressions, expression, Subscript, Only, Section, Subscripts, no_subscripts, subscript, Loops, no_loops, loop, Reference, Item, Single, Constant, ImpliedDo, Items, no_items, item, Declaration}
 use Rattle.meaning.specs.Depths.{level, enclosed, depth_of, depth_of_each, depth_of_subscript, depth_of_subscripts, depth_under, depth_of_item, depth_of_items}
 use Rattle.meaning.specs.Typed.{declared, number_of_arguments, number_of_subscripts, rank_of_extent, has_item}
-use Rattle.meaning.specs.Typed90.{Conform, SuitsDimensions, IsFree, HasKind, AreArguments, AreScalars, AreSubscripts, IsSubscript, AreLoops, SuitsLoops, rank_of, rank_of_name, rank_of_each, rank_of_subscript, rank_of_subscripts, IsIntegerScalar, IsScalar, IsDoVariable, HasSomeKind, IsInput, IsInputItem, AreInputItems, IsOutputItem, AreOutputItems}
+use Rattle.meaning.specs.Typed90.{Conform, SuitsDimensions, IsFree, HasKind, AreArguments, AreScalars, AreSubscripts}
+use Rattle.meaning.specs.Typed90.{IsSubscript, AreLoops, SuitsLoops, rank_of, rank_of_name, rank_of_each}
+use Rattle.meaning.specs.Typed90.{rank_of_subscript, rank_of_subscripts, IsIntegerScalar, IsScalar, IsDoVariable}
+use Rattle.meaning.specs.Typed90.{HasSomeKind, IsInput, IsInputItem, AreInputItems, IsOutputItem, AreOutputItems}
 use Rattle.meaning.specs.Value.{named}
-use Rattle.rewrite.specs.Making.{Making, Suiting, made, made_expressions, made_subscripts, made_subscript, made_loops, made_parts, made_left, made_input, made_inputs, made_output, made_outputs, Suits, SuitsEach, SuitsSubscripts, SuitsSubscript, SuitsLeft, SuitsInput, SuitsInputs, SuitsOutput, SuitsOutputs, SuitsLoop}
-use Rattle.rewrite.specs.Making as making
+use Rattle.rewrite.specs.Making.{Making, made, made_expressions, made_subscripts, made_subscript, made_loops}
+use Rattle.rewrite.specs.Making.{made_parts, made_left}
+use Rattle.rewrite.specs.MadeBlocks.{made_input, made_inputs, made_output, made_outputs}
+use Rattle.rewrite.specs.Suits.{Suiting, Suits, SuitsEach, SuitsSubscripts, SuitsSubscript, SuitsLeft, SuitsInput}
+use Rattle.rewrite.specs.Suits.{SuitsInputs, SuitsOutput, SuitsOutputs, SuitsLoop}
+use Rattle.rewrite.specs.Suits as making
 use Rattle.rewrite.specs.Profile.{DeclaresAlso, TakesPlace, KeepsProfile}
 
 -- ---- depths

@@ -13,7 +13,11 @@ use Rattle.meaning.specs.Value.{subscript_values, cell_named, item_cells, is_in_
 use Rattle.meaning.specs.Run.{State, Going, Jumping, Stopped, Act, nothing, for_each, goes, writes, first_blank, arrives, assigns, sets_variable, increases, turn, loops, reads_into, reads_item, reads_items, prints_item, prints_items, does, chooses, does_all}
 use Rattle.meaning.proofs.Columns.{cells-within}
 use Rattle.rewrite.specs.Following.{MomentsAlike, RunFollows, sequential}
-use Rattle.rewrite.specs.Making.{Making, Suiting, made, made_subscripts, made_left, made_input, made_inputs, made_output, made_outputs, made_statement, made_arms, made_block, Suits, SuitsSubscripts, SuitsLeft, SuitsLoop, SuitsInput, SuitsInputs, SuitsOutput, SuitsOutputs, SuitsStatement, SuitsArms, SuitsBlock}
+use Rattle.rewrite.specs.Making.{Making, made, made_subscripts, made_left}
+use Rattle.rewrite.specs.MadeBlocks.{made_input, made_inputs, made_output}
+use Rattle.rewrite.specs.MadeBlocks.{made_outputs, made_statement, made_arms, made_block}
+use Rattle.rewrite.specs.Suits.{Suiting, Suits, SuitsSubscripts, SuitsLeft, SuitsLoop, SuitsInput, SuitsInputs}
+use Rattle.rewrite.specs.Suits.{SuitsOutput, SuitsOutputs, SuitsStatement, SuitsArms, SuitsBlock}
 use Rattle.rewrite.specs.Rule.{IsRule}
 use Rattle.rewrite.proofs.Acts.{Stays, Stays-then, Stays-evaluates, Stays-writes, Stays-skips_line, Stays-takes_word, Stays-counts_step, Stays-reads_items, Stays-prints_items, Stays-does_all, Follows, Follows-nothing, Follows-then, Follows-goes, Follows-either, Follows-writes, Follows-stores, Follows-begins_line, Follows-skips_line, Follows-takes_word, Follows-counts_step, Follows-checks_range, Answers, Also, Follows-evaluates, Follows-asks, Follows-repeated, Follows-for_each, Follows-more}
 use Rattle.rewrite.proofs.Values.{parted, cell_in-named, made-number, made-truth, made-increment, made-value, made-subscripts, made-item}

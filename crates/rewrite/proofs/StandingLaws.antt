@@ -7,7 +7,7 @@ use Rattle.tree.specs.View.{subscript_of, reference_of, loops, ConstructorLoop}
 use Rattle.tree.specs.declared.exprs.Ref.{Ref, out-Ref}
 use Rattle.tree.proofs.Equations.{expression_equations, reference_of-is}
 use Rattle.meaning.specs.Reads.{names_in, names_in_each, names_in_subscript, names_in_subscripts, names_in_loops}
-use Rattle.rewrite.specs.Names.{names_in_loop, names_in_reference}
+use Rattle.rewrite.specs.NamesAlong.{names_in_loop, names_in_reference}
 
 pub each_expression : (es : List Expression) → names_in_each (expressions es) ≡ flat_map names_in es
 each_expression [] = refl

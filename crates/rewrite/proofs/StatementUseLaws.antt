@@ -27,7 +27,8 @@ use Rattle.tree.proofs.Equations.{statement_of-assign, statement_of-if, statemen
 use Rattle.tree.proofs.Equations.{statement_of-allocate, statement_of-deallocate, tested_of-is, block_of-is}
 use Rattle.rewrite.specs.declared.uses.Way.TheVariants.{Writes}
 use Rattle.rewrite.specs.Names.{use_of, uses_in, uses_in_target, uses_in_variable, uses_in_control, uses_in_input, uses_in_inputs, uses_in_output, uses_in_outputs}
-use Rattle.rewrite.specs.Names.{uses_in_statement, uses_in_arm, uses_in_arms, uses_in_block}
+use Rattle.rewrite.specs.Names.{uses_in_statement, uses_in_arms, uses_in_block}
+use Rattle.rewrite.specs.NamesAlong.{uses_in_arm}
 use Rattle.rewrite.proofs.UseLaws.{each_expression}
 
 -- ---- lists

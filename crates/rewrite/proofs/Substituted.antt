@@ -18,7 +18,8 @@ use Rattle.meaning.specs.Store.{Store, cell_at}
 use Rattle.meaning.specs.Value.{value_of, values_of, subscript_values, subscript_value}
 use Rattle.rewrite.specs.Following.{sequential}
 use Rattle.rewrite.specs.Making.{made_expressions, made_subscripts, made_subscript}
-use Rattle.rewrite.specs.Substituting.{is_scalar, substituting, substituted, StandsFor}
+use Rattle.rewrite.specs.Substituting.{is_scalar, substituting}
+use Rattle.rewrite.specs.Substituted.{substituted, StandsFor}
 
 module _ (bits : ℕ) (x : List ℕ) (by : Expression) (s : Store) (stands : StandsFor bits x by s) where
   scalar : (y : List ℕ) (b : Bool) → bytes_eq y x ≡ b → value_of (sequential bits) (cond b by (Named y no_subscripts)) s ≡ value_of (sequential bits) (Named y no_subscripts) s

@@ -20,7 +20,9 @@ use Rattle.tree.specs.declared.exprs.Sub.TheVariants as subs
 use Rattle.tree.proofs.Equations.{expression_of-int, expression_of-truth, expression_of-item, expression_of-un, expression_of-bin, expression_of-call, reference_of-is, loop_of-is}
 use Rattle.tree.proofs.Equations.{expression_of-list, expression_of-spread, expression_of-transpose, expression_of-reshape, expression_of-reduce, subscript_of-one, subscript_of-part}
 use Rattle.rewrite.specs.declared.uses.Way.TheVariants.{Reads, Writes}
-use Rattle.rewrite.specs.Names.{use_of, uses_in, uses_in_expressions, uses_in_subscript, uses_in_subscripts, uses_in_loop, uses_in_loops, uses_in_target}
+use Rattle.rewrite.specs.Names.{use_of, uses_in, uses_in_expressions, uses_in_subscript, uses_in_subscripts}
+use Rattle.rewrite.specs.Names.{uses_in_loops, uses_in_target}
+use Rattle.rewrite.specs.NamesAlong.{uses_in_loop}
 
 -- ---- lists
 

@@ -11,7 +11,8 @@ use Rattle.tree.specs.Plain.{Expression, Number, Logic, Named, Unary, Binary, Ap
 use Rattle.meaning.specs.Store.{Store, Cell, cell_at, cell_in, cells_of, bounds_in, is_within}
 use Rattle.meaning.specs.Value.{value_of, values_of, number_of, truth_of, subscript_values, subscript_value, item_cells, item_values, increment_of}
 use Rattle.rewrite.specs.Following.{sequential}
-use Rattle.rewrite.specs.Making.{Making, Suiting, made, made_expressions, made_subscripts, made_subscript, Suits, SuitsEach, SuitsSubscripts, SuitsSubscript}
+use Rattle.rewrite.specs.Making.{Making, made, made_expressions, made_subscripts, made_subscript}
+use Rattle.rewrite.specs.Suits.{Suiting, Suits, SuitsEach, SuitsSubscripts, SuitsSubscript}
 use Rattle.rewrite.specs.Rule.{IsRule}
 
 -- two steps that gave y

@@ -1,7 +1,11 @@
 pub mod Making
+pub mod MadeBlocks
+pub mod Suits
 pub mod Following
 pub mod Rule
 pub mod Substituting
+pub mod Substituted
 pub mod Names
+pub mod NamesAlong
 pub mod Profile
 pub mod Replacing

@@ -1,17 +1,14 @@
 -- The names that stand in a tree, and those that a block reads or writes (ISO/IEC 1539:1991, section 14.7.5).
-use Rattle.std.specs.Prelude.{ℕ, Bool, true, false, not, if◌then◌else◌, List, [], ◌∷◌, ◌++◌, map}
+use Rattle.std.specs.Prelude.{ℕ, Bool, true, false, not, List, [], ◌∷◌, ◌++◌, map}
 use Rattle.std.specs.Str.{bytes_eq}
 use Rattle.std.specs.List.{filter, list_any}
 use Rattle.meaning.specs.Names.{is_among}
-use Rattle.meaning.specs.Reads.{names_in, names_in_subscripts}
-use Rattle.indexmap.specs.IndexSet.{insert_key}
 use Rattle.tree.specs.Plain.{Expression, Number, Logic, Named, Unary, Binary, Apply, Constructor, Spread, Transpose}
 use Rattle.tree.specs.Plain.{Reshape, Reduce, Expressions, no_expressions, expression, Subscript, Only, Section}
-use Rattle.tree.specs.Plain.{Subscripts, no_subscripts, subscript, Loops, no_loops, loop, Reference}
-use Rattle.tree.specs.Plain.{Item, Single, Constant, ImpliedDo, Items, no_items, item}
-use Rattle.tree.specs.Plain.{Statement, Assignment, Where, If, Do, Label, GoTo, Stop, Read, Print, Allocate}
-use Rattle.tree.specs.Plain.{Deallocate, Arms, no_arms, arm, Block, no_statements, statement}
-use Rattle.tree.specs.View.{ConstructorLoop, Tested}
+use Rattle.tree.specs.Plain.{Subscripts, no_subscripts, subscript, Loops, no_loops, loop, Reference, Item, Single}
+use Rattle.tree.specs.Plain.{Constant, ImpliedDo, Items, no_items, item, Statement, Assignment, Where, If, Do, Label}
+use Rattle.tree.specs.Plain.{GoTo, Stop, Read, Print, Allocate, Deallocate, Arms, no_arms, arm, Block, no_statements}
+use Rattle.tree.specs.Plain.{statement}
 use Rattle.rewrite.specs.declared.uses.Way.{Way}
 use Rattle.rewrite.specs.declared.uses.Way.TheVariants.{Reads, Writes}
 use Rattle.rewrite.specs.declared.uses.Use.{Use}
@@ -52,9 +49,6 @@ abbrev mutual
   pub uses_in_loops : Loops → List Use
   uses_in_loops no_loops = []
   uses_in_loops (loop x a b ls) = (uses_in a ++ uses_in b) ++ uses_in_loops ls
-
-abbrev pub uses_in_loop : ConstructorLoop → List Use
-uses_in_loop l = uses_in l.first ++ uses_in l.last
 
 -- what is assigned or read into
 abbrev pub uses_in_target : Reference → List Use
@@ -111,25 +105,9 @@ abbrev mutual
   uses_in_block no_statements = []
   uses_in_block (statement c cs) = uses_in_statement c ++ uses_in_block cs
 
-abbrev pub uses_in_arm : Tested → List Use
-uses_in_arm t = uses_in t.test ++ uses_in_block t.body
-
 -- one of the names stands in the expression
 abbrev pub mentions : List (List ℕ) → Expression → Bool
 mentions names e = list_any (λ (u : Use). is_among names u.name) (uses_in e)
-
--- ---- all names
-
-abbrev pub names_in_reference : Reference → List (List ℕ)
-names_in_reference r = r.name ∷ names_in_subscripts r.subscripts
-
--- the variable of a constructor's loop, with its bounds
-abbrev pub names_in_loop : ConstructorLoop → List (List ℕ)
-names_in_loop l = l.variable ∷ names_in l.first ++ names_in l.last
-
--- the variable of a DO or of an implied DO list, with its bounds and its step
-abbrev pub names_in_control : List ℕ → Expression → Expression → Expression → List (List ℕ)
-names_in_control x a b c = x ∷ names_in a ++ names_in b ++ names_in c
 
 -- ---- the names that stand in one way
 
@@ -148,12 +126,5 @@ abbrev pub without_repeats : List (List ℕ) → List (List ℕ)
 without_repeats [] = []
 without_repeats (x ∷ xs) = x ∷ filter (λ y. not (bytes_eq y x)) (without_repeats xs)
 
-abbrev pub names_read_in : Block → List (List ℕ)
-names_read_in b = without_repeats (names_standing Reads (uses_in_block b))
-
 abbrev pub names_written_in : Block → List (List ℕ)
 names_written_in b = without_repeats (names_standing Writes (uses_in_block b))
-
--- the names with one more, where it stands so and isn't among them
-abbrev pub with_use : Way → List (List ℕ) → Use → List (List ℕ)
-with_use w xs u = if is_way u.way w then insert_key bytes_eq xs u.name else xs

@@ -1,5 +1,5 @@
 -- Rules that make a program of the profile of a program of the profile.
-use Rattle.std.specs.Prelude.{◌≡◌, ◌⊎◌, ℕ, ◌+◌, ◌≤◌, max, Some, IsTrue, Bool, false, List}
+use Rattle.std.specs.Prelude.{◌≡◌, ◌⊎◌, ℕ, ◌+◌, ◌≤◌, max, Some, IsTrue, false, List}
 use Rattle.tree.specs.declared.functions.Intrinsic.{Intrinsic}
 use Rattle.tree.specs.declared.ops.Kind.{Kind}
 use Rattle.tree.specs.Functions.{name_of_intrinsic}
@@ -12,7 +12,8 @@ use Rattle.meaning.specs.Profile90.{AreDeclarations, IsProgram90}
 use Rattle.meaning.specs.Typed.{declared}
 use Rattle.meaning.specs.Typed90.{IsFree, HasKind, rank_of}
 use Rattle.meaning.specs.Value.{named}
-use Rattle.rewrite.specs.Making.{Making, Suiting, made_block, SuitsBlock}
+use Rattle.rewrite.specs.Making.{Making}
+use Rattle.rewrite.specs.Suits.{Suiting, SuitsBlock}
 
 -- each name that ds declares is declared alike, and no further one is that of a function
 pub record DeclaresAlso (ds es : List Declaration) : Type 0 where

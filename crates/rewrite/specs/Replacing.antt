@@ -10,7 +10,8 @@ use Rattle.meaning.specs.Store.{Store, Cell}
 use Rattle.meaning.specs.Typed90.{IsScalar, IsIntegerScalar}
 use Rattle.meaning.specs.Value.{value_of}
 use Rattle.rewrite.specs.Following.{sequential}
-use Rattle.rewrite.specs.Making.{Making, Suiting}
+use Rattle.rewrite.specs.Making.{Making}
+use Rattle.rewrite.specs.Suits.{Suiting}
 use Rattle.rewrite.specs.Profile.{KeepsProfile}
 use Rattle.rewrite.specs.Substituting.{substituting}
 

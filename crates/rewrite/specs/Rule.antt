@@ -7,7 +7,8 @@ use Rattle.tree.specs.declared.ops.Fault.{Fault}
 use Rattle.meaning.specs.Dialect.{Dialect}
 use Rattle.meaning.specs.Store.{Store, Cell, put, cell_at}
 use Rattle.meaning.specs.Value.{value_of, subscript_values, cell_named, item_values, is_in_range}
-use Rattle.rewrite.specs.Making.{Making, Suiting}
+use Rattle.rewrite.specs.Making.{Making}
+use Rattle.rewrite.specs.Suits.{Suiting}
 
 -- The value of an expression whose parts were made already, where the first run has the store s and the second one u: a
 -- name is looked up in s, and the parts have their values in u

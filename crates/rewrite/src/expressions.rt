@@ -2,8 +2,8 @@
 ghost use Rattle.std.specs.Prelude.{◌≡◌, map, IfOk};
 ghost use Rattle.tree.specs.View.{expression_of, subscript_of, reference_of, loop_of, loops};
 ghost use Rattle.tree.specs.Plain.{expressions, subscripts};
-ghost use Rattle.rewrite.specs.Making.{made, made_expressions, made_subscripts, made_subscript, made_loops};
-ghost use Rattle.rewrite.specs.Making.{made_inside, made_loop, made_parts};
+ghost use Rattle.rewrite.specs.Making.{made, made_expressions, made_subscripts, made_subscript, made_loops, made_parts};
+ghost use Rattle.rewrite.specs.MadeBlocks.{made_inside, made_loop};
 
 use crate::NodeRule;
 use std::alloc::Global;

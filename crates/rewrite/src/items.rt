@@ -2,7 +2,7 @@
 ghost use Rattle.std.specs.Prelude.{◌≡◌, map, IfOk};
 ghost use Rattle.tree.specs.View.{expression_of, item_of};
 ghost use Rattle.tree.specs.Plain.{items};
-ghost use Rattle.rewrite.specs.Making.{made_variable, made_input, made_inputs, made_output, made_outputs};
+ghost use Rattle.rewrite.specs.MadeBlocks.{made_variable, made_input, made_inputs, made_output, made_outputs};
 
 use crate::Rule;
 use std::alloc::Global;

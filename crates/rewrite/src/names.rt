@@ -5,8 +5,9 @@ ghost use Rattle.meaning.specs.Names.{is_among};
 ghost use Rattle.meaning.specs.Reads.{names_in};
 ghost use Rattle.tree.specs.View.{block_of, expression_of, reference_of};
 ghost use Rattle.rewrite.specs.declared.uses.Use.{Use};
-ghost use Rattle.rewrite.specs.Names.{uses_in_block, names_standing, without_repeats, names_read_in};
-ghost use Rattle.rewrite.specs.Names.{names_written_in, with_use, mentions, names_in_reference};
+ghost use Rattle.rewrite.specs.Names.{uses_in_block, names_standing, without_repeats};
+ghost use Rattle.rewrite.specs.NamesAlong.{names_read_in, with_use, names_in_reference};
+ghost use Rattle.rewrite.specs.Names.{names_written_in, mentions};
 
 use crate::uses::{Use, Uses, Way};
 use indexmap::IndexSet;

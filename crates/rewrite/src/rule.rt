@@ -3,7 +3,8 @@ ghost use Rattle.std.specs.Prelude.{◌≡◌, ℕ, ℤ, List, IfOk};
 ghost use Rattle.tree.specs.View.{expression_of, reference_of};
 ghost use Rattle.meaning.specs.Store.{Store};
 ghost use Rattle.rewrite.specs.Following.{sequential};
-ghost use Rattle.rewrite.specs.Making.{Making, Suiting, made, made_parts};
+ghost use Rattle.rewrite.specs.Making.{Making, made, made_parts};
+ghost use Rattle.rewrite.specs.Suits.{Suiting};
 ghost use Rattle.rewrite.specs.Rule.{IsRule};
 
 use std::alloc::Global;

@@ -3,8 +3,8 @@ ghost use Rattle.std.specs.Prelude.{◌≡◌, ◌++◌, map, OnOk};
 ghost use Rattle.std.specs.List.{flat_map};
 ghost use Rattle.tree.specs.View.{expression_of, reference_of, item_of, statement_of, tested_of, block_of};
 ghost use Rattle.rewrite.specs.Names.{uses_in_target, uses_in_variable, uses_in_control, uses_in_input};
-ghost use Rattle.rewrite.specs.Names.{uses_in_output, uses_in_statement, uses_in_arm, uses_in_block};
-ghost use Rattle.rewrite.specs.Names.{names_in_control, names_in_reference};
+ghost use Rattle.rewrite.specs.Names.{uses_in_output, uses_in_statement, uses_in_block};
+ghost use Rattle.rewrite.specs.NamesAlong.{uses_in_arm, names_in_control, names_in_reference};
 
 use crate::uses::{Uses, Way};
 use tree::{Arm, Block, Expr, Item, Memory, Name, Ref, Seq, Stmt};

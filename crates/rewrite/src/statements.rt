@@ -1,12 +1,12 @@
 //! Statements and blocks.
 ghost use Rattle.std.specs.Prelude.{◌≡◌, ℕ, ℤ, List, map, IfOk};
-ghost use Rattle.tree.specs.View.{arms as plain_arms, block_of, expression_of};
-ghost use Rattle.tree.specs.View.{reference_of, statement_of, tested_of};
+ghost use Rattle.tree.specs.View.{arms as plain_arms, block_of, expression_of, reference_of, statement_of, tested_of};
 ghost use Rattle.tree.specs.Plain.{block as plain_block, expressions};
 ghost use Rattle.rewrite.specs.Following.{RunFollows, sequential};
 ghost use Rattle.rewrite.specs.Profile.{MakesProfile};
-ghost use Rattle.rewrite.specs.Making.{made_expressions, made_left, made_statement, made_arm, made_arms, made_block};
-ghost use Rattle.rewrite.specs.Making.{SuitsBlock};
+ghost use Rattle.rewrite.specs.Making.{made_expressions, made_left};
+ghost use Rattle.rewrite.specs.MadeBlocks.{made_statement, made_arm, made_arms, made_block};
+ghost use Rattle.rewrite.specs.Suits.{SuitsBlock};
 
 use crate::Rule;
 use crate::items::{rewrite_inputs, rewrite_outputs};

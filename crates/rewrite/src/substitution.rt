@@ -5,7 +5,8 @@ ghost use Rattle.tree.specs.declared.exprs.Expr.TheVariants as exprs;
 ghost use Rattle.meaning.specs.Store.{Store};
 ghost use Rattle.meaning.specs.Value.{value_of};
 ghost use Rattle.rewrite.specs.Following.{sequential};
-ghost use Rattle.rewrite.specs.Substituting.{is_scalar, substituted, StandsFor};
+ghost use Rattle.rewrite.specs.Substituting.{is_scalar};
+ghost use Rattle.rewrite.specs.Substituted.{substituted, StandsFor};
 
 use crate::NodeRule;
 use crate::expressions::rewrite_expression;

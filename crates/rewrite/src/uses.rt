@@ -3,8 +3,8 @@ ghost use Rattle.std.specs.Prelude.{◌≡◌, ◌++◌, ◌∷◌, [], map, OnO
 ghost use Rattle.std.specs.List.{flat_map};
 ghost use Rattle.meaning.specs.Reads.{names_in, names_in_subscript};
 ghost use Rattle.tree.specs.View.{expression_of, subscript_of, reference_of, loop_of};
-ghost use Rattle.rewrite.specs.Names.{use_of, uses_in, uses_in_subscript, uses_in_subscripts, uses_in_loop, is_way};
-ghost use Rattle.rewrite.specs.Names.{names_in_loop, names_in_reference};
+ghost use Rattle.rewrite.specs.Names.{use_of, uses_in, uses_in_subscript, uses_in_subscripts, is_way};
+ghost use Rattle.rewrite.specs.NamesAlong.{uses_in_loop, names_in_loop, names_in_reference};
 
 use std::alloc::Global;
 use tree::{Expr, Memory, Name, Ref, Seq, Sub, Turn};

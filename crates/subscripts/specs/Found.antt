@@ -1,5 +1,5 @@
 -- The loops of a pairing that have been looked at, and how many of them matter.
-use Rattle.std.specs.Prelude.{◌≡◌, ℕ, ℤ, pos, ◌<◌, cond, ◌&&◌, List}
+use Rattle.std.specs.Prelude.{◌≡◌, ℤ, cond, ◌&&◌}
 use Rattle.subscripts.specs.Classes.{IsStrong, IsWeakZero, IsWeakCrossing, IsGeneral}
 use Rattle.subscripts.specs.Classes.{Loop, Matters, first_of, second_of}
 use Rattle.subscripts.specs.Cuts.{is_zero}

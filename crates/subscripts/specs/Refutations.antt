@@ -1,5 +1,5 @@
 -- Three ways to show that a pairing has no pair of iterations.
-use Rattle.std.specs.Prelude.{◌≡◌, ℕ, ℤ, pos, List, ◌-ℤ◌, ◌<ℤ◌, ◌⊎◌, IsTrue, All, unsigned_abs}
+use Rattle.std.specs.Prelude.{ℕ, ℤ, pos, List, ◌-ℤ◌, ◌<ℤ◌, ◌⊎◌, IsTrue, All, unsigned_abs}
 use Prim.Native.Nat.{◌∣◌}
 use Rattle.subscripts.specs.Classes.{Loop, HasOneLoop, span_of}
 use Rattle.subscripts.specs.Cuts.{cut, cut_dirs}

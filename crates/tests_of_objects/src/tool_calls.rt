@@ -50,30 +50,39 @@ const SEVEN90: &str = "PROGRAM FV_PROGRAM\nIMPLICIT NONE\nPRINT *, 7\nEND\n";
 
 const COUNTING: &str = "      DO 10 I = 1, 2\n   10 K = K + 1\n      PRINT *, K\n      END\n";
 
-// The deck has 27 bytes, so a source with pieces of one byte is called 28 times, and fails at none of them at 29.
+// A division in a logical IF, with the input.
+const GUARDED: &str =
+    "      INTEGER A(5), B(5), C(5)\n      READ *, B, C\n      DO 10 I = 1, 5\n      \
+    IF (B(I) .NE. 0) A(I) = C(I) / B(I)\n   10 CONTINUE\n      PRINT *, A\n      END\n\
+    *DATA\n2 0 -3 0 5\n9 9 9 9 9\n";
+
+const QUOTIENTS: &str = " 4 0 -3 0 1\n";
+
+// With pieces of one byte a source is called once for each byte, and once more for the end. It fails at the call behind
+// so many, and at none where that would come behind the last.
 #[test]
 fn each_reading_may_fail(rt: HostRuntime) -> Result<(), Fail> {
-    let rows: &[(&'static [&'static str], &str)] = &[
-        (&["vectorise"], SEVEN90),
-        (&["run77"], " 7\n"),
+    let rows: &[(&'static [&'static str], &'static str, &str)] = &[
+        (&["vectorise"], SEVEN, SEVEN90),
+        (&["run77"], GUARDED, QUOTIENTS),
     ];
-    for &(words, whole) in rows {
-        for deck_fails in 1..30 {
+    for &(words, deck, whole) in rows {
+        for before in 0..=deck.len().saturating_add(1) {
             let call = Call {
                 words,
-                deck: SEVEN,
+                deck,
                 piece: 1,
-                deck_fails,
+                deck_fails: (before as u64).saturating_add(1),
                 out_fails: 0,
                 notes_fails: 0,
             };
-            let (status, out, notes) = if deck_fails < 29 {
+            let (status, out, notes) = if before <= deck.len() {
                 (5, "", "fvec: read fault\n")
             } else {
                 (0, whole, "")
             };
             let is_so = is_answered(rt.alloc(), &call, status, out.as_bytes(), notes)?;
-            assert!(rt; is_so, "{words:?} at {deck_fails}");
+            assert!(rt; is_so, "{words:?} behind {before}");
         }
     }
     Ok(())
@@ -85,6 +94,7 @@ fn each_writing_may_fail(rt: HostRuntime) -> Result<(), Fail> {
     let rows: &[(&'static [&'static str], &'static str, &str)] = &[
         (&["vectorise"], SEVEN, SEVEN90),
         (&["run77", "--final"], COUNTING, " 2\nI = 3\nK = 2\n"),
+        (&["run77"], GUARDED, QUOTIENTS),
     ];
     for &(words, deck, whole) in rows {
         for end in 0..=whole.len() {
@@ -112,7 +122,8 @@ fn each_writing_may_fail(rt: HostRuntime) -> Result<(), Fail> {
     Ok(())
 }
 
-// A line before a fault that can't be written: so there is no fault. The note can't be written either.
+// A line before a fault that can't be written: so there is no fault. The note can't be written either, of none of
+// these, and changes no status.
 #[test]
 fn the_first_event_decides(rt: HostRuntime) -> Result<(), Fail> {
     let ten = "      PRINT *, 10\n      I = 1 / J\n      END\n";
@@ -122,6 +133,18 @@ fn the_first_event_decides(rt: HostRuntime) -> Result<(), Fail> {
         (&["run77"], ten, 1, 3, 6, " 1"),
         (&["run77"], ten, 1, 4, 6, " 10"),
         (&["run77"], ten, 1, 5, 3, " 10\n"),
+        (&["run77"], "      PRINT *, 7\n", 1, 0, 2, ""),
+        (
+            &["run77"],
+            "      EQUIVALENCE (I, J)\n      END\n",
+            1,
+            0,
+            2,
+            "",
+        ),
+        (&["run77"], "", 1, 0, 2, ""),
+        (&["vectorize"], SEVEN, 1, 0, 1, ""),
+        (&[], SEVEN, 1, 0, 1, ""),
     ];
     for &(words, deck, piece, out_fails, status, out) in rows {
         let call = Call {
@@ -134,7 +157,7 @@ fn the_first_event_decides(rt: HostRuntime) -> Result<(), Fail> {
         };
         assert!(rt;
             is_answered(rt.alloc(), &call, status, out.as_bytes(), "")?,
-            "at {out_fails}"
+            "{status} at {out_fails}"
         );
     }
     Ok(())

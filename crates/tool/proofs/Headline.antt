@@ -1,40 +1,50 @@
--- What a deck that is read is translated to is a translation of it.
-use Rattle.std.proofs.Common.{◌≡◌, Bool, true, false, List, [], ◌++◌, ℕ, refl, ap, sym, ◌∙◌, subst, arith, append-nil, inl, inr}
-use Rattle.std.specs.Prelude.{None, flat_map}
+-- What is written for a deck that is read: a translation of it, or a listing.
+use Rattle.std.proofs.Common.{◌≡◌, Bool, true, false, List, [], ◌++◌, ℕ, refl, ap, sym, ◌∙◌, subst, arith}
+use Rattle.std.specs.Prelude.{None, filter, flat_map}
+use Rattle.std.specs.Str.Lines.{lines}
 use Rattle.std.specs.List.{AllByRecursion}
 use Rattle.tree.specs.Plain.{Program}
 use Rattle.meaning.specs.Deck.{source_of, input_of, has_data, data_line77, data_line90}
-use Rattle.meaning.specs.Sequential.{sequential_run, EndsWell}
+use Rattle.meaning.specs.Sequential.{sequential_run}
 use Rattle.meaning.specs.Dialect.{fortran77, fortran90}
-use Rattle.meaning.specs.Store.{Store, Agree}
-use Rattle.meaning.specs.Run.{State}
+use Rattle.meaning.specs.Store.{Agree}
 use Rattle.meaning.specs.Array.{array_run}
 use Rattle.meaning.specs.Relined.{SameButLines, AlikeButLine}
 use Rattle.meaning.specs.Profile77.{IsProgram77}
-use Rattle.meaning.specs.Profile90.{IsProgram90}
 use Rattle.meaning.proofs.Relines.{relined, relined_ends_well}
-use Rattle.meaning_laws.proofs.profiles.Programs.{source_is_target}
-use Rattle.meaning_laws.proofs.dialects.Runs.{sequential_run_is_array_run}
 use Rattle.f77_read.proofs.SourceLaws.{read_is_source_program}
-use Rattle.f90_grammar.specs.PrintedText.{IsNote, with_line_feed, program_lines}
+use Rattle.f90_grammar.specs.PrintedText.{IsNote, with_line_feed, printed90, program_lines}
 use Rattle.f90_laws.specs.read_back.ReadBack.{IsReadAs as IsTextOf}
 use Rattle.f90_laws.proofs.read_back.PrintedIsRead.{printed_is_read}
 use Rattle.tool.proofs.Renumbered.{same_but_lines}
-use Rattle.tool.proofs.SourceLines.{program_lines_are_source}
+use Rattle.f90_laws.specs.printed.ReadBack.{block_without_numbers}
+use Rattle.f90_laws.proofs.printed.PrintedLinesText.{lines_again}
+use Rattle.tool.proofs.Accepted.{accepted}
+use Rattle.tool.proofs.MarksRead.{same_marks}
+use Rattle.tool.proofs.NoteLines.{listed_are_notes}
+use Rattle.tool.proofs.SourceLines.{printed_lines_are_lines, program_lines_are_source}
 use Rattle.meaning.proofs.decks.Written.{IsSourceLine, source_alone, input_alone, source_before_data, input_after_data, no_input}
-use Rattle.tool.specs.declared.commands.commands.Command.TheVariants.{Vectorise}
+use Rattle.tool.specs.declared.commands.commands.Command.TheVariants.{Graph, Vectorise}
 use Rattle.tool.specs.Decks.{IsReadAs}
-use Rattle.translation.specs.placed_loops.Laws.{KeepsMeaning}
-use Rattle.translation.specs.program_translation.Translated.{IsGoodTranslation}
+use Rattle.meaning.specs.Keeping.{KeepsMeaning}
+use Rattle.translation.specs.nest_blocks.Answers.{nests_by}
+use Rattle.translation.specs.program_translation.Laws.{IsGoodTranslation}
 use Rattle.translation.proofs.ProgramTranslation.Good.{translation_is_good}
 use Rattle.translation.specs.Translated.{IsVectorised}
+use Rattle.find_nests.specs.Found.{found_in}
 use Rattle.listing_laws.proofs.notes.Listed.{listing_lines_are_notes}
+use Rattle.listing_laws.proofs.read_back.SourceListings.{source_listing_is_read, source_listing_text_lists}
+use Rattle.listing_laws.specs.reader.Lists.{Lists}
 use Rattle.translation.proofs.NestBlocks.Blocks.{answers_are_blocks}
 use Rattle.translation.proofs.NestBlocks.Listed.{answers_are_listed}
-use Rattle.listing.specs.programs.Listing.{IsListing}
+use Rattle.listing.specs.programs.Listing.{IsListing, IsListingText, ListedNest, listed_nests}
 use Rattle.translation.proofs.ProgramMarks.Law.{translation_is_marked}
+use Rattle.translation.proofs.ProgramMarks.Relined.{marked_on_other_lines}
 use Rattle.tool.specs.Translation.{data_part, IsTranslationText}
-use Rattle.tool.specs.Headline.{TranslationHolds}
+use Rattle.tool.specs.Listings.{IsListedBeside, IsListingOf, is_listed, listed_lines}
+use Rattle.tool.specs.Marked.{IsMarked, IsMarkedBy}
+use Rattle.tool.specs.Printed.{IsPrinted}
+use Rattle.tool.specs.Translates.{IsAccepted, Translates}
 
 -- a program keeps the meaning of another one where it is read with other line numbers, too
 relined_keeps : (p q r : Program) (input : List ℕ) → SameButLines q r → KeepsMeaning p q input → KeepsMeaning p r input
@@ -56,31 +66,108 @@ module _ (ls : List (List ℕ)) (plain : AllByRecursion IsSourceLine ls) where
   input_behind false input none = input_alone ls plain ∙ sym (none refl)
   input_behind true input none = input_after_data ls input plain
 
-pub holds : (deck text : List ℕ) (p : Program) → IsReadAs Vectorise deck p
-    → IsTranslationText p (has_data data_line77 deck) (input_of data_line77 deck) text → TranslationHolds deck text
-holds deck text p h written =
-    let source : IsProgram77 fortran77 p = read_is_source_program fortran77 (source_of data_line77 deck) h.reads.source.cards p (omega arith) h.reads.source.are_cards h.reads.source.program in
-    let q : Program = written.translated in
-    let notes : List (List ℕ) = written.notes in
-    let v : IsVectorised p notes q = written.is in
-    let listing : IsListing p notes = answers_are_listed p notes v.blocks source v.answers in
-    let good : IsGoodTranslation p q =
-    translation_is_good p q v.blocks source (answers_are_blocks p notes v.blocks source v.answers) v.placed v.limits in
-    let are_notes : AllByRecursion IsNote notes = listing_lines_are_notes p notes source listing in
-    let ls : List (List ℕ) = program_lines q notes in
-    let back : IsTextOf q (flat_map with_line_feed ls) = printed_is_read q notes good.program are_notes in
-    let plain : AllByRecursion IsSourceLine ls = program_lines_are_source q notes good.program are_notes in
-    let there : Bool = has_data data_line77 deck in
-    let input : List ℕ = input_of data_line77 deck in
-    let read : IsTextOf q (source_of data_line90 text) =
-    subst (IsTextOf q) (sym (ap (source_of data_line90) written.printed ∙ source_behind ls plain there input)) back in
-    record {
+-- ---- a text that is written for a program
+
+-- the lines list the program, with the graphs of these nests
+abbrev ListNests : Program → List ListedNest → List (List ℕ) → Type 0
+ListNests p ts lines = (l : Lists p lines) × (listed_nests (found_in p) l.listing.entries l.listing.are ≡ ts)
+
+pub record Holds (deck text : List ℕ) : Type 0 where
+  pub translates : Translates deck text
+  pub listed : IsListedBeside deck text
+  pub marked : IsMarked deck text
+  pub printed : IsPrinted deck text
+
+module _ (deck text : List ℕ) (p : Program) (h : IsReadAs Vectorise deck p)
+    (written : IsTranslationText p (has_data data_line77 deck) (input_of data_line77 deck) text) where
+  abbrev there : Bool
+  there = has_data data_line77 deck
+
+  abbrev input : List ℕ
+  input = input_of data_line77 deck
+
+  abbrev q : Program
+  q = written.translated
+
+  abbrev notes : List (List ℕ)
+  notes = written.notes
+
+  abbrev v : IsVectorised p notes q
+  v = written.is
+
+  abbrev nests : List ListedNest
+  nests = nests_by v.answers.answers
+
+  source : IsProgram77 fortran77 p
+  source = read_is_source_program fortran77 (source_of data_line77 deck) h.reads.source.cards p (omega arith) h.reads.source.are_cards h.reads.source.program
+
+  listing : (l : IsListing p notes) × (listed_nests (found_in p) l.entries l.are ≡ nests)
+  listing = answers_are_listed p notes v.blocks v.answers
+
+  good : IsGoodTranslation p q
+  good = translation_is_good p q v.blocks source (answers_are_blocks p notes v.blocks source v.answers) v.placed v.limits
+
+  are_notes : AllByRecursion IsNote notes
+  are_notes = listing_lines_are_notes p notes source listing.0
+
+  plain : AllByRecursion IsSourceLine (program_lines q notes)
+  plain = program_lines_are_source q notes good.program are_notes
+
+  source_is : source_of data_line90 text ≡ printed90 q notes
+  source_is = ap (source_of data_line90) written.printed ∙ source_behind (program_lines q notes) plain there input
+
+  read : IsTextOf q (source_of data_line90 text)
+  read = subst (IsTextOf q) (sym source_is) (printed_is_read q notes good.program are_notes)
+
+  is_accepted : IsAccepted (source_of data_line90 text) read.program
+  is_accepted = accepted (source_of data_line90 text) read.program read.reads
+
+  -- the notes are the listed lines
+  listed_is : listed_lines text ≡ notes
+  listed_is =
+      ap (λ (t : List ℕ). filter is_listed (lines t)) source_is
+      ∙ ap (filter is_listed) (lines_again (program_lines q notes) (printed_lines_are_lines q notes good.program are_notes))
+      ∙ listed_are_notes q notes good.program are_notes
+
+  listed_nests_are : ListNests p nests (listed_lines text)
+  listed_nests_are =
+      subst (ListNests p nests) (sym listed_is)
+      (record { listing = listing.0; read = source_listing_is_read (source_of data_line77 deck) p notes h.reads.source listing.0 }, listing.1)
+
+  marks : IsMarkedBy p nests read.program
+  marks = record {
+    blocks = v.blocks;
+    body = sym read.same.body ∙ ap block_without_numbers v.placed.body;
+    marked =
+        marked_on_other_lines nests v.blocks q.body read.program.body (same_marks q.body read.program.body read.same.body)
+        (translation_is_marked p q v.answers.answers v.blocks source v.answers.are v.answers.placed v.placed);
+  }
+
+  pub holds : Holds deck text
+  holds = record {
+    translates = record {
       program = p;
       read = h;
-      written = written;
-      listing = listing;
-      marked = translation_is_marked p q v.answers.answers v.blocks source v.answers.are v.answers.placed v.placed;
-      read_back = read;
-      input = ap (input_of data_line90) written.printed ∙ input_behind ls plain there input (no_input data_line77 deck);
-      keeps = relined_keeps p q read.program input (same_but_lines q read.program read.same) (good.keeps input);
-    }
+      translation = read.program;
+      accepted = is_accepted;
+      keeps = λ given. relined_keeps p q read.program given (same_but_lines q read.program read.same) (good.keeps given);
+      input = ap (input_of data_line90) written.printed ∙ input_behind (program_lines q notes) plain there input (no_input data_line77 deck);
+    };
+    listed = record { program = p; read = h; lists = listed_nests_are.0 };
+    marked = record {
+      program = p;
+      read = h;
+      lists = listed_nests_are.0;
+      translation = read.program;
+      accepted = is_accepted;
+      marked = subst (λ (ts : List ListedNest). IsMarkedBy p ts read.program) (sym listed_nests_are.1) marks;
+    };
+    printed = record { program = p; read = h; text_is = written };
+  }
+
+-- ---- a text that is written for a listing
+
+pub listing_holds : (deck text : List ℕ) (p : Program) → IsReadAs Graph deck p → IsListingText p text → IsListingOf deck text
+listing_holds deck text p h listing =
+    let w = source_listing_text_lists (source_of data_line77 deck) p text h.reads.source listing in
+    record { program = p; read = h; lists = w.0; ended = w.1 }

@@ -1,5 +1,8 @@
+pub mod Accepted
 pub mod Headline
 pub mod Limits
+pub mod MarksRead
+pub mod NoteLines
 pub mod Passed
 pub mod Readings
 pub mod Renumbered

@@ -22,8 +22,7 @@ use Rattle.meaning.specs.Dialect.{fortran77}
 use Rattle.meaning.specs.declared.End.{End}
 use Rattle.meaning.specs.declared.End.TheVariants as end
 use Rattle.f77_grammar.specs.Reading77.{Reads77, Refused77}
-use Rattle.f90_grammar.specs.Refusals.{Refused90}
-use Rattle.f90_read.specs.Outcomes.{ReadsWithin}
+use Rattle.f90_grammar.specs.Refusals.{Reads90, Refused90}
 use Rattle.tool.specs.commands.Command.{no_options}
 use Rattle.tool.specs.declared.commands.commands.Options.{Options}
 use Rattle.tool.specs.declared.commands.commands.Command.{Command}
@@ -77,7 +76,7 @@ abbrev ReadsSource : Command → List ℕ → Program → Type 0
 ReadsSource Vectorise = Reads77 fortran77
 ReadsSource Graph = Reads77 fortran77
 ReadsSource (Run77 options) = Reads77 fortran77
-ReadsSource (Run90 options) = ReadsWithin
+ReadsSource (Run90 options) = Reads90
 
 abbrev RefusesSource : Command → List ℕ → Refusal → Type 0
 RefusesSource Vectorise = Refused77 fortran77

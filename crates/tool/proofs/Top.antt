@@ -19,12 +19,14 @@ use Rattle.tool.specs.declared.report.outcome.Outcome.TheVariants.{Done, Usage, 
 use Rattle.tool.specs.report.Notes.{status_of, note_of}
 use Rattle.tool.specs.Answers.{IsOneOf, IsTrueOf, NoteFor, HasFault}
 use Rattle.tool.specs.Decks.{Reads, IsRefused, IsReadAs, IsRefusedFor, most_bytes}
-use Rattle.tool.specs.Endings.{Call, Ends, Ended, EndsAt, IsReadOrPassed, IsReadFor, IsRefusedAfter, GivesAll, GivesFront, GivesLittle, ending_of, writes_early}
-use Rattle.tool.specs.Headline.{GivesTranslation, GivesTranslationPart}
-use Rattle.tool.specs.Listings.{IsListingOf, GivesListing, GivesListingPart}
-use Rattle.listing.specs.programs.Listing.{IsListingText}
+use Rattle.tool.specs.Endings.{Call, Ends, Ended, EndsAt, HasText, IsReadOrPassed, IsReadFor, IsRefusedAfter, GivesAll, GivesFront, GivesLittle, ending_of, writes_early}
+use Rattle.tool.specs.Given.{GivesWhere, GivesPartWhere}
+use Rattle.tool.specs.Listings.{IsListedBeside, IsListingOf}
+use Rattle.tool.specs.Marked.{IsMarked}
+use Rattle.tool.specs.Printed.{IsPrinted}
+use Rattle.tool.specs.Translates.{Translates}
 use Rattle.tool.specs.Running.{IsRun, GivesRun, GivesFaultedRun, GivesRunPart, GivesAtMostPart, IsExceeded, options_in, dialect_of, input_for, run_of}
-use Rattle.tool.proofs.Headline.{holds}
+use Rattle.tool.proofs.Headline.{Holds, holds, listing_holds}
 use Rattle.tool.proofs.Limits.{exceeded, limited}
 use Rattle.tool.proofs.Readings.{run_ends}
 use Rattle.tool.proofs.Statuses as tells
@@ -142,22 +144,28 @@ never_done k c OutOfMemory s e h = always c.left_before (λ deck r refused still
 
 -- ---- what was given
 
-translation : (before now : Option (List ℕ)) (deck : List ℕ) → GivesAll Vectorise end.Done before now deck → GivesTranslation before now deck
-translation before now deck g =
-    (g.text, holds deck g.text g.program g.read g.has_text, g.given)
+-- what is written for a translation, and for a listing
+written : (deck text : List ℕ) (p : Program) → IsReadAs Vectorise deck p → HasText Vectorise deck p text → Holds deck text
+written deck text p read has = holds deck text p read has
 
-translation_part : (before now : Option (List ℕ)) (deck : List ℕ) → GivesFront Vectorise before now deck → GivesTranslationPart before now deck
-translation_part before now deck g =
-    (g.text, holds deck g.text g.program g.read g.has_text, g.given)
+translation : (P : List ℕ → List ℕ → Type 0) → ((deck text : List ℕ) → Holds deck text → P deck text) → (before now : Option (List ℕ)) (deck : List ℕ)
+    → GivesAll Vectorise end.Done before now deck → GivesWhere before now (P deck)
+translation P f before now deck g = (g.text, f deck g.text (written deck g.text g.program g.read g.has_text), g.given)
 
-listed_as : (deck text : List ℕ) (p : Program) → IsReadAs Graph deck p → IsListingText p text → IsListingOf deck text
-listed_as deck text p read listing = record { program = p; read = read; listing = listing }
+abbrev AllHold : List ℕ → List ℕ → Type 0
+AllHold deck text = Translates deck text × IsListedBeside deck text × IsMarked deck text × IsPrinted deck text
 
-listing_given : (before now : Option (List ℕ)) (deck : List ℕ) → GivesAll Graph end.Done before now deck → GivesListing before now deck
-listing_given before now deck g = (g.text, listed_as deck g.text g.program g.read g.has_text, g.given)
+all_hold : (deck text : List ℕ) → Holds deck text → AllHold deck text
+all_hold deck text h = (h.translates, h.listed, h.marked, h.printed)
 
-listing_part : (before now : Option (List ℕ)) (deck : List ℕ) → GivesFront Graph before now deck → GivesListingPart before now deck
-listing_part before now deck g = (g.text, listed_as deck g.text g.program g.read g.has_text, g.given)
+translation_part : (before now : Option (List ℕ)) (deck : List ℕ) → GivesFront Vectorise before now deck → GivesPartWhere before now (AllHold deck)
+translation_part before now deck g = (g.text, all_hold deck g.text (written deck g.text g.program g.read g.has_text), g.given)
+
+listing_given : (before now : Option (List ℕ)) (deck : List ℕ) → GivesAll Graph end.Done before now deck → GivesWhere before now (IsListingOf deck)
+listing_given before now deck g = (g.text, listing_holds deck g.text g.program g.read g.has_text, g.given)
+
+listing_part : (before now : Option (List ℕ)) (deck : List ℕ) → GivesFront Graph before now deck → GivesPartWhere before now (IsListingOf deck)
+listing_part before now deck g = (g.text, listing_holds deck g.text g.program g.read g.has_text, g.given)
 
 run_given : (k : Command) → IsRun k → (e : End) (before now : Option (List ℕ)) (deck : List ℕ) → GivesAll k e before now deck → GivesRun k e before now deck
 run_given Vectorise run e before now deck g = absurd run
@@ -189,16 +197,29 @@ run_part_given (Run90 options) run before now deck g = record {
   text = subst (λ (t : List ℕ). GivesPart before t now) g.has_text g.given;
 }
 
-pub translated : (c : Call) (o : Outcome) (s : ℕ) → s ≡ status_of o → Ends Vectorise c o → s ≡ 0 → IfSome c.left_before (GivesTranslation c.taken_before c.taken_now)
-translated c o s e h q = map_some c.left_before (translation c.taken_before c.taken_now) (at_outcome Vectorise c o Done (tells.is_done o s e q) h).1
+given_done : (P : List ℕ → List ℕ → Type 0) → ((deck text : List ℕ) → Holds deck text → P deck text) → (c : Call) (o : Outcome) (s : ℕ) → s ≡ status_of o → Ends Vectorise c o → s ≡ 0
+    → IfSome c.left_before (λ deck. GivesWhere c.taken_before c.taken_now (P deck))
+given_done P f c o s e h q = map_some c.left_before (translation P f c.taken_before c.taken_now) (at_outcome Vectorise c o Done (tells.is_done o s e q) h).1
 
-pub part : (c : Call) (o : Outcome) (s : ℕ) → s ≡ status_of o → Ends Vectorise c o → s ≡ 6 → IfSome c.left_before (GivesTranslationPart c.taken_before c.taken_now)
+pub translated : (c : Call) (o : Outcome) (s : ℕ) → s ≡ status_of o → Ends Vectorise c o → s ≡ 0 → IfSome c.left_before (λ deck. GivesWhere c.taken_before c.taken_now (Translates deck))
+translated c o s e h q = given_done Translates (λ deck text all. all.translates) c o s e h q
+
+pub listed_beside : (c : Call) (o : Outcome) (s : ℕ) → s ≡ status_of o → Ends Vectorise c o → s ≡ 0 → IfSome c.left_before (λ deck. GivesWhere c.taken_before c.taken_now (IsListedBeside deck))
+listed_beside c o s e h q = given_done IsListedBeside (λ deck text all. all.listed) c o s e h q
+
+pub marked : (c : Call) (o : Outcome) (s : ℕ) → s ≡ status_of o → Ends Vectorise c o → s ≡ 0 → IfSome c.left_before (λ deck. GivesWhere c.taken_before c.taken_now (IsMarked deck))
+marked c o s e h q = given_done IsMarked (λ deck text all. all.marked) c o s e h q
+
+pub printed : (c : Call) (o : Outcome) (s : ℕ) → s ≡ status_of o → Ends Vectorise c o → s ≡ 0 → IfSome c.left_before (λ deck. GivesWhere c.taken_before c.taken_now (IsPrinted deck))
+printed c o s e h q = given_done IsPrinted (λ deck text all. all.printed) c o s e h q
+
+pub part : (c : Call) (o : Outcome) (s : ℕ) → s ≡ status_of o → Ends Vectorise c o → s ≡ 6 → IfSome c.left_before (λ deck. GivesPartWhere c.taken_before c.taken_now (AllHold deck))
 part c o s e h q = map_some c.left_before (translation_part c.taken_before c.taken_now) (at_outcome Vectorise c o WriteFault (tells.is_write_fault o s e q) h).2
 
-pub listed : (c : Call) (o : Outcome) (s : ℕ) → s ≡ status_of o → Ends Graph c o → s ≡ 0 → IfSome c.left_before (GivesListing c.taken_before c.taken_now)
+pub listed : (c : Call) (o : Outcome) (s : ℕ) → s ≡ status_of o → Ends Graph c o → s ≡ 0 → IfSome c.left_before (λ deck. GivesWhere c.taken_before c.taken_now (IsListingOf deck))
 listed c o s e h q = map_some c.left_before (listing_given c.taken_before c.taken_now) (at_outcome Graph c o Done (tells.is_done o s e q) h).1
 
-pub listed_part : (c : Call) (o : Outcome) (s : ℕ) → s ≡ status_of o → Ends Graph c o → s ≡ 6 → IfSome c.left_before (GivesListingPart c.taken_before c.taken_now)
+pub listed_part : (c : Call) (o : Outcome) (s : ℕ) → s ≡ status_of o → Ends Graph c o → s ≡ 6 → IfSome c.left_before (λ deck. GivesPartWhere c.taken_before c.taken_now (IsListingOf deck))
 listed_part c o s e h q = map_some c.left_before (listing_part c.taken_before c.taken_now) (at_outcome Graph c o WriteFault (tells.is_write_fault o s e q) h).2
 
 pub ran : (k : Command) → IsRun k → (c : Call) (o : Outcome) (s : ℕ) → s ≡ status_of o → Ends k c o → s ≡ 0 → IfSome c.left_before (GivesRun k end.Done c.taken_before c.taken_now)

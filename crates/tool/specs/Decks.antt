@@ -7,8 +7,7 @@ use Rattle.meaning.specs.Deck.{source_of, data_line77, data_line90}
 use Rattle.tree.specs.Causes.{refusal_at}
 use Rattle.tree.specs.declared.refusals.Cause.TheVariants.{TooLong as TooLong'}
 use Rattle.f77_grammar.specs.Reading77.{Reads77, Refused77}
-use Rattle.f90_grammar.specs.Refusals.{Refused90}
-use Rattle.f90_read.specs.Outcomes.{ReadsWithin}
+use Rattle.f90_grammar.specs.Refusals.{Reads90, Refused90}
 use Rattle.tool.specs.declared.commands.commands.Command.{Command}
 use Rattle.tool.specs.declared.commands.commands.Command.TheVariants.{Vectorise, Graph, Run77, Run90}
 use Rattle.meaning.specs.Dialect.{fortran77}
@@ -28,10 +27,10 @@ pub data RefusedDeck77 (deck : List ℕ) : Refusal → Type 0 where
 
 -- ---- a deck of Fortran 90
 
--- the same, and it doesn't declare too many names
+-- the same
 pub record ReadsDeck90 (deck : List ℕ) (p : Program) : Type 0 where
   pub within : length deck ≤ deck_bytes90
-  pub source : ReadsWithin (source_of data_line90 deck) p
+  pub source : Reads90 (source_of data_line90 deck) p
 
 pub data RefusedDeck90 (deck : List ℕ) : Refusal → Type 0 where
   TooLong : deck_bytes90 < length deck → RefusedDeck90 deck (refusal_at TooLong' 0)

@@ -2,9 +2,12 @@ pub mod Answers
 pub mod Asked
 pub mod Decks
 pub mod Endings
-pub mod Headline
+pub mod Given
 pub mod Listings
+pub mod Marked
+pub mod Printed
 pub mod Running
+pub mod Translates
 pub mod Translation
 pub mod Unread
 pub mod Works

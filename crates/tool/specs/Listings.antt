@@ -1,21 +1,34 @@
--- What `graph` writes.
-use Rattle.std.specs.Prelude.{ℕ, List, Option}
+-- That a text lists a deck: all of it, or those of its lines that are notes.
+use Rattle.std.specs.Prelude.{ℕ, ◌≡◌, Bool, List, take, filter, flat_map, codes}
+use Rattle.std.specs.Str.{bytes_eq}
+use Rattle.std.specs.Str.Lines.{lines}
 use Rattle.tree.specs.Plain.{Program}
-use Rattle.streams.specs.Streams.{Gives, GivesPart}
-use Rattle.listing.specs.programs.Listing.{IsListingText}
-use Rattle.tool.specs.declared.commands.commands.Command.TheVariants.{Graph}
+use Rattle.meaning.specs.Deck.{source_of, data_line90}
+use Rattle.f90_grammar.specs.PrintedText.{with_line_feed}
+use Rattle.listing_laws.specs.reader.Lists.{Lists}
+use Rattle.tool.specs.declared.commands.commands.Command.TheVariants.{Graph, Vectorise}
 use Rattle.tool.specs.Decks.{IsReadAs}
 
--- the deck is read as a program of which this is the text of a listing
+-- ---- what `graph` writes
+
+-- The deck is read as a program which the lines of the text list. A line feed ends each
 pub record IsListingOf (deck text : List ℕ) : Type 0 where
   pub program : Program
   pub read : IsReadAs Graph deck program
-  pub listing : IsListingText program text
+  pub lists : Lists program (lines text)
+  pub ended : text ≡ flat_map with_line_feed (lines text)
 
--- a listing of the deck was given whole, and nothing else
-abbrev pub GivesListing : Option (List ℕ) → Option (List ℕ) → List ℕ → Type 0
-GivesListing before now deck = (text : List ℕ) × IsListingOf deck text × Gives before text now
+-- ---- what `vectorise` writes beside the translation
 
--- a front of a listing of the deck was given
-abbrev pub GivesListingPart : Option (List ℕ) → Option (List ℕ) → List ℕ → Type 0
-GivesListingPart before now deck = (text : List ℕ) × IsListingOf deck text × GivesPart before text now
+abbrev pub is_listed : List ℕ → Bool
+is_listed line = bytes_eq (take 3 line) (codes "!G ")
+
+-- the lines of a text's source that begin so
+abbrev pub listed_lines : List ℕ → List (List ℕ)
+listed_lines text = filter is_listed (lines (source_of data_line90 text))
+
+-- the deck is read as a program which these lines of the text list
+pub record IsListedBeside (deck text : List ℕ) : Type 0 where
+  pub program : Program
+  pub read : IsReadAs Vectorise deck program
+  pub lists : Lists program (listed_lines text)

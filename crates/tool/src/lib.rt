@@ -1,4 +1,31 @@
 //! The top call: words, the deck, the text and the notes.
+//!
+//! Proved (`run_tool`, the call that the program makes): `docs/PROOFS.md` says what is proved of it, clause by clause.
+//!
+//! **The translation's text is made whole before any of it is written.** So is the input behind it; want of memory
+//! leaves nothing written.
+//!
+//! **The whole text is made before any of it is written.** A refusal can't leave a front of a text in the output, and a
+//! fault of the sink leaves a front of the one text. It costs memory for the text, which the limit of 2^20 bytes of
+//! source bounds.
+//!
+//! **At a refusal for a limit of bytes the deck may be unread.** Where more than 2^24 bytes come the rest isn't read,
+//! since such a deck may have no end. All other refusals come after the end was seen.
+//!
+//! **A command's work is stated over the bytes of the deck, the call's over the objects.** `Works` says what a command
+//! does with bytes that were read; `Ends` says what a call did with source, sink and counts. So reading the deck is
+//! proved once for all commands, and a new command brings its cases of `Reads`, `IsRefused`, `ending_of` and `HasText`,
+//! and the proof that its body `Works`.
+//!
+//! **What a command may write is a relation.** A translation and the text of a run are one text; `graph` writes the
+//! text of some listing of the program (`HasText`).
+//!
+//! **That a deck is read as one program, and not refused, comes from the reader's answer.** `read77` says that a source
+//! that is read, or refused, has no other answer; `IsReadAs` and `IsRefusedFor` carry this to the clauses. So the top
+//! call doesn't rest on the law that no source is both (`f77_read::one_answer`), which stands at the edge.
+//!
+//! **Clauses of the top call stand in groups.** What is asked of the words, what an object tells, and that it didn't
+//! fail have a name each (`Asks`, `IfTold`, `HasNotFailed`).
 #![tactic(auto)]
 
 ghost use Rattle.std.specs.Prelude.{◌≡◌, ◌≢◌, ◌≤◌, ◌↔◌, ◌⊎◌, [], ◌∷◌};
@@ -20,10 +47,13 @@ ghost use Rattle.tool.specs.Asked.{Asks, HasNotFailed, IfTold};
 ghost use Rattle.tool.specs.Decks.{Reads, IsRefused, most_bytes};
 ghost use Rattle.tool.specs.Endings.{Ends, Ended, IsReadOrPassed, IsRefusedAfter, ending_of, is_silent};
 ghost use Rattle.tool.specs.Endings.{writes_early, gives_all};
-ghost use Rattle.tool.specs.Headline.{GivesTranslation, GivesTranslationPart};
-ghost use Rattle.tool.specs.Listings.{GivesListing, GivesListingPart};
+ghost use Rattle.tool.specs.Given.{GivesWhere, GivesPartWhere};
+ghost use Rattle.tool.specs.Listings.{IsListedBeside, IsListingOf};
+ghost use Rattle.tool.specs.Marked.{IsMarked};
+ghost use Rattle.tool.specs.Printed.{IsPrinted};
 ghost use Rattle.tool.specs.Running.{IsRun, GivesRun, GivesFaultedRun, GivesRunPart, GivesAtMostPart};
 ghost use Rattle.tool.specs.Running.{IsExceeded, run_of, text_of_run};
+ghost use Rattle.tool.specs.Translates.{Translates};
 ghost use Rattle.tool.specs.Works.{Works};
 
 pub mod commands;
@@ -180,17 +210,26 @@ pub fn run_tool<S: Source, K: Sink, E: Sink>(
     ensures no_read_fault { result ≢ 5 → S.faults deck.new ≡ S.faults deck.old }
     ensures no_write_fault { result ≢ 6 → K.faults out.new ≡ K.faults out.old }
 
-    // `vectorise` gives the translation at 0, and a front of it at 6.
+    // `vectorise` gives one text at 0, and a front of one at 6. It is a translation of the deck (`translated`); those
+    // of its lines that are notes list the deck's program (`listed_beside`); the statements of the nests that they list
+    // with a graph are marked as that has them (`marked`); and it is laid out as a translation is printed (`printed`).
     ensures translated { Asks words.now.items Vectorise → result ≡ 0
-        → IfTold (S.left deck.old) (GivesTranslation (K.taken out.old) (K.taken out.new)) }
+        → IfTold (S.left deck.old) (λ bytes. GivesWhere (K.taken out.old) (K.taken out.new) (Translates bytes)) }
+    ensures listed_beside { Asks words.now.items Vectorise → result ≡ 0
+        → IfTold (S.left deck.old) (λ bytes. GivesWhere (K.taken out.old) (K.taken out.new) (IsListedBeside bytes)) }
+    ensures marked { Asks words.now.items Vectorise → result ≡ 0
+        → IfTold (S.left deck.old) (λ bytes. GivesWhere (K.taken out.old) (K.taken out.new) (IsMarked bytes)) }
+    ensures printed { Asks words.now.items Vectorise → result ≡ 0
+        → IfTold (S.left deck.old) (λ bytes. GivesWhere (K.taken out.old) (K.taken out.new) (IsPrinted bytes)) }
     ensures part { Asks words.now.items Vectorise → result ≡ 6
-        → IfTold (S.left deck.old) (GivesTranslationPart (K.taken out.old) (K.taken out.new)) }
+        → IfTold (S.left deck.old) (λ bytes. GivesPartWhere (K.taken out.old) (K.taken out.new)
+        (λ text. Translates bytes text × IsListedBeside bytes text × IsMarked bytes text × IsPrinted bytes text)) }
 
     // `graph` gives a listing of the deck's program at 0, and a front of one at 6.
     ensures listed { Asks words.now.items Graph → result ≡ 0
-        → IfTold (S.left deck.old) (GivesListing (K.taken out.old) (K.taken out.new)) }
+        → IfTold (S.left deck.old) (λ bytes. GivesWhere (K.taken out.old) (K.taken out.new) (IsListingOf bytes)) }
     ensures listed_part { Asks words.now.items Graph → result ≡ 6
-        → IfTold (S.left deck.old) (GivesListingPart (K.taken out.old) (K.taken out.new)) }
+        → IfTold (S.left deck.old) (λ bytes. GivesPartWhere (K.taken out.old) (K.taken out.new) (IsListingOf bytes)) }
 
     // `run77` and `run90` give all of the run's text: at 0 the run ended without fault, at 3 by a fault, at 4 since its
     // steps exceed the limit. At 6 they give a front.

@@ -1,11 +1,7 @@
 //! `graph`: the listing of a deck.
-ghost use Rattle.std.specs.Prelude.{◌≡◌, ◌≢◌, ◌≤◌, true, length, Some, IfOk};
+ghost use Rattle.std.specs.Prelude.{◌≡◌, ◌≢◌, ◌≤◌, true, length, Some};
 ghost use Rattle.tree.specs.Limits.{deck_bytes};
-ghost use Rattle.tree.specs.View.{program_of};
-ghost use Rattle.meaning.specs.Dialect.{fortran77};
-ghost use Rattle.meaning.specs.Profile77.{IsProgram77};
 ghost use Rattle.tool.specs.declared.commands.commands.Command.TheVariants.{Graph};
-ghost use Rattle.listing.specs.programs.Listing.{IsListingText};
 ghost use Rattle.tool.specs.Endings.{is_silent};
 ghost use Rattle.tool.specs.Works.{Works};
 
@@ -16,15 +12,6 @@ use listing::programs::listing_text;
 use meaning::decks::{DataLine, source_and_input};
 use std::alloc::Global;
 use streams::{Sink, write_all};
-use tree::{Memory, Program77};
-
-// Such a program has few declarations.
-fn whole_listing(alloc: Global, program: &Program77) -> Result<Vec<u8>, Memory>
-    requires { IsProgram77 fortran77 (program_of program.now) }
-    ensures { IfOk result (λ text. IsListingText (program_of program.now) text.items) }
-{
-    listing_text(alloc, program)
-}
 
 /// Lists the dependences of the deck, which has at most 2^24 bytes. Nothing is written before the whole text is there.
 pub(crate) fn graph<K: Sink>(alloc: Global, deck: &[u8], out: &mut K) -> Outcome
@@ -44,7 +31,7 @@ pub(crate) fn graph<K: Sink>(alloc: Global, deck: &[u8], out: &mut K) -> Outcome
         Ok(program) => program,
         Err(refused) => return unread(refused),
     };
-    let Ok(text) = whole_listing(alloc, &program) else {
+    let Ok(text) = listing_text(alloc, &program) else {
         return Outcome::OutOfMemory;
     };
     match write_all(out, text.as_slice()) {

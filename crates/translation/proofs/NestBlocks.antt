@@ -1,6 +1,4 @@
-pub mod AloneLaws
 pub mod Holds
-pub mod Straight
 pub mod Answering
 pub mod NumberLaws
 pub mod Placed

@@ -1,8 +1,11 @@
 pub mod Rounds
 pub mod Endings
+pub mod Throughout
 pub mod Nests
 pub mod Placed
 pub mod Members
 pub mod Found
 pub mod Once
+pub mod Answers
+pub mod Relined
 pub mod Law

@@ -5,7 +5,7 @@ use Rattle.tree.specs.declared.stmts.Block.{Block as Tree}
 use Rattle.translation.specs.loop_placing.Placing.{blocks_of, placed_in}
 use Rattle.translation.specs.made_declarations.Declaring.{with_integers}
 use Rattle.translation.specs.nest_blocks.Answers.{AreAnswersFor}
-use Rattle.translation.specs.placed_profile.Laws.{IsWithinLimits}
+use Rattle.translation.specs.placed_profile.Limits.{IsWithinLimits}
 use Rattle.translation.specs.program_translation.Translated.{IsMadeIn}
 use Rattle.translation.specs.Translated.{IsVectorised}
 

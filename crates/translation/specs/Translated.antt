@@ -2,7 +2,7 @@
 use Rattle.std.specs.Prelude.{ℕ, Option, List}
 use Rattle.tree.specs.Plain.{Block, Program}
 use Rattle.translation.specs.nest_blocks.Answers.{AreAnswersFor}
-use Rattle.translation.specs.placed_profile.Laws.{IsWithinLimits}
+use Rattle.translation.specs.placed_profile.Limits.{IsWithinLimits}
 use Rattle.translation.specs.program_translation.Translated.{IsPlacedBy}
 
 -- The lines are a listing of p; and q is p with the blocks in the place of its nests that are emitted by the graphs

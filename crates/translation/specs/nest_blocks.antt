@@ -1,6 +1,5 @@
-pub mod Alone
 pub mod LoopAnswers
-pub mod Sources
 pub mod Answers
 pub mod Blocks
+pub mod Laws
 pub mod Places

@@ -1,7 +1,7 @@
 //! The limits of Fortran 90 on the statements of a program.
 ghost use Rattle.std.specs.Prelude.{◌↔◌, IsTrue};
 ghost use Rattle.tree.specs.View.{block_of};
-ghost use Rattle.translation.specs.placed_profile.Laws.{IsWithinLimits};
+ghost use Rattle.translation.specs.placed_profile.Limits.{IsWithinLimits};
 
 use crate::depth::block_fits;
 use crate::number::without_block;

@@ -1,5 +1,4 @@
 //! The listing of a program, and what stands in the place of its nests: array assignments and loops.
-mod alone;
 mod answers;
 mod laws;
 mod loop_answers;

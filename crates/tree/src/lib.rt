@@ -1,4 +1,12 @@
 //! The trees of programs of both dialects, their names, lists and operators.
+//!
+//! Proved: names, lists and the trees of both dialects; a copy is an equal plain tree (`Expr::copy`, `Block::copy`);
+//! each operator and function of values is exact in 128 bits, with its faults (`Op::apply`, `Fun::apply`); one table
+//! each of operators, functions, causes of refusal and limits, with what a reader takes as an operator or function
+//! being exactly what the table spells (`Op::read77`, `Fun::read77`).
+//!
+//! **What an operation on values of unsuited kinds gives is said once.** `apply` and `call` are total, in the
+//! definitions and in the code: constants and machines share them, and no definition above needs a premise on kinds.
 #![tactic(auto)]
 
 mod arguments;

@@ -40,7 +40,9 @@ use Rattle.array_form.specs.forms.Following.{has_none, is_moved, are_moved, is_r
 use Rattle.array_form.specs.forms.Forms.{number_text, trip_text, trip_form, terms_with, sum_text, section, subscript_with, subscript_form, subscript_forms, form}
 use Rattle.array_form.specs.forms.Instances.{count_of, counts_of}
 use Rattle.array_form.specs.forms.Laws.{Turns}
-use Rattle.array_form.specs.forms.Loops.{Loop, Surroundings, variables_of, names_of, is_among, AreDistinct, loops_among, loops_in_order, one_each, same_loops, coefficient, form_without}
+use Rattle.array_form.specs.forms.Loops.{Loop, Surroundings, variables_of, names_of, is_among, loops_among}
+use Rattle.array_form.specs.forms.Loops.{loops_in_order, one_each, same_loops, coefficient, form_without}
+use Rattle.array_form.specs.forms.Trips.{AreDistinct}
 use Rattle.array_form.proofs.forms.Bounds.{by_stride, number_known, lower_known, upper_known}
 use Rattle.array_form.proofs.forms.Coefficients.{Found, found_form, replaced, replaced_sized, replaced_have, number_replaced, as_long, without_limited, without_short, coefficient_small}
 use Rattle.array_form.proofs.forms.Constructing.{Full, whole_full}

@@ -30,7 +30,8 @@ use Rattle.linear_forms.proofs.Sizes.{abs-sum, abs-product, smaller, both, weigh
 use Rattle.array_form.specs.forms.Forms.{number_text, divided_text, trip_text, trip_form, terms_with, sum_text}
 use Rattle.array_form.specs.forms.Instances.{count_of}
 use Rattle.array_form.specs.forms.Laws.{HasTrip, Turns}
-use Rattle.array_form.specs.forms.Loops.{Loop, Surroundings, names_of, divided, trip_number}
+use Rattle.array_form.specs.forms.Loops.{Loop, Surroundings, names_of}
+use Rattle.array_form.specs.forms.Trips.{divided, trip_number}
 use Rattle.array_form.proofs.forms.Coefficients.{as_long, weighted_front, weighted_last}
 
 -- ---- sizes

@@ -17,7 +17,8 @@ use Rattle.meaning.proofs.Exchanges.{same_cell-same}
 use Rattle.linear_forms.specs.Laws.{AreSized}
 use Rattle.linear_forms.specs.Linear.{Form, weighted, number_at, HaveValues, added, multiple, is_small, all_small, not_zero, is_limited, limited, constant_of, with_zero, unit, with_no_constant, form_of_name, form_of_sign, form_of_product, form_of_two, form_of_pair, constant_or, linear, form_of}
 use Rattle.linear_forms.proofs.Sizes.{both}
-use Rattle.array_form.specs.forms.Loops.{is_among, AreDistinct, coefficient, without, form_without}
+use Rattle.array_form.specs.forms.Loops.{is_among, coefficient, without, form_without}
+use Rattle.array_form.specs.forms.Trips.{AreDistinct}
 
 -- ---- no form has more places than there are names
 

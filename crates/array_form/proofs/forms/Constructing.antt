@@ -26,7 +26,8 @@ use Rattle.linear_forms.specs.Linear.{Form, weighted, number_at}
 use Rattle.array_form.specs.forms.Forms.{trip_text, loops_over, constructed}
 use Rattle.array_form.specs.forms.Instances.{at_iterations, count_of, counts_of}
 use Rattle.array_form.specs.forms.Laws.{Turns, AreKnown}
-use Rattle.array_form.specs.forms.Loops.{Loop, Surroundings, variables_of, names_of, is_among, divided, coefficient, without}
+use Rattle.array_form.specs.forms.Loops.{Loop, Surroundings, variables_of, names_of, is_among, coefficient, without}
+use Rattle.array_form.specs.forms.Trips.{divided}
 use Rattle.array_form.proofs.forms.Bounds.{trip_known}
 use Rattle.array_form.proofs.forms.Coefficients.{replaced, replaced_sized, replaced_have, number_replaced, as_long}
 use Rattle.array_form.proofs.forms.Iterations.{variable_cell}

@@ -20,7 +20,8 @@ use Rattle.linear_forms.specs.Laws.{AreSized}
 use Rattle.linear_forms.specs.Linear.{HaveValues}
 use Rattle.array_form.specs.forms.Following.{has_none}
 use Rattle.array_form.specs.forms.Instances.{counts_of}
-use Rattle.array_form.specs.forms.Loops.{Loop, Surroundings, names_of, is_among, AreDistinct, loops_among}
+use Rattle.array_form.specs.forms.Loops.{Loop, Surroundings, names_of, is_among, loops_among}
+use Rattle.array_form.specs.forms.Trips.{AreDistinct}
 use Rattle.array_form.proofs.forms.Axes.{Fit, Within, places, Takes}
 use Rattle.array_form.proofs.forms.Iterations.{at_those}
 

@@ -12,7 +12,9 @@ use Rattle.tree.specs.Plain.{Reference, Subscripts, no_subscripts, subscript}
 use Rattle.meaning.specs.Reads.{names_in_subscript}
 use Rattle.meaning_laws.proofs.arrays.Members.{here, there, nowhere, cases_of}
 use Rattle.linear_forms.proofs.Sizes.{both}
-use Rattle.array_form.specs.forms.Loops.{Loop, Surroundings, variables_of, names_of, is_among, AreDistinct, loops_among, loops_in_order, one_each, coefficient}
+use Rattle.array_form.specs.forms.Loops.{Loop, Surroundings, variables_of, names_of, is_among, loops_among}
+use Rattle.array_form.specs.forms.Loops.{loops_in_order, one_each, coefficient}
+use Rattle.array_form.specs.forms.Trips.{AreDistinct}
 use Rattle.array_form.specs.forms.Statements.{Hold, loops_from, occurrences, is_linear, are_formed, has_form, depends_on, is_triangle, hold_at, loops_assigned}
 use Rattle.array_form.proofs.forms.Names.{among}
 use Rattle.array_form.proofs.forms.Values.{variable_in}

@@ -19,7 +19,9 @@ use Rattle.array_form.specs.forms.Following.{has_none}
 use Rattle.array_form.specs.forms.Forms.{trip_text, spread_over, placed, constructed}
 use Rattle.array_form.specs.forms.Instances.{at_iterations, count_of, counts_of}
 use Rattle.array_form.specs.forms.Laws.{AreKnown, AreTurning}
-use Rattle.array_form.specs.forms.Loops.{Loop, Surroundings, variables_of, names_of, is_among, AreDistinct, loops_among, same_loops, is_part_of, is_exchange_of}
+use Rattle.array_form.specs.forms.Loops.{Loop, Surroundings, variables_of, names_of, is_among, loops_among, same_loops}
+use Rattle.array_form.specs.forms.Loops.{is_part_of, is_exchange_of}
+use Rattle.array_form.specs.forms.Trips.{AreDistinct}
 use Rattle.array_form.proofs.forms.Axes.{Fit, Within, places, NoFault, from_there, same_lists}
 use Rattle.array_form.proofs.forms.Bounds.{trip_known}
 use Rattle.array_form.proofs.forms.Constructing.{Full, filled, whole_full, settled_full, Apart, AreSeparate, constructed_full}

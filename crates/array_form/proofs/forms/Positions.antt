@@ -9,7 +9,8 @@ use Rattle.meaning.specs.ArrayValues.{counted, positions}
 use Rattle.meaning_laws.proofs.arrays.Members.{here, there, nowhere, cases_of, in_map, of_map}
 use Rattle.meaning_laws.proofs.arrays.OneToOne.{of_flat_map}
 use Rattle.array_form.specs.forms.Instances.{in_sequence}
-use Rattle.array_form.specs.forms.Loops.{Loop, variables_of, is_among, AreDistinct}
+use Rattle.array_form.specs.forms.Loops.{Loop, variables_of, is_among}
+use Rattle.array_form.specs.forms.Trips.{AreDistinct}
 use Rattle.array_form.proofs.forms.Iterations.{iterations}
 
 -- ---- lists of lists

@@ -25,7 +25,9 @@ use Rattle.array_form.specs.forms.Following.{has_none, is_moved, is_regular, are
 use Rattle.array_form.specs.forms.Forms.{placed, constructed, name_form, form, forms, subscript_forms}
 use Rattle.array_form.specs.forms.Instances.{at_iterations, count_of, counts_of}
 use Rattle.array_form.specs.forms.Laws.{AreKnown, AreTurning, FormHasInstanceValues}
-use Rattle.array_form.specs.forms.Loops.{Loop, Surroundings, variables_of, names_of, is_among, AreDistinct, loops_among, loops_in_order, one_each}
+use Rattle.array_form.specs.forms.Loops.{Loop, Surroundings, variables_of, names_of, is_among, loops_among}
+use Rattle.array_form.specs.forms.Loops.{loops_in_order, one_each}
+use Rattle.array_form.specs.forms.Trips.{AreDistinct}
 use Rattle.array_form.proofs.forms.Axes as axes
 use Rattle.array_form.proofs.forms.Axes.{Fit, Within, NoFault, Takes, Vectors, places, stays}
 use Rattle.array_form.proofs.forms.Forming.{unary, binary, HasEach, no_arguments, one_argument, applied, none_append}

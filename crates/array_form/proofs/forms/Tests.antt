@@ -25,7 +25,8 @@ use Rattle.linear_forms.specs.Linear.{weighted, number_at, not_zero, is_limited}
 use Rattle.array_form.specs.forms.Forms.{trip_text}
 use Rattle.array_form.specs.forms.Instances.{count_of, counts_of, in_sequence}
 use Rattle.array_form.specs.forms.Laws.{Turns, AreKnown}
-use Rattle.array_form.specs.forms.Loops.{Loop, Surroundings, names_of, trip_number, is_positive_constant}
+use Rattle.array_form.specs.forms.Loops.{Loop, Surroundings, names_of, is_positive_constant}
+use Rattle.array_form.specs.forms.Trips.{trip_number}
 use Rattle.array_form.specs.forms.Statements.{tests_of, and_all, guarded_by, loops_from, left_form, right_form, array_form_of}
 use Rattle.array_form.proofs.forms.Bounds.{text_value}
 use Rattle.linear_forms.proofs.Sizes.{both}

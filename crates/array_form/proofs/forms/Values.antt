@@ -8,7 +8,8 @@ use Rattle.meaning.specs.Store.{Store}
 use Rattle.meaning_laws.proofs.arrays.Members.{here, there, nowhere, cases_of}
 use Rattle.array_form.specs.forms.Instances.{count_of, counts_of}
 use Rattle.array_form.specs.forms.Laws.{AreKnown, AreTurning}
-use Rattle.array_form.specs.forms.Loops.{Loop, Surroundings, variables_of, is_among, AreDistinct}
+use Rattle.array_form.specs.forms.Loops.{Loop, Surroundings, variables_of, is_among}
+use Rattle.array_form.specs.forms.Trips.{AreDistinct}
 use Rattle.array_form.proofs.forms.Axes.{Fit, Within, places}
 use Rattle.array_form.proofs.forms.Iterations.{iterations}
 use Rattle.array_form.proofs.forms.Names.{among}

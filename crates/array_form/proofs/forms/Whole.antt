@@ -35,7 +35,8 @@ use Rattle.array_form.specs.forms.Following.{has_none, is_moved, are_moved, is_r
 use Rattle.array_form.specs.forms.Forms.{subscript_forms}
 use Rattle.array_form.specs.forms.Instances.{at_iterations, count_of, counts_of, in_sequence, instance_at, instances_of}
 use Rattle.array_form.specs.forms.Laws.{Turns, AreKnown, AreTurning, instances_from, OwnCells, InstancesHaveOwnCells, ArrayFormStoresInstances}
-use Rattle.array_form.specs.forms.Loops.{Loop, Surroundings, variables_of, names_of, AreDistinct, loops_in_order, loops_among}
+use Rattle.array_form.specs.forms.Loops.{Loop, Surroundings, variables_of, names_of, loops_in_order, loops_among}
+use Rattle.array_form.specs.forms.Trips.{AreDistinct}
 use Rattle.array_form.specs.forms.Statements.{loops_from, hold_at, loops_assigned, left_form, right_form, array_form_of}
 use Rattle.array_form.proofs.forms.Axes as axes
 use Rattle.array_form.proofs.forms.Axes.{Fit, Within, NoFault, Takes, places}
@@ -49,16 +50,16 @@ use Rattle.array_form.proofs.forms.Values.{fitting, bounded_by, same_length, by_
 
 -- ---- an instance depends on the cells that it reads alone
 
-bound_kept : (x : List ℕ) (z : ℤ) (s t : Store) (cs : List Cell) → AllByRecursion (λ c. s.held c ≡ t.held c) cs → AllByRecursion (λ c. (bound_to x z s).held c ≡ (bound_to x z t).held c) cs
+pub bound_kept : (x : List ℕ) (z : ℤ) (s t : Store) (cs : List Cell) → AllByRecursion (λ c. s.held c ≡ t.held c) cs → AllByRecursion (λ c. (bound_to x z s).held c ≡ (bound_to x z t).held c) cs
 bound_kept x z s t [] h = tt
 bound_kept x z s t (c ∷ cs) h = (ap (cond (same_cell (record { name = x; subscripts = [] }) c) (Int z)) h.0, bound_kept x z s t cs h.1)
 
-held_kept : (ls : List Loop) (is : List ℕ) (s t : Store) (cs : List Cell) → AllByRecursion (λ c. s.held c ≡ t.held c) cs → AllByRecursion (λ c. (at_iterations ls is s).held c ≡ (at_iterations ls is t).held c) cs
+pub held_kept : (ls : List Loop) (is : List ℕ) (s t : Store) (cs : List Cell) → AllByRecursion (λ c. s.held c ≡ t.held c) cs → AllByRecursion (λ c. (at_iterations ls is s).held c ≡ (at_iterations ls is t).held c) cs
 held_kept [] is s t cs h = h
 held_kept (l ∷ ls) [] s t cs h = h
 held_kept (l ∷ ls) (i ∷ is) s t cs h = held_kept ls is (bound_to l.variable (pos i) s) (bound_to l.variable (pos i) t) cs (bound_kept l.variable (pos i) s t cs h)
 
-bounds_kept : (ls : List Loop) (is : List ℕ) (s t : Store) → s.bounds ≡ t.bounds → (at_iterations ls is s).bounds ≡ (at_iterations ls is t).bounds
+pub bounds_kept : (ls : List Loop) (is : List ℕ) (s t : Store) → s.bounds ≡ t.bounds → (at_iterations ls is s).bounds ≡ (at_iterations ls is t).bounds
 bounds_kept [] is s t e = e
 bounds_kept (l ∷ ls) [] s t e = e
 bounds_kept (l ∷ ls) (i ∷ is) s t e = bounds_kept ls is (bound_to l.variable (pos i) s) (bound_to l.variable (pos i) t) e
@@ -83,7 +84,7 @@ module _ (d : Dialect) (ls : List Loop) (left : Reference) (right : Expression) 
 
 -- ---- loops in two orders
 
-either_way : (p q : Bool) → (p ≡ true → q ≡ true) → (q ≡ true → p ≡ true) → p ≡ q
+pub either_way : (p q : Bool) → (p ≡ true → q ≡ true) → (q ≡ true → p ≡ true) → p ≡ q
 either_way true q h k = sym (h refl)
 either_way false true h k = k refl
 either_way false false h k = refl
@@ -109,16 +110,16 @@ variable_of (m ∷ ls) c h = by (is_variable ls c) refl h (variable_of ls c)
     by true e h more = let r = more e in (r.0, there m ls r.0 r.1, r.2)
     by false e h more = (m, here m ls, h)
 
-same_variables : (ls ms : List Loop) → ((l : Loop) → Contains ls l → Contains ms l) → ((l : Loop) → Contains ms l → Contains ls l) → (c : Cell) → is_variable ls c ≡ is_variable ms c
+pub same_variables : (ls ms : List Loop) → ((l : Loop) → Contains ls l → Contains ms l) → ((l : Loop) → Contains ms l → Contains ls l) → (c : Cell) → is_variable ls c ≡ is_variable ms c
 same_variables ls ms h k c = either_way (is_variable ls c) (is_variable ms c)
     (λ e. let r = variable_of ls c e in variable_found ms r.0 c (h r.0 r.1) r.2)
     (λ e. let r = variable_of ms c e in variable_found ls r.0 c (k r.0 r.1) r.2)
 
-value_of_cell : (r : Result (List ℤ) Fault) (f : List ℤ → Result Cell Fault) (h : Cell → Value) (c : Cell) → (do is ← r; f is) ≡ Ok c → ◌≡◌ {A = Result Value Fault} (do is ← r; k ← f is; Ok (h k)) (Ok (h c))
+pub value_of_cell : (r : Result (List ℤ) Fault) (f : List ℤ → Result Cell Fault) (h : Cell → Value) (c : Cell) → (do is ← r; f is) ≡ Ok c → ◌≡◌ {A = Result Value Fault} (do is ← r; k ← f is; Ok (h k)) (Ok (h c))
 value_of_cell (Ok is) f h c e = ap (λ (q : Result Cell Fault). do k ← q; Ok (h k)) e
 value_of_cell (Err g) f h c e = absurd cc
 
-from_within : (xs : List ℤ) (ι : List ℕ → ℕ) (ls : List Loop) → ((l : Loop) → Contains ls l → (1 ≤ ι l.variable) × (ι l.variable ≤ count_of xs l)) → AreFrom 1 (counts_of xs ls) (iterations ι ls)
+pub from_within : (xs : List ℤ) (ι : List ℕ → ℕ) (ls : List Loop) → ((l : Loop) → Contains ls l → (1 ≤ ι l.variable) × (ι l.variable ≤ count_of xs l)) → AreFrom 1 (counts_of xs ls) (iterations ι ls)
 from_within xs ι [] h = tt
 from_within xs ι (l ∷ ls) h = let b = h l (here l ls) in let low = b.0 in let high = b.1 in ((low, omega (arith, high)), from_within xs ι ls (λ m g. h m (there l ls m g)))
 
@@ -129,7 +130,7 @@ linear_one a [] o other h = refl
 linear_one a (l ∷ hs) (Some f) other h = h
 linear_one a (l ∷ hs) None other h = absurd cc
 
-linear_regular : (a : Surroundings) (D : List Loop) (ps : Subscripts) → are_moved a D ps ≡ true → are_regular_subscripts a D ps ≡ true
+pub linear_regular : (a : Surroundings) (D : List Loop) (ps : Subscripts) → are_moved a D ps ≡ true → are_regular_subscripts a D ps ≡ true
 linear_regular a D no_subscripts h = refl
 linear_regular a D (subscript (Section i j k) ps) h = absurd cc
 linear_regular a D (subscript (Only e) ps) h =
@@ -144,7 +145,7 @@ no_vector d a s xs k e (l ∷ []) (Some f) h = tt
 no_vector d a s xs k e (l ∷ []) None h = absurd cc
 no_vector d a s xs k e (l ∷ m ∷ hs) o h = tt
 
-linear_vectors : (d : Dialect) (a : Surroundings) (s : Store) (xs : List ℤ) (k : AreKnown a s xs) (D : List Loop) (ps : Subscripts) → are_moved a D ps ≡ true → axes.Vectors d a s xs k.few k.values k.sized k.distinct D ps
+pub linear_vectors : (d : Dialect) (a : Surroundings) (s : Store) (xs : List ℤ) (k : AreKnown a s xs) (D : List Loop) (ps : Subscripts) → are_moved a D ps ≡ true → axes.Vectors d a s xs k.few k.values k.sized k.distinct D ps
 linear_vectors d a s xs k D no_subscripts h = tt
 linear_vectors d a s xs k D (subscript (Section i j l) ps) h = tt
 linear_vectors d a s xs k D (subscript (Only e) ps) h =
@@ -439,7 +440,7 @@ module _ (d : Dialect) (bits : d.bits ≡ 31) (a : Surroundings) (k : ℕ) (s t 
       by None b = absurd (no_bounds d bits a k s xs known turns x e ps right no_hold moved t none run b)
 
 -- a left side in which loops stand has subscripts
-unsubscripted : (a : Surroundings) (k : ℕ) (left : Reference) → AreDistinct (names_of a) → has_none (loops_from a k) ≡ false → hold_at a k left ≡ None → left.subscripts ≡ no_subscripts → ⊥
+pub unsubscripted : (a : Surroundings) (k : ℕ) (left : Reference) → AreDistinct (names_of a) → has_none (loops_from a k) ≡ false → hold_at a k left ≡ None → left.subscripts ≡ no_subscripts → ⊥
 unsubscripted a k left distinct some no_hold e =
     let order = ordered_loops a k left distinct no_hold in
     let empty : loops_assigned a k left ≡ [] = ap (loops_in_order (loops_from a k)) e in

@@ -2,7 +2,7 @@
 use Rattle.std.proofs.Common.{◌≡◌, ℕ, Bool, true, false, ◌||◌, cond, List, [], ◌∷◌, refl, ap, ◌∙◌}
 use Rattle.std.specs.Str.{bytes_eq}
 use Rattle.array_form.specs.forms.Loops.{is_among}
-use Rattle.nest.specs.statement_loops.Standings as texts
+use Rattle.nest.specs.statement_loops.Names as texts
 
 or_is : (a b c : Bool) → b ≡ c → (a || b) ≡ cond a true c
 or_is true b c h = refl

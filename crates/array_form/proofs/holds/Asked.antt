@@ -11,7 +11,8 @@ use Rattle.array_form.specs.forms.Loops as forms
 use Rattle.dependence_graph.specs.declared.graphs.Hold.{Hold}
 use Rattle.array_form.specs.holds.Holds.{hold_at_level, holds_of}
 use Rattle.array_form.specs.holds.Statements.{no_statement, statement_at, surroundings_at}
-use Rattle.array_form.specs.holds.Surroundings.{counted_of, surroundings_of, surroundings_view}
+use Rattle.array_form.specs.holds.Surroundings.{counted_of, surroundings_of}
+use Rattle.array_form.specs.holds.View.{surroundings_view}
 use Rattle.array_form.specs.declared.holds.loops.Surroundings.{Surroundings}
 use Rattle.nest.specs.statement_loops.Standings.{standing_of}
 use Rattle.nest.specs.declared.statement_loops.standings.Standing.{Standing}

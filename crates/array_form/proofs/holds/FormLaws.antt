@@ -11,7 +11,8 @@ use Rattle.std.proofs.lemmas.List.Folds.{list_all-map, list_all_at}
 use Rattle.tree.specs.Plain.{Subscript, subscripts}
 use Rattle.array_form.specs.forms.Loops as forms
 use Rattle.array_form.specs.forms.Statements.{are_formed, has_form, occurrences}
-use Rattle.array_form.specs.holds.Surroundings.{counted_of, surroundings_view}
+use Rattle.array_form.specs.holds.Surroundings.{counted_of}
+use Rattle.array_form.specs.holds.View.{surroundings_view}
 use Rattle.array_form.specs.declared.holds.loops.Counted.{Counted}
 use Rattle.array_form.specs.declared.holds.loops.Surroundings.{Surroundings}
 use Rattle.array_form.specs.holds.Levels.{is_formed, loops_from_place}

@@ -13,7 +13,8 @@ use Rattle.array_form.specs.forms.Statements as forms
 use Rattle.dependence_graph.specs.declared.graphs.Hold.{Hold}
 use Rattle.dependence_graph.specs.declared.graphs.HoldReason.{HoldReason}
 use Rattle.dependence_graph.specs.declared.graphs.HoldReason.TheVariants.{Form, Triangle}
-use Rattle.array_form.specs.holds.Surroundings.{counted_of, surroundings_view}
+use Rattle.array_form.specs.holds.Surroundings.{counted_of}
+use Rattle.array_form.specs.holds.View.{surroundings_view}
 use Rattle.array_form.specs.declared.holds.loops.Surroundings.{Surroundings}
 use Rattle.array_form.specs.holds.Levels.{loops_from_place}
 use Rattle.array_form.specs.holds.Holds.{hold_at_level, hold_with, reason_of}

@@ -5,10 +5,10 @@ use Rattle.tree.specs.declared.exprs.Expr.{Expr}
 use Rattle.tree.specs.declared.exprs.Sub.TheVariants as subs
 use Rattle.tree.proofs.Equations.{subscript_of-one, subscript_of-part}
 use Rattle.linear_forms.specs.Linear.{Form, form_of}
-use Rattle.linear_forms.specs.Places.{IsFound}
+use Rattle.linear_forms.specs.Affines.{IsFound}
 use Rattle.subscripts.specs.declared.affine.Affine.{Affine}
 use Rattle.array_form.specs.forms.Statements.{is_linear}
-use Rattle.array_form.specs.holds.Surroundings.{loop_names, surroundings_view}
+use Rattle.array_form.specs.holds.View.{loop_names, surroundings_view}
 use Rattle.array_form.specs.declared.holds.loops.Surroundings.{Surroundings}
 use Rattle.array_form.proofs.holds.TripLaws.{names_viewed}
 

@@ -5,9 +5,10 @@ use Rattle.std.proofs.lemmas.List.{length-map, map-append}
 use Rattle.std.proofs.lemmas.List.Elements.{filter-append}
 use Rattle.array_form.specs.forms.Loops as forms
 use Rattle.nest.proofs.statement_loops.StandingLaws.{one_more}
-use Rattle.nest.specs.statement_loops.Standings as texts
+use Rattle.nest.specs.statement_loops.Names as texts
 use Rattle.nest.specs.Plain.{Loop, Nest}
-use Rattle.array_form.specs.holds.Surroundings.{counted, counted_of, may_spread, surroundings_of, surroundings_view}
+use Rattle.array_form.specs.holds.Surroundings.{counted, counted_of, may_spread, surroundings_of}
+use Rattle.array_form.specs.holds.View.{surroundings_view}
 use Rattle.array_form.specs.declared.holds.loops.Counted.{Counted}
 use Rattle.array_form.proofs.holds.AmongLaws.{among-is}
 

@@ -9,7 +9,8 @@ use Rattle.std.proofs.lemmas.List.{get_or-drop, take_all}
 use Rattle.std.proofs.lemmas.List.Folds.{list_any_at}
 use Rattle.array_form.specs.forms.Loops as forms
 use Rattle.array_form.specs.forms.Statements.{depends_on, is_triangle}
-use Rattle.array_form.specs.holds.Surroundings.{coefficients_from, counted_of, loop_names, surroundings_view}
+use Rattle.array_form.specs.holds.Surroundings.{coefficients_from, counted_of}
+use Rattle.array_form.specs.holds.View.{loop_names, surroundings_view}
 use Rattle.array_form.specs.declared.holds.loops.Counted.{Counted}
 use Rattle.array_form.specs.declared.holds.loops.Surroundings.{Surroundings}
 use Rattle.array_form.specs.holds.Levels.{AreWithin, loops_from_place}

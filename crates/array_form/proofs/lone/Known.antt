@@ -12,7 +12,8 @@ use Rattle.meaning.specs.Store.{Store}
 use Rattle.meaning.specs.Typed.{declared}
 use Rattle.meaning.specs.Value.{is_in_range}
 use Rattle.array_form.specs.forms.Laws.{AreKnown}
-use Rattle.array_form.specs.forms.Loops.{Surroundings, variables_of, names_of, AreDistinct}
+use Rattle.array_form.specs.forms.Loops.{Surroundings, variables_of, names_of}
+use Rattle.array_form.specs.forms.Trips.{AreDistinct}
 use Rattle.linear_forms.specs.Laws.{AreSized}
 use Rattle.linear_forms.specs.Linear.{HaveValues}
 use Rattle.nest_order.specs.facts.Facts.{HasFacts, values_from}

@@ -9,7 +9,8 @@ use Rattle.tree.specs.Plain.{Subscripts, no_subscripts, subscript}
 use Rattle.meaning.specs.Reads.{names_in_subscript, names_in_subscripts}
 use Rattle.meaning_laws.proofs.arrays.Members.{here}
 use Rattle.array_form.specs.forms.Following.{has_none}
-use Rattle.array_form.specs.forms.Loops.{Loop, Surroundings, variables_of, is_among, AreDistinct, loops_among}
+use Rattle.array_form.specs.forms.Loops.{Loop, Surroundings, variables_of, is_among, loops_among}
+use Rattle.array_form.specs.forms.Trips.{AreDistinct}
 use Rattle.array_form.specs.forms.Loops.{loops_in_order}
 use Rattle.array_form.proofs.forms.Forming.{none_append}
 use Rattle.array_form.proofs.forms.Names.{among}

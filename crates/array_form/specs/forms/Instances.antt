@@ -9,7 +9,8 @@ use Rattle.meaning.specs.Reads.{cells_read, cells_read_by}
 use Rattle.meaning.specs.Sections.{not_negative}
 use Rattle.meaning.specs.Store.{Store}
 use Rattle.meaning.specs.Value.{value_of, cell_named, bound_to}
-use Rattle.array_form.specs.forms.Loops.{Loop, trip_number}
+use Rattle.array_form.specs.forms.Loops.{Loop}
+use Rattle.array_form.specs.forms.Trips.{trip_number}
 use Rattle.meaning_laws.specs.arrays.Instances.{Instance}
 
 -- the store in which the variables of loops hold these iterations

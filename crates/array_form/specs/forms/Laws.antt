@@ -14,9 +14,9 @@ use Rattle.linear_forms.specs.Laws.{AreSized}
 use Rattle.linear_forms.specs.Linear.{HaveValues, is_limited}
 use Rattle.array_form.specs.forms.Following.{has_none, are_moved, is_regular}
 use Rattle.array_form.specs.forms.Forms.{form}
-use Rattle.array_form.specs.forms.Instances.{at_iterations, count_of, counts_of, in_sequence, instance_at}
-use Rattle.array_form.specs.forms.Instances.{instances_of}
-use Rattle.array_form.specs.forms.Loops.{Loop, Surroundings, variables_of, names_of, AreDistinct, loops_among}
+use Rattle.array_form.specs.forms.Instances.{at_iterations, count_of, counts_of, in_sequence, instance_at, instances_of}
+use Rattle.array_form.specs.forms.Loops.{Loop, Surroundings, variables_of, names_of, loops_among}
+use Rattle.array_form.specs.forms.Trips.{AreDistinct}
 use Rattle.array_form.specs.forms.Loops.{coefficient}
 use Rattle.array_form.specs.forms.Statements.{loops_from, hold_at, loops_assigned, array_form_of}
 use Rattle.meaning_laws.specs.arrays.Instances.{Instance, in_turn, NoneReadsWritten}

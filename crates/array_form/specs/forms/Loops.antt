@@ -1,12 +1,12 @@
 -- The loops round a statement of a nest, in which each loop goes from 1 to its trip by 1, and which of them stand
 -- where.
-use Rattle.std.specs.Prelude.{◌≡◌, ℕ, ◌==◌, ℤ, pos, nat_le, int_le, int_div, Bool, true, false, ◌&&◌}
-use Rattle.std.specs.Prelude.{if◌then◌else◌, List, [], ◌∷◌, ◌++◌, map, length, filter}
+use Rattle.std.specs.Prelude.{ℕ, ◌==◌, ℤ, pos, nat_le, int_le, Bool, true, false, ◌&&◌, if◌then◌else◌, List, [], ◌∷◌}
+use Rattle.std.specs.Prelude.{◌++◌, map, length, filter}
 use Rattle.std.specs.Cmp.Lexicographic.{pointwise}
 use Rattle.std.specs.Str.{bytes_eq}
 use Rattle.tree.specs.Plain.{Subscripts, no_subscripts, subscript}
 use Rattle.meaning.specs.Reads.{names_in_subscript}
-use Rattle.linear_forms.specs.Linear.{Form, number_at, not_zero}
+use Rattle.linear_forms.specs.Linear.{Form, not_zero}
 
 -- a linear form over the names of loops and symbols; it is divided where the divisor isn't 1
 pub record Trip : Type 0 where
@@ -33,12 +33,6 @@ names_of a = variables_of a.loops ++ a.symbols
 
 -- ---- the number of a trip
 
-abbrev pub divided : ℕ → ℤ → ℤ
-divided n z = if n == 1 then z else int_div z (pos n)
-
-abbrev pub trip_number : Trip → List ℤ → ℤ
-trip_number t xs = divided t.divisor (number_at t.form xs)
-
 -- a constant trip is never a divided one
 abbrev pub is_positive_constant : Trip → Bool
 is_positive_constant t = (t.divisor == 1) && ((not_zero t.form.coefficients == 0) && int_le (pos 1) t.form.constant)
@@ -48,10 +42,6 @@ is_positive_constant t = (t.divisor == 1) && ((not_zero t.form.coefficients == 0
 abbrev pub is_among : List (List ℕ) → List ℕ → Bool
 is_among [] x = false
 is_among (y ∷ ys) x = if bytes_eq y x then true else is_among ys x
-
-abbrev pub AreDistinct : List (List ℕ) → Type 0
-AreDistinct [] = Unit {0}
-AreDistinct (y ∷ ys) = (is_among ys y ≡ false) × AreDistinct ys
 
 -- those of `loops`, in their order, whose variables are among the names of a text
 abbrev pub loops_among : List Loop → List (List ℕ) → List Loop

@@ -1,5 +1,5 @@
 -- The holds of a statement, level by level.
-use Rattle.std.specs.Prelude.{ℕ, ◌+◌, Option, Some, None, List, [], ◌∷◌, ◌++◌, length}
+use Rattle.std.specs.Prelude.{ℕ, Option, Some, None, List, [], ◌∷◌, length}
 use Rattle.std.specs.List.{flat_map}
 use Rattle.tree.specs.Plain.{Reference}
 use Rattle.meaning.specs.ArrayValues.{counted}

@@ -1,8 +1,8 @@
 -- The statements of a nest by their numbers, from 1 in the order of the text.
-use Rattle.std.specs.Prelude.{◌≡◌, ℕ, ◌-◌, ◌≤◌, ◌^◌, pos, Option, None, List, [], length, slice_index_or}
-use Rattle.tree.specs.Plain.{Expression, Number, Reference, no_subscripts}
+use Rattle.std.specs.Prelude.{ℕ, ◌-◌, pos, None, [], slice_index_or}
+use Rattle.tree.specs.Plain.{Number, no_subscripts}
 use Rattle.nest.specs.Bodies.{Standing, nest_statements}
-use Rattle.nest.specs.Plain.{Guarded, Nest}
+use Rattle.nest.specs.Plain.{Nest}
 use Rattle.array_form.specs.forms.Loops.{Surroundings}
 use Rattle.array_form.specs.holds.Surroundings.{surroundings_of}
 
@@ -23,11 +23,3 @@ statement_at n s = slice_index_or (nest_statements n) (s - 1) no_statement
 
 abbrev pub surroundings_at : Nest → ℕ → Surroundings
 surroundings_at n s = surroundings_of n (statement_at n s).loops
-
--- There is a statement with this number, in at most 7 loops and without a guard, and symbols have places of 16 bits
-pub record IsPlainStatement (n : Nest) (s : ℕ) : Type 0 where
-  pub from_one : 1 ≤ s
-  pub place : s ≤ length (nest_statements n)
-  pub few_loops : length (statement_at n s).loops ≤ 7
-  pub unguarded : (statement_at n s).statement.guard ≡ None
-  pub symbols : length n.symbols ≤ 2 ^ 16

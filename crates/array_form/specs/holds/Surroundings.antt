@@ -30,16 +30,6 @@ trip_of n t = record { form = form_of_affine n t.top; divisor = nat_abs t.by }
 abbrev pub counted_of : ℕ → Counted → forms.Loop
 counted_of n c = record { variable = c.var; trip = trip_of n c.trip }
 
-abbrev pub surroundings_view : Surroundings → forms.Surroundings
-surroundings_view a = record {
-  loops = map (counted_of (length a.loops)) a.loops;
-  symbols = a.symbols;
-  may_spread = a.may_spread;
-}
-
-abbrev pub loop_names : List Counted → List (List ℕ)
-loop_names ls = map (λ (l : Counted). l.var) ls
-
 -- ---- those of a statement of a nest
 
 -- no turn, where no trip is known

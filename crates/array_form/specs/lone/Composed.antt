@@ -8,7 +8,8 @@ use Rattle.meaning.specs.Typed.{declared}
 use Rattle.array_form.specs.forms.Following.{has_none, are_moved, is_regular}
 use Rattle.array_form.specs.forms.Instances.{counts_of}
 use Rattle.array_form.specs.forms.Laws.{HasTrip}
-use Rattle.array_form.specs.forms.Loops.{Loop, Surroundings, variables_of, names_of, AreDistinct}
+use Rattle.array_form.specs.forms.Loops.{Loop, Surroundings, variables_of, names_of}
+use Rattle.array_form.specs.forms.Trips.{AreDistinct}
 use Rattle.array_form.specs.forms.Statements.{loops_from, hold_at, loops_assigned, array_form_of}
 use Rattle.nest_order.specs.facts.Facts.{HasFacts, values_from}
 use Rattle.nest_order.specs.orders.Lists.{In}

@@ -5,7 +5,8 @@ use Rattle.tree.specs.declared.ops.Kind.TheVariants.{Integer}
 use Rattle.meaning.specs.Store.{Store}
 use Rattle.meaning.specs.Typed.{declared}
 use Rattle.array_form.specs.forms.Laws.{AreKnown}
-use Rattle.array_form.specs.forms.Loops.{Surroundings, variables_of, names_of, AreDistinct}
+use Rattle.array_form.specs.forms.Loops.{Surroundings, variables_of, names_of}
+use Rattle.array_form.specs.forms.Trips.{AreDistinct}
 use Rattle.nest_order.specs.facts.Facts.{HasFacts, values_from}
 use Rattle.nest_order.specs.orders.Lists.{In}
 use Rattle.nest_order.specs.orders.Shapes.{statements, Within}

@@ -2,7 +2,8 @@
 use Rattle.std.specs.Prelude.{◌≡◌, ℕ, ◌≤◌, ◌<◌, ◌^◌, true, List, length, codes, Contains}
 use Rattle.tree.specs.Plain.{Declaration}
 use Rattle.meaning.specs.Typed90.{IsFree, IsIntegerScalar}
-use Rattle.array_form.specs.forms.Loops.{AreDistinct, Loop, Surroundings, names_of, variables_of}
+use Rattle.array_form.specs.forms.Loops.{Loop, Surroundings, names_of, variables_of}
+use Rattle.array_form.specs.forms.Trips.{AreDistinct}
 use Rattle.linear_forms.specs.Linear.{is_limited}
 
 -- By the declarations loop variables and symbols are INTEGER scalars, no two of one name, in at most seven loops; trips

@@ -7,7 +7,7 @@ ghost use Rattle.meaning.specs.Reads.{names_in_subscript};
 ghost use Rattle.array_form.specs.forms.Statements.{has_form, is_linear, occurrences};
 ghost use Rattle.tree.specs.Plain.{subscripts};
 ghost use Rattle.tree.specs.View.{subscript_of};
-ghost use Rattle.array_form.specs.holds.Surroundings.{surroundings_view};
+ghost use Rattle.array_form.specs.holds.View.{surroundings_view};
 ghost use Rattle.array_form.specs.holds.Levels.{is_formed, loops_from_place};
 
 use crate::holds::loops::{Counted, Surroundings, loop_names};

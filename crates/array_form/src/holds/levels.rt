@@ -5,9 +5,9 @@ ghost use Rattle.meaning.specs.ArrayValues.{counted};
 ghost use Rattle.array_form.specs.forms.Statements.{hold_at};
 ghost use Rattle.tree.specs.View.{reference_of};
 ghost use Rattle.nest.specs.View.{nest_of};
-ghost use Rattle.array_form.specs.holds.Surroundings.{surroundings_view};
+ghost use Rattle.array_form.specs.holds.View.{surroundings_view};
 ghost use Rattle.array_form.specs.holds.Holds.{hold_with, holds_of, reason_of, hold_at_level};
-ghost use Rattle.array_form.specs.holds.Statements.{IsPlainStatement};
+ghost use Rattle.array_form.specs.holds.Plain.{IsPlainStatement};
 
 use crate::holds::left_sides::has_form;
 use crate::holds::loops::{Surroundings, surroundings_of};

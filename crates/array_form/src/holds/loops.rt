@@ -4,8 +4,8 @@ ghost use Rattle.std.specs.List.{list_any};
 ghost use Rattle.tree.specs.View.{declaration_of};
 ghost use Rattle.nest.specs.View.{loop_of, nest_of};
 ghost use Rattle.array_form.specs.holds.Surroundings.{counted, is_spread_name, is_titled_spread, known_trip};
-ghost use Rattle.array_form.specs.holds.Surroundings.{may_spread};
-ghost use Rattle.array_form.specs.holds.Surroundings.{loop_names, surroundings_of, surroundings_view};
+ghost use Rattle.array_form.specs.holds.Surroundings.{may_spread, surroundings_of};
+ghost use Rattle.array_form.specs.holds.View.{loop_names, surroundings_view};
 
 use nest::{Loop, Nest, Trip};
 use std::alloc::Global;

@@ -1,7 +1,7 @@
 //! Which statements may be asked about.
 ghost use Rattle.std.specs.Prelude.{◌↔◌, IfOk, IsTrue};
 ghost use Rattle.nest.specs.View.{nest_of};
-ghost use Rattle.array_form.specs.holds.Statements.{IsPlainStatement};
+ghost use Rattle.array_form.specs.holds.Plain.{IsPlainStatement};
 
 use nest::Nest;
 use nest::statement_loops::statements_of;

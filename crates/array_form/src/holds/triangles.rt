@@ -3,7 +3,8 @@ ghost use Rattle.std.specs.Prelude.{◌≡◌, ◌≤◌, length, true};
 ghost use Rattle.std.specs.List.{list_any};
 ghost use Rattle.array_form.specs.forms.Loops.{coefficient, is_among};
 ghost use Rattle.array_form.specs.forms.Statements.{depends_on, is_triangle};
-ghost use Rattle.array_form.specs.holds.Surroundings.{counted_of, loop_names, surroundings_view};
+ghost use Rattle.array_form.specs.holds.Surroundings.{counted_of};
+ghost use Rattle.array_form.specs.holds.View.{loop_names, surroundings_view};
 ghost use Rattle.array_form.specs.holds.Levels.{AreWithin, loops_from_place};
 
 use crate::holds::loops::{Counted, Surroundings};

@@ -1,31 +1,28 @@
 -- Two kept references are two references of the nest, as they are tested.
-use Rattle.std.proofs.Common.{◌≡◌, ◌⊎◌, ◌↔◌, inl, inr, ℕ, zero, suc, ◌+◌, ◌-◌, ◌<◌, ◌≤◌, refl, sym, ap, ap₂, ◌∙◌, subst, arith, Option, Some, None, Bool, true, false, cond, eqb, ltb, leb, List, [], ◌∷◌, ◌++◌, length, map, take, get_or, replicate}
-use Rattle.std.specs.Prelude.{ℤ, pos, negsuc, All, IfSome, IsSome, IsTrue, nat_le, nat_lt, slice_get}
-use Rattle.std.specs.Str.{bytes_eq}
-use Rattle.std.proofs.lemmas.Bool.{eqb-true, lt-ltb, ltb-true}
-use Rattle.std.proofs.lemmas.Int.{ints}
-use Rattle.std.proofs.lemmas.List.{get_or_past, length-append, length-map, length-replicate, length-take}
+use Rattle.std.proofs.Common.{◌≡◌, ℕ, zero, suc, ◌+◌, ◌-◌, ◌<◌, ◌≤◌, refl, sym, ap, ap₂, ◌∙◌, subst, arith, Option, Some, None, Bool, true, false, cond, eqb, List, [], ◌∷◌, ◌++◌, length, map, take, get_or, replicate}
+use Rattle.std.specs.Prelude.{ℤ, pos, All, IfSome, IsSome, IsTrue, nat_le, nat_lt}
+use Rattle.std.proofs.lemmas.List.{length-append, length-map, length-replicate, length-take}
 use Rattle.std.proofs.lemmas.List.Elements.{All-append, All-cons, All-head, All-nil, All-replicate, All-tail}
 use Rattle.tree.specs.Limits.{nest_depth}
 use Rattle.tree.specs.Plain.{Expression, Number, Logic, Named, Unary, Binary, Apply, Constructor, Spread, Transpose, Reshape, Reduce, Only, Section, Subscript, Subscripts, no_subscripts, subscript, Reference}
 use Rattle.subscripts.specs.Iterations.{once}
-use Rattle.subscripts.specs.Shapes.{AreSpans, IsForm, IsPairing, IsSmall}
+use Rattle.subscripts.specs.Shapes.{AreSpans, IsForm}
 use Rattle.subscripts.specs.declared.affine.Affine.{Affine}
 use Rattle.subscripts.specs.declared.affine.Span.{Span}
 use Rattle.subscripts.specs.declared.pairing.Pairing.{Pairing}
 use Rattle.linear_forms.specs.Linear.{Form, constant_form, constant_of, constant_or, form_of, form_of_name, form_of_pair, form_of_sign, is_limited, linear}
-use Rattle.linear_forms.specs.Places.{IsAffineOf, IsFound}
+use Rattle.linear_forms.specs.Affines.{IsAffineOf, IsFound}
 use Rattle.linear_forms.proofs.Faultless.{limited-holds}
 use Rattle.linear_forms.proofs.PartLaws.{zero_affine}
-use Rattle.dependence_tests.specs.loop_lines.OneLoop.{HasSevenLists}
 use Rattle.nest.specs.Bodies.{Standing}
 use Rattle.nest.specs.Plain.{Loop}
 use Rattle.direction_vectors.specs.vector_tests.Refs.{IsRefPair, IsSubscriptOf, padded}
 use Rattle.direction_vectors.specs.declared.vector_tests.refs.RefPair.{RefPair}
 use Rattle.dependence_graph.specs.nest_graph.References.{variables_round}
 use Rattle.dependence_graph.specs.nest_graph.Ready.{AreElements, HaveTrips, subscript_count}
-use Rattle.dependence_graph.specs.nest_graph.Spans.{spans_of}
-use Rattle.dependence_graph.specs.nest_graph.Tested.{affine_of, common_of, form_in, pair_between, pairing_by, pairings_in, seven, unknown_pairing}
+use Rattle.dependence_graph.specs.nest_graph.Indices.{SubscriptPair, form_in, paired, pairs_in}
+use Rattle.dependence_graph.specs.nest_graph.Paired.{affine_of, pairing_from, refs_of, seven, unknown_of, unknown_pairing}
+use Rattle.dependence_graph.specs.nest_graph.Tested.{Both, common_of}
 use Rattle.dependence_graph.specs.nest_references.Occurrences.{AreFormsIn, HasSevenLoops, IsFormIn, IsOccurrenceOf}
 use Rattle.dependence_graph.specs.declared.nest_references.occurrences.Occurrence.{Occurrence}
 use Rattle.dependence_graph.specs.loop_spans.Greatest.{AreSpansOf}
@@ -333,20 +330,29 @@ form_is : (loops symbols : List (List ℕ)) (s : Subscript) (p : Option Affine) 
 form_is loops symbols (Only e) p m h l = found_is (length loops) (form_of loops symbols e) p m h l
 form_is loops symbols (Section a b c) p m h l = h
 
-both_forms : (blank : Pairing) (m n : ℕ) (f g : Option Form) → pairing_with blank (as_affine m f) (as_affine n g) ≡ pairing_by blank m n f g
+both_forms : (blank : Pairing) (m n : ℕ) (f g : Option Form) → pairing_with blank (as_affine m f) (as_affine n g) ≡ pairing_from blank m n (paired f g)
 both_forms blank m n None g = refl
 both_forms blank m n (Some f) None = refl
 both_forms blank m n (Some f) (Some g) = refl
 
-module _ (symbols first second : List (List ℕ)) (blank : Pairing) (few : length first ≤ 7) (fewer : length second ≤ 7) where
-  one_pairing : (s t : Subscript) (p q : Option Affine) → IsFormIn first symbols s p → IsFormIn second symbols t q → HasSevenLoops p → HasSevenLoops q
-      → pairing_with blank p q ≡ pairing_by blank (length first) (length second) (form_in first symbols s) (form_in second symbols t)
-  one_pairing s t p q h k l m =
-      ap₂ (pairing_with blank) (form_is first symbols s p few h l) (form_is second symbols t q fewer k m)
-      ∙ both_forms blank (length first) (length second) (form_in first symbols s) (form_in second symbols t)
+module _ (b : Both) (blank : Pairing) (few : length (variables_round b.first) ≤ 7) (fewer : length (variables_round b.second) ≤ 7) where
+  abbrev first : List (List ℕ)
+  first = variables_round b.first
 
-  pub all_pairings : (rs us : Subscripts) (ps qs : List (Option Affine)) → AreFormsIn first symbols rs ps → AreFormsIn second symbols us qs
-      → All HasSevenLoops ps → All HasSevenLoops qs → pairings_with blank ps qs ≡ pairings_in blank symbols first second rs us
+  abbrev second : List (List ℕ)
+  second = variables_round b.second
+
+  one_pairing : (s t : Subscript) (p q : Option Affine) → IsFormIn first b.symbols s p → IsFormIn second b.symbols t q → HasSevenLoops p → HasSevenLoops q
+      → pairing_with blank p q ≡ pairing_from blank (length first) (length second) (paired (form_in first b.symbols s) (form_in second b.symbols t))
+  one_pairing s t p q h k l m =
+      ap₂ (pairing_with blank) (form_is first b.symbols s p few h l) (form_is second b.symbols t q fewer k m)
+      ∙ both_forms blank (length first) (length second) (form_in first b.symbols s) (form_in second b.symbols t)
+
+  abbrev each_pairing : Option SubscriptPair → Pairing
+  each_pairing o = pairing_from blank (length first) (length second) o
+
+  pub all_pairings : (rs us : Subscripts) (ps qs : List (Option Affine)) → AreFormsIn first b.symbols rs ps → AreFormsIn second b.symbols us qs
+      → All HasSevenLoops ps → All HasSevenLoops qs → pairings_with blank ps qs ≡ map each_pairing (pairs_in b rs us)
   all_pairings no_subscripts us [] qs h k l m = refl
   all_pairings no_subscripts us (p ∷ ps) qs h k l m = absurd h
   all_pairings (subscript r rs) us [] qs h k l m = absurd h
@@ -364,24 +370,26 @@ abbrev given : ℕ → List Span → List Span → List Pairing → Bool → Ref
 given common from to subs turn = record { subs = subs; from_spans = from; to_spans = to; common = common; same_turn = turn }
 
 module _ (symbols : List (List ℕ)) (s t : Standing) (r u : Reference) (a b : Occurrence) (h : IsOccurrenceOf symbols s r a) (k : IsOccurrenceOf symbols t u b) (w : AreReadyStatements s t r u) where
+  abbrev pub kept_both : Both
+  kept_both = record { symbols = symbols; first = s; second = t; first_reference = r; second_reference = u }
+
   round_few : (z : Standing) → length z.loops ≤ 7 → length (variables_round z) ≤ 7
   round_few z d = let e = length-map z.loops (λ (l : Loop). l.variable) in omega (arith, d, e)
 
-  blank_is : blank_pairing a b ≡ unknown_pairing (common_of s.loops t.loops) (spans_of [] s.loops) (spans_of [] t.loops)
+  blank_is : blank_pairing a b ≡ unknown_of kept_both
   blank_is =
       ap (λ (c : ℕ). unknown_pairing c a.spans b.spans) (common_numbers_is symbols s t r u a b h k w)
       ∙ ap₂ (λ (x y : List Span). unknown_pairing (common_of s.loops t.loops) x y) h.spans k.spans
 
-  subs_are : pairings_with (blank_pairing a b) a.forms b.forms
-      ≡ pairings_in (unknown_pairing (common_of s.loops t.loops) (spans_of [] s.loops) (spans_of [] t.loops)) symbols (variables_round s) (variables_round t) r.subscripts u.subscripts
-  subs_are =
-      all_pairings symbols (variables_round s) (variables_round t) (blank_pairing a b) (round_few s w.first_depth) (round_few t w.second_depth) r.subscripts u.subscripts a.forms b.forms
-      h.forms k.forms h.seven k.seven
-      ∙ ap (λ (z : Pairing). pairings_in z symbols (variables_round s) (variables_round t) r.subscripts u.subscripts) blank_is
+  abbrev paired_with : Pairing → List Pairing
+  paired_with z = map (pairing_from z (length (variables_round s)) (length (variables_round t))) (pairs_in kept_both r.subscripts u.subscripts)
 
-  pub pair_is : ref_pair_of a b ≡ pair_between symbols a.place b.place s t r u
+  subs_are : pairings_with (blank_pairing a b) a.forms b.forms ≡ paired_with (unknown_of kept_both)
+  subs_are =
+      all_pairings kept_both (blank_pairing a b) (round_few s w.first_depth) (round_few t w.second_depth) r.subscripts u.subscripts a.forms b.forms h.forms k.forms h.seven k.seven
+      ∙ ap paired_with blank_is
+
+  pub pair_is : ref_pair_of a b ≡ refs_of kept_both (nat_lt a.place.stmt b.place.stmt)
   pair_is =
       ap₂ (λ (c : ℕ) (ps : List Pairing). given c a.spans b.spans ps (nat_lt a.place.stmt b.place.stmt)) (common_numbers_is symbols s t r u a b h k w) subs_are
-      ∙ ap₂ (λ (x y : List Span). given (common_of s.loops t.loops) x y
-      (pairings_in (unknown_pairing (common_of s.loops t.loops) (spans_of [] s.loops) (spans_of [] t.loops)) symbols (variables_round s) (variables_round t) r.subscripts u.subscripts)
-      (nat_lt a.place.stmt b.place.stmt)) h.spans k.spans
+      ∙ ap₂ (λ (x y : List Span). given (common_of s.loops t.loops) x y (paired_with (unknown_of kept_both)) (nat_lt a.place.stmt b.place.stmt)) h.spans k.spans

@@ -8,7 +8,8 @@ use Rattle.std.proofs.lemmas.List.{length-append, length-take, length-drop}
 use Rattle.subscripts.specs.Forms.{over_loops, over_symbols, value_at}
 use Rattle.subscripts.specs.declared.affine.Affine.{Affine}
 use Rattle.linear_forms.specs.Linear.{Form, number_at, weighted}
-use Rattle.linear_forms.specs.Places.{IsAffineOf, padded, terms_from}
+use Rattle.linear_forms.specs.Places.{padded, terms_from}
+use Rattle.linear_forms.specs.Affines.{IsAffineOf}
 use Rattle.dependence_graph.specs.nest_graph.Touched.{values_from}
 
 zero_times : (z : ℤ) → pos 0 *ℤ z ≡ pos 0

@@ -1,21 +1,21 @@
 -- The couples of a nest's references make its graph.
-use Rattle.std.proofs.Common.{◌≡◌, ◌⊎◌, ◌↔◌, inl, inr, ℕ, zero, suc, ◌+◌, ◌-◌, ◌<◌, ◌≤◌, refl, sym, ap, ap₂, ◌∙◌, subst, arith, Option, Some, None, Bool, true, false, cond, eqb, ltb, List, [], ◌∷◌, ◌++◌, length, map, take, get_or}
-use Rattle.std.specs.Prelude.{ℤ, pos, All, IsTrue, nat_lt, slice_get}
-use Rattle.std.specs.List.{flat_map}
+use Rattle.std.proofs.Common.{◌≡◌, ◌⊎◌, ◌↔◌, inl, inr, ℕ, zero, suc, ◌+◌, ◌<◌, ◌≤◌, refl, sym, ap, ap₂, ◌∙◌, subst, arith, Option, Some, None, Bool, true, cond, List, [], ◌∷◌, ◌++◌, length, map, take, get_or}
+use Rattle.std.specs.Prelude.{ℤ, All, IsTrue, nat_lt, slice_get}
 use Rattle.std.specs.Str.{bytes_eq}
 use Rattle.std.proofs.lemmas.Bool.{lt-ltb, ltb-true}
 use Rattle.std.proofs.lemmas.Option.{get_or_from_slice_get, slice_get_within}
 use Rattle.std.proofs.lemmas.Slice.Eq.{bytes_eq-Decides}
 use Rattle.std.proofs.lemmas.List.{length-map}
-use Rattle.std.proofs.lemmas.List.Elements.{All-append, All-cons, All-from_get_or, All-head, All-nil, All-tail}
+use Rattle.std.proofs.lemmas.List.Elements.{All-append, All-cons, All-head, All-map, All-nil, All-tail}
 use Rattle.tree.specs.Plain.{Reference}
 use Rattle.subscripts.specs.Classes.{at_place}
 use Rattle.subscripts.specs.Cuts.{IsNoLater}
 use Rattle.subscripts.specs.Iterations.{IsRelated}
-use Rattle.subscripts.specs.declared.affine.Dir.TheVariants.{Any}
+use Rattle.subscripts.specs.declared.affine.Dir.{Dir}
 use Rattle.subscripts.specs.declared.affine.Dirs.{Dirs}
-use Rattle.subscripts.specs.declared.affine.Span.{Span}
 use Rattle.subscripts.specs.declared.pairing.Pairing.{Pairing}
+use Rattle.subscripts.specs.declared.verdict.Point.{Point}
+use Rattle.subscripts.specs.declared.verdict.Test.{Test}
 use Rattle.subscripts.specs.declared.verdict.Verdict.{Verdict}
 use Rattle.subscripts.specs.declared.verdict.Verdict.TheVariants.{Never, Pair as Met, Assumed}
 use Rattle.components.specs.Lists.{Each, In, Pairwise}
@@ -25,30 +25,41 @@ use Rattle.dependence_graph.specs.declared.graphs.Graph.{Graph}
 use Rattle.dependence_graph.specs.declared.graphs.Place.{Place}
 use Rattle.nest.specs.Plain.{Loop, Nest}
 use Rattle.nest.specs.Bodies.{Standing, nest_statements}
-use Rattle.direction_vectors.specs.vector_tests.Pairs.{IsInVector, IsMeeting, NeverMeet}
-use Rattle.direction_vectors.specs.vector_tests.Refs.{IsRefPair}
+use Rattle.direction_vectors.specs.vector_tests.Pairs.{IsMeeting}
+use Rattle.direction_vectors.specs.vector_tests.Refs.{IsVectorOf}
 use Rattle.direction_vectors.specs.vector_tests.Ways.{IsExactClass, IsZivOrSiv}
+use Rattle.direction_vectors.specs.vector_tests.Words.{IsEdgeWord as IsKeptWord}
 use Rattle.direction_vectors.specs.declared.vector_tests.refs.RefPair.{RefPair}
-use Rattle.direction_vectors.specs.Answers.{AreDropped, AreMet as DoMeetIn, OnAssumed, OnKept, OnNever, OnPair}
-use Rattle.direction_vectors.specs.Candidates.{Answer, IsCovered}
-use Rattle.dependence_graph.specs.nest_graph.Arcs.{Couple}
-use Rattle.dependence_graph.specs.nest_graph.Graph.{AreDependent, AreMet, IsAmong, IsCouple, IsDropWordRight, IsDroppedRight, IsEarlierCouple, IsEarlierPlace, IsEdgeRight, IsEdgeWordRight, IsGraphOf, IsLeastPair, IsRightAnswer, all_drops, all_edges, at_depth, candidate_of}
-use Rattle.dependence_graph.specs.nest_graph.Instances.{AreTurns, IsInstance}
+use Rattle.direction_vectors.specs.Answers.{AreAssumed as AreOpen, AreDropped as AreNever, AreMet as DoMeetIn, OnAssumed, OnKept, OnNever, OnPair}
+use Rattle.direction_vectors.specs.Candidates.{Answer, Covers, CoversCandidates}
+use Rattle.dependence_graph.specs.nest_graph.Arcs as arcs
+use Rattle.dependence_graph.specs.nest_graph.Arcs.{Couple, in_places}
+use Rattle.dependence_graph.specs.nest_graph.Graph.{AreAssumed, AreDependent, AreDropped, AreMet, IsAmong, IsCouple, IsEarlierCouple, IsEarlierPlace, IsGraphOf, IsRight, all_drops, all_edges, candidate_of}
+use Rattle.dependence_graph.specs.nest_graph.Indices.{SubscriptPair, subscript_pairs}
+use Rattle.dependence_graph.specs.nest_graph.Instances.{AreTurns}
 use Rattle.dependence_graph.specs.nest_graph.Touched.{Touches}
-use Rattle.dependence_graph.specs.nest_graph.Pair.{HasPair, Pair, kind_between}
+use Rattle.dependence_graph.specs.nest_graph.Pair.{IsCandidate, Pair, kind_between}
+use Rattle.dependence_graph.specs.nest_graph.Paired.{refs_of}
 use Rattle.dependence_graph.specs.nest_graph.References.{references_of, variables_round}
 use Rattle.dependence_graph.specs.nest_graph.Ready.{IsElement, IsReady, IsReadyStatement}
 use Rattle.dependence_graph.specs.nest_graph.Spans.{spans_of}
-use Rattle.dependence_graph.specs.nest_graph.Tested.{AreReferences, IsReference, common_of, pair_of}
+use Rattle.dependence_graph.specs.nest_graph.Tested.{AreReferences, Both, IsReference, common_of}
+use Rattle.dependence_graph.specs.nest_graph.Vectors.{Allows, StandsFor}
 use Rattle.dependence_graph.specs.nest_references.Occurrences.{AreOccurrences, IsOccurrence, IsOccurrenceOf}
 use Rattle.dependence_graph.specs.declared.nest_references.occurrences.Occurrence.{Occurrence}
 use Rattle.dependence_graph.proofs.loop_spans.TurnLaws.{spans_are, spans_length}
-use Rattle.dependence_graph.specs.dep_graph.Joined.{IsTestable, AreCouplesAs, AreCouplesIn, AreCouplesOf, AreVectors, blank_pairing, common_numbers, couple_of, dependence_of, pairings_with, ref_pair_of, row, table}
-use Rattle.dependence_graph.proofs.dep_graph.Couples.{AreReadyStatements, are_beside, common_first, common_numbers_is, common_second, first_length, first_spans, kept_rank, kept_ref_pair, pair_is, second_length, second_spans}
+use Rattle.dependence_graph.specs.dep_graph.Joined.{IsTestable, AreCouplesAs, AreCouplesIn, AreCouplesOf, AreVectors, as_answer, as_verdict, blank_pairing, common_numbers, couple_of, dependence_of, pairings_with, ref_pair_of, row, table}
+use Rattle.dependence_graph.proofs.dep_graph.Answering.{Tells, listed_of}
+use Rattle.dependence_graph.proofs.dep_graph.Couples.{AreReadyStatements, are_beside, common_first, common_numbers_is, common_second, first_spans, kept_both, kept_rank, kept_ref_pair, pair_is, second_spans}
+use Rattle.dependence_graph.proofs.dep_graph.Coupling.{exact_of, old_exact, old_refuted}
+use Rattle.dependence_graph.proofs.dep_graph.Directions.{IsForward, at_place_is, covered_of, is_vector, listed, listed_length, listed_places, new_candidate, old_candidate, once_of, places_are, stands_of, zip_length}
 use Rattle.dependence_graph.proofs.dep_graph.Joining.{kind_alike, names_alike}
 use Rattle.dependence_graph.proofs.dep_graph.SameLoops.{in_at, in_front, in_rest, same_loops}
 use Rattle.dependence_graph.proofs.dep_graph.Lists.{iteration_front, iteration_is, iterations_count, no_later, with_ones}
-use Rattle.dependence_graph.proofs.dep_graph.Meetings.{AreInstances, AreKnown, DoMeet, instances_meet, meeting_instances}
+use Rattle.dependence_graph.proofs.dep_graph.Meetings.{AreInstances, AreKnown, instances_meet, meeting_instances}
+use Rattle.dependence_graph.proofs.dep_graph.Pairings.{AreShallow, AreShort, are_short}
+use Rattle.dependence_graph.proofs.dep_graph.Regions.{related_at, related_from}
+use Rattle.dependence_graph.proofs.dep_graph.Wording.{drop_word_of, edge_word_of}
 
 -- two references of a ready nest, and what was kept of them
 pub record AreTwo (n : Nest) (s t : Standing) (r u : Reference) (a b : Occurrence) : Type 0 where
@@ -91,125 +102,61 @@ module _ (n : Nest) (s t : Standing) (r u : Reference) (a b : Occurrence) (w : A
 
   -- ---- pairs of the nest
 
-  pair_instances : (k : Dep) (as' : List Answer) (d : Dirs) (x y : List ℤ) → Pair n (candidate_of (couple_of a b k as') d) x y → AreInstances n.symbols s t r u d x y
-  pair_instances k as' d x y h =
-      let e : h.first ≡ s = same_some (slice_get (nest_statements n) a.place.stmt) h.first s h.first_is.statement w.first.statement in
-      let f : h.second ≡ t = same_some (slice_get (nest_statements n) b.place.stmt) h.second t h.second_is.statement w.second.statement in
-      let p : h.first_reference ≡ r = same_some (slice_get (references_of s) a.place.at) h.first_reference r
-      (subst (λ (z : Standing). slice_get (references_of z) a.place.at ≡ Some h.first_reference) e h.first_is.reference) w.first.reference in
-      let q : h.second_reference ≡ u = same_some (slice_get (references_of t) b.place.at) h.second_reference u
-      (subst (λ (z : Standing). slice_get (references_of z) b.place.at ≡ Some h.second_reference) f h.second_is.reference) w.second.reference in
-      let e1 : h.first_instance.standing ≡ s = same_some (slice_get (nest_statements n) a.place.stmt) h.first_instance.standing s h.first_instance.is_at w.first.statement in
-      let f1 : h.second_instance.standing ≡ t = same_some (slice_get (nest_statements n) b.place.stmt) h.second_instance.standing t h.second_instance.is_at w.second.statement in
-      record {
-        values = h.values;
-        cell = h.cell;
-        first_turns = subst (λ (z : Standing). AreTurns h.values [] z.loops x) e1 h.first_instance.turns;
-        second_turns = subst (λ (z : Standing). AreTurns h.values [] z.loops y) f1 h.second_instance.turns;
-        related = subst (λ (z : Standing). (m : ℕ) → m < common_of s.loops z.loops → IsRelated (get_or d.at m Any) (at_place x m) (at_place y m)) f
-            (subst (λ (z : Standing). (m : ℕ) → m < common_of z.loops h.second.loops → IsRelated (get_or d.at m Any) (at_place x m) (at_place y m)) e h.related);
-        first_touches = subst (λ (z : Reference). Touches (variables_round s) n.symbols h.values x z h.cell) p
-            (subst (λ (z : Standing). Touches (variables_round z) n.symbols h.values x h.first_reference h.cell) e h.first_touches);
-        second_touches = subst (λ (z : Reference). Touches (variables_round t) n.symbols h.values y z h.cell) q
-            (subst (λ (z : Standing). Touches (variables_round z) n.symbols h.values y h.second_reference h.cell) f h.second_touches);
-      }
+  abbrev b' : Both
+  b' = kept_both n.symbols s t r u a b w.first_kept w.second_kept w.ready
 
-  instances_pair : (k : Dep) (as' : List Answer) (d : Dirs) (x y : List ℤ) → AreInstances n.symbols s t r u d x y → Pair n (candidate_of (couple_of a b k as') d) x y
-  instances_pair k as' d x y h = record {
-    values = h.values;
-    cell = h.cell;
-    first = s;
-    second = t;
-    first_reference = r;
-    second_reference = u;
-    first_is = w.first;
-    second_is = w.second;
-    first_instance = record { standing = s; is_at = w.first.statement; turns = h.first_turns };
-    second_instance = record { standing = t; is_at = w.second.statement; turns = h.second_turns };
-    related = h.related;
-    first_touches = h.first_touches;
-    second_touches = h.second_touches;
-  }
+  abbrev before : Bool
+  before = nat_lt a.place.stmt b.place.stmt
+
+  -- as the tests have both
+  abbrev tested : RefPair
+  tested = refs_of b' before
+
+  are_tested : refs ≡ tested
+  are_tested = pair_is n.symbols s t r u a b w.first_kept w.second_kept w.ready
+
+  few : common_of s.loops t.loops ≤ 7
+  few = let c = common_first s.loops t.loops in let d = w.ready.first_depth in omega arith
 
   common_is : common_numbers a.loops b.loops ≡ common_of s.loops t.loops
   common_is = common_numbers_is n.symbols s t r u a b w.first_kept w.second_kept w.ready
 
-  -- where they meet, by the iterations of a pair
-  pair_meets : (k : Dep) (as' : List Answer) (d : Dirs) (x y : List ℤ) → Pair n (candidate_of (couple_of a b k as') d) x y
-      → (length x ≡ length a.spans) × (length y ≡ length b.spans) × IsMeeting (ref_pair_of a b) d (with_ones x) (with_ones y)
-  pair_meets k as' d x y h =
-      let m = instances_meet n.symbols s t r u (blank_pairing a b) a.spans b.spans a.forms b.forms d x y known (pair_instances k as' d x y h) in (
-        m.0,
-        m.1,
-        record {
-          within = record { first = m.2.first; second = m.2.second; related = λ j l. m.2.related j (let c = common_is in omega arith) };
-          values = m.2.values;
-          equal = m.2.equal;
-        },
-      )
+  turns_count : (values : ℕ → ℤ) (outer : List ℤ) (ls : List Loop) (x : List ℤ) → AreTurns values outer ls x → length x ≡ length ls
+  turns_count values outer [] [] h = refl
+  turns_count values outer [] (i ∷ x) h = absurd h
+  turns_count values outer (l ∷ ls) [] h = absurd h
+  turns_count values outer (l ∷ ls) (i ∷ x) h = ap suc (turns_count values (outer ++ i ∷ []) ls x h.1)
 
-  all_known : IsExactClass (ref_pair_of a b) → All (λ (p : Pairing). IsTrue p.known) (pairings_with (blank_pairing a b) a.forms b.forms)
-  all_known e = λ i d l. known_of _ (e.subscripts i d l)
-    where
-      known_of : (p : Pairing) → IsZivOrSiv p → IsTrue p.known
-      known_of p (inl z) = z.known
-      known_of p (inr o) = o.1.known
-
-  meets_pair : (k : Dep) (as' : List Answer) (d : Dirs) (i j : List ℤ) → IsExactClass (ref_pair_of a b) → IsMeeting (ref_pair_of a b) d i j
-      → Pair n (candidate_of (couple_of a b k as') d) (take (length a.spans) i) (take (length b.spans) j)
-  meets_pair k as' d i j e h =
-      instances_pair k as' d (take (length a.spans) i) (take (length b.spans) j)
-      (meeting_instances n.symbols s t r u (blank_pairing a b) a.spans b.spans a.forms b.forms d i j known e.from_fixed e.to_fixed (all_known e) (record {
-        first = h.within.first;
-        second = h.within.second;
-        related = λ m l. h.within.related m (let c = common_is in omega arith);
-        values = h.values;
-        equal = h.equal;
-      }))
-
-  -- ---- answers
-
-  right_dropped : (k : Dep) (as' : List Answer) (d : Dirs) (v : Verdict) → OnNever (ref_pair_of a b) d v → IsDroppedRight n (couple_of a b k as') d v
-  right_dropped k as' d (Never t') h = λ c covered p. let m = pair_meets k as' c p.0 p.1.0 p.1.1 in h.never c covered (with_ones p.0) (with_ones p.1.0) m.2
-  right_dropped k as' d (Met x y t') h = tt
-  right_dropped k as' d (Assumed t') h = tt
-
-  right_word : (k : Dep) (as' : List Answer) (d : Dirs) (v : Verdict) → OnNever (ref_pair_of a b) d v → IsDropWordRight (couple_of a b k as') d v
-  right_word k as' d (Never t') h = h.word
-  right_word k as' d (Met x y t') h = tt
-  right_word k as' d (Assumed t') h = tt
-
-  least_pair : (k : Dep) (as' : List Answer) (d : Dirs) (x y : List ℤ) → DoMeetIn (ref_pair_of a b) d x y → IsLeastPair n (couple_of a b k as') d x y
-  least_pair k as' d x y h =
-      let p = iteration_is a.spans x known.first_depth h.meeting.within.first in let q = iteration_is b.spans y known.second_depth h.meeting.within.second in
-      let c = iterations_count a.spans _ (iteration_front a.spans x known.first_depth h.meeting.within.first) in
-      let e = iterations_count b.spans _ (iteration_front b.spans y known.second_depth h.meeting.within.second) in
+  pair_instances : (k : Dep) (as' : List Answer) (v : List Dir) (x y : List ℤ) → length v ≡ common_of s.loops t.loops
+      → Pair n (candidate_of (couple_of a b k as') v) x y → AreInstances n.symbols s t r u (in_places v) x y
+  pair_instances k as' v x y long h =
+      let e : h.refs.first ≡ s = same_some (slice_get (nest_statements n) a.place.stmt) h.refs.first s h.refs.first_is.statement w.first.statement in
+      let f : h.refs.second ≡ t = same_some (slice_get (nest_statements n) b.place.stmt) h.refs.second t h.refs.second_is.statement w.second.statement in
+      let p : h.refs.first_reference ≡ r = same_some (slice_get (references_of s) a.place.at) h.refs.first_reference r
+      (subst (λ (z : Standing). slice_get (references_of z) a.place.at ≡ Some h.refs.first_reference) e h.refs.first_is.reference) w.first.reference in
+      let q : h.refs.second_reference ≡ u = same_some (slice_get (references_of t) b.place.at) h.refs.second_reference u
+      (subst (λ (z : Standing). slice_get (references_of z) b.place.at ≡ Some h.refs.second_reference) f h.refs.second_is.reference) w.second.reference in
+      let e1 : h.first_instance.standing ≡ s = same_some (slice_get (nest_statements n) a.place.stmt) h.first_instance.standing s h.first_instance.is_at w.first.statement in
+      let f1 : h.second_instance.standing ≡ t = same_some (slice_get (nest_statements n) b.place.stmt) h.second_instance.standing t h.second_instance.is_at w.second.statement in
+      let first_turns = subst (λ (z : Standing). AreTurns h.values [] z.loops x) e1 h.first_instance.turns in
+      let second_turns = subst (λ (z : Standing). AreTurns h.values [] z.loops y) f1 h.second_instance.turns in
+      let c = common_first s.loops t.loops in let d = common_second s.loops t.loops in
+      let l = turns_count h.values [] s.loops x first_turns in let m = turns_count h.values [] t.loops y second_turns in
       record {
-        vector = h.vector;
-        covered = h.covered;
-        pair = meets_pair k as' h.vector x y h.exact h.meeting;
-        least = λ v i j covered g.
-            let m = pair_meets k as' v i j g in
-            no_later (take (length a.spans) x) (take (length b.spans) y) i j (c ∙ sym m.0) (e ∙ sym m.1)
-            (subst (λ (zs : List ℤ). IsNoLater (zs ++ with_ones (take (length b.spans) y)) (with_ones i ++ with_ones j)) p
-            (subst (λ (zs : List ℤ). IsNoLater (x ++ zs) (with_ones i ++ with_ones j)) q (h.least v (with_ones i) (with_ones j) covered m.2)));
+        values = h.values;
+        cell = h.cell;
+        first_turns = first_turns;
+        second_turns = second_turns;
+        related = λ j g.
+            subst (λ (z : Dir). IsRelated z (at_place x j) (at_place y j)) (sym (at_place_is v j))
+            (related_at v x y j (omega arith) (omega arith) (omega arith) h.related);
+        first_touches = subst (λ (z : Reference). Touches (variables_round s) n.symbols h.values x z h.cell) p
+            (subst (λ (z : Standing). Touches (variables_round z) n.symbols h.values x h.refs.first_reference h.cell) e h.first_touches);
+        second_touches = subst (λ (z : Reference). Touches (variables_round t) n.symbols h.values y z h.cell) q
+            (subst (λ (z : Standing). Touches (variables_round z) n.symbols h.values y h.refs.second_reference h.cell) f h.second_touches);
       }
 
-  right_edge : (k : Dep) (as' : List Answer) (d : Dirs) (v : Verdict) → OnPair (ref_pair_of a b) d v → OnAssumed (ref_pair_of a b) d v → IsEdgeRight n (couple_of a b k as') d v
-  right_edge k as' d (Never t') h g = tt
-  right_edge k as' d (Met x y t') h g = record {
-    exact = h.exact;
-    each = λ c covered. let m = h.each c covered in (take (length a.spans) m.0, (take (length b.spans) m.1.0, meets_pair k as' c m.0 m.1.0 h.exact m.1.1));
-    least = least_pair k as' d x.at y.at h;
-  }
-  right_edge k as' d (Assumed t') h g = record { inexact = g.inexact; unrefuted = g.unrefuted }
-
-  right_edge_word : (k : Dep) (as' : List Answer) (v : Verdict) → OnKept (ref_pair_of a b) v → IsEdgeWordRight (couple_of a b k as') v
-  right_edge_word k as' (Never t') h = tt
-  right_edge_word k as' (Met x y t') h = h
-  right_edge_word k as' (Assumed t') h = h
-
-  are_references : AreReferences n a.place b.place
+  pub are_references : AreReferences n a.place b.place
   are_references = record {
     first = s;
     second = t;
@@ -220,28 +167,178 @@ module _ (n : Nest) (s t : Standing) (r u : Reference) (a b : Occurrence) (w : A
     same_name = w.same_name;
   }
 
-  are_tested : ref_pair_of a b ≡ pair_of n a.place b.place are_references
+  instances_pair : (k : Dep) (as' : List Answer) (v : List Dir) (x y : List ℤ) → length v ≡ common_of s.loops t.loops
+      → AreInstances n.symbols s t r u (in_places v) x y → Pair n (candidate_of (couple_of a b k as') v) x y
   unfolding are_references
-  are_tested = pair_is n.symbols s t r u a b w.first_kept w.second_kept w.ready
-
-  pub is_couple : (k : Dep) (as' : List Answer) → kind_between a.place.at b.place.at ≡ Some k → AreVectors (ref_pair_of a b) as' → IsCouple n (couple_of a b k as')
-  unfolding are_references
-  is_couple k as' e v = record {
+  instances_pair k as' v x y long h = record {
+    values = h.values;
+    cell = h.cell;
     refs = are_references;
-    tested = are_tested;
-    kind = e;
-    array = w.first_kept.name;
-    vectors = v.vectors;
-    covered = v.covered;
-    candidates = v.candidates;
-    merged = v.merged;
-    right = λ i d l. record {
-      dropped = right_dropped k as' _ _ (v.never i d l);
-      drop_word = right_word k as' _ _ (v.never i d l);
-      edge = right_edge k as' _ _ (v.pair i d l) (v.assumed i d l);
-      edge_word = right_edge_word k as' _ (v.kept i d l);
-    };
+    first_instance = record { standing = s; is_at = w.first.statement; turns = h.first_turns };
+    second_instance = record { standing = t; is_at = w.second.statement; turns = h.second_turns };
+    related = related_from v x y
+        (λ j l. subst (λ (z : Dir). IsRelated z (at_place x j) (at_place y j)) (at_place_is v j) (h.related j (omega arith)));
+    first_touches = h.first_touches;
+    second_touches = h.second_touches;
   }
+
+  -- where they meet, by the iterations of a pair
+  pair_meets : (k : Dep) (as' : List Answer) (v : List Dir) (x y : List ℤ) → length v ≡ common_of s.loops t.loops → Pair n (candidate_of (couple_of a b k as') v) x y
+      → (length x ≡ length a.spans) × (length y ≡ length b.spans) × IsMeeting tested (in_places v) (with_ones x) (with_ones y)
+  pair_meets k as' v x y long h =
+      let m = instances_meet n.symbols s t r u (blank_pairing a b) a.spans b.spans a.forms b.forms (in_places v) x y known (pair_instances k as' v x y long h) in
+      let here : IsMeeting refs (in_places v) (with_ones x) (with_ones y) = record {
+        within = record { first = m.2.first; second = m.2.second; related = λ j l. m.2.related j (let c = common_is in omega arith) };
+        values = m.2.values;
+        equal = m.2.equal;
+      } in
+      (m.0, m.1, subst (λ (z : RefPair). IsMeeting z (in_places v) (with_ones x) (with_ones y)) are_tested here)
+
+  all_known : IsExactClass refs → All (λ (p : Pairing). IsTrue p.known) (pairings_with (blank_pairing a b) a.forms b.forms)
+  all_known e = λ i d l. known_of _ (e.subscripts i d l)
+    where
+      known_of : (p : Pairing) → IsZivOrSiv p → IsTrue p.known
+      known_of p (inl z) = z.known
+      known_of p (inr o) = o.1.known
+
+  meets_pair : (k : Dep) (as' : List Answer) (v : List Dir) (i j : List ℤ) → length v ≡ common_of s.loops t.loops → IsExactClass tested → IsMeeting tested (in_places v) i j
+      → Pair n (candidate_of (couple_of a b k as') v) (take (length a.spans) i) (take (length b.spans) j)
+  meets_pair k as' v i j long exact meeting =
+      let e : IsExactClass refs = subst IsExactClass (sym are_tested) exact in
+      let h : IsMeeting refs (in_places v) i j = subst (λ (z : RefPair). IsMeeting z (in_places v) i j) (sym are_tested) meeting in
+      instances_pair k as' v (take (length a.spans) i) (take (length b.spans) j) long
+      (meeting_instances n.symbols s t r u (blank_pairing a b) a.spans b.spans a.forms b.forms (in_places v) i j known e.from_fixed e.to_fixed (all_known e) (record {
+        first = h.within.first;
+        second = h.within.second;
+        related = λ m l. h.within.related m (let c = common_is in omega arith);
+        values = h.values;
+        equal = h.equal;
+      }))
+
+  -- ---- answers
+
+  shallow : AreShallow b'
+  shallow = record { first = w.ready.first_depth; second = w.ready.second_depth }
+
+  short : (k : ℕ) (p : SubscriptPair) → slice_get (subscript_pairs b') k ≡ Some (Some p) → AreShort b' p
+  short k p e = are_short b' r.subscripts u.subscripts k p e
+
+  -- a vector that this one stands for has a direction for each common loop
+  long_of : (d : Dirs) (v : List Dir) → IsVectorOf tested d → StandsFor (listed d) v → length v ≡ common_of s.loops t.loops
+  long_of d v h g = sym (zip_length Allows (listed d) v g.allowed) ∙ listed_length tested few d h
+
+  right_dropped : (k : Dep) (as' : List Answer) (d : Dirs) (x : Test) → IsVectorOf tested d → AreNever tested d x → AreDropped n (couple_of a b k as') b' (listed d) x
+  right_dropped k as' d x h g = record {
+    without_pair = λ v stands p.
+        let m = pair_meets k as' v p.0 p.1.0 (long_of d v h stands) p.1.1 in
+        g.never (in_places v) (covered_of tested few d v h stands) (with_ones p.0) (with_ones p.1.0) m.2;
+    word = λ v stands. drop_word_of b' before shallow short v (long_of d v h stands) x (g.word (in_places v) (covered_of tested few d v h stands));
+  }
+
+  right_met : (k : Dep) (as' : List Answer) (d : Dirs) (x y : Point) (z : Test) → IsVectorOf tested d → DoMeetIn tested d x.at y.at → IsKeptWord tested.subs z
+      → AreMet n (couple_of a b k as') b' (listed d) (take (length a.spans) x.at) (take (length b.spans) y.at) z
+  right_met k as' d x y z h g kept =
+      let old : IsMeeting refs g.vector x.at y.at = subst (λ (o : RefPair). IsMeeting o g.vector x.at y.at) (sym are_tested) g.meeting in
+      let p = iteration_is a.spans x.at known.first_depth old.within.first in let q = iteration_is b.spans y.at known.second_depth old.within.second in
+      let c = iterations_count a.spans _ (iteration_front a.spans x.at known.first_depth old.within.first) in
+      let e = iterations_count b.spans _ (iteration_front b.spans y.at known.second_depth old.within.second) in
+      let places = places_are tested few g.vector g.covered.vector in
+      record {
+        exact = exact_of b' before shallow g.exact;
+        each = λ v stands.
+            let m = g.each (in_places v) (covered_of tested few d v h stands) in
+            (take (length a.spans) m.0, (take (length b.spans) m.1.0, meets_pair k as' v m.0 m.1.0 (long_of d v h stands) g.exact m.1.1));
+        vector = listed g.vector;
+        stands = stands_of tested few d g.vector h g.covered;
+        pair = meets_pair k as' (listed g.vector) x.at y.at (listed_length tested few g.vector g.covered.vector) g.exact
+            (subst (λ (f : Dirs). IsMeeting tested f x.at y.at) places g.meeting);
+        least = λ v i j stands f.
+            let m = pair_meets k as' v i j (long_of d v h stands) f in
+            no_later (take (length a.spans) x.at) (take (length b.spans) y.at) i j (c ∙ sym m.0) (e ∙ sym m.1)
+            (subst (λ (zs : List ℤ). IsNoLater (zs ++ with_ones (take (length b.spans) y.at)) (with_ones i ++ with_ones j)) p
+            (subst (λ (zs : List ℤ). IsNoLater (x.at ++ zs) (with_ones i ++ with_ones j)) q
+            (g.least (in_places v) (with_ones i) (with_ones j) (covered_of tested few d v h stands) m.2)));
+        word = edge_word_of b' before shallow z kept;
+      }
+
+  right_assumed : (d : Dirs) (z : Test) → IsVectorOf tested d → AreOpen tested d → IsKeptWord tested.subs z → AreAssumed b' (listed d) z
+  right_assumed d z h g kept = record {
+    inexact = λ e. g.inexact (old_exact b' before shallow e);
+    unrefuted = λ v stands f. g.unrefuted (in_places v) (covered_of tested few d v h stands) (old_refuted b' before shallow short v (long_of d v h stands) f);
+    word = edge_word_of b' before shallow z kept;
+  }
+
+  right_one : (k : Dep) (as' : List Answer) (d : Dirs) (v : Verdict) → IsVectorOf tested d → OnNever tested d v → OnPair tested d v → OnAssumed tested d v → OnKept tested v
+      → IsRight n (couple_of a b k as') b' (listed d) (as_verdict (length a.spans) (length b.spans) v)
+  right_one k as' d (Never x) h never pair assumed kept = right_dropped k as' d x h never
+  right_one k as' d (Met x y z) h never pair assumed kept = right_met k as' d x y z h pair kept
+  right_one k as' d (Assumed z) h never pair assumed kept = right_assumed d z h assumed kept
+
+  abbrev as_new : Answer → arcs.Answer
+  as_new x = as_answer (length a.spans) (length b.spans) x
+
+  turn_is : IsTrue before ↔ (a.place.stmt < b.place.stmt)
+  turn_is = (ltb-true a.place.stmt b.place.stmt, lt-ltb a.place.stmt b.place.stmt)
+
+  tells : Tells before a.place.stmt b.place.stmt
+  tells = record { yes = ltb-true a.place.stmt b.place.stmt; no = lt-ltb a.place.stmt b.place.stmt }
+
+  module _ (k : Dep) (as' : List Answer) (kind : kind_between a.place.at b.place.at ≡ Some k) (h : AreVectors tested as') where
+    abbrev IsNewCandidate : List Dir → Type 0
+    IsNewCandidate v = IsCandidate n (candidate_of (couple_of a b k as') v)
+
+    candidate_by : (v : List Dir) → IsForward a.place.stmt b.place.stmt (common_of s.loops t.loops) v → IsNewCandidate v
+    unfolding are_references
+    candidate_by v f = record { refs = are_references; kind = kind; loops = f.loops; plain = f.plain; forward = f.forward }
+
+    forward_by : (v : List Dir) → IsNewCandidate v → IsForward a.place.stmt b.place.stmt (common_of s.loops t.loops) v
+    forward_by v c =
+        let e : c.refs.first ≡ s = same_some (slice_get (nest_statements n) a.place.stmt) c.refs.first s c.refs.first_is.statement w.first.statement in
+        let f : c.refs.second ≡ t = same_some (slice_get (nest_statements n) b.place.stmt) c.refs.second t c.refs.second_is.statement w.second.statement in
+        record { loops = c.loops ∙ ap₂ (λ (x y : Standing). common_of x.loops y.loops) e f; plain = c.plain; forward = c.forward }
+
+    alike : (v : List Dir) → IsForward a.place.stmt b.place.stmt (common_of s.loops t.loops) v → (xs : List Answer) → All (λ (x : Answer). IsVectorOf tested x.0) xs
+        → Each (λ (x : Answer). (Covers tested x.0 (in_places v) → StandsFor (listed x.0) v) × (StandsFor (listed x.0) v → Covers tested x.0 (in_places v))) xs
+    alike v f [] g = tt
+    alike v f (x ∷ xs) g =
+        let here = All-head (λ (y : Answer). IsVectorOf tested y.0) x xs g in (
+          (
+            (λ o. subst (StandsFor (listed x.0)) (listed_places v)
+                (stands_of tested few x.0 (in_places v) here (record {
+                  vector = is_vector tested few v f.loops;
+                  plain = (old_candidate tested few a.place.stmt b.place.stmt turn_is v f).plain;
+                  covers = o;
+                }))),
+            (λ o. (covered_of tested few x.0 v here o).covers),
+          ),
+          alike v f xs (All-tail (λ (y : Answer). IsVectorOf tested y.0) x xs g),
+        )
+
+    candidate_of_covered : (x : Answer) → IsVectorOf tested x.0 → CoversCandidates tested x → (v : List Dir) → StandsFor (listed x.0) v → IsNewCandidate v
+    candidate_of_covered x g c v stands =
+        candidate_by v
+        (subst (IsForward a.place.stmt b.place.stmt (common_of s.loops t.loops)) (listed_places v)
+        (new_candidate tested few a.place.stmt b.place.stmt turn_is (in_places v) (c (in_places v) (covered_of tested few x.0 v g stands))))
+
+    couple_by : IsCouple n (couple_of a b k as')
+    unfolding are_references
+    couple_by = record {
+      refs = are_references;
+      kind = kind;
+      array = w.first_kept.name;
+      covered = λ v c.
+          let f = forward_by v c in
+          once_of as_new (λ (x : Answer). Covers tested x.0 (in_places v)) (λ (y : arcs.Answer). StandsFor y.0 v) as' (alike v f as' h.vectors)
+          (h.covered (in_places v) (old_candidate tested few a.place.stmt b.place.stmt turn_is v f));
+      candidates = All-map (λ (y : arcs.Answer). (v : List Dir) → StandsFor y.0 v → IsNewCandidate v) as_new as'
+          (λ i d l. candidate_of_covered (get_or as' i d) (h.vectors i d l) (h.candidates i d l));
+      merged = listed_of tested few (length a.spans) (length b.spans) a.place.stmt b.place.stmt before (common_of s.loops t.loops) 0 as' tells (omega arith) h.vectors h.merged;
+      right = All-map (λ (y : arcs.Answer). IsRight n (couple_of a b k as') b' y.0 y.1) as_new as'
+          (λ i d l. right_one k as' (get_or as' i d).0 (get_or as' i d).1 (h.vectors i d l) (h.never i d l) (h.pair i d l) (h.assumed i d l) (h.kept i d l));
+    }
+
+  pub is_couple : (k : Dep) (as' : List Answer) → kind_between a.place.at b.place.at ≡ Some k → AreVectors refs as' → IsCouple n (couple_of a b k as')
+  is_couple k as' e v = couple_by k as' e (subst (λ (z : RefPair). AreVectors z as') are_tested v)
 
 -- ---- references of a ready nest
 

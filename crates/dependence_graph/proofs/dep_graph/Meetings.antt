@@ -15,7 +15,7 @@ use Rattle.subscripts.specs.declared.affine.Dirs.{Dirs}
 use Rattle.subscripts.specs.declared.affine.Span.{Span}
 use Rattle.subscripts.specs.declared.pairing.Pairing.{Pairing}
 use Rattle.linear_forms.specs.Linear.{Form, form_of, number_at}
-use Rattle.linear_forms.specs.Places.{IsAffineOf, IsFound}
+use Rattle.linear_forms.specs.Affines.{IsAffineOf, IsFound}
 use Rattle.nest.specs.Bodies.{Standing}
 use Rattle.nest.specs.Plain.{Loop}
 use Rattle.direction_vectors.specs.vector_tests.Pairs.{IsInVector, IsIteration, IsMeeting}

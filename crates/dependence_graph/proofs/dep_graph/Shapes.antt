@@ -11,7 +11,8 @@ use Rattle.std.proofs.lemmas.List.Elements.{All-append, All-cons, All-from_get_o
 use Rattle.subscripts.specs.Shapes.{AreSymbols, IsForm, IsSmall}
 use Rattle.subscripts.specs.declared.affine.Affine.{Affine}
 use Rattle.linear_forms.specs.Linear.{Form, all_small, is_limited, is_small, not_zero}
-use Rattle.linear_forms.specs.Places.{IsAffineOf, padded, terms_from}
+use Rattle.linear_forms.specs.Places.{padded, terms_from}
+use Rattle.linear_forms.specs.Affines.{IsAffineOf}
 
 small_is : (z : ℤ) → is_small z ≡ true → IsSmall z
 small_is z h = let e = leb-true (nat_abs z) (2 ^ 40) h in omega (arith, ints)

@@ -1,32 +1,23 @@
 -- The graph of a nest is complete.
-use Rattle.std.proofs.Common.{◌≡◌, ◌⊎◌, ◌↔◌, ℕ, ◌<◌, List, [], ◌∷◌, ◌++◌, length, get_or, zero, suc, refl, ap, ap₂, subst, sym, arith, ◌∙◌, inl, inr, Some, None, Option, Bool, true}
-use Rattle.std.specs.Prelude.{ℤ, All, IsTrue, slice_get}
-use Rattle.std.proofs.lemmas.List.Elements.{All-head, All-tail}
+use Rattle.std.proofs.Common.{◌≡◌, ◌⊎◌, ℕ, ◌<◌, List, [], ◌∷◌, ◌++◌, length, get_or, zero, suc, refl, ap, subst, sym, arith, ◌∙◌, inl, inr, Some, None, Option}
+use Rattle.std.specs.Prelude.{All, slice_get}
 use Rattle.std.proofs.lemmas.Option.{get_or_from_slice_get, slice_get_within}
-use Rattle.subscripts.specs.declared.affine.Dirs.{Dirs}
-use Rattle.subscripts.specs.declared.verdict.Point.{Point}
+use Rattle.subscripts.specs.declared.affine.Dir.{Dir}
 use Rattle.subscripts.specs.declared.verdict.Test.{Test}
-use Rattle.subscripts.specs.declared.verdict.Verdict.{Verdict}
-use Rattle.subscripts.specs.declared.verdict.Verdict.TheVariants.{Never, Pair as Met, Assumed}
 use Rattle.components.specs.Lists.{In}
 use Rattle.dependence_graph.specs.declared.graphs.Dep.{Dep}
-use Rattle.dependence_graph.specs.declared.graphs.Dep.TheVariants.{Flow, Anti, Output}
 use Rattle.dependence_graph.specs.declared.graphs.Dropped.{Dropped}
 use Rattle.dependence_graph.specs.declared.graphs.Edge.{Edge}
 use Rattle.dependence_graph.specs.declared.graphs.Graph.{Graph}
 use Rattle.dependence_graph.specs.declared.graphs.Place.{Place}
-use Rattle.tree.specs.Plain.{Reference}
 use Rattle.nest.specs.Plain.{Nest}
-use Rattle.nest.specs.Bodies.{Standing, nest_statements}
-use Rattle.direction_vectors.specs.vector_tests.Refs.{IsVectorOf}
-use Rattle.direction_vectors.specs.declared.vector_tests.refs.RefPair.{RefPair}
-use Rattle.direction_vectors.specs.Candidates.{Allows, Answer, Covers, HoldsOnce, IsCandidate as IsCandidateVector, IsCovered, dir_at}
-use Rattle.dependence_graph.specs.nest_graph.Arcs.{Couple, drop_of, drops_of, edge_of, edges_of, level_of, with_some}
-use Rattle.dependence_graph.specs.nest_graph.Complete.{HasDropFor, HasEdgeFor, IsAllowed, IsComplete, IsDropFor, IsEdgeFor}
-use Rattle.dependence_graph.specs.nest_graph.Graph.{AreDependent, IsAmong, IsCouple, IsDroppedRight, IsGraphOf, IsRightAnswer, all_drops, all_edges, candidate_of}
+use Rattle.dependence_graph.specs.nest_graph.Arcs.{Answer, Assumed, Couple, Met, Never, Verdict, drop_of, drops_of, edge_of, edges_of, in_places, level_of, with_some}
+use Rattle.dependence_graph.specs.nest_graph.Complete.{HasDropFor, HasEdgeFor, IsComplete}
+use Rattle.dependence_graph.specs.nest_graph.Graph.{IsCouple, IsGraphOf, IsRight, all_drops, all_edges, candidate_of}
 use Rattle.dependence_graph.specs.nest_graph.Pair.{Candidate, HasPair, IsCandidate, kind_between}
-use Rattle.dependence_graph.specs.nest_graph.References.{references_of}
-use Rattle.dependence_graph.specs.nest_graph.Tested.{AreReferences, pair_between, pair_of}
+use Rattle.dependence_graph.specs.nest_graph.Tested.{Both, both}
+use Rattle.dependence_graph.specs.nest_graph.Vectors.{HoldsOnce, StandsFor}
+use Rattle.dependence_graph.proofs.dep_graph.Directions.{listed, listed_places}
 
 -- ---- lists
 
@@ -80,39 +71,20 @@ couple_drops [] i c e s h = cc
 couple_drops (d ∷ cs) zero c e s h = let f : d ≡ c = cc in in_front e (drops_of d d.answers) (all_drops cs) (subst (λ (z : Couple). In e (drops_of z z.answers)) (sym f) h)
 couple_drops (d ∷ cs) (suc i) c e s h = in_rest e (drops_of d d.answers) (all_drops cs) (couple_drops cs i c e s h)
 
--- ---- one answer covers
+-- ---- one answer stands for a vector
 
-record HasCovering (r : RefPair) (answers : List Answer) (v : Dirs) : Type 0 where
+record HasAnswer (answers : List Answer) (v : List Dir) : Type 0 where
   answer : Answer
   among : In answer answers
-  covers : Covers r answer.0 v
+  stands : StandsFor answer.0 v
 
-covering : (r : RefPair) (answers : List Answer) (v : Dirs) → HoldsOnce (λ a. Covers r a.0 v) answers → HasCovering r answers v
-covering r [] v h = absurd h
-covering r (a ∷ as') v h =
+answer_for : (answers : List Answer) (v : List Dir) → HoldsOnce (λ (a : Answer). StandsFor a.0 v) answers → HasAnswer answers v
+answer_for [] v h = absurd h
+answer_for (a ∷ as') v h =
     elim h [
-      | inl o ↦ record { answer = a; among = inl refl; covers = o.0 }
-      | inr o ↦ let g = covering r as' v o.1 in record { answer = g.answer; among = inr g.among; covers = g.covers }
+      | inl o ↦ record { answer = a; among = inl refl; stands = o.0 }
+      | inr o ↦ let g = answer_for as' v o.1 in record { answer = g.answer; among = inr g.among; stands = g.stands }
     ]
-
--- ---- references in the same places are the same
-
-same_standing : (n : Nest) (i : ℕ) (s t : Standing) → slice_get (nest_statements n) i ≡ Some s → slice_get (nest_statements n) i ≡ Some t → s ≡ t
-same_standing n i s t e f = let g : Some s ≡ Some t = sym e ∙ f in cc
-
-same_reference : (s : Standing) (k : ℕ) (r u : Reference) → slice_get (references_of s) k ≡ Some r → slice_get (references_of s) k ≡ Some u → r ≡ u
-same_reference s k r u e f = let g : Some r ≡ Some u = sym e ∙ f in cc
-
-same_pair : (n : Nest) (p q : Place) (a b : AreReferences n p q) → pair_of n p q a ≡ pair_of n p q b
-same_pair n p q a b =
-    let f : a.first ≡ b.first = same_standing n p.stmt a.first b.first a.first_is.statement b.first_is.statement in
-    let s : a.second ≡ b.second = same_standing n q.stmt a.second b.second a.second_is.statement b.second_is.statement in
-    let r : a.first_reference ≡ b.first_reference = same_reference b.first p.at a.first_reference b.first_reference
-    (subst (λ (z : Standing). slice_get (references_of z) p.at ≡ Some a.first_reference) f a.first_is.reference) b.first_is.reference in
-    let u : a.second_reference ≡ b.second_reference = same_reference b.second q.at a.second_reference b.second_reference
-    (subst (λ (z : Standing). slice_get (references_of z) q.at ≡ Some a.second_reference) s a.second_is.reference) b.second_is.reference in
-    ap₂ (λ (x : Standing) (y : Reference). pair_between n.symbols p q x a.second y a.second_reference) f r
-    ∙ ap₂ (λ (x : Standing) (y : Reference). pair_between n.symbols p q b.first x b.first_reference y) s u
 
 -- ---- a candidate's couple
 
@@ -124,47 +96,37 @@ one_of_both (suc p) (suc q) k e = cc
 couple_at : (n : Nest) (cs : List Couple) (i : ℕ) (c : Couple) → All (IsCouple n) cs → slice_get cs i ≡ Some c → IsCouple n c
 couple_at n cs i c a e = subst (λ (z : Couple). IsCouple n z) (get_or_from_slice_get cs i c c e) (a i c (slice_get_within cs i c e))
 
--- how the references in two places are tested
-abbrev AreTestedAs : Nest → Place → Place → RefPair → Type 0
-AreTestedAs n p q r = (a : AreReferences n p q) × (r ≡ pair_of n p q a)
-
-tested_at : (n : Nest) (p q : Place) (c : Couple) → IsCouple n c → c.from ≡ p → c.to ≡ q → AreTestedAs n p q c.refs
-tested_at n p q c k e f =
-    subst (λ (z : Place). AreTestedAs n z q c.refs) e (subst (λ (z : Place). AreTestedAs n c.from z c.refs) f (k.refs, k.tested))
-
-couple_candidate : (n : Nest) (c : Candidate) (d : Couple) → IsCandidate n c → IsCouple n d → d.from ≡ c.from → d.to ≡ c.to → IsCandidateVector d.refs c.vector
-couple_candidate n c d i k e f =
-    let t = tested_at n c.from c.to d k e f in
-    subst (λ (r : RefPair). IsCandidateVector r c.vector) (same_pair n c.from c.to i.refs t.0 ∙ sym t.1) i.vector
-
 kind_at : (p q : Place) (c : Couple) (k : Dep) → kind_between c.from.at c.to.at ≡ Some c.kind → c.from ≡ p → c.to ≡ q → kind_between p.at q.at ≡ Some k → c.kind ≡ k
 kind_at p q c k a e f b =
     let g : kind_between p.at q.at ≡ Some c.kind = subst (λ (z : Place). kind_between z.at q.at ≡ Some c.kind) e (subst (λ (z : Place). kind_between c.from.at z.at ≡ Some c.kind) f a) in
     let d : Some c.kind ≡ Some k = sym g ∙ b in
     cc
 
-allowed_by : (r : RefPair) (d v : Dirs) → IsVectorOf r v → Covers r d v → IsAllowed d v
-allowed_by r d v w c = record { len = c.vector.len ∙ sym w.len; at = λ m b. c.at m (let e = w.len in omega arith) }
+same_as : (c : Couple) (d : Candidate) → c.from ≡ d.from → c.to ≡ d.to → c.kind ≡ d.kind → d ≡ candidate_of c d.vector
+same_as c d e f k =
+    sym (ap (λ (z : Place). record { from = z; to = c.to; kind = c.kind; vector = d.vector }) e
+    ∙ ap (λ (z : Place). record { from = d.from; to = z; kind = c.kind; vector = d.vector }) f
+    ∙ ap (λ (z : Dep). record { from = d.from; to = d.to; kind = z; vector = d.vector }) k)
 
 -- ---- an answer is an edge or a drop
 
-record HasEdgeOf (c : Couple) (d : Dirs) (v : Verdict) : Type 0 where
+record HasEdgeOf (c : Couple) (d : List Dir) (v : Verdict) : Type 0 where
   edge : Edge
   is : edge_of c d v ≡ Some edge
   from : edge.from ≡ c.from
   to : edge.to ≡ c.to
   kind : edge.kind ≡ c.kind
-  dirs : edge.dirs ≡ d
+  dirs : edge.dirs ≡ in_places d
 
-record HasDropOf (c : Couple) (d : Dirs) (v : Verdict) : Type 0 where
+record HasDropOf (c : Couple) (d : List Dir) (v : Verdict) : Type 0 where
   drop : Dropped
   is : drop_of c d v ≡ Some drop
   from : drop.from ≡ c.from
   to : drop.to ≡ c.to
   kind : drop.kind ≡ c.kind
-  dirs : drop.dirs ≡ d
+  dirs : drop.dirs ≡ in_places d
 
-answer_gives : (c : Couple) (d : Dirs) (v : Verdict) → HasEdgeOf c d v ⊎ HasDropOf c d v
+answer_gives : (c : Couple) (d : List Dir) (v : Verdict) → HasEdgeOf c d v ⊎ HasDropOf c d v
 answer_gives c d (Never w) = inr (record { drop = _; is = refl; from = refl; to = refl; kind = refl; dirs = refl })
 answer_gives c d (Met x y w) = inl (record { edge = _; is = refl; from = refl; to = refl; kind = refl; dirs = refl })
 answer_gives c d (Assumed w) = inl (record { edge = _; is = refl; from = refl; to = refl; kind = refl; dirs = refl })
@@ -173,20 +135,28 @@ covered_by : (n : Nest) (g : Graph) → IsGraphOf n g → (c : Candidate) → Is
 covered_by n g h c i =
     let f = h.every c.from c.to (record { refs = i.refs; one_written = one_of_both c.from.at c.to.at c.kind i.kind }) in
     let k = couple_at n h.couples f.at f.couple h.each f.is_at in
-    let v = couple_candidate n c f.couple i k f.from_is f.to_is in
-    let o = covering f.couple.refs f.couple.answers c.vector (k.covered c.vector v) in
     let kind = kind_at c.from c.to f.couple c.kind k.kind f.from_is f.to_is i.kind in
-    let allowed = allowed_by f.couple.refs o.answer.0 c.vector v.vector o.covers in
+    let o = answer_for f.couple.answers c.vector (k.covered c.vector (subst (IsCandidate n) (same_as f.couple c f.from_is f.to_is kind) i)) in
     elim (answer_gives f.couple o.answer.0 o.answer.1) [
       | inl e ↦ inl (record {
         edge = e.edge;
         among = subst (λ (es : List Edge). In e.edge es) (sym h.edges) (couple_edges h.couples f.at f.couple e.edge f.is_at (in_edges f.couple o.answer e.edge f.couple.answers o.among e.is));
-        stands = record { from = e.from ∙ f.from_is; to = e.to ∙ f.to_is; kind = e.kind ∙ kind; dirs = subst (λ (z : Dirs). IsAllowed z c.vector) (sym e.dirs) allowed };
+        stands = record {
+          from = e.from ∙ f.from_is;
+          to = e.to ∙ f.to_is;
+          kind = e.kind ∙ kind;
+          dirs = record { vector = o.answer.0; places = e.dirs; stands = o.stands };
+        };
       })
       | inr e ↦ inr (record {
         drop = e.drop;
         among = subst (λ (es : List Dropped). In e.drop es) (sym h.dropped) (couple_drops h.couples f.at f.couple e.drop f.is_at (in_drops f.couple o.answer e.drop f.couple.answers o.among e.is));
-        stands = record { from = e.from ∙ f.from_is; to = e.to ∙ f.to_is; kind = e.kind ∙ kind; dirs = subst (λ (z : Dirs). IsAllowed z c.vector) (sym e.dirs) allowed };
+        stands = record {
+          from = e.from ∙ f.from_is;
+          to = e.to ∙ f.to_is;
+          kind = e.kind ∙ kind;
+          dirs = record { vector = o.answer.0; places = e.dirs; stands = o.stands };
+        };
       })
     ]
 
@@ -210,13 +180,13 @@ record AnswersDrop (c : Couple) (as' : List Answer) (e : Dropped) : Type 0 where
   at : ℕ
   within : at < length as'
   word : Test
-  is_never : (get_or as' at (e.dirs, Never e.test)).1 ≡ Never word
+  is_never : (get_or as' at ([], Never e.test)).1 ≡ Never word
   from : e.from ≡ c.from
   to : e.to ≡ c.to
   kind : e.kind ≡ c.kind
-  dirs : e.dirs ≡ (get_or as' at (e.dirs, Never e.test)).0
+  dirs : e.dirs ≡ in_places (get_or as' at ([], Never e.test)).0
 
-here_or_later : (c : Couple) (d : Dirs) (v : Verdict) (e : Dropped) (as' : List Answer) → In e (with_some (drop_of c d v) (drops_of c as')) → AnswersDrop c ((d, v) ∷ as') e ⊎ In e (drops_of c as')
+here_or_later : (c : Couple) (d : List Dir) (v : Verdict) (e : Dropped) (as' : List Answer) → In e (with_some (drop_of c d v) (drops_of c as')) → AnswersDrop c ((d, v) ∷ as') e ⊎ In e (drops_of c as')
 here_or_later c d (Met x y w) e as' h = inr h
 here_or_later c d (Assumed w) e as' h = inr h
 here_or_later c d (Never w) e as' h =
@@ -244,14 +214,11 @@ answers_drop c (a ∷ as') e h =
           record { at = suc f.at; within = (let b = f.within in omega arith); word = f.word; is_never = f.is_never; from = f.from; to = f.to; kind = f.kind; dirs = f.dirs }
     ]
 
-same_as : (c : Couple) (d : Candidate) → c.from ≡ d.from → c.to ≡ d.to → c.kind ≡ d.kind → d ≡ candidate_of c d.vector
-same_as c d e f k =
-    sym (ap (λ (z : Place). record { from = z; to = c.to; kind = c.kind; vector = d.vector }) e
-    ∙ ap (λ (z : Place). record { from = d.from; to = z; kind = c.kind; vector = d.vector }) f
-    ∙ ap (λ (z : Dep). record { from = d.from; to = d.to; kind = z; vector = d.vector }) k)
+without_pair : (n : Nest) (c : Couple) (b : Both) (d : List Dir) (v : Verdict) (w : Test) → v ≡ Never w → IsRight n c b d v → IsRight n c b d (Never w)
+without_pair n c b d v w e h = subst (λ (z : Verdict). IsRight n c b d z) e h
 
-without_pair : (n : Nest) (c : Couple) (d : Dirs) (v : Verdict) (w : Test) → v ≡ Never w → IsDroppedRight n c d v → IsDroppedRight n c d (Never w)
-without_pair n c d v w e h = subst (λ (z : Verdict). IsDroppedRight n c d z) e h
+same_vector : (d v : List Dir) → in_places d ≡ in_places v → d ≡ v
+same_vector d v e = sym (listed_places d) ∙ ap listed e ∙ listed_places v
 
 dropped_none : (n : Nest) (g : Graph) → IsGraphOf n g → (c : Candidate) → IsCandidate n c → HasDropFor g c → HasPair n c → ⊥
 dropped_none n g h c i o p =
@@ -261,22 +228,16 @@ dropped_none n g h c i o p =
     let from : f.couple.from ≡ c.from = sym a.from ∙ o.stands.from in
     let to : f.couple.to ≡ c.to = sym a.to ∙ o.stands.to in
     let kind : f.couple.kind ≡ c.kind = sym a.kind ∙ o.stands.kind in
-    let v = couple_candidate n c f.couple i k from to in
-    let q : Answer = (o.drop.dirs, Never o.drop.test) in
-    let none = without_pair n f.couple (get_or f.couple.answers a.at q).0 (get_or f.couple.answers a.at q).1 a.word a.is_never (k.right a.at q a.within).dropped in
-    none c.vector
-    (record {
-      vector = v.vector;
-      plain = v.plain;
-      covers = record {
-        vector = k.vectors a.at q a.within;
-        at = λ m b. subst (λ (z : Dirs). Allows (dir_at z m) (dir_at c.vector m)) a.dirs (o.stands.dirs.at m (let e = v.vector.len in omega arith));
-      };
-    }) (subst (λ (z : Candidate). HasPair n z) (same_as f.couple c from to kind) p)
+    let q : Answer = ([], Never o.drop.test) in
+    let d = (get_or f.couple.answers a.at q).0 in
+    let none = without_pair n f.couple (both n f.couple.from f.couple.to k.refs) d (get_or f.couple.answers a.at q).1 a.word a.is_never (k.right a.at q a.within) in
+    let same : o.stands.dirs.vector ≡ d = same_vector o.stands.dirs.vector d (sym o.stands.dirs.places ∙ a.dirs) in
+    none.without_pair c.vector (subst (λ (z : List Dir). StandsFor z c.vector) same o.stands.dirs.stands)
+    (subst (λ (z : Candidate). HasPair n z) (same_as f.couple c from to kind) p)
 
 -- ---- levels
 
-level_is : (c : Couple) (d : Dirs) (v : Verdict) (e : Edge) (es : List Edge) → In e (with_some (edge_of c d v) es) → (e.level ≡ level_of e.dirs) ⊎ In e es
+level_is : (c : Couple) (d : List Dir) (v : Verdict) (e : Edge) (es : List Edge) → In e (with_some (edge_of c d v) es) → (e.level ≡ level_of e.dirs) ⊎ In e es
 level_is c d (Never w) e es h = inr h
 level_is c d (Met x y w) e es h = elim h [ inl f ↦ inl (subst (λ (z : Edge). z.level ≡ level_of z.dirs) (sym f) refl) | inr r ↦ inr r ]
 level_is c d (Assumed w) e es h = elim h [ inl f ↦ inl (subst (λ (z : Edge). z.level ≡ level_of z.dirs) (sym f) refl) | inr r ↦ inr r ]

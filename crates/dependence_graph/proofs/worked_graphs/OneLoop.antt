@@ -1,33 +1,30 @@
 -- Instances of a nest of one loop and one statement, and pairs of them that touch a cell.
-use Rattle.std.proofs.Common.{◌≡◌, ℕ, zero, suc, ◌<◌, ◌≤◌, refl, sym, ap, ap₂, ◌∙◌, subst, arith, Option, Some, None, false, true, List, [], ◌∷◌, get_or}
+use Rattle.std.proofs.Common.{◌≡◌, ℕ, zero, suc, refl, sym, ap, ap₂, ◌∙◌, subst, arith, Option, Some, List, [], ◌∷◌}
 use Rattle.std.specs.Prelude.{ℤ, pos, ◌≤ℤ◌, ◌<ℤ◌, int_div, MatchOption, ⊤, codes, slice_get}
 use Rattle.std.proofs.lemmas.Int.{ints}
 use Rattle.std.proofs.lemmas.List.Elements.{All-replicate}
-use Rattle.meaning.specs.Store.{Cell}
 use Rattle.tree.specs.Plain.{Expression, Only, Subscripts, no_subscripts, subscript, Reference}
 use Rattle.linear_forms.specs.Linear.{Form, constant_form, form_of, number_at}
-use Rattle.subscripts.specs.Classes.{at_place}
-use Rattle.subscripts.specs.Iterations.{IsRelated}
-use Rattle.subscripts.specs.declared.affine.Affine.{Affine}
-use Rattle.subscripts.specs.declared.affine.Dir.{Dir}
-use Rattle.subscripts.specs.declared.affine.Dir.TheVariants.{Lt, Any}
-use Rattle.subscripts.specs.declared.affine.Dirs.{Dirs}
+use Rattle.subscripts.specs.Forms.{AreRelated}
 use Rattle.dependence_graph.specs.declared.graphs.Dep.{Dep}
-use Rattle.dependence_graph.specs.declared.graphs.Place.{Place}
 use Rattle.nest.specs.Bodies.{Standing, nest_statements}
 use Rattle.nest.specs.Plain.{Nest}
 use Rattle.nest.specs.declared.parts.Trip.{Trip}
-use Rattle.direction_vectors.specs.declared.vector_tests.refs.RefPair.{RefPair}
+use Rattle.dependence_graph.specs.nest_graph.Indices.{SubscriptPair, coefficient_at, paired, pairs_in, subscript_pairs}
 use Rattle.dependence_graph.specs.nest_graph.Instances.{AreTurns, turns_at}
+use Rattle.dependence_graph.specs.nest_graph.Paired.{affine_of}
 use Rattle.dependence_graph.specs.nest_graph.Pair.{Pair}
 use Rattle.dependence_graph.specs.nest_graph.References.{references_of, variables_round}
-use Rattle.dependence_graph.specs.nest_graph.Tested.{AreReferences, affine_of, common_of, pair_between, pair_of, pairing_by, pairings_in, unknown_pairing}
+use Rattle.dependence_graph.specs.nest_graph.Tested.{AreReferences, Both, both}
 use Rattle.dependence_graph.specs.nest_graph.Touched.{AreSubscriptsAt, Touches}
 use Rattle.dependence_graph.specs.loop_spans.Greatest.{IsConstant}
 use Rattle.dependence_graph.proofs.loop_spans.SpanLaws.{constant_at}
 use Rattle.dependence_graph.specs.worked_graphs.Nests.{assignment, loop_to, one_loop}
 use Rattle.dependence_graph.specs.worked_graphs.Listed.{at, less}
-use Rattle.dependence_graph.proofs.worked_graphs.Pairs.{line, refs, span_to}
+
+-- a I + c
+abbrev pub line : ℤ → ℤ → Form
+line a c = record { coefficients = a ∷ []; constant = c }
 
 abbrev pub variables : List (List ℕ)
 variables = codes "I" ∷ []
@@ -48,7 +45,8 @@ pub record IsTurnOf (last : ℕ) (x : List ℤ) : Type 0 where
 
 -- the form of a I + c, which has no coefficient where a is 0
 pub record IsLine (f : Form) (a c : ℤ) : Type 0 where
-  pub affine : affine_of 1 f ≡ affine_of 1 (line a c)
+  pub front : coefficient_at f 0 ≡ a
+  pub past : (k : ℕ) → coefficient_at f (suc k) ≡ pos 0
   pub value : (i : ℤ) → number_at f (i ∷ []) ≡ worth a c i
 
 -- a reference in this place, whose only subscript is a I + c
@@ -114,29 +112,51 @@ module _ (last : ℕ) (whole : int_div (pos last) (pos 1) ≡ pos last) (left : 
   one_turn values (i ∷ []) h = record { turn = i; is = refl; low = h.0.0; high = subst (λ (z : ℤ). i ≤ℤ z) (turns_are values []) h.0.1 }
   one_turn values (i ∷ j ∷ x) h = absurd h.1
 
-  turn_of : (values : ℕ → ℤ) (i : ℤ) → pos 1 ≤ℤ i → i ≤ℤ pos last → AreTurns values [] (loop_to last ∷ []) (i ∷ [])
+  pub turn_of : (values : ℕ → ℤ) (i : ℤ) → pos 1 ≤ℤ i → i ≤ℤ pos last → AreTurns values [] (loop_to last ∷ []) (i ∷ [])
   turn_of values i l h = ((l, subst (λ (z : ℤ). i ≤ℤ z) (sym (turns_are values [])) h), tt)
 
-  standing_is : (k : ℕ) (z : Standing) → slice_get (nest_statements nest) k ≡ Some z → z ≡ standing
+  pub standing_is : (k : ℕ) (z : Standing) → slice_get (nest_statements nest) k ≡ Some z → z ≡ standing
   standing_is zero z e = cc
   standing_is (suc k) z e = cc
 
   -- ---- two references
 
+  module _ (p q : ℕ) (r u : Reference) (first : slice_get (references_of standing) p ≡ Some r) (second : slice_get (references_of standing) q ≡ Some u) where
+    pub first_same : (z : Standing) (x : Reference) → z ≡ standing → slice_get (references_of z) p ≡ Some x → x ≡ r
+    first_same z x e h = same_some (slice_get (references_of standing) p) x r (subst (λ (s : Standing). slice_get (references_of s) p ≡ Some x) e h) first
+
+    pub second_same : (z : Standing) (x : Reference) → z ≡ standing → slice_get (references_of z) q ≡ Some x → x ≡ u
+    second_same z x e h = same_some (slice_get (references_of standing) q) x u (subst (λ (s : Standing). slice_get (references_of s) q ≡ Some x) e h) second
+
+    abbrev of_both : Standing → Standing → Reference → Reference → Both
+    of_both s t x y = record { symbols = []; first = s; second = t; first_reference = x; second_reference = y }
+
+    -- what says how they depend
+    abbrev pub two : Both
+    two = of_both standing standing r u
+
+    pub references_are : (h : AreReferences nest (at p) (at q)) → (h.first_reference ≡ r) × (h.second_reference ≡ u)
+    references_are h = (
+      first_same h.first h.first_reference (standing_is 0 h.first h.first_is.statement) h.first_is.reference,
+      second_same h.second h.second_reference (standing_is 0 h.second h.second_is.statement) h.second_is.reference,
+    )
+
+    pub both_are : (h : AreReferences nest (at p) (at q)) → both nest (at p) (at q) h ≡ two
+    both_are h =
+        let g = references_are h in
+        ap₂ (λ (z : Standing) (x : Reference). of_both z h.second x h.second_reference) (standing_is 0 h.first h.first_is.statement) g.0
+        ∙ ap₂ (λ (z : Standing) (x : Reference). of_both standing z r x) (standing_is 0 h.second h.second_is.statement) g.1
+
+  -- ---- whose subscripts are linear
+
   module _ (p q : ℕ) (r u : Reference) (a c b d : ℤ) (first : IsEnd (references_of standing) p r a c) (second : IsEnd (references_of standing) q u b d) where
-    first_same : (z : Standing) (x : Reference) → z ≡ standing → slice_get (references_of z) p ≡ Some x → x ≡ r
-    first_same z x e h = same_some (slice_get (references_of standing) p) x r (subst (λ (s : Standing). slice_get (references_of s) p ≡ Some x) e h) first.there
-
-    second_same : (z : Standing) (x : Reference) → z ≡ standing → slice_get (references_of z) q ≡ Some x → x ≡ u
-    second_same z x e h = same_some (slice_get (references_of standing) q) x u (subst (λ (s : Standing). slice_get (references_of s) q ≡ Some x) e h) second.there
-
     -- a pair of instances in which the first comes before the second
-    pub meets : (k : Dep) (v : Dirs) (x y : List ℤ) → get_or v.at 0 Any ≡ Lt → Pair nest (record { from = at p; to = at q; kind = k; vector = v }) x y → Meeting last a c b d x y
-    meets k v x y less_first h =
-        let e = standing_is 0 h.first h.first_is.statement in
-        let f = standing_is 0 h.second h.second_is.statement in
-        let er = first_same h.first h.first_reference e h.first_is.reference in
-        let fu = second_same h.second h.second_reference f h.second_is.reference in
+    pub meets : (k : Dep) (x y : List ℤ) → Pair nest (record { from = at p; to = at q; kind = k; vector = less }) x y → Meeting last a c b d x y
+    meets k x y h =
+        let e = standing_is 0 h.refs.first h.refs.first_is.statement in
+        let f = standing_is 0 h.refs.second h.refs.second_is.statement in
+        let er = first_same p q r u first.there second.there h.refs.first h.refs.first_reference e h.refs.first_is.reference in
+        let fu = second_same p q r u first.there second.there h.refs.second h.refs.second_reference f h.refs.second_is.reference in
         let ei = standing_is 0 h.first_instance.standing h.first_instance.is_at in
         let fi = standing_is 0 h.second_instance.standing h.second_instance.is_at in
         let s = one_turn h.values x (subst (λ (z : Standing). AreTurns h.values [] z.loops x) ei h.first_instance.turns) in
@@ -144,18 +164,13 @@ module _ (last : ℕ) (whole : int_div (pos last) (pos 1) ≡ pos last) (left : 
         let first_touched : AreSubscriptsAt variables [] h.values (s.turn ∷ []) (subscript (Only first.index) no_subscripts) h.cell.subscripts =
         subst (λ (zs : List ℤ). AreSubscriptsAt variables [] h.values zs (subscript (Only first.index) no_subscripts) h.cell.subscripts) s.is
         (subst (λ (ss : Subscripts). AreSubscriptsAt variables [] h.values x ss h.cell.subscripts) (ap (λ (z : Reference). z.subscripts) er ∙ first.subs)
-        (subst (λ (z : Standing). Touches (variables_round z) [] h.values x h.first_reference h.cell) e h.first_touches).subscripts) in
+        (subst (λ (z : Standing). Touches (variables_round z) [] h.values x h.refs.first_reference h.cell) e h.first_touches).subscripts) in
         let second_touched : AreSubscriptsAt variables [] h.values (t.turn ∷ []) (subscript (Only second.index) no_subscripts) h.cell.subscripts =
         subst (λ (zs : List ℤ). AreSubscriptsAt variables [] h.values zs (subscript (Only second.index) no_subscripts) h.cell.subscripts) t.is
         (subst (λ (ss : Subscripts). AreSubscriptsAt variables [] h.values y ss h.cell.subscripts) (ap (λ (z : Reference). z.subscripts) fu ∙ second.subs)
-        (subst (λ (z : Standing). Touches (variables_round z) [] h.values y h.second_reference h.cell) f h.second_touches).subscripts) in
-        let related : (m : ℕ) → m < 1 → IsRelated (get_or v.at m Any) (at_place x m) (at_place y m) =
-        subst (λ (z : Standing). (m : ℕ) → m < common_of standing.loops z.loops → IsRelated (get_or v.at m Any) (at_place x m) (at_place y m)) f
-        (subst (λ (z : Standing). (m : ℕ) → m < common_of z.loops h.second.loops → IsRelated (get_or v.at m Any) (at_place x m) (at_place y m)) e h.related) in
-        let before : s.turn <ℤ t.turn =
-        subst (λ (zs : List ℤ). IsRelated Lt (at_place zs 0) t.turn) s.is
-        (subst (λ (zs : List ℤ). IsRelated Lt (at_place x 0) (at_place zs 0)) t.is
-        (subst (λ (m : Dir). IsRelated m (at_place x 0) (at_place y 0)) less_first (related 0 (omega arith)))) in
+        (subst (λ (z : Standing). Touches (variables_round z) [] h.values y h.refs.second_reference h.cell) f h.second_touches).subscripts) in
+        let related : AreRelated less (s.turn ∷ []) (t.turn ∷ []) =
+        subst (λ (zs : List ℤ). AreRelated less zs (t.turn ∷ [])) s.is (subst (λ (zs : List ℤ). AreRelated less x zs) t.is h.related) in
         let same : worth a c s.turn ∷ [] ≡ worth b d t.turn ∷ [] =
         sym (worth_here h.values s.turn first.index first.found a c first.form first.line h.cell.subscripts first_touched)
         ∙ worth_here h.values t.turn second.index second.found b d second.form second.line h.cell.subscripts second_touched in
@@ -165,7 +180,7 @@ module _ (last : ℕ) (whole : int_div (pos last) (pos 1) ≡ pos last) (left : 
           first_is = s.is;
           second_is = t.is;
           low = s.low;
-          before = before;
+          before = related.0;
           high = t.high;
           equal = one_same (worth a c s.turn) (worth b d t.turn) same;
         }
@@ -179,15 +194,18 @@ module _ (last : ℕ) (whole : int_div (pos last) (pos 1) ≡ pos last) (left : 
     there k i j names low before high equal = record {
       values = λ m. pos 0;
       cell = record { name = r.name; subscripts = worth a c i ∷ [] };
-      first = standing;
-      second = standing;
-      first_reference = r;
-      second_reference = u;
-      first_is = record { statement = refl; reference = first.there };
-      second_is = record { statement = refl; reference = second.there };
+      refs = record {
+        first = standing;
+        second = standing;
+        first_reference = r;
+        second_reference = u;
+        first_is = record { statement = refl; reference = first.there };
+        second_is = record { statement = refl; reference = second.there };
+        same_name = names;
+      };
       first_instance = record { standing = standing; is_at = refl; turns = turn_of (λ m. pos 0) i low (omega (arith, ints)) };
       second_instance = record { standing = standing; is_at = refl; turns = turn_of (λ m. pos 0) j (omega (arith, ints)) high };
-      related = related;
+      related = (before, tt);
       first_touches = record {
         name = refl;
         subscripts = subst (λ (ss : Subscripts). AreSubscriptsAt variables [] (λ m. pos 0) (i ∷ []) ss (worth a c i ∷ [])) (sym first.subs)
@@ -199,62 +217,13 @@ module _ (last : ℕ) (whole : int_div (pos last) (pos 1) ≡ pos last) (left : 
             (here_worth (λ m. pos 0) j second.index second.found b d second.form second.line (worth a c i) equal);
       };
     }
-      where
-        related : (m : ℕ) → m < 1 → IsRelated (get_or less.at m Any) (at_place (i ∷ []) m) (at_place (j ∷ []) m)
-        related zero h = before
-        related (suc m) h = absurd (omega arith)
 
-    -- ---- how they are tested
+    -- ---- the pair of their subscripts
 
-    abbrev of_forms : ℤ → Option Form → Option Form → RefPair
-    of_forms m f g = record {
-      subs = pairing_by (unknown_pairing 1 (span_to m ∷ []) (span_to m ∷ [])) 1 1 f g ∷ [];
-      from_spans = span_to m ∷ [];
-      to_spans = span_to m ∷ [];
-      common = 1;
-      same_turn = false;
-    }
+    abbrev pub pair : SubscriptPair
+    pair = record { first = first.found; second = second.found }
 
-    abbrev of_affines : ℤ → Affine → Affine → RefPair
-    of_affines m x y = record {
-      subs = record (unknown_pairing 1 (span_to m ∷ []) (span_to m ∷ [])) { from = x; to = y; known = true } ∷ [];
-      from_spans = span_to m ∷ [];
-      to_spans = span_to m ∷ [];
-      common = 1;
-      same_turn = false;
-    }
-
-    abbrev of_subscripts : ℤ → Subscripts → Subscripts → RefPair
-    of_subscripts m ss ts = record {
-      subs = pairings_in (unknown_pairing 1 (span_to m ∷ []) (span_to m ∷ [])) [] variables variables ss ts;
-      from_spans = span_to m ∷ [];
-      to_spans = span_to m ∷ [];
-      common = 1;
-      same_turn = false;
-    }
-
-    by_statement : pair_between [] (at p) (at q) standing standing r u ≡ of_subscripts (int_div (pos last) (pos 1)) r.subscripts u.subscripts
-    by_statement = refl
-
-    by_subscripts : of_subscripts (int_div (pos last) (pos 1)) r.subscripts u.subscripts ≡ refs (pos last) a c b d
-    by_subscripts =
-        ap (λ (m : ℤ). of_subscripts m r.subscripts u.subscripts) whole
-        ∙ ap₂ (λ (ss ts : Subscripts). of_subscripts (pos last) ss ts) first.subs second.subs
-        ∙ ap₂ (λ (f g : Option Form). of_forms (pos last) f g) first.form second.form
-        ∙ ap₂ (λ (x y : Affine). of_affines (pos last) x y) first.line.affine second.line.affine
-
-    pub references_are : (h : AreReferences nest (at p) (at q)) → (h.first_reference ≡ r) × (h.second_reference ≡ u)
-    references_are h = (
-      first_same h.first h.first_reference (standing_is 0 h.first h.first_is.statement) h.first_is.reference,
-      second_same h.second h.second_reference (standing_is 0 h.second h.second_is.statement) h.second_is.reference,
-    )
-
-    pub refs_are : (h : AreReferences nest (at p) (at q)) → pair_of nest (at p) (at q) h ≡ refs (pos last) a c b d
-    refs_are h =
-        let e = standing_is 0 h.first h.first_is.statement in
-        let f = standing_is 0 h.second h.second_is.statement in
-        let g = references_are h in
-        ap₂ (λ (z : Standing) (x : Reference). pair_between [] (at p) (at q) z h.second x h.second_reference) e g.0
-        ∙ ap₂ (λ (z : Standing) (x : Reference). pair_between [] (at p) (at q) standing z r x) f g.1
-        ∙ by_statement
-        ∙ by_subscripts
+    pub pairs_are : subscript_pairs (two p q r u first.there second.there) ≡ Some pair ∷ []
+    pairs_are =
+        ap₂ (λ (ss ts : Subscripts). pairs_in (two p q r u first.there second.there) ss ts) first.subs second.subs
+        ∙ ap₂ (λ (f g : Option Form). paired f g ∷ []) first.form second.form

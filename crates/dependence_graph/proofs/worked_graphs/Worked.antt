@@ -1,13 +1,10 @@
 -- The only right listings of worked nests.
-use Rattle.std.proofs.Common.{◌≡◌, ◌⊎◌, inl, inr, ℕ, zero, suc, ◌<◌, ◌≤◌, refl, sym, ap, ap₂, ◌∙◌, subst, arith, Option, Some, List, [], ◌∷◌, get_or, map, take}
-use Rattle.std.specs.Prelude.{ℤ, pos, negsuc, ◌+ℤ◌, ◌*ℤ◌, ◌<ℤ◌, ◌≤ℤ◌, codes, int_div, slice_get}
+use Rattle.std.proofs.Common.{◌≡◌, ◌⊎◌, inl, inr, ℕ, zero, suc, refl, sym, ap, ap₂, ◌∙◌, subst, arith, Some, List, [], ◌∷◌, get_or, map}
+use Rattle.std.specs.Prelude.{ℤ, pos, negsuc, ◌*ℤ◌, ◌<ℤ◌, codes, int_div, slice_get}
 use Rattle.std.proofs.lemmas.Int.{ints}
 use Rattle.tree.specs.Plain.{Binary, Expression, Reference}
 use Rattle.tree.specs.declared.ops.Op.TheVariants.{Add, Sub}
 use Rattle.subscripts.specs.Cuts.{IsNoLater}
-use Rattle.subscripts.specs.declared.pairing.Class.TheVariants as class
-use Rattle.subscripts.specs.declared.verdict.Point.{Point}
-use Rattle.subscripts.specs.declared.verdict.Test.{Test}
 use Rattle.subscripts.specs.declared.verdict.Test.TheVariants.{Crossing, Strong, Trip, WeakZero}
 use Rattle.components.specs.Lists.{In, Pairwise}
 use Rattle.dependence_graph.specs.declared.graphs.Dep.{Dep}
@@ -23,12 +20,11 @@ use Rattle.dependence_graph.specs.nest_graph.Graph.{AreDependent, IsCouple, IsGr
 use Rattle.dependence_graph.specs.nest_graph.Pair.{kind_between}
 use Rattle.dependence_graph.specs.nest_graph.References.{references_of}
 use Rattle.dependence_graph.specs.nest_graph.Tested.{IsReference}
-use Rattle.dependence_graph.specs.worked_graphs.Listed.{HasOnly, Shown, at, drop, edge, less, shown}
+use Rattle.dependence_graph.specs.worked_graphs.Listed.{HasOnly, at, drop, edge}
 use Rattle.dependence_graph.specs.worked_graphs.Nests.{crossing, element, elementwise, first_element, i, number, one_turn, past_the_trip, recurrence, value}
-use Rattle.dependence_graph.proofs.worked_graphs.Couples.{AreMeeting, IsFirstMeeting, drops, met_at}
+use Rattle.dependence_graph.proofs.worked_graphs.Couples.{AreMeeting, IsFirstMeeting, drops, drops_once, met_at}
 use Rattle.dependence_graph.proofs.worked_graphs.Keys.{IsEarlier, Key, graph_keys, in_all, key}
-use Rattle.dependence_graph.proofs.worked_graphs.OneLoop.{IsEnd, nest, standing}
-use Rattle.dependence_graph.proofs.worked_graphs.Pairs.{crossing_class, drop_word, line, strong_class, trip_word, zero_class}
+use Rattle.dependence_graph.proofs.worked_graphs.OneLoop.{IsEnd, line, nest, standing}
 
 -- ---- the couples of a statement with two references
 
@@ -182,20 +178,16 @@ module _ (last : ℕ) (whole : int_div (pos last) (pos 1) ≡ pos last) (left : 
 
 -- ---- their lines
 
-same_three : (c d e c' d' e' : Couple) → c ≡ c' → d ≡ d' → e ≡ e' → c ∷ d ∷ e ∷ [] ≡ c' ∷ d' ∷ e' ∷ []
+pub same_three : (c d e c' d' e' : Couple) → c ≡ c' → d ≡ d' → e ≡ e' → c ∷ d ∷ e ∷ [] ≡ c' ∷ d' ∷ e' ∷ []
 same_three c d e c' d' e' f g h = ap₂ (λ (x : Couple) (xs : List Couple). x ∷ xs) f (ap₂ (λ (x y : Couple). x ∷ y ∷ []) g h)
 
-edges_by : (cs ds : List Couple) (es : List Edge) → es ≡ all_edges cs → cs ≡ ds → map (shown 1) es ≡ map (shown 1) (all_edges ds)
-edges_by cs ds es e f = ap (map (shown 1)) (e ∙ ap all_edges f)
+pub edges_by : (cs ds : List Couple) (es : List Edge) → es ≡ all_edges cs → cs ≡ ds → es ≡ all_edges ds
+edges_by cs ds es e f = e ∙ ap all_edges f
 
-drops_by : (cs ds : List Couple) (es : List Dropped) → es ≡ all_drops cs → cs ≡ ds → es ≡ all_drops ds
+pub drops_by : (cs ds : List Couple) (es : List Dropped) → es ≡ all_drops cs → cs ≡ ds → es ≡ all_drops ds
 drops_by cs ds es e f = e ∙ ap all_drops f
 
--- an edge from and to these turns
-abbrev shown_by : Place → Place → Dep → List ℕ → Test → List ℤ → List ℤ → Shown
-shown_by p q k x w from to = record { from = p; to = q; kind = k; array = x; dirs = less; level = 1; test = w; pair = Some (from, to) }
-
-left_one : (b : ℤ) → pos 1 ≡ pos 0 → b ≡ pos 0 → ⊥
+pub left_one : (b : ℤ) → pos 1 ≡ pos 0 → b ≡ pos 0 → ⊥
 left_one b e f = omega (arith, ints)
 
 right_one : (a : ℤ) → a ≡ pos 0 → pos 1 ≡ pos 0 → ⊥
@@ -208,7 +200,7 @@ no_later_than k l i j h = elim h [ inl e ↦ inl e | inr e ↦ elim e.1 [ inl f 
 zero_times : (z : ℤ) → pos 0 *ℤ z ≡ pos 0
 zero_times z = omega (arith, ints)
 
-elementwise_differ : codes "A" ≡ codes "B" → ⊥
+pub elementwise_differ : codes "A" ≡ codes "B" → ⊥
 elementwise_differ e = no (ap (λ (xs : List ℕ). get_or xs 0 0) e)
   where
     no : ◌≡◌ {A = ℕ} 65 66 → ⊥
@@ -223,7 +215,7 @@ elementwise_first = record {
   there = refl;
   subs = refl;
   form = refl;
-  line = record { affine = refl; value = λ n. refl };
+  line = record { front = refl; past = λ k. refl; value = λ n. refl };
 }
 
 elementwise_own : (x y : ℤ) → AreMeeting 100 refl (element "A" i) (Binary Add (value "B" i) (number 1)) 0 0 (element "A" i) (element "A" i) (pos 1) (pos 0) (pos 1) (pos 0) elementwise_first elementwise_first Output refl x y → ⊥
@@ -234,7 +226,7 @@ elementwise_listed g h =
     let t = one_couple 100 refl (element "A" i) (Binary Add (value "B" i) (number 1)) (element "A" i) (element "B" i) refl elementwise_differ g h in
     let each : (c : Couple) → In c (t.0 ∷ []) → IsCouple elementwise c =
     λ c j. in_all (IsCouple elementwise) h.couples c h.each (subst (λ (cs : List Couple). In c cs) (sym t.1) j) in
-    let own = drops 100 refl (element "A" i) (Binary Add (value "B" i) (number 1)) 0 0 (element "A" i) (element "A" i) (pos 1) (pos 0) (pos 1) (pos 0) elementwise_first elementwise_first Output refl (left_one (pos 1)) Strong (drop_word (pos 100) (pos 1) (pos 0) (pos 1) (pos 0) (left_one (pos 1)) class.Strong (strong_class (pos 100) (pos 1) (pos 0) (pos 1) (pos 0) (left_one (pos 1)) refl) (omega (arith, ints))) elementwise_own t.0 (each t.0 (inl refl)) t.2 in
+    let own = drops 100 refl (element "A" i) (Binary Add (value "B" i) (number 1)) 0 0 (element "A" i) (element "A" i) (pos 1) (pos 0) (pos 1) (pos 0) elementwise_first elementwise_first Output refl (left_one (pos 1)) Strong refl (omega (arith, ints)) elementwise_own t.0 (each t.0 (inl refl)) t.2 in
     let all = t.1 ∙ ap (λ (c : Couple). c ∷ []) own in
     (edges_by h.couples _ g.edges h.edges all, drops_by h.couples _ g.dropped h.dropped all)
 
@@ -247,7 +239,7 @@ recurrence_first = record {
   there = refl;
   subs = refl;
   form = refl;
-  line = record { affine = refl; value = λ n. refl };
+  line = record { front = refl; past = λ k. refl; value = λ n. refl };
 }
 
 recurrence_second : IsEnd (references_of (standing 100 refl (element "A" (Binary Add i (number 1))) (value "A" i))) 1 (element "A" i) (pos 1) (pos 0)
@@ -257,13 +249,13 @@ recurrence_second = record {
   there = refl;
   subs = refl;
   form = refl;
-  line = record { affine = refl; value = λ n. refl };
+  line = record { front = refl; past = λ k. refl; value = λ n. refl };
 }
 
 recurrence_own : (x y : ℤ) → AreMeeting 100 refl (element "A" (Binary Add i (number 1))) (value "A" i) 0 0 (element "A" (Binary Add i (number 1))) (element "A" (Binary Add i (number 1))) (pos 1) (pos 1) (pos 1) (pos 1) recurrence_first recurrence_first Output refl x y → ⊥
 recurrence_own x y m = (let e = m.equal in let f = m.before in let l = m.low in let k = m.high in omega (arith, ints))
 
-recurrence_flow : IsFirstMeeting 100 refl (element "A" (Binary Add i (number 1))) (value "A" i) 0 1 (element "A" (Binary Add i (number 1))) (element "A" i) (pos 1) (pos 1) (pos 1) (pos 0) recurrence_first recurrence_second Flow refl (left_one (pos 1)) class.Strong (strong_class (pos 100) (pos 1) (pos 1) (pos 1) (pos 0) (left_one (pos 1)) refl) (pos 1) (pos 2)
+recurrence_flow : IsFirstMeeting 100 refl (element "A" (Binary Add i (number 1))) (value "A" i) 0 1 (element "A" (Binary Add i (number 1))) (element "A" i) (pos 1) (pos 1) (pos 1) (pos 0) recurrence_first recurrence_second Flow refl (pos 1) (pos 2)
 recurrence_flow = record {
   meeting = record { low = omega (arith, ints); before = omega (arith, ints); high = omega (arith, ints); equal = refl };
   least = λ k l m h.
@@ -282,14 +274,11 @@ recurrence_listed g h =
     let t = three_couples 100 refl (element "A" (Binary Add i (number 1))) (value "A" i) (element "A" (Binary Add i (number 1))) (element "A" i) refl refl g h in
     let each : (c : Couple) → In c (t.0 ∷ t.1 ∷ t.2 ∷ []) → IsCouple recurrence c =
     λ c j. in_all (IsCouple recurrence) h.couples c h.each (subst (λ (cs : List Couple). In c cs) (sym t.3) j) in
-    let own = drops 100 refl (element "A" (Binary Add i (number 1))) (value "A" i) 0 0 (element "A" (Binary Add i (number 1))) (element "A" (Binary Add i (number 1))) (pos 1) (pos 1) (pos 1) (pos 1) recurrence_first recurrence_first Output refl (left_one (pos 1)) Strong (drop_word (pos 100) (pos 1) (pos 1) (pos 1) (pos 1) (left_one (pos 1)) class.Strong (strong_class (pos 100) (pos 1) (pos 1) (pos 1) (pos 1) (left_one (pos 1)) refl) (omega (arith, ints))) recurrence_own t.0 (each t.0 (inl refl)) t.4 in
-    let flow = met_at 100 refl (element "A" (Binary Add i (number 1))) (value "A" i) 0 1 (element "A" (Binary Add i (number 1))) (element "A" i) (pos 1) (pos 1) (pos 1) (pos 0) recurrence_first recurrence_second Flow refl (left_one (pos 1)) class.Strong (strong_class (pos 100) (pos 1) (pos 1) (pos 1) (pos 0) (left_one (pos 1)) refl) (pos 1) (pos 2) refl recurrence_flow t.1 (each t.1 (inr (inl refl))) t.5 in
-    let anti = drops 100 refl (element "A" (Binary Add i (number 1))) (value "A" i) 1 0 (element "A" i) (element "A" (Binary Add i (number 1))) (pos 1) (pos 0) (pos 1) (pos 1) recurrence_second recurrence_first Anti refl (left_one (pos 1)) Strong (drop_word (pos 100) (pos 1) (pos 0) (pos 1) (pos 1) (left_one (pos 1)) class.Strong (strong_class (pos 100) (pos 1) (pos 0) (pos 1) (pos 1) (left_one (pos 1)) refl) (omega (arith, ints))) recurrence_anti t.2 (each t.2 (inr (inr (inl refl)))) t.6 in
-    let all = t.3 ∙ same_three t.0 t.1 t.2 _ _ _ own flow.is anti in (
-      edges_by h.couples _ g.edges h.edges all
-          ∙ ap₂ (λ (xs ys : List ℤ). shown_by (at 0) (at 1) Flow (codes "A") Strong xs ys ∷ []) flow.from_is flow.to_is,
-      drops_by h.couples _ g.dropped h.dropped all,
-    )
+    let own = drops 100 refl (element "A" (Binary Add i (number 1))) (value "A" i) 0 0 (element "A" (Binary Add i (number 1))) (element "A" (Binary Add i (number 1))) (pos 1) (pos 1) (pos 1) (pos 1) recurrence_first recurrence_first Output refl (left_one (pos 1)) Strong refl (omega (arith, ints)) recurrence_own t.0 (each t.0 (inl refl)) t.4 in
+    let flow = met_at 100 refl (element "A" (Binary Add i (number 1))) (value "A" i) 0 1 (element "A" (Binary Add i (number 1))) (element "A" i) (pos 1) (pos 1) (pos 1) (pos 0) recurrence_first recurrence_second Flow refl (left_one (pos 1)) Strong refl (pos 1) (pos 2) refl recurrence_flow t.1 (each t.1 (inr (inl refl))) t.5 in
+    let anti = drops 100 refl (element "A" (Binary Add i (number 1))) (value "A" i) 1 0 (element "A" i) (element "A" (Binary Add i (number 1))) (pos 1) (pos 0) (pos 1) (pos 1) recurrence_second recurrence_first Anti refl (left_one (pos 1)) Strong refl (omega (arith, ints)) recurrence_anti t.2 (each t.2 (inr (inr (inl refl)))) t.6 in
+    let all = t.3 ∙ same_three t.0 t.1 t.2 _ _ _ own flow anti in
+    (edges_by h.couples _ g.edges h.edges all, drops_by h.couples _ g.dropped h.dropped all)
 
 -- ---- A(I+50) = A(I)
 
@@ -300,7 +289,7 @@ past_the_trip_first = record {
   there = refl;
   subs = refl;
   form = refl;
-  line = record { affine = refl; value = λ n. refl };
+  line = record { front = refl; past = λ k. refl; value = λ n. refl };
 }
 
 past_the_trip_second : IsEnd (references_of (standing 50 refl (element "A" (Binary Add i (number 50))) (value "A" i))) 1 (element "A" i) (pos 1) (pos 0)
@@ -310,7 +299,7 @@ past_the_trip_second = record {
   there = refl;
   subs = refl;
   form = refl;
-  line = record { affine = refl; value = λ n. refl };
+  line = record { front = refl; past = λ k. refl; value = λ n. refl };
 }
 
 past_the_trip_own : (x y : ℤ) → AreMeeting 50 refl (element "A" (Binary Add i (number 50))) (value "A" i) 0 0 (element "A" (Binary Add i (number 50))) (element "A" (Binary Add i (number 50))) (pos 1) (pos 50) (pos 1) (pos 50) past_the_trip_first past_the_trip_first Output refl x y → ⊥
@@ -327,9 +316,9 @@ past_the_trip_listed g h =
     let t = three_couples 50 refl (element "A" (Binary Add i (number 50))) (value "A" i) (element "A" (Binary Add i (number 50))) (element "A" i) refl refl g h in
     let each : (c : Couple) → In c (t.0 ∷ t.1 ∷ t.2 ∷ []) → IsCouple past_the_trip c =
     λ c j. in_all (IsCouple past_the_trip) h.couples c h.each (subst (λ (cs : List Couple). In c cs) (sym t.3) j) in
-    let own = drops 50 refl (element "A" (Binary Add i (number 50))) (value "A" i) 0 0 (element "A" (Binary Add i (number 50))) (element "A" (Binary Add i (number 50))) (pos 1) (pos 50) (pos 1) (pos 50) past_the_trip_first past_the_trip_first Output refl (left_one (pos 1)) Strong (drop_word (pos 50) (pos 1) (pos 50) (pos 1) (pos 50) (left_one (pos 1)) class.Strong (strong_class (pos 50) (pos 1) (pos 50) (pos 1) (pos 50) (left_one (pos 1)) refl) (omega (arith, ints))) past_the_trip_own t.0 (each t.0 (inl refl)) t.4 in
-    let flow = drops 50 refl (element "A" (Binary Add i (number 50))) (value "A" i) 0 1 (element "A" (Binary Add i (number 50))) (element "A" i) (pos 1) (pos 50) (pos 1) (pos 0) past_the_trip_first past_the_trip_second Flow refl (left_one (pos 1)) Strong (drop_word (pos 50) (pos 1) (pos 50) (pos 1) (pos 0) (left_one (pos 1)) class.Strong (strong_class (pos 50) (pos 1) (pos 50) (pos 1) (pos 0) (left_one (pos 1)) refl) (omega (arith, ints))) past_the_trip_flow t.1 (each t.1 (inr (inl refl))) t.5 in
-    let anti = drops 50 refl (element "A" (Binary Add i (number 50))) (value "A" i) 1 0 (element "A" i) (element "A" (Binary Add i (number 50))) (pos 1) (pos 0) (pos 1) (pos 50) past_the_trip_second past_the_trip_first Anti refl (left_one (pos 1)) Strong (drop_word (pos 50) (pos 1) (pos 0) (pos 1) (pos 50) (left_one (pos 1)) class.Strong (strong_class (pos 50) (pos 1) (pos 0) (pos 1) (pos 50) (left_one (pos 1)) refl) (omega (arith, ints))) past_the_trip_anti t.2 (each t.2 (inr (inr (inl refl)))) t.6 in
+    let own = drops 50 refl (element "A" (Binary Add i (number 50))) (value "A" i) 0 0 (element "A" (Binary Add i (number 50))) (element "A" (Binary Add i (number 50))) (pos 1) (pos 50) (pos 1) (pos 50) past_the_trip_first past_the_trip_first Output refl (left_one (pos 1)) Strong refl (omega (arith, ints)) past_the_trip_own t.0 (each t.0 (inl refl)) t.4 in
+    let flow = drops 50 refl (element "A" (Binary Add i (number 50))) (value "A" i) 0 1 (element "A" (Binary Add i (number 50))) (element "A" i) (pos 1) (pos 50) (pos 1) (pos 0) past_the_trip_first past_the_trip_second Flow refl (left_one (pos 1)) Strong refl (omega (arith, ints)) past_the_trip_flow t.1 (each t.1 (inr (inl refl))) t.5 in
+    let anti = drops 50 refl (element "A" (Binary Add i (number 50))) (value "A" i) 1 0 (element "A" i) (element "A" (Binary Add i (number 50))) (pos 1) (pos 0) (pos 1) (pos 50) past_the_trip_second past_the_trip_first Anti refl (left_one (pos 1)) Strong refl (omega (arith, ints)) past_the_trip_anti t.2 (each t.2 (inr (inr (inl refl)))) t.6 in
     let all = t.3 ∙ same_three t.0 t.1 t.2 _ _ _ own flow anti in
     (edges_by h.couples _ g.edges h.edges all, drops_by h.couples _ g.dropped h.dropped all)
 
@@ -342,7 +331,7 @@ crossing_first = record {
   there = refl;
   subs = refl;
   form = refl;
-  line = record { affine = refl; value = λ n. refl };
+  line = record { front = refl; past = λ k. refl; value = λ n. refl };
 }
 
 crossing_second : IsEnd (references_of (standing 100 refl (element "A" i) (value "A" (Binary Sub (number 101) i)))) 1 (element "A" (Binary Sub (number 101) i)) (negsuc 0) (pos 101)
@@ -352,13 +341,13 @@ crossing_second = record {
   there = refl;
   subs = refl;
   form = refl;
-  line = record { affine = refl; value = λ n. refl };
+  line = record { front = refl; past = λ k. refl; value = λ n. refl };
 }
 
 crossing_own : (x y : ℤ) → AreMeeting 100 refl (element "A" i) (value "A" (Binary Sub (number 101) i)) 0 0 (element "A" i) (element "A" i) (pos 1) (pos 0) (pos 1) (pos 0) crossing_first crossing_first Output refl x y → ⊥
 crossing_own x y m = (let e = m.equal in let f = m.before in let l = m.low in let k = m.high in omega (arith, ints))
 
-crossing_flow : IsFirstMeeting 100 refl (element "A" i) (value "A" (Binary Sub (number 101) i)) 0 1 (element "A" i) (element "A" (Binary Sub (number 101) i)) (pos 1) (pos 0) (negsuc 0) (pos 101) crossing_first crossing_second Flow refl (left_one (negsuc 0)) class.WeakCrossing (crossing_class (pos 100) (pos 1) (pos 0) (negsuc 0) (pos 101) (left_one (negsuc 0)) refl) (pos 1) (pos 100)
+crossing_flow : IsFirstMeeting 100 refl (element "A" i) (value "A" (Binary Sub (number 101) i)) 0 1 (element "A" i) (element "A" (Binary Sub (number 101) i)) (pos 1) (pos 0) (negsuc 0) (pos 101) crossing_first crossing_second Flow refl (pos 1) (pos 100)
 crossing_flow = record {
   meeting = record { low = omega (arith, ints); before = omega (arith, ints); high = omega (arith, ints); equal = refl };
   least = λ k l m h.
@@ -369,7 +358,7 @@ crossing_flow = record {
       ];
 }
 
-crossing_anti : IsFirstMeeting 100 refl (element "A" i) (value "A" (Binary Sub (number 101) i)) 1 0 (element "A" (Binary Sub (number 101) i)) (element "A" i) (negsuc 0) (pos 101) (pos 1) (pos 0) crossing_second crossing_first Anti refl (right_one (negsuc 0)) class.WeakCrossing (crossing_class (pos 100) (negsuc 0) (pos 101) (pos 1) (pos 0) (right_one (negsuc 0)) refl) (pos 1) (pos 100)
+crossing_anti : IsFirstMeeting 100 refl (element "A" i) (value "A" (Binary Sub (number 101) i)) 1 0 (element "A" (Binary Sub (number 101) i)) (element "A" i) (negsuc 0) (pos 101) (pos 1) (pos 0) crossing_second crossing_first Anti refl (pos 1) (pos 100)
 crossing_anti = record {
   meeting = record { low = omega (arith, ints); before = omega (arith, ints); high = omega (arith, ints); equal = refl };
   least = λ k l m h.
@@ -385,15 +374,11 @@ crossing_listed g h =
     let t = three_couples 100 refl (element "A" i) (value "A" (Binary Sub (number 101) i)) (element "A" i) (element "A" (Binary Sub (number 101) i)) refl refl g h in
     let each : (c : Couple) → In c (t.0 ∷ t.1 ∷ t.2 ∷ []) → IsCouple crossing c =
     λ c j. in_all (IsCouple crossing) h.couples c h.each (subst (λ (cs : List Couple). In c cs) (sym t.3) j) in
-    let own = drops 100 refl (element "A" i) (value "A" (Binary Sub (number 101) i)) 0 0 (element "A" i) (element "A" i) (pos 1) (pos 0) (pos 1) (pos 0) crossing_first crossing_first Output refl (left_one (pos 1)) Strong (drop_word (pos 100) (pos 1) (pos 0) (pos 1) (pos 0) (left_one (pos 1)) class.Strong (strong_class (pos 100) (pos 1) (pos 0) (pos 1) (pos 0) (left_one (pos 1)) refl) (omega (arith, ints))) crossing_own t.0 (each t.0 (inl refl)) t.4 in
-    let flow = met_at 100 refl (element "A" i) (value "A" (Binary Sub (number 101) i)) 0 1 (element "A" i) (element "A" (Binary Sub (number 101) i)) (pos 1) (pos 0) (negsuc 0) (pos 101) crossing_first crossing_second Flow refl (left_one (negsuc 0)) class.WeakCrossing (crossing_class (pos 100) (pos 1) (pos 0) (negsuc 0) (pos 101) (left_one (negsuc 0)) refl) (pos 1) (pos 100) refl crossing_flow t.1 (each t.1 (inr (inl refl))) t.5 in
-    let anti = met_at 100 refl (element "A" i) (value "A" (Binary Sub (number 101) i)) 1 0 (element "A" (Binary Sub (number 101) i)) (element "A" i) (negsuc 0) (pos 101) (pos 1) (pos 0) crossing_second crossing_first Anti refl (right_one (negsuc 0)) class.WeakCrossing (crossing_class (pos 100) (negsuc 0) (pos 101) (pos 1) (pos 0) (right_one (negsuc 0)) refl) (pos 1) (pos 100) refl crossing_anti t.2 (each t.2 (inr (inr (inl refl)))) t.6 in
-    let all = t.3 ∙ same_three t.0 t.1 t.2 _ _ _ own flow.is anti.is in (
-      edges_by h.couples _ g.edges h.edges all
-          ∙ ap₂ (λ (xs ys : List ℤ). shown_by (at 0) (at 1) Flow (codes "A") Crossing xs ys ∷ shown_by (at 1) (at 0) Anti (codes "A") Crossing (take 1 anti.from.at) (take 1 anti.to.at) ∷ []) flow.from_is flow.to_is
-          ∙ ap₂ (λ (xs ys : List ℤ). shown_by (at 0) (at 1) Flow (codes "A") Crossing (pos 1 ∷ []) (pos 100 ∷ []) ∷ shown_by (at 1) (at 0) Anti (codes "A") Crossing xs ys ∷ []) anti.from_is anti.to_is,
-      drops_by h.couples _ g.dropped h.dropped all,
-    )
+    let own = drops 100 refl (element "A" i) (value "A" (Binary Sub (number 101) i)) 0 0 (element "A" i) (element "A" i) (pos 1) (pos 0) (pos 1) (pos 0) crossing_first crossing_first Output refl (left_one (pos 1)) Strong refl (omega (arith, ints)) crossing_own t.0 (each t.0 (inl refl)) t.4 in
+    let flow = met_at 100 refl (element "A" i) (value "A" (Binary Sub (number 101) i)) 0 1 (element "A" i) (element "A" (Binary Sub (number 101) i)) (pos 1) (pos 0) (negsuc 0) (pos 101) crossing_first crossing_second Flow refl (left_one (negsuc 0)) Crossing refl (pos 1) (pos 100) refl crossing_flow t.1 (each t.1 (inr (inl refl))) t.5 in
+    let anti = met_at 100 refl (element "A" i) (value "A" (Binary Sub (number 101) i)) 1 0 (element "A" (Binary Sub (number 101) i)) (element "A" i) (negsuc 0) (pos 101) (pos 1) (pos 0) crossing_second crossing_first Anti refl (right_one (negsuc 0)) Crossing refl (pos 1) (pos 100) refl crossing_anti t.2 (each t.2 (inr (inr (inl refl)))) t.6 in
+    let all = t.3 ∙ same_three t.0 t.1 t.2 _ _ _ own flow anti in
+    (edges_by h.couples _ g.edges h.edges all, drops_by h.couples _ g.dropped h.dropped all)
 
 -- ---- A(I) = A(1)
 
@@ -404,7 +389,7 @@ first_element_first = record {
   there = refl;
   subs = refl;
   form = refl;
-  line = record { affine = refl; value = λ n. refl };
+  line = record { front = refl; past = λ k. refl; value = λ n. refl };
 }
 
 first_element_second : IsEnd (references_of (standing 100 refl (element "A" i) (value "A" (number 1)))) 1 (element "A" (number 1)) (pos 0) (pos 1)
@@ -414,13 +399,13 @@ first_element_second = record {
   there = refl;
   subs = refl;
   form = refl;
-  line = record { affine = refl; value = λ n. (let z = zero_times n in omega (arith, ints, z)) };
+  line = record { front = refl; past = λ k. refl; value = λ n. (let z = zero_times n in omega (arith, ints, z)) };
 }
 
 first_element_own : (x y : ℤ) → AreMeeting 100 refl (element "A" i) (value "A" (number 1)) 0 0 (element "A" i) (element "A" i) (pos 1) (pos 0) (pos 1) (pos 0) first_element_first first_element_first Output refl x y → ⊥
 first_element_own x y m = (let e = m.equal in let f = m.before in let l = m.low in let k = m.high in omega (arith, ints))
 
-first_element_flow : IsFirstMeeting 100 refl (element "A" i) (value "A" (number 1)) 0 1 (element "A" i) (element "A" (number 1)) (pos 1) (pos 0) (pos 0) (pos 1) first_element_first first_element_second Flow refl (left_one (pos 0)) class.WeakZero (zero_class (pos 100) (pos 1) (pos 0) (pos 0) (pos 1) (left_one (pos 0)) (inr refl)) (pos 1) (pos 2)
+first_element_flow : IsFirstMeeting 100 refl (element "A" i) (value "A" (number 1)) 0 1 (element "A" i) (element "A" (number 1)) (pos 1) (pos 0) (pos 0) (pos 1) first_element_first first_element_second Flow refl (pos 1) (pos 2)
 first_element_flow = record {
   meeting = record { low = omega (arith, ints); before = omega (arith, ints); high = omega (arith, ints); equal = refl };
   least = λ k l m h.
@@ -439,14 +424,11 @@ first_element_listed g h =
     let t = three_couples 100 refl (element "A" i) (value "A" (number 1)) (element "A" i) (element "A" (number 1)) refl refl g h in
     let each : (c : Couple) → In c (t.0 ∷ t.1 ∷ t.2 ∷ []) → IsCouple first_element c =
     λ c j. in_all (IsCouple first_element) h.couples c h.each (subst (λ (cs : List Couple). In c cs) (sym t.3) j) in
-    let own = drops 100 refl (element "A" i) (value "A" (number 1)) 0 0 (element "A" i) (element "A" i) (pos 1) (pos 0) (pos 1) (pos 0) first_element_first first_element_first Output refl (left_one (pos 1)) Strong (drop_word (pos 100) (pos 1) (pos 0) (pos 1) (pos 0) (left_one (pos 1)) class.Strong (strong_class (pos 100) (pos 1) (pos 0) (pos 1) (pos 0) (left_one (pos 1)) refl) (omega (arith, ints))) first_element_own t.0 (each t.0 (inl refl)) t.4 in
-    let flow = met_at 100 refl (element "A" i) (value "A" (number 1)) 0 1 (element "A" i) (element "A" (number 1)) (pos 1) (pos 0) (pos 0) (pos 1) first_element_first first_element_second Flow refl (left_one (pos 0)) class.WeakZero (zero_class (pos 100) (pos 1) (pos 0) (pos 0) (pos 1) (left_one (pos 0)) (inr refl)) (pos 1) (pos 2) refl first_element_flow t.1 (each t.1 (inr (inl refl))) t.5 in
-    let anti = drops 100 refl (element "A" i) (value "A" (number 1)) 1 0 (element "A" (number 1)) (element "A" i) (pos 0) (pos 1) (pos 1) (pos 0) first_element_second first_element_first Anti refl (right_one (pos 0)) WeakZero (drop_word (pos 100) (pos 0) (pos 1) (pos 1) (pos 0) (right_one (pos 0)) class.WeakZero (zero_class (pos 100) (pos 0) (pos 1) (pos 1) (pos 0) (right_one (pos 0)) (inl refl)) (omega (arith, ints))) first_element_anti t.2 (each t.2 (inr (inr (inl refl)))) t.6 in
-    let all = t.3 ∙ same_three t.0 t.1 t.2 _ _ _ own flow.is anti in (
-      edges_by h.couples _ g.edges h.edges all
-          ∙ ap₂ (λ (xs ys : List ℤ). shown_by (at 0) (at 1) Flow (codes "A") WeakZero xs ys ∷ []) flow.from_is flow.to_is,
-      drops_by h.couples _ g.dropped h.dropped all,
-    )
+    let own = drops 100 refl (element "A" i) (value "A" (number 1)) 0 0 (element "A" i) (element "A" i) (pos 1) (pos 0) (pos 1) (pos 0) first_element_first first_element_first Output refl (left_one (pos 1)) Strong refl (omega (arith, ints)) first_element_own t.0 (each t.0 (inl refl)) t.4 in
+    let flow = met_at 100 refl (element "A" i) (value "A" (number 1)) 0 1 (element "A" i) (element "A" (number 1)) (pos 1) (pos 0) (pos 0) (pos 1) first_element_first first_element_second Flow refl (left_one (pos 0)) WeakZero (inr refl) (pos 1) (pos 2) refl first_element_flow t.1 (each t.1 (inr (inl refl))) t.5 in
+    let anti = drops 100 refl (element "A" i) (value "A" (number 1)) 1 0 (element "A" (number 1)) (element "A" i) (pos 0) (pos 1) (pos 1) (pos 0) first_element_second first_element_first Anti refl (right_one (pos 0)) WeakZero (inl refl) (omega (arith, ints)) first_element_anti t.2 (each t.2 (inr (inr (inl refl)))) t.6 in
+    let all = t.3 ∙ same_three t.0 t.1 t.2 _ _ _ own flow anti in
+    (edges_by h.couples _ g.edges h.edges all, drops_by h.couples _ g.dropped h.dropped all)
 
 -- ---- A(I) = A(I), once
 
@@ -457,7 +439,7 @@ one_turn_first = record {
   there = refl;
   subs = refl;
   form = refl;
-  line = record { affine = refl; value = λ n. refl };
+  line = record { front = refl; past = λ k. refl; value = λ n. refl };
 }
 
 one_turn_second : IsEnd (references_of (standing 1 refl (element "A" i) (value "A" i))) 1 (element "A" i) (pos 1) (pos 0)
@@ -467,7 +449,7 @@ one_turn_second = record {
   there = refl;
   subs = refl;
   form = refl;
-  line = record { affine = refl; value = λ n. refl };
+  line = record { front = refl; past = λ k. refl; value = λ n. refl };
 }
 
 one_turn_own : (x y : ℤ) → AreMeeting 1 refl (element "A" i) (value "A" i) 0 0 (element "A" i) (element "A" i) (pos 1) (pos 0) (pos 1) (pos 0) one_turn_first one_turn_first Output refl x y → ⊥
@@ -484,8 +466,8 @@ one_turn_listed g h =
     let t = three_couples 1 refl (element "A" i) (value "A" i) (element "A" i) (element "A" i) refl refl g h in
     let each : (c : Couple) → In c (t.0 ∷ t.1 ∷ t.2 ∷ []) → IsCouple one_turn c =
     λ c j. in_all (IsCouple one_turn) h.couples c h.each (subst (λ (cs : List Couple). In c cs) (sym t.3) j) in
-    let own = drops 1 refl (element "A" i) (value "A" i) 0 0 (element "A" i) (element "A" i) (pos 1) (pos 0) (pos 1) (pos 0) one_turn_first one_turn_first Output refl (left_one (pos 1)) Trip (trip_word (pos 1) (pos 1) (pos 0) (pos 1) (pos 0) (left_one (pos 1)) refl) one_turn_own t.0 (each t.0 (inl refl)) t.4 in
-    let flow = drops 1 refl (element "A" i) (value "A" i) 0 1 (element "A" i) (element "A" i) (pos 1) (pos 0) (pos 1) (pos 0) one_turn_first one_turn_second Flow refl (left_one (pos 1)) Trip (trip_word (pos 1) (pos 1) (pos 0) (pos 1) (pos 0) (left_one (pos 1)) refl) one_turn_flow t.1 (each t.1 (inr (inl refl))) t.5 in
-    let anti = drops 1 refl (element "A" i) (value "A" i) 1 0 (element "A" i) (element "A" i) (pos 1) (pos 0) (pos 1) (pos 0) one_turn_second one_turn_first Anti refl (left_one (pos 1)) Trip (trip_word (pos 1) (pos 1) (pos 0) (pos 1) (pos 0) (left_one (pos 1)) refl) one_turn_anti t.2 (each t.2 (inr (inr (inl refl)))) t.6 in
+    let own = drops_once 1 refl (element "A" i) (value "A" i) 0 0 (element "A" i) (element "A" i) (pos 1) (pos 0) (pos 1) (pos 0) one_turn_first one_turn_first Output refl (left_one (pos 1)) refl one_turn_own t.0 (each t.0 (inl refl)) t.4 in
+    let flow = drops_once 1 refl (element "A" i) (value "A" i) 0 1 (element "A" i) (element "A" i) (pos 1) (pos 0) (pos 1) (pos 0) one_turn_first one_turn_second Flow refl (left_one (pos 1)) refl one_turn_flow t.1 (each t.1 (inr (inl refl))) t.5 in
+    let anti = drops_once 1 refl (element "A" i) (value "A" i) 1 0 (element "A" i) (element "A" i) (pos 1) (pos 0) (pos 1) (pos 0) one_turn_second one_turn_first Anti refl (left_one (pos 1)) refl one_turn_anti t.2 (each t.2 (inr (inr (inl refl)))) t.6 in
     let all = t.3 ∙ same_three t.0 t.1 t.2 _ _ _ own flow anti in
     (edges_by h.couples _ g.edges h.edges all, drops_by h.couples _ g.dropped h.dropped all)

@@ -1,5 +1,5 @@
 -- The couples of references of a nest, with their edges and drops.
-use Rattle.std.specs.Prelude.{◌≡◌, ℕ, suc, pos, ◌==◌, nat_lt, true, false, if◌then◌else◌, All, Option, Some, None}
+use Rattle.std.specs.Prelude.{◌≡◌, ℕ, suc, pos, ◌==◌, nat_lt, true, false, if◌then◌else◌, All, Option, Some, None, take}
 use Rattle.std.specs.Prelude.{List, [], ◌∷◌, ◌++◌, length, map}
 use Rattle.std.specs.List.{flat_map}
 use Rattle.std.specs.Str.{bytes_eq}
@@ -18,6 +18,7 @@ use Rattle.direction_vectors.specs.declared.vector_tests.refs.RefPair.{RefPair}
 use Rattle.direction_vectors.specs.Answers.{OnAssumed, OnKept, OnNever, OnPair}
 use Rattle.direction_vectors.specs.Candidates.{Answer, CoversCandidates, CoversEach}
 use Rattle.direction_vectors.specs.Merged.{AreMerged}
+use Rattle.dependence_graph.specs.nest_graph.Arcs as arcs
 use Rattle.dependence_graph.specs.nest_graph.Arcs.{Couple, level_of}
 use Rattle.dependence_graph.specs.nest_graph.Graph.{all_drops, all_edges}
 use Rattle.dependence_graph.specs.nest_graph.Pair.{kind_between}
@@ -125,14 +126,22 @@ pub record AreVectors (r : RefPair) (answers : List Answer) : Type 0 where
   pub kept : All (λ a. OnKept r a.1) answers
   pub merged : AreMerged r answers
 
+-- with the directions and iterations of so many loops alone
+abbrev pub as_verdict : ℕ → ℕ → Verdict → arcs.Verdict
+as_verdict m n (Never w) = arcs.Never w
+as_verdict m n (Pair x y w) = arcs.Met (take m x.at) (take n y.at) w
+as_verdict m n (Assumed w) = arcs.Assumed w
+
+abbrev pub as_answer : ℕ → ℕ → Answer → arcs.Answer
+as_answer m n a = (take a.0.len a.0.at, as_verdict m n a.1)
+
 abbrev pub couple_of : Occurrence → Occurrence → Dep → List Answer → Couple
 couple_of a b k answers = record {
   from = a.place;
   to = b.place;
   kind = k;
   array = a.name;
-  refs = ref_pair_of a b;
-  answers = answers;
+  answers = map (as_answer (length a.spans) (length b.spans)) answers;
 }
 
 abbrev pub AreCouplesAs : Option Dep → Occurrence → Occurrence → List Couple → Type 0

@@ -1,5 +1,5 @@
 -- What the span of a loop is: a constant trip, or the greatest trip over the iterations of the loops round it.
-use Rattle.std.specs.Prelude.{◌≡◌, ℕ, ◌^◌, ℤ, pos, ◌≤ℤ◌, ◌<ℤ◌, int_div, true, false, IsSomeAnd, All, Any}
+use Rattle.std.specs.Prelude.{◌≡◌, ℕ, ◌^◌, ℤ, pos, ◌≤ℤ◌, ◌<ℤ◌, int_div, true, IsSomeAnd, All, Any}
 use Rattle.std.specs.Prelude.{Option, Some, None, List, [], ◌∷◌, ◌++◌}
 use Rattle.subscripts.specs.Forms.{WithinSpans}
 use Rattle.subscripts.specs.declared.affine.Span.{Span}

@@ -1,16 +1,24 @@
 -- What two references give of a graph: the edges and drops of their answers.
-use Rattle.std.specs.Prelude.{ℕ, zero, suc, Option, Some, None, List, [], ◌∷◌, length}
+use Rattle.std.specs.Prelude.{ℕ, suc, ◌-◌, ℤ, pos, Option, Some, None, List, [], ◌∷◌, ◌++◌, length, replicate}
 use Rattle.subscripts.specs.declared.affine.Dir.{Dir}
 use Rattle.subscripts.specs.declared.affine.Dir.TheVariants.{Lt, Eq, Gt, Any}
 use Rattle.subscripts.specs.declared.affine.Dirs.{Dirs}
-use Rattle.subscripts.specs.declared.verdict.Verdict.{Verdict}
-use Rattle.subscripts.specs.declared.verdict.Verdict.TheVariants.{Never, Pair, Assumed}
+use Rattle.subscripts.specs.declared.verdict.Point.{Point}
+use Rattle.subscripts.specs.declared.verdict.Test.{Test}
 use Rattle.dependence_graph.specs.declared.graphs.Dep.{Dep}
 use Rattle.dependence_graph.specs.declared.graphs.Dropped.{Dropped}
 use Rattle.dependence_graph.specs.declared.graphs.Edge.{Edge}
 use Rattle.dependence_graph.specs.declared.graphs.Place.{Place}
-use Rattle.direction_vectors.specs.declared.vector_tests.refs.RefPair.{RefPair}
-use Rattle.direction_vectors.specs.Candidates.{Answer}
+
+-- what is said of a vector, with the word of the test that says so: there is never a pair; this one is the least; there
+-- may be one
+pub data Verdict : Type 0 where
+  Never : Test → Verdict
+  Met : List ℤ → List ℤ → Test → Verdict
+  Assumed : Test → Verdict
+
+abbrev pub Answer : Type 0
+Answer = List Dir × Verdict
 
 -- two references that are tested, and the answers
 pub record Couple : Type 0 where
@@ -18,8 +26,16 @@ pub record Couple : Type 0 where
   pub to : Place
   pub kind : Dep
   pub array : List ℕ
-  pub refs : RefPair
   pub answers : List Answer
+
+-- ---- edges and drops
+
+-- as an edge has them: a vector in seven places, with `*` behind it, and iterations in seven places, with 1 behind them
+abbrev pub in_places : List Dir → Dirs
+in_places v = record { at = v ++ replicate (7 - length v) Any; len = length v }
+
+abbrev pub in_point : List ℤ → Point
+in_point x = record { at = x ++ replicate (7 - length x) (pos 1) }
 
 -- the level of the first `<`, which counts from the outside in from 1; 0 where there is none
 abbrev pub level_from : ℕ → List Dir → ℕ
@@ -32,37 +48,29 @@ level_from k (Any ∷ ds) = 0
 abbrev pub level_of : Dirs → ℕ
 level_of d = level_from 0 d.at
 
--- the edge of an answer that isn't a drop
-abbrev pub edge_of : Couple → Dirs → Verdict → Option Edge
-edge_of c d (Never w) = None
-edge_of c d (Pair x y w) =
-    Some (record {
-      from = c.from;
-      to = c.to;
-      kind = c.kind;
-      array = c.array;
-      dirs = d;
-      level = level_of d;
-      test = w;
-      pair = Some (x, y);
-    })
-edge_of c d (Assumed w) =
-    Some (record {
-      from = c.from;
-      to = c.to;
-      kind = c.kind;
-      array = c.array;
-      dirs = d;
-      level = level_of d;
-      test = w;
-      pair = None;
-    })
+abbrev pub edge_with : Couple → List Dir → Test → Option (Point × Point) → Edge
+edge_with c v w pair = record {
+  from = c.from;
+  to = c.to;
+  kind = c.kind;
+  array = c.array;
+  dirs = in_places v;
+  level = level_of (in_places v);
+  test = w;
+  pair = pair;
+}
 
-abbrev pub drop_of : Couple → Dirs → Verdict → Option Dropped
-drop_of c d (Never w) =
-    Some (record { from = c.from; to = c.to; kind = c.kind; array = c.array; dirs = d; test = w })
-drop_of c d (Pair x y w) = None
-drop_of c d (Assumed w) = None
+-- the edge of an answer that isn't a drop
+abbrev pub edge_of : Couple → List Dir → Verdict → Option Edge
+edge_of c v (Never w) = None
+edge_of c v (Met x y w) = Some (edge_with c v w (Some (in_point x, in_point y)))
+edge_of c v (Assumed w) = Some (edge_with c v w None)
+
+abbrev pub drop_of : Couple → List Dir → Verdict → Option Dropped
+drop_of c v (Never w) =
+    Some (record { from = c.from; to = c.to; kind = c.kind; array = c.array; dirs = in_places v; test = w })
+drop_of c v (Met x y w) = None
+drop_of c v (Assumed w) = None
 
 abbrev pub with_some : {X : Type 0} → Option X → List X → List X
 with_some None xs = xs

@@ -1,33 +1,35 @@
 -- What an order of the instances needs of a graph: each candidate stands in an edge or a drop, and a dropped one has
 -- no pair.
-use Rattle.std.specs.Prelude.{◌≡◌, ◌⊎◌, ℕ, ◌<◌, List}
+use Rattle.std.specs.Prelude.{◌≡◌, ◌⊎◌, List}
+use Rattle.subscripts.specs.declared.affine.Dir.{Dir}
 use Rattle.subscripts.specs.declared.affine.Dirs.{Dirs}
 use Rattle.components.specs.Lists.{In}
 use Rattle.dependence_graph.specs.declared.graphs.Dropped.{Dropped}
 use Rattle.dependence_graph.specs.declared.graphs.Edge.{Edge}
 use Rattle.dependence_graph.specs.declared.graphs.Graph.{Graph}
 use Rattle.nest.specs.Plain.{Nest}
-use Rattle.direction_vectors.specs.Candidates.{Allows, dir_at}
-use Rattle.dependence_graph.specs.nest_graph.Arcs.{level_of}
+use Rattle.dependence_graph.specs.nest_graph.Arcs.{in_places, level_of}
 use Rattle.dependence_graph.specs.nest_graph.Graph.{IsGraphOf}
 use Rattle.dependence_graph.specs.nest_graph.Pair.{Candidate, HasPair, IsCandidate}
+use Rattle.dependence_graph.specs.nest_graph.Vectors.{StandsFor}
 
--- the vector, or one with `*` in some of its places
-pub record IsAllowed (d v : Dirs) : Type 0 where
-  pub len : d.len ≡ v.len
-  pub at : (m : ℕ) → m < v.len → Allows (dir_at d m) (dir_at v m)
+-- directions that stand for the vector
+pub record AreFor (d : Dirs) (v : List Dir) : Type 0 where
+  pub vector : List Dir
+  pub places : d ≡ in_places vector
+  pub stands : StandsFor vector v
 
 pub record IsEdgeFor (e : Edge) (c : Candidate) : Type 0 where
   pub from : e.from ≡ c.from
   pub to : e.to ≡ c.to
   pub kind : e.kind ≡ c.kind
-  pub dirs : IsAllowed e.dirs c.vector
+  pub dirs : AreFor e.dirs c.vector
 
 pub record IsDropFor (e : Dropped) (c : Candidate) : Type 0 where
   pub from : e.from ≡ c.from
   pub to : e.to ≡ c.to
   pub kind : e.kind ≡ c.kind
-  pub dirs : IsAllowed e.dirs c.vector
+  pub dirs : AreFor e.dirs c.vector
 
 pub record HasEdgeFor (g : Graph) (c : Candidate) : Type 0 where
   pub edge : Edge

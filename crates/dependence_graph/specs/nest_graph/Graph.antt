@@ -1,9 +1,8 @@
 -- The dependence graph of a nest.
-use Rattle.std.specs.Prelude.{◌≡◌, ◌⊎◌, ℕ, ◌<◌, ℤ, Some, All, List, [], ◌∷◌, ◌++◌, length, slice_get, take}
+use Rattle.std.specs.Prelude.{◌≡◌, ◌⊎◌, ℕ, ◌<◌, ℤ, Some, All, List, [], ◌∷◌, ◌++◌, length, slice_get}
 use Rattle.subscripts.specs.Cuts.{IsNoLater}
-use Rattle.subscripts.specs.declared.affine.Dirs.{Dirs}
-use Rattle.subscripts.specs.declared.verdict.Verdict.{Verdict}
-use Rattle.subscripts.specs.declared.verdict.Verdict.TheVariants.{Never, Pair as Met, Assumed}
+use Rattle.subscripts.specs.declared.affine.Dir.{Dir}
+use Rattle.subscripts.specs.declared.verdict.Test.{Test}
 use Rattle.dependence_graph.specs.declared.graphs.Dropped.{Dropped}
 use Rattle.dependence_graph.specs.declared.graphs.Edge.{Edge}
 use Rattle.dependence_graph.specs.declared.graphs.Graph.{Graph}
@@ -11,91 +10,60 @@ use Rattle.dependence_graph.specs.declared.graphs.Place.{Place}
 use Rattle.components.specs.Lists.{Pairwise}
 use Rattle.nest.specs.Plain.{Nest}
 use Rattle.nest.specs.Bodies.{nest_statements}
-use Rattle.direction_vectors.specs.vector_tests.Refs.{IsVectorOf}
-use Rattle.direction_vectors.specs.vector_tests.Ways.{IsExactClass, IsRefutedVector}
-use Rattle.direction_vectors.specs.vector_tests.Words.{IsDropWord, IsEdgeWord}
-use Rattle.direction_vectors.specs.Candidates.{Answer, CoversCandidates, CoversEach, IsCovered}
-use Rattle.direction_vectors.specs.Merged.{AreMerged}
-use Rattle.dependence_graph.specs.nest_graph.Arcs.{Couple, drops_of, edges_of}
-use Rattle.dependence_graph.specs.nest_graph.Pair.{Candidate, HasPair, Pair, kind_between}
-use Rattle.dependence_graph.specs.nest_graph.Tested.{AreReferences, pair_of}
+use Rattle.dependence_graph.specs.nest_graph.Arcs.{Assumed, Couple, Met, Never, Verdict, drops_of, edges_of}
+use Rattle.dependence_graph.specs.nest_graph.Merged.{IsListed}
+use Rattle.dependence_graph.specs.nest_graph.Pair.{Candidate, HasPair, IsCandidate, Pair, kind_between}
+use Rattle.dependence_graph.specs.nest_graph.Refuted.{IsExactClass, IsRefuted}
+use Rattle.dependence_graph.specs.nest_graph.Tested.{AreReferences, Both, both, common_of}
+use Rattle.dependence_graph.specs.nest_graph.Vectors.{HoldsOnce, StandsFor}
+use Rattle.dependence_graph.specs.nest_graph.Words.{IsDropWord, IsEdgeWord}
 
 -- the candidate of two references in a vector
-abbrev pub candidate_of : Couple → Dirs → Candidate
+abbrev pub candidate_of : Couple → List Dir → Candidate
 candidate_of c v = record { from = c.from; to = c.to; kind = c.kind; vector = v }
 
--- ---- what an answer says of each candidate that it stands for
+-- ---- what an answer says of each vector that it stands for
 
--- a dropped one has no pair
-abbrev pub AreWithoutPair : Nest → Couple → Dirs → Type 0
-AreWithoutPair n c d = (u : Dirs) → IsCovered c.refs d u → HasPair n (candidate_of c u) → ⊥
+-- a dropped one has no pair, and may bear the word
+pub record AreDropped (n : Nest) (c : Couple) (b : Both) (d : List Dir) (w : Test) : Type 0 where
+  pub without_pair : (v : List Dir) → StandsFor d v → HasPair n (candidate_of c v) → ⊥
+  pub word : (v : List Dir) → StandsFor d v → IsDropWord b v w
 
-abbrev pub IsDroppedRight : Nest → Couple → Dirs → Verdict → Type 0
-IsDroppedRight n c d (Never w) = AreWithoutPair n c d
-IsDroppedRight n c d (Met x y w) = Unit {0}
-IsDroppedRight n c d (Assumed w) = Unit {0}
-
--- its word is one that each vector may bear
-abbrev pub IsDropWordRight : Couple → Dirs → Verdict → Type 0
-IsDropWordRight c d (Never w) = (u : Dirs) → IsCovered c.refs d u → IsDropWord c.refs u w
-IsDropWordRight c d (Met x y w) = Unit {0}
-IsDropWordRight c d (Assumed w) = Unit {0}
-
--- the iterations of so many loops, which are the first ones of a point
-abbrev pub at_depth : ℕ → List ℤ → List ℤ
-at_depth depth x = take depth x
-
--- the pair of an edge is one of a vector that it stands for, and no pair of any of these is less
-pub record IsLeastPair (n : Nest) (c : Couple) (d : Dirs) (x y : List ℤ) : Type 0 where
-  pub vector : Dirs
-  pub covered : IsCovered c.refs d vector
-  pub pair :
-      Pair n (candidate_of c vector) (at_depth (length c.refs.from_spans) x) (at_depth (length c.refs.to_spans) y)
+-- an edge with a pair stands in the exact class: each vector has a pair, this is one of them, and none of any of these
+-- vectors is less
+pub record AreMet (n : Nest) (c : Couple) (b : Both) (d : List Dir) (x y : List ℤ) (w : Test) : Type 0 where
+  pub exact : IsExactClass b
+  pub each : (v : List Dir) → StandsFor d v → HasPair n (candidate_of c v)
+  pub vector : List Dir
+  pub stands : StandsFor d vector
+  pub pair : Pair n (candidate_of c vector) x y
   pub least :
-      (u : Dirs) (i j : List ℤ) → IsCovered c.refs d u → Pair n (candidate_of c u) i j
-      → IsNoLater (at_depth (length c.refs.from_spans) x ++ at_depth (length c.refs.to_spans) y) (i ++ j)
-
--- an edge with a pair stands in the exact class, where each vector that it stands for has a pair
-pub record AreMet (n : Nest) (c : Couple) (d : Dirs) (x y : List ℤ) : Type 0 where
-  pub exact : IsExactClass c.refs
-  pub each : (u : Dirs) → IsCovered c.refs d u → HasPair n (candidate_of c u)
-  pub least : IsLeastPair n c d x y
+      (v : List Dir) (i j : List ℤ) → StandsFor d v → Pair n (candidate_of c v) i j → IsNoLater (x ++ y) (i ++ j)
+  pub word : IsEdgeWord b w
 
 -- one without a pair stands outside it, and for no vector that is refuted
-pub record AreAssumed (c : Couple) (d : Dirs) : Type 0 where
-  pub inexact : IsExactClass c.refs → ⊥
-  pub unrefuted : (u : Dirs) → IsCovered c.refs d u → IsRefutedVector c.refs u → ⊥
+pub record AreAssumed (b : Both) (d : List Dir) (w : Test) : Type 0 where
+  pub inexact : IsExactClass b → ⊥
+  pub unrefuted : (v : List Dir) → StandsFor d v → IsRefuted b v → ⊥
+  pub word : IsEdgeWord b w
 
-abbrev pub IsEdgeRight : Nest → Couple → Dirs → Verdict → Type 0
-IsEdgeRight n c d (Never w) = Unit {0}
-IsEdgeRight n c d (Met x y w) = AreMet n c d x.at y.at
-IsEdgeRight n c d (Assumed w) = AreAssumed c d
-
-abbrev pub IsEdgeWordRight : Couple → Verdict → Type 0
-IsEdgeWordRight c (Never w) = Unit {0}
-IsEdgeWordRight c (Met x y w) = IsEdgeWord c.refs.subs w
-IsEdgeWordRight c (Assumed w) = IsEdgeWord c.refs.subs w
-
-pub record IsRightAnswer (n : Nest) (c : Couple) (a : Answer) : Type 0 where
-  pub dropped : IsDroppedRight n c a.0 a.1
-  pub drop_word : IsDropWordRight c a.0 a.1
-  pub edge : IsEdgeRight n c a.0 a.1
-  pub edge_word : IsEdgeWordRight c a.1
+abbrev pub IsRight : Nest → Couple → Both → List Dir → Verdict → Type 0
+IsRight n c b d (Never w) = AreDropped n c b d w
+IsRight n c b d (Met x y w) = AreMet n c b d x y w
+IsRight n c b d (Assumed w) = AreAssumed b d w
 
 -- ---- two references
 
--- they are tested as the nest has them; their answers stand for each candidate vector exactly once, and for candidates
--- alone, and are merged and in order
+-- their answers stand for each candidate exactly once, and for candidates alone, are merged and in order, and each is
+-- right by the nest and its two references
 pub record IsCouple (n : Nest) (c : Couple) : Type 0 where
   pub refs : AreReferences n c.from c.to
-  pub tested : c.refs ≡ pair_of n c.from c.to refs
   pub kind : kind_between c.from.at c.to.at ≡ Some c.kind
   pub array : c.array ≡ refs.first_reference.name
-  pub vectors : All (λ a. IsVectorOf c.refs a.0) c.answers
-  pub covered : CoversEach c.refs c.answers
-  pub candidates : All (CoversCandidates c.refs) c.answers
-  pub merged : AreMerged c.refs c.answers
-  pub right : All (IsRightAnswer n c) c.answers
+  pub covered : (v : List Dir) → IsCandidate n (candidate_of c v) → HoldsOnce (λ a. StandsFor a.0 v) c.answers
+  pub candidates : All (λ a. (v : List Dir) → StandsFor a.0 v → IsCandidate n (candidate_of c v)) c.answers
+  pub merged : IsListed c.from.stmt c.to.stmt (common_of refs.first.loops refs.second.loops) c.answers
+  pub right : All (λ a. IsRight n c (both n c.from c.to refs) a.0 a.1) c.answers
 
 -- a reference that stands earlier: in an earlier statement, or earlier in the same one
 abbrev pub IsEarlierPlace : Place → Place → Type 0

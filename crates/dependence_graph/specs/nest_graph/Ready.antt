@@ -1,7 +1,7 @@
 -- The nests that are tested: each loop goes from 1 by 1 to a linear trip, and what is written and read are scalars and
 -- elements of arrays.
 use Rattle.std.specs.Prelude.{◌≡◌, ℕ, suc, ◌≤◌, ◌^◌, pos, ◌≤ℤ◌, IsSomeAnd, All, List, [], ◌∷◌, length, map}
-use Rattle.subscripts.specs.Shapes.{IsForm, IsSmall}
+use Rattle.subscripts.specs.Shapes.{IsForm}
 use Rattle.tree.specs.Plain.{Only, Section, Subscripts, no_subscripts, subscript, Reference}
 use Rattle.components.specs.Lists.{Distinct}
 use Rattle.dependence_graph.specs.declared.graphs.Place.{Place}

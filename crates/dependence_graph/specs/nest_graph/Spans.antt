@@ -1,36 +1,18 @@
 -- The span of a loop: up to which iteration it goes, as far as that is known before its nest is run. A trip that varies
 -- with the loops round it alone is greatest at a corner of their iterations.
-use Rattle.std.specs.Prelude.{ℕ, zero, suc, ◌^◌, nat_le, ℤ, pos, negsuc, ◌+ℤ◌, ◌*ℤ◌, int_div}
+use Rattle.std.specs.Prelude.{ℤ, pos, negsuc, ◌+ℤ◌, ◌*ℤ◌, int_div}
 use Rattle.std.specs.Prelude.{Bool, true, false, not, ◌&&◌, if◌then◌else◌, Option, Some, None, is_none}
 use Rattle.std.specs.Prelude.{List, [], ◌∷◌, ◌++◌, unwrap_or}
-use Rattle.std.specs.List.{list_all, list_any}
-use Rattle.std.specs.Ordering.{int_eq}
+use Rattle.std.specs.List.{list_any}
 use Rattle.subscripts.specs.declared.affine.Span.{Span}
 use Rattle.nest.specs.declared.parts.Trip.{Trip}
 use Rattle.nest.specs.Plain.{Loop}
+pub use Rattle.dependence_graph.specs.nest_graph.Trips.{capped, ends_early, has_no_symbol, is_below_one, is_constant}
 
 -- ---- trips and ends
 
--- no symbol has a coefficient
-abbrev pub has_no_symbol : Trip → Bool
-has_no_symbol t = list_all (λ (s : ℕ × ℤ). int_eq s.1 (pos 0)) t.top.syms
-
--- no loop has one, and no symbol
-abbrev pub is_constant : Trip → Bool
-is_constant t = list_all (λ a. int_eq a (pos 0)) t.top.loops && has_no_symbol t
-
 abbrev pub is_open : Span → Bool
 is_open s = is_none s.last
-
--- below 1
-abbrev pub is_below_one : ℤ → Bool
-is_below_one (pos zero) = true
-is_below_one (pos (suc n)) = false
-is_below_one (negsuc n) = true
-
-abbrev pub ends_early : Option ℤ → Bool
-ends_early None = false
-ends_early (Some n) = is_below_one n
 
 abbrev pub has_no_turn : Span → Bool
 has_no_turn s = ends_early s.last
@@ -51,11 +33,6 @@ abbrev pub greatest_trip : List Span → Trip → ℤ
 greatest_trip outer t = int_div (greatest_sum t.top.loops outer +ℤ t.top.constant) t.by
 
 -- ---- spans
-
--- 0 where it is negative, and unknown above 2^40
-abbrev pub capped : ℤ → Option ℤ
-capped (pos n) = if nat_le n (2 ^ 40) then Some (pos n) else None
-capped (negsuc n) = Some (pos 0)
 
 -- an end that isn't that of a constant trip
 abbrev pub ends_at : Option ℤ → Span

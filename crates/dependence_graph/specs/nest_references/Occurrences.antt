@@ -1,13 +1,13 @@
 -- The references of a nest, with what is known of each.
-use Rattle.std.specs.Prelude.{◌≡◌, ℕ, suc, All, IfSome, Option, Some, None, List, [], ◌∷◌, ◌++◌, length, map}
-use Rattle.tree.specs.Plain.{Expression, Only, Section, Subscript, Subscripts, no_subscripts, subscript, Reference}
+use Rattle.std.specs.Prelude.{◌≡◌, ℕ, suc, All, IfSome, Option, None, List, [], ◌∷◌, ◌++◌, length, map}
+use Rattle.tree.specs.Plain.{Only, Section, Subscript, Subscripts, no_subscripts, subscript, Reference}
 use Rattle.subscripts.specs.declared.affine.Affine.{Affine}
 use Rattle.linear_forms.specs.Linear.{form_of}
-use Rattle.linear_forms.specs.Places.{IsFound}
+use Rattle.linear_forms.specs.Affines.{IsFound}
 use Rattle.components.specs.Lists.{In, Pairwise}
 use Rattle.dependence_graph.specs.declared.graphs.Place.{Place}
 use Rattle.nest.specs.Plain.{Loop, Nest}
-use Rattle.nest.specs.Bodies.{Standing, nest_statements}
+use Rattle.nest.specs.Bodies.{Standing}
 use Rattle.dependence_graph.specs.nest_graph.Graph.{IsEarlierPlace}
 use Rattle.dependence_graph.specs.nest_graph.References.{references_of, variables_round}
 use Rattle.dependence_graph.specs.nest_graph.Spans.{spans_of}

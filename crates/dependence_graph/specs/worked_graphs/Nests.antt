@@ -1,12 +1,11 @@
 -- Nests of one loop and one statement.
-use Rattle.std.specs.Prelude.{ℕ, pos, List, [], ◌∷◌, Some, None, codes}
+use Rattle.std.specs.Prelude.{ℕ, pos, [], Some, None, codes}
 use Rattle.tree.specs.Plain.{Expression, Number, Named, Binary, Only, no_subscripts, subscript, no_statements}
 use Rattle.tree.specs.Plain.{Reference}
-use Rattle.tree.specs.declared.ops.Op.TheVariants.{Add, Sub}
+use Rattle.tree.specs.declared.ops.Op.TheVariants.{Add, Mul, Sub}
 use Rattle.linear_forms.specs.Linear.{constant_form}
-use Rattle.nest.specs.Bodies.{Standing}
 use Rattle.nest.specs.Plain.{Guarded, Loop, Nest, Run, Turns, no_parts, part}
-use Rattle.dependence_graph.specs.nest_graph.Tested.{affine_of}
+use Rattle.dependence_graph.specs.nest_graph.Paired.{affine_of}
 use Prim.Native.String.{String}
 
 -- ---- words
@@ -76,3 +75,18 @@ first_element = one_loop 100 (element "A" i) (value "A" (number 1))
 -- A(I) = A(I), I from 1 to 1
 abbrev pub one_turn : Nest
 one_turn = one_loop 1 (element "A" i) (value "A" i)
+
+-- A(I) = A(I*I), I from 1 to 100
+abbrev pub of_square : Nest
+of_square = one_loop 100 (element "A" i) (value "A" (Binary Mul i i))
+
+-- A(I,I*I)
+abbrev pub with_square : Reference
+with_square = record {
+  name = codes "A";
+  subscripts = subscript (Only i) (subscript (Only (Binary Mul i i)) no_subscripts);
+}
+
+-- A(I,I*I) = B(I), I from 1 to 100
+abbrev pub beside_square : Nest
+beside_square = one_loop 100 with_square (value "B" i)

@@ -1,9 +1,11 @@
 //! Worked graphs. A law is a function without a body: its contract is what holds.
 ghost use Rattle.std.specs.Prelude.{[], ◌∷◌, pos};
 ghost use Rattle.dependence_graph.specs.declared.graphs.Dep.TheVariants.{Anti, Flow, Output};
-ghost use Rattle.subscripts.specs.declared.verdict.Test.TheVariants.{Crossing, Strong, Trip, WeakZero};
-ghost use Rattle.dependence_graph.specs.worked_graphs.Listed.{HasOnly, at, drop, edge};
-ghost use Rattle.dependence_graph.specs.worked_graphs.Nests.{crossing, elementwise, first_element, one_turn};
+ghost use Rattle.subscripts.specs.declared.verdict.Test.TheVariants.{Crossing, Strong, Trip, Unknown, WeakZero};
+ghost use Rattle.dependence_graph.specs.worked_graphs.Listed.{HasOnly, assumed, at, drop, edge};
+ghost use Rattle.dependence_graph.specs.worked_graphs.Merges.{DropsMerge};
+ghost use Rattle.dependence_graph.specs.worked_graphs.Nests.{beside_square, crossing, elementwise, first_element};
+ghost use Rattle.dependence_graph.specs.worked_graphs.Nests.{of_square, one_turn};
 ghost use Rattle.dependence_graph.specs.worked_graphs.Nests.{past_the_trip, recurrence};
 
 /// `A(I) = B(I) + 1`: no edge at all.
@@ -42,4 +44,20 @@ pub fn one_turn_is_listed()
     ensures { HasOnly one_turn [] (drop (at 0) (at 0) Output "A" Trip
         ∷ drop (at 0) (at 1) Flow "A" Trip
         ∷ drop (at 1) (at 0) Anti "A" Trip ∷ []) }
+{}
+
+/// `A(I) = A(I*I)`: where the squares fall isn't known, so both orders may depend.
+pub fn of_square_is_listed()
+    ensures { HasOnly of_square (assumed (at 0) (at 1) Flow "A" Unknown ∷ assumed (at 1) (at 0) Anti "A" Unknown ∷ [])
+        (drop (at 0) (at 0) Output "A" Strong ∷ []) }
+{}
+
+/// `A(I,I*I) = B(I)`: the first subscript alone tells that no element is written twice.
+pub fn beside_square_is_listed()
+    ensures { HasOnly beside_square [] (drop (at 0) (at 0) Output "A" Strong ∷ []) }
+{}
+
+/// In two loops, answers that are all drops with one word are those to (<,*) and (=,<).
+pub fn drops_merge()
+    ensures { DropsMerge }
 {}

@@ -1,5 +1,5 @@
 -- Pairings of the same two references, tested together.
-use Rattle.std.specs.Prelude.{◌≡◌, ◌<◌, ℤ, pos, ◌-ℤ◌, List, All, Some, IsTrue, map, length}
+use Rattle.std.specs.Prelude.{◌≡◌, ℤ, pos, ◌-ℤ◌, List, All, Some, IsTrue, map}
 use Rattle.subscripts.specs.Classes.{Loop, HasOneLoop, first_of, second_of, span_of}
 use Rattle.subscripts.specs.Cuts.{cut}
 use Rattle.subscripts.specs.Groups.{IsPairOfAll, IsLeastPairOfAll, group_dirs}

@@ -1,5 +1,5 @@
 -- The values of a linear form over a loop's iterations.
-use Rattle.std.specs.Prelude.{◌≡◌, ℤ, pos, Option, Some, None, IfSome, ◌+ℤ◌, ◌-ℤ◌, ◌*ℤ◌, ◌≤ℤ◌, ◌<ℤ◌}
+use Rattle.std.specs.Prelude.{◌≡◌, ℤ, pos, Option, Some, None, IfSome, ◌-ℤ◌, ◌*ℤ◌, ◌≤ℤ◌, ◌<ℤ◌}
 use Rattle.subscripts.specs.Iterations.{WithinSpan, IsRelated}
 use Rattle.subscripts.specs.declared.affine.Dir.{Dir}
 use Rattle.subscripts.specs.declared.affine.Span.{Span}

@@ -3,7 +3,6 @@ use Rattle.std.specs.Prelude.{◌≡◌, ℕ, ◌<◌, ℤ, IsTrue, All, List, [
 use Rattle.subscripts.specs.Classes.{Loop, Shared, First, Second, HasOneLoop, IsMiv, span_of}
 use Rattle.subscripts.specs.Forms.{HasNoPair, IsPairOf}
 use Rattle.subscripts.specs.Iterations.{WithinSpan, IsRelated, once}
-use Rattle.subscripts.specs.Partitions.{AreGrouped}
 use Rattle.subscripts.specs.Refutations.{IsExact, IsRefutedByGcd, IsOneSided}
 use Rattle.subscripts.specs.declared.affine.Dir.TheVariants.{Any}
 use Rattle.subscripts.specs.declared.affine.Dirs.{Dirs}

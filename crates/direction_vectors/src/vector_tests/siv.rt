@@ -83,8 +83,8 @@ fn refuted_miv(p: &Pairing, d: &Dirs) -> Option<Test>
     None
 }
 
-// The word of the pair in this place, if it is separable, has one loop, and is refuted.
-fn siv_word_at(ps: &[Pairing], d: &Dirs, place: usize) -> Option<Test>
+/// The word of the pair in this place, if it is separable, has one loop, and is refuted.
+pub fn siv_word_at(ps: &[Pairing], d: &Dirs, place: usize) -> Option<Test>
     requires pairings { All IsPairing ps.now }
     requires dirs { All (λ p. AreDirsOf p d.now) ps.now }
     requires places { All (λ p. HasSevenPlaces p d.now) ps.now }
@@ -101,8 +101,8 @@ fn siv_word_at(ps: &[Pairing], d: &Dirs, place: usize) -> Option<Test>
     }
 }
 
-// The word of the pair in this place, if it is separable, has several loops, and is refuted.
-fn miv_word_at(ps: &[Pairing], d: &Dirs, place: usize) -> Option<Test>
+/// The word of the pair in this place, if it is separable, has several loops, and is refuted.
+pub fn miv_word_at(ps: &[Pairing], d: &Dirs, place: usize) -> Option<Test>
     requires pairings { All IsPairing ps.now }
     requires dirs { All (λ p. AreDirsOf p d.now) ps.now }
     requires places { All (λ p. HasSevenPlaces p d.now) ps.now }

@@ -42,6 +42,13 @@ fn is_carrying(direction: Dir) -> bool
 }
 
 impl RefPair {
+    /// Whether a common loop has no second iteration.
+    pub fn lacks_second(&self, place: usize) -> bool
+        ensures { IsTrue result ↔ EndsBefore (pos 2) (slice_index_or self.now.from_spans place once) }
+    {
+        ends_before(span_at(&self.from_spans, place), 2)
+    }
+
     fn lacks_trip_at(&self, d: &Dirs, place: usize) -> bool
         requires { place < 7 }
         ensures { IsTrue result ↔ LacksTripAt self.now d.now place }

@@ -15,6 +15,7 @@ use Rattle.array_form.specs.forms.Following.{has_none, are_moved, is_regular}
 use Rattle.array_form.specs.forms.Instances.{counts_of}
 use Rattle.array_form.specs.forms.Laws.{ArrayFormStoresInstances, HasTrip}
 use Rattle.array_form.specs.forms.Loops as forms
+use Rattle.array_form.specs.forms.Trips as trips
 use Rattle.array_form.specs.forms.Statements.{FormHold, Hold, TriangleHold, array_form_of, has_form, hold_at, is_triangle}
 use Rattle.array_form.specs.forms.Statements.{loops_assigned, loops_from}
 use Rattle.array_form.proofs.forms.Tests.{HasText, form_passes}
@@ -85,7 +86,7 @@ module _ (n : Nest) (w : Setting) (outs ins : List Loop) where
     pub fits : (run_nest n).loops_of s ≡ numbers_of outs ++ numbers_of ins
     pub unguarded : ((run_nest n).statement_at s).guard ≡ None
     pub few : length (outs ++ ins) ≤ 7
-    pub distinct : forms.AreDistinct (forms.names_of (around n outs ins))
+    pub distinct : trips.AreDistinct (forms.names_of (around n outs ins))
     pub free : Each (IsFree n outs ins) ins
     pub texts : HaveTripTexts n.symbols (map (run_nest n).variable_at (numbers_of outs)) ins
     pub numbered : (l : Loop) → In l ins → loop_numbered (nest_loops n) l.number ≡ Some l

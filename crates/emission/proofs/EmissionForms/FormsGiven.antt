@@ -8,7 +8,7 @@ use Rattle.std.specs.Ordering.{int_eq}
 use Rattle.std.proofs.lemmas.Bool.{leb-true}
 use Rattle.std.proofs.lemmas.Int.{ints}
 use Rattle.std.proofs.lemmas.List.{length-append, length-drop, length-replicate}
-use Rattle.array_form.specs.forms.Loops.{AreDistinct, divided}
+use Rattle.array_form.specs.forms.Trips.{AreDistinct, divided}
 use Rattle.array_form.proofs.forms.Coefficients.{found_form}
 use Rattle.dependence_graph.proofs.dep_graph.FormValues.{affine_value}
 use Rattle.emission.specs.emission_pieces.Nests.{loops_at}
@@ -27,7 +27,8 @@ use Rattle.meaning.specs.Value.{number_of, value_of}
 use Rattle.emission.specs.graph_orders.Nests.{run_nest}
 use Rattle.linear_forms.specs.Laws.{AreSized}
 use Rattle.linear_forms.specs.Linear.{Form, HaveValues, all_small, form_of, is_small, not_zero, number_at}
-use Rattle.linear_forms.specs.Places.{IsAffineOf, padded, terms_from}
+use Rattle.linear_forms.specs.Places.{padded, terms_from}
+use Rattle.linear_forms.specs.Affines.{IsAffineOf}
 use Rattle.linear_forms.proofs.Faultless.{linear_has_value}
 use Rattle.nest_order.specs.facts.Facts.{values_from}
 use Rattle.dependence_graph.specs.nest_graph.Instances.{turns_at}

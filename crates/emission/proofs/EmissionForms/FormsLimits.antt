@@ -10,7 +10,8 @@ use Rattle.std.proofs.lemmas.Int.{ints}
 use Rattle.std.proofs.lemmas.List.{length-append, length-take}
 use Rattle.std.proofs.lemmas.Slice.Eq.{bytes_eq-Decides}
 use Rattle.array_form.proofs.AffineLaws.{affine_of_form}
-use Rattle.array_form.specs.forms.Loops.{AreDistinct, coefficient, is_among}
+use Rattle.array_form.specs.forms.Loops.{coefficient, is_among}
+use Rattle.array_form.specs.forms.Trips.{AreDistinct}
 use Rattle.dependence_graph.proofs.dep_graph.FormValues.{affine_value}
 use Rattle.linear_forms.specs.Linear.{all_small, is_limited, is_small, not_zero, number_at}
 use Rattle.nest_order.specs.facts.Facts.{values_from}
@@ -101,7 +102,7 @@ number_of_form n depth a symbols v xs deep few seven eight h short long =
     let wider : IsForm n a = record { past_depth = λ k g. h.past_depth k (omega arith); symbols = h.symbols; small_loops = h.small_loops; small_symbols = h.small_symbols; small_constant = h.small_constant } in
     let affine = affine_of_form n a few seven eight wider in
     let size = short_form n (length symbols) a short in
-    sym (affine_value (form_of_affine n a) a symbols v xs [] (subst (λ m. Rattle.linear_forms.specs.Places.IsAffineOf m (form_of_affine n a) a) (sym long) affine) (omega arith)
+    sym (affine_value (form_of_affine n a) a symbols v xs [] (subst (λ m. Rattle.linear_forms.specs.Affines.IsAffineOf m (form_of_affine n a) a) (sym long) affine) (omega arith)
     ∙ ap (λ vs. number_at (form_of_affine n a) (xs ++ vs)) (values_same v 0 symbols))
     ∙ ap (value_at a v) (append-nil xs)
 

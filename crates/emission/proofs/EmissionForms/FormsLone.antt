@@ -5,6 +5,7 @@ use Rattle.std.proofs.lemmas.List.{length-append, length-map}
 use Rattle.array_form.specs.forms.Following.{are_moved, is_regular}
 use Rattle.array_form.specs.forms.Laws.{ArrayFormStoresInstances}
 use Rattle.array_form.specs.forms.Loops as forms
+use Rattle.array_form.specs.forms.Trips as trips
 use Rattle.array_form.specs.forms.Statements.{array_form_of, hold_at, is_triangle, loops_assigned}
 use Rattle.dependence_graph.specs.declared.graphs.Graph.{Graph}
 use Rattle.dependence_graph.specs.declared.graphs.Hold.{Hold}
@@ -129,7 +130,7 @@ module _ (stores : ArrayFormStoresInstances) (n : Nest) (g : Graph) (holds : Lis
     there : may_be_formed g.edges holds level s ≡ true → IsThere n w outs ins s
     there may =
         let few : length (outs ++ ins) ≤ 7 = subst (λ (ls : List Loop). length ls ≤ 7) is (ready.statements s no_statement within).depth in
-        let distinct = subst (λ ls. forms.AreDistinct (forms.names_of (surroundings_of n ls))) is (names_distinct n plain ready s within facts.text given.symbols) in
+        let distinct = subst (λ ls. trips.AreDistinct (forms.names_of (surroundings_of n ls))) is (names_distinct n plain ready s within facts.text given.symbols) in
         let square : is_triangle (around n outs ins) (map (formed_loop n outs ins) ins) ≡ false
         = subst (λ ls. is_triangle (around n outs ins) ls ≡ false) (inner_loops n w outs ins) (no_triangle (around n outs ins) level own_left (no_hold may)) in
         record {

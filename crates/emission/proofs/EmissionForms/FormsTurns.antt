@@ -13,6 +13,7 @@ use Rattle.std.proofs.lemmas.Slice.Eq.{bytes_eq-Decides}
 use Rattle.array_form.specs.forms.Instances.{count_of, counts_of}
 use Rattle.array_form.specs.forms.Laws as laws
 use Rattle.array_form.specs.forms.Loops as forms
+use Rattle.array_form.specs.forms.Trips as trips
 use Rattle.array_form.specs.forms.Statements.{depends_on, is_triangle}
 use Rattle.meaning.specs.Sections.{not_negative}
 use Rattle.emission.specs.graph_orders.Nests.{turns_in, turns_of_loop, turns_of_trip}
@@ -142,7 +143,7 @@ module _ (n : Nest) (outs ins : List Loop) where
     pub trip : IsKnownTrip depth n.symbols (trip_in l)
     pub free : (k : ℕ) → length outs ≤ k → get_or (trip_in l).top.loops k (pos 0) ≡ pos 0
 
-  module _ (few : length (outs ++ ins) ≤ 7) (distinct : forms.AreDistinct (forms.names_of around)) (square : is_triangle around (map formed_loop ins) ≡ false) where
+  module _ (few : length (outs ++ ins) ≤ 7) (distinct : trips.AreDistinct (forms.names_of around)) (square : is_triangle around (map formed_loop ins) ≡ false) where
     names_are : forms.names_of around ≡ map (λ (l : Loop). l.variable) outs ++ (map (λ (l : Loop). l.variable) ins ++ n.symbols)
     names_are =
         ap (λ xs. xs ++ n.symbols) (variables_counted (length (outs ++ ins)) (outs ++ ins) ∙ map-append (λ (l : Loop). l.variable) outs ins)
@@ -240,7 +241,7 @@ module _ (n : Nest) (outs ins : List Loop) where
           ap (number_at (form_of_affine (length (outs ++ ins)) t.top)) (sym (append_assoc (map pos before) zs (values_from v 0 n.symbols)))
           ∙ (number_of_form (length (outs ++ ins)) h.depth t.top n.symbols v (map pos before ++ zs) h.deep few h.trip.seven h.trip.eight h.trip.top h.trip.short long
           ∙ free_front l h zs) in
-          ap not_negative (ap₂ forms.divided (ap nat_abs h.trip.by_is) number ∙ (divided_is h.trip.by (value_at t.top v (map pos before)) ∙ ap (int_div (value_at t.top v (map pos before))) (sym h.trip.by_is)))
+          ap not_negative (ap₂ trips.divided (ap nat_abs h.trip.by_is) number ∙ (divided_is h.trip.by (value_at t.top v (map pos before)) ∙ ap (int_div (value_at t.top v (map pos before))) (sym h.trip.by_is)))
 
       pub limits_there : (l : Loop) → IsFree l → (is_limited (length around.loops) (formed_loop l).trip.form ≡ true) × (1 ≤ (formed_loop l).trip.divisor)
       limits_there l h = (

@@ -3,22 +3,20 @@ use Rattle.std.proofs.Common.{◌≡◌, refl, sym, ap, subst, ◌∙◌, ◌⊎
 use Rattle.std.proofs.Common.{not, ◌&&◌, ◌||◌, List, [], ◌∷◌, map, Some, eq-eqb, arith}
 use Rattle.std.specs.Prelude.{All}
 use Rattle.std.proofs.lemmas.Bool.{le-leb}
-use Rattle.subscripts.specs.declared.affine.Dirs.{Dirs}
-use Rattle.subscripts.specs.declared.verdict.Verdict.{Verdict}
-use Rattle.subscripts.specs.declared.verdict.Verdict.TheVariants.{Never, Pair as Met, Assumed}
+use Rattle.subscripts.specs.declared.affine.Dir.{Dir}
 use Rattle.dependence_graph.specs.declared.graphs.Dep.{Dep}
 use Rattle.dependence_graph.specs.declared.graphs.Dep.TheVariants.{Flow, Output}
 use Rattle.dependence_graph.specs.declared.graphs.Edge.{Edge}
 use Rattle.dependence_graph.specs.declared.graphs.Graph.{Graph}
 use Rattle.dependence_graph.specs.declared.graphs.Hold.{Hold}
 use Rattle.dependence_graph.specs.declared.graphs.Place.{Place}
-use Rattle.direction_vectors.specs.Candidates.{Answer}
 use Rattle.emission.specs.emission_pieces.Levels.{is_anti, is_at_work, is_held, is_own, is_recurrent, may_be_formed}
 use Rattle.emission.specs.emission_pieces.Shapes as pieces
 use Rattle.emission.proofs.EmissionPieces.Emitted.{from_in}
 use Rattle.emission.proofs.EmissionPieces.Lists.{both_true, in_any}
 use Rattle.emission.specs.graph_orders.Arcs.{arc_of, arcs_of, place_of}
-use Rattle.dependence_graph.specs.nest_graph.Arcs.{Couple, edge_of, edges_of, with_some}
+use Rattle.dependence_graph.specs.nest_graph.Arcs.{Answer, Assumed, Couple, Met, Never, Verdict, edge_of, edges_of}
+use Rattle.dependence_graph.specs.nest_graph.Arcs.{with_some}
 use Rattle.dependence_graph.specs.nest_graph.Graph.{IsCouple, IsGraphOf, all_edges}
 use Rattle.dependence_graph.specs.nest_graph.Pair.{kind_between}
 use Rattle.nest_order.specs.orders.Graphs as orders
@@ -33,7 +31,7 @@ use Rattle.nest.specs.Plain.{Nest}
 abbrev IsMade : Couple → Edge → Type 0
 IsMade c e = (e.from ≡ c.from) × (e.to ≡ c.to) × (e.kind ≡ c.kind)
 
-made_first : (c : Couple) (d : Dirs) (v : Verdict) (e : Edge) (es : List Edge) → In e (with_some (edge_of c d v) es) → IsMade c e ⊎ In e es
+made_first : (c : Couple) (d : List Dir) (v : Verdict) (e : Edge) (es : List Edge) → In e (with_some (edge_of c d v) es) → IsMade c e ⊎ In e es
 made_first c d (Never w) e es h = inr h
 made_first c d (Met x y w) e es h = elim h [ inl f ↦ inl (ap (λ (z : Edge). z.from) f, ap (λ (z : Edge). z.to) f, ap (λ (z : Edge). z.kind) f) | inr r ↦ inr r ]
 made_first c d (Assumed w) e es h = elim h [ inl f ↦ inl (ap (λ (z : Edge). z.from) f, ap (λ (z : Edge). z.to) f, ap (λ (z : Edge). z.kind) f) | inr r ↦ inr r ]

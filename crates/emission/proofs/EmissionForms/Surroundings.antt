@@ -6,6 +6,7 @@ use Rattle.std.specs.Str.{bytes_eq}
 use Rattle.std.proofs.lemmas.Bool.{cases_lt}
 use Rattle.std.proofs.lemmas.Slice.Eq.{bytes_eq-Decides}
 use Rattle.array_form.specs.forms.Loops as forms
+use Rattle.array_form.specs.forms.Trips as trips
 use Rattle.components.specs.Lists as lists
 use Rattle.emission.specs.emission_pieces.Nests.{loops_at, standing_at}
 use Rattle.emission.specs.emission_pieces.Shapes.{numbers_at}
@@ -104,8 +105,8 @@ not_among (y ∷ xs) x h = by (bytes_eq y x) refl (not_among xs x (λ i. h (inr 
     by true e more = absurd (h (inl (sym ((bytes_eq-Decides y x).0 e))))
     by false e more = more
 
-apart_names : (f : ℕ → List ℕ) (ls : List ℕ) (ys : List (List ℕ)) → Distinct ls → ((l m : ℕ) → In l ls → In m ls → f l ≡ f m → l ≡ m) → forms.AreDistinct ys
-    → ((l : ℕ) (x : List ℕ) → In l ls → In x ys → ¬ (f l ≡ x)) → forms.AreDistinct (map f ls ++ ys)
+apart_names : (f : ℕ → List ℕ) (ls : List ℕ) (ys : List (List ℕ)) → Distinct ls → ((l m : ℕ) → In l ls → In m ls → f l ≡ f m → l ≡ m) → trips.AreDistinct ys
+    → ((l : ℕ) (x : List ℕ) → In l ls → In x ys → ¬ (f l ≡ x)) → trips.AreDistinct (map f ls ++ ys)
 apart_names f [] ys d same once other = once
 apart_names f (l ∷ ls) ys d same once other = (
   not_among (map f ls ++ ys) (f l) (λ i. elim (In-append (f l) (map f ls) ys i) [
@@ -156,10 +157,10 @@ module _ (n : Nest) (plain : IsPlain n.body) (ready : IsReady n) (s : ℕ) (with
           λ m j. stands_loops (run_nest n).shape s k.0 k.1 m (subst (In m) (sym e) j),
         )
 
-    pub names_distinct : forms.AreDistinct n.symbols → forms.AreDistinct (forms.names_of (surroundings_at n s))
+    pub names_distinct : trips.AreDistinct n.symbols → trips.AreDistinct (forms.names_of (surroundings_at n s))
     names_distinct once =
         let variables : map (run_nest n).variable_at (numbers_at n s) ≡ forms.variables_of (surroundings_at n s).loops
         = variables_there ∙ sym (variables_counted (length (loops_at n s)) (loops_at n s)) in
-        subst (λ xs. forms.AreDistinct (xs ++ n.symbols)) variables
+        subst (λ xs. trips.AreDistinct (xs ++ n.symbols)) variables
         (apart_names (run_nest n).variable_at (numbers_at n s) n.symbols loops_known.0 (λ l m i j. text.variables l m (loops_known.1 l i) (loops_known.1 m j)) once
         (λ l x i j. text.others l x (loops_known.1 l i) j))

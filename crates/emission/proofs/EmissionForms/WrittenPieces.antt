@@ -29,7 +29,7 @@ use Rattle.nest_order.specs.orders.Shapes.{Shape, Shapes, no_shapes, shape, Stan
 use Rattle.nest_order.specs.runs.Alone.{chain}
 use Rattle.nest_order.specs.runs.Blocks.{loop_of, or_statement, written, written_in}
 use Rattle.nest_order.specs.shapes.Shapes as nests
-use Rattle.nest.specs.Blocks.{block_then}
+use Rattle.nest.specs.Allocations.{block_then}
 use Rattle.nest.specs.Bodies.{nest_loops, nest_statements}
 use Rattle.nest.specs.Plain.{Loop, Nest}
 use Rattle.emission.proofs.EmissionForms.LoneShapes.{lone_in_chain, lone_inside, one_formed, same_statement}

@@ -4,14 +4,12 @@ use Rattle.std.proofs.Common.{append_assoc, append-nil}
 use Rattle.std.proofs.lemmas.List.{map-append}
 use Rattle.array_form.specs.forms.Statements.{guarded_by}
 use Rattle.tree.specs.Plain.{Expression, Reference, Statement, Assignment, Where, If, Do, Label, GoTo, Stop, Read}
-use Rattle.tree.specs.Plain.{Print}
-use Rattle.tree.specs.Plain.{Allocate, Deallocate, Arms, no_arms, arm, Block, no_statements, statement}
+use Rattle.tree.specs.Plain.{Print, Allocate, Deallocate, Arms, no_arms, arm, Block, no_statements, statement}
 use Rattle.tree.specs.declared.stmts.Mark.{Mark}
-use Rattle.nest.specs.Blocks.{allocation_then, allocations_then, block_then, deallocation_then, deallocations}
+use Rattle.nest.specs.Allocations.{allocation_then, allocations_then, block_then, deallocation_then, deallocations}
 use Rattle.nest.specs.Plain.{Made}
 use Rattle.emission.specs.emission_marks.Marks.{Marked, Otherwise, Round, Turning, Under, bodies, bodies_in}
-use Rattle.emission.specs.emission_marks.Marks.{conditions_of, marked, marked_in}
-use Rattle.emission.specs.emission_marks.Marks.{marked_under, with_mark}
+use Rattle.emission.specs.emission_marks.Marks.{conditions_of, marked, marked_in, marked_under, with_mark}
 
 pub marked_then : (round : List Round) (a b : Block)
     → marked_in round (block_then a b) ≡ marked_in round a ++ marked_in round b

@@ -1,7 +1,6 @@
 -- The parts of a nest that recursive emission comes to: all statements, and then the components of each level.
 use Rattle.std.proofs.Common.{◌≡◌, ◌⊎◌, ◌↔◌, ◌∙◌, inl, inr, refl, sym, ap, subst, arith, ℕ, suc, ◌+◌, ◌-◌, ◌<◌}
-use Rattle.std.proofs.Common.{◌≤◌, ◌==◌, true}
-use Rattle.std.proofs.Common.{cond, Some, List, [], ◌∷◌, length}
+use Rattle.std.proofs.Common.{◌≤◌, ◌==◌, true, cond, Some, List, [], ◌∷◌, length}
 use Rattle.std.specs.Prelude.{slice_get}
 use Rattle.std.specs.List.{concat, range_with_len}
 use Rattle.std.proofs.lemmas.Bool.{eqb-true}
@@ -12,7 +11,8 @@ use Rattle.dependence_graph.specs.declared.graphs.Hold.{Hold}
 use Rattle.dependence_graph.proofs.dep_graph.SameLoops.{same_loops}
 use Rattle.emission.specs.emission_pieces.Emission.{IsLoopOf}
 use Rattle.emission.specs.emission_pieces.Levels.{AreComponents, is_at_work, joins, leads}
-use Rattle.emission.specs.emission_pieces.Nests.{IsEdgeOf, loops_at, standing_at}
+use Rattle.emission.specs.emission_pieces.Nests.{loops_at, standing_at}
+use Rattle.emission.specs.emission_pieces.Edges.{IsEdgeOf}
 use Rattle.emission.specs.emission_pieces.Shapes.{edges_of, numbers_at}
 use Rattle.emission.proofs.EmissionPieces.Emitted.{components_of, from_in, to_in}
 use Rattle.emission.proofs.EmissionPieces.Lists.{any_in, both_true}

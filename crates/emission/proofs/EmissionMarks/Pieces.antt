@@ -15,7 +15,7 @@ use Rattle.emission.specs.emission_pieces.Pieces.{block_of_piece, block_of_piece
 use Rattle.tree.specs.Plain.{Expression, Assignment, Block}
 use Rattle.nest_order.specs.orders.Lists.{Distinct, In}
 use Rattle.nest_order.proofs.orders.Once.{Pairwise-right}
-use Rattle.nest.specs.Blocks.{block_then, deallocations}
+use Rattle.nest.specs.Allocations.{block_then, deallocations}
 use Rattle.nest.specs.Plain.{Guarded, Loop, Nest}
 use Rattle.array_form.specs.holds.Surroundings.{surroundings_of}
 use Rattle.emission.specs.emission_marks.Components.{IsAloneAt, IsLevel}
@@ -24,11 +24,9 @@ use Rattle.emission.specs.emission_marks.Marks.{Marked, Round, conditions_of, ma
 use Rattle.emission.proofs.EmissionMarks.Blocks.{marked_allocated, marked_deallocated, marked_guarded, marked_then, number_of}
 use Rattle.emission.proofs.EmissionMarks.Lists.{among, contained, from_distinct, in_range, take_next}
 use Rattle.emission.proofs.EmissionMarks.Marked.{HasMarks, IsComponentIn, formed_is, formed_level, kept_is, kept_level}
-use Rattle.emission.proofs.EmissionMarks.Marked.{more_marks}
-use Rattle.emission.proofs.EmissionMarks.Marked.{one_mark, same_marks, still_late}
+use Rattle.emission.proofs.EmissionMarks.Marked.{more_marks, one_mark, same_marks, still_late}
 use Rattle.emission.proofs.EmissionMarks.Parts.{IsPart, all_is_part, class_is_part, classes_once, classes_same, everything}
-use Rattle.emission.proofs.EmissionMarks.Parts.{in_part}
-use Rattle.emission.proofs.EmissionMarks.Parts.{next_loop, size}
+use Rattle.emission.proofs.EmissionMarks.Parts.{in_part, next_loop, size}
 
 module _ (n : Nest) (edges : List Edge) (holds : List Hold) (may : MayBeMarked n edges) where
   abbrev pub IsOne : ℕ → List Round → List ℕ → Type 0

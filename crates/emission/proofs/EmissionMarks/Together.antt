@@ -14,11 +14,12 @@ use Rattle.tree.specs.Plain.{Block}
 use Rattle.nest_order.specs.orders.Lists.{In}
 use Rattle.nest_order.proofs.orders.Lists.{In-append, In-left, In-right}
 use Rattle.nest_order.proofs.orders.Membership.{In-map, map-In}
-use Rattle.nest.specs.Blocks.{block_then, deallocations}
+use Rattle.nest.specs.Allocations.{block_then, deallocations}
 use Rattle.nest.specs.Plain.{Loop, Nest}
 use Rattle.array_form.specs.holds.Surroundings.{surroundings_of}
 use Rattle.emission.specs.emission_marks.Components.{IsWith}
-use Rattle.emission.specs.emission_marks.Laws.{AreTogether, EmissionKeepsTogether, MayBeMarked}
+use Rattle.emission.specs.emission_marks.Laws.{EmissionKeepsTogether, MayBeMarked}
+use Rattle.emission.specs.emission_marks.ByGraph.{AreTogether}
 use Rattle.emission.specs.emission_marks.Marks.{Round, StandTogether, bodies_at, bodies_in, marked_at, marked_in, turning_of}
 use Rattle.emission.proofs.EmissionMarks.Blocks.{bodies_allocated, bodies_deallocated, bodies_guarded, bodies_then, number_of}
 use Rattle.emission.proofs.EmissionMarks.Blocks.{numbers_in, same_numbers}

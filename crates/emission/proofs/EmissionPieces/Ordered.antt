@@ -15,7 +15,8 @@ use Rattle.nest_order.proofs.shapes.Shapes.{shape_is_nest}
 use Rattle.nest.specs.Bodies.{Standing, loops_of, nest_statements, statements_in, statements_in_parts, statements_of}
 use Rattle.nest.specs.Plain.{Loop, Nest, Part, Run, Turns, Choice, Label, Jump, Parts, no_parts, part}
 use Rattle.array_form.specs.holds.Statements.{no_statement}
-use Rattle.emission.specs.emission_pieces.Nests.{AreEdgesOf, IsEdgeOf, common_of, loops_at}
+use Rattle.emission.specs.emission_pieces.Nests.{loops_at}
+use Rattle.emission.specs.emission_pieces.Edges.{AreEdgesOf, IsEdgeOf, common_of}
 use Rattle.emission.specs.emission_pieces.Laws.{EmissionKeepsOrder}
 use Rattle.emission.specs.emission_pieces.Shapes.{edge_of, edges_of, level_of, numbers_at, shapes_of}
 use Rattle.emission.proofs.EmissionPieces.Emitted.{pieces_are_emitted}

@@ -1,26 +1,26 @@
 -- The edges of a graph lead in its nest.
-use Rattle.std.proofs.Common.{◌≡◌, ◌⊎◌, ℕ, zero, suc, ◌+◌, ◌<◌, ◌≤◌, ◌==◌, Bool, true, false, cond, List, [], ◌∷◌, ◌++◌, length, get_or, Some, refl, sym, ap, subst, ◌∙◌, inl, inr, arith}
+use Rattle.std.proofs.Common.{◌≡◌, ◌⊎◌, ℕ, zero, suc, ◌-◌, ◌<◌, ◌≤◌, ◌==◌, Bool, true, false, cond, List, [], ◌∷◌, ◌++◌, length, get_or, Some, refl, sym, ap, subst, ◌∙◌, inl, inr, arith}
 use mathlib.Core.Path.{ap₂}
-use Rattle.std.specs.Prelude.{All, IsTrue, slice_get}
-use Rattle.subscripts.specs.declared.affine.Dirs.{Dirs}
-use Rattle.subscripts.specs.declared.verdict.Verdict.{Verdict}
-use Rattle.subscripts.specs.declared.verdict.Verdict.TheVariants.{Never, Pair as Met, Assumed}
+use Rattle.std.specs.Prelude.{All, slice_get}
+use Rattle.subscripts.specs.declared.affine.Dir.{Dir}
 use Rattle.components.specs.Lists.{In}
 use Rattle.dependence_graph.specs.declared.graphs.Edge.{Edge}
 use Rattle.dependence_graph.specs.declared.graphs.Place.{Place}
-use Rattle.direction_vectors.specs.Candidates.{Answer, CoversCandidates, IsEqualAlone, IsLedAt, dir_at}
-use Rattle.direction_vectors.specs.vector_tests.Refs.{IsVectorOf}
-use Rattle.dependence_graph.specs.nest_graph.Arcs.{Couple, edge_of, edges_of, level_of, with_some}
-use Rattle.dependence_graph.specs.nest_graph.Graph.{IsCouple, all_edges}
+use Rattle.dependence_graph.specs.nest_graph.Arcs.{Answer, Assumed, Couple, Met, Never, Verdict, edge_of, edges_of, in_places}
+use Rattle.dependence_graph.specs.nest_graph.Arcs.{level_of, with_some}
+use Rattle.dependence_graph.specs.nest_graph.Graph.{IsCouple, all_edges, candidate_of}
+use Rattle.dependence_graph.specs.nest_graph.Pair.{IsCandidate}
 use Rattle.dependence_graph.specs.nest_graph.Tested as tested
-use Rattle.dependence_graph.proofs.nest_graph.Coupled as coupled
+use Rattle.dependence_graph.specs.nest_graph.Vectors.{StandsFor}
 use Rattle.nest.specs.Bodies.{Standing, nest_statements}
 use Rattle.nest.specs.Plain.{Loop, Nest}
 use Rattle.array_form.specs.holds.Statements.{no_statement}
-use Rattle.emission.specs.emission_pieces.Nests.{IsEdgeOf, common_of, loops_at}
+use Rattle.emission.specs.emission_pieces.Nests.{loops_at}
+use Rattle.emission.specs.emission_pieces.Edges.{IsEdgeOf, common_of}
 use Rattle.emission.proofs.EmissionPieces.Ordered.{emission_keeps_order}
 use Rattle.emission.specs.graph_edges.Laws.{EdgesLeadInNest, GraphEmissionKeepsOrder, IsShallow}
-use Rattle.emission.proofs.GraphEdges.Vectors.{led_level, equal_level, filled, filled_at, filled_is_covered, plain_equal, plain_less}
+use Rattle.dependence_graph.proofs.nest_graph.Filled.{filled, filled_length, filled_stands}
+use Rattle.emission.proofs.GraphEdges.Vectors.{level_within}
 
 -- ---- lists
 
@@ -50,10 +50,10 @@ got (y ∷ xs) (suc k) x d h = got xs k x d h
 
 -- ---- where an edge comes from
 
-abbrev Made : Couple → Dirs → Edge → Type 0
-Made c d e = (e.from ≡ c.from) × (e.to ≡ c.to) × (e.level ≡ level_of d)
+abbrev Made : Couple → List Dir → Edge → Type 0
+Made c d e = (e.from ≡ c.from) × (e.to ≡ c.to) × (e.level ≡ level_of (in_places d))
 
-first : (c : Couple) (d : Dirs) (v : Verdict) (e : Edge) (es : List Edge) → In e (with_some (edge_of c d v) es) → Made c d e ⊎ In e es
+first : (c : Couple) (d : List Dir) (v : Verdict) (e : Edge) (es : List Edge) → In e (with_some (edge_of c d v) es) → Made c d e ⊎ In e es
 first c d (Never w) e es h = inr h
 first c d (Met x y w) e es h = elim h [ inl f ↦ inl (ap (λ (z : Edge). z.from) f, ap (λ (z : Edge). z.to) f, ap (λ (z : Edge). z.level) f) | inr r ↦ inr r ]
 first c d (Assumed w) e es h = elim h [ inl f ↦ inl (ap (λ (z : Edge). z.from) f, ap (λ (z : Edge). z.to) f, ap (λ (z : Edge). z.level) f) | inr r ↦ inr r ]
@@ -99,53 +99,41 @@ module _ (n : Nest) (c : Couple) (shallow : IsShallow n) (h : IsCouple n c) wher
   to_loops : loops_at n c.to.stmt ≡ h.refs.second.loops
   to_loops = ap (λ (s : Standing). s.loops) (got (nest_statements n) c.to.stmt h.refs.second no_statement h.refs.second_is.statement)
 
-  common_is : c.refs.common ≡ common_of (loops_at n c.from.stmt) (loops_at n c.to.stmt)
-  common_is = coupled.common_is n c h ∙ (same_common h.refs.first.loops h.refs.second.loops ∙ ap₂ common_of (sym from_loops) (sym to_loops))
+  common_is : tested.common_of h.refs.first.loops h.refs.second.loops ≡ common_of (loops_at n c.from.stmt) (loops_at n c.to.stmt)
+  common_is = same_common h.refs.first.loops h.refs.second.loops ∙ ap₂ common_of (sym from_loops) (sym to_loops)
 
-  short : c.refs.common ≤ 7
-  short =
-      let a = common_is in
-      let b = common_short (loops_at n c.from.stmt) (loops_at n c.to.stmt) in
-      let s = shallow c.from.stmt in
-      omega arith
+  abbrev CoversCandidates : Answer → Type 0
+  CoversCandidates a = (v : List Dir) → StandsFor a.0 v → IsCandidate n (candidate_of c v)
 
-  abbrev IsRight : ℕ → Type 0
-  IsRight level = (level ≤ c.refs.common) × (level ≡ 0 → c.from.stmt < c.to.stmt)
+  same_first : (x y : Standing) (k : ℕ) → slice_get (nest_statements n) k ≡ Some x → slice_get (nest_statements n) k ≡ Some y → x ≡ y
+  same_first x y k e f = let g : Some x ≡ Some y = sym e ∙ f in cc
 
-  right : (d : Dirs) → IsVectorOf c.refs d
-      → ((k : ℕ) × IsLedAt c.refs (filled c.refs.common d) k) ⊎ (IsTrue c.refs.same_turn × IsEqualAlone c.refs (filled c.refs.common d))
-      → IsRight (level_of d)
-  right d vector (inl led) =
-      let k = led.0 in
-      let at = led.1 in
-      let inside : k < c.refs.common = at.common in
-      let level : level_of d ≡ suc (0 + k) = led_level 0 k d.at
-      (λ m g. plain_equal (dir_at d m) (sym (filled_at c.refs d short vector m (omega arith)) ∙ at.before m g))
-      (plain_less (dir_at d k) (sym (filled_at c.refs d short vector k inside) ∙ at.less)) in
-      (omega arith, λ e. absurd (omega arith))
-  right d vector (inr equal) =
-      let level : level_of d ≡ 0 = equal_level 0 c.refs.common d.at
-      (λ m g. plain_equal (dir_at d m) (sym (filled_at c.refs d short vector m g) ∙ equal.1 m g))
-      vector.past_len in
-      (omega arith, λ e. coupled.stands_earlier n c h equal.0)
+  right : (a : Answer) → CoversCandidates a
+      → (level_of (in_places a.0) ≤ common_of (loops_at n c.from.stmt) (loops_at n c.to.stmt)) × (level_of (in_places a.0) ≡ 0 → c.from.stmt < c.to.stmt)
+  right a candidates =
+      let is = candidates (filled a.0) (filled_stands a.0) in
+      let first = same_first is.refs.first h.refs.first c.from.stmt is.refs.first_is.statement h.refs.first_is.statement in
+      let second = same_first is.refs.second h.refs.second c.to.stmt is.refs.second_is.statement h.refs.second_is.statement in
+      let common : length (filled a.0) ≡ common_of (loops_at n c.from.stmt) (loops_at n c.to.stmt) =
+      is.loops ∙ ap₂ (λ (x y : Standing). tested.common_of x.loops y.loops) first second ∙ common_is in
+      let long = filled_length a.0 in
+      let level = level_within c.from.stmt c.to.stmt 0 (7 - length a.0) a.0 is.forward in
+      let low = level.0 in
+      (omega arith, level.1)
 
   leads : (e : Edge) → In e (edges_of c c.answers) → IsEdgeOf n e
   leads e i =
       let k = made c c.answers e i in
       let d = k.0.0 in
-      let vector = all_in (λ (a : Answer). IsVectorOf c.refs a.0) c.answers k.0 k.1 h.vectors in
-      let candidates = all_in (CoversCandidates c.refs) c.answers k.0 k.1 h.candidates in
-      let candidate = candidates (filled c.refs.common d) (filled_is_covered c.refs d short vector) in
-      let is = right d vector candidate.led in
+      let is = right k.0 (all_in CoversCandidates c.answers k.0 k.1 h.candidates) in
       let from : e.from.stmt ≡ c.from.stmt = ap (λ (p : Place). p.stmt) k.2.0 in
       let to : e.to.stmt ≡ c.to.stmt = ap (λ (p : Place). p.stmt) k.2.1 in
-      let level : e.level ≡ level_of d = k.2.2 in
+      let level : e.level ≡ level_of (in_places d) = k.2.2 in
       let first_within = within (nest_statements n) c.from.stmt h.refs.first h.refs.first_is.statement in
       let second_within = within (nest_statements n) c.to.stmt h.refs.second h.refs.second_is.statement in
       let same : common_of (loops_at n e.from.stmt) (loops_at n e.to.stmt) ≡ common_of (loops_at n c.from.stmt) (loops_at n c.to.stmt)
       = ap₂ (λ a b. common_of (loops_at n a) (loops_at n b)) from to in
-      let common = common_is in
-      let low : level_of d ≤ c.refs.common = is.0 in
+      let low = is.0 in
       record {
         from = subst (λ s. s < length (nest_statements n)) (sym from) first_within;
         to = subst (λ s. s < length (nest_statements n)) (sym to) second_within;

@@ -1,12 +1,10 @@
--- Direction vectors: with `>` in the places of `*`, and the level of the first `<`.
-use Rattle.std.proofs.Common.{◌≡◌, ℕ, zero, suc, ◌+◌, ◌<◌, ◌≤◌, List, [], ◌∷◌, length, get_or, refl, sym, ap, subst, ◌∙◌, inl, inr, arith}
+-- Direction vectors: the level of the first `<`.
+use Rattle.std.proofs.Common.{◌≡◌, ℕ, zero, suc, ◌+◌, ◌<◌, ◌≤◌, List, [], ◌∷◌, ◌++◌, length, get_or, replicate, refl, ap, ◌∙◌, arith}
 use Rattle.subscripts.specs.declared.affine.Dir.{Dir}
 use Rattle.subscripts.specs.declared.affine.Dir.TheVariants.{Lt, Eq, Gt, Any}
-use Rattle.subscripts.specs.declared.affine.Dirs.{Dirs}
-use Rattle.direction_vectors.specs.Candidates.{Allows, IsCovered, IsPlain, dir_at}
-use Rattle.direction_vectors.specs.vector_tests.Refs.{IsVectorOf}
-use Rattle.direction_vectors.specs.declared.vector_tests.refs.RefPair.{RefPair}
 use Rattle.dependence_graph.specs.nest_graph.Arcs.{level_from}
+use Rattle.dependence_graph.specs.nest_graph.Vectors.{MayComeFirst}
+use Rattle.dependence_graph.proofs.nest_graph.Filled.{filled}
 
 -- ---- the level
 
@@ -24,83 +22,17 @@ equal_level k (suc m) (d ∷ ds) within past =
     ap (λ z. level_from k (z ∷ ds)) (within 0 (omega arith))
     ∙ equal_level (suc k) m ds (λ i h. within (suc i) (omega arith)) (λ i h. past (suc i) (omega arith))
 
--- ---- `>` for `*`
+-- ---- a vector that stands for candidates alone
 
-abbrev pub plain : Dir → Dir
-plain Lt = Lt
-plain Eq = Eq
-plain Gt = Gt
-plain Any = Gt
+any_level : (k m : ℕ) → level_from k (replicate m Any) ≡ 0
+any_level k zero = refl
+any_level k (suc m) = refl
 
-abbrev Differs : Dir → Type 0
-Differs Lt = Unit {0}
-Differs Eq = Unit {0}
-Differs Gt = Unit {0}
-Differs Any = ⊥
-
-plain_is : (d : Dir) → IsPlain (plain d)
-plain_is Lt = λ e. subst Differs e tt
-plain_is Eq = λ e. subst Differs e tt
-plain_is Gt = λ e. subst Differs e tt
-plain_is Any = λ e. subst Differs e tt
-
-allowed : (d : Dir) → Allows d (plain d)
-allowed Lt = inr refl
-allowed Eq = inr refl
-allowed Gt = inr refl
-allowed Any = inl refl
-
-pub plain_equal : (d : Dir) → plain d ≡ Eq → d ≡ Eq
-plain_equal Lt e = cc
-plain_equal Eq e = refl
-plain_equal Gt e = cc
-plain_equal Any e = cc
-
-pub plain_less : (d : Dir) → plain d ≡ Lt → d ≡ Lt
-plain_less Lt e = refl
-plain_less Eq e = cc
-plain_less Gt e = cc
-plain_less Any e = cc
-
-abbrev fill : ℕ → List Dir → List Dir
-fill zero ds = ds
-fill (suc m) [] = []
-fill (suc m) (d ∷ ds) = plain d ∷ fill m ds
-
-fill_length : (m : ℕ) (ds : List Dir) → length (fill m ds) ≡ length ds
-fill_length zero ds = refl
-fill_length (suc m) [] = refl
-fill_length (suc m) (d ∷ ds) = ap suc (fill_length m ds)
-
-fill_within : (m : ℕ) (ds : List Dir) (i : ℕ) → i < m → i < length ds → get_or (fill m ds) i Any ≡ plain (get_or ds i Any)
-fill_within zero ds i g h = absurd (omega arith)
-fill_within (suc m) [] i g h = absurd (omega arith)
-fill_within (suc m) (d ∷ ds) zero g h = refl
-fill_within (suc m) (d ∷ ds) (suc i) g h = fill_within m ds i (omega arith) (omega arith)
-
-fill_past : (m : ℕ) (ds : List Dir) (i : ℕ) → m ≤ i → get_or (fill m ds) i Any ≡ get_or ds i Any
-fill_past zero ds i h = refl
-fill_past (suc m) [] i h = refl
-fill_past (suc m) (d ∷ ds) zero h = absurd (omega arith)
-fill_past (suc m) (d ∷ ds) (suc i) h = fill_past m ds i (omega arith)
-
-abbrev pub filled : ℕ → Dirs → Dirs
-filled m d = record { at = fill m d.at; len = d.len }
-
-module _ (r : RefPair) (d : Dirs) (short : r.common ≤ 7) (vector : IsVectorOf r d) where
-  pub filled_at : (i : ℕ) → i < r.common → dir_at (filled r.common d) i ≡ plain (dir_at d i)
-  filled_at i h = fill_within r.common d.at i h (let e : length d.at ≡ 7 = vector.places in omega arith)
-
-  pub filled_is_covered : IsCovered r d (filled r.common d)
-  filled_is_covered = record {
-    vector = record {
-      places = fill_length r.common d.at ∙ vector.places;
-      len = vector.len;
-      past_len = λ k h. fill_past r.common d.at k h ∙ vector.past_len k h;
-    };
-    plain = λ m h. subst IsPlain (sym (filled_at m h)) (plain_is (dir_at d m));
-    covers = record {
-      vector = vector;
-      at = λ m h. subst (Allows (dir_at d m)) (sym (filled_at m h)) (allowed (dir_at d m));
-    };
-  }
+-- its level is that of a loop round both, or 0 where the first statement stands before the second
+pub level_within : (s t k m : ℕ) (ds : List Dir) → MayComeFirst s t (filled ds)
+    → (level_from k (ds ++ replicate m Any) ≤ k + length ds) × (level_from k (ds ++ replicate m Any) ≡ 0 → s < t)
+level_within s t k m [] h = let e = any_level k m in (omega arith, λ z. h)
+level_within s t k m (Lt ∷ ds) h = (omega arith, λ z. absurd (omega arith))
+level_within s t k m (Eq ∷ ds) h = let r = level_within s t (suc k) m ds h in let l = r.0 in (omega arith, r.1)
+level_within s t k m (Gt ∷ ds) h = absurd h
+level_within s t k m (Any ∷ ds) h = absurd h

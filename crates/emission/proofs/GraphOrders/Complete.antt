@@ -1,6 +1,8 @@
 -- The arcs of a graph have what an order of the nest's instances needs.
-use Rattle.std.proofs.Common.{◌≡◌, ◌⊎◌, refl, sym, ap, ◌∙◌, subst, inl, inr, ℕ, zero, suc, ◌<◌, ◌≤◌, ℤ, pos, List, []}
-use Rattle.std.proofs.Common.{◌∷◌, take, length, length-take-le, map, Some, ltb-true, lt-ltb, arith}
+use Rattle.std.proofs.Common.{◌≡◌, ◌⊎◌, refl, sym, ap, ◌∙◌, subst, inl, inr, ℕ, zero, suc, ◌<◌, ℤ, pos, List, []}
+use Rattle.std.proofs.Common.{◌-◌, ◌∷◌, take, length, length-take-le, map, replicate, Some, arith}
+use Rattle.subscripts.specs.declared.affine.Dir.TheVariants.{Any}
+use Rattle.subscripts.specs.declared.affine.Dirs.{Dirs}
 use Rattle.std.proofs.lemmas.List.{length-map}
 use Rattle.std.proofs.lemmas.Option.{slice_get_within}
 use Rattle.tree.specs.Plain.{Reference}
@@ -18,11 +20,10 @@ use Rattle.dependence_graph.specs.nest_graph.Pair as graph
 use Rattle.dependence_graph.specs.nest_graph.Pair.{kind_between}
 use Rattle.dependence_graph.specs.nest_graph.Ready.{IsReady}
 use Rattle.dependence_graph.specs.nest_graph.References as graph_references
-use Rattle.dependence_graph.specs.nest_graph.Tested.{AreReferences, IsReference, common_of, pair_of}
-use Rattle.dependence_graph.proofs.nest_graph.Coupled.{common_is}
+use Rattle.dependence_graph.specs.nest_graph.Tested.{AreReferences, IsReference, common_of}
 use Rattle.dependence_graph.specs.nest_graph.Touched as touched
 use Rattle.dependence_graph.proofs.nest_graph.Completing.{complete}
-use Rattle.nest_order.specs.orders.Graphs.{Arc, Candidate, Covers, Direction, HasLevel, StandsFor}
+use Rattle.nest_order.specs.orders.Graphs.{Arc, Candidate, Covers, HasLevel, StandsFor}
 use Rattle.nest_order.specs.orders.Graphs as orders
 use Rattle.nest_order.specs.orders.Lists.{In}
 use Rattle.nest_order.specs.orders.Nests.{common}
@@ -37,14 +38,14 @@ use Rattle.nest.specs.Plain.{Nest}
 use Rattle.emission.specs.graph_orders.Arcs.{arc_of, arcs_of, place_of}
 use Rattle.emission.specs.graph_orders.Laws.{GraphHasEdges}
 use Rattle.emission.specs.graph_orders.Nests.{run_nest, turns_in}
-use Rattle.emission.proofs.GraphOrders.Edges.{IsForward, Source, few, few_common, forward, source}
+use Rattle.emission.proofs.GraphOrders.Edges.{IsForward, Source, common_in, few, forward, source, vector}
 use Rattle.emission.proofs.GraphOrders.Instances.{touches_are, turns_are}
 use Rattle.emission.proofs.GraphOrders.Lists.{nth_same}
-use Rattle.emission.proofs.GraphOrders.Signs.{begins_equal, begins_led, covers_allowed, covers_own, direction_of, directions}
-use Rattle.emission.proofs.GraphOrders.Signs.{has_equal, has_led, signs}
+use Rattle.emission.proofs.GraphOrders.Signs.{begins_equal, begins_led, covers_for, covers_own, dir_of, direction_of}
+use Rattle.emission.proofs.GraphOrders.Signs.{directions, has_equal, has_led, signs}
 use Rattle.emission.proofs.GraphOrders.Tables.{common_there, loop_known, loops_there, number_there, references_there}
 use Rattle.emission.proofs.GraphOrders.Tables.{standing_there, variables_there}
-use Rattle.emission.proofs.GraphOrders.Vectors.{is_candidate, related_at, vector_of}
+use Rattle.emission.proofs.GraphOrders.Vectors.{are_plain, are_related, comes_first}
 
 -- ---- lists of arcs
 
@@ -123,7 +124,7 @@ module _ (n : Nest) (plain : IsPlain n.body) (text : IsNestText (run_nest n)) (r
   -- ---- a candidate with a pair
 
   abbrev as_candidate : Candidate → Dep → graph.Candidate
-  as_candidate c k = record { from = place_in c.from; to = place_in c.to; kind = k; vector = vector_of c.vector }
+  as_candidate c k = record { from = place_in c.from; to = place_in c.to; kind = k; vector = map dir_of c.vector }
 
   module _ (c : Candidate) (values : ℕ → ℤ) (cell : Cell) (is js : List ℕ)
       (a : End n values c.from.statement c.from.reference is cell) (b : End n values c.to.statement c.to.reference js cell)
@@ -136,31 +137,29 @@ module _ (n : Nest) (plain : IsPlain n.body) (text : IsNestText (run_nest n)) (r
         ∙ common_there n c.from.statement c.to.statement a.standing b.standing a.is_reference.statement
         b.is_reference.statement
 
-    short : length c.vector ≤ 7
-    short =
-        subst (λ m. m ≤ 7) (sym loops)
-        (few_common n c.from.statement a.standing b.standing ready a.is_reference.statement)
+    refs : AreReferences n (place_in c.from) (place_in c.to)
+    refs = record {
+      first = a.standing;
+      second = b.standing;
+      first_reference = a.reference;
+      second_reference = b.reference;
+      first_is = a.is_reference;
+      second_is = b.is_reference;
+      same_name = sym a.touches.name ∙ b.touches.name;
+    }
 
     candidate_is : graph.IsCandidate n (as_candidate c k)
-    candidate_is =
-        let refs : AreReferences n (place_in c.from) (place_in c.to) = record {
-          first = a.standing;
-          second = b.standing;
-          first_reference = a.reference;
-          second_reference = b.reference;
-          first_is = a.is_reference;
-          second_is = b.is_reference;
-          same_name = sym a.touches.name ∙ b.touches.name;
-        } in
-        record {
-          refs = refs;
-          kind = kind;
-          vector = is_candidate (pair_of n (place_in c.from) (place_in c.to) refs) c.vector c.from.statement
-              c.to.statement (sym loops) short
-              (ltb-true c.from.statement c.to.statement, lt-ltb c.from.statement c.to.statement) begins;
-        }
+    unfolding refs
+    candidate_is = record {
+      refs = refs;
+      kind = kind;
+      loops = length-map c.vector dir_of ∙ loops;
+      plain = are_plain c.vector;
+      forward = comes_first c.vector c.from.statement c.to.statement begins;
+    }
 
     pair_is : graph.HasPair n (as_candidate c k)
+    unfolding refs
     pair_is = (
       map pos is,
       (
@@ -168,15 +167,10 @@ module _ (n : Nest) (plain : IsPlain n.body) (text : IsNestText (run_nest n)) (r
         record {
           values = values;
           cell = cell;
-          first = a.standing;
-          second = b.standing;
-          first_reference = a.reference;
-          second_reference = b.reference;
-          first_is = a.is_reference;
-          second_is = b.is_reference;
+          refs = refs;
           first_instance = a.instance;
           second_instance = b.instance;
-          related = λ m g. related_at c.vector is js _ m related (subst (λ z. m < z) (sym loops) g);
+          related = are_related c.vector is js related;
           first_touches = a.touches;
           second_touches = b.touches;
         },
@@ -188,16 +182,14 @@ module _ (n : Nest) (plain : IsPlain n.body) (text : IsNestText (run_nest n)) (r
 
     edge_covers : (g : Graph) → IsGraphOf n g → HasEdgeFor g (as_candidate c k) → HasArc g
     edge_covers g h e =
-        let s = source n g e.edge h e.among in
-        let places : length e.edge.dirs.at ≡ 7 = s.vector.places in
-        let few = short in
-        let covers = covers_allowed c.vector e.edge.dirs.at _ (omega arith) e.stands.dirs.at in (
+        let d = e.stands.dirs in
+        let covers = covers_for c.vector d.vector (replicate (7 - length d.vector) Any) d.stands.allowed in (
           arc_of e.edge,
           arc_in g.edges e.edge e.among,
           (
             ap place_of e.stands.from,
             ap place_of e.stands.to,
-            subst (λ m. Covers (signs m e.edge.dirs.at) c.vector) (sym e.stands.dirs.len) covers,
+            subst (λ (x : Dirs). Covers (signs x.len x.at) c.vector) (sym d.places) covers,
           ),
         )
 
@@ -225,21 +217,21 @@ module _ (n : Nest) (plain : IsPlain n.body) (text : IsNestText (run_nest n)) (r
   module _ (e : Edge) (s : Source n e) where
     has_level : IsForward n e s → HasLevel (arc_of e).signs
     has_level (inl led) =
-        subst (λ m. HasLevel (signs m e.dirs.at)) (sym s.vector.len) (has_led s.couple.refs.common e.dirs.at led)
+        subst (λ m. HasLevel (signs m e.dirs.at)) (sym (vector n e s ready).len) (has_led (common_in n e s) e.dirs.at led)
     has_level (inr equal) =
-        subst (λ m. HasLevel (signs m e.dirs.at)) (sym s.vector.len) (has_equal s.couple.refs.common e.dirs.at equal.0)
+        subst (λ m. HasLevel (signs m e.dirs.at)) (sym (vector n e s ready).len) (has_equal (common_in n e s) e.dirs.at equal.0)
 
     abbrev own_candidate : Candidate
     own_candidate = record {
       from = place_of s.couple.from;
       to = place_of s.couple.to;
-      vector = directions s.couple.refs.common e.dirs.at;
+      vector = directions (common_in n e s) e.dirs.at;
     }
 
     begins : IsForward n e s
-        → orders.MayBegin (directions s.couple.refs.common e.dirs.at) s.couple.from.stmt s.couple.to.stmt
-    begins (inl led) = begins_led s.couple.refs.common e.dirs.at s.couple.from.stmt s.couple.to.stmt led
-    begins (inr equal) = begins_equal s.couple.refs.common e.dirs.at s.couple.from.stmt s.couple.to.stmt equal.0 equal.1
+        → orders.MayBegin (directions (common_in n e s) e.dirs.at) s.couple.from.stmt s.couple.to.stmt
+    begins (inl led) = begins_led (common_in n e s) e.dirs.at s.couple.from.stmt s.couple.to.stmt led
+    begins (inr equal) = begins_equal (common_in n e s) e.dirs.at s.couple.from.stmt s.couple.to.stmt equal.0 equal.1
 
     is_place : (p : Place) (x : Standing) (r : Reference) → IsReference n p x r
         → In p.stmt (statements (shape_of 0 n.body)) × (p.at < length (references_of (run_nest n) p.stmt))
@@ -249,12 +241,12 @@ module _ (n : Nest) (plain : IsPlain n.body) (text : IsNestText (run_nest n)) (r
           (slice_get_within (graph_references.references_of x) p.at r h.reference),
     )
 
-    many : length (directions s.couple.refs.common e.dirs.at) ≡ s.couple.refs.common
+    many : length (directions (common_in n e s) e.dirs.at) ≡ (common_in n e s)
     many =
         let short = few n e s ready in
-        let places : length e.dirs.at ≡ 7 = s.vector.places in
-        length-map (take s.couple.refs.common e.dirs.at) direction_of
-        ∙ length-take-le s.couple.refs.common e.dirs.at (omega arith)
+        let places : length e.dirs.at ≡ 7 = (vector n e s ready).places in
+        length-map (take (common_in n e s) e.dirs.at) direction_of
+        ∙ length-take-le (common_in n e s) e.dirs.at (omega arith)
 
     own_is : IsCandidate own_candidate
     own_is =
@@ -263,25 +255,24 @@ module _ (n : Nest) (plain : IsPlain n.body) (text : IsNestText (run_nest n)) (r
           is_place s.couple.to refs.second refs.second_reference refs.second_is,
           one_written s.couple.from.at s.couple.to.at s.couple.kind s.is.kind,
           many
-              ∙ (common_is n s.couple s.is
               ∙ sym (common_there n s.couple.from.stmt s.couple.to.stmt refs.first refs.second refs.first_is.statement
-              refs.second_is.statement)),
-          begins (forward n e s ready),
+              refs.second_is.statement),
+          begins (forward n e s),
         )
 
     own_stands : StandsFor (arc_of e) own_candidate
     own_stands = (
       ap place_of s.from,
       ap place_of s.to,
-      subst (λ m. Covers (signs m e.dirs.at) (directions s.couple.refs.common e.dirs.at)) (sym s.vector.len)
-          (covers_own s.couple.refs.common e.dirs.at),
+      subst (λ m. Covers (signs m e.dirs.at) (directions (common_in n e s) e.dirs.at)) (sym (vector n e s ready).len)
+          (covers_own (common_in n e s) e.dirs.at),
     )
 
   levels : (g : Graph) → IsGraphOf n g → (a : Arc) → In a (arcs_of g.edges) → HasLevel a.signs
   levels g h a i =
       let r = of_edge g.edges a i in
       let s = source n g r.0 h r.1 in
-      subst (λ (x : Arc). HasLevel x.signs) (sym r.2) (has_level r.0 s (forward n r.0 s ready))
+      subst (λ (x : Arc). HasLevel x.signs) (sym r.2) (has_level r.0 s (forward n r.0 s))
 
   stands : (g : Graph) → IsGraphOf n g → (a : Arc) → In a (arcs_of g.edges) → (c : Candidate) × IsCandidate c × StandsFor a c
   stands g h a i =

@@ -1,30 +1,31 @@
 -- Where an edge of a graph comes from, and what its vector is.
-use Rattle.std.proofs.Common.{◌≡◌, ◌⊎◌, ℕ, suc, ◌+◌, ◌<◌, ◌≤◌, ◌==◌, Bool, true, false, cond, List, [], ◌∷◌, ◌++◌}
-use Rattle.std.proofs.Common.{length, map, Some, refl, sym, ap, subst, ◌∙◌, inl, inr, arith}
+use Rattle.std.proofs.Common.{◌≡◌, ◌⊎◌, ℕ, suc, ◌+◌, ◌-◌, ◌<◌, ◌≤◌, ◌==◌, Bool, true, false, cond, List, [], ◌∷◌, ◌++◌}
+use Rattle.std.proofs.Common.{zero, length, get_or, map, replicate, Some, refl, sym, ap, subst, ◌∙◌, inl, inr, arith}
 use mathlib.Core.Path.{ap₂}
-use Rattle.std.specs.Prelude.{All, IsTrue, slice_get}
+use Rattle.std.specs.Prelude.{All, slice_get}
+use Rattle.std.proofs.lemmas.List.{get_or_past}
+use Rattle.subscripts.specs.declared.affine.Dir.{Dir}
+use Rattle.subscripts.specs.declared.affine.Dir.TheVariants.{Lt, Eq, Gt, Any}
 use Rattle.subscripts.specs.declared.affine.Dirs.{Dirs}
-use Rattle.subscripts.specs.declared.verdict.Verdict.{Verdict}
-use Rattle.subscripts.specs.declared.verdict.Verdict.TheVariants.{Never, Pair as Met, Assumed}
 use Rattle.components.specs.Lists.{In}
 use Rattle.dependence_graph.specs.declared.graphs.Edge.{Edge}
 use Rattle.dependence_graph.specs.declared.graphs.Graph.{Graph}
-use Rattle.direction_vectors.specs.Candidates.{Answer, CoversCandidates, IsCandidate, IsCovered, IsEqualAlone}
-use Rattle.direction_vectors.specs.Candidates.{IsLedAt, dir_at}
-use Rattle.direction_vectors.specs.vector_tests.Refs.{IsVectorOf}
-use Rattle.dependence_graph.specs.nest_graph.Arcs.{Couple, edge_of, edges_of, level_of, with_some}
-use Rattle.dependence_graph.specs.nest_graph.Graph.{IsCouple, IsGraphOf, all_edges}
+use Rattle.dependence_graph.specs.nest_graph.Arcs.{Answer, Assumed, Couple, Met, Never, Verdict, edge_of, edges_of, in_places}
+use Rattle.dependence_graph.specs.nest_graph.Arcs.{level_of, with_some}
+use Rattle.dependence_graph.specs.nest_graph.Graph.{IsCouple, IsGraphOf, all_edges, candidate_of}
+use Rattle.dependence_graph.specs.nest_graph.Pair.{IsCandidate}
 use Rattle.dependence_graph.specs.nest_graph.Ready.{IsReady, IsReadyStatement}
 use Rattle.dependence_graph.specs.nest_graph.Tested.{common_of}
-use Rattle.dependence_graph.proofs.nest_graph.Coupled.{common_is, stands_earlier}
+use Rattle.dependence_graph.specs.nest_graph.Vectors.{MayComeFirst, StandsFor}
+use Rattle.dependence_graph.proofs.dep_graph.Directions.{places_length, with_anys}
 use Rattle.nest.specs.Bodies.{Standing, nest_statements}
 use Rattle.nest.specs.Plain.{Loop, Nest}
 use Rattle.nest_order.specs.orders.Graphs.{level_after}
 use Rattle.nest_order.specs.orders.Graphs as orders
 use Rattle.nest_order.specs.orders.Nests.{Carried, Level}
 use Rattle.emission.specs.emission_pieces.Shapes as pieces
-use Rattle.emission.proofs.GraphEdges.Vectors.{led_level, equal_level, filled, filled_at, filled_is_covered, plain_equal}
-use Rattle.emission.proofs.GraphEdges.Vectors.{plain_less}
+use Rattle.dependence_graph.proofs.nest_graph.Filled.{filled, filled_length, filled_stands}
+use Rattle.emission.proofs.GraphEdges.Vectors.{led_level, equal_level}
 use Rattle.emission.specs.graph_orders.Arcs.{arc_of, arcs_of}
 use Rattle.emission.specs.graph_orders.Laws.{ArcsAreEdges}
 use Rattle.emission.proofs.GraphOrders.Lists.{all_there}
@@ -47,13 +48,13 @@ in_either {X} x (z ∷ xs) ys h =
 
 -- ---- where an edge comes from
 
-abbrev Made : Couple → Dirs → Edge → Type 0
-Made c d e = (e.from ≡ c.from) × (e.to ≡ c.to) × (e.dirs ≡ d) × (e.level ≡ level_of d)
+abbrev Made : Couple → List Dir → Edge → Type 0
+Made c d e = (e.from ≡ c.from) × (e.to ≡ c.to) × (e.dirs ≡ in_places d) × (e.level ≡ level_of (in_places d))
 
-made_so : (c : Couple) (d : Dirs) (e f : Edge) → e ≡ f → Made c d f → Made c d e
+made_so : (c : Couple) (d : List Dir) (e f : Edge) → e ≡ f → Made c d f → Made c d e
 made_so c d e f h m = subst (Made c d) (sym h) m
 
-first : (c : Couple) (d : Dirs) (v : Verdict) (e : Edge) (es : List Edge) → In e (with_some (edge_of c d v) es)
+first : (c : Couple) (d : List Dir) (v : Verdict) (e : Edge) (es : List Edge) → In e (with_some (edge_of c d v) es)
     → Made c d e ⊎ In e es
 first c d (Never w) e es h = inr h
 first c d (Met x y w) e es h = elim h [ inl f ↦ inl (made_so c d e _ f (refl, refl, refl, refl)) | inr r ↦ inr r ]
@@ -81,8 +82,12 @@ pub record Source (n : Nest) (e : Edge) : Type 0 where
   pub from : e.from ≡ couple.from
   pub to : e.to ≡ couple.to
   pub level : e.level ≡ level_of e.dirs
-  pub vector : IsVectorOf couple.refs e.dirs
-  pub candidates : (v : Dirs) → IsCovered couple.refs e.dirs v → IsCandidate couple.refs v
+  pub directions : List Dir
+  pub dirs : e.dirs ≡ in_places directions
+  pub candidates : (v : List Dir) → StandsFor directions v → IsCandidate n (candidate_of couple v)
+
+abbrev CoversCandidates : Nest → Couple → Answer → Type 0
+CoversCandidates n c a = (v : List Dir) → StandsFor a.0 v → IsCandidate n (candidate_of c v)
 
 source_by : (n : Nest) (c : Couple) (a : Answer) (e : Edge) → IsCouple n c → In a c.answers → Made c a.0 e → Source n e
 source_by n c a e h i m = record {
@@ -91,9 +96,9 @@ source_by n c a e h i m = record {
   from = m.0;
   to = m.1;
   level = m.3 ∙ ap level_of (sym m.2);
-  vector = subst (IsVectorOf c.refs) (sym m.2) (all_in (λ (b : Answer). IsVectorOf c.refs b.0) c.answers a i h.vectors);
-  candidates = subst (λ d. (v : Dirs) → IsCovered c.refs d v → IsCandidate c.refs v) (sym m.2)
-      (all_in (CoversCandidates c.refs) c.answers a i h.candidates);
+  directions = a.0;
+  dirs = m.2;
+  candidates = all_in (CoversCandidates n c) c.answers a i h.candidates;
 }
 
 pub source : (n : Nest) (g : Graph) (e : Edge) → IsGraphOf n g → In e g.edges → Source n e
@@ -122,58 +127,86 @@ few_common n k x y h e =
 
 -- ---- its vector
 
-pub few : (n : Nest) (e : Edge) (s : Source n e) → IsReady n → s.couple.refs.common ≤ 7
-few n e s ready =
-    let refs = s.is.refs in
-    subst (λ c. c ≤ 7) (sym (common_is n s.couple s.is))
-    (few_common n s.couple.from.stmt refs.first refs.second ready refs.first_is.statement)
+abbrev pub common_in : (n : Nest) (e : Edge) → Source n e → ℕ
+common_in n e s = common_of s.is.refs.first.loops s.is.refs.second.loops
+
+pub few : (n : Nest) (e : Edge) (s : Source n e) → IsReady n → common_in n e s ≤ 7
+few n e s ready = few_common n s.couple.from.stmt s.is.refs.first s.is.refs.second ready s.is.refs.first_is.statement
+
+same_standing : (x y : Standing) (k : ℕ) (n : Nest) → slice_get (nest_statements n) k ≡ Some x → slice_get (nest_statements n) k ≡ Some y → x ≡ y
+same_standing x y k n e f = let g : Some x ≡ Some y = sym e ∙ f in cc
+
+-- with a direction for each loop round both
+pub long : (n : Nest) (e : Edge) (s : Source n e) → length s.directions ≡ common_in n e s
+long n e s =
+    let c = s.candidates (filled s.directions) (filled_stands s.directions) in
+    let first = same_standing c.refs.first s.is.refs.first s.couple.from.stmt n c.refs.first_is.statement s.is.refs.first_is.statement in
+    let second = same_standing c.refs.second s.is.refs.second s.couple.to.stmt n c.refs.second_is.statement s.is.refs.second_is.statement in
+    sym (filled_length s.directions) ∙ c.loops ∙ ap₂ (λ (x y : Standing). common_of x.loops y.loops) first second
+
+-- in seven places
+pub record AreInPlaces (common : ℕ) (d : Dirs) : Type 0 where
+  pub places : length d.at ≡ 7
+  pub len : d.len ≡ common
+  pub past_len : (k : ℕ) → common ≤ k → get_or d.at k Any ≡ Any
+
+pub vector : (n : Nest) (e : Edge) (s : Source n e) → IsReady n → AreInPlaces (common_in n e s) e.dirs
+vector n e s ready =
+    let l = long n e s in let f = few n e s ready in
+    subst (AreInPlaces (common_in n e s)) (sym s.dirs) (record {
+      places = places_length s.directions (omega arith);
+      len = l;
+      past_len = λ k h. with_anys s.directions (7 - length s.directions) k ∙ get_or_past s.directions k Any (omega arith);
+    })
 
 -- the first direction other than `=` is `<`, or all are `=` and the first statement stands earlier
 abbrev pub IsForward : (n : Nest) (e : Edge) → Source n e → Type 0
 IsForward n e s =
-    IsLed s.couple.refs.common e.dirs.at
-    ⊎ (IsEqual s.couple.refs.common e.dirs.at × (s.couple.from.stmt < s.couple.to.stmt))
+    IsLed (common_in n e s) e.dirs.at ⊎ (IsEqual (common_in n e s) e.dirs.at × (s.couple.from.stmt < s.couple.to.stmt))
 
-forward_by : (n : Nest) (e : Edge) (s : Source n e) → s.couple.refs.common ≤ 7
-    → ((k : ℕ) × IsLedAt s.couple.refs (filled s.couple.refs.common e.dirs) k)
-    ⊎ (IsTrue s.couple.refs.same_turn × IsEqualAlone s.couple.refs (filled s.couple.refs.common e.dirs)) → IsForward n e s
-forward_by n e s short (inl led) =
-    let inside : led.0 < s.couple.refs.common = led.1.common in
-    inl (record {
-      at = led.0;
-      inside = inside;
-      before = λ m g. plain_equal (dir_at e.dirs m)
-          (sym (filled_at s.couple.refs e.dirs short s.vector m (omega arith)) ∙ led.1.before m g);
-      less = plain_less (dir_at e.dirs led.0)
-          (sym (filled_at s.couple.refs e.dirs short s.vector led.0 inside) ∙ led.1.less);
-    })
-forward_by n e s short (inr equal) = inr (
-  (λ m g. plain_equal (dir_at e.dirs m) (sym (filled_at s.couple.refs e.dirs short s.vector m g) ∙ equal.1 m g)),
-  stands_earlier n s.couple s.is equal.0,
-)
+equal_too : (ds : List Dir) (c : ℕ) → IsEqual c ds → IsEqual (suc c) (Eq ∷ ds)
+equal_too ds c h zero l = refl
+equal_too ds c h (suc m) l = h m (omega arith)
 
-pub forward : (n : Nest) (e : Edge) (s : Source n e) → IsReady n → IsForward n e s
-forward n e s ready =
-    let short = few n e s ready in
-    forward_by n e s short
-    (s.candidates (filled s.couple.refs.common e.dirs) (filled_is_covered s.couple.refs e.dirs short s.vector)).led
+led_or_equal : (p q : ℕ) (ds rest : List Dir) → MayComeFirst p q (filled ds)
+    → IsLed (length ds) (ds ++ rest) ⊎ (IsEqual (length ds) (ds ++ rest) × (p < q))
+led_or_equal p q [] rest h = inr ((λ m l. absurd (omega arith)), h)
+led_or_equal p q (Lt ∷ ds) rest h =
+    inl (record { at = 0; inside = omega arith; before = λ m l. absurd (omega arith); less = refl })
+led_or_equal p q (Eq ∷ ds) rest h = further (led_or_equal p q ds rest h)
+  where
+    further : IsLed (length ds) (ds ++ rest) ⊎ (IsEqual (length ds) (ds ++ rest) × (p < q))
+        → IsLed (suc (length ds)) (Eq ∷ (ds ++ rest)) ⊎ (IsEqual (suc (length ds)) (Eq ∷ (ds ++ rest)) × (p < q))
+    further (inl l) =
+        let inside : l.at < length ds = l.inside in
+        inl (record { at = suc l.at; inside = omega arith; before = equal_too (ds ++ rest) l.at l.before; less = l.less })
+    further (inr f) = inr (equal_too (ds ++ rest) (length ds) f.0, f.1)
+led_or_equal p q (Gt ∷ ds) rest h = absurd h
+led_or_equal p q (Any ∷ ds) rest h = absurd h
+
+pub forward : (n : Nest) (e : Edge) (s : Source n e) → IsForward n e s
+forward n e s =
+    let c = s.candidates (filled s.directions) (filled_stands s.directions) in
+    subst (λ (d : Dirs). IsLed (common_in n e s) d.at ⊎ (IsEqual (common_in n e s) d.at × (s.couple.from.stmt < s.couple.to.stmt))) (sym s.dirs)
+    (subst (λ (k : ℕ). IsLed k (in_places s.directions).at ⊎ (IsEqual k (in_places s.directions).at × (s.couple.from.stmt < s.couple.to.stmt))) (long n e s)
+    (led_or_equal s.couple.from.stmt s.couple.to.stmt s.directions (replicate (7 - length s.directions) Any) c.forward))
 
 -- ---- its level
 
-level_by : (n : Nest) (e : Edge) (s : Source n e) → IsForward n e s
-    → level_after 0 (signs s.couple.refs.common e.dirs.at) ≡ pieces.level_of e.level
-level_by n e s (inl led) =
+level_by : (n : Nest) (e : Edge) (s : Source n e) → IsReady n → IsForward n e s
+    → level_after 0 (signs (common_in n e s) e.dirs.at) ≡ pieces.level_of e.level
+level_by n e s ready (inl led) =
     let k : led.at ≡ 0 + led.at = omega arith in
-    level_led s.couple.refs.common e.dirs.at led
+    level_led (common_in n e s) e.dirs.at led
     ∙ (ap Carried k ∙ sym (ap pieces.level_of (s.level ∙ led_level 0 led.at e.dirs.at led.before led.less)))
-level_by n e s (inr equal) =
-    level_equal s.couple.refs.common e.dirs.at equal.0
-    ∙ sym (ap pieces.level_of (s.level ∙ equal_level 0 s.couple.refs.common e.dirs.at equal.0 s.vector.past_len))
+level_by n e s ready (inr equal) =
+    level_equal (common_in n e s) e.dirs.at equal.0
+    ∙ sym (ap pieces.level_of (s.level ∙ equal_level 0 (common_in n e s) e.dirs.at equal.0 (vector n e s ready).past_len))
 
 arc_is : (n : Nest) (e : Edge) (s : Source n e) → IsReady n → orders.edge_of (arc_of e) ≡ pieces.edge_of e
 arc_is n e s ready =
     ap (λ (l : Level). record { from = e.from.stmt; to = e.to.stmt; level = l })
-    (ap (λ c. level_after 0 (signs c e.dirs.at)) s.vector.len ∙ level_by n e s (forward n e s ready))
+    (ap (λ c. level_after 0 (signs c e.dirs.at)) (vector n e s ready).len ∙ level_by n e s ready (forward n e s))
 
 each_same : (es : List Edge) → ((e : Edge) → In e es → orders.edge_of (arc_of e) ≡ pieces.edge_of e)
     → map orders.edge_of (arcs_of es) ≡ pieces.edges_of es

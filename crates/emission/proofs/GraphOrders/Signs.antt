@@ -1,9 +1,10 @@
 -- The signs of an arc: their level, and what they cover.
-use Rattle.std.proofs.Common.{◌≡◌, ℕ, zero, suc, ◌+◌, ◌<◌, ◌≤◌, List, [], ◌∷◌, ◌++◌, length, get_or, map, take}
+use Rattle.std.proofs.Common.{◌≡◌, ℕ, zero, suc, ◌+◌, ◌<◌, List, [], ◌∷◌, ◌++◌, length, get_or, map, take}
 use Rattle.std.proofs.Common.{refl, sym, ap, subst, ◌∙◌, inl, inr, arith}
 use Rattle.subscripts.specs.declared.affine.Dir.{Dir}
 use Rattle.subscripts.specs.declared.affine.Dir.TheVariants.{Lt, Eq, Gt, Any}
-use Rattle.direction_vectors.specs.Candidates.{Allows}
+use Rattle.std.specs.List.{AllZip}
+use Rattle.dependence_graph.specs.nest_graph.Vectors.{Allows}
 use Rattle.nest_order.specs.orders.Graphs.{Direction, Less, Same, Greater, Sign, Just, Covers, HasLevel, MayBegin, level_after}
 use Rattle.nest_order.specs.orders.Nests.{Carried, Independent}
 use Rattle.emission.specs.graph_orders.Arcs.{sign_of}
@@ -127,11 +128,8 @@ allowed_one : (d : Dir) (v : Direction) (ss : List Sign) (vs : List Direction) �
 allowed_one d v ss vs (inl e) h = subst (λ z. Covers (sign_of z ∷ ss) (v ∷ vs)) (sym e) h
 allowed_one d v ss vs (inr e) h = subst (λ z. Covers (z ∷ ss) (v ∷ vs)) (sym (ap sign_of e ∙ same_sign v)) (refl, h)
 
-pub covers_allowed : (vs : List Direction) (ds rest : List Dir) → length vs ≤ length ds
-    → ((m : ℕ) → m < length vs → Allows (get_or ds m Any) (get_or (map dir_of vs ++ rest) m Any))
-    → Covers (signs (length vs) ds) vs
-covers_allowed [] ds rest long h = tt
-covers_allowed (v ∷ vs) [] rest long h = absurd (omega arith)
-covers_allowed (v ∷ vs) (d ∷ ds) rest long h =
-    allowed_one d v (signs (length vs) ds) vs (h 0 (omega arith))
-    (covers_allowed vs ds rest (omega arith) (λ m g. h (suc m) (omega arith)))
+pub covers_for : (vs : List Direction) (ds rest : List Dir) → AllZip Allows ds (map dir_of vs) → Covers (signs (length ds) (ds ++ rest)) vs
+covers_for [] [] rest h = tt
+covers_for (v ∷ vs) [] rest h = absurd h
+covers_for [] (d ∷ ds) rest h = absurd h
+covers_for (v ∷ vs) (d ∷ ds) rest h = allowed_one d v (signs (length ds) (ds ++ rest)) vs h.0 (covers_for vs ds rest h.1)

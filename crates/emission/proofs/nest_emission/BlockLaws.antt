@@ -15,7 +15,7 @@ use Rattle.array_form.specs.Statement.{block_of_one}
 use Rattle.emission.specs.emission_pieces.Emission.{AreEmittedFor, HasToTurn, IsEmittedFor}
 use Rattle.emission.specs.emission_pieces.Levels.{AreComponents}
 use Rattle.emission.specs.emission_pieces.Pieces.{Piece, Kept, Formed, Turning, Pieces, no_pieces, piece, block_of_piece, block_of_pieces, formed_block, kept_statement, turning_statement}
-use Rattle.nest.specs.Blocks.{block_then}
+use Rattle.nest.specs.Allocations.{block_then}
 use Rattle.nest.specs.Plain.{Nest}
 use Rattle.emission.specs.nest_emission.Blocks.{IsBlockFor, IsBlockForAll, IsBlockInLoop, IsBlockOfPart}
 

@@ -14,7 +14,8 @@ use Rattle.components.proofs.ClassLaws.{In-concat}
 use Rattle.components.proofs.ListLaws.{Each-In}
 use Rattle.components.proofs.Walks.{Reaches-trans}
 use Rattle.emission.specs.emission_pieces.Levels.{AreComponents, ArePairsAt, is_at_work, joins}
-use Rattle.emission.specs.emission_pieces.Nests.{AreEdgesOf, IsEdgeOf, common_of, loops_at}
+use Rattle.emission.specs.emission_pieces.Nests.{loops_at}
+use Rattle.emission.specs.emission_pieces.Edges.{AreEdgesOf, IsEdgeOf, common_of}
 use Rattle.emission.proofs.EmissionPieces.Lists.{any_in}
 use Rattle.nest.specs.Bodies.{nest_statements}
 use Rattle.nest.specs.Plain.{Loop, Nest}

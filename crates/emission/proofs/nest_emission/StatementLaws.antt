@@ -23,7 +23,8 @@ use Rattle.emission.specs.emission_pieces.Pieces.{formed_block, kept_statement, 
 use Rattle.nest.specs.Bodies as bodies
 use Rattle.nest.specs.Plain.{Loop, Nest}
 use Rattle.nest.specs.View.{loop_of}
-use Rattle.array_form.specs.holds.Surroundings.{counted, known_trip, surroundings_of, surroundings_view}
+use Rattle.array_form.specs.holds.Surroundings.{counted, known_trip, surroundings_of}
+use Rattle.array_form.specs.holds.View.{surroundings_view}
 use Rattle.array_form.specs.declared.holds.loops.Surroundings.{Surroundings}
 use Rattle.nest.specs.statement_loops.Standings.{standing_of}
 use Rattle.nest.specs.declared.statement_loops.standings.Standing.{Standing}

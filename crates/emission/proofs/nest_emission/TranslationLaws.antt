@@ -12,7 +12,7 @@ use Rattle.tree.specs.declared.stmts.Stmt.TheVariants as stmts
 use Rattle.tree.proofs.Equations.{statement_of-allocate, statement_of-deallocate}
 use Rattle.components.specs.Lists.{In, Distinct}
 use Rattle.components.proofs.ListLaws.{Each-from}
-use Rattle.nest.specs.Blocks.{allocation_then, allocations_then, block_then, deallocation_then, deallocations}
+use Rattle.nest.specs.Allocations.{allocation_then, allocations_then, block_then, deallocation_then, deallocations}
 use Rattle.nest.specs.Bodies.{nest_statements}
 use Rattle.nest.specs.Plain.{Made, Nest}
 use Rattle.nest.specs.View.{made_of}

@@ -4,11 +4,11 @@ use Rattle.tree.specs.Plain.{Declaration, Expression, Number, Binary}
 use Rattle.tree.specs.declared.ops.Kind.TheVariants.{Integer}
 use Rattle.tree.specs.declared.ops.Op.TheVariants.{Div}
 use Rattle.meaning.specs.Typed.{declared}
-use Rattle.array_form.specs.forms.Loops.{AreDistinct}
+use Rattle.array_form.specs.forms.Trips.{AreDistinct}
 use Rattle.emission.specs.emission_pieces.Nests.{loops_at}
 use Rattle.emission.specs.graph_orders.Nests.{run_nest}
 use Rattle.linear_forms.specs.Linear.{Form, form_of}
-use Rattle.linear_forms.specs.Places.{IsAffineOf}
+use Rattle.linear_forms.specs.Affines.{IsAffineOf}
 use Rattle.nest_order.specs.orders.Lists.{In}
 use Rattle.nest_order.specs.orders.Shapes.{loops}
 use Rattle.nest_order.specs.runs.Stores.{Setting}

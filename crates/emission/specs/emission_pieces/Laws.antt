@@ -11,7 +11,7 @@ use Rattle.nest_order.specs.shapes.Shapes as nests
 use Rattle.nest.specs.Bodies.{loops_of, nest_statements}
 use Rattle.nest.specs.Plain.{Nest}
 use Rattle.emission.specs.emission_pieces.Emission.{AreEmitted}
-use Rattle.emission.specs.emission_pieces.Nests.{AreEdgesOf}
+use Rattle.emission.specs.emission_pieces.Edges.{AreEdgesOf}
 use Rattle.emission.specs.emission_pieces.Pieces.{Pieces}
 use Rattle.emission.specs.emission_pieces.Shapes.{edges_of, numbers_at, shapes_of}
 

@@ -2,7 +2,7 @@
 use Rattle.std.specs.Prelude.{ℕ, suc, ◌+◌, pos, Some, length}
 use Rattle.tree.specs.Plain.{Number, Statement, Assignment, Do, Block, no_statements, statement}
 use Rattle.tree.specs.declared.stmts.Mark.{Mark}
-use Rattle.nest.specs.Blocks.{block_then, allocations_then, deallocations}
+use Rattle.nest.specs.Allocations.{block_then, allocations_then, deallocations}
 use Rattle.nest.specs.Plain.{Loop, Nest}
 use Rattle.array_form.specs.forms.Statements.{array_form_of}
 use Rattle.array_form.specs.holds.Surroundings.{surroundings_of}

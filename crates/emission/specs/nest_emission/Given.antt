@@ -5,7 +5,8 @@ use Rattle.dependence_graph.specs.declared.graphs.Edge.{Edge}
 use Rattle.dependence_graph.specs.declared.graphs.Graph.{Graph}
 use Rattle.dependence_graph.specs.declared.graphs.Hold.{Hold}
 use Rattle.emission.specs.emission_pieces.Emission.{HasToTurn, IsEmittedFor}
-use Rattle.emission.specs.emission_pieces.Nests.{AreEdgesOf, loops_at}
+use Rattle.emission.specs.emission_pieces.Nests.{loops_at}
+use Rattle.emission.specs.emission_pieces.Edges.{AreEdgesOf}
 use Rattle.emission.specs.emission_pieces.Pieces as pieces
 use Rattle.nest.specs.Bodies.{Standing, nest_statements}
 use Rattle.nest.specs.Plain.{Nest}

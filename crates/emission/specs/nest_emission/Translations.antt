@@ -1,7 +1,7 @@
 -- The statements round what is emitted for a nest.
 use Rattle.std.specs.Prelude.{ℕ, List, [], ◌∷◌}
 use Rattle.tree.specs.Plain.{Expression, Statement, Allocate, Deallocate, Block, expressions}
-use Rattle.nest.specs.Blocks.{allocations_then, block_then, deallocations}
+use Rattle.nest.specs.Allocations.{allocations_then, block_then, deallocations}
 use Rattle.nest.specs.Plain.{Made, Nest}
 
 -- those of one made array; a scalar has none

@@ -5,7 +5,7 @@ ghost use Rattle.emission.specs.emission_pieces.Nests.{loops_at};
 ghost use Rattle.emission.specs.emission_pieces.Pieces.{formed_block, kept_statement, turning_statement};
 ghost use Rattle.tree.specs.Plain.{block};
 ghost use Rattle.tree.specs.View.{block_of, statement_of};
-ghost use Rattle.nest.specs.Blocks.{block_then};
+ghost use Rattle.nest.specs.Allocations.{block_then};
 ghost use Rattle.nest.specs.Bodies.{nest_statements};
 ghost use Rattle.nest.specs.View.{loop_of};
 ghost use Rattle.array_form.specs.Statement.{block_of_one};

@@ -2,7 +2,7 @@
 -- elements, a logical IF becomes a block IF of one arm, labels stand only where a GO TO names them, and variables are
 -- declared in byte order.
 use Rattle.std.specs.Prelude.{Result, Ok, Err, ℕ, suc, ◌==◌, ℤ, pos, negsuc, Bool, true, false, Option, None, Some}
-use Rattle.std.specs.Prelude.{if◌then◌else◌, List, [], ◌∷◌, ◌++◌, map}
+use Rattle.std.specs.Prelude.{if◌then◌else◌, List, [], ◌∷◌, map}
 use Rattle.std.specs.List.{list_any, filter, flat_map, fold}
 use Rattle.std.specs.Cmp.Lexicographic.{slice_cmp}
 use Rattle.std.specs.Ordering.{nat_cmp, match_ordering}
@@ -18,15 +18,15 @@ use Rattle.tree.specs.declared.ops.Value.{Value}
 use Rattle.tree.specs.declared.ops.Value.TheVariants.{Int, Truth}
 use Rattle.meaning.specs.Dialect.{Dialect}
 use Rattle.meaning.specs.Store.{Store}
-use Rattle.f77_grammar.specs.Statement77.{Labelled, Statement77, Assign, Go, Test, If, ElseIf, Else, EndIf, Do, Stop}
+use Rattle.f77_grammar.specs.Statement77.{Labelled, Statement77, Assign, Go, Test, If, Stop}
 use Rattle.f77_grammar.specs.Statement77.{Read, Print}
 use Rattle.f77_grammar.specs.declared.directions.Direction.{Direction}
 use Rattle.f77_grammar.specs.declared.directions.Direction.TheVariants.{Output, Input}
 use Rattle.tree.specs.Functions.{function_named}
-use Rattle.f77_grammar.specs.program.Text.{action, is_label}
-use Rattle.f77_grammar.specs.program.Uses.{Use, uses_in_text, is_title, names_that, is_variable, is_constant, is_array}
+use Rattle.f77_grammar.specs.program.Text.{action}
+use Rattle.f77_grammar.specs.program.Uses.{Use, is_variable, is_constant, is_array}
 use Rattle.f77_grammar.specs.program.Uses.{kind_of_name}
-use Rattle.f77_grammar.specs.program.Limits.{constants_of, dimension_of, bounds_of_name}
+use Rattle.f77_grammar.specs.program.Limits.{dimension_of, bounds_of_name}
 
 -- ---- expressions
 

@@ -2,7 +2,7 @@
 use Rattle.std.specs.Prelude.{◌≡◌, ℕ, false, Option, Some, None, List, [], ◌∷◌}
 use Rattle.tree.specs.View.{expression_of, statement_of}
 use Rattle.tree.specs.Plain as tree
-use Rattle.tree.specs.Plain.{Expression, Reference, Item, Items, Statement}
+use Rattle.tree.specs.Plain.{Reference, Item, Items, Statement}
 use Rattle.tree.specs.declared.functions.Intrinsic.{Intrinsic}
 use Rattle.tree.specs.declared.stmts.Stmt.{Stmt}
 use Rattle.f90_grammar.specs.Phrases.{Phrase, tree_of, value_of_digits}

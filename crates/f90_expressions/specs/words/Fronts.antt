@@ -3,7 +3,7 @@ use Rattle.std.specs.Prelude.{ℕ, ◌≡◌, ◌==◌, ◌<◌, ◌≤◌, leng
 use Rattle.std.specs.Prelude.{Result, Ok, Err}
 use Rattle.std.specs.Borrow.{Bor}
 use Rattle.f90_grammar.specs.Words as words
-use Rattle.f90_grammar.specs.Words.{Word, Char, Stops, is_letter, HasWords}
+use Rattle.f90_grammar.specs.Words.{Word, Char, Stops, is_letter}
 use Rattle.f90_expressions.specs.words.Lexing.{Front, Run, run}
 use Rattle.f90_expressions.specs.words.Symbols.{symbols_of}
 use Rattle.f90_expressions.specs.words.Tokens.{word_of, words_of}

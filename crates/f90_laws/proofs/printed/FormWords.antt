@@ -251,14 +251,14 @@ good_expressions : (ps : List Phrase) → AllByRecursion IsGood ps → AllByRecu
 good_expressions [] h = tt
 good_expressions (p ∷ ps) h = (h.0.0, good_expressions ps h.1)
 
-pub allocate_spelled : (x : List ℕ) (p : Phrase) (ps : List Phrase) → IsName x → AllByRecursion IsGood (p ∷ ps) → length (p ∷ ps) ≤ 7 → IsSpelled (forms.Allocate x (p ∷ ps))
-allocate_spelled x p ps h g k =
+pub allocate_spelled : (x : List ℕ) (p : Phrase) (ps : List Phrase) → IsName x → AllByRecursion IsGood (p ∷ ps) → IsSpelled (forms.Allocate x (p ∷ ps))
+allocate_spelled x p ps h g =
     spelled (forms.Allocate x (p ∷ ps))
     (subst (λ ws. Leads After Start (form_text (forms.Allocate x (p ∷ ps))) (words.Head (codes "ALLOCATE") ∷ (words.Head x ∷ ws)))
     (append_assoc (separated written_extent (p ∷ ps)) (words.Close ∷ []) (words.Close ∷ []))
     (spaced_head Start tt (codes "ALLOCATE") (keyword_name (codes "ALLOCATE") refl)
     (inside (join (head_word Start tt x h (inside (join (separated_lead extent_text written_extent IsGood extent_leads comma_word p ps g.0 g.1) close_word))) close_word))))
-    (refl, (g.0.0, good_expressions ps g.1), k) refl
+    (refl, (g.0.0, good_expressions ps g.1)) refl
 
 pub deallocate_spelled : (x : List ℕ) → IsName x → IsSpelled (forms.Deallocate x)
 deallocate_spelled x h =

@@ -8,7 +8,8 @@ use Rattle.tree.specs.Plain.{Expression, Item, Items, Declaration}
 use Rattle.meaning.specs.Depths.{depth_of, depth_of_item, depth_of_items}
 use Rattle.meaning.specs.Typed90.{HasKind, HasSomeKind, IsOutputItem, AreOutputItems, IsInputItem, AreInputItems}
 use Rattle.f90_grammar.specs.Phrases.{depth, SuitsCalls}
-use Rattle.f90_grammar.specs.Items.{ItemPhrases, Sole, More, item_depth, items_depth, step_depth, ItemSuitsCalls, ItemsSuitCalls, StepSuitsCalls}
+use Rattle.f90_grammar.specs.Items.{ItemPhrases, Sole, More, item_depth, items_depth, step_depth}
+use Rattle.f90_grammar.specs.ItemCalls.{ItemSuitsCalls, ItemsSuitCalls, StepSuitsCalls}
 use Rattle.f90_grammar.specs.Printing.{phrase_of, is_one}
 use Rattle.f90_grammar.specs.PrintedForms.{step_phrase, item_phrase, item_phrases, more_items}
 use Rattle.f90_grammar.specs.Reading.{function_by}

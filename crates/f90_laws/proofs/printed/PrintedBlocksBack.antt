@@ -7,12 +7,13 @@ use Rattle.meaning.specs.Profile90.{IsProgram90}
 use Rattle.f90_grammar.specs.PrintedForms.{Printed, printed_program}
 use Rattle.f90_grammar.specs.PrintedText.{IsNote, printed90}
 use Rattle.f90_laws.specs.printed.Spelled.{IsSpelled}
-use Rattle.f90_laws.specs.printed.ReadBack.{IsReadBack, IsFreeLine}
+use Rattle.f90_laws.specs.printed.Laws.{IsReadBack, IsFreeLine}
 use Rattle.f90_laws.proofs.printed.PrintedBlocksItems.{EachReadsBack}
 use Rattle.f90_laws.proofs.printed.PrintedBlocksProgram.{program_back}
 use Rattle.f90_laws.proofs.printed.PrintedLines.{IsReadable, text_read, lines_free}
 use Rattle.f90_laws.proofs.printed.PrintedLinesEnds.{spelled_end}
 use Rattle.f90_laws.proofs.printed.PrintedLinesTaken.{MarkSuits, program_suits}
+use Rattle.f90_laws.proofs.unrefused.ProgramParts.{is_program}
 
 pub each_readable : (ss : List Printed) → AllByRecursion (λ (s : Printed). IsSpelled s.form) ss → AllByRecursion MarkSuits ss → AllByRecursion IsReadable ss
 each_readable [] h k = tt
@@ -29,7 +30,7 @@ text_back p notes h good spelled back =
       statements = t.placed;
       program = r.program;
       of_text = t.of_text;
-      are = r.are;
+      are = is_program t.placed r.program r.are;
       title = r.title;
       same = r.same;
     }

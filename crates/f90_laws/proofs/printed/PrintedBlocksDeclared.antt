@@ -12,10 +12,11 @@ use Rattle.f90_grammar.specs.Phrases.{value_of_digits}
 use Rattle.f90_grammar.specs.Forms as forms
 use Rattle.f90_grammar.specs.PrintedForms.{bound, dimension, dimensions_of, is_allocatable, printed_declaration}
 use Rattle.f90_grammar.specs.Blocks.{Placed, at}
-use Rattle.f90_grammar.specs.Reading.{bound_value, dimension_bounds, extent_of, entity_declaration, AreDeclared}
-use Rattle.f90_grammar.specs.Reading.AreDeclared.{none as nothing, more}
+use Rattle.f90_grammar.specs.Reading.{bound_value, dimension_bounds, extent_of, entity_declaration}
 use Rattle.f90_laws.proofs.printed.PrintedBlocksPlaced.{ArePlaced}
 use Rattle.f90_laws.proofs.printed.PrintedBlocksPlaced.ArePlaced.{none, next}
+use Rattle.f90_laws.proofs.printed.PrintedParts.{AreDeclared}
+use Rattle.f90_laws.proofs.printed.PrintedParts.AreDeclared.{none as nothing, more}
 
 -- ---- bounds
 

@@ -7,10 +7,7 @@ use Rattle.meaning.specs.Profile90.{IsProgram90}
 use Rattle.f90_grammar.specs.Forms as forms
 use Rattle.f90_grammar.specs.PrintedForms.{unmarked, title_of, printed_declaration, printed_block, printed_program}
 use Rattle.f90_grammar.specs.Blocks.{Placed, at, AreBlock}
-use Rattle.f90_grammar.specs.Reading.{is_target_in, function_by, IsProgramOf}
-use Rattle.f90_grammar.specs.Reading.IsTitle.{titled}
-use Rattle.f90_grammar.specs.Reading.MayBeImplicitNone.{present}
-use Rattle.f90_grammar.specs.Reading.IsEnd.{end}
+use Rattle.f90_grammar.specs.Reading.{is_target_in, function_by}
 use Rattle.f90_laws.specs.printed.ReadBack.{SameButNumbers}
 use Rattle.f90_laws.proofs.printed.PrintedBlocksItems.{EachReadsBack}
 use Rattle.f90_laws.proofs.printed.PrintedBlocksPlaced.{ArePlaced, IsDivided, divide, ReadBlock}
@@ -19,10 +16,14 @@ use Rattle.f90_laws.proofs.printed.PrintedBlocksPlaced.IsDivided.{divided}
 use Rattle.f90_laws.proofs.printed.PrintedBlocks.{block_back}
 use Rattle.f90_laws.proofs.printed.PrintedBlocksTargets.{same_target, labels_named}
 use Rattle.f90_laws.proofs.printed.PrintedBlocksDeclared.{declared_back}
+use Rattle.f90_laws.proofs.printed.PrintedParts.{HasParts}
+use Rattle.f90_laws.proofs.printed.PrintedParts.IsTitle.{titled}
+use Rattle.f90_laws.proofs.printed.PrintedParts.MayBeImplicitNone.{present}
+use Rattle.f90_laws.proofs.printed.PrintedParts.IsEnd.{end}
 
 pub record ReadProgram (p : Program) (ps : List Placed) : Type 0 where
   pub program : Program
-  pub are : IsProgramOf ps program
+  pub are : HasParts ps program
   pub declared : are.in_text ≡ p.declarations
   pub title : program.name ≡ Some (title_of p.name)
   pub same : SameButNumbers p program

@@ -5,7 +5,7 @@ use Rattle.std.specs.Str.Lines.{lines}
 use Rattle.std.proofs.lemmas.Bool.{and_from, not_from_false}
 use Rattle.tree.specs.Plain.{Program}
 use Rattle.tree.specs.declared.stmts.Mark.{Mark}
-use Rattle.meaning.specs.Names.{is_letter, is_digit, begins_with}
+use Rattle.meaning.specs.Names.{begins_with, is_letter, is_digit}
 use Rattle.meaning.specs.Profile90 as profile
 use Rattle.f90_grammar.specs.FreeForm.{FreeStatement, AreStatements, AreComments, AreMarks, statement_at, characters, pieces_of}
 use Rattle.f90_grammar.specs.FreeForm.AreStatements.{ends, begins}
@@ -21,7 +21,7 @@ use Rattle.f90_laws.proofs.printed.PrintedBlocksPlaced.ArePlaced.{none, next}
 use Rattle.f90_laws.proofs.printed.PrintedLinesText.{lines_again}
 use Rattle.f90_laws.proofs.printed.PrintedLinesPieces.{ends_well, begins_well, IsText, first_block, text_blocks, text_pieces, text-written, text-characters, text-comments}
 use Rattle.f90_laws.proofs.printed.PrintedLinesMarks.{AreFree, inside_lines, text_free, marks_of, marks_are, mark_lines_free, marks_comments, notes_are, notes_comments, notes_free}
-use Rattle.f90_laws.specs.printed.ReadBack.{IsFreeLine}
+use Rattle.f90_laws.specs.printed.Laws.{IsFreeLine}
 use Rattle.f90_laws.proofs.printed.Spelling.{all_append}
 
 -- a statement that can be read: it has its words, and its mark, if it has one, is one that it takes

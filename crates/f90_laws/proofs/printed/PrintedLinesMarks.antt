@@ -11,7 +11,7 @@ use Rattle.meaning.specs.Profile90 as profile
 use Rattle.f90_grammar.specs.FreeForm.{IsMarkNumber, IsMark, AreMarks, AreComments, is_comment_line}
 use Rattle.f90_grammar.specs.FreeForm.AreMarks.{none, mark, other}
 use Rattle.f90_grammar.specs.PrintedText.{IsNote, mark_text, mark_lines, piece_length, further_pieces, pieces, continued, lines_of_text}
-use Rattle.f90_laws.specs.printed.ReadBack.{IsFreeLine}
+use Rattle.f90_laws.specs.printed.Laws.{IsFreeLine}
 use Rattle.f90_laws.proofs.printed.PrintedLinesText.{IsLine}
 use Rattle.f90_laws.proofs.printed.Spelling.{all_append}
 

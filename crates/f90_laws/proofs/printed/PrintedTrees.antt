@@ -29,7 +29,9 @@ use Rattle.meaning.specs.Depths.{depth_of, depth_of_each, depth_of_subscripts, d
 use Rattle.f90_grammar.specs.Phrases.{Phrase, Paren, Value, Parts, One, Then, Phrases, Sole, More, Turn, Innermost, Round, level, depth, depth_of_part, depth_of_parts, depth_of_values, depth_of_turn}
 use Rattle.f90_grammar.specs.Phrases.{tree_of, length_of_values, AreValues, SuitsFunction, SuitsCalls, PartSuitsCalls, PartsSuitCalls, ValuesSuitCalls, TurnSuitsCalls}
 use Rattle.f90_grammar.specs.Printing.{fit, unary_phrase, is_one, section, part_of, more_parts, more_arguments, more_values, rounds}
-use Rattle.f90_grammar.specs.Printing.{phrase_of, IsLiteral, is_negating, HasSome, SuitsLoops, IsOpen, IsSource, EachIsSource, IsSourceSubscript, AreSource, LoopsAreSource}
+use Rattle.f90_grammar.specs.Printing.{phrase_of}
+use Rattle.f90_grammar.specs.Sources.{IsLiteral, is_negating, HasSome, SuitsLoops, IsOpen, IsSource, EachIsSource}
+use Rattle.f90_grammar.specs.Sources.{IsSourceSubscript, AreSource, LoopsAreSource}
 use Rattle.f90_grammar.specs.Reading.{declares, function_by}
 use Rattle.f90_grammar.proofs.PrintingLaws.{back}
 

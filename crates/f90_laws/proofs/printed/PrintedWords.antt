@@ -12,7 +12,7 @@ use Rattle.tree.specs.Plain as tree
 use Rattle.tree.specs.Plain.{Expression, Expressions, Subscripts, Reference, Items, Statement, Arms, Block, Extent, Given, Later, Declaration, Program}
 use Rattle.tree.specs.Limits.{array_dimensions}
 use Rattle.meaning.specs.Names.{IsLongName}
-use Rattle.meaning.specs.Typed.{declared, number_of_arguments}
+use Rattle.meaning.specs.Typed.{declared}
 use Rattle.meaning.specs.Typed90.{AreScalars, AreOutputItems, AreInputItems}
 use Rattle.meaning.specs.Value.{named}
 use Rattle.meaning.specs.Blocks.{Surroundings, outermost, within_loop, before_labels, label_of, labels_of, IsLabel}
@@ -46,10 +46,6 @@ is_reference r (tree.subscript s ss) = tt
 
 label_length : (n : ℕ) → n < 100000 → length (decimal n) ≤ 5
 label_length n h = length-decimal-le_wide 5 n (omega arith) h (omega arith)
-
-number_of_phrases : (es : Expressions) → length (phrases_of es) ≡ number_of_arguments es
-number_of_phrases tree.no_expressions = refl
-number_of_phrases (tree.expression e es) = let k = number_of_phrases es in omega arith
 
 extent_within : (e : Extent) (n : ℕ) → IsExtent e → e ≡ Later n → (1 ≤ n) × (n ≤ array_dimensions)
 extent_within (Given bs) n h e = absurd cc
@@ -95,9 +91,7 @@ module _ (ds : List Declaration) (each : AllByRecursion IsDeclaration ds) where
   allocation x tree.no_expressions h =
       from_some (declared ds x) _ _ (λ d e k. absurd (omega (arith, (extent_within d.extent 0 (declaration_of ds x d each e).extent k).0))) h.0
   allocation x (tree.expression f es) h =
-      from_some (declared ds x) _ _
-      (λ d e k. allocate_spelled x (phrase_of f) (phrases_of es) (declared_name ds x _ each h.0) (phrases_good (tree.expression f es) Integer h.1)
-      (omega (arith, number_of_phrases es, (extent_within d.extent (number_of_arguments (tree.expression f es)) (declaration_of ds x d each e).extent k).1))) h.0
+      allocate_spelled x (phrase_of f) (phrases_of es) (declared_name ds x _ each h.0) (phrases_good (tree.expression f es) Integer h.1)
 
   read : (is : Items) (around : List (List ℕ)) → AreInputItems ds is around → IsSpelled (read_form is)
   read tree.no_items w h = read_nothing

@@ -8,13 +8,13 @@ use Rattle.f90_grammar.specs.FreeForm.{FreeStatement}
 use Rattle.f90_grammar.specs.Blocks.{Placed}
 use Rattle.f90_grammar.specs.Contents.{SuitsCallsIn}
 use Rattle.f90_grammar.specs.Declared.{functions_in}
-use Rattle.f90_grammar.specs.Refusals.{HasNoForm, HoldsIn, HasCause, Reads90}
+use Rattle.f90_grammar.specs.Refusals.{HasNoForm, HoldsIn, HasCause, Conforms90}
 use Rattle.f90_grammar.specs.Refusals.HasCause.{InLines, InWords, InStatements}
 use Rattle.f90_laws.proofs.readings.Lists.{all_at}
 use Rattle.f90_laws.proofs.unique.Lines.{statements_once, one_text}
 use Rattle.f90_laws.specs.unrefused.Unrefused.{IsReadWell}
 use Rattle.f90_laws.proofs.unrefused.Unrefused.{read_well}
-use Rattle.f90_laws.specs.read_back.ReadBack.{PrintedProgramIsRead}
+use Rattle.f90_laws.specs.read_back.Laws.{PrintedProgramIsRead}
 use Rattle.f90_laws.proofs.read_back.DeclaredNames.{has_placed, same_functions}
 
 module _ (p : Program) (text : List ℕ) (w : IsReadWell p text) where
@@ -37,7 +37,7 @@ module _ (p : Program) (text : List ℕ) (w : IsReadWell p text) where
   no_cause r (InStatements ps c line of_text h) =
       w.causes c line (subst (λ (qs : List Placed). HoldsIn qs c line) (one_text text ps w.read_back.statements of_text w.read_back.of_text) h)
 
-  well : Reads90 text w.read_back.program
+  well : Conforms90 text w.read_back.program
   well =
       record {
         statements = w.read_back.statements;

@@ -1,58 +1,53 @@
 -- What is read of a text is a program of the profile.
-use Rattle.std.proofs.Common.{◌≡◌, ◌⊎◌, inl, inr, ℕ, ◌+◌, ◌*◌, ◌<◌, ◌≤◌, ◌^◌, nat_le, Bool, true, false, ◌&&◌, ◌||◌, cond, IsTrue, Option, None, Some, List, [], ◌∷◌, ◌++◌, length, filter, refl, sym, ap, subst, ◌∙◌, arith, Contains, append_assoc, append-nil, length-append}
+use Rattle.std.proofs.Common.{◌≡◌, ◌⊎◌, inl, inr, ℕ, ◌+◌, ◌<◌, ◌≤◌, nat_le, Bool, true, false, ◌||◌, cond, IsTrue, None, List, [], ◌∷◌, ◌++◌, length, filter, refl, sym, ap, subst, ◌∙◌, arith, Contains}
 use Rattle.std.specs.Prelude.{map, sum}
 use Rattle.std.specs.Option.{IfSome}
 use Rattle.std.specs.List.{AllByRecursion, list_any}
 use Rattle.std.specs.Str.Lines.{lines}
-use Rattle.std.proofs.lemmas.Grind.{flat_map-append}
 use Rattle.std.proofs.lemmas.Bool.Decides.{leb_tells}
-use Rattle.std.proofs.lemmas.List.Elements.{Contains-append_left}
 use Rattle.tree.specs.Limits as limits
 use Rattle.tree.specs.Causes.{refusal_at}
 use Rattle.tree.specs.Plain as tree
-use Rattle.tree.specs.Plain.{Declaration, Program, Statement, Block}
+use Rattle.tree.specs.Plain.{Declaration, Program, Statement}
 use Rattle.tree.specs.declared.refusals.Cause.{Cause}
-use Rattle.tree.specs.declared.refusals.Cause.TheVariants.{WideLiteral90, Deep90, Structure, Declared90, TypeClash90, Limit90, BadByte90}
-use Rattle.tree.specs.declared.functions.Intrinsic.{Intrinsic}
+use Rattle.tree.specs.declared.refusals.Cause.TheVariants.{Deep90, Structure, TypeClash90, Limit90, BadByte90}
 use Rattle.meaning.specs.Names.{IsLongName}
-use Rattle.meaning.specs.Blocks.{Surroundings, outermost, IsLine, IsWithoutRepeats, all_labels_in, targets_in, blocks_in, statements_in}
+use Rattle.meaning.specs.Blocks.{Surroundings, outermost, IsLine, IsWithoutRepeats, all_labels_in, targets_in}
 use Rattle.meaning.specs.Typed.{declared, dimensions}
 use Rattle.meaning.specs.Profile77.{array_elements}
-use Rattle.meaning.specs.Profile90.{IsDeclaration, AreDeclarations, IsBlock, IsProgram90}
-use Rattle.f90_grammar.specs.FreeForm.{Piece, written_piece, IsPiece, FreeStatement}
-use Rattle.f90_grammar.specs.LineCauses.{Standing, Between, is_in_constant, LeadTo, is_bad_byte, HasLineCause}
+use Rattle.meaning.specs.Profile90.{IsDeclaration, IsProgram90}
+use Rattle.f90_grammar.specs.FreeForm.{Piece, written_piece, IsPiece}
+use Rattle.f90_grammar.specs.LineCauses.{Standing, is_in_constant, LeadTo, is_bad_byte}
 use Rattle.f90_grammar.specs.LineCauses.LeadTo.{nothing}
 use Rattle.f90_grammar.specs.LineCauses.HasLineCause.{HoldsBadByte}
-use Rattle.f90_grammar.specs.Phrases.{depth}
 use Rattle.f90_grammar.specs.Words.{Word}
 use Rattle.f90_grammar.specs.Forms as forms
 use Rattle.f90_grammar.specs.Forms.{Form, IsWritten}
 use Rattle.f90_grammar.specs.Blocks.{Placed, AreBlock}
-use Rattle.f90_grammar.specs.Reading.{AreStatementsOf, is_target_in, IsTitle, MayBeImplicitNone, AreDeclared, function_by, IsProgramOf}
-use Rattle.f90_grammar.specs.Reading.MayBeImplicitNone.{absent, present}
-use Rattle.f90_grammar.specs.Reading.AreDeclared.{none, more}
-use Rattle.f90_grammar.specs.Reading.IsTitle.{untitled, titled}
+use Rattle.f90_grammar.specs.Reading.{is_target_in, function_by}
+use Rattle.f90_grammar.specs.Programs.{IsProgramOf}
 use Rattle.f90_grammar.specs.Contents.{SuitsCallsIn, expressions_of, variables_of, is_deep, has_deep_list, has_deep_expression}
-use Rattle.f90_grammar.specs.Order.{Place, IsPlaceIn, IsInOrder, is_nothing, is_disordered, is_executable, blocks_round, Opened, opened_behind}
+use Rattle.f90_grammar.specs.Order.{Place, IsPlaceIn, IsInOrder, is_nothing, is_executable, name_in, title_of, Opened, opened_by}
 use Rattle.f90_grammar.specs.Declared.{declarations_in, declarations_of, functions_in}
 use Rattle.f90_grammar.specs.Suited.{Suits}
-use Rattle.f90_grammar.specs.Surroundings.{StandsIn, line_of, SuitsSurroundings, label_in, is_wrong_label, AreBody, IsMisplaced}
+use Rattle.f90_grammar.specs.Surroundings.{StandsIn, line_of, SuitsSurroundings, IsMisplaced}
 use Rattle.f90_grammar.specs.Surroundings.IsMisplaced.{HasWrongLabel, HasWrongSurroundings}
-use Rattle.f90_grammar.specs.Bounds.{opens_block, declared_up_to, HasBounds, PassesLimit}
+use Rattle.f90_grammar.specs.Bounds.{HasBounds}
 use Rattle.f90_grammar.specs.Bounds.PassesLimit.{OfBlocks, OfBounds, OfElements}
-use Rattle.f90_grammar.specs.Refusals.{HoldsAt, HoldsIn, HasCause, Reads90}
-use Rattle.f90_grammar.specs.Refusals.HoldsIn.{AtPlace, HasNoStatement, IsWrongInBlocks}
+use Rattle.f90_grammar.specs.Refusals.{HoldsAt, Conforms90}
+use Rattle.f90_grammar.specs.Refusals.HoldsIn.{AtPlace, IsWrongInBlocks}
 use Rattle.f90_grammar.specs.Refusals.HasCause.{InLines, InStatements}
-use Rattle.f90_laws.proofs.readings.Lists.{here, there, cases_of, left_false, right_false, all_left, all_right, nowhere}
+use Rattle.f90_laws.proofs.readings.Lists.{here, there, cases_of, left_false, right_false}
 use Rattle.f90_laws.proofs.readings.Decisions.{affirmed, at_most}
-use Rattle.f90_laws.proofs.readings.FormFacts.{deepest, suits, each_shallow, IsFit, good_form}
-use Rattle.f90_laws.proofs.readings.Sound.{IsSoundBlock, is_block}
-use Rattle.f90_laws.proofs.readings.Bodies.{IsGood, IsGoodForm, sound_block}
-use Rattle.f90_laws.proofs.readings.Counts.{OpensWithin, within_left, within_right, HasInnerForm, HasInner, label_values, flat_labels, blocks_within, count, labels_are}
+use Rattle.f90_laws.proofs.readings.FormFacts.{suits, each_shallow, IsFit, good_form}
+use Rattle.f90_laws.proofs.readings.Sound.{is_block}
+use Rattle.f90_laws.proofs.readings.Bodies.{IsGood, sound_block}
+use Rattle.f90_laws.proofs.readings.Counts.{OpensWithin, HasInnerForm, HasInner, label_values, flat_labels, blocks_within, count, labels_are}
 use Rattle.f90_laws.proofs.readings.Targets.{named_in, jumps_in}
 use Rattle.f90_laws.proofs.readings.FreeLines.{lines-le, AreGoodStatements, good_statements, IsFormed, formed}
 use Rattle.f90_laws.proofs.readings.WordFacts.{IsWell, form_well, statement_words}
-use Rattle.f90_laws.proofs.readings.Tables.{body_is, same_functions, alike_in, bounds_fit, form_declares, all_declare, are_declarations}
+use Rattle.f90_laws.proofs.blocks.Endings.{executables, idle_opens}
+use Rattle.f90_laws.proofs.readings.Tables.{alike_in, bounds_fit, form_declares, all_declare, are_declarations}
 use Rattle.f90_laws.proofs.readings.PlaceFacts.{at_place, each_place, opens_within, labels_once}
 use Rattle.f90_laws.proofs.readings.SurroundingFacts.{suits_surroundings, surroundings_too}
 
@@ -109,10 +104,6 @@ inner (forms.Deallocate x) ws w = tt
 inner forms.End ws w = tt
 inner (forms.EndProgram x) ws w = tt
 
-title_name : (ps : List Placed) (o : Option (List ℕ)) → IsTitle ps o → AllByRecursion (λ (p : Placed). IsWell p.form) ps → IfSome o IsLongName
-title_name ps o untitled h = tt
-title_name ps o (titled line x) h = h.0
-
 -- ---- labels
 
 unfiltered : (t : ℕ → Bool) (ns : List ℕ) (n : ℕ) → Contains (filter t ns) n → Contains ns n
@@ -143,40 +134,70 @@ each_target t P f (n ∷ ns) = by (t n) refl (each_target t P f ns)
     by true e next = (f n e, next)
     by false e next = next
 
-repeats_left : (ms ns : List ℕ) → IsWithoutRepeats (ms ++ ns) → IsWithoutRepeats ms
-repeats_left [] ns h = tt
-repeats_left (m ∷ ms) ns h = (λ c. h.0 (Contains-append_left ms ns m c), repeats_left ms ns h.1)
+-- ---- the executable statements
 
-repeats_right : (ms ns : List ℕ) → IsWithoutRepeats (ms ++ ns) → IsWithoutRepeats ns
-repeats_right [] ns h = h
-repeats_right (m ∷ ms) ns h = repeats_right ms ns h.1
+all_kept : (P : Placed → Type 0) (ps : List Placed) → AllByRecursion P ps → AllByRecursion P (executables ps)
+all_kept P [] h = tt
+all_kept P (p ∷ ps) h = by (is_executable p.form) (all_kept P ps h.1)
+  where
+    by : (b : Bool) → AllByRecursion P (executables ps) → AllByRecursion P (cond b (p ∷ executables ps) (executables ps))
+    by true next = (h.0, next)
+    by false next = next
 
-flat : (xs ys : List Placed) → flat_labels (xs ++ ys) ≡ flat_labels xs ++ flat_labels ys
-flat xs ys = flat_map-append (λ (p : Placed). label_values p.form) xs ys
+opens_kept : (n : ℕ) (os : List Opened) (ps : List Placed) → OpensWithin n os ps → OpensWithin n os (executables ps)
+opens_kept n os [] h = tt
+opens_kept n os (p ∷ ps) h = by (is_executable p.form) refl (opens_kept n (opened_by p.form os) ps h.1)
+  where
+    by : (b : Bool) → is_executable p.form ≡ b → OpensWithin n (opened_by p.form os) (executables ps) → OpensWithin n os (cond b (p ∷ executables ps) (executables ps))
+    by true e next = (h.0, next)
+    by false e next = subst (λ o. OpensWithin n o (executables ps)) (idle_opens p.form os e) next
 
-front_repeats : (xs ys : List Placed) → IsWithoutRepeats (flat_labels (xs ++ ys)) → IsWithoutRepeats (flat_labels xs)
-front_repeats xs ys h = repeats_left (flat_labels xs) (flat_labels ys) (subst IsWithoutRepeats (flat xs ys) h)
+unlabelled : (f : Form) → is_executable f ≡ false → label_values f ≡ []
+unlabelled (forms.Program x) e = refl
+unlabelled forms.ImplicitNone e = refl
+unlabelled (forms.Declare k a es) e = refl
+unlabelled forms.End e = refl
+unlabelled (forms.EndProgram x) e = refl
+unlabelled f e = absurd cc
 
-back_repeats : (xs ys : List Placed) → IsWithoutRepeats (flat_labels (xs ++ ys)) → IsWithoutRepeats (flat_labels ys)
-back_repeats xs ys h = repeats_right (flat_labels xs) (flat_labels ys) (subst IsWithoutRepeats (flat xs ys) h)
+labels_kept : (ps : List Placed) → flat_labels (executables ps) ≡ flat_labels ps
+labels_kept [] = refl
+labels_kept (p ∷ ps) = by (is_executable p.form) refl (labels_kept ps)
+  where
+    by : (b : Bool) → is_executable p.form ≡ b → flat_labels (executables ps) ≡ flat_labels ps → flat_labels (cond b (p ∷ executables ps) (executables ps)) ≡ flat_labels (p ∷ ps)
+    by true e next = ap (λ ns. label_values p.form ++ ns) next
+    by false e next = next ∙ sym (ap (λ ns. ns ++ flat_labels ps) (unlabelled p.form e))
 
--- ---- what stands before the executable statements opens nothing
+fewer_kept : (ps : List Placed) → length (executables ps) ≤ length ps
+fewer_kept [] = omega arith
+fewer_kept (p ∷ ps) = by (is_executable p.form) (fewer_kept ps)
+  where
+    by : (b : Bool) → length (executables ps) ≤ length ps → length (cond b (p ∷ executables ps) (executables ps)) ≤ length (p ∷ ps)
+    by true next = omega arith
+    by false next = omega arith
 
-title_opens : (ps : List Placed) (o : Option (List ℕ)) (os : List Opened) → IsTitle ps o → opened_behind os ps ≡ os
-title_opens ps o os untitled = refl
-title_opens ps o os (titled line x) = refl
+-- ---- the first statement and the last one
 
-implicit_opens : (ps : List Placed) (os : List Opened) → MayBeImplicitNone ps → opened_behind os ps ≡ os
-implicit_opens ps os absent = refl
-implicit_opens ps os (present line) = refl
+titled_well : (ps : List Placed) → AllByRecursion (λ (p : Placed). IsWell p.form) ps → IfSome (title_of ps) IsLongName
+titled_well [] h = tt
+titled_well (p ∷ ps) h = by p.form h.0
+  where
+    by : (f : Form) → IsWell f → IfSome (name_in f) IsLongName
+    by (forms.Program x) w = w
+    by f w = tt
 
-declared_opens : (ps : List Placed) (ds : List Declaration) (os : List Opened) → AreDeclared ps ds → opened_behind os ps ≡ os
-declared_opens ps ds os none = refl
-declared_opens ps ds os (more line k a es rest es' h) = declared_opens rest es' os h
+record HasLast (ps : List Placed) : Type 0 where
+  front : List Placed
+  last : Placed
+  same : ps ≡ front ++ last ∷ []
 
-some_statements : (ps : List Placed) → (ps ≡ [] → ⊥) → is_nothing ps ≡ false
-some_statements [] h = absurd (h refl)
-some_statements (p ∷ ps) h = refl
+has_last : (p : Placed) (ps : List Placed) → HasLast (p ∷ ps)
+has_last p [] = record { front = []; last = p; same = refl }
+has_last p (q ∷ ps) = let k = has_last q ps in record { front = p ∷ k.front; last = k.last; same = ap (λ xs. p ∷ xs) k.same }
+
+some_last : (ps : List Placed) → is_nothing ps ≡ false → HasLast ps
+some_last [] h = absurd cc
+some_last (p ∷ ps) h = has_last p ps
 
 above : (m n : ℕ) → (n ≤ m → ⊥) → m < n
 above m n h = by (leb_tells n m)
@@ -187,7 +208,7 @@ above m n h = by (leb_tells n m)
 
 -- ---- the program
 
-module _ (text : List ℕ) (q : Program) (short : length text ≤ limits.deck_bytes90) (reads : Reads90 text q) where
+module _ (text : List ℕ) (q : Program) (short : length text ≤ limits.deck_bytes90) (reads : Conforms90 text q) where
   abbrev ps : List Placed
   ps = reads.statements
 
@@ -217,11 +238,8 @@ module _ (text : List ℕ) (q : Program) (short : length text ≤ limits.deck_by
   unfound : (c : Cause) (p : Place) → IsPlaceIn ps p → HoldsAt c ps p → ⊥
   unfound c p i h = reads.unrefused (refusal_at c p.here.line) (InStatements ps c p.here.line reads.of_text (AtPlace c p i h))
 
-  ordered : IsInOrder ps
-  ordered = record {
-    some = some_statements ps (λ e. reads.unrefused (refusal_at Structure 0) (InStatements ps Structure 0 reads.of_text (HasNoStatement e)));
-    none = λ p i. not_true (is_disordered ps p) (λ t. unfound Structure p i t);
-  }
+  abbrev ordered : IsInOrder ps
+  ordered = is.in_order
 
   misplaced : (line : ℕ) → IsMisplaced ps line → ⊥
   misplaced line m = reads.unrefused (refusal_at Structure line) (InStatements ps Structure line reads.of_text (IsWrongInBlocks line ordered m))
@@ -229,15 +247,15 @@ module _ (text : List ℕ) (q : Program) (short : length text ≤ limits.deck_by
   alike : (x : List ℕ) → declared ds x ≡ declared q.declarations x
   alike = alike_in ps q is
 
-  block : AreBlock (function_by ds) is_target is.body q.body
-  block = subst (λ f. AreBlock f is_target is.body q.body) (sym (same_functions ds q.declarations alike)) is.block
+  abbrev body : List Placed
+  body = executables ps
 
-  body : AreBody ps q.body
-  body = subst (λ b. AreBlock (functions_in ps) is_target b q.body) (sym (body_is ps q is)) block
+  abbrev block : AreBlock (function_by ds) is_target body q.body
+  block = is.body
 
   suit : (c : Statement) (w : Surroundings) → StandsIn q.body outermost c w → SuitsSurroundings q.declarations c w
   suit c w s =
-      surroundings_too ds q.declarations alike c w (affirmed (suits_surroundings ds c w) (λ n. misplaced (line_of c) (HasWrongSurroundings q.body c w body s n)))
+      surroundings_too ds q.declarations alike c w (affirmed (suits_surroundings ds c w) (λ n. misplaced (line_of c) (HasWrongSurroundings q.body c w is.body s n)))
 
   positive : (n : ℕ) → is_target n ≡ true → 0 < n
   positive n t = let j = jumps_in n q.body outermost (named_in n q.body t) in (suit (tree.GoTo j.line n) j.around j.stands).0
@@ -307,45 +325,17 @@ module _ (text : List ℕ) (q : Program) (short : length text ≤ limits.deck_by
 
   -- ---- those of the body
 
-  in_body : (P : Placed → Type 0) → AllByRecursion P ps → AllByRecursion P is.body
-  in_body P h =
-      let all = subst (AllByRecursion P) is.same h in
-      let a = all_right P is.title (is.implicit ++ (is.declared ++ (is.body ++ is.last ∷ []))) all in
-      let b = all_right P is.implicit (is.declared ++ (is.body ++ is.last ∷ [])) a in
-      let c = all_right P is.declared (is.body ++ is.last ∷ []) b in
-      all_left P is.body (is.last ∷ []) c
+  in_body : (P : Placed → Type 0) → AllByRecursion P ps → AllByRecursion P body
+  in_body P h = all_kept P ps h
 
-  body_opens : OpensWithin limits.block_depth90 [] is.body
-  body_opens =
-      let n = limits.block_depth90 in
-      let all = subst (OpensWithin n []) is.same (opens_within ps (λ pl i t. unfound Limit90 pl i (OfBlocks t))) in
-      let a = subst (λ o. OpensWithin n o (is.implicit ++ (is.declared ++ (is.body ++ is.last ∷ [])))) (title_opens is.title q.name [] is.is_title)
-      (within_right n [] is.title (is.implicit ++ (is.declared ++ (is.body ++ is.last ∷ []))) all) in
-      let b = subst (λ o. OpensWithin n o (is.declared ++ (is.body ++ is.last ∷ []))) (implicit_opens is.implicit [] is.is_implicit)
-      (within_right n [] is.implicit (is.declared ++ (is.body ++ is.last ∷ [])) a) in
-      let c = subst (λ o. OpensWithin n o (is.body ++ is.last ∷ [])) (declared_opens is.declared is.in_text [] is.are_declared) (within_right n [] is.declared (is.body ++ is.last ∷ []) b) in
-      within_left n [] is.body (is.last ∷ []) c
+  body_opens : OpensWithin limits.block_depth90 [] body
+  body_opens = opens_kept limits.block_depth90 [] ps (opens_within ps (λ pl i t. unfound Limit90 pl i (OfBlocks t)))
 
-  body_labels : IsWithoutRepeats (flat_labels is.body)
-  body_labels =
-      let all = subst (λ xs. IsWithoutRepeats (flat_labels xs)) is.same (labels_once ps (λ pl i t. misplaced pl.here.line (HasWrongLabel pl i t))) in
-      let a = back_repeats is.title (is.implicit ++ (is.declared ++ (is.body ++ is.last ∷ []))) all in
-      let b = back_repeats is.implicit (is.declared ++ (is.body ++ is.last ∷ [])) a in
-      let c = back_repeats is.declared (is.body ++ is.last ∷ []) b in
-      front_repeats is.body (is.last ∷ []) c
+  body_labels : IsWithoutRepeats (flat_labels body)
+  body_labels = subst IsWithoutRepeats (sym (labels_kept ps)) (labels_once ps (λ pl i t. misplaced pl.here.line (HasWrongLabel pl i t)))
 
-  labels_same : all_labels_in q.body ≡ filter is_target (flat_labels is.body)
-  labels_same = labels_are (function_by ds) is_target zero_free is.body q.body block (in_body HasInner inners)
-
-  body_short : length is.body ≤ length ps
-  body_short = omega (
-    arith,
-    ap length is.same,
-    length-append is.title (is.implicit ++ (is.declared ++ (is.body ++ is.last ∷ []))),
-    length-append is.implicit (is.declared ++ (is.body ++ is.last ∷ [])),
-    length-append is.declared (is.body ++ is.last ∷ []),
-    length-append is.body (is.last ∷ []),
-  )
+  labels_same : all_labels_in q.body ≡ filter is_target (flat_labels body)
+  labels_same = labels_are (function_by ds) is_target zero_free body q.body block (in_body HasInner inners)
 
   -- ---- declarations
 
@@ -355,26 +345,21 @@ module _ (text : List ℕ) (q : Program) (short : length text ≤ limits.deck_by
   abbrev size : List Declaration → ℕ
   size xs = sum (map (λ (d : Declaration). array_elements (dimensions d.extent)) xs)
 
-  abbrev front : List Placed
-  front = is.title ++ (is.implicit ++ (is.declared ++ is.body))
-
-  at_last : ps ≡ front ++ is.last ∷ []
-  at_last =
-      is.same ∙ (ap (λ xs. is.title ++ xs) (ap (λ xs. is.implicit ++ xs) (sym (append_assoc is.declared is.body (is.last ∷ []))) ∙ sym (append_assoc is.implicit (is.declared ++ is.body) (is.last ∷ [])))
-      ∙ sym (append_assoc is.title (is.implicit ++ (is.declared ++ is.body)) (is.last ∷ [])))
+  ending : HasLast ps
+  ending = some_last ps ordered.some
 
   few_elements : size ds ≤ limits.array_elements
   few_elements = affirmed (at_most (size ds) limits.array_elements)
-      (λ n. unfound Limit90 (at_place front is.last []) at_last (OfElements (above limits.array_elements (size (declarations_of (front ++ is.last ∷ [])))
-      (λ l. n (subst (λ xs. size (declarations_of xs) ≤ limits.array_elements) (sym at_last) l)))))
+      (λ n. unfound Limit90 (at_place ending.front ending.last []) ending.same (OfElements (above limits.array_elements (size (declarations_of (ending.front ++ ending.last ∷ [])))
+      (λ l. n (subst (λ xs. size (declarations_of xs) ≤ limits.array_elements) (sym ending.same) l)))))
 
   pub read_program : IsProgram90 q
   read_program = record {
-    name = title_name is.title q.name is.is_title (all_left Well is.title (is.implicit ++ (is.declared ++ (is.body ++ is.last ∷ []))) (subst (AllByRecursion Well) is.same wells));
+    name = subst (λ o. IfSome o IsLongName) (sym is.title) (titled_well ps wells);
     declarations = are_declarations ps q is each_declared few_elements;
-    statements = is_block q.declarations q.body outermost (sound_block (function_by ds) is_target q.declarations is.body q.body block (in_body Good goods)) suit;
-    blocks = omega (arith, blocks_within (function_by ds) is_target limits.block_depth90 is.body q.body [] block (in_body HasInner inners) (omega arith) body_opens);
-    labels = subst IsWithoutRepeats (sym labels_same) (sub_repeats is_target (flat_labels is.body) body_labels);
-    named = subst (AllByRecursion (Contains (targets_in q.body))) (sym labels_same) (each_target is_target (Contains (targets_in q.body)) (λ n t. named_in n q.body t) (flat_labels is.body));
-    few = omega (arith, count (function_by ds) is_target is.body q.body block (in_body HasInner inners), body_short, all_formed.1, good.few, lines-le text, short);
+    statements = is_block q.declarations q.body outermost (sound_block (function_by ds) is_target q.declarations body q.body block (in_body Good goods)) suit;
+    blocks = omega (arith, blocks_within (function_by ds) is_target limits.block_depth90 body q.body [] block (in_body HasInner inners) (omega arith) body_opens);
+    labels = subst IsWithoutRepeats (sym labels_same) (sub_repeats is_target (flat_labels body) body_labels);
+    named = subst (AllByRecursion (Contains (targets_in q.body))) (sym labels_same) (each_target is_target (Contains (targets_in q.body)) (λ n t. named_in n q.body t) (flat_labels body));
+    few = omega (arith, count (function_by ds) is_target body q.body block (in_body HasInner inners), fewer_kept ps, all_formed.1, good.few, lines-le text, short);
   }

@@ -1,5 +1,5 @@
 -- The declarations of a program as its text has them, and in byte order.
-use Rattle.std.proofs.Common.{◌≡◌, ◌⊎◌, inl, inr, ℕ, ◌+◌, ◌<◌, ◌≤◌, ◌^◌, ℤ, Bool, true, false, ◌||◌, cond, IsSomeAnd, Option, None, Some, List, [], ◌∷◌, ◌++◌, length, filter, flat_map, refl, sym, ap, subst, ◌∙◌, arith, Contains, append_assoc, append-nil, length-append}
+use Rattle.std.proofs.Common.{◌≡◌, ◌⊎◌, inl, inr, ℕ, ◌+◌, ◌≤◌, ◌^◌, ℤ, Bool, true, false, ◌||◌, cond, Option, None, Some, List, [], ◌∷◌, ◌++◌, length, refl, sym, ap, subst, ◌∙◌, arith, Contains, length-append}
 use mathlib.Core.Path.{fun_ext}
 use mathlib.Core.Logic.{⊎_elim}
 use Rattle.std.specs.Prelude.{map, sum, FitsSigned}
@@ -10,15 +10,13 @@ use Rattle.std.specs.Ordering.{nat_cmp, is_eq}
 use Rattle.std.specs.declared.cmp.Ordering.TheVariants.{Less}
 use Rattle.std.proofs.lemmas.Slice.Eq.{bytes_eq-Decides}
 use Rattle.std.proofs.lemmas.Map.Text.{is_eq-slice_cmp}
-use Rattle.std.specs.List.{AllByRecursion, list_any, fold}
-use Rattle.std.proofs.lemmas.Grind.{flat_map-append}
-use Rattle.std.proofs.lemmas.List.Elements.{filter-append, Contains-append_left, Contains-append_right, Contains-append_cases}
+use Rattle.std.specs.List.{AllByRecursion, fold}
+use Rattle.std.proofs.lemmas.List.Elements.{Contains-append_left, Contains-append_right, Contains-append_cases}
 use Rattle.tree.specs.Limits as limits
 use Rattle.tree.specs.Functions.{intrinsic_named}
 use Rattle.tree.specs.Plain as tree
-use Rattle.tree.specs.Plain.{Declaration, Program, Given, Later}
+use Rattle.tree.specs.Plain.{Declaration, Program}
 use Rattle.tree.specs.declared.ops.Kind.{Kind}
-use Rattle.tree.specs.declared.functions.Intrinsic.{Intrinsic}
 use Rattle.meaning.specs.Names.{IsLongName, IsInByteOrder}
 use Rattle.meaning.specs.Typed.{declared, dimensions}
 use Rattle.meaning.specs.Profile77.{array_elements}
@@ -27,136 +25,19 @@ use Rattle.meaning_laws.proofs.profiles.Names.{found, not_declared, once}
 use Rattle.f90_grammar.specs.Forms as forms
 use Rattle.f90_grammar.specs.Forms.{Form, Entity, Dimension, SuitsAllocatable, IsList, has_dimensions, IsEntity, IsWritten}
 use Rattle.f90_grammar.specs.Words.{Word}
-use Rattle.f90_grammar.specs.Blocks.{Placed, AreBlock}
-use Rattle.f90_grammar.specs.Reading.{declares, is_target_in, IsTitle, MayBeImplicitNone, IsEnd, dimension_bounds, extent_of, entity_declaration, AreDeclared, function_by, IsProgramOf}
-use Rattle.f90_grammar.specs.Reading.IsTitle.{untitled, titled}
-use Rattle.f90_grammar.specs.Reading.MayBeImplicitNone.{absent, present}
-use Rattle.f90_grammar.specs.Reading.IsEnd.{end, end_program, end_named}
-use Rattle.f90_grammar.specs.Reading.AreDeclared.{none, more}
-use Rattle.f90_grammar.specs.Order.{is_executable}
+use Rattle.f90_grammar.specs.Blocks.{Placed}
+use Rattle.f90_grammar.specs.Reading.{declares, dimension_bounds, extent_of, entity_declaration, function_by}
+use Rattle.f90_grammar.specs.Programs.{IsProgramOf}
 use Rattle.f90_grammar.specs.Declared.{declarations_in, declarations_of}
 use Rattle.f90_grammar.specs.Bounds.{HasBounds}
-use Rattle.f90_laws.proofs.readings.Lists.{here, there, nowhere, cases_of, all_left, all_right, all_both, all_weaker, all_at}
+use Rattle.f90_laws.proofs.readings.Lists.{here, there, nowhere, cases_of, all_both, all_at}
 use Rattle.f90_laws.proofs.readings.Decisions.{Decided, like, both, below, all_of}
-use Rattle.f90_laws.proofs.readings.Counts.{executable}
 use lib.Signed.{mag}
 use Rattle.f90_laws.proofs.readings.WordFacts.{IsWell}
 
--- ---- declarations of the parts of a program
-
-abbrev AreExecutable : List Placed → Type 0
-AreExecutable ps = AllByRecursion (λ (p : Placed). is_executable p.form ≡ true) ps
-
-no_declaration : (f : Form) → is_executable f ≡ true → declarations_in f ≡ []
-no_declaration (forms.Declare k a es) h = cc
-no_declaration (forms.Program x) h = refl
-no_declaration forms.ImplicitNone h = refl
-no_declaration (forms.Assign l r) h = refl
-no_declaration (forms.Where m l r) h = refl
-no_declaration (forms.Test p f) h = refl
-no_declaration (forms.If p) h = refl
-no_declaration (forms.ElseIf p) h = refl
-no_declaration forms.Else h = refl
-no_declaration forms.EndIf h = refl
-no_declaration (forms.Do x a b c) h = refl
-no_declaration forms.EndDo h = refl
-no_declaration (forms.Continue digits) h = refl
-no_declaration (forms.Go digits) h = refl
-no_declaration forms.Stop h = refl
-no_declaration (forms.Read is) h = refl
-no_declaration forms.ReadNothing h = refl
-no_declaration (forms.Print is) h = refl
-no_declaration forms.PrintNothing h = refl
-no_declaration (forms.Allocate x es) h = refl
-no_declaration (forms.Deallocate x) h = refl
-no_declaration forms.End h = refl
-no_declaration (forms.EndProgram x) h = refl
-
-none_in_body : (ps : List Placed) → AreExecutable ps → declarations_of ps ≡ []
-none_in_body [] h = refl
-none_in_body (p ∷ ps) h = ap (λ ds. ds ++ declarations_of ps) (no_declaration p.form h.0) ∙ none_in_body ps h.1
-
-none_in_title : (ps : List Placed) (o : Option (List ℕ)) → IsTitle ps o → declarations_of ps ≡ []
-none_in_title ps o untitled = refl
-none_in_title ps o (titled line x) = refl
-
-none_in_implicit : (ps : List Placed) → MayBeImplicitNone ps → declarations_of ps ≡ []
-none_in_implicit ps absent = refl
-none_in_implicit ps (present line) = refl
-
-none_in_end : (f : Form) (o : Option (List ℕ)) → IsEnd f o → declarations_in f ≡ []
-none_in_end f o (end p) = refl
-none_in_end f o (end_program p) = refl
-none_in_end f o (end_named x) = refl
-
-all_declared : (ps : List Placed) (ds : List Declaration) → AreDeclared ps ds → declarations_of ps ≡ ds
-all_declared ps ds none = refl
-all_declared ps ds (more line k a es rest es' h) = ap (λ xs. map (entity_declaration k a) es ++ xs) (all_declared rest es' h)
-
-split_declarations : (xs ys : List Placed) → declarations_of (xs ++ ys) ≡ declarations_of xs ++ declarations_of ys
-split_declarations xs ys = flat_map-append (λ (p : Placed). declarations_in p.form) xs ys
-
--- ---- executable statements of the parts
-
-filter_all : (ps : List Placed) → AreExecutable ps → filter (λ (p : Placed). is_executable p.form) ps ≡ ps
-filter_all [] h = refl
-filter_all (p ∷ ps) h = by (is_executable p.form) h.0 (filter_all ps h.1)
-  where
-    by : (b : Bool) → b ≡ true → filter (λ (p : Placed). is_executable p.form) ps ≡ ps → cond b (p ∷ filter (λ (p : Placed). is_executable p.form) ps) (filter (λ (p : Placed). is_executable p.form) ps) ≡ p ∷ ps
-    by true e h = ap (λ xs. p ∷ xs) h
-    by false e h = cc
-
-filter_title : (ps : List Placed) (o : Option (List ℕ)) → IsTitle ps o → filter (λ (p : Placed). is_executable p.form) ps ≡ []
-filter_title ps o untitled = refl
-filter_title ps o (titled line x) = refl
-
-filter_implicit : (ps : List Placed) → MayBeImplicitNone ps → filter (λ (p : Placed). is_executable p.form) ps ≡ []
-filter_implicit ps absent = refl
-filter_implicit ps (present line) = refl
-
-filter_declared : (ps : List Placed) (ds : List Declaration) → AreDeclared ps ds → filter (λ (p : Placed). is_executable p.form) ps ≡ []
-filter_declared ps ds none = refl
-filter_declared ps ds (more line k a es rest es' h) = filter_declared rest es' h
-
-filter_end : (p : Placed) (f : Form) (o : Option (List ℕ)) → p.form ≡ f → IsEnd f o → filter (λ (p : Placed). is_executable p.form) (p ∷ []) ≡ []
-filter_end p f o e (end q) = ap (λ g. cond (is_executable g) (p ∷ []) []) e
-filter_end p f o e (end_program q) = ap (λ g. cond (is_executable g) (p ∷ []) []) e
-filter_end p f o e (end_named x) = ap (λ g. cond (is_executable g) (p ∷ []) []) e
-
-module _ (ps : List Placed) (q : Program) (h : IsProgramOf ps q) where
-  body_executable : AreExecutable h.body
-  body_executable = executable (function_by q.declarations) (is_target_in q.body) h.body q.body h.block
-
-  pub in_text_is : declarations_of ps ≡ h.in_text
-  in_text_is =
-      ap declarations_of h.same
-      ∙ (split_declarations h.title (h.implicit ++ (h.declared ++ (h.body ++ h.last ∷ [])))
-      ∙ (ap (λ ds. ds ++ declarations_of (h.implicit ++ (h.declared ++ (h.body ++ h.last ∷ [])))) (none_in_title h.title q.name h.is_title)
-      ∙ (split_declarations h.implicit (h.declared ++ (h.body ++ h.last ∷ []))
-      ∙ (ap (λ ds. ds ++ declarations_of (h.declared ++ (h.body ++ h.last ∷ []))) (none_in_implicit h.implicit h.is_implicit)
-      ∙ (split_declarations h.declared (h.body ++ h.last ∷ [])
-      ∙ (ap (λ ds. ds ++ declarations_of (h.body ++ h.last ∷ [])) (all_declared h.declared h.in_text h.are_declared)
-      ∙ (ap (λ ds. h.in_text ++ ds) (split_declarations h.body (h.last ∷ [])
-      ∙ (ap (λ ds. ds ++ declarations_of (h.last ∷ [])) (none_in_body h.body body_executable) ∙ ap (λ ds. ds ++ []) (none_in_end h.last.form q.name h.is_last)))
-      ∙ append-nil h.in_text)))))))
-
-  pub body_is : filter (λ (p : Placed). is_executable p.form) ps ≡ h.body
-  body_is =
-      let is = λ (p : Placed). is_executable p.form in
-      ap (filter is) h.same
-      ∙ (filter-append is h.title (h.implicit ++ (h.declared ++ (h.body ++ h.last ∷ [])))
-      ∙ (ap (λ xs. xs ++ filter is (h.implicit ++ (h.declared ++ (h.body ++ h.last ∷ [])))) (filter_title h.title q.name h.is_title)
-      ∙ (filter-append is h.implicit (h.declared ++ (h.body ++ h.last ∷ []))
-      ∙ (ap (λ xs. xs ++ filter is (h.declared ++ (h.body ++ h.last ∷ []))) (filter_implicit h.implicit h.is_implicit)
-      ∙ (filter-append is h.declared (h.body ++ h.last ∷ [])
-      ∙ (ap (λ xs. xs ++ filter is (h.body ++ h.last ∷ [])) (filter_declared h.declared h.in_text h.are_declared)
-      ∙ (filter-append is h.body (h.last ∷ [])
-      ∙ (ap (λ xs. xs ++ filter is (h.last ∷ [])) (filter_all h.body body_executable)
-      ∙ (ap (λ xs. h.body ++ xs) (filter_end h.last h.last.form q.name refl h.is_last) ∙ append-nil h.body)))))))))
-
 -- ---- what a name is declared as
 
-both_declare : (ds es : List Declaration) (x : List ℕ) → ((d : Declaration) → Contains ds d → Contains es d) → ((d : Declaration) → Contains es d → Contains ds d)
+pub both_declare : (ds es : List Declaration) (x : List ℕ) → ((d : Declaration) → Contains ds d → Contains es d) → ((d : Declaration) → Contains es d → Contains ds d)
     → IsInByteOrder (map (λ (d : Declaration). d.name) es) → declared ds x ≡ declared es x
 both_declare ds es x to from sorted = by (declared ds x) refl (declared es x) refl
   where
@@ -183,8 +64,7 @@ same_functions ds es alike =
     fun_ext (λ x. ap (λ b. cond b None (intrinsic_named x)) (declares_is ds x (declared es x) (alike x) ∙ sym (declares_is es x (declared es x) refl)))
 
 pub alike_in : (ps : List Placed) (q : Program) → IsProgramOf ps q → (x : List ℕ) → declared (declarations_of ps) x ≡ declared q.declarations x
-alike_in ps q h x =
-    ap (λ ds. declared ds x) (in_text_is ps q h) ∙ both_declare h.in_text q.declarations x (λ d. (h.each d).0) (λ d. (h.each d).1) h.sorted
+alike_in ps q h x = both_declare (declarations_of ps) q.declarations x (λ d. (h.each d).0) (λ d. (h.each d).1) h.sorted
 
 -- ---- sums over the same declarations
 
@@ -322,11 +202,9 @@ pub are_declarations : (ps : List Placed) (q : Program) → IsProgramOf ps q →
     → sum (map (λ (d : Declaration). array_elements (dimensions d.extent)) (declarations_of ps)) ≤ limits.array_elements → AreDeclarations q.declarations
 are_declarations ps q h each few =
     let size = λ (d : Declaration). array_elements (dimensions d.extent) in
-    let in_text = subst (λ ds. AllByRecursion IsDeclaration ds) (in_text_is ps q h) each in
-    let most = subst (λ ds. sum (map size ds) ≤ limits.array_elements) (in_text_is ps q h) few in
-    let sums = same_sum size q.declarations h.in_text (sorted_apart q.declarations h.sorted) (λ d. (h.each d).1) h.once in
+    let sums = same_sum size q.declarations (declarations_of ps) (sorted_apart q.declarations h.sorted) (λ d. (h.each d).1) h.once in
     record {
-      each = among IsDeclaration h.in_text q.declarations in_text (λ d. (h.each d).1);
+      each = among IsDeclaration (declarations_of ps) q.declarations each (λ d. (h.each d).1);
       ordered = h.sorted;
-      elements = subst (λ n. n ≤ limits.array_elements) sums most;
+      elements = subst (λ n. n ≤ limits.array_elements) sums few;
     }

@@ -18,11 +18,12 @@ use Rattle.meaning.specs.Typed.{dimensions}
 use Rattle.meaning.specs.Profile77.{array_elements}
 use Rattle.meaning.specs.Profile90.{IsDimension, IsDeclaration, IsExtent}
 use Rattle.f90_grammar.specs.Blocks.{Placed}
-use Rattle.f90_grammar.specs.Reading.{entity_declaration, AreDeclared}
-use Rattle.f90_grammar.specs.Reading.AreDeclared.{none as nothing, more}
+use Rattle.f90_grammar.specs.Reading.{entity_declaration}
 use Rattle.f90_grammar.specs.Declared.{declarations_in, declarations_of, names_of, is_repeated, declares_again}
 use Rattle.f90_grammar.specs.Order.{Place, IsPlaceIn}
 use Rattle.f90_grammar.specs.Bounds.{HasBounds, declared_up_to}
+use Rattle.f90_laws.proofs.printed.PrintedParts.{AreDeclared}
+use Rattle.f90_laws.proofs.printed.PrintedParts.AreDeclared.{none as nothing, more}
 use Rattle.f90_laws.proofs.readings.Lists.{all_left, all_right, both_false}
 
 -- ---- which declarations there are

@@ -17,7 +17,7 @@ use Rattle.f90_grammar.specs.PrintedText.{printed_lines, program_lines, printed9
 use Rattle.f90_grammar.specs.LineCauses.{Standing, Between, Within, LeadTo, is_bad_byte, HasLineCause}
 use Rattle.f90_grammar.specs.LineCauses.LeadTo.{nothing, comment, piece}
 use Rattle.f90_grammar.specs.LineCauses.HasLineCause.{HoldsBadByte, IsLong, EndsWithin}
-use Rattle.f90_laws.specs.printed.ReadBack.{IsFreeLine}
+use Rattle.f90_laws.specs.printed.Laws.{IsFreeLine}
 use Rattle.f90_laws.proofs.printed.PrintedBlocksBack.{each_readable, text_lines_free}
 use Rattle.f90_laws.proofs.printed.PrintedLines.{same_lines}
 use Rattle.f90_laws.proofs.printed.PrintedLinesTaken.{program_suits}

@@ -11,9 +11,11 @@ use Rattle.tree.specs.declared.functions.Intrinsic.{Intrinsic}
 use Rattle.tree.specs.OperatorTable.{left_least, right_least}
 use Rattle.tree.specs.Plain as tree
 use Rattle.tree.specs.Plain.{Expression, Expressions, Subscript, Subscripts, Loops, Item, Items, Reference, Extent, Given, Later, Declaration}
-use Rattle.meaning.specs.Profile90.{IsDimension, IsExtent}
+use Rattle.meaning.specs.Profile90.{IsExtent, IsDimension}
 use Rattle.f90_grammar.specs.Phrases.{Phrase, Paren, Value, Parts, One, Then, Phrases, Sole, More, Turn, Innermost, Round, level, value_of_digits}
-use Rattle.f90_grammar.specs.Printing.{fit, unary_phrase, is_one, section, digits_of, phrase_of, part_of, more_parts, more_arguments, more_values, rounds, IsLiteral, IsSource, EachIsSource, IsSourceSubscript, AreSource, LoopsAreSource}
+use Rattle.f90_grammar.specs.Printing.{fit, unary_phrase, is_one, section, digits_of, phrase_of, part_of, more_parts}
+use Rattle.f90_grammar.specs.Printing.{more_arguments, more_values, rounds}
+use Rattle.f90_grammar.specs.Sources.{IsLiteral, IsSource, EachIsSource, IsSourceSubscript, AreSource, LoopsAreSource}
 use Rattle.f90_grammar.specs.PrintedForms.{bound, dimension, dimensions_of}
 use Rattle.f90_grammar.specs.Forms as forms
 use Rattle.f90_grammar.specs.Forms.{Form}

@@ -9,14 +9,15 @@ use Rattle.tree.specs.Plain.{Declaration, Program}
 use Rattle.f90_grammar.specs.Forms as forms
 use Rattle.f90_grammar.specs.Forms.{Form}
 use Rattle.f90_grammar.specs.Blocks.{Placed, at}
-use Rattle.f90_grammar.specs.Reading.{IsTitle, MayBeImplicitNone, IsEnd, AreDeclared, IsProgramOf, is_target_in, function_by}
-use Rattle.f90_grammar.specs.Reading.IsTitle.{untitled, titled}
-use Rattle.f90_grammar.specs.Reading.MayBeImplicitNone.{absent, present}
-use Rattle.f90_grammar.specs.Reading.IsEnd.{end, end_program, end_named}
-use Rattle.f90_grammar.specs.Reading.AreDeclared.{none as nothing, more}
+use Rattle.f90_grammar.specs.Reading.{is_target_in, function_by}
 use Rattle.f90_grammar.specs.Declared.{declarations_in, declarations_of}
 use Rattle.meaning.specs.Blocks.{blocks_in}
 use Rattle.f90_grammar.specs.Order.{Place, IsPlaceIn, is_title, is_end, is_executable, title_of, is_misnamed, is_late, ends_wrongly, opened_behind, is_disordered}
+use Rattle.f90_laws.proofs.printed.PrintedParts.{IsTitle, MayBeImplicitNone, IsEnd, AreDeclared, HasParts}
+use Rattle.f90_laws.proofs.printed.PrintedParts.IsTitle.{untitled, titled}
+use Rattle.f90_laws.proofs.printed.PrintedParts.MayBeImplicitNone.{absent, present}
+use Rattle.f90_laws.proofs.printed.PrintedParts.IsEnd.{end, end_program, end_named}
+use Rattle.f90_laws.proofs.printed.PrintedParts.AreDeclared.{none as nothing, more}
 use Rattle.f90_laws.proofs.readings.Counts.{executable, OpensWithin}
 use Rattle.f90_laws.proofs.readings.Lists.{both_false, all_right, all_both, all_weaker}
 use Rattle.f90_laws.proofs.unrefused.Blocks.{IsQuiet, AreQuiet, Close, AreClosed, close_both, close_at, closed_at, quiet_close, quiet_closed, quiet_within, within_both, block_closes, block_closed, block_within}
@@ -212,7 +213,7 @@ all_executed (p ∷ ps) h = cond-true (is_executable p.form) (p ∷ filter is_ex
 abbrev IsQuietPlaced : Placed → Type 0
 IsQuietPlaced p = IsQuiet p.form
 
-module _ (ps : List Placed) (q : Program) (h : IsProgramOf ps q) where
+module _ (ps : List Placed) (q : Program) (h : HasParts ps q) where
   -- before its block
   abbrev front : List Placed
   front = h.title ++ (h.implicit ++ h.declared)
@@ -244,7 +245,7 @@ module _ (ps : List Placed) (q : Program) (h : IsProgramOf ps q) where
   same_front =
       h.same ∙ (ap (λ xs. h.title ++ xs) (sym (append_assoc h.implicit h.declared (h.body ++ h.last ∷ []))) ∙ sym (append_assoc h.title (h.implicit ++ h.declared) (h.body ++ h.last ∷ [])))
 
-  same_last : ps ≡ (h.title ++ (h.implicit ++ (h.declared ++ h.body))) ++ h.last ∷ []
+  pub same_last : ps ≡ (h.title ++ (h.implicit ++ (h.declared ++ h.body))) ++ h.last ∷ []
   same_last =
       h.same ∙ (ap (λ xs. h.title ++ (h.implicit ++ xs)) (sym (append_assoc h.declared h.body (h.last ∷ [])))
       ∙ (ap (λ xs. h.title ++ xs) (sym (append_assoc h.implicit (h.declared ++ h.body) (h.last ∷ []))) ∙ sym (append_assoc h.title (h.implicit ++ (h.declared ++ h.body)) (h.last ∷ []))))

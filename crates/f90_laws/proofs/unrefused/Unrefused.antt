@@ -16,7 +16,7 @@ use Rattle.meaning.specs.Names.{IsInByteOrder}
 use Rattle.meaning.specs.Typed.{dimensions}
 use Rattle.f90_grammar.specs.PrintedForms.{Printed, printed_program}
 use Rattle.f90_grammar.specs.Blocks.{Placed, AreBlock}
-use Rattle.f90_grammar.specs.Reading.{IsProgramOf, is_target_in, function_by}
+use Rattle.f90_grammar.specs.Reading.{is_target_in, function_by}
 use Rattle.f90_grammar.specs.Order.{Place, IsPlaceIn, blocks_round}
 use Rattle.f90_grammar.specs.Phrases.{SuitsCalls}
 use Rattle.f90_grammar.specs.Contents.{VariableSuitsCalls, SuitsCallsIn}
@@ -35,6 +35,7 @@ use Rattle.f90_laws.proofs.printed.PrintedBlocksBack.{each_readable}
 use Rattle.f90_laws.proofs.printed.PrintedBlocksProgram.{program_back}
 use Rattle.f90_laws.proofs.printed.PrintedLines.{text_read}
 use Rattle.f90_laws.proofs.printed.PrintedLinesTaken.{program_suits}
+use Rattle.f90_laws.proofs.printed.PrintedParts.{HasParts}
 use Rattle.f90_laws.proofs.printed.PrintedTrees.{typed_reads_back}
 use Rattle.f90_laws.proofs.printed.PrintedWords.{printed_is_spelled}
 use Rattle.f90_laws.proofs.readings.Counts.{OpensWithin}
@@ -51,6 +52,7 @@ use Rattle.f90_laws.proofs.unrefused.Suited.{suited_forms}
 use Rattle.f90_laws.proofs.unrefused.Names.{known_forms}
 use Rattle.f90_laws.proofs.unrefused.Declarations.{declared_once, has_bounds, few_elements}
 use Rattle.f90_laws.proofs.unrefused.Order.{in_order, blocks_open, declarations_are, body_is}
+use Rattle.f90_laws.proofs.unrefused.ProgramParts.{is_program}
 use Rattle.f90_laws.proofs.unrefused.Labels.{labels_right}
 use Rattle.f90_laws.proofs.unrefused.UniqueBlocks.{one_block}
 use Rattle.f90_laws.proofs.unrefused.NamedLabels.{block_names}
@@ -88,7 +90,7 @@ some_statement s ss ps (next line t k) e = cc
 
 -- ---- no cause holds in the statements
 
-module _ (p : Program) (h : IsProgram90 p) (ps : List Placed) (q : ArePlaced (printed_program p) ps) (r : Program) (are : IsProgramOf ps r) (same : SameButNumbers p r)
+module _ (p : Program) (h : IsProgram90 p) (ps : List Placed) (q : ArePlaced (printed_program p) ps) (r : Program) (are : HasParts ps r) (same : SameButNumbers p r)
     (declared : are.in_text ≡ p.declarations) where
   all_declarations : declarations_of ps ≡ p.declarations
   all_declarations = declarations_are ps r are ∙ declared
@@ -172,7 +174,7 @@ read_well p notes h good =
     let t = text_read p notes good (each_readable (printed_program p) (printed_is_spelled p h) (program_suits p h)) in
     let r = program_back p h (typed_reads_back p.declarations) t.placed t.places in
     record {
-      read_back = record { statements = t.placed; program = r.program; of_text = t.of_text; are = r.are; title = r.title; same = r.same };
+      read_back = record { statements = t.placed; program = r.program; of_text = t.of_text; are = is_program t.placed r.program r.are; title = r.title; same = r.same };
       lines = no_line_cause p notes good h;
       calls = calls_suit p h t.placed t.places r.program r.are r.same r.declared;
       causes = no_cause p h t.placed t.places r.program r.are r.same r.declared;

@@ -1,14 +1,7 @@
--- The text of a printed program is read back as the program, but for the numbers of its lines.
-use Rattle.std.specs.Prelude.{◌≡◌, ◌≤◌, Some, ℕ, List, length}
-use Rattle.std.specs.List.{AllByRecursion}
-use Rattle.std.specs.Str.Lines.{lines}
-use Rattle.tree.specs.Plain.{Statement, Assignment, Where, If, Do, Label, GoTo, Stop, Read, Print, Allocate}
-use Rattle.tree.specs.Plain.{Deallocate, Arms, no_arms, arm, Block, no_statements, statement, Program}
-use Rattle.meaning.specs.Profile90.{IsProgram90}
-use Rattle.f90_grammar.specs.PrintedForms.{title_of}
-use Rattle.f90_grammar.specs.PrintedText.{IsNote, printed90}
-use Rattle.f90_grammar.specs.Blocks.{Placed}
-use Rattle.f90_grammar.specs.Reading.{AreStatementsOf, IsProgramOf}
+-- Programs that are the same but for the numbers of their lines.
+use Rattle.std.specs.Prelude.{◌≡◌}
+use Rattle.tree.specs.Plain.{Statement, Assignment, Where, If, Do, Label, GoTo, Stop, Read, Print, Allocate, Deallocate}
+use Rattle.tree.specs.Plain.{Arms, no_arms, arm, Block, no_statements, statement, Program}
 
 -- ---- programs that are the same but for the numbers of their lines
 
@@ -39,31 +32,3 @@ abbrev mutual
 pub record SameButNumbers (p q : Program) : Type 0 where
   pub declarations : p.declarations ≡ q.declarations
   pub body : block_without_numbers p.body ≡ block_without_numbers q.body
-
--- ---- what the text of a printed program is read as
-
--- The text's statements are those of a program that has the title of the printed one, its declarations, and its
--- statements with their marks, each with the number of its line in the text
-pub record IsReadBack (p : Program) (text : List ℕ) : Type 0 where
-  pub statements : List Placed
-  pub program : Program
-  pub of_text : AreStatementsOf text statements
-  pub are : IsProgramOf statements program
-  pub title : program.name ≡ Some (title_of p.name)
-  pub same : SameButNumbers p program
-
--- with any notes before it
-abbrev pub PrintedProgramIsReadBack : Type 0
-PrintedProgramIsReadBack = (p : Program) (notes : List (List ℕ)) → IsProgram90 p → AllByRecursion IsNote notes
-    → IsReadBack p (printed90 p notes)
-
--- ---- the lines of the text
-
--- a line of free form (ISO/IEC 1539:1991, section 3.3.1)
-pub record IsFreeLine (line : List ℕ) : Type 0 where
-  pub within : length line ≤ 132
-  pub printable : AllByRecursion (λ c. (32 ≤ c) × (c ≤ 126)) line
-
-abbrev pub PrintedLinesAreFree : Type 0
-PrintedLinesAreFree = (p : Program) (notes : List (List ℕ)) → IsProgram90 p → AllByRecursion IsNote notes
-    → AllByRecursion IsFreeLine (lines (printed90 p notes))

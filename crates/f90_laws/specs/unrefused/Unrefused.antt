@@ -12,7 +12,7 @@ use Rattle.f90_grammar.specs.Contents.{SuitsCallsIn}
 use Rattle.f90_grammar.specs.Declared.{functions_in}
 use Rattle.f90_grammar.specs.LineCauses.{HasLineCause}
 use Rattle.f90_grammar.specs.Refusals.{HoldsIn}
-use Rattle.f90_laws.specs.printed.ReadBack.{IsReadBack}
+use Rattle.f90_laws.specs.printed.Laws.{IsReadBack}
 
 -- each call among the statements has arguments that may stand there
 abbrev pub CallsSuit : List Placed → Type 0

@@ -1,5 +1,5 @@
 //! Laws of reading back. A law is a function without a body: its contract is what holds.
-ghost use Rattle.f90_laws.specs.printed.ReadBack.{PrintedLinesAreFree, PrintedProgramIsReadBack};
+ghost use Rattle.f90_laws.specs.printed.Laws.{PrintedLinesAreFree, PrintedProgramIsReadBack};
 
 /// The text of a printed program, with notes before it, is read as that program: its declarations, its statements,
 /// marks and labels (ISO/IEC 1539:1991, section 11.1). A program without a name gets one, and each statement has the

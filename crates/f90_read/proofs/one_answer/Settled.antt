@@ -1,37 +1,31 @@
 -- A text that isn't refused is read.
-use Rattle.std.proofs.Common.{◌≡◌, inl, refl, sym, ap, subst, ℕ, Bool, true, false, cond, None, List, []}
-use Rattle.std.proofs.Common.{filter, length, Contains}
-use mathlib.Core.Path.{fun_ext}
-use Rattle.std.specs.Prelude.{◌↔◌}
+use Rattle.std.proofs.Common.{inl, refl, sym, subst, ℕ, None, List, []}
+use Rattle.std.proofs.Common.{Contains}
 use Rattle.std.specs.List.{AllByRecursion}
-use Rattle.std.specs.Str.{bytes_eq}
 use Rattle.std.specs.Str.Lines.{lines}
 use Rattle.tree.specs.Causes.{refusal_at}
-use Rattle.tree.specs.Functions.{intrinsic_named}
 use Rattle.tree.specs.Plain.{Declaration, Program, Block}
 use Rattle.tree.specs.declared.refusals.Cause.TheVariants.{Structure, Declared90, Limit90, Syntax90}
 use Rattle.tree.specs.declared.refusals.Refusal.{Refusal}
-use Rattle.f90_grammar.specs.Blocks.{Placed, AreBlock}
+use Rattle.f90_grammar.specs.Blocks.{Placed}
 use Rattle.f90_grammar.specs.Contents.{SuitsCallsIn}
 use Rattle.f90_grammar.specs.Declared.{declarations_of, functions_in, declares_again}
 use Rattle.f90_grammar.specs.FreeForm.{FreeStatement, AreStatements}
-use Rattle.f90_grammar.specs.Order.{IsInOrder, is_disordered, is_executable, title_of}
-use Rattle.f90_grammar.specs.Reading.{AreStatementsOf, IsProgramOf, declares, function_by, is_target_in}
-use Rattle.f90_grammar.specs.Refusals.{HasNoForm, HasCause, IsRefusable, functions_but}
+use Rattle.f90_grammar.specs.Order.{IsInOrder, is_disordered, title_of}
+use Rattle.f90_grammar.specs.Reading.{AreStatementsOf}
+use Rattle.f90_grammar.specs.Programs.{IsProgramOf}
+use Rattle.f90_grammar.specs.Refusals.{HasNoForm, HasCause, IsRefusable, Reads90, functions_but}
 use Rattle.f90_grammar.specs.Refusals.HoldsIn.{AtPlace, HasNoStatement}
 use Rattle.f90_grammar.specs.Refusals.HasCause.{InLines, InWords, InStatements}
 use Rattle.f90_grammar.specs.Refusals.IsRefusable.{For, ForNames}
 use Rattle.f90_grammar.specs.Surroundings.{AreBody}
-use Rattle.f90_laws.proofs.readings.Lists.{any_true, found}
 use Rattle.f90_laws.proofs.blocks.Bodies.{body_forms}
 use Rattle.f90_lines.specs.Readings.{Ahead, statements_of}
 use Rattle.f90_lines.proofs.StatementLaws.{are_statements}
 use Rattle.f90_laws.proofs.read_back.DeclaredNames.{same_functions}
 use Rattle.f90_names.specs.kinds.declarations.Declarations.{AreInOrder}
 use Rattle.f90_names.specs.calls.Formless.{HasSuitedForm}
-use Rattle.f90_read.specs.Outcomes.{ReadsWithin}
-use Rattle.f90_read.proofs.PartLaws.{HasParts, parts}
-use Rattle.f90_read.proofs.StatementLaws.{marked, not_true, some_statement}
+use Rattle.f90_read.proofs.StatementLaws.{not_true, some_statement}
 use Rattle.f90_read.specs.one_answer.Settled.{TextIsReadOrRefused, NamesAloneAreRefused}
 use Rattle.f90_read.proofs.one_answer.Unanswered.{unanswered}
 use Rattle.f90_read.proofs.one_answer.DeclaredNames.{AreDeclared, names_declared}
@@ -39,51 +33,12 @@ use Rattle.f90_read.proofs.one_answer.SuitedForms.{HavePlaces, have_forms, place
 use Rattle.f90_read.proofs.one_answer.ByteOrder.{NoneAgain, byte_order}
 use Rattle.f90_read.proofs.one_answer.ManyNames.{refused_for_names}
 
--- ---- the same names are functions
-
-among : (ds es : List Declaration) (x : List ℕ) → ((d : Declaration) → Contains ds d → Contains es d)
-    → declares ds x ≡ true → declares es x ≡ true
-among ds es x to h =
-    let d = found (λ (d : Declaration). bytes_eq d.name x) ds h in
-    any_true (λ (d : Declaration). bytes_eq d.name x) es d.it (to d.it d.among) d.passes
-
-same_declared : (ds es : List Declaration) (x : List ℕ) → ((d : Declaration) → Contains ds d ↔ Contains es d)
-    → declares ds x ≡ declares es x
-same_declared ds es x each =
-    both (declares ds x) (declares es x) (among ds es x (λ d. (each d).0)) (among es ds x (λ d. (each d).1))
-  where
-    both : (a b : Bool) → (a ≡ true → b ≡ true) → (b ≡ true → a ≡ true) → a ≡ b
-    both true b f g = sym (f refl)
-    both false true f g = g refl
-    both false false f g = refl
-
-same_by : (ds es : List Declaration) → ((d : Declaration) → Contains ds d ↔ Contains es d)
-    → function_by ds ≡ function_by es
-same_by ds es each = fun_ext (λ x. ap (λ b. cond b None (intrinsic_named x)) (same_declared ds es x each))
-
 -- ---- the program that statements are
 
-program_of : (ps : List Placed) (ds : List Declaration) (b : Block) → HasParts ps → AreInOrder (declarations_of ps) ds
+program_of : (ps : List Placed) (ds : List Declaration) (b : Block) → IsInOrder ps → AreInOrder (declarations_of ps) ds
     → AreBody ps b → IsProgramOf ps (record { name = title_of ps; declarations = ds; body = b })
-program_of ps ds b has o body = record {
-  title = has.title;
-  implicit = has.implicit;
-  declared = has.declared;
-  body = has.body;
-  last = has.last;
-  same = has.same;
-  is_title = has.is_title;
-  is_implicit = has.is_implicit;
-  is_last = has.is_end;
-  in_text = has.in_text;
-  are_declared = has.are_declared;
-  sorted = o.sorted;
-  each = λ d. subst (λ (es : List Declaration). Contains es d ↔ Contains ds d) has.declarations (o.each d);
-  once = subst (λ (es : List Declaration). length es ≡ length ds) has.declarations o.once;
-  block = subst (λ qs. AreBlock (function_by ds) (is_target_in b) qs b) has.executed
-      (subst (λ g. AreBlock g (is_target_in b) (filter (λ p. is_executable p.form) ps) b)
-      (same_by (declarations_of ps) ds o.each) body);
-}
+program_of ps ds b order o body =
+    record { in_order = order; title = refl; sorted = o.sorted; each = o.each; once = o.once; body = body }
 
 -- ---- a text for which nothing can be refused
 
@@ -121,7 +76,7 @@ module _ (text : List ℕ) (clear : (r : Refusal) → IsRefusable text r → ⊥
         let o = byte_order ps none_again in
         let b = body_forms text ps t in_order in (
           record { name = title_of ps; declarations = o.0; body = b.0 },
-          program_of ps o.0 b.0 (parts ps in_order (marked text ps t)) o.1 b.1,
+          program_of ps o.0 b.0 in_order o.1 b.1,
         )
 
   module _ (declared : List (List ℕ)) (are : AreDeclared ss declared)
@@ -137,12 +92,12 @@ module _ (text : List ℕ) (clear : (r : Refusal) → IsRefusable text r → ⊥
         subst (λ g. AllByRecursion (λ (p : Placed). SuitsCallsIn g p.form) has.placed)
         (sym (same_functions ss has.placed has.have declared are)) has.calls
 
-    read : (q : Program) × ReadsWithin text q
+    read : (q : Program) × Reads90 text q
     read =
         let p = program has.placed of_text in (
           p.0,
           record {
-            reads = record {
+            conforms = record {
               statements = has.placed;
               of_text = of_text;
               calls = calls;
@@ -153,7 +108,7 @@ module _ (text : List ℕ) (clear : (r : Refusal) → IsRefusable text r → ⊥
           },
         )
 
-  pub clear_is_read : ((q : Program) → ReadsWithin text q → ⊥) → ⊥
+  pub clear_is_read : ((q : Program) → Reads90 text q → ⊥) → ⊥
   clear_is_read k =
       names_declared ss (λ declared are.
       have_forms ss declared are formed (λ forms. let q = read declared are forms in k q.0 q.1))

@@ -4,13 +4,11 @@ use Rattle.tree.specs.Causes.{refusal_at}
 use Rattle.tree.specs.Plain.{Program}
 use Rattle.tree.specs.declared.refusals.Cause.TheVariants.{Limit90}
 use Rattle.tree.specs.declared.refusals.Refusal.{Refusal}
-use Rattle.f90_grammar.specs.Refusals.{Refused90, PassesNames, HasCause}
-use Rattle.f90_read.specs.Outcomes.{ReadsWithin}
+use Rattle.f90_grammar.specs.Refusals.{Reads90, Refused90, PassesNames, HasCause}
 
--- Only texts within the limit of names count as read. The law is classical: it rules out that there is no answer, and
--- gives none.
+-- The law is classical: it rules out that there is no answer, and gives none.
 abbrev pub TextIsReadOrRefused : Type 0
-TextIsReadOrRefused = (text : List ℕ) → ((q : Program) → ReadsWithin text q → ⊥)
+TextIsReadOrRefused = (text : List ℕ) → ((q : Program) → Reads90 text q → ⊥)
     → ((r : Refusal) → Refused90 text r → ⊥) → ⊥
 
 -- a text that has too many names and no other cause is refused for its names, at some line

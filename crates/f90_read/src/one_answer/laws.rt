@@ -1,7 +1,7 @@
 //! Laws of texts that are read or refused. A law is a function without a body: its contract is what holds.
 ghost use Rattle.f90_read.specs.one_answer.Settled.{TextIsReadOrRefused, NamesAloneAreRefused};
 
-/// No text is neither read, within the limit of names, nor refused.
+/// No text is neither read nor refused.
 pub fn text_is_read_or_refused()
     ensures { TextIsReadOrRefused }
 {}

@@ -9,7 +9,8 @@ use Rattle.std.proofs.lemmas.Grind.{get_or_after_one}
 use Rattle.tree.specs.Plain.{Expression}
 use Rattle.subscripts.specs.declared.affine.Affine.{Affine}
 use Rattle.linear_forms.specs.Linear.{Form, sum, multiple, linear, form_of}
-use Rattle.linear_forms.specs.Places.{IsAffineOf, IsFound, padded, terms_from}
+use Rattle.linear_forms.specs.Places.{padded, terms_from}
+use Rattle.linear_forms.specs.Affines.{IsAffineOf, IsFound}
 use Rattle.find_nests.specs.bound_limits.Composed.{Outer, filled, with_multiples, without_loops, composed, is_among, those_in, variables_of, bound_form}
 
 module _ (names : List (List ℕ)) where

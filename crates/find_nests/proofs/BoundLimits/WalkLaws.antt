@@ -17,7 +17,9 @@ use Rattle.find_nests.specs.bound_limits.Composed.{Outer, bound_form}
 use Rattle.find_nests.specs.bound_limits.Limits.{normal, all_keep_limits}
 use Rattle.find_nests.specs.declared.bound_limits.around.Outer.{Outer as Outer'}
 use Rattle.find_nests.specs.bound_limits.View.{outer_of, AreSmall, IsSized}
-use Rattle.find_nests.specs.bound_limits.Loops.{leaves_with, leaves_limits, normal_or_zero, as_outer, any_leaves, any_leaves_arm, any_leaves_arms, any_leaves_block}
+use Rattle.find_nests.specs.bound_limits.Loops.{leaves_with, leaves_limits, normal_or_zero, as_outer}
+use Rattle.find_nests.specs.bound_limits.Walks.{any_leaves, any_leaves_arms, any_leaves_block}
+use Rattle.find_nests.specs.bound_limits.Arms.{any_leaves_arm}
 
 module _ (symbols : List (List ℕ)) (around : List Outer) where
   pub each_arm : (ts : List Tested) → any_leaves_arms symbols around (arms ts) ≡ list_any (any_leaves_arm symbols around) ts

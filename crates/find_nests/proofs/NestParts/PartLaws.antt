@@ -16,8 +16,9 @@ use Rattle.tree.proofs.Equations.{statement_equations, statement_of-assign, stat
 use Rattle.nest.specs.Plain.{Part, Run, Turns, Choice, Label, Jump, branch, parts}
 use Rattle.nest.specs.View.{Branch, branches}
 use Rattle.nest.proofs.Equations.{part_equations}
-use Rattle.find_nests.specs.nest_parts.Numbers.{next, after, after_arms, after_each, after_block, after_list}
-use Rattle.find_nests.specs.nest_parts.Statements.{source_loop, branches_of, branch_at, branch_list, parts_of, parts_of_block, parts_list}
+use Rattle.find_nests.specs.nest_parts.Numbers.{next, after, after_arms, after_block}
+use Rattle.find_nests.specs.nest_parts.Lists.{after_each, after_list, branch_at, branch_list, parts_list}
+use Rattle.find_nests.specs.nest_parts.Statements.{source_loop, branches_of, parts_of, parts_of_block}
 
 pub after_each_is : (k : ℕ) (ts : List Tested) → after_arms k (arms ts) ≡ after_each k ts
 after_each_is k [] = refl

@@ -1,7 +1,7 @@
 -- Bounds of loops in the iterations of the loops round them, where each of these goes from 1 by 1 (Allen and Kennedy,
 -- "Optimizing Compilers for Modern Architectures", section 4.2, loop normalization). The places of these forms are the
 -- symbols, and behind them the loops from the outside in.
-use Rattle.std.specs.Prelude.{ℕ, zero, suc, ℤ, pos, Option, None, Bool, List, [], ◌∷◌, map, drop, length}
+use Rattle.std.specs.Prelude.{ℕ, zero, suc, ℤ, pos, Option, Bool, List, [], ◌∷◌, map, drop, length}
 use Rattle.std.specs.Prelude.{slice_index_or}
 use Rattle.std.specs.List.{filter, list_any}
 use Rattle.std.specs.Option.{option_map}

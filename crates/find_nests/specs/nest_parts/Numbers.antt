@@ -1,8 +1,7 @@
 -- The numbers of loops, in the order of the text.
-use Rattle.std.specs.Prelude.{ℕ, ◌+◌, nat_lt, if◌then◌else◌, List, [], ◌∷◌}
-use Rattle.tree.specs.Plain.{Statement, Assignment, Where, If, Do, Label, GoTo, Stop, Read, Print, Allocate}
-use Rattle.tree.specs.Plain.{Deallocate, Arms, no_arms, arm, Block, no_statements, statement}
-use Rattle.tree.specs.View.{Tested}
+use Rattle.std.specs.Prelude.{ℕ, ◌+◌, nat_lt, if◌then◌else◌}
+use Rattle.tree.specs.Plain.{Statement, Assignment, Where, If, Do, Label, GoTo, Stop, Read, Print, Allocate, Deallocate}
+use Rattle.tree.specs.Plain.{Arms, no_arms, arm, Block, no_statements, statement}
 
 -- the number of the next loop, where k loops stand before it; it fits 32 bits, as in every program with fewer loops
 abbrev pub next : ℕ → ℕ
@@ -30,11 +29,3 @@ abbrev mutual
   pub after_block : ℕ → Block → ℕ
   after_block k no_statements = k
   after_block k (statement c cs) = after_block (after k c) cs
-
-abbrev pub after_each : ℕ → List Tested → ℕ
-after_each k [] = k
-after_each k (t ∷ ts) = after_each (after_block k t.body) ts
-
-abbrev pub after_list : ℕ → List Statement → ℕ
-after_list k [] = k
-after_list k (c ∷ cs) = after_list (after k c) cs

@@ -1,14 +1,12 @@
 -- The parts of a nest that statements are, by the number of the last loop before them in the program. Statements that
 -- no nest has are left out.
 use Rattle.std.specs.Prelude.{ℕ, ℤ, pos, Option, Some, None, List, [], ◌∷◌, ◌++◌}
-use Rattle.tree.specs.Plain.{Expression, Statement, Assignment, Where, If, Do, Label, GoTo, Stop, Read, Print}
-use Rattle.tree.specs.Plain.{Allocate, Deallocate, Arms, no_arms, arm, Block, no_statements, statement}
+use Rattle.tree.specs.Plain.{Expression, Statement, Assignment, Where, If, Do, Label, GoTo, Stop, Read, Print, Allocate}
+use Rattle.tree.specs.Plain.{Deallocate, Arms, no_arms, arm, Block, no_statements, statement}
 use Rattle.nest_reasons.specs.Increments.{step_of}
 use Rattle.nest.specs.Plain.{Loop, Part, Run, Turns, Choice, Label as Label', Jump, parts, Branches, no_branches}
 use Rattle.nest.specs.Plain.{branch}
 use Rattle.find_nests.specs.nest_parts.Numbers.{next, after, after_arms, after_block}
-use Rattle.nest.specs.View.{Branch}
-use Rattle.tree.specs.View.{Tested}
 
 -- a loop of a nest has a suitable increment
 abbrev pub step_or_zero : Option ℤ → ℤ
@@ -49,15 +47,3 @@ abbrev mutual
   pub parts_of_block : ℕ → Block → List Part
   parts_of_block k no_statements = []
   parts_of_block k (statement c cs) = parts_of k c ++ parts_of_block (after k c) cs
-
--- lists of statements, and arms of a block IF
-abbrev pub parts_list : ℕ → List Statement → List Part
-parts_list k [] = []
-parts_list k (c ∷ cs) = parts_of k c ++ parts_list (after k c) cs
-
-abbrev pub branch_at : ℕ → Tested → Branch
-branch_at k t = record { test = t.test; body = parts (parts_of_block k t.body) }
-
-abbrev pub branch_list : ℕ → List Tested → List Branch
-branch_list k [] = []
-branch_list k (t ∷ ts) = branch_at k t ∷ branch_list (after_block k t.body) ts

@@ -4,7 +4,7 @@ ghost use Rattle.std.specs.List.{filter};
 ghost use Rattle.std.specs.Option.{option_map, IfSome};
 ghost use Rattle.tree.specs.View.{expression_of};
 ghost use Rattle.linear_forms.specs.Linear.{Form};
-ghost use Rattle.linear_forms.specs.Places.{IsAffineOf};
+ghost use Rattle.linear_forms.specs.Affines.{IsAffineOf};
 ghost use Rattle.find_nests.specs.bound_limits.Composed.{with_multiples, without_loops, is_among, bound_form};
 ghost use Rattle.find_nests.specs.bound_limits.Composed.{variables_of};
 ghost use Rattle.find_nests.specs.bound_limits.View.{wide_form_of, outer_of, IsSized, AreSmall};

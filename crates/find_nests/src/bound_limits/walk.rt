@@ -2,8 +2,9 @@
 ghost use Rattle.std.specs.Prelude.{◌≡◌, ◌≤◌, ◌^◌, ◌++◌, ◌∷◌, [], length, map, OnOk, IfOk};
 ghost use Rattle.std.specs.List.{list_any};
 ghost use Rattle.tree.specs.View.{expression_of, statement_of, tested_of, block_of};
-ghost use Rattle.find_nests.specs.bound_limits.Loops.{leaves_limits, as_outer, any_leaves, any_leaves_arm};
-ghost use Rattle.find_nests.specs.bound_limits.Loops.{any_leaves_block};
+ghost use Rattle.find_nests.specs.bound_limits.Loops.{leaves_limits, as_outer};
+ghost use Rattle.find_nests.specs.bound_limits.Walks.{any_leaves, any_leaves_block};
+ghost use Rattle.find_nests.specs.bound_limits.Arms.{any_leaves_arm};
 ghost use Rattle.find_nests.specs.bound_limits.View.{wide_form_of, outer_of, AreSmall, IsSized, IsInner};
 
 use crate::bound_limits::around::{Outer, bound_form};

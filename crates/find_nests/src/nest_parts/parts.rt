@@ -3,9 +3,9 @@ ghost use Rattle.std.specs.Prelude.{◌≡◌, ◌++◌, map, OnErr, OnOk, IfOk}
 ghost use Rattle.tree.specs.View.{expression_of, statement_of, tested_of, block_of};
 ghost use Rattle.nest.specs.Plain.{Turns, parts};
 ghost use Rattle.nest.specs.View.{part_of, branch_of, loop_of};
-ghost use Rattle.find_nests.specs.nest_parts.Numbers.{next, after, after_block, after_each, after_list};
-ghost use Rattle.find_nests.specs.nest_parts.Statements.{parts_of, parts_of_block, branch_at, branch_list};
-ghost use Rattle.find_nests.specs.nest_parts.Statements.{parts_list, source_loop, step_or_zero};
+ghost use Rattle.find_nests.specs.nest_parts.Numbers.{next, after, after_block};
+ghost use Rattle.find_nests.specs.nest_parts.Lists.{after_each, after_list, branch_at, branch_list, parts_list};
+ghost use Rattle.find_nests.specs.nest_parts.Statements.{parts_of, parts_of_block, source_loop, step_or_zero};
 
 use nest::{GuardedStmt, Loop, NestArm, Part, copy_ref};
 use nest_reasons::step_of;

@@ -3,7 +3,7 @@ use mathlib.Core.Path.{ap₂}
 use Rattle.std.proofs.Common.{◌≡◌, refl, sym, ap, ◌∙◌, ℕ, suc, ◌+◌, ◌<◌, ℤ, pos, List, [], ◌∷◌, ◌++◌, length, Option, Some, None}
 use Rattle.tree.specs.Plain.{Expression}
 use Rattle.linear_forms.specs.Linear.{Form, form_of}
-use Rattle.linear_forms.specs.Places.{IsAffineOf, IsFound}
+use Rattle.linear_forms.specs.Affines.{IsAffineOf, IsFound}
 use Rattle.subscripts.specs.declared.affine.Affine.{Affine}
 use Rattle.last_values.specs.declared.normal_forms.combinations.Multiple.{Multiple}
 use Rattle.last_values.specs.declared.normal_forms.loops.NormalLoop.{NormalLoop}

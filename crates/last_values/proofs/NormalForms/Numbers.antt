@@ -10,7 +10,8 @@ use Rattle.std.proofs.lemmas.Bool.Decides.{Decides-int_eq}
 use Rattle.std.proofs.lemmas.Int.{ints}
 use Rattle.std.proofs.Math.IntN.{zero-*ℤ, *ℤ-zero, +ℤ_idl}
 use Rattle.linear_forms.specs.Linear.{is_small, all_small, not_zero}
-use Rattle.linear_forms.specs.Merging.{small_or_none, pushed, then_pushed, all_pushed}
+use Rattle.linear_forms.specs.Merging.{all_pushed}
+use Rattle.linear_forms.specs.Pushing.{small_or_none, pushed, then_pushed}
 use Rattle.linear_forms.specs.Places.{padded, terms_from}
 use Rattle.linear_forms.specs.declared.terms.Terms.{Terms}
 use Rattle.linear_forms.proofs.Merges.{Holds, Outcome, pushes, then_same}

@@ -1,6 +1,6 @@
 -- Symbols of a sum, one after the other.
 use Rattle.std.proofs.Common.{◌≡◌, ap, ℕ, zero, suc, ◌+◌, ◌-◌, ◌<◌, ℤ, Option, arith}
-use Rattle.linear_forms.specs.Merging.{pushed, then_pushed}
+use Rattle.linear_forms.specs.Pushing.{pushed, then_pushed}
 use Rattle.linear_forms.specs.declared.terms.Terms.{Terms}
 use Rattle.last_values.specs.normal_forms.Combinations.{with_symbols}
 

@@ -4,7 +4,7 @@ use Rattle.std.specs.Prelude.{Option, Some, None, ℕ, zero, suc, ◌+◌, ◌==
 use Rattle.std.specs.Prelude.{if◌then◌else◌, List, [], ◌∷◌, take, drop, replicate, slice_index_or}
 use Rattle.std.specs.List.{list_all}
 use Rattle.linear_forms.specs.Linear.{Form, is_small}
-use Rattle.linear_forms.specs.Merging.{small_or_none, pushed, then_pushed}
+use Rattle.linear_forms.specs.Pushing.{small_or_none, pushed, then_pushed}
 use Rattle.linear_forms.specs.Places.{padded, terms_from}
 use Rattle.linear_forms.specs.declared.terms.Terms.{Terms}
 use Rattle.subscripts.specs.declared.affine.Affine.{Affine}

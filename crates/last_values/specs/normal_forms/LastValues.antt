@@ -1,9 +1,6 @@
 -- The last value of a loop's variable after all loops round the loop have ended.
-use Rattle.std.specs.Prelude.{Option, Some, None, ℕ, ◌+◌, ℤ, pos, Bool, not, if◌then◌else◌, List, [], ◌∷◌, ◌++◌}
-use Rattle.std.specs.Prelude.{map, length, drop}
+use Rattle.std.specs.Prelude.{Option, Some, ℕ, ◌+◌, pos, Bool, List, [], ◌∷◌, ◌++◌, length, drop}
 use Rattle.std.specs.List.{list_all}
-use Rattle.tree.specs.Plain.{Expression}
-use Rattle.linear_forms.specs.Texts.{text_of}
 use Rattle.subscripts.specs.declared.affine.Affine.{Affine}
 use Rattle.last_values.specs.declared.normal_forms.combinations.Multiple.{Multiple}
 use Rattle.last_values.specs.declared.normal_forms.loops.NormalLoop.{NormalLoop}
@@ -11,8 +8,7 @@ use Rattle.last_values.specs.declared.normal_forms.last.LastForms.{LastForms}
 use Rattle.last_values.specs.declared.normal_forms.places.Place.TheVariants as place
 use Rattle.last_values.specs.normal_forms.Steps.{◌>>=◌}
 use Rattle.last_values.specs.normal_forms.Combinations.{at, combination, without_loops, times}
-use Rattle.last_values.specs.normal_forms.NormalLoops.{trip_of, trip_form, has_no_loops, is_positive, plus_multiple}
-use Rattle.last_values.specs.normal_forms.Texts.{trip_text, at_least_one}
+use Rattle.last_values.specs.normal_forms.NormalLoops.{trip_of, trip_form, has_no_loops, plus_multiple}
 
 -- Each loop's trip as many times as its counter stands in a form, from the k-th loop on; a divided trip of the k-th
 -- loop has the place n + k
@@ -39,33 +35,3 @@ has_plain_trip r = has_no_loops r.trip.top
 
 unfoldable pub have_plain_trips : List NormalLoop → Bool
 have_plain_trips round = list_all has_plain_trip (drop 1 round)
-
--- ---- texts
-
-unfoldable pub plain_trip_text : List (List ℕ) → NormalLoop → Expression
-plain_trip_text symbols r = trip_text [] symbols [] r.trip
-
-abbrev pub plain_trip_texts : List (List ℕ) → List NormalLoop → List Expression
-plain_trip_texts symbols round = map (plain_trip_text symbols) round
-
-abbrev pub last_trip_text : List (List ℕ) → List NormalLoop → LastForms → Expression
-last_trip_text symbols round f = trip_text [] symbols (plain_trip_texts symbols round) f.trip
-
-abbrev pub last_first_text : List (List ℕ) → List NormalLoop → LastForms → Expression
-last_first_text symbols round f = text_of [] symbols (plain_trip_texts symbols round) f.first
-
-unfoldable pub last_end_text : List (List ℕ) → List NormalLoop → LastForms → Expression
-last_end_text symbols round f =
-    text_of [] symbols (plain_trip_texts symbols round ++ last_trip_text symbols round f ∷ []) f.end
-
-abbrev pub is_uncertain : NormalLoop → Bool
-is_uncertain r = not (is_positive r.trip)
-
--- a loop that may have no turn has one
-abbrev pub test_of : List (List ℕ) → NormalLoop → List Expression
-test_of symbols r = if is_uncertain r then at_least_one (plain_trip_text symbols r) ∷ [] else []
-
--- each of them
-abbrev pub tests_of : List (List ℕ) → List NormalLoop → List Expression
-tests_of symbols [] = []
-tests_of symbols (r ∷ rs) = test_of symbols r ++ tests_of symbols rs

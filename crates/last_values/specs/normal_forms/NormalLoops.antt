@@ -6,7 +6,7 @@ use Rattle.std.specs.Prelude.{List, [], ◌∷◌, ◌++◌, map, length, codes,
 use Rattle.std.specs.List.{list_all}
 use Rattle.std.specs.Ordering.{int_eq}
 use Rattle.tree.specs.Plain.{Expression}
-use Rattle.linear_forms.specs.Linear.{Form, is_small, form_of}
+use Rattle.linear_forms.specs.Linear.{is_small, form_of}
 use Rattle.nest.specs.Plain.{Loop}
 use Rattle.nest.specs.declared.parts.Trip.{Trip}
 use Rattle.subscripts.specs.declared.affine.Affine.{Affine}

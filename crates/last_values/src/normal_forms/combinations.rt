@@ -2,11 +2,10 @@
 ghost use Rattle.std.specs.Prelude.{◌≡◌, ◌≤◌, ◌<◌, ◌+◌, ◌*◌, ◌^◌, ◌*ℤ◌, IsTrue, length, unsigned_abs};
 ghost use Rattle.std.specs.List.{list_all};
 ghost use Rattle.linear_forms.specs.Linear.{is_small};
-ghost use Rattle.linear_forms.specs.Merging.{small_or_none, pushed};
+ghost use Rattle.linear_forms.specs.Pushing.{small_or_none, pushed};
 ghost use Rattle.last_values.specs.declared.normal_forms.places.Place.TheVariants.{Loop, Symbol};
 ghost use Rattle.last_values.specs.normal_forms.Combinations.{combined_at, all_within, seven, with_symbols};
-ghost use Rattle.last_values.specs.normal_forms.Combinations.{has_small_factor};
-ghost use Rattle.last_values.specs.normal_forms.Combinations.{combination};
+ghost use Rattle.last_values.specs.normal_forms.Combinations.{has_small_factor, combination};
 
 use crate::normal_forms::places::Place;
 use linear_forms::Terms;

@@ -5,9 +5,9 @@ ghost use Rattle.tree.specs.View.{expression_of};
 ghost use Rattle.last_values.specs.normal_forms.Combinations.{combination};
 ghost use Rattle.last_values.specs.normal_forms.LastValues.{trips_from, with_trips, last_forms, has_plain_trip};
 ghost use Rattle.last_values.specs.normal_forms.LastValues.{have_plain_trips};
-ghost use Rattle.last_values.specs.normal_forms.LastValues.{plain_trip_text, plain_trip_texts, last_trip_text};
-ghost use Rattle.last_values.specs.normal_forms.LastValues.{last_first_text};
-ghost use Rattle.last_values.specs.normal_forms.LastValues.{last_end_text, is_uncertain, test_of, tests_of};
+ghost use Rattle.last_values.specs.normal_forms.LastTexts.{plain_trip_text, plain_trip_texts, last_trip_text};
+ghost use Rattle.last_values.specs.normal_forms.LastTexts.{last_first_text};
+ghost use Rattle.last_values.specs.normal_forms.LastTexts.{last_end_text, is_uncertain, test_of, tests_of};
 
 use crate::normal_forms::combinations::{Multiple, combination};
 use crate::normal_forms::loops::{
@@ -122,7 +122,7 @@ pub fn have_plain_trips(round: &[NormalLoop]) -> bool
     all_plain(rest)
 }
 
-#[tactic(auto, unfolding(crate::specs::normal_forms::LastValues::plain_trip_text))]
+#[tactic(auto, unfolding(crate::specs::normal_forms::LastTexts::plain_trip_text))]
 fn plain_trip_text(alloc: Global, symbols: &Seq<Name>, turns: &NormalLoop) -> Result<Expr, Memory>
     ensures { IfOk result (λ e. expression_of e ≡ plain_trip_text symbols.now turns.now) }
 {
@@ -144,7 +144,7 @@ fn plain_trip_texts(
 }
 
 /// The texts of the forms.
-#[tactic(auto, unfolding(crate::specs::normal_forms::LastValues::last_end_text))]
+#[tactic(auto, unfolding(crate::specs::normal_forms::LastTexts::last_end_text))]
 pub fn last_texts(
     alloc: Global,
     symbols: &Seq<Name>,

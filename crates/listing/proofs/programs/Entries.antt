@@ -1,5 +1,5 @@
 -- What is listed of nests and kept loops, one after the other.
-use Rattle.std.proofs.Common.{◌≡◌, ℕ, ◌+◌, ◌<◌, ◌≤◌, Option, Some, None, Result, Ok, Err, List, [], ◌∷◌, ◌++◌, map, take, length, get_or, codes, refl, sym, ap, ◌∙◌, subst, append_assoc, inl, inr}
+use Rattle.std.proofs.Common.{◌≡◌, ℕ, ◌+◌, ◌<◌, ◌≤◌, Result, Ok, Err, List, [], ◌∷◌, ◌++◌, map, take, length, get_or, codes, refl, sym, ap, ◌∙◌, subst, append_assoc, inl, inr}
 use Rattle.std.specs.Prelude.{IfOk}
 use Rattle.std.specs.List.{flat_map}
 use Rattle.std.proofs.lemmas.List.{append-nil, map-append, take_all}
@@ -14,13 +14,15 @@ use Rattle.nest.specs.Plain.{Nest}
 use Rattle.dependence_graph.specs.nest_graph.Graph.{IsGraphOf}
 use Rattle.find_nests.specs.declared.reasons.Reason.{Reason}
 use Rattle.find_nests.specs.declared.search.Found.{Found as Found'}
-use Rattle.find_nests.specs.Found.{Found, found_in, found_of}
+use Rattle.find_nests.specs.Found.{Found, found_in}
+use Rattle.find_nests.specs.View.{found_of}
 use Rattle.listing.specs.graphs.Lines.{Entry, KeepEntry}
-use Rattle.listing.specs.graphs.Listing.{entries_of, lines_of_entries, lines_of_entry, listing_of}
+use Rattle.listing.specs.graphs.Listing.{lines_of_entries, lines_of_entry, listing_of}
 use Rattle.listing.proofs.graphs.LoopLines.{entries-append, one_more}
-use Rattle.listing.specs.programs.Listing.{AreLinesOf, AreTestsOf, HasEntries, HasNestEntries, HaveEntries, IsListing, IsListingText}
+use Rattle.listing.specs.programs.Listing.{AreLinesOf, HasEntries, HasNestEntries, HaveEntries, IsListing, IsListingText}
 use Rattle.listing.specs.programs.Listing.{all_holds, kept, not_built, reason_word, tested_entries}
-use Rattle.listing.specs.programs.Testable.{IsTestable}
+use Rattle.listing.specs.programs.Testable.{AreTestsOf}
+use Rattle.normal_loops.specs.Listed.{IsListedFrom}
 
 -- an answer with lines of such entries
 abbrev pub GivesLines : {E : Type 0} → Result (List Line) E → (List Entry → Type 0) → Type 0
@@ -46,26 +48,18 @@ not_built_entries (Err e) n word w h = tt
 not_built_entries (Ok all) n word w h =
     h ∙ ap (λ (t : List ℕ). lines_of_entry (KeepEntry n.line t)) w ∙ sym (append-nil (lines_of_entry (KeepEntry n.line (codes "NOTBUILT"))))
 
-pub tested : (found n : Nest) (g : Graph) (holds : List Hold) (lines : List (List ℕ)) → IsTestable n
-    → AreTestsOf found.number n g holds lines → AreLinesOf (HasNestEntries found (Some n)) lines
+pub tested : (found n : Nest) (g : Graph) (holds : List Hold) (lines : List (List ℕ)) → IsListedFrom found n
+    → AreTestsOf found.number n g holds lines → AreLinesOf (HasNestEntries found) lines
 tested found n g holds lines t h = record {
   entries = tested_entries found.number n g;
-  are = inl (t, (g, h.graph, refl));
+  are = inl (n, t, (g, h.graph, refl));
   lines_are = h.lines_are;
 }
 
-pub untested : {E : Type 0} (r : Result (List Line) E) (found n : Nest) → (IsTestable n → ⊥) → GivesTexts r (lines_of_entries (not_built found))
-    → GivesLines r (HasNestEntries found (Some n))
-untested (Err e) found n t h = tt
-untested (Ok all) found n t h = record { entries = not_built found; are = inr (t, refl); lines_are = h }
-
-pub not_normal : {E : Type 0} (r : Result (List Line) E) (found : Nest) (o : Option Nest) → o ≡ None → GivesTexts r (lines_of_entries (not_built found)) → GivesLines r (HasNestEntries found o)
-not_normal (Err e) found o n h = tt
-not_normal (Ok all) found o n h =
-    subst (λ (o : Option Nest). AreLinesOf (HasNestEntries found o) (map text_of all)) (sym n) (record { entries = not_built found; are = refl; lines_are = h })
-
-pub normal : {E : Type 0} (r : Result (List Line) E) (found : Nest) (o p : Option Nest) → o ≡ p → GivesLines r (HasNestEntries found o) → GivesLines r (HasNestEntries found p)
-normal r found o p e h = subst (λ (o : Option Nest). GivesLines r (HasNestEntries found o)) e h
+pub untested : {E : Type 0} (r : Result (List Line) E) (found : Nest) → ((m : Nest) → IsListedFrom found m → ⊥) → GivesTexts r (lines_of_entries (not_built found))
+    → GivesLines r (HasNestEntries found)
+untested (Err e) found t h = tt
+untested (Ok all) found t h = record { entries = not_built found; are = inr (t, refl); lines_are = h }
 
 -- ---- one that was found
 

@@ -1,5 +1,6 @@
 -- The listing of a program: its kept loops with their reasons, and its nests with their dependences and holds.
-use Rattle.std.specs.Prelude.{◌≡◌, ◌≤◌, ◌⊎◌, ℕ, Option, None, Some, List, [], ◌∷◌, ◌++◌, length, codes}
+use mathlib.Core.Logic.{inl, inr}
+use Rattle.std.specs.Prelude.{◌≡◌, ◌⊎◌, ℕ, List, [], ◌∷◌, ◌++◌, length, codes}
 use Rattle.std.specs.List.{flat_map}
 use Rattle.tree.specs.Plain.{Program}
 use Rattle.meaning.specs.ArrayValues.{counted}
@@ -8,7 +9,7 @@ use Rattle.nest.specs.Plain.{Nest}
 use Rattle.find_nests.specs.Found.{Found, InNest, Kept, found_in}
 use Rattle.find_nests.specs.declared.reasons.Reason.{Reason}
 use Rattle.find_nests.specs.declared.reasons.Reason.TheVariants.{Exit, InnerIf, Bound, Step, Deep, Large}
-use Rattle.normal_loops.specs.Normalised.{normalised}
+use Rattle.normal_loops.specs.Listed.{IsListedFrom}
 use Rattle.dependence_graph.specs.declared.graphs.Graph.{Graph}
 use Rattle.dependence_graph.specs.declared.graphs.Hold.{Hold}
 use Rattle.dependence_graph.specs.nest_graph.Graph.{IsGraphOf}
@@ -16,7 +17,6 @@ use Rattle.array_form.specs.holds.Holds.{holds_of}
 use Rattle.f90_grammar.specs.PrintedText.{with_line_feed}
 use Rattle.listing.specs.graphs.Lines.{Entry, KeepEntry}
 use Rattle.listing.specs.graphs.Listing.{entries_of, lines_of_entries}
-use Rattle.listing.specs.programs.Testable.{IsTestable}
 
 -- why a loop is kept
 abbrev pub reason_word : Reason → List ℕ
@@ -40,21 +40,16 @@ tested_entries number n g = entries_of n number g (all_holds n) []
 abbrev pub HasGraphEntries : ℕ → Nest → List Entry → Type 0
 HasGraphEntries number n entries = (g : Graph) × IsGraphOf n g × (entries ≡ tested_entries number n g)
 
--- a graph of the nest, all its holds, and the lines that say so
-pub record AreTestsOf (number : ℕ) (n : Nest) (g : Graph) (holds : List Hold) (lines : List (List ℕ)) : Type 0 where
-  pub graph : IsGraphOf n g
-  pub holds_are : holds ≡ all_holds n
-  pub lines_are : lines ≡ lines_of_entries (tested_entries number n g)
-
 -- a nest that isn't tested so far
 abbrev pub not_built : Nest → List Entry
 not_built n = KeepEntry n.line (codes "NOTBUILT") ∷ []
 
--- A nest whose loops were made to go from 1 by 1 is listed so exactly where its dependences can be tested
-abbrev pub HasNestEntries : Nest → Option Nest → List Entry → Type 0
-HasNestEntries found None entries = entries ≡ not_built found
-HasNestEntries found (Some n) entries =
-    (IsTestable n × HasGraphEntries found.number n entries) ⊎ ((IsTestable n → ⊥) × (entries ≡ not_built found))
+-- A nest is listed by the graph of the nest that is made of it, whose loops go from 1 by 1, if there is one; an IF, a
+-- label or a jump makes none
+abbrev pub HasNestEntries : Nest → List Entry → Type 0
+HasNestEntries n entries =
+    ((m : Nest) × IsListedFrom n m × HasGraphEntries n.number m entries)
+    ⊎ (((m : Nest) → IsListedFrom n m → ⊥) × (entries ≡ not_built n))
 
 -- a kept loop
 abbrev pub kept : ℕ → Reason → List Entry
@@ -62,13 +57,8 @@ kept line r = KeepEntry line (reason_word r) ∷ []
 
 -- ---- programs
 
--- no more symbols than a program has names
-abbrev pub HasFewSymbols : Found → Type 0
-HasFewSymbols (InNest n) = length n.symbols ≤ 1000
-HasFewSymbols (Kept line r) = Unit {0}
-
 abbrev pub HasEntries : Found → List Entry → Type 0
-HasEntries (InNest n) entries = HasNestEntries n (normalised n) entries
+HasEntries (InNest n) entries = HasNestEntries n entries
 HasEntries (Kept line r) entries = entries ≡ kept line r
 
 -- one after the other
@@ -76,6 +66,26 @@ abbrev pub HaveEntries : List Found → List Entry → Type 0
 HaveEntries [] entries = entries ≡ []
 HaveEntries (f ∷ fs) entries =
     (first : List Entry) × (rest : List Entry) × (entries ≡ first ++ rest) × HasEntries f first × HaveEntries fs rest
+
+-- ---- the nests that are listed with a graph
+
+-- a nest as it stands in the program, the nest that is made of it, and the graph of that
+pub record ListedNest : Type 0 where
+  pub found : Nest
+  pub normal : Nest
+  pub graph : Graph
+
+abbrev pub listed_nest : (n : Nest) (entries : List Entry) → HasNestEntries n entries → List ListedNest
+listed_nest n entries (inl h) = record { found = n; normal = h.0; graph = h.2.0 } ∷ []
+listed_nest n entries (inr h) = []
+
+-- in the order of the listing
+abbrev pub listed_nests : (fs : List Found) (entries : List Entry) → HaveEntries fs entries → List ListedNest
+listed_nests [] entries h = []
+listed_nests (InNest n ∷ fs) entries h = listed_nest n h.0 h.3 ++ listed_nests fs h.1 h.4
+listed_nests (Kept line r ∷ fs) entries h = listed_nests fs h.1 h.4
+
+-- ---- lines
 
 -- lines of entries of which this holds
 pub record AreLinesOf (P : List Entry → Type 0) (lines : List (List ℕ)) : Type 0 where

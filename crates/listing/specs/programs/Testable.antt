@@ -1,21 +1,20 @@
--- The nests whose dependences are listed, once their loops go from 1 by 1.
-use Rattle.std.specs.Prelude.{◌≡◌, Bool, true, false, ◌&&◌, is_none}
-use Rattle.nest.specs.Plain.{Nest, Part, Run, Turns, Choice, Label, Jump, Parts, no_parts, part}
+-- What is asked of a nest whose dependences are tested, and what the tests give.
+use Rattle.std.specs.Prelude.{◌≡◌, ℕ, None, All, List}
+use Rattle.dependence_graph.specs.declared.graphs.Graph.{Graph}
+use Rattle.dependence_graph.specs.declared.graphs.Hold.{Hold}
+use Rattle.dependence_graph.specs.nest_graph.Graph.{IsGraphOf}
 use Rattle.dependence_graph.specs.nest_graph.Ready.{IsReady}
-
--- without an IF, a guard, a label and a jump
-abbrev mutual
-  pub is_straight : Part → Bool
-  is_straight (Run s) = is_none s.guard
-  is_straight (Turns l ps) = are_straight ps
-  is_straight (Choice bs ps) = false
-  is_straight (Label n) = false
-  is_straight (Jump n) = false
-
-  pub are_straight : Parts → Bool
-  are_straight no_parts = true
-  are_straight (part p ps) = is_straight p && are_straight ps
+use Rattle.nest.specs.Bodies.{Standing, nest_statements}
+use Rattle.nest.specs.Plain.{Nest}
+use Rattle.listing.specs.graphs.Listing.{lines_of_entries}
+use Rattle.listing.specs.programs.Listing.{all_holds, tested_entries}
 
 pub record IsTestable (n : Nest) : Type 0 where
-  pub straight : is_straight n.body ≡ true
+  pub unguarded : All (λ (s : Standing). s.statement.guard ≡ None) (nest_statements n)
   pub ready : IsReady n
+
+-- a graph of the nest, all its holds, and the lines that say so
+pub record AreTestsOf (number : ℕ) (n : Nest) (g : Graph) (holds : List Hold) (lines : List (List ℕ)) : Type 0 where
+  pub graph : IsGraphOf n g
+  pub holds_are : holds ≡ all_holds n
+  pub lines_are : lines ≡ lines_of_entries (tested_entries number n g)

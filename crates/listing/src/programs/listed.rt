@@ -1,10 +1,13 @@
 //! The lines of a program.
-ghost use Rattle.std.specs.Prelude.{◌≡◌, ◌≤◌, IfOk, length, map};
+ghost use Rattle.std.specs.Prelude.{◌≡◌, IfOk, map};
 ghost use Rattle.f90_print.specs.Notes.{text_of};
-ghost use Rattle.find_nests.specs.Found.{found_of};
+ghost use Rattle.find_nests.specs.View.{found_of};
+ghost use Rattle.meaning.specs.Dialect.{fortran77};
+ghost use Rattle.meaning.specs.Profile77.{IsProgram77};
 ghost use Rattle.tree.specs.View.{program_of};
 ghost use Rattle.listing.specs.graphs.Listing.{lines_of_entries};
-ghost use Rattle.listing.specs.programs.Listing.{AreLinesOf, HasEntries, HasFewSymbols, IsListing, kept};
+ghost use Rattle.listing.specs.programs.Listing.{AreLinesOf, HasEntries, IsListing, kept};
+ghost use Rattle.listing.specs.programs.Sources.{IsFoundInSource};
 
 use crate::graphs::kept_lines;
 use crate::programs::lists::add;
@@ -22,7 +25,7 @@ pub fn kept_loop(alloc: Global, line: u32, reason: Reason) -> Result<Seq<Line>, 
 }
 
 fn lines_of(alloc: Global, found: &Found) -> Result<Seq<Line>, Memory>
-    requires { HasFewSymbols (found_of found.now) }
+    requires { IsFoundInSource (found_of found.now) }
     ensures { IfOk result (λ all. AreLinesOf (HasEntries (found_of found.now)) (map text_of all)) }
 {
     match found {
@@ -33,9 +36,9 @@ fn lines_of(alloc: Global, found: &Found) -> Result<Seq<Line>, Memory>
 
 /// The listing of a program: in the order of the text each kept loop with its reason, and each nest with its loops, its
 /// statements, the dependences between them, each with the test behind it, and what keeps a statement from array form.
-/// A nest whose dependences can't be tested so far is one line, as a kept loop.
+/// A nest with an IF, a label or a jump is one line so far, as a kept loop.
 pub fn list(alloc: Global, program: &Program77) -> Result<Seq<Line>, Memory>
-    requires { length program.now.decls ≤ 1000 }
+    requires { IsProgram77 fortran77 (program_of program.now) }
     ensures { IfOk result (λ all. IsListing (program_of program.now) (map text_of all)) }
 {
     let mut all = Vec::new(alloc);

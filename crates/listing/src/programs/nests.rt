@@ -1,16 +1,17 @@
 //! The lines of a nest.
-ghost use Rattle.std.specs.Prelude.{◌≡◌, ◌≤◌, IfOk, Some, length, map};
+ghost use Rattle.std.specs.Prelude.{◌≡◌, IfOk, Some, length, map};
 ghost use Rattle.f90_print.specs.Notes.{text_of};
 ghost use Rattle.listing.specs.graphs.Listing.{lines_of_entries};
 ghost use Rattle.normal_loops.specs.Normalised.{normalised};
 ghost use Rattle.nest.specs.Bodies.{nest_statements};
 ghost use Rattle.nest.specs.View.{nest_of};
-ghost use Rattle.listing.specs.programs.Listing.{AreLinesOf, AreTestsOf, HasNestEntries, all_holds, not_built};
-ghost use Rattle.listing.specs.programs.Testable.{IsTestable};
+ghost use Rattle.listing.specs.programs.Listing.{AreLinesOf, HasNestEntries, all_holds, not_built};
+ghost use Rattle.listing.specs.programs.Sources.{IsNestOfSource};
+ghost use Rattle.listing.specs.programs.Testable.{AreTestsOf, IsTestable};
 
 use crate::graphs::{kept_lines, lines};
+use crate::programs::alone::is_alone;
 use crate::programs::lists::add;
-use crate::programs::straight::is_testable;
 use array_form::holds::holds;
 use dependence_graph::dep_graph::graph;
 use dependence_graph::graphs::{Graph, Hold};
@@ -62,12 +63,14 @@ pub fn not_built(alloc: Global, nest: &Nest) -> Result<Seq<Line>, Memory>
     kept_lines(alloc, nest.line, b"NOTBUILT")
 }
 
-// The lines of a nest that was found as this one, once its loops go from 1 by 1.
+// The lines of a nest that was found, with the one that was made of it.
 fn normal_lines(alloc: Global, found: &Nest, nest: &Nest) -> Result<Seq<Line>, Memory>
+    requires source { IsNestOfSource (nest_of found.now) }
+    requires made { normalised (nest_of found.now) ≡ Some (nest_of nest.now) }
     ensures { IfOk result (λ all.
-        AreLinesOf (HasNestEntries (nest_of found.now) (Some (nest_of nest.now))) (map text_of all)) }
+        AreLinesOf (HasNestEntries (nest_of found.now)) (map text_of all)) }
 {
-    if !is_testable(alloc, nest)? {
+    if !is_alone(&nest.body) {
         return not_built(alloc, found);
     }
     Ok(test(alloc, found.number, nest)?.lines)
@@ -75,9 +78,9 @@ fn normal_lines(alloc: Global, found: &Nest, nest: &Nest) -> Result<Seq<Line>, M
 
 /// The lines of a nest that was found.
 pub(crate) fn nest_lines(alloc: Global, found: &Nest) -> Result<Seq<Line>, Memory>
-    requires { length found.now.symbols ≤ 1000 }
+    requires { IsNestOfSource (nest_of found.now) }
     ensures { IfOk result (λ all.
-        AreLinesOf (HasNestEntries (nest_of found.now) (normalised (nest_of found.now))) (map text_of all)) }
+        AreLinesOf (HasNestEntries (nest_of found.now)) (map text_of all)) }
 {
     let Some(nest) = normalise(alloc, found)? else {
         return not_built(alloc, found);

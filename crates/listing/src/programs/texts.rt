@@ -1,8 +1,10 @@
 //! The text of a listing.
-ghost use Rattle.std.specs.Prelude.{◌≡◌, ◌≤◌, ◌++◌, IfOk, OnOk, length, map};
+ghost use Rattle.std.specs.Prelude.{◌≡◌, ◌++◌, IfOk, OnOk, map};
 ghost use Rattle.std.specs.List.{flat_map};
 ghost use Rattle.f90_grammar.specs.PrintedText.{with_line_feed};
 ghost use Rattle.f90_print.specs.Notes.{text_of};
+ghost use Rattle.meaning.specs.Dialect.{fortran77};
+ghost use Rattle.meaning.specs.Profile77.{IsProgram77};
 ghost use Rattle.tree.specs.View.{program_of};
 ghost use Rattle.listing.specs.programs.Listing.{IsListingText};
 
@@ -30,7 +32,7 @@ fn lines_text(alloc: Global, lines: &[Line]) -> Result<Vec<u8>, Memory>
 
 /// The listing of a program as one text.
 pub fn listing_text(alloc: Global, program: &Program77) -> Result<Vec<u8>, Memory>
-    requires { length program.now.decls ≤ 1000 }
+    requires { IsProgram77 fortran77 (program_of program.now) }
     ensures { IfOk result (λ text. IsListingText (program_of program.now) text.items) }
 {
     let lines = list(alloc, program)?;

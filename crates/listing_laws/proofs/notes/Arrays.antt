@@ -7,11 +7,11 @@ use Rattle.std.proofs.lemmas.List.Elements.{All-head, All-tail}
 use Rattle.dependence_graph.specs.declared.graphs.Dropped.{Dropped}
 use Rattle.dependence_graph.specs.declared.graphs.Edge.{Edge}
 use Rattle.dependence_graph.specs.declared.graphs.Graph.{Graph}
-use Rattle.direction_vectors.specs.Candidates.{Answer}
 use Rattle.tree.specs.Plain.{Expression, Number, Logic, Named, Unary, Binary, Apply, Constructor, Spread, Transpose}
 use Rattle.tree.specs.Plain.{Reshape, Reduce, Expressions, no_expressions, expression, Subscript, Only, Section}
 use Rattle.tree.specs.Plain.{Subscripts, no_subscripts, subscript, Reference}
-use Rattle.dependence_graph.specs.nest_graph.Arcs.{Couple, edge_of, drop_of, with_some, edges_of, drops_of}
+use Rattle.dependence_graph.specs.nest_graph.Arcs.{Answer, Assumed, Couple, Met, Never, Verdict, edge_of, drop_of}
+use Rattle.dependence_graph.specs.nest_graph.Arcs.{with_some, edges_of, drops_of}
 use Rattle.dependence_graph.specs.nest_graph.Graph.{IsCouple, IsGraphOf, all_edges, all_drops}
 use Rattle.dependence_graph.specs.nest_graph.References.{is_among, has_none, own_reference, variables_round, references_in}
 use Rattle.dependence_graph.specs.nest_graph.References.{references_in_all}
@@ -20,9 +20,7 @@ use Rattle.dependence_graph.specs.nest_graph.References.{references_of}
 use Rattle.nest.specs.Bodies.{Standing, nest_statements}
 use Rattle.nest.specs.Plain.{Nest}
 use Rattle.pass_laws.proofs.NormalFacts.Texts.{IsOver, EachIsOver, AreOver, OneIsOver, GuardIsOver}
-use Rattle.subscripts.specs.declared.affine.Dirs.{Dirs}
-use Rattle.subscripts.specs.declared.verdict.Verdict.{Verdict}
-use Rattle.subscripts.specs.declared.verdict.Verdict.TheVariants.{Never, Pair, Assumed}
+use Rattle.subscripts.specs.declared.affine.Dir.{Dir}
 use Rattle.listing_laws.proofs.notes.Made.{IsPrintableStanding}
 use Rattle.listing_laws.proofs.notes.Printable.{ArePrintable, joined}
 
@@ -122,14 +120,14 @@ with_one : {A : Type 0} (P : A → Type 0) (o : Option A) (xs : List A) → ((x 
 with_one P None xs h k = k
 with_one P (Some x) xs h k = (h x refl, k)
 
-edge_named : (c : Couple) (d : Dirs) (v : Verdict) (e : Edge) → HasPrintableArray c → edge_of c d v ≡ Some e → IsNamedEdge e
+edge_named : (c : Couple) (d : List Dir) (v : Verdict) (e : Edge) → HasPrintableArray c → edge_of c d v ≡ Some e → IsNamedEdge e
 edge_named c d (Never w) e h k = let no : ⊥ = cc in absurd no
-edge_named c d (Pair x y w) e h k = let same : c.array ≡ e.array = cc in subst ArePrintable same h
+edge_named c d (Met x y w) e h k = let same : c.array ≡ e.array = cc in subst ArePrintable same h
 edge_named c d (Assumed w) e h k = let same : c.array ≡ e.array = cc in subst ArePrintable same h
 
-drop_named : (c : Couple) (d : Dirs) (v : Verdict) (e : Dropped) → HasPrintableArray c → drop_of c d v ≡ Some e → IsNamedDrop e
+drop_named : (c : Couple) (d : List Dir) (v : Verdict) (e : Dropped) → HasPrintableArray c → drop_of c d v ≡ Some e → IsNamedDrop e
 drop_named c d (Never w) e h k = let same : c.array ≡ e.array = cc in subst ArePrintable same h
-drop_named c d (Pair x y w) e h k = let no : ⊥ = cc in absurd no
+drop_named c d (Met x y w) e h k = let no : ⊥ = cc in absurd no
 drop_named c d (Assumed w) e h k = let no : ⊥ = cc in absurd no
 
 edges_named : (c : Couple) (answers : List Answer) → HasPrintableArray c → AllByRecursion IsNamedEdge (edges_of c answers)

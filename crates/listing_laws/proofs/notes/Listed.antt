@@ -1,5 +1,5 @@
 -- The lines of the listing of a program of FORTRAN 77 are notes.
-use Rattle.std.proofs.Common.{◌≡◌, inl, inr, refl, sym, subst, ℕ, Option, Some, None, List, [], ◌∷◌, codes, Contains}
+use Rattle.std.proofs.Common.{◌≡◌, inl, inr, refl, sym, subst, ℕ, List, [], ◌∷◌, codes, Contains}
 use Rattle.find_nests.specs.Found.{Found, InNest, Kept, found_in}
 use Rattle.find_nests.specs.declared.reasons.Reason.{Reason}
 use Rattle.find_nests.specs.declared.reasons.Reason.TheVariants.{Exit, InnerIf, Bound, Step, Deep, Large}
@@ -7,7 +7,7 @@ use Rattle.meaning.specs.Dialect.{fortran77}
 use Rattle.meaning.specs.Profile77.{IsProgram77}
 use Rattle.tree.specs.Plain.{Program}
 use Rattle.listing.specs.graphs.Lines.{Entry}
-use Rattle.normal_loops.specs.Normalised.{normalised}
+use Rattle.normal_loops.specs.Listed.{IsListedFrom}
 use Rattle.nest.specs.Plain.{Nest}
 use Rattle.meaning_laws.proofs.profiles.Lists.{here, there}
 use Rattle.listing.specs.programs.Listing.{reason_word, all_holds, HasGraphEntries, not_built, HasNestEntries}
@@ -17,6 +17,7 @@ use Rattle.listing_laws.proofs.notes.Arrays.{graph_named}
 use Rattle.listing_laws.proofs.notes.Entries.{ArePrintableEntries, kept, nest_printable}
 use Rattle.listing_laws.proofs.notes.Found.{found_names}
 use Rattle.listing_laws.proofs.notes.Made.{IsPrintableNest, made_names}
+use Rattle.listing_laws.proofs.notes.Normal.{listed_is_made}
 use Rattle.listing_laws.proofs.notes.Notes.{IsPrintableEntry, AreNotes, entry_notes}
 use Rattle.listing_laws.proofs.notes.Printable.{ArePrintable, joined, word}
 
@@ -36,16 +37,15 @@ not_built_printable n es e = subst ArePrintableEntries (sym e) (kept n.line (cod
 graph_printable : (number : ℕ) (m : Nest) (es : List Entry) → IsPrintableNest m → HasGraphEntries number m es → ArePrintableEntries es
 graph_printable number m es h k = subst ArePrintableEntries (sym k.2) (nest_printable m number k.0 (all_holds m) h (graph_named m k.0 h.statements k.1))
 
-nest_entries : (n : Nest) (o : Option Nest) (es : List Entry) → ((m : Nest) → o ≡ Some m → IsPrintableNest m) → HasNestEntries n o es → ArePrintableEntries es
-nest_entries n None es h k = not_built_printable n es k
-nest_entries n (Some m) es h (inl k) = graph_printable n.number m es (h m refl) k.1
-nest_entries n (Some m) es h (inr k) = not_built_printable n es k.1
+nest_entries : (n : Nest) (es : List Entry) → ((m : Nest) → IsListedFrom n m → IsPrintableNest m) → HasNestEntries n es → ArePrintableEntries es
+nest_entries n es h (inl k) = graph_printable n.number k.0 es (h k.0 k.1) k.2
+nest_entries n es h (inr k) = not_built_printable n es k.1
 
 -- ---- a program
 
 module _ (p : Program) (is : IsProgram77 fortran77 p) where
   entries : (f : Found) (es : List Entry) → Contains (found_in p) f → HasEntries f es → ArePrintableEntries es
-  entries (InNest n) es c h = nest_entries n (normalised n) es (made_names n (found_names fortran77 p is n c)) h
+  entries (InNest n) es c h = nest_entries n es (λ m listed. made_names n (found_names fortran77 p is n c) m (listed_is_made n m listed)) h
   entries (Kept line r) es c h = subst ArePrintableEntries (sym h) (kept line (reason_word r) (reason r), tt)
 
   all_entries : (fs : List Found) (es : List Entry) → ((f : Found) → Contains fs f → Contains (found_in p) f) → HaveEntries fs es → ArePrintableEntries es

@@ -5,8 +5,7 @@ use Rattle.components.specs.Lists.{Each}
 use Rattle.components.proofs.ListLaws.{Each-append}
 use Rattle.tree.specs.Plain.{Expression}
 use Rattle.last_values.specs.InPlace.{first_text, end_text}
-use Rattle.normal_loops.specs.Bodies.{counting}
-use Rattle.normal_loops.specs.Normalised.{normalised}
+use Rattle.normal_loops.specs.Counting.{counting}
 use Rattle.nest.specs.Bodies.{Standing, nest_statements}
 use Rattle.nest.specs.Plain.{Loop, Nest}
 use Rattle.last_values.specs.normal_forms.NormalLoops.{counter_name, normal_loop}
@@ -15,7 +14,7 @@ use Rattle.pass_laws.proofs.NormalFacts.LoopWalk.{LoopSteps, EachLoop, each_loop
 use Rattle.pass_laws.proofs.NormalFacts.Texts.{IsOver, IsStatementOver, CountersAre, normal_over, trip_over, first_over}
 use Rattle.pass_laws.proofs.NormalFacts.Texts.{end_over}
 use Rattle.pass_laws.proofs.ReadyNests.LoopForms.{normal_loop_is}
-use Rattle.pass_laws.proofs.ReadyNests.Made.{made_of}
+use Rattle.pass_laws.proofs.ReadyNests.Made.{IsMadeOf}
 use Rattle.pass_laws.proofs.ReadyNests.NormalTrips.{AreLoops, loop_more, no_loops}
 use Rattle.pass_laws.proofs.ReadyNests.Walk.{Steps, assigning, standing, each_statement}
 use Rattle.listing_laws.proofs.notes.Found.{IsPrintableLoop, HasPrintableNames}
@@ -82,9 +81,9 @@ module _ (n : Nest) (names : HasPrintableNames n) where
   outside : AreUnder [] []
   outside = record { loops = no_loops; counters = tt }
 
-  pub made_names : (m : Nest) → normalised n ≡ Some m → IsPrintableNest m
+  pub made_names : (m : Nest) → IsMadeOf n m → IsPrintableNest m
   made_names m e = record {
     statements = by_recursion IsPrintableStanding (nest_statements m)
-        (each_statement n m (IsStatementOver ArePrintable) IsPrintableLoop AreUnder IsPrintableStanding steps outside names.body (made_of n m e));
-    loops = each_loop n m (IsStatementOver ArePrintable) IsPrintableLoop AreUnder IsPrintableIn loop_steps outside names.body (made_of n m e);
+        (each_statement n m (IsStatementOver ArePrintable) IsPrintableLoop AreUnder IsPrintableStanding steps outside names.body e);
+    loops = each_loop n m (IsStatementOver ArePrintable) IsPrintableLoop AreUnder IsPrintableIn loop_steps outside names.body e;
   }

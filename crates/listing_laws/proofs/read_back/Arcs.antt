@@ -1,7 +1,7 @@
 -- The edges and drops of the graph of a nest can be listed.
-use Rattle.std.proofs.Common.{◌≡◌, refl, sym, ap, subst, ℕ, zero, suc, ◌+◌, ◌≤◌, ◌^◌, Bool, true, false, cond, Option, Some}
+use Rattle.std.proofs.Common.{◌≡◌, refl, sym, subst, ℕ, zero, suc, ◌+◌, ◌-◌, ◌≤◌, ◌^◌, Bool, true, false, cond, Option, Some}
 use Rattle.std.proofs.Common.{None}
-use Rattle.std.proofs.Common.{List, [], ◌∷◌, ◌++◌, length, take, arith}
+use Rattle.std.proofs.Common.{List, [], ◌∷◌, ◌++◌, length, get_or, take, arith}
 use Rattle.std.proofs.lemmas.List.Elements.{All-head, All-tail}
 use Rattle.std.proofs.lemmas.Option.{slice_get_within}
 use Rattle.std.specs.List.{AllByRecursion}
@@ -10,32 +10,32 @@ use Rattle.dependence_graph.specs.declared.graphs.Dropped.{Dropped}
 use Rattle.dependence_graph.specs.declared.graphs.Edge.{Edge}
 use Rattle.dependence_graph.specs.declared.graphs.Graph.{Graph}
 use Rattle.dependence_graph.specs.declared.graphs.Place.{Place}
-use Rattle.direction_vectors.specs.Candidates.{Answer}
 use Rattle.tree.specs.Plain.{Expression, Number, Logic, Named, Unary, Binary, Apply, Constructor, Spread, Transpose}
 use Rattle.tree.specs.Plain.{Reshape, Reduce, Expressions, no_expressions, expression, Subscript, Only, Section}
 use Rattle.tree.specs.Plain.{Subscripts, no_subscripts, subscript, Reference}
 use Rattle.listing.specs.graphs.Listing.{edge_entry, drop_entry, depth_of}
 use Rattle.listing_laws.proofs.notes.Printable.{joined}
 use Rattle.listing_laws.specs.reader.Listable.{IsWord, IsListable, IsListablePlace, IsListableMeeting}
-use Rattle.dependence_graph.specs.nest_graph.Arcs.{Couple, edge_of, drop_of, with_some, edges_of, drops_of, level_from}
-use Rattle.dependence_graph.specs.nest_graph.Graph.{IsCouple, IsGraphOf, IsEdgeRight, IsRightAnswer, all_edges, all_drops}
+use Rattle.dependence_graph.specs.nest_graph.Arcs.{Answer, Assumed, Couple, Met, Never, Verdict, edge_of, edge_with, drop_of}
+use Rattle.dependence_graph.specs.nest_graph.Arcs.{with_some, edges_of, drops_of, in_places, in_point, level_from, level_of}
+use Rattle.dependence_graph.specs.nest_graph.Graph.{IsCouple, IsGraphOf, IsRight, all_edges, all_drops, candidate_of}
+use Rattle.dependence_graph.specs.nest_graph.Pair.{IsCandidate}
 use Rattle.dependence_graph.specs.nest_graph.Ready.{IsReady}
 use Rattle.dependence_graph.specs.nest_graph.References.{is_among, has_none, own_reference, variables_round, references_in}
 use Rattle.dependence_graph.specs.nest_graph.References.{references_in_all, references_in_subscript, references_in_subscripts}
 use Rattle.dependence_graph.specs.nest_graph.References.{references_in_guard, references_of}
-use Rattle.dependence_graph.specs.nest_graph.Tested.{IsReference}
+use Rattle.dependence_graph.specs.nest_graph.Tested.{Both, IsReference, both}
+use Rattle.dependence_graph.specs.nest_graph.Vectors.{StandsFor}
+use Rattle.dependence_graph.proofs.dep_graph.Couples.{common_first}
+use Rattle.dependence_graph.proofs.dep_graph.Directions.{places_length}
+use Rattle.dependence_graph.proofs.nest_graph.Filled.{filled, filled_length, filled_stands}
 use Rattle.nest.specs.Bodies.{Standing, nest_statements}
 use Rattle.nest.specs.Plain.{Nest}
 use Rattle.pass_laws.proofs.NormalFacts.Texts.{IsOver, EachIsOver, AreOver, OneIsOver, GuardIsOver}
 use Rattle.subscripts.specs.declared.affine.Dir.TheVariants.{Lt, Eq, Gt, Any}
 use Rattle.subscripts.specs.declared.affine.Dir.{Dir}
-use Rattle.subscripts.specs.declared.affine.Dirs.{Dirs}
-use Rattle.subscripts.specs.declared.verdict.Verdict.TheVariants.{Never, Pair, Assumed}
-use Rattle.subscripts.specs.declared.verdict.Verdict.{Verdict}
-use Rattle.direction_vectors.specs.vector_tests.Refs.{IsVectorOf}
-use Rattle.direction_vectors.specs.declared.vector_tests.refs.RefPair.{RefPair}
 use Rattle.listing_laws.proofs.read_back.Made.{IsTidy, IsTidyNest}
-use Rattle.listing_laws.proofs.read_back.Meetings.{shown_small}
+use Rattle.listing_laws.proofs.read_back.Meetings.{ready_at, shown_small}
 
 -- ---- the references of a statement
 
@@ -162,73 +162,70 @@ module _ (m : Nest) (ready : IsReady m) (tidy : IsTidyNest m) (few : length (nes
       }
 
   module _ (c : Couple) (is : IsCouple m c) where
-    edge : (d : Dirs) (v : Verdict) (e : Edge) → IsVectorOf c.refs d → IsEdgeRight m c d v → edge_of c d v ≡ Some e
-        → IsListableEdge e
+    abbrev of' : Both
+    of' = both m c.from c.to is.refs
+
+    -- what holds of an answer
+    abbrev IsRightAnswer : Answer → Type 0
+    IsRightAnswer a = IsRight m c of' a.0 a.1
+
+    abbrev IsShortAnswer : Answer → Type 0
+    IsShortAnswer a = length a.0 ≤ 7
+
+    level_small : (d : List Dir) → length d ≤ 7 → level_of (in_places d) ≤ 7
+    level_small d h = let places = places_length d h in let most = level_most 0 (in_places d).at in omega (arith, places, most)
+
+    edge : (d : List Dir) (v : Verdict) (e : Edge) → length d ≤ 7 → IsRight m c of' d v → edge_of c d v ≡ Some e → IsListableEdge e
     edge d (Never w) e h k g = let no : ⊥ = cc in absurd no
     edge d (Assumed w) e h k g =
         let l = couple c is in
-        let places = h.places in
-        let most = level_most 0 d.at in
-        let same : e ≡ record {
-          from = c.from;
-          to = c.to;
-          kind = c.kind;
-          array = c.array;
-          dirs = d;
-          level =
-              level_from 0 d.at;
-          test = w;
-          pair = None;
-        } = cc in
+        let most = level_small d h in
+        let same : e ≡ edge_with c d w None = cc in
         subst IsListableEdge (sym same) (
           record { from = l.from; to = l.to; array = l.array },
-          (omega (arith, places, most), tt),
+          (omega (arith, most), tt),
         )
-    edge d (Pair x y w) e h k g =
+    edge d (Met x y w) e h k g =
         let l = couple c is in
-        let places = h.places in
-        let most = level_most 0 d.at in
-        let same : e ≡ record {
-          from = c.from;
-          to = c.to;
-          kind = c.kind;
-          array = c.array;
-          dirs = d;
-          level =
-              level_from 0 d.at;
-          test = w;
-          pair = Some (x, y);
-        } = cc in
-        let pair = k.least.pair in
+        let most = level_small d h in
+        let same : e ≡ edge_with c d w (Some (in_point x, in_point y)) = cc in
         let meeting : IsListableMeeting (record
-        { first = take (depth_of ts c.from.stmt) x.at; second = take (depth_of ts c.to.stmt) y.at }) = record {
-          first = shown_small m ready pair.values c.from.stmt is.refs.first c.refs.from_spans x.at
-              is.refs.first_is.statement (ap (λ (r : RefPair). r.from_spans) is.tested) k.exact.from_fixed pair.first_instance;
-          second = shown_small m ready pair.values c.to.stmt is.refs.second c.refs.to_spans y.at
-              is.refs.second_is.statement (ap (λ (r : RefPair). r.to_spans) is.tested) k.exact.to_fixed pair.second_instance;
+        { first = take (depth_of ts c.from.stmt) (in_point x).at; second = take (depth_of ts c.to.stmt) (in_point y).at }) = record {
+          first = shown_small m ready k.pair.values c.from.stmt is.refs.first x (7 - length x) is.refs.first_is.statement k.exact.first_trips
+              k.pair.first_instance;
+          second = shown_small m ready k.pair.values c.to.stmt is.refs.second y (7 - length y) is.refs.second_is.statement k.exact.second_trips
+              k.pair.second_instance;
         } in
         subst IsListableEdge (sym same) (
           record { from = l.from; to = l.to; array = l.array },
-          (omega (arith, places, most), meeting),
+          (omega (arith, most), meeting),
         )
 
-    drop : (d : Dirs) (v : Verdict) (e : Dropped) → drop_of c d v ≡ Some e → IsListableDrop e
-    drop d (Pair x y w) e g = let no : ⊥ = cc in absurd no
+    drop : (d : List Dir) (v : Verdict) (e : Dropped) → drop_of c d v ≡ Some e → IsListableDrop e
+    drop d (Met x y w) e g = let no : ⊥ = cc in absurd no
     drop d (Assumed w) e g = let no : ⊥ = cc in absurd no
     drop d (Never w) e g =
         let l = couple c is in
-        let same : e ≡ record { from = c.from; to = c.to; kind = c.kind; array = c.array; dirs = d; test = w } = cc in
+        let same : e ≡ record { from = c.from; to = c.to; kind = c.kind; array = c.array; dirs = in_places d; test = w } = cc in
         subst IsListableDrop (sym same) (record { from = l.from; to = l.to; array = l.array })
 
-    edges : (answers : List Answer) → All (λ (a : Answer). IsVectorOf c.refs a.0) answers
-        → All (IsRightAnswer m c) answers
+    -- its vector has a direction for each loop round both
+    short_answer : (a : Answer) → ((v : List Dir) → StandsFor a.0 v → IsCandidate m (candidate_of c v)) → IsShortAnswer a
+    short_answer a h =
+        let i = h (filled a.0) (filled_stands a.0) in
+        let common = common_first i.refs.first.loops i.refs.second.loops in
+        let deep = (ready_at m ready c.from.stmt i.refs.first i.refs.first_is.statement).depth in
+        let long = filled_length a.0 in
+        let loops = i.loops in
+        omega (arith, common, deep, long, loops)
+
+    edges : (answers : List Answer) → All IsShortAnswer answers → All IsRightAnswer answers
         → AllByRecursion IsListableEdge (edges_of c answers)
     edges [] h k = tt
     edges (a ∷ more) h k =
         with_one IsListableEdge (edge_of c a.0 a.1) (edges_of c more)
-        (λ e g. edge a.0 a.1 e (All-head (λ (b : Answer). IsVectorOf c.refs b.0) a more h)
-        (All-head (IsRightAnswer m c) a more k).edge g)
-        (edges more (All-tail (λ (b : Answer). IsVectorOf c.refs b.0) a more h) (All-tail (IsRightAnswer m c) a more k))
+        (λ e g. edge a.0 a.1 e (All-head IsShortAnswer a more h) (All-head IsRightAnswer a more k) g)
+        (edges more (All-tail IsShortAnswer a more h) (All-tail IsRightAnswer a more k))
 
     drops : (answers : List Answer) → AllByRecursion IsListableDrop (drops_of c answers)
     drops [] = tt
@@ -239,7 +236,8 @@ module _ (m : Nest) (ready : IsReady m) (tidy : IsTidyNest m) (few : length (nes
   every_edge [] h = tt
   every_edge (c ∷ cs) h =
       let is = All-head (IsCouple m) c cs h in
-      joined IsListableEdge (edges_of c c.answers) (all_edges cs) (edges c is c.answers is.vectors is.right)
+      joined IsListableEdge (edges_of c c.answers) (all_edges cs) (edges c is c.answers
+      (λ k d l. short_answer c is (get_or c.answers k d) (is.candidates k d l)) is.right)
       (every_edge cs (All-tail (IsCouple m) c cs h))
 
   every_drop : (cs : List Couple) → All (IsCouple m) cs → AllByRecursion IsListableDrop (all_drops cs)

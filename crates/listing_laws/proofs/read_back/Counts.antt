@@ -23,7 +23,7 @@ use Rattle.linear_forms.specs.Texts.{with_place, with_symbols}
 use Rattle.dependence_graph.specs.nest_graph.References.{is_among as is_round, has_none, own_reference, references_in, references_in_all}
 use Rattle.dependence_graph.specs.nest_graph.References.{references_in_subscript, references_in_subscripts, references_of}
 use Rattle.dependence_graph.specs.nest_graph.References.{variables_round, references_in_guard}
-use Rattle.nest_rewrite.specs.Rewritten.{rewritten_statement}
+use Rattle.nest_rewrite.specs.Statements.{rewritten_statement}
 use Rattle.nest.specs.Bodies.{Standing}
 use Rattle.nest.specs.Plain.{Guarded}
 

@@ -9,7 +9,7 @@ use Rattle.components.specs.Lists.{Each}
 use Rattle.find_nests.proofs.FoundLaws.{found_nest_is_loop, kept_is_loop}
 use Rattle.find_nests.specs.Found.{InNest, Kept, found_in, found_among, found_as, nests_with, nest_of_loop}
 use Rattle.find_nests.specs.Loops.{SourceLoop, Numbered, Placed, as_statement, loops_in, loops_in_arms, loops_in_block}
-use Rattle.find_nests.specs.Loops.{looked_at, reason_of}
+use Rattle.find_nests.specs.LookedAt.{looked_at, reason_of}
 use Rattle.find_nests.specs.declared.reasons.Reason.{Reason}
 use Rattle.meaning.specs.Blocks.{Surroundings, outermost, within_loop, before_labels, labels_of}
 use Rattle.meaning.specs.Dialect.{Dialect}

@@ -1,31 +1,25 @@
 -- What is made of a nest of a program: its loops, and its statements with their references.
-use Rattle.std.proofs.Common.{◌≡◌, refl, sym, ap, ◌∙◌, subst, ◌≤◌, ◌^◌, List, [], ◌∷◌, ◌++◌, length, Some, None}
-use Rattle.std.proofs.Common.{Bool, true, false, cond, arith}
+use Rattle.std.proofs.Common.{◌≡◌, refl, sym, subst, ◌≤◌, ◌^◌, List, [], ◌∷◌, ◌++◌, length, Some, arith}
 use Rattle.std.specs.List.{AllByRecursion}
 use Rattle.components.proofs.ListLaws.{Each-append}
 use Rattle.components.specs.Lists.{Each}
-use Rattle.tree.specs.Plain.{Block, Expression}
+use Rattle.tree.specs.Plain.{Expression}
 use Rattle.listing.specs.graphs.Listing.{loop_numbers}
-use Rattle.last_values.specs.Behind.{values_behind}
 use Rattle.last_values.specs.InPlace.{first_text, end_text}
-use Rattle.last_values.specs.declared.behind.NestedLoop.{NestedLoop}
 use Rattle.listing_laws.specs.reader.Listable.{IsSmall, IsWord}
-use Rattle.normal_loops.specs.Bodies.{counting, normal_part}
-use Rattle.normal_loops.specs.Loops.{is_normal, nested_loops}
-use Rattle.normal_loops.specs.Normalised.{normalised, only_one, with_body, with_loops}
+use Rattle.normal_loops.specs.Counting.{counting}
 use Rattle.normal_loops.specs.Values.{normal_statement}
 use Rattle.dependence_graph.specs.nest_graph.References.{references_of}
 use Rattle.nest.specs.Bodies.{Standing, nest_statements}
-use Rattle.nest.specs.Plain.{Loop, Guarded, Nest, Part}
+use Rattle.nest.specs.Plain.{Loop, Guarded, Nest}
 use Rattle.pass_laws.proofs.NormalFacts.LoopWalk.{LoopSteps, EachLoop, each_loop}
 use Rattle.pass_laws.proofs.NormalFacts.Texts.{IsOver, IsStatementOver, CountersAre, normal_over, first_over, end_over}
 use Rattle.last_values.specs.normal_forms.NormalLoops.{normal_loop}
 use Rattle.last_values.specs.declared.normal_forms.loops.NormalLoop.{NormalLoop}
 use Rattle.pass_laws.proofs.ReadyNests.LoopForms.{normal_loop_is}
-use Rattle.pass_laws.proofs.ReadyNests.Made.{made_of}
+use Rattle.pass_laws.proofs.ReadyNests.Made.{IsMadeOf}
 use Rattle.pass_laws.proofs.ReadyNests.NormalTrips.{AreLoops, loop_more, no_loops}
 use Rattle.pass_laws.proofs.ReadyNests.Walk.{Steps, assigning, standing, each_statement}
-use Rattle.std.specs.Option.{option_map}
 use Rattle.listing_laws.proofs.read_back.Counts.{few_references}
 use Rattle.listing_laws.proofs.read_back.Found.{IsFairLoop, IsFairStatement, IsFairNest}
 use Rattle.listing_laws.proofs.read_back.Sizes.{HasSizes, loop_sized}
@@ -143,34 +137,9 @@ module _ (n : Nest) (names : IsFairNest n) where
   outside : AreUnder [] []
   outside = record { loops = no_loops; counters = tt; sizes = tt; tidy = tt }
 
-  pub made_tidy : (m : Nest) → normalised n ≡ Some m → IsTidyNest m
+  pub made_tidy : (m : Nest) → IsMadeOf n m → IsTidyNest m
   made_tidy m e = record {
     statements = by_recursion IsTidy (nest_statements m)
-        (each_statement n m IsFairStatement IsFairLoop AreUnder IsTidy steps outside names.body (made_of n m e));
-    loops = each_loop n m IsFairStatement IsFairLoop AreUnder IsTidyIn loop_steps outside names.body (made_of n m e);
+        (each_statement n m IsFairStatement IsFairLoop AreUnder IsTidy steps outside names.body e);
+    loops = each_loop n m IsFairStatement IsFairLoop AreUnder IsTidyIn loop_steps outside names.body e;
   }
-
--- ---- the line of what is made
-
-line_is : (n : Nest) (more : Block) (p : Part) → (with_body n more p).line ≡ n.line
-unfolding with_body
-line_is n more p = refl
-
-module _ (n m : Nest) where
-  of_bodies : (more : Block) (ps : List Part) → option_map (with_body n more) (only_one ps) ≡ Some m → m.line ≡ n.line
-  of_bodies more [] e = let no : ⊥ = cc in absurd no
-  of_bodies more (p ∷ []) e =
-      let same : with_body n more p ≡ m = cc in sym (ap (λ (k : Nest). k.line) same) ∙ line_is n more p
-  of_bodies more (p ∷ q ∷ ps) e = let no : ⊥ = cc in absurd no
-
-  of_loops : (ls : List NestedLoop) → with_loops n ls ≡ Some m → m.line ≡ n.line
-  unfolding with_loops
-  of_loops ls e = of_bodies (values_behind n.symbols n.line ls n.body) (normal_part n ls [] n.body) e
-
-  pub same_line : normalised n ≡ Some m → m.line ≡ n.line
-  unfolding normalised
-  same_line e = by (is_normal n.symbols [] n.body) e
-    where
-      by : (b : Bool) → cond b (with_loops n (nested_loops n.symbols [] n.body)) None ≡ Some m → m.line ≡ n.line
-      by true g = of_loops (nested_loops n.symbols [] n.body) g
-      by false g = let no : ⊥ = cc in absurd no

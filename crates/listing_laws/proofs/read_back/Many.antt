@@ -8,15 +8,15 @@ use Rattle.tree.specs.Plain.{Allocate, Deallocate, Arms, no_arms, arm, Block, no
 use Rattle.components.proofs.ListLaws.{Each-append}
 use Rattle.components.specs.Lists.{Each}
 use Rattle.last_values.specs.Behind.{stands_behind}
-use Rattle.last_values.specs.InPlace.{assigned_part, only_where_part, first_text, own_trip_text, end_part, parts_before}
-use Rattle.last_values.specs.InPlace.{parts_behind}
+use Rattle.last_values.specs.InPlace.{assigned_part, first_text, own_trip_text, end_part}
+use Rattle.last_values.specs.PartsInPlace.{only_where_part, parts_before, parts_behind}
 use Rattle.last_values.specs.declared.behind.NestedLoop.{NestedLoop}
-use Rattle.normal_loops.specs.Bodies.{counting, placed, normal_turns, normal_part, normal_parts, normal_branches}
+use Rattle.normal_loops.specs.Bodies.{placed, normal_turns, normal_part, normal_parts, normal_branches}
+use Rattle.normal_loops.specs.Counting.{counting}
 use Rattle.normal_loops.specs.Loops.{with_loop}
 use Rattle.find_nests.specs.nest_parts.Numbers.{next, after, after_arms, after_block}
 use Rattle.find_nests.specs.nest_parts.Statements.{parts_of, branches_of, parts_of_block}
-use Rattle.nest.specs.Bodies.{Standing, statements_in, statements_in_parts, statements_in_branches}
-use Rattle.nest.specs.Bodies.{nest_statements}
+use Rattle.nest.specs.Bodies.{Standing, statements_in, statements_in_parts, statements_in_branches, nest_statements}
 use Rattle.nest.specs.Plain.{Loop, Part, Run, Turns, Choice, Label, Jump, Parts, no_parts, part, parts, Branches}
 use Rattle.nest.specs.Plain.{no_branches, branch, Nest}
 use Rattle.last_values.specs.normal_forms.NormalLoops.{normal_loop, is_positive, is_known}

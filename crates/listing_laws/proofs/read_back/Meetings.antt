@@ -1,6 +1,6 @@
 -- The iterations of a pair that an edge shows are small.
 use Rattle.std.proofs.Common.{◌≡◌, sym, ap, ◌∙◌, subst, ℕ, suc, ◌≤◌, ◌^◌, true, List, [], ◌∷◌, ◌++◌}
-use Rattle.std.proofs.Common.{length, take, Option, Some, None, arith}
+use Rattle.std.proofs.Common.{length, replicate, take, refl, Option, Some, None, arith}
 use Rattle.std.proofs.lemmas.Int.{ints}
 use Rattle.std.proofs.lemmas.List.Elements.{All-head, All-tail}
 use Rattle.std.proofs.lemmas.Option.{slice_get_within, get_or_from_slice_get}
@@ -16,6 +16,9 @@ use Rattle.dependence_graph.proofs.loop_spans.TurnLaws.{turns_within, spans_are,
 use Rattle.dependence_graph.specs.nest_graph.Instances.{IsInstance, AreTurns}
 use Rattle.dependence_graph.specs.nest_graph.Ready.{IsReady, IsReadyStatement, HaveTrips, IsTripIn}
 use Rattle.dependence_graph.specs.nest_graph.Spans.{spans_of}
+use Rattle.dependence_graph.specs.nest_graph.Trips.{HasConstantTrip}
+use Rattle.dependence_graph.proofs.dep_graph.Lasts.{all_fixed}
+use Rattle.dependence_graph.proofs.dep_graph.Lists.{iterations_count}
 use Rattle.nest.specs.Bodies.{Standing, nest_statements}
 use Rattle.nest.specs.Plain.{Loop, Nest}
 use Rattle.nest.specs.declared.parts.Trip.{Trip}
@@ -47,6 +50,10 @@ one_small d outer (Some t) s i p h f w =
 
 -- ---- the loops round a statement
 
+take_front : (xs ys : List ℤ) → take (length xs) (xs ++ ys) ≡ xs
+take_front [] ys = refl
+take_front (x ∷ xs) ys = ap (λ (zs : List ℤ). x ∷ zs) (take_front xs ys)
+
 each_small : (d : ℕ) (outer : List Span) (ls : List Loop) (ss : List Span) (x : List ℤ) → HaveTrips d ls
     → AreSpansOf outer ls ss
     → All (λ (s : Span). IsTrue s.fixed) ss → WithinSpans ss x → AllByRecursion IsSmallInteger x
@@ -64,32 +71,31 @@ module _ (m : Nest) (ready : IsReady m) where
   abbrev ts : List Standing
   ts = nest_statements m
 
-  ready_at : (k : ℕ) (s : Standing) → slice_get ts k ≡ Some s → IsReadyStatement s
+  pub ready_at : (k : ℕ) (s : Standing) → slice_get ts k ≡ Some s → IsReadyStatement s
   ready_at k s e = subst IsReadyStatement (get_or_from_slice_get ts k s s e)
       (ready.statements k s (slice_get_within ts k s e))
 
   depth_is : (k : ℕ) (s : Standing) → slice_get ts k ≡ Some s → depth_of ts k ≡ length s.loops
   depth_is k s e = ap (λ (o : Option Standing). elim o as (λ _. ℕ) [ Some t ↦ length t.loops | None ↦ 0 ]) e
 
-  -- the iterations of the loops round a statement in an instance of it, where the spans of all of them are constants
-  instance_small : (values : ℕ → ℤ) (k : ℕ) (s : Standing) (ss : List Span) (x : List ℤ) → slice_get ts k ≡ Some s
-      → AreSpansOf [] s.loops ss
-      → All (λ (s : Span). IsTrue s.fixed) ss → IsInstance m values k x → AllByRecursion IsSmallInteger x
-  instance_small values k s ss x e h f i =
+  -- the iterations of the loops round a statement in an instance of it, where all of them have constant trips
+  instance_small : (values : ℕ → ℤ) (k : ℕ) (s : Standing) (x : List ℤ) → slice_get ts k ≡ Some s → All HasConstantTrip s.loops
+      → IsInstance m values k x → (length x ≡ length s.loops) × AllByRecursion IsSmallInteger x
+  instance_small values k s x e f i =
       let here = ready_at k s e in
       let one : Some i.standing ≡ Some s = sym i.is_at ∙ e in
       let same : i.standing ≡ s = cc in
       let turns : AreTurns values [] s.loops x = subst (λ (t : Standing). AreTurns values [] t.loops x) same i.turns in
-      each_small 0 [] s.loops ss x here.trips h f (turns_within 0 values [] [] s.loops ss x here.trips h tt turns)
+      let ss = spans_of [] s.loops in
+      let h : AreSpansOf [] s.loops ss = spans_are 0 [] s.loops here.trips in
+      let w = turns_within 0 values [] [] s.loops ss x here.trips h tt turns in
+      (iterations_count ss x w ∙ spans_length [] s.loops ss h, each_small 0 [] s.loops ss x here.trips h (all_fixed [] s.loops f) w)
 
   -- as the listing shows them
-  pub shown_small : (values : ℕ → ℤ) (k : ℕ) (s : Standing) (ss : List Span) (x : List ℤ) → slice_get ts k ≡ Some s
-      → ss ≡ spans_of [] s.loops
-      → All (λ (s : Span). IsTrue s.fixed) ss → IsInstance m values k (take (length ss) x)
-      → AllByRecursion IsSmallInteger (take (depth_of ts k) x)
-  shown_small values k s ss x e are f i =
-      let h : AreSpansOf [] s.loops ss =
-      subst (AreSpansOf [] s.loops) (sym are) (spans_are 0 [] s.loops (ready_at k s e).trips) in
-      let deep : length ss ≡ depth_of ts k = spans_length [] s.loops ss h ∙ sym (depth_is k s e) in
-      subst (λ (n : ℕ). AllByRecursion IsSmallInteger (take n x)) deep
-      (instance_small values k s ss (take (length ss) x) e h f i)
+  pub shown_small : (values : ℕ → ℤ) (k : ℕ) (s : Standing) (x : List ℤ) (more : ℕ) → slice_get ts k ≡ Some s → All HasConstantTrip s.loops
+      → IsInstance m values k x → AllByRecursion IsSmallInteger (take (depth_of ts k) (x ++ replicate more (pos 1)))
+  shown_small values k s x more e f i =
+      let small = instance_small values k s x e f i in
+      let deep : length x ≡ depth_of ts k = small.0 ∙ sym (depth_is k s e) in
+      subst (λ (n : ℕ). AllByRecursion IsSmallInteger (take n (x ++ replicate more (pos 1)))) deep
+      (subst (AllByRecursion IsSmallInteger) (sym (take_front x (replicate more (pos 1)))) small.1)

@@ -1,5 +1,5 @@
 -- From the lines that are listed of a source its entries are read.
-use Rattle.std.proofs.Common.{◌≡◌, refl, sym, ap, ◌∙◌, ℕ, ◌<◌, ◌≤◌, ◌==◌, false, Some, List, [], ◌∷◌, map, arith, ap₂}
+use Rattle.std.proofs.Common.{◌≡◌, refl, sym, ap, ◌∙◌, ℕ, ◌<◌, ◌≤◌, ◌==◌, false, Some, List, [], ◌∷◌, map, flat_map, arith, ap₂}
 use Rattle.std.proofs.Common.{lit<}
 use Rattle.std.proofs.lemmas.Bool.{ne_eqb}
 use Rattle.std.specs.List.{AllByRecursion}
@@ -11,13 +11,16 @@ use Rattle.meaning.specs.Dialect.{fortran77}
 use Rattle.meaning.specs.Profile77.{IsProgram77}
 use Rattle.tree.specs.Plain.{Program}
 use Rattle.listing.specs.graphs.Lines.{Entry}
-use Rattle.f90_grammar.specs.PrintedText.{IsNote}
+use Rattle.listing.specs.programs.Listing.{IsListingText}
+use Rattle.f90_grammar.specs.PrintedText.{IsNote, with_line_feed}
 use Rattle.f90_laws.proofs.printed.PrintedLinesText.{IsLine, lines_again}
 use Rattle.listing_laws.proofs.notes.Listed.{listing_lines_are_notes}
+use Rattle.listing_laws.specs.reader.Lists.{Lists}
 use Rattle.listing_laws.specs.reader.Reader.{read_listing}
 use Rattle.listing_laws.proofs.read_back.Listed.{program_listing_is_read}
 use Rattle.listing_laws.proofs.read_back.Sources.{source_is_short}
-use Rattle.listing_laws.specs.read_back.Laws.{SourceListingIsRead, SourceListingTextIsRead, SameLinesListTheSame}
+use Rattle.listing_laws.specs.read_back.Laws.{SourceListingIsRead, SourceListingTextIsRead, SourceListingTextLists}
+use Rattle.listing_laws.specs.read_back.Laws.{SameLinesListTheSame}
 
 is_program : (source : List ℕ) (p : Program) → Reads77 fortran77 source p → IsProgram77 fortran77 p
 is_program source p h =
@@ -42,12 +45,33 @@ each_inside : (ls : List (List ℕ)) → AllByRecursion IsNote ls → AllByRecur
 each_inside [] h = tt
 each_inside (l ∷ ls) h = (inside l h.0.printable, each_inside ls h.1)
 
+module _ (source : List ℕ) (p : Program) (text : List ℕ) (h : Reads77 fortran77 source p) (listed : IsListingText p text) where
+  same_lines : lines text ≡ listed.lines
+  same_lines =
+      let notes = listing_lines_are_notes p listed.lines (is_program source p h) listed.listing in
+      ap lines listed.text_is ∙ lines_again listed.lines (each_inside listed.lines notes)
+
+  read_from_text : read_listing (lines text) ≡ map Some listed.listing.entries
+  read_from_text = ap read_listing same_lines ∙ source_listing_is_read source p listed.lines h listed.listing
+
+  text_lists : Lists p (lines text) × (text ≡ flat_map with_line_feed (lines text))
+  text_lists = (
+    record {
+      listing = record {
+        entries = listed.listing.entries;
+        are = listed.listing.are;
+        lines_are = same_lines ∙ listed.listing.lines_are;
+      };
+      read = read_from_text;
+    },
+    listed.text_is ∙ ap (flat_map with_line_feed) (sym same_lines),
+  )
+
 pub source_listing_text_is_read : SourceListingTextIsRead
-source_listing_text_is_read source p text h listed =
-    let notes = listing_lines_are_notes p listed.lines (is_program source p h) listed.listing in
-    let same : lines text ≡ listed.lines = ap lines listed.text_is
-    ∙ lines_again listed.lines (each_inside listed.lines notes) in
-    ap read_listing same ∙ source_listing_is_read source p listed.lines h listed.listing
+source_listing_text_is_read source p text h listed = read_from_text source p text h listed
+
+pub source_listing_text_lists : SourceListingTextLists
+source_listing_text_lists source p text h listed = text_lists source p text h listed
 
 -- ---- two listings
 

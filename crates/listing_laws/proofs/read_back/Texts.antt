@@ -22,7 +22,7 @@ use Rattle.linear_forms.specs.Expressed.{with_terms, variables}
 use Rattle.linear_forms.specs.Linear.{Form, form_of, is_small, all_small, not_zero}
 use Rattle.linear_forms.specs.Texts.{places_behind, text_of, with_symbols}
 use Rattle.normal_loops.specs.Values.{with_value, in_text, statement_with_values, normal_statement}
-use Rattle.nest_rewrite.specs.Rewritten.{rewritten_statement}
+use Rattle.nest_rewrite.specs.Statements.{rewritten_statement}
 use Rattle.nest.specs.Plain.{Guarded}
 use Rattle.nest.specs.declared.parts.Trip.{Trip}
 use Rattle.last_values.specs.normal_forms.NormalLoops.{counters_of}

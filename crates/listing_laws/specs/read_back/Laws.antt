@@ -1,11 +1,13 @@
 -- The listing of a program can be read back from its lines.
-use Rattle.std.specs.Prelude.{◌≡◌, ℕ, ◌^◌, ◌<◌, Some, List, length, map}
+use Rattle.std.specs.Prelude.{◌≡◌, ℕ, ◌^◌, ◌<◌, Some, List, flat_map, length, map}
 use Rattle.std.specs.Str.Lines.{lines}
+use Rattle.f90_grammar.specs.PrintedText.{with_line_feed}
 use Rattle.f77_grammar.specs.Reading77.{Reads77}
 use Rattle.meaning.specs.Dialect.{fortran77}
 use Rattle.meaning.specs.Profile77.{IsProgram77}
 use Rattle.rewrite.specs.Names.{uses_in_block}
 use Rattle.tree.specs.Plain.{Program}
+use Rattle.listing_laws.specs.reader.Lists.{Lists}
 use Rattle.listing_laws.specs.reader.Reader.{read_listing}
 use Rattle.listing.specs.programs.Listing.{IsListing, IsListingText}
 
@@ -32,6 +34,11 @@ SourceListingIsRead = (source : List ℕ) (p : Program) (all : List (List ℕ)) 
 abbrev pub SourceListingTextIsRead : Type 0
 SourceListingTextIsRead = (source : List ℕ) (p : Program) (text : List ℕ) → Reads77 fortran77 source p
     → (listed : IsListingText p text) → read_listing (lines text) ≡ map Some listed.listing.entries
+
+-- and its lines, each ended by a line feed, list the program of the source
+abbrev pub SourceListingTextLists : Type 0
+SourceListingTextLists = (source : List ℕ) (p : Program) (text : List ℕ) → Reads77 fortran77 source p
+    → IsListingText p text → Lists p (lines text) × (text ≡ flat_map with_line_feed (lines text))
 
 -- and two listings with the same lines have the same entries
 abbrev pub SameLinesListTheSame : Type 0

@@ -1,6 +1,7 @@
 //! Laws of the listings of programs. A law is a function without a body: its contract is what holds.
 ghost use Rattle.listing_laws.specs.read_back.Laws.{ProgramListingIsRead, SameLinesListTheSame, SourceIsShort};
 ghost use Rattle.listing_laws.specs.read_back.Laws.{SourceListingIsRead, SourceListingTextIsRead};
+ghost use Rattle.listing_laws.specs.read_back.Laws.{SourceListingTextLists};
 
 /// From the lines of a program's listing all its entries are read: its nests with their loops, statements, dependences
 /// and holds, and its kept loops. This is so for each program in which fewer than 2^31 names stand; with more of them a
@@ -22,6 +23,11 @@ pub fn listing_of_source_is_read()
 /// They are read also from the text of the listing, which has these lines.
 pub fn listing_text_of_source_is_read()
     ensures { SourceListingTextIsRead }
+{}
+
+/// The lines of that text, each of which a line feed ends, list the program that the source is.
+pub fn listing_text_of_source_lists()
+    ensures { SourceListingTextLists }
 {}
 
 /// Where the listings of two sources have the same lines, they have the same entries.

@@ -19,7 +19,8 @@ use Rattle.tree.specs.declared.exprs.Sub.TheVariants as subs
 use Rattle.tree.proofs.Equations.{expression_of-int, expression_of-truth, expression_of-item, expression_of-un, expression_of-bin, expression_of-call, reference_of-is, loop_of-is}
 use Rattle.tree.proofs.Equations.{expression_of-list, expression_of-spread, expression_of-transpose, expression_of-reshape, expression_of-reduce, subscript_of-one, subscript_of-part}
 use Rattle.meaning.specs.Reads.{names_in, names_in_each, names_in_subscript, names_in_subscripts, names_in_loops}
-use Rattle.nest.specs.statement_loops.Standings.{is_among, names_in_loop}
+use Rattle.nest.specs.statement_loops.Standings.{names_in_loop}
+use Rattle.nest.specs.statement_loops.Names.{is_among}
 
 or_assoc : (a b c : Bool) → (a || (b || c)) ≡ ((a || b) || c)
 or_assoc true b c = refl

@@ -1,7 +1,5 @@
 -- The statements of a nest with their loops, and names that stand in a loop of a constructor.
-use Rattle.std.specs.Prelude.{ℕ, Bool, List, ◌∷◌, ◌++◌, map}
-use Rattle.std.specs.List.{list_any}
-use Rattle.std.specs.Str.{bytes_eq}
+use Rattle.std.specs.Prelude.{ℕ, List, ◌∷◌, ◌++◌, map}
 use Rattle.meaning.specs.Reads.{names_in}
 use Rattle.tree.specs.View.{ConstructorLoop}
 use Rattle.nest.specs.Bodies as plain
@@ -14,9 +12,6 @@ standing_of s = record { loops = map loop_of s.loops; statement = guarded_of s.s
 
 abbrev pub statements_in_branch : List Loop → Branch → List plain.Standing
 statements_in_branch ls b = plain.statements_in_parts ls b.body
-
-abbrev pub is_among : List (List ℕ) → List ℕ → Bool
-is_among names x = list_any (λ y. bytes_eq y x) names
 
 abbrev pub names_in_loop : ConstructorLoop → List (List ℕ)
 names_in_loop l = l.variable ∷ names_in l.first ++ names_in l.last

@@ -3,7 +3,8 @@ ghost use Rattle.std.specs.Prelude.{◌≡◌, ◌∷◌, map};
 ghost use Rattle.std.specs.List.{list_any};
 ghost use Rattle.meaning.specs.Reads.{names_in, names_in_subscript, names_in_subscripts};
 ghost use Rattle.tree.specs.View.{expression_of, loop_of, reference_of, subscript_of};
-ghost use Rattle.nest.specs.statement_loops.Standings.{is_among, names_in_loop};
+ghost use Rattle.nest.specs.statement_loops.Standings.{names_in_loop};
+ghost use Rattle.nest.specs.statement_loops.Names.{is_among};
 
 use tree::{Expr, Name, Ref, Seq, Sub, Turn};
 

@@ -1,7 +1,7 @@
 -- Laws of the runs of nests, and of the orders of their instances.
-use Rattle.std.specs.Prelude.{◌≡◌, Ok, Option, None, ℕ, ◌≤◌, Bool, List, [], map, Contains}
+use Rattle.std.specs.Prelude.{◌≡◌, Ok, Option, None, ℕ, ◌≤◌, Bool, List, [], ◌∷◌, map, Contains}
 use Rattle.std.specs.List.{AllByRecursion}
-use Rattle.tree.specs.Plain.{Statement, Program}
+use Rattle.tree.specs.Plain.{Statement, Program, Reference}
 use Rattle.meaning.specs.Dialect.{Dialect}
 use Rattle.meaning.specs.Run.{State, Going, does, does_all}
 use Rattle.meaning.specs.Store.{Store, Agree, names_of}
@@ -14,11 +14,12 @@ use Rattle.nest_order.specs.orders.Orders.{runs, MayPass}
 use Rattle.nest_order.specs.orders.Lists.{In}
 use Rattle.nest_order.specs.orders.Shapes.{Shape, Shapes, statements, loops, Instance, instances}
 use Rattle.nest_order.specs.runs.Blocks.{Layout, nest_statement, nest_block, written_in}
+use Rattle.nest_order.specs.runs.Cells.{NamesCell}
 use Rattle.nest_order.specs.runs.Forms.{FormsAreInstances}
 use Rattle.nest_order.specs.runs.Guarded.{dialect, sequential}
 use Rattle.nest_order.specs.runs.Nests.{Nest, Near, acts, effect_of, reads_of}
 use Rattle.nest_order.specs.runs.Stores.{Setting, HoldsNest, IsNestIn}
-use Rattle.nest_order.specs.runs.Touched.{MayMeet, AreEdgesOf}
+use Rattle.nest_order.specs.runs.Touched.{MayMeet, AreEdgesOf, references_read}
 
 -- Two instances may be exchanged where they can touch no common cell of which one is written
 abbrev pub InstancesMayPass : Type 0
@@ -92,3 +93,15 @@ abbrev pub InstancesComeFromReads : Type 0
 InstancesComeFromReads = (n : Nest) (lang : Dialect) (xs : List Instance) (s : Store)
     → AllByRecursion ComesFromReads (map (as_instance n lang) xs)
     × (runs (acts n lang) xs s ≡ in_turn (map (as_instance n lang) xs) s)
+
+-- Where a nest's instances meet no fault, each reference of an unguarded one names a cell within the bounds of its
+-- name, and a linear subscript has its value there
+abbrev pub UnguardedInstancesNameCells : Type 0
+UnguardedInstancesNameCells =
+    (bits : ℕ) (n : Nest) (w : Setting) (xs : List Instance) (s u : Store)
+    → IsNestIn bits n w → HoldsNest bits n w s
+    → ((x : Instance) → In x xs → IsInstance n.loops_of (n.turns_of w.values) n.shape x)
+    → runs (acts n (sequential bits)) xs s ≡ Ok u
+    → (x : Instance) → In x xs → (n.statement_at x.statement).guard ≡ None
+    → (r : Reference) → In r ((n.statement_at x.statement).left ∷ references_read (n.statement_at x.statement))
+    → NamesCell n w x r

@@ -10,7 +10,7 @@ use Rattle.nest_order.specs.runs.Nests.{Nest}
 use Rattle.nest_order.specs.runs.Touched.{nth_of}
 use Rattle.nest.specs.Blocks.{statement_of_part}
 use Rattle.nest.specs.Bodies.{Standing, statements_of, loops_of}
-use Rattle.nest.specs.Plain.{Part, Run, Turns, Choice, Label, Jump, Parts, no_parts, part}
+use Rattle.nest.specs.Plain.{Part, Run, Turns, Parts, no_parts, part}
 use Rattle.nest.specs.Plain as tree
 
 -- the loop goes from 1 by 1

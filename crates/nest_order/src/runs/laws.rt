@@ -4,7 +4,7 @@ ghost use Rattle.nest_order.specs.runs.Arrays.{CellIsKept, OuterIterationsHold, 
 ghost use Rattle.nest_order.specs.runs.Arrays.{ValueIsKept};
 ghost use Rattle.nest_order.specs.runs.Laws.{AnyOrderGivesStore, EmissionKeepsMeaning, InstancesComeFromReads};
 ghost use Rattle.nest_order.specs.runs.Laws.{InstancesMayPass, NearStoresAgree, RunIsInstances};
-ghost use Rattle.nest_order.specs.runs.Laws.{TranslationKeepsMeaning};
+ghost use Rattle.nest_order.specs.runs.Laws.{TranslationKeepsMeaning, UnguardedInstancesNameCells};
 ghost use Rattle.nest_order.specs.runs.LoneForms.{LoneFormsAreInstances, LoneFormsKeepMeaning};
 ghost use Rattle.nest_order.specs.runs.Quiet.{NestsAreQuiet, QuietStatementsKeepLines};
 
@@ -75,4 +75,10 @@ pub fn statement_alone()
 pub fn quiet_statements()
     ensures lines { QuietStatementsKeepLines }
     ensures nests { NestsAreQuiet }
+{}
+
+/// Where a nest's instances meet no fault, each reference of an unguarded one names a cell within the bounds of its
+/// name, and a linear subscript has its value there.
+pub fn unguarded_instances()
+    ensures { UnguardedInstancesNameCells }
 {}

@@ -13,8 +13,7 @@ use Rattle.tree.specs.Plain.{Do, Expression}
 use Rattle.tree.specs.declared.ops.Fault.{Fault}
 use Rattle.tree.specs.declared.ops.Value.{Value}
 use Rattle.meaning.specs.Reads.{names_in}
-use Rattle.meaning.specs.Run.{Act, State, Going, Jumping, arrives, chooses, does, does_all}
-use Rattle.meaning.specs.Run.{either, goes, nothing}
+use Rattle.meaning.specs.Run.{Act, State, Going, Jumping, arrives, chooses, does, does_all, either, goes, nothing}
 use Rattle.meaning.specs.Store.{Store}
 use Rattle.meaning.specs.Value.{truth_of, value_of}
 use Rattle.rewrite.specs.Following.{sequential}
@@ -24,9 +23,11 @@ use Rattle.last_values.specs.Occurrences.{stands_outside_in_each}
 use Rattle.last_values.specs.declared.behind.NestedLoop.{NestedLoop}
 use Rattle.linear_forms.proofs.Sizes.{both}
 use Rattle.normal_loops.specs.Bodies.{normal_branches, normal_part, normal_parts, normal_turns}
-use Rattle.normal_loops.specs.Loops.{are_normal, are_normal_branches, is_normal, nested, nested_in_branches}
+use Rattle.normal_loops.specs.Loops.{nested, nested_in_branches}
+use Rattle.normal_loops.specs.Normal.{are_normal, are_normal_branches, is_normal}
 use Rattle.normal_loops.specs.Loops.{nested_in_parts, nested_loops, with_loop}
-use Rattle.normal_loops.specs.Values.{normal_statement, normal_test}
+use Rattle.normal_loops.specs.Values.{normal_statement}
+use Rattle.normal_loops.specs.Tests.{normal_test}
 use Rattle.nest_order.specs.orders.Lists.{Each}
 use Rattle.nest_order.proofs.runs.Going.{moved}
 use Rattle.nest_order.proofs.runs.Results.{both_ok}
@@ -51,7 +52,7 @@ use Rattle.pass_laws.proofs.NormalRuns.Names.{last_cases, variables_last}
 use Rattle.pass_laws.proofs.NormalRuns.OneLoop.{loop_goes}
 use Rattle.pass_laws.proofs.NormalRuns.Places.{block_joined}
 use Rattle.pass_laws.proofs.NormalRuns.Statements.{IsOutside, IsTied, statement_goes}
-use Rattle.nest.specs.statement_loops.Standings.{is_among}
+use Rattle.nest.specs.statement_loops.Names.{is_among}
 use Rattle.pass_laws.proofs.LastRuns.Made.{each_front, each_rest}
 use Rattle.pass_laws.specs.branch_meaning.Jumps.{AllJumpAhead, BranchesJumpAhead, JumpsAhead, labels_ahead, labels_before}
 use Rattle.pass_laws.specs.branch_meaning.Sources.{IsStraightStanding, IsSuitedTest, tests_in_branches, tests_in_parts, tests_of}

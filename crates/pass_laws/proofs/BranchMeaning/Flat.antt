@@ -12,11 +12,12 @@ use Rattle.meaning.specs.Reads.{names_in, names_in_subscripts}
 use Rattle.rewrite.proofs.Replacing.{bytes_eq-false}
 use Rattle.tree.specs.Plain.{Expression}
 use Rattle.last_values.specs.Behind.{may_end_behind, stands_behind}
-use Rattle.last_values.specs.Endings.{scalar}
+use Rattle.last_values.specs.Scalars.{scalar}
 use Rattle.last_values.specs.Occurrences.{stands_in, stands_in_bounds, stands_outside}
 use Rattle.last_values.specs.Occurrences.{stands_outside_in_branches, stands_outside_in_each}
 use Rattle.last_values.specs.declared.behind.NestedLoop.{NestedLoop}
-use Rattle.normal_loops.specs.Loops.{are_normal, are_normal_branches, is_normal, nested, nested_in_branches}
+use Rattle.normal_loops.specs.Loops.{nested, nested_in_branches}
+use Rattle.normal_loops.specs.Normal.{are_normal, are_normal_branches, is_normal}
 use Rattle.normal_loops.specs.Loops.{nested_in_parts, nested_loops, with_loop}
 use Rattle.nest_order.specs.orders.Lists.{Distinct, Each}
 use Rattle.nest_order.specs.runs.Touched.{IsPlain}
@@ -29,7 +30,7 @@ use Rattle.last_values.specs.normal_forms.NormalLoops.{normal_loop}
 use Rattle.last_values.specs.declared.normal_forms.loops.NormalLoop.{NormalLoop}
 use Rattle.pass_laws.specs.normal_runs.Sources.{AreStraight, HasOwnVariable, IsNormalSource, IsStraight}
 use Rattle.pass_laws.specs.normal_runs.Sources.{IsSuitedStatement, counters_in, ends_behind, loops_in, variables_in}
-use Rattle.nest.specs.statement_loops.Standings.{is_among}
+use Rattle.nest.specs.statement_loops.Names.{is_among}
 use Rattle.pass_laws.proofs.LastRuns.Listed.{each_joined}
 use Rattle.pass_laws.proofs.LastRuns.Made.{each_front, each_of_all, each_rest, names_of}
 use Rattle.pass_laws.specs.branch_meaning.Sources.{IsBranchedSource, IsLoop, IsStraightStanding, IsSuitedTest, tests_in_branches}

@@ -11,7 +11,8 @@ use Rattle.meaning.specs.Run.{State, Going, does, does_all}
 use Rattle.meaning.specs.Store.{Store, Cell}
 use Rattle.rewrite.proofs.Replacing.{bytes_eq-false, either_false, not_true}
 use Rattle.pass_laws.specs.last_runs.Laws.{AreSameButCounters, LacksLastValues}
-use Rattle.last_values.specs.Behind.{left_behind, may_end_behind, stands_behind, values_behind}
+use Rattle.last_values.specs.Behind.{may_end_behind, stands_behind}
+use Rattle.last_values.specs.ValuesBehind.{left_behind, values_behind}
 use Rattle.last_values.specs.Occurrences.{occurs_only_within, stands_in, stands_in_bounds, stands_in_guard, stands_in_left}
 use Rattle.last_values.specs.Occurrences.{stands_in_statement, stands_outside, stands_outside_in_branches}
 use Rattle.last_values.specs.Occurrences.{stands_outside_in_each}
@@ -29,8 +30,9 @@ use Rattle.nest.specs.Plain.{Jump, Parts, no_parts, part}
 use Rattle.last_values.specs.normal_forms.Numbers.{values_from}
 use Rattle.pass_laws.specs.normal_runs.Sources.{HasOwnVariable, IsSuitedStatement, counters_in, ends_behind, loops_in}
 use Rattle.pass_laws.specs.normal_runs.Sources.{variables_in}
-use Rattle.normal_loops.specs.Loops.{is_normal, nested_loops}
-use Rattle.nest.specs.statement_loops.Standings.{is_among}
+use Rattle.normal_loops.specs.Loops.{nested_loops}
+use Rattle.normal_loops.specs.Normal.{is_normal}
+use Rattle.nest.specs.statement_loops.Names.{is_among}
 use Rattle.pass_laws.proofs.LastRuns.Behind as behind
 use Rattle.pass_laws.proofs.LastRuns.Behind.{Begins, Fits, among_first, among_later, each_fits, none_behind, run_behind}
 use Rattle.pass_laws.proofs.LastRuns.LeftNames.{kept_in}

@@ -16,7 +16,8 @@ use Rattle.meaning.specs.Value.{is_in_range, number_of, numbered, truth_of}
 use Rattle.linear_forms.specs.Laws.{AreSized}
 use Rattle.linear_forms.proofs.Faultless.{linear_has_value}
 use Rattle.linear_forms.proofs.Sizes.{both}
-use Rattle.normal_loops.specs.Loops.{are_normal, is_normal, nested, nested_in_branches, nested_in_parts, nested_loops}
+use Rattle.normal_loops.specs.Loops.{nested, nested_in_branches, nested_in_parts, nested_loops}
+use Rattle.normal_loops.specs.Normal.{are_normal, is_normal}
 use Rattle.normal_loops.specs.Loops.{with_loop}
 use Rattle.nest_order.specs.orders.Lists.{Each}
 use Rattle.nest_order.specs.runs.Guarded.{sequential, variable_cell}
@@ -31,7 +32,7 @@ use Rattle.last_values.specs.normal_forms.Numbers.{values_from}
 use Rattle.last_values.specs.normal_forms.NormalLoops.{normal_loop, sign_of, variables_of}
 use Rattle.last_values.specs.declared.normal_forms.loops.NormalLoop.{NormalLoop}
 use Rattle.pass_laws.specs.normal_runs.Sources.{AreStraight}
-use Rattle.nest.specs.statement_loops.Standings.{is_among}
+use Rattle.nest.specs.statement_loops.Names.{is_among}
 use Rattle.pass_laws.proofs.LastRuns.Listed.{each_joined}
 use Rattle.pass_laws.proofs.LastRuns.Loops.{looped, trip_counts}
 use Rattle.pass_laws.proofs.LastRuns.Made.{IsOutside, each_front, each_rest, names_of}

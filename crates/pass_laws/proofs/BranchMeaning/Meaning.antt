@@ -15,7 +15,8 @@ use Rattle.linear_forms.specs.Linear.{HaveValues}
 use Rattle.normal_loops.specs.Bodies.{normal_part}
 use Rattle.normal_loops.specs.Normalised.{only_one}
 use Rattle.nest_order.specs.orders.Lists.{Each}
-use Rattle.nest.specs.Blocks.{allocations_then, block_of_nest, block_of_parts, block_then, deallocations}
+use Rattle.nest.specs.Blocks.{block_of_nest, block_of_parts}
+use Rattle.nest.specs.Allocations.{allocations_then, block_then, deallocations}
 use Rattle.nest.specs.Blocks.{statement_of_part}
 use Rattle.nest.specs.Bodies.{nest_statements}
 use Rattle.nest.specs.Plain.{Made, Nest, Part, parts}
@@ -26,7 +27,7 @@ use Rattle.pass_laws.specs.normal_runs.Sources.{IsNormalSource, IsSuitedStatemen
 use Rattle.pass_laws.specs.normal_runs.Sources.{variables_in}
 use Rattle.pass_laws.proofs.NormalRuns.Held.{none_among, not_among}
 use Rattle.pass_laws.proofs.NormalRuns.Names.{behind_variable}
-use Rattle.nest.specs.statement_loops.Standings.{is_among}
+use Rattle.nest.specs.statement_loops.Names.{is_among}
 use Rattle.pass_laws.specs.branch_meaning.Jumps.{labels_before}
 use Rattle.pass_laws.specs.branch_meaning.Laws.{BranchedFormKeepsMeaning}
 use Rattle.pass_laws.specs.branch_meaning.Sources.{IsBranchedSource, IsSuitedTest, tests_of}

@@ -1,5 +1,5 @@
 -- A nest that was found has what the law of nests with IFs and jumps asks for.
-use Rattle.std.proofs.Common.{◌≡◌, refl, sym, ap, subst, ℕ, true, false, List, [], ◌∷◌, ◌++◌, Option, Some}
+use Rattle.std.proofs.Common.{◌≡◌, refl, sym, ap, subst, ◌∙◌, ℕ, true, false, List, [], ◌∷◌, ◌++◌, Option, Some}
 use Rattle.std.proofs.Common.{None, arith}
 use Rattle.std.specs.Prelude.{IsSome}
 use Rattle.tree.specs.Plain.{Expression, Program}
@@ -14,11 +14,13 @@ use Rattle.components.specs.Lists.{Each}
 use Rattle.components.proofs.ListLaws.{Each-append}
 use Rattle.find_nests.specs.Found.{nest_of_loop}
 use Rattle.find_nests.specs.Laws.{IsFoundNest}
-use Rattle.find_nests.specs.Loops.{Placed, as_statement, loops_in_block, reason_of}
+use Rattle.find_nests.specs.Loops.{Placed, as_statement, loops_in_block}
+use Rattle.find_nests.specs.LookedAt.{reason_of}
 use Rattle.find_nests.specs.declared.reasons.Reason.TheVariants as reasons
 use Rattle.find_nests.proofs.FoundLaws.{found_nest_is_loop, no_reason_holds}
+use Rattle.find_nests.proofs.ReasonWalks.{finds_is}
 use Rattle.last_values.specs.declared.behind.NestedLoop.{NestedLoop}
-use Rattle.normal_loops.specs.Loops.{is_normal}
+use Rattle.normal_loops.specs.Normal.{is_normal}
 use Rattle.normal_loops.specs.Normalised.{normalised}
 use Rattle.nest_order.specs.orders.Lists as order
 use Rattle.find_nests.specs.nest_parts.Numbers.{next}
@@ -32,7 +34,7 @@ use Rattle.pass_laws.specs.ready_nests.Distinct.{numbers_of}
 use Rattle.pass_laws.proofs.ReadyNests.FoundNumbers.{found_loops_are_distinct}
 use Rattle.pass_laws.proofs.ReadyNests.Lists.{Each-All, Each-Contains, Each-weaker}
 use Rattle.pass_laws.proofs.ReadyNests.Made.{made_of}
-use Rattle.nest.specs.statement_loops.Standings.{is_among}
+use Rattle.nest.specs.statement_loops.Names.{is_among}
 use Rattle.meaning_laws.proofs.profiles.Lists.{here}
 use Rattle.pass_laws.proofs.FoundSources.Counters.{IsShort, counters_by, counter_outside, distinct_counters, each_counter}
 use Rattle.pass_laws.proofs.FoundSources.Counters.{name_outside}
@@ -127,7 +129,8 @@ sound_loop d p k q is h none =
     record {
       loop = tt;
       jumps = loop_jumps p.declarations symbols q.loop.before x body h.round h.body h.labels
-          (no_reason_holds symbols (as_statement q.loop.loop) reasons.Exit none) (no_reason_holds symbols (as_statement q.loop.loop) reasons.InnerIf none);
+          (finds_is reasons.Exit symbols (as_statement q.loop.loop) ∙ no_reason_holds symbols (as_statement q.loop.loop) reasons.Exit none)
+          (finds_is reasons.InnerIf symbols (as_statement q.loop.loop) ∙ no_reason_holds symbols (as_statement q.loop.loop) reasons.InnerIf none);
       body = (
         record {
           short = declared_short d p.declarations is.declarations x _ h.variable.integer.0;

@@ -15,7 +15,8 @@ use Rattle.nest.specs.Plain.{Part, parts}
 use Rattle.find_nests.specs.nest_parts.Numbers.{after, after_arms, after_block, next}
 use Rattle.find_nests.specs.nest_parts.Statements.{branches_of, parts_of, parts_of_block}
 use Rattle.nest_reasons.specs.Flaws.{arrives, exits, jumps_over_loop, loop_in_if, loop_then_label}
-use Rattle.nest_reasons.specs.Loops.{any_in_arms, any_in_block, any_loop, has_flaw}
+use Rattle.nest_reasons.specs.Loops.{has_flaw}
+use Rattle.nest_reasons.specs.Walks.{any_in_arms, any_in_block, any_loop}
 use Rattle.nest_reasons.specs.Marks.{marks_in_arms, marks_in_block, own_marks}
 use Rattle.nest_reasons.specs.declared.marks.Mark.{Mark}
 use Rattle.nest_reasons.specs.declared.flaws.Flaw.TheVariants.{Exit, InnerIf}

@@ -10,7 +10,8 @@ use Rattle.tree.specs.Plain.{Expression}
 use Rattle.meaning.specs.Reads.{names_in}
 use Rattle.linear_forms.proofs.Sizes.{both}
 use Rattle.last_values.specs.declared.behind.NestedLoop.{NestedLoop}
-use Rattle.normal_loops.specs.Loops.{are_normal, are_normal_branches, is_normal, nested, nested_in_branches}
+use Rattle.normal_loops.specs.Loops.{nested, nested_in_branches}
+use Rattle.normal_loops.specs.Normal.{are_normal, are_normal_branches, is_normal}
 use Rattle.normal_loops.specs.Loops.{nested_in_parts, nested_loops, with_loop}
 use Rattle.nest_order.specs.runs.Touched.{IsPlain}
 use Rattle.nest.specs.Bodies.{Standing, loops_in_branches, loops_in_parts, loops_of, statements_in}
@@ -21,7 +22,7 @@ use Rattle.last_values.specs.normal_forms.NormalLoops.{variables_of, normal_loop
 use Rattle.last_values.specs.declared.normal_forms.loops.NormalLoop.{NormalLoop}
 use Rattle.pass_laws.proofs.ReadyNests.LoopForms.{normal_loop_is}
 use Rattle.pass_laws.proofs.ReadyNests.NormalTrips.{zeros_more}
-use Rattle.nest.specs.statement_loops.Standings.{is_among}
+use Rattle.nest.specs.statement_loops.Names.{is_among}
 use Rattle.pass_laws.proofs.FoundSources.Counters.{IsShort, HasSmallNumber}
 use Rattle.pass_laws.proofs.FoundSources.Sound.{AreSoundNested, AreUnder, IsSoundLoop, IsSoundNested, IsSoundStanding}
 use Rattle.pass_laws.proofs.FoundSources.Sound.{IsSoundStatement}

@@ -7,12 +7,13 @@ use Rattle.tree.specs.Plain.{Expression, Named, Reference, Statement, Assignment
 use Rattle.tree.specs.Plain.{Read, Print, Allocate, Deallocate, Arms, no_arms, arm, Block, no_statements, statement}
 use Rattle.tree.specs.Plain.{Declaration}
 use Rattle.tree.specs.declared.ops.Kind.TheVariants.{Logical}
-use Rattle.meaning.specs.Blocks.{IsWithoutRepeats, Surroundings, all_labels_in, all_labels_in_arms, all_labels_of}
+use Rattle.meaning.specs.Blocks.{Surroundings, IsWithoutRepeats, all_labels_in, all_labels_in_arms, all_labels_of}
 use Rattle.meaning.specs.Blocks.{before_labels, labels_of, label_of, within_loop}
 use Rattle.meaning.specs.Dialect.{Dialect}
 use Rattle.meaning.specs.Profile77.{AreArms, AreDeclarations, IsAssignment, IsBlock, IsStatement}
 use Rattle.meaning.specs.Reads.{names_in, names_in_subscripts}
-use Rattle.meaning.specs.Typed77.{IsWhole, IsDoVariable, declared}
+use Rattle.meaning.specs.Typed77.{IsWhole, IsDoVariable}
+use Rattle.meaning.specs.Typed.{declared}
 use Rattle.rewrite.specs.Names.{uses_in, uses_in_arms, uses_in_block, uses_in_control, uses_in_statement}
 use Rattle.components.specs.Lists.{Each}
 use Rattle.components.proofs.ListLaws.{Each-append}
@@ -23,7 +24,7 @@ use Rattle.find_nests.specs.Loops.{SourceLoop, Placed, loops_in, loops_in_arms, 
 use Rattle.meaning_laws.proofs.arrays.Members.{cases_of, nowhere}
 use Rattle.meaning_laws.proofs.profiles.Lists.{here, there}
 use Rattle.pass_laws.proofs.ReadyNests.Lists.{Each-weaker}
-use Rattle.nest.specs.statement_loops.Standings.{is_among}
+use Rattle.nest.specs.statement_loops.Names.{is_among}
 use Rattle.pass_laws.proofs.FoundSources.Counters.{IsShort}
 use Rattle.pass_laws.proofs.FoundSources.Lists.{Each-left, Each-right, outside}
 use Rattle.pass_laws.proofs.FoundSources.Numbers.{next_small, after_small, after_arms_small, after_block_small}

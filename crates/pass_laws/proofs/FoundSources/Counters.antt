@@ -9,7 +9,7 @@ use Rattle.nest_order.specs.orders.Lists as order
 use Rattle.nest.specs.Plain.{Loop}
 use Rattle.last_values.specs.normal_forms.NormalLoops.{counter_name}
 use Rattle.pass_laws.specs.ready_nests.Distinct.{numbers_of}
-use Rattle.nest.specs.statement_loops.Standings.{is_among}
+use Rattle.nest.specs.statement_loops.Names.{is_among}
 use Rattle.pass_laws.proofs.FoundSources.Lists.{outside}
 
 -- a name of a program

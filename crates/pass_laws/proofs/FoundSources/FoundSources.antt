@@ -14,7 +14,7 @@ use Rattle.find_nests.specs.Found.{InNest, found_in, body_of, nest_of_loop}
 use Rattle.find_nests.specs.Loops.{Placed, loops_in_block}
 use Rattle.find_nests.proofs.FoundLaws.{found_nest_is_loop}
 use Rattle.last_values.specs.declared.behind.NestedLoop.{NestedLoop}
-use Rattle.normal_loops.specs.Loops.{is_normal}
+use Rattle.normal_loops.specs.Normal.{is_normal}
 use Rattle.normal_loops.specs.Normalised.{normalised}
 use Rattle.nest_order.specs.orders.Lists as order
 use Rattle.find_nests.specs.nest_parts.Numbers.{next}
@@ -28,9 +28,10 @@ use Rattle.pass_laws.specs.ready_nests.Distinct.{numbers_of}
 use Rattle.pass_laws.proofs.ReadyNests.FoundNumbers.{found_loops_are_distinct}
 use Rattle.pass_laws.proofs.ReadyNests.Lists.{Each-All, Each-Contains, Each-weaker}
 use Rattle.pass_laws.proofs.ReadyNests.Made.{made_of}
-use Rattle.nest.specs.statement_loops.Standings.{is_among}
+use Rattle.nest.specs.statement_loops.Names.{is_among}
 use Rattle.meaning_laws.proofs.profiles.Lists.{here}
-use Rattle.pass_laws.specs.found_sources.Laws.{FoundNestIsSource, HasLoopsAlone}
+use Rattle.pass_laws.specs.found_sources.Laws.{FoundNestIsSource}
+use Rattle.pass_laws.specs.found_sources.Alone.{HasLoopsAlone}
 use Rattle.pass_laws.proofs.FoundSources.Counters.{IsShort, counters_by, each_counter, name_outside, counter_outside}
 use Rattle.pass_laws.proofs.FoundSources.Counters.{distinct_counters}
 use Rattle.pass_laws.proofs.FoundSources.PlainNames.{declared_short}

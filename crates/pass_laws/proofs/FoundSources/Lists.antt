@@ -5,9 +5,9 @@ use Rattle.std.specs.Str.{bytes_eq}
 use Rattle.std.proofs.lemmas.List.Elements.{All-head, All-tail}
 use Rattle.std.proofs.lemmas.Slice.Eq.{bytes_eq-Decides}
 use Rattle.components.specs.Lists.{Each}
-use Rattle.pass_laws.specs.found_sources.Laws.{HaveLoopsAlone}
+use Rattle.pass_laws.specs.found_sources.Alone.{HaveLoopsAlone}
 use Rattle.nest.specs.Plain.{Part, parts}
-use Rattle.nest.specs.statement_loops.Standings.{is_among}
+use Rattle.nest.specs.statement_loops.Names.{is_among}
 
 -- ---- each
 

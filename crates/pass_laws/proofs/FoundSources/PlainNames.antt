@@ -10,7 +10,8 @@ use Rattle.tree.specs.declared.ops.Kind.TheVariants.{Integer}
 use Rattle.meaning.specs.Dialect.{Dialect}
 use Rattle.meaning.specs.Profile77.{AreDeclarations, IsDeclaration}
 use Rattle.meaning.specs.Reads.{names_in, names_in_each, names_in_subscripts, names_in_subscript}
-use Rattle.meaning.specs.Typed77.{HasKind, AreArguments, AreSubscripts, IsSubscript, declared}
+use Rattle.meaning.specs.Typed77.{HasKind, AreArguments, AreSubscripts, IsSubscript}
+use Rattle.meaning.specs.Typed.{declared}
 use Rattle.components.specs.Lists.{Each}
 use Rattle.components.proofs.ListLaws.{Each-append}
 use Rattle.nest_order.specs.runs.Touched.{IsPlain, EachIsPlain, ArePlain, IsPlainSubscript}

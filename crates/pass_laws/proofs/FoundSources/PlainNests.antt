@@ -5,25 +5,26 @@ use Rattle.std.specs.Option.{option_map}
 use Rattle.components.specs.Lists.{Each}
 use Rattle.rewrite.specs.Making.{Making, made}
 use Rattle.last_values.specs.Behind.{stands_behind}
-use Rattle.last_values.specs.InPlace.{parts_before, parts_behind}
+use Rattle.last_values.specs.PartsInPlace.{parts_before, parts_behind}
 use Rattle.last_values.specs.declared.behind.NestedLoop.{NestedLoop}
-use Rattle.normal_loops.specs.Bodies.{counting, placed, normal_turns, normal_part, normal_parts}
+use Rattle.normal_loops.specs.Bodies.{placed, normal_turns, normal_part, normal_parts}
+use Rattle.normal_loops.specs.Counting.{counting}
 use Rattle.normal_loops.specs.Laws.{CountsByOne}
 use Rattle.normal_loops.specs.Loops.{with_loop}
 use Rattle.normal_loops.specs.Values.{with_value, in_text, statement_with_values, normal_statement}
 use Rattle.normal_loops.proofs.CountLaws.{normalised_counts}
-use Rattle.nest_rewrite.specs.Rewritten.{rewritten_statement}
+use Rattle.nest_rewrite.specs.Statements.{rewritten_statement}
 use Rattle.nest_order.specs.shapes.Shapes as shapes
 use Rattle.nest.specs.Bodies.{Standing, loops_of, loops_in_parts, nest_loops, nest_statements}
-use Rattle.nest.specs.Plain.{Guarded, Loop, Nest, Part, Run, Turns, Choice, Label, Jump, Parts, no_parts, part}
-use Rattle.nest.specs.Plain.{parts}
+use Rattle.nest.specs.Plain.{Guarded, Loop, Nest, Part, Run, Turns, Choice, Label, Jump, Parts, no_parts, part, parts}
 use Rattle.last_values.specs.normal_forms.NormalLoops.{normal_loop}
 use Rattle.last_values.specs.declared.normal_forms.loops.NormalLoop.{NormalLoop}
 use Rattle.pass_laws.specs.normal_runs.Sources.{IsStraight, AreStraight}
 use Rattle.pass_laws.proofs.ReadyNests.Lists.{Each-All}
 use Rattle.pass_laws.proofs.ReadyNests.Made.{made_of}
 use Rattle.pass_laws.proofs.ReadyNests.Walk.{EachIn, EachInParts, Steps, each_statement}
-use Rattle.pass_laws.specs.found_sources.Laws.{HasLoopsAlone, HaveLoopsAlone, NormalNestIsPlain}
+use Rattle.pass_laws.specs.found_sources.Laws.{NormalNestIsPlain}
+use Rattle.pass_laws.specs.found_sources.Alone.{HasLoopsAlone, HaveLoopsAlone}
 use Rattle.pass_laws.proofs.FoundSources.FoundSources.{found_nests_are_sources}
 use Rattle.pass_laws.proofs.FoundSources.Lists.{Each-left, Each-right, Each-of_all, alone_left, alone_right}
 

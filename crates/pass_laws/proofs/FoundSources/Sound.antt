@@ -9,7 +9,8 @@ use Rattle.components.specs.Lists.{Each}
 use Rattle.components.proofs.ListLaws.{Each-append}
 use Rattle.linear_forms.proofs.Sizes.{both}
 use Rattle.last_values.specs.declared.behind.NestedLoop.{NestedLoop}
-use Rattle.normal_loops.specs.Loops.{with_loop, nested, is_normal, are_normal, nested_loops, nested_in_parts}
+use Rattle.normal_loops.specs.Loops.{with_loop, nested, nested_loops, nested_in_parts}
+use Rattle.normal_loops.specs.Normal.{is_normal, are_normal}
 use Rattle.nest.specs.Bodies.{Standing, loops_of, loops_in_parts, statements_in, statements_in_parts}
 use Rattle.nest.specs.Plain.{Guarded, Loop, Part, Run, Turns, Choice, Label, Jump, Parts, no_parts, part, parts}
 use Rattle.last_values.specs.normal_forms.NormalLoops.{variables_of, normal_loop}
@@ -17,7 +18,7 @@ use Rattle.last_values.specs.declared.normal_forms.loops.NormalLoop.{NormalLoop}
 use Rattle.pass_laws.specs.normal_runs.Sources.{IsStraightStatement, IsStraight, AreStraight, HasOwnVariable, names_of_statement}
 use Rattle.pass_laws.proofs.ReadyNests.LoopForms.{HaveZeros, normal_loop_is}
 use Rattle.pass_laws.proofs.ReadyNests.NormalTrips.{zeros_more}
-use Rattle.nest.specs.statement_loops.Standings.{is_among}
+use Rattle.nest.specs.statement_loops.Names.{is_among}
 use Rattle.pass_laws.proofs.FoundSources.Counters.{IsShort, HasSmallNumber, counters_by}
 
 -- ---- over these symbols, in loops with these variables

@@ -14,7 +14,7 @@ use Rattle.components.specs.Lists.{Each, In}
 use Rattle.components.proofs.ListLaws.{Each-from}
 use Rattle.linear_forms.proofs.Sizes.{both}
 use Rattle.nest_reasons.specs.Symbols.{is_integer_scalar, is_symbol, symbols_of}
-use Rattle.nest.specs.statement_loops.Standings.{is_among}
+use Rattle.nest.specs.statement_loops.Names.{is_among}
 use Rattle.pass_laws.proofs.FoundSources.Counters.{IsShort}
 use Rattle.pass_laws.proofs.FoundSources.Lists.{clash, differ}
 

@@ -8,7 +8,8 @@ use Rattle.meaning.specs.Blocks.{Surroundings, within_loop, before_labels, label
 use Rattle.meaning.specs.Dialect.{Dialect}
 use Rattle.meaning.specs.Profile77.{AreDeclarations, IsAssignment, IsStatement, AreArms, IsBlock}
 use Rattle.meaning.specs.Reads.{names_in, names_in_subscripts}
-use Rattle.meaning.specs.Typed77.{IsWhole, IsDoVariable, declared}
+use Rattle.meaning.specs.Typed77.{IsWhole, IsDoVariable}
+use Rattle.meaning.specs.Typed.{declared}
 use Rattle.rewrite.specs.Names.{uses_in_statement, uses_in_block, uses_in_control}
 use Rattle.components.specs.Lists.{Each}
 use Rattle.components.proofs.ListLaws.{Each-append}
@@ -18,8 +19,8 @@ use Rattle.find_nests.specs.nest_parts.Statements.{parts_of, parts_of_block}
 use Rattle.find_nests.specs.Loops.{SourceLoop, Placed, loops_in, loops_in_arms, loops_in_block}
 use Rattle.meaning_laws.proofs.profiles.Lists.{here, there}
 use Rattle.pass_laws.proofs.ReadyNests.Lists.{Each-weaker}
-use Rattle.nest.specs.statement_loops.Standings.{is_among}
-use Rattle.pass_laws.specs.found_sources.Laws.{HaveLoopsAlone}
+use Rattle.nest.specs.statement_loops.Names.{is_among}
+use Rattle.pass_laws.specs.found_sources.Alone.{HaveLoopsAlone}
 use Rattle.pass_laws.proofs.FoundSources.Counters.{IsShort}
 use Rattle.pass_laws.proofs.FoundSources.PlainNames.{declared_short, plain, plain_subscripts}
 use Rattle.pass_laws.proofs.FoundSources.Lists.{Each-left, Each-right, outside, alone_left, alone_right}

@@ -7,7 +7,8 @@ use Rattle.std.proofs.lemmas.Slice.Eq.{bytes_eq-Decides}
 use Rattle.tree.specs.Plain.{Statement, block}
 use Rattle.meaning.specs.Run.{State, Going, does, does_all}
 use Rattle.meaning.specs.Store.{Cell}
-use Rattle.last_values.specs.Behind.{are_within, ends_behind, may_end_behind, or_none}
+use Rattle.last_values.specs.Behind.{are_within, ends_behind, may_end_behind}
+use Rattle.last_values.specs.ValuesBehind.{or_none}
 use Rattle.last_values.specs.Endings.{after_statements, ending_behind, with_last_forms}
 use Rattle.last_values.specs.declared.behind.NestedLoop.{NestedLoop}
 use Rattle.linear_forms.specs.Laws.{AreSized}
@@ -18,7 +19,7 @@ use Rattle.nest_order.specs.runs.Guarded.{sequential, variable_cell}
 use Rattle.last_values.specs.normal_forms.LastValues.{have_plain_trips, last_forms}
 use Rattle.last_values.specs.normal_forms.Numbers.{values_from}
 use Rattle.last_values.specs.declared.normal_forms.last.LastForms.{LastForms}
-use Rattle.nest.specs.statement_loops.Standings.{is_among}
+use Rattle.nest.specs.statement_loops.Names.{is_among}
 use Rattle.pass_laws.proofs.LastRuns.Endings.{Left, ending_behind_left, left_here, left_known}
 use Rattle.pass_laws.proofs.LastRuns.Listed.{HasRun, all_turn, ending_of, last_of, last_round}
 use Rattle.pass_laws.proofs.LastRuns.Pieces.{end, if_so, none_yet, value_or}

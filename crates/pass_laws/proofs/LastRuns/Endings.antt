@@ -21,7 +21,8 @@ use Rattle.meaning.specs.Run.{stores, checks_range}
 use Rattle.meaning.specs.Store.{Store, Cell, put}
 use Rattle.meaning.specs.Value.{cell_named, is_array, is_in_range, named, truth_of, value_of}
 use Rattle.rewrite.proofs.Replacing.{either_false}
-use Rattle.last_values.specs.Endings.{all_hold, assigned, ending, ending_behind, last_texts, only_where, scalar}
+use Rattle.last_values.specs.Endings.{all_hold, assigned, ending, ending_behind, last_texts, only_where}
+use Rattle.last_values.specs.Scalars.{scalar}
 use Rattle.last_values.specs.Endings.{where_all_hold}
 use Rattle.linear_forms.specs.Laws.{AreSized}
 use Rattle.linear_forms.specs.Linear.{HaveValues}
@@ -32,14 +33,15 @@ use Rattle.nest_order.proofs.runs.Ending.{turns_to}
 use Rattle.nest_order.proofs.runs.Going.{moved}
 use Rattle.nest_order.proofs.runs.Results.{true_false}
 use Rattle.nest_order.proofs.runs.Variables.{place_of, put_there}
-use Rattle.last_values.specs.normal_forms.LastValues.{have_plain_trips, last_end_text, last_first_text, last_forms, last_trip_text}
-use Rattle.last_values.specs.normal_forms.LastValues.{plain_trip_text, tests_of}
+use Rattle.last_values.specs.normal_forms.LastValues.{have_plain_trips, last_forms}
+use Rattle.last_values.specs.normal_forms.LastTexts.{last_end_text, last_first_text, last_trip_text}
+use Rattle.last_values.specs.normal_forms.LastTexts.{plain_trip_text, tests_of}
 use Rattle.last_values.specs.normal_forms.NormalLoops.{is_constant, is_known, is_positive, is_undivided}
 use Rattle.last_values.specs.normal_forms.Numbers.{values_from}
 use Rattle.last_values.specs.normal_forms.Texts.{at_least_one}
 use Rattle.last_values.specs.declared.normal_forms.last.LastForms.{LastForms}
 use Rattle.last_values.specs.declared.normal_forms.loops.NormalLoop.{NormalLoop}
-use Rattle.nest.specs.statement_loops.Standings.{is_among}
+use Rattle.nest.specs.statement_loops.Names.{is_among}
 use Rattle.pass_laws.proofs.LastRuns.LastNumbers.{known_number}
 use Rattle.pass_laws.proofs.LastRuns.Listed.{all_turn, are_few, last_round}
 use Rattle.pass_laws.proofs.LastRuns.Pieces.{IsMade, Number, count, end, has_turn, if_so, in_last, none_yet, or_before, top}

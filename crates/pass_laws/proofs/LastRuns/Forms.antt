@@ -24,7 +24,8 @@ use Rattle.meaning.specs.Value.{value_of}
 use Rattle.linear_forms.specs.Expressed.{with_constant, with_terms}
 use Rattle.linear_forms.specs.Laws.{AreSized, EachHasValue}
 use Rattle.linear_forms.specs.Linear.{Form, HaveValues, all_small, is_limited, is_small, not_zero, number_at, weighted}
-use Rattle.linear_forms.specs.Merging.{all_pushed, pushed, small_or_none, then_pushed}
+use Rattle.linear_forms.specs.Merging.{all_pushed}
+use Rattle.linear_forms.specs.Pushing.{pushed, small_or_none, then_pushed}
 use Rattle.linear_forms.specs.Places.{padded, terms_from}
 use Rattle.linear_forms.specs.Texts as texts
 use Rattle.linear_forms.specs.Texts.{places_behind, text_of}

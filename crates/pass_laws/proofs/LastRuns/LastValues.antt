@@ -10,7 +10,8 @@ use Rattle.meaning.specs.Run.{State, Going, does, does_all}
 use Rattle.meaning.specs.Store.{Store, Cell}
 use Rattle.rewrite.proofs.Replacing.{bytes_eq-false, either_false}
 use Rattle.pass_laws.specs.last_runs.Laws.{AreSameButCounters, LacksLastValues, LastValuesBehind}
-use Rattle.last_values.specs.Behind.{left_behind, may_end_behind, stands_behind, values_behind}
+use Rattle.last_values.specs.Behind.{may_end_behind, stands_behind}
+use Rattle.last_values.specs.ValuesBehind.{left_behind, values_behind}
 use Rattle.last_values.specs.Occurrences.{occurs_only_within}
 use Rattle.last_values.specs.declared.behind.NestedLoop.{NestedLoop}
 use Rattle.linear_forms.specs.Laws.{AreSized, HoldsSized}
@@ -24,7 +25,7 @@ use Rattle.nest.specs.Plain.{Nest}
 use Rattle.last_values.specs.normal_forms.Numbers.{values_from}
 use Rattle.pass_laws.specs.normal_runs.Sources.{HasOwnVariable, IsNormalSource, counters_in, ends_behind}
 use Rattle.pass_laws.specs.normal_runs.Sources.{loops_in, variables_in}
-use Rattle.nest.specs.statement_loops.Standings.{is_among}
+use Rattle.nest.specs.statement_loops.Names.{is_among}
 use Rattle.pass_laws.proofs.LastRuns.Behind as behind
 use Rattle.pass_laws.proofs.LastRuns.Behind.{Begins, Fits, among_first, among_later, each_fits, none_behind, run_behind}
 use Rattle.pass_laws.proofs.LastRuns.LeftNames.{all_outside, kept_in}

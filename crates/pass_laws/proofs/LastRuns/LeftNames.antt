@@ -18,7 +18,7 @@ use Rattle.nest.specs.Bodies.{statements_in, statements_in_parts}
 use Rattle.nest.specs.Plain.{Guarded, Loop, Nest, Part, Run, Turns, Choice, Label, Jump, Parts, no_parts, part}
 use Rattle.pass_laws.specs.normal_runs.Sources.{AreStraight, IsNormalSource, IsStraight, IsSuitedStatement, ends_behind, loops_in}
 use Rattle.pass_laws.specs.normal_runs.Sources.{variables_in}
-use Rattle.nest.specs.statement_loops.Standings.{is_among}
+use Rattle.nest.specs.statement_loops.Names.{is_among}
 use Rattle.pass_laws.proofs.LastRuns.Listed.{each_joined}
 use Rattle.pass_laws.proofs.LastRuns.Made.{IsOutside, each_front, each_of_all, each_rest, names_of}
 

@@ -11,7 +11,8 @@ use Rattle.tree.specs.Plain.{Expression}
 use Rattle.last_values.specs.declared.behind.NestedLoop.{NestedLoop}
 use Rattle.linear_forms.specs.Linear.{Form, form_of, is_small}
 use Rattle.linear_forms.proofs.Sizes.{both}
-use Rattle.normal_loops.specs.Loops.{are_normal, is_normal, nested, nested_in_parts, nested_loops, with_loop}
+use Rattle.normal_loops.specs.Loops.{nested, nested_in_parts, nested_loops, with_loop}
+use Rattle.normal_loops.specs.Normal.{are_normal, is_normal}
 use Rattle.nest_order.specs.orders.Lists.{Each}
 use Rattle.nest.specs.Bodies.{Standing, statements_in, statements_in_parts}
 use Rattle.nest.specs.Plain.{Loop, Part, Run, Turns, Choice, Label, Jump, Parts, no_parts, part}
@@ -24,7 +25,7 @@ use Rattle.last_values.specs.normal_forms.Steps.{◌>>=◌}
 use Rattle.last_values.specs.declared.normal_forms.combinations.Multiple.{Multiple}
 use Rattle.last_values.specs.declared.normal_forms.loops.NormalLoop.{NormalLoop}
 use Rattle.pass_laws.specs.normal_runs.Sources.{AreStraight, IsStraight}
-use Rattle.nest.specs.statement_loops.Standings.{is_among}
+use Rattle.nest.specs.statement_loops.Names.{is_among}
 use Rattle.subscripts.specs.declared.affine.Affine.{Affine}
 use Rattle.pass_laws.proofs.LastRuns.Pieces.{Piece, Pieces, assignment, turning, none, next, IsLoop, IsMade}
 

@@ -22,7 +22,7 @@ use Rattle.last_values.specs.normal_forms.Numbers.{number_of_form, products, tri
 use Rattle.last_values.proofs.NormalForms.Numbers.{products-alike, products-zero}
 use Rattle.last_values.specs.declared.normal_forms.combinations.Multiple.{Multiple}
 use Rattle.last_values.specs.declared.normal_forms.loops.NormalLoop.{NormalLoop}
-use Rattle.nest.specs.statement_loops.Standings.{is_among}
+use Rattle.nest.specs.statement_loops.Names.{is_among}
 use Rattle.subscripts.specs.declared.affine.Affine.{Affine}
 
 -- ---- iterations

@@ -26,7 +26,7 @@ use Rattle.nest.specs.Plain.{Guarded, Loop, Part, Parts}
 use Rattle.last_values.specs.normal_forms.Numbers.{values_from}
 use Rattle.last_values.specs.normal_forms.NormalLoops.{sign_of, variables_of}
 use Rattle.last_values.specs.declared.normal_forms.loops.NormalLoop.{NormalLoop}
-use Rattle.nest.specs.statement_loops.Standings.{is_among}
+use Rattle.nest.specs.statement_loops.Names.{is_among}
 use Rattle.pass_laws.proofs.LastRuns.Loops.{looped, trip_counts, turned, turns_from}
 use Rattle.pass_laws.proofs.LastRuns.Pieces.{Piece, Pieces, assignment, turning, none, next, IsLoop, IsRun, Ran, RanAll, after}
 use Rattle.pass_laws.proofs.LastRuns.Pieces.{after_all, count, end, has_turn, if_so, in_last, or_before, set_by, top, value_or}

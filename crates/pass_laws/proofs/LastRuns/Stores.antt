@@ -28,7 +28,7 @@ use Rattle.last_values.specs.normal_forms.NormalLoops.{variables_of}
 use Rattle.last_values.specs.normal_forms.Numbers.{values_from, variable_numbers, LoopNumbers}
 use Rattle.last_values.specs.declared.normal_forms.loops.NormalLoop.{NormalLoop}
 use Rattle.last_values.proofs.NormalForms.LoopNumbers.{normal_loop_has_numbers}
-use Rattle.nest.specs.statement_loops.Standings.{is_among}
+use Rattle.nest.specs.statement_loops.Names.{is_among}
 use Rattle.pass_laws.proofs.LastRuns.Pieces.{Agree, IsLoop, Number, with_iteration}
 
 -- ---- ranges

@@ -19,8 +19,10 @@ use Rattle.nest_order.specs.orders.Lists.{Each}
 use Rattle.nest_order.proofs.runs.Ending.{turns_to}
 use Rattle.nest.specs.declared.parts.Trip.{Trip}
 use Rattle.last_values.specs.normal_forms.Combinations.{combination, number_form, times}
-use Rattle.last_values.specs.normal_forms.LastValues.{has_plain_trip, have_plain_trips, last_end_text, last_first_text, last_forms}
-use Rattle.last_values.specs.normal_forms.LastValues.{last_trip_text, plain_trip_text, plain_trip_texts, with_trips}
+use Rattle.last_values.specs.normal_forms.LastValues.{has_plain_trip, have_plain_trips, last_forms}
+use Rattle.last_values.specs.normal_forms.LastTexts.{last_end_text, last_first_text}
+use Rattle.last_values.specs.normal_forms.LastValues.{with_trips}
+use Rattle.last_values.specs.normal_forms.LastTexts.{last_trip_text, plain_trip_text, plain_trip_texts}
 use Rattle.last_values.specs.normal_forms.NormalLoops.{is_constant, is_known, is_undivided, plus_multiple, trip_form, trip_of}
 use Rattle.last_values.specs.normal_forms.Numbers.{number_of_form, sum_of_numbers, trip_number, values_from}
 use Rattle.last_values.specs.normal_forms.Steps.{◌>>=◌}

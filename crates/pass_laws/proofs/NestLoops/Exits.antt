@@ -3,12 +3,14 @@ use Rattle.std.proofs.Common.{◌≡◌, refl, sym, ◌∙◌, ℕ, Bool, true, 
 use Rattle.std.specs.List.{list_any}
 use Rattle.std.proofs.lemmas.List.Folds.{list_any-append}
 use Rattle.tree.specs.Plain.{Expression, Statement, Assignment, Where, If, Do, Label, GoTo, Stop, Read, Print, Allocate, Deallocate, Arms, no_arms, arm, Block, no_statements, statement, Declaration}
-use Rattle.meaning.specs.Profile77.{IsStatement, AreArms, IsBlock, Surroundings, within_loop, before_labels, labels_of}
+use Rattle.meaning.specs.Profile77.{IsStatement, AreArms, IsBlock}
+use Rattle.meaning.specs.Blocks.{Surroundings, within_loop, before_labels, labels_of}
 use Rattle.nest_reasons.specs.declared.flaws.Flaw.TheVariants.{Exit}
 use Rattle.nest_reasons.specs.declared.marks.Mark.{Mark}
 use Rattle.nest_reasons.specs.declared.marks.Mark.TheVariants.{Halts, Jumps, Arrives, Turns}
 use Rattle.nest_reasons.specs.Flaws.{leaves}
-use Rattle.nest_reasons.specs.Loops.{has_flaw, any_loop, any_in_arms, any_in_block}
+use Rattle.nest_reasons.specs.Loops.{has_flaw}
+use Rattle.nest_reasons.specs.Walks.{any_loop, any_in_arms, any_in_block}
 use Rattle.nest_reasons.specs.Marks.{own_marks, marks_in_arms, marks_in_block}
 use Rattle.pass_laws.specs.nest_sources.Sources.{may_stand, arms_may_stand, block_may_stand}
 

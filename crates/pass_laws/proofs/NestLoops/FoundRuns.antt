@@ -2,7 +2,8 @@
 use Rattle.std.proofs.Common.{◌≡◌, refl, sym, ap, ap₂, ◌∙◌, subst, ℕ, Bool, true, false, ◌&&◌, List, [], ◌∷◌, Option, None}
 use Rattle.tree.specs.Plain.{Statement, Assignment, Where, If, Do, Label, GoTo, Stop, Read, Print, Allocate, Deallocate, Arms, no_arms, arm, Block, no_statements, statement, Program}
 use Rattle.meaning.specs.Dialect.{Dialect}
-use Rattle.meaning.specs.Profile77.{IsProgram77, outermost}
+use Rattle.meaning.specs.Profile77.{IsProgram77}
+use Rattle.meaning.specs.Blocks.{outermost}
 use Rattle.meaning.specs.Relined.{without_lines}
 use Rattle.meaning.specs.Run.{State, does}
 use Rattle.nest_reasons.specs.Symbols.{symbols_of}
@@ -11,10 +12,12 @@ use Rattle.nest.specs.Blocks.{statement_of_part, block_of_nest}
 use Rattle.pass_laws.specs.nest_sources.Sources.{may_stand, arms_may_stand, block_may_stand, with_numbers, arms_with_numbers, block_with_numbers}
 use Rattle.pass_laws.proofs.NestSources.Sources.{nest_is_loop}
 use Rattle.find_nests.specs.declared.reasons.Reason.TheVariants.{Exit, Step}
-use Rattle.find_nests.specs.Loops.{SourceLoop, Numbered, as_statement, reason_of}
+use Rattle.find_nests.specs.Loops.{SourceLoop, Numbered, as_statement}
+use Rattle.find_nests.specs.LookedAt.{reason_of}
 use Rattle.find_nests.specs.Found.{body_of, nest_of_loop}
 use Rattle.find_nests.specs.Laws.{IsFoundNest}
 use Rattle.find_nests.proofs.FoundLaws.{no_reason_holds}
+use Rattle.find_nests.proofs.ReasonWalks.{finds_is}
 use Rattle.pass_laws.specs.nest_loops.Runs.{RunsAsLoop, FoundNestRuns}
 use Rattle.pass_laws.proofs.NestLoops.Standing.{loop_stands}
 use Rattle.pass_laws.proofs.NestLoops.Exits.{loop_may_stand}
@@ -69,7 +72,7 @@ found_nest_runs d p n found whole =
     let symbols = symbols_of p.declarations l.loop.variable l.loop.body in
     let c = as_statement l.loop in
     let stands = loop_stands p.declarations p.body 0 [] outermost found.loop whole.statements found.stands in
-    let exit = no_reason_holds symbols c Exit found.no_reason in
-    let step = no_reason_holds symbols c Step found.no_reason in
+    let exit = finds_is Exit symbols c ∙ no_reason_holds symbols c Exit found.no_reason in
+    let step = finds_is Step symbols c ∙ no_reason_holds symbols c Step found.no_reason in
     let body = loop_may_stand p.declarations symbols l.loop.line l.loop.variable l.loop.first l.loop.last l.loop.step l.loop.body stands.round exit stands.is in
     subst (λ m. RunsAsLoop m found.loop.loop.loop) (sym found.is) (runs_as_loop p n.number l body (λ lang limit. same_does lang limit symbols c [] step))

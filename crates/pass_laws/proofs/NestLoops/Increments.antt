@@ -18,7 +18,8 @@ use Rattle.linear_forms.specs.Linear.{constant_of, as_constant, known, no_store}
 use Rattle.linear_forms.proofs.Storeless.{storeless}
 use Rattle.nest_reasons.specs.declared.flaws.Flaw.TheVariants.{Step}
 use Rattle.nest_reasons.specs.Increments.{is_suitable, suitable, suitable_or_none, step_of}
-use Rattle.nest_reasons.specs.Loops.{has_flaw, any_loop, any_in_arms, any_in_block}
+use Rattle.nest_reasons.specs.Loops.{has_flaw}
+use Rattle.nest_reasons.specs.Walks.{any_loop, any_in_arms, any_in_block}
 use Rattle.nest.specs.Blocks.{numeral}
 use Rattle.find_nests.specs.nest_parts.Statements.{step_or_zero}
 use Rattle.pass_laws.specs.nest_sources.Sources.{with_numbers, arms_with_numbers, block_with_numbers}

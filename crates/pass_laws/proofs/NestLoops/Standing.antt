@@ -3,7 +3,8 @@ use Rattle.std.proofs.Common.{◌≡◌, ℕ, List, [], ◌∷◌, ◌++◌, Con
 use Rattle.std.specs.List.{All}
 use Rattle.std.proofs.lemmas.List.Elements.{All-nil, All-cons, All-append, All-contains}
 use Rattle.tree.specs.Plain.{Statement, Assignment, Where, If, Do, Label, GoTo, Stop, Read, Print, Allocate, Deallocate, Arms, no_arms, arm, Block, no_statements, statement, Declaration}
-use Rattle.meaning.specs.Profile77.{IsStatement, AreArms, IsBlock, Surroundings, within_loop, before_labels, labels_of}
+use Rattle.meaning.specs.Profile77.{IsStatement, AreArms, IsBlock}
+use Rattle.meaning.specs.Blocks.{Surroundings, within_loop, before_labels, labels_of}
 use Rattle.find_nests.specs.nest_parts.Numbers.{next, after, after_arms, after_block}
 use Rattle.find_nests.specs.Loops.{SourceLoop, Placed, as_statement, loops_in, loops_in_arms, loops_in_block}
 

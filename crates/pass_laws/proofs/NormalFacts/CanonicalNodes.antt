@@ -13,7 +13,8 @@ use Rattle.tree.specs.Plain.{Reshape, Reduce, Expressions, no_expressions, expre
 use Rattle.tree.specs.Plain.{Subscripts, no_subscripts, subscript}
 use Rattle.meaning.specs.Names as names
 use Rattle.meaning.specs.Reads.{names_in, names_in_each, names_in_subscript, names_in_subscripts}
-use Rattle.rewrite.specs.Making.{made, made_inside, made_expressions, made_subscript, made_subscripts}
+use Rattle.rewrite.specs.Making.{made, made_expressions, made_subscript, made_subscripts}
+use Rattle.rewrite.specs.MadeBlocks.{made_inside}
 use Rattle.rewrite.specs.Names.{mentions, uses_in, uses_in_expressions, uses_in_subscript, uses_in_subscripts}
 use Rattle.rewrite.specs.declared.uses.Use.{Use}
 use Rattle.rewrite.proofs.Equations.{made_is}

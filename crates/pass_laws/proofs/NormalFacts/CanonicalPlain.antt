@@ -16,7 +16,7 @@ use Rattle.linear_forms.specs.Expressed.{variables}
 use Rattle.linear_forms.specs.Linear.{Form}
 use Rattle.linear_forms.specs.Texts.{with_place, with_symbols, places_behind, text_of}
 use Rattle.normal_loops.specs.Values.{with_value, statement_with_values}
-use Rattle.nest_rewrite.specs.Rewritten.{rewritten_statement}
+use Rattle.nest_rewrite.specs.Statements.{rewritten_statement}
 use Rattle.nest_order.specs.runs.Touched.{IsPlain, EachIsPlain, ArePlain, IsPlainSubscript}
 use Rattle.nest.specs.Plain.{Guarded}
 use Rattle.last_values.specs.normal_forms.NormalLoops.{counters_of}

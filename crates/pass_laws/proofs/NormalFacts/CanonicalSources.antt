@@ -9,7 +9,8 @@ use Rattle.find_nests.specs.Loops.{SourceLoop, Placed, loops_in, loops_in_arms, 
 use Rattle.meaning.specs.Blocks.{Surroundings, outermost, within_loop, before_labels, labels_of}
 use Rattle.meaning.specs.Dialect.{fortran77}
 use Rattle.meaning.specs.Profile77.{IsAssignment, IsStatement, AreArms, IsBlock, IsProgram77}
-use Rattle.meaning.specs.Typed77.{HasKind, AreArguments, AreSubscripts, IsSubscript, IsWhole, declared}
+use Rattle.meaning.specs.Typed77.{HasKind, AreArguments, AreSubscripts, IsSubscript, IsWhole}
+use Rattle.meaning.specs.Typed.{declared}
 use Rattle.tree.specs.OperatorTable.{operand_kind}
 use Rattle.tree.specs.Plain.{Expression, Number, Logic, Named, Unary, Binary, Apply, Constructor, Spread, Transpose}
 use Rattle.tree.specs.Plain.{Reshape, Reduce, Expressions, no_expressions, expression, Subscript, Only, Section}

@@ -4,7 +4,7 @@ use Rattle.std.proofs.Common.{map}
 use Rattle.std.specs.Str.{bytes_eq}
 use Rattle.std.proofs.lemmas.Slice.Eq.{bytes_eq-Decides}
 use Rattle.meaning.specs.Names.{is_among}
-use Rattle.linear_forms.specs.Canonical.{AreDistinct}
+use Rattle.linear_forms.specs.CanonicalLaws.{AreDistinct}
 use Rattle.nest_order.proofs.orders.Lists.{Each-In, In-append}
 use Rattle.nest_order.proofs.orders.Membership.{In-map}
 use Rattle.nest_order.specs.orders.Lists.{In, Distinct}

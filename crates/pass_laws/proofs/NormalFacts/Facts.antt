@@ -20,7 +20,7 @@ use Rattle.tree.specs.Plain.{Expression, Declaration, Given, Program}
 use Rattle.tree.specs.declared.ops.Kind.{Kind}
 use Rattle.tree.specs.declared.ops.Kind.TheVariants.{Integer}
 use Rattle.emission.specs.graph_orders.Nests.{run_nest, turns_of_trip, turns_of_loop}
-use Rattle.linear_forms.specs.Canonical.{AreDistinct}
+use Rattle.linear_forms.specs.CanonicalLaws.{AreDistinct}
 use Rattle.normal_loops.specs.Normalised.{normalised}
 use Rattle.nest_order.specs.facts.Facts.{places_of, counted, HasTrip, HasFacts}
 use Rattle.dependence_graph.specs.nest_graph.Instances.{turns_at}

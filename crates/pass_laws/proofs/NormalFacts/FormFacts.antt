@@ -7,6 +7,7 @@ use Rattle.std.specs.Str.{bytes_eq}
 use Rattle.std.proofs.lemmas.List.{length-map, map-append}
 use Rattle.std.proofs.lemmas.Slice.Eq.{bytes_eq-Decides}
 use Rattle.array_form.specs.forms.Loops as array
+use Rattle.array_form.specs.forms.Trips as form_trips
 use Rattle.components.proofs.ListLaws.{Each-append}
 use Rattle.components.specs.Lists as lists
 use Rattle.emission.proofs.EmissionForms.WrittenTables.{loops_once}
@@ -19,7 +20,7 @@ use Rattle.meaning.specs.Profile77.{IsProgram77}
 use Rattle.meaning.specs.Typed.{declared}
 use Rattle.tree.specs.Plain.{Expression, Declaration, Program}
 use Rattle.tree.specs.declared.ops.Kind.TheVariants.{Integer}
-use Rattle.linear_forms.specs.Canonical.{AreDistinct}
+use Rattle.linear_forms.specs.CanonicalLaws.{AreDistinct}
 use Rattle.normal_loops.specs.Normalised.{normalised}
 use Rattle.nest_order.proofs.orders.Lists as order
 use Rattle.nest_order.proofs.orders.Lists.{In-append}
@@ -69,7 +70,7 @@ among_none (y ∷ names) x h = by (among_none names x) (bytes_eq y x) refl (byte
         let no : ⊥ = cc in
         absurd no
 
-distinct_too : (names : List (List ℕ)) → AreDistinct names → array.AreDistinct names
+distinct_too : (names : List (List ℕ)) → AreDistinct names → form_trips.AreDistinct names
 distinct_too [] h = tt
 distinct_too (x ∷ names) h = (among_none names x h.0, distinct_too names h.1)
 
@@ -216,7 +217,7 @@ module _ (p : Program) (n m : Nest) (w : Setting) (is : IsProgram77 fortran77 p)
 
   pub form_facts : HasFormFacts m w
   form_facts = record {
-    symbols = subst array.AreDistinct (sym made.symbols) (distinct_too n.symbols body.distinct);
+    symbols = subst form_trips.AreDistinct (sym made.symbols) (distinct_too n.symbols body.distinct);
     trips = λ s h. subst (λ xs. HaveTripTexts xs [] (loops_at m s)) (sym made.symbols) (trips s h);
     variables = variable;
   }

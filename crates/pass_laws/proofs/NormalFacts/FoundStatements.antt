@@ -33,7 +33,7 @@ use Rattle.tree.specs.declared.ops.Kind.{Kind}
 use Rattle.tree.specs.declared.ops.Kind.TheVariants.{Integer}
 use Rattle.tree.specs.OperatorTable.{operand_kind}
 use Rattle.linear_forms.proofs.Sizes.{both}
-use Rattle.linear_forms.specs.Canonical.{AreDistinct}
+use Rattle.linear_forms.specs.CanonicalLaws.{AreDistinct}
 use Rattle.nest_order.proofs.orders.Lists.{In-left, In-right}
 use Rattle.nest_order.specs.orders.Lists.{In}
 use Rattle.find_nests.specs.nest_parts.Numbers.{next, after, after_arms, after_block}

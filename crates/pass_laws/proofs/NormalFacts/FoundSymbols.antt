@@ -18,7 +18,7 @@ use Rattle.rewrite.specs.declared.uses.Way.TheVariants.{Writes}
 use Rattle.tree.specs.Plain.{Extent, Given, Later, Declaration}
 use Rattle.tree.specs.declared.ops.Kind.{Kind}
 use Rattle.tree.specs.declared.ops.Kind.TheVariants.{Integer, Logical}
-use Rattle.linear_forms.specs.Canonical.{AreDistinct}
+use Rattle.linear_forms.specs.CanonicalLaws.{AreDistinct}
 use Rattle.nest_order.specs.orders.Lists.{In}
 use Rattle.nest_reasons.specs.Symbols.{is_integer, is_scalar}
 use Rattle.meaning_laws.proofs.profiles.Lists.{here, there}

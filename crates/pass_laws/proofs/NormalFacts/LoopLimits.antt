@@ -9,7 +9,8 @@ use Rattle.std.proofs.lemmas.List.{length-take}
 use Rattle.tree.specs.Plain.{Expression}
 use Rattle.linear_forms.proofs.Sizes.{both}
 use Rattle.linear_forms.specs.Linear.{Form, is_small, all_small, not_zero, is_limited, form_of}
-use Rattle.linear_forms.specs.Places.{IsAffineOf, padded, terms_from}
+use Rattle.linear_forms.specs.Places.{padded, terms_from}
+use Rattle.linear_forms.specs.Affines.{IsAffineOf}
 use Rattle.nest.specs.Plain.{Loop}
 use Rattle.nest.specs.declared.parts.Trip.{Trip}
 use Rattle.last_values.specs.normal_forms.Combinations.{combination, affine_of, number_form, times}

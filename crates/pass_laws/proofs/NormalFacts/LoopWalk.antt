@@ -3,12 +3,14 @@ use Rattle.std.proofs.Common.{◌≡◌, refl, subst, Bool, true, false, cond, �
 use Rattle.std.proofs.Common.{Some, None}
 use Rattle.std.specs.Prelude.{is_some}
 use Rattle.last_values.specs.Behind.{stands_behind}
-use Rattle.last_values.specs.InPlace.{assigned_part, only_where_part, first_text, own_trip_text, end_part, parts_before}
-use Rattle.last_values.specs.InPlace.{parts_behind}
+use Rattle.last_values.specs.InPlace.{assigned_part, first_text, own_trip_text, end_part}
+use Rattle.last_values.specs.PartsInPlace.{only_where_part, parts_before, parts_behind}
 use Rattle.last_values.specs.declared.behind.NestedLoop.{NestedLoop}
 use Rattle.linear_forms.proofs.Sizes.{both}
-use Rattle.normal_loops.specs.Bodies.{counting, placed, normal_turns, normal_part, normal_parts, normal_branches}
-use Rattle.normal_loops.specs.Loops.{with_loop, is_normal, are_normal, are_normal_branches}
+use Rattle.normal_loops.specs.Bodies.{placed, normal_turns, normal_part, normal_parts, normal_branches}
+use Rattle.normal_loops.specs.Counting.{counting}
+use Rattle.normal_loops.specs.Loops.{with_loop}
+use Rattle.normal_loops.specs.Normal.{is_normal, are_normal, are_normal_branches}
 use Rattle.nest.specs.Plain.{Loop, Guarded, Part, Run, Turns, Choice, Label, Jump, Parts, no_parts, part, parts}
 use Rattle.nest.specs.Plain.{Branches, no_branches, branch, Nest}
 use Rattle.last_values.specs.normal_forms.NormalLoops.{normal_loop, is_positive, is_known}

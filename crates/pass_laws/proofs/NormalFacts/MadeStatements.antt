@@ -12,11 +12,11 @@ use Rattle.meaning.specs.Typed90.{HasKind, IsIntegerScalar}
 use Rattle.tree.specs.Plain.{Expression, Declaration}
 use Rattle.tree.specs.declared.ops.Kind.TheVariants.{Integer}
 use Rattle.last_values.specs.InPlace.{first_text, end_text}
-use Rattle.normal_loops.specs.Bodies.{counting}
+use Rattle.normal_loops.specs.Counting.{counting}
 use Rattle.normal_loops.specs.Values.{with_value, statement_with_values, normal_statement}
 use Rattle.nest_order.proofs.orders.Lists.{In-left, In-right}
 use Rattle.nest_order.specs.orders.Lists.{In}
-use Rattle.nest_rewrite.specs.Rewritten.{rewritten_statement}
+use Rattle.nest_rewrite.specs.Statements.{rewritten_statement}
 use Rattle.nest_order.specs.shapes.Shapes.{numbers_of}
 use Rattle.nest.specs.Bodies.{Standing, nest_statements}
 use Rattle.nest.specs.Plain.{Loop, Guarded, Nest}

@@ -14,7 +14,7 @@ use Rattle.array_form.specs.forms.Loops.{Loop, Surroundings, variables_of, names
 use Rattle.array_form.specs.forms.Loops.{coefficient, one_each}
 use Rattle.array_form.specs.forms.Statements.{are_formed, has_form, hold_at, is_linear, is_triangle, loops_assigned}
 use Rattle.array_form.specs.forms.Statements.{loops_from, occurrences, Hold, FormHold, TriangleHold}
-use Rattle.last_values.specs.Endings.{scalar}
+use Rattle.last_values.specs.Scalars.{scalar}
 use Rattle.components.specs.Lists.{Each, In}
 use Rattle.components.proofs.ListLaws.{Each-append, Each-from, In-filter}
 use Rattle.tree.specs.Plain.{Expression, Number, Logic, Named, Unary, Binary, Apply, Constructor, Spread, Transpose}

@@ -5,12 +5,12 @@ use Rattle.array_form.specs.forms.Loops.{Surroundings, variables_of}
 use Rattle.array_form.specs.forms.Statements.{hold_at}
 use Rattle.components.proofs.ListLaws.{Each-get}
 use Rattle.emission.specs.emission_forms.Forms.{AreRegular}
-use Rattle.last_values.specs.Endings.{scalar}
+use Rattle.last_values.specs.Scalars.{scalar}
 use Rattle.last_values.specs.InPlace.{first_text, end_text}
 use Rattle.linear_forms.specs.Canonical.{canonising}
-use Rattle.normal_loops.specs.Bodies.{counting}
+use Rattle.normal_loops.specs.Counting.{counting}
 use Rattle.normal_loops.specs.Values.{statement_with_values, normal_statement}
-use Rattle.nest_rewrite.specs.Rewritten.{rewritten_statement}
+use Rattle.nest_rewrite.specs.Statements.{rewritten_statement}
 use Rattle.nest.specs.Bodies.{Standing, nest_statements}
 use Rattle.nest.specs.Plain.{Guarded, Loop, Nest}
 use Rattle.last_values.specs.normal_forms.NormalLoops.{counters_of}

@@ -14,7 +14,8 @@ use Rattle.meaning.specs.Typed90.{HasKind, IsScalar, IsIntegerScalar, rank_of}
 use Rattle.meaning.specs.Value.{named}
 use Rattle.rewrite.proofs.Profiles.{Becomes-made}
 use Rattle.rewrite.proofs.ReplacedProfile.{replacing_keeps_profile}
-use Rattle.rewrite.specs.Making.{Making, Suits, made_parts}
+use Rattle.rewrite.specs.Making.{Making, made_parts}
+use Rattle.rewrite.specs.Suits.{Suits}
 use Rattle.rewrite.specs.Profile.{DeclaresAlso, TakesPlace, KeepsProfile}
 use Rattle.rewrite.specs.Replacing.{Replacing}
 use Rattle.rewrite.specs.Substituting.{replaced, substituting}
@@ -27,12 +28,11 @@ use Rattle.tree.specs.declared.ops.Op.TheVariants.{Div, Mul}
 use Rattle.last_values.specs.InPlace.{first_text, own_trip_text, end_text}
 use Rattle.linear_forms.proofs.AllSuit.{suits_block}
 use Rattle.linear_forms.proofs.CanonicalProfile.{canonising_keeps_profile}
-use Rattle.linear_forms.specs.Canonical.{all_suit, AreIntegerScalars}
-use Rattle.linear_forms.specs.Expressed.{term, plus_term, minus_term, with_term, with_terms, with_constant}
-use Rattle.linear_forms.specs.Expressed.{variables}
+use Rattle.linear_forms.specs.CanonicalLaws.{all_suit, AreIntegerScalars}
+use Rattle.linear_forms.specs.Expressed.{term, plus_term, minus_term, with_term, with_terms, with_constant, variables}
 use Rattle.linear_forms.specs.Texts.{with_place, with_symbols, places_behind, text_of}
 use Rattle.normal_loops.specs.Values.{with_value, in_text, statement_with_values, normal_statement}
-use Rattle.nest_rewrite.specs.Rewritten.{rewritten_statement}
+use Rattle.nest_rewrite.specs.Statements.{rewritten_statement}
 use Rattle.nest.specs.Plain.{Guarded}
 use Rattle.last_values.specs.normal_forms.NormalLoops.{counters_of}
 use Rattle.last_values.specs.normal_forms.Texts.{quotient, trip_text, counter_first, value_text}

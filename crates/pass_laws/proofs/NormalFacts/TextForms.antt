@@ -24,7 +24,7 @@ use Rattle.tree.specs.declared.ops.Value.{Value}
 use Rattle.tree.specs.declared.ops.Value.TheVariants.{Int}
 use Rattle.linear_forms.proofs.CanonicalTwice.{whole_form}
 use Rattle.linear_forms.proofs.Sizes.{both, within_fits}
-use Rattle.linear_forms.specs.Canonical.{AreDistinct}
+use Rattle.linear_forms.specs.CanonicalLaws.{AreDistinct}
 use Rattle.linear_forms.specs.Expressed.{term, with_term, with_terms, with_constant, expressed, variable, variables}
 use Rattle.linear_forms.specs.Linear.{Form, added, constant_form, is_small, all_small, not_zero, is_limited, limited}
 use Rattle.linear_forms.specs.Linear.{no_store, known, as_constant, constant_of, unit, with_zero, with_no_constant}

@@ -22,7 +22,7 @@ use Rattle.linear_forms.specs.Texts.{with_place, with_symbols, places_behind, te
 use Rattle.normal_loops.specs.Values.{with_value, in_text, statement_with_values, normal_statement}
 use Rattle.nest_order.proofs.orders.Lists.{In-append}
 use Rattle.nest_order.specs.orders.Lists.{In}
-use Rattle.nest_rewrite.specs.Rewritten.{rewritten_statement}
+use Rattle.nest_rewrite.specs.Statements.{rewritten_statement}
 use Rattle.nest_order.specs.runs.Touched as touched
 use Rattle.nest.specs.Plain.{Guarded}
 use Rattle.nest.specs.declared.parts.Trip.{Trip}

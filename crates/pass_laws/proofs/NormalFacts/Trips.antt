@@ -14,10 +14,11 @@ use Rattle.emission.specs.emission_forms.Written.{IsTripText}
 use Rattle.tree.specs.Plain.{Expression, Number, Binary}
 use Rattle.tree.specs.declared.ops.Op.TheVariants.{Div}
 use Rattle.linear_forms.proofs.AffineTexts.{affine_has_text}
-use Rattle.linear_forms.specs.Canonical.{AreDistinct}
+use Rattle.linear_forms.specs.CanonicalLaws.{AreDistinct}
 use Rattle.linear_forms.specs.Expressed.{expressed, variables}
 use Rattle.linear_forms.specs.Linear.{Form, number_at, form_of}
-use Rattle.linear_forms.specs.Places.{IsAffineOf, padded, terms_from}
+use Rattle.linear_forms.specs.Places.{padded, terms_from}
+use Rattle.linear_forms.specs.Affines.{IsAffineOf}
 use Rattle.linear_forms.specs.Texts.{text_of}
 use Rattle.nest_order.specs.facts.Facts.{values_from, places_of, HasTrip}
 use Rattle.dependence_graph.specs.nest_graph.Instances.{turns_at}

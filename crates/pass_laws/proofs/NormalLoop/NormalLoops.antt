@@ -16,7 +16,7 @@ use Rattle.meaning.specs.Run.{State, Going, does}
 use Rattle.meaning.specs.Store.{Store, Cell}
 use Rattle.meaning.specs.Value.{exact, as_count, trip_count, is_in_range, number_of, increment_of}
 use Rattle.rewrite.specs.Following.{sequential, IsSound, MomentsAlike}
-use Rattle.rewrite.specs.Making.{SuitsBlock}
+use Rattle.rewrite.specs.Suits.{SuitsBlock}
 use Rattle.rewrite.specs.Replacing.{Replacing, is_own, replacing, replacing_suits}
 use Rattle.rewrite.proofs.Acts.{Answers}
 use Rattle.rewrite.proofs.Values.{parted}

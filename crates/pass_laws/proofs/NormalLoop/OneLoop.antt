@@ -13,7 +13,8 @@ use Rattle.meaning.specs.Store.{Store, Cell, put, same_cell, cell_at, cell_in}
 use Rattle.meaning.specs.Value.{value_of, trip_count, number_of, increment_of, subscript_values, is_in_range}
 use Rattle.meaning.specs.Run.{State, Going, does, does_all}
 use Rattle.rewrite.specs.Following.{IsSound, sequential}
-use Rattle.rewrite.specs.Making.{made_block, SuitsBlock}
+use Rattle.rewrite.specs.MadeBlocks.{made_block}
+use Rattle.rewrite.specs.Suits.{SuitsBlock}
 use Rattle.rewrite.specs.Rule.{IsRule, HaveInCommon, Assigned}
 use Rattle.rewrite.specs.Replacing.{Replacing, is_own, is_fixed, is_free, replacing, replacing_suits, ValueStandsFor}
 use Rattle.rewrite.proofs.Acts.{Answers}

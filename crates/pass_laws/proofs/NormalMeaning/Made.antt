@@ -2,11 +2,11 @@
 use Rattle.std.proofs.Common.{◌≡◌, refl, sym, ap, ◌∙◌, Bool, true, false, cond, List, [], ◌∷◌, Some, None}
 use Rattle.std.specs.Option.{option_map}
 use Rattle.tree.specs.Plain.{Block}
-use Rattle.last_values.specs.Behind.{values_behind}
+use Rattle.last_values.specs.ValuesBehind.{values_behind}
 use Rattle.normal_loops.specs.Bodies.{normal_part}
-use Rattle.normal_loops.specs.Loops.{is_normal}
+use Rattle.normal_loops.specs.Normal.{is_normal}
 use Rattle.normal_loops.specs.Normalised.{normalised, only_one, with_body, with_loops}
-use Rattle.nest.specs.Blocks.{block_then}
+use Rattle.nest.specs.Allocations.{block_then}
 use Rattle.nest.specs.Plain.{Part, Nest}
 use Rattle.pass_laws.specs.normal_runs.Sources.{loops_in}
 

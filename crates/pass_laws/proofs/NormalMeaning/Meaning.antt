@@ -11,14 +11,15 @@ use Rattle.pass_laws.specs.last_runs.Laws.{LacksLastValues}
 use Rattle.pass_laws.proofs.LastRuns.LastValues.{last_values_behind}
 use Rattle.linear_forms.specs.Laws.{HoldsSized}
 use Rattle.linear_forms.specs.Linear.{HaveValues}
-use Rattle.nest.specs.Blocks.{allocations_then, block_of_nest, block_then, deallocations, statement_of_part}
+use Rattle.nest.specs.Blocks.{block_of_nest, statement_of_part}
+use Rattle.nest.specs.Allocations.{allocations_then, block_then, deallocations}
 use Rattle.nest.specs.Plain.{Made, Nest, Part}
 use Rattle.last_values.specs.normal_forms.Numbers.{values_from}
 use Rattle.pass_laws.proofs.NormalRuns.Body.{body_beside}
 use Rattle.pass_laws.specs.normal_runs.Sources.{IsNormalSource, apart_within, counters_in, ends_behind, loops_in, variables_in}
 use Rattle.pass_laws.specs.normal_values.Beside.{IsBeside}
 use Rattle.pass_laws.specs.normal_values.Laws.{GoOnBeside}
-use Rattle.nest.specs.statement_loops.Standings.{is_among}
+use Rattle.nest.specs.statement_loops.Names.{is_among}
 use Rattle.pass_laws.specs.normal_meaning.Laws.{GoOnButCounters, NormalFormKeepsMeaning}
 use Rattle.pass_laws.proofs.NormalMeaning.Bounds.{same_bounds}
 use Rattle.pass_laws.proofs.NormalMeaning.Made.{IsMadeOf, behind, made_of}

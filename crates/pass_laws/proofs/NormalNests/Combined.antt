@@ -8,7 +8,8 @@ use Rattle.std.proofs.lemmas.Bool.{cases_lt, leb-true}
 use Rattle.std.proofs.lemmas.Int.{ints}
 use Rattle.subscripts.specs.declared.affine.Affine.{Affine}
 use Rattle.linear_forms.specs.Linear.{Form, sum, multiple, is_small, all_small, not_zero}
-use Rattle.linear_forms.specs.Merging.{small_or_none, all_pushed}
+use Rattle.linear_forms.specs.Merging.{all_pushed}
+use Rattle.linear_forms.specs.Pushing.{small_or_none}
 use Rattle.linear_forms.specs.Places.{terms_from}
 use Rattle.linear_forms.specs.declared.terms.Terms.{Terms}
 use Rattle.linear_forms.proofs.Merges.{Outcome, pushes}

@@ -16,7 +16,7 @@ use Rattle.meaning.specs.Value.{value_of, values_of, subscript_values}
 use Rattle.linear_forms.specs.Linear.{Form, no_store, limited, unit, with_zero, with_no_constant, form_of_sign, form_of_pair, constant_of, constant_or, linear, form_of}
 use Rattle.linear_forms.proofs.LinearLaws.{limited-is, as_constant-is}
 use Rattle.linear_forms.proofs.Parts.{parted}
-use Rattle.nest.specs.statement_loops.Standings.{is_among}
+use Rattle.nest.specs.statement_loops.Names.{is_among}
 
 nothing_joined : (xs ys : List (List ℕ)) → xs ≡ [] → ys ≡ [] → xs ++ ys ≡ []
 nothing_joined xs ys h k = ap (λ zs. zs ++ ys) h ∙ k

@@ -19,23 +19,28 @@ use Rattle.nest_reasons.specs.Symbols.{is_integer_scalar, is_symbol, symbols_of}
 use Rattle.nest_reasons.specs.declared.flaws.Flaw.TheVariants as flaws
 use Rattle.find_nests.specs.nest_parts.Numbers.{next, after, after_arms, after_block}
 use Rattle.find_nests.specs.nest_parts.Statements.{source_loop, parts_of, branches_of, parts_of_block}
-use Rattle.find_nests.specs.bound_limits.Loops.{any_leaves}
+use Rattle.find_nests.specs.bound_limits.Walks.{any_leaves}
 use Rattle.find_nests.specs.declared.reasons.Reason.{Reason}
 use Rattle.find_nests.specs.declared.reasons.Reason.TheVariants.{Bound, Step as Step', Deep}
-use Rattle.find_nests.specs.Reasons.{has_flawed, has_reason}
-use Rattle.find_nests.specs.Loops.{SourceLoop, Numbered, Placed, as_statement, loops_in, loops_in_arms, loops_in_block, reason_of}
+use Rattle.find_nests.specs.WalkedReasons.{finds, finds_flaw}
+use Rattle.find_nests.specs.Loops.{SourceLoop, Numbered, Placed, as_statement, loops_in, loops_in_arms, loops_in_block}
+use Rattle.find_nests.specs.LookedAt.{reason_of}
 use Rattle.find_nests.specs.Found.{body_of, nest_of_loop}
 use Rattle.find_nests.proofs.FoundLaws.{found_nest_is_loop, no_reason_holds}
+use Rattle.find_nests.proofs.ReasonWalks.{finds_is}
 use Rattle.last_values.specs.normal_forms.NormalLoops.{normal_loop}
 use Rattle.last_values.specs.normal_forms.LastValues.{have_plain_trips}
 use Rattle.last_values.specs.declared.normal_forms.loops.NormalLoop.{NormalLoop}
-use Rattle.nest.specs.statement_loops.Standings.{is_among}
+use Rattle.nest.specs.statement_loops.Names.{is_among}
 use Rattle.last_values.specs.Occurrences.{stands_in, stands_outside_in_each, occurs_only_within}
-use Rattle.last_values.specs.Behind.{are_within, ends_behind, may_end_behind, stands_behind, values_behind}
-use Rattle.last_values.specs.InPlace.{parts_before, parts_behind}
+use Rattle.last_values.specs.Behind.{are_within, ends_behind, may_end_behind, stands_behind}
+use Rattle.last_values.specs.ValuesBehind.{values_behind}
+use Rattle.last_values.specs.PartsInPlace.{parts_before, parts_behind}
 use Rattle.last_values.specs.declared.behind.NestedLoop.{NestedLoop}
-use Rattle.normal_loops.specs.Bodies.{counting, normal_turns, normal_part, normal_parts}
-use Rattle.normal_loops.specs.Loops.{with_loop, nested, is_normal, are_normal, nested_loops, nested_in_parts, nested_in_branches}
+use Rattle.normal_loops.specs.Bodies.{normal_turns, normal_part, normal_parts}
+use Rattle.normal_loops.specs.Counting.{counting}
+use Rattle.normal_loops.specs.Loops.{with_loop, nested, nested_loops, nested_in_parts, nested_in_branches}
+use Rattle.normal_loops.specs.Normal.{is_normal, are_normal}
 use Rattle.normal_loops.specs.Normalised.{with_body, only_one, with_loops, normalised}
 use Rattle.pass_laws.proofs.ReadyNests.Lists.{Each-Contains}
 use Rattle.pass_laws.proofs.ReadyNests.LoopForms.{HaveZeros, normal_loop_is}
@@ -280,8 +285,8 @@ found_there : (p : Program) (k : ℕ) (q : Numbered) → reason_of p.declaration
 found_there p k q none h =
     let symbols = symbols_of p.declarations q.loop.variable q.loop.body in
     let c = as_statement q.loop in
-    let no : (r : Reason) → has_reason r symbols c ≡ false = λ r. no_reason_holds symbols c r none in
-    let bound = neither (has_flawed flaws.Bound symbols c) (not (has_flawed flaws.Step symbols c) && any_leaves symbols [] c) (no Bound) in
+    let no : (r : Reason) → finds r symbols c ≡ false = λ r. finds_is r symbols c ∙ no_reason_holds symbols c r none in
+    let bound = neither (finds_flaw flaws.Bound symbols c) (not (finds_flaw flaws.Step symbols c) && any_leaves symbols [] c) (no Bound) in
     let kept : any_leaves symbols [] c ≡ false = ap (λ b. not b && any_leaves symbols [] c) (sym (no Step')) ∙ bound.1 in
     let normal = both (is_normal symbols [] (body_of q)) true (normal_alone symbols q.before c kept (no Deep)) in
     nest_there (nest_of_loop p k q) (source_loop (next q.before) q.loop.variable q.loop.first q.loop.last q.loop.step) (parts (parts_of_block (next q.before) q.loop.body)) refl normal.0

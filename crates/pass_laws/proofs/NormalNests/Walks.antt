@@ -12,15 +12,18 @@ use Rattle.nest.specs.Plain.{Part, parts}
 use Rattle.nest_reasons.specs.declared.flaws.Flaw.TheVariants.{Deep}
 use Rattle.nest_reasons.specs.Increments.{step_of, suitable, suitable_or_none}
 use Rattle.nest_reasons.specs.Increments as increments
-use Rattle.nest_reasons.specs.Loops.{has_flaw, any_loop, any_in_arms, any_in_block}
+use Rattle.nest_reasons.specs.Loops.{has_flaw}
+use Rattle.nest_reasons.specs.Walks.{any_loop, any_in_arms, any_in_block}
 use Rattle.find_nests.specs.nest_parts.Numbers.{next, after, after_arms, after_block}
 use Rattle.find_nests.specs.nest_parts.Statements.{source_loop, step_or_zero, parts_of, branches_of, parts_of_block}
 use Rattle.find_nests.specs.bound_limits.Composed.{Outer, bound_form}
 use Rattle.find_nests.specs.bound_limits.Limits.{normal, all_keep_limits}
-use Rattle.find_nests.specs.bound_limits.Loops.{leaves_with, leaves_limits, normal_or_zero, as_outer, any_leaves, any_leaves_arms, any_leaves_block}
+use Rattle.find_nests.specs.bound_limits.Loops.{leaves_with, leaves_limits, normal_or_zero, as_outer}
+use Rattle.find_nests.specs.bound_limits.Walks.{any_leaves, any_leaves_arms, any_leaves_block}
 use Rattle.last_values.specs.normal_forms.NormalLoops.{normal_loop, is_zero}
 use Rattle.last_values.specs.declared.normal_forms.loops.NormalLoop.{NormalLoop}
-use Rattle.normal_loops.specs.Loops.{with_loop, is_normal, are_normal, are_normal_branches}
+use Rattle.normal_loops.specs.Loops.{with_loop}
+use Rattle.normal_loops.specs.Normal.{is_normal, are_normal, are_normal_branches}
 use Rattle.pass_laws.proofs.ReadyNests.LoopForms.{HaveZeros, HaveZeros-later, normal_loop_is}
 use Rattle.pass_laws.proofs.ReadyNests.Sums.{Zero}
 use Rattle.pass_laws.proofs.NormalNests.Bounds.{AllStand, Stands, same_length}

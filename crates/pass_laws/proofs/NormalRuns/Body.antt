@@ -17,7 +17,8 @@ use Rattle.last_values.specs.Occurrences.{occurs_only_within, stands_in_bounds, 
 use Rattle.last_values.specs.declared.behind.NestedLoop.{NestedLoop}
 use Rattle.linear_forms.proofs.Sizes.{both}
 use Rattle.normal_loops.specs.Bodies.{normal_part, normal_parts, normal_turns}
-use Rattle.normal_loops.specs.Loops.{are_normal, is_normal, nested, nested_in_parts, nested_loops, with_loop}
+use Rattle.normal_loops.specs.Loops.{nested, nested_in_parts, nested_loops, with_loop}
+use Rattle.normal_loops.specs.Normal.{are_normal, is_normal}
 use Rattle.normal_loops.specs.Normalised.{only_one}
 use Rattle.nest.specs.Blocks.{block_of_parts, numeral, statement_of_part}
 use Rattle.nest.specs.Bodies.{Standing, statements_in, statements_in_parts}
@@ -25,7 +26,7 @@ use Rattle.nest.specs.Plain.{Loop, Nest, Part, Run, Turns, Choice, Label, Jump, 
 use Rattle.last_values.specs.normal_forms.NormalLoops.{normal_loop, variables_of}
 use Rattle.last_values.specs.declared.normal_forms.loops.NormalLoop.{NormalLoop}
 use Rattle.pass_laws.specs.normal_values.Laws.{BoundsBeside, LastValueInPlace, StatementBeside}
-use Rattle.nest.specs.statement_loops.Standings.{is_among}
+use Rattle.nest.specs.statement_loops.Names.{is_among}
 use Rattle.pass_laws.specs.normal_runs.Laws.{BodyBeside}
 use Rattle.pass_laws.specs.normal_runs.Sources.{AreStraight, IsNormalSource, IsStraight, apart_within, counters_in, loops_in}
 use Rattle.pass_laws.specs.normal_runs.Sources.{variables_in, IsSuitedStatement}

@@ -11,7 +11,7 @@ use Rattle.meaning.proofs.Exchanges.{unread}
 use Rattle.linear_forms.specs.Linear.{HaveValues}
 use Rattle.nest_order.specs.runs.Guarded.{variable_cell}
 use Rattle.nest_order.proofs.runs.Results.{true_false}
-use Rattle.nest.specs.statement_loops.Standings.{is_among}
+use Rattle.nest.specs.statement_loops.Names.{is_among}
 
 -- ---- names among names
 

@@ -16,7 +16,7 @@ use Rattle.last_values.specs.declared.normal_forms.loops.NormalLoop.{NormalLoop}
 use Rattle.pass_laws.specs.normal_values.Beside.{IsBeside}
 use Rattle.pass_laws.specs.normal_values.Laws.{GoOnBeside}
 use Rattle.pass_laws.proofs.ReadyNests.LoopForms.{HaveZeros}
-use Rattle.nest.specs.statement_loops.Standings.{is_among}
+use Rattle.nest.specs.statement_loops.Names.{is_among}
 use Rattle.pass_laws.specs.normal_runs.Sources.{IsNormalSource, apart_within, counters_in, ends_behind, variables_in}
 use Rattle.pass_laws.specs.normal_runs.Laws.{KeepsBounds}
 use Rattle.pass_laws.proofs.NormalRuns.Held.{among_is, none_among}

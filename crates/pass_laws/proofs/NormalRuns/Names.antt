@@ -22,7 +22,7 @@ use Rattle.last_values.specs.declared.normal_forms.loops.NormalLoop.{NormalLoop}
 use Rattle.pass_laws.specs.normal_values.Beside.{AreApart, AreNormalLoops}
 use Rattle.pass_laws.proofs.ReadyNests.LoopForms.{HaveZeros, HaveZeros-later, normal_loop_is}
 use Rattle.pass_laws.proofs.ReadyNests.Sums.{Zero}
-use Rattle.nest.specs.statement_loops.Standings.{is_among}
+use Rattle.nest.specs.statement_loops.Names.{is_among}
 use Rattle.pass_laws.specs.normal_runs.Sources.{IsNormalSource, IsSuitedStatement, HasOwnVariable, apart_within, counters_in}
 use Rattle.pass_laws.specs.normal_runs.Sources.{ends_behind, loops_in, variables_in}
 use Rattle.pass_laws.proofs.NormalRuns.Held.{among, among_is, not_among, none_among}

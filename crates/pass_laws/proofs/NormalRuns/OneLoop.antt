@@ -12,9 +12,9 @@ use Rattle.meaning.specs.Store.{Store, Cell, cell_in}
 use Rattle.meaning.specs.Run.{State, Going, does, does_all}
 use Rattle.rewrite.specs.Following.{sequential}
 use Rattle.last_values.specs.Behind.{stands_behind}
-use Rattle.last_values.specs.InPlace.{parts_before, parts_behind}
+use Rattle.last_values.specs.PartsInPlace.{parts_before, parts_behind}
 use Rattle.last_values.specs.declared.behind.NestedLoop.{NestedLoop}
-use Rattle.normal_loops.specs.Bodies.{counting}
+use Rattle.normal_loops.specs.Counting.{counting}
 use Rattle.nest_order.specs.runs.Guarded.{variable_cell}
 use Rattle.nest_order.proofs.runs.Results.{true_false}
 use Rattle.nest.specs.Blocks.{block_of_parts, numeral, statement_of_part}
@@ -25,7 +25,7 @@ use Rattle.last_values.specs.normal_forms.Texts.{trip_text}
 use Rattle.last_values.specs.declared.normal_forms.loops.NormalLoop.{NormalLoop}
 use Rattle.pass_laws.specs.normal_values.Beside.{AreApart, IsBeside}
 use Rattle.pass_laws.specs.normal_values.Laws.{BoundsBeside, HasLastTexts, HasNormalBounds, LastValueInPlace}
-use Rattle.nest.specs.statement_loops.Standings.{is_among}
+use Rattle.nest.specs.statement_loops.Names.{is_among}
 use Rattle.pass_laws.specs.normal_runs.Sources.{IsNormalSource, apart_within, counters_in, ends_behind, loops_in, variables_in}
 use Rattle.pass_laws.proofs.NormalRuns.Held.{among}
 use Rattle.pass_laws.proofs.NormalRuns.Moments.{Goes, IsKept, Opens, across, has_none, no_symbol, only_symbols, other_stores}

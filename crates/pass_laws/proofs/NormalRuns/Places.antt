@@ -12,8 +12,8 @@ use Rattle.meaning.specs.Value.{value_of}
 use Rattle.meaning.specs.Run.{State, does, does_all, either, nothing}
 use Rattle.rewrite.specs.Following.{sequential}
 use Rattle.last_values.specs.Endings.{assigned}
-use Rattle.last_values.specs.InPlace.{assigned_part, end_part, end_text, first_text, only_where_part, own_trip_text}
-use Rattle.last_values.specs.InPlace.{parts_before, parts_behind}
+use Rattle.last_values.specs.InPlace.{assigned_part, end_part, end_text, first_text, own_trip_text}
+use Rattle.last_values.specs.PartsInPlace.{only_where_part, parts_before, parts_behind}
 use Rattle.nest_order.specs.runs.Guarded.{variable_cell}
 use Rattle.nest_order.proofs.runs.Ending.{count_from_one, turns_to}
 use Rattle.nest_order.proofs.runs.Going.{moved}

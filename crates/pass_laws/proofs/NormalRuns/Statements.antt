@@ -15,7 +15,7 @@ use Rattle.rewrite.specs.Following.{sequential}
 use Rattle.last_values.specs.Occurrences.{stands_in, stands_in_guard, stands_in_left, stands_in_statement}
 use Rattle.last_values.specs.declared.behind.NestedLoop.{NestedLoop}
 use Rattle.normal_loops.specs.Values.{normal_statement, statement_with_values, with_value, in_text}
-use Rattle.nest_rewrite.specs.Rewritten.{rewritten_statement}
+use Rattle.nest_rewrite.specs.Statements.{rewritten_statement}
 use Rattle.nest_order.proofs.runs.Ending.{Assigned, assigned}
 use Rattle.nest_order.proofs.runs.Results.{both_ok, true_false}
 use Rattle.nest_order.proofs.runs.Variables.{cell_name}
@@ -26,7 +26,7 @@ use Rattle.last_values.specs.normal_forms.NormalLoops.{variables_of}
 use Rattle.last_values.specs.declared.normal_forms.loops.NormalLoop.{NormalLoop}
 use Rattle.pass_laws.specs.normal_values.Beside.{NamesSuit, SuitsStatement}
 use Rattle.pass_laws.specs.normal_values.Laws.{GoOnBeside, StatementBeside}
-use Rattle.nest.specs.statement_loops.Standings.{is_among}
+use Rattle.nest.specs.statement_loops.Names.{is_among}
 use Rattle.rewrite.specs.Making.{made}
 use Rattle.pass_laws.specs.normal_runs.Sources.{IsNormalSource, IsStraightStatement, IsSuitedStatement, apart_within, counters_in}
 use Rattle.pass_laws.specs.normal_runs.Sources.{ends_behind, names_of_statement}

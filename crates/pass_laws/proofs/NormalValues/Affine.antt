@@ -13,7 +13,8 @@ use Rattle.meaning.specs.Store.{Store}
 use Rattle.meaning.specs.Value.{value_of}
 use Rattle.linear_forms.specs.Laws.{AreSized, HoldsSized}
 use Rattle.linear_forms.specs.Linear.{Form, HaveValues, weighted, number_at, is_small, all_small, not_zero, is_limited}
-use Rattle.linear_forms.specs.Places.{IsAffineOf, padded, terms_from}
+use Rattle.linear_forms.specs.Places.{padded, terms_from}
+use Rattle.linear_forms.specs.Affines.{IsAffineOf}
 use Rattle.linear_forms.specs.Texts.{text_of}
 use Rattle.linear_forms.proofs.AffineTexts.{affine_text_has_value}
 use Rattle.linear_forms.proofs.Sizes.{both, weighted-size, dropped, abs-sum}

@@ -12,7 +12,7 @@ use Rattle.rewrite.specs.Following.{sequential}
 use Rattle.rewrite.specs.Replacing.{ValueStandsFor}
 use Rattle.linear_forms.specs.Linear.{HaveValues}
 use Rattle.nest.specs.Plain.{Loop}
-use Rattle.normal_loops.specs.Values.{test_with_values, normal_test}
+use Rattle.normal_loops.specs.Tests.{test_with_values, normal_test}
 use Rattle.last_values.specs.declared.normal_forms.loops.NormalLoop.{NormalLoop}
 use Rattle.last_values.specs.normal_forms.NormalLoops.{counters_of, variables_of, normal_loop}
 use Rattle.last_values.specs.normal_forms.Numbers.{number_of_form, values_from, variable_numbers}

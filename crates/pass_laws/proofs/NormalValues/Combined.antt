@@ -9,7 +9,8 @@ use Rattle.std.specs.Ordering.{int_eq}
 use Rattle.std.proofs.Math.IntN.{*ℤ-zero}
 use Rattle.std.proofs.Math.Numerals.{add-one}
 use Rattle.linear_forms.specs.Linear.{is_small, all_small, not_zero}
-use Rattle.linear_forms.specs.Merging.{small_or_none, pushed, then_pushed, all_pushed}
+use Rattle.linear_forms.specs.Merging.{all_pushed}
+use Rattle.linear_forms.specs.Pushing.{small_or_none, pushed, then_pushed}
 use Rattle.linear_forms.specs.Places.{padded, terms_from}
 use Rattle.linear_forms.specs.declared.terms.Terms.{Terms}
 use Rattle.linear_forms.proofs.Merges.{Outcome, pushes, then_same}

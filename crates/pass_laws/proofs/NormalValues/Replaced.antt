@@ -12,8 +12,8 @@ use Rattle.tree.specs.Plain.{no_subscripts, subscript, Loops, no_loops, loop}
 use Rattle.meaning.specs.Store.{Store, Cell, cell_at, cell_in}
 use Rattle.meaning.specs.Value.{value_of, subscript_value, subscript_values, item_values}
 use Rattle.rewrite.specs.Following.{sequential}
-use Rattle.rewrite.specs.Making.{Making, Suiting, made, made_subscripts, Suits, SuitsEach, SuitsSubscripts}
-use Rattle.rewrite.specs.Making.{SuitsSubscript, SuitsLoops}
+use Rattle.rewrite.specs.Making.{Making, made, made_subscripts}
+use Rattle.rewrite.specs.Suits.{Suiting, Suits, SuitsEach, SuitsSubscripts, SuitsSubscript, SuitsLoops}
 use Rattle.rewrite.specs.Names.{mentions}
 use Rattle.rewrite.specs.Replacing.{Replacing, is_suited, ValueStandsFor}
 use Rattle.rewrite.specs.Rule.{IsRule, value_between}

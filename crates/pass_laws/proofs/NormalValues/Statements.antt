@@ -24,7 +24,7 @@ use Rattle.linear_forms.specs.Laws.{HoldsSized}
 use Rattle.linear_forms.specs.Linear.{HaveValues}
 use Rattle.nest.specs.Blocks.{guarded_statement, under_guard, assignment_of}
 use Rattle.nest.specs.Plain.{Guarded}
-use Rattle.nest_rewrite.specs.Rewritten.{rewritten_statement}
+use Rattle.nest_rewrite.specs.Statements.{rewritten_statement}
 use Rattle.normal_loops.specs.Values.{with_value, in_text, statement_with_values, normal_statement}
 use Rattle.nest_order.specs.runs.Guarded as effects
 use Rattle.nest_order.proofs.runs.Ending.{Assigned, assigned}

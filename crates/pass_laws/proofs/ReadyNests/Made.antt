@@ -3,10 +3,11 @@ use Rattle.std.proofs.Common.{◌≡◌, refl, sym, ap, ◌∙◌, Bool, true, f
 use Rattle.std.specs.Option.{option_map}
 use Rattle.tree.specs.Plain.{Block}
 use Rattle.nest.specs.Plain.{Part, Nest}
-use Rattle.last_values.specs.Behind.{values_behind}
+use Rattle.last_values.specs.ValuesBehind.{values_behind}
 use Rattle.last_values.specs.declared.behind.NestedLoop.{NestedLoop}
 use Rattle.normal_loops.specs.Bodies.{normal_part}
-use Rattle.normal_loops.specs.Loops.{is_normal, nested_loops}
+use Rattle.normal_loops.specs.Loops.{nested_loops}
+use Rattle.normal_loops.specs.Normal.{is_normal}
 use Rattle.normal_loops.specs.Normalised.{with_body, only_one, with_loops, normalised}
 
 -- what m is, where it is made of n

@@ -6,9 +6,11 @@ use Rattle.last_values.specs.normal_forms.NormalLoops.{normal_loop, is_positive,
 use Rattle.last_values.specs.normal_forms.Texts.{at_least_one}
 use Rattle.last_values.specs.declared.normal_forms.loops.NormalLoop.{NormalLoop}
 use Rattle.last_values.specs.Behind.{stands_behind}
-use Rattle.last_values.specs.InPlace.{assigned_part, only_where_part, first_text, own_trip_text, end_part, parts_before, parts_behind}
+use Rattle.last_values.specs.InPlace.{assigned_part, first_text, own_trip_text, end_part}
+use Rattle.last_values.specs.PartsInPlace.{only_where_part, parts_before, parts_behind}
 use Rattle.last_values.specs.declared.behind.NestedLoop.{NestedLoop}
-use Rattle.normal_loops.specs.Bodies.{counting, placed, normal_turns, normal_part, normal_parts, normal_branches}
+use Rattle.normal_loops.specs.Bodies.{placed, normal_turns, normal_part, normal_parts, normal_branches}
+use Rattle.normal_loops.specs.Counting.{counting}
 use Rattle.normal_loops.specs.Loops.{with_loop}
 use Rattle.pass_laws.specs.ready_nests.Distinct.{numbers_of, NormalLoopsAreThose}
 use Rattle.pass_laws.proofs.ReadyNests.Lists.{numbers_joined, numbers_alone, loops_joined}

@@ -11,7 +11,7 @@ use Rattle.components.proofs.ListLaws.{Each-append}
 use Rattle.nest.specs.Plain.{Loop, Guarded, Nest}
 use Rattle.nest.specs.Bodies.{Standing, nest_statements}
 use Rattle.nest.specs.declared.parts.Trip.{Trip}
-use Rattle.nest_rewrite.specs.Rewritten.{rewritten_statement}
+use Rattle.nest_rewrite.specs.Statements.{rewritten_statement}
 use Rattle.dependence_graph.specs.nest_graph.Ready.{subscript_count}
 use Rattle.dependence_graph.specs.nest_graph.References.{references_of, references_in, references_in_subscripts, references_in_guard}
 use Rattle.last_values.specs.normal_forms.NormalLoops.{counter_name, counters_of, normal_loop}

@@ -8,7 +8,7 @@ use Rattle.dependence_graph.specs.nest_graph.Ready.{IsTripIn, HasTrip, HaveTrips
 use Rattle.last_values.specs.normal_forms.NormalLoops.{normal_loop}
 use Rattle.last_values.specs.declared.normal_forms.loops.NormalLoop.{NormalLoop}
 use Rattle.last_values.specs.InPlace.{first_text, end_text}
-use Rattle.normal_loops.specs.Bodies.{counting}
+use Rattle.normal_loops.specs.Counting.{counting}
 use Rattle.normal_loops.specs.Values.{normal_statement}
 use Rattle.pass_laws.specs.ready_nests.Trips.{IsInTrips, NormalTripsAreForms}
 use Rattle.pass_laws.proofs.ReadyNests.Lists.{Each-All}

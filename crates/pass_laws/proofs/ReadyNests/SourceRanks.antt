@@ -9,7 +9,8 @@ use Rattle.tree.specs.declared.ops.Kind.{Kind}
 use Rattle.tree.specs.declared.ops.Kind.TheVariants.{Integer}
 use Rattle.tree.specs.OperatorTable.{operand_kind}
 use Rattle.meaning.specs.Dialect.{Dialect}
-use Rattle.meaning.specs.Typed77.{HasKind, AreArguments, AreSubscripts, IsSubscript, IsWhole, IsDoVariable, declared, dimensions, number_of_subscripts}
+use Rattle.meaning.specs.Typed77.{HasKind, AreArguments, AreSubscripts, IsSubscript, IsWhole, IsDoVariable}
+use Rattle.meaning.specs.Typed.{declared, dimensions, number_of_subscripts}
 use Rattle.meaning.specs.Blocks.{Surroundings, within_loop, before_labels, labels_of}
 use Rattle.meaning.specs.Profile77.{AreDeclarations, IsDeclaration, IsAssignment, IsStatement, AreArms, IsBlock}
 use Rattle.linear_forms.proofs.Sizes.{both}

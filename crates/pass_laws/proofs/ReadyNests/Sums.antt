@@ -11,7 +11,8 @@ use Rattle.std.proofs.lemmas.List.{get_or_past}
 use Rattle.subscripts.specs.Shapes.{IsForm}
 use Rattle.subscripts.specs.declared.affine.Affine.{Affine}
 use Rattle.linear_forms.specs.Linear.{Form, is_small, all_small, not_zero, is_limited}
-use Rattle.linear_forms.specs.Merging.{small_or_none, pushed, then_pushed, all_pushed}
+use Rattle.linear_forms.specs.Merging.{all_pushed}
+use Rattle.linear_forms.specs.Pushing.{small_or_none, pushed, then_pushed}
 use Rattle.linear_forms.specs.Places.{padded, terms_from}
 use Rattle.linear_forms.specs.declared.terms.Terms.{Terms}
 use Rattle.linear_forms.proofs.Merges.{Outcome, pushes, then_same}

@@ -12,11 +12,14 @@ use Rattle.last_values.specs.normal_forms.NormalLoops.{normal_loop, is_positive,
 use Rattle.last_values.specs.normal_forms.Texts.{at_least_one}
 use Rattle.last_values.specs.declared.normal_forms.loops.NormalLoop.{NormalLoop}
 use Rattle.last_values.specs.Behind.{stands_behind}
-use Rattle.last_values.specs.Endings.{scalar}
-use Rattle.last_values.specs.InPlace.{assigned_part, only_where_part, first_text, own_trip_text, end_text, end_part, parts_before, parts_behind}
+use Rattle.last_values.specs.Scalars.{scalar}
+use Rattle.last_values.specs.InPlace.{assigned_part, first_text, own_trip_text, end_text, end_part}
+use Rattle.last_values.specs.PartsInPlace.{only_where_part, parts_before, parts_behind}
 use Rattle.last_values.specs.declared.behind.NestedLoop.{NestedLoop}
-use Rattle.normal_loops.specs.Bodies.{counting, placed, normal_turns, normal_part, normal_parts, normal_branches}
-use Rattle.normal_loops.specs.Loops.{with_loop, is_normal, are_normal, are_normal_branches}
+use Rattle.normal_loops.specs.Bodies.{placed, normal_turns, normal_part, normal_parts, normal_branches}
+use Rattle.normal_loops.specs.Counting.{counting}
+use Rattle.normal_loops.specs.Loops.{with_loop}
+use Rattle.normal_loops.specs.Normal.{is_normal, are_normal, are_normal_branches}
 use Rattle.normal_loops.specs.Values.{normal_statement}
 use Rattle.pass_laws.proofs.ReadyNests.Lists.{statements_joined}
 use Rattle.pass_laws.proofs.ReadyNests.Made.{IsMadeOf}

@@ -2,16 +2,15 @@
 use Rattle.std.specs.Prelude.{◌≡◌, ⊤, true, false, All, List, [], ◌∷◌, ◌++◌}
 use Rattle.meaning.specs.Reads.{names_in}
 use Rattle.tree.specs.Plain.{Expression}
-use Rattle.normal_loops.specs.Loops.{is_normal}
+use Rattle.normal_loops.specs.Normal.{is_normal}
 use Rattle.nest_order.specs.orders.Lists.{Distinct}
 use Rattle.nest_order.specs.runs.Touched.{IsPlain}
 use Rattle.nest.specs.Bodies.{Standing, nest_statements}
 use Rattle.nest.specs.Plain.{Nest, Part, Run, Turns, Choice, Label, Jump, Parts, no_parts, part}
 use Rattle.nest.specs.Plain.{Branches, no_branches, branch}
 use Rattle.pass_laws.specs.normal_runs.Sources.{HasOwnVariable, IsStraightStatement, IsSuitedStatement, counters_in}
-use Rattle.pass_laws.specs.normal_runs.Sources.{loops_in}
-use Rattle.pass_laws.specs.normal_runs.Sources.{variables_in}
-use Rattle.nest.specs.statement_loops.Standings.{is_among}
+use Rattle.pass_laws.specs.normal_runs.Sources.{loops_in, variables_in}
+use Rattle.nest.specs.statement_loops.Names.{is_among}
 use Rattle.pass_laws.specs.branch_meaning.Jumps.{JumpsAhead}
 
 -- the conditions of the IFs, in the order of the text

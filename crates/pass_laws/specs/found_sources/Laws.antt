@@ -1,5 +1,5 @@
 -- What is known of the nests that are found in a program.
-use Rattle.std.specs.Prelude.{◌≡◌, ⊤, Some, None, All, Contains}
+use Rattle.std.specs.Prelude.{◌≡◌, Some, None, All, Contains}
 use Rattle.tree.specs.Plain.{Program}
 use Rattle.meaning.specs.Dialect.{fortran77}
 use Rattle.meaning.specs.Profile77.{IsProgram77}
@@ -7,21 +7,9 @@ use Rattle.find_nests.specs.Found.{InNest, found_in}
 use Rattle.normal_loops.specs.Normalised.{normalised}
 use Rattle.nest_order.specs.shapes.Shapes.{IsPlain}
 use Rattle.nest.specs.Bodies.{Standing, nest_statements}
-use Rattle.nest.specs.Plain.{Nest, Part, Run, Turns, Choice, Label, Jump, Parts, no_parts, part}
+use Rattle.nest.specs.Plain.{Nest}
+use Rattle.pass_laws.specs.found_sources.Alone.{HasLoopsAlone}
 use Rattle.pass_laws.specs.normal_runs.Sources.{IsNormalSource}
-
--- loops and statements alone
-abbrev mutual
-  pub HasLoopsAlone : Part → Type 0
-  HasLoopsAlone (Run g) = ⊤
-  HasLoopsAlone (Turns l ps) = HaveLoopsAlone ps
-  HasLoopsAlone (Choice bs ps) = ⊥
-  HasLoopsAlone (Label k) = ⊥
-  HasLoopsAlone (Jump k) = ⊥
-
-  pub HaveLoopsAlone : Parts → Type 0
-  HaveLoopsAlone no_parts = ⊤
-  HaveLoopsAlone (part p ps) = HasLoopsAlone p × HaveLoopsAlone ps
 
 abbrev pub FoundNestIsSource : Type 0
 FoundNestIsSource = (p : Program) (n : Nest) → IsProgram77 fortran77 p → Contains (found_in p) (InNest n)

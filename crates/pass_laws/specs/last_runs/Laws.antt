@@ -3,14 +3,14 @@ use Rattle.std.specs.Prelude.{◌≡◌, ℕ, ◌≤◌, ℤ, false, true, None,
 use Rattle.meaning.specs.Run.{State, Going, does, does_all}
 use Rattle.meaning.specs.Store.{Store, Cell}
 use Rattle.rewrite.specs.Following.{sequential}
-use Rattle.last_values.specs.Behind.{values_behind}
+use Rattle.last_values.specs.ValuesBehind.{values_behind}
 use Rattle.linear_forms.specs.Laws.{HoldsSized}
 use Rattle.linear_forms.specs.Linear.{HaveValues}
 use Rattle.nest.specs.Blocks.{statement_of_part}
 use Rattle.nest.specs.Plain.{Nest}
 use Rattle.last_values.specs.normal_forms.Numbers.{values_from}
 use Rattle.pass_laws.specs.normal_runs.Sources.{IsNormalSource, counters_in, ends_behind, loops_in}
-use Rattle.nest.specs.statement_loops.Standings.{is_among}
+use Rattle.nest.specs.statement_loops.Names.{is_among}
 
 -- A store u beside the nest's run from s to t: as t, but for counters and for the variables that get their last values
 -- behind all loops, which are as in s

@@ -1,6 +1,6 @@
 -- A DO loop, and the loop from 1 by 1 that stands for it (Allen and Kennedy, section 4.3; ISO/IEC 1539:1991, section
 -- 8.1.4.4).
-use Rattle.std.specs.Prelude.{◌≡◌, Ok, Some, ℕ, ◌+◌, ◌≤◌, ℤ, pos, ◌+ℤ◌, ◌-ℤ◌, ◌*ℤ◌, neg_ℤ, int_div, IsTrue, Bool, false}
+use Rattle.std.specs.Prelude.{◌≡◌, Ok, Some, ℕ, ◌+◌, ◌≤◌, ℤ, pos, ◌+ℤ◌, ◌-ℤ◌, ◌*ℤ◌, neg_ℤ, int_div, IsTrue, false}
 use Rattle.std.specs.Prelude.{None, List, [], ◌∷◌, ◌++◌}
 use Rattle.std.specs.Str.{bytes_eq}
 use Rattle.tree.specs.Operators.{fits}
@@ -11,7 +11,8 @@ use Rattle.meaning.specs.Run.{State, Going, does, does_all}
 use Rattle.meaning.specs.Store.{Store, Cell}
 use Rattle.meaning.specs.Value.{number_of, increment_of, trip_count}
 use Rattle.rewrite.specs.Following.{sequential, IsSound, MomentsAlike}
-use Rattle.rewrite.specs.Making.{made_block, SuitsBlock}
+use Rattle.rewrite.specs.MadeBlocks.{made_block}
+use Rattle.rewrite.specs.Suits.{SuitsBlock}
 use Rattle.rewrite.specs.Replacing.{Replacing, replacing, replacing_suits}
 use Rattle.linear_forms.specs.Expressed.{expressed, variables}
 use Rattle.linear_forms.specs.Laws.{AreSized}

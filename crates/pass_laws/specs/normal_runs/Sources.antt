@@ -3,14 +3,15 @@ use Rattle.std.specs.Prelude.{◌≡◌, ⊤, ℕ, Bool, true, false, ◌&&◌, 
 use Rattle.meaning.specs.Reads.{names_in, names_in_subscripts}
 use Rattle.last_values.specs.Behind.{stands_behind}
 use Rattle.last_values.specs.declared.behind.NestedLoop.{NestedLoop}
-use Rattle.normal_loops.specs.Loops.{is_normal, nested_loops}
+use Rattle.normal_loops.specs.Loops.{nested_loops}
+use Rattle.normal_loops.specs.Normal.{is_normal}
 use Rattle.nest_order.specs.orders.Lists.{Distinct}
 use Rattle.nest_order.specs.runs.Touched.{ArePlain, IsPlain}
 use Rattle.nest.specs.Bodies.{Standing, nest_statements}
 use Rattle.nest.specs.Plain.{Guarded, Loop, Nest, Part, Run, Turns, Choice, Label, Jump, Parts, no_parts, part}
 use Rattle.last_values.specs.normal_forms.NormalLoops.{variables_of}
 use Rattle.last_values.specs.declared.normal_forms.loops.NormalLoop.{NormalLoop}
-use Rattle.nest.specs.statement_loops.Standings.{is_among}
+use Rattle.nest.specs.statement_loops.Names.{is_among}
 
 -- ---- loops and statements alone
 

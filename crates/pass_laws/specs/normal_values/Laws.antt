@@ -9,7 +9,8 @@ use Rattle.meaning.specs.Store.{Store}
 use Rattle.meaning.specs.Value.{number_of, trip_count, value_of}
 use Rattle.rewrite.specs.Following.{sequential}
 use Rattle.last_values.specs.InPlace.{end_text, first_text}
-use Rattle.normal_loops.specs.Values.{normal_statement, normal_test}
+use Rattle.normal_loops.specs.Values.{normal_statement}
+use Rattle.normal_loops.specs.Tests.{normal_test}
 use Rattle.nest_order.specs.runs.Touched.{IsPlain}
 use Rattle.nest.specs.Blocks.{guarded_statement}
 use Rattle.nest.specs.Plain.{Guarded, Loop}

@@ -32,6 +32,15 @@ returns-clause-write_fault g c = top.write_fault _ _ c.work-outcome.result c.sta
 pub returns-clause-translated : goal.returns-clause-translated
 returns-clause-translated g c k = top.translated _ c.work-outcome.result c.status.result c.status.ensures (for_command _ _ _ _ k (for_words _ _ _ _ c.as_slice.ensures.value c.work-outcome.ensures.ended))
 
+pub returns-clause-listed_beside : goal.returns-clause-listed_beside
+returns-clause-listed_beside g c k = top.listed_beside _ c.work-outcome.result c.status.result c.status.ensures (for_command _ _ _ _ k (for_words _ _ _ _ c.as_slice.ensures.value c.work-outcome.ensures.ended))
+
+pub returns-clause-marked : goal.returns-clause-marked
+returns-clause-marked g c k = top.marked _ c.work-outcome.result c.status.result c.status.ensures (for_command _ _ _ _ k (for_words _ _ _ _ c.as_slice.ensures.value c.work-outcome.ensures.ended))
+
+pub returns-clause-printed : goal.returns-clause-printed
+returns-clause-printed g c k = top.printed _ c.work-outcome.result c.status.result c.status.ensures (for_command _ _ _ _ k (for_words _ _ _ _ c.as_slice.ensures.value c.work-outcome.ensures.ended))
+
 pub returns-clause-part : goal.returns-clause-part
 returns-clause-part g c k = top.part _ c.work-outcome.result c.status.result c.status.ensures (for_command _ _ _ _ k (for_words _ _ _ _ c.as_slice.ensures.value c.work-outcome.ensures.ended))
 

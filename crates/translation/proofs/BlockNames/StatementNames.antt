@@ -22,7 +22,7 @@ use Rattle.tree.proofs.Equations.{statement_of-print, statement_of-allocate, sta
 use Rattle.tree.proofs.Equations.{tested_of-is, block_of-is}
 use Rattle.meaning.specs.Reads.{names_in, names_in_subscript, names_in_subscripts}
 use Rattle.meaning.specs.Agreement.{names_in_item, names_in_items, names_in_statement, names_in_arms, names_in_block}
-use Rattle.rewrite.specs.Names.{names_in_reference, names_in_control}
+use Rattle.rewrite.specs.NamesAlong.{names_in_reference, names_in_control}
 use Rattle.rewrite.proofs.StandingLaws.{each_expression, each_subscript}
 use Rattle.translation.specs.block_names.Names.{names_in_arm}
 

@@ -5,7 +5,8 @@ use Rattle.components.proofs.ListLaws.{Each-In, Each-from, Pairwise-filter, filt
 use Rattle.components.specs.Lists.{Each, Pairwise}
 use Rattle.find_nests.proofs.FoundLaws.{found_nest_is_loop}
 use Rattle.find_nests.specs.Found.{InNest, found_among, found_as, nest_of_loop, nests_with}
-use Rattle.find_nests.specs.Loops.{Numbered, Placed, is_in_no_nest, looked_at, loops_in_block, reason_of}
+use Rattle.find_nests.specs.Loops.{Numbered, Placed, loops_in_block}
+use Rattle.find_nests.specs.LookedAt.{is_in_no_nest, looked_at, reason_of}
 use Rattle.find_nests.specs.declared.reasons.Reason.{Reason}
 use Rattle.pass_laws.proofs.FoundSources.Numbers.{next_small}
 use Rattle.tree.specs.Plain.{Declaration, Program}

@@ -16,7 +16,8 @@ use Rattle.tree.proofs.Equations.{statement_equations, statement_of-assign, stat
 use Rattle.tree.proofs.Equations.{statement_of-do, statement_of-label, statement_of-go, statement_of-stop}
 use Rattle.tree.proofs.Equations.{statement_of-read, statement_of-print, statement_of-allocate}
 use Rattle.tree.proofs.Equations.{statement_of-deallocate, tested_of-is, block_of-is, block_of-made}
-use Rattle.find_nests.specs.nest_parts.Numbers.{next, after, after_arms, after_each, after_block, after_list}
+use Rattle.find_nests.specs.nest_parts.Numbers.{next, after, after_arms, after_block}
+use Rattle.find_nests.specs.nest_parts.Lists.{after_each, after_list}
 use Rattle.find_nests.proofs.NestParts.PartLaws.{after-if, after-do, after-arm, after-block, after_each_is}
 use Rattle.translation.specs.loop_placing.Placing.{block_at, instead, placed, placed_arm, placed_arms, placed_each, placed_in}
 use Rattle.translation.specs.loop_placing.Placing.{placed_list, statements_in}

@@ -1,62 +1,29 @@
 -- What is made of a nest that was found in a program of FORTRAN 77.
-use Rattle.std.proofs.Common.{◌≡◌, ℕ, ◌≤◌, ◌<◌, ◌^◌, Bool, true, false, Option, Some, None, List, length, refl}
-use Rattle.std.proofs.Common.{sym, ap, ◌∙◌, subst, arith}
+use Rattle.std.proofs.Common.{◌≡◌, ℕ, ◌≤◌, ◌<◌, ◌^◌, Option, Some, None, List, length, refl, ap, subst, arith}
 use Rattle.dependence_graph.specs.declared.graphs.Graph.{Graph}
 use Rattle.dependence_graph.specs.declared.graphs.Hold.{Hold}
 use Rattle.emission.specs.emission_pieces.Emission.{IsEmission}
-use Rattle.emission.specs.emission_pieces.Pieces.{translation}
 use Rattle.translation.proofs.EmissionReady.Ready.{ready_nests_may_be_emitted}
-use Rattle.find_nests.proofs.FoundLaws.{found_nest_is_loop}
-use Rattle.find_nests.specs.Found.{Found, InNest}
+use Rattle.find_nests.specs.Found.{InNest}
 use Rattle.find_nests.specs.Found as found
-use Rattle.find_nests.specs.Laws.{IsFoundNest}
 use Rattle.find_nests.specs.declared.reasons.Reason.{Reason}
-use Rattle.pass_laws.proofs.FoundSources.PlainNests.{normal_nests_are_plain}
-use Rattle.pass_laws.specs.found_sources.Laws.{HasLoopsAlone}
+use Rattle.pass_laws.specs.found_sources.Alone.{HasLoopsAlone}
 use Rattle.meaning.specs.Dialect.{fortran77}
-use Rattle.tree.specs.Plain.{Block, Program}
+use Rattle.tree.specs.Plain.{Block}
 use Rattle.listing.specs.graphs.Listing.{lines_of_entries}
 use Rattle.normal_loops.specs.Normalised.{normalised}
 use Rattle.emission.specs.nest_emission.Given.{MayBeEmitted}
 use Rattle.dependence_graph.specs.nest_graph.Graph.{IsGraphOf}
-use Rattle.nest_reasons.specs.Symbols.{symbols_of}
 use Rattle.nest.specs.Plain.{Nest}
-use Rattle.listing.specs.programs.Listing.{AreTestsOf, all_holds, kept, not_built}
-use Rattle.listing.specs.programs.Testable.{IsTestable}
+use Rattle.listing.proofs.programs.Sources.{few_of_source}
+use Rattle.listing.specs.programs.Listing.{kept, not_built}
+use Rattle.listing.specs.programs.Sources.{IsNestOfSource}
+use Rattle.listing.specs.programs.Testable.{AreTestsOf}
 use Rattle.pass_laws.proofs.ReadyNests.Made.{made_of}
 use Rattle.pass_laws.proofs.ReadyNests.NormalReady.{normal_nest_is_ready}
-use Rattle.pass_laws.proofs.ReadyNests.SourceRanks.{few_symbols}
-use Rattle.translation.specs.nest_blocks.Alone.{is_alone}
 use Rattle.translation.specs.nest_blocks.LoopAnswers.{IsAnswerTo, Kept, Translated, Untested}
-use Rattle.translation.specs.nest_blocks.Sources.{IsNestOfSource}
-use Rattle.translation.proofs.NestBlocks.AloneLaws.{alone, not_alone}
-use Rattle.translation.proofs.NestBlocks.Straight.{nest_is_straight}
-
--- ---- symbols
-
-within_declarations : (p : Program) (n : Nest) → IsFoundNest p n → length p.declarations ≤ 1000
-    → length n.symbols ≤ 1000
-within_declarations p n h most =
-    let l = h.loop.loop.loop in
-    let size : length n.symbols ≡ length (symbols_of p.declarations l.variable l.body)
-    = ap (λ (m : Nest). length m.symbols) h.is in
-    let within : length (symbols_of p.declarations l.variable l.body) ≤ length p.declarations
-    = few_symbols p.declarations l.variable l.body in
-    omega (arith, size, within, most)
-
--- no more than a program has names
-pub few_of_source : (n : Nest) → IsNestOfSource n → length n.symbols ≤ 1000
-few_of_source n h = within_declarations h.program n (found_nest_is_loop h.program n h.among) h.profile.declarations.few
 
 -- ---- a nest whose loops go from 1 by 1
-
-pub testable : (n m : Nest) → IsNestOfSource n → normalised n ≡ Some m → HasLoopsAlone m.body → IsTestable m
-testable n m h made only =
-    let plain = normal_nests_are_plain h.program n m h.profile h.among made only in
-    record {
-      straight = nest_is_straight m only plain.2;
-      ready = normal_nest_is_ready fortran77 h.program n m h.profile h.among made;
-    }
 
 pub may_be_emitted : (n m : Nest) (g : Graph) → IsNestOfSource n → normalised n ≡ Some m → IsGraphOf m g
     → MayBeEmitted m g
@@ -92,17 +59,3 @@ pub kept_as : (line : ℕ) (r : Reason) (lines : List (List ℕ)) (block : Optio
     → lines ≡ lines_of_entries (kept line r) → block ≡ None → IsAnswerTo (found.Kept line r) lines block
 kept_as line r lines block is none =
     record { answer = Kept line r; right = tt; found = refl; lines_are = is; block_is = none }
-
--- ---- which nests are translated
-
-pub never_made : (n : Nest) → normalised n ≡ None → (m : Nest) → normalised n ≡ Some m → HasLoopsAlone m.body → ⊥
-never_made n none m made h = cc
-
-pub with_others : (n m : Nest) (a : Bool) → normalised n ≡ Some m → a ≡ is_alone m.body → a ≡ false
-    → (k : Nest) → normalised n ≡ Some k → HasLoopsAlone k.body → ⊥
-with_others n m a made test e k also h =
-    let same : k ≡ m = cc in
-    not_alone m.body (sym test ∙ e) (subst (λ (j : Nest). HasLoopsAlone j.body) same h)
-
-pub alone_by : (m : Nest) (a : Bool) → a ≡ is_alone m.body → a ≡ true → HasLoopsAlone m.body
-alone_by m a test e = alone m.body (sym test ∙ e)

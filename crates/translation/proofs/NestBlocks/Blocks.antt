@@ -3,7 +3,7 @@ use Rattle.std.proofs.Common.{◌≡◌, refl, sym, subst, ℕ, Option, Some, Li
 use Rattle.std.proofs.lemmas.List.Elements.{All-contains}
 use Rattle.meaning_laws.proofs.arrays.Members.{in_map, of_map}
 use Rattle.find_nests.specs.Found.{Found, InNest, found_in}
-use Rattle.pass_laws.specs.found_sources.Laws.{HasLoopsAlone}
+use Rattle.pass_laws.specs.found_sources.Alone.{HasLoopsAlone}
 use Rattle.tree.specs.Plain.{Block, Program}
 use Rattle.normal_loops.specs.Normalised.{normalised}
 use Rattle.translation.specs.loop_numbers.Numbers.{loop_number}
@@ -12,7 +12,8 @@ use Rattle.nest.specs.Plain.{Nest}
 use Rattle.listing.specs.programs.Listing.{all_holds}
 use Rattle.emission.specs.emission_pieces.Pieces.{Pieces, translation}
 use Rattle.dependence_graph.specs.declared.graphs.Graph.{Graph}
-use Rattle.translation.specs.nest_blocks.Answers.{AnswersAreBlocks, ArePlaced, Puts}
+use Rattle.translation.specs.nest_blocks.Answers.{ArePlaced, Puts}
+use Rattle.translation.specs.nest_blocks.Laws.{AnswersAreBlocks}
 use Rattle.translation.specs.nest_blocks.Blocks.{HasBlock, IsBlockOfLoop}
 use Rattle.translation.proofs.NestBlocks.Holds.{all_are_holds}
 use Rattle.translation.specs.nest_blocks.LoopAnswers.{Answer, IsRight, IsTranslation, Kept, Translated, Untested, found_by}

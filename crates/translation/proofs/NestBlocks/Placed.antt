@@ -6,7 +6,8 @@ use Rattle.std.specs.Prelude.{⊤}
 use Rattle.std.proofs.lemmas.Bool.{cases_eq}
 use Rattle.std.proofs.lemmas.List.Elements.{Contains-append_left, Contains-push, Contains-push_cases}
 use Rattle.meaning_laws.proofs.arrays.Members.{in_map}
-use Rattle.find_nests.specs.Found.{Found, InNest, Kept, found_of}
+use Rattle.find_nests.specs.Found.{Found, InNest, Kept}
+use Rattle.find_nests.specs.View.{found_of}
 use Rattle.find_nests.specs.declared.search.Found.{Found as Found'}
 use Rattle.find_nests.specs.declared.search.Found.TheVariants.{Nest as InNest'}
 use Rattle.tree.specs.Plain.{Block}

@@ -1,21 +1,21 @@
 -- The answers to all that was found so far.
-use Rattle.std.proofs.Common.{◌≡◌, ◌⊎◌, inl, inr, refl, ◌∙◌, ap, subst, sym, ℕ, ◌+◌, ◌<◌, ◌≤◌, ◌^◌, arith, Option}
+use Rattle.std.proofs.Common.{◌≡◌, ◌⊎◌, inl, inr, refl, ◌∙◌, ap, subst, sym, ℕ, ◌+◌, ◌<◌, ◌≤◌, Option}
 use Rattle.std.proofs.Common.{List, [], ◌∷◌, ◌++◌, map, take, drop, length, get_or, option_map, Contains, append-nil}
 use Rattle.std.proofs.Common.{take-append-drop}
 use Rattle.std.specs.Prelude.{All}
 use Rattle.std.specs.List.{flat_map}
-use Rattle.std.proofs.lemmas.List.{drop_more, get_or-map, length-map, map-append, take_all, take_more}
+use Rattle.std.proofs.lemmas.List.{drop_more, map-append, take_all, take_more}
 use Rattle.std.proofs.lemmas.List.Concat.{flat_map-append}
 use Rattle.std.proofs.lemmas.List.Elements.{All-nil, All-push, Contains-append_left, Contains-append_right}
 use Rattle.components.specs.Lists.{Each, Pairwise}
 use Rattle.f90_print.specs.Notes.{text_of}
-use Rattle.find_nests.specs.Found.{Found, InNest, Kept, found_in, found_of}
+use Rattle.find_nests.specs.Found.{Found, InNest, Kept, found_in}
+use Rattle.find_nests.specs.View.{found_of}
 use Rattle.find_nests.specs.declared.search.Found.{Found as Found'}
 use Rattle.meaning.specs.Dialect.{fortran77}
 use Rattle.meaning.specs.Profile77.{IsProgram77}
 use Rattle.tree.specs.Plain.{Block, Program}
-use Rattle.tree.specs.View.{block_of, declaration_of}
-use Rattle.tree.specs.declared.programs.Decl.{Decl}
+use Rattle.tree.specs.View.{block_of}
 use Rattle.tree.specs.declared.programs.Line.{Line}
 use Rattle.tree.specs.declared.stmts.Block.{Block as Tree}
 use Rattle.listing.proofs.graphs.LoopLines.{entries-append}
@@ -29,7 +29,6 @@ use Rattle.translation.specs.nest_blocks.Answers.{AreAnswersFor, ArePlaced}
 use Rattle.translation.specs.nest_blocks.Places.{IsPutFor}
 use Rattle.translation.proofs.NestBlocks.Placed.{IsBehind, placed_more, placed_none}
 use Rattle.translation.specs.nest_blocks.LoopAnswers.{Answer, IsAnswerTo, IsRight, entries_by, found_by}
-use Rattle.translation.specs.nest_blocks.Sources.{IsFoundInSource}
 
 -- answers to these, what they list and what they put in the place of loops
 pub record AreAnswersTo (fs : List Found) (lines : List (List ℕ)) (blocks : List (Option Block)) : Type 0 where
@@ -110,27 +109,6 @@ behind p fs rest f program e = record {
         (subst (λ (gs : List Found). Pairwise ComesBefore (nests_among gs)) (sym e) (nests_are_numbered p program))
 
 -- ---- what was found, as the program has it
-
-pub few_declarations : (p : Program) (ds : List Decl) → map declaration_of ds ≡ p.declarations → IsProgram77 fortran77 p
-    → length ds ≤ 2 ^ 16
-few_declarations p ds e is =
-    let size : length (map declaration_of ds) ≡ length ds = length-map ds declaration_of in
-    let same : length (map declaration_of ds) ≡ length p.declarations = ap length e in
-    let few : length p.declarations ≤ 1000 = is.declarations.few in
-    omega (arith, size, same, few)
-
-pub in_source : (p : Program) (items : List Found') (i : ℕ) (x : Found') → IsProgram77 fortran77 p
-    → map found_of items ≡ found_in p → i < length items → x ≡ get_or items i x → IsFoundInSource (found_of x)
-in_source p items i x profile is h e =
-    let size : length (map found_of items) ≡ length items = length-map items found_of in
-    let at : get_or (map found_of items) i (found_of x) ≡ found_of x
-    = get_or-map found_of items i x (found_of x) h ∙ ap found_of (sym e) in
-    let within : i < length (map found_of items) = omega (arith, h, size) in
-    record {
-      program = p;
-      profile = profile;
-      among = subst (λ (fs : List Found). Contains fs (found_of x)) is (i, within, at);
-    }
 
 pub found_none : (items : List Found') (lines : List Line) (blocks : List (Option Tree)) → lines ≡ [] → blocks ≡ []
     → AreAnswersTo (map found_of (take 0 items)) (map text_of lines) (blocks_of blocks)

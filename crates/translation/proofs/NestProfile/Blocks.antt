@@ -4,7 +4,7 @@ use Rattle.meaning.specs.Blocks.{Surroundings, before_labels, label_of, labels_o
 use Rattle.meaning.specs.Profile90.{IsBlock, IsStatement}
 use Rattle.tree.specs.Plain.{Allocate, Assignment, Block, Deallocate, Declaration, Do, GoTo, If, Label, Print, Read}
 use Rattle.tree.specs.Plain.{Statement, Stop, Where, no_statements, statement}
-use Rattle.nest.specs.Blocks.{block_then}
+use Rattle.nest.specs.Allocations.{block_then}
 use Rattle.translation.specs.placed_loops.Placed.{HasNoLabel, IsNoLabel}
 
 no_label : (c : Statement) → IsNoLabel c → label_of c ≡ []

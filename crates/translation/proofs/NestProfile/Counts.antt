@@ -12,10 +12,11 @@ use Rattle.meaning.specs.Profile77.{IsProgram77}
 use Rattle.tree.specs.Plain.{Allocate, Arms, Assignment, Block, Deallocate, Do, GoTo, If, Label, Print, Program}
 use Rattle.tree.specs.Plain.{Read, Statement, Stop, Where, arm, no_arms, no_statements, statement}
 use Rattle.last_values.specs.Behind.{stands_behind}
-use Rattle.last_values.specs.InPlace.{assigned_part, end_part, first_text, only_where_part, own_trip_text, parts_before}
-use Rattle.last_values.specs.InPlace.{parts_behind}
+use Rattle.last_values.specs.InPlace.{assigned_part, end_part, first_text, own_trip_text}
+use Rattle.last_values.specs.PartsInPlace.{only_where_part, parts_before, parts_behind}
 use Rattle.last_values.specs.declared.behind.NestedLoop.{NestedLoop}
-use Rattle.normal_loops.specs.Bodies.{counting, normal_branches, normal_part, normal_parts, normal_turns, placed}
+use Rattle.normal_loops.specs.Bodies.{normal_branches, normal_part, normal_parts, normal_turns, placed}
+use Rattle.normal_loops.specs.Counting.{counting}
 use Rattle.normal_loops.specs.Loops.{with_loop}
 use Rattle.find_nests.specs.nest_parts.Numbers.{after, after_arms, after_block, next}
 use Rattle.find_nests.specs.nest_parts.Statements.{branches_of, parts_of, parts_of_block}

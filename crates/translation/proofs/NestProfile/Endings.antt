@@ -7,7 +7,7 @@ use Rattle.std.specs.Prelude.{int_div}
 use Rattle.std.proofs.lemmas.List.{length-append}
 use Rattle.components.specs.Lists.{Each}
 use Rattle.components.proofs.ListLaws.{Each-append}
-use Rattle.meaning.specs.Blocks.{IsLine, Surroundings, before_labels}
+use Rattle.meaning.specs.Blocks.{Surroundings, before_labels, IsLine}
 use Rattle.meaning.specs.Depths.{depth_of}
 use Rattle.meaning.specs.Profile90.{IsBlock, IsStatement, IsWhole}
 use Rattle.meaning.specs.Typed.{declared, rank_of_extent}
@@ -15,9 +15,11 @@ use Rattle.meaning.specs.Typed90.{IsIntegerScalar, HasKind}
 use Rattle.meaning.specs.Value.{named}
 use Rattle.tree.specs.Plain.{Binary, Declaration, Expression, Number, Statement, block}
 use Rattle.tree.specs.declared.ops.Op.TheVariants.{And, Ge}
-use Rattle.last_values.specs.Behind.{left_behind, or_none, stands_behind, values_behind}
+use Rattle.last_values.specs.Behind.{stands_behind}
+use Rattle.last_values.specs.ValuesBehind.{left_behind, or_none, values_behind}
 use Rattle.last_values.specs.Endings.{Texts, after_statements, all_hold, assigned, ending, last_texts, only_where}
-use Rattle.last_values.specs.Endings.{scalar, where_all_hold, with_last_forms}
+use Rattle.last_values.specs.Endings.{where_all_hold, with_last_forms}
+use Rattle.last_values.specs.Scalars.{scalar}
 use Rattle.last_values.specs.declared.behind.NestedLoop.{NestedLoop}
 use Rattle.normal_loops.specs.Loops.{nested, nested_in_branches, nested_in_parts, nested_loops, with_loop}
 use Rattle.nest.specs.Plain.{Branches, Choice, Guarded, Jump, Label, Loop, Part, Parts, Run, Turns, branch}
@@ -27,8 +29,10 @@ use Rattle.pass_laws.proofs.NormalFacts.FoundStatements.{IsSourceLoop}
 use Rattle.pass_laws.proofs.NormalFacts.LoopLimits.{loop_has_limits}
 use Rattle.pass_laws.proofs.NormalFacts.StatementKinds.{IsNumber, IsSmallForm, IsSmallLoop, small_form}
 use Rattle.last_values.specs.normal_forms.Combinations.{combination, number_form, times}
-use Rattle.last_values.specs.normal_forms.LastValues.{have_plain_trips, is_uncertain, last_end_text, last_first_text, last_forms}
-use Rattle.last_values.specs.normal_forms.LastValues.{last_trip_text, plain_trip_text, plain_trip_texts, test_of, tests_of}
+use Rattle.last_values.specs.normal_forms.LastValues.{have_plain_trips, last_forms}
+use Rattle.last_values.specs.normal_forms.LastTexts.{is_uncertain, last_end_text, last_first_text}
+use Rattle.last_values.specs.normal_forms.LastTexts.{last_trip_text, plain_trip_text, plain_trip_texts, test_of}
+use Rattle.last_values.specs.normal_forms.LastTexts.{tests_of}
 use Rattle.last_values.specs.normal_forms.LastValues.{with_trips}
 use Rattle.last_values.specs.normal_forms.NormalLoops.{is_constant, is_known, is_positive, normal_loop, plus_multiple, trip_form}
 use Rattle.last_values.specs.normal_forms.NormalLoops.{trip_of}

@@ -6,7 +6,7 @@ use Rattle.std.specs.Option.{IsSomeAnd}
 use Rattle.std.proofs.lemmas.List.{map-append}
 use Rattle.components.specs.Lists.{Each}
 use Rattle.components.proofs.ListLaws.{Each-append}
-use Rattle.meaning.specs.Blocks.{IsLine, Surroundings}
+use Rattle.meaning.specs.Blocks.{Surroundings, IsLine}
 use Rattle.meaning.specs.Depths.{depth_of}
 use Rattle.meaning.specs.Typed.{declared, rank_of_extent}
 use Rattle.meaning.specs.Typed77.{deepest}
@@ -15,9 +15,9 @@ use Rattle.tree.specs.Plain.{Declaration, Expression}
 use Rattle.tree.specs.declared.ops.Kind.TheVariants.{Integer}
 use Rattle.last_values.specs.InPlace.{end_text, first_text, own_trip_text}
 use Rattle.linear_forms.specs.Texts.{text_of}
-use Rattle.normal_loops.specs.Bodies.{counting}
+use Rattle.normal_loops.specs.Counting.{counting}
 use Rattle.normal_loops.specs.Values.{normal_statement, statement_with_values, with_value}
-use Rattle.nest_rewrite.specs.Rewritten.{rewritten_statement}
+use Rattle.nest_rewrite.specs.Statements.{rewritten_statement}
 use Rattle.nest.specs.Bodies.{Standing, nest_statements}
 use Rattle.nest.specs.Plain.{Guarded, Loop, Nest}
 use Rattle.pass_laws.proofs.NormalFacts.FoundStatements.{IsFoundBody, IsShort, IsSource, IsSourceLoop}

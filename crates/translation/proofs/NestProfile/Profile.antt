@@ -14,7 +14,7 @@ use Rattle.find_nests.specs.Found.{InNest, found_in}
 use Rattle.find_nests.specs.Laws.{IsFoundNest}
 use Rattle.find_nests.specs.Loops.{as_statement}
 use Rattle.pass_laws.proofs.FoundSources.PlainNests.{normal_nests_are_plain}
-use Rattle.meaning.specs.Blocks.{IsLine, Surroundings}
+use Rattle.meaning.specs.Blocks.{Surroundings, IsLine}
 use Rattle.meaning.specs.Dialect.{fortran77}
 use Rattle.meaning.specs.Holding.{HasBounds}
 use Rattle.meaning.specs.Profile77.{IsProgram77, IsStatement}
@@ -24,14 +24,15 @@ use Rattle.meaning.specs.Typed90.{IsFree, IsIntegerScalar}
 use Rattle.tree.specs.Plain.{Block, Declaration, Extent, Given, Later, Program, no_statements, statement}
 use Rattle.tree.specs.declared.ops.Kind.TheVariants.{Integer}
 use Rattle.normal_loops.specs.Bodies.{normal_part}
-use Rattle.normal_loops.specs.Loops.{is_normal, nested_loops}
+use Rattle.normal_loops.specs.Loops.{nested_loops}
+use Rattle.normal_loops.specs.Normal.{is_normal}
 use Rattle.normal_loops.specs.Normalised.{normalised, only_one, with_body, with_loops}
 use Rattle.nest_order.specs.orders.Lists.{In}
 use Rattle.nest_order.specs.runs.Stores.{Setting}
 use Rattle.translation.proofs.NestTranslation.Endings.{endings_no_label, last_values_end}
 use Rattle.translation.proofs.NestTranslation.Pieces.{pieces_no_label}
 use Rattle.translation.specs.nest_translation.Laws.{IsTranslatedNest}
-use Rattle.nest.specs.Blocks.{allocations_then, block_then, deallocations}
+use Rattle.nest.specs.Allocations.{allocations_then, block_then, deallocations}
 use Rattle.nest.specs.Bodies.{nest_loops, nest_statements}
 use Rattle.nest.specs.Plain.{Loop, Made, Nest, Part, Guarded}
 use Rattle.pass_laws.proofs.NormalFacts.Facts.{facts}

@@ -13,7 +13,8 @@ use Rattle.meaning.specs.Typed90.{HasKind, IsIntegerScalar, IsScalar}
 use Rattle.meaning.specs.Value.{named}
 use Rattle.rewrite.proofs.Profiles.{Becomes-left, Becomes-made, depth-alone}
 use Rattle.rewrite.proofs.ReplacedProfile.{replacing_keeps_profile}
-use Rattle.rewrite.specs.Making.{Making, Suits, SuitsLeft, made, made_left, made_parts}
+use Rattle.rewrite.specs.Making.{Making, made, made_left, made_parts}
+use Rattle.rewrite.specs.Suits.{Suits, SuitsLeft}
 use Rattle.rewrite.specs.Profile.{DeclaresAlso, KeepsProfile, TakesPlace}
 use Rattle.rewrite.specs.Replacing.{Replacing}
 use Rattle.rewrite.specs.Substituting.{replaced, substituting}
@@ -23,9 +24,9 @@ use Rattle.tree.specs.Plain.{statement, subscript}
 use Rattle.tree.specs.declared.ops.Kind.{Kind}
 use Rattle.linear_forms.proofs.AllSuit.{suits_block}
 use Rattle.linear_forms.proofs.CanonicalProfile.{canonising_keeps_profile}
-use Rattle.linear_forms.specs.Canonical.{AreIntegerScalars, all_suit}
+use Rattle.linear_forms.specs.CanonicalLaws.{AreIntegerScalars, all_suit}
 use Rattle.normal_loops.specs.Values.{in_text, normal_statement, statement_with_values, with_value}
-use Rattle.nest_rewrite.specs.Rewritten.{rewritten_statement}
+use Rattle.nest_rewrite.specs.Statements.{rewritten_statement}
 use Rattle.nest.specs.Plain.{Guarded}
 use Rattle.last_values.specs.normal_forms.NormalLoops.{counters_of}
 use Rattle.last_values.specs.normal_forms.Texts.{counter_first, value_text}

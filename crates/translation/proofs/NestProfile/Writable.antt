@@ -8,6 +8,7 @@ use Rattle.std.specs.Str.{bytes_eq}
 use Rattle.std.proofs.lemmas.List.{length-append, length-map}
 use Rattle.array_form.specs.profile.Settings.{IsWritable}
 use Rattle.array_form.specs.forms.Loops as forms
+use Rattle.array_form.specs.forms.Trips as trips
 use Rattle.components.specs.Lists.{Each}
 use Rattle.components.proofs.ListLaws.{Each-append}
 use Rattle.emission.proofs.EmissionForms.FormsLimits.{limited_form, short_form}
@@ -85,7 +86,7 @@ limited_loops es symbols n depth (l ∷ ls) few h f =
 -- ---- all
 
 pub writable_is : (es : List Declaration) (m : Nest) (ls : List Loop) → AddMadeNames m.declarations es → IsFree es (codes "TRANSPOSE") → IsFree es (codes "RESHAPE") → length ls ≤ 7
-    → forms.AreDistinct (forms.names_of (surroundings_of m ls)) → Each (IsIntegerScalar es) (variables_of_loops ls) → Each (IsIntegerScalar es) m.symbols → HaveKnown m.symbols 0 ls
+    → trips.AreDistinct (forms.names_of (surroundings_of m ls)) → Each (IsIntegerScalar es) (variables_of_loops ls) → Each (IsIntegerScalar es) m.symbols → HaveKnown m.symbols 0 ls
     → Each (IsFitLoop es) ls → IsWritable es (surroundings_of m ls)
 writable_is es m ls a transpose reshape few distinct integers symbols known fit =
     let all = map (λ (l : Loop). counted_of (length ls) (counted l)) ls in

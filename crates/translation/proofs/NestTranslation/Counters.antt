@@ -10,12 +10,14 @@ use Rattle.std.proofs.lemmas.Slice.Eq.{bytes_eq-Decides}
 use Rattle.meaning.specs.Store.{Cell}
 use Rattle.emission.specs.graph_orders.Nests.{run_nest}
 use Rattle.last_values.specs.Behind.{stands_behind}
-use Rattle.last_values.specs.InPlace.{assigned_part, end_part, first_text, only_where_part, own_trip_text, parts_before}
-use Rattle.last_values.specs.InPlace.{parts_behind}
+use Rattle.last_values.specs.InPlace.{assigned_part, end_part, first_text, own_trip_text}
+use Rattle.last_values.specs.PartsInPlace.{only_where_part, parts_before, parts_behind}
 use Rattle.last_values.specs.declared.behind.NestedLoop.{NestedLoop}
 use Rattle.linear_forms.proofs.Sizes.{both}
-use Rattle.normal_loops.specs.Bodies.{counting, normal_branches, normal_part, normal_parts, normal_turns, placed}
-use Rattle.normal_loops.specs.Loops.{are_normal, are_normal_branches, is_normal, nested, nested_in_branches}
+use Rattle.normal_loops.specs.Bodies.{normal_branches, normal_part, normal_parts, normal_turns, placed}
+use Rattle.normal_loops.specs.Counting.{counting}
+use Rattle.normal_loops.specs.Loops.{nested, nested_in_branches}
+use Rattle.normal_loops.specs.Normal.{are_normal, are_normal_branches, is_normal}
 use Rattle.normal_loops.specs.Loops.{nested_in_parts, nested_loops, with_loop}
 use Rattle.nest_order.specs.orders.Lists.{In}
 use Rattle.nest_order.specs.orders.Shapes.{loops, loops_in}
@@ -37,7 +39,7 @@ use Rattle.pass_laws.proofs.ReadyNests.Lists.{loops_joined}
 use Rattle.pass_laws.proofs.ReadyNests.LoopForms.{after_below, after_end, after_first, after_top, after_trip, after_value}
 use Rattle.pass_laws.proofs.ReadyNests.LoopForms.{from_first, step}
 use Rattle.pass_laws.proofs.ReadyNests.Made.{IsMadeOf}
-use Rattle.nest.specs.statement_loops.Standings.{is_among}
+use Rattle.nest.specs.statement_loops.Names.{is_among}
 
 abbrev pub variables : List Loop → List (List ℕ)
 variables ls = map (λ (l : Loop). l.variable) ls

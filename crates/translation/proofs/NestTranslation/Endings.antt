@@ -5,13 +5,13 @@ use Rattle.std.specs.Prelude.{⊤, length}
 use Rattle.std.specs.List.{flat_map}
 use Rattle.meaning_laws.specs.arrays.Instances.{after}
 use Rattle.meaning.specs.Dialect.{Dialect}
-use Rattle.meaning.specs.Run.{Act, Going, State, counts_step, does, does_all, either, evaluates, nothing}
-use Rattle.meaning.specs.Run.{while_going}
+use Rattle.meaning.specs.Run.{Act, Going, State, counts_step, does, does_all, either, evaluates, nothing, while_going}
 use Rattle.meaning.specs.Value.{truth_of}
 use Rattle.tree.specs.Plain.{Allocate, Arms, Assignment, Block, Deallocate, Do, Expression, GoTo, If, Label, Print}
 use Rattle.tree.specs.Plain.{Read, Reference, Statement, Stop, Where, arm, block, no_arms, no_statements, statement}
 use Rattle.tree.specs.declared.stmts.Mark.{Mark}
-use Rattle.last_values.specs.Behind.{left_behind, or_none, stands_behind, values_behind}
+use Rattle.last_values.specs.Behind.{stands_behind}
+use Rattle.last_values.specs.ValuesBehind.{left_behind, or_none, values_behind}
 use Rattle.last_values.specs.Endings.{Texts, after_statements, ending, last_texts, only_where, where_all_hold}
 use Rattle.last_values.specs.Endings.{assigned as assigned_to, with_last_forms}
 use Rattle.last_values.specs.declared.behind.NestedLoop.{NestedLoop}
@@ -23,7 +23,8 @@ use Rattle.nest_order.proofs.runs.Going.{guarded_went}
 use Rattle.nest_order.proofs.runs.Runs.{effected}
 use Rattle.nest.specs.declared.parts.Trip.{Trip}
 use Rattle.nest.specs.Plain.{Nest}
-use Rattle.last_values.specs.normal_forms.LastValues.{have_plain_trips, last_forms, tests_of}
+use Rattle.last_values.specs.normal_forms.LastValues.{have_plain_trips, last_forms}
+use Rattle.last_values.specs.normal_forms.LastTexts.{tests_of}
 use Rattle.last_values.specs.normal_forms.NormalLoops.{is_known, is_positive}
 use Rattle.last_values.specs.normal_forms.Texts.{at_least_one}
 use Rattle.last_values.specs.declared.normal_forms.last.LastForms.{LastForms}

@@ -10,7 +10,7 @@ use Rattle.meaning.specs.Run.{State, does, does_all}
 use Rattle.tree.specs.Plain.{Assignment, Block, Expression, Reference, no_statements, statement}
 use Rattle.tree.specs.declared.stmts.Mark.{Mark}
 use Rattle.nest_order.specs.runs.Quiet.{AreQuiet}
-use Rattle.nest.specs.Blocks.{block_then}
+use Rattle.nest.specs.Allocations.{block_then}
 use Rattle.nest.specs.Plain.{Nest}
 use Rattle.translation.specs.placed_loops.Placed.{HasNoLabel}
 use Rattle.array_form.specs.holds.Surroundings.{surroundings_of}

@@ -16,7 +16,7 @@ use Rattle.find_nests.specs.Laws.{IsFoundNest}
 use Rattle.find_nests.specs.Loops.{as_statement}
 use Rattle.pass_laws.proofs.FoundSources.FoundSources.{found_nests_are_sources}
 use Rattle.pass_laws.proofs.FoundSources.PlainNests.{normal_nests_are_plain}
-use Rattle.pass_laws.specs.found_sources.Laws.{HasLoopsAlone}
+use Rattle.pass_laws.specs.found_sources.Alone.{HasLoopsAlone}
 use Rattle.meaning.specs.Agreement.{MomentsAgree, names_in_block}
 use Rattle.meaning.specs.Blocks.{Surroundings, outermost}
 use Rattle.meaning.specs.Dialect.{fortran77, fortran90}
@@ -43,7 +43,8 @@ use Rattle.nest_order.specs.runs.Stores.{HoldsNest, Setting}
 use Rattle.nest_order.specs.runs.Touched.{nth_of}
 use Rattle.nest_order.proofs.runs.Quieting.{quiet_statements_keep_lines}
 use Rattle.nest_order.specs.shapes.Shapes.{IsPlain}
-use Rattle.nest.specs.Blocks.{allocations_then, block_of_nest, block_then, deallocations, statement_of_part}
+use Rattle.nest.specs.Blocks.{block_of_nest, statement_of_part}
+use Rattle.nest.specs.Allocations.{allocations_then, block_then, deallocations}
 use Rattle.nest.specs.Bodies.{nest_loops}
 use Rattle.nest.specs.Plain.{Loop, Made, Nest}
 use Rattle.pass_laws.proofs.NormalFacts.FormFacts.{normal_nest_has_facts, normal_nest_has_form_facts}
@@ -67,7 +68,7 @@ use Rattle.meaning_laws.proofs.profiles.TargetRuns.{statements_keep_stores}
 use Rattle.meaning_laws.proofs.profiles.Targets.{block_is}
 use Rattle.pass_laws.proofs.ReadyNests.Made as normal
 use Rattle.pass_laws.proofs.ReadyNests.NormalReady.{normal_nest_is_ready}
-use Rattle.nest.specs.statement_loops.Standings.{is_among}
+use Rattle.nest.specs.statement_loops.Names.{is_among}
 use Rattle.translation.specs.nest_translation.Laws.{IsTranslatedNest, TranslationDoesAsLoop}
 use Rattle.translation.proofs.NestTranslation.Cleaned.{add_both, agree_back, agree_fewer, agree_on, cleaned, cleaned_agrees}
 use Rattle.translation.proofs.NestTranslation.Cleaned.{cleaned_holds, cleaned_sized, same_agree}

@@ -6,11 +6,12 @@ use Rattle.std.specs.Ordering.{int_eq}
 use Rattle.std.specs.Prelude.{length, slice_get, ◌==◌, ⊤}
 use Rattle.components.specs.Lists.{Each}
 use Rattle.components.proofs.ListLaws.{Each-append}
-use Rattle.pass_laws.specs.found_sources.Laws.{HasLoopsAlone, HaveLoopsAlone}
+use Rattle.pass_laws.specs.found_sources.Alone.{HasLoopsAlone, HaveLoopsAlone}
 use Rattle.tree.specs.Plain.{Arms, Assignment, Binary, Block, Declaration, Expression, If, Number, Statement, arm}
 use Rattle.tree.specs.Plain.{block, no_arms, no_statements, no_subscripts, statement}
 use Rattle.tree.specs.declared.ops.Op.TheVariants.{And, Div, Mul}
-use Rattle.last_values.specs.Behind.{left_behind, or_none, stands_behind, values_behind}
+use Rattle.last_values.specs.Behind.{stands_behind}
+use Rattle.last_values.specs.ValuesBehind.{left_behind, or_none, values_behind}
 use Rattle.last_values.specs.Endings.{Texts, after_statements, all_hold, assigned, ending, last_texts, only_where}
 use Rattle.last_values.specs.Endings.{where_all_hold, with_last_forms}
 use Rattle.last_values.specs.declared.behind.NestedLoop.{NestedLoop}
@@ -21,8 +22,9 @@ use Rattle.nest.specs.Plain.{Choice, Jump, Label, Loop, Part, Parts, Run, Turns,
 use Rattle.nest.specs.declared.parts.Trip.{Trip}
 use Rattle.pass_laws.proofs.NormalFacts.FoundStatements.{IsShort, IsSource, IsSourceLoop}
 use Rattle.pass_laws.proofs.NormalFacts.Texts.{IsOver}
-use Rattle.last_values.specs.normal_forms.LastValues.{have_plain_trips, is_uncertain, last_end_text, last_forms, last_trip_text}
-use Rattle.last_values.specs.normal_forms.LastValues.{plain_trip_text, plain_trip_texts, test_of, tests_of}
+use Rattle.last_values.specs.normal_forms.LastValues.{have_plain_trips, last_forms}
+use Rattle.last_values.specs.normal_forms.LastTexts.{is_uncertain, last_end_text, last_trip_text}
+use Rattle.last_values.specs.normal_forms.LastTexts.{plain_trip_text, plain_trip_texts, test_of, tests_of}
 use Rattle.last_values.specs.normal_forms.NormalLoops.{is_known, is_positive, normal_loop}
 use Rattle.last_values.specs.normal_forms.Texts.{at_least_one, quotient, trip_text}
 use Rattle.last_values.specs.declared.normal_forms.last.LastForms.{LastForms}

@@ -9,7 +9,7 @@ use Rattle.find_nests.proofs.FoundLaws.{found_nest_is_loop}
 use Rattle.find_nests.specs.Found.{InNest, found_in}
 use Rattle.find_nests.specs.Laws.{IsFoundNest}
 use Rattle.pass_laws.proofs.FoundSources.PlainNests.{normal_nests_are_plain}
-use Rattle.pass_laws.specs.found_sources.Laws.{HasLoopsAlone}
+use Rattle.pass_laws.specs.found_sources.Alone.{HasLoopsAlone}
 use Rattle.meaning.specs.Dialect.{fortran77}
 use Rattle.meaning.specs.Holding.{HoldsProgram, IsStorable}
 use Rattle.meaning.specs.Profile77.{IsProgram77}
@@ -42,7 +42,8 @@ use Rattle.translation.proofs.NestTranslation.Counters.{no_counter, no_variable}
 use Rattle.translation.proofs.NestTranslation.Endings.{AreEndings, endings_quiet, last_values_end}
 use Rattle.translation.proofs.NestTranslation.Symbols.{HoldsNumber, IsNumber, holds_number, symbol_is_number, value_there}
 use Rattle.translation.proofs.NestTranslation.Symbols.{values_in}
-use Rattle.nest.specs.Blocks.{allocations_then, block_of_nest, block_then, deallocations, statement_of_part}
+use Rattle.nest.specs.Blocks.{block_of_nest, statement_of_part}
+use Rattle.nest.specs.Allocations.{allocations_then, block_then, deallocations}
 use Rattle.nest.specs.Bodies.{nest_loops}
 use Rattle.nest.specs.Plain.{Loop, Made, Nest}
 use Rattle.pass_laws.proofs.NormalFacts.FormFacts.{normal_nest_has_facts}

@@ -5,13 +5,14 @@ use Rattle.std.specs.List.{flat_map}
 use Rattle.std.proofs.lemmas.List.{length-append}
 use Rattle.components.specs.Lists.{Each}
 use Rattle.components.proofs.ListLaws.{Each-append}
-use Rattle.pass_laws.specs.found_sources.Laws.{HasLoopsAlone, HaveLoopsAlone}
+use Rattle.pass_laws.specs.found_sources.Alone.{HasLoopsAlone, HaveLoopsAlone}
 use Rattle.meaning.specs.Blocks.{blocks_in}
 use Rattle.meaning.specs.Depths.{depth_of}
 use Rattle.rewrite.specs.Profile.{deepest_in}
 use Rattle.tree.specs.Plain.{Binary, Expression, Number, Statement, block}
 use Rattle.tree.specs.declared.ops.Op.TheVariants.{And, Ge}
-use Rattle.last_values.specs.Behind.{left_behind, or_none, stands_behind, values_behind}
+use Rattle.last_values.specs.Behind.{stands_behind}
+use Rattle.last_values.specs.ValuesBehind.{left_behind, or_none, values_behind}
 use Rattle.last_values.specs.Endings.{Texts, after_statements, all_hold, assigned, ending, last_texts, only_where}
 use Rattle.last_values.specs.Endings.{where_all_hold, with_last_forms}
 use Rattle.last_values.specs.declared.behind.NestedLoop.{NestedLoop}
@@ -21,8 +22,10 @@ use Rattle.translation.proofs.NestProfile.TextDepths.{AreDeep, binary_deep, text
 use Rattle.nest.specs.Plain.{Choice, Jump, Label, Loop, Part, Parts, Run, Turns, no_parts, part}
 use Rattle.nest.specs.declared.parts.Trip.{Trip}
 use Rattle.last_values.specs.normal_forms.Combinations.{combination, times}
-use Rattle.last_values.specs.normal_forms.LastValues.{have_plain_trips, is_uncertain, last_end_text, last_first_text, last_forms}
-use Rattle.last_values.specs.normal_forms.LastValues.{last_trip_text, plain_trip_text, plain_trip_texts, test_of, tests_of}
+use Rattle.last_values.specs.normal_forms.LastValues.{have_plain_trips, last_forms}
+use Rattle.last_values.specs.normal_forms.LastTexts.{is_uncertain, last_end_text, last_first_text}
+use Rattle.last_values.specs.normal_forms.LastTexts.{last_trip_text, plain_trip_text, plain_trip_texts, test_of}
+use Rattle.last_values.specs.normal_forms.LastTexts.{tests_of}
 use Rattle.last_values.specs.normal_forms.LastValues.{with_trips}
 use Rattle.last_values.specs.normal_forms.NormalLoops.{is_known, is_positive, normal_loop, plus_multiple, trip_form, trip_of}
 use Rattle.last_values.specs.normal_forms.Steps.{◌>>=◌}

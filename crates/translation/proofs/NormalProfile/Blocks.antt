@@ -11,8 +11,8 @@ use Rattle.find_nests.specs.Found.{InNest, found_in}
 use Rattle.find_nests.specs.Laws.{IsFoundNest}
 use Rattle.find_nests.specs.Loops.{as_statement}
 use Rattle.pass_laws.proofs.FoundSources.FoundSources.{found_nests_are_sources}
-use Rattle.pass_laws.specs.found_sources.Laws.{HasLoopsAlone}
-use Rattle.meaning.specs.Blocks.{IsLine, Surroundings, blocks_in, blocks_of}
+use Rattle.pass_laws.specs.found_sources.Alone.{HasLoopsAlone}
+use Rattle.meaning.specs.Blocks.{Surroundings, blocks_in, blocks_of, IsLine}
 use Rattle.meaning.specs.Dialect.{fortran77}
 use Rattle.meaning.specs.Profile77.{IsProgram77, IsStatement}
 use Rattle.meaning.specs.Profile90.{IsBlock}
@@ -33,7 +33,8 @@ use Rattle.translation.proofs.NestProfile.MadeNames.{extends}
 use Rattle.translation.proofs.NestProfile.Sources.{BothStatement, IsSoundLoop, IsSoundStatement, each_both, loop_is}
 use Rattle.translation.proofs.NestTranslation.Counters.{no_counter, variables_are_counters}
 use Rattle.translation.proofs.NestTranslation.Endings.{endings_no_label, last_values_end}
-use Rattle.nest.specs.Blocks.{allocations_then, block_of_nest, block_then, deallocations, statement_of_part}
+use Rattle.nest.specs.Blocks.{block_of_nest, statement_of_part}
+use Rattle.nest.specs.Allocations.{allocations_then, block_then, deallocations}
 use Rattle.nest.specs.Bodies.{nest_loops}
 use Rattle.nest.specs.Plain.{Guarded, Loop, Made, Nest, Part}
 use Rattle.pass_laws.proofs.NormalFacts.FoundStatements.{IsFoundBody, IsSource, IsSourceLoop, found_body}
@@ -47,7 +48,7 @@ use Rattle.translation.specs.placed_profile.Laws.{AreSourceNames, IsWithoutLabel
 use Rattle.meaning_laws.specs.profiles.Profiles.{AddMadeNames}
 use Rattle.pass_laws.proofs.ReadyNests.Made as normal
 use Rattle.pass_laws.proofs.ReadyNests.Walk.{EachIn}
-use Rattle.nest.specs.statement_loops.Standings.{is_among}
+use Rattle.nest.specs.statement_loops.Names.{is_among}
 use Rattle.translation.specs.normal_profile.Laws.{IsWithinRise, NormalBlockIsOfProfile, expression_rise}
 use Rattle.translation.proofs.NormalProfile.Behind.{IsLowBlock, last_values_low}
 use Rattle.translation.proofs.NormalProfile.Bodies.{AreInner, AreRound, IsGood, each}

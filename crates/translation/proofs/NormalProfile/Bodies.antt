@@ -6,7 +6,7 @@ use Rattle.std.specs.Prelude.{is_some}
 use Rattle.std.proofs.lemmas.List.{length-append, map-append}
 use Rattle.components.specs.Lists as lists
 use Rattle.components.proofs.ListLaws.{Each-append}
-use Rattle.meaning.specs.Blocks.{IsLine, Surroundings, blocks_in, within_loop}
+use Rattle.meaning.specs.Blocks.{Surroundings, blocks_in, within_loop, IsLine}
 use Rattle.meaning.specs.Depths.{depth_of}
 use Rattle.meaning.specs.Profile90.{IsAssignment, IsBlock, IsWhole}
 use Rattle.meaning.specs.Typed.{declared, rank_of_extent}
@@ -20,13 +20,15 @@ use Rattle.tree.specs.Plain.{Block, Declaration, Do, Expression, If, Number, arm
 use Rattle.tree.specs.declared.ops.Kind.TheVariants.{Integer}
 use Rattle.tree.specs.declared.ops.Op.TheVariants.{Ge}
 use Rattle.last_values.specs.Behind.{stands_behind}
-use Rattle.last_values.specs.InPlace.{assigned_part, end_part, end_text, first_text, only_where_part, own_trip_text}
-use Rattle.last_values.specs.InPlace.{parts_before, parts_behind}
+use Rattle.last_values.specs.InPlace.{assigned_part, end_part, end_text, first_text, own_trip_text}
+use Rattle.last_values.specs.PartsInPlace.{only_where_part, parts_before, parts_behind}
 use Rattle.last_values.specs.declared.behind.NestedLoop.{NestedLoop}
 use Rattle.linear_forms.proofs.Sizes.{both}
 use Rattle.linear_forms.specs.Texts.{text_of}
-use Rattle.normal_loops.specs.Bodies.{counting, normal_part, normal_parts, normal_turns, placed}
-use Rattle.normal_loops.specs.Loops.{are_normal, is_normal, nested, nested_in_parts, nested_loops, with_loop}
+use Rattle.normal_loops.specs.Bodies.{normal_part, normal_parts, normal_turns, placed}
+use Rattle.normal_loops.specs.Counting.{counting}
+use Rattle.normal_loops.specs.Loops.{nested, nested_in_parts, nested_loops, with_loop}
+use Rattle.normal_loops.specs.Normal.{are_normal, is_normal}
 use Rattle.normal_loops.specs.Values.{in_text, normal_statement, statement_with_values, with_value}
 use Rattle.nest_order.specs.orders.Lists.{Distinct, Each}
 use Rattle.translation.proofs.NestProfile.Blocks.{one_is, then_is}
@@ -35,11 +37,11 @@ use Rattle.translation.proofs.NestProfile.Rules.{IsScalarAssignment, normal_assi
 use Rattle.translation.proofs.NestProfile.Sources.{IsSoundLoop, IsSoundStatement}
 use Rattle.translation.proofs.NestProfile.TextDepths.{binary_deep, text_deep, trip_deep}
 use Rattle.translation.proofs.NestProfile.TextKinds.{IsTest, at_least_is, quotient_is, text_is}
-use Rattle.nest_rewrite.specs.Rewritten.{rewritten_statement}
+use Rattle.nest_rewrite.specs.Statements.{rewritten_statement}
 use Rattle.translation.proofs.NestTranslation.Pieces.{then_no_label}
-use Rattle.nest.specs.Blocks.{assignment_of, block_then, under_guard}
-use Rattle.nest.specs.Plain.{Choice, Guarded, Jump, Label, Loop, Nest, Part, Parts, Run, Turns, no_parts, part}
-use Rattle.nest.specs.Plain.{parts}
+use Rattle.nest.specs.Blocks.{assignment_of, under_guard}
+use Rattle.nest.specs.Allocations.{block_then}
+use Rattle.nest.specs.Plain.{Choice, Guarded, Jump, Label, Loop, Nest, Part, Parts, Run, Turns, no_parts, part, parts}
 use Rattle.pass_laws.proofs.NormalFacts.FoundStatements.{IsShort, IsSource, IsSourceLoop}
 use Rattle.pass_laws.proofs.NormalFacts.LoopLimits.{loop_has_limits}
 use Rattle.pass_laws.proofs.NormalFacts.MadeStatements.{counter_long}

@@ -1,10 +1,10 @@
 -- Depths and labels of blocks one after the other.
 use Rattle.std.proofs.Common.{◌≡◌, refl, ap, ◌∙◌, ℕ, ◌≤◌, max, List, [], ◌∷◌, ◌++◌, arith}
-use Rattle.meaning.specs.Blocks.{all_labels_in, all_labels_of, blocks_in, blocks_of, targets_in, targets_of}
+use Rattle.meaning.specs.Blocks.{blocks_in, blocks_of, all_labels_in, all_labels_of, targets_in, targets_of}
 use Rattle.rewrite.specs.Profile.{deepest_in, deepest_of}
 use Rattle.tree.specs.Plain.{Allocate, Assignment, Block, Deallocate, Do, GoTo, If, Label, Print, Read, Statement}
 use Rattle.tree.specs.Plain.{Stop, Where, block, no_statements, statement}
-use Rattle.nest.specs.Blocks.{block_then}
+use Rattle.nest.specs.Allocations.{block_then}
 use Rattle.translation.specs.placed_loops.Placed.{HasNoLabel, IsNoLabel}
 use Rattle.translation.specs.placed_profile.Laws.{IsWithoutLabels}
 

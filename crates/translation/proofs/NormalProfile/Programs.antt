@@ -3,7 +3,7 @@ use Rattle.std.proofs.Common.{◌≡◌, refl, sym, subst, ℕ, ◌+◌, ◌≤�
 use Rattle.std.proofs.Common.{None, Contains, arith}
 use Rattle.std.proofs.lemmas.List.Elements.{Contains-append_left, Contains-append_right}
 use Rattle.find_nests.specs.Loops.{Placed, SourceLoop, as_statement, loops_in, loops_in_arms, loops_in_block}
-use Rattle.pass_laws.specs.found_sources.Laws.{HasLoopsAlone}
+use Rattle.pass_laws.specs.found_sources.Alone.{HasLoopsAlone}
 use Rattle.meaning.specs.Blocks.{Surroundings, before_labels, blocks_in, blocks_in_arms, blocks_of, labels_of}
 use Rattle.meaning.specs.Blocks.{outermost, statements_in, within_loop}
 use Rattle.meaning.specs.Depths.{depth_of}

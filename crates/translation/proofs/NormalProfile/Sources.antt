@@ -4,9 +4,8 @@ use Rattle.std.specs.Option.{IsSomeAnd}
 use Rattle.find_nests.specs.Found.{body_of}
 use Rattle.find_nests.specs.Loops.{Numbered, as_statement}
 use Rattle.pass_laws.proofs.FoundSources.Lists.{alone_left, alone_right}
-use Rattle.pass_laws.specs.found_sources.Laws.{HasLoopsAlone, HaveLoopsAlone}
-use Rattle.meaning.specs.Blocks.{Surroundings, before_labels, blocks_in, blocks_of, labels_of, outermost}
-use Rattle.meaning.specs.Blocks.{within_loop}
+use Rattle.pass_laws.specs.found_sources.Alone.{HasLoopsAlone, HaveLoopsAlone}
+use Rattle.meaning.specs.Blocks.{Surroundings, before_labels, blocks_in, blocks_of, labels_of, outermost, within_loop}
 use Rattle.meaning.specs.Depths.{depth_of}
 use Rattle.meaning.specs.Profile77 as source
 use Rattle.meaning.specs.Typed.{declared}

@@ -2,19 +2,21 @@
 use Rattle.std.proofs.Common.{◌≡◌, refl, ap, sym, subst, ℕ, Bool, true, false, cond, List, [], ◌∷◌, ◌++◌, Option, Some}
 use Rattle.std.proofs.Common.{None}
 use Rattle.std.specs.Prelude.{length}
-use Rattle.pass_laws.specs.found_sources.Laws.{HasLoopsAlone, HaveLoopsAlone}
+use Rattle.pass_laws.specs.found_sources.Alone.{HasLoopsAlone, HaveLoopsAlone}
 use Rattle.meaning.specs.Blocks.{all_labels_in, targets_in}
 use Rattle.tree.specs.Plain.{Allocate, Assignment, Block, Deallocate, Do, Expression, GoTo, If, Label, Print, Read}
 use Rattle.tree.specs.Plain.{Statement, Stop, Where, arm, no_arms, no_statements, statement}
 use Rattle.last_values.specs.Behind.{stands_behind}
-use Rattle.last_values.specs.InPlace.{assigned_part, end_part, first_text, only_where_part, own_trip_text, parts_before}
-use Rattle.last_values.specs.InPlace.{parts_behind}
+use Rattle.last_values.specs.InPlace.{assigned_part, end_part, first_text, own_trip_text}
+use Rattle.last_values.specs.PartsInPlace.{only_where_part, parts_before, parts_behind}
 use Rattle.last_values.specs.declared.behind.NestedLoop.{NestedLoop}
-use Rattle.normal_loops.specs.Bodies.{counting, normal_part, normal_parts, normal_turns, placed}
+use Rattle.normal_loops.specs.Bodies.{normal_part, normal_parts, normal_turns, placed}
+use Rattle.normal_loops.specs.Counting.{counting}
 use Rattle.normal_loops.specs.Loops.{with_loop}
 use Rattle.normal_loops.specs.Values.{normal_statement}
 use Rattle.translation.proofs.NestTranslation.Endings.{AreEndings, IsEnding}
-use Rattle.nest.specs.Blocks.{assignment_of, block_of_parts, block_then, guarded_statement, statement_of_part}
+use Rattle.nest.specs.Blocks.{assignment_of, block_of_parts, guarded_statement, statement_of_part}
+use Rattle.nest.specs.Allocations.{block_then}
 use Rattle.nest.specs.Blocks.{under_guard}
 use Rattle.nest.specs.Plain.{Choice, Guarded, Jump, Loop, Nest, Part, Parts, Run, Turns, no_parts, part, parts}
 use Rattle.nest.specs.Plain as tree

@@ -9,7 +9,7 @@ use Rattle.meaning.specs.Profile90.{IsStatement, IsBlock}
 use Rattle.meaning.specs.Run.{State, Way, Going, Jumping, Stopped, Failed, Cut, Act, on_way, while_going, evaluates}
 use Rattle.meaning.specs.Run.{counts_step, does, does_all}
 use Rattle.meaning.specs.Store.{Store}
-use Rattle.nest.specs.Blocks.{block_then}
+use Rattle.nest.specs.Allocations.{block_then}
 use Rattle.translation.specs.placed_loops.Placed.{IsNoLabel, HasNoLabel}
 
 -- not going

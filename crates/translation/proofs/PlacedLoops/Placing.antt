@@ -14,7 +14,7 @@ use Rattle.meaning.specs.Sequential.{end_of, EndsWell}
 use Rattle.meaning.specs.Store.{Store, opening_store}
 use Rattle.rewrite.specs.Following.{IsSound}
 use Rattle.rewrite.proofs.Acts.{Stays-does_all, Beside, Follows-nothing, Follows-then, Follows-goes, Follows-either}
-use Rattle.nest.specs.Blocks.{block_then}
+use Rattle.nest.specs.Allocations.{block_then}
 use Rattle.meaning_laws.specs.profiles.Profiles.{AddMadeNames}
 use Rattle.meaning_laws.proofs.profiles.Programs.{source_with_made_names}
 use Rattle.meaning_laws.proofs.profiles.Stores.{opening_holds}

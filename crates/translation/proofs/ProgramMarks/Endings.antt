@@ -3,13 +3,15 @@ use Rattle.std.proofs.Common.{◌≡◌, refl, ap₂, ap, ◌∙◌, ℕ, Bool, 
 use Rattle.std.proofs.Common.{List, [], ◌∷◌, ◌++◌, length, flat_map}
 use Rattle.emission.specs.emission_marks.Marks.{Marked, Round, Under, marked_in}
 use Rattle.tree.specs.Plain.{Expression, Statement, block}
-use Rattle.last_values.specs.Behind.{left_behind, or_none, stands_behind, values_behind}
+use Rattle.last_values.specs.Behind.{stands_behind}
+use Rattle.last_values.specs.ValuesBehind.{left_behind, or_none, values_behind}
 use Rattle.last_values.specs.Endings.{Texts, after_statements, ending, last_texts, only_where, where_all_hold}
 use Rattle.last_values.specs.Endings.{all_hold, assigned, with_last_forms}
 use Rattle.last_values.specs.declared.behind.NestedLoop.{NestedLoop}
 use Rattle.nest.specs.Plain.{Nest}
 use Rattle.nest.specs.declared.parts.Trip.{Trip}
-use Rattle.last_values.specs.normal_forms.LastValues.{have_plain_trips, last_forms, tests_of}
+use Rattle.last_values.specs.normal_forms.LastValues.{have_plain_trips, last_forms}
+use Rattle.last_values.specs.normal_forms.LastTexts.{tests_of}
 use Rattle.last_values.specs.normal_forms.NormalLoops.{is_known, is_positive}
 use Rattle.last_values.specs.normal_forms.Texts.{at_least_one}
 use Rattle.last_values.specs.declared.normal_forms.last.LastForms.{LastForms}

@@ -6,7 +6,8 @@ use Rattle.std.specs.List.{filter}
 use Rattle.components.proofs.ListLaws.{Each-In}
 use Rattle.components.specs.Lists.{In, Pairwise}
 use Rattle.find_nests.specs.Found.{Found, InNest, Kept, found_among, found_as, nests_with}
-use Rattle.find_nests.specs.Loops.{Numbered, Placed, is_in_no_nest, reason_of}
+use Rattle.find_nests.specs.Loops.{Numbered, Placed}
+use Rattle.find_nests.specs.LookedAt.{is_in_no_nest, reason_of}
 use Rattle.find_nests.specs.declared.reasons.Reason.{Reason}
 use Rattle.tree.specs.Plain.{Program}
 use Rattle.translation.specs.loop_numbers.Numbers.{ComesBefore, loop_number, nests_among}

@@ -1,6 +1,6 @@
 -- A translated program is marked as its listing has it.
-use Rattle.std.proofs.Common.{◌≡◌, refl, sym, ap, ap₂, subst, ◌∙◌, ℕ, zero, suc, ◌≤◌, arith, true, not, ◌&&◌}
-use Rattle.std.proofs.Common.{Option, None, Some, Bool, List, [], map, Contains}
+use Rattle.std.proofs.Common.{◌≡◌, refl, sym, ap, ap₂, subst, ◌∙◌, ℕ, zero, suc, ◌≤◌, ◌<◌, arith, true, not, ◌&&◌}
+use Rattle.std.proofs.Common.{Option, None, Some, Bool, List, [], map, length, Contains}
 use Rattle.std.specs.Prelude.{is_some}
 use Rattle.std.proofs.lemmas.List.Elements.{All-contains}
 use Rattle.meaning_laws.proofs.arrays.Members.{in_map}
@@ -9,7 +9,7 @@ use Rattle.components.specs.Lists.{Distinct, In}
 use Rattle.dependence_graph.specs.declared.graphs.Graph.{Graph}
 use Rattle.emission.proofs.EmissionMarks.Pieces.{emission_is_marked}
 use Rattle.emission.proofs.EmissionMarks.Together.{emission_keeps_together}
-use Rattle.emission.specs.emission_marks.Marks.{Marked, marked_in}
+use Rattle.emission.specs.emission_marks.Marks.{Marked, Round, marked_at, marked_in}
 use Rattle.emission.specs.emission_pieces.Pieces.{Pieces, translation}
 use Rattle.find_nests.proofs.FoundLaws.{found_nest_is_loop}
 use Rattle.find_nests.specs.Found.{Found, InNest, found_in}
@@ -23,15 +23,18 @@ use Rattle.translation.proofs.LoopNumbers.Behind.{next_from_one}
 use Rattle.translation.proofs.LoopNumbers.Nests.{loops_are_numbered, nests_are_numbered}
 use Rattle.translation.specs.loop_numbers.Numbers.{loop_number, nests_among}
 use Rattle.translation.specs.loop_placing.Placing.{block_at, placed_in}
-use Rattle.translation.specs.nest_blocks.Answers.{AreAnswers, ArePlaced, Puts}
+use Rattle.translation.specs.nest_blocks.Answers.{AreAnswers, ArePlaced, Puts, nests_by}
 use Rattle.find_nests.specs.nest_parts.Numbers.{next}
+use Rattle.nest.specs.Bodies.{nest_statements}
 use Rattle.nest.specs.Plain.{Nest}
+use Rattle.listing.specs.programs.Listing.{ListedNest}
 use Rattle.meaning_laws.proofs.profiles.Lists.{nowhere}
 use Rattle.translation.specs.nest_blocks.LoopAnswers.{Answer, IsRight, Kept, Translated, Untested, found_by}
 use Rattle.translation.specs.program_translation.Translated.{IsPlacedBy}
 use Rattle.translation.specs.program_marks.Laws.{TranslationIsMarked}
-use Rattle.translation.specs.program_marks.Marks.{AreOfNests, IsMarkedAsListed, IsMarkedByGraph, IsOfNest, StandsWithin}
-use Rattle.translation.specs.program_marks.Marks.{numbers_of}
+use Rattle.translation.specs.program_marks.Marks.{AreBlocksOf, AreOfNests, HasBlock, IsMarkedAsListed, IsMarkedByGraph}
+use Rattle.translation.specs.program_marks.Marks.{IsNumbered, IsOfNests, StandsMarked, numbers_of, within, without_line}
+use Rattle.translation.proofs.ProgramMarks.Answers.{among_listed, by_answer}
 use Rattle.translation.proofs.ProgramMarks.Found.{among_nests, among_numbers, numbers_are, of_found, same_nest}
 use Rattle.translation.proofs.ProgramMarks.Members.{IsOfBlock, keys_are, one_of, stands_in}
 use Rattle.translation.proofs.ProgramMarks.Nests.{marked_by_graph}
@@ -48,7 +51,7 @@ module _ (p : Program) (answers : List Answer) (blocks : List (Option Block)) (p
       subst (λ (fs : List Found). Contains fs (InNest n)) are.found (in_map found_by answers (Translated n m g ps) c)
 
   marked_nest : (n m : Nest) (g : Graph) (ps : Pieces) → Contains answers (Translated n m g ps)
-      → IsMarkedByGraph n m g ps
+      → IsMarkedByGraph (record { found = n; normal = m; graph = g }) (translation m ps)
   marked_nest n m g ps c =
       marked_by_graph p n m g ps program (found n m g ps c)
       (All-contains IsRight answers (Translated n m g ps) are.right c) emission_is_marked emission_keeps_together
@@ -109,13 +112,29 @@ module _ (p : Program) (answers : List Answer) (blocks : List (Option Block)) (p
       subst (AreOfBlocks blocks (marked_in [] body)) (numbers_are p loops 0)
       (block_marks blocks p.declarations p.body 0 [] outermost [] program.statements are_nests)
 
-  only : (x : Marked) → Contains (marked_in [] body) x → IsOfNest answers x
-  only x c =
+  -- a marked statement of what stands in the place of a nest, within what stands round that
+  record IsOfNest (x : Marked) : Type 0 where
+    nest : Nest
+    normal : Nest
+    graph : Graph
+    pieces : Pieces
+    among : Contains answers (Translated nest normal graph pieces)
+    outer : List Round
+    own : Marked
+    stands : Contains (marked_in [] (translation normal pieces)) own
+    is : x ≡ within outer own
+
+  record StandsWithin (own : Marked) : Type 0 where
+    outer : List Round
+    stands : Contains (marked_in [] body) (within outer own)
+
+  of_nest : (x : Marked) → Contains (marked_in [] body) x → IsOfNest x
+  of_nest x c =
       let s = one_of blocks (marked_in [] body) (map loop_number nests) all_marks x c in
       by s (block_at blocks s.number) refl s.stands
     where
       by : (s : IsOfBlock blocks x) (o : Option Block) → block_at blocks s.number ≡ o → Contains (marks_of o) s.own
-          → IsOfNest answers x
+          → IsOfNest x
       by s None e i = absurd (nowhere s.own i)
       by s (Some t) e i =
           let w = (some_nest s.number t e).1 in
@@ -131,15 +150,70 @@ module _ (p : Program) (answers : List Answer) (blocks : List (Option Block)) (p
             is = s.is;
           }
 
-  each : (n m : Nest) (g : Graph) (ps : Pieces) (x : Marked) → Contains answers (Translated n m g ps)
-      → Contains (marked_in [] (translation m ps)) x → StandsWithin body x
-  each n m g ps x c i =
+  stands_within : (n m : Nest) (g : Graph) (ps : Pieces) (x : Marked) → Contains answers (Translated n m g ps)
+      → Contains (marked_in [] (translation m ps)) x → StandsWithin x
+  stands_within n m g ps x c i =
       let e = placed.each (Translated n m g ps) (loop_number n) (translation m ps) c
       (record { nest = n; found = refl; number = refl; block = refl }) in
       let s = stands_in blocks (marked_in [] body) (map loop_number nests) all_marks (loop_number n)
       (among_numbers nests n (among_nests (found_in p) n (found n m g ps c))) x
       (subst (λ o. Contains (marks_of o) x) (sym e) i) in
       record { outer = s.0; stands = s.1 }
+
+  only : (x : Marked) → Contains (marked_in [] body) x → IsOfNests (nests_by answers) x
+  only x c =
+      let o = of_nest x c in
+      let h = (marked_nest o.nest o.normal o.graph o.pieces o.among).marked.only o.own o.stands in
+      record {
+        nest = record { found = o.nest; normal = o.normal; graph = o.graph };
+        among = among_listed answers o.nest o.normal o.graph o.pieces o.among;
+        statement = h.0;
+        there = h.2;
+        at = record {
+          level = h.1;
+          is_level = h.3;
+          outer = o.outer;
+          is = ap without_line (o.is ∙ ap (within o.outer) h.4);
+        };
+      }
+
+  each : (t : ListedNest) (s : ℕ) → Contains (nests_by answers) t → s < length (nest_statements t.normal)
+      → StandsMarked body t s
+  each t s c lt =
+      let a = by_answer answers t c in
+      let h = (marked_nest t.found t.normal t.graph a.pieces a.among).marked.each s lt in
+      let w = stands_within t.found t.normal t.graph a.pieces (marked_at t.normal s h.0) a.among h.2 in
+      record {
+        it = within w.outer (marked_at t.normal s h.0);
+        stands = w.stands;
+        at = record { level = h.0; is_level = h.1; outer = w.outer; is = refl };
+      }
+
+  -- ---- what stands in their place
+
+  blocks_of_nests : AreBlocksOf (nests_by answers) blocks
+  blocks_of_nests = record { only = numbered; each = has_block }
+    where
+      numbered : (k : ℕ) (b : Block) → 1 ≤ k → block_at blocks k ≡ Some b → IsNumbered (nests_by answers) k
+      numbered k b from e =
+          let w = nest_at k b from e in
+          record {
+            nest = record { found = w.nest; normal = w.normal; graph = w.graph };
+            among = among_listed answers w.nest w.normal w.graph w.pieces w.among;
+            number = w.number;
+          }
+
+      has_block : (t : ListedNest) → Contains (nests_by answers) t → HasBlock blocks t
+      has_block t c =
+          let a = by_answer answers t c in
+          record {
+            block = translation t.normal a.pieces;
+            there =
+                placed.each (Translated t.found t.normal t.graph a.pieces) (loop_number t.found)
+                (translation t.normal a.pieces) a.among
+                (record { nest = t.found; found = refl; number = refl; block = refl });
+            marked = marked_nest t.found t.normal t.graph a.pieces a.among;
+          }
 
   -- ---- no mark stands twice
 
@@ -171,11 +245,14 @@ module _ (p : Program) (answers : List Answer) (blocks : List (Option Block)) (p
       subst Distinct (sym (keys_are blocks (marked_in [] body) (map loop_number nests) all_marks))
       (keys_once blocks nests (nests_are_numbered p program) (Each-from (HasOwnKeys blocks) nests own_keys))
 
-  of_nests : AreOfNests answers body
-  of_nests = record { only = only; each = each; once = once }
+  marks : AreOfNests (nests_by answers) body
+  marks = record { only = only; each = each; once = once }
 
-  pub marked_as_listed : (q : Program) → IsPlacedBy p blocks q → IsMarkedAsListed answers q.body
-  marked_as_listed q t = record { nests = subst (AreOfNests answers) (sym t.body) of_nests; each = marked_nest }
+  pub marked_as_listed : (q : Program) → IsPlacedBy p blocks q → IsMarkedAsListed (nests_by answers) blocks q.body
+  marked_as_listed q t = record {
+    in_place = blocks_of_nests;
+    marks = subst (AreOfNests (nests_by answers)) (sym t.body) marks;
+  }
 
 pub translation_is_marked : TranslationIsMarked
 translation_is_marked p q answers blocks program are placed t = marked_as_listed p answers blocks program are placed q t

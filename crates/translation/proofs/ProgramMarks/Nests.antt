@@ -7,7 +7,7 @@ use Rattle.dependence_graph.specs.declared.graphs.Graph.{Graph}
 use Rattle.emission.specs.emission_marks.Laws.{EmissionIsMarked, EmissionKeepsTogether, MayBeMarked}
 use Rattle.emission.specs.emission_marks.Marks.{marked_in}
 use Rattle.emission.specs.emission_pieces.Nests.{loops_at}
-use Rattle.emission.specs.emission_pieces.Pieces.{Pieces}
+use Rattle.emission.specs.emission_pieces.Pieces.{Pieces, block_of_pieces, translation}
 use Rattle.find_nests.proofs.FoundLaws.{found_nest_is_loop}
 use Rattle.find_nests.specs.Found.{InNest, found_in}
 use Rattle.pass_laws.proofs.FoundSources.PlainNests.{normal_nests_are_plain}
@@ -16,13 +16,14 @@ use Rattle.meaning.specs.Profile77.{IsProgram77}
 use Rattle.tree.specs.Plain.{Block, Program}
 use Rattle.emission.proofs.GraphEdges.Leading.{edges_lead}
 use Rattle.emission.specs.graph_edges.Laws.{IsShallow}
-use Rattle.last_values.specs.Behind.{values_behind}
+use Rattle.last_values.specs.ValuesBehind.{values_behind}
 use Rattle.last_values.specs.declared.behind.NestedLoop.{NestedLoop}
 use Rattle.normal_loops.specs.Bodies.{normal_part}
 use Rattle.normal_loops.specs.Normalised.{normalised, only_one, with_body, with_loops}
-use Rattle.normal_loops.specs.Loops.{is_normal, nested_loops}
+use Rattle.normal_loops.specs.Loops.{nested_loops}
+use Rattle.normal_loops.specs.Normal.{is_normal}
 use Rattle.dependence_graph.specs.nest_graph.Ready.{IsReady}
-use Rattle.nest.specs.Blocks.{block_then}
+use Rattle.nest.specs.Allocations.{block_then}
 use Rattle.nest.specs.Bodies.{Standing, nest_statements}
 use Rattle.nest.specs.Plain.{Nest, Part}
 use Rattle.pass_laws.proofs.NormalMeaning.Made.{behind, made_of}
@@ -33,6 +34,7 @@ use Rattle.std.specs.Option.{option_map}
 use Rattle.translation.specs.nest_blocks.LoopAnswers.{IsTranslation}
 use Rattle.translation.specs.program_marks.Marks.{IsMarkedByGraph}
 use Rattle.translation.proofs.ProgramMarks.Endings.{last_values_unmarked}
+use Rattle.translation.proofs.ProgramMarks.Throughout.{marked_throughout}
 
 -- no statement stands in more than seven loops
 shallow : (n : Nest) → IsReady n → IsShallow n
@@ -87,9 +89,13 @@ module _ (p : Program) (n m : Nest) (g : Graph) (ps : Pieces) (program : IsProgr
     after = ap (marked_in []) after_is ∙ last_values_unmarked n;
   }
 
-  pub marked_by_graph : EmissionIsMarked → EmissionKeepsTogether → IsMarkedByGraph n m g ps
+  pub marked_by_graph : EmissionIsMarked → EmissionKeepsTogether
+      → IsMarkedByGraph (record { found = n; normal = m; graph = g }) (translation m ps)
   marked_by_graph is_marked keeps_together = record {
     number = same_number n m translated.made;
+    core = block_of_pieces m 1 ps;
+    throughout = marked_throughout m 1 ps;
+    is = refl;
     marked = is_marked m g.edges (all_holds m) ps may_be translated.emitted;
     together = keeps_together m g.edges (all_holds m) ps may_be translated.emitted;
   }

@@ -6,7 +6,7 @@ use Rattle.components.proofs.ListLaws.{Each-append, Each-In, Pairwise-append}
 use Rattle.components.specs.Lists.{Distinct, Each, In, Pairwise}
 use Rattle.dependence_graph.specs.declared.graphs.Edge.{Edge}
 use Rattle.dependence_graph.specs.declared.graphs.Hold.{Hold}
-use Rattle.emission.specs.emission_marks.Laws.{AreMarked}
+use Rattle.emission.specs.emission_marks.ByGraph.{AreMarked}
 use Rattle.emission.specs.emission_marks.Marks.{Marked, formed_at, kept_at, marked_at}
 use Rattle.emission.specs.emission_pieces.Nests.{loops_at}
 use Rattle.tree.specs.Plain.{Block}

@@ -9,7 +9,8 @@ use Rattle.tree.specs.Plain.{Statement, Assignment, Where, If, Do, Label, GoTo, 
 use Rattle.tree.specs.Plain.{Deallocate, Arms, no_arms, arm, Block, no_statements, statement, block, Declaration}
 use Rattle.tree.specs.declared.stmts.Mark.{Mark}
 use Rattle.emission.specs.emission_marks.Marks.{Marked, Otherwise, Round, Turning, Under, marked_in, marked_under, with_mark}
-use Rattle.find_nests.specs.Loops.{Placed, SourceLoop, is_in_no_nest, is_kept, loops_in, loops_in_arms, loops_in_block}
+use Rattle.find_nests.specs.Loops.{Placed, SourceLoop, loops_in, loops_in_arms, loops_in_block}
+use Rattle.find_nests.specs.LookedAt.{is_in_no_nest, is_kept}
 use Rattle.meaning.specs.Blocks.{Surroundings, before_labels, labels_of, within_loop}
 use Rattle.meaning.specs.Profile77.{AreArms, IsBlock, IsStatement}
 use Rattle.translation.specs.loop_placing.Placing.{block_at, instead, placed, placed_arms, placed_in, statements_in}

@@ -10,10 +10,11 @@ use Rattle.meaning_laws.proofs.dialects.NamesIn.{among}
 use Rattle.translation.proofs.FewerNames.FewerStatements.{block_with_fewer_names}
 use Rattle.find_nests.proofs.FoundLaws.{found_nest_is_loop}
 use Rattle.find_nests.specs.Laws.{IsFoundNest}
-use Rattle.find_nests.specs.Loops.{Placed, as_statement, looked_at, loops_in_block}
+use Rattle.find_nests.specs.Loops.{Placed, as_statement, loops_in_block}
+use Rattle.find_nests.specs.LookedAt.{looked_at}
 use Rattle.pass_laws.proofs.FoundSources.Counters.{no_counter}
 use Rattle.pass_laws.proofs.FoundSources.PlainNests.{normal_nests_are_plain}
-use Rattle.pass_laws.specs.found_sources.Laws.{HasLoopsAlone}
+use Rattle.pass_laws.specs.found_sources.Alone.{HasLoopsAlone}
 use Rattle.meaning.specs.Agreement.{names_in_block}
 use Rattle.meaning.specs.Blocks.{Surroundings}
 use Rattle.meaning.specs.Dialect.{fortran77}
@@ -38,7 +39,7 @@ use Rattle.translation.proofs.NestProfile.Law.{translation_is_of_profile}
 use Rattle.translation.specs.nest_profile.Laws.{TranslationIsOfProfile}
 use Rattle.translation.proofs.NestTranslation.Endings.{last_values_end}
 use Rattle.translation.proofs.NestTranslation.Translation.{translation_does_as_loop}
-use Rattle.nest.specs.Blocks.{block_then}
+use Rattle.nest.specs.Allocations.{block_then}
 use Rattle.nest.specs.Bodies.{nest_loops}
 use Rattle.nest.specs.Plain.{Loop, Nest}
 use Rattle.pass_laws.specs.normal_facts.Laws.{IsCounter}
@@ -46,7 +47,8 @@ use Rattle.last_values.specs.normal_forms.NormalLoops.{counter_name}
 use Rattle.pass_laws.proofs.NormalMeaning.Made.{behind, made_of}
 use Rattle.translation.proofs.PlacedProfile.Placing.{placed_program_is_program}
 use Rattle.translation.proofs.PlacedProfile.SourceNames.{source_name}
-use Rattle.translation.specs.placed_profile.Laws.{IsWithinLimits, AreSourceNames, IsWithoutLabels, PlacedProgramIsProgram, SuitLoops}
+use Rattle.translation.specs.placed_profile.Limits.{IsWithinLimits}
+use Rattle.translation.specs.placed_profile.Laws.{AreSourceNames, IsWithoutLabels, PlacedProgramIsProgram, SuitLoops}
 use Rattle.meaning_laws.proofs.profiles.Lists.{all_at}
 use Rattle.meaning_laws.proofs.profiles.Names.{found}
 use Rattle.meaning_laws.proofs.profiles.Programs.{source_is_target}
@@ -58,8 +60,8 @@ use Rattle.translation.proofs.ProgramTranslation.Sources.{name_among}
 use Rattle.translation.proofs.ProgramTranslation.Standing.{Stands, loop_stands}
 use Rattle.translation.proofs.ProgramTranslation.Translating.{translation_keeps}
 use Rattle.translation.proofs.ProgramTranslation.Unlabelled.{endings_unlabelled, source_unlabelled, translation_unlabelled}
-use Rattle.translation.specs.program_translation.Laws.{AreTranslations}
-use Rattle.translation.specs.program_translation.Translated.{IsGoodTranslation, IsMadeIn, IsPlacedBy, TranslationIsGood}
+use Rattle.translation.specs.program_translation.Laws.{AreTranslations, IsGoodTranslation, TranslationIsGood}
+use Rattle.translation.specs.program_translation.Translated.{IsMadeIn, IsPlacedBy}
 
 -- what is declared bears a declared name
 name_of_declared : (ds : List Declaration) (e : Declaration) (x : List ℕ) → declared ds x ≡ Some e → Contains (map (λ (d : Declaration). d.name) ds) x

@@ -7,7 +7,7 @@ use Rattle.tree.specs.Plain.{Arms, no_arms, arm, Block, no_statements, statement
 use Rattle.find_nests.specs.Loops.{Placed, SourceLoop, as_statement, loops_in, loops_in_arms, loops_in_block}
 use Rattle.translation.specs.loop_placing.Placing.{block_at, instead, placed, placed_arms, placed_in, statements_in}
 use Rattle.find_nests.specs.nest_parts.Numbers.{after, after_arms, after_block, next}
-use Rattle.nest.specs.Blocks.{block_then}
+use Rattle.nest.specs.Allocations.{block_then}
 use Rattle.translation.specs.placed_loops.Beside.{DoesAs}
 use Rattle.translation.specs.placed_loops.Placed.{ArePlaced, HasNoLabel, IsPlaced, StandsFor}
 

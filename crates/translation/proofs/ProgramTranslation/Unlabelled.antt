@@ -6,7 +6,7 @@ use Rattle.emission.specs.emission_pieces.Nests.{loops_at, standing_at}
 use Rattle.emission.specs.emission_pieces.Pieces.{Formed, Kept, Piece, Pieces, Turning, block_of_piece, block_of_pieces, mark_of}
 use Rattle.emission.specs.emission_pieces.Pieces.{no_pieces, piece, translation}
 use Rattle.pass_laws.proofs.FoundSources.Lists.{alone_left, alone_right}
-use Rattle.pass_laws.specs.found_sources.Laws.{HaveLoopsAlone}
+use Rattle.pass_laws.specs.found_sources.Alone.{HaveLoopsAlone}
 use Rattle.meaning.specs.Blocks.{all_labels_in, all_labels_of, targets_in, targets_of}
 use Rattle.tree.specs.Plain.{Expression, Reference, Statement, Assignment, Where, If, Do, Label, GoTo, Stop, Read}
 use Rattle.tree.specs.Plain.{Print, Allocate, Deallocate, Block, arm, no_arms, no_statements, statement}
@@ -14,7 +14,7 @@ use Rattle.tree.specs.declared.stmts.Mark.{Mark}
 use Rattle.find_nests.specs.nest_parts.Numbers.{after, next}
 use Rattle.find_nests.specs.nest_parts.Statements.{parts_of, parts_of_block}
 use Rattle.translation.proofs.NestTranslation.Endings.{AreEndings, IsEnding}
-use Rattle.nest.specs.Blocks.{allocation_then, allocations_then, block_then, deallocation_then, deallocations}
+use Rattle.nest.specs.Allocations.{allocation_then, allocations_then, block_then, deallocation_then, deallocations}
 use Rattle.nest.specs.Plain.{Made, Nest, parts}
 use Rattle.translation.specs.placed_profile.Laws.{IsWithoutLabels}
 use Rattle.array_form.specs.holds.Surroundings.{surroundings_of}

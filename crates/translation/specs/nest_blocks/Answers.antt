@@ -3,15 +3,12 @@ use Rattle.std.specs.Prelude.{◌≡◌, ◌≤◌, ℕ, Option, Some, List, All
 use Rattle.std.specs.List.{flat_map}
 use Rattle.tree.specs.Plain.{Block, Program}
 use Rattle.find_nests.specs.Found.{InNest, found_in}
-use Rattle.meaning.specs.Dialect.{fortran77}
-use Rattle.meaning.specs.Profile77.{IsProgram77}
 use Rattle.listing.specs.graphs.Listing.{lines_of_entries}
 use Rattle.translation.specs.loop_numbers.Numbers.{loop_number}
 use Rattle.translation.specs.loop_placing.Placing.{block_at}
 use Rattle.nest.specs.Plain.{Nest}
-use Rattle.listing.specs.programs.Listing.{IsListing}
-use Rattle.translation.specs.nest_blocks.LoopAnswers.{Answer, IsRight, block_by, entries_by, found_by}
-use Rattle.translation.specs.nest_blocks.Blocks.{AreNestBlocks}
+use Rattle.listing.specs.programs.Listing.{ListedNest}
+use Rattle.translation.specs.nest_blocks.LoopAnswers.{Answer, IsRight, block_by, entries_by, found_by, nest_by}
 
 -- the answer is for a nest whose outermost loop has this number, and puts the block in the loop's place
 pub record Puts (a : Answer) (k : ℕ) (b : Block) : Type 0 where
@@ -31,21 +28,13 @@ pub record AreAnswers (p : Program) (answers : List Answer) : Type 0 where
   pub right : All IsRight answers
   pub found : map found_by answers ≡ found_in p
 
+-- the nests that they list with a graph
+abbrev pub nests_by : List Answer → List ListedNest
+nests_by answers = flat_map nest_by answers
+
 -- what they list, and what they put in the place of loops
 pub record AreAnswersFor (p : Program) (lines : List (List ℕ)) (blocks : List (Option Block)) : Type 0 where
   pub answers : List Answer
   pub are : AreAnswers p answers
   pub lines_are : lines ≡ lines_of_entries (flat_map entries_by answers)
   pub placed : ArePlaced answers blocks
-
--- ---- laws
-
--- the lines are a listing of the program
-abbrev pub AnswersAreListed : Type 0
-AnswersAreListed = (p : Program) (lines : List (List ℕ)) (blocks : List (Option Block)) → IsProgram77 fortran77 p
-    → AreAnswersFor p lines blocks → IsListing p lines
-
--- the blocks are translations of its nests
-abbrev pub AnswersAreBlocks : Type 0
-AnswersAreBlocks = (p : Program) (lines : List (List ℕ)) (blocks : List (Option Block)) → IsProgram77 fortran77 p
-    → AreAnswersFor p lines blocks → AreNestBlocks p blocks

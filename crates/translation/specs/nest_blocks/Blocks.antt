@@ -2,7 +2,7 @@
 use Rattle.std.specs.Prelude.{◌≡◌, ◌≤◌, ℕ, Option, Some, List, Contains}
 use Rattle.tree.specs.Plain.{Block, Program}
 use Rattle.find_nests.specs.Found.{InNest, found_in}
-use Rattle.pass_laws.specs.found_sources.Laws.{HasLoopsAlone}
+use Rattle.pass_laws.specs.found_sources.Alone.{HasLoopsAlone}
 use Rattle.normal_loops.specs.Normalised.{normalised}
 use Rattle.translation.specs.loop_numbers.Numbers.{loop_number}
 use Rattle.translation.specs.loop_placing.Placing.{block_at}

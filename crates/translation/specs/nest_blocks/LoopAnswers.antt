@@ -1,5 +1,5 @@
 -- What is said of a loop that was found, and what stands in its place.
-use Rattle.std.specs.Prelude.{◌≡◌, ⊤, ℕ, Option, None, Some, List, length}
+use Rattle.std.specs.Prelude.{◌≡◌, ⊤, ℕ, Option, None, Some, List, [], ◌∷◌, length}
 use Rattle.std.specs.List.{range_with_len}
 use Rattle.tree.specs.Plain.{Block}
 use Rattle.dependence_graph.specs.declared.graphs.Graph.{Graph}
@@ -8,14 +8,14 @@ use Rattle.emission.specs.emission_pieces.Pieces.{Pieces, translation}
 use Rattle.find_nests.specs.Found as found
 use Rattle.find_nests.specs.Found.{Found, InNest}
 use Rattle.find_nests.specs.declared.reasons.Reason.{Reason}
-use Rattle.pass_laws.specs.found_sources.Laws.{HasLoopsAlone}
+use Rattle.pass_laws.specs.found_sources.Alone.{HasLoopsAlone}
 use Rattle.listing.specs.graphs.Lines.{Entry}
 use Rattle.listing.specs.graphs.Listing.{lines_of_entries}
 use Rattle.normal_loops.specs.Normalised.{normalised}
 use Rattle.dependence_graph.specs.nest_graph.Graph.{IsGraphOf}
 use Rattle.nest.specs.Bodies.{nest_statements}
 use Rattle.nest.specs.Plain.{Nest}
-use Rattle.listing.specs.programs.Listing.{all_holds, kept, not_built, tested_entries}
+use Rattle.listing.specs.programs.Listing.{ListedNest, all_holds, kept, not_built, tested_entries}
 
 pub data Answer : Type 0 where
   -- a nest, the nest with loops from 1 by 1 that is made of it, the graph of that, and the pieces that are emitted
@@ -36,6 +36,12 @@ abbrev pub entries_by : Answer → List Entry
 entries_by (Translated n m g ps) = tested_entries n.number m g
 entries_by (Untested n) = not_built n
 entries_by (Kept line r) = kept line r
+
+-- the nest that is listed with a graph, if it is one
+abbrev pub nest_by : Answer → List ListedNest
+nest_by (Translated n m g ps) = record { found = n; normal = m; graph = g } ∷ []
+nest_by (Untested n) = []
+nest_by (Kept line r) = []
 
 -- what stands in its place, if not itself
 abbrev pub block_by : Answer → Option Block

@@ -3,7 +3,7 @@ use Rattle.std.specs.Prelude.{◌≡◌, ℕ, ℤ, Bool, Ok, Some, None, All, Is
 use Rattle.tree.specs.Plain.{Program}
 use Rattle.tree.specs.declared.ops.Value.TheVariants.{Int}
 use Rattle.find_nests.specs.Found.{InNest, found_in}
-use Rattle.pass_laws.specs.found_sources.Laws.{HasLoopsAlone}
+use Rattle.pass_laws.specs.found_sources.Alone.{HasLoopsAlone}
 use Rattle.meaning.specs.Dialect.{fortran77}
 use Rattle.meaning.specs.Holding.{HoldsProgram}
 use Rattle.meaning.specs.Profile77.{IsProgram77}

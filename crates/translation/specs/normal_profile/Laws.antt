@@ -5,7 +5,7 @@ use Rattle.tree.specs.Plain.{Block, Program, Statement, block}
 use Rattle.find_nests.specs.Found.{InNest, found_in}
 use Rattle.find_nests.specs.Laws.{IsFoundNest}
 use Rattle.find_nests.specs.Loops.{Placed, as_statement, loops_in_block}
-use Rattle.pass_laws.specs.found_sources.Laws.{HasLoopsAlone}
+use Rattle.pass_laws.specs.found_sources.Alone.{HasLoopsAlone}
 use Rattle.meaning.specs.Blocks.{Surroundings, blocks_in, blocks_of, statements_in}
 use Rattle.meaning.specs.Dialect.{Dialect, fortran77}
 use Rattle.meaning.specs.Profile77.{IsProgram77, IsStatement}

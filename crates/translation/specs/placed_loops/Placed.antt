@@ -1,8 +1,7 @@
 -- Blocks in which other statements stand in the place of some loops.
 use Rattle.std.specs.Prelude.{◌≡◌, ◌⊎◌, ⊤}
-use Rattle.tree.specs.Plain.{Statement, If, Do, Label, Arms, no_arms, arm, Block, no_statements, statement}
-use Rattle.tree.specs.Plain.{Program}
-use Rattle.nest.specs.Blocks.{block_then}
+use Rattle.tree.specs.Plain.{Statement, If, Do, Label, Arms, no_arms, arm, Block, no_statements, statement, Program}
+use Rattle.nest.specs.Allocations.{block_then}
 use Rattle.translation.specs.placed_loops.Beside.{DoesAs}
 
 abbrev pub one : Statement → Block

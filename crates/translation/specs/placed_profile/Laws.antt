@@ -1,16 +1,16 @@
 -- Programs with blocks in the place of some loops, by the loops' numbers.
-use Rattle.std.specs.Prelude.{◌≡◌, ◌≤◌, ◌<◌, ◌^◌, ℕ, Option, Some, List, [], Contains}
-use Rattle.tree.specs.Limits.{block_depth90}
+use Rattle.std.specs.Prelude.{◌≡◌, ℕ, Option, Some, List, [], Contains}
 use Rattle.tree.specs.Names.{IsSourceName}
 use Rattle.tree.specs.Plain.{Block, Program, block}
 use Rattle.find_nests.specs.Loops.{Placed, as_statement, loops_in_block}
-use Rattle.meaning.specs.Blocks.{Surroundings, all_labels_in, blocks_in, statements_in, targets_in}
+use Rattle.meaning.specs.Blocks.{Surroundings, all_labels_in, targets_in}
 use Rattle.meaning.specs.Dialect.{fortran77}
 use Rattle.meaning.specs.Profile77.{IsProgram77, IsStatement}
 use Rattle.meaning.specs.Profile90.{IsBlock, IsProgram90}
 use Rattle.translation.specs.loop_placing.Placing.{block_at, placed_in}
 use Rattle.find_nests.specs.nest_parts.Numbers.{next}
 use Rattle.meaning_laws.specs.profiles.Profiles.{AddMadeNames}
+use Rattle.translation.specs.placed_profile.Limits.{IsWithinLimits}
 
 -- no label and no jump in it
 pub record IsWithoutLabels (b : Block) : Type 0 where
@@ -33,11 +33,6 @@ pub record SuitsLoop (p q : Program) (l : Placed) (b : Block) : Type 0 where
 abbrev pub SuitLoops : Program → Program → List (Option Block) → Type 0
 SuitLoops p q blocks = (l : Placed) (b : Block)
     → Contains (loops_in_block 0 [] p.body) l → block_at blocks (next l.loop.before) ≡ Some b → SuitsLoop p q l b
-
--- the limits of a program of Fortran 90 on its statements
-pub record IsWithinLimits (b : Block) : Type 0 where
-  pub deep : blocks_in b ≤ block_depth90
-  pub many : statements_in b < 2 ^ 31
 
 abbrev pub PlacedProgramIsProgram : Type 0
 PlacedProgramIsProgram = (p q : Program) (blocks : List (Option Block))

@@ -12,12 +12,15 @@ use Rattle.meaning.specs.Profile90.{IsBlock, IsProgram90}
 use Rattle.meaning.specs.Store.{names_of}
 use Rattle.meaning.specs.Typed.{declared}
 use Rattle.translation.specs.loop_placing.Placing.{block_at, placed_in}
+use Rattle.translation.specs.nest_blocks.Blocks.{AreNestBlocks}
+use Rattle.translation.specs.placed_profile.Limits.{IsWithinLimits}
+use Rattle.translation.specs.program_translation.Translated.{IsPlacedBy}
 use Rattle.find_nests.specs.nest_parts.Numbers.{next}
 use Rattle.translation.specs.nest_translation.Laws.{IsTranslatedNest}
 use Rattle.nest.specs.Bodies.{nest_loops}
 use Rattle.nest.specs.Plain.{Loop, Nest}
 use Rattle.pass_laws.specs.normal_facts.Laws.{IsCounter}
-use Rattle.translation.specs.placed_loops.Laws.{KeepsMeaning}
+use Rattle.meaning.specs.Keeping.{KeepsMeaning}
 use Rattle.meaning_laws.specs.profiles.Profiles.{AddMadeNames}
 
 -- The block is a translation of the nest that the loop is, over names of q, and one of q's profile; r has the counters
@@ -45,3 +48,16 @@ TranslationKeepsMeaning = (p q r : Program) (blocks : List (Option Block)) (inpu
     → AddMadeNames p.declarations q.declarations → AddMadeNames q.declarations r.declarations
     → AreTranslations p q r blocks → q.body ≡ block (placed_in blocks 0 p.body)
     → KeepsMeaning p q input
+
+-- ---- what answers put in the place of loops
+
+-- a translation within these limits is a program of Fortran 90 that keeps the meaning of its source
+pub record IsGoodTranslation (p q : Program) : Type 0 where
+  pub program : IsProgram90 q
+  pub keeps : (input : List ℕ) → KeepsMeaning p q input
+
+-- where what was emitted for the nests of p that are loops and statements alone, once their loops go from 1 by 1,
+-- stands in their place
+abbrev pub TranslationIsGood : Type 0
+TranslationIsGood = (p q : Program) (blocks : List (Option Block)) → IsProgram77 fortran77 p → AreNestBlocks p blocks
+    → IsPlacedBy p blocks q → IsWithinLimits q.body → IsGoodTranslation p q

@@ -3,14 +3,8 @@ use Rattle.std.specs.Prelude.{◌≡◌, ◌↔◌, ℕ, Option, Some, List, Con
 use Rattle.tree.specs.Names.{IsSourceName}
 use Rattle.tree.specs.Plain.{Block, Program, block}
 use Rattle.meaning.specs.Agreement.{names_in_block}
-use Rattle.meaning.specs.Dialect.{fortran77}
-use Rattle.meaning.specs.Profile77.{IsProgram77}
-use Rattle.meaning.specs.Profile90.{IsProgram90}
 use Rattle.translation.specs.loop_placing.Placing.{block_at, placed_in}
 use Rattle.translation.specs.made_declarations.Declaring.{with_integers}
-use Rattle.translation.specs.nest_blocks.Blocks.{AreNestBlocks}
-use Rattle.translation.specs.placed_loops.Laws.{KeepsMeaning}
-use Rattle.translation.specs.placed_profile.Laws.{IsWithinLimits}
 
 -- it stands in one of the blocks
 pub record StandsInBlocks (blocks : List (Option Block)) (x : List ℕ) : Type 0 where
@@ -32,14 +26,3 @@ pub record IsPlacedBy (p : Program) (blocks : List (Option Block)) (q : Program)
   pub made : List (List ℕ)
   pub made_are : (x : List ℕ) → Contains made x ↔ IsMadeIn blocks x
   pub declarations : q.declarations ≡ with_integers p.declarations made
-
--- a translation within these limits is a program of Fortran 90 that keeps the meaning of its source
-pub record IsGoodTranslation (p q : Program) : Type 0 where
-  pub program : IsProgram90 q
-  pub keeps : (input : List ℕ) → KeepsMeaning p q input
-
--- where what was emitted for the nests of p that are loops and statements alone, once their loops go from 1 by 1,
--- stands in their place
-abbrev pub TranslationIsGood : Type 0
-TranslationIsGood = (p q : Program) (blocks : List (Option Block)) → IsProgram77 fortran77 p → AreNestBlocks p blocks
-    → IsPlacedBy p blocks q → IsWithinLimits q.body → IsGoodTranslation p q

@@ -1,7 +1,8 @@
 //! How many loops stand in a block.
 ghost use Rattle.std.specs.Prelude.{◌≡◌, map};
 ghost use Rattle.tree.specs.View.{block_of, statement_of, tested_of};
-ghost use Rattle.find_nests.specs.nest_parts.Numbers.{next, after, after_block, after_each, after_list};
+ghost use Rattle.find_nests.specs.nest_parts.Numbers.{next, after, after_block};
+ghost use Rattle.find_nests.specs.nest_parts.Lists.{after_each, after_list};
 
 use tree::{Arm, Block, Seq, Stmt};
 

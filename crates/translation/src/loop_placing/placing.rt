@@ -2,10 +2,10 @@
 ghost use Rattle.std.specs.Prelude.{◌≡◌, ◌++◌, None, Some, map, IfOk, OnOk, MatchOption};
 ghost use Rattle.tree.specs.Plain.{block as plain_block};
 ghost use Rattle.tree.specs.View.{block_of, statement_of, tested_of};
-ghost use Rattle.find_nests.specs.nest_parts.Numbers.{after, after_block, after_each, after_list};
+ghost use Rattle.find_nests.specs.nest_parts.Numbers.{after, after_block};
+ghost use Rattle.find_nests.specs.nest_parts.Lists.{after_each, after_list};
 ghost use Rattle.translation.specs.loop_placing.Placing.{block_at, blocks_of, placed, placed_arm, placed_each};
-ghost use Rattle.translation.specs.loop_placing.Placing.{placed_in};
-ghost use Rattle.translation.specs.loop_placing.Placing.{placed_list, statements_in};
+ghost use Rattle.translation.specs.loop_placing.Placing.{placed_in, placed_list, statements_in};
 
 use crate::loop_placing::counting::{after_block, next};
 use std::alloc::Global;

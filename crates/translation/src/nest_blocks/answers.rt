@@ -2,7 +2,7 @@
 ghost use Rattle.std.specs.Prelude.{IfOk, OnOk, map};
 ghost use Rattle.std.specs.Option.{option_map};
 ghost use Rattle.f90_print.specs.Notes.{text_of};
-ghost use Rattle.find_nests.specs.Found.{found_of};
+ghost use Rattle.find_nests.specs.View.{found_of};
 ghost use Rattle.meaning.specs.Dialect.{fortran77};
 ghost use Rattle.meaning.specs.Profile77.{IsProgram77};
 ghost use Rattle.tree.specs.View.{block_of, program_of};

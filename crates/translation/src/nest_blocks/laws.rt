@@ -1,7 +1,7 @@
 //! A law is a function without a body: its contract is what holds.
-ghost use Rattle.translation.specs.nest_blocks.Answers.{AnswersAreBlocks, AnswersAreListed};
+ghost use Rattle.translation.specs.nest_blocks.Laws.{AnswersAreBlocks, AnswersAreListed};
 
-/// What the answers to a program's loops list is a listing of the program.
+/// What the answers to a program's loops list is a listing of the program, with their graphs.
 pub fn answers_are_listed()
     ensures { AnswersAreListed }
 {}

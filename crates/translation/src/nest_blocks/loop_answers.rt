@@ -2,19 +2,19 @@
 ghost use Rattle.std.specs.Prelude.{◌≡◌, IfOk, None, Some, map};
 ghost use Rattle.std.specs.Option.{option_map};
 ghost use Rattle.f90_print.specs.Notes.{text_of};
-ghost use Rattle.find_nests.specs.Found.{InNest, found_of};
-ghost use Rattle.pass_laws.specs.found_sources.Laws.{HasLoopsAlone};
+ghost use Rattle.find_nests.specs.Found.{InNest};
+ghost use Rattle.find_nests.specs.View.{found_of};
+ghost use Rattle.listing.specs.programs.Sources.{IsFoundInSource, IsNestOfSource};
+ghost use Rattle.pass_laws.specs.found_sources.Alone.{HasLoopsAlone};
 ghost use Rattle.tree.specs.View.{block_of};
 ghost use Rattle.normal_loops.specs.Normalised.{normalised};
 ghost use Rattle.nest.specs.Plain.{Nest as Plain};
 ghost use Rattle.nest.specs.View.{nest_of};
 ghost use Rattle.translation.specs.nest_blocks.LoopAnswers.{IsAnswerTo};
-ghost use Rattle.translation.specs.nest_blocks.Sources.{IsFoundInSource, IsNestOfSource};
 
-use crate::nest_blocks::alone::is_alone;
 use emission::nest_emission::emit;
 use find_nests::Found;
-use listing::programs::{kept_loop, not_built, test};
+use listing::programs::{is_alone, kept_loop, not_built, test};
 use nest::Nest;
 use normal_loops::normalise;
 use std::alloc::Global;

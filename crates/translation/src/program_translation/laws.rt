@@ -1,6 +1,5 @@
 //! A law is a function without a body: its contract is what holds.
-ghost use Rattle.translation.specs.program_translation.Laws.{TranslationKeepsMeaning};
-ghost use Rattle.translation.specs.program_translation.Translated.{TranslationIsGood};
+ghost use Rattle.translation.specs.program_translation.Laws.{TranslationIsGood, TranslationKeepsMeaning};
 
 /// Where the sequential run of a program of FORTRAN 77 ends without fault, so does the array run of the program in
 /// which what was emitted for nests stands in their loops' place, with the same output and the same values of the

@@ -3,7 +3,7 @@ use Rattle.tree.specs.View.{expression_of}
 use Rattle.tree.specs.declared.exprs.Expr.{the_lemmas}
 use Rattle.tree.specs.declared.exprs.Expr.TheVariants as exprs
 use Rattle.meaning.specs.Reads.{names_in}
-use Rattle.array_form.specs.holds.Surroundings.{surroundings_view}
+use Rattle.array_form.specs.holds.View.{surroundings_view}
 use Rattle.array_form.specs.Loops.{viewed}
 use Rattle.array_form.proofs.AnswerLaws.{bare_is, here_loops, item_ok, kept_ok, listed_ok, placed_ok, rank_one, section_is, variable_item}
 use Rattle.array_form.proofs.FormLaws as forms

@@ -2,7 +2,7 @@
 use Rattle.std.proofs.Common.{◌≡◌, map, take}
 use Rattle.tree.specs.View.{expression_of, subscript_of}
 use Rattle.array_form.specs.forms.Forms.{form}
-use Rattle.array_form.specs.holds.Surroundings.{surroundings_view}
+use Rattle.array_form.specs.holds.View.{surroundings_view}
 use Rattle.array_form.specs.Loops.{viewed}
 use Rattle.array_form.specs.Subscripts.{form_of_subscript}
 use Rattle.array_form.proofs.expressions.+form.Given as goal

@@ -2,8 +2,8 @@ use Rattle.std.proofs.Common.{◌≡◌, Some, None, length, rules, subst}
 use Rattle.std.specs.Prelude.{slice_get}
 use Rattle.tree.specs.View.{expression_of, subscript_of}
 use Rattle.linear_forms.specs.Linear.{form_of}
-use Rattle.linear_forms.specs.Places.{IsFound}
-use Rattle.array_form.specs.holds.Surroundings.{loop_names}
+use Rattle.linear_forms.specs.Affines.{IsFound}
+use Rattle.array_form.specs.holds.View.{loop_names}
 use Rattle.array_form.proofs.SubscriptLaws.{becomes, remains, stays}
 use Rattle.array_form.proofs.expressions.section_or.Goals as goal
 

@@ -1,5 +1,5 @@
 use Rattle.std.proofs.Common.{arith}
-use Rattle.array_form.specs.holds.Surroundings.{loop_names}
+use Rattle.array_form.specs.holds.View.{loop_names}
 use Rattle.array_form.proofs.LoopLaws.{standing_more}
 use Rattle.array_form.proofs.loops_in_text.those_among.Goals as goal
 

@@ -1,6 +1,6 @@
 -- The loops so far.
 use Rattle.std.proofs.Common.{◌≡◌, take}
-use Rattle.array_form.specs.holds.Surroundings.{loop_names}
+use Rattle.array_form.specs.holds.View.{loop_names}
 use Rattle.array_form.specs.Loops.{standing_in}
 use Rattle.array_form.proofs.loops_in_text.those_among.Given as goal
 

@@ -5,7 +5,7 @@ use Rattle.array_form.specs.forms.Forms.{number_text}
 use Rattle.std.specs.Int.{w64}
 use Rattle.std.proofs.lemmas.Int.{to_z-of_z}
 use Rattle.linear_forms.specs.Linear.{constant_form, limited, multiple, sum}
-use Rattle.linear_forms.specs.Places.{IsFound}
+use Rattle.linear_forms.specs.Affines.{IsFound}
 use Rattle.array_form.proofs.SectionLaws.{constant_first, one_affine}
 use Rattle.array_form.proofs.SubscriptLaws.{lower_ok}
 use Rattle.array_form.proofs.section_bounds.lower_text.Goals as goal

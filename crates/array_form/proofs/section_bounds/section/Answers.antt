@@ -7,7 +7,7 @@ use Rattle.std.proofs.lemmas.Int.{to_z-of_z}
 use Rattle.array_form.specs.forms.Forms.{number_text}
 use Rattle.array_form.specs.Texts.{lower_of, upper_of}
 use Rattle.array_form.specs.forms.Loops.{form_without, names_of}
-use Rattle.array_form.specs.holds.Surroundings.{loop_names, surroundings_view}
+use Rattle.array_form.specs.holds.View.{loop_names, surroundings_view}
 use Rattle.array_form.proofs.SubscriptLaws.{place_small, rest_affine, section_made}
 use Rattle.array_form.proofs.section_bounds.section.Goals as goal
 

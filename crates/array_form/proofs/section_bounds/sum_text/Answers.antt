@@ -2,8 +2,8 @@ use Rattle.std.proofs.Common.{◌≡◌, Some, arith, rules, subst}
 use Rattle.std.proofs.lemmas.Grind.{common_steps}
 use Rattle.tree.specs.View.{expression_of}
 use Rattle.linear_forms.specs.Linear.{limited, sum}
-use Rattle.linear_forms.specs.Places.{IsFound}
-use Rattle.array_form.specs.holds.Surroundings.{loop_names}
+use Rattle.linear_forms.specs.Affines.{IsFound}
+use Rattle.array_form.specs.holds.View.{loop_names}
 use Rattle.array_form.proofs.SectionLaws.{none_ok, some_ok}
 use Rattle.array_form.proofs.section_bounds.sum_text.Goals as goal
 

@@ -7,10 +7,11 @@ use Rattle.std.proofs.Common.{ℤ, Some, SFits, subst}
 use Rattle.std.specs.Int.{w64}
 use Rattle.std.proofs.lemmas.Int.{to_z-of_z}
 use Rattle.linear_forms.specs.Linear.{limited, multiple, sum}
-use Rattle.linear_forms.specs.Places.{IsFound}
+use Rattle.linear_forms.specs.Affines.{IsFound}
 use Rattle.array_form.specs.forms.Forms.{number_text, trip_form}
 use Rattle.array_form.specs.forms.Loops.{names_of}
-use Rattle.array_form.specs.holds.Surroundings.{surroundings_view, trip_of}
+use Rattle.array_form.specs.holds.Surroundings.{trip_of}
+use Rattle.array_form.specs.holds.View.{surroundings_view}
 use Rattle.array_form.proofs.SectionLaws.{multiple_first}
 use Rattle.array_form.proofs.SubscriptLaws.{upper_ok}
 use Rattle.array_form.proofs.section_bounds.upper_text.Goals as goal

@@ -1,6 +1,6 @@
 use Rattle.std.proofs.Common.{◌≡◌, length, nat_abs, arith, rules}
 use Rattle.std.proofs.lemmas.Grind.{common_steps}
-use Rattle.array_form.specs.holds.Surroundings.{loop_names}
+use Rattle.array_form.specs.holds.View.{loop_names}
 use Rattle.array_form.proofs.TextLaws.{divided_ok}
 use Rattle.array_form.proofs.trips.trip_text.Goals as goal
 

@@ -1,6 +1,7 @@
 use Rattle.std.proofs.Common.{◌≡◌, ◌∙◌, ap, sym, map, rules}
 use Rattle.tree.specs.View.{program_of}
-use Rattle.find_nests.specs.Found.{found_of, found_among}
+use Rattle.find_nests.specs.Found.{found_among}
+use Rattle.find_nests.specs.View.{found_of}
 use Rattle.find_nests.specs.Walk.{outermost_in_block}
 use Rattle.find_nests.proofs.Outermost.{looked_at-is}
 use Rattle.find_nests.proofs.search.find_nests.Goals as goal

@@ -6,7 +6,7 @@ use Rattle.form_rules.specs.Written.{IsReady}
 use Rattle.tree.specs.Plain.{Number}
 use Rattle.tree.specs.declared.ops.Value.TheVariants.{Int}
 use Rattle.linear_forms.specs.Linear.{limited, constant_or, as_constant}
-use Rattle.linear_forms.specs.Places.{IsFound}
+use Rattle.linear_forms.specs.Affines.{IsFound}
 use Rattle.form_rules.proofs.Writing.{number_ready}
 use Rattle.form_rules.proofs.nodes.number.Goals as goal
 

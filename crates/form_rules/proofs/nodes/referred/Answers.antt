@@ -1,7 +1,7 @@
 use Rattle.std.proofs.Common.{◌≤◌, ◌++◌, ◌∙◌, ap, length, sym, subst, ℕ, List, ◌^◌}
 use Rattle.tree.specs.View.{reference_of}
 use Rattle.linear_forms.specs.Linear.{limited, form_of_name}
-use Rattle.linear_forms.specs.Places.{IsFound}
+use Rattle.linear_forms.specs.Affines.{IsFound}
 use Rattle.tree.specs.Plain.{Named}
 use Rattle.std.specs.Prelude.{◌||◌}
 use Rattle.form_rules.proofs.Writing.{item_ready}

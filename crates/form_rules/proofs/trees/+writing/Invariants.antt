@@ -2,8 +2,10 @@
 use Rattle.std.proofs.Common.{◌≡◌, ◌≤◌, map, take, length}
 use Rattle.std.specs.List.{flat_map}
 use Rattle.tree.specs.View.{expression_of, loop_of, subscript_of}
-use Rattle.rewrite.specs.Making.{made, made_loop, made_subscript}
-use Rattle.rewrite.specs.Names.{uses_in, uses_in_loop, uses_in_subscript}
+use Rattle.rewrite.specs.Making.{made, made_subscript}
+use Rattle.rewrite.specs.MadeBlocks.{made_loop}
+use Rattle.rewrite.specs.Names.{uses_in, uses_in_subscript}
+use Rattle.rewrite.specs.NamesAlong.{uses_in_loop}
 use Rattle.linear_forms.specs.Canonical.{canonising}
 use Rattle.form_rules.specs.Written.{stands_in}
 use Rattle.form_rules.proofs.Gathering.{AreTaken}

@@ -1,6 +1,6 @@
 use Rattle.std.proofs.Common.{arith, sym, ◌∙◌}
 use Rattle.nest.specs.View.{part_of}
-use Rattle.last_values.specs.Behind as behind
+use Rattle.last_values.specs.ValuesBehind as behind
 use Rattle.last_values.proofs.LoopLaws.{statements_more, block_behind, values_behind_is}
 use Rattle.last_values.proofs.behind.values_behind.Goals as goal
 

@@ -1,7 +1,7 @@
 use Rattle.std.proofs.Common.{◌≡◌, arith, rules}
 use Rattle.meaning.specs.Reads.{names_in_subscript}
 use Rattle.tree.specs.View.{subscript_of}
-use Rattle.nest.specs.statement_loops.Standings.{is_among}
+use Rattle.nest.specs.statement_loops.Names.{is_among}
 use Rattle.nest.proofs.statement_loops.StandingLaws.{finds, finds_none}
 use Rattle.last_values.proofs.occurrences.stands_in_subs.Goals as goal
 

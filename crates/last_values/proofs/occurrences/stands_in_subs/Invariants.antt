@@ -3,7 +3,7 @@ use Rattle.std.proofs.Common.{◌≡◌, map, take, false}
 use Rattle.std.specs.List.{list_any}
 use Rattle.meaning.specs.Reads.{names_in_subscript}
 use Rattle.tree.specs.View.{subscript_of}
-use Rattle.nest.specs.statement_loops.Standings.{is_among}
+use Rattle.nest.specs.statement_loops.Names.{is_among}
 use Rattle.last_values.proofs.occurrences.stands_in_subs.Given as goal
 
 abbrev pub invariant-loop-sub : goal.invariant-loop-sub

@@ -3,7 +3,7 @@ use Rattle.tree.specs.View.{expression_of}
 use Rattle.tree.specs.declared.ops.Value.TheVariants.{Int, Truth}
 use Rattle.linear_forms.specs.Linear.{limited, constant_or, as_constant}
 use Rattle.linear_forms.specs.Parts.{IsPartOf}
-use Rattle.linear_forms.specs.Places.{IsFound}
+use Rattle.linear_forms.specs.Affines.{IsFound}
 use Rattle.linear_forms.proofs.PartLaws.{int_part, truth_part, item_part, un_part, bin_part, list_part, spread_part, transpose_part, reshape_part, reduce_part}
 use Rattle.linear_forms.proofs.forms.+part_of.Goals as goal
 

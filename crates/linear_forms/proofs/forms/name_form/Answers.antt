@@ -1,7 +1,7 @@
 use Rattle.std.proofs.Common.{◌≡◌, ◌∙◌, ◌++◌, sym, subst, true, false, [], None, length, rules, arith}
 use Rattle.tree.specs.declared.exprs.Ref.{out-Ref}
 use Rattle.linear_forms.specs.Linear.{limited}
-use Rattle.linear_forms.specs.Places.{IsFound}
+use Rattle.linear_forms.specs.Affines.{IsFound}
 use Rattle.linear_forms.proofs.Units.{bare_name, element_name, loop_named, symbol_named, neither_named}
 use Rattle.linear_forms.proofs.forms.name_form.Goals as goal
 

@@ -1,6 +1,7 @@
 use Rattle.std.proofs.Common.{◌≡◌, ◌+◌, sym, subst, pos, set, replicate, Some, rules}
 use Rattle.linear_forms.specs.Linear.{limited}
-use Rattle.linear_forms.specs.Places.{IsFound, unit_form}
+use Rattle.linear_forms.specs.Places.{unit_form}
+use Rattle.linear_forms.specs.Affines.{IsFound}
 use Rattle.linear_forms.proofs.Units.{symbol_found}
 use Rattle.linear_forms.proofs.forms.symbol_form.Goals as goal
 

@@ -1,5 +1,6 @@
 use Rattle.std.proofs.Common.{◌≡◌, ◌∙◌, sym, ap, ◌+ℤ◌, ◌*ℤ◌, Option, ◌∷◌, rules}
-use Rattle.linear_forms.specs.Merging.{merged, pushed, then_pushed, all_pushed}
+use Rattle.linear_forms.specs.Merging.{merged, all_pushed}
+use Rattle.linear_forms.specs.Pushing.{pushed, then_pushed}
 use Rattle.linear_forms.specs.declared.terms.Terms.{Terms}
 use Rattle.linear_forms.proofs.Merges.{merged_equal}
 use Rattle.linear_forms.proofs.terms.+with_both.Goals as goal

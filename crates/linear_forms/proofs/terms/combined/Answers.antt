@@ -2,7 +2,8 @@ use Rattle.std.proofs.Common.{◌≡◌, ◌∙◌, sym, subst, ◌+ℤ◌, ◌*
 use Rattle.std.specs.Prelude.{MatchOption}
 use Rattle.std.specs.Int.{w64}
 use Rattle.std.proofs.lemmas.Int.{to_z-of_z}
-use Rattle.linear_forms.specs.Merging.{small_or_none, IsCombined, IsTooLarge, merged, all_pushed, front_used}
+use Rattle.linear_forms.specs.Merging.{IsCombined, IsTooLarge, merged, all_pushed, front_used}
+use Rattle.linear_forms.specs.Pushing.{small_or_none}
 use Rattle.linear_forms.proofs.Sums.{small_is}
 use Rattle.linear_forms.proofs.Combining.{lost_loops, lost_terms, kept, nothing_yet}
 use Rattle.linear_forms.proofs.terms.combined.Goals as goal

@@ -1,7 +1,7 @@
 use Rattle.std.proofs.Common.{◌≡◌, ◌<◌, ◌+ℤ◌, ◌*ℤ◌, ◌∙◌, ap, sym, pos, get_or, length, arith, rules, SFits, to_z, of_z}
 use Rattle.std.specs.Int.{w64}
 use Rattle.std.proofs.lemmas.Int.{to_z-of_z}
-use Rattle.linear_forms.specs.Merging.{small_or_none}
+use Rattle.linear_forms.specs.Pushing.{small_or_none}
 use Rattle.linear_forms.proofs.Sums.{one_more, small_is}
 use Rattle.linear_forms.proofs.terms.combined_loops.Goals as goal
 

@@ -4,7 +4,8 @@ use Rattle.std.specs.Prelude.{slice_get, IfOk}
 use Rattle.std.specs.Int.{w64}
 use Rattle.std.proofs.lemmas.Int.{to_z-of_z}
 use Rattle.std.proofs.lemmas.Grind.{common_steps}
-use Rattle.linear_forms.specs.Texts.{text_so_far, with_place, places_behind}
+use Rattle.linear_forms.specs.Texts.{with_place, places_behind}
+use Rattle.linear_forms.specs.View.{text_so_far}
 use Rattle.linear_forms.proofs.TextLaws.{symbols_more, placed}
 use Rattle.linear_forms.proofs.texts.+more_symbols.Goals as goal
 

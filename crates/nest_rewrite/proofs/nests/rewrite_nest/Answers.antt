@@ -3,7 +3,9 @@ use Rattle.tree.specs.declared.lists.Memory.{Memory}
 use Rattle.tree.specs.Plain.{Block}
 use Rattle.meaning.specs.Store.{Store}
 use Rattle.rewrite.specs.Following.{RunFollows, sequential}
-use Rattle.rewrite.specs.Making.{Making, Suiting, made_block, SuitsBlock}
+use Rattle.rewrite.specs.Making.{Making}
+use Rattle.rewrite.specs.MadeBlocks.{made_block}
+use Rattle.rewrite.specs.Suits.{Suiting, SuitsBlock}
 use Rattle.rewrite.specs.Rule.{IsRule}
 use Rattle.rewrite.specs.Profile.{MakesProfile}
 use Rattle.rewrite.proofs.Rewriting.{made_block_follows}

@@ -2,7 +2,8 @@
 use Rattle.std.proofs.Common.{◌≡◌, map, take}
 use Rattle.std.specs.List.{flat_map}
 use Rattle.nest.specs.View.{branch_of, nest_of, part_of}
-use Rattle.normal_loops.specs.Bodies.{normal_part, normal_branch}
+use Rattle.normal_loops.specs.Bodies.{normal_part}
+use Rattle.normal_loops.specs.Arms.{normal_branch}
 use Rattle.normal_loops.proofs.bodies.+bodies.Given as goal
 
 abbrev pub invariant-normal_parts-loop-part : goal.invariant-normal_parts-loop-part

@@ -3,6 +3,7 @@ use Rattle.std.proofs.lemmas.Grind.{common_steps}
 use Rattle.tree.specs.View.{expression_of, subscript_of, loop_of, loops}
 use Rattle.tree.specs.Plain.{expressions, subscripts}
 use Rattle.rewrite.specs.Making as making
+use Rattle.rewrite.specs.MadeBlocks as made_blocks
 use Rattle.rewrite.proofs.Equations.{made_each, made_each_subscript, made_each_loop}
 use Rattle.rewrite.proofs.expressions.+rewriting.Goals as goal
 
@@ -15,7 +16,7 @@ rewrite_all-returns-clause-made g t c =
 pub rewrite_turns-returns-clause-made : goal.rewrite_turns-returns-clause-made
 rewrite_turns-returns-clause-made g t c =
     let m = g.R.NodeRule.making c.args.rule.now in
-    let same : map loop_of c.loop-turn.made ≡ map (making.made_loop m) (map loop_of c.args.turns.now) = grind (arith, common_steps) in
+    let same : map loop_of c.loop-turn.made ≡ map (made_blocks.made_loop m) (map loop_of c.args.turns.now) = grind (arith, common_steps) in
     ap loops same ∙ made_each_loop m (map loop_of c.args.turns.now)
 
 pub rewrite_subscripts-returns-clause-made : goal.rewrite_subscripts-returns-clause-made

@@ -2,6 +2,7 @@
 use Rattle.std.proofs.Common.{◌≡◌, map, take}
 use Rattle.tree.specs.View.{expression_of, subscript_of, loop_of}
 use Rattle.rewrite.specs.Making as making
+use Rattle.rewrite.specs.MadeBlocks as made_blocks
 use Rattle.rewrite.proofs.expressions.+rewriting.Given as goal
 
 abbrev pub invariant-rewrite_all-loop-expr : goal.invariant-rewrite_all-loop-expr
@@ -16,7 +17,7 @@ abbrev pub invariant-rewrite_turns-loop-turn : goal.invariant-rewrite_turns-loop
 invariant-rewrite_turns-loop-turn g l =
     let makes = g.R.NodeRule.making in
     record {
-      made : map loop_of l.made ≡ map (making.made_loop (makes l.fn.rule)) (map loop_of (take l.turn-index l.turn-items));
+      made : map loop_of l.made ≡ map (made_blocks.made_loop (makes l.fn.rule)) (map loop_of (take l.turn-index l.turn-items));
       same : makes l.rule ≡ makes l.fn.rule;
     }
 

@@ -2,7 +2,7 @@ use Rattle.std.proofs.Common.{◌≡◌, map, arith, ap, ◌∙◌}
 use Rattle.std.proofs.lemmas.Grind.{common_steps}
 use Rattle.tree.specs.View.{item_of}
 use Rattle.tree.specs.Plain.{items}
-use Rattle.rewrite.specs.Making as making
+use Rattle.rewrite.specs.MadeBlocks as making
 use Rattle.rewrite.proofs.Equations.{made_each_output}
 use Rattle.rewrite.proofs.items.+outputs.Goals as goal
 

@@ -1,7 +1,7 @@
 -- What was made so far is what is made of the items so far, and the rule makes what it made.
 use Rattle.std.proofs.Common.{◌≡◌, map, take}
 use Rattle.tree.specs.View.{item_of}
-use Rattle.rewrite.specs.Making as making
+use Rattle.rewrite.specs.MadeBlocks as making
 use Rattle.rewrite.proofs.items.+outputs.Given as goal
 
 abbrev pub invariant-rewrite_outputs-loop-item : goal.invariant-rewrite_outputs-loop-item

@@ -2,7 +2,7 @@ use Rattle.std.proofs.Common.{◌≡◌, map, arith, ap, ◌∙◌}
 use Rattle.std.proofs.lemmas.Grind.{common_steps}
 use Rattle.tree.specs.View.{statement_of, tested_of, arms}
 use Rattle.tree.specs.Plain.{block}
-use Rattle.rewrite.specs.Making as making
+use Rattle.rewrite.specs.MadeBlocks as making
 use Rattle.rewrite.proofs.Equations.{made_each_arm, made_each_statement}
 use Rattle.rewrite.proofs.statements.+blocks.Goals as goal
 

@@ -1,7 +1,7 @@
 -- What was made so far is what is made of the parts so far, and the rule makes what it made.
 use Rattle.std.proofs.Common.{◌≡◌, map, take}
 use Rattle.tree.specs.View.{statement_of, tested_of}
-use Rattle.rewrite.specs.Making as making
+use Rattle.rewrite.specs.MadeBlocks as making
 use Rattle.rewrite.proofs.statements.+blocks.Given as goal
 
 abbrev pub invariant-rewrite_arms-loop-arm : goal.invariant-rewrite_arms-loop-arm

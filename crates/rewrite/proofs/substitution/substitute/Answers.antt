@@ -2,7 +2,7 @@ use Rattle.std.proofs.Common.{◌≡◌, rules, arith}
 use Rattle.std.specs.Prelude.{IfOk}
 use Rattle.std.proofs.lemmas.Grind.{common_steps}
 use Rattle.tree.specs.View.{expression_of}
-use Rattle.rewrite.specs.Substituting.{substituted}
+use Rattle.rewrite.specs.Substituted.{substituted}
 use Rattle.rewrite.proofs.Substituted.{kept_value}
 use Rattle.rewrite.proofs.substitution.substitute.Goals as goal
 

@@ -16,7 +16,7 @@ returns-in-Ok-write_all-clause-works g c =
     text_given Graph c.args.deck.now _ _
     (listed c.args.deck.now c.source_and_input.result.0.now c.read77.result c.in-Ok.program _ _ c.requires
     c.source_and_input.ensures.source c.in-Ok.is c.in-Ok.ensures.ok c.read77.ensures.only_read c.read77.ensures.only_refused
-    c.in-Ok-whole_listing.ensures c.as_slice.ensures.value)
+    c.in-Ok-listing_text.ensures c.as_slice.ensures.value)
     c.in-Ok-write_all.ensures.ok
 
 pub returns-clause-works : goal.returns-clause-works
@@ -24,5 +24,5 @@ returns-clause-works g c =
     text_cut Graph c.args.deck.now _ _
     (listed c.args.deck.now c.source_and_input.result.0.now c.read77.result c.in-Ok.program _ _ c.requires
     c.source_and_input.ensures.source c.in-Ok.is c.in-Ok.ensures.ok c.read77.ensures.only_read c.read77.ensures.only_refused
-    c.in-Ok-whole_listing.ensures c.as_slice.ensures.value)
+    c.in-Ok-listing_text.ensures c.as_slice.ensures.value)
     c.in-Err-write_all.ensures.fault c.in-Err-write_all.ensures.part

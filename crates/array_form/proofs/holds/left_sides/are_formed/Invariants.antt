@@ -2,7 +2,7 @@
 use Rattle.std.proofs.Common.{◌≡◌, map, take, true}
 use Rattle.std.specs.List.{list_all}
 use Rattle.tree.specs.View.{subscript_of}
-use Rattle.array_form.specs.holds.Surroundings.{surroundings_view}
+use Rattle.array_form.specs.holds.View.{surroundings_view}
 use Rattle.array_form.specs.holds.Levels.{is_formed, loops_from_place}
 use Rattle.array_form.proofs.holds.left_sides.are_formed.Given as goal
 

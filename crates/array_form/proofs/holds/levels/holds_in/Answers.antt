@@ -2,7 +2,7 @@ use Rattle.std.proofs.Common.{◌≡◌, ◌++◌, ◌+◌, arith, rules}
 use Rattle.std.proofs.lemmas.Grind.{common_steps}
 use Rattle.tree.specs.View.{reference_of}
 use Rattle.array_form.specs.holds.Holds.{hold_with}
-use Rattle.array_form.specs.holds.Surroundings.{surroundings_view}
+use Rattle.array_form.specs.holds.View.{surroundings_view}
 use Rattle.array_form.proofs.holds.HoldLaws.{level_more}
 use Rattle.array_form.proofs.holds.levels.holds_in.Goals as goal
 

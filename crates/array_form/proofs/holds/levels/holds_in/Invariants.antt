@@ -3,7 +3,7 @@ use Rattle.std.proofs.Common.{◌≡◌}
 use Rattle.std.specs.List.{flat_map}
 use Rattle.meaning.specs.ArrayValues.{counted}
 use Rattle.tree.specs.View.{reference_of}
-use Rattle.array_form.specs.holds.Surroundings.{surroundings_view}
+use Rattle.array_form.specs.holds.View.{surroundings_view}
 use Rattle.array_form.specs.holds.Holds.{hold_at_level}
 use Rattle.array_form.proofs.holds.levels.holds_in.Given as goal
 

@@ -1,6 +1,6 @@
 -- The names so far.
 use Rattle.std.proofs.Common.{◌≡◌, take}
-use Rattle.array_form.specs.holds.Surroundings.{loop_names}
+use Rattle.array_form.specs.holds.View.{loop_names}
 use Rattle.array_form.proofs.holds.loops.loop_names.Given as goal
 
 abbrev pub invariant-loop-turns : goal.invariant-loop-turns

@@ -2,7 +2,8 @@
 use Rattle.std.proofs.Common.{◌≡◌, take, false, length}
 use Rattle.std.specs.List.{list_any}
 use Rattle.array_form.specs.forms.Statements.{depends_on}
-use Rattle.array_form.specs.holds.Surroundings.{counted_of, surroundings_view}
+use Rattle.array_form.specs.holds.Surroundings.{counted_of}
+use Rattle.array_form.specs.holds.View.{surroundings_view}
 use Rattle.array_form.specs.declared.holds.loops.Counted.{Counted}
 use Rattle.array_form.proofs.holds.triangles.depends_on_one.Given as goal
 

@@ -4,7 +4,7 @@ use Rattle.tree.specs.Plain.{block}
 use Rattle.tree.specs.View.{block_of, statement_of}
 use Rattle.tree.specs.declared.stmts.Stmt.{Stmt}
 use Rattle.tree.proofs.Equations.{block_of-made}
-use Rattle.nest.specs.Blocks.{block_then}
+use Rattle.nest.specs.Allocations.{block_then}
 use Rattle.nest.specs.View.{made_of, nest_of}
 use Rattle.nest.specs.declared.nests.Made.{Made}
 use Rattle.emission.specs.nest_emission.Translations.{allocation, deallocation}

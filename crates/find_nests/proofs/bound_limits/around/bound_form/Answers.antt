@@ -2,7 +2,7 @@ use Rattle.std.proofs.Common.{◌≡◌, ◌∙◌, ◌+◌, ◌*◌, ◌≤◌,
 use Rattle.tree.specs.View.{expression_of}
 use Rattle.meaning.specs.Reads.{names_in}
 use Rattle.linear_forms.specs.Linear.{form_of}
-use Rattle.linear_forms.specs.Places.{IsFound}
+use Rattle.linear_forms.specs.Affines.{IsFound}
 use Rattle.find_nests.specs.bound_limits.Composed.{with_multiples, without_loops, is_among, variables_of}
 use Rattle.find_nests.specs.bound_limits.View.{wide_form_of, outer_of}
 use Rattle.find_nests.proofs.BoundLimits.AroundLaws.{bound-some}

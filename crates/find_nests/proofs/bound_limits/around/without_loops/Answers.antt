@@ -1,6 +1,7 @@
 use Rattle.std.proofs.Common.{◌≡◌, ◌≤◌, ◌^◌, ℕ, List, ℤ, pos, nat_abs, get_or, rules}
 use Rattle.linear_forms.specs.Linear.{Form}
-use Rattle.linear_forms.specs.Places.{IsAffineOf, padded, terms_from}
+use Rattle.linear_forms.specs.Places.{padded, terms_from}
+use Rattle.linear_forms.specs.Affines.{IsAffineOf}
 use Rattle.find_nests.specs.bound_limits.Composed.{filled}
 use Rattle.find_nests.proofs.BoundLimits.AroundLaws.{without_loops-is}
 use Rattle.find_nests.proofs.bound_limits.around.without_loops.Goals as goal

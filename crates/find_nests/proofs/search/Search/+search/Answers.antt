@@ -7,7 +7,8 @@ use Rattle.nest.specs.Plain.{Nest}
 use Rattle.find_nests.specs.nest_parts.Numbers.{next}
 use Rattle.find_nests.specs.Reasons.{reason_over}
 use Rattle.find_nests.specs.Loops.{Numbered}
-use Rattle.find_nests.specs.Found.{InNest, Kept, found_of, found_among, nest_of_loop}
+use Rattle.find_nests.specs.Found.{InNest, Kept, found_among, nest_of_loop}
+use Rattle.find_nests.specs.View.{found_of}
 use Rattle.find_nests.specs.declared.search.Found.TheVariants as found
 use Rattle.find_nests.specs.Walk.{outermost_in, outermost_in_block, nests_among}
 use Rattle.find_nests.proofs.SearchLaws.{next_statement, next_arm, few_symbols, one_nest, one_kept, nest-found, nest-nests, kept-found, kept-nests}

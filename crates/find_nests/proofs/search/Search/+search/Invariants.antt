@@ -1,6 +1,6 @@
 use Rattle.std.proofs.Common.{map}
 use Rattle.tree.specs.View.{program_of}
-use Rattle.find_nests.specs.Found.{found_of}
+use Rattle.find_nests.specs.View.{found_of}
 use Rattle.find_nests.proofs.SearchLaws.{Between, BetweenArms}
 use Rattle.find_nests.proofs.search.Search.+search.Given as goal
 

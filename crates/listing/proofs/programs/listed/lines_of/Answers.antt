@@ -1,5 +1,6 @@
 use Rattle.std.proofs.Common.{ap}
-use Rattle.find_nests.specs.Found.{found_of, InNest, Kept}
+use Rattle.find_nests.specs.Found.{InNest, Kept}
+use Rattle.find_nests.specs.View.{found_of}
 use Rattle.nest.specs.View.{nest_of}
 use Rattle.listing.proofs.programs.Entries.{found_entries, kept_entries}
 use Rattle.listing.proofs.programs.listed.lines_of.Goals as goal

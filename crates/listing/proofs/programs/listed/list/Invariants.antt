@@ -1,7 +1,7 @@
 -- The lines of all so far.
 use Rattle.std.proofs.Common.{map, take}
 use Rattle.f90_print.specs.Notes.{text_of}
-use Rattle.find_nests.specs.Found.{found_of}
+use Rattle.find_nests.specs.View.{found_of}
 use Rattle.listing.specs.programs.Listing.{AreLinesOf, HaveEntries}
 use Rattle.listing.proofs.programs.listed.list.Given as goal
 

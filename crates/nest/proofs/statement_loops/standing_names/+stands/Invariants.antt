@@ -3,7 +3,8 @@ use Rattle.std.proofs.Common.{◌≡◌, map, take, false}
 use Rattle.std.specs.List.{list_any}
 use Rattle.meaning.specs.Reads.{names_in, names_in_subscript}
 use Rattle.tree.specs.View.{expression_of, loop_of, subscript_of}
-use Rattle.nest.specs.statement_loops.Standings.{is_among, names_in_loop}
+use Rattle.nest.specs.statement_loops.Standings.{names_in_loop}
+use Rattle.nest.specs.statement_loops.Names.{is_among}
 use Rattle.nest.proofs.statement_loops.standing_names.+stands.Given as goal
 
 abbrev pub invariant-stands_in_one-loop-expr : goal.invariant-stands_in_one-loop-expr

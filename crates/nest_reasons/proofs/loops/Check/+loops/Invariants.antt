@@ -1,7 +1,9 @@
 use Rattle.std.proofs.Common.{◌≡◌, map, take}
 use Rattle.std.specs.List.{list_any}
 use Rattle.tree.specs.View.{tested_of, statement_of}
-use Rattle.nest_reasons.specs.Loops.{any_loop, any_in_arm, has_flaw}
+use Rattle.nest_reasons.specs.Loops.{has_flaw}
+use Rattle.nest_reasons.specs.Walks.{any_loop}
+use Rattle.nest_reasons.specs.Arms.{any_in_arm}
 use Rattle.nest_reasons.proofs.loops.Check.+loops.Given as goal
 
 abbrev pub invariant-any_in_arms-loop-arm : goal.invariant-any_in_arms-loop-arm

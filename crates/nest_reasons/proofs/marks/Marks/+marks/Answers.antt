@@ -1,6 +1,7 @@
 use Rattle.std.proofs.Common.{arith}
 use Rattle.tree.specs.View.{tested_of, statement_of}
-use Rattle.nest_reasons.specs.Marks.{own_marks, marks_in_arm}
+use Rattle.nest_reasons.specs.Marks.{own_marks}
+use Rattle.nest_reasons.specs.Arms.{marks_in_arm}
 use Rattle.nest_reasons.proofs.Lists.{more}
 use Rattle.nest_reasons.proofs.marks.Marks.+marks.Goals as goal
 

@@ -1,6 +1,7 @@
 use Rattle.std.proofs.Common.{arith}
 use Rattle.tree.specs.View.{tested_of, statement_of}
-use Rattle.nest_reasons.specs.Sizes.{pieces_in, pieces_in_arm}
+use Rattle.nest_reasons.specs.Sizes.{pieces_in}
+use Rattle.nest_reasons.specs.Arms.{pieces_in_arm}
 use Rattle.nest_reasons.proofs.Lists.{more}
 use Rattle.nest_reasons.proofs.sizes.Pieces.+pieces.Goals as goal
 

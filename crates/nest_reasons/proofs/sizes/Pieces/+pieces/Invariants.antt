@@ -1,7 +1,8 @@
 use Rattle.std.proofs.Common.{◌≡◌, ◌++◌, map, take}
 use Rattle.std.specs.List.{flat_map}
 use Rattle.tree.specs.View.{tested_of, statement_of}
-use Rattle.nest_reasons.specs.Sizes.{pieces_in, pieces_in_arm}
+use Rattle.nest_reasons.specs.Sizes.{pieces_in}
+use Rattle.nest_reasons.specs.Arms.{pieces_in_arm}
 use Rattle.nest_reasons.proofs.sizes.Pieces.+pieces.Given as goal
 
 abbrev pub invariant-add_arms-loop-arm : goal.invariant-add_arms-loop-arm

@@ -2,8 +2,9 @@
 use Rattle.std.proofs.Common.{◌≡◌, ◌++◌, All, map, take}
 use Rattle.std.specs.List.{flat_map}
 use Rattle.nest.specs.View.{branch_of, part_of}
-use Rattle.last_values.specs.Behind.{IsNested}
-use Rattle.normal_loops.specs.Loops.{nested_loops, nested_in_branch}
+use Rattle.last_values.specs.Nested.{IsNested}
+use Rattle.normal_loops.specs.Loops.{nested_loops}
+use Rattle.normal_loops.specs.Arms.{nested_in_branch}
 use Rattle.normal_loops.proofs.loops.Loops.+loops.Given as goal
 
 abbrev pub invariant-add_parts-loop-part : goal.invariant-add_parts-loop-part

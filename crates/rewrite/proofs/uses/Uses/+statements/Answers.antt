@@ -1,6 +1,7 @@
 use Rattle.std.proofs.Common.{arith}
 use Rattle.tree.specs.View.{tested_of, statement_of}
-use Rattle.rewrite.specs.Names.{uses_in_arm, uses_in_statement}
+use Rattle.rewrite.specs.Names.{uses_in_statement}
+use Rattle.rewrite.specs.NamesAlong.{uses_in_arm}
 use Rattle.rewrite.proofs.UseLaws.{more}
 use Rattle.rewrite.proofs.uses.Uses.+statements.Goals as goal
 

@@ -1,7 +1,8 @@
 use Rattle.std.proofs.Common.{◌≡◌, ◌++◌, map, take}
 use Rattle.std.specs.List.{flat_map}
 use Rattle.tree.specs.View.{tested_of, statement_of}
-use Rattle.rewrite.specs.Names.{uses_in_arm, uses_in_statement}
+use Rattle.rewrite.specs.Names.{uses_in_statement}
+use Rattle.rewrite.specs.NamesAlong.{uses_in_arm}
 use Rattle.rewrite.proofs.uses.Uses.+statements.Given as goal
 
 abbrev pub invariant-add_arms-loop-arm : goal.invariant-add_arms-loop-arm

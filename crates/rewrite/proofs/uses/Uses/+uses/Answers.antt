@@ -1,7 +1,8 @@
 use Rattle.std.proofs.Common.{arith}
 use Rattle.meaning.specs.Reads.{names_in, names_in_subscript}
 use Rattle.tree.specs.View.{expression_of, loop_of, subscript_of}
-use Rattle.rewrite.specs.Names.{names_in_loop, uses_in, uses_in_loop, uses_in_subscript}
+use Rattle.rewrite.specs.Names.{uses_in, uses_in_subscript}
+use Rattle.rewrite.specs.NamesAlong.{names_in_loop, uses_in_loop}
 use Rattle.rewrite.proofs.UseLaws.{more}
 use Rattle.rewrite.proofs.uses.Uses.+uses.Goals as goal
 

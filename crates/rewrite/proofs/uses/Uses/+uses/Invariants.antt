@@ -2,7 +2,8 @@ use Rattle.std.proofs.Common.{◌≡◌, ◌++◌, map, take}
 use Rattle.std.specs.List.{flat_map}
 use Rattle.meaning.specs.Reads.{names_in, names_in_subscript}
 use Rattle.tree.specs.View.{expression_of, loop_of, subscript_of}
-use Rattle.rewrite.specs.Names.{names_in_loop, uses_in, uses_in_loop, uses_in_subscript}
+use Rattle.rewrite.specs.Names.{uses_in, uses_in_subscript}
+use Rattle.rewrite.specs.NamesAlong.{names_in_loop, uses_in_loop}
 use Rattle.rewrite.proofs.uses.Uses.+uses.Given as goal
 
 abbrev pub invariant-add_exprs-loop-expr : goal.invariant-add_exprs-loop-expr

@@ -1,7 +1,7 @@
 -- The number so far, and what is left, say what the whole says.
 use Rattle.std.proofs.Common.{◌≡◌, map, drop}
 use Rattle.tree.specs.View.{statement_of, tested_of}
-use Rattle.find_nests.specs.nest_parts.Numbers.{after_each, after_list}
+use Rattle.find_nests.specs.nest_parts.Lists.{after_each, after_list}
 use Rattle.translation.proofs.loop_placing.counting.+counting.Given as goal
 
 abbrev pub invariant-after_stmts-loop-stmt : goal.invariant-after_stmts-loop-stmt

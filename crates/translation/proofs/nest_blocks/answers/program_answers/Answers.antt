@@ -1,7 +1,9 @@
 use Rattle.std.proofs.Common.{◌≡◌, ◌++◌, map, refl, ap, ◌∙◌, arith}
-use Rattle.find_nests.specs.Found.{found_in, found_of}
+use Rattle.find_nests.specs.Found.{found_in}
+use Rattle.find_nests.specs.View.{found_of}
 use Rattle.tree.specs.View.{program_of}
-use Rattle.translation.proofs.NestBlocks.SoFar.{few_declarations, found_all, found_more, found_none, in_source}
+use Rattle.listing.proofs.programs.Sources.{few_declarations, in_source}
+use Rattle.translation.proofs.NestBlocks.SoFar.{found_all, found_more, found_none}
 use Rattle.translation.proofs.nest_blocks.answers.program_answers.Goals as goal
 
 pub find_nests-requires : goal.find_nests-requires

@@ -1,7 +1,7 @@
 -- The answers to all that was found so far.
 use Rattle.std.proofs.Common.{map, take}
 use Rattle.f90_print.specs.Notes.{text_of}
-use Rattle.find_nests.specs.Found.{found_of}
+use Rattle.find_nests.specs.View.{found_of}
 use Rattle.translation.specs.loop_placing.Placing.{blocks_of}
 use Rattle.translation.proofs.NestBlocks.SoFar.{AreAnswersTo}
 use Rattle.translation.proofs.nest_blocks.answers.program_answers.Given as goal

@@ -1,6 +1,7 @@
 use Rattle.std.proofs.Common.{ap, sym, subst, None, refl, map}
 use Rattle.f90_print.specs.Notes.{text_of}
-use Rattle.find_nests.specs.Found.{Found, Kept, found_of}
+use Rattle.find_nests.specs.Found.{Found, Kept}
+use Rattle.find_nests.specs.View.{found_of}
 use Rattle.translation.specs.nest_blocks.LoopAnswers.{IsAnswerTo}
 use Rattle.translation.proofs.NestBlocks.Answering.{kept_as}
 use Rattle.translation.proofs.nest_blocks.loop_answers.answer_to.Goals as goal

@@ -2,7 +2,7 @@ use Rattle.std.proofs.Common.{◌≡◌, ap, sym, ◌∙◌, Some, None, true, f
 use Rattle.std.specs.Option.{option_map}
 use Rattle.normal_loops.specs.Normalised.{normalised}
 use Rattle.nest.specs.View.{nest_of}
-use Rattle.translation.proofs.NestBlocks.Answering.{alone_by, few_of_source, never_made, with_others}
+use Rattle.listing.proofs.programs.Sources.{alone_by, few_of_source, never_made, with_others}
 use Rattle.translation.proofs.nest_blocks.loop_answers.nest_answer.Goals as goal
 
 pub normalise-requires : goal.normalise-requires

@@ -1,7 +1,8 @@
 use Rattle.std.proofs.Common.{ap}
 use Rattle.tree.specs.View.{block_of}
 use Rattle.nest.specs.View.{nest_of}
-use Rattle.translation.proofs.NestBlocks.Answering.{may_be_emitted, testable, translated}
+use Rattle.listing.proofs.programs.Sources.{testable}
+use Rattle.translation.proofs.NestBlocks.Answering.{may_be_emitted, translated}
 use Rattle.translation.proofs.nest_blocks.loop_answers.translated.Goals as goal
 
 pub test-requires : goal.test-requires

@@ -1,7 +1,8 @@
 use Rattle.std.proofs.Common.{◌≡◌, ◌∙◌, ◌+◌, ◌*◌, ◌≤◌, ◌<◌, ◌^◌, ap, sym, subst, rules, arith, ℤ, pos, nat_abs, Bool, true, false, not, Some, List, [], ◌∷◌, ◌++◌, map, filter, length, SFits, to_z, of_z, option_map, IfSome}
 use Rattle.tree.specs.View.{expression_of, statement_of, block_of}
 use Rattle.tree.specs.declared.stmts.Stmt.TheVariants as stmts
-use Rattle.find_nests.specs.bound_limits.Loops.{leaves_limits, as_outer, any_leaves, any_leaves_block}
+use Rattle.find_nests.specs.bound_limits.Loops.{leaves_limits, as_outer}
+use Rattle.find_nests.specs.bound_limits.Walks.{any_leaves, any_leaves_block}
 use Rattle.find_nests.specs.bound_limits.View.{outer_of, IsInner}
 use Rattle.find_nests.proofs.BoundLimits.WalkLaws.{one_outer, do-in}
 use Rattle.find_nests.proofs.bound_limits.walk.Limits.+loops.Goals as goal

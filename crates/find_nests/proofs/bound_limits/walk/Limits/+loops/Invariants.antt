@@ -1,7 +1,8 @@
 use Rattle.std.proofs.Common.{◌≡◌, map, take}
 use Rattle.std.specs.List.{list_any}
 use Rattle.tree.specs.View.{tested_of, statement_of}
-use Rattle.find_nests.specs.bound_limits.Loops.{any_leaves, any_leaves_arm}
+use Rattle.find_nests.specs.bound_limits.Walks.{any_leaves}
+use Rattle.find_nests.specs.bound_limits.Arms.{any_leaves_arm}
 use Rattle.find_nests.specs.bound_limits.View.{outer_of}
 use Rattle.find_nests.proofs.bound_limits.walk.Limits.+loops.Given as goal
 

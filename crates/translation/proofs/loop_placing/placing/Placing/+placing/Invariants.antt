@@ -1,7 +1,7 @@
 -- What was made so far stands in the place of the statements so far.
 use Rattle.std.proofs.Common.{◌≡◌, map}
 use Rattle.tree.specs.View.{statement_of, tested_of}
-use Rattle.find_nests.specs.nest_parts.Numbers.{after_each, after_list}
+use Rattle.find_nests.specs.nest_parts.Lists.{after_each, after_list}
 use Rattle.translation.specs.loop_placing.Placing.{blocks_of, placed_each, placed_list}
 use Rattle.translation.proofs.loop_placing.placing.Placing.+placing.Given as goal
 
