@@ -6,6 +6,15 @@
 //!
 //! **An array form is at most 100 deeper than what it is made of.** Seven loops bring a bounded number of functions
 //! round each part; expressions of FORTRAN 77 are far enough from the limit of Fortran 90.
-mod laws;
+ghost use Rattle.array_form.specs.profile.Laws.{ArrayFormIsOfProfile, FormHasKind};
 
-pub use laws::{array_form_is_of_profile, form_has_kind};
+/// The form of an expression has the expression's kind, the rank of the loops that stand in it, and a depth that is
+/// higher by a bounded number (ISO/IEC 1539:1991, sections 4.5, 6.2.2, 7.1 and 13.13).
+pub fn form_has_kind()
+    ensures { FormHasKind }
+{}
+
+/// The array form of an assignment, with the IF on its trips, is a block of the profile.
+pub fn array_form_is_of_profile()
+    ensures { ArrayFormIsOfProfile }
+{}

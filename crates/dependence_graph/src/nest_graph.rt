@@ -14,6 +14,9 @@
 //! **Instances meet where iterations do.** A pair of instances, filled up with 1 to seven places, is a pair of
 //! iterations at which the references meet, and in the exact class the other way too. The least pair of the one is that
 //! of the other, since what is filled in is the same on both sides.
-mod laws;
+ghost use Rattle.dependence_graph.specs.nest_graph.Complete.{GraphIsComplete};
 
-pub use laws::graph_is_complete;
+/// The graph of a nest has what an order of its instances needs.
+pub fn graph_is_complete()
+    ensures { GraphIsComplete }
+{}

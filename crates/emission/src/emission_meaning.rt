@@ -1,4 +1,8 @@
 //! What is emitted for a nest by its dependence graph keeps the nest's meaning.
-mod laws;
+ghost use Rattle.emission.specs.emission_meaning.Laws.{EmissionKeepsMeaning};
 
-pub use laws::emission_keeps_meaning;
+/// Where the sequential run of a nest of loops and statements alone ends without fault, so does the array run of what
+/// is emitted for it, in a store that is the same but for the loop variables.
+pub fn emission_keeps_meaning()
+    ensures { EmissionKeepsMeaning }
+{}

@@ -9,7 +9,7 @@ use Rattle.f77_grammar.specs.Statement77.{Labelled}
 use Rattle.f77_grammar.specs.program.Text.{Place, places}
 use Rattle.tree.specs.Causes.{number_of_cause, word_of_cause, refusal_at}
 use Rattle.tree.specs.declared.refusals.Cause.{Cause}
-use Rattle.tree.specs.declared.refusals.Cause.TheVariants.{Label, Nesting, NoEnd, Declared, RealName, TypeClash, Jump, DoVariable, ManyNames, ManyBlocks, ReversedBounds, ManyElements, BadConstant}
+use Rattle.tree.specs.declared.refusals.Cause.TheVariants.{Label, Nesting, NoEnd, Declared, RealName, TypeClash, Jump, DoVariable, ManyNames, ManyBlocks, ReversedBounds, ManyElements, BadConstant, Untyped}
 use Rattle.meaning.specs.Dialect.{fortran77}
 use Rattle.f77_grammar.specs.program.Program77.{program_causes, findings, holds_in}
 use Rattle.f77_grammar.specs.declared.syntax.statements.Labelled.{Labelled as Labelled'}
@@ -79,7 +79,7 @@ refused_alone text c front back refused.Memory n word number clean above whole h
 
 -- the causes behind each
 abbrev behind_variable : List Cause
-behind_variable = limits
+behind_variable = limits ++ Untyped ∷ []
 
 abbrev behind_jump : List Cause
 behind_jump = DoVariable ∷ behind_variable
@@ -201,7 +201,7 @@ limit_refused text r n clean first =
     first_found text c p n (find_holds (λ d. holds_in fortran77 text d p) limits c first.first_cause)
     (ap (λ k. find (has_number text k) (places text)) number ∙ place)
     (subst (λ k. AllByRecursion (λ (other : Refusal). k ≤ other.number) (findings_by (holds_in fortran77 text) (places text) program_causes)) (sym number)
-    (least_number (holds_in fortran77 text) (places text) 18 before_limits limits clean refl))
+    (least_number (holds_in fortran77 text) (places text) 18 before_limits (limits ++ Untyped ∷ []) clean refl))
     (λ d e t. word_among (λ x. holds_in fortran77 text x p) c d (least_words (λ x. holds_in fortran77 text x p) limits c limits_ascend first.first_cause) (e ∙ number) t) in
     subst (IsFoundFirst text) (sym first.is) found
 
@@ -215,13 +215,24 @@ clean_text : (text : List Labelled) → 0 < length text → AllByRecursion (IsNo
 clean_text [] n a = absurd (let no : 0 < 0 = n in omega arith)
 clean_text (y ∷ ys) n a = nothing_found (holds_in fortran77 (y ∷ ys)) (places (y ∷ ys)) program_causes a
 
-limits_checked : (text : List Labelled) (o : Result (Unit {0}) Refused) → 0 < length text → AllByRecursion (IsNowhere text) before_limits → Passes limits text o → IsChecked text o
-limits_checked text (Ok u) n a h = clean_text text n (a.0, (a.1.0, (a.1.1.0, (a.1.1.1.0, (a.1.1.1.1.0, (a.1.1.1.1.1.0, (a.1.1.1.1.1.1.0, (a.1.1.1.1.1.1.1.0, h))))))))
-limits_checked text (Err e) n a h = limits_refused text e n a h
+pub breach_refused : (text : List Labelled) (e : Refused) → 0 < length text → Lacks text Label → Lacks text Nesting → Lacks text NoEnd → Lacks text Declared → Lacks text RealName
+    → Lacks text TypeClash → Lacks text Jump → Lacks text DoVariable → IfRefusal e (IsFirstAmong limits text) → IsChecked text (Err e)
+breach_refused text e n a b c d f g i j h = limits_refused text e n (a.0, (b.0, (c.0, (d.0, (f.0, (g.0, (i.0, j))))))) h
+
+abbrev before_untyped : List Cause
+before_untyped = before_limits ++ limits
+
+types_checked : (text : List Labelled) (o : Result (Unit {0}) Refused) → 0 < length text → AllByRecursion (IsNowhere text) before_limits → AllByRecursion (IsNowhere text) limits
+    → Passes (Untyped ∷ []) text o → IsChecked text o
+types_checked text (Ok u) n a k h =
+    clean_text text n (a.0, (a.1.0, (a.1.1.0, (a.1.1.1.0, (a.1.1.1.1.0, (a.1.1.1.1.1.0, (a.1.1.1.1.1.1.0, (a.1.1.1.1.1.1.1.0, (k.0, (k.1.0, (k.1.1.0, (k.1.1.1.0, (k.1.1.1.1.0, h)))))))))))))
+types_checked text (Err e) n a k h =
+    refused_alone text Untyped before_untyped [] e n refl (λ p. refl)
+    (a.0, (a.1.0, (a.1.1.0, (a.1.1.1.0, (a.1.1.1.1.0, (a.1.1.1.1.1.0, (a.1.1.1.1.1.1.0, (a.1.1.1.1.1.1.1.0, k)))))))) refl refl h
 
 pub rest_checked : (text : List Labelled) (o : Result (Unit {0}) Refused) → 0 < length text → Lacks text Label → Lacks text Nesting → Lacks text NoEnd → Lacks text Declared → Lacks text RealName
-    → Lacks text TypeClash → Lacks text Jump → Lacks text DoVariable → Passes limits text o → IsChecked text o
-rest_checked text o n a b c d f g i j h = limits_checked text o n (a.0, (b.0, (c.0, (d.0, (f.0, (g.0, (i.0, j))))))) h
+    → Lacks text TypeClash → Lacks text Jump → Lacks text DoVariable → AllByRecursion (IsNowhere text) limits → Passes (Untyped ∷ []) text o → IsChecked text o
+rest_checked text o n a b c d f g i j k h = types_checked text o n (a.0, (b.0, (c.0, (d.0, (f.0, (g.0, (i.0, j))))))) k h
 
 -- ---- the text of the code
 
@@ -232,4 +243,4 @@ pub nothing_to_check : (xs : List Labelled') → length xs ≡ 0 → IsChecked (
 nothing_to_check [] h = refl
 nothing_to_check (x ∷ xs) h = absurd (omega (arith, h))
 
-pub ruleset chain_laws = (label_refused, nesting_refused, end_refused, declaration_refused, real_name_refused, kind_refused, jump_refused, variable_refused, rest_checked, statements_stand)
+pub ruleset chain_laws = (label_refused, nesting_refused, end_refused, declaration_refused, real_name_refused, kind_refused, jump_refused, variable_refused, breach_refused, rest_checked, statements_stand)

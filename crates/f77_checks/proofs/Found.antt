@@ -8,7 +8,7 @@ use Rattle.f77_grammar.specs.Statement77.{Labelled}
 use Rattle.f77_grammar.specs.program.Text.{Place, places_from}
 use Rattle.tree.specs.Causes.{number_of_cause, refusal_at}
 use Rattle.tree.specs.declared.refusals.Cause.{Cause}
-use Rattle.tree.specs.declared.refusals.Cause.TheVariants.{Label, Nesting, NoEnd, Declared, RealName, TypeClash, Jump, DoVariable, ManyNames, ManyBlocks, ReversedBounds, ManyElements, BadConstant}
+use Rattle.tree.specs.declared.refusals.Cause.TheVariants.{Label, Nesting, NoEnd, Declared, RealName, TypeClash, Jump, DoVariable, ManyNames, ManyBlocks, ReversedBounds, ManyElements, BadConstant, Untyped}
 use Rattle.meaning.specs.Dialect.{fortran77}
 use Rattle.f77_grammar.specs.program.Program77.{program_causes, holds_in}
 use Rattle.f77_laws.specs.Source.{AreRising}
@@ -104,6 +104,7 @@ every_cause text p ManyBlocks h = inr (inr (inr (inr (inr (inr (inr (inr (inr (i
 every_cause text p ReversedBounds h = inr (inr (inr (inr (inr (inr (inr (inr (inr (inr (inl refl))))))))))
 every_cause text p ManyElements h = inr (inr (inr (inr (inr (inr (inr (inr (inr (inr (inr (inl refl)))))))))))
 every_cause text p BadConstant h = inr (inr (inr (inr (inr (inr (inr (inr (inr (inr (inr (inr (inl refl))))))))))))
+every_cause text p Untyped h = inr (inr (inr (inr (inr (inr (inr (inr (inr (inr (inr (inr (inr (inl refl)))))))))))))
 every_cause text p c h = absurd (let no : false ≡ true = h in cc)
 
 any_step : (test : Cause → Bool) (d : Cause) (ds : List Cause) (c : Cause) → (d ≡ c) ⊎ Among ds c → test c ≡ true → (Among ds c → list_any test ds ≡ true)

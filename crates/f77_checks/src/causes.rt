@@ -11,7 +11,7 @@ use crate::kinds::unsuited_kind;
 use crate::known::Known;
 use crate::places::line_at;
 use f77_grammar::syntax::Labelled;
-use f77_names::{real_name, wrong_declaration};
+use f77_names::{real_name, untyped_name, wrong_declaration};
 use f77_structure::jumps::{wrong_do_variable, wrong_jump};
 use f77_structure::{wrong_end, wrong_label, wrong_nesting};
 use std::alloc::Global;
@@ -103,5 +103,17 @@ pub fn check_do_variables(alloc: Global, text: &[Labelled], known: &Known) -> Re
         text,
         Cause::DoVariable,
         wrong_do_variable(alloc, text, &known.names, &known.ends)?,
+    )
+}
+
+/// Refuses a text with a name without type beside IMPLICIT NONE.
+pub fn check_types(alloc: Global, text: &[Labelled], known: &Known) -> Result<(), Refused>
+    requires { IsKnownOf known.now (text_of text.now) }
+    ensures { Passes (Cause.Untyped ∷ []) (text_of text.now) result }
+{
+    refuse(
+        text,
+        Cause::Untyped,
+        untyped_name(alloc, text, &known.names)?,
     )
 }

@@ -11,7 +11,7 @@ ghost use Rattle.f77_checks.specs.Outcomes.{IsChecked};
 
 use crate::causes::{
     check_declarations, check_do_variables, check_end, check_jumps, check_kinds, check_labels,
-    check_nesting, check_real_names,
+    check_nesting, check_real_names, check_types,
 };
 use crate::known::Known;
 use crate::limits::refuse_breach;
@@ -34,7 +34,8 @@ fn check_statements(alloc: Global, text: &[Labelled], known: &Known) -> Result<(
     check_kinds(alloc, text, known)?;
     check_jumps(alloc, text, known)?;
     check_do_variables(alloc, text, known)?;
-    refuse_breach(alloc, text, known)
+    refuse_breach(alloc, text, known)?;
+    check_types(alloc, text, known)
 }
 
 // A program without statements has no END.

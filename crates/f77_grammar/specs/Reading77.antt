@@ -8,6 +8,7 @@ use Rattle.f77_grammar.specs.Answered.{IsAnswered}
 use Rattle.f77_grammar.specs.Cards.{PlainCard, ReadsCards, RefusedCards}
 use Rattle.f77_grammar.specs.Statement77.{Labelled}
 use Rattle.f77_grammar.specs.statements.Reading.{ReadsStatement, IsRefusedBy}
+use Rattle.f77_grammar.specs.program.EndDo.{with_loop_labels}
 use Rattle.f77_grammar.specs.program.Program77.{findings, ReadsStatements}
 
 -- ---- the statements of cards
@@ -26,11 +27,11 @@ AreReadFrom cards xs = ⊥
 
 -- ---- what is read
 
--- the cards are statements, which are read as the program
+-- the cards are statements, which are read as the program, each loop with its label
 pub record ReadsProgram (d : Dialect) (cards : List PlainCard) (p : Program) : Type 0 where
   pub text : List Labelled
   pub statements : AreReadFrom cards text
-  pub reads : ReadsStatements d text p
+  pub reads : ReadsStatements d (with_loop_labels text) p
 
 -- ---- what is refused
 
@@ -39,8 +40,8 @@ pub record ReadsProgram (d : Dialect) (cards : List PlainCard) (p : Program) : T
 pub data HasCause (d : Dialect) (cards : List PlainCard) : Refusal → Type 0 where
   AtCard : (card : PlainCard) (number word : ℕ) → Contains cards card → IsRefusedBy card.chars number word
       → HasCause d cards (record { number = number; line = card.line; word = word })
-  InText : (text : List Labelled) (r : Refusal) → AreReadFrom cards text → Contains (findings d text) r
-      → HasCause d cards r
+  InText : (text : List Labelled) (r : Refusal) → AreReadFrom cards text
+      → Contains (findings d (with_loop_labels text)) r → HasCause d cards r
 
 abbrev pub RefusedProgram : Dialect → List PlainCard → Refusal → Type 0
 RefusedProgram d cards = IsAnswered (HasCause d cards)

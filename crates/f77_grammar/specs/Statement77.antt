@@ -1,7 +1,6 @@
 -- A statement of FORTRAN 77 as it stands on its card, before the statements of a program are put together
--- (ANSI X3.9-1978, sections 7 to 12). A name with a list in parentheses stands as a reference, since an element and a
--- call are
--- written alike.
+-- (ANSI X3.9-1978, sections 7 to 12; END DO, a DO without a label and IMPLICIT NONE are of MIL-STD-1753). A name with a
+-- list in parentheses stands as a reference, since an element and a call are written alike.
 use Rattle.std.specs.Prelude.{ℕ, List, Option}
 use Rattle.tree.specs.declared.ops.Kind.{Kind}
 use Rattle.tree.specs.Plain.{Expression, Reference, Items}
@@ -17,10 +16,10 @@ pub record NamedConstant : Type 0 where
   pub value : Expression
 
 -- `Test` is the logical IF with its inner statement; `If`, `ElseIf`, `Else` and `EndIf` are the lines of a block IF.
--- `Do` has the
--- label of its last statement, its variable and its three parameters
+-- `Do` has the label of its last statement, where one is written, its variable and its three parameters
 pub data Statement77 : Type 0 where
   Program : List ℕ → Statement77
+  ImplicitNone : Statement77
   Declare : Kind → List Entity → Statement77
   Dimension : List Entity → Statement77
   Constants : List NamedConstant → Statement77
@@ -31,7 +30,8 @@ pub data Statement77 : Type 0 where
   ElseIf : Expression → Statement77
   Else : Statement77
   EndIf : Statement77
-  Do : ℕ → List ℕ → Expression → Expression → Expression → Statement77
+  Do : Option ℕ → List ℕ → Expression → Expression → Expression → Statement77
+  EndDo : Statement77
   Continue : Statement77
   Stop : Statement77
   Read : Items → Statement77

@@ -1,4 +1,5 @@
 pub mod Text
+pub mod EndDo
 pub mod Uses
 pub mod Labels
 pub mod Nesting

@@ -9,7 +9,7 @@ use Rattle.tree.specs.Plain.{Expression, Number, Logic, Named, Unary, Binary, Ap
 use Rattle.meaning.specs.Store.{Store}
 use Rattle.f77_grammar.specs.declared.directions.Direction.{Direction}
 use Rattle.f77_grammar.specs.declared.directions.Direction.TheVariants.{Output, Input}
-use Rattle.f77_grammar.specs.Statement77.{Statement77, Program, Declare, Dimension, Constants, Assign, Go, Test, If, ElseIf, Else, EndIf, Do, Continue, Stop, Read, Print, End}
+use Rattle.f77_grammar.specs.Statement77.{Statement77, Program, ImplicitNone, Declare, Dimension, Constants, Assign, Go, Test, If, ElseIf, Else, EndIf, Do, EndDo, Continue, Stop, Read, Print, End}
 use Rattle.f77_grammar.specs.expressions.Printing.{IsSource}
 use Rattle.meaning.specs.Names.{is_among}
 use Rattle.meaning.specs.Depths.{depth_of, depth_of_item, depth_of_items}
@@ -301,6 +301,7 @@ module _ (us : List Use) (s : Store) (ds : List Declaration) (knows : Knows us s
   action_holds line (Print is) w around v l h u g m a =
       ((l, output_items is w.variables around v h.0 u g m, (let d = list_depth Output is in let e = h.1 in omega (arith, d, e))), tt)
   action_holds line (Program x) w around v l h u g m a = absurd h
+  action_holds line ImplicitNone w around v l h u g m a = absurd h
   action_holds line (Declare k es) w around v l h u g m a = absurd h
   action_holds line (Dimension es) w around v l h u g m a = absurd h
   action_holds line (Constants cs) w around v l h u g m a = absurd h
@@ -310,4 +311,5 @@ module _ (us : List Use) (s : Store) (ds : List Declaration) (knows : Knows us s
   action_holds line Else w around v l h u g m a = absurd h
   action_holds line EndIf w around v l h u g m a = absurd h
   action_holds line (Do n x b c d) w around v l h u g m a = absurd h
+  action_holds line EndDo w around v l h u g m a = absurd h
   action_holds line End w around v l h u g m a = absurd h

@@ -137,7 +137,7 @@ module _ (us : List Use) (s : Store) (named : List ℕ) where
 
   -- the loop of a DO ends in its block
   abbrev DoEnds : Statement77 → Rest → Type 0
-  DoEnds (Do k v a b c) r = ends_loop k (level 0 r) ≡ true
+  DoEnds (Do (Some k) v a b c) r = ends_loop k (level 0 r) ≡ true
   DoEnds c r = Unit {0}
 
   abbrev opens : List Labelled → Bool
@@ -156,7 +156,7 @@ module _ (us : List Use) (s : Store) (named : List ℕ) where
   passes Else y W pre (suc d) r b bs e o l n t h = passes_else y d r b bs h
   passes (ElseIf c) y W pre zero r b bs e o l n t h = absurd (opened_here y (ElseIf c) (without_ended pre 0) e refl o)
   passes (ElseIf c) y W pre (suc d) r b bs e o l n t h = passes_else_if y c d r b bs h
-  passes (Do k v x z c) y W pre d r b bs e o l n t h =
+  passes (Do (Some k) v x z c) y W pre d r b bs e o l n t h =
       loop_level (tree.Do y.line v (resolved us s x) (resolved us s z) (resolved us s c)) (mark_of named y.label) k d r (b ∷ bs) h t (n k l)
   passes c y W pre d r b bs e o l n t h = preceded_level (record { ends = y.label; made = _ }) d r (b ∷ bs) h
 
@@ -188,7 +188,7 @@ module _ (us : List Use) (s : Store) (named : List ℕ) where
       by y.statement (frames ys (y ∷ before) 0) (moves text before ys y k.right) (shape us s named text (y ∷ before) ys k.right.1 (all_end text before ys y k.right k.end))
     where
       by : (c : Statement77) (g : Frames) → Moves c y.label (frames (y ∷ ys) before 0) g → IsShaped g (rest_from us s named ys) → DoEnds c (rest_from us s named ys)
-      by (Do n v a b c) g m h = shape_ends (record { label = n; variable = v }) (frames (y ∷ ys) before 0) (rest_from us s named ys) (subst (λ (f : Frames). IsShaped f (rest_from us s named ys)) m h)
+      by (Do (Some n) v a b c) g m h = shape_ends (record { label = n; variable = v }) (frames (y ∷ ys) before 0) (rest_from us s named ys) (subst (λ (f : Frames). IsShaped f (rest_from us s named ys)) m h)
       by c g m h = tt
 
   record IsOnWay (bs : List Piece) (r : Rest) : Type 0 where
@@ -216,7 +216,7 @@ module _ (us : List Use) (s : Store) (named : List ℕ) where
   AreEndless m r = (d : ℕ) → ends_loop m (level d r) ≡ false
 
   abbrev DoOther : ℕ → Statement77 → Type 0
-  DoOther m (Do k v a b c) = (k == m) ≡ false
+  DoOther m (Do (Some k) v a b c) = (k == m) ≡ false
   DoOther m c = Unit {0}
 
   preceded_none : (m : ℕ) (p : Piece) (d : ℕ) (r : Rest) → is_label m p.ends ≡ false → AreEndless m r → ends_loop m (level d (preceded p r)) ≡ false
@@ -236,14 +236,14 @@ module _ (us : List Use) (s : Store) (named : List ℕ) where
   endless_step (ElseIf c) x m (suc d) (InArm ps arms other r) h o k = k (suc d)
   endless_step (If c) x m d (Outermost ps) h o k = k d
   endless_step (If c) x m d (InArm ps arms other r) h o k = preceded_none m (record { ends = None; made = _ }) d r refl (λ e. k (suc e))
-  endless_step (Do n v a b c) x m zero (Outermost ps) h o k = both_false (n == m) (ends_loop m (beyond n ps)) o (none_beyond m n ps (k 0))
-  endless_step (Do n v a b c) x m zero (InArm ps arms other r) h o k = both_false (n == m) (ends_loop m (beyond n ps)) o (none_beyond m n ps (k 0))
-  endless_step (Do n v a b c) x m (suc d) (Outermost ps) h o k = refl
-  endless_step (Do n v a b c) x m (suc d) (InArm ps arms other r) h o k = k (suc d)
+  endless_step (Do (Some n) v a b c) x m zero (Outermost ps) h o k = both_false (n == m) (ends_loop m (beyond n ps)) o (none_beyond m n ps (k 0))
+  endless_step (Do (Some n) v a b c) x m zero (InArm ps arms other r) h o k = both_false (n == m) (ends_loop m (beyond n ps)) o (none_beyond m n ps (k 0))
+  endless_step (Do (Some n) v a b c) x m (suc d) (Outermost ps) h o k = refl
+  endless_step (Do (Some n) v a b c) x m (suc d) (InArm ps arms other r) h o k = k (suc d)
   endless_step c x m d r h o k = preceded_none m (record { ends = x.label; made = _ }) d r h k
 
   do_other : (m : ℕ) (before xs : List Labelled) (x : Labelled) (c : Statement77) → nests_wrongly c (record { before = before; here = x; after = xs }) ≡ false → stands_in xs m ≡ false → DoOther m c
-  do_other m before xs x (Do k v a b c) h g = by (k == m) refl
+  do_other m before xs x (Do (Some k) v a b c) h g = by (k == m) refl
     where
       by : (b : Bool) → (k == m) ≡ b → (k == m) ≡ false
       by true e = absurd (not_both (stands_in xs m) (sym (ap (stands_in xs) (let t : k ≡ m = grind (arith, nat_tests) in t)) ∙ affirmed (stands_in xs k) h) g)
@@ -302,7 +302,7 @@ module _ (us : List Use) (s : Store) (named : List ℕ) where
   arrives_by n y Else f g r m h t k = absurd cc
   arrives_by n y (ElseIf c) f g r m h t k = absurd cc
   arrives_by n y (If c) f g r m h t k = if_arrives n y c f r (subst (λ (e : Frames). IsShaped e r) m h) k
-  arrives_by n y (Do i v a b c) f g r m h t k = loop_arrives n (tree.Do y.line v (resolved us s a) (resolved us s b) (resolved us s c)) (mark_of named y.label) i r k
+  arrives_by n y (Do (Some i) v a b c) f g r m h t k = loop_arrives n (tree.Do y.line v (resolved us s a) (resolved us s b) (resolved us s c)) (mark_of named y.label) i r k
   arrives_by n y c f g r m h t k = preceded_arrives n (record { ends = y.label; made = mark_of named y.label ++ simple us s y.line c }) r (k (simple us s y.line c))
 
   arrives : (text before ys : List Labelled) (y : Labelled) (n : ℕ) → IsFree text before (y ∷ ys) → bears n y ≡ true → is_no_target y.statement ≡ false → list_any (λ m. m == n) named ≡ true → Arrives n (rest_from us s named (y ∷ ys))

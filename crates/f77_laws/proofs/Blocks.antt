@@ -43,8 +43,9 @@ split_labels n ps =
 abbrev pub around : List (List ℕ) → List ℕ → Surroundings
 around vs ahead = record { variables = vs; ahead = ahead }
 
-abbrev pub IsMark : Option ℕ → Type 0
-IsMark end = IfSome end IsLabel
+-- the label stands in the tree where it is named alone
+abbrev pub IsMark : List ℕ → Option ℕ → Type 0
+IsMark named end = IfSome end (λ n. list_any (λ j. j == n) named ≡ true → IsLabel n)
 
 module _ (ds : List Declaration) where
   block_append : (cs es : List tree.Statement) (vs : List (List ℕ)) (ahead : List ℕ) → IsBlock ds (tree.block cs) (around vs (labels_of (tree.block es) ++ ahead)) → IsBlock ds (tree.block es) (around vs ahead)
@@ -128,13 +129,13 @@ module _ (ds : List Declaration) where
 
   -- ---- the mark before a statement
 
-  pub marked_fine : (named : List ℕ) (end : Option ℕ) (cs : List tree.Statement) (w : Surroundings) (k : ℕ) → IsMark end → IsFine (tree.block cs) w k → IsFine (tree.block (mark_of named end ++ cs)) w k
+  pub marked_fine : (named : List ℕ) (end : Option ℕ) (cs : List tree.Statement) (w : Surroundings) (k : ℕ) → IsMark named end → IsFine (tree.block cs) w k → IsFine (tree.block (mark_of named end ++ cs)) w k
   marked_fine named None cs w k m h = h
-  marked_fine named (Some n) cs w k m h = by (list_any (λ j. j == n) named)
+  marked_fine named (Some n) cs w k m h = by (list_any (λ j. j == n) named) refl
     where
-      by : (b : Bool) → IsFine (tree.block (cond b (tree.Label n ∷ []) [] ++ cs)) w k
-      by true = record { statements = (m, h.statements); depth = (let d = h.depth in omega (arith, d)) }
-      by false = h
+      by : (b : Bool) → list_any (λ j. j == n) named ≡ b → IsFine (tree.block (cond b (tree.Label n ∷ []) [] ++ cs)) w k
+      by true e = record { statements = (m e, h.statements); depth = (let d = h.depth in omega (arith, d)) }
+      by false e = h
 
   -- ---- one piece more
 
@@ -159,7 +160,7 @@ module _ (ds : List Declaration) where
     pub step : IsWhole ds c Integer
 
   loop_piece : (line : ℕ) (a b c : Expression) (named : List ℕ) (end : Option ℕ) (l : Loop) (ls : List Loop) (vs : List (List ℕ)) (ahead : List ℕ) (n : ℕ) (ps : List Piece)
-      → IsMark end → IsHead line l.variable a b c (names_in ls ++ vs) → 1 + (length ls + n) ≤ 100 → ArePieces (l ∷ ls) vs ahead n ps
+      → IsMark named end → IsHead line l.variable a b c (names_in ls ++ vs) → 1 + (length ls + n) ≤ 100 → ArePieces (l ∷ ls) vs ahead n ps
       → ArePieces ls vs ahead n (loop_in (tree.Do line l.variable a b c) (mark_of named end) l.label ps)
   loop_piece line a b c named end l ls vs ahead n ps m h k g =
       let t = loop_pieces l ls vs ahead n ps k g in (
@@ -168,7 +169,7 @@ module _ (ds : List Declaration) where
         t.rest,
       )
 
-  pub loop_fine : (line : ℕ) (a b c : Expression) (named : List ℕ) (end : Option ℕ) (l : Loop) (f : Frames) (r : Rest) → IsMark end → IsHead line l.variable a b c (variables f) → 1 + depth f ≤ 100 → AreFine (pushed l f) r
+  pub loop_fine : (line : ℕ) (a b c : Expression) (named : List ℕ) (end : Option ℕ) (l : Loop) (f : Frames) (r : Rest) → IsMark named end → IsHead line l.variable a b c (variables f) → 1 + depth f ≤ 100 → AreFine (pushed l f) r
       → AreFine f (loop_begun (tree.Do line l.variable a b c) (mark_of named end) l.label r)
   loop_fine line a b c named end l (Base ls) (Outermost ps) m h k g =
       loop_piece line a b c named end l ls [] [] 0 ps m (subst (λ (vs : List (List ℕ)). IsHead line l.variable a b c vs) (sym (append-nil (names_in ls))) h) (omega (arith, k)) g
@@ -179,7 +180,7 @@ module _ (ds : List Declaration) where
 
   -- ---- a block IF
 
-  pub if_fine : (us : List Use) (s : Store) (named : List ℕ) (x : Labelled) (c : Expression) (f : Frames) (r : Rest) → IsMark x.label → IsLine x.line → IsWhole ds (resolved us s c) Logical → 1 + depth f ≤ 100
+  pub if_fine : (us : List Use) (s : Store) (named : List ℕ) (x : Labelled) (c : Expression) (f : Frames) (r : Rest) → IsMark named x.label → IsLine x.line → IsWhole ds (resolved us s c) Logical → 1 + depth f ≤ 100
       → AreFine (Inner [] false f) r → AreFine f (begun us s named x (If c) r)
   if_fine us s named x c f (Outermost ps) m l e k h = absurd h
   if_fine us s named x c f (InArm ps arms other r) m l e k h =

@@ -17,7 +17,7 @@ use Rattle.meaning.specs.Calls.{calls_in, calls_in_each, calls_in_subscripts, ca
 use Rattle.f77_grammar.specs.declared.directions.Direction.{Direction}
 use Rattle.f77_grammar.specs.declared.directions.Direction.TheVariants.{Output, Input}
 use Rattle.f77_grammar.specs.expressions.Printing.{IsSource, IsSourceSubscript, AreSource}
-use Rattle.f77_grammar.specs.Statement77.{Labelled, Statement77, Program, Declare, Dimension, Constants, Assign, Go, Test, If, ElseIf, Else, EndIf, Do, Continue, Stop, Read, Print, End}
+use Rattle.f77_grammar.specs.Statement77.{Labelled, Statement77, Program, ImplicitNone, Declare, Dimension, Constants, Assign, Go, Test, If, ElseIf, Else, EndIf, Do, EndDo, Continue, Stop, Read, Print, End}
 use Rattle.f77_grammar.specs.program.Uses.{Use, uses_in, uses_in_subscripts, uses_in_subscript, uses_in_item, uses_in_items, input_uses, value_uses, control_uses, uses_of, is_array, is_function, is_constant, kind_of_name}
 use Rattle.f77_grammar.specs.program.Kinds.{same_kind, has_kind, has_some_kind, takes_so_many, list_has_kind, name_has_kind, are_subscripts, is_subscript, is_stored_into, suits_output, suits_input, are_numbers, suits_value, suits_item, suits_items, suits}
 use Rattle.f77_grammar.specs.program.Tree.{literal, arguments_of, call_of, element_or_call, value_or_name, resolved, resolved_subscripts, resolved_subscript, resolved_input, resolved_value, resolved_item, resolved_items, simple, mark_of}
@@ -282,7 +282,8 @@ module _ (us : List Use) (s : Store) (P : List ℕ → Type 0) where
     begun_calls EndIf r k g = (tt, tt, tt, g)
     begun_calls Else r k g = else_calls r g
     begun_calls (ElseIf c) r k g = else_if_calls c r (called c Logical k.source.0 k.heard k.suits') g
-    begun_calls (Do n v a b c) r k g =
+    begun_calls (Do None v a b c) r k g = simple_begun (Do None v a b c) r tt g
+    begun_calls (Do (Some n) v a b c) r k g =
         loop_begun_calls v (resolved us s a) (resolved us s b) (resolved us s c) n r (parameters_called v a b c k.source.2.0 k.source.3.0 k.source.4.0 k.heard k.suits') g
     begun_calls (Test c b) r k g = simple_begun (Test c b) r (test_calls c b k) g
     begun_calls (Assign left e) r k g = simple_begun (Assign left e) r (action_called x.line (Assign left e) k.source k.heard k.suits') g
@@ -291,6 +292,8 @@ module _ (us : List Use) (s : Store) (P : List ℕ → Type 0) where
     begun_calls (Go n) r k g = simple_begun (Go n) r tt g
     begun_calls Stop r k g = simple_begun Stop r tt g
     begun_calls Continue r k g = simple_begun Continue r tt g
+    begun_calls EndDo r k g = simple_begun EndDo r tt g
+    begun_calls ImplicitNone r k g = simple_begun ImplicitNone r tt g
     begun_calls (Program y) r k g = simple_begun (Program y) r tt g
     begun_calls (Declare j es) r k g = simple_begun (Declare j es) r tt g
     begun_calls (Dimension es) r k g = simple_begun (Dimension es) r tt g

@@ -9,7 +9,7 @@ use Rattle.f77_grammar.specs.Statement77.{Labelled}
 use Rattle.f77_grammar.specs.program.Text.{Place, places, places_from}
 use Rattle.tree.specs.Causes.{number_of_cause, word_of_cause, refusal_at}
 use Rattle.tree.specs.declared.refusals.Cause.{Cause}
-use Rattle.tree.specs.declared.refusals.Cause.TheVariants.{Label, Nesting, NoEnd, Declared, RealName, TypeClash, Jump, DoVariable, ManyNames, ManyBlocks, ReversedBounds, ManyElements, BadConstant}
+use Rattle.tree.specs.declared.refusals.Cause.TheVariants.{Label, Nesting, NoEnd, Declared, RealName, TypeClash, Jump, DoVariable, ManyNames, ManyBlocks, ReversedBounds, ManyElements, BadConstant, Untyped}
 use Rattle.f77_grammar.specs.program.Program77.{program_causes, findings_of, findings}
 use Rattle.f77_grammar.specs.Answered.{comes_before}
 use Rattle.f77_laws.specs.Source.{AreRising}
@@ -71,6 +71,7 @@ any_cause d text p ManyBlocks h = (9, omega arith, refl)
 any_cause d text p ReversedBounds h = (10, omega arith, refl)
 any_cause d text p ManyElements h = (11, omega arith, refl)
 any_cause d text p BadConstant h = (12, omega arith, refl)
+any_cause d text p Untyped h = (13, omega arith, refl)
 any_cause d text p c h = absurd cc
 
 mapped : (f : Place → Refusal) (ps : List Place) (p : Place) → Contains ps p → Contains (map f ps) (f p)

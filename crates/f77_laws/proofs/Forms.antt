@@ -5,13 +5,16 @@ use Rattle.f77_grammar.specs.expressions.Words as words
 use Rattle.f77_grammar.specs.expressions.Words.{Word}
 use Rattle.f77_grammar.specs.expressions.Phrases as phrases
 use Rattle.f77_grammar.specs.expressions.Phrases.{Phrase, IsExpression, written, tree, depth}
-use Rattle.f77_grammar.specs.expressions.Spelling.{Words, chars}
+use Rattle.f77_grammar.specs.expressions.Spelling.{Words, chars, value}
 use Rattle.f77_grammar.specs.expressions.Squeezing.{Symbol}
 use Rattle.f77_grammar.specs.statements.Controls.{written_control}
 use Rattle.f77_grammar.specs.statements.Items.{IsReference, written_items}
 use Rattle.f77_grammar.specs.declared.directions.Direction.TheVariants.{Input, Output}
-use Rattle.f77_grammar.specs.statements.Forms.{Form, Program, Declare, Dimension, Constants, Assign, Go, Test, If, ElseIf, Else, EndIf, Do, Continue, Stop, Read, ReadNothing, Print, PrintNothing, End, IsEntity, IsBounded, Definition, IsDefinition, IsInner, IsFollowed, IsWritten, separated, keyword_of, written_entity, entity_tree, entity_depth, written_definition, definition_tree, definition_depth, optional_comma, reference_in, statement_of, form_depth}
-use Rattle.f77_laws.specs.Source.{IsShallow, IsSourceEntity, IsSourceConstant, IsSourceAction, IsSourceStatement}
+use Rattle.f77_grammar.specs.statements.Forms.{Form, Program, ImplicitNone, Declare, Dimension, Constants, Assign, Go, Test, If, ElseIf, Else, EndIf, Do, PlainDo, EndDo, Continue, Stop, Read, ReadNothing, Print, PrintNothing, End, IsEntity, IsBounded, Definition, IsDefinition, IsInner, IsFollowed, IsWritten, separated, keyword_of, written_entity, entity_tree, entity_depth, written_definition, definition_tree, definition_depth, IsLabel, optional_comma, reference_in, statement_of, form_depth}
+use Rattle.std.specs.Option.{IfSome}
+use Rattle.f77_grammar.specs.Statement77.{Statement77}
+use Rattle.f77_grammar.specs.program.Labels.{label_named}
+use Rattle.f77_laws.specs.Source.{IsShallow, IsSourceEntity, IsSourceConstant, IsSourceAction, IsSourceStatement, IsSourceLabel, IsLoopLabel}
 use Rattle.f77_laws.proofs.Lists.{all_left, all_right}
 use Rattle.f77_laws.proofs.SymbolicNames.{symbolic_name}
 use Rattle.f77_laws.specs.SourceCards.{ReadStatementIsSource}
@@ -67,6 +70,7 @@ action ReadNothing text s i h d = (tt, omega arith)
 action (Print is) text s i h d = (source_items Output is h.1 (either (codes "PRINT*,") (codes "WRITE(*,*)") (written_items is) text s h.0), omega (arith, items_within Output is h.1, d))
 action PrintNothing text s i h d = (tt, omega arith)
 action (Program x) text s i h d = absurd i
+action ImplicitNone text s i h d = absurd i
 action (Declare k es) text s i h d = absurd i
 action (Dimension es) text s i h d = absurd i
 action (Constants ds) text s i h d = absurd i
@@ -76,6 +80,8 @@ action (ElseIf p) text s i h d = absurd i
 action Else text s i h d = absurd i
 action EndIf text s i h d = absurd i
 action (Do label comma c) text s i h d = absurd i
+action (PlainDo c) text s i h d = absurd i
+action EndDo text s i h d = absurd i
 action End text s i h d = absurd i
 
 -- ---- any statement
@@ -86,8 +92,13 @@ definitions ds text s h d =
     let ws = followed (codes "PARAMETER") (words.Open ∷ (inside ++ words.Close ∷ [])) text s h.0 in
     parts.list_made IsDefinition written_definition definition_depth definition_tree IsSourceConstant parts.definition ds h.1 (left_words inside (words.Close ∷ []) ws.1) d
 
+-- a label that is written is one of a loop
+loop_label : (digits : List ℕ) → IsLabel digits → IsLoopLabel (value digits)
+loop_label digits h = let l = parts.label digits h in omega (arith, l)
+
 pub statement : (f : Form) (text : List Symbol) → AreCardSymbols text → IsWritten f text → form_depth f ≤ 400 → IsSourceStatement (statement_of f)
 statement (Program x) text s h d = symbolic_name x (followed (codes "PROGRAM") (words.Name x ∷ []) text s h).0
+statement ImplicitNone text s h d = tt
 statement (Declare k es) text s h d =
     parts.list_made IsEntity written_entity entity_depth entity_tree IsSourceEntity parts.entity es h.1 (followed (keyword_of k) (separated written_entity es) text s h.0) d
 statement (Dimension es) text s h d =
@@ -105,12 +116,21 @@ statement Else text s h d = tt
 statement EndIf text s h d = tt
 statement (Do label comma c) text s h d =
     let k = control_words c (followed (codes "DO" ++ (label ++ optional_comma comma)) (written_control c) text s h.0) in (
-      parts.label label h.1,
+      loop_label label h.1,
       symbolic_name c.variable k.variable.0,
       shallow c.first h.2.0 k.first (omega (arith, d)),
       shallow c.last h.2.1 k.last (omega (arith, d)),
       (step_source c.step h.2.2 k.step, omega (arith, step_within c.step h.2.2, d)),
     )
+statement (PlainDo c) text s h d =
+    let k = control_words c (followed (codes "DO") (written_control c) text s h.0) in (
+      tt,
+      symbolic_name c.variable k.variable.0,
+      shallow c.first h.1.0 k.first (omega (arith, d)),
+      shallow c.last h.1.1 k.last (omega (arith, d)),
+      (step_source c.step h.1.2 k.step, omega (arith, step_within c.step h.1.2, d)),
+    )
+statement EndDo text s h d = tt
 statement Continue text s h d = tt
 statement Stop text s h d = tt
 statement (Read is) text s h d = action (Read is) text s tt h d
@@ -119,6 +139,14 @@ statement (Print is) text s h d = action (Print is) text s tt h d
 statement PrintNothing text s h d = action PrintNothing text s tt h d
 statement End text s h d = tt
 
+-- the label that it names is such as can be written
+label_written : (f : Form) (text : List Symbol) → IsWritten f text → IfSome (label_named (statement_of f)) IsSourceLabel
+label_written (Go label) text h = parts.label label h.1
+label_written (Do label comma c) text h = parts.label label h.1
+label_written f text h = tt
+
 pub read_statement_is_source : ReadStatementIsSource
-read_statement_is_source characters s h r =
-    subst IsSourceStatement (sym r.same) (statement r.form r.is_form.symbols (card_symbols r.is_form.squeezed h) r.is_form.written r.shallow)
+read_statement_is_source characters s h r = (
+  subst IsSourceStatement (sym r.same) (statement r.form r.is_form.symbols (card_symbols r.is_form.squeezed h) r.is_form.written r.shallow),
+  subst (λ (t : Statement77). IfSome (label_named t) IsSourceLabel) (sym r.same) (label_written r.form r.is_form.symbols r.is_form.written),
+)

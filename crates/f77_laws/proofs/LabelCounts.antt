@@ -5,7 +5,7 @@ use Rattle.std.proofs.lemmas.Bool.Decides.{nat_tests}
 use Rattle.tree.specs.Plain as tree
 use Rattle.tree.specs.Plain.{Expression}
 use Rattle.meaning.specs.Store.{Store}
-use Rattle.f77_grammar.specs.Statement77.{Labelled, Statement77, Program, Declare, Dimension, Constants, Assign, Go, Test, If, ElseIf, Else, EndIf, Do, Continue, Stop, Read, Print, End}
+use Rattle.f77_grammar.specs.Statement77.{Labelled, Statement77, Program, ImplicitNone, Declare, Dimension, Constants, Assign, Go, Test, If, ElseIf, Else, EndIf, Do, EndDo, Continue, Stop, Read, Print, End}
 use Rattle.f77_grammar.specs.program.Text.{places_from, is_label, bears, stands_in, action}
 use Rattle.f77_grammar.specs.program.Uses.{Use}
 use Rattle.meaning.specs.Profile77.{all_labels_of, all_labels_in_arms, all_labels_in, targets_of, targets_in_arms, targets_in, IsWithoutRepeats, statements_in_arms, statements_in}
@@ -222,7 +222,7 @@ module _ (us : List Use) (s : Store) (named : List ℕ) where
   target_part n x EndIf = omega arith
   target_part n x Else = omega arith
   target_part n x (ElseIf c) = omega arith
-  target_part n x (Do k v a b c) = omega arith
+  target_part n x (Do (Some k) v a b c) = omega arith
   target_part n x c = target_kept n x.line c
 
   targets_kept : (text before xs : List Labelled) (n : ℕ) → AllByRecursion (IsRight text) (places_from before xs) → AllEnd xs (frames xs before 0) → occurs n (targets xs) ≤ in_rest (of_targets n) (rest_from us s named xs)
@@ -245,6 +245,7 @@ module _ (us : List Use) (s : Store) (named : List ℕ) where
   one_action line (Read is) h = omega arith
   one_action line (Print is) h = omega arith
   one_action line (Program x) h = absurd h
+  one_action line ImplicitNone h = absurd h
   one_action line (Declare k es) h = absurd h
   one_action line (Dimension es) h = absurd h
   one_action line (Constants cs) h = absurd h
@@ -254,6 +255,7 @@ module _ (us : List Use) (s : Store) (named : List ℕ) where
   one_action line Else h = absurd h
   one_action line EndIf h = absurd h
   one_action line (Do n x b c d) h = absurd h
+  one_action line EndDo h = absurd h
   one_action line End h = absurd h
 
   two_statements : (line : ℕ) (c : Statement77) → IsSourceStatement c → statements_in (tree.block (simple us s line c)) ≤ 2

@@ -24,6 +24,7 @@ pub mod Programs
 pub mod FirstFindings
 pub mod SourceExpressions
 pub mod RisingLines
+pub mod LoopLabels
 mod WorkedProgram
 pub mod Symbols
 pub mod SourceWords

@@ -90,7 +90,7 @@ module _ (m : Measure) where
     at_most x Else n (InArm ps arms other r) h g = let e = m.none in omega (arith, e)
     at_most x (ElseIf c) n (Outermost ps) h g = omega arith
     at_most x (ElseIf c) n (InArm ps arms other r) h g = let e = m.none in let f = m.more_arms (resolved us s c) (block_of ps) arms in omega (arith, e, f)
-    at_most x (Do k v a b c) n r h g = let e = begun_loop x.line v (resolved us s a) (resolved us s b) (resolved us s c) (mark_of named x.label) k r in omega (arith, e, g)
+    at_most x (Do (Some k) v a b c) n r h g = let e = begun_loop x.line v (resolved us s a) (resolved us s b) (resolved us s c) (mark_of named x.label) k r in omega (arith, e, g)
     at_most x c n r h g = let e = simple_measure x c r in omega (arith, e, h)
 
     -- ---- no less than
@@ -100,7 +100,7 @@ module _ (m : Measure) where
     own_part x EndIf = 0
     own_part x Else = 0
     own_part x (ElseIf c) = 0
-    own_part x (Do k v a b c) = 0
+    own_part x (Do (Some k) v a b c) = 0
     own_part x c = alone x c
 
     else_measure : (x : Labelled) (f : Frames) (r : Rest) → IsShaped (Inner [] true f) r → in_rest r ≤ in_rest (begun us s named x Else r)
@@ -115,5 +115,5 @@ module _ (m : Measure) where
     at_least x Else f g r k h = let e = else_measure x k.outer r (subst (λ (i : Frames). IsShaped i r) k.after h) in omega (arith, e)
     at_least x (ElseIf c) f g (Outermost ps) k h = omega arith
     at_least x (ElseIf c) f g (InArm ps arms other r) k h = let e = m.none in let d = m.more_arms (resolved us s c) (block_of ps) arms in omega (arith, e, d)
-    at_least x (Do i v a b c) f g r k h = let e = begun_loop x.line v (resolved us s a) (resolved us s b) (resolved us s c) (mark_of named x.label) i r in omega (arith, e)
+    at_least x (Do (Some i) v a b c) f g r k h = let e = begun_loop x.line v (resolved us s a) (resolved us s b) (resolved us s c) (mark_of named x.label) i r in omega (arith, e)
     at_least x c f g r k h = let e = simple_measure x c r in omega (arith, e)

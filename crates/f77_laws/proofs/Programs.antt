@@ -25,7 +25,7 @@ use Rattle.f77_laws.proofs.Variables.{variable_used}
 use Rattle.f77_laws.proofs.Frames.{Base}
 use Rattle.f77_laws.proofs.NameKinds.{Knows}
 use Rattle.f77_laws.proofs.Blocks.{IsFine, AreFine, whole_block, around}
-use Rattle.f77_laws.proofs.Statements.{IsCard, IsAt, fine}
+use Rattle.f77_laws.proofs.Statements.{IsCard, IsAt, fine, named_written}
 use Rattle.f77_laws.proofs.LabelCounts.{each_label_once, each_label_named, few_statements}
 use Rattle.f77_laws.proofs.Known.{proper_text, knows, declarations}
 use Rattle.f77_laws.proofs.SymbolicNames.{names_in_text}
@@ -69,6 +69,7 @@ module _ (d : Dialect) (x : Labelled) (xs : List Labelled) (small : d.bits ≤ 1
     depth = omega arith;
     scalars = tt;
     cards = all_of (IsCard text s (declarations d text) known) text (λ y c. record { source = all_at IsSourceCard text y source.each c; among = c });
+    written = named_written text source.each;
   }
 
   body : IsFine (declarations d text) p.body (around [] []) 0

@@ -1,12 +1,10 @@
 -- What is read as an expression is such as cards give: its names are symbolic names, its literals are within range, and it isn't deep.
-use Rattle.std.proofs.Common.{◌≡◌, ℕ, ◌+◌, ◌<◌, ◌≤◌, max, nat_le, Bool, true, false, cond, IsTrue, List, [], ◌∷◌, ◌++◌, refl, sym, ap, subst, le-leb, arith}
+use Rattle.std.proofs.Common.{◌≡◌, ℕ, ◌+◌, ◌<◌, ◌≤◌, max, nat_le, Bool, true, false, cond, List, [], ◌∷◌, ◌++◌, sym, subst, le-leb, arith}
 use Rattle.std.proofs.lemmas.Bool.{cond-true}
-use Rattle.tree.specs.declared.ops.Op.{Op}
-use Rattle.tree.specs.declared.ops.Op.TheVariants.{Pow, Mul, Div, Add, Sub, Lt, Le, Eq, Ne, Gt, Ge, And, Or, Eqv, Neqv}
 use Rattle.tree.specs.Plain.{Expression, Subscript, Only, subscripts}
 use Rattle.meaning.specs.Depths as printing
 use Rattle.meaning.specs.Depths.{enclosed, depth_of, depth_of_subscripts}
-use Rattle.tree.specs.OperatorTable.{Plus, Minus, Negation, left_least, right_least, stands_between}
+use Rattle.tree.specs.OperatorTable.{Plus, Minus, Negation, left_least, right_least}
 use Rattle.f77_grammar.specs.expressions.Phrases.{Phrase, Literal, WideLiteral, Truth, Name, Listed, Paren, Signed, Joined, Phrases, One, Then, IsExpression, AreExpressions, level, tree, trees, depth, depths}
 use Rattle.f77_grammar.proofs.expressions.SourceLaws.{read_source}
 use Rattle.f77_laws.specs.Reading.{ReadExpressionIsSource}

@@ -1,12 +1,12 @@
 -- The statements of a text without findings, as the tree has them.
-use Rattle.std.proofs.Common.{◌≡◌, ℕ, suc, ◌+◌, ◌<◌, ◌≤◌, ◌==◌, nat_le, Bool, true, false, not, ◌&&◌, ◌||◌, cond, Option, Some, None, IfSome, List, [], ◌∷◌, ◌++◌, length, refl, sym, ap, subst, ◌∙◌, arith, Contains, filter, flat_map, leb-false}
+use Rattle.std.proofs.Common.{◌≡◌, ◌⊎◌, inl, inr, ℕ, suc, ◌+◌, ◌<◌, ◌≤◌, ◌==◌, nat_le, Bool, true, false, not, ◌&&◌, ◌||◌, cond, Option, Some, None, List, [], ◌∷◌, ◌++◌, length, refl, sym, ap, subst, ◌∙◌, arith, Contains, filter, flat_map, leb-false}
 use Rattle.std.specs.List.{AllByRecursion, list_any}
 use Rattle.std.proofs.lemmas.Bool.Decides.{nat_tests}
 use Rattle.tree.specs.declared.ops.Kind.TheVariants.{Logical}
 use Rattle.tree.specs.Plain as tree
 use Rattle.tree.specs.Plain.{Expression, Declaration}
 use Rattle.meaning.specs.Store.{Store}
-use Rattle.f77_grammar.specs.Statement77.{Labelled, Statement77, Program, Declare, Dimension, Constants, Assign, Go, Test, If, ElseIf, Else, EndIf, Do, Continue, Stop, Read, Print, End}
+use Rattle.f77_grammar.specs.Statement77.{Labelled, Statement77, Program, ImplicitNone, Declare, Dimension, Constants, Assign, Go, Test, If, ElseIf, Else, EndIf, Do, EndDo, Continue, Stop, Read, Print, End}
 use Rattle.f77_grammar.specs.program.Text.{Place, places_from, is_label, action, stands_in, loop_ends_in, open_ifs, open_loops}
 use Rattle.f77_grammar.specs.program.Uses.{Use, uses_in, uses_of, uses_in_text, is_typed, is_defined, is_array, names_that}
 use Rattle.f77_grammar.specs.program.Labels.{is_wrong_label, is_unknown, label_named}
@@ -19,7 +19,7 @@ use Rattle.meaning.specs.Profile77.{blocks_in, IsLine}
 use Rattle.f77_grammar.specs.program.Tree.{mark_of, target, targets, resolved, simple}
 use Rattle.f77_laws.specs.trees.Steps.{Rest, Outermost, InArm, preceded, begun, rest_from}
 use Rattle.f77_laws.specs.Source.{IsShallow, IsSourceLabel, IsSourceAction, IsSourceStatement, IsSourceCard}
-use Rattle.f77_laws.proofs.Lists.{left_true, right_true, left_false, right_false, affirmed, all_at, all_of, all_both, all_left, all_right, none_any, any_true, in_flat, here}
+use Rattle.f77_laws.proofs.Lists.{left_true, right_true, left_false, right_false, affirmed, all_at, all_of, all_both, all_left, all_right, none_any, any_true, found, in_flat, from_flat, here, nowhere, cases_of}
 use Rattle.f77_laws.proofs.Sound.{IsRight}
 use Rattle.f77_laws.proofs.Frames.{Loop, Frames, Base, Inner, closed, top_closed, frames, variables, depth, variables_are_open, depth_pushed, depth_within}
 use Rattle.f77_laws.proofs.Moves.{Moves, moves, AllEnd, all_end}
@@ -31,9 +31,36 @@ use Rattle.f77_laws.proofs.Blocks.{around, IsFine, AreFine, IsMark, marked_fine,
 
 -- ---- labels
 
-mark_is : (before : List Labelled) (end : Option ℕ) → is_wrong_label before end ≡ false → IfSome end IsSourceLabel → IsMark end
-mark_is before None h g = tt
-mark_is before (Some n) h g = (above n (left_false (n == 0) (stands_in before n) h), g)
+-- a label that a GO TO names is one that can be written
+action_target : (c : Statement77) (n : ℕ) → IsSourceAction c → Contains (target (action c)) n → IsSourceLabel n
+action_target (Go k) n h c = by (cases_of k [] n c)
+  where
+    by : (k ≡ n) ⊎ Contains [] n → IsSourceLabel n
+    by (inl e) = subst IsSourceLabel e h
+    by (inr d) = absurd (nowhere n d)
+action_target (Test t b) n h c = absurd h
+action_target s n h c = absurd (nowhere n c)
+
+statement_target : (c : Statement77) (n : ℕ) → IsSourceStatement c → Contains (target (action c)) n → IsSourceLabel n
+statement_target (Go k) n h c = action_target (Go k) n h c
+statement_target (Test t b) n h c = action_target b n h.1 c
+statement_target s n h c = absurd (nowhere n c)
+
+abbrev pub AreWritten : List ℕ → Type 0
+AreWritten named = (n : ℕ) → list_any (λ j. j == n) named ≡ true → IsSourceLabel n
+
+pub named_written : (text : List Labelled) → AllByRecursion IsSourceCard text → AreWritten (targets text)
+named_written text h n e =
+    let j = found (λ j. j == n) (targets text) e in
+    let y = from_flat (λ (y : Labelled). target (action y.statement)) text j.it j.among in
+    subst IsSourceLabel (same j.it j.passes) (statement_target y.it.statement j.it (all_at IsSourceCard text y.it h y.among).statement y.gives)
+  where
+    same : (j : ℕ) → (j == n) ≡ true → j ≡ n
+    same j e = grind (arith, nat_tests)
+
+mark_is : (named : List ℕ) (before : List Labelled) (end : Option ℕ) → is_wrong_label before end ≡ false → AreWritten named → IsMark named end
+mark_is named before None h g = tt
+mark_is named before (Some n) h g = λ e. (above n (left_false (n == 0) (stands_in before n) h), g n e)
   where
     above : (n : ℕ) → (n == 0) ≡ false → 0 < n
     above n h = grind (arith, nat_tests)
@@ -71,7 +98,7 @@ depth_after (If c) end f g m o h = let e = ap depth m in let k = o refl in omega
 depth_after EndIf end f g m o h = let e = ap depth m.is in omega (arith, e, h)
 depth_after Else end f g m o h = let e = ap depth m.before in let d = ap depth m.after in omega (arith, e, d, h)
 depth_after (ElseIf c) end f g m o h = let e = ap depth m.same in omega (arith, e, h)
-depth_after (Do n v a b c) end f g m o h = let e = ap depth m in let k = o refl in let d = depth_pushed (record { label = n; variable = v }) f in omega (arith, e, k, d)
+depth_after (Do (Some n) v a b c) end f g m o h = let e = ap depth m in let k = o refl in let d = depth_pushed (record { label = n; variable = v }) f in omega (arith, e, k, d)
 depth_after c end f g m o h = let e = ap depth m in let d = closed_depth end f in omega (arith, e, d, h)
 
 -- ---- where no names are misused
@@ -112,6 +139,7 @@ flat_action us s line Stop h = omega arith
 flat_action us s line (Read is) h = omega arith
 flat_action us s line (Print is) h = omega arith
 flat_action us s line (Program x) h = absurd h
+flat_action us s line ImplicitNone h = absurd h
 flat_action us s line (Declare k es) h = absurd h
 flat_action us s line (Dimension es) h = absurd h
 flat_action us s line (Constants cs) h = absurd h
@@ -121,6 +149,7 @@ flat_action us s line (ElseIf c) h = absurd h
 flat_action us s line Else h = absurd h
 flat_action us s line EndIf h = absurd h
 flat_action us s line (Do n x b c d) h = absurd h
+flat_action us s line EndDo h = absurd h
 flat_action us s line End h = absurd h
 
 module _ (text : List Labelled) (s : Store) (ds : List Declaration) (knows : Knows (uses_in_text text) s ds) where
@@ -142,6 +171,7 @@ module _ (text : List Labelled) (s : Store) (ds : List Declaration) (knows : Kno
     pub depth : depth (frames xs before 0) ≤ 100
     pub scalars : AllByRecursion (HasScalar us) before
     pub cards : AllByRecursion IsCard xs
+    pub written : AreWritten (targets text)
 
   good_uses : (before xs : List Labelled) (x : Labelled) → IsAt before (x ∷ xs) → IsExecuted x.statement → AreGood us (uses_of x.statement)
   good_uses before xs x k e =
@@ -220,8 +250,8 @@ module _ (text : List Labelled) (s : Store) (ds : List Declaration) (knows : Kno
     abbrev vars : List (List ℕ)
     vars = loop_variables (record { before = before; here = x; after = xs })
 
-    mark : IsMark x.label
-    mark = mark_is before x.label (left_false (is_wrong_label before x.label) (is_unknown text (label_named (action x.statement))) k.right.0.label) k.cards.0.source.label
+    mark : IsMark named x.label
+    mark = mark_is named before x.label (left_false (is_wrong_label before x.label) (is_unknown text (label_named (action x.statement))) k.right.0.label) k.written
 
     line : IsLine x.line
     line = k.cards.0.source.line
@@ -263,7 +293,7 @@ module _ (text : List Labelled) (s : Store) (ds : List Declaration) (knows : Kno
     step (ElseIf c) g a m h =
         subst (λ (e : Frames). AreFine ds e (begun us s named x (ElseIf c) r)) (sym m.before)
         (else_if_fine ds us s named x c m.had m.outer r (whole us s ds knows c Logical a.source (a.uses tt) a.suits') (inner_depth m.had m.outer m.before) (subst (λ (e : Frames). AreFine ds e r) (m.same ∙ m.before) h))
-    step (Do n v b c d) g a m h =
+    step (Do (Some n) v b c d) g a m h =
         let p = whole_parameters us s ds knows v b c d a.source.2 a.source.3 a.source.4 (a.uses tt) a.suits' in
         loop_fine ds x.line (resolved us s b) (resolved us s c) (resolved us s d) named x.label (record { label = n; variable = v }) f r mark
         (record { line = line; variable = do_variable us s ds knows v (variables f) vars (within before xs x k) a.variable; first = p.first; last = p.last; step = p.step })
@@ -277,6 +307,9 @@ module _ (text : List Labelled) (s : Store) (ds : List Declaration) (knows : Kno
         (a.opened refl))
     step (Assign left e) g a m h = acts (Assign left e) g a.source (a.uses tt) a.suits' a.variable a.jump a.goes m h
     step (Go n) g a m h = acts (Go n) g a.source (a.uses tt) a.suits' a.variable a.jump a.goes m h
+    step (Do None v b c d) g a m h = nothing g m h
+    step EndDo g a m h = nothing g m h
+    step ImplicitNone g a m h = nothing g m h
     step Continue g a m h = acts Continue g a.source (a.uses tt) a.suits' a.variable a.jump a.goes m h
     step Stop g a m h = acts Stop g a.source (a.uses tt) a.suits' a.variable a.jump a.goes m h
     step (Read is) g a m h = acts (Read is) g a.source (a.uses tt) a.suits' a.variable a.jump a.goes m h
@@ -299,6 +332,7 @@ module _ (text : List Labelled) (s : Store) (ds : List Declaration) (knows : Kno
       depth = depth_after x.statement x.label f (frames xs (x ∷ before) 0) (moves text before xs x k.right) (facts before xs x k).opened k.depth;
       scalars = (scalar_here x.statement (facts before xs x k), k.scalars);
       cards = k.cards.1;
+      written = k.written;
     }
 
   pub fine : (before xs : List Labelled) → IsAt before xs → AreFine ds (frames xs before 0) (rest_from us s named xs)

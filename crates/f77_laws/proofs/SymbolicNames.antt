@@ -6,7 +6,7 @@ use Rattle.tree.specs.declared.ops.Kind.{Kind}
 use Rattle.tree.specs.Plain.{Expression, Number, Logic, Named, Unary, Binary, Subscript, Only, Subscripts, no_subscripts, subscript, Item, Single, Constant, ImpliedDo, Items, no_items, item}
 use Rattle.f77_grammar.specs.declared.directions.Direction.{Direction}
 use Rattle.f77_grammar.specs.declared.directions.Direction.TheVariants.{Output, Input}
-use Rattle.f77_grammar.specs.Statement77.{Entity, NamedConstant, Labelled, Statement77, Program, Declare, Dimension, Constants, Assign, Go, Test, If, ElseIf, Else, EndIf, Do, Continue, Stop, Read, Print, End}
+use Rattle.f77_grammar.specs.Statement77.{Entity, NamedConstant, Labelled, Statement77, Program, ImplicitNone, Declare, Dimension, Constants, Assign, Go, Test, If, ElseIf, Else, EndIf, Do, EndDo, Continue, Stop, Read, Print, End}
 use Rattle.f77_grammar.specs.expressions.Spelling as spelling
 use Rattle.f77_grammar.specs.expressions.Printing.{IsSource, IsSourceSubscript, AreSource}
 use Rattle.meaning.specs.Names.{IsSymbolicName, is_letter, is_digit}
@@ -104,6 +104,7 @@ names_in_action Stop h = tt
 names_in_action (Read is) h = names_in_items Input is h.0
 names_in_action (Print is) h = names_in_items Output is h.0
 names_in_action (Program x) h = absurd h
+names_in_action ImplicitNone h = absurd h
 names_in_action (Declare k es) h = absurd h
 names_in_action (Dimension es) h = absurd h
 names_in_action (Constants cs) h = absurd h
@@ -113,6 +114,7 @@ names_in_action (ElseIf c) h = absurd h
 names_in_action Else h = absurd h
 names_in_action EndIf h = absurd h
 names_in_action (Do n x b c d) h = absurd h
+names_in_action EndDo h = absurd h
 names_in_action End h = absurd h
 
 names_in_statement : (c : Statement77) → IsSourceStatement c → AreSymbolic (uses_of c)
@@ -126,6 +128,8 @@ names_in_statement (ElseIf c) h = names_in c h.0
 names_in_statement (Do n x a b c) h = (h.1, names_in_control a b c h.2.0 h.3.0 h.4.0)
 names_in_statement Else h = tt
 names_in_statement EndIf h = tt
+names_in_statement EndDo h = tt
+names_in_statement ImplicitNone h = tt
 names_in_statement End h = tt
 names_in_statement (Assign left e) h = names_in_action (Assign left e) h
 names_in_statement (Go n) h = tt

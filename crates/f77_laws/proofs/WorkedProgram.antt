@@ -1,5 +1,5 @@
 -- Worked decks whose trees are programs of the profile, found so part by part and by the law. Above each text stands the deck that it is of.
-use Rattle.std.proofs.Common.{◌≡◌, refl, List, [], ◌∷◌, Contains, arith, rules}
+use Rattle.std.proofs.Common.{◌≡◌, refl, List, [], ◌∷◌, Some, Contains, arith, rules}
 use lib.Chars.{codes}
 use Rattle.std.specs.List.{AllByRecursion}
 use Rattle.tree.specs.Plain.{Unary, Binary, Single, Constant, ImpliedDo, items}
@@ -31,7 +31,7 @@ abbrev search_loop : List Labelled
 search_loop =
     s 1 (Declare Integer (array "A" ((n 1, n 5) ∷ []) ∷ []))
     ∷ s 2 (Assign (to_element "A" (n 3 ∷ [])) (n 7))
-    ∷ s 3 (Do 20 (codes "I") (n 1) (n 5) (n 1))
+    ∷ s 3 (Do (Some 20) (codes "I") (n 1) (n 5) (n 1))
     ∷ s 4 (Test (Binary Eq (at "A" (v "I" ∷ [])) (n 7)) (Go 30))
     ∷ s 5 (If (Binary Gt (at "A" (v "I" ∷ [])) (n 7)))
     ∷ s 6 (Assign (to_element "A" (v "I" ∷ [])) (n 0))
@@ -96,8 +96,8 @@ sweep =
     ∷ s 10 Else
     ∷ s 11 (Assign (to_element "A" (n 1 ∷ [])) (Binary Add (at "MAX0" (n 1 ∷ v "N" ∷ n 2 ∷ [])) (at "IABS" (v "N" ∷ []))))
     ∷ s 12 EndIf
-    ∷ s 13 (Do 10 (codes "J") (n 1) (n 2) (n 1))
-    ∷ s 14 (Do 10 (codes "K") (n 1) (n 2) (n 1))
+    ∷ s 13 (Do (Some 10) (codes "J") (n 1) (n 2) (n 1))
+    ∷ s 14 (Do (Some 10) (codes "K") (n 1) (n 2) (n 1))
     ∷ s 15 (Test (Binary Eq (v "K") (n 1)) (Go 10))
     ∷ s 16 (Assign (to_element "A" (v "K" ∷ [])) (at "MOD" (v "J" ∷ n 2 ∷ [])))
     ∷ l 10 17 Continue

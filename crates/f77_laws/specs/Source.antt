@@ -1,14 +1,14 @@
 -- Statements as cards give them, each looked at alone (ANSI X3.9-1978, sections 2.2, 3.2 to 3.4, 4.4, 5.1, 6, 11 and
 -- 12).
-use Rattle.std.specs.Prelude.{ℕ, ◌<◌, ◌≤◌, IsTrue, IfSome, List, [], ◌∷◌, length}
+use Rattle.std.specs.Prelude.{ℕ, ◌^◌, ◌<◌, ◌≤◌, IsTrue, IfSome, List, [], ◌∷◌, length}
 use Rattle.std.specs.List.{AllByRecursion}
 use Rattle.tree.specs.Limits.{expression_depth77, array_dimensions}
 use Rattle.tree.specs.Plain.{Expression, Named, Item, Single, Constant, ImpliedDo, Items, no_items, item}
 use Rattle.f77_grammar.specs.declared.directions.Direction.{Direction}
 use Rattle.f77_grammar.specs.declared.directions.Direction.TheVariants.{Output, Input}
-use Rattle.f77_grammar.specs.Statement77.{Entity, NamedConstant, Statement77, Labelled, Program, Declare, Dimension}
-use Rattle.f77_grammar.specs.Statement77.{Constants, Assign, Go, Test, If, ElseIf, Else, EndIf, Do, Continue, Stop}
-use Rattle.f77_grammar.specs.Statement77.{Read, Print, End}
+use Rattle.f77_grammar.specs.Statement77.{Entity, NamedConstant, Statement77, Labelled, Program, ImplicitNone, Declare}
+use Rattle.f77_grammar.specs.Statement77.{Dimension, Constants, Assign, Go, Test, If, ElseIf, Else, EndIf, Do, EndDo}
+use Rattle.f77_grammar.specs.Statement77.{Continue, Stop, Read, Print, End}
 use Rattle.f77_grammar.specs.expressions.Printing.{IsSource}
 use Rattle.meaning.specs.Names.{IsSymbolicName}
 use Rattle.meaning.specs.Depths.{depth_of, depth_of_items}
@@ -49,6 +49,14 @@ abbrev mutual
 abbrev pub IsSourceLabel : ℕ → Type 0
 IsSourceLabel n = n < 100000
 
+-- the label of a loop may be one that END DO has got
+abbrev pub IsLoopLabel : ℕ → Type 0
+IsLoopLabel n = n < 2 ^ 32
+
+abbrev pub IsLabelOf : Statement77 → ℕ → Type 0
+IsLabelOf EndDo n = IsLoopLabel n
+IsLabelOf s n = IsSourceLabel n
+
 pub record IsSourceEntity (e : Entity) : Type 0 where
   pub name : IsSymbolicName e.name
   pub few : length e.bounds ≤ array_dimensions
@@ -67,6 +75,7 @@ IsSourceAction Stop = Unit {0}
 IsSourceAction (Read is) = AreSourceItems Input is × (depth_of_items is ≤ expression_depth77)
 IsSourceAction (Print is) = AreSourceItems Output is × (depth_of_items is ≤ expression_depth77)
 IsSourceAction (Program x) = ⊥
+IsSourceAction ImplicitNone = ⊥
 IsSourceAction (Declare k es) = ⊥
 IsSourceAction (Dimension es) = ⊥
 IsSourceAction (Constants ds) = ⊥
@@ -75,11 +84,13 @@ IsSourceAction (If c) = ⊥
 IsSourceAction (ElseIf c) = ⊥
 IsSourceAction Else = ⊥
 IsSourceAction EndIf = ⊥
-IsSourceAction (Do n x a b c) = ⊥
+IsSourceAction (Do label x a b c) = ⊥
+IsSourceAction EndDo = ⊥
 IsSourceAction End = ⊥
 
 abbrev pub IsSourceStatement : Statement77 → Type 0
 IsSourceStatement (Program x) = IsSymbolicName x
+IsSourceStatement ImplicitNone = Unit {0}
 IsSourceStatement (Declare k es) = AllByRecursion IsSourceEntity es
 IsSourceStatement (Dimension es) = AllByRecursion IsSourceEntity es
 IsSourceStatement (Constants ds) = AllByRecursion IsSourceConstant ds
@@ -88,7 +99,9 @@ IsSourceStatement (If c) = IsShallow c
 IsSourceStatement (ElseIf c) = IsShallow c
 IsSourceStatement Else = Unit {0}
 IsSourceStatement EndIf = Unit {0}
-IsSourceStatement (Do n x a b c) = IsSourceLabel n × IsSymbolicName x × IsShallow a × IsShallow b × IsShallow c
+IsSourceStatement (Do label x a b c) = IfSome label IsLoopLabel × IsSymbolicName x × IsShallow a × IsShallow b
+    × IsShallow c
+IsSourceStatement EndDo = Unit {0}
 IsSourceStatement End = Unit {0}
 IsSourceStatement (Assign left e) = IsSourceAction (Assign left e)
 IsSourceStatement (Go n) = IsSourceAction (Go n)
@@ -100,7 +113,7 @@ IsSourceStatement (Print is) = IsSourceAction (Print is)
 -- ---- cards
 
 pub record IsSourceCard (x : Labelled) : Type 0 where
-  pub label : IfSome x.label IsSourceLabel
+  pub label : IfSome x.label (IsLabelOf x.statement)
   pub line : IsLine x.line
   pub statement : IsSourceStatement x.statement
 

@@ -6,6 +6,8 @@ use Rattle.tree.specs.Limits.{source_bytes}
 use Rattle.f77_grammar.specs.Cards.{PlainCard, ReadsCards}
 use Rattle.f77_grammar.specs.Statement77.{Statement77, Labelled}
 use Rattle.f77_grammar.specs.statements.Reading.{ReadsStatement}
+use Rattle.f77_grammar.specs.program.EndDo.{with_loop_labels}
+use Rattle.f77_grammar.specs.program.Labels.{label_named}
 use Rattle.f77_laws.specs.Source.{IsSourceLabel, IsSourceStatement, AreSourceStatements}
 use Rattle.f77_grammar.specs.Reading77.{AreReadFrom}
 use Rattle.f77_laws.specs.Reading.{HasFewStatements}
@@ -16,7 +18,7 @@ AreCardCharacters chars = AllByRecursion (λ c. (32 ≤ c) × (c ≤ 126)) chars
 
 abbrev pub ReadStatementIsSource : Type 0
 ReadStatementIsSource = (chars : List ℕ) (s : Statement77) → AreCardCharacters chars → ReadsStatement chars s
-    → IsSourceStatement s
+    → IsSourceStatement s × IfSome (label_named s) IsSourceLabel
 
 -- ---- cards
 
@@ -45,6 +47,12 @@ pub record AreSource (text : List Labelled) : Type 0 where
   pub statements : AreSourceStatements text
   pub few : HasFewStatements text
 
+-- and so are they with the labels of their loops
+pub record AreOfSource (text : List Labelled) : Type 0 where
+  pub written : AreSource text
+  pub labels : AllByRecursion (λ (x : Labelled). IfSome x.label IsSourceLabel) text
+  pub labelled : AreSource (with_loop_labels text)
+
 abbrev pub ReadCardsAreSource : Type 0
 ReadCardsAreSource = (text : List ℕ) (cards : List PlainCard) (ss : List Labelled) → ReadsCards text cards
-    → AreReadFrom cards ss → AreSource ss
+    → AreReadFrom cards ss → AreOfSource ss

@@ -2,13 +2,14 @@
 //!
 //! Proved (laws): which block statements form is a relation, in the words of the standard: a block is one unit after
 //! another; a unit is a statement alone, a block IF up to its END IF, or a DO with its range. Statements form at most
-//! one block, whatever they are; where each label stands once they form one exactly where nothing is nested wrongly,
-//! and it is the body of what is computed from the last statement back; so the program that is read, which is the tree
-//! by the relation, is what is computed (`statements_form_one_tree`). Every list of the statements of a program is read
-//! as a program or has one refusal, never both (`text_is_read_or_refused`). That an END IF ends a block IF is a
-//! relation, too: all between them are paired. Each has one partner at most, and it has one exactly where the
-//! definitions that count say so; what these give as standing since an open block IF, or outside those that have ended,
-//! is what stands there; in a block all are paired (`each_block_if_has_one_end_if`).
+//! one block, whatever they are; where each label stands once nothing is nested wrongly exactly where they form one in
+//! which each END DO ends one loop, and that block is the body of what is computed from the last statement back; so the
+//! program that is read, which is the tree by the relation, is what is computed (`statements_form_one_tree`). Every
+//! list of the statements of a program is read as a program or has one refusal, never both
+//! (`text_is_read_or_refused`). That an END IF ends a block IF is a relation, too: all between them are paired. Each
+//! has one partner at most, and it has one exactly where the definitions that count say so; what these give as standing
+//! since an open block IF, or outside those that have ended, is what stands there; in a block all are paired
+//! (`each_block_if_has_one_end_if`).
 //!
 //! **What block statements form is a relation.** A program that is read is the tree of its statements in the words of
 //! the standard (`AreBlock`, `IsTreeOf`): a block is one unit after another, and a unit a statement alone, a block IF

@@ -10,11 +10,11 @@ use Rattle.f77_grammar.specs.program.Uses.{Role, Title, Typed, Bounded, Defined,
 use Rattle.f77_names.specs.declared.names.Facts.{Facts}
 use Rattle.f77_names.specs.declared.uses.Use.{Use as Use'}
 use Rattle.meaning.specs.Names.{is_implicit_integer}
-use Rattle.f77_grammar.specs.program.Declarations.{is_real, has_real_name}
+use Rattle.f77_grammar.specs.program.Declarations.{lacks_type, is_real, has_name}
 use Rattle.f77_names.specs.declared.names.Names.{Names}
 use Rattle.f77_names.specs.declared.known_names.KnownNames.{KnownNames}
 use Rattle.f77_grammar.specs.declared.syntax.statements.Labelled.{Labelled as Labelled'}
-use Rattle.f77_names.specs.NameFacts.{nothing_known, first_given, facts_with, facts_of, facts_in, AreNamesOf, is_variable_by, is_array_by, is_function_by, kind_by, dimensions_by, function_by, function_of, is_real_by, is_real_use}
+use Rattle.f77_names.specs.NameFacts.{nothing_known, first_given, facts_with, facts_of, facts_in, AreNamesOf, is_variable_by, is_array_by, is_function_by, kind_by, dimensions_by, function_by, function_of, lacks_type_by, is_real_by, is_real_use, is_untyped_use}
 use Rattle.f77_grammar.specs.syntax.Views.{text_of, labelled_of, statement_of}
 use Rattle.f77_grammar.specs.syntax.Walk.{place_at}
 use Rattle.f77_names.specs.UsesView.{plain_use, listed}
@@ -290,17 +290,27 @@ no_type (Some k) (Some j) h = refl
 no_type None (Some j) h = sym h
 no_type (Some k) None h = sym h
 
-four : (a b c d a' b' c' d' n n' : Bool) (x : List ℕ) → a ≡ a' → b ≡ b' → c ≡ c' → d ≡ d' → n ≡ n'
-    → ((((a || b || c) && not d) || d) && n && not (is_implicit_integer x)) ≡ ((((a' || b' || c') && not d') || d') && n' && not (is_implicit_integer x))
-four a b c d a' b' c' d' n n' x e f g h m = cc
+four : (a b c d a' b' c' d' n n' : Bool) → a ≡ a' → b ≡ b' → c ≡ c' → d ≡ d' → n ≡ n'
+    → ((((a || b || c) && not d) || d) && n) ≡ ((((a' || b' || c') && not d') || d') && n')
+four a b c d a' b' c' d' n n' e f g h m = cc
 
-real_as_known : (us : List Use) (x : List ℕ) → is_real_by (facts_of nothing_known us x) x ≡ is_real us x
-real_as_known us x =
+untyped_as_known : (us : List Use) (x : List ℕ) → lacks_type_by (facts_of nothing_known us x) ≡ lacks_type us x
+untyped_as_known us x =
     four (is_some (facts_of nothing_known us x).kind) (is_some (facts_of nothing_known us x).dimensions) (facts_of nothing_known us x).bare (facts_of nothing_known us x).constant
     (stands is_typed us x) (stands is_bounded us x) (stands is_bare us x) (stands is_defined us x)
-    (is_none (facts_of nothing_known us x).kind) (is_none (type_of us x)) x
+    (is_none (facts_of nothing_known us x).kind) (is_none (type_of us x))
     (typed_is us x) (bounded_is us x) (bare_is us x) (constant_is us x)
     (no_type (facts_of nothing_known us x).kind (type_of us x) (typed_is us x ∙ sym (type_stands us x)))
+
+real_as_known : (us : List Use) (x : List ℕ) → is_real_by (facts_of nothing_known us x) x ≡ is_real us x
+real_as_known us x = ap (λ b. b && not (is_implicit_integer x)) (untyped_as_known us x)
+
+untyped_uses : (names : Names) (us vs : List Use) → ((x : List ℕ) → facts_in names x ≡ facts_of nothing_known us x)
+    → list_any (is_untyped_use names) vs ≡ list_any (λ (u : Use). not (is_title u.role) && lacks_type us u.name) vs
+untyped_uses names us [] h = refl
+untyped_uses names us (v ∷ vs) h =
+    ap (λ b. (not (is_title v.role) && b) || list_any (is_untyped_use names) vs) (ap lacks_type_by (h v.name) ∙ untyped_as_known us v.name)
+    ∙ ap (λ b. (not (is_title v.role) && lacks_type us v.name) || b) (untyped_uses names us vs h)
 
 real_uses : (names : Names) (us vs : List Use) → ((x : List ℕ) → facts_in names x ≡ facts_of nothing_known us x)
     → list_any (is_real_use names) vs ≡ list_any (λ (u : Use). not (is_title u.role) && is_real us u.name) vs
@@ -316,7 +326,14 @@ names_known k us e = subst (AreNamesOf k.names) e k.known
 -- what the names say of the uses in a statement is what its place says
 pub real_at : (xs : List Labelled') (i : ℕ) (x : Labelled') (names : Names) (uses : List Use')
     → AreNamesOf names (uses_in_text (text_of xs)) → map plain_use uses ≡ uses_of (statement_of x.statement)
-    → list_any (is_real_use names) (map plain_use uses) ≡ has_real_name (uses_in_text (text_of xs)) (place_at (text_of xs) i (labelled_of x))
+    → list_any (is_real_use names) (map plain_use uses) ≡ has_name (is_real (uses_in_text (text_of xs))) (place_at (text_of xs) i (labelled_of x))
 real_at xs i x names uses h e =
     real_uses names (uses_in_text (text_of xs)) (map plain_use uses) h
     ∙ ap (list_any (λ (u : Use). not (is_title u.role) && is_real (uses_in_text (text_of xs)) u.name)) e
+
+pub untyped_at : (xs : List Labelled') (i : ℕ) (x : Labelled') (names : Names) (uses : List Use')
+    → AreNamesOf names (uses_in_text (text_of xs)) → map plain_use uses ≡ uses_of (statement_of x.statement)
+    → list_any (is_untyped_use names) (map plain_use uses) ≡ has_name (lacks_type (uses_in_text (text_of xs))) (place_at (text_of xs) i (labelled_of x))
+untyped_at xs i x names uses h e =
+    untyped_uses names (uses_in_text (text_of xs)) (map plain_use uses) h
+    ∙ ap (list_any (λ (u : Use). not (is_title u.role) && lacks_type (uses_in_text (text_of xs)) u.name)) e

@@ -5,4 +5,5 @@ pub mod ItemUseLaws
 pub mod SeenLaws
 pub mod StatementUseLaws
 pub mod TitleLaws
+pub mod TypingLaws
 pub mod UseLaws

@@ -1,5 +1,5 @@
 -- The uses of names in declarations and statements.
-use Rattle.std.proofs.Common.{◌≡◌, ℕ, suc, ◌+◌, ◌<◌, ◌≢◌, List, [], ◌∷◌, ◌++◌, map, take, length, get_or, refl, sym, ap, ◌∙◌, append_assoc, arith}
+use Rattle.std.proofs.Common.{◌≡◌, ℕ, Option, suc, ◌+◌, ◌<◌, ◌≢◌, List, [], ◌∷◌, ◌++◌, map, take, length, get_or, refl, sym, ap, ◌∙◌, append_assoc, arith}
 use Rattle.std.specs.declared.boxed.Box.{Box}
 use Rattle.std.specs.declared.alloc.Global.{Global}
 use Rattle.std.specs.List.{flat_map}
@@ -22,7 +22,7 @@ use Rattle.f77_grammar.specs.declared.syntax.statements.Labelled.{Labelled as La
 use Rattle.f77_grammar.specs.Statement77.{Labelled}
 use Rattle.f77_grammar.proofs.syntax.Walks.{text_within, text_at}
 use Rattle.f77_grammar.specs.syntax.Views.{statement_of, labelled_of, text_of, bounds_of, entity_of, constant_of}
-use Rattle.f77_grammar.proofs.syntax.Equations.{statement_of-program, statement_of-declare, statement_of-dimension, statement_of-constants, statement_of-assign, statement_of-go, statement_of-test, statement_of-if, statement_of-else_if, statement_of-else, statement_of-end_if, statement_of-do, statement_of-continue, statement_of-stop, statement_of-read, statement_of-print, statement_of-end}
+use Rattle.f77_grammar.proofs.syntax.Equations.{statement_of-program, statement_of-implicit_none, statement_of-declare, statement_of-dimension, statement_of-constants, statement_of-assign, statement_of-go, statement_of-test, statement_of-if, statement_of-else_if, statement_of-else, statement_of-end_if, statement_of-do, statement_of-end_do, statement_of-continue, statement_of-stop, statement_of-read, statement_of-print, statement_of-end}
 use Rattle.f77_names.proofs.UseLaws.{one_more}
 
 -- ---- bounds
@@ -83,7 +83,7 @@ uses-if c = ap plain.uses_of (statement_of-if c)
 pub uses-else_if : (c : Expr) → plain.uses_of (statement_of (stmts.ElseIf c)) ≡ plain.uses_in (expression_of c)
 uses-else_if c = ap plain.uses_of (statement_of-else_if c)
 
-pub uses-do : (n : ℕ) (x : Name) (a b c : Expr) → plain.uses_of (statement_of (stmts.Do n x a b c)) ≡ plain.control_uses x (expression_of a) (expression_of b) (expression_of c)
+pub uses-do : (n : Option ℕ) (x : Name) (a b c : Expr) → plain.uses_of (statement_of (stmts.Do n x a b c)) ≡ plain.control_uses x (expression_of a) (expression_of b) (expression_of c)
 uses-do n x a b c = ap plain.uses_of (statement_of-do n x a b c)
 
 pub uses-read : (is : Seq Item) → plain.uses_of (statement_of (stmts.Read is)) ≡ plain.uses_in_items Input (items (map item_of is))
@@ -91,6 +91,9 @@ uses-read is = ap plain.uses_of (statement_of-read is)
 
 pub uses-print : (is : Seq Item) → plain.uses_of (statement_of (stmts.Print is)) ≡ plain.uses_in_items Output (items (map item_of is))
 uses-print is = ap plain.uses_of (statement_of-print is)
+
+pub uses-implicit_none : plain.uses_of (statement_of stmts.ImplicitNone) ≡ []
+uses-implicit_none = ap plain.uses_of statement_of-implicit_none
 
 pub uses-go : (n : ℕ) → plain.uses_of (statement_of (stmts.Go n)) ≡ []
 uses-go n = ap plain.uses_of (statement_of-go n)
@@ -101,6 +104,9 @@ uses-else = ap plain.uses_of statement_of-else
 pub uses-end_if : plain.uses_of (statement_of stmts.EndIf) ≡ []
 uses-end_if = ap plain.uses_of statement_of-end_if
 
+pub uses-end_do : plain.uses_of (statement_of stmts.EndDo) ≡ []
+uses-end_do = ap plain.uses_of statement_of-end_do
+
 pub uses-continue : plain.uses_of (statement_of stmts.Continue) ≡ []
 uses-continue = ap plain.uses_of statement_of-continue
 
@@ -110,7 +116,7 @@ uses-stop = ap plain.uses_of statement_of-stop
 pub uses-end : plain.uses_of (statement_of stmts.End) ≡ []
 uses-end = ap plain.uses_of statement_of-end
 
-pub ruleset statement_use_laws = (uses-program, uses-declare, uses-dimension, uses-constants, uses-assign, uses-test, uses-if, uses-else_if, uses-do, uses-read, uses-print, uses-go, uses-else, uses-end_if, uses-continue, uses-stop, uses-end, append_assoc, append-nil)
+pub ruleset statement_use_laws = (uses-program, uses-declare, uses-dimension, uses-constants, uses-assign, uses-test, uses-if, uses-else_if, uses-do, uses-read, uses-print, uses-implicit_none, uses-go, uses-else, uses-end_if, uses-end_do, uses-continue, uses-stop, uses-end, append_assoc, append-nil)
 
 -- ---- a text
 

@@ -80,9 +80,16 @@ called_by f u = if not (is_title u.role) && is_function_by f u.name then functio
 abbrev pub function_by : Facts → List ℕ → Option Fun
 function_by f x = if is_function_by f x then function_named x else None
 
--- a variable or symbolic constant without type that doesn't begin with I to N
+-- a variable or symbolic constant without type
+abbrev pub lacks_type_by : Facts → Bool
+lacks_type_by f = (is_variable_by f || f.constant) && is_none f.kind
+
+-- it doesn't begin with I to N either
 abbrev pub is_real_by : Facts → List ℕ → Bool
-is_real_by f x = (is_variable_by f || f.constant) && is_none f.kind && not (is_implicit_integer x)
+is_real_by f x = lacks_type_by f && not (is_implicit_integer x)
 
 abbrev pub is_real_use : Names → Use → Bool
 is_real_use names u = not (is_title u.role) && is_real_by (facts_in names u.name) u.name
+
+abbrev pub is_untyped_use : Names → Use → Bool
+is_untyped_use names u = not (is_title u.role) && lacks_type_by (facts_in names u.name)

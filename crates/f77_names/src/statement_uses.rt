@@ -120,9 +120,11 @@ impl Uses {
             }
             Stmt77::Read(list) => self.add_items(Direction::Input, list),
             Stmt77::Print(list) => self.add_items(Direction::Output, list),
+            Stmt77::ImplicitNone => Ok(()),
             Stmt77::Go(_) => Ok(()),
             Stmt77::Else => Ok(()),
             Stmt77::EndIf => Ok(()),
+            Stmt77::EndDo => Ok(()),
             Stmt77::Continue => Ok(()),
             Stmt77::Stop => Ok(()),
             Stmt77::End => Ok(()),

@@ -14,7 +14,9 @@ use Rattle.f77_grammar.specs.Statement77.{Statement77, Labelled}
 use Rattle.f77_grammar.specs.statements.Reading.{IsRefusedBy}
 use Rattle.meaning.specs.Dialect.{Dialect, fortran77}
 use Rattle.f77_grammar.specs.Answered.{comes_before}
+use Rattle.f77_grammar.specs.program.EndDo.{with_loop_labels}
 use Rattle.f77_grammar.specs.program.Program77.{findings, ReadsStatements, RefusedStatements}
+use Rattle.f77_laws.proofs.LoopLabels.{labelled_rise}
 use Rattle.f77_laws.proofs.trees.Trees.{one_read}
 use Rattle.f77_grammar.proofs.Answered.{one_answer}
 use Rattle.f77_grammar.proofs.programs.Least.{nothing_in}
@@ -85,7 +87,7 @@ answered_card d cards r f = record {
     follows other (AtCard card n w c h) = All-contains (IsNotBefore r) cards card (All-from_recursion (IsNotBefore r) cards f.first) c n w h
     follows other (InText text o a c) = absurd (f.unread text a)
 
-pub answered_text : (d : Dialect) (cards : List PlainCard) (text : List Labelled) (r : Refusal) → AreReadAlone cards text → RefusedStatements d text r → RefusedProgram d cards r
+pub answered_text : (d : Dialect) (cards : List PlainCard) (text : List Labelled) (r : Refusal) → AreReadAlone cards text → RefusedStatements d (with_loop_labels text) r → RefusedProgram d cards r
 answered_text d cards text r a f = record {
   holds = InText text r (are_read cards text a) f.holds;
   first = follows;
@@ -93,15 +95,15 @@ answered_text d cards text r a f = record {
   where
     follows : (other : Refusal) → HasCause d cards other → comes_before other r ≡ false
     follows other (AtCard card n w c h) = absurd (no_refusal_at cards text card n w a c h)
-    follows other (InText t o b c) = f.first o (subst (λ ys. Contains (findings d ys) o) (one_text cards text t a b) c)
+    follows other (InText t o b c) = f.first o (subst (λ ys. Contains (findings d (with_loop_labels ys)) o) (one_text cards text t a b) c)
 
 -- ---- the text of cards that are read
 
-text_refused : (cards : List PlainCard) (text : List Labelled) (e : Refused) → AreReadAlone cards text → IfRefusal e (IsRefusedText text) → IfRefusal e (IsRefusalOf cards)
+text_refused : (cards : List PlainCard) (text : List Labelled) (e : Refused) → AreReadAlone cards text → IfRefusal e (IsRefusedText (with_loop_labels text)) → IfRefusal e (IsRefusalOf cards)
 text_refused cards text (refused.Refusal r) a h = OfText text a h
 text_refused cards text refused.Memory a h = tt
 
-pub text_built : (cards : List PlainCard) (text : List Labelled) (o : Result Program77 Refused) → AreReadAlone cards text → IsTextBuilt text o → AreCardsBuilt cards o
+pub text_built : (cards : List PlainCard) (text : List Labelled) (o : Result Program77 Refused) → AreReadAlone cards text → IsTextBuilt (with_loop_labels text) o → AreCardsBuilt cards o
 text_built cards text (Ok p) a h = record { text = text; statements = a; reads = h }
 text_built cards text (Err e) a h = text_refused cards text e a h
 
@@ -117,7 +119,7 @@ program_if_ok cards (Err e) h = tt
 
 answered_by : (cards : List PlainCard) (r : Refusal) → IsRefusalOf cards r → (10 ≤ r.number → AreRisingCards cards) → RefusedProgram fortran77 cards r
 answered_by cards r (OfCard f) rising = answered_card fortran77 cards r f
-answered_by cards r (OfText text a f) rising = answered_text fortran77 cards text r a (f.first (rising_text cards text (are_read cards text a) (rising f.number)))
+answered_by cards r (OfText text a f) rising = answered_text fortran77 cards text r a (f.first (labelled_rise text (rising_text cards text (are_read cards text a) (rising f.number))))
 
 pub answered_if_refused : (cards : List PlainCard) (o : Result Program77 Refused) (r : Refusal) → AreCardsBuilt cards o → o ≡ Err (refused.Refusal r)
     → (10 ≤ r.number → AreRisingCards cards) → RefusedProgram fortran77 cards r
@@ -125,23 +127,24 @@ answered_if_refused cards o r h e rising = answered_by cards r (subst (AreCardsB
 
 not_refused : (cards : List PlainCard) (r : Refusal) (p : Program) → IsRefusalOf cards r → ReadsProgram fortran77 cards p → ⊥
 not_refused cards r p (OfCard f) g = f.unread g.text g.statements
-not_refused cards r p (OfText text a f) g = f.unsound (subst (λ ys. findings fortran77 ys ≡ []) (one_text cards text g.text a g.statements) g.reads.sound)
+not_refused cards r p (OfText text a f) g = f.unsound (subst (λ ys. findings fortran77 (with_loop_labels ys) ≡ []) (one_text cards text g.text a g.statements) g.reads.sound)
 
 pub only_that_program : (cards : List PlainCard) (o : Result Program77 Refused) → AreCardsBuilt cards o → (p : Program) → ReadsProgram fortran77 cards p
     → IsOkAnd o (λ built. program_of built ≡ p) ⊎ (o ≡ Err refused.Memory)
-only_that_program cards (Ok q) h p g = inl (one_read fortran77 g.text (program_of q) p (subst (λ ys. ReadsStatements fortran77 ys (program_of q)) (sym (one_text cards h.text g.text h.statements g.statements)) h.reads) g.reads)
+only_that_program cards (Ok q) h p g = inl (one_read fortran77 (with_loop_labels g.text) (program_of q) p (subst (λ ys. ReadsStatements fortran77 (with_loop_labels ys) (program_of q)) (sym (one_text cards h.text g.text h.statements g.statements)) h.reads) g.reads)
 only_that_program cards (Err (refused.Refusal r)) h p g = absurd (not_refused cards r p h g)
 only_that_program cards (Err refused.Memory) h p g = inr refl
 
-no_cause : (cards : List PlainCard) (text : List Labelled) (r : Refusal) → AreReadAlone cards text → findings fortran77 text ≡ [] → HasCause fortran77 cards r → ⊥
+no_cause : (cards : List PlainCard) (text : List Labelled) (r : Refusal) → AreReadAlone cards text → findings fortran77 (with_loop_labels text) ≡ [] → HasCause fortran77 cards r → ⊥
 no_cause cards text r a e (AtCard card n w c h) = no_refusal_at cards text card n w a c h
-no_cause cards text r a e (InText t o b c) = nothing_in o (subst (λ xs. Contains xs o) e (subst (λ ys. Contains (findings fortran77 ys) o) (one_text cards text t a b) c))
+no_cause cards text r a e (InText t o b c) = nothing_in o (subst (λ xs. Contains xs o) e (subst (λ ys. Contains (findings fortran77 (with_loop_labels ys)) o) (one_text cards text t a b) c))
 
 -- what is answered of cards that are statements is a finding
 number_of_cause : (cards : List PlainCard) (text : List Labelled) (r : Refusal) → AreReadAlone cards text → HasCause fortran77 cards r → 10 ≤ r.number
 number_of_cause cards text r a (AtCard card n w c h) = absurd (no_refusal_at cards text card n w a c h)
 number_of_cause cards text r a (InText t o b c) =
-    All-contains (λ (other : Refusal). 10 ≤ other.number) (findings fortran77 t) o (All-from_recursion (λ (other : Refusal). 10 ≤ other.number) (findings fortran77 t) (number_of_finding t)) c
+    All-contains (λ (other : Refusal). 10 ≤ other.number) (findings fortran77 (with_loop_labels t)) o
+    (All-from_recursion (λ (other : Refusal). 10 ≤ other.number) (findings fortran77 (with_loop_labels t)) (number_of_finding (with_loop_labels t))) c
 
 same_answer : (cards : List PlainCard) (s r : Refusal) → IsRefusalOf cards s → RefusedProgram fortran77 cards r → (10 ≤ r.number → AreRisingCards cards) → s ≡ r
 same_answer cards s r (OfCard f) g rising = one_answer (HasCause fortran77 cards) s r (answered_card fortran77 cards s f) g

@@ -17,6 +17,7 @@ use Rattle.f77_laws.proofs.Programs.{read_is_program}
 use Rattle.f77_laws.specs.SourceCards.{AreRisingCards}
 use Rattle.f77_laws.proofs.Cards.{read_source_has_cards}
 use Rattle.f77_laws.proofs.CardStatements.{read_cards_are_source}
+use Rattle.f77_grammar.specs.program.EndDo.{with_loop_labels}
 use Rattle.f77_grammar.specs.Reading77.{HasCause, ReadsProgram, RefusedProgram, Reads77, Refused77}
 use Rattle.f77_grammar.specs.Reading77.Refused77.{OfLines, OfCards}
 use Rattle.f77_grammar.proofs.Answered.{one_answer}
@@ -25,7 +26,7 @@ use Rattle.meaning.specs.Dialect.{Dialect, fortran77}
 pub read_is_source_program : (d : Dialect) (source : List ℕ) (cards : List PlainCard) (p : Program) → d.bits ≤ 126 → ReadsCards source cards → ReadsProgram d cards p → IsProgram77 d p
 read_is_source_program d source cards p small c h =
     let s = read_cards_are_source source cards h.text c h.statements in
-    read_is_program d h.text p small h.reads s.statements s.few
+    read_is_program d (with_loop_labels h.text) p small h.reads s.labelled.statements s.labelled.few
 
 pub program_of_source : (source : List ℕ) (cards : List PlainCard) (o : Result Program77 Refused) → ReadsCards source cards → IfOk o (λ p. ReadsProgram fortran77 cards (program_of p))
     → IfOk o (λ p. IsProgram77 fortran77 (program_of p))

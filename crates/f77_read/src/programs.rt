@@ -17,6 +17,7 @@ use crate::cards::read_cards;
 use f77_cards::Card;
 use f77_checks::{Known, check};
 use f77_grammar::syntax::Labelled;
+use f77_structure::with_loop_labels;
 use f77_tree::tree;
 use std::alloc::Global;
 use tree::{Program77, Refused, Seq};
@@ -34,7 +35,8 @@ fn build_cards(alloc: Global, cards: &[Card]) -> Result<Program77, Refused>
     ensures built { AreCardsBuilt (map card_of cards.now) result }
     ensures dimensions { IfOk result (λ program. HaveDimensions program.decls) }
 {
-    let text = read_cards(alloc, cards)?;
+    let written = read_cards(alloc, cards)?;
+    let text = with_loop_labels(alloc, written)?;
     build_text(alloc, text.as_slice())
 }
 

@@ -2,7 +2,7 @@
 use Rattle.std.proofs.Common.{◌≡◌, ℕ, ◌<◌, Bool, true, false, List, refl, ap, sym, ◌∙◌, subst, Result, Err, nat_lt, inl, arith}
 use Rattle.std.specs.Prelude.{◌⊎◌, Some, None}
 use Rattle.std.proofs.lemmas.Bool.Decides.{nat_tests}
-use Rattle.tree.specs.Causes.{number_of_cause}
+use Rattle.tree.specs.Causes.{number_of_cause, refusal_at}
 use Rattle.tree.specs.Limits.{expression_depth77}
 use Rattle.tree.specs.declared.refusals.Cause.TheVariants as causes
 use Rattle.tree.specs.declared.refusals.Refusal.{Refusal}
@@ -133,6 +133,15 @@ pub no_word : (text : List Symbol) → ((w : ℕ) → HasWord text w → None �
 no_word text only = NoWord (λ w h. none_is_some w (only w h)) where
   none_is_some : (w : ℕ) → None ≡ Some w → ⊥
   none_is_some w e = cc
+
+some_number : (a b : ℕ) → Some a ≡ Some b → a ≡ b
+some_number a b e = cc
+
+-- a text with a word is refused for that word alone
+pub word_alone : (text : List Symbol) (r : Refusal) (line w : ℕ) → r ≡ refusal_at (causes.OutOfProfile w) line → HasWord text w → ((v : ℕ) → HasWord text v → Some w ≡ Some v)
+    → (number word : ℕ) → IsFormless text number word → (r.number ≡ number) × (r.word ≡ word)
+word_alone text r line w e h only number word (NoWord none) = absurd (none w h)
+word_alone text r line w e h only number word (Word v k) = (ap (λ (q : Refusal). q.number) e, ap (λ (q : Refusal). q.word) e ∙ some_number w v (only v k))
 
 pub formless_at : (text : List Symbol) (r q : Refusal) → r ≡ q → IsFormless text q.number q.word → IsFormless text r.number r.word
 formless_at text r q e h = subst (λ (x : Refusal). IsFormless text x.number x.word) (sym e) h

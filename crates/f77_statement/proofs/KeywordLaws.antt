@@ -49,6 +49,7 @@ prints_nothing text (inr e) = behind keywords.WriteUnit (chars (codes "WRITE(*,*
 
 pub behind_keyword : (f : Form) → HasKeyword f → (text : List Symbol) → IsWritten f text → IsBehindKeyword text f
 behind_keyword (forms.Program x) k text h = behind keywords.Program (chars (codes "PROGRAM") ++ h.0) h.0 text _ refl h.1 (x, refl, h.2)
+behind_keyword forms.ImplicitNone k text h = behind keywords.ImplicitNone (chars (codes "IMPLICITNONE")) [] text _ refl h (refl, refl)
 behind_keyword (forms.Declare t es) k text h = declared t es text h.0 h.1
 behind_keyword (forms.Dimension es) k text h = behind keywords.Dimension (chars (codes "DIMENSION") ++ h.0.0) h.0.0 text _ refl h.0.1 (es, refl, h.0.2, h.1)
 behind_keyword (forms.Constants ds) k text h = behind keywords.Parameter (chars (codes "PARAMETER") ++ h.0.0) h.0.0 text _ refl h.0.1 (ds, refl, h.0.2, h.1)
@@ -57,6 +58,7 @@ behind_keyword (forms.ElseIf p) k text h =
     behind keywords.ElseIf (chars (codes "ELSEIF(") ++ (h.0 ++ chars (codes ")THEN"))) (h.0 ++ chars (codes ")THEN")) text _ refl h.1 (p, h.0, refl, refl, h.2, h.3)
 behind_keyword forms.Else k text h = behind keywords.Else (chars (codes "ELSE")) [] text _ refl h (refl, refl)
 behind_keyword forms.EndIf k text h = behind keywords.EndIf (chars (codes "ENDIF")) [] text _ refl h (refl, refl)
+behind_keyword forms.EndDo k text h = behind keywords.EndDo (chars (codes "ENDDO")) [] text _ refl h (refl, refl)
 behind_keyword forms.Continue k text h = behind keywords.Continue (chars (codes "CONTINUE")) [] text _ refl h (refl, refl)
 behind_keyword forms.Stop k text h = behind keywords.Stop (chars (codes "STOP")) [] text _ refl h (refl, refl)
 behind_keyword (forms.Read is) k text h = reads is text h.0 h.1
@@ -68,11 +70,13 @@ behind_keyword (forms.Assign l r) k text h = absurd k
 behind_keyword (forms.Test p f) k text h = absurd k
 behind_keyword (forms.If p) k text h = absurd k
 behind_keyword (forms.Do label comma c) k text h = absurd k
+behind_keyword (forms.PlainDo c) k text h = absurd k
 
 -- ---- from the keyword to the form
 
 abbrev spelling : Keyword → List ℕ
 spelling keywords.Program = codes "PROGRAM"
+spelling keywords.ImplicitNone = codes "IMPLICITNONE"
 spelling keywords.Integer = codes "INTEGER"
 spelling keywords.Logical = codes "LOGICAL"
 spelling keywords.Dimension = codes "DIMENSION"
@@ -81,6 +85,7 @@ spelling keywords.GoTo = codes "GOTO"
 spelling keywords.ElseIf = codes "ELSEIF("
 spelling keywords.Else = codes "ELSE"
 spelling keywords.EndIf = codes "ENDIF"
+spelling keywords.EndDo = codes "ENDDO"
 spelling keywords.Continue = codes "CONTINUE"
 spelling keywords.Stop = codes "STOP"
 spelling keywords.End = codes "END"
@@ -106,10 +111,10 @@ first_spelled [] text f a h = cc
 first_spelled (w ∷ ws) text f a h = spelled_or w.0 w.1 text (strip w.0 text) (first_of ws text) f refl a.0 (λ e. first_spelled ws text f a.1 e) h
 
 first_are : AllByRecursion IsSpelling first_keywords
-first_are = (refl, (refl, (refl, (refl, (refl, (refl, (refl, (refl, tt))))))))
+first_are = (refl, (refl, (refl, (refl, (refl, (refl, (refl, (refl, (refl, tt)))))))))
 
 last_are : AllByRecursion IsSpelling last_keywords
-last_are = (refl, (refl, (refl, (refl, (refl, (refl, (refl, (refl, tt))))))))
+last_are = (refl, (refl, (refl, (refl, (refl, (refl, (refl, (refl, (refl, tt)))))))))
 
 either_spelled : (text : List Symbol) (o next : Option Front) (f : Front) → ((g : Front) → o ≡ Some g → IsSpelled text g) → ((g : Front) → next ≡ Some g → IsSpelled text g) → either o next ≡ Some f → IsSpelled text f
 either_spelled text (Some g) next f a b h = a f h
@@ -140,6 +145,7 @@ prints_list text rest f e (inr h) = subst (λ (g : Form). IsWritten g text) (sym
 
 written : (k : Keyword) (text rest : List Symbol) (f : Form) → text ≡ chars (spelling k) ++ rest → IsAfter k rest f → IsWritten f text
 written keywords.Program text rest f e h = subst (λ (g : Form). IsWritten g text) (sym h.1) (rest, e, h.2)
+written keywords.ImplicitNone text rest f e h = subst (λ (g : Form). IsWritten g text) (sym h.0) (whole (codes "IMPLICITNONE") text rest e h.1)
 written keywords.Integer text rest f e h = subst (λ (g : Form). IsWritten g text) (sym h.1) ((rest, e, h.2), h.3)
 written keywords.Logical text rest f e h = subst (λ (g : Form). IsWritten g text) (sym h.1) ((rest, e, h.2), h.3)
 written keywords.Dimension text rest f e h = subst (λ (g : Form). IsWritten g text) (sym h.1) ((rest, e, h.2), h.3)
@@ -148,6 +154,7 @@ written keywords.GoTo text rest f e h = subst (λ (g : Form). IsWritten g text) 
 written keywords.ElseIf text rest f e h = subst (λ (g : Form). IsWritten g text) (sym h.2) (h.1, e ∙ ap (λ (q : List Symbol). chars (codes "ELSEIF(") ++ q) h.3, h.4, h.5)
 written keywords.Else text rest f e h = subst (λ (g : Form). IsWritten g text) (sym h.0) (whole (codes "ELSE") text rest e h.1)
 written keywords.EndIf text rest f e h = subst (λ (g : Form). IsWritten g text) (sym h.0) (whole (codes "ENDIF") text rest e h.1)
+written keywords.EndDo text rest f e h = subst (λ (g : Form). IsWritten g text) (sym h.0) (whole (codes "ENDDO") text rest e h.1)
 written keywords.Continue text rest f e h = subst (λ (g : Form). IsWritten g text) (sym h.0) (whole (codes "CONTINUE") text rest e h.1)
 written keywords.Stop text rest f e h = subst (λ (g : Form). IsWritten g text) (sym h.0) (whole (codes "STOP") text rest e h.1)
 written keywords.End text rest f e h = subst (λ (g : Form). IsWritten g text) (sym h.0) (whole (codes "END") text rest e h.1)

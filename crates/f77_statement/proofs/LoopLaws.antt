@@ -1,6 +1,6 @@
 -- DO statements.
 use Rattle.std.proofs.Common.{◌≡◌, ℕ, Bool, true, false, List, [], ◌∷◌, ◌++◌, refl, ap, sym, ◌∙◌, subst, append_assoc, codes, IsTrue, arith}
-use Rattle.std.specs.Prelude.{Option, Some, ◌==◌}
+use Rattle.std.specs.Prelude.{Option, Some, None, ◌==◌}
 use Rattle.std.specs.List.{list_any}
 use Rattle.std.proofs.lemmas.Bool.{eqb-true}
 use Rattle.std.proofs.lemmas.Bool.Decides.{nat_tests}
@@ -8,7 +8,7 @@ use Rattle.std.proofs.lemmas.List.{map-append}
 use Rattle.tree.specs.View.{expression_of}
 use Rattle.f77_grammar.specs.Statement77 as statement
 use Rattle.f77_grammar.specs.expressions.Reading.{is_wide}
-use Rattle.f77_grammar.specs.expressions.Spelling.{is_digit, is_letter, IsName, Words, Begins, Stops, chars, value}
+use Rattle.f77_grammar.specs.expressions.Spelling.{is_digit, is_letter, IsDigits, IsName, Words, Begins, Stops, chars, value}
 use Rattle.f77_grammar.specs.expressions.Squeezing.{Symbol, Char, Text, Broken}
 use Rattle.f77_grammar.specs.expressions.Words as words
 use Rattle.f77_grammar.specs.expressions.Words.{Word}
@@ -26,7 +26,7 @@ use Rattle.f77_words.specs.declared.lists.controls.DoControl.{DoControl}
 use Rattle.f77_words.specs.lists.Reading.{IsControlOf, IsWholeControl}
 use Rattle.f77_statement.specs.declared.formed.Formed.{Formed}
 use Rattle.f77_statement.specs.Formed.{IsFound}
-use Rattle.f77_statement.specs.Loops.{IsLoopFront}
+use Rattle.f77_statement.specs.Loops.{IsLoopFront, IsFront}
 use Rattle.f77_statement.specs.Parts.{IsFormedOf}
 
 -- ---- a comma that may be left out
@@ -98,6 +98,19 @@ pub front_label : (text more rest : List Symbol) (digits : List ℕ) (comma : Bo
 front_label text more rest digits comma s l b e =
     subst (λ (q : List Symbol). IsLabelled q (value digits) (chars (optional_comma comma) ++ rest)) (some_same _ more (sym (front_stripped text rest digits comma e) ∙ s)) (front_labelled rest digits comma l b)
 
+-- ---- without a label
+
+pub plain_stripped : (text more rest : List Symbol) → strip (codes "DO") text ≡ Some more → text ≡ chars (codes "DO") ++ rest → more ≡ rest
+plain_stripped text more rest s e = some_same more rest (sym s ∙ stripped (codes "DO") text rest e)
+
+digits_begin : (digits : List ℕ) (rest : List Symbol) → IsDigits digits → BeginsWithLetter (chars digits ++ rest) → ⊥
+digits_begin [] rest d h = d
+digits_begin (c ∷ cs) rest d h = let z : true ≡ false = sym d.0 ∙ letter_no_digit c h in cc
+
+-- what begins with a letter has no label
+pub letter_no_label : (more rest : List Symbol) (number : ℕ) → BeginsWithLetter more → IsLabelled more number rest → ⊥
+letter_no_label more rest number b h = digits_begin h.label rest h.is_label.0 (subst BeginsWithLetter h.same b)
+
 -- ---- the whole
 
 name_begins : (x : List ℕ) (rest : List Symbol) → IsName x → BeginsWithLetter (chars x ++ rest)
@@ -110,20 +123,34 @@ text_of_name x text rest b = b.same ∙ ap (λ (q : List Symbol). q ++ rest) (b.
 pub control_begins : (c : Control) (text : List Symbol) → Words text (written_control c) → BeginsWithLetter text
 control_begins c text h = subst BeginsWithLetter (sym (text_of_name c.variable text h.0 h.1)) (name_begins c.variable h.0 h.1.spelled.2.1)
 
-pub formed_loop : (number : ℕ) (k : DoControl) (wide : Bool) (digits : List ℕ) (comma : Bool) (c : Control) → value digits ≡ number → IsControlOf k c → wide ≡ list_any is_wide (written_control c)
-    → IsFormedOf (record { statement = stmts.Do number k.variable k.first k.last k.step; wide = wide; depth = k.depth }) (forms.Do digits comma c)
-formed_loop number k wide digits comma c n h w =
-    let s : statement.Do number k.variable (expression_of k.first) (expression_of k.last) (expression_of k.step) ≡ forms.statement_of (forms.Do digits comma c) =
-    rw (sym n, h.variable, h.first, h.last, h.step) refl in
-    record { statement = statement_of-do number k.variable k.first k.last k.step ∙ s; wide = w; depth = h.depth }
+pub formed_loop : (label : Option ℕ) (k : DoControl) (wide : Bool) (digits : List ℕ) (comma : Bool) (c : Control) → label ≡ Some (value digits) → IsControlOf k c → wide ≡ list_any is_wide (written_control c)
+    → IsFormedOf (record { statement = stmts.Do label k.variable k.first k.last k.step; wide = wide; depth = k.depth }) (forms.Do digits comma c)
+formed_loop label k wide digits comma c n h w =
+    let s : statement.Do label k.variable (expression_of k.first) (expression_of k.last) (expression_of k.step) ≡ forms.statement_of (forms.Do digits comma c) =
+    rw (n, h.variable, h.first, h.last, h.step) refl in
+    record { statement = statement_of-do label k.variable k.first k.last k.step ∙ s; wide = w; depth = h.depth }
 
-pub loop_found : (text rest : List Symbol) (number : ℕ) (ws : List Word) (k : DoControl) (wide : Bool) (made : Formed) → IsLoopFront text number rest → Words rest ws → IsWholeControl ws k
+pub formed_plain : (label : Option ℕ) (k : DoControl) (wide : Bool) (c : Control) → label ≡ None → IsControlOf k c → wide ≡ list_any is_wide (written_control c)
+    → IsFormedOf (record { statement = stmts.Do label k.variable k.first k.last k.step; wide = wide; depth = k.depth }) (forms.PlainDo c)
+formed_plain label k wide c n h w =
+    let s : statement.Do label k.variable (expression_of k.first) (expression_of k.last) (expression_of k.step) ≡ forms.statement_of (forms.PlainDo c) =
+    rw (n, h.variable, h.first, h.last, h.step) refl in
+    record { statement = statement_of-do label k.variable k.first k.last k.step ∙ s; wide = w; depth = h.depth }
+
+pub loop_found : (text rest : List Symbol) (label : Option ℕ) (ws : List Word) (k : DoControl) (wide : Bool) (made : Formed) → IsFront text label rest → Words rest ws → IsWholeControl ws k
     → wide ≡ list_any is_wide ws
-    → ((digits : List ℕ) (comma : Bool) (c : Control) → value digits ≡ number → IsControlOf k c → wide ≡ list_any is_wide (written_control c) → IsFormedOf made (forms.Do digits comma c))
+    → ((digits : List ℕ) (comma : Bool) (c : Control) → label ≡ Some (value digits) → IsControlOf k c → wide ≡ list_any is_wide (written_control c) → IsFormedOf made (forms.Do digits comma c))
+    → ((c : Control) → label ≡ None → IsControlOf k c → wide ≡ list_any is_wide (written_control c) → IsFormedOf made (forms.PlainDo c))
     → IsFound (λ f. IsWritten f text) made
-loop_found text rest number ws k wide made f t h w m =
+loop_found text rest None ws k wide made f t h w m p =
+    record {
+      form = forms.PlainDo h.control;
+      is = ((rest, f, subst (Words rest) h.same t), h.good);
+      made_of = p h.control refl h.is (w ∙ ap (list_any is_wide) h.same);
+    }
+loop_found text rest (Some number) ws k wide made f t h w m p =
     record {
       form = forms.Do f.label f.comma h.control;
       is = ((rest, f.same, subst (Words rest) h.same t), f.is_label, h.good);
-      made_of = m f.label f.comma h.control f.number_is h.is (w ∙ ap (list_any is_wide) h.same);
+      made_of = m f.label f.comma h.control (ap Some (sym f.number_is)) h.is (w ∙ ap (list_any is_wide) h.same);
     }

@@ -20,7 +20,7 @@ use Rattle.f77_grammar.specs.statements.Recognition.{has_equals_outside, IsCondi
 use Rattle.reading.specs.declared.stops.Stop.{Stop}
 use Rattle.f77_words.specs.keywords.Kinds.{HasKeyword}
 use Rattle.f77_words.specs.keywords.Outside.{has_comma_outside}
-use Rattle.f77_words.proofs.keywords.Recognised.{recognised_if, recognised_test, recognised_assign, recognised_do, recognised_keyword}
+use Rattle.f77_words.proofs.keywords.Recognised.{recognised_if, recognised_test, recognised_assign, recognised_do, recognised_plain_do, recognised_keyword}
 use Rattle.f77_grammar.specs.syntax.Views as view
 use Rattle.f77_grammar.specs.declared.syntax.statements.Stmt77.{Stmt77}
 use Rattle.f77_grammar.specs.declared.syntax.statements.Stmt77.TheVariants as stmts
@@ -31,7 +31,7 @@ use Rattle.f77_statement.specs.Actions.{IsCondition, IsConditionOf}
 use Rattle.f77_statement.specs.Conditions.{IsBehindIf, Block, Logical}
 use Rattle.f77_statement.specs.Formed.{IsFound}
 use Rattle.f77_statement.specs.Keywords.{Front, keyword_at, IsAfter}
-use Rattle.f77_statement.specs.Kinds.{is_inner, IsUnconditional, Assignment, Loop, OfKeyword}
+use Rattle.f77_statement.specs.Kinds.{is_inner, IsUnconditional, Assignment, Loop, PlainLoop, OfKeyword}
 use Rattle.f77_statement.specs.Parts.{Given, capped, IsFormedOf}
 use Rattle.f77_statement.proofs.ActionLaws.{cut_is}
 use Rattle.f77_statement.proofs.AssignmentLaws.{any_append}
@@ -47,6 +47,7 @@ opposite false t f = cc
 
 pub inner_is : (f : Form) → is_inner (statement_of f) ≡ true → IsInner f
 inner_is (forms.Program x) e = cc
+inner_is forms.ImplicitNone e = cc
 inner_is (forms.Declare k es) e = cc
 inner_is (forms.Dimension es) e = cc
 inner_is (forms.Constants ds) e = cc
@@ -58,6 +59,8 @@ inner_is (forms.ElseIf p) e = cc
 inner_is forms.Else e = cc
 inner_is forms.EndIf e = cc
 inner_is (forms.Do label comma c) e = cc
+inner_is (forms.PlainDo c) e = cc
+inner_is forms.EndDo e = cc
 inner_is forms.Continue e = tt
 inner_is forms.Stop e = tt
 inner_is (forms.Read is) e = tt
@@ -68,6 +71,7 @@ inner_is forms.End e = cc
 
 pub inner_of : (f : Form) → IsInner f → is_inner (statement_of f) ≡ true
 inner_of (forms.Program x) k = absurd k
+inner_of forms.ImplicitNone k = absurd k
 inner_of (forms.Declare t es) k = absurd k
 inner_of (forms.Dimension es) k = absurd k
 inner_of (forms.Constants ds) k = absurd k
@@ -79,6 +83,8 @@ inner_of (forms.ElseIf p) k = absurd k
 inner_of forms.Else k = absurd k
 inner_of forms.EndIf k = absurd k
 inner_of (forms.Do label comma c) k = absurd k
+inner_of (forms.PlainDo c) k = absurd k
+inner_of forms.EndDo k = absurd k
 inner_of forms.Continue k = refl
 inner_of forms.Stop k = refl
 inner_of (forms.Read is) k = refl
@@ -92,6 +98,7 @@ inner_of forms.End k = absurd k
 -- an inner statement has no condition of its own
 pub inner_unconditional : (f : Form) (text : List Symbol) → IsWritten f text → IsInner f → IsUnconditional text f
 inner_unconditional (forms.Program x) text h k = absurd k
+inner_unconditional forms.ImplicitNone text h k = absurd k
 inner_unconditional (forms.Declare t es) text h k = absurd k
 inner_unconditional (forms.Dimension es) text h k = absurd k
 inner_unconditional (forms.Constants ds) text h k = absurd k
@@ -103,6 +110,8 @@ inner_unconditional (forms.ElseIf p) text h k = absurd k
 inner_unconditional forms.Else text h k = absurd k
 inner_unconditional forms.EndIf text h k = absurd k
 inner_unconditional (forms.Do label comma c) text h k = absurd k
+inner_unconditional (forms.PlainDo c) text h k = absurd k
+inner_unconditional forms.EndDo text h k = absurd k
 inner_unconditional forms.Continue text h k = OfKeyword _ tt h
 inner_unconditional forms.Stop text h k = OfKeyword _ tt h
 inner_unconditional (forms.Read is) text h k = OfKeyword _ tt h
@@ -114,23 +123,28 @@ inner_unconditional forms.End text h k = absurd k
 pub of_keyword : (P : Form → Type 0) (text : List Symbol) (f : Form) → has_equals_outside text 0 ≡ false → ((g : Form) → HasKeyword g → IsWritten g text → P g) → IsUnconditional text f → P f
 of_keyword P text f e p (Assignment l r h) = absurd (opposite _ (recognised_assign l r text h).equals e)
 of_keyword P text f e p (Loop label comma c h) = absurd (opposite _ (recognised_do label comma c text h).equals e)
+of_keyword P text f e p (PlainLoop c h) = absurd (opposite _ (recognised_plain_do c text h).equals e)
 of_keyword P text f e p (OfKeyword g k h) = p g k h
 
 pub of_loop : (P : Form → Type 0) (text : List Symbol) (f : Form) → has_equals_outside text 0 ≡ true → has_comma_outside text 0 false ≡ true
-    → ((label : List ℕ) (comma : Bool) (c : Control) → IsWritten (forms.Do label comma c) text → P (forms.Do label comma c)) → IsUnconditional text f → P f
-of_loop P text f e k p (Assignment l r h) = absurd (opposite _ k (recognised_assign l r text h).no_comma)
-of_loop P text f e k p (Loop label comma c h) = p label comma c h
-of_loop P text f e k p (OfKeyword g w h) = absurd (opposite _ e (recognised_keyword g w text h).no_equals)
+    → ((label : List ℕ) (comma : Bool) (c : Control) → IsWritten (forms.Do label comma c) text → P (forms.Do label comma c))
+    → ((c : Control) → IsWritten (forms.PlainDo c) text → P (forms.PlainDo c)) → IsUnconditional text f → P f
+of_loop P text f e k p q (Assignment l r h) = absurd (opposite _ k (recognised_assign l r text h).no_comma)
+of_loop P text f e k p q (Loop label comma c h) = p label comma c h
+of_loop P text f e k p q (PlainLoop c h) = q c h
+of_loop P text f e k p q (OfKeyword g w h) = absurd (opposite _ e (recognised_keyword g w text h).no_equals)
 
 pub of_assignment : (P : Form → Type 0) (text : List Symbol) (f : Form) → has_equals_outside text 0 ≡ true → has_comma_outside text 0 false ≡ false
     → ((l r : Phrase) → IsWritten (forms.Assign l r) text → P (forms.Assign l r)) → IsUnconditional text f → P f
 of_assignment P text f e k p (Assignment l r h) = p l r h
 of_assignment P text f e k p (Loop label comma c h) = absurd (opposite _ (recognised_do label comma c text h).comma k)
+of_assignment P text f e k p (PlainLoop c h) = absurd (opposite _ (recognised_plain_do c text h).comma k)
 of_assignment P text f e k p (OfKeyword g w h) = absurd (opposite _ e (recognised_keyword g w text h).no_equals)
 
 no_condition : (text : List Symbol) (f : Form) → IsUnconditional text f → (condition rest : List Symbol) → IsConditional text condition rest → ⊥
 no_condition text f (Assignment l r h) condition rest k = (recognised_assign l r text h).unconditional condition rest k
 no_condition text f (Loop label comma c h) condition rest k = (recognised_do label comma c text h).unconditional condition rest k
+no_condition text f (PlainLoop c h) condition rest k = (recognised_plain_do c text h).unconditional condition rest k
 no_condition text f (OfKeyword g w h) condition rest k = (recognised_keyword g w text h).unconditional condition rest k
 
 -- ---- with a condition
@@ -139,6 +153,7 @@ no_condition text f (OfKeyword g w h) condition rest k = (recognised_keyword g w
 no_then_behind : (text : List Symbol) (f : Form) → text ≡ chars (codes "THEN") → IsUnconditional text f → IsInner f → ⊥
 no_then_behind text f e (Assignment l r h) k = opposite _ (recognised_assign l r text h).equals (ap (λ (q : List Symbol). has_equals_outside q 0) e)
 no_then_behind text f e (Loop label comma c h) k = absurd k
+no_then_behind text f e (PlainLoop c h) k = absurd k
 no_then_behind text f e (OfKeyword g w h) k =
     let b = behind_keyword g w text h in
     let n : keyword_at text ≡ None = ap keyword_at e in
@@ -154,6 +169,7 @@ pub data IsRecognised (text : List Symbol) (f : Form) : Type 0 where
 
 recognised : (f : Form) (text : List Symbol) → IsWritten f text → IsRecognised text f
 recognised (forms.Program x) text h = WithoutCondition (OfKeyword _ tt h)
+recognised forms.ImplicitNone text h = WithoutCondition (OfKeyword _ tt h)
 recognised (forms.Declare t es) text h = WithoutCondition (OfKeyword _ tt h)
 recognised (forms.Dimension es) text h = WithoutCondition (OfKeyword _ tt h)
 recognised (forms.Constants ds) text h = WithoutCondition (OfKeyword _ tt h)
@@ -165,6 +181,8 @@ recognised (forms.ElseIf p) text h = WithoutCondition (OfKeyword _ tt h)
 recognised forms.Else text h = WithoutCondition (OfKeyword _ tt h)
 recognised forms.EndIf text h = WithoutCondition (OfKeyword _ tt h)
 recognised (forms.Do label comma c) text h = WithoutCondition (Loop label comma c h)
+recognised (forms.PlainDo c) text h = WithoutCondition (PlainLoop c h)
+recognised forms.EndDo text h = WithoutCondition (OfKeyword _ tt h)
 recognised forms.Continue text h = WithoutCondition (OfKeyword _ tt h)
 recognised forms.Stop text h = WithoutCondition (OfKeyword _ tt h)
 recognised (forms.Read is) text h = WithoutCondition (OfKeyword _ tt h)

@@ -13,9 +13,9 @@ use Rattle.f77_grammar.specs.statements.Forms.{Form, IsLabel, Entity, IsEntity, 
 use Rattle.f77_grammar.specs.statements.Forms.{IsDefinition, written_definition, separated, IsList}
 use Rattle.f77_expressions.specs.Lexing.{strip}
 use Rattle.f77_statement.specs.declared.keywords.Keyword.{Keyword}
-use Rattle.f77_statement.specs.declared.keywords.Keyword.TheVariants.{Program, Integer, Logical, Dimension, Parameter}
-use Rattle.f77_statement.specs.declared.keywords.Keyword.TheVariants.{GoTo}
-use Rattle.f77_statement.specs.declared.keywords.Keyword.TheVariants.{ElseIf, Else, EndIf, Continue, Stop, End}
+use Rattle.f77_statement.specs.declared.keywords.Keyword.TheVariants.{Program, ImplicitNone, Integer, Logical}
+use Rattle.f77_statement.specs.declared.keywords.Keyword.TheVariants.{Dimension, Parameter, GoTo}
+use Rattle.f77_statement.specs.declared.keywords.Keyword.TheVariants.{ElseIf, Else, EndIf, EndDo, Continue, Stop, End}
 use Rattle.f77_statement.specs.declared.keywords.Keyword.TheVariants.{ReadUnit}
 use Rattle.f77_statement.specs.declared.keywords.Keyword.TheVariants.{ReadList, WriteUnit, PrintList}
 
@@ -34,14 +34,14 @@ first_of (w ∷ ws) text = or_else (strip w.0 text) w.1 (first_of ws text)
 -- a longer keyword stands before one that begins it
 abbrev pub first_keywords : List (List ℕ × Keyword)
 first_keywords =
-    (codes "PROGRAM", Program) ∷ (codes "INTEGER", Integer) ∷ (codes "LOGICAL", Logical)
-    ∷ (codes "DIMENSION", Dimension) ∷ (codes "PARAMETER", Parameter) ∷ (codes "GOTO", GoTo)
-    ∷ (codes "ELSEIF(", ElseIf) ∷ (codes "ELSE", Else) ∷ []
+    (codes "PROGRAM", Program) ∷ (codes "IMPLICITNONE", ImplicitNone) ∷ (codes "INTEGER", Integer)
+    ∷ (codes "LOGICAL", Logical) ∷ (codes "DIMENSION", Dimension) ∷ (codes "PARAMETER", Parameter)
+    ∷ (codes "GOTO", GoTo) ∷ (codes "ELSEIF(", ElseIf) ∷ (codes "ELSE", Else) ∷ []
 
 abbrev pub last_keywords : List (List ℕ × Keyword)
 last_keywords =
-    (codes "ENDIF", EndIf) ∷ (codes "END", End) ∷ (codes "CONTINUE", Continue) ∷ (codes "STOP", Stop)
-    ∷ (codes "READ(*,*)", ReadUnit) ∷ (codes "READ*", ReadList) ∷ (codes "WRITE(*,*)", WriteUnit)
+    (codes "ENDIF", EndIf) ∷ (codes "ENDDO", EndDo) ∷ (codes "END", End) ∷ (codes "CONTINUE", Continue)
+    ∷ (codes "STOP", Stop) ∷ (codes "READ(*,*)", ReadUnit) ∷ (codes "READ*", ReadList) ∷ (codes "WRITE(*,*)", WriteUnit)
     ∷ (codes "PRINT*", PrintList) ∷ []
 
 abbrev pub either : Option Front → Option Front → Option Front
@@ -96,6 +96,7 @@ AfterComma Is rest f = (list : List Symbol) × (rest ≡ chars (codes ",") ++ li
 -- The form f stands so behind the keyword.
 abbrev pub IsAfter : Keyword → List Symbol → Form → Type 0
 IsAfter Program rest f = IsProgramAfter rest f
+IsAfter ImplicitNone rest f = IsNothingAfter forms.ImplicitNone rest f
 IsAfter Integer rest f = IsDeclarationAfter kinds.Integer rest f
 IsAfter Logical rest f = IsDeclarationAfter kinds.Logical rest f
 IsAfter Dimension rest f = IsDimensionAfter rest f
@@ -104,6 +105,7 @@ IsAfter GoTo rest f = IsGoToAfter rest f
 IsAfter ElseIf rest f = IsElseIfAfter rest f
 IsAfter Else rest f = IsNothingAfter forms.Else rest f
 IsAfter EndIf rest f = IsNothingAfter forms.EndIf rest f
+IsAfter EndDo rest f = IsNothingAfter forms.EndDo rest f
 IsAfter Continue rest f = IsNothingAfter forms.Continue rest f
 IsAfter Stop rest f = IsNothingAfter forms.Stop rest f
 IsAfter End rest f = IsNothingAfter forms.End rest f

@@ -1,17 +1,16 @@
 //! The form of a statement.
-ghost use Rattle.std.specs.Prelude.{◌≡◌, ℕ, ◌++◌, ◌||◌, max, Bool, List, IfOk, IfSome, codes};
+ghost use Rattle.std.specs.Prelude.{◌≡◌, ℕ, ◌++◌, ◌||◌, max, Bool, Some, None, List, IfOk, IfSome, codes};
 ghost use Rattle.std.specs.List.{list_any};
 ghost use Rattle.tree.specs.View.{expression_of};
 ghost use Rattle.f77_grammar.specs.expressions.Phrases.{Phrase};
 ghost use Rattle.f77_grammar.specs.expressions.Reading.{is_wide};
 ghost use Rattle.f77_grammar.specs.expressions.Spelling.{value, chars};
 ghost use Rattle.f77_grammar.specs.expressions.Squeezing as squeezing;
-ghost use Rattle.f77_grammar.specs.statements.Forms.{Form, Assign, Do, Test, IsWritten, IsInner, IsLabel};
+ghost use Rattle.f77_grammar.specs.statements.Forms.{Form, Assign, Do, PlainDo, Test, IsWritten, IsInner, IsLabel};
 ghost use Rattle.f77_grammar.specs.statements.Forms.{optional_comma};
 ghost use Rattle.f77_grammar.specs.statements.Controls.{Control, written_control};
 ghost use Rattle.f77_grammar.specs.statements.Recognition.{BeginsWithLetter};
 ghost use Rattle.f77_expressions.specs.Symbols.{symbols_of};
-ghost use Rattle.f77_words.specs.keywords.Fronts.{GivesLabel};
 ghost use Rattle.f77_words.specs.keywords.Kinds.{HasKeyword};
 ghost use Rattle.f77_grammar.specs.syntax.Views as view;
 ghost use Rattle.f77_statement.specs.Actions.{IsConditionOf};
@@ -19,7 +18,7 @@ ghost use Rattle.f77_statement.specs.Conditions.{IsBehindIf};
 ghost use Rattle.f77_statement.specs.Formed.{IsFound};
 ghost use Rattle.f77_statement.specs.Keywords.{IsAfter};
 ghost use Rattle.f77_statement.specs.Kinds.{is_inner, IsUnconditional};
-ghost use Rattle.f77_statement.specs.Loops.{IsLoopFront};
+ghost use Rattle.f77_statement.specs.Loops.{IsFront, GivesFront};
 ghost use Rattle.f77_words.specs.lists.Reading.{IsControlOf};
 ghost use Rattle.f77_statement.specs.Parts.{Given, IsFormedOf};
 
@@ -51,6 +50,7 @@ fn is_inner(statement: &Stmt77) -> bool
         Stmt77::Read(_) => true,
         Stmt77::Print(_) => true,
         Stmt77::Program(_) => false,
+        Stmt77::ImplicitNone => false,
         Stmt77::Declare(_, _) => false,
         Stmt77::Dimension(_) => false,
         Stmt77::Constants(_) => false,
@@ -60,6 +60,7 @@ fn is_inner(statement: &Stmt77) -> bool
         Stmt77::Else => false,
         Stmt77::EndIf => false,
         Stmt77::Do(_, _, _, _, _) => false,
+        Stmt77::EndDo => false,
         Stmt77::End => false,
     }
 }
@@ -74,22 +75,29 @@ fn assignment_statement(alloc: Global, text: &[Symbol]) -> Result<Formed, Stop>
     assignment(alloc, tokens.as_slice())
 }
 
-// The label of a DO, and what follows it and its comma.
-fn loop_label(text: &[Symbol]) -> Option<(u32, &[Symbol])>
-    ensures found { IfSome result (λ r. IsLoopFront (symbols_of text.now) r.0 (symbols_of r.1.now)) }
+// The label of a DO, if there is one, and what follows it and its comma.
+fn loop_front(text: &[Symbol]) -> Option<(Option<u32>, &[Symbol])>
+    ensures found { IfSome result (λ r. IsFront (symbols_of text.now) r.0 (symbols_of r.1.now)) }
     ensures only { (digits : List ℕ) (comma : Bool) (rest : List squeezing.Symbol) → IsLabel digits
         → BeginsWithLetter rest
         → symbols_of text.now ≡ chars (codes "DO" ++ (digits ++ optional_comma comma)) ++ rest
-        → GivesLabel result (value digits) rest }
+        → GivesFront result (Some (value digits)) rest }
+    ensures only_plain { (rest : List squeezing.Symbol) → BeginsWithLetter rest
+        → symbols_of text.now ≡ chars (codes "DO") ++ rest → GivesFront result None rest }
 {
     let rest = strip(b"DO", text)?;
-    let (number, rest) = label(rest)?;
-    Some((number, behind_comma(rest)))
+    match label(rest) {
+        Some((number, behind)) => Some((Some(number), behind_comma(behind))),
+        None => Some((None, rest)),
+    }
 }
 
-fn loop_statement(label: u32, control: DoControl, wide: bool) -> Formed
-    ensures { (digits : List ℕ) (comma : Bool) (c : Control) → value digits ≡ label → IsControlOf control c
-        → wide ≡ list_any is_wide (written_control c) → IsFormedOf result (Do digits comma c) }
+fn loop_statement(label: Option<u32>, control: DoControl, wide: bool) -> Formed
+    ensures labelled { (digits : List ℕ) (comma : Bool) (c : Control) → label ≡ Some (value digits)
+        → IsControlOf control c → wide ≡ list_any is_wide (written_control c)
+        → IsFormedOf result (Do digits comma c) }
+    ensures plain { (c : Control) → label ≡ None → IsControlOf control c
+        → wide ≡ list_any is_wide (written_control c) → IsFormedOf result (PlainDo c) }
 {
     let DoControl {
         variable,
@@ -110,8 +118,10 @@ fn do_statement(alloc: Global, text: &[Symbol]) -> Result<Formed, Stop>
     ensures found { IfOk result (IsFound (λ f. IsWritten f (symbols_of text.now))) }
     ensures only { (digits : List ℕ) (comma : Bool) (c : Control) → IsWritten (Do digits comma c) (symbols_of text.now)
         → Given result (λ made. IsFormedOf made (Do digits comma c)) }
+    ensures only_plain { (c : Control) → IsWritten (PlainDo c) (symbols_of text.now)
+        → Given result (λ made. IsFormedOf made (PlainDo c)) }
 {
-    let Some((label, rest)) = loop_label(text) else {
+    let Some((label, rest)) = loop_front(text) else {
         return Err(Stop::Syntax);
     };
     let tokens = words(alloc, rest)?;
@@ -126,6 +136,7 @@ fn behind_keyword(alloc: Global, keyword: Keyword, rest: &[Symbol]) -> Result<Fo
 {
     match keyword {
         Keyword::Program => program(alloc, rest),
+        Keyword::ImplicitNone => nothing(Stmt77::ImplicitNone, rest),
         Keyword::Integer => declaration(alloc, Kind::Integer, rest),
         Keyword::Logical => declaration(alloc, Kind::Logical, rest),
         Keyword::Dimension => dimension(alloc, rest),
@@ -134,6 +145,7 @@ fn behind_keyword(alloc: Global, keyword: Keyword, rest: &[Symbol]) -> Result<Fo
         Keyword::ElseIf => else_if(alloc, rest),
         Keyword::Else => nothing(Stmt77::Else, rest),
         Keyword::EndIf => nothing(Stmt77::EndIf, rest),
+        Keyword::EndDo => nothing(Stmt77::EndDo, rest),
         Keyword::Continue => nothing(Stmt77::Continue, rest),
         Keyword::Stop => nothing(Stmt77::Stop, rest),
         Keyword::End => nothing(Stmt77::End, rest),

@@ -12,6 +12,7 @@ use f77_expressions::{Symbol, strip};
 #[derive(Clone, Copy, Debug, PartialEq, Eq)]
 pub(crate) enum Keyword {
     Program,
+    ImplicitNone,
     Integer,
     Logical,
     Dimension,
@@ -20,6 +21,7 @@ pub(crate) enum Keyword {
     ElseIf,
     Else,
     EndIf,
+    EndDo,
     Continue,
     Stop,
     End,
@@ -47,6 +49,7 @@ impl Keyword {
     {
         first_keyword!(text;
             b"PROGRAM" => Program,
+            b"IMPLICITNONE" => ImplicitNone,
             b"INTEGER" => Integer,
             b"LOGICAL" => Logical,
             b"DIMENSION" => Dimension,
@@ -62,6 +65,7 @@ impl Keyword {
     {
         first_keyword!(text;
             b"ENDIF" => EndIf,
+            b"ENDDO" => EndDo,
             b"END" => End,
             b"CONTINUE" => Continue,
             b"STOP" => Stop,

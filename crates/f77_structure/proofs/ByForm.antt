@@ -4,8 +4,8 @@ use Rattle.f77_grammar.specs.Statement77 as S
 use Rattle.f77_grammar.specs.Statement77.{Labelled}
 use Rattle.f77_grammar.specs.program.Text.{Place}
 use Rattle.f77_grammar.specs.program.Labels.{label_named}
-use Rattle.f77_grammar.specs.program.Order.{is_executable, is_late, is_nothing, stands_after_executable, is_ended_wrongly}
-use Rattle.f77_structure.specs.Forms.{form_of, label_in, is_executable_form, is_late_form, is_wrong_end_form}
+use Rattle.f77_grammar.specs.program.Order.{is_executable, follows_title, is_late, is_nothing, stands_after_more, stands_after_executable, is_ended_wrongly}
+use Rattle.f77_structure.specs.Forms.{form_of, label_in, is_executable_form, follows_title_form, is_late_form, is_wrong_end_form}
 
 pub label_named-form : (s : S.Statement77) → label_named s ≡ label_in (form_of s)
 label_named-form (S.Go n) = refl
@@ -15,7 +15,11 @@ pub is_executable-form : (s : S.Statement77) → is_executable s ≡ is_executab
 is_executable-form S.End = refl
 is_executable-form s = refl
 
-pub is_late-form : (s : S.Statement77) (p : Place) → is_late s p ≡ is_late_form (form_of s) (is_nothing p.before) (stands_after_executable p)
+pub follows_title-form : (s : S.Statement77) → follows_title s ≡ follows_title_form (form_of s)
+follows_title-form S.End = refl
+follows_title-form s = refl
+
+pub is_late-form : (s : S.Statement77) (p : Place) → is_late s p ≡ is_late_form (form_of s) (is_nothing p.before) (stands_after_more p) (stands_after_executable p)
 is_late-form S.End p = refl
 is_late-form s p = refl
 

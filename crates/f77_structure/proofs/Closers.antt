@@ -2,9 +2,9 @@
 use Rattle.std.proofs.Common.{◌≡◌, ℕ, suc, ◌+◌, ◌-◌, ◌<◌, ◌≤◌, nat_lt, Bool, true, false, not, ◌||◌, ◌&&◌, cond, Option, Some, None, is_some, List, [], ◌∷◌, length, get_or, take, drop, reverse, refl, sym, ap, ◌∙◌, arith}
 use Rattle.std.specs.List.{list_any}
 use Rattle.std.proofs.lemmas.Bool.Decides.{nat_tests}
-use Rattle.f77_grammar.specs.Statement77.{Labelled, Statement77, Go, If, ElseIf, Else, EndIf, Do, Stop, End}
+use Rattle.f77_grammar.specs.Statement77.{Labelled, Statement77, Go, If, ElseIf, Else, EndIf, Do, EndDo, Stop, End}
 use Rattle.f77_grammar.specs.program.Text.{stands_in, is_label, loop_ends_in, is_last_else}
-use Rattle.f77_grammar.specs.program.Nesting.{since_if, own_since_if, has_open_if, since_do, begins_loop, is_do_of, is_loop_open, is_anything_open, is_no_loop_end, nests_wrongly, ends_loops_wrongly, is_closed_wrongly}
+use Rattle.f77_grammar.specs.program.Nesting.{since_if, own_since_if, has_open_if, since_do, begins_loop, is_do_of, is_loop_open, is_anything_open, is_no_loop_end, ends_not_one, nests_wrongly, ends_loops_wrongly, is_closed_wrongly}
 use Rattle.f77_structure.specs.declared.openings.OpenIf.{OpenIf}
 use Rattle.f77_structure.specs.declared.openings.OpenLoop.{OpenLoop}
 use Rattle.f77_structure.specs.declared.forms.Form.{Form}
@@ -13,7 +13,7 @@ use Rattle.f77_grammar.specs.declared.syntax.statements.Labelled.{Labelled as La
 use Rattle.f77_grammar.specs.syntax.Views.{labelled_of, text_of, statement_of}
 use Rattle.f77_grammar.specs.syntax.Walk.{passed, place_at}
 use Rattle.f77_structure.specs.Forms.{form_of, begun_in, is_no_end_form}
-use Rattle.f77_structure.specs.Openings.{first_of, place_in, had_else_in, nearest_at, trimmed, opened, or_here, next_frames, next_loops, frames_of, loops_of, last_with, end_of, first_do, is_from, is_behind, begins_behind, lacks_if, refuses_else, is_unpaired, closes_wrongly, ends_wrongly, has_wrong_closer, under}
+use Rattle.f77_structure.specs.Openings.{first_of, place_in, had_else_in, nearest_at, trimmed, opened, or_here, next_frames, next_loops, frames_of, loops_of, last_with, end_of, first_do, is_from, is_behind, begins_behind, lacks_if, lacks_loop, refuses, is_unpaired, closes_wrongly, ends_wrongly, has_wrong_closer, under}
 use Rattle.f77_structure.proofs.OpenIfs.{open_as_kept, else_as_kept, since_as_kept, near_as_kept, if_below, is_within}
 use Rattle.f77_structure.proofs.OpenLoops.{open_since, stands_from, first_do_is, first_do_below, since_do_is}
 use Rattle.f77_grammar.proofs.syntax.Walks.{text_passed, text_left, passed_length}
@@ -75,7 +75,7 @@ no_end Else = refl
 no_end EndIf = refl
 no_end Stop = refl
 no_end End = refl
-no_end (Do n x a b c) = refl
+no_end (Do label x a b c) = refl
 no_end s = refl
 
 three : (a b c b' c' : Bool) → b ≡ b' → c ≡ c' → (a || (b || c)) ≡ (a || (b' || c'))
@@ -99,6 +99,27 @@ loops_end xs after ends h s n = cases (first_do xs n) (first_do_is n xs) (first_
         (begins_behind (first_of (frames_of xs)) k) (is_behind (nearest_at (trimmed (length xs + 1) (loops_of ends xs))) k)
         (near_as_kept xs (length xs - suc k) 0 ∙ within_behind (length xs) k (place_in (frames_of xs) 0) lt ∙ behind_place (frames_of xs) k)
         (open_since after (length xs + 1) ends h xs k (omega arith) lt)
+
+-- ---- END DO
+
+lacks_as_kept : (xs : List Labelled) (x : Labelled) (after : List Labelled) (ends : ℕ → Option ℕ) → ((n : ℕ) → stands_in (x ∷ after) n ≡ is_from (length xs) (ends n)) → (n : ℕ)
+    → (not (list_any (begins_loop n) xs) || is_loop_open (since_do n xs) (x ∷ after)) ≡ lacks_loop (first_do xs n) (nearest_at (trimmed (length xs) (loops_of ends xs)))
+lacks_as_kept xs x after ends h n = cases (first_do xs n) (first_do_is n xs) (first_do_below n xs) (since_do_is n xs)
+  where
+    cases : (o : Option ℕ) → list_any (begins_loop n) xs ≡ is_some o → ((k : ℕ) → o ≡ Some k → k < length xs) → ((k : ℕ) → o ≡ Some k → since_do n xs ≡ take (length xs - suc k) xs)
+        → (not (list_any (begins_loop n) xs) || is_loop_open (since_do n xs) (x ∷ after)) ≡ lacks_loop o (nearest_at (trimmed (length xs) (loops_of ends xs)))
+    cases None some below is = ap (λ t. not t || is_loop_open (since_do n xs) (x ∷ after)) some
+    cases (Some k) some below is =
+        ap (λ t. not t || is_loop_open (since_do n xs) (x ∷ after)) some
+        ∙ ap (λ ys. is_loop_open ys (x ∷ after)) (is k refl)
+        ∙ open_since (x ∷ after) (length xs) ends h xs k (omega arith) (below k refl)
+
+ends_one_kept : (xs : List Labelled) (x : Labelled) (after : List Labelled) (ends firsts : ℕ → Option ℕ)
+    → ((n : ℕ) → stands_in (x ∷ after) n ≡ is_from (length xs) (ends n)) → ((n : ℕ) → firsts n ≡ first_do xs n) → (label : Option ℕ)
+    → ends_not_one (record { before = xs; here = x; after = after }) label ≡ lacks_loop (under label firsts) (nearest_at (trimmed (length xs) (loops_of ends xs)))
+ends_one_kept xs x after ends firsts h f None = refl
+ends_one_kept xs x after ends firsts h f (Some n) =
+    lacks_as_kept xs x after ends h n ∙ ap (λ o. lacks_loop o (nearest_at (trimmed (length xs) (loops_of ends xs)))) (sym (f n))
 
 -- ---- a place
 
@@ -124,18 +145,20 @@ double_not true = refl
 double_not false = refl
 
 -- the state behind xs, at the statement x, before `after`
-pub nests_as_kept : (xs : List Labelled) (x : Labelled) (after : List Labelled) (ends : ℕ → Option ℕ)
-    → ((n : ℕ) → stands_in (x ∷ after) n ≡ is_from (length xs) (ends n)) → ((n : ℕ) → stands_in after n ≡ is_from (length xs + 1) (ends n)) → (s : Statement77)
+pub nests_as_kept : (xs : List Labelled) (x : Labelled) (after : List Labelled) (ends firsts : ℕ → Option ℕ)
+    → ((n : ℕ) → stands_in (x ∷ after) n ≡ is_from (length xs) (ends n)) → ((n : ℕ) → stands_in after n ≡ is_from (length xs + 1) (ends n)) → ((n : ℕ) → firsts n ≡ first_do xs n) → (s : Statement77)
     → nests_wrongly s (record { before = xs; here = x; after = after })
-    ≡ (refuses_else (form_of s) (first_of (frames_of xs)) (nearest_at (trimmed (length xs) (loops_of ends xs)))
+    ≡ (refuses (form_of s) (under x.label firsts) (first_of (frames_of xs)) (nearest_at (trimmed (length xs) (loops_of ends xs)))
     || closes_wrongly (form_of s) (is_from (length xs + 1) (end_of (form_of s) ends)) (first_of (frames_of xs)) (nearest_at (trimmed (length xs + 1) (loops_of ends xs))))
-nests_as_kept xs x after ends h g (Do n v a b c) = ap not (g n)
-nests_as_kept xs x after ends h g EndIf =
+nests_as_kept xs x after ends firsts h g f (Do None v a b c) = refl
+nests_as_kept xs x after ends firsts h g f (Do (Some n) v a b c) = ap not (g n)
+nests_as_kept xs x after ends firsts h g f EndDo = ends_one_kept xs x after ends firsts h f x.label ∙ sym (or_nothing (lacks_loop (under x.label firsts) (nearest_at (trimmed (length xs) (loops_of ends xs)))))
+nests_as_kept xs x after ends firsts h g f EndIf =
     unpaired_cases (frames_of xs) (nearest_at (trimmed (length xs + 1) (loops_of ends xs))) (has_open_if xs) (is_loop_open (since_if xs) after)
     (open_as_kept xs 0) (since_behind after (length xs + 1) ends g xs (omega arith))
-nests_as_kept xs x after ends h g Else = ap not (else_suits xs (x ∷ after) ends h) ∙ double_not (lacks_if (first_of (frames_of xs)) (nearest_at (trimmed (length xs) (loops_of ends xs)))) ∙ sym (or_nothing (lacks_if (first_of (frames_of xs)) (nearest_at (trimmed (length xs) (loops_of ends xs)))))
-nests_as_kept xs x after ends h g (ElseIf c) = ap not (else_suits xs (x ∷ after) ends h) ∙ double_not (lacks_if (first_of (frames_of xs)) (nearest_at (trimmed (length xs) (loops_of ends xs)))) ∙ sym (or_nothing (lacks_if (first_of (frames_of xs)) (nearest_at (trimmed (length xs) (loops_of ends xs)))))
-nests_as_kept xs x after ends h g s = refl
+nests_as_kept xs x after ends firsts h g f Else = ap not (else_suits xs (x ∷ after) ends h) ∙ double_not (lacks_if (first_of (frames_of xs)) (nearest_at (trimmed (length xs) (loops_of ends xs)))) ∙ sym (or_nothing (lacks_if (first_of (frames_of xs)) (nearest_at (trimmed (length xs) (loops_of ends xs)))))
+nests_as_kept xs x after ends firsts h g f (ElseIf c) = ap not (else_suits xs (x ∷ after) ends h) ∙ double_not (lacks_if (first_of (frames_of xs)) (nearest_at (trimmed (length xs) (loops_of ends xs)))) ∙ sym (or_nothing (lacks_if (first_of (frames_of xs)) (nearest_at (trimmed (length xs) (loops_of ends xs)))))
+nests_as_kept xs x after ends firsts h g f s = refl
 
 or_grouped : (a b c : Bool) → (a || (b || c)) ≡ ((a || b) || c)
 or_grouped true b c = refl
@@ -157,21 +180,21 @@ pub closed_as_kept : (xs : List Labelled) (x : Labelled) (after : List Labelled)
 closed_as_kept xs x after ends firsts h g f =
     let once : nearest_at (trimmed (length xs + 1) (loops_of ends xs)) ≡ nearest_at (trimmed (length xs + 1) (trimmed (length xs) (loops_of ends xs))) =
     ap nearest_at (sym (trimmed_twice (length xs + 1) (length xs) (loops_of ends xs) (omega arith))) in
-    ap (λ t. t || ends_loops_wrongly (record { before = xs; here = x; after = after }) x.label) (nests_as_kept xs x after ends h g x.statement)
-    ∙ ap (λ t. (refuses_else (form_of x.statement) (first_of (frames_of xs)) (nearest_at (trimmed (length xs) (loops_of ends xs)))
+    ap (λ t. t || ends_loops_wrongly (record { before = xs; here = x; after = after }) x.label) (nests_as_kept xs x after ends firsts h g f x.statement)
+    ∙ ap (λ t. (refuses (form_of x.statement) (under x.label firsts) (first_of (frames_of xs)) (nearest_at (trimmed (length xs) (loops_of ends xs)))
     || closes_wrongly (form_of x.statement) (is_from (length xs + 1) (end_of (form_of x.statement) ends)) (first_of (frames_of xs)) (nearest_at (trimmed (length xs + 1) (loops_of ends xs)))) || t)
     (label_ends_loops xs x after ends firsts g f x.label)
-    ∙ sym (or_grouped (refuses_else (form_of x.statement) (first_of (frames_of xs)) (nearest_at (trimmed (length xs) (loops_of ends xs))))
+    ∙ sym (or_grouped (refuses (form_of x.statement) (under x.label firsts) (first_of (frames_of xs)) (nearest_at (trimmed (length xs) (loops_of ends xs))))
     (closes_wrongly (form_of x.statement) (is_from (length xs + 1) (end_of (form_of x.statement) ends)) (first_of (frames_of xs)) (nearest_at (trimmed (length xs + 1) (loops_of ends xs))))
     (ends_wrongly (under x.label firsts) (form_of x.statement) (first_of (frames_of xs)) (nearest_at (trimmed (length xs + 1) (loops_of ends xs)))))
-    ∙ ap (λ near. refuses_else (form_of x.statement) (first_of (frames_of xs)) (nearest_at (trimmed (length xs) (loops_of ends xs)))
+    ∙ ap (λ near. refuses (form_of x.statement) (under x.label firsts) (first_of (frames_of xs)) (nearest_at (trimmed (length xs) (loops_of ends xs)))
     || (closes_wrongly (form_of x.statement) (is_from (length xs + 1) (end_of (form_of x.statement) ends)) (first_of (frames_of xs)) near
     || ends_wrongly (under x.label firsts) (form_of x.statement) (first_of (frames_of xs)) near)) once
 
 -- ---- the statements of the code
 
 pub end_under : (ends : ℕ → Option ℕ) (f : Form) → under (begun_in f) ends ≡ end_of f ends
-end_under ends (forms.Do n) = refl
+end_under ends (forms.Do label) = refl
 end_under ends f = refl
 
 pub stands_after : (xs : List Labelled') (ends : ℕ → Option ℕ) → ((n : ℕ) → ends n ≡ last_with (reverse (text_of xs)) n) → (j n : ℕ) → stands_in (drop j (text_of xs)) n ≡ is_from j (ends n)
@@ -214,7 +237,8 @@ loops_more xs i x ends es h e q =
     ∙ ap (loops_of ends) (sym (text_passed xs i x h e))
 
 do_label : (n : ℕ) (s : Statement77) → is_do_of n s ≡ is_label n (begun_in (form_of s))
-do_label n (Do m x a b c) = refl
+do_label n (Do None x a b c) = refl
+do_label n (Do (Some m) x a b c) = refl
 do_label n s = refl
 
 pub firsts_more : (xs : List Labelled') (i : ℕ) (x : Labelled') (firsts firsts' : ℕ → Option ℕ) → i < length xs → x ≡ get_or xs i x

@@ -109,7 +109,7 @@ alive_opened m j len (Some e) es = ap (λ b. b || any_alive (suc m) j (suc len) 
     here_alive m j len e = grind (arith, nat_tests)
 
 ends_from : (rest : List Labelled) (j : ℕ) (ends : ℕ → Option ℕ) → ((n : ℕ) → stands_in rest n ≡ is_from j (ends n)) → (s : Statement77) → ends_in rest s ≡ is_from j (end_of (form_of s) ends)
-ends_from rest j ends h (Do n x a b c) = h n
+ends_from rest j ends h (Do (Some n) x a b c) = h n
 ends_from rest j ends h s = refl
 
 pub loop_as_kept : (rest : List Labelled) (j : ℕ) (ends : ℕ → Option ℕ) → ((n : ℕ) → stands_in rest n ≡ is_from j (ends n))

@@ -5,7 +5,7 @@ use Rattle.f77_grammar.specs.Statement77.{Labelled}
 use Rattle.f77_grammar.specs.program.Text.{bears}
 use Rattle.f77_grammar.specs.program.Nesting.{is_do_of}
 use Rattle.f77_structure.specs.declared.forms.Form.{Form}
-use Rattle.f77_structure.specs.declared.forms.Form.TheVariants.{If, ElseIf, Else, EndIf, Do}
+use Rattle.f77_structure.specs.declared.forms.Form.TheVariants.{If, ElseIf, Else, EndIf, Do, EndDo}
 use Rattle.f77_structure.specs.declared.openings.OpenIf.{OpenIf}
 use Rattle.f77_structure.specs.declared.openings.OpenLoop.{OpenLoop}
 use Rattle.f77_structure.specs.declared.openings.Openings.{Openings}
@@ -51,9 +51,14 @@ abbrev pub opened : ℕ → Option ℕ → List OpenLoop → List OpenLoop
 opened i None es = es
 opened i (Some e) es = record { at = i; end = e } ∷ es
 
+-- the place of a label, if there is a label
+abbrev pub under : Option ℕ → (ℕ → Option ℕ) → Option ℕ
+under None places = None
+under (Some n) places = places n
+
 -- where the loop ends that a statement begins
 abbrev pub end_of : Form → (ℕ → Option ℕ) → Option ℕ
-end_of (Do n) ends = ends n
+end_of (Do label) ends = under label ends
 end_of _ ends = None
 
 abbrev pub next_loops : Form → (ℕ → Option ℕ) → ℕ → List OpenLoop → List OpenLoop
@@ -114,10 +119,16 @@ abbrev pub lacks_if : Option OpenIf → Option ℕ → Bool
 lacks_if None near = true
 lacks_if (Some f) near = f.had_else || is_behind near f.at
 
-abbrev pub refuses_else : Form → Option OpenIf → Option ℕ → Bool
-refuses_else ElseIf f near = lacks_if f near
-refuses_else Else f near = lacks_if f near
-refuses_else _ f near = false
+-- there is no loop for an END DO, of which the first begins behind k statements, or one was opened behind that
+abbrev pub lacks_loop : Option ℕ → Option ℕ → Bool
+lacks_loop None near = true
+lacks_loop (Some k) near = is_behind near k
+
+abbrev pub refuses : Form → Option ℕ → Option OpenIf → Option ℕ → Bool
+refuses ElseIf first f near = lacks_if f near
+refuses Else first f near = lacks_if f near
+refuses EndDo first f near = lacks_loop first near
+refuses _ first f near = false
 
 -- there is no block IF for an END IF, or a loop is open in it
 abbrev pub is_unpaired : Option OpenIf → Option ℕ → Bool
@@ -126,7 +137,7 @@ is_unpaired (Some f) near = is_behind near f.at
 
 -- a DO label doesn't come later, or END IF closes wrongly
 abbrev pub closes_wrongly : Form → Bool → Option OpenIf → Option ℕ → Bool
-closes_wrongly (Do n) later f near = not later
+closes_wrongly (Do label) later f near = not later
 closes_wrongly EndIf later f near = is_unpaired f near
 closes_wrongly _ later f near = false
 
@@ -139,13 +150,9 @@ abbrev pub ends_wrongly : Option ℕ → Form → Option OpenIf → Option ℕ �
 ends_wrongly None form f near = false
 ends_wrongly (Some k) form f near = is_no_end_form form || (begins_behind f k || is_behind near k)
 
-abbrev pub under : Option ℕ → (ℕ → Option ℕ) → Option ℕ
-under None firsts = None
-under (Some n) firsts = firsts n
-
 -- all this at a statement that stands behind `at` others
 abbrev pub has_wrong_closer : Form → ℕ → Option ℕ → Option ℕ → Option OpenIf → List OpenLoop → Bool
 has_wrong_closer form at end first f es =
-    refuses_else form f (nearest_at (trimmed at es))
+    refuses form first f (nearest_at (trimmed at es))
     || (closes_wrongly form (is_from (at + 1) end) f (nearest_at (trimmed (at + 1) (trimmed at es)))
     || ends_wrongly first form f (nearest_at (trimmed (at + 1) (trimmed at es))))

@@ -10,6 +10,7 @@ use f77_grammar::syntax::Stmt77;
 pub enum Form {
     /// PROGRAM.
     Title,
+    ImplicitNone,
     /// A type statement, DIMENSION or PARAMETER.
     Declaration,
     /// An assignment, CONTINUE, READ or PRINT.
@@ -21,7 +22,8 @@ pub enum Form {
     ElseIf,
     Else,
     EndIf,
-    Do(u32),
+    Do(Option<u32>),
+    EndDo,
     End,
 }
 
@@ -33,6 +35,7 @@ impl Form {
     {
         match statement {
             Stmt77::Program(_) => Form::Title,
+            Stmt77::ImplicitNone => Form::ImplicitNone,
             Stmt77::Declare(..) => Form::Declaration,
             Stmt77::Dimension(_) => Form::Declaration,
             Stmt77::Constants(_) => Form::Declaration,
@@ -44,6 +47,7 @@ impl Form {
             Stmt77::Else => Form::Else,
             Stmt77::EndIf => Form::EndIf,
             Stmt77::Do(label, ..) => Form::Do(*label),
+            Stmt77::EndDo => Form::EndDo,
             Stmt77::Continue => Form::Action,
             Stmt77::Stop => Form::Stop,
             Stmt77::Read(_) => Form::Action,

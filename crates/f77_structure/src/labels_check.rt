@@ -19,8 +19,11 @@ impl Form {
         ensures { result ≡ label_in self }
     {
         match self {
-            Form::Go(label) | Form::Do(label) => Some(label),
-            _ => None,
+            Form::Go(label) => Some(label),
+            Form::Do(label) => label,
+            Form::Title | Form::ImplicitNone | Form::Declaration | Form::Action => None,
+            Form::Stop | Form::LogicalIf | Form::If | Form::ElseIf | Form::Else => None,
+            Form::EndIf | Form::EndDo | Form::End => None,
         }
     }
 }

@@ -17,15 +17,15 @@ use std::alloc::Global;
 use tree::Memory;
 
 impl Form {
-    /// The label of a DO.
+    /// The label of a DO, if it has one.
     pub fn begun(self) -> Option<u32>
         ensures { result ≡ begun_in self }
     {
         match self {
-            Form::Do(label) => Some(label),
-            Form::Title | Form::Declaration | Form::Action | Form::Go(_) | Form::Stop => None,
-            Form::LogicalIf | Form::If | Form::ElseIf | Form::Else => None,
-            Form::EndIf | Form::End => None,
+            Form::Do(label) => label,
+            Form::Title | Form::ImplicitNone | Form::Declaration | Form::Action => None,
+            Form::Go(_) | Form::Stop | Form::LogicalIf | Form::If | Form::ElseIf => None,
+            Form::Else | Form::EndIf | Form::EndDo | Form::End => None,
         }
     }
 }
@@ -61,8 +61,8 @@ pub fn label_ends(alloc: Global, text: &[Labelled]) -> Result<LabelPlaces, Memor
     Ok(ends)
 }
 
-/// The place of the first statement that closes, or doesn't close, what it should: a DO, END IF, ELSE IF or ELSE, or
-/// the last statement of loops.
+/// The place of the first statement that closes, or doesn't close, what it should: a DO, END DO, END IF, ELSE IF or
+/// ELSE, or the last statement of loops.
 pub fn wrong_closer(
     alloc: Global,
     text: &[Labelled],
@@ -95,8 +95,9 @@ impl Form {
         match self {
             Form::EndIf => pending + 1,
             Form::If => pending.saturating_sub(1),
-            Form::Title | Form::Declaration | Form::Action | Form::Go(_) | Form::Stop => pending,
-            Form::LogicalIf | Form::ElseIf | Form::Else | Form::Do(_) | Form::End => pending,
+            Form::Title | Form::ImplicitNone | Form::Declaration | Form::Action => pending,
+            Form::Go(_) | Form::Stop | Form::LogicalIf | Form::ElseIf | Form::Else => pending,
+            Form::Do(_) | Form::EndDo | Form::End => pending,
         }
     }
 
@@ -105,9 +106,9 @@ impl Form {
     {
         match self {
             Form::If => pending == 0,
-            Form::Title | Form::Declaration | Form::Action | Form::Go(_) | Form::Stop => false,
-            Form::LogicalIf | Form::ElseIf | Form::Else | Form::EndIf => false,
-            Form::Do(_) | Form::End => false,
+            Form::Title | Form::ImplicitNone | Form::Declaration | Form::Action => false,
+            Form::Go(_) | Form::Stop | Form::LogicalIf | Form::ElseIf | Form::Else => false,
+            Form::EndIf | Form::Do(_) | Form::EndDo | Form::End => false,
         }
     }
 }

@@ -1,8 +1,9 @@
 //! What is open at a statement: block IFs, and loops.
 ghost use Rattle.std.specs.Prelude.{◌≡◌, ℕ, ◌+◌, ◌<◌, ◌^◌, ◌||◌, ◌∷◌, [], true, false, IfOk, OnOk};
 ghost use Rattle.f77_structure.specs.Openings.{frames, loops_in, tail_of, marked, trimmed, first_of, next_frames};
-ghost use Rattle.f77_structure.specs.Openings.{opened, nearest_at, is_behind, begins_behind, lacks_if, refuses_else};
-ghost use Rattle.f77_structure.specs.Openings.{is_unpaired, closes_wrongly, ends_wrongly, is_from, has_wrong_closer};
+ghost use Rattle.f77_structure.specs.Openings.{opened, nearest_at, is_behind, begins_behind, lacks_if, lacks_loop};
+ghost use Rattle.f77_structure.specs.Openings.{refuses, is_unpaired, closes_wrongly, ends_wrongly, is_from};
+ghost use Rattle.f77_structure.specs.Openings.{has_wrong_closer};
 ghost use Rattle.f77_structure.specs.Forms.{is_no_end_form};
 
 use crate::forms::Form;
@@ -135,8 +136,9 @@ impl Openings {
                 Ok(())
             }
             Form::Else => self.mark_else(),
-            Form::Title | Form::Declaration | Form::Action | Form::Go(_) | Form::Stop => Ok(()),
-            Form::LogicalIf | Form::ElseIf | Form::Do(_) | Form::End => Ok(()),
+            Form::Title | Form::ImplicitNone | Form::Declaration | Form::Action => Ok(()),
+            Form::Go(_) | Form::Stop | Form::LogicalIf | Form::ElseIf | Form::Do(_) => Ok(()),
+            Form::EndDo | Form::End => Ok(()),
         }
     }
 
@@ -167,14 +169,27 @@ impl Openings {
         }
     }
 
-    /// An ELSE IF or ELSE has no block IF.
-    pub fn refuses_else(&self, form: Form) -> bool
-        ensures { result ≡ refuses_else form (first_of (frames self.now)) (nearest_at (loops_in self.now)) }
+    // The first loop that ends here begins at `first`.
+    fn lacks_loop(&self, first: Option<usize>) -> bool
+        ensures { result ≡ lacks_loop first (nearest_at (loops_in self.now)) }
+    {
+        match first {
+            Some(first) => self.is_loop_behind(first),
+            None => true,
+        }
+    }
+
+    /// An ELSE IF or ELSE has no block IF, or an END DO no loop, or more than one, of which the first begins at
+    /// `first`.
+    pub fn refuses(&self, form: Form, first: Option<usize>) -> bool
+        ensures { result ≡ refuses form first (first_of (frames self.now)) (nearest_at (loops_in self.now)) }
     {
         match form {
             Form::ElseIf | Form::Else => self.lacks_if(),
-            Form::Title | Form::Declaration | Form::Action | Form::Go(_) | Form::Stop => false,
-            Form::LogicalIf | Form::If | Form::EndIf | Form::Do(_) | Form::End => false,
+            Form::EndDo => self.lacks_loop(first),
+            Form::Title | Form::ImplicitNone | Form::Declaration | Form::Action => false,
+            Form::Go(_) | Form::Stop | Form::LogicalIf | Form::If | Form::EndIf => false,
+            Form::Do(_) | Form::End => false,
         }
     }
 
@@ -194,8 +209,9 @@ impl Openings {
         match form {
             Form::Do(_) => !later,
             Form::EndIf => self.is_unpaired(),
-            Form::Title | Form::Declaration | Form::Action | Form::Go(_) | Form::Stop => false,
-            Form::LogicalIf | Form::If | Form::ElseIf | Form::Else | Form::End => false,
+            Form::Title | Form::ImplicitNone | Form::Declaration | Form::Action => false,
+            Form::Go(_) | Form::Stop | Form::LogicalIf | Form::If | Form::ElseIf => false,
+            Form::Else | Form::EndDo | Form::End => false,
         }
     }
 
@@ -241,7 +257,7 @@ impl Openings {
         ensures answer { result ≡ has_wrong_closer form at end first (first_of (frames self.old)) (loops_in self.old) }
     {
         self.drop_ended(at);
-        let refuses = self.refuses_else(form);
+        let refuses = self.refuses(form, first);
         self.drop_ended(at + 1);
         refuses || self.closes_wrongly(form, is_behind(end, at)) || self.ends_wrongly(first, form)
     }
@@ -253,7 +269,8 @@ impl Form {
         ensures { result ≡ is_no_end_form self }
     {
         match self {
-            Form::Title | Form::Declaration | Form::Action | Form::LogicalIf => false,
+            Form::Title | Form::ImplicitNone | Form::Declaration | Form::Action => false,
+            Form::LogicalIf | Form::EndDo => false,
             Form::Go(_) | Form::Stop | Form::If | Form::ElseIf | Form::Else => true,
             Form::EndIf | Form::Do(_) | Form::End => true,
         }

@@ -1,8 +1,9 @@
-//! The order of statements: PROGRAM, declarations, executable statements, END (ANSI X3.9-1978, section 3.5).
+//! The order of statements: PROGRAM, IMPLICIT NONE, declarations, executable statements, END (ANSI X3.9-1978, section
+//! 3.5; MIL-STD-1753).
 ghost use Rattle.std.specs.Prelude.{◌≡◌, ◌||◌};
 ghost use Rattle.f77_grammar.specs.program.Order.{is_out_of_order, is_ended_wrongly};
 ghost use Rattle.f77_grammar.specs.syntax.First.{first_index};
-ghost use Rattle.f77_structure.specs.Forms.{is_executable_form, is_wrong_end_form, is_late_form};
+ghost use Rattle.f77_structure.specs.Forms.{is_executable_form, follows_title_form, is_wrong_end_form, is_late_form};
 ghost use Rattle.f77_grammar.specs.syntax.Views.{text_of};
 
 use crate::forms::Form;
@@ -14,9 +15,21 @@ impl Form {
         ensures { result ≡ (is_executable_form self || executable) }
     {
         match self {
-            Form::Title | Form::Declaration | Form::End => executable,
+            Form::Title | Form::ImplicitNone | Form::Declaration | Form::End => executable,
             Form::Action | Form::Go(_) | Form::Stop | Form::LogicalIf => true,
-            Form::If | Form::ElseIf | Form::Else | Form::EndIf | Form::Do(_) => true,
+            Form::If | Form::ElseIf | Form::Else | Form::EndIf | Form::Do(_) | Form::EndDo => true,
+        }
+    }
+
+    // IMPLICIT NONE, a declaration or an executable statement, or one behind such statements.
+    fn follows_title_or(self, more: bool) -> bool
+        ensures { result ≡ (follows_title_form self || more) }
+    {
+        match self {
+            Form::Title | Form::End => more,
+            Form::ImplicitNone | Form::Declaration | Form::Action | Form::Go(_) => true,
+            Form::Stop | Form::LogicalIf | Form::If | Form::ElseIf | Form::Else => true,
+            Form::EndIf | Form::Do(_) | Form::EndDo => true,
         }
     }
 
@@ -26,21 +39,23 @@ impl Form {
     {
         match self {
             Form::End => !last,
-            Form::Title | Form::Declaration | Form::Action | Form::Go(_) | Form::Stop => last,
-            Form::LogicalIf | Form::If | Form::ElseIf | Form::Else => last,
-            Form::EndIf | Form::Do(_) => last,
+            Form::Title | Form::ImplicitNone | Form::Declaration | Form::Action => last,
+            Form::Go(_) | Form::Stop | Form::LogicalIf | Form::If | Form::ElseIf => last,
+            Form::Else | Form::EndIf | Form::Do(_) | Form::EndDo => last,
         }
     }
 
-    // It comes too late behind other statements, or behind executable ones.
-    fn is_late(self, first: bool, executable: bool) -> bool
-        ensures { result ≡ is_late_form self first executable }
+    // It comes too late: behind other statements, behind more than PROGRAM, or behind executable ones.
+    fn is_late(self, first: bool, more: bool, executable: bool) -> bool
+        ensures { result ≡ is_late_form self first more executable }
     {
         match self {
             Form::Title => !first,
+            Form::ImplicitNone => more,
             Form::Declaration => executable,
             Form::Action | Form::Go(_) | Form::Stop | Form::LogicalIf | Form::If => false,
-            Form::ElseIf | Form::Else | Form::EndIf | Form::Do(_) | Form::End => false,
+            Form::ElseIf | Form::Else | Form::EndIf | Form::Do(_) | Form::EndDo => false,
+            Form::End => false,
         }
     }
 }
@@ -49,12 +64,14 @@ impl Form {
 pub fn out_of_order(text: &[Labelled]) -> Option<usize>
     ensures { result ≡ first_index is_out_of_order (text_of text.now) }
 {
+    let mut more = false;
     let mut executable = false;
     for (i, statement) in text.iter().enumerate() {
         let form = Form::of(&statement.statement);
-        if form.is_late(i == 0, executable) {
+        if form.is_late(i == 0, more, executable) {
             return Some(i);
         }
+        more = form.follows_title_or(more);
         executable = form.is_executable_or(executable);
     }
     None

@@ -1,5 +1,5 @@
 -- One statement more to the front, for each kind of statement.
-use Rattle.std.proofs.Common.{◌≡◌, ◌∙◌, ap, sym, ℕ, ◌+◌, ◌<◌, List, ◌++◌, length, get_or, drop}
+use Rattle.std.proofs.Common.{◌≡◌, ◌∙◌, ap, sym, Some, None, ℕ, ◌+◌, ◌<◌, List, ◌++◌, length, get_or, drop}
 use Rattle.std.specs.declared.boxed.Box.{Box}
 use Rattle.std.specs.declared.alloc.Global.{Global}
 use Rattle.tree.specs.Plain as plain
@@ -20,7 +20,7 @@ use Rattle.f77_grammar.specs.declared.syntax.statements.Stmt77.{Stmt77}
 use Rattle.f77_grammar.specs.declared.syntax.statements.Stmt77.TheVariants as stmts
 use Rattle.f77_grammar.specs.declared.syntax.statements.Labelled.{Labelled as Labelled'}
 use Rattle.f77_grammar.specs.syntax.Views.{statement_of, labelled_of, text_of}
-use Rattle.f77_grammar.proofs.syntax.Equations.{statement_of-program, statement_of-declare, statement_of-dimension, statement_of-constants, statement_of-assign, statement_of-go, statement_of-test, statement_of-if, statement_of-else_if, statement_of-else, statement_of-end_if, statement_of-do, statement_of-continue, statement_of-stop, statement_of-read, statement_of-print, statement_of-end}
+use Rattle.f77_grammar.proofs.syntax.Equations.{statement_of-program, statement_of-implicit_none, statement_of-declare, statement_of-dimension, statement_of-constants, statement_of-assign, statement_of-go, statement_of-test, statement_of-if, statement_of-else_if, statement_of-else, statement_of-end_if, statement_of-do, statement_of-end_do, statement_of-continue, statement_of-stop, statement_of-read, statement_of-print, statement_of-end}
 use Rattle.f77_grammar.proofs.syntax.Walks.{text_left}
 
 module _ (us : List Use) (s : Store) (named : List ℕ) (x : Labelled) (r : steps.Rest) where
@@ -40,12 +40,18 @@ module _ (us : List Use) (s : Store) (named : List ℕ) (x : Labelled) (r : step
   pub begun-if : (c : Expr) → steps.begun us s named x (statement_of (stmts.If c)) r ≡ steps.if_begun x.line (tree.mark_of named x.label) (tree.resolved us s (expression_of c)) r
   begun-if c = ap (λ st. steps.begun us s named x st r) (statement_of-if c)
 
-  pub begun-do : (n : ℕ) (v : Name) (a b c : Expr) → steps.begun us s named x (statement_of (stmts.Do n v a b c)) r
+  pub begun-do : (n : ℕ) (v : Name) (a b c : Expr) → steps.begun us s named x (statement_of (stmts.Do (Some n) v a b c)) r
       ≡ steps.loop_begun (plain.Do x.line v (tree.resolved us s (expression_of a)) (tree.resolved us s (expression_of b)) (tree.resolved us s (expression_of c))) (tree.mark_of named x.label) n r
-  begun-do n v a b c = ap (λ st. steps.begun us s named x st r) (statement_of-do n v a b c)
+  begun-do n v a b c = ap (λ st. steps.begun us s named x st r) (statement_of-do (Some n) v a b c)
+
+  pub begun-plain_do : (v : Name) (a b c : Expr) → steps.begun us s named x (statement_of (stmts.Do None v a b c)) r ≡ before (statement_of (stmts.Do None v a b c))
+  begun-plain_do v a b c = ap (λ st. steps.begun us s named x st r) (statement_of-do None v a b c) ∙ sym (ap before (statement_of-do None v a b c))
 
   pub begun-program : (title : Name) → steps.begun us s named x (statement_of (stmts.Program title)) r ≡ before (statement_of (stmts.Program title))
   begun-program title = ap (λ st. steps.begun us s named x st r) (statement_of-program title) ∙ sym (ap before (statement_of-program title))
+
+  pub begun-implicit_none : steps.begun us s named x (statement_of stmts.ImplicitNone) r ≡ before (statement_of stmts.ImplicitNone)
+  begun-implicit_none = ap (λ st. steps.begun us s named x st r) statement_of-implicit_none ∙ sym (ap before statement_of-implicit_none)
 
   pub begun-declare : (k : Kind) (es : Seq Entity) → steps.begun us s named x (statement_of (stmts.Declare k es)) r ≡ before (statement_of (stmts.Declare k es))
   begun-declare k es = ap (λ st. steps.begun us s named x st r) (statement_of-declare k es) ∙ sym (ap before (statement_of-declare k es))
@@ -65,6 +71,9 @@ module _ (us : List Use) (s : Store) (named : List ℕ) (x : Labelled) (r : step
   pub begun-test : (c : Expr) (inner : Box Stmt77 Global) → steps.begun us s named x (statement_of (stmts.Test c inner)) r ≡ before (statement_of (stmts.Test c inner))
   begun-test c inner = ap (λ st. steps.begun us s named x st r) (statement_of-test c inner) ∙ sym (ap before (statement_of-test c inner))
 
+  pub begun-end_do : steps.begun us s named x (statement_of stmts.EndDo) r ≡ before (statement_of stmts.EndDo)
+  begun-end_do = ap (λ st. steps.begun us s named x st r) statement_of-end_do ∙ sym (ap before statement_of-end_do)
+
   pub begun-continue : steps.begun us s named x (statement_of stmts.Continue) r ≡ before (statement_of stmts.Continue)
   begun-continue = ap (λ st. steps.begun us s named x st r) statement_of-continue ∙ sym (ap before statement_of-continue)
 
@@ -80,11 +89,11 @@ module _ (us : List Use) (s : Store) (named : List ℕ) (x : Labelled) (r : step
   pub begun-end : steps.begun us s named x (statement_of stmts.End) r ≡ before (statement_of stmts.End)
   begun-end = ap (λ st. steps.begun us s named x st r) statement_of-end ∙ sym (ap before statement_of-end)
 
-pub ruleset begun_laws = (begun-end_if, begun-else, begun-else_if, begun-if, begun-do, begun-program, begun-declare, begun-dimension, begun-constants, begun-assign, begun-go, begun-test, begun-continue, begun-stop, begun-read, begun-print, begun-end)
+pub ruleset begun_laws = (begun-end_if, begun-else, begun-else_if, begun-if, begun-do, begun-plain_do, begun-program, begun-implicit_none, begun-declare, begun-dimension, begun-constants, begun-assign, begun-go, begun-test, begun-end_do, begun-continue, begun-stop, begun-read, begun-print, begun-end)
 
 -- a loop, where its heading and the label before it are made
 pub do_is : (us : List Use) (s : Store) (named : List ℕ) (x : Labelled) (r new : steps.Rest) (st : Stmt77) (n : ℕ) (v : Name) (a b c : Expr)
-    (make : plain.Block → plain.Statement) (mark : List plain.Statement) → st ≡ stmts.Do n v a b c
+    (make : plain.Block → plain.Statement) (mark : List plain.Statement) → st ≡ stmts.Do (Some n) v a b c
     → make ≡ plain.Do x.line v (tree.resolved us s (expression_of a)) (tree.resolved us s (expression_of b)) (tree.resolved us s (expression_of c)) → mark ≡ tree.mark_of named x.label
     → new ≡ steps.loop_begun make mark n r → new ≡ steps.begun us s named x (statement_of st) r
 do_is us s named x r new st n v a b c make mark is e k h =

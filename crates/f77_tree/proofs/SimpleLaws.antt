@@ -1,5 +1,5 @@
 -- What each simple statement becomes.
-use Rattle.std.proofs.Common.{◌≡◌, ◌∙◌, ap, ℕ, None, List, [], ◌∷◌, map}
+use Rattle.std.proofs.Common.{◌≡◌, ◌∙◌, ap, ℕ, Option, None, List, [], ◌∷◌, map}
 use Rattle.std.specs.declared.boxed.Box.{Box}
 use Rattle.std.specs.declared.alloc.Global.{Global}
 use Rattle.tree.specs.Plain as plain
@@ -23,7 +23,7 @@ use Rattle.f77_grammar.specs.declared.syntax.statements.Entity.{Entity}
 use Rattle.f77_grammar.specs.declared.syntax.statements.Stmt77.{Stmt77}
 use Rattle.f77_grammar.specs.declared.syntax.statements.Stmt77.TheVariants as stmts
 use Rattle.f77_grammar.specs.syntax.Views.{statement_of}
-use Rattle.f77_grammar.proofs.syntax.Equations.{statement_of-program, statement_of-declare, statement_of-dimension, statement_of-constants, statement_of-assign, statement_of-go, statement_of-test, statement_of-if, statement_of-else_if, statement_of-else, statement_of-end_if, statement_of-do, statement_of-continue, statement_of-stop, statement_of-read, statement_of-print, statement_of-end}
+use Rattle.f77_grammar.proofs.syntax.Equations.{statement_of-program, statement_of-implicit_none, statement_of-declare, statement_of-dimension, statement_of-constants, statement_of-assign, statement_of-go, statement_of-test, statement_of-if, statement_of-else_if, statement_of-else, statement_of-end_if, statement_of-do, statement_of-end_do, statement_of-continue, statement_of-stop, statement_of-read, statement_of-print, statement_of-end}
 use Rattle.f77_tree.proofs.ItemLaws.{items_resolved}
 
 pub ruleset block_laws = (block_of-made)
@@ -63,6 +63,9 @@ simple-test us s line c inner = ap (tree.simple us s line) (statement_of-test c 
 pub simple-program : (us : List Use) (s : Store) (line : ℕ) (x : Name) → tree.simple us s line (statement_of (stmts.Program x)) ≡ []
 simple-program us s line x = ap (tree.simple us s line) (statement_of-program x)
 
+pub simple-implicit_none : (us : List Use) (s : Store) (line : ℕ) → tree.simple us s line (statement_of stmts.ImplicitNone) ≡ []
+simple-implicit_none us s line = ap (tree.simple us s line) statement_of-implicit_none
+
 pub simple-declare : (us : List Use) (s : Store) (line : ℕ) (k : Kind) (es : Seq Entity) → tree.simple us s line (statement_of (stmts.Declare k es)) ≡ []
 simple-declare us s line k es = ap (tree.simple us s line) (statement_of-declare k es)
 
@@ -84,8 +87,11 @@ simple-else us s line = ap (tree.simple us s line) statement_of-else
 pub simple-end_if : (us : List Use) (s : Store) (line : ℕ) → tree.simple us s line (statement_of stmts.EndIf) ≡ []
 simple-end_if us s line = ap (tree.simple us s line) statement_of-end_if
 
-pub simple-do : (us : List Use) (s : Store) (line : ℕ) (n : ℕ) (x : Name) (a b c : Expr) → tree.simple us s line (statement_of (stmts.Do n x a b c)) ≡ []
+pub simple-do : (us : List Use) (s : Store) (line : ℕ) (n : Option ℕ) (x : Name) (a b c : Expr) → tree.simple us s line (statement_of (stmts.Do n x a b c)) ≡ []
 simple-do us s line n x a b c = ap (tree.simple us s line) (statement_of-do n x a b c)
+
+pub simple-end_do : (us : List Use) (s : Store) (line : ℕ) → tree.simple us s line (statement_of stmts.EndDo) ≡ []
+simple-end_do us s line = ap (tree.simple us s line) statement_of-end_do
 
 pub simple-continue : (us : List Use) (s : Store) (line : ℕ) → tree.simple us s line (statement_of stmts.Continue) ≡ []
 simple-continue us s line = ap (tree.simple us s line) statement_of-continue
@@ -93,4 +99,4 @@ simple-continue us s line = ap (tree.simple us s line) statement_of-continue
 pub simple-end : (us : List Use) (s : Store) (line : ℕ) → tree.simple us s line (statement_of stmts.End) ≡ []
 simple-end us s line = ap (tree.simple us s line) statement_of-end
 
-pub ruleset simple_laws = (tree-assign, tree-if, tree-go, tree-stop, tree-read, tree-print, tested_of-made, block_of-made, simple-assign, simple-go, simple-stop, simple-read, simple-print, simple-test, simple-program, simple-declare, simple-dimension, simple-constants, simple-if, simple-else_if, simple-else, simple-end_if, simple-do, simple-continue, simple-end)
+pub ruleset simple_laws = (tree-assign, tree-if, tree-go, tree-stop, tree-read, tree-print, tested_of-made, block_of-made, simple-assign, simple-go, simple-stop, simple-read, simple-print, simple-test, simple-program, simple-implicit_none, simple-declare, simple-dimension, simple-constants, simple-if, simple-else_if, simple-else, simple-end_if, simple-do, simple-end_do, simple-continue, simple-end)

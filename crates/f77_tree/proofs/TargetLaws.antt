@@ -1,5 +1,5 @@
 -- The labels that a GO TO names, and the labels before statements.
-use Rattle.std.proofs.Common.{◌≡◌, ◌∙◌, ap, sym, refl, ℕ, ◌+◌, ◌<◌, ◌≤◌, ◌==◌, Bool, true, false, ◌||◌, cond, Some, List, [], ◌∷◌, ◌++◌, length, get_or, take, drop, append_assoc, append-nil, take_all}
+use Rattle.std.proofs.Common.{◌≡◌, ◌∙◌, ap, sym, refl, ℕ, ◌+◌, ◌<◌, ◌≤◌, ◌==◌, Bool, true, false, ◌||◌, cond, Option, Some, List, [], ◌∷◌, ◌++◌, length, get_or, take, drop, append_assoc, append-nil, take_all}
 use Rattle.std.specs.declared.boxed.Box.{Box}
 use Rattle.std.specs.declared.alloc.Global.{Global}
 use Rattle.std.specs.List.{list_any}
@@ -20,7 +20,7 @@ use Rattle.f77_grammar.specs.declared.syntax.statements.Stmt77.{Stmt77}
 use Rattle.f77_grammar.specs.declared.syntax.statements.Stmt77.TheVariants as stmts
 use Rattle.f77_grammar.specs.declared.syntax.statements.Labelled.{Labelled}
 use Rattle.f77_grammar.specs.syntax.Views.{statement_of, text_of}
-use Rattle.f77_grammar.proofs.syntax.Equations.{statement_of-program, statement_of-declare, statement_of-dimension, statement_of-constants, statement_of-assign, statement_of-go, statement_of-test, statement_of-if, statement_of-else_if, statement_of-else, statement_of-end_if, statement_of-do, statement_of-continue, statement_of-stop, statement_of-read, statement_of-print, statement_of-end}
+use Rattle.f77_grammar.proofs.syntax.Equations.{statement_of-program, statement_of-implicit_none, statement_of-declare, statement_of-dimension, statement_of-constants, statement_of-assign, statement_of-go, statement_of-test, statement_of-if, statement_of-else_if, statement_of-else, statement_of-end_if, statement_of-do, statement_of-end_do, statement_of-continue, statement_of-stop, statement_of-read, statement_of-print, statement_of-end}
 use Rattle.f77_grammar.proofs.syntax.Walks.{text_left, text_through}
 use Rattle.f77_names.proofs.UseLaws.{one_more}
 
@@ -29,6 +29,9 @@ target-go n = ap tree.target (statement_of-go n)
 
 pub target-program : (x : Name) → tree.target (statement_of (stmts.Program x)) ≡ []
 target-program x = ap tree.target (statement_of-program x)
+
+pub target-implicit_none : tree.target (statement_of stmts.ImplicitNone) ≡ []
+target-implicit_none = ap tree.target statement_of-implicit_none
 
 pub target-declare : (k : Kind) (es : Seq Entity) → tree.target (statement_of (stmts.Declare k es)) ≡ []
 target-declare k es = ap tree.target (statement_of-declare k es)
@@ -57,8 +60,11 @@ target-else = ap tree.target statement_of-else
 pub target-end_if : tree.target (statement_of stmts.EndIf) ≡ []
 target-end_if = ap tree.target statement_of-end_if
 
-pub target-do : (n : ℕ) (x : Name) (a b c : Expr) → tree.target (statement_of (stmts.Do n x a b c)) ≡ []
+pub target-do : (n : Option ℕ) (x : Name) (a b c : Expr) → tree.target (statement_of (stmts.Do n x a b c)) ≡ []
 target-do n x a b c = ap tree.target (statement_of-do n x a b c)
+
+pub target-end_do : tree.target (statement_of stmts.EndDo) ≡ []
+target-end_do = ap tree.target statement_of-end_do
 
 pub target-continue : tree.target (statement_of stmts.Continue) ≡ []
 target-continue = ap tree.target statement_of-continue
@@ -75,7 +81,7 @@ target-print is = ap tree.target (statement_of-print is)
 pub target-end : tree.target (statement_of stmts.End) ≡ []
 target-end = ap tree.target statement_of-end
 
-pub ruleset target_laws = (target-go, target-program, target-declare, target-dimension, target-constants, target-assign, target-test, target-if, target-else_if, target-else, target-end_if, target-do, target-continue, target-stop, target-read, target-print, target-end)
+pub ruleset target_laws = (target-go, target-program, target-implicit_none, target-declare, target-dimension, target-constants, target-assign, target-test, target-if, target-else_if, target-else, target-end_if, target-do, target-end_do, target-continue, target-stop, target-read, target-print, target-end)
 
 -- ---- all of them
 

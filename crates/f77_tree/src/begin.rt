@@ -96,18 +96,21 @@ impl Rest {
                 let test = resolver.resolve(alloc, condition)?;
                 self.begin_if(alloc, statement.line, mark, test)
             }
-            Stmt77::Do(label, var, first, last, step) => {
+            Stmt77::Do(Some(label), var, first, last, step) => {
                 let mark = targets.mark(alloc, statement.label)?;
                 let heading = resolver.heading(alloc, statement.line, *var, first, last, step)?;
                 self.begin_loop(alloc, *label, mark, heading)
             }
             Stmt77::Program(_)
+            | Stmt77::ImplicitNone
             | Stmt77::Declare(..)
             | Stmt77::Dimension(_)
             | Stmt77::Constants(_)
             | Stmt77::Assign(..)
             | Stmt77::Go(_)
             | Stmt77::Test(..)
+            | Stmt77::Do(None, ..)
+            | Stmt77::EndDo
             | Stmt77::Continue
             | Stmt77::Stop
             | Stmt77::Read(_)

@@ -98,10 +98,10 @@ impl Resolver<'_> {
                 let inner = self.simple(alloc, line, inner)?;
                 Ok(Some(self.branch(alloc, line, condition, inner)?))
             }
-            Stmt77::Program(_) | Stmt77::Declare(..) | Stmt77::Dimension(_) => Ok(None),
-            Stmt77::Constants(_) | Stmt77::If(_) | Stmt77::ElseIf(_) => Ok(None),
-            Stmt77::Else | Stmt77::EndIf | Stmt77::Do(..) => Ok(None),
-            Stmt77::Continue | Stmt77::End => Ok(None),
+            Stmt77::Program(_) | Stmt77::ImplicitNone | Stmt77::Declare(..) => Ok(None),
+            Stmt77::Dimension(_) | Stmt77::Constants(_) | Stmt77::If(_) => Ok(None),
+            Stmt77::ElseIf(_) | Stmt77::Else | Stmt77::EndIf | Stmt77::Do(..) => Ok(None),
+            Stmt77::EndDo | Stmt77::Continue | Stmt77::End => Ok(None),
         }
     }
 }

@@ -28,11 +28,11 @@ fn target(statement: &Stmt77) -> Option<u32>
 {
     match statement {
         Stmt77::Go(number) => Some(*number),
-        Stmt77::Program(_) | Stmt77::Declare(..) | Stmt77::Dimension(_) => None,
-        Stmt77::Constants(_) | Stmt77::Assign(..) | Stmt77::Test(..) | Stmt77::If(_) => None,
-        Stmt77::ElseIf(_) | Stmt77::Else | Stmt77::EndIf | Stmt77::Do(..) => None,
-        Stmt77::Continue | Stmt77::Stop | Stmt77::Read(_) | Stmt77::Print(_) => None,
-        Stmt77::End => None,
+        Stmt77::Program(_) | Stmt77::ImplicitNone | Stmt77::Declare(..) => None,
+        Stmt77::Dimension(_) | Stmt77::Constants(_) | Stmt77::Assign(..) | Stmt77::Test(..) => None,
+        Stmt77::If(_) | Stmt77::ElseIf(_) | Stmt77::Else | Stmt77::EndIf | Stmt77::Do(..) => None,
+        Stmt77::EndDo | Stmt77::Continue | Stmt77::Stop | Stmt77::Read(_) => None,
+        Stmt77::Print(_) | Stmt77::End => None,
     }
 }
 

@@ -5,7 +5,7 @@
 //! equals sign outside parentheses is a DO, where a comma outside parentheses comes after the sign, or else an
 //! assignment. What is left begins with its keyword.
 //!
-//! Proved: how a statement is recognised (`cut_at_close`, `conditional`, `Outside::of`, `label`) and which of the 34
+//! Proved: how a statement is recognised (`cut_at_close`, `conditional`, `Outside::of`, `label`) and which of the 33
 //! words that are left out it has (`word_left_out`: `found`, `only`), so that no text has two.
 //!
 //! **`GO TO (10,20),,I` is a computed GO TO.** What stands behind the list of labels and one comma only has to be

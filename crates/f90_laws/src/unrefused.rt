@@ -2,6 +2,10 @@
 //!
 //! Proved (a law): no cause of refusal holds in the lines of a printed program, nor in its statements
 //! (`printed_program_is_read_well`).
-mod laws;
+ghost use Rattle.f90_laws.specs.unrefused.Unrefused.{PrintedProgramIsReadWell};
 
-pub use laws::printed_program_is_read_well;
+/// The text of a printed program, with notes before it, is read back, and no cause of refusal holds in its lines or
+/// statements but for the number of names.
+pub fn printed_program_is_read_well()
+    ensures { PrintedProgramIsReadWell }
+{}

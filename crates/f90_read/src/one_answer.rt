@@ -9,6 +9,14 @@
 //! What can't be denied of each statement can't be denied of all, since they are finitely many; so a text that isn't
 //! refused has statements, forms and a block (`f90_read::one_answer`). The law stands at the edge, so that nothing
 //! waits for its proof.
-mod laws;
+ghost use Rattle.f90_read.specs.one_answer.Settled.{TextIsReadOrRefused, NamesAloneAreRefused};
 
-pub use laws::{names_alone_are_refused, text_is_read_or_refused};
+/// No text is neither read nor refused.
+pub fn text_is_read_or_refused()
+    ensures { TextIsReadOrRefused }
+{}
+
+/// A text that has too many names, and no other cause, is refused for its names.
+pub fn names_alone_are_refused()
+    ensures { NamesAloneAreRefused }
+{}

@@ -9,6 +9,15 @@
 //!
 //! **The listing has a reader of its own.** It is a definition, and a law says that it gives back each entry; that is
 //! shorter, and says more, than that two listings differ.
-mod laws;
+ghost use Rattle.listing_laws.specs.reader.Laws.{EntryIsRead, ListingIsRead};
 
-pub use laws::{entry_is_read, listing_is_read};
+/// Each entry of a listing is read from its text.
+pub fn entry_is_read()
+    ensures { EntryIsRead }
+{}
+
+/// From the lines of a listing all its entries are read, also where a text takes several lines. So two listings with
+/// the same lines have the same loops, statements, edges, drops and holds.
+pub fn listing_is_read()
+    ensures { ListingIsRead }
+{}

@@ -6,6 +6,10 @@
 //!
 //! **Laws cite one another by their statements.** What is asked of a nest (`IsNestIn`) is about values of expressions,
 //! so that any way of knowing them serves; `nest_order::facts` gives one way, by linear forms.
-mod laws;
+ghost use Rattle.nest_order.specs.facts.Facts.{FactsSuffice};
 
-pub use laws::facts_of_nest;
+/// A nest whose subscripts and trips are what their linear forms say, and whose statements suit in kind, is one of
+/// which runs and orders have their laws.
+pub fn facts_of_nest()
+    ensures { FactsSuffice }
+{}

@@ -16,6 +16,23 @@
 //!
 //! **What orders need of a graph is stated without a list of what was dropped.** Each candidate that has a pair stands
 //! in an edge. Where a graph lists what has no pair, this follows.
-mod laws;
+ghost use Rattle.nest_order.specs.orders.Laws.{EdgesFollowSequence, EmissionArranges, EmissionKeepsEdges};
+ghost use Rattle.nest_order.specs.orders.Laws.{InstancesInSequence, SequenceKeepsEdges};
 
-pub use laws::{edges_in_sequence, instances_in_sequence, recursive_emission};
+/// A sequential run of a nest comes to each instance once, in sequential order.
+pub fn instances_in_sequence()
+    ensures { InstancesInSequence }
+{}
+
+/// Dependences lead forward in sequential order, which so keeps the edges.
+pub fn edges_in_sequence()
+    ensures follow { EdgesFollowSequence }
+    ensures keeps { SequenceKeepsEdges }
+{}
+
+/// Recursive emission, with whatever classes that are components at each level, puts each statement once into its own
+/// loops, and its instances into an order that keeps the edges.
+pub fn recursive_emission()
+    ensures arranges { EmissionArranges }
+    ensures keeps { EmissionKeepsEdges }
+{}

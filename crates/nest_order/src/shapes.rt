@@ -6,6 +6,11 @@
 //!
 //! **Statements are numbered from 0 in a shape.** So a statement's number is its place in the list of the nest's
 //! statements.
-mod laws;
+ghost use Rattle.nest_order.specs.shapes.Shapes.{ShapeIsNest, StatementIsOfShape};
 
-pub use laws::shape_of_nest;
+/// A nest without IF, label or jump, whose loops go from 1 by 1, stands for the statements of its shape, which is that
+/// of a nest.
+pub fn shape_of_nest()
+    ensures statement { StatementIsOfShape }
+    ensures nest { ShapeIsNest }
+{}

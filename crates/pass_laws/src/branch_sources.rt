@@ -1,4 +1,13 @@
 //! The nests that are found in a program have what the law of nests with IFs and jumps asks for.
-mod laws;
+ghost use Rattle.pass_laws.specs.branch_sources.Laws.{FoundNestIsBranchedSource, FoundNestKeepsMeaning};
 
-pub use laws::{found_nest_is_branched_source, found_nest_keeps_meaning};
+/// A nest that was found in a program of FORTRAN 77 has its jumps within its loops, and what else the law asks for of
+/// the meaning of nests with block IFs and jumps.
+pub fn found_nest_is_branched_source()
+    ensures { FoundNestIsBranchedSource }
+{}
+
+/// Loop normalization keeps the meaning of each nest that is found in a program of FORTRAN 77.
+pub fn found_nest_keeps_meaning()
+    ensures { FoundNestKeepsMeaning }
+{}

@@ -1,4 +1,12 @@
 //! What the profile of FORTRAN 77 gives of the nests that are found in a program.
-mod laws;
+ghost use Rattle.pass_laws.specs.found_sources.Laws.{FoundNestIsSource, NormalNestIsPlain};
 
-pub use laws::{found_nest_is_source, normal_nest_is_plain};
+/// A nest that was found in a program of FORTRAN 77 is one whose run stands beside that of its loops from 1 by 1.
+pub fn found_nest_is_source()
+    ensures { FoundNestIsSource }
+{}
+
+/// What is made of such a nest has loops from 1 by 1 and statements alone, where no IF stands in it.
+pub fn normal_nest_is_plain()
+    ensures { NormalNestIsPlain }
+{}

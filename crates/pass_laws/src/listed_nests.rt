@@ -1,4 +1,20 @@
 //! What a nest is listed as.
-mod laws;
+ghost use Rattle.pass_laws.specs.listed_nests.Laws.{ListedNestIsNormal, ListedNestIsOne, NormalNestIsListed};
 
-pub use laws::{listed_nest_is_normal, listed_nest_is_one, normal_nest_is_listed};
+/// The nest with loops from 1 by 1 of a nest is what is listed of it, where it has loops and statements alone.
+#[tactic(auto, using(crate::proofs::ListedNests::ListedNests::normal_nest_is_listed))]
+pub fn normal_nest_is_listed()
+    ensures { NormalNestIsListed }
+{}
+
+/// No other loops and statements are listed.
+#[tactic(auto, using(crate::proofs::ListedNests::ListedNests::listed_nest_is_normal))]
+pub fn listed_nest_is_normal()
+    ensures { ListedNestIsNormal }
+{}
+
+/// So one list of loops, each with its trip, and one of statements.
+#[tactic(auto, using(crate::proofs::ListedNests::ListedNests::listed_nest_is_one))]
+pub fn listed_nest_is_one()
+    ensures { ListedNestIsOne }
+{}

@@ -1,4 +1,7 @@
 //! Each nest that is found has a nest with loops from 1 by 1.
-mod laws;
+ghost use Rattle.pass_laws.specs.normal_nests.There.{NormalisedIsThere};
 
-pub use laws::normalised_nest;
+/// A nest that is found has a nest with loops from 1 by 1: the forms of its loops are within the limits.
+pub fn normalised_nest()
+    ensures { NormalisedIsThere }
+{}

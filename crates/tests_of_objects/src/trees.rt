@@ -107,6 +107,7 @@ fn causes_have_names(rt: HostRuntime) {
         (Cause::OutOfProfile(34), 7, 34, "OutOfProfile", ""),
         (Cause::DoVariable, 17, 0, "DoVariable", ""),
         (Cause::ReversedBounds, 18, 43, "Limit", "BOUNDS"),
+        (Cause::Untyped, 19, 0, "Untyped", ""),
         (Cause::BadByte90, 31, 0, "BadByte", ""),
         (Cause::Limit90, 40, 0, "Limit", ""),
     ] {
@@ -118,7 +119,7 @@ fn causes_have_names(rt: HostRuntime) {
         );
     }
     let other = Refusal {
-        number: 19,
+        number: 20,
         line: 1,
         word: 0,
     };

@@ -1,4 +1,17 @@
 //! The numbers of loops and nests.
-mod laws;
+ghost use Rattle.translation.specs.loop_numbers.Laws.{LoopNumbersCount, LoopsAreNumbered, NestsAreNumbered};
 
-pub use laws::{loop_numbers_count, loops_are_numbered, nests_are_numbered};
+/// Two loops of a program of FORTRAN 77 with one number are one loop.
+pub fn loops_are_numbered()
+    ensures { LoopsAreNumbered }
+{}
+
+/// Each nest of a program of FORTRAN 77 has a greater number than those before it, and so has its outermost loop.
+pub fn nests_are_numbered()
+    ensures { NestsAreNumbered }
+{}
+
+/// The outermost loop of a nest has a number from 1 on.
+pub fn loop_numbers_count()
+    ensures { LoopNumbersCount }
+{}

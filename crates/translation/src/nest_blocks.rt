@@ -1,8 +1,18 @@
 //! The listing of a program, and what stands in the place of its nests: array assignments and loops.
+ghost use Rattle.translation.specs.nest_blocks.Laws.{AnswersAreBlocks, AnswersAreListed};
+
 mod answers;
-mod laws;
 mod loop_answers;
 mod places;
 
 pub use answers::{Answers, program_answers};
-pub use laws::{answers_are_blocks, answers_are_listed};
+
+/// What the answers to a program's loops list is a listing of the program, with their graphs.
+pub fn answers_are_listed()
+    ensures { AnswersAreListed }
+{}
+
+/// What they put in the place of loops are translations of the program's nests.
+pub fn answers_are_blocks()
+    ensures { AnswersAreBlocks }
+{}

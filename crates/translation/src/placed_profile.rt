@@ -1,4 +1,8 @@
 //! A program with blocks in the place of some loops is of the profile of Fortran 90.
-mod laws;
+ghost use Rattle.translation.specs.placed_profile.Laws.{PlacedProgramIsProgram};
 
-pub use laws::placed_program_is_program;
+/// A program of FORTRAN 77, with further made names and with blocks of the profile, without labels and jumps, in the
+/// place of loops without labels and jumps, is a program of Fortran 90, within the limits on its statements.
+pub fn placed_program_is_program()
+    ensures { PlacedProgramIsProgram }
+{}

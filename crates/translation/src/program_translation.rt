@@ -1,4 +1,15 @@
 //! A program with translations in the place of its nests keeps its meaning.
-mod laws;
+ghost use Rattle.translation.specs.program_translation.Laws.{TranslationIsGood, TranslationKeepsMeaning};
 
-pub use laws::{translation_is_good, translation_keeps_meaning};
+/// Where the sequential run of a program of FORTRAN 77 ends without fault, so does the array run of the program in
+/// which what was emitted for nests stands in their loops' place, with the same output and the same values of the
+/// source's variables.
+pub fn translation_keeps_meaning()
+    ensures { TranslationKeepsMeaning }
+{}
+
+/// The translation of a program of FORTRAN 77, within the limits of Fortran 90 on its statements, is a program of
+/// Fortran 90, and keeps the meaning of its source.
+pub fn translation_is_good()
+    ensures { TranslationIsGood }
+{}

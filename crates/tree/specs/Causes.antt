@@ -6,7 +6,7 @@ use Rattle.tree.specs.declared.refusals.Cause.TheVariants.{TooLong, BadByte, Tab
 use Rattle.tree.specs.declared.refusals.Cause.TheVariants.{OutOfProfile, WideLiteral, Deep, Label, Nesting, NoEnd}
 use Rattle.tree.specs.declared.refusals.Cause.TheVariants.{Declared, RealName, TypeClash, Jump, DoVariable}
 use Rattle.tree.specs.declared.refusals.Cause.TheVariants.{ManyNames, ManyBlocks, ReversedBounds, ManyElements}
-use Rattle.tree.specs.declared.refusals.Cause.TheVariants.{BadConstant}
+use Rattle.tree.specs.declared.refusals.Cause.TheVariants.{BadConstant, Untyped}
 use Rattle.tree.specs.declared.refusals.Cause.TheVariants.{BadByte90, LongLine, Continuation, Syntax90}
 use Rattle.tree.specs.declared.refusals.Cause.TheVariants.{WideLiteral90}
 use Rattle.tree.specs.declared.refusals.Cause.TheVariants.{Deep90, Structure, Declared90, TypeClash90, Limit90}
@@ -34,6 +34,7 @@ number_of_cause ManyBlocks = 18
 number_of_cause ReversedBounds = 18
 number_of_cause ManyElements = 18
 number_of_cause BadConstant = 18
+number_of_cause Untyped = 19
 number_of_cause BadByte90 = 31
 number_of_cause LongLine = 32
 number_of_cause Continuation = 33
@@ -78,6 +79,7 @@ name_of_cause ManyBlocks = codes "Limit"
 name_of_cause ReversedBounds = codes "Limit"
 name_of_cause ManyElements = codes "Limit"
 name_of_cause BadConstant = codes "Limit"
+name_of_cause Untyped = codes "Untyped"
 name_of_cause BadByte90 = codes "BadByte"
 name_of_cause LongLine = codes "LongLine"
 name_of_cause Continuation = codes "Continuation"
@@ -107,9 +109,9 @@ pub record IsRefusedFor (r : Refusal) (cause : Cause) : Type 0 where
   pub number : number_of_cause cause ≡ r.number
   pub word : word_of_cause cause ≡ r.word
 
--- FORTRAN 77 has the numbers 1 to 18, and Fortran 90 those from 31 to 40
+-- FORTRAN 77 has the numbers 1 to 19, and Fortran 90 those from 31 to 40
 abbrev pub IsRefusalNumber : ℕ → Type 0
-IsRefusalNumber n = ((1 ≤ n) × (n ≤ 18)) ⊎ ((31 ≤ n) × (n ≤ 40))
+IsRefusalNumber n = ((1 ≤ n) × (n ≤ 19)) ⊎ ((31 ≤ n) × (n ≤ 40))
 
 -- ---- names of refusals by their numbers
 
@@ -118,7 +120,7 @@ abbrev pub all_causes : List Cause
 all_causes =
     TooLong ∷ BadByte ∷ Tab ∷ LineForm ∷ ManyLines ∷ Syntax ∷ OutOfProfile 0 ∷ WideLiteral ∷ Deep ∷ Label ∷ Nesting
     ∷ NoEnd ∷ Declared ∷ RealName ∷ TypeClash ∷ Jump ∷ DoVariable
-    ∷ ManyNames ∷ ManyBlocks ∷ ReversedBounds ∷ ManyElements ∷ BadConstant
+    ∷ ManyNames ∷ ManyBlocks ∷ ReversedBounds ∷ ManyElements ∷ BadConstant ∷ Untyped
     ∷ BadByte90 ∷ LongLine ∷ Continuation ∷ Syntax90 ∷ WideLiteral90 ∷ Deep90 ∷ Structure ∷ Declared90 ∷ TypeClash90
     ∷ Limit90 ∷ []
 

@@ -56,6 +56,8 @@ pub enum Cause {
     ManyElements,
     /// A symbolic constant or a bound that faults, or leaves the range of INTEGER.
     BadConstant,
+    /// A name without type beside IMPLICIT NONE.
+    Untyped,
     BadByte90,
     LongLine,
     /// The text ends while a statement is continued.
@@ -96,6 +98,7 @@ macro_rules! cause_table {
             ReversedBounds 18 43 "Limit" "BOUNDS";
             ManyElements 18 44 "Limit" "ARRAYS";
             BadConstant 18 45 "Limit" "CONSTANT";
+            Untyped 19 0 "Untyped" "";
             BadByte90 31 0 "BadByte" "";
             LongLine 32 0 "LongLine" "";
             Continuation 33 0 "Continuation" "";
@@ -140,7 +143,7 @@ macro_rules! cause_table {
 }
 
 // Of the words that the profile leaves out none.
-const CAUSES: [Cause; 32] = cause_table!(all);
+const CAUSES: [Cause; 33] = cause_table!(all);
 
 impl Cause {
     /// The number of the refusal.

@@ -1,5 +1,5 @@
 -- What suits, for each kind of statement.
-use Rattle.std.proofs.Common.{◌≡◌, ◌≢◌, ℕ, zero, suc, ◌+◌, ◌<◌, Bool, true, false, not, ◌&&◌, ◌||◌, List, [], ◌∷◌, map, drop, length, get_or, refl, sym, ap, ◌∙◌, add-one}
+use Rattle.std.proofs.Common.{◌≡◌, ◌≢◌, ℕ, Option, zero, suc, ◌+◌, ◌<◌, Bool, true, false, not, ◌&&◌, ◌||◌, List, [], ◌∷◌, map, drop, length, get_or, refl, sym, ap, ◌∙◌, add-one}
 use Rattle.std.proofs.Math.Seq.{drop-cons}
 use Rattle.std.specs.List.{list_any}
 use Rattle.std.specs.declared.boxed.Box.{Box}
@@ -25,7 +25,7 @@ use Rattle.f77_grammar.specs.declared.syntax.statements.Stmt77.TheVariants as st
 use Rattle.f77_grammar.specs.syntax.Views.{statement_of, labelled_of, text_of, bounds_of, entity_of, constant_of}
 use Rattle.f77_grammar.specs.declared.syntax.statements.Labelled.{Labelled as Labelled'}
 use Rattle.f77_grammar.specs.syntax.Walk.{place_at}
-use Rattle.f77_grammar.proofs.syntax.Equations.{statement_of-program, statement_of-declare, statement_of-dimension, statement_of-constants, statement_of-assign, statement_of-go, statement_of-test, statement_of-if, statement_of-else_if, statement_of-else, statement_of-end_if, statement_of-do, statement_of-continue, statement_of-stop, statement_of-read, statement_of-print, statement_of-end}
+use Rattle.f77_grammar.proofs.syntax.Equations.{statement_of-program, statement_of-implicit_none, statement_of-declare, statement_of-dimension, statement_of-constants, statement_of-assign, statement_of-go, statement_of-test, statement_of-if, statement_of-else_if, statement_of-else, statement_of-end_if, statement_of-do, statement_of-end_do, statement_of-continue, statement_of-stop, statement_of-read, statement_of-print, statement_of-end}
 use Rattle.f77_names.proofs.UseLaws.{number_is}
 
 -- ---- bounds, one after the other
@@ -102,7 +102,7 @@ suits-if us c = ap (suits us) (statement_of-if c)
 pub suits-else_if : (us : List Use) (c : Expr) → suits us (statement_of (stmts.ElseIf c)) ≡ has_kind us (expression_of c) Logical
 suits-else_if us c = ap (suits us) (statement_of-else_if c)
 
-pub suits-do : (us : List Use) (n : ℕ) (x : Name) (a b c : Expr) → suits us (statement_of (stmts.Do n x a b c)) ≡ are_numbers us (expression_of a) (expression_of b) (expression_of c)
+pub suits-do : (us : List Use) (n : Option ℕ) (x : Name) (a b c : Expr) → suits us (statement_of (stmts.Do n x a b c)) ≡ are_numbers us (expression_of a) (expression_of b) (expression_of c)
 suits-do us n x a b c = ap (suits us) (statement_of-do n x a b c)
 
 pub suits-read : (us : List Use) (is : Seq Item) → suits us (statement_of (stmts.Read is)) ≡ suits_items us Input (items (map item_of is))
@@ -110,6 +110,9 @@ suits-read us is = ap (suits us) (statement_of-read is)
 
 pub suits-print : (us : List Use) (is : Seq Item) → suits us (statement_of (stmts.Print is)) ≡ suits_items us Output (items (map item_of is))
 suits-print us is = ap (suits us) (statement_of-print is)
+
+pub suits-implicit_none : (us : List Use) → suits us (statement_of stmts.ImplicitNone) ≡ true
+suits-implicit_none us = ap (suits us) statement_of-implicit_none
 
 pub suits-go : (us : List Use) (n : ℕ) → suits us (statement_of (stmts.Go n)) ≡ true
 suits-go us n = ap (suits us) (statement_of-go n)
@@ -120,6 +123,9 @@ suits-else us = ap (suits us) statement_of-else
 pub suits-end_if : (us : List Use) → suits us (statement_of stmts.EndIf) ≡ true
 suits-end_if us = ap (suits us) statement_of-end_if
 
+pub suits-end_do : (us : List Use) → suits us (statement_of stmts.EndDo) ≡ true
+suits-end_do us = ap (suits us) statement_of-end_do
+
 pub suits-continue : (us : List Use) → suits us (statement_of stmts.Continue) ≡ true
 suits-continue us = ap (suits us) statement_of-continue
 
@@ -129,7 +135,7 @@ suits-stop us = ap (suits us) statement_of-stop
 pub suits-end : (us : List Use) → suits us (statement_of stmts.End) ≡ true
 suits-end us = ap (suits us) statement_of-end
 
-pub ruleset statement_laws = (suits-program, suits-declare, suits-dimension, suits-constants, suits-assign, suits-test, suits-if, suits-else_if, suits-do, suits-read, suits-print, suits-go, suits-else, suits-end_if, suits-continue, suits-stop, suits-end)
+pub ruleset statement_laws = (suits-program, suits-declare, suits-dimension, suits-constants, suits-assign, suits-test, suits-if, suits-else_if, suits-do, suits-read, suits-print, suits-implicit_none, suits-go, suits-else, suits-end_if, suits-end_do, suits-continue, suits-stop, suits-end)
 
 -- ---- the place of a statement
 

@@ -60,7 +60,7 @@ jump_on_read = refl
 abbrev jump_into_loop : List Labelled
 jump_into_loop =
     s 1 (Go 10)
-    ∷ s 2 (Do 20 (codes "I") (n 1) (n 3) (n 1))
+    ∷ s 2 (Do (Some 20) (codes "I") (n 1) (n 3) (n 1))
     ∷ l 10 3 (Continue)
     ∷ l 20 4 (Continue)
     ∷ s 5 (End)
@@ -77,7 +77,7 @@ jump_into_loop_refused = refl
 abbrev jump_over_loop : List Labelled
 jump_over_loop =
     s 1 (Go 10)
-    ∷ s 2 (Do 20 (codes "I") (n 1) (n 3) (n 1))
+    ∷ s 2 (Do (Some 20) (codes "I") (n 1) (n 3) (n 1))
     ∷ l 20 3 (Continue)
     ∷ l 10 4 (Continue)
     ∷ s 5 (End)
@@ -93,7 +93,7 @@ jump_over_loop_read = refl
 abbrev jump_to_do : List Labelled
 jump_to_do =
     s 1 (Go 10)
-    ∷ l 10 2 (Do 20 (codes "I") (n 1) (n 3) (n 1))
+    ∷ l 10 2 (Do (Some 20) (codes "I") (n 1) (n 3) (n 1))
     ∷ l 20 3 (Continue)
     ∷ s 4 (End)
     ∷ []
@@ -108,7 +108,7 @@ jump_to_do_read = refl
 --       END
 abbrev jump_out_of_loop : List Labelled
 jump_out_of_loop =
-    s 1 (Do 20 (codes "I") (n 1) (n 3) (n 1))
+    s 1 (Do (Some 20) (codes "I") (n 1) (n 3) (n 1))
     ∷ s 2 (Test (Binary Eq (v "I") (n 2)) (Go 10))
     ∷ l 20 3 (Continue)
     ∷ l 10 4 (Continue)
@@ -125,7 +125,7 @@ jump_out_of_loop_read = refl
 --       END
 abbrev jump_to_end_of_loop : List Labelled
 jump_to_end_of_loop =
-    s 1 (Do 20 (codes "I") (n 1) (n 3) (n 1))
+    s 1 (Do (Some 20) (codes "I") (n 1) (n 3) (n 1))
     ∷ s 2 (Test (Binary Eq (v "I") (n 2)) (Go 20))
     ∷ s 3 (Assign (to "K") (Binary Add (v "K") (n 1)))
     ∷ l 20 4 (Continue)
@@ -142,9 +142,9 @@ jump_to_end_of_loop_read = refl
 --       END
 abbrev jump_to_shared_end : List Labelled
 jump_to_shared_end =
-    s 1 (Do 20 (codes "I") (n 1) (n 3) (n 1))
+    s 1 (Do (Some 20) (codes "I") (n 1) (n 3) (n 1))
     ∷ s 2 (Test (Binary Eq (v "I") (n 2)) (Go 20))
-    ∷ s 3 (Do 20 (codes "J") (n 1) (n 3) (n 1))
+    ∷ s 3 (Do (Some 20) (codes "J") (n 1) (n 3) (n 1))
     ∷ l 20 4 (Continue)
     ∷ s 5 (End)
     ∷ []
@@ -257,7 +257,7 @@ jump_to_end_if_refused = refl
 --       END
 abbrev do_variable_assigned : List Labelled
 do_variable_assigned =
-    s 1 (Do 10 (codes "I") (n 1) (n 3) (n 1))
+    s 1 (Do (Some 10) (codes "I") (n 1) (n 3) (n 1))
     ∷ s 2 (Assign (to "I") (n 2))
     ∷ l 10 3 (Continue)
     ∷ s 4 (End)
@@ -271,7 +271,7 @@ do_variable_assigned_refused = refl
 --       END
 abbrev do_variable_assigned_last : List Labelled
 do_variable_assigned_last =
-    s 1 (Do 10 (codes "I") (n 1) (n 3) (n 1))
+    s 1 (Do (Some 10) (codes "I") (n 1) (n 3) (n 1))
     ∷ l 10 2 (Assign (to "I") (n 2))
     ∷ s 3 (End)
     ∷ []
@@ -285,7 +285,7 @@ do_variable_assigned_last_refused = refl
 --       END
 abbrev do_variable_assigned_after : List Labelled
 do_variable_assigned_after =
-    s 1 (Do 10 (codes "I") (n 1) (n 3) (n 1))
+    s 1 (Do (Some 10) (codes "I") (n 1) (n 3) (n 1))
     ∷ l 10 2 (Continue)
     ∷ s 3 (Assign (to "I") (n 2))
     ∷ s 4 (End)
@@ -299,7 +299,7 @@ do_variable_assigned_after_read = refl
 --       END
 abbrev do_variable_read : List Labelled
 do_variable_read =
-    s 1 (Do 10 (codes "I") (n 1) (n 3) (n 1))
+    s 1 (Do (Some 10) (codes "I") (n 1) (n 3) (n 1))
     ∷ l 10 2 (Read (items (Single (v "I") ∷ [])))
     ∷ s 3 (End)
     ∷ []
@@ -313,8 +313,8 @@ do_variable_read_refused = refl
 --       END
 abbrev do_variable_twice : List Labelled
 do_variable_twice =
-    s 1 (Do 10 (codes "I") (n 1) (n 3) (n 1))
-    ∷ s 2 (Do 10 (codes "I") (n 1) (n 3) (n 1))
+    s 1 (Do (Some 10) (codes "I") (n 1) (n 3) (n 1))
+    ∷ s 2 (Do (Some 10) (codes "I") (n 1) (n 3) (n 1))
     ∷ l 10 3 (Continue)
     ∷ s 4 (End)
     ∷ []
@@ -329,7 +329,7 @@ do_variable_twice_refused = refl
 abbrev do_variable_logical : List Labelled
 do_variable_logical =
     s 1 (Declare Logical (scalar "L" ∷ []))
-    ∷ s 2 (Do 10 (codes "L") (n 1) (n 3) (n 1))
+    ∷ s 2 (Do (Some 10) (codes "L") (n 1) (n 3) (n 1))
     ∷ l 10 3 (Continue)
     ∷ s 4 (End)
     ∷ []
@@ -344,7 +344,7 @@ do_variable_logical_refused = refl
 abbrev do_variable_array : List Labelled
 do_variable_array =
     s 1 (Declare Integer (array "L" ((n 1, n 3) ∷ []) ∷ []))
-    ∷ s 2 (Do 10 (codes "L") (n 1) (n 3) (n 1))
+    ∷ s 2 (Do (Some 10) (codes "L") (n 1) (n 3) (n 1))
     ∷ l 10 3 (Continue)
     ∷ s 4 (End)
     ∷ []
@@ -359,7 +359,7 @@ do_variable_array_refused = refl
 abbrev do_variable_constant : List Labelled
 do_variable_constant =
     s 1 (Constants (constant "L" (n 1) ∷ []))
-    ∷ s 2 (Do 10 (codes "L") (n 1) (n 3) (n 1))
+    ∷ s 2 (Do (Some 10) (codes "L") (n 1) (n 3) (n 1))
     ∷ l 10 3 (Continue)
     ∷ s 4 (End)
     ∷ []
@@ -372,7 +372,7 @@ do_variable_constant_refused = refl
 --       END
 abbrev implied_do_variable_of_loop : List Labelled
 implied_do_variable_of_loop =
-    s 1 (Do 10 (codes "I") (n 1) (n 3) (n 1))
+    s 1 (Do (Some 10) (codes "I") (n 1) (n 3) (n 1))
     ∷ l 10 2 (Print (items (ImpliedDo (items (Single (v "I") ∷ [])) (codes "I") (n 1) (n 2) (n 1) ∷ [])))
     ∷ s 3 (End)
     ∷ []
@@ -385,7 +385,7 @@ implied_do_variable_of_loop_refused = refl
 --       END
 abbrev implied_do_variable_free : List Labelled
 implied_do_variable_free =
-    s 1 (Do 10 (codes "I") (n 1) (n 3) (n 1))
+    s 1 (Do (Some 10) (codes "I") (n 1) (n 3) (n 1))
     ∷ l 10 2 (Print (items (ImpliedDo (items (Single (v "I") ∷ [])) (codes "J") (n 1) (n 2) (n 1) ∷ [])))
     ∷ s 3 (End)
     ∷ []

@@ -186,7 +186,7 @@ call_assigned_refused = refl
 --       END
 abbrev logical_loop_bound : List Labelled
 logical_loop_bound =
-    s 1 (Do 10 (codes "I") (n 1) (Logic true) (n 1))
+    s 1 (Do (Some 10) (codes "I") (n 1) (Logic true) (n 1))
     ∷ l 10 2 (Continue)
     ∷ s 3 (End)
     ∷ []

@@ -117,7 +117,7 @@ go_to_zero_refused = refl
 --       END
 abbrev do_label_nowhere : List Labelled
 do_label_nowhere =
-    s 1 (Do 10 (codes "I") (n 1) (n 3) (n 1))
+    s 1 (Do (Some 10) (codes "I") (n 1) (n 3) (n 1))
     ∷ l 20 2 (Continue)
     ∷ s 3 (End)
     ∷ []

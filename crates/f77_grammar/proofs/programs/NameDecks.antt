@@ -451,7 +451,7 @@ abbrev blanks_have_no_meaning : List Labelled
 blanks_have_no_meaning =
     s 1 (Declare Integer (scalar "DO10I" ∷ []))
     ∷ s 2 (Assign (to "DO10I") (n 1))
-    ∷ s 3 (Do 10 (codes "I") (n 1) (n 3) (n 1))
+    ∷ s 3 (Do (Some 10) (codes "I") (n 1) (n 3) (n 1))
     ∷ l 10 4 (Assign (to "DO10I") (Binary Add (v "DO10I") (v "I")))
     ∷ s 5 (Print (items (Single (v "DO10I") ∷ Single (v "I") ∷ [])))
     ∷ s 6 (End)
@@ -468,7 +468,7 @@ blanks_have_no_meaning_read = refl
 abbrev blanks_have_no_meaning_undeclared : List Labelled
 blanks_have_no_meaning_undeclared =
     s 1 (Assign (to "DO10I") (n 1))
-    ∷ s 2 (Do 10 (codes "I") (n 1) (n 3) (n 1))
+    ∷ s 2 (Do (Some 10) (codes "I") (n 1) (n 3) (n 1))
     ∷ l 10 3 (Assign (to "DO10I") (Binary Add (v "DO10I") (v "I")))
     ∷ s 4 (Print (items (Single (v "DO10I") ∷ Single (v "I") ∷ [])))
     ∷ s 5 (End)

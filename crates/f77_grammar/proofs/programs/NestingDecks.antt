@@ -131,7 +131,7 @@ end_if_without_if_refused = refl
 abbrev do_label_before : List Labelled
 do_label_before =
     l 10 1 (Continue)
-    ∷ s 2 (Do 10 (codes "I") (n 1) (n 3) (n 1))
+    ∷ s 2 (Do (Some 10) (codes "I") (n 1) (n 3) (n 1))
     ∷ s 3 (End)
     ∷ []
 
@@ -145,8 +145,8 @@ do_label_before_refused = refl
 --       END
 abbrev crossed_loops : List Labelled
 crossed_loops =
-    s 1 (Do 10 (codes "I") (n 1) (n 3) (n 1))
-    ∷ s 2 (Do 20 (codes "J") (n 1) (n 3) (n 1))
+    s 1 (Do (Some 10) (codes "I") (n 1) (n 3) (n 1))
+    ∷ s 2 (Do (Some 20) (codes "J") (n 1) (n 3) (n 1))
     ∷ l 10 3 (Continue)
     ∷ l 20 4 (Continue)
     ∷ s 5 (End)
@@ -162,8 +162,8 @@ crossed_loops_refused = refl
 --       END
 abbrev loops_in_each_other : List Labelled
 loops_in_each_other =
-    s 1 (Do 10 (codes "I") (n 1) (n 3) (n 1))
-    ∷ s 2 (Do 20 (codes "J") (n 1) (n 3) (n 1))
+    s 1 (Do (Some 10) (codes "I") (n 1) (n 3) (n 1))
+    ∷ s 2 (Do (Some 20) (codes "J") (n 1) (n 3) (n 1))
     ∷ l 20 3 (Continue)
     ∷ l 10 4 (Continue)
     ∷ s 5 (End)
@@ -178,8 +178,8 @@ loops_in_each_other_read = refl
 --       END
 abbrev loops_with_one_end : List Labelled
 loops_with_one_end =
-    s 1 (Do 10 (codes "I") (n 1) (n 3) (n 1))
-    ∷ s 2 (Do 10 (codes "J") (n 1) (n 3) (n 1))
+    s 1 (Do (Some 10) (codes "I") (n 1) (n 3) (n 1))
+    ∷ s 2 (Do (Some 10) (codes "J") (n 1) (n 3) (n 1))
     ∷ l 10 3 (Assign (to "K") (Binary Add (v "K") (n 1)))
     ∷ s 4 (End)
     ∷ []
@@ -195,7 +195,7 @@ loops_with_one_end_read = refl
 abbrev loop_over_end_if : List Labelled
 loop_over_end_if =
     s 1 (If (Binary Eq (v "I") (n 1)))
-    ∷ s 2 (Do 10 (codes "J") (n 1) (n 3) (n 1))
+    ∷ s 2 (Do (Some 10) (codes "J") (n 1) (n 3) (n 1))
     ∷ s 3 (EndIf)
     ∷ l 10 4 (Continue)
     ∷ s 5 (End)
@@ -211,7 +211,7 @@ loop_over_end_if_refused = refl
 --       END
 abbrev if_over_loop_end : List Labelled
 if_over_loop_end =
-    s 1 (Do 10 (codes "J") (n 1) (n 3) (n 1))
+    s 1 (Do (Some 10) (codes "J") (n 1) (n 3) (n 1))
     ∷ s 2 (If (Binary Eq (v "I") (n 1)))
     ∷ l 10 3 (Continue)
     ∷ s 4 (EndIf)
@@ -229,7 +229,7 @@ if_over_loop_end_refused = refl
 --       END
 abbrev if_in_loop : List Labelled
 if_in_loop =
-    s 1 (Do 10 (codes "J") (n 1) (n 3) (n 1))
+    s 1 (Do (Some 10) (codes "J") (n 1) (n 3) (n 1))
     ∷ s 2 (If (Binary Eq (v "I") (n 1)))
     ∷ s 3 (Assign (to "K") (n 1))
     ∷ s 4 (EndIf)
@@ -321,7 +321,7 @@ else_of_an_inner_if_read = refl
 abbrev else_in_a_loop : List Labelled
 else_in_a_loop =
     s 1 (If (Binary Eq (v "I") (n 1)))
-    ∷ s 2 (Do 10 (codes "J") (n 1) (n 3) (n 1))
+    ∷ s 2 (Do (Some 10) (codes "J") (n 1) (n 3) (n 1))
     ∷ s 3 (Else)
     ∷ l 10 4 (Continue)
     ∷ s 5 (EndIf)
@@ -348,7 +348,7 @@ else_alone_refused = refl
 --       END
 abbrev loop_ends_on_go_to : List Labelled
 loop_ends_on_go_to =
-    s 1 (Do 10 (codes "J") (n 1) (n 3) (n 1))
+    s 1 (Do (Some 10) (codes "J") (n 1) (n 3) (n 1))
     ∷ l 10 2 (Go 20)
     ∷ l 20 3 (Continue)
     ∷ s 4 (End)
@@ -363,7 +363,7 @@ loop_ends_on_go_to_refused = refl
 --       END
 abbrev loop_ends_on_logical_if : List Labelled
 loop_ends_on_logical_if =
-    s 1 (Do 10 (codes "J") (n 1) (n 3) (n 1))
+    s 1 (Do (Some 10) (codes "J") (n 1) (n 3) (n 1))
     ∷ l 10 2 (Test (Binary Eq (v "J") (n 2)) (Go 20))
     ∷ l 20 3 (Continue)
     ∷ s 4 (End)
@@ -377,7 +377,7 @@ loop_ends_on_logical_if_read = refl
 --       END
 abbrev loop_ends_on_stop : List Labelled
 loop_ends_on_stop =
-    s 1 (Do 10 (codes "J") (n 1) (n 3) (n 1))
+    s 1 (Do (Some 10) (codes "J") (n 1) (n 3) (n 1))
     ∷ l 10 2 (Stop)
     ∷ s 3 (End)
     ∷ []
@@ -389,7 +389,7 @@ loop_ends_on_stop_refused = refl
 --    10 END
 abbrev loop_ends_on_end : List Labelled
 loop_ends_on_end =
-    s 1 (Do 10 (codes "J") (n 1) (n 3) (n 1))
+    s 1 (Do (Some 10) (codes "J") (n 1) (n 3) (n 1))
     ∷ l 10 2 (End)
     ∷ []
 
@@ -401,7 +401,7 @@ loop_ends_on_end_refused = refl
 --       END
 abbrev loop_ends_on_print : List Labelled
 loop_ends_on_print =
-    s 1 (Do 10 (codes "J") (n 1) (n 3) (n 1))
+    s 1 (Do (Some 10) (codes "J") (n 1) (n 3) (n 1))
     ∷ l 10 2 (Print (items (Single (v "J") ∷ [])))
     ∷ s 3 (End)
     ∷ []

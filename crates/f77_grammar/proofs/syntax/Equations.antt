@@ -1,5 +1,5 @@
 -- The plain statement of each kind of statement.
-use Rattle.std.proofs.Common.{◌≡◌, ℕ, map, rules}
+use Rattle.std.proofs.Common.{◌≡◌, ℕ, Option, map, rules}
 use Rattle.std.specs.declared.boxed.Box.{Box}
 use Rattle.std.specs.declared.alloc.Global.{Global}
 use Rattle.tree.specs.declared.names.Name.{Name}
@@ -19,6 +19,10 @@ use Rattle.f77_grammar.specs.syntax.Views.{statement_of, entity_of, constant_of}
 pub statement_of-program : (x : Name) → statement_of (stmts.Program x) ≡ S.Program x
 unfolding statement_of
 statement_of-program x = search (rules, the_lemmas)
+
+pub statement_of-implicit_none : statement_of stmts.ImplicitNone ≡ S.ImplicitNone
+unfolding statement_of
+statement_of-implicit_none = search (rules, the_lemmas)
 
 pub statement_of-declare : (k : Kind) (es : Seq Entity) → statement_of (stmts.Declare k es) ≡ S.Declare k (map entity_of es)
 unfolding statement_of
@@ -60,9 +64,13 @@ pub statement_of-end_if : statement_of stmts.EndIf ≡ S.EndIf
 unfolding statement_of
 statement_of-end_if = search (rules, the_lemmas)
 
-pub statement_of-do : (n : ℕ) (x : Name) (a b c : Expr) → statement_of (stmts.Do n x a b c) ≡ S.Do n x (expression_of a) (expression_of b) (expression_of c)
+pub statement_of-do : (n : Option ℕ) (x : Name) (a b c : Expr) → statement_of (stmts.Do n x a b c) ≡ S.Do n x (expression_of a) (expression_of b) (expression_of c)
 unfolding statement_of
 statement_of-do n x a b c = search (rules, the_lemmas)
+
+pub statement_of-end_do : statement_of stmts.EndDo ≡ S.EndDo
+unfolding statement_of
+statement_of-end_do = search (rules, the_lemmas)
 
 pub statement_of-continue : statement_of stmts.Continue ≡ S.Continue
 unfolding statement_of
@@ -84,4 +92,4 @@ pub statement_of-end : statement_of stmts.End ≡ S.End
 unfolding statement_of
 statement_of-end = search (rules, the_lemmas)
 
-pub ruleset statement_equations = (statement_of-program, statement_of-declare, statement_of-dimension, statement_of-constants, statement_of-assign, statement_of-go, statement_of-test, statement_of-if, statement_of-else_if, statement_of-else, statement_of-end_if, statement_of-do, statement_of-continue, statement_of-stop, statement_of-read, statement_of-print, statement_of-end)
+pub ruleset statement_equations = (statement_of-program, statement_of-implicit_none, statement_of-declare, statement_of-dimension, statement_of-constants, statement_of-assign, statement_of-go, statement_of-test, statement_of-if, statement_of-else_if, statement_of-else, statement_of-end_if, statement_of-do, statement_of-end_do, statement_of-continue, statement_of-stop, statement_of-read, statement_of-print, statement_of-end)

@@ -3,7 +3,7 @@
 --        DO 10 I = 1, N       Do I             a block of one DO loop, whose range is the next DO with its own
 --        DO 10 J = 1, I         Do J           range: both end with the statement that bears 10
 --     10 A(I,J) = 0               A(I,J) = 0   a block of one statement; no Label 10, where no GO TO names it
-use Rattle.std.specs.Prelude.{◌≡◌, ℕ, Bool, true, false, List, [], ◌∷◌, ◌++◌, map}
+use Rattle.std.specs.Prelude.{◌≡◌, ℕ, Bool, true, false, Some, List, [], ◌∷◌, ◌++◌, map}
 use Rattle.tree.specs.Plain as tree
 use Rattle.tree.specs.Plain.{Expression, Program}
 use Rattle.meaning.specs.Dialect.{Dialect}
@@ -16,13 +16,13 @@ use Rattle.f77_grammar.specs.program.Limits.{constants_of}
 use Rattle.f77_grammar.specs.program.Tree.{resolved, simple, mark_of, targets, variables_of, declaration_of}
 use Rattle.f77_grammar.specs.program.Tree.{first_of_names}
 
--- neither a line of a block IF nor a DO
+-- neither a line of a block IF nor DO; END DO ends the range of its loop, as CONTINUE may
 abbrev pub stands_alone : Statement77 → Bool
 stands_alone (If c) = false
 stands_alone (ElseIf c) = false
 stands_alone Else = false
 stands_alone EndIf = false
-stands_alone (Do n v a b c) = false
+stands_alone (Do label v a b c) = false
 stands_alone s = true
 
 -- Statements up to and with the first that bears the label, on which a loop may end (sections 11.10.1 and 11.10.2)
@@ -34,8 +34,8 @@ IsRange n (x ∷ y ∷ ys) = (bears n x ≡ false) × IsRange n (y ∷ ys)
 -- by all uses `us` of names in the program, the values `s` of its symbolic constants, and the labels that a GO TO names
 module _ (us : List Use) (s : Store) (named : List ℕ) where
   mutual
-    -- A statement alone, of which a declaration and CONTINUE give nothing and a logical IF a block IF of one arm; a
-    -- block IF with all up to its END IF; a DO with its range. A label stands before what its statement gives
+    -- A statement alone, of which a declaration, CONTINUE and END DO give nothing and a logical IF a block IF of one
+    -- arm; a block IF with all up to its END IF; a DO with its range. A label stands before what its statement gives
     pub data IsUnit : List Labelled → List tree.Statement → Type 0 where
       alone : (x : Labelled) → stands_alone x.statement ≡ true
           → IsUnit (x ∷ []) (mark_of named x.label ++ simple us s x.line x.statement)
@@ -46,7 +46,7 @@ module _ (us : List Use) (s : Store) (named : List ℕ) where
           ++ tree.If x.line (tree.arm (resolved us s c) (tree.block body) arms) other ∷ [])
       loop : (x : Labelled) (n : ℕ) (v : List ℕ) (a b c : Expression) (range : List Labelled)
           (body : List tree.Statement)
-          → x.statement ≡ Do n v a b c → IsRange n range → AreBlock range body
+          → x.statement ≡ Do (Some n) v a b c → IsRange n range → AreBlock range body
           → IsUnit (x ∷ range) (mark_of named x.label
           ++ tree.Do x.line v (resolved us s a) (resolved us s b) (resolved us s c) (tree.block body) ∷ [])
 

@@ -5,10 +5,10 @@ use Rattle.std.specs.Prelude.{is_some, is_none}
 use Rattle.std.specs.Prelude.{List, [], ◌∷◌, ◌++◌}
 use Rattle.std.specs.List.{list_any}
 use Rattle.tree.specs.declared.functions.Fun.{Fun}
-use Rattle.f77_grammar.specs.Statement77.{Entity, NamedConstant, Statement77, Declare, Dimension, Constants}
+use Rattle.f77_grammar.specs.Statement77.{Entity, NamedConstant, Labelled, Statement77, Declare, Dimension, Constants}
 use Rattle.meaning.specs.Names.{is_among, is_implicit_integer}
 use Rattle.tree.specs.Functions.{function_named, name_of_function}
-use Rattle.f77_grammar.specs.program.Text.{Place}
+use Rattle.f77_grammar.specs.program.Text.{Place, is_implicit_none}
 use Rattle.f77_grammar.specs.program.Uses.{Role, Valued, Target, Use, uses_in, uses_in_bounds, uses_of, uses_in_text}
 use Rattle.f77_grammar.specs.program.Uses.{is_title, is_typed, is_bounded, is_defined, names_that, stands, is_constant}
 use Rattle.f77_grammar.specs.program.Uses.{is_variable, is_array, calls, type_of, dimensions_of_name}
@@ -108,9 +108,27 @@ is_declared_wrongly us p =
     || has_unknown_constant (names_that is_defined (uses_in_text p.before)) p.here.statement
     || has_misused_name us p.here.statement
 
--- a variable or symbolic constant that stands here has no type, and doesn't begin with I to N
-abbrev pub is_real : List Use → List ℕ → Bool
-is_real us x = (is_variable us x || is_constant us x) && is_none (type_of us x) && not (is_implicit_integer x)
+-- ---- names without a type
 
-abbrev pub has_real_name : List Use → Place → Bool
-has_real_name us p = list_any (λ (u : Use). not (is_title u.role) && is_real us u.name) (uses_of p.here.statement)
+-- IMPLICIT NONE stands among the statements
+abbrev pub has_implicit_none : List Labelled → Bool
+has_implicit_none text = list_any (λ (x : Labelled). is_implicit_none x.statement) text
+
+-- a variable or symbolic constant without type; DIMENSION and PARAMETER give none
+abbrev pub lacks_type : List Use → List ℕ → Bool
+lacks_type us x = (is_variable us x || is_constant us x) && is_none (type_of us x)
+
+-- it doesn't begin with I to N either
+abbrev pub is_real : List Use → List ℕ → Bool
+is_real us x = lacks_type us x && not (is_implicit_integer x)
+
+-- such a name stands here, and not as the program's
+abbrev pub has_name : (List ℕ → Bool) → Place → Bool
+has_name test p = list_any (λ (u : Use). not (is_title u.role) && test u.name) (uses_of p.here.statement)
+
+abbrev pub has_real_name : List Labelled → List Use → Place → Bool
+has_real_name text us p = not (has_implicit_none text) && has_name (is_real us) p
+
+-- where IMPLICIT NONE stands, each name needs a type
+abbrev pub has_untyped_name : List Labelled → List Use → Place → Bool
+has_untyped_name text us p = has_implicit_none text && has_name (lacks_type us) p

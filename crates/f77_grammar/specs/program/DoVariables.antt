@@ -15,7 +15,7 @@ use Rattle.f77_grammar.specs.program.Uses.{Use, is_variable, is_array, kind_of_n
 use Rattle.f77_grammar.specs.program.Kinds.{same_kind}
 
 abbrev pub loop_variable : Statement77 → List (List ℕ)
-loop_variable (Do n x a b c) = x ∷ []
+loop_variable (Do label x a b c) = x ∷ []
 loop_variable _ = []
 
 -- the DO variables of the loops round a place
@@ -58,7 +58,7 @@ module _ (us : List Use) where
   -- a statement sets a DO variable of those round it, or has one that is wrong
   abbrev pub misuses_variable : Statement77 → List (List ℕ) → Bool
   misuses_variable (Assign left e) around = sets_one_of around left.name left.subscripts
-  misuses_variable (Do n x a b c) around = is_wrong_variable x around
+  misuses_variable (Do label x a b c) around = is_wrong_variable x around
   misuses_variable (Read is) around = misuses_in_items Input is around
   misuses_variable (Print is) around = misuses_in_items Output is around
   misuses_variable _ around = false

@@ -9,9 +9,9 @@ use Rattle.tree.specs.Plain.{Constant, ImpliedDo, Items, no_items, item}
 use Rattle.tree.specs.declared.ops.Kind.{Kind}
 use Rattle.tree.specs.declared.ops.Kind.TheVariants.{Integer, Logical}
 use Rattle.tree.specs.declared.functions.Fun.{Fun}
-use Rattle.f77_grammar.specs.Statement77.{Entity, NamedConstant, Statement77, Program, Declare, Dimension, Constants}
-use Rattle.f77_grammar.specs.Statement77.{Assign, Go, Test, If, ElseIf, Else, EndIf, Do, Continue, Stop, Read, Print}
-use Rattle.f77_grammar.specs.Statement77.{End}
+use Rattle.f77_grammar.specs.Statement77.{Entity, NamedConstant, Statement77, Program, ImplicitNone, Declare, Dimension}
+use Rattle.f77_grammar.specs.Statement77.{Constants, Assign, Go, Test, If, ElseIf, Else, EndIf, Do, EndDo, Continue}
+use Rattle.f77_grammar.specs.Statement77.{Stop, Read, Print, End}
 use Rattle.f77_grammar.specs.statements.Items.{takes_text}
 use Rattle.f77_grammar.specs.declared.directions.Direction.{Direction}
 use Rattle.f77_grammar.specs.declared.directions.Direction.TheVariants.{Output, Input}
@@ -120,13 +120,15 @@ module _ (us : List Use) where
   suits (Test c s) = has_kind c Logical && suits s
   suits (If c) = has_kind c Logical
   suits (ElseIf c) = has_kind c Logical
-  suits (Do n x a b c) = are_numbers a b c
+  suits (Do label x a b c) = are_numbers a b c
   suits (Read is) = suits_items Input is
   suits (Print is) = suits_items Output is
   suits (Program x) = true
+  suits ImplicitNone = true
   suits (Go n) = true
   suits Else = true
   suits EndIf = true
+  suits EndDo = true
   suits Continue = true
   suits Stop = true
   suits End = true

@@ -12,7 +12,7 @@ is_wrong_label before (Some n) = n == 0 || stands_in before n
 -- the label that a GO TO or a DO names
 abbrev pub label_named : Statement77 → Option ℕ
 label_named (Go n) = Some n
-label_named (Do n x a b c) = Some n
+label_named (Do label x a b c) = label
 label_named _ = None
 
 -- it is 0, or stands nowhere in the program

@@ -15,7 +15,8 @@ use Rattle.meaning.specs.Store.{Store, size_of}
 use Rattle.meaning.specs.Value.{value_of, number_of, is_in_range}
 use Rattle.meaning.specs.Dialect.{Dialect}
 use Rattle.f77_grammar.specs.Statement77.{Entity, NamedConstant, Labelled, Statement77, Declare, Dimension, Constants}
-use Rattle.f77_grammar.specs.Statement77.{Test, If, Do}
+use Rattle.f77_grammar.specs.Statement77.{Program, ImplicitNone, Assign, Go, Test, If, ElseIf, Else, EndIf, Do, EndDo}
+use Rattle.f77_grammar.specs.Statement77.{Continue, Stop, Read, Print, End}
 use Rattle.meaning.specs.Names.{is_among}
 use Rattle.f77_grammar.specs.program.Text.{Place, open_loops, open_ifs}
 use Rattle.f77_grammar.specs.program.Uses.{Use, uses_in_text, is_variable, is_constant}
@@ -126,8 +127,23 @@ has_many_names us p = nat_lt program_names77 (length (counted_names us (p.here �
 abbrev pub opens_block : Statement77 → Bool
 opens_block (If c) = true
 opens_block (Test c s) = true
-opens_block (Do n x a b c) = true
-opens_block _ = false
+opens_block (Do label x a b c) = true
+opens_block (Program x) = false
+opens_block ImplicitNone = false
+opens_block (Declare k es) = false
+opens_block (Dimension es) = false
+opens_block (Constants ds) = false
+opens_block (Assign left e) = false
+opens_block (Go n) = false
+opens_block (ElseIf c) = false
+opens_block Else = false
+opens_block EndIf = false
+opens_block EndDo = false
+opens_block Continue = false
+opens_block Stop = false
+opens_block (Read is) = false
+opens_block (Print is) = false
+opens_block End = false
 
 -- what is opened here stands in as many blocks as there may be
 abbrev pub has_many_blocks : Place → Bool

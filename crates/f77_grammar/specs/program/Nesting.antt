@@ -1,12 +1,12 @@
 -- Blocks and loops (ANSI X3.9-1978, sections 11.6 to 11.10). Each opener has its closer apart from all others: END IF
--- ends the nearest block
--- IF that hasn't ended, and a statement with a label ends all loops of that label. Whatever is opened in a block IF or
--- in a loop
--- is closed in it.
+-- ends the nearest block IF that hasn't ended, a statement with a label ends all loops of that label, and END DO ends
+-- one alone. Whatever is opened in a block IF or in a loop is closed in it.
 use Rattle.std.specs.Prelude.{ℕ, zero, suc, Bool, true, false, not, ◌&&◌, ◌||◌, Option, None, Some, if◌then◌else◌, List}
 use Rattle.std.specs.Prelude.{[], ◌∷◌, nat_eq}
 use Rattle.std.specs.List.{list_any}
-use Rattle.f77_grammar.specs.Statement77.{Labelled, Statement77, Go, If, ElseIf, Else, EndIf, Do, Stop, End}
+use Rattle.f77_grammar.specs.Statement77.{Labelled, Statement77, Program, ImplicitNone, Declare, Dimension, Constants}
+use Rattle.f77_grammar.specs.Statement77.{Assign, Go, Test, If, ElseIf, Else, EndIf, Do, EndDo, Continue, Stop, Read}
+use Rattle.f77_grammar.specs.Statement77.{Print, End}
 use Rattle.f77_grammar.specs.program.Text.{Place, stands_in, is_block_if, is_last_else, loop_ends_in, unended}
 
 -- ---- what stands since
@@ -38,7 +38,7 @@ abbrev pub has_open_if : List Labelled → Bool
 has_open_if before = list_any (λ (x : Labelled). is_block_if x.statement) (unended before)
 
 abbrev pub is_do_of : ℕ → Statement77 → Bool
-is_do_of n (Do m x a b c) = nat_eq m n
+is_do_of n (Do (Some m) x a b c) = nat_eq m n
 is_do_of n _ = false
 
 abbrev pub begins_loop : ℕ → Labelled → Bool
@@ -86,8 +86,27 @@ is_no_loop_end Else = true
 is_no_loop_end EndIf = true
 is_no_loop_end Stop = true
 is_no_loop_end End = true
-is_no_loop_end (Do n x a b c) = true
-is_no_loop_end _ = false
+is_no_loop_end (Do label x a b c) = true
+is_no_loop_end EndDo = false
+is_no_loop_end (Program x) = false
+is_no_loop_end ImplicitNone = false
+is_no_loop_end (Declare k es) = false
+is_no_loop_end (Dimension es) = false
+is_no_loop_end (Constants ds) = false
+is_no_loop_end (Assign left e) = false
+is_no_loop_end (Test c s) = false
+is_no_loop_end Continue = false
+is_no_loop_end (Read is) = false
+is_no_loop_end (Print is) = false
+
+-- a loop that was opened since the first one of this label ends here too, or later
+abbrev pub is_other_open : Place → ℕ → Bool
+is_other_open p n = is_loop_open (since_do n p.before) (p.here ∷ p.after)
+
+-- END DO ends no loop, or more than one
+abbrev pub ends_not_one : Place → Option ℕ → Bool
+ends_not_one p None = true
+ends_not_one p (Some n) = not (list_any (begins_loop n) p.before) || is_other_open p n
 
 -- a statement that ends loops is none that a loop may end on, and nothing is left open in these loops
 abbrev pub ends_loops_wrongly : Place → Option ℕ → Bool
@@ -101,13 +120,29 @@ abbrev pub stays_open : Statement77 → Place → Bool
 stays_open (If c) p = not (has_end_if p.after 0)
 stays_open _ p = false
 
--- a DO label doesn't come later, END IF has no block IF or leaves a loop open in it, ELSE suits nothing
+-- a DO has no END DO, or its label doesn't come later; END DO doesn't end one loop; END IF has no block IF or leaves a
+-- loop open in it; ELSE suits nothing
 abbrev pub nests_wrongly : Statement77 → Place → Bool
-nests_wrongly (Do n x a b c) p = not (stands_in p.after n)
+nests_wrongly (Do None x a b c) p = true
+nests_wrongly (Do (Some n) x a b c) p = not (stands_in p.after n)
+nests_wrongly EndDo p = ends_not_one p p.here.label
 nests_wrongly EndIf p = not (has_open_if p.before) || is_loop_open (since_if p.before) p.after
 nests_wrongly (ElseIf c) p = not (suits_else p)
 nests_wrongly Else p = not (suits_else p)
-nests_wrongly _ p = false
+nests_wrongly (Program x) p = false
+nests_wrongly ImplicitNone p = false
+nests_wrongly (Declare k es) p = false
+nests_wrongly (Dimension es) p = false
+nests_wrongly (Constants ds) p = false
+nests_wrongly (Assign left e) p = false
+nests_wrongly (Go n) p = false
+nests_wrongly (Test c s) p = false
+nests_wrongly (If c) p = false
+nests_wrongly Continue p = false
+nests_wrongly Stop p = false
+nests_wrongly (Read is) p = false
+nests_wrongly (Print is) p = false
+nests_wrongly End p = false
 
 abbrev pub is_left_open : Place → Bool
 is_left_open p = stays_open p.here.statement p

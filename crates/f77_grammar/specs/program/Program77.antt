@@ -5,7 +5,7 @@ use Rattle.tree.specs.Causes.{refusal_at}
 use Rattle.tree.specs.declared.refusals.Cause.{Cause}
 use Rattle.tree.specs.declared.refusals.Cause.TheVariants.{Label, Nesting, NoEnd, Declared, RealName, TypeClash}
 use Rattle.tree.specs.declared.refusals.Cause.TheVariants.{Jump, DoVariable, ManyNames, ManyBlocks, ReversedBounds}
-use Rattle.tree.specs.declared.refusals.Cause.TheVariants.{ManyElements, BadConstant}
+use Rattle.tree.specs.declared.refusals.Cause.TheVariants.{ManyElements, BadConstant, Untyped}
 use Rattle.tree.specs.declared.refusals.Refusal.{Refusal}
 use Rattle.tree.specs.Plain as tree
 use Rattle.meaning.specs.Dialect.{Dialect}
@@ -17,7 +17,7 @@ use Rattle.f77_grammar.specs.program.Uses.{Use, uses_in_text}
 use Rattle.f77_grammar.specs.program.Labels.{has_wrong_label}
 use Rattle.f77_grammar.specs.program.Nesting.{is_nested_wrongly}
 use Rattle.f77_grammar.specs.program.Order.{is_out_of_order, is_ended_wrongly}
-use Rattle.f77_grammar.specs.program.Declarations.{is_declared_wrongly, has_real_name}
+use Rattle.f77_grammar.specs.program.Declarations.{is_declared_wrongly, has_real_name, has_untyped_name}
 use Rattle.f77_grammar.specs.program.Kinds.{has_unsuited_kind}
 use Rattle.f77_grammar.specs.program.Jumps.{has_wrong_jump}
 use Rattle.f77_grammar.specs.program.DoVariables.{has_wrong_do_variable}
@@ -31,7 +31,7 @@ use Rattle.f77_grammar.specs.program.Blocks.{IsTreeOf}
 abbrev pub program_causes : List Cause
 program_causes =
     Label ∷ Nesting ∷ NoEnd ∷ Declared ∷ RealName ∷ TypeClash ∷ Jump ∷ DoVariable
-    ∷ ManyNames ∷ ManyBlocks ∷ ReversedBounds ∷ ManyElements ∷ BadConstant ∷ []
+    ∷ ManyNames ∷ ManyBlocks ∷ ReversedBounds ∷ ManyElements ∷ BadConstant ∷ Untyped ∷ []
 
 -- the cause holds at a place of the text, by all uses of names in it and the values of its symbolic constants
 abbrev pub holds_at : Dialect → Cause → List Labelled → List Use → Store → Place → Bool
@@ -39,7 +39,7 @@ holds_at d Label text us s p = has_wrong_label text p
 holds_at d Nesting text us s p = is_nested_wrongly p || is_out_of_order p
 holds_at d NoEnd text us s p = is_ended_wrongly p
 holds_at d Declared text us s p = is_declared_wrongly us p
-holds_at d RealName text us s p = has_real_name us p
+holds_at d RealName text us s p = has_real_name text us p
 holds_at d TypeClash text us s p = has_unsuited_kind us p
 holds_at d Jump text us s p = has_wrong_jump p
 holds_at d DoVariable text us s p = has_wrong_do_variable us p
@@ -48,6 +48,7 @@ holds_at d ManyBlocks text us s p = has_many_blocks p
 holds_at d ReversedBounds text us s p = has_reversed_bounds d s p
 holds_at d ManyElements text us s p = has_many_elements d s p
 holds_at d BadConstant text us s p = has_bad_constant d s p
+holds_at d Untyped text us s p = has_untyped_name text us p
 holds_at d _ text us s p = false
 
 abbrev pub holds_in : Dialect → List Labelled → Cause → Place → Bool

@@ -1,10 +1,9 @@
--- The text of a program: its statements in order. What is asked of a statement is asked at its place: what stands
--- before it, and what
--- stands after it.
+-- The text of a program: its statements in order, each loop with a label. What is asked of a statement is asked at its
+-- place: what stands before it, and what stands after it.
 use Rattle.std.specs.Prelude.{ℕ, zero, suc, ◌==◌, Bool, true, false, Option, None, Some, List, [], ◌∷◌}
 use Rattle.std.specs.List.{list_any, filter}
 use Rattle.f77_grammar.specs.Statement77.{Labelled, Statement77, Declare, Dimension, Constants, Test, If, ElseIf, Else}
-use Rattle.f77_grammar.specs.Statement77.{EndIf, Do, End}
+use Rattle.f77_grammar.specs.Statement77.{ImplicitNone, EndIf, Do, End}
 
 -- the statements before a place stand with the nearest first
 pub record Place : Type 0 where
@@ -61,6 +60,10 @@ abbrev pub is_end_if : Statement77 → Bool
 is_end_if EndIf = true
 is_end_if _ = false
 
+abbrev pub is_implicit_none : Statement77 → Bool
+is_implicit_none ImplicitNone = true
+is_implicit_none _ = false
+
 abbrev pub is_declaration : Statement77 → Bool
 is_declaration (Declare k es) = true
 is_declaration (Dimension es) = true
@@ -70,7 +73,7 @@ is_declaration _ = false
 -- ---- loops: a loop goes from its DO to the statement with its label, which comes later (section 11.10.2)
 
 abbrev pub ends_in : List Labelled → Statement77 → Bool
-ends_in rest (Do n x a b c) = stands_in rest n
+ends_in rest (Do (Some n) x a b c) = stands_in rest n
 ends_in rest s = false
 
 -- the loop that x opens ends among `rest`

@@ -9,9 +9,9 @@ use Rattle.tree.specs.Plain.{expression, Subscript, Only, Subscripts, no_subscri
 use Rattle.tree.specs.Plain.{Single, Constant, ImpliedDo, Items, no_items, item}
 use Rattle.tree.specs.declared.ops.Kind.{Kind}
 use Rattle.tree.specs.declared.ops.Kind.TheVariants.{Integer}
-use Rattle.f77_grammar.specs.Statement77.{Entity, NamedConstant, Labelled, Statement77, Program, Declare, Dimension}
-use Rattle.f77_grammar.specs.Statement77.{Constants, Assign, Go, Test, If, ElseIf, Else, EndIf, Do, Continue, Stop}
-use Rattle.f77_grammar.specs.Statement77.{Read, Print, End}
+use Rattle.f77_grammar.specs.Statement77.{Entity, NamedConstant, Labelled, Statement77, Program, ImplicitNone, Declare}
+use Rattle.f77_grammar.specs.Statement77.{Dimension, Constants, Assign, Go, Test, If, ElseIf, Else, EndIf, Do, EndDo}
+use Rattle.f77_grammar.specs.Statement77.{Continue, Stop, Read, Print, End}
 use Rattle.f77_grammar.specs.declared.directions.Direction.{Direction}
 use Rattle.f77_grammar.specs.declared.directions.Direction.TheVariants.{Output, Input}
 use Rattle.tree.specs.Functions.{function_named}
@@ -115,12 +115,14 @@ uses_of (Assign left e) = assignment_uses left e
 uses_of (Test c s) = uses_in c ++ uses_of s
 uses_of (If c) = uses_in c
 uses_of (ElseIf c) = uses_in c
-uses_of (Do n x a b c) = control_uses x a b c
+uses_of (Do label x a b c) = control_uses x a b c
 uses_of (Read is) = uses_in_items Input is
 uses_of (Print is) = uses_in_items Output is
+uses_of ImplicitNone = []
 uses_of (Go n) = []
 uses_of Else = []
 uses_of EndIf = []
+uses_of EndDo = []
 uses_of Continue = []
 uses_of Stop = []
 uses_of End = []

@@ -1,5 +1,6 @@
--- The forms of statements, as they are written and what they stand for (ANSI X3.9-1978, sections 7 to 12).
-use Rattle.std.specs.Prelude.{ℕ, ◌≤◌, ◌≡◌, max, pos, Bool, true, false, ◌⊎◌, List, [], ◌∷◌}
+-- The forms of statements, as they are written and what they stand for (ANSI X3.9-1978, sections 7 to 12; MIL-STD-1753
+-- has END DO, a DO without a label and IMPLICIT NONE).
+use Rattle.std.specs.Prelude.{ℕ, ◌≤◌, ◌≡◌, max, pos, Bool, true, false, ◌⊎◌, Some, None, List, [], ◌∷◌}
 use Rattle.std.specs.Prelude.{◌++◌, length, map, codes}
 use Rattle.std.specs.List.{list_any, AllByRecursion}
 use Rattle.tree.specs.declared.ops.Kind.{Kind}
@@ -108,10 +109,11 @@ definition_depth d = phrases.depth d.value
 
 -- ---- the forms
 
--- A label is its digits. A comma may follow the label of a DO. `Read` and `Print` without a list have forms of their
--- own
+-- A label is its digits. A comma may follow the label of a DO. A DO without a label, and `Read` and `Print` without a
+-- list, have forms of their own
 pub data Form : Type 0 where
   Program : List ℕ → Form
+  ImplicitNone : Form
   Declare : Kind → List Entity → Form
   Dimension : List Entity → Form
   Constants : List Definition → Form
@@ -123,6 +125,8 @@ pub data Form : Type 0 where
   Else : Form
   EndIf : Form
   Do : List ℕ → Bool → Control → Form
+  PlainDo : Control → Form
+  EndDo : Form
   Continue : Form
   Stop : Form
   Read : ItemPhrases → Form
@@ -145,7 +149,20 @@ IsInner (Read is) = Unit {0}
 IsInner ReadNothing = Unit {0}
 IsInner (Print is) = Unit {0}
 IsInner PrintNothing = Unit {0}
-IsInner f = ⊥
+IsInner (Program x) = ⊥
+IsInner ImplicitNone = ⊥
+IsInner (Declare k es) = ⊥
+IsInner (Dimension es) = ⊥
+IsInner (Constants ds) = ⊥
+IsInner (Test p f) = ⊥
+IsInner (If p) = ⊥
+IsInner (ElseIf p) = ⊥
+IsInner Else = ⊥
+IsInner EndIf = ⊥
+IsInner (Do label comma k) = ⊥
+IsInner (PlainDo k) = ⊥
+IsInner EndDo = ⊥
+IsInner End = ⊥
 
 abbrev pub keyword_of : Kind → List ℕ
 keyword_of Integer = codes "INTEGER"
@@ -162,6 +179,7 @@ IsFollowed front ws text = (rest : List Symbol) × (text ≡ chars front ++ rest
 -- How each form is written, without blanks
 abbrev pub IsWritten : Form → List Symbol → Type 0
 IsWritten (Program x) text = IsFollowed (codes "PROGRAM") (words.Name x ∷ []) text
+IsWritten ImplicitNone text = text ≡ chars (codes "IMPLICITNONE")
 IsWritten (Declare k es) text = IsFollowed (keyword_of k) (separated written_entity es) text × IsList IsEntity es
 IsWritten (Dimension es) text = IsFollowed (codes "DIMENSION") (separated written_entity es) text × IsList IsBounded es
 IsWritten (Constants ds) text =
@@ -181,6 +199,8 @@ IsWritten Else text = text ≡ chars (codes "ELSE")
 IsWritten EndIf text = text ≡ chars (codes "ENDIF")
 IsWritten (Do label comma k) text =
     IsFollowed (codes "DO" ++ (label ++ optional_comma comma)) (written_control k) text × IsLabel label × IsControl k
+IsWritten (PlainDo k) text = IsFollowed (codes "DO") (written_control k) text × IsControl k
+IsWritten EndDo text = text ≡ chars (codes "ENDDO")
 IsWritten Continue text = text ≡ chars (codes "CONTINUE")
 IsWritten Stop text = text ≡ chars (codes "STOP")
 IsWritten (Read is) text = (IsFollowed (codes "READ*,") (written_items is) text
@@ -200,6 +220,7 @@ reference_in e = record { name = []; subscripts = tree.no_subscripts }
 
 abbrev pub statement_of : Form → Statement77
 statement_of (Program x) = statement.Program x
+statement_of ImplicitNone = statement.ImplicitNone
 statement_of (Declare k es) = statement.Declare k (map entity_tree es)
 statement_of (Dimension es) = statement.Dimension (map entity_tree es)
 statement_of (Constants ds) = statement.Constants (map definition_tree ds)
@@ -211,7 +232,10 @@ statement_of (ElseIf p) = statement.ElseIf (phrases.tree p)
 statement_of Else = statement.Else
 statement_of EndIf = statement.EndIf
 statement_of (Do label comma k) =
-    statement.Do (value label) k.variable (phrases.tree k.first) (phrases.tree k.last) (step_tree k.step)
+    statement.Do (Some (value label)) k.variable (phrases.tree k.first) (phrases.tree k.last) (step_tree k.step)
+statement_of (PlainDo k) =
+    statement.Do None k.variable (phrases.tree k.first) (phrases.tree k.last) (step_tree k.step)
+statement_of EndDo = statement.EndDo
 statement_of Continue = statement.Continue
 statement_of Stop = statement.Stop
 statement_of (Read is) = statement.Read (tree.items (item_trees is))
@@ -233,9 +257,20 @@ form_depth (Test p f) = max (phrases.depth p) (form_depth f)
 form_depth (If p) = phrases.depth p
 form_depth (ElseIf p) = phrases.depth p
 form_depth (Do label comma k) = control_depth k
+form_depth (PlainDo k) = control_depth k
 form_depth (Read is) = items_depth is
 form_depth (Print is) = items_depth is
-form_depth f = 0
+form_depth (Program x) = 0
+form_depth ImplicitNone = 0
+form_depth (Go label) = 0
+form_depth Else = 0
+form_depth EndIf = 0
+form_depth EndDo = 0
+form_depth Continue = 0
+form_depth Stop = 0
+form_depth ReadNothing = 0
+form_depth PrintNothing = 0
+form_depth End = 0
 
 -- the words among which its literals stand; a label is no literal
 abbrev pub form_words : Form → List Word
@@ -247,9 +282,20 @@ form_words (Test p f) = written p ++ form_words f
 form_words (If p) = written p
 form_words (ElseIf p) = written p
 form_words (Do label comma k) = written_control k
+form_words (PlainDo k) = written_control k
 form_words (Read is) = written_items is
 form_words (Print is) = written_items is
-form_words f = []
+form_words (Program x) = []
+form_words ImplicitNone = []
+form_words (Go label) = []
+form_words Else = []
+form_words EndIf = []
+form_words EndDo = []
+form_words Continue = []
+form_words Stop = []
+form_words ReadNothing = []
+form_words PrintNothing = []
+form_words End = []
 
 abbrev pub has_wide_literal : Form → Bool
 has_wide_literal f = list_any is_wide (form_words f)

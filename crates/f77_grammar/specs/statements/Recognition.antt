@@ -93,7 +93,7 @@ words_left_out =
     ∷ (codes "RETURN", 18) ∷ (codes "ASSIGN", 19) ∷ (codes "PAUSE", 20) ∷ (codes "EXTERNAL", 21)
     ∷ (codes "INTRINSIC", 22) ∷ (codes "OPEN", 23) ∷ (codes "CLOSE", 24) ∷ (codes "INQUIRE", 25)
     ∷ (codes "REWIND", 26) ∷ (codes "BACKSPACE", 27) ∷ (codes "ENDFILE", 28) ∷ (codes "INCLUDE", 29)
-    ∷ (codes "DOWHILE", 30) ∷ (codes "ENDDO", 31) ∷ []
+    ∷ (codes "DOWHILE", 30) ∷ []
 
 -- one label at least, separated by commas
 abbrev pub AreMoreLabels : List (List ℕ) → List Symbol → Type 0
@@ -141,10 +141,15 @@ pub data IsAssignedGoTo (text : List Symbol) : Type 0 where
       → text ≡ chars (codes "GOTO" ++ (name ++ (optional_comma comma ++ codes "("))) ++ (list ++ chars (codes ")"))
       → IsAssignedGoTo text
 
+-- IMPLICIT NONE is of the profile, so what begins with it has no word
+abbrev pub BeginsImplicitNone : List Symbol → Type 0
+BeginsImplicitNone text = (rest : List Symbol) × (text ≡ chars (codes "IMPLICITNONE") ++ rest)
+
 -- The word with which the text begins, or that its form has; of a logical IF, the word of its inner statement
 pub data HasWord : List Symbol → ℕ → Type 0 where
   BeginsWith : (word : List ℕ) (number : ℕ) (text rest : List Symbol) → IsOfKeyword text
-      → Contains words_left_out (word, number) → text ≡ chars word ++ rest → HasWord text number
+      → Contains words_left_out (word, number) → text ≡ chars word ++ rest → (BeginsImplicitNone text → ⊥)
+      → HasWord text number
   ArithmeticIf : (text : List Symbol) → IsOfKeyword text → IsArithmeticIf text → HasWord text 32
   ComputedGoTo : (text : List Symbol) → IsOfKeyword text → IsComputedGoTo text → HasWord text 33
   AssignedGoTo : (text : List Symbol) → IsOfKeyword text → IsAssignedGoTo text → HasWord text 34

@@ -1,6 +1,6 @@
 //! What a statement declares.
 ghost use Rattle.std.specs.Prelude.{◌≡◌, map};
-ghost use Rattle.f77_grammar.specs.program.Text.{is_declaration};
+ghost use Rattle.f77_grammar.specs.program.Text.{is_declaration, is_implicit_none};
 ghost use Rattle.f77_grammar.specs.program.Limits.{entities_of, definitions_of};
 ghost use Rattle.f77_grammar.specs.syntax.Views.{statement_of, entity_of, constant_of};
 
@@ -15,10 +15,25 @@ impl Stmt77 {
     {
         match self {
             Stmt77::Declare(..) | Stmt77::Dimension(_) | Stmt77::Constants(_) => true,
-            Stmt77::Program(_) | Stmt77::Assign(..) | Stmt77::Go(_) | Stmt77::Test(..) => false,
+            Stmt77::Program(_) | Stmt77::ImplicitNone | Stmt77::Assign(..) | Stmt77::Go(_) => false,
+            Stmt77::Test(..) | Stmt77::If(_) | Stmt77::ElseIf(_) | Stmt77::Else => false,
+            Stmt77::EndIf | Stmt77::Do(..) | Stmt77::EndDo | Stmt77::Continue => false,
+            Stmt77::Stop | Stmt77::Read(_) | Stmt77::Print(_) | Stmt77::End => false,
+        }
+    }
+
+    /// IMPLICIT NONE.
+    #[tactic(auto, using(crate::proofs::syntax::Equations::statement_equations))]
+    pub fn is_implicit_none(&self) -> bool
+        ensures { result ≡ is_implicit_none (statement_of self.now) }
+    {
+        match self {
+            Stmt77::ImplicitNone => true,
+            Stmt77::Program(_) | Stmt77::Declare(..) | Stmt77::Dimension(_) => false,
+            Stmt77::Constants(_) | Stmt77::Assign(..) | Stmt77::Go(_) | Stmt77::Test(..) => false,
             Stmt77::If(_) | Stmt77::ElseIf(_) | Stmt77::Else | Stmt77::EndIf => false,
-            Stmt77::Do(..) | Stmt77::Continue | Stmt77::Stop | Stmt77::Read(_) => false,
-            Stmt77::Print(_) | Stmt77::End => false,
+            Stmt77::Do(..) | Stmt77::EndDo | Stmt77::Continue | Stmt77::Stop => false,
+            Stmt77::Read(_) | Stmt77::Print(_) | Stmt77::End => false,
         }
     }
 
@@ -30,10 +45,11 @@ impl Stmt77 {
         match self {
             Stmt77::Declare(_, entities) => entities.as_slice(),
             Stmt77::Dimension(entities) => entities.as_slice(),
-            Stmt77::Program(_) | Stmt77::Constants(_) | Stmt77::Assign(..) | Stmt77::Go(_) => &[],
-            Stmt77::Test(..) | Stmt77::If(_) | Stmt77::ElseIf(_) | Stmt77::Else => &[],
-            Stmt77::EndIf | Stmt77::Do(..) | Stmt77::Continue | Stmt77::Stop => &[],
-            Stmt77::Read(_) | Stmt77::Print(_) | Stmt77::End => &[],
+            Stmt77::Program(_) | Stmt77::ImplicitNone | Stmt77::Constants(_) => &[],
+            Stmt77::Assign(..) | Stmt77::Go(_) | Stmt77::Test(..) | Stmt77::If(_) => &[],
+            Stmt77::ElseIf(_) | Stmt77::Else | Stmt77::EndIf | Stmt77::Do(..) => &[],
+            Stmt77::EndDo | Stmt77::Continue | Stmt77::Stop | Stmt77::Read(_) => &[],
+            Stmt77::Print(_) | Stmt77::End => &[],
         }
     }
 
@@ -44,11 +60,11 @@ impl Stmt77 {
     {
         match self {
             Stmt77::Constants(constants) => constants.as_slice(),
-            Stmt77::Program(_) | Stmt77::Declare(..) | Stmt77::Dimension(_) => &[],
-            Stmt77::Assign(..) | Stmt77::Go(_) | Stmt77::Test(..) | Stmt77::If(_) => &[],
-            Stmt77::ElseIf(_) | Stmt77::Else | Stmt77::EndIf | Stmt77::Do(..) => &[],
-            Stmt77::Continue | Stmt77::Stop | Stmt77::Read(_) | Stmt77::Print(_) => &[],
-            Stmt77::End => &[],
+            Stmt77::Program(_) | Stmt77::ImplicitNone | Stmt77::Declare(..) => &[],
+            Stmt77::Dimension(_) | Stmt77::Assign(..) | Stmt77::Go(_) | Stmt77::Test(..) => &[],
+            Stmt77::If(_) | Stmt77::ElseIf(_) | Stmt77::Else | Stmt77::EndIf => &[],
+            Stmt77::Do(..) | Stmt77::EndDo | Stmt77::Continue | Stmt77::Stop => &[],
+            Stmt77::Read(_) | Stmt77::Print(_) | Stmt77::End => &[],
         }
     }
 }

@@ -16,6 +16,7 @@ pub struct Entity {
 #[derive(Drop)]
 pub enum Stmt77 {
     Program(Name),
+    ImplicitNone,
     Declare(Kind, Seq<Entity>),
     Dimension(Seq<Entity>),
     Constants(Seq<(Name, Expr)>),
@@ -27,8 +28,9 @@ pub enum Stmt77 {
     ElseIf(Expr),
     Else,
     EndIf,
-    /// The label of its last statement, its variable and its three parameters.
-    Do(u32, Name, Expr, Expr, Expr),
+    /// The label of its last statement, where one is written, its variable and its three parameters.
+    Do(Option<u32>, Name, Expr, Expr, Expr),
+    EndDo,
     Continue,
     Stop,
     Read(Seq<Item>),

@@ -12,7 +12,7 @@ use Rattle.meaning.specs.Typed77.{number_of_subscripts, declared, HasKind, IsWho
 use Rattle.meaning.specs.Profile77.{IsBlock, Surroundings}
 use Rattle.f77_grammar.specs.declared.directions.Direction.{Direction}
 use Rattle.f77_grammar.specs.declared.directions.Direction.TheVariants.{Output, Input}
-use Rattle.f77_grammar.specs.Statement77.{Statement77, Program, Declare, Dimension, Constants, Assign, Go, Test, If, ElseIf, Else, EndIf, Do, Continue, Stop, Read, Print, End}
+use Rattle.f77_grammar.specs.Statement77.{Statement77, Program, ImplicitNone, Declare, Dimension, Constants, Assign, Go, Test, If, ElseIf, Else, EndIf, Do, EndDo, Continue, Stop, Read, Print, End}
 use Rattle.f77_grammar.specs.expressions.Printing.{IsSource}
 use Rattle.f77_grammar.specs.program.Text.{action, is_declaration}
 use Rattle.f77_grammar.specs.program.Uses.{Valued, Target, Counter, Use, use_of, uses_in, uses_in_subscripts, target_uses, control_uses, input_uses, value_uses, uses_in_item, uses_in_items, uses_of, is_constant, is_variable, is_array, is_function, kind_of_name, dimensions_of_name}
@@ -258,6 +258,7 @@ module _ (us : List Use) (s : Store) (ds : List Declaration) (known : Knows us s
   action_in_text line (Read is) w h u g = let r = input_items is w.variables h.0 u g.0.1 in record { kinds = r.kind; uses = r.uses }
   action_in_text line (Print is) w h u g = let r = output_items is w.variables h.0 u g.0.1 in record { kinds = r.kind; uses = r.uses }
   action_in_text line (Program x) w h u g = absurd h
+  action_in_text line ImplicitNone w h u g = absurd h
   action_in_text line (Declare k es) w h u g = absurd h
   action_in_text line (Dimension es) w h u g = absurd h
   action_in_text line (Constants cs) w h u g = absurd h
@@ -267,6 +268,7 @@ module _ (us : List Use) (s : Store) (ds : List Declaration) (known : Knows us s
   action_in_text line Else w h u g = absurd h
   action_in_text line EndIf w h u g = absurd h
   action_in_text line (Do n x b c d) w h u g = absurd h
+  action_in_text line EndDo w h u g = absurd h
   action_in_text line End w h u g = absurd h
 
   condition : (c : Expression) → IsShallow c → AreLists (uses_in c) → IsWhole ds (resolved us s c) Logical → (has_kind us c Logical ≡ true) × AreRight (uses_in c)
@@ -290,6 +292,8 @@ module _ (us : List Use) (s : Store) (ds : List Declaration) (known : Knows us s
       record { kinds = r.kinds; uses = r.uses }
   in_statement line Else w h n u g = record { kinds = refl; uses = tt }
   in_statement line EndIf w h n u g = record { kinds = refl; uses = tt }
+  in_statement line EndDo w h n u g = record { kinds = refl; uses = tt }
+  in_statement line ImplicitNone w h n u g = record { kinds = refl; uses = tt }
   in_statement line End w h n u g = record { kinds = refl; uses = tt }
   in_statement line (Assign left e) w h n u g = action_in_text line (Assign left e) w h u g
   in_statement line (Go m) w h n u g = action_in_text line (Go m) w h u g
@@ -372,6 +376,7 @@ module _ (us : List Use) where
   action_lists (Read is) h g = items_lists Input is h.0 g
   action_lists (Print is) h g = items_lists Output is h.0 g
   action_lists (Program x) h g = absurd h
+  action_lists ImplicitNone h g = absurd h
   action_lists (Declare k es) h g = absurd h
   action_lists (Dimension es) h g = absurd h
   action_lists (Constants cs) h g = absurd h
@@ -381,6 +386,7 @@ module _ (us : List Use) where
   action_lists Else h g = absurd h
   action_lists EndIf h g = absurd h
   action_lists (Do n x b c d) h g = absurd h
+  action_lists EndDo h g = absurd h
   action_lists End h g = absurd h
 
   statement_lists : (c : Statement77) → IsSourceStatement c → is_declaration c ≡ false → suits us c ≡ true → AreListed (uses_of c)
@@ -395,6 +401,8 @@ module _ (us : List Use) where
   statement_lists (Do m x a b c) h n g = control_lists x a b c h.2.0 h.3.0 h.4.0 g
   statement_lists Else h n g = tt
   statement_lists EndIf h n g = tt
+  statement_lists EndDo h n g = tt
+  statement_lists ImplicitNone h n g = tt
   statement_lists End h n g = tt
   statement_lists (Assign left e) h n g = action_lists (Assign left e) h g
   statement_lists (Go m) h n g = tt
@@ -439,6 +447,8 @@ module _ (us : List Use) (s : Store) (ds : List Declaration) (known : Knows us s
       ((p.numbered, do_variable us s ds known x w.variables w.variables (within w p.scalars) p.variables, q.first, q.last, q.step, tt), tt)
   in_tree line Else w p h n u g = tt
   in_tree line EndIf w p h n u g = tt
+  in_tree line EndDo w p h n u g = tt
+  in_tree line ImplicitNone w p h n u g = tt
   in_tree line End w p h n u g = tt
   in_tree line (Assign left e) w p h n u g = action_holds us s ds known line (Assign left e) w w.variables (within w p.scalars) p.numbered h u g p.variables p.ahead
   in_tree line (Go m) w p h n u g = action_holds us s ds known line (Go m) w w.variables (within w p.scalars) p.numbered h u g p.variables p.ahead

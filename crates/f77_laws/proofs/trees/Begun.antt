@@ -154,7 +154,7 @@ module _ (us : List Use) (s : Store) (named : List ℕ) where
   begun_alone x (ElseIf c) r e = absurd cc
   begun_alone x Else r e = absurd cc
   begun_alone x EndIf r e = absurd cc
-  begun_alone x (Do n v a b c) r e = absurd cc
+  begun_alone x (Do label v a b c) r e = absurd cc
   begun_alone x c r e = refl
 
   alone_piece : (x : Labelled) → stands_alone x.statement ≡ true
@@ -197,7 +197,7 @@ module _ (us : List Use) (s : Store) (named : List ℕ) where
       }
 
   loop_piece : (x : Labelled) (n : ℕ) (v : List ℕ) (a b c : Expression) (range : List Labelled)
-      (body : List tree.Statement) → x.statement ≡ Do n v a b c → IsRange n range → ArePieces range body
+      (body : List tree.Statement) → x.statement ≡ Do (Some n) v a b c → IsRange n range → ArePieces range body
       → IsPiece (x ∷ range) (mark_of named x.label
       ++ tree.Do x.line v (resolved us s a) (resolved us s b) (resolved us s c) (tree.block body) ∷ [])
   loop_piece x n v a b c range body e r h =

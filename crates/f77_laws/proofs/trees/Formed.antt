@@ -314,7 +314,7 @@ module _ (us : List Use) (s : Store) (named : List ℕ) where
 
   -- the pieces that a loop takes, of an arm or of the whole, are those of its range
   loop_piece : (before : List Labelled) (x : Labelled) (n : ℕ) (v : List ℕ) (a b c : Expression)
-      (xs arm tail : List Labelled) (taken others : List Piece) → x.statement ≡ Do n v a b c
+      (xs arm tail : List Labelled) (taken others : List Piece) → x.statement ≡ Do (Some n) v a b c
       → AllByRecursion IsWellNested (places_from (x ∷ before) xs) → xs ≡ arm ++ tail
       → (h : AreCut n arm taken others)
       → IsPiece (x ∷ h.range) (record {
@@ -352,7 +352,7 @@ module _ (us : List Use) (s : Store) (named : List ℕ) where
           (ap (λ d. d || list_any (begins_loop n) before) (ap (is_do_of n) e ∙ itself)) end.bears_it)
 
   do_gives : (before : List Labelled) (x : Labelled) (n : ℕ) (v : List ℕ) (a b c : Expression) (f : Frames)
-      (xs : List Labelled) (r : Rest) → x.statement ≡ Do n v a b c
+      (xs : List Labelled) (r : Rest) → x.statement ≡ Do (Some n) v a b c
       → AllByRecursion IsWellNested (places_from (x ∷ before) xs)
       → IsShaped (pushed (record { label = n; variable = v }) f) r
       → Give (pushed (record { label = n; variable = v }) f) xs r
@@ -416,7 +416,14 @@ module _ (us : List Use) (s : Store) (named : List ℕ) where
           (sym (ap (λ (t : Statement77). nests_wrongly t p) e)
           ∙ left_false (nests_wrongly x.statement p) (ends_loops_wrongly p x.label)
           (right_false (is_left_open p) (is_closed_wrongly p) right.0.nesting))
-  statement_gives before xs x (Do n v a b c) f g r e o right m d h =
+  statement_gives before xs x (Do None v a b c) f g r e o right m d h =
+      absurd (not_both true refl (sym (ap (λ (t : Statement77). nests_wrongly t p) e)
+      ∙ left_false (nests_wrongly x.statement p) (ends_loops_wrongly p x.label)
+      (right_false (is_left_open p) (is_closed_wrongly p) right.0.nesting)))
+    where
+      p : Place
+      p = record { before = before; here = x; after = xs }
+  statement_gives before xs x (Do (Some n) v a b c) f g r e o right m d h =
       do_gives before x n v a b c f xs r e right.1 (subst (λ (k : Frames). IsShaped k r) m d)
       (subst (λ (k : Frames). Give k xs r) m h)
   statement_gives before xs x c f g r e o right m d h = other_gives x c f g xs r e refl m h

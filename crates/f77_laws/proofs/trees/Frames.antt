@@ -45,7 +45,7 @@ next_frames EndIf rest more n = more (suc n)
 next_frames (If c) rest more zero = Inner [] false (more zero)
 next_frames (If c) rest more (suc n) = more n
 next_frames Else rest more zero = marked (more zero)
-next_frames (Do k v a b c) rest more zero = pushed_if (stands_in rest k) (record { label = k; variable = v }) (more zero)
+next_frames (Do (Some k) v a b c) rest more zero = pushed_if (stands_in rest k) (record { label = k; variable = v }) (more zero)
 next_frames s rest more n = more n
 
 -- by the statements before, the nearest first, of which `n` END IF statements are still without theirs
@@ -93,7 +93,7 @@ same_step EndIf x rest more more' h e n = e (suc n)
 same_step (If c) x rest more more' h e zero = ap (Inner [] false) (e zero)
 same_step (If c) x rest more more' h e (suc n) = e n
 same_step Else x rest more more' h e zero = ap marked (e zero)
-same_step (Do k v a b c) x rest more more' h e zero =
+same_step (Do (Some k) v a b c) x rest more more' h e zero =
     ap (λ t. pushed_if t (record { label = k; variable = v }) (more zero)) (not_borne x k (bears k x) (stands_in rest k) (h k))
     ∙ ap (pushed_if (stands_in rest k) (record { label = k; variable = v })) (e zero)
 same_step s x rest more more' h e n = e n
@@ -126,7 +126,7 @@ closes_step m EndIf rest more h e n = e (suc n)
 closes_step m (If c) rest more h e zero = refl
 closes_step m (If c) rest more h e (suc n) = e n
 closes_step m Else rest more h e zero = marked_closed (Some m) (more zero) (e zero)
-closes_step m (Do k v a b c) rest more h e zero = pushed_if_closed (Some m) (stands_in rest k) (record { label = k; variable = v }) (more zero) (not_begun m k h) (e zero)
+closes_step m (Do (Some k) v a b c) rest more h e zero = pushed_if_closed (Some m) (stands_in rest k) (record { label = k; variable = v }) (more zero) (not_begun m k h) (e zero)
 closes_step m s rest more h e n = e n
 
 closes_none : (m : ℕ) (rest before : List Labelled) → list_any (begins_loop m) before ≡ false → (n : ℕ) → top_closed (Some m) (frames rest before n) ≡ frames rest before n
@@ -178,21 +178,21 @@ ends_step (If c) y x m rest since more more' e l o ih (suc n) h = ih n h
 ends_step Else y x m rest since more more' e l o ih zero h =
     ap marked (ih zero (right_false (is_block_if y.statement) (list_any (λ (z : Labelled). is_block_if z.statement) (without_ended since 0)) h)) ∙ mark_after (Some m) (more' zero)
 ends_step Else y x m rest since more more' e l o ih (suc n) h = ih (suc n) h
-ends_step (Do k v a b c) y x m rest since more more' e l o ih zero h =
+ends_step (Do (Some k) v a b c) y x m rest since more more' e l o ih zero h =
     one_closed m k v (m == k) (stands_in rest k) (more zero) (more' zero) refl o (ih zero (right_false (is_block_if y.statement) (list_any (λ (z : Labelled). is_block_if z.statement) (without_ended since 0)) h))
     ∙ ap (λ t. top_closed (Some m) (pushed_if (t || stands_in rest k) (record { label = k; variable = v }) (more' zero))) (sym (borne_by x m k l))
-ends_step (Do k v a b c) y x m rest since more more' e l o ih (suc n) h = ih (suc n) h
+ends_step (Do (Some k) v a b c) y x m rest since more more' e l o ih (suc n) h = ih (suc n) h
 ends_step s y x m rest since more more' e l o ih zero h = ih zero (right_false (is_block_if y.statement) (list_any (λ (z : Labelled). is_block_if z.statement) (without_ended since 0)) h)
 ends_step s y x m rest since more more' e l o ih (suc n) h = ih (suc n) h
 
 -- the first DO of the label: no other stands before it
 first_step : (s : Statement77) (x : Labelled) (m : ℕ) (rest : List Labelled) (more more' : ℕ → Frames) → is_do_of m s ≡ true → x.label ≡ Some m → stands_in rest m ≡ false
     → ((n : ℕ) → more n ≡ top_closed (Some m) (more' n)) → (n : ℕ) → next_frames s rest more n ≡ top_closed (Some m) (next_frames s (x ∷ rest) more' n)
-first_step (Do k v a b c) x m rest more more' d l o ih zero =
+first_step (Do (Some k) v a b c) x m rest more more' d l o ih zero =
     let e : k ≡ m = (let t : nat_eq k m ≡ true = d in grind (arith, nat_tests)) in
     one_closed m k v (m == k) (stands_in rest k) (more zero) (more' zero) refl (ap (stands_in rest) e ∙ o) (ih zero)
     ∙ ap (λ t. top_closed (Some m) (pushed_if (t || stands_in rest k) (record { label = k; variable = v }) (more' zero))) (sym (borne_by x m k l))
-first_step (Do k v a b c) x m rest more more' d l o ih (suc n) = ih (suc n)
+first_step (Do (Some k) v a b c) x m rest more more' d l o ih (suc n) = ih (suc n)
 first_step s x m rest more more' d l o ih n = absurd cc
 
 abbrev no_ifs : List Labelled → ℕ → Type 0
@@ -247,11 +247,11 @@ empty_step (If c) y rest xs more e ih (suc n) h g = ih n h (right_false (loop_en
 empty_step Else y rest xs more e ih zero h g =
     empty_marked (more zero) (more 1) (ih zero (sym (ap (λ t. is_block_if t || list_any (λ (z : Labelled). is_block_if z.statement) (without_ended xs 0)) e) ∙ h) (right_false (loop_ends_in rest y) (list_any (loop_ends_in rest) (since xs 0)) g))
 empty_step Else y rest xs more e ih (suc n) h g = ih (suc n) h (right_false (loop_ends_in rest y) (list_any (loop_ends_in rest) (since xs (suc n))) g)
-empty_step (Do k v a b c) y rest xs more e ih zero h g =
+empty_step (Do (Some k) v a b c) y rest xs more e ih zero h g =
     let o : stands_in rest k ≡ false = sym (ap (ends_in rest) e) ∙ left_false (loop_ends_in rest y) (list_any (loop_ends_in rest) (since xs 0)) g in
     let t = ih zero (sym (ap (λ t. is_block_if t || list_any (λ (z : Labelled). is_block_if z.statement) (without_ended xs 0)) e) ∙ h) (right_false (loop_ends_in rest y) (list_any (loop_ends_in rest) (since xs 0)) g) in
     record { had = t.had; is = ap (λ d. pushed_if d (record { label = k; variable = v }) (more zero)) o ∙ t.is }
-empty_step (Do k v a b c) y rest xs more e ih (suc n) h g = ih (suc n) h (right_false (loop_ends_in rest y) (list_any (loop_ends_in rest) (since xs (suc n))) g)
+empty_step (Do (Some k) v a b c) y rest xs more e ih (suc n) h g = ih (suc n) h (right_false (loop_ends_in rest y) (list_any (loop_ends_in rest) (since xs (suc n))) g)
 empty_step s y rest xs more e ih zero h g =
     ih zero (sym (ap (λ t. is_block_if t || list_any (λ (z : Labelled). is_block_if z.statement) (without_ended xs 0)) e) ∙ h) (right_false (loop_ends_in rest y) (list_any (loop_ends_in rest) (since xs 0)) g)
 empty_step s y rest xs more e ih (suc n) h g = ih (suc n) h (right_false (loop_ends_in rest y) (list_any (loop_ends_in rest) (since xs (suc n))) g)
@@ -289,9 +289,9 @@ else_step (If c) y rest xs more e ih zero h = absurd cc
 else_step (If c) y rest xs more e ih (suc n) h = ih n h
 else_step Else y rest xs more e ih zero h = shown_here y (without_ended xs 0) (ap is_block_if e) (ap is_last_else e)
 else_step Else y rest xs more e ih (suc n) h = ih (suc n) h
-else_step (Do k v a b c) y rest xs more e ih zero h =
+else_step (Do (Some k) v a b c) y rest xs more e ih zero h =
     shown_later y (without_ended xs 0) (ap is_block_if e) (ih zero (sym (had_pushed (stands_in rest k) (record { label = k; variable = v }) (more zero)) ∙ h))
-else_step (Do k v a b c) y rest xs more e ih (suc n) h = ih (suc n) h
+else_step (Do (Some k) v a b c) y rest xs more e ih (suc n) h = ih (suc n) h
 else_step s y rest xs more e ih zero h = shown_later y (without_ended xs 0) (ap is_block_if e) (ih zero h)
 else_step s y rest xs more e ih (suc n) h = ih (suc n) h
 
@@ -337,10 +337,10 @@ variables_step (If c) y rest ys more x e ih zero h = skipped rest y ys x (ih zer
 variables_step (If c) y rest ys more x e ih (suc n) h = skipped rest y ys x (ih n h)
 variables_step Else y rest ys more x e ih zero h = skipped rest y ys x (ih zero (subst (λ (vs : List (List ℕ)). Contains vs x) (variables_marked (more zero)) h))
 variables_step Else y rest ys more x e ih (suc n) h = skipped rest y ys x (ih (suc n) h)
-variables_step (Do k v a b c) y rest ys more x e ih zero h =
+variables_step (Do (Some k) v a b c) y rest ys more x e ih zero h =
     subst (λ (t : Bool). Contains (flat_map (λ (z : Labelled). loop_variable z.statement) (cond t (y ∷ filter (loop_ends_in rest) ys) (filter (loop_ends_in rest) ys))) x) (sym (ap (ends_in rest) e))
     (pushed_open rest y ys (more zero) k v (stands_in rest k) x (ap loop_variable e) (ap (ends_in rest) e) (ih zero) h)
-variables_step (Do k v a b c) y rest ys more x e ih (suc n) h = skipped rest y ys x (ih (suc n) h)
+variables_step (Do (Some k) v a b c) y rest ys more x e ih (suc n) h = skipped rest y ys x (ih (suc n) h)
 variables_step s y rest ys more x e ih zero h = skipped rest y ys x (ih zero h)
 variables_step s y rest ys more x e ih (suc n) h = skipped rest y ys x (ih (suc n) h)
 
@@ -396,12 +396,12 @@ depth_step (If c) y rest ys more e ih (suc n) = let a = ih n in let b = more_loo
 depth_step Else y rest ys more e ih zero =
     let a = ih zero in let b = more_loops rest y ys in let d = depth_marked (more zero) in let f = more_ifs y (without_ended ys 0) in omega (arith, a, b, d, f)
 depth_step Else y rest ys more e ih (suc n) = let a = ih (suc n) in let b = more_loops rest y ys in omega (arith, a, b)
-depth_step (Do k v a b c) y rest ys more e ih zero =
+depth_step (Do (Some k) v a b c) y rest ys more e ih zero =
     let t = pushed_depth rest y ys (stands_in rest k) (record { label = k; variable = v }) (more zero) (ifs_open (without_ended ys 0)) (ih zero) in
     let u : loops_open rest (y ∷ ys) ≡ length (cond (stands_in rest k) (y ∷ filter (loop_ends_in rest) ys) (filter (loop_ends_in rest) ys)) = ap (λ d. length (cond (ends_in rest d) (y ∷ filter (loop_ends_in rest) ys) (filter (loop_ends_in rest) ys))) e in
     let f = more_ifs y (without_ended ys 0) in
     omega (arith, t, u, f)
-depth_step (Do k v a b c) y rest ys more e ih (suc n) = let t = ih (suc n) in let u = more_loops rest y ys in omega (arith, t, u)
+depth_step (Do (Some k) v a b c) y rest ys more e ih (suc n) = let t = ih (suc n) in let u = more_loops rest y ys in omega (arith, t, u)
 depth_step s y rest ys more e ih zero = let a = ih zero in let b = more_loops rest y ys in let f = more_ifs y (without_ended ys 0) in omega (arith, a, b, f)
 depth_step s y rest ys more e ih (suc n) = let a = ih (suc n) in let b = more_loops rest y ys in omega (arith, a, b)
 
@@ -424,7 +424,7 @@ ends_empty_step EndIf more ih n = ih (suc n)
 ends_empty_step (If c) more ih zero = (refl, ih zero)
 ends_empty_step (If c) more ih (suc n) = ih n
 ends_empty_step Else more ih zero = marked_empty (more zero) (ih zero)
-ends_empty_step (Do k v a b c) more ih zero = ih zero
+ends_empty_step (Do (Some k) v a b c) more ih zero = ih zero
 ends_empty_step s more ih n = ih n
 
 ends_empty : (before : List Labelled) (n : ℕ) → HasNoLoops (frames [] before n)

@@ -54,7 +54,7 @@ Moves (If c) end f g = g ≡ Inner [] false f
 Moves EndIf end f g = IsEmptyTop f g
 Moves Else end f g = HasNoElse f g
 Moves (ElseIf c) end f g = IsInIf f g
-Moves (Do n v a b c) end f g = g ≡ pushed (record { label = n; variable = v }) f
+Moves (Do (Some n) v a b c) end f g = g ≡ pushed (record { label = n; variable = v }) f
 Moves s end f g = g ≡ top_closed end f
 
 -- no loop ends on such a statement
@@ -128,9 +128,9 @@ moves_by before xs x (ElseIf c) e r n l =
     let none = ends_by before xs x (ElseIf c) e refl l in
     let t = in_if before xs x none (affirmed (suits_else (record { before = before; here = x; after = xs })) n) in
     record { had = t.had; outer = frames (x ∷ xs) before 1; before = t.is; same = sym (same_frames x xs before none 0) }
-moves_by before xs x (Do k v a b c) e r n l =
+moves_by before xs x (Do (Some k) v a b c) e r n l =
     ap (λ t. pushed_if t (record { label = k; variable = v }) (frames xs before 0)) (affirmed (stands_in xs k) n)
-    ∙ ap (pushed (record { label = k; variable = v })) (sym (same_frames x xs before (ends_by before xs x (Do k v a b c) e refl l) 0))
+    ∙ ap (pushed (record { label = k; variable = v })) (sym (same_frames x xs before (ends_by before xs x (Do (Some k) v a b c) e refl l) 0))
 moves_by before xs x s e r n l = may_end before xs x x.label r refl l
 
 pub moves : (before xs : List Labelled) (x : Labelled) → AllByRecursion IsWellNested (places_from before (x ∷ xs)) → Moves x.statement x.label (frames (x ∷ xs) before 0) (frames xs (x ∷ before) 0)
@@ -162,7 +162,7 @@ ends_by_form (If c) end xs f g m o h = λ j l. first j (let e = ap open_ifs_in m
 ends_by_form EndIf end xs f g m o h = λ j l. h (suc j) (let e = ap open_ifs_in m.is in omega (arith, l, e))
 ends_by_form Else end xs f g m o h = λ j l. h j (let e = ap open_ifs_in m.before in let k = ap open_ifs_in m.after in omega (arith, l, e, k))
 ends_by_form (ElseIf c) end xs f g m o h = λ j l. h j (let e = ap open_ifs_in m.same in omega (arith, l, e))
-ends_by_form (Do k v a b c) end xs f g m o h = λ j l. h j (let e = ap open_ifs_in m in let d = pushed_ifs (record { label = k; variable = v }) f in omega (arith, l, e, d))
+ends_by_form (Do (Some k) v a b c) end xs f g m o h = λ j l. h j (let e = ap open_ifs_in m in let d = pushed_ifs (record { label = k; variable = v }) f in omega (arith, l, e, d))
 ends_by_form s end xs f g m o h = λ j l. h j (let e = ap open_ifs_in m in let d = closed_ifs end f in omega (arith, l, e, d))
 
 pub all_end : (before xs : List Labelled) (x : Labelled) → AllByRecursion IsWellNested (places_from before (x ∷ xs)) → AllEnd (x ∷ xs) (frames (x ∷ xs) before 0) → AllEnd xs (frames xs (x ∷ before) 0)

@@ -1,5 +1,5 @@
 -- In a block each block IF has its END IF, and each END IF its block IF.
-use Rattle.std.proofs.Common.{◌≡◌, ℕ, true, false, List, [], ◌∷◌, ◌++◌, refl, sym, ap, subst, ◌∙◌, append_assoc}
+use Rattle.std.proofs.Common.{◌≡◌, ℕ, true, false, Some, List, [], ◌∷◌, ◌++◌, refl, sym, ap, subst, ◌∙◌, append_assoc}
 use Rattle.tree.specs.Plain as tree
 use Rattle.meaning.specs.Store.{Store}
 use Rattle.f77_grammar.specs.Statement77.{Labelled, Statement77, If, ElseIf, Else, EndIf, Do}
@@ -59,7 +59,7 @@ module _ (us : List Use) (s : Store) (named : List ℕ) where
         pair_of x (first ++ later) (ap is_block_if e)
         (ended_behind first later (block_paired first body h) (arms_ended later arms part k))
     unit_paired xs cs (loop x n v a b c range body e r h) =
-        paired_append (x ∷ []) range (only x (Do n v a b c) e refl refl) (block_paired range body h)
+        paired_append (x ∷ []) range (only x (Do (Some n) v a b c) e refl refl) (block_paired range body h)
 
     pub block_paired : (xs : List Labelled) (cs : List tree.Statement) → AreBlock us s named xs cs → ArePaired xs
     block_paired xs cs nothing = none

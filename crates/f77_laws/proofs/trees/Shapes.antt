@@ -88,7 +88,7 @@ module _ (us : List Use) (s : Store) (named : List ℕ) where
       subst (λ (k : Frames). IsShaped k (begun us s named x Else r)) (sym m.before) (else_shape x m.outer r (subst (λ (k : Frames). IsShaped k r) m.after h))
   begun_shape (ElseIf c) x f g r m h =
       subst (λ (k : Frames). IsShaped k (begun us s named x (ElseIf c) r)) (sym m.before) (else_if_shape x c m.had m.outer r (subst (λ (k : Frames). IsShaped k r) (m.same ∙ m.before) h))
-  begun_shape (Do n v a b c) x f g r m h = loop_shape (tree.Do x.line v (resolved us s a) (resolved us s b) (resolved us s c)) (mark_of named x.label) (record { label = n; variable = v }) f r (subst (λ (k : Frames). IsShaped k r) m h)
+  begun_shape (Do (Some n) v a b c) x f g r m h = loop_shape (tree.Do x.line v (resolved us s a) (resolved us s b) (resolved us s c)) (mark_of named x.label) (record { label = n; variable = v }) f r (subst (λ (k : Frames). IsShaped k r) m h)
   begun_shape c x f g r m h = preceded_shape (record { ends = x.label; made = _ }) f r (subst (λ (k : Frames). IsShaped k r) m h)
 
   pub shape : (before xs : List Labelled) → AllByRecursion IsWellNested (places_from before xs) → AllEnd xs (frames xs before 0) → IsShaped (frames xs before 0) (rest_from us s named xs)

@@ -1,5 +1,5 @@
 -- A statement of a block, by what stands before it and what stands after it.
-use Rattle.std.proofs.Common.{◌≡◌, ◌⊎◌, inl, inr, ℕ, nat_eq, Bool, true, false, ◌||◌, List, [], ◌∷◌, ◌++◌, reverse, length}
+use Rattle.std.proofs.Common.{◌≡◌, ◌⊎◌, inl, inr, ℕ, nat_eq, Bool, true, false, ◌||◌, None, Some, List, [], ◌∷◌, ◌++◌, reverse, length}
 use Rattle.std.proofs.Common.{refl, sym, ap, subst, ◌∙◌, arith, append_assoc, append-nil}
 use Rattle.std.proofs.lemmas.List.{reverse-append}
 use Rattle.std.proofs.lemmas.Bool.Decides.{nat_tests}
@@ -99,7 +99,7 @@ no_do x s e f = λ m h.
     absurd (not_both (begins_loop m x || false) h (ap (λ b. b || false) (ap (is_do_of m) e ∙ f m)))
 
 alone_is_no_do : (s : Statement77) (m : ℕ) → stands_alone s ≡ true → is_do_of m s ≡ false
-alone_is_no_do (Do n v a b c) m e = absurd (not_both false e refl)
+alone_is_no_do (Do label v a b c) m e = absurd (not_both false e refl)
 alone_is_no_do s m e = refl
 
 alone_is_no_else : (s : Statement77) → stands_alone s ≡ true → is_last_else s ≡ false
@@ -151,7 +151,8 @@ module _ (us : List Use) (s : Store) (named : List ℕ) where
   Stands front (ElseIf c) back = HasNoElse front
   Stands front Else back = HasNoElse front
   Stands front EndIf back = StandsInIf front
-  Stands front (Do n v a b c) back = HasRange us s named n back
+  Stands front (Do None v a b c) back = ⊥
+  Stands front (Do (Some n) v a b c) back = HasRange us s named n back
   Stands front o back = Unit {0}
 
   -- among more statements
@@ -182,7 +183,8 @@ module _ (us : List Use) (s : Store) (named : List ℕ) where
       record { within = in_if_more pre front h.within; lacks = h.lacks }
   stands_more pre front Else back post h = record { within = in_if_more pre front h.within; lacks = h.lacks }
   stands_more pre front EndIf back post h = in_if_more pre front h
-  stands_more pre front (Do n v a b c) back post h =
+  stands_more pre front (Do None v a b c) back post h = absurd h
+  stands_more pre front (Do (Some n) v a b c) back post h =
       record {
         range = h.range;
         rest = h.rest ++ post;
@@ -200,7 +202,7 @@ module _ (us : List Use) (s : Store) (named : List ℕ) where
   alone_stands front (ElseIf c) back e = absurd (not_both false e refl)
   alone_stands front Else back e = absurd (not_both false e refl)
   alone_stands front EndIf back e = absurd (not_both false e refl)
-  alone_stands front (Do n v a b c) back e = absurd (not_both false e refl)
+  alone_stands front (Do label v a b c) back e = absurd (not_both false e refl)
   alone_stands front o back e = tt
 
   -- all that holds of statements that are whole
@@ -277,7 +279,7 @@ module _ (us : List Use) (s : Store) (named : List ℕ) where
       }
 
   loop_closed : (x : Labelled) (n : ℕ) (v : List ℕ) (a b c : Expression) (range : List Labelled)
-      → x.statement ≡ Do n v a b c → IsRange n range → CloseLoops range → CloseLoops (x ∷ range)
+      → x.statement ≡ Do (Some n) v a b c → IsRange n range → CloseLoops range → CloseLoops (x ∷ range)
   loop_closed x n v a b c range e r h = λ m g.
       or_right (bears m x) (stands_in range m)
       (by m (begins_loop m x) (sym (ap (is_do_of m) e)) (h m) g)
@@ -291,7 +293,7 @@ module _ (us : List Use) (s : Store) (named : List ℕ) where
       by m false t more g = more g
 
   loop_whole : (x : Labelled) (n : ℕ) (v : List ℕ) (a b c : Expression) (range : List Labelled)
-      (body : List tree.Statement) → x.statement ≡ Do n v a b c → IsRange n range → AreBlock us s named range body
+      (body : List tree.Statement) → x.statement ≡ Do (Some n) v a b c → IsRange n range → AreBlock us s named range body
       → AreWhole range → AreWhole (x ∷ range)
   loop_whole x n v a b c range body e r f h =
       record {

@@ -7,8 +7,9 @@ use Rattle.tree.specs.declared.ops.Op.TheVariants.{Div, Neg, Add, Sub, Eq, Gt, N
 use Rattle.tree.specs.declared.functions.Fun.TheVariants.{Abs, Mod, Max, Min}
 use Rattle.tree.specs.declared.ops.Kind.TheVariants.{Integer, Logical}
 use Rattle.meaning.specs.Dialect.{fortran77}
-use Rattle.f77_grammar.specs.Statement77.{Labelled, Declare, Constants, Assign, Go, Test, If, ElseIf, Else, EndIf, Do, Continue, Stop, Read, Print, End}
+use Rattle.f77_grammar.specs.Statement77.{Labelled, Declare, Constants, Assign, Go, Test, If, ElseIf, Else, EndIf, Do, EndDo, Continue, Stop, Read, Print, End}
 use Rattle.f77_grammar.specs.Statement77 as text
+use Rattle.f77_grammar.specs.program.EndDo.{with_loop_labels}
 use Rattle.f77_grammar.specs.program.Program77.{findings}
 use Rattle.f77_laws.specs.trees.Steps.{tree_of}
 use Rattle.meaning.proofs.DeckWords.{n, v, at, to, to_element}
@@ -24,7 +25,7 @@ abbrev blanks_have_no_meaning : List Labelled
 blanks_have_no_meaning =
     s 1 (Declare Integer (scalar "DO10I" ∷ []))
     ∷ s 2 (Assign (to "DO10I") (n 1))
-    ∷ s 3 (Do 10 (codes "I") (n 1) (n 3) (n 1))
+    ∷ s 3 (Do (Some 10) (codes "I") (n 1) (n 3) (n 1))
     ∷ l 10 4 (Assign (to "DO10I") (Binary Add (v "DO10I") (v "I")))
     ∷ s 5 (Print (items (Single (v "DO10I") ∷ Single (v "I") ∷ [])))
     ∷ s 6 (End)
@@ -54,7 +55,7 @@ abbrev loop_left_by_go_to : List Labelled
 loop_left_by_go_to =
     s 1 (Declare Integer (array "A" ((n 1, n 5) ∷ []) ∷ []))
     ∷ s 2 (Assign (to_element "A" (n 3 ∷ [])) (n 7))
-    ∷ s 3 (Do 20 (codes "I") (n 1) (n 5) (n 1))
+    ∷ s 3 (Do (Some 20) (codes "I") (n 1) (n 5) (n 1))
     ∷ s 4 (Test (Binary Eq (at "A" (v "I" ∷ [])) (n 7)) (Go 30))
     ∷ l 20 5 (Continue)
     ∷ l 30 6 (Print (items (Single (v "I") ∷ [])))
@@ -93,14 +94,14 @@ realistic_sweep =
     s 1 (text.Program (codes "RELAX"))
     ∷ s 2 (Constants (constant "N" (n 4) ∷ []))
     ∷ s 3 (Declare Integer (array "U" ((n 0, v "N") ∷ (n 0, v "N") ∷ []) ∷ array "V" ((n 0, v "N") ∷ (n 0, v "N") ∷ []) ∷ []))
-    ∷ s 4 (Do 10 (codes "I") (n 0) (v "N") (n 1))
+    ∷ s 4 (Do (Some 10) (codes "I") (n 0) (v "N") (n 1))
     ∷ l 10 5 (Assign (to_element "U" (v "I" ∷ n 0 ∷ [])) (n 64))
-    ∷ s 6 (Do 30 (codes "ITER") (n 1) (n 2) (n 1))
-    ∷ s 7 (Do 20 (codes "J") (n 1) (Binary Sub (v "N") (n 1)) (n 1))
-    ∷ s 8 (Do 20 (codes "I") (n 1) (Binary Sub (v "N") (n 1)) (n 1))
+    ∷ s 6 (Do (Some 30) (codes "ITER") (n 1) (n 2) (n 1))
+    ∷ s 7 (Do (Some 20) (codes "J") (n 1) (Binary Sub (v "N") (n 1)) (n 1))
+    ∷ s 8 (Do (Some 20) (codes "I") (n 1) (Binary Sub (v "N") (n 1)) (n 1))
     ∷ l 20 9 (Assign (to_element "V" (v "I" ∷ v "J" ∷ [])) (Binary Div (Binary Add (Binary Add (Binary Add (at "U" (Binary Sub (v "I") (n 1) ∷ v "J" ∷ [])) (at "U" (Binary Add (v "I") (n 1) ∷ v "J" ∷ []))) (at "U" (v "I" ∷ Binary Sub (v "J") (n 1) ∷ []))) (at "U" (v "I" ∷ Binary Add (v "J") (n 1) ∷ []))) (n 4)))
-    ∷ s 10 (Do 30 (codes "J") (n 1) (Binary Sub (v "N") (n 1)) (n 1))
-    ∷ s 11 (Do 30 (codes "I") (n 1) (Binary Sub (v "N") (n 1)) (n 1))
+    ∷ s 10 (Do (Some 30) (codes "J") (n 1) (Binary Sub (v "N") (n 1)) (n 1))
+    ∷ s 11 (Do (Some 30) (codes "I") (n 1) (Binary Sub (v "N") (n 1)) (n 1))
     ∷ l 30 12 (Assign (to_element "U" (v "I" ∷ v "J" ∷ [])) (at "V" (v "I" ∷ v "J" ∷ [])))
     ∷ s 13 (Print (items (ImpliedDo (items (Single (at "U" (v "I" ∷ n 1 ∷ [])) ∷ [])) (codes "I") (n 0) (v "N") (n 1) ∷ [])))
     ∷ s 14 (End)
@@ -151,8 +152,8 @@ arms_and_labels =
     ∷ s 9 (Else)
     ∷ s 10 (Assign (to_element "A" (n 1 ∷ [])) (Binary Add (at "MAX0" (n 1 ∷ v "N" ∷ n 2 ∷ [])) (at "IABS" (v "N" ∷ []))))
     ∷ s 11 (EndIf)
-    ∷ s 12 (Do 10 (codes "J") (n 1) (n 2) (n 1))
-    ∷ s 13 (Do 10 (codes "K") (n 1) (n 2) (n 1))
+    ∷ s 12 (Do (Some 10) (codes "J") (n 1) (n 2) (n 1))
+    ∷ s 13 (Do (Some 10) (codes "K") (n 1) (n 2) (n 1))
     ∷ s 14 (Test (Binary Eq (v "K") (n 1)) (Go 10))
     ∷ s 15 (Assign (to_element "A" (v "K" ∷ [])) (at "MOD" (v "J" ∷ n 2 ∷ [])))
     ∷ l 10 16 (Continue)
@@ -196,3 +197,38 @@ function_name_as_variable_sound = refl
 
 function_name_as_variable_formed : tree_of fortran77 function_name_as_variable ≡ function_name_as_variable_tree
 function_name_as_variable_formed = refl
+
+--       K = 0
+--       DO I = 1, 3
+--       DO 10 J = 1, 2
+--       IF (J .EQ. I) GO TO 10
+--       K = K + J
+--    10 END DO
+--       END DO
+--       PRINT *, K
+--       END
+abbrev loops_ended_by_end_do : List Labelled
+loops_ended_by_end_do =
+    s 1 (Assign (to "K") (n 0))
+    ∷ s 2 (Do None (codes "I") (n 1) (n 3) (n 1))
+    ∷ s 3 (Do (Some 10) (codes "J") (n 1) (n 2) (n 1))
+    ∷ s 4 (Test (Binary Eq (v "J") (v "I")) (Go 10))
+    ∷ s 5 (Assign (to "K") (Binary Add (v "K") (v "J")))
+    ∷ l 10 6 (EndDo)
+    ∷ s 7 (EndDo)
+    ∷ s 8 (Print (items (Single (v "K") ∷ [])))
+    ∷ s 9 (End)
+    ∷ []
+
+abbrev loops_ended_by_end_do_tree : Program
+loops_ended_by_end_do_tree = record {
+  name = None;
+  declarations = record { name = codes "I"; kind = Integer; extent = Given ([]) } ∷ record { name = codes "J"; kind = Integer; extent = Given ([]) } ∷ record { name = codes "K"; kind = Integer; extent = Given ([]) } ∷ [];
+  body = block (Assignment 1 None (to "K") (n 0) ∷ tree.Do 2 (codes "I") (n 1) (n 3) (n 1) (block (tree.Do 3 (codes "J") (n 1) (n 2) (n 1) (block (tree.If 4 (arm (Binary Eq (v "J") (v "I")) (block (GoTo 4 10 ∷ [])) (no_arms)) (no_statements) ∷ Assignment 5 None (to "K") (Binary Add (v "K") (v "J")) ∷ tree.Label 10 ∷ [])) ∷ [])) ∷ tree.Print 8 (items (Single (v "K") ∷ [])) ∷ []);
+}
+
+loops_ended_by_end_do_sound : findings fortran77 (with_loop_labels loops_ended_by_end_do) ≡ []
+loops_ended_by_end_do_sound = refl
+
+loops_ended_by_end_do_formed : tree_of fortran77 (with_loop_labels loops_ended_by_end_do) ≡ loops_ended_by_end_do_tree
+loops_ended_by_end_do_formed = refl

@@ -6,19 +6,19 @@ use Rattle.std.proofs.lemmas.List.{reverse-append}
 use Rattle.std.specs.List.{AllByRecursion, list_any}
 use Rattle.tree.specs.Plain as tree
 use Rattle.meaning.specs.Store.{Store}
-use Rattle.f77_grammar.specs.Statement77.{Labelled, Statement77, If, ElseIf, Else, EndIf, Do}
+use Rattle.f77_grammar.specs.Statement77.{Labelled, Statement77, If, ElseIf, Else, EndIf, Do, EndDo}
 use Rattle.f77_grammar.specs.program.Text.{Place, places, places_from, is_label, bears, stands_in, is_block_if}
 use Rattle.f77_grammar.specs.program.Text.{is_last_else, is_end_if, ends_in, loop_ends_in, without_ended}
 use Rattle.f77_grammar.specs.program.Labels.{is_wrong_label}
 use Rattle.f77_grammar.specs.program.Nesting.{until_if, own_since_if, has_open_if, is_do_of, begins_loop}
 use Rattle.f77_grammar.specs.program.Nesting.{since_if, since_do, is_loop_open, is_anything_open, suits_else}
 use Rattle.f77_grammar.specs.program.Nesting.{is_no_loop_end, ends_loops_wrongly, stays_open, nests_wrongly}
-use Rattle.f77_grammar.specs.program.Nesting.{is_nested_wrongly}
+use Rattle.f77_grammar.specs.program.Nesting.{is_left_open, is_closed_wrongly, is_nested_wrongly}
 use Rattle.f77_grammar.specs.program.Uses.{Use}
 use Rattle.f77_laws.specs.trees.Steps.{rest_from}
 use Rattle.f77_grammar.specs.program.Blocks.{IsRange, AreBlock}
-use Rattle.f77_laws.specs.trees.Laws.{IsWellNested, StandOnce, NestedFormBlock}
-use Rattle.f77_laws.proofs.trees.Lists.{right_false, both_false, or_right, not_both}
+use Rattle.f77_laws.specs.trees.Laws.{IsWellNested, StandOnce, EndsOneLoop, NestedFormBlock}
+use Rattle.f77_laws.proofs.trees.Lists.{left_false, right_false, both_false, or_right, not_both}
 use Rattle.f77_laws.proofs.trees.Moves.{label_free}
 use Rattle.f77_laws.proofs.trees.Begun.{made_in, range_right}
 use Rattle.f77_laws.proofs.trees.Formed.{text_formed}
@@ -82,6 +82,17 @@ reverse_mid xs x ys =
     reverse-append xs (x ∷ ys) ∙ ap (λ zs. zs ++ reverse xs) (reverse_one x ys)
     ∙ append_assoc (reverse ys) (x ∷ []) (reverse xs)
 
+-- ---- a statement at its place
+
+at_place : (Q : Place → Type 0) (before front : List Labelled) (x : Labelled) (back : List Labelled)
+    → AllByRecursion Q (places_from before (front ++ x ∷ back))
+    → Q (record { before = reverse front ++ before; here = x; after = back })
+at_place Q before [] x back h = h.0
+at_place Q before (y ∷ ys) x back h =
+    subst (λ zs. Q (record { before = zs; here = x; after = back }))
+    (sym (ap (λ zs. zs ++ before) (reverse_one y ys) ∙ append_assoc (reverse ys) (y ∷ []) before))
+    (at_place Q (y ∷ before) ys x back h.1)
+
 -- ---- loops that have ended
 
 itself : (n : ℕ) → nat_eq n n ≡ true
@@ -95,7 +106,7 @@ none_open back (z ∷ zs) h =
     (none_open back zs (λ m e. h m (or_right (begins_loop m z) (list_any (begins_loop m) zs) e)))
   where
     step : (o : Statement77) → z.statement ≡ o → ends_in back z.statement ≡ false
-    step (Do n v a b c) e =
+    step (Do (Some n) v a b c) e =
         ap (ends_in back) e
         ∙ h n (ap (λ t. t || list_any (begins_loop n) zs) (ap (is_do_of n) e ∙ itself n))
     step o e = ap (ends_in back) e
@@ -192,10 +203,10 @@ paired_tail x zs ws (double y end between ys a b k g) e h =
 -- ---- a statement of a block
 
 module _ (us : List Use) (s : Store) (named : List ℕ) (text : List Labelled) (once : StandOnce text)
-    (w : AreWhole us s named text) where
+    (w : AreWhole us s named text) (one : AllByRecursion EndsOneLoop (places text)) where
   range_of : (n : ℕ) (front : List Labelled) (o : Statement77) (back : List Labelled) → is_do_of n o ≡ true
       → Stands us s named front o back → HasRange us s named n back
-  range_of n front (Do m v a b c) back e h =
+  range_of n front (Do (Some m) v a b c) back e h =
       let g : nat_eq m n ≡ true = e in
       let t : m ≡ n = grind (arith, nat_tests) in
       subst (λ (k : ℕ). HasRange us s named k back) t h
@@ -256,15 +267,23 @@ module _ (us : List Use) (s : Store) (named : List ℕ) (text : List Labelled) (
         three : (a b c : Bool) → a ≡ true → b ≡ false → c ≡ false → ((a && not b) && not c) ≡ true
         three a b c d e f = ap (λ t. (t && not b) && not c) d ∙ ap (λ t. not t && not c) e ∙ ap not f
 
-    nests : (o : Statement77) → Stands us s named front o back → nests_wrongly o p ≡ false
-    nests (Do n v a b c) h =
+    ends_one : EndsOneLoop p
+    ends_one =
+        subst (λ zs. EndsOneLoop (record { before = zs; here = x; after = back })) (append-nil (reverse front))
+        (at_place EndsOneLoop [] front x back
+        (subst (λ (zs : List Labelled). AllByRecursion EndsOneLoop (places zs)) is_at one))
+
+    nests : (o : Statement77) → x.statement ≡ o → Stands us s named front o back → nests_wrongly o p ≡ false
+    nests (Do None v a b c) e h = absurd h
+    nests (Do (Some n) v a b c) e h =
         ap not (ap (λ zs. stands_in zs n) h.whole ∙ stands_left n h.range h.rest (range_has n h.range h.is_range))
-    nests EndIf h =
+    nests EndDo e h = ends_one e
+    nests EndIf e h =
         both_false (not (has_open_if (reverse front))) (is_loop_open (since_if (reverse front)) back)
         (ap not (if_open h)) (loops_ended_after h)
-    nests (ElseIf c) h = ap not (suits h)
-    nests Else h = ap not (suits h)
-    nests o h = refl
+    nests (ElseIf c) e h = ap not (suits h)
+    nests Else e h = ap not (suits h)
+    nests o e h = refl
 
     -- ---- at the label of a loop
 
@@ -365,7 +384,7 @@ module _ (us : List Use) (s : Store) (named : List ℕ) (text : List Labelled) (
         let h = w.stand front x back is_at in
         both_false (stays_open x.statement p) (nests_wrongly x.statement p || ends_loops_wrongly p x.label)
         (stays x.statement refl h)
-        (both_false (nests_wrongly x.statement p) (ends_loops_wrongly p x.label) (nests x.statement h)
+        (both_false (nests_wrongly x.statement p) (ends_loops_wrongly p x.label) (nests x.statement refl h)
         (ends x.label refl))
 
 -- ---- all statements
@@ -386,18 +405,32 @@ both_hold : (ps : List Place) → AllByRecursion (λ (p : Place). is_wrong_label
 both_hold [] h g = tt
 both_hold (p ∷ ps) h g = (record { label = h.0; nesting = g.0 }, both_hold ps h.1 g.1)
 
+each_ends_one : (ps : List Place) → AllByRecursion (λ (p : Place). is_nested_wrongly p ≡ false) ps
+    → AllByRecursion EndsOneLoop ps
+each_ends_one [] h = tt
+each_ends_one (p ∷ ps) h = (ends, each_ends_one ps h.1)
+  where
+    ends : EndsOneLoop p
+    ends e =
+        sym (ap (λ (t : Statement77). nests_wrongly t p) e)
+        ∙ left_false (nests_wrongly p.here.statement p) (ends_loops_wrongly p p.here.label)
+        (right_false (is_left_open p) (is_closed_wrongly p) h.0)
+
 pub nested_form_block : NestedFormBlock
 nested_form_block us s named text once = (forms, is_nested)
   where
     forms : AllByRecursion (λ (p : Place). is_nested_wrongly p ≡ false) (places text)
-        → (cs : List tree.Statement) × AreBlock us s named text cs
+        → ((cs : List tree.Statement) × AreBlock us s named text cs) × AllByRecursion EndsOneLoop (places text)
     forms h = (
-      made_in us s named (rest_from us s named text),
-      text_formed us s named text (both_hold (places text) once h),
+      (
+        made_in us s named (rest_from us s named text),
+        text_formed us s named text (both_hold (places text) once h),
+      ),
+      each_ends_one (places text) h,
     )
 
-    is_nested : (cs : List tree.Statement) × AreBlock us s named text cs
+    is_nested : ((cs : List tree.Statement) × AreBlock us s named text cs) × AllByRecursion EndsOneLoop (places text)
         → AllByRecursion (λ (p : Place). is_nested_wrongly p ≡ false) (places text)
     is_nested h =
         at_places (λ (p : Place). is_nested_wrongly p ≡ false) [] text
-        (nested us s named text once (block_whole us s named text h.0 h.1))
+        (nested us s named text once (block_whole us s named text h.0.0 h.0.1) h.1)

@@ -24,7 +24,7 @@ use Rattle.f77_laws.specs.kinds.OneRule.{IsRightUse, IsArrayOrFunction, HasConst
 abbrev pub alone : List Use → Store → ℕ → Statement77 → List Statement
 alone us s line (If c) = tree.If line (arm (resolved us s c) no_statements no_arms) no_statements ∷ []
 alone us s line (ElseIf c) = tree.If line (arm (resolved us s c) no_statements no_arms) no_statements ∷ []
-alone us s line (Do n x a b c) =
+alone us s line (Do label x a b c) =
     tree.Do line x (resolved us s a) (resolved us s b) (resolved us s c) no_statements ∷ []
 alone us s line other = simple us s line other
 

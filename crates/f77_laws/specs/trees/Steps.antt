@@ -73,13 +73,14 @@ abbrev pub outermost_block : Rest → tree.Block
 outermost_block (Outermost ps) = block_of ps
 outermost_block (InArm ps arms other r) = block_of ps
 
+-- END DO gives nothing but its label, and ends the loop of that
 module _ (us : List Use) (s : Store) (named : List ℕ) where
   abbrev pub begun : Labelled → Statement77 → Rest → Rest
   begun x EndIf r = arm_ended r
   begun x Else r = else_begun r
   begun x (ElseIf c) r = arm_begun (resolved us s c) r
   begun x (If c) r = if_begun x.line (mark_of named x.label) (resolved us s c) r
-  begun x (Do n v a b c) r =
+  begun x (Do (Some n) v a b c) r =
       loop_begun (tree.Do x.line v (resolved us s a) (resolved us s b) (resolved us s c)) (mark_of named x.label) n r
   begun x other r = preceded (record { ends = x.label; made = mark_of named x.label ++ simple us s x.line other }) r
 

@@ -10,9 +10,9 @@ ghost use Rattle.f77_laws.specs.trees.Laws.{TreesAreOne};
 ghost use Rattle.f77_laws.specs.trees.Pairs.{BlocksArePaired, EndIfIsPartner, OneEnd, OneIf, OpenIfIsPartner};
 ghost use Rattle.f77_laws.specs.trees.Pairs.{SinceIsBetween, UnendedStandOutside};
 
-/// Statements form at most one block; where each label stands once they form one exactly where none is nested wrongly,
-/// and it is the body of the tree that is computed of them from the last one back. So the program that is read is the
-/// one that is computed.
+/// Statements form at most one block; where each label stands once none is nested wrongly exactly where they form one
+/// in which each END DO ends one loop, and that is the body of the tree that is computed of them from the last one
+/// back. So the program that is read is the one that is computed.
 pub fn statements_form_one_tree()
     ensures one_block { OneBlock }
     ensures nested { NestedFormBlock }

@@ -9,6 +9,7 @@ use Rattle.f77_statement.specs.Keywords.{IsProgramAfter, IsDeclarationAfter, IsD
 
 pub data Keyword : Type 0 where
   Program : Keyword
+  ImplicitNone : Keyword
   Integer : Keyword
   Logical : Keyword
   Dimension : Keyword
@@ -17,6 +18,7 @@ pub data Keyword : Type 0 where
   ElseIf : Keyword
   Else : Keyword
   EndIf : Keyword
+  EndDo : Keyword
   Continue : Keyword
   Stop : Keyword
   End : Keyword
@@ -40,13 +42,13 @@ first_of (w ∷ ws) text = or_else (strip w.0 text) w.1 (first_of ws text)
 -- a longer keyword stands before one that begins it
 abbrev pub first_keywords : List (List ℕ × Keyword)
 first_keywords =
-    (codes "PROGRAM", Program) ∷ (codes "INTEGER", Integer) ∷ (codes "LOGICAL", Logical)
-    ∷ (codes "DIMENSION", Dimension) ∷ (codes "PARAMETER", Parameter) ∷ (codes "GOTO", GoTo)
+    (codes "PROGRAM", Program) ∷ (codes "IMPLICITNONE", ImplicitNone) ∷ (codes "INTEGER", Integer)
+    ∷ (codes "LOGICAL", Logical) ∷ (codes "DIMENSION", Dimension) ∷ (codes "PARAMETER", Parameter) ∷ (codes "GOTO", GoTo)
     ∷ (codes "ELSEIF(", ElseIf) ∷ (codes "ELSE", Else) ∷ []
 
 abbrev pub last_keywords : List (List ℕ × Keyword)
 last_keywords =
-    (codes "ENDIF", EndIf) ∷ (codes "END", End) ∷ (codes "CONTINUE", Continue) ∷ (codes "STOP", Stop)
+    (codes "ENDIF", EndIf) ∷ (codes "ENDDO", EndDo) ∷ (codes "END", End) ∷ (codes "CONTINUE", Continue) ∷ (codes "STOP", Stop)
     ∷ (codes "READ(*,*)", ReadUnit) ∷ (codes "READ*", ReadList) ∷ (codes "WRITE(*,*)", WriteUnit)
     ∷ (codes "PRINT*", PrintList) ∷ []
 
@@ -61,6 +63,7 @@ keyword_at text = either (first_of first_keywords text) (first_of last_keywords 
 -- The form f stands so behind the keyword.
 abbrev pub IsAfter : Keyword → List Symbol → Form → Type 0
 IsAfter Program rest f = IsProgramAfter rest f
+IsAfter ImplicitNone rest f = IsNothingAfter forms.ImplicitNone rest f
 IsAfter Integer rest f = IsDeclarationAfter kinds.Integer rest f
 IsAfter Logical rest f = IsDeclarationAfter kinds.Logical rest f
 IsAfter Dimension rest f = IsDimensionAfter rest f
@@ -69,6 +72,7 @@ IsAfter GoTo rest f = IsGoToAfter rest f
 IsAfter ElseIf rest f = IsElseIfAfter rest f
 IsAfter Else rest f = IsNothingAfter forms.Else rest f
 IsAfter EndIf rest f = IsNothingAfter forms.EndIf rest f
+IsAfter EndDo rest f = IsNothingAfter forms.EndDo rest f
 IsAfter Continue rest f = IsNothingAfter forms.Continue rest f
 IsAfter Stop rest f = IsNothingAfter forms.Stop rest f
 IsAfter End rest f = IsNothingAfter forms.End rest f

@@ -5,7 +5,7 @@ use Rattle.std.proofs.lemmas.Bool.{eqb-true}
 use Rattle.f77_grammar.specs.expressions.Squeezing.{Symbol}
 use Rattle.f77_grammar.specs.expressions.Spelling.{IsName, Pass, is_letter, is_letter_or_digit, chars, value}
 use Rattle.f77_grammar.specs.statements.Recognition as recognition
-use Rattle.f77_grammar.specs.statements.Recognition.{Halves, cut_at_close, has_equals_outside, words_left_out, IsConditional, IsOfKeyword, IsArithmeticIf, IsComputedGoTo, IsAssignedGoTo, HasWord}
+use Rattle.f77_grammar.specs.statements.Recognition.{Halves, cut_at_close, has_equals_outside, words_left_out, IsConditional, IsOfKeyword, IsArithmeticIf, IsComputedGoTo, IsAssignedGoTo, BeginsImplicitNone, HasWord}
 use Rattle.f77_grammar.specs.statements.Forms.{optional_comma}
 use Rattle.f77_expressions.specs.Lexing.{strip}
 use Rattle.f77_expressions.specs.Symbols.{symbols_of}
@@ -16,7 +16,7 @@ use Rattle.f77_words.specs.keywords.Listed.{listed}
 use Rattle.f77_words.proofs.keywords.FormLaws.{three_found, three_only, arithmetic_found, arithmetic_only, IsEnclosed, enclosed_list, enclosed_found, not_closed, closed_same, computed_enclosed, computed_found, computed_index, enclosed_of, of_enclosed, nothing_behind, assigned_name, assigned_alone, assigned_with_labels, form_of_arithmetic, form_of_computed, form_of_assigned, no_form}
 use Rattle.f77_words.proofs.keywords.LabelLists.{HasLabels, has_first, no_first, has_next, no_next, labels_found, labels_only, label_shorter}
 use Rattle.f77_words.proofs.keywords.Stripping.{strip_same, stripped}
-use Rattle.f77_words.proofs.keywords.WordLaws.{inner_shorter, inner_begun, inner_more, no_inner, IsInnerOf, listed_word_is, listed_word_only, has_keyword, form_is, form_of_keyword, of_keyword}
+use Rattle.f77_words.proofs.keywords.WordLaws.{no_implicit_none, inner_shorter, inner_begun, inner_more, no_inner, IsInnerOf, listed_word_is, listed_word_only, has_keyword, form_is, form_of_keyword, of_keyword}
 use Rattle.f77_read.proofs.one_answer.Fronts.{nothing}
 use Rattle.f77_read.proofs.one_answer.Symbols.{in_code, back, as_long, IsSplit, split, split_only, at_most, HasLabel, HasNoLabel, label, HasCondition, HasNoCondition, conditional}
 
@@ -262,16 +262,20 @@ module _ (text : List Symbol) (never : HasNoCondition text) where
   one_number : (v w : ℕ) → Some v ≡ Some w → v ≡ w
   one_number v w e = cc
 
-  by_list : IsOfKeyword text → (o : Option ℕ) → o ≡ listed words_left_out text → WordOf text
-  by_list k (Some w) e = inl (record { number = w; has = listed_word_is text w k e; only = λ n h. one_number w n (listed_word_only text w n e (has_keyword h never)) })
-  by_list k None e = form_word k e (arithmetic text) (computed text) (assigned text)
+  by_list : IsOfKeyword text → (BeginsImplicitNone text → ⊥) → (o : Option ℕ) → o ≡ listed words_left_out text → WordOf text
+  by_list k i (Some w) e = inl (record { number = w; has = listed_word_is text w k i e; only = λ n h. one_number w n (listed_word_only text w n e (has_keyword h never)) })
+  by_list k i None e = form_word k e (arithmetic text) (computed text) (assigned text)
 
   opposite : (b : Bool) → b ≡ true → b ≡ false → ⊥
   opposite b t f = (let z : true ≡ false = sym t ∙ f in cc)
 
   by_equals : (b : Bool) → has_equals_outside text 0 ≡ b → WordOf text
   by_equals true e = inr (λ n h. opposite _ e (of_keyword h never).no_equals)
-  by_equals false e = by_list (record { unconditional = never; no_equals = e }) (listed words_left_out text) refl
+  by_equals false e = by_none (record { unconditional = never; no_equals = e }) (strip (codes "IMPLICITNONE") text) refl
+    where
+      by_none : IsOfKeyword text → (o : Option (List Symbol)) → strip (codes "IMPLICITNONE") text ≡ o → WordOf text
+      by_none k (Some rest) s = inr (λ n h. no_implicit_none h never (rest, strip_same (codes "IMPLICITNONE") text rest s))
+      by_none k None s = by_list k (λ h. no_text _ (sym s ∙ stripped (codes "IMPLICITNONE") text h.0 h.1)) (listed words_left_out text) refl
 
 pub then_or_not : (text : List Symbol) → Told (text ≡ chars (codes "THEN"))
 then_or_not text = by (strip (codes "THEN") text) refl

@@ -7,6 +7,7 @@ use Rattle.f77_grammar.specs.Answered.{IsAnswered}
 use Rattle.f77_grammar.specs.Cards.{PlainCard, ReadsCards, RefusedCards}
 use Rattle.f77_grammar.specs.Statement77.{Labelled, Statement77}
 use Rattle.f77_grammar.specs.statements.Reading.{ReadsStatement, IsRefusedBy}
+use Rattle.f77_grammar.specs.program.EndDo.{with_loop_labels}
 use Rattle.f77_grammar.specs.program.Program77.{findings, ReadsStatements}
 use Rattle.f77_laws.specs.trees.Steps.{tree_of}
 use Rattle.f77_laws.proofs.trees.Trees.{tree_is_read, one_read}
@@ -70,13 +71,13 @@ module _ (settled : AllAreSettled) where
   cards_either : (d : Dialect) (cards : List PlainCard) → ((p : Program) × ReadsProgram d cards p) ⊎ ((r : Refusal) × RefusedProgram d cards r)
   cards_either d cards = by (all_tried [] cards (record { text = []; refusal = None; tried = tt }))
     where
-      of_text : (text : List Labelled) → AreReadAlone cards text → (findings d text ≡ []) ⊎ ((r : Refusal) × IsAnswered (Contains (findings d text)) r)
+      of_text : (text : List Labelled) → AreReadAlone cards text → (findings d (with_loop_labels text) ≡ []) ⊎ ((r : Refusal) × IsAnswered (Contains (findings d (with_loop_labels text))) r)
           → ((p : Program) × ReadsProgram d cards p) ⊎ ((r : Refusal) × RefusedProgram d cards r)
-      of_text text a (inl e) = inl (tree_of d text, record { text = text; statements = are_read cards text a; reads = tree_is_read d text (tree_of d text) e refl })
+      of_text text a (inl e) = inl (tree_of d (with_loop_labels text), record { text = text; statements = are_read cards text a; reads = tree_is_read d (with_loop_labels text) (tree_of d (with_loop_labels text)) e refl })
       of_text text a (inr f) = inr (f.0, answered_text d cards text f.0 a f.1)
 
       tried_either : (text : List Labelled) (o : Option Refusal) → AreTried cards text o → ((p : Program) × ReadsProgram d cards p) ⊎ ((r : Refusal) × RefusedProgram d cards r)
-      tried_either text None a = of_text text a (none_or_first (findings d text))
+      tried_either text None a = of_text text a (none_or_first (findings d (with_loop_labels text)))
       tried_either text (Some r) a = inr (r, answered_card d cards r a)
 
       by : IsTriedAs cards → ((p : Program) × ReadsProgram d cards p) ⊎ ((r : Refusal) × RefusedProgram d cards r)
@@ -122,7 +123,7 @@ module _ (settled : AllAreSettled) where
   no_cause : (d : Dialect) (cards : List PlainCard) (p : Program) (r : Refusal) → ReadsProgram d cards p → HasCause d cards r → ⊥
   no_cause d cards p r h (AtCard card n w c i) = let k = read_at cards h.text card h.statements c in (settled card.chars).not_both k.0 n w k.1 i
   no_cause d cards p r h (InText t o a c) =
-      nothing_in o (subst (λ xs. Contains xs o) h.reads.sound (subst (λ ys. Contains (findings d ys) o) (one_text cards t h.text a h.statements) c))
+      nothing_in o (subst (λ xs. Contains xs o) h.reads.sound (subst (λ ys. Contains (findings d (with_loop_labels ys)) o) (one_text cards t h.text a h.statements) c))
 
   pub not_both : (d : Dialect) (source : List ℕ) (p : Program) (r : Refusal) → Reads77 d source p → Refused77 d source r → ⊥
   not_both d source p r h (OfLines f) = lines.not_both source h.cards r h.are_cards f
@@ -132,4 +133,4 @@ module _ (settled : AllAreSettled) where
   pub one_program : (d : Dialect) (source : List ℕ) (p q : Program) → Reads77 d source p → Reads77 d source q → p ≡ q
   one_program d source p q h g =
       let k = subst (λ xs. ReadsProgram d xs p) (one_reading source h.cards g.cards h.are_cards.are_cards g.are_cards.are_cards) h.program in
-      one_read d g.program.text p q (subst (λ ys. ReadsStatements d ys p) (one_text g.cards k.text g.program.text k.statements g.program.statements) k.reads) g.program.reads
+      one_read d (with_loop_labels g.program.text) p q (subst (λ ys. ReadsStatements d (with_loop_labels ys) p) (one_text g.cards k.text g.program.text k.statements g.program.statements) k.reads) g.program.reads

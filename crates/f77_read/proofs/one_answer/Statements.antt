@@ -18,7 +18,7 @@ use Rattle.f77_grammar.specs.statements.Controls.{Control, written_control}
 use Rattle.f77_grammar.specs.declared.directions.Direction.TheVariants.{Input, Output}
 use Rattle.f77_grammar.specs.statements.Forms as forms
 use Rattle.f77_grammar.specs.statements.Forms.{Form, IsWritten, IsInner, IsLabel, IsEntity, IsBounded, written_entity, entity_tree, entity_depth, IsDefinition, written_definition, definition_tree, definition_depth, separated, IsList, statement_of, form_depth, form_words, has_wide_literal, reference_in, optional_comma}
-use Rattle.f77_grammar.specs.statements.Recognition.{Halves, cut_at_close, has_equals_outside}
+use Rattle.f77_grammar.specs.statements.Recognition.{Halves, cut_at_close, has_equals_outside, BeginsWithLetter}
 use Rattle.f77_expressions.specs.Lexing.{strip}
 use Rattle.f77_expressions.specs.Reader.{capped}
 use Rattle.f77_words.specs.keywords.FormsLeftOut.{without_comma}
@@ -28,10 +28,10 @@ use Rattle.f77_words.specs.keywords.Outside.{has_comma_outside}
 use Rattle.f77_words.proofs.keywords.Stripping.{strip_same, stripped}
 use Rattle.f77_statement.specs.Conditions.{IsBehindIf, Block, Logical}
 use Rattle.f77_statement.specs.Keywords.{IsProgramAfter, IsDeclarationAfter, IsDimensionAfter, AreConstantsAfter, IsGoToAfter, IsElseIfAfter, IsNothingAfter, IsReadAfter, IsPrintAfter, AfterComma}
-use Rattle.f77_statement.specs.Kinds.{is_inner, IsUnconditional, Assignment, Loop, OfKeyword}
+use Rattle.f77_statement.specs.Kinds.{is_inner, IsUnconditional, Assignment, Loop, PlainLoop, OfKeyword}
 use Rattle.f77_statement.proofs.ActionLaws.{cut_is, cut_text, no_list}
 use Rattle.f77_statement.proofs.AssignmentLaws.{any_append}
-use Rattle.f77_statement.proofs.LoopLaws.{front_found, front_stripped, front_label, control_begins, comma_gone}
+use Rattle.f77_statement.proofs.LoopLaws.{front_found, front_stripped, front_label, plain_stripped, letter_no_label, control_begins, comma_gone}
 use Rattle.f77_statement.proofs.RecognitionLaws.{inner_is, inner_of, inner_unconditional, of_keyword, of_loop, of_assignment, no_then, is_conditional, is_unconditional, conditional_written}
 use Rattle.f77_read.proofs.one_answer.Fronts.{nothing}
 use Rattle.f77_read.proofs.one_answer.Fronts as fronts
@@ -302,6 +302,7 @@ comma_some text list n e = some (sym n ∙ e)
 
 after : (k : Keyword) (text : List Symbol) → Decided (IsAfter k text)
 after keywords.Program text = program text
+after keywords.ImplicitNone text = keyword_alone forms.ImplicitNone text (nothing text)
 after keywords.Integer text = declaration kinds.Integer text
 after keywords.Logical text = declaration kinds.Logical text
 after keywords.Dimension text = dimension text
@@ -310,6 +311,7 @@ after keywords.GoTo text = go_to text
 after keywords.ElseIf text = else_if text
 after keywords.Else text = keyword_alone forms.Else text (nothing text)
 after keywords.EndIf text = keyword_alone forms.EndIf text (nothing text)
+after keywords.EndDo text = keyword_alone forms.EndDo text (nothing text)
 after keywords.Continue text = keyword_alone forms.Continue text (nothing text)
 after keywords.Stop text = keyword_alone forms.Stop text (nothing text)
 after keywords.End text = keyword_alone forms.End text (nothing text)
@@ -323,6 +325,7 @@ at_form f g e h = subst HasKeyword (sym e) h
 
 has_keyword : (k : Keyword) (text : List Symbol) (f : Form) → IsAfter k text f → HasKeyword f
 has_keyword keywords.Program text f h = at_form f _ h.1 tt
+has_keyword keywords.ImplicitNone text f h = at_form f _ h.0 tt
 has_keyword keywords.Integer text f h = at_form f _ h.1 tt
 has_keyword keywords.Logical text f h = at_form f _ h.1 tt
 has_keyword keywords.Dimension text f h = at_form f _ h.1 tt
@@ -331,6 +334,7 @@ has_keyword keywords.GoTo text f h = at_form f _ h.1 tt
 has_keyword keywords.ElseIf text f h = at_form f _ h.2 tt
 has_keyword keywords.Else text f h = at_form f _ h.0 tt
 has_keyword keywords.EndIf text f h = at_form f _ h.0 tt
+has_keyword keywords.EndDo text f h = at_form f _ h.0 tt
 has_keyword keywords.Continue text f h = at_form f _ h.0 tt
 has_keyword keywords.Stop text f h = at_form f _ h.0 tt
 has_keyword keywords.End text f h = at_form f _ h.0 tt
@@ -362,17 +366,25 @@ module _ (text : List Symbol) where
     -- ---- a DO statement
 
     module _ (comma : has_comma_outside text 0 false ≡ true) where
-      no_loop : ((digits : List ℕ) (b : Bool) (c : Control) → IsWritten (forms.Do digits b c) text → ⊥) → Decided (IsUnconditional text)
-      no_loop never = inr (λ g h. of_loop (λ f. ⊥) text g equal comma never h)
+      no_loop : ((digits : List ℕ) (b : Bool) (c : Control) → IsWritten (forms.Do digits b c) text → ⊥) → ((c : Control) → IsWritten (forms.PlainDo c) text → ⊥) → Decided (IsUnconditional text)
+      no_loop never lacks = inr (λ g h. of_loop (λ f. ⊥) text g equal comma never lacks h)
 
       module _ (more : List Symbol) (begins : strip (codes "DO") text ≡ Some more) where
         labelled : (digits : List ℕ) (b : Bool) (c : Control) (h : IsWritten (forms.Do digits b c) text)
             → IsLabelled more (value digits) (chars (optional_comma b) ++ h.0.0)
         labelled digits b c h = front_label text more h.0.0 digits b begins h.1 (control_begins c h.0.0 h.0.2) h.0.1
 
+        unlabelled : (c : Control) (h : IsWritten (forms.PlainDo c) text) → more ≡ h.0.0
+        unlabelled c h = plain_stripped text more h.0.0 begins h.0.1
+
         module _ (l : HasLabel more) where
           abbrev rest : List Symbol
           rest = without_comma l.rest
+
+          not_plain : (c : Control) → IsWritten (forms.PlainDo c) text → ⊥
+          not_plain c h =
+              letter_no_label more l.rest (value l.label) (subst BeginsWithLetter (sym (unlabelled c h)) (control_begins c h.0.0 h.0.2))
+              (record { label = l.label; is_label = l.is_label; same = l.same; number_is = refl; whole = l.whole })
 
           same_label : (digits : List ℕ) (b : Bool) (c : Control) (h : IsWritten (forms.Do digits b c) text) → (value l.label ≡ value digits) × (rest ≡ h.0.0)
           same_label digits b c h =
@@ -397,23 +409,53 @@ module _ (text : List Symbol) where
                       rw (n, o.0, o.1, o.2, o.3) refl,
                       same_wide _ _ (sym m.same ∙ e),
                       o.4,
-                    )) u;
+                    )) (λ c h. absurd (not_plain c h)) u;
               })
 
           by_control : (k : HasWords rest) → IsControlThere k.words ⊎ IsNoControl k.words → Decided (IsUnconditional text)
           by_control k (inl m) = a_loop k m
-          by_control k (inr never) = no_loop (λ digits b c h. never c h.2 (control_is k digits b c h))
+          by_control k (inr never) = no_loop (λ digits b c h. never c h.2 (control_is k digits b c h)) not_plain
 
           by_words : HasWords rest ⊎ HasNoWords rest → Decided (IsUnconditional text)
           by_words (inl k) = by_control k (control_there k.words)
-          by_words (inr never) = no_loop (λ digits b c h. never (written_control c) (subst (λ q. Words q (written_control c)) (sym (same_label digits b c h).1) h.0.2))
+          by_words (inr never) = no_loop (λ digits b c h. never (written_control c) (subst (λ q. Words q (written_control c)) (sym (same_label digits b c h).1) h.0.2)) not_plain
+
+        module _ (no_label : HasNoLabel more) where
+          not_labelled : (digits : List ℕ) (b : Bool) (c : Control) → IsWritten (forms.Do digits b c) text → ⊥
+          not_labelled digits b c h = let k = labelled digits b c h in no_label k.label _ k.is_label k.whole k.same
+
+          plain_control : (k : HasWords more) (c : Control) (h : IsWritten (forms.PlainDo c) text) → k.words ≡ written_control c
+          plain_control k c h = k.only _ (subst (λ q. Words q (written_control c)) (sym (unlabelled c h)) h.0.2)
+
+          a_plain : (k : HasWords more) → IsControlThere k.words → Decided (IsUnconditional text)
+          a_plain k m =
+              let form = forms.PlainDo m.control in
+              inl (record {
+                form = form;
+                is = PlainLoop m.control ((more, strip_same (codes "DO") text more begins, subst (Words more) m.same k.are), m.good);
+                only = λ g u. of_loop (IsLike form) text g equal comma (λ digits b c h. absurd (not_labelled digits b c h)) (λ c h.
+                    let e = plain_control k c h in
+                    let o = m.only c h.1 e in (
+                      rw (o.0, o.1, o.2, o.3) refl,
+                      same_wide _ _ (sym m.same ∙ e),
+                      o.4,
+                    )) u;
+              })
+
+          by_plain_control : (k : HasWords more) → IsControlThere k.words ⊎ IsNoControl k.words → Decided (IsUnconditional text)
+          by_plain_control k (inl m) = a_plain k m
+          by_plain_control k (inr never) = no_loop not_labelled (λ c h. never c h.1 (plain_control k c h))
+
+          by_plain_words : HasWords more ⊎ HasNoWords more → Decided (IsUnconditional text)
+          by_plain_words (inl k) = by_plain_control k (control_there k.words)
+          by_plain_words (inr never) = no_loop not_labelled (λ c h. never (written_control c) (subst (λ q. Words q (written_control c)) (sym (unlabelled c h)) h.0.2))
 
         by_label : HasLabel more ⊎ HasNoLabel more → Decided (IsUnconditional text)
         by_label (inl l) = by_words l (words_of (without_comma l.rest))
-        by_label (inr never) = no_loop (λ digits b c h. let k = labelled digits b c h in never k.label _ k.is_label k.whole k.same)
+        by_label (inr never) = by_plain_words never (words_of more)
 
       by_do : (o : Option (List Symbol)) → strip (codes "DO") text ≡ o → Decided (IsUnconditional text)
-      by_do None e = no_loop (λ digits b c h. no_text _ (sym e ∙ front_stripped text h.0.0 digits b h.0.1))
+      by_do None e = no_loop (λ digits b c h. no_text _ (sym e ∙ front_stripped text h.0.0 digits b h.0.1)) (λ c h. no_text _ (sym e ∙ stripped (codes "DO") text h.0.0 h.0.1))
       by_do (Some more) e = by_label more e (label more)
 
     -- ---- an assignment
@@ -458,6 +500,7 @@ unconditional text = by_equals text (has_equals_outside text 0) refl
 unconditional_written : (text : List Symbol) (f : Form) → IsUnconditional text f → IsWritten f text
 unconditional_written text f (Assignment l r h) = h
 unconditional_written text f (Loop digits b c h) = h
+unconditional_written text f (PlainLoop c h) = h
 unconditional_written text f (OfKeyword g w h) = h
 
 -- ---- with a condition

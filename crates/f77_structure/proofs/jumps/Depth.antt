@@ -67,7 +67,7 @@ depth_more f n k h = omega arith
 -- ---- loops
 
 ends_as_lasts : (rest : List Labelled) (j : ℕ) (ends : ℕ → Option ℕ) → ((n : ℕ) → stands_in rest n ≡ is_from j (ends n)) → (s : Statement77) → ends_in rest s ≡ is_from j (end_of (form_of s) ends)
-ends_as_lasts rest j ends h (Do n x a b c) = h n
+ends_as_lasts rest j ends h (Do (Some n) x a b c) = h n
 ends_as_lasts rest j ends h s = refl
 
 -- the loops that the definitions find open are those that last

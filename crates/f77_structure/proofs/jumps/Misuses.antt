@@ -1,5 +1,5 @@
 -- DO variables that are wrong in targets and in items of lists.
-use Rattle.std.proofs.Common.{◌≡◌, ℕ, ℤ, ◌+◌, ◌<◌, ◌≤◌, ◌≢◌, Bool, true, false, ◌||◌, List, [], ◌∷◌, ◌++◌, map, drop, length, get_or, refl, sym, ap, ◌∙◌, add-one}
+use Rattle.std.proofs.Common.{◌≡◌, ℕ, Option, ℤ, ◌+◌, ◌<◌, ◌≤◌, ◌≢◌, Bool, true, false, ◌||◌, List, [], ◌∷◌, ◌++◌, map, drop, length, get_or, refl, sym, ap, ◌∙◌, add-one}
 use Rattle.std.specs.declared.boxed.Box.{Box}
 use Rattle.std.specs.declared.alloc.Global.{Global}
 use Rattle.std.proofs.Math.Seq.{drop-cons}
@@ -27,7 +27,7 @@ use Rattle.f77_grammar.specs.declared.syntax.statements.Entity.{Entity}
 use Rattle.f77_grammar.specs.declared.syntax.statements.Stmt77.{Stmt77}
 use Rattle.f77_grammar.specs.declared.syntax.statements.Stmt77.TheVariants as stmts
 use Rattle.f77_grammar.specs.syntax.Views.{statement_of}
-use Rattle.f77_grammar.proofs.syntax.Equations.{statement_of-program, statement_of-declare, statement_of-dimension, statement_of-constants, statement_of-assign, statement_of-go, statement_of-test, statement_of-if, statement_of-else_if, statement_of-else, statement_of-end_if, statement_of-do, statement_of-continue, statement_of-stop, statement_of-read, statement_of-print, statement_of-end}
+use Rattle.f77_grammar.proofs.syntax.Equations.{statement_of-program, statement_of-implicit_none, statement_of-declare, statement_of-dimension, statement_of-constants, statement_of-assign, statement_of-go, statement_of-test, statement_of-if, statement_of-else_if, statement_of-else, statement_of-end_if, statement_of-do, statement_of-end_do, statement_of-continue, statement_of-stop, statement_of-read, statement_of-print, statement_of-end}
 use Rattle.f77_structure.specs.jumps.Misuses.{is_round, sets_round, reads_round, value_sets_round, is_wrong_round, misuses_item, misuses_items, misuses_statement}
 
 -- ---- targets
@@ -150,6 +150,9 @@ module _ (scalar round : List ℕ → Bool) where
   pub statement-assign : (left : Ref) (e : Expr) → misuses_statement scalar round (statement_of (stmts.Assign left e)) ≡ sets_round round [] (reference_of left).name (reference_of left).subscripts
   statement-assign left e = ap (misuses_statement scalar round) (statement_of-assign left e)
 
+  pub statement-implicit_none : misuses_statement scalar round (statement_of stmts.ImplicitNone) ≡ false
+  statement-implicit_none = ap (misuses_statement scalar round) statement_of-implicit_none
+
   pub statement-go : (n : ℕ) → misuses_statement scalar round (statement_of (stmts.Go n)) ≡ false
   statement-go n = ap (misuses_statement scalar round) (statement_of-go n)
 
@@ -168,8 +171,11 @@ module _ (scalar round : List ℕ → Bool) where
   pub statement-end_if : misuses_statement scalar round (statement_of stmts.EndIf) ≡ false
   statement-end_if = ap (misuses_statement scalar round) statement_of-end_if
 
-  pub statement-do : (n : ℕ) (x : Name) (a b c : Expr) → misuses_statement scalar round (statement_of (stmts.Do n x a b c)) ≡ is_wrong_round scalar round x []
+  pub statement-do : (n : Option ℕ) (x : Name) (a b c : Expr) → misuses_statement scalar round (statement_of (stmts.Do n x a b c)) ≡ is_wrong_round scalar round x []
   statement-do n x a b c = ap (misuses_statement scalar round) (statement_of-do n x a b c)
+
+  pub statement-end_do : misuses_statement scalar round (statement_of stmts.EndDo) ≡ false
+  statement-end_do = ap (misuses_statement scalar round) statement_of-end_do
 
   pub statement-continue : misuses_statement scalar round (statement_of stmts.Continue) ≡ false
   statement-continue = ap (misuses_statement scalar round) statement_of-continue
@@ -186,4 +192,4 @@ module _ (scalar round : List ℕ → Bool) where
   pub statement-end : misuses_statement scalar round (statement_of stmts.End) ≡ false
   statement-end = ap (misuses_statement scalar round) statement_of-end
 
-pub ruleset statement_laws = (statement-program, statement-declare, statement-dimension, statement-constants, statement-assign, statement-go, statement-test, statement-if, statement-else_if, statement-else, statement-end_if, statement-do, statement-continue, statement-stop, statement-read, statement-print, statement-end)
+pub ruleset statement_laws = (statement-program, statement-implicit_none, statement-declare, statement-dimension, statement-constants, statement-assign, statement-go, statement-test, statement-if, statement-else_if, statement-else, statement-end_if, statement-do, statement-end_do, statement-continue, statement-stop, statement-read, statement-print, statement-end)

@@ -53,7 +53,7 @@ one_loop false s ss x = refl
 
 loop_ends_from : (rest : List Labelled) (j : ℕ) (ends : ℕ → Option ℕ) → ((n : ℕ) → stands_in rest n ≡ is_from j (ends n)) → (s : Statement77) (x : List ℕ)
     → (ends_in rest s && is_among (loop_variable s) x) ≡ is_from j (end_with ends (loop_begun s) x)
-loop_ends_from rest j ends h (Do n y a b c) x = ap (λ t. t && (bytes_eq x y || false)) (h n) ∙ cases (bytes_eq x y) (is_from j (ends n)) refl
+loop_ends_from rest j ends h (Do (Some n) y a b c) x = ap (λ t. t && (bytes_eq x y || false)) (h n) ∙ cases (bytes_eq x y) (is_from j (ends n)) refl
   where
     cases : (b t : Bool) → is_from j (ends n) ≡ t → (t && (b || false)) ≡ is_from j (cond b (ends n) None)
     cases true true e = sym e

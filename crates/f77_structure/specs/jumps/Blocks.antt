@@ -11,7 +11,7 @@ use Rattle.f77_structure.specs.Openings.{end_of, is_from}
 abbrev pub opens_form : Form → Bool
 opens_form LogicalIf = true
 opens_form If = true
-opens_form (Do n) = true
+opens_form (Do label) = true
 opens_form _ = false
 
 -- ---- block IFs

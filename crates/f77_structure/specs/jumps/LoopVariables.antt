@@ -21,7 +21,7 @@ round_at v j x = is_from j (last_in v x)
 
 -- the label and the variable of a DO
 abbrev pub loop_begun : Statement77 → Option (ℕ × List ℕ)
-loop_begun (Do n x a b c) = Some (n, x)
+loop_begun (Do (Some n) x a b c) = Some (n, x)
 loop_begun _ = None
 
 -- where this loop ends, if it has the variable x; `ends` gives the place of the last statement with a label

@@ -54,7 +54,7 @@ module _ (scalar round : List ℕ → Bool) where
 
   abbrev pub misuses_statement : Statement77 → Bool
   misuses_statement (Assign left e) = sets_round round [] left.name left.subscripts
-  misuses_statement (Do n x a b c) = is_wrong_round x []
+  misuses_statement (Do label x a b c) = is_wrong_round x []
   misuses_statement (Read is) = misuses_items Input is []
   misuses_statement (Print is) = misuses_items Output is []
   misuses_statement _ = false

@@ -70,8 +70,9 @@ fn ifs_behind(form: Form, before: usize) -> usize
     match form {
         Form::If => before + 1,
         Form::EndIf => before.saturating_sub(1),
-        Form::Title | Form::Declaration | Form::Action | Form::Go(_) | Form::Stop => before,
-        Form::LogicalIf | Form::ElseIf | Form::Else | Form::Do(_) | Form::End => before,
+        Form::Title | Form::ImplicitNone | Form::Declaration | Form::Action | Form::Go(_) => before,
+        Form::Stop | Form::LogicalIf | Form::ElseIf | Form::Else | Form::Do(_) => before,
+        Form::EndDo | Form::End => before,
     }
 }
 
@@ -81,8 +82,8 @@ fn opens_block(form: Form) -> bool
 {
     match form {
         Form::LogicalIf | Form::If | Form::Do(_) => true,
-        Form::Title | Form::Declaration | Form::Action | Form::Go(_) | Form::Stop => false,
-        Form::ElseIf | Form::Else | Form::EndIf | Form::End => false,
+        Form::Title | Form::ImplicitNone | Form::Declaration | Form::Action | Form::Go(_) => false,
+        Form::Stop | Form::ElseIf | Form::Else | Form::EndIf | Form::EndDo | Form::End => false,
     }
 }
 

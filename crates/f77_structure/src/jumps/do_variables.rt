@@ -65,8 +65,10 @@ fn loop_begun(statement: &Stmt77) -> Option<(u32, Name)>
     ensures { result ≡ loop_begun (statement_of statement.now) }
 {
     match statement {
-        Stmt77::Do(label, variable, ..) => Some((*label, *variable)),
+        Stmt77::Do(Some(label), variable, ..) => Some((*label, *variable)),
+        Stmt77::Do(None, ..) => None,
         Stmt77::Program(_) => None,
+        Stmt77::ImplicitNone => None,
         Stmt77::Declare(..) => None,
         Stmt77::Dimension(_) => None,
         Stmt77::Constants(_) => None,
@@ -77,6 +79,7 @@ fn loop_begun(statement: &Stmt77) -> Option<(u32, Name)>
         Stmt77::ElseIf(_) => None,
         Stmt77::Else => None,
         Stmt77::EndIf => None,
+        Stmt77::EndDo => None,
         Stmt77::Continue => None,
         Stmt77::Stop => None,
         Stmt77::Read(_) => None,
@@ -279,6 +282,7 @@ impl LoopVariables<'_> {
             Stmt77::Read(list) => self.misuses_items(Direction::Input, list, at, &mut lists),
             Stmt77::Print(list) => self.misuses_items(Direction::Output, list, at, &mut lists),
             Stmt77::Program(_) => Ok(false),
+            Stmt77::ImplicitNone => Ok(false),
             Stmt77::Declare(..) => Ok(false),
             Stmt77::Dimension(_) => Ok(false),
             Stmt77::Constants(_) => Ok(false),
@@ -288,6 +292,7 @@ impl LoopVariables<'_> {
             Stmt77::ElseIf(_) => Ok(false),
             Stmt77::Else => Ok(false),
             Stmt77::EndIf => Ok(false),
+            Stmt77::EndDo => Ok(false),
             Stmt77::Continue => Ok(false),
             Stmt77::Stop => Ok(false),
             Stmt77::End => Ok(false),

@@ -23,9 +23,9 @@ impl LabelTargets {
                 Some(target) => target.refuses(at),
                 None => true,
             },
-            Form::Title | Form::Declaration | Form::Action | Form::Stop | Form::LogicalIf => false,
-            Form::If | Form::ElseIf | Form::Else | Form::EndIf => false,
-            Form::Do(_) | Form::End => false,
+            Form::Title | Form::ImplicitNone | Form::Declaration | Form::Action => false,
+            Form::Stop | Form::LogicalIf | Form::If | Form::ElseIf | Form::Else => false,
+            Form::EndIf | Form::Do(_) | Form::EndDo | Form::End => false,
         }
     }
 }

@@ -62,8 +62,9 @@ impl Arms {
                 self.end();
                 Ok(())
             }
-            Form::Title | Form::Declaration | Form::Action | Form::Go(_) | Form::Stop => Ok(()),
-            Form::LogicalIf | Form::Do(_) | Form::End => Ok(()),
+            Form::Title | Form::ImplicitNone | Form::Declaration | Form::Action => Ok(()),
+            Form::Go(_) | Form::Stop | Form::LogicalIf | Form::Do(_) | Form::EndDo => Ok(()),
+            Form::End => Ok(()),
         }
     }
 }
@@ -103,8 +104,8 @@ fn is_no_target(form: Form) -> bool
 {
     match form {
         Form::Declaration | Form::ElseIf | Form::Else | Form::EndIf => true,
-        Form::Title | Form::Action | Form::Go(_) | Form::Stop | Form::LogicalIf => false,
-        Form::If | Form::Do(_) | Form::End => false,
+        Form::Title | Form::ImplicitNone | Form::Action | Form::Go(_) | Form::Stop => false,
+        Form::LogicalIf | Form::If | Form::Do(_) | Form::EndDo | Form::End => false,
     }
 }
 

@@ -187,6 +187,7 @@ inner_begins forms.ReadNothing text h k = either_begins 82 82 _ _ text refl refl
 inner_begins (forms.Print is) text h k = print_begins is text h.0
 inner_begins forms.PrintNothing text h k = either_begins 80 87 _ _ text refl refl h
 inner_begins (forms.Program x) text h k = absurd k
+inner_begins forms.ImplicitNone text h k = absurd k
 inner_begins (forms.Declare t es) text h k = absurd k
 inner_begins (forms.Dimension es) text h k = absurd k
 inner_begins (forms.Constants ds) text h k = absurd k
@@ -196,6 +197,8 @@ inner_begins (forms.ElseIf p) text h k = absurd k
 inner_begins forms.Else text h k = absurd k
 inner_begins forms.EndIf text h k = absurd k
 inner_begins (forms.Do label comma c) text h k = absurd k
+inner_begins (forms.PlainDo c) text h k = absurd k
+inner_begins forms.EndDo text h k = absurd k
 inner_begins forms.End text h k = absurd k
 
 pub recognised_test : (p : Phrase) (f : Form) (text : List Symbol) (h : IsWritten (forms.Test p f) text) → IsConditional text h.0 h.1
@@ -226,6 +229,15 @@ recognised_do label comma c text h =
       comma = ap (λ (q : List Symbol). has_comma_outside q 0 false) e
           ∙ (comma_plain (chars label) (chars (optional_comma comma) ++ h.0.0) 0 false (digits_plain label h.1.0)
           ∙ (comma_behind_comma comma h.0.0 ∙ comma_whole h.0.0 (written_control c) of_loop h.0.2 (control_outside c)));
+    }
+
+pub recognised_plain_do : (c : Control) (text : List Symbol) → IsWritten (forms.PlainDo c) text → IsOfLoop text
+recognised_plain_do c text h =
+    let e : text ≡ Char 68 ∷ (Char 79 ∷ h.0.0) = h.0.1 in
+    record {
+      unconditional = other_first 68 text _ refl e;
+      equals = ap (λ (q : List Symbol). has_equals_outside q 0) e ∙ equals_whole h.0.0 (written_control c) of_loop h.0.2 (control_outside c);
+      comma = ap (λ (q : List Symbol). has_comma_outside q 0 false) e ∙ comma_whole h.0.0 (written_control c) of_loop h.0.2 (control_outside c);
     }
 
 -- ---- keywords
@@ -273,6 +285,7 @@ else_if p text e s h =
 
 pub recognised_keyword : (f : Form) → HasKeyword f → (text : List Symbol) → IsWritten f text → IsOfKeyword text
 recognised_keyword (forms.Program x) k text h = followed_keyword (codes "PROGRAM") (words.Name x ∷ []) text (λ rest. other_first 80 _ _ refl refl) (λ rest. refl) refl h
+recognised_keyword forms.ImplicitNone k text h = fixed_keyword (chars (codes "IMPLICITNONE")) text (other_second 73 77 _ _ refl refl) refl h
 recognised_keyword (forms.Declare t es) k text h = declaration t es text h.0
 recognised_keyword (forms.Dimension es) k text h = followed_keyword (codes "DIMENSION") _ text (λ rest. other_first 68 _ _ refl refl) (λ rest. refl) (neutral_entities es) h.0
 recognised_keyword (forms.Constants ds) k text h = followed_keyword (codes "PARAMETER") (words.Open ∷ (separated written_definition ds ++ words.Close ∷ [])) text (λ rest. other_first 80 _ _ refl refl) (λ rest. refl) (neutral_definitions ds) h.0
@@ -280,6 +293,7 @@ recognised_keyword (forms.Go label) k text h = jump label text h.0 h.1.0
 recognised_keyword (forms.ElseIf p) k text h = else_if p text h.0 h.1 h.2
 recognised_keyword forms.Else k text h = fixed_keyword (chars (codes "ELSE")) text (other_first 69 _ _ refl refl) refl h
 recognised_keyword forms.EndIf k text h = fixed_keyword (chars (codes "ENDIF")) text (other_first 69 _ _ refl refl) refl h
+recognised_keyword forms.EndDo k text h = fixed_keyword (chars (codes "ENDDO")) text (other_first 69 _ _ refl refl) refl h
 recognised_keyword forms.Continue k text h = fixed_keyword (chars (codes "CONTINUE")) text (other_first 67 _ _ refl refl) refl h
 recognised_keyword forms.Stop k text h = fixed_keyword (chars (codes "STOP")) text (other_first 83 _ _ refl refl) refl h
 recognised_keyword (forms.Read is) k text h = reading is text h.0
@@ -291,3 +305,4 @@ recognised_keyword (forms.Assign l r) k text h = absurd k
 recognised_keyword (forms.Test p f) k text h = absurd k
 recognised_keyword (forms.If p) k text h = absurd k
 recognised_keyword (forms.Do label comma c) k text h = absurd k
+recognised_keyword (forms.PlainDo c) k text h = absurd k

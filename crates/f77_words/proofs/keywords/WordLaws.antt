@@ -1,17 +1,19 @@
 -- The word of a statement, or of its inner statement.
 use Rattle.std.proofs.Common.{◌≡◌, ℕ, zero, suc, ◌<◌, Bool, true, false, List, [], ◌∷◌, ◌++◌, length, refl, ap, sym, ◌∙◌, subst, codes, arith}
-use Rattle.std.specs.Prelude.{Option, Some, None, IfSome}
+use Rattle.std.specs.Prelude.{Option, Some, None, IfSome, is_some}
 use Rattle.std.proofs.lemmas.List.{length-map}
 use Rattle.f77_grammar.specs.expressions.Squeezing.{Symbol}
 use Rattle.f77_grammar.specs.expressions.Spelling.{chars}
 use Rattle.f77_grammar.specs.statements.Recognition as recognition
-use Rattle.f77_grammar.specs.statements.Recognition.{Halves, Bracket, Opening, Closing, Neither, bracket_of, with_symbol, cut_by, cut_from, cut_at_close, has_equals_outside, IsConditional, IsOfKeyword, IsArithmeticIf, IsComputedGoTo, IsAssignedGoTo, HasWord, words_left_out}
+use Rattle.f77_grammar.specs.statements.Recognition.{Halves, Bracket, Opening, Closing, Neither, bracket_of, with_symbol, cut_by, cut_from, cut_at_close, has_equals_outside, IsConditional, IsOfKeyword, IsArithmeticIf, IsComputedGoTo, IsAssignedGoTo, BeginsImplicitNone, HasWord, words_left_out}
 use Rattle.f77_expressions.specs.Symbols.{symbol_of, symbols_of}
 use Rattle.f77_expressions.specs.declared.symbols.Symbol.{Symbol as Symbol'}
 use Rattle.f77_words.specs.keywords.FormsLeftOut as forms
 use Rattle.f77_words.specs.keywords.FormsLeftOut.{IsFormLeftOut}
-use Rattle.f77_words.specs.keywords.Listed.{listed}
+use Rattle.f77_expressions.specs.Lexing.{strip}
+use Rattle.f77_words.specs.keywords.Listed.{begins_with, listed}
 use Rattle.f77_words.proofs.keywords.ListedLaws.{listed_found, listed_only, no_if_listed, no_go_to_listed}
+use Rattle.f77_words.proofs.keywords.Stripping.{strip_same, stripped}
 
 -- ---- a text has one condition
 
@@ -38,7 +40,7 @@ abbrev Then : List Symbol
 Then = chars (codes "THEN")
 
 inner_has : {text : List Symbol} {w : ℕ} → HasWord text w → (condition rest : List Symbol) → IsConditional text condition rest → HasWord rest w × (rest ≡ Then → ⊥)
-inner_has (recognition.BeginsWith word number text behind k c e) condition rest h = absurd (k.unconditional condition rest h)
+inner_has (recognition.BeginsWith word number text behind k c e i) condition rest h = absurd (k.unconditional condition rest h)
 inner_has (recognition.ArithmeticIf text k f) condition rest h = absurd (k.unconditional condition rest h)
 inner_has (recognition.ComputedGoTo text k f) condition rest h = absurd (k.unconditional condition rest h)
 inner_has (recognition.AssignedGoTo text k f) condition rest h = absurd (k.unconditional condition rest h)
@@ -100,7 +102,7 @@ inner_shorter xs ys condition h =
 -- ---- the word of a keyword
 
 pub of_keyword : {text : List Symbol} {w : ℕ} → HasWord text w → ((condition rest : List Symbol) → IsConditional text condition rest → ⊥) → IsOfKeyword text
-of_keyword (recognition.BeginsWith word number text behind k c e) n = k
+of_keyword (recognition.BeginsWith word number text behind k c e i) n = k
 of_keyword (recognition.ArithmeticIf text k f) n = k
 of_keyword (recognition.ComputedGoTo text k f) n = k
 of_keyword (recognition.AssignedGoTo text k f) n = k
@@ -116,15 +118,46 @@ assigned_begins text (recognition.Alone name n e) = (_, e)
 assigned_begins text (recognition.WithLabels name comma first others list n l e) = (_, e)
 
 pub has_keyword : {text : List Symbol} {w : ℕ} → HasWord text w → ((condition rest : List Symbol) → IsConditional text condition rest → ⊥) → IsListedOrFormed text w
-has_keyword (recognition.BeginsWith word number text behind k c e) n = Listed (listed_only text number (record { word = word; rest = behind; contained = c; same = e }))
+has_keyword (recognition.BeginsWith word number text behind k c e i) n = Listed (listed_only text number (record { word = word; rest = behind; contained = c; same = e }))
 has_keyword (recognition.ArithmeticIf text k f) n = Formed (no_if_listed text f.opened f.begins) (forms.ArithmeticIf f)
 has_keyword (recognition.ComputedGoTo text k f) n = Formed (no_go_to_listed text _ f.written) (forms.ComputedGoTo f)
 has_keyword (recognition.AssignedGoTo text k f) n = let b = assigned_begins text f in Formed (no_go_to_listed text b.0 b.1) (forms.AssignedGoTo f)
 has_keyword (recognition.Inner text c r number k t w) n = absurd (n c r k)
 
-pub listed_word_is : (text : List Symbol) (w : ℕ) → IsOfKeyword text → Some w ≡ listed words_left_out text → HasWord text w
-listed_word_is text w k e =
-    let l = listed_found words_left_out text w (sym e) in recognition.BeginsWith l.word w text l.rest k l.contained l.same
+-- ---- IMPLICIT NONE
+
+none_some : (rest : List Symbol) → Some rest ≡ None → ⊥
+none_some rest e = cc
+
+no_if_implicit : (text opened : List Symbol) → text ≡ chars (codes "IF(") ++ opened → BeginsImplicitNone text → ⊥
+no_if_implicit text opened e h = none_some h.0 (sym (stripped (codes "IMPLICITNONE") text h.0 h.1) ∙ ap (strip (codes "IMPLICITNONE")) e)
+
+no_go_to_implicit : (text rest : List Symbol) → text ≡ chars (codes "GOTO") ++ rest → BeginsImplicitNone text → ⊥
+no_go_to_implicit text rest e h = none_some h.0 (sym (stripped (codes "IMPLICITNONE") text h.0 h.1) ∙ ap (strip (codes "IMPLICITNONE")) e)
+
+-- what begins with IMPLICIT NONE has no word
+pub no_implicit_none : {text : List Symbol} {w : ℕ} → HasWord text w → ((condition rest : List Symbol) → IsConditional text condition rest → ⊥) → BeginsImplicitNone text → ⊥
+no_implicit_none (recognition.BeginsWith word number text behind k c e i) n h = i h
+no_implicit_none (recognition.ArithmeticIf text k f) n h = no_if_implicit text f.opened f.begins h
+no_implicit_none (recognition.ComputedGoTo text k f) n h = no_go_to_implicit text _ f.written h
+no_implicit_none (recognition.AssignedGoTo text k f) n h = let b = assigned_begins text f in no_go_to_implicit text b.0 b.1 h
+no_implicit_none (recognition.Inner text c r number k t w) n h = absurd (n c r k)
+
+stripped_is : (text : List Symbol) (o : Option (List Symbol)) → strip (codes "IMPLICITNONE") text ≡ o → begins_with (codes "IMPLICITNONE") text ≡ true → BeginsImplicitNone text
+stripped_is text (Some rest) e h = (rest, strip_same (codes "IMPLICITNONE") text rest e)
+stripped_is text None e h = let z : false ≡ true = ap is_some (sym e) ∙ h in let y : ⊥ = cc in absurd y
+
+pub implicit_none_refused : (text : List Symbol) (w : ℕ) (b : Bool) → b ≡ begins_with (codes "IMPLICITNONE") text → b ≡ true
+    → ((condition rest : List Symbol) → IsConditional text condition rest → ⊥) → HasWord text w → ⊥
+implicit_none_refused text w b e t n h = no_implicit_none h n (stripped_is text (strip (codes "IMPLICITNONE") text) refl (sym e ∙ t))
+
+pub no_implicit_begins : (text : List Symbol) (b : Bool) → b ≡ begins_with (codes "IMPLICITNONE") text → b ≡ false → BeginsImplicitNone text → ⊥
+no_implicit_begins text b e f h =
+    let z : true ≡ false = sym (ap is_some (stripped (codes "IMPLICITNONE") text h.0 h.1)) ∙ (sym e ∙ f) in cc
+
+pub listed_word_is : (text : List Symbol) (w : ℕ) → IsOfKeyword text → (BeginsImplicitNone text → ⊥) → Some w ≡ listed words_left_out text → HasWord text w
+listed_word_is text w k n e =
+    let l = listed_found words_left_out text w (sym e) in recognition.BeginsWith l.word w text l.rest k l.contained l.same n
 
 some_none : (w : ℕ) → Some w ≡ None → ⊥
 some_none w e = cc

@@ -26,4 +26,4 @@ procedures =
 abbrev pub files_and_loops : List (List ℕ × ℕ)
 files_and_loops =
     (codes "OPEN", 23) ∷ (codes "CLOSE", 24) ∷ (codes "INQUIRE", 25) ∷ (codes "REWIND", 26) ∷ (codes "BACKSPACE", 27)
-    ∷ (codes "ENDFILE", 28) ∷ (codes "INCLUDE", 29) ∷ (codes "DOWHILE", 30) ∷ (codes "ENDDO", 31) ∷ []
+    ∷ (codes "ENDFILE", 28) ∷ (codes "INCLUDE", 29) ∷ (codes "DOWHILE", 30) ∷ []

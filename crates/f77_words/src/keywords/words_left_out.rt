@@ -77,7 +77,6 @@ fn file_or_loop(text: &[Symbol]) -> Option<u8>
         b"ENDFILE" => 28,
         b"INCLUDE" => 29,
         b"DOWHILE" => 30,
-        b"ENDDO" => 31,
     )
 }
 
@@ -100,6 +99,10 @@ fn keyword_left_out(text: &[Symbol]) -> Option<u8>
     ensures only { (word : ℕ) → HasWord (symbols_of text.now) word → result ≡ Some word }
 {
     if Outside::of(text).equals {
+        return None;
+    }
+    // IMPLICIT NONE is of the profile.
+    if begins_with(b"IMPLICITNONE", text) {
         return None;
     }
     match listed_word(text) {

@@ -5,6 +5,7 @@ use Rattle.std.proofs.lemmas.Bool.{ne_eqb}
 use Rattle.std.specs.List.{AllByRecursion}
 use Rattle.std.specs.Str.Lines.{lines}
 use Rattle.f77_grammar.specs.Reading77.{Reads77}
+use Rattle.f77_grammar.specs.program.EndDo.{with_loop_labels}
 use Rattle.f77_laws.proofs.CardStatements.{read_cards_are_source}
 use Rattle.f77_laws.proofs.Programs.{read_is_program}
 use Rattle.meaning.specs.Dialect.{fortran77}
@@ -26,7 +27,7 @@ is_program : (source : List ℕ) (p : Program) → Reads77 fortran77 source p �
 is_program source p h =
     let text = h.program.text in
     let cards = read_cards_are_source source h.cards text h.are_cards h.program.statements in
-    read_is_program fortran77 text p (omega arith) h.program.reads cards.statements cards.few
+    read_is_program fortran77 (with_loop_labels text) p (omega arith) h.program.reads cards.labelled.statements cards.labelled.few
 
 pub source_listing_is_read : SourceListingIsRead
 source_listing_is_read source p lines h listing =

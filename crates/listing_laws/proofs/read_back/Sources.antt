@@ -1,5 +1,5 @@
 -- No more names stand in a program that is read from a FORTRAN 77 source than its cards have characters.
-use Rattle.std.proofs.Common.{◌≡◌, ap, subst, ℕ, suc, ◌+◌, ◌*◌, ◌≤◌, ◌^◌, Bool, true, false, cond, not, Option, Some}
+use Rattle.std.proofs.Common.{◌≡◌, refl, ◌∙◌, ap, subst, ℕ, suc, ◌+◌, ◌*◌, ◌≤◌, ◌^◌, Bool, true, false, cond, not, Option, Some}
 use Rattle.std.proofs.Common.{None, List, [], ◌∷◌, ◌++◌, map, filter, length, arith, flat_map, length-append}
 use Rattle.std.proofs.lemmas.List.{length-take, length-drop}
 use Rattle.std.specs.List.{AllByRecursion, list_any}
@@ -11,6 +11,7 @@ use Rattle.f77_grammar.specs.Cards.{Line, StatementLines, PlainCard, ReadsCards,
 use Rattle.f77_grammar.specs.Cards.{is_comment, numbered, statement_field, statement_lines, statement_lines_from}
 use Rattle.f77_grammar.specs.Reading77.{AreReadFrom}
 use Rattle.f77_grammar.specs.Statement77.{Labelled, Statement77, If, ElseIf, Else, EndIf, Do}
+use Rattle.f77_grammar.specs.program.EndDo.{waiting, closer_label, with_loop_label, with_loop_labels}
 use Rattle.f77_grammar.specs.program.Limits.{constants_of}
 use Rattle.f77_grammar.specs.program.Text.{is_label}
 use Rattle.f77_grammar.specs.program.Tree.{resolved, simple, mark_of, targets}
@@ -103,6 +104,18 @@ abbrev uses_of_all : List Labelled → ℕ
 uses_of_all [] = 0
 uses_of_all (x ∷ xs) = uses77 x.statement + uses_of_all xs
 
+-- labels of loops are no names
+same_uses : (c : Statement77) (closer : Option ℕ) → uses77 (with_loop_label c closer) ≡ uses77 c
+same_uses (Do None v a b c) closer = refl
+same_uses (Do (Some n) v a b c) closer = refl
+same_uses c closer = refl
+
+labelled_uses : (xs : List Labelled) → uses_of_all (with_loop_labels xs) ≡ uses_of_all xs
+labelled_uses [] = refl
+labelled_uses (x ∷ xs) =
+    ap (λ n. n + uses_of_all (with_loop_labels xs)) (same_uses x.statement (closer_label (waiting xs)))
+    ∙ ap (λ n. uses77 x.statement + n) (labelled_uses xs)
+
 module _ (us : List Use) (s : Store) (goals : List ℕ) where
   begun_count : (x : Labelled) (c : Statement77) (r : Rest) → in_rest (begun us s goals x c r) ≤ uses77 c + in_rest r
   begun_count x EndIf r = omega arith
@@ -122,7 +135,7 @@ module _ (us : List Use) (s : Store) (goals : List ℕ) where
       let f = behind_mark mark whole in
       let g = two (uses_in_arms (arm test (block_of ps) arms)) (uses_in_block other) in
       let h = arm_count test (block_of ps) arms in omega (arith, k, m, e, f, g, h)
-  begun_count x (Do n v a b c) r =
+  begun_count x (Do (Some n) v a b c) r =
       let m = no_names goals x.label in
       let k = control_resolved us s v a b c in
       let e = begun_loop x.line v (resolved us s a) (resolved us s b) (resolved us s c) (mark_of goals x.label) n r in
@@ -229,7 +242,7 @@ source_count text cards h =
 
 pub source_is_short : SourceIsShort
 source_is_short source p h =
-    let text = h.program.text in
+    let text = with_loop_labels h.program.text in
     let us = uses_in_text text in
     let s = constants_of fortran77 text in
     let rest = rest_from us s (targets text) text in
@@ -237,5 +250,6 @@ source_is_short source p h =
     ap (λ (q : tree'.Program). count_block q.body) (read_tree fortran77 text p h.program.reads) in
     let whole = outermost_count rest in
     let all = rest_count us s (targets text) text in
-    let read = cards_count h.cards text h.program.statements in
-    let few = source_count source h.cards h.are_cards in omega (arith, same, whole, all, read, few)
+    let read = cards_count h.cards h.program.text h.program.statements in
+    let labels = labelled_uses h.program.text in
+    let few = source_count source h.cards h.are_cards in omega (arith, same, whole, all, read, labels, few)

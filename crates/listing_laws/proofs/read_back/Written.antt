@@ -219,6 +219,8 @@ form_count (forms.Do label comma c) text h =
     let k = control_count c in
     let w = behind (codes "DO" ++ (label ++ optional_comma comma)) (written_control c) text h.0 in
     omega (arith, k, w)
+form_count (forms.PlainDo c) text h =
+    let k = control_count c in let w = behind (codes "DO") (written_control c) text h.0 in omega (arith, k, w)
 form_count (forms.Read is) text h = list_count (codes "READ*,") (codes "READ(*,*)") is text h.0
 form_count (forms.Print is) text h = list_count (codes "PRINT*,") (codes "WRITE(*,*)") is text h.0
 form_count f text h = omega arith

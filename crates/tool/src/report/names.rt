@@ -82,7 +82,6 @@ fn left_out(word: u8) -> &'static str
         28 => "ENDFILE",
         29 => "INCLUDE",
         30 => "DOWHILE",
-        31 => "ENDDO",
         32 => "ARITHMETICIF",
         33 => "COMPUTEDGOTO",
         34 => "ASSIGNEDGOTO",

@@ -1,4 +1,4 @@
-use Rattle.std.proofs.Common.{map, subst}
+use Rattle.std.proofs.Common.{map, subst, ap, ◌∙◌}
 use Rattle.f77_cards.specs.Card.{card_of}
 use Rattle.f77_grammar.specs.syntax.Views.{text_of}
 use Rattle.f77_read.specs.Outcomes.{IsTextBuilt}
@@ -7,5 +7,5 @@ use Rattle.f77_read.proofs.programs.build_cards.Goals as goal
 
 pub returns-clause-built : goal.returns-clause-built
 returns-clause-built c =
-    text_built (map card_of c.args.cards.now) (text_of c.in_ok-text.text) c.build_text.result c.in_ok-text.ensures
-    (subst (λ xs. IsTextBuilt (text_of xs) c.build_text.result) c.as_slice.ensures c.build_text.ensures.built)
+    text_built (map card_of c.args.cards.now) (text_of c.in_ok-written.written) c.build_text.result c.in_ok-written.ensures
+    (subst (λ xs. IsTextBuilt xs c.build_text.result) (ap text_of c.as_slice.ensures ∙ c.in_ok-text.ensures) c.build_text.ensures.built)

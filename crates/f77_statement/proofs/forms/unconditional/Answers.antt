@@ -14,7 +14,7 @@ pub returns-then-outside-clause-only : goal.returns-then-outside-clause-only
 returns-then-outside-clause-only c f u =
     let e = affirmed c.of-outside.result.equals c.if-not-outside.false in
     of_loop (λ (g : Form). Given c.do_statement.result (λ made. IsFormedOf made g)) (symbols_of c.args.text.now) f (sym c.of-outside.ensures.equals ∙ e) (sym c.of-outside.ensures.comma ∙ c.if-outside.true)
-    c.do_statement.ensures.only u
+    c.do_statement.ensures.only c.do_statement.ensures.only_plain u
 
 pub returns-else-outside-clause-only : goal.returns-else-outside-clause-only
 returns-else-outside-clause-only c f u =

@@ -1,5 +1,0 @@
-use Rattle.array_form.proofs.forms.Taking.{form_has_instance_values}
-use Rattle.array_form.proofs.forms.laws.form_values.Goals as goal
-
-pub returns : goal.returns
-returns c = form_has_instance_values

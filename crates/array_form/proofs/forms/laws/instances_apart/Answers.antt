@@ -1,5 +1,0 @@
-use Rattle.array_form.proofs.forms.Whole.{instances_have_own_cells}
-use Rattle.array_form.proofs.forms.laws.instances_apart.Goals as goal
-
-pub returns : goal.returns
-returns c = instances_have_own_cells

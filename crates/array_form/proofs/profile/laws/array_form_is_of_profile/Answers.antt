@@ -1,5 +1,0 @@
-use Rattle.array_form.proofs.profile.Assigned.{array_forms_of_profile}
-use Rattle.array_form.proofs.profile.laws.array_form_is_of_profile.Goals as goal
-
-pub returns : goal.returns
-returns c = array_forms_of_profile

@@ -1,5 +1,0 @@
-use Rattle.dependence_graph.proofs.worked_graphs.Merging.{drops_merge}
-use Rattle.dependence_graph.proofs.worked_graphs.laws.drops_merge.Goals as goal
-
-pub returns : goal.returns
-returns c = drops_merge

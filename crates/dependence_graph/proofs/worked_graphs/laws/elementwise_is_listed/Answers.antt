@@ -1,5 +1,0 @@
-use Rattle.dependence_graph.proofs.worked_graphs.Worked.{elementwise_listed}
-use Rattle.dependence_graph.proofs.worked_graphs.laws.elementwise_is_listed.Goals as goal
-
-pub returns : goal.returns
-returns c = elementwise_listed

@@ -1,5 +1,0 @@
-use Rattle.emission.proofs.EmissionForms.WrittenPieces.{pieces_are_written}
-use Rattle.emission.proofs.emission_forms.laws.pieces_are_written.Goals as goal
-
-pub returns : goal.returns
-returns c = pieces_are_written

@@ -1,5 +1,0 @@
-use Rattle.emission.proofs.EmissionMarks.Together.{emission_keeps_together}
-use Rattle.emission.proofs.emission_marks.laws.emission_keeps_together.Goals as goal
-
-pub returns : goal.returns
-returns c = emission_keeps_together

@@ -1,5 +1,0 @@
-use Rattle.emission.proofs.EmissionMeaning.Meaning.{emission_keeps_meaning}
-use Rattle.emission.proofs.emission_meaning.laws.emission_keeps_meaning.Goals as goal
-
-pub returns : goal.returns
-returns c = emission_keeps_meaning

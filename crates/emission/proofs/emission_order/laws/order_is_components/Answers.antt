@@ -1,5 +1,0 @@
-use Rattle.emission.proofs.EmissionOrder.Classes.{order_is_components}
-use Rattle.emission.proofs.emission_order.laws.order_is_components.Goals as goal
-
-pub returns : goal.returns
-returns c = order_is_components

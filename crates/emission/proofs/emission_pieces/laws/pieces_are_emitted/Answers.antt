@@ -1,5 +1,0 @@
-use Rattle.emission.proofs.EmissionPieces.Emitted.{pieces_are_emitted}
-use Rattle.emission.proofs.emission_pieces.laws.pieces_are_emitted.Goals as goal
-
-pub returns : goal.returns
-returns c = pieces_are_emitted

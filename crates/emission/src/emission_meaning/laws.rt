@@ -1,8 +1,0 @@
-//! A law is a function without a body: its contract is what holds.
-ghost use Rattle.emission.specs.emission_meaning.Laws.{EmissionKeepsMeaning};
-
-/// Where the sequential run of a nest of loops and statements alone ends without fault, so does the array run of what
-/// is emitted for it, in a store that is the same but for the loop variables.
-pub fn emission_keeps_meaning()
-    ensures { EmissionKeepsMeaning }
-{}

@@ -1,5 +1,0 @@
-use Rattle.f90_blocks.proofs.StatementTrees.FitLaws.{kinds_stay}
-use Rattle.f90_blocks.proofs.statement_trees.laws.kinds_stay.Goals as goal
-
-pub returns : goal.returns
-returns c = kinds_stay

@@ -1,5 +1,0 @@
-use Rattle.f90_blocks.proofs.StatementTrees.NarrowLaws.{literals_stay}
-use Rattle.f90_blocks.proofs.statement_trees.laws.literals_stay.Goals as goal
-
-pub returns : goal.returns
-returns c = literals_stay

@@ -1,5 +1,0 @@
-use Rattle.f90_laws.proofs.blocks.Misplaced.{misplaced_at_place}
-use Rattle.f90_laws.proofs.blocks.laws.misplaced_is_at_place.Goals as goal
-
-pub returns : goal.returns
-returns c = misplaced_at_place

@@ -1,5 +1,0 @@
-use Rattle.f90_laws.proofs.read_back.OneProgram.{once_read}
-use Rattle.f90_laws.proofs.read_back.laws.one_program.Goals as goal
-
-pub returns : goal.returns
-returns c = once_read

@@ -1,5 +1,0 @@
-use Rattle.f90_laws.proofs.unique.Forms.{one_form}
-use Rattle.f90_laws.proofs.unique.laws.one_form.Goals as goal
-
-pub returns : goal.returns
-returns c = one_form

@@ -1,5 +1,0 @@
-use Rattle.f90_laws.proofs.unique.Phrase.{one_phrase}
-use Rattle.f90_laws.proofs.unique.laws.one_phrase.Goals as goal
-
-pub returns : goal.returns
-returns c = one_phrase

@@ -1,5 +1,0 @@
-use Rattle.f90_laws.proofs.unique.Tokens.{one_words}
-use Rattle.f90_laws.proofs.unique.laws.one_words.Goals as goal
-
-pub returns : goal.returns
-returns c = one_words

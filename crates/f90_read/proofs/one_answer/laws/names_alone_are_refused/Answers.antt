@@ -1,5 +1,0 @@
-use Rattle.f90_read.proofs.one_answer.Settled.{names_alone}
-use Rattle.f90_read.proofs.one_answer.laws.names_alone_are_refused.Goals as goal
-
-pub returns : goal.returns
-returns c = names_alone

@@ -1,5 +1,0 @@
-use Rattle.listing_laws.proofs.read_back.Listed.{program_listing_is_read}
-use Rattle.listing_laws.proofs.read_back.laws.listing_of_program_is_read.Goals as goal
-
-pub returns : goal.returns
-returns c = program_listing_is_read

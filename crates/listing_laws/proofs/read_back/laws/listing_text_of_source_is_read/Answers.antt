@@ -1,5 +1,0 @@
-use Rattle.listing_laws.proofs.read_back.SourceListings.{source_listing_text_is_read}
-use Rattle.listing_laws.proofs.read_back.laws.listing_text_of_source_is_read.Goals as goal
-
-pub returns : goal.returns
-returns c = source_listing_text_is_read

@@ -1,5 +1,0 @@
-use Rattle.listing_laws.proofs.read_back.SourceListings.{source_listing_text_lists}
-use Rattle.listing_laws.proofs.read_back.laws.listing_text_of_source_lists.Goals as goal
-
-pub returns : goal.returns
-returns c = source_listing_text_lists

@@ -1,5 +1,0 @@
-use Rattle.meaning_laws.proofs.arrays.Forms.{array_form_is_instances}
-use Rattle.meaning_laws.proofs.arrays.laws.array_form_is_instances.Goals as goal
-
-pub returns : goal.returns
-returns c = array_form_is_instances

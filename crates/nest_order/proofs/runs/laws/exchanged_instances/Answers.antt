@@ -1,5 +1,0 @@
-use Rattle.nest_order.proofs.runs.Orders.{instances_may_pass}
-use Rattle.nest_order.proofs.runs.laws.exchanged_instances.Goals as goal
-
-pub returns : goal.returns
-returns c = instances_may_pass

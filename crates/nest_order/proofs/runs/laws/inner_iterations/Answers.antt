@@ -1,5 +1,0 @@
-use Rattle.nest_order.proofs.runs.Arrays.{outer_iterations_hold}
-use Rattle.nest_order.proofs.runs.laws.inner_iterations.Goals as goal
-
-pub returns : goal.returns
-returns c = outer_iterations_hold

@@ -1,5 +1,0 @@
-use Rattle.nest_order.proofs.runs.Runs.{run_is_instances}
-use Rattle.nest_order.proofs.runs.laws.run_of_nest.Goals as goal
-
-pub returns : goal.returns
-returns c = run_is_instances

@@ -1,5 +1,0 @@
-use Rattle.nest_order.proofs.runs.Alone.{inner_instances_are_apart}
-use Rattle.nest_order.proofs.runs.laws.statement_alone.Goals as goal
-
-pub returns : goal.returns
-returns c = inner_instances_are_apart

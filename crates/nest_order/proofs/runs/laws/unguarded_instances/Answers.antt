@@ -1,5 +1,0 @@
-use Rattle.nest_order.proofs.runs.Cells.{unguarded_instances_name_cells}
-use Rattle.nest_order.proofs.runs.laws.unguarded_instances.Goals as goal
-
-pub returns : goal.returns
-returns c = unguarded_instances_name_cells

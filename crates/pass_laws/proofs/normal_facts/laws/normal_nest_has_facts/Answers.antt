@@ -1,5 +1,0 @@
-use Rattle.pass_laws.proofs.NormalFacts.Facts.{facts}
-use Rattle.pass_laws.proofs.normal_facts.laws.normal_nest_has_facts.Goals as goal
-
-pub returns : goal.returns
-returns c p n m w is found normal plain free set = facts p n m w is found normal plain set

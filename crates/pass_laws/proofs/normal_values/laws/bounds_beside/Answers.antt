@@ -1,5 +1,0 @@
-use Rattle.pass_laws.proofs.NormalValues.Bounds.{bounds_are_beside}
-use Rattle.pass_laws.proofs.normal_values.laws.bounds_beside.Goals as goal
-
-pub returns : goal.returns
-returns c = bounds_are_beside

@@ -1,5 +1,0 @@
-use Rattle.pass_laws.proofs.NormalValues.Statements.{statement_is_beside}
-use Rattle.pass_laws.proofs.normal_values.laws.statement_beside.Goals as goal
-
-pub returns : goal.returns
-returns c = statement_is_beside

@@ -1,5 +1,0 @@
-use Rattle.pass_laws.proofs.ReadyNests.NormalReady.{normal_nest_is_ready}
-use Rattle.pass_laws.proofs.ready_nests.laws.normal_nest.Goals as goal
-
-pub returns : goal.returns
-returns c = normal_nest_is_ready

@@ -1,7 +1,0 @@
-//! Laws of nests with loops from 1 by 1. A law is a function without a body: its contract is what holds.
-ghost use Rattle.pass_laws.specs.normal_nests.There.{NormalisedIsThere};
-
-/// A nest that is found has a nest with loops from 1 by 1: the forms of its loops are within the limits.
-pub fn normalised_nest()
-    ensures { NormalisedIsThere }
-{}

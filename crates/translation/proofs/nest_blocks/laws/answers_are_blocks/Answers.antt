@@ -1,5 +1,0 @@
-use Rattle.translation.proofs.NestBlocks.Blocks.{answers_are_blocks}
-use Rattle.translation.proofs.nest_blocks.laws.answers_are_blocks.Goals as goal
-
-pub returns : goal.returns
-returns c = answers_are_blocks

@@ -1,5 +1,0 @@
-use Rattle.translation.proofs.NestBlocks.Listed.{answers_are_listed}
-use Rattle.translation.proofs.nest_blocks.laws.answers_are_listed.Goals as goal
-
-pub returns : goal.returns
-returns c = answers_are_listed

@@ -1,5 +1,0 @@
-use Rattle.translation.proofs.NestProfile.Law.{translation_is_of_profile}
-use Rattle.translation.proofs.nest_profile.laws.translation_is_of_profile.Goals as goal
-
-pub returns : goal.returns
-returns c = translation_is_of_profile

@@ -1,5 +1,0 @@
-use Rattle.translation.proofs.ProgramTranslation.Good.{translation_is_good}
-use Rattle.translation.proofs.program_translation.laws.translation_is_good.Goals as goal
-
-pub returns : goal.returns
-returns c = translation_is_good

@@ -1,0 +1,6 @@
+use Rattle.translation.proofs.NestTranslation.Translation.{translation_does_as_loop}
+use Rattle.translation.proofs.ProgramTranslation.Translating.{translation_keeps}
+use Rattle.translation.proofs.program_translation.translation_keeps_meaning.Goals as goal
+
+pub returns : goal.returns
+returns c = translation_keeps translation_does_as_loop

@@ -1,8 +1,0 @@
-//! Laws of nests that can be tested. A law is a function without a body: its contract is what holds.
-ghost use Rattle.translation.specs.emission_ready.Laws.{ReadyNestsMayBeEmitted};
-
-/// A nest that can be tested, with its dependence graph and fewer symbols than 16 bits have numbers, has all that
-/// emission asks for.
-pub fn ready_nests_may_be_emitted()
-    ensures { ReadyNestsMayBeEmitted }
-{}

@@ -1,8 +1,0 @@
-//! A law is a function without a body: its contract is what holds.
-ghost use Rattle.translation.specs.nest_profile.Laws.{TranslationIsOfProfile};
-
-/// What is emitted for the normal form of a nest that was found, with its last values behind it, is a block of the
-/// profile wherever the nest's loop is a statement of it, with the counters declared besides.
-pub fn translation_is_of_profile()
-    ensures { TranslationIsOfProfile }
-{}

@@ -1,8 +1,0 @@
-//! A law is a function without a body: its contract is what holds.
-ghost use Rattle.translation.specs.placed_loops.Laws.{PlacedLoopsKeepMeaning};
-
-/// Where each block that stands in the place of a loop does, with arrays as values, what the loop does, the whole
-/// program does: wherever its sequential run ends without fault, so does the array run, with the same output.
-pub fn placed_loops_keep_meaning()
-    ensures { PlacedLoopsKeepMeaning }
-{}
