@@ -1,5 +1,6 @@
 pub mod Alone
 pub mod Laws
 pub mod Listing
+pub mod Passed
 pub mod Sources
 pub mod Testable

@@ -10,6 +10,9 @@
 //! - A law (`listed_nests_are_testable`): a nest that is listed with its graph is without guards, and is what the tests
 //!   ask for (`IsReady`).
 //!
+//! **`passes` alone calls passes.** `graph` prints what it gives, and `vectorise` prints and emits it; so no nest is
+//! listed and another one translated.
+//!
 //! **The number in the line NEST is that of the nest as it was found.** So a nest that is one line, NOTBUILT, keeps its
 //! number.
 mod alone;
@@ -23,5 +26,5 @@ mod words;
 pub use alone::is_alone;
 pub use laws::listed_nests_are_testable;
 pub use listed::{kept_loop, list};
-pub use nests::{Tests, not_built, test};
+pub use nests::{Passed, Tests, not_built, passes, test};
 pub use texts::listing_text;

@@ -58,6 +58,8 @@ const GUARDED: &str =
 
 const QUOTIENTS: &str = " 4 0 -3 0 1\n";
 
+const ONE_NEST: &str = "nests 1\nstatements 2\nedges 1\ndrops 4\narrays 2\nloops 0\n 0 0 6\n";
+
 // With pieces of one byte a source is called once for each byte, and once more for the end. It fails at the call behind
 // so many, and at none where that would come behind the last.
 #[test]
@@ -95,6 +97,7 @@ fn each_writing_may_fail(rt: HostRuntime) -> Result<(), Fail> {
         (&["vectorise"], SEVEN, SEVEN90),
         (&["run77", "--final"], COUNTING, " 2\nI = 3\nK = 2\n"),
         (&["run77"], GUARDED, QUOTIENTS),
+        (&["make", "1"], SEVEN, ONE_NEST),
     ];
     for &(words, deck, whole) in rows {
         for end in 0..=whole.len() {
@@ -201,6 +204,10 @@ const NO_COMMANDS: &[&[&str]] = &[
     &["run77", "--steps=99999999999999999999"],
     &["run77", "--steps", "000000000000000000007"],
     &["vectorise", "--final"],
+    &["make"],
+    &["make", "0"],
+    &["make", "501"],
+    &["make", "1", "2"],
 ];
 
 // The source would fail at its first call, so it isn't called.

@@ -1,6 +1,8 @@
 pub mod Accepted
 pub mod Headline
 pub mod Limits
+pub mod MadeDecks
+pub mod MarkLaws
 pub mod MarksRead
 pub mod NoteLines
 pub mod Passed
@@ -9,5 +11,6 @@ pub mod Renumbered
 pub mod Runs
 pub mod SourceLines
 pub mod Statuses
+pub mod Summaries
 pub mod Top
 pub mod Worked

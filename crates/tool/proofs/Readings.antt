@@ -34,7 +34,7 @@ use Rattle.tool.specs.Decks.{Reads, IsRefused, IsReadAs, RefusedDeck77, RefusedD
 use Rattle.tool.specs.Decks.RefusedDeck77.{TooLong as TooLong77, OfSource as OfSource77}
 use Rattle.tool.specs.Decks.RefusedDeck90.{TooLong as TooLong90, OfSource as OfSource90}
 use Rattle.tool.specs.Endings.{HasText, ending_of}
-use Rattle.tool.specs.Translation.{data_part, IsTranslationText}
+use Rattle.tool.specs.Translation.{data_part, IsTranslationText, IsTranslationOf, IsUntranslated}
 use Rattle.tool.specs.Unread.{outcome_for}
 use Rattle.tool.specs.Running.{IsRun, options_in, dialect_of, data_line_of, input_for, run_of, run_text, text_of_run}
 use Rattle.tool.specs.Works.{Writing, Works, WithoutMemory, Comes, ComesOrStops, ComesFor}
@@ -270,23 +270,48 @@ pub record IsTextFor (c : Command) (deck text : List ℕ) : Type 0 where
   pub ends : ending_of c deck program ≡ Some end.Done
   pub has_text : HasText c deck program text
 
-pub translated : (deck source : List ℕ) (input : Option (List ℕ)) (o : Result Program77 Refused) (p : Program77) (text items : List ℕ) → length deck ≤ most_bytes Vectorise
+-- what is translated of it is a translation of the deck
+pub translated : (deck source : List ℕ) (input : Option (List ℕ)) (o : Result Program77 Refused) (p : Program77) (text : List ℕ) → length deck ≤ most_bytes Vectorise
     → source ≡ source_for Vectorise deck → bytes_in input ≡ input_of data_line77 deck → is_there input ≡ has_data data_line77 deck
     → o ≡ Ok p → ReadsSource Vectorise source (program_of p) → OnlyReads Vectorise source o → OnlyRefuses Vectorise source o
-    → IsTranslationText (program_of p) (is_there input) (bytes_in input) items → text ≡ items
-    → IsTextFor Vectorise deck text
-translated deck source input o p text items within at after there e reads only_reads only_refuses written same = record {
+    → IsTranslationText (program_of p) (is_there input) (bytes_in input) text
+    → IsTranslationOf deck text
+translated deck source input o p text within at after there e reads only_reads only_refuses written = record {
   program = program_of p;
   read = read_as Vectorise deck source o p within at e reads only_reads only_refuses;
-  ends = refl;
-  has_text = record {
+  written = record {
     notes = written.notes;
     translated = written.translated;
     is = written.is;
-    printed =
-        same ∙ written.printed
-        ∙ ap₂ (λ b t. printed90 written.translated written.notes ++ data_part b t) there after;
+    printed = written.printed ∙ ap₂ (λ b t. printed90 written.translated written.notes ++ data_part b t) there after;
   };
+}
+
+pub not_translated : (deck source : List ℕ) (o : Result Program77 Refused) (x : Refused) → length deck ≤ most_bytes Vectorise → source ≡ source_for Vectorise deck → o ≡ Err x
+    → ((r : Refusal) → o ≡ Err (refused.Refusal r) → RefusesSource Vectorise source r) → OnlyReads Vectorise source o → IsUntranslated deck (outcome_for x)
+not_translated deck source o (refused.Refusal r) within at e refuses only = record {
+  refused = deck_refused Vectorise deck r within (subst (λ (s : List ℕ). RefusesSource Vectorise s r) at (refuses r e));
+  unread = λ p reads. refused_unread Vectorise source o r e only p (subst (λ (s : List ℕ). ReadsSource Vectorise s p) (sym at) (source_read Vectorise deck p reads));
+}
+not_translated deck source o refused.Memory within at e refuses only = tt
+
+pub untranslated_works : (deck : List ℕ) (taken : Option (List ℕ)) (f f' : ℕ) (o : Outcome) → IsUntranslated deck o
+    → Works Vectorise deck (record { before = taken; now = taken; faults_before = f; faults_now = f' }) o
+untranslated_works deck taken f f' Done h = absurd h
+untranslated_works deck taken f f' Usage h = h
+untranslated_works deck taken f f' (Denied r) h = (h, refl)
+untranslated_works deck taken f f' (Faulted fault line) h = absurd h
+untranslated_works deck taken f f' StepLimit h = absurd h
+untranslated_works deck taken f f' ReadFault h = h
+untranslated_works deck taken f f' WriteFault h = absurd h
+untranslated_works deck taken f f' OutOfMemory h = refl
+
+pub translation_text : (deck text items : List ℕ) → IsTranslationOf deck items → text ≡ items → IsTextFor Vectorise deck text
+translation_text deck text items h same = record {
+  program = h.program;
+  read = h.read;
+  ends = refl;
+  has_text = subst (IsTranslationText h.program (has_data data_line77 deck) (input_of data_line77 deck)) (sym same) h.written;
 }
 
 pub listed : (deck source : List ℕ) (o : Result Program77 Refused) (p : Program77) (text items : List ℕ) → length deck ≤ most_bytes Graph

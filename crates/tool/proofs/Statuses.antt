@@ -3,7 +3,7 @@ use Rattle.std.proofs.Common.{◌≡◌, ℕ, true, false, [], ◌∷◌, Option
 use Rattle.std.specs.Prelude.{not}
 use Rattle.tree.specs.declared.ops.Fault.{Fault}
 use Rattle.tree.specs.declared.refusals.Refusal.{Refusal}
-use Rattle.tool.specs.declared.commands.commands.Command.{Command}
+use Rattle.tool.specs.declared.commands.commands.Request.{Request}
 use Rattle.tool.specs.declared.report.outcome.Outcome.{Outcome}
 use Rattle.tool.specs.declared.report.outcome.Outcome.TheVariants.{Done, Usage, Refused, Faulted, StepLimit, ReadFault, WriteFault, OutOfMemory}
 use Rattle.tool.specs.report.Notes.{status_of}
@@ -107,7 +107,7 @@ none_silent s n e a b c (inl q) = a (sym e ∙ q)
 none_silent s n e a b c (inr (inl q)) = b (sym e ∙ q)
 none_silent s n e a b c (inr (inr q)) = c (sym e ∙ q)
 
-pub silent : (k : Option Command) (o : Outcome) (s : ℕ) → s ≡ status_of o → IsOneOf (1 ∷ 2 ∷ 5 ∷ []) s → is_silent k o ≡ true
+pub silent : (k : Option Request) (o : Outcome) (s : ℕ) → s ≡ status_of o → IsOneOf (1 ∷ 2 ∷ 5 ∷ []) s → is_silent k o ≡ true
 silent k Done s e m = absurd (none_silent s 0 e (λ q. omega (arith, q)) (λ q. omega (arith, q)) (λ q. omega (arith, q)) m)
 silent k Usage s e m = refl
 silent k (Refused r) s e m = refl
@@ -117,7 +117,7 @@ silent k ReadFault s e m = refl
 silent k WriteFault s e m = absurd (none_silent s 6 e (λ q. omega (arith, q)) (λ q. omega (arith, q)) (λ q. omega (arith, q)) m)
 silent k OutOfMemory s e m = absurd (none_silent s 7 e (λ q. omega (arith, q)) (λ q. omega (arith, q)) (λ q. omega (arith, q)) m)
 
-pub silent_without_memory : (k : Option Command) (o : Outcome) (s : ℕ) → s ≡ status_of o → writes_early k ≡ false → s ≡ 7 → is_silent k o ≡ true
+pub silent_without_memory : (k : Option Request) (o : Outcome) (s : ℕ) → s ≡ status_of o → writes_early k ≡ false → s ≡ 7 → is_silent k o ≡ true
 silent_without_memory k o s e late q = ap (is_silent k) (is_out_of_memory o s e q) ∙ ap not late
 
 -- a status that comes with the whole text tells of such an outcome

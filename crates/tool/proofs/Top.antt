@@ -11,9 +11,11 @@ use Rattle.streams.specs.Streams.{Gives, GivesPart}
 use Rattle.meaning.specs.Sequential.{ending}
 use Rattle.meaning.specs.declared.End.{End}
 use Rattle.meaning.specs.declared.End.TheVariants as end
-use Rattle.tool.specs.commands.Command.{texts, command_of}
+use Rattle.tool.specs.commands.Command.{texts, request_of}
 use Rattle.tool.specs.declared.commands.commands.Command.{Command}
 use Rattle.tool.specs.declared.commands.commands.Command.TheVariants.{Vectorise, Graph, Run77, Run90}
+use Rattle.tool.specs.declared.commands.commands.Request.{Request}
+use Rattle.tool.specs.declared.commands.commands.Request.TheVariants.{OnDeck, Make}
 use Rattle.tool.specs.declared.report.outcome.Outcome.{Outcome}
 use Rattle.tool.specs.declared.report.outcome.Outcome.TheVariants.{Done, Usage, Refused, Faulted, StepLimit, ReadFault, WriteFault, OutOfMemory}
 use Rattle.tool.specs.report.Notes.{status_of, note_of}
@@ -25,6 +27,8 @@ use Rattle.tool.specs.Listings.{IsListedBeside, IsListingOf}
 use Rattle.tool.specs.Marked.{IsMarked}
 use Rattle.tool.specs.Printed.{IsPrinted}
 use Rattle.tool.specs.Translates.{Translates}
+use Rattle.generator.specs.Decks.{deck_of}
+use Rattle.tool.specs.Making.{Summarises}
 use Rattle.tool.specs.Running.{IsRun, GivesRun, GivesFaultedRun, GivesRunPart, GivesAtMostPart, IsExceeded, options_in, dialect_of, input_for, run_of}
 use Rattle.tool.proofs.Headline.{Holds, holds, listing_holds}
 use Rattle.tool.proofs.Limits.{exceeded, limited}
@@ -42,26 +46,32 @@ always None f = tt
 always (Some x) f = f x
 
 -- of words that are the command
-pub for_command : (k : Option Command) (a : Command) (c : Call) (o : Outcome) → k ≡ Some a → Ended k c o → Ends a c o
-for_command k a c o e h = subst (λ (k : Option Command). Ended k c o) e h
+pub for_command : (k : Option Request) (a : Command) (c : Call) (o : Outcome) → k ≡ Some (OnDeck a) → Ended k c o → Ends a c o
+for_command k a c o e h = subst (λ (k : Option Request). Ended k c o) e h
+
+-- of words that are `make`
+pub for_making : (k : Option Request) (n : ℕ) (c : Call) (o : Outcome) → k ≡ Some (Make n) → Ended k c o
+    → Summarises (deck_of n) c.taken_before c.taken_now c.out_faults_before c.out_faults_now o
+for_making k n c o e h = subst (λ (k : Option Request). Ended k c o) e h
 
 -- the same of equal words
-pub for_words : (ws ws' : List (String Global)) (c : Call) (o : Outcome) → ws ≡ ws' → Ended (command_of (texts ws)) c o → Ended (command_of (texts ws')) c o
-for_words ws ws' c o e h = subst (λ (ws : List (String Global)). Ended (command_of (texts ws)) c o) e h
+pub for_words : (ws ws' : List (String Global)) (c : Call) (o : Outcome) → ws ≡ ws' → Ended (request_of (texts ws)) c o → Ended (request_of (texts ws')) c o
+for_words ws ws' c o e h = subst (λ (ws : List (String Global)). Ended (request_of (texts ws)) c o) e h
 
-pub same_words_late : (ws ws' : List (String Global)) → ws ≡ ws' → writes_early (command_of (texts ws')) ≡ false → writes_early (command_of (texts ws)) ≡ false
-same_words_late ws ws' e h = subst (λ (ws : List (String Global)). writes_early (command_of (texts ws)) ≡ false) (sym e) h
+pub same_words_late : (ws ws' : List (String Global)) → ws ≡ ws' → writes_early (request_of (texts ws')) ≡ false → writes_early (request_of (texts ws)) ≡ false
+same_words_late ws ws' e h = subst (λ (ws : List (String Global)). writes_early (request_of (texts ws)) ≡ false) (sym e) h
 
 at_outcome : (a : Command) (c : Call) (o o' : Outcome) → o ≡ o' → Ends a c o → Ends a c o'
 at_outcome a c o o' e h = subst (Ends a c) e h
 
 -- ---- usage
 
-pub usage : (k : Option Command) (c : Call) (o : Outcome) (s : ℕ) → s ≡ status_of o → Ended k c o → s ≡ 1 → k ≡ None
+pub usage : (k : Option Request) (c : Call) (o : Outcome) (s : ℕ) → s ≡ status_of o → Ended k c o → s ≡ 1 → k ≡ None
 usage None c o s e h q = refl
-usage (Some a) c o s e h q = absurd (at_outcome a c o Usage (tells.is_usage o s e q) h)
+usage (Some (OnDeck a)) c o s e h q = absurd (at_outcome a c o Usage (tells.is_usage o s e q) h)
+usage (Some (Make n)) c o s e h q = absurd (subst (λ (o : Outcome). Ended (Some (Make n)) c o) (tells.is_usage o s e q) h)
 
-pub usage_only : (k : Option Command) (c : Call) (o : Outcome) (s : ℕ) → s ≡ status_of o → Ended k c o → k ≡ None → s ≡ 1
+pub usage_only : (k : Option Request) (c : Call) (o : Outcome) (s : ℕ) → s ≡ status_of o → Ended k c o → k ≡ None → s ≡ 1
 usage_only None c o s e h q = e ∙ ap status_of h.0
 usage_only (Some a) c o s e h q = absurd (cc)
 
@@ -74,24 +84,20 @@ none_of s n e a b c d (inr (inl q)) = b (sym e ∙ q)
 none_of s n e a b c d (inr (inr (inl q))) = c (sym e ∙ q)
 none_of s n e a b c d (inr (inr (inr q))) = d (sym e ∙ q)
 
-whole_for : (k : Command) (c : Call) (o : Outcome) (s : ℕ) → s ≡ status_of o → Ends k c o → IsOneOf (0 ∷ 3 ∷ 4 ∷ 6 ∷ []) s → IsAtEnd c.left_now
-whole_for k c Done s e h m = h.0
-whole_for k c Usage s e h m = absurd h
-whole_for k c (Refused r) s e h m = absurd (none_of s 2 e (λ q. omega (arith, q)) (λ q. omega (arith, q)) (λ q. omega (arith, q)) (λ q. omega (arith, q)) m)
-whole_for k c (Faulted fault line) s e h m = h.1.0
-whole_for k c StepLimit s e h m = h.1.0
-whole_for k c ReadFault s e h m = absurd (none_of s 5 e (λ q. omega (arith, q)) (λ q. omega (arith, q)) (λ q. omega (arith, q)) (λ q. omega (arith, q)) m)
-whole_for k c WriteFault s e h m = h.1
-whole_for k c OutOfMemory s e h m = absurd (none_of s 7 e (λ q. omega (arith, q)) (λ q. omega (arith, q)) (λ q. omega (arith, q)) (λ q. omega (arith, q)) m)
+pub whole : (k : Command) (c : Call) (o : Outcome) (s : ℕ) → s ≡ status_of o → Ends k c o → IsOneOf (0 ∷ 3 ∷ 4 ∷ 6 ∷ []) s → IsAtEnd c.left_now
+whole k c Done s e h m = h.0
+whole k c Usage s e h m = absurd h
+whole k c (Refused r) s e h m = absurd (none_of s 2 e (λ q. omega (arith, q)) (λ q. omega (arith, q)) (λ q. omega (arith, q)) (λ q. omega (arith, q)) m)
+whole k c (Faulted fault line) s e h m = h.1.0
+whole k c StepLimit s e h m = h.1.0
+whole k c ReadFault s e h m = absurd (none_of s 5 e (λ q. omega (arith, q)) (λ q. omega (arith, q)) (λ q. omega (arith, q)) (λ q. omega (arith, q)) m)
+whole k c WriteFault s e h m = h.1
+whole k c OutOfMemory s e h m = absurd (none_of s 7 e (λ q. omega (arith, q)) (λ q. omega (arith, q)) (λ q. omega (arith, q)) (λ q. omega (arith, q)) m)
 
-pub whole : (k : Option Command) (c : Call) (o : Outcome) (s : ℕ) → s ≡ status_of o → Ended k c o → IsOneOf (0 ∷ 3 ∷ 4 ∷ 6 ∷ []) s → IsAtEnd c.left_now
-whole None c o s e h m = absurd (none_of s 1 (e ∙ ap status_of h.0) (λ q. omega (arith, q)) (λ q. omega (arith, q)) (λ q. omega (arith, q)) (λ q. omega (arith, q)) m)
-whole (Some a) c o s e h m = whole_for a c o s e h m
-
--- a status that tells of another outcome than usage comes with a command
-asked : (k : Option Command) (c : Call) (o o' : Outcome) → Ended k c o → o ≡ o' → (status_of o' ≡ 1 → ⊥) → (a : Command) × (k ≡ Some a) × Ends a c o'
+-- a status that tells of another outcome than usage comes with a request
+asked : (k : Option Request) (c : Call) (o o' : Outcome) → Ended k c o → o ≡ o' → (status_of o' ≡ 1 → ⊥) → (a : Request) × (k ≡ Some a) × Ended (Some a) c o'
 asked None c o o' h e n = absurd (n (ap status_of (sym e ∙ h.0)))
-asked (Some a) c o o' h e n = (a, refl, at_outcome a c o o' e h)
+asked (Some a) c o o' h e n = (a, refl, subst (λ (o : Outcome). Ended (Some a) c o) e h)
 
 pub whole_refused : (k : Command) (c : Call) (o : Outcome) (s : ℕ) → s ≡ status_of o → Ends k c o → s ≡ 2 → IsReadOrPassed (most_bytes k) c.left_before c.left_now
 whole_refused k c o s e h q =
@@ -99,11 +105,23 @@ whole_refused k c o s e h q =
     let g : Ends k c (Refused r.0) = at_outcome k c o (Refused r.0) r.1 h in
     g.1.0
 
-pub read_fault : (k : Option Command) (c : Call) (o : Outcome) (s : ℕ) → s ≡ status_of o → Ended k c o → s ≡ 5 → Rose c.deck_faults_before c.deck_faults_now
-read_fault k c o s e h q = (asked k c o ReadFault h (tells.is_read_fault o s e q) (λ z. omega (arith, z))).2.0
+deck_failed : (a : Request) (c : Call) → Ended (Some a) c ReadFault → Rose c.deck_faults_before c.deck_faults_now
+deck_failed (OnDeck k) c h = h.0
+deck_failed (Make n) c h = absurd h
 
-pub write_fault : (k : Option Command) (c : Call) (o : Outcome) (s : ℕ) → s ≡ status_of o → Ended k c o → s ≡ 6 → Rose c.out_faults_before c.out_faults_now
-write_fault k c o s e h q = (asked k c o WriteFault h (tells.is_write_fault o s e q) (λ z. omega (arith, z))).2.0
+pub read_fault : (k : Option Request) (c : Call) (o : Outcome) (s : ℕ) → s ≡ status_of o → Ended k c o → s ≡ 5 → Rose c.deck_faults_before c.deck_faults_now
+read_fault k c o s e h q =
+    let g = asked k c o ReadFault h (tells.is_read_fault o s e q) (λ z. omega (arith, z)) in
+    deck_failed g.0 c g.2
+
+sink_failed : (a : Request) (c : Call) → Ended (Some a) c WriteFault → Rose c.out_faults_before c.out_faults_now
+sink_failed (OnDeck k) c h = h.0
+sink_failed (Make n) c h = h.0
+
+pub write_fault : (k : Option Request) (c : Call) (o : Outcome) (s : ℕ) → s ≡ status_of o → Ended k c o → s ≡ 6 → Rose c.out_faults_before c.out_faults_now
+write_fault k c o s e h q =
+    let g = asked k c o WriteFault h (tells.is_write_fault o s e q) (λ z. omega (arith, z)) in
+    sink_failed g.0 c g.2
 
 -- ---- refusals
 
@@ -228,24 +246,23 @@ ran k run c o s e h q = map_some c.left_before (run_given k run end.Done c.taken
 pub run_part : (k : Command) → IsRun k → (c : Call) (o : Outcome) (s : ℕ) → s ≡ status_of o → Ends k c o → s ≡ 6 → IfSome c.left_before (GivesRunPart k c.taken_before c.taken_now)
 run_part k run c o s e h q = map_some c.left_before (run_part_given k run c.taken_before c.taken_now) (at_outcome k c o WriteFault (tells.is_write_fault o s e q) h).2
 
--- the command of a run that ended so
-run_for : (k : Option Command) (c : Call) (a : Command) (e : End) → k ≡ Some a → IsRun a → EndsAt a c e
-    → (a : Command) × IsRun a × (k ≡ Some a) × IfSome c.left_before (GivesRun a e c.taken_before c.taken_now)
-run_for k c a e q run at = (a, run, q, map_some c.left_before (run_given a run e c.taken_before c.taken_now) at.1)
-
-pub faulted : (k : Option Command) (c : Call) (o : Outcome) (s : ℕ) → s ≡ status_of o → Ended k c o → s ≡ 3
-    → (a : Command) × IsRun a × (k ≡ Some a) × IfSome c.left_before (GivesFaultedRun a c.taken_before c.taken_now)
+pub faulted : (k : Command) (c : Call) (o : Outcome) (s : ℕ) → s ≡ status_of o → Ends k c o → s ≡ 3 → IsRun k × IfSome c.left_before (GivesFaultedRun k c.taken_before c.taken_now)
 faulted k c o s e h q =
     let f = tells.is_faulted o s e q in
-    let g = asked k c o (Faulted f.0 f.1) h f.2 (λ z. omega (arith, z)) in
-    let r = run_for k c g.0 (end.Fault f.0 f.1) g.1 g.2.0 g.2.1 in
-    (r.0, r.1, r.2, map_some c.left_before (λ deck given. (f.0, f.1, given)) r.3)
+    let g : Ends k c (Faulted f.0 f.1) = at_outcome k c o (Faulted f.0 f.1) f.2 h in
+    (g.0, map_some c.left_before (λ deck given. (f.0, f.1, run_given k g.0 (end.Fault f.0 f.1) c.taken_before c.taken_now deck given)) g.1.1)
 
-pub at_limit : (k : Option Command) (c : Call) (o : Outcome) (s : ℕ) → s ≡ status_of o → Ended k c o → s ≡ 4
-    → (a : Command) × IsRun a × (k ≡ Some a) × IfSome c.left_before (GivesRun a end.StepLimit c.taken_before c.taken_now)
+-- the command of a run that was cut at the limit
+cut_for : (k : Option Request) (a : Request) (c : Call) → k ≡ Some a → Ended (Some a) c StepLimit
+    → (b : Command) × IsRun b × (k ≡ Some (OnDeck b)) × IfSome c.left_before (GivesRun b end.StepLimit c.taken_before c.taken_now)
+cut_for k (OnDeck a) c q h = (a, h.0, q, map_some c.left_before (run_given a h.0 end.StepLimit c.taken_before c.taken_now) h.1.1)
+cut_for k (Make n) c q h = absurd h
+
+pub at_limit : (k : Option Request) (c : Call) (o : Outcome) (s : ℕ) → s ≡ status_of o → Ended k c o → s ≡ 4
+    → (b : Command) × IsRun b × (k ≡ Some (OnDeck b)) × IfSome c.left_before (GivesRun b end.StepLimit c.taken_before c.taken_now)
 at_limit k c o s e h q =
     let g = asked k c o StepLimit h (tells.is_limited o s e q) (λ z. omega (arith, z)) in
-    run_for k c g.0 end.StepLimit g.1 g.2.0 g.2.1
+    cut_for k g.0 c g.1 g.2
 
 little_given : (k : Command) → IsRun k → (c : Call) → GivesLittle k c → IfSome c.left_before (GivesAtMostPart k c.taken_before c.taken_now)
 little_given Vectorise run c h = absurd run
@@ -332,7 +349,7 @@ has_fault (Run77 options) c fault line run h =
 has_fault (Run90 options) c fault line run h =
     map_some c.left_before (λ deck (g : GivesAll (Run90 options) (end.Fault fault line) c.taken_before c.taken_now deck). (g.program, g.read, g.ending)) h
 
-true_for : (k : Command) (c : Call) (o : Outcome) → Ends k c o → IsTrueOf (Some k) c.left_before o
+true_for : (k : Command) (c : Call) (o : Outcome) → Ends k c o → IsTrueOf (Some (OnDeck k)) c.left_before o
 true_for k c Done h = tt
 true_for k c Usage h = tt
 true_for k c (Refused r) h = map_some c.left_before (λ deck (for : IsRefusedFor k r deck). for.refused) h.0
@@ -342,11 +359,22 @@ true_for k c ReadFault h = tt
 true_for k c WriteFault h = tt
 true_for k c OutOfMemory h = tt
 
-is_true : (k : Option Command) (c : Call) (o : Outcome) → Ended k c o → IsTrueOf k c.left_before o
-is_true None c o h = tt
-is_true (Some a) c o h = true_for a c o h
+true_made : (n : ℕ) (c : Call) (o : Outcome) → Ended (Some (Make n)) c o → IsTrueOf (Some (Make n)) c.left_before o
+true_made n c Done h = tt
+true_made n c Usage h = tt
+true_made n c (Refused r) h = h.0.refused
+true_made n c (Faulted fault line) h = (h.0, h.1)
+true_made n c StepLimit h = tt
+true_made n c ReadFault h = tt
+true_made n c WriteFault h = tt
+true_made n c OutOfMemory h = tt
 
-pub noted : (k : Option Command) (c : Call) (o : Outcome) (s : ℕ) → s ≡ status_of o → Ended k c o → NoteFor k c.left_before s (note_of o)
+is_true : (k : Option Request) (c : Call) (o : Outcome) → Ended k c o → IsTrueOf k c.left_before o
+is_true None c o h = tt
+is_true (Some (OnDeck a)) c o h = true_for a c o h
+is_true (Some (Make n)) c o h = true_made n c o h
+
+pub noted : (k : Option Request) (c : Call) (o : Outcome) (s : ℕ) → s ≡ status_of o → Ended k c o → NoteFor k c.left_before s (note_of o)
 noted k c o s e h = record { outcome = o; status_is = e; line_is = refl; is_true = is_true k c o h }
 
 pub part_or_whole : {E : Type 0} (r : Result (Unit {0}) E) (before : Option (List ℕ)) (text : List ℕ) (now : Option (List ℕ)) → OnOk r (Gives before text now) → OnErr r (GivesPart before text now) → GivesPart before text now

@@ -6,6 +6,10 @@ use Rattle.meaning.specs.Sequential.{ending}
 use Rattle.meaning.specs.declared.End.TheVariants.{Fault}
 use Rattle.tool.specs.declared.commands.commands.Command.{Command}
 use Rattle.tool.specs.declared.commands.commands.Command.TheVariants.{Vectorise, Graph, Run77, Run90}
+use Rattle.tool.specs.declared.commands.commands.Request.{Request}
+use Rattle.tool.specs.declared.commands.commands.Request.TheVariants.{OnDeck, Make}
+use Rattle.generator.specs.Decks.{deck_of}
+use Rattle.tool.specs.Making.{HasMadeFault}
 use Rattle.tool.specs.declared.report.outcome.Outcome.{Outcome}
 use Rattle.tool.specs.declared.report.outcome.Outcome.TheVariants.{Refused, Faulted}
 use Rattle.tool.specs.report.Notes.{status_of, note_of}
@@ -28,15 +32,18 @@ HasFault Graph fault line deck = ⊥
 HasFault (Run77 options) fault line deck = RunFaults (Run77 options) fault line deck
 HasFault (Run90 options) fault line deck = RunFaults (Run90 options) fault line deck
 
--- a refusal is one of the deck's, and a fault is that of its run, where the deck is told
-abbrev pub IsTrueOf : Option Command → Option (List ℕ) → Outcome → Type 0
-IsTrueOf (Some c) deck (Refused r) = IfSome deck (λ bytes. IsRefused c bytes r)
-IsTrueOf (Some c) deck (Faulted fault line) = IfSome deck (HasFault c fault line)
-IsTrueOf c deck _ = Unit {0}
+-- A refusal is one of the deck's, and a fault is that of its run, where the deck is told. With `make` the deck is the
+-- one that it makes, and the run is that of a translation of it
+abbrev pub IsTrueOf : Option Request → Option (List ℕ) → Outcome → Type 0
+IsTrueOf (Some (OnDeck c)) deck (Refused r) = IfSome deck (λ bytes. IsRefused c bytes r)
+IsTrueOf (Some (OnDeck c)) deck (Faulted fault line) = IfSome deck (HasFault c fault line)
+IsTrueOf (Some (Make n)) deck (Refused r) = IsRefused Vectorise (deck_of n) r
+IsTrueOf (Some (Make n)) deck (Faulted fault line) = HasMadeFault (deck_of n) fault line
+IsTrueOf request deck _ = Unit {0}
 
 -- The line is that of an outcome with this status, and what it tells of the deck is true.
-pub record NoteFor (command : Option Command) (deck : Option (List ℕ)) (status : ℕ) (line : List ℕ) : Type 0 where
+pub record NoteFor (request : Option Request) (deck : Option (List ℕ)) (status : ℕ) (line : List ℕ) : Type 0 where
   pub outcome : Outcome
   pub status_is : status ≡ status_of outcome
   pub line_is : line ≡ note_of outcome
-  pub is_true : IsTrueOf command deck outcome
+  pub is_true : IsTrueOf request deck outcome

@@ -11,11 +11,15 @@ use Rattle.streams.specs.Causes.{Rose}
 use Rattle.streams.specs.Streams.{TakesMoreThan, Gives, GivesPart}
 use Rattle.tool.specs.declared.commands.commands.Command.{Command}
 use Rattle.tool.specs.declared.commands.commands.Command.TheVariants.{Vectorise, Graph, Run77, Run90}
+use Rattle.tool.specs.declared.commands.commands.Request.{Request}
+use Rattle.tool.specs.declared.commands.commands.Request.TheVariants.{OnDeck, Make}
 use Rattle.tool.specs.declared.report.outcome.Outcome.{Outcome}
 use Rattle.tool.specs.declared.report.outcome.Outcome.TheVariants.{Done, Usage, Refused, Faulted, StepLimit, ReadFault}
 use Rattle.tool.specs.declared.report.outcome.Outcome.TheVariants.{WriteFault, OutOfMemory}
 use Rattle.listing.specs.programs.Listing.{IsListingText}
+use Rattle.generator.specs.Decks.{deck_of}
 use Rattle.tool.specs.Decks.{IsRefused, IsReadAs, IsRefusedFor, most_bytes}
+use Rattle.tool.specs.Making.{Summarises}
 use Rattle.tool.specs.Running.{IsRun, run_of, text_of_run}
 use Rattle.tool.specs.Translation.{IsTranslationText}
 
@@ -101,13 +105,14 @@ Ends k c WriteFault = Rose c.out_faults_before c.out_faults_now × IsAtEnd c.lef
     × IfSome c.left_before (GivesFront k c.taken_before c.taken_now)
 Ends k c OutOfMemory = GivesLittle k c
 
--- `run90` alone takes memory when it may have written
-abbrev pub writes_early : Option Command → Bool
-writes_early (Some (Run90 options)) = true
-writes_early c = false
+-- `run90` and `make` alone take memory when they may have written
+abbrev pub writes_early : Option Request → Bool
+writes_early (Some (OnDeck (Run90 options))) = true
+writes_early (Some (Make n)) = true
+writes_early request = false
 
 -- a call that ends so has written nothing
-abbrev pub is_silent : Option Command → Outcome → Bool
+abbrev pub is_silent : Option Request → Outcome → Bool
 is_silent c Done = false
 is_silent c Usage = true
 is_silent c (Refused r) = true
@@ -128,7 +133,9 @@ gives_all ReadFault = false
 gives_all WriteFault = false
 gives_all OutOfMemory = false
 
--- words that are no command do nothing
-abbrev pub Ended : Option Command → Call → Outcome → Type 0
+-- words that ask for nothing do nothing
+abbrev pub Ended : Option Request → Call → Outcome → Type 0
 Ended None c o = (o ≡ Usage) × (c.taken_now ≡ c.taken_before)
-Ended (Some k) c o = Ends k c o
+Ended (Some (OnDeck k)) c o = Ends k c o
+Ended (Some (Make n)) c o =
+    Summarises (deck_of n) c.taken_before c.taken_now c.out_faults_before c.out_faults_now o

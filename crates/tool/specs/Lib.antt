@@ -1,9 +1,12 @@
 pub mod Answers
+pub mod ArrayMarks
 pub mod Asked
+pub mod Counts
 pub mod Decks
 pub mod Endings
 pub mod Given
 pub mod Listings
+pub mod Making
 pub mod Marked
 pub mod Printed
 pub mod Running

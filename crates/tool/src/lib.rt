@@ -26,6 +26,10 @@
 //!
 //! **Clauses of the top call stand in groups.** What is asked of the words, what an object tells, and that it didn't
 //! fail have a name each (`Asks`, `IfTold`, `HasNotFailed`).
+//!
+//! **The counts of `make` are read from the text.** They are counts of lines, so whoever has the text can count again;
+//! which marks are those of array statements follows from the numbers of loops that the listing has. A mark is looked
+//! up from the first line on, which is quadratic in the nests, of which there are at most 500.
 #![tactic(auto)]
 
 ghost use Rattle.std.specs.Prelude.{◌≡◌, ◌≢◌, ◌≤◌, ◌↔◌, ◌⊎◌, [], ◌∷◌};
@@ -34,21 +38,25 @@ ghost use Rattle.std.specs.Io.KnownBytes.{IsAtEnd};
 ghost use Rattle.tree.specs.Plain.{Program};
 ghost use Rattle.tree.specs.declared.ops.Fault.{Fault as Kind};
 ghost use Rattle.tree.specs.declared.refusals.Refusal.{Refusal};
+ghost use Rattle.generator.specs.Decks.{deck_of};
 ghost use Rattle.streams.specs.Causes.{Rose};
 ghost use Rattle.streams.specs.Streams.{Gives, GivesPart};
 ghost use Rattle.meaning.specs.Sequential.{ending};
 ghost use Rattle.meaning.specs.declared.End.TheVariants.{Done, Fault, StepLimit};
-ghost use Rattle.tool.specs.commands.Command.{texts, command_of};
+ghost use Rattle.tool.specs.commands.Command.{texts, request_of};
 ghost use Rattle.tool.specs.declared.commands.commands.Command.{Command as Asked};
 ghost use Rattle.tool.specs.declared.commands.commands.Command.TheVariants.{Vectorise, Graph};
+ghost use Rattle.tool.specs.declared.commands.commands.Request.TheVariants.{OnDeck, Make};
 ghost use Rattle.tool.specs.declared.report.outcome.Outcome.TheVariants.{ReadFault, WriteFault};
 ghost use Rattle.tool.specs.Answers.{IsOneOf, NoteFor};
-ghost use Rattle.tool.specs.Asked.{Asks, HasNotFailed, IfTold};
-ghost use Rattle.tool.specs.Decks.{Reads, IsRefused, most_bytes};
+ghost use Rattle.tool.specs.Asked.{Asks, AsksToMake, HasNotFailed, IfTold};
+ghost use Rattle.tool.specs.Decks.{Reads, IsRefused, IsRefusedFor, most_bytes};
 ghost use Rattle.tool.specs.Endings.{Ends, Ended, IsReadOrPassed, IsRefusedAfter, ending_of, is_silent};
 ghost use Rattle.tool.specs.Endings.{writes_early, gives_all};
 ghost use Rattle.tool.specs.Given.{GivesWhere, GivesPartWhere};
 ghost use Rattle.tool.specs.Listings.{IsListedBeside, IsListingOf};
+ghost use Rattle.tool.specs.Making.{IsSummary, IsSummaryTo, IsFaultedSummary, GivesAtMostSummary};
+ghost use Rattle.tool.specs.Making.{RunsWell, RunsIntoFault};
 ghost use Rattle.tool.specs.Marked.{IsMarked};
 ghost use Rattle.tool.specs.Printed.{IsPrinted};
 ghost use Rattle.tool.specs.Running.{IsRun, GivesRun, GivesFaultedRun, GivesRunPart, GivesAtMostPart};
@@ -57,16 +65,20 @@ ghost use Rattle.tool.specs.Translates.{Translates};
 ghost use Rattle.tool.specs.Works.{Works};
 
 pub mod commands;
+mod counts;
 mod deck;
 mod listings;
+mod making;
+mod marks;
 pub mod report;
 mod running;
 mod translations;
 
-use crate::commands::{Command, command};
+use crate::commands::{Command, Request, request};
 use crate::report::{Outcome, note, status};
 use deck::{most_bytes, read_deck};
 use listings::graph;
+use making::make;
 use running::{run77, run90};
 use std::alloc::Global;
 use streams::{Sink, Source};
@@ -81,7 +93,7 @@ fn perform<K: Sink>(alloc: Global, command: Command, deck: &[u8], out: &mut K) -
       faults_before = K.faults out.old;
       faults_now = K.faults out.new;
     }) result }
-    ensures untouched { is_silent (Some command) result ≡ true → out.new ≡ out.old }
+    ensures untouched { is_silent (Some (OnDeck command)) result ≡ true → out.new ≡ out.old }
     ensures textless { IsRun command → (p : Program) → Reads command deck.now p → text_of_run command deck.now p ≡ []
         → out.new ≡ out.old }
     ensures no_fault { result ≢ WriteFault → K.faults out.new ≡ K.faults out.old }
@@ -128,7 +140,7 @@ fn obey<S: Source, K: Sink>(alloc: Global, command: Command, deck: &mut S, out: 
       out_faults_before = K.faults out.old;
       out_faults_now = K.faults out.new;
     }) result }
-    ensures untouched { is_silent (Some command) result ≡ true → out.new ≡ out.old }
+    ensures untouched { is_silent (Some (OnDeck command)) result ≡ true → out.new ≡ out.old }
     ensures textless { IsRun command → K.held out.old ≡ []
         → IfTold (S.left deck.old) (λ bytes. (p : Program) → Reads command bytes p → text_of_run command bytes p ≡ []
         → out.new ≡ out.old) }
@@ -148,7 +160,7 @@ fn obey<S: Source, K: Sink>(alloc: Global, command: Command, deck: &mut S, out: 
 
 // Does what the words ask for.
 fn work<S: Source, K: Sink>(alloc: Global, words: &[String], deck: &mut S, out: &mut K) -> Outcome
-    ensures ended { Ended (command_of (texts words.now)) (record {
+    ensures ended { Ended (request_of (texts words.now)) (record {
       left_before = S.left deck.old;
       left_now = S.left deck.new;
       taken_before = K.taken out.old;
@@ -158,9 +170,10 @@ fn work<S: Source, K: Sink>(alloc: Global, words: &[String], deck: &mut S, out: 
       out_faults_before = K.faults out.old;
       out_faults_now = K.faults out.new;
     }) result }
-    ensures unread { command_of (texts words.now) ≡ None → deck.new ≡ deck.old }
-    ensures untouched { is_silent (command_of (texts words.now)) result ≡ true → out.new ≡ out.old }
-    ensures textless { (c : Asked) → IsRun c → command_of (texts words.now) ≡ Some c → K.held out.old ≡ []
+    ensures unread { request_of (texts words.now) ≡ None → deck.new ≡ deck.old }
+    ensures apart { (n : ℕ) → request_of (texts words.now) ≡ Some (Make n) → deck.new ≡ deck.old }
+    ensures untouched { is_silent (request_of (texts words.now)) result ≡ true → out.new ≡ out.old }
+    ensures textless { (c : Asked) → IsRun c → request_of (texts words.now) ≡ Some (OnDeck c) → K.held out.old ≡ []
         → IfTold (S.left deck.old) (λ bytes. (p : Program) → Reads c bytes p → text_of_run c bytes p ≡ []
         → out.new ≡ out.old) }
     ensures passed { gives_all result ≡ true → K.held out.new ≡ [] }
@@ -169,8 +182,9 @@ fn work<S: Source, K: Sink>(alloc: Global, words: &[String], deck: &mut S, out: 
     ensures deck_later { S.faults deck.old ≤ S.faults deck.new }
     ensures out_later { K.faults out.old ≤ K.faults out.new }
 {
-    match command(words) {
-        Some(command) => obey(alloc, command, deck, out),
+    match request(words) {
+        Some(Request::OnDeck(command)) => obey(alloc, command, deck, out),
+        Some(Request::Make(nests)) => make(alloc, nests, out),
         None => Outcome::Usage,
     }
 }
@@ -186,11 +200,12 @@ pub fn run_tool<S: Source, K: Sink, E: Sink>(
     ensures answers { IsOneOf (0 ∷ 1 ∷ 2 ∷ 3 ∷ 4 ∷ 5 ∷ 6 ∷ 7 ∷ []) result }
 
     // The words: 1 comes exactly where they aren't a command, and then nothing is read.
-    ensures usage { (result ≡ 1) ↔ (command_of (texts words.now.items) ≡ None) }
+    ensures usage { (result ≡ 1) ↔ (request_of (texts words.now.items) ≡ None) }
     ensures unread { result ≡ 1 → deck.new ≡ deck.old }
 
     // Reading: the deck was read to its end, but where a limit of bytes is passed.
-    ensures whole { IsOneOf (0 ∷ 3 ∷ 4 ∷ 6 ∷ []) result → IsAtEnd (S.left deck.new) }
+    ensures whole { (c : Asked) → Asks words.now.items c → IsOneOf (0 ∷ 3 ∷ 4 ∷ 6 ∷ []) result
+        → IsAtEnd (S.left deck.new) }
     ensures whole_refused { (c : Asked) → Asks words.now.items c → result ≡ 2
         → IsReadOrPassed (most_bytes c) (S.left deck.old) (S.left deck.new) }
 
@@ -235,8 +250,8 @@ pub fn run_tool<S: Source, K: Sink, E: Sink>(
     // steps exceed the limit. At 6 they give a front.
     ensures ran { (c : Asked) → IsRun c → Asks words.now.items c → result ≡ 0
         → IfTold (S.left deck.old) (GivesRun c Done (K.taken out.old) (K.taken out.new)) }
-    ensures faulted { result ≡ 3 → (c : Asked) × IsRun c × Asks words.now.items c
-        × IfTold (S.left deck.old) (GivesFaultedRun c (K.taken out.old) (K.taken out.new)) }
+    ensures faulted { (c : Asked) → Asks words.now.items c → result ≡ 3
+        → IsRun c × IfTold (S.left deck.old) (GivesFaultedRun c (K.taken out.old) (K.taken out.new)) }
     ensures limited { result ≡ 4 → (c : Asked) × IsRun c × Asks words.now.items c
         × IfTold (S.left deck.old) (GivesRun c StepLimit (K.taken out.old) (K.taken out.new)) }
     ensures run_part { (c : Asked) → IsRun c → Asks words.now.items c → result ≡ 6
@@ -248,9 +263,32 @@ pub fn run_tool<S: Source, K: Sink, E: Sink>(
         → IfTold (S.left deck.old) (λ bytes. (p : Program) → Reads c bytes p → text_of_run c bytes p ≡ []
         → out.new ≡ out.old) }
 
-    // Otherwise nothing is given, but that `run90` may have given a front where there is no memory.
+    // `make N` leaves the deck alone, and makes one. It gives a summary of that one: all of it at 0, where the run of
+    // the translation ended without fault, and at 3, where it ended by one; a front at 6, and at most that at 7.
+    ensures apart { (n : ℕ) → AsksToMake words.now.items n → deck.new ≡ deck.old }
+    ensures made_answers { (n : ℕ) → AsksToMake words.now.items n → IsOneOf (0 ∷ 2 ∷ 3 ∷ 6 ∷ 7 ∷ []) result }
+    ensures made { (n : ℕ) → AsksToMake words.now.items n → result ≡ 0
+        → GivesWhere (K.taken out.old) (K.taken out.new) (IsSummaryTo Done (deck_of n)) }
+    ensures made_faulted { (n : ℕ) → AsksToMake words.now.items n → result ≡ 3 → (fault : Kind) × (line : ℕ)
+        × GivesWhere (K.taken out.old) (K.taken out.new) (IsFaultedSummary fault line (deck_of n)) }
+    ensures made_part { (n : ℕ) → AsksToMake words.now.items n → result ≡ 6
+        → GivesPartWhere (K.taken out.old) (K.taken out.new) (IsSummary (deck_of n)) }
+    ensures made_little { (n : ℕ) → AsksToMake words.now.items n → result ≡ 7
+        → GivesAtMostSummary (deck_of n) (K.taken out.old) (K.taken out.new) }
+
+    // The deck that it makes: 2 comes only where that is refused, and then there is nothing but 2, or 7. 3 comes only
+    // where its run ends by a fault. Where that ends without fault and `out` didn't fail, there is nothing but 0, or 7.
+    ensures made_refused { (n : ℕ) → AsksToMake words.now.items n → result ≡ 2
+        → (r : Refusal) × IsRefusedFor Vectorise r (deck_of n) }
+    ensures made_never_done { (n : ℕ) → AsksToMake words.now.items n → (r : Refusal)
+        → IsRefused Vectorise (deck_of n) r → IsOneOf (2 ∷ 7 ∷ []) result }
+    ensures made_runs { (n : ℕ) → AsksToMake words.now.items n → result ≡ 3 → RunsIntoFault (deck_of n) }
+    ensures made_done { (n : ℕ) → AsksToMake words.now.items n → RunsWell (deck_of n)
+        → HasNotFailed (K.faults out.old) (K.faults out.new) → IsOneOf (0 ∷ 7 ∷ []) result }
+
+    // Otherwise nothing is given, but that `run90` and `make` may have given a front where there is no memory.
     ensures nothing { IsOneOf (1 ∷ 2 ∷ 5 ∷ []) result → out.new ≡ out.old }
-    ensures nothing_without_memory { writes_early (command_of (texts words.now.items)) ≡ false → result ≡ 7
+    ensures nothing_without_memory { writes_early (request_of (texts words.now.items)) ≡ false → result ≡ 7
         → out.new ≡ out.old }
     ensures part_without_memory { (c : Asked) → IsRun c → Asks words.now.items c → result ≡ 7
         → IfTold (S.left deck.old) (GivesAtMostPart c (K.taken out.old) (K.taken out.new)) }
@@ -276,9 +314,9 @@ pub fn run_tool<S: Source, K: Sink, E: Sink>(
 
     // The notes have the status's line, or a front of it where they failed.
     ensures note { HasNotFailed (E.faults notes.old) (E.faults notes.new)
-        → (line : List ℕ) × NoteFor (command_of (texts words.now.items)) (S.left deck.old) result line
+        → (line : List ℕ) × NoteFor (request_of (texts words.now.items)) (S.left deck.old) result line
         × Gives (E.taken notes.old) line (E.taken notes.new) }
-    ensures note_part { (line : List ℕ) × NoteFor (command_of (texts words.now.items)) (S.left deck.old) result line
+    ensures note_part { (line : List ℕ) × NoteFor (request_of (texts words.now.items)) (S.left deck.old) result line
         × GivesPart (E.taken notes.old) line (E.taken notes.new) }
 
     // Counts of faults never fall.

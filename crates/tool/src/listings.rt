@@ -2,6 +2,7 @@
 ghost use Rattle.std.specs.Prelude.{◌≡◌, ◌≢◌, ◌≤◌, true, length, Some};
 ghost use Rattle.tree.specs.Limits.{deck_bytes};
 ghost use Rattle.tool.specs.declared.commands.commands.Command.TheVariants.{Graph};
+ghost use Rattle.tool.specs.declared.commands.commands.Request.TheVariants.{OnDeck};
 ghost use Rattle.tool.specs.Endings.{is_silent};
 ghost use Rattle.tool.specs.Works.{Works};
 
@@ -22,7 +23,7 @@ pub(crate) fn graph<K: Sink>(alloc: Global, deck: &[u8], out: &mut K) -> Outcome
       faults_before = K.faults out.old;
       faults_now = K.faults out.new;
     }) result }
-    ensures untouched { is_silent (Some Graph) result ≡ true → out.new ≡ out.old }
+    ensures untouched { is_silent (Some (OnDeck Graph)) result ≡ true → out.new ≡ out.old }
     ensures no_fault { result ≢ Outcome.WriteFault → K.faults out.new ≡ K.faults out.old }
     ensures later { K.faults out.old ≤ K.faults out.new }
 {

@@ -8,6 +8,7 @@ ghost use Rattle.meaning.specs.Dialect.{fortran77, fortran90};
 ghost use Rattle.meaning.specs.Profile77.{IsProgram77};
 ghost use Rattle.meaning.specs.Profile90.{IsProgram90};
 ghost use Rattle.tool.specs.declared.commands.commands.Command.TheVariants.{Run77, Run90};
+ghost use Rattle.tool.specs.declared.commands.commands.Request.TheVariants.{OnDeck};
 ghost use Rattle.run77.specs.Machine.{IsMachineOf as IsMachine77Of};
 ghost use Rattle.run90.specs.Machine.{IsMachineOf as IsMachine90Of};
 ghost use Rattle.tool.specs.Decks.{Reads};
@@ -41,7 +42,7 @@ fn run_machine77<K: Sink>(
           faults_before = K.faults out.old;
           faults_now = K.faults out.new;
         }) result }
-    ensures untouched { is_silent (Some (Run77 options)) result ≡ true → out.new ≡ out.old }
+    ensures untouched { is_silent (Some (OnDeck (Run77 options))) result ≡ true → out.new ≡ out.old }
     ensures textless { (p : Program) → IsProgram77 fortran77 p → IsMachine77Of p machine.old
         → run_text options p (run_at fortran77 options.steps p input.now) ≡ [] → out.new ≡ out.old }
     ensures no_fault { result ≢ Outcome.WriteFault → K.faults out.new ≡ K.faults out.old }
@@ -77,7 +78,7 @@ fn run_machine90<K: Sink>(
           faults_before = K.faults out.old;
           faults_now = K.faults out.new;
         }) result }
-    ensures untouched { is_silent (Some (Run90 options)) result ≡ true → out.new ≡ out.old }
+    ensures untouched { is_silent (Some (OnDeck (Run90 options))) result ≡ true → out.new ≡ out.old }
     ensures textless { (p : Program) → IsProgram90 p → IsMachine90Of p machine.old
         → run_text options p (run_at fortran90 options.steps p input.now) ≡ [] → out.new ≡ out.old }
     ensures no_fault { result ≢ Outcome.WriteFault → K.faults out.new ≡ K.faults out.old }
@@ -110,7 +111,7 @@ pub(crate) fn run77<K: Sink>(alloc: Global, options: Options, deck: &[u8], out: 
       faults_before = K.faults out.old;
       faults_now = K.faults out.new;
     }) result }
-    ensures untouched { is_silent (Some (Run77 options)) result ≡ true → out.new ≡ out.old }
+    ensures untouched { is_silent (Some (OnDeck (Run77 options))) result ≡ true → out.new ≡ out.old }
     ensures textless { (p : Program) → Reads (Run77 options) deck.now p → text_of_run (Run77 options) deck.now p ≡ []
         → out.new ≡ out.old }
     ensures no_fault { result ≢ Outcome.WriteFault → K.faults out.new ≡ K.faults out.old }
@@ -137,7 +138,7 @@ pub(crate) fn run90<K: Sink>(alloc: Global, options: Options, deck: &[u8], out: 
       faults_before = K.faults out.old;
       faults_now = K.faults out.new;
     }) result }
-    ensures untouched { is_silent (Some (Run90 options)) result ≡ true → out.new ≡ out.old }
+    ensures untouched { is_silent (Some (OnDeck (Run90 options))) result ≡ true → out.new ≡ out.old }
     ensures textless { (p : Program) → Reads (Run90 options) deck.now p → text_of_run (Run90 options) deck.now p ≡ []
         → out.new ≡ out.old }
     ensures no_fault { result ≢ Outcome.WriteFault → K.faults out.new ≡ K.faults out.old }

@@ -1,13 +1,14 @@
 //! `vectorise`: the translation of a deck.
-ghost use Rattle.std.specs.Prelude.{◌≡◌, ◌≢◌, ◌≤◌, ◌++◌, true, length, Some, IfOk, OnOk};
+ghost use Rattle.std.specs.Prelude.{◌≡◌, ◌≢◌, ◌≤◌, ◌++◌, true, length, Some, IfErr, IfOk, OnOk};
 ghost use Rattle.std.specs.Option.{option_copied};
 ghost use Rattle.tree.specs.Limits.{deck_bytes};
 ghost use Rattle.tree.specs.View.{program_of};
 ghost use Rattle.meaning.specs.Dialect.{fortran77};
 ghost use Rattle.meaning.specs.Profile77.{IsProgram77};
 ghost use Rattle.tool.specs.declared.commands.commands.Command.TheVariants.{Vectorise};
+ghost use Rattle.tool.specs.declared.commands.commands.Request.TheVariants.{OnDeck};
 ghost use Rattle.meaning.specs.decks.Parts.{is_there, bytes_in};
-ghost use Rattle.tool.specs.Translation.{data_part, IsTranslationText};
+ghost use Rattle.tool.specs.Translation.{data_part, IsTranslationText, IsTranslationOf, IsUntranslated};
 ghost use Rattle.tool.specs.Endings.{is_silent};
 ghost use Rattle.tool.specs.Works.{Works};
 
@@ -49,6 +50,23 @@ fn translation(alloc: Global, program: Program77, input: Option<&[u8]>) -> Resul
     Ok(text)
 }
 
+/// The translation of the deck, which has at most 2^24 bytes, or how the call ends without it.
+pub(crate) fn translation_of(alloc: Global, deck: &[u8]) -> Result<Vec<u8>, Outcome>
+    requires { length deck.now ≤ deck_bytes }
+    ensures translation { IfOk result (λ text. IsTranslationOf deck.now text.items) }
+    ensures untranslated { IfErr result (IsUntranslated deck.now) }
+{
+    let (source, input) = source_and_input(deck, DataLine::Fortran77);
+    let program = match read77(alloc, source) {
+        Ok(program) => program,
+        Err(refused) => return Err(unread(refused)),
+    };
+    match translation(alloc, program, input) {
+        Ok(text) => Ok(text),
+        Err(_) => Err(Outcome::OutOfMemory),
+    }
+}
+
 /// Translates the deck, which has at most 2^24 bytes. Nothing is written before the whole text is there.
 pub(crate) fn vectorise<K: Sink>(alloc: Global, deck: &[u8], out: &mut K) -> Outcome
     requires { length deck.now ≤ deck_bytes }
@@ -58,17 +76,13 @@ pub(crate) fn vectorise<K: Sink>(alloc: Global, deck: &[u8], out: &mut K) -> Out
       faults_before = K.faults out.old;
       faults_now = K.faults out.new;
     }) result }
-    ensures untouched { is_silent (Some Vectorise) result ≡ true → out.new ≡ out.old }
+    ensures untouched { is_silent (Some (OnDeck Vectorise)) result ≡ true → out.new ≡ out.old }
     ensures no_fault { result ≢ Outcome.WriteFault → K.faults out.new ≡ K.faults out.old }
     ensures later { K.faults out.old ≤ K.faults out.new }
 {
-    let (source, input) = source_and_input(deck, DataLine::Fortran77);
-    let program = match read77(alloc, source) {
-        Ok(program) => program,
-        Err(refused) => return unread(refused),
-    };
-    let Ok(text) = translation(alloc, program, input) else {
-        return Outcome::OutOfMemory;
+    let text = match translation_of(alloc, deck) {
+        Ok(text) => text,
+        Err(outcome) => return outcome,
     };
     match write_all(out, text.as_slice()) {
         Ok(()) => Outcome::Done,

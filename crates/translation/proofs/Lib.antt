@@ -14,6 +14,4 @@ pub mod BlockNames
 pub mod PlacedLoops
 pub mod PlacedProfile
 pub mod LoopPlacing
-pub mod NormalInstances
-pub mod NormalProfile
 pub mod EmissionReady

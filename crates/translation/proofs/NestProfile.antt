@@ -1,15 +1,2 @@
-pub mod Blocks
-pub mod Pieces
-pub mod LoopSizes
-pub mod TextDepths
-pub mod TextKinds
-pub mod Rules
-pub mod MadeNames
-pub mod Sources
-pub mod Made
-pub mod LoopPlaces
-pub mod Endings
-pub mod Writable
 pub mod Counts
-pub mod Profile
 pub mod Law

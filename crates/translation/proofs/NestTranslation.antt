@@ -1,7 +1,3 @@
 pub mod Cleaned
-pub mod Straight
-pub mod Endings
-pub mod Pieces
-pub mod Counters
-pub mod Symbols
+pub mod Prepared
 pub mod Translation

@@ -12,6 +12,4 @@ pub mod block_names
 pub mod placed_loops
 pub mod placed_profile
 pub mod loop_placing
-pub mod normal_instances
-pub mod normal_profile
 pub mod emission_ready

@@ -1,19 +1,13 @@
 //! The translation of a program of FORTRAN 77 to Fortran 90: array statements in the place of its nests.
 //!
-//! **translation::normal_instances** (law): where the run of the normal form of a found nest of loops and statements
-//! alone, written in its loops, ends without fault, it is the nest's instances one after another in their sequential
-//! order, and then what comes after, but for the variables of the loops, in both dialects (`run_of_normal_nest`). Asked
-//! of the store: that all names, those of the counters too, have their bounds, and values of their kinds within the
-//! range of INTEGER.
-//!
 //! **translation::emission_ready** (law): a nest that can be tested (`IsReady`), with its dependence graph and fewer
 //! than 65536 symbols, has all that emission asks for (`ready_nests_may_be_emitted`).
 //!
 //! **translation::nest_translation** (law): let p be a program of FORTRAN 77, and a block what is emitted, by some
-//! graph and all holds, for a found nest of it that is loops and statements alone. Where the block is of the profile of
-//! a program q that has p's names and the block's, it does, with arrays as values, what the nest's loop does, and has
-//! no label (`translation_does_as_loop`). Nothing else is asked of the nest: `find_nests`, `normalise`, the graph, the
-//! holds and emission meet here.
+//! graph and all holds, for what the passes make of a found nest of it (`IsPassedAs`). Where the block is of the
+//! profile of a program q that has p's names and the block's, it does, with arrays as values, what the nest's loop
+//! does, and has no label (`translation_does_as_loop`). The laws of `prepared_runs` meet here: from the loop to the
+//! nest that the passes make, and from there to what is emitted.
 //!
 //! **translation::placed_loops** (law): where each block that stands in the place of a loop does, with arrays as
 //! values, what the loop does (`DoesAs`), the program with further names and these blocks keeps the meaning of the
@@ -50,18 +44,12 @@
 //! names besides (`with_made_names`).
 //!
 //! **translation::nest_profile** (law): a translation of a found nest is a block of the profile of a program that
-//! declares the counters besides, wherever the nest's loop is a statement of FORTRAN 77's
-//! (`translation_is_of_profile`). Asked: that no name of the program is TRANSPOSE or RESHAPE, and that the loops round
-//! it have variables that FORTRAN 77 has.
+//! declares the counters besides, wherever the nest's loop is a statement of FORTRAN 77's, since what the passes make
+//! of it is prepared (`translation_is_of_profile`). Asked: that no name of the program is TRANSPOSE or RESHAPE, and
+//! that the loops round it have variables that FORTRAN 77 has.
 //!
 //! **translation::placed_profile** (law): a program of FORTRAN 77 with blocks of the profile, without labels and jumps,
 //! in the place of loops is one of Fortran 90 within the limits on blocks and statements (`placed_program_is_program`).
-//!
-//! **translation::normal_profile** (laws): the normal form of a found nest of loops and statements alone, written in
-//! its loops (`block_of_nest`), is such a block, too (`normal_block_is_of_profile`), and so a program with such blocks
-//! in the place of some nests' loops, and the counters declared, is one of Fortran 90 (`normal_program_is_of_profile`).
-//! Its expressions are at most 263 deeper than those of the program of FORTRAN 77, which are at most 402 deep
-//! (`source_is_shallow`), and its blocks no deeper. Asked: that it has fewer than 2^31 statements.
 //!
 //! **translation::program_marks** (law): a program in which answers' blocks stand in the place of loops is marked as
 //! its listing has it (`translation_is_marked`).
@@ -116,8 +104,6 @@ mod names;
 pub mod nest_blocks;
 pub mod nest_profile;
 pub mod nest_translation;
-pub mod normal_instances;
-pub mod normal_profile;
 mod number;
 pub mod placed_loops;
 pub mod placed_profile;

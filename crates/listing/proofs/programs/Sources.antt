@@ -31,6 +31,7 @@ use Rattle.pass_laws.specs.found_sources.Alone.{HasLoopsAlone}
 use Rattle.listing.proofs.programs.AloneLaws.{alone, not_alone}
 use Rattle.listing.specs.programs.Alone.{is_alone}
 use Rattle.listing.specs.programs.Laws.{ListedNestIsTestable}
+use Rattle.listing.specs.programs.Passed.{IsPassedAs}
 use Rattle.listing.specs.programs.Sources.{IsFoundInSource, IsNestOfSource}
 use Rattle.listing.specs.programs.Testable.{IsTestable}
 
@@ -81,8 +82,8 @@ made_nest_is_testable p n m profile among made only = record {
   ready = normal_nest_is_ready fortran77 p n m profile among made;
 }
 
-pub testable : (n m : Nest) → IsNestOfSource n → normalised n ≡ Some m → HasLoopsAlone m.body → IsTestable m
-testable n m h made only = made_nest_is_testable h.program n m h.profile h.among made only
+pub testable : (n m : Nest) → IsNestOfSource n → IsPassedAs n m → IsTestable m
+testable n m h passed = made_nest_is_testable h.program n m h.profile h.among passed.made passed.alone
 
 -- a nest with the same body and symbols
 module _ (n m : Nest) (body : m.body ≡ n.body) (symbols : m.symbols ≡ n.symbols) (h : IsTestable n) where
@@ -114,31 +115,25 @@ listed_nest_is_testable p n m profile among listed =
     testable_too w.normal m w.body symbols
     (made_nest_is_testable p n w.normal profile among w.made (subst HasLoopsAlone w.body w.alone))
 
--- ---- which nests are listed
+-- ---- what passes make, and which nests are listed
 
-pub never_listed : (n : Nest) → normalised n ≡ None → (m : Nest) → IsListedFrom n m → ⊥
-never_listed n none m listed = let w = listed_nest_is_normal n m listed in let made = w.made in cc
+pub passed_as : (n m : Nest) (a : Bool) → normalised n ≡ Some m → a ≡ is_alone m.body → a ≡ true → IsPassedAs n m
+passed_as n m a made test e = record { made = made; alone = alone m.body (sym test ∙ e) }
 
-pub others_listed : (n m : Nest) (a : Bool) → normalised n ≡ Some m → a ≡ is_alone m.body → a ≡ false
-    → (k : Nest) → IsListedFrom n k → ⊥
-others_listed n m a made test e k listed =
-    let w = listed_nest_is_normal n k listed in
-    let other = w.made in
-    let same : w.normal ≡ m = cc in
-    not_alone m.body (sym test ∙ e)
-    (subst (λ (j : Nest). HasLoopsAlone j.body) same (subst HasLoopsAlone w.body w.alone))
+pub none_passed : (n : Nest) → normalised n ≡ None → (m : Nest) → IsPassedAs n m → ⊥
+none_passed n none m h = let made = h.made in cc
 
-pub listed_by : (n m : Nest) (a : Bool) → normalised n ≡ Some m → a ≡ is_alone m.body → a ≡ true → IsListedFrom n m
-listed_by n m a made test e = normal_nest_is_listed n m made (alone m.body (sym test ∙ e))
-
-pub never_made : (n : Nest) → normalised n ≡ None → (m : Nest) → normalised n ≡ Some m → HasLoopsAlone m.body → ⊥
-never_made n none m made h = cc
-
-pub with_others : (n m : Nest) (a : Bool) → normalised n ≡ Some m → a ≡ is_alone m.body → a ≡ false
-    → (k : Nest) → normalised n ≡ Some k → HasLoopsAlone k.body → ⊥
-with_others n m a made test e k also h =
+pub others_passed : (n m : Nest) (a : Bool) → normalised n ≡ Some m → a ≡ is_alone m.body → a ≡ false
+    → (k : Nest) → IsPassedAs n k → ⊥
+others_passed n m a made test e k h =
+    let also = h.made in
     let same : k ≡ m = cc in
-    not_alone m.body (sym test ∙ e) (subst (λ (j : Nest). HasLoopsAlone j.body) same h)
+    not_alone m.body (sym test ∙ e) (subst (λ (j : Nest). HasLoopsAlone j.body) same h.alone)
 
-pub alone_by : (m : Nest) (a : Bool) → a ≡ is_alone m.body → a ≡ true → HasLoopsAlone m.body
-alone_by m a test e = alone m.body (sym test ∙ e)
+pub passed_is_listed : (n m : Nest) → IsPassedAs n m → IsListedFrom n m
+passed_is_listed n m h = normal_nest_is_listed n m h.made h.alone
+
+pub none_listed : (n : Nest) → ((m : Nest) → IsPassedAs n m → ⊥) → (m : Nest) → IsListedFrom n m → ⊥
+none_listed n none m listed =
+    let w = listed_nest_is_normal n m listed in
+    none w.normal (record { made = w.made; alone = subst HasLoopsAlone w.body w.alone })

@@ -6,6 +6,7 @@ ghost use Rattle.normal_loops.specs.Normalised.{normalised};
 ghost use Rattle.nest.specs.Bodies.{nest_statements};
 ghost use Rattle.nest.specs.View.{nest_of};
 ghost use Rattle.listing.specs.programs.Listing.{AreLinesOf, HasNestEntries, all_holds, not_built};
+ghost use Rattle.listing.specs.programs.Passed.{IsPassedNest};
 ghost use Rattle.listing.specs.programs.Sources.{IsNestOfSource};
 ghost use Rattle.listing.specs.programs.Testable.{AreTestsOf, IsTestable};
 
@@ -63,17 +64,38 @@ pub fn not_built(alloc: Global, nest: &Nest) -> Result<Seq<Line>, Memory>
     kept_lines(alloc, nest.line, b"NOTBUILT")
 }
 
-// The lines of a nest that was found, with the one that was made of it.
-fn normal_lines(alloc: Global, found: &Nest, nest: &Nest) -> Result<Seq<Line>, Memory>
+/// What the passes make of a nest that was found: the nest that is listed, and what its tests say. The nest is in a
+/// box, so that it is dropped by one call.
+#[derive(Drop)]
+pub struct Passed {
+    pub nest: Box<Nest>,
+    pub tests: Tests,
+}
+
+// With the nest whose loops go from 1 by 1.
+fn with_tests(alloc: Global, found: &Nest, nest: Box<Nest>) -> Result<Option<Passed>, Memory>
     requires source { IsNestOfSource (nest_of found.now) }
-    requires made { normalised (nest_of found.now) ≡ Some (nest_of nest.now) }
-    ensures { IfOk result (λ all.
-        AreLinesOf (HasNestEntries (nest_of found.now)) (map text_of all)) }
+    requires made { normalised (nest_of found.now) ≡ Some (nest_of nest.value) }
+    ensures { IfOk result (IsPassedNest (nest_of found.now)) }
 {
-    if !is_alone(&nest.body) {
-        return not_built(alloc, found);
+    let normal: &Nest = &nest;
+    if !is_alone(&normal.body) {
+        return Ok(None);
     }
-    Ok(test(alloc, found.number, nest)?.lines)
+    let tests = test(alloc, found.number, normal)?;
+    Ok(Some(Passed { nest, tests }))
+}
+
+/// What the passes make of a nest that was found, if it can be tested: without an IF, a label and a jump so far. The
+/// only caller of passes, so that what is listed is what is translated.
+pub fn passes(alloc: Global, found: &Nest) -> Result<Option<Passed>, Memory>
+    requires { IsNestOfSource (nest_of found.now) }
+    ensures { IfOk result (IsPassedNest (nest_of found.now)) }
+{
+    match normalise(alloc, found)? {
+        Some(nest) => with_tests(alloc, found, Box::new(alloc, nest)?),
+        None => Ok(None),
+    }
 }
 
 /// The lines of a nest that was found.
@@ -82,8 +104,11 @@ pub(crate) fn nest_lines(alloc: Global, found: &Nest) -> Result<Seq<Line>, Memor
     ensures { IfOk result (λ all.
         AreLinesOf (HasNestEntries (nest_of found.now)) (map text_of all)) }
 {
-    let Some(nest) = normalise(alloc, found)? else {
-        return not_built(alloc, found);
-    };
-    normal_lines(alloc, found, &nest)
+    match passes(alloc, found)? {
+        Some(passed) => {
+            let tests = passed.tests;
+            Ok(tests.lines)
+        }
+        None => not_built(alloc, found),
+    }
 }

@@ -7,7 +7,9 @@ use Rattle.std.proofs.Math.Dec.{eqb-suc-zero}
 use Rattle.tool.specs.declared.commands.commands.Options.{Options}
 use Rattle.tool.specs.declared.commands.commands.Command.{Command}
 use Rattle.tool.specs.declared.commands.commands.Command.TheVariants.{Vectorise, Graph, Run77, Run90}
-use Rattle.tool.specs.commands.Command.{number_of, attached_number, and_final, and_steps, and_option, options_of, command_of}
+use Rattle.tool.specs.declared.commands.commands.Request.{Request}
+use Rattle.tool.specs.declared.commands.commands.Request.TheVariants.{OnDeck, Make}
+use Rattle.tool.specs.commands.Command.{number_of, attached_number, and_final, and_steps, and_option, options_of, command_of, few_nests, nests_of, request_of}
 use Rattle.tool.proofs.commands.Joined.{made, options_of-option}
 
 cond_both : {A : Type 0} (t : Bool) (x y v w : A) → x ≡ y → v ≡ w → cond t x v ≡ cond t y w
@@ -42,11 +44,35 @@ command_of-append a b more others x y e f (w ∷ front) =
     (ap (λ o. cond (bytes_eq w (codes "run77")) (option_map Run77 o)
     (cond (bytes_eq w (codes "run90")) (option_map Run90 o) None)) (options_of-append a b more others x y e front)))
 
-pub command_of-attached : (front words : List (List ℕ)) (number : List ℕ)
-    → command_of (front ++ ((codes "--steps=" ++ number) ∷ words)) ≡ command_of (front ++ (codes "--steps" ∷ number ∷ words))
-command_of-attached front words number =
-    command_of-append (codes "--steps=" ++ number) (codes "--steps") words (number ∷ words) refl refl
-    (options_of-option (codes "--steps=" ++ number) words refl) refl front
+-- words that are no number don't stand behind `make`
+nests_of-append : (a b : List ℕ) (more others : List (List ℕ)) → number_of a ≡ None → number_of b ≡ None
+    → (front : List (List ℕ)) → nests_of (front ++ (a ∷ more)) ≡ nests_of (front ++ (b ∷ others))
+nests_of-append a b more others x y [] = none (length more == 0) a x ∙ sym (none (length others == 0) b y)
+  where
+    none : (t : Bool) (word : List ℕ) → number_of word ≡ None → cond t (few_nests (number_of word)) None ≡ None
+    none true word z = ap few_nests z
+    none false word z = refl
+nests_of-append a b more others x y (w ∷ front) =
+    ap (λ t. cond t (few_nests (number_of w)) None) (some_more front more a ∙ sym (some_more front others b))
+
+request_of-append : (a b : List ℕ) (more others : List (List ℕ)) → number_of a ≡ None → number_of b ≡ None
+    → options_of (a ∷ more) ≡ options_of (b ∷ others) → command_of (a ∷ more) ≡ command_of (b ∷ others)
+    → bytes_eq a (codes "make") ≡ false → bytes_eq b (codes "make") ≡ false
+    → (front : List (List ℕ)) → request_of (front ++ (a ∷ more)) ≡ request_of (front ++ (b ∷ others))
+request_of-append a b more others x y e f k l [] =
+    ap (λ t. cond t (option_map Make (nests_of more)) (option_map OnDeck (command_of (a ∷ more)))) k
+    ∙ (ap (option_map OnDeck) f
+    ∙ sym (ap (λ t. cond t (option_map Make (nests_of others)) (option_map OnDeck (command_of (b ∷ others)))) l))
+request_of-append a b more others x y e f k l (w ∷ front) =
+    cond_both (bytes_eq w (codes "make")) _ _ _ _
+    (ap (option_map Make) (nests_of-append a b more others x y front))
+    (ap (option_map OnDeck) (command_of-append a b more others x y e f (w ∷ front)))
+
+pub request_of-attached : (front words : List (List ℕ)) (number : List ℕ)
+    → request_of (front ++ ((codes "--steps=" ++ number) ∷ words)) ≡ request_of (front ++ (codes "--steps" ∷ number ∷ words))
+request_of-attached front words number =
+    request_of-append (codes "--steps=" ++ number) (codes "--steps") words (number ∷ words) refl refl
+    (options_of-option (codes "--steps=" ++ number) words refl) refl refl refl front
 
 final_and_steps : (n : Option ℕ) (r : Option Options) → and_final (and_steps n r) ≡ and_steps n (and_final r)
 final_and_steps None r = refl
@@ -59,13 +85,13 @@ final_and_steps (Some n) (Some o) = parts n o.final_store o.steps
     parts n false None = refl
     parts n false (Some m) = refl
 
-pub command_of-order : (front words : List (List ℕ)) (number : List ℕ)
-    → command_of (front ++ (codes "--final" ∷ codes "--steps" ∷ number ∷ words))
-    ≡ command_of (front ++ (codes "--steps" ∷ number ∷ codes "--final" ∷ words))
-command_of-order front words number =
-    command_of-append (codes "--final") (codes "--steps") (codes "--steps" ∷ number ∷ words) (number ∷ codes "--final" ∷ words) refl refl
+pub request_of-order : (front words : List (List ℕ)) (number : List ℕ)
+    → request_of (front ++ (codes "--final" ∷ codes "--steps" ∷ number ∷ words))
+    ≡ request_of (front ++ (codes "--steps" ∷ number ∷ codes "--final" ∷ words))
+request_of-order front words number =
+    request_of-append (codes "--final") (codes "--steps") (codes "--steps" ∷ number ∷ words) (number ∷ codes "--final" ∷ words) refl refl
     (final_and_steps (number_of number) (options_of words)
-    ∙ ap (and_steps (number_of number)) (sym (options_of-option (codes "--final") words refl))) refl front
+    ∙ ap (and_steps (number_of number)) (sym (options_of-option (codes "--final") words refl))) refl refl refl front
 
 -- ---- how many words a command has
 
@@ -151,7 +177,7 @@ command-length false false true d k r c h e = few_options Run77 k r c h e
 command-length false false false true k r c h e = few_options Run90 k r c h e
 command-length false false false false k r c h e = absurd (cc)
 
-pub length-command : (words : List (List ℕ)) (c : Command) → command_of words ≡ Some c → length words ≤ 4
+length-command : (words : List (List ℕ)) (c : Command) → command_of words ≡ Some c → length words ≤ 4
 length-command [] c e = omega arith
 length-command (w ∷ words) c e =
     let vectorises = bytes_eq w (codes "vectorise") in
@@ -161,3 +187,26 @@ length-command (w ∷ words) c e =
     let k : length words ≤ 3 =
     command-length vectorises lists runs runs_later (length words) (options_of words) c (take_all words) e in
     omega arith
+
+-- `make` has one word behind it
+length-numbers : (words : List (List ℕ)) (r : Request) → option_map Make (nests_of words) ≡ Some r → length words ≤ 3
+length-numbers [] r e = omega arith
+length-numbers (word ∷ words) r e = by (length words) (few_nests (number_of word)) e
+  where
+    by : (k : ℕ) (n : Option ℕ) → option_map Make (cond (k == 0) n None) ≡ Some r → suc k ≤ 3
+    by zero n e = omega arith
+    by (suc k) n e =
+        let none : ◌≡◌ {A = Option Request} None (Some r) = ap (λ (t : Bool). option_map Make (cond t n None)) (sym (eqb-suc-zero k)) ∙ e in
+        absurd (cc)
+
+on_deck : (o : Option Command) (r : Request) → option_map OnDeck o ≡ Some r → (c : Command) × (o ≡ Some c)
+on_deck None r e = absurd (cc)
+on_deck (Some c) r e = (c, refl)
+
+pub length-request : (words : List (List ℕ)) (r : Request) → request_of words ≡ Some r → length words ≤ 4
+length-request [] r e = omega arith
+length-request (w ∷ words) r e = by (bytes_eq w (codes "make")) e
+  where
+    by : (t : Bool) → cond t (option_map Make (nests_of words)) (option_map OnDeck (command_of (w ∷ words))) ≡ Some r → length (w ∷ words) ≤ 4
+    by true e = let k = length-numbers words r e in omega arith
+    by false e = let d = on_deck (command_of (w ∷ words)) r e in length-command (w ∷ words) d.0 d.1

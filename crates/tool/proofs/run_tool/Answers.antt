@@ -1,15 +1,28 @@
 use Rattle.std.proofs.Common.{◌≡◌, List, Some, ap, sym, subst, ◌∙◌}
 use Rattle.std.specs.Prelude.{String}
 use Rattle.std.specs.declared.alloc.Global.{Global}
-use Rattle.tool.specs.commands.Command.{texts, command_of}
+use Rattle.tool.specs.commands.Command.{texts, request_of}
+use Rattle.tool.specs.declared.commands.commands.Request.TheVariants.{OnDeck, Make}
 use Rattle.tool.specs.report.Notes.{note_of, status_of}
-use Rattle.tool.proofs.Top.{for_words, for_command, part_or_whole, note_given}
+use Rattle.generator.specs.Decks.{deck_of}
+use Rattle.tool.proofs.Top.{for_words, for_command, for_making, part_or_whole, note_given}
 use Rattle.tool.proofs.Statuses.{silent, silent_without_memory, whole_text}
+use Rattle.tool.proofs.MadeDecks as made
 use Rattle.tool.proofs.Top as top
 use Rattle.tool.proofs.run_tool.Goals as goal
 
+pub returns-clause-usage : goal.returns-clause-usage
+returns-clause-usage g c = (
+  λ q. top.usage _ _ c.work-outcome.result c.status.result c.status.ensures (for_words _ _ _ _ c.as_slice.ensures.value c.work-outcome.ensures.ended) q,
+  λ none. top.usage_only _ _ c.work-outcome.result c.status.result c.status.ensures (for_words _ _ _ _ c.as_slice.ensures.value c.work-outcome.ensures.ended) none,
+)
+
+pub returns-clause-unread : goal.returns-clause-unread
+returns-clause-unread g c q =
+    c.work-outcome.ensures.unread (top.usage _ _ c.work-outcome.result c.status.result c.status.ensures c.work-outcome.ensures.ended q)
+
 pub returns-clause-whole : goal.returns-clause-whole
-returns-clause-whole g c = top.whole _ _ c.work-outcome.result c.status.result c.status.ensures c.work-outcome.ensures.ended
+returns-clause-whole g c a k = top.whole a _ c.work-outcome.result c.status.result c.status.ensures (for_command _ a _ _ k (for_words _ _ _ _ c.as_slice.ensures.value c.work-outcome.ensures.ended))
 
 pub returns-clause-whole_refused : goal.returns-clause-whole_refused
 returns-clause-whole_refused g c a k = top.whole_refused a _ c.work-outcome.result c.status.result c.status.ensures (for_command _ a _ _ k (for_words _ _ _ _ c.as_slice.ensures.value c.work-outcome.ensures.ended))
@@ -54,7 +67,7 @@ pub returns-clause-ran : goal.returns-clause-ran
 returns-clause-ran g c a run k = top.ran a run _ c.work-outcome.result c.status.result c.status.ensures (for_command _ a _ _ k (for_words _ _ _ _ c.as_slice.ensures.value c.work-outcome.ensures.ended))
 
 pub returns-clause-faulted : goal.returns-clause-faulted
-returns-clause-faulted g c = top.faulted _ _ c.work-outcome.result c.status.result c.status.ensures (for_words _ _ _ _ c.as_slice.ensures.value c.work-outcome.ensures.ended)
+returns-clause-faulted g c a k = top.faulted a _ c.work-outcome.result c.status.result c.status.ensures (for_command _ a _ _ k (for_words _ _ _ _ c.as_slice.ensures.value c.work-outcome.ensures.ended))
 
 pub returns-clause-limited : goal.returns-clause-limited
 returns-clause-limited g c = top.at_limit _ _ c.work-outcome.result c.status.result c.status.ensures (for_words _ _ _ _ c.as_slice.ensures.value c.work-outcome.ensures.ended)
@@ -64,6 +77,37 @@ returns-clause-run_part g c a run k = top.run_part a run _ c.work-outcome.result
 
 pub returns-clause-part_without_memory : goal.returns-clause-part_without_memory
 returns-clause-part_without_memory g c a run k = top.part_without_memory a run _ c.work-outcome.result c.status.result c.status.ensures (for_command _ a _ _ k (for_words _ _ _ _ c.as_slice.ensures.value c.work-outcome.ensures.ended))
+
+pub returns-clause-made_answers : goal.returns-clause-made_answers
+returns-clause-made_answers g c n k = made.answers (deck_of n) _ _ _ _ c.work-outcome.result c.status.result c.status.ensures (for_making _ n _ _ k (for_words _ _ _ _ c.as_slice.ensures.value c.work-outcome.ensures.ended))
+
+pub returns-clause-made : goal.returns-clause-made
+returns-clause-made g c n k q = made.done (deck_of n) _ _ _ _ c.work-outcome.result c.status.result c.status.ensures (for_making _ n _ _ k (for_words _ _ _ _ c.as_slice.ensures.value c.work-outcome.ensures.ended)) q
+
+pub returns-clause-made_faulted : goal.returns-clause-made_faulted
+returns-clause-made_faulted g c n k q = made.faulted (deck_of n) _ _ _ _ c.work-outcome.result c.status.result c.status.ensures (for_making _ n _ _ k (for_words _ _ _ _ c.as_slice.ensures.value c.work-outcome.ensures.ended)) q
+
+pub returns-clause-made_part : goal.returns-clause-made_part
+returns-clause-made_part g c n k q = made.part (deck_of n) _ _ _ _ c.work-outcome.result c.status.result c.status.ensures (for_making _ n _ _ k (for_words _ _ _ _ c.as_slice.ensures.value c.work-outcome.ensures.ended)) q
+
+pub returns-clause-made_little : goal.returns-clause-made_little
+returns-clause-made_little g c n k q = made.little (deck_of n) _ _ _ _ c.work-outcome.result c.status.result c.status.ensures (for_making _ n _ _ k (for_words _ _ _ _ c.as_slice.ensures.value c.work-outcome.ensures.ended)) q
+
+pub returns-clause-made_refused : goal.returns-clause-made_refused
+returns-clause-made_refused g c n k q = made.refused (deck_of n) _ _ _ _ c.work-outcome.result c.status.result c.status.ensures (for_making _ n _ _ k (for_words _ _ _ _ c.as_slice.ensures.value c.work-outcome.ensures.ended)) q
+
+pub returns-clause-made_never_done : goal.returns-clause-made_never_done
+returns-clause-made_never_done g c n k r refused = made.never_done (deck_of n) _ _ _ _ c.work-outcome.result c.status.result c.status.ensures (for_making _ n _ _ k (for_words _ _ _ _ c.as_slice.ensures.value c.work-outcome.ensures.ended)) r refused
+
+pub returns-clause-made_runs : goal.returns-clause-made_runs
+returns-clause-made_runs g c n k q = made.runs_into_fault (deck_of n) _ _ _ _ c.work-outcome.result c.status.result c.status.ensures (for_making _ n _ _ k (for_words _ _ _ _ c.as_slice.ensures.value c.work-outcome.ensures.ended)) q
+
+pub returns-clause-made_done : goal.returns-clause-made_done
+returns-clause-made_done g c n k well still = made.complete (deck_of n) _ _ _ _ c.work-outcome.result c.status.result c.status.ensures (for_making _ n _ _ k (for_words _ _ _ _ c.as_slice.ensures.value c.work-outcome.ensures.ended)) well still
+
+pub returns-clause-apart : goal.returns-clause-apart
+returns-clause-apart g c n k =
+    c.work-outcome.ensures.apart n (subst (λ (ws : List (String Global)). request_of (texts ws) ≡ Some (Make n)) (sym c.as_slice.ensures.value) k)
 
 pub returns-clause-nothing : goal.returns-clause-nothing
 returns-clause-nothing g c m = c.work-outcome.ensures.untouched (silent _ c.work-outcome.result c.status.result c.status.ensures m)
@@ -83,7 +127,7 @@ returns-clause-passed_on g c whole = c.work-outcome.ensures.passed (whole_text c
 
 pub returns-clause-textless : goal.returns-clause-textless
 returns-clause-textless g c a runs k held =
-    c.work-outcome.ensures.textless a runs (subst (λ (ws : List (String Global)). command_of (texts ws) ≡ Some a) (sym c.as_slice.ensures.value) k) held
+    c.work-outcome.ensures.textless a runs (subst (λ (ws : List (String Global)). request_of (texts ws) ≡ Some (OnDeck a)) (sym c.as_slice.ensures.value) k) held
 
 pub returns-clause-faults : goal.returns-clause-faults
 returns-clause-faults g c a run k = top.faults a run _ c.work-outcome.result c.status.result c.status.ensures (for_command _ a _ _ k (for_words _ _ _ _ c.as_slice.ensures.value c.work-outcome.ensures.ended))

@@ -10,6 +10,9 @@ use Rattle.std.specs.declared.alloc.Global.{Global}
 use Rattle.tool.specs.declared.commands.commands.Options.{Options}
 use Rattle.tool.specs.declared.commands.commands.Command.{Command}
 use Rattle.tool.specs.declared.commands.commands.Command.TheVariants.{Vectorise, Graph, Run77, Run90}
+use Rattle.tool.specs.declared.commands.commands.Request.{Request}
+use Rattle.tool.specs.declared.commands.commands.Request.TheVariants.{OnDeck, Make}
+use Rattle.generator.specs.Decks.{most_nests}
 
 abbrev pub texts : List (String Global) → List (List ℕ)
 texts words = map (λ word. string_bytes word) words
@@ -57,7 +60,7 @@ options_of (word ∷ number ∷ words) =
 abbrev pub alone : Command → List (List ℕ) → Option Command
 alone command words = if length words == 0 then Some command else None
 
--- the command of these words, or none
+-- the command of these words that is given a deck, or none
 abbrev pub command_of : List (List ℕ) → Option Command
 command_of [] = None
 command_of (word ∷ words) =
@@ -65,3 +68,22 @@ command_of (word ∷ words) =
     else if bytes_eq word (codes "graph") then alone Graph words
     else if bytes_eq word (codes "run77") then option_map Run77 (options_of words)
     else (if bytes_eq word (codes "run90") then option_map Run90 (options_of words) else None)
+
+-- ---- the command `make N`, which is given no deck
+
+-- one to so many nests
+abbrev pub few_nests : Option ℕ → Option ℕ
+few_nests None = None
+few_nests (Some n) = if nat_le 1 n && nat_le n most_nests then Some n else None
+
+-- how many nests the words behind `make` ask for
+abbrev pub nests_of : List (List ℕ) → Option ℕ
+nests_of [] = None
+nests_of (word ∷ words) = if length words == 0 then few_nests (number_of word) else None
+
+-- what these words ask for, or nothing
+abbrev pub request_of : List (List ℕ) → Option Request
+request_of [] = None
+request_of (word ∷ words) =
+    if bytes_eq word (codes "make") then option_map Make (nests_of words)
+    else option_map OnDeck (command_of (word ∷ words))

@@ -13,7 +13,7 @@ pub struct Options {
     pub steps: Option<u64>,
 }
 
-/// What the program is asked to do.
+/// What is done with a deck.
 #[derive(Clone, Copy, Debug, PartialEq, Eq)]
 pub enum Command {
     /// The deck is translated.
@@ -24,6 +24,15 @@ pub enum Command {
     Run77(Options),
     /// The deck of Fortran 90 is run.
     Run90(Options),
+}
+
+/// What the words after the program's name ask for.
+#[derive(Clone, Copy, Debug, PartialEq, Eq)]
+pub enum Request {
+    /// The command is given the deck.
+    OnDeck(Command),
+    /// A deck of so many nests is made, and the translation of it is run.
+    Make(u32),
 }
 
 impl Options {

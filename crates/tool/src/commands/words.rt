@@ -1,9 +1,12 @@
 //! Reads the words of a command.
-ghost use Rattle.std.specs.Prelude.{◌≡◌};
-ghost use Rattle.tool.specs.commands.Command.{texts, options_of, command_of};
+ghost use Rattle.std.specs.Prelude.{◌≡◌, ◌≤◌, ℕ, Some, IfSome};
+ghost use Rattle.generator.specs.Decks.{most_nests};
+ghost use Rattle.tool.specs.commands.Command.{texts, options_of, command_of, few_nests, nests_of, request_of};
 
-use crate::commands::commands::{Command, Options};
+use crate::commands::commands::{Command, Options, Request};
 use crate::commands::numbers::number;
+
+const MOST_NESTS: u64 = 500;
 
 fn options(words: &[String]) -> Option<Options>
     ensures { result ≡ options_of (texts words.now) }
@@ -23,8 +26,8 @@ fn options(words: &[String]) -> Option<Options>
     Some(options)
 }
 
-/// The command that the words after the program's name are.
-pub fn command(words: &[String]) -> Option<Command>
+// The command that the words are.
+fn command(words: &[String]) -> Option<Command>
     ensures { result ≡ command_of (texts words.now) }
 {
     let (name, rest) = words.split_first()?;
@@ -35,4 +38,39 @@ pub fn command(words: &[String]) -> Option<Command>
         "run90" => Some(Command::Run90(options(rest)?)),
         _ => None,
     }
+}
+
+// So many nests, if they are 1 to 500.
+fn few(nests: u64) -> Option<u32>
+    ensures nests { result ≡ few_nests (Some nests) }
+    ensures few { IfSome result (λ nests. nests ≤ most_nests) }
+{
+    if nests < 1 || nests > MOST_NESTS {
+        return None;
+    }
+    Some(nests as u32)
+}
+
+// How many nests the words behind `make` ask for.
+fn nests(words: &[String]) -> Option<u32>
+    ensures nests { result ≡ nests_of (texts words.now) }
+    ensures few { IfSome result (λ nests. nests ≤ most_nests) }
+{
+    let (digits, more) = words.split_first()?;
+    if !more.is_empty() {
+        return None;
+    }
+    few(number(digits.as_str())?)
+}
+
+/// What the words after the program's name ask for.
+pub fn request(words: &[String]) -> Option<Request>
+    ensures request { result ≡ request_of (texts words.now) }
+    ensures few { (n : ℕ) → result ≡ Some (Request.Make n) → n ≤ most_nests }
+{
+    let (name, numbers) = words.split_first()?;
+    if name.as_str() == "make" {
+        return Some(Request::Make(nests(numbers)?));
+    }
+    Some(Request::OnDeck(command(words)?))
 }

@@ -22,14 +22,15 @@ use Rattle.translation.specs.nest_blocks.LoopAnswers.{Answer, IsRight, IsTransla
 
 translated : (n m : Nest) (g : Graph) (ps : Pieces) → IsTranslation n m g ps → IsTranslatedNest n m (translation m ps)
 translated n m g ps h = record {
-  made = h.made;
-  alone = h.alone;
-  graph = g;
-  is_graph = h.graph;
-  holds = all_holds m;
-  all = all_are_holds m;
+  passed = record { made = h.made; alone = h.alone };
   pieces = ps;
-  emitted = h.emitted;
+  are = record {
+    graph = g;
+    is_graph = h.graph;
+    holds = all_holds m;
+    all = all_are_holds m;
+    emitted = h.emitted;
+  };
   block = refl;
 }
 

@@ -21,7 +21,8 @@ use Rattle.meaning_laws.proofs.profiles.Stores.{opening_holds}
 use Rattle.meaning_laws.proofs.dialects.MadeNames.{opening_agrees}
 use Rattle.translation.specs.placed_loops.Beside.{AreBeside, DoesAs}
 use Rattle.translation.specs.placed_loops.Laws.{PlacedLoopsKeepMeaning}
-use Rattle.translation.specs.placed_loops.Placed.{one, HasNoLabel, StandsFor, ArePlaced, IsPlaced}
+use Rattle.prepared_runs.specs.Unlabelled.{HasNoLabel}
+use Rattle.translation.specs.placed_loops.Placed.{one, StandsFor, ArePlaced, IsPlaced}
 use Rattle.translation.proofs.PlacedLoops.Passing.{IsElsewhere, evaluates_passed, does_then, EachIn, each_in, front_in, back_in}
 use Rattle.translation.proofs.PlacedLoops.Passing.{block_passed}
 use Rattle.translation.proofs.PlacedLoops.Steady.{steady_assignment, steady_read, steady_print}

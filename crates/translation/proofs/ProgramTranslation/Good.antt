@@ -37,7 +37,7 @@ use Rattle.translation.specs.nest_blocks.Blocks.{AreNestBlocks, IsBlockOfLoop}
 use Rattle.find_nests.specs.nest_parts.Numbers.{next}
 use Rattle.translation.proofs.NestProfile.Law.{translation_is_of_profile}
 use Rattle.translation.specs.nest_profile.Laws.{TranslationIsOfProfile}
-use Rattle.translation.proofs.NestTranslation.Endings.{last_values_end}
+use Rattle.prepared_runs.proofs.LastEndings.{last_values_end}
 use Rattle.translation.proofs.NestTranslation.Translation.{translation_does_as_loop}
 use Rattle.nest.specs.Allocations.{block_then}
 use Rattle.nest.specs.Bodies.{nest_loops}
@@ -146,7 +146,7 @@ module _ (within : WithMadeNames) (profile : TranslationIsOfProfile) (p q : Prog
 
     counters : All (λ (l : Loop). IsSomeAnd (declared rs l.variable) IsCounter) (nest_loops is_block.normal)
     counters = λ j d i. declared_counter _ (All-from_recursion (λ (l : Loop). IsNumbered l.variable) (nest_loops is_block.normal)
-        (variables_numbered p rs is_block.nest is_block.normal program with_counters.more is_block.among is_block.translated.made) j d i)
+        (variables_numbered p rs is_block.nest is_block.normal program with_counters.more is_block.among is_block.translated.passed.made) j d i)
 
     small : is_block.nest.number < 2 ^ 32
     small =
@@ -173,14 +173,14 @@ module _ (within : WithMadeNames) (profile : TranslationIsOfProfile) (p q : Prog
         by d n (inr o) = inr (subst IsNumbered (ap (λ (c : Declaration). c.name) o.is ∙ n) (all_at IsNumbered every_counter o.name each_numbered o.among))
 
     alone : HasLoopsAlone is_block.nest.body
-    alone = (normal_nests_are_plain p is_block.nest is_block.normal program is_block.among is_block.translated.made is_block.translated.alone).0
+    alone = (normal_nests_are_plain p is_block.nest is_block.normal program is_block.among is_block.translated.passed.made is_block.translated.passed.alone).0
 
     loop_unlabelled : IsWithoutLabels loop.loop.loop.body
     loop_unlabelled = source_unlabelled (next loop.loop.before) loop.loop.loop.body (subst (λ (n : Nest). HasLoopsAlone n.body) found_nest.is alone)
 
     after_is : is_block.normal.after ≡ behind is_block.nest
     after_is =
-        (made_of is_block.nest is_block.normal is_block.translated.made).after
+        (made_of is_block.nest is_block.normal is_block.translated.passed.made).after
         ∙ ap (λ (n : Nest). block_then n.after (behind is_block.nest)) found_nest.is
 
     block_unlabelled : IsWithoutLabels b

@@ -13,7 +13,7 @@ use Rattle.tree.specs.Plain.{Print, Allocate, Deallocate, Block, arm, no_arms, n
 use Rattle.tree.specs.declared.stmts.Mark.{Mark}
 use Rattle.find_nests.specs.nest_parts.Numbers.{after, next}
 use Rattle.find_nests.specs.nest_parts.Statements.{parts_of, parts_of_block}
-use Rattle.translation.proofs.NestTranslation.Endings.{AreEndings, IsEnding}
+use Rattle.prepared_nests.specs.After.{AreEndings, IsEnding}
 use Rattle.nest.specs.Allocations.{allocation_then, allocations_then, block_then, deallocation_then, deallocations}
 use Rattle.nest.specs.Plain.{Made, Nest, parts}
 use Rattle.translation.specs.placed_profile.Laws.{IsWithoutLabels}

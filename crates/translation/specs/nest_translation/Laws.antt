@@ -1,16 +1,10 @@
 -- The meaning of what stands in the place of a nest.
-use Rattle.std.specs.Prelude.{◌≡◌, Some, All, List, IsSomeAnd, length, Contains}
-use Rattle.std.specs.List.{range_with_len}
+use Rattle.std.specs.Prelude.{◌≡◌, All, IsSomeAnd, Contains}
 use Rattle.tree.specs.Plain.{Block, Program}
-use Rattle.dependence_graph.specs.declared.graphs.Graph.{Graph}
-use Rattle.dependence_graph.specs.declared.graphs.Hold.{Hold}
-use Rattle.emission.specs.emission_forms.Forms.{AreAllHolds}
-use Rattle.emission.specs.emission_pieces.Emission.{AreEmitted}
 use Rattle.emission.specs.emission_pieces.Pieces.{Pieces, translation}
 use Rattle.find_nests.specs.Found.{InNest, found_in}
 use Rattle.find_nests.specs.Laws.{IsFoundNest}
 use Rattle.find_nests.specs.Loops.{as_statement}
-use Rattle.pass_laws.specs.found_sources.Alone.{HasLoopsAlone}
 use Rattle.meaning.specs.Agreement.{names_in_block}
 use Rattle.meaning.specs.Blocks.{Surroundings}
 use Rattle.meaning.specs.Dialect.{fortran77}
@@ -18,25 +12,20 @@ use Rattle.meaning.specs.Profile77.{IsProgram77}
 use Rattle.meaning.specs.Profile90.{IsBlock}
 use Rattle.meaning.specs.Store.{names_of}
 use Rattle.meaning.specs.Typed.{declared}
-use Rattle.normal_loops.specs.Normalised.{normalised}
-use Rattle.dependence_graph.specs.nest_graph.Graph.{IsGraphOf}
-use Rattle.nest.specs.Bodies.{nest_loops, nest_statements}
+use Rattle.nest.specs.Bodies.{nest_loops}
 use Rattle.nest.specs.Plain.{Loop, Nest}
 use Rattle.pass_laws.specs.normal_facts.Laws.{IsCounter}
+use Rattle.prepared_runs.specs.Running.{ArePiecesOf}
+use Rattle.prepared_runs.specs.Unlabelled.{HasNoLabel}
+use Rattle.listing.specs.programs.Passed.{IsPassedAs}
 use Rattle.translation.specs.placed_loops.Beside.{DoesAs}
-use Rattle.translation.specs.placed_loops.Placed.{HasNoLabel}
 use Rattle.meaning_laws.specs.profiles.Profiles.{AddMadeNames}
 
--- b is what is emitted for the normal form m of the nest n, by a graph of it and all its holds
+-- b is what is emitted, by a graph and all holds, for the nest m that the passes make of n
 pub record IsTranslatedNest (n m : Nest) (b : Block) : Type 0 where
-  pub made : normalised n ≡ Some m
-  pub alone : HasLoopsAlone m.body
-  pub graph : Graph
-  pub is_graph : IsGraphOf m graph
-  pub holds : List Hold
-  pub all : AreAllHolds m holds
+  pub passed : IsPassedAs n m
   pub pieces : Pieces
-  pub emitted : AreEmitted m graph.edges holds 1 (range_with_len 0 (length (nest_statements m))) pieces
+  pub are : ArePiecesOf m pieces
   pub block : b ≡ translation m pieces
 
 -- p is a program of FORTRAN 77 with the nest n. q has its names and those of the block b, which is one of q's profile,

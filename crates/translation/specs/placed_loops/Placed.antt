@@ -1,20 +1,12 @@
 -- Blocks in which other statements stand in the place of some loops.
-use Rattle.std.specs.Prelude.{◌≡◌, ◌⊎◌, ⊤}
-use Rattle.tree.specs.Plain.{Statement, If, Do, Label, Arms, no_arms, arm, Block, no_statements, statement, Program}
+use Rattle.std.specs.Prelude.{◌≡◌, ◌⊎◌}
+use Rattle.tree.specs.Plain.{Statement, If, Do, Arms, no_arms, arm, Block, no_statements, statement, Program}
 use Rattle.nest.specs.Allocations.{block_then}
+use Rattle.prepared_runs.specs.Unlabelled.{HasNoLabel}
 use Rattle.translation.specs.placed_loops.Beside.{DoesAs}
 
 abbrev pub one : Statement → Block
 one c = statement c no_statements
-
--- none of its statements is a label, so that a run which jumps on passes them all
-abbrev pub IsNoLabel : Statement → Type 0
-IsNoLabel (Label n) = ⊥
-IsNoLabel _ = ⊤
-
-abbrev pub HasNoLabel : Block → Type 0
-HasNoLabel no_statements = ⊤
-HasNoLabel (statement c cs) = IsNoLabel c × HasNoLabel cs
 
 module _ (p q : Program) where
   -- a block without labels that does what a loop does, in its place; or the loop itself with such blocks in it

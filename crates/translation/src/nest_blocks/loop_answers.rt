@@ -1,22 +1,19 @@
 //! What is said of a loop, and what stands in its place.
-ghost use Rattle.std.specs.Prelude.{◌≡◌, IfOk, None, Some, map};
+ghost use Rattle.std.specs.Prelude.{IfOk, None, map};
 ghost use Rattle.std.specs.Option.{option_map};
 ghost use Rattle.f90_print.specs.Notes.{text_of};
 ghost use Rattle.find_nests.specs.Found.{InNest};
 ghost use Rattle.find_nests.specs.View.{found_of};
+ghost use Rattle.listing.specs.programs.Passed.{IsPassed, IsPassedNest};
 ghost use Rattle.listing.specs.programs.Sources.{IsFoundInSource, IsNestOfSource};
-ghost use Rattle.pass_laws.specs.found_sources.Alone.{HasLoopsAlone};
 ghost use Rattle.tree.specs.View.{block_of};
-ghost use Rattle.normal_loops.specs.Normalised.{normalised};
-ghost use Rattle.nest.specs.Plain.{Nest as Plain};
 ghost use Rattle.nest.specs.View.{nest_of};
 ghost use Rattle.translation.specs.nest_blocks.LoopAnswers.{IsAnswerTo};
 
 use emission::nest_emission::emit;
 use find_nests::Found;
-use listing::programs::{is_alone, kept_loop, not_built, test};
+use listing::programs::{Passed, kept_loop, not_built, passes};
 use nest::Nest;
-use normal_loops::normalise;
 use std::alloc::Global;
 use tree::{Block, Line, Memory, Seq};
 
@@ -27,15 +24,15 @@ pub struct Answer {
     pub block: Option<Block>,
 }
 
-// For a nest that was made of this one, which is loops and statements alone.
-fn translated(alloc: Global, found: &Nest, nest: &Nest) -> Result<Answer, Memory>
+// For a nest of which this one was made, which is loops and statements alone.
+fn translated(alloc: Global, found: &Nest, passed: Passed) -> Result<Answer, Memory>
     requires source { IsNestOfSource (nest_of found.now) }
-    requires made { normalised (nest_of found.now) ≡ Some (nest_of nest.now) }
-    requires alone { HasLoopsAlone (nest_of nest.now).body }
+    requires passed { IsPassed (nest_of found.now) passed }
     ensures { IfOk result (λ a.
         IsAnswerTo (InNest (nest_of found.now)) (map text_of a.lines) (option_map block_of a.block)) }
 {
-    let tests = test(alloc, found.number, nest)?;
+    let tests = passed.tests;
+    let nest: &Nest = &passed.nest;
     let block = emit(alloc, nest, &tests.graph, &tests.holds)?;
     Ok(Answer {
         lines: tests.lines,
@@ -45,7 +42,7 @@ fn translated(alloc: Global, found: &Nest, nest: &Nest) -> Result<Answer, Memory
 
 // For a nest that isn't tested so far.
 fn untested(alloc: Global, found: &Nest) -> Result<Answer, Memory>
-    requires { (m : Plain) → normalised (nest_of found.now) ≡ Some m → HasLoopsAlone m.body → ⊥ }
+    requires { IsPassedNest (nest_of found.now) None }
     ensures { IfOk result (λ a.
         IsAnswerTo (InNest (nest_of found.now)) (map text_of a.lines) (option_map block_of a.block)) }
 {
@@ -61,13 +58,10 @@ fn nest_answer(alloc: Global, found: &Nest) -> Result<Answer, Memory>
     ensures { IfOk result (λ a.
         IsAnswerTo (InNest (nest_of found.now)) (map text_of a.lines) (option_map block_of a.block)) }
 {
-    let Some(nest) = normalise(alloc, found)? else {
-        return untested(alloc, found);
-    };
-    if !is_alone(&nest.body) {
-        return untested(alloc, found);
+    match passes(alloc, found)? {
+        Some(passed) => translated(alloc, found, passed),
+        None => untested(alloc, found),
     }
-    translated(alloc, found, &nest)
 }
 
 /// The answer to what was found in a program of FORTRAN 77: a kept loop and a nest that isn't tested so far stay as

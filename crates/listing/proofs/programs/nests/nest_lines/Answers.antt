@@ -1,18 +1,19 @@
-use Rattle.std.proofs.Common.{◌≡◌, ap, sym, ◌∙◌, None}
-use Rattle.std.specs.Option.{option_map}
+use Rattle.std.proofs.Common.{subst, None}
 use Rattle.nest.specs.View.{nest_of}
-use Rattle.normal_loops.specs.Normalised.{normalised}
-use Rattle.listing.proofs.programs.Entries.{untested}
-use Rattle.listing.proofs.programs.Sources.{few_of_source, never_listed}
+use Rattle.listing.specs.programs.Passed.{IsPassed, IsPassedNest}
+use Rattle.listing.proofs.programs.Entries.{tested, untested}
+use Rattle.listing.proofs.programs.Sources.{none_listed, passed_is_listed}
 use Rattle.listing.proofs.programs.nests.nest_lines.Goals as goal
 
-pub normalise-requires : goal.normalise-requires
-normalise-requires c = few_of_source (nest_of c.args.found.now) c.requires
+pub returns-in-Some : goal.returns-in-Some
+returns-in-Some c =
+    let p : IsPassed (nest_of c.args.found.now) c.in-Some.passed
+    = subst (IsPassedNest (nest_of c.args.found.now)) c.in-Some.is c.in_ok-passed.ensures in
+    let nest = nest_of c.in-Some.passed.nest.value in
+    tested (nest_of c.args.found.now) nest _ _ _ (passed_is_listed (nest_of c.args.found.now) nest p.passed) p.tests
 
-pub returns-in_default : goal.returns-in_default
-returns-in_default c =
-    let none : normalised (nest_of c.args.found.now) ≡ None = sym (c.in_ok-nest.ensures) ∙ ap (option_map nest_of) c.in_default.is in
-    untested c.not_built.result (nest_of c.args.found.now) (never_listed (nest_of c.args.found.now) none) c.not_built.ensures
-
-pub normal_lines-requires-clause-made : goal.normal_lines-requires-clause-made
-normal_lines-requires-clause-made c = sym (c.in_ok-nest.ensures) ∙ ap (option_map nest_of) c.in-Some.is
+pub returns-in-None : goal.returns-in-None
+returns-in-None c =
+    let none : IsPassedNest (nest_of c.args.found.now) None
+    = subst (IsPassedNest (nest_of c.args.found.now)) c.in-None.is c.in_ok-passed.ensures in
+    untested c.not_built.result (nest_of c.args.found.now) (none_listed (nest_of c.args.found.now) none) c.not_built.ensures

@@ -1,5 +1,5 @@
-use Rattle.tool.proofs.commands.WordLaws.{command_of-order}
+use Rattle.tool.proofs.commands.WordLaws.{request_of-order}
 use Rattle.tool.proofs.commands.laws.options_in_any_order.Goals as goal
 
 pub returns : goal.returns
-returns c = command_of-order
+returns c = request_of-order

@@ -1,21 +1,23 @@
-use Rattle.std.proofs.Common.{ap}
+use Rattle.std.proofs.Common.{subst, sym}
+use Rattle.emission.specs.emission_pieces.Emission.{IsEmission}
+use Rattle.emission.specs.nest_emission.Given.{MayBeEmitted}
 use Rattle.tree.specs.View.{block_of}
 use Rattle.nest.specs.View.{nest_of}
-use Rattle.listing.proofs.programs.Sources.{testable}
+use Rattle.nest.specs.declared.nests.Nest.{Nest}
 use Rattle.translation.proofs.NestBlocks.Answering.{may_be_emitted, translated}
 use Rattle.translation.proofs.nest_blocks.loop_answers.translated.Goals as goal
 
-pub test-requires : goal.test-requires
-test-requires c =
-    testable (nest_of c.args.found.now) (nest_of c.args.nest.now) c.requires.source c.requires.made c.requires.alone
-
 pub emit-requires : goal.emit-requires
 emit-requires c =
-    may_be_emitted (nest_of c.args.found.now) (nest_of c.args.nest.now) c.in_ok-tests.tests.graph c.requires.source
-    c.requires.made c.in_ok-tests.ensures.graph
+    let graph = c.args.passed.tests.graph in
+    subst (λ (n : Nest). MayBeEmitted (nest_of n) graph) (sym c.deref-nest.ensures)
+    (may_be_emitted (nest_of c.args.found.now) (nest_of c.args.passed.nest.value) graph c.requires.source
+    c.requires.passed.passed.made c.requires.passed.tests.graph)
 
 pub returns : goal.returns
 returns c =
-    translated (nest_of c.args.found.now) (nest_of c.args.nest.now) c.in_ok-tests.tests.graph
-    c.in_ok-tests.tests.holds _ (block_of c.in_ok-block.block) c.requires.made c.requires.alone c.in_ok-tests.ensures
-    c.in_ok-block.ensures
+    let tests = c.args.passed.tests in
+    let block = block_of c.in_ok-block.block in
+    translated (nest_of c.args.found.now) (nest_of c.args.passed.nest.value) tests.graph tests.holds _ block
+    c.requires.passed.passed.made c.requires.passed.passed.alone c.requires.passed.tests
+    (subst (λ (n : Nest). IsEmission (nest_of n) tests.graph tests.holds block) c.deref-nest.ensures c.in_ok-block.ensures)

@@ -4,4 +4,4 @@ use Rattle.translation.proofs.NestBlocks.Answering.{untested}
 use Rattle.translation.proofs.nest_blocks.loop_answers.untested.Goals as goal
 
 pub returns : goal.returns
-returns c = untested (nest_of c.args.found.now) _ _ c.requires c.in_ok-not_built.ensures refl
+returns c = untested (nest_of c.args.found.now) _ _ (λ m made alone. c.requires m (record { made = made; alone = alone })) c.in_ok-not_built.ensures refl

@@ -1,0 +1,2 @@
+pub mod DeckTexts
+pub mod DrawLaws

@@ -1,0 +1,60 @@
+-- When statements may take the place of other ones: the law of each pass.
+use Rattle.std.specs.Prelude.{◌≡◌, ℕ, ℤ, None, Option, List}
+use Rattle.tree.specs.Plain.{Block, Program}
+use Rattle.meaning.specs.Dialect.{fortran77}
+use Rattle.meaning.specs.Holding.{HoldsProgram}
+use Rattle.meaning.specs.Run.{State, Going, does_all}
+use Rattle.meaning.specs.Store.{Agree}
+use Rattle.rewrite.specs.Following.{IsSound}
+
+-- Where statements are run: all names are declared, also those that passes have made so far, and made arrays are
+-- allocated already. A made name may be a scalar before a pass and an array behind it
+pub record Place : Type 0 where
+  pub program : Program
+  pub bounds : List ℕ → Option (List (ℤ × ℤ))
+
+-- a moment in such a place
+pub record Starts (w : Place) (s : State) : Type 0 where
+  pub going : s.way ≡ Going
+  pub holds : HoldsProgram fortran77 w.program s.store
+  pub bounds_are : (x : List ℕ) → s.store.bounds x ≡ w.bounds x
+
+-- both runs go on, with stores that agree on p, and the same in all else but the number of steps
+pub record GoOnAlike (p : Program) (s t : State) : Type 0 where
+  pub going : s.way ≡ Going
+  pub agree : Agree p s.store t.store
+  pub rest : t ≡ record s { store = t.store; steps = t.steps }
+
+-- From moments that agree on p, where b meets no fault in its place, neither does c in its own, and they come to
+-- moments that agree on p
+abbrev pub MayStandFor : Program → Place → Block → Place → Block → Type 0
+MayStandFor p w b x c = (s t : State) → Starts w s → Starts x t → GoOnAlike p s t
+    → IsSound (does_all fortran77 None b s).way
+    → GoOnAlike p (does_all fortran77 None b s) (does_all fortran77 None c t)
+
+-- for each moment in the one place there is one in the other that agrees with it
+pub record Beginning (p : Program) (x : Place) (s : State) : Type 0 where
+  pub state : State
+  pub starts : Starts x state
+  pub alike : GoOnAlike p s state
+
+abbrev pub MayBegin : Program → Place → Place → Type 0
+MayBegin p w x = (s : State) → Starts w s → Beginning p x s
+
+-- one pass after another
+abbrev pub OneAfterAnother : Type 0
+OneAfterAnother = (p : Program) (v w x : Place) (b c d : Block) → MayBegin p v w
+    → MayStandFor p v b w c → MayStandFor p w c x d → MayStandFor p v b x d
+
+-- statements that come from stores that agree on p to such stores may stand for themselves
+abbrev pub KeepsAgreement : Program → Place → Block → Type 0
+KeepsAgreement p w b = (s t : State) → Starts w s → Starts w t → GoOnAlike p s t
+    → IsSound (does_all fortran77 None b s).way
+    → GoOnAlike p (does_all fortran77 None b s) (does_all fortran77 None b t)
+
+-- what stands for something keeps agreement, so a pass that leaves a nest as it is needs no proof of its own
+abbrev pub WhatStandsKeepsAgreement : Type 0
+WhatStandsKeepsAgreement = (p : Program) (w x : Place) (b c : Block)
+    → MayStandFor p w b x c → (s : State) (t u : State) → Starts w s → Starts x t → Starts x u
+    → GoOnAlike p s t → GoOnAlike p s u → IsSound (does_all fortran77 None b s).way
+    → GoOnAlike p (does_all fortran77 None c t) (does_all fortran77 None c u)

@@ -1,0 +1,10 @@
+pub mod Lists
+pub mod Walks
+pub mod Trips
+pub mod Ranks
+pub mod Ready
+pub mod Emitted
+pub mod Regular
+pub mod Facts
+pub mod FormFacts
+pub mod Normal

@@ -1,0 +1,16 @@
+pub mod Symbols
+pub mod CounterNames
+pub mod Straight
+pub mod Endings
+pub mod LastEndings
+pub mod Pieces
+pub mod Counters
+pub mod Together
+pub mod LoopsEnd
+pub mod Instances
+pub mod Found
+pub mod Blocks
+pub mod LoopPlaces
+pub mod FitPieces
+pub mod Writable
+pub mod Profile
