@@ -1,4 +1,4 @@
--- A statement without a guard, of a nest that can be tested, has an array form at each of its levels.
+-- A statement of a nest that can be tested has an array form at each of its levels.
 use Rattle.std.proofs.Common.{ℕ, suc, ◌+◌, ◌-◌, ◌<◌, ◌≤◌, ◌^◌, Option, Some, None, List, [], ◌∷◌, length, arith}
 use Rattle.std.specs.Prelude.{All, IsSomeAnd}
 use Rattle.std.proofs.lemmas.List.Elements.{All-cons, All-nil}
@@ -23,7 +23,7 @@ trip_form d m (Some t) more h = record {
 }
 trip_form d m None more h = absurd h
 
-trip_forms : (d m : ℕ) (ls : List Loop) → d + length ls ≤ m → HaveTrips d ls
+pub trip_forms : (d m : ℕ) (ls : List Loop) → d + length ls ≤ m → HaveTrips d ls
     → All (λ l. IsForm m (known_trip l.trip).top) ls
 trip_forms d m [] more h = All-nil (λ (l : Loop). IsForm m (known_trip l.trip).top)
 trip_forms d m (l ∷ ls) more h =

@@ -2,11 +2,12 @@
 //! loops from being nests. The others ask of each nest, with a line for each kept loop: `linear` for the right sides of
 //! its statements as linear forms, `normal` for the nest once its loops go from 1 by 1, with what runs after it,
 //! `references` for the references of that nest, their loops' spans and their subscripts as linear forms, `vectors` for
-//! what the tests say of each two references, `components` for the classes of its statements at each level, and `forms`
-//! for the array forms of its statements at each level, or what forbids them. What is asked by `printed` is a text of
-//! Fortran 90, which is printed.
+//! what the tests say of each two references, `components` for the classes of its statements at each level, `forms` for
+//! the array forms of its statements at each level, or what forbids them, and `guarded` for these and what is emitted
+//! where its IFs are guards. What is asked by `printed` is a text of Fortran 90, which is printed.
 use crate::couples::push_vectors;
 use crate::forms::push_forms;
+use crate::guards::push_guarded;
 use crate::levels::push_components;
 use crate::linear::push_linear;
 use crate::names::push_block_names;
@@ -39,6 +40,7 @@ fn push_normal_answer(
         "vectors" => push_vectors(out, alloc, nest),
         "components" => push_components(out, alloc, nest),
         "forms" => push_forms(out, alloc, nest),
+        "guarded" => push_guarded(out, alloc, nest),
         _ => push(out, b"no question\n"),
     }
 }

@@ -89,7 +89,7 @@ fn push_level(
 // Adds what is so at each level of a statement.
 fn push_levels(out: &mut Vec<u8>, alloc: Global, s: u32, nest: &Nest) -> Result<(), Memory> {
     if !is_plain_statement(alloc, s, nest)? {
-        return push(out, b"guarded\n");
+        return push(out, b"no holds\n");
     }
     let held = holds(alloc, s, nest)?;
     for outer in 0..loops_round(alloc, s, nest)? {

@@ -2,14 +2,15 @@
 //! can be compared with another program that answers them. The first line of the input is the question; a deck follows,
 //! or for `pairings` lines of pairs of subscripts. `decks` and `questions` say what may be asked.
 //!
-//! Proved answers questions on decks (the nest after a pass, holds and array forms by level, references, vectors,
-//! components, linear forms, reasons, names, a text as it is printed again) and on pairs of subscripts: a program for
-//! the rows of `rows/`, without contracts but safety.
+//! Proved answers questions on decks (the nest after a pass, holds and array forms by level, what is emitted where IFs
+//! are guards, references, vectors, components, linear forms, reasons, names, a text as it is printed again) and on
+//! pairs of subscripts: a program for the rows of `rows/`, without contracts but safety.
 #![tactic(auto)]
 
 mod couples;
 mod decks;
 mod forms;
+mod guards;
 mod levels;
 mod linear;
 mod names;

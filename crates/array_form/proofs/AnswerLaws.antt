@@ -5,22 +5,25 @@ use Rattle.std.specs.Prelude.{IfOk, IsTrue}
 use Rattle.std.specs.List.{list_all}
 use Rattle.std.proofs.lemmas.Bool.Decides.{Decides-eqb}
 use Rattle.std.proofs.lemmas.List.Elements.{All-append}
-use Rattle.tree.specs.Plain.{Assignment, Expression, Named, Only, Reference, Subscript, subscripts}
-use Rattle.tree.specs.View.{expression_of, reference_of, statement_of, subscript_of}
+use Rattle.tree.specs.Plain.{Statement, Assignment, Where, If, no_arms, arm, Block, no_statements, Expression, Named, Only, Reference, Subscript, subscripts}
+use Rattle.tree.specs.View.{block_of, expression_of, reference_of, statement_of, subscript_of}
 use Rattle.tree.specs.declared.exprs.Expr.{Expr}
 use Rattle.tree.specs.declared.exprs.Expr.TheVariants as exprs
 use Rattle.tree.specs.declared.exprs.Ref.{Ref, out-Ref, roll-Ref}
 use Rattle.tree.specs.declared.exprs.Sub.{Sub}
 use Rattle.tree.specs.declared.exprs.Sub.TheVariants as subs
 use Rattle.tree.specs.declared.lists.Memory.{Memory}
+use Rattle.tree.specs.declared.stmts.Block.{Block as Block'}
 use Rattle.tree.specs.declared.lists.Seq.{Seq}
 use Rattle.tree.specs.declared.stmts.Mark.{Mark}
 use Rattle.tree.specs.declared.stmts.Stmt.TheVariants as stmts
-use Rattle.tree.proofs.Equations.{expression_of-item, reference_of-is, reference_of-made, statement_of-assign, subscript_of-one}
+use Rattle.tree.proofs.Equations.{expression_of-item, reference_of-is, reference_of-made, statement_of-assign, statement_of-masked, subscript_of-one}
 use Rattle.meaning.specs.Reads.{names_in, names_in_subscript}
 use Rattle.array_form.specs.forms.Forms.{constructed, form, placed, subscript_form, subscript_forms}
 use Rattle.array_form.specs.forms.Loops as forms
-use Rattle.array_form.specs.forms.Statements.{left_form, loops_from, right_form}
+use Rattle.array_form.specs.forms.Statements.{array_assignment, guarded_form, left_form, loops_assigned, loops_from, right_form, stand_in_guard}
+use Rattle.array_form.specs.Statement.{block_of_one, masked_over, under_condition}
+use Rattle.array_form.specs.holds.Surroundings.{counted_of}
 use Rattle.array_form.specs.holds.View.{surroundings_view}
 use Rattle.array_form.specs.declared.holds.loops.Counted.{Counted}
 use Rattle.array_form.specs.declared.holds.loops.Surroundings.{Surroundings}
@@ -190,7 +193,7 @@ module _ (a : Surroundings) where
       → map subscript_of formed ≡ map (form_of_subscript (surroundings_view a) (viewed a one)) (map subscript_of (out-Ref left).subs)
       → expression_of made ≡ form (surroundings_view a) (viewed a two) (expression_of right)
       → statement_of (stmts.Assign line mark (roll-Ref (record { name = (out-Ref left).name; subs = formed })) made)
-      ≡ Assignment line mark (left_form (surroundings_view a) (from + 1) (reference_of left)) (right_form (surroundings_view a) (from + 1) (reference_of left) (expression_of right))
+      ≡ array_assignment (surroundings_view a) (from + 1) line mark (reference_of left) (expression_of right)
   assignment_is from line mark part over one two left right made formed p e o t se me =
       let ps = map subscript_of (out-Ref left).subs in
       let is = reference_of-is left in
@@ -206,3 +209,69 @@ module _ (a : Surroundings) where
       me ∙ ap (λ ls. form (surroundings_view a) ls (expression_of right)) (ap (viewed a) t ∙ here) in
       statement_of-assign line mark (roll-Ref (record { name = (out-Ref left).name; subs = formed })) made ∙ ap₂ (Assignment line mark) left_is right_is
       ∙ ap (λ (q : Reference). Assignment line mark (left_form (surroundings_view a) (from + 1) q) (right_form (surroundings_view a) (from + 1) q (expression_of right))) (sym is)
+
+  -- ---- under a guard
+
+  -- the loops in the order of the left subscripts
+  pub assigned_loops : (from : ℕ) (part over given : List Counted) (left : Ref) → part ≡ drop from a.loops → over ≡ in_order part (map subscript_of (out-Ref left).subs) → given ≡ over
+      → viewed a given ≡ loops_assigned (surroundings_view a) (from + 1) (reference_of left)
+  assigned_loops from part over given left p e g =
+      let ps = map subscript_of (out-Ref left).subs in
+      ap (viewed a) (g ∙ (e ∙ ap (λ ls. in_order ls ps) p)) ∙ order_viewed (length a.loops) (drop from a.loops) ps
+      ∙ ap (λ ls. forms.loops_in_order ls (subscripts ps)) (sym (from_place a from))
+      ∙ ap (λ (q : Reference). loops_assigned (surroundings_view a) (from + 1) q) (sym (reference_of-is left))
+
+  pub masked_is : (line : ℕ) (mark : Option Mark) (over : List Counted) (guard : Expression) (left : Ref) (right : Expression) (mask made : Expr) (formed : Seq Sub)
+      → map subscript_of formed ≡ map (form_of_subscript (surroundings_view a) (viewed a over)) (map subscript_of (out-Ref left).subs)
+      → expression_of mask ≡ form (surroundings_view a) (viewed a over) guard → expression_of made ≡ form (surroundings_view a) (viewed a over) right
+      → statement_of (stmts.Masked line mark mask (roll-Ref (record { name = (out-Ref left).name; subs = formed })) made)
+      ≡ masked_over (surroundings_view a) (viewed a over) line mark guard (reference_of left) right
+  masked_is line mark over guard left right mask made formed se ge me =
+      let ps = map subscript_of (out-Ref left).subs in
+      let D = viewed a over in
+      let left_is : reference_of (roll-Ref (record { name = (out-Ref left).name; subs = formed })) ≡ record { name = (reference_of left).name; subscripts = subscript_forms (surroundings_view a) D (reference_of left).subscripts } =
+      reference_of-made (out-Ref left).name formed
+      ∙ (ap (λ qs. let q : Reference = record { name = (out-Ref left).name; subscripts = qs } in q) (ap subscripts se ∙ sym (each_subscript (surroundings_view a) D ps))
+      ∙ ap (λ (q : Reference). let r : Reference = record { name = q.name; subscripts = subscript_forms (surroundings_view a) D q.subscripts } in r) (sym (reference_of-is left))) in
+      statement_of-masked line mark mask (roll-Ref (record { name = (out-Ref left).name; subs = formed })) made
+      ∙ (ap₂ (λ x (q : Reference). Where line mark x q (expression_of made)) ge left_is ∙ ap (Where line mark (form (surroundings_view a) D guard) (record { name = (reference_of left).name; subscripts = subscript_forms (surroundings_view a) D (reference_of left).subscripts })) me)
+
+  where_is : (from line : ℕ) (mark : Option Mark) (part over given again : List Counted) (guard : Expression) (left : Ref) (right : Expression) (b : Bool) (whole : Block)
+      → part ≡ drop from a.loops → over ≡ in_order part (map subscript_of (out-Ref left).subs) → given ≡ over → again ≡ over
+      → ((n : ℕ) → b ≡ stand_in_guard (map (counted_of n) given) (Some guard)) → b ≡ true
+      → whole ≡ block_of_one (masked_over (surroundings_view a) (viewed a again) line mark guard (reference_of left) right)
+      → whole ≡ block_of_one (guarded_form (surroundings_view a) (from + 1) line mark (Some guard) (reference_of left) right)
+  where_is from line mark part over given again guard left right b whole p e g h is t w =
+      let D = loops_assigned (surroundings_view a) (from + 1) (reference_of left) in
+      let stands : stand_in_guard D (Some guard) ≡ true = ap (λ ls. stand_in_guard ls (Some guard)) (sym (assigned_loops from part over given left p e g)) ∙ (sym (is (length a.loops)) ∙ t) in
+      w ∙ ap (λ ls. block_of_one (masked_over (surroundings_view a) ls line mark guard (reference_of left) right)) (assigned_loops from part over again left p e h)
+      ∙ ap (λ c. block_of_one (cond c (masked_over (surroundings_view a) D line mark guard (reference_of left) right) (If line (arm guard (block_of_one (array_assignment (surroundings_view a) (from + 1) line mark (reference_of left) right)) no_arms) no_statements))) (sym stands)
+
+  if_is : (from line : ℕ) (mark : Option Mark) (part over given : List Counted) (guard : Expression) (left : Ref) (right : Expression) (b : Bool) (whole body : Block)
+      → part ≡ drop from a.loops → over ≡ in_order part (map subscript_of (out-Ref left).subs) → given ≡ over
+      → ((n : ℕ) → b ≡ stand_in_guard (map (counted_of n) given) (Some guard)) → b ≡ false
+      → whole ≡ under_condition line (Some guard) body → body ≡ block_of_one (array_assignment (surroundings_view a) (from + 1) line mark (reference_of left) right)
+      → whole ≡ block_of_one (guarded_form (surroundings_view a) (from + 1) line mark (Some guard) (reference_of left) right)
+  if_is from line mark part over given guard left right b whole body p e g is not_so w inside =
+      let D = loops_assigned (surroundings_view a) (from + 1) (reference_of left) in
+      let stands : stand_in_guard D (Some guard) ≡ false = ap (λ ls. stand_in_guard ls (Some guard)) (sym (assigned_loops from part over given left p e g)) ∙ (sym (is (length a.loops)) ∙ not_so) in
+      w ∙ (ap (under_condition line (Some guard)) inside
+      ∙ ap (λ c. block_of_one (cond c (masked_over (surroundings_view a) D line mark guard (reference_of left) right) (If line (arm guard (block_of_one (array_assignment (surroundings_view a) (from + 1) line mark (reference_of left) right)) no_arms) no_statements))) (sym stands))
+
+  pub where_ok : (from line : ℕ) (mark : Option Mark) (part over given again : List Counted) (guard : Expression) (left : Ref) (right : Expression) (b : Bool) (stmt : Statement) (r : Result Block' Memory)
+      → part ≡ drop from a.loops → over ≡ in_order part (map subscript_of (out-Ref left).subs) → given ≡ over → again ≡ over
+      → ((n : ℕ) → b ≡ stand_in_guard (map (counted_of n) given) (Some guard)) → b ≡ true
+      → stmt ≡ masked_over (surroundings_view a) (viewed a again) line mark guard (reference_of left) right
+      → IfOk r (λ c. block_of c ≡ block_of_one stmt) → IfOk r (λ c. block_of c ≡ block_of_one (guarded_form (surroundings_view a) (from + 1) line mark (Some guard) (reference_of left) right))
+  where_ok from line mark part over given again guard left right b stmt (Ok c) p e g h is t w k = where_is from line mark part over given again guard left right b (block_of c) p e g h is t (k ∙ ap block_of_one w)
+  where_ok from line mark part over given again guard left right b stmt (Err m) p e g h is t w k = k
+
+  pub if_ok : (from line : ℕ) (mark : Option Mark) (part over given : List Counted) (guard copy : Expr) (left : Ref) (right : Expression) (b : Bool) (body : Block) (stmt : Statement) (r : Result Block' Memory)
+      → part ≡ drop from a.loops → over ≡ in_order part (map subscript_of (out-Ref left).subs) → given ≡ over
+      → ((n : ℕ) → b ≡ stand_in_guard (map (counted_of n) given) (Some (expression_of guard))) → b ≡ false → expression_of copy ≡ expression_of guard
+      → body ≡ block_of_one stmt → stmt ≡ array_assignment (surroundings_view a) (from + 1) line mark (reference_of left) right
+      → IfOk r (λ c. block_of c ≡ under_condition line (Some (expression_of copy)) body)
+      → IfOk r (λ c. block_of c ≡ block_of_one (guarded_form (surroundings_view a) (from + 1) line mark (Some (expression_of guard)) (reference_of left) right))
+  if_ok from line mark part over given guard copy left right b body stmt (Ok c) p e g is f same inside made k =
+      if_is from line mark part over given (expression_of guard) left right b (block_of c) body p e g is f (k ∙ ap (λ x. under_condition line (Some x) body) same) (inside ∙ ap block_of_one made)
+  if_ok from line mark part over given guard copy left right b body stmt (Err m) p e g is f same inside made k = k

@@ -1,5 +1,6 @@
 -- A statement of a nest that is asked about.
 use Rattle.std.proofs.Common.{◌≡◌, ℕ, ◌+◌, ◌-◌, ◌<◌, ◌≤◌, List, map, length, get_or, Some, Result, Ok, Err, sym, ap, subst, ◌∙◌, arith}
+use Rattle.std.specs.Option.{option_map}
 use Rattle.std.specs.Prelude.{All, IfOk}
 use Rattle.std.proofs.lemmas.List.{length-map}
 use Rattle.subscripts.specs.Shapes.{IsForm}
@@ -55,13 +56,13 @@ module _ (n : Nest) (s level : ℕ) (all : List Standing) (x : Standing) (a : Su
 
   pub form_ok : (o : Result Block Memory) (mark : Mark) → surroundings_view a ≡ surroundings_of n (map loop_of x.loops)
       → mark ≡ record { nest = n.number; stmt = s; level = level }
-      → IfOk o (λ b. block_of b ≡ array_form_of (surroundings_view a) ((level - 1) + 1) x.stmt.line (Some mark) (reference_of x.stmt.left) (expression_of x.stmt.right))
+      → IfOk o (λ b. block_of b ≡ array_form_of (surroundings_view a) ((level - 1) + 1) x.stmt.line (Some mark) (option_map expression_of x.stmt.guard) (reference_of x.stmt.left) (expression_of x.stmt.right))
       → IfOk o (λ b. block_of b ≡ array_form_at n s level)
   form_ok (Ok b) mark v m g =
       let one = h.from_one in
       let k : (level - 1) + 1 ≡ level = omega arith in
-      g ∙ ap (λ (w : forms.Surroundings). array_form_of w ((level - 1) + 1) x.stmt.line (Some mark) (reference_of x.stmt.left) (expression_of x.stmt.right)) v
-      ∙ ap (λ j. array_form_of (surroundings_of n (map loop_of x.loops)) j x.stmt.line (Some mark) (reference_of x.stmt.left) (expression_of x.stmt.right)) k
-      ∙ ap (λ (q : Mark). array_form_of (surroundings_of n (map loop_of x.loops)) level x.stmt.line (Some q) (reference_of x.stmt.left) (expression_of x.stmt.right)) m
-      ∙ ap (λ (y : bodies.Standing). array_form_of (surroundings_of n y.loops) level y.statement.line (Some (record { nest = n.number; stmt = s; level = level })) y.statement.left y.statement.right) same
+      g ∙ ap (λ (w : forms.Surroundings). array_form_of w ((level - 1) + 1) x.stmt.line (Some mark) (option_map expression_of x.stmt.guard) (reference_of x.stmt.left) (expression_of x.stmt.right)) v
+      ∙ ap (λ j. array_form_of (surroundings_of n (map loop_of x.loops)) j x.stmt.line (Some mark) (option_map expression_of x.stmt.guard) (reference_of x.stmt.left) (expression_of x.stmt.right)) k
+      ∙ ap (λ (q : Mark). array_form_of (surroundings_of n (map loop_of x.loops)) level x.stmt.line (Some q) (option_map expression_of x.stmt.guard) (reference_of x.stmt.left) (expression_of x.stmt.right)) m
+      ∙ ap (λ (y : bodies.Standing). array_form_of (surroundings_of n y.loops) level y.statement.line (Some (record { nest = n.number; stmt = s; level = level })) y.statement.guard y.statement.left y.statement.right) same
   form_ok (Err m) mark v k g = g

@@ -2,7 +2,7 @@
 use Rattle.std.proofs.Common.{◌≡◌, ℕ, ◌+◌, ◌-◌, List, [], ◌∷◌, map, drop, length, Option, Some, None, refl, sym, ap, ◌∙◌, arith}
 use mathlib.Core.Path.{ap₂}
 use Rattle.std.proofs.lemmas.List.{drop-map}
-use Rattle.tree.specs.Plain.{Assignment, Block, Expression, If, Reference, Statement, arm, no_arms, no_statements, statement, subscripts}
+use Rattle.tree.specs.Plain.{Block, Expression, If, Reference, Statement, arm, no_arms, no_statements, statement, subscripts}
 use Rattle.tree.specs.Plain.{block}
 use Rattle.tree.specs.View.{block_of, statement_of}
 use Rattle.tree.specs.declared.lists.Seq.{Seq}
@@ -20,7 +20,7 @@ use Rattle.tree.specs.declared.stmts.Stmt.{Stmt}
 use Rattle.tree.proofs.Equations.{block_of-made}
 use Rattle.tree.specs.declared.stmts.Mark.{Mark}
 use Rattle.array_form.specs.forms.Loops as forms
-use Rattle.array_form.specs.forms.Statements.{and_all, array_form_of, guarded_by, left_form, loops_from, right_form, tests_of}
+use Rattle.array_form.specs.forms.Statements.{and_all, array_form_of, guarded_by, guarded_form, loops_from, tests_of}
 use Rattle.array_form.specs.holds.Surroundings.{counted_of}
 use Rattle.array_form.specs.holds.View.{surroundings_view}
 use Rattle.array_form.specs.declared.holds.loops.Counted.{Counted}
@@ -56,22 +56,22 @@ module _ (a : Surroundings) where
       let e : (from + 1) - 1 ≡ from = omega arith in
       ap (λ n. drop n (map (counted_of (length a.loops)) a.loops)) e ∙ drop-map (counted_of (length a.loops)) from a.loops
 
-  pub statement_is : (from line : ℕ) (mark : Option Mark) (left : Reference) (right : Expression) (whole body : Block) (o : Option Expression) (part : List Counted)
+  pub statement_is : (from line : ℕ) (mark : Option Mark) (guard : Option Expression) (left : Reference) (right : Expression) (whole body : Block) (o : Option Expression) (part : List Counted)
       → part ≡ drop from a.loops → whole ≡ under_condition line o body
       → o ≡ with_tests None (tests_of (forms.names_of (surroundings_view a)) (viewed a part))
-      → body ≡ block_of_one (Assignment line mark (left_form (surroundings_view a) (from + 1) left) (right_form (surroundings_view a) (from + 1) left right))
-      → whole ≡ array_form_of (surroundings_view a) (from + 1) line mark left right
-  statement_is from line mark left right whole body o part p w tests b =
+      → body ≡ block_of_one (guarded_form (surroundings_view a) (from + 1) line mark guard left right)
+      → whole ≡ array_form_of (surroundings_view a) (from + 1) line mark guard left right
+  statement_is from line mark guard left right whole body o part p w tests b =
       w ∙ ap₂ (under_condition line) (tests ∙ ap (λ ls. with_tests None (tests_of (forms.names_of (surroundings_view a)) (viewed a ls))) p ∙ ap (λ ls. with_tests None (tests_of (forms.names_of (surroundings_view a)) ls)) (sym (from_place from))) b
-      ∙ sym (guarded_is line (tests_of (forms.names_of (surroundings_view a)) (loops_from (surroundings_view a) (from + 1))) (block_of_one (Assignment line mark (left_form (surroundings_view a) (from + 1) left) (right_form (surroundings_view a) (from + 1) left right))))
+      ∙ sym (guarded_is line (tests_of (forms.names_of (surroundings_view a)) (loops_from (surroundings_view a) (from + 1))) (block_of_one (guarded_form (surroundings_view a) (from + 1) line mark guard left right)))
 
-pub statement_ok : (a : Surroundings) (from line : ℕ) (mark : Option Mark) (left : Reference) (right : Expression) (r : Result Block' Memory) (body : Block) (condition : Option Expr) (part : List Counted)
+pub statement_ok : (a : Surroundings) (from line : ℕ) (mark : Option Mark) (guard : Option Expression) (left : Reference) (right : Expression) (r : Result Block' Memory) (body : Block) (condition : Option Expr) (part : List Counted)
     → part ≡ drop from a.loops → IfOk r (λ b. block_of b ≡ under_condition line (option_map expression_of condition) body)
     → option_map expression_of condition ≡ with_tests None (tests_of (forms.names_of (surroundings_view a)) (viewed a part))
-    → body ≡ block_of_one (Assignment line mark (left_form (surroundings_view a) (from + 1) left) (right_form (surroundings_view a) (from + 1) left right))
-    → IfOk r (λ b. block_of b ≡ array_form_of (surroundings_view a) (from + 1) line mark left right)
-statement_ok a from line mark left right (Ok b) body condition part p w tests e =
-    statement_is a from line mark left right (block_of b) body (option_map expression_of condition) part p w tests e
-statement_ok a from line mark left right (Err m) body condition part p w tests e = w
+    → body ≡ block_of_one (guarded_form (surroundings_view a) (from + 1) line mark guard left right)
+    → IfOk r (λ b. block_of b ≡ array_form_of (surroundings_view a) (from + 1) line mark guard left right)
+statement_ok a from line mark guard left right (Ok b) body condition part p w tests e =
+    statement_is a from line mark guard left right (block_of b) body (option_map expression_of condition) part p w tests e
+statement_ok a from line mark guard left right (Err m) body condition part p w tests e = w
 
 pub ruleset statement_laws = (from_place, statement_is)

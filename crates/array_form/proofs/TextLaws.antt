@@ -49,14 +49,14 @@ trip_text_is a t e few seven eight h is = is ∙ ap (divided_text (nat_abs t.by)
 
 -- ---- constants
 
-not_none : (k : ℕ) → (k ≡ 0 → ⊥) → (k == 0) ≡ false
+pub not_none : (k : ℕ) → (k ≡ 0 → ⊥) → (k == 0) ≡ false
 not_none k n = from (k == 0) refl
   where
     from : (b : Bool) → (k == 0) ≡ b → b ≡ false
     from true e = absurd (n ((Decides-eqb k 0).0 e))
     from false e = refl
 
-none_in : (cs : List ℤ) → (not_zero cs == 0) ≡ list_all (λ c. int_eq c (pos 0)) cs
+pub none_in : (cs : List ℤ) → (not_zero cs == 0) ≡ list_all (λ c. int_eq c (pos 0)) cs
 none_in [] = refl
 none_in (c ∷ cs) = by (int_eq c (pos 0)) (none_in cs)
   where
@@ -64,7 +64,7 @@ none_in (c ∷ cs) = by (int_eq c (pos 0)) (none_in cs)
     by true h = h
     by false h = not_none (suc (not_zero cs)) (λ e. absurd (omega arith))
 
-all_both : (p : ℤ → Bool) (xs ys : List ℤ) → list_all p (xs ++ ys) ≡ (list_all p xs && list_all p ys)
+pub all_both : (p : ℤ → Bool) (xs ys : List ℤ) → list_all p (xs ++ ys) ≡ (list_all p xs && list_all p ys)
 all_both p xs ys = list_all-append p xs ys
 
 abbrev is_zero : ℤ → Bool
@@ -77,7 +77,7 @@ zero_front zero (x ∷ xs) h =
 zero_front (suc n) [] h = refl
 zero_front (suc n) (x ∷ xs) h = ap (λ b. is_zero x && b) (zero_front n xs (λ k g. h (suc k) (omega arith)))
 
-zeros_pass : (m : ℕ) (c : ℤ) (cs : List ℤ) → int_eq c (pos 0) ≡ false → list_all is_zero (replicate m (pos 0) ++ c ∷ cs) ≡ false
+pub zeros_pass : (m : ℕ) (c : ℤ) (cs : List ℤ) → int_eq c (pos 0) ≡ false → list_all is_zero (replicate m (pos 0) ++ c ∷ cs) ≡ false
 zeros_pass zero c cs h = ap (λ b. b && list_all is_zero cs) h
 zeros_pass (suc m) c cs h = zeros_pass m c cs h
 

@@ -14,3 +14,6 @@ pub mod Constructing
 pub mod Placing
 pub mod Taking
 pub mod Tests
+pub mod Holding
+pub mod Masking
+pub mod Guarding

@@ -2,6 +2,11 @@ pub mod AmongLaws
 pub mod TripLaws
 pub mod LinearLaws
 pub mod FormLaws
+pub mod GuardLaws
 pub mod HoldLaws
+pub mod BoxLaws
+pub mod SameLaws
+pub mod NotedLaws
+pub mod SafeLaws
 pub mod Asked
 pub mod Standing

@@ -1,3 +1,5 @@
 pub mod Composed
+pub mod Giving
 pub mod Instances
 pub mod Known
+pub mod Safe

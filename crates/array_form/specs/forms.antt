@@ -5,3 +5,4 @@ pub mod Statements
 pub mod Instances
 pub mod Following
 pub mod Laws
+pub mod Guarded

@@ -3,4 +3,7 @@ pub mod View
 pub mod Statements
 pub mod Plain
 pub mod Levels
+pub mod Bounds
+pub mod Boxes
+pub mod Noted
 pub mod Holds

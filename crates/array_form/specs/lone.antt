@@ -1,3 +1,4 @@
+pub mod Cells
 pub mod Composed
 pub mod Instances
 pub mod Known

@@ -66,7 +66,7 @@ pub fn trip_text(alloc: Global, a: &Surroundings, trip: Trip) -> Result<Expr, Me
     divided_text(alloc, trip.by.unsigned_abs(), whole)
 }
 
-fn are_zero(numbers: &[i64]) -> bool
+pub(crate) fn are_zero(numbers: &[i64]) -> bool
     ensures { result ≡ list_all (λ c. int_eq c (pos 0)) numbers.now }
 {
     let Some((first, rest)) = numbers.split_first() else {
@@ -76,7 +76,7 @@ fn are_zero(numbers: &[i64]) -> bool
 }
 
 #[tactic(auto, using(crate::proofs::TextLaws::symbol_laws))]
-fn are_unused(symbols: &[(u16, i64)]) -> bool
+pub(crate) fn are_unused(symbols: &[(u16, i64)]) -> bool
     ensures { result ≡ list_all (λ c. int_eq c (pos 0)) (coefficients_from 0 symbols.now) }
 {
     let Some((first, _)) = symbols.split_first() else {

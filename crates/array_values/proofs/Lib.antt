@@ -8,3 +8,5 @@ pub mod Numbers
 pub mod Masks
 pub mod Triplets
 pub mod AxisLaws
+pub mod Counting
+pub mod ExtentCounts

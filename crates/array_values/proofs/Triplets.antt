@@ -18,7 +18,7 @@ use Rattle.array_values.proofs.Steps.{left_of, left_fault, left_more}
 small : (a n : ℕ) → a < n → a / n ≡ 0
 small a n h = ap (λ m. m / n) (let e : a ≡ 0 * n + a = grind arith in e) ∙ div-mul-add 0 n a h
 
-one_more : (m n : ℕ) → 0 < n → (m + n) / n ≡ suc (m / n)
+pub one_more : (m n : ℕ) → 0 < n → (m + n) / n ≡ suc (m / n)
 one_more m n h =
     let d = div-add-mod' m n in
     let r : m % n < n = omega arith in

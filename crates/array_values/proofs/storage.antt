@@ -2,6 +2,8 @@ pub mod Searches
 pub mod Places
 pub mod PlaceLaws
 pub mod PartLaws
+pub mod EmptyBounds
+pub mod HeldBounds
 pub mod OpeningLaws
 pub mod AllocationLaws
 pub mod TargetLaws

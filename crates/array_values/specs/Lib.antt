@@ -1,5 +1,6 @@
 pub mod Answers
 pub mod Arrays
+pub mod Counts
 pub mod Masks
 pub mod Positions
 pub mod Selections

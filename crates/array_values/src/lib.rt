@@ -8,6 +8,7 @@
 //! Bounds and ZeroStep exactly where the definitions have them (`axes`). Want of memory alone is free.
 #![tactic(auto)]
 
+mod counts;
 mod extents;
 mod failure;
 mod known;
@@ -15,6 +16,7 @@ mod prepared;
 mod sections;
 pub mod storage;
 
+pub use counts::Range;
 pub use extents::check_conform;
 pub use failure::Failure;
 pub use known::Known;

@@ -46,7 +46,7 @@ fn along(alloc: Global, dim: Dim, numbers: &[i128]) -> Result<Axis, Failure>
 }
 
 // Whether the numbers of a triplet aren't past its upper bound yet.
-fn goes_on(number: i128, upper: i128, stride: i128) -> bool
+pub(crate) fn goes_on(number: i128, upper: i128, stride: i128) -> bool
     ensures { result ≡ goes_on number upper stride }
 {
     if stride > 0 {

@@ -11,7 +11,7 @@
 //! elements now, its bounds and the values of its elements in column-major order. `store_in` is the store of the
 //! meaning that it stands for: a cell with a place holds the value there, another one what it held when the run began.
 //! An array that is deallocated keeps its values until it is allocated again, as the meaning's store does. Proved of
-//! the public calls, each for any names and any bounds of 64 bits:
+//! the public calls, each for any names and any bounds that a declaration or ALLOCATE gives:
 //!
 //! - `new`: the storage stands for the opening store (`opened`), and each name has its declared kind (`kinds`). The
 //!   names are distinct.
@@ -27,19 +27,22 @@
 //! - `is_scalar`: exactly that the name has no dimensions now.
 //! - `allocate`: Ok exactly where the array isn't allocated, and then the store is `allocated x (1:n ..)` of the old
 //!   one wherever the name's cells hold values of its kind; the fault and an unchanged storage elsewhere; unchanged too
-//!   where there is no memory.
+//!   where there is no memory, which comes only where the array is to have elements.
 //! - `deallocate`: exactly `bounds_of` and `with_bounds x None`.
 //!
-//! An extent outside 64 bits, or more elements than 2^64 - 1, is answered as want of memory.
+//! More elements than 2^64 - 1, or an extent outside 64 bits of an array that has elements, are answered as want of
+//! memory.
 //!
 //! **Each name of the array machine has a list of its own.** Not one list for all declared names: fixed and allocatable
 //! arrays are then one case, and a place is a name's number and an element's number. A run makes its storage anew from
 //! the declarations, so nothing of an earlier run is left in it.
 //!
-//! **An extent outside 64 bits is want of memory.** ALLOCATE answers it so, also where another extent is 0; nothing
-//! that could be done with such an array fits a machine.
+//! **An array without elements takes no memory for its extents.** ALLOCATE may give it extents beyond 64 bits. Nothing
+//! is selected of it, so no numbers are listed: that those of a triplet stand within the bounds is seen from the first
+//! and the last, and how many they are from the stride.
 mod allocation;
 pub mod array_places;
+mod bounds;
 mod cells;
 mod opening;
 mod selected;
@@ -48,6 +51,7 @@ mod slots;
 mod storage;
 mod targets;
 
+pub use bounds::ranges_from_one;
 pub use slots::{Place, Slot};
 pub use storage::Storage;
 pub use targets::Target;

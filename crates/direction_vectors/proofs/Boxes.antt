@@ -11,9 +11,11 @@ use Rattle.subscripts.specs.declared.verdict.Test.TheVariants.{Trip}
 use Rattle.subscripts.specs.declared.verdict.Verdict.{Verdict}
 use Rattle.subscripts.specs.declared.verdict.Verdict.TheVariants.{Never, Pair, Assumed}
 use Rattle.direction_vectors.specs.vector_tests.Refs.{IsRefPair}
+use Rattle.dependence_tests.specs.loop_lines.Verdicts.{IfPair}
+use Rattle.direction_vectors.specs.vector_tests.Ways.{IsExactClass}
 use Rattle.direction_vectors.specs.vector_tests.Words.{IfKept, IfNever, IsDropWord}
 use Rattle.direction_vectors.specs.declared.vector_tests.refs.RefPair.{RefPair}
-use Rattle.direction_vectors.specs.Boxes.{HasRoom, InSkipped, InStarred, IsBox, IsDroppedBox, IsInBox, IsOpenBox, IsTripless, IsUnnamed, IsUnnamedBefore}
+use Rattle.direction_vectors.specs.Boxes.{HasRoom, InSkipped, InStarred, IsBox, IsDroppedBox, IsInBox, IsOpenBox, IsTripless, IsFree, IsFreeBefore}
 use Rattle.direction_vectors.specs.Candidates.{Answer, IsPlain, dir_at}
 use Rattle.direction_vectors.specs.Merged.{IsMerged}
 use Rattle.direction_vectors.specs.Parts.{AreUnder, IsAnswerUnder}
@@ -24,43 +26,49 @@ use Rattle.direction_vectors.proofs.Places.{other_dir, put_dir, put_vector}
 use Rattle.direction_vectors.proofs.Within.{never_in}
 use Rattle.direction_vectors.proofs.Words.{word_in}
 
+-- a pair is given in the exact class alone
+pub exact_of : (r : RefPair) (d : Dirs) (v : Verdict) → IsTested r d v → IfPair v (λ x y. IsExactClass r)
+exact_of r d (Never w) t = tt
+exact_of r d (Pair x y w) t = t.pair.0
+exact_of r d (Assumed w) t = tt
+
 -- ---- one answer
 
 pub record IsSettled (r : RefPair) (d : Dirs) (k n : ℕ) (v : Verdict) (known : Option Test) : Type 0 where
   pub tested : IsTested r d v
   pub kept : IfKept v (λ w. known ≡ None)
   pub trips : (IsTripless v × (n ≡ r.common)) ⊎ InSkipped k n (HasRoom r)
-  pub unnamed : InSkipped k n (λ m. IfKept v (λ w. IsUnnamed r m))
+  pub free : InSkipped k n (λ m. IfKept v (λ w. IsFree r m))
 
 rooms_all : (r : RefPair) (d : Dirs) (k n : ℕ) → IsOpenBox r d k → n ≡ r.common → InSkipped k n (HasRoom r) → InStarred r d (HasRoom r)
 rooms_all r d k n o e s m b h = elim (cases_lt m k) [ inl l ↦ o.rooms m l h | inr l ↦ s m l (omega arith) ]
 
-unnamed_known : (r : RefPair) (d : Dirs) (k : ℕ) (known : Option Test) → known ≡ None → MatchOption known (IsUnnamedBefore r d k) (λ w. IsDroppedBox r d w) → IsUnnamedBefore r d k
-unnamed_known r d k None e h = h
-unnamed_known r d k (Some w) e h = cc
+free_known : (r : RefPair) (d : Dirs) (k : ℕ) (known : Option Test) → known ≡ None → MatchOption known (IsFreeBefore r d k) (λ w. IsDroppedBox r d w) → IsFreeBefore r d k
+free_known r d k None e h = h
+free_known r d k (Some w) e h = cc
 
-unnamed_all : (r : RefPair) (d : Dirs) (k n : ℕ) → n ≡ r.common → IsUnnamedBefore r d k → InSkipped k n (IsUnnamed r) → InStarred r d (IsUnnamed r)
-unnamed_all r d k n e u s m b h = elim (cases_lt m k) [ inl l ↦ u m l h | inr l ↦ s m l (omega arith) ]
+free_all : (r : RefPair) (d : Dirs) (k n : ℕ) → n ≡ r.common → IsFreeBefore r d k → InSkipped k n (IsFree r) → InStarred r d (IsFree r)
+free_all r d k n e u s m b h = elim (cases_lt m k) [ inl l ↦ u m l h | inr l ↦ s m l (omega arith) ]
 
 pub is_box : (r : RefPair) (d : Dirs) (k n : ℕ) (v : Verdict) (known : Option Test) → IsOpenBox r d k → IsSettled r d k n v known → n ≡ r.common
-    → MatchOption known (IsUnnamedBefore r d k) (λ w. IsDroppedBox r d w) → IsBox r d v
+    → MatchOption known (IsFreeBefore r d k) (λ w. IsDroppedBox r d w) → IsBox r d v
 is_box r d k n (Never w) known o t e h = record {
   vector = o.vector;
   trips = elim t.trips [
     | inl a ↦ inl (let f : w ≡ Trip = cc in subst (λ (z : Test). IsDropWord r d z) f t.tested.dropped)
     | inr s ↦ inr (rooms_all r d k n o e s)
   ];
-  unnamed = tt;
+  free = tt;
 }
 is_box r d k n (Pair x y w) known o t e h = record {
   vector = o.vector;
   trips = elim t.trips [ inl a ↦ let f = a.0 in cc | inr s ↦ inr (rooms_all r d k n o e s) ];
-  unnamed = unnamed_all r d k n e (unnamed_known r d k known t.kept h) t.unnamed;
+  free = free_all r d k n e (free_known r d k known t.kept h) t.free;
 }
 is_box r d k n (Assumed w) known o t e h = record {
   vector = o.vector;
   trips = elim t.trips [ inl a ↦ let f = a.0 in cc | inr s ↦ inr (rooms_all r d k n o e s) ];
-  unnamed = unnamed_all r d k n e (unnamed_known r d k known t.kept h) t.unnamed;
+  free = free_all r d k n e (free_known r d k known t.kept h) t.free;
 }
 
 -- ---- from a later place on
@@ -142,18 +150,18 @@ module _ (r : RefPair) (d : Dirs) (k n : ℕ) (v : Verdict) (known : Option Test
         word = λ a. word_in r d (with_dir d n e) w part_in (λ x y. a y) u.dropped;
       }
 
-  part_unnamed : known ≡ None → ((m : ℕ) → k ≤ m → m < n → IsUnnamed r m) → MatchOption known (IsUnnamedBefore r d k) (λ w. IsDroppedBox r d w) → IsUnnamedBefore r (with_dir d n e) (n + 1)
-  part_unnamed f g h m l a =
+  part_free : known ≡ None → ((m : ℕ) → k ≤ m → m < n → IsFree r m) → MatchOption known (IsFreeBefore r d k) (λ w. IsDroppedBox r d w) → IsFreeBefore r (with_dir d n e) (n + 1)
+  part_free f g h m l a =
       let q = before_split m l a in
       let below = q.0 in
-      elim (cases_lt m k) [ inl x ↦ unnamed_known r d k known f h m x q.1 | inr x ↦ g m x below ]
+      elim (cases_lt m k) [ inl x ↦ free_known r d k known f h m x q.1 | inr x ↦ g m x below ]
 
-  kept_unnamed : (u : Verdict) → IfNever u (λ w. ⊥) → IfKept u (λ w. known ≡ None) → InSkipped k n (λ m. IfKept u (λ w. IsUnnamed r m)) → MatchOption known (IsUnnamedBefore r d k) (λ w. IsDroppedBox r d w) → IsUnnamedBefore r (with_dir d n e) (n + 1)
-  kept_unnamed (Never w) x f g h = absurd x
-  kept_unnamed (Pair i j w) x f g h = part_unnamed f g h
-  kept_unnamed (Assumed w) x f g h = part_unnamed f g h
+  kept_free : (u : Verdict) → IfNever u (λ w. ⊥) → IfKept u (λ w. known ≡ None) → InSkipped k n (λ m. IfKept u (λ w. IsFree r m)) → MatchOption known (IsFreeBefore r d k) (λ w. IsDroppedBox r d w) → IsFreeBefore r (with_dir d n e) (n + 1)
+  kept_free (Never w) x f g h = absurd x
+  kept_free (Pair i j w) x f g h = part_free f g h
+  kept_free (Assumed w) x f g h = part_free f g h
 
-  pub part_known : (word : Option Test) → MatchOption word (IfNever v (λ w. ⊥)) (λ w. v ≡ Never w) → MatchOption known (IsUnnamedBefore r d k) (λ w. IsDroppedBox r d w)
-      → MatchOption word (IsUnnamedBefore r (with_dir d n e) (n + 1)) (λ w. IsDroppedBox r (with_dir d n e) w)
-  part_known None x h = kept_unnamed v x t.kept t.unnamed h
+  pub part_known : (word : Option Test) → MatchOption word (IfNever v (λ w. ⊥)) (λ w. v ≡ Never w) → MatchOption known (IsFreeBefore r d k) (λ w. IsDroppedBox r d w)
+      → MatchOption word (IsFreeBefore r (with_dir d n e) (n + 1)) (λ w. IsDroppedBox r (with_dir d n e) w)
+  part_known None x h = kept_free v x t.kept t.free h
   part_known (Some w) x h = part_dropped w x

@@ -20,7 +20,7 @@ use Rattle.direction_vectors.proofs.vector_tests.Meetings.{region_of, subscript_
 use Rattle.direction_vectors.proofs.vector_tests.Standing.{in_vector, seven}
 use Rattle.direction_vectors.specs.vector_tests.Pairs.{IsMeeting}
 use Rattle.direction_vectors.specs.vector_tests.Refs.{IsRefPair, IsSubscriptOf, IsVectorOf}
-use Rattle.direction_vectors.specs.vector_tests.Ways.{HasNoTrip, IsRefutedByOneLoop, IsRefutedByPair, IsRefutedVector}
+use Rattle.direction_vectors.specs.vector_tests.Ways.{HasNoTrip, IsExactClass, IsRefutedByOneLoop, IsRefutedByPair, IsRefutedVector}
 use Rattle.direction_vectors.specs.declared.vector_tests.refs.RefPair.{RefPair}
 use Rattle.direction_vectors.specs.Answers.{AreAssumed, AreDropped, AreMet, IsRight}
 use Rattle.direction_vectors.specs.Candidates.{Allows, IsCovered, IsPlain}
@@ -28,7 +28,8 @@ use Rattle.direction_vectors.specs.Unions.{IsTested}
 use Rattle.direction_vectors.proofs.Turns.{HasNoneStarred, in_vector_of, moved, moved_difference, moved_first, moved_second}
 use Rattle.direction_vectors.proofs.Within.{inside, meets_box, never_in, no_trip_out}
 use Rattle.direction_vectors.proofs.Words.{word_in}
-use Rattle.direction_vectors.specs.Boxes.{HasRoom, InStarred, IsBox, IsUnnamed}
+use Rattle.direction_vectors.specs.Boxes.{HasRoom, InStarred, IsBox, IsFree, IsUnnamed}
+use Rattle.direction_vectors.proofs.Freeing.{meets_in}
 
 dropped : (r : RefPair) (d : Dirs) (w : Test) → IsBox r d (Never w) → IsTested r d (Never w) → AreDropped r d w
 dropped r d w b t = record {
@@ -44,13 +45,6 @@ module _ (r : RefPair) (d : Dirs) (c : IsRefPair r) (vd : IsVectorOf r d) (rooms
 
   none_starred : (i : ℕ) (q : Pairing) → i < length r.subs → IsTrue (get_or r.subs i q).known → HasNoneStarred r d (get_or r.subs i q)
   none_starred i q b k m l e = unnamed m l e i q b k
-
-  meets_there : (u : Dirs) (x y : List ℤ) → IsCovered r d u → IsMeeting r d x y → IsMeeting r u (seven (moved_first d u x)) (seven (moved_second d u y))
-  meets_there u x y k m = record {
-    within = in_vector r u (moved_first d u x) (moved_second d u y) c (moved r d u x y c vd k (no_trips u k) m.within);
-    values = m.values;
-    equal = λ i q b s. sym (moved_difference r d u (get_or r.subs i q) k (none_starred i q b s) m.values x y m.within.first.places m.within.second.places) ∙ m.equal i q b s;
-  }
 
   one_sided_out : (u : Dirs) (p : Pairing) → IsCovered r d u → IsSubscriptOf r p → HasNoneStarred r d p → IsOneSided p u → IsOneSided p d
   one_sided_out u p k s n o =
@@ -210,17 +204,20 @@ met r d x y w c b t =
     let trips : HasNoTrip r d → ⊥ = λ h. no_trip_never r d c b.vector h x.at y.at m in
     record {
       exact = t.pair.0;
-      each = λ u k. (seven (moved_first d u x.at), (seven (moved_second d u y.at), meets_there r d c b.vector b.trips b.unnamed trips u x.at y.at k m));
+      each = λ u k. meets_in r d u x.at y.at c b.vector t.pair.0 k (λ h. elim b.trips [ inl a ↦ trips a | inr s ↦ trips (no_trip_out r d u (inside r d u k) s h) ]) b.free m;
       vector = here.vector;
       covered = here.covered;
       meeting = here.meeting;
       least = λ u i j k n. t.pair.1.least i j (meets_box r d u i j (inside r d u k) n);
     }
 
+unnamed_all : (r : RefPair) (d : Dirs) → (IsExactClass r → ⊥) → InStarred r d (IsFree r) → InStarred r d (IsUnnamed r)
+unnamed_all r d n f m l e = elim (f m l e) [ inl u ↦ u | inr s ↦ absurd (n s.0) ]
+
 assumed : (r : RefPair) (d : Dirs) (w : Test) → IsRefPair r → IsBox r d (Assumed w) → IsTested r d (Assumed w) → AreAssumed r d
 assumed r d w c b t = record {
   inexact = t.assumed.0;
-  unrefuted = λ u k h. t.assumed.1 (refuted_out r d c b.vector b.trips b.unnamed (λ a. t.assumed.1 (inl a)) u k h);
+  unrefuted = λ u k h. t.assumed.1 (refuted_out r d c b.vector b.trips (unnamed_all r d t.assumed.0 b.free) (λ a. t.assumed.1 (inl a)) u k h);
 }
 
 pub answers_box : (r : RefPair) (d : Dirs) (v : Verdict) → IsRefPair r → IsBox r d v → IsTested r d v → IsRight r d v

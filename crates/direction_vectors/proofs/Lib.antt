@@ -4,6 +4,7 @@ pub mod Uniting
 pub mod Within
 pub mod Words
 pub mod Turns
+pub mod Freeing
 pub mod Boxing
 pub mod Boxes
 pub mod Listing

@@ -9,8 +9,9 @@ use Rattle.subscripts.specs.declared.verdict.Test.TheVariants.{Trip}
 use Rattle.subscripts.specs.declared.verdict.Verdict.{Verdict}
 use Rattle.subscripts.specs.declared.verdict.Verdict.TheVariants.{Never}
 use Rattle.direction_vectors.specs.vector_tests.Pairs.{NeverMeet}
+use Rattle.direction_vectors.specs.vector_tests.Places.{HasEachDirection}
 use Rattle.direction_vectors.specs.vector_tests.Refs.{IsVectorOf}
-use Rattle.direction_vectors.specs.vector_tests.Ways.{EndsBefore, HasNoTrip}
+use Rattle.direction_vectors.specs.vector_tests.Ways.{EndsBefore, HasNoTrip, IsExactClass}
 use Rattle.direction_vectors.specs.vector_tests.Words.{IfKept, IsDropWord}
 use Rattle.direction_vectors.specs.declared.vector_tests.refs.RefPair.{RefPair}
 use Rattle.direction_vectors.specs.Candidates.{Covers, dir_at}
@@ -23,16 +24,21 @@ HasRoom r m = EndsBefore (pos 2) (slice_index_or r.from_spans m once) → ⊥
 abbrev pub IsUnnamed : RefPair → ℕ → Type 0
 IsUnnamed r m = All (λ p. IsTrue p.known → HasNoneAt p m) r.subs
 
+-- where a box is kept, its answer doesn't hang on the place
+abbrev pub IsFree : RefPair → ℕ → Type 0
+IsFree r m = IsUnnamed r m ⊎ (IsExactClass r × HasEachDirection r m)
+
 -- what holds of each place with `*`
 abbrev pub InStarred : RefPair → Dirs → (ℕ → Type 0) → Type 0
 InStarred r d P = (m : ℕ) → m < r.common → dir_at d m ≡ Any → P m
 
 -- a vector whose places with `*` the answer doesn't hang on: each direction has iterations there, unless some loop has
--- none whatever the directions there; and where it isn't dropped, no subscript pair has a coefficient there
+-- none whatever the directions there; and where it isn't dropped, no subscript pair has a coefficient there, or in the
+-- exact class each direction has a solution
 pub record IsBox (r : RefPair) (d : Dirs) (v : Verdict) : Type 0 where
   pub vector : IsVectorOf r d
   pub trips : HasNoTrip r d ⊎ InStarred r d (HasRoom r)
-  pub unnamed : IfKept v (λ w. InStarred r d (IsUnnamed r))
+  pub free : IfKept v (λ w. InStarred r d (IsFree r))
 
 -- a box in a box, or a vector in one
 pub record IsInBox (r : RefPair) (d u : Dirs) : Type 0 where
@@ -46,9 +52,9 @@ pub record IsOpenBox (r : RefPair) (d : Dirs) (k : ℕ) : Type 0 where
   pub starred : (m : ℕ) → k ≤ m → dir_at d m ≡ Any
   pub rooms : (m : ℕ) → m < k → dir_at d m ≡ Any → HasRoom r m
 
--- no subscript pair has a coefficient in a place with `*` before place k
-abbrev pub IsUnnamedBefore : RefPair → Dirs → ℕ → Type 0
-IsUnnamedBefore r d k = (m : ℕ) → m < k → dir_at d m ≡ Any → IsUnnamed r m
+-- the places with `*` before place k are free
+abbrev pub IsFreeBefore : RefPair → Dirs → ℕ → Type 0
+IsFreeBefore r d k = (m : ℕ) → m < k → dir_at d m ≡ Any → IsFree r m
 
 -- the references never meet in the box, and the word is one that it may bear, unless a loop has no iteration
 pub record IsDroppedBox (r : RefPair) (d : Dirs) (w : Test) : Type 0 where

@@ -3,11 +3,13 @@
 ghost use Rattle.std.specs.Prelude.{◌≡◌, ◌<◌, ◌≤◌, ◌↔◌, false, None, All, IfOk, IsTrue, MatchOption};
 ghost use Rattle.std.specs.Prelude.{[], ◌∷◌, ◌⊎◌};
 ghost use Rattle.dependence_tests.specs.loop_lines.OneLoop.{HasNoneAt};
+ghost use Rattle.dependence_tests.specs.loop_lines.Verdicts.{IfPair};
 ghost use Rattle.subscripts.specs.declared.verdict.Verdict.TheVariants.{Never};
 ghost use Rattle.direction_vectors.specs.vector_tests.Refs.{IsRefPair, IsVectorOf};
+ghost use Rattle.direction_vectors.specs.vector_tests.Ways.{IsExactClass};
 ghost use Rattle.direction_vectors.specs.vector_tests.Words.{IfKept, IfNever};
-ghost use Rattle.direction_vectors.specs.Boxes.{HasRoom, InSkipped, IsDroppedBox, IsOpenBox, IsTripless, IsUnnamed};
-ghost use Rattle.direction_vectors.specs.Boxes.{IsUnnamedBefore};
+ghost use Rattle.direction_vectors.specs.Boxes.{HasRoom, InSkipped, IsDroppedBox, IsFree, IsFreeBefore};
+ghost use Rattle.direction_vectors.specs.Boxes.{IsOpenBox, IsTripless};
 ghost use Rattle.direction_vectors.specs.Parts.{AreUnder};
 ghost use Rattle.direction_vectors.specs.Unions.{IsTested};
 
@@ -45,30 +47,46 @@ fn is_named(ps: &[Pairing], place: usize) -> bool
     false
 }
 
+// Whether the answer to a box of the exact class may hang on the direction in this place.
+fn is_bound(refs: &RefPair, place: usize) -> bool
+    requires refs { IsRefPair refs.now }
+    requires exact { IsExactClass refs.now }
+    requires place { place < refs.now.common }
+    ensures { result ≡ false → IsFree refs.now place }
+{
+    if refs.has_each_direction(place) {
+        return false;
+    }
+    is_named(refs.subs.as_slice(), place)
+}
+
 // Whether the answer may hang on the direction in this place.
 fn hangs_on(refs: &RefPair, verdict: &Verdict, first: usize, place: usize) -> bool
-    requires { place < 7 }
+    requires refs { IsRefPair refs.now }
+    requires place { place < refs.now.common }
+    requires exact { IfPair verdict.now (λ x y. IsExactClass refs.now) }
     ensures room { result ≡ false → HasRoom refs.now place }
-    ensures unnamed { result ≡ false → IfKept verdict.now (λ w. IsUnnamed refs.now place) }
+    ensures free { result ≡ false → IfKept verdict.now (λ w. IsFree refs.now place) }
 {
     if place == first || refs.lacks_second(place) {
         return true;
     }
     match verdict {
         Verdict::Never(_) => false,
-        Verdict::Pair(_, _, _) => is_named(refs.subs.as_slice(), place),
+        Verdict::Pair(_, _, _) => is_bound(refs, place),
         Verdict::Assumed(_) => is_named(refs.subs.as_slice(), place),
     }
 }
 
 // The first place from this one on that the answer may hang on.
 fn next_place(refs: &RefPair, verdict: &Verdict, first: usize, from: usize) -> usize
-    requires common { refs.now.common ≤ 7 }
+    requires refs { IsRefPair refs.now }
+    requires exact { IfPair verdict.now (λ x y. IsExactClass refs.now) }
     requires from { from ≤ refs.now.common }
     ensures from { from ≤ result }
     ensures within { result ≤ refs.now.common }
     ensures rooms { InSkipped from result (HasRoom refs.now) }
-    ensures unnamed { InSkipped from result (λ m. IfKept verdict.now (λ w. IsUnnamed refs.now m)) }
+    ensures free { InSkipped from result (λ m. IfKept verdict.now (λ w. IsFree refs.now m)) }
 {
     for place in from..usize::from(refs.common) {
         if hangs_on(refs, verdict, first, place) {
@@ -129,11 +147,12 @@ fn one_box(alloc: Global, d: &Dirs, verdict: Verdict) -> Result<Vec<Answer>, Mem
 fn split_place(refs: &RefPair, d: &Dirs, verdict: &Verdict, from: usize) -> usize
     requires refs { IsRefPair refs.now }
     requires vector { IsVectorOf refs.now d.now }
+    requires exact { IfPair verdict.now (λ x y. IsExactClass refs.now) }
     requires from { from ≤ refs.now.common }
     ensures from { from ≤ result }
     ensures within { result ≤ refs.now.common }
     ensures trips { (IsTripless verdict.now × (result ≡ refs.now.common)) ⊎ InSkipped from result (HasRoom refs.now) }
-    ensures unnamed { InSkipped from result (λ m. IfKept verdict.now (λ w. IsUnnamed refs.now m)) }
+    ensures free { InSkipped from result (λ m. IfKept verdict.now (λ w. IsFree refs.now m)) }
 {
     let common = usize::from(refs.common);
     if is_tripless(verdict) {
@@ -157,7 +176,7 @@ pub fn merged(
 ) -> Result<Vec<Answer>, Memory>
     requires refs { IsRefPair refs.now }
     requires starred { IsOpenBox refs.now d.now place }
-    requires known { MatchOption known (IsUnnamedBefore refs.now d.now place) (λ w. IsDroppedBox refs.now d.now w) }
+    requires known { MatchOption known (IsFreeBefore refs.now d.now place) (λ w. IsDroppedBox refs.now d.now w) }
     ensures { IfOk result (λ answers. AreUnder refs.now d.now place answers.items) }
 {
     let verdict = box_verdict(refs, d, known);

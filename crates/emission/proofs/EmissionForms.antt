@@ -8,5 +8,6 @@ pub mod FormsLimits
 pub mod FormsLone
 pub mod FormsShapes
 pub mod FormsTurns
+pub mod ConstantTrips
 pub mod OwnEdges
 pub mod Surroundings

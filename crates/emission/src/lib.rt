@@ -19,17 +19,22 @@
 //! (`graph_has_edges`): what `nest_order::runs` asks of edges. So a dropped vector is no loss, by the graph's promise
 //! on drops. The level that orders see of an edge is the one that is listed (`arcs_are_edges`).
 //!
-//! **emission::emission_forms** (laws), for nests of loops and statements alone, without guards: the pieces that are
+//! **emission::emission_forms** (laws), for nests of loops and statements alone, also under guards: the pieces that are
 //! emitted for a nest are, as statements, loops from 1 by 1 in which a statement's array form stands in the place of
 //! its further loops (`pieces_are_written`); each such form stands for one statement on which no flow or output
 //! dependence of its own is at work there, and does what the statement's instances do where these may store all at once
 //! (`forms_are_lone`). Asked of the subscripts (`AreRegular`): where nothing forbids array form, a left subscript in
-//! which a loop stands moves with the loop, and the right side is regular, as canonical text is; of holds, that each is
-//! listed (`AreAllHolds`).
+//! which a loop stands moves with the loop, and guard and right side are regular, as canonical text is; of holds, that
+//! each is listed (`AreAllHolds`); of made arrays, that they are as large as guarded statements ask
+//! (`HaveGuardedNames`).
 //!
 //! **emission::emission_meaning** (law): for such a nest with its facts, where its sequential run goes on, what is
 //! emitted for it by its dependence graph and all its holds goes on as well with arrays as values, and leaves the same
 //! store but for the loop variables (`emission_keeps_meaning`).
+//!
+//! **A WHERE looks at subscripts where its mask is false too.** That the statements without a guard name cells, which
+//! the hold BOUNDS may rest on, is known from the nest's run alone; it says nothing of a store, and so is handed down
+//! to the laws on forms, which speak of every store.
 //!
 //! **emission::emission_marks** (laws): in what is emitted for a nest of loops and statements alone, by edges of the
 //! nest and any holds, each statement is marked once, as its level has it (`emission_is_marked`), and two statements

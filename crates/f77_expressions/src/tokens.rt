@@ -21,7 +21,7 @@ pub enum Token {
 
 impl Token {
     ghost use Rattle.std.specs.Prelude.{◌≡◌};
-    ghost use Rattle.f77_grammar.specs.expressions.Reading.{is_wide};
+    ghost use Rattle.f77_grammar.specs.expressions.Words.{is_wide};
     ghost use Rattle.f77_expressions.specs.Tokens.{word_of};
 
     pub fn is_wide(&self) -> bool

@@ -4,7 +4,9 @@ use Rattle.std.specs.Prelude.{Result, Ok, Err}
 use Rattle.std.specs.List.{AllByRecursion}
 use Rattle.std.specs.Str.{bytes_eq}
 use Rattle.tree.specs.Steps.{◌>>=◌}
-use Rattle.tree.specs.Operators.{fits, ranged, exact_value, on_numbers, on_truths, apply, call, exact_of_values, kind_of, is_neg, is_not}
+use Rattle.tree.specs.Operators.{fits, ranged, exact_value, on_numbers, on_truths, apply, call, exact_of_values, is_neg}
+use Rattle.tree.specs.Operators.{is_not}
+use Rattle.tree.specs.OperationFaults.{kind_of}
 use Rattle.tree.specs.declared.ops.Kind.{Kind}
 use Rattle.tree.specs.declared.ops.Kind.TheVariants.{Integer, Logical}
 use Rattle.tree.specs.declared.ops.Fault.{Fault}

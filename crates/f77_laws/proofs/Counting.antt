@@ -11,7 +11,7 @@ use Rattle.meaning.specs.Store.{Store, size_of}
 use Rattle.f77_grammar.specs.Statement77.{Entity, Labelled}
 use Rattle.meaning.specs.Names.{IsInByteOrder, is_among}
 use Rattle.f77_grammar.specs.program.Limits.{once, entities_of, has_bounds, bounds_among, bounds_declared, bounds_of_name, elements, product_of_sizes, size_in, dimension_of, all_elements}
-use Rattle.meaning.specs.Profile77.{array_elements, elements_of}
+use Rattle.meaning.specs.Extents.{array_elements, elements_of}
 use Rattle.f77_grammar.specs.program.Tree.{bounds_in}
 use Rattle.std.proofs.lemmas.List.{map-append}
 use Rattle.std.proofs.lemmas.List.Sums.{sum_by-append, sum_by-cons}

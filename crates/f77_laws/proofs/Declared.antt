@@ -20,12 +20,14 @@ use Rattle.meaning.specs.Value.{value_of, number_of, is_in_range}
 use Rattle.meaning.specs.Dialect.{Dialect}
 use Rattle.f77_grammar.specs.Statement77.{Entity, NamedConstant, Labelled, Statement77, Declare, Dimension}
 use Rattle.f77_grammar.specs.program.Text.{places, places_from}
-use Rattle.meaning.specs.Names.{IsSymbolicName, IsInByteOrder}
+use Rattle.meaning.specs.Names.{IsInByteOrder}
+use Rattle.meaning.specs.SymbolicNames.{IsSymbolicName}
 use Rattle.meaning.specs.Typed77.{dimensions}
 use Rattle.f77_grammar.specs.program.Uses.{Use, uses_of, uses_in_text, is_constant, is_variable}
 use Rattle.f77_grammar.specs.program.Kinds.{has_kind, are_integer_bounds, has_integer_bounds, suits, calls_hidden}
 use Rattle.f77_grammar.specs.program.Limits.{in_range, constants_of, dimension_of, definitions_of, entities_of, has_bounds, bounds_among, bounds_of_name, bounds_declared, elements, all_elements, counted_names, is_reversed, is_no_constant}
-use Rattle.meaning.specs.Profile77.{IsDimension, IsDeclaration, AreDeclarations, array_elements}
+use Rattle.meaning.specs.Profile77.{IsDimension, IsDeclaration, AreDeclarations}
+use Rattle.meaning.specs.Extents.{array_elements}
 use Rattle.f77_grammar.specs.program.Tree.{bounds_in, variables_of, declaration_of}
 use Rattle.f77_laws.specs.Source.{IsSourceEntity, IsSourceStatement, IsSourceCard}
 use Rattle.f77_laws.proofs.Lists.{left_true, right_true, left_false, right_false, affirmed, all_both, all_at, all_of, from_flat, in_flat}

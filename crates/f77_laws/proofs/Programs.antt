@@ -8,7 +8,7 @@ use Rattle.meaning.specs.Dialect.{Dialect}
 use Rattle.meaning.specs.Store.{Store, names_of}
 use Rattle.meaning.specs.Calls.{names_called}
 use Rattle.f77_grammar.specs.program.Text.{places}
-use Rattle.meaning.specs.Names.{IsSymbolicName}
+use Rattle.meaning.specs.SymbolicNames.{IsSymbolicName}
 use Rattle.f77_grammar.specs.program.Uses.{Use, uses_in_text, is_title, names_that}
 use Rattle.f77_grammar.specs.program.Limits.{constants_of}
 use Rattle.f77_grammar.specs.program.Program77.{findings}

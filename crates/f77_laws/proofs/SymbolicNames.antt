@@ -9,7 +9,7 @@ use Rattle.f77_grammar.specs.declared.directions.Direction.TheVariants.{Output, 
 use Rattle.f77_grammar.specs.Statement77.{Entity, NamedConstant, Labelled, Statement77, Program, ImplicitNone, Declare, Dimension, Constants, Assign, Go, Test, If, ElseIf, Else, EndIf, Do, EndDo, Continue, Stop, Read, Print, End}
 use Rattle.f77_grammar.specs.expressions.Spelling as spelling
 use Rattle.f77_grammar.specs.expressions.Printing.{IsSource, IsSourceSubscript, AreSource}
-use Rattle.meaning.specs.Names.{IsSymbolicName, is_letter, is_digit}
+use Rattle.meaning.specs.SymbolicNames.{IsSymbolicName, is_letter, is_digit}
 use Rattle.f77_grammar.specs.program.Uses.{Use, use_of, uses_in, uses_in_subscripts, uses_in_subscript, value_uses, uses_in_item, uses_in_items, uses_in_bounds, bounded_uses, dimensioned_uses, typed_uses, defined_uses, uses_of, uses_in_text}
 use Rattle.f77_laws.specs.Source.{IsShallow, IsSourceValue, IsSourceItem, AreSourceItems, IsSourceEntity, IsSourceConstant, IsSourceAction, IsSourceStatement, IsSourceCard}
 use Rattle.f77_laws.proofs.Lists.{all_both}

@@ -11,7 +11,7 @@ use Rattle.tree.specs.declared.functions.Fun.{Fun}
 use Rattle.meaning.specs.Store.{Store}
 use Rattle.meaning.specs.Calls.{calls_in_block}
 use Rattle.tree.specs.Functions.{function_named, name_of_function}
-use Rattle.meaning.specs.Names.{IsSymbolicName}
+use Rattle.meaning.specs.SymbolicNames.{IsSymbolicName}
 use Rattle.f77_grammar.specs.program.Uses.{Role, Title, Use, use_of, uses_in, uses_in_bounds, bounded_uses, dimensioned_uses, typed_uses, defined_uses, uses_of, uses_in_text, is_title, is_typed, is_bounded, is_defined, is_bare, names_that, stands, is_constant, is_variable, is_function}
 use Rattle.f77_grammar.specs.program.Order.{is_nothing, is_late}
 use Rattle.f77_grammar.specs.program.Declarations.{is_declared_again, is_array_or_constant, printed_by, printed_name, bears_title, uses_title, has_unknown_constant, has_misused_name}

@@ -10,7 +10,7 @@ use Rattle.f77_grammar.specs.Statement77.{Entity, NamedConstant, Statement77, La
 use Rattle.f77_grammar.specs.Statement77.{Dimension, Constants, Assign, Go, Test, If, ElseIf, Else, EndIf, Do, EndDo}
 use Rattle.f77_grammar.specs.Statement77.{Continue, Stop, Read, Print, End}
 use Rattle.f77_grammar.specs.expressions.Printing.{IsSource}
-use Rattle.meaning.specs.Names.{IsSymbolicName}
+use Rattle.meaning.specs.SymbolicNames.{IsSymbolicName}
 use Rattle.meaning.specs.Depths.{depth_of, depth_of_items}
 use Rattle.meaning.specs.Typed77.{has_item, IsText}
 use Rattle.meaning.specs.Profile77.{IsLine}

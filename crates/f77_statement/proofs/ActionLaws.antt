@@ -12,7 +12,7 @@ use Rattle.f77_grammar.specs.Statement77 as statement
 use Rattle.f77_grammar.specs.Statement77.{Statement77}
 use Rattle.f77_grammar.specs.expressions.Phrases as phrases
 use Rattle.f77_grammar.specs.expressions.Phrases.{Phrase, IsExpression, written}
-use Rattle.f77_grammar.specs.expressions.Reading.{is_wide}
+use Rattle.f77_grammar.specs.expressions.Words.{is_wide}
 use Rattle.f77_grammar.specs.expressions.Spelling.{Words, value, chars}
 use Rattle.f77_grammar.specs.expressions.Squeezing.{Symbol, Char}
 use Rattle.f77_grammar.specs.expressions.Words.{Word}

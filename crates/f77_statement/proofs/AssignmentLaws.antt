@@ -6,7 +6,7 @@ use Rattle.tree.specs.declared.exprs.Ref.{Ref}
 use Rattle.tree.specs.Plain.{Expression, Reference}
 use Rattle.f77_grammar.specs.Statement77 as statement
 use Rattle.f77_grammar.specs.expressions.Phrases.{Phrase, written, tree, depth}
-use Rattle.f77_grammar.specs.expressions.Reading.{is_wide}
+use Rattle.f77_grammar.specs.expressions.Words.{is_wide}
 use Rattle.f77_grammar.specs.expressions.Words as words
 use Rattle.f77_grammar.specs.expressions.Words.{Word}
 use Rattle.f77_grammar.specs.statements.Forms.{Assign, reference_in, has_wide_literal}

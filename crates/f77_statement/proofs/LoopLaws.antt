@@ -7,7 +7,7 @@ use Rattle.std.proofs.lemmas.Bool.Decides.{nat_tests}
 use Rattle.std.proofs.lemmas.List.{map-append}
 use Rattle.tree.specs.View.{expression_of}
 use Rattle.f77_grammar.specs.Statement77 as statement
-use Rattle.f77_grammar.specs.expressions.Reading.{is_wide}
+use Rattle.f77_grammar.specs.expressions.Words.{is_wide}
 use Rattle.f77_grammar.specs.expressions.Spelling.{is_digit, is_letter, IsDigits, IsName, Words, Begins, Stops, chars, value}
 use Rattle.f77_grammar.specs.expressions.Squeezing.{Symbol, Char, Text, Broken}
 use Rattle.f77_grammar.specs.expressions.Words as words

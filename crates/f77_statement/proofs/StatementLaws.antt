@@ -5,7 +5,7 @@ use Rattle.std.specs.Prelude.{true, false, not, IsTrue, ◌↔◌, ◌&&◌, ◌
 use Rattle.tree.specs.declared.exprs.Expr.{Expr}
 use Rattle.tree.specs.declared.ops.Kind.{Kind}
 use Rattle.f77_grammar.specs.Statement77 as statement
-use Rattle.f77_grammar.specs.expressions.Reading.{is_wide}
+use Rattle.f77_grammar.specs.expressions.Words.{is_wide}
 use Rattle.f77_grammar.specs.expressions.Spelling.{Words}
 use Rattle.f77_grammar.specs.expressions.Squeezing as squeezing
 use Rattle.f77_grammar.specs.expressions.Words as words

@@ -3,7 +3,7 @@ use Rattle.std.specs.Prelude.{ℕ, ◌≡◌, Bool, List}
 use Rattle.std.specs.List.{list_any}
 use Rattle.tree.specs.Plain.{Expression}
 use Rattle.f77_grammar.specs.expressions.Phrases.{Phrase, IsExpression, written, tree, depth}
-use Rattle.f77_grammar.specs.expressions.Reading.{is_wide}
+use Rattle.f77_grammar.specs.expressions.Words.{is_wide}
 use Rattle.f77_grammar.specs.expressions.Spelling.{Words}
 use Rattle.f77_grammar.specs.expressions.Squeezing.{Symbol}
 use Rattle.f77_statement.specs.Parts.{capped}

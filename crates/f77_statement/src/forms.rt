@@ -3,7 +3,7 @@ ghost use Rattle.std.specs.Prelude.{◌≡◌, ℕ, ◌++◌, ◌||◌, max, Boo
 ghost use Rattle.std.specs.List.{list_any};
 ghost use Rattle.tree.specs.View.{expression_of};
 ghost use Rattle.f77_grammar.specs.expressions.Phrases.{Phrase};
-ghost use Rattle.f77_grammar.specs.expressions.Reading.{is_wide};
+ghost use Rattle.f77_grammar.specs.expressions.Words.{is_wide};
 ghost use Rattle.f77_grammar.specs.expressions.Spelling.{value, chars};
 ghost use Rattle.f77_grammar.specs.expressions.Squeezing as squeezing;
 ghost use Rattle.f77_grammar.specs.statements.Forms.{Form, Assign, Do, PlainDo, Test, IsWritten, IsInner, IsLabel};

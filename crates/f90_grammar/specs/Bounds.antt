@@ -4,8 +4,8 @@ use Rattle.std.specs.List.{AllByRecursion}
 use Rattle.tree.specs.Limits as limits
 use Rattle.tree.specs.Plain.{Declaration}
 use Rattle.meaning.specs.Typed.{dimensions}
-use Rattle.meaning.specs.Profile77.{array_elements}
-use Rattle.meaning.specs.Profile90.{IsDimension}
+use Rattle.meaning.specs.Extents.{array_elements}
+use Rattle.meaning.specs.Extents.{IsDimension}
 use Rattle.f90_grammar.specs.Forms as forms
 use Rattle.f90_grammar.specs.Forms.{Form}
 use Rattle.f90_grammar.specs.Declared.{declarations_in, declarations_of}

@@ -8,7 +8,7 @@ use Rattle.tree.specs.Plain.{Single, Constant, ImpliedDo, Items, no_items, item,
 use Rattle.meaning.specs.Value.{named}
 use Rattle.meaning.specs.Typed.{declared, number_of_arguments}
 use Rattle.meaning.specs.Typed90.{rank_of, rank_of_subscripts, HasKind, IsScalar, AreScalars, HasSomeKind}
-use Rattle.meaning.specs.Profile90.{IsAllocatable}
+use Rattle.meaning.specs.Extents.{IsAllocatable}
 use Rattle.f90_grammar.specs.Phrases.{Phrase, tree_of}
 use Rattle.f90_grammar.specs.Items.{Direction, Input, Output, step_tree, item_trees}
 use Rattle.f90_grammar.specs.Forms as forms

@@ -13,7 +13,7 @@ use Rattle.tree.specs.declared.ops.Kind.{Kind}
 use Rattle.tree.specs.declared.refusals.Cause.TheVariants.{BadByte90, WideLiteral90, Structure, Declared90}
 use Rattle.tree.specs.declared.refusals.Cause.TheVariants.{TypeClash90}
 use Rattle.tree.specs.declared.stmts.Mark.{Mark}
-use Rattle.meaning.specs.Names.{IsLongName}
+use Rattle.meaning.specs.SymbolicNames.{IsLongName}
 use Rattle.meaning.specs.Typed.{declared, rank_of_extent}
 use Rattle.f90_grammar.specs.Blocks.{Placed}
 use Rattle.f90_grammar.specs.Contents.{SuitsCallsIn, has_wide_literal_in}

@@ -1,10 +1,13 @@
 -- What is known of what is found.
-use Rattle.std.specs.Prelude.{◌≡◌, ℕ, Some, None, true, false, List, [], Contains}
+use Rattle.std.specs.Prelude.{◌≡◌, ◌↔◌, ℕ, Some, None, true, false, List, [], Contains}
 use Rattle.tree.specs.Plain.{Program, Statement}
 use Rattle.nest.specs.Plain.{Nest}
 use Rattle.find_nests.specs.declared.reasons.Reason.{Reason}
-use Rattle.find_nests.specs.Reasons.{has_reason, reason_over}
-use Rattle.find_nests.specs.Loops.{Placed, loops_in_block}
+use Rattle.nest_reasons.specs.declared.flaws.Flaw.TheVariants as flaws
+use Rattle.find_nests.specs.declared.reasons.Reason.TheVariants.{Bound}
+use Rattle.find_nests.specs.bound_limits.Numbers.{KeepsLimits}
+use Rattle.find_nests.specs.Reasons.{has_flawed, has_reason, reason_over}
+use Rattle.find_nests.specs.Loops.{Placed, loops_in, loops_in_block}
 use Rattle.find_nests.specs.LookedAt.{is_in_no_nest, reason_of}
 use Rattle.find_nests.specs.Found.{InNest, Kept, found_in, nest_of_loop}
 
@@ -41,3 +44,10 @@ NoReasonHolds = (symbols : List (List ℕ)) (c : Statement) (r : Reason) → rea
 abbrev pub ReasonHolds : Type 0
 ReasonHolds = (symbols : List (List ℕ)) (c : Statement) (r : Reason) → reason_over symbols c ≡ Some r
     → has_reason r symbols c ≡ true
+
+-- Where all bounds are linear, and all increments suitable, the second cause of BOUND doesn't hold exactly where the
+-- numbers of each loop are those of forms within the limits
+abbrev pub BoundIsByNumbers : Type 0
+BoundIsByNumbers = (symbols : List (List ℕ)) (c : Statement) → has_flawed flaws.Bound symbols c ≡ false
+    → has_flawed flaws.Step symbols c ≡ false
+    → ((has_reason Bound symbols c ≡ false) ↔ ((p : Placed) → Contains (loops_in 0 [] c) p → KeepsLimits symbols p))

@@ -5,3 +5,4 @@ pub mod Walks
 pub mod Arms
 pub mod Terms
 pub mod View
+pub mod Numbers

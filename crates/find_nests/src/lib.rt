@@ -12,7 +12,8 @@
 //! Proved (`find_nests`): exactly the nests and kept loops of a program, in text order: each loop that stands in no
 //! nest is a nest, numbered from 1, or kept with the first reason that holds. As laws: a found nest is a loop of the
 //! program of which no reason holds, each loop round it being kept (`found_nest`); the same of kept loops
-//! (`found_kept`); where no reason is given none holds (`no_reason`), and one that is given holds (`reason_given`).
+//! (`found_kept`); where no reason is given none holds (`no_reason`), and one that is given holds (`reason_given`);
+//! the second cause of BOUND by numbers alone, however forms are put together (`bound_by_numbers`).
 //!
 //! **A loop that is no part of a nest.** What a loop is made into leaves out statements that no nest has (READ, PRINT,
 //! STOP and the forms of Fortran 90), and has the increment 0 where it isn't a suitable constant. Neither comes in a
@@ -32,6 +33,6 @@ pub mod nest_parts;
 mod reasons;
 mod search;
 
-pub use laws::{found_kept, found_nest, no_reason, reason_given};
+pub use laws::{bound_by_numbers, found_kept, found_nest, no_reason, reason_given};
 pub use reasons::Reason;
 pub use search::{Found, find_nests};

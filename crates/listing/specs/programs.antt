@@ -3,4 +3,5 @@ pub mod Laws
 pub mod Listing
 pub mod Passed
 pub mod Sources
+pub mod Stages
 pub mod Testable

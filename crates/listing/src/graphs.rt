@@ -8,8 +8,8 @@
 //! **The trip that is listed is the loop's last iteration.** The loops of a listed nest go from 1 by 1, so its text is
 //! the trip's.
 //!
-//! **Statements of a graph are numbered from 0, those of holds and of a listing from 1.** The printer of the listing
-//! adds one.
+//! **In a graph a statement goes by its place, from 0, in holds and a listing by its number, from 1.** The printer of
+//! the listing adds one.
 mod dependences;
 mod listed;
 mod loops;

@@ -9,6 +9,8 @@
 //!   tests. Cycles aren't listed so far.
 //! - A law (`listed_nests_are_testable`): a nest that is listed with its graph is without guards, and is what the tests
 //!   ask for (`IsReady`).
+//! - A law (`loops_are_listed`): a nest whose loops can be listed (`IsListedFrom` of normal_loops) is listed; so the
+//!   chain of passes that the listing speaks of says no less.
 //!
 //! **`passes` alone calls passes.** `graph` prints what it gives, and `vectorise` prints and emits it; so no nest is
 //! listed and another one translated.
@@ -24,7 +26,7 @@ mod texts;
 mod words;
 
 pub use alone::is_alone;
-pub use laws::listed_nests_are_testable;
+pub use laws::{listed_nests_are_testable, loops_are_listed};
 pub use listed::{kept_loop, list};
 pub use nests::{Passed, Tests, not_built, passes, test};
 pub use texts::listing_text;

@@ -2,5 +2,6 @@
 #![tactic(auto)]
 
 pub mod notes;
+pub mod prepared;
 pub mod read_back;
 pub mod reader;

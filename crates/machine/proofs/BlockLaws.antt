@@ -12,7 +12,7 @@ use Rattle.tree.proofs.Equations.{tested_of-is, block_of-is}
 use Rattle.meaning.specs.Dialect.{Dialect}
 use Rattle.meaning.specs.Value.{truth_of, number_of}
 use Rattle.meaning.specs.Cuts.{IsAtMost}
-use Rattle.meaning.specs.Blocks.{has_arm}
+use Rattle.meaning.specs.Labels.{has_arm}
 use Rattle.meaning.specs.Run.{State, Way, Going, Jumping, nothing, then, either, goes, arrives, evaluates, counts_step, does, does_all, chooses}
 use Rattle.meaning.proofs.Limit.{Follows-does_all}
 use Rattle.machine.specs.Moments.{Seen}

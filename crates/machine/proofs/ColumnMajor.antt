@@ -10,7 +10,7 @@ use Rattle.std.proofs.lemmas.List.{map-append, drop_more}
 use Rattle.tree.specs.Plain.{Declaration}
 use Rattle.tree.specs.declared.ops.Value.{Value}
 use Rattle.meaning.specs.Store.{Cell, numbers_from, size_of, column_major, cells_of, opening_value}
-use Rattle.meaning.specs.Profile77.{elements_of}
+use Rattle.meaning.specs.Extents.{elements_of}
 use Rattle.machine.specs.declared.variables.Variable.{Variable}
 use Rattle.machine.specs.Storage.{store_of, place, offset, joined, value_at}
 use Rattle.machine.specs.Stored.{IsOf, bounds_here}

@@ -13,7 +13,7 @@ use Rattle.tree.specs.declared.ops.Value.TheVariants.{Int}
 use Rattle.meaning.specs.Store.{Store, Cell, numbers_from, size_of, column_major, cells_of}
 use Rattle.meaning.specs.Texts.{final_line}
 use Rattle.meaning.specs.Steps.{lines_of_cells}
-use Rattle.meaning.specs.Profile77.{elements_of}
+use Rattle.meaning.specs.Extents.{elements_of}
 use Rattle.machine.specs.Storage.{offset, joined}
 use Rattle.machine.specs.Showing.{subscripts_at, element, element_line, value_line}
 use Rattle.machine.proofs.StoreLaws.{both_true, number_inside}

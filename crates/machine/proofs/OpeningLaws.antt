@@ -14,7 +14,7 @@ use Rattle.meaning.specs.Typed.{dimensions}
 use Rattle.meaning.proofs.CellFrame.{second_part}
 use mathlib.Core.Path.{ap₂}
 use Rattle.std.specs.Prelude.{◌^◌}
-use Rattle.meaning.specs.Profile77.{elements_of}
+use Rattle.meaning.specs.Extents.{elements_of}
 use Rattle.meaning.specs.Store.{nought}
 use Rattle.machine.specs.declared.variables.Variable.{Variable}
 use Rattle.machine.specs.Storage.{declared, own_names, AreDistinct, total, noughts_of, values_of, starts_in, starts_of, AreArrays, AreBounds, HasBounds}

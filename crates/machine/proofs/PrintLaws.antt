@@ -6,7 +6,7 @@ use Rattle.tree.specs.declared.ops.Value.{Value}
 use Rattle.tree.specs.declared.ops.Fault.{Fault}
 use Rattle.tree.specs.declared.ops.Fault.TheVariants.{Allocated}
 use Rattle.meaning.specs.Store.{opening_bounds, bounds_in, cells_of}
-use Rattle.meaning.specs.Profile77.{elements_of}
+use Rattle.meaning.specs.Extents.{elements_of}
 use Rattle.machine.specs.declared.variables.Variable.{Variable}
 use Rattle.machine.specs.Storage.{store_of, total}
 use Rattle.machine.specs.Stored.{IsOf, bounds_here, all_values}

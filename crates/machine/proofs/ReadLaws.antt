@@ -24,7 +24,7 @@ use Rattle.meaning.specs.Dialect.{Dialect}
 use Rattle.meaning.specs.Store.{Store, Cell, bounds_in, cells_of, cell_at, opening_bounds}
 use Rattle.meaning.specs.Texts.{without_cr, from_value, first_word, after_word, after_line, read_value}
 use Rattle.meaning.specs.Value.{is_in_range, named, cells_named, cell_named, item_cells, subscript_values, number_of}
-use Rattle.meaning.specs.Profile77.{elements_of}
+use Rattle.meaning.specs.Extents.{elements_of}
 use Rattle.meaning.specs.Run.{State, Failed, then, either, for_each, goes, while_going, answered, evaluates, stores, counts_step, checks_range, repeated, turn, increases, loops, is_empty, begins_line, takes_word, skips_line, reads_into, reads_item, reads_items}
 use Rattle.machine.specs.declared.variables.Variable.{Variable}
 use Rattle.machine.specs.Moments.{Seen}

@@ -5,7 +5,7 @@ use Rattle.std.proofs.lemmas.Nat.{div-mul-add, mod-mul-add, div_below}
 use Rattle.tree.specs.View.{bounds_of}
 use Rattle.tree.specs.declared.programs.Dim.{Dim}
 use Rattle.meaning.specs.Store.{size_of}
-use Rattle.meaning.specs.Profile77.{elements_of}
+use Rattle.meaning.specs.Extents.{elements_of}
 use Rattle.machine.specs.Storage.{bounds_list}
 
 positive : (n m k : ℕ) → k < n * m → 0 < n

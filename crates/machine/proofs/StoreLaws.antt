@@ -10,7 +10,7 @@ use Rattle.tree.specs.Plain.{Declaration, Extent, Given, Later}
 use Rattle.tree.specs.declared.ops.Value.{Value}
 use Rattle.meaning.specs.Store.{Cell, is_within, opening_bounds, opening_value, size_of}
 use Rattle.meaning.specs.Typed.{dimensions}
-use Rattle.meaning.specs.Profile77.{elements_of}
+use Rattle.meaning.specs.Extents.{elements_of}
 use Rattle.machine.specs.Storage.{store_of, place, offset, joined, value_at, AreBounds, HasBounds}
 
 -- ---- places

@@ -7,7 +7,7 @@ use Rattle.tree.specs.View.{arms, tested_of}
 use Rattle.tree.specs.declared.stmts.Arm.{Arm}
 use Rattle.meaning.specs.Dialect.{Dialect}
 use Rattle.meaning.specs.Run.{Act, then, chooses, begins_line, reads_items, skips_line}
-use Rattle.meaning.specs.Blocks.{has_arm}
+use Rattle.meaning.specs.Labels.{has_arm}
 use Rattle.machine.specs.Moments.{Seen}
 use Rattle.machine.specs.declared.progress.Halt.{Halt}
 use Rattle.machine.specs.declared.progress.Left.{Left}

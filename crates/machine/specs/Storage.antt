@@ -14,7 +14,7 @@ use Rattle.tree.specs.declared.programs.Dim.{Dim}
 use Rattle.meaning.specs.Dialect.{fortran77}
 use Rattle.meaning.specs.Store.{Store, size_of, opening_bounds, opening_value, nought}
 use Rattle.meaning.specs.Typed.{dimensions}
-use Rattle.meaning.specs.Profile77.{elements_of}
+use Rattle.meaning.specs.Extents.{elements_of}
 use Rattle.machine.specs.declared.variables.Variable.{Variable}
 
 -- the place of one number in its dimension, and of the others in theirs

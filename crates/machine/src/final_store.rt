@@ -9,7 +9,7 @@ ghost use Rattle.tree.specs.View.{bounds_of};
 ghost use Rattle.meaning.specs.Store.{Store, size_of, cells_of};
 ghost use Rattle.meaning.specs.Texts.{subscripts_text, final_line};
 ghost use Rattle.meaning.specs.Steps.{lines_of_cells, lines_of_name};
-ghost use Rattle.meaning.specs.Profile77.{elements_of};
+ghost use Rattle.meaning.specs.Extents.{elements_of};
 ghost use Rattle.machine.specs.Storage.{bounds_list};
 ghost use Rattle.machine.specs.Stored.{names_in, store_in, IsOf, bounds_here};
 ghost use Rattle.machine.specs.Texts.{WritesText};

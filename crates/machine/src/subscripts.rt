@@ -1,6 +1,6 @@
 //! The subscripts of an element, and its place among the elements of its array.
 ghost use Rattle.std.specs.Prelude.{◌≡◌, [], take, IfSome, ◌<◌, ◌≤◌};
-ghost use Rattle.meaning.specs.Profile77.{elements_of};
+ghost use Rattle.meaning.specs.Extents.{elements_of};
 ghost use Rattle.machine.specs.Storage.{offset, AreBounds, bounds_list, with_more};
 
 use crate::variables::join;

@@ -3,7 +3,7 @@ ghost use Rattle.std.specs.Prelude.{◌≡◌, ◌≤◌, ◌^◌, ◌*◌, map,
 ghost use Rattle.tree.specs.View.{bounds_of, declaration_of, extent_of};
 ghost use Rattle.meaning.specs.Store.{size_of};
 ghost use Rattle.meaning.specs.Typed.{dimensions};
-ghost use Rattle.meaning.specs.Profile77.{elements_of};
+ghost use Rattle.meaning.specs.Extents.{elements_of};
 ghost use Rattle.machine.specs.Storage.{joined, bounds_list, AreBounds, IsBounded};
 
 use tree::{Decl, Dim, Extent};

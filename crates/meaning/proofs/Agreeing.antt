@@ -16,7 +16,8 @@ use Rattle.meaning.specs.Store.{Store, Cell, put, nought_like, bounds_of, alloca
 use Rattle.meaning.specs.Texts.{from_value, first_word, after_word, output_text, read_value}
 use Rattle.meaning.specs.Value.{value_of, number_of, truth_of, subscript_values, cell_named, item_cells, item_values, all_elements, is_array, is_scalar, named, array_of, values_of, selectors, is_in_range, increment_of, exact}
 use Rattle.meaning.specs.Reads.{names_in, names_in_each, names_in_subscripts}
-use Rattle.meaning.specs.Agreement.{names_in_item, names_in_items, names_in_statement, names_in_arms, names_in_block, MomentsAgree}
+use Rattle.meaning.specs.Agreement.{MomentsAgree}
+use Rattle.meaning.specs.Reads.{names_in_item, names_in_items, names_in_statement, names_in_arms, names_in_block}
 use Rattle.meaning.specs.Run.{State, Way, Going, Jumping, Stopped, Failed, Cut, Act, nothing, then, either, repeated, for_each, goes, on_way, while_going, answered, evaluates, writes, stores, is_empty, begins_line, takes_word, skips_line, is_allowed, first_blank, arrives, counts_step, checks_range, assigns, array_assigns, stores_element, allocates, deallocates, sets_variable, increases, turn, loops, reads_into, reads_item, reads_items, prints_item, prints_items, does, chooses, does_all}
 use Rattle.meaning.proofs.CellFrame.{first_part, second_part, scalar-same}
 use Rattle.meaning.proofs.AgreeingValues.{value_of-agree, subscript_values-agree, array_of-agree, values_of-agree, selectors-agree, kind-put}

@@ -15,7 +15,11 @@ use Rattle.meaning.specs.Dialect.{Dialect}
 use Rattle.meaning.specs.ArrayValues.{Elements, each, settled, scalar, in_whole, conform, mapped, paired, spread, transposed, reshaped}
 use Rattle.meaning.specs.Sections.{Selector, Triplet, Axis, axes_selected, extents_of, cells_along, not_negative}
 use Rattle.meaning.specs.Value.{value_of, values_of, number_of, subscript_value, subscript_values, cell_named, array_of, arguments_of, selectors, selector, under, is_scalar, are_scalar, are_indices, is_index, name_is_scalar, with_arrays, numbered, evaluated, selector_of, bound_to, joined, for_numbers, together}
-use Rattle.meaning.specs.Reads.{names_in, names_in_each, names_in_subscripts, names_in_subscript, names_in_loops, found, found_along, same_name, others, in_each, for_numbers_read, between, read_by_one_way, cells_read, cells_read_by_each, cells_read_by, cells_read_by_subscript, array_cells_read, array_cells_read_by_each, cells_read_to_select, cells_read_by_selector, cells_read_under}
+use Rattle.meaning.specs.Reads.{names_in, names_in_each, names_in_subscripts, names_in_subscript, names_in_loops}
+use Rattle.meaning.specs.CellsRead.{found, found_along, same_name, others, in_each, for_numbers_read, between}
+use Rattle.meaning.specs.CellsRead.{read_by_one_way, cells_read, cells_read_by_each, cells_read_by}
+use Rattle.meaning.specs.CellsRead.{cells_read_by_subscript, array_cells_read, array_cells_read_by_each}
+use Rattle.meaning.specs.CellsRead.{cells_read_to_select, cells_read_by_selector, cells_read_under}
 
 pub first_part : {A : Type 0} (P : A → Type 0) (xs ys : List A) → AllByRecursion P (xs ++ ys) → AllByRecursion P xs
 first_part P [] ys h = tt

@@ -12,7 +12,8 @@ use Rattle.tree.specs.declared.ops.Value.{Value}
 use Rattle.tree.specs.declared.stmts.Mark.{Mark}
 use Rattle.tree.specs.Plain.{Expression, Reference, Assignment}
 use Rattle.meaning.specs.Store.{Store, Cell, put, same_cell}
-use Rattle.meaning.specs.Reads.{names_in, names_in_subscripts, cells_read, cells_read_by}
+use Rattle.meaning.specs.Reads.{names_in, names_in_subscripts}
+use Rattle.meaning.specs.CellsRead.{cells_read, cells_read_by}
 use Rattle.meaning.specs.Run.{State, Way, Going, Jumping, Stopped, Failed, Cut, Act, does, while_going, evaluates, counts_step, stores, checks_range}
 use Rattle.meaning.specs.Exchange.{Assigns, cells_read_to_assign}
 use Rattle.meaning.proofs.CellFrame.{first_part, second_part, value_of-same, cell_named-same}

@@ -5,7 +5,7 @@ use Rattle.tree.specs.declared.ops.Value.{Value}
 use Rattle.tree.specs.declared.stmts.Mark.{Mark}
 use Rattle.meaning.specs.Store.{Store, Cell}
 use Rattle.meaning.specs.Value.{value_of, cell_named, is_array, named, is_in_range}
-use Rattle.meaning.specs.Reads.{cells_read, cells_read_by}
+use Rattle.meaning.specs.CellsRead.{cells_read, cells_read_by}
 use Rattle.meaning.specs.Run.{State, does}
 use Rattle.meaning.specs.Dialect.{Dialect}
 

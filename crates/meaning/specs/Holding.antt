@@ -1,7 +1,7 @@
 -- Stores such as the run of a program has: what every promise on a part of a program may ask of the store that it
 -- begins in.
 use Rattle.std.specs.Prelude.{◌≡◌, ℕ, ℤ, IsTrue, Option, Some, None, IfSome, List, length}
-use Rattle.tree.specs.Operators.{kind_of}
+use Rattle.tree.specs.OperationFaults.{kind_of}
 use Rattle.tree.specs.Plain.{Extent, Given, Later, Declaration, Program}
 use Rattle.tree.specs.declared.ops.Kind.{Kind}
 use Rattle.tree.specs.declared.ops.Value.{Value}

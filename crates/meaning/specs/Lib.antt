@@ -3,6 +3,7 @@ pub mod Array
 pub mod ArrayStatements
 pub mod ArrayValues
 pub mod Blocks
+pub mod Labels
 pub mod Calls
 pub mod Cells
 pub mod Cuts
@@ -14,11 +15,14 @@ pub mod Holding
 pub mod Jumps
 pub mod Keeping
 pub mod Names
+pub mod SymbolicNames
 pub mod Numerals
 pub mod Profile77
+pub mod Extents
 pub mod Profile90
 pub mod Ranges
 pub mod Reads
+pub mod CellsRead
 pub mod Relined
 pub mod Run
 pub mod Sections
@@ -29,6 +33,7 @@ pub mod Texts
 pub mod Typed
 pub mod Typed77
 pub mod Typed90
+pub mod Items90
 pub mod Value
 pub mod decks
 pub mod element_counts

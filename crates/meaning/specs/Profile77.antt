@@ -1,7 +1,7 @@
 -- The trees of FORTRAN 77 programs: what a program has that is read from a source, and what whoever is given one may
 -- rely on.
-use Rattle.std.specs.Prelude.{◌≡◌, ℕ, ◌*◌, ◌^◌, ◌<◌, ◌≤◌, ℤ, pos, neg_ℤ, ◌≤ℤ◌, ◌<ℤ◌, IsTrue, None, List, [], ◌∷◌}
-use Rattle.std.specs.Prelude.{length, map, sum, Contains}
+use Rattle.std.specs.Prelude.{◌≡◌, ◌^◌, ◌<◌, ◌≤◌, ℤ, pos, neg_ℤ, ◌≤ℤ◌, ◌<ℤ◌, IsTrue, None, List, length, map, sum}
+use Rattle.std.specs.Prelude.{Contains}
 use Rattle.std.specs.Option.{IfSome, IsSomeAnd}
 use Rattle.std.specs.List.{AllByRecursion}
 use Rattle.tree.specs.Plain.{Expression, Named, Reference, Statement, Assignment, If, Do, Label, GoTo, Stop, Read}
@@ -10,17 +10,18 @@ use Rattle.tree.specs.Plain.{Declaration, Program}
 use Rattle.tree.specs.declared.ops.Kind.TheVariants.{Integer, Logical}
 use Rattle.tree.specs.Limits as limits
 use Rattle.meaning.specs.Dialect.{Dialect}
-use Rattle.meaning.specs.Store.{names_of, size_of}
-use Rattle.meaning.specs.Names.{IsSymbolicName, IsInByteOrder}
+use Rattle.meaning.specs.Store.{names_of}
+use Rattle.meaning.specs.Names.{IsInByteOrder}
+use Rattle.meaning.specs.SymbolicNames.{IsSymbolicName}
 use Rattle.meaning.specs.Calls.{names_called}
 use Rattle.meaning.specs.Depths.{depth_of_items}
-use Rattle.meaning.specs.Typed77.{dimensions, declared, deepest, IsWhole, IsDoVariable, AreOutputItems}
-use Rattle.meaning.specs.Typed77.{AreInputItems}
-pub use Rattle.meaning.specs.Blocks.{label_of, labels_of, all_labels_of, all_labels_in_arms, all_labels_in}
-pub use Rattle.meaning.specs.Blocks.{targets_of, targets_in_arms, targets_in, IsWithoutRepeats}
-pub use Rattle.meaning.specs.Blocks.{blocks_of, blocks_in_arms, blocks_in, statements_of, statements_in_arms}
-pub use Rattle.meaning.specs.Blocks.{statements_in}
-pub use Rattle.meaning.specs.Blocks.{Surroundings, outermost, within_loop, before_labels, IsLine, IsLabel, has_arm}
+use Rattle.meaning.specs.Typed77.{dimensions, declared, deepest, IsWhole, IsDoVariable, AreOutputItems, AreInputItems}
+pub use Rattle.meaning.specs.Blocks.{label_of, labels_of, blocks_of, blocks_in_arms, blocks_in, statements_of}
+pub use Rattle.meaning.specs.Blocks.{statements_in_arms, statements_in, Surroundings, outermost, within_loop}
+pub use Rattle.meaning.specs.Blocks.{before_labels}
+pub use Rattle.meaning.specs.Labels.{all_labels_of, all_labels_in_arms, all_labels_in, targets_of, targets_in_arms}
+pub use Rattle.meaning.specs.Labels.{targets_in, IsWithoutRepeats, IsLine, IsLabel, has_arm}
+use Rattle.meaning.specs.Extents.{array_elements}
 
 -- ---- declarations (sections 5.1 and 8)
 
@@ -29,15 +30,6 @@ pub record IsDimension (d : Dialect) (b : ℤ × ℤ) : Type 0 where
   pub above : neg_ℤ (pos (2 ^ d.bits)) ≤ℤ b.0
   pub ordered : b.0 ≤ℤ b.1
   pub below : b.1 <ℤ pos (2 ^ d.bits)
-
-abbrev pub elements_of : List (ℤ × ℤ) → ℕ
-elements_of [] = 1
-elements_of (b ∷ bs) = size_of b * elements_of bs
-
--- a scalar has none
-abbrev pub array_elements : List (ℤ × ℤ) → ℕ
-array_elements [] = 0
-array_elements (b ∷ bs) = elements_of (b ∷ bs)
 
 abbrev pub IsFixed : Extent → Type 0
 IsFixed (Given bs) = Unit {0}

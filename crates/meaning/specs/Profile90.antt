@@ -1,34 +1,29 @@
 -- The trees of Fortran 90 programs: those that a text can be read as, but for the numbers of lines, and whose printed
 -- text is read as them. How many names there are isn't limited here.
-use Rattle.std.specs.Prelude.{◌≡◌, ◌⊎◌, ℕ, ◌^◌, ◌<◌, ◌≤◌, ℤ, FitsSigned, IsTrue, Option, List, length, map, sum}
-use Rattle.std.specs.Prelude.{Contains}
-use Rattle.std.specs.Int.{w64}
+use Rattle.std.specs.Prelude.{◌≡◌, ◌⊎◌, ℕ, ◌^◌, ◌<◌, ◌≤◌, IsTrue, Option, List, length, map, sum, Contains}
 use Rattle.std.specs.Option.{IfSome, IsSomeAnd}
 use Rattle.std.specs.List.{AllByRecursion}
 use Rattle.tree.specs.declared.stmts.Mark.{Mark}
 use Rattle.tree.specs.declared.ops.Kind.{Kind}
 use Rattle.tree.specs.declared.ops.Kind.TheVariants.{Integer, Logical}
-use Rattle.tree.specs.Plain.{Expression, Reference, Expressions, Extent, Given, Later, Declaration, Program}
-use Rattle.tree.specs.Plain.{Statement, Assignment, Where, If, Do, Label, GoTo, Stop, Read, Print, Allocate}
-use Rattle.tree.specs.Plain.{Deallocate}
-use Rattle.tree.specs.Plain.{Arms, no_arms, arm, Block, no_statements, statement}
+use Rattle.tree.specs.Plain.{Expression, Reference, Expressions, Extent, Given, Later, Declaration, Program, Statement}
+use Rattle.tree.specs.Plain.{Assignment, Where, If, Do, Label, GoTo, Stop, Read, Print, Allocate, Deallocate, Arms}
+use Rattle.tree.specs.Plain.{no_arms, arm, Block, no_statements, statement}
 use Rattle.tree.specs.Limits as limits
-use Rattle.meaning.specs.Names.{IsLongName, IsInByteOrder}
+use Rattle.meaning.specs.Names.{IsInByteOrder}
+use Rattle.meaning.specs.SymbolicNames.{IsLongName}
 use Rattle.meaning.specs.Depths.{depth_of, depth_of_each, depth_of_items}
 use Rattle.meaning.specs.Typed.{dimensions, declared, number_of_arguments}
-use Rattle.meaning.specs.Typed90.{rank_of, HasKind, IsScalar, AreScalars, IsDoVariable, AreOutputItems}
-use Rattle.meaning.specs.Typed90.{AreInputItems}
-use Rattle.meaning.specs.Profile77.{array_elements}
+use Rattle.meaning.specs.Typed90.{rank_of, HasKind, IsScalar, AreScalars, IsDoVariable}
+use Rattle.meaning.specs.Items90.{AreOutputItems, AreInputItems}
+use Rattle.meaning.specs.Extents.{array_elements}
 use Rattle.meaning.specs.Value.{named}
-use Rattle.meaning.specs.Blocks.{labels_of, all_labels_in, targets_in, IsWithoutRepeats, blocks_in, statements_in}
-use Rattle.meaning.specs.Blocks.{Surroundings, outermost, within_loop, before_labels, IsLine, IsLabel, has_arm}
+use Rattle.meaning.specs.Blocks.{labels_of, blocks_in, statements_in}
+use Rattle.meaning.specs.Labels.{all_labels_in, targets_in, IsWithoutRepeats, IsLine, IsLabel, has_arm}
+use Rattle.meaning.specs.Blocks.{Surroundings, outermost, within_loop, before_labels}
+use Rattle.meaning.specs.Extents.{IsAllocatable, IsDimension}
 
 -- ---- declarations (ISO/IEC 1539:1991, section 5)
-
--- a dimension whose upper bound is below the lower one has no elements
-pub record IsDimension (b : ℤ × ℤ) : Type 0 where
-  pub lower : FitsSigned w64 b.0
-  pub upper : FitsSigned w64 b.1
 
 -- of a scalar, an array with its bounds, or an allocatable array, which has one dimension at least
 abbrev pub IsExtent : Extent → Type 0
@@ -55,10 +50,6 @@ pub record IsMark (m : Mark) : Type 0 where
 -- a line, and a mark if there is one
 abbrev pub IsMarked : ℕ → Option Mark → Type 0
 IsMarked line mark = IsLine line × IfSome mark IsMark
-
-abbrev pub IsAllocatable : Extent → Type 0
-IsAllocatable (Given bs) = ⊥
-IsAllocatable (Later n) = Unit {0}
 
 module _ (ds : List Declaration) where
   -- an expression of this kind, not too deep

@@ -1,20 +1,17 @@
 -- Expressions and lists of a Fortran 90 program's tree whose kinds and ranks suit, by the declarations (ISO/IEC
 -- 1539:1991, sections 4.5, 6.2, 7.1, 9.4.2 and 13.13).
-use Rattle.std.specs.Prelude.{◌≡◌, ◌⊎◌, ℕ, ◌+◌, ◌<◌, ◌≤◌, max, not, IsTrue, Some, None, List, ◌∷◌, codes, Contains}
+use Rattle.std.specs.Prelude.{◌≡◌, ◌⊎◌, ℕ, ◌+◌, ◌<◌, ◌≤◌, max, not, IsTrue, Some, None, List, codes, Contains}
 use Rattle.std.specs.Option.{IsSomeAnd}
 use Rattle.tree.specs.Plain.{Expression, Number, Logic, Named, Unary, Binary, Apply, Constructor, Spread, Transpose}
-use Rattle.tree.specs.Plain.{Reshape, Reduce}
-use Rattle.tree.specs.Plain.{Expressions, no_expressions, expression, Subscript, Only, Section, Subscripts}
-use Rattle.tree.specs.Plain.{no_subscripts, subscript}
-use Rattle.tree.specs.Plain.{Loops, no_loops, loop, Item, Single, Constant, ImpliedDo, Items, no_items, item}
-use Rattle.tree.specs.Plain.{Declaration}
+use Rattle.tree.specs.Plain.{Reshape, Reduce, Expressions, no_expressions, expression, Subscript, Only, Section}
+use Rattle.tree.specs.Plain.{Subscripts, no_subscripts, subscript, Loops, no_loops, loop, Declaration}
 use Rattle.tree.specs.declared.ops.Kind.{Kind}
 use Rattle.tree.specs.declared.ops.Kind.TheVariants.{Integer, Logical}
 use Rattle.tree.specs.Limits.{array_dimensions}
 use Rattle.tree.specs.Functions.{name_of_function, name_of_reduction, suits_number}
 use Rattle.meaning.specs.Typed.{number_of_arguments, number_of_subscripts}
 use Rattle.tree.specs.OperatorTable.{operand_kind, result_kind_of, is_unary}
-use Rattle.meaning.specs.Typed.{rank_of_extent, declared, IsLiteral, has_item, IsText}
+use Rattle.meaning.specs.Typed.{rank_of_extent, declared, IsLiteral}
 
 -- the ranks of two operands: they are equal, or one is that of a scalar
 abbrev pub Conform : ℕ → ℕ → Type 0
@@ -135,33 +132,3 @@ module _ (ds : List Declaration) where
 
   abbrev pub HasSomeKind : Expression → Type 0
   HasSomeKind e = HasKind e Integer ⊎ HasKind e Logical
-
-  -- a variable, an element or a whole array, which isn't a DO variable round it
-  abbrev pub IsInput : Expression → List (List ℕ) → Type 0
-  IsInput (Named x ps) around = HasSomeKind (Named x ps) × (rank_of_subscripts ps ≡ 0) × (Contains around x → ⊥)
-  IsInput e around = ⊥
-
-  abbrev mutual
-    -- an item of an output list may be any expression
-    pub IsOutputItem : Item → List (List ℕ) → Type 0
-    IsOutputItem (Single e) around = HasSomeKind e
-    IsOutputItem (Constant t) around = IsText t
-    IsOutputItem (ImpliedDo is x a b c) around =
-        IsTrue (has_item is) × IsDoVariable x around
-        × IsScalar a Integer × IsScalar b Integer × IsScalar c Integer × AreOutputItems is (x ∷ around)
-
-    pub AreOutputItems : Items → List (List ℕ) → Type 0
-    AreOutputItems no_items around = Unit {0}
-    AreOutputItems (item i is) around = IsOutputItem i around × AreOutputItems is around
-
-  abbrev mutual
-    pub IsInputItem : Item → List (List ℕ) → Type 0
-    IsInputItem (Single e) around = IsInput e around
-    IsInputItem (Constant t) around = ⊥
-    IsInputItem (ImpliedDo is x a b c) around =
-        IsTrue (has_item is) × IsDoVariable x around
-        × IsScalar a Integer × IsScalar b Integer × IsScalar c Integer × AreInputItems is (x ∷ around)
-
-    pub AreInputItems : Items → List (List ℕ) → Type 0
-    AreInputItems no_items around = Unit {0}
-    AreInputItems (item i is) around = IsInputItem i around × AreInputItems is around

@@ -6,7 +6,7 @@ ghost use Rattle.meaning.specs.Exchange.{AssignmentsExchange};
 ghost use Rattle.meaning.specs.Jumps.{EveryRunEnds};
 ghost use Rattle.meaning.specs.Numerals.{InputNumberIsNumeral, PrintedNumberIsRead};
 ghost use Rattle.meaning.specs.Ranges.{RunKeepsCells, RunKeepsRange, ValuesFit};
-ghost use Rattle.meaning.specs.Reads.{ArrayComesFromCellsRead, ValueComesFromCellsRead, ValueComesFromNames};
+ghost use Rattle.meaning.specs.CellsRead.{ArrayComesFromCellsRead, ValueComesFromCellsRead, ValueComesFromNames};
 ghost use Rattle.meaning.specs.Relined.{Relined, RelinedEndsWell};
 
 /// The cells of a name are those within its bounds, and two cells are the same where they are equal.

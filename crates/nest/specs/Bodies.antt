@@ -1,5 +1,5 @@
 -- What stands in a nest, in the order of the text.
-use Rattle.std.specs.Prelude.{List, [], ◌∷◌, ◌++◌}
+use Rattle.std.specs.Prelude.{ℕ, ◌+◌, ◌-◌, List, [], ◌∷◌, ◌++◌}
 use Rattle.nest.specs.Plain.{Loop, Guarded, Part, Run, Turns, Choice, Label, Jump, Parts, no_parts, part}
 use Rattle.nest.specs.Plain.{Branches, no_branches, branch, Nest}
 
@@ -47,6 +47,14 @@ abbrev mutual
 
 abbrev pub nest_statements : Nest → List Standing
 nest_statements n = statements_of n.body
+
+-- A statement goes by its place among those of the nest, which counts from 0. Where it is shown, in marks, holds and
+-- lists, it has its number, which counts from 1
+abbrev pub statement_number : ℕ → ℕ
+statement_number place = place + 1
+
+abbrev pub statement_place : ℕ → ℕ
+statement_place number = number - 1
 
 abbrev pub nest_loops : Nest → List Loop
 nest_loops n = loops_of n.body

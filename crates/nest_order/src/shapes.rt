@@ -2,10 +2,9 @@
 //!
 //! Proved (laws): a nest of `nest` without IF, label and jump, whose loops go from 1 by 1, is as a statement exactly
 //! what its shape stands for (`shape_of_nest`, `statement`), and the shape is that of a nest (`nest`), where no two
-//! loops have one number. Statements are numbered from 0 in text order, loops have the numbers of the nest.
+//! loops have one number. Statements go by their places in text order, loops by the numbers of the nest.
 //!
-//! **Statements are numbered from 0 in a shape.** So a statement's number is its place in the list of the nest's
-//! statements.
+//! **A statement of a shape goes by its place**, which counts from 0, in the list of the nest's statements.
 ghost use Rattle.nest_order.specs.shapes.Shapes.{ShapeIsNest, StatementIsOfShape};
 
 /// A nest without IF, label or jump, whose loops go from 1 by 1, stands for the statements of its shape, which is that

@@ -72,8 +72,8 @@
 //!
 //! **pass_laws::normal_facts** (laws): what `normalise` makes of a found nest without IF, label and jump has, in a
 //! program that declares the counters besides, the facts that the laws of runs and orders ask for
-//! (`normal_nest_has_facts`), those that array forms ask for (`normal_nest_has_form_facts`), and regular subscripts and
-//! right sides (`normal_nest_is_regular`).
+//! (`normal_nest_has_facts`), those that array forms ask for (`normal_nest_has_form_facts`), and regular subscripts,
+//! guards and right sides (`normal_nest_is_regular`).
 //!
 //! **The counter stands first in the law on a normal loop.** There the form that replaces the variable has the counter
 //! first and the other names behind it. In a nest the loops round it come first in canonical text, which the rule of

@@ -2,7 +2,7 @@
 use Rattle.std.specs.Prelude.{◌≡◌, ⊤, ℕ, ◌≤◌, All, List}
 use Rattle.tree.specs.Plain.{Statement, Assignment, If, Arms, no_arms, arm, Block, no_statements, statement}
 use Rattle.tree.specs.Plain.{Declaration}
-use Rattle.meaning.specs.Agreement.{names_in_block}
+use Rattle.meaning.specs.Reads.{names_in_block}
 use Rattle.meaning.specs.Blocks.{Surroundings}
 use Rattle.meaning.specs.Profile90.{IsBlock}
 use Rattle.rewrite.specs.Profile.{deepest_in}

@@ -4,7 +4,7 @@ use Rattle.std.specs.Prelude.{◌≡◌, ℕ, ◌≤◌, ◌<◌, ◌^◌, nat_a
 use Rattle.std.specs.Prelude.{List, [], length}
 use Rattle.tree.specs.Names.{IsSourceName}
 use Rattle.tree.specs.Plain.{Declaration}
-use Rattle.meaning.specs.Blocks.{IsLine}
+use Rattle.meaning.specs.Labels.{IsLine}
 use Rattle.meaning.specs.Holding.{HasBounds}
 use Rattle.meaning.specs.Names.{IsInByteOrder}
 use Rattle.meaning.specs.Typed.{declared}

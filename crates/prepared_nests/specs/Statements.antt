@@ -5,7 +5,7 @@ use Rattle.tree.specs.Names.{IsSourceName}
 use Rattle.tree.specs.Plain.{Declaration, Expression, no_subscripts}
 use Rattle.tree.specs.declared.ops.Kind.{Kind}
 use Rattle.tree.specs.declared.ops.Kind.TheVariants.{Logical}
-use Rattle.meaning.specs.Blocks.{IsLine}
+use Rattle.meaning.specs.Labels.{IsLine}
 use Rattle.meaning.specs.Depths.{depth_of}
 use Rattle.meaning.specs.Typed90.{IsScalar}
 use Rattle.meaning.specs.Value.{named}

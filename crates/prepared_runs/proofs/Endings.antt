@@ -9,7 +9,8 @@ use Rattle.tree.specs.Steps.{◌>>=◌}
 use Rattle.tree.specs.declared.ops.Fault.{Fault}
 use Rattle.tree.specs.declared.ops.Value.{Value}
 use Rattle.tree.specs.declared.stmts.Mark.{Mark}
-use Rattle.meaning.specs.Agreement.{names_in_block, names_in_statement}
+use Rattle.meaning.specs.Reads.{names_in_block}
+use Rattle.meaning.specs.Reads.{names_in_statement}
 use Rattle.meaning.specs.Dialect.{Dialect}
 use Rattle.meaning.specs.Reads.{names_in, names_in_subscripts}
 use Rattle.meaning.specs.Run.{Act, Going, State, counts_step, does, does_all, either, evaluates, nothing}

@@ -5,36 +5,41 @@ use Rattle.std.specs.Prelude.{nat_abs, slice_get}
 use Rattle.std.specs.List.{concat, range_with_len}
 use Rattle.std.specs.Option.{IsSomeAnd}
 use Rattle.std.proofs.lemmas.List.{length-drop, length-map}
-use Rattle.array_form.specs.profile.Laws.{ArrayFormIsOfProfile, rise}
+use Rattle.array_form.specs.holds.Bounds.{is_safe}
+use Rattle.array_form.specs.profile.Laws.{ArrayFormIsOfProfile, IsGuard, rise}
 use Rattle.array_form.specs.profile.Settings.{IsWritable}
 use Rattle.array_form.specs.forms.Following.{has_none}
 use Rattle.array_form.specs.forms.Loops as forms
-use Rattle.array_form.specs.forms.Statements.{hold_at, loops_from}
+use Rattle.array_form.specs.forms.Statements.{loops_from}
 use Rattle.dependence_graph.specs.declared.graphs.Edge.{Edge}
 use Rattle.dependence_graph.specs.declared.graphs.Hold.{Hold}
 use Rattle.components.specs.Lists as lists
-use Rattle.emission.specs.emission_forms.Forms.{AreAllHolds, AreRegular, IsLevelOf, surroundings_at}
+use Rattle.emission.specs.emission_forms.Forms.{AreAllHolds, AreRegular, IsLevelOf, hold_there, surroundings_at}
+use Rattle.array_form.proofs.forms.Holding.{unheld}
 use Rattle.emission.specs.emission_pieces.Emission.{AreEmitted, AreEmittedFor, IsEmittedFor}
 use Rattle.emission.specs.emission_pieces.Levels.{is_held, is_recurrent, may_be_formed}
 use Rattle.emission.specs.emission_pieces.Nests.{loops_at, standing_at}
 use Rattle.emission.specs.emission_pieces.Pieces.{Formed, Kept, Piece, Pieces, Turning, block_of_piece, block_of_pieces}
-use Rattle.emission.specs.emission_pieces.Pieces.{kept_statement, mark_of, no_pieces, piece, turning_statement}
+use Rattle.emission.specs.emission_pieces.Pieces.{kept_assignment, kept_statement, mark_of, no_pieces, piece}
+use Rattle.emission.specs.emission_pieces.Pieces.{turning_statement}
 use Rattle.emission.proofs.EmissionPieces.Emitted.{components_of}
 use Rattle.emission.proofs.EmissionPieces.Lists.{both_true}
-use Rattle.meaning.specs.Blocks.{IsLine, Surroundings, within_loop}
+use Rattle.meaning.specs.Blocks.{Surroundings, before_labels, within_loop}
+use Rattle.meaning.specs.Labels.{IsLine}
 use Rattle.meaning.specs.Depths.{depth_of}
-use Rattle.meaning.specs.Profile90.{IsAssignment, IsBlock, IsMark, IsWhole, IsWholeScalar}
+use Rattle.meaning.specs.Profile90.{IsAssignment, IsBlock, IsMark, IsStatement, IsWhole, IsWholeScalar}
 use Rattle.meaning.specs.Typed.{declared}
 use Rattle.meaning.specs.Typed90.{IsIntegerScalar, IsScalar}
 use Rattle.meaning.specs.Value.{named}
 use Rattle.tree.specs.Limits.{expression_depth90}
-use Rattle.tree.specs.Plain.{Declaration, Expression, Reference, no_statements}
+use Rattle.tree.specs.Plain.{Declaration, Expression, Reference, Statement, no_statements}
 use Rattle.tree.specs.declared.ops.Kind.{Kind}
-use Rattle.tree.specs.declared.ops.Kind.TheVariants.{Integer}
+use Rattle.tree.specs.declared.ops.Kind.TheVariants.{Integer, Logical}
 use Rattle.nest_order.proofs.orders.Lists.{Each-In, In-left, In-right}
 use Rattle.nest_order.specs.orders.Emission.{Components}
 use Rattle.nest_order.specs.orders.Lists.{Distinct, Each, In}
 use Rattle.prepared_runs.proofs.Pieces.{pieces_no_label}
+use Rattle.nest.specs.Blocks.{under_guard}
 use Rattle.nest.specs.Bodies.{nest_statements}
 use Rattle.nest.specs.Plain.{Loop, Nest}
 use Rattle.nest.specs.declared.parts.Trip.{Trip}
@@ -48,10 +53,11 @@ use Rattle.emission.specs.emission_pieces.Shapes.{edges_of}
 
 -- ---- a statement, and a loop
 
--- An assignment of scalars of one kind, with room for its array form; its variable counts no loop, and isn't one of the
--- DO variables round the nest
-pub record IsFitStatement (ds : List Declaration) (w : Surroundings) (line : ℕ) (left : Reference) (right : Expression) : Type 0 where
+-- An assignment of scalars of one kind, maybe under a condition, with room for its array form; its variable counts no
+-- loop, and isn't one of the DO variables round the nest
+pub record IsFitStatement (ds : List Declaration) (w : Surroundings) (line : ℕ) (guard : Option Expression) (left : Reference) (right : Expression) : Type 0 where
   pub line_is : IsLine line
+  pub guard_is : IsGuard ds guard
   pub kind : Kind
   pub found : IsSomeAnd (declared ds left.name) (λ (d : Declaration). d.kind ≡ kind)
   pub left_is : IsScalar ds (named left) kind
@@ -75,7 +81,7 @@ pub record IsFitNest (ds : List Declaration) (m : Nest) (w : Surroundings) : Typ
   pub few : length (nest_statements m) + 1 < 2 ^ 32
   pub round : (x : List ℕ) → Contains w.variables x → CountsNone x
   pub statements : (s : ℕ) → s < length (nest_statements m)
-      → IsFitStatement ds w (standing_at m s).statement.line (standing_at m s).statement.left (standing_at m s).statement.right
+      → IsFitStatement ds w (standing_at m s).statement.line (standing_at m s).statement.guard (standing_at m s).statement.left (standing_at m s).statement.right
   pub loops : (s k : ℕ) (l : Loop) → s < length (nest_statements m) → slice_get (loops_at m s) k ≡ Some l → IsFitLoop ds l
   pub deep : (s : ℕ) → s < length (nest_statements m) → length (loops_at m s) ≤ 7
   pub depths : (s t i j : ℕ) (l k : Loop) → s < length (nest_statements m) → t < length (nest_statements m)
@@ -212,8 +218,9 @@ module _ (forms_are : ArrayFormIsOfProfile) (ds : List Declaration) (m : Nest) (
   less : (n : ℕ) → n + rise ≤ expression_depth90 → n ≤ expression_depth90
   less n h = omega (arith, h)
 
-  assigns : (v : Surroundings) (line : ℕ) (left : Reference) (right : Expression) → IsFitStatement ds w line left right → (Contains v.variables left.name → ⊥) → IsAssignment ds left right v
-  assigns v line left right f free = (by (declared ds left.name) f.found, inl f.right_is.1, free)
+  assigns : (v : Surroundings) (line : ℕ) (guard : Option Expression) (left : Reference) (right : Expression) → IsFitStatement ds w line guard left right → (Contains v.variables left.name → ⊥)
+      → IsAssignment ds left right v
+  assigns v line guard left right f free = (by (declared ds left.name) f.found, inl f.right_is.1, free)
     where
       by : (o : Option Declaration) → IsSomeAnd o (λ (d : Declaration). d.kind ≡ f.kind)
           → IsSomeAnd o (λ (d : Declaration). IsWhole ds (named left) d.kind × IsWhole ds right d.kind)
@@ -222,15 +229,23 @@ module _ (forms_are : ArrayFormIsOfProfile) (ds : List Declaration) (m : Nest) (
           subst (λ k. IsWhole ds (named left) k × IsWhole ds right k) (sym g)
           (record { suits = f.left_is.0; depth = less (depth_of (named left)) f.left_depth }, record { suits = f.right_is.0; depth = less (depth_of right) f.right_depth })
 
+  -- under its guard, if it has one
+  under_is : (line : ℕ) (guard : Option Expression) (c : Statement) (x : List ℕ) (v : Surroundings) → IsLine line → IsGuard ds guard → (Contains v.variables x → ⊥)
+      → ((u : Surroundings) → (Contains u.variables x → ⊥) → IsStatement ds c u) → IsStatement ds (under_guard line guard c) v
+  under_is line None c x v l g free inner = inner v free
+  under_is line (Some e) c x v l g free inner =
+      let whole : IsWholeScalar ds e Logical = record { suits = g.0; depth = less (depth_of e) g.1 } in
+      (l, refl, (whole, (inner (before_labels [] v) free, tt), tt), tt)
+
   kept_is : (d s : ℕ) (v : Surroundings) → IsRound d v → s < count → IsBlock ds (block_of_piece m (suc d) (Kept s)) v
   kept_is d s v r within =
       let x = standing_at m s in
       let f = fit.statements s within in
       let deep = fit.deep s within in
-      one_is ds (kept_statement m s) v (
-        (f.line_is, mark_is s (length (loops_at m s) + 1) within (small_level (length (loops_at m s) + 1) (omega (arith, deep)))),
-        assigns v x.statement.line x.statement.left x.statement.right f (free_left d v s r within),
-      )
+      let marked = mark_is s (length (loops_at m s) + 1) within (small_level (length (loops_at m s) + 1) (omega (arith, deep))) in
+      one_is ds (kept_statement m s) v
+      (under_is x.statement.line x.statement.guard (kept_assignment m s) x.statement.left.name v f.line_is f.guard_is (free_left d v s r within)
+      (λ u free. ((f.line_is, marked), assigns u x.statement.line x.statement.guard x.statement.left x.statement.right f free)))
 
   -- ---- array forms
 
@@ -238,11 +253,10 @@ module _ (forms_are : ArrayFormIsOfProfile) (ds : List Declaration) (m : Nest) (
   level_is d s within h = (within, omega arith, h)
 
   none_held : (d s : ℕ) → s < count → suc d ≤ length (loops_at m s) → may_be_formed edges holds (suc d) s ≡ true
-      → hold_at (surroundings_at m s) (suc d) (standing_at m s).statement.left ≡ None
+      → hold_there m (suc d) s ≡ None
   none_held d s within h may = by (all (suc d) s (level_is d s within h))
     where
-      by : (hold_at (surroundings_at m s) (suc d) (standing_at m s).statement.left ≡ None) ⊎ (is_held holds (suc d) s ≡ true)
-          → hold_at (surroundings_at m s) (suc d) (standing_at m s).statement.left ≡ None
+      by : (hold_there m (suc d) s ≡ None) ⊎ (is_held holds (suc d) s ≡ true) → hold_there m (suc d) s ≡ None
       by (inl e) = e
       by (inr held) = absurd (not_both (is_held holds (suc d) s) held (both_true (not (is_recurrent edges (suc d) s)) (not (is_held holds (suc d) s)) may).1)
 
@@ -256,10 +270,10 @@ module _ (forms_are : ArrayFormIsOfProfile) (ds : List Declaration) (m : Nest) (
       let none = none_held d s within h may in
       let moves = regular (suc d) s (level_is d s within h) none in
       let many = length-map (loops_at m s) (λ (l : Loop). counted_of (length (loops_at m s)) (counted l)) in
-      forms_are ds a (suc d) x.statement.line (Some (mark_of m s (suc d))) x.statement.left x.statement.right f.kind v
+      forms_are ds a (suc d) x.statement.line (Some (mark_of m s (suc d))) x.statement.guard x.statement.left x.statement.right f.kind v
       (fit.writable s within) f.line_is (mark_is s (suc d) within (small_level (suc d) (omega (arith, deep, h))))
-      f.left_is f.right_is (free_left d v s r within) f.left_depth f.right_depth
-      (some_loops a (suc d) (omega (arith, many, h))) none moves.left moves.right
+      f.guard_is f.left_is f.right_is (free_left d v s r within) f.left_depth f.right_depth
+      (some_loops a (suc d) (omega (arith, many, h))) (unheld a (suc d) x.statement.guard x.statement.left (is_safe m x) none) moves.left moves.guard moves.right
 
   -- ---- all pieces
 

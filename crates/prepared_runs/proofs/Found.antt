@@ -7,7 +7,8 @@ use Rattle.std.proofs.lemmas.List.Elements.{All-from_recursion, All-map}
 use Rattle.tree.specs.Plain.{Block, Declaration, Expression, Program, Statement, no_statements, statement}
 use Rattle.meaning.proofs.Agreeing.{statements_keep_agreement}
 use Rattle.meaning.proofs.Kept.{IsKeptByParts, Keeps, Keeps-nothing, Keeps-then}
-use Rattle.meaning.specs.Agreement.{MomentsAgree, names_in_block}
+use Rattle.meaning.specs.Agreement.{MomentsAgree}
+use Rattle.meaning.specs.Reads.{names_in_block}
 use Rattle.meaning.specs.Blocks.{outermost}
 use Rattle.meaning.specs.Dialect.{fortran77}
 use Rattle.meaning.specs.Holding.{HasBounds, HoldsProgram}

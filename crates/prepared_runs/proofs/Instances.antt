@@ -1,7 +1,7 @@
 -- The run of a prepared nest is its instances, and then what comes after the loops.
 use Rattle.std.proofs.Common.{◌≡◌, refl, sym, subst, ℕ, Bool, false, List, [], Ok, None, arith}
 use Rattle.tree.specs.Plain.{Program, Statement}
-use Rattle.meaning.specs.Agreement.{names_in_block}
+use Rattle.meaning.specs.Reads.{names_in_block}
 use Rattle.meaning.specs.Dialect.{fortran77}
 use Rattle.meaning.specs.Run.{Going, State, does, does_all}
 use Rattle.meaning.specs.Store.{Cell, Store}

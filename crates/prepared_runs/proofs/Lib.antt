@@ -14,3 +14,6 @@ pub mod LoopPlaces
 pub mod FitPieces
 pub mod Writable
 pub mod Profile
+pub mod Allocating
+pub mod Deallocating
+pub mod Allocations

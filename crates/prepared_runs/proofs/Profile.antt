@@ -6,7 +6,7 @@ use Rattle.std.specs.Option.{IsSomeAnd}
 use Rattle.std.specs.Prelude.{All, codes, nat_abs, slice_get}
 use Rattle.array_form.proofs.profile.Assigned.{array_forms_of_profile}
 use Rattle.array_form.specs.holds.Statements.{no_statement}
-use Rattle.array_form.specs.profile.Laws.{rise}
+use Rattle.array_form.specs.profile.Laws.{IsGuard, rise}
 use Rattle.array_form.specs.profile.Settings.{IsWritable}
 use Rattle.components.specs.Lists.{Each}
 use Rattle.dependence_graph.specs.nest_graph.Ready.{IsReady}
@@ -17,10 +17,12 @@ use Rattle.emission.specs.emission_pieces.Nests.{loops_at, standing_at}
 use Rattle.emission.specs.emission_pieces.Pieces.{Pieces, block_of_pieces, translation}
 use Rattle.last_values.specs.normal_forms.Texts.{trip_text}
 use Rattle.linear_forms.specs.Texts.{text_of}
-use Rattle.meaning.specs.Blocks.{IsLine, Surroundings}
+use Rattle.meaning.specs.Blocks.{Surroundings}
+use Rattle.meaning.specs.Labels.{IsLine}
 use Rattle.meaning.specs.Depths.{depth_of, depth_of_each}
 use Rattle.meaning.specs.Holding.{HasBounds}
-use Rattle.meaning.specs.Profile90.{AreDeclarations, IsAllocatable, IsBlock}
+use Rattle.meaning.specs.Profile90.{AreDeclarations, IsBlock}
+use Rattle.meaning.specs.Extents.{IsAllocatable}
 use Rattle.meaning.specs.Typed.{declared, number_of_arguments, rank_of_extent}
 use Rattle.meaning.specs.Typed90.{AreScalars, IsFree, IsIntegerScalar, IsScalar, SuitsDimensions}
 use Rattle.meaning.specs.Value.{named}
@@ -42,7 +44,7 @@ use Rattle.tree.specs.Names.{IsSourceName}
 use Rattle.tree.specs.Plain.{Block, Declaration, Expression, Extent, Given, Later, Program, Reference, expressions}
 use Rattle.tree.specs.Plain.{no_statements, statement}
 use Rattle.tree.specs.declared.ops.Kind.{Kind}
-use Rattle.tree.specs.declared.ops.Kind.TheVariants.{Integer}
+use Rattle.tree.specs.declared.ops.Kind.TheVariants.{Integer, Logical}
 use Rattle.prepared_nests.proofs.Facts.{text}
 use Rattle.prepared_nests.proofs.FormFacts.{distinct_too as array_distinct, trips}
 use Rattle.prepared_nests.proofs.Lists.{distinct_too, ordered_distinct, some_of, within_32}
@@ -314,8 +316,15 @@ module _ (es : List Declaration) (around : List (List ℕ)) (deepest : ℕ) (m :
       All-counters (a ∷ ms) f zero d i = f a (inl refl)
       All-counters (a ∷ ms) f (suc k) d i = All-counters ms (λ x j. f x (inr j)) k d (omega (arith, i))
 
+  guard_fits : (o : Option Expression) (rest : List Expression) → IfSome o (λ (e : Expression). IsScalar es e Logical)
+      → All (λ (e : Expression). depth_of e ≤ deepest) (guard_or_none o ++ rest) → IsGuard es o
+  guard_fits None rest k d = tt
+  guard_fits (Some e) rest k d =
+      let deep = all_in (λ (x : Expression). depth_of x ≤ deepest) (e ∷ rest) d e (inl refl) in
+      (k, omega (arith, deep, room))
+
   fit_statement : (s : ℕ) → s < length (nest_statements m)
-      → IsFitStatement es w (standing_at m s).statement.line (standing_at m s).statement.left (standing_at m s).statement.right
+      → IsFitStatement es w (standing_at m s).statement.line (standing_at m s).statement.guard (standing_at m s).statement.left (standing_at m s).statement.right
   fit_statement s within =
       let g = (standing_at m s).statement in
       let is = statement_is s within in
@@ -325,6 +334,7 @@ module _ (es : List Declaration) (around : List (List ℕ)) (deepest : ℕ) (m :
       (In-right g.right (guard_or_none g.guard) (named g.left ∷ g.right ∷ []) (inr (inl refl))) in
       record {
         line_is = is.line;
+        guard_is = guard_fits g.guard (named g.left ∷ g.right ∷ []) is.guard is.deep;
         kind = is.kind;
         found = kind_found es g.left is.kind is.left;
         left_is = is.left;
@@ -387,5 +397,5 @@ module _ (es : List Declaration) (around : List (List ℕ)) (deepest : ℕ) (m :
       all (then_no_label (block_of_pieces m 1 ps) rest (pieces_no_label m 1 ps) after_free)).0
 
 pub prepared_translation_is_of_profile : PreparedTranslationIsOfProfile
-prepared_translation_is_of_profile es around deepest m ps w are h free pieces few room added transpose reshape same =
+prepared_translation_is_of_profile es around deepest m ps w are h pieces few room added transpose reshape same =
     is_of_profile es around deepest m ps w are h pieces few room added transpose reshape same

@@ -1,7 +1,8 @@
 -- Symbols of a nest that was found are declared as INTEGER scalars, and a store that holds the program gives them values.
-use Rattle.std.proofs.Common.{◌≡◌, refl, sym, ap, ◌∙◌, subst, ℕ, zero, suc, ◌+◌, ℤ, pos, Bool, true, false, cond, not}
+use Rattle.std.proofs.Common.{◌≡◌, refl, sym, ap, ◌∙◌, subst, ℕ, zero, suc, ◌+◌, ◌≤◌, ◌^◌, ℤ, pos, Bool, true, false, cond, not}
 use Rattle.std.proofs.Common.{◌&&◌, List, [], ◌∷◌, map, filter, length, Option, Some, None, IfSome, Contains, arith}
 use Rattle.std.specs.List.{list_any}
+use Rattle.std.specs.Prelude.{nat_abs}
 use Rattle.std.specs.Str.{bytes_eq}
 use Rattle.meaning.specs.Dialect.{Dialect}
 use Rattle.meaning.specs.Holding.{HasBounds, HoldsProgram, IsStorable}
@@ -9,12 +10,13 @@ use Rattle.meaning.specs.Names.{IsInByteOrder}
 use Rattle.meaning.specs.Store.{Store}
 use Rattle.meaning.specs.Typed.{declared}
 use Rattle.rewrite.specs.Names.{names_written_in}
-use Rattle.tree.specs.Operators.{kind_of}
+use Rattle.tree.specs.OperationFaults.{kind_of}
 use Rattle.tree.specs.Plain.{Block, Declaration, Extent, Given, Later, Program}
 use Rattle.tree.specs.declared.ops.Kind.{Kind}
 use Rattle.tree.specs.declared.ops.Kind.TheVariants.{Integer, Logical}
 use Rattle.tree.specs.declared.ops.Value.{Value}
 use Rattle.tree.specs.declared.ops.Value.TheVariants.{Int, Truth}
+use Rattle.linear_forms.specs.Laws.{HoldsSized}
 use Rattle.linear_forms.specs.Linear.{HaveValues}
 use Rattle.linear_forms.proofs.Sizes.{both}
 use Rattle.nest_reasons.specs.Symbols.{is_integer, is_integer_scalar, is_scalar, is_symbol, symbols_of}
@@ -23,6 +25,7 @@ use Rattle.nest_order.specs.runs.Touched.{nth_of}
 use Rattle.last_values.specs.normal_forms.Numbers.{values_from}
 use Rattle.meaning_laws.proofs.profiles.Lists.{here, there}
 use Rattle.meaning_laws.proofs.profiles.Names.{names, once}
+use Rattle.prepared_nests.specs.Made.{AreOf64Bits}
 
 -- ---- declarations
 
@@ -103,6 +106,21 @@ holds_number lang p s x h d =
 pub value_there : (ys : List (List ℕ)) (s : Store) (k : ℕ) (x : List ℕ) → nth_of ys k ≡ Some x
     → HoldsNumber s x (as_int (s.held (variable_cell x))) → HoldsNumber s x (values_in ys s k)
 value_there ys s k x e h = record { bounds = h.bounds; held = h.held ∙ ap (λ o. Int (value_at o s)) (sym e) }
+
+-- they are of 64 bits where all numbers of the store are
+pub values_sized : (ys : List (List ℕ)) (s : Store) → HoldsSized s → AreOf64Bits (values_in ys s)
+values_sized ys s sized k = by (nth_of ys k)
+  where
+    least : 0 ≤ 2 ^ 63
+    least = let e : 0 ≤ 9223372036854775808 = omega arith in e
+
+    value : (x : List ℕ) (v : Value) → s.held (variable_cell x) ≡ v → nat_abs (as_int v) ≤ 2 ^ 63
+    value x (Int z) e = sized (variable_cell x) z e
+    value x (Truth b) e = least
+
+    by : (o : Option (List ℕ)) → nat_abs (value_at o s) ≤ 2 ^ 63
+    by None = least
+    by (Some x) = value x (s.held (variable_cell x)) refl
 
 have : (ys : List (List ℕ)) (j : ℕ) (values : ℕ → ℤ) (s : Store) → ((k : ℕ) (x : List ℕ) → nth_of ys k ≡ Some x → HoldsNumber s x (values (j + k))) → HaveValues ys s (values_from (length ys) j values)
 have [] j values s h = tt

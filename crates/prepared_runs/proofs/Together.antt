@@ -6,7 +6,7 @@ use Rattle.std.specs.Prelude.{nat_abs}
 use Rattle.tree.specs.Plain.{Declaration, Program, Statement}
 use Rattle.tree.specs.declared.ops.Value.{Value}
 use Rattle.tree.specs.declared.ops.Value.TheVariants.{Int}
-use Rattle.meaning.specs.Agreement.{names_in_block}
+use Rattle.meaning.specs.Reads.{names_in_block}
 use Rattle.meaning.specs.Dialect.{fortran77, fortran90}
 use Rattle.meaning.specs.Holding.{IsStorable}
 use Rattle.meaning.specs.Profile90.{AreDeclarations}
@@ -25,7 +25,7 @@ use Rattle.nest_order.specs.runs.Nests.{is_variable}
 use Rattle.nest_order.specs.runs.Stores.{HoldsNest, Setting}
 use Rattle.nest_order.specs.runs.Touched.{nth_of}
 use Rattle.emission.proofs.EmissionMeaning.Meaning.{emission_keeps_meaning}
-use Rattle.emission.specs.emission_forms.Forms.{AreUnguarded}
+use Rattle.emission.specs.emission_forms.Written.{HaveGuardedNames}
 use Rattle.emission.specs.emission_pieces.Pieces.{Pieces, block_of_pieces}
 use Rattle.emission.specs.graph_orders.Nests.{run_nest}
 use Rattle.pass_laws.proofs.NormalFacts.Tables.{all_in}
@@ -42,6 +42,7 @@ use Rattle.prepared_runs.proofs.Pieces.{does_then, pieces_quiet, then_quiet}
 use Rattle.prepared_runs.proofs.Straight.{ending_goes, goes_if_sound, part_quiet, sound_before}
 use Rattle.prepared_runs.specs.Laws.{PiecesGoOnAsNest}
 use Rattle.prepared_runs.specs.Running.{ArePiecesOf, GoOnTogether, MayRun, loops_then_after, pieces_then_after}
+use Rattle.prepared_runs.specs.Running.{setting_at}
 
 -- a number within the range of INTEGER
 sized : (z : ℤ) → is_in_range 31 (Int z) ≡ true → nat_abs z ≤ 2 ^ 63
@@ -79,8 +80,8 @@ module _ (p : Program) (around : List (List ℕ)) (deepest : ℕ) (m : Nest) (s 
   setting_holds = record { declarations = refl; bounds = may.holds.bounds; made = may.made; values = symbol_sized }
 
 module _ (p : Program) (around : List (List ℕ)) (deepest : ℕ) (m : Nest) (ps : Pieces) (s : State)
-    (are : AreDeclarations p.declarations) (h : IsPrepared p.declarations around deepest m) (free : AreUnguarded m)
-    (pieces : ArePiecesOf m ps) (may : MayRun p m s)
+    (are : AreDeclarations p.declarations) (h : IsPrepared p.declarations around deepest m)
+    (pieces : ArePiecesOf m ps) (may : MayRun p m s) (guarded : HaveGuardedNames m (setting_at may))
     (sound : IsSound (does_all fortran77 None (loops_then_after m) s).way) where
   abbrev es : List Declaration
   es = p.declarations
@@ -102,7 +103,7 @@ module _ (p : Program) (around : List (List ℕ)) (deepest : ℕ) (m : Nest) (ps
   -- ---- where it is run
 
   abbrev setting : Setting
-  setting = record { program = p; bounds = s.store.bounds; values = may.values }
+  setting = setting_at may
 
   is_setting : IsSettingFor es m setting
   is_setting = setting_holds p around deepest m s h may
@@ -114,10 +115,10 @@ module _ (p : Program) (around : List (List ℕ)) (deepest : ℕ) (m : Nest) (ps
 
   near : GoesOnNear (run_nest m) first third
   near =
-      emission_keeps_meaning m pieces.graph pieces.holds ps setting s h.plain free
+      emission_keeps_meaning m pieces.graph pieces.holds ps setting s h.plain
       (prepared_nest_is_ready es around deepest m are h) (prepared_nest_is_regular es around deepest m h)
       (prepared_nest_has_facts 31 es around deepest m setting (omega arith) h is_setting)
-      (prepared_nest_has_form_facts es around deepest m setting h is_setting)
+      (prepared_nest_has_form_facts es around deepest m setting h is_setting) guarded
       pieces.is_graph pieces.all pieces.emitted held goes
 
   -- ---- what comes after them
@@ -155,5 +156,5 @@ module _ (p : Program) (around : List (List ℕ)) (deepest : ℕ) (m : Nest) (ps
   }
 
 pub pieces_go_on_as_nest : PiecesGoOnAsNest
-pieces_go_on_as_nest p around deepest m ps s are h free pieces may sound =
-    together p around deepest m ps s are h free pieces may sound
+pieces_go_on_as_nest p around deepest m ps s are h pieces may guarded sound =
+    together p around deepest m ps s are h pieces may guarded sound

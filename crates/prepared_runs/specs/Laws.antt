@@ -21,12 +21,12 @@ use Rattle.nest.specs.Plain.{Loop, Nest}
 use Rattle.nest_steps.specs.Keeping.{GoOnAlike}
 use Rattle.normal_loops.specs.Normalised.{normalised}
 use Rattle.pass_laws.specs.normal_facts.Laws.{IsCounter}
-use Rattle.emission.specs.emission_forms.Forms.{AreUnguarded}
+use Rattle.emission.specs.emission_forms.Written.{HaveGuardedNames}
 use Rattle.array_form.specs.profile.Laws.{rise}
 use Rattle.emission.specs.emission_pieces.Pieces.{Pieces, translation}
 use Rattle.prepared_nests.specs.Nests.{IsPrepared}
 use Rattle.prepared_runs.specs.Running.{ArePiecesOf, GoOnTogether, IsRunOfInstances, MayRun, loops_then_after}
-use Rattle.prepared_runs.specs.Running.{pieces_then_after}
+use Rattle.prepared_runs.specs.Running.{pieces_then_after, setting_at}
 
 -- ---- from a loop of the source to its nest
 
@@ -54,12 +54,14 @@ RunOfPreparedNest = (p : Program) (around : List (List ℕ)) (deepest : ℕ) (m 
 
 -- ---- from a nest to what is emitted for it
 
--- Let m be a prepared nest of statements without guards. From a moment at which it may be run, where the sequential run
--- of its loops and of what comes after them meets no fault, the array run of what is emitted goes on together with it
+-- Let m be a prepared nest. From a moment at which it may be run, and where made arrays are as large as its guarded
+-- statements ask, if the sequential run of its loops and of what comes after them meets no fault, the array run of what
+-- is emitted goes on together with it
 abbrev pub PiecesGoOnAsNest : Type 0
 PiecesGoOnAsNest = (p : Program) (around : List (List ℕ)) (deepest : ℕ) (m : Nest) (ps : Pieces) (s : State)
-    → AreDeclarations p.declarations → IsPrepared p.declarations around deepest m → AreUnguarded m
-    → ArePiecesOf m ps → MayRun p m s → IsSound (does_all fortran77 None (loops_then_after m) s).way
+    → AreDeclarations p.declarations → IsPrepared p.declarations around deepest m
+    → ArePiecesOf m ps → (may : MayRun p m s) → HaveGuardedNames m (setting_at may)
+    → IsSound (does_all fortran77 None (loops_then_after m) s).way
     → GoOnTogether m s (does_all fortran77 None (loops_then_after m) s)
     (does_all fortran90 None (pieces_then_after m ps) s)
 
@@ -71,7 +73,7 @@ PiecesGoOnAsNest = (p : Program) (around : List (List ℕ)) (deepest : ℕ) (m :
 abbrev pub PreparedTranslationIsOfProfile : Type 0
 PreparedTranslationIsOfProfile = (es : List Declaration) (around : List (List ℕ)) (deepest : ℕ) (m : Nest) (ps : Pieces)
     (w : Surroundings)
-    → AreDeclarations es → IsPrepared es around deepest m → AreUnguarded m → ArePiecesOf m ps
+    → AreDeclarations es → IsPrepared es around deepest m → ArePiecesOf m ps
     → length (nest_statements m) + 1 < 2 ^ 32 → deepest + rise ≤ expression_depth90
     → AddMadeNames m.declarations es → IsFree es (codes "TRANSPOSE") → IsFree es (codes "RESHAPE")
     → w.variables ≡ around → IsBlock es (translation m ps) w

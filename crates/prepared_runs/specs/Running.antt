@@ -17,6 +17,7 @@ use Rattle.nest_order.specs.runs.Guarded.{dialect, variable_cell}
 use Rattle.nest_order.specs.runs.Laws.{GoesOnNear}
 use Rattle.nest_order.specs.runs.Nests.{acts}
 use Rattle.nest_order.specs.runs.Quiet.{SameLines}
+use Rattle.nest_order.specs.runs.Stores.{Setting}
 use Rattle.nest_order.specs.runs.Touched.{nth_of}
 use Rattle.dependence_graph.specs.declared.graphs.Graph.{Graph}
 use Rattle.dependence_graph.specs.declared.graphs.Hold.{Hold}
@@ -55,6 +56,10 @@ pub record MayRun (p : Program) (m : Nest) (s : State) : Type 0 where
   pub values : ℕ → ℤ
   pub valued : (k : ℕ) (x : List ℕ) → nth_of m.symbols k ≡ Some x → s.store.held (variable_cell x) ≡ Int (values k)
   pub made : All (λ (a : Made). IsSomeAnd (s.store.bounds a.name) (AreBoundsBy m.symbols values a.extents)) m.made
+
+-- with the bounds that names have there
+abbrev pub setting_at : {p : Program} {m : Nest} {s : State} → MayRun p m s → Setting
+setting_at {p} {m} {s} may = record { program = p; bounds = s.store.bounds; values = may.values }
 
 -- from s both runs go on, to moments whose stores are the same but for the variables of the nest's loops, and neither
 -- reads or writes a line

@@ -8,11 +8,15 @@
 //!   (`normal_nest_goes_on_as_loop`).
 //! - The run of a prepared nest is its instances one after another, and then what comes after the loops, but for the
 //!   variables of the loops (`run_of_prepared_nest`).
-//! - Where the loops of a prepared nest and what comes after them meet no fault in a sequential run, the array run of
-//!   what is emitted for them, by a graph of the nest and all its holds, goes on to the same store but for the
-//!   variables of the loops (`pieces_go_on_as_nest`).
+//! - Where the loops of a prepared nest and what comes after them meet no fault in a sequential run, and made arrays
+//!   are as large as guarded statements ask, the array run of what is emitted for them, by a graph of the nest and all
+//!   its holds, goes on to the same store but for the variables of the loops (`pieces_go_on_as_nest`).
 //! - What is emitted is a block of the profile of Fortran 90, made arrays allocated before and deallocated behind
 //!   (`prepared_translation_is_of_profile`).
+//!
+//! - ALLOCATE leads to a moment that differs in the nest's arrays alone, which are there by their extents, where none
+//!   of them was (`arrays_are_allocated`), and DEALLOCATE lets them go and changes nothing else
+//!   (`arrays_are_deallocated`).
 //!
 //! **ALLOCATE does nothing in a sequential run**, so the runs of nests begin where made arrays are allocated already;
 //! what allocates them is looked at once, where the translation of a program is.

@@ -1,6 +1,7 @@
 //! A nest beside its loop in the source, and what is emitted for it beside the nest.
 ghost use Rattle.prepared_runs.specs.Laws.{NormalNestGoesOnAsLoop, PiecesGoOnAsNest, PreparedTranslationIsOfProfile};
 ghost use Rattle.prepared_runs.specs.Laws.{RunOfPreparedNest};
+ghost use Rattle.prepared_runs.specs.Allocations.{ArraysAreAllocated, ArraysAreDeallocated};
 
 /// The loops of a nest from 1 by 1, and what comes after them, go on as the loop of the source does.
 pub fn normal_nest_goes_on_as_loop()
@@ -21,4 +22,14 @@ pub fn pieces_go_on_as_nest()
 /// What is emitted, with what comes after it and within its allocations, is a block of the profile of Fortran 90.
 pub fn prepared_translation_is_of_profile()
     ensures { PreparedTranslationIsOfProfile }
+{}
+
+/// ALLOCATE leads to a store in which the arrays of a nest are there by their extents, where none of them was.
+pub fn arrays_are_allocated()
+    ensures { ArraysAreAllocated }
+{}
+
+/// DEALLOCATE lets them go, and changes nothing else.
+pub fn arrays_are_deallocated()
+    ensures { ArraysAreDeallocated }
 {}

@@ -6,6 +6,7 @@ pub mod Substituted
 pub mod UseLaws
 pub mod StandingLaws
 pub mod StatementUseLaws
+pub mod StatementNameLaws
 pub mod NameLaws
 pub mod Profiles
 pub mod ProfileBlocks

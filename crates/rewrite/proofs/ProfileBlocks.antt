@@ -10,8 +10,8 @@ use Rattle.tree.specs.Limits as limits
 use Rattle.tree.specs.Plain.{Expression, Expressions, Reference, Later, Declaration, Program, Statement, Assignment, Where, If, Do, Label, GoTo, Stop, Read, Print, Allocate, Deallocate, Arms, no_arms, arm, Block, no_statements, statement}
 use Rattle.meaning.specs.Blocks.{label_of, labels_of, blocks_of, blocks_in_arms, blocks_in, statements_of}
 use Rattle.meaning.specs.Blocks.{statements_in_arms, statements_in, Surroundings, outermost, within_loop, before_labels}
-use Rattle.meaning.specs.Blocks.{all_labels_of, all_labels_in_arms, all_labels_in, targets_of, targets_in_arms}
-use Rattle.meaning.specs.Blocks.{targets_in, has_arm}
+use Rattle.meaning.specs.Labels.{all_labels_of, all_labels_in_arms, all_labels_in, targets_of, targets_in_arms}
+use Rattle.meaning.specs.Labels.{targets_in, has_arm}
 use Rattle.meaning.specs.Depths.{depth_of, depth_of_each}
 use Rattle.meaning.specs.Profile90.{IsWhole, IsWholeScalar, IsAssignment, IsMasked, IsStatement, AreArms, IsBlock, AreDeclarations, IsProgram90}
 use Rattle.meaning.specs.Typed.{declared, number_of_arguments}

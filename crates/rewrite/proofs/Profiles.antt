@@ -17,7 +17,8 @@ use Rattle.meaning.specs.Typed.{declared, number_of_arguments, number_of_subscri
 use Rattle.meaning.specs.Typed90.{Conform, SuitsDimensions, IsFree, HasKind, AreArguments, AreScalars, AreSubscripts}
 use Rattle.meaning.specs.Typed90.{IsSubscript, AreLoops, SuitsLoops, rank_of, rank_of_name, rank_of_each}
 use Rattle.meaning.specs.Typed90.{rank_of_subscript, rank_of_subscripts, IsIntegerScalar, IsScalar, IsDoVariable}
-use Rattle.meaning.specs.Typed90.{HasSomeKind, IsInput, IsInputItem, AreInputItems, IsOutputItem, AreOutputItems}
+use Rattle.meaning.specs.Typed90.{HasSomeKind}
+use Rattle.meaning.specs.Items90.{IsInput, IsInputItem, AreInputItems, IsOutputItem, AreOutputItems}
 use Rattle.meaning.specs.Value.{named}
 use Rattle.rewrite.specs.Making.{Making, made, made_expressions, made_subscripts, made_subscript, made_loops}
 use Rattle.rewrite.specs.Making.{made_parts, made_left}

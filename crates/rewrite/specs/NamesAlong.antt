@@ -2,6 +2,7 @@
 use Rattle.std.specs.Prelude.{ℕ, if◌then◌else◌, List, ◌∷◌, ◌++◌}
 use Rattle.std.specs.Str.{bytes_eq}
 use Rattle.meaning.specs.Reads.{names_in, names_in_subscripts}
+use Rattle.meaning.specs.Reads.{names_in_block}
 use Rattle.indexmap.specs.IndexSet.{insert_key}
 use Rattle.tree.specs.Plain.{Expression, Reference, Block}
 use Rattle.tree.specs.View.{ConstructorLoop, Tested}
@@ -15,6 +16,10 @@ uses_in_loop l = uses_in l.first ++ uses_in l.last
 
 abbrev pub uses_in_arm : Tested → List Use
 uses_in_arm t = uses_in t.test ++ uses_in_block t.body
+
+-- a condition of a block IF, and the statements under it
+abbrev pub names_in_arm : Tested → List (List ℕ)
+names_in_arm t = names_in t.test ++ names_in_block t.body
 
 abbrev pub names_in_reference : Reference → List (List ℕ)
 names_in_reference r = r.name ∷ names_in_subscripts r.subscripts

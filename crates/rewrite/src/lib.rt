@@ -14,11 +14,11 @@
 //! place of its node: it has its kind and its rank by the new declarations, which have all that the old ones have, and
 //! is no deeper than it or than a number that the rule names; then no expression of the block has become deeper by more
 //! than that number. So it is for a scalar variable that an expression stands for (`replaced_profile`). `substitute`
-//! puts an expression in place of a scalar, and keeps the value where both have one value or one fault. `names_in_expr`
-//! and `names_in_ref` list the names that stand in an expression, as often as they stand; `names_read` and
-//! `names_written` list each name once, in the order of first occurrence; `mentions` says whether one of some names is
-//! read in an expression. A rule rewrites whole expressions (`Rule`), or one node at a time (`NodeRule`,
-//! `rewrite_expression`, `rewrite_parts`).
+//! puts an expression in place of a scalar, and keeps the value where both have one value or one fault.
+//! `names_in_expr`, `names_in_ref` and `names_in_block` list the names that stand there, as often as they stand;
+//! `names_read` and `names_written` list each name once, in the order of first occurrence; `mentions` says whether one
+//! of some names is read in an expression. A rule rewrites whole expressions (`Rule`), or one node at a time
+//! (`NodeRule`, `rewrite_expression`, `rewrite_parts`).
 //!
 //! **`rewrite` takes a block by reference.** Nothing of the tree is consumed, and a caller keeps it.
 //!
@@ -37,6 +37,10 @@
 //! **Rules of nodes and rules of whole expressions are two traits.** `rewrite` asks a rule for what it makes of an
 //! expression; a rule that looks at one node at a time gets that from `rewrite_expression`. So canonical text can be
 //! made in one pass over an expression, and the laws stay those of one node.
+//!
+//! **A block's names and its uses of names are listed by two walks.** In an expression one walk lists both (`Uses`). In
+//! a statement the two lists have different orders: in a WHERE, and in an implied DO list, `names_in_block` names what
+//! is assigned, or the variable, before the rest, and uses stand as the text has them.
 #![tactic(auto)]
 
 mod expressions;
@@ -44,6 +48,7 @@ mod items;
 mod laws;
 mod names;
 mod rule;
+mod statement_names;
 mod statement_uses;
 mod statements;
 mod substitution;
@@ -51,8 +56,7 @@ mod uses;
 
 pub use expressions::{rewrite_expression, rewrite_parts};
 pub use laws::replaced_profile;
-pub use names::{mentions, names_in_expr, names_in_ref, names_read, names_written};
+pub use names::{mentions, names_in_block, names_in_expr, names_in_ref, names_read, names_written};
 pub use rule::{NodeRule, Rule};
 pub use statements::rewrite;
 pub use substitution::{is_variable, substitute};
-pub use uses::{Use, Uses, Way};

@@ -1,6 +1,7 @@
 //! The names that stand in an expression, and those that a block reads or writes.
 ghost use Rattle.std.specs.Prelude.{◌≡◌, IfOk, OnOk};
 ghost use Rattle.std.specs.List.{list_any};
+ghost use Rattle.meaning.specs.Reads.{names_in_block};
 ghost use Rattle.meaning.specs.Names.{is_among};
 ghost use Rattle.meaning.specs.Reads.{names_in};
 ghost use Rattle.tree.specs.View.{block_of, expression_of, reference_of};
@@ -9,6 +10,7 @@ ghost use Rattle.rewrite.specs.Names.{uses_in_block, names_standing, without_rep
 ghost use Rattle.rewrite.specs.NamesAlong.{names_read_in, with_use, names_in_reference};
 ghost use Rattle.rewrite.specs.Names.{names_written_in, mentions};
 
+use crate::statement_names::add_block_names;
 use crate::uses::{Use, Uses, Way};
 use indexmap::IndexSet;
 use std::alloc::Global;
@@ -30,6 +32,17 @@ pub fn names_in_ref(alloc: Global, item: &Ref) -> Result<Seq<Name>, Memory>
 {
     let mut uses = Uses::new(alloc);
     uses.add_value(item)?;
+    let Uses { names, list: _ } = uses;
+    Ok(names)
+}
+
+/// All names that stand in the block, as often as they stand there: those that are assigned, read or written, variables
+/// of loops, and those in expressions, in subscripts, bounds and the loops of constructors too.
+pub fn names_in_block(alloc: Global, block: &Block) -> Result<Seq<Name>, Memory>
+    ensures { IfOk result (λ names. names ≡ names_in_block (block_of block.now)) }
+{
+    let mut uses = Uses::new(alloc);
+    add_block_names(&mut uses, block)?;
     let Uses { names, list: _ } = uses;
     Ok(names)
 }

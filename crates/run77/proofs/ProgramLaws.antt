@@ -15,7 +15,8 @@ use Rattle.meaning.specs.Names.{IsInByteOrder}
 use Rattle.meaning.specs.Typed.{dimensions}
 use Rattle.meaning.specs.Dialect.{fortran77}
 use Rattle.meaning.specs.Blocks.{Surroundings, before_labels, labels_of, within_loop}
-use Rattle.meaning.specs.Profile77.{IsProgram77, IsDeclaration, IsDimension, IsFixed, array_elements, elements_of}
+use Rattle.meaning.specs.Profile77.{IsProgram77, IsDeclaration, IsDimension, IsFixed}
+use Rattle.meaning.specs.Extents.{array_elements, elements_of}
 use Rattle.meaning.specs.Profile77.{IsStatement, AreArms, IsBlock}
 use Rattle.machine.specs.Statements.{HasArms, ArmsHaveArms, BlockHasArms}
 use Rattle.machine.specs.Storage.{AreArrays, AreBounds, IsBounded, HasBounds, AreDistinct}

@@ -30,7 +30,7 @@ use Rattle.tree.proofs.Equations.{expression_of-int, expression_of-truth, expres
 use Rattle.meaning.specs.Store.{Store, Cell, cell_at, cell_in, is_within, opening_bounds}
 use Rattle.meaning.specs.Dialect.{fortran77}
 use Rattle.meaning.specs.Value.{value_of, values_of, subscript_value, subscript_values, cell_named}
-use Rattle.meaning.specs.Profile77.{elements_of}
+use Rattle.meaning.specs.Extents.{elements_of}
 use Rattle.machine.specs.Storage.{store_of, place, offset, joined, total, with_more}
 use Rattle.machine.specs.Stored.{Finds, IsOf, bounds_here}
 use Rattle.run77.specs.Values.{call_of, offset_of}

@@ -1,7 +1,7 @@
 -- ALLOCATE and DEALLOCATE.
 use Rattle.std.proofs.Common.{◌≡◌, refl, sym, ap, ◌∙◌, subst, ℕ, ℤ, List, drop, Result, Ok, Err, Option, Some, None, IfSome}
 use Rattle.std.specs.Option.{option_map, IsSomeAnd}
-use Rattle.tree.specs.Operators.{kind_of}
+use Rattle.tree.specs.OperationFaults.{kind_of}
 use Rattle.tree.specs.Plain.{Declaration, Program, Expressions, Later, Allocate, no_statements, statement}
 use Rattle.tree.specs.declared.ops.Kind.{Kind}
 use Rattle.tree.specs.declared.ops.Kind.TheVariants.{Integer, Logical}
@@ -22,10 +22,12 @@ use Rattle.machine.specs.Acts.{Runs}
 use Rattle.machine.specs.Moments.{Seen, CountsStep, located}
 use Rattle.machine.proofs.ActLaws.{at_same, begun, steady, Runs-counts_step, Runs-fault}
 use Rattle.machine.proofs.BlockLaws.{Extends-does_all}
+use Rattle.array_values.specs.Counts.{ranges_in}
 use Rattle.array_values.specs.declared.storage.slots.Slot.{Slot}
 use Rattle.array_values.specs.storage.Slots.{kind_among, held_among, store_among}
 use Rattle.array_values.specs.storage.Opening.{KindsAreDeclared}
-use Rattle.array_values.specs.storage.Allocation.{HoldsKind, Allocates, Deallocates, from_one}
+use Rattle.array_values.specs.storage.Allocation.{HoldsKind, Allocates, Deallocates}
+use Rattle.array_values.specs.storage.Bounds.{from_one}
 use Rattle.array_values.specs.declared.failure.Failure.{Failure}
 use Rattle.array_values.specs.declared.failure.Failure.TheVariants as failure
 use Rattle.machine.specs.declared.progress.Halt.{Halt}
@@ -78,12 +80,17 @@ allocate_stuck line x es input old mid now stuck.Memory c a =
     let same = step_same old mid c in
     Runs-lacking (λ limit. does fortran90 limit (Allocate line x es)) input old mid now (Extends-does_all fortran90 (statement (Allocate line x es) no_statements)) same.0 same.1
 
+-- bounds are listed, or there was no memory
+pub unlisted : (line : ℕ) (bs : List (ℤ × ℤ)) (e : Stuck) (q : Result (List (ℤ × ℤ)) Fault) → AnswersAt line ranges_in (Ok bs) (Err e) → AnswersAt line (λ (bs : List (ℤ × ℤ)). bs) q (Err e)
+unlisted line bs (stuck.Halted h) q a = cc
+unlisted line bs stuck.Memory q a = tt
+
 -- what the machine's storage answers
 module _ (line : ℕ) (x : List ℕ) (old new : List Slot) where
   pub refused : (k : Kind) (ns : List ℤ) (r : Result (Unit {0}) Failure) (e : Stuck) → Err e ≡ at_line line r → Allocates k x ns old new r → AnswersAt line (λ (bs : List (ℤ × ℤ)). bs) (free ((store_among old).bounds x) ns) (Err e) × (new ≡ old)
   refused k ns (Ok u) e g h = cc
   refused k ns (Err (failure.Fault f)) e g h = (let same : stuck.Halted (Fault' f line) ≡ e = cc in subst (λ e. AnswersAt line (λ (bs : List (ℤ × ℤ)). bs) (free ((store_among old).bounds x) ns) (Err e)) same (sym (ap (located line) h.0)), h.1)
-  refused k ns (Err failure.Memory) e g h = (let same : stuck.Memory ≡ e = cc in subst (λ e. AnswersAt line (λ (bs : List (ℤ × ℤ)). bs) (free ((store_among old).bounds x) ns) (Err e)) same tt, h)
+  refused k ns (Err failure.Memory) e g h = (let same : stuck.Memory ≡ e = cc in subst (λ e. AnswersAt line (λ (bs : List (ℤ × ℤ)). bs) (free ((store_among old).bounds x) ns) (Err e)) same tt, h.0)
 
   pub granted : (k : Kind) (ns : List ℤ) (r : Result (Unit {0}) Failure) (u : Unit {0}) → Ok u ≡ at_line line r → Allocates k x ns old new r
       → (free ((store_among old).bounds x) ns ≡ Ok (from_one ns)) × (HoldsKind k x old → store_among new ≡ allocated x (from_one ns) (store_among old))

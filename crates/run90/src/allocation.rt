@@ -12,6 +12,7 @@ ghost use Rattle.array_expressions.specs.assignments.Moments.{seen, slots_of};
 
 use array_expressions::all_numbers;
 use array_expressions::assignments::{Moment, Stuck, at};
+use array_values::storage::ranges_from_one;
 use machine::at as located;
 use tree::{Expr, Name, Seq};
 
@@ -29,12 +30,8 @@ pub fn allocate(
     moment.count_step()?;
     let values = at(line, moment.scope().values(extents, &[]))?;
     let numbers = at(line, all_numbers(moment.alloc, values))?;
-    at(
-        line,
-        moment
-            .storage
-            .allocate(moment.alloc, name, numbers.as_slice()),
-    )?;
+    let ranges = at(line, ranges_from_one(moment.alloc, numbers.as_slice()))?;
+    at(line, moment.storage.allocate(moment.alloc, name, ranges))?;
     Ok(())
 }
 

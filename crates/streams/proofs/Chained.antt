@@ -3,7 +3,8 @@ use Rattle.std.proofs.Common.{append-nil, ◌≡◌, ℕ, ◌+◌, ◌<◌, ◌�
 use Rattle.std.proofs.Math.Seq.{take-add}
 use Rattle.std.proofs.lemmas.List.{take-append-drop}
 use Rattle.std.specs.Io.KnownBytes.{prepend_known, append_known}
-use Rattle.streams.specs.Streams.{Takes, TakesMoreThan, TakesAtMost, Gives, GivesPart}
+use Rattle.streams.specs.Streams.{Takes, TakesMoreThan, Gives, GivesPart}
+use Rattle.streams.specs.Turns.{TakesAtMost}
 
 -- no call, no bytes
 pub takes_none : (now : Option (List ℕ)) → Takes now [] now

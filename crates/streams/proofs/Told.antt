@@ -1,7 +1,8 @@
 -- Where the bytes are told, they decide which were taken and given.
 use Rattle.std.proofs.Common.{◌≡◌, ℕ, ◌<◌, ◌≤◌, List, ◌++◌, length, Option, None, Some, refl, ap, arith, ◌∙◌, append-nil, length-append}
 use Rattle.std.specs.Io.KnownBytes.{IsAtEnd}
-use Rattle.streams.specs.Streams.{Takes, TakesMoreThan, TakesAtMost}
+use Rattle.streams.specs.Streams.{Takes, TakesMoreThan}
+use Rattle.streams.specs.Turns.{TakesAtMost}
 
 -- what isn't told stays untold
 pub takes_untold : (bytes : List ℕ) (now : Option (List ℕ)) → Takes None bytes now → now ≡ None

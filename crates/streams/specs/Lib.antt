@@ -3,3 +3,4 @@ pub mod Causes
 pub mod Memory
 pub mod Standard
 pub mod Streams
+pub mod Turns

@@ -3,7 +3,7 @@ ghost use Rattle.std.specs.Prelude.{◌≡◌, ◌≢◌, ◌-◌, ◌<◌, ◌�
 ghost use Rattle.std.specs.Prelude.{Contains};
 ghost use Rattle.std.proofs.Common.{rules};
 ghost use Rattle.streams.specs.Causes.{counted, next_count};
-ghost use Rattle.streams.specs.Streams.{TakesFront, TakesCount, TakesExactly, GivesFront, GivesCount, GivesExactly};
+ghost use Rattle.streams.specs.Turns.{TakesFront, TakesCount, TakesExactly, GivesFront, GivesCount, GivesExactly};
 
 use crate::schedule::Schedule;
 use crate::{Gave, Memory, Sink, Source, Took, WriteFault};

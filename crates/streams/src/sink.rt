@@ -1,7 +1,7 @@
 // A sink for bytes.
 ghost use Rattle.std.specs.Prelude.{◌≡◌, ◌≢◌, ℕ, ◌-◌, ◌^◌, ◌<◌, ◌≤◌, List, [], Option, Ok, OnOk, OnErr, length};
 ghost use Rattle.streams.specs.Causes.{Rose};
-ghost use Rattle.streams.specs.Streams.{GivesFront, GivesCount};
+ghost use Rattle.streams.specs.Turns.{GivesFront, GivesCount};
 
 use crate::WriteFault;
 

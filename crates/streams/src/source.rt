@@ -1,7 +1,7 @@
 // A source of bytes.
 ghost use Rattle.std.specs.Prelude.{◌≡◌, ◌≢◌, ℕ, ◌-◌, ◌^◌, ◌<◌, ◌≤◌, List, Option, length};
 ghost use Rattle.streams.specs.Causes.{Rose};
-ghost use Rattle.streams.specs.Streams.{TakesFront, TakesCount};
+ghost use Rattle.streams.specs.Turns.{TakesFront, TakesCount};
 
 /// What a call of `take` did.
 #[derive(Clone, Copy, Debug, PartialEq, Eq)]

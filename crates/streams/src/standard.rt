@@ -3,7 +3,7 @@ ghost use Rattle.std.specs.Prelude.{◌≡◌, ◌≢◌, ◌<◌, [], None, Ok,
 ghost use Rattle.std.proofs.Common.{rules};
 ghost use Rattle.streams.specs.Causes.{counted, next_count};
 ghost use Rattle.streams.specs.Standard.{took_of, gave_of, ReadsFront, WritesFront};
-ghost use Rattle.streams.specs.Streams.{TakesCount, GivesCount};
+ghost use Rattle.streams.specs.Turns.{TakesCount, GivesCount};
 
 use crate::{Gave, Sink, Source, Took, WriteFault};
 use std::io;

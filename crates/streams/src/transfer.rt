@@ -3,7 +3,8 @@ ghost use Rattle.std.specs.Prelude.{◌≡◌, [], ◌-◌, ◌^◌, ◌≤◌, 
 ghost use Rattle.std.specs.Prelude.{IsErrOf};
 ghost use Rattle.std.specs.Io.KnownBytes.{IsAtEnd};
 ghost use Rattle.streams.specs.Causes.{Rose};
-ghost use Rattle.streams.specs.Streams.{Takes, TakesMoreThan, TakesAtMost, Gives, GivesPart};
+ghost use Rattle.streams.specs.Streams.{Takes, TakesMoreThan, Gives, GivesPart};
+ghost use Rattle.streams.specs.Turns.{TakesAtMost};
 
 use crate::{Gave, ReadEnd, Sink, Source, Took, WriteFault};
 use std::alloc::Global;

@@ -102,10 +102,10 @@ module _ (deck text : List ℕ) (p : Program) (h : IsReadAs Vectorise deck p)
   source = read_is_source_program fortran77 (source_of data_line77 deck) h.reads.source.cards p (omega arith) h.reads.source.are_cards h.reads.source.program
 
   listing : (l : IsListing p notes) × (listed_nests (found_in p) l.entries l.are ≡ nests)
-  listing = answers_are_listed p notes v.blocks v.answers
+  listing = answers_are_listed p notes v.blocks v.made v.answers
 
   good : IsGoodTranslation p q
-  good = translation_is_good p q v.blocks source (answers_are_blocks p notes v.blocks source v.answers) v.placed v.limits
+  good = translation_is_good p q v.blocks v.made source (answers_are_blocks p notes v.blocks v.made source v.answers) v.placed v.limits
 
   are_notes : AllByRecursion IsNote notes
   are_notes = listing_lines_are_notes p notes source listing.0
@@ -140,7 +140,7 @@ module _ (deck text : List ℕ) (p : Program) (h : IsReadAs Vectorise deck p)
     body = sym read.same.body ∙ ap block_without_numbers v.placed.body;
     marked =
         marked_on_other_lines nests v.blocks q.body read.program.body (same_marks q.body read.program.body read.same.body)
-        (translation_is_marked p q v.answers.answers v.blocks source v.answers.are v.answers.placed v.placed);
+        (translation_is_marked p q v.answers.answers v.blocks v.made source v.answers.are v.answers.placed v.placed);
   }
 
   pub holds : Holds deck text

@@ -6,7 +6,8 @@ use Rattle.std.proofs.lemmas.Bool.{eqb-false}
 use Rattle.tree.specs.declared.stmts.Mark.{Mark}
 use Rattle.tree.specs.Plain.{Program}
 use Rattle.meaning.specs.Deck.{is_line, data_line90}
-use Rattle.meaning.specs.Names.{is_letter, is_digit, begins_with}
+use Rattle.meaning.specs.Names.{begins_with}
+use Rattle.meaning.specs.SymbolicNames.{is_letter, is_digit}
 use Rattle.meaning.specs.Profile90.{IsProgram90}
 use Rattle.f90_grammar.specs.PrintedForms.{Printed, printed_program}
 use Rattle.f90_grammar.specs.PrintedText.{IsNote, form_text, further_pieces, piece_length, pieces, continued, lines_of_text, mark_lines, mark_text, printed_lines, program_lines, with_line_feed}

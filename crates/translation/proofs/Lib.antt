@@ -10,7 +10,6 @@ pub mod ProgramMarks
 pub mod LoopNumbers
 pub mod MadeDeclarations
 pub mod FewerNames
-pub mod BlockNames
 pub mod PlacedLoops
 pub mod PlacedProfile
 pub mod LoopPlacing

@@ -1,3 +1,5 @@
 pub mod Cleaned
+pub mod Bounds
+pub mod Arrays
 pub mod Prepared
 pub mod Translation

@@ -1,4 +1,5 @@
 pub mod Passing
 pub mod Steady
+pub mod Frames
 pub mod Beside
 pub mod Placing

@@ -4,6 +4,7 @@ pub mod Lists
 pub mod Sources
 pub mod Named
 pub mod Counted
+pub mod Declared
 pub mod Unlabelled
 pub mod Good
 pub mod Standing

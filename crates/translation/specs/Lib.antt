@@ -8,7 +8,6 @@ pub mod program_marks
 pub mod loop_numbers
 pub mod made_declarations
 pub mod fewer_names
-pub mod block_names
 pub mod placed_loops
 pub mod placed_profile
 pub mod loop_placing

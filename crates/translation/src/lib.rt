@@ -36,11 +36,9 @@
 //! for that form by the graph that is listed and all its holds. Want of memory is the only error. Laws: these lines are
 //! a listing of the program (`answers_are_listed`), and these blocks translations of its nests (`answers_are_blocks`).
 //!
-//! **translation::block_names** (`names_in_block`): exactly the names that stand in a block, as often as they stand
-//! there.
-//!
-//! **translation::made_declarations** (`with_integers`, law): names as INTEGER scalars among declarations, each at its
-//! place in byte order; made names, and none that is declared, keep them declarations of the profile that declare these
+//! **translation::made_declarations** (`with_declarations`, law): made names among declarations, each at its place in
+//! byte order: as passes made it, a scalar of its kind or an array that is allocated later, or else an INTEGER scalar.
+//! Such names, each in one way and none that is declared, keep them declarations of the profile that declare these
 //! names besides (`with_made_names`).
 //!
 //! **translation::nest_profile** (law): a translation of a found nest is a block of the profile of a program that
@@ -74,7 +72,12 @@
 //! have. Before, the loops of such a deck stayed; then what the listing says of its statements would not have been so.
 //!
 //! **A name is declared exactly where it stands.** The names that stand in the blocks are collected, and those that
-//! FORTRAN 77 doesn't have are declared; so no loop variable is declared that isn't used.
+//! FORTRAN 77 doesn't have are declared; so no loop variable is declared that isn't used, and a made name may be a
+//! scalar for one pass and an array for the next: the last nest says how it is declared.
+//!
+//! **Arrays come and go within the block of a nest.** ALLOCATE stands before what is emitted and DEALLOCATE behind what
+//! comes after it, so between the statements of a translated program no allocatable array is there, and the runs of
+//! nests are looked at in a store that has them.
 //!
 //! **A block for each loop's number, from 1 on.** `block_at` takes 1 from the number, and numbers are natural, so 0
 //! would mean the first block too: what is asked of blocks is asked from 1 on.
@@ -86,13 +89,8 @@
 //! **The answer to one loop and those to all loops of a program are one crate.** The second call alone makes the first
 //! one, and the definitions of both speak of the same answers; a crate of its own made each chain through
 //! `translation::nest_blocks` longer by one.
-//!
-//! **A block's names and its uses of names are listed by two walks.** In an expression one walk lists both (`Uses`). In
-//! a statement the two lists have different orders: in a WHERE, and in an implied DO list, `names_in_block` names what
-//! is assigned, or the variable, before the rest, and uses stand as the text has them.
 #![tactic(auto)]
 
-pub mod block_names;
 mod depth;
 pub mod emission_ready;
 pub mod fewer_names;

@@ -2,10 +2,13 @@
 ghost use Rattle.translation.specs.made_declarations.Laws.{WithMadeNames};
 
 mod declaring;
+mod names;
 
-pub use declaring::with_integers;
+pub use declaring::with_declarations;
+pub use names::MadeName;
+pub(crate) use names::names_made;
 
-/// INTEGER scalars with made names, each put at its place, keep declarations in order.
+/// Made names, each put at its place, keep declarations in order.
 pub fn with_made_names()
     ensures { WithMadeNames }
 {}

@@ -6,8 +6,8 @@ ghost use Rattle.translation.specs.loop_placing.Placing.{blocks_of};
 ghost use Rattle.translation.specs.program_translation.Translated.{IsMadeIn};
 ghost use Rattle.translation.specs.Names.{AreWithMade, names_in_option};
 
-use crate::block_names::names_in_block;
 use indexmap::IndexSet;
+use rewrite::names_in_block;
 use std::alloc::Global;
 use tree::{Block, Memory, Name, Seq};
 

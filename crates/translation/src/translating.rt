@@ -8,7 +8,7 @@ ghost use Rattle.translation.specs.Translated.{IsVectorised};
 
 use crate::limits::is_within_limits;
 use crate::loop_placing::place;
-use crate::made_declarations::with_integers;
+use crate::made_declarations::with_declarations;
 use crate::names::made_names;
 use crate::nest_blocks::program_answers;
 use std::alloc::Global;
@@ -22,7 +22,8 @@ pub struct Translation {
 }
 
 /// The translation of a program, with its listing: what is emitted for each nest of loops and statements alone, by the
-/// graph that is listed, stands in the nest's place, and the loop variables that it brings along are declared.
+/// graph that is listed, stands in the nest's place, and the loop variables and other made names that stand in it are
+/// declared.
 ///
 /// A translation beyond the limits of Fortran 90, which are 300 blocks in one another and 2^31 statements, is too large
 /// for memory.
@@ -38,7 +39,7 @@ pub fn translate(alloc: Global, program: Program77) -> Result<Translation, Memor
     if !is_within_limits(&body) {
         return Err(Memory);
     }
-    let decls = with_integers(alloc, decls, names.as_slice())?;
+    let decls = with_declarations(alloc, decls, names.as_slice(), answers.made.as_slice())?;
     Ok(Translation {
         listing: answers.lines,
         program: Program90 { name, decls, body },

@@ -9,7 +9,8 @@ use Rattle.std.proofs.lemmas.Int.{ints, quot-rem}
 use Rattle.std.proofs.lemmas.Bool.{false_from_ne_true}
 use Rattle.std.proofs.lemmas.Bool.Decides.{Decides-int_eq}
 use Rattle.tree.specs.Steps.{◌>>=◌}
-use Rattle.tree.specs.Operators.{number, ranged, remainder, exact_call, call, number_in, IsNumber}
+use Rattle.tree.specs.Operators.{number, ranged, remainder, exact_call, call}
+use Rattle.tree.specs.OperationFaults.{number_in, IsNumber}
 use Rattle.tree.specs.declared.functions.Fun.{Fun}
 use Rattle.tree.specs.declared.functions.Fun.TheVariants.{Abs, Mod, Max, Min}
 use Rattle.tree.specs.declared.ops.Value.{Value}

@@ -5,7 +5,8 @@ use Rattle.std.specs.List.{All}
 use Rattle.std.proofs.lemmas.Bool.{false≢true}
 use Rattle.std.proofs.lemmas.List.Elements.{All-nil, All-cons, All-head, All-tail}
 use Rattle.tree.specs.Functions.{suits_number}
-use Rattle.tree.specs.Operators.{apply, call, suits, IsNumber, IsOperationFault, SuitsCall}
+use Rattle.tree.specs.Operators.{apply, call}
+use Rattle.tree.specs.OperationFaults.{suits, IsNumber, IsOperationFault, SuitsCall}
 use Rattle.tree.specs.declared.ops.Op.{Op}
 use Rattle.tree.specs.declared.functions.Fun.{Fun}
 use Rattle.tree.specs.declared.ops.Value.{Value}

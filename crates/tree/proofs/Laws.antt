@@ -10,7 +10,12 @@ use Rattle.std.proofs.lemmas.Int.{ints}
 use Rattle.std.proofs.lemmas.Bool.{false≢true}
 use Rattle.std.proofs.lemmas.Bool.Decides.{Decides-eqb, Decides-int_eq}
 use Rattle.tree.specs.Steps.{◌>>=◌}
-use Rattle.tree.specs.Operators.{fits, number, ranged, quotient, power, exact_value, exact_call, exact, exact_of_values, on_numbers, on_truths, apply, call, suits, LeavesRange, DividesByZero, CallDividesByZero, NumbersCallDividesByZero, as_numbers, IsNumber, IsInRange, NumbersDivideByZero, kind_of, is_neg, is_not, takes_numbers, takes_truths, as_number, number_in}
+use Rattle.tree.specs.Operators.{fits, number, ranged, quotient, power, exact_value, exact_call, exact_of_values}
+use Rattle.tree.specs.Operators.{on_numbers, on_truths, apply, call, as_numbers, is_neg, is_not, takes_truths}
+use Rattle.tree.specs.Operators.{as_number}
+use Rattle.tree.specs.OperationFaults.{exact, suits, LeavesRange, DividesByZero, CallDividesByZero}
+use Rattle.tree.specs.OperationFaults.{NumbersCallDividesByZero, IsNumber, IsInRange, NumbersDivideByZero, kind_of}
+use Rattle.tree.specs.OperationFaults.{takes_numbers, number_in}
 use Rattle.tree.specs.Functions.{suits_number}
 use Rattle.tree.specs.OperatorTable.{result_kind_of}
 use Rattle.tree.specs.declared.ops.Kind.TheVariants.{Integer}

@@ -6,7 +6,8 @@ use Rattle.std.proofs.lemmas.List.{length-map}
 use Rattle.std.proofs.lemmas.List.Elements.{All-nil, All-cons}
 use Rattle.tree.specs.Steps.{◌>>=◌}
 use Rattle.tree.specs.Functions.{suits_number}
-use Rattle.tree.specs.Operators.{apply, call, suits, as_numbers, exact_call, ranged, number_in, IsNumber}
+use Rattle.tree.specs.Operators.{apply, call, as_numbers, exact_call, ranged}
+use Rattle.tree.specs.OperationFaults.{suits, number_in, IsNumber}
 use Rattle.tree.proofs.Laws.{exact_of_values-numbers}
 use Rattle.tree.specs.declared.ops.Op.{Op}
 use Rattle.tree.specs.declared.ops.Op.TheVariants.{Neg, Not, And, Or, Eqv, Neqv}

@@ -6,6 +6,7 @@ pub mod Gathered
 pub mod Limits
 pub mod Names
 pub mod Operators
+pub mod OperationFaults
 pub mod OperatorTable
 pub mod Padded
 pub mod Plain

@@ -1,23 +1,19 @@
 -- What an operator and a function give (ANSI X3.9-1978, sections 6.1, 6.3, 6.4 and 15.10): the exact value over the
 -- integers, which then has to fit 128 bits.
-use Rattle.std.specs.Prelude.{◌≡◌, Result, Ok, Err, IsOkAnd, ⊤, List, [], ◌∷◌, length, if◌then◌else◌}
-use Rattle.std.specs.Prelude.{Bool, true, false, not, ◌&&◌, ◌||◌, IsTrue, ℕ, suc, ◌-◌, ◌^◌, nat_lt}
-use Rattle.std.specs.Prelude.{ℤ, pos, negsuc, ◌+ℤ◌, ◌-ℤ◌, ◌*ℤ◌, neg_ℤ, ◌<ℤ◌, nat_abs, int_lt, int_le, int_div}
-use Rattle.std.specs.Prelude.{FitsSigned}
-use Rattle.std.specs.Int.{int_max, int_min, int_pow, w128}
-use Rattle.std.specs.List.{All, fold}
+use Rattle.std.specs.Prelude.{Result, Ok, Err, List, [], ◌∷◌, if◌then◌else◌, Bool, true, false, not, ◌&&◌, ◌||◌, ℕ, suc}
+use Rattle.std.specs.Prelude.{◌-◌, ◌^◌, nat_lt, ℤ, pos, negsuc, ◌+ℤ◌, ◌-ℤ◌, ◌*ℤ◌, neg_ℤ, nat_abs, int_lt, int_le}
+use Rattle.std.specs.Prelude.{int_div}
+use Rattle.std.specs.Int.{int_max, int_min, int_pow}
+use Rattle.std.specs.List.{fold}
 use Rattle.std.specs.Ordering.{int_eq}
 use Rattle.tree.specs.Steps.{◌>>=◌}
-use Rattle.tree.specs.Functions.{suits_number}
-use Rattle.tree.specs.declared.ops.Kind.{Kind}
-use Rattle.tree.specs.declared.ops.Kind.TheVariants.{Integer, Logical}
 use Rattle.tree.specs.declared.ops.Value.{Value}
 use Rattle.tree.specs.declared.ops.Value.TheVariants.{Int, Truth}
 use Rattle.tree.specs.declared.ops.Fault.{Fault}
 use Rattle.tree.specs.declared.ops.Fault.TheVariants.{Overflow, ZeroDivide, Shape}
 use Rattle.tree.specs.declared.ops.Op.{Op}
-use Rattle.tree.specs.declared.ops.Op.TheVariants.{Pow, Mul, Div, Neg, Add, Sub, Lt, Le, Eq, Ne, Gt, Ge}
-use Rattle.tree.specs.declared.ops.Op.TheVariants.{Not, And, Or, Eqv, Neqv}
+use Rattle.tree.specs.declared.ops.Op.TheVariants.{Pow, Mul, Div, Neg, Add, Sub, Lt, Le, Eq, Ne, Gt, Ge, Not, And, Or}
+use Rattle.tree.specs.declared.ops.Op.TheVariants.{Eqv, Neqv}
 use Rattle.tree.specs.declared.functions.Fun.{Fun}
 use Rattle.tree.specs.declared.functions.Fun.TheVariants.{Abs, Mod, Max, Min}
 use Rattle.tree.specs.declared.functions.Red.{Red}
@@ -87,9 +83,6 @@ takes_truths Eqv = true
 takes_truths Neqv = true
 takes_truths _ = false
 
-abbrev pub takes_numbers : Op → Bool
-takes_numbers o = not (takes_truths o)
-
 abbrev pub is_neg : Op → Bool
 is_neg Neg = true
 is_neg _ = false
@@ -97,13 +90,6 @@ is_neg _ = false
 abbrev pub is_not : Op → Bool
 is_not Not = true
 is_not _ = false
-
--- the kinds that an operator takes; `Neg` and `Not` don't look at the second value
-abbrev pub suits : Op → Value → Value → Bool
-suits o (Int a) (Int b) = takes_numbers o
-suits o (Truth a) (Truth b) = takes_truths o
-suits o (Int a) (Truth b) = is_neg o
-suits o (Truth a) (Int b) = is_not o
 
 abbrev pub on_numbers : Op → ℤ → ℤ → Result Value Fault
 on_numbers Lt a b = Ok (Truth (int_lt a b))
@@ -129,42 +115,6 @@ apply o (Truth a) (Truth b) = on_truths o a b
 apply o (Int a) (Truth b) = if is_neg o then on_numbers Neg a a else Err Shape
 apply o (Truth a) (Int b) = if is_not o then on_truths Not a a else Err Shape
 
--- the exact number that an operator gives, where it gives one
-abbrev pub exact : Op → Value → Value → Result ℤ Fault
-exact o (Int a) (Int b) = exact_value o a b
-exact o (Int a) (Truth b) = if is_neg o then Ok (neg_ℤ a) else Err Shape
-exact o (Truth a) b = Err Shape
-
--- the exact number is outside 128 bits
-abbrev pub LeavesRange : Result ℤ Fault → Type 0
-LeavesRange r = IsOkAnd r (λ z. ¬ FitsSigned w128 z)
-
-abbrev pub NumbersDivideByZero : Op → ℤ → ℤ → Type 0
-NumbersDivideByZero Div a b = b ≡ pos 0
-NumbersDivideByZero Pow a b = (a ≡ pos 0) × (b <ℤ pos 0)
-NumbersDivideByZero _ a b = ⊥
-
--- a divisor is 0, or 0 has a negative power
-abbrev pub DividesByZero : Op → Value → Value → Type 0
-DividesByZero o (Int a) (Int b) = NumbersDivideByZero o a b
-DividesByZero o _ _ = ⊥
-
--- the faults of an operation
-abbrev pub IsOperationFault : Fault → Type 0
-IsOperationFault Overflow = ⊤
-IsOperationFault ZeroDivide = ⊤
-IsOperationFault Shape = ⊤
-IsOperationFault _ = ⊥
-
--- a number of 128 bits
-abbrev pub IsInRange : Value → Type 0
-IsInRange (Int z) = FitsSigned w128 z
-IsInRange (Truth b) = ⊤
-
-abbrev pub kind_of : Value → Kind
-kind_of (Int z) = Integer
-kind_of (Truth b) = Logical
-
 -- ---- functions
 
 abbrev pub as_number : Value → Result ℤ Fault
@@ -189,28 +139,6 @@ exact_of_values f vs = do
 
 abbrev pub call : Fun → List Value → Result Value Fault
 call f vs = ranged (exact_of_values f vs)
-
-abbrev pub IsNumber : Value → Type 0
-IsNumber (Int z) = ⊤
-IsNumber (Truth b) = ⊥
-
--- as many arguments as the function takes, all of them numbers
-pub record SuitsCall (f : Fun) (vs : List Value) : Type 0 where
-  pub count : IsTrue (suits_number f (length vs))
-  pub numbers : All IsNumber vs
-
--- the number of a value, and 0 for a truth value
-abbrev pub number_in : Value → ℤ
-number_in (Int z) = z
-number_in (Truth b) = pos 0
-
--- the divisor of MOD is 0
-abbrev pub NumbersCallDividesByZero : Fun → List ℤ → Type 0
-NumbersCallDividesByZero Mod (a ∷ b ∷ []) = b ≡ pos 0
-NumbersCallDividesByZero _ _ = ⊥
-
-abbrev pub CallDividesByZero : Fun → List Value → Type 0
-CallDividesByZero f vs = IsOkAnd (as_numbers vs) (NumbersCallDividesByZero f)
 
 -- ---- SUM, MAXVAL, MINVAL of an array's elements (ISO/IEC 1539:1991, section 13.13)
 

@@ -1,8 +1,10 @@
 //! Functions: of numbers (ANSI X3.9-1978, section 15.10), and of arrays (ISO/IEC 1539:1991, section 13.10).
 ghost use Rattle.std.specs.Prelude.{◌≡◌, ◌≤◌, ◌↔◌, IsTrue, IsErrOf, IfErr, IfOk, IfSome, All, find, length, pos};
 ghost use Rattle.std.specs.Prelude.{nat_abs};
-ghost use Rattle.tree.specs.Operators.{number, ranged, remainder, LeavesRange, IsOperationFault, kind_of, IsNumber};
-ghost use Rattle.tree.specs.Operators.{call, exact_of_values, number_in, CallDividesByZero, SuitsCall};
+ghost use Rattle.tree.specs.Operators.{number, ranged, remainder};
+ghost use Rattle.tree.specs.OperationFaults.{LeavesRange, IsOperationFault, kind_of, IsNumber};
+ghost use Rattle.tree.specs.Operators.{call, exact_of_values};
+ghost use Rattle.tree.specs.OperationFaults.{number_in, CallDividesByZero, SuitsCall};
 ghost use Rattle.tree.specs.Functions.{function_named, name_of_function, suits_number, name_of_reduction};
 ghost use Rattle.tree.specs.Functions.{intrinsic_named, intrinsics, name_of_intrinsic};
 

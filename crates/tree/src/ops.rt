@@ -1,9 +1,9 @@
 //! Kinds, values, faults, operators and functions.
 ghost use Rattle.std.specs.Prelude.{◌≡◌, ◌↔◌, IsTrue, IsErrOf, IfErr, IfOk, IfSome, MatchOption, find, pos, negsuc};
 ghost use Rattle.std.specs.Prelude.{◌<ℤ◌};
-ghost use Rattle.tree.specs.Operators.{suits, apply, on_numbers, exact, LeavesRange, DividesByZero};
-ghost use Rattle.tree.specs.Operators.{IsOperationFault};
-ghost use Rattle.tree.specs.Operators.{kind_of, as_number, as_truth};
+ghost use Rattle.tree.specs.Operators.{apply, on_numbers};
+ghost use Rattle.tree.specs.OperationFaults.{suits, exact, LeavesRange, DividesByZero, IsOperationFault, kind_of};
+ghost use Rattle.tree.specs.Operators.{as_number, as_truth};
 ghost use Rattle.tree.specs.OperatorTable.{spelling77_of, spelling90_of, is_spelled, IsSpelled};
 ghost use Rattle.tree.specs.OperatorTable.{level_of, left_least, right_least, stands_between, takes_sign};
 ghost use Rattle.tree.specs.OperatorTable.{is_relation, operand_kind, result_kind_of};

@@ -15,7 +15,7 @@ use Rattle.meaning.specs.Value.{array_of, selectors}
 use Rattle.meaning.specs.ArrayValues.{Elements, conform}
 use Rattle.meaning.specs.ArrayStatements.{axes_named, writes_of, second}
 use Rattle.meaning.specs.Sections.{Axis, Selector, extents_of, axes_selected}
-use Rattle.meaning.specs.Profile77.{elements_of}
+use Rattle.meaning.specs.Extents.{elements_of}
 use Rattle.machine.specs.Storage.{offset}
 use Rattle.machine.proofs.StoreLaws.{offset_below}
 use Rattle.array_values.specs.declared.failure.Failure.{Failure}

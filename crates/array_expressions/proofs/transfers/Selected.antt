@@ -6,7 +6,7 @@ use Rattle.tree.specs.declared.ops.Fault.{Fault}
 use Rattle.meaning.specs.Dialect.{fortran90}
 use Rattle.meaning.specs.Store.{Store, Cell, bounds_of, cells_of, column_major, numbers_from, size_of}
 use Rattle.meaning.specs.Sections.{Axis, numbers_of, whole_axes}
-use Rattle.meaning.specs.Profile77.{elements_of}
+use Rattle.meaning.specs.Extents.{elements_of}
 use Rattle.meaning.specs.Run.{reads_into}
 use Rattle.machine.specs.declared.progress.Halt.{Halt}
 use Rattle.machine.specs.declared.progress.Halt.TheVariants.{Fault as Fault'}

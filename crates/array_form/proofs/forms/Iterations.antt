@@ -29,7 +29,7 @@ no_variable (l ∷ ls) x z zs = ap (λ b. cond b true (same_cell (variable_cell 
     by true = refl
     by false = refl
 
-not_it : (l : Loop) (names : List (List ℕ)) (c : Cell) → Contains names c.name → is_among names l.variable ≡ false → same_cell (variable_cell l.variable) c ≡ false
+pub not_it : (l : Loop) (names : List (List ℕ)) (c : Cell) → Contains names c.name → is_among names l.variable ≡ false → same_cell (variable_cell l.variable) c ≡ false
 not_it l names c m e = by (same_cell (variable_cell l.variable) c) refl
   where
     by : (b : Bool) → same_cell (variable_cell l.variable) c ≡ b → b ≡ false

@@ -15,7 +15,7 @@ use Rattle.linear_forms.proofs.Sizes.{both}
 use Rattle.array_form.specs.forms.Loops.{Loop, Surroundings, variables_of, names_of, is_among, loops_among}
 use Rattle.array_form.specs.forms.Loops.{loops_in_order, one_each, coefficient}
 use Rattle.array_form.specs.forms.Trips.{AreDistinct}
-use Rattle.array_form.specs.forms.Statements.{Hold, loops_from, occurrences, is_linear, are_formed, has_form, depends_on, is_triangle, hold_at, loops_assigned}
+use Rattle.array_form.specs.forms.Statements.{Hold, loops_from, occurrences, is_linear, are_formed, has_form, depends_on, is_triangle, unguarded_hold, loops_assigned}
 use Rattle.array_form.proofs.forms.Names.{among}
 use Rattle.array_form.proofs.forms.Values.{variable_in}
 
@@ -46,7 +46,7 @@ of_filter t (l ∷ ls) m h = by (t l) refl h (of_filter t ls m)
         one (inl e) = (subst (Contains (l ∷ ls)) e (here l ls), ap t (sym e) ∙ p)
         one (inr k) = further more k
 
-abbrev stands_in_names : List (List ℕ) → Loop → Bool
+abbrev pub stands_in_names : List (List ℕ) → Loop → Bool
 stands_in_names names l = is_among names l.variable
 
 pub loop_of : (ls : List Loop) (x : List ℕ) → is_among (variables_of ls) x ≡ true → (l : Loop) × Contains ls l × (l.variable ≡ x)
@@ -258,14 +258,14 @@ pub record Ordered (mine : List Loop) (ps : Subscripts) (D : List Loop) : Type 0
   pub same : loops_in_order D ps ≡ D
   pub ones : one_each D ps ≡ true
 
-no_hold_form : (a : Surroundings) (k : ℕ) (left : Reference) → hold_at a k left ≡ None → has_form a (loops_from a k) left.subscripts ≡ true
+no_hold_form : (a : Surroundings) (k : ℕ) (left : Reference) → unguarded_hold a k left ≡ None → has_form a (loops_from a k) left.subscripts ≡ true
 no_hold_form a k left h = by (has_form a (loops_from a k) left.subscripts) refl
   where
     by : (b : Bool) → has_form a (loops_from a k) left.subscripts ≡ b → b ≡ true
     by true e = refl
     by false e = absurd (let bad : Some Hold.FormHold ≡ None = ap (λ b. cond (not b) (Some Hold.FormHold) (cond (is_triangle a (loops_from a k)) (Some Hold.TriangleHold) None)) (sym e) ∙ h in cc)
 
-pub ordered_loops : (a : Surroundings) (k : ℕ) (left : Reference) → AreDistinct (names_of a) → hold_at a k left ≡ None → Ordered (loops_from a k) left.subscripts (loops_assigned a k left)
+pub ordered_loops : (a : Surroundings) (k : ℕ) (left : Reference) → AreDistinct (names_of a) → unguarded_hold a k left ≡ None → Ordered (loops_from a k) left.subscripts (loops_assigned a k left)
 ordered_loops a k left d h =
     let ps = left.subscripts in
     let mine = loops_from a k in
@@ -312,7 +312,7 @@ none_depends a (j ∷ ls) ms h l c = by (list_any (depends_on a j) ms) refl h (c
     by false e h (inl q) more = subst (λ (i : Loop). list_any (depends_on a i) ms ≡ false) q e
     by false e h (inr g) more = more h g
 
-pub no_triangle : (a : Surroundings) (k : ℕ) (left : Reference) → hold_at a k left ≡ None → (l m : Loop) → Contains (loops_from a k) l → Contains (loops_from a k) m → l.variable ≢ m.variable
+pub no_triangle : (a : Surroundings) (k : ℕ) (left : Reference) → unguarded_hold a k left ≡ None → (l m : Loop) → Contains (loops_from a k) l → Contains (loops_from a k) m → l.variable ≢ m.variable
     → coefficient (names_of a) m.variable l.trip.form.coefficients ≡ pos 0
 no_triangle a k left h l m p q n = no_depending a l (loops_from a k) (none_depends a (loops_from a k) (loops_from a k) (by (is_triangle a (loops_from a k)) refl) l p) m q n
   where

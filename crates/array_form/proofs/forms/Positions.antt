@@ -15,7 +15,7 @@ use Rattle.array_form.proofs.forms.Iterations.{iterations}
 
 -- ---- lists of lists
 
-in_flat_map : {A B : Type 0} (f : A → List B) (ys : List A) (y : A) (z : B) → Contains ys y → Contains (f y) z → Contains (flat_map f ys) z
+pub in_flat_map : {A B : Type 0} (f : A → List B) (ys : List A) (y : A) (z : B) → Contains ys y → Contains (f y) z → Contains (flat_map f ys) z
 in_flat_map f [] y z h k = absurd (nowhere y h)
 in_flat_map f (x ∷ ys) y z h k = by (cases_of x ys y h) (λ g. in_flat_map f ys y z g k)
   where

@@ -1,9 +1,9 @@
 -- Worked array forms.
-use Rattle.std.proofs.Common.{◌≡◌, refl, ℕ, ℤ, pos, ◌*ℤ◌, true, false, if◌then◌else◌, List, [], ◌∷◌, Some, None, Result, Ok, map}
+use Rattle.std.proofs.Common.{◌≡◌, refl, ℕ, ℤ, pos, ◌*ℤ◌, true, false, if◌then◌else◌, List, [], ◌∷◌, Option, Some, None, Result, Ok, map}
 use Rattle.std.specs.Str.{bytes_eq}
 use Prim.Native.String.{String}
-use Rattle.tree.specs.Plain.{Expression, Unary, Binary, Constructor, Spread, Transpose, Reshape, Subscript, Only, Section, expressions, no_loops, loop, Reference, Assignment, If, no_arms, arm, Block, no_statements, statement}
-use Rattle.tree.specs.declared.ops.Op.TheVariants.{Mul, Div, Neg, Add, Sub, Ge, And}
+use Rattle.tree.specs.Plain.{Expression, Unary, Binary, Constructor, Spread, Transpose, Reshape, Subscript, Only, Section, expressions, no_loops, loop, Reference, Assignment, Where, If, no_arms, arm, Block, no_statements, statement}
+use Rattle.tree.specs.declared.ops.Op.TheVariants.{Mul, Div, Neg, Add, Sub, Ge, Ne, And}
 use Rattle.tree.specs.Steps.{◌>>=◌}
 use Rattle.tree.specs.declared.ops.Fault.{Fault}
 use Rattle.tree.specs.declared.ops.Value.{Value}
@@ -14,7 +14,7 @@ use Rattle.meaning.proofs.DeckWords.{n, v, at, part, to_part, to_element, name, 
 use Rattle.meaning_laws.specs.arrays.Instances.{in_turn}
 use Rattle.array_form.specs.forms.Instances.{in_sequence, instances_of}
 use Rattle.array_form.specs.forms.Loops.{Trip, Loop, Surroundings}
-use Rattle.array_form.specs.forms.Statements.{FormHold, TriangleHold, hold_at, array_form_of}
+use Rattle.array_form.specs.forms.Statements.{FormHold, TriangleHold, BoundsHold, hold_at, unguarded_hold, array_form_of}
 
 -- ---- words
 
@@ -34,7 +34,7 @@ abbrev without_spread : List Loop → Surroundings
 without_spread ls = record { loops = ls; symbols = name "N" ∷ []; may_spread = false }
 
 abbrev assigned : Surroundings → ℕ → Reference → Expression → Block
-assigned a k left right = array_form_of a k 7 None left right
+assigned a k left right = array_form_of a k 7 None None left right
 
 abbrev alone : Reference → Expression → Block
 alone left right = statement (Assignment 7 None left right) no_statements
@@ -139,30 +139,71 @@ past_the_limits : assigned (within (around "I" (pos 0 ∷ pos 2 ∷ []) (pos 0) 
     (alone (to_part "A" (Section (Binary Add (v "N") (n 1099511627776)) (Binary Add (Binary Mul (n 1099511627776) (Binary Mul (n 2) (v "N"))) (v "N")) (n 1099511627776) ∷ [])) (n 0))
 past_the_limits = refl
 
+-- ---- under a guard
+
+abbrev under : Surroundings → ℕ → Expression → Reference → Expression → Block
+under a k guard left right = array_form_of a k 7 None (Some guard) left right
+
+-- A(I) = B(I) / C(I) under C(I) /= 0
+masked : under (within (through "I" 4 ∷ [])) 1 (Binary Ne (at "C" (v "I" ∷ [])) (n 0)) (to_element "A" (v "I" ∷ [])) (Binary Div (at "B" (v "I" ∷ [])) (at "C" (v "I" ∷ [])))
+    ≡ statement (Where 7 None (Binary Ne (part "C" (to 1 4 ∷ [])) (n 0)) (to_part "A" (to 1 4 ∷ [])) (Binary Div (part "B" (to 1 4 ∷ [])) (part "C" (to 1 4 ∷ [])))) no_statements
+masked = refl
+
+-- A(I,J) = 0 under M(I): the mask has the rank of the left side
+mask_of_one_loop : under (within three_by_two) 1 (at "M" (v "I" ∷ [])) (to_element "A" (v "I" ∷ v "J" ∷ [])) (n 0)
+    ≡ statement (Where 7 None (Spread (part "M" (to 1 3 ∷ [])) 2 (n 2)) (to_part "A" (to 1 3 ∷ to 1 2 ∷ [])) (n 0)) no_statements
+mask_of_one_loop = refl
+
+-- with the outer loop kept the guard is an IF
+outer_loop_in_guard : under (within three_by_two) 2 (at "M" (v "I" ∷ [])) (to_element "A" (v "I" ∷ v "J" ∷ [])) (n 0)
+    ≡ tested (at "M" (v "I" ∷ [])) (alone (to_part "A" (Only (v "I") ∷ to 1 2 ∷ [])) (n 0))
+outer_loop_in_guard = refl
+
+-- the IF on the trip stands round the IF of the guard
+trip_and_guard : under (within (around "I" (pos 0 ∷ pos 1 ∷ []) (pos 0) ∷ [])) 1 (v "L") (to_element "A" (v "I" ∷ [])) (n 0)
+    ≡ tested (Binary Ge (v "N") (n 1)) (tested (v "L") (alone (to_part "A" (Section (n 1) (v "N") (n 1) ∷ [])) (n 0)))
+trip_and_guard = refl
+
 -- ---- holds
 
 -- two loops in one left subscript, a loop in none, and a scalar
-two_in_one : hold_at (within three_by_two) 1 (to_element "A" (Binary Add (v "I") (v "J") ∷ [])) ≡ Some FormHold
+two_in_one : unguarded_hold (within three_by_two) 1 (to_element "A" (Binary Add (v "I") (v "J") ∷ [])) ≡ Some FormHold
 two_in_one = refl
 
-in_none : hold_at (within three_by_two) 1 (to_element "A" (v "I" ∷ [])) ≡ Some FormHold
+in_none : unguarded_hold (within three_by_two) 1 (to_element "A" (v "I" ∷ [])) ≡ Some FormHold
 in_none = refl
 
-scalar_left_side : hold_at (within three_by_two) 2 (to_element "A" []) ≡ Some FormHold
+scalar_left_side : unguarded_hold (within three_by_two) 2 (to_element "A" []) ≡ Some FormHold
 scalar_left_side = refl
 
-not_linear : hold_at (within three_by_two) 2 (to_element "A" (at "K" (v "J" ∷ []) ∷ [])) ≡ Some FormHold
+not_linear : unguarded_hold (within three_by_two) 2 (to_element "A" (at "K" (v "J" ∷ []) ∷ [])) ≡ Some FormHold
 not_linear = refl
 
 -- J from 1 to I
-triangle : hold_at (within (through "I" 3 ∷ around "J" (pos 1 ∷ []) (pos 0) ∷ [])) 1 (to_element "A" (v "I" ∷ v "J" ∷ [])) ≡ Some TriangleHold
+triangle : unguarded_hold (within (through "I" 3 ∷ around "J" (pos 1 ∷ []) (pos 0) ∷ [])) 1 (to_element "A" (v "I" ∷ v "J" ∷ [])) ≡ Some TriangleHold
 triangle = refl
 
-triangle_inside : hold_at (within (through "I" 3 ∷ around "J" (pos 1 ∷ []) (pos 0) ∷ [])) 2 (to_element "A" (v "I" ∷ v "J" ∷ [])) ≡ None
+triangle_inside : unguarded_hold (within (through "I" 3 ∷ around "J" (pos 1 ∷ []) (pos 0) ∷ [])) 2 (to_element "A" (v "I" ∷ v "J" ∷ [])) ≡ None
 triangle_inside = refl
 
-no_hold : hold_at (within three_by_two) 1 (to_element "A" (v "I" ∷ v "J" ∷ [])) ≡ None
+no_hold : unguarded_hold (within three_by_two) 1 (to_element "A" (v "I" ∷ v "J" ∷ [])) ≡ None
 no_hold = refl
+
+-- a guard without loops from the level on, or with a safe statement, holds nothing
+abbrev guard_of_outer : Option Expression
+guard_of_outer = Some (at "M" (v "I" ∷ []))
+
+unsafe : hold_at (within three_by_two) 1 guard_of_outer (to_element "A" (v "I" ∷ v "J" ∷ [])) false ≡ Some BoundsHold
+unsafe = refl
+
+safe : hold_at (within three_by_two) 1 guard_of_outer (to_element "A" (v "I" ∷ v "J" ∷ [])) true ≡ None
+safe = refl
+
+guard_outside : hold_at (within three_by_two) 2 guard_of_outer (to_element "A" (v "I" ∷ v "J" ∷ [])) false ≡ None
+guard_outside = refl
+
+form_first : hold_at (within three_by_two) 1 guard_of_outer (to_element "A" (v "I" ∷ [])) false ≡ Some FormHold
+form_first = refl
 
 -- ---- instances
 

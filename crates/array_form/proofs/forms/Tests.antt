@@ -7,7 +7,7 @@ use Rattle.std.proofs.lemmas.Bool.Decides.{Decides-int_eq}
 use Rattle.std.proofs.Math.IntN.{zero-*ℤ, +ℤ_idl}
 use mathlib.Core.Path.{ap₂}
 use Rattle.tree.specs.Operators.{apply, as_truth}
-use Rattle.tree.specs.Plain.{Expression, Number, Binary, Reference, Assignment, Block, If, no_arms, arm, no_statements, statement}
+use Rattle.tree.specs.Plain.{Expression, Number, Binary, Reference, Block, If, no_arms, arm, no_statements, statement}
 use Rattle.tree.specs.Steps.{◌>>=◌}
 use Rattle.tree.specs.declared.ops.Fault.{Fault}
 use Rattle.tree.specs.declared.ops.Op.TheVariants.{And, Ge}
@@ -27,7 +27,7 @@ use Rattle.array_form.specs.forms.Instances.{count_of, counts_of, in_sequence}
 use Rattle.array_form.specs.forms.Laws.{Turns, AreKnown}
 use Rattle.array_form.specs.forms.Loops.{Loop, Surroundings, names_of, is_positive_constant}
 use Rattle.array_form.specs.forms.Trips.{trip_number}
-use Rattle.array_form.specs.forms.Statements.{tests_of, and_all, guarded_by, loops_from, left_form, right_form, array_form_of}
+use Rattle.array_form.specs.forms.Statements.{tests_of, and_all, guarded_by, loops_from, guarded_form, array_form_of}
 use Rattle.array_form.proofs.forms.Bounds.{text_value}
 use Rattle.linear_forms.proofs.Sizes.{both}
 
@@ -86,7 +86,7 @@ no_turn (pos zero) h = refl
 no_turn (pos (suc n)) h = absurd (omega (arith, h))
 no_turn (negsuc n) h = refl
 
-all_nought : (cs xs : List ℤ) → not_zero cs ≡ 0 → weighted cs xs ≡ pos 0
+pub all_nought : (cs xs : List ℤ) → not_zero cs ≡ 0 → weighted cs xs ≡ pos 0
 all_nought [] xs h = refl
 all_nought (c ∷ cs) [] h = refl
 all_nought (c ∷ cs) (x ∷ xs) h = by (int_eq c (pos 0)) refl h (all_nought cs xs)
@@ -147,7 +147,7 @@ all_false b (x ∷ bs) c = by (cases_of b (x ∷ bs) false c) (λ p. all_false (
 abbrev pub ready : State → State
 ready s = record s { way = Going }
 
-taken : (d : Dialect) (line : ℕ) (test : Expression) (body : Block) (s : State) → truth_of d test s.store ≡ Ok true
+pub taken : (d : Dialect) (line : ℕ) (test : Expression) (body : Block) (s : State) → truth_of d test s.store ≡ Ok true
     → does d None (If line (arm test body no_arms) no_statements) (ready s) ≡ does_all d None body (ready (record s { steps = s.steps + 1 }))
 unfolding counts_step while_going evaluates
 taken d line test body s h = ap (λ r. answered line r (λ b. either b (does_all d None body) (does_all d None no_statements)) (record s { steps = s.steps + 1; way = Going })) h
@@ -164,7 +164,7 @@ pub block_done : (d : Dialect) (a : Surroundings) (line : ℕ) (body : Block) (s
     → (n : ℕ) × (does_all d None (guarded_by line (tests_of (names_of a) ls) body) (ready s) ≡ does_all d None body (ready (record s { steps = n })))
 block_done d a line body s xs k ls t = run_by d line (tests_of (names_of a) ls) (truths xs ls) body s (test_truths d a s.store xs k ls (λ l c. let h = (t l c).trip in (h.limits, h.divisor))) (all_true xs ls (λ l c. (t l c).least))
 
-passed : (d : Dialect) (line : ℕ) (test : Expression) (body : Block) (s : State) → truth_of d test s.store ≡ Ok false
+pub passed : (d : Dialect) (line : ℕ) (test : Expression) (body : Block) (s : State) → truth_of d test s.store ≡ Ok false
     → does d None (If line (arm test body no_arms) no_statements) (ready s) ≡ ready (record s { steps = s.steps + 1 })
 unfolding counts_step while_going evaluates
 passed d line test body s h = ap (λ r. answered line r (λ b. either b (does_all d None body) (does_all d None no_statements)) (record s { steps = s.steps + 1; way = Going })) h
@@ -182,12 +182,12 @@ pub nothing_done : (d : Dialect) (a : Surroundings) (line : ℕ) (body : Block) 
 nothing_done d a line body s xs k ls t l c h = passed_over d line (tests_of (names_of a) ls) (truths xs ls) body s (test_truths d a s.store xs k ls t) (has_false xs ls l c h)
 
 -- where a loop doesn't turn, an array form stores nothing, whether the other trips can be counted or not
-pub form_passes : (d : Dialect) (a : Surroundings) (k line : ℕ) (mark : Option Mark) (left : Reference) (right : Expression) (s : State) (xs : List ℤ) → s.way ≡ Going → AreKnown a s.store xs
+pub form_passes : (d : Dialect) (a : Surroundings) (k line : ℕ) (mark : Option Mark) (guard : Option Expression) (left : Reference) (right : Expression) (s : State) (xs : List ℤ) → s.way ≡ Going → AreKnown a s.store xs
     → ((l : Loop) → Contains (loops_from a k) l → HasText a l) → (l : Loop) → Contains (loops_from a k) l → count_of xs l ≡ 0
-    → (n : ℕ) × (does_all d None (array_form_of a k line mark left right) s ≡ record s { steps = n })
-form_passes d a k line mark left right s xs going known texts l c none =
-    let r = nothing_done d a line (statement (Assignment line mark (left_form a k left) (right_form a k left right)) no_statements) s xs known (loops_from a k) texts l c none in
-    (r.0, subst (λ (v : State). does_all d None (array_form_of a k line mark left right) v ≡ record v { steps = r.0 }) (λ i. let v : State = record s { way = sym going i } in v) r.1)
+    → (n : ℕ) × (does_all d None (array_form_of a k line mark guard left right) s ≡ record s { steps = n })
+form_passes d a k line mark guard left right s xs going known texts l c none =
+    let r = nothing_done d a line (statement (guarded_form a k line mark guard left right) no_statements) s xs known (loops_from a k) texts l c none in
+    (r.0, subst (λ (v : State). does_all d None (array_form_of a k line mark guard left right) v ≡ record v { steps = r.0 }) (λ i. let v : State = record s { way = sym going i } in v) r.1)
 
 -- ---- and there is no instance
 

@@ -3,7 +3,7 @@ use Rattle.std.proofs.Common.{◌≡◌, refl, sym, ap, ◌∙◌, subst, ◌⊎
 use Rattle.std.specs.List.{AllByRecursion}
 use Rattle.std.proofs.lemmas.List.Elements.{recursion_from_All}
 use mathlib.Core.Path.{ap₂}
-use Rattle.tree.specs.Plain.{Expression, Logic, Named, Only, Section, Subscripts, no_subscripts, subscript, Reference, Assignment, no_statements, statement}
+use Rattle.tree.specs.Plain.{Expression, Logic, Named, Only, Section, Subscripts, no_subscripts, subscript, Reference, no_statements, statement}
 use Rattle.tree.specs.Steps.{◌>>=◌}
 use Rattle.tree.specs.declared.ops.Fault.{Fault}
 use Rattle.tree.specs.declared.ops.Fault.TheVariants.{Allocated, Bounds}
@@ -13,7 +13,8 @@ use Rattle.tree.specs.declared.stmts.Mark.{Mark}
 use Rattle.meaning.specs.ArrayStatements.{axes_named, storable, writes_of}
 use Rattle.meaning.specs.ArrayValues.{Elements, each, positions, conform}
 use Rattle.meaning.specs.Dialect.{Dialect, fortran90}
-use Rattle.meaning.specs.Reads.{names_in, names_in_subscripts, cells_read, cells_read_by}
+use Rattle.meaning.specs.Reads.{names_in, names_in_subscripts}
+use Rattle.meaning.specs.CellsRead.{cells_read, cells_read_by}
 use Rattle.meaning.specs.Run.{State, Going, does_all}
 use Rattle.meaning.specs.Sections.{Axis, extents_of}
 use Rattle.meaning.specs.Store.{Store, Cell, same_cell, cell_at, cell_in}
@@ -37,7 +38,7 @@ use Rattle.array_form.specs.forms.Instances.{at_iterations, count_of, counts_of,
 use Rattle.array_form.specs.forms.Laws.{Turns, AreKnown, AreTurning, instances_from, OwnCells, InstancesHaveOwnCells, ArrayFormStoresInstances}
 use Rattle.array_form.specs.forms.Loops.{Loop, Surroundings, variables_of, names_of, loops_in_order, loops_among}
 use Rattle.array_form.specs.forms.Trips.{AreDistinct}
-use Rattle.array_form.specs.forms.Statements.{loops_from, hold_at, loops_assigned, left_form, right_form, array_form_of}
+use Rattle.array_form.specs.forms.Statements.{loops_from, unguarded_hold, loops_assigned, left_form, right_form, array_assignment, array_form_of}
 use Rattle.array_form.proofs.forms.Axes as axes
 use Rattle.array_form.proofs.forms.Axes.{Fit, Within, NoFault, Takes, places}
 use Rattle.array_form.proofs.forms.Forming.{conforming}
@@ -157,7 +158,7 @@ linear_vectors d a s xs k D (subscript (Only e) ps) h =
 -- ---- the assignment to an element with subscripts
 
 module _ (d : Dialect) (bits : d.bits ≡ 31) (a : Surroundings) (k : ℕ) (s : Store) (xs : List ℤ) (known : AreKnown a s xs) (turns : (l : Loop) → Contains (loops_from a k) l → Turns a xs l)
-    (x : List ℕ) (e : Expression) (ps : Subscripts) (right : Expression) (no_hold : hold_at a k (record { name = x; subscripts = subscript (Only e) ps }) ≡ None)
+    (x : List ℕ) (e : Expression) (ps : Subscripts) (right : Expression) (no_hold : unguarded_hold a k (record { name = x; subscripts = subscript (Only e) ps }) ≡ None)
     (moved : are_moved a (loops_assigned a k (record { name = x; subscripts = subscript (Only e) ps })) (subscript (Only e) ps) ≡ true)
     (t : Store) where
   abbrev left : Reference
@@ -430,7 +431,7 @@ module _ (d : Dialect) (bits : d.bits ≡ 31) (a : Surroundings) (k : ℕ) (s : 
 -- ---- what they store in is their own
 
 module _ (d : Dialect) (bits : d.bits ≡ 31) (a : Surroundings) (k : ℕ) (s t : Store) (xs : List ℤ) (known : AreKnown a s xs) (turns : (l : Loop) → Contains (loops_from a k) l → Turns a xs l) where
-  element_own : (x : List ℕ) (e : Expression) (ps : Subscripts) (right : Expression) → let left : Reference = record { name = x; subscripts = subscript (Only e) ps } in hold_at a k left ≡ None
+  element_own : (x : List ℕ) (e : Expression) (ps : Subscripts) (right : Expression) → let left : Reference = record { name = x; subscripts = subscript (Only e) ps } in unguarded_hold a k left ≡ None
       → are_moved a (loops_assigned a k left) (subscript (Only e) ps) ≡ true → NoneReadsWritten [] (instances_from d a k xs left right) s → in_turn (instances_from d a k xs left right) s ≡ Ok t
       → OwnCells d a k xs left right s
   element_own x e ps right no_hold moved none run = by (s.bounds x) refl
@@ -440,7 +441,7 @@ module _ (d : Dialect) (bits : d.bits ≡ 31) (a : Surroundings) (k : ℕ) (s t 
       by None b = absurd (no_bounds d bits a k s xs known turns x e ps right no_hold moved t none run b)
 
 -- a left side in which loops stand has subscripts
-pub unsubscripted : (a : Surroundings) (k : ℕ) (left : Reference) → AreDistinct (names_of a) → has_none (loops_from a k) ≡ false → hold_at a k left ≡ None → left.subscripts ≡ no_subscripts → ⊥
+pub unsubscripted : (a : Surroundings) (k : ℕ) (left : Reference) → AreDistinct (names_of a) → has_none (loops_from a k) ≡ false → unguarded_hold a k left ≡ None → left.subscripts ≡ no_subscripts → ⊥
 unsubscripted a k left distinct some no_hold e =
     let order = ordered_loops a k left distinct no_hold in
     let empty : loops_assigned a k left ≡ [] = ap (loops_in_order (loops_from a k)) e in
@@ -454,40 +455,51 @@ unsubscripted a k left distinct some no_hold e =
 
 module _ (a : Surroundings) (k line : ℕ) (mark : Option Mark) (s : State) (t : Store) (xs : List ℤ) (known : AreKnown a s.store xs) (turns : (l : Loop) → Contains (loops_from a k) l → Turns a xs l) (some : has_none (loops_from a k) ≡ false) where
   abbrev Result_of : Reference → Expression → Type 0
-  Result_of left right = (n : ℕ) × (does_all fortran90 None (array_form_of a k line mark left right) (ready s) ≡ record s { store = t; steps = n; way = Going })
+  Result_of left right = (n : ℕ) × (does_all fortran90 None (array_form_of a k line mark None left right) (ready s) ≡ record s { store = t; steps = n; way = Going })
 
-  with_subscripts : (x : List ℕ) (e : Expression) (ps : Subscripts) (right : Expression) → let left : Reference = record { name = x; subscripts = subscript (Only e) ps } in hold_at a k left ≡ None
+  -- whatever the number of steps is
+  abbrev Done_by : Reference → Expression → Type 0
+  Done_by left right = (ws : List (Cell × Value)) × ((n : ℕ) → does_all fortran90 None (statement (array_assignment a k line mark left right) no_statements) (ready (record s { steps = n })) ≡ record s { store = t; steps = n + 1 + length ws; way = Going })
+
+  with_subscripts : (x : List ℕ) (e : Expression) (ps : Subscripts) (right : Expression) → let left : Reference = record { name = x; subscripts = subscript (Only e) ps } in unguarded_hold a k left ≡ None
       → are_moved a (loops_assigned a k left) (subscript (Only e) ps) ≡ true → is_regular a (loops_assigned a k left) right ≡ true
       → NoneReadsWritten [] (instances_of fortran90 (loops_from a k) (counts_of xs (loops_from a k)) left right) s.store
-      → in_turn (instances_of fortran90 (loops_from a k) (counts_of xs (loops_from a k)) left right) s.store ≡ Ok t → Result_of left right
+      → in_turn (instances_of fortran90 (loops_from a k) (counts_of xs (loops_from a k)) left right) s.store ≡ Ok t → Done_by left right
   with_subscripts x e ps right no_hold moved regular none run =
       let w = written fortran90 refl a k s.store xs known turns x e ps right no_hold moved t regular refl some none run in
-      let left : Reference = record { name = x; subscripts = subscript (Only e) ps } in
-      let g = block_done fortran90 a line (statement (Assignment line mark (left_form a k left) (right_form a k left right)) no_statements) s xs known (loops_from a k) turns in (
-        g.0 + 1 + length w.writes,
-        g.1 ∙ (array_statement_stores fortran90 line mark (right_form a k left right) (left_form a k left) (ready (record s { steps = g.0 })) w.writes refl w.is_array_there w.writes_known
-            ∙ ap (λ (u : Store). let r : State = record s { store = u; steps = g.0 + 1 + length w.writes; way = Going } in r) w.are),
+      let left : Reference = record { name = x; subscripts = subscript (Only e) ps } in (
+        w.writes,
+        λ n. array_statement_stores fortran90 line mark (right_form a k left right) (left_form a k left) (ready (record s { steps = n })) w.writes refl w.is_array_there w.writes_known
+            ∙ ap (λ (u : Store). let r : State = record s { store = u; steps = n + 1 + length w.writes; way = Going } in r) w.are,
       )
 
-  pub stores_instances : (left : Reference) (right : Expression) → hold_at a k left ≡ None → are_moved a (loops_assigned a k left) left.subscripts ≡ true → is_regular a (loops_assigned a k left) right ≡ true
+  pub assignment_done : (left : Reference) (right : Expression) → unguarded_hold a k left ≡ None → are_moved a (loops_assigned a k left) left.subscripts ≡ true → is_regular a (loops_assigned a k left) right ≡ true
       → NoneReadsWritten [] (instances_of fortran90 (loops_from a k) (counts_of xs (loops_from a k)) left right) s.store
-      → in_turn (instances_of fortran90 (loops_from a k) (counts_of xs (loops_from a k)) left right) s.store ≡ Ok t → Result_of left right
-  stores_instances left right no_hold moved regular none run = by left.subscripts refl
+      → in_turn (instances_of fortran90 (loops_from a k) (counts_of xs (loops_from a k)) left right) s.store ≡ Ok t → Done_by left right
+  assignment_done left right no_hold moved regular none run = by left.subscripts refl
     where
       again : (qs : Subscripts) → left.subscripts ≡ qs → left ≡ record { name = left.name; subscripts = qs }
       again qs e = ap (λ rs. let r : Reference = record { name = left.name; subscripts = rs } in r) e
 
-      by : (qs : Subscripts) → left.subscripts ≡ qs → Result_of left right
+      by : (qs : Subscripts) → left.subscripts ≡ qs → Done_by left right
       by no_subscripts e = absurd (unsubscripted a k left known.distinct some no_hold e)
       by (subscript (Section i j l) ps) e = absurd (let bad : false ≡ true = ap (are_moved a (loops_assigned a k left)) (sym e) ∙ moved in cc)
       by (subscript (Only i) ps) e =
           let same = again (subscript (Only i) ps) e in
-          subst (λ (r : Reference). Result_of r right) (sym same) (with_subscripts left.name i ps right
-          (subst (λ (r : Reference). hold_at a k r ≡ None) same no_hold)
+          subst (λ (r : Reference). Done_by r right) (sym same) (with_subscripts left.name i ps right
+          (subst (λ (r : Reference). unguarded_hold a k r ≡ None) same no_hold)
           (subst (λ (r : Reference). are_moved a (loops_assigned a k r) r.subscripts ≡ true) same moved)
           (subst (λ (r : Reference). is_regular a (loops_assigned a k r) right ≡ true) same regular)
           (subst (λ (r : Reference). NoneReadsWritten [] (instances_of fortran90 (loops_from a k) (counts_of xs (loops_from a k)) r right) s.store) same none)
           (subst (λ (r : Reference). in_turn (instances_of fortran90 (loops_from a k) (counts_of xs (loops_from a k)) r right) s.store ≡ Ok t) same run))
+
+  pub stores_instances : (left : Reference) (right : Expression) → unguarded_hold a k left ≡ None → are_moved a (loops_assigned a k left) left.subscripts ≡ true → is_regular a (loops_assigned a k left) right ≡ true
+      → NoneReadsWritten [] (instances_of fortran90 (loops_from a k) (counts_of xs (loops_from a k)) left right) s.store
+      → in_turn (instances_of fortran90 (loops_from a k) (counts_of xs (loops_from a k)) left right) s.store ≡ Ok t → Result_of left right
+  stores_instances left right no_hold moved regular none run =
+      let r = assignment_done left right no_hold moved regular none run in
+      let g = block_done fortran90 a line (statement (array_assignment a k line mark left right) no_statements) s xs known (loops_from a k) turns in
+      (g.0 + 1 + length r.0, g.1 ∙ r.1 g.0)
 
 pub instances_have_own_cells : InstancesHaveOwnCells
 instances_have_own_cells lang a k left right s t xs bits known trips some no_hold moved none run = by (all_or_one xs (loops_from a k))
@@ -501,7 +513,7 @@ instances_have_own_cells lang a k left right s t xs bits known trips some no_hol
     by_subscripts turns (subscript (Only i) ps) e =
         let same = again (subscript (Only i) ps) e in
         subst (λ (r : Reference). OwnCells lang a k xs r right s) (sym same) (element_own lang bits a k s t xs known turns left.name i ps right
-        (subst (λ (r : Reference). hold_at a k r ≡ None) same no_hold)
+        (subst (λ (r : Reference). unguarded_hold a k r ≡ None) same no_hold)
         (subst (λ (r : Reference). are_moved a (loops_assigned a k r) r.subscripts ≡ true) same moved)
         (subst (λ (r : Reference). NoneReadsWritten [] (instances_from lang a k xs r right) s) same none)
         (subst (λ (r : Reference). in_turn (instances_from lang a k xs r right) s ≡ Ok t) same run))
@@ -514,12 +526,12 @@ pub array_form_stores_instances : ArrayFormStoresInstances
 array_form_stores_instances a k line mark left right s t xs going known trips some no_hold moved regular none run = by (all_or_one xs (loops_from a k))
   where
     Outcome : Type 0
-    Outcome = (n : ℕ) × (does_all fortran90 None (array_form_of a k line mark left right) s ≡ record s { store = t; steps = n })
+    Outcome = (n : ℕ) × (does_all fortran90 None (array_form_of a k line mark None left right) s ≡ record s { store = t; steps = n })
 
-    at_going : (u : Store) → u ≡ t → (n : ℕ) → does_all fortran90 None (array_form_of a k line mark left right) (ready s) ≡ record s { store = u; steps = n; way = Going } → Outcome
+    at_going : (u : Store) → u ≡ t → (n : ℕ) → does_all fortran90 None (array_form_of a k line mark None left right) (ready s) ≡ record s { store = u; steps = n; way = Going } → Outcome
     at_going u e n h = (
       n,
-      subst (λ (v : State). does_all fortran90 None (array_form_of a k line mark left right) v ≡ record v { store = t; steps = n }) (λ i. let v : State = record s { way = sym going i } in v)
+      subst (λ (v : State). does_all fortran90 None (array_form_of a k line mark None left right) v ≡ record v { store = t; steps = n }) (λ i. let v : State = record s { way = sym going i } in v)
           (h ∙ ap (λ (v : Store). let r : State = record s { store = v; steps = n; way = Going } in r) e),
     )
 
@@ -528,6 +540,6 @@ array_form_stores_instances a k line mark left right s t xs going known trips so
         let r = stores_instances a k line mark s t xs known (λ l c. record { trip = trips l c; least = turn l c }) some left right no_hold moved regular none run in
         at_going t refl r.0 r.1
     by (inr one) =
-        let r = nothing_done fortran90 a line (statement (Assignment line mark (left_form a k left) (right_form a k left right)) no_statements) s xs known (loops_from a k) (λ l c. let h = trips l c in (h.limits, h.divisor)) one.0 one.1 one.2 in
+        let r = nothing_done fortran90 a line (statement (array_assignment a k line mark left right) no_statements) s xs known (loops_from a k) (λ l c. let h = trips l c in (h.limits, h.divisor)) one.0 one.1 one.2 in
         let stays = ap (λ iss. in_turn (map (instance_at fortran90 (loops_from a k) left right) iss) s.store) (sym (no_sequence xs (loops_from a k) one.0 one.1 one.2)) ∙ run in
         at_going s.store (same_answer s.store t stays) r.0 r.1

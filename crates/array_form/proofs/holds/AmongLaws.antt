@@ -1,5 +1,5 @@
 -- Whether a name is among others, as array forms and as texts say it.
-use Rattle.std.proofs.Common.{◌≡◌, ℕ, Bool, true, false, ◌||◌, cond, List, [], ◌∷◌, refl, ap, ◌∙◌}
+use Rattle.std.proofs.Common.{◌≡◌, ℕ, Bool, true, false, ◌||◌, cond, List, [], ◌∷◌, refl}
 use Rattle.std.specs.Str.{bytes_eq}
 use Rattle.array_form.specs.forms.Loops.{is_among}
 use Rattle.nest.specs.statement_loops.Names as texts

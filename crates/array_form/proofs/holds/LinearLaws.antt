@@ -1,5 +1,5 @@
 -- Subscripts that are linear.
-use Rattle.std.proofs.Common.{◌≡◌, ℕ, Bool, true, false, List, map, length, refl, ap, ◌∙◌, Option, Some, None}
+use Rattle.std.proofs.Common.{◌≡◌, ℕ, true, false, length, refl, ap, ◌∙◌, Option, Some, None}
 use Rattle.tree.specs.View.{expression_of, subscript_of}
 use Rattle.tree.specs.declared.exprs.Expr.{Expr}
 use Rattle.tree.specs.declared.exprs.Sub.TheVariants as subs

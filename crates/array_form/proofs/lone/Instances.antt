@@ -1,18 +1,19 @@
 -- The instances of a statement in its inner loops.
 use Rattle.std.proofs.Common.{◌≡◌, refl, sym, ap, ap₂, ◌∙◌, subst, inl, inr, ℕ, zero, suc, ◌+◌, pos, Bool, true, false, cond, List, [], ◌∷◌, ◌++◌, map, Result, Ok, Err, Option, Some, None, Contains, append-nil, arith}
+use Rattle.tree.specs.Operators.{as_truth}
 use Rattle.tree.specs.Steps.{◌>>=◌}
 use Rattle.std.specs.Prelude.{flat_map}
 use Rattle.tree.specs.Plain.{Expression, Reference}
 use Rattle.tree.specs.declared.ops.Value.{Value}
 use Rattle.tree.specs.declared.ops.Fault.{Fault}
 use Rattle.tree.specs.declared.ops.Fault.TheVariants.{Overflow}
-use Rattle.meaning.specs.ArrayStatements.{storable}
 use Rattle.meaning.specs.ArrayValues.{counted}
 use Rattle.meaning.specs.Dialect.{fortran90}
-use Rattle.meaning.specs.Reads.{cells_read, cells_read_by}
-use Rattle.meaning.specs.Store.{Store, Cell, put}
+use Rattle.meaning.specs.CellsRead.{cells_read, cells_read_by}
+use Rattle.meaning.specs.Store.{Store, Cell}
 use Rattle.meaning.specs.Value.{value_of, cell_named, is_in_range, bound_to}
-use Rattle.array_form.specs.forms.Instances.{instance_at, in_sequence}
+use Rattle.array_form.specs.forms.Guarded.{stored_if, guarded_at, guarded_of}
+use Rattle.array_form.specs.forms.Instances.{in_sequence}
 use Rattle.array_form.specs.forms.Instances as forms
 use Rattle.array_form.specs.forms.Loops.{Loop, variables_of}
 use Rattle.meaning_laws.specs.arrays.Instances.{in_turn, NoneReadsWritten, after, cell_of}
@@ -22,19 +23,22 @@ use Rattle.nest_order.specs.orders.Nests.{IsInstance}
 use Rattle.nest_order.specs.orders.Shapes.{Instance, within_turn, turns, instances, statements, Within}
 use Rattle.nest_order.specs.orders.Shapes as shapes
 use Rattle.nest_order.proofs.orders.Lists.{In-left}
-use Rattle.nest_order.proofs.orders.Membership.{instance_stands}
+use Rattle.nest_order.proofs.orders.Common.{statement_stands}
+use Rattle.nest_order.proofs.orders.Membership.{instance_stands, map-In}
 use Rattle.nest_order.specs.runs.Alone.{chain, inside, inner_instances}
-use Rattle.nest_order.specs.runs.Guarded.{sequential, at_iterations, assigned_if, reads}
+use Rattle.nest_order.specs.runs.Guarded.{sequential, at_iterations, assigned_if, guard_holds, read_by_guard}
 use Rattle.nest_order.specs.runs.Laws.{as_instance}
 use Rattle.nest_order.specs.runs.Nests.{Nest, AreAt, variables_round}
 use Rattle.nest_order.specs.runs.Stores.{Setting, HoldsNest, IsNestIn}
-use Rattle.nest_order.proofs.runs.Alone.{chain_stands}
+use Rattle.nest_order.specs.runs.Touched.{IsPlainGuard}
+use Rattle.nest_order.proofs.runs.Alone.{chain_stands, stands_loops}
 use Rattle.nest_order.proofs.runs.Arrays.{value_is_kept, cell_is_kept, same_cells_are_read, subscripts_read_same, outer_iterations_hold}
-use Rattle.nest_order.proofs.runs.Holding.{instance_inside, Stored}
+use Rattle.nest_order.proofs.runs.Holding.{instance_inside}
 use Rattle.nest_order.proofs.runs.Results.{both_ok, after_ok, ok_same}
 use Rattle.nest_order.proofs.runs.Runs.{at_after}
 use Rattle.nest_order.proofs.runs.Variables.{Within-both}
-use Rattle.array_form.specs.lone.Instances.{AreRectangular, InstancesOfArrayForms}
+use Rattle.array_form.specs.lone.Instances.{AreRectangular, GuardedInstancesOfArrayForms, InstancesOfArrayForms}
+use Rattle.meaning_laws.proofs.arrays.Members.{cases_of, nowhere}
 
 -- ---- lists
 
@@ -77,10 +81,57 @@ same_iterations loops xs is t e = by loops is t ∙ ap (λ ys. at_iterations ys 
     by (l ∷ ls) [] t = refl
     by (l ∷ ls) (i ∷ is) t = by ls is (bound_to l.variable (pos i) t)
 
+-- ---- a guard with arrays as values
+
+guard_reads : (o : Option Expression) (t : Store) → IsPlainGuard o → read_by_guard fortran90 o t ≡ read_by_guard (sequential 31) o t
+guard_reads None t h = refl
+guard_reads (Some e) t h = sym (same_cells_are_read 31 true e t h)
+
+guard_is_kept : (o : Option Expression) (t : Store) (b : Bool) → guard_holds (sequential 31) o t ≡ Ok b → guard_holds fortran90 o t ≡ Ok b
+guard_is_kept None t b h = h
+guard_is_kept (Some e) t b h =
+    let p = both_ok (value_of (sequential 31) e t) as_truth b h in
+    ap (λ (r : Result Value Fault). do x ← r; as_truth x) (value_is_kept 31 true e t p.0 p.1) ∙ p.2
+
+-- ---- an instance
+
+pub contains_in : {X : Type 0} (xs : List X) (x : X) → Contains xs x → In x xs
+contains_in [] x c = absurd (nowhere x c)
+contains_in (y ∷ xs) x c = elim (cases_of y xs x c) [ inl e ↦ inl (sym e) | inr d ↦ inr (contains_in xs x d) ]
+
+pub instance_there : (n : Nest) (w : Setting) (s : ℕ) → In s (statements n.shape) → (outer inner before : List ℕ) → n.loops_of s ≡ outer ++ inner → (counts : List ℕ) → AreRectangular (n.turns_of w.values) inner before counts
+    → Within (n.turns_of w.values) [] outer before → (is : List ℕ) → In is (in_sequence counts) → IsInstance n.loops_of (n.turns_of w.values) n.shape (record { statement = s; iterations = before ++ is })
+instance_there n w s i outer inner before fits counts rectangular within is j =
+    let there : In (of_statement s is) (instances (n.turns_of w.values) (chain inner s) before) = subst (In (of_statement s is)) (sym (instances_are (n.turns_of w.values) s inner before counts rectangular)) (map-In (of_statement s) is (in_sequence counts) j) in
+    let h = instance_stands (n.turns_of w.values) (chain inner s) before (of_statement s is) there in
+    let c = chain_stands s inner s h.loops h.stands in
+    let v : Within (n.turns_of w.values) before inner is = subst (λ ls. Within (n.turns_of w.values) before ls is) c.1 h.within in
+    (i, subst (λ ls. Within (n.turns_of w.values) [] ls (before ++ is)) (sym fits) (Within-both (n.turns_of w.values) [] outer inner before is within v))
+
+pub instance_within : (n : Nest) (w : Setting) (s : ℕ) → In s (statements n.shape) → (outer inner before : List ℕ) → n.loops_of s ≡ outer ++ inner → (counts : List ℕ) → AreRectangular (n.turns_of w.values) inner before counts
+    → Within (n.turns_of w.values) [] outer before → (is : List ℕ) → Contains (in_sequence counts) is → IsInstance n.loops_of (n.turns_of w.values) n.shape (record { statement = s; iterations = before ++ is })
+instance_within n w s i outer inner before fits counts rectangular within is c =
+    instance_there n w s i outer inner before fits counts rectangular within is (contains_in (in_sequence counts) is c)
+
+pub outer_known : (n : Nest) (w : Setting) (ok : IsNestIn 31 n w) (s : ℕ) → In s (statements n.shape) → (outer inner : List ℕ) → n.loops_of s ≡ outer ++ inner → (m : ℕ) → In m outer → In m (shapes.loops n.shape)
+outer_known n w ok s i outer inner fits m j =
+    let k = statement_stands n.shape s i in
+    let e : k.0 ≡ outer ++ inner = sym (ok.text.nest.fits s k.0 k.1) ∙ fits in
+    stands_loops n.shape s k.0 k.1 m (subst (In m) (sym e) (In-left m outer inner j))
+
+-- the same store
+pub store_same : (n : Nest) (s : ℕ) (outer inner before : List ℕ) → n.loops_of s ≡ outer ++ inner → (loops : List Loop) → variables_of loops ≡ map n.variable_at inner → (is : List ℕ) (t : Store) → AreAt n outer before t
+    → at_iterations (variables_round n s) (before ++ is) t ≡ forms.at_iterations loops is t
+store_same n s outer inner before fits loops variables is t h =
+    ap (λ ls. at_iterations (map n.variable_at ls) (before ++ is) t) fits ∙ (outer_iterations_hold n outer inner before is t h ∙ sym (same_iterations loops (map n.variable_at inner) is t variables))
+
 module _ (n : Nest) (w : Setting) (ok : IsNestIn 31 n w) (s : ℕ) (in_nest : In s (statements n.shape)) (outer inner before : List ℕ) (fits : n.loops_of s ≡ outer ++ inner)
-    (free : (n.statement_at s).guard ≡ None) (loops : List Loop) (variables : variables_of loops ≡ map n.variable_at inner) (known : (m : ℕ) → In m outer → In m (shapes.loops n.shape)) where
+    (loops : List Loop) (variables : variables_of loops ≡ map n.variable_at inner) (known : (m : ℕ) → In m outer → In m (shapes.loops n.shape)) where
   abbrev IsIt : Instance → Type 0
   IsIt = IsInstance n.loops_of (n.turns_of w.values) n.shape
+
+  abbrev guard : Option Expression
+  guard = (n.statement_at s).guard
 
   abbrev left : Reference
   left = (n.statement_at s).left
@@ -92,97 +143,87 @@ module _ (n : Nest) (w : Setting) (ok : IsNestIn 31 n w) (s : ℕ) (in_nest : In
   mine is = as_instance n (sequential 31) (record { statement = s; iterations = before ++ is })
 
   abbrev form : List ℕ → arrays.Instance
-  form is = instance_at fortran90 loops left right is
+  form is = guarded_at fortran90 loops guard left right is
 
-  -- the same store
-  store_same : (is : List ℕ) (t : Store) → AreAt n outer before t → at_iterations (variables_round n s) (before ++ is) t ≡ forms.at_iterations loops is t
-  store_same is t h = ap (λ ls. at_iterations (map n.variable_at ls) (before ++ is) t) fits ∙ (outer_iterations_hold n outer inner before is t h ∙ sym (same_iterations loops (map n.variable_at inner) is t variables))
+  abbrev there : List ℕ → Store → Store
+  there is t = at_iterations (variables_round n s) (before ++ is) t
+
+  same : (is : List ℕ) (t : Store) → AreAt n outer before t → there is t ≡ forms.at_iterations loops is t
+  same is t h = store_same n s outer inner before fits loops variables is t h
 
   reads_same : (is : List ℕ) (t : Store) → AreAt n outer before t → (form is).reads t ≡ (mine is).reads t
   reads_same is t h =
-      let there = at_iterations (variables_round n s) (before ++ is) t in
       let plain = ok.text.plain s in_nest in
-      ap (λ z. cells_read fortran90 right z ++ cells_read_by fortran90 left.subscripts z) (sym (store_same is t h))
-      ∙ (ap₂ (λ xs ys. xs ++ ys) (sym (same_cells_are_read 31 true right there plain.1)) (sym (subscripts_read_same 31 true left.subscripts there plain.2))
-      ∙ ap (λ o. Rattle.nest_order.specs.runs.Guarded.read_by_guard (sequential 31) o there ++ (cells_read (sequential 31) right there ++ cells_read_by (sequential 31) left.subscripts there)) (sym free))
+      ap (λ z. read_by_guard fortran90 guard z ++ (cells_read fortran90 right z ++ cells_read_by fortran90 left.subscripts z)) (sym (same is t h))
+      ∙ ap₂ (λ xs ys. xs ++ ys) (guard_reads guard (there is t) plain.0)
+      (ap₂ (λ xs ys. xs ++ ys) (sym (same_cells_are_read 31 true right (there is t) plain.1)) (sym (subscripts_read_same 31 true left.subscripts (there is t) plain.2)))
 
   -- what it stores
-  pub record Both (is : List ℕ) (t : Store) (o : Option (Cell × Value)) : Type 0 where
-    pub cell : Cell
-    pub value : Value
-    pub is_some : o ≡ Some (cell, value)
-    pub form_stores : (form is).effect t ≡ Ok (Some (cell, value))
+  abbrev stored_by : Bool → Store → Result (Option (Cell × Value)) Fault
+  stored_by b z = stored_if fortran90 b left right z
 
-  stored_both : (is : List ℕ) (t : Store) (c : Cell) (v : Value) → AreAt n outer before t → Stored 31 left right (at_iterations (variables_round n s) (before ++ is) t) c v → (form is).effect t ≡ Ok (Some (c, v))
-  stored_both is t c v h st =
-      let there = at_iterations (variables_round n s) (before ++ is) t in
-      let a = value_is_kept 31 true right there v st.gives in
-      let b = cell_is_kept 31 true left there c st.place in
-      subst (λ z. ◌≡◌ {A = Result (Option (Cell × Value)) Fault} (do x ← value_of fortran90 right z; d ← cell_named fortran90 left z; y ← storable fortran90 x; Ok (Some (d, y))) (Ok (Some (c, v)))) (store_same is t h)
-      (rw (a, b, st.range) refl)
-
-  both : (is : List ℕ) (t : Store) (o : Option (Cell × Value)) → AreAt n outer before t → (mine is).effect t ≡ Ok o → Both is t o
-  both is t o h e =
-      let there = at_iterations (variables_round n s) (before ++ is) t in
-      let f : assigned_if (sequential 31) true left right there ≡ Ok o = subst (λ g. ◌≡◌ {A = Result (Option (Cell × Value)) Fault} (do b ← Rattle.nest_order.specs.runs.Guarded.guard_holds (sequential 31) g there; assigned_if (sequential 31) b left right there) (Ok o)) free e in
-      let p = both_ok (value_of (sequential 31) right there) (λ x. do d ← cell_named (sequential 31) left there; cond (is_in_range 31 x) (Ok (Some (d, x))) (Err Overflow)) o f in
-      let q = both_ok (cell_named (sequential 31) left there) (λ d. cond (is_in_range 31 p.0) (Ok (Some (d, p.0))) (Err Overflow)) o p.2 in
+  stored : (is : List ℕ) (t : Store) (b : Bool) (o : Option (Cell × Value)) → assigned_if (sequential 31) b left right (there is t) ≡ Ok o → stored_if fortran90 b left right (there is t) ≡ Ok o
+  stored is t false o e = e
+  stored is t true o e =
+      let p = both_ok (value_of (sequential 31) right (there is t)) (λ x. do d ← cell_named (sequential 31) left (there is t); cond (is_in_range 31 x) (Ok (Some (d, x))) (Err Overflow)) o e in
+      let q = both_ok (cell_named (sequential 31) left (there is t)) (λ d. cond (is_in_range 31 p.0) (Ok (Some (d, p.0))) (Err Overflow)) o p.2 in
       on p.0 q.0 p.1 q.1 (is_in_range 31 p.0) refl q.2
     where
-      on : (x : Value) (d : Cell) → value_of (sequential 31) right (at_iterations (variables_round n s) (before ++ is) t) ≡ Ok x → cell_named (sequential 31) left (at_iterations (variables_round n s) (before ++ is) t) ≡ Ok d
-          → (b : Bool) → is_in_range 31 x ≡ b → ◌≡◌ {A = Result (Option (Cell × Value)) Fault} (cond b (Ok (Some (d, x))) (Err Overflow)) (Ok o) → Both is t o
-      on x d g k true r z = record { cell = d; value = x; is_some = sym (ok_same {F = Fault} (Some (d, x)) o z); form_stores = stored_both is t d x h (record { gives = g; place = k; range = r }) }
+      on : (x : Value) (d : Cell) → value_of (sequential 31) right (there is t) ≡ Ok x → cell_named (sequential 31) left (there is t) ≡ Ok d
+          → (b : Bool) → is_in_range 31 x ≡ b → ◌≡◌ {A = Result (Option (Cell × Value)) Fault} (cond b (Ok (Some (d, x))) (Err Overflow)) (Ok o) → stored_if fortran90 true left right (there is t) ≡ Ok o
+      on x d g k true r z =
+          let a = value_is_kept 31 true right (there is t) x g in
+          let b = cell_is_kept 31 true left (there is t) d k in
+          let both : stored_if fortran90 true left right (there is t) ≡ Ok (Some (d, x)) = rw (a, b, r) refl in
+          both ∙ z
       on x d g k false r z = cc
+
+  kept : (is : List ℕ) (t : Store) (o : Option (Cell × Value)) → AreAt n outer before t → (mine is).effect t ≡ Ok o → (form is).effect t ≡ Ok o
+  kept is t o h e =
+      let p = both_ok (guard_holds (sequential 31) guard (there is t)) (λ b. assigned_if (sequential 31) b left right (there is t)) o e in
+      subst (λ z. ◌≡◌ {A = Result (Option (Cell × Value)) Fault} (do b ← guard_holds fortran90 guard z; stored_if fortran90 b left right z) (Ok o)) (same is t h)
+      (ap (λ (r : Result Bool Fault). do b ← r; stored_if fortran90 b left right (there is t)) (guard_is_kept guard (there is t) p.0 p.1) ∙ stored is t p.0 o p.2)
 
   -- ---- one after another
 
   abbrev Follows : List Cell → List (List ℕ) → Store → Store → Type 0
   Follows written iss t u = NoneReadsWritten written (map form iss) t × (in_turn (map form iss) t ≡ Ok u)
 
+  inside_after : (is : List ℕ) (t : Store) (o : Option (Cell × Value)) → IsIt (record { statement = s; iterations = before ++ is }) → HoldsNest 31 n w t → AreAt n outer before t → (mine is).effect t ≡ Ok o
+      → HoldsNest 31 n w (after o t) × AreAt n outer before (after o t)
+  inside_after is t None it holds at e = (holds, at)
+  inside_after is t (Some p) it holds at e = (
+    instance_inside 31 n w ok (record { statement = s; iterations = before ++ is }) it t p.0 p.1 holds e,
+    at_after 31 n w ok outer before (record { statement = s; iterations = before ++ is }) it t p.0 p.1 known e at,
+  )
+
   follows : (iss : List (List ℕ)) (written : List Cell) (t u : Store) → ((is : List ℕ) → In is iss → IsIt (record { statement = s; iterations = before ++ is })) → HoldsNest 31 n w t → AreAt n outer before t
       → NoneReadsWritten written (map mine iss) t → in_turn (map mine iss) t ≡ Ok u → Follows written iss t u
   follows [] written t u are holds at h e = (tt, e)
   follows (is ∷ iss) written t u are holds at h e =
       let a = both_ok ((mine is).effect t) (λ o. in_turn (map mine iss) (after o t)) u e in
-      let b = both is t a.0 at a.1 in
-      let mine_stores : (mine is).effect t ≡ Ok (Some (b.cell, b.value)) = a.1 ∙ ap Ok b.is_some in
-      let ran : in_turn (map mine iss) (put b.cell b.value t) ≡ Ok u = subst (λ o. in_turn (map mine iss) (after o t) ≡ Ok u) b.is_some a.2 in
-      let it = are is (inl refl) in
-      let rest = follows iss (b.cell ∷ written) (put b.cell b.value t) u (λ js i. are js (inr i))
-      (instance_inside 31 n w ok (record { statement = s; iterations = before ++ is }) it t b.cell b.value holds mine_stores)
-      (at_after 31 n w ok outer before (record { statement = s; iterations = before ++ is }) it t b.cell b.value known mine_stores at)
-      (h.1 (Some (b.cell, b.value)) mine_stores) ran in (
+      let form_stores = kept is t a.0 at a.1 in
+      let inside = inside_after is t a.0 (are is (inl refl)) holds at a.1 in
+      let rest = follows iss (cell_of a.0 ++ written) (after a.0 t) u (λ js i. are js (inr i)) inside.0 inside.1 (h.1 a.0 a.1) a.2 in (
         (
           (λ c i. subst (λ cs. ¬ Contains cs c) (sym (reads_same is t at)) (h.0 c i)),
-          (λ o f. subst (λ x. NoneReadsWritten (cell_of x ++ written) (map form iss) (after x t)) (ok_same {F = Fault} (Some (b.cell, b.value)) o (sym b.form_stores ∙ f)) rest.0),
+          (λ o f. subst (λ x. NoneReadsWritten (cell_of x ++ written) (map form iss) (after x t)) (ok_same {F = Fault} a.0 o (sym form_stores ∙ f)) rest.0),
         ),
-        after_ok ((form is).effect t) (λ o. in_turn (map form iss) (after o t)) (Some (b.cell, b.value)) b.form_stores ∙ rest.1,
+        after_ok ((form is).effect t) (λ o. in_turn (map form iss) (after o t)) a.0 form_stores ∙ rest.1,
       )
 
-pub instances_of_array_forms : InstancesOfArrayForms
-instances_of_array_forms n w s outer inner before loops counts t u ok in_nest fits free variables rectangular within holds at none e =
+pub guarded_instances_of_array_forms : GuardedInstancesOfArrayForms
+guarded_instances_of_array_forms n w s outer inner before loops counts t u ok in_nest fits variables rectangular within holds at none e =
     let trip = n.turns_of w.values in
     let list : inner_instances 31 n w before inner s ≡ map (λ is. as_instance n (sequential 31) (record { statement = s; iterations = before ++ is })) (in_sequence counts)
     = ap (λ xs. map (as_instance n (sequential 31)) (map (inside before) xs)) (instances_are trip s inner before counts rectangular)
     ∙ (ap (map (as_instance n (sequential 31))) (map-map (inside before) (of_statement s) (in_sequence counts))
     ∙ map-map (as_instance n (sequential 31)) (λ is. record { statement = s; iterations = before ++ is }) (in_sequence counts)) in
-    follows n w ok s in_nest outer inner before fits free loops variables (known n w ok s in_nest outer inner fits) (in_sequence counts) [] t u (are n w s in_nest outer inner before fits counts rectangular within) holds at
+    follows n w ok s in_nest outer inner before fits loops variables (outer_known n w ok s in_nest outer inner fits) (in_sequence counts) [] t u (instance_there n w s in_nest outer inner before fits counts rectangular within) holds at
     (subst (λ xs. NoneReadsWritten [] xs t) list none) (subst (λ xs. in_turn xs t ≡ Ok u) list e)
-  where
-    known : (n : Nest) (w : Setting) (ok : IsNestIn 31 n w) (s : ℕ) → In s (statements n.shape) → (outer inner : List ℕ) → n.loops_of s ≡ outer ++ inner → (m : ℕ) → In m outer → In m (shapes.loops n.shape)
-    known n w ok s i outer inner fits m j =
-        let k = Rattle.nest_order.proofs.orders.Common.statement_stands n.shape s i in
-        let e : k.0 ≡ outer ++ inner = sym (ok.text.nest.fits s k.0 k.1) ∙ fits in
-        Rattle.nest_order.proofs.runs.Alone.stands_loops n.shape s k.0 k.1 m (subst (In m) (sym e) (In-left m outer inner j))
 
-    map-In' : (s : ℕ) (xs : List (List ℕ)) (is : List ℕ) → In is xs → In (of_statement s is) (map (of_statement s) xs)
-    map-In' s xs is i = Rattle.nest_order.proofs.orders.Membership.map-In (of_statement s) is xs i
-
-    are : (n : Nest) (w : Setting) (s : ℕ) → In s (statements n.shape) → (outer inner before : List ℕ) → n.loops_of s ≡ outer ++ inner → (counts : List ℕ) → AreRectangular (n.turns_of w.values) inner before counts → Within (n.turns_of w.values) [] outer before
-        → (is : List ℕ) → In is (in_sequence counts) → IsInstance n.loops_of (n.turns_of w.values) n.shape (record { statement = s; iterations = before ++ is })
-    are n w s i outer inner before fits counts rectangular within is j =
-        let there : In (of_statement s is) (instances (n.turns_of w.values) (chain inner s) before) = subst (In (of_statement s is)) (sym (instances_are (n.turns_of w.values) s inner before counts rectangular)) (map-In' s (in_sequence counts) is j) in
-        let h = instance_stands (n.turns_of w.values) (chain inner s) before (of_statement s is) there in
-        let c = chain_stands s inner s h.loops h.stands in
-        let v : Within (n.turns_of w.values) before inner is = subst (λ ls. Within (n.turns_of w.values) before ls is) c.1 h.within in
-        (i, subst (λ ls. Within (n.turns_of w.values) [] ls (before ++ is)) (sym fits) (Within-both (n.turns_of w.values) [] outer inner before is within v))
+-- without a guard
+pub instances_of_array_forms : InstancesOfArrayForms
+instances_of_array_forms n w s outer inner before loops counts t u ok in_nest fits free variables rectangular within holds at none e =
+    subst (λ g. NoneReadsWritten [] (guarded_of fortran90 loops counts g (n.statement_at s).left (n.statement_at s).right) t × (in_turn (guarded_of fortran90 loops counts g (n.statement_at s).left (n.statement_at s).right) t ≡ Ok u)) free
+    (guarded_instances_of_array_forms n w s outer inner before loops counts t u ok in_nest fits variables rectangular within holds at none e)

@@ -1,7 +1,7 @@
 -- The numbers round a statement whose inner loops are in array form.
 use Rattle.std.proofs.Common.{◌≡◌, refl, sym, ap, ◌∙◌, subst, inl, inr, ℕ, suc, ◌+◌, ◌^◌, ◌<◌, ◌≤◌, nat_lt, ℤ, pos, negsuc, true, List, [], ◌∷◌, ◌++◌, map, length, Some, append_assoc, arith}
 use Rattle.std.specs.Prelude.{IfSome, nat_abs}
-use Rattle.tree.specs.Operators.{kind_of}
+use Rattle.tree.specs.OperationFaults.{kind_of}
 use Rattle.tree.specs.Plain.{Declaration}
 use Rattle.tree.specs.declared.ops.Kind.{Kind}
 use Rattle.tree.specs.declared.ops.Kind.TheVariants.{Integer, Logical}
@@ -11,21 +11,18 @@ use Rattle.meaning.specs.Holding.{IsStorable}
 use Rattle.meaning.specs.Store.{Store}
 use Rattle.meaning.specs.Typed.{declared}
 use Rattle.meaning.specs.Value.{is_in_range}
-use Rattle.array_form.specs.forms.Laws.{AreKnown}
-use Rattle.array_form.specs.forms.Loops.{Surroundings, variables_of, names_of}
-use Rattle.array_form.specs.forms.Trips.{AreDistinct}
+use Rattle.array_form.specs.forms.Loops.{variables_of, names_of}
 use Rattle.linear_forms.specs.Laws.{AreSized}
 use Rattle.linear_forms.specs.Linear.{HaveValues}
 use Rattle.nest_order.specs.facts.Facts.{HasFacts, values_from}
 use Rattle.nest_order.proofs.facts.Facts.{have-append, sized-append, small_sized, symbols-have, symbols-sized, small_iterations, loops_have}
 use Rattle.nest_order.specs.orders.Lists.{In}
-use Rattle.nest_order.specs.orders.Shapes.{statements, loops, Within}
+use Rattle.nest_order.specs.orders.Shapes.{loops}
 use Rattle.nest_order.proofs.orders.Common.{statement_stands}
 use Rattle.nest_order.proofs.orders.Lists.{In-left, In-right}
 use Rattle.nest_order.specs.runs.Guarded.{sequential, variable_cell}
-use Rattle.nest_order.specs.runs.Nests.{Nest, AreAt}
+use Rattle.nest_order.specs.runs.Nests.{Nest}
 use Rattle.nest_order.specs.runs.Stores.{Setting, HoldsNest}
-use Rattle.nest_order.specs.runs.Touched.{nth_of}
 use Rattle.nest_order.proofs.runs.Alone.{stands_loops}
 use Rattle.array_form.specs.lone.Known.{NumbersAreKnown}
 

@@ -1,17 +1,20 @@
 -- The array form of an assignment, with the IF on its trips, is a block of the profile.
 use Rattle.std.proofs.Common.{◌≡◌, refl, sym, ap, ◌∙◌, subst, ◌⊎◌, inl, inr, ℕ, suc, ◌+◌, ◌-◌, ◌≤◌, pos, Bool, true}
 use Rattle.std.proofs.Common.{false, cond, List, [], ◌∷◌, length, Option, Some, None, Contains, arith}
+use Rattle.std.specs.Prelude.{IfSome, not}
 use Rattle.std.specs.Option.{IsSomeAnd}
 use Rattle.std.proofs.lemmas.Bool.{and_from, both_ways}
 use Rattle.std.proofs.lemmas.List.{length-drop}
 use Rattle.tree.specs.Plain.{Expression, Number, Named, Binary, Reference, Subscripts, no_subscripts, subscript}
-use Rattle.tree.specs.Plain.{Only, Section, Declaration, Assignment, Block, no_statements, statement}
+use Rattle.tree.specs.Plain.{Only, Section, Declaration, Where, If, no_arms, arm, Block, no_statements, statement}
 use Rattle.tree.specs.declared.ops.Kind.{Kind}
 use Rattle.tree.specs.declared.ops.Kind.TheVariants.{Logical}
 use Rattle.tree.specs.declared.ops.Op.TheVariants.{Ge, And}
-use Rattle.meaning.specs.Blocks.{Surroundings as Round, before_labels, IsLine}
+use Rattle.tree.specs.declared.stmts.Mark.{Mark}
+use Rattle.meaning.specs.Blocks.{Surroundings as Round, before_labels}
+use Rattle.meaning.specs.Labels.{IsLine}
 use Rattle.meaning.specs.Depths.{level, enclosed, depth_of, depth_of_subscripts}
-use Rattle.meaning.specs.Profile90.{IsAssignment, IsBlock, IsWhole, IsWholeScalar}
+use Rattle.meaning.specs.Profile90.{IsAssignment, IsBlock, IsMark, IsMasked, IsWhole, IsWholeScalar}
 use Rattle.meaning.specs.Reads.{names_in}
 use Rattle.meaning.specs.Typed.{declared, rank_of_extent, number_of_subscripts}
 use Rattle.meaning.specs.Typed90.{HasKind, IsScalar, SuitsDimensions, rank_of, rank_of_subscripts}
@@ -23,10 +26,12 @@ use Rattle.array_form.specs.forms.Following.{are_moved, are_regular_subscripts, 
 use Rattle.array_form.specs.forms.Forms.{form, subscript_forms, trip_text}
 use Rattle.array_form.specs.forms.Loops.{Loop, Surroundings, variables_of, names_of, is_positive_constant, loops_among}
 use Rattle.array_form.specs.forms.Loops.{loops_in_order}
-use Rattle.array_form.specs.forms.Statements.{and_all, guarded_by, left_form, loops_assigned, loops_from, right_form}
-use Rattle.array_form.specs.forms.Statements.{tests_of}
-use Rattle.array_form.proofs.forms.Orders.{of_drop, ordered_loops}
-use Rattle.array_form.specs.profile.Laws.{ArrayFormIsOfProfile}
+use Rattle.array_form.specs.forms.Guarded.{is_regular_guard}
+use Rattle.array_form.specs.forms.Statements.{and_all, array_assignment, guarded_by, guarded_form, left_form}
+use Rattle.array_form.specs.forms.Statements.{loops_assigned, loops_from, right_form, stand_in_guard, tests_of}
+use Rattle.array_form.specs.forms.Statements.{unguarded_hold}
+use Rattle.array_form.proofs.forms.Orders.{Ordered, of_drop, ordered_loops}
+use Rattle.array_form.specs.profile.Laws.{ArrayFormIsOfProfile, IsGuard}
 use Rattle.array_form.specs.profile.Settings.{AreSomeLoops, IsWritable}
 use Rattle.array_form.proofs.profile.Among.{few_loops}
 use Rattle.array_form.proofs.profile.Formed.{AreFormedSubscripts, IsFormed, formed, formed_subscripts, name_suits}
@@ -184,29 +189,98 @@ module _ (ds : List Declaration) where
         right_deep : (m n l : ℕ) → m ≤ n + (50 + l) → l ≤ 7 → n + 100 ≤ 1000 → m ≤ 1000
         right_deep m n l h k j = omega (arith, h, k, j)
 
+some_loop : (D : List Loop) (names : List (List ℕ)) → has_none (loops_among D names) ≡ false → 1 ≤ length D
+some_loop [] names h = absurd (both_ways true h refl)
+some_loop (l ∷ D) names h = omega arith
+
+negated : (b : Bool) → not b ≡ true → b ≡ false
+negated true h = absurd (both_ways false refl h)
+negated false h = refl
+
+module _ (ds : List Declaration) (a : Surroundings) (k line : ℕ) (mark : Option Mark) (left : Reference)
+    (right : Expression) (kind : Kind) (w : IsWritable ds a) (is_line : IsLine line) (is_mark : IfSome mark IsMark)
+    (is_left : IsScalar ds (named left) kind) (is_right : IsScalar ds right kind)
+    (room : depth_of (named left) + 100 ≤ 1000) (more : depth_of right + 100 ≤ 1000)
+    (hold : unguarded_hold a k left ≡ None) (m : are_moved a (loops_assigned a k left) left.subscripts ≡ true)
+    (r : is_regular a (loops_assigned a k left) right ≡ true) where
+  abbrev D : List Loop
+  D = loops_assigned a k left
+
+  ordered : Ordered (loops_from a k) left.subscripts (loops_assigned a k left)
+  ordered = ordered_loops a k left w.distinct hold
+
+  some : AreSomeLoops a (loops_assigned a k left)
+  some = record { among = λ l c. of_drop (k - 1) a.loops l (ordered.into l c); once = ordered.distinct }
+
+  left_formed : AreFormedSubscripts ds (loops_assigned a k left) left.subscripts
+      (subscript_forms a (loops_assigned a k left) left.subscripts)
+  left_formed =
+      formed_subscripts ds a w left.subscripts D some is_left.0.1 (subscripts_no_rank ds left.name left.subscripts
+      is_left.1) (moved_are_regular a D left.subscripts m) ordered.ones
+
+  assigned : (v : Round) → (Contains v.variables left.name → ⊥)
+      → IsAssignment ds (left_form a k left) (right_form a k left right) v
+  assigned v apart =
+      assignment_is ds a w D left right kind (subscript_forms a D left.subscripts) (form a D right) v some is_left apart
+      room more ordered.same left_formed (formed ds a w right D kind some is_right.0 is_right.1 r)
+
+  plain_block : (v : Round) → (Contains v.variables left.name → ⊥)
+      → IsBlock ds (statement (array_assignment a k line mark left right) no_statements) v
+  plain_block v apart = (((is_line, is_mark), assigned (before_labels [] v) apart), tt)
+
+  whole_left : rank_of ds (named (left_form a k left)) ≡ length (loops_assigned a k left)
+  whole_left =
+      left_rank ds left.name left.subscripts (subscript_forms a D left.subscripts) (length D) left_formed.number
+      is_left.1 (left_formed.rank ∙ ap (λ (xs : List Loop). length xs) ordered.same)
+
+  masked : (e : Expression) → IsScalar ds e Logical → depth_of e + 100 ≤ 1000
+      → is_regular a (loops_assigned a k left) e ≡ true → stand_in_guard (loops_assigned a k left) (Some e) ≡ true
+      → IsMasked ds (form a (loops_assigned a k left) e) (left_form a k left)
+  masked e scalar deep regular stands =
+      let i = formed ds a w e D Logical some scalar.0 scalar.1 regular in
+      let loops = negated (has_none (loops_among D (names_in e))) stands in
+      let seven = few_loops a D some w.few in
+      let many = some_loop D (names_in e) loops in
+      let number = whole_left in (
+        record { suits = i.kind; depth = shallow (depth_of (form a D e)) (depth_of e) (length D) i.depth seven deep },
+        subst (λ n. 1 ≤ n) (sym number) many,
+        i.rank ∙ (ap (λ b. cond b 0 (length D)) loops ∙ sym number),
+      )
+    where
+      shallow : (u v l : ℕ) → u ≤ v + (50 + l) → l ≤ 7 → v + 100 ≤ 1000 → u ≤ 1000
+      shallow u v l h i j = omega (arith, h, i, j)
+
+  guarded_block : (guard : Option Expression) → IsGuard ds guard
+      → is_regular_guard a (loops_assigned a k left) guard ≡ true
+      → (v : Round) → (Contains v.variables left.name → ⊥)
+      → IsBlock ds (statement (guarded_form a k line mark guard left right) no_statements) v
+  guarded_block None g regular v apart = plain_block v apart
+  guarded_block (Some e) g regular v apart = by (stand_in_guard (loops_assigned a k left) (Some e)) refl
+    where
+      by : (b : Bool) → stand_in_guard (loops_assigned a k left) (Some e) ≡ b
+          → IsBlock ds (statement (cond b
+          (Where line mark (form a (loops_assigned a k left) e) (left_form a k left) (right_form a k left right))
+          (If line (arm e (statement (array_assignment a k line mark left right) no_statements) no_arms) no_statements))
+          no_statements) v
+      by true h = (((is_line, is_mark), masked e g.0 g.1 regular h, assigned (before_labels [] v) apart), tt)
+      by false h =
+          let whole : IsWholeScalar ds e Logical = record { suits = g.0; depth = less (depth_of e) g.1 } in
+          ((is_line, refl, (whole, plain_block (before_labels [] v) apart, tt), tt), tt)
+        where
+          less : (n : ℕ) → n + 100 ≤ 1000 → n ≤ 1000
+          less n h = omega (arith, h)
+
 pub array_forms_of_profile : ArrayFormIsOfProfile
-array_forms_of_profile ds a k line mark left right kind v w is_line is_mark is_left is_right apart room more some hold m r =
-    let D = loops_assigned a k left in
-    let ps = left.subscripts in
+array_forms_of_profile ds a k line mark guard left right kind v w is_line is_mark is_guard is_left is_right apart room
+    more some hold m regular r =
     let mine = loops_from a k in
     let tests = tests_of (names_of a) mine in
-    let ordered = ordered_loops a k left w.distinct hold in
-    let s : AreSomeLoops a D = record {
-      among = λ l c. of_drop (k - 1) a.loops l (ordered.into l c);
-      once = ordered.distinct;
-    } in
-    let f = formed_subscripts ds a w ps D s is_left.0.1 (subscripts_no_rank ds left.name ps is_left.1)
-    (moved_are_regular a D ps m) ordered.ones in
-    let i = formed ds a w right D kind s is_right.0 is_right.1 r in
     let few = shorter (length tests) (length mine) (length a.loops) (k - 1) (tests_long (names_of a) mine)
     (length-drop (k - 1) a.loops) w.few in
-    guarded_is ds line tests
-    (statement (Assignment line mark (left_form a k left) (right_form a k left right)) no_statements) left.name v
+    guarded_is ds line tests (statement (guarded_form a k line mark guard left right) no_statements) left.name v
     is_line few (tests_are ds a w mine (λ l c. of_drop (k - 1) a.loops l c)) apart
-    (λ u b.
-    let inside = assignment_is ds a w D left right kind (subscript_forms a D ps) (form a D right) (before_labels [] u)
-    s is_left b room more ordered.same f i in
-    (((is_line, is_mark), inside), tt))
+    (guarded_block ds a k line mark left right kind w is_line is_mark is_left is_right room more hold m r guard is_guard
+    regular)
   where
     shorter : (m n l d : ℕ) → m ≤ n → n ≡ l - d → l ≤ 7 → m ≤ 7
     shorter m n l d h i j = omega (arith, h, i, j)

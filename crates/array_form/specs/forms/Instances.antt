@@ -5,7 +5,7 @@ use Rattle.tree.specs.Steps.{◌>>=◌}
 use Rattle.meaning.specs.ArrayStatements.{storable}
 use Rattle.meaning.specs.ArrayValues.{counted}
 use Rattle.meaning.specs.Dialect.{Dialect}
-use Rattle.meaning.specs.Reads.{cells_read, cells_read_by}
+use Rattle.meaning.specs.CellsRead.{cells_read, cells_read_by}
 use Rattle.meaning.specs.Sections.{not_negative}
 use Rattle.meaning.specs.Store.{Store}
 use Rattle.meaning.specs.Value.{value_of, cell_named, bound_to}

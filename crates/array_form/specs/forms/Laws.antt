@@ -18,7 +18,7 @@ use Rattle.array_form.specs.forms.Instances.{at_iterations, count_of, counts_of,
 use Rattle.array_form.specs.forms.Loops.{Loop, Surroundings, variables_of, names_of, loops_among}
 use Rattle.array_form.specs.forms.Trips.{AreDistinct}
 use Rattle.array_form.specs.forms.Loops.{coefficient}
-use Rattle.array_form.specs.forms.Statements.{loops_from, hold_at, loops_assigned, array_form_of}
+use Rattle.array_form.specs.forms.Statements.{loops_from, unguarded_hold, loops_assigned, array_form_of}
 use Rattle.meaning_laws.specs.arrays.Instances.{Instance, in_turn, NoneReadsWritten}
 
 -- The trip of a loop is a linear form over the names, maybe divided, and is at most what a loop can count
@@ -93,7 +93,7 @@ abbrev pub InstancesHaveOwnCells : Type 0
 InstancesHaveOwnCells = (lang : Dialect) (a : Surroundings) (k : ℕ) (left : Reference) (right : Expression)
     (s t : Store) (xs : List ℤ)
     → lang.bits ≡ 31 → AreKnown a s xs → ((l : Loop) → Contains (loops_from a k) l → HasTrip a xs l)
-    → has_none (loops_from a k) ≡ false → hold_at a k left ≡ None
+    → has_none (loops_from a k) ≡ false → unguarded_hold a k left ≡ None
     → are_moved a (loops_assigned a k left) left.subscripts ≡ true
     → NoneReadsWritten [] (instances_from lang a k xs left right) s
     → in_turn (instances_from lang a k xs left right) s ≡ Ok t → OwnCells lang a k xs left right s
@@ -106,9 +106,10 @@ abbrev pub ArrayFormStoresInstances : Type 0
 ArrayFormStoresInstances = (a : Surroundings) (k line : ℕ) (mark : Option Mark) (left : Reference) (right : Expression)
     (s : State) (t : Store) (xs : List ℤ)
     → s.way ≡ Going → AreKnown a s.store xs → ((l : Loop) → Contains (loops_from a k) l → HasTrip a xs l)
-    → has_none (loops_from a k) ≡ false → hold_at a k left ≡ None
+    → has_none (loops_from a k) ≡ false → unguarded_hold a k left ≡ None
     → are_moved a (loops_assigned a k left) left.subscripts ≡ true
     → is_regular a (loops_assigned a k left) right ≡ true
     → NoneReadsWritten [] (instances_from fortran90 a k xs left right) s.store
     → in_turn (instances_from fortran90 a k xs left right) s.store ≡ Ok t
-    → (n : ℕ) × (does_all fortran90 None (array_form_of a k line mark left right) s ≡ record s { store = t; steps = n })
+    → (n : ℕ)
+    × (does_all fortran90 None (array_form_of a k line mark None left right) s ≡ record s { store = t; steps = n })

@@ -1,17 +1,18 @@
--- The array form of an assignment at a level, and what forbids it (Allen and Kennedy, "Optimizing Compilers for Modern
--- Architectures", section 2.4).
+-- The array form of an assignment at a level, maybe under a guard, and what forbids it (Allen and Kennedy, "Optimizing
+-- Compilers for Modern Architectures", section 2.4; of a guard ISO/IEC 1539:1991, section 7.5.3).
 use Rattle.std.specs.Prelude.{◌==◌, ℕ, ◌+◌, ◌-◌, pos, Bool, true, false, ◌&&◌, ◌||◌, not, if◌then◌else◌, Option}
 use Rattle.std.specs.Prelude.{Some, None, List, [], ◌∷◌, length, drop}
 use Rattle.std.specs.List.{list_all, list_any}
 use Rattle.std.specs.Ordering.{int_eq}
 use Rattle.std.specs.Str.{bytes_eq}
 use Rattle.tree.specs.Plain.{Expression, Number, Binary, Reference, Subscript, Only, Section, Subscripts}
-use Rattle.tree.specs.Plain.{no_subscripts, subscript, Assignment, If, no_arms, arm, Block}
+use Rattle.tree.specs.Plain.{no_subscripts, subscript, Statement, Assignment, Where, If, no_arms, arm, Block}
 use Rattle.tree.specs.Plain.{no_statements, statement}
 use Rattle.tree.specs.declared.ops.Op.TheVariants.{Ge, And}
 use Rattle.tree.specs.declared.stmts.Mark.{Mark}
-use Rattle.meaning.specs.Reads.{names_in_subscript}
+use Rattle.meaning.specs.Reads.{names_in, names_in_subscript}
 use Rattle.linear_forms.specs.Linear.{form_of}
+use Rattle.array_form.specs.forms.Following.{has_none}
 use Rattle.array_form.specs.forms.Loops.{Loop, Surroundings, variables_of, names_of, is_positive_constant, is_among}
 use Rattle.array_form.specs.forms.Loops.{loops_among, loops_in_order, coefficient}
 use Rattle.array_form.specs.forms.Forms.{trip_text, form, subscript_forms}
@@ -25,6 +26,7 @@ loops_from a k = drop (k - 1) a.loops
 pub data Hold : Type 0 where
   FormHold : Hold
   TriangleHold : Hold
+  BoundsHold : Hold
 
 -- in how many of the subscripts a variable stands
 abbrev pub occurrences : List ℕ → Subscripts → ℕ
@@ -55,12 +57,22 @@ depends_on a l m = not (bytes_eq l.variable m.variable)
 abbrev pub is_triangle : Surroundings → List Loop → Bool
 is_triangle a loops = list_any (λ (l : Loop). list_any (depends_on a l) loops) loops
 
--- the first that is so, for a statement without a guard
-abbrev pub hold_at : Surroundings → ℕ → Reference → Option Hold
-hold_at a k left =
+-- some of the loops stand in the guard
+abbrev pub stand_in_guard : List Loop → Option Expression → Bool
+stand_in_guard loops None = false
+stand_in_guard loops (Some e) = not (has_none (loops_among loops (names_in e)))
+
+-- The first that is so of an assignment, maybe under a guard. `safe`: its references name cells whatever its guard is
+abbrev pub hold_at : Surroundings → ℕ → Option Expression → Reference → Bool → Option Hold
+hold_at a k guard left safe =
     if not (has_form a (loops_from a k) left.subscripts) then Some FormHold
     else if is_triangle a (loops_from a k) then Some TriangleHold
+    else if stand_in_guard (loops_from a k) guard && not safe then Some BoundsHold
     else None
+
+-- without a guard
+abbrev pub unguarded_hold : Surroundings → ℕ → Reference → Option Hold
+unguarded_hold a k left = hold_at a k None left true
 
 -- ---- the statement
 
@@ -91,6 +103,19 @@ abbrev pub guarded_by : ℕ → List Expression → Block → Block
 guarded_by line [] body = body
 guarded_by line (e ∷ es) body = statement (If line (arm (and_all e es) body no_arms) no_statements) no_statements
 
-abbrev pub array_form_of : Surroundings → ℕ → ℕ → Option Mark → Reference → Expression → Block
-array_form_of a k line mark left right = guarded_by line (tests_of (names_of a) (loops_from a k))
-    (statement (Assignment line mark (left_form a k left) (right_form a k left right)) no_statements)
+abbrev pub array_assignment : Surroundings → ℕ → ℕ → Option Mark → Reference → Expression → Statement
+array_assignment a k line mark left right = Assignment line mark (left_form a k left) (right_form a k left right)
+
+-- under a guard in which one of the loops stands it is done where the guard's form is true, and under any other guard
+-- where that is true
+abbrev pub guarded_form : Surroundings → ℕ → ℕ → Option Mark → Option Expression → Reference → Expression → Statement
+guarded_form a k line mark None left right = array_assignment a k line mark left right
+guarded_form a k line mark (Some e) left right =
+    if stand_in_guard (loops_assigned a k left) (Some e)
+    then Where line mark (form a (loops_assigned a k left) e) (left_form a k left) (right_form a k left right)
+    else If line (arm e (statement (array_assignment a k line mark left right) no_statements) no_arms) no_statements
+
+abbrev pub array_form_of : Surroundings → ℕ → ℕ → Option Mark → Option Expression → Reference → Expression → Block
+array_form_of a k line mark guard left right =
+    guarded_by line (tests_of (names_of a) (loops_from a k))
+    (statement (guarded_form a k line mark guard left right) no_statements)

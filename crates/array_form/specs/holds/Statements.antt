@@ -1,7 +1,7 @@
--- The statements of a nest by their numbers, from 1 in the order of the text.
-use Rattle.std.specs.Prelude.{ℕ, ◌-◌, pos, None, [], slice_index_or}
+-- The statements of a nest by their numbers.
+use Rattle.std.specs.Prelude.{ℕ, pos, None, [], slice_index_or}
 use Rattle.tree.specs.Plain.{Number, no_subscripts}
-use Rattle.nest.specs.Bodies.{Standing, nest_statements}
+use Rattle.nest.specs.Bodies.{Standing, nest_statements, statement_place}
 use Rattle.nest.specs.Plain.{Nest}
 use Rattle.array_form.specs.forms.Loops.{Surroundings}
 use Rattle.array_form.specs.holds.Surroundings.{surroundings_of}
@@ -19,7 +19,7 @@ no_statement = record {
 }
 
 abbrev pub statement_at : Nest → ℕ → Standing
-statement_at n s = slice_index_or (nest_statements n) (s - 1) no_statement
+statement_at n number = slice_index_or (nest_statements n) (statement_place number) no_statement
 
 abbrev pub surroundings_at : Nest → ℕ → Surroundings
 surroundings_at n s = surroundings_of n (statement_at n s).loops

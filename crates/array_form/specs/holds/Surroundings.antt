@@ -11,7 +11,6 @@ use Rattle.array_form.specs.forms.Loops as forms
 use Rattle.nest.specs.declared.parts.Trip.{Trip}
 use Rattle.nest.specs.Plain.{Loop, Nest}
 use Rattle.array_form.specs.declared.holds.loops.Counted.{Counted}
-use Rattle.array_form.specs.declared.holds.loops.Surroundings.{Surroundings}
 
 -- the coefficients from the place o on, of terms in rising order of their places, which end where one is 0
 abbrev pub coefficients_from : ℕ → List (ℕ × ℤ) → List ℤ

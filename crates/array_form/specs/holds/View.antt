@@ -3,7 +3,7 @@ use Rattle.std.specs.Prelude.{ℕ, List, map, length}
 use Rattle.array_form.specs.forms.Loops as forms
 use Rattle.array_form.specs.declared.holds.loops.Counted.{Counted}
 use Rattle.array_form.specs.declared.holds.loops.Surroundings.{Surroundings}
-use Rattle.array_form.specs.holds.Surroundings.{counted_of, may_spread}
+use Rattle.array_form.specs.holds.Surroundings.{counted_of}
 
 abbrev pub surroundings_view : Surroundings → forms.Surroundings
 surroundings_view a = record {

@@ -2,6 +2,7 @@
 use Rattle.std.specs.Prelude.{◌≡◌, ⊤, Ok, None, ℕ, List, [], ◌∷◌, ◌++◌, map}
 use Rattle.meaning.specs.Dialect.{fortran90}
 use Rattle.meaning.specs.Store.{Store}
+use Rattle.array_form.specs.forms.Guarded.{guarded_of}
 use Rattle.array_form.specs.forms.Instances.{instances_of}
 use Rattle.array_form.specs.forms.Loops.{Loop, variables_of}
 use Rattle.meaning_laws.specs.arrays.Instances.{in_turn, NoneReadsWritten}
@@ -32,3 +33,16 @@ InstancesOfArrayForms =
     → in_turn (inner_instances 31 n w before inner s) t ≡ Ok u
     → NoneReadsWritten [] (instances_of fortran90 loops counts (n.statement_at s).left (n.statement_at s).right) t
     × (in_turn (instances_of fortran90 loops counts (n.statement_at s).left (n.statement_at s).right) t ≡ Ok u)
+
+-- The same under a guard, if there is one
+abbrev pub GuardedInstancesOfArrayForms : Type 0
+GuardedInstancesOfArrayForms =
+    (n : Nest) (w : Setting) (s : ℕ) (outer inner before : List ℕ) (loops : List Loop) (counts : List ℕ) (t u : Store)
+    → IsNestIn 31 n w → In s (statements n.shape) → n.loops_of s ≡ outer ++ inner
+    → variables_of loops ≡ map n.variable_at inner
+    → AreRectangular (n.turns_of w.values) inner before counts → Within (n.turns_of w.values) [] outer before
+    → HoldsNest 31 n w t → AreAt n outer before t
+    → NoneReadsWritten [] (inner_instances 31 n w before inner s) t
+    → in_turn (inner_instances 31 n w before inner s) t ≡ Ok u
+    → let g = n.statement_at s in NoneReadsWritten [] (guarded_of fortran90 loops counts g.guard g.left g.right) t
+    × (in_turn (guarded_of fortran90 loops counts g.guard g.left g.right) t ≡ Ok u)

@@ -1,6 +1,8 @@
 //! Which loops stand in a text.
-ghost use Rattle.std.specs.Prelude.{◌≡◌, ◌++◌, ◌∷◌, [], if◌then◌else◌, IfOk, OnOk, map, ℕ};
+ghost use Rattle.std.specs.Prelude.{◌≡◌, ◌++◌, ◌∷◌, [], if◌then◌else◌, IfOk, OnOk, Some, map, ℕ};
+ghost use Rattle.std.specs.Option.{option_map};
 ghost use Rattle.array_form.specs.forms.Loops.{loops_among};
+ghost use Rattle.array_form.specs.forms.Statements.{stand_in_guard};
 ghost use Rattle.meaning.specs.Reads.{names_in, names_in_subscript};
 ghost use Rattle.tree.specs.View.{expression_of, subscript_of};
 ghost use Rattle.array_form.specs.holds.Surroundings.{counted_of};
@@ -41,4 +43,27 @@ pub fn loops_in_sub(alloc: Global, loops: &[Counted], sub: &Sub) -> Result<Seq<C
         push_if(&mut those, *turns, stands_in_sub(sub, turns.var))?;
     }
     Ok(those)
+}
+
+/// Whether one of the loops stands in the expression.
+#[tactic(auto, using(crate::proofs::holds::GuardLaws::standing_laws))]
+pub fn stand_in(loops: &[Counted], expr: &Expr) -> bool
+    ensures { (n : ℕ) → result
+        ≡ stand_in_guard (map (counted_of n) loops.now) (Some (expression_of expr.now)) }
+{
+    let Some((first, rest)) = loops.split_first() else {
+        return false;
+    };
+    stands_in(expr, first.var) || stand_in(rest, expr)
+}
+
+/// Whether one of the loops stands in the guard.
+pub fn stand_in_guard(loops: &[Counted], guard: &Option<Expr>) -> bool
+    ensures { (n : ℕ) → result
+        ≡ stand_in_guard (map (counted_of n) loops.now) (option_map expression_of guard.now) }
+{
+    match guard {
+        Some(expr) => stand_in(loops, expr),
+        None => false,
+    }
 }

@@ -10,13 +10,13 @@ use Rattle.tree.specs.declared.ops.Fault.{Fault}
 use Rattle.tree.specs.declared.ops.Fault.TheVariants.{Allocated}
 use Rattle.meaning.specs.Store.{Store, Cell, nought, nought_like, allocated, with_bounds, bounds_in, bounds_of}
 use Rattle.meaning.specs.ArrayStatements.{free}
-use Rattle.machine.specs.Storage.{bounds_list}
 use Rattle.array_values.specs.declared.failure.Failure.{Failure}
 use Rattle.array_values.specs.declared.failure.Failure.TheVariants as failure
 use Rattle.array_values.specs.declared.storage.slots.Slot.{Slot}
 use Rattle.array_values.specs.storage.Names.{own_names}
 use Rattle.array_values.specs.storage.Slots.{store_among, bounds_among, held_among, kind_among, bounds_now, held_here, IsNamed, IsMissing, Has}
-use Rattle.array_values.specs.storage.Allocation.{from_one, OpensAs, Opens, ClosesAs, Closes, HoldsKind, Allocates, Deallocates}
+use Rattle.array_values.specs.storage.Bounds.{bounds_held, from_one}
+use Rattle.array_values.specs.storage.Allocation.{OpensAs, Opens, ClosesAs, Closes, HoldsKind, Allocates, Deallocates}
 use Rattle.array_values.proofs.storage.Searches.{searched}
 use Rattle.array_values.proofs.storage.PlaceLaws.{store-bounds}
 use Rattle.array_values.proofs.storage.Places.{store-is}
@@ -105,12 +105,12 @@ module _ (vs : List Slot) (x : List ℕ) (i : ℕ) (h : Has vs x i) (r w : Slot)
       held c false t = other_held vs i w c.name c.subscripts (other n c.name t) ∙ sym (ap (λ t. cond t (held_here w c.subscripts) (held_among vs c.name c.subscripts)) t)
 
   -- ALLOCATE
-  pub allocates : (k : Kind) (ns : List ℤ) → kind_among vs x ≡ Some k → OpensAs r w ns → Allocates k x ns vs (set vs i w) (Ok tt)
+  pub allocates : (k : Kind) (ns : List ℤ) → kind_among vs x ≡ Some k → OpensAs r w (from_one ns) → Allocates k x ns vs (set vs i w) (Ok tt)
   unfolding store_among
   allocates k ns g o =
       let found = h.named r e in
       let kind : r.kind ≡ k = (let both : Some r.kind ≡ Some k = sym found.kind ∙ g in cc) in (
-        ap (λ b. free b ns) (found.bounds ∙ ap (λ t. cond t (Some (bounds_list r.dims)) None) o.was),
+        ap (λ b. free b ns) (found.bounds ∙ ap (λ t. cond t (Some (bounds_held r.bounds)) None) o.was),
         λ all. slot_store o.name (allocated x (from_one ns) (store_among vs))
             (λ y. ap (λ b. cond (bytes_eq x y) b (bounds_among vs y)) (sym (ap₂ (λ t (bs : List (ℤ × ℤ)). cond t (Some bs) None) o.there o.bounds)))
             (λ c. at c (bytes_eq x c.name) refl kind all),
@@ -127,15 +127,15 @@ module _ (vs : List Slot) (x : List ℕ) (i : ℕ) (h : Has vs x i) (r w : Slot)
 
   pub allocated_twice : (k : Kind) (ns : List ℤ) → r.there ≡ true → free ((store_among vs).bounds x) ns ≡ Err Allocated
   unfolding store_among
-  allocated_twice k ns t = ap (λ b. free b ns) ((h.named r e).bounds ∙ ap (λ t. cond t (Some (bounds_list r.dims)) None) t)
+  allocated_twice k ns t = ap (λ b. free b ns) ((h.named r e).bounds ∙ ap (λ t. cond t (Some (bounds_held r.bounds)) None) t)
 
   -- DEALLOCATE
   pub deallocates : ClosesAs r w → Deallocates x vs (set vs i w) (Ok tt)
   unfolding store_among
   deallocates o = (
-    (bounds_list r.dims, ap bounds_in ((h.named r e).bounds ∙ ap (λ t. cond t (Some (bounds_list r.dims)) None) o.was)),
+    (bounds_held r.bounds, ap bounds_in ((h.named r e).bounds ∙ ap (λ t. cond t (Some (bounds_held r.bounds)) None) o.was)),
     slot_store o.name (with_bounds x None (store_among vs))
-        (λ y. ap (λ b. cond (bytes_eq x y) b (bounds_among vs y)) (sym (ap (λ t. cond t (Some (bounds_list w.dims)) None) o.there)))
+        (λ y. ap (λ b. cond (bytes_eq x y) b (bounds_among vs y)) (sym (ap (λ t. cond t (Some (bounds_held w.bounds)) None) o.there)))
         (λ c. at c (bytes_eq x c.name) refl),
   )
     where
@@ -148,7 +148,7 @@ module _ (vs : List Slot) (x : List ℕ) (i : ℕ) (h : Has vs x i) (r w : Slot)
 
   pub not_allocated : r.there ≡ false → bounds_of x (store_among vs) ≡ Err Allocated
   unfolding store_among
-  not_allocated t = ap bounds_in ((h.named r e).bounds ∙ ap (λ t. cond t (Some (bounds_list r.dims)) None) t)
+  not_allocated t = ap bounds_in ((h.named r e).bounds ∙ ap (λ t. cond t (Some (bounds_held r.bounds)) None) t)
 
   same_slots : w ≡ r → set vs i w ≡ vs
   same_slots g = ap (set vs i) g ∙ set_same vs i r h.within e
@@ -161,15 +161,15 @@ module _ (vs : List Slot) (x : List ℕ) (i : ℕ) (h : Has vs x i) (r w : Slot)
   closed_parts (Ok tt) o = (o.name, o.kind)
   closed_parts (Err f) o = (ap (λ (v : Slot). v.name) o.2, ap (λ (v : Slot). v.kind) o.2)
 
-  pub opened : (k : Kind) (ns : List ℤ) → kind_among vs x ≡ Some k → (q : Result (Unit {0}) Failure) → Opens r w ns q → Allocates k x ns vs (set vs i w) q
+  pub opened : (k : Kind) (ns : List ℤ) → kind_among vs x ≡ Some k → (q : Result (Unit {0}) Failure) → Opens r w (from_one ns) q → Allocates k x ns vs (set vs i w) q
   opened k ns g (Ok tt) o = allocates k ns g o
   opened k ns g (Err (failure.Fault f)) o = (allocated_twice k ns o.1 ∙ ap (λ f. let q : Result (List (ℤ × ℤ)) Fault = Err f in q) (sym o.0), same_slots o.2)
-  opened k ns g (Err failure.Memory) o = same_slots o
+  opened k ns g (Err failure.Memory) o = (same_slots o.0, o.1)
 
-  pub opened_parts : (ns : List ℤ) (q : Result (Unit {0}) Failure) → Opens r w ns q → (w.name ≡ r.name) × (w.kind ≡ r.kind)
-  opened_parts ns (Ok tt) o = (o.name, o.kind)
-  opened_parts ns (Err (failure.Fault f)) o = (ap (λ (v : Slot). v.name) o.2, ap (λ (v : Slot). v.kind) o.2)
-  opened_parts ns (Err failure.Memory) o = (ap (λ (v : Slot). v.name) o, ap (λ (v : Slot). v.kind) o)
+  pub opened_parts : (bs : List (ℤ × ℤ)) (q : Result (Unit {0}) Failure) → Opens r w bs q → (w.name ≡ r.name) × (w.kind ≡ r.kind)
+  opened_parts bs (Ok tt) o = (o.name, o.kind)
+  opened_parts bs (Err (failure.Fault f)) o = (ap (λ (v : Slot). v.name) o.2, ap (λ (v : Slot). v.kind) o.2)
+  opened_parts bs (Err failure.Memory) o = (ap (λ (v : Slot). v.name) o.0, ap (λ (v : Slot). v.kind) o.0)
 
 pub unknown_bounds : (vs : List Slot) (x : List ℕ) → bounds_among vs x ≡ None → bounds_of x (store_among vs) ≡ Err Allocated
 unknown_bounds vs x e = ap bounds_in (store-bounds vs x ∙ e)

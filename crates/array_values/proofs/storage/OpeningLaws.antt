@@ -15,7 +15,8 @@ use Rattle.tree.specs.declared.ops.Value.{Value}
 use Rattle.tree.specs.declared.programs.Decl.{Decl}
 use Rattle.meaning.specs.Store.{Store, Cell, opening_bounds, opening_value, nought}
 use Rattle.meaning.specs.Typed.{declared, dimensions}
-use Rattle.machine.specs.Storage.{AreDistinct, opening_of, offset, bounds_list, value_at}
+use Rattle.machine.specs.Storage.{AreDistinct, opening_of, offset, value_at}
+use Rattle.array_values.specs.storage.Bounds.{bounds_held}
 use Rattle.array_values.specs.declared.storage.slots.Slot.{Slot}
 use Rattle.array_values.specs.storage.Names.{own_names}
 use Rattle.array_values.specs.storage.Slots.{store_among, bounds_among, held_among, kind_among}
@@ -36,13 +37,13 @@ bounds_given : (e : Extent) → cond (is_given e) (Some (dimensions e)) None ≡
 bounds_given (Given bs) = refl
 bounds_given (Later n) = refl
 
-pub opened_is : (d : Declaration) (v : Slot) (n : ℕ) → v.name ≡ d.name → v.kind ≡ d.kind → v.there ≡ is_given d.extent → bounds_list v.dims ≡ dimensions d.extent
+pub opened_is : (d : Declaration) (v : Slot) (n : ℕ) → v.name ≡ d.name → v.kind ≡ d.kind → v.there ≡ is_given d.extent → bounds_held v.bounds ≡ dimensions d.extent
     → v.values.items ≡ replicate n (nought d.kind) → IsOpened d v
 opened_is d v n e k t b vs = record {
   name = e;
   kind = k;
   bounds = ap₂ (λ t (bs : List (ℤ × ℤ)). cond t (Some bs) None) t b ∙ bounds_given d.extent;
-  values = λ is. ap₂ (λ (xs : List Value) (k : Kind). value_at xs (nought k) (offset (bounds_list v.dims) is)) vs k ∙ none_held n (nought d.kind) (offset (bounds_list v.dims) is);
+  values = λ is. ap₂ (λ (xs : List Value) (k : Kind). value_at xs (nought k) (offset (bounds_held v.bounds) is)) vs k ∙ none_held n (nought d.kind) (offset (bounds_held v.bounds) is);
 }
 
 -- ---- all names

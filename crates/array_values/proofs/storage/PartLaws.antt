@@ -1,7 +1,6 @@
 -- The values of arrays and of parts of them.
 use Rattle.std.proofs.Common.{◌≡◌, refl, sym, ap, ◌∙◌, suc, ℕ, ℤ, ◌<◌, Bool, true, false, cond, List, [], ◌∷◌, length, map, Some, None, Result, Ok, Err, arith, pos}
 use Rattle.std.specs.Prelude.{All, IsTrue, ◌↔◌}
-use Rattle.tree.specs.declared.programs.Dim.{Dim}
 use Rattle.std.proofs.lemmas.List.{get_or_default}
 use mathlib.Core.Path.{ap₂}
 use Rattle.tree.specs.Steps.{◌>>=◌}
@@ -13,7 +12,8 @@ use Rattle.meaning.specs.Store.{Cell, bounds_in, bounds_of, column_major, nought
 use Rattle.meaning.specs.ArrayValues.{Array}
 use Rattle.meaning.specs.Sections.{Axis, Selector, axes_on, whole_axes, extents_of, numbers_of}
 use Rattle.meaning.specs.Value.{is_bare}
-use Rattle.machine.specs.Storage.{offset, bounds_list, value_at}
+use Rattle.machine.specs.Storage.{offset, value_at}
+use Rattle.array_values.specs.storage.Bounds.{bounds_held}
 use Rattle.array_values.specs.declared.storage.array_places.selection.Selection.{Selection}
 use Rattle.array_values.specs.storage.array_places.Selecting.{IsSelection, SelectsThese}
 use Rattle.array_values.specs.storage.array_places.Places.{somes, values_there}
@@ -24,43 +24,43 @@ use Rattle.array_values.proofs.storage.PlaceLaws.{store-bounds, store-held}
 
 -- ---- one slot
 
-pub rows_held : (v : Slot) (rs : List (List ℤ)) (ks : List ℕ) → map (offset (bounds_list v.dims)) rs ≡ somes ks → All (λ k. k < length v.values.items) ks
+pub rows_held : (v : Slot) (rs : List (List ℤ)) (ks : List ℕ) → map (offset (bounds_held v.bounds)) rs ≡ somes ks → All (λ k. k < length v.values.items) ks
     → map (held_here v) rs ≡ values_there v.values.items ks
 rows_held v [] [] e h = refl
 rows_held v [] (k ∷ ks) e h = cc
 rows_held v (r ∷ rs) [] e h = cc
 rows_held v (r ∷ rs) (k ∷ ks) e h =
-    let first : offset (bounds_list v.dims) r ≡ Some k = cc in
-    let more : map (offset (bounds_list v.dims)) rs ≡ somes ks = cc in
+    let first : offset (bounds_held v.bounds) r ≡ Some k = cc in
+    let more : map (offset (bounds_held v.bounds)) rs ≡ somes ks = cc in
     ap₂ (λ (x : Value) xs. x ∷ xs)
     (ap (value_at v.values.items (nought v.kind)) first ∙ get_or_default v.values.items k (nought v.kind) (Int (pos 0)) (h 0 k (omega arith)))
     (rows_held v rs ks more (λ i d l. h (suc i) d (omega arith)))
 
-array_is : (v : Slot) (axes : List Axis) (t : Selection) (xs : List Value) → IsSelection (bounds_list v.dims) axes t → All (λ k. k < length v.values.items) t.places
+array_is : (v : Slot) (axes : List Axis) (t : Selection) (xs : List Value) → IsSelection (bounds_held v.bounds) axes t → All (λ k. k < length v.values.items) t.places
     → xs ≡ values_there v.values.items t.places → array_here v axes ≡ record { extents = t.extents; values = xs }
 array_is v axes t xs h l e = ap₂ (λ ns (xs : List Value). let a : Array = record { extents = ns; values = xs } in a) (sym h.extents) (rows_held v (column_major (map numbers_of axes)) t.places h.places l ∙ sym e)
 
-pub whole_is : (v : Slot) (t : Selection) (xs : List Value) → v.there ≡ true → IsSelection (bounds_list v.dims) (whole_axes (bounds_list v.dims)) t → All (λ k. k < length v.values.items) t.places
+pub whole_is : (v : Slot) (t : Selection) (xs : List Value) → v.there ≡ true → IsSelection (bounds_held v.bounds) (whole_axes (bounds_held v.bounds)) t → All (λ k. k < length v.values.items) t.places
     → xs ≡ values_there v.values.items t.places → whole_here v ≡ Ok (record { extents = t.extents; values = xs })
 whole_is v t xs b h l e =
-    ap (λ b. do bs ← bounds_in (cond b (Some (bounds_list v.dims)) None); Ok (array_here v (whole_axes bs))) b
-    ∙ ap (λ (a : Array). let r : Result Array Fault = Ok a in r) (array_is v (whole_axes (bounds_list v.dims)) t xs h l e)
+    ap (λ b. do bs ← bounds_in (cond b (Some (bounds_held v.bounds)) None); Ok (array_here v (whole_axes bs))) b
+    ∙ ap (λ (a : Array). let r : Result Array Fault = Ok a in r) (array_is v (whole_axes (bounds_held v.bounds)) t xs h l e)
 
-pub part_is : (v : Slot) (zs : List Selector) (t : Selection) (xs : List Value) → v.there ≡ true → SelectsThese (bounds_list v.dims) (axes_on (bounds_list v.dims) zs) t → All (λ k. k < length v.values.items) t.places
+pub part_is : (v : Slot) (zs : List Selector) (t : Selection) (xs : List Value) → v.there ≡ true → SelectsThese (bounds_held v.bounds) (axes_on (bounds_held v.bounds) zs) t → All (λ k. k < length v.values.items) t.places
     → xs ≡ values_there v.values.items t.places → part_here v zs ≡ Ok (record { extents = t.extents; values = xs })
 part_is v zs t xs b h l e =
-    ap (λ b. do bs ← bounds_in (cond b (Some (bounds_list v.dims)) None); axes ← axes_on bs zs; Ok (array_here v axes)) b
+    ap (λ b. do bs ← bounds_in (cond b (Some (bounds_held v.bounds)) None); axes ← axes_on bs zs; Ok (array_here v axes)) b
     ∙ ap (λ (q : Result (List Axis) Fault). do axes ← q; Ok (array_here v axes)) h.are
     ∙ ap (λ (a : Array). let r : Result Array Fault = Ok a in r) (array_is v h.axes t xs h.selected l e)
 
 -- a scalar has no dimensions
-pub bare_is : (v : Slot) (b : Bool) → v.there ≡ true → (IsTrue b ↔ (v.dims ≡ [])) → b ≡ is_bare (bounds_now v)
-bare_is v b t h = by v.dims refl b h ∙ ap (λ t. is_bare (cond t (Some (bounds_list v.dims)) None)) (sym t)
+pub bare_is : (v : Slot) (b : Bool) → v.there ≡ true → (IsTrue b ↔ (bounds_held v.bounds ≡ [])) → b ≡ is_bare (bounds_now v)
+bare_is v b t h = by (bounds_held v.bounds) refl b h ∙ ap (λ t. is_bare (cond t (Some (bounds_held v.bounds)) None)) (sym t)
   where
-    by : (es : List Dim) → v.dims ≡ es → (b : Bool) → (IsTrue b ↔ (v.dims ≡ [])) → b ≡ is_bare (Some (bounds_list v.dims))
-    by [] e b h = h.1 e ∙ sym (ap (λ (ds : List Dim). is_bare (Some (bounds_list ds))) e)
+    by : (es : List (ℤ × ℤ)) → bounds_held v.bounds ≡ es → (b : Bool) → (IsTrue b ↔ (bounds_held v.bounds ≡ [])) → b ≡ is_bare (Some (bounds_held v.bounds))
+    by [] e b h = h.1 e ∙ sym (ap (λ (bs : List (ℤ × ℤ)). is_bare (Some bs)) e)
     by (d ∷ es) e true h = let gone = h.0 refl in cc
-    by (d ∷ es) e false h = sym (ap (λ (ds : List Dim). is_bare (Some (bounds_list ds))) e)
+    by (d ∷ es) e false h = sym (ap (λ (bs : List (ℤ × ℤ)). is_bare (Some bs)) e)
 
 -- ---- a name
 

@@ -11,11 +11,12 @@ use Rattle.std.proofs.lemmas.Slice.Eq.{bytes_eq-Decides}
 use Rattle.std.proofs.lemmas.Bool.{false≢true}
 use mathlib.Core.Path.{ap₂}
 use Rattle.tree.specs.declared.ops.Value.{Value}
-use Rattle.tree.specs.declared.programs.Dim.{Dim}
 use Rattle.tree.specs.declared.ops.Kind.{Kind}
 use Rattle.meaning.specs.Store.{Store, Cell, put, same_cell, size_of, nought}
 use Rattle.meaning.proofs.Exchanges.{same_cell-same, same_cell-refl}
-use Rattle.machine.specs.Storage.{offset, joined, value_at, bounds_list}
+use Rattle.machine.specs.Storage.{offset, joined, value_at}
+use Rattle.array_values.specs.storage.Bounds.{bounds_held}
+use Rattle.array_values.specs.declared.storage.bounds.Bounds.{Bounds as Held}
 use Rattle.machine.proofs.StoreLaws.{number_inside, both_true}
 use Rattle.array_values.specs.declared.storage.slots.Slot.{Slot}
 use Rattle.array_values.specs.declared.storage.slots.Place.{Place}
@@ -97,21 +98,21 @@ one_cell [] x y is js p e h = cc
 one_cell (v ∷ vs) x y is js p e h = by (bytes_eq v.name x) (bytes_eq v.name y) refl refl e h (λ q. one_cell vs x y is js q)
   where
     by : (t u : Bool) → bytes_eq v.name x ≡ t → bytes_eq v.name y ≡ u
-        → cond t (option_map (λ (k : ℕ). let p : Place = record { slot = 0; at = k } in p) (offset (bounds_list v.dims) is)) (option_map behind (place_among vs x is)) ≡ Some p
-        → cond u (option_map (λ (k : ℕ). let p : Place = record { slot = 0; at = k } in p) (offset (bounds_list v.dims) js)) (option_map behind (place_among vs y js)) ≡ Some p
+        → cond t (option_map (λ (k : ℕ). let p : Place = record { slot = 0; at = k } in p) (offset (bounds_held v.bounds) is)) (option_map behind (place_among vs x is)) ≡ Some p
+        → cond u (option_map (λ (k : ℕ). let p : Place = record { slot = 0; at = k } in p) (offset (bounds_held v.bounds) js)) (option_map behind (place_among vs y js)) ≡ Some p
         → ((q : Place) → place_among vs x is ≡ Some q → place_among vs y js ≡ Some q → (x ≡ y) × (is ≡ js))
         → (x ≡ y) × (is ≡ js)
     by true true a b e h rest =
-        let p' = first_is (offset (bounds_list v.dims) is) p e in
-        let q' = first_is (offset (bounds_list v.dims) js) p h in
-        (sym ((bytes_eq-Decides v.name x).0 a) ∙ (bytes_eq-Decides v.name y).0 b, one_offset (bounds_list v.dims) is js p.at p'.0 q'.0)
+        let p' = first_is (offset (bounds_held v.bounds) is) p e in
+        let q' = first_is (offset (bounds_held v.bounds) js) p h in
+        (sym ((bytes_eq-Decides v.name x).0 a) ∙ (bytes_eq-Decides v.name y).0 b, one_offset (bounds_held v.bounds) is js p.at p'.0 q'.0)
     by true false a b e h rest =
-        let p' = first_is (offset (bounds_list v.dims) is) p e in
+        let p' = first_is (offset (bounds_held v.bounds) is) p e in
         let q' = later_is (place_among vs y js) p h in
         let one = p'.1 in let two = q'.2 in absurd (omega arith)
     by false true a b e h rest =
         let p' = later_is (place_among vs x is) p e in
-        let q' = first_is (offset (bounds_list v.dims) js) p h in
+        let q' = first_is (offset (bounds_held v.bounds) js) p h in
         let one = p'.2 in let two = q'.1 in absurd (omega arith)
     by false false a b e h rest =
         let p' = later_is (place_among vs x is) p e in
@@ -136,11 +137,11 @@ held_at (w ∷ vs) x is p e v g d l = by (bytes_eq w.name x) refl e (λ q. held_
     next (suc i) j e g = g ∙ ap (λ k. get_or vs k v) (let same : i ≡ j = omega arith in same)
 
     by : (t : Bool) → bytes_eq w.name x ≡ t
-        → cond t (option_map (λ (k : ℕ). let p : Place = record { slot = 0; at = k } in p) (offset (bounds_list w.dims) is)) (option_map behind (place_among vs x is)) ≡ Some p
+        → cond t (option_map (λ (k : ℕ). let p : Place = record { slot = 0; at = k } in p) (offset (bounds_held w.bounds) is)) (option_map behind (place_among vs x is)) ≡ Some p
         → ((q : Place) → place_among vs x is ≡ Some q → (v : Slot) → v ≡ get_or vs q.slot v → (d : Value) → q.at < length v.values.items → held_among vs x is ≡ get_or v.values.items q.at d)
         → cond t (held_here w is) (held_among vs x is) ≡ get_or v.values.items p.at d
     by true a e rest =
-        let p' = first_is (offset (bounds_list w.dims) is) p e in
+        let p' = first_is (offset (bounds_held w.bounds) is) p e in
         let own : v ≡ w = first p.slot p'.1 g in
         ap (value_at w.values.items (nought w.kind)) p'.0
         ∙ ap (λ (u : Slot). get_or u.values.items p.at (nought w.kind)) (sym own)
@@ -154,7 +155,7 @@ held_at (w ∷ vs) x is p e v g d l = by (bytes_eq w.name x) refl e (λ q. held_
 
 module _ (k : ℕ) (x : Value) (w : Slot) where
   bounds_same : (v : Slot) → Stores v w k x → bounds_now w ≡ bounds_now v
-  bounds_same v h = ap₂ (λ t (ds : List Dim). cond t (Some (bounds_list ds)) None) h.there h.dims
+  bounds_same v h = ap₂ (λ t (bs : Held). cond t (Some (bounds_held bs)) None) h.there h.bounds
 
   pub bounds_kept : (vs : List Slot) (i : ℕ) → ((v : Slot) → v ≡ get_or vs i v → Stores v w k x) → (y : List ℕ) → bounds_among (set vs i w) y ≡ bounds_among vs y
   bounds_kept [] i h y = refl
@@ -163,13 +164,13 @@ module _ (k : ℕ) (x : Value) (w : Slot) where
 
   pub places_kept : (vs : List Slot) (i : ℕ) → ((v : Slot) → v ≡ get_or vs i v → Stores v w k x) → (y : List ℕ) (is : List ℤ) → place_among (set vs i w) y is ≡ place_among vs y is
   places_kept [] i h y is = refl
-  places_kept (v ∷ vs) zero h y is = ap₂ (λ n (ds : List Dim). cond (bytes_eq n y) (option_map (λ (k : ℕ). let p : Place = record { slot = 0; at = k } in p) (offset (bounds_list ds) is)) (option_map behind (place_among vs y is))) (h v refl).name (h v refl).dims
-  places_kept (v ∷ vs) (suc i) h y is = ap (λ o. cond (bytes_eq v.name y) (option_map (λ (k : ℕ). let p : Place = record { slot = 0; at = k } in p) (offset (bounds_list v.dims) is)) (option_map behind o)) (places_kept vs i h y is)
+  places_kept (v ∷ vs) zero h y is = ap₂ (λ n (bs : Held). cond (bytes_eq n y) (option_map (λ (k : ℕ). let p : Place = record { slot = 0; at = k } in p) (offset (bounds_held bs) is)) (option_map behind (place_among vs y is))) (h v refl).name (h v refl).bounds
+  places_kept (v ∷ vs) (suc i) h y is = ap (λ o. cond (bytes_eq v.name y) (option_map (λ (k : ℕ). let p : Place = record { slot = 0; at = k } in p) (offset (bounds_held v.bounds) is)) (option_map behind o)) (places_kept vs i h y is)
 
-  value_set : (v : Slot) (h : Stores v w k x) (is : List ℤ) → held_here w is ≡ value_at (set v.values.items k x) (nought v.kind) (offset (bounds_list v.dims) is)
+  value_set : (v : Slot) (h : Stores v w k x) (is : List ℤ) → held_here w is ≡ value_at (set v.values.items k x) (nought v.kind) (offset (bounds_held v.bounds) is)
   value_set v h is =
-      ap (λ (vs : List Value). value_at vs (nought w.kind) (offset (bounds_list w.dims) is)) h.values
-      ∙ ap₂ (λ (t : Kind) (ds : List Dim). value_at (set v.values.items k x) (nought t) (offset (bounds_list ds) is)) h.kind h.dims
+      ap (λ (vs : List Value). value_at vs (nought w.kind) (offset (bounds_held w.bounds) is)) h.values
+      ∙ ap₂ (λ (t : Kind) (bs : Held). value_at (set v.values.items k x) (nought t) (offset (bounds_held bs) is)) h.kind h.bounds
 
   -- the cell whose value stands there
   pub held_new : (vs : List Slot) (i : ℕ) → ((v : Slot) → v ≡ get_or vs i v → Stores v w k x × (k < length v.values.items)) → (y : List ℕ) (is : List ℤ) (p : Place)
@@ -181,10 +182,10 @@ module _ (k : ℕ) (x : Value) (w : Slot) where
       own = h v refl
 
       by : (t : Bool) → bytes_eq v.name y ≡ t
-          → cond t (option_map (λ (k : ℕ). let p : Place = record { slot = 0; at = k } in p) (offset (bounds_list v.dims) is)) (option_map behind (place_among vs y is)) ≡ Some p
+          → cond t (option_map (λ (k : ℕ). let p : Place = record { slot = 0; at = k } in p) (offset (bounds_held v.bounds) is)) (option_map behind (place_among vs y is)) ≡ Some p
           → cond (bytes_eq w.name y) (held_here w is) (held_among vs y is) ≡ x
       by true t e =
-          let p' = first_is (offset (bounds_list v.dims) is) p e in
+          let p' = first_is (offset (bounds_held v.bounds) is) p e in
           ap (λ b. cond b (held_here w is) (held_among vs y is)) (ap (λ n. bytes_eq n y) own.0.name ∙ t)
           ∙ value_set v own.0 is
           ∙ ap (value_at (set v.values.items k x) (nought v.kind)) (p'.0 ∙ ap (λ n. let o : Option ℕ = Some n in o) a)
@@ -193,10 +194,10 @@ module _ (k : ℕ) (x : Value) (w : Slot) where
   held_new (v ∷ vs) (suc i) h y is p e s a = by (bytes_eq v.name y) refl e (λ q. held_new vs i h y is q)
     where
       by : (t : Bool) → bytes_eq v.name y ≡ t
-          → cond t (option_map (λ (k : ℕ). let p : Place = record { slot = 0; at = k } in p) (offset (bounds_list v.dims) is)) (option_map behind (place_among vs y is)) ≡ Some p
+          → cond t (option_map (λ (k : ℕ). let p : Place = record { slot = 0; at = k } in p) (offset (bounds_held v.bounds) is)) (option_map behind (place_among vs y is)) ≡ Some p
           → ((q : Place) → place_among vs y is ≡ Some q → q.slot ≡ i → q.at ≡ k → held_among (set vs i w) y is ≡ x)
           → cond t (held_here v is) (held_among (set vs i w) y is) ≡ x
-      by true t e rest = let p' = first_is (offset (bounds_list v.dims) is) p e in let l = p'.1 in absurd (omega arith)
+      by true t e rest = let p' = first_is (offset (bounds_held v.bounds) is) p e in let l = p'.1 in absurd (omega arith)
       by false t e rest =
           let p' = later_is (place_among vs y is) p e in
           rest p'.0 p'.1 (let l = p'.2 in omega arith) (sym p'.3 ∙ a)
@@ -212,17 +213,17 @@ module _ (k : ℕ) (x : Value) (w : Slot) where
       at (Some j) n = get_or-set_other v.values.items k j x (nought v.kind) (λ q. n j refl q)
 
       by : (t : Bool) → bytes_eq v.name y ≡ t
-          → ((p : Place) → cond t (option_map (λ (k : ℕ). let p : Place = record { slot = 0; at = k } in p) (offset (bounds_list v.dims) is)) (option_map behind (place_among vs y is)) ≡ Some p → p.slot ≡ 0 → p.at ≡ k → ⊥)
+          → ((p : Place) → cond t (option_map (λ (k : ℕ). let p : Place = record { slot = 0; at = k } in p) (offset (bounds_held v.bounds) is)) (option_map behind (place_among vs y is)) ≡ Some p → p.slot ≡ 0 → p.at ≡ k → ⊥)
           → cond (bytes_eq w.name y) (held_here w is) (held_among vs y is) ≡ cond t (held_here v is) (held_among vs y is)
       by true t n =
           ap (λ b. cond b (held_here w is) (held_among vs y is)) (ap (λ n. bytes_eq n y) (h v refl).name ∙ t)
           ∙ value_set v (h v refl) is
-          ∙ at (offset (bounds_list v.dims) is) (λ j e q. n (record { slot = 0; at = j }) (ap (option_map (λ (k : ℕ). let p : Place = record { slot = 0; at = k } in p)) e) refl q)
+          ∙ at (offset (bounds_held v.bounds) is) (λ j e q. n (record { slot = 0; at = j }) (ap (option_map (λ (k : ℕ). let p : Place = record { slot = 0; at = k } in p)) e) refl q)
       by false t n = ap (λ b. cond b (held_here w is) (held_among vs y is)) (ap (λ n. bytes_eq n y) (h v refl).name ∙ t)
   held_other (v ∷ vs) (suc i) h y is n = by (bytes_eq v.name y) refl n (λ m. held_other vs i h y is m)
     where
       by : (t : Bool) → bytes_eq v.name y ≡ t
-          → ((p : Place) → cond t (option_map (λ (k : ℕ). let p : Place = record { slot = 0; at = k } in p) (offset (bounds_list v.dims) is)) (option_map behind (place_among vs y is)) ≡ Some p → p.slot ≡ suc i → p.at ≡ k → ⊥)
+          → ((p : Place) → cond t (option_map (λ (k : ℕ). let p : Place = record { slot = 0; at = k } in p) (offset (bounds_held v.bounds) is)) (option_map behind (place_among vs y is)) ≡ Some p → p.slot ≡ suc i → p.at ≡ k → ⊥)
           → (((p : Place) → place_among vs y is ≡ Some p → p.slot ≡ i → p.at ≡ k → ⊥) → held_among (set vs i w) y is ≡ held_among vs y is)
           → cond t (held_here v is) (held_among (set vs i w) y is) ≡ cond t (held_here v is) (held_among vs y is)
       by true t n rest = refl

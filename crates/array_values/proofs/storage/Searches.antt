@@ -6,7 +6,8 @@ use Rattle.std.specs.Option.{option_map}
 use Rattle.std.specs.Str.{bytes_eq}
 use Rattle.std.specs.Cmp.Lexicographic.{nat_list_eq_equiv}
 use Rattle.tree.specs.declared.ops.Kind.{Kind}
-use Rattle.machine.specs.Storage.{offset, bounds_list}
+use Rattle.machine.specs.Storage.{offset}
+use Rattle.array_values.specs.storage.Bounds.{bounds_held}
 use Rattle.array_values.specs.declared.storage.slots.Slot.{Slot}
 use Rattle.array_values.specs.declared.storage.slots.Place.{Place}
 use Rattle.array_values.specs.storage.Names.{own_names}
@@ -19,8 +20,8 @@ here x w vs zero e v g s = record {
   bounds = ap (λ t. cond t (bounds_now w) (bounds_among vs x)) s ∙ ap bounds_now (sym g);
   kind = ap (λ t. cond t (Some w.kind) (kind_among vs x)) s ∙ ap (λ (v : Slot). let o : Option Kind = Some v.kind in o) (sym g);
   held = λ is. ap (λ t. cond t (held_here w is) (held_among vs x is)) s ∙ ap (λ v. held_here v is) (sym g);
-  place = λ is. ap (λ t. cond t (option_map (λ (k : ℕ). let p : Place = record { slot = 0; at = k } in p) (offset (bounds_list w.dims) is)) (option_map behind (place_among vs x is))) s
-      ∙ ap (λ (v : Slot). option_map (λ (k : ℕ). let p : Place = record { slot = 0; at = k } in p) (offset (bounds_list v.dims) is)) (sym g);
+  place = λ is. ap (λ t. cond t (option_map (λ (k : ℕ). let p : Place = record { slot = 0; at = k } in p) (offset (bounds_held w.bounds) is)) (option_map behind (place_among vs x is))) s
+      ∙ ap (λ (v : Slot). option_map (λ (k : ℕ). let p : Place = record { slot = 0; at = k } in p) (offset (bounds_held v.bounds) is)) (sym g);
 }
 here x w vs (suc n) e v g s = absurd (omega arith)
 
@@ -35,8 +36,8 @@ later x w vs m n e v s h = record {
   bounds = ap (λ t. cond t (bounds_now w) (bounds_among vs x)) s ∙ h.bounds;
   kind = ap (λ t. cond t (Some w.kind) (kind_among vs x)) s ∙ h.kind;
   held = λ is. ap (λ t. cond t (held_here w is) (held_among vs x is)) s ∙ h.held is;
-  place = λ is. ap (λ t. cond t (option_map (λ (k : ℕ). let p : Place = record { slot = 0; at = k } in p) (offset (bounds_list w.dims) is)) (option_map behind (place_among vs x is))) s
-      ∙ ap (option_map behind) (h.place is) ∙ moved m n e (offset (bounds_list v.dims) is);
+  place = λ is. ap (λ t. cond t (option_map (λ (k : ℕ). let p : Place = record { slot = 0; at = k } in p) (offset (bounds_held w.bounds) is)) (option_map behind (place_among vs x is))) s
+      ∙ ap (option_map behind) (h.place is) ∙ moved m n e (offset (bounds_held v.bounds) is);
 }
 
 named_at : (x : List ℕ) (vs : List Slot) (n : ℕ) → position_or_len (bytes_eq x) (own_names vs) ≡ n → n < length vs → (v : Slot) → v ≡ get_or vs n v → IsNamed vs x n v

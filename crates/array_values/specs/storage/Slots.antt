@@ -10,20 +10,21 @@ use Rattle.tree.specs.declared.ops.Value.TheVariants.{Int}
 use Rattle.tree.specs.declared.ops.Fault.{Fault}
 use Rattle.tree.specs.declared.ops.Fault.TheVariants.{Bounds, Allocated}
 use Rattle.meaning.specs.Store.{Store, Cell, nought}
-use Rattle.machine.specs.Storage.{value_at, offset, bounds_list}
+use Rattle.machine.specs.Storage.{value_at, offset}
 use Rattle.array_values.specs.declared.storage.slots.Slot.{Slot}
 use Rattle.array_values.specs.declared.storage.slots.Place.{Place}
+use Rattle.array_values.specs.storage.Bounds.{bounds_held}
 use Rattle.array_values.specs.storage.Names.{own_names}
 
 -- ---- one name
 
 -- its bounds, where it has elements now
 abbrev pub bounds_now : Slot → Option (List (ℤ × ℤ))
-bounds_now v = if v.there then Some (bounds_list v.dims) else None
+bounds_now v = if v.there then Some (bounds_held v.bounds) else None
 
 -- what the cell with these subscripts holds: 0 or `.FALSE.` where no value stands for it
 abbrev pub held_here : Slot → List ℤ → Value
-held_here v is = value_at v.values.items (nought v.kind) (offset (bounds_list v.dims) is)
+held_here v is = value_at v.values.items (nought v.kind) (offset (bounds_held v.bounds) is)
 
 abbrev pub inside : Option ℕ → Result ℕ Fault
 inside (Some k) = Ok k
@@ -31,7 +32,7 @@ inside None = Err Bounds
 
 -- the place of an element among those of the name
 abbrev pub place_here : Slot → List ℤ → Result ℕ Fault
-place_here v is = if v.there then inside (offset (bounds_list v.dims) is) else Err Allocated
+place_here v is = if v.there then inside (offset (bounds_held v.bounds) is) else Err Allocated
 
 -- ---- all names
 
@@ -62,7 +63,7 @@ behind p = record { slot = p.slot + 1; at = p.at }
 abbrev pub place_among : List Slot → List ℕ → List ℤ → Option Place
 place_among [] x is = None
 place_among (v ∷ vs) x is =
-    if bytes_eq v.name x then option_map (λ k. record { slot = 0; at = k }) (offset (bounds_list v.dims) is)
+    if bytes_eq v.name x then option_map (λ k. record { slot = 0; at = k }) (offset (bounds_held v.bounds) is)
     else option_map behind (place_among vs x is)
 
 -- a value stands at the place
@@ -77,7 +78,7 @@ pub record IsNamed (vs : List Slot) (x : List ℕ) (i : ℕ) (v : Slot) : Type 0
   pub kind : kind_among vs x ≡ Some v.kind
   pub held : (is : List ℤ) → held_among vs x is ≡ held_here v is
   pub place : (is : List ℤ)
-      → place_among vs x is ≡ option_map (λ k. record { slot = i; at = k }) (offset (bounds_list v.dims) is)
+      → place_among vs x is ≡ option_map (λ k. record { slot = i; at = k }) (offset (bounds_held v.bounds) is)
 
 -- the slot at the place i is that of the name x
 pub record Has (vs : List Slot) (x : List ℕ) (i : ℕ) : Type 0 where
@@ -102,7 +103,7 @@ pub record Stores (v w : Slot) (k : ℕ) (x : Value) : Type 0 where
   pub name : w.name ≡ v.name
   pub kind : w.kind ≡ v.kind
   pub there : w.there ≡ v.there
-  pub dims : w.dims ≡ v.dims
+  pub bounds : w.bounds ≡ v.bounds
   pub values : w.values.items ≡ slice_set v.values.items k x
 
 -- the names, their kinds and bounds and the places of all cells are the same

@@ -4,8 +4,8 @@ use Rattle.tree.specs.Steps.{◌>>=◌}
 use Rattle.tree.specs.declared.ops.Fault.{Fault}
 use Rattle.meaning.specs.Store.{Store, bounds_in, bounds_of}
 use Rattle.meaning.specs.Sections.{Axis, Selector, axes_on, whole_axes}
-use Rattle.meaning.specs.Profile77.{elements_of}
-use Rattle.machine.specs.Storage.{offset, bounds_list}
+use Rattle.meaning.specs.Extents.{elements_of}
+use Rattle.machine.specs.Storage.{offset}
 use Rattle.array_values.specs.declared.failure.Failure.{Failure}
 use Rattle.array_values.specs.declared.failure.Failure.TheVariants as failure
 use Rattle.array_values.specs.declared.storage.array_places.selection.Selection.{Selection}
@@ -13,6 +13,7 @@ use Rattle.array_values.specs.storage.array_places.Selecting.{IsSelection, Selec
 use Rattle.array_values.specs.declared.storage.slots.Slot.{Slot}
 use Rattle.array_values.specs.declared.storage.slots.Place.{Place}
 use Rattle.array_values.specs.declared.storage.targets.Target.{Target}
+use Rattle.array_values.specs.storage.Bounds.{bounds_held}
 use Rattle.array_values.specs.storage.Slots.{bounds_now, place_among, IsWithin}
 
 -- what is selected of the bounds that the name x has now
@@ -51,7 +52,7 @@ Targets vs x q (Err failure.Memory) = Unit {0}
 
 pub record PicksThese (v : Slot) (f : List (ℤ × ℤ) → Result (List Axis) Fault) (t : Selection) : Type 0 where
   pub there : v.there ≡ true
-  pub selected : SelectsThese (bounds_list v.dims) (f (bounds_list v.dims)) t
+  pub selected : SelectsThese (bounds_held v.bounds) (f (bounds_held v.bounds)) t
 
 abbrev pub picked_here : (List (ℤ × ℤ) → Result (List Axis) Fault) → Slot → Result (List Axis) Fault
 picked_here f v = do

@@ -5,7 +5,6 @@ ghost use Rattle.array_values.specs.storage.Slots.{held_among, place_among, plac
 ghost use Rattle.array_values.specs.storage.Slots.{IsWithin, Has, IsMissing, Finds, SamePlaces, Stores};
 ghost use Rattle.array_values.specs.storage.Stored.{slots_in, store_in};
 
-use crate::storage::array_places::place;
 use crate::storage::slots::{Place, Slot};
 use crate::storage::storage::Storage;
 use tree::{Fault, Name, Value};
@@ -19,7 +18,7 @@ impl Slot {
         if !self.there {
             return Err(Fault::Allocated);
         }
-        match place(numbers, self.dims.as_slice()) {
+        match self.bounds.place(numbers) {
             None => Err(Fault::Bounds),
             Some(at) => Ok(at),
         }

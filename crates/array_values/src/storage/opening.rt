@@ -8,13 +8,13 @@ ghost use Rattle.machine.specs.Storage.{AreDistinct, opening_of};
 ghost use Rattle.array_values.specs.storage.Opening.{IsOpened, is_given, KindsAreDeclared};
 ghost use Rattle.array_values.specs.storage.Stored.{slots_in, store_in};
 
-use crate::storage::array_places::count;
+use crate::storage::bounds::Bounds;
 use crate::storage::slots::Slot;
 use crate::storage::storage::Storage;
 use indexmap::IndexSet;
 use machine::dims_of;
 use std::alloc::Global;
-use tree::{Decl, Dim, Extent, Kind, Memory, Name, Seq, Value};
+use tree::{Decl, Extent, Kind, Memory, Name, Value};
 
 /// 0 or `.FALSE.`.
 pub(crate) fn nought(kind: Kind) -> Value
@@ -36,19 +36,13 @@ fn is_given(extent: &Extent) -> bool
     }
 }
 
-fn copy(alloc: Global, dims: &[Dim]) -> Result<Seq<Dim>, Memory>
-    ensures { IfOk result (λ copy. copy ≡ dims.now) }
-{
-    Ok(Seq::from_vec(Vec::from_slice(alloc, dims)?))
-}
-
 impl Slot {
     // The name as it is when a run begins.
     fn open(alloc: Global, decl: &Decl) -> Result<Slot, Memory>
         ensures { IfOk result (IsOpened (declaration_of decl.now)) }
     {
-        let dims = copy(alloc, dims_of(&decl.extent))?;
-        let Some(count) = count(dims.as_slice()) else {
+        let bounds = Bounds::of(alloc, dims_of(&decl.extent))?;
+        let Some(count) = bounds.count() else {
             return Err(Memory);
         };
         let mut values = Vec::new(alloc);
@@ -57,7 +51,7 @@ impl Slot {
             name: decl.name,
             kind: decl.kind,
             there: is_given(&decl.extent),
-            dims,
+            bounds,
             values,
         })
     }

@@ -8,7 +8,7 @@ ghost use Rattle.array_values.specs.storage.Parts.{whole_here, part_here, whole_
 ghost use Rattle.array_values.specs.storage.Slots.{bounds_now};
 ghost use Rattle.array_values.specs.storage.Stored.{store_in};
 
-use crate::storage::array_places::{Selection, select, select_all, values_at};
+use crate::storage::array_places::{Selection, values_at};
 use crate::storage::slots::Slot;
 use crate::storage::storage::Storage;
 use crate::{Failure, Known, Selector};
@@ -23,7 +23,7 @@ impl Slot {
         if !self.there {
             return Err(Failure::Fault(Fault::Allocated));
         }
-        let Ok(Selection { extents, places }) = select_all(alloc, self.dims.as_slice()) else {
+        let Ok(Selection { extents, places }) = self.bounds.select_all(alloc) else {
             return Err(Failure::Memory);
         };
         let values = values_at(alloc, &self.values, places.as_slice())?;
@@ -37,7 +37,7 @@ impl Slot {
         if !self.there {
             return Err(Failure::Fault(Fault::Allocated));
         }
-        let Selection { extents, places } = select(alloc, self.dims.as_slice(), selectors)?;
+        let Selection { extents, places } = self.bounds.select(alloc, selectors)?;
         let values = values_at(alloc, &self.values, places.as_slice())?;
         Ok(Known { extents, values })
     }
@@ -45,7 +45,7 @@ impl Slot {
     fn is_scalar(&self) -> bool
         ensures { result ≡ is_bare (bounds_now self.now) }
     {
-        self.there && self.dims.is_empty()
+        self.there && self.bounds.is_scalar()
     }
 }
 

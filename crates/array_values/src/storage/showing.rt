@@ -7,6 +7,7 @@ ghost use Rattle.array_values.specs.declared.storage.slots.Slot.{Slot};
 ghost use Rattle.array_values.specs.storage.Slots.{bounds_now, store_among, IsNamed};
 ghost use Rattle.array_values.specs.storage.Stored.{store_in};
 
+use crate::storage::bounds::Bounds;
 use crate::storage::slots::Slot;
 use crate::storage::storage::Storage;
 use machine::write_lines;
@@ -14,7 +15,7 @@ use streams::{Sink, WriteFault};
 use tree::Name;
 
 impl Slot {
-    // An array that isn't allocated has no lines.
+    // An array that isn't allocated, or has no elements, has no lines.
     fn show<K: Sink>(&self, name: Name, out: &mut K) -> Result<(), WriteFault>
         ensures text { (vs : List Slot) (i : ℕ) → IsNamed vs name i self.now
             → WritesText (K.taken out.old) (lines_of_cells name (bounds_now self.now) (store_among vs))
@@ -28,7 +29,10 @@ impl Slot {
         if !self.there {
             return Ok(());
         }
-        write_lines(name, self.dims.as_slice(), &self.values, out)
+        match &self.bounds {
+            Bounds::Filled(dims) => write_lines(name, dims.as_slice(), &self.values, out),
+            Bounds::Empty(_) => Ok(()),
+        }
     }
 }
 

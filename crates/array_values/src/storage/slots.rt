@@ -1,9 +1,10 @@
 //! A name with the values of its elements.
 ghost use Rattle.std.specs.Prelude.{◌≡◌, vec_len};
-ghost use Rattle.meaning.specs.Profile77.{elements_of};
-ghost use Rattle.machine.specs.Storage.{bounds_list};
+ghost use Rattle.meaning.specs.Extents.{elements_of};
+ghost use Rattle.array_values.specs.storage.Bounds.{bounds_held};
 
-use tree::{Dim, Kind, Name, Seq, Value};
+use crate::storage::bounds::Bounds;
+use tree::{Kind, Name, Value};
 
 /// A declared name: whether it has elements now, and the values of its elements in column-major order. A scalar has one
 /// element. An array that is deallocated keeps its last bounds and values, which nothing reads, until it is allocated
@@ -13,9 +14,9 @@ pub struct Slot {
     pub(crate) name: Name,
     pub(crate) kind: Kind,
     pub(crate) there: bool,
-    pub(crate) dims: Seq<Dim>,
+    pub(crate) bounds: Bounds,
     pub(crate) values: Vec<Value>,
-    ghost filled: { vec_len values ≡ elements_of (bounds_list dims) },
+    ghost filled: { vec_len values ≡ elements_of (bounds_held bounds) },
 }
 
 /// Where a scalar's or an element's value stands: the name's place in the order of declarations, and the element's

@@ -4,7 +4,7 @@ ghost use Rattle.array_values.specs.Selections.{selector_in};
 ghost use Rattle.array_values.specs.storage.Targets.{Targets, Picks, axes_within, all_of, part_of};
 ghost use Rattle.array_values.specs.storage.Stored.{slots_in, store_in};
 
-use crate::storage::array_places::{Selection, select, select_all};
+use crate::storage::array_places::Selection;
 use crate::storage::slots::Slot;
 use crate::storage::storage::Storage;
 use crate::{Failure, Selector};
@@ -27,7 +27,7 @@ impl Slot {
         if !self.there {
             return Err(Failure::Fault(Fault::Allocated));
         }
-        let Ok(selected) = select_all(alloc, self.dims.as_slice()) else {
+        let Ok(selected) = self.bounds.select_all(alloc) else {
             return Err(Failure::Memory);
         };
         Ok(selected)
@@ -40,7 +40,7 @@ impl Slot {
         if !self.there {
             return Err(Failure::Fault(Fault::Allocated));
         }
-        select(alloc, self.dims.as_slice(), selectors)
+        self.bounds.select(alloc, selectors)
     }
 }
 

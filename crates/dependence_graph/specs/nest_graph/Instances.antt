@@ -21,8 +21,8 @@ AreTurns values outer [] (i ∷ x) = ⊥
 AreTurns values outer (l ∷ ls) [] = ⊥
 AreTurns values outer (l ∷ ls) (i ∷ x) = IsTurn l.trip values outer i × AreTurns values (outer ++ i ∷ []) ls x
 
--- the statements are numbered from 0 in the order of the text
-pub record IsInstance (n : Nest) (values : ℕ → ℤ) (number : ℕ) (x : List ℤ) : Type 0 where
+-- of the statement with this place
+pub record IsInstance (n : Nest) (values : ℕ → ℤ) (place : ℕ) (x : List ℤ) : Type 0 where
   pub standing : Standing
-  pub is_at : slice_get (nest_statements n) number ≡ Some standing
+  pub is_at : slice_get (nest_statements n) place ≡ Some standing
   pub turns : AreTurns values [] standing.loops x

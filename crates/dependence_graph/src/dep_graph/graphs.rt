@@ -24,8 +24,8 @@ fn statement_count(alloc: Global, nest: &Nest) -> Result<u32, Memory>
     }
 }
 
-/// The dependence graph of a nest whose loops go from 1 by 1. Statements are numbered from 0 in the order of the text,
-/// and a statement's references from 0, its left side, in the order of its text. Lines come in the order of the
+/// The dependence graph of a nest whose loops go from 1 by 1. Statements go by their places in the order of the text,
+/// and a statement's references by theirs, its left side, in the order of its text. Lines come in the order of the
 /// references, and then of the vectors.
 pub fn graph(alloc: Global, nest: &Nest) -> Result<Graph, Memory>
     requires { IsReady (nest_of nest.now) }

@@ -14,7 +14,7 @@ use Rattle.subscripts.specs.Iterations.{WithinSpan, IsRelated, once}
 use Rattle.subscripts.specs.Partitions.{AreCoupled, AreGrouped, IsChain, SharesLoop}
 use Rattle.subscripts.specs.Refutations.{IsOneSided}
 use Rattle.subscripts.specs.declared.affine.Dir.{Dir}
-use Rattle.subscripts.specs.declared.affine.Dir.TheVariants.{Any}
+use Rattle.subscripts.specs.declared.affine.Dir.TheVariants.{Lt, Eq, Gt, Any}
 use Rattle.subscripts.specs.declared.affine.Dirs.{Dirs}
 use Rattle.subscripts.specs.declared.affine.Span.{Span}
 use Rattle.subscripts.specs.declared.pairing.Pairing.{Pairing}
@@ -30,7 +30,7 @@ use Rattle.direction_vectors.proofs.vector_tests.Groups.{first_is, same_pairing,
 use Rattle.direction_vectors.proofs.vector_tests.Meetings.{any_related, related_in, subscript_at}
 use Rattle.direction_vectors.proofs.vector_tests.Standing.{at_met, first_turn, second_turn, from_span_is, met_at, one_within, own_place, to_span_is, turns_in_places, ziv_difference, ziv_met}
 use Rattle.direction_vectors.specs.vector_tests.Pairs.{IsInVector, IsLeastMeeting, IsMeeting}
-use Rattle.direction_vectors.specs.vector_tests.Places.{IsAllowedAt, IsLeastAllowed, IsLeastSolution, IsLoopIn, IsLoopSolution, IsPlaceOf, SolvesEach, loop_span}
+use Rattle.direction_vectors.specs.vector_tests.Places.{HasEachDirection, HasSolution, IsAllowedAt, IsLeastAllowed, IsLeastSolution, IsLoopIn, IsLoopSolution, IsPlaceOf, LeavesSome, SolvesEach, loop_span}
 use Rattle.direction_vectors.specs.vector_tests.Refs.{IsRefPair, IsSubscriptOf, IsVectorOf}
 use Rattle.direction_vectors.specs.vector_tests.Ways.{AreEqualAt, IsExactClass, IsRefutedVector, IsZivOrSiv}
 use Rattle.direction_vectors.specs.declared.vector_tests.refs.RefPair.{RefPair}
@@ -204,6 +204,25 @@ least_solution r d l left trip i j same t m = record {
   least = λ i' j' s. m.least i' j' ((same i' j').1 s.solves) (within_from_solution r d l trip i' j' t s);
 }
 
+-- some iterations in a direction
+solution_left : (r : RefPair) (k : ℕ) (e : Dir) (left : Constraint) (trip : ℤ) → ((i j : ℤ) → Allows left i j ↔ SolvesEach r.subs (Shared k) i j)
+    → (loop_span r (Shared k)).last ≡ Some trip → LeavesSome left trip e → HasSolution r k e
+solution_left r k e left trip same t (i, (j, m)) = record {
+  i = i;
+  j = j;
+  first = span_within (loop_span r (Shared k)) trip i t m.within.first;
+  second = span_within (loop_span r (Shared k)) trip j t m.within.second;
+  related = m.within.related;
+  solves = (same i j).0 m.left;
+}
+
+pub each_direction : (r : RefPair) (k : ℕ) (left : Constraint) (trip : ℤ) → ((i j : ℤ) → Allows left i j ↔ SolvesEach r.subs (Shared k) i j)
+    → (loop_span r (Shared k)).last ≡ Some trip → LeavesSome left trip Lt → LeavesSome left trip Eq → LeavesSome left trip Gt → HasEachDirection r k
+each_direction r k left trip same t l e g Lt n = solution_left r k Lt left trip same t l
+each_direction r k left trip same t l e g Eq n = solution_left r k Eq left trip same t e
+each_direction r k left trip same t l e g Gt n = solution_left r k Gt left trip same t g
+each_direction r k left trip same t l e g Any n = absurd (n refl)
+
 -- ---- the least iterations in a place
 
 -- the iteration of the other reference doesn't count
@@ -216,7 +235,7 @@ second_alone p k i i' j e = ap (λ (z : ℤ). z +ℤ p.from.constant) (zero-*ℤ
 at_loop : (r : RefPair) (m k : ℕ) (i j : ℤ) (L : ℕ → Loop) → m ≡ k → SolvesEach r.subs (L k) i j → SolvesEach r.subs (L m) i j
 at_loop r m k i j L e s = subst (λ (n : ℕ). SolvesEach r.subs (L n) i j) (sym e) s
 
-shared_solves : (r : RefPair) (k : ℕ) (i j : ℤ) (l : Loop) → IsRefPair r → k < r.common → SolvesEach r.subs (Shared k) i j → IsLoopIn k l → SolvesEach r.subs l i j
+pub shared_solves : (r : RefPair) (k : ℕ) (i j : ℤ) (l : Loop) → IsRefPair r → k < r.common → SolvesEach r.subs (Shared k) i j → IsLoopIn k l → SolvesEach r.subs l i j
 shared_solves r k i j (Shared m) c b s e = at_loop r m k i j Shared e s
 shared_solves r k i j (First m) c b s e = λ n q h o. let z = o.matters.loop.0 in let t = (c.subscripts n q h).common in absurd (omega arith)
 shared_solves r k i j (Second m) c b s e = λ n q h o. let z = o.matters.loop.0 in let t = (c.subscripts n q h).common in absurd (omega arith)
@@ -380,9 +399,10 @@ same_constants r d i p s e z n =
     (λ b. refuted (inl (λ v x y h. above_none p.from.constant p.to.constant (difference p v x y) (ziv_difference p v x y z s.places) b)))
     (λ l. omega (arith, ints)))
 
-pub allowed_meets : (r : RefPair) (d : Dirs) (x y : List ℤ) → IsRefPair r → IsVectorOf r d → IsExactClass r → (IsRefutedVector r d → ⊥) → length x ≡ 7 → length y ≡ 7
+pub places_meet : (r : RefPair) (d : Dirs) (x y : List ℤ) → IsRefPair r → IsVectorOf r d → IsExactClass r
+    → ((i : ℕ) (p : Pairing) → slice_get r.subs i ≡ Some p → IsZiv p → p.from.constant ≡ p.to.constant) → length x ≡ 7 → length y ≡ 7
     → ((k : ℕ) → k < 7 → IsAllowedAt r d k (at_place x k) (at_place y k)) → IsMeeting r d x y
-allowed_meets r d x y c v e n ex ey a = record {
+places_meet r d x y c v e n ex ey a = record {
   within = record {
     first = record { places = ex; within = λ k b. (a k b).first };
     second = record { places = ey; within = λ k b. (a k b).second };
@@ -391,8 +411,7 @@ allowed_meets r d x y c v e n ex ey a = record {
   values = λ s. pos 0;
   equal = λ k q h t.
       elim (e.subscripts k q h) [
-        | inl z ↦ ziv_met (get_or r.subs k q) (λ s. pos 0) x y z (c.subscripts k q h).places
-            (same_constants r d k (get_or r.subs k q) (c.subscripts k q h) (slice_get-get_or r.subs k q h) z n)
+        | inl z ↦ ziv_met (get_or r.subs k q) (λ s. pos 0) x y z (c.subscripts k q h).places (n k (get_or r.subs k q) (slice_get-get_or r.subs k q h) z)
         | inr o ↦ met_at (get_or r.subs k q) d o.0 (λ s. pos 0) x y r v (c.subscripts k q h) o.1 ex ey
             (to_own (get_or r.subs k q) o.0 x y ((a (place_of o.0) (within_seven (get_or r.subs k q) o.0 (c.subscripts k q h).pairing o.1)).solves o.0 (own_place o.0) k q h o.1))
       ];
@@ -401,6 +420,6 @@ allowed_meets r d x y c v e n ex ey a = record {
 pub least_of_places : (r : RefPair) (d : Dirs) (x y : List ℤ) → IsRefPair r → IsVectorOf r d → IsExactClass r → (IsRefutedVector r d → ⊥) → length x ≡ 7 → length y ≡ 7
     → ((k : ℕ) → k < 7 → IsLeastAllowed r d k (at_place x k) (at_place y k)) → IsLeastMeeting r d x y
 least_of_places r d x y c v e n ex ey a = record {
-  meeting = allowed_meets r d x y c v e n ex ey (λ k b. (a k b).allowed);
+  meeting = places_meet r d x y c v e (λ i p h z. same_constants r d i p (subscript_at r i p c h) h z n) ex ey (λ k b. (a k b).allowed);
   least = λ x' y' m. in_order x x' y y' ex m.within.first.places ey m.within.second.places (λ k b. (a k b).least (at_place x' k) (at_place y' k) (meeting_allowed r d x' y' k c v m b));
 }

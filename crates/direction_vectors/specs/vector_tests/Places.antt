@@ -4,6 +4,7 @@ use Rattle.subscripts.specs.Classes.{Loop, Shared, First, Second, HasOneLoop, Is
 use Rattle.subscripts.specs.Forms.{HasNoPair, IsPairOf}
 use Rattle.subscripts.specs.Iterations.{WithinSpan, IsRelated, once}
 use Rattle.subscripts.specs.Refutations.{IsExact, IsRefutedByGcd, IsOneSided}
+use Rattle.subscripts.specs.declared.affine.Dir.{Dir}
 use Rattle.subscripts.specs.declared.affine.Dir.TheVariants.{Any}
 use Rattle.subscripts.specs.declared.affine.Dirs.{Dirs}
 use Rattle.subscripts.specs.declared.affine.Span.{Span}
@@ -11,6 +12,8 @@ use Rattle.subscripts.specs.declared.pairing.Pairing.{Pairing}
 use Rattle.subscripts.specs.declared.verdict.Test.{Test}
 use Rattle.subscripts.specs.declared.verdict.Test.TheVariants.{Trip, Scalar, Ziv, Strong, WeakZero, Crossing, Siv}
 use Rattle.subscripts.specs.declared.verdict.Test.TheVariants.{Delta, Gcd, Range, Miv, Unknown}
+use Rattle.dependence_tests.specs.declared.delta_test.constraint.Constraint.{Constraint}
+use Rattle.dependence_tests.specs.delta_test.IterationsLeft.{IsLeastLeft}
 use Rattle.dependence_tests.specs.loop_lines.line_points.Least.{IsAtMost}
 use Rattle.dependence_tests.specs.loop_lines.OneLoop.{dir_of}
 use Rattle.dependence_tests.specs.siv_tests.Words.{IsWordOf}
@@ -61,6 +64,24 @@ pub record IsAllowedAt (r : RefPair) (d : Dirs) (k : ℕ) (i j : ℤ) : Type 0 w
 pub record IsLeastAllowed (r : RefPair) (d : Dirs) (k : ℕ) (i j : ℤ) : Type 0 where
   pub allowed : IsAllowedAt r d k i j
   pub least : (i' j' : ℤ) → IsAllowedAt r d k i' j' → IsAtMost i j i' j'
+
+-- iterations of the common loop in this place, one of either reference, that stand in this direction, and at which both
+-- sides of each pair that has this one loop are equal
+pub record HasSolution (r : RefPair) (k : ℕ) (e : Dir) : Type 0 where
+  pub i : ℤ
+  pub j : ℤ
+  pub first : WithinSpan (slice_index_or r.from_spans k once) i
+  pub second : WithinSpan (slice_index_or r.from_spans k once) j
+  pub related : IsRelated e i j
+  pub solves : SolvesEach r.subs (Shared k) i j
+
+-- some in each direction
+abbrev pub HasEachDirection : RefPair → ℕ → Type 0
+HasEachDirection r k = (e : Dir) → (e ≡ Any → ⊥) → HasSolution r k e
+
+-- a constraint leaves iterations up to the trip in this direction
+abbrev pub LeavesSome : Constraint → ℤ → Dir → Type 0
+LeavesSome left trip dir = (i : ℤ) × ((j : ℤ) × IsLeastLeft left trip dir i j)
 
 -- ---- groups
 

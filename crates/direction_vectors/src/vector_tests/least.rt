@@ -6,8 +6,8 @@ ghost use Rattle.dependence_tests.specs.loop_lines.Places.{loop_at};
 ghost use Rattle.subscripts.specs.Classes.{HasOneLoop};
 ghost use Rattle.subscripts.specs.Shapes.{IsPairing};
 ghost use Rattle.direction_vectors.specs.vector_tests.Pairs.{IsLeastMeeting};
-ghost use Rattle.direction_vectors.specs.vector_tests.Places.{IsLeastAllowed, IsLeastSolution, IsPlaceOf, SolvesEach};
-ghost use Rattle.direction_vectors.specs.vector_tests.Places.{loop_span};
+ghost use Rattle.direction_vectors.specs.vector_tests.Places.{HasEachDirection, IsLeastAllowed, IsLeastSolution};
+ghost use Rattle.direction_vectors.specs.vector_tests.Places.{IsPlaceOf, LeavesSome, SolvesEach, loop_span};
 ghost use Rattle.direction_vectors.specs.vector_tests.Refs.{IsRefPair, IsVectorOf};
 ghost use Rattle.direction_vectors.specs.vector_tests.Ways.{IsExactClass, IsRefutedVector};
 
@@ -43,7 +43,37 @@ fn left_at(ps: &[Pairing], at: LoopPlace) -> Constraint
     left
 }
 
+// Whether a constraint leaves iterations in this direction.
+fn leaves_some(left: Constraint, trip: i64, dir: Dir) -> bool
+    requires { IsConstraint left }
+    ensures { IsTrue result → LeavesSome left trip dir }
+{
+    match least_left(left, i128::from(trip), dir) {
+        Some(_) => true,
+        None => false,
+    }
+}
+
 impl RefPair {
+    /// Whether the pairs that have the loop in this place leave iterations of it in each direction.
+    pub fn has_each_direction(&self, place: usize) -> bool
+        requires refs { IsRefPair self.now }
+        requires place { place < self.now.common }
+        ensures { IsTrue result → HasEachDirection self.now place }
+    {
+        let Some(trip) = span_at(&self.from_spans, place).last else {
+            return false;
+        };
+        let left = left_at(self.subs.as_slice(), LoopPlace::Shared(place));
+        if !leaves_some(left, trip, Dir::Lt) {
+            return false;
+        }
+        if !leaves_some(left, trip, Dir::Eq) {
+            return false;
+        }
+        leaves_some(left, trip, Dir::Gt)
+    }
+
     // The least iterations of a loop that the vector and the pairs of this loop leave. There are some, where no test
     // refutes the vector.
     fn least_of(&self, d: &Dirs, at: LoopPlace, span: Span, dir: Dir) -> (i64, i64)

@@ -91,6 +91,19 @@ fn others(ps: &[Pairing], word: Test, end: usize) -> usize
     reach
 }
 
+// The first place from this one on in which the pair has a coefficient. One that has solutions in each direction
+// doesn't count where each pair has one loop: then no test of the pair refutes any of them.
+fn open_from(refs: &RefPair, p: &Pairing, from: usize) -> usize
+    requires { IsRefPair refs.now }
+{
+    let common = usize::from(refs.common);
+    let place = named_from(p, from, common);
+    if place < common && refs.is_exact() && refs.has_each_direction(place) {
+        return common;
+    }
+    place
+}
+
 /// The first place from this one on that the word of a dropped box may hang on, or the number of places.
 pub fn open_place(refs: &RefPair, d: &Dirs, word: Test, from: usize) -> usize
     requires refs { IsRefPair refs.now }
@@ -107,7 +120,7 @@ pub fn open_place(refs: &RefPair, d: &Dirs, word: Test, from: usize) -> usize
         if let Some(other) = test_word(ps, place) {
             let same = round(other) == round(word) && place < reach;
             if same || round(other) < round(word) {
-                first = first.min(named_from(&ps[place], from, common));
+                first = first.min(open_from(refs, &ps[place], from));
             }
         }
     }

@@ -44,7 +44,7 @@ fn are_ziv_or_siv(ps: &[Pairing]) -> bool
 
 impl RefPair {
     /// Whether the tests decide each vector.
-    fn is_exact(&self) -> bool
+    pub fn is_exact(&self) -> bool
         requires { IsRefPair self.now }
         ensures { IsTrue result ↔ IsExactClass self.now }
     {

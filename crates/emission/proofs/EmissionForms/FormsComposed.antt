@@ -1,7 +1,7 @@
 -- The array form of a statement of a nest does what the statement's instances in the inner loops do.
 use Rattle.std.proofs.Common.{◌≡◌, refl, sym, ap, ◌∙◌, subst, ◌⊎◌, inl, inr, ℕ, suc, ◌-◌, ◌≤◌, ℤ, pos, Bool, true}
 use Rattle.std.proofs.Common.{false, cond, not, List, [], ◌∷◌, ◌++◌, map, drop, length, Ok, Option, Some, None}
-use Rattle.std.proofs.Common.{Contains, append-nil, arith}
+use Rattle.std.proofs.Common.{Contains, ◌≢◌, append-nil, arith}
 use Rattle.std.proofs.lemmas.List.{length-map}
 use Rattle.tree.specs.Plain.{Declaration, Expression, Reference, Statement, statement, no_statements}
 use Rattle.tree.specs.declared.ops.Fault.{Fault}
@@ -13,16 +13,20 @@ use Rattle.meaning.specs.Store.{Store}
 use Rattle.meaning.specs.Typed.{declared}
 use Rattle.array_form.specs.forms.Following.{has_none, are_moved, is_regular}
 use Rattle.array_form.specs.forms.Instances.{counts_of}
-use Rattle.array_form.specs.forms.Laws.{ArrayFormStoresInstances, HasTrip}
+use Rattle.array_form.specs.forms.Guarded.{GuardedFormStoresInstances, NameCells, is_regular_guard}
+use Rattle.array_form.specs.forms.Laws.{HasTrip}
 use Rattle.array_form.specs.forms.Loops as forms
 use Rattle.array_form.specs.forms.Trips as trips
-use Rattle.array_form.specs.forms.Statements.{FormHold, Hold, TriangleHold, array_form_of, has_form, hold_at, is_triangle}
-use Rattle.array_form.specs.forms.Statements.{loops_assigned, loops_from}
+use Rattle.array_form.specs.forms.Statements.{FormHold, Hold, TriangleHold, array_form_of, has_form, hold_at}
+use Rattle.array_form.specs.forms.Statements.{is_triangle, loops_assigned, loops_from, stand_in_guard, unguarded_hold}
+use Rattle.array_form.specs.lone.Cells.{HaveCells}
 use Rattle.array_form.proofs.forms.Tests.{HasText, form_passes}
 use Rattle.meaning_laws.specs.arrays.Instances.{in_turn}
 use Rattle.meaning_laws.proofs.arrays.Members.{cases_of, nowhere, of_map}
 use Rattle.emission.specs.graph_orders.Nests.{run_nest}
-use Rattle.array_form.proofs.lone.Instances.{instances_of_array_forms}
+use Rattle.array_form.proofs.forms.Holding.{unheld, unheld_safe}
+use Rattle.array_form.proofs.lone.Giving.{cells_give_values}
+use Rattle.array_form.proofs.lone.Instances.{guarded_instances_of_array_forms}
 use Rattle.array_form.proofs.lone.Known.{numbers_are_known}
 use Rattle.nest_order.specs.facts.Facts.{HasFacts, values_from}
 use Rattle.nest_order.proofs.facts.Facts.{facts_suffice, small_iterations}
@@ -60,13 +64,18 @@ behind : {X Y : Type 0} (f : X → Y) (xs ys : List X) → drop (length xs) (map
 behind f [] ys = refl
 behind f (x ∷ xs) ys = behind f xs ys
 
-pub no_triangle : (a : forms.Surroundings) (k : ℕ) (left : Reference) → hold_at a k left ≡ None → is_triangle a (loops_from a k) ≡ false
+pub no_triangle : (a : forms.Surroundings) (k : ℕ) (left : Reference) → unguarded_hold a k left ≡ None → is_triangle a (loops_from a k) ≡ false
 no_triangle a k left h = by (has_form a (loops_from a k) left.subscripts) (is_triangle a (loops_from a k)) h
   where
     by : (b c : Bool) → ◌≡◌ {A = Option Hold} (cond (not b) (Some FormHold) (cond c (Some TriangleHold) None)) None → c ≡ false
     by false c e = cc
     by true true e = cc
     by true false e = refl
+
+-- a guard in which a loop stands is one
+some_guard : (loops : List forms.Loop) (guard : Option Expression) → stand_in_guard loops guard ≡ true → guard ≢ None
+some_guard loops None h e = cc
+some_guard loops (Some x) h e = cc
 
 -- ---- a statement with loops `outs` round its inner loops `ins`
 
@@ -84,7 +93,6 @@ module _ (n : Nest) (w : Setting) (outs ins : List Loop) where
   pub record IsThere (s : ℕ) : Type 0 where
     pub in_nest : In s (statements (run_nest n).shape)
     pub fits : (run_nest n).loops_of s ≡ numbers_of outs ++ numbers_of ins
-    pub unguarded : ((run_nest n).statement_at s).guard ≡ None
     pub few : length (outs ++ ins) ≤ 7
     pub distinct : trips.AreDistinct (forms.names_of (around n outs ins))
     pub free : Each (IsFree n outs ins) ins
@@ -105,7 +113,11 @@ module _ (n : Nest) (w : Setting) (outs ins : List Loop) where
       dropped : (f : ℕ → List ℕ) (xs ys : List ℕ) → drop (length xs) (map f (xs ++ ys)) ≡ map f ys
       dropped f xs ys = behind f xs ys
 
-  module _ (facts : HasFacts 31 (run_nest n) w) (stores : ArrayFormStoresInstances) (s : ℕ) (there : IsThere s) (some : 1 ≤ length ins) (line : ℕ) (mark : Option Mark) (c : Statement) where
+  module _ (facts : HasFacts 31 (run_nest n) w) (stores : GuardedFormStoresInstances) (s : ℕ) (there : IsThere s) (some : 1 ≤ length ins) (line : ℕ) (mark : Option Mark) (c : Statement) (safe : Bool)
+      (cells : ((run_nest n).statement_at s).guard ≢ None → safe ≡ true → HaveCells (run_nest n) w s) where
+    abbrev guard : Option Expression
+    guard = ((run_nest n).statement_at s).guard
+
     abbrev left : Reference
     left = ((run_nest n).statement_at s).left
 
@@ -115,24 +127,29 @@ module _ (n : Nest) (w : Setting) (outs ins : List Loop) where
     abbrev level : ℕ
     level = suc (length (numbers_of outs))
 
-    pub composed : hold_at (around n outs ins) level left ≡ None → are_moved (around n outs ins) (loops_assigned (around n outs ins) level left) left.subscripts ≡ true
-        → is_regular (around n outs ins) (loops_assigned (around n outs ins) level left) right ≡ true → array_form_of (around n outs ins) level line mark left right ≡ statement c no_statements
-        → IsFormOf 31 true (run_nest n) w (numbers_of outs) (numbers_of ins) s c
-    composed hold moved regular form before t u within counted holds at way none apart run =
+    pub composed : hold_at (around n outs ins) level guard left safe ≡ None → are_moved (around n outs ins) (loops_assigned (around n outs ins) level left) left.subscripts ≡ true
+        → is_regular_guard (around n outs ins) (loops_assigned (around n outs ins) level left) guard ≡ true → is_regular (around n outs ins) (loops_assigned (around n outs ins) level left) right ≡ true
+        → array_form_of (around n outs ins) level line mark guard left right ≡ statement c no_statements → IsFormOf 31 true (run_nest n) w (numbers_of outs) (numbers_of ins) s c
+    composed hold moved regular_guard regular form before t u within counted holds at way none apart run =
         let r = run_nest n in
         let a = around n outs ins in
         let outer = numbers_of outs in
         let inner = numbers_of ins in
-        let variables : forms.variables_of a.loops ≡ map r.variable_at (outer ++ inner) = variables_counted (length (outs ++ ins)) (outs ++ ins) ∙ sym there.variables in
         let few : length a.loops ≤ 7 = let e = length-map (outs ++ ins) (formed_loop n outs ins) in let f = there.few in omega arith in
-        let numbers = numbers_are_known r w s a outer inner before t.store facts there.in_nest there.fits variables refl few there.distinct there.declares within holds at in
+        let numbers = numbers_are_known r w s a outer inner before t.store facts there.in_nest there.fits variables_there refl few there.distinct there.declares within holds at in
         let as_many : length before ≡ length outs = let e = Within-length (r.turns_of w.values) [] outer before within in let f = length-map outs (λ (l : Loop). l.number) in omega arith in
         let as_many_inner : length numbers.0 ≡ length ins = let e = numbers.1 in let f = length-map ins (λ (l : Loop). l.number) in omega arith in
         let small = small_iterations 31 r w facts outer before [] (λ m i. there.known m (In-left m outer inner i)) within in
         finish before t u within holds at way none run numbers.0 as_many as_many_inner numbers.2
         (counted_or_none n w facts outs ins before as_many s ins outer before [] t.store (sym (append-nil before)) there.free there.texts there.numbered there.once there.known small holds at counted)
       where
-        ends : (t : State) (u : Store) (m : ℕ) → t.way ≡ Rattle.meaning.specs.Run.Going → does_all fortran90 None (array_form_of (around n outs ins) level line mark left right) t ≡ record t { store = u; steps = m }
+        variables_there : forms.variables_of (around n outs ins).loops ≡ map (run_nest n).variable_at (numbers_of outs ++ numbers_of ins)
+        variables_there = variables_counted (length (outs ++ ins)) (outs ++ ins) ∙ sym there.variables
+
+        no_hold : unguarded_hold (around n outs ins) level left ≡ None
+        no_hold = unheld (around n outs ins) level guard left safe hold
+
+        ends : (t : State) (u : Store) (m : ℕ) → t.way ≡ Rattle.meaning.specs.Run.Going → does_all fortran90 None (array_form_of (around n outs ins) level line mark guard left right) t ≡ record t { store = u; steps = m }
             → ((does fortran90 None c t).way ≡ Rattle.meaning.specs.Run.Going) × ((does fortran90 None c t).store ≡ u)
         ends t u m way e =
             let is = sym (ap (λ b. does_all fortran90 None b t) form) ∙ e in
@@ -157,9 +174,12 @@ module _ (n : Nest) (w : Setting) (outs ins : List Loop) where
             let rows = rectangular n outs ins w.values before as_many zs as_many_inner there.few ins there.free there.numbered small [] in
             let square = subst (λ js. Rattle.array_form.specs.lone.Instances.AreRectangular (r.turns_of w.values) (numbers_of ins) js (counts_of xs (loops_from a level))) (append-nil before)
             (subst (λ ls. Rattle.array_form.specs.lone.Instances.AreRectangular (r.turns_of w.values) (numbers_of ins) (before ++ []) (counts_of xs ls)) (sym inner_loops) rows) in
-            let both = instances_of_array_forms r w s (numbers_of outs) (numbers_of ins) before (loops_from a level) (counts_of xs (loops_from a level)) t.store u (facts_suffice 31 r w facts) there.in_nest there.fits there.unguarded
+            let both = guarded_instances_of_array_forms r w s (numbers_of outs) (numbers_of ins) before (loops_from a level) (counts_of xs (loops_from a level)) t.store u (facts_suffice 31 r w facts) there.in_nest there.fits
             (names_inside s there) square within holds at none run in
-            let stored = stores a level line mark left right t u xs way known trips (ap has_none inner_loops ∙ some_loops ins some) hold moved regular both.0 both.1 in
+            let named : stand_in_guard (loops_from a level) guard ≡ true → NameCells fortran90 xs (loops_assigned a level left) left right t.store
+            = λ e. cells_give_values r w s a (numbers_of outs) (numbers_of ins) before xs t.store facts there.in_nest there.fits variables_there there.distinct no_hold square within holds at
+            (cells (some_guard (loops_from a level) guard e) (unheld_safe a level guard left safe hold e)) in
+            let stored = stores a level line mark guard left right t u xs way known trips (ap has_none inner_loops ∙ some_loops ins some) no_hold moved regular_guard regular named both.0 both.1 in
             ends t u stored.0 way stored.1
         finish before t u within holds at way none run zs as_many as_many_inner known (inr stops) =
             let r = run_nest n in
@@ -172,7 +192,7 @@ module _ (n : Nest) (w : Setting) (outs ins : List Loop) where
             let still = count_is n outs ins w.values before as_many zs as_many_inner there.few stops.loop own ∙ stops.none in
             let member : Contains (loops_from a level) (formed_loop n outs ins stops.loop)
             = subst (λ ls. Contains ls (formed_loop n outs ins stops.loop)) (sym inner_loops) (Rattle.meaning_laws.proofs.arrays.Members.in_map (formed_loop n outs ins) ins stops.loop (in_contains ins stops.loop stops.among)) in
-            let passes = form_passes fortran90 a level line mark left right t xs way known texts (formed_loop n outs ins stops.loop) member still in
+            let passes = form_passes fortran90 a level line mark guard left right t xs way known texts (formed_loop n outs ins stops.loop) member still in
             let nowhere' = no_instances (r.turns_of w.values) (numbers_of ins) before s stops.loop.number (Rattle.nest_order.proofs.orders.Membership.map-In (λ (l : Loop). l.number) stops.loop ins stops.among)
             (λ is. turns_are n outs ins w.values before as_many stops.loop own (there.numbered stops.loop stops.among) is ∙ (counted_small (turns_there n outs ins w.values before as_many stops.loop) (let e = stops.none in omega arith) ∙ stops.none)) in
             let same : t.store ≡ u = ok_same {F = Fault} t.store u (ap (λ is. in_turn (map (as_instance r (sequential 31)) (map (inside before) is)) t.store) (sym nowhere') ∙ run) in

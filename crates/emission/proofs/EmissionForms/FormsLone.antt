@@ -1,9 +1,9 @@
 -- The forms in an emission stand for one statement each, and do what its instances do.
 use Rattle.std.proofs.Common.{◌≡◌, refl, sym, ap, ◌∙◌, subst, inl, inr, ℕ, suc, ◌+◌, ◌<◌, ◌≤◌, Bool, true, false, not}
-use Rattle.std.proofs.Common.{List, [], ◌∷◌, ◌++◌, map, length, Some, None, arith}
+use Rattle.std.proofs.Common.{List, [], ◌∷◌, ◌++◌, map, length, Option, Some, None, ◌≢◌, arith}
 use Rattle.std.proofs.lemmas.List.{length-append, length-map}
 use Rattle.array_form.specs.forms.Following.{are_moved, is_regular}
-use Rattle.array_form.specs.forms.Laws.{ArrayFormStoresInstances}
+use Rattle.array_form.specs.forms.Guarded.{GuardedFormStoresInstances, is_regular_guard}
 use Rattle.array_form.specs.forms.Loops as forms
 use Rattle.array_form.specs.forms.Trips as trips
 use Rattle.array_form.specs.forms.Statements.{array_form_of, hold_at, is_triangle, loops_assigned}
@@ -17,7 +17,7 @@ use Rattle.emission.proofs.EmissionPieces.Lists.{both_true}
 use Rattle.tree.specs.Plain.{Expression, Reference, Statement, statement, no_statements}
 use Rattle.emission.specs.graph_orders.Arcs.{arcs_of}
 use Rattle.emission.specs.graph_orders.Laws.{ArcsAreEdges}
-use Rattle.emission.specs.graph_orders.Nests.{run_nest}
+use Rattle.emission.specs.graph_orders.Nests.{linear_in, run_nest, turns_in}
 use Rattle.nest_order.specs.facts.Facts.{HasFacts}
 use Rattle.dependence_graph.specs.nest_graph.Graph.{IsGraphOf}
 use Rattle.dependence_graph.specs.nest_graph.Ready.{HaveTrips, IsReady}
@@ -30,20 +30,25 @@ use Rattle.nest_order.specs.runs.Stores.{Setting}
 use Rattle.nest_order.specs.shapes.Shapes.{IsPlain, loop_numbered, numbers_of}
 use Rattle.nest.specs.Bodies.{nest_loops, nest_statements}
 use Rattle.nest.specs.Plain.{Loop, Nest}
+use Rattle.array_form.specs.holds.Bounds.{is_safe}
 use Rattle.array_form.specs.holds.Statements.{no_statement}
 use Rattle.array_form.specs.holds.Surroundings.{surroundings_of}
-use Rattle.emission.specs.emission_forms.Forms.{AreAllHolds, AreRegular, AreUnguarded, IsLevelOf, formed}
+use Rattle.emission.specs.emission_forms.Forms.{AreAllHolds, AreRegular, IsLevelOf, formed, hold_there}
 use Rattle.emission.proofs.EmissionForms.FormsComposed.{IsThere, composed, inner_loops, no_triangle}
-use Rattle.array_form.proofs.forms.Whole.{array_form_stores_instances}
+use Rattle.array_form.proofs.forms.Holding.{unheld}
+use Rattle.array_form.proofs.forms.Guarding.{guarded_form_stores_instances}
+use Rattle.array_form.proofs.lone.Safe.{safe_statements_have_cells}
+use Rattle.array_form.specs.lone.Cells.{HaveCells, UnguardedNameCells}
 use Rattle.emission.proofs.GraphOrders.Edges.{arcs_are_edges}
 use Rattle.emission.specs.emission_forms.Laws.{FormsAreLone}
-use Rattle.emission.specs.emission_forms.Written.{HasFormFacts, HaveTripTexts}
+use Rattle.emission.specs.emission_forms.Written.{HasFormFacts, HaveGuardedNames, HaveTripTexts}
+use Rattle.emission.proofs.EmissionForms.ConstantTrips.{constant_trips}
 use Rattle.emission.proofs.EmissionForms.FormsShapes.{formed_is}
 use Rattle.emission.proofs.EmissionForms.FormsTurns.{HaveKnown, all_free, around, formed_loop, have_known, map-append}
 use Rattle.emission.proofs.EmissionForms.FormsTurns.{texts_behind, trips_behind}
 use Rattle.emission.proofs.EmissionForms.OwnEdges.{no_own_edge}
-use Rattle.emission.proofs.EmissionForms.Surroundings.{guarded_there, in_nest, known_loop, loops_known, loops_there}
-use Rattle.emission.proofs.EmissionForms.Surroundings.{names_distinct, variables_numbered}
+use Rattle.emission.proofs.EmissionForms.Surroundings.{guarded_there, in_nest, known_loop, loops_known}
+use Rattle.emission.proofs.EmissionForms.Surroundings.{loops_there, names_distinct, nth_is, statements_stand, variables_numbered}
 
 -- ---- the outer loops and the inner ones
 
@@ -76,8 +81,8 @@ not_both b p q = cc
 
 -- ---- a statement
 
-module _ (stores : ArrayFormStoresInstances) (n : Nest) (g : Graph) (holds : List Hold) (w : Setting) (plain : IsPlain n.body) (free : AreUnguarded n) (ready : IsReady n) (regular : AreRegular n) (all : AreAllHolds n holds)
-    (facts : HasFacts 31 (run_nest n) w) (given : HasFormFacts n w) where
+module _ (stores : GuardedFormStoresInstances) (n : Nest) (g : Graph) (holds : List Hold) (w : Setting) (plain : IsPlain n.body) (ready : IsReady n) (regular : AreRegular n) (all : AreAllHolds n holds)
+    (facts : HasFacts 31 (run_nest n) w) (given : HasFormFacts n w) (guarded : HaveGuardedNames n w) (named : UnguardedNameCells (run_nest n) w) where
   module _ (s : ℕ) (within : s < length (nest_statements n)) (outs ins : List Loop) (is : loops_at n s ≡ outs ++ ins) (some : 1 ≤ length ins) where
     abbrev level : ℕ
     level = suc (length (numbers_of outs))
@@ -88,11 +93,17 @@ module _ (stores : ArrayFormStoresInstances) (n : Nest) (g : Graph) (holds : Lis
     abbrev own_right : Expression
     own_right = (standing_at n s).statement.right
 
-    left_is : own_left ≡ ((run_nest n).statement_at s).left
-    left_is = sym (ap (λ (x : runs.Guarded). x.left) (guarded_there n plain ready s within))
+    abbrev own_guard : Option Expression
+    own_guard = (standing_at n s).statement.guard
 
-    right_is : own_right ≡ ((run_nest n).statement_at s).right
-    right_is = sym (ap (λ (x : runs.Guarded). x.right) (guarded_there n plain ready s within))
+    abbrev safe : Bool
+    safe = is_safe n (standing_at n s)
+
+    same : ◌≡◌ {A = runs.Guarded} (record { guard = own_guard; left = own_left; right = own_right }) ((run_nest n).statement_at s)
+    same = sym (guarded_there n plain ready s within)
+
+    left_is : own_left ≡ ((run_nest n).statement_at s).left
+    left_is = ap (λ (x : runs.Guarded). x.left) same
 
     at_level : IsLevelOf n level s
     at_level =
@@ -101,12 +112,12 @@ module _ (stores : ArrayFormStoresInstances) (n : Nest) (g : Graph) (holds : Lis
         let c = length-map outs (λ (l : Loop). l.number) in
         (within, omega arith, omega arith)
 
-    none_listed : may_be_formed g.edges holds level s ≡ true → hold_at (surroundings_of n (loops_at n s)) level own_left ≡ None
+    none_listed : may_be_formed g.edges holds level s ≡ true → hold_there n level s ≡ None
     none_listed may =
         elim (all level s at_level) [ inl h ↦ h | inr held ↦ absurd (not_both (is_held holds level s) held (both_true (not (is_recurrent g.edges level s)) (not (is_held holds level s)) may).1) ]
 
-    no_hold : may_be_formed g.edges holds level s ≡ true → hold_at (around n outs ins) level own_left ≡ None
-    no_hold may = subst (λ ls. hold_at (surroundings_of n ls) level own_left ≡ None) is (none_listed may)
+    no_hold : may_be_formed g.edges holds level s ≡ true → hold_at (around n outs ins) level own_guard own_left safe ≡ None
+    no_hold may = subst (λ ls. hold_at (surroundings_of n ls) level own_guard own_left safe ≡ None) is (none_listed may)
 
     numbers_are : numbers_at n s ≡ numbers_of outs ++ numbers_of ins
     numbers_are = ap numbers_of is ∙ map-append (λ (l : Loop). l.number) outs ins
@@ -132,11 +143,10 @@ module _ (stores : ArrayFormStoresInstances) (n : Nest) (g : Graph) (holds : Lis
         let few : length (outs ++ ins) ≤ 7 = subst (λ (ls : List Loop). length ls ≤ 7) is (ready.statements s no_statement within).depth in
         let distinct = subst (λ ls. trips.AreDistinct (forms.names_of (surroundings_of n ls))) is (names_distinct n plain ready s within facts.text given.symbols) in
         let square : is_triangle (around n outs ins) (map (formed_loop n outs ins) ins) ≡ false
-        = subst (λ ls. is_triangle (around n outs ins) ls ≡ false) (inner_loops n w outs ins) (no_triangle (around n outs ins) level own_left (no_hold may)) in
+        = subst (λ ls. is_triangle (around n outs ins) ls ≡ false) (inner_loops n w outs ins) (no_triangle (around n outs ins) level own_left (unheld (around n outs ins) level own_guard own_left safe (no_hold may))) in
         record {
           in_nest = in_nest n plain ready s within;
           fits = loops_there n plain ready s within ∙ numbers_are;
-          unguarded = ap (λ (x : runs.Guarded). x.guard) (guarded_there n plain ready s within) ∙ free s no_statement within;
           few = few;
           distinct = distinct;
           free = all_free n outs ins few distinct square [] ins refl known_trips;
@@ -148,18 +158,41 @@ module _ (stores : ArrayFormStoresInstances) (n : Nest) (g : Graph) (holds : Lis
           declares = λ l i. given.variables l (loops_once.1 l (In-right l (numbers_of outs) (numbers_of ins) i));
         }
 
+    -- where the statement has a guard, its references name cells if it is safe
+    has_guard : ((run_nest n).statement_at s).guard ≢ None → own_guard ≢ None
+    has_guard there_is none = there_is (sym (ap (λ (x : runs.Guarded). x.guard) same) ∙ none)
+
+    all_known : HaveKnown n.symbols 0 (loops_at n s)
+    all_known = have_known n.symbols [] (loops_at n s) (ready.statements s no_statement within).trips (given.trips s within)
+
+    cells : own_guard ≢ None → safe ≡ true → HaveCells (run_nest n) w s
+    cells there_is h =
+        let own = guarded s within there_is in
+        safe_statements_have_cells n (linear_in n) (turns_in n) w s (standing_at n s) (statements_stand n plain ready) facts (nth_is (nest_statements n) s no_statement within)
+        own.declared (constant_trips n plain ready s within all_known w.values) named own.made h
+
+    -- the left side moves, and guard and right side are regular, with these loops
+    abbrev IsRegularIn : List Loop → runs.Guarded → Type 0
+    IsRegularIn ls x =
+        (are_moved (surroundings_of n ls) (loops_assigned (surroundings_of n ls) level x.left) x.left.subscripts ≡ true)
+        × (is_regular_guard (surroundings_of n ls) (loops_assigned (surroundings_of n ls) level x.left) x.guard ≡ true)
+        × (is_regular (surroundings_of n ls) (loops_assigned (surroundings_of n ls) level x.left) x.right ≡ true)
+
+    abbrev IsForm : Statement → List Loop → runs.Guarded → Type 0
+    IsForm c ls x =
+        array_form_of (surroundings_of n ls) level (standing_at n s).statement.line (Some (mark_of n s level)) x.guard x.left x.right ≡ statement c no_statements
+
+    abbrev IsUnheld : runs.Guarded → Type 0
+    IsUnheld x = hold_at (around n outs ins) level x.guard x.left safe ≡ None
+
     form_is : (c : Statement) → may_be_formed g.edges holds level s ≡ true → formed_block n level s ≡ statement c no_statements → IsFormOf 31 true (run_nest n) w (numbers_of outs) (numbers_of ins) s c
     form_is c may form =
-        let a = around n outs ins in
         let rest = regular level s at_level (none_listed may) in
-        composed n w outs ins facts stores s (there may) some (standing_at n s).statement.line (Some (mark_of n s level)) c
-        (subst (λ r. hold_at a level r ≡ None) left_is (no_hold may))
-        (subst (λ r. are_moved a (loops_assigned a level r) r.subscripts ≡ true) left_is (subst (λ ls. are_moved (surroundings_of n ls) (loops_assigned (surroundings_of n ls) level own_left) own_left.subscripts ≡ true) is rest.left))
-        (subst (λ x. is_regular a (loops_assigned a level ((run_nest n).statement_at s).left) x ≡ true) right_is
-        (subst (λ r. is_regular a (loops_assigned a level r) own_right ≡ true) left_is (subst (λ ls. is_regular (surroundings_of n ls) (loops_assigned (surroundings_of n ls) level own_left) own_right ≡ true) is rest.right)))
-        (subst (λ x. array_form_of a level (standing_at n s).statement.line (Some (mark_of n s level)) ((run_nest n).statement_at s).left x ≡ statement c no_statements) right_is
-        (subst (λ r. array_form_of a level (standing_at n s).statement.line (Some (mark_of n s level)) r own_right ≡ statement c no_statements) left_is
-        (subst (λ ls. array_form_of (surroundings_of n ls) level (standing_at n s).statement.line (Some (mark_of n s level)) own_left own_right ≡ statement c no_statements) is form)))
+        let x : runs.Guarded = record { guard = own_guard; left = own_left; right = own_right } in
+        let moves = subst (IsRegularIn (outs ++ ins)) same (subst (λ ls. IsRegularIn ls x) is (rest.left, rest.guard, rest.right)) in
+        composed n w outs ins facts stores s (there may) some (standing_at n s).statement.line (Some (mark_of n s level)) c safe (λ there_is. cells (has_guard there_is))
+        (subst IsUnheld same (no_hold may)) moves.0 moves.1 moves.2
+        (subst (IsForm c (outs ++ ins)) same (subst (λ ls. IsForm c ls x) is form))
 
   -- ---- all forms
 
@@ -180,5 +213,5 @@ module _ (stores : ArrayFormStoresInstances) (n : Nest) (g : Graph) (holds : Lis
       )
 
 pub forms_are_lone : FormsAreLone
-forms_are_lone n g holds w plain free ready regular graph all facts given =
-    lone_forms array_form_stores_instances n g holds w plain free ready regular all facts given arcs_are_edges graph
+forms_are_lone n g holds w plain ready regular graph all facts given guarded named =
+    lone_forms guarded_form_stores_instances n g holds w plain ready regular all facts given guarded named arcs_are_edges graph

@@ -71,7 +71,7 @@ at_place : (xs zs : List (List ℕ)) (y : List ℕ) → get_or (xs ++ y ∷ zs) 
 at_place [] zs y = refl
 at_place (x ∷ xs) zs y = at_place xs zs y
 
-front_get : (m : ℕ) (xs ys : List ℤ) (k : ℕ) → k < m → m ≤ length xs → get_or (take m xs ++ ys) k (pos 0) ≡ get_or xs k (pos 0)
+pub front_get : (m : ℕ) (xs ys : List ℤ) (k : ℕ) → k < m → m ≤ length xs → get_or (take m xs ++ ys) k (pos 0) ≡ get_or xs k (pos 0)
 front_get zero xs ys k h g = absurd (omega arith)
 front_get (suc m) [] ys k h g = absurd (omega arith)
 front_get (suc m) (x ∷ xs) ys zero h g = refl

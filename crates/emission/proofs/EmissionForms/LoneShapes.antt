@@ -1,10 +1,10 @@
 -- A shape in which one statement stands alone in its loops, and its array form, which is one statement.
 use Rattle.std.proofs.Common.{◌≡◌, refl, ap, ℕ, List, [], ◌∷◌, Option, Some, None}
-use Rattle.array_form.specs.forms.Statements.{and_all, guarded_by, tests_of, loops_from, left_form, right_form}
+use Rattle.array_form.specs.forms.Statements.{and_all, guarded_by, guarded_form, loops_from, tests_of}
 use Rattle.array_form.specs.forms.Loops.{names_of}
 use Rattle.emission.specs.emission_pieces.Nests.{loops_at, standing_at}
 use Rattle.emission.specs.emission_pieces.Pieces.{formed_block, mark_of}
-use Rattle.tree.specs.Plain.{Expression, Statement, Assignment, If, no_arms, arm, Block, no_statements, statement}
+use Rattle.tree.specs.Plain.{Expression, Statement, If, no_arms, arm, Block, no_statements, statement}
 use Rattle.nest_order.specs.runs.Alone.{chain}
 use Rattle.nest.specs.Plain.{Nest}
 use Rattle.array_form.specs.holds.Surroundings.{surroundings_of}
@@ -40,4 +40,4 @@ one_formed n k s =
     let a = surroundings_of n (loops_at n s) in
     let x = (standing_at n s).statement in
     one_guarded x.line (tests_of (names_of a) (loops_from a k))
-    (Assignment x.line (Some (mark_of n s k)) (left_form a k x.left) (right_form a k x.left x.right))
+    (guarded_form a k x.line (Some (mark_of n s k)) x.guard x.left x.right)

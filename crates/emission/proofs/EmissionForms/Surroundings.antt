@@ -1,6 +1,6 @@
 -- A statement of a nest in the tables of runs, and the names round its array form.
 use Rattle.std.proofs.Common.{◌≡◌, refl, sym, ap, ap₂, ◌∙◌, subst, ◌⊎◌, inl, inr, ℕ, zero, suc, ◌+◌, ◌<◌, ◌≤◌, ◌==◌}
-use Rattle.std.proofs.Common.{Bool, true, false, cond, List, [], ◌∷◌, ◌++◌, map, length, get_or, Some, arith}
+use Rattle.std.proofs.Common.{Bool, true, false, cond, List, [], ◌∷◌, ◌++◌, map, length, get_or, Option, Some, None, arith}
 use Rattle.std.specs.List.{range_with_len}
 use Rattle.std.specs.Str.{bytes_eq}
 use Rattle.std.proofs.lemmas.Bool.{cases_lt}
@@ -13,12 +13,14 @@ use Rattle.emission.specs.emission_pieces.Shapes.{numbers_at}
 use Rattle.emission.proofs.EmissionPieces.Ordered.{statements_are}
 use Rattle.emission.specs.graph_orders.Nests.{run_nest}
 use Rattle.dependence_graph.specs.nest_graph.Ready.{IsReady}
+use Rattle.dependence_graph.specs.nest_graph.References.{variables_round as names_round}
 use Rattle.nest_order.specs.orders.Lists.{In, Each, Distinct}
 use Rattle.nest_order.specs.orders.Shapes.{statements, loops}
 use Rattle.nest_order.proofs.orders.Common.{statement_stands}
 use Rattle.nest_order.proofs.orders.Lists.{Each-In, In-append, In-left, In-right}
 use Rattle.nest_order.proofs.orders.Membership.{In-map, map-In}
 use Rattle.nest_order.specs.runs.Guarded as runs
+use Rattle.nest_order.specs.runs.Nests.{variables_round}
 use Rattle.nest_order.specs.runs.Stores.{IsNestText}
 use Rattle.nest_order.specs.runs.Touched.{nth_of}
 use Rattle.nest_order.proofs.runs.Alone.{stands_loops, stands_once}
@@ -28,12 +30,13 @@ use Rattle.nest.specs.Bodies.{Standing, loops_of, loops_in_parts, nest_loops, ne
 use Rattle.nest.specs.Bodies.{statements_in_parts}
 use Rattle.nest.specs.Plain.{Loop, Nest, Part, Run, Turns, Choice, Label, Jump, Parts, no_parts, part}
 use Rattle.array_form.specs.holds.Statements.{no_statement}
+use Rattle.array_form.specs.lone.Cells.{StatementsStand}
 use Rattle.array_form.specs.holds.Surroundings.{counted, counted_of}
 use Rattle.emission.specs.emission_forms.Forms.{surroundings_at}
 
 -- ---- lists
 
-nth_is : {X : Type 0} (xs : List X) (k : ℕ) (d : X) → k < length xs → nth_of xs k ≡ Some (get_or xs k d)
+pub nth_is : {X : Type 0} (xs : List X) (k : ℕ) (d : X) → k < length xs → nth_of xs k ≡ Some (get_or xs k d)
 nth_is [] k d h = absurd (omega arith)
 nth_is (x ∷ xs) zero d h = refl
 nth_is (x ∷ xs) (suc k) d h = nth_is xs k d (omega arith)
@@ -55,7 +58,7 @@ each_is : {X : Type 0} (P : X → Type 0) (xs : List X) → lists.Each P xs → 
 each_is P [] h = tt
 each_is P (x ∷ xs) h = (h.0, each_is P xs h.1)
 
-distinct_is : {X : Type 0} (xs : List X) → lists.Distinct xs → Distinct xs
+pub distinct_is : {X : Type 0} (xs : List X) → lists.Distinct xs → Distinct xs
 distinct_is [] h = tt
 distinct_is (x ∷ xs) h = (each_is (λ y. ¬ (x ≡ y)) xs h.0, distinct_is xs h.1)
 
@@ -164,3 +167,23 @@ module _ (n : Nest) (plain : IsPlain n.body) (ready : IsReady n) (s : ℕ) (with
         subst (λ xs. trips.AreDistinct (xs ++ n.symbols)) variables
         (apart_names (run_nest n).variable_at (numbers_at n s) n.symbols loops_known.0 (λ l m i j. text.variables l m (loops_known.1 l i) (loops_known.1 m j)) once
         (λ l x i j. text.others l x (loops_known.1 l i) j))
+
+-- ---- the statements of the nest in the shape of its runs
+
+nth_inside : {X : Type 0} (xs : List X) (k : ℕ) (x : X) → nth_of xs k ≡ Some x → k < length xs
+nth_inside [] k x h = cc
+nth_inside (y ∷ xs) zero x h = omega arith
+nth_inside (y ∷ xs) (suc k) x h = (let more = nth_inside xs k x h in omega arith)
+
+same_there : {X : Type 0} (a : Option X) (x y : X) → a ≡ Some x → a ≡ Some y → x ≡ y
+same_there a x y h g = cc
+
+pub statements_stand : (n : Nest) → IsPlain n.body → IsReady n → StatementsStand n (run_nest n)
+statements_stand n plain ready s x at =
+    let within = nth_inside (nest_statements n) s x at in
+    let same : standing_at n s ≡ x = same_there (nth_of (nest_statements n) s) (standing_at n s) x (nth_is (nest_statements n) s no_statement within) at in
+    let round : variables_round (run_nest n) s ≡ names_round (standing_at n s)
+    = ap (map (run_nest n).variable_at) (loops_there n plain ready s within) ∙ variables_there n plain ready s within in (
+      in_nest n plain ready s within,
+      round ∙ ap names_round same,
+    )

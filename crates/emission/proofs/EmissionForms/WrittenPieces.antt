@@ -34,7 +34,7 @@ use Rattle.nest.specs.Bodies.{nest_loops, nest_statements}
 use Rattle.nest.specs.Plain.{Loop, Nest}
 use Rattle.emission.proofs.EmissionForms.LoneShapes.{lone_in_chain, lone_inside, one_formed, same_statement}
 use Rattle.emission.proofs.EmissionForms.WrittenTables.{kept_is, loop_of_nest, loops_once, ready_is_shallow, turning_is}
-use Rattle.emission.specs.emission_forms.Forms.{AreUnguarded, Lone, form_of_lone, formed, lone_among, lone_in, marked_layout}
+use Rattle.emission.specs.emission_forms.Forms.{Lone, form_of_lone, formed, lone_among, lone_in, marked_layout}
 use Rattle.emission.specs.emission_forms.Forms.{may_stand, only_in, stands_in}
 use Rattle.emission.specs.emission_forms.Laws.{PiecesAreWritten}
 
@@ -160,13 +160,13 @@ module _ (n : Nest) (edges : List Edge) (holds : List Hold) where
 
   -- ---- all pieces
 
-  module _ (plain : nests.IsPlain n.body) (free : AreUnguarded n) (apart : Distinct (nests.numbers_of (nest_loops n))) where
+  module _ (plain : nests.IsPlain n.body) (apart : Distinct (nests.numbers_of (nest_loops n))) where
     mutual
       piece_is : (d : ℕ) (round : List ℕ) (c : List ℕ) (p : Piece) → length round ≡ d → Distinct c
           → IsEmittedFor n edges holds (suc d) c p
           → ((s : ℕ) (ls : List ℕ) → Stands (shape_of n d p) s ls → Known round s ls)
           → statement (write round (shape_of n d p)) no_statements ≡ block_of_piece n (suc d) p
-      piece_is d round c (Kept s) at once h known = ap (λ b. statement b no_statements) (kept_is n s free (known s [] refl).0)
+      piece_is d round c (Kept s) at once h known = ap (λ b. statement b no_statements) (kept_is n s (known s [] refl).0)
       piece_is d round c (Formed s) at once h known =
           let ls = drop d (numbers_at n s) in
           let more : 0 < length ls =
@@ -204,11 +204,11 @@ module _ (n : Nest) (edges : List Edge) (holds : List Hold) where
           ∙ ap (λ b. block_then b (block_of_pieces n (suc d) ps)) (piece_is d round c p at once.0 h.0 (λ s ls i. known s ls (inl i)))
 
 pub pieces_are_written : PiecesAreWritten
-pieces_are_written n g holds ps plain free ready graph h =
+pieces_are_written n g holds ps plain ready graph h =
     let apart = loops_once n ready in
     let part = range_with_len 0 (length (nest_statements n)) in
     let arranged = (graph_emission n g holds ps (λ l before. 0) plain apart (ready_is_shallow n ready) graph h).0 in
     let inner = components_of g.edges 0 part h.classes (range_distinct (length (nest_statements n)) 0) h.components in
-    pieces_are n g.edges holds plain free apart 0 [] h.classes ps refl (each_distinct h.classes inner.once) h.emitted
+    pieces_are n g.edges holds plain apart 0 [] h.classes ps refl (each_distinct h.classes inner.once) h.emitted
     (λ s ls i. (let w = arranged.only s ls i in
     (in_range_from_zero (length (nest_statements n)) s (subst (λ xs. In s xs) (sym (statements_are n plain)) w.0), w.1)))

@@ -19,11 +19,12 @@ use Rattle.nest_order.specs.runs.Blocks.{guarded_statement, loop_of, statement_o
 use Rattle.nest_order.specs.runs.Touched.{nth_of}
 use Rattle.nest_order.specs.shapes.Shapes.{IsPlain, ArePlain, guarded_of, loop_numbered, numbers_of, trip_of_loop}
 use Rattle.nest_order.specs.shapes.Shapes.{variable_of_loop}
+use Rattle.nest.specs.Blocks.{under_guard}
 use Rattle.nest.specs.Bodies.{Standing, loops_of, loops_in_parts, nest_loops, nest_statements, statements_in}
 use Rattle.nest.specs.Bodies.{statements_in_parts}
 use Rattle.nest.specs.Plain.{Loop, Nest, Part, Run, Turns, Choice, Label, Jump, Parts, no_parts, part}
 use Rattle.array_form.specs.holds.Statements.{no_statement}
-use Rattle.emission.specs.emission_forms.Forms.{AreUnguarded, marked_layout}
+use Rattle.emission.specs.emission_forms.Forms.{marked_layout}
 
 -- ---- lists
 
@@ -133,18 +134,17 @@ loop_there (m ∷ ls) l d (inr i) =
     let apart = Each-In (λ y. ¬ (m.number ≡ y)) (numbers_of ls) d.0 l.number (map-In (λ (z : Loop). z.number) l ls i) in
     ap (λ b. cond b (Some m) (loop_numbered ls l.number)) (other_number m.number l.number apart) ∙ loop_there ls l d.1 i
 
-no_guard : (line : ℕ) (mark : Option Mark) (guard : Option Expression) (left : Reference) (right : Expression) → guard ≡ None
-    → guarded_statement line mark (record { guard = guard; left = left; right = right }) ≡ Assignment line mark left right
-no_guard line mark None left right e = refl
-no_guard line mark (Some x) left right e = absurd cc
+same_statement : (line : ℕ) (mark : Option Mark) (guard : Option Expression) (left : Reference) (right : Expression)
+    → guarded_statement line mark (record { guard = guard; left = left; right = right }) ≡ under_guard line guard (Assignment line mark left right)
+same_statement line mark None left right = refl
+same_statement line mark (Some e) left right = refl
 
-pub kept_is : (n : Nest) (s : ℕ) → AreUnguarded n → s < length (nest_statements n)
-    → statement_of (run_nest n) (marked_layout n) s ≡ kept_statement n s
-kept_is n s free g =
+pub kept_is : (n : Nest) (s : ℕ) → s < length (nest_statements n) → statement_of (run_nest n) (marked_layout n) s ≡ kept_statement n s
+kept_is n s g =
     let x = standing_at n s in
     let y = marked_layout n in
     ap (λ o. guarded_statement (y.line_at s) (y.mark_at s) (guarded_of o)) (nth_there (nest_statements n) s no_statement g)
-    ∙ no_guard (y.line_at s) (y.mark_at s) x.statement.guard x.statement.left x.statement.right (free s no_statement g)
+    ∙ same_statement (y.line_at s) (y.mark_at s) x.statement.guard x.statement.left x.statement.right
 
 pub turning_is : (n : Nest) (l : Loop) (body : Block) → Distinct (numbers_of (nest_loops n)) → In l (nest_loops n)
     → loop_of (run_nest n) (marked_layout n) l.number body ≡ turning_statement n l body

@@ -1,15 +1,20 @@
 -- The marked statements of blocks, one block after the other.
-use Rattle.std.proofs.Common.{◌≡◌, refl, sym, ap, ap₂, ◌∙◌, ℕ, Option, Some, None, List, [], ◌∷◌, ◌++◌, map}
-use Rattle.std.proofs.Common.{append_assoc, append-nil}
+use Rattle.std.proofs.Common.{◌≡◌, refl, sym, ap, ap₂, ◌∙◌, ℕ, Bool, true, false, cond, Option, Some, None}
+use Rattle.std.proofs.Common.{List, [], ◌∷◌, ◌++◌, map, append_assoc, append-nil}
 use Rattle.std.proofs.lemmas.List.{map-append}
-use Rattle.array_form.specs.forms.Statements.{guarded_by}
+use Rattle.array_form.specs.forms.Forms.{form}
+use Rattle.array_form.specs.forms.Loops.{Surroundings}
+use Rattle.array_form.specs.forms.Statements.{and_all, array_assignment, guarded_by, guarded_form, left_form}
+use Rattle.array_form.specs.forms.Statements.{loops_assigned, right_form, stand_in_guard}
 use Rattle.tree.specs.Plain.{Expression, Reference, Statement, Assignment, Where, If, Do, Label, GoTo, Stop, Read}
 use Rattle.tree.specs.Plain.{Print, Allocate, Deallocate, Arms, no_arms, arm, Block, no_statements, statement}
 use Rattle.tree.specs.declared.stmts.Mark.{Mark}
 use Rattle.nest.specs.Allocations.{allocation_then, allocations_then, block_then, deallocation_then, deallocations}
+use Rattle.nest.specs.Blocks.{under_guard}
 use Rattle.nest.specs.Plain.{Made}
 use Rattle.emission.specs.emission_marks.Marks.{Marked, Otherwise, Round, Turning, Under, bodies, bodies_in}
-use Rattle.emission.specs.emission_marks.Marks.{conditions_of, marked, marked_in, marked_under, with_mark}
+use Rattle.emission.specs.emission_marks.Marks.{conditions_of, marked, marked_in, marked_under, under}
+use Rattle.emission.specs.emission_marks.Marks.{with_mark}
 
 pub marked_then : (round : List Round) (a b : Block)
     → marked_in round (block_then a b) ≡ marked_in round a ++ marked_in round b
@@ -62,21 +67,98 @@ bodies_deallocated line (m ∷ ms) = by m.extents (bodies_deallocated line ms)
     by [] h = h
     by (e ∷ es) h = h
 
--- ---- an assignment under a condition
+-- ---- a statement under conditions
 
-pub marked_guarded : (round : List Round) (line at : ℕ) (es : List Expression) (m : Mark) (left : Reference)
+nothing_more : {X : Type 0} (xs : List X) → ((xs ++ []) ++ []) ++ [] ≡ xs
+nothing_more xs = append-nil ((xs ++ []) ++ []) ∙ (append-nil (xs ++ []) ∙ append-nil xs)
+
+marked_conditions : (round : List Round) (line : ℕ) (es : List Expression) (b : Block)
+    → marked_in round (guarded_by line es b) ≡ marked_in (round ++ conditions_of es) b
+marked_conditions round line [] b = ap (λ around. marked_in around b) (sym (append-nil round))
+marked_conditions round line (e ∷ es) b = nothing_more (marked_in (round ++ Under (and_all e es) ∷ []) b)
+
+bodies_conditions : (line : ℕ) (es : List Expression) (b : Block) → bodies_in (guarded_by line es b) ≡ bodies_in b
+bodies_conditions line [] b = refl
+bodies_conditions line (e ∷ es) b = nothing_more (bodies_in b)
+
+-- as it is
+pub marked_kept : (round : List Round) (line : ℕ) (guard : Option Expression) (m : Mark) (left : Reference)
     (right : Expression)
-    → marked_in round (guarded_by line es (statement (Assignment at (Some m) left right) no_statements))
-    ≡ record { round = round ++ conditions_of es; mark = m; statement = Assignment at (Some m) left right } ∷ []
-marked_guarded round line at [] m left right =
-    ap (λ around. record { round = around; mark = m; statement = Assignment at (Some m) left right } ∷ [])
+    → marked_in round (statement (under_guard line guard (Assignment line (Some m) left right)) no_statements)
+    ≡ record { round = round ++ under guard; mark = m; statement = Assignment line (Some m) left right } ∷ []
+marked_kept round line None m left right =
+    ap (λ around. record { round = around; mark = m; statement = Assignment line (Some m) left right } ∷ [])
     (sym (append-nil round))
-marked_guarded round line at (e ∷ es) m left right = refl
+marked_kept round line (Some e) m left right = refl
 
-pub bodies_guarded : (line at : ℕ) (es : List Expression) (m : Option Mark) (left : Reference) (right : Expression)
-    → bodies_in (guarded_by line es (statement (Assignment at m left right) no_statements)) ≡ []
-bodies_guarded line at [] m left right = refl
-bodies_guarded line at (e ∷ es) m left right = refl
+pub bodies_kept : (line : ℕ) (guard : Option Expression) (m : Option Mark) (left : Reference) (right : Expression)
+    → bodies_in (statement (under_guard line guard (Assignment line m left right)) no_statements) ≡ []
+bodies_kept line None m left right = refl
+bodies_kept line (Some e) m left right = refl
+
+-- in array form
+module _ (a : Surroundings) (k line : ℕ) (m : Mark) (left : Reference) (right : Expression) where
+  abbrev stands : Option Expression → Bool
+  stands guard = stand_in_guard (loops_assigned a k left) guard
+
+  abbrev form_under : Option Expression → Statement
+  form_under guard = guarded_form a k line (Some m) guard left right
+
+  abbrev assigned : Statement
+  assigned = array_assignment a k line (Some m) left right
+
+  -- a WHERE or not
+  abbrev pub marked_form : List Round → Option Expression → Marked
+  marked_form round guard =
+      cond (stands guard) (record { round = round; mark = m; statement = form_under guard })
+      (record { round = round ++ under guard; mark = m; statement = assigned })
+
+  form_marked : (round : List Round) (guard : Option Expression)
+      → marked_in round (statement (form_under guard) no_statements) ≡ marked_form round guard ∷ []
+  form_marked round None =
+      ap (λ around. record { round = around; mark = m; statement = assigned } ∷ []) (sym (append-nil round))
+  form_marked round (Some e) = by (stands (Some e))
+    where
+      mask : Expression
+      mask = form a (loops_assigned a k left) e
+
+      masked : Statement
+      masked = Where line (Some m) mask (left_form a k left) (right_form a k left right)
+
+      alone : Statement
+      alone = If line (arm e (statement assigned no_statements) no_arms) no_statements
+
+      by : (b : Bool)
+          → marked_in round (statement (cond b masked alone) no_statements)
+          ≡ cond b (record { round = round; mark = m; statement = cond b masked alone })
+          (record { round = round ++ Under e ∷ []; mark = m; statement = assigned })
+          ∷ []
+      by true = refl
+      by false = refl
+
+  form_bodies : (guard : Option Expression) → bodies_in (statement (form_under guard) no_statements) ≡ []
+  form_bodies None = refl
+  form_bodies (Some e) = by (stands (Some e))
+    where
+      by : (b : Bool)
+          → bodies_in (statement (cond b
+          (Where line (Some m) (form a (loops_assigned a k left) e) (left_form a k left) (right_form a k left right))
+          (If line (arm e (statement assigned no_statements) no_arms) no_statements)) no_statements)
+          ≡ []
+      by true = refl
+      by false = refl
+
+  pub marked_guarded : (round : List Round) (es : List Expression) (guard : Option Expression)
+      → marked_in round (guarded_by line es (statement (form_under guard) no_statements))
+      ≡ marked_form (round ++ conditions_of es) guard ∷ []
+  marked_guarded round es guard =
+      marked_conditions round line es (statement (form_under guard) no_statements)
+      ∙ form_marked (round ++ conditions_of es) guard
+
+  pub bodies_guarded : (es : List Expression) (guard : Option Expression)
+      → bodies_in (guarded_by line es (statement (form_under guard) no_statements)) ≡ []
+  bodies_guarded es guard =
+      bodies_conditions line es (statement (form_under guard) no_statements) ∙ form_bodies guard
 
 -- ---- the numbers of the statements that are marked
 

@@ -11,7 +11,9 @@ use Rattle.dependence_graph.specs.declared.graphs.Edge.{Edge}
 use Rattle.dependence_graph.specs.declared.graphs.Hold.{Hold}
 use Rattle.emission.specs.emission_pieces.Emission.{HasToTurn}
 use Rattle.emission.specs.emission_pieces.Levels.{is_held, is_hold_of, is_own, is_recurrent, may_be_formed}
-use Rattle.emission.specs.emission_pieces.Nests.{loops_at}
+use Rattle.array_form.specs.forms.Statements.{loops_assigned, stand_in_guard}
+use Rattle.array_form.specs.holds.Surroundings.{surroundings_of}
+use Rattle.emission.specs.emission_pieces.Nests.{loops_at, standing_at}
 use Rattle.nest_order.specs.orders.Lists.{Distinct, In}
 use Rattle.nest_order.proofs.orders.Lists.{In-append, In-left, In-right, Pairwise-append}
 use Rattle.nest_order.proofs.orders.Membership.{In-map}
@@ -19,7 +21,8 @@ use Rattle.nest_order.proofs.orders.Once.{Pairwise-across}
 use Rattle.nest.specs.Plain.{Nest}
 use Rattle.emission.specs.emission_marks.Components.{IsAloneAt, IsLevel, IsWalk, IsWith}
 use Rattle.emission.specs.emission_marks.Laws.{MayBeMarked}
-use Rattle.emission.specs.emission_marks.Marks.{Marked, Round, formed_at, kept_at, marked_at}
+use Rattle.emission.specs.emission_marks.Marks.{Marked, Round, assigned_at, formed_at, kept_at}
+use Rattle.emission.specs.emission_marks.Marks.{marked_at, masked_at}
 use Rattle.emission.specs.emission_marks.Marks.{turning_of}
 use Rattle.emission.proofs.EmissionMarks.Blocks.{number_of}
 use Rattle.emission.proofs.EmissionMarks.Parts.{IsPart, leads_within}
@@ -48,11 +51,14 @@ module _ (n : Nest) (edges : List Edge) (holds : List Hold) (may : MayBeMarked n
   -- ---- marked statements
 
   pub number_at : (s k : ℕ) → number_of (marked_at n s k) ≡ s + 1
-  number_at s k = by (nat_le k (length (loops_at n s)))
+  number_at s k =
+      let x = (standing_at n s).statement in
+      by (nat_le k (length (loops_at n s))) (stand_in_guard (loops_assigned (surroundings_of n (loops_at n s)) k x.left) x.guard)
     where
-      by : (b : Bool) → number_of (cond b (formed_at n s k) (kept_at n s)) ≡ s + 1
-      by true = refl
-      by false = refl
+      by : (b c : Bool) → number_of (cond b (cond c (masked_at n s k) (assigned_at n s k)) (kept_at n s)) ≡ s + 1
+      by true true = refl
+      by true false = refl
+      by false c = refl
 
   pub formed_is : (s k : ℕ) → k ≤ length (loops_at n s) → marked_at n s k ≡ formed_at n s k
   formed_is s k h = ap (λ b. cond b (formed_at n s k) (kept_at n s)) (le-leb k (length (loops_at n s)) h)

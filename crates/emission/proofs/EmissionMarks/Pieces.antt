@@ -1,18 +1,18 @@
 -- The marks of what is emitted, piece by piece.
 use Rattle.std.proofs.Common.{◌≡◌, ◌∙◌, inl, inr, refl, sym, ap, subst, arith, ℕ, suc, ◌+◌, ◌-◌, ◌<◌, ◌≤◌}
-use Rattle.std.proofs.Common.{Some, Contains, List, [], ◌∷◌, ◌++◌, length, map, take, take_all, append-nil}
+use Rattle.std.proofs.Common.{Contains, List, [], ◌∷◌, ◌++◌, length, map, take, take_all, append-nil}
 use Rattle.std.specs.List.{concat}
 use Rattle.std.proofs.lemmas.List.{map-append}
 use Rattle.array_form.specs.forms.Loops.{Surroundings, names_of}
-use Rattle.array_form.specs.forms.Statements.{left_form, loops_from, right_form, tests_of}
+use Rattle.array_form.specs.forms.Statements.{loops_from, tests_of}
 use Rattle.dependence_graph.specs.declared.graphs.Edge.{Edge}
 use Rattle.dependence_graph.specs.declared.graphs.Hold.{Hold}
 use Rattle.emission.specs.emission_pieces.Emission.{AreEmitted, AreEmittedFor, IsEmittedFor}
 use Rattle.emission.specs.emission_pieces.Levels.{AreComponents}
 use Rattle.emission.specs.emission_pieces.Nests.{loops_at, standing_at}
 use Rattle.emission.specs.emission_pieces.Pieces.{Piece, Kept, Formed, Turning, Pieces, no_pieces, piece}
-use Rattle.emission.specs.emission_pieces.Pieces.{block_of_piece, block_of_pieces, kept_statement, mark_of, translation}
-use Rattle.tree.specs.Plain.{Expression, Assignment, Block}
+use Rattle.emission.specs.emission_pieces.Pieces.{block_of_piece, block_of_pieces, kept_assignment, mark_of, translation}
+use Rattle.tree.specs.Plain.{Expression, Block}
 use Rattle.nest_order.specs.orders.Lists.{Distinct, In}
 use Rattle.nest_order.proofs.orders.Once.{Pairwise-right}
 use Rattle.nest.specs.Allocations.{block_then, deallocations}
@@ -21,7 +21,9 @@ use Rattle.array_form.specs.holds.Surroundings.{surroundings_of}
 use Rattle.emission.specs.emission_marks.Components.{IsAloneAt, IsLevel}
 use Rattle.emission.specs.emission_marks.Laws.{EmissionIsMarked, MayBeMarked}
 use Rattle.emission.specs.emission_marks.Marks.{Marked, Round, conditions_of, marked_at, marked_in, turning_of}
-use Rattle.emission.proofs.EmissionMarks.Blocks.{marked_allocated, marked_deallocated, marked_guarded, marked_then, number_of}
+use Rattle.emission.specs.emission_marks.Marks.{under}
+use Rattle.emission.proofs.EmissionMarks.Blocks.{marked_allocated, marked_deallocated, marked_form, marked_guarded, marked_kept}
+use Rattle.emission.proofs.EmissionMarks.Blocks.{marked_then, number_of}
 use Rattle.emission.proofs.EmissionMarks.Lists.{among, contained, from_distinct, in_range, take_next}
 use Rattle.emission.proofs.EmissionMarks.Marked.{HasMarks, IsComponentIn, formed_is, formed_level, kept_is, kept_level}
 use Rattle.emission.proofs.EmissionMarks.Marked.{more_marks, one_mark, same_marks, still_late}
@@ -69,13 +71,17 @@ module _ (n : Nest) (edges : List Edge) (holds : List Hold) (may : MayBeMarked n
   kept_marked : (d s : ℕ) (round : List Round) → IsOne d round (s ∷ []) → length (loops_at n s) < suc d
       → marked_in round (block_of_piece n (suc d) (Kept s)) ≡ marked_at n s (length (loops_at n s) + 1) ∷ []
   kept_marked d s round is h =
-      ap (λ x. x ∷ []) (ap kept same ∙ sym (kept_is n edges holds may s (length (loops_at n s) + 1) (omega arith)))
+      marked_kept round x.line x.guard (mark_of n s (length (loops_at n s) + 1)) x.left x.right
+      ∙ ap (λ y. y ∷ []) (ap kept same ∙ sym (kept_is n edges holds may s (length (loops_at n s) + 1) (omega arith)))
     where
+      x : Guarded
+      x = (standing_at n s).statement
+
       kept : List Round → Marked
       kept around = record {
-        round = around;
+        round = around ++ under x.guard;
         mark = mark_of n s (length (loops_at n s) + 1);
-        statement = kept_statement n s;
+        statement = kept_assignment n s;
       }
 
       same : round ≡ map turning_of (take (length (loops_at n s) + 1 - 1) (loops_at n s))
@@ -87,8 +93,7 @@ module _ (n : Nest) (edges : List Edge) (holds : List Hold) (may : MayBeMarked n
   formed_marked : (d s : ℕ) (round : List Round) → IsOne d round (s ∷ []) → suc d ≤ length (loops_at n s)
       → marked_in round (block_of_piece n (suc d) (Formed s)) ≡ marked_at n s (suc d) ∷ []
   formed_marked d s round is h =
-      marked_guarded round x.line x.line tests (mark_of n s (suc d)) (left_form a (suc d) x.left)
-      (right_form a (suc d) x.left x.right)
+      marked_guarded a (suc d) x.line (mark_of n s (suc d)) x.left x.right round tests x.guard
       ∙ ap (λ y. y ∷ []) (ap formed same ∙ sym (formed_is n edges holds may s (suc d) h))
     where
       a : Surroundings
@@ -101,12 +106,8 @@ module _ (n : Nest) (edges : List Edge) (holds : List Hold) (may : MayBeMarked n
       tests = tests_of (names_of a) (loops_from a (suc d))
 
       formed : List Round → Marked
-      formed around = record {
-        round = around ++ conditions_of tests;
-        mark = mark_of n s (suc d);
-        statement = Assignment x.line (Some (mark_of n s (suc d))) (left_form a (suc d) x.left)
-            (right_form a (suc d) x.left x.right);
-      }
+      formed around =
+          marked_form a (suc d) x.line (mark_of n s (suc d)) x.left x.right (around ++ conditions_of tests) x.guard
 
       same : round ≡ map turning_of (take (suc d - 1) (loops_at n s))
       same =

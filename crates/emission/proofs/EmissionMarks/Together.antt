@@ -1,9 +1,9 @@
 -- Which marked statements stand in one loop.
 use Rattle.std.proofs.Common.{◌≡◌, ◌≢◌, ◌⊎◌, ◌↔◌, ◌∙◌, inl, inr, refl, sym, ap, subst, arith, ℕ, zero, suc, ◌+◌, ◌<◌}
-use Rattle.std.proofs.Common.{Some, List, [], ◌∷◌, ◌++◌, map, append-nil}
+use Rattle.std.proofs.Common.{Some, List, [], ◌∷◌, ◌++◌, length, map, append-nil}
 use Rattle.std.specs.List.{concat}
 use Rattle.array_form.specs.forms.Loops.{names_of}
-use Rattle.array_form.specs.forms.Statements.{left_form, loops_from, right_form, tests_of}
+use Rattle.array_form.specs.forms.Statements.{loops_from, tests_of}
 use Rattle.dependence_graph.specs.declared.graphs.Edge.{Edge}
 use Rattle.dependence_graph.specs.declared.graphs.Hold.{Hold}
 use Rattle.emission.specs.emission_pieces.Emission.{AreEmitted, AreEmittedFor, IsEmittedFor}
@@ -21,8 +21,8 @@ use Rattle.emission.specs.emission_marks.Components.{IsWith}
 use Rattle.emission.specs.emission_marks.Laws.{EmissionKeepsTogether, MayBeMarked}
 use Rattle.emission.specs.emission_marks.ByGraph.{AreTogether}
 use Rattle.emission.specs.emission_marks.Marks.{Round, StandTogether, bodies_at, bodies_in, marked_at, marked_in, turning_of}
-use Rattle.emission.proofs.EmissionMarks.Blocks.{bodies_allocated, bodies_deallocated, bodies_guarded, bodies_then, number_of}
-use Rattle.emission.proofs.EmissionMarks.Blocks.{numbers_in, same_numbers}
+use Rattle.emission.proofs.EmissionMarks.Blocks.{bodies_allocated, bodies_deallocated, bodies_guarded, bodies_kept, bodies_then}
+use Rattle.emission.proofs.EmissionMarks.Blocks.{number_of, numbers_in, same_numbers}
 use Rattle.emission.proofs.EmissionMarks.Bodies.{has_number, in_block, in_body, number_has}
 use Rattle.emission.proofs.EmissionMarks.Lists.{among, contained, flat_in, in_flat, in_range}
 use Rattle.emission.proofs.EmissionMarks.Marked.{number_at}
@@ -67,12 +67,14 @@ module _ (n : Nest) (edges : List Edge) (holds : List Hold) (may : MayBeMarked n
 
   body_in_one : (p : Piece) (k : ℕ) (c : List ℕ) (cs : List (List ℕ)) → IsEmittedFor n edges holds k c p → (y : Block)
       → In y (bodies_in (block_of_piece n k p)) → HasBody k (c ∷ cs) y
-  body_in_one (Kept s) k c cs h y i = absurd i
+  body_in_one (Kept s) k c cs h y i =
+      let x = (standing_at n s).statement in
+      absurd (subst (In y) (bodies_kept x.line x.guard (Some (mark_of n s (length (loops_at n s) + 1))) x.left x.right) i)
   body_in_one (Formed s) k c cs h y i =
       let a = surroundings_of n (loops_at n s) in
       let x = (standing_at n s).statement in
-      absurd (subst (In y) (bodies_guarded x.line x.line (tests_of (names_of a) (loops_from a k)) (Some (mark_of n s k))
-      (left_form a k x.left) (right_form a k x.left x.right)) i)
+      absurd (subst (In y) (bodies_guarded a k x.line (mark_of n s k) x.left x.right
+      (tests_of (names_of a) (loops_from a k)) x.guard) i)
   body_in_one (Turning l qs) k c cs h y (inl e) =
       (record { class = c; loop = l; pieces = qs; listed = inl refl; emitted = h }, e)
   body_in_one (Turning l qs) k c cs h y (inr i) = absurd i

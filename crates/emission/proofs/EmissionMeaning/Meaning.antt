@@ -2,6 +2,7 @@
 use Rattle.std.proofs.Common.{◌≡◌, ℕ, zero, suc, ◌<◌, true, None, List, [], ◌∷◌, length, map, get_or, refl, sym, subst, arith}
 use mathlib.Core.Path.{fun_ext}
 use Rattle.std.specs.List.{range_with_len}
+use Rattle.array_form.proofs.lone.Safe.{run_names_cells}
 use Rattle.components.specs.Lists as components
 use Rattle.dependence_graph.specs.declared.graphs.Graph.{Graph}
 use Rattle.dependence_graph.specs.declared.graphs.Hold.{Hold}
@@ -82,15 +83,16 @@ emitted_shapes n g holds ps plain once ready graph h =
     subst (λ f. IsEmitted f (map edge_of (arcs_of g.edges)) 0 (shapes.statements (shape_of 0 n.body)) (shapes_of n 0 ps)) (same_loops n) arcs
 
 pub emission_keeps_meaning : EmissionKeepsMeaning
-emission_keeps_meaning n g holds ps w s plain unguarded ready regular facts written_facts graph all emitted held going =
+emission_keeps_meaning n g holds ps w s plain ready regular facts written_facts guarded graph all emitted held going =
     let once : Distinct (numbers_of (nest_loops n)) = distinct (numbers_of (nest_loops n)) ready.loops in
     let y = layout_of n.line n.body in
     let same = statement_is_of_shape n.line n.body n.symbols (linear_in n) (turns_in n) plain once in
+    let ok = facts_suffice 31 (run_nest n) w facts in
+    let runs = subst (λ c. (does (sequential 31) None c s).way ≡ Going) same going in
     let kept = lone_forms_keep_meaning 31 true (run_nest n) w (arcs_of g.edges) (shapes_of n 0 ps) y (marked_layout n) (formed n g.edges holds) s
-    (omega arith) (facts_suffice 31 (run_nest n) w facts) (graph_has_edges n g plain facts.text ready graph)
+    (omega arith) ok (graph_has_edges n g plain facts.text ready graph)
     (emitted_shapes n g holds ps plain once ready graph emitted)
-    (forms_are_lone n g holds w plain unguarded ready regular graph all facts written_facts) held
-    (subst (λ c. (does (sequential 31) None c s).way ≡ Going) same going) in
+    (forms_are_lone n g holds w plain ready regular graph all facts written_facts guarded (run_names_cells 31 (run_nest n) w y s ok held runs)) held runs in
     let block = subst (λ b. GoesOnNear (run_nest n) (does (sequential 31) None (nest_statement (run_nest n) y [] (shape_of 0 n.body)) s) (does_all (dialect 31 true) None b s))
-    (pieces_are_written n g holds ps plain unguarded ready graph emitted) kept in
+    (pieces_are_written n g holds ps plain ready graph emitted) kept in
     subst (λ c. GoesOnNear (run_nest n) (does (sequential 31) None c s) (does_all (dialect 31 true) None (block_of_pieces n 1 ps) s)) (sym same) block

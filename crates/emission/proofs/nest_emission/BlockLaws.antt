@@ -1,17 +1,23 @@
 -- Blocks put one behind the other, and the pieces that they are.
-use Rattle.std.proofs.Common.{◌≡◌, refl, sym, ap, subst, ◌∙◌, ℕ, ◌+◌, ◌<◌, ◌≤◌, List, [], ◌∷◌, ◌++◌, length, get_or, map, take, Result, Ok, Err}
+use Rattle.std.proofs.Common.{◌≡◌, refl, sym, ap, subst, ◌∙◌, ℕ, ◌+◌, ◌<◌, ◌≤◌, List, [], ◌∷◌, ◌++◌, length, get_or, map, take, Result, Ok, Err, Option, Some}
 use Rattle.std.specs.Prelude.{IfOk}
 use mathlib.Core.Path.{ap₂}
 use Rattle.std.proofs.lemmas.List.{map-append, take_all, take_more}
-use Rattle.tree.specs.Plain.{Statement, Block, no_statements, statement, block}
-use Rattle.tree.specs.View.{block_of, statement_of}
+use Rattle.std.specs.Option.{option_map}
+use Rattle.tree.specs.Plain.{Expression, Statement, Block, no_statements, statement, block}
+use Rattle.tree.specs.View.{block_of, expression_of, statement_of}
+use Rattle.tree.specs.declared.exprs.Expr.{Expr}
+use Rattle.tree.specs.declared.lists.Seq.{Seq}
+use Rattle.tree.specs.declared.stmts.Arm.{Arm, roll-Arm}
+use Rattle.tree.specs.declared.stmts.Stmt.TheVariants as stmts
 use Rattle.tree.specs.declared.lists.Memory.{Memory}
 use Rattle.tree.specs.declared.stmts.Block.{Block as Block', out-Block, roll-Block}
 use Rattle.tree.specs.declared.stmts.Stmt.{Stmt}
 use Rattle.tree.proofs.Equations.{block_of-is, block_of-made, expression_equations, statement_equations}
 use Rattle.dependence_graph.specs.declared.graphs.Edge.{Edge}
 use Rattle.dependence_graph.specs.declared.graphs.Hold.{Hold}
-use Rattle.array_form.specs.Statement.{block_of_one}
+use Rattle.array_form.proofs.StatementLaws.{if_ok}
+use Rattle.array_form.specs.Statement.{block_of_one, under_condition}
 use Rattle.emission.specs.emission_pieces.Emission.{AreEmittedFor, HasToTurn, IsEmittedFor}
 use Rattle.emission.specs.emission_pieces.Levels.{AreComponents}
 use Rattle.emission.specs.emission_pieces.Pieces.{Piece, Kept, Formed, Turning, Pieces, no_pieces, piece, block_of_piece, block_of_pieces, formed_block, kept_statement, turning_statement}
@@ -40,6 +46,16 @@ pub appended : (old new : List Stmt) (more : Block') → new ≡ old ++ (out-Blo
 appended old new more e =
     ap (λ (ss : List Stmt). block (map statement_of ss)) e ∙ ap block (map-append statement_of old (out-Block more).stmts)
     ∙ block-append (map statement_of old) (map statement_of (out-Block more).stmts) ∙ ap (block_then (block (map statement_of old))) (sym (block_of-is more))
+
+-- a block under a guard
+pub under_ok : (line : ℕ) (guard : Option Expr) (condition test : Expr) (body : Block') (given : Seq Arm) (none : Seq Stmt) (r : Result Block' Memory) → guard ≡ Some condition
+    → expression_of test ≡ expression_of condition → given ≡ roll-Arm (record { test = test; body = body }) ∷ [] → none ≡ []
+    → IfOk r (λ b. block_of b ≡ block_of_one (statement_of (stmts.If line given (roll-Block (record { stmts = none })))))
+    → IfOk r (λ b. block_of b ≡ under_condition line (option_map expression_of guard) (block_of body))
+under_ok line guard condition test body given none r is same g m h =
+    weaker (λ b. block_of b ≡ under_condition line (Some (expression_of test)) (block_of body)) (λ b. block_of b ≡ under_condition line (option_map expression_of guard) (block_of body))
+    (λ b e. e ∙ (ap (λ (x : Expression). under_condition line (Some x) (block_of body)) same ∙ ap (λ (o : Option Expr). under_condition line (option_map expression_of o) (block_of body)) (sym is))) r
+    (if_ok line test body given none (Some test) r refl g m h)
 
 -- ---- pieces
 

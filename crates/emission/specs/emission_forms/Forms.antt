@@ -1,11 +1,13 @@
 -- The array forms of a nest's statements, in the place of loops that have nothing else in them.
 use Rattle.std.specs.Prelude.{◌≡◌, ◌⊎◌, ℕ, suc, ◌<◌, ◌≤◌, ◌+◌, nat_lt, Bool, true, ◌&&◌, if◌then◌else◌}
-use Rattle.std.specs.Prelude.{Option, Some, None, All, List, [], ◌∷◌, ◌++◌, length}
+use Rattle.std.specs.Prelude.{Option, Some, None, List, [], ◌∷◌, ◌++◌, length}
 use Rattle.std.specs.Str.{bytes_eq}
 use Rattle.tree.specs.Plain.{Statement, Block, no_statements, statement}
 use Rattle.array_form.specs.forms.Following.{are_moved, is_regular}
+use Rattle.array_form.specs.forms.Guarded.{is_regular_guard}
 use Rattle.array_form.specs.forms.Loops.{Surroundings}
-use Rattle.array_form.specs.forms.Statements.{hold_at, loops_assigned}
+use Rattle.array_form.specs.forms.Statements.{loops_assigned}
+use Rattle.array_form.specs.forms.Statements.{Hold as HoldThere}
 use Rattle.dependence_graph.specs.declared.graphs.Edge.{Edge}
 use Rattle.dependence_graph.specs.declared.graphs.Hold.{Hold}
 use Rattle.emission.specs.emission_pieces.Levels.{is_held, may_be_formed}
@@ -14,8 +16,9 @@ use Rattle.emission.specs.emission_pieces.Pieces.{formed_block, mark_of}
 use Rattle.emission.specs.emission_pieces.Shapes.{numbers_at}
 use Rattle.nest_order.specs.orders.Shapes.{Shape, Single, Loop, Shapes, no_shapes, shape}
 use Rattle.nest_order.specs.runs.Blocks.{Layout}
-use Rattle.nest.specs.Bodies.{Standing, nest_statements}
+use Rattle.nest.specs.Bodies.{nest_statements}
 use Rattle.nest.specs.Plain.{Nest}
+use Rattle.array_form.specs.holds.Holds.{hold_of}
 use Rattle.array_form.specs.holds.Surroundings.{surroundings_of}
 
 -- ---- shapes
@@ -41,18 +44,20 @@ abbrev mutual
 
 -- ---- what the statements of a nest have to be
 
--- no statement has a guard
-abbrev pub AreUnguarded : Nest → Type 0
-AreUnguarded n = All (λ (s : Standing). s.statement.guard ≡ None) (nest_statements n)
-
 abbrev pub surroundings_at : Nest → ℕ → Surroundings
 surroundings_at n s = surroundings_of n (loops_at n s)
 
--- with the loops from the level k on, a left subscript moves with a loop that stands in it, and the right side is
--- regular
+-- what forbids the array form of a statement at a level
+abbrev pub hold_there : Nest → ℕ → ℕ → Option HoldThere
+hold_there n k s = hold_of n (standing_at n s) k
+
+-- with the loops from the level k on, a left subscript moves with a loop that stands in it, and guard and right side
+-- are regular
 pub record IsRegularAt (n : Nest) (k s : ℕ) : Type 0 where
   pub left : let a = surroundings_at n s in let r = (standing_at n s).statement.left in
       are_moved a (loops_assigned a k r) r.subscripts ≡ true
+  pub guard : let a = surroundings_at n s in let x = (standing_at n s).statement in
+      is_regular_guard a (loops_assigned a k x.left) x.guard ≡ true
   pub right : let a = surroundings_at n s in let x = (standing_at n s).statement in
       is_regular a (loops_assigned a k x.left) x.right ≡ true
 
@@ -61,13 +66,12 @@ IsLevelOf n k s = (s < length (nest_statements n)) × (1 ≤ k) × (k ≤ length
 
 -- wherever nothing forbids array form
 abbrev pub AreRegular : Nest → Type 0
-AreRegular n = (k s : ℕ) → IsLevelOf n k s
-    → hold_at (surroundings_at n s) k (standing_at n s).statement.left ≡ None → IsRegularAt n k s
+AreRegular n = (k s : ℕ) → IsLevelOf n k s → hold_there n k s ≡ None → IsRegularAt n k s
 
 -- what forbids the array form of a statement at a level is listed
 abbrev pub AreAllHolds : Nest → List Hold → Type 0
-AreAllHolds n holds = (k s : ℕ) → IsLevelOf n k s
-    → hold_at (surroundings_at n s) k (standing_at n s).statement.left ≡ None ⊎ (is_held holds k s ≡ true)
+AreAllHolds n holds =
+    (k s : ℕ) → IsLevelOf n k s → hold_there n k s ≡ None ⊎ (is_held holds k s ≡ true)
 
 -- ---- the forms
 

@@ -1,11 +1,13 @@
 -- What array forms ask of a nest beside its facts.
-use Rattle.std.specs.Prelude.{◌≡◌, ◌⊎◌, ◌<◌, ℕ, ℤ, pos, Some, IsSomeAnd, List, [], ◌∷◌, ◌++◌, length}
-use Rattle.tree.specs.Plain.{Declaration, Expression, Number, Binary}
+use Rattle.std.specs.Prelude.{◌≡◌, ◌≢◌, ◌⊎◌, ◌<◌, ℕ, ℤ, pos, true, Some, None, IsSomeAnd, List, [], ◌∷◌, ◌++◌, length}
+use Rattle.tree.specs.Plain.{Declaration, Expression, Number, Binary, Reference}
 use Rattle.tree.specs.declared.ops.Kind.TheVariants.{Integer}
 use Rattle.tree.specs.declared.ops.Op.TheVariants.{Div}
 use Rattle.meaning.specs.Typed.{declared}
 use Rattle.array_form.specs.forms.Trips.{AreDistinct}
-use Rattle.emission.specs.emission_pieces.Nests.{loops_at}
+use Rattle.array_form.specs.holds.Bounds.{is_made}
+use Rattle.array_form.specs.lone.Cells.{HasCells, HasDeclaredBounds, IsReferenceOf}
+use Rattle.emission.specs.emission_pieces.Nests.{loops_at, standing_at}
 use Rattle.emission.specs.graph_orders.Nests.{run_nest}
 use Rattle.linear_forms.specs.Linear.{Form, form_of}
 use Rattle.linear_forms.specs.Affines.{IsAffineOf}
@@ -42,3 +44,16 @@ pub record HasFormFacts (n : Nest) (w : Setting) : Type 0 where
   pub trips : (s : ℕ) → s < length (nest_statements n) → HaveTripTexts n.symbols [] (loops_at n s)
   pub variables : (l : ℕ) → In l (loops (run_nest n).shape)
       → (d : Declaration) × (declared w.program.declarations ((run_nest n).variable_at l) ≡ Some d) × (d.kind ≡ Integer)
+
+-- ---- guards
+
+-- What array forms ask beside where the statement s is guarded: what is declared has its bounds, and made arrays are so
+-- large that each reference to one names a cell in each instance, whatever the guard is there
+pub record HasGuardedNames (n : Nest) (w : Setting) (s : ℕ) : Type 0 where
+  pub declared : HasDeclaredBounds n w
+  pub made : (r : Reference) → IsReferenceOf (run_nest n) s r → is_made n r.name ≡ true → HasCells (run_nest n) w s r
+
+-- nothing is asked of a nest without guards
+abbrev pub HaveGuardedNames : Nest → Setting → Type 0
+HaveGuardedNames n w =
+    (s : ℕ) → s < length (nest_statements n) → (standing_at n s).statement.guard ≢ None → HasGuardedNames n w s

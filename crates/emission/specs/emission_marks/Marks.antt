@@ -6,11 +6,13 @@ use Rattle.tree.specs.Plain.{Expression, Number, Statement, Assignment, Where, I
 use Rattle.tree.specs.Plain.{Print, Allocate, Deallocate, Arms, no_arms, arm, Block, no_statements, statement}
 use Rattle.tree.specs.declared.stmts.Mark.{Mark}
 use Rattle.array_form.specs.forms.Loops.{names_of}
-use Rattle.array_form.specs.forms.Statements.{and_all, left_form, loops_from, right_form, tests_of}
+use Rattle.array_form.specs.forms.Statements.{and_all, array_assignment, guarded_form, loops_assigned, loops_from}
+use Rattle.array_form.specs.forms.Statements.{stand_in_guard, tests_of}
 use Rattle.nest.specs.Plain.{Loop, Nest}
+use Rattle.nest.specs.Bodies.{statement_number}
 use Rattle.array_form.specs.holds.Surroundings.{surroundings_of}
 use Rattle.emission.specs.emission_pieces.Nests.{loops_at, standing_at}
-use Rattle.emission.specs.emission_pieces.Pieces.{kept_statement, mark_of}
+use Rattle.emission.specs.emission_pieces.Pieces.{kept_assignment, mark_of}
 
 -- a loop with its variable and its bounds, a condition, or none of the conditions of an IF
 pub data Round : Type 0 where
@@ -79,11 +81,11 @@ abbrev pub bodies_at : ℕ → Block → List Block
 bodies_at zero b = b ∷ []
 bodies_at (suc k) b = flat_map (bodies_at k) (bodies_in b)
 
--- the statement with this number, from 0, stands marked in the block
+-- the statement with this place stands marked in the block, by its number
 pub record HasMarked (b : Block) (s : ℕ) : Type 0 where
   pub it : Marked
   pub among : Contains (marked_in [] b) it
-  pub number : it.mark.stmt ≡ s + 1
+  pub number : it.mark.stmt ≡ statement_number s
 
 -- both stand in one loop of this level
 pub record StandTogether (k : ℕ) (b : Block) (s r : ℕ) : Type 0 where
@@ -97,6 +99,11 @@ pub record StandTogether (k : ℕ) (b : Block) (s r : ℕ) : Type 0 where
 abbrev pub turning_of : Loop → Round
 turning_of l = Turning l.variable (Number (pos 1)) l.last (Number (pos 1))
 
+-- its guard, where it has one
+abbrev pub under : Option Expression → List Round
+under None = []
+under (Some e) = Under e ∷ []
+
 -- the condition that the trips are at least 1, where they aren't known to be
 abbrev pub conditions_of : List Expression → List Round
 conditions_of [] = []
@@ -107,23 +114,46 @@ module _ (n : Nest) where
   abbrev pub round_at : ℕ → ℕ → List Round
   round_at s k = map turning_of (take (k - 1) (loops_at n s))
 
-  -- in array form over its loops from the level k on
+  -- what stands round it in array form, over its loops from the level k on
+  abbrev pub outside_form : ℕ → ℕ → List Round
+  outside_form s k =
+      let a = surroundings_of n (loops_at n s) in round_at s k ++ conditions_of (tests_of (names_of a) (loops_from a k))
+
+  -- a WHERE with its guard
+  abbrev pub masked_at : ℕ → ℕ → Marked
+  masked_at s k =
+      let a = surroundings_of n (loops_at n s) in
+      let x = (standing_at n s).statement in
+      record {
+        round = outside_form s k;
+        mark = mark_of n s k;
+        statement = guarded_form a k x.line (Some (mark_of n s k)) x.guard x.left x.right;
+      }
+
+  -- an assignment, in an IF where it has a guard
+  abbrev pub assigned_at : ℕ → ℕ → Marked
+  assigned_at s k =
+      let a = surroundings_of n (loops_at n s) in
+      let x = (standing_at n s).statement in
+      record {
+        round = outside_form s k ++ under x.guard;
+        mark = mark_of n s k;
+        statement = array_assignment a k x.line (Some (mark_of n s k)) x.left x.right;
+      }
+
+  -- the first, where one of these loops stands in the guard
   abbrev pub formed_at : ℕ → ℕ → Marked
   formed_at s k =
       let a = surroundings_of n (loops_at n s) in
       let x = (standing_at n s).statement in
-      record {
-        round = round_at s k ++ conditions_of (tests_of (names_of a) (loops_from a k));
-        mark = mark_of n s k;
-        statement = Assignment x.line (Some (mark_of n s k)) (left_form a k x.left) (right_form a k x.left x.right);
-      }
+      if stand_in_guard (loops_assigned a k x.left) x.guard then masked_at s k else assigned_at s k
 
   -- as it is listed, in all its loops
   abbrev pub kept_at : ℕ → Marked
   kept_at s = record {
-    round = round_at s (length (loops_at n s) + 1);
+    round = round_at s (length (loops_at n s) + 1) ++ under (standing_at n s).statement.guard;
     mark = mark_of n s (length (loops_at n s) + 1);
-    statement = kept_statement n s;
+    statement = kept_assignment n s;
   }
 
   -- a statement of the level k

@@ -3,8 +3,8 @@ use Rattle.std.specs.Prelude.{◌≡◌, None, true, List, length}
 use Rattle.std.specs.List.{range_with_len}
 use Rattle.dependence_graph.specs.declared.graphs.Graph.{Graph}
 use Rattle.dependence_graph.specs.declared.graphs.Hold.{Hold}
-use Rattle.emission.specs.emission_forms.Forms.{AreAllHolds, AreRegular, AreUnguarded}
-use Rattle.emission.specs.emission_forms.Written.{HasFormFacts}
+use Rattle.emission.specs.emission_forms.Forms.{AreAllHolds, AreRegular}
+use Rattle.emission.specs.emission_forms.Written.{HasFormFacts, HaveGuardedNames}
 use Rattle.emission.specs.emission_pieces.Emission.{AreEmitted}
 use Rattle.emission.specs.emission_pieces.Pieces.{Pieces, block_of_pieces}
 use Rattle.meaning.specs.Run.{State, Going, does, does_all}
@@ -21,11 +21,12 @@ use Rattle.nest.specs.Bodies.{nest_statements}
 use Rattle.nest.specs.Plain.{Nest}
 
 -- Let a nest of loops and statements alone, with subscripts as array forms have them, stand in a setting with its
--- facts. Where its sequential run goes on, what is emitted for it by its dependence graph and all its holds goes on as
--- well with arrays as values, and leaves the same store but for the loop variables
+-- facts, and let made arrays be as large as guarded statements ask. Where its sequential run goes on, what is emitted
+-- for it by its dependence graph and all its holds goes on as well with arrays as values, and leaves the same store but
+-- for the loop variables
 abbrev pub EmissionKeepsMeaning : Type 0
 EmissionKeepsMeaning = (n : Nest) (g : Graph) (holds : List Hold) (ps : Pieces) (w : Setting) (s : State)
-    → IsPlain n.body → AreUnguarded n → IsReady n → AreRegular n → HasFacts 31 (run_nest n) w → HasFormFacts n w
+    → IsPlain n.body → IsReady n → AreRegular n → HasFacts 31 (run_nest n) w → HasFormFacts n w → HaveGuardedNames n w
     → IsGraphOf n g → AreAllHolds n holds
     → AreEmitted n g.edges holds 1 (range_with_len 0 (length (nest_statements n))) ps
     → HoldsNest 31 (run_nest n) w s.store

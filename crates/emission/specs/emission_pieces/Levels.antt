@@ -1,7 +1,7 @@
 -- Which dependences are at work at a level, and the components of statements there (Allen and Kennedy, "Optimizing
--- Compilers for Modern Architectures", section 2.4). Statements are counted from 0 in the order of the text, levels
--- from 1 from the outside in; the level of a loop independent edge is 0.
-use Rattle.std.specs.Prelude.{◌≡◌, ◌↔◌, ◌<◌, ◌+◌, ℕ, ◌==◌, nat_le, Bool, true, false, not, ◌&&◌, ◌||◌, List, length}
+-- Compilers for Modern Architectures", section 2.4). Statements go by their places, levels count from 1 from the
+-- outside in; the level of a loop independent edge is 0.
+use Rattle.std.specs.Prelude.{◌≡◌, ◌↔◌, ◌<◌, ℕ, ◌==◌, nat_le, Bool, true, false, not, ◌&&◌, ◌||◌, List, length}
 use Rattle.std.specs.Prelude.{slice_index}
 use Rattle.std.specs.List.{list_any}
 use Rattle.components.specs.Emission.{statements_of}
@@ -11,6 +11,7 @@ use Rattle.dependence_graph.specs.declared.graphs.Dep.{Dep}
 use Rattle.dependence_graph.specs.declared.graphs.Dep.TheVariants.{Flow, Anti, Output}
 use Rattle.dependence_graph.specs.declared.graphs.Edge.{Edge}
 use Rattle.dependence_graph.specs.declared.graphs.Hold.{Hold}
+use Rattle.nest.specs.Bodies.{statement_number}
 
 -- no loop outside the level carries it
 abbrev pub is_at_work : ℕ → ℕ → Bool
@@ -55,9 +56,9 @@ is_own k s e = joins k s s e && not (is_anti e.kind)
 abbrev pub is_recurrent : List Edge → ℕ → ℕ → Bool
 is_recurrent edges k s = list_any (is_own k s) edges
 
--- holds count statements from 1
+-- a hold has the statement's number
 abbrev pub is_hold_of : ℕ → ℕ → Hold → Bool
-is_hold_of k s h = (h.stmt == s + 1) && (h.level == k)
+is_hold_of k s h = (h.stmt == statement_number s) && (h.level == k)
 
 abbrev pub is_held : List Hold → ℕ → ℕ → Bool
 is_held holds k s = list_any (is_hold_of k s) holds

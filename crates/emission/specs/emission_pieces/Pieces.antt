@@ -3,7 +3,9 @@ use Rattle.std.specs.Prelude.{ℕ, suc, ◌+◌, pos, Some, length}
 use Rattle.tree.specs.Plain.{Number, Statement, Assignment, Do, Block, no_statements, statement}
 use Rattle.tree.specs.declared.stmts.Mark.{Mark}
 use Rattle.nest.specs.Allocations.{block_then, allocations_then, deallocations}
+use Rattle.nest.specs.Blocks.{under_guard}
 use Rattle.nest.specs.Plain.{Loop, Nest}
+use Rattle.nest.specs.Bodies.{statement_number}
 use Rattle.array_form.specs.forms.Statements.{array_form_of}
 use Rattle.array_form.specs.holds.Surroundings.{surroundings_of}
 use Rattle.emission.specs.emission_pieces.Nests.{standing_at, loops_at}
@@ -21,20 +23,24 @@ mutual
     piece : Piece → Pieces → Pieces
 
 module _ (n : Nest) where
-  -- its place in the listing, where statements are counted from 1
+  -- the statement with this place is marked by its number
   abbrev pub mark_of : ℕ → ℕ → Mark
-  mark_of s level = record { nest = n.number; stmt = s + 1; level = level }
+  mark_of s level = record { nest = n.number; stmt = statement_number s; level = level }
 
-  -- a statement as it is has the level behind its last loop
-  abbrev pub kept_statement : ℕ → Statement
-  kept_statement s =
+  -- as it is, under its guard; its level is the one behind its last loop
+  abbrev pub kept_assignment : ℕ → Statement
+  kept_assignment s =
       Assignment (standing_at n s).statement.line (Some (mark_of s (length (loops_at n s) + 1)))
       (standing_at n s).statement.left (standing_at n s).statement.right
+
+  abbrev pub kept_statement : ℕ → Statement
+  kept_statement s =
+      under_guard (standing_at n s).statement.line (standing_at n s).statement.guard (kept_assignment s)
 
   abbrev pub formed_block : ℕ → ℕ → Block
   formed_block k s =
       array_form_of (surroundings_of n (loops_at n s)) k (standing_at n s).statement.line (Some (mark_of s k))
-      (standing_at n s).statement.left (standing_at n s).statement.right
+      (standing_at n s).statement.guard (standing_at n s).statement.left (standing_at n s).statement.right
 
   -- a loop keeps no line of its own, and has the nest's
   abbrev pub turning_statement : Loop → Block → Statement

@@ -40,7 +40,7 @@ pub record IsSource (s : Source) : Type 0 where
   pub few : length (nest_statements (nest_in s)) < 2 ^ 32
   pub edges : AreEdgesOf (nest_in s) s.edges.now
 
--- ---- statements by their numbers, from 0
+-- ---- statements by their places
 
 -- each is one of the nest
 abbrev pub AreInside : Nest → List ℕ → Type 0

@@ -1,14 +1,15 @@
 //! What is emitted for a part of a nest, class by class.
 ghost use Rattle.std.specs.Prelude.{◌≡◌, ◌≤◌, ◌<◌, IfOk, OnOk, length, map};
+ghost use Rattle.std.specs.Option.{option_map};
 ghost use Rattle.components.specs.Lists.{Distinct};
 ghost use Rattle.emission.specs.emission_pieces.Nests.{loops_at};
 ghost use Rattle.emission.specs.emission_pieces.Pieces.{formed_block, kept_statement, turning_statement};
 ghost use Rattle.tree.specs.Plain.{block};
-ghost use Rattle.tree.specs.View.{block_of, statement_of};
+ghost use Rattle.tree.specs.View.{block_of, expression_of, statement_of};
 ghost use Rattle.nest.specs.Allocations.{block_then};
 ghost use Rattle.nest.specs.Bodies.{nest_statements};
 ghost use Rattle.nest.specs.View.{loop_of};
-ghost use Rattle.array_form.specs.Statement.{block_of_one};
+ghost use Rattle.array_form.specs.Statement.{block_of_one, under_condition};
 ghost use Rattle.emission.specs.nest_emission.Blocks.{IsBlockFor, IsBlockInLoop, IsBlockOfPart};
 ghost use Rattle.emission.specs.nest_emission.Given.{AreInside, HasLoop, IsClass, IsSource, nest_in};
 
@@ -18,7 +19,7 @@ use array_form::holds::surroundings_of;
 use array_form::statement_form;
 use nest::{Loop, copy_ref};
 use std::alloc::Global;
-use tree::{Block, Expr, Memory, Seq, Stmt};
+use tree::{Arm, Block, Expr, Memory, Seq, Stmt};
 
 #[tactic(auto, using(array_form::proofs::StatementLaws::one_block))]
 fn block_of_one(alloc: Global, stmt: Stmt) -> Result<Block, Memory>
@@ -27,6 +28,25 @@ fn block_of_one(alloc: Global, stmt: Stmt) -> Result<Block, Memory>
     let mut stmts = Seq::new(alloc);
     stmts.push(stmt)?;
     Ok(Block { stmts })
+}
+
+// The block under a guard, if there is one.
+fn under_guard(alloc: Global, line: u32, guard: &Option<Expr>, body: Block) -> Result<Block, Memory>
+    ensures { IfOk result (λ b. block_of b
+        ≡ under_condition line (option_map expression_of guard.now) (block_of body)) }
+{
+    match guard {
+        None => Ok(body),
+        Some(condition) => {
+            let mut arms = Seq::new(alloc);
+            let test = condition.copy(alloc)?;
+            arms.push(Arm { test, body })?;
+            let other = Block {
+                stmts: Seq::new(alloc),
+            };
+            block_of_one(alloc, Stmt::If { line, arms, other })
+        }
+    }
 }
 
 /// Puts the statements of a block behind others.
@@ -41,7 +61,7 @@ pub fn append(stmts: &mut Vec<Stmt>, more: Block) -> Result<(), Memory>
 }
 
 impl Source<'_> {
-    // A statement as it is.
+    // A statement as it is, under its guard.
     fn kept_block(&self, number: usize) -> Result<Block, Memory>
         requires source { IsSource self.now }
         requires number { number < length (nest_statements (nest_in self.now)) }
@@ -57,7 +77,8 @@ impl Source<'_> {
             left,
             right,
         };
-        block_of_one(self.alloc, assignment)
+        let body = block_of_one(self.alloc, assignment)?;
+        under_guard(self.alloc, standing.stmt.line, &standing.stmt.guard, body)
     }
 
     // A statement with its loops from this level on in array form.

@@ -13,7 +13,8 @@ use Rattle.tree.specs.Plain.{Expression, Number, Logic, Named, Unary, Binary, Ap
 use Rattle.tree.specs.OperatorTable.{Sign, Plus, Minus, Negation, left_least, right_least, stands_between, may_follow, spelling77_of}
 use Rattle.f77_grammar.specs.expressions.Phrases.{Phrase, Literal, WideLiteral, Truth, Name, Listed, Paren, Signed, Joined, Phrases, One, Then, level, begins_with_sign, written, written_list, tree, trees, sign_word, IsExpression, AreExpressions}
 use Rattle.f77_grammar.specs.expressions.Printing.{IsLiteral, is_negating, IsSource, IsSourceSubscript, AreSource, fit, behind, listed, unary_phrase, phrase_of, subscript_phrase, phrases_of, with_more, digits_of, spelling_of, printed}
-use Rattle.f77_grammar.specs.expressions.Reading.{Spells, IsWide, is_wide}
+use Rattle.f77_grammar.specs.expressions.Reading.{Spells, IsWide}
+use Rattle.f77_grammar.specs.expressions.Words.{is_wide}
 use Rattle.f77_grammar.specs.expressions.Spelling.{is_digit, is_letter, is_letter_or_digit, Pass, IsDigits, value, IsName, Spelled, chars, SpelledBy, Stops, goes_on, Whole, Words}
 use Rattle.f77_grammar.specs.expressions.Squeezing.{Symbol, Char, Squeezed, nothing, character, upper}
 use Rattle.f77_grammar.specs.expressions.Words as words

@@ -1,12 +1,12 @@
 -- What it is for characters to be an expression.
-use Rattle.std.specs.Prelude.{ℕ, ◌≡◌, ◌<◌, List, Bool, true, false, IsTrue}
+use Rattle.std.specs.Prelude.{ℕ, ◌≡◌, ◌<◌, List, IsTrue}
 use Rattle.std.specs.List.{list_any}
 use Rattle.tree.specs.Limits.{expression_depth77}
 use Rattle.tree.specs.Plain.{Expression}
 use Rattle.f77_grammar.specs.expressions.Phrases.{Phrase, IsExpression, written, tree, depth}
 use Rattle.f77_grammar.specs.expressions.Spelling.{Words}
 use Rattle.f77_grammar.specs.expressions.Squeezing.{Symbol, Squeezed}
-use Rattle.f77_grammar.specs.expressions.Words.{Word, Wide}
+use Rattle.f77_grammar.specs.expressions.Words.{is_wide}
 
 -- The characters of a statement, or of a part of it, spell an expression.
 pub record Spells (chars : List ℕ) (p : Phrase) : Type 0 where
@@ -14,10 +14,6 @@ pub record Spells (chars : List ℕ) (p : Phrase) : Type 0 where
   pub squeezed : Squeezed chars symbols
   pub words : Words symbols (written p)
   pub good : IsExpression p
-
-abbrev pub is_wide : Word → Bool
-is_wide Wide = true
-is_wide w = false
 
 -- a literal of it is above 2^127-1
 abbrev pub IsWide : Phrase → Type 0

@@ -1,5 +1,5 @@
 -- The words of expressions and lists.
-use Rattle.std.specs.Prelude.{ℕ, ℤ, Bool, List}
+use Rattle.std.specs.Prelude.{ℕ, ℤ, Bool, List, true, false}
 use Rattle.tree.specs.declared.ops.Op.{Op}
 
 -- `Wide` is a literal above 2^127-1. `Head` is a name with the parenthesis directly behind it. A minus sign is the
@@ -17,3 +17,7 @@ pub data Word : Type 0 where
   Equals : Word
   Colon : Word
   Constant : List ℕ → Word
+
+abbrev pub is_wide : Word → Bool
+is_wide Wide = true
+is_wide w = false

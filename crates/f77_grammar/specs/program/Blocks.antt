@@ -3,39 +3,47 @@
 --        DO 10 I = 1, N       Do I             a block of one DO loop, whose range is the next DO with its own
 --        DO 10 J = 1, I         Do J           range: both end with the statement that bears 10
 --     10 A(I,J) = 0               A(I,J) = 0   a block of one statement; no Label 10, where no GO TO names it
+--
+--        DO 20 I = 1, N       Do I             a block of one DO loop, whose range is the block up to its END DO
+--        K = K + I              K = K + I
+--     20 END DO                                END DO gives nothing, and ends no other loop
 use Rattle.std.specs.Prelude.{◌≡◌, ℕ, Bool, true, false, Some, List, [], ◌∷◌, ◌++◌, map}
 use Rattle.tree.specs.Plain as tree
 use Rattle.tree.specs.Plain.{Expression, Program}
 use Rattle.meaning.specs.Dialect.{Dialect}
 use Rattle.meaning.specs.Store.{Store}
-use Rattle.f77_grammar.specs.Statement77.{Labelled, Statement77, If, ElseIf, Else, EndIf, Do}
-use Rattle.f77_grammar.specs.program.Text.{bears}
+use Rattle.f77_grammar.specs.Statement77.{Labelled, Statement77, If, ElseIf, Else, EndIf, Do, EndDo}
+use Rattle.f77_grammar.specs.program.Text.{bears, stands_in, is_end_do}
 use Rattle.f77_grammar.specs.program.Nesting.{is_no_loop_end}
 use Rattle.f77_grammar.specs.program.Uses.{Use, uses_in_text, is_title, names_that}
 use Rattle.f77_grammar.specs.program.Limits.{constants_of}
 use Rattle.f77_grammar.specs.program.Tree.{resolved, simple, mark_of, targets, variables_of, declaration_of}
 use Rattle.f77_grammar.specs.program.Tree.{first_of_names}
 
--- neither a line of a block IF nor DO; END DO ends the range of its loop, as CONTINUE may
+-- neither a line of a block IF nor DO or END DO
 abbrev pub stands_alone : Statement77 → Bool
 stands_alone (If c) = false
 stands_alone (ElseIf c) = false
 stands_alone Else = false
 stands_alone EndIf = false
 stands_alone (Do label v a b c) = false
+stands_alone EndDo = false
 stands_alone s = true
 
--- Statements up to and with the first that bears the label, on which a loop may end (sections 11.10.1 and 11.10.2)
+-- Statements up to and with the first that bears the label, on which a loop may end, and others with it
+-- (sections 11.10.1 and 11.10.2)
 abbrev pub IsRange : ℕ → List Labelled → Type 0
 IsRange n [] = ⊥
-IsRange n (x ∷ []) = (bears n x ≡ true) × (is_no_loop_end x.statement ≡ false)
+IsRange n (x ∷ []) =
+    (bears n x ≡ true) × (is_no_loop_end x.statement ≡ false) × (is_end_do x.statement ≡ false)
 IsRange n (x ∷ y ∷ ys) = (bears n x ≡ false) × IsRange n (y ∷ ys)
 
 -- by all uses `us` of names in the program, the values `s` of its symbolic constants, and the labels that a GO TO names
 module _ (us : List Use) (s : Store) (named : List ℕ) where
   mutual
-    -- A statement alone, of which a declaration, CONTINUE and END DO give nothing and a logical IF a block IF of one
-    -- arm; a block IF with all up to its END IF; a DO with its range. A label stands before what its statement gives
+    -- A statement alone, of which a declaration and CONTINUE give nothing and a logical IF a block IF of one arm; a
+    -- block IF with all up to its END IF; a DO with its range; a DO with a block and its END DO, the first statement
+    -- that bears its label. A label stands before what its statement gives, that of END DO behind the block
     pub data IsUnit : List Labelled → List tree.Statement → Type 0 where
       alone : (x : Labelled) → stands_alone x.statement ≡ true
           → IsUnit (x ∷ []) (mark_of named x.label ++ simple us s x.line x.statement)
@@ -49,6 +57,13 @@ module _ (us : List Use) (s : Store) (named : List ℕ) where
           → x.statement ≡ Do (Some n) v a b c → IsRange n range → AreBlock range body
           → IsUnit (x ∷ range) (mark_of named x.label
           ++ tree.Do x.line v (resolved us s a) (resolved us s b) (resolved us s c) (tree.block body) ∷ [])
+      end_do : (x end : Labelled) (n : ℕ) (v : List ℕ) (a b c : Expression) (range : List Labelled)
+          (body : List tree.Statement)
+          → x.statement ≡ Do (Some n) v a b c → AreBlock range body → end.statement ≡ EndDo
+          → stands_in range n ≡ false → bears n end ≡ true
+          → IsUnit (x ∷ (range ++ end ∷ [])) (mark_of named x.label
+          ++ tree.Do x.line v (resolved us s a) (resolved us s b) (resolved us s c)
+          (tree.block (body ++ mark_of named end.label)) ∷ [])
 
     -- one unit after another
     pub data AreBlock : List Labelled → List tree.Statement → Type 0 where

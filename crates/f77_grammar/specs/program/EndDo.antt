@@ -10,7 +10,7 @@ use Rattle.std.specs.Prelude.{ℕ, ◌+◌, ◌-◌, ◌^◌, min, ◌==◌, Opt
 use Rattle.f77_grammar.specs.Statement77.{Labelled, Statement77, Do, EndDo}
 use Rattle.f77_grammar.specs.program.Text.{bears}
 
--- ---- which END DO closes which loop, from the last statement back
+-- ---- which END DO closes which loop, from the last statement back; that it is the nearest that is open is a law
 
 -- the statements but the first that bears the label, if one does
 abbrev pub without_bearer : ℕ → List Labelled → List Labelled

@@ -16,7 +16,7 @@ use Rattle.f77_grammar.specs.statements.Items.{takes_text}
 use Rattle.f77_grammar.specs.declared.directions.Direction.{Direction}
 use Rattle.f77_grammar.specs.declared.directions.Direction.TheVariants.{Output, Input}
 use Rattle.tree.specs.Functions.{function_named, name_of_function, suits_number}
-use Rattle.meaning.specs.Typed77.{number_of_arguments, number_of_subscripts}
+use Rattle.meaning.specs.Typed.{number_of_arguments, number_of_subscripts}
 use Rattle.tree.specs.OperatorTable.{operand_kind, result_kind_of, is_unary}
 use Rattle.f77_grammar.specs.program.Text.{Place}
 use Rattle.f77_grammar.specs.program.Uses.{Use, uses_of, is_variable, is_array, is_function, calls, kind_of_name}

@@ -3,7 +3,7 @@
 use Rattle.std.specs.Prelude.{ℕ, zero, suc, ◌==◌, Bool, true, false, Option, None, Some, List, [], ◌∷◌}
 use Rattle.std.specs.List.{list_any, filter}
 use Rattle.f77_grammar.specs.Statement77.{Labelled, Statement77, Declare, Dimension, Constants, Test, If, ElseIf, Else}
-use Rattle.f77_grammar.specs.Statement77.{ImplicitNone, EndIf, Do, End}
+use Rattle.f77_grammar.specs.Statement77.{ImplicitNone, EndIf, Do, EndDo, End}
 
 -- the statements before a place stand with the nearest first
 pub record Place : Type 0 where
@@ -59,6 +59,10 @@ is_last_else _ = false
 abbrev pub is_end_if : Statement77 → Bool
 is_end_if EndIf = true
 is_end_if _ = false
+
+abbrev pub is_end_do : Statement77 → Bool
+is_end_do EndDo = true
+is_end_do _ = false
 
 abbrev pub is_implicit_none : Statement77 → Bool
 is_implicit_none ImplicitNone = true

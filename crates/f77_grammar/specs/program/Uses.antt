@@ -15,7 +15,7 @@ use Rattle.f77_grammar.specs.Statement77.{Continue, Stop, Read, Print, End}
 use Rattle.f77_grammar.specs.declared.directions.Direction.{Direction}
 use Rattle.f77_grammar.specs.declared.directions.Direction.TheVariants.{Output, Input}
 use Rattle.tree.specs.Functions.{function_named}
-use Rattle.meaning.specs.Typed77.{number_of_subscripts}
+use Rattle.meaning.specs.Typed.{number_of_subscripts}
 
 -- How a name stands: as the program's name; in a type statement; with bounds for so many dimensions; in PARAMETER,
 -- before the `=`; in an expression, with as many subscripts or arguments in parentheses, 0 where it stands bare; so too

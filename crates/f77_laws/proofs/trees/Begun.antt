@@ -4,18 +4,18 @@ use Rattle.std.proofs.Common.{refl, sym, ap, subst, ◌∙◌, arith, flat_map, 
 use Rattle.tree.specs.Plain as tree
 use Rattle.tree.specs.Plain.{Expression}
 use Rattle.meaning.specs.Store.{Store}
-use Rattle.f77_grammar.specs.Statement77.{Labelled, Statement77, If, ElseIf, Else, EndIf, Do}
-use Rattle.f77_grammar.specs.program.Text.{is_label, bears, stands_in}
+use Rattle.f77_grammar.specs.Statement77.{Labelled, Statement77, If, ElseIf, Else, EndIf, Do, EndDo}
+use Rattle.f77_grammar.specs.program.Text.{is_label, bears, stands_in, is_end_do}
 use Rattle.f77_grammar.specs.program.Nesting.{is_no_loop_end}
 use Rattle.f77_grammar.specs.program.Uses.{Use}
 use Rattle.f77_laws.specs.trees.Steps.{Piece, Rest, Outermost, InArm, block_of, up_to, beyond, preceded, arm_begun}
 use Rattle.f77_grammar.specs.program.Tree.{mark_of, resolved, simple}
 use Rattle.f77_laws.specs.trees.Steps.{else_begun, if_begun, loop_begun, outermost_block}
 use Rattle.f77_laws.specs.trees.Steps.{begun, rest_from}
-use Rattle.f77_laws.proofs.trees.Lists.{left_false, right_false, both_false}
+use Rattle.f77_laws.proofs.trees.Lists.{left_false, right_false, both_false, not_both}
 use Rattle.f77_laws.proofs.trees.Shapes.{label_is}
 use Rattle.f77_grammar.specs.program.Blocks.{stands_alone, IsRange, IsUnit, AreBlock, AreArms}
-use Rattle.f77_grammar.specs.program.Blocks.IsUnit.{alone, block_if, loop}
+use Rattle.f77_grammar.specs.program.Blocks.IsUnit.{alone, block_if, loop, end_do}
 use Rattle.f77_grammar.specs.program.Blocks.AreBlock.{nothing, unit}
 use Rattle.f77_grammar.specs.program.Blocks.AreArms.{end_if, else_part, else_if}
 
@@ -33,6 +33,22 @@ one_onto : (p : Piece) (ps : List Piece) (r : Rest) → preceded p (onto ps r) �
 one_onto p ps (Outermost qs) = refl
 one_onto p ps (InArm qs arms other r) = refl
 
+more_onto : (ps : List Piece) (p : Piece) (r : Rest) → onto ps (preceded p r) ≡ onto (ps ++ p ∷ []) r
+more_onto ps p (Outermost qs) = ap Outermost (sym (append_assoc ps (p ∷ []) qs))
+more_onto ps p (InArm qs arms other r) = ap (λ rs. InArm rs arms other r) (sym (append_assoc ps (p ∷ []) qs))
+
+made_behind : (ps : List Piece) (p : Piece)
+    → flat_map (λ (q : Piece). q.made) (ps ++ p ∷ []) ≡ flat_map (λ (q : Piece). q.made) ps ++ p.made
+made_behind [] p = append-nil p.made
+made_behind (q ∷ qs) p =
+    ap (λ cs. q.made ++ cs) (made_behind qs p)
+    ∙ sym (append_assoc q.made (flat_map (λ (r : Piece). r.made) qs) p.made)
+
+-- none of them ends with the label
+abbrev EndNone : ℕ → List Piece → Type 0
+EndNone n [] = Unit {0}
+EndNone n (p ∷ ps) = (is_label n p.ends ≡ false) × EndNone n ps
+
 -- the last one alone ends with the label
 abbrev EndWith : ℕ → List Piece → Type 0
 EndWith n [] = ⊥
@@ -42,6 +58,10 @@ EndWith n (p ∷ q ∷ ps) = (is_label n p.ends ≡ false) × EndWith n (q ∷ p
 end_later : (n : ℕ) (p : Piece) (ps : List Piece) → is_label n p.ends ≡ false → EndWith n ps → EndWith n (p ∷ ps)
 end_later n p [] e h = absurd h
 end_later n p (q ∷ ps) e h = (e, h)
+
+end_behind : (n : ℕ) (ps : List Piece) (p : Piece) → EndNone n ps → is_label n p.ends ≡ true → EndWith n (ps ++ p ∷ [])
+end_behind n [] p h e = e
+end_behind n (q ∷ qs) p h e = end_later n q (qs ++ p ∷ []) h.0 (end_behind n qs p h.1 e)
 
 taken : (n : ℕ) (ps qs : List Piece) → EndWith n ps → up_to n (ps ++ qs) ≡ ps
 taken n [] qs h = absurd h
@@ -80,6 +100,16 @@ left_empty (x ∷ xs) ys h = absurd (let e = ap length h in omega arith)
 some_stand : (x : Labelled) (xs : List Labelled) → x ∷ xs ≡ [] → ⊥
 some_stand x xs h = let e = ap length h in omega arith
 
+pub none_left : (n : ℕ) (xs ys : List Labelled) → stands_in (xs ++ ys) n ≡ false → stands_in xs n ≡ false
+none_left n [] ys h = refl
+none_left n (x ∷ xs) ys h =
+    both_false (bears n x) (stands_in xs n) (left_false (bears n x) (stands_in (xs ++ ys) n) h)
+    (none_left n xs ys (right_false (bears n x) (stands_in (xs ++ ys) n) h))
+
+pub none_right : (n : ℕ) (xs ys : List Labelled) → stands_in (xs ++ ys) n ≡ false → stands_in ys n ≡ false
+none_right n [] ys h = h
+none_right n (x ∷ xs) ys h = none_right n xs ys (right_false (bears n x) (stands_in (xs ++ ys) n) h)
+
 range_left : (n : ℕ) (xs : List Labelled) (y : Labelled) (ys : List Labelled) → IsRange n (xs ++ y ∷ ys)
     → stands_in xs n ≡ false
 range_left n [] y ys h = refl
@@ -97,7 +127,7 @@ range_behind : (n : ℕ) (xs ys : List Labelled) → (ys ≡ [] → ⊥) → IsR
 range_behind n xs [] some h = absurd (some refl)
 range_behind n xs (y ∷ ys) some h = range_right n xs y ys h
 
-label_as : (m n : ℕ) (x : Labelled) (b : Bool) → bears m x ≡ true → bears n x ≡ b → (m == n) ≡ b
+pub label_as : (m n : ℕ) (x : Labelled) (b : Bool) → bears m x ≡ true → bears n x ≡ b → (m == n) ≡ b
 label_as m n x b h k = sym (ap (is_label n) (label_is m x.label h)) ∙ k
 
 one_label : (m n : ℕ) (xs : List Labelled) → IsRange m xs → IsRange n xs → (m == n) ≡ true
@@ -137,6 +167,7 @@ module _ (us : List Use) (s : Store) (named : List ℕ) where
     begin_ : (ys : List Labelled) → become (xs ++ ys) ≡ onto pieces (become ys)
     none : xs ≡ [] → pieces ≡ []
     last : (n : ℕ) → IsRange n xs → EndWith n pieces
+    inner : (n : ℕ) → stands_in xs n ≡ false → EndNone n pieces
 
   record EndIfBlock (xs : List Labelled) (arms : tree.Arms) (part : tree.Block) : Type 0 where
     begin_ : (ys : List Labelled) → become (xs ++ ys) ≡ InArm [] arms part (become ys)
@@ -217,9 +248,56 @@ module _ (us : List Use) (s : Store) (named : List ℕ) where
       make : tree.Block → tree.Statement
       make = tree.Do x.line v (resolved us s a) (resolved us s b) (resolved us s c)
 
+  end_do_piece : (x end : Labelled) (n : ℕ) (v : List ℕ) (a b c : Expression) (range : List Labelled)
+      (body : List tree.Statement) → x.statement ≡ Do (Some n) v a b c → ArePieces range body
+      → end.statement ≡ EndDo → stands_in range n ≡ false → bears n end ≡ true
+      → IsPiece (x ∷ (range ++ end ∷ [])) (mark_of named x.label
+      ++ tree.Do x.line v (resolved us s a) (resolved us s b) (resolved us s c)
+      (tree.block (body ++ mark_of named end.label)) ∷ [])
+  end_do_piece x end n v a b c range body e h f t g =
+      record {
+        ends = Some n;
+        begins = λ ys.
+            ap (λ o. begun us s named x o (become ((range ++ end ∷ []) ++ ys))) e
+            ∙ ap (loop_begun make (mark_of named x.label) n) (before_end ys)
+            ∙ looped make (mark_of named x.label) n (h.pieces ++ p ∷ []) (become ys)
+            (end_behind n h.pieces p (h.inner n t) g)
+            ∙ ap (λ o. preceded (record { ends = Some n; made = mark_of named x.label ++ make o ∷ [] }) (become ys))
+            (ap tree.block (made_behind h.pieces p ∙ ap (λ cs. cs ++ mark_of named end.label) h.made));
+        some = some_stand x (range ++ end ∷ []);
+        last = λ k r.
+            absurd (not_both (is_end_do end.statement) (ap is_end_do f) (range_right k (x ∷ range) end [] r).2);
+        inner = λ k r.
+            label_as n k end false g
+            (left_false (bears k end) false (none_right k (x ∷ range) (end ∷ []) r));
+      }
+    where
+      make : tree.Block → tree.Statement
+      make = tree.Do x.line v (resolved us s a) (resolved us s b) (resolved us s c)
+
+      p : Piece
+      p = record { ends = end.label; made = mark_of named end.label }
+
+      end_begun : (ys : List Labelled) → become (end ∷ ys) ≡ preceded p (become ys)
+      end_begun ys =
+          ap (λ o. begun us s named end o (become ys)) f
+          ∙ ap (λ cs. preceded (record { ends = end.label; made = cs }) (become ys)) (append-nil (mark_of named end.label))
+
+      before_end : (ys : List Labelled) → become ((range ++ end ∷ []) ++ ys) ≡ onto (h.pieces ++ p ∷ []) (become ys)
+      before_end ys =
+          ap become (append_assoc range (end ∷ []) ys) ∙ h.begin_ (end ∷ ys) ∙ ap (onto h.pieces) (end_begun ys)
+          ∙ more_onto h.pieces p (become ys)
+
   no_pieces : ArePieces [] []
   no_pieces =
-      record { pieces = []; made = refl; begin_ = λ ys. none_onto (become ys); none = λ e. refl; last = λ n h. absurd h }
+      record {
+        pieces = [];
+        made = refl;
+        begin_ = λ ys. none_onto (become ys);
+        none = λ e. refl;
+        last = λ n h. absurd h;
+        inner = λ n h. tt;
+      }
 
   more_pieces : (first rest : List Labelled) (cs ds : List tree.Statement) → IsPiece first cs → ArePieces rest ds
       → ArePieces (first ++ rest) (cs ++ ds)
@@ -232,6 +310,7 @@ module _ (us : List Use) (s : Store) (named : List ℕ) where
             ∙ one_onto p k.pieces (become ys);
         none = λ e. absurd (h.some (left_empty first rest e));
         last = λ n r. at_end n rest k r;
+        inner = λ n r. (h.inner n (none_left n first rest r), k.inner n (none_right n first rest r));
       }
     where
       p : Piece
@@ -286,6 +365,8 @@ module _ (us : List Use) (s : Store) (named : List ℕ) where
         if_piece x c first later body arms part e (block_pieces first body h) (arms_pieces later arms part k)
     unit_pieces xs cs (loop x n v a b c range body e r h) =
         loop_piece x n v a b c range body e r (block_pieces range body h)
+    unit_pieces xs cs (end_do x end n v a b c range body e h f t g) =
+        end_do_piece x end n v a b c range body e (block_pieces range body h) f t g
 
     block_pieces : (xs : List Labelled) (cs : List tree.Statement) → AreBlock us s named xs cs → ArePieces xs cs
     block_pieces xs cs nothing = no_pieces

@@ -2,11 +2,11 @@
 use Rattle.std.proofs.Common.{◌≡◌, ℕ, true, false, Some, List, [], ◌∷◌, ◌++◌, refl, sym, ap, subst, ◌∙◌, append_assoc}
 use Rattle.tree.specs.Plain as tree
 use Rattle.meaning.specs.Store.{Store}
-use Rattle.f77_grammar.specs.Statement77.{Labelled, Statement77, If, ElseIf, Else, EndIf, Do}
+use Rattle.f77_grammar.specs.Statement77.{Labelled, Statement77, If, ElseIf, Else, EndIf, Do, EndDo}
 use Rattle.f77_grammar.specs.program.Text.{is_block_if, is_end_if}
 use Rattle.f77_grammar.specs.program.Uses.{Use}
 use Rattle.f77_grammar.specs.program.Blocks.{stands_alone, IsUnit, AreBlock, AreArms}
-use Rattle.f77_grammar.specs.program.Blocks.IsUnit.{alone, block_if, loop}
+use Rattle.f77_grammar.specs.program.Blocks.IsUnit.{alone, block_if, loop, end_do}
 use Rattle.f77_grammar.specs.program.Blocks.AreBlock.{nothing, unit}
 use Rattle.f77_grammar.specs.program.Blocks.AreArms.{end_if, else_part, else_if}
 use Rattle.f77_laws.specs.trees.Pairs.{ArePaired, Ends, BlocksArePaired}
@@ -60,6 +60,9 @@ module _ (us : List Use) (s : Store) (named : List ℕ) where
         (ended_behind first later (block_paired first body h) (arms_ended later arms part k))
     unit_paired xs cs (loop x n v a b c range body e r h) =
         paired_append (x ∷ []) range (only x (Do (Some n) v a b c) e refl refl) (block_paired range body h)
+    unit_paired xs cs (end_do x end n v a b c range body e h f g t) =
+        paired_append (x ∷ []) (range ++ end ∷ []) (only x (Do (Some n) v a b c) e refl refl)
+        (paired_append range (end ∷ []) (block_paired range body h) (only end EndDo f refl refl))
 
     pub block_paired : (xs : List Labelled) (cs : List tree.Statement) → AreBlock us s named xs cs → ArePaired xs
     block_paired xs cs nothing = none

@@ -13,24 +13,26 @@ use Rattle.f77_grammar.specs.program.Labels.{is_wrong_label}
 use Rattle.f77_grammar.specs.program.Nesting.{until_if, own_since_if, has_open_if, is_do_of, begins_loop}
 use Rattle.f77_grammar.specs.program.Nesting.{since_if, since_do, is_loop_open, is_anything_open, suits_else}
 use Rattle.f77_grammar.specs.program.Nesting.{is_no_loop_end, ends_loops_wrongly, stays_open, nests_wrongly}
-use Rattle.f77_grammar.specs.program.Nesting.{is_left_open, is_closed_wrongly, is_nested_wrongly}
+use Rattle.f77_grammar.specs.program.Nesting.{is_nested_wrongly, ends_not_one, is_other_open}
 use Rattle.f77_grammar.specs.program.Uses.{Use}
 use Rattle.f77_laws.specs.trees.Steps.{rest_from}
-use Rattle.f77_grammar.specs.program.Blocks.{IsRange, AreBlock}
-use Rattle.f77_laws.specs.trees.Laws.{IsWellNested, StandOnce, EndsOneLoop, NestedFormBlock}
-use Rattle.f77_laws.proofs.trees.Lists.{left_false, right_false, both_false, or_right, not_both}
+use Rattle.f77_grammar.specs.program.Blocks.{AreBlock}
+use Rattle.f77_laws.specs.trees.Laws.{IsWellNested, StandOnce, NestedFormBlock}
+use Rattle.f77_laws.proofs.trees.Lists.{right_false, both_false, or_right, not_both}
 use Rattle.f77_laws.proofs.trees.Moves.{label_free}
-use Rattle.f77_laws.proofs.trees.Begun.{made_in, range_right}
+use Rattle.f77_laws.proofs.trees.Begun.{made_in}
 use Rattle.f77_laws.proofs.trees.Formed.{text_formed}
 use Rattle.f77_laws.proofs.trees.Pairs.{BackPaired, none, single, double, reverse_one, left_if, left_end, left_first}
 use Rattle.f77_laws.proofs.trees.Pairs.{all_passed, no_if_left, not_end, is_open, since_is, end_if_is_partner}
 use Rattle.f77_laws.proofs.trees.Splits.{InFirst, InSecond, split_append, LackElse, lacks_none, lacks_one, lacks_pair}
-use Rattle.f77_laws.proofs.trees.Splits.{CloseLoops, any_append, range_has, HasRange, StandsInIf, HasNoElse}
-use Rattle.f77_laws.proofs.trees.Splits.{Stands, AreWhole, block_whole}
+use Rattle.f77_laws.proofs.trees.Splits.{CloseLoops, any_append, IsUpTo, up_to_right, range_has, HasRange, HasDo}
+use Rattle.f77_laws.proofs.trees.Splits.{StandsInIf, HasNoElse}
+use Rattle.f77_laws.proofs.trees.Splits.{Stands, AreWhole}
+use Rattle.f77_laws.proofs.trees.Wholes.{block_whole}
 
 -- ---- labels that stand once
 
-once_after : (before xs : List Labelled) (m : ℕ)
+pub once_after : (before xs : List Labelled) (m : ℕ)
     → AllByRecursion (λ (p : Place). is_wrong_label p.before p.here.label ≡ false) (places_from before xs)
     → stands_in before m ≡ true → stands_in xs m ≡ false
 once_after before [] m h g = refl
@@ -56,10 +58,10 @@ apart : (text front rest : List Labelled) (m : ℕ) → StandOnce text → text 
     → stands_in rest m ≡ false
 apart text front rest m h e g = once_behind [] front rest m (subst (λ (zs : List Labelled). StandOnce zs) e h) g
 
-stands_left : (n : ℕ) (xs ys : List Labelled) → stands_in xs n ≡ true → stands_in (xs ++ ys) n ≡ true
+pub stands_left : (n : ℕ) (xs ys : List Labelled) → stands_in xs n ≡ true → stands_in (xs ++ ys) n ≡ true
 stands_left n xs ys h = any_append (bears n) xs ys ∙ ap (λ b. b || stands_in ys n) h
 
-stands_right : (n : ℕ) (xs ys : List Labelled) → stands_in ys n ≡ true → stands_in (xs ++ ys) n ≡ true
+pub stands_right : (n : ℕ) (xs ys : List Labelled) → stands_in ys n ≡ true → stands_in (xs ++ ys) n ≡ true
 stands_right n xs ys h = any_append (bears n) xs ys ∙ or_right (stands_in xs n) (stands_in ys n) h
 
 -- ---- lists turned round
@@ -81,17 +83,6 @@ reverse_mid : (xs : List Labelled) (x : Labelled) (ys : List Labelled)
 reverse_mid xs x ys =
     reverse-append xs (x ∷ ys) ∙ ap (λ zs. zs ++ reverse xs) (reverse_one x ys)
     ∙ append_assoc (reverse ys) (x ∷ []) (reverse xs)
-
--- ---- a statement at its place
-
-at_place : (Q : Place → Type 0) (before front : List Labelled) (x : Labelled) (back : List Labelled)
-    → AllByRecursion Q (places_from before (front ++ x ∷ back))
-    → Q (record { before = reverse front ++ before; here = x; after = back })
-at_place Q before [] x back h = h.0
-at_place Q before (y ∷ ys) x back h =
-    subst (λ zs. Q (record { before = zs; here = x; after = back }))
-    (sym (ap (λ zs. zs ++ before) (reverse_one y ys) ∙ append_assoc (reverse ys) (y ∷ []) before))
-    (at_place Q (y ∷ before) ys x back h.1)
 
 -- ---- loops that have ended
 
@@ -203,20 +194,20 @@ paired_tail x zs ws (double y end between ys a b k g) e h =
 -- ---- a statement of a block
 
 module _ (us : List Use) (s : Store) (named : List ℕ) (text : List Labelled) (once : StandOnce text)
-    (w : AreWhole us s named text) (one : AllByRecursion EndsOneLoop (places text)) where
-  range_of : (n : ℕ) (front : List Labelled) (o : Statement77) (back : List Labelled) → is_do_of n o ≡ true
-      → Stands us s named front o back → HasRange us s named n back
-  range_of n front (Do (Some m) v a b c) back e h =
+    (w : AreWhole us s named text) where
+  range_of : (n : ℕ) (front : List Labelled) (end : Option ℕ) (o : Statement77) (back : List Labelled)
+      → is_do_of n o ≡ true → Stands us s named front end o back → HasRange n back
+  range_of n front end (Do (Some m) v a b c) back e h =
       let g : nat_eq m n ≡ true = e in
       let t : m ≡ n = grind (arith, nat_tests) in
-      subst (λ (k : ℕ). HasRange us s named k back) t h
-  range_of n front o back e h = absurd (not_both false e refl)
+      subst (λ (k : ℕ). HasRange k back) t h
+  range_of n front end o back e h = absurd (not_both false e refl)
 
   module _ (front : List Labelled) (x : Labelled) (back : List Labelled) (is_at : text ≡ front ++ x ∷ back) where
     abbrev p : Place
     p = record { before = reverse front; here = x; after = back }
 
-    stays : (o : Statement77) → x.statement ≡ o → Stands us s named front o back → stays_open o p ≡ false
+    stays : (o : Statement77) → x.statement ≡ o → Stands us s named front x.label o back → stays_open o p ≡ false
     stays (If c) e h =
         ap not
         ((end_if_is_partner x back (ap is_block_if e)).1
@@ -267,49 +258,31 @@ module _ (us : List Use) (s : Store) (named : List ℕ) (text : List Labelled) (
         three : (a b c : Bool) → a ≡ true → b ≡ false → c ≡ false → ((a && not b) && not c) ≡ true
         three a b c d e f = ap (λ t. (t && not b) && not c) d ∙ ap (λ t. not t && not c) e ∙ ap not f
 
-    ends_one : EndsOneLoop p
-    ends_one =
-        subst (λ zs. EndsOneLoop (record { before = zs; here = x; after = back })) (append-nil (reverse front))
-        (at_place EndsOneLoop [] front x back
-        (subst (λ (zs : List Labelled). AllByRecursion EndsOneLoop (places zs)) is_at one))
-
-    nests : (o : Statement77) → x.statement ≡ o → Stands us s named front o back → nests_wrongly o p ≡ false
-    nests (Do None v a b c) e h = absurd h
-    nests (Do (Some n) v a b c) e h =
-        ap not (ap (λ zs. stands_in zs n) h.whole ∙ stands_left n h.range h.rest (range_has n h.range h.is_range))
-    nests EndDo e h = ends_one e
-    nests EndIf e h =
-        both_false (not (has_open_if (reverse front))) (is_loop_open (since_if (reverse front)) back)
-        (ap not (if_open h)) (loops_ended_after h)
-    nests (ElseIf c) e h = ap not (suits h)
-    nests Else e h = ap not (suits h)
-    nests o e h = refl
-
     -- ---- at the label of a loop
 
     module _ (n : ℕ) (bears_it : bears n x ≡ true) (d : FirstDo n front) where
-      range : HasRange us s named n (d.since ++ x ∷ back)
+      range : HasRange n (d.since ++ x ∷ back)
       range =
-          range_of n d.before d.here.statement (d.since ++ x ∷ back) d.begins
+          range_of n d.before d.here.label d.here.statement (d.since ++ x ∷ back) d.begins
           (w.stand d.before d.here (d.since ++ x ∷ back)
           (is_at ∙ ap (λ zs. zs ++ x ∷ back) d.whole ∙ append_assoc d.before (d.here ∷ d.since) (x ∷ back)))
 
-      no_mid : (xs mid : List Labelled) → IsRange n (d.since ++ x ∷ mid) → mid ≡ []
+      no_mid : (xs mid : List Labelled) → IsUpTo n (d.since ++ x ∷ mid) → mid ≡ []
       no_mid xs [] r = refl
-      no_mid xs (y ∷ ys) r = absurd (not_both (bears n x) bears_it (range_right n d.since x (y ∷ ys) r).0)
+      no_mid xs (y ∷ ys) r = absurd (not_both (bears n x) bears_it (up_to_right n d.since x (y ∷ ys) r).0)
 
       first_false : (a b : Bool) → (a || b) ≡ false → a ≡ false
       first_false true b h = absurd (not_both true refl h)
       first_false false b h = refl
 
       -- the statement ends the range
-      cut : (r : HasRange us s named n (d.since ++ x ∷ back))
+      cut : (r : HasRange n (d.since ++ x ∷ back))
           → InFirst r.range r.rest d.since x back ⊎ InSecond r.range r.rest d.since x back
           → r.range ≡ d.since ++ x ∷ []
       cut r (inl k) =
           k.left
           ∙ ap (λ zs. d.since ++ x ∷ zs)
-          (no_mid [] k.mid (subst (λ (zs : List Labelled). IsRange n zs) k.left r.is_range))
+          (no_mid [] k.mid (subst (λ (zs : List Labelled). IsUpTo n zs) k.left r.up_to))
       cut r (inr k) =
           absurd (not_both (bears n x) bears_it
           (first_false (bears n x) (stands_in back n)
@@ -317,13 +290,13 @@ module _ (us : List Use) (s : Store) (named : List ℕ) (text : List Labelled) (
           (ap (λ zs. stands_in zs n) (d.whole ∙ ap (λ zs. d.before ++ d.here ∷ zs) k.left)
           ∙ stands_right n d.before (d.here ∷ (r.range ++ k.mid))
           (or_right (bears n d.here) (stands_in (r.range ++ k.mid) n)
-          (stands_left n r.range k.mid (range_has n r.range r.is_range)))))))
+          (stands_left n r.range k.mid (range_has n r.range r.up_to)))))))
 
       is_range : range.range ≡ d.since ++ x ∷ []
       is_range = cut range (split_append range.range range.rest d.since x back (sym range.whole))
 
       may_end : is_no_loop_end x.statement ≡ false
-      may_end = (range_right n d.since x [] (subst (λ (zs : List Labelled). IsRange n zs) is_range range.is_range)).1
+      may_end = (up_to_right n d.since x [] (subst (λ (zs : List Labelled). IsUpTo n zs) is_range range.up_to)).1
 
       since_is_range : since_do n (reverse front) ≡ reverse d.since
       since_is_range =
@@ -335,8 +308,7 @@ module _ (us : List Use) (s : Store) (named : List ℕ) (text : List Labelled) (
       no_if =
           ap has_open_if (sym (append-nil (reverse d.since)))
           ∙ no_if_left (reverse d.since) []
-          (paired_tail x (reverse d.since) (reverse range.range)
-          (block_whole us s named range.range range.body range.formed).paired
+          (paired_tail x (reverse d.since) (reverse range.range) range.paired
           (ap reverse is_range ∙ reverse-append d.since (x ∷ [])) (no_end_if x.statement may_end))
 
       at_back : (m : ℕ) → list_any (begins_loop m) d.since ≡ true → stands_in back m ≡ false
@@ -362,19 +334,50 @@ module _ (us : List Use) (s : Store) (named : List ℕ) (text : List Labelled) (
           (ap (λ zs. is_anything_open zs back) since_is_range
           ∙ both_false (has_open_if (reverse d.since)) (is_loop_open (reverse d.since) back) no_if no_loop)
 
-    ends : (end : Option ℕ) → x.label ≡ end → ends_loops_wrongly p end ≡ false
-    ends None e = refl
-    ends (Some n) e = by (list_any (begins_loop n) (reverse front)) refl
+      -- END DO ends no other loop
+      none_other : x.statement ≡ EndDo → is_other_open p n ≡ false
+      none_other e =
+          ap (λ zs. is_loop_open zs (x ∷ back)) since_is_range
+          ∙ none_open_since d.since (x ∷ back) (range.ended d.since x is_range e)
+          (λ m g. apart text front (x ∷ back) m once is_at
+          (ap (λ zs. stands_in zs m) d.whole
+          ∙ stands_right m d.before (d.here ∷ d.since) (or_right (bears m d.here) (stands_in d.since m) g)))
+
+    label_bears : (n : ℕ) → x.label ≡ Some n → bears n x ≡ true
+    label_bears n e = ap (is_label n) e ∙ same
       where
         same : (n == n) ≡ true
         same = grind (arith, nat_tests)
 
+    ends_one : (end : Option ℕ) → x.label ≡ end → x.statement ≡ EndDo → HasDo end front → ends_not_one p end ≡ false
+    ends_one None g e h = absurd h
+    ends_one (Some n) g e h =
+        both_false (not (list_any (begins_loop n) (reverse front))) (is_other_open p n)
+        (ap not (any_reverse (begins_loop n) front ∙ h))
+        (none_other n (label_bears n g) (first_do n front h) e)
+
+    nests : (o : Statement77) → x.statement ≡ o → Stands us s named front x.label o back → nests_wrongly o p ≡ false
+    nests (Do None v a b c) e h = absurd h
+    nests (Do (Some n) v a b c) e h =
+        ap not (ap (λ zs. stands_in zs n) h.whole ∙ stands_left n h.range h.rest (range_has n h.range h.up_to))
+    nests EndDo e h = ends_one x.label refl e h
+    nests EndIf e h =
+        both_false (not (has_open_if (reverse front))) (is_loop_open (since_if (reverse front)) back)
+        (ap not (if_open h)) (loops_ended_after h)
+    nests (ElseIf c) e h = ap not (suits h)
+    nests Else e h = ap not (suits h)
+    nests o e h = refl
+
+    ends : (end : Option ℕ) → x.label ≡ end → ends_loops_wrongly p end ≡ false
+    ends None e = refl
+    ends (Some n) e = by (list_any (begins_loop n) (reverse front)) refl
+      where
         by : (b : Bool) → list_any (begins_loop n) (reverse front) ≡ b
             → (list_any (begins_loop n) (reverse front)
             && (is_no_loop_end x.statement || is_anything_open (since_do n (reverse front)) back)) ≡ false
         by true t =
             ap (λ b. b && (is_no_loop_end x.statement || is_anything_open (since_do n (reverse front)) back)) t
-            ∙ nothing_open n (ap (is_label n) e ∙ same)
+            ∙ nothing_open n (label_bears n e)
             (first_do n front (sym (any_reverse (begins_loop n) front) ∙ t))
         by false t =
             ap (λ b. b && (is_no_loop_end x.statement || is_anything_open (since_do n (reverse front)) back)) t
@@ -405,32 +408,18 @@ both_hold : (ps : List Place) → AllByRecursion (λ (p : Place). is_wrong_label
 both_hold [] h g = tt
 both_hold (p ∷ ps) h g = (record { label = h.0; nesting = g.0 }, both_hold ps h.1 g.1)
 
-each_ends_one : (ps : List Place) → AllByRecursion (λ (p : Place). is_nested_wrongly p ≡ false) ps
-    → AllByRecursion EndsOneLoop ps
-each_ends_one [] h = tt
-each_ends_one (p ∷ ps) h = (ends, each_ends_one ps h.1)
-  where
-    ends : EndsOneLoop p
-    ends e =
-        sym (ap (λ (t : Statement77). nests_wrongly t p) e)
-        ∙ left_false (nests_wrongly p.here.statement p) (ends_loops_wrongly p p.here.label)
-        (right_false (is_left_open p) (is_closed_wrongly p) h.0)
-
 pub nested_form_block : NestedFormBlock
 nested_form_block us s named text once = (forms, is_nested)
   where
     forms : AllByRecursion (λ (p : Place). is_nested_wrongly p ≡ false) (places text)
-        → ((cs : List tree.Statement) × AreBlock us s named text cs) × AllByRecursion EndsOneLoop (places text)
+        → (cs : List tree.Statement) × AreBlock us s named text cs
     forms h = (
-      (
-        made_in us s named (rest_from us s named text),
-        text_formed us s named text (both_hold (places text) once h),
-      ),
-      each_ends_one (places text) h,
+      made_in us s named (rest_from us s named text),
+      text_formed us s named text (both_hold (places text) once h),
     )
 
-    is_nested : ((cs : List tree.Statement) × AreBlock us s named text cs) × AllByRecursion EndsOneLoop (places text)
+    is_nested : ((cs : List tree.Statement) × AreBlock us s named text cs)
         → AllByRecursion (λ (p : Place). is_nested_wrongly p ≡ false) (places text)
     is_nested h =
         at_places (λ (p : Place). is_nested_wrongly p ≡ false) [] text
-        (nested us s named text once (block_whole us s named text h.0.0 h.0.1) h.1)
+        (nested us s named text once (block_whole us s named text h.0 h.1))

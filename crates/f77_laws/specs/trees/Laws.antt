@@ -5,11 +5,11 @@ use Rattle.tree.specs.Plain as tree
 use Rattle.tree.specs.Plain.{Program}
 use Rattle.meaning.specs.Dialect.{Dialect}
 use Rattle.meaning.specs.Store.{Store}
-use Rattle.f77_grammar.specs.Statement77.{Labelled, EndDo}
+use Rattle.f77_grammar.specs.Statement77.{Labelled}
 use Rattle.f77_grammar.specs.program.Text.{Place, places}
 use Rattle.f77_grammar.specs.program.Uses.{Use}
 use Rattle.f77_grammar.specs.program.Labels.{is_wrong_label}
-use Rattle.f77_grammar.specs.program.Nesting.{is_nested_wrongly, ends_not_one}
+use Rattle.f77_grammar.specs.program.Nesting.{is_nested_wrongly}
 use Rattle.f77_laws.specs.trees.Steps.{tree_of}
 use Rattle.f77_grammar.specs.program.Program77.{findings, ReadsStatements}
 use Rattle.f77_grammar.specs.program.Blocks.{AreBlock, IsTreeOf}
@@ -26,15 +26,11 @@ AreWellNested text = AllByRecursion IsWellNested (places text)
 abbrev pub StandOnce : List Labelled → Type 0
 StandOnce text = AllByRecursion (λ (p : Place). is_wrong_label p.before p.here.label ≡ false) (places text)
 
--- an END DO ends a loop of a DO before it, and no other
-abbrev pub EndsOneLoop : Place → Type 0
-EndsOneLoop p = p.here.statement ≡ EndDo → ends_not_one p p.here.label ≡ false
-
--- there statements are nested wrongly nowhere exactly where they form a block, and each END DO in it ends one loop
+-- there statements are nested wrongly nowhere exactly where they form a block
 abbrev pub NestedFormBlock : Type 0
 NestedFormBlock = (us : List Use) (s : Store) (named : List ℕ) (text : List Labelled) → StandOnce text
     → AllByRecursion (λ (p : Place). is_nested_wrongly p ≡ false) (places text)
-    ↔ ((cs : List tree.Statement) × AreBlock us s named text cs) × AllByRecursion EndsOneLoop (places text)
+    ↔ ((cs : List tree.Statement) × AreBlock us s named text cs)
 
 -- statements form at most one block, whatever they are
 abbrev pub OneBlock : Type 0

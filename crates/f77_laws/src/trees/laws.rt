@@ -9,10 +9,11 @@ ghost use Rattle.f77_laws.specs.trees.Laws.{NestedFormBlock, OneBlock, OneTree, 
 ghost use Rattle.f77_laws.specs.trees.Laws.{TreesAreOne};
 ghost use Rattle.f77_laws.specs.trees.Pairs.{BlocksArePaired, EndIfIsPartner, OneEnd, OneIf, OpenIfIsPartner};
 ghost use Rattle.f77_laws.specs.trees.Pairs.{SinceIsBetween, UnendedStandOutside};
+ghost use Rattle.f77_laws.specs.trees.Written.{NestedAreClosed};
 
-/// Statements form at most one block; where each label stands once none is nested wrongly exactly where they form one
-/// in which each END DO ends one loop, and that is the body of the tree that is computed of them from the last one
-/// back. So the program that is read is the one that is computed.
+/// Statements form at most one block; where each label stands once none is nested wrongly exactly where they form one,
+/// and that is the body of the tree that is computed of them from the last one back. So the program that is read is the
+/// one that is computed.
 pub fn statements_form_one_tree()
     ensures one_block { OneBlock }
     ensures nested { NestedFormBlock }
@@ -20,6 +21,12 @@ pub fn statements_form_one_tree()
     ensures some_tree { SomeTree }
     ensures same { TreesAreOne }
     ensures read { ReadIsComputed }
+{}
+
+/// END DO closes the nearest DO or block IF that is open: with the labels that loops have by END DO nothing is nested
+/// wrongly exactly where the statements, as they are written, are closed in that way.
+pub fn end_do_closes_nearest()
+    ensures { NestedAreClosed }
 {}
 
 /// An END IF ends a block IF where all between them are paired. A block IF has its END IF, and an END IF its block IF,

@@ -9,7 +9,7 @@ use Rattle.tree.specs.declared.ops.Kind.TheVariants as kinds
 use Rattle.f77_grammar.specs.Statement77 as statement
 use Rattle.f77_grammar.specs.Statement77.{Statement77}
 use Rattle.f77_grammar.specs.expressions.Phrases.{Phrase, written, tree, depth}
-use Rattle.f77_grammar.specs.expressions.Reading.{is_wide}
+use Rattle.f77_grammar.specs.expressions.Words.{is_wide}
 use Rattle.f77_grammar.specs.expressions.Spelling.{Words, chars, value}
 use Rattle.f77_grammar.specs.expressions.Squeezing.{Symbol, Char}
 use Rattle.f77_grammar.specs.expressions.Words as words

@@ -9,9 +9,10 @@ use Rattle.tree.specs.declared.ops.Kind.{Kind}
 use Rattle.tree.specs.declared.ops.Kind.TheVariants.{Integer, Logical}
 use Rattle.tree.specs.declared.ops.Op.TheVariants.{Mul}
 use Rattle.tree.specs.OperatorTable.{Minus}
-use Rattle.meaning.specs.Names as names
+use Rattle.meaning.specs.SymbolicNames as names
 use Rattle.meaning.specs.Names.{begins_with}
-use Rattle.meaning.specs.Profile90.{IsDimension, IsExtent}
+use Rattle.meaning.specs.Profile90.{IsExtent}
+use Rattle.meaning.specs.Extents.{IsDimension}
 use Rattle.tree.specs.Plain.{Extent, Given, Later}
 use Rattle.std.proofs.lemmas.List.{length-map, length-replicate}
 use Rattle.f90_grammar.specs.Words as words

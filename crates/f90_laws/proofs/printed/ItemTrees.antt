@@ -6,7 +6,8 @@ use Rattle.tree.specs.declared.ops.Kind.TheVariants.{Integer, Logical}
 use Rattle.tree.specs.Plain as tree
 use Rattle.tree.specs.Plain.{Expression, Item, Items, Declaration}
 use Rattle.meaning.specs.Depths.{depth_of, depth_of_item, depth_of_items}
-use Rattle.meaning.specs.Typed90.{HasKind, HasSomeKind, IsOutputItem, AreOutputItems, IsInputItem, AreInputItems}
+use Rattle.meaning.specs.Typed90.{HasKind, HasSomeKind}
+use Rattle.meaning.specs.Items90.{IsOutputItem, AreOutputItems, IsInputItem, AreInputItems}
 use Rattle.f90_grammar.specs.Phrases.{depth, SuitsCalls}
 use Rattle.f90_grammar.specs.Items.{ItemPhrases, Sole, More, item_depth, items_depth, step_depth}
 use Rattle.f90_grammar.specs.ItemCalls.{ItemSuitsCalls, ItemsSuitCalls, StepSuitsCalls}

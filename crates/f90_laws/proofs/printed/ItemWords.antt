@@ -9,7 +9,8 @@ use Rattle.tree.specs.Plain as tree
 use Rattle.tree.specs.Plain.{Expression, Subscript, Subscripts, Item, Items, Declaration}
 use Rattle.meaning.specs.Profile90.{IsDeclaration}
 use Rattle.meaning.specs.Typed.{IsText}
-use Rattle.meaning.specs.Typed90.{HasSomeKind, IsInputItem, AreInputItems, IsOutputItem, AreOutputItems, rank_of_subscript, rank_of_subscripts}
+use Rattle.meaning.specs.Typed90.{HasSomeKind, rank_of_subscript, rank_of_subscripts}
+use Rattle.meaning.specs.Items90.{IsInputItem, AreInputItems, IsOutputItem, AreOutputItems}
 use Rattle.f90_grammar.specs.FreeForm.{has_comment, is_open_behind}
 use Rattle.f90_grammar.specs.Words as words
 use Rattle.f90_grammar.specs.Words.{Word, Symbol, Symbols, IsName, IsInLine, IsEnded, doubled, doubled_one}

@@ -21,7 +21,7 @@ use Rattle.tree.specs.Functions.{name_of_function, name_of_reduction}
 use Rattle.tree.specs.OperatorTable.{stands_between, is_unary, operand_kind, result_kind_of, left_least, right_least, may_follow}
 use Rattle.tree.specs.Plain as tree
 use Rattle.tree.specs.Plain.{Expression, Expressions, Subscript, Subscripts, Loops, Declaration}
-use Rattle.meaning.specs.Names.{IsLongName, is_letter}
+use Rattle.meaning.specs.SymbolicNames.{IsLongName, is_letter}
 use Rattle.meaning.specs.Profile90.{IsDeclaration}
 use Rattle.meaning.specs.Typed.{declared, number_of_arguments, IsLiteral}
 use Rattle.meaning.specs.Typed90.{HasKind, AreArguments, AreScalars, AreSubscripts, IsSubscript, AreLoops}

@@ -7,7 +7,8 @@ use Rattle.tree.specs.Plain as tree
 use Rattle.tree.specs.Plain.{Expression, Reference, Statement, Arms, Block, Declaration}
 use Rattle.tree.specs.declared.ops.Kind.TheVariants.{Integer, Logical}
 use Rattle.meaning.specs.Value.{named}
-use Rattle.meaning.specs.Blocks.{labels_of, all_labels_of, all_labels_in_arms, all_labels_in, Surroundings, before_labels, within_loop, IsLabel}
+use Rattle.meaning.specs.Blocks.{labels_of, Surroundings, before_labels, within_loop}
+use Rattle.meaning.specs.Labels.{all_labels_of, all_labels_in_arms, all_labels_in, IsLabel}
 use Rattle.meaning.specs.Profile90.{IsStatement, AreArms, IsBlock, IsWhole}
 use Rattle.f90_grammar.specs.Phrases.{Phrase, tree_of, value_of_digits}
 use Rattle.f90_grammar.specs.Items.{item_trees}

@@ -7,7 +7,8 @@ use Rattle.std.proofs.lemmas.Bool.Decides.{Decides-int_eq}
 use Rattle.std.proofs.lemmas.Fmt.{decimal_is_IsNumeral_wide}
 use Rattle.std.proofs.lemmas.List.{length-replicate}
 use Rattle.tree.specs.Plain.{Extent, Given, Later, Declaration}
-use Rattle.meaning.specs.Profile90.{IsDimension, IsDeclaration, IsExtent}
+use Rattle.meaning.specs.Profile90.{IsDeclaration, IsExtent}
+use Rattle.meaning.specs.Extents.{IsDimension}
 use Rattle.f90_grammar.specs.Phrases.{value_of_digits}
 use Rattle.f90_grammar.specs.Forms as forms
 use Rattle.f90_grammar.specs.PrintedForms.{bound, dimension, dimensions_of, is_allocatable, printed_declaration}

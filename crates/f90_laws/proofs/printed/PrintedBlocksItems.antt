@@ -7,7 +7,8 @@ use Rattle.tree.specs.Plain.{Expression, Expressions, Reference, Item, Items, De
 use Rattle.tree.specs.declared.ops.Kind.{Kind}
 use Rattle.tree.specs.declared.ops.Kind.TheVariants.{Integer, Logical}
 use Rattle.meaning.specs.Typed.{has_item}
-use Rattle.meaning.specs.Typed90.{HasKind, AreScalars, HasSomeKind, IsInput, IsOutputItem, AreOutputItems, IsInputItem, AreInputItems}
+use Rattle.meaning.specs.Typed90.{HasKind, AreScalars, HasSomeKind}
+use Rattle.meaning.specs.Items90.{IsInput, IsOutputItem, AreOutputItems, IsInputItem, AreInputItems}
 use Rattle.meaning.specs.Value.{named}
 use Rattle.f90_grammar.specs.Phrases.{tree_of}
 use Rattle.f90_grammar.specs.Items.{ItemPhrases, Sole, More, item_tree, item_trees, step_tree}

@@ -4,7 +4,7 @@ use Rattle.std.specs.List.{AllByRecursion, list_any}
 use Rattle.std.proofs.lemmas.List.Folds.{list_any-append, list_any_at}
 use Rattle.tree.specs.Plain as tree
 use Rattle.tree.specs.Plain.{Statement, Arms, Block}
-use Rattle.meaning.specs.Blocks.{targets_of, targets_in_arms, targets_in, all_labels_in}
+use Rattle.meaning.specs.Labels.{targets_of, targets_in_arms, targets_in, all_labels_in}
 use Rattle.f90_grammar.specs.Reading.{names_label, arms_name_label, is_target_in}
 use Rattle.f90_laws.specs.printed.ReadBack.{without_numbers, arms_without_numbers, block_without_numbers}
 

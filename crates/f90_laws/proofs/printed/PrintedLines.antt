@@ -5,7 +5,8 @@ use Rattle.std.specs.Str.Lines.{lines}
 use Rattle.std.proofs.lemmas.Bool.{and_from, not_from_false}
 use Rattle.tree.specs.Plain.{Program}
 use Rattle.tree.specs.declared.stmts.Mark.{Mark}
-use Rattle.meaning.specs.Names.{begins_with, is_letter, is_digit}
+use Rattle.meaning.specs.Names.{begins_with}
+use Rattle.meaning.specs.SymbolicNames.{is_letter, is_digit}
 use Rattle.meaning.specs.Profile90 as profile
 use Rattle.f90_grammar.specs.FreeForm.{FreeStatement, AreStatements, AreComments, AreMarks, statement_at, characters, pieces_of}
 use Rattle.f90_grammar.specs.FreeForm.AreStatements.{ends, begins}

@@ -11,11 +11,13 @@ use Rattle.tree.specs.declared.ops.Kind.TheVariants.{Integer, Logical}
 use Rattle.tree.specs.Plain as tree
 use Rattle.tree.specs.Plain.{Expression, Expressions, Subscripts, Reference, Items, Statement, Arms, Block, Extent, Given, Later, Declaration, Program}
 use Rattle.tree.specs.Limits.{array_dimensions}
-use Rattle.meaning.specs.Names.{IsLongName}
+use Rattle.meaning.specs.SymbolicNames.{IsLongName}
 use Rattle.meaning.specs.Typed.{declared}
-use Rattle.meaning.specs.Typed90.{AreScalars, AreOutputItems, AreInputItems}
+use Rattle.meaning.specs.Typed90.{AreScalars}
+use Rattle.meaning.specs.Items90.{AreOutputItems, AreInputItems}
 use Rattle.meaning.specs.Value.{named}
-use Rattle.meaning.specs.Blocks.{Surroundings, outermost, within_loop, before_labels, label_of, labels_of, IsLabel}
+use Rattle.meaning.specs.Blocks.{Surroundings, outermost, within_loop, before_labels, label_of, labels_of}
+use Rattle.meaning.specs.Labels.{IsLabel}
 use Rattle.meaning.specs.Profile90.{IsDeclaration, IsExtent, IsAssignment, IsAllocation, IsStatement, IsBlock, AreArms}
 use Rattle.f90_grammar.specs.Words.{IsName}
 use Rattle.f90_grammar.specs.Items.{IsReference}

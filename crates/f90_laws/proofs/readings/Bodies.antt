@@ -9,9 +9,11 @@ use Rattle.tree.specs.Plain as tree
 use Rattle.tree.specs.Plain.{Expression, Declaration, Items, Statement, Arms, Block}
 use Rattle.tree.specs.declared.stmts.Mark.{Mark}
 use Rattle.tree.specs.declared.functions.Intrinsic.{Intrinsic}
-use Rattle.meaning.specs.Blocks.{IsLine, IsLabel, all_labels_of, all_labels_in_arms, all_labels_in, blocks_of, blocks_in_arms, blocks_in, statements_of, statements_in_arms, statements_in}
+use Rattle.meaning.specs.Blocks.{blocks_of, blocks_in_arms, blocks_in, statements_of, statements_in_arms, statements_in}
+use Rattle.meaning.specs.Labels.{IsLine, IsLabel, all_labels_of, all_labels_in_arms, all_labels_in}
 use Rattle.meaning.specs.Typed.{declared}
-use Rattle.meaning.specs.Profile90.{IsMark, IsAllocatable}
+use Rattle.meaning.specs.Profile90.{IsMark}
+use Rattle.meaning.specs.Extents.{IsAllocatable}
 use Rattle.f90_grammar.specs.Phrases.{Phrase, tree_of, value_of_digits}
 use Rattle.f90_grammar.specs.Items.{Input, Output, step_tree, item_trees}
 use Rattle.f90_grammar.specs.Forms as forms

@@ -9,7 +9,8 @@ use Rattle.tree.specs.Plain as tree
 use Rattle.tree.specs.Plain.{Statement, Arms, Block}
 use Rattle.tree.specs.declared.stmts.Mark.{Mark}
 use Rattle.tree.specs.declared.functions.Intrinsic.{Intrinsic}
-use Rattle.meaning.specs.Blocks.{all_labels_of, all_labels_in_arms, all_labels_in, blocks_of, blocks_in_arms, blocks_in, statements_of, statements_in_arms, statements_in}
+use Rattle.meaning.specs.Blocks.{blocks_of, blocks_in_arms, blocks_in, statements_of, statements_in_arms, statements_in}
+use Rattle.meaning.specs.Labels.{all_labels_of, all_labels_in_arms, all_labels_in}
 use Rattle.f90_grammar.specs.Phrases.{value_of_digits}
 use Rattle.f90_grammar.specs.Forms as forms
 use Rattle.f90_grammar.specs.Forms.{Form, IsInner}

@@ -9,12 +9,12 @@ use Rattle.tree.specs.Plain.{Expression, Reference, Expressions, Subscript, Decl
 use Rattle.tree.specs.declared.ops.Kind.TheVariants.{Integer, Logical}
 use Rattle.tree.specs.declared.functions.Intrinsic.{Intrinsic}
 use Rattle.tree.specs.declared.functions.Intrinsic.TheVariants.{Elemental, Reduction, Spread, Transpose, Reshape}
-use Rattle.meaning.specs.Blocks.{IsLabel}
+use Rattle.meaning.specs.Labels.{IsLabel}
 use Rattle.meaning.specs.Depths.{depth_of, depth_of_each, depth_of_item, depth_of_items, depth_of_subscripts}
 use Rattle.meaning.specs.Typed.{declared, number_of_arguments, has_item}
 use Rattle.meaning.specs.Typed90.{rank_of, rank_of_subscripts, HasKind, IsScalar, AreScalars, HasSomeKind}
 use Rattle.meaning.specs.Value.{named}
-use Rattle.meaning.specs.Profile90.{IsAllocatable}
+use Rattle.meaning.specs.Extents.{IsAllocatable}
 use Rattle.f90_grammar.specs.Phrases as phrases
 use Rattle.f90_grammar.specs.Phrases.{Phrase, Literal, Truth, Name, Listed, Paren, Signed, Joined, Values, Looped, Parts, IsExpression, AreParts, depth, depth_of_parts, tree_of, trees_of_parts, called, value_of_digits, SuitsCalls, PartsSuitCalls, AreValues}
 use Rattle.f90_grammar.specs.Items.{ItemPhrase, Of, Text, Loop, ItemPhrases, Sole, More, Direction, Input, Output, IsReference, IsVariable, MayStand, IsStep, IsItem, AreItems, step_tree, item_tree, item_trees, step_depth, item_depth, items_depth}

@@ -5,7 +5,7 @@ use Rattle.std.specs.Prelude.{◌==◌}
 use Rattle.std.specs.List.{AllByRecursion, list_any}
 use Rattle.std.proofs.lemmas.Bool.Decides.{Decides-eqb, leb_tells}
 use Rattle.std.proofs.lemmas.List.Elements.{Contains-append_cases}
-use Rattle.meaning.specs.Blocks.{IsWithoutRepeats}
+use Rattle.meaning.specs.Labels.{IsWithoutRepeats}
 use Rattle.tree.specs.Limits as limits
 use Rattle.f90_grammar.specs.Phrases.{value_of_digits}
 use Rattle.f90_grammar.specs.Forms as forms

@@ -11,10 +11,11 @@ use Rattle.tree.specs.Plain as tree
 use Rattle.tree.specs.Plain.{Declaration, Program, Statement}
 use Rattle.tree.specs.declared.refusals.Cause.{Cause}
 use Rattle.tree.specs.declared.refusals.Cause.TheVariants.{Deep90, Structure, TypeClash90, Limit90, BadByte90}
-use Rattle.meaning.specs.Names.{IsLongName}
-use Rattle.meaning.specs.Blocks.{Surroundings, outermost, IsLine, IsWithoutRepeats, all_labels_in, targets_in}
+use Rattle.meaning.specs.SymbolicNames.{IsLongName}
+use Rattle.meaning.specs.Blocks.{Surroundings, outermost}
+use Rattle.meaning.specs.Labels.{IsLine, IsWithoutRepeats, all_labels_in, targets_in}
 use Rattle.meaning.specs.Typed.{declared, dimensions}
-use Rattle.meaning.specs.Profile77.{array_elements}
+use Rattle.meaning.specs.Extents.{array_elements}
 use Rattle.meaning.specs.Profile90.{IsDeclaration, IsProgram90}
 use Rattle.f90_grammar.specs.FreeForm.{Piece, written_piece, IsPiece}
 use Rattle.f90_grammar.specs.LineCauses.{Standing, is_in_constant, LeadTo, is_bad_byte}

@@ -6,12 +6,16 @@ use Rattle.tree.specs.declared.ops.Kind.TheVariants.{Integer, Logical}
 use Rattle.tree.specs.Limits as limits
 use Rattle.tree.specs.Plain as tree
 use Rattle.tree.specs.Plain.{Expression, Reference, Expressions, Declaration, Item, Items, Statement, Arms, Block}
-use Rattle.meaning.specs.Blocks.{labels_of, Surroundings, within_loop, before_labels, IsLine, IsLabel, has_arm}
+use Rattle.meaning.specs.Blocks.{labels_of, Surroundings, within_loop, before_labels}
+use Rattle.meaning.specs.Labels.{IsLine, IsLabel, has_arm}
 use Rattle.meaning.specs.Depths.{depth_of, depth_of_each, depth_of_items}
 use Rattle.meaning.specs.Typed.{declared, has_item, IsText, number_of_arguments}
-use Rattle.meaning.specs.Typed90.{rank_of, rank_of_subscripts, HasKind, IsScalar, AreScalars, HasSomeKind, IsDoVariable, IsInput, IsOutputItem, AreOutputItems, IsInputItem, AreInputItems}
+use Rattle.meaning.specs.Typed90.{rank_of, rank_of_subscripts, HasKind, IsScalar, AreScalars, HasSomeKind, IsDoVariable}
+use Rattle.meaning.specs.Items90.{IsInput, IsOutputItem, AreOutputItems, IsInputItem, AreInputItems}
 use Rattle.meaning.specs.Value.{named}
-use Rattle.meaning.specs.Profile90.{IsMarked, IsAllocatable, IsWhole, IsWholeScalar, IsAssignment, IsMasked, IsAllocation, IsStatement, AreArms, IsBlock}
+use Rattle.meaning.specs.Profile90.{IsMarked, IsWhole, IsWholeScalar, IsAssignment, IsMasked, IsAllocation, IsStatement}
+use Rattle.meaning.specs.Profile90.{AreArms, IsBlock}
+use Rattle.meaning.specs.Extents.{IsAllocatable}
 use Rattle.f90_grammar.specs.Items.{Direction, Input, Output}
 use Rattle.f90_grammar.specs.Suited.{SuitsAssignment, SuitsMask, AreNumbers, SuitsList, SuitsItem, SuitsItems, SuitsAllocation}
 use Rattle.f90_grammar.specs.Surroundings.{StandsIn, StandsWithin, StandsInArms, KeepsVariables, ItemKeepsVariables, ItemsKeepVariables, SuitsSurroundings}

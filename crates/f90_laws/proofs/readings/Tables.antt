@@ -17,10 +17,12 @@ use Rattle.tree.specs.Functions.{intrinsic_named}
 use Rattle.tree.specs.Plain as tree
 use Rattle.tree.specs.Plain.{Declaration, Program}
 use Rattle.tree.specs.declared.ops.Kind.{Kind}
-use Rattle.meaning.specs.Names.{IsLongName, IsInByteOrder}
+use Rattle.meaning.specs.Names.{IsInByteOrder}
+use Rattle.meaning.specs.SymbolicNames.{IsLongName}
 use Rattle.meaning.specs.Typed.{declared, dimensions}
-use Rattle.meaning.specs.Profile77.{array_elements}
-use Rattle.meaning.specs.Profile90.{IsDimension, IsExtent, IsDeclaration, AreDeclarations}
+use Rattle.meaning.specs.Extents.{array_elements}
+use Rattle.meaning.specs.Profile90.{IsExtent, IsDeclaration, AreDeclarations}
+use Rattle.meaning.specs.Extents.{IsDimension}
 use Rattle.meaning_laws.proofs.profiles.Names.{found, not_declared, once}
 use Rattle.f90_grammar.specs.Forms as forms
 use Rattle.f90_grammar.specs.Forms.{Form, Entity, Dimension, SuitsAllocatable, IsList, has_dimensions, IsEntity, IsWritten}

@@ -5,7 +5,8 @@ use Rattle.std.proofs.lemmas.Bool.Decides.{Decides-eqb}
 use Rattle.std.proofs.lemmas.List.Elements.{Contains-append_left, Contains-append_right, Contains-append_cases}
 use Rattle.tree.specs.Plain as tree
 use Rattle.tree.specs.Plain.{Expression, Statement, Arms, Block}
-use Rattle.meaning.specs.Blocks.{targets_of, targets_in_arms, targets_in, Surroundings, within_loop, before_labels, labels_of}
+use Rattle.meaning.specs.Blocks.{Surroundings, within_loop, before_labels, labels_of}
+use Rattle.meaning.specs.Labels.{targets_of, targets_in_arms, targets_in}
 use Rattle.f90_grammar.specs.Reading.{names_label, arms_name_label, is_target_in}
 use Rattle.f90_grammar.specs.Surroundings.{StandsIn, StandsWithin, StandsInArms}
 use Rattle.f90_grammar.specs.Surroundings.StandsIn.{itself, further, inside}

@@ -9,7 +9,7 @@ use Rattle.std.proofs.lemmas.Int.Digits.{digits_value-lt}
 use Rattle.tree.specs.Plain as tree
 use Rattle.tree.specs.Plain.{Item, Items}
 use Rattle.tree.specs.declared.functions.Intrinsic.{Intrinsic}
-use Rattle.meaning.specs.Names.{IsLongName}
+use Rattle.meaning.specs.SymbolicNames.{IsLongName}
 use Rattle.meaning.specs.Typed.{IsText}
 use Rattle.f90_grammar.specs.LineCauses.{is_bad_byte}
 use Rattle.f90_grammar.specs.Words as words

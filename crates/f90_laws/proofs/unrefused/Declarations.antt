@@ -15,8 +15,9 @@ use Rattle.std.proofs.lemmas.Slice.Eq.{bytes_eq-Decides}
 use Rattle.tree.specs.Plain.{Declaration, Extent, Given, Later}
 use Rattle.meaning.specs.Names.{is_among, IsInByteOrder}
 use Rattle.meaning.specs.Typed.{dimensions}
-use Rattle.meaning.specs.Profile77.{array_elements}
-use Rattle.meaning.specs.Profile90.{IsDimension, IsDeclaration, IsExtent}
+use Rattle.meaning.specs.Extents.{array_elements}
+use Rattle.meaning.specs.Profile90.{IsDeclaration, IsExtent}
+use Rattle.meaning.specs.Extents.{IsDimension}
 use Rattle.f90_grammar.specs.Blocks.{Placed}
 use Rattle.f90_grammar.specs.Reading.{entity_declaration}
 use Rattle.f90_grammar.specs.Declared.{declarations_in, declarations_of, names_of, is_repeated, declares_again}

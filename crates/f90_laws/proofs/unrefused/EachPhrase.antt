@@ -8,7 +8,8 @@ use Rattle.tree.specs.declared.ops.Kind.TheVariants.{Integer, Logical}
 use Rattle.tree.specs.Plain as tree
 use Rattle.tree.specs.Plain.{Expression, Expressions, Subscripts, Reference, Item, Items, Declaration}
 use Rattle.meaning.specs.Value.{named}
-use Rattle.meaning.specs.Typed90.{HasKind, AreScalars, IsOutputItem, AreOutputItems, IsInputItem, AreInputItems}
+use Rattle.meaning.specs.Typed90.{HasKind, AreScalars}
+use Rattle.meaning.specs.Items90.{IsOutputItem, AreOutputItems, IsInputItem, AreInputItems}
 use Rattle.meaning.specs.Profile90.{IsWhole}
 use Rattle.f90_grammar.specs.Phrases.{Phrase}
 use Rattle.f90_grammar.specs.Items.{ItemPhrase, Of, Text, Loop, ItemPhrases, Sole, More, Direction, Input, Output}

@@ -8,7 +8,8 @@ use Rattle.std.proofs.lemmas.List.Folds.{list_any-append}
 use Rattle.std.proofs.lemmas.List.Elements.{Contains-append_right}
 use Rattle.tree.specs.Plain as tree
 use Rattle.tree.specs.Plain.{Statement, Arms, Block, Declaration, Program}
-use Rattle.meaning.specs.Blocks.{Surroundings, outermost, within_loop, before_labels, labels_of, all_labels_of, all_labels_in_arms, all_labels_in, IsWithoutRepeats, IsLabel}
+use Rattle.meaning.specs.Blocks.{Surroundings, outermost, within_loop, before_labels, labels_of}
+use Rattle.meaning.specs.Labels.{all_labels_of, all_labels_in_arms, all_labels_in, IsWithoutRepeats, IsLabel}
 use Rattle.meaning.specs.Profile90.{IsStatement, AreArms, IsBlock, IsProgram90}
 use Rattle.f90_grammar.specs.Words.{IsDigits}
 use Rattle.f90_grammar.specs.Phrases.{value_of_digits}

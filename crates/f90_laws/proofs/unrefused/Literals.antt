@@ -11,7 +11,8 @@ use Rattle.tree.specs.declared.functions.Intrinsic.{Intrinsic}
 use Rattle.tree.specs.OperatorTable.{left_least, right_least}
 use Rattle.tree.specs.Plain as tree
 use Rattle.tree.specs.Plain.{Expression, Expressions, Subscript, Subscripts, Loops, Item, Items, Reference, Extent, Given, Later, Declaration}
-use Rattle.meaning.specs.Profile90.{IsExtent, IsDimension}
+use Rattle.meaning.specs.Profile90.{IsExtent}
+use Rattle.meaning.specs.Extents.{IsDimension}
 use Rattle.f90_grammar.specs.Phrases.{Phrase, Paren, Value, Parts, One, Then, Phrases, Sole, More, Turn, Innermost, Round, level, value_of_digits}
 use Rattle.f90_grammar.specs.Printing.{fit, unary_phrase, is_one, section, digits_of, phrase_of, part_of, more_parts}
 use Rattle.f90_grammar.specs.Printing.{more_arguments, more_values, rounds}

@@ -8,9 +8,12 @@ use Rattle.tree.specs.Plain as tree
 use Rattle.tree.specs.Plain.{Expression, Expressions, Reference, Item, Items, Statement, Arms, Block, Declaration, Program}
 use Rattle.meaning.specs.Depths.{depth_of_items}
 use Rattle.meaning.specs.Typed.{declared}
-use Rattle.meaning.specs.Typed90.{AreInputItems, AreOutputItems}
-use Rattle.meaning.specs.Blocks.{Surroundings, outermost, within_loop, before_labels, labels_of, IsLabel}
-use Rattle.meaning.specs.Profile90.{IsDeclaration, IsAllocatable, IsWholeScalar, IsAssignment, IsMasked, IsAllocation, IsStatement, AreArms, IsBlock, IsProgram90}
+use Rattle.meaning.specs.Items90.{AreInputItems, AreOutputItems}
+use Rattle.meaning.specs.Blocks.{Surroundings, outermost, within_loop, before_labels, labels_of}
+use Rattle.meaning.specs.Labels.{IsLabel}
+use Rattle.meaning.specs.Profile90.{IsDeclaration, IsWholeScalar, IsAssignment, IsMasked, IsAllocation, IsStatement}
+use Rattle.meaning.specs.Profile90.{AreArms, IsBlock, IsProgram90}
+use Rattle.meaning.specs.Extents.{IsAllocatable}
 use Rattle.f90_grammar.specs.Forms as forms
 use Rattle.f90_grammar.specs.Forms.{Form}
 use Rattle.f90_grammar.specs.Printing.{phrase_of}

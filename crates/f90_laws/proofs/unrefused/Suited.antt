@@ -5,7 +5,8 @@ use Rattle.tree.specs.declared.ops.Kind.TheVariants.{Integer, Logical}
 use Rattle.tree.specs.Plain as tree
 use Rattle.tree.specs.Plain.{Expression, Expressions, Item, Items, Reference, Declaration, Later}
 use Rattle.meaning.specs.Value.{named}
-use Rattle.meaning.specs.Typed90.{HasKind, IsScalar, IsInput, IsOutputItem, AreOutputItems, IsInputItem, AreInputItems}
+use Rattle.meaning.specs.Typed90.{HasKind, IsScalar}
+use Rattle.meaning.specs.Items90.{IsInput, IsOutputItem, AreOutputItems, IsInputItem, AreInputItems}
 use Rattle.meaning.specs.Profile90.{IsWhole, IsAssignment, IsMasked}
 use Rattle.meaning.specs.Blocks.{Surroundings}
 use Rattle.f90_grammar.specs.Phrases.{tree_of}

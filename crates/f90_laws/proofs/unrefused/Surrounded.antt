@@ -4,8 +4,10 @@ use Rattle.std.specs.List.{AllByRecursion}
 use Rattle.std.proofs.lemmas.List.Elements.{All-contains, All-from_recursion}
 use Rattle.tree.specs.Plain as tree
 use Rattle.tree.specs.Plain.{Statement, Arms, Block, Declaration, Item, Items, Program}
-use Rattle.meaning.specs.Typed90.{IsDoVariable, IsInput, IsOutputItem, AreOutputItems, IsInputItem, AreInputItems}
-use Rattle.meaning.specs.Blocks.{Surroundings, within_loop, before_labels, label_of, labels_of, IsLabel}
+use Rattle.meaning.specs.Typed90.{IsDoVariable}
+use Rattle.meaning.specs.Items90.{IsInput, IsOutputItem, AreOutputItems, IsInputItem, AreInputItems}
+use Rattle.meaning.specs.Blocks.{Surroundings, within_loop, before_labels, label_of, labels_of}
+use Rattle.meaning.specs.Labels.{IsLabel}
 use Rattle.meaning.specs.Profile90.{IsStatement, AreArms, IsBlock}
 use Rattle.f90_grammar.specs.Items.{Input, Output}
 use Rattle.f90_grammar.specs.Surroundings.{StandsIn, StandsWithin, StandsInArms, KeepsVariables, ItemKeepsVariables, ItemsKeepVariables, SuitsSurroundings}

@@ -11,7 +11,7 @@ use Rattle.tree.specs.declared.refusals.Cause.{Cause}
 use Rattle.tree.specs.declared.refusals.Cause.TheVariants.{WideLiteral90, Deep90, Structure, Declared90, TypeClash90, Limit90}
 use Rattle.meaning.specs.Blocks.{outermost, blocks_of, blocks_in_arms, blocks_in}
 use Rattle.meaning.specs.Profile90.{IsProgram90, IsDeclaration}
-use Rattle.meaning.specs.Profile77.{array_elements}
+use Rattle.meaning.specs.Extents.{array_elements}
 use Rattle.meaning.specs.Names.{IsInByteOrder}
 use Rattle.meaning.specs.Typed.{dimensions}
 use Rattle.f90_grammar.specs.PrintedForms.{Printed, printed_program}

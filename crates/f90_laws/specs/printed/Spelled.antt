@@ -2,7 +2,8 @@
 use Rattle.std.specs.Prelude.{◌≡◌, ◌≤◌, false, ◌||◌, IsTrue, List}
 use Rattle.std.specs.List.{AllByRecursion}
 use Rattle.tree.specs.Plain.{Program}
-use Rattle.meaning.specs.Names.{is_letter, is_digit, begins_with}
+use Rattle.meaning.specs.Names.{begins_with}
+use Rattle.meaning.specs.SymbolicNames.{is_letter, is_digit}
 use Rattle.meaning.specs.Profile90.{IsProgram90}
 use Rattle.f90_grammar.specs.FreeForm.{has_comment, is_open_behind}
 use Rattle.f90_grammar.specs.Words.{Word, HasWords}

@@ -12,7 +12,7 @@ use Rattle.tree.specs.declared.ops.Kind.TheVariants.{Integer, Logical}
 use Rattle.meaning.specs.Value.{named}
 use Rattle.meaning.specs.Typed.{number_of_arguments, number_of_subscripts, rank_of_extent, declared}
 use Rattle.meaning.specs.Typed90.{SuitsDimensions, rank_of, rank_of_subscripts, IsIntegerScalar, IsScalar, HasKind}
-use Rattle.meaning.specs.Profile90.{IsAllocatable}
+use Rattle.meaning.specs.Extents.{IsAllocatable}
 use Rattle.f90_grammar.specs.Items.{Direction, Input, Output}
 use Rattle.f90_grammar.specs.Suited.{SuitsAssignment, SuitsMask, AreNumbers, SuitsList, SuitsItem, SuitsItems}
 use Rattle.f90_grammar.specs.Suited.{SuitsAllocation}

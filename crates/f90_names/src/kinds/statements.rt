@@ -6,7 +6,7 @@ ghost use Rattle.tree.specs.View.{expression_of, reference_of, item_of};
 ghost use Rattle.tree.specs.declared.ops.Kind.TheVariants.{Logical};
 ghost use Rattle.meaning.specs.Typed.{declared};
 ghost use Rattle.meaning.specs.Typed90.{IsScalar, IsIntegerScalar};
-ghost use Rattle.meaning.specs.Profile90.{IsAllocatable};
+ghost use Rattle.meaning.specs.Extents.{IsAllocatable};
 ghost use Rattle.f90_grammar.specs.Suited.{SuitsAssignment, SuitsMask, AreNumbers, SuitsItems, SuitsAllocation};
 ghost use Rattle.f90_grammar.specs.Items.{Input, Output};
 ghost use Rattle.f90_names.specs.kinds.declarations.Names.{AreNamesOf, found};

@@ -8,7 +8,7 @@ use Rattle.tree.specs.declared.ops.Kind.TheVariants.{Logical}
 use Rattle.tree.specs.declared.stmts.Stmt.{Stmt}
 use Rattle.meaning.specs.Typed.{declared}
 use Rattle.meaning.specs.Typed90.{IsScalar}
-use Rattle.meaning.specs.Profile90.{IsAllocatable}
+use Rattle.meaning.specs.Extents.{IsAllocatable}
 use Rattle.f90_grammar.specs.Items.{Input, Output}
 use Rattle.f90_grammar.specs.Suited.{SuitsAssignment, SuitsMask, AreNumbers, SuitsItems, SuitsAllocation}
 use Rattle.f90_blocks.specs.declared.statement_trees.nodes.StatementTree.{StatementTree}

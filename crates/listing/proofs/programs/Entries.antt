@@ -3,6 +3,7 @@ use Rattle.std.proofs.Common.{◌≡◌, ℕ, ◌+◌, ◌<◌, ◌≤◌, Resul
 use Rattle.std.specs.Prelude.{IfOk}
 use Rattle.std.specs.List.{flat_map}
 use Rattle.std.proofs.lemmas.List.{append-nil, map-append, take_all}
+use Rattle.array_form.specs.holds.Holds.{all_holds}
 use Rattle.dependence_graph.specs.declared.graphs.Cycle.{Cycle}
 use Rattle.dependence_graph.specs.declared.graphs.Graph.{Graph}
 use Rattle.dependence_graph.specs.declared.graphs.Hold.{Hold}
@@ -20,9 +21,9 @@ use Rattle.listing.specs.graphs.Lines.{Entry, KeepEntry}
 use Rattle.listing.specs.graphs.Listing.{lines_of_entries, lines_of_entry, listing_of}
 use Rattle.listing.proofs.graphs.LoopLines.{entries-append, one_more}
 use Rattle.listing.specs.programs.Listing.{AreLinesOf, HasEntries, HasNestEntries, HaveEntries, IsListing, IsListingText}
-use Rattle.listing.specs.programs.Listing.{all_holds, kept, not_built, reason_word, tested_entries}
+use Rattle.listing.specs.programs.Listing.{kept, not_built, reason_word, tested_entries}
 use Rattle.listing.specs.programs.Testable.{AreTestsOf}
-use Rattle.normal_loops.specs.Listed.{IsListedFrom}
+use Rattle.listing.specs.programs.Stages.{IsListedFrom}
 
 -- an answer with lines of such entries
 abbrev pub GivesLines : {E : Type 0} → Result (List Line) E → (List Entry → Type 0) → Type 0

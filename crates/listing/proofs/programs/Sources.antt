@@ -1,34 +1,29 @@
 -- What is found in a program of FORTRAN 77, and what is made of its nests.
 use Rattle.std.proofs.Common.{◌≡◌, ℕ, ◌≤◌, ◌<◌, ◌^◌, true, false, Bool, Some, None, List, length, map, get_or}
-use Rattle.std.proofs.Common.{All, Contains, sym, ap, ◌∙◌, subst, arith}
-use Rattle.std.specs.Prelude.{slice_get}
+use Rattle.std.proofs.Common.{Contains, sym, ap, ◌∙◌, subst, arith}
 use Rattle.std.proofs.lemmas.List.{get_or-map, length-map}
-use Rattle.tree.specs.Plain.{Program, Reference}
+use Rattle.tree.specs.Plain.{Block, Program, Reference}
 use Rattle.tree.specs.View.{declaration_of}
 use Rattle.tree.specs.declared.programs.Decl.{Decl}
 use Rattle.meaning.specs.Dialect.{fortran77}
 use Rattle.meaning.specs.Profile77.{IsProgram77}
-use Rattle.components.specs.Lists.{Distinct}
 use Rattle.dependence_graph.specs.declared.graphs.Place.{Place}
-use Rattle.dependence_graph.specs.nest_graph.Ready.{IsReady, IsReadyStatement}
 use Rattle.dependence_graph.specs.nest_graph.Tested.{IsReference}
-use Rattle.nest.specs.Bodies.{Standing, loops_of, statements_of}
-use Rattle.nest.specs.Plain.{Loop, Nest, Part}
+use Rattle.nest.specs.Bodies.{Standing}
+use Rattle.nest.specs.Plain.{Nest}
 use Rattle.nest_reasons.specs.Symbols.{symbols_of}
 use Rattle.find_nests.proofs.FoundLaws.{found_nest_is_loop}
 use Rattle.find_nests.specs.Found.{Found, InNest, found_in}
 use Rattle.find_nests.specs.View.{found_of}
 use Rattle.find_nests.specs.Laws.{IsFoundNest}
 use Rattle.find_nests.specs.declared.search.Found.{Found as Found'}
-use Rattle.normal_loops.specs.Listed.{IsListedFrom}
 use Rattle.normal_loops.specs.Normalised.{normalised}
 use Rattle.pass_laws.proofs.FoundSources.PlainNests.{normal_nests_are_plain}
-use Rattle.pass_laws.proofs.ListedNests.ListedNests.{listed_nest_is_normal, normal_nest_is_listed}
-use Rattle.pass_laws.proofs.ReadyNests.Made.{made_of}
 use Rattle.pass_laws.proofs.ReadyNests.NormalReady.{normal_nest_is_ready}
 use Rattle.pass_laws.proofs.ReadyNests.SourceRanks.{few_symbols}
 use Rattle.pass_laws.specs.found_sources.Alone.{HasLoopsAlone}
 use Rattle.listing.proofs.programs.AloneLaws.{alone, not_alone}
+use Rattle.listing.proofs.programs.Stages.{listed_is_passed}
 use Rattle.listing.specs.programs.Alone.{is_alone}
 use Rattle.listing.specs.programs.Laws.{ListedNestIsTestable}
 use Rattle.listing.specs.programs.Passed.{IsPassedAs}
@@ -85,37 +80,32 @@ made_nest_is_testable p n m profile among made only = record {
 pub testable : (n m : Nest) → IsNestOfSource n → IsPassedAs n m → IsTestable m
 testable n m h passed = made_nest_is_testable h.program n m h.profile h.among passed.made passed.alone
 
--- a nest with the same body and symbols
-module _ (n m : Nest) (body : m.body ≡ n.body) (symbols : m.symbols ≡ n.symbols) (h : IsTestable n) where
-  at_place : (p : Place) (s : Standing) (r : Reference) → IsReference m p s r → IsReference n p s r
-  at_place p s r i = record {
-    statement = ap (λ (b : Part). slice_get (statements_of b) p.stmt) (sym body) ∙ i.statement;
-    reference = i.reference;
-  }
+-- what stands behind a nest isn't tested
+module _ (n : Nest) (b : Block) (h : IsTestable n) where
+  abbrev beside : Nest
+  beside = record n { after = b }
 
-  ready_too : IsReady m
-  ready_too = record {
-    symbols = subst (λ (xs : List (List ℕ)). length xs ≤ 2 ^ 16) (sym symbols) h.ready.symbols;
-    statements = subst (λ (b : Part). All IsReadyStatement (statements_of b)) (sym body) h.ready.statements;
-    ranks = λ p q s t r u i j e. h.ready.ranks p q s t r u (at_place p s r i) (at_place q t u j) e;
-    loops = subst (λ (b : Part). Distinct (map (λ (l : Loop). l.number) (loops_of b))) (sym body) h.ready.loops;
-  }
+  at_place : (p : Place) (s : Standing) (r : Reference) → IsReference beside p s r → IsReference n p s r
+  at_place p s r i = record { statement = i.statement; reference = i.reference }
 
-  testable_too : IsTestable m
+  testable_too : IsTestable beside
   testable_too = record {
-    unguarded = subst (λ (b : Part). All (λ (s : Standing). s.statement.guard ≡ None) (statements_of b)) (sym body) h.unguarded;
-    ready = ready_too;
+    unguarded = h.unguarded;
+    ready = record {
+      symbols = h.ready.symbols;
+      statements = h.ready.statements;
+      ranks = λ p q s t r u i j e. h.ready.ranks p q s t r u (at_place p s r i) (at_place q t u j) e;
+      loops = h.ready.loops;
+    };
   }
 
 pub listed_nest_is_testable : ListedNestIsTestable
 listed_nest_is_testable p n m profile among listed =
-    let w = listed_nest_is_normal n m listed in
-    let symbols : m.symbols ≡ w.normal.symbols =
-    ap (λ (k : Nest). k.symbols) listed.rest ∙ sym (made_of n w.normal w.made).symbols in
-    testable_too w.normal m w.body symbols
-    (made_nest_is_testable p n w.normal profile among w.made (subst HasLoopsAlone w.body w.alone))
+    let w = listed_is_passed n m listed in
+    subst IsTestable (sym w.same)
+    (testable_too w.nest m.after (made_nest_is_testable p n w.nest profile among w.passed.made w.passed.alone))
 
--- ---- what passes make, and which nests are listed
+-- ---- what passes make
 
 pub passed_as : (n m : Nest) (a : Bool) → normalised n ≡ Some m → a ≡ is_alone m.body → a ≡ true → IsPassedAs n m
 passed_as n m a made test e = record { made = made; alone = alone m.body (sym test ∙ e) }
@@ -129,11 +119,3 @@ others_passed n m a made test e k h =
     let also = h.made in
     let same : k ≡ m = cc in
     not_alone m.body (sym test ∙ e) (subst (λ (j : Nest). HasLoopsAlone j.body) same h.alone)
-
-pub passed_is_listed : (n m : Nest) → IsPassedAs n m → IsListedFrom n m
-passed_is_listed n m h = normal_nest_is_listed n m h.made h.alone
-
-pub none_listed : (n : Nest) → ((m : Nest) → IsPassedAs n m → ⊥) → (m : Nest) → IsListedFrom n m → ⊥
-none_listed n none m listed =
-    let w = listed_nest_is_normal n m listed in
-    none w.normal (record { made = w.made; alone = subst HasLoopsAlone w.body w.alone })

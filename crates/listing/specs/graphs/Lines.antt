@@ -1,5 +1,5 @@
 -- What a line of a listing says, and its text.
-use Rattle.std.specs.Prelude.{ℕ, zero, suc, ◌+◌, ℤ, Option, Some, None, List, [], ◌∷◌, ◌++◌, codes}
+use Rattle.std.specs.Prelude.{ℕ, zero, suc, ℤ, Option, Some, None, List, [], ◌∷◌, ◌++◌, codes}
 use Rattle.std.specs.Fmt.{decimal, signed_decimal}
 use Rattle.std.specs.List.{flat_map}
 use Rattle.subscripts.specs.declared.affine.Dir.{Dir}
@@ -8,6 +8,7 @@ use Rattle.dependence_graph.specs.declared.graphs.Dep.{Dep}
 use Rattle.dependence_graph.specs.declared.graphs.Hold.{Hold}
 use Rattle.dependence_graph.specs.declared.graphs.Place.{Place}
 use Rattle.listing.specs.graphs.Words.{kind_word, test_word, hold_word, sign_of}
+use Rattle.nest.specs.Bodies.{statement_number}
 
 -- a dependence of the second reference on the first, in these directions of their common loops
 pub record Dependence : Type 0 where
@@ -54,9 +55,9 @@ tuple_text text (x ∷ xs) = codes "(" ++ (text x ++ (flat_map (λ y. codes "," 
 abbrev pub statement_name : ℕ → List ℕ
 statement_name s = codes "S" ++ decimal s
 
--- the statements of a graph are numbered from 0, and those of a listing from 1
+-- a graph has the statement's place, and a listing its number
 abbrev pub place_text : Place → List ℕ
-place_text p = statement_name (p.stmt + 1) ++ (codes "." ++ decimal p.at)
+place_text p = statement_name (statement_number p.stmt) ++ (codes "." ++ decimal p.at)
 
 abbrev pub dependence_text : Dependence → List ℕ
 dependence_text d =

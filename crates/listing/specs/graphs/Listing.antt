@@ -44,7 +44,7 @@ abbrev mutual
 abbrev pub loop_entries_of : ℕ → Branch → List Entry
 loop_entries_of outer b = loop_entries_in outer b.body
 
--- ---- statements, by their numbers from 1
+-- ---- statements, by their numbers
 
 abbrev pub loop_numbers : List Loop → List ℕ
 loop_numbers ls = map (λ (l : Loop). l.number) ls
@@ -59,7 +59,7 @@ statement_entries s (t ∷ ts) = statement_entry s t ∷ statement_entries (suc 
 
 -- ---- dependences
 
--- how many loops are round the statement with this number, from 0
+-- how many loops are round the statement with this place
 abbrev pub depth_of : List Standing → ℕ → ℕ
 depth_of ts s = elim (slice_get ts s) [ Some t ↦ length t.loops | None ↦ 0 ]
 

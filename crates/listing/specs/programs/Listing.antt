@@ -1,22 +1,19 @@
 -- The listing of a program: its kept loops with their reasons, and its nests with their dependences and holds.
 use mathlib.Core.Logic.{inl, inr}
-use Rattle.std.specs.Prelude.{◌≡◌, ◌⊎◌, ℕ, List, [], ◌∷◌, ◌++◌, length, codes}
+use Rattle.std.specs.Prelude.{◌≡◌, ◌⊎◌, ℕ, List, [], ◌∷◌, ◌++◌, codes}
 use Rattle.std.specs.List.{flat_map}
 use Rattle.tree.specs.Plain.{Program}
-use Rattle.meaning.specs.ArrayValues.{counted}
-use Rattle.nest.specs.Bodies.{nest_statements}
 use Rattle.nest.specs.Plain.{Nest}
 use Rattle.find_nests.specs.Found.{Found, InNest, Kept, found_in}
 use Rattle.find_nests.specs.declared.reasons.Reason.{Reason}
 use Rattle.find_nests.specs.declared.reasons.Reason.TheVariants.{Exit, InnerIf, Bound, Step, Deep, Large}
-use Rattle.normal_loops.specs.Listed.{IsListedFrom}
 use Rattle.dependence_graph.specs.declared.graphs.Graph.{Graph}
-use Rattle.dependence_graph.specs.declared.graphs.Hold.{Hold}
 use Rattle.dependence_graph.specs.nest_graph.Graph.{IsGraphOf}
-use Rattle.array_form.specs.holds.Holds.{holds_of}
+use Rattle.array_form.specs.holds.Holds.{all_holds}
 use Rattle.f90_grammar.specs.PrintedText.{with_line_feed}
 use Rattle.listing.specs.graphs.Lines.{Entry, KeepEntry}
 use Rattle.listing.specs.graphs.Listing.{entries_of, lines_of_entries}
+use Rattle.listing.specs.programs.Stages.{IsListedFrom}
 
 -- why a loop is kept
 abbrev pub reason_word : Reason → List ℕ
@@ -29,10 +26,6 @@ reason_word Large = codes "LARGE"
 
 -- ---- nests
 
--- the holds of all statements, which are numbered from 1, in their order
-abbrev pub all_holds : Nest → List Hold
-all_holds n = flat_map (holds_of n) (counted 1 (length (nest_statements n)))
-
 -- with this number, by its graph and all its holds; cycles aren't listed so far
 abbrev pub tested_entries : ℕ → Nest → Graph → List Entry
 tested_entries number n g = entries_of n number g (all_holds n) []
@@ -44,8 +37,8 @@ HasGraphEntries number n entries = (g : Graph) × IsGraphOf n g × (entries ≡ 
 abbrev pub not_built : Nest → List Entry
 not_built n = KeepEntry n.line (codes "NOTBUILT") ∷ []
 
--- A nest is listed by the graph of the nest that is made of it, whose loops go from 1 by 1, if there is one; an IF, a
--- label or a jump makes none
+-- A nest is listed by the graph of the last nest that passes make of it, if there is one; an IF, a label or a jump
+-- makes none
 abbrev pub HasNestEntries : Nest → List Entry → Type 0
 HasNestEntries n entries =
     ((m : Nest) × IsListedFrom n m × HasGraphEntries n.number m entries)

@@ -1,4 +1,4 @@
--- What is asked of a nest whose dependences are tested, and what the tests give.
+-- What is known of a nest whose dependences are tested, and what the tests give.
 use Rattle.std.specs.Prelude.{◌≡◌, ℕ, None, All, List}
 use Rattle.dependence_graph.specs.declared.graphs.Graph.{Graph}
 use Rattle.dependence_graph.specs.declared.graphs.Hold.{Hold}
@@ -7,8 +7,10 @@ use Rattle.dependence_graph.specs.nest_graph.Ready.{IsReady}
 use Rattle.nest.specs.Bodies.{Standing, nest_statements}
 use Rattle.nest.specs.Plain.{Nest}
 use Rattle.listing.specs.graphs.Listing.{lines_of_entries}
-use Rattle.listing.specs.programs.Listing.{all_holds, tested_entries}
+use Rattle.array_form.specs.holds.Holds.{all_holds}
+use Rattle.listing.specs.programs.Listing.{tested_entries}
 
+-- no statement has a guard, and it may be tested
 pub record IsTestable (n : Nest) : Type 0 where
   pub unguarded : All (λ (s : Standing). s.statement.guard ≡ None) (nest_statements n)
   pub ready : IsReady n

@@ -75,7 +75,7 @@ fn push_level(text: &mut Vec<u8>, level: u8) -> Result<(), Memory>
     }
 }
 
-// How many loops are round the statement with this number, from 0.
+// How many loops are round the statement with this place.
 fn depth_of(standings: &Seq<Standing>, s: u32) -> usize
     ensures { result ≡ depth_of (map standing_of standings.now) s }
 {

@@ -97,7 +97,7 @@ impl Lines {
 
 /// The listing of a nest with this number, its dependence graph, its holds and its cycles. The trip of a loop is its
 /// last iteration, since the loops of the nest go from 1 by 1. The iterations of an edge's pair are those of the loops
-/// round its statements. Statements are numbered from 1; those of the graph are numbered from 0.
+/// round its statements. Statements are listed by their numbers; the graph has their places.
 pub fn lines(
     alloc: Global,
     nest: &Nest,

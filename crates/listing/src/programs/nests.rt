@@ -1,19 +1,19 @@
 //! The lines of a nest.
-ghost use Rattle.std.specs.Prelude.{◌≡◌, IfOk, Some, length, map};
+ghost use Rattle.std.specs.Prelude.{◌≡◌, IfOk, Some, map};
+ghost use Rattle.dependence_graph.specs.nest_graph.Graph.{IsGraphOf};
+ghost use Rattle.dependence_graph.specs.nest_graph.Ready.{IsReady};
 ghost use Rattle.f90_print.specs.Notes.{text_of};
 ghost use Rattle.listing.specs.graphs.Listing.{lines_of_entries};
 ghost use Rattle.normal_loops.specs.Normalised.{normalised};
-ghost use Rattle.nest.specs.Bodies.{nest_statements};
 ghost use Rattle.nest.specs.View.{nest_of};
-ghost use Rattle.listing.specs.programs.Listing.{AreLinesOf, HasNestEntries, all_holds, not_built};
+ghost use Rattle.listing.specs.programs.Listing.{AreLinesOf, HasNestEntries, not_built};
 ghost use Rattle.listing.specs.programs.Passed.{IsPassedNest};
 ghost use Rattle.listing.specs.programs.Sources.{IsNestOfSource};
-ghost use Rattle.listing.specs.programs.Testable.{AreTestsOf, IsTestable};
+ghost use Rattle.listing.specs.programs.Testable.{AreTestsOf};
 
 use crate::graphs::{kept_lines, lines};
 use crate::programs::alone::is_alone;
-use crate::programs::lists::add;
-use array_form::holds::holds;
+use array_form::holds::all_holds;
 use dependence_graph::dep_graph::graph;
 use dependence_graph::graphs::{Graph, Hold};
 use nest::Nest;
@@ -29,32 +29,28 @@ pub struct Tests {
     pub lines: Seq<Line>,
 }
 
-// The holds of all statements of a nest that has so many.
-fn all_holds(alloc: Global, nest: &Nest, count: u32) -> Result<Seq<Hold>, Memory>
-    requires testable { IsTestable (nest_of nest.now) }
-    requires count { count ≡ length (nest_statements (nest_of nest.now)) }
-    ensures { IfOk result (λ all. all ≡ all_holds (nest_of nest.now)) }
-{
-    let mut all = Vec::new(alloc);
-    for before in 0..count {
-        add(&mut all, holds(alloc, before + 1, nest)?)?;
-    }
-    Ok(Seq::from_vec(all))
-}
-
-/// Tests a nest that bears this number in the listing. Cycles aren't listed so far.
-pub fn test(alloc: Global, number: u32, nest: &Nest) -> Result<Tests, Memory>
-    requires { IsTestable (nest_of nest.now) }
+// What the tests say of a nest with this graph.
+fn tests_with(alloc: Global, number: u32, nest: &Nest, graph: Graph) -> Result<Tests, Memory>
+    requires ready { IsReady (nest_of nest.now) }
+    requires graph { IsGraphOf (nest_of nest.now) graph }
     ensures { IfOk result (λ t. AreTestsOf number (nest_of nest.now) t.graph t.holds (map text_of t.lines)) }
 {
-    let graph = graph(alloc, nest)?;
-    let holds = all_holds(alloc, nest, graph.stmts)?;
+    let holds = all_holds(alloc, nest)?;
     let lines = lines(alloc, nest, number, &graph, &holds, &Seq::new(alloc))?;
     Ok(Tests {
         graph,
         holds,
         lines,
     })
+}
+
+/// Tests a nest that bears this number in the listing. Cycles aren't listed so far.
+pub fn test(alloc: Global, number: u32, nest: &Nest) -> Result<Tests, Memory>
+    requires { IsReady (nest_of nest.now) }
+    ensures { IfOk result (λ t. AreTestsOf number (nest_of nest.now) t.graph t.holds (map text_of t.lines)) }
+{
+    let graph = graph(alloc, nest)?;
+    tests_with(alloc, number, nest, graph)
 }
 
 /// The line of a nest that isn't tested so far.

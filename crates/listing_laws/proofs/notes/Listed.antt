@@ -7,10 +7,11 @@ use Rattle.meaning.specs.Dialect.{fortran77}
 use Rattle.meaning.specs.Profile77.{IsProgram77}
 use Rattle.tree.specs.Plain.{Program}
 use Rattle.listing.specs.graphs.Lines.{Entry}
-use Rattle.normal_loops.specs.Listed.{IsListedFrom}
+use Rattle.listing.specs.programs.Stages.{IsListedFrom}
 use Rattle.nest.specs.Plain.{Nest}
 use Rattle.meaning_laws.proofs.profiles.Lists.{here, there}
-use Rattle.listing.specs.programs.Listing.{reason_word, all_holds, HasGraphEntries, not_built, HasNestEntries}
+use Rattle.array_form.specs.holds.Holds.{all_holds}
+use Rattle.listing.specs.programs.Listing.{reason_word, HasGraphEntries, not_built, HasNestEntries}
 use Rattle.listing.specs.programs.Listing.{HasEntries, HaveEntries}
 use Rattle.listing_laws.specs.notes.Laws.{ListingLinesAreNotes}
 use Rattle.listing_laws.proofs.notes.Arrays.{graph_named}

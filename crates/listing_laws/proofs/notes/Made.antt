@@ -35,7 +35,7 @@ by_recursion : {A : Type 0} (P : A → Type 0) (xs : List A) → Each P xs → A
 by_recursion P [] h = tt
 by_recursion P (x ∷ xs) h = (h.0, by_recursion P xs h.1)
 
-counter_printable : (n : ℕ) → ArePrintable (counter_name n)
+pub counter_printable : (n : ℕ) → ArePrintable (counter_name n)
 counter_printable n = both (codes "FV_LOOP_") (decimal n) (word (codes "FV_LOOP_") refl) (number n)
 
 record AreUnder (round : List NormalLoop) (ls : List Loop) : Type 0 where

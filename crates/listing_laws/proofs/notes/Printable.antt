@@ -6,7 +6,7 @@ use Rattle.std.specs.Prelude.{nat_le, nat_lt}
 use Rattle.std.specs.Fmt.{digit_glyph, digits_onto, digits, signed_decimal}
 use Rattle.std.specs.List.{AllByRecursion, flat_map, list_all}
 use Rattle.std.proofs.lemmas.Bool.{and_parts, leb-true}
-use Rattle.meaning.specs.Names.{IsSymbolicName, is_letter, is_digit}
+use Rattle.meaning.specs.SymbolicNames.{IsSymbolicName, is_letter, is_digit}
 use Rattle.listing.specs.graphs.Lines.{tuple_text}
 
 abbrev pub IsPrintable : ℕ → Type 0
@@ -44,7 +44,7 @@ within low high c h k e =
     let under = leb-true c high p.1 in
     (omega (arith, h, over), omega (arith, k, under))
 
-name_character : (c : ℕ) → (is_letter c || is_digit c) ≡ true → IsPrintable c
+pub name_character : (c : ℕ) → (is_letter c || is_digit c) ≡ true → IsPrintable c
 name_character c h = by (is_letter c) refl h
   where
     by : (b : Bool) → is_letter c ≡ b → (b || is_digit c) ≡ true → IsPrintable c

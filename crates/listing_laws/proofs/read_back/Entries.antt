@@ -6,7 +6,6 @@ use Rattle.std.proofs.lemmas.List.{get_or_past}
 use Rattle.std.specs.List.{AllByRecursion}
 use Rattle.std.specs.Prelude.{◌⊎◌, ◌-◌, slice_index_or}
 use Rattle.std.proofs.Common.{inl, inr}
-use Rattle.array_form.specs.forms.Statements as forms
 use Rattle.dependence_graph.specs.declared.graphs.Dropped.{Dropped}
 use Rattle.dependence_graph.specs.declared.graphs.Edge.{Edge}
 use Rattle.dependence_graph.specs.declared.graphs.Graph.{Graph}
@@ -26,8 +25,9 @@ use Rattle.nest.specs.Bodies.{Standing, nest_statements}
 use Rattle.nest.specs.Plain.{Loop, Nest, Part, Run, Turns, Choice, Label, Jump, Parts, no_parts, part, Branches}
 use Rattle.nest.specs.Plain.{no_branches, branch}
 use Rattle.pass_laws.proofs.NormalFacts.LoopWalk.{EachLoop, EachLoopIn, EachLoopUnder}
-use Rattle.listing.specs.programs.Listing.{all_holds, tested_entries}
-use Rattle.array_form.specs.holds.Holds.{reason_of, hold_with, hold_at_level, holds_of}
+use Rattle.listing.specs.programs.Listing.{tested_entries}
+use Rattle.array_form.specs.holds.Bounds.{is_safe}
+use Rattle.array_form.specs.holds.Holds.{all_holds, hold_at_level, hold_of, hold_with, holds_of, reason_of}
 use Rattle.array_form.specs.holds.Statements.{no_statement, statement_at, surroundings_at}
 use Rattle.listing_laws.proofs.read_back.Arcs.{IsListableDrop, graph_edges, graph_drops}
 use Rattle.listing_laws.proofs.read_back.Made.{IsTidy, IsTidyIn, IsTidyNest}
@@ -145,10 +145,9 @@ module _ (m : Nest) (ready : IsReady m) where
   holds_at : (s : ℕ) → IsSmall s → AreHolds (holds_of m s)
   holds_at s h =
       let few = shallow (s - 1) in
-      from_each (hold_at_level s (surroundings_at m s) (statement_at m s).statement.left) 8 1
-      (length (statement_at m s).loops) (omega (arith, few))
-      (λ j l. held s j (reason_of (forms.hold_at (surroundings_at m s) j (statement_at m s).statement.left)) h
-      (omega (arith, l)))
+      let x = statement_at m s in
+      from_each (hold_at_level s (surroundings_at m s) x.statement.guard x.statement.left (is_safe m x)) 8 1
+      (length x.loops) (omega (arith, few)) (λ j l. held s j (reason_of (hold_of m x j)) h (omega (arith, l)))
 
   every_hold : length (nest_statements m) ≤ 2 ^ 40 → AreHolds (all_holds m)
   every_hold few = from_each (holds_of m) (2 ^ 41) 1 (length (nest_statements m)) (omega (arith, few))

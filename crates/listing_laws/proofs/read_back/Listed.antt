@@ -15,8 +15,8 @@ use Rattle.listing_laws.proofs.reader.Rejoined.{listing-is-read}
 use Rattle.listing_laws.specs.reader.Listable.{IsListable}
 use Rattle.listing_laws.specs.reader.Reader.{read_listing}
 use Rattle.listing.proofs.programs.Sources.{listed_nest_is_testable}
-use Rattle.listing_laws.proofs.notes.Normal.{listed_is_made}
-use Rattle.normal_loops.specs.Listed.{IsListedFrom}
+use Rattle.listing_laws.proofs.notes.Normal.{listed_is_made, same_line}
+use Rattle.listing.specs.programs.Stages.{IsListedFrom}
 use Rattle.nest.specs.Bodies.{nest_statements}
 use Rattle.nest.specs.Plain.{Nest}
 use Rattle.meaning_laws.proofs.profiles.Lists.{here, there}
@@ -54,7 +54,7 @@ module _ (p : Program) (is : IsProgram77 fortran77 p) (short : IsShort p) where
       let fair = found_fair fortran77 p is short n c in
       let number = fair.number in
       let line = fair.line in
-      let same : m.line ≡ n.line = ap (λ (k : Nest). k.line) e.rest in
+      let same : m.line ≡ n.line = same_line n m e in
       subst AreListable (sym k.2)
       (nest_listable m n.number k.0 (omega (arith, number)) (omega (arith, line, same))
       (listed_nest_is_testable p n m is c e).ready (made_tidy n fair m (listed_is_made n m e)) (few n m c e) k.1)

@@ -4,7 +4,7 @@ use Rattle.std.proofs.Common.{codes, decimal, arith, lit<}
 use Rattle.std.proofs.lemmas.Bool.{and_parts, leb-true, ne_eqb}
 use Rattle.std.specs.List.{list_all}
 use Rattle.std.specs.Prelude.{nat_le}
-use Rattle.meaning.specs.Names.{IsSymbolicName, is_letter, is_digit}
+use Rattle.meaning.specs.SymbolicNames.{IsSymbolicName, is_letter, is_digit}
 use Rattle.listing_laws.proofs.reader.Numbers.{number-lacks}
 use Rattle.listing_laws.proofs.reader.Parts.{lacks-append}
 use Rattle.listing_laws.specs.reader.Listable.{IsWord}
@@ -16,7 +16,7 @@ above low high c h e =
     let over = leb-true low c p.0 in
     ne_eqb c 32 (λ same. omega (arith, h, over, same))
 
-name_character : (c : ℕ) → (is_letter c || is_digit c) ≡ true → (c == 32) ≡ false
+pub name_character : (c : ℕ) → (is_letter c || is_digit c) ≡ true → (c == 32) ≡ false
 name_character c h = by (is_letter c) refl h
   where
     by : (b : Bool) → is_letter c ≡ b → (b || is_digit c) ≡ true → (c == 32) ≡ false

@@ -1,10 +1,11 @@
 -- What can be listed: numbers of 64 bits, and names and words without blanks.
-use Rattle.std.specs.Prelude.{◌≡◌, ℕ, ◌+◌, ◌<◌, ◌==◌, ◌^◌, ℤ, nat_abs, false, Option, Some, None, List, [], ◌∷◌}
+use Rattle.std.specs.Prelude.{◌≡◌, ℕ, ◌<◌, ◌==◌, ◌^◌, ℤ, nat_abs, false, Option, Some, None, List, [], ◌∷◌}
 use Rattle.std.specs.List.{AllByRecursion}
 use Rattle.dependence_graph.specs.declared.graphs.Hold.{Hold}
 use Rattle.dependence_graph.specs.declared.graphs.Place.{Place}
 use Rattle.listing.specs.graphs.Lines.{Dependence, Meeting, Entry, NestEntry, LoopEntry, StatementEntry, EdgeEntry}
 use Rattle.listing.specs.graphs.Lines.{DropEntry, HoldEntry, CycleEntry, KeepEntry}
+use Rattle.nest.specs.Bodies.{statement_number}
 
 abbrev pub IsSmall : ℕ → Type 0
 IsSmall n = n < 2 ^ 63
@@ -21,7 +22,7 @@ abbrev pub IsWord : List ℕ → Type 0
 IsWord t = Lacks 32 t
 
 pub record IsListablePlace (p : Place) : Type 0 where
-  pub statement : IsSmall (p.stmt + 1)
+  pub statement : IsSmall (statement_number p.stmt)
   pub reference : IsSmall p.at
 
 pub record IsListableDependence (d : Dependence) : Type 0 where

@@ -13,7 +13,8 @@ use Rattle.tree.specs.declared.stmts.Mark.{Mark}
 use Rattle.meaning.specs.ArrayStatements.{second, where_true, axes_named, storable, writes_of}
 use Rattle.meaning.specs.ArrayValues.{Elements, each, positions, conform}
 use Rattle.meaning.specs.Dialect.{Dialect}
-use Rattle.meaning.specs.Reads.{names_in, names_in_subscripts, cells_read_to_select}
+use Rattle.meaning.specs.Reads.{names_in, names_in_subscripts}
+use Rattle.meaning.specs.CellsRead.{cells_read_to_select}
 use Rattle.meaning.specs.Run.{State, Going, nothing, either, does, for_each, while_going, evaluates, counts_step, stores, stores_element, array_assigns}
 use Rattle.meaning.specs.Sections.{Axis, extents_of, cells_along}
 use Rattle.meaning.specs.Store.{Store, Cell, put}

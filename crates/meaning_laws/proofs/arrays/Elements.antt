@@ -11,7 +11,9 @@ use Rattle.tree.specs.declared.ops.Value.{Value}
 use Rattle.meaning.specs.ArrayStatements.{axes_named}
 use Rattle.meaning.specs.ArrayValues.{Elements, place_of, value_at, settled, scalar, in_whole, conform, mapped, paired}
 use Rattle.meaning.specs.Dialect.{Dialect}
-use Rattle.meaning.specs.Reads.{names_in, names_in_each, names_in_subscripts, names_in_subscript, read_by_one_way, cells_read, array_cells_read, cells_read_to_select, cells_read_by_selector}
+use Rattle.meaning.specs.Reads.{names_in, names_in_each, names_in_subscripts, names_in_subscript}
+use Rattle.meaning.specs.CellsRead.{read_by_one_way, cells_read, array_cells_read, cells_read_to_select}
+use Rattle.meaning.specs.CellsRead.{cells_read_by_selector}
 use Rattle.meaning.specs.Sections.{Axis, Selector, Triplet, axes_selected, extents_of, cells_along}
 use Rattle.meaning.specs.Store.{Store, Cell, bounds_in}
 use Rattle.meaning.specs.Value.{value_of, array_of, arguments_of, selectors, selector, is_scalar, numbered, evaluated, selector_of, together}

@@ -6,7 +6,8 @@ use Rattle.std.specs.Str.{bytes_eq}
 use Rattle.tree.specs.Plain.{Given, Later, Declaration, Program}
 use Rattle.tree.specs.declared.ops.Value.{Value}
 use Rattle.tree.specs.declared.ops.Value.TheVariants.{Int}
-use Rattle.meaning.specs.Agreement.{MomentsAgree, names_in_block}
+use Rattle.meaning.specs.Agreement.{MomentsAgree}
+use Rattle.meaning.specs.Reads.{names_in_block}
 use Rattle.meaning.specs.Blocks.{outermost}
 use Rattle.meaning.specs.Dialect.{Dialect, fortran90}
 use Rattle.meaning.specs.Profile77.{IsProgram77}

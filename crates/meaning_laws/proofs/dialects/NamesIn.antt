@@ -7,7 +7,7 @@ use Rattle.std.specs.Str.{bytes_eq}
 use Rattle.tree.specs.Plain.{Expression, Number, Logic, Named, Unary, Binary, Apply, Constructor, Spread, Transpose, Reshape, Reduce, Expressions, no_expressions, expression, Subscript, Only, Section, Subscripts, no_subscripts, subscript, Item, Single, Constant, ImpliedDo, Items, no_items, item, Statement, Assignment, Where, If, Do, Label, GoTo, Stop, Read, Print, Allocate, Deallocate, Arms, no_arms, arm, Block, no_statements, statement, Declaration}
 use Rattle.tree.specs.declared.ops.Kind.{Kind}
 use Rattle.tree.specs.declared.ops.Kind.TheVariants.{Integer, Logical}
-use Rattle.meaning.specs.Agreement.{names_in_item, names_in_items, names_in_statement, names_in_arms, names_in_block}
+use Rattle.meaning.specs.Reads.{names_in_item, names_in_items, names_in_statement, names_in_arms, names_in_block}
 use Rattle.meaning.specs.Blocks.{Surroundings, within_loop, before_labels, labels_of}
 use Rattle.meaning.specs.Profile77.{IsStatement, AreArms, IsBlock}
 use Rattle.meaning.specs.Reads.{names_in, names_in_each, names_in_subscripts, names_in_subscript}

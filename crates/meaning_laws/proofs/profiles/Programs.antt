@@ -13,12 +13,13 @@ use Rattle.tree.specs.Names.{IsSourceName}
 use Rattle.tree.specs.declared.functions.Fun.{Fun}
 use Rattle.tree.specs.declared.functions.Fun.TheVariants.{Abs, Mod, Max, Min}
 use Rattle.tree.specs.Functions.{name_of_function}
-use Rattle.meaning.specs.Names.{is_letter, is_digit, IsSymbolicName, IsLongName}
+use Rattle.meaning.specs.SymbolicNames.{is_letter, is_digit, IsSymbolicName, IsLongName}
 use Rattle.meaning.specs.Typed.{dimensions, declared}
 use Rattle.meaning.specs.Blocks.{outermost}
 use Rattle.meaning.specs.Profile77 as source
 use Rattle.meaning.specs.Profile77.{IsFixed, IsProgram77}
 use Rattle.meaning.specs.Profile90 as target
+use Rattle.meaning.specs.Extents as extents
 use Rattle.meaning.specs.Profile90.{IsProgram90}
 use Rattle.meaning_laws.proofs.profiles.Lists.{all_weaker, all_pass, cases_of, nowhere}
 use Rattle.meaning_laws.proofs.profiles.Names.{each_found, found, once, not_declared}
@@ -61,7 +62,7 @@ upper a (pos k) n i h o g = record { sfits = fits k (2 ^ n) n (below k (2 ^ n) g
 upper (pos j) (negsuc k) n i h o g = absurd o.le
 upper (negsuc j) (negsuc k) n i h o g = record { sfits = fits k (2 ^ n) n (let x = leb→le k j o.le in let y = low j (2 ^ n) h in omega (arith, x, y)) refl i }
 
-dimension : (lang : Dialect) → lang.bits ≤ 63 → (b : ℤ × ℤ) → source.IsDimension lang b → target.IsDimension b
+dimension : (lang : Dialect) → lang.bits ≤ 63 → (b : ℤ × ℤ) → source.IsDimension lang b → extents.IsDimension b
 dimension lang n b h = record {
   lower = lower b.0 b.1 lang.bits n h.above h.ordered h.below;
   upper = upper b.0 b.1 lang.bits n h.above h.ordered h.below;
@@ -70,7 +71,7 @@ dimension lang n b h = record {
 -- ---- declarations
 
 extent : (lang : Dialect) → lang.bits ≤ 63 → (e : Extent) → IsFixed e → length (dimensions e) ≤ 7 → AllByRecursion (source.IsDimension lang) (dimensions e) → target.IsExtent e
-extent lang n (Given bs) f l h = (l, all_weaker (source.IsDimension lang) target.IsDimension (dimension lang n) bs h)
+extent lang n (Given bs) f l h = (l, all_weaker (source.IsDimension lang) extents.IsDimension (dimension lang n) bs h)
 extent lang n (Later k) f l h = absurd f
 
 declaration : (lang : Dialect) → lang.bits ≤ 63 → (e : Declaration) → source.IsDeclaration lang e → target.IsDeclaration e

@@ -18,9 +18,11 @@ use Rattle.meaning.specs.ArrayStatements.{second, where_true, free, axes_named, 
 use Rattle.meaning.specs.Holding.{HasBounds, IsStorable, HoldsProgram}
 use Rattle.meaning.specs.Run.{Way, Going, Jumping, Stopped, Failed, Cut}
 use Rattle.meaning.specs.Typed90 as typed
+use Rattle.meaning.specs.Items90 as items90
 use Rattle.meaning.specs.Typed90.{HasKind, IsIntegerScalar}
 use Rattle.meaning.specs.Profile90 as target
-use Rattle.meaning.specs.Profile90.{IsProgram90, IsWhole, IsAllocatable}
+use Rattle.meaning.specs.Profile90.{IsProgram90, IsWhole}
+use Rattle.meaning.specs.Extents.{IsAllocatable}
 use Rattle.meaning_laws.proofs.profiles.Answering.{AnyFault, AnyValue, behind, weaker, each_answers, all_any}
 use Rattle.meaning_laws.proofs.profiles.Stores.{Fits, opening_holds}
 use Rattle.meaning_laws.proofs.profiles.ValueKinds.{Gives, IsKind, ElementsAre, any, after, cell_is, integer_fits, value_is, array_is}
@@ -189,22 +191,22 @@ module _ (lang : Dialect) (p : Program) where
     read_into (Reduce r a) = tt
 
     mutual
-      input : (i : Item) (w : List (List ℕ)) → typed.IsInputItem ds i w → InputIsFine lang limit p AnyFault any_rest i
+      input : (i : Item) (w : List (List ℕ)) → items90.IsInputItem ds i w → InputIsFine lang limit p AnyFault any_rest i
       input (Single e) w h = read_into e
       input (Constant t) w h = tt
       input (ImpliedDo is x a b c) w h = (loop_fine x w a b c h.1, inputs is (x ∷ w) h.5)
 
-      inputs : (is : Items) (w : List (List ℕ)) → typed.AreInputItems ds is w → InputsAreFine lang limit p AnyFault any_rest is
+      inputs : (is : Items) (w : List (List ℕ)) → items90.AreInputItems ds is w → InputsAreFine lang limit p AnyFault any_rest is
       inputs no_items w h = tt
       inputs (item i is) w h = (input i w h.0, inputs is w h.1)
 
     mutual
-      output : (i : Item) (w : List (List ℕ)) → typed.IsOutputItem ds i w → OutputIsFine lang limit p AnyFault any_rest i
+      output : (i : Item) (w : List (List ℕ)) → items90.IsOutputItem ds i w → OutputIsFine lang limit p AnyFault any_rest i
       output (Single e) w h = λ s q. any _
       output (Constant t) w h = tt
       output (ImpliedDo is x a b c) w h = (loop_fine x w a b c h.1, outputs is (x ∷ w) h.5)
 
-      outputs : (is : Items) (w : List (List ℕ)) → typed.AreOutputItems ds is w → OutputsAreFine lang limit p AnyFault any_rest is
+      outputs : (is : Items) (w : List (List ℕ)) → items90.AreOutputItems ds is w → OutputsAreFine lang limit p AnyFault any_rest is
       outputs no_items w h = tt
       outputs (item i is) w h = (output i w h.0, outputs is w h.1)
 

@@ -12,6 +12,7 @@ use Rattle.meaning.specs.Blocks.{Surroundings, within_loop, before_labels, label
 use Rattle.meaning.specs.Value.{named}
 use Rattle.meaning.specs.Typed77 as source
 use Rattle.meaning.specs.Typed90 as target
+use Rattle.meaning.specs.Items90 as items90
 use Rattle.meaning.specs.Typed90.{rank_of, rank_of_each, rank_of_subscripts, rank_of_subscript, rank_of_name}
 use Rattle.meaning.specs.Profile77 as profile77
 use Rattle.meaning.specs.Profile77.{IsFixed}
@@ -157,7 +158,7 @@ module _ (ds es : List Declaration) (ext : Extends ds es) where
   element_rank x (subscript p ps) (inl h) = rank_subscripts (subscript p ps) h.1
   element_rank x (subscript p ps) (inr h) = rank_subscripts (subscript p ps) h.1
 
-  input : (e : Expression) (w : List (List ℕ)) → source.IsInput ds e w → target.IsInput es e w
+  input : (e : Expression) (w : List (List ℕ)) → source.IsInput ds e w → items90.IsInput es e w
   input (Named x ps) w h = (element_or_whole x ps h.0, element_rank x ps h.0, h.1)
   input (Number n) w h = absurd h
   input (Logic b) w h = absurd h
@@ -171,22 +172,22 @@ module _ (ds es : List Declaration) (ext : Extends ds es) where
   input (Reduce r a) w h = absurd h
 
   mutual
-    output_item : (i : Item) (w : List (List ℕ)) → source.IsOutputItem ds i w → target.IsOutputItem es i w
+    output_item : (i : Item) (w : List (List ℕ)) → source.IsOutputItem ds i w → items90.IsOutputItem es i w
     output_item (Single e) w h = output e h
     output_item (Constant t) w h = h
     output_item (ImpliedDo is x a b c) w h = (h.0, do_variable x w h.1, scalar a _ h.2, scalar b _ h.3, scalar c _ h.4, output_items is (x ∷ w) h.5)
 
-    output_items : (is : Items) (w : List (List ℕ)) → source.AreOutputItems ds is w → target.AreOutputItems es is w
+    output_items : (is : Items) (w : List (List ℕ)) → source.AreOutputItems ds is w → items90.AreOutputItems es is w
     output_items no_items w h = tt
     output_items (item i is) w h = (output_item i w h.0, output_items is w h.1)
 
   mutual
-    input_item : (i : Item) (w : List (List ℕ)) → source.IsInputItem ds i w → target.IsInputItem es i w
+    input_item : (i : Item) (w : List (List ℕ)) → source.IsInputItem ds i w → items90.IsInputItem es i w
     input_item (Single e) w h = input e w h
     input_item (Constant t) w h = absurd h
     input_item (ImpliedDo is x a b c) w h = (h.0, do_variable x w h.1, scalar a _ h.2, scalar b _ h.3, scalar c _ h.4, input_items is (x ∷ w) h.5)
 
-    input_items : (is : Items) (w : List (List ℕ)) → source.AreInputItems ds is w → target.AreInputItems es is w
+    input_items : (is : Items) (w : List (List ℕ)) → source.AreInputItems ds is w → items90.AreInputItems es is w
     input_items no_items w h = tt
     input_items (item i is) w h = (input_item i w h.0, input_items is w h.1)
 

@@ -4,7 +4,9 @@ use Rattle.std.specs.List.{AllByRecursion, fold}
 use Rattle.std.specs.Int.{int_max, int_min}
 use Rattle.std.specs.Option.{IsSomeAnd}
 use Rattle.tree.specs.Steps.{◌>>=◌}
-use Rattle.tree.specs.Operators.{number, ranged, exact_value, on_numbers, on_truths, apply, is_neg, is_not, exact_of_values, as_numbers, call, fits, kind_of, sum_from, reduced}
+use Rattle.tree.specs.Operators.{number, ranged, exact_value, on_numbers, on_truths, apply, is_neg, is_not}
+use Rattle.tree.specs.Operators.{exact_of_values, as_numbers, call, fits, sum_from, reduced}
+use Rattle.tree.specs.OperationFaults.{kind_of}
 use Rattle.tree.specs.Plain.{Expression, Number, Logic, Named, Unary, Binary, Apply, Constructor, Spread, Transpose, Reshape, Reduce, Expressions, no_expressions, expression, Loops, no_loops, loop, Declaration, Program}
 use Rattle.tree.specs.declared.ops.Kind.{Kind}
 use Rattle.tree.specs.declared.ops.Kind.TheVariants.{Integer}

@@ -1,7 +1,7 @@
 -- Statements of which enough is known keep a store that holds the program, and bring no fault but those of F.
 use Rattle.std.proofs.Common.{◌≡◌, sym, subst, ℕ, true, Option, Some, None, IfSome, List, [], ◌∷◌, Result}
 use Rattle.std.specs.List.{AllByRecursion}
-use Rattle.tree.specs.Operators.{kind_of}
+use Rattle.tree.specs.OperationFaults.{kind_of}
 use Rattle.tree.specs.Plain.{Expression, Expressions, Logic, Named, Reference, Item, Single, Constant, ImpliedDo, Items, no_items, item, Statement, Assignment, Where, If, Do, Label, GoTo, Stop, Read, Print, Allocate, Deallocate, Arms, no_arms, arm, Block, no_statements, statement, Declaration, Program}
 use Rattle.tree.specs.declared.stmts.Mark.{Mark}
 use Rattle.tree.specs.declared.ops.Kind.{Kind}

@@ -10,7 +10,7 @@ use Rattle.tree.specs.declared.stmts.Mark.{Mark}
 use Rattle.meaning.specs.ArrayStatements.{axes_named, storable, writes_of}
 use Rattle.meaning.specs.ArrayValues.{each, positions, conform}
 use Rattle.meaning.specs.Dialect.{Dialect}
-use Rattle.meaning.specs.Reads.{cells_read_to_select}
+use Rattle.meaning.specs.CellsRead.{cells_read_to_select}
 use Rattle.meaning.specs.Run.{State, Going, array_assigns, does}
 use Rattle.meaning.specs.Sections.{Axis, extents_of}
 use Rattle.meaning.specs.Store.{Store, Cell}

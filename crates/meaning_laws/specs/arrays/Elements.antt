@@ -13,7 +13,8 @@ use Rattle.tree.specs.declared.ops.Value.{Value}
 use Rattle.meaning.specs.ArrayStatements.{axes_named}
 use Rattle.meaning.specs.ArrayValues.{Elements, positions, place_of}
 use Rattle.meaning.specs.Dialect.{Dialect}
-use Rattle.meaning.specs.Reads.{names_in, cells_read_to_select, array_cells_read}
+use Rattle.meaning.specs.Reads.{names_in}
+use Rattle.meaning.specs.CellsRead.{cells_read_to_select, array_cells_read}
 use Rattle.meaning.specs.Sections.{Axis, Fixed, Along, extents_of, cells_along, steps_from}
 use Rattle.meaning.specs.Store.{Store, Cell}
 use Rattle.meaning.specs.Value.{value_of, array_of, is_scalar}

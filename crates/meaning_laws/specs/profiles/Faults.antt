@@ -1,6 +1,6 @@
 -- Faults that a program without arrays as values never meets.
 use Rattle.std.specs.Prelude.{◌≡◌, Ok, Err, Option, ℕ, List}
-use Rattle.tree.specs.Operators.{kind_of}
+use Rattle.tree.specs.OperationFaults.{kind_of}
 use Rattle.tree.specs.Plain.{Expression, Program}
 use Rattle.tree.specs.declared.ops.Fault.{Fault}
 use Rattle.tree.specs.declared.ops.Fault.TheVariants.{Shape, Allocated}

@@ -1,6 +1,6 @@
 -- What is known of the value of an expression by its kind.
 use Rattle.std.specs.Prelude.{◌≡◌, Ok, ℕ, List, length}
-use Rattle.tree.specs.Operators.{kind_of}
+use Rattle.tree.specs.OperationFaults.{kind_of}
 use Rattle.tree.specs.Plain.{Expression, Program}
 use Rattle.tree.specs.declared.ops.Kind.{Kind}
 use Rattle.tree.specs.declared.ops.Value.{Value}

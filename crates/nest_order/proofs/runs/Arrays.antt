@@ -6,7 +6,7 @@ use Rattle.tree.specs.Operators.{apply, call, as_number}
 use Rattle.tree.specs.Plain.{Expression, Number, Logic, Named, Unary, Binary, Apply, Constructor, Spread, Transpose, Reshape, Reduce, Expressions, no_expressions, expression, Subscript, Only, Section, Subscripts, no_subscripts, subscript}
 use Rattle.tree.specs.declared.ops.Value.{Value}
 use Rattle.tree.specs.declared.ops.Value.TheVariants.{Int}
-use Rattle.meaning.specs.Reads.{cells_read, cells_read_by_each, cells_read_by, cells_read_by_subscript, found}
+use Rattle.meaning.specs.CellsRead.{cells_read, cells_read_by_each, cells_read_by, cells_read_by_subscript, found}
 use Rattle.meaning.specs.Store.{Store, Cell, cell_at, put, same_cell}
 use Rattle.meaning.specs.Value.{value_of, values_of, subscript_value, subscript_values}
 use Rattle.meaning.proofs.Exchanges.{same_cell-same}

@@ -11,7 +11,8 @@ use Rattle.tree.specs.declared.ops.Fault.TheVariants.{Overflow}
 use Rattle.meaning.specs.Dialect.{Dialect}
 use Rattle.meaning.specs.Store.{Store, Cell, put, same_cell}
 use Rattle.meaning.specs.Value.{is_in_range, bound_to}
-use Rattle.meaning.specs.Reads.{cells_read, cells_read_by, names_in, names_in_subscripts}
+use Rattle.meaning.specs.Reads.{names_in, names_in_subscripts}
+use Rattle.meaning.specs.CellsRead.{cells_read, cells_read_by}
 use Rattle.meaning.proofs.CellFrame.{value_of-same, cell_named-same}
 use Rattle.meaning.proofs.Exchanges.{unread}
 use Rattle.nest_order.specs.orders.Lists.{In}

@@ -6,7 +6,7 @@ use Rattle.tree.specs.Plain.{Expression, Number, Logic, Named as Element, Unary,
 use Rattle.tree.specs.declared.ops.Value.{Value}
 use Rattle.tree.specs.declared.ops.Value.TheVariants.{Int, Truth}
 use Rattle.tree.specs.declared.ops.Fault.{Fault}
-use Rattle.meaning.specs.Reads.{cells_read, cells_read_by_each, cells_read_by, cells_read_by_subscript, found}
+use Rattle.meaning.specs.CellsRead.{cells_read, cells_read_by_each, cells_read_by, cells_read_by_subscript, found}
 use Rattle.meaning.specs.Store.{Store, Cell, cell_at}
 use Rattle.meaning.specs.Value.{value_of, subscript_value, subscript_values, cell_named}
 use Rattle.nest_order.specs.orders.Lists.{In}

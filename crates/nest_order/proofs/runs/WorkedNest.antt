@@ -2,7 +2,7 @@
 -- can be met.
 use Rattle.std.proofs.Common.{◌≡◌, refl, sym, ap, ◌∙◌, subst, ◌⊎◌, inl, inr, ℕ, suc, ◌<◌, ℤ, pos, List, [], ◌∷◌, length, Result, Ok, Option, Some, None, arith}
 use Rattle.std.specs.Prelude.{IfSome}
-use Rattle.tree.specs.Operators.{kind_of}
+use Rattle.tree.specs.OperationFaults.{kind_of}
 use Rattle.tree.specs.Plain.{Number, Named, Only, no_subscripts, subscript, Given, Declaration, no_statements}
 use Rattle.tree.specs.declared.ops.Kind.TheVariants.{Integer}
 use Rattle.tree.specs.declared.ops.Value.{Value}

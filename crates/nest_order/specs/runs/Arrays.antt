@@ -3,7 +3,7 @@
 use Rattle.std.specs.Prelude.{◌≡◌, Ok, ℕ, Bool, List, ◌++◌, map}
 use Rattle.tree.specs.Plain.{Expression, Reference, Subscripts}
 use Rattle.tree.specs.declared.ops.Value.{Value}
-use Rattle.meaning.specs.Reads.{cells_read, cells_read_by}
+use Rattle.meaning.specs.CellsRead.{cells_read, cells_read_by}
 use Rattle.meaning.specs.Store.{Store, Cell}
 use Rattle.meaning.specs.Value.{value_of, cell_named}
 use Rattle.nest_order.specs.runs.Guarded.{dialect, sequential, at_iterations}

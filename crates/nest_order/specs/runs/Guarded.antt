@@ -7,7 +7,8 @@ use Rattle.tree.specs.declared.ops.Fault.{Fault}
 use Rattle.tree.specs.declared.ops.Fault.TheVariants.{Overflow}
 use Rattle.tree.specs.declared.ops.Value.{Value}
 use Rattle.meaning.specs.Dialect.{Dialect}
-use Rattle.meaning.specs.Reads.{names_in, names_in_subscripts, cells_read, cells_read_by}
+use Rattle.meaning.specs.Reads.{names_in, names_in_subscripts}
+use Rattle.meaning.specs.CellsRead.{cells_read, cells_read_by}
 use Rattle.meaning.specs.Store.{Store, Cell}
 use Rattle.meaning.specs.Value.{value_of, truth_of, cell_named, is_in_range, bound_to}
 

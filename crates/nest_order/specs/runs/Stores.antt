@@ -1,6 +1,6 @@
 -- Stores in which a nest may be run, and what is asked of the nest.
 use Rattle.std.specs.Prelude.{◌≡◌, ◌⊎◌, Ok, Option, Some, IfSome, ℕ, ℤ, pos, List, [], map}
-use Rattle.tree.specs.Operators.{kind_of}
+use Rattle.tree.specs.OperationFaults.{kind_of}
 use Rattle.tree.specs.Plain.{Declaration, Expression, Program}
 use Rattle.tree.specs.declared.ops.Kind.TheVariants.{Integer}
 use Rattle.tree.specs.declared.ops.Value.{Value}

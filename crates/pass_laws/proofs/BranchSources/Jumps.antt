@@ -8,7 +8,8 @@ use Rattle.meaning_laws.proofs.arrays.Members.{nowhere}
 use Rattle.rewrite.proofs.Replacing.{either_false}
 use Rattle.tree.specs.Plain.{Statement, Assignment, Where, If, Do, Label, GoTo, Stop, Read, Print, Allocate}
 use Rattle.tree.specs.Plain.{Deallocate, Arms, no_arms, arm, Block, no_statements, statement, Declaration}
-use Rattle.meaning.specs.Blocks.{Surroundings, all_labels_in, all_labels_in_arms, all_labels_of, before_labels}
+use Rattle.meaning.specs.Blocks.{Surroundings, before_labels}
+use Rattle.meaning.specs.Labels.{all_labels_in, all_labels_in_arms, all_labels_of}
 use Rattle.meaning.specs.Blocks.{labels_of, within_loop}
 use Rattle.meaning.specs.Profile77.{AreArms, IsBlock, IsStatement}
 use Rattle.nest.specs.Plain.{Part, parts}

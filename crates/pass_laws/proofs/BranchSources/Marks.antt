@@ -8,7 +8,8 @@ use Rattle.meaning_laws.proofs.arrays.Members.{cases_of, here, there}
 use Rattle.rewrite.proofs.Replacing.{either_false}
 use Rattle.tree.specs.Plain.{Statement, Assignment, Where, If, Do, Label, GoTo, Stop, Read, Print, Allocate}
 use Rattle.tree.specs.Plain.{Deallocate, Arms, no_arms, arm, Block, no_statements, statement}
-use Rattle.meaning.specs.Blocks.{all_labels_in, all_labels_in_arms, all_labels_of, label_of, labels_of}
+use Rattle.meaning.specs.Blocks.{label_of, labels_of}
+use Rattle.meaning.specs.Labels.{all_labels_in, all_labels_in_arms, all_labels_of}
 use Rattle.nest_order.proofs.runs.Results.{true_false}
 use Rattle.nest.specs.Bodies.{loops_in_branches, loops_in_parts, loops_of}
 use Rattle.nest.specs.Plain.{Part, parts}

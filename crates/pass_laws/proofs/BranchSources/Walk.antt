@@ -7,7 +7,8 @@ use Rattle.tree.specs.Plain.{Expression, Named, Reference, Statement, Assignment
 use Rattle.tree.specs.Plain.{Read, Print, Allocate, Deallocate, Arms, no_arms, arm, Block, no_statements, statement}
 use Rattle.tree.specs.Plain.{Declaration}
 use Rattle.tree.specs.declared.ops.Kind.TheVariants.{Logical}
-use Rattle.meaning.specs.Blocks.{Surroundings, IsWithoutRepeats, all_labels_in, all_labels_in_arms, all_labels_of}
+use Rattle.meaning.specs.Blocks.{Surroundings}
+use Rattle.meaning.specs.Labels.{IsWithoutRepeats, all_labels_in, all_labels_in_arms, all_labels_of}
 use Rattle.meaning.specs.Blocks.{before_labels, labels_of, label_of, within_loop}
 use Rattle.meaning.specs.Dialect.{Dialect}
 use Rattle.meaning.specs.Profile77.{AreArms, AreDeclarations, IsAssignment, IsBlock, IsStatement}

@@ -1,6 +1,7 @@
 -- Rules that put texts of forms into expressions of FORTRAN 77 leave them such expressions.
 use Rattle.std.proofs.Common.{ℕ, zero, suc, ℤ, pos, negsuc, Bool, true, false, cond, List, [], ◌∷◌, ◌++◌, Option, Some}
 use Rattle.std.proofs.Common.{None}
+use Rattle.std.specs.Option.{option_map}
 use Rattle.std.specs.Prelude.{◌==◌, slice_get}
 use Rattle.components.specs.Lists.{Each}
 use Rattle.components.proofs.ListLaws.{Each-append}
@@ -17,7 +18,7 @@ use Rattle.linear_forms.specs.Linear.{Form}
 use Rattle.linear_forms.specs.Texts.{with_place, with_symbols, places_behind, text_of}
 use Rattle.normal_loops.specs.Values.{with_value, statement_with_values}
 use Rattle.nest_rewrite.specs.Statements.{rewritten_statement}
-use Rattle.nest_order.specs.runs.Touched.{IsPlain, EachIsPlain, ArePlain, IsPlainSubscript}
+use Rattle.nest_order.specs.runs.Touched.{IsPlain, EachIsPlain, ArePlain, IsPlainGuard, IsPlainSubscript}
 use Rattle.nest.specs.Plain.{Guarded}
 use Rattle.last_values.specs.normal_forms.NormalLoops.{counters_of}
 use Rattle.last_values.specs.normal_forms.Texts.{counter_first, value_text}
@@ -126,11 +127,16 @@ module _ (m : Making) (keeps : (first e : Expression) → IsPlain e → IsPlain 
     plain_one (Only e) h = plain e h
     plain_one (Section a b s) h = absurd h
 
+  plain_guard : (o : Option Expression) → IsPlainGuard o → IsPlainGuard (option_map (made m) o)
+  plain_guard None h = tt
+  plain_guard (Some e) h = plain e h
+
 -- ---- statements
 
 pub record IsPlainStatement (g : Guarded) : Type 0 where
   pub left : ArePlain g.left.subscripts
   pub right : IsPlain g.right
+  pub guard : IsPlainGuard g.guard
 
 module _ (symbols : List (List ℕ)) where
   value_keeps : (outer : List NormalLoop) (r : NormalLoop) (first e : Expression) → IsPlain e → IsPlain ((with_value symbols outer r).expression first e)
@@ -147,4 +153,5 @@ module _ (symbols : List (List ℕ)) where
       (record {
         left = plain_in (with_value symbols outer r) (value_keeps outer r) g.left.subscripts h.left;
         right = plain (with_value symbols outer r) (value_keeps outer r) g.right h.right;
+        guard = plain_guard (with_value symbols outer r) (value_keeps outer r) g.guard h.guard;
       })

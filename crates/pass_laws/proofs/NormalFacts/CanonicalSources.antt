@@ -64,7 +64,7 @@ module _ (ds : List Declaration) where
       by : (o : Option Declaration) → IsSomeAnd o (λ (d : Declaration). IsWhole ds (Named left.name left.subscripts) d.kind × IsWhole ds right d.kind)
           → IsPlainStatement (record { line = line; guard = None; left = left; right = right })
       by None g = absurd g
-      by (Some d) g = record { left = plain (Named left.name left.subscripts) d.kind g.0.suits; right = plain right d.kind g.1.suits }
+      by (Some d) g = record { left = plain (Named left.name left.subscripts) d.kind g.0.suits; right = plain right d.kind g.1.suits; guard = tt }
 
   -- ---- blocks
 

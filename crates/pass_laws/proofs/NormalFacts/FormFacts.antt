@@ -223,7 +223,7 @@ module _ (p : Program) (n m : Nest) (w : Setting) (is : IsProgram77 fortran77 p)
   }
 
 pub normal_nest_has_form_facts : NormalNestHasFormFacts
-normal_nest_has_form_facts p n m w is found normal plain free set = form_facts p n m w is found normal plain set
+normal_nest_has_form_facts p n m w is found normal plain set = form_facts p n m w is found normal plain set
 
 pub normal_nest_has_facts : NormalNestHasFacts
-normal_nest_has_facts p n m w is found normal plain free set = facts p n m w is found normal plain set
+normal_nest_has_facts p n m w is found normal plain set = facts p n m w is found normal plain set

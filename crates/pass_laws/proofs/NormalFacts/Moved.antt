@@ -4,16 +4,18 @@ use Rattle.std.proofs.Common.{cond, ◌&&◌, ◌||◌, not}
 use Rattle.std.proofs.Common.{List, [], ◌∷◌, length, drop, Option, Some, None, length-drop, arith}
 use Rattle.std.specs.Prelude.{◌==◌}
 use Rattle.std.specs.List.{list_all}
+use Rattle.std.specs.Option.{option_map}
 use Rattle.std.specs.Ordering.{int_eq}
 use Rattle.std.specs.Str.{bytes_eq}
 use Rattle.std.proofs.lemmas.Bool.{eqb-true}
 use Rattle.std.proofs.lemmas.Slice.Eq.{bytes_eq-Decides}
 use mathlib.Core.Path.{ap₂}
 use Rattle.array_form.specs.forms.Following.{are_moved, is_moved, is_regular, are_regular, are_regular_subscripts, has_none}
+use Rattle.array_form.specs.forms.Guarded.{is_regular_guard}
 use Rattle.array_form.specs.forms.Loops.{Loop, Surroundings, variables_of, names_of, is_among, loops_among, loops_in_order}
 use Rattle.array_form.specs.forms.Loops.{coefficient, one_each}
 use Rattle.array_form.specs.forms.Statements.{are_formed, has_form, hold_at, is_linear, is_triangle, loops_assigned}
-use Rattle.array_form.specs.forms.Statements.{loops_from, occurrences, Hold, FormHold, TriangleHold}
+use Rattle.array_form.specs.forms.Statements.{loops_from, occurrences, stand_in_guard, Hold, BoundsHold, FormHold, TriangleHold}
 use Rattle.last_values.specs.Scalars.{scalar}
 use Rattle.components.specs.Lists.{Each, In}
 use Rattle.components.proofs.ListLaws.{Each-append, Each-from, In-filter}
@@ -28,7 +30,7 @@ use Rattle.linear_forms.proofs.Sizes.{both}
 use Rattle.linear_forms.specs.Canonical.{text_or, canonical_text, canonical_node, canonising}
 use Rattle.linear_forms.specs.Expressed.{variables}
 use Rattle.linear_forms.specs.Linear.{Form, form_of}
-use Rattle.nest_order.specs.runs.Touched.{IsPlain, EachIsPlain, ArePlain}
+use Rattle.nest_order.specs.runs.Touched.{IsPlain, EachIsPlain, ArePlain, IsPlainGuard}
 use Rattle.pass_laws.proofs.NormalFacts.CanonicalNodes.{settled_moves}
 use Rattle.pass_laws.proofs.NormalFacts.CanonicalPlain.{expressed_is}
 
@@ -219,33 +221,40 @@ module _ (a : Surroundings) where
 
   -- ---- a statement
 
-  -- with the loops from the level k on its left subscripts move, and its right side is regular
-  pub record IsRegularFrom (k : ℕ) (r : Reference) (e : Expression) : Type 0 where
+  -- with the loops from the level k on its left subscripts move, and its guard and its right side are regular
+  pub record IsRegularFrom (k : ℕ) (guard : Option Expression) (r : Reference) (e : Expression) : Type 0 where
     pub left : are_moved a (loops_assigned a k r) r.subscripts ≡ true
+    pub guard_is : is_regular_guard a (loops_assigned a k r) guard ≡ true
     pub right : is_regular a (loops_assigned a k r) e ≡ true
 
-  has_form_there : (k : ℕ) (r : Reference) → hold_at a k r ≡ None → has_form a (loops_from a k) r.subscripts ≡ true
-  has_form_there k r h = by (has_form a (loops_from a k) r.subscripts) (is_triangle a (loops_from a k)) h
+  has_form_there : (k : ℕ) (guard : Option Expression) (r : Reference) (safe : Bool) → hold_at a k guard r safe ≡ None → has_form a (loops_from a k) r.subscripts ≡ true
+  has_form_there k guard r safe h = by (has_form a (loops_from a k) r.subscripts) (is_triangle a (loops_from a k)) (stand_in_guard (loops_from a k) guard && not safe) h
     where
-      by : (b c : Bool) → ◌≡◌ {A = Option Hold} (cond (not b) (Some FormHold) (cond c (Some TriangleHold) None)) None → b ≡ true
-      by true c h = refl
-      by false c h = absurd cc
+      by : (b c d : Bool) → ◌≡◌ {A = Option Hold} (cond (not b) (Some FormHold) (cond c (Some TriangleHold) (cond d (Some BoundsHold) None))) None → b ≡ true
+      by true c d h = refl
+      by false c d h = absurd cc
 
-  pub statement_regular : (k : ℕ) (r : Reference) (e : Expression) → ArePlain r.subscripts → IsPlain e → hold_at a k (made_left (canonising loops a.symbols) r) ≡ None
-      → IsRegularFrom k (made_left (canonising loops a.symbols) r) (settled e)
-  statement_regular k r e p q h =
+  guard_regular : (D : List Loop) → Each IsKnown D → (guard : Option Expression) → IsPlainGuard guard → is_regular_guard a D (option_map settled guard) ≡ true
+  guard_regular D k None p = refl
+  guard_regular D k (Some e) p = regular e p D k
+
+  pub statement_regular : (k : ℕ) (guard : Option Expression) (r : Reference) (e : Expression) (safe : Bool) → ArePlain r.subscripts → IsPlain e → IsPlainGuard guard
+      → hold_at a k (option_map settled guard) (made_left (canonising loops a.symbols) r) safe ≡ None
+      → IsRegularFrom k (option_map settled guard) (made_left (canonising loops a.symbols) r) (settled e)
+  statement_regular k guard r e safe p q g h =
       let ps = settled_subscripts r.subscripts in
       let F : List Loop = loops_from a k in
-      let formed = both (list_all (λ (l : Loop). occurrences l.variable ps == 1) F) (are_formed a F ps) (has_form_there k (made_left (canonising loops a.symbols) r) h) in
+      let formed = both (list_all (λ (l : Loop). occurrences l.variable ps == 1) F) (are_formed a F ps) (has_form_there k (option_map settled guard) (made_left (canonising loops a.symbols) r) safe h) in
       let known = order_each IsKnown F ps (from_each IsKnown (k - 1) a.loops (Each-from IsKnown a.loops (is_there a.loops))) in
       record {
         left = left_moved F (loops_in_order F ps) (order_each (λ l. In l F) F ps (Each-from (λ l. In l F) F (λ l i. i))) known r.subscripts p formed.1;
+        guard_is = guard_regular (loops_in_order F ps) known guard g;
         right = regular e q (loops_in_order F ps) known;
       }
 
   -- a scalar never moves with a loop
-  pub scalar_held : (k : ℕ) (v : List ℕ) → 1 ≤ k → k ≤ length a.loops → hold_at a k (scalar v) ≡ None → ⊥
-  scalar_held k v from to h = by (loops_from a k) refl (has_form_there k (scalar v) h)
+  pub scalar_held : (k : ℕ) (guard : Option Expression) (v : List ℕ) (safe : Bool) → 1 ≤ k → k ≤ length a.loops → hold_at a k guard (scalar v) safe ≡ None → ⊥
+  scalar_held k guard v safe from to h = by (loops_from a k) refl (has_form_there k guard (scalar v) safe h)
     where
       by : (F : List Loop) → loops_from a k ≡ F → has_form a F no_subscripts ≡ true → ⊥
       by [] e g = let none = ap (λ (ls : List Loop). length ls) (sym e) ∙ length-drop (k - 1) a.loops in omega (arith, none, from, to)

@@ -1,5 +1,5 @@
 -- What is made of a nest that was found has subscripts that move with its loops.
-use Rattle.std.proofs.Common.{◌≡◌, refl, sym, ap, ◌∙◌, subst, ℕ, ◌≤◌, List, [], ◌∷◌, ◌++◌, map, length, None}
+use Rattle.std.proofs.Common.{◌≡◌, refl, sym, ap, ◌∙◌, subst, ℕ, ◌≤◌, Bool, List, [], ◌∷◌, ◌++◌, map, length, None}
 use Rattle.std.proofs.lemmas.List.{length-map, map-append}
 use Rattle.array_form.specs.forms.Loops.{Surroundings, variables_of}
 use Rattle.array_form.specs.forms.Statements.{hold_at}
@@ -17,6 +17,8 @@ use Rattle.last_values.specs.normal_forms.NormalLoops.{counters_of}
 use Rattle.last_values.specs.declared.normal_forms.loops.NormalLoop.{NormalLoop}
 use Rattle.pass_laws.proofs.ReadyNests.Made.{IsMadeOf, made_of}
 use Rattle.pass_laws.proofs.ReadyNests.Walk.{EachIn, Steps, standing, assigning, each_statement}
+use Rattle.array_form.specs.holds.Bounds.{is_safe}
+use Rattle.array_form.specs.holds.Holds.{hold_of}
 use Rattle.array_form.specs.holds.Statements.{no_statement}
 use Rattle.array_form.specs.holds.Surroundings.{counted, counted_of, surroundings_of}
 use Rattle.pass_laws.proofs.NormalFacts.CanonicalPlain.{IsPlainStatement, plain_with_values}
@@ -27,16 +29,17 @@ use Rattle.pass_laws.specs.normal_facts.Laws.{NormalNestIsRegular}
 -- ---- one statement
 
 -- a statement that a rule makes canonical over these names is regular where nothing forbids its array form
+abbrev IsRegularHere : Surroundings → Guarded → ℕ → Type 0
+IsRegularHere a g k = (safe : Bool) → hold_at a k g.guard g.left safe ≡ None → IsRegularFrom a k g.guard g.left g.right
+
 abbrev IsRegularMade : Surroundings → Guarded → ℕ → List (List ℕ) → List (List ℕ) → Type 0
-IsRegularMade a g k loops symbols =
-    hold_at a k (rewritten_statement (canonising loops symbols) g).left ≡ None
-    → IsRegularFrom a k (rewritten_statement (canonising loops symbols) g).left (rewritten_statement (canonising loops symbols) g).right
+IsRegularMade a g k loops symbols = IsRegularHere a (rewritten_statement (canonising loops symbols) g) k
 
 made_regular : (a : Surroundings) (loops symbols : List (List ℕ)) → variables_of a.loops ≡ loops → a.symbols ≡ symbols
     → (g : Guarded) → IsPlainStatement g → (k : ℕ) → IsRegularMade a g k loops symbols
 made_regular a loops symbols e f g p k =
     subst (λ xs. IsRegularMade a g k xs symbols) e
-    (subst (λ ys. IsRegularMade a g k (variables_of a.loops) ys) f (λ h. statement_regular a k g.left g.right p.left p.right h))
+    (subst (λ ys. IsRegularMade a g k (variables_of a.loops) ys) f (λ safe h. statement_regular a k g.guard g.left g.right safe p.left p.right p.guard h))
 
 -- ---- the loops round a statement
 
@@ -63,8 +66,8 @@ none_round = refl
 
 module _ (n m : Nest) (same : m.symbols ≡ n.symbols) where
   abbrev Asked : Standing → Type 0
-  Asked x = (k : ℕ) → 1 ≤ k → k ≤ length x.loops → hold_at (surroundings_of m x.loops) k x.statement.left ≡ None
-      → IsRegularFrom (surroundings_of m x.loops) k x.statement.left x.statement.right
+  Asked x = (k : ℕ) → 1 ≤ k → k ≤ length x.loops → hold_of m x k ≡ None
+      → IsRegularFrom (surroundings_of m x.loops) k x.statement.guard x.statement.left x.statement.right
 
   abbrev Under : List NormalLoop → List Loop → Type 0
   Under round ls = variables ls ≡ counters_of round
@@ -73,12 +76,14 @@ module _ (n m : Nest) (same : m.symbols ≡ n.symbols) where
   unfolding normal_statement
   run round ls g u p k from to h =
       made_regular (surroundings_of m ls) (counters_of round) n.symbols (variables_round (length ls) ls ∙ u) same
-      (statement_with_values n.symbols [] round g) (plain_with_values n.symbols [] round g p) k h
+      (statement_with_values n.symbols [] round g) (plain_with_values n.symbols [] round g p) k (is_safe m (standing ls (normal_statement n.symbols round g))) h
 
   in_place : (ls : List Loop) (v : List ℕ) (g : Guarded) → g.left ≡ scalar v → Asked (standing ls g)
   in_place ls v g e k from to h =
       let a = surroundings_of m ls in
-      absurd (scalar_held a k v from (subst (λ d. k ≤ d) (sym (length-map ls (λ l. counted_of (length ls) (counted l)))) to) (ap (hold_at a k) (sym e) ∙ h))
+      let safe = is_safe m (standing ls g) in
+      absurd (scalar_held a k g.guard v safe from (subst (λ d. k ≤ d) (sym (length-map ls (λ l. counted_of (length ls) (counted l)))) to)
+      (subst (λ r. hold_at a k g.guard r safe ≡ None) e h))
 
   steps : Steps n IsPlainStatement any_loop Under Asked
   steps = record {
@@ -92,9 +97,9 @@ module _ (n m : Nest) (same : m.symbols ≡ n.symbols) where
   made_is_regular p is k s level h =
       let all = each_statement n m IsPlainStatement any_loop Under Asked steps none_round p is in
       let x = Each-get Asked (nest_statements m) all s no_statement level.0 k level.1 level.2 h in
-      record { left = x.left; right = x.right }
+      record { left = x.left; guard = x.guard_is; right = x.right }
 
 pub normal_nest_is_regular : NormalNestIsRegular
-normal_nest_is_regular p n m is h e plain free =
+normal_nest_is_regular p n m is h e plain =
     let made = made_of n m e in
     made_is_regular n m made.symbols (found_is_plain p n is h) made

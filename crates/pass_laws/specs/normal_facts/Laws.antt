@@ -6,7 +6,7 @@ use Rattle.meaning.specs.Dialect.{fortran77}
 use Rattle.meaning.specs.Holding.{HasBounds}
 use Rattle.meaning.specs.Profile77.{IsProgram77}
 use Rattle.meaning.specs.Typed.{declared}
-use Rattle.emission.specs.emission_forms.Forms.{AreRegular, AreUnguarded}
+use Rattle.emission.specs.emission_forms.Forms.{AreRegular}
 use Rattle.emission.specs.emission_forms.Written.{HasFormFacts}
 use Rattle.find_nests.specs.Found.{InNest, found_in}
 use Rattle.emission.specs.graph_orders.Nests.{run_nest}
@@ -36,15 +36,15 @@ pub record IsSettingOf (p : Program) (m : Nest) (w : Setting) : Type 0 where
 abbrev pub NormalNestHasFacts : Type 0
 NormalNestHasFacts = (p : Program) (n m : Nest) (w : Setting)
     → IsProgram77 fortran77 p → Contains (found_in p) (InNest n) → normalised n ≡ Some m
-    → IsPlain m.body → AreUnguarded m → IsSettingOf p m w → HasFacts 31 (run_nest m) w
+    → IsPlain m.body → IsSettingOf p m w → HasFacts 31 (run_nest m) w
 
 abbrev pub NormalNestIsRegular : Type 0
 NormalNestIsRegular = (p : Program) (n m : Nest)
     → IsProgram77 fortran77 p → Contains (found_in p) (InNest n) → normalised n ≡ Some m
-    → IsPlain m.body → AreUnguarded m → AreRegular m
+    → IsPlain m.body → AreRegular m
 
 -- what array forms ask beside
 abbrev pub NormalNestHasFormFacts : Type 0
 NormalNestHasFormFacts = (p : Program) (n m : Nest) (w : Setting)
     → IsProgram77 fortran77 p → Contains (found_in p) (InNest n) → normalised n ≡ Some m
-    → IsPlain m.body → AreUnguarded m → IsSettingOf p m w → HasFormFacts m w
+    → IsPlain m.body → IsSettingOf p m w → HasFormFacts m w

@@ -7,7 +7,8 @@ use Rattle.std.specs.Prelude.{int_div}
 use Rattle.std.proofs.lemmas.List.{length-append}
 use Rattle.components.specs.Lists.{Each}
 use Rattle.components.proofs.ListLaws.{Each-append}
-use Rattle.meaning.specs.Blocks.{Surroundings, before_labels, IsLine}
+use Rattle.meaning.specs.Blocks.{Surroundings, before_labels}
+use Rattle.meaning.specs.Labels.{IsLine}
 use Rattle.meaning.specs.Depths.{depth_of}
 use Rattle.meaning.specs.Profile90.{IsBlock, IsStatement, IsWhole}
 use Rattle.meaning.specs.Typed.{declared, rank_of_extent}

@@ -4,7 +4,8 @@ use Rattle.std.proofs.Common.{None, Contains, arith}
 use Rattle.std.specs.Option.{IsSomeAnd}
 use Rattle.components.specs.Lists.{Each}
 use Rattle.components.proofs.ListLaws.{Each-append}
-use Rattle.meaning.specs.Blocks.{Surroundings, IsLine}
+use Rattle.meaning.specs.Blocks.{Surroundings}
+use Rattle.meaning.specs.Labels.{IsLine}
 use Rattle.meaning.specs.Depths.{depth_of}
 use Rattle.meaning.specs.Typed.{declared, rank_of_extent}
 use Rattle.meaning.specs.Typed77.{deepest}

@@ -6,7 +6,8 @@ use Rattle.std.specs.Ordering.{int_eq}
 use Rattle.std.specs.Prelude.{length, slice_get, ◌==◌, ⊤}
 use Rattle.components.specs.Lists.{Each}
 use Rattle.components.proofs.ListLaws.{Each-append}
-use Rattle.meaning.specs.Agreement.{names_in_block, names_in_statement}
+use Rattle.meaning.specs.Reads.{names_in_block}
+use Rattle.meaning.specs.Reads.{names_in_statement}
 use Rattle.meaning.specs.Reads.{names_in, names_in_subscripts}
 use Rattle.nest_order.proofs.orders.Lists.{In-append}
 use Rattle.nest_order.specs.orders.Lists.{In}

@@ -10,8 +10,9 @@ use Rattle.find_nests.specs.Found.{InNest, found_in}
 use Rattle.find_nests.specs.Laws.{IsFoundNest}
 use Rattle.find_nests.specs.Loops.{as_statement}
 use Rattle.linear_forms.specs.CanonicalLaws.{AreDistinct}
-use Rattle.meaning.specs.Agreement.{names_in_block}
-use Rattle.meaning.specs.Blocks.{IsLine, Surroundings, before_labels, labels_of}
+use Rattle.meaning.specs.Reads.{names_in_block}
+use Rattle.meaning.specs.Blocks.{Surroundings, before_labels, labels_of}
+use Rattle.meaning.specs.Labels.{IsLine}
 use Rattle.meaning.specs.Depths.{depth_of}
 use Rattle.meaning.specs.Dialect.{fortran77}
 use Rattle.meaning.specs.Profile77 as source_profile

@@ -2,7 +2,7 @@
 use Rattle.std.proofs.Common.{◌≡◌, ◌⊎◌, inl, inr, refl, sym, subst, ℕ, Bool, true, false, ◌&&◌, ◌||◌, List, [], ◌∷◌}
 use Rattle.std.proofs.Common.{Contains}
 use Rattle.std.specs.List.{list_all}
-use Rattle.meaning.specs.Names.{IsSymbolicName, is_digit, is_letter}
+use Rattle.meaning.specs.SymbolicNames.{IsSymbolicName, is_digit, is_letter}
 use Rattle.tree.specs.Names.{IsSourceName}
 use Rattle.meaning_laws.proofs.profiles.Lists.{nowhere, cases_of}
 

@@ -3,7 +3,8 @@
 use Rattle.std.proofs.Common.{◌≡◌, refl, sym, subst, ℕ, List, [], ◌∷◌, ◌++◌, Option, Some, None, Contains}
 use Rattle.std.specs.Option.{IsSomeAnd}
 use Rattle.find_nests.specs.Loops.{Numbered, as_statement}
-use Rattle.meaning.specs.Blocks.{IsLine, Surroundings, before_labels, labels_of, within_loop}
+use Rattle.meaning.specs.Blocks.{Surroundings, before_labels, labels_of, within_loop}
+use Rattle.meaning.specs.Labels.{IsLine}
 use Rattle.meaning.specs.Profile77 as source
 use Rattle.meaning.specs.Profile90 as target
 use Rattle.meaning.specs.Typed.{declared}

@@ -9,14 +9,16 @@ use Rattle.tree.specs.Plain.{Deallocate, Arms, no_arms, arm, Block, no_statement
 use Rattle.tree.specs.Plain.{Declaration}
 use Rattle.tree.specs.declared.ops.Kind.{Kind}
 use Rattle.tree.specs.declared.ops.Kind.TheVariants.{Integer, Logical}
-use Rattle.meaning.specs.Agreement.{names_in_item, names_in_items, names_in_statement, names_in_arms, names_in_block}
+use Rattle.meaning.specs.Reads.{names_in_block}
+use Rattle.meaning.specs.Reads.{names_in_item, names_in_items, names_in_statement, names_in_arms}
 use Rattle.meaning.specs.Blocks.{Surroundings, within_loop, before_labels, labels_of}
 use Rattle.meaning.specs.Profile90.{IsWhole, IsWholeScalar, IsAssignment, IsMasked, IsAllocation, IsStatement}
 use Rattle.meaning.specs.Profile90.{AreArms, IsBlock}
 use Rattle.meaning.specs.Reads.{names_in, names_in_each, names_in_subscripts}
 use Rattle.meaning.specs.Typed.{declared}
-use Rattle.meaning.specs.Typed90.{rank_of, IsScalar, IsDoVariable, HasSomeKind, IsInput, IsOutputItem}
-use Rattle.meaning.specs.Typed90.{AreOutputItems, IsInputItem, AreInputItems}
+use Rattle.meaning.specs.Typed90.{rank_of, IsScalar, IsDoVariable, HasSomeKind}
+use Rattle.meaning.specs.Items90.{IsInput, IsOutputItem}
+use Rattle.meaning.specs.Items90.{AreOutputItems, IsInputItem, AreInputItems}
 use Rattle.meaning.specs.Value.{named}
 use Rattle.meaning_laws.proofs.profiles.Lists.{all_weaker}
 use Rattle.meaning_laws.proofs.profiles.Names.{names, found, once}

@@ -14,14 +14,14 @@ use Rattle.std.proofs.lemmas.Slice.Eq.{bytes_eq-Decides}
 use Rattle.tree.specs.Limits as limits
 use Rattle.tree.specs.Names.{IsSourceName}
 use Rattle.tree.specs.Plain.{Declaration}
-use Rattle.meaning.specs.Names.{IsLongName, IsInByteOrder}
-use Rattle.meaning.specs.Profile77.{array_elements}
+use Rattle.meaning.specs.Names.{IsInByteOrder}
+use Rattle.meaning.specs.Extents.{array_elements}
 use Rattle.meaning.specs.Profile90.{IsDeclaration, AreDeclarations}
 use Rattle.meaning.specs.Typed.{dimensions, declared}
 use Rattle.meaning_laws.proofs.profiles.Lists.{here, there, nowhere, cases_of, all_weaker, all_of_map}
 use Rattle.meaning_laws.proofs.profiles.Names.{names, once}
-use Rattle.translation.specs.made_declarations.Declaring.{integer_scalar, placed_by, with_integer, with_integers}
-use Rattle.translation.specs.made_declarations.Laws.{IsMadeName, AreWith, WithMadeNames}
+use Rattle.translation.specs.made_declarations.Declaring.{placed_by, with_declaration, with_declarations}
+use Rattle.translation.specs.made_declarations.Laws.{AgreeOnNames, AreWith, IsMadeDeclaration, WithMadeNames}
 
 -- ---- names in byte order
 
@@ -36,149 +36,174 @@ Follows x y = slice_cmp nat_cmp x y ≡ Less
 
 -- ---- one name more: what is there
 
-kept_placed : (o : Ordering) (x : List ℕ) (d : Declaration) (ds behind : List Declaration) (e : Declaration) → Contains (d ∷ ds) e → (Contains ds e → Contains behind e) → Contains (placed_by o x d ds behind) e
-kept_placed Less x d ds behind e c more = there (integer_scalar x) (d ∷ ds) e c
-kept_placed Equal x d ds behind e c more = c
-kept_placed Greater x d ds behind e c more = by (cases_of d ds e c)
+kept_placed : (o : Ordering) (n d : Declaration) (ds behind : List Declaration) (e : Declaration) → Contains (d ∷ ds) e
+    → (Contains ds e → Contains behind e) → Contains (placed_by o n d ds behind) e
+kept_placed Less n d ds behind e c more = there n (d ∷ ds) e c
+kept_placed Equal n d ds behind e c more = c
+kept_placed Greater n d ds behind e c more = by (cases_of d ds e c)
   where
     by : (d ≡ e) ⊎ Contains ds e → Contains (d ∷ behind) e
     by (inl s) = subst (Contains (d ∷ behind)) s (here d behind)
     by (inr k) = there d behind e (more k)
 
-kept : (ds : List Declaration) (x : List ℕ) (e : Declaration) → Contains ds e → Contains (with_integer ds x) e
-kept [] x e c = absurd (nowhere e c)
-kept (d ∷ ds) x e c = kept_placed (slice_cmp nat_cmp x d.name) x d ds (with_integer ds x) e c (kept ds x e)
+kept : (ds : List Declaration) (n e : Declaration) → Contains ds e → Contains (with_declaration ds n) e
+kept [] n e c = absurd (nowhere e c)
+kept (d ∷ ds) n e c = kept_placed (slice_cmp nat_cmp n.name d.name) n d ds (with_declaration ds n) e c (kept ds n e)
 
-members_placed : (o : Ordering) (x : List ℕ) (d : Declaration) (ds behind : List Declaration) (e : Declaration) → Contains (placed_by o x d ds behind) e → (Contains behind e → Contains ds e ⊎ (integer_scalar x ≡ e)) → Contains (d ∷ ds) e ⊎ (integer_scalar x ≡ e)
-members_placed Less x d ds behind e c more = by (cases_of (integer_scalar x) (d ∷ ds) e c)
+members_placed : (o : Ordering) (n d : Declaration) (ds behind : List Declaration) (e : Declaration)
+    → Contains (placed_by o n d ds behind) e → (Contains behind e → Contains ds e ⊎ (n ≡ e)) → Contains (d ∷ ds) e ⊎ (n ≡ e)
+members_placed Less n d ds behind e c more = by (cases_of n (d ∷ ds) e c)
   where
-    by : (integer_scalar x ≡ e) ⊎ Contains (d ∷ ds) e → Contains (d ∷ ds) e ⊎ (integer_scalar x ≡ e)
+    by : (n ≡ e) ⊎ Contains (d ∷ ds) e → Contains (d ∷ ds) e ⊎ (n ≡ e)
     by (inl s) = inr s
     by (inr k) = inl k
-members_placed Equal x d ds behind e c more = inl c
-members_placed Greater x d ds behind e c more = by (cases_of d behind e c)
+members_placed Equal n d ds behind e c more = inl c
+members_placed Greater n d ds behind e c more = by (cases_of d behind e c)
   where
-    further : Contains ds e ⊎ (integer_scalar x ≡ e) → Contains (d ∷ ds) e ⊎ (integer_scalar x ≡ e)
+    further : Contains ds e ⊎ (n ≡ e) → Contains (d ∷ ds) e ⊎ (n ≡ e)
     further (inl k) = inl (there d ds e k)
     further (inr s) = inr s
 
-    by : (d ≡ e) ⊎ Contains behind e → Contains (d ∷ ds) e ⊎ (integer_scalar x ≡ e)
+    by : (d ≡ e) ⊎ Contains behind e → Contains (d ∷ ds) e ⊎ (n ≡ e)
     by (inl s) = inl (subst (Contains (d ∷ ds)) s (here d ds))
     by (inr k) = further (more k)
 
-members : (ds : List Declaration) (x : List ℕ) (e : Declaration) → Contains (with_integer ds x) e → Contains ds e ⊎ (integer_scalar x ≡ e)
-members [] x e c = by (cases_of (integer_scalar x) [] e c)
+pub members : (ds : List Declaration) (n e : Declaration) → Contains (with_declaration ds n) e → Contains ds e ⊎ (n ≡ e)
+members [] n e c = by (cases_of n [] e c)
   where
-    by : (integer_scalar x ≡ e) ⊎ Contains [] e → Contains [] e ⊎ (integer_scalar x ≡ e)
+    by : (n ≡ e) ⊎ Contains [] e → Contains [] e ⊎ (n ≡ e)
     by (inl s) = inr s
     by (inr k) = inl k
-members (d ∷ ds) x e c = members_placed (slice_cmp nat_cmp x d.name) x d ds (with_integer ds x) e c (members ds x e)
+members (d ∷ ds) n e c =
+    members_placed (slice_cmp nat_cmp n.name d.name) n d ds (with_declaration ds n) e c (members ds n e)
 
--- a name that is declared is so as an INTEGER scalar
-put_placed : (o : Ordering) (x : List ℕ) (d : Declaration) (ds behind : List Declaration) → slice_cmp nat_cmp x d.name ≡ o → (d.name ≡ x → d ≡ integer_scalar x) → Contains behind (integer_scalar x) → Contains (placed_by o x d ds behind) (integer_scalar x)
-put_placed Less x d ds behind q is b = here (integer_scalar x) (d ∷ ds)
-put_placed Equal x d ds behind q is b = subst (Contains (d ∷ ds)) (is (sym (same_name x d.name q))) (here d ds)
-put_placed Greater x d ds behind q is b = there d behind (integer_scalar x) b
+-- what is declared under the new name is the new declaration
+put_placed : (o : Ordering) (n d : Declaration) (ds behind : List Declaration) → slice_cmp nat_cmp n.name d.name ≡ o
+    → (d.name ≡ n.name → d ≡ n) → Contains behind n → Contains (placed_by o n d ds behind) n
+put_placed Less n d ds behind q is b = here n (d ∷ ds)
+put_placed Equal n d ds behind q is b = subst (Contains (d ∷ ds)) (is (sym (same_name n.name d.name q))) (here d ds)
+put_placed Greater n d ds behind q is b = there d behind n b
 
-put : (ds : List Declaration) (x : List ℕ) → ((e : Declaration) → Contains ds e → e.name ≡ x → e ≡ integer_scalar x) → Contains (with_integer ds x) (integer_scalar x)
-put [] x is = here (integer_scalar x) []
-put (d ∷ ds) x is = put_placed (slice_cmp nat_cmp x d.name) x d ds (with_integer ds x) refl (is d (here d ds)) (put ds x (λ e c. is e (there d ds e c)))
+put : (ds : List Declaration) (n : Declaration) → ((e : Declaration) → Contains ds e → e.name ≡ n.name → e ≡ n)
+    → Contains (with_declaration ds n) n
+put [] n is = here n []
+put (d ∷ ds) n is =
+    put_placed (slice_cmp nat_cmp n.name d.name) n d ds (with_declaration ds n) refl (is d (here d ds))
+    (put ds n (λ e c. is e (there d ds e c)))
 
 -- ---- one name more: what holds of each, the order, and the elements of arrays
 
-each_placed : (P : Declaration → Type 0) (o : Ordering) (x : List ℕ) (d : Declaration) (ds behind : List Declaration) → P (integer_scalar x) → AllByRecursion P (d ∷ ds) → AllByRecursion P behind → AllByRecursion P (placed_by o x d ds behind)
-each_placed P Less x d ds behind i h b = (i, h)
-each_placed P Equal x d ds behind i h b = h
-each_placed P Greater x d ds behind i h b = (h.0, b)
+each_placed : (P : Declaration → Type 0) (o : Ordering) (n d : Declaration) (ds behind : List Declaration) → P n
+    → AllByRecursion P (d ∷ ds) → AllByRecursion P behind → AllByRecursion P (placed_by o n d ds behind)
+each_placed P Less n d ds behind i h b = (i, h)
+each_placed P Equal n d ds behind i h b = h
+each_placed P Greater n d ds behind i h b = (h.0, b)
 
-each : (P : Declaration → Type 0) (ds : List Declaration) (x : List ℕ) → P (integer_scalar x) → AllByRecursion P ds → AllByRecursion P (with_integer ds x)
-each P [] x i h = (i, tt)
-each P (d ∷ ds) x i h = each_placed P (slice_cmp nat_cmp x d.name) x d ds (with_integer ds x) i h (each P ds x i h.1)
+each : (P : Declaration → Type 0) (ds : List Declaration) (n : Declaration) → P n → AllByRecursion P ds
+    → AllByRecursion P (with_declaration ds n)
+each P [] n i h = (i, tt)
+each P (d ∷ ds) n i h =
+    each_placed P (slice_cmp nat_cmp n.name d.name) n d ds (with_declaration ds n) i h (each P ds n i h.1)
 
-all_names : (P : List ℕ → Type 0) (ds : List Declaration) → AllByRecursion (λ (e : Declaration). P e.name) ds → AllByRecursion P (names ds)
+all_names : (P : List ℕ → Type 0) (ds : List Declaration) → AllByRecursion (λ (e : Declaration). P e.name) ds
+    → AllByRecursion P (names ds)
 all_names P [] h = tt
 all_names P (d ∷ ds) h = (h.0, all_names P ds h.1)
 
-each_follows : (y : List ℕ) (ds : List Declaration) (x : List ℕ) → Follows y x → AllByRecursion (Follows y) (names ds) → AllByRecursion (Follows y) (names (with_integer ds x))
-each_follows y ds x l h =
-    all_names (Follows y) (with_integer ds x)
-    (each (λ (e : Declaration). Follows y e.name) ds x l (all_of_map (λ (e : Declaration). e.name) (Follows y) ds h))
+each_follows : (y : List ℕ) (ds : List Declaration) (n : Declaration) → Follows y n.name
+    → AllByRecursion (Follows y) (names ds) → AllByRecursion (Follows y) (names (with_declaration ds n))
+each_follows y ds n l h =
+    all_names (Follows y) (with_declaration ds n)
+    (each (λ (e : Declaration). Follows y e.name) ds n l (all_of_map (λ (e : Declaration). e.name) (Follows y) ds h))
 
-ordered_placed : (o : Ordering) (x : List ℕ) (d : Declaration) (ds behind : List Declaration) → slice_cmp nat_cmp x d.name ≡ o → IsInByteOrder (names (d ∷ ds)) → IsInByteOrder (names behind) → (Follows d.name x → AllByRecursion (Follows d.name) (names behind)) → IsInByteOrder (names (placed_by o x d ds behind))
-ordered_placed Less x d ds behind q h b more =
-    ((q, all_weaker (Follows d.name) (Follows x) (λ y l. nat_list_cmp_total.trans x d.name y q l) (names ds) h.0), h)
-ordered_placed Equal x d ds behind q h b more = h
-ordered_placed Greater x d ds behind q h b more = (more (turned x d.name q), b)
+ordered_placed : (o : Ordering) (n d : Declaration) (ds behind : List Declaration) → slice_cmp nat_cmp n.name d.name ≡ o
+    → IsInByteOrder (names (d ∷ ds)) → IsInByteOrder (names behind)
+    → (Follows d.name n.name → AllByRecursion (Follows d.name) (names behind)) → IsInByteOrder (names (placed_by o n d ds behind))
+ordered_placed Less n d ds behind q h b more =
+    ((q, all_weaker (Follows d.name) (Follows n.name) (λ y l. nat_list_cmp_total.trans n.name d.name y q l) (names ds) h.0), h)
+ordered_placed Equal n d ds behind q h b more = h
+ordered_placed Greater n d ds behind q h b more = (more (turned n.name d.name q), b)
 
-ordered : (ds : List Declaration) (x : List ℕ) → IsInByteOrder (names ds) → IsInByteOrder (names (with_integer ds x))
-ordered [] x h = (tt, tt)
-ordered (d ∷ ds) x h =
-    ordered_placed (slice_cmp nat_cmp x d.name) x d ds (with_integer ds x) refl h (ordered ds x h.1) (λ l. each_follows d.name ds x l h.0)
+ordered : (ds : List Declaration) (n : Declaration) → IsInByteOrder (names ds) → IsInByteOrder (names (with_declaration ds n))
+ordered [] n h = (tt, tt)
+ordered (d ∷ ds) n h =
+    ordered_placed (slice_cmp nat_cmp n.name d.name) n d ds (with_declaration ds n) refl h (ordered ds n h.1)
+    (λ l. each_follows d.name ds n l h.0)
 
-sum_placed : (f : Declaration → ℕ) (o : Ordering) (x : List ℕ) (d : Declaration) (ds behind : List Declaration) → f (integer_scalar x) ≡ 0 → sum_by f behind ≡ sum_by f ds → sum_by f (placed_by o x d ds behind) ≡ sum_by f (d ∷ ds)
-sum_placed f Less x d ds behind z s = omega (arith, sum_by-cons f (integer_scalar x) (d ∷ ds))
-sum_placed f Equal x d ds behind z s = refl
-sum_placed f Greater x d ds behind z s = sum_by-cons f d behind ∙ ap (λ n. f d + n) s ∙ sym (sum_by-cons f d ds)
+sum_placed : (f : Declaration → ℕ) (o : Ordering) (n d : Declaration) (ds behind : List Declaration) → f n ≡ 0
+    → sum_by f behind ≡ sum_by f ds → sum_by f (placed_by o n d ds behind) ≡ sum_by f (d ∷ ds)
+sum_placed f Less n d ds behind z s = omega (arith, sum_by-cons f n (d ∷ ds))
+sum_placed f Equal n d ds behind z s = refl
+sum_placed f Greater n d ds behind z s = sum_by-cons f d behind ∙ ap (λ k. f d + k) s ∙ sym (sum_by-cons f d ds)
 
-sum_same : (f : Declaration → ℕ) (ds : List Declaration) (x : List ℕ) → f (integer_scalar x) ≡ 0 → sum_by f (with_integer ds x) ≡ sum_by f ds
-sum_same f [] x z = omega (arith, sum_by-cons f (integer_scalar x) [])
-sum_same f (d ∷ ds) x z = sum_placed f (slice_cmp nat_cmp x d.name) x d ds (with_integer ds x) z (sum_same f ds x z)
+sum_same : (f : Declaration → ℕ) (ds : List Declaration) (n : Declaration) → f n ≡ 0
+    → sum_by f (with_declaration ds n) ≡ sum_by f ds
+sum_same f [] n z = omega (arith, sum_by-cons f n [])
+sum_same f (d ∷ ds) n z =
+    sum_placed f (slice_cmp nat_cmp n.name d.name) n d ds (with_declaration ds n) z (sum_same f ds n z)
 
-as_many : (f : Declaration → ℕ) (ds : List Declaration) (x : List ℕ) → f (integer_scalar x) ≡ 0 → sum (map f ds) ≡ sum (map f (with_integer ds x))
-as_many f ds x z = sum-map f ds ∙ sym (sum_same f ds x z) ∙ sym (sum-map f (with_integer ds x))
+as_many : (f : Declaration → ℕ) (ds : List Declaration) (n : Declaration) → f n ≡ 0
+    → sum (map f ds) ≡ sum (map f (with_declaration ds n))
+as_many f ds n z = sum-map f ds ∙ sym (sum_same f ds n z) ∙ sym (sum-map f (with_declaration ds n))
 
-declarations : (ds : List Declaration) (x : List ℕ) → AreDeclarations ds → IsLongName x → AreDeclarations (with_integer ds x)
-declarations ds x a n = record {
-  each = each IsDeclaration ds x (record { name = n; extent = (omega arith, tt) }) a.each;
-  ordered = ordered ds x a.ordered;
-  elements = subst (λ n. n ≤ limits.array_elements) (as_many (λ (e : Declaration). array_elements (dimensions e.extent)) ds x refl) a.elements;
+declarations : (ds : List Declaration) (n : Declaration) → AreDeclarations ds → IsMadeDeclaration n
+    → AreDeclarations (with_declaration ds n)
+declarations ds n a made = record {
+  each = each IsDeclaration ds n made.declaration a.each;
+  ordered = ordered ds n a.ordered;
+  elements =
+      subst (λ k. k ≤ limits.array_elements)
+      (as_many (λ (e : Declaration). array_elements (dimensions e.extent)) ds n (ap array_elements made.later)) a.elements;
 }
 
 -- ---- all the names
 
--- a name that is declared and stands among these is an INTEGER scalar
-abbrev AreScalars : List Declaration → List (List ℕ) → Type 0
-AreScalars ds xs = (e : Declaration) → Contains ds e → Contains xs e.name → e ≡ integer_scalar e.name
-
-scalars : (ds : List Declaration) (x : List ℕ) (xs : List (List ℕ)) → AreScalars ds (x ∷ xs) → AreScalars (with_integer ds x) xs
-scalars ds x xs s e c k = by (members ds x e c)
+agree_more : (ds : List Declaration) (n : Declaration) (ns : List Declaration) → AgreeOnNames ds (n ∷ ns)
+    → AgreeOnNames (n ∷ ns) (n ∷ ns) → AgreeOnNames (with_declaration ds n) ns
+agree_more ds n ns s own d e c k same = by (members ds n d c)
   where
-    by : Contains ds e ⊎ (integer_scalar x ≡ e) → e ≡ integer_scalar e.name
-    by (inl m) = s e m (there x xs e.name k)
-    by (inr p) = subst (λ (f : Declaration). f ≡ integer_scalar f.name) p refl
+    by : Contains ds d ⊎ (n ≡ d) → d ≡ e
+    by (inl m) = s d e m (there n ns e k) same
+    by (inr p) = own d e (subst (Contains (n ∷ ns)) p (here n ns)) (there n ns e k) same
 
-one_more : (ds : List Declaration) (x : List ℕ) (xs : List (List ℕ)) (es : List Declaration) → IsMadeName x → AreScalars ds (x ∷ xs) → AreWith (with_integer ds x) xs es → AreWith ds (x ∷ xs) es
-one_more ds x xs es m s rest = record {
+one_more : (ds : List Declaration) (n : Declaration) (ns es : List Declaration) → IsMadeDeclaration n
+    → AgreeOnNames ds (n ∷ ns) → AreWith (with_declaration ds n) ns es → AreWith ds (n ∷ ns) es
+one_more ds n ns es m s rest = record {
   more = record {
-    kept = λ e c. rest.more.kept e (kept ds x e c);
+    kept = λ e c. rest.more.kept e (kept ds n e c);
     made = λ e c. new e (rest.more.made e c);
     are = rest.more.are;
   };
-  declared = λ y c. as_scalar y (cases_of x xs y c);
+  declared = λ e c. is_declared e (cases_of n ns e c);
 }
   where
-    either : (e : Declaration) → Contains ds e ⊎ (integer_scalar x ≡ e) → Contains ds e ⊎ (IsSourceName e.name → ⊥)
+    either : (e : Declaration) → Contains ds e ⊎ (n ≡ e) → Contains ds e ⊎ (IsSourceName e.name → ⊥)
     either e (inl c) = inl c
     either e (inr p) = inr (subst (λ (f : Declaration). IsSourceName f.name → ⊥) p m.made)
 
-    new : (e : Declaration) → Contains (with_integer ds x) e ⊎ (IsSourceName e.name → ⊥) → Contains ds e ⊎ (IsSourceName e.name → ⊥)
-    new e (inl c) = either e (members ds x e c)
-    new e (inr n) = inr n
+    new : (e : Declaration) → Contains (with_declaration ds n) e ⊎ (IsSourceName e.name → ⊥)
+        → Contains ds e ⊎ (IsSourceName e.name → ⊥)
+    new e (inl c) = either e (members ds n e c)
+    new e (inr f) = inr f
 
-    found : declared es x ≡ Some (integer_scalar x)
-    found = once es (integer_scalar x) rest.more.are.ordered
-        (rest.more.kept (integer_scalar x) (put ds x (λ e c n. s e c (subst (Contains (x ∷ xs)) (sym n) (here x xs)) ∙ ap integer_scalar n)))
+    there_now : declared es n.name ≡ Some n
+    there_now = once es n rest.more.are.ordered (rest.more.kept n (put ds n (λ e c k. s e n c (here n ns) k)))
 
-    as_scalar : (y : List ℕ) → (x ≡ y) ⊎ Contains xs y → declared es y ≡ Some (integer_scalar y)
-    as_scalar y (inl p) = subst (λ z. declared es z ≡ Some (integer_scalar z)) p found
-    as_scalar y (inr c) = rest.declared y c
+    is_declared : (e : Declaration) → (n ≡ e) ⊎ Contains ns e → declared es e.name ≡ Some e
+    is_declared e (inl p) = subst (λ (f : Declaration). declared es f.name ≡ Some f) p there_now
+    is_declared e (inr c) = rest.declared e c
 
-are_with : (ds : List Declaration) (xs : List (List ℕ)) → AreDeclarations ds → All IsMadeName xs → AreScalars ds xs → AreWith ds xs (with_integers ds xs)
-are_with ds [] a m s = record { more = record { kept = λ e c. c; made = λ e c. inl c; are = a }; declared = λ x c. absurd (nowhere x c) }
-are_with ds (x ∷ xs) a m s =
-    let here_made = All-head IsMadeName x xs m in
-    one_more ds x xs (with_integers (with_integer ds x) xs) here_made s
-    (are_with (with_integer ds x) xs (declarations ds x a here_made.name) (All-tail IsMadeName x xs m) (scalars ds x xs s))
+are_with : (ds ns : List Declaration) → AreDeclarations ds → All IsMadeDeclaration ns → AgreeOnNames ds ns
+    → AgreeOnNames ns ns → AreWith ds ns (with_declarations ds ns)
+are_with ds [] a m s own = record {
+  more = record { kept = λ e c. c; made = λ e c. inl c; are = a };
+  declared = λ e c. absurd (nowhere e c);
+}
+are_with ds (n ∷ ns) a m s own =
+    let here_made = All-head IsMadeDeclaration n ns m in
+    one_more ds n ns (with_declarations (with_declaration ds n) ns) here_made s
+    (are_with (with_declaration ds n) ns (declarations ds n a here_made) (All-tail IsMadeDeclaration n ns m)
+    (agree_more ds n ns s own) (λ d e c k same. own d e (there n ns d c) (there n ns e k) same))
 
 pub made_names : WithMadeNames
-made_names ds xs a m new = are_with ds xs a m (λ e c k. absurd (new e c k))
+made_names ds es a m own new = are_with ds es a m (λ d e c k same. absurd (new d e c k same)) own

@@ -5,27 +5,23 @@ use Rattle.std.specs.Prelude.{slice_index_or}
 use Rattle.std.specs.List.{flat_map}
 use Rattle.std.proofs.lemmas.Bool.{cases_eq}
 use Rattle.std.proofs.lemmas.List.Folds.{list_any-append}
-use Rattle.array_form.specs.forms.Loops.{Surroundings}
 use Rattle.array_form.specs.forms.Statements as forms
 use Rattle.dependence_graph.specs.declared.graphs.Hold.{Hold}
 use Rattle.dependence_graph.specs.declared.graphs.HoldReason.{HoldReason}
-use Rattle.dependence_graph.specs.declared.graphs.HoldReason.TheVariants.{Form, Triangle}
-use Rattle.emission.specs.emission_forms.Forms.{AreAllHolds, IsLevelOf, surroundings_at}
+use Rattle.dependence_graph.specs.declared.graphs.HoldReason.TheVariants.{Bounds, Form, Triangle}
+use Rattle.emission.specs.emission_forms.Forms.{AreAllHolds, IsLevelOf, hold_there}
 use Rattle.emission.specs.emission_pieces.Levels.{is_held, is_hold_of}
 use Rattle.emission.specs.emission_pieces.Nests.{loops_at, standing_at}
 use Rattle.meaning.specs.ArrayValues.{counted}
-use Rattle.tree.specs.Plain.{Reference}
 use Rattle.nest.specs.Bodies.{Standing, nest_statements}
 use Rattle.nest.specs.Plain.{Nest}
-use Rattle.array_form.specs.holds.Holds.{hold_at_level, hold_with, holds_of, reason_of}
-use Rattle.listing.specs.programs.Listing.{all_holds}
+use Rattle.array_form.specs.holds.Holds.{all_holds, hold_of, hold_with, holds_of, holds_of_standing}
+use Rattle.array_form.specs.holds.Holds.{reason_of}
 use Rattle.array_form.specs.holds.Statements.{no_statement, statement_at}
-use Rattle.array_form.specs.holds.Surroundings.{surroundings_of}
 
 -- what forbids the array form of a statement at a level is among the holds
 abbrev IsListedAt : Nest → List Hold → ℕ → ℕ → Type 0
-IsListedAt n holds k s =
-    forms.hold_at (surroundings_at n s) k (standing_at n s).statement.left ≡ None ⊎ (is_held holds k s ≡ true)
+IsListedAt n holds k s = hold_there n k s ≡ None ⊎ (is_held holds k s ≡ true)
 
 -- ---- the holds of one statement
 
@@ -47,13 +43,17 @@ held_with : (k s : ℕ) (o : Option forms.Hold) → o ≡ None ⊎ (is_held (hol
 held_with k s None = inl refl
 held_with k s (Some forms.FormHold) = inr (own_hold k s Form)
 held_with k s (Some forms.TriangleHold) = inr (own_hold k s Triangle)
+held_with k s (Some forms.BoundsHold) = inr (own_hold k s Bounds)
 
-module _ (a : Surroundings) (left : Reference) (k s : ℕ) where
+module _ (n : Nest) (x : Standing) (k s : ℕ) where
+  abbrev holds_at : ℕ → List Hold
+  holds_at i = hold_with (s + 1) i (reason_of (hold_of n x i))
+
   abbrev holds_from : ℕ → ℕ → List Hold
-  holds_from first count = flat_map (hold_at_level (s + 1) a left) (counted first count)
+  holds_from first count = flat_map holds_at (counted first count)
 
   abbrev IsListedAmong : List Hold → Type 0
-  IsListedAmong holds = forms.hold_at a k left ≡ None ⊎ (is_held holds k s ≡ true)
+  IsListedAmong holds = hold_of n x k ≡ None ⊎ (is_held holds k s ≡ true)
 
   listed_left : (xs ys : List Hold) → IsListedAmong xs → IsListedAmong (xs ++ ys)
   listed_left xs ys (inl e) = inl e
@@ -63,9 +63,8 @@ module _ (a : Surroundings) (left : Reference) (k s : ℕ) where
   listed_right xs ys (inl e) = inl e
   listed_right xs ys (inr e) = inr (held_right k s xs ys e)
 
-  listed_here : (first : ℕ) → k ≡ first → IsListedAmong (hold_at_level (s + 1) a left first)
-  listed_here first e =
-      subst (λ i. IsListedAmong (hold_at_level (s + 1) a left i)) e (held_with k s (forms.hold_at a k left))
+  listed_here : (first : ℕ) → k ≡ first → IsListedAmong (holds_at first)
+  listed_here first e = subst (λ i. IsListedAmong (holds_at i)) e (held_with k s (hold_of n x k))
 
   listed_from : (count first : ℕ) → first ≤ k → k < first + count → IsListedAmong (holds_from first count)
   listed_from zero first h g = let no : ⊥ = omega arith in absurd no
@@ -76,17 +75,13 @@ module _ (a : Surroundings) (left : Reference) (k s : ℕ) where
           → (first + 1 ≤ k → k < (first + 1) + count → IsListedAmong (holds_from (first + 1) count))
           → IsListedAmong (holds_from first (suc count))
       by (inl e) later =
-          listed_left (hold_at_level (s + 1) a left first) (holds_from (first + 1) count) (listed_here first e)
+          listed_left (holds_at first) (holds_from (first + 1) count) (listed_here first e)
       by (inr e) later =
           let after : first + 1 ≤ k = omega (arith, e) in
           let within : k < (first + 1) + count = omega arith in
-          listed_right (hold_at_level (s + 1) a left first) (holds_from (first + 1) count) (later after within)
+          listed_right (holds_at first) (holds_from (first + 1) count) (later after within)
 
 -- ---- those of one statement more
-
-abbrev holds_in : Nest → ℕ → Standing → List Hold
-holds_in n s t =
-    flat_map (hold_at_level s (surroundings_of n t.loops) t.statement.left) (counted 1 (length t.loops))
 
 same_statement : (n : Nest) (s : ℕ) → statement_at n (s + 1) ≡ standing_at n s
 same_statement n s =
@@ -98,8 +93,8 @@ listed_of n k s level =
     let from : 1 ≤ k = level.1 in
     let most : k ≤ length (loops_at n s) = level.2 in
     let within : k < 1 + length (loops_at n s) = omega arith in
-    subst (λ holds. IsListedAt n holds k s) (ap (holds_in n (s + 1)) (sym (same_statement n s)))
-    (listed_from (surroundings_at n s) (standing_at n s).statement.left k s (length (loops_at n s)) 1 from within)
+    subst (λ holds. IsListedAt n holds k s) (ap (holds_of_standing n (s + 1)) (sym (same_statement n s)))
+    (listed_from n (standing_at n s) k s (length (loops_at n s)) 1 from within)
 
 -- among those of the statements from this one on
 listed_among : (n : Nest) (k s count first : ℕ) → IsLevelOf n k s → first ≤ s + 1 → s + 1 < first + count
@@ -113,13 +108,13 @@ listed_among n k s (suc count) first level h g =
         → IsListedAt n (flat_map (holds_of n) (counted (first + 1) count)) k s)
         → IsListedAt n (flat_map (holds_of n) (counted first (suc count))) k s
     by (inl e) later =
-        listed_left (surroundings_at n s) (standing_at n s).statement.left k s (holds_of n first)
+        listed_left n (standing_at n s) k s (holds_of n first)
         (flat_map (holds_of n) (counted (first + 1) count))
         (subst (λ i. IsListedAt n (holds_of n i) k s) e (listed_of n k s level))
     by (inr e) later =
         let after : first + 1 ≤ s + 1 = omega (arith, e) in
         let within : s + 1 < (first + 1) + count = omega arith in
-        listed_right (surroundings_at n s) (standing_at n s).statement.left k s (holds_of n first)
+        listed_right n (standing_at n s) k s (holds_of n first)
         (flat_map (holds_of n) (counted (first + 1) count)) (later after within)
 
 pub all_are_holds : (n : Nest) → AreAllHolds n (all_holds n)

@@ -7,11 +7,10 @@ use Rattle.dependence_graph.specs.declared.graphs.Graph.{Graph}
 use Rattle.emission.specs.emission_pieces.Pieces.{Pieces}
 use Rattle.find_nests.specs.Found.{Found}
 use Rattle.pass_laws.specs.found_sources.Alone.{HasLoopsAlone}
-use Rattle.normal_loops.specs.Listed.{IsListedFrom}
 use Rattle.normal_loops.specs.Normalised.{normalised}
-use Rattle.pass_laws.proofs.ListedNests.ListedNests.{listed_nest_is_normal, normal_nest_is_listed}
 use Rattle.nest.specs.Plain.{Nest}
 use Rattle.meaning_laws.proofs.profiles.Lists.{here, there}
+use Rattle.listing.proofs.programs.Stages.{none_listed, passed_is_listed}
 use Rattle.listing.specs.graphs.Lines.{Entry}
 use Rattle.listing.specs.programs.Listing.{HasNestEntries, HaveEntries, ListedNest, kept, listed_nest, listed_nests}
 use Rattle.listing.specs.programs.Listing.{not_built, tested_entries}
@@ -28,17 +27,12 @@ ListNest n es ts = (h : HasNestEntries n es) × (listed_nest n es h ≡ ts)
 
 not_tested : (n : Nest) → ((m : Nest) → normalised n ≡ Some m → HasLoopsAlone m.body → ⊥)
     → ListNest n (not_built n) []
-not_tested n never = (inr (never_listed, refl), refl)
-  where
-    never_listed : (m : Nest) → IsListedFrom n m → ⊥
-    never_listed m listed =
-        let w = listed_nest_is_normal n m listed in
-        never w.normal w.made (subst HasLoopsAlone w.body w.alone)
+not_tested n never = (inr (none_listed n (λ m h. never m h.made h.alone), refl), refl)
 
 translated : (n m : Nest) (g : Graph) (ps : Pieces) → IsTranslation n m g ps
     → ListNest n (tested_entries n.number m g) (record { found = n; normal = m; graph = g } ∷ [])
 translated n m g ps right =
-    (inl (m, normal_nest_is_listed n m right.made right.alone, (g, right.graph, refl)), refl)
+    (inl (m, passed_is_listed n m (record { made = right.made; alone = right.alone }), (g, right.graph, refl)), refl)
 
 -- ---- one after the other
 
@@ -67,7 +61,7 @@ all_listed (Kept line r ∷ rest) right =
     ((kept line r, flat_map entries_by rest, refl, refl, more.0), more.1)
 
 pub answers_are_listed : AnswersAreListed
-answers_are_listed p lines blocks h =
+answers_are_listed p lines blocks made h =
     let all =
     subst (ListAll h.answers) h.are.found
     (all_listed h.answers (λ a c. All-contains IsRight h.answers a h.are.right c)) in

@@ -14,7 +14,7 @@ use Rattle.find_nests.specs.View.{found_of}
 use Rattle.find_nests.specs.declared.search.Found.{Found as Found'}
 use Rattle.meaning.specs.Dialect.{fortran77}
 use Rattle.meaning.specs.Profile77.{IsProgram77}
-use Rattle.tree.specs.Plain.{Block, Program}
+use Rattle.tree.specs.Plain.{Block, Declaration, Program}
 use Rattle.tree.specs.View.{block_of}
 use Rattle.tree.specs.declared.programs.Line.{Line}
 use Rattle.tree.specs.declared.stmts.Block.{Block as Tree}
@@ -28,24 +28,35 @@ use Rattle.meaning_laws.proofs.profiles.Lists.{cases_of, here, nowhere}
 use Rattle.translation.specs.nest_blocks.Answers.{AreAnswersFor, ArePlaced}
 use Rattle.translation.specs.nest_blocks.Places.{IsPutFor}
 use Rattle.translation.proofs.NestBlocks.Placed.{IsBehind, placed_more, placed_none}
-use Rattle.translation.specs.nest_blocks.LoopAnswers.{Answer, IsAnswerTo, IsRight, entries_by, found_by}
+use Rattle.translation.specs.made_declarations.Declaring.{declaration_of_name}
+use Rattle.translation.specs.declared.made_declarations.names.MadeName.{MadeName}
+use Rattle.translation.specs.nest_blocks.LoopAnswers.{Answer, IsAnswerTo, IsRight, entries_by, found_by, made_by}
 
--- answers to these, what they list and what they put in the place of loops
-pub record AreAnswersTo (fs : List Found) (lines : List (List ℕ)) (blocks : List (Option Block)) : Type 0 where
+-- answers to these, what they list, what they put in the place of loops, and what passes made
+pub record AreAnswersTo (fs : List Found) (lines : List (List ℕ)) (blocks : List (Option Block)) (made : List Declaration)
+    : Type 0 where
   pub answers : List Answer
   pub right : All IsRight answers
   pub found : map found_by answers ≡ fs
   pub lines_are : lines ≡ lines_of_entries (flat_map entries_by answers)
   pub placed : ArePlaced answers blocks
+  pub made_are : made ≡ flat_map made_by answers
 
-answers_none : AreAnswersTo [] [] []
-answers_none =
-    record { answers = []; right = All-nil IsRight; found = refl; lines_are = refl; placed = placed_none }
+answers_none : AreAnswersTo [] [] [] []
+answers_none = record {
+  answers = [];
+  right = All-nil IsRight;
+  found = refl;
+  lines_are = refl;
+  placed = placed_none;
+  made_are = refl;
+}
 
 answers_more : (fs : List Found) (f : Found) (old more new : List (List ℕ)) (block : Option Block)
-    (before after : List (Option Block)) → AreAnswersTo fs old before → IsAnswerTo f more block → IsBehind fs f
-    → new ≡ old ++ more → IsPutFor f block before after → AreAnswersTo (fs ++ f ∷ []) new after
-answers_more fs f old more new block before after h a behind lines put = record {
+    (before after : List (Option Block)) (had own have : List Declaration) → AreAnswersTo fs old before had
+    → IsAnswerTo f more block own → IsBehind fs f → new ≡ old ++ more → IsPutFor f block before after
+    → have ≡ had ++ own → AreAnswersTo (fs ++ f ∷ []) new after have
+answers_more fs f old more new block before after had own have h a behind lines put made = record {
   answers = h.answers ++ a.answer ∷ [];
   right = All-push IsRight h.answers a.answer h.right a.right;
   found =
@@ -58,6 +69,10 @@ answers_more fs f old more new block before after h a behind lines put = record 
   placed =
       placed_more h.answers a.answer f block before after a.found a.block_is
       (subst (λ (gs : List Found). IsBehind gs f) (sym h.found) behind) h.placed put;
+  made_are =
+      made ∙ ap (λ ds. ds ++ own) h.made_are ∙ ap (λ ds. flat_map made_by h.answers ++ ds) a.made_are
+      ∙ ap (λ ds. flat_map made_by h.answers ++ ds) (sym (append-nil (made_by a.answer)))
+      ∙ sym (flat_map-append made_by h.answers (a.answer ∷ []));
 }
   where
     entries : flat_map entries_by (h.answers ++ a.answer ∷ []) ≡ flat_map entries_by h.answers ++ entries_by a.answer
@@ -110,25 +125,33 @@ behind p fs rest f program e = record {
 
 -- ---- what was found, as the program has it
 
-pub found_none : (items : List Found') (lines : List Line) (blocks : List (Option Tree)) → lines ≡ [] → blocks ≡ []
-    → AreAnswersTo (map found_of (take 0 items)) (map text_of lines) (blocks_of blocks)
-found_none items lines blocks l b =
-    subst (λ (bs : List (Option Tree)). AreAnswersTo [] (map text_of lines) (blocks_of bs)) (sym b)
-    (subst (λ (ls : List Line). AreAnswersTo [] (map text_of ls) []) (sym l) answers_none)
+abbrev declared_as : List MadeName → List Declaration
+declared_as made = map declaration_of_name made
+
+pub found_none : (items : List Found') (lines : List Line) (blocks : List (Option Tree)) (made : List MadeName)
+    → lines ≡ [] → blocks ≡ [] → made ≡ []
+    → AreAnswersTo (map found_of (take 0 items)) (map text_of lines) (blocks_of blocks) (declared_as made)
+found_none items lines blocks made l b d =
+    subst (λ (ds : List MadeName). AreAnswersTo [] (map text_of lines) (blocks_of blocks) (declared_as ds)) (sym d)
+    (subst (λ (bs : List (Option Tree)). AreAnswersTo [] (map text_of lines) (blocks_of bs) []) (sym b)
+    (subst (λ (ls : List Line). AreAnswersTo [] (map text_of ls) [] []) (sym l) answers_none))
 
 module _ (p : Program) (items : List Found') (is : map found_of items ≡ found_in p) where
   pub found_more : (i : ℕ) (x : Found') (old more new : List Line) (block : Option Tree)
-      (before after : List (Option Tree)) → IsProgram77 fortran77 p → i < length items → x ≡ get_or items i x
-      → AreAnswersTo (map found_of (take i items)) (map text_of old) (blocks_of before)
-      → IsAnswerTo (found_of x) (map text_of more) (option_map block_of block) → new ≡ old ++ more
-      → IsPutFor (found_of x) (option_map block_of block) (blocks_of before) (blocks_of after)
-      → AreAnswersTo (map found_of (take (i + 1) items)) (map text_of new) (blocks_of after)
-  found_more i x old more new block before after program within at h answer lines put =
-      subst (λ (fs : List Found). AreAnswersTo fs (map text_of new) (blocks_of after)) (sym one)
+      (before after : List (Option Tree)) (had own have : List MadeName) → IsProgram77 fortran77 p → i < length items
+      → x ≡ get_or items i x
+      → AreAnswersTo (map found_of (take i items)) (map text_of old) (blocks_of before) (declared_as had)
+      → IsAnswerTo (found_of x) (map text_of more) (option_map block_of block) (declared_as own) → new ≡ old ++ more
+      → IsPutFor (found_of x) (option_map block_of block) (blocks_of before) (blocks_of after) → have ≡ had ++ own
+      → AreAnswersTo (map found_of (take (i + 1) items)) (map text_of new) (blocks_of after) (declared_as have)
+  found_more i x old more new block before after had own have program within at h answer lines put made =
+      subst (λ (fs : List Found). AreAnswersTo fs (map text_of new) (blocks_of after) (declared_as have)) (sym one)
       (answers_more (map found_of (take i items)) (found_of x) (map text_of old) (map text_of more) (map text_of new)
-      (option_map block_of block) (blocks_of before) (blocks_of after) h answer
+      (option_map block_of block) (blocks_of before) (blocks_of after) (declared_as had) (declared_as own)
+      (declared_as have) h answer
       (behind p (map found_of (take i items)) (map found_of (drop (i + 1) items)) (found_of x) program whole)
-      (ap (map text_of) lines ∙ map-append text_of old more) put)
+      (ap (map text_of) lines ∙ map-append text_of old more) put
+      (ap (map declaration_of_name) made ∙ map-append declaration_of_name had own))
     where
       one : map found_of (take (i + 1) items) ≡ map found_of (take i items) ++ found_of x ∷ []
       one =
@@ -143,14 +166,18 @@ module _ (p : Program) (items : List Found') (is : map found_of items ≡ found_
       whole : map found_of (take i items) ++ found_of x ∷ map found_of (drop (i + 1) items) ≡ found_in p
       whole = sym (map-append found_of (take i items) (x ∷ drop (i + 1) items)) ∙ ap (map found_of) parts ∙ is
 
-  pub found_all : (i : ℕ) (lines given : List Line) (blocks stand : List (Option Tree)) → length items ≤ i
-      → AreAnswersTo (map found_of (take i items)) (map text_of lines) (blocks_of blocks) → given ≡ lines
-      → stand ≡ blocks → AreAnswersFor p (map text_of given) (blocks_of stand)
-  found_all i lines given blocks stand h k l b =
-      subst (λ (bs : List (Option Tree)). AreAnswersFor p (map text_of given) (blocks_of bs)) (sym b)
-      (subst (λ (ls : List Line). AreAnswersFor p (map text_of ls) (blocks_of blocks)) (sym l) record {
+  pub found_all : (i : ℕ) (lines given : List Line) (blocks stand : List (Option Tree)) (made have : List MadeName)
+      → length items ≤ i
+      → AreAnswersTo (map found_of (take i items)) (map text_of lines) (blocks_of blocks) (declared_as made)
+      → given ≡ lines → stand ≡ blocks → have ≡ made
+      → AreAnswersFor p (map text_of given) (blocks_of stand) (declared_as have)
+  found_all i lines given blocks stand made have h k l b d =
+      subst (λ (ds : List MadeName). AreAnswersFor p (map text_of given) (blocks_of stand) (declared_as ds)) (sym d)
+      (subst (λ (bs : List (Option Tree)). AreAnswersFor p (map text_of given) (blocks_of bs) (declared_as made)) (sym b)
+      (subst (λ (ls : List Line). AreAnswersFor p (map text_of ls) (blocks_of blocks) (declared_as made)) (sym l) (record {
         answers = k.answers;
         are = record { right = k.right; found = k.found ∙ ap (map found_of) (take_all i items h) ∙ is };
         lines_are = k.lines_are;
         placed = k.placed;
-      })
+        made_are = k.made_are;
+      })))

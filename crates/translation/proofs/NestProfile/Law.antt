@@ -12,7 +12,6 @@ use Rattle.normal_loops.specs.Bodies.{normal_part}
 use Rattle.normal_loops.specs.Loops.{nested_loops}
 use Rattle.normal_loops.specs.Normal.{is_normal}
 use Rattle.normal_loops.specs.Normalised.{normalised, only_one, with_body, with_loops}
-use Rattle.pass_laws.proofs.FoundSources.PlainNests.{normal_nests_are_plain}
 use Rattle.pass_laws.proofs.NormalMeaning.Made as texts
 use Rattle.pass_laws.proofs.ReadyNests.Made.{made_of}
 use Rattle.prepared_nests.specs.Laws.{normal_depth}
@@ -56,9 +55,8 @@ pub translation_is_of_profile : TranslationIsOfProfile
 translation_is_of_profile p r n m b w found is among added translated counters transpose reshape number round source =
     let passed = translated.passed in
     let prepared = passed_nest_is_prepared p r n m w found is among passed added counters round source in
-    let free = (normal_nests_are_plain p n m is among passed.made passed.alone).2 in
     let own = same_declarations n m passed.made ∙ ap (λ (k : Nest). k.declarations) found.is in
     subst (λ (c : Block). IsBlock r.declarations c w) (sym translated.block)
     (prepared_translation_is_of_profile r.declarations w.variables normal_depth m translated.pieces w added.are prepared
-    free translated.are (statements_are_few fortran77 p n m is found (made_of n m passed.made)) room
+    translated.are (statements_are_few fortran77 p n m is found (made_of n m passed.made)) room
     (subst (λ (ds : List Declaration). AddMadeNames ds r.declarations) (sym own) added) transpose reshape refl)

@@ -18,6 +18,8 @@ use Rattle.meaning_laws.proofs.dialects.MadeNames.{is_declared}
 use Rattle.linear_forms.specs.Laws.{HoldsSized}
 use Rattle.meaning_laws.specs.profiles.Profiles.{AddMadeNames}
 use Rattle.meaning_laws.proofs.profiles.Programs.{kept_declaration}
+use Rattle.std.specs.Option.{IsSomeAnd}
+use Rattle.translation.specs.placed_loops.Beside.{IsUnallocated}
 
 -- ---- stores that agree
 
@@ -125,7 +127,7 @@ cleaned_holds q r s a h = record {
 
 -- ---- its numbers are of 64 bits
 
-sized : (z : ℤ) → is_in_range 31 (Int z) ≡ true → nat_abs z ≤ 2 ^ 63
+pub sized : (z : ℤ) → is_in_range 31 (Int z) ≡ true → nat_abs z ≤ 2 ^ 63
 sized (pos k) e = small k e
   where
     small : (k : ℕ) → nat_lt k 2147483648 ≡ true → k ≤ 9223372036854775808
@@ -149,3 +151,19 @@ value_sized None None v z h e = zero_sized z e
 
 pub cleaned_sized : (q : Program) (fs : List Declaration) (s : Store) → HoldsProgram fortran90 q s → HoldsSized (cleaned q.declarations fs s)
 cleaned_sized q fs s h c z e = value_sized (declared q.declarations c.name) (declared fs c.name) (s.held c) z (h.kinds c) e
+
+-- ---- an array that comes later isn't there where it wasn't
+
+freed : (o w : Option Declaration) (b : Option (List (ℤ × ℤ))) (n : ℕ) → IsSomeAnd w (λ (d : Declaration). d.extent ≡ Later n)
+    → ((d : Declaration) → o ≡ Some d → w ≡ Some d) → IfSome o (λ (d : Declaration). IsUnallocated d.extent b) → bounds_or o w b ≡ None
+freed None None b n h k f = absurd h
+freed None (Some d) b n h k f = ap (λ (e : Extent). elim e [ Given bs ↦ Some bs | Later n ↦ None ]) h
+freed (Some d) w b n h k f =
+    let later = subst (λ (o : Option Declaration). IsSomeAnd o (λ (d : Declaration). d.extent ≡ Later n)) (k d refl) h in
+    subst (λ (e : Extent). IsUnallocated e b) later f
+
+pub cleaned_free : (es fs : List Declaration) (s : Store) (x : List ℕ) (n : ℕ)
+    → IsSomeAnd (declared fs x) (λ (d : Declaration). d.extent ≡ Later n)
+    → ((d : Declaration) → declared es x ≡ Some d → declared fs x ≡ Some d)
+    → IfSome (declared es x) (λ (d : Declaration). IsUnallocated d.extent (s.bounds x)) → (cleaned es fs s).bounds x ≡ None
+cleaned_free es fs s x n later kept free = freed (declared es x) (declared fs x) (s.bounds x) n later kept free

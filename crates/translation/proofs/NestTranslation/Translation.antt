@@ -1,58 +1,70 @@
--- What stands in the place of a nest does what the nest's loop does.
-use Rattle.std.proofs.Common.{◌≡◌, refl, sym, ap, ◌∙◌, subst, ℕ, false, List, [], Option, Some, None, Contains}
+-- What stands in the place of a nest does what the nest's loop does: its arrays come to be, what was emitted goes on as
+-- the nest does, which goes on as the loop, and the arrays go.
+use Rattle.std.proofs.Common.{◌≡◌, refl, sym, ap, ◌∙◌, subst, ℕ, ℤ, false, List, [], ◌∷◌, Option, Some, None, Contains}
 use Rattle.std.specs.Option.{IsSomeAnd}
 use Rattle.std.specs.Prelude.{All}
-use Rattle.std.proofs.lemmas.List.Elements.{All-nil}
-use Rattle.emission.specs.emission_forms.Forms.{AreUnguarded}
-use Rattle.emission.specs.emission_pieces.Pieces.{Pieces, block_of_pieces, translation}
+use Rattle.array_form.specs.holds.Statements.{no_statement}
+use Rattle.emission.specs.emission_forms.Written.{HaveGuardedNames}
+use Rattle.emission.specs.emission_pieces.Pieces.{Pieces, block_of_pieces}
 use Rattle.emission.specs.graph_orders.Nests.{run_nest}
 use Rattle.find_nests.specs.Found.{InNest, found_in}
 use Rattle.find_nests.specs.Laws.{IsFoundNest}
 use Rattle.find_nests.specs.Loops.{as_statement}
 use Rattle.linear_forms.specs.Laws.{HoldsSized}
 use Rattle.meaning.proofs.Agreeing.{statements_keep_agreement}
-use Rattle.meaning.specs.Agreement.{MomentsAgree, names_in_block}
+use Rattle.meaning.specs.Agreement.{MomentsAgree}
+use Rattle.meaning.specs.Reads.{names_in_block}
 use Rattle.meaning.specs.Blocks.{Surroundings}
 use Rattle.meaning.specs.Dialect.{fortran77, fortran90}
 use Rattle.meaning.specs.Holding.{HoldsProgram}
-use Rattle.meaning.specs.Profile77.{IsProgram77}
+use Rattle.meaning.specs.Profile77.{IsDeclaration, IsProgram77}
 use Rattle.meaning.specs.Profile90.{IsBlock}
 use Rattle.meaning.specs.Run.{Going, State, does, does_all}
 use Rattle.meaning.specs.Store.{Agree, Cell, Store, names_of, nought_like}
 use Rattle.meaning.specs.Typed.{declared}
 use Rattle.meaning_laws.proofs.dialects.MadeNames.{is_declared}
 use Rattle.meaning_laws.proofs.dialects.NamesIn.{among}
+use Rattle.meaning_laws.proofs.profiles.Lists.{all_at}
+use Rattle.meaning_laws.proofs.profiles.Names as declarations
 use Rattle.meaning_laws.proofs.profiles.Programs.{as_it_stands, kept_declaration}
 use Rattle.meaning_laws.proofs.profiles.TargetRuns.{statements_keep_stores}
 use Rattle.meaning_laws.proofs.profiles.Targets.{block_is}
 use Rattle.meaning_laws.specs.profiles.Profiles.{AddMadeNames}
-use Rattle.nest.specs.Allocations.{allocations_then, block_then, deallocations}
+use Rattle.nest.specs.Allocations.{allocation_then, allocations_then, block_then, deallocation_then, deallocations}
 use Rattle.nest.specs.Bodies.{nest_loops}
 use Rattle.nest.specs.Plain.{Loop, Made, Nest}
+use Rattle.nest_order.specs.runs.Guarded.{variable_cell}
 use Rattle.nest_order.specs.runs.Nests.{is_variable}
+use Rattle.nest_order.specs.runs.Stores.{Setting}
 use Rattle.nest_order.specs.runs.Touched.{nth_of}
 use Rattle.nest_steps.specs.Keeping.{GoOnAlike}
 use Rattle.pass_laws.proofs.FoundSources.PlainNests.{normal_nests_are_plain}
 use Rattle.pass_laws.proofs.NormalFacts.MadeStatements.{counter_long}
 use Rattle.pass_laws.proofs.NormalFacts.Tables.{all_in}
-use Rattle.pass_laws.proofs.NormalMeaning.Made as texts
 use Rattle.pass_laws.specs.normal_facts.Laws.{IsCounter}
 use Rattle.prepared_nests.specs.Laws.{normal_depth}
-use Rattle.prepared_nests.specs.Made.{AreBoundsBy}
+use Rattle.prepared_nests.specs.Made.{AreOf64Bits}
 use Rattle.prepared_nests.specs.Nests.{IsPrepared, IsPreparedSymbol}
+use Rattle.prepared_runs.proofs.Allocations.{arrays_are_allocated, arrays_are_deallocated}
 use Rattle.prepared_runs.proofs.Counters.{no_variable}
 use Rattle.prepared_runs.proofs.Endings.{endings_no_label}
 use Rattle.prepared_runs.proofs.Found.{normal_nest_goes_on_as_loop, short_name, with_rest}
-use Rattle.prepared_runs.proofs.Pieces.{pieces_no_label, then_no_label}
+use Rattle.prepared_runs.proofs.Pieces.{does_then, pieces_no_label, then_no_label}
 use Rattle.prepared_runs.proofs.Together.{in_list, pieces_go_on_as_nest}
-use Rattle.prepared_runs.proofs.Symbols.{IsNumber, holds_number, value_there, values_in}
-use Rattle.prepared_runs.specs.Running.{GoOnTogether, MayRun, loops_then_after, pieces_then_after}
+use Rattle.prepared_runs.proofs.Symbols.{IsNumber, holds_number, value_there, values_in, values_sized}
+use Rattle.prepared_runs.specs.Allocations.{HoldSymbols, IsAllocated, IsDeallocated, made_arrays}
+use Rattle.prepared_runs.specs.Running.{GoOnTogether, MayRun, loops_then_after, pieces_then_after, setting_at}
 use Rattle.prepared_runs.specs.Unlabelled.{HasNoLabel}
 use Rattle.rewrite.specs.Following.{IsSound}
-use Rattle.tree.specs.Plain.{Block, Declaration, Program, Statement, no_statements, statement}
+use Rattle.tree.specs.Names.{IsSourceName}
+use Rattle.tree.specs.Plain.{Block, Declaration, Expression, Program, Statement, no_statements, statement}
+use Rattle.translation.proofs.NestTranslation.Arrays.{arrays_free, free_again, made_apart, made_still, none_of_source}
+use Rattle.translation.proofs.NestTranslation.Arrays.{of_77, of_90, sized_still}
+use Rattle.translation.proofs.NestTranslation.Bounds.{sequential_keeps_bounds}
 use Rattle.translation.proofs.NestTranslation.Cleaned.{add_both, agree_back, agree_fewer, agree_on, cleaned, cleaned_agrees}
-use Rattle.translation.proofs.NestTranslation.Cleaned.{cleaned_holds, cleaned_sized}
+use Rattle.translation.proofs.NestTranslation.Cleaned.{cleaned_holds, cleaned_sized, same_agree}
 use Rattle.translation.proofs.NestTranslation.Prepared.{passed_nest_is_prepared}
+use Rattle.translation.proofs.PlacedProfile.SourceNames.{source_name}
 use Rattle.translation.proofs.ProgramTranslation.Standing.{Stands, loop_stands}
 use Rattle.translation.specs.nest_translation.Laws.{IsTranslatedNest, TranslationDoesAsLoop}
 use Rattle.translation.specs.placed_loops.Beside.{AreBeside}
@@ -75,17 +87,25 @@ number_of es x h = by (declared es x) refl h
     by None e g = absurd g
     by (Some d) e g = record { declaration = d; is = e; kind = g.kind; extent = g.scalar }
 
--- ---- blocks of a nest to which nothing was added
+-- ---- blocks
 
-then_nothing : (b : Block) → block_then b no_statements ≡ b
-then_nothing no_statements = refl
-then_nothing (statement c cs) = ap (statement c) (then_nothing cs)
+allocations_no_label : (line : ℕ) (ms : List Made) (b : Block) → HasNoLabel b → HasNoLabel (allocations_then line ms b)
+allocations_no_label line [] b h = h
+allocations_no_label line (a ∷ ms) b h = by a.extents (allocations_no_label line ms b h)
+  where
+    by : (es : List Expression) → HasNoLabel (allocations_then line ms b)
+        → HasNoLabel (allocation_then line a.name es (allocations_then line ms b))
+    by [] k = k
+    by (e ∷ es) k = (tt, k)
 
-bare_translation : (m : Nest) (ps : Pieces) → m.made ≡ [] → translation m ps ≡ pieces_then_after m ps
-bare_translation m ps none =
-    ap (λ (ms : List Made). allocations_then m.line ms
-    (block_then (block_of_pieces m 1 ps) (block_then m.after (deallocations m.line ms)))) none
-    ∙ ap (block_then (block_of_pieces m 1 ps)) (then_nothing m.after)
+deallocations_no_label : (line : ℕ) (ms : List Made) → HasNoLabel (deallocations line ms)
+deallocations_no_label line [] = tt
+deallocations_no_label line (a ∷ ms) = by a.extents (deallocations_no_label line ms)
+  where
+    by : (es : List Expression) → HasNoLabel (deallocations line ms)
+        → HasNoLabel (deallocation_then line a.name es (deallocations line ms))
+    by [] k = k
+    by (e ∷ es) k = (tt, k)
 
 module _ (p q r : Program) (n m : Nest) (b : Block) (w : Surroundings) (found : IsFoundNest p n)
     (program : IsProgram77 fortran77 p) (is_nest : Contains (found_in p) (InNest n))
@@ -112,19 +132,29 @@ module _ (p q r : Program) (n m : Nest) (b : Block) (w : Surroundings) (found : 
   prepared =
       passed_nest_is_prepared p r n m stands.round found program is_nest translated.passed all counters stands.named stands.is
 
-  free : AreUnguarded m
-  free = (normal_nests_are_plain p n m program is_nest translated.passed.made translated.passed.alone).2
-
-  nothing_made : m.made ≡ []
-  nothing_made = (texts.made_of n m translated.passed.made).made ∙ ap (λ (k : Nest). k.made) found.is
-
-  is_then : b ≡ pieces_then_after m ps
-  is_then = translated.block ∙ bare_translation m ps nothing_made
+  -- no statement has a guard so far
+  unguarded : (v : Setting) → HaveGuardedNames m v
+  unguarded v s within guarded =
+      absurd (guarded ((normal_nests_are_plain p n m program is_nest translated.passed.made translated.passed.alone).2 s no_statement within))
 
   no_label : HasNoLabel b
-  no_label = subst HasNoLabel (sym is_then)
-      (then_no_label (block_of_pieces m 1 ps) m.after (pieces_no_label m 1 ps)
-      (endings_no_label m.after prepared.parts.after.endings))
+  no_label =
+      let behind = then_no_label m.after (deallocations m.line m.made)
+      (endings_no_label m.after prepared.parts.after.endings) (deallocations_no_label m.line m.made) in
+      subst HasNoLabel (sym translated.block)
+      (allocations_no_label m.line m.made (block_then (block_of_pieces m 1 ps) (block_then m.after (deallocations m.line m.made)))
+      (then_no_label (block_of_pieces m 1 ps) (block_then m.after (deallocations m.line m.made)) (pieces_no_label m 1 ps) behind))
+
+  own_source : (x : List ℕ) → Contains (names_of p) x → IsSourceName x
+  own_source x i =
+      let d = is_declared p.declarations x i in
+      let f = declarations.found p.declarations x d.0 d.1 in
+      subst IsSourceName f.name
+      (source_name d.0.name (all_at (IsDeclaration fortran77) p.declarations d.0 program.declarations.each f.among).name)
+
+  -- no name of p is that of an array which is made
+  of_p : (x : List ℕ) → Contains (names_of p) x → ¬ Contains (made_arrays m) x
+  of_p x i = none_of_source r around normal_depth m prepared x (own_source x i)
 
   apart : (d : Cell) → Contains (names_of p) d.name → is_variable (run_nest m) d ≡ false
   apart d i =
@@ -146,58 +176,82 @@ module _ (p q r : Program) (n m : Nest) (b : Block) (w : Surroundings) (found : 
     sized : HoldsSized store
     sized = cleaned_sized q r.declarations t.store beside.holds_beside
 
-    agrees : Agree p s.store store
-    agrees =
-        agree_on p s.store t.store store beside.store
-        (agree_fewer p q t.store store (more_names p q add) (cleaned_agrees q r.declarations t.store))
-
-    start : GoOnAlike p s t0
-    start = record {
-      going = going;
-      agree = agrees;
-      rest = with_rest t0 s (sym beside.written) (sym beside.input) (sym beside.had_value) (sym beside.way);
-    }
-
-    -- ---- from the loop to the nest that the passes make
-
-    abbrev second : State
-    second = does_all fortran77 None (loops_then_after m) t0
-
-    one : GoOnAlike p (does fortran77 None c s) second
-    one =
-        normal_nest_goes_on_as_loop p r n m found s t0 program is_nest translated.passed.made all counters holds sized
-        start sound
-
-    second_goes : second.way ≡ Going
-    second_goes = ap (λ (u : State). u.way) one.rest ∙ one.going
-
-    -- ---- from the nest to what is emitted
-
-    abbrev third : State
-    third = does_all fortran90 None (pieces_then_after m ps) t0
-
     number : (k : ℕ) (x : List ℕ) → nth_of m.symbols k ≡ Some x → IsNumber r.declarations x
     number k x e =
         number_of r.declarations x
         (all_in (IsPreparedSymbol r.declarations) m.symbols prepared.parts.symbols x (in_list m.symbols k x e)).scalar
 
-    allocated : All (λ (a : Made). IsSomeAnd (store.bounds a.name) (AreBoundsBy m.symbols (values_in m.symbols store) a.extents)) m.made
-    allocated =
-        subst (All (λ (a : Made). IsSomeAnd (store.bounds a.name) (AreBoundsBy m.symbols (values_in m.symbols store) a.extents)))
-        (sym nothing_made) (All-nil _)
+    abbrev v : ℕ → ℤ
+    v = values_in m.symbols store
 
-    may : MayRun r m t0
-    may = record {
-      going = sym beside.way ∙ going;
-      holds = holds;
-      values = values_in m.symbols store;
-      valued = λ k x e. (value_there m.symbols store k x e (holds_number fortran77 r store x holds (number k x e))).held;
-      made = allocated;
+    valued : HoldSymbols m.symbols v store
+    valued k x e = (value_there m.symbols store k x e (holds_number fortran77 r store x holds (number k x e))).held
+
+    wide : AreOf64Bits v
+    wide = values_sized m.symbols store sized
+
+    -- ---- the arrays come to be
+
+    allocated : IsAllocated r m v t0
+    allocated =
+        arrays_are_allocated r around normal_depth m v t0 all.are prepared wide (of_77 r store holds) valued
+        (arrays_free q r around normal_depth m t.store more prepared beside.free) (sym beside.way ∙ going)
+
+    abbrev u : State
+    u = allocated.state
+
+    u_holds : HoldsProgram fortran77 r u.store
+    u_holds = of_90 r u.store allocated.program
+
+    agrees : Agree p s.store u.store
+    agrees =
+        agree_on p s.store t.store u.store beside.store
+        (agree_on p t.store store u.store
+        (agree_fewer p q t.store store (more_names p q add) (cleaned_agrees q r.declarations t.store))
+        (same_agree p store u.store (λ x i. sym (allocated.others.bounds x (of_p x i)))
+        (λ d i. sym (allocated.others.held d (of_p d.name i)))))
+
+    start : GoOnAlike p s u
+    start = record {
+      going = going;
+      agree = agrees;
+      rest =
+          with_rest u s (ap (λ (x : State). x.written) allocated.rest ∙ sym beside.written)
+          (ap (λ (x : State). x.input) allocated.rest ∙ sym beside.input)
+          (ap (λ (x : State). x.had_value) allocated.rest ∙ sym beside.had_value)
+          (ap (λ (x : State). x.way) allocated.rest ∙ sym beside.way);
     }
 
-    two : GoOnTogether m t0 second third
+    -- ---- from the loop to the nest that the passes make
+
+    abbrev second : State
+    second = does_all fortran77 None (loops_then_after m) u
+
+    one : GoOnAlike p (does fortran77 None c s) second
+    one =
+        normal_nest_goes_on_as_loop p r n m found s u program is_nest translated.passed.made all counters u_holds
+        (sized_still r around normal_depth m v t0 prepared sized allocated) start sound
+
+    second_goes : second.way ≡ Going
+    second_goes = ap (λ (x : State). x.way) one.rest ∙ one.going
+
+    -- ---- from the nest to what is emitted
+
+    abbrev third : State
+    third = does_all fortran90 None (pieces_then_after m ps) u
+
+    may : MayRun r m u
+    may = record {
+      going = allocated.going;
+      holds = u_holds;
+      values = v;
+      valued = λ k x e. allocated.others.held (variable_cell x) (made_apart r around normal_depth m prepared x k e) ∙ valued k x e;
+      made = allocated.made;
+    }
+
+    two : GoOnTogether m u second third
     two =
-        pieces_go_on_as_nest r around normal_depth m ps t0 all.are prepared free translated.are may
+        pieces_go_on_as_nest r around normal_depth m ps u all.are prepared translated.are may (unguarded (setting_at may))
         (subst IsSound (sym second_goes) tt)
 
     near : Agree p second.store third.store
@@ -207,10 +261,36 @@ module _ (p q r : Program) (n m : Nest) (b : Block) (w : Surroundings) (found : 
       kinds = λ d i. ap nought_like (two.beside.near.held d (apart d i));
     }
 
+    -- ---- the arrays go
+
+    third_bounds : (x : List ℕ) → third.store.bounds x ≡ u.store.bounds x
+    third_bounds x = sym (two.beside.near.bounds x) ∙ sequential_keeps_bounds (loops_then_after m) u x
+
+    went : IsDeallocated m third
+    went =
+        arrays_are_deallocated r around normal_depth m v third prepared wide
+        (made_still m v u.store third.store third_bounds allocated.made) two.beside.way
+
+    abbrev fourth : State
+    fourth = does_all fortran90 None (deallocations m.line m.made) third
+
+    gone : Agree p third.store fourth.store
+    gone =
+        same_agree p third.store fourth.store (λ x i. sym (went.others.bounds x (of_p x i)))
+        (λ d i. sym (went.others.held d (of_p d.name i)))
+
     -- ---- all of the block
 
-    whole : does_all fortran90 None b t0 ≡ third
-    whole = ap (λ (d : Block). does_all fortran90 None d t0) is_then
+    abbrev behind : Block
+    behind = block_then m.after (deallocations m.line m.made)
+
+    whole : does_all fortran90 None b t0 ≡ fourth
+    whole =
+        ap (λ (d : Block). does_all fortran90 None d t0) translated.block
+        ∙ (allocated.runs (block_then (block_of_pieces m 1 ps) behind)
+        ∙ (does_then fortran90 None (block_of_pieces m 1 ps) behind u
+        ∙ (does_then fortran90 None m.after (deallocations m.line m.made) (does_all fortran90 None (block_of_pieces m 1 ps) u)
+        ∙ ap (does_all fortran90 None (deallocations m.line m.made)) (sym (does_then fortran90 None (block_of_pieces m 1 ps) m.after u)))))
 
     moved : MomentsAgree q (does_all fortran90 None b t0) (does_all fortran90 None b t)
     moved = statements_keep_agreement fortran90 None q b t0 t names
@@ -224,33 +304,38 @@ module _ (p q r : Program) (n m : Nest) (b : Block) (w : Surroundings) (found : 
         })
 
     block_goes : (does_all fortran90 None b t).way ≡ Going
-    block_goes = sym moved.way ∙ (ap (λ (u : State). u.way) whole ∙ two.beside.way)
+    block_goes = sym moved.way ∙ (ap (λ (x : State). x.way) whole ∙ went.going)
 
-    from_third : Agree p third.store (does_all fortran90 None b t).store
-    from_third =
-        subst (λ (u : State). Agree p u.store (does_all fortran90 None b t).store) whole
-        (agree_fewer p q (does_all fortran90 None b t0).store (does_all fortran90 None b t).store (more_names p q add) moved.store)
+    from_fourth : Agree q fourth.store (does_all fortran90 None b t).store
+    from_fourth = subst (λ (x : State). Agree q x.store (does_all fortran90 None b t).store) whole moved.store
 
     to_block : Agree p (does fortran77 None c s).store (does_all fortran90 None b t).store
     to_block =
         agree_on p (does fortran77 None c s).store second.store (does_all fortran90 None b t).store one.agree
-        (agree_on p second.store third.store (does_all fortran90 None b t).store near from_third)
+        (agree_on p second.store third.store (does_all fortran90 None b t).store near
+        (agree_on p third.store fourth.store (does_all fortran90 None b t).store gone
+        (agree_fewer p q fourth.store (does_all fortran90 None b t).store (more_names p q add) from_fourth)))
 
     written : (does fortran77 None c s).written ≡ (does_all fortran90 None b t).written
     written =
-        sym (ap (λ (u : State). u.written) one.rest)
-        ∙ (two.lines.written ∙ (sym two.lines_beside.written ∙ (sym (ap (λ (u : State). u.written) whole) ∙ moved.written)))
+        sym (ap (λ (x : State). x.written) one.rest)
+        ∙ (two.lines.written
+        ∙ (sym two.lines_beside.written
+        ∙ (sym (ap (λ (x : State). x.written) went.rest) ∙ (sym (ap (λ (x : State). x.written) whole) ∙ moved.written))))
 
     input : (does fortran77 None c s).input ≡ (does_all fortran90 None b t).input
     input =
-        sym (ap (λ (u : State). u.input) one.rest)
-        ∙ (two.lines.input ∙ (sym two.lines_beside.input ∙ (sym (ap (λ (u : State). u.input) whole) ∙ moved.input)))
+        sym (ap (λ (x : State). x.input) one.rest)
+        ∙ (two.lines.input
+        ∙ (sym two.lines_beside.input
+        ∙ (sym (ap (λ (x : State). x.input) went.rest) ∙ (sym (ap (λ (x : State). x.input) whole) ∙ moved.input))))
 
     had_value : (does fortran77 None c s).had_value ≡ (does_all fortran90 None b t).had_value
     had_value =
-        sym (ap (λ (u : State). u.had_value) one.rest)
+        sym (ap (λ (x : State). x.had_value) one.rest)
         ∙ (two.lines.had_value
-        ∙ (sym two.lines_beside.had_value ∙ (sym (ap (λ (u : State). u.had_value) whole) ∙ moved.had_value)))
+        ∙ (sym two.lines_beside.had_value
+        ∙ (sym (ap (λ (x : State). x.had_value) went.rest) ∙ (sym (ap (λ (x : State). x.had_value) whole) ∙ moved.had_value))))
 
     ends : AreBeside p q (does fortran77 None c s) (does_all fortran90 None b t)
     ends = record {
@@ -259,6 +344,9 @@ module _ (p q r : Program) (n m : Nest) (b : Block) (w : Surroundings) (found : 
           (block_is p.declarations p.declarations (as_it_stands fortran77 p program) (statement c no_statements) stands.round
           (stands.is, tt)) beside.holds;
       holds_beside = statements_keep_stores fortran90 None q b w t block beside.holds_beside;
+      free =
+          free_again q r m t.store u.store third.store fourth.store (does_all fortran90 None b t).store beside.free
+          allocated.others third_bounds went.others went.free from_fourth;
       written = written;
       input = input;
       had_value = had_value;

@@ -13,7 +13,8 @@ use Rattle.tree.specs.declared.ops.Kind.TheVariants.{Integer, Logical}
 use Rattle.tree.specs.declared.ops.Value.{Value}
 use Rattle.tree.specs.declared.ops.Value.TheVariants.{Int}
 use Rattle.tree.specs.Plain.{Expression, Named, no_subscripts, Statement, Extent, Given, Later, Declaration, Program}
-use Rattle.meaning.specs.Agreement.{MomentsAgree, names_in_block}
+use Rattle.meaning.specs.Agreement.{MomentsAgree}
+use Rattle.meaning.specs.Reads.{names_in_block}
 use Rattle.meaning.specs.Blocks.{Surroundings}
 use Rattle.meaning.specs.Dialect.{Dialect, fortran77, fortran90}
 use Rattle.meaning.specs.Holding.{HasBounds, IsStorable, HoldsProgram}
@@ -42,7 +43,8 @@ use Rattle.meaning_laws.proofs.dialects.MadeNames.{is_declared}
 use Rattle.meaning_laws.proofs.dialects.NamesIn.{among, expression_known, block_known}
 use Rattle.meaning_laws.proofs.dialects.Runs.{Same-does_all}
 use Rattle.meaning_laws.proofs.dialects.Values.{value_same, all_fixed}
-use Rattle.translation.specs.placed_loops.Beside.{AreBeside}
+use Rattle.translation.proofs.PlacedLoops.Frames.{source_keeps_free}
+use Rattle.translation.specs.placed_loops.Beside.{AreBeside, AreUnallocated}
 use Rattle.translation.specs.placed_loops.Placed.{one}
 use Rattle.translation.proofs.PlacedLoops.Steady.{IsOne, Steady}
 
@@ -110,6 +112,7 @@ module _ (p q : Program) (program : IsProgram77 fortran77 p) (add : AddMadeNames
     pub agree : Agree p s u
     pub holds : HoldsProgram fortran77 p s
     pub holds_beside : HoldsProgram fortran90 q u
+    pub free : AreUnallocated q u
 
   -- the second act, of the run beside, follows the first one
   abbrev pub Goes : Act → Act → Type 0
@@ -122,7 +125,7 @@ module _ (p q : Program) (program : IsProgram77 fortran77 p) (add : AddMadeNames
   together s t m =
       let same : ◌≡◌ {A = State} (record s { store = t.store; steps = t.steps }) t
       = (λ i. record { store = t.store; written = m.written i; input = m.input i; had_value = m.had_value i; steps = t.steps; way = m.way i }) in
-      record { stores = record { agree = m.store; holds = m.holds; holds_beside = m.holds_beside }; rest = sym same }
+      record { stores = record { agree = m.store; holds = m.holds; holds_beside = m.holds_beside; free = m.free }; rest = sym same }
 
   -- ---- a whole statement
 
@@ -160,11 +163,13 @@ module _ (p q : Program) (program : IsProgram77 fortran77 p) (add : AddMadeNames
       (subst (MomentsAgree p (does fortran77 None c s)) same (statements_keep_agreement fortran77 None p (one c) s r known first))
       (statements_keep_agreement fortran90 None p (one c) r t known second)
 
-  after_steps : (s r t : State) → Beside IsOne s r → MomentsAgree p r t → HoldsProgram fortran77 p s.store → HoldsProgram fortran90 q t.store → AreBeside p q s t
-  after_steps s r t b m h k = record {
+  after_steps : (s r t : State) → Beside IsOne s r → MomentsAgree p r t → HoldsProgram fortran77 p s.store → HoldsProgram fortran90 q t.store → AreUnallocated q t.store
+      → AreBeside p q s t
+  after_steps s r t b m h k f = record {
     store = subst (λ (u : Store). Agree p u t.store) (sym b.stores) m.store;
     holds = h;
     holds_beside = k;
+    free = f;
     written = sym (ap (λ (r : State). r.written) b.rest) ∙ m.written;
     input = sym (ap (λ (r : State). r.input) b.rest) ∙ m.input;
     had_value = sym (ap (λ (r : State). r.had_value) b.rest) ∙ m.had_value;
@@ -184,7 +189,8 @@ module _ (p q : Program) (program : IsProgram77 fortran77 p) (add : AddMadeNames
           (steady.at s s.store n refl e)
           (crosses c w h r t a.holds (record { store = a.agree; written = refl; input = refl; had_value = refl; steps = refl; way = refl }))
           (statements_keep_stores fortran77 None p (one c) w s (block_is ds ds (as_it_stands fortran77 p program) (one c) w h) a.holds)
-          (statements_keep_stores fortran90 None q (one c) w t k a.holds_beside))
+          (statements_keep_stores fortran90 None q (one c) w t k a.holds_beside)
+          (source_keeps_free p q c w h t a.free))
 
   -- ---- what both dialects have alike
 
@@ -241,6 +247,7 @@ module _ (p q : Program) (program : IsProgram77 fortran77 p) (add : AddMadeNames
     holds = put_holds fortran77 p c (Int z) s (subst (λ y. Fits fortran77 p y (Int z)) (sym k.1.name) (number_fits fortran77 (declared ds x) z r h.0)) k.0.holds;
     holds_beside = put_holds fortran90 q c (Int z) u (subst (λ y. Fits fortran90 q y (Int z)) (sym k.1.name)
         (number_fits fortran90 (declared q.declarations x) z r (some_and IsNumber IsNumber (declared ds x) (declared q.declarations x) (kept_declaration ds q.declarations add x) (λ d e g. g) h.0))) k.0.holds_beside;
+    free = k.0.free;
   })
 
   sets_beside : (before : Store → Store → Type 0) (weak : (s u : Store) → before s u → Alike s u) (line : ℕ) (x : List ℕ) (z : ℤ) → HasKind ds (Named x no_subscripts) Integer

@@ -19,6 +19,7 @@ use Rattle.meaning_laws.specs.profiles.Profiles.{AddMadeNames}
 use Rattle.meaning_laws.proofs.profiles.Programs.{source_with_made_names}
 use Rattle.meaning_laws.proofs.profiles.Stores.{opening_holds}
 use Rattle.meaning_laws.proofs.dialects.MadeNames.{opening_agrees}
+use Rattle.translation.proofs.PlacedLoops.Frames.{opening_free}
 use Rattle.translation.specs.placed_loops.Beside.{AreBeside, DoesAs}
 use Rattle.translation.specs.placed_loops.Laws.{PlacedLoopsKeepMeaning}
 use Rattle.prepared_runs.specs.Unlabelled.{HasNoLabel}
@@ -64,7 +65,7 @@ module _ (p q : Program) (program : IsProgram77 fortran77 p) (add : AddMadeNames
       by s Going e u n k sound =
           let t : State = record s { store = u; steps = n } in
           together p q program add (f s) (g t)
-          (h s t e (record { store = k.agree; holds = k.holds; holds_beside = k.holds_beside; written = refl; input = refl; had_value = refl; way = refl }) sound)
+          (h s t e (record { store = k.agree; holds = k.holds; holds_beside = k.holds_beside; free = k.free; written = refl; input = refl; had_value = refl; way = refl }) sound)
       by s (Jumping m) e u n k sound = elsewhere s u n (subst IsElsewhere (sym e) tt) k
       by s Stopped e u n k sound = elsewhere s u n (subst IsElsewhere (sym e) tt) k
       by s (Failed f m) e u n k sound = elsewhere s u n (subst IsElsewhere (sym e) tt) k
@@ -139,7 +140,7 @@ pub placed_loops_keep_meaning : PlacedLoopsKeepMeaning
 placed_loops_keep_meaning p q input program beside add placed =
     let leads = block_leads p q program add p.body outermost q.body program.statements (source_with_made_names fortran77 p q.declarations program add).statements placed (each_in q.declarations q.body outermost beside.statements) in
     let opening : Alike p q program add (opening_store p) (opening_store q)
-    = record { agree = opening_agrees p q.declarations add; holds = opening_holds fortran77 p; holds_beside = opening_holds fortran90 q } in
+    = record { agree = opening_agrees p q.declarations add; holds = opening_holds fortran77 p; holds_beside = opening_holds fortran90 q; free = opening_free q } in
     let ends = λ (e : EndsWell (does_all fortran77 None p.body (opening_state p input))).
     leads.at (opening_state p input) (opening_store q) 0 opening (sound_end (does_all fortran77 None p.body (opening_state p input)).way e) in
     record {

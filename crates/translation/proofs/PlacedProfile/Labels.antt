@@ -6,8 +6,9 @@ use Rattle.std.proofs.lemmas.List.Elements.{Contains-append_left, Contains-appen
 use Rattle.meaning_laws.proofs.profiles.Lists.{here, there}
 use Rattle.tree.specs.Plain.{Statement, Assignment, Where, If, Do, Label, GoTo, Stop, Read, Print, Allocate}
 use Rattle.tree.specs.Plain.{Deallocate, Arms, no_arms, arm, Block, no_statements, statement, block, Program}
-use Rattle.meaning.specs.Blocks.{label_of, labels_of, all_labels_of, all_labels_in, all_labels_in_arms}
-use Rattle.meaning.specs.Blocks.{targets_of, targets_in, targets_in_arms}
+use Rattle.meaning.specs.Blocks.{label_of, labels_of}
+use Rattle.meaning.specs.Labels.{all_labels_of, all_labels_in, all_labels_in_arms}
+use Rattle.meaning.specs.Labels.{targets_of, targets_in, targets_in_arms}
 use Rattle.find_nests.specs.Loops.{Placed, SourceLoop, loops_in, loops_in_arms, loops_in_block}
 use Rattle.translation.specs.loop_placing.Placing.{block_at, instead, placed, placed_arms, placed_in, statements_in}
 use Rattle.find_nests.specs.nest_parts.Numbers.{after, after_arms, after_block, next}

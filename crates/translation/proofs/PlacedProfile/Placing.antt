@@ -12,10 +12,12 @@ use Rattle.tree.specs.Names.{IsSourceName}
 use Rattle.tree.specs.Plain.{Statement, Assignment, Where, If, Do, Label, GoTo, Stop, Read, Print, Allocate}
 use Rattle.tree.specs.Plain.{Deallocate, Arms, no_arms, arm, Block, no_statements, statement, block, Declaration, no_subscripts}
 use Rattle.tree.specs.Plain.{Program}
-use Rattle.meaning.specs.Blocks.{Surroundings, before_labels, has_arm, labels_of, all_labels_in, targets_in, outermost}
-use Rattle.meaning.specs.Blocks.{IsWithoutRepeats, within_loop}
+use Rattle.meaning.specs.Blocks.{Surroundings, before_labels, labels_of, outermost}
+use Rattle.meaning.specs.Labels.{has_arm, all_labels_in, targets_in}
+use Rattle.meaning.specs.Blocks.{within_loop}
+use Rattle.meaning.specs.Labels.{IsWithoutRepeats}
 use Rattle.meaning.specs.Dialect.{fortran77}
-use Rattle.meaning.specs.Names.{IsLongName}
+use Rattle.meaning.specs.SymbolicNames.{IsLongName}
 use Rattle.meaning.specs.Profile77 as source
 use Rattle.meaning.specs.Profile90 as target
 use Rattle.meaning.specs.Profile90.{IsProgram90}

@@ -18,7 +18,7 @@ use Rattle.find_nests.specs.declared.reasons.Reason.{Reason}
 use Rattle.meaning.specs.Blocks.{outermost}
 use Rattle.meaning.specs.Dialect.{fortran77}
 use Rattle.meaning.specs.Profile77.{IsProgram77}
-use Rattle.tree.specs.Plain.{Block, Program, block}
+use Rattle.tree.specs.Plain.{Block, Declaration, Program, block}
 use Rattle.translation.proofs.LoopNumbers.Behind.{next_from_one}
 use Rattle.translation.proofs.LoopNumbers.Nests.{loops_are_numbered, nests_are_numbered}
 use Rattle.translation.specs.loop_numbers.Numbers.{loop_number, nests_among}
@@ -248,11 +248,13 @@ module _ (p : Program) (answers : List Answer) (blocks : List (Option Block)) (p
   marks : AreOfNests (nests_by answers) body
   marks = record { only = only; each = each; once = once }
 
-  pub marked_as_listed : (q : Program) → IsPlacedBy p blocks q → IsMarkedAsListed (nests_by answers) blocks q.body
-  marked_as_listed q t = record {
+  pub marked_as_listed : (q : Program) (made : List Declaration) → IsPlacedBy p blocks made q
+      → IsMarkedAsListed (nests_by answers) blocks q.body
+  marked_as_listed q made t = record {
     in_place = blocks_of_nests;
     marks = subst (AreOfNests (nests_by answers)) (sym t.body) marks;
   }
 
 pub translation_is_marked : TranslationIsMarked
-translation_is_marked p q answers blocks program are placed t = marked_as_listed p answers blocks program are placed q t
+translation_is_marked p q answers blocks made program are placed t =
+    marked_as_listed p answers blocks program are placed q made t

@@ -27,7 +27,7 @@ use Rattle.nest.specs.Allocations.{block_then}
 use Rattle.nest.specs.Bodies.{Standing, nest_statements}
 use Rattle.nest.specs.Plain.{Nest, Part}
 use Rattle.pass_laws.proofs.NormalMeaning.Made.{behind, made_of}
-use Rattle.listing.specs.programs.Listing.{all_holds}
+use Rattle.array_form.specs.holds.Holds.{all_holds}
 use Rattle.pass_laws.proofs.ReadyNests.NormalReady.{normal_nest_is_ready}
 use Rattle.array_form.specs.holds.Statements.{no_statement}
 use Rattle.std.specs.Option.{option_map}

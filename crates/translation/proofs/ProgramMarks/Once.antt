@@ -2,13 +2,15 @@
 use Rattle.std.proofs.Common.{◌≡◌, refl, sym, ap, subst, ◌∙◌, ℕ, ◌<◌, arith, Bool, true, false, cond}
 use Rattle.std.proofs.Common.{Option, List, [], ◌∷◌, map, length, flat_map, Contains}
 use Rattle.std.specs.Prelude.{nat_le}
+use Rattle.array_form.specs.forms.Statements.{loops_assigned, stand_in_guard}
+use Rattle.array_form.specs.holds.Surroundings.{surroundings_of}
 use Rattle.components.proofs.ListLaws.{Each-append, Each-In, Pairwise-append}
 use Rattle.components.specs.Lists.{Distinct, Each, In, Pairwise}
 use Rattle.dependence_graph.specs.declared.graphs.Edge.{Edge}
 use Rattle.dependence_graph.specs.declared.graphs.Hold.{Hold}
 use Rattle.emission.specs.emission_marks.ByGraph.{AreMarked}
-use Rattle.emission.specs.emission_marks.Marks.{Marked, formed_at, kept_at, marked_at}
-use Rattle.emission.specs.emission_pieces.Nests.{loops_at}
+use Rattle.emission.specs.emission_marks.Marks.{Marked, assigned_at, kept_at, marked_at, masked_at}
+use Rattle.emission.specs.emission_pieces.Nests.{loops_at, standing_at}
 use Rattle.tree.specs.Plain.{Block}
 use Rattle.translation.specs.loop_numbers.Numbers.{ComesBefore, loop_number}
 use Rattle.nest.specs.Plain.{Nest}
@@ -28,11 +30,15 @@ by_statement (x ∷ xs) h = (each xs h.0, by_statement xs h.1)
     each (y ∷ ys) g = ((λ e. g.0 (ap (λ (k : ℕ × ℕ). k.1) e)), each ys g.1)
 
 nest_of_mark : (m : Nest) (s k : ℕ) → (marked_at m s k).mark.nest ≡ m.number
-nest_of_mark m s k = by (nat_le k (length (loops_at m s)))
+nest_of_mark m s k =
+    let x = (standing_at m s).statement in
+    by (nat_le k (length (loops_at m s)))
+    (stand_in_guard (loops_assigned (surroundings_of m (loops_at m s)) k x.left) x.guard)
   where
-    by : (b : Bool) → (cond b (formed_at m s k) (kept_at m s)).mark.nest ≡ m.number
-    by true = refl
-    by false = refl
+    by : (b c : Bool) → (cond b (cond c (masked_at m s k) (assigned_at m s k)) (kept_at m s)).mark.nest ≡ m.number
+    by true true = refl
+    by true false = refl
+    by false c = refl
 
 abbrev IsOf : ℕ → ℕ × ℕ → Type 0
 IsOf number k = k.0 ≡ number

@@ -1,24 +1,21 @@
--- The counters of all loops as made names, declared besides those of a program.
+-- The counters of all loops as made names, and what is declared besides a program's names.
 use Rattle.std.proofs.Common.{◌≡◌, ◌⊎◌, inl, inr, refl, sym, subst, ◌∙◌, ℕ, zero, suc, ◌+◌, ◌%◌, ◌^◌, ◌≤◌, ◌<◌, ◌==◌}
-use Rattle.std.proofs.Common.{Bool, true, false, ◌&&◌, ◌||◌, List, [], ◌∷◌, ◌++◌, length-append, Some, Contains, arith}
+use Rattle.std.proofs.Common.{Bool, true, false, ◌&&◌, ◌||◌, List, [], ◌∷◌, ◌++◌, length-append, map, Some, Contains, arith}
 use Rattle.std.specs.Prelude.{codes, decimal, nat_le}
 use Rattle.std.specs.List.{AllByRecursion, list_all}
-use Rattle.std.specs.declared.cmp.Ordering.{Ordering}
-use Rattle.std.specs.declared.cmp.Ordering.TheVariants.{Less, Equal, Greater}
-use Rattle.std.specs.Cmp.Lexicographic.{slice_cmp}
-use Rattle.std.specs.Ordering.{nat_cmp}
 use Rattle.std.proofs.lemmas.Bool.Decides.{nat_tests}
 use Rattle.std.proofs.lemmas.Fmt.{decimal_by_steps, length-decimal-le}
 use Rattle.std.proofs.lemmas.List.Folds.{list_all-append}
 use Rattle.find_nests.specs.Found.{InNest, found_in}
 use Rattle.pass_laws.proofs.FoundSources.Counters.{no_counter}
 use Rattle.meaning.specs.Dialect.{fortran77}
-use Rattle.meaning.specs.Names.{is_digit, is_letter}
+use Rattle.meaning.specs.SymbolicNames.{IsLongName, is_digit, is_letter}
 use Rattle.meaning.specs.Profile77.{IsProgram77}
+use Rattle.tree.specs.Names.{IsSourceName}
 use Rattle.tree.specs.Plain.{Declaration, Program}
 use Rattle.normal_loops.specs.Normalised.{normalised}
-use Rattle.translation.specs.made_declarations.Declaring.{integer_scalar, placed_by, with_integer, with_integers}
-use Rattle.translation.specs.made_declarations.Laws.{IsMadeName}
+use Rattle.translation.proofs.MadeDeclarations.Made.{members}
+use Rattle.translation.specs.made_declarations.Declaring.{integer_scalar, with_declaration, with_declarations}
 use Rattle.nest.specs.Bodies.{loops_in_branches, loops_in_parts, loops_of, nest_loops}
 use Rattle.nest.specs.Plain.{Branches, Choice, Jump, Label, Loop, Nest, Part, Parts, Run, Turns, branch}
 use Rattle.nest.specs.Plain.{no_branches, no_parts, part}
@@ -26,12 +23,18 @@ use Rattle.pass_laws.proofs.NormalFacts.FoundStatements.{found_body}
 use Rattle.pass_laws.proofs.NormalFacts.LoopWalk.{EachLoop, EachLoopIn, EachLoopUnder}
 use Rattle.pass_laws.proofs.NormalFacts.MadeStatements.{IsMadeLoop, made_loops}
 use Rattle.last_values.specs.normal_forms.NormalLoops.{counter_name}
-use Rattle.meaning_laws.proofs.profiles.Lists.{here, there, cases_of}
+use Rattle.meaning_laws.proofs.arrays.Members.{in_map, of_map}
+use Rattle.meaning_laws.proofs.profiles.Lists.{all_at, here, there}
 use Rattle.meaning_laws.specs.profiles.Profiles.{AddMadeNames}
 use Rattle.translation.proofs.ProgramTranslation.Lists.{joined}
 use Rattle.pass_laws.proofs.ReadyNests.Made.{made_of}
 
 -- ---- a counter is a made name
+
+-- a name that no program of FORTRAN 77 has
+pub record IsMadeName (x : List ℕ) : Type 0 where
+  pub name : IsLongName x
+  pub made : IsSourceName x → ⊥
 
 abbrev stands_in_name : ℕ → Bool
 stands_in_name c = is_letter c || is_digit c || c == 95
@@ -167,39 +170,33 @@ pub variables_numbered : (p : Program) (es : List Declaration) (n m : Nest)
 variables_numbered p es n m is more h e =
     weaker (nest_loops m) (counted es n.symbols [] m.body (made_loops es n (found_body fortran77 p es is more n h) m (made_of n m e)))
 
--- ---- what is declared by them
+-- ---- their declarations
 
-pub record IsOneOf (xs : List (List ℕ)) (e : Declaration) : Type 0 where
-  pub name : List ℕ
-  pub among : Contains xs name
-  pub is : integer_scalar name ≡ e
+abbrev pub counter_declarations : List Declaration
+counter_declarations = map integer_scalar every_counter
 
-placed_cases : (o : Ordering) (x : List ℕ) (d : Declaration) (ds behind : List Declaration) (e : Declaration)
-    → (Contains behind e → (integer_scalar x ≡ e) ⊎ Contains ds e) → Contains (placed_by o x d ds behind) e → (integer_scalar x ≡ e) ⊎ Contains (d ∷ ds) e
-placed_cases Less x d ds behind e f h = cases_of (integer_scalar x) (d ∷ ds) e h
-placed_cases Equal x d ds behind e f h = inr h
-placed_cases Greater x d ds behind e f h = by (cases_of d behind e h)
-  where
-    later : (integer_scalar x ≡ e) ⊎ Contains ds e → (integer_scalar x ≡ e) ⊎ Contains (d ∷ ds) e
-    later (inl s) = inl s
-    later (inr c) = inr (there d ds e c)
+pub counter_declared : (x : List ℕ) → IsNumbered x → Contains counter_declarations (integer_scalar x)
+counter_declared x h = in_map integer_scalar every_counter x (counter_among x h)
 
-    by : (d ≡ e) ⊎ Contains behind e → (integer_scalar x ≡ e) ⊎ Contains (d ∷ ds) e
-    by (inl s) = inr (subst (Contains (d ∷ ds)) s (here d ds))
-    by (inr c) = later (f c)
+pub record IsCounterDeclared (e : Declaration) : Type 0 where
+  pub numbered : IsNumbered e.name
+  pub is : e ≡ integer_scalar e.name
 
-one_more : (ds : List Declaration) (x : List ℕ) (e : Declaration) → Contains (with_integer ds x) e → (integer_scalar x ≡ e) ⊎ Contains ds e
-one_more [] x e h = cases_of (integer_scalar x) [] e h
-one_more (d ∷ ds) x e h = placed_cases (slice_cmp nat_cmp x d.name) x d ds (with_integer ds x) e (one_more ds x e) h
+pub of_counter : (e : Declaration) → Contains counter_declarations e → IsCounterDeclared e
+of_counter e c =
+    let o = of_map integer_scalar every_counter e c in
+    subst IsCounterDeclared o.2 (record { numbered = all_at IsNumbered every_counter o.0 each_numbered o.1; is = refl })
 
-pub each_of : (ds : List Declaration) (xs : List (List ℕ)) (e : Declaration) → Contains (with_integers ds xs) e → Contains ds e ⊎ IsOneOf xs e
+-- each declaration is one of those before, or a new one
+pub each_of : (ds ns : List Declaration) (e : Declaration) → Contains (with_declarations ds ns) e
+    → Contains ds e ⊎ Contains ns e
 each_of ds [] e h = inl h
-each_of ds (x ∷ xs) e h = by (each_of (with_integer ds x) xs e h)
+each_of ds (n ∷ ns) e h = by (each_of (with_declaration ds n) ns e h)
   where
-    first : (integer_scalar x ≡ e) ⊎ Contains ds e → Contains ds e ⊎ IsOneOf (x ∷ xs) e
-    first (inl s) = inr (record { name = x; among = here x xs; is = s })
-    first (inr c) = inl c
+    first : Contains ds e ⊎ (n ≡ e) → Contains ds e ⊎ Contains (n ∷ ns) e
+    first (inl c) = inl c
+    first (inr s) = inr (subst (Contains (n ∷ ns)) s (here n ns))
 
-    by : Contains (with_integer ds x) e ⊎ IsOneOf xs e → Contains ds e ⊎ IsOneOf (x ∷ xs) e
-    by (inl c) = first (one_more ds x e c)
-    by (inr o) = inr (record { name = o.name; among = there x xs o.name o.among; is = o.is })
+    by : Contains (with_declaration ds n) e ⊎ Contains ns e → Contains ds e ⊎ Contains (n ∷ ns) e
+    by (inl c) = first (members ds n e c)
+    by (inr c) = inr (there n ns e c)

@@ -1,6 +1,6 @@
 -- A translation is a program of Fortran 90 that keeps the meaning of its source.
 use Rattle.std.proofs.Common.{◌≡◌, ◌⊎◌, inl, inr, refl, sym, ap, subst, ◌∙◌, ℕ, zero, suc, ◌^◌, ◌≤◌, ◌<◌, Some, List, [], ◌∷◌}
-use Rattle.std.proofs.Common.{Option, None, length, map, Contains, arith}
+use Rattle.std.proofs.Common.{◌++◌, Option, length, map, Contains, arith}
 use Rattle.std.specs.Prelude.{All, codes}
 use Rattle.std.specs.List.{AllByRecursion}
 use Rattle.std.specs.Option.{IsSomeAnd}
@@ -12,17 +12,15 @@ use Rattle.find_nests.proofs.FoundLaws.{found_nest_is_loop}
 use Rattle.find_nests.specs.Laws.{IsFoundNest}
 use Rattle.find_nests.specs.Loops.{Placed, as_statement, loops_in_block}
 use Rattle.find_nests.specs.LookedAt.{looked_at}
-use Rattle.pass_laws.proofs.FoundSources.Counters.{no_counter}
 use Rattle.pass_laws.proofs.FoundSources.PlainNests.{normal_nests_are_plain}
 use Rattle.pass_laws.specs.found_sources.Alone.{HasLoopsAlone}
-use Rattle.meaning.specs.Agreement.{names_in_block}
+use Rattle.meaning.specs.Reads.{names_in_block}
 use Rattle.meaning.specs.Blocks.{Surroundings}
 use Rattle.meaning.specs.Dialect.{fortran77}
-use Rattle.meaning.specs.Profile77.{IsDeclaration, IsProgram77, IsStatement}
-use Rattle.meaning.specs.Profile90.{AreDeclarations, IsBlock}
+use Rattle.meaning.specs.Profile77.{IsProgram77, IsStatement}
+use Rattle.meaning.specs.Profile90.{IsBlock}
 use Rattle.meaning.specs.Store.{names_of}
 use Rattle.meaning.specs.Typed.{declared}
-use Rattle.meaning.specs.Typed90.{IsFree}
 use Rattle.tree.specs.Names.{IsSourceName}
 use Rattle.tree.specs.Plain.{Block, Declaration, Program}
 use Rattle.translation.proofs.LoopNumbers.Behind.{next_from_one}
@@ -31,9 +29,9 @@ use Rattle.translation.proofs.LoopNumbers.Order.{same_loop}
 use Rattle.translation.specs.loop_numbers.Numbers.{loop_number}
 use Rattle.translation.specs.loop_placing.Placing.{block_at}
 use Rattle.translation.proofs.MadeDeclarations.Made.{made_names}
-use Rattle.translation.specs.made_declarations.Declaring.{integer_scalar, with_integers}
-use Rattle.translation.specs.made_declarations.Laws.{AreWith, IsMadeName, WithMadeNames}
-use Rattle.translation.specs.nest_blocks.Blocks.{AreNestBlocks, IsBlockOfLoop}
+use Rattle.translation.specs.made_declarations.Declaring.{declaration_by, with_declarations}
+use Rattle.translation.specs.made_declarations.Laws.{AreWith, IsMadeDeclaration, WithMadeNames}
+use Rattle.translation.specs.nest_blocks.Blocks.{AreNestBlocks, IsBlockOfLoop, IsMadeForNest}
 use Rattle.find_nests.specs.nest_parts.Numbers.{next}
 use Rattle.translation.proofs.NestProfile.Law.{translation_is_of_profile}
 use Rattle.translation.specs.nest_profile.Laws.{TranslationIsOfProfile}
@@ -41,20 +39,22 @@ use Rattle.prepared_runs.proofs.LastEndings.{last_values_end}
 use Rattle.translation.proofs.NestTranslation.Translation.{translation_does_as_loop}
 use Rattle.nest.specs.Allocations.{block_then}
 use Rattle.nest.specs.Bodies.{nest_loops}
-use Rattle.nest.specs.Plain.{Loop, Nest}
+use Rattle.nest.specs.Plain.{Loop, Made, Nest}
 use Rattle.pass_laws.specs.normal_facts.Laws.{IsCounter}
 use Rattle.last_values.specs.normal_forms.NormalLoops.{counter_name}
 use Rattle.pass_laws.proofs.NormalMeaning.Made.{behind, made_of}
 use Rattle.translation.proofs.PlacedProfile.Placing.{placed_program_is_program}
-use Rattle.translation.proofs.PlacedProfile.SourceNames.{source_name}
 use Rattle.translation.specs.placed_profile.Limits.{IsWithinLimits}
 use Rattle.translation.specs.placed_profile.Laws.{AreSourceNames, IsWithoutLabels, PlacedProgramIsProgram, SuitLoops}
+use Rattle.meaning_laws.proofs.arrays.Members.{each_member, in_map, nowhere, of_map}
 use Rattle.meaning_laws.proofs.profiles.Lists.{all_at}
 use Rattle.meaning_laws.proofs.profiles.Names.{found}
-use Rattle.meaning_laws.proofs.profiles.Programs.{source_is_target}
 use Rattle.meaning_laws.specs.profiles.Profiles.{AddMadeNames}
-use Rattle.translation.proofs.ProgramTranslation.Counted.{IsNumbered, IsOneOf, counter_among, each_numbered, each_of}
-use Rattle.translation.proofs.ProgramTranslation.Counted.{every_counter, numbered_is_made, variables_numbered}
+use Rattle.translation.proofs.ProgramTranslation.Counted.{IsCounterDeclared, IsNumbered, counter_declarations, each_of}
+use Rattle.translation.proofs.ProgramTranslation.Counted.{variables_numbered}
+use Rattle.translation.proofs.ProgramTranslation.Declared.{AreMade, IsMadeHere, agree, apart, declared_counter, declared_here}
+use Rattle.translation.proofs.ProgramTranslation.Declared.{each_made, either, names_of_made, not_source, own_are, own_source}
+use Rattle.translation.proofs.ProgramTranslation.Declared.{unhidden, with_all}
 use Rattle.translation.proofs.ProgramTranslation.Named.{block_known}
 use Rattle.translation.proofs.ProgramTranslation.Sources.{name_among}
 use Rattle.translation.proofs.ProgramTranslation.Standing.{Stands, loop_stands}
@@ -85,46 +85,27 @@ other_reshape : IsNumbered (codes "RESHAPE") → ⊥
 other_reshape = other_letter (codes "RESHAPE") (λ e. omega (arith, e))
 
 module _ (within : WithMadeNames) (profile : TranslationIsOfProfile) (p q : Program) (blocks : List (Option Block))
-    (program : IsProgram77 fortran77 p) (are : AreNestBlocks p blocks) (t : IsPlacedBy p blocks q) where
-  -- ---- all counters besides the names of the program
+    (made : List Declaration) (program : IsProgram77 fortran77 p) (are : AreNestBlocks p blocks made)
+    (t : IsPlacedBy p blocks made q) (given : AreMade made) where
+  -- ---- all counters, and all that passes made, besides the names of the program
+
+  abbrev all : List Declaration
+  all = made ++ counter_declarations
 
   abbrev rs : List Declaration
-  rs = with_integers p.declarations every_counter
+  rs = with_declarations p.declarations all
 
   abbrev r : Program
   r = record p { declarations = rs }
 
-  own_are : AreDeclarations p.declarations
-  own_are = (source_is_target fortran77 p (omega arith) program).declarations
+  with_others : AreWith p.declarations all rs
+  with_others = with_all within p program made given
 
-  own_source : (e : Declaration) → Contains p.declarations e → IsSourceName e.name
-  own_source e c = source_name e.name (all_at (IsDeclaration fortran77) p.declarations e program.declarations.each c).name
+  long_transpose : 6 < length (codes "TRANSPOSE")
+  long_transpose = omega arith
 
-  numbered_long : (x : List ℕ) → IsNumbered x → IsSourceName x → ⊥
-  numbered_long x h s = no_counter h.number x s.within h.is
-
-  counters_apart : (e : Declaration) → Contains p.declarations e → Contains every_counter e.name → ⊥
-  counters_apart e c i = numbered_long e.name (all_at IsNumbered every_counter e.name each_numbered i) (own_source e c)
-
-  counters_made : All IsMadeName every_counter
-  counters_made = λ k d i. numbered_is_made _ (all_at IsNumbered every_counter _ each_numbered (Contains-get_or every_counter k d i))
-
-  with_counters : AreWith p.declarations every_counter rs
-  with_counters = within p.declarations every_counter own_are counters_made counters_apart
-
-  -- no function is hidden
-  unhidden : (f : List ℕ) → 6 < length f → (IsNumbered f → ⊥) → IsFree rs f
-  unhidden f long other = by (declared rs f) refl
-    where
-      hides : (d : Declaration) → d.name ≡ f → Contains p.declarations d ⊎ IsOneOf every_counter d → ⊥
-      hides d n (inl c) = let short = (subst IsSourceName n (own_source d c)).within in omega (arith, long, short)
-      hides d n (inr o) = other (subst IsNumbered (ap (λ (c : Declaration). c.name) o.is ∙ n) (all_at IsNumbered every_counter o.name each_numbered o.among))
-
-      by : (o : Option Declaration) → declared rs f ≡ o → o ≡ None
-      by None e = refl
-      by (Some d) e =
-          let at = found rs f d e in
-          absurd (hides d at.name (each_of p.declarations every_counter d at.among))
+  long_reshape : 6 < length (codes "RESHAPE")
+  long_reshape = omega arith
 
   -- ---- a block
 
@@ -141,12 +122,10 @@ module _ (within : WithMadeNames) (profile : TranslationIsOfProfile) (p q : Prog
     stands : Stands program loop
     stands = loop_stands program loop found_nest.stands
 
-    declared_counter : (x : List ℕ) → IsNumbered x → IsSomeAnd (declared rs x) IsCounter
-    declared_counter x h = subst (λ o. IsSomeAnd o IsCounter) (sym (with_counters.declared x (counter_among x h))) (record { kind = refl; scalar = refl })
-
     counters : All (λ (l : Loop). IsSomeAnd (declared rs l.variable) IsCounter) (nest_loops is_block.normal)
-    counters = λ j d i. declared_counter _ (All-from_recursion (λ (l : Loop). IsNumbered l.variable) (nest_loops is_block.normal)
-        (variables_numbered p rs is_block.nest is_block.normal program with_counters.more is_block.among is_block.translated.passed.made) j d i)
+    counters = λ j d i. declared_counter within p program made given _
+        (All-from_recursion (λ (l : Loop). IsNumbered l.variable) (nest_loops is_block.normal)
+        (variables_numbered p rs is_block.nest is_block.normal program with_others.more is_block.among is_block.translated.passed.made) j d i)
 
     small : is_block.nest.number < 2 ^ 32
     small =
@@ -155,22 +134,29 @@ module _ (within : WithMadeNames) (profile : TranslationIsOfProfile) (p q : Prog
 
     of_profile : (w : Surroundings) → AreSourceNames w.variables → IsStatement p.declarations (as_statement loop.loop.loop) w → IsBlock rs b w
     of_profile w v s =
-        profile p r is_block.nest is_block.normal b w found_nest program is_block.among with_counters.more is_block.translated
-        counters (unhidden (codes "TRANSPOSE") (omega arith) other_transpose) (unhidden (codes "RESHAPE") (omega arith) other_reshape) small v s
+        profile p r is_block.nest is_block.normal b w found_nest program is_block.among with_others.more is_block.translated
+        counters (unhidden within p program made given (codes "TRANSPOSE") long_transpose other_transpose given.transpose)
+        (unhidden within p program made given (codes "RESHAPE") long_reshape other_reshape given.reshape) small v s
 
     known : AllByRecursion (Contains (names_of r)) (names_in_block b)
     known = block_known rs b stands.round (of_profile stands.round stands.named stands.is)
 
-    -- a name in it is one of the program, or a counter
-    own_or_counter : (x : List ℕ) → Contains (names_in_block b) x → Contains (names_of p) x ⊎ IsNumbered x
-    own_or_counter x c =
+    -- a name in it is one of the program, or a made one
+    own_or_made : (x : List ℕ) → Contains (names_in_block b) x → Contains (names_of p) x ⊎ IsMadeHere made x
+    own_or_made x c =
         let d = is_declared rs x (all_at (Contains (names_of r)) (names_in_block b) x known c) in
         let f = found rs x d.0 d.1 in
-        by d.0 f.name (each_of p.declarations every_counter d.0 f.among)
+        by d.0 f.name (each_of p.declarations all d.0 f.among)
       where
-        by : (d : Declaration) → d.name ≡ x → Contains p.declarations d ⊎ IsOneOf every_counter d → Contains (names_of p) x ⊎ IsNumbered x
+        here_made : (d : Declaration) → d.name ≡ x → Contains made d ⊎ IsCounterDeclared d → IsMadeHere made x
+        here_made d n (inl i) =
+            inl (subst (Contains (names_of_made made)) n (in_map (λ (e : Declaration). e.name) made d i))
+        here_made d n (inr o) = inr (subst IsNumbered n o.numbered)
+
+        by : (d : Declaration) → d.name ≡ x → Contains p.declarations d ⊎ Contains all d
+            → Contains (names_of p) x ⊎ IsMadeHere made x
         by d n (inl i) = inl (subst (Contains (names_of p)) n (name_among p.declarations d i))
-        by d n (inr o) = inr (subst IsNumbered (ap (λ (c : Declaration). c.name) o.is ∙ n) (all_at IsNumbered every_counter o.name each_numbered o.among))
+        by d n (inr i) = inr (here_made d n (either within p program made given d i))
 
     alone : HasLoopsAlone is_block.nest.body
     alone = (normal_nests_are_plain p is_block.nest is_block.normal program is_block.among is_block.translated.passed.made is_block.translated.passed.alone).0
@@ -197,69 +183,87 @@ module _ (within : WithMadeNames) (profile : TranslationIsOfProfile) (p q : Prog
   -- ---- the made names
 
   -- the block at 0 is that at 1
-  known_at : (k : ℕ) (b : Block) → block_at blocks k ≡ Some b → (x : List ℕ) → Contains (names_in_block b) x → Contains (names_of p) x ⊎ IsNumbered x
-  known_at zero b e x c = own_or_counter 1 b (omega arith) e x c
-  known_at (suc k) b e x c = own_or_counter (suc k) b (omega arith) e x c
+  known_at : (k : ℕ) (b : Block) → block_at blocks k ≡ Some b → (x : List ℕ) → Contains (names_in_block b) x
+      → Contains (names_of p) x ⊎ IsMadeHere made x
+  known_at zero b e x c = own_or_made 1 b (omega arith) e x c
+  known_at (suc k) b e x c = own_or_made (suc k) b (omega arith) e x c
 
-  stands_numbered : (x : List ℕ) → IsMadeIn blocks x → IsNumbered x
-  stands_numbered x h = by (known_at h.stands.number h.stands.block h.stands.is x h.stands.among)
+  stands_made : (x : List ℕ) → IsMadeIn blocks x → IsMadeHere made x
+  stands_made x h = by (known_at h.stands.number h.stands.block h.stands.is x h.stands.among)
     where
-      by : Contains (names_of p) x ⊎ IsNumbered x → IsNumbered x
-      by (inl c) = absurd (let d = is_declared p.declarations x c in let f = found p.declarations x d.0 d.1 in h.made (subst IsSourceName f.name (own_source d.0 f.among)))
+      by : Contains (names_of p) x ⊎ IsMadeHere made x → IsMadeHere made x
+      by (inl c) =
+          let d = is_declared p.declarations x c in
+          let f = found p.declarations x d.0 d.1 in
+          absurd (h.made (subst IsSourceName f.name (own_source within p program made given d.0 f.among)))
       by (inr n) = n
 
-  made_numbered : (x : List ℕ) → Contains t.made x → IsNumbered x
-  made_numbered x c = stands_numbered x ((t.made_are x).0 c)
+  abbrev new : List Declaration
+  new = map (declaration_by made) t.names
 
   abbrev qs : List Declaration
-  qs = with_integers p.declarations t.made
+  qs = with_declarations p.declarations new
 
-  with_made : AreWith p.declarations t.made qs
-  with_made = within p.declarations t.made own_are
-      (λ k d i. numbered_is_made _ (made_numbered _ (Contains-get_or t.made k d i)))
-      (λ e c i. numbered_long e.name (made_numbered e.name i) (own_source e c))
+  new_in : (e : Declaration) → Contains new e → Contains all e
+  new_in e c =
+      let o = of_map (declaration_by made) t.names e c in
+      subst (Contains all) o.2 (declared_here within p program made given o.0 (stands_made o.0 ((t.names_are o.0).0 o.1))).0
+
+  with_names : AreWith p.declarations new qs
+  with_names =
+      within p.declarations new (own_are within p program made given)
+      (each_member IsMadeDeclaration new (λ e c. each_made within p program made given e (new_in e c)))
+      (λ d e c k same. agree within p program made given d e (new_in d c) (new_in e k) same)
+      (λ d e c k same. apart within p program made given d e c (new_in e k) same)
 
   -- each declaration of q is one of r
   some : (e : Declaration) → Contains qs e → Contains rs e
-  some e c = by (each_of p.declarations t.made e c)
+  some e c = by (each_of p.declarations new e c)
     where
-      by : Contains p.declarations e ⊎ IsOneOf t.made e → Contains rs e
-      by (inl i) = with_counters.more.kept e i
-      by (inr o) = subst (Contains rs) o.is
-          (found rs o.name (integer_scalar o.name) (with_counters.declared o.name (counter_among o.name (made_numbered o.name o.among)))).among
+      by : Contains p.declarations e ⊎ Contains new e → Contains rs e
+      by (inl i) = with_others.more.kept e i
+      by (inr i) = (found rs e.name e (with_others.declared e (new_in e i))).among
 
   more : AddMadeNames qs rs
-  more = record { kept = some; made = made; are = with_counters.more.are }
+  more = record { kept = some; made = others; are = with_others.more.are }
     where
       by : (e : Declaration) → Contains p.declarations e ⊎ (IsSourceName e.name → ⊥) → Contains qs e ⊎ (IsSourceName e.name → ⊥)
-      by e (inl c) = inl (with_made.more.kept e c)
+      by e (inl c) = inl (with_names.more.kept e c)
       by e (inr f) = inr f
 
-      made : (e : Declaration) → Contains rs e → Contains qs e ⊎ (IsSourceName e.name → ⊥)
-      made e c = by e (with_counters.more.made e c)
+      others : (e : Declaration) → Contains rs e → Contains qs e ⊎ (IsSourceName e.name → ⊥)
+      others e c = by e (with_others.more.made e c)
 
-  names_declared : (k : ℕ) (b : Block) → block_at blocks k ≡ Some b → (x : List ℕ) → Contains (names_in_block b) x → Contains (map (λ (d : Declaration). d.name) qs) x
+  names_declared : (k : ℕ) (b : Block) → block_at blocks k ≡ Some b → (x : List ℕ) → Contains (names_in_block b) x
+      → Contains (map (λ (d : Declaration). d.name) qs) x
   names_declared k b e x c = by (known_at k b e x c)
     where
-      by : Contains (names_of p) x ⊎ IsNumbered x → Contains (map (λ (d : Declaration). d.name) qs) x
+      by : Contains (names_of p) x ⊎ IsMadeHere made x → Contains (map (λ (d : Declaration). d.name) qs) x
       by (inl i) =
           let d = is_declared p.declarations x i in
           let f = found p.declarations x d.0 d.1 in
-          subst (Contains (map (λ (d : Declaration). d.name) qs)) f.name (name_among qs d.0 (with_made.more.kept d.0 f.among))
+          subst (Contains (map (λ (d : Declaration). d.name) qs)) f.name (name_among qs d.0 (with_names.more.kept d.0 f.among))
       by (inr n) =
-          let m : Contains t.made x = (t.made_are x).1 (record { stands = record { number = k; block = b; is = e; among = c }; made = numbered_long x n }) in
-          name_of_declared qs (integer_scalar x) x (with_made.declared x m)
+          let m : Contains t.names x
+          = (t.names_are x).1 (record {
+            stands = record { number = k; block = b; is = e; among = c };
+            made = not_source within p program made given x n;
+          }) in
+          let name = (declared_here within p program made given x n).1 in
+          name_of_declared qs (declaration_by made x) x
+          (subst (λ z. declared qs z ≡ Some (declaration_by made x)) name
+          (with_names.declared (declaration_by made x) (in_map (declaration_by made) t.names x m)))
 
   all_declared : (k : ℕ) (b : Block) → block_at blocks k ≡ Some b → All (Contains (map (λ (d : Declaration). d.name) qs)) (names_in_block b)
   all_declared k b e = λ j d i. names_declared k b e _ (Contains-get_or (names_in_block b) j d i)
 
   fewer : (k : ℕ) (b : Block) (w : Surroundings) → block_at blocks k ≡ Some b → IsBlock rs b w → IsBlock qs b w
-  fewer k b w e h = block_with_fewer_names qs rs b w with_made.more.are with_counters.more.are some (all_declared k b e) h
+  fewer k b w e h = block_with_fewer_names qs rs b w with_names.more.are with_others.more.are some (all_declared k b e) h
 
   -- ---- by the declarations of q
 
   own_more : AddMadeNames p.declarations q.declarations
-  own_more = subst (λ (ds : List Declaration). AddMadeNames p.declarations ds) (sym t.declarations) with_made.more
+  own_more = subst (λ (ds : List Declaration). AddMadeNames p.declarations ds) (sym t.declarations) with_names.more
 
   counters_more : AddMadeNames q.declarations r.declarations
   counters_more = subst (λ (ds : List Declaration). AddMadeNames ds rs) (sym t.declarations) more
@@ -307,6 +311,26 @@ module _ (within : WithMadeNames) (profile : TranslationIsOfProfile) (p q : Prog
         keeps = λ input. translation_keeps translation_does_as_loop p q r blocks input program target own_more counters_more translations t.body;
       }
 
+-- ---- what the passes make so far
+
+-- no pass makes a name
+nothing_is_made : (p : Program) (d : Declaration) → IsMadeForNest p d → ⊥
+nothing_is_made p d h =
+    let none : h.last.made ≡ []
+    = (made_of h.nest h.last h.passed.made).made
+    ∙ ap (λ (n : Nest). n.made) (found_nest_is_loop p h.nest h.among).is in
+    nowhere h.array (subst (λ (ms : List Made). Contains ms h.array) none h.made)
+
+none_made : (p : Program) (made : List Declaration) → ((d : Declaration) → Contains made d → IsMadeForNest p d) → AreMade made
+none_made p made h = record {
+  each = λ d c. absurd (nothing_is_made p d (h d c));
+  one = λ d e c k same. absurd (nothing_is_made p d (h d c));
+  counts = λ d c. absurd (nothing_is_made p d (h d c));
+  transpose = λ d c. absurd (nothing_is_made p d (h d c));
+  reshape = λ d c. absurd (nothing_is_made p d (h d c));
+}
+
 pub translation_is_good : TranslationIsGood
-translation_is_good p q blocks program are placed limits =
-    good made_names translation_is_of_profile p q blocks program are placed placed_program_is_program limits
+translation_is_good p q blocks made program are placed limits =
+    good made_names translation_is_of_profile p q blocks made program are placed (none_made p made are.made_are)
+    placed_program_is_program limits

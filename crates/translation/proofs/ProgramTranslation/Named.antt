@@ -10,14 +10,16 @@ use Rattle.tree.specs.Plain.{Stop, Read, Print, Allocate, Deallocate, Arms, no_a
 use Rattle.tree.specs.Plain.{statement, Declaration}
 use Rattle.tree.specs.declared.ops.Kind.{Kind}
 use Rattle.tree.specs.declared.ops.Kind.TheVariants.{Integer, Logical}
-use Rattle.meaning.specs.Agreement.{names_in_item, names_in_items, names_in_statement, names_in_arms, names_in_block}
+use Rattle.meaning.specs.Reads.{names_in_block}
+use Rattle.meaning.specs.Reads.{names_in_item, names_in_items, names_in_statement, names_in_arms}
 use Rattle.meaning.specs.Blocks.{Surroundings, within_loop, before_labels, labels_of}
 use Rattle.meaning.specs.Profile90.{IsWhole, IsStatement, AreArms, IsBlock}
 use Rattle.meaning.specs.Reads.{names_in, names_in_each, names_in_subscripts, names_in_subscript, names_in_loops}
 use Rattle.meaning.specs.Typed.{declared}
 use Rattle.meaning.specs.Typed90.{HasKind, AreArguments, AreScalars, AreSubscripts, IsSubscript, AreLoops}
-use Rattle.meaning.specs.Typed90.{IsDoVariable, HasSomeKind, IsInput, IsOutputItem, AreOutputItems, IsInputItem}
-use Rattle.meaning.specs.Typed90.{AreInputItems}
+use Rattle.meaning.specs.Typed90.{IsDoVariable, HasSomeKind}
+use Rattle.meaning.specs.Items90.{IsInput, IsOutputItem, AreOutputItems, IsInputItem}
+use Rattle.meaning.specs.Items90.{AreInputItems}
 use Rattle.meaning_laws.proofs.dialects.NamesIn.{among}
 use Rattle.meaning_laws.proofs.profiles.Names.{names}
 use Rattle.translation.proofs.ProgramTranslation.Lists.{joined}

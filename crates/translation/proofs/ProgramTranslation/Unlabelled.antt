@@ -1,21 +1,21 @@
 -- No label and no jump stands in a nest that is loops and statements alone, nor in what is emitted for it.
-use Rattle.std.proofs.Common.{◌≡◌, refl, ap₂, ℕ, suc, List, [], ◌∷◌, ◌++◌, Option, Some}
+use Rattle.std.proofs.Common.{◌≡◌, refl, ap, ap₂, ℕ, suc, List, [], ◌∷◌, ◌++◌, Some}
 use Rattle.array_form.specs.forms.Loops.{Surroundings, names_of}
-use Rattle.array_form.specs.forms.Statements.{array_form_of, guarded_by, left_form, loops_from, right_form, tests_of}
+use Rattle.array_form.specs.forms.Statements.{and_all, guarded_by, guarded_form, loops_from, tests_of}
 use Rattle.emission.specs.emission_pieces.Nests.{loops_at, standing_at}
 use Rattle.emission.specs.emission_pieces.Pieces.{Formed, Kept, Piece, Pieces, Turning, block_of_piece, block_of_pieces, mark_of}
-use Rattle.emission.specs.emission_pieces.Pieces.{no_pieces, piece, translation}
+use Rattle.emission.specs.emission_pieces.Pieces.{kept_assignment, kept_statement, no_pieces, piece, translation}
 use Rattle.pass_laws.proofs.FoundSources.Lists.{alone_left, alone_right}
 use Rattle.pass_laws.specs.found_sources.Alone.{HaveLoopsAlone}
-use Rattle.meaning.specs.Blocks.{all_labels_in, all_labels_of, targets_in, targets_of}
-use Rattle.tree.specs.Plain.{Expression, Reference, Statement, Assignment, Where, If, Do, Label, GoTo, Stop, Read}
+use Rattle.meaning.specs.Labels.{all_labels_in, all_labels_of, targets_in, targets_of}
+use Rattle.tree.specs.Plain.{Expression, Statement, Assignment, Where, If, Do, Label, GoTo, Stop, Read}
 use Rattle.tree.specs.Plain.{Print, Allocate, Deallocate, Block, arm, no_arms, no_statements, statement}
-use Rattle.tree.specs.declared.stmts.Mark.{Mark}
 use Rattle.find_nests.specs.nest_parts.Numbers.{after, next}
 use Rattle.find_nests.specs.nest_parts.Statements.{parts_of, parts_of_block}
 use Rattle.prepared_nests.specs.After.{AreEndings, IsEnding}
 use Rattle.nest.specs.Allocations.{allocation_then, allocations_then, block_then, deallocation_then, deallocations}
-use Rattle.nest.specs.Plain.{Made, Nest, parts}
+use Rattle.nest.specs.Plain.{Guarded, Made, Nest, parts}
+use Rattle.prepared_runs.proofs.Pieces.{of_form, of_kept}
 use Rattle.translation.specs.placed_profile.Laws.{IsWithoutLabels}
 use Rattle.array_form.specs.holds.Surroundings.{surroundings_of}
 
@@ -102,19 +102,28 @@ then_unlabelled (statement c cs) b h k =
     parted [] ys e = (refl, e)
     parted (x ∷ xs) ys e = let no : ⊥ = cc in absurd no
 
-form_unlabelled : (a : Surroundings) (k line : ℕ) (mark : Option Mark) (left : Reference) (right : Expression) → IsWithoutLabels (array_form_of a k line mark left right)
-form_unlabelled a k line mark left right = by (tests_of (names_of a) (loops_from a k))
-  where
-    by : (es : List Expression) → IsWithoutLabels (guarded_by line es (statement (Assignment line mark (left_form a k left) (right_form a k left right)) no_statements))
-    by [] = record { labels = refl; targets = refl }
-    by (e ∷ es) = record { labels = refl; targets = refl }
+conditions_unlabelled : (line : ℕ) (es : List Expression) (c : Statement) → IsUnlabelled c → IsWithoutLabels (guarded_by line es (statement c no_statements))
+conditions_unlabelled line [] c h = one c h
+conditions_unlabelled line (e ∷ es) c h =
+    one (If line (arm (and_all e es) (statement c no_statements) no_arms) no_statements)
+    (record { labels = ap (λ (xs : List ℕ). ((xs ++ []) ++ []) ++ []) h.labels; targets = ap (λ (xs : List ℕ). ((xs ++ []) ++ []) ++ []) h.targets })
 
 module _ (n : Nest) where
+  abbrev around : ℕ → Surroundings
+  around s = surroundings_of n (loops_at n s)
+
+  abbrev own : ℕ → Guarded
+  own s = (standing_at n s).statement
+
   mutual
     piece_unlabelled : (k : ℕ) (p : Piece) → IsWithoutLabels (block_of_piece n k p)
-    piece_unlabelled k (Kept s) = record { labels = refl; targets = refl }
+    piece_unlabelled k (Kept s) =
+        one (kept_statement n s)
+        (of_kept IsUnlabelled (own s).line (own s).guard (kept_assignment n s) (record { labels = refl; targets = refl }) (λ e. record { labels = refl; targets = refl }))
     piece_unlabelled k (Formed s) =
-        form_unlabelled (surroundings_of n (loops_at n s)) k (standing_at n s).statement.line (Some (mark_of n s k)) (standing_at n s).statement.left (standing_at n s).statement.right
+        conditions_unlabelled (own s).line (tests_of (names_of (around s)) (loops_from (around s) k)) (guarded_form (around s) k (own s).line (Some (mark_of n s k)) (own s).guard (own s).left (own s).right)
+        (of_form IsUnlabelled (around s) k (own s).line (Some (mark_of n s k)) (own s).guard (own s).left (own s).right
+        (record { labels = refl; targets = refl }) (λ e. record { labels = refl; targets = refl }) (λ e. record { labels = refl; targets = refl }))
     piece_unlabelled k (Turning l ps) =
         let inner = pieces_unlabelled (suc k) ps in
         record {

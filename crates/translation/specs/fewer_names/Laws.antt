@@ -1,7 +1,7 @@
 -- Blocks with fewer declarations.
 use Rattle.std.specs.Prelude.{All, List, map, Contains}
 use Rattle.tree.specs.Plain.{Block, Declaration}
-use Rattle.meaning.specs.Agreement.{names_in_block}
+use Rattle.meaning.specs.Reads.{names_in_block}
 use Rattle.meaning.specs.Blocks.{Surroundings}
 use Rattle.meaning.specs.Profile90.{AreDeclarations, IsBlock}
 

@@ -1,25 +1,29 @@
 -- Declarations with made names.
-use Rattle.std.specs.Prelude.{◌≡◌, ℕ, Some, All, List, Contains}
+use Rattle.std.specs.Prelude.{◌≡◌, Some, All, List, [], Contains}
 use Rattle.tree.specs.Names.{IsSourceName}
 use Rattle.tree.specs.Plain.{Declaration}
-use Rattle.meaning.specs.Names.{IsLongName}
-use Rattle.meaning.specs.Profile90.{AreDeclarations}
-use Rattle.meaning.specs.Typed.{declared}
+use Rattle.meaning.specs.Profile90.{AreDeclarations, IsDeclaration}
+use Rattle.meaning.specs.Typed.{declared, dimensions}
 use Rattle.meaning_laws.specs.profiles.Profiles.{AddMadeNames}
-use Rattle.translation.specs.made_declarations.Declaring.{integer_scalar, with_integers}
+use Rattle.translation.specs.made_declarations.Declaring.{with_declarations}
 
--- a name that no program of FORTRAN 77 has
-pub record IsMadeName (x : List ℕ) : Type 0 where
-  pub name : IsLongName x
-  pub made : IsSourceName x → ⊥
+-- of a name that no program of FORTRAN 77 has, and of no array with fixed bounds
+pub record IsMadeDeclaration (e : Declaration) : Type 0 where
+  pub declaration : IsDeclaration e
+  pub made : IsSourceName e.name → ⊥
+  pub later : dimensions e.extent ≡ []
 
--- the declarations with further names of INTEGER scalars, each of which is declared so
-pub record AreWith (ds : List Declaration) (xs : List (List ℕ)) (es : List Declaration) : Type 0 where
-  pub more : AddMadeNames ds es
-  pub declared : (x : List ℕ) → Contains xs x → declared es x ≡ Some (integer_scalar x)
+-- what has one name in both is one declaration
+abbrev pub AgreeOnNames : List Declaration → List Declaration → Type 0
+AgreeOnNames ds es = (d e : Declaration) → Contains ds d → Contains es e → d.name ≡ e.name → d ≡ e
 
--- where none of the names is declared already
+-- fs are the declarations ds with further ones of made names, es, each of which is there
+pub record AreWith (ds es fs : List Declaration) : Type 0 where
+  pub more : AddMadeNames ds fs
+  pub declared : (e : Declaration) → Contains es e → declared fs e.name ≡ Some e
+
+-- where each name is declared in one way, and none of them is declared already
 abbrev pub WithMadeNames : Type 0
-WithMadeNames = (ds : List Declaration) (xs : List (List ℕ))
-    → AreDeclarations ds → All IsMadeName xs → ((e : Declaration) → Contains ds e → Contains xs e.name → ⊥)
-    → AreWith ds xs (with_integers ds xs)
+WithMadeNames = (ds es : List Declaration) → AreDeclarations ds → All IsMadeDeclaration es → AgreeOnNames es es
+    → ((d e : Declaration) → Contains ds d → Contains es e → d.name ≡ e.name → ⊥)
+    → AreWith ds es (with_declarations ds es)

@@ -1,14 +1,14 @@
 -- The answers to all that was found in a program: its listing, and the blocks that stand in the place of its loops.
 use Rattle.std.specs.Prelude.{◌≡◌, ◌≤◌, ℕ, Option, Some, List, All, Contains, map}
 use Rattle.std.specs.List.{flat_map}
-use Rattle.tree.specs.Plain.{Block, Program}
+use Rattle.tree.specs.Plain.{Block, Declaration, Program}
 use Rattle.find_nests.specs.Found.{InNest, found_in}
 use Rattle.listing.specs.graphs.Listing.{lines_of_entries}
 use Rattle.translation.specs.loop_numbers.Numbers.{loop_number}
 use Rattle.translation.specs.loop_placing.Placing.{block_at}
 use Rattle.nest.specs.Plain.{Nest}
 use Rattle.listing.specs.programs.Listing.{ListedNest}
-use Rattle.translation.specs.nest_blocks.LoopAnswers.{Answer, IsRight, block_by, entries_by, found_by, nest_by}
+use Rattle.translation.specs.nest_blocks.LoopAnswers.{Answer, IsRight, block_by, entries_by, found_by, made_by, nest_by}
 
 -- the answer is for a nest whose outermost loop has this number, and puts the block in the loop's place
 pub record Puts (a : Answer) (k : ℕ) (b : Block) : Type 0 where
@@ -32,9 +32,11 @@ pub record AreAnswers (p : Program) (answers : List Answer) : Type 0 where
 abbrev pub nests_by : List Answer → List ListedNest
 nests_by answers = flat_map nest_by answers
 
--- what they list, and what they put in the place of loops
-pub record AreAnswersFor (p : Program) (lines : List (List ℕ)) (blocks : List (Option Block)) : Type 0 where
+-- what they list, what they put in the place of loops, and how the names that passes made are declared
+pub record AreAnswersFor (p : Program) (lines : List (List ℕ)) (blocks : List (Option Block)) (made : List Declaration)
+    : Type 0 where
   pub answers : List Answer
   pub are : AreAnswers p answers
   pub lines_are : lines ≡ lines_of_entries (flat_map entries_by answers)
   pub placed : ArePlaced answers blocks
+  pub made_are : made ≡ flat_map made_by answers

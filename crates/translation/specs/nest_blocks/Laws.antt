@@ -1,6 +1,6 @@
 -- Laws of the answers to what was found in a program.
 use Rattle.std.specs.Prelude.{◌≡◌, ℕ, Option, List}
-use Rattle.tree.specs.Plain.{Block, Program}
+use Rattle.tree.specs.Plain.{Block, Declaration, Program}
 use Rattle.find_nests.specs.Found.{found_in}
 use Rattle.meaning.specs.Dialect.{fortran77}
 use Rattle.meaning.specs.Profile77.{IsProgram77}
@@ -10,11 +10,11 @@ use Rattle.translation.specs.nest_blocks.Blocks.{AreNestBlocks}
 
 -- the lines are a listing of the program, with the answers' graphs
 abbrev pub AnswersAreListed : Type 0
-AnswersAreListed = (p : Program) (lines : List (List ℕ)) (blocks : List (Option Block))
-    → (h : AreAnswersFor p lines blocks)
+AnswersAreListed = (p : Program) (lines : List (List ℕ)) (blocks : List (Option Block)) (made : List Declaration)
+    → (h : AreAnswersFor p lines blocks made)
     → (l : IsListing p lines) × (listed_nests (found_in p) l.entries l.are ≡ nests_by h.answers)
 
 -- the blocks are translations of its nests
 abbrev pub AnswersAreBlocks : Type 0
-AnswersAreBlocks = (p : Program) (lines : List (List ℕ)) (blocks : List (Option Block)) → IsProgram77 fortran77 p
-    → AreAnswersFor p lines blocks → AreNestBlocks p blocks
+AnswersAreBlocks = (p : Program) (lines : List (List ℕ)) (blocks : List (Option Block)) (made : List Declaration)
+    → IsProgram77 fortran77 p → AreAnswersFor p lines blocks made → AreNestBlocks p blocks made

@@ -1,7 +1,7 @@
 -- What is said of a loop that was found, and what stands in its place.
-use Rattle.std.specs.Prelude.{◌≡◌, ⊤, ℕ, Option, None, Some, List, [], ◌∷◌, length}
+use Rattle.std.specs.Prelude.{◌≡◌, ⊤, ℕ, Option, None, Some, List, [], ◌∷◌, length, map}
 use Rattle.std.specs.List.{range_with_len}
-use Rattle.tree.specs.Plain.{Block}
+use Rattle.tree.specs.Plain.{Block, Declaration}
 use Rattle.dependence_graph.specs.declared.graphs.Graph.{Graph}
 use Rattle.emission.specs.emission_pieces.Emission.{AreEmitted}
 use Rattle.emission.specs.emission_pieces.Pieces.{Pieces, translation}
@@ -15,7 +15,9 @@ use Rattle.normal_loops.specs.Normalised.{normalised}
 use Rattle.dependence_graph.specs.nest_graph.Graph.{IsGraphOf}
 use Rattle.nest.specs.Bodies.{nest_statements}
 use Rattle.nest.specs.Plain.{Nest}
-use Rattle.listing.specs.programs.Listing.{ListedNest, all_holds, kept, not_built, tested_entries}
+use Rattle.array_form.specs.holds.Holds.{all_holds}
+use Rattle.listing.specs.programs.Listing.{ListedNest, kept, not_built, tested_entries}
+use Rattle.translation.specs.made_declarations.Declaring.{declaration_of_made}
 
 pub data Answer : Type 0 where
   -- a nest, the nest with loops from 1 by 1 that is made of it, the graph of that, and the pieces that are emitted
@@ -49,6 +51,12 @@ block_by (Translated n m g ps) = Some (translation m ps)
 block_by (Untested n) = None
 block_by (Kept line r) = None
 
+-- how the names that passes made for it are declared
+abbrev pub made_by : Answer → List Declaration
+made_by (Translated n m g ps) = map declaration_of_made m.made
+made_by (Untested n) = []
+made_by (Kept line r) = []
+
 -- One graph of the nest is listed, and by it and all holds of the nest the pieces are emitted
 pub record IsTranslation (n m : Nest) (g : Graph) (ps : Pieces) : Type 0 where
   pub made : normalised n ≡ Some m
@@ -62,10 +70,12 @@ IsRight (Translated n m g ps) = IsTranslation n m g ps
 IsRight (Untested n) = (m : Nest) → normalised n ≡ Some m → HasLoopsAlone m.body → ⊥
 IsRight (Kept line r) = ⊤
 
--- lines of a listing, and a block, if there is one
-pub record IsAnswerTo (f : Found) (lines : List (List ℕ)) (block : Option Block) : Type 0 where
+-- lines of a listing, a block, if there is one, and the declarations of made names
+pub record IsAnswerTo (f : Found) (lines : List (List ℕ)) (block : Option Block) (made : List Declaration)
+    : Type 0 where
   pub answer : Answer
   pub right : IsRight answer
   pub found : found_by answer ≡ f
   pub lines_are : lines ≡ lines_of_entries (entries_by answer)
   pub block_is : block ≡ block_by answer
+  pub made_are : made ≡ made_by answer

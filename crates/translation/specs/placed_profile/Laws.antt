@@ -3,7 +3,8 @@ use Rattle.std.specs.Prelude.{◌≡◌, ℕ, Option, Some, List, [], Contains}
 use Rattle.tree.specs.Names.{IsSourceName}
 use Rattle.tree.specs.Plain.{Block, Program, block}
 use Rattle.find_nests.specs.Loops.{Placed, as_statement, loops_in_block}
-use Rattle.meaning.specs.Blocks.{Surroundings, all_labels_in, targets_in}
+use Rattle.meaning.specs.Blocks.{Surroundings}
+use Rattle.meaning.specs.Labels.{all_labels_in, targets_in}
 use Rattle.meaning.specs.Dialect.{fortran77}
 use Rattle.meaning.specs.Profile77.{IsProgram77, IsStatement}
 use Rattle.meaning.specs.Profile90.{IsBlock, IsProgram90}

@@ -1,6 +1,6 @@
 -- A translated program is marked as its listing has it.
 use Rattle.std.specs.Prelude.{Option, List}
-use Rattle.tree.specs.Plain.{Block, Program}
+use Rattle.tree.specs.Plain.{Block, Declaration, Program}
 use Rattle.meaning.specs.Dialect.{fortran77}
 use Rattle.meaning.specs.Profile77.{IsProgram77}
 use Rattle.translation.specs.nest_blocks.Answers.{AreAnswers, ArePlaced, nests_by}
@@ -9,6 +9,6 @@ use Rattle.translation.specs.nest_blocks.LoopAnswers.{Answer}
 use Rattle.translation.specs.program_marks.Marks.{IsMarkedAsListed}
 
 abbrev pub TranslationIsMarked : Type 0
-TranslationIsMarked = (p q : Program) (answers : List Answer) (blocks : List (Option Block)) → IsProgram77 fortran77 p
-    → AreAnswers p answers → ArePlaced answers blocks → IsPlacedBy p blocks q
+TranslationIsMarked = (p q : Program) (answers : List Answer) (blocks : List (Option Block)) (made : List Declaration)
+    → IsProgram77 fortran77 p → AreAnswers p answers → ArePlaced answers blocks → IsPlacedBy p blocks made q
     → IsMarkedAsListed (nests_by answers) blocks q.body

@@ -9,7 +9,8 @@ use Rattle.emission.specs.emission_marks.Marks.{Marked, Round, marked_at, marked
 use Rattle.nest.specs.Allocations.{block_then, allocations_then, deallocations}
 use Rattle.nest.specs.Bodies.{nest_statements}
 use Rattle.nest.specs.Plain.{Nest}
-use Rattle.listing.specs.programs.Listing.{ListedNest, all_holds}
+use Rattle.array_form.specs.holds.Holds.{all_holds}
+use Rattle.listing.specs.programs.Listing.{ListedNest}
 use Rattle.translation.specs.loop_numbers.Numbers.{loop_number}
 use Rattle.translation.specs.loop_placing.Placing.{block_at}
 
@@ -71,6 +72,7 @@ HasMark (Some m) = ⊤
 abbrev mutual
   pub IsMarkedThroughout : Statement → Type 0
   IsMarkedThroughout (Assignment line mark left right) = HasMark mark
+  IsMarkedThroughout (Where line mark mask left right) = HasMark mark
   IsMarkedThroughout (If line arms other) = ArmsAreMarkedThroughout arms × AreMarkedThroughout other
   IsMarkedThroughout (Do line x first last step body) = AreMarkedThroughout body
   IsMarkedThroughout c = ⊥

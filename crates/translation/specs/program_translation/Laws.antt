@@ -1,10 +1,10 @@
 -- The meaning of a program with translations in the place of its nests.
 use Rattle.std.specs.Prelude.{◌≡◌, ℕ, Option, Some, All, List, [], IsSomeAnd, Contains}
-use Rattle.tree.specs.Plain.{Block, Program, block}
+use Rattle.tree.specs.Plain.{Block, Declaration, Program, block}
 use Rattle.find_nests.specs.Found.{InNest, found_in}
 use Rattle.find_nests.specs.Laws.{IsFoundNest}
 use Rattle.find_nests.specs.Loops.{Placed, loops_in_block}
-use Rattle.meaning.specs.Agreement.{names_in_block}
+use Rattle.meaning.specs.Reads.{names_in_block}
 use Rattle.meaning.specs.Blocks.{Surroundings}
 use Rattle.meaning.specs.Dialect.{fortran77}
 use Rattle.meaning.specs.Profile77.{IsProgram77}
@@ -59,5 +59,5 @@ pub record IsGoodTranslation (p q : Program) : Type 0 where
 -- where what was emitted for the nests of p that are loops and statements alone, once their loops go from 1 by 1,
 -- stands in their place
 abbrev pub TranslationIsGood : Type 0
-TranslationIsGood = (p q : Program) (blocks : List (Option Block)) → IsProgram77 fortran77 p → AreNestBlocks p blocks
-    → IsPlacedBy p blocks q → IsWithinLimits q.body → IsGoodTranslation p q
+TranslationIsGood = (p q : Program) (blocks : List (Option Block)) (made : List Declaration) → IsProgram77 fortran77 p
+    → AreNestBlocks p blocks made → IsPlacedBy p blocks made q → IsWithinLimits q.body → IsGoodTranslation p q

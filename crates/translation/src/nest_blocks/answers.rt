@@ -7,9 +7,11 @@ ghost use Rattle.meaning.specs.Dialect.{fortran77};
 ghost use Rattle.meaning.specs.Profile77.{IsProgram77};
 ghost use Rattle.tree.specs.View.{block_of, program_of};
 ghost use Rattle.translation.specs.loop_placing.Placing.{blocks_of};
+ghost use Rattle.translation.specs.made_declarations.Declaring.{declaration_of_name};
 ghost use Rattle.translation.specs.nest_blocks.Answers.{AreAnswersFor};
 ghost use Rattle.translation.specs.nest_blocks.Places.{IsPutFor};
 
+use crate::made_declarations::MadeName;
 use crate::nest_blocks::loop_answers::answer_to;
 use crate::nest_blocks::places::{loop_number, put};
 use find_nests::{Found, find_nests};
@@ -17,11 +19,13 @@ use std::alloc::Global;
 use tree::{Block, Line, Memory, Program77, Seq};
 
 /// The lines of a program's listing, and what stands in the place of each of its loops, by the loops' numbers, of which
-/// the first one is 1: for the outermost loop of a nest that is translated its block, and nothing for all others.
+/// the first one is 1: for the outermost loop of a nest that is translated its block, and nothing for all others. And
+/// the names that passes made for the nests.
 #[derive(Drop)]
 pub struct Answers {
     pub lines: Seq<Line>,
     pub blocks: Seq<Option<Block>>,
+    pub made: Seq<MadeName>,
 }
 
 // Puts the block in the place of what was found, if there is one.
@@ -47,17 +51,21 @@ fn put_found(
 pub fn program_answers(alloc: Global, program: &Program77) -> Result<Answers, Memory>
     requires { IsProgram77 fortran77 (program_of program.now) }
     ensures { IfOk result (λ a.
-        AreAnswersFor (program_of program.now) (map text_of a.lines) (blocks_of a.blocks)) }
+        AreAnswersFor (program_of program.now) (map text_of a.lines) (blocks_of a.blocks)
+        (map declaration_of_name a.made)) }
 {
     let mut lines = Vec::new(alloc);
     let mut blocks = Vec::new(alloc);
+    let mut made = Vec::new(alloc);
     for found in find_nests(alloc, program)?.as_slice() {
         let answer = answer_to(alloc, found)?;
         lines.append(&mut answer.lines.into_vec())?;
+        made.append(&mut answer.made.into_vec())?;
         put_found(&mut blocks, found, answer.block)?;
     }
     Ok(Answers {
         lines: Seq::from_vec(lines),
         blocks: Seq::from_vec(blocks),
+        made: Seq::from_vec(made),
     })
 }

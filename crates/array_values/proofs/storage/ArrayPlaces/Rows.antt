@@ -8,7 +8,7 @@ use Rattle.std.proofs.lemmas.List.{map-append}
 use Rattle.std.proofs.Math.Nat.{mul-le-mul_left}
 use Rattle.meaning.specs.Store.{size_of, column_major}
 use Rattle.meaning.specs.Sections.{Axis, numbers_of, stands_in, all_stand_in}
-use Rattle.meaning.specs.Profile77.{elements_of}
+use Rattle.meaning.specs.Extents.{elements_of}
 use Rattle.machine.specs.Storage.{offset, joined}
 use Rattle.machine.proofs.StoreLaws.{both_true, number_inside, offset_below}
 use Rattle.array_values.specs.storage.array_places.Places.{AxesStand, row, somes, index_in}
@@ -39,11 +39,11 @@ pub places_more : (b : ℤ × ℤ) (bs : List (ℤ × ℤ)) (a : Axis) (axes : L
     → map (offset (b ∷ bs)) (column_major (map numbers_of (a ∷ axes))) ≡ somes (flat_map (row b (numbers_of a)) ks)
 places_more b bs a axes ks h e = all_rows b bs (numbers_of a) (column_major (map numbers_of axes)) ks h.0 e
 
-none_stands : (b : ℤ × ℤ) (zs : List ℤ) → size_of b ≡ 0 → all_stand_in b zs ≡ true → zs ≡ []
+pub none_stands : (b : ℤ × ℤ) (zs : List ℤ) → size_of b ≡ 0 → all_stand_in b zs ≡ true → zs ≡ []
 none_stands b [] e h = refl
 none_stands b (z ∷ zs) e h = (let l = number_inside b z (both_true (stands_in b z) (all_stand_in b zs) h).0 in absurd (omega arith))
 
-no_rows : (rs : List (List ℤ)) → flat_map (λ rest. map (λ x. x ∷ rest) (let zs : List ℤ = [] in zs)) rs ≡ []
+pub no_rows : (rs : List (List ℤ)) → flat_map (λ rest. map (λ x. x ∷ rest) (let zs : List ℤ = [] in zs)) rs ≡ []
 no_rows [] = refl
 no_rows (r ∷ rs) = no_rows rs
 

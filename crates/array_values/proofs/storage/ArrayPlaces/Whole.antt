@@ -7,7 +7,7 @@ use Rattle.std.proofs.lemmas.Int.{ints}
 use Rattle.meaning.specs.Store.{size_of, numbers_from, column_major}
 use Rattle.meaning.specs.ArrayValues.{counted}
 use Rattle.meaning.specs.Sections.{numbers_of, stands_in, all_stand_in, whole_axes, extents_of}
-use Rattle.meaning.specs.Profile77.{elements_of}
+use Rattle.meaning.specs.Extents.{elements_of}
 use Rattle.machine.specs.Storage.{offset}
 use Rattle.array_values.specs.storage.array_places.Places.{row, somes}
 use Rattle.array_values.proofs.storage.ArrayPlaces.Rows.{all_rows}

@@ -4,7 +4,7 @@ use Rattle.tree.specs.declared.ops.Fault.{Fault}
 use Rattle.meaning.specs.Store.{column_major}
 use Rattle.meaning.specs.ArrayValues.{size}
 use Rattle.meaning.specs.Sections.{Axis, numbers_of, extents_of}
-use Rattle.meaning.specs.Profile77.{elements_of}
+use Rattle.meaning.specs.Extents.{elements_of}
 use Rattle.machine.specs.Storage.{offset}
 use Rattle.array_values.specs.declared.failure.Failure.{Failure}
 use Rattle.array_values.specs.declared.failure.Failure.TheVariants as failure

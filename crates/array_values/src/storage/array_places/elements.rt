@@ -4,7 +4,7 @@ ghost use Rattle.std.specs.Prelude.{ℕ, [], Some, map, min, IfOk, IfSome, Match
 ghost use Rattle.std.specs.Option.{option_map};
 ghost use Rattle.tree.specs.View.{bounds_of};
 ghost use Rattle.meaning.specs.Store.{size_of};
-ghost use Rattle.meaning.specs.Profile77.{elements_of};
+ghost use Rattle.meaning.specs.Extents.{elements_of};
 ghost use Rattle.machine.specs.Storage.{offset, joined, bounds_list};
 ghost use Rattle.array_values.specs.storage.array_places.Places.{index_in};
 

@@ -4,7 +4,7 @@ ghost use Rattle.std.specs.Prelude.{nat_abs, true, ℕ, map, length, All, IfOk, 
 ghost use Rattle.tree.specs.View.{bounds_of};
 ghost use Rattle.meaning.specs.Store.{size_of, column_major};
 ghost use Rattle.meaning.specs.Sections.{numbers_of, stands_in, all_stand_in};
-ghost use Rattle.meaning.specs.Profile77.{elements_of};
+ghost use Rattle.meaning.specs.Extents.{elements_of};
 ghost use Rattle.machine.specs.Storage.{offset, bounds_list};
 ghost use Rattle.array_values.specs.Selections.{axis_in};
 ghost use Rattle.array_values.specs.storage.array_places.Places.{AxesStand, place_in, row, somes, values_there};

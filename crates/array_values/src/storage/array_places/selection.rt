@@ -1,6 +1,6 @@
 //! What a reference selects of an array: its extents, and the places of its elements.
 ghost use Rattle.std.specs.Prelude.{◌<◌, ◌^◌, map, IfOk};
-ghost use Rattle.meaning.specs.Profile77.{elements_of};
+ghost use Rattle.meaning.specs.Extents.{elements_of};
 ghost use Rattle.meaning.specs.Sections.{axes_on, whole_axes};
 ghost use Rattle.machine.specs.Storage.{bounds_list};
 ghost use Rattle.array_values.specs.Selections.{selector_in};

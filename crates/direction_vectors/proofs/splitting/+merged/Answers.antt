@@ -2,14 +2,17 @@ use Rattle.std.proofs.Common.{◌≡◌, ◌+◌, ◌∷◌, [], List, arith, su
 use Rattle.std.specs.Prelude.{MatchOption}
 use Rattle.subscripts.specs.declared.affine.Dir.TheVariants.{Lt, Eq, Gt}
 use Rattle.subscripts.specs.declared.affine.Dirs.{Dirs}
-use Rattle.direction_vectors.proofs.Boxes.{IsSettled, is_box, one_under, part_known, part_open, skipped_before}
+use Rattle.direction_vectors.proofs.Boxes.{IsSettled, exact_of, is_box, one_under, part_known, part_open, skipped_before}
 use Rattle.direction_vectors.proofs.Growing.{if_ok}
 use Rattle.direction_vectors.proofs.Listing.{AreParts, equal_plain, greater_plain, less_plain, merged_under}
-use Rattle.direction_vectors.specs.Boxes.{IsDroppedBox, IsOpenBox, IsUnnamedBefore}
+use Rattle.direction_vectors.specs.Boxes.{IsDroppedBox, IsOpenBox, IsFreeBefore}
 use Rattle.direction_vectors.specs.Candidates.{Answer}
 use Rattle.direction_vectors.specs.Parts.{AreUnder}
 use Rattle.direction_vectors.specs.Unions.{IsMergedOf}
 use Rattle.direction_vectors.proofs.splitting.+merged.Goals as goal
+
+pub split_place-split-requires-clause-exact : goal.split_place-split-requires-clause-exact
+split_place-split-requires-clause-exact t c = exact_of c.args.refs.now c.args.d.now c.box_verdict-verdict.result c.box_verdict-verdict.ensures.tested
 
 pub returns-then-split-from : goal.returns-then-split-from
 returns-then-split-from t c =
@@ -20,7 +23,7 @@ returns-then-split-from t c =
     let v = c.box_verdict-verdict.result in
     let e : n ≡ r.common = c.if-split-from.true ∙ c.from.ensures in
     let s : IsSettled r d k n v c.args.known =
-    record { tested = c.box_verdict-verdict.ensures.tested; kept = c.box_verdict-verdict.ensures.kept; trips = c.split_place-split.ensures.trips; unnamed = c.split_place-split.ensures.unnamed } in
+    record { tested = c.box_verdict-verdict.ensures.tested; kept = c.box_verdict-verdict.ensures.kept; trips = c.split_place-split.ensures.trips; free = c.split_place-split.ensures.free } in
     if_ok c.one_box.result (λ answers. answers.items ≡ (d, v) ∷ []) (λ answers. AreUnder r d k answers.items)
     (λ answers o.
     skipped_before r d k r.common answers.items c.requires.starred.within (omega arith) c.requires.starred.starred
@@ -35,7 +38,7 @@ merged-requires t c =
     let n = c.split_place-split.result in
     let v = c.box_verdict-verdict.result in
     let s : IsSettled r d k n v c.args.known =
-    record { tested = c.box_verdict-verdict.ensures.tested; kept = c.box_verdict-verdict.ensures.kept; trips = c.split_place-split.ensures.trips; unnamed = c.split_place-split.ensures.unnamed } in
+    record { tested = c.box_verdict-verdict.ensures.tested; kept = c.box_verdict-verdict.ensures.kept; trips = c.split_place-split.ensures.trips; free = c.split_place-split.ensures.free } in
     let up = c.split_place-split.ensures.from in
     let within = c.split_place-split.ensures.within in
     let apart = c.if-split-from.false in
@@ -45,7 +48,7 @@ merged-requires t c =
         c.requires.refs,
         (
           subst (λ (z : Dirs). IsOpenBox r z (n + 1)) (sym c.with_dir.ensures) (part_open r d k n v c.args.known Lt c.requires.refs c.requires.starred s up (omega arith) less_plain),
-          subst (λ (z : Dirs). MatchOption c.word_of-word.result (IsUnnamedBefore r z (n + 1)) (λ w. IsDroppedBox r z w)) (sym c.with_dir.ensures)
+          subst (λ (z : Dirs). MatchOption c.word_of-word.result (IsFreeBefore r z (n + 1)) (λ w. IsDroppedBox r z w)) (sym c.with_dir.ensures)
               (part_known r d k n v c.args.known Lt c.requires.refs c.requires.starred s up (omega arith) less_plain c.word_of-word.result c.word_of-word.ensures c.requires.known),
         ),
       ),
@@ -59,7 +62,7 @@ merged-requires-2 t c =
     let n = c.split_place-split.result in
     let v = c.box_verdict-verdict.result in
     let s : IsSettled r d k n v c.args.known =
-    record { tested = c.box_verdict-verdict.ensures.tested; kept = c.box_verdict-verdict.ensures.kept; trips = c.split_place-split.ensures.trips; unnamed = c.split_place-split.ensures.unnamed } in
+    record { tested = c.box_verdict-verdict.ensures.tested; kept = c.box_verdict-verdict.ensures.kept; trips = c.split_place-split.ensures.trips; free = c.split_place-split.ensures.free } in
     let up = c.split_place-split.ensures.from in
     let within = c.split_place-split.ensures.within in
     let apart = c.if-split-from.false in
@@ -69,7 +72,7 @@ merged-requires-2 t c =
         c.requires.refs,
         (
           subst (λ (z : Dirs). IsOpenBox r z (n + 1)) (sym c.with_dir-2.ensures) (part_open r d k n v c.args.known Eq c.requires.refs c.requires.starred s up (omega arith) equal_plain),
-          subst (λ (z : Dirs). MatchOption c.word_of-word.result (IsUnnamedBefore r z (n + 1)) (λ w. IsDroppedBox r z w)) (sym c.with_dir-2.ensures)
+          subst (λ (z : Dirs). MatchOption c.word_of-word.result (IsFreeBefore r z (n + 1)) (λ w. IsDroppedBox r z w)) (sym c.with_dir-2.ensures)
               (part_known r d k n v c.args.known Eq c.requires.refs c.requires.starred s up (omega arith) equal_plain c.word_of-word.result c.word_of-word.ensures c.requires.known),
         ),
       ),
@@ -83,7 +86,7 @@ merged-requires-3 t c =
     let n = c.split_place-split.result in
     let v = c.box_verdict-verdict.result in
     let s : IsSettled r d k n v c.args.known =
-    record { tested = c.box_verdict-verdict.ensures.tested; kept = c.box_verdict-verdict.ensures.kept; trips = c.split_place-split.ensures.trips; unnamed = c.split_place-split.ensures.unnamed } in
+    record { tested = c.box_verdict-verdict.ensures.tested; kept = c.box_verdict-verdict.ensures.kept; trips = c.split_place-split.ensures.trips; free = c.split_place-split.ensures.free } in
     let up = c.split_place-split.ensures.from in
     let within = c.split_place-split.ensures.within in
     let apart = c.if-split-from.false in
@@ -93,7 +96,7 @@ merged-requires-3 t c =
         c.requires.refs,
         (
           subst (λ (z : Dirs). IsOpenBox r z (n + 1)) (sym c.with_dir-3.ensures) (part_open r d k n v c.args.known Gt c.requires.refs c.requires.starred s up (omega arith) greater_plain),
-          subst (λ (z : Dirs). MatchOption c.word_of-word.result (IsUnnamedBefore r z (n + 1)) (λ w. IsDroppedBox r z w)) (sym c.with_dir-3.ensures)
+          subst (λ (z : Dirs). MatchOption c.word_of-word.result (IsFreeBefore r z (n + 1)) (λ w. IsDroppedBox r z w)) (sym c.with_dir-3.ensures)
               (part_known r d k n v c.args.known Gt c.requires.refs c.requires.starred s up (omega arith) greater_plain c.word_of-word.result c.word_of-word.ensures c.requires.known),
         ),
       ),

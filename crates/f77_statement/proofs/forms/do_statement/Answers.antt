@@ -1,7 +1,7 @@
 use Rattle.std.proofs.Common.{List, ap, sym, ◌∙◌, subst}
 use Rattle.std.specs.List.{list_any}
 use Rattle.std.proofs.lemmas.Result.{err_from_is_err_and}
-use Rattle.f77_grammar.specs.expressions.Reading.{is_wide}
+use Rattle.f77_grammar.specs.expressions.Words.{is_wide}
 use Rattle.f77_grammar.specs.expressions.Spelling.{Words}
 use Rattle.f77_grammar.specs.expressions.Squeezing.{Symbol}
 use Rattle.f77_grammar.specs.statements.Controls.{written_control}

@@ -7,7 +7,7 @@ use Rattle.std.proofs.lemmas.Bool.{cases_lt}
 use Rattle.std.proofs.lemmas.List.{map-append}
 use Rattle.tree.specs.Plain.{Declaration}
 use Rattle.tree.specs.declared.programs.Dim.{Dim}
-use Rattle.meaning.specs.Profile90.{IsDimension}
+use Rattle.meaning.specs.Extents.{IsDimension}
 use Rattle.meaning.specs.Typed.{dimensions}
 use Rattle.f90_grammar.specs.Bounds.{HasBounds}
 use Rattle.f90_grammar.specs.Forms as forms

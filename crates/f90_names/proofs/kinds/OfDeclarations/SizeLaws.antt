@@ -11,8 +11,9 @@ use Rattle.std.proofs.lemmas.List.Sums.{sum_by-append, sum_by-cons}
 use Rattle.tree.specs.Limits as limits
 use Rattle.tree.specs.Plain.{Declaration}
 use Rattle.tree.specs.declared.ops.Kind.{Kind}
-use Rattle.meaning.specs.Profile77.{elements_of, array_elements}
-use Rattle.meaning.specs.Profile90.{IsDimension}
+use Rattle.meaning.specs.Extents.{array_elements}
+use Rattle.meaning.specs.Extents.{elements_of}
+use Rattle.meaning.specs.Extents.{IsDimension}
 use Rattle.meaning.specs.Store.{size_of}
 use Rattle.meaning.specs.Typed.{dimensions}
 use Rattle.f90_grammar.specs.Blocks as grammar

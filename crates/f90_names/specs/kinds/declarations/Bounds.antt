@@ -6,8 +6,8 @@ use Rattle.std.specs.List.{list_any}
 use Rattle.tree.specs.Plain.{Declaration}
 use Rattle.tree.specs.View.{bounds_of}
 use Rattle.tree.specs.declared.programs.Dim.{Dim}
-use Rattle.meaning.specs.Profile77.{array_elements}
-use Rattle.meaning.specs.Profile90.{IsDimension}
+use Rattle.meaning.specs.Extents.{array_elements}
+use Rattle.meaning.specs.Extents.{IsDimension}
 use Rattle.meaning.specs.Typed.{dimensions}
 use Rattle.f90_grammar.specs.Contents.{is_wide, is_wide_dimension}
 use Rattle.f90_grammar.specs.Forms as forms

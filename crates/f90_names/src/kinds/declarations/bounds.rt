@@ -1,7 +1,8 @@
 //! Bounds of declared arrays, and how many elements they make.
 ghost use Rattle.std.specs.Prelude.{◌≡◌, false, map, List};
 ghost use Rattle.std.specs.List.{list_any};
-ghost use Rattle.meaning.specs.Profile77.{elements_of, array_elements};
+ghost use Rattle.meaning.specs.Extents.{array_elements};
+ghost use Rattle.meaning.specs.Extents.{elements_of};
 ghost use Rattle.meaning.specs.Store.{size_of};
 ghost use Rattle.f90_grammar.specs.Contents.{is_wide, is_wide_dimension};
 ghost use Rattle.f90_grammar.specs.Forms as forms;

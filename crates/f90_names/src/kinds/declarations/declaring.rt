@@ -7,7 +7,7 @@ ghost use Rattle.std.specs.Ordering.{nat_cmp};
 ghost use Rattle.tree.specs.Plain.{Given};
 ghost use Rattle.tree.specs.View as view;
 ghost use Rattle.tree.specs.View.{declaration_of};
-ghost use Rattle.meaning.specs.Profile90.{IsDimension};
+ghost use Rattle.meaning.specs.Extents.{IsDimension};
 ghost use Rattle.meaning.specs.Typed.{dimensions as bounds_in};
 ghost use Rattle.f90_grammar.specs.Blocks as grammar;
 ghost use Rattle.f90_grammar.specs.Bounds.{HasBounds};

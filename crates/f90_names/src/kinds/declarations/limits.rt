@@ -2,7 +2,7 @@
 ghost use Rattle.std.specs.Prelude.{◌≡◌, ◌<◌, ◌↔◌, false, IsTrue, map, length, Contains, List};
 ghost use Rattle.std.specs.List.{list_any, AllByRecursion};
 ghost use Rattle.tree.specs.Limits as limits;
-ghost use Rattle.meaning.specs.Profile90.{IsDimension};
+ghost use Rattle.meaning.specs.Extents.{IsDimension};
 ghost use Rattle.f90_grammar.specs.Blocks as grammar;
 ghost use Rattle.f90_grammar.specs.Bounds.{HasBounds, declared_up_to, HasManyNames};
 ghost use Rattle.f90_grammar.specs.Contents.{is_declared_wide, has_wide_literal_in};

@@ -1,6 +1,6 @@
 use Rattle.std.proofs.Common.{◌∙◌, ap, ◌+◌, ◌-◌, arith}
 use Rattle.machine.proofs.OpeningLaws.{fill_more}
-use Rattle.meaning.specs.Profile77.{elements_of}
+use Rattle.meaning.specs.Extents.{elements_of}
 use Rattle.machine.proofs.opening.clear.Goals as goal
 
 pub loop-variable-preserved : goal.loop-variable-preserved

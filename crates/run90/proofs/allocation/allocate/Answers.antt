@@ -12,15 +12,17 @@ use Rattle.machine.specs.Acts.{Runs}
 use Rattle.machine.specs.Moments.{located, seen_at}
 use Rattle.machine.proofs.Residuals.{residual}
 use Rattle.machine.proofs.ActLaws.{Runs-counts_step, Runs-cut, Runs-evaluates}
+use Rattle.array_values.specs.Counts.{ranges_in}
 use Rattle.array_values.specs.declared.storage.storage.Storage.{Storage}
-use Rattle.array_values.specs.storage.Allocation.{HoldsKind, from_one}
+use Rattle.array_values.specs.storage.Allocation.{HoldsKind}
+use Rattle.array_values.specs.storage.Bounds.{from_one}
 use Rattle.array_values.specs.storage.Slots.{kind_among, store_among}
 use Rattle.array_values.specs.storage.Stored.{slots_in, store_in}
 use Rattle.array_expressions.specs.assignments.Causes.{AnswersAt, left_by}
 use Rattle.array_expressions.specs.assignments.Moments.{seen, slots_of}
 use Rattle.array_expressions.proofs.assignments.Lacking.{asked, asked_of}
 use Rattle.run90.proofs.Going.{first_stuck, second_stuck}
-use Rattle.run90.proofs.Allocating.{allocate_stuck, refused, granted, Runs-allocates}
+use Rattle.run90.proofs.Allocating.{allocate_stuck, unlisted, refused, granted, Runs-allocates}
 use Rattle.run90.proofs.allocation.allocate.Goals as goal
 
 pub returns-in_err-count_step : goal.returns-in_err-count_step
@@ -51,6 +53,16 @@ returns-in_err-numbers c = λ k kind holds input bytes.
     (first_stuck c.args.line (λ (ns : List ℤ). ns) (λ (bs : List (ℤ × ℤ)). bs) (as_numbers c.in_ok-values.values) (free (s.bounds c.args.name)) c.in_err-numbers.field-0.0
     (asked c.args.line (λ (ns : List ℤ). ns) (as_numbers c.in_ok-values.values) c.all_numbers.result _ (sym c.in_err-numbers.was ∙ c.at-2.ensures) c.all_numbers.ensures))))
 
+pub returns-in_err-ranges : goal.returns-in_err-ranges
+returns-in_err-ranges c = λ k kind holds input bytes.
+    let es = expressions (map expression_of c.args.extents.now) in
+    let mid = c.count_step.new.self in
+    let bs = from_one c.as_slice.result.now in
+    rw (residual c.from_residual-in_err-ranges.ensures.1)
+    (allocate_stuck c.args.line c.args.name es input (seen c.args.moment.now) (seen mid) bytes c.in_err-ranges.field-0.0 c.in_ok-count_step.ensures.counted
+    (unlisted c.args.line bs c.in_err-ranges.field-0.0 (allocated_bounds fortran90 c.args.name es (store_in mid.storage))
+    (asked c.args.line ranges_in (Ok bs) c.ranges_from_one.result _ (sym c.in_err-ranges.was ∙ c.at-3.ensures) c.ranges_from_one.ensures)))
+
 pub returns-in_err-at : goal.returns-in_err-at
 returns-in_err-at c = λ k kind holds input bytes.
     let es = expressions (map expression_of c.args.extents.now) in
@@ -60,7 +72,10 @@ returns-in_err-at c = λ k kind holds input bytes.
     let values = asked_of c.args.line (λ (vs : List Value). vs) (values_of fortran90 es) c.values.result _ c.scope.result.storage.now mid.storage c.scope.ensures (sym c.in_ok-values.was ∙ c.at.ensures) c.values.ensures in
     let numbers = asked c.args.line (λ (ns : List ℤ). ns) (as_numbers c.in_ok-values.values) c.all_numbers.result _ (sym c.in_ok-numbers.was ∙ c.at-2.ensures) c.all_numbers.ensures in
     let here = ap (λ (st : Storage). kind_among (slots_in st) x) c.count_step.ensures.storage ∙ kind in
-    let q = refused c.args.line x (slots_of mid) (slots_in c.allocate.new.self) k c.as_slice.result.now c.allocate.result c.in_err-at.field-0.0 (sym c.in_err-at.was ∙ c.at-3.ensures) (c.allocate.ensures.allocated k here) in
+    let ns = c.as_slice.result.now in
+    let list = asked c.args.line ranges_in (Ok (from_one ns)) c.ranges_from_one.result _ (sym c.in_ok-ranges.was ∙ c.at-3.ensures) c.ranges_from_one.ensures in
+    let listed : ranges_in c.in_ok-ranges.ranges ≡ from_one ns = cc in
+    let q = refused c.args.line x (slots_of mid) (slots_in c.allocate.new.self) k ns c.allocate.result c.in_err-at.field-0.0 (sym c.in_err-at.was ∙ c.at-4.ensures) (c.allocate.ensures.allocated k ns here listed) in
     rw (residual c.from_residual-in_err-at.ensures.1)
     (subst (λ vs. Runs (λ limit. does fortran90 limit (Allocate c.args.line x es)) input (seen c.args.moment.now) bytes (seen_at (map declaration_of mid.decls) (store_among vs) mid.progress) bytes (Err (left_by c.in_err-at.field-0.0))) (sym q.1)
     (allocate_stuck c.args.line x es input (seen c.args.moment.now) (seen mid) bytes c.in_err-at.field-0.0 c.in_ok-count_step.ensures.counted
@@ -78,7 +93,9 @@ returns c = λ k kind holds input bytes.
     let values = asked_of c.args.line (λ (vs : List Value). vs) (values_of fortran90 es) c.values.result _ c.scope.result.storage.now mid.storage c.scope.ensures (sym c.in_ok-values.was ∙ c.at.ensures) c.values.ensures in
     let numbers = asked c.args.line (λ (ns : List ℤ). ns) (as_numbers c.in_ok-values.values) c.all_numbers.result _ (sym c.in_ok-numbers.was ∙ c.at-2.ensures) c.all_numbers.ensures in
     let here = ap (λ (st : Storage). kind_among (slots_in st) x) c.count_step.ensures.storage ∙ kind in
-    let q = granted c.args.line x (slots_of mid) (slots_in c.allocate.new.self) k ns c.allocate.result _ (sym c.in_ok-at.was ∙ c.at-3.ensures) (c.allocate.ensures.allocated k here) in
+    let list = asked c.args.line ranges_in (Ok (from_one ns)) c.ranges_from_one.result _ (sym c.in_ok-ranges.was ∙ c.at-3.ensures) c.ranges_from_one.ensures in
+    let listed : ranges_in c.in_ok-ranges.ranges ≡ from_one ns = cc in
+    let q = granted c.args.line x (slots_of mid) (slots_in c.allocate.new.self) k ns c.allocate.result _ (sym c.in_ok-at.was ∙ c.at-4.ensures) (c.allocate.ensures.allocated k ns here listed) in
     let final = seen_at (map declaration_of mid.decls) (store_among (slots_in c.allocate.new.self)) mid.progress in
     let bounds : allocated_bounds fortran90 x es s ≡ Ok (from_one ns) =
     ap (λ q. q >>= λ vs. (do ns ← as_numbers vs; free (s.bounds x) ns)) values ∙ ap (λ q. q >>= free (s.bounds x)) (numbers ∙ ap (λ ns. Ok ns) (sym c.as_slice.ensures)) ∙ q.0 in

@@ -1,7 +1,7 @@
 use Rattle.std.proofs.Common.{◌≡◌, take}
 use Rattle.std.specs.Int.{int_max}
 use Rattle.std.specs.List.{fold}
-use Rattle.tree.specs.Operators.{number_in}
+use Rattle.tree.specs.OperationFaults.{number_in}
 use Rattle.tree.proofs.functions.greatest.Given as goal
 
 abbrev pub invariant-loop-value : goal.invariant-loop-value

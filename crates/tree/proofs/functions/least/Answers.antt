@@ -4,7 +4,7 @@ use Rattle.std.specs.Int.{w128, int_min}
 use Rattle.std.specs.List.{fold}
 use Rattle.std.proofs.lemmas.Grind.{common_steps}
 use Rattle.std.proofs.lemmas.Int.{to_z-of_z}
-use Rattle.tree.specs.Operators.{number_in}
+use Rattle.tree.specs.OperationFaults.{number_in}
 use Rattle.tree.specs.declared.ops.Value.{Value}
 use Rattle.tree.specs.declared.ops.Value.TheVariants.{Int}
 use Rattle.tree.specs.declared.ops.Fault.{Fault}

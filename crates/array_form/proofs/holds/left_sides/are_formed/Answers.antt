@@ -1,4 +1,4 @@
-use Rattle.std.proofs.Common.{◌≡◌, false, map, arith, rules}
+use Rattle.std.proofs.Common.{◌≡◌, false, arith, rules}
 use Rattle.tree.specs.View.{subscript_of}
 use Rattle.array_form.specs.holds.Levels.{is_formed, loops_from_place}
 use Rattle.array_form.specs.holds.View.{surroundings_view}

@@ -1,4 +1,4 @@
-use Rattle.std.proofs.Common.{arith, ap, sym, ◌∙◌, ◌+◌}
+use Rattle.std.proofs.Common.{arith, sym, ◌∙◌, ◌+◌}
 use mathlib.Core.Path.{ap₂}
 use Rattle.tree.specs.View.{subscript_of}
 use Rattle.array_form.proofs.holds.FormLaws.{occurrences_more}

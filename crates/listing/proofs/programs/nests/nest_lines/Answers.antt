@@ -2,7 +2,7 @@ use Rattle.std.proofs.Common.{subst, None}
 use Rattle.nest.specs.View.{nest_of}
 use Rattle.listing.specs.programs.Passed.{IsPassed, IsPassedNest}
 use Rattle.listing.proofs.programs.Entries.{tested, untested}
-use Rattle.listing.proofs.programs.Sources.{none_listed, passed_is_listed}
+use Rattle.listing.proofs.programs.Stages.{none_listed, passed_is_listed}
 use Rattle.listing.proofs.programs.nests.nest_lines.Goals as goal
 
 pub returns-in-Some : goal.returns-in-Some

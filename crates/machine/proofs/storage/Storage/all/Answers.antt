@@ -2,7 +2,7 @@ use Rattle.std.proofs.Common.{◌≡◌, sym, ap, ◌∙◌, ◌+◌, ◌-◌, t
 use mathlib.Core.Path.{ap₂}
 use Rattle.tree.specs.declared.ops.Value.{Value}
 use Rattle.tree.specs.declared.ops.Fault.{Fault}
-use Rattle.meaning.specs.Profile77.{elements_of}
+use Rattle.meaning.specs.Extents.{elements_of}
 use Rattle.machine.specs.Stored.{names_in, bounds_here}
 use Rattle.machine.proofs.PrintLaws.{all_found}
 use Rattle.machine.proofs.storage.Storage.all.Goals as goal

@@ -2,7 +2,7 @@ use Rattle.std.proofs.Common.{◌∙◌, sym, ap, subst, map, length, take, repl
 use Rattle.std.specs.Map.{values_of as variables_of}
 use Rattle.std.specs.Vec.Iter.{into_iter_items}
 use Rattle.tree.specs.View.{declaration_of}
-use Rattle.meaning.specs.Profile77.{elements_of}
+use Rattle.meaning.specs.Extents.{elements_of}
 use Rattle.machine.specs.Storage.{declared, AreArrays, AreBounds, bounds_list}
 use Rattle.machine.proofs.OpeningStore.{opens_with}
 use Rattle.machine.proofs.OpeningLaws.{AreKept, absent, bounds_placed, keep_more, all_placed, nothing, few_placed, resized, as_many}

@@ -3,7 +3,7 @@ use mathlib.Core.Path.{ap₂}
 use Rattle.tree.specs.declared.ops.Value.{Value}
 use Rattle.meaning.specs.Store.{cells_of}
 use Rattle.meaning.specs.Steps.{lines_of_cells}
-use Rattle.meaning.specs.Profile77.{elements_of}
+use Rattle.meaning.specs.Extents.{elements_of}
 use Rattle.std.proofs.Common.{Some}
 use Rattle.machine.specs.Storage.{bounds_list}
 use Rattle.machine.specs.Stored.{names_in, store_in, bounds_here}

@@ -1,6 +1,6 @@
 use Rattle.std.proofs.Common.{◌≡◌, ap, sym, ◌∙◌, ℕ, ◌<◌, [], length, get_or, Ok, Err, arith}
 use Rattle.meaning.specs.Store.{Cell, cells_of}
-use Rattle.meaning.specs.Profile77.{elements_of}
+use Rattle.meaning.specs.Extents.{elements_of}
 use Rattle.meaning.specs.Dialect.{fortran77}
 use Rattle.meaning.specs.Run.{for_each, reads_into}
 use Rattle.machine.specs.declared.progress.Left.TheVariants.{Halted}

@@ -12,7 +12,7 @@ find_nests-requires c = few_declarations (program_of c.args.program.now) c.args.
 pub loop-found-init : goal.loop-found-init
 loop-found-init c =
     found_none c.as_slice-found-items.result.now c.new-lines.result.items c.new-blocks.result.items
-    c.new-lines.ensures.items c.new-blocks.ensures.items
+    c.new-made.result.items c.new-lines.ensures.items c.new-blocks.ensures.items c.new-made.ensures.items
 
 pub answer_to-requires : goal.answer_to-requires
 answer_to-requires c =
@@ -27,15 +27,19 @@ loop-found-preserved c =
     = ap (map found_of) c.as_slice-found-items.ensures ∙ c.in_ok-find_nests.ensures in
     let lines : c.append.new.self.items ≡ c.loop-found.lines.items ++ c.in_ok-answer.answer.lines
     = c.in_ok-append.ensures.items ∙ ap (λ ls. c.loop-found.lines.items ++ ls) c.into_vec.ensures in
+    let made : c.append-in-loop-found.new.self.items ≡ c.loop-found.made.items ++ c.in_ok-answer.answer.made
+    = c.in_ok-append-2.ensures.items ∙ ap (λ ms. c.loop-found.made.items ++ ms) c.into_vec-in-loop-found.ensures in
     found_more (program_of c.args.program.now) c.as_slice-found-items.result.now found c.loop-found.found-index
     c.found-item.result c.loop-found.lines.items c.in_ok-answer.answer.lines c.append.new.self.items
-    c.in_ok-answer.answer.block c.loop-found.blocks.items c.put_found.new.blocks.items c.requires (omega arith)
-    c.found-item.is c.loop-found.invariant c.in_ok-answer.ensures lines c.in_ok-put_found.ensures
+    c.in_ok-answer.answer.block c.loop-found.blocks.items c.put_found.new.blocks.items c.loop-found.made.items
+    c.in_ok-answer.answer.made c.append-in-loop-found.new.self.items c.requires (omega arith) c.found-item.is c.loop-found.invariant
+    c.in_ok-answer.ensures lines c.in_ok-put_found.ensures made
 
 pub returns : goal.returns
 returns c =
     let found : map found_of c.as_slice-found-items.result.now ≡ found_in (program_of c.args.program.now)
     = ap (map found_of) c.as_slice-found-items.ensures ∙ c.in_ok-find_nests.ensures in
     found_all (program_of c.args.program.now) c.as_slice-found-items.result.now found c.loop-found.found-index
-    c.loop-found.lines.items c.from_vec.result c.loop-found.blocks.items c.from_vec-2.result (omega arith)
-    c.loop-found.invariant c.from_vec.ensures c.from_vec-2.ensures
+    c.loop-found.lines.items c.from_vec.result c.loop-found.blocks.items c.from_vec-2.result c.loop-found.made.items
+    c.from_vec-3.result (omega arith) c.loop-found.invariant c.from_vec.ensures c.from_vec-2.ensures
+    c.from_vec-3.ensures

@@ -1,14 +1,17 @@
 use Rattle.std.proofs.Common.{ap, sym, subst, None, refl, map}
 use Rattle.f90_print.specs.Notes.{text_of}
-use Rattle.find_nests.specs.Found.{Found, Kept}
+use Rattle.find_nests.specs.Found.{Found}
 use Rattle.find_nests.specs.View.{found_of}
+use Rattle.translation.specs.made_declarations.Declaring.{declaration_of_name}
 use Rattle.translation.specs.nest_blocks.LoopAnswers.{IsAnswerTo}
 use Rattle.translation.proofs.NestBlocks.Answering.{kept_as}
 use Rattle.translation.proofs.nest_blocks.loop_answers.answer_to.Goals as goal
 
 pub returns-in_ok-kept_loop-in-Kept : goal.returns-in_ok-kept_loop-in-Kept
 returns-in_ok-kept_loop-in-Kept c =
-    subst (λ (f : Found). IsAnswerTo f (map text_of c.in_ok-kept_loop-in-Kept.field-0) None)
+    subst (λ (f : Found). IsAnswerTo f (map text_of c.in_ok-kept_loop-in-Kept.field-0) None
+    (map declaration_of_name c.new.result))
     (sym (ap found_of c.in-Kept.is))
     (kept_as c.in-Kept.line c.in-Kept.reason (map text_of c.in_ok-kept_loop-in-Kept.field-0) None
-    c.in_ok-kept_loop-in-Kept.ensures refl)
+    (map declaration_of_name c.new.result) c.in_ok-kept_loop-in-Kept.ensures refl
+    (ap (map declaration_of_name) c.new.ensures))

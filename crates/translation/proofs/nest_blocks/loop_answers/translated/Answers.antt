@@ -1,9 +1,11 @@
-use Rattle.std.proofs.Common.{subst, sym}
+use Rattle.std.proofs.Common.{◌≡◌, ◌∙◌, List, ap, map, subst, sym}
 use Rattle.emission.specs.emission_pieces.Emission.{IsEmission}
 use Rattle.emission.specs.nest_emission.Given.{MayBeEmitted}
 use Rattle.tree.specs.View.{block_of}
-use Rattle.nest.specs.View.{nest_of}
+use Rattle.nest.specs.View.{made_of, nest_of}
+use Rattle.nest.specs.declared.nests.Made.{Made}
 use Rattle.nest.specs.declared.nests.Nest.{Nest}
+use Rattle.translation.specs.made_declarations.Declaring.{declaration_of_made, declaration_of_name}
 use Rattle.translation.proofs.NestBlocks.Answering.{may_be_emitted, translated}
 use Rattle.translation.proofs.nest_blocks.loop_answers.translated.Goals as goal
 
@@ -18,6 +20,12 @@ pub returns : goal.returns
 returns c =
     let tests = c.args.passed.tests in
     let block = block_of c.in_ok-block.block in
+    let made : map declaration_of_name c.in_ok-made.made
+    ≡ map declaration_of_made (map made_of c.args.passed.nest.value.made)
+    = c.in_ok-made.ensures ∙ ap (λ (ms : List Made). map declaration_of_made (map made_of ms)) c.as_slice.ensures
+    ∙ ap (λ (n : Nest). map declaration_of_made (map made_of n.made)) c.deref-nest.ensures in
     translated (nest_of c.args.found.now) (nest_of c.args.passed.nest.value) tests.graph tests.holds _ block
-    c.requires.passed.passed.made c.requires.passed.passed.alone c.requires.passed.tests
+    (map declaration_of_name c.in_ok-made.made) c.requires.passed.passed.made c.requires.passed.passed.alone
+    c.requires.passed.tests
     (subst (λ (n : Nest). IsEmission (nest_of n) tests.graph tests.holds block) c.deref-nest.ensures c.in_ok-block.ensures)
+    made

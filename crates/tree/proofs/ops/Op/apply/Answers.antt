@@ -1,6 +1,6 @@
 use Rattle.std.proofs.Common.{◌↔◌, sym, subst, Result, IsTrue}
 use Rattle.std.specs.Prelude.{IsErrOf}
-use Rattle.tree.specs.Operators.{suits}
+use Rattle.tree.specs.OperationFaults.{suits}
 use Rattle.tree.specs.declared.ops.Value.{Value}
 use Rattle.tree.specs.declared.ops.Fault.{Fault}
 use Rattle.tree.specs.declared.ops.Fault.TheVariants.{Shape}

@@ -1,5 +1,5 @@
 use Rattle.std.proofs.Common.{arith}
-use Rattle.meaning.specs.Profile77.{elements_of}
+use Rattle.meaning.specs.Extents.{elements_of}
 use Rattle.machine.specs.Storage.{offset, bounds_list}
 use Rattle.machine.proofs.StoreLaws.{offset_below}
 use Rattle.array_values.proofs.storage.ArrayPlaces.Rows.{saturated_fits}

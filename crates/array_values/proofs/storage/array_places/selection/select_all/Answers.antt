@@ -2,7 +2,7 @@ use Rattle.std.proofs.Common.{◌≡◌, sym, ap, subst, ◌∙◌, arith, ◌++
 use Rattle.std.specs.Prelude.{All}
 use Rattle.meaning.specs.Store.{column_major}
 use Rattle.meaning.specs.Sections.{numbers_of, extents_of, whole_axes}
-use Rattle.meaning.specs.Profile77.{elements_of}
+use Rattle.meaning.specs.Extents.{elements_of}
 use Rattle.array_values.specs.storage.array_places.Places.{somes}
 use Rattle.array_values.proofs.storage.ArrayPlaces.Stages.{places_count}
 use Rattle.meaning.specs.ArrayValues.{counted, size}

@@ -1,5 +1,5 @@
 use Rattle.std.proofs.Common.{map}
-use Rattle.machine.specs.Storage.{bounds_list}
+use Rattle.array_values.specs.storage.Bounds.{bounds_held}
 use Rattle.array_values.specs.Selections.{selector_in}
 use Rattle.array_values.specs.storage.array_places.Selecting.{Selects}
 use Rattle.array_values.specs.storage.Targets.{part_of}
@@ -13,5 +13,5 @@ pub returns : goal.returns
 returns c =
     let v = c.args.self.now in
     let f = part_of (map selector_in c.args.selectors.now) in
-    let h : Selects (bounds_list v.dims) (f (bounds_list v.dims)) c.select.result = rw c.as_slice.ensures at c.select.ensures in
+    let h : Selects (bounds_held v.bounds) (f (bounds_held v.bounds)) c.select.result = c.select.ensures in
     picked v f c.select.result c.if-not-self.false h

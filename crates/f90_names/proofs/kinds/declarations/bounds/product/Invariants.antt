@@ -1,6 +1,6 @@
 use Rattle.std.proofs.Common.{◌≡◌, false, List, map, take}
 use Rattle.std.specs.List.{list_any}
-use Rattle.meaning.specs.Profile77.{elements_of}
+use Rattle.meaning.specs.Extents.{elements_of}
 use Rattle.f90_grammar.specs.Contents.{is_wide_dimension}
 use Rattle.f90_grammar.specs.Forms as forms
 use Rattle.f90_grammar.specs.Reading.{dimension_bounds}

@@ -1,7 +1,7 @@
 use Rattle.std.proofs.Common.{◌≡◌, List, map, take}
 use Rattle.std.specs.List.{AllByRecursion}
 use Rattle.tree.specs.View as view
-use Rattle.meaning.specs.Profile90.{IsDimension}
+use Rattle.meaning.specs.Extents.{IsDimension}
 use Rattle.f90_grammar.specs.Forms as forms
 use Rattle.f90_grammar.specs.Reading.{dimension_bounds}
 use Rattle.f90_statement.specs.Views.{AreOf, IsDimensionOf}

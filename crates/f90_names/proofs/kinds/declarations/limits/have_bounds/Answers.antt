@@ -1,6 +1,6 @@
 use Rattle.std.proofs.Common.{arith, ◌≡◌, ◌<◌, ◌≤◌, true, false, List, length, map, refl, subst, rules}
 use Rattle.std.specs.List.{AllByRecursion}
-use Rattle.meaning.specs.Profile90.{IsDimension}
+use Rattle.meaning.specs.Extents.{IsDimension}
 use Rattle.f90_grammar.specs.Forms as forms
 use Rattle.f90_statement.specs.Views.{IsEntityOf}
 use Rattle.f90_names.specs.kinds.declarations.Bounds.{given_bounds}

@@ -1,0 +1,8 @@
+-- The names so far.
+use Rattle.std.proofs.Common.{◌≡◌, map, take}
+use Rattle.nest.specs.Plain.{Loop}
+use Rattle.nest.specs.View.{loop_of}
+use Rattle.array_form.proofs.holds.noted.names_round.Given as goal
+
+abbrev pub invariant-loop-turns : goal.invariant-loop-turns
+invariant-loop-turns l = l.names ≡ map (λ (m : Loop). m.variable) (map loop_of (take l.turns-index l.turns-items))

@@ -1,0 +1,5 @@
+pub mod Branching
+pub mod Places
+pub mod Laws
+pub mod Prepared
+pub mod Found

@@ -1,0 +1,5 @@
+mod Walks
+mod Trips
+mod Names
+mod Expandable
+mod Tells

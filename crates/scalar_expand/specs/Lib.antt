@@ -1,0 +1,11 @@
+pub mod Extents
+pub mod Privates
+pub mod Texts
+pub mod Expanded
+pub mod View
+pub mod Expansion
+pub mod Stores
+pub mod Flow
+pub mod Laws
+pub mod Numbers
+pub mod Endings

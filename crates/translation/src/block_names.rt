@@ -1,5 +1,0 @@
-//! The names that stand in a block.
-mod listed;
-mod statements;
-
-pub use listed::names_in_block;
