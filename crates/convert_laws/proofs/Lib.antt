@@ -29,3 +29,7 @@ pub mod Declared
 pub mod ProgramNames
 pub mod Converted
 pub mod FoundConverted
+pub mod Declaring
+pub mod MadeNames
+pub mod Rounds
+pub mod FoundDeclared

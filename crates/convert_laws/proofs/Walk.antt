@@ -1,14 +1,14 @@
 -- The statements and loops that are made for the parts of a loop's body are prepared.
-use Rattle.std.proofs.Common.{◌≡◌, refl, sym, ap, subst, ◌∙◌, ◌⊎◌, inl, inr, ℕ, ◌+◌, ◌<◌, ◌≤◌, ◌^◌, Bool, true, false, cond, ◌||◌, All, Contains, List, [], ◌∷◌, ◌++◌, length, length-append, append-nil, append_assoc, Option, Some, None, IsSomeAnd, arith}
+use Rattle.std.proofs.Common.{◌≡◌, refl, sym, ap, subst, ◌∙◌, ◌⊎◌, inl, inr, ℕ, zero, suc, ◌+◌, ◌<◌, ◌≤◌, ◌^◌, Bool, true, false, cond, ◌||◌, All, Contains, List, [], ◌∷◌, ◌++◌, take, drop, length, length-append, append-nil, append_assoc, Option, Some, None, IsSomeAnd, arith}
 use Rattle.std.specs.Prelude.{codes, decimal}
 use Rattle.std.specs.Option.{option_map}
 use Rattle.std.specs.Str.{bytes_eq}
 use Rattle.std.proofs.lemmas.Slice.Eq.{bytes_eq-Decides}
 use Rattle.std.proofs.lemmas.List.Elements.{All-append, All-cons, All-contains, All-head, All-nil}
 use Rattle.tree.specs.Names.{IsSourceName}
-use Rattle.tree.specs.Plain.{Declaration, Expression, Logic, Unary, no_subscripts}
+use Rattle.tree.specs.Plain.{Declaration, Expression, Logic, Unary}
 use Rattle.tree.specs.declared.ops.Kind.TheVariants.{Logical}
-use Rattle.tree.specs.declared.ops.Op.TheVariants.{Not}
+use Rattle.tree.specs.declared.ops.Op.TheVariants.{And, Not}
 use Rattle.meaning.specs.Labels.{IsLine}
 use Rattle.meaning.specs.Depths.{depth_of}
 use Rattle.meaning.specs.Reads.{names_in, names_in_subscripts}
@@ -16,20 +16,21 @@ use Rattle.meaning.specs.Names.{is_among}
 use Rattle.meaning.specs.Typed.{declared}
 use Rattle.meaning.specs.Value.{named}
 use Rattle.rewrite.specs.Making.{made}
-use Rattle.linear_forms.specs.Canonical.{canonical_text, canonising}
+use Rattle.linear_forms.specs.Canonical.{canonical_node, canonical_text, canonising}
 use Rattle.nest.specs.Bodies.{Standing, loops_in_parts, loops_of, statements_in, statements_in_parts}
 use Rattle.nest.specs.Plain.{Guarded, Loop, Nest, Part, Run, Turns, Choice, Label, Jump, Parts, no_parts, part, parts}
 use Rattle.nest_order.specs.orders.Lists.{In}
 use Rattle.nest_order.specs.runs.Guarded.{names_of_guard}
-use Rattle.nest_rewrite.specs.Statements.{rewritten_statement}
 use Rattle.last_values.specs.normal_forms.NormalLoops.{counter_name}
 use Rattle.pass_laws.specs.branch_meaning.Jumps.{AllJumpAhead, labels_ahead}
 use Rattle.prepared_nests.specs.Branches.{IsPreparedTest, tests_in_parts, tests_under}
 use Rattle.prepared_nests.specs.Loops.{EachLoopIn, IsPreparedLoop, variables_of_loops}
-use Rattle.prepared_nests.specs.Statements.{IsOwn, IsPreparedStatement, guard_or_none, made_names}
+use Rattle.prepared_nests.specs.Statements.{IsCanonical, IsOwn, IsPreparedStatement, guard_or_none, made_names}
+use Rattle.prepared_nests.proofs.Normal.TestTexts.{pair_stays}
 use Rattle.if_convert.specs.Converted.{around_loop, converted, converted_parts}
 use Rattle.if_convert.specs.Jumps.{jumps_in}
-use Rattle.if_convert.specs.Masks.{Asks, Clears, Kept, Leaves, Masking, Other, Question, Test, Turned, Unleft, all_parts_of, asked, mask, mask_name, parts_of, scalar, sets, under}
+use Rattle.if_convert.specs.Masks.{Asks, Clears, Kept, Leaves, Masking, Other, Question, Test, Turned, Unleft, all_parts_of, asked, first_half, mask, mask_name, none_left, none_of, parts_of, scalar, sets, under}
+use Rattle.if_convert.specs.declared.points.Jumped.{Jumped}
 use Rattle.if_convert.specs.Points.{entered, unless_skipped}
 use Rattle.if_convert.specs.declared.points.Point.{Point}
 use Rattle.if_convert.proofs.BodyLaws.{parts-append}
@@ -74,6 +75,30 @@ mask_settled ls symbols i h =
     ap (λ b. cond (b || false) (canonical_text (variables_of_loops ls) symbols (mask i)) (mask i))
     (none_among (variables_of_loops ls) (mask_name i) (λ y j e. let c = h y j in mask_counter i c.0 (e ∙ c.1)))
 
+module _ (ls : List Loop) (symbols : List (List ℕ)) (counters : AreCounters ls) where
+  abbrev IsSettled : Expression → Type 0
+  IsSettled e = made (canonising (variables_of_loops ls) symbols) e ≡ e
+
+  not_settled : (i : ℕ) → IsSettled (Unary Not (mask i))
+  not_settled i =
+      let none = none_among (variables_of_loops ls) (mask_name i) (λ y j e. let c = counters y j in mask_counter i c.0 (e ∙ c.1)) in
+      ap (λ (e : Expression). canonical_node (variables_of_loops ls) symbols (Unary Not (mask i)) (Unary Not e)) (mask_settled ls symbols i counters)
+      ∙ ap (λ b. cond (b || false) (canonical_text (variables_of_loops ls) symbols (Unary Not (mask i))) (Unary Not (mask i))) none
+
+  -- conjunctions of masks that are not set
+  none_settled : (n : ℕ) (xs : List Jumped) → IsSettled (none_of n xs)
+  none_settled zero xs = refl
+  none_settled (suc n) [] = refl
+  none_settled (suc n) (x ∷ []) = not_settled x.mask
+  none_settled (suc n) (x ∷ y ∷ xs) =
+      let all : List Jumped = x ∷ y ∷ xs in
+      pair_stays (variables_of_loops ls) symbols And (λ k l f g. refl) (none_of n (take (first_half all) all)) (none_of n (drop (first_half all) all))
+      (none_settled n (take (first_half all) all)) (none_settled n (drop (first_half all) all))
+
+  left_settled : (xs : List Jumped) → IsSettled (none_left xs)
+  unfolding none_left
+  left_settled xs = none_settled (length xs) xs
+
 -- ---- what is known of the nest n, and of the nest m that is made of it
 
 pub record Facts (es : List Declaration) (around : List (List ℕ)) (deepest k0 k1 : ℕ) (n m : Nest) : Type 0 where
@@ -110,9 +135,9 @@ module _ (es : List Declaration) (around : List (List ℕ)) (deepest k0 k1 : ℕ
   flat ls i a b = mask_flat es ls i (facts.masks i a b)
 
   -- a mask is assigned
-  set_is : (ls : List Loop) (g : Option ℕ) → InRange g → (i : ℕ) → k0 ≤ i → i < k1 → (e : Expression) → Flat es ls deepest e
+  set_is : (ls : List Loop) (counters : AreCounters ls) (g : Option ℕ) → InRange g → (i : ℕ) → k0 ≤ i → i < k1 → (e : Expression) → Flat es ls deepest e → IsSettled ls m.symbols counters e
       → Is (record { loops = ls; statement = record { line = n.line; guard = option_map mask g; left = scalar (mask_name i); right = e } })
-  set_is ls g u i a b e f = record { prepared = by g u; outside = not_around i }
+  set_is ls counters g u i a b e f settled = record { prepared = by g u; outside = not_around i }
     where
       own : All (IsOwn ls) (mask_name i ∷ [])
       own = (flat ls i a b).names
@@ -129,7 +154,7 @@ module _ (es : List Declaration) (around : List (List ℕ)) (deepest k0 k1 : ℕ
         right = f.scalar;
         guard = tt;
         deep = All-cons (λ (e : Expression). depth_of e ≤ deepest) (mask i) (e ∷ []) (omega arith) (All-cons (λ (e : Expression). depth_of e ≤ deepest) e [] f.deep (All-nil (λ (e : Expression). depth_of e ≤ deepest)));
-        canonical = inl refl;
+        canonical = record { guard = refl; left = refl; right = inl settled };
       }
       by (Some k) u = record {
         line = facts.line;
@@ -142,7 +167,7 @@ module _ (es : List Declaration) (around : List (List ℕ)) (deepest k0 k1 : ℕ
         right = f.scalar;
         guard = (flat ls k u.0 u.1).scalar;
         deep = All-cons (λ (e : Expression). depth_of e ≤ deepest) (mask k) (mask i ∷ e ∷ []) (omega arith) (All-cons (λ (e : Expression). depth_of e ≤ deepest) (mask i) (e ∷ []) (omega arith) (All-cons (λ (e : Expression). depth_of e ≤ deepest) e [] f.deep (All-nil (λ (e : Expression). depth_of e ≤ deepest))));
-        canonical = inl refl;
+        canonical = record { guard = ap (λ (e : Expression). Some e) (mask_settled ls m.symbols k counters); left = refl; right = inl settled };
       }
 
   -- a statement of the nest under a mask
@@ -162,13 +187,8 @@ module _ (es : List Declaration) (around : List (List ℕ)) (deepest k0 k1 : ℕ
       bare_deep : All (λ (e : Expression). depth_of e ≤ deepest) (named c.left ∷ c.right ∷ [])
       bare_deep = subst (λ o. All (λ (e : Expression). depth_of e ≤ deepest) (guard_or_none o ++ named c.left ∷ c.right ∷ [])) e was.deep
 
-      settled : (c.left.subscripts ≡ no_subscripts) ⊎ (rewritten_statement (canonising (variables_of_loops ls) n.symbols) c ≡ c) → (c.left.subscripts ≡ no_subscripts) ⊎ (rewritten_statement (canonising (variables_of_loops ls) m.symbols) c ≡ c)
-      settled (inl s) = inl s
-      settled (inr k) = inr (subst (λ ss. rewritten_statement (canonising (variables_of_loops ls) ss) c ≡ c) (sym facts.symbols) k)
-
-      settled_under : (i : ℕ) → (c.left.subscripts ≡ no_subscripts) ⊎ (rewritten_statement (canonising (variables_of_loops ls) m.symbols) c ≡ c) → (c.left.subscripts ≡ no_subscripts) ⊎ (rewritten_statement (canonising (variables_of_loops ls) m.symbols) (under (Some i) c) ≡ under (Some i) c)
-      settled_under i (inl s) = inl s
-      settled_under i (inr k) = inr (λ j. record { line = c.line; guard = Some (mask_settled ls m.symbols i counters j); left = (ap (λ (g : Guarded). g.left) k) j; right = (ap (λ (g : Guarded). g.right) k) j })
+      bare : IsCanonical (variables_of_loops ls) m.symbols c
+      bare = subst (λ ss. IsCanonical (variables_of_loops ls) ss c) (sym facts.symbols) was.canonical
 
       by : (g : Option ℕ) → InRange g → Is (record { loops = ls; statement = under g c })
       by None u = record {
@@ -183,7 +203,7 @@ module _ (es : List Declaration) (around : List (List ℕ)) (deepest k0 k1 : ℕ
           right = was.right;
           guard = was.guard;
           deep = was.deep;
-          canonical = settled was.canonical;
+          canonical = bare;
         };
         outside = h.outside;
       }
@@ -199,7 +219,7 @@ module _ (es : List Declaration) (around : List (List ℕ)) (deepest k0 k1 : ℕ
           right = was.right;
           guard = (flat ls i u.0 u.1).scalar;
           deep = All-cons (λ (e : Expression). depth_of e ≤ deepest) (mask i) (named c.left ∷ c.right ∷ []) (omega arith) bare_deep;
-          canonical = settled_under i (settled was.canonical);
+          canonical = record { guard = ap (λ (e : Expression). Some e) (mask_settled ls m.symbols i counters); left = bare.left; right = bare.right };
         };
         outside = h.outside;
       }
@@ -236,8 +256,8 @@ module _ (es : List Declaration) (around : List (List ℕ)) (deepest k0 k1 : ℕ
   run_walked : (ls : List Loop) (g : Guarded) → Is (record { loops = ls; statement = g }) → Walked ls (Run g ∷ []) []
   run_walked ls g h = record { statements = All-cons Is (record { loops = ls; statement = g }) [] h (All-nil Is); same = refl; each = (tt, tt) }
 
-  set_walked : (ls : List Loop) (g : Option ℕ) → InRange g → (i : ℕ) → k0 ≤ i → i < k1 → (e : Expression) → Flat es ls deepest e → Walked ls (sets n.line g i e ∷ []) []
-  set_walked ls g u i a b e f = run_walked ls (record { line = n.line; guard = option_map mask g; left = scalar (mask_name i); right = e }) (set_is ls g u i a b e f)
+  set_walked : (ls : List Loop) (counters : AreCounters ls) (g : Option ℕ) → InRange g → (i : ℕ) → k0 ≤ i → i < k1 → (e : Expression) → Flat es ls deepest e → IsSettled ls m.symbols counters e → Walked ls (sets n.line g i e ∷ []) []
+  set_walked ls counters g u i a b e f settled = run_walked ls (record { line = n.line; guard = option_map mask g; left = scalar (mask_name i); right = e }) (set_is ls counters g u i a b e f settled)
 
   used_range : (low mid : ℕ) (g : Option ℕ) → IsUsed k0 k1 low mid g → InRange g
   used_range low mid None u = tt
@@ -254,18 +274,26 @@ module _ (es : List Declaration) (around : List (List ℕ)) (deepest k0 k1 : ℕ
       let f = facts.few in
       more_flat es ls 65 deepest _ d (left_flat es ls xs (omega (arith, s, f)) (λ l i. facts.masks l.mask (o l i).0.0 (o l i).0.1))
 
+  asked_settled : (ls : List Loop) (counters : AreCounters ls) (q : Question) → Asked n.line k1 (Here ls Was (IsPreparedTest es n.symbols deepest)) (HereTest ls Was (IsPreparedTest es n.symbols deepest)) q → IsSettled ls m.symbols counters (asked q)
+  asked_settled ls counters (Test e) s = asked_test e s
+    where
+      asked_test : (e : Expression) → IsPreparedTest es n.symbols deepest (record { loops = ls; test = e }) → IsSettled ls m.symbols counters e
+      asked_test e h = subst (λ ss. made (canonising (variables_of_loops ls) ss) e ≡ e) (sym facts.symbols) h.canonical
+  asked_settled ls counters (Other i) s = not_settled ls m.symbols counters i
+  asked_settled ls counters (Unleft xs) s = left_settled ls m.symbols counters xs
+
   abbrev Came : List Loop → Masking → Type 0
   Came ls x = Comes n.line k1 (Here ls Was (IsPreparedTest es n.symbols deepest)) (HereTest ls Was (IsPreparedTest es n.symbols deepest)) x
 
   one_walked : (ls : List Loop) → AreCounters ls → (low mid : ℕ) (x : Masking) → IsSuited k0 k1 low mid x → Came ls x → Walked ls (parts_of n.line x) []
   one_walked ls counters low mid (Kept g c) s h = run_walked ls (under g c) (kept_is ls g (used_range low mid g s.0) counters c s.1 h)
-  one_walked ls counters low mid (Asks None i q) s h = set_walked ls None tt i s.1.0.0 s.1.0.1 (asked q) (asked_flat ls low mid q s.2 h)
+  one_walked ls counters low mid (Asks None i q) s h = set_walked ls counters None tt i s.1.0.0 s.1.0.1 (asked q) (asked_flat ls low mid q s.2 h) (asked_settled ls counters q h)
   one_walked ls counters low mid (Asks (Some k) i q) s h =
       both_walked ls (sets n.line None i (Logic false) ∷ []) (sets n.line (Some k) i (asked q) ∷ []) [] []
-      (set_walked ls None tt i s.1.0.0 s.1.0.1 (Logic false) (more_flat es ls 0 deepest (Logic false) (omega arith) (truth_flat es ls false)))
-      (set_walked ls (Some k) s.0.0 i s.1.0.0 s.1.0.1 (asked q) (asked_flat ls low mid q s.2 h))
-  one_walked ls counters low mid (Clears j) s h = set_walked ls None tt j s.0.0 s.0.1 (Logic false) (more_flat es ls 0 deepest (Logic false) (omega arith) (truth_flat es ls false))
-  one_walked ls counters low mid (Leaves g j) s h = set_walked ls g (used_range low mid g s.0) j s.1.0.0 s.1.0.1 (Logic true) (more_flat es ls 0 deepest (Logic true) (omega arith) (truth_flat es ls true))
+      (set_walked ls counters None tt i s.1.0.0 s.1.0.1 (Logic false) (more_flat es ls 0 deepest (Logic false) (omega arith) (truth_flat es ls false)) refl)
+      (set_walked ls counters (Some k) s.0.0 i s.1.0.0 s.1.0.1 (asked q) (asked_flat ls low mid q s.2 h) (asked_settled ls counters q h))
+  one_walked ls counters low mid (Clears j) s h = set_walked ls counters None tt j s.0.0 s.0.1 (Logic false) (more_flat es ls 0 deepest (Logic false) (omega arith) (truth_flat es ls false)) refl
+  one_walked ls counters low mid (Leaves g j) s h = set_walked ls counters g (used_range low mid g s.0) j s.1.0.0 s.1.0.1 (Logic true) (more_flat es ls 0 deepest (Logic true) (omega arith) (truth_flat es ls true)) refl
   one_walked ls counters low mid (Turned l ps) s h = absurd s
 
   list_walked : (ls : List Loop) → AreCounters ls → (low mid : ℕ) (xs : List Masking) → ((x : Masking) → In x xs → IsSuited k0 k1 low mid x) → ((x : Masking) → In x xs → Came ls x) → Walked ls (all_parts_of n.line xs) []

@@ -8,6 +8,7 @@ use Rattle.meaning.specs.Profile77.{IsProgram77, IsStatement}
 use Rattle.find_nests.specs.Found.{InNest, found_in}
 use Rattle.find_nests.specs.Laws.{IsFoundNest}
 use Rattle.find_nests.specs.Loops.{as_statement}
+use Rattle.meaning.specs.Profile90.{AreDeclarations}
 use Rattle.meaning.specs.Store.{names_of}
 use Rattle.meaning.specs.Typed.{declared}
 use Rattle.meaning_laws.specs.profiles.Profiles.{AddMadeNames}
@@ -43,3 +44,16 @@ FoundNestIsConverted = (p : Program) (n m k : Nest) (ds es : List Declaration) (
     → n.number < 2 ^ 32 → All IsSourceName w.variables
     → IsStatement p.declarations (as_statement found.loop.loop.loop) w
     → IsBranching m × IsPrepared es w.variables normal_depth k
+
+-- declarations by which the nest is prepared, where loops with the variables `around` stand round it
+pub record HasDeclarations (m : Nest) : Type 0 where
+  pub declarations : List Declaration
+  pub around : List (List ℕ)
+  pub are : AreDeclarations declarations
+  pub prepared : IsPrepared declarations around normal_depth m
+
+-- there are such ones: those of the program, with the variables of its loops and with masks
+abbrev pub FoundNestHasDeclarations : Type 0
+FoundNestHasDeclarations = (p : Program) (n m k : Nest) (masks : ℕ) → IsProgram77 fortran77 p
+    → Contains (found_in p) (InNest n) → normalised n ≡ Some m → converted_nest masks m ≡ Some k → k.masks ≤ 2 ^ 32
+    → HasDeclarations k

@@ -1,5 +1,6 @@
 //! A law is a function without a body: its contract is what holds.
-ghost use Rattle.convert_laws.specs.Found.{FoundNestIsConverted, FoundNestIsUnguarded, ProgramHasNoMasks};
+ghost use Rattle.convert_laws.specs.Found.{FoundNestHasDeclarations, FoundNestIsConverted, FoundNestIsUnguarded};
+ghost use Rattle.convert_laws.specs.Found.{ProgramHasNoMasks};
 ghost use Rattle.convert_laws.specs.Laws.{ConvertedMayStandFor};
 ghost use Rattle.convert_laws.specs.Prepared.{BranchedNestIsBranching, ConvertedBranchedNestIsPrepared};
 ghost use Rattle.convert_laws.specs.Prepared.{ConvertedNestIsPrepared};
@@ -37,4 +38,9 @@ pub fn converted_branched_nest_is_prepared()
 /// Masks may be made for a nest that is found, with loops from 1 by 1, and it is prepared with them.
 pub fn found_nest_is_converted()
     ensures { FoundNestIsConverted }
+{}
+
+/// There are declarations by which it is prepared so.
+pub fn found_nest_has_declarations()
+    ensures { FoundNestHasDeclarations }
 {}

@@ -10,6 +10,6 @@ mod laws;
 
 pub use laws::{
     branched_nest_is_branching, converted_branched_nest_is_prepared, converted_may_stand_for,
-    converted_nest_is_prepared, found_nest_is_converted, found_nest_is_unguarded,
-    program_has_no_masks,
+    converted_nest_is_prepared, found_nest_has_declarations, found_nest_is_converted,
+    found_nest_is_unguarded, program_has_no_masks,
 };

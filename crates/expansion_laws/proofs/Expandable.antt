@@ -1,12 +1,11 @@
 -- A prepared nest may be expanded.
-use Rattle.std.proofs.Common.{◌≡◌, ◌⊎◌, refl, sym, ap, ◌∙◌, inl, inr, subst, ℕ, ◌≤◌, ◌<◌, ℤ, pos, List, [], ◌∷◌, ◌++◌, map, length, Option, Some, None, Ok, arith}
+use Rattle.std.proofs.Common.{◌≡◌, ◌⊎◌, sym, ◌∙◌, inl, inr, subst, ℕ, ◌≤◌, ℤ, pos, List, [], ◌∷◌, length, arith}
 use Rattle.std.proofs.lemmas.Int.{ints}
 use Rattle.std.proofs.lemmas.List.{map-append}
 use Rattle.linear_forms.specs.CanonicalLaws.{AreDistinct}
 use Rattle.meaning.specs.Reads.{names_in}
 use Rattle.nest.specs.Bodies.{Standing, nest_loops, nest_statements}
-use Rattle.nest.specs.Plain.{Loop, Nest, Parts, Turns}
-use Rattle.nest.specs.declared.parts.Trip.{Trip}
+use Rattle.nest.specs.Plain.{Loop, Nest}
 use Rattle.nest_order.specs.orders.Lists.{Distinct, In}
 use Rattle.nest_order.specs.orders.Lists as orders_spec
 use Rattle.nest_order.proofs.orders.Lists.{Each-In, Pairwise-front}
@@ -18,14 +17,13 @@ use Rattle.pass_laws.proofs.NormalFacts.Trips.{IsTripOf}
 use Rattle.prepared_nests.specs.Loops.{IsPreparedLoop, IsPreparedTrip, variables_of_loops}
 use Rattle.prepared_nests.specs.Nests.{IsPrepared, IsPreparedSymbol}
 use Rattle.prepared_nests.specs.Statements.{IsPreparedStatement}
-use Rattle.prepared_nests.proofs.Lists.{Contains-In, In-Contains, HasSome, distinct_too, ordered_distinct, some_of, within_32}
+use Rattle.prepared_nests.proofs.Lists.{In-Contains, HasSome, distinct_too, ordered_distinct, some_of}
 use Rattle.prepared_nests.proofs.Trips.{BearsNumber, bears_number, names_of_trip, number_of_trip}
-use Rattle.prepared_nests.proofs.Walks.{AreOnce, once_before, walked}
+use Rattle.prepared_nests.proofs.Walks.{once_before, walked}
 use Rattle.tree.specs.Plain.{Declaration}
 use Rattle.last_values.specs.normal_forms.NormalLoops.{counter_name}
-use Rattle.scalar_expand.specs.Expanded.{named_private}
-use Rattle.scalar_expand.specs.Flow.{Counts, EachLoop, Fits, Holds}
-use Rattle.scalar_expand.specs.Laws.{IsExpandable, own_of}
+use Rattle.scalar_expand.specs.Flow.{Counts, EachLoop, Fits}
+use Rattle.scalar_expand.specs.Laws.{own_of}
 use Rattle.scalar_expand.specs.Numbers.{ends_of, limits_of, trip_at}
 use Rattle.scalar_expand.specs.Privates.{private_scalars, round_loop}
 use Rattle.scalar_expand.specs.Stores.{AreApart}

@@ -1,5 +1,5 @@
 -- The names of private scalars and of their arrays in a prepared nest.
-use Rattle.std.proofs.Common.{◌≡◌, ◌⊎◌, inl, inr, refl, sym, ap, ap₂, ◌∙◌, subst, ℕ, zero, suc, ◌+◌, ◌≤◌, Bool, true, false, not, ◌&&◌, ◌||◌, cond, codes, List, [], ◌∷◌, ◌++◌, map, length, length-append, Option, Some, None, Contains, arith}
+use Rattle.std.proofs.Common.{◌≡◌, ◌⊎◌, inl, inr, refl, sym, ap, ap₂, ◌∙◌, subst, ℕ, ◌+◌, Bool, true, false, not, ◌&&◌, cond, codes, List, [], ◌∷◌, ◌++◌, map, length, length-append, Option, Some, None, Contains, arith}
 use Rattle.std.specs.Option.{IsSomeAnd}
 use Rattle.std.specs.Prelude.{decimal, nat_le, ◌==◌}
 use Rattle.std.specs.List.{list_all}
@@ -11,11 +11,10 @@ use Rattle.tree.specs.Plain.{Declaration, Expression, Given, Named, Subscripts, 
 use Rattle.tree.specs.declared.ops.Kind.{Kind}
 use Rattle.meaning.specs.Typed.{declared, number_of_subscripts, rank_of_extent}
 use Rattle.meaning.specs.Typed90.{HasKind, SuitsDimensions}
-use Rattle.meaning.specs.Value.{named}
-use Rattle.nest.specs.Bodies.{Standing, nest_loops, nest_statements}
-use Rattle.nest.specs.Plain.{Loop, Made, Nest}
+use Rattle.nest.specs.Bodies.{Standing, nest_statements}
+use Rattle.nest.specs.Plain.{Made, Nest}
 use Rattle.nest_order.specs.orders.Lists.{In}
-use Rattle.nest_order.proofs.orders.Membership.{In-map, map-In}
+use Rattle.nest_order.proofs.orders.Membership.{In-map}
 use Rattle.last_values.specs.Occurrences.{stands_in_statement}
 use Rattle.last_values.specs.Scalars.{scalar}
 use Rattle.last_values.specs.normal_forms.NormalLoops.{counter_name}
@@ -24,17 +23,15 @@ use Rattle.pass_laws.proofs.NormalFacts.Tables.{all_in}
 use Rattle.prepared_nests.specs.Made.{IsPreparedMade, extent_for}
 use Rattle.prepared_nests.specs.Nests.{IsPrepared, IsPreparedSymbol}
 use Rattle.prepared_nests.specs.Statements.{IsPreparedStatement, made_names}
-use Rattle.prepared_nests.proofs.Lists.{Contains-In, In-Contains, some_of}
+use Rattle.prepared_nests.proofs.Lists.{Contains-In, In-Contains}
 use Rattle.scalar_expand.specs.Expanded.{declared_privates, named_private}
 use Rattle.scalar_expand.specs.Privates.{array_name, declared_kind, is_source, kind_of_scalar, made_kind, kind_if_scalar, names_written, number_behind, or_none, private_among, private_scalar, private_scalars, round_loop, scalar_kind}
 use Rattle.scalar_expand.specs.Stores.{arrays}
 use Rattle.scalar_expand.specs.declared.privates.Private.{Private}
-use Rattle.scalar_expand.specs.declared.privates.RoundLoop.{RoundLoop}
 use Rattle.scalar_expand.proofs.Changes.{found}
 use Rattle.scalar_expand.proofs.PrivateLaws.{first_begins, has_first, in_middle}
 use Rattle.scalar_expand.proofs.Theorems.{in_privates}
-use Rattle.expansion_laws.specs.Laws.{MayBeExpanded, counters_of}
-use Rattle.expansion_laws.proofs.Walks.{round_in}
+use Rattle.expansion_laws.specs.Laws.{MayBeExpanded}
 
 -- ---- lists
 
@@ -103,7 +100,7 @@ all_plain (c ∷ x) h = by (c == 95) refl (all_plain x (λ i. h (inr i)))
     by true e r = absurd (h (inl (sym (eqb-true c 95 e))))
     by false e r = r
 
-source_is : (x : List ℕ) → IsSourceName x → is_source x ≡ true
+pub source_is : (x : List ℕ) → IsSourceName x → is_source x ≡ true
 source_is x n = ap₂ (λ a b. a && b) (le-leb (length x) 6 n.within) (all_plain x (λ i. n.plain (In-Contains 95 x i)))
 
 is_source_name : (x : List ℕ) → is_source x ≡ true → IsSourceName x
@@ -112,6 +109,14 @@ is_source_name x e = by (nat_le (length x) 6) refl e
     by : (b : Bool) → nat_le (length x) 6 ≡ b → (b && list_all (λ c. not (c == 95)) x) ≡ true → IsSourceName x
     by true f g = record { within = leb-true (length x) 6 f; plain = λ c. plain_name x g (Contains-In 95 x c) }
     by false f g = cc
+
+-- an array's name is longer
+pub array_long : (x : List ℕ) (n : ℕ) → ¬ IsSourceName ((codes "FV_EXP_" ++ x) ++ number_behind n)
+array_long x n h =
+    let short = h.within in
+    let long = length-append (codes "FV_EXP_" ++ x) (number_behind n) in
+    let front = length-append (codes "FV_EXP_") x in
+    omega (arith, short, long, front)
 
 -- ---- scalars of the program
 
@@ -124,7 +129,7 @@ kind_scalar d k e = by d.extent e
     by (Rattle.tree.specs.Plain.Later n) f = cc
 
 -- it is declared here as a scalar, or made
-found_kind : (ds : List Declaration) (other : Option Kind) (x : List ℕ) (k : Kind) → declared_kind ds other x ≡ Some k
+pub found_kind : (ds : List Declaration) (other : Option Kind) (x : List ℕ) (k : Kind) → declared_kind ds other x ≡ Some k
     → ((d : Declaration) × (declared ds x ≡ Some d) × (d.extent ≡ Given [])) ⊎ ((declared ds x ≡ None) × (other ≡ Some k))
 found_kind [] other x k e = inr (refl, e)
 found_kind (d ∷ ds) other x k e = by (bytes_eq d.name x) refl e (λ f. found_kind ds other x k f)
@@ -349,7 +354,7 @@ module _ (es : List Declaration) (around : List (List ℕ)) (deepest : ℕ) (m :
 
   -- ---- those that the program declares
 
-  declared_in : (ds : List Declaration) (q : Private) → In q (declared_privates (private_scalars m) ds) → (d : Declaration) × (declared ds q.name ≡ Some d)
+  pub declared_in : (ds : List Declaration) (q : Private) → In q (declared_privates (private_scalars m) ds) → (d : Declaration) × (declared ds q.name ≡ Some d)
   declared_in [] q i = absurd i
   declared_in (d ∷ ds) q i = by (named_private ps d.name) refl i (λ j. declared_in ds q j)
     where
@@ -374,3 +379,13 @@ module _ (es : List Declaration) (around : List (List ℕ)) (deepest : ℕ) (m :
           let d = declared_in m.declarations q own in
           let bad : true ≡ false = sym (source_is q.name (may.source q.name d.0 d.1)) ∙ (ap is_source (sym e ∙ f) ∙ n) in
           cc
+
+  -- no name of the source is that of an array
+  pub source_no_array : (y : List ℕ) → IsSourceName y → ¬ In y (arrays (private_scalars m))
+  source_no_array y source i =
+      let o = In-map (λ (p : Private). p.array) y (private_scalars m) i in
+      by o.it o.is (array_is o.it o.inside)
+    where
+      by : (p : Private) → y ≡ p.array → Named-so p → ⊥
+      by p is (inl (n, f)) = array_long p.name m.number (subst IsSourceName (is ∙ f) source)
+      by p is (inr (n, f)) = let no : true ≡ false = sym (source_is y source) ∙ (ap is_source (is ∙ f) ∙ n) in cc

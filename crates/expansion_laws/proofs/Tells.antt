@@ -1,7 +1,7 @@
 -- The texts of trips that are the same in all turns have the numbers of the last iterations.
 use mathlib.Core.Path.{ap₂}
-use Rattle.std.proofs.Common.{◌≡◌, ◌⊎◌, refl, sym, ap, ◌∙◌, inl, inr, subst, ℕ, zero, suc, ◌+◌, ◌≤◌, ◌<◌, ◌^◌, ℤ, pos, negsuc, ◌+ℤ◌, Bool, true, false, ◌&&◌, List, [], ◌∷◌, ◌++◌, map, length, get_or, drop, Ok, Option, Some, None, arith}
-use Rattle.std.specs.Prelude.{int_div, int_lt, nat_abs, nat_le}
+use Rattle.std.proofs.Common.{◌≡◌, ◌⊎◌, refl, sym, ap, ◌∙◌, inl, inr, subst, ℕ, zero, suc, ◌+◌, ◌≤◌, ◌<◌, ℤ, pos, negsuc, ◌+ℤ◌, true, ◌&&◌, List, [], ◌∷◌, ◌++◌, map, length, get_or, drop, Ok, Option, arith}
+use Rattle.std.specs.Prelude.{int_div, int_lt, nat_le}
 use Rattle.std.specs.List.{list_all}
 use Rattle.std.proofs.lemmas.Bool.{leb-true}
 use Rattle.std.proofs.lemmas.List.{append-nil, length-drop}
@@ -36,11 +36,9 @@ use Rattle.prepared_nests.specs.Made.{AreOf64Bits}
 use Rattle.prepared_nests.specs.Nests.{IsPrepared}
 use Rattle.prepared_nests.proofs.Lists.{ordered_distinct, some_of}
 use Rattle.prepared_nests.proofs.Walks.{walked}
-use Rattle.scalar_expand.specs.Endings.{HoldSymbols, TellTurns, TextsTell}
-use Rattle.scalar_expand.specs.Expanded.{has_known_end, known_trip}
-use Rattle.scalar_expand.specs.Numbers.{at_loops, ends_of, ends_under, number_under, turns_to}
-use Rattle.scalar_expand.specs.Privates.{private_scalars, round_loop, trip_or_none}
-use Rattle.scalar_expand.specs.declared.privates.Private.{Private}
+use Rattle.scalar_expand.specs.Endings.{HoldSymbols, TellTurns}
+use Rattle.scalar_expand.specs.Numbers.{at_loops, ends_under, number_under, turns_to}
+use Rattle.scalar_expand.specs.Privates.{round_loop, trip_or_none}
 use Rattle.scalar_expand.specs.declared.privates.RoundLoop.{RoundLoop}
 use Rattle.scalar_expand.proofs.Covers.{loops_zero}
 use Rattle.expansion_laws.specs.Laws.{MayBeExpanded, PreparedTextsTell, value_among}
@@ -76,7 +74,7 @@ at_symbols [] k v i h = absurd (omega (arith, h))
 at_symbols (y ∷ ys) k v zero h = ap v (let e : k ≡ k + 0 = omega arith in e)
 at_symbols (y ∷ ys) k v (suc i) h = at_symbols ys (suc k) v i (omega (arith, h)) ∙ ap v (let e : suc k + i ≡ k + suc i = omega arith in e)
 
-sized_symbols : (ys : List (List ℕ)) (k : ℕ) (v : ℕ → ℤ) → AreOf64Bits v → AreSized (facts.values_from v k ys)
+pub sized_symbols : (ys : List (List ℕ)) (k : ℕ) (v : ℕ → ℤ) → AreOf64Bits v → AreSized (facts.values_from v k ys)
 sized_symbols [] k v h = tt
 sized_symbols (y ∷ ys) k v h = (h k, sized_symbols ys (suc k) v h)
 
@@ -89,7 +87,7 @@ module _ (symbols : List (List ℕ)) (values : ℕ → ℤ) where
   no_loops : (F : ℕ → ℤ) (a : Affine) → has_no_loops a ≡ true → products 7 0 (λ k. at a (place.Loop k)) F ≡ pos 0
   no_loops F a h = products-alike 7 0 (λ k. at a (place.Loop k)) (λ k. pos 0) F (λ k m. loops_zero a.loops k h) ∙ products-zero 7 0 F
 
-  same_number : (F : ℕ → ℤ) (a : Affine) → has_no_loops a ≡ true
+  pub same_number : (F : ℕ → ℤ) (a : Affine) → has_no_loops a ≡ true
       → number_of_form (length symbols) none_yet (At (facts.values_from values 0 symbols ++ [])) a ≡ number_of_form (length symbols) F values a
   same_number F a h =
       ap₂ (λ p q. p +ℤ (q +ℤ a.constant)) (no_loops none_yet a h ∙ sym (no_loops F a h))

@@ -1,7 +1,6 @@
 -- The turns of a prepared loop by the number of its trip.
 use mathlib.Core.Path.{ap₂}
-use Rattle.std.proofs.Common.{◌≡◌, ◌⊎◌, inl, inr, refl, sym, ap, ◌∙◌, subst, ℕ, zero, suc, ◌+◌, ◌-◌, ◌≤◌, ℤ, pos, negsuc, ◌+ℤ◌, ◌*ℤ◌, Bool, true, false, cond, List, [], ◌∷◌, ◌++◌, map, length, get_or, drop, Result, Ok, Err, Option, Some, None, arith}
-use Rattle.std.specs.Option.{IsSomeAnd}
+use Rattle.std.proofs.Common.{◌≡◌, inl, inr, refl, sym, ap, ◌∙◌, subst, ℕ, zero, suc, ◌+◌, ◌-◌, ◌≤◌, ℤ, pos, negsuc, ◌+ℤ◌, ◌*ℤ◌, Bool, true, false, cond, List, [], ◌∷◌, ◌++◌, map, length, get_or, drop, Result, Ok, Err, Option, Some, None, arith}
 use Rattle.std.specs.Prelude.{int_div, nat_le, replicate}
 use Rattle.std.specs.Ordering.{int_eq}
 use Rattle.std.specs.Str.{bytes_eq}
@@ -38,8 +37,7 @@ use Rattle.rewrite.specs.Following.{sequential}
 use Rattle.rewrite.proofs.Replacing.{either_false}
 use Rattle.subscripts.specs.Forms.{over_loops, over_symbols, value_at}
 use Rattle.subscripts.specs.declared.affine.Affine.{Affine}
-use Rattle.last_values.specs.declared.normal_forms.places.Place.TheVariants as place
-use Rattle.last_values.specs.normal_forms.Combinations.{at, coefficient_in}
+use Rattle.last_values.specs.normal_forms.Combinations.{coefficient_in}
 use Rattle.last_values.specs.normal_forms.Numbers.{number_of_form, products, values_from}
 use Rattle.last_values.proofs.NormalForms.Numbers.{looked_up}
 use Rattle.pass_laws.proofs.NormalFacts.Trips.{IsTripOf}
@@ -52,11 +50,11 @@ use Rattle.expansion_laws.specs.Laws.{value_among}
 
 -- ---- the number of a form
 
-shift : (m j : ℕ) (c x : ℕ → ℤ) → products m (j + 1) c x ≡ products m j (λ k. c (suc k)) (λ k. x (suc k))
+pub shift : (m j : ℕ) (c x : ℕ → ℤ) → products m (j + 1) c x ≡ products m j (λ k. c (suc k)) (λ k. x (suc k))
 shift zero j c x = refl
 shift (suc m) j c x = ap₂ (λ (i : ℕ) (r : ℤ). c i *ℤ x i +ℤ r) (let e : j + 1 ≡ suc j = omega arith in e) (shift m (j + 1) c x)
 
-nowhere : (m j : ℕ) (c : ℕ → ℤ) → products m j c (λ k. pos 0) ≡ pos 0
+pub nowhere : (m j : ℕ) (c : ℕ → ℤ) → products m j c (λ k. pos 0) ≡ pos 0
 nowhere zero j c = refl
 nowhere (suc m) j c = ap₂ (λ p q. p +ℤ q) (*ℤ-zero (c j)) (nowhere m (j + 1) c)
 
@@ -69,7 +67,7 @@ zeros_sum : (m : ℕ) (v : ℕ → ℤ) → over_symbols (replicate m (0, pos 0)
 zeros_sum zero v = refl
 zeros_sum (suc m) v = ap₂ (λ p q. p +ℤ q) (zero-*ℤ (v 0)) (zeros_sum m v)
 
-terms_sum : (o : ℕ) (cs : List ℤ) (k m : ℕ) (v : ℕ → ℤ) → length cs ≤ k → over_symbols (terms_from o cs ++ replicate m (0, pos 0)) v ≡ weighted cs (values_from k o v)
+pub terms_sum : (o : ℕ) (cs : List ℤ) (k m : ℕ) (v : ℕ → ℤ) → length cs ≤ k → over_symbols (terms_from o cs ++ replicate m (0, pos 0)) v ≡ weighted cs (values_from k o v)
 terms_sum o [] k m v h = zeros_sum m v
 terms_sum o (c ∷ cs) zero m v h = absurd (omega (arith, h))
 terms_sum o (c ∷ cs) (suc k) m v h =
@@ -101,7 +99,7 @@ form_number n values a xs cs seven syms few =
 
 -- ---- the value of a trip
 
-quotient_is : (m : ℤ) (b : ℕ) (v : Value) → apply Div (Int m) (Int (pos b)) ≡ Ok v → v ≡ Int (int_div m (pos b))
+pub quotient_is : (m : ℤ) (b : ℕ) (v : Value) → apply Div (Int m) (Int (pos b)) ≡ Ok v → v ≡ Int (int_div m (pos b))
 quotient_is m b v e =
     let p = both_ok (quotient m (pos b)) number v e in
     by (int_eq (pos b) (pos 0)) p.0 p.1 p.2
@@ -155,7 +153,7 @@ held_length [] (i ∷ is) s h = absurd h
 held_length (l ∷ ls) [] s h = absurd h
 held_length (l ∷ ls) (i ∷ is) s h = ap suc (held_length ls is s h.1)
 
-apart_from : (ys : List (List ℕ)) (y : List ℕ) → is_among ys y ≡ false → (z : List ℕ) → In z ys → bytes_eq y z ≡ false
+pub apart_from : (ys : List (List ℕ)) (y : List ℕ) → is_among ys y ≡ false → (z : List ℕ) → In z ys → bytes_eq y z ≡ false
 apart_from [] y h z i = absurd i
 apart_from (x ∷ ys) y h z (inl e) = ap (bytes_eq y) e ∙ (either_false (bytes_eq y x) (is_among ys y) h).0
 apart_from (x ∷ ys) y h z (inr i) = apart_from ys y (either_false (bytes_eq y x) (is_among ys y) h).1 z i

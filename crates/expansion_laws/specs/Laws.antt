@@ -1,5 +1,6 @@
 -- What is known of a prepared nest in which private scalars become arrays.
-use Rattle.std.specs.Prelude.{◌≡◌, Some, ℕ, suc, ℤ, pos, false, if◌then◌else◌, List, [], ◌∷◌, length, map}
+use Rattle.std.specs.Prelude.{◌≡◌, Some, ℕ, suc, ℤ, pos, false, if◌then◌else◌, Contains}
+use Rattle.std.specs.Prelude.{List, [], ◌∷◌, length, map}
 use Rattle.std.specs.Str.{bytes_eq}
 use Rattle.tree.specs.Names.{IsSourceName}
 use Rattle.tree.specs.Plain.{Declaration}
@@ -15,6 +16,7 @@ use Rattle.scalar_expand.specs.Privates.{private_scalars}
 use Rattle.scalar_expand.specs.declared.privates.Private.{Private}
 use Rattle.prepared_nests.specs.Made.{AreOf64Bits}
 use Rattle.prepared_nests.specs.Nests.{IsPrepared}
+use Rattle.prepared_nests.specs.Statements.{made_names}
 
 -- what a symbol holds, where the k-th name, from the j-th on, has the value v k
 abbrev pub value_among : List (List ℕ) → ℕ → (ℕ → ℤ) → List ℕ → ℤ
@@ -25,12 +27,13 @@ abbrev pub counters_of : Nest → List (List ℕ)
 counters_of m = map (λ (l : Loop). l.variable) (nest_loops m)
 
 -- The declarations of the nest have names of the source, and are among those of the program that it is to stand in. No
--- statement has the name of an array that is to be made for a scalar of the source
+-- statement has the name of an array that is to be made for a scalar of the source, and nothing that was made before
 pub record MayBeExpanded (es : List Declaration) (m : Nest) : Type 0 where
   pub among : (x : List ℕ) (d : Declaration) → declared m.declarations x ≡ Some d → declared es x ≡ Some d
   pub source : (x : List ℕ) (d : Declaration) → declared m.declarations x ≡ Some d → IsSourceName x
   pub fresh : (p : Private) → In p (private_scalars m) → IsSourceName p.name → (s : Standing)
       → In s (nest_statements m) → stands_in_statement p.array s.statement ≡ false
+  pub unmade : (p : Private) → In p (private_scalars m) → IsSourceName p.name → ¬ Contains (made_names m) p.array
 
 -- Whatever the symbols' values are, a prepared nest of one loop has what its loops need to go on beside those of the
 -- expanded nest, where arrays are allocated by their extents

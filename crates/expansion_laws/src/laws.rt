@@ -1,5 +1,8 @@
 //! Laws of expanded nests. A law is a function without a body: its contract is what holds.
+ghost use Rattle.expansion_laws.specs.Kept.{ExpandedNestKeepsLoops};
 ghost use Rattle.expansion_laws.specs.Laws.{PreparedNestIsExpandable, PreparedTextsTell};
+ghost use Rattle.expansion_laws.specs.Runs.{PreparedNestRunsExpanded};
+ghost use Rattle.expansion_laws.specs.Sizes.{ExtentTextsHaveNumbers};
 
 /// A prepared nest has what its loops need to go on beside those of the expanded nest.
 pub fn prepared_nest_is_expandable()
@@ -9,4 +12,20 @@ pub fn prepared_nest_is_expandable()
 /// The texts of its trips that are the same in all turns say how often its loops turn.
 pub fn prepared_texts_tell()
     ensures { PreparedTextsTell }
+{}
+
+/// A prepared nest and the expanded one run beside each other, with what stands behind their loops.
+pub fn prepared_nest_runs_expanded()
+    ensures { PreparedNestRunsExpanded }
+{}
+
+/// The loops of a prepared nest stay where they are, and as they are.
+pub fn expanded_nest_keeps_loops()
+    ensures { ExpandedNestKeepsLoops }
+{}
+
+/// The texts of extents that stand on no divided one have the numbers that arrays are allocated by, also where no loop
+/// is entered.
+pub fn extent_texts_have_numbers()
+    ensures { ExtentTextsHaveNumbers }
 {}

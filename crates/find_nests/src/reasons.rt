@@ -11,7 +11,8 @@ use tree::{Memory, Name, Seq, Stmt};
 
 /// Why a loop is kept: it is left, or halts or does input or output; a loop in it stands in an IF or between a GO TO
 /// and its label; a bound isn't linear, or is out of the limits once the loops round it go from 1 by 1; an increment
-/// isn't a suitable constant; too many loops stand in each other; it has too many statements or references.
+/// isn't a suitable constant; too many loops stand in each other; it has too many statements, too many references, or
+/// too many conditions, GO TOs and loops.
 #[derive(Clone, Copy, Debug, PartialEq, Eq)]
 pub enum Reason {
     Exit,

@@ -1,4 +1,4 @@
-pub mod AloneLaws
+pub mod FewOfEach
 pub mod Entries
 pub mod Plain
 pub mod Sources

@@ -1,5 +1,6 @@
-pub mod Alone
+pub mod Counted
 pub mod Laws
+pub mod Listed
 pub mod Listing
 pub mod Passed
 pub mod Sources

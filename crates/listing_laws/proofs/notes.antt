@@ -1,9 +1,7 @@
 pub mod Printable
 pub mod Notes
 pub mod Phrases
-pub mod Found
 pub mod Made
-pub mod Normal
 pub mod Arrays
 pub mod Entries
 pub mod Listed

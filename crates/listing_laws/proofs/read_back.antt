@@ -1,15 +1,7 @@
 pub mod Words
-pub mod Counts
-pub mod Sizes
-pub mod Texts
-pub mod Found
-pub mod Many
 pub mod Made
 pub mod Meetings
 pub mod Arcs
 pub mod Entries
 pub mod Listed
-pub mod Written
-pub mod Resolved
-pub mod Sources
 pub mod SourceListings

@@ -1,30 +1,23 @@
 //! What the listing of a FORTRAN 77 program says can be read back from its lines.
 //!
-//! Proved (laws): from the lines that are listed of a FORTRAN 77 source all their entries are read back, in their order
-//! (`listing_of_source_is_read`), and so from the text of the listing (`listing_text_of_source_is_read`), whose lines
-//! list the program (`listing_text_of_source_lists`): nests, loops, statements, edges with their levels, words and
-//! pairs, drops, holds and kept loops, just as they are in the graphs and holds that the listing is made of. So where
-//! the listings of two sources have the same lines, they have the same entries (`same_lines_list_the_same`). Of a
-//! program as a tree this is so where fewer than 2^31 names stand in it (`listing_of_program_is_read`), as in each
-//! program that is read from a source (`source_is_short`): with more of them a reference might have a number that a
-//! listing doesn't show whole.
+//! Proved (laws): from the lines that are listed of a program of FORTRAN 77 all their entries are read back, in their
+//! order (`listing_of_program_is_read`), so from those of a source (`listing_of_source_is_read`), and from the text of
+//! the listing (`listing_text_of_source_is_read`), whose lines list the program (`listing_text_of_source_lists`):
+//! nests, loops, statements, edges with their levels, words and pairs, drops, holds and kept loops, just as they are in
+//! the graphs and holds that the listing is made of. So where the listings of two sources have the same lines, they
+//! have the same entries (`same_lines_list_the_same`). The numbers of statements and references are counted where a
+//! nest is listed, so a listing shows them whole.
 //!
 //! **The dependence tests** are crates of their own, which `graph` calls. A *pair* is a pair of iterations within the
 //! bounds, related as the directions say, at which both subscripts are equal for some values of the symbols.
-ghost use Rattle.listing_laws.specs.read_back.Laws.{ProgramListingIsRead, SameLinesListTheSame, SourceIsShort};
+ghost use Rattle.listing_laws.specs.read_back.Laws.{ProgramListingIsRead, SameLinesListTheSame};
 ghost use Rattle.listing_laws.specs.read_back.Laws.{SourceListingIsRead, SourceListingTextIsRead};
 ghost use Rattle.listing_laws.specs.read_back.Laws.{SourceListingTextLists};
 
 /// From the lines of a program's listing all its entries are read: its nests with their loops, statements, dependences
-/// and holds, and its kept loops. This is so for each program in which fewer than 2^31 names stand; with more of them a
-/// reference might have a number that a listing doesn't show whole.
+/// and holds, and its kept loops.
 pub fn listing_of_program_is_read()
     ensures { ProgramListingIsRead }
-{}
-
-/// In the program that is read from a FORTRAN 77 source fewer names stand than that.
-pub fn source_is_short()
-    ensures { SourceIsShort }
 {}
 
 /// So from the lines that are listed of a FORTRAN 77 source all their entries are read.

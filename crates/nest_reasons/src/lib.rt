@@ -4,10 +4,10 @@
 //! Proved (`Check::any_in_stmt`): for each flaw, exactly whether a loop, or one in it, has it: it is left, halts or
 //! does input or output; a loop stands in an IF of its body or between a GO TO and its label; a bound isn't linear over
 //! the symbols and the variables of the loops round it; its increment isn't a constant other than 0 of size up to 2^31;
-//! seven loops stand round it. `is_large`: exactly whether it has more than 200 assignments, or more than 400
-//! occurrences of variables other than those of its loops. `symbols_of`: exactly the INTEGER scalars that a loop
-//! doesn't write, in the order of the declarations. `step_of`: the value of a suitable increment, and none exactly
-//! where it isn't one.
+//! seven loops stand round it. `is_large`: exactly whether it has more than 200 assignments, more than 400 occurrences
+//! of variables other than those of its loops, or more than 200 conditions, GO TOs and loops in it together.
+//! `symbols_of`: exactly the INTEGER scalars that a loop doesn't write, in the order of the declarations. `step_of`:
+//! the value of a suitable increment, and none exactly where it isn't one.
 //!
 //! **Bounds under many loops.** A linear form has at most seven loops. Those counted are the loop variables that stand
 //! in the bound as it is written, so a bound under eight loops of which it names two is linear or not by these two. A
@@ -18,6 +18,10 @@
 //!
 //! **DO variables in the size of a loop.** The variables of the loop looked at and of the loops in it don't count; the
 //! variable of a loop round it does.
+//!
+//! **Conditions, GO TOs and inner loops count together**, since masks over the jumps that are under way make text that
+//! is quadratic in their number, and an inner loop whose variable is read behind it has its last value written in
+//! place.
 //!
 //! **Flaws of loops, and limits that loops leave, are looked for by two walks.** Both go down the statements alike; but
 //! to what is within a loop one hands its variable and the other its form, which it has to make and to keep small, so

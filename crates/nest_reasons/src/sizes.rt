@@ -1,22 +1,27 @@
-//! How large a loop is: assignments, and occurrences of variables other than those of loops.
+//! How large a loop is: assignments, occurrences of variables other than those of loops, conditions, GO TOs and loops.
 ghost use Rattle.std.specs.Prelude.{◌≡◌, ◌++◌, ◌∷◌, [], length, map, OnOk, IfOk};
 ghost use Rattle.std.specs.List.{flat_map, filter, list_any};
 ghost use Rattle.tree.specs.View.{expression_of, reference_of, statement_of, tested_of, block_of};
 ghost use Rattle.meaning.specs.Reads.{names_in, names_in_subscripts};
 ghost use Rattle.nest_reasons.specs.Sizes.{occurrences, pieces_in, pieces_in_block, is_assignment};
 ghost use Rattle.nest_reasons.specs.Arms.{pieces_in_arm};
-ghost use Rattle.nest_reasons.specs.Sizes.{turns_with, is_loop, is_counted, is_over, is_large};
+ghost use Rattle.nest_reasons.specs.Sizes.{turns_with, is_branching, is_loop, is_counted, is_over, is_large};
 
 use rewrite::{names_in_expr, names_in_ref};
 use std::alloc::Global;
 use tree::{Arm, Block, Expr, Memory, NEST_REFERENCES, NEST_STATEMENTS, Name, Ref, Seq, Stmt};
 
-/// What counts towards the size of a loop: a name that stands in it, an assignment, a loop with its variable.
+// Conditions, GO TOs and loops in the outermost loop of a nest, together.
+const NEST_BRANCHES: usize = 200;
+
+/// What counts towards the size of a loop: a name that stands in it, an assignment, a loop with its variable, a
+/// condition or a GO TO.
 #[derive(Clone, Copy, Debug)]
 pub enum Piece {
     Occurs(Name),
     Assigns,
     Turns(Name),
+    Branches,
 }
 
 /// Pieces in the order of the text.
@@ -97,7 +102,7 @@ impl Pieces {
                 self.add_block(alloc, body)
             }
             Stmt::Label { .. } => Ok(()),
-            Stmt::Go { .. } => Ok(()),
+            Stmt::Go { .. } => self.note(Piece::Branches),
             Stmt::Stop { .. } => Ok(()),
             Stmt::Read { .. } => Ok(()),
             Stmt::Print { .. } => Ok(()),
@@ -121,6 +126,7 @@ impl Pieces {
     fn add_arm(&mut self, alloc: Global, arm: &Arm) -> Result<(), Memory>
         ensures { OnOk result (self.new.list ≡ self.old.list ++ pieces_in_arm (tested_of arm.now)) }
     {
+        self.note(Piece::Branches)?;
         self.add_expr(alloc, &arm.test)?;
         self.add_block(alloc, &arm.body)
     }
@@ -152,6 +158,7 @@ impl Piece {
             Piece::Occurs(_) => false,
             Piece::Assigns => true,
             Piece::Turns(_) => false,
+            Piece::Branches => false,
         }
     }
 
@@ -162,6 +169,7 @@ impl Piece {
             Piece::Occurs(_) => false,
             Piece::Assigns => false,
             Piece::Turns(variable) => *variable == name,
+            Piece::Branches => false,
         }
     }
 
@@ -172,6 +180,18 @@ impl Piece {
             Piece::Occurs(_) => false,
             Piece::Assigns => false,
             Piece::Turns(_) => true,
+            Piece::Branches => false,
+        }
+    }
+
+    fn is_branching(&self) -> bool
+        ensures { result ≡ is_branching self.now }
+    {
+        match self {
+            Piece::Occurs(_) => false,
+            Piece::Assigns => false,
+            Piece::Turns(_) => true,
+            Piece::Branches => true,
         }
     }
 
@@ -183,6 +203,7 @@ impl Piece {
             Piece::Occurs(name) => !is_variable(loops, *name),
             Piece::Assigns => false,
             Piece::Turns(_) => false,
+            Piece::Branches => false,
         }
     }
 }
@@ -193,10 +214,11 @@ fn is_variable(loops: &[Piece], name: Name) -> bool
     loops.iter().any(|piece| piece.turns_with(name))
 }
 
-fn is_over(assignments: usize, references: usize) -> bool
-    ensures { result ≡ is_over assignments references }
+// The loop itself is one of the loops that are counted.
+fn is_over(assignments: usize, references: usize, branchings: usize) -> bool
+    ensures { result ≡ is_over assignments references branchings }
 {
-    assignments > NEST_STATEMENTS || references > NEST_REFERENCES
+    assignments > NEST_STATEMENTS || references > NEST_REFERENCES || branchings > NEST_BRANCHES + 1
 }
 
 fn assignments(pieces: &[Piece]) -> usize
@@ -205,6 +227,18 @@ fn assignments(pieces: &[Piece]) -> usize
     let mut count = 0;
     for i in 0..pieces.len() {
         if pieces[i].is_assignment() {
+            count += 1;
+        }
+    }
+    count
+}
+
+fn branchings(pieces: &[Piece]) -> usize
+    ensures value { result ≡ length (filter is_branching pieces.now) }
+{
+    let mut count = 0;
+    for i in 0..pieces.len() {
+        if pieces[i].is_branching() {
             count += 1;
         }
     }
@@ -247,10 +281,10 @@ fn pieces_of(alloc: Global, stmt: &Stmt) -> Result<Seq<Piece>, Memory>
 
 fn is_over_among(pieces: &[Piece], loops: &Seq<Piece>) -> bool
     ensures { result ≡ is_over (length (filter is_assignment pieces.now))
-        (length (filter (is_counted loops.now) pieces.now)) }
+        (length (filter (is_counted loops.now) pieces.now)) (length (filter is_branching pieces.now)) }
 {
     let occurrences = references(pieces, loops.as_slice());
-    is_over(assignments(pieces), occurrences)
+    is_over(assignments(pieces), occurrences, branchings(pieces))
 }
 
 fn is_large_among(alloc: Global, pieces: &[Piece]) -> Result<bool, Memory>
@@ -260,9 +294,9 @@ fn is_large_among(alloc: Global, pieces: &[Piece]) -> Result<bool, Memory>
     Ok(is_over_among(pieces, &loops))
 }
 
-/// Whether a loop has too many assignments, or too many occurrences of variables other than those of its loops: in left
+/// Whether a loop has too many assignments; or too many occurrences of variables other than those of its loops: in left
 /// sides, right sides, subscripts, conditions and bounds of loops, where an element counts and what stands in its
-/// subscripts for itself.
+/// subscripts for itself; or too many conditions, GO TOs and loops in it together, where ELSE and labels don't count.
 pub fn is_large(alloc: Global, stmt: &Stmt) -> Result<bool, Memory>
     ensures { IfOk result (λ large. large ≡ is_large (pieces_in (statement_of stmt.now))) }
 {

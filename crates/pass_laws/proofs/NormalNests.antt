@@ -7,3 +7,4 @@ pub mod LastForms
 pub mod Names
 pub mod Alone
 pub mod There
+pub mod Form

@@ -54,14 +54,15 @@
 //!
 //! - **pass_laws::normal_nests** (law): `normalise` gives a nest for each nest that was found in a program of the
 //!   profile (`normalised_nest`): where no reason holds against a loop the forms of it and of the loops in it are
-//!   within the limits, and the last value of the outermost variable stands after the nest.
+//!   within the limits, and the last value of the outermost variable stands after the nest. So its body is one loop
+//!   again (`found_nest_has_normal_form`).
 //!
 //! **pass_laws::found_sources** (laws): a found nest of loops and statements alone is one of which
 //! `pass_laws::normal_runs` speaks (`found_nest_is_source`); no IF, label, jump or guard has gone or come as its loops
 //! were made to go from 1 by 1 (`normal_nest_is_plain`).
 //!
-//! **pass_laws::listed_nests** (laws): what is listed of a nest is its nest with loops from 1 by 1, but for what stands
-//! behind it, where that has loops and statements alone (`normal_nest_is_listed`); nothing else is
+//! **pass_laws::listed_nests** (laws): the loops that are listed of a nest are those of its nest with loops from 1 by
+//! 1, with all that stands in them, but for what stands behind the nest (`normal_nest_is_listed`); no others are
 //! (`listed_nest_is_normal`), so there is one list of loops with their trips, and one of statements
 //! (`listed_nest_is_one`).
 //!

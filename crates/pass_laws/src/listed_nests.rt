@@ -1,7 +1,7 @@
 //! What a nest is listed as.
 ghost use Rattle.pass_laws.specs.listed_nests.Laws.{ListedNestIsNormal, ListedNestIsOne, NormalNestIsListed};
 
-/// The nest with loops from 1 by 1 of a nest is what is listed of it, where it has loops and statements alone.
+/// The nest with loops from 1 by 1 of a nest is what is listed of it.
 #[tactic(auto, using(crate::proofs::ListedNests::ListedNests::normal_nest_is_listed))]
 pub fn normal_nest_is_listed()
     ensures { NormalNestIsListed }

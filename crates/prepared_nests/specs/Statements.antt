@@ -1,18 +1,20 @@
 -- Statements of a nest, each in the loops round it.
 use Rattle.std.specs.Prelude.{◌≡◌, ◌⊎◌, ℕ, ◌≤◌, ◌<◌, ◌^◌, Option, Some, None, IfSome, All, Contains}
 use Rattle.std.specs.Prelude.{List, [], ◌∷◌, ◌++◌, map}
+use Rattle.std.specs.Option.{option_map}
 use Rattle.tree.specs.Names.{IsSourceName}
-use Rattle.tree.specs.Plain.{Declaration, Expression, no_subscripts}
+use Rattle.tree.specs.Plain.{Declaration, Expression}
 use Rattle.tree.specs.declared.ops.Kind.{Kind}
 use Rattle.tree.specs.declared.ops.Kind.TheVariants.{Logical}
 use Rattle.meaning.specs.Labels.{IsLine}
 use Rattle.meaning.specs.Depths.{depth_of}
+use Rattle.meaning.specs.Reads.{names_in}
 use Rattle.meaning.specs.Typed90.{IsScalar}
 use Rattle.meaning.specs.Value.{named}
+use Rattle.rewrite.specs.Making.{made, made_subscripts}
 use Rattle.linear_forms.specs.Canonical.{canonising}
 use Rattle.nest.specs.Bodies.{Standing}
 use Rattle.nest.specs.Plain.{Guarded, Loop, Made, Nest}
-use Rattle.nest_rewrite.specs.Statements.{rewritten_statement}
 use Rattle.nest_order.specs.runs.Guarded as runs
 use Rattle.nest_order.specs.runs.Guarded.{names_of}
 use Rattle.nest_order.specs.runs.Touched.{IsPlainAssignment}
@@ -43,6 +45,16 @@ IsOwn ls x = (k : ℕ) → k < 2 ^ 32 → x ≡ counter_name k → Contains (num
 abbrev pub made_names : Nest → List (List ℕ)
 made_names m = map (λ (a : Made). a.name) m.made
 
+-- ---- canonical text
+
+-- Over these loops and symbols canonical text leaves the statement as it is, but maybe for a right side in which
+-- nothing stands but these, as last values of loops are written
+pub record IsCanonical (loops symbols : List (List ℕ)) (g : Guarded) : Type 0 where
+  pub guard : option_map (made (canonising loops symbols)) g.guard ≡ g.guard
+  pub left : made_subscripts (canonising loops symbols) g.left.subscripts ≡ g.left.subscripts
+  pub right : (made (canonising loops symbols) g.right ≡ g.right)
+      ⊎ All (Contains (loops ++ symbols)) (names_in g.right)
+
 -- ---- statements
 
 -- An assignment of scalars of one kind by the declarations, maybe under a scalar condition. What it writes is a name of
@@ -58,6 +70,4 @@ pub record IsPreparedStatement (es : List Declaration) (m : Nest) (deepest : ℕ
   pub right : IsScalar es x.statement.right kind
   pub guard : IfSome x.statement.guard (λ (e : Expression). IsScalar es e Logical)
   pub deep : All (λ (e : Expression). depth_of e ≤ deepest) (expressions_of x.statement)
-  -- where it writes an element, canonical text leaves it as it is
-  pub canonical : (x.statement.left.subscripts ≡ no_subscripts)
-      ⊎ (rewritten_statement (canonising (variables_of_loops x.loops) m.symbols) x.statement ≡ x.statement)
+  pub canonical : IsCanonical (variables_of_loops x.loops) m.symbols x.statement

@@ -1,5 +1,5 @@
 -- Statements behind a block.
-use Rattle.std.proofs.Common.{◌≡◌, List, ◌++◌, map, ap, ◌∙◌, sym}
+use Rattle.std.proofs.Common.{◌≡◌, List, ◌++◌, map, ap, ◌∙◌}
 use Rattle.tree.specs.Plain as P
 use Rattle.tree.specs.View.{block_of, statement_of}
 use Rattle.tree.specs.declared.stmts.Block.{Block, roll-Block}

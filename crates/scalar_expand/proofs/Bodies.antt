@@ -1,38 +1,35 @@
 -- The loops of a nest lead to those of the expanded nest.
 use Rattle.std.proofs.lemmas.List.{append-nil}
-use Rattle.std.proofs.Common.{append_assoc, ◌≡◌, refl, sym, ap, ap₂, ◌∙◌, ◌⊎◌, inl, inr, subst, ℕ, zero, suc, ◌+◌, ◌≤◌, ℤ, pos, Bool, true, false, not, ◌&&◌, cond, List, [], ◌∷◌, ◌++◌, map, arith, Ok, Option, Some, None}
-use Rattle.std.specs.List.{AllByRecursion}
+use Rattle.std.proofs.Common.{append_assoc, ◌≡◌, refl, sym, ap, ap₂, ◌∙◌, ◌⊎◌, inl, inr, subst, ℕ, zero, suc, ◌+◌, ◌≤◌, ℤ, pos, Bool, true, false, not, ◌&&◌, cond, List, [], ◌∷◌, ◌++◌, map, arith, Option, Some, None}
 use Rattle.std.specs.Str.{bytes_eq}
 use Rattle.std.proofs.lemmas.Bool.{eq-eqb}
 use Rattle.std.proofs.lemmas.Slice.Eq.{bytes_eq-Decides}
 use Rattle.tree.specs.Plain.{Expression, Number, Do}
 use Rattle.tree.specs.declared.ops.Value.TheVariants.{Int}
 use Rattle.meaning.specs.Reads.{names_in}
-use Rattle.meaning.specs.Store.{Store, Cell, cell_at}
-use Rattle.meaning.specs.Value.{is_in_range, number_of, numbered, trip_count, value_of}
+use Rattle.meaning.specs.Store.{Store}
+use Rattle.meaning.specs.Value.{is_in_range, numbered}
 use Rattle.meaning.specs.Run.{Act, State, nothing, does, does_all}
 use Rattle.rewrite.specs.Following.{sequential}
 use Rattle.rewrite.proofs.Acts.{Stays-does_all, Stays-nothing}
 use Rattle.nest.specs.Blocks.{block_of_parts, guarded_statement, numeral, statement_of_part}
-use Rattle.nest.specs.Plain.{Guarded, Loop, Part, Run, Turns, Choice, Label, Jump, Parts, no_parts, part, parts}
+use Rattle.nest.specs.Plain.{Loop, Part, Run, Turns, Choice, Label, Jump, Parts, no_parts, part, parts}
 use Rattle.nest_order.specs.orders.Lists.{Each, In}
 use Rattle.nest_order.proofs.orders.Lists.{Each-In, In-append, In-left, In-right}
 use Rattle.nest_order.proofs.runs.Alike.{Alike, value_alike}
 use Rattle.nest_order.proofs.runs.Results.{each_of}
 use Rattle.nest_order.proofs.runs.Variables.{cell_name}
 use Rattle.nest_steps.specs.Leading.{Led, Leads}
-use Rattle.nest_steps.specs.Rounds.{Hold}
 use Rattle.nest_steps.specs.Statements.{cell_of}
-use Rattle.nest_steps.proofs.Acts.{Goes, Leads-from, Leads-nothing, Leads-second, Leads-then, Leads-to}
+use Rattle.nest_steps.proofs.Acts.{Goes, Leads-from, Leads-nothing, Leads-second, Leads-then}
 use Rattle.nest_steps.proofs.Loops.{Counts as Counting, Leads-loops}
 use Rattle.nest_steps.proofs.Mapped.{does_joined}
 use Rattle.nest_steps.proofs.Rounds.{hold_less}
 use Rattle.scalar_expand.specs.Expanded.{copied, copies_in, expanded_part, expanded_parts, expanding, has_known_end, is_copied_in, is_innermost, named_private}
-use Rattle.scalar_expand.specs.Flow.{AreOfLoop, AreOthers, AreTurns, Begins, Counts, CountsAnew, lasts_of, Flows, FlowsIn, GoesOn}
+use Rattle.scalar_expand.specs.Flow.{AreOfLoop, AreOthers, AreTurns, Counts, CountsAnew, lasts_of, Flows, FlowsIn}
 use Rattle.scalar_expand.specs.Privates.{round_loop}
 use Rattle.scalar_expand.specs.Stores.{AreApart, AreBeside, AreSo, Begun, IsFront, IsPassed, all_at, arrays, element_cell, numbers}
 use Rattle.scalar_expand.specs.declared.privates.Private.{Private}
-use Rattle.scalar_expand.specs.declared.privates.RoundLoop.{RoundLoop}
 use Rattle.meaning.specs.Store.{is_within}
 use Rattle.scalar_expand.proofs.Changes.{entered, found, left_behind, none_some, one_name}
 use Rattle.scalar_expand.proofs.Statements.{begin_leads, begun_at, begun_in, copy_goes, scalars_of, statement_leads, Gone}

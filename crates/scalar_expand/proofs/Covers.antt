@@ -2,38 +2,35 @@
 use mathlib.Core.Path.{ap₂}
 use mathlib.Core.List.{reverse_aux}
 use Rattle.std.proofs.lemmas.List.{append-nil}
-use Rattle.std.proofs.Common.{append_assoc, ◌≡◌, refl, sym, ap, ◌∙◌, ◌⊎◌, inl, inr, subst, ℕ, zero, suc, ◌+◌, ◌*◌, ◌/◌, ◌%◌, ◌≤◌, ◌<◌, ℤ, pos, negsuc, ◌+ℤ◌, ◌*ℤ◌, ◌≤ℤ◌, ◌<ℤ◌, Bool, true, false, cond, ◌&&◌, List, [], ◌∷◌, ◌++◌, map, reverse, length, get_or, Option, Some, None, arith}
-use Rattle.std.specs.Prelude.{int_div, int_le, int_lt, int_rem, nat_le, nat_lt, neg_ℤ, unsigned_abs, ◌==◌, is_some}
+use Rattle.std.proofs.Common.{append_assoc, ◌≡◌, refl, sym, ap, ◌∙◌, subst, ℕ, zero, suc, ◌+◌, ◌*◌, ◌/◌, ◌≤◌, ◌<◌, ℤ, pos, negsuc, ◌+ℤ◌, ◌*ℤ◌, ◌≤ℤ◌, Bool, true, false, cond, ◌&&◌, List, [], ◌∷◌, ◌++◌, map, reverse, length, get_or, Option, Some, None, arith}
+use Rattle.std.specs.Prelude.{int_div, int_le, int_lt, int_rem, nat_le, nat_lt, neg_ℤ, unsigned_abs, ◌==◌}
 use Rattle.std.specs.List.{list_all}
 use Rattle.std.proofs.lemmas.Bool.{le-leb, leb-true, lt-ltb, ltb-true, ltb-false, ne_eqb}
 use Rattle.std.proofs.lemmas.Bool.Decides.{Decides-int_eq}
 use Rattle.std.proofs.lemmas.Int.{ints, quot-rem, rem_below}
-use Rattle.std.proofs.lemmas.Nat.{div-add-mod', le-div, mul-le}
+use Rattle.std.proofs.lemmas.Nat.{div-add-mod', le-div}
 use Rattle.std.proofs.Math.IntN.{zero-*ℤ, *ℤ-zero}
 use Rattle.tree.specs.Limits.{array_dimensions}
 use Rattle.linear_forms.proofs.Ring.{spread, spread_left}
 use Rattle.linear_forms.proofs.Sizes.{both}
 use Rattle.meaning.specs.Store.{is_within}
-use Rattle.nest.specs.Plain.{Loop, Nest}
+use Rattle.nest.specs.Plain.{Loop}
 use Rattle.nest.specs.Bodies.{nest_statements}
 use Rattle.nest.specs.declared.parts.Trip.{Trip}
-use Rattle.nest_order.specs.orders.Lists.{In}
 use Rattle.subscripts.specs.declared.affine.Affine.{Affine}
 use Rattle.last_values.specs.declared.normal_forms.combinations.Multiple.{Multiple}
 use Rattle.last_values.specs.declared.normal_forms.places.Place.TheVariants as place
 use Rattle.last_values.specs.normal_forms.Steps.{◌>>=◌}
-use Rattle.last_values.specs.normal_forms.Combinations.{at, coefficient_in, combination, number_form, no_symbols, times, without_loops, zero_loops}
+use Rattle.last_values.specs.normal_forms.Combinations.{at, coefficient_in, combination, number_form, no_symbols, times, without_loops}
 use Rattle.last_values.specs.normal_forms.NormalLoops.{has_no_loops, has_no_symbols, is_constant, is_undivided, is_unused, is_zero, loop_form, one_at, trip_of}
 use Rattle.last_values.specs.normal_forms.Numbers.{number_of_form, products, sum_of_numbers, trip_number}
 use Rattle.last_values.proofs.NormalForms.Numbers.{combination_has_number, none_among_zeros, places_of, products-alike, products-zero}
 use Rattle.scalar_expand.specs.Extents.{are_counted, are_few, are_within, extent_form, extent_under, extents_of, extents_under, greatest, greatest_from, if_few}
 use Rattle.scalar_expand.specs.Flow.{AreTurns}
-use Rattle.scalar_expand.specs.Laws.{Cover}
 use Rattle.scalar_expand.specs.Numbers.{ExtentsCover, at_loops, from_place, limits_of, number_under, numbers_under, trip_at, turns_to}
-use Rattle.scalar_expand.specs.Privates.{names_written, private_scalars, round_loop, trip_or_none, trips_of}
+use Rattle.scalar_expand.specs.Privates.{names_written, round_loop, trip_or_none, trips_of}
 use Rattle.scalar_expand.specs.Stores.{numbers}
 use Rattle.scalar_expand.specs.declared.privates.Private.{Private}
-use Rattle.scalar_expand.specs.declared.privates.RoundLoop.{RoundLoop}
 use Rattle.scalar_expand.proofs.PrivateLaws.{first_begins, has_first}
 use Rattle.scalar_expand.proofs.Theorems.{in_privates}
 

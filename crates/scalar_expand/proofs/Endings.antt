@@ -1,19 +1,19 @@
 -- The last values behind the loops of an expanded nest.
-use Rattle.std.proofs.Common.{◌≡◌, refl, sym, ap, ap₂, ◌∙◌, ◌⊎◌, inl, inr, subst, ℕ, zero, suc, ◌+◌, ◌≤◌, ℤ, pos, negsuc, Bool, true, false, not, ◌&&◌, cond, List, [], ◌∷◌, ◌++◌, map, reverse, arith, Result, Ok, Option, Some, None}
+use Rattle.std.proofs.Common.{◌≡◌, refl, sym, ap, ap₂, ◌∙◌, ◌⊎◌, inl, inr, subst, ℕ, zero, suc, ◌+◌, ◌≤◌, ℤ, pos, negsuc, Bool, true, false, ◌&&◌, cond, List, [], ◌∷◌, ◌++◌, map, arith, Result, Ok, Some, None}
 use mathlib.Core.List.{reverse_aux}
 use Rattle.std.specs.Prelude.{int_le}
 use Rattle.std.proofs.lemmas.Bool.{le-leb}
 use Rattle.tree.specs.Steps as results
 use Rattle.tree.specs.Steps.{◌>>=◌}
 use Rattle.tree.specs.Operators.{apply, as_number, as_truth}
-use Rattle.tree.specs.Plain.{Expression, Binary, If, arm, no_arms, Block, Named, no_statements, Only, Statement, Subscript, Subscripts, subscripts, block}
+use Rattle.tree.specs.Plain.{Expression, Binary, If, arm, no_arms, Block, no_statements, Statement, Subscript, subscripts, block}
 use Rattle.tree.specs.declared.ops.Fault.{Fault}
 use Rattle.tree.specs.declared.ops.Op.TheVariants.{And, Ge}
 use Rattle.tree.specs.declared.ops.Value.{Value}
 use Rattle.tree.specs.declared.ops.Value.TheVariants.{Int, Truth}
 use Rattle.meaning.specs.Run.{Act, State, Going, does, does_all, either, nothing, while_going, evaluates, counts_step}
 use Rattle.meaning.specs.Store.{Store, Cell, cell_at, is_within}
-use Rattle.meaning.specs.Value.{cell_named, is_in_range, subscript_value, subscript_values, truth_of, value_of}
+use Rattle.meaning.specs.Value.{is_in_range, subscript_value, subscript_values, truth_of, value_of}
 use Rattle.rewrite.specs.Following.{sequential}
 use Rattle.nest.specs.Bodies.{nest_statements}
 use Rattle.nest.specs.Plain.{Loop, Nest}
@@ -23,17 +23,17 @@ use Rattle.nest_steps.specs.Leading.{Led}
 use Rattle.nest_steps.specs.Statements.{cell_of}
 use Rattle.nest_steps.proofs.Acts.{Goes}
 use Rattle.nest_steps.proofs.Assigning.{second_assignment}
-use Rattle.last_values.specs.Endings.{all_hold, only_where, where_all_hold}
+use Rattle.last_values.specs.Endings.{all_hold, where_all_hold}
 use Rattle.last_values.specs.Scalars.{scalar}
 use Rattle.last_values.specs.normal_forms.NormalLoops.{is_positive}
 use Rattle.last_values.specs.normal_forms.Texts.{at_least_one}
-use Rattle.scalar_expand.specs.Endings.{AreSettled, HoldSymbols, LastValuesGoOn, TellTurns}
+use Rattle.scalar_expand.specs.Endings.{HoldSymbols, LastValuesGoOn, TellTurns}
 use Rattle.scalar_expand.specs.Expanded.{as_expression, has_known_end, known_trip, known_trip_at, last_assignment, last_element, last_value, last_values, trip_tests}
 use Rattle.scalar_expand.specs.Flow.{AreTurns, lasts_of}
-use Rattle.scalar_expand.specs.Laws.{AreAlike, IsExpandable, IsKept, own_of}
+use Rattle.scalar_expand.specs.Laws.{IsKept, own_of}
 use Rattle.scalar_expand.specs.Numbers.{turns_to}
-use Rattle.scalar_expand.specs.Privates.{names_written, private_among, private_scalar, private_scalars, round_loop}
-use Rattle.scalar_expand.specs.Stores.{AreApart, AreSo, Begun, IsFront, all_at, element_cell, numbers}
+use Rattle.scalar_expand.specs.Privates.{names_written, private_among, private_scalars, round_loop}
+use Rattle.scalar_expand.specs.Stores.{AreApart, AreSo, IsFront, all_at, element_cell, numbers}
 use Rattle.scalar_expand.specs.declared.privates.Private.{Private}
 use Rattle.scalar_expand.specs.declared.privates.RoundLoop.{RoundLoop}
 use Rattle.scalar_expand.proofs.Bodies.{Goes-nothing, Goes-then, Goes-to, tagged}

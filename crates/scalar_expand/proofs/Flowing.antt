@@ -1,26 +1,21 @@
 -- Private scalars begin along the text of a nest.
-use Rattle.std.proofs.Common.{append_assoc, arith, length, length-append, ◌≡◌, refl, sym, ap, ap₂, ◌∙◌, ◌⊎◌, inl, inr, subst, ℕ, ℤ, Bool, true, false, ◌||◌, cond, List, [], ◌∷◌, ◌++◌, map, Option, Some, None}
-use Rattle.std.specs.Prelude.{◌==◌}
+use Rattle.std.proofs.Common.{append_assoc, arith, length, length-append, ◌≡◌, refl, sym, ap, ◌∙◌, ◌⊎◌, inl, inr, subst, ℕ, ℤ, Bool, true, false, ◌||◌, List, [], ◌∷◌, ◌++◌, map, Option, Some, None}
 use Rattle.std.specs.List.{list_any}
 use Rattle.std.proofs.lemmas.Bool.{eqb-true}
 use Rattle.std.proofs.lemmas.List.{append-nil}
-use Rattle.meaning.specs.Reads.{names_in, names_in_subscripts}
 use Rattle.nest.specs.Bodies.{Standing, loops_in_parts, loops_of, nest_statements, statements_in, statements_in_parts}
 use Rattle.nest.specs.Plain.{Guarded, Loop, Nest, Part, Run, Turns, Choice, Label, Jump, Parts, no_parts, part}
 use Rattle.nest_order.specs.orders.Lists.{In}
 use Rattle.nest_order.proofs.orders.Lists.{Each-In, Each-from, In-append, In-left, In-right}
-use Rattle.nest_order.specs.runs.Guarded.{names_of_guard}
-use Rattle.nest_order.specs.runs.Touched.{ArePlain, IsPlain, IsPlainGuard}
 use Rattle.last_values.specs.Occurrences.{stands_in_statement}
 use Rattle.last_values.specs.Scalars.{scalar}
 use Rattle.scalar_expand.specs.Expanded.{is_innermost, named_private}
-use Rattle.scalar_expand.specs.Flow.{Begins, Counts, EachLoop, EachLoopIn, Fits, Flows, FlowsIn, GoesOn, MayBeRead}
+use Rattle.scalar_expand.specs.Flow.{Counts, EachLoop, EachLoopIn, Fits, Flows, FlowsIn, MayBeRead}
 use Rattle.scalar_expand.specs.Privates.{private_among, round_loop}
-use Rattle.scalar_expand.specs.Stores.{arrays}
 use Rattle.scalar_expand.specs.declared.privates.Private.{Private}
 use Rattle.scalar_expand.specs.declared.privates.RoundLoop.{RoundLoop}
 use Rattle.scalar_expand.proofs.Changes.{found, none_some, some_same}
-use Rattle.scalar_expand.proofs.PrivateLaws.{Anew, First, Over, Stands, StandsInNone, first_begins, further_stays, has_first, in_guard, in_left, in_middle, in_right, numbers_of, numbers_round}
+use Rattle.scalar_expand.proofs.PrivateLaws.{Anew, Stands, StandsInNone, first_begins, further_stays, has_first, in_guard, in_left, in_middle, in_right, numbers_of, numbers_round}
 
 -- ---- whether a name stands in one of some statements
 

@@ -13,6 +13,6 @@ mod KindLaws
 pub mod PrivateLaws
 mod Flowing
 pub mod Covers
-mod Endings
+pub mod Endings
 pub mod Trips
 mod Worked

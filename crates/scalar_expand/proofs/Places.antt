@@ -1,9 +1,9 @@
 -- Where elements are, and what they hold.
-use Rattle.std.proofs.Common.{◌≡◌, refl, sym, ap, ap₂, ◌∙◌, subst, ℕ, suc, ℤ, pos, Bool, true, false, cond, List, [], ◌∷◌, map, reverse, Result, Ok, Err, Option, Some, None}
+use Rattle.std.proofs.Common.{◌≡◌, refl, ap, ap₂, ◌∙◌, ℕ, ℤ, pos, true, cond, List, [], ◌∷◌, map, Result, Ok, Err, Some}
 use mathlib.Core.List.{reverse_aux}
 use Rattle.tree.specs.Steps.{◌>>=◌}
 use Rattle.tree.specs.Operators.{as_number}
-use Rattle.tree.specs.Plain.{Expression, Named, Only, Subscript, Subscripts, no_subscripts, subscript, subscripts}
+use Rattle.tree.specs.Plain.{Named, Subscript, no_subscripts, subscripts}
 use Rattle.tree.specs.declared.ops.Fault.{Fault}
 use Rattle.tree.specs.declared.ops.Fault.TheVariants.{Bounds}
 use Rattle.tree.specs.declared.ops.Value.{Value}

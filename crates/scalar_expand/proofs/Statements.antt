@@ -1,21 +1,21 @@
 -- A statement leads to what becomes of it.
-use Rattle.std.proofs.Common.{◌≡◌, refl, sym, ap, ap₂, ◌∙◌, ◌⊎◌, inl, inr, subst, ℕ, ℤ, Bool, true, false, cond, List, [], ◌∷◌, map, Result, Ok, Err, Option, Some, None}
+use Rattle.std.proofs.Common.{◌≡◌, refl, sym, ap, ap₂, ◌∙◌, ◌⊎◌, inl, inr, subst, ℕ, ℤ, Bool, true, List, [], ◌∷◌, map, Result, Ok, Option, Some, None}
 use Rattle.tree.specs.Steps.{◌>>=◌}
 use Rattle.tree.specs.Operators.{as_truth}
-use Rattle.tree.specs.Plain.{Expression, Reference, Subscripts, no_subscripts, subscript, Named, Assignment, If, arm, no_arms, statement, no_statements}
+use Rattle.tree.specs.Plain.{Expression, Reference, Subscripts, no_subscripts, subscript, Assignment, statement, no_statements}
 use Rattle.tree.specs.declared.ops.Fault.{Fault}
 use Rattle.tree.specs.declared.ops.Value.{Value}
 use Rattle.meaning.specs.Reads.{names_in, names_in_subscripts}
 use Rattle.meaning.specs.Store.{Store, Cell, put, cell_at, cell_in, is_within}
 use Rattle.meaning.specs.Value.{value_of, truth_of, cell_named, subscript_value, subscript_values, is_in_range}
-use Rattle.meaning.specs.Run.{nothing, does}
+use Rattle.meaning.specs.Run.{does}
 use Rattle.rewrite.specs.Following.{sequential}
 use Rattle.rewrite.specs.Making.{made, made_left, made_subscripts}
 use Rattle.nest.specs.Blocks.{guarded_statement}
 use Rattle.nest.specs.Plain.{Guarded, Loop}
 use Rattle.nest_order.specs.orders.Lists.{In}
 use Rattle.nest_order.specs.runs.Touched.{ArePlain, IsPlain}
-use Rattle.nest_order.proofs.runs.Results.{both_ok, ok_same}
+use Rattle.nest_order.proofs.runs.Results.{both_ok}
 use Rattle.nest_order.proofs.runs.Variables.{cell_name, place_of, scalar_place}
 use Rattle.nest_rewrite.specs.Statements.{rewritten_statement}
 use Rattle.nest_steps.specs.Leading.{Leads}
@@ -30,7 +30,7 @@ use Rattle.scalar_expand.specs.Privates.{round_loop}
 use Rattle.scalar_expand.specs.Stores.{AreApart, AreBeside, AreSo, AreTurned, Begun, IsElement, arrays, element_cell, numbers}
 use Rattle.scalar_expand.specs.declared.privates.Private.{Private}
 use Rattle.scalar_expand.specs.declared.privates.RoundLoop.{RoundLoop}
-use Rattle.scalar_expand.proofs.Changes.{copied_back, found, given, none_some, one_name, other_put, some_same}
+use Rattle.scalar_expand.proofs.Changes.{copied_back, found, given, other_put}
 use Rattle.scalar_expand.proofs.Places.{element_place, element_value}
 use Rattle.scalar_expand.proofs.Values.{ReadsAs, Reads, scalar_only, subscripts_made, value_made}
 

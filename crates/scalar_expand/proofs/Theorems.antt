@@ -1,23 +1,23 @@
 -- The expanded loop goes on beside the loop.
-use Rattle.std.proofs.Common.{◌≡◌, ◌∙◌, refl, sym, ap, inl, inr, subst, ℕ, List, [], ◌∷◌, ◌++◌, map, Option, Some, None}
+use Rattle.std.proofs.Common.{◌≡◌, ◌∙◌, refl, sym, ap, inl, inr, subst, ℕ, ℤ, List, [], ◌∷◌, ◌++◌, Option, Some, None}
 use Rattle.tree.specs.Plain.{Declaration}
 use Rattle.meaning.specs.Run.{does}
 use Rattle.meaning.specs.Store.{Store}
 use Rattle.rewrite.specs.Following.{sequential}
 use Rattle.nest.specs.Blocks.{statement_of_part}
 use Rattle.nest.specs.Bodies.{nest_statements, statements_in}
-use Rattle.nest.specs.Plain.{Nest, Part, Run, Turns, Choice, Label, Jump}
+use Rattle.nest.specs.Plain.{Loop, Nest, Part, Run, Turns, Choice, Label, Jump}
 use Rattle.nest_rewrite.specs.Assembled.{with_parts}
 use Rattle.nest_order.specs.orders.Lists.{In}
 use Rattle.nest_order.proofs.orders.Lists.{In-left}
 use Rattle.std.proofs.lemmas.List.{append-nil}
-use Rattle.nest_steps.specs.Leading.{Led, Leads}
+use Rattle.nest_steps.specs.Leading.{Led}
 use Rattle.nest_steps.proofs.Acts.{Leads-from, Leads-to}
 use Rattle.nest_steps.proofs.Mapped.{wide_enough}
 use Rattle.scalar_expand.specs.Expanded.{declared_privates, expanded, expanded_part, expanding, named_private, with_arrays}
 use Rattle.scalar_expand.specs.Flow.{Flows}
 use Rattle.scalar_expand.specs.Privates.{names_written, or_none, private_among, private_scalar, private_scalars, privates_named}
-use Rattle.scalar_expand.specs.Laws.{AreAlike, ExpandedLoopGoesOn, ExpandedNestGoesOn, IsKept, own_of}
+use Rattle.scalar_expand.specs.Laws.{AreAlike, ExpandedLoopGoesOn, ExpandedNestGoesOn, IsExpandable, IsKept, own_of}
 use Rattle.scalar_expand.specs.Stores.{AreSo, Begun, all_at}
 use Rattle.scalar_expand.specs.declared.privates.Private.{Private}
 use Rattle.scalar_expand.proofs.Bodies.{part_leads, tagged, tagged_at}
@@ -96,6 +96,14 @@ in_declared ps (d ∷ ds) p i = by (named_private ps d.name) refl i (λ j. in_de
     by None e j r = r j
     by (Some q) e (inl f) r = subst (λ (t : Private). In t ps) (sym f) (found ps d.name q e).0
     by (Some q) e (inr j) r = r j
+
+-- what begins where along the text of the nest
+pub nest_flow : (bits : ℕ) (m : Nest) (limits : Private → List (ℤ × ℤ)) (lasts : Private → List ℕ) (counters : List (List ℕ)) (value : List ℕ → ℤ) (trip : List ℕ → Loop → ℕ)
+    → IsExpandable bits m limits lasts counters value trip
+    → (after : List Private) × (ended : List Private) × Flows (private_scalars m) m.symbols (λ z. In z counters) bits value trip [] [] [] m.body after ended
+nest_flow bits m limits lasts counters value trip is =
+    let b = nest_flows m (private_scalars m) m.symbols (λ z. In z counters) bits value trip (in_privates m (names_written [] (nest_statements m))) is.names.named is.statements is.loops is.once in
+    (b.after, b.behind, b.flows)
 
 expanded-body : (m : Nest) → (expanded m).body ≡ expanded_part m.line (expanding (private_scalars m)) (own_of m) m.body
 unfolding with_arrays with_parts

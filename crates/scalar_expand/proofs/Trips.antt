@@ -1,10 +1,9 @@
 -- The last iterations of loops, and trips that stay.
-use mathlib.Core.Path.{ap₂}
-use Rattle.std.proofs.Common.{◌≡◌, refl, sym, ap, ◌∙◌, inl, inr, subst, ℕ, ℤ, pos, ◌+ℤ◌, true, ◌&&◌, List, [], ◌∷◌, ◌++◌, map, length}
+use Rattle.std.proofs.Common.{◌≡◌, refl, sym, ap, ◌∙◌, inl, inr, subst, ℕ, ℤ, pos, ◌+ℤ◌, true, List, [], ◌∷◌, ◌++◌, map, length}
 use Rattle.std.specs.Prelude.{int_div}
 use Rattle.std.specs.List.{list_all}
 use Rattle.linear_forms.proofs.Sizes.{both}
-use Rattle.nest.specs.Plain.{Loop, Nest}
+use Rattle.nest.specs.Plain.{Loop}
 use Rattle.nest_order.specs.orders.Lists.{In}
 use Rattle.subscripts.specs.declared.affine.Affine.{Affine}
 use Rattle.last_values.specs.declared.normal_forms.places.Place.TheVariants as place
@@ -12,12 +11,10 @@ use Rattle.last_values.specs.normal_forms.Combinations.{at}
 use Rattle.last_values.specs.normal_forms.NormalLoops.{has_no_loops}
 use Rattle.last_values.specs.normal_forms.Numbers.{number_of_form, products}
 use Rattle.last_values.proofs.NormalForms.Numbers.{products-alike, products-zero}
-use Rattle.scalar_expand.specs.Expanded.{has_known_end}
 use Rattle.scalar_expand.specs.Flow.{lasts_of}
 use Rattle.scalar_expand.specs.Laws.{End, Steady}
-use Rattle.scalar_expand.specs.Numbers.{TripsEnd, at_loops, ends_of, ends_under, number_under, trip_at, turns_to}
+use Rattle.scalar_expand.specs.Numbers.{TripsEnd, at_loops, ends_of, ends_under, trip_at, turns_to}
 use Rattle.scalar_expand.specs.Privates.{private_scalars, round_loop, trip_or_none}
-use Rattle.scalar_expand.specs.declared.privates.Private.{Private}
 use Rattle.scalar_expand.specs.declared.privates.RoundLoop.{RoundLoop}
 use Rattle.scalar_expand.proofs.Covers.{loops_zero}
 

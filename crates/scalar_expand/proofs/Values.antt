@@ -1,13 +1,13 @@
 -- Values in a store with private scalars and in one with their arrays.
-use Rattle.std.proofs.Common.{◌≡◌, refl, sym, ap, ap₂, ◌∙◌, ◌⊎◌, inl, inr, subst, ℕ, ℤ, Bool, true, false, cond, List, [], ◌∷◌, ◌++◌, Result, Ok, Err, Option, Some, None}
+use Rattle.std.proofs.Common.{◌≡◌, refl, sym, ap, ap₂, ◌∙◌, inl, inr, subst, ℕ, ℤ, List, [], ◌∷◌, Result, Ok, Option, Some, None}
 use Rattle.tree.specs.Steps.{◌>>=◌}
 use Rattle.tree.specs.Operators.{apply, call, as_number}
-use Rattle.tree.specs.Plain.{Expression, Number, Logic, Named, Unary, Binary, Apply, Constructor, Spread, Transpose, Reshape, Reduce, Expressions, no_expressions, expression, Subscript, Only, Section, Subscripts, no_subscripts, subscript, Reference}
+use Rattle.tree.specs.Plain.{Expression, Number, Logic, Named, Unary, Binary, Apply, Constructor, Spread, Transpose, Reshape, Reduce, Expressions, no_expressions, expression, Subscript, Only, Section, Subscripts, no_subscripts, subscript}
 use Rattle.tree.specs.declared.ops.Value.{Value}
 use Rattle.tree.specs.declared.ops.Fault.{Fault}
 use Rattle.meaning.specs.Reads.{names_in, names_in_each, names_in_subscripts, names_in_subscript}
 use Rattle.meaning.specs.Store.{Store, Cell, cell_at, cell_in}
-use Rattle.meaning.specs.Value.{value_of, values_of, subscript_value, subscript_values, cell_named}
+use Rattle.meaning.specs.Value.{value_of, values_of, subscript_value, subscript_values}
 use Rattle.rewrite.specs.Following.{sequential}
 use Rattle.rewrite.specs.Making.{made, made_expressions, made_subscripts, made_subscript}
 use Rattle.nest_order.specs.orders.Lists.{In}
@@ -16,7 +16,7 @@ use Rattle.nest_order.specs.runs.Touched.{IsPlain, EachIsPlain, ArePlain, IsPlai
 use Rattle.nest_order.proofs.runs.Results.{both_ok}
 use Rattle.nest_order.proofs.runs.Variables.{cell_name, place_of}
 use Rattle.nest_steps.specs.Statements.{cell_of}
-use Rattle.scalar_expand.specs.Expanded.{as_expression, element, element_or, expanding, named_private, reference_to}
+use Rattle.scalar_expand.specs.Expanded.{as_expression, element, element_or, expanding, named_private}
 use Rattle.scalar_expand.specs.declared.privates.Private.{Private}
 
 module _ (bits : ℕ) (ps : List Private) (s u : Store) where

@@ -1,12 +1,11 @@
 -- Worked nests: a temporary in one loop, and one in a triangle.
-use Rattle.std.proofs.Common.{◌≡◌, refl, ℕ, ℤ, pos, List, [], ◌∷◌, Option, Some, None, replicate}
+use Rattle.std.proofs.Common.{◌≡◌, refl, ℕ, ℤ, pos, List, [], ◌∷◌, Some, None, replicate}
 use Rattle.std.specs.Prelude.{codes}
 use Rattle.tree.specs.Plain.{Assignment, Block, Declaration, Expression, Given, Number, Named, Binary, Only, Reference, Subscripts, no_statements, statement, no_subscripts, subscript}
 use Rattle.tree.specs.declared.ops.Kind.TheVariants.{Integer}
 use Rattle.tree.specs.declared.ops.Op.TheVariants.{Add, Mul}
 use Rattle.subscripts.specs.declared.affine.Affine.{Affine}
-use Rattle.nest.specs.Plain.{Guarded, Loop, Made, Nest, Part, Run, Turns, no_parts, part}
-use Rattle.nest.specs.declared.parts.Trip.{Trip}
+use Rattle.nest.specs.Plain.{Loop, Made, Nest, Part, Run, Turns, no_parts, part}
 use Rattle.nest_rewrite.specs.Assembled.{with_parts}
 use Rattle.last_values.specs.normal_forms.Combinations.{combination}
 use Rattle.last_values.specs.normal_forms.Texts.{trip_text}

@@ -4,11 +4,11 @@ use Rattle.std.specs.Prelude.{Option, Some, None, ℕ, ◌==◌, Bool, true, fal
 use Rattle.std.specs.Prelude.{if◌then◌else◌, is_some, List, [], ◌∷◌, ◌++◌, map, reverse, codes}
 use Rattle.std.specs.List.{list_all}
 use Rattle.std.specs.Str.{bytes_eq}
-use Rattle.tree.specs.Plain.{Block, Declaration, Expression, Named, Only, Reference, Statement, Assignment}
+use Rattle.tree.specs.Plain.{Declaration, Expression, Named, Only, Reference, Statement, Assignment}
 use Rattle.tree.specs.Plain.{Subscript, Subscripts, block, no_subscripts, subscript, subscripts}
 use Rattle.rewrite.specs.Making.{Making}
 use Rattle.nest.specs.Allocations.{block_then}
-use Rattle.nest.specs.Plain.{Guarded, Loop, Made, Nest, Part, Run, Turns, Choice, Label, Jump}
+use Rattle.nest.specs.Plain.{Guarded, Made, Nest, Part, Run, Turns, Choice, Label, Jump}
 use Rattle.nest.specs.Plain.{Parts, no_parts, part, parts}
 use Rattle.nest_rewrite.specs.Assembled.{with_parts}
 use Rattle.nest_rewrite.specs.Statements.{rewritten_statement}

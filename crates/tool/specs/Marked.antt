@@ -28,4 +28,5 @@ pub record IsMarked (deck text : List ℕ) : Type 0 where
   pub lists : Lists program (listed_lines text)
   pub translation : Program
   pub accepted : IsAccepted (source_of data_line90 text) translation
-  pub marked : IsMarkedBy program (listed_nests (found_in program) lists.listing.entries lists.listing.are) translation
+  pub marked :
+      IsMarkedBy program (listed_nests 0 (found_in program) lists.listing.entries lists.listing.are) translation

@@ -1,4 +1,5 @@
 pub mod Counts
+pub mod Converting
 pub mod Depths
 pub mod MadeNames
 pub mod Translations

@@ -2,4 +2,6 @@ pub mod Cleaned
 pub mod Bounds
 pub mod Arrays
 pub mod Prepared
+pub mod Converted
+pub mod Guarded
 pub mod Translation

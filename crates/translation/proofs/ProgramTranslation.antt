@@ -5,6 +5,8 @@ pub mod Sources
 pub mod Named
 pub mod Counted
 pub mod Declared
+pub mod Masks
+pub mod Leaving
 pub mod Unlabelled
 pub mod Good
 pub mod Standing

@@ -32,9 +32,10 @@
 //! **translation::nest_blocks** (`program_answers`): one answer to each loop that stands in no nest, in the order of
 //! the text; the lines that they list, and in the place of each loop just what an answer puts there (`AreAnswersFor`).
 //! The answer to what was found in a program of FORTRAN 77 (`answer_to`, `IsAnswerTo`) has its lines in the listing
-//! and, exactly where it is a nest that is loops and statements alone once its loops go from 1 by 1, what is emitted
-//! for that form by the graph that is listed and all its holds. Want of memory is the only error. Laws: these lines are
-//! a listing of the program (`answers_are_listed`), and these blocks translations of its nests (`answers_are_blocks`).
+//! and, where it is a nest, what is emitted for what the passes make of it by the graph that is listed and all its
+//! holds. Masks are numbered through the program: each answer says how many there are by then. Want of memory is the
+//! only error. Laws: these lines are a listing of the program (`answers_are_listed`), and these blocks translations of
+//! its nests (`answers_are_blocks`).
 //!
 //! **translation::made_declarations** (`with_declarations`, law): made names among declarations, each at its place in
 //! byte order: as passes made it, a scalar of its kind or an array that is allocated later, or else an INTEGER scalar.
@@ -47,7 +48,8 @@
 //! that the loops round it have variables that FORTRAN 77 has.
 //!
 //! **translation::placed_profile** (law): a program of FORTRAN 77 with blocks of the profile, without labels and jumps,
-//! in the place of loops is one of Fortran 90 within the limits on blocks and statements (`placed_program_is_program`).
+//! in the place of loops that no jump leaves is one of Fortran 90 within the limits on blocks and statements
+//! (`placed_program_is_program`).
 //!
 //! **translation::program_marks** (law): a program in which answers' blocks stand in the place of loops is marked as
 //! its listing has it (`translation_is_marked`).

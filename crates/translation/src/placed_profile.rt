@@ -2,7 +2,7 @@
 ghost use Rattle.translation.specs.placed_profile.Laws.{PlacedProgramIsProgram};
 
 /// A program of FORTRAN 77, with further made names and with blocks of the profile, without labels and jumps, in the
-/// place of loops without labels and jumps, is a program of Fortran 90, within the limits on its statements.
+/// place of loops that no jump leaves, is a program of Fortran 90, within the limits on its statements.
 pub fn placed_program_is_program()
     ensures { PlacedProgramIsProgram }
 {}

@@ -21,9 +21,8 @@ pub struct Translation {
     pub program: Program90,
 }
 
-/// The translation of a program, with its listing: what is emitted for each nest of loops and statements alone, by the
-/// graph that is listed, stands in the nest's place, and the loop variables and other made names that stand in it are
-/// declared.
+/// The translation of a program, with its listing: what is emitted for each nest, by the graph that is listed, stands
+/// in the nest's place, and the masks and loop variables that stand in it are declared.
 ///
 /// A translation beyond the limits of Fortran 90, which are 300 blocks in one another and 2^31 statements, is too large
 /// for memory.

@@ -1,5 +1,5 @@
 -- What is listed of nests and kept loops, one after the other.
-use Rattle.std.proofs.Common.{◌≡◌, ℕ, ◌+◌, ◌<◌, ◌≤◌, Result, Ok, Err, List, [], ◌∷◌, ◌++◌, map, take, length, get_or, codes, refl, sym, ap, ◌∙◌, subst, append_assoc, inl, inr}
+use Rattle.std.proofs.Common.{◌≡◌, ℕ, ◌+◌, ◌<◌, ◌≤◌, Result, Ok, Err, List, [], ◌∷◌, ◌++◌, map, take, length, get_or, refl, sym, ap, ◌∙◌, subst, append_assoc}
 use Rattle.std.specs.Prelude.{IfOk}
 use Rattle.std.specs.List.{flat_map}
 use Rattle.std.proofs.lemmas.List.{append-nil, map-append, take_all}
@@ -15,19 +15,17 @@ use Rattle.nest.specs.Plain.{Nest}
 use Rattle.dependence_graph.specs.nest_graph.Graph.{IsGraphOf}
 use Rattle.find_nests.specs.declared.reasons.Reason.{Reason}
 use Rattle.find_nests.specs.declared.search.Found.{Found as Found'}
-use Rattle.find_nests.specs.Found.{Found, found_in}
+use Rattle.find_nests.specs.Found.{Found, InNest, Kept, found_in}
 use Rattle.find_nests.specs.View.{found_of}
 use Rattle.listing.specs.graphs.Lines.{Entry, KeepEntry}
 use Rattle.listing.specs.graphs.Listing.{lines_of_entries, lines_of_entry, listing_of}
 use Rattle.listing.proofs.graphs.LoopLines.{entries-append, one_more}
-use Rattle.listing.specs.programs.Listing.{AreLinesOf, HasEntries, HasNestEntries, HaveEntries, IsListing, IsListingText}
-use Rattle.listing.specs.programs.Listing.{kept, not_built, reason_word, tested_entries}
-use Rattle.listing.specs.programs.Testable.{AreTestsOf}
+use Rattle.listing.specs.declared.programs.nests.Listed.{Listed}
+use Rattle.listing.specs.programs.Listed.{IsListedAs}
+use Rattle.listing.specs.programs.Listing.{HasEntries, HaveEntries, IsListing, IsListingText, masks_behind}
+use Rattle.listing.specs.programs.Listing.{kept, reason_word, tested_entries}
 use Rattle.listing.specs.programs.Stages.{IsListedFrom}
-
--- an answer with lines of such entries
-abbrev pub GivesLines : {E : Type 0} → Result (List Line) E → (List Entry → Type 0) → Type 0
-GivesLines r P = IfOk r (λ all. AreLinesOf P (map text_of all))
+use Rattle.listing.specs.programs.Testable.{AreTestsOf}
 
 abbrev GivesTexts : {E : Type 0} → Result (List Line) E → List (List ℕ) → Type 0
 GivesTexts r lines = IfOk r (λ all. map text_of all ≡ lines)
@@ -43,29 +41,20 @@ tests_of number n g holds cycles lines graph h none l = record {
   lines_are = l ∙ ap (λ hs. listing_of n number g hs cycles) h ∙ ap (λ cs. listing_of n number g (all_holds n) cs) none;
 }
 
-pub not_built_entries : {E : Type 0} (r : Result (List Line) E) (n : Nest) (word : List ℕ) → word ≡ codes "NOTBUILT" → GivesTexts r (lines_of_entry (KeepEntry n.line word))
-    → GivesTexts r (lines_of_entries (not_built n))
-not_built_entries (Err e) n word w h = tt
-not_built_entries (Ok all) n word w h =
-    h ∙ ap (λ (t : List ℕ). lines_of_entry (KeepEntry n.line t)) w ∙ sym (append-nil (lines_of_entry (KeepEntry n.line (codes "NOTBUILT"))))
-
-pub tested : (found n : Nest) (g : Graph) (holds : List Hold) (lines : List (List ℕ)) → IsListedFrom found n
-    → AreTestsOf found.number n g holds lines → AreLinesOf (HasNestEntries found) lines
-tested found n g holds lines t h = record {
-  entries = tested_entries found.number n g;
-  are = inl (n, t, (g, h.graph, refl));
-  lines_are = h.lines_are;
-}
-
-pub untested : {E : Type 0} (r : Result (List Line) E) (found : Nest) → ((m : Nest) → IsListedFrom found m → ⊥) → GivesTexts r (lines_of_entries (not_built found))
-    → GivesLines r (HasNestEntries found)
-untested (Err e) found t h = tt
-untested (Ok all) found t h = record { entries = not_built found; are = inr (t, refl); lines_are = h }
-
 -- ---- one that was found
 
-pub found_entries : {E : Type 0} (r : Result (List Line) E) (f : Found) (g : Found) → g ≡ f → GivesLines r (HasEntries f) → GivesLines r (HasEntries g)
-found_entries r f g e h = subst (λ (f : Found). GivesLines r (HasEntries f)) (sym e) h
+pub listed_nest : (masks : ℕ) (found n : Nest) (g : Graph) (holds : List Hold) (r : Listed) → IsListedFrom masks found n
+    → AreTestsOf found.number n g holds (map text_of r.lines) → r.masks ≡ n.masks → IsListedAs masks (InNest found) r
+listed_nest masks found n g holds r t h e = record {
+  entries = tested_entries found.number n g;
+  are = (n, t, (g, h.graph, refl));
+  lines = h.lines_are;
+  behind = e;
+}
+
+pub found_listed : {E : Type 0} (masks : ℕ) (r : Result Listed E) (f g : Found) → g ≡ f → IfOk r (IsListedAs masks f)
+    → IfOk r (IsListedAs masks g)
+found_listed masks r f g e h = subst (λ (f : Found). IfOk r (IsListedAs masks f)) (sym e) h
 
 pub kept_texts : {E : Type 0} (r : Result (List Line) E) (line : ℕ) (reason : Reason) (word : List ℕ)
     → word ≡ reason_word reason → GivesTexts r (lines_of_entry (KeepEntry line word))
@@ -75,46 +64,84 @@ kept_texts (Ok all) line reason word w h =
     h ∙ ap (λ (t : List ℕ). lines_of_entry (KeepEntry line t)) w
     ∙ sym (append-nil (lines_of_entry (KeepEntry line (reason_word reason))))
 
-pub kept_entries : {E : Type 0} (r : Result (List Line) E) (line : ℕ) (reason : Reason)
-    → GivesTexts r (lines_of_entries (kept line reason)) → GivesLines r (λ entries. entries ≡ kept line reason)
-kept_entries (Err e) line reason h = tt
-kept_entries (Ok all) line reason h = record { entries = kept line reason; are = refl; lines_are = h }
+pub kept_listed : (masks line : ℕ) (reason : Reason) (f : Found) (r : Listed) → f ≡ Kept line reason
+    → map text_of r.lines ≡ lines_of_entries (kept line reason) → r.masks ≡ masks → IsListedAs masks f r
+kept_listed masks line reason f r is h e =
+    subst (λ (f : Found). IsListedAs masks f r) (sym is)
+    (record { entries = kept line reason; are = refl; lines = h; behind = e })
 
 -- ---- one more
 
-have_more : (fs : List Found) (es last : List Entry) (f : Found) → HaveEntries fs es → HasEntries f last → HaveEntries (fs ++ f ∷ []) (es ++ last)
-have_more [] es last f e h = (last, [], ap (λ u. u ++ last) e ∙ sym (append-nil last), h, refl)
-have_more (g ∷ fs) es last f h k =
-    (h.0, h.1 ++ last, ap (λ u. u ++ last) h.2 ∙ append_assoc h.0 h.1 last, h.3, have_more fs h.1 last f h.4 k)
+-- the masks that are made before and by what was found, which is listed so
+abbrev pub masks_after : (masks : ℕ) (fs : List Found) (es : List Entry) → HaveEntries masks fs es → ℕ
+masks_after masks [] es h = masks
+masks_after masks (f ∷ fs) es h = masks_after (masks_behind masks f h.0 h.3) fs h.1 h.4
 
-lines_more : (fs : List Found) (f : Found) (old new more : List (List ℕ)) → AreLinesOf (HaveEntries fs) old → AreLinesOf (HasEntries f) more → new ≡ old ++ more
-    → AreLinesOf (HaveEntries (fs ++ f ∷ [])) new
-lines_more fs f old new more h k e = record {
-  entries = h.entries ++ k.entries;
-  are = have_more fs h.entries k.entries f h.are k.are;
-  lines_are = e ∙ ap (λ u. u ++ more) h.lines_are ∙ ap (λ u. lines_of_entries h.entries ++ u) k.lines_are ∙ sym (entries-append h.entries k.entries);
-}
+-- what was found is listed so, and so many masks are made by then
+pub record AreListed (fs : List Found) (lines : List (List ℕ)) (masks : ℕ) : Type 0 where
+  pub entries : List Entry
+  pub are : HaveEntries 0 fs entries
+  pub lines_are : lines ≡ lines_of_entries entries
+  pub masks_are : masks ≡ masks_after 0 fs entries are
 
-pub listed_none : (items : List Found') → AreLinesOf (HaveEntries (map found_of (take 0 items))) []
-listed_none items = record { entries = []; are = refl; lines_are = refl }
+record HaveMore (masks : ℕ) (fs : List Found) (es last : List Entry) (f : Found) (next : ℕ) : Type 0 where
+  are : HaveEntries masks (fs ++ f ∷ []) (es ++ last)
+  masks_are : next ≡ masks_after masks (fs ++ f ∷ []) (es ++ last) are
 
-pub listed_more : (items : List Found') (i : ℕ) (x : Found') (old new more : List Line) → i < length items → x ≡ get_or items i x
-    → AreLinesOf (HaveEntries (map found_of (take i items))) (map text_of old) → AreLinesOf (HasEntries (found_of x)) (map text_of more) → new ≡ old ++ more
-    → AreLinesOf (HaveEntries (map found_of (take (i + 1) items))) (map text_of new)
-listed_more items i x old new more h is before this now =
+have_more : (masks : ℕ) (fs : List Found) (es last : List Entry) (f : Found) (h : HaveEntries masks fs es)
+    (k : HasEntries (masks_after masks fs es h) f last)
+    → HaveMore masks fs es last f (masks_behind (masks_after masks fs es h) f last k)
+have_more masks [] es last f e k =
+    record { are = (last, [], ap (λ u. u ++ last) e ∙ sym (append-nil last), k, refl); masks_are = refl }
+have_more masks (g ∷ fs) es last f h k =
+    let rest = have_more (masks_behind masks g h.0 h.3) fs h.1 last f h.4 k in
+    record {
+      are = (h.0, h.1 ++ last, ap (λ u. u ++ last) h.2 ∙ append_assoc h.0 h.1 last, h.3, rest.are);
+      masks_are = rest.masks_are;
+    }
+
+lines_more : (fs : List Found) (f : Found) (old new : List (List ℕ)) (masks : ℕ) (r : Listed) → AreListed fs old masks
+    → IsListedAs masks f r → new ≡ old ++ map text_of r.lines → AreListed (fs ++ f ∷ []) new r.masks
+lines_more fs f old new masks r h k e = by (subst (λ (m : ℕ). IsListedAs m f r) h.masks_are k)
+  where
+    by : IsListedAs (masks_after 0 fs h.entries h.are) f r → AreListed (fs ++ f ∷ []) new r.masks
+    by i =
+        let more = have_more 0 fs h.entries i.entries f h.are i.are in
+        record {
+          entries = h.entries ++ i.entries;
+          are = more.are;
+          lines_are =
+              e ∙ ap (λ u. u ++ map text_of r.lines) h.lines_are ∙ ap (λ u. lines_of_entries h.entries ++ u) i.lines
+              ∙ sym (entries-append h.entries i.entries);
+          masks_are = i.behind ∙ more.masks_are;
+        }
+
+pub listed_none : (items : List Found') → AreListed (map found_of (take 0 items)) [] 0
+listed_none items = record { entries = []; are = refl; lines_are = refl; masks_are = refl }
+
+pub listed_more : (items : List Found') (i : ℕ) (x : Found') (old new : List Line) (masks next : ℕ) (r : Listed)
+    → i < length items → x ≡ get_or items i x → AreListed (map found_of (take i items)) (map text_of old) masks
+    → IsListedAs masks (found_of x) r → new ≡ old ++ r.lines → next ≡ r.masks
+    → AreListed (map found_of (take (i + 1) items)) (map text_of new) next
+listed_more items i x old new masks next r h is before this now behind =
     let one : map found_of (take (i + 1) items) ≡ map found_of (take i items) ++ found_of x ∷ [] =
     ap (map found_of) (one_more items i x h is) ∙ map-append found_of (take i items) (x ∷ []) in
-    let lines : map text_of new ≡ map text_of old ++ map text_of more = ap (map text_of) now ∙ map-append text_of old more in
-    subst (λ (fs : List Found). AreLinesOf (HaveEntries fs) (map text_of new)) (sym one)
-    (lines_more (map found_of (take i items)) (found_of x) (map text_of old) (map text_of new) (map text_of more) before this lines)
+    let lines : map text_of new ≡ map text_of old ++ map text_of r.lines
+    = ap (map text_of) now ∙ map-append text_of old r.lines in
+    subst (AreListed (map found_of (take (i + 1) items)) (map text_of new)) (sym behind)
+    (subst (λ (fs : List Found). AreListed fs (map text_of new) r.masks) (sym one)
+    (lines_more (map found_of (take i items)) (found_of x) (map text_of old) (map text_of new) masks r before this lines))
 
 -- all that was found
-pub listed_all : (p : Program) (items : List Found') (i : ℕ) (all lines : List Line) → map found_of items ≡ found_in p → length items ≤ i
-    → AreLinesOf (HaveEntries (map found_of (take i items))) (map text_of all) → lines ≡ all → IsListing p (map text_of lines)
-listed_all p items i all lines is h k e =
+pub listed_all : (p : Program) (items : List Found') (i : ℕ) (all lines : List Line) (masks : ℕ)
+    → map found_of items ≡ found_in p → length items ≤ i
+    → AreListed (map found_of (take i items)) (map text_of all) masks → lines ≡ all → IsListing p (map text_of lines)
+listed_all p items i all lines masks is h k e =
     let whole : map found_of (take i items) ≡ found_in p = ap (map found_of) (take_all i items h) ∙ is in
-    subst (λ (fs : List Found). AreLinesOf (HaveEntries fs) (map text_of lines)) whole
-    (subst (λ (l : List Line). AreLinesOf (HaveEntries (map found_of (take i items))) (map text_of l)) (sym e) k)
+    let l : AreListed (found_in p) (map text_of lines) masks =
+    subst (λ (fs : List Found). AreListed fs (map text_of lines) masks) whole
+    (subst (λ (ls : List Line). AreListed (map found_of (take i items)) (map text_of ls) masks) (sym e) k) in
+    record { entries = l.entries; are = l.are; lines_are = l.lines_are }
 
 -- ---- the text
 

@@ -1,14 +1,19 @@
 -- What is found in a program of FORTRAN 77, and what is made of its nests.
-use Rattle.std.proofs.Common.{◌≡◌, ℕ, ◌≤◌, ◌<◌, ◌^◌, true, false, Bool, Some, None, List, length, map, get_or}
+use Rattle.std.proofs.Common.{◌≡◌, ℕ, ◌≤◌, ◌<◌, ◌^◌, Some, None, List, is_some, length, map, get_or, true≢false}
 use Rattle.std.proofs.Common.{Contains, sym, ap, ◌∙◌, subst, arith}
 use Rattle.std.proofs.lemmas.List.{get_or-map, length-map}
 use Rattle.tree.specs.Plain.{Block, Program, Reference}
 use Rattle.tree.specs.View.{declaration_of}
 use Rattle.tree.specs.declared.programs.Decl.{Decl}
+use Rattle.convert_laws.proofs.FoundDeclared.{found_nest_has_declarations}
+use Rattle.convert_laws.specs.Found.{HasDeclarations}
 use Rattle.meaning.specs.Dialect.{fortran77}
 use Rattle.meaning.specs.Profile77.{IsProgram77}
 use Rattle.dependence_graph.specs.declared.graphs.Place.{Place}
+use Rattle.dependence_graph.specs.nest_graph.Ready.{IsReady}
 use Rattle.dependence_graph.specs.nest_graph.Tested.{IsReference}
+use Rattle.if_convert.proofs.BodyLaws.{turns-converted}
+use Rattle.if_convert.specs.Converted.{converted_nest}
 use Rattle.nest.specs.Bodies.{Standing}
 use Rattle.nest.specs.Plain.{Nest}
 use Rattle.nest_reasons.specs.Symbols.{symbols_of}
@@ -18,17 +23,15 @@ use Rattle.find_nests.specs.View.{found_of}
 use Rattle.find_nests.specs.Laws.{IsFoundNest}
 use Rattle.find_nests.specs.declared.search.Found.{Found as Found'}
 use Rattle.normal_loops.specs.Normalised.{normalised}
-use Rattle.pass_laws.proofs.FoundSources.PlainNests.{normal_nests_are_plain}
-use Rattle.pass_laws.proofs.ReadyNests.NormalReady.{normal_nest_is_ready}
+use Rattle.pass_laws.proofs.NormalNests.Form.{found_nest_has_normal_form}
 use Rattle.pass_laws.proofs.ReadyNests.SourceRanks.{few_symbols}
-use Rattle.pass_laws.specs.found_sources.Alone.{HasLoopsAlone}
-use Rattle.listing.proofs.programs.AloneLaws.{alone, not_alone}
+use Rattle.prepared_nests.proofs.Ready.{prepared_nest_is_ready}
+use Rattle.prepared_nests.specs.Laws.{normal_depth}
 use Rattle.listing.proofs.programs.Stages.{listed_is_passed}
-use Rattle.listing.specs.programs.Alone.{is_alone}
+use Rattle.listing.specs.programs.Counted.{AreCounted}
 use Rattle.listing.specs.programs.Laws.{ListedNestIsTestable}
 use Rattle.listing.specs.programs.Passed.{IsPassedAs}
 use Rattle.listing.specs.programs.Sources.{IsFoundInSource, IsNestOfSource}
-use Rattle.listing.specs.programs.Testable.{IsTestable}
 
 -- ---- symbols and declarations
 
@@ -68,54 +71,65 @@ in_source p items i x profile is h e =
       among = subst (λ (fs : List Found). Contains fs (found_of x)) is (i, within, at);
     }
 
--- ---- a nest whose loops go from 1 by 1
+-- ---- what passes make
 
-made_nest_is_testable : (p : Program) (n m : Nest) → IsProgram77 fortran77 p → Contains (found_in p) (InNest n)
-    → normalised n ≡ Some m → HasLoopsAlone m.body → IsTestable m
-made_nest_is_testable p n m profile among made only = record {
-  unguarded = (normal_nests_are_plain p n m profile among made only).2;
-  ready = normal_nest_is_ready fortran77 p n m profile among made;
-}
+-- of a nest that was found a nest with loops from 1 by 1 is made
+pub normal_there : (n : Nest) → IsNestOfSource n → normalised n ≡ None → ⊥
+normal_there n h none =
+    let form = found_nest_has_normal_form fortran77 h.program n h.profile h.among in
+    true≢false (ap is_some (sym form.is ∙ none))
 
-pub testable : (n m : Nest) → IsNestOfSource n → IsPassedAs n m → IsTestable m
-testable n m h passed = made_nest_is_testable h.program n m h.profile h.among passed.made passed.alone
+-- and of that one a nest with masks
+pub masks_there : (n m : Nest) (masks : ℕ) → IsNestOfSource n → normalised n ≡ Some m → converted_nest masks m ≡ None → ⊥
+masks_there n m masks h made none =
+    let form = found_nest_has_normal_form fortran77 h.program n h.profile h.among in
+    let is = form.is in
+    let same : form.normal ≡ m = cc in
+    let there = turns-converted masks form.normal form.loop form.parts form.body in
+    true≢false (ap is_some (sym there ∙ ap (converted_nest masks) same ∙ none))
+
+-- it may be tested
+module _ (p : Program) (masks : ℕ) (n m : Nest) (profile : IsProgram77 fortran77 p)
+    (among : Contains (found_in p) (InNest n)) (passed : IsPassedAs masks n m) where
+  pub declared_for : HasDeclarations m
+  declared_for =
+      let few : m.masks < 4294967296 = passed.counted in
+      let most : m.masks ≤ 4294967296 = omega (arith, few) in
+      found_nest_has_declarations p n passed.normal m masks profile among passed.made passed.converted most
+
+  made_nest_is_ready : IsReady m
+  made_nest_is_ready =
+      prepared_nest_is_ready declared_for.declarations declared_for.around normal_depth m declared_for.are
+      declared_for.prepared
+
+pub ready : (masks : ℕ) (n m : Nest) → IsNestOfSource n → IsPassedAs masks n m → IsReady m
+ready masks n m h passed = made_nest_is_ready h.program masks n m h.profile h.among passed
 
 -- what stands behind a nest isn't tested
-module _ (n : Nest) (b : Block) (h : IsTestable n) where
+module _ (n : Nest) (b : Block) (h : IsReady n) where
   abbrev beside : Nest
   beside = record n { after = b }
 
   at_place : (p : Place) (s : Standing) (r : Reference) → IsReference beside p s r → IsReference n p s r
   at_place p s r i = record { statement = i.statement; reference = i.reference }
 
-  testable_too : IsTestable beside
-  testable_too = record {
-    unguarded = h.unguarded;
-    ready = record {
-      symbols = h.ready.symbols;
-      statements = h.ready.statements;
-      ranks = λ p q s t r u i j e. h.ready.ranks p q s t r u (at_place p s r i) (at_place q t u j) e;
-      loops = h.ready.loops;
-    };
+  ready_too : IsReady beside
+  ready_too = record {
+    symbols = h.symbols;
+    statements = h.statements;
+    ranks = λ p q s t r u i j e. h.ranks p q s t r u (at_place p s r i) (at_place q t u j) e;
+    loops = h.loops;
   }
 
 pub listed_nest_is_testable : ListedNestIsTestable
-listed_nest_is_testable p n m profile among listed =
-    let w = listed_is_passed n m listed in
-    subst IsTestable (sym w.same)
-    (testable_too w.nest m.after (made_nest_is_testable p n w.nest profile among w.passed.made w.passed.alone))
+listed_nest_is_testable p masks n m profile among listed =
+    let w = listed_is_passed masks n m listed in
+    subst IsReady (sym w.same)
+    (ready_too w.nest m.after (made_nest_is_ready p masks n w.nest profile among w.passed))
 
--- ---- what passes make
+-- ---- what the code gives
 
-pub passed_as : (n m : Nest) (a : Bool) → normalised n ≡ Some m → a ≡ is_alone m.body → a ≡ true → IsPassedAs n m
-passed_as n m a made test e = record { made = made; alone = alone m.body (sym test ∙ e) }
-
-pub none_passed : (n : Nest) → normalised n ≡ None → (m : Nest) → IsPassedAs n m → ⊥
-none_passed n none m h = let made = h.made in cc
-
-pub others_passed : (n m : Nest) (a : Bool) → normalised n ≡ Some m → a ≡ is_alone m.body → a ≡ false
-    → (k : Nest) → IsPassedAs n k → ⊥
-others_passed n m a made test e k h =
-    let also = h.made in
-    let same : k ≡ m = cc in
-    not_alone m.body (sym test ∙ e) (subst (λ (j : Nest). HasLoopsAlone j.body) same h.alone)
+pub passed_as : (masks : ℕ) (n m k : Nest) → normalised n ≡ Some m → converted_nest masks m ≡ Some k → k.masks < 2 ^ 32
+    → AreCounted k → IsPassedAs masks n k
+passed_as masks n m k made converted few counted =
+    record { normal = m; made = made; converted = converted; counted = few; numbered = counted }

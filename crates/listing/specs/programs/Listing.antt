@@ -1,6 +1,5 @@
 -- The listing of a program: its kept loops with their reasons, and its nests with their dependences and holds.
-use mathlib.Core.Logic.{inl, inr}
-use Rattle.std.specs.Prelude.{◌≡◌, ◌⊎◌, ℕ, List, [], ◌∷◌, ◌++◌, codes}
+use Rattle.std.specs.Prelude.{◌≡◌, ℕ, List, [], ◌∷◌, ◌++◌, codes}
 use Rattle.std.specs.List.{flat_map}
 use Rattle.tree.specs.Plain.{Program}
 use Rattle.nest.specs.Plain.{Nest}
@@ -33,16 +32,10 @@ tested_entries number n g = entries_of n number g (all_holds n) []
 abbrev pub HasGraphEntries : ℕ → Nest → List Entry → Type 0
 HasGraphEntries number n entries = (g : Graph) × IsGraphOf n g × (entries ≡ tested_entries number n g)
 
--- a nest that isn't tested so far
-abbrev pub not_built : Nest → List Entry
-not_built n = KeepEntry n.line (codes "NOTBUILT") ∷ []
-
--- A nest is listed by the graph of the last nest that passes make of it, if there is one; an IF, a label or a jump
--- makes none
-abbrev pub HasNestEntries : Nest → List Entry → Type 0
-HasNestEntries n entries =
-    ((m : Nest) × IsListedFrom n m × HasGraphEntries n.number m entries)
-    ⊎ (((m : Nest) → IsListedFrom n m → ⊥) × (entries ≡ not_built n))
+-- a nest is listed by the graph of the last nest that passes make of it, where so many masks were made before in the
+-- program
+abbrev pub HasNestEntries : ℕ → Nest → List Entry → Type 0
+HasNestEntries masks n entries = (m : Nest) × IsListedFrom masks n m × HasGraphEntries n.number m entries
 
 -- a kept loop
 abbrev pub kept : ℕ → Reason → List Entry
@@ -50,15 +43,21 @@ kept line r = KeepEntry line (reason_word r) ∷ []
 
 -- ---- programs
 
-abbrev pub HasEntries : Found → List Entry → Type 0
-HasEntries (InNest n) entries = HasNestEntries n entries
-HasEntries (Kept line r) entries = entries ≡ kept line r
+abbrev pub HasEntries : ℕ → Found → List Entry → Type 0
+HasEntries masks (InNest n) entries = HasNestEntries masks n entries
+HasEntries masks (Kept line r) entries = entries ≡ kept line r
+
+-- how many masks are made in the program up to the end of what is listed so
+abbrev pub masks_behind : (masks : ℕ) (f : Found) (entries : List Entry) → HasEntries masks f entries → ℕ
+masks_behind masks (InNest n) entries h = h.0.masks
+masks_behind masks (Kept line r) entries h = masks
 
 -- one after the other
-abbrev pub HaveEntries : List Found → List Entry → Type 0
-HaveEntries [] entries = entries ≡ []
-HaveEntries (f ∷ fs) entries =
-    (first : List Entry) × (rest : List Entry) × (entries ≡ first ++ rest) × HasEntries f first × HaveEntries fs rest
+abbrev pub HaveEntries : ℕ → List Found → List Entry → Type 0
+HaveEntries masks [] entries = entries ≡ []
+HaveEntries masks (f ∷ fs) entries =
+    (first : List Entry) × (rest : List Entry) × (entries ≡ first ++ rest) × (h : HasEntries masks f first)
+    × HaveEntries (masks_behind masks f first h) fs rest
 
 -- ---- the nests that are listed with a graph
 
@@ -68,15 +67,16 @@ pub record ListedNest : Type 0 where
   pub normal : Nest
   pub graph : Graph
 
-abbrev pub listed_nest : (n : Nest) (entries : List Entry) → HasNestEntries n entries → List ListedNest
-listed_nest n entries (inl h) = record { found = n; normal = h.0; graph = h.2.0 } ∷ []
-listed_nest n entries (inr h) = []
+abbrev pub listed_nest : (masks : ℕ) (n : Nest) (entries : List Entry) → HasNestEntries masks n entries → ListedNest
+listed_nest masks n entries h = record { found = n; normal = h.0; graph = h.2.0 }
 
 -- in the order of the listing
-abbrev pub listed_nests : (fs : List Found) (entries : List Entry) → HaveEntries fs entries → List ListedNest
-listed_nests [] entries h = []
-listed_nests (InNest n ∷ fs) entries h = listed_nest n h.0 h.3 ++ listed_nests fs h.1 h.4
-listed_nests (Kept line r ∷ fs) entries h = listed_nests fs h.1 h.4
+abbrev pub listed_nests : (masks : ℕ) (fs : List Found) (entries : List Entry) → HaveEntries masks fs entries
+    → List ListedNest
+listed_nests masks [] entries h = []
+listed_nests masks (InNest n ∷ fs) entries h =
+    listed_nest masks n h.0 h.3 ∷ listed_nests h.3.0.masks fs h.1 h.4
+listed_nests masks (Kept line r ∷ fs) entries h = listed_nests masks fs h.1 h.4
 
 -- ---- lines
 
@@ -86,9 +86,9 @@ pub record AreLinesOf (P : List Entry → Type 0) (lines : List (List ℕ)) : Ty
   pub are : P entries
   pub lines_are : lines ≡ lines_of_entries entries
 
--- each loop of the program that stands in no nest, in the order of the text
+-- each loop of the program that stands in no nest, in the order of the text; masks are numbered through the program
 abbrev pub IsListing : Program → List (List ℕ) → Type 0
-IsListing p lines = AreLinesOf (HaveEntries (found_in p)) lines
+IsListing p lines = AreLinesOf (HaveEntries 0 (found_in p)) lines
 
 -- a line feed ends each line
 pub record IsListingText (p : Program) (text : List ℕ) : Type 0 where

@@ -1,19 +1,12 @@
--- What is known of a nest whose dependences are tested, and what the tests give.
-use Rattle.std.specs.Prelude.{◌≡◌, ℕ, None, All, List}
+-- What the tests give of a nest.
+use Rattle.std.specs.Prelude.{◌≡◌, ℕ, List}
 use Rattle.dependence_graph.specs.declared.graphs.Graph.{Graph}
 use Rattle.dependence_graph.specs.declared.graphs.Hold.{Hold}
 use Rattle.dependence_graph.specs.nest_graph.Graph.{IsGraphOf}
-use Rattle.dependence_graph.specs.nest_graph.Ready.{IsReady}
-use Rattle.nest.specs.Bodies.{Standing, nest_statements}
 use Rattle.nest.specs.Plain.{Nest}
 use Rattle.listing.specs.graphs.Listing.{lines_of_entries}
 use Rattle.array_form.specs.holds.Holds.{all_holds}
 use Rattle.listing.specs.programs.Listing.{tested_entries}
-
--- no statement has a guard, and it may be tested
-pub record IsTestable (n : Nest) : Type 0 where
-  pub unguarded : All (λ (s : Standing). s.statement.guard ≡ None) (nest_statements n)
-  pub ready : IsReady n
 
 -- a graph of the nest, all its holds, and the lines that say so
 pub record AreTestsOf (number : ℕ) (n : Nest) (g : Graph) (holds : List Hold) (lines : List (List ℕ)) : Type 0 where

@@ -6,12 +6,13 @@ ghost use Rattle.meaning.specs.Dialect.{fortran77};
 ghost use Rattle.meaning.specs.Profile77.{IsProgram77};
 ghost use Rattle.tree.specs.View.{program_of};
 ghost use Rattle.listing.specs.graphs.Listing.{lines_of_entries};
-ghost use Rattle.listing.specs.programs.Listing.{AreLinesOf, HasEntries, IsListing, kept};
+ghost use Rattle.listing.specs.programs.Listing.{IsListing, kept};
+ghost use Rattle.listing.specs.programs.Listed.{IsListedAs};
 ghost use Rattle.listing.specs.programs.Sources.{IsFoundInSource};
 
 use crate::graphs::kept_lines;
 use crate::programs::lists::add;
-use crate::programs::nests::nest_lines;
+use crate::programs::nests::{Listed, nest_lines};
 use crate::programs::words::reason_word;
 use find_nests::{Found, Reason, find_nests};
 use std::alloc::Global;
@@ -24,26 +25,32 @@ pub fn kept_loop(alloc: Global, line: u32, reason: Reason) -> Result<Seq<Line>, 
     kept_lines(alloc, line, reason_word(reason))
 }
 
-fn lines_of(alloc: Global, found: &Found) -> Result<Seq<Line>, Memory>
+fn lines_of(alloc: Global, found: &Found, masks: u32) -> Result<Listed, Memory>
     requires { IsFoundInSource (found_of found.now) }
-    ensures { IfOk result (λ all. AreLinesOf (HasEntries (found_of found.now)) (map text_of all)) }
+    ensures { IfOk result (IsListedAs masks (found_of found.now)) }
 {
     match found {
-        Found::Nest(nest) => nest_lines(alloc, nest),
-        Found::Kept(line, reason) => kept_loop(alloc, *line, *reason),
+        Found::Nest(nest) => nest_lines(alloc, nest, masks),
+        Found::Kept(line, reason) => Ok(Listed {
+            lines: kept_loop(alloc, *line, *reason)?,
+            masks,
+        }),
     }
 }
 
 /// The listing of a program: in the order of the text each kept loop with its reason, and each nest with its loops, its
 /// statements, the dependences between them, each with the test behind it, and what keeps a statement from array form.
-/// A nest with an IF, a label or a jump is one line so far, as a kept loop.
+/// Of a nest its IFs, labels and jumps are listed as masks, which are numbered through the program.
 pub fn list(alloc: Global, program: &Program77) -> Result<Seq<Line>, Memory>
     requires { IsProgram77 fortran77 (program_of program.now) }
     ensures { IfOk result (λ all. IsListing (program_of program.now) (map text_of all)) }
 {
     let mut all = Vec::new(alloc);
+    let mut masks = 0;
     for found in find_nests(alloc, program)?.as_slice() {
-        add(&mut all, lines_of(alloc, found)?)?;
+        let listed = lines_of(alloc, found, masks)?;
+        masks = listed.masks;
+        add(&mut all, listed.lines)?;
     }
     Ok(Seq::from_vec(all))
 }

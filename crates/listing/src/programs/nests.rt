@@ -3,19 +3,20 @@ ghost use Rattle.std.specs.Prelude.{◌≡◌, IfOk, Some, map};
 ghost use Rattle.dependence_graph.specs.nest_graph.Graph.{IsGraphOf};
 ghost use Rattle.dependence_graph.specs.nest_graph.Ready.{IsReady};
 ghost use Rattle.f90_print.specs.Notes.{text_of};
-ghost use Rattle.listing.specs.graphs.Listing.{lines_of_entries};
+ghost use Rattle.find_nests.specs.Found.{InNest};
 ghost use Rattle.normal_loops.specs.Normalised.{normalised};
 ghost use Rattle.nest.specs.View.{nest_of};
-ghost use Rattle.listing.specs.programs.Listing.{AreLinesOf, HasNestEntries, not_built};
-ghost use Rattle.listing.specs.programs.Passed.{IsPassedNest};
+ghost use Rattle.listing.specs.programs.Listed.{IsListedAs};
+ghost use Rattle.listing.specs.programs.Passed.{IsPassed};
 ghost use Rattle.listing.specs.programs.Sources.{IsNestOfSource};
 ghost use Rattle.listing.specs.programs.Testable.{AreTestsOf};
 
-use crate::graphs::{kept_lines, lines};
-use crate::programs::alone::is_alone;
+use crate::graphs::lines;
+use crate::programs::counts::check_counts;
 use array_form::holds::all_holds;
 use dependence_graph::dep_graph::graph;
 use dependence_graph::graphs::{Graph, Hold};
+use if_convert::convert;
 use nest::Nest;
 use normal_loops::normalise;
 use std::alloc::Global;
@@ -53,13 +54,6 @@ pub fn test(alloc: Global, number: u32, nest: &Nest) -> Result<Tests, Memory>
     tests_with(alloc, number, nest, graph)
 }
 
-/// The line of a nest that isn't tested so far.
-pub fn not_built(alloc: Global, nest: &Nest) -> Result<Seq<Line>, Memory>
-    ensures { IfOk result (λ all. map text_of all ≡ lines_of_entries (not_built (nest_of nest.now))) }
-{
-    kept_lines(alloc, nest.line, b"NOTBUILT")
-}
-
 /// What the passes make of a nest that was found: the nest that is listed, and what its tests say. The nest is in a
 /// box, so that it is dropped by one call.
 #[derive(Drop)]
@@ -68,43 +62,53 @@ pub struct Passed {
     pub tests: Tests,
 }
 
-// With the nest whose loops go from 1 by 1.
-fn with_tests(alloc: Global, found: &Nest, nest: Box<Nest>) -> Result<Option<Passed>, Memory>
+// By the nest whose loops go from 1 by 1.
+fn from_normal(alloc: Global, found: &Nest, normal: &Nest, masks: u32) -> Result<Passed, Memory>
     requires source { IsNestOfSource (nest_of found.now) }
-    requires made { normalised (nest_of found.now) ≡ Some (nest_of nest.value) }
-    ensures { IfOk result (IsPassedNest (nest_of found.now)) }
+    requires made { normalised (nest_of found.now) ≡ Some (nest_of normal.now) }
+    ensures { IfOk result (IsPassed masks (nest_of found.now)) }
 {
-    let normal: &Nest = &nest;
-    if !is_alone(&normal.body) {
-        return Ok(None);
-    }
-    let tests = test(alloc, found.number, normal)?;
-    Ok(Some(Passed { nest, tests }))
+    let Some(converted) = convert(alloc, normal, masks)? else {
+        unreachable!();
+    };
+    let nest = Box::new(alloc, converted)?;
+    let last: &Nest = &nest;
+    // read so that its size is known
+    let _masks = last.masks;
+    check_counts(alloc, last)?;
+    let tests = test(alloc, found.number, last)?;
+    Ok(Passed { nest, tests })
 }
 
-/// What the passes make of a nest that was found, if it can be tested: without an IF, a label and a jump so far. The
-/// only caller of passes, so that what is listed is what is translated.
-pub fn passes(alloc: Global, found: &Nest) -> Result<Option<Passed>, Memory>
+/// What the passes make of a nest that was found, where so many masks were made before in the program. The only caller
+/// of passes, so that what is listed is what is translated.
+pub fn passes(alloc: Global, found: &Nest, masks: u32) -> Result<Passed, Memory>
     requires { IsNestOfSource (nest_of found.now) }
-    ensures { IfOk result (IsPassedNest (nest_of found.now)) }
+    ensures { IfOk result (IsPassed masks (nest_of found.now)) }
 {
     match normalise(alloc, found)? {
-        Some(nest) => with_tests(alloc, found, Box::new(alloc, nest)?),
-        None => Ok(None),
+        Some(normal) => from_normal(alloc, found, &normal, masks),
+        None => unreachable!(),
     }
+}
+
+/// Lines of a nest or of a kept loop, and how many masks are made in the program up to its end.
+#[derive(Drop)]
+pub(crate) struct Listed {
+    pub lines: Seq<Line>,
+    pub masks: u32,
 }
 
 /// The lines of a nest that was found.
-pub(crate) fn nest_lines(alloc: Global, found: &Nest) -> Result<Seq<Line>, Memory>
+pub(crate) fn nest_lines(alloc: Global, found: &Nest, masks: u32) -> Result<Listed, Memory>
     requires { IsNestOfSource (nest_of found.now) }
-    ensures { IfOk result (λ all.
-        AreLinesOf (HasNestEntries (nest_of found.now)) (map text_of all)) }
+    ensures { IfOk result (IsListedAs masks (InNest (nest_of found.now))) }
 {
-    match passes(alloc, found)? {
-        Some(passed) => {
-            let tests = passed.tests;
-            Ok(tests.lines)
-        }
-        None => not_built(alloc, found),
-    }
+    let passed = passes(alloc, found, masks)?;
+    let masks = passed.nest.masks;
+    let tests = passed.tests;
+    Ok(Listed {
+        lines: tests.lines,
+        masks,
+    })
 }

@@ -1,26 +1,27 @@
 -- The lines of the listing of a program of FORTRAN 77 are notes.
-use Rattle.std.proofs.Common.{◌≡◌, inl, inr, refl, sym, subst, ℕ, List, [], ◌∷◌, codes, Contains}
+use Rattle.std.proofs.Common.{refl, sym, subst, ℕ, List, [], ◌∷◌, codes, Contains}
 use Rattle.find_nests.specs.Found.{Found, InNest, Kept, found_in}
 use Rattle.find_nests.specs.declared.reasons.Reason.{Reason}
 use Rattle.find_nests.specs.declared.reasons.Reason.TheVariants.{Exit, InnerIf, Bound, Step, Deep, Large}
 use Rattle.meaning.specs.Dialect.{fortran77}
 use Rattle.meaning.specs.Profile77.{IsProgram77}
-use Rattle.tree.specs.Plain.{Program}
+use Rattle.prepared_nests.specs.Laws.{normal_depth}
+use Rattle.tree.specs.Plain.{Block, Program}
+use Rattle.listing.proofs.programs.Sources.{declared_for}
+use Rattle.listing.proofs.programs.Stages.{listed_is_passed}
 use Rattle.listing.specs.graphs.Lines.{Entry}
 use Rattle.listing.specs.programs.Stages.{IsListedFrom}
 use Rattle.nest.specs.Plain.{Nest}
 use Rattle.meaning_laws.proofs.profiles.Lists.{here, there}
 use Rattle.array_form.specs.holds.Holds.{all_holds}
-use Rattle.listing.specs.programs.Listing.{reason_word, HasGraphEntries, not_built, HasNestEntries}
-use Rattle.listing.specs.programs.Listing.{HasEntries, HaveEntries}
+use Rattle.listing.specs.programs.Listing.{reason_word, HasNestEntries, HasEntries, HaveEntries, masks_behind}
 use Rattle.listing_laws.specs.notes.Laws.{ListingLinesAreNotes}
 use Rattle.listing_laws.proofs.notes.Arrays.{graph_named}
 use Rattle.listing_laws.proofs.notes.Entries.{ArePrintableEntries, kept, nest_printable}
-use Rattle.listing_laws.proofs.notes.Found.{found_names}
-use Rattle.listing_laws.proofs.notes.Made.{IsPrintableNest, made_names}
-use Rattle.listing_laws.proofs.notes.Normal.{listed_is_made}
+use Rattle.listing_laws.proofs.notes.Made.{IsPrintableNest}
 use Rattle.listing_laws.proofs.notes.Notes.{IsPrintableEntry, AreNotes, entry_notes}
 use Rattle.listing_laws.proofs.notes.Printable.{ArePrintable, joined, word}
+use Rattle.listing_laws.proofs.prepared.Listed.{is_printable}
 
 reason : (r : Reason) → ArePrintable (reason_word r)
 reason Exit = word (codes "EXIT") refl
@@ -32,29 +33,41 @@ reason Large = word (codes "LARGE") refl
 
 -- ---- a nest
 
-not_built_printable : (n : Nest) (es : List Entry) → es ≡ not_built n → ArePrintableEntries es
-not_built_printable n es e = subst ArePrintableEntries (sym e) (kept n.line (codes "NOTBUILT") (word (codes "NOTBUILT") refl), tt)
-
-graph_printable : (number : ℕ) (m : Nest) (es : List Entry) → IsPrintableNest m → HasGraphEntries number m es → ArePrintableEntries es
-graph_printable number m es h k = subst ArePrintableEntries (sym k.2) (nest_printable m number k.0 (all_holds m) h (graph_named m k.0 h.statements k.1))
-
-nest_entries : (n : Nest) (es : List Entry) → ((m : Nest) → IsListedFrom n m → IsPrintableNest m) → HasNestEntries n es → ArePrintableEntries es
-nest_entries n es h (inl k) = graph_printable n.number k.0 es (h k.0 k.1) k.2
-nest_entries n es h (inr k) = not_built_printable n es k.1
-
--- ---- a program
+-- whatever stands behind it
+printable_beside : (m : Nest) (after : Block) → IsPrintableNest m → IsPrintableNest (record m { after = after })
+printable_beside m after h = record { statements = h.statements; loops = h.loops }
 
 module _ (p : Program) (is : IsProgram77 fortran77 p) where
-  entries : (f : Found) (es : List Entry) → Contains (found_in p) f → HasEntries f es → ArePrintableEntries es
-  entries (InNest n) es c h = nest_entries n es (λ m listed. made_names n (found_names fortran77 p is n c) m (listed_is_made n m listed)) h
-  entries (Kept line r) es c h = subst ArePrintableEntries (sym h) (kept line (reason_word r) (reason r), tt)
+  nest_is_printable : (masks : ℕ) (n m : Nest) → Contains (found_in p) (InNest n) → IsListedFrom masks n m → IsPrintableNest m
+  nest_is_printable masks n m c listed =
+      let w = listed_is_passed masks n m listed in
+      let d = declared_for p masks n w.nest is c w.passed in
+      subst IsPrintableNest (sym w.same)
+      (printable_beside w.nest m.after (is_printable d.declarations d.around normal_depth w.nest d.are d.prepared))
 
-  all_entries : (fs : List Found) (es : List Entry) → ((f : Found) → Contains fs f → Contains (found_in p) f) → HaveEntries fs es → ArePrintableEntries es
-  all_entries [] es c h = subst ArePrintableEntries (sym h) tt
-  all_entries (f ∷ fs) es c h =
+  nest_entries : (masks : ℕ) (n : Nest) (es : List Entry) → Contains (found_in p) (InNest n) → HasNestEntries masks n es
+      → ArePrintableEntries es
+  nest_entries masks n es c h =
+      let m = h.0 in
+      let printable = nest_is_printable masks n m c h.1 in
+      subst ArePrintableEntries (sym h.2.2)
+      (nest_printable m n.number h.2.0 (all_holds m) printable (graph_named m h.2.0 printable.statements h.2.1))
+
+  -- ---- a program
+
+  entries : (masks : ℕ) (f : Found) (es : List Entry) → Contains (found_in p) f → HasEntries masks f es
+      → ArePrintableEntries es
+  entries masks (InNest n) es c h = nest_entries masks n es c h
+  entries masks (Kept line r) es c h = subst ArePrintableEntries (sym h) (kept line (reason_word r) (reason r), tt)
+
+  all_entries : (masks : ℕ) (fs : List Found) (es : List Entry) → ((f : Found) → Contains fs f → Contains (found_in p) f)
+      → HaveEntries masks fs es → ArePrintableEntries es
+  all_entries masks [] es c h = subst ArePrintableEntries (sym h) tt
+  all_entries masks (f ∷ fs) es c h =
       subst ArePrintableEntries (sym h.2)
-      (joined IsPrintableEntry h.0 h.1 (entries f h.0 (c f (here f fs)) h.3) (all_entries fs h.1 (λ g i. c g (there f fs g i)) h.4))
+      (joined IsPrintableEntry h.0 h.1 (entries masks f h.0 (c f (here f fs)) h.3)
+      (all_entries (masks_behind masks f h.0 h.3) fs h.1 (λ g i. c g (there f fs g i)) h.4))
 
 pub listing_lines_are_notes : ListingLinesAreNotes
 listing_lines_are_notes p lines is h =
-    subst AreNotes (sym h.lines_are) (entry_notes h.entries (all_entries p is (found_in p) h.entries (λ f c. c) h.are))
+    subst AreNotes (sym h.lines_are) (entry_notes h.entries (all_entries p is 0 (found_in p) h.entries (λ f c. c) h.are))

@@ -87,7 +87,7 @@ module _ (es : List Declaration) (around : List (List ℕ)) (deepest : ℕ) (m :
 
   -- ---- notes
 
-  is_printable : IsPrintableNest m
+  pub is_printable : IsPrintableNest m
   is_printable = record {
     statements =
         by_recursion IsPrintableStanding (nest_statements m)
@@ -125,7 +125,7 @@ module _ (es : List Declaration) (around : List (List ℕ)) (deepest : ℕ) (m :
   numbers_small before [] k = tt
   numbers_small before (l ∷ ls) k = ((tidy_loop before l k.0).number, numbers_small (before ++ l ∷ []) ls k.1)
 
-  is_tidy : AreCounted m → IsTidyNest m
+  pub is_tidy : AreCounted m → IsTidyNest m
   is_tidy counted = record {
     statements = by_recursion IsTidy (nest_statements m) (each_from IsTidy (nest_statements m) one);
     loops = tidy_loops [] m.body h.parts.loops;

@@ -1,85 +1,107 @@
 -- The entries of the listing of a program can be listed, so that they are read from its lines.
-use Rattle.std.proofs.Common.{◌≡◌, inl, inr, sym, ap, ◌∙◌, subst, suc, ◌*◌, ◌<◌, ◌≤◌, ◌^◌}
-use Rattle.std.proofs.Common.{List, []}
-use Rattle.std.proofs.Common.{◌∷◌, length, Contains, arith}
-use Rattle.find_nests.proofs.FoundLaws.{found_nest_is_loop}
+use Rattle.std.proofs.Common.{sym, ap, ◌∙◌, subst, ℕ, ◌+◌, ◌≤◌, ◌<◌, ◌^◌, List, [], ◌∷◌, length, Contains, arith}
+use Rattle.std.proofs.lemmas.List.Elements.{All-weaker}
+use Rattle.convert_laws.proofs.Rounds.{nest_number}
+use Rattle.dependence_graph.specs.nest_graph.References.{references_of}
+use Rattle.find_nests.proofs.FoundLaws.{kept_is_loop}
 use Rattle.find_nests.specs.Found.{Found, InNest, Kept, found_in}
-use Rattle.find_nests.specs.Loops.{loops_in_block}
-use Rattle.meaning.specs.Blocks.{statements_in}
+use Rattle.find_nests.specs.LookedAt.{looked_at}
+use Rattle.find_nests.specs.declared.reasons.Reason.{Reason}
+use Rattle.meaning.specs.Blocks.{outermost}
 use Rattle.meaning.specs.Dialect.{fortran77}
 use Rattle.meaning.specs.Profile77.{IsProgram77}
-use Rattle.tree.specs.Plain.{Program}
+use Rattle.prepared_nests.specs.Laws.{normal_depth}
+use Rattle.tree.specs.Plain.{Block, Program}
 use Rattle.listing.specs.graphs.Lines.{Entry}
 use Rattle.listing_laws.proofs.notes.Printable.{joined}
+use Rattle.listing_laws.proofs.prepared.Listed.{is_tidy}
 use Rattle.listing_laws.proofs.reader.Rejoined.{listing-is-read}
+use Rattle.listing_laws.specs.prepared.Laws.{AreCounted}
 use Rattle.listing_laws.specs.reader.Listable.{IsListable}
 use Rattle.listing_laws.specs.reader.Reader.{read_listing}
-use Rattle.listing.proofs.programs.Sources.{listed_nest_is_testable}
-use Rattle.listing_laws.proofs.notes.Normal.{listed_is_made, same_line}
+use Rattle.listing.proofs.programs.Sources.{declared_for, listed_nest_is_testable}
+use Rattle.listing.proofs.programs.Stages.{listed_is_passed}
+use Rattle.listing.specs.programs.Counted as listing
+use Rattle.listing.specs.programs.Listing.{HasNestEntries, HasEntries, HaveEntries, masks_behind}
 use Rattle.listing.specs.programs.Stages.{IsListedFrom}
-use Rattle.nest.specs.Bodies.{nest_statements}
+use Rattle.nest.specs.Bodies.{Standing, nest_statements}
 use Rattle.nest.specs.Plain.{Nest}
 use Rattle.meaning_laws.proofs.profiles.Lists.{here, there}
-use Rattle.listing.specs.programs.Listing.{HasGraphEntries, HasNestEntries, HasEntries, HaveEntries, not_built}
-use Rattle.pass_laws.proofs.ReadyNests.Lists.{Each-Contains}
+use Rattle.pass_laws.proofs.NestLoops.Standing.{loop_stands}
 use Rattle.listing_laws.proofs.read_back.Entries.{AreListable, nest_listable}
-use Rattle.listing_laws.proofs.read_back.Found.{IsFairNest, found_fair, kept_line}
-use Rattle.listing_laws.proofs.read_back.Made.{made_tidy}
-use Rattle.listing_laws.proofs.read_back.Many.{Within, size, within_block, loop_size, few_statements}
-use Rattle.listing_laws.specs.read_back.Laws.{IsShort, ProgramListingIsRead}
+use Rattle.listing_laws.proofs.read_back.Made.{IsTidyNest}
+use Rattle.listing_laws.specs.read_back.Laws.{ProgramListingIsRead}
 
-module _ (p : Program) (is : IsProgram77 fortran77 p) (short : IsShort p) where
+-- ---- counts
+
+few_references : (k : ℕ) → k + 1 < 2 ^ 32 → k ≤ 2 ^ 63
+few_references k h = let less : k + 1 < 4294967296 = h in let most : k ≤ 9223372036854775808 = omega (arith, less) in most
+
+counted : (m : Nest) → listing.AreCounted m → AreCounted m
+counted m h = record {
+  statements = (let less : length (nest_statements m) + 1 < 4294967296 = h.statements in
+      let most : length (nest_statements m) ≤ 1099511627776 = omega (arith, less) in most);
+  references = All-weaker (λ (x : Standing). length (references_of x) + 1 < 2 ^ 32) (λ (x : Standing). length (references_of x) ≤ 2 ^ 63)
+      (λ x l. few_references (length (references_of x)) l) (nest_statements m) h.references;
+}
+
+-- whatever stands behind the nest
+tidy_beside : (m : Nest) (after : Block) → IsTidyNest m → IsTidyNest (record m { after = after })
+tidy_beside m after h = record { statements = h.statements; loops = h.loops }
+
+module _ (p : Program) (is : IsProgram77 fortran77 p) where
   -- ---- a nest
 
-  few : (n m : Nest) → Contains (found_in p) (InNest n) → IsListedFrom n m → length (nest_statements m) ≤ 2 ^ 40
-  few n m c e =
-      let f = found_nest_is_loop p n c in
-      let l = f.loop.loop in
-      let inside : suc (statements_in l.loop.body) ≤ statements_in p.body =
-      Each-Contains (Within (statements_in p.body)) (loops_in_block 0 [] p.body) f.loop
-      (within_block (statements_in p.body) 0 [] p.body (omega arith)) f.stands in
-      let most : statements_in p.body < 2 ^ 31 = is.few in
-      let own = loop_size l.before l.loop in
-      let body : size n.body ≤ 2 * suc (statements_in l.loop.body) =
-      subst (λ (k : Nest). size k.body ≤ 2 * suc (statements_in l.loop.body)) (sym f.is) (omega (arith, own)) in
-      let made = few_statements n m (listed_is_made n m e) in omega (arith, inside, most, body, made)
+  -- what stands in it has small numbers
+  record IsReadable (m : Nest) : Type 0 where
+    line : m.line < 4294967296
+    tidy : IsTidyNest m
+    few : length (nest_statements m) ≤ 2 ^ 40
 
-  not_built_listable : (n : Nest) (es : List Entry) → IsFairNest n → es ≡ not_built n → AreListable es
-  not_built_listable n es h e =
-      let line = h.line in subst AreListable (sym e) (omega (arith, line), tt)
+  readable : (masks : ℕ) (n m : Nest) → Contains (found_in p) (InNest n) → IsListedFrom masks n m → IsReadable m
+  readable masks n m c listed =
+      let w = listed_is_passed masks n m listed in
+      let d = declared_for p masks n w.nest is c w.passed in
+      let numbers = counted w.nest w.passed.numbered in
+      subst IsReadable (sym w.same)
+      (record {
+        line = d.prepared.parts.line.1;
+        tidy = tidy_beside w.nest m.after (is_tidy d.declarations d.around normal_depth w.nest d.are d.prepared numbers);
+        few = numbers.statements;
+      })
 
-  graph_listable : (n m : Nest) (es : List Entry) → Contains (found_in p) (InNest n) → IsListedFrom n m
-      → HasGraphEntries n.number m es → AreListable es
-  graph_listable n m es c e k =
-      let fair = found_fair fortran77 p is short n c in
-      let number = fair.number in
-      let line = fair.line in
-      let same : m.line ≡ n.line = same_line n m e in
-      subst AreListable (sym k.2)
-      (nest_listable m n.number k.0 (omega (arith, number)) (omega (arith, line, same))
-      (listed_nest_is_testable p n m is c e).ready (made_tidy n fair m (listed_is_made n m e)) (few n m c e) k.1)
-
-  nest_entries : (n : Nest) (es : List Entry) → Contains (found_in p) (InNest n) → HasNestEntries n es
+  nest_entries : (masks : ℕ) (n : Nest) (es : List Entry) → Contains (found_in p) (InNest n) → HasNestEntries masks n es
       → AreListable es
-  nest_entries n es c (inl k) = graph_listable n k.0 es c k.1 k.2
-  nest_entries n es c (inr k) = not_built_listable n es (found_fair fortran77 p is short n c) k.1
+  nest_entries masks n es c h =
+      let m = h.0 in
+      let r = readable masks n m c h.1 in
+      let line = r.line in
+      let number = nest_number p 0 (looked_at p.declarations p.body) n (omega arith) c in
+      subst AreListable (sym h.2.2)
+      (nest_listable m n.number h.2.0 (omega (arith, number)) (omega (arith, line))
+      (listed_nest_is_testable p masks n m is c h.1) r.tidy r.few h.2.1)
 
   -- ---- a program
 
-  entries : (f : Found) (es : List Entry) → Contains (found_in p) f → HasEntries f es → AreListable es
-  entries (InNest n) es c h = nest_entries n es c h
-  entries (Kept line r) es c h =
-      let small = kept_line fortran77 p is short line r c in subst AreListable (sym h) (omega (arith, small), tt)
+  kept_line : (line : ℕ) (r : Reason) → Contains (found_in p) (Kept line r) → line < 2 ^ 32
+  kept_line line r h =
+      let f = kept_is_loop p line r h in
+      let s = loop_stands p.declarations p.body 0 [] outermost f.loop is.statements f.stands in
+      subst (λ (l : ℕ). l < 2 ^ 32) (sym f.at) s.is.0.1
 
-  all_entries : (fs : List Found) (es : List Entry) → ((f : Found) → Contains fs f → Contains (found_in p) f)
-      → HaveEntries fs es → AreListable es
-  all_entries [] es c h = subst AreListable (sym h) tt
-  all_entries (f ∷ fs) es c h =
+  entries : (masks : ℕ) (f : Found) (es : List Entry) → Contains (found_in p) f → HasEntries masks f es → AreListable es
+  entries masks (InNest n) es c h = nest_entries masks n es c h
+  entries masks (Kept line r) es c h =
+      let small : line < 4294967296 = kept_line line r c in subst AreListable (sym h) (omega (arith, small), tt)
+
+  all_entries : (masks : ℕ) (fs : List Found) (es : List Entry) → ((f : Found) → Contains fs f → Contains (found_in p) f)
+      → HaveEntries masks fs es → AreListable es
+  all_entries masks [] es c h = subst AreListable (sym h) tt
+  all_entries masks (f ∷ fs) es c h =
       subst AreListable (sym h.2)
-      (joined IsListable h.0 h.1 (entries f h.0 (c f (here f fs)) h.3)
-      (all_entries fs h.1 (λ g i. c g (there f fs g i)) h.4))
+      (joined IsListable h.0 h.1 (entries masks f h.0 (c f (here f fs)) h.3)
+      (all_entries (masks_behind masks f h.0 h.3) fs h.1 (λ g i. c g (there f fs g i)) h.4))
 
 pub program_listing_is_read : ProgramListingIsRead
-program_listing_is_read p lines is short h =
-    ap read_listing h.lines_are ∙ listing-is-read h.entries
-    (all_entries p is short (found_in p) h.entries (λ f c. c) h.are)
+program_listing_is_read p lines is h =
+    ap read_listing h.lines_are ∙ listing-is-read h.entries (all_entries p is 0 (found_in p) h.entries (λ f c. c) h.are)

@@ -19,7 +19,6 @@ use Rattle.listing_laws.proofs.notes.Listed.{listing_lines_are_notes}
 use Rattle.listing_laws.specs.reader.Lists.{Lists}
 use Rattle.listing_laws.specs.reader.Reader.{read_listing}
 use Rattle.listing_laws.proofs.read_back.Listed.{program_listing_is_read}
-use Rattle.listing_laws.proofs.read_back.Sources.{source_is_short}
 use Rattle.listing_laws.specs.read_back.Laws.{SourceListingIsRead, SourceListingTextIsRead, SourceListingTextLists}
 use Rattle.listing_laws.specs.read_back.Laws.{SameLinesListTheSame}
 
@@ -31,7 +30,7 @@ is_program source p h =
 
 pub source_listing_is_read : SourceListingIsRead
 source_listing_is_read source p lines h listing =
-    program_listing_is_read p lines (is_program source p h) (source_is_short source p h) listing
+    program_listing_is_read p lines (is_program source p h) listing
 
 -- ---- its text
 

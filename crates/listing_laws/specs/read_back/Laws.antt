@@ -1,29 +1,19 @@
 -- The listing of a program can be read back from its lines.
-use Rattle.std.specs.Prelude.{◌≡◌, ℕ, ◌^◌, ◌<◌, Some, List, flat_map, length, map}
+use Rattle.std.specs.Prelude.{◌≡◌, ℕ, Some, List, flat_map, map}
 use Rattle.std.specs.Str.Lines.{lines}
 use Rattle.f90_grammar.specs.PrintedText.{with_line_feed}
 use Rattle.f77_grammar.specs.Reading77.{Reads77}
 use Rattle.meaning.specs.Dialect.{fortran77}
 use Rattle.meaning.specs.Profile77.{IsProgram77}
-use Rattle.rewrite.specs.Names.{uses_in_block}
 use Rattle.tree.specs.Plain.{Program}
 use Rattle.listing_laws.specs.reader.Lists.{Lists}
 use Rattle.listing_laws.specs.reader.Reader.{read_listing}
 use Rattle.listing.specs.programs.Listing.{IsListing, IsListingText}
 
--- Fewer than 2^31 names stand in it. With more of them a reference might have a number that a listing doesn't show
--- whole.
-abbrev pub IsShort : Program → Type 0
-IsShort p = length (uses_in_block p.body) < 2 ^ 31
-
 -- from the lines of a program's listing its entries are read, in their order
 abbrev pub ProgramListingIsRead : Type 0
-ProgramListingIsRead = (p : Program) (all : List (List ℕ)) → IsProgram77 fortran77 p → IsShort p
+ProgramListingIsRead = (p : Program) (all : List (List ℕ)) → IsProgram77 fortran77 p
     → (listing : IsListing p all) → read_listing all ≡ map Some listing.entries
-
--- what is read from a source is short
-abbrev pub SourceIsShort : Type 0
-SourceIsShort = (source : List ℕ) (p : Program) → Reads77 fortran77 source p → IsShort p
 
 -- so the listing of a source is read
 abbrev pub SourceListingIsRead : Type 0

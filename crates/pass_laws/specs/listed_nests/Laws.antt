@@ -1,21 +1,19 @@
--- What a nest is listed as: its nest with loops from 1 by 1, where that has loops and statements alone.
+-- What a nest is listed as: its nest with loops from 1 by 1, whatever stands behind it.
 use Rattle.std.specs.Prelude.{◌≡◌, Some}
 use Rattle.nest.specs.Bodies.{nest_loops, nest_statements}
 use Rattle.nest.specs.Plain.{Nest}
 use Rattle.normal_loops.specs.Listed.{IsListedFrom}
 use Rattle.normal_loops.specs.Normalised.{normalised}
-use Rattle.pass_laws.specs.found_sources.Alone.{HasLoopsAlone}
 
 -- such a nest is listed
 abbrev pub NormalNestIsListed : Type 0
-NormalNestIsListed = (n m : Nest) → normalised n ≡ Some m → HasLoopsAlone m.body → IsListedFrom n m
+NormalNestIsListed = (n m : Nest) → normalised n ≡ Some m → IsListedFrom n m
 
 -- m has the body of the nest with loops from 1 by 1
 pub record HasNormalBody (n m : Nest) : Type 0 where
   pub normal : Nest
   pub made : normalised n ≡ Some normal
   pub body : m.body ≡ normal.body
-  pub alone : HasLoopsAlone m.body
 
 -- no other nest is listed, but for what stands behind it
 abbrev pub ListedNestIsNormal : Type 0

@@ -1,5 +1,5 @@
 -- What is made of a nest that was found has prepared parts, and is prepared where it has loops and statements alone.
-use Rattle.std.proofs.Common.{◌≡◌, ◌⊎◌, inl, refl, sym, ap, ◌∙◌, subst, ℕ, ◌≤◌, ◌<◌, ◌^◌, Bool, true, false, cond}
+use Rattle.std.proofs.Common.{◌≡◌, inl, refl, sym, ap, ◌∙◌, subst, ℕ, ◌≤◌, ◌<◌, ◌^◌, Bool, true, false, cond}
 use Rattle.std.proofs.Common.{List, [], ◌∷◌, ◌++◌, map, length, Option, Some, None, Contains, arith}
 use Rattle.std.specs.Option.{IfSome, IsSomeAnd, option_map}
 use Rattle.std.specs.Prelude.{All}
@@ -36,8 +36,6 @@ use Rattle.pass_laws.proofs.FoundSources.PlainNests.{normal_nests_are_plain}
 use Rattle.rewrite.specs.Names.{names_written_in}
 use Rattle.meaning.specs.Names.{IsInByteOrder}
 use Rattle.meaning_laws.proofs.profiles.Names.{once as declared_once}
-use Rattle.linear_forms.specs.Canonical.{canonising}
-use Rattle.nest_rewrite.specs.Statements.{rewritten_statement}
 use Rattle.pass_laws.proofs.NormalFacts.FoundStatements.{IsFoundBody, IsShort, IsSource, IsSourceLoop, found_body}
 use Rattle.pass_laws.proofs.NormalFacts.FoundSymbols.{chosen, symbol_integer}
 use Rattle.pass_laws.proofs.NormalFacts.MadeStatements.{IsKnown, IsMade, counter_long, made_statements}
@@ -54,7 +52,7 @@ use Rattle.pass_laws.specs.normal_runs.Sources.{loops_in}
 use Rattle.pass_laws.specs.ready_nests.Distinct as ready
 use Rattle.tree.specs.Names.{IsSourceName}
 use Rattle.tree.specs.Plain.{Allocate, Assignment, Block, Deallocate, Declaration, Do, Expression, GoTo, If, Label}
-use Rattle.tree.specs.Plain.{Print, Program, Read, Statement, Stop, Where, arm, no_arms, no_statements, no_subscripts}
+use Rattle.tree.specs.Plain.{Print, Program, Read, Statement, Stop, Where, arm, no_arms, no_statements}
 use Rattle.tree.specs.Plain.{statement}
 use Rattle.tree.specs.declared.ops.Kind.TheVariants.{Integer, Logical}
 use Rattle.prepared_nests.specs.After.{AreEndings, CountsNone, IsEnding, IsPreparedAfter}
@@ -65,7 +63,7 @@ use Rattle.prepared_nests.specs.Nests.{AreMadeParts, IsBranched, IsPreparedSymbo
 use Rattle.prepared_nests.specs.Branches.{IsPreparedTest, StandingTest, tests_under}
 use Rattle.pass_laws.proofs.BranchSources.Found.{found_nest_is_branched_source}
 use Rattle.pass_laws.proofs.NormalFacts.Texts.{plain}
-use Rattle.prepared_nests.specs.Statements.{IsPreparedStatement, expressions_of, guard_or_none}
+use Rattle.prepared_nests.specs.Statements.{IsCanonical, IsPreparedStatement, expressions_of, guard_or_none}
 use Rattle.prepared_nests.proofs.Lists.{Contains-In, distinct_too}
 use Rattle.prepared_nests.proofs.Trips.{BearsNumber, bears_number, names_apart}
 use Rattle.prepared_nests.proofs.Walks.{AreRound, Follow, few, rounds, test_rounds}
@@ -232,11 +230,7 @@ module _ (p : Program) (n m : Nest) (es : List Declaration) (w : Surroundings) (
   fit : (x : Standing) → In x (nest_statements m) → IsFitStatement es w x.statement
   fit x i = each_in (IsFit es n w body line) (nest_statements m) (statements_fit es n w body line sound m made) x i (integers x.loops (round_of x i))
 
-  abbrev IsCanonical : List (List ℕ) → Standing → Type 0
-  IsCanonical symbols x =
-      (x.statement.left.subscripts ≡ no_subscripts) ⊎ (rewritten_statement (canonising (variables_of_loops x.loops) symbols) x.statement ≡ x.statement)
-
-  canonical : (x : Standing) → In x (nest_statements m) → IsCanonical n.symbols x
+  canonical : (x : Standing) → In x (nest_statements m) → IsCanonical (variables_of_loops x.loops) n.symbols x.statement
   canonical x i =
       canonical_is n.symbols x (few_names x.loops (round_of x i)) (apart x.loops (round_of x i))
       (each_in (WasCanonised n.symbols) (nest_statements m)
@@ -263,7 +257,7 @@ module _ (p : Program) (n m : Nest) (es : List Declaration) (w : Surroundings) (
         right = a.right;
         guard = subst (λ o. IfSome o (λ (e : Expression). IsScalar es e Logical)) (sym a.unguarded) tt;
         deep = deep_expressions x.statement a.unguarded a.left_depth a.right_depth;
-        canonical = subst (λ xs. IsCanonical xs x) (sym made.symbols) (canonical x i);
+        canonical = subst (λ xs. IsCanonical (variables_of_loops x.loops) xs x.statement) (sym made.symbols) (canonical x i);
       }
 
   -- ---- what stands behind

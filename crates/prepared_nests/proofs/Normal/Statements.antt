@@ -1,17 +1,18 @@
 -- The statements of what is made of a nest that was found: their names, and their canonical text.
 use Rattle.std.proofs.Common.{◌≡◌, ◌⊎◌, inl, inr, refl, sym, ap, ◌∙◌, subst, ℕ, ◌≤◌, List, [], ◌∷◌, ◌++◌, length, Option}
-use Rattle.std.proofs.Common.{Some, None}
+use Rattle.std.proofs.Common.{Some, None, Contains}
 use Rattle.std.specs.Option.{option_map}
 use Rattle.std.specs.Prelude.{All}
 use Rattle.components.specs.Lists as lists
 use Rattle.last_values.specs.declared.normal_forms.loops.NormalLoop.{NormalLoop}
+use Rattle.last_values.specs.normal_forms.NormalLoops.{counters_of}
 use Rattle.linear_forms.proofs.CanonicalStays.{subscripts_twice, twice}
 use Rattle.linear_forms.specs.Canonical.{canonising}
 use Rattle.linear_forms.specs.CanonicalLaws.{AreDistinct}
 use Rattle.meaning.specs.Reads.{names_in, names_in_subscripts}
 use Rattle.nest.specs.Bodies.{Standing, nest_statements}
 use Rattle.nest.specs.Plain.{Guarded, Loop, Nest}
-use Rattle.nest_order.proofs.orders.Lists.{In-append}
+use Rattle.nest_order.proofs.orders.Lists.{In-append, In-left, In-right}
 use Rattle.nest_order.specs.orders.Lists.{In}
 use Rattle.nest_order.specs.runs.Guarded as guarded
 use Rattle.nest_order.specs.runs.Guarded.{names_of}
@@ -21,14 +22,15 @@ use Rattle.nest_rewrite.specs.Statements.{rewritten_statement}
 use Rattle.normal_loops.specs.Values.{normal_statement, statement_with_values}
 use Rattle.pass_laws.proofs.NormalFacts.MadeStatements.{IsKnown}
 use Rattle.pass_laws.proofs.NormalFacts.Tables.{each_from}
-use Rattle.pass_laws.proofs.NormalFacts.Texts.{GuardIsOver, IsStatementOver, named, named_in, plain, plain_in}
+use Rattle.pass_laws.proofs.NormalFacts.Texts.{CountersAre, GuardIsOver, IsOver, IsStatementOver, end_over, first_over, named, named_in, plain}
+use Rattle.pass_laws.proofs.NormalFacts.Texts.{plain_in}
 use Rattle.pass_laws.proofs.ReadyNests.Lists.{Each-All}
 use Rattle.pass_laws.proofs.ReadyNests.Made.{IsMadeOf}
 use Rattle.pass_laws.proofs.ReadyNests.Walk.{EachIn, Steps, each_statement, standing}
 use Rattle.rewrite.specs.Making.{made, made_subscripts}
 use Rattle.tree.specs.Plain.{Expression, Subscripts, no_subscripts}
 use Rattle.prepared_nests.specs.Loops.{variables_of_loops}
-use Rattle.prepared_nests.specs.Statements.{IsOwn, assignment}
+use Rattle.prepared_nests.specs.Statements.{IsCanonical, IsOwn, assignment}
 use Rattle.prepared_nests.proofs.Lists.{In-Contains, within_32}
 use Rattle.prepared_nests.proofs.Normal.Loops.{AreUnder, none_under, under_more}
 
@@ -64,10 +66,10 @@ own_names ls s h =
 
 -- ---- canonical text
 
--- it assigns a scalar, or was brought into canonical text
+-- it was brought into canonical text, or assigns a scalar what stands over the variables of loops and symbols
 abbrev pub WasCanonised : List (List ℕ) → Standing → Type 0
 WasCanonised symbols x =
-    (x.statement.left.subscripts ≡ no_subscripts)
+    ((x.statement.guard ≡ None) × (x.statement.left.subscripts ≡ no_subscripts) × IsOver (λ y. In y (variables_of_loops x.loops ++ symbols)) x.statement.right)
     ⊎ ((g : Guarded) × (x.statement ≡ rewritten_statement (canonising (variables_of_loops x.loops) symbols) g))
 
 module _ (n m : Nest) where
@@ -79,12 +81,22 @@ module _ (n m : Nest) where
         ap (λ xs. rewritten_statement (canonising xs n.symbols) (statement_with_values n.symbols [] round g)) u.counters,
       )
 
+  known_symbols : (ls : List Loop) → lists.Each (λ y. In y (variables_of_loops ls ++ n.symbols)) n.symbols
+  known_symbols ls = each_from (λ y. In y (variables_of_loops ls ++ n.symbols)) n.symbols (λ y i. In-right y (variables_of_loops ls) n.symbols i)
+
+  known_counters : (round : List NormalLoop) (ls : List Loop) → AreUnder round ls → CountersAre (λ y. In y (variables_of_loops ls ++ n.symbols)) round
+  known_counters round ls u = each round (λ y i. In-left y (variables_of_loops ls) n.symbols (subst (λ (xs : List (List ℕ)). In y xs) u.counters i))
+    where
+      each : (rs : List NormalLoop) → ((y : List ℕ) → In y (counters_of rs) → In y (variables_of_loops ls ++ n.symbols)) → CountersAre (λ y. In y (variables_of_loops ls ++ n.symbols)) rs
+      each [] f = tt
+      each (r ∷ rs) f = (f r.counter (inl refl), each rs (λ y i. f y (inr i)))
+
   steps : (Source : Guarded → Type 0) (Fair : Loop → Type 0) → ((l : Loop) → Fair l → l.number ≤ 4294967295) → Steps n Source Fair AreUnder (WasCanonised n.symbols)
   steps Source Fair few = record {
     run = λ round ls g u p. run round ls g u;
     turns = λ round ls l r u f e. under_more n Fair few round ls l r u e;
-    first = λ round ls l r u f e. inl refl;
-    end = λ round ls l r u f e. inl refl;
+    first = λ round ls l r u f e. inl (refl, refl, first_over (λ y. In y (variables_of_loops ls ++ n.symbols)) n.symbols (known_symbols ls) round r (known_counters round ls u));
+    end = λ round ls l r u f e. inl (refl, refl, end_over (λ y. In y (variables_of_loops ls ++ n.symbols)) n.symbols (known_symbols ls) round r (known_counters round ls u));
   }
 
   pub were_canonised : (Source : Guarded → Type 0) (Fair : Loop → Type 0) → ((l : Loop) → Fair l → l.number ≤ 4294967295) → IsMadeOf n m → EachIn Source Fair n.body
@@ -111,8 +123,21 @@ module _ (loops symbols : List (List ℕ)) (few : length loops ≤ 7) (apart : A
       ∙ ap (λ e. statement_of g (option_map settled g.guard) (made_subscripts (canonising loops symbols) g.left.subscripts) e) (twice loops symbols few apart g.right))
 
 pub canonical_is : (symbols : List (List ℕ)) (x : Standing) → length (variables_of_loops x.loops) ≤ 7 → AreDistinct (variables_of_loops x.loops ++ symbols) → WasCanonised symbols x
-    → (x.statement.left.subscripts ≡ no_subscripts) ⊎ (rewritten_statement (canonising (variables_of_loops x.loops) symbols) x.statement ≡ x.statement)
-canonical_is symbols x few apart (inl e) = inl e
+    → IsCanonical (variables_of_loops x.loops) symbols x.statement
+canonical_is symbols x few apart (inl h) =
+    let loops : List (List ℕ) = variables_of_loops x.loops in
+    record {
+      guard = subst (λ (o : Option Expression). option_map (made (canonising loops symbols)) o ≡ o) (sym h.0) refl;
+      left = subst (λ (ss : Subscripts). made_subscripts (canonising loops symbols) ss ≡ ss) (sym h.1) refl;
+      right = inr (Each-All (Contains (loops ++ symbols)) (names_in x.statement.right)
+          (each_from (Contains (loops ++ symbols)) (names_in x.statement.right) (λ y i. In-Contains y (loops ++ symbols) (named (λ y. In y (loops ++ symbols)) x.statement.right h.2 y i))));
+    }
 canonical_is symbols x few apart (inr g) =
-    inr (subst (λ (s : Guarded). rewritten_statement (canonising (variables_of_loops x.loops) symbols) s ≡ s) (sym g.1)
-    (statement_twice (variables_of_loops x.loops) symbols few apart g.0))
+    let loops : List (List ℕ) = variables_of_loops x.loops in
+    let twice : rewritten_statement (canonising loops symbols) x.statement ≡ x.statement =
+    subst (λ (s : Guarded). rewritten_statement (canonising loops symbols) s ≡ s) (sym g.1) (statement_twice loops symbols few apart g.0) in
+    record {
+      guard = ap (λ (s : Guarded). s.guard) twice;
+      left = ap (λ (s : Guarded). s.left.subscripts) twice;
+      right = inl (ap (λ (s : Guarded). s.right) twice);
+    }

@@ -105,7 +105,7 @@ module _ (loops symbols : List (List ℕ)) (o : Op) (none : (k l : Option ℤ) (
         by (Ok v) h = ap (λ us. cond (list_any (λ (u : Use). is_among loops u.name) us) (canonical_text loops symbols whole) whole) (no_uses whole v h)
         by (Err f) h = kept (mentions loops whole) (ap (λ g. text_or loops symbols g whole) (no_form f h))
 
-    pair_stays : settled a ≡ a → settled b ≡ b → settled whole ≡ whole
+    pub pair_stays : settled a ≡ a → settled b ≡ b → settled whole ≡ whole
     pair_stays h k = ap₂ (λ x y. canonical_node loops symbols whole (Binary o x y)) h k ∙ node_stays
 
 -- ---- trips

@@ -2,11 +2,10 @@
 use Rattle.std.proofs.Common.{◌≡◌, ◌⊎◌, inl, inr, refl, ◌∙◌, ap, subst, sym, ℕ, ◌+◌, ◌<◌, ◌≤◌, Option}
 use Rattle.std.proofs.Common.{List, [], ◌∷◌, ◌++◌, map, take, drop, length, get_or, option_map, Contains, append-nil}
 use Rattle.std.proofs.Common.{take-append-drop}
-use Rattle.std.specs.Prelude.{All}
 use Rattle.std.specs.List.{flat_map}
 use Rattle.std.proofs.lemmas.List.{drop_more, map-append, take_all, take_more}
 use Rattle.std.proofs.lemmas.List.Concat.{flat_map-append}
-use Rattle.std.proofs.lemmas.List.Elements.{All-nil, All-push, Contains-append_left, Contains-append_right}
+use Rattle.std.proofs.lemmas.List.Elements.{Contains-append_left, Contains-append_right}
 use Rattle.components.specs.Lists.{Each, Pairwise}
 use Rattle.f90_print.specs.Notes.{text_of}
 use Rattle.find_nests.specs.Found.{Found, InNest, Kept, found_in}
@@ -25,40 +24,62 @@ use Rattle.translation.specs.loop_numbers.Numbers.{ComesBefore, nests_among}
 use Rattle.translation.specs.loop_placing.Placing.{blocks_of}
 use Rattle.nest.specs.Plain.{Nest}
 use Rattle.meaning_laws.proofs.profiles.Lists.{cases_of, here, nowhere}
-use Rattle.translation.specs.nest_blocks.Answers.{AreAnswersFor, ArePlaced}
+use Rattle.translation.specs.nest_blocks.Answers.{AreAnswersFor, ArePlaced, AreRight}
 use Rattle.translation.specs.nest_blocks.Places.{IsPutFor}
 use Rattle.translation.proofs.NestBlocks.Placed.{IsBehind, placed_more, placed_none}
 use Rattle.translation.specs.made_declarations.Declaring.{declaration_of_name}
 use Rattle.translation.specs.declared.made_declarations.names.MadeName.{MadeName}
 use Rattle.translation.specs.nest_blocks.LoopAnswers.{Answer, IsAnswerTo, IsRight, entries_by, found_by, made_by}
+use Rattle.translation.specs.nest_blocks.LoopAnswers.{masks_by}
 
--- answers to these, what they list, what they put in the place of loops, and what passes made
+-- ---- masks
+
+-- how many masks are made behind these answers
+abbrev masks_after : ℕ → List Answer → ℕ
+masks_after masks [] = masks
+masks_after masks (a ∷ answers) = masks_after (masks_by masks a) answers
+
+right_too : (masks : ℕ) (answers : List Answer) (a : Answer) → AreRight masks answers → IsRight (masks_after masks answers) a
+    → AreRight masks (answers ++ a ∷ [])
+right_too masks [] a h own = (own, tt)
+right_too masks (x ∷ answers) a h own = (h.0, right_too (masks_by masks x) answers a h.1 own)
+
+masks_too : (masks : ℕ) (answers : List Answer) (a : Answer)
+    → masks_after masks (answers ++ a ∷ []) ≡ masks_by (masks_after masks answers) a
+masks_too masks [] a = refl
+masks_too masks (x ∷ answers) a = masks_too (masks_by masks x) answers a
+
+-- ---- answers
+
+-- answers to these, what they list, what they put in the place of loops, what passes made, and how many masks
 pub record AreAnswersTo (fs : List Found) (lines : List (List ℕ)) (blocks : List (Option Block)) (made : List Declaration)
-    : Type 0 where
+    (masks : ℕ) : Type 0 where
   pub answers : List Answer
-  pub right : All IsRight answers
+  pub right : AreRight 0 answers
   pub found : map found_by answers ≡ fs
   pub lines_are : lines ≡ lines_of_entries (flat_map entries_by answers)
   pub placed : ArePlaced answers blocks
   pub made_are : made ≡ flat_map made_by answers
+  pub masks_are : masks ≡ masks_after 0 answers
 
-answers_none : AreAnswersTo [] [] [] []
+answers_none : AreAnswersTo [] [] [] [] 0
 answers_none = record {
   answers = [];
-  right = All-nil IsRight;
+  right = tt;
   found = refl;
   lines_are = refl;
   placed = placed_none;
   made_are = refl;
+  masks_are = refl;
 }
 
 answers_more : (fs : List Found) (f : Found) (old more new : List (List ℕ)) (block : Option Block)
-    (before after : List (Option Block)) (had own have : List Declaration) → AreAnswersTo fs old before had
-    → IsAnswerTo f more block own → IsBehind fs f → new ≡ old ++ more → IsPutFor f block before after
-    → have ≡ had ++ own → AreAnswersTo (fs ++ f ∷ []) new after have
-answers_more fs f old more new block before after had own have h a behind lines put made = record {
+    (before after : List (Option Block)) (had own have : List Declaration) (masks next : ℕ)
+    → AreAnswersTo fs old before had masks → IsAnswerTo masks f more block own next → IsBehind fs f → new ≡ old ++ more
+    → IsPutFor f block before after → have ≡ had ++ own → AreAnswersTo (fs ++ f ∷ []) new after have next
+answers_more fs f old more new block before after had own have masks next h a behind lines put made = record {
   answers = h.answers ++ a.answer ∷ [];
-  right = All-push IsRight h.answers a.answer h.right a.right;
+  right = right_too 0 h.answers a.answer h.right (subst (λ (k : ℕ). IsRight k a.answer) h.masks_are a.right);
   found =
       map-append found_by h.answers (a.answer ∷ []) ∙ ap (λ gs. gs ++ found_by a.answer ∷ []) h.found
       ∙ ap (λ g. fs ++ g ∷ []) a.found;
@@ -73,6 +94,8 @@ answers_more fs f old more new block before after had own have h a behind lines 
       made ∙ ap (λ ds. ds ++ own) h.made_are ∙ ap (λ ds. flat_map made_by h.answers ++ ds) a.made_are
       ∙ ap (λ ds. flat_map made_by h.answers ++ ds) (sym (append-nil (made_by a.answer)))
       ∙ sym (flat_map-append made_by h.answers (a.answer ∷ []));
+  masks_are =
+      a.masks_are ∙ ap (λ (k : ℕ). masks_by k a.answer) h.masks_are ∙ sym (masks_too 0 h.answers a.answer);
 }
   where
     entries : flat_map entries_by (h.answers ++ a.answer ∷ []) ≡ flat_map entries_by h.answers ++ entries_by a.answer
@@ -130,25 +153,26 @@ declared_as made = map declaration_of_name made
 
 pub found_none : (items : List Found') (lines : List Line) (blocks : List (Option Tree)) (made : List MadeName)
     → lines ≡ [] → blocks ≡ [] → made ≡ []
-    → AreAnswersTo (map found_of (take 0 items)) (map text_of lines) (blocks_of blocks) (declared_as made)
+    → AreAnswersTo (map found_of (take 0 items)) (map text_of lines) (blocks_of blocks) (declared_as made) 0
 found_none items lines blocks made l b d =
-    subst (λ (ds : List MadeName). AreAnswersTo [] (map text_of lines) (blocks_of blocks) (declared_as ds)) (sym d)
-    (subst (λ (bs : List (Option Tree)). AreAnswersTo [] (map text_of lines) (blocks_of bs) []) (sym b)
-    (subst (λ (ls : List Line). AreAnswersTo [] (map text_of ls) [] []) (sym l) answers_none))
+    subst (λ (ds : List MadeName). AreAnswersTo [] (map text_of lines) (blocks_of blocks) (declared_as ds) 0) (sym d)
+    (subst (λ (bs : List (Option Tree)). AreAnswersTo [] (map text_of lines) (blocks_of bs) [] 0) (sym b)
+    (subst (λ (ls : List Line). AreAnswersTo [] (map text_of ls) [] [] 0) (sym l) answers_none))
 
 module _ (p : Program) (items : List Found') (is : map found_of items ≡ found_in p) where
   pub found_more : (i : ℕ) (x : Found') (old more new : List Line) (block : Option Tree)
-      (before after : List (Option Tree)) (had own have : List MadeName) → IsProgram77 fortran77 p → i < length items
-      → x ≡ get_or items i x
-      → AreAnswersTo (map found_of (take i items)) (map text_of old) (blocks_of before) (declared_as had)
-      → IsAnswerTo (found_of x) (map text_of more) (option_map block_of block) (declared_as own) → new ≡ old ++ more
+      (before after : List (Option Tree)) (had own have : List MadeName) (masks next : ℕ) → IsProgram77 fortran77 p
+      → i < length items → x ≡ get_or items i x
+      → AreAnswersTo (map found_of (take i items)) (map text_of old) (blocks_of before) (declared_as had) masks
+      → IsAnswerTo masks (found_of x) (map text_of more) (option_map block_of block) (declared_as own) next
+      → new ≡ old ++ more
       → IsPutFor (found_of x) (option_map block_of block) (blocks_of before) (blocks_of after) → have ≡ had ++ own
-      → AreAnswersTo (map found_of (take (i + 1) items)) (map text_of new) (blocks_of after) (declared_as have)
-  found_more i x old more new block before after had own have program within at h answer lines put made =
-      subst (λ (fs : List Found). AreAnswersTo fs (map text_of new) (blocks_of after) (declared_as have)) (sym one)
+      → AreAnswersTo (map found_of (take (i + 1) items)) (map text_of new) (blocks_of after) (declared_as have) next
+  found_more i x old more new block before after had own have masks next program within at h answer lines put made =
+      subst (λ (fs : List Found). AreAnswersTo fs (map text_of new) (blocks_of after) (declared_as have) next) (sym one)
       (answers_more (map found_of (take i items)) (found_of x) (map text_of old) (map text_of more) (map text_of new)
       (option_map block_of block) (blocks_of before) (blocks_of after) (declared_as had) (declared_as own)
-      (declared_as have) h answer
+      (declared_as have) masks next h answer
       (behind p (map found_of (take i items)) (map found_of (drop (i + 1) items)) (found_of x) program whole)
       (ap (map text_of) lines ∙ map-append text_of old more) put
       (ap (map declaration_of_name) made ∙ map-append declaration_of_name had own))
@@ -167,11 +191,11 @@ module _ (p : Program) (items : List Found') (is : map found_of items ≡ found_
       whole = sym (map-append found_of (take i items) (x ∷ drop (i + 1) items)) ∙ ap (map found_of) parts ∙ is
 
   pub found_all : (i : ℕ) (lines given : List Line) (blocks stand : List (Option Tree)) (made have : List MadeName)
-      → length items ≤ i
-      → AreAnswersTo (map found_of (take i items)) (map text_of lines) (blocks_of blocks) (declared_as made)
+      (masks : ℕ) → length items ≤ i
+      → AreAnswersTo (map found_of (take i items)) (map text_of lines) (blocks_of blocks) (declared_as made) masks
       → given ≡ lines → stand ≡ blocks → have ≡ made
       → AreAnswersFor p (map text_of given) (blocks_of stand) (declared_as have)
-  found_all i lines given blocks stand made have h k l b d =
+  found_all i lines given blocks stand made have masks h k l b d =
       subst (λ (ds : List MadeName). AreAnswersFor p (map text_of given) (blocks_of stand) (declared_as ds)) (sym d)
       (subst (λ (bs : List (Option Tree)). AreAnswersFor p (map text_of given) (blocks_of bs) (declared_as made)) (sym b)
       (subst (λ (ls : List Line). AreAnswersFor p (map text_of ls) (blocks_of blocks) (declared_as made)) (sym l) (record {

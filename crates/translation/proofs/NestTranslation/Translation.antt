@@ -1,9 +1,8 @@
 -- What stands in the place of a nest does what the nest's loop does: its arrays come to be, what was emitted goes on as
--- the nest does, which goes on as the loop, and the arrays go.
+-- the last nest does, which goes on as the loop, and the arrays go.
 use Rattle.std.proofs.Common.{◌≡◌, refl, sym, ap, ◌∙◌, subst, ℕ, ℤ, false, List, [], ◌∷◌, Option, Some, None, Contains}
 use Rattle.std.specs.Option.{IsSomeAnd}
 use Rattle.std.specs.Prelude.{All}
-use Rattle.array_form.specs.holds.Statements.{no_statement}
 use Rattle.emission.specs.emission_forms.Written.{HaveGuardedNames}
 use Rattle.emission.specs.emission_pieces.Pieces.{Pieces, block_of_pieces}
 use Rattle.emission.specs.graph_orders.Nests.{run_nest}
@@ -35,10 +34,8 @@ use Rattle.nest.specs.Bodies.{nest_loops}
 use Rattle.nest.specs.Plain.{Loop, Made, Nest}
 use Rattle.nest_order.specs.runs.Guarded.{variable_cell}
 use Rattle.nest_order.specs.runs.Nests.{is_variable}
-use Rattle.nest_order.specs.runs.Stores.{Setting}
 use Rattle.nest_order.specs.runs.Touched.{nth_of}
 use Rattle.nest_steps.specs.Keeping.{GoOnAlike}
-use Rattle.pass_laws.proofs.FoundSources.PlainNests.{normal_nests_are_plain}
 use Rattle.pass_laws.proofs.NormalFacts.MadeStatements.{counter_long}
 use Rattle.pass_laws.proofs.NormalFacts.Tables.{all_in}
 use Rattle.pass_laws.specs.normal_facts.Laws.{IsCounter}
@@ -48,7 +45,7 @@ use Rattle.prepared_nests.specs.Nests.{IsPrepared, IsPreparedSymbol}
 use Rattle.prepared_runs.proofs.Allocations.{arrays_are_allocated, arrays_are_deallocated}
 use Rattle.prepared_runs.proofs.Counters.{no_variable}
 use Rattle.prepared_runs.proofs.Endings.{endings_no_label}
-use Rattle.prepared_runs.proofs.Found.{normal_nest_goes_on_as_loop, short_name, with_rest}
+use Rattle.prepared_runs.proofs.Found.{short_name, with_rest}
 use Rattle.prepared_runs.proofs.Pieces.{does_then, pieces_no_label, then_no_label}
 use Rattle.prepared_runs.proofs.Together.{in_list, pieces_go_on_as_nest}
 use Rattle.prepared_runs.proofs.Symbols.{IsNumber, holds_number, value_there, values_in, values_sized}
@@ -63,10 +60,13 @@ use Rattle.translation.proofs.NestTranslation.Arrays.{of_77, of_90, sized_still}
 use Rattle.translation.proofs.NestTranslation.Bounds.{sequential_keeps_bounds}
 use Rattle.translation.proofs.NestTranslation.Cleaned.{add_both, agree_back, agree_fewer, agree_on, cleaned, cleaned_agrees}
 use Rattle.translation.proofs.NestTranslation.Cleaned.{cleaned_holds, cleaned_sized, same_agree}
-use Rattle.translation.proofs.NestTranslation.Prepared.{passed_nest_is_prepared}
+use Rattle.translation.proofs.NestTranslation.Converted.{converted_nest_goes_on_as_loop}
+use Rattle.translation.proofs.NestTranslation.Guarded.{prepared_nest_has_guarded_names}
+use Rattle.translation.proofs.NestTranslation.Prepared.{masks_are_declared, none_are_arrays, passed_nest_is_prepared}
+use Rattle.translation.proofs.NestTranslation.Prepared.{same_declarations}
 use Rattle.translation.proofs.PlacedProfile.SourceNames.{source_name}
 use Rattle.translation.proofs.ProgramTranslation.Standing.{Stands, loop_stands}
-use Rattle.translation.specs.nest_translation.Laws.{IsTranslatedNest, TranslationDoesAsLoop}
+use Rattle.translation.specs.nest_translation.Laws.{AreMadeDeclared, IsTranslatedNest, TranslationDoesAsLoop}
 use Rattle.translation.specs.placed_loops.Beside.{AreBeside}
 
 -- ---- names
@@ -111,7 +111,8 @@ module _ (p q r : Program) (n m : Nest) (b : Block) (w : Surroundings) (found : 
     (program : IsProgram77 fortran77 p) (is_nest : Contains (found_in p) (InNest n))
     (add : AddMadeNames p.declarations q.declarations) (more : AddMadeNames q.declarations r.declarations)
     (translated : IsTranslatedNest n m b)
-    (counters : All (λ (l : Loop). IsSomeAnd (declared r.declarations l.variable) IsCounter) (nest_loops m))
+    (counters : All (λ (l : Loop). IsSomeAnd (declared r.declarations l.variable) IsCounter)
+    (nest_loops translated.passed.normal)) (made : AreMadeDeclared r m)
     (names : All (Contains (names_of q)) (names_in_block b)) (block : IsBlock q.declarations b w) where
   abbrev c : Statement
   c = as_statement found.loop.loop.loop
@@ -130,12 +131,13 @@ module _ (p q r : Program) (n m : Nest) (b : Block) (w : Surroundings) (found : 
 
   prepared : IsPrepared r.declarations around normal_depth m
   prepared =
-      passed_nest_is_prepared p r n m stands.round found program is_nest translated.passed all counters stands.named stands.is
+      passed_nest_is_prepared p r translated.masks n m stands.round found program is_nest translated.passed all counters
+      made stands.named stands.is
 
-  -- no statement has a guard so far
-  unguarded : (v : Setting) → HaveGuardedNames m v
-  unguarded v s within guarded =
-      absurd (guarded ((normal_nests_are_plain p n m program is_nest translated.passed.made translated.passed.alone).2 s no_statement within))
+  own_declarations : AddMadeNames m.declarations r.declarations
+  own_declarations =
+      subst (λ (ds : List Declaration). AddMadeNames ds r.declarations)
+      (sym (same_declarations p translated.masks n m found translated.passed)) all
 
   no_label : HasNoLabel b
   no_label =
@@ -222,14 +224,15 @@ module _ (p q r : Program) (n m : Nest) (b : Block) (w : Surroundings) (found : 
           (ap (λ (x : State). x.way) allocated.rest ∙ sym beside.way);
     }
 
-    -- ---- from the loop to the nest that the passes make
+    -- ---- from the loop to the last nest that the passes make
 
     abbrev second : State
     second = does_all fortran77 None (loops_then_after m) u
 
     one : GoOnAlike p (does fortran77 None c s) second
     one =
-        normal_nest_goes_on_as_loop p r n m found s u program is_nest translated.passed.made all counters u_holds
+        converted_nest_goes_on_as_loop p r translated.masks n m found s u program is_nest translated.passed all counters
+        (masks_are_declared r translated.masks translated.passed.normal m translated.passed.converted made) u_holds
         (sized_still r around normal_depth m v t0 prepared sized allocated) start sound
 
     second_goes : second.way ≡ Going
@@ -249,9 +252,15 @@ module _ (p q r : Program) (n m : Nest) (b : Block) (w : Surroundings) (found : 
       made = allocated.made;
     }
 
+    -- what is made are masks, so no array is among it
+    guarded : HaveGuardedNames m (setting_at may)
+    guarded =
+        prepared_nest_has_guarded_names r around normal_depth m u prepared own_declarations may
+        (λ k within is_guarded x i array. absurd (none_are_arrays p translated.masks n m found translated.passed x.name array))
+
     two : GoOnTogether m u second third
     two =
-        pieces_go_on_as_nest r around normal_depth m ps u all.are prepared translated.are may (unguarded (setting_at may))
+        pieces_go_on_as_nest r around normal_depth m ps u all.are prepared translated.are may guarded
         (subst IsSound (sym second_goes) tt)
 
     near : Agree p second.store third.store
@@ -354,8 +363,8 @@ module _ (p q r : Program) (n m : Nest) (b : Block) (w : Surroundings) (found : 
     }
 
 pub translation_does_as_loop : TranslationDoesAsLoop
-translation_does_as_loop p q r n m b w found program is_nest add more translated counters names block = (
+translation_does_as_loop p q r n m b w found program is_nest add more translated counters made names block = (
   (λ s t going beside sound.
-      ends p q r n m b w found program is_nest add more translated counters names block s t going beside sound),
-  no_label p q r n m b w found program is_nest add more translated counters names block,
+      ends p q r n m b w found program is_nest add more translated counters made names block s t going beside sound),
+  no_label p q r n m b w found program is_nest add more translated counters made names block,
 )

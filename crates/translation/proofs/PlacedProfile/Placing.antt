@@ -2,7 +2,6 @@
 use Rattle.std.proofs.Common.{◌≡◌, refl, sym, ap, subst, ◌∙◌, ℕ, Option, Some, None, List, [], ◌∷◌, ◌++◌, IsTrue}
 use Rattle.std.proofs.Common.{◌⊎◌, inl, inr, append_assoc, length, IfSome, Contains}
 use Rattle.std.specs.Option.{IsSomeAnd}
-use Rattle.std.specs.List.{AllByRecursion}
 use Rattle.std.proofs.lemmas.List.Elements.{Contains-append_left, Contains-append_right}
 use Rattle.meaning_laws.proofs.profiles.Lists.{all_at, cases_of, here, nowhere, there}
 use Rattle.meaning_laws.proofs.profiles.Names.{found}
@@ -13,9 +12,8 @@ use Rattle.tree.specs.Plain.{Statement, Assignment, Where, If, Do, Label, GoTo, 
 use Rattle.tree.specs.Plain.{Deallocate, Arms, no_arms, arm, Block, no_statements, statement, block, Declaration, no_subscripts}
 use Rattle.tree.specs.Plain.{Program}
 use Rattle.meaning.specs.Blocks.{Surroundings, before_labels, labels_of, outermost}
-use Rattle.meaning.specs.Labels.{has_arm, all_labels_in, targets_in}
+use Rattle.meaning.specs.Labels.{has_arm}
 use Rattle.meaning.specs.Blocks.{within_loop}
-use Rattle.meaning.specs.Labels.{IsWithoutRepeats}
 use Rattle.meaning.specs.Dialect.{fortran77}
 use Rattle.meaning.specs.SymbolicNames.{IsLongName}
 use Rattle.meaning.specs.Profile77 as source
@@ -26,7 +24,8 @@ use Rattle.meaning.specs.Typed77.{IsDoVariable}
 use Rattle.find_nests.specs.Loops.{Placed, SourceLoop, as_statement, loops_in, loops_in_arms, loops_in_block}
 use Rattle.translation.specs.loop_placing.Placing.{block_at, instead, placed, placed_arms, placed_in}
 use Rattle.find_nests.specs.nest_parts.Numbers.{after, after_arms, after_block, next}
-use Rattle.translation.proofs.PlacedProfile.Labels.{block_of_statements, labels-append, HasSameLabels, Suit, block_labels}
+use Rattle.translation.proofs.PlacedProfile.Labels.{LabelsSuit, Suit, block_of_statements, block_top, labels-append}
+use Rattle.translation.proofs.PlacedProfile.Labels.{labels_suit}
 use Rattle.translation.proofs.PlacedProfile.SourceNames.{source_name}
 use Rattle.translation.specs.placed_profile.Laws.{AreSourceNames, PlacedProgramIsProgram, SuitsLoop}
 
@@ -128,7 +127,7 @@ module _ (p q : Program) (is : source.IsProgram77 fortran77 p) (blocks : List (O
     block_is k around (statement c cs) w h v s t =
         let later : Suit p q blocks (loops_in_block (after k c) around cs) = λ l b i e. h l b (Contains-append_right (loops_in k around c) (loops_in_block (after k c) around cs) l i) e in
         blocks_together q.declarations (placed blocks k c) (placed_in blocks (after k c) cs) w
-        (subst (λ ns. target.IsBlock q.declarations (block (placed blocks k c)) (before_labels ns w)) (sym (block_labels p q blocks (after k c) around cs later).top)
+        (subst (λ ns. target.IsBlock q.declarations (block (placed blocks k c)) (before_labels ns w)) (sym (block_top p q blocks (after k c) around cs later))
         (statement_is k around c (before_labels (labels_of cs) w) (λ l b i e. h l b (Contains-append_left (loops_in k around c) (loops_in_block (after k c) around cs) l i) e) v s.0 t.0))
         (block_is (after k c) around cs w later v s.1 t.1)
 
@@ -137,15 +136,13 @@ module _ (p q : Program) (is : source.IsProgram77 fortran77 p) (blocks : List (O
 pub placed_program_is_program : PlacedProgramIsProgram
 placed_program_is_program p q blocks is add name same suit few =
     let whole = source_with_made_names fortran77 p q.declarations is add in
-    let labels : HasSameLabels p.body q.body = subst (HasSameLabels p.body) (sym same) (block_labels p q blocks 0 [] p.body suit) in
+    let labels : LabelsSuit q.body = subst LabelsSuit (sym same) (labels_suit p q blocks is suit) in
     record {
       name = subst (λ o. IfSome o IsLongName) (sym name) whole.name;
       declarations = add.are;
       statements = subst (λ b. target.IsBlock q.declarations b outermost) (sym same) (block_is p q is blocks 0 [] p.body outermost suit (λ x c. absurd (nowhere x c)) is.statements whole.statements);
       blocks = few.deep;
-      labels = subst IsWithoutRepeats (sym labels.all) is.labels;
-      named =
-          subst (λ ns. AllByRecursion (Contains ns) (all_labels_in q.body)) (sym labels.targets)
-          (subst (AllByRecursion (Contains (targets_in p.body))) (sym labels.all) is.named);
+      labels = labels.once;
+      named = labels.named;
       few = few.many;
     }

@@ -7,7 +7,7 @@ use Rattle.meaning_laws.proofs.profiles.Lists.{cases_of, here, nowhere, there}
 use Rattle.nest.specs.Plain.{Nest}
 use Rattle.listing.specs.programs.Listing.{ListedNest}
 use Rattle.translation.specs.nest_blocks.Answers.{nests_by}
-use Rattle.translation.specs.nest_blocks.LoopAnswers.{Answer, Kept, Translated, Untested, nest_by}
+use Rattle.translation.specs.nest_blocks.LoopAnswers.{Answer, Kept, Translated, nest_by}
 
 abbrev listed_as : Nest → Nest → Graph → ListedNest
 listed_as n m g = record { found = n; normal = m; graph = g }
@@ -26,7 +26,6 @@ by_one (Translated n m g ps) rest t c = by (cases_of (listed_as n m g) [] t c)
     by : (listed_as n m g ≡ t) ⊎ Contains [] t → IsByAnswer (Translated n m g ps ∷ rest) t
     by (inl e) = subst (IsByAnswer (Translated n m g ps ∷ rest)) e of_own
     by (inr d) = absurd (nowhere t d)
-by_one (Untested n) rest t c = absurd (nowhere t c)
 by_one (Kept line r) rest t c = absurd (nowhere t c)
 
 pub by_answer : (answers : List Answer) (t : ListedNest) → Contains (nests_by answers) t → IsByAnswer answers t

@@ -2,7 +2,6 @@
 use Rattle.std.proofs.Common.{◌≡◌, refl, sym, ap, ap₂, subst, ◌∙◌, ℕ, zero, suc, ◌≤◌, ◌<◌, arith, true, not, ◌&&◌}
 use Rattle.std.proofs.Common.{Option, None, Some, Bool, List, [], map, length, Contains}
 use Rattle.std.specs.Prelude.{is_some}
-use Rattle.std.proofs.lemmas.List.Elements.{All-contains}
 use Rattle.meaning_laws.proofs.arrays.Members.{in_map}
 use Rattle.components.proofs.ListLaws.{Each-from}
 use Rattle.components.specs.Lists.{Distinct, In}
@@ -23,13 +22,14 @@ use Rattle.translation.proofs.LoopNumbers.Behind.{next_from_one}
 use Rattle.translation.proofs.LoopNumbers.Nests.{loops_are_numbered, nests_are_numbered}
 use Rattle.translation.specs.loop_numbers.Numbers.{loop_number, nests_among}
 use Rattle.translation.specs.loop_placing.Placing.{block_at, placed_in}
+use Rattle.translation.proofs.NestBlocks.Blocks.{each_right}
 use Rattle.translation.specs.nest_blocks.Answers.{AreAnswers, ArePlaced, Puts, nests_by}
 use Rattle.find_nests.specs.nest_parts.Numbers.{next}
 use Rattle.nest.specs.Bodies.{nest_statements}
 use Rattle.nest.specs.Plain.{Nest}
 use Rattle.listing.specs.programs.Listing.{ListedNest}
 use Rattle.meaning_laws.proofs.profiles.Lists.{nowhere}
-use Rattle.translation.specs.nest_blocks.LoopAnswers.{Answer, IsRight, Kept, Translated, Untested, found_by}
+use Rattle.translation.specs.nest_blocks.LoopAnswers.{Answer, Kept, Translated, found_by}
 use Rattle.translation.specs.program_translation.Translated.{IsPlacedBy}
 use Rattle.translation.specs.program_marks.Laws.{TranslationIsMarked}
 use Rattle.translation.specs.program_marks.Marks.{AreBlocksOf, AreOfNests, HasBlock, IsMarkedAsListed, IsMarkedByGraph}
@@ -53,8 +53,8 @@ module _ (p : Program) (answers : List Answer) (blocks : List (Option Block)) (p
   marked_nest : (n m : Nest) (g : Graph) (ps : Pieces) → Contains answers (Translated n m g ps)
       → IsMarkedByGraph (record { found = n; normal = m; graph = g }) (translation m ps)
   marked_nest n m g ps c =
-      marked_by_graph p n m g ps program (found n m g ps c)
-      (All-contains IsRight answers (Translated n m g ps) are.right c) emission_is_marked emission_keeps_together
+      let right = each_right 0 answers (Translated n m g ps) are.right c in
+      marked_by_graph p right.0 n m g ps program (found n m g ps c) right.1 emission_is_marked emission_keeps_together
 
   -- what stands in the place of the loop with this number
   record HasNest (k : ℕ) (t : Block) : Type 0 where
@@ -79,7 +79,6 @@ module _ (p : Program) (answers : List Answer) (blocks : List (Option Block)) (p
         number = (let h = puts.found in let same : n ≡ puts.nest = cc in ap loop_number same ∙ puts.number);
         is = (let h = puts.block in let same : t ≡ translation m ps = cc in same);
       }
-      by (Untested n) c puts = let h = puts.block in let no : ⊥ = cc in absurd no
       by (Kept line r) c puts = let h = puts.block in let no : ⊥ = cc in absurd no
 
   -- the block at 0 is that at 1

@@ -1,8 +1,9 @@
 -- What stands in the place of a nest is marked as its graph has it.
-use Rattle.std.proofs.Common.{◌≡◌, ◌⊎◌, inl, inr, refl, sym, ap, subst, ◌∙◌, ◌<◌, ◌≤◌, Bool, true, false, cond, None}
-use Rattle.std.proofs.Common.{Some, List, [], ◌∷◌, length, Contains, arith}
+use Rattle.std.proofs.Common.{◌≡◌, ◌⊎◌, inl, inr, refl, sym, ap, subst, ◌∙◌, ℕ, ◌<◌, ◌≤◌, Bool, true, false, cond, None}
+use Rattle.std.proofs.Common.{All, Some, List, [], ◌∷◌, length, Contains, arith}
 use Rattle.std.proofs.lemmas.Bool.{cases_lt}
 use Rattle.std.proofs.lemmas.List.{get_or_past}
+use Rattle.std.proofs.lemmas.List.Elements.{All-weaker}
 use Rattle.dependence_graph.specs.declared.graphs.Graph.{Graph}
 use Rattle.emission.specs.emission_marks.Laws.{EmissionIsMarked, EmissionKeepsTogether, MayBeMarked}
 use Rattle.emission.specs.emission_marks.Marks.{marked_in}
@@ -10,7 +11,6 @@ use Rattle.emission.specs.emission_pieces.Nests.{loops_at}
 use Rattle.emission.specs.emission_pieces.Pieces.{Pieces, block_of_pieces, translation}
 use Rattle.find_nests.proofs.FoundLaws.{found_nest_is_loop}
 use Rattle.find_nests.specs.Found.{InNest, found_in}
-use Rattle.pass_laws.proofs.FoundSources.PlainNests.{normal_nests_are_plain}
 use Rattle.meaning.specs.Dialect.{fortran77}
 use Rattle.meaning.specs.Profile77.{IsProgram77}
 use Rattle.tree.specs.Plain.{Block, Program}
@@ -18,19 +18,25 @@ use Rattle.emission.proofs.GraphEdges.Leading.{edges_lead}
 use Rattle.emission.specs.graph_edges.Laws.{IsShallow}
 use Rattle.last_values.specs.ValuesBehind.{values_behind}
 use Rattle.last_values.specs.declared.behind.NestedLoop.{NestedLoop}
+use Rattle.if_convert.proofs.Plain.{converted_plain}
+use Rattle.listing.proofs.programs.Sources as sources
+use Rattle.listing.specs.programs.Passed.{IsPassedAs}
+use Rattle.nest_order.specs.shapes.Shapes.{IsNormal}
+use Rattle.normal_loops.proofs.CountLaws.{normalised_counts}
 use Rattle.normal_loops.specs.Bodies.{normal_part}
+use Rattle.normal_loops.specs.Laws.{CountsByOne}
 use Rattle.normal_loops.specs.Normalised.{normalised, only_one, with_body, with_loops}
 use Rattle.normal_loops.specs.Loops.{nested_loops}
 use Rattle.normal_loops.specs.Normal.{is_normal}
 use Rattle.dependence_graph.specs.nest_graph.Ready.{IsReady}
 use Rattle.nest.specs.Allocations.{block_then}
-use Rattle.nest.specs.Bodies.{Standing, nest_statements}
+use Rattle.nest.specs.Bodies.{Standing, nest_loops, nest_statements}
 use Rattle.nest.specs.Plain.{Nest, Part}
 use Rattle.pass_laws.proofs.NormalMeaning.Made.{behind, made_of}
 use Rattle.array_form.specs.holds.Holds.{all_holds}
-use Rattle.pass_laws.proofs.ReadyNests.NormalReady.{normal_nest_is_ready}
 use Rattle.array_form.specs.holds.Statements.{no_statement}
 use Rattle.std.specs.Option.{option_map}
+use Rattle.translation.proofs.Converting.{IsConvertedFrom, converted_from}
 use Rattle.translation.specs.nest_blocks.LoopAnswers.{IsTranslation}
 use Rattle.translation.specs.program_marks.Marks.{IsMarkedByGraph}
 use Rattle.translation.proofs.ProgramMarks.Endings.{last_values_unmarked}
@@ -71,19 +77,30 @@ module _ (n m : Nest) where
       by true g = of_loops (nested_loops n.symbols [] n.body) g
       by false g = let no : ⊥ = cc in absurd no
 
-module _ (p : Program) (n m : Nest) (g : Graph) (ps : Pieces) (program : IsProgram77 fortran77 p)
-    (found : Contains (found_in p) (InNest n)) (translated : IsTranslation n m g ps) where
+-- loops that count by one go from 1 by 1
+normal_loops : (n m : Nest) → normalised n ≡ Some m → All IsNormal (nest_loops m)
+normal_loops n m e =
+    All-weaker CountsByOne IsNormal (λ l h. record { first = h.first; step = h.step }) (nest_loops m) (normalised_counts n m e)
+
+module _ (p : Program) (masks : ℕ) (n m : Nest) (g : Graph) (ps : Pieces) (program : IsProgram77 fortran77 p)
+    (found : Contains (found_in p) (InNest n)) (translated : IsTranslation masks n m g ps) where
+  abbrev passed : IsPassedAs masks n m
+  passed = translated.passed
+
+  converted : IsConvertedFrom masks passed.normal m
+  converted = converted_from masks passed.normal m passed.converted
+
   ready : IsReady m
-  ready = normal_nest_is_ready fortran77 p n m program found translated.made
+  ready = sources.ready masks n m (record { program = p; profile = program; among = found }) passed
 
   after_is : m.after ≡ behind n
   after_is =
-      (made_of n m translated.made).after
+      converted.after ∙ (made_of n passed.normal passed.made).after
       ∙ ap (λ (k : Nest). block_then k.after (behind n)) (found_nest_is_loop p n found).is
 
   may_be : MayBeMarked m g.edges
   may_be = record {
-    plain = (normal_nests_are_plain p n m program found translated.made translated.alone).1;
+    plain = converted_plain masks passed.normal m passed.converted (normal_loops n passed.normal passed.made);
     numbers = ready.loops;
     edges_are = edges_lead m g (shallow m ready) translated.graph;
     after = ap (marked_in []) after_is ∙ last_values_unmarked n;
@@ -92,7 +109,7 @@ module _ (p : Program) (n m : Nest) (g : Graph) (ps : Pieces) (program : IsProgr
   pub marked_by_graph : EmissionIsMarked → EmissionKeepsTogether
       → IsMarkedByGraph (record { found = n; normal = m; graph = g }) (translation m ps)
   marked_by_graph is_marked keeps_together = record {
-    number = same_number n m translated.made;
+    number = converted.number ∙ same_number n passed.normal passed.made;
     core = block_of_pieces m 1 ps;
     throughout = marked_throughout m 1 ps;
     is = refl;

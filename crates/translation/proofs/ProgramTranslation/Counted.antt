@@ -36,7 +36,7 @@ pub record IsMadeName (x : List ℕ) : Type 0 where
   pub name : IsLongName x
   pub made : IsSourceName x → ⊥
 
-abbrev stands_in_name : ℕ → Bool
+abbrev pub stands_in_name : ℕ → Bool
 stands_in_name c = is_letter c || is_digit c || c == 95
 
 second_of : (a b c : Bool) → b ≡ true → (a || b || c) ≡ true
@@ -44,7 +44,7 @@ second_of true b c h = refl
 second_of false true c h = refl
 second_of false false c h = let no : ⊥ = cc in absurd no
 
-both_true : (a b : Bool) → a ≡ true → b ≡ true → (a && b) ≡ true
+pub both_true : (a b : Bool) → a ≡ true → b ≡ true → (a && b) ≡ true
 both_true true b h k = k
 both_true false b h k = let no : ⊥ = cc in absurd no
 
@@ -59,7 +59,7 @@ digit_stands n h =
     second_of (is_letter (48 + n)) (is_digit (48 + n)) ((48 + n) == 95)
     (both_true (nat_le 48 (48 + n)) (nat_le (48 + n) 57) (at_least n) (at_most n h))
 
-decimal_stands : (n : ℕ) → n < 2 ^ 64 → list_all stands_in_name (decimal n) ≡ true
+pub decimal_stands : (n : ℕ) → n < 2 ^ 64 → list_all stands_in_name (decimal n) ≡ true
 decimal_stands n h = decimal_by_steps (λ m ds. list_all stands_in_name ds ≡ true) one more n h
   where
     one : (m : ℕ) → m < 10 → list_all stands_in_name ((48 + m) ∷ []) ≡ true

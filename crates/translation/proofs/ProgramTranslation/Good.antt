@@ -4,7 +4,7 @@ use Rattle.std.proofs.Common.{◌++◌, Option, length, map, Contains, arith}
 use Rattle.std.specs.Prelude.{All, codes}
 use Rattle.std.specs.List.{AllByRecursion}
 use Rattle.std.specs.Option.{IsSomeAnd}
-use Rattle.std.proofs.lemmas.List.Elements.{All-from_recursion, Contains-get_or}
+use Rattle.std.proofs.lemmas.List.Elements.{All-from_recursion, Contains-append_left, Contains-get_or}
 use Rattle.meaning_laws.proofs.dialects.MadeNames.{is_declared}
 use Rattle.meaning_laws.proofs.dialects.NamesIn.{among}
 use Rattle.translation.proofs.FewerNames.FewerStatements.{block_with_fewer_names}
@@ -12,8 +12,6 @@ use Rattle.find_nests.proofs.FoundLaws.{found_nest_is_loop}
 use Rattle.find_nests.specs.Laws.{IsFoundNest}
 use Rattle.find_nests.specs.Loops.{Placed, as_statement, loops_in_block}
 use Rattle.find_nests.specs.LookedAt.{looked_at}
-use Rattle.pass_laws.proofs.FoundSources.PlainNests.{normal_nests_are_plain}
-use Rattle.pass_laws.specs.found_sources.Alone.{HasLoopsAlone}
 use Rattle.meaning.specs.Reads.{names_in_block}
 use Rattle.meaning.specs.Blocks.{Surroundings}
 use Rattle.meaning.specs.Dialect.{fortran77}
@@ -29,24 +27,27 @@ use Rattle.translation.proofs.LoopNumbers.Order.{same_loop}
 use Rattle.translation.specs.loop_numbers.Numbers.{loop_number}
 use Rattle.translation.specs.loop_placing.Placing.{block_at}
 use Rattle.translation.proofs.MadeDeclarations.Made.{made_names}
-use Rattle.translation.specs.made_declarations.Declaring.{declaration_by, with_declarations}
+use Rattle.translation.specs.made_declarations.Declaring.{declaration_by, declaration_of_made, with_declarations}
 use Rattle.translation.specs.made_declarations.Laws.{AreWith, IsMadeDeclaration, WithMadeNames}
-use Rattle.translation.specs.nest_blocks.Blocks.{AreNestBlocks, IsBlockOfLoop, IsMadeForNest}
+use Rattle.translation.specs.nest_blocks.Blocks.{AreNestBlocks, IsBlockOfLoop}
 use Rattle.find_nests.specs.nest_parts.Numbers.{next}
 use Rattle.translation.proofs.NestProfile.Law.{translation_is_of_profile}
 use Rattle.translation.specs.nest_profile.Laws.{TranslationIsOfProfile}
+use Rattle.translation.specs.nest_translation.Laws.{AreMadeDeclared}
+use Rattle.translation.proofs.Converting.{converted_from}
 use Rattle.prepared_runs.proofs.LastEndings.{last_values_end}
 use Rattle.translation.proofs.NestTranslation.Translation.{translation_does_as_loop}
 use Rattle.nest.specs.Allocations.{block_then}
 use Rattle.nest.specs.Bodies.{nest_loops}
-use Rattle.nest.specs.Plain.{Loop, Made, Nest}
+use Rattle.nest.specs.Plain.{Loop, Nest}
 use Rattle.pass_laws.specs.normal_facts.Laws.{IsCounter}
 use Rattle.last_values.specs.normal_forms.NormalLoops.{counter_name}
 use Rattle.pass_laws.proofs.NormalMeaning.Made.{behind, made_of}
 use Rattle.translation.proofs.PlacedProfile.Placing.{placed_program_is_program}
 use Rattle.translation.specs.placed_profile.Limits.{IsWithinLimits}
-use Rattle.translation.specs.placed_profile.Laws.{AreSourceNames, IsWithoutLabels, PlacedProgramIsProgram, SuitLoops}
-use Rattle.meaning_laws.proofs.arrays.Members.{each_member, in_map, nowhere, of_map}
+use Rattle.translation.specs.placed_profile.Laws.{AreSourceNames, IsWithoutLabels, KeepsJumps}
+use Rattle.translation.specs.placed_profile.Laws.{PlacedProgramIsProgram, SuitLoops}
+use Rattle.meaning_laws.proofs.arrays.Members.{each_member, in_map, of_map}
 use Rattle.meaning_laws.proofs.profiles.Lists.{all_at}
 use Rattle.meaning_laws.proofs.profiles.Names.{found}
 use Rattle.meaning_laws.specs.profiles.Profiles.{AddMadeNames}
@@ -55,11 +56,13 @@ use Rattle.translation.proofs.ProgramTranslation.Counted.{variables_numbered}
 use Rattle.translation.proofs.ProgramTranslation.Declared.{AreMade, IsMadeHere, agree, apart, declared_counter, declared_here}
 use Rattle.translation.proofs.ProgramTranslation.Declared.{each_made, either, names_of_made, not_source, own_are, own_source}
 use Rattle.translation.proofs.ProgramTranslation.Declared.{unhidden, with_all}
+use Rattle.translation.proofs.ProgramTranslation.Leaving.{nest_keeps_jumps}
+use Rattle.translation.proofs.ProgramTranslation.Masks.{masks_are_made}
 use Rattle.translation.proofs.ProgramTranslation.Named.{block_known}
 use Rattle.translation.proofs.ProgramTranslation.Sources.{name_among}
 use Rattle.translation.proofs.ProgramTranslation.Standing.{Stands, loop_stands}
 use Rattle.translation.proofs.ProgramTranslation.Translating.{translation_keeps}
-use Rattle.translation.proofs.ProgramTranslation.Unlabelled.{endings_unlabelled, source_unlabelled, translation_unlabelled}
+use Rattle.translation.proofs.ProgramTranslation.Unlabelled.{endings_unlabelled, translation_unlabelled}
 use Rattle.translation.specs.program_translation.Laws.{AreTranslations, IsGoodTranslation, TranslationIsGood}
 use Rattle.translation.specs.program_translation.Translated.{IsMadeIn, IsPlacedBy}
 
@@ -122,10 +125,19 @@ module _ (within : WithMadeNames) (profile : TranslationIsOfProfile) (p q : Prog
     stands : Stands program loop
     stands = loop_stands program loop found_nest.stands
 
-    counters : All (λ (l : Loop). IsSomeAnd (declared rs l.variable) IsCounter) (nest_loops is_block.normal)
+    abbrev one : Nest
+    one = is_block.translated.passed.normal
+
+    counters : All (λ (l : Loop). IsSomeAnd (declared rs l.variable) IsCounter) (nest_loops one)
     counters = λ j d i. declared_counter within p program made given _
-        (All-from_recursion (λ (l : Loop). IsNumbered l.variable) (nest_loops is_block.normal)
-        (variables_numbered p rs is_block.nest is_block.normal program with_others.more is_block.among is_block.translated.passed.made) j d i)
+        (All-from_recursion (λ (l : Loop). IsNumbered l.variable) (nest_loops one)
+        (variables_numbered p rs is_block.nest one program with_others.more is_block.among is_block.translated.passed.made) j d i)
+
+    made_declared : AreMadeDeclared r is_block.normal
+    unfolding is_block
+    made_declared a c =
+        with_others.declared (declaration_of_made a)
+        (Contains-append_left made counter_declarations (declaration_of_made a) (are.declared k b from e a c))
 
     small : is_block.nest.number < 2 ^ 32
     small =
@@ -135,7 +147,7 @@ module _ (within : WithMadeNames) (profile : TranslationIsOfProfile) (p q : Prog
     of_profile : (w : Surroundings) → AreSourceNames w.variables → IsStatement p.declarations (as_statement loop.loop.loop) w → IsBlock rs b w
     of_profile w v s =
         profile p r is_block.nest is_block.normal b w found_nest program is_block.among with_others.more is_block.translated
-        counters (unhidden within p program made given (codes "TRANSPOSE") long_transpose other_transpose given.transpose)
+        counters made_declared (unhidden within p program made given (codes "TRANSPOSE") long_transpose other_transpose given.transpose)
         (unhidden within p program made given (codes "RESHAPE") long_reshape other_reshape given.reshape) small v s
 
     known : AllByRecursion (Contains (names_of r)) (names_in_block b)
@@ -158,15 +170,10 @@ module _ (within : WithMadeNames) (profile : TranslationIsOfProfile) (p q : Prog
         by d n (inl i) = inl (subst (Contains (names_of p)) n (name_among p.declarations d i))
         by d n (inr i) = inr (here_made d n (either within p program made given d i))
 
-    alone : HasLoopsAlone is_block.nest.body
-    alone = (normal_nests_are_plain p is_block.nest is_block.normal program is_block.among is_block.translated.passed.made is_block.translated.passed.alone).0
-
-    loop_unlabelled : IsWithoutLabels loop.loop.loop.body
-    loop_unlabelled = source_unlabelled (next loop.loop.before) loop.loop.loop.body (subst (λ (n : Nest). HasLoopsAlone n.body) found_nest.is alone)
-
     after_is : is_block.normal.after ≡ behind is_block.nest
     after_is =
-        (made_of is_block.nest is_block.normal is_block.translated.passed.made).after
+        (converted_from is_block.translated.masks one is_block.normal is_block.translated.passed.converted).after
+        ∙ (made_of is_block.nest one is_block.translated.passed.made).after
         ∙ ap (λ (n : Nest). block_then n.after (behind is_block.nest)) found_nest.is
 
     block_unlabelled : IsWithoutLabels b
@@ -287,6 +294,7 @@ module _ (within : WithMadeNames) (profile : TranslationIsOfProfile) (p q : Prog
         normal = one.normal;
         translated = one.translated;
         counters = counters k b from e;
+        made = made_declared k b from e;
         names = names_are k b e;
         surroundings = (stands k b from e).round;
         profile = block_is k b (stands k b from e).round e (of_profile k b from e (stands k b from e).round (stands k b from e).named (stands k b from e).is);
@@ -299,7 +307,7 @@ module _ (within : WithMadeNames) (profile : TranslationIsOfProfile) (p q : Prog
       let same = is_loop k b from e l i refl in
       record {
         profile = λ w v s. block_is k b w e (of_profile k b from e w v (subst (λ (m : Placed). IsStatement p.declarations (as_statement m.loop.loop) w) (sym same) s));
-        loop = subst (λ (m : Placed). IsWithoutLabels m.loop.loop.body) same (loop_unlabelled k b from e);
+        loop = subst (λ (m : Placed). KeepsJumps m.loop.loop.body) same (nest_keeps_jumps p (is_block k b from e).nest (found_nest k b from e));
         block = block_unlabelled k b from e;
       }
 
@@ -311,26 +319,9 @@ module _ (within : WithMadeNames) (profile : TranslationIsOfProfile) (p q : Prog
         keeps = λ input. translation_keeps translation_does_as_loop p q r blocks input program target own_more counters_more translations t.body;
       }
 
--- ---- what the passes make so far
-
--- no pass makes a name
-nothing_is_made : (p : Program) (d : Declaration) → IsMadeForNest p d → ⊥
-nothing_is_made p d h =
-    let none : h.last.made ≡ []
-    = (made_of h.nest h.last h.passed.made).made
-    ∙ ap (λ (n : Nest). n.made) (found_nest_is_loop p h.nest h.among).is in
-    nowhere h.array (subst (λ (ms : List Made). Contains ms h.array) none h.made)
-
-none_made : (p : Program) (made : List Declaration) → ((d : Declaration) → Contains made d → IsMadeForNest p d) → AreMade made
-none_made p made h = record {
-  each = λ d c. absurd (nothing_is_made p d (h d c));
-  one = λ d e c k same. absurd (nothing_is_made p d (h d c));
-  counts = λ d c. absurd (nothing_is_made p d (h d c));
-  transpose = λ d c. absurd (nothing_is_made p d (h d c));
-  reshape = λ d c. absurd (nothing_is_made p d (h d c));
-}
+-- ---- the law
 
 pub translation_is_good : TranslationIsGood
 translation_is_good p q blocks made program are placed limits =
-    good made_names translation_is_of_profile p q blocks made program are placed (none_made p made are.made_are)
+    good made_names translation_is_of_profile p q blocks made program are placed (masks_are_made p made are.made_are)
     placed_program_is_program limits

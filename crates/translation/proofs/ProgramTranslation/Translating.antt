@@ -19,7 +19,7 @@ module _ (does_as : TranslationDoesAsLoop) where
       → DoesAs p q (as_statement l.loop.loop) b × HasNoLabel b
   one_stands p q r l b source more counters h =
       subst (λ (k : Placed). DoesAs p q (as_statement k.loop.loop) b × HasNoLabel b) h.is_loop
-      (does_as p q r h.nest h.normal b h.surroundings h.found source h.among more counters h.translated h.counters h.names h.profile)
+      (does_as p q r h.nest h.normal b h.surroundings h.found source h.among more counters h.translated h.counters h.made h.names h.profile)
 
   pub translation_keeps : TranslationKeepsMeaning
   translation_keeps p q r blocks input source target more counters all body =

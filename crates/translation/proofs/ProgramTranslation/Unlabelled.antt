@@ -1,20 +1,16 @@
--- No label and no jump stands in a nest that is loops and statements alone, nor in what is emitted for it.
+-- No label and no jump stands in what is emitted for a nest.
 use Rattle.std.proofs.Common.{◌≡◌, refl, ap, ap₂, ℕ, suc, List, [], ◌∷◌, ◌++◌, Some}
 use Rattle.array_form.specs.forms.Loops.{Surroundings, names_of}
 use Rattle.array_form.specs.forms.Statements.{and_all, guarded_by, guarded_form, loops_from, tests_of}
 use Rattle.emission.specs.emission_pieces.Nests.{loops_at, standing_at}
 use Rattle.emission.specs.emission_pieces.Pieces.{Formed, Kept, Piece, Pieces, Turning, block_of_piece, block_of_pieces, mark_of}
 use Rattle.emission.specs.emission_pieces.Pieces.{kept_assignment, kept_statement, no_pieces, piece, translation}
-use Rattle.pass_laws.proofs.FoundSources.Lists.{alone_left, alone_right}
-use Rattle.pass_laws.specs.found_sources.Alone.{HaveLoopsAlone}
 use Rattle.meaning.specs.Labels.{all_labels_in, all_labels_of, targets_in, targets_of}
 use Rattle.tree.specs.Plain.{Expression, Statement, Assignment, Where, If, Do, Label, GoTo, Stop, Read}
 use Rattle.tree.specs.Plain.{Print, Allocate, Deallocate, Block, arm, no_arms, no_statements, statement}
-use Rattle.find_nests.specs.nest_parts.Numbers.{after, next}
-use Rattle.find_nests.specs.nest_parts.Statements.{parts_of, parts_of_block}
 use Rattle.prepared_nests.specs.After.{AreEndings, IsEnding}
 use Rattle.nest.specs.Allocations.{allocation_then, allocations_then, block_then, deallocation_then, deallocations}
-use Rattle.nest.specs.Plain.{Guarded, Made, Nest, parts}
+use Rattle.nest.specs.Plain.{Guarded, Made, Nest}
 use Rattle.prepared_runs.proofs.Pieces.{of_form, of_kept}
 use Rattle.translation.specs.placed_profile.Laws.{IsWithoutLabels}
 use Rattle.array_form.specs.holds.Surroundings.{surroundings_of}
@@ -37,28 +33,6 @@ first_then c cs h k = record {
 
 one : (c : Statement) → IsUnlabelled c → IsWithoutLabels (statement c no_statements)
 one c h = first_then c no_statements h nothing
-
--- ---- the loop
-
-mutual
-  source_statement : (k : ℕ) (c : Statement) → HaveLoopsAlone (parts (parts_of k c)) → IsUnlabelled c
-  source_statement k (Assignment line mark left right) h = record { labels = refl; targets = refl }
-  source_statement k (Where line mark mask left right) h = record { labels = refl; targets = refl }
-  source_statement k (If line arms other) h = absurd h.0
-  source_statement k (Do line x a b c body) h = let inner = source_unlabelled (next k) body h.0 in record { labels = inner.labels; targets = inner.targets }
-  source_statement k (Label n) h = absurd h.0
-  source_statement k (GoTo line n) h = absurd h.0
-  source_statement k (Stop line) h = record { labels = refl; targets = refl }
-  source_statement k (Read line is) h = record { labels = refl; targets = refl }
-  source_statement k (Print line is) h = record { labels = refl; targets = refl }
-  source_statement k (Allocate line x es) h = record { labels = refl; targets = refl }
-  source_statement k (Deallocate line x) h = record { labels = refl; targets = refl }
-
-  pub source_unlabelled : (k : ℕ) (b : Block) → HaveLoopsAlone (parts (parts_of_block k b)) → IsWithoutLabels b
-  source_unlabelled k no_statements h = nothing
-  source_unlabelled k (statement c cs) h =
-      first_then c cs (source_statement k c (alone_left (parts_of k c) (parts_of_block (after k c) cs) h))
-      (source_unlabelled (after k c) cs (alone_right (parts_of k c) (parts_of_block (after k c) cs) h))
 
 -- ---- last values
 

@@ -2,8 +2,6 @@
 use Rattle.std.specs.Prelude.{◌≡◌, ◌≤◌, ℕ, Option, Some, List, Contains}
 use Rattle.tree.specs.Plain.{Block, Declaration, Program}
 use Rattle.find_nests.specs.Found.{InNest, found_in}
-use Rattle.pass_laws.specs.found_sources.Alone.{HasLoopsAlone}
-use Rattle.normal_loops.specs.Normalised.{normalised}
 use Rattle.translation.specs.loop_numbers.Numbers.{loop_number}
 use Rattle.translation.specs.loop_placing.Placing.{block_at}
 use Rattle.translation.specs.made_declarations.Declaring.{declaration_of_made}
@@ -19,24 +17,21 @@ pub record IsBlockOfLoop (p : Program) (k : ℕ) (b : Block) : Type 0 where
   pub normal : Nest
   pub translated : IsTranslatedNest nest normal b
 
-pub record HasBlock (blocks : List (Option Block)) (k : ℕ) : Type 0 where
-  pub block : Block
-  pub is : block_at blocks k ≡ Some block
-
 -- a name that passes made for a nest of the program is declared so
 pub record IsMadeForNest (p : Program) (d : Declaration) : Type 0 where
   pub nest : Nest
   pub among : Contains (found_in p) (InNest nest)
+  pub masks : ℕ
   pub last : Nest
-  pub passed : IsPassedAs nest last
+  pub passed : IsPassedAs masks nest last
   pub array : Made
   pub made : Contains last.made array
   pub is : declaration_of_made array ≡ d
 
--- Each block is a translation, and each nest that is loops and statements alone once its loops go from 1 by 1 has one;
--- loops are numbered from 1. And each of these declarations is of a name that passes made
+-- Each block is a translation; loops are numbered from 1. And each of these declarations is of a name that passes made,
+-- where all such names of a nest that has a block are declared
 pub record AreNestBlocks (p : Program) (blocks : List (Option Block)) (made : List Declaration) : Type 0 where
   pub only : (k : ℕ) (b : Block) → 1 ≤ k → block_at blocks k ≡ Some b → IsBlockOfLoop p k b
-  pub all : (n m : Nest) → Contains (found_in p) (InNest n) → normalised n ≡ Some m → HasLoopsAlone m.body
-      → HasBlock blocks (loop_number n)
+  pub declared : (k : ℕ) (b : Block) (from : 1 ≤ k) (e : block_at blocks k ≡ Some b) (a : Made)
+      → Contains (only k b from e).normal.made a → Contains made (declaration_of_made a)
   pub made_are : (d : Declaration) → Contains made d → IsMadeForNest p d

@@ -12,7 +12,7 @@ use Rattle.translation.specs.nest_blocks.Blocks.{AreNestBlocks}
 abbrev pub AnswersAreListed : Type 0
 AnswersAreListed = (p : Program) (lines : List (List ℕ)) (blocks : List (Option Block)) (made : List Declaration)
     → (h : AreAnswersFor p lines blocks made)
-    → (l : IsListing p lines) × (listed_nests (found_in p) l.entries l.are ≡ nests_by h.answers)
+    → (l : IsListing p lines) × (listed_nests 0 (found_in p) l.entries l.are ≡ nests_by h.answers)
 
 -- the blocks are translations of its nests
 abbrev pub AnswersAreBlocks : Type 0

@@ -18,16 +18,20 @@ pub record IsWithoutLabels (b : Block) : Type 0 where
   pub labels : all_labels_in b ≡ []
   pub targets : targets_in b ≡ []
 
+-- the jumps in it lead to labels in it
+abbrev pub KeepsJumps : Block → Type 0
+KeepsJumps b = (n : ℕ) → Contains (targets_in b) n → Contains (all_labels_in b) n
+
 -- names that FORTRAN 77 has
 abbrev pub AreSourceNames : List (List ℕ) → Type 0
 AreSourceNames xs = (x : List ℕ) → Contains xs x → IsSourceName x
 
 -- wherever the loop is a statement of p's profile, in loops with variables that FORTRAN 77 has, the block is one of
--- q's; neither has labels and jumps
+-- q's; no jump leads out of the loop, and the block has no labels and jumps
 pub record SuitsLoop (p q : Program) (l : Placed) (b : Block) : Type 0 where
   pub profile : (w : Surroundings) → AreSourceNames w.variables
       → IsStatement p.declarations (as_statement l.loop.loop) w → IsBlock q.declarations b w
-  pub loop : IsWithoutLabels l.loop.loop.body
+  pub loop : KeepsJumps l.loop.loop.body
   pub block : IsWithoutLabels b
 
 -- each block suits the loop with its number

@@ -16,14 +16,15 @@ use Rattle.translation.specs.nest_blocks.Blocks.{AreNestBlocks}
 use Rattle.translation.specs.placed_profile.Limits.{IsWithinLimits}
 use Rattle.translation.specs.program_translation.Translated.{IsPlacedBy}
 use Rattle.find_nests.specs.nest_parts.Numbers.{next}
-use Rattle.translation.specs.nest_translation.Laws.{IsTranslatedNest}
+use Rattle.translation.specs.nest_translation.Laws.{AreMadeDeclared, IsTranslatedNest}
 use Rattle.nest.specs.Bodies.{nest_loops}
 use Rattle.nest.specs.Plain.{Loop, Nest}
 use Rattle.pass_laws.specs.normal_facts.Laws.{IsCounter}
 use Rattle.meaning.specs.Keeping.{KeepsMeaning}
 use Rattle.meaning_laws.specs.profiles.Profiles.{AddMadeNames}
 
--- The block is a translation of the nest that the loop is, over names of q, and one of q's profile; r has the counters
+-- The block is a translation of the nest that the loop is, over names of q, and one of q's profile; r has the counters,
+-- and what passes made
 pub record IsTranslationOf (p q r : Program) (l : Placed) (b : Block) : Type 0 where
   pub nest : Nest
   pub among : Contains (found_in p) (InNest nest)
@@ -31,7 +32,9 @@ pub record IsTranslationOf (p q r : Program) (l : Placed) (b : Block) : Type 0 w
   pub is_loop : found.loop ≡ l
   pub normal : Nest
   pub translated : IsTranslatedNest nest normal b
-  pub counters : All (λ (m : Loop). IsSomeAnd (declared r.declarations m.variable) IsCounter) (nest_loops normal)
+  pub counters : All (λ (m : Loop). IsSomeAnd (declared r.declarations m.variable) IsCounter)
+      (nest_loops translated.passed.normal)
+  pub made : AreMadeDeclared r normal
   pub names : All (Contains (names_of q)) (names_in_block b)
   pub surroundings : Surroundings
   pub profile : IsBlock q.declarations b surroundings
@@ -56,8 +59,7 @@ pub record IsGoodTranslation (p q : Program) : Type 0 where
   pub program : IsProgram90 q
   pub keeps : (input : List ℕ) → KeepsMeaning p q input
 
--- where what was emitted for the nests of p that are loops and statements alone, once their loops go from 1 by 1,
--- stands in their place
+-- where what was emitted for the nests of p stands in their place
 abbrev pub TranslationIsGood : Type 0
 TranslationIsGood = (p q : Program) (blocks : List (Option Block)) (made : List Declaration) → IsProgram77 fortran77 p
     → AreNestBlocks p blocks made → IsPlacedBy p blocks made q → IsWithinLimits q.body → IsGoodTranslation p q

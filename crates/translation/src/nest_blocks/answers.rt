@@ -57,8 +57,10 @@ pub fn program_answers(alloc: Global, program: &Program77) -> Result<Answers, Me
     let mut lines = Vec::new(alloc);
     let mut blocks = Vec::new(alloc);
     let mut made = Vec::new(alloc);
+    let mut masks = 0;
     for found in find_nests(alloc, program)?.as_slice() {
-        let answer = answer_to(alloc, found)?;
+        let answer = answer_to(alloc, found, masks)?;
+        masks = answer.masks;
         lines.append(&mut answer.lines.into_vec())?;
         made.append(&mut answer.made.into_vec())?;
         put_found(&mut blocks, found, answer.block)?;

@@ -1,19 +1,15 @@
-use Rattle.std.proofs.Common.{subst, None}
+use Rattle.std.proofs.Common.{ap}
 use Rattle.nest.specs.View.{nest_of}
-use Rattle.listing.specs.programs.Passed.{IsPassed, IsPassedNest}
-use Rattle.listing.proofs.programs.Entries.{tested, untested}
-use Rattle.listing.proofs.programs.Stages.{none_listed, passed_is_listed}
+use Rattle.nest.specs.declared.nests.Nest.{Nest}
+use Rattle.listing.proofs.programs.Entries.{listed_nest}
+use Rattle.listing.proofs.programs.Stages.{passed_is_listed}
 use Rattle.listing.proofs.programs.nests.nest_lines.Goals as goal
 
-pub returns-in-Some : goal.returns-in-Some
-returns-in-Some c =
-    let p : IsPassed (nest_of c.args.found.now) c.in-Some.passed
-    = subst (IsPassedNest (nest_of c.args.found.now)) c.in-Some.is c.in_ok-passed.ensures in
-    let nest = nest_of c.in-Some.passed.nest.value in
-    tested (nest_of c.args.found.now) nest _ _ _ (passed_is_listed (nest_of c.args.found.now) nest p.passed) p.tests
-
-pub returns-in-None : goal.returns-in-None
-returns-in-None c =
-    let none : IsPassedNest (nest_of c.args.found.now) None
-    = subst (IsPassedNest (nest_of c.args.found.now)) c.in-None.is c.in_ok-passed.ensures in
-    untested c.not_built.result (nest_of c.args.found.now) (none_listed (nest_of c.args.found.now) none) c.not_built.ensures
+pub returns : goal.returns
+returns c =
+    let p = c.in_ok-passed.passed in
+    let found = nest_of c.args.found.now in
+    let nest = nest_of p.nest.value in
+    let is = c.in_ok-passed.ensures in
+    listed_nest c.args.masks found nest _ _ (record { lines = p.tests.lines; masks = c.deref.result.now.masks })
+    (passed_is_listed c.args.masks found nest is.passed) is.tests (ap (λ (n : Nest). n.masks) c.deref.ensures)

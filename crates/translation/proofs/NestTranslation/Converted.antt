@@ -1,0 +1,203 @@
+-- The nest with loops from 1 by 1, and with masks in place of its IFs, labels and jumps, goes on as the source's loop.
+use Rattle.std.proofs.Common.{◌≡◌, refl, sym, ap, ◌∙◌, subst, ℕ, ◌^◌, ◌≤◌, ℤ, Bool, List, [], ◌∷◌, Option, Some}
+use Rattle.std.proofs.Common.{None, IfSome, Contains}
+use Rattle.std.specs.Option.{IsSomeAnd}
+use Rattle.std.specs.Prelude.{All}
+use Rattle.convert_laws.proofs.Masked.{AreBeside as AreBesideMasks, IsOther}
+use Rattle.convert_laws.proofs.ProgramNames.{program_has_no_masks}
+use Rattle.convert_laws.proofs.Standing.{IsLoopOf, loop_of, nest_leads}
+use Rattle.convert_laws.specs.Branching.{IsBranching}
+use Rattle.convert_laws.specs.Places.{IsMask}
+use Rattle.find_nests.specs.Found.{InNest, found_in}
+use Rattle.find_nests.specs.Laws.{IsFoundNest}
+use Rattle.find_nests.specs.Loops.{as_statement}
+use Rattle.if_convert.specs.Converted.{converted_loop, converted_nest}
+use Rattle.if_convert.specs.Masks.{mask_name}
+use Rattle.linear_forms.specs.Laws.{HoldsSized}
+use Rattle.meaning.specs.Dialect.{fortran77}
+use Rattle.meaning.specs.Holding.{HasBounds, HoldsProgram, IsStorable}
+use Rattle.meaning.specs.Profile77.{IsProgram77}
+use Rattle.meaning.specs.Run.{Going, State, does, does_all}
+use Rattle.meaning.specs.Store.{names_of}
+use Rattle.meaning.specs.Typed.{declared}
+use Rattle.meaning_laws.specs.profiles.Profiles.{AddMadeNames}
+use Rattle.nest.specs.Allocations.{allocation_then, allocations_then, block_then, deallocation_then, deallocations}
+use Rattle.nest.specs.Blocks.{block_of_nest, statement_of_part}
+use Rattle.nest.specs.Bodies.{nest_loops}
+use Rattle.nest.specs.Plain.{Loop, Made, Nest, Parts, Turns}
+use Rattle.nest_order.specs.runs.Guarded.{variable_cell}
+use Rattle.nest_steps.specs.Keeping.{GoOnAlike}
+use Rattle.nest_steps.specs.Leading.{Led}
+use Rattle.pass_laws.specs.normal_facts.Laws.{IsCounter}
+use Rattle.prepared_runs.proofs.Found.{normal_nest_goes_on_as_loop}
+use Rattle.prepared_runs.proofs.Pieces.{does_then}
+use Rattle.prepared_runs.specs.Running.{loops_then_after}
+use Rattle.rewrite.specs.Following.{IsSound}
+use Rattle.tree.specs.OperationFaults.{kind_of}
+use Rattle.tree.specs.Plain.{Block, Declaration, Expression, Program, statement}
+use Rattle.tree.specs.declared.ops.Kind.TheVariants.{Logical}
+use Rattle.tree.specs.declared.ops.Value.{Value}
+use Rattle.tree.specs.declared.ops.Value.TheVariants.{Int, Truth}
+use Rattle.listing.specs.programs.Passed.{IsPassedAs}
+use Rattle.translation.proofs.NestTranslation.Cleaned.{agree_on, same_agree}
+use Rattle.translation.proofs.NestTranslation.Prepared.{AreMasksDeclared, at_most, passed_nest_is_converted}
+use Rattle.translation.proofs.ProgramTranslation.Standing.{Stands, loop_stands}
+
+-- ---- without arrays as values no array comes or goes
+
+module _ (line : ℕ) where
+  allocate_none : (ms : List Made) (b : Block) (s : State)
+      → does_all fortran77 None (allocations_then line ms b) s ≡ does_all fortran77 None b s
+  allocate_none [] b s = refl
+  allocate_none (a ∷ ms) b s = by a.extents ∙ allocate_none ms b s
+    where
+      by : (es : List Expression)
+          → does_all fortran77 None (allocation_then line a.name es (allocations_then line ms b)) s
+          ≡ does_all fortran77 None (allocations_then line ms b) s
+      by [] = refl
+      by (e ∷ es) = refl
+
+  deallocate_none : (ms : List Made) (s : State) → does_all fortran77 None (deallocations line ms) s ≡ s
+  deallocate_none [] s = refl
+  deallocate_none (a ∷ ms) s = by a.extents ∙ deallocate_none ms s
+    where
+      by : (es : List Expression)
+          → does_all fortran77 None (deallocation_then line a.name es (deallocations line ms)) s
+          ≡ does_all fortran77 None (deallocations line ms) s
+      by [] = refl
+      by (e ∷ es) = refl
+
+-- so a nest's sequential run is that of its loops, and of what comes after them
+pub nest_is_loops : (n : Nest) (s : State)
+    → does_all fortran77 None (block_of_nest n) s ≡ does_all fortran77 None (loops_then_after n) s
+nest_is_loops n s =
+    let behind : Block = block_then n.after (deallocations n.line n.made) in
+    allocate_none n.line n.made (statement (statement_of_part n.line n.body) behind) s
+    ∙ (does_then fortran77 None n.after (deallocations n.line n.made) (does fortran77 None (statement_of_part n.line n.body) s)
+    ∙ deallocate_none n.line n.made (does_all fortran77 None (loops_then_after n) s))
+
+-- ---- masks in a store
+
+mask_bounds : (o : Option Declaration) (b : Option (List (ℤ × ℤ))) → IsSomeAnd o IsMask
+    → IfSome o (λ (d : Declaration). HasBounds d.extent b) → b ≡ Some []
+mask_bounds None b h g = absurd h
+mask_bounds (Some d) b h g = subst (λ e. HasBounds e b) h.extent g
+
+truth_of_kind : (v : Value) → kind_of v ≡ Logical → (b : Bool) × (v ≡ Truth b)
+truth_of_kind (Truth b) e = (b, refl)
+truth_of_kind (Int z) e = let no : ⊥ = cc in absurd no
+
+mask_truth : (o : Option Declaration) (v : Value) → IsSomeAnd o IsMask
+    → IfSome o (λ (d : Declaration). IsStorable fortran77 d.kind v) → (b : Bool) × (v ≡ Truth b)
+mask_truth None v h g = absurd h
+mask_truth (Some d) v h g = truth_of_kind v (g.kind ∙ h.kind)
+
+masks_beside : (b : Program) (k e : ℕ) (v : State) → AreMasksDeclared b k e → HoldsProgram fortran77 b v.store
+    → AreBesideMasks k e v.store v.store
+masks_beside b k e v marks holds = record {
+  bounds = λ y o. refl;
+  held = λ c o. refl;
+  scalars = λ i u. mask_bounds (declared b.declarations (mask_name i)) (v.store.bounds (mask_name i)) (marks i u.0 u.1)
+      (holds.bounds (mask_name i));
+  flags = λ i u. mask_truth (declared b.declarations (mask_name i)) (v.store.held (variable_cell (mask_name i)))
+      (marks i u.0 u.1) (holds.kinds (variable_cell (mask_name i)));
+}
+
+-- ---- from loops from 1 by 1 to masks, at a moment at which the masks are there
+
+module _ (masks : ℕ) (n : Nest) (v : State) (branching : IsBranching n) (going : v.way ≡ Going)
+    (sound : IsSound (does_all fortran77 None (loops_then_after n) v).way) where
+  abbrev AreBesideIn : Nest → Type 0
+  AreBesideIn z = AreBesideMasks masks z.masks v.store v.store
+
+  abbrev LedTo : Nest → Type 0
+  LedTo z = Led (AreBesideMasks masks z.masks) (does_all fortran77 None (block_of_nest n) v)
+      (does_all fortran77 None (block_of_nest z) v)
+
+  sound_nest : IsSound (does_all fortran77 None (block_of_nest n) v).way
+  sound_nest = subst (λ (x : State). IsSound x.way) (sym (nest_is_loops n v)) sound
+
+  led_to : (l : Loop) (ps : Parts) → n.body ≡ Turns l ps → (converted_loop n masks l ps).masks ≤ 2 ^ 32
+      → AreBesideIn (converted_loop n masks l ps) → LedTo (converted_loop n masks l ps)
+  led_to l ps body few beside =
+      (nest_leads 31 masks n branching l ps body few).at v v.store v.steps going beside sound_nest
+
+  by_loop : (m : Nest) → IsLoopOf masks n m → m.masks ≤ 2 ^ 32 → AreBesideIn m → LedTo m
+  by_loop m f few beside =
+      subst LedTo f.made
+      (led_to f.loop f.within f.body (subst (λ (z : Nest). z.masks ≤ 2 ^ 32) (sym f.made) few)
+      (subst AreBesideIn (sym f.made) beside))
+
+  masks_lead : (m : Nest) → converted_nest masks n ≡ Some m → m.masks ≤ 2 ^ 32 → AreBesideIn m
+      → Led (AreBesideMasks masks m.masks) (does_all fortran77 None (loops_then_after n) v)
+      (does_all fortran77 None (loops_then_after m) v)
+  masks_lead m e few beside =
+      subst (λ (x : State). Led (AreBesideMasks masks m.masks) x (does_all fortran77 None (loops_then_after m) v))
+      (nest_is_loops n v)
+      (subst (λ (x : State). Led (AreBesideMasks masks m.masks) (does_all fortran77 None (block_of_nest n) v) x)
+      (nest_is_loops m v) (by_loop m (loop_of masks n m e) few beside))
+
+-- ---- from the loop
+
+module _ (p b : Program) (masks : ℕ) (n m : Nest) (found : IsFoundNest p n) (program : IsProgram77 fortran77 p)
+    (is_nest : Contains (found_in p) (InNest n)) (passed : IsPassedAs masks n m)
+    (add : AddMadeNames p.declarations b.declarations)
+    (counters : All (λ (l : Loop). IsSomeAnd (declared b.declarations l.variable) IsCounter) (nest_loops passed.normal))
+    (marks : AreMasksDeclared b masks m.masks) where
+  stands : Stands program found.loop
+  stands = loop_stands program found.loop found.stands
+
+  branching : IsBranching passed.normal
+  branching =
+      (passed_nest_is_converted p b masks n m stands.round found program is_nest passed add counters marks stands.named
+      stands.is).0
+
+  no_mask : (x : List ℕ) → Contains (names_of p) x → IsOther x
+  no_mask x i k e = program_has_no_masks p k program (subst (Contains (names_of p)) (sym e) i)
+
+  module _ (s v : State) (holds : HoldsProgram fortran77 b v.store) (sized : HoldsSized v.store)
+      (start : GoOnAlike p s v) (sound : IsSound (does fortran77 None (as_statement found.loop.loop.loop) s).way) where
+    abbrev first : State
+    first = does fortran77 None (as_statement found.loop.loop.loop) s
+
+    abbrev second : State
+    second = does_all fortran77 None (loops_then_after passed.normal) v
+
+    abbrev third : State
+    third = does_all fortran77 None (loops_then_after m) v
+
+    one : GoOnAlike p first second
+    one =
+        normal_nest_goes_on_as_loop p b n passed.normal found s v program is_nest passed.made add counters holds sized
+        start sound
+
+    second_goes : second.way ≡ Going
+    second_goes = ap (λ (x : State). x.way) one.rest ∙ one.going
+
+    two : Led (AreBesideMasks masks m.masks) second third
+    two =
+        masks_lead masks passed.normal v branching (ap (λ (x : State). x.way) start.rest ∙ start.going)
+        (subst IsSound (sym second_goes) tt) m passed.converted (at_most m.masks passed.counted)
+        (masks_beside b masks m.masks v marks holds)
+
+    goes_on : GoOnAlike p first third
+    goes_on = record {
+      going = one.going;
+      agree = agree_on p first.store second.store third.store one.agree
+          (same_agree p second.store third.store (λ x i. sym (two.stores.bounds x (no_mask x i)))
+          (λ c i. sym (two.stores.held c (no_mask c.name i))));
+      rest =
+          two.rest ∙ ap (λ (x : State). record x { store = third.store; steps = third.steps }) one.rest;
+    }
+
+-- from moments that agree on p, where b declares the counters and the masks, and where the loop meets no fault
+pub converted_nest_goes_on_as_loop : (p b : Program) (masks : ℕ) (n m : Nest) (found : IsFoundNest p n) (s v : State)
+    → IsProgram77 fortran77 p → Contains (found_in p) (InNest n) → (passed : IsPassedAs masks n m)
+    → AddMadeNames p.declarations b.declarations
+    → All (λ (l : Loop). IsSomeAnd (declared b.declarations l.variable) IsCounter) (nest_loops passed.normal)
+    → AreMasksDeclared b masks m.masks → HoldsProgram fortran77 b v.store → HoldsSized v.store → GoOnAlike p s v
+    → IsSound (does fortran77 None (as_statement found.loop.loop.loop) s).way
+    → GoOnAlike p (does fortran77 None (as_statement found.loop.loop.loop) s)
+    (does_all fortran77 None (loops_then_after m) v)
+converted_nest_goes_on_as_loop p b masks n m found s v program is_nest passed add counters marks holds sized start sound =
+    goes_on p b masks n m found program is_nest passed add counters marks s v holds sized start sound
