@@ -33,48 +33,50 @@ use Rattle.nest.specs.Plain.{Loop, Nest}
 use Rattle.normal_loops.specs.Normalised.{normalised}
 use Rattle.pass_laws.specs.normal_facts.Laws.{IsCounter}
 use Rattle.prepared_nests.proofs.Normal.SourceNames.{source_name}
+use Rattle.prepared_nests.specs.Laws.{normal_depth}
+use Rattle.prepared_nests.specs.Nests.{IsPrepared}
 use Rattle.tree.specs.Names.{IsSourceName}
 use Rattle.tree.specs.Plain.{Declaration, Program}
 use Rattle.tree.specs.declared.ops.Kind.TheVariants.{Logical}
 
 module _ (p : Program) (n m k : Nest) (masks : ℕ) (is : IsProgram77 fortran77 p) (among : Contains (found_in p) (InNest n))
     (normal : normalised n ≡ Some m) (made : converted_nest masks m ≡ Some k) (few : k.masks ≤ 4294967296) where
-  own_are : AreDeclarations p.declarations
+  pub own_are : AreDeclarations p.declarations
   own_are = (source_is_target fortran77 p (omega arith) is).declarations
 
   own : AddMadeNames p.declarations p.declarations
   own = record { kept = λ e c. c; made = λ e c. inl c; are = own_are }
 
-  own_source : (e : Declaration) → Contains p.declarations e → IsSourceName e.name
+  pub own_source : (e : Declaration) → Contains p.declarations e → IsSourceName e.name
   own_source e c = source_name e.name (all_at (IsDeclaration fortran77) p.declarations e is.declarations.each c).name
 
-  numbered : AllByRecursion (λ (l : Loop). IsNumbered l.variable) (nest_loops m)
+  pub numbered : AllByRecursion (λ (l : Loop). IsNumbered l.variable) (nest_loops m)
   numbered = variables_numbered p p.declarations n m is own among normal
 
   -- ---- with the counters, and with the masks, too
 
-  abbrev counters : List Declaration
+  abbrev pub counters : List Declaration
   counters = counters_of (nest_loops m)
 
-  abbrev both : List Declaration
+  abbrev pub both : List Declaration
   both = counters ++ masks_below k.masks
 
-  abbrev with_counters : List Declaration
+  abbrev pub with_counters : List Declaration
   with_counters = with_declarations p.declarations counters
 
-  abbrev with_both : List Declaration
+  abbrev pub with_both : List Declaration
   with_both = with_declarations p.declarations both
 
   new : (d e : Declaration) → Contains p.declarations d → IsMade e → d.name ≡ e.name → ⊥
   new d e c i same = (is_made e i).made (subst IsSourceName same (own_source d c))
 
-  are_counters : AreWith p.declarations counters with_counters
+  pub are_counters : AreWith p.declarations counters with_counters
   are_counters =
       let one = a_counter (nest_loops m) numbered k.masks few in
       made_names p.declarations counters own_are (each_member _ counters (λ e c. is_made e (one e c)))
       (λ d e c i same. agree d e (one d c) (one e i) same) (λ d e c i same. new d e c (one e i) same)
 
-  are_both : AreWith p.declarations both with_both
+  pub are_both : AreWith p.declarations both with_both
   are_both =
       let one = counter_or_mask (nest_loops m) numbered k.masks few in
       made_names p.declarations both own_are (each_member _ both (λ e c. is_made e (one e c)))
@@ -82,25 +84,25 @@ module _ (p : Program) (n m k : Nest) (masks : ℕ) (is : IsProgram77 fortran77 
 
   -- ---- how names are declared
 
-  counter_in : (l : Loop) → Contains (nest_loops m) l → Contains counters (counter_of l)
+  pub counter_in : (l : Loop) → Contains (nest_loops m) l → Contains counters (counter_of l)
   counter_in l c = in_map counter_of (nest_loops m) l c
 
-  counts : (es : List Declaration) (l : Loop) → declared es l.variable ≡ Some (counter_of l)
+  pub counts : (es : List Declaration) (l : Loop) → declared es l.variable ≡ Some (counter_of l)
       → IsSomeAnd (declared es l.variable) IsCounter
   counts es l e = subst (λ o. IsSomeAnd o IsCounter) (sym e) (record { kind = refl; scalar = refl })
 
-  counted_first : All (λ (l : Loop). IsSomeAnd (declared with_counters l.variable) IsCounter) (nest_loops m)
+  pub counted_first : All (λ (l : Loop). IsSomeAnd (declared with_counters l.variable) IsCounter) (nest_loops m)
   counted_first =
       each_member (λ (l : Loop). IsSomeAnd (declared with_counters l.variable) IsCounter) (nest_loops m)
       (λ l c. counts with_counters l (are_counters.declared (counter_of l) (counter_in l c)))
 
-  counted_with_masks : All (λ (l : Loop). IsSomeAnd (declared with_both l.variable) IsCounter) (nest_loops m)
+  pub counted_with_masks : All (λ (l : Loop). IsSomeAnd (declared with_both l.variable) IsCounter) (nest_loops m)
   counted_with_masks =
       each_member (λ (l : Loop). IsSomeAnd (declared with_both l.variable) IsCounter) (nest_loops m)
       (λ l c. counts with_both l
       (are_both.declared (counter_of l) (Contains-append_left counters (masks_below k.masks) (counter_of l) (counter_in l c))))
 
-  no_mask : (i : ℕ) → declared with_counters (mask_name i) ≡ None
+  pub no_mask : (i : ℕ) → declared with_counters (mask_name i) ≡ None
   no_mask i = by (declared with_counters (mask_name i)) refl
     where
       other : (d : Declaration) → d.name ≡ mask_name i → Contains p.declarations d ⊎ Contains counters d → ⊥
@@ -123,24 +125,23 @@ module _ (p : Program) (n m k : Nest) (masks : ℕ) (is : IsProgram77 fortran77 
 
   -- ---- the nest
 
-  here : IsFoundNest p n
+  pub here : IsFoundNest p n
   here = found_nest_is_loop p n among
 
-  number : n.number < 2 ^ 32
+  pub number : n.number < 2 ^ 32
   number =
       let most = nest_number p 0 (looked_at p.declarations p.body) n (omega arith) among in
       let less : n.number < 4294967296 = omega (arith, most) in less
 
-  stands : Stands p is here.loop
+  pub stands : Stands p is here.loop
   stands = loop_stands p is here.loop here.stands
 
+  pub prepared : IsPrepared with_both stands.round.variables normal_depth k
+  prepared =
+      (found_nest_is_converted p n m k with_counters with_both masks stands.round here is among normal made few are_counters.more no_mask counted_first are_both.more (λ i a b. is_mask i b) counted_with_masks number stands.named stands.is).1
+
   has : HasDeclarations k
-  has = record {
-    declarations = with_both;
-    around = stands.round.variables;
-    are = are_both.more.are;
-    prepared = (found_nest_is_converted p n m k with_counters with_both masks stands.round here is among normal made few are_counters.more no_mask counted_first are_both.more (λ i a b. is_mask i b) counted_with_masks number stands.named stands.is).1;
-  }
+  has = record { declarations = with_both; around = stands.round.variables; are = are_both.more.are; prepared = prepared }
 
 pub found_nest_has_declarations : FoundNestHasDeclarations
 found_nest_has_declarations p n m k masks is among normal made few = has p n m k masks is among normal made few

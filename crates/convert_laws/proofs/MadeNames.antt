@@ -32,7 +32,7 @@ use Rattle.convert_laws.proofs.Walk.{mask_long}
 
 -- ---- a number behind a stem is a name
 
-abbrev stands_in_name : ℕ → Bool
+abbrev pub stands_in_name : ℕ → Bool
 stands_in_name c = is_letter c || is_digit c || c == 95
 
 second_of : (a b c : Bool) → b ≡ true → (a || b || c) ≡ true
@@ -40,7 +40,7 @@ second_of true b c h = refl
 second_of false true c h = refl
 second_of false false c h = let no : ⊥ = cc in absurd no
 
-both_true : (a b : Bool) → a ≡ true → b ≡ true → (a && b) ≡ true
+pub both_true : (a b : Bool) → a ≡ true → b ≡ true → (a && b) ≡ true
 both_true true b h k = k
 both_true false b h k = let no : ⊥ = cc in absurd no
 
@@ -66,13 +66,13 @@ decimal_stands n h = decimal_by_steps (λ m ds. list_all stands_in_name ds ≡ t
         list_all-append stands_in_name ds ((48 + m % 10) ∷ [])
         ∙ both_true (list_all stands_in_name ds) (list_all stands_in_name ((48 + m % 10) ∷ [])) k (one (m % 10) (omega arith))
 
-small_number : (n : ℕ) → n ≤ 4294967296 → n < 2 ^ 64
+pub small_number : (n : ℕ) → n ≤ 4294967296 → n < 2 ^ 64
 small_number n h = let e : n < 18446744073709551616 = omega (arith, h) in e
 
-ten_digits : (n : ℕ) → n ≤ 4294967296 → n < 10 ^ 10
+pub ten_digits : (n : ℕ) → n ≤ 4294967296 → n < 10 ^ 10
 ten_digits n h = let e : n < 10000000000 = omega (arith, h) in e
 
-goes_on : (stem : List ℕ) (k : ℕ) → list_all stands_in_name stem ≡ true → k ≤ 4294967296
+pub goes_on : (stem : List ℕ) (k : ℕ) → list_all stands_in_name stem ≡ true → k ≤ 4294967296
     → list_all stands_in_name (stem ++ decimal k) ≡ true
 goes_on stem k s h =
     list_all-append stands_in_name stem (decimal k)

@@ -1,22 +1,45 @@
-mod Walks
-mod Trips
-mod Names
-mod Expandable
-mod Tells
-mod After
-mod Kept
-mod Sizes
-mod KeptKinds
-mod ExtentNumbers
-mod MadeArrays
-mod Before
-mod Beginning
-mod Begun
-mod References
-mod Standings
-mod GuardedNames
-mod Variables
-mod Rounds
-mod Guarded
-mod Unassigned
-mod FreeBehind
+pub mod Walks
+pub mod Trips
+pub mod Names
+pub mod Expandable
+pub mod Tells
+pub mod After
+pub mod Kept
+pub mod Sizes
+pub mod KeptKinds
+pub mod ExtentNumbers
+pub mod MadeArrays
+pub mod Before
+pub mod Beginning
+pub mod Begun
+pub mod References
+pub mod Standings
+pub mod GuardedNames
+pub mod Variables
+pub mod Rounds
+pub mod Guarded
+pub mod Unassigned
+pub mod FreeBehind
+pub mod Elements
+pub mod Settled
+pub mod ElementKinds
+pub mod Round
+pub mod Statements
+pub mod Bodies
+pub mod Made
+pub mod Declared
+pub mod Texts
+pub mod Behind
+pub mod ExtentForms
+pub mod ExtentSizes
+pub mod Sums
+pub mod Weights
+pub mod Values
+pub mod Prepared
+pub mod Allowed
+pub mod Left
+pub mod Scalars
+pub mod FoundMade
+pub mod Found
+pub mod FoundExpanded
+pub mod ArrayNames

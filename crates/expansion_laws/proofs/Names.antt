@@ -50,19 +50,19 @@ cancelled (x ∷ xs) (y ∷ ys) s e =
     let tail : xs ++ s ≡ ys ++ s = cc in
     ap₂ (λ (z : ℕ) (zs : List ℕ). z ∷ zs) head (cancelled xs ys s tail)
 
-front_cancelled : (xs ys zs : List ℕ) → xs ++ ys ≡ xs ++ zs → ys ≡ zs
+pub front_cancelled : (xs ys zs : List ℕ) → xs ++ ys ≡ xs ++ zs → ys ≡ zs
 front_cancelled [] ys zs e = e
 front_cancelled (x ∷ xs) ys zs e = let rest : xs ++ ys ≡ xs ++ zs = cc in front_cancelled xs ys zs rest
 
 -- the fourth byte of a name
-abbrev fourth : List ℕ → ℕ
+abbrev pub fourth : List ℕ → ℕ
 fourth (a ∷ b ∷ c ∷ d ∷ xs) = d
 fourth _ = 0
 
-fourth_exp : (x s : List ℕ) → fourth ((codes "FV_EXP_" ++ x) ++ s) ≡ 69
+pub fourth_exp : (x s : List ℕ) → fourth ((codes "FV_EXP_" ++ x) ++ s) ≡ 69
 fourth_exp x s = ap (λ (f : List ℕ). fourth ((f ++ x) ++ s)) (let e : codes "FV_EXP_" ≡ 70 ∷ 86 ∷ 95 ∷ 69 ∷ 88 ∷ 80 ∷ 95 ∷ [] = refl in e)
 
-fourth_loop : (k : ℕ) → fourth (counter_name k) ≡ 76
+pub fourth_loop : (k : ℕ) → fourth (counter_name k) ≡ 76
 fourth_loop k = ap (λ (f : List ℕ). fourth (f ++ decimal k)) (let e : codes "FV_LOOP_" ≡ 70 ∷ 86 ∷ 95 ∷ 76 ∷ 79 ∷ 79 ∷ 80 ∷ 95 ∷ [] = refl in e)
 
 some_same : (p q : Private) → Some p ≡ Some q → p ≡ q
@@ -103,7 +103,7 @@ all_plain (c ∷ x) h = by (c == 95) refl (all_plain x (λ i. h (inr i)))
 pub source_is : (x : List ℕ) → IsSourceName x → is_source x ≡ true
 source_is x n = ap₂ (λ a b. a && b) (le-leb (length x) 6 n.within) (all_plain x (λ i. n.plain (In-Contains 95 x i)))
 
-is_source_name : (x : List ℕ) → is_source x ≡ true → IsSourceName x
+pub is_source_name : (x : List ℕ) → is_source x ≡ true → IsSourceName x
 is_source_name x e = by (nat_le (length x) 6) refl e
   where
     by : (b : Bool) → nat_le (length x) 6 ≡ b → (b && list_all (λ c. not (c == 95)) x) ≡ true → IsSourceName x

@@ -57,7 +57,7 @@ module _ (ps : List Private) where
   -- ---- elements
 
   -- the subscripts of an element are the variables of its loops
-  variables_onto : (ls : List RoundLoop) (ss : List Subscript) (r : Reference) → In r (references_in_subscripts (subscripts (reverse_aux (map variable ls) ss)))
+  pub variables_onto : (ls : List RoundLoop) (ss : List Subscript) (r : Reference) → In r (references_in_subscripts (subscripts (reverse_aux (map variable ls) ss)))
       → ((l : RoundLoop) × In l ls × (r.name ≡ l.variable)) ⊎ In r (references_in_subscripts (subscripts ss))
   variables_onto [] ss r i = inr i
   variables_onto (l ∷ ls) ss r i = by (variables_onto ls (variable l ∷ ss) r i)

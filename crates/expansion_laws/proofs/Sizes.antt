@@ -50,7 +50,7 @@ one_symbol o c [] k = refl
 one_symbol o c (x ∷ symbols) zero = refl
 one_symbol o c (x ∷ symbols) (suc k) = one_symbol o c symbols k
 
-each_symbol : (symbols : List (List ℕ)) (ts : List (ℕ × ℤ)) (o : Option Expression) → with_each_symbol symbols o ts ≡ with_symbols o ts (variables symbols ++ [])
+pub each_symbol : (symbols : List (List ℕ)) (ts : List (ℕ × ℤ)) (o : Option Expression) → with_each_symbol symbols o ts ≡ with_symbols o ts (variables symbols ++ [])
 each_symbol symbols [] o = refl
 each_symbol symbols (t ∷ ts) o =
     ap (λ (q : Option Expression). with_each_symbol symbols q ts) (one_symbol o t.1 symbols t.0) ∙ each_symbol symbols ts (with_place o t.1 (slice_get (variables symbols ++ []) t.0))

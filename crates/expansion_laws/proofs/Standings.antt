@@ -87,7 +87,7 @@ module _ (line : ℕ) (m : Making) (own : List Private) where
         by (inl j) f g = more (statements_in ls q) (statements_in ls q ++ statements_in_parts ls qs) y (λ x k. In-left x (statements_in ls q) (statements_in_parts ls qs) k) (f j)
         by (inr j) f g = more (statements_in_parts ls qs) (statements_in ls q ++ statements_in_parts ls qs) y (λ x k. In-right x (statements_in ls q) (statements_in_parts ls qs) k) (g j)
 
-body_is : (m : Nest) → nest_statements (expanded m) ≡ statements_in [] (expanded_part m.line (expanding (private_scalars m)) (own_of m) m.body)
+pub body_is : (m : Nest) → nest_statements (expanded m) ≡ statements_in [] (expanded_part m.line (expanding (private_scalars m)) (own_of m) m.body)
 unfolding with_arrays with_parts
 body_is m = refl
 

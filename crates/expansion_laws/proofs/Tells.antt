@@ -69,7 +69,7 @@ known_form round symbols last t p =
       constant = ap is_small p.affine.constant ∙ two.0;
     }
 
-at_symbols : (ys : List (List ℕ)) (k : ℕ) (v : ℕ → ℤ) (i : ℕ) → i < length ys → get_or (facts.values_from v k ys ++ []) i (pos 0) ≡ v (k + i)
+pub at_symbols : (ys : List (List ℕ)) (k : ℕ) (v : ℕ → ℤ) (i : ℕ) → i < length ys → get_or (facts.values_from v k ys ++ []) i (pos 0) ≡ v (k + i)
 at_symbols [] k v i h = absurd (omega (arith, h))
 at_symbols (y ∷ ys) k v zero h = ap v (let e : k ≡ k + 0 = omega arith in e)
 at_symbols (y ∷ ys) k v (suc i) h = at_symbols ys (suc k) v i (omega (arith, h)) ∙ ap v (let e : suc k + i ≡ k + suc i = omega arith in e)

@@ -4,3 +4,8 @@ pub mod Kept
 pub mod Sizes
 pub mod Places
 pub mod FreeBehind
+pub mod Prepared
+pub mod Allowed
+pub mod Before
+pub mod Left
+pub mod Found

@@ -1,6 +1,9 @@
 //! Laws of expanded nests. A law is a function without a body: its contract is what holds.
+ghost use Rattle.expansion_laws.specs.Allowed.{PreparedNestMayBeExpanded};
 ghost use Rattle.expansion_laws.specs.Kept.{ExpandedNestKeepsLoops};
 ghost use Rattle.expansion_laws.specs.Laws.{PreparedNestIsExpandable, PreparedTextsTell};
+ghost use Rattle.expansion_laws.specs.Left.{ExpandedNestHasNoPrivateScalars};
+ghost use Rattle.expansion_laws.specs.Prepared.{ExpandedNestIsPrepared};
 ghost use Rattle.expansion_laws.specs.Runs.{PreparedNestRunsExpanded};
 ghost use Rattle.expansion_laws.specs.Sizes.{ExtentTextsHaveNumbers};
 
@@ -28,4 +31,19 @@ pub fn expanded_nest_keeps_loops()
 /// is entered.
 pub fn extent_texts_have_numbers()
     ensures { ExtentTextsHaveNumbers }
+{}
+
+/// A prepared nest of one loop stays prepared, by declarations that have the arrays.
+pub fn expanded_nest_is_prepared()
+    ensures { ExpandedNestIsPrepared }
+{}
+
+/// A prepared nest of a program may be expanded where its arrays aren't declared yet.
+pub fn prepared_nest_may_be_expanded()
+    ensures { PreparedNestMayBeExpanded }
+{}
+
+/// Where a private scalar of a prepared nest of one loop still stands as a scalar, its element is copied to it.
+pub fn expanded_nest_has_no_private_scalars()
+    ensures { ExpandedNestHasNoPrivateScalars }
 {}

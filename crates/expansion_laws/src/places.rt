@@ -1,5 +1,8 @@
 //! Laws of a nest and the expanded one, each in a place of its own. A law is a function without a body: its contract is
 //! what holds.
+ghost use Rattle.expansion_laws.specs.Found.{ArrayNamesAreApart, FoundNestHasExpandedDeclarations};
+ghost use Rattle.expansion_laws.specs.Found.{FoundNestHasMadeNames, FoundNestHasNoPrivateScalars};
+ghost use Rattle.expansion_laws.specs.Found.{FoundNestIsExpandedInPlaces};
 ghost use Rattle.expansion_laws.specs.FreeBehind.{FoundNestIsFreeBehind};
 ghost use Rattle.expansion_laws.specs.Places.{ExpandedNestHasGuardedNames, ExpandedNestIsBegunBefore};
 
@@ -17,4 +20,30 @@ pub fn expanded_nest_has_guarded_names()
 /// What stands behind the loops of a found nest with masks gives no value to a private scalar, and reads none.
 pub fn found_nest_is_free_behind()
     ensures { FoundNestIsFreeBehind }
+{}
+
+/// A found nest with masks has a place before expansion, made of that in which the expanded nest stands.
+pub fn found_nest_is_expanded_in_places()
+    ensures { FoundNestIsExpandedInPlaces }
+{}
+
+/// There are declarations by which the expanded nest is prepared.
+pub fn found_nest_has_expanded_declarations()
+    ensures { FoundNestHasExpandedDeclarations }
+{}
+
+/// Where a private scalar of a found nest with masks still stands as a scalar in the expanded one, its element is
+/// copied to it.
+pub fn found_nest_has_no_private_scalars()
+    ensures { FoundNestHasNoPrivateScalars }
+{}
+
+/// What passes made for the expanded nest has the names of its masks, and names of arrays by the nest's number.
+pub fn found_nest_has_made_names()
+    ensures { FoundNestHasMadeNames }
+{}
+
+/// No two nests of a program have arrays of one name.
+pub fn array_names_are_apart()
+    ensures { ArrayNamesAreApart }
 {}

@@ -3,6 +3,7 @@ pub mod Laws
 pub mod Listed
 pub mod Listing
 pub mod Passed
+pub mod Private
 pub mod Sources
 pub mod Stages
 pub mod Testable

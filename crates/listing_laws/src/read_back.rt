@@ -5,14 +5,15 @@
 //! the listing (`listing_text_of_source_is_read`), whose lines list the program (`listing_text_of_source_lists`):
 //! nests, loops, statements, edges with their levels, words and pairs, drops, holds and kept loops, just as they are in
 //! the graphs and holds that the listing is made of. So where the listings of two sources have the same lines, they
-//! have the same entries (`same_lines_list_the_same`). The numbers of statements and references are counted where a
-//! nest is listed, so a listing shows them whole.
+//! have the same entries (`same_lines_list_the_same`). In the nests that are listed no private scalar is left but where
+//! its element is copied to it (`listing_of_source_is_expanded`). The numbers of statements and references are counted
+//! where a nest is listed, so a listing shows them whole.
 //!
 //! **The dependence tests** are crates of their own, which `graph` calls. A *pair* is a pair of iterations within the
 //! bounds, related as the directions say, at which both subscripts are equal for some values of the symbols.
 ghost use Rattle.listing_laws.specs.read_back.Laws.{ProgramListingIsRead, SameLinesListTheSame};
 ghost use Rattle.listing_laws.specs.read_back.Laws.{SourceListingIsRead, SourceListingTextIsRead};
-ghost use Rattle.listing_laws.specs.read_back.Laws.{SourceListingTextLists};
+ghost use Rattle.listing_laws.specs.read_back.Laws.{SourceListingIsExpanded, SourceListingTextLists};
 
 /// From the lines of a program's listing all its entries are read: its nests with their loops, statements, dependences
 /// and holds, and its kept loops.
@@ -33,6 +34,11 @@ pub fn listing_text_of_source_is_read()
 /// The lines of that text, each of which a line feed ends, list the program that the source is.
 pub fn listing_text_of_source_lists()
     ensures { SourceListingTextLists }
+{}
+
+/// In the statements that are listed of a nest no private scalar is left.
+pub fn listing_of_source_is_expanded()
+    ensures { SourceListingIsExpanded }
 {}
 
 /// Where the listings of two sources have the same lines, they have the same entries.

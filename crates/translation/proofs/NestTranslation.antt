@@ -3,5 +3,4 @@ pub mod Bounds
 pub mod Arrays
 pub mod Prepared
 pub mod Converted
-pub mod Guarded
 pub mod Translation

@@ -5,7 +5,7 @@ pub mod Sources
 pub mod Named
 pub mod Counted
 pub mod Declared
-pub mod Masks
+pub mod Made
 pub mod Leaving
 pub mod Unlabelled
 pub mod Good

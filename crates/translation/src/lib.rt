@@ -6,8 +6,9 @@
 //! **translation::nest_translation** (law): let p be a program of FORTRAN 77, and a block what is emitted, by some
 //! graph and all holds, for what the passes make of a found nest of it (`IsPassedAs`). Where the block is of the
 //! profile of a program q that has p's names and the block's, it does, with arrays as values, what the nest's loop
-//! does, and has no label (`translation_does_as_loop`). The laws of `prepared_runs` meet here: from the loop to the
-//! nest that the passes make, and from there to what is emitted.
+//! does, and has no label (`translation_does_as_loop`). The laws of `prepared_runs` and of `expansion_laws` meet here:
+//! from the loop to the nest in which masks are scalars, from there to the last nest that the passes make, and to what
+//! is emitted for it.
 //!
 //! **translation::placed_loops** (law): where each block that stands in the place of a loop does, with arrays as
 //! values, what the loop does (`DoesAs`), the program with further names and these blocks keeps the meaning of the
@@ -76,6 +77,10 @@
 //! **A name is declared exactly where it stands.** The names that stand in the blocks are collected, and those that
 //! FORTRAN 77 doesn't have are declared; so no loop variable is declared that isn't used, and a made name may be a
 //! scalar for one pass and an array for the next: the last nest says how it is declared.
+//!
+//! **Each name that passes make is made for one nest.** Masks are numbered through the program, so those of a nest come
+//! behind those of each nest before it (`AreMasksNumbered`); the array for a scalar bears its name and its nest's
+//! number. So a mask may be an array in one nest, and each name is declared in one way.
 //!
 //! **Arrays come and go within the block of a nest.** ALLOCATE stands before what is emitted and DEALLOCATE behind what
 //! comes after it, so between the statements of a translated program no allocatable array is there, and the runs of

@@ -10,7 +10,9 @@ use Rattle.tree.specs.Plain.{Block}
 use Rattle.listing.specs.programs.Counted.{AreCounted}
 use Rattle.listing.specs.programs.Laws.{LoopsAreListed}
 use Rattle.listing.specs.programs.Passed.{IsPassedAs}
-use Rattle.listing.specs.programs.Stages.{IsListedFrom}
+use Rattle.listing.specs.programs.Stages.{AreStagesOf, IsListedFrom, Stages}
+use Rattle.scalar_expand.specs.Expanded.{expanded}
+use Rattle.listing.proofs.programs.Expanding.{expanded_beside, masks_kept}
 
 -- ---- loops from 1 by 1
 
@@ -82,10 +84,11 @@ pub record IsPassedBut (masks : ℕ) (n m : Nest) : Type 0 where
 
 pub passed_is_listed : (masks : ℕ) (n m : Nest) → IsPassedAs masks n m → IsListedFrom masks n m
 passed_is_listed masks n m h = record {
-  stages = record { normal = h.normal; converted = m };
+  stages = record { normal = h.normal; converted = h.converted; expanded = m };
   are = record {
     normal = normal_nest_is_listed n h.normal h.made;
-    converted = h.converted;
+    converted = h.is_converted;
+    is_expanded = h.is_expanded;
     counted = h.counted;
     numbered = h.numbered;
   };
@@ -97,28 +100,50 @@ counted_beside : (m k : Nest) → m ≡ record k { after = m.after } → AreCoun
 counted_beside m k e h =
     let c = subst AreCounted e h in record { statements = c.statements; references = c.references }
 
-pub listed_is_passed : (masks : ℕ) (n m : Nest) → IsListedFrom masks n m → IsPassedBut masks n m
-listed_is_passed masks n m h =
-    let k = h.stages in
-    let w = normal_link n k.normal h.are.normal in
+-- the nests that passes make of n, and those that k are, whatever stands behind these
+pub record AreBeside (masks : ℕ) (n : Nest) (k : Stages) : Type 0 where
+  pub converted : Nest
+  pub passed : IsPassedAs masks n (expanded converted)
+  pub made : passed.converted ≡ converted
+  pub given : k.converted ≡ record converted { after = k.converted.after }
+  pub last : k.expanded ≡ record (expanded converted) { after = k.expanded.after }
+
+pub stages_beside : (masks : ℕ) (n : Nest) (k : Stages) → AreStagesOf masks n k → AreBeside masks n k
+stages_beside masks n k h =
+    let w = normal_link n k.normal h.normal in
     let v = masks_beside masks w.nest k.converted k.normal.after
-    (subst (λ (j : Nest). converted_nest masks j ≡ Some k.converted) w.same h.are.converted) in
-    subst (IsPassedBut masks n) (sym h.last)
-    (record {
-      nest = v.nest;
+    (subst (λ (j : Nest). converted_nest masks j ≡ Some k.converted) w.same h.converted) in
+    let x = expanded_beside k.converted v.nest k.expanded v.same h.is_expanded in
+    record {
+      converted = v.nest;
       passed = record {
         normal = w.nest;
         made = w.made;
-        converted = v.made;
-        counted = subst (λ (j : Nest). j.masks < 2 ^ 32) v.same h.are.counted;
-        numbered = counted_beside k.converted v.nest v.same h.are.numbered;
+        converted = v.nest;
+        is_converted = v.made;
+        is_expanded = refl;
+        counted = subst (λ (j : Nest). j.masks < 2 ^ 32) x h.counted;
+        numbered = counted_beside k.expanded (expanded v.nest) x h.numbered;
       };
-      same = v.same;
-    })
+      made = refl;
+      given = v.same;
+      last = x;
+    }
+
+pub listed_is_passed : (masks : ℕ) (n m : Nest) → IsListedFrom masks n m → IsPassedBut masks n m
+listed_is_passed masks n m h =
+    let b = stages_beside masks n h.stages h.are in
+    subst (IsPassedBut masks n) (sym h.last) (record { nest = expanded b.converted; passed = b.passed; same = b.last })
 
 pub loops_are_listed : LoopsAreListed
 loops_are_listed masks n m k h made few counted = record {
-  stages = record { normal = m; converted = k };
-  are = record { normal = h; converted = made; counted = few; numbered = counted };
+  stages = record { normal = m; converted = k; expanded = expanded k };
+  are = record {
+    normal = h;
+    converted = made;
+    is_expanded = refl;
+    counted = subst (λ (j : ℕ). j < 2 ^ 32) (sym (masks_kept k)) few;
+    numbered = counted;
+  };
   last = refl;
 }

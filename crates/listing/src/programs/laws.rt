@@ -1,5 +1,5 @@
 //! A law is a function without a body: its contract is what holds.
-ghost use Rattle.listing.specs.programs.Laws.{ListedNestIsTestable, LoopsAreListed};
+ghost use Rattle.listing.specs.programs.Laws.{ListedNestIsTestable, ListedNestsAreExpanded, LoopsAreListed};
 
 /// A nest that is listed with a graph, of one of a program of FORTRAN 77, can be tested.
 pub fn listed_nests_are_testable()
@@ -9,4 +9,10 @@ pub fn listed_nests_are_testable()
 /// A nest whose loops can be listed, and for which masks can be made, is listed.
 pub fn loops_are_listed()
     ensures { LoopsAreListed }
+{}
+
+/// In no nest of a listing a scalar is left that was private before the last pass, but where its element is copied to
+/// it.
+pub fn listed_nests_are_expanded()
+    ensures { ListedNestsAreExpanded }
 {}

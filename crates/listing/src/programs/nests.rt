@@ -1,13 +1,14 @@
 //! The lines of a nest.
-ghost use Rattle.std.specs.Prelude.{◌≡◌, IfOk, Some, map};
+ghost use Rattle.std.specs.Prelude.{◌≡◌, ◌≢◌, ◌≤◌, IfOk, None, Some, length, map};
 ghost use Rattle.dependence_graph.specs.nest_graph.Graph.{IsGraphOf};
 ghost use Rattle.dependence_graph.specs.nest_graph.Ready.{IsReady};
 ghost use Rattle.f90_print.specs.Notes.{text_of};
 ghost use Rattle.find_nests.specs.Found.{InNest};
+ghost use Rattle.if_convert.specs.Converted.{converted_nest};
 ghost use Rattle.normal_loops.specs.Normalised.{normalised};
 ghost use Rattle.nest.specs.View.{nest_of};
 ghost use Rattle.listing.specs.programs.Listed.{IsListedAs};
-ghost use Rattle.listing.specs.programs.Passed.{IsPassed};
+ghost use Rattle.listing.specs.programs.Passed.{IsLastOf, IsPassed};
 ghost use Rattle.listing.specs.programs.Sources.{IsNestOfSource};
 ghost use Rattle.listing.specs.programs.Testable.{AreTestsOf};
 
@@ -19,6 +20,7 @@ use dependence_graph::graphs::{Graph, Hold};
 use if_convert::convert;
 use nest::Nest;
 use normal_loops::normalise;
+use scalar_expand::expand;
 use std::alloc::Global;
 use tree::{Line, Memory, Seq};
 
@@ -62,16 +64,26 @@ pub struct Passed {
     pub tests: Tests,
 }
 
+// The last nest that passes make of one whose loops go from 1 by 1. Those between are dropped here.
+fn last_nest(alloc: Global, normal: &Nest, masks: u32) -> Result<Nest, Memory>
+    requires loops { converted_nest masks (nest_of normal.now) ≢ None }
+    requires few { length normal.now.symbols ≤ 1000 }
+    ensures { IfOk result (λ last. IsLastOf masks (nest_of normal.now) (nest_of last)) }
+{
+    match convert(alloc, normal, masks)? {
+        Some(converted) => expand(alloc, &converted),
+        None => unreachable!(),
+    }
+}
+
 // By the nest whose loops go from 1 by 1.
 fn from_normal(alloc: Global, found: &Nest, normal: &Nest, masks: u32) -> Result<Passed, Memory>
     requires source { IsNestOfSource (nest_of found.now) }
     requires made { normalised (nest_of found.now) ≡ Some (nest_of normal.now) }
     ensures { IfOk result (IsPassed masks (nest_of found.now)) }
 {
-    let Some(converted) = convert(alloc, normal, masks)? else {
-        unreachable!();
-    };
-    let nest = Box::new(alloc, converted)?;
+    let made = last_nest(alloc, normal, masks)?;
+    let nest = Box::new(alloc, made)?;
     let last: &Nest = &nest;
     // read so that its size is known
     let _masks = last.masks;

@@ -5,9 +5,9 @@ use Rattle.find_nests.specs.declared.reasons.Reason.{Reason}
 use Rattle.find_nests.specs.declared.reasons.Reason.TheVariants.{Exit, InnerIf, Bound, Step, Deep, Large}
 use Rattle.meaning.specs.Dialect.{fortran77}
 use Rattle.meaning.specs.Profile77.{IsProgram77}
-use Rattle.prepared_nests.specs.Laws.{normal_depth}
+use Rattle.expansion_laws.specs.Found.{expanded_depth}
 use Rattle.tree.specs.Plain.{Block, Program}
-use Rattle.listing.proofs.programs.Sources.{declared_for}
+use Rattle.listing.proofs.programs.Sources.{declared_for, prepared_for}
 use Rattle.listing.proofs.programs.Stages.{listed_is_passed}
 use Rattle.listing.specs.graphs.Lines.{Entry}
 use Rattle.listing.specs.programs.Stages.{IsListedFrom}
@@ -43,7 +43,8 @@ module _ (p : Program) (is : IsProgram77 fortran77 p) where
       let w = listed_is_passed masks n m listed in
       let d = declared_for p masks n w.nest is c w.passed in
       subst IsPrintableNest (sym w.same)
-      (printable_beside w.nest m.after (is_printable d.declarations d.around normal_depth w.nest d.are d.prepared))
+      (printable_beside w.nest m.after
+      (is_printable d.declarations d.around expanded_depth w.nest d.are (prepared_for p masks n w.nest is c w.passed)))
 
   nest_entries : (masks : ℕ) (n : Nest) (es : List Entry) → Contains (found_in p) (InNest n) → HasNestEntries masks n es
       → ArePrintableEntries es

@@ -10,7 +10,7 @@ use Rattle.find_nests.specs.declared.reasons.Reason.{Reason}
 use Rattle.meaning.specs.Blocks.{outermost}
 use Rattle.meaning.specs.Dialect.{fortran77}
 use Rattle.meaning.specs.Profile77.{IsProgram77}
-use Rattle.prepared_nests.specs.Laws.{normal_depth}
+use Rattle.expansion_laws.specs.Found.{expanded_depth}
 use Rattle.tree.specs.Plain.{Block, Program}
 use Rattle.listing.specs.graphs.Lines.{Entry}
 use Rattle.listing_laws.proofs.notes.Printable.{joined}
@@ -19,7 +19,7 @@ use Rattle.listing_laws.proofs.reader.Rejoined.{listing-is-read}
 use Rattle.listing_laws.specs.prepared.Laws.{AreCounted}
 use Rattle.listing_laws.specs.reader.Listable.{IsListable}
 use Rattle.listing_laws.specs.reader.Reader.{read_listing}
-use Rattle.listing.proofs.programs.Sources.{declared_for, listed_nest_is_testable}
+use Rattle.listing.proofs.programs.Sources.{declared_for, listed_nest_is_testable, prepared_for}
 use Rattle.listing.proofs.programs.Stages.{listed_is_passed}
 use Rattle.listing.specs.programs.Counted as listing
 use Rattle.listing.specs.programs.Listing.{HasNestEntries, HasEntries, HaveEntries, masks_behind}
@@ -62,11 +62,12 @@ module _ (p : Program) (is : IsProgram77 fortran77 p) where
   readable masks n m c listed =
       let w = listed_is_passed masks n m listed in
       let d = declared_for p masks n w.nest is c w.passed in
+      let prepared = prepared_for p masks n w.nest is c w.passed in
       let numbers = counted w.nest w.passed.numbered in
       subst IsReadable (sym w.same)
       (record {
-        line = d.prepared.parts.line.1;
-        tidy = tidy_beside w.nest m.after (is_tidy d.declarations d.around normal_depth w.nest d.are d.prepared numbers);
+        line = prepared.parts.line.1;
+        tidy = tidy_beside w.nest m.after (is_tidy d.declarations d.around expanded_depth w.nest d.are prepared numbers);
         few = numbers.statements;
       })
 

@@ -8,7 +8,9 @@ use Rattle.meaning.specs.Profile77.{IsProgram77}
 use Rattle.tree.specs.Plain.{Program}
 use Rattle.listing_laws.specs.reader.Lists.{Lists}
 use Rattle.listing_laws.specs.reader.Reader.{read_listing}
+use Rattle.find_nests.specs.Found.{found_in}
 use Rattle.listing.specs.programs.Listing.{IsListing, IsListingText}
+use Rattle.listing.specs.programs.Private.{AreExpanded}
 
 -- from the lines of a program's listing its entries are read, in their order
 abbrev pub ProgramListingIsRead : Type 0
@@ -29,6 +31,11 @@ SourceListingTextIsRead = (source : List ℕ) (p : Program) (text : List ℕ) �
 abbrev pub SourceListingTextLists : Type 0
 SourceListingTextLists = (source : List ℕ) (p : Program) (text : List ℕ) → Reads77 fortran77 source p
     → IsListingText p text → Lists p (lines text) × (text ≡ flat_map with_line_feed (lines text))
+
+-- of the nests that it lists, no private scalar is left
+abbrev pub SourceListingIsExpanded : Type 0
+SourceListingIsExpanded = (source : List ℕ) (p : Program) (all : List (List ℕ)) → Reads77 fortran77 source p
+    → (l : IsListing p all) → AreExpanded 0 (found_in p) l.entries l.are
 
 -- and two listings with the same lines have the same entries
 abbrev pub SameLinesListTheSame : Type 0

@@ -31,7 +31,7 @@ pub record HasSizes (r : NormalLoop) : Type 0 where
   pub top : IsSized r.trip.top
   pub end : IsSized r.end
 
-terms_counted : (o : ℕ) (cs : List ℤ) → length (terms_from o cs) ≡ not_zero cs
+pub terms_counted : (o : ℕ) (cs : List ℤ) → length (terms_from o cs) ≡ not_zero cs
 terms_counted o [] = refl
 terms_counted o (c ∷ cs) = by (int_eq c (pos 0)) (terms_counted (suc o) cs)
   where
@@ -39,7 +39,7 @@ terms_counted o (c ∷ cs) = by (int_eq c (pos 0)) (terms_counted (suc o) cs)
     by true more = more
     by false more = ap suc more
 
-eight_places : (ts : List (ℕ × ℤ)) → length ts ≤ 8 → length (padded ts) ≤ 8
+pub eight_places : (ts : List (ℕ × ℤ)) → length ts ≤ 8 → length (padded ts) ≤ 8
 eight_places ts h =
     let e = length-append ts (replicate (8 - length ts) (0, pos 0)) in
     let f : length (replicate {A = ℕ × ℤ} (8 - length ts) (0, pos 0)) ≡ 8 - length ts = length-replicate (8 - length ts) (0, pos 0) in omega arith

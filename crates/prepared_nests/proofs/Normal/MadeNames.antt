@@ -27,7 +27,7 @@ use Rattle.meaning_laws.specs.profiles.Profiles.{AddMadeNames}
 
 -- ---- names
 
-none_is : (n : ℕ) (xs : List ℕ) → list_any (λ c. c == n) xs ≡ false → ¬ Contains xs n
+pub none_is : (n : ℕ) (xs : List ℕ) → list_any (λ c. c == n) xs ≡ false → ¬ Contains xs n
 none_is n [] h c = nowhere n c
 none_is n (x ∷ xs) h c = by (x == n) refl (none_is n xs) h (cases_of x xs n c)
   where
@@ -36,7 +36,7 @@ none_is n (x ∷ xs) h c = by (x == n) refl (none_is n xs) h (cases_of x xs n c)
     by false q more h (inl s) = let yes = (Decides-eqb x n).1 s in cc
     by false q more h (inr k) = more h k
 
-function_is_source : (f : Fun) → IsSourceName (name_of_function f)
+pub function_is_source : (f : Fun) → IsSourceName (name_of_function f)
 function_is_source Abs = record { within = lit≤ tt; plain = none_is 95 (name_of_function Abs) refl }
 function_is_source Mod = record { within = lit≤ tt; plain = none_is 95 (name_of_function Mod) refl }
 function_is_source Max = record { within = lit≤ tt; plain = none_is 95 (name_of_function Max) refl }

@@ -37,7 +37,7 @@ unary_deep o a d h = joined (enclosed (right_least o) (level a) (depth_of a)) (d
 more_deep : (a b c : ℕ) → a ≤ b → b ≤ c → a ≤ c
 more_deep a b c h k = omega (arith, h, k)
 
-abbrev SoFar : ℕ → Option Expression → Type 0
+abbrev pub SoFar : ℕ → Option Expression → Type 0
 SoFar d None = Unit {0}
 SoFar d (Some e) = depth_of e ≤ d
 
@@ -63,12 +63,12 @@ weaker : (o : Option Expression) (j k : ℕ) → j ≤ k → SoFar j o → SoFar
 weaker None j k h g = tt
 weaker (Some e) j k h g = omega (arith, h, g)
 
-one_deep : (o : Option Expression) (c : ℤ) (t : Expression) (d k : ℕ) → d + 2 ≤ k → SoFar k o → depth_of t ≤ d → SoFar (k + 2) (with_term o c t)
+pub one_deep : (o : Option Expression) (c : ℤ) (t : Expression) (d k : ℕ) → d + 2 ≤ k → SoFar k o → depth_of t ≤ d → SoFar (k + 2) (with_term o c t)
 one_deep o (pos zero) t d k m h g = weaker o k (k + 2) (omega arith) h
 one_deep o (pos (suc n)) t d k m h g = plus_deep o (term (suc n) t) k h (more_deep (depth_of (term (suc n) t)) (d + 2) k (term_deep (suc n) t d g) m)
 one_deep o (negsuc n) t d k m h g = minus_deep o (term (suc n) t) k h (more_deep (depth_of (term (suc n) t)) (d + 2) k (term_deep (suc n) t d g) m)
 
-terms_deep : (o : Option Expression) (cs : List ℤ) (ts : List Expression) (d k : ℕ) → d + 2 ≤ k → SoFar k o → AreDeep d ts → SoFar (k + 2 * length cs) (with_terms o cs ts)
+pub terms_deep : (o : Option Expression) (cs : List ℤ) (ts : List Expression) (d k : ℕ) → d + 2 ≤ k → SoFar k o → AreDeep d ts → SoFar (k + 2 * length cs) (with_terms o cs ts)
 terms_deep o [] ts d k m h g = weaker o k (k + 2 * 0) (omega arith) h
 terms_deep o (c ∷ cs) [] d k m h g = weaker o k (k + 2 * suc (length cs)) (omega arith) h
 terms_deep o (c ∷ cs) (t ∷ ts) d k m h g =
@@ -97,7 +97,7 @@ symbols_deep o (s ∷ ss) ts d k m h g =
     weaker (with_symbols (with_place o s.1 (slice_get ts s.0)) ss ts) ((k + 2) + 2 * length ss) (k + 2 * suc (length ss)) (omega arith)
     (symbols_deep (with_place o s.1 (slice_get ts s.0)) ss ts d (k + 2) (omega (arith, m)) (place_deep o s.1 (slice_get ts s.0) d k m h (got ts s.0 d g)) g)
 
-constant_deep : (o : Option Expression) (z : ℤ) (k : ℕ) → SoFar k o → depth_of (with_constant o z) ≤ k + 2
+pub constant_deep : (o : Option Expression) (z : ℤ) (k : ℕ) → SoFar k o → depth_of (with_constant o z) ≤ k + 2
 constant_deep None (pos n) k h = omega arith
 constant_deep None (negsuc n) k h = unary_deep Neg (Number (pos (suc n))) k (omega arith)
 constant_deep (Some e) (pos zero) k h = omega (arith, h)

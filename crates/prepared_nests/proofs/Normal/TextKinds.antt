@@ -33,7 +33,7 @@ module _ (es : List Declaration) where
 
   -- ---- texts
 
-  abbrev SoFar : Option Expression → Type 0
+  abbrev pub SoFar : Option Expression → Type 0
   SoFar None = Unit {0}
   SoFar (Some e) = IsNumber es e
 
@@ -55,17 +55,17 @@ module _ (es : List Declaration) where
   minus_is None t h k = ((refl, refl, k.0), k.1)
   minus_is (Some e) t h k = ((refl, refl, h.0, k.0, inl h.1), no_ranks (rank_of es e) (rank_of es t) h.1 k.1)
 
-  one_is : (o : Option Expression) (c : ℤ) (t : Expression) → IsSmall c → SoFar o → IsNumber es t → SoFar (with_term o c t)
+  pub one_is : (o : Option Expression) (c : ℤ) (t : Expression) → IsSmall c → SoFar o → IsNumber es t → SoFar (with_term o c t)
   one_is o (pos zero) t s h k = h
   one_is o (pos (suc n)) t s h k = plus_is o (term (suc n) t) h (term_is (suc n) t (small_pos (suc n) s) k)
   one_is o (negsuc n) t s h k = minus_is o (term (suc n) t) h (term_is (suc n) t (small_neg n s) k)
 
-  terms_are : (o : Option Expression) (cs : List ℤ) (ts : List Expression) → Each IsSmall cs → SoFar o → Each (IsNumber es) ts → SoFar (with_terms o cs ts)
+  pub terms_are : (o : Option Expression) (cs : List ℤ) (ts : List Expression) → Each IsSmall cs → SoFar o → Each (IsNumber es) ts → SoFar (with_terms o cs ts)
   terms_are o [] ts s h k = h
   terms_are o (c ∷ cs) [] s h k = h
   terms_are o (c ∷ cs) (t ∷ ts) s h k = terms_are (with_term o c t) cs ts s.1 (one_is o c t s.0 h k.0) k.1
 
-  constant_is : (o : Option Expression) (z : ℤ) → IsSmall z → SoFar o → IsNumber es (with_constant o z)
+  pub constant_is : (o : Option Expression) (z : ℤ) → IsSmall z → SoFar o → IsNumber es (with_constant o z)
   constant_is None (pos n) s h = number_is n (small_pos n s)
   constant_is None (negsuc n) s h = ((refl, refl, (literal (suc n) (small_neg n s), refl)), refl)
   constant_is (Some e) (pos zero) s h = h

@@ -23,7 +23,7 @@ use Rattle.listing.specs.declared.programs.nests.Passed.{Passed}
 use Rattle.listing.specs.programs.Sources.{IsNestOfSource}
 use Rattle.listing.specs.programs.Testable.{AreTestsOf}
 use Rattle.pass_laws.proofs.ReadyNests.Made.{made_of}
-use Rattle.translation.proofs.Converting.{converted_from}
+use Rattle.translation.proofs.Converting.{converted_from, expanded_from}
 use Rattle.translation.specs.made_declarations.Declaring.{declaration_of_made, declaration_of_name}
 use Rattle.translation.specs.declared.nest_blocks.loop_answers.Answer.{Answer as Answer'}
 use Rattle.translation.specs.nest_blocks.LoopAnswers.{IsAnswerTo, Kept, Translated}
@@ -36,7 +36,9 @@ may_be_emitted masks n m g h passed graph =
     let of_source : length n.symbols ≤ 1000 = few_of_source n h in
     let same : length m.symbols ≡ length n.symbols
     = ap (λ (xs : List (List ℕ)). length xs)
-    ((converted_from masks passed.normal m passed.converted).symbols ∙ (made_of n passed.normal passed.made).symbols) in
+    ((expanded_from passed.converted m passed.is_expanded).symbols
+    ∙ (converted_from masks passed.normal passed.converted passed.is_converted).symbols
+    ∙ (made_of n passed.normal passed.made).symbols) in
     let few : length m.symbols < 2 ^ 16 = omega (arith, of_source, same) in
     ready_nests_may_be_emitted m g (ready masks n m h passed) few graph
 

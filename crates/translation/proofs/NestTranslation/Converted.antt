@@ -40,7 +40,7 @@ use Rattle.tree.specs.declared.ops.Value.{Value}
 use Rattle.tree.specs.declared.ops.Value.TheVariants.{Int, Truth}
 use Rattle.listing.specs.programs.Passed.{IsPassedAs}
 use Rattle.translation.proofs.NestTranslation.Cleaned.{agree_on, same_agree}
-use Rattle.translation.proofs.NestTranslation.Prepared.{AreMasksDeclared, at_most, passed_nest_is_converted}
+use Rattle.translation.proofs.NestTranslation.Prepared.{AreMasksDeclared, few_masks, passed_nest_is_branching}
 use Rattle.translation.proofs.ProgramTranslation.Standing.{Stands, loop_stands}
 
 -- ---- without arrays as values no array comes or goes
@@ -143,17 +143,20 @@ module _ (p b : Program) (masks : ℕ) (n m : Nest) (found : IsFoundNest p n) (p
     (is_nest : Contains (found_in p) (InNest n)) (passed : IsPassedAs masks n m)
     (add : AddMadeNames p.declarations b.declarations)
     (counters : All (λ (l : Loop). IsSomeAnd (declared b.declarations l.variable) IsCounter) (nest_loops passed.normal))
-    (marks : AreMasksDeclared b masks m.masks) where
+    (marks : AreMasksDeclared b masks passed.converted.masks) where
+  abbrev k : Nest
+  k = passed.converted
+
   stands : Stands program found.loop
   stands = loop_stands program found.loop found.stands
 
   branching : IsBranching passed.normal
   branching =
-      (passed_nest_is_converted p b masks n m stands.round found program is_nest passed add counters marks stands.named
-      stands.is).0
+      passed_nest_is_branching p masks n m stands.round found program is_nest passed stands.named stands.is b add
+      counters marks
 
   no_mask : (x : List ℕ) → Contains (names_of p) x → IsOther x
-  no_mask x i k e = program_has_no_masks p k program (subst (Contains (names_of p)) (sym e) i)
+  no_mask x i j e = program_has_no_masks p j program (subst (Contains (names_of p)) (sym e) i)
 
   module _ (s v : State) (holds : HoldsProgram fortran77 b v.store) (sized : HoldsSized v.store)
       (start : GoOnAlike p s v) (sound : IsSound (does fortran77 None (as_statement found.loop.loop.loop) s).way) where
@@ -164,7 +167,7 @@ module _ (p b : Program) (masks : ℕ) (n m : Nest) (found : IsFoundNest p n) (p
     second = does_all fortran77 None (loops_then_after passed.normal) v
 
     abbrev third : State
-    third = does_all fortran77 None (loops_then_after m) v
+    third = does_all fortran77 None (loops_then_after k) v
 
     one : GoOnAlike p first second
     one =
@@ -174,11 +177,11 @@ module _ (p b : Program) (masks : ℕ) (n m : Nest) (found : IsFoundNest p n) (p
     second_goes : second.way ≡ Going
     second_goes = ap (λ (x : State). x.way) one.rest ∙ one.going
 
-    two : Led (AreBesideMasks masks m.masks) second third
+    two : Led (AreBesideMasks masks passed.converted.masks) second third
     two =
         masks_lead masks passed.normal v branching (ap (λ (x : State). x.way) start.rest ∙ start.going)
-        (subst IsSound (sym second_goes) tt) m passed.converted (at_most m.masks passed.counted)
-        (masks_beside b masks m.masks v marks holds)
+        (subst IsSound (sym second_goes) tt) passed.converted passed.is_converted (few_masks masks n m passed)
+        (masks_beside b masks passed.converted.masks v marks holds)
 
     goes_on : GoOnAlike p first third
     goes_on = record {
@@ -195,9 +198,10 @@ pub converted_nest_goes_on_as_loop : (p b : Program) (masks : ℕ) (n m : Nest) 
     → IsProgram77 fortran77 p → Contains (found_in p) (InNest n) → (passed : IsPassedAs masks n m)
     → AddMadeNames p.declarations b.declarations
     → All (λ (l : Loop). IsSomeAnd (declared b.declarations l.variable) IsCounter) (nest_loops passed.normal)
-    → AreMasksDeclared b masks m.masks → HoldsProgram fortran77 b v.store → HoldsSized v.store → GoOnAlike p s v
+    → AreMasksDeclared b masks passed.converted.masks → HoldsProgram fortran77 b v.store → HoldsSized v.store
+    → GoOnAlike p s v
     → IsSound (does fortran77 None (as_statement found.loop.loop.loop) s).way
     → GoOnAlike p (does fortran77 None (as_statement found.loop.loop.loop) s)
-    (does_all fortran77 None (loops_then_after m) v)
+    (does_all fortran77 None (loops_then_after passed.converted) v)
 converted_nest_goes_on_as_loop p b masks n m found s v program is_nest passed add counters marks holds sized start sound =
     goes_on p b masks n m found program is_nest passed add counters marks s v holds sized start sound

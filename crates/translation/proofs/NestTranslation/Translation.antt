@@ -1,11 +1,17 @@
 -- What stands in the place of a nest does what the nest's loop does: its arrays come to be, what was emitted goes on as
--- the last nest does, which goes on as the loop, and the arrays go.
+-- the last nest does, which goes on as the loop, and the arrays go. The nests before the last one are looked at in a
+-- program in which masks are scalars, at a moment that goes with that at which the arrays are there.
 use Rattle.std.proofs.Common.{◌≡◌, refl, sym, ap, ◌∙◌, subst, ℕ, ℤ, false, List, [], ◌∷◌, Option, Some, None, Contains}
 use Rattle.std.specs.Option.{IsSomeAnd}
 use Rattle.std.specs.Prelude.{All}
 use Rattle.emission.specs.emission_forms.Written.{HaveGuardedNames}
 use Rattle.emission.specs.emission_pieces.Pieces.{Pieces, block_of_pieces}
 use Rattle.emission.specs.graph_orders.Nests.{run_nest}
+use Rattle.expansion_laws.proofs.Begun.{expanded_nest_is_begun_before}
+use Rattle.expansion_laws.proofs.Guarded.{expanded_nest_has_guarded_names}
+use Rattle.expansion_laws.specs.Before.{before_expansion}
+use Rattle.expansion_laws.specs.Found.{IsFoundInPlaces, expanded_depth}
+use Rattle.expansion_laws.specs.Places.{IsBegunBefore}
 use Rattle.find_nests.specs.Found.{InNest, found_in}
 use Rattle.find_nests.specs.Laws.{IsFoundNest}
 use Rattle.find_nests.specs.Loops.{as_statement}
@@ -61,9 +67,7 @@ use Rattle.translation.proofs.NestTranslation.Bounds.{sequential_keeps_bounds}
 use Rattle.translation.proofs.NestTranslation.Cleaned.{add_both, agree_back, agree_fewer, agree_on, cleaned, cleaned_agrees}
 use Rattle.translation.proofs.NestTranslation.Cleaned.{cleaned_holds, cleaned_sized, same_agree}
 use Rattle.translation.proofs.NestTranslation.Converted.{converted_nest_goes_on_as_loop}
-use Rattle.translation.proofs.NestTranslation.Guarded.{prepared_nest_has_guarded_names}
-use Rattle.translation.proofs.NestTranslation.Prepared.{masks_are_declared, none_are_arrays, passed_nest_is_prepared}
-use Rattle.translation.proofs.NestTranslation.Prepared.{same_declarations}
+use Rattle.translation.proofs.NestTranslation.Prepared.{passed_nest_is_in_places, passed_nest_is_prepared}
 use Rattle.translation.proofs.PlacedProfile.SourceNames.{source_name}
 use Rattle.translation.proofs.ProgramTranslation.Standing.{Stands, loop_stands}
 use Rattle.translation.specs.nest_translation.Laws.{AreMadeDeclared, IsTranslatedNest, TranslationDoesAsLoop}
@@ -86,6 +90,28 @@ number_of es x h = by (declared es x) refl h
     by : (o : Option Declaration) → declared es x ≡ o → IsSomeAnd o IsCounter → IsNumber es x
     by None e g = absurd g
     by (Some d) e g = record { declaration = d; is = e; kind = g.kind; extent = g.scalar }
+
+-- ---- moments
+
+-- one run after another
+alike_then : (p : Program) (s t u : State) → GoOnAlike p s t → GoOnAlike p t u → GoOnAlike p s u
+alike_then p s t u h g = record {
+  going = h.going;
+  agree = agree_on p s.store t.store u.store h.agree g.agree;
+  rest = g.rest ∙ ap (λ (x : State). record x { store = u.store; steps = u.steps }) h.rest;
+}
+
+-- what goes on like one moment does so like each other one that does
+alike_beside : (p : Program) (s t u : State) → GoOnAlike p s u → GoOnAlike p t u → GoOnAlike p s t
+alike_beside p s t u h g = record {
+  going = h.going;
+  agree = agree_on p s.store u.store t.store h.agree (agree_back p t.store u.store g.agree);
+  rest =
+      with_rest t s (sym (ap (λ (x : State). x.written) g.rest) ∙ ap (λ (x : State). x.written) h.rest)
+      (sym (ap (λ (x : State). x.input) g.rest) ∙ ap (λ (x : State). x.input) h.rest)
+      (sym (ap (λ (x : State). x.had_value) g.rest) ∙ ap (λ (x : State). x.had_value) h.rest)
+      (sym (ap (λ (x : State). x.way) g.rest) ∙ ap (λ (x : State). x.way) h.rest);
+}
 
 -- ---- blocks
 
@@ -129,15 +155,22 @@ module _ (p q r : Program) (n m : Nest) (b : Block) (w : Surroundings) (found : 
   abbrev around : List (List ℕ)
   around = stands.round.variables
 
-  prepared : IsPrepared r.declarations around normal_depth m
-  prepared =
-      passed_nest_is_prepared p r translated.masks n m stands.round found program is_nest translated.passed all counters
-      made stands.named stands.is
+  -- the nest before private scalars become arrays, and the program in which it stands
+  abbrev k : Nest
+  k = translated.passed.converted
 
-  own_declarations : AddMadeNames m.declarations r.declarations
-  own_declarations =
-      subst (λ (ds : List Declaration). AddMadeNames ds r.declarations)
-      (sym (same_declarations p translated.masks n m found translated.passed)) all
+  abbrev before : Program
+  before = before_expansion r k
+
+  in_places : IsFoundInPlaces p r translated.passed.normal k translated.masks around
+  in_places =
+      passed_nest_is_in_places p translated.masks n m stands.round found program is_nest translated.passed stands.named
+      stands.is r all counters made
+
+  prepared : IsPrepared r.declarations around expanded_depth m
+  prepared =
+      passed_nest_is_prepared p translated.masks n m stands.round found program is_nest translated.passed stands.named
+      stands.is r all counters made
 
   no_label : HasNoLabel b
   no_label =
@@ -156,11 +189,11 @@ module _ (p q r : Program) (n m : Nest) (b : Block) (w : Surroundings) (found : 
 
   -- no name of p is that of an array which is made
   of_p : (x : List ℕ) → Contains (names_of p) x → ¬ Contains (made_arrays m) x
-  of_p x i = none_of_source r around normal_depth m prepared x (own_source x i)
+  of_p x i = none_of_source r around expanded_depth m prepared x (own_source x i)
 
   apart : (d : Cell) → Contains (names_of p) d.name → is_variable (run_nest m) d ≡ false
   apart d i =
-      no_variable r.declarations around normal_depth m prepared d
+      no_variable r.declarations around expanded_depth m prepared d
       (λ k e. counter_long d.name k (short_name p program d.name i) e)
 
   module _ (s t : State) (going : s.way ≡ Going) (beside : AreBeside p q s t) (sound : IsSound (does fortran77 None c s).way) where
@@ -196,8 +229,8 @@ module _ (p q r : Program) (n m : Nest) (b : Block) (w : Surroundings) (found : 
 
     allocated : IsAllocated r m v t0
     allocated =
-        arrays_are_allocated r around normal_depth m v t0 all.are prepared wide (of_77 r store holds) valued
-        (arrays_free q r around normal_depth m t.store more prepared beside.free) (sym beside.way ∙ going)
+        arrays_are_allocated r around expanded_depth m v t0 all.are prepared wide (of_77 r store holds) valued
+        (arrays_free q r around expanded_depth m t.store more prepared beside.free) (sym beside.way ∙ going)
 
     abbrev u : State
     u = allocated.state
@@ -224,16 +257,49 @@ module _ (p q r : Program) (n m : Nest) (b : Block) (w : Surroundings) (found : 
           (ap (λ (x : State). x.way) allocated.rest ∙ sym beside.way);
     }
 
-    -- ---- from the loop to the last nest that the passes make
+    may : MayRun r m u
+    may = record {
+      going = allocated.going;
+      holds = u_holds;
+      values = v;
+      valued = λ k x e. allocated.others.held (variable_cell x) (made_apart r around expanded_depth m prepared x k e) ∙ valued k x e;
+      made = allocated.made;
+    }
+
+    u_sized : HoldsSized u.store
+    u_sized = sized_still r around expanded_depth m v t0 prepared sized allocated
+
+    -- ---- from the loop to the nest before private scalars become arrays
+
+    begun : IsBegunBefore p before k u
+    begun =
+        expanded_nest_is_begun_before p before r around normal_depth expanded_depth k u in_places.places
+        (subst (λ (z : Nest). MayRun r z u) translated.passed.is_expanded may) u_sized
+
+    abbrev earlier : State
+    earlier = does_all fortran77 None (loops_then_after k) begun.state
+
+    from_loop : GoOnAlike p (does fortran77 None c s) earlier
+    from_loop =
+        converted_nest_goes_on_as_loop p before translated.masks n m found s begun.state program is_nest translated.passed
+        in_places.places.places.before in_places.counters in_places.masks begun.holds begun.sized
+        (alike_beside p s begun.state u start begun.alike) sound
+
+    earlier_goes : earlier.way ≡ Going
+    earlier_goes = ap (λ (x : State). x.way) from_loop.rest ∙ from_loop.going
+
+    -- ---- to the last nest that the passes make
 
     abbrev second : State
     second = does_all fortran77 None (loops_then_after m) u
 
+    to_last : GoOnAlike p earlier second
+    to_last =
+        subst (λ (z : Nest). GoOnAlike p earlier (does_all fortran77 None (loops_then_after z) u))
+        (sym translated.passed.is_expanded) (begun.leads (subst IsSound (sym earlier_goes) tt))
+
     one : GoOnAlike p (does fortran77 None c s) second
-    one =
-        converted_nest_goes_on_as_loop p r translated.masks n m found s u program is_nest translated.passed all counters
-        (masks_are_declared r translated.masks translated.passed.normal m translated.passed.converted made) u_holds
-        (sized_still r around normal_depth m v t0 prepared sized allocated) start sound
+    one = alike_then p (does fortran77 None c s) earlier second from_loop to_last
 
     second_goes : second.way ≡ Going
     second_goes = ap (λ (x : State). x.way) one.rest ∙ one.going
@@ -243,24 +309,14 @@ module _ (p q r : Program) (n m : Nest) (b : Block) (w : Surroundings) (found : 
     abbrev third : State
     third = does_all fortran90 None (pieces_then_after m ps) u
 
-    may : MayRun r m u
-    may = record {
-      going = allocated.going;
-      holds = u_holds;
-      values = v;
-      valued = λ k x e. allocated.others.held (variable_cell x) (made_apart r around normal_depth m prepared x k e) ∙ valued k x e;
-      made = allocated.made;
-    }
-
-    -- what is made are masks, so no array is among it
     guarded : HaveGuardedNames m (setting_at may)
     guarded =
-        prepared_nest_has_guarded_names r around normal_depth m u prepared own_declarations may
-        (λ k within is_guarded x i array. absurd (none_are_arrays p translated.masks n m found translated.passed x.name array))
+        subst (λ (z : Nest). (h : MayRun r z u) → HaveGuardedNames z (setting_at h)) (sym translated.passed.is_expanded)
+        (λ h. expanded_nest_has_guarded_names p before r around normal_depth expanded_depth k u in_places.places h u_sized) may
 
     two : GoOnTogether m u second third
     two =
-        pieces_go_on_as_nest r around normal_depth m ps u all.are prepared translated.are may guarded
+        pieces_go_on_as_nest r around expanded_depth m ps u all.are prepared translated.are may guarded
         (subst IsSound (sym second_goes) tt)
 
     near : Agree p second.store third.store
@@ -277,7 +333,7 @@ module _ (p q r : Program) (n m : Nest) (b : Block) (w : Surroundings) (found : 
 
     went : IsDeallocated m third
     went =
-        arrays_are_deallocated r around normal_depth m v third prepared wide
+        arrays_are_deallocated r around expanded_depth m v third prepared wide
         (made_still m v u.store third.store third_bounds allocated.made) two.beside.way
 
     abbrev fourth : State

@@ -1,13 +1,14 @@
--- No last value behind all loops is marked.
-use Rattle.std.proofs.Common.{◌≡◌, refl, ap₂, ap, ◌∙◌, ℕ, Bool, true, false, cond, Option, Some, None}
-use Rattle.std.proofs.Common.{List, [], ◌∷◌, ◌++◌, length, flat_map}
-use Rattle.emission.specs.emission_marks.Marks.{Marked, Round, Under, marked_in}
-use Rattle.tree.specs.Plain.{Expression, Statement, block}
+-- No last value behind all loops is marked: neither of their variables nor of private scalars.
+use Rattle.std.proofs.Common.{◌≡◌, refl, ap₂, ap, sym, ◌∙◌, ℕ, Bool, true, false, cond, Option, Some, None}
+use Rattle.std.proofs.Common.{List, [], ◌∷◌, ◌++◌, append_assoc, length, flat_map}
+use Rattle.emission.specs.emission_marks.Marks.{Marked, Round, Under, marked, marked_in}
+use Rattle.tree.specs.Plain.{Block, Expression, Statement, block, no_statements, statement}
 use Rattle.last_values.specs.Behind.{stands_behind}
 use Rattle.last_values.specs.ValuesBehind.{left_behind, or_none, values_behind}
 use Rattle.last_values.specs.Endings.{Texts, after_statements, ending, last_texts, only_where, where_all_hold}
 use Rattle.last_values.specs.Endings.{all_hold, assigned, with_last_forms}
 use Rattle.last_values.specs.declared.behind.NestedLoop.{NestedLoop}
+use Rattle.nest.specs.Allocations.{block_then}
 use Rattle.nest.specs.Plain.{Nest}
 use Rattle.nest.specs.declared.parts.Trip.{Trip}
 use Rattle.last_values.specs.normal_forms.LastValues.{have_plain_trips, last_forms}
@@ -18,6 +19,8 @@ use Rattle.last_values.specs.declared.normal_forms.last.LastForms.{LastForms}
 use Rattle.last_values.specs.declared.normal_forms.loops.NormalLoop.{NormalLoop}
 use Rattle.pass_laws.proofs.NormalMeaning.Made.{behind}
 use Rattle.pass_laws.specs.normal_runs.Sources.{loops_in}
+use Rattle.scalar_expand.specs.Expanded.{has_known_end, last_assignment, last_value, last_values, trip_tests}
+use Rattle.scalar_expand.specs.declared.privates.Private.{Private}
 use Rattle.translation.proofs.ProgramMarks.Rounds.{marked_after}
 
 -- whatever stands round it
@@ -72,3 +75,33 @@ left_is n l = by (stands_behind (length n.symbols) (loops_in n) n.body l.turns.v
 pub last_values_unmarked : (n : Nest) → marked_in [] (behind n) ≡ []
 unfolding values_behind
 last_values_unmarked n = joined_all (left_behind n.symbols n.line (loops_in n) n.body) (left_is n) (loops_in n) []
+
+-- ---- of private scalars
+
+private_is : (symbols : List (List ℕ)) (line : ℕ) (p : Private) → AreUnmarked (last_value symbols line p)
+private_is symbols line p round = by (has_known_end p)
+  where
+    by : (b : Bool)
+        → marked_in round (block (cond b (where_all_hold line (trip_tests symbols p.loops) (last_assignment symbols line p ∷ [])) []))
+        ≡ []
+    by true = where_is line (trip_tests symbols p.loops) (last_assignment symbols line p ∷ []) (λ around. refl) round
+    by false = refl
+
+privates_are : (symbols : List (List ℕ)) (line : ℕ) (ps : List Private) → AreUnmarked (last_values symbols line ps)
+privates_are symbols line [] round = refl
+privates_are symbols line (p ∷ ps) round =
+    joined (last_value symbols line p) (last_values symbols line ps) (private_is symbols line p)
+    (privates_are symbols line ps) round
+
+marked_then : (a b : Block) → marked_in [] (block_then a b) ≡ marked_in [] a ++ marked_in [] b
+marked_then no_statements b = refl
+marked_then (statement c cs) b =
+    ap (λ (more : List Marked). marked [] c ++ more) (marked_then cs b)
+    ∙ sym (append_assoc (marked [] c) (marked_in [] cs) (marked_in [] b))
+
+-- behind what isn't marked
+pub then_unmarked : (symbols : List (List ℕ)) (line : ℕ) (ps : List Private) (a : Block) → marked_in [] a ≡ []
+    → marked_in [] (block_then a (block (last_values symbols line ps))) ≡ []
+then_unmarked symbols line ps a h =
+    marked_then a (block (last_values symbols line ps))
+    ∙ ap₂ (λ (xs ys : List Marked). xs ++ ys) h (privates_are symbols line ps [])

@@ -34,15 +34,14 @@ use Rattle.find_nests.specs.nest_parts.Numbers.{next}
 use Rattle.translation.proofs.NestProfile.Law.{translation_is_of_profile}
 use Rattle.translation.specs.nest_profile.Laws.{TranslationIsOfProfile}
 use Rattle.translation.specs.nest_translation.Laws.{AreMadeDeclared}
-use Rattle.translation.proofs.Converting.{converted_from}
-use Rattle.prepared_runs.proofs.LastEndings.{last_values_end}
+use Rattle.prepared_nests.specs.Nests.{IsPrepared}
+use Rattle.expansion_laws.specs.Found.{expanded_depth}
+use Rattle.translation.proofs.NestTranslation.Prepared.{passed_nest_is_prepared}
 use Rattle.translation.proofs.NestTranslation.Translation.{translation_does_as_loop}
-use Rattle.nest.specs.Allocations.{block_then}
 use Rattle.nest.specs.Bodies.{nest_loops}
 use Rattle.nest.specs.Plain.{Loop, Nest}
 use Rattle.pass_laws.specs.normal_facts.Laws.{IsCounter}
 use Rattle.last_values.specs.normal_forms.NormalLoops.{counter_name}
-use Rattle.pass_laws.proofs.NormalMeaning.Made.{behind, made_of}
 use Rattle.translation.proofs.PlacedProfile.Placing.{placed_program_is_program}
 use Rattle.translation.specs.placed_profile.Limits.{IsWithinLimits}
 use Rattle.translation.specs.placed_profile.Laws.{AreSourceNames, IsWithoutLabels, KeepsJumps}
@@ -57,7 +56,7 @@ use Rattle.translation.proofs.ProgramTranslation.Declared.{AreMade, IsMadeHere, 
 use Rattle.translation.proofs.ProgramTranslation.Declared.{each_made, either, names_of_made, not_source, own_are, own_source}
 use Rattle.translation.proofs.ProgramTranslation.Declared.{unhidden, with_all}
 use Rattle.translation.proofs.ProgramTranslation.Leaving.{nest_keeps_jumps}
-use Rattle.translation.proofs.ProgramTranslation.Masks.{masks_are_made}
+use Rattle.translation.proofs.ProgramTranslation.Made.{names_are_made}
 use Rattle.translation.proofs.ProgramTranslation.Named.{block_known}
 use Rattle.translation.proofs.ProgramTranslation.Sources.{name_among}
 use Rattle.translation.proofs.ProgramTranslation.Standing.{Stands, loop_stands}
@@ -170,16 +169,15 @@ module _ (within : WithMadeNames) (profile : TranslationIsOfProfile) (p q : Prog
         by d n (inl i) = inl (subst (Contains (names_of p)) n (name_among p.declarations d i))
         by d n (inr i) = inr (here_made d n (either within p program made given d i))
 
-    after_is : is_block.normal.after ≡ behind is_block.nest
-    after_is =
-        (converted_from is_block.translated.masks one is_block.normal is_block.translated.passed.converted).after
-        ∙ (made_of is_block.nest one is_block.translated.passed.made).after
-        ∙ ap (λ (n : Nest). block_then n.after (behind is_block.nest)) found_nest.is
+    prepared : IsPrepared rs (stands.round.variables) expanded_depth is_block.normal
+    prepared =
+        passed_nest_is_prepared p is_block.translated.masks is_block.nest is_block.normal stands.round found_nest program
+        is_block.among is_block.translated.passed stands.named stands.is r with_others.more counters made_declared
 
     block_unlabelled : IsWithoutLabels b
     block_unlabelled = subst IsWithoutLabels (sym is_block.translated.block)
         (translation_unlabelled is_block.normal is_block.translated.pieces
-        (subst IsWithoutLabels (sym after_is) (endings_unlabelled (behind is_block.nest) (last_values_end is_block.nest))))
+        (endings_unlabelled is_block.normal.after prepared.parts.after.endings))
 
     -- the loop with the number is the nest's
     is_loop : (l : Placed) → Contains (loops_in_block 0 [] p.body) l → next l.loop.before ≡ k → loop ≡ l
@@ -323,5 +321,5 @@ module _ (within : WithMadeNames) (profile : TranslationIsOfProfile) (p q : Prog
 
 pub translation_is_good : TranslationIsGood
 translation_is_good p q blocks made program are placed limits =
-    good made_names translation_is_of_profile p q blocks made program are placed (masks_are_made p made are.made_are)
-    placed_program_is_program limits
+    good made_names translation_is_of_profile p q blocks made program are placed
+    (names_are_made p blocks made program are) placed_program_is_program limits

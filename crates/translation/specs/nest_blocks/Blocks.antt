@@ -1,5 +1,5 @@
 -- The blocks that stand in the place of a program's nests.
-use Rattle.std.specs.Prelude.{◌≡◌, ◌≤◌, ℕ, Option, Some, List, Contains}
+use Rattle.std.specs.Prelude.{◌≡◌, ◌≤◌, ◌<◌, ℕ, Option, Some, List, Contains}
 use Rattle.tree.specs.Plain.{Block, Declaration, Program}
 use Rattle.find_nests.specs.Found.{InNest, found_in}
 use Rattle.translation.specs.loop_numbers.Numbers.{loop_number}
@@ -17,16 +17,21 @@ pub record IsBlockOfLoop (p : Program) (k : ℕ) (b : Block) : Type 0 where
   pub normal : Nest
   pub translated : IsTranslatedNest nest normal b
 
--- a name that passes made for a nest of the program is declared so
-pub record IsMadeForNest (p : Program) (d : Declaration) : Type 0 where
+-- a name that passes made for a nest of the program is declared so, where so many masks were made before the nest with
+-- a number
+pub record IsMadeForNest (p : Program) (before : ℕ → ℕ) (d : Declaration) : Type 0 where
   pub nest : Nest
   pub among : Contains (found_in p) (InNest nest)
-  pub masks : ℕ
   pub last : Nest
-  pub passed : IsPassedAs masks nest last
+  pub passed : IsPassedAs (before nest.number) nest last
   pub array : Made
   pub made : Contains last.made array
   pub is : declaration_of_made array ≡ d
+
+-- with the masks of a nest there are no more than before each nest behind it, so that no two nests have the same mask
+abbrev pub AreMasksNumbered : Program → (ℕ → ℕ) → Type 0
+AreMasksNumbered p before = (n last : Nest) (k : ℕ) → Contains (found_in p) (InNest n)
+    → IsPassedAs (before n.number) n last → n.number < k → last.masks ≤ before k
 
 -- Each block is a translation; loops are numbered from 1. And each of these declarations is of a name that passes made,
 -- where all such names of a nest that has a block are declared
@@ -34,4 +39,7 @@ pub record AreNestBlocks (p : Program) (blocks : List (Option Block)) (made : Li
   pub only : (k : ℕ) (b : Block) → 1 ≤ k → block_at blocks k ≡ Some b → IsBlockOfLoop p k b
   pub declared : (k : ℕ) (b : Block) (from : 1 ≤ k) (e : block_at blocks k ≡ Some b) (a : Made)
       → Contains (only k b from e).normal.made a → Contains made (declaration_of_made a)
-  pub made_are : (d : Declaration) → Contains made d → IsMadeForNest p d
+  -- how many masks were made before the nest with a number
+  pub before : ℕ → ℕ
+  pub numbered : AreMasksNumbered p before
+  pub made_are : (d : Declaration) → Contains made d → IsMadeForNest p before d
