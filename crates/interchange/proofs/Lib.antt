@@ -1,0 +1,10 @@
+pub mod ChainLaws
+pub mod ChainParts
+pub mod ExchangedLoops
+pub mod FormLaws
+pub mod ListLaws
+pub mod Moving
+pub mod OrderLaws
+pub mod ReadLaws
+pub mod Reached
+pub mod TripLaws

@@ -1,0 +1,8 @@
+-- The names so far are those of the loops so far.
+use Rattle.std.proofs.Common.{◌≡◌, map, take}
+use Rattle.nest.specs.Plain.{Loop}
+use Rattle.nest.specs.View.{loop_of}
+use Rattle.interchange.proofs.chains.variables_of.Given as goal
+
+abbrev pub invariant-loop-turns : goal.invariant-loop-turns
+invariant-loop-turns l = l.names ≡ map (λ (m : Loop). m.variable) (map loop_of (take l.turns-index l.turns-items))

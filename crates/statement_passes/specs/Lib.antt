@@ -1,0 +1,7 @@
+pub mod Laws
+pub mod MadeNames
+pub mod Passes
+pub mod Shifted
+pub mod Standings
+pub mod Symbols
+pub mod Texts

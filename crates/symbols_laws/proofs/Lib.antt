@@ -1,0 +1,9 @@
+pub mod Acts
+pub mod Runs
+pub mod Names
+pub mod Over
+pub mod Comes
+pub mod Settled
+pub mod Prepared
+pub mod Sources
+pub mod Same
